@@ -7,18 +7,9 @@ use tsp_audit::premises::Premises;
 use tsp_audit::verdict::Verdict;
 use tsp_claims::audit_fault::AuditFault;
 
-/// What an audit should make of lines that are claimed of an event.
-#[derive(Clone, Copy, PartialEq, Eq, Debug)]
-pub(crate) enum Answer {
-    /// They are allowed, and this is the verdict.
-    Says(Verdict),
-    /// The line with this index isn't allowed, or the event lacks something.
-    Misfit(usize),
-    /// Out of memory.
-    NoMemory,
-    /// A text isn't an event's line, or the event can't be claimed.
-    Unread,
-}
+/// What an audit should make of lines that are claimed of an event: this verdict, or the line with this index
+/// isn't allowed, or with the index behind the last one, the event lacks something.
+pub(crate) type Answer = Result<Verdict, usize>;
 
 /// An audit of nodes on one network whose clocks don't drift, with all premises except that no
 /// datagram is forged.
@@ -32,18 +23,18 @@ pub(crate) fn audit_of(alloc: Global, clocks: &[(i32, i64)]) -> Option<Audit> {
     Audit::new(alloc, header, premises).ok()
 }
 
-/// Claims the lines of a text of an event.
-fn claim(audit: &mut Audit, alloc: Global, event: &str, text: &str) -> Answer {
-    let (Some(e), Some(lines)) = (event_of(event.as_bytes()), lines_of(alloc, text)) else {
-        return Answer::Unread;
-    };
+/// Claims the lines of a text of an event; None where a text isn't an event's line, the event can't be claimed,
+/// or there is no memory.
+fn claim(audit: &mut Audit, alloc: Global, event: &str, text: &str) -> Option<Answer> {
+    let e = event_of(event.as_bytes())?;
+    let lines = lines_of(alloc, text)?;
     if !is_claimable(audit.claims(), &e, lines.len()) {
-        return Answer::Unread;
+        return None;
     }
     match audit.event(&e, lines.as_slice()) {
-        Ok(verdict) => Answer::Says(verdict),
-        Err(AuditFault::History(index)) => Answer::Misfit(index),
-        Err(AuditFault::OutOfMemory) => Answer::NoMemory,
+        Ok(verdict) => Some(Ok(verdict)),
+        Err(AuditFault::History(index)) => Some(Err(index)),
+        Err(AuditFault::OutOfMemory) => None,
     }
 }
 
@@ -55,7 +46,7 @@ pub(crate) fn first_wrong(
     rows: &[(&str, &str, Answer)],
 ) -> Option<usize> {
     for (i, (event, text, answer)) in rows.iter().enumerate() {
-        if claim(audit, alloc, event, text) != *answer {
+        if claim(audit, alloc, event, text) != Some(*answer) {
             return Some(i);
         }
     }

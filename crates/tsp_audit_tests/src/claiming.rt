@@ -15,18 +15,9 @@ use tsp_script::act_reader::act_of;
 use tsp_script::event_line::{EventItem, event_line};
 use tsp_script::trace::Line2;
 
-/// What should come of lines that are claimed of an event.
-#[derive(Clone, Copy, PartialEq, Eq, Debug)]
-pub(crate) enum Answer {
-    /// They are allowed, and were taken in.
-    Fits,
-    /// The line with this index isn't allowed, or the event lacks something.
-    Misfit(usize),
-    /// Out of memory.
-    NoMemory,
-    /// A text isn't an event's line, or the event can't be claimed.
-    Unread,
-}
+/// What should come of lines that are claimed of an event: they are taken in, or the line with this index isn't
+/// allowed, or with the index behind the last one, the event lacks something.
+pub(crate) type Answer = Result<(), usize>;
 
 /// A header of nodes on one network: the rate of each, in millionths, and its wall at tick 0, in
 /// microseconds.
@@ -102,18 +93,18 @@ pub fn lines_of(alloc: Global, text: &str) -> Option<Vec<Line2>> {
     Some(lines)
 }
 
-/// Claims the lines of a text of an event.
-fn claim(claims: &mut Claims, alloc: Global, event: &str, text: &str) -> Answer {
-    let (Some(e), Some(lines)) = (event_of(event.as_bytes()), lines_of(alloc, text)) else {
-        return Answer::Unread;
-    };
+/// Claims the lines of a text of an event; None where a text isn't an event's line, the event can't be claimed,
+/// or there is no memory.
+fn claim(claims: &mut Claims, alloc: Global, event: &str, text: &str) -> Option<Answer> {
+    let e = event_of(event.as_bytes())?;
+    let lines = lines_of(alloc, text)?;
     if !is_claimable(claims, &e, lines.len()) {
-        return Answer::Unread;
+        return None;
     }
     match claims.event(&e, lines.as_slice()) {
-        Ok(()) => Answer::Fits,
-        Err(AuditFault::History(index)) => Answer::Misfit(index),
-        Err(AuditFault::OutOfMemory) => Answer::NoMemory,
+        Ok(()) => Some(Ok(())),
+        Err(AuditFault::History(index)) => Some(Err(index)),
+        Err(AuditFault::OutOfMemory) => None,
     }
 }
 
@@ -125,11 +116,16 @@ pub(crate) fn first_wrong(
     rows: &[(&str, &str, Answer)],
 ) -> Option<usize> {
     for (i, (event, text, answer)) in rows.iter().enumerate() {
-        if claim(claims, alloc, event, text) != *answer {
+        if claim(claims, alloc, event, text) != Some(*answer) {
             return Some(i);
         }
     }
     None
+}
+
+/// How many events have lines, how many lines these have, and how many lines the history has.
+pub(crate) fn counts(claims: &Claims) -> (u64, u64, usize) {
+    (claims.events(), claims.told(), claims.lines().len())
 }
 
 /// Whether a line is allowed as the first of an event, and what the event with that line alone lacks.

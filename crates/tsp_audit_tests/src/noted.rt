@@ -3,17 +3,10 @@ ghost use Rattle.std.specs.Prelude.{◌<◌, ◌^◌, length};
 ghost use Rattle.tsp_history.specs.Notes.{Told};
 
 use std::alloc::{AllocError, Global};
-use std::test::Fail;
 use tsp_base::act::Act;
-use tsp_base::alarm::Alarm;
 use tsp_base::constants::{GAP, HOLD};
-use tsp_base::datagram::{Datagram, DecodeFault, Taken};
-use tsp_base::kind::Kind;
-use tsp_base::message::{Body, Message};
-use tsp_base::name::Name;
-use tsp_base::place::{PeerId, Place, Port};
+use tsp_base::place::{PeerId, Port};
 use tsp_base::role::Role;
-use tsp_base::stamp::Stamp;
 use tsp_history::clocks::{is_spaced, moved_at, target_at};
 use tsp_history::counts::counts_at;
 use tsp_history::history::History;
@@ -23,6 +16,7 @@ use tsp_history::posts::{has_taken, is_acting, post_at};
 use tsp_history::rounds::{Best, asked_at, best_after, closed_at, is_going, samples_from, trip_of};
 use tsp_history::scans::{is_held, role_at};
 use tsp_history::sends::{begun_to, open_to};
+use tsp_script::act_reader::act_of;
 
 const NODE: u32 = 3;
 
@@ -30,96 +24,40 @@ const PORT: Port = Port(1);
 
 const PEER: PeerId = PeerId(2);
 
-/// An act of the node on its port at a tick.
-fn acts(tick: u64, act: Act) -> HistoryLine {
-    HistoryLine {
+/// The mark of a step of the node at a tick, or with a line of a trace its act on its port. A boot's wall clock
+/// shows 1,000.
+fn line_of(tick: u64, text: &str) -> Option<HistoryLine> {
+    let (port, act) = if text.is_empty() {
+        (Port(0), None)
+    } else {
+        let line = act_of(text.as_bytes()).ok()?;
+        (line.placed.port, Some(line.placed.act))
+    };
+    let why = match &act {
+        Some(Act::Boot) => Why::Booted(7, 1_000),
+        _ => Why::Turned,
+    };
+    Some(HistoryLine {
         at: tick,
         node: NODE,
-        why: Why::Turned,
+        why,
         tick,
-        port: PORT,
-        act: Some(act),
+        port,
+        act,
         note: Note::new(),
-    }
+    })
 }
 
-/// The mark of a step of the node at a tick.
-fn mark(tick: u64) -> HistoryLine {
-    HistoryLine {
-        at: tick,
-        node: NODE,
-        why: Why::Turned,
-        tick,
-        port: Port(0),
-        act: None,
-        note: Note::new(),
-    }
-}
-
-/// A boot of the node at a tick, when its wall clock shows 1,000.
-fn boot(tick: u64) -> HistoryLine {
-    HistoryLine {
-        at: tick,
-        node: NODE,
-        why: Why::Booted(7, 1_000),
-        tick,
-        port: Port(0),
-        act: Some(Act::Boot),
-        note: Note::new(),
-    }
-}
-
-/// A correction by so many microseconds.
-fn correct(tick: u64, amount: i64) -> HistoryLine {
-    acts(
-        tick,
-        Act::Correct {
-            amount,
-            stepped: false,
-            shown: 0,
-        },
-    )
-}
-
-/// A message of a numbered kind without a body to the peer.
-fn send(tick: u64) -> HistoryLine {
-    let message = Message::new(Kind::Quit, 5, Body::Nothing, Name::empty());
-    acts(
-        tick,
-        Act::Post(Place::Peer(PEER), Datagram::Message(message)),
-    )
-}
-
-/// A request for the peer's reading.
-fn request(tick: u64, counter: u64) -> HistoryLine {
-    let stamp = Stamp::Request { word: 7, counter };
-    acts(tick, Act::Post(Place::Peer(PEER), Datagram::Stamp(stamp)))
-}
-
-/// A sample of the peer.
-fn sample(tick: u64, counter: u64, diff: i64) -> HistoryLine {
-    acts(
-        tick,
-        Act::Sample {
-            peer: PEER,
-            counter,
-            diff,
-            err: 4,
-            ticket: 1,
-        },
-    )
-}
-
-/// The history of these lines.
-fn told(alloc: Global, lines: Vec<HistoryLine>) -> Result<History, AllocError> {
+/// The history of these ticks and lines.
+fn told(alloc: Global, rows: &[(u64, &str)]) -> Option<History> {
     let mut history = History::new(alloc);
-    for line in lines {
-        history.make_room(1)?;
+    for (tick, text) in rows {
+        history.make_room(1).ok()?;
         if history.len() < 1_000 {
-            history.push(line);
+            history.push(line_of(*tick, text)?);
         }
     }
-    Ok(history)
+    Some(history)
 }
 
 /// The first lines of a history, as many as these; none where it has fewer.
@@ -158,135 +96,191 @@ fn best_of(lines: &[HistoryLine], trips: &[i128]) -> Option<Best> {
     best
 }
 
-#[test]
-fn tells_roles_and_holds(rt: HostRuntime) -> Result<(), Fail> {
-    let history = told(
-        rt.alloc(),
-        vec![in rt.alloc();
-            boot(0),
-            acts(40, Act::Become(Role::Master)),
-            acts(50, Act::Back(PEER)),
-        ]?,
-    )?;
-    let lines = first(&history, 3);
-    assert!(rt; role_at(lines, NODE, PORT) == Role::Master);
-    assert!(rt; role_at(lines, NODE, Port(0)) == Role::Starting);
-    assert!(rt; is_held(lines, NODE, PORT, 50, PEER));
-    assert!(rt; !is_held(lines, NODE, PORT, 49 + HOLD, PeerId(0)));
-    assert!(rt; is_held(lines, NODE, PORT, 50 + HOLD, PeerId(0)));
-    Ok(())
+/// A master that backed the peer.
+const HELD: &[(u64, &str)] = &[
+    (0, "1 3 0 0 boot"),
+    (40, "1 3 1 40 become master"),
+    (50, "1 3 1 50 back 2"),
+];
+
+/// Whether the roles and the hold of `HELD` are told.
+fn has_holds(history: &History) -> bool {
+    let lines = first(history, 3);
+    role_at(lines, NODE, PORT) == Role::Master
+        && role_at(lines, NODE, Port(0)) == Role::Starting
+        && is_held(lines, NODE, PORT, 50, PEER)
+        && !is_held(lines, NODE, PORT, 49 + HOLD, PeerId(0))
+        && is_held(lines, NODE, PORT, 50 + HOLD, PeerId(0))
+}
+
+/// Two lives, of which the first has two corrections.
+const MOVED: &[(u64, &str)] = &[
+    (50, "1 3 0 50 boot"),
+    (60, "1 3 1 60 correct 30 slew 0"),
+    (61, "1 3 1 61 correct -10 slew 0"),
+    (90, "1 3 0 90 boot"),
+];
+
+/// Whether the clocks of `MOVED` are told.
+fn has_clocks(history: &History) -> bool {
+    let (before, lines) = (first(history, 3), first(history, 4));
+    let counts = counts_at(lines, NODE);
+    !is_spaced(before, NODE, 60 + GAP)
+        && is_spaced(before, NODE, 61 + GAP)
+        && is_spaced(lines, NODE, 91)
+        && (counts.lives, counts.corrects) == (2, 2)
+        && (moved_at(before, NODE), moved_at(lines, NODE)) == (20, 0)
+        && (target_at(before, NODE, 70), target_at(lines, NODE, 95)) == (1_040, 1_005)
+}
+
+/// A step that takes and posts, and the mark of the next one.
+const POSTED: &[(u64, &str)] = &[
+    (0, "1 3 0 0 boot"),
+    (5, ""),
+    (5, "1 3 1 5 took - refused short"),
+    (5, "1 3 1 5 post 0 2 quit 5 %"),
+    (5, "1 3 1 5 post 1 2 quit 5 %"),
+    (6, ""),
+];
+
+/// Whether the posts of `POSTED` are told.
+fn has_posts(history: &History) -> bool {
+    let (before, lines) = (first(history, 5), first(history, 6));
+    post_at(lines, 1) == Some(4)
+        && post_at(lines, 2).is_none()
+        && has_taken(before, NODE)
+        && !has_taken(lines, NODE)
+        && is_acting(before, NODE, PORT)
+        && !is_acting(lines, NODE, PORT)
+}
+
+/// A message to the peer, two tries more of it, and its ACK.
+const SENT: &[(u64, &str)] = &[
+    (0, "1 3 0 0 boot"),
+    (0, "1 3 1 0 post 0 2 quit 5 %"),
+    (9, ""),
+    (9, "1 3 1 9 ring round"),
+    (9, "1 3 1 9 post 1 2 quit 5 %"),
+    (10, ""),
+    (10, "1 3 1 10 post 2 2 quit 5 %"),
+    (10, "1 3 1 10 acked 2"),
+];
+
+/// Whether the sends of `SENT` are told.
+fn has_sends(history: &History) -> bool {
+    let lines = first(history, 8);
+    begun_to(first(history, 4), NODE, PORT, PEER).is_none()
+        && begun_to(lines, NODE, PORT, PEER) == Some(1)
+        && open_to(first(history, 7), NODE, PORT, PEER) == Some(1)
+        && open_to(lines, NODE, PORT, PEER).is_none()
+}
+
+/// A round with three samples of the peer.
+const MEASURED: &[(u64, &str)] = &[
+    (0, "1 3 0 0 boot"),
+    (10, "1 3 1 10 arm close 500"),
+    (10, "1 3 1 10 post 0 2 request 7 0"),
+    (34, "1 3 1 34 sample 2 0 5 4 1"),
+    (40, "1 3 1 40 post 1 2 request 7 1"),
+    (50, "1 3 1 50 sample 2 1 6 4 1"),
+    (60, "1 3 1 60 post 2 2 request 7 2"),
+    (70, "1 3 1 70 sample 2 2 7 4 1"),
+];
+
+/// Whether the round of `MEASURED` is told.
+fn has_round(history: &History) -> bool {
+    let lines = first(history, 8);
+    is_going(lines, NODE, PORT)
+        && !is_going(lines, NODE, Port(0))
+        && asked_at(first(history, 5), NODE, PORT, PEER, 1) == Some(1_040)
+        && asked_at(lines, NODE, PORT, PEER, 1).is_none()
+        && samples_from(lines, NODE, PORT) == 2
+        && samples_from(lines, NODE, Port(0)) == 1
+}
+
+/// Whether the samples of `MEASURED` are told: their trips, and the best of them.
+fn has_samples(alloc: Global, history: &History) -> Result<bool, AllocError> {
+    let lines = first(history, 8);
+    let trips = trips(alloc, lines)?;
+    let best = best_of(lines, trips.as_slice());
+    Ok(trips.as_slice() == [0, 0, 0, 24, 0, 10, 0, 10].as_slice() && is_best(best))
+}
+
+/// Whether the second sample of `MEASURED` is the best.
+fn is_best(best: Option<Best>) -> bool {
+    match best {
+        Some(best) => (best.index, best.diff, best.err, best.trip) == (5, 6, 4, 10),
+        None => false,
+    }
+}
+
+/// A step that closes a round and sends, and the mark of the next one.
+const CLOSED: &[(u64, &str)] = &[
+    (0, "1 3 0 0 boot"),
+    (9, ""),
+    (9, "1 3 1 9 close 2 0 1 0"),
+    (9, "1 3 1 9 post 0 2 quit 5 %"),
+    (10, ""),
+];
+
+/// Whether the close of `CLOSED` is told, until the next step.
+fn has_close(history: &History) -> bool {
+    let before = first(history, 4);
+    closed_at(before, NODE, PORT) == Some(2)
+        && closed_at(before, NODE, Port(0)).is_none()
+        && closed_at(first(history, 5), NODE, PORT).is_none()
+}
+
+/// What a history tells.
+#[derive(Clone, Copy)]
+enum Fact {
+    Holds,
+    Clocks,
+    Posts,
+    Sends,
+    Round,
+    Close,
+}
+
+/// Whether the history of these rows tells it; None where there is none.
+fn tells(alloc: Global, rows: &[(u64, &str)], fact: Fact) -> Option<bool> {
+    let history = told(alloc, rows)?;
+    Some(match fact {
+        Fact::Holds => has_holds(&history),
+        Fact::Clocks => has_clocks(&history),
+        Fact::Posts => has_posts(&history),
+        Fact::Sends => has_sends(&history),
+        Fact::Round => { has_round(&history) && has_samples(alloc, &history) == Ok(true) }
+        Fact::Close => has_close(&history),
+    })
 }
 
 #[test]
-fn tells_clocks(rt: HostRuntime) -> Result<(), Fail> {
-    let history = told(
-        rt.alloc(),
-        vec![in rt.alloc(); boot(50), correct(60, 30), correct(61, -10), boot(90)]?,
-    )?;
-    let lines = first(&history, 4);
-    assert!(rt; !is_spaced(first(&history, 3), NODE, 60 + GAP));
-    assert!(rt; is_spaced(first(&history, 3), NODE, 61 + GAP));
-    assert!(rt; is_spaced(lines, NODE, 91));
-    assert_eq!(rt; counts_at(lines, NODE).lives, 2);
-    assert_eq!(rt; counts_at(lines, NODE).corrects, 2);
-    assert_eq!(rt; moved_at(first(&history, 3), NODE), 20);
-    assert_eq!(rt; moved_at(lines, NODE), 0);
-    assert_eq!(rt; target_at(first(&history, 3), NODE, 70), 1_040);
-    assert_eq!(rt; target_at(lines, NODE, 95), 1_005);
-    Ok(())
+fn tells_roles_and_holds(rt: HostRuntime) {
+    assert!(rt; tells(rt.alloc(), HELD, Fact::Holds) == Some(true));
 }
 
 #[test]
-fn tells_posts(rt: HostRuntime) -> Result<(), Fail> {
-    let history = told(
-        rt.alloc(),
-        vec![in rt.alloc();
-            boot(0),
-            mark(5),
-            acts(
-                5,
-                Act::Took(Place::Stranger, Taken::Bad(DecodeFault::Short)),
-            ),
-            send(5),
-            send(5),
-            mark(6),
-        ]?,
-    )?;
-    let lines = first(&history, 6);
-    assert!(rt; post_at(lines, 1) == Some(4));
-    assert!(rt; post_at(lines, 2).is_none());
-    assert!(rt; has_taken(first(&history, 5), NODE) && !has_taken(lines, NODE));
-    assert!(rt; is_acting(first(&history, 5), NODE, PORT) && !is_acting(lines, NODE, PORT));
-    Ok(())
+fn tells_clocks(rt: HostRuntime) {
+    assert!(rt; tells(rt.alloc(), MOVED, Fact::Clocks) == Some(true));
 }
 
 #[test]
-fn tells_sends(rt: HostRuntime) -> Result<(), Fail> {
-    let history = told(
-        rt.alloc(),
-        vec![in rt.alloc();
-            boot(0),
-            send(0),
-            mark(9),
-            acts(9, Act::Ring(Alarm::Round)),
-            send(9),
-            mark(10),
-            send(10),
-            acts(10, Act::Acked(PEER)),
-        ]?,
-    )?;
-    let lines = first(&history, 8);
-    assert!(rt; begun_to(first(&history, 4), NODE, PORT, PEER).is_none());
-    assert!(rt; begun_to(lines, NODE, PORT, PEER) == Some(1));
-    assert!(rt; open_to(first(&history, 7), NODE, PORT, PEER) == Some(1));
-    assert!(rt; open_to(lines, NODE, PORT, PEER).is_none());
-    Ok(())
+fn tells_posts(rt: HostRuntime) {
+    assert!(rt; tells(rt.alloc(), POSTED, Fact::Posts) == Some(true));
 }
 
 #[test]
-fn tells_rounds(rt: HostRuntime) -> Result<(), Fail> {
-    let history = told(
-        rt.alloc(),
-        vec![in rt.alloc();
-            boot(0),
-            acts(10, Act::Arm(Alarm::Close, 500)),
-            request(10, 0),
-            sample(34, 0, 5),
-            request(40, 1),
-            sample(50, 1, 6),
-            request(60, 2),
-            sample(70, 2, 7),
-        ]?,
-    )?;
-    let lines = first(&history, 8);
-    assert!(rt; is_going(lines, NODE, PORT) && !is_going(lines, NODE, Port(0)));
-    assert!(rt; asked_at(first(&history, 5), NODE, PORT, PEER, 1) == Some(1_040));
-    assert!(rt; asked_at(lines, NODE, PORT, PEER, 1).is_none());
-    assert!(rt; samples_from(lines, NODE, PORT) == 2 && samples_from(lines, NODE, Port(0)) == 1);
-    let trips = trips(rt.alloc(), lines)?;
-    assert_eq!(rt; trips.as_slice(), [0, 0, 0, 24, 0, 10, 0, 10].as_slice());
-    let Some(best) = best_of(lines, trips.as_slice()) else {
-        panic!(rt; "the peer was measured");
-    };
-    assert!(rt; best.index == 5 && best.diff == 6 && best.err == 4 && best.trip == 10);
-    Ok(())
+fn tells_sends(rt: HostRuntime) {
+    assert!(rt; tells(rt.alloc(), SENT, Fact::Sends) == Some(true));
 }
 
 #[test]
-fn tells_the_close(rt: HostRuntime) -> Result<(), Fail> {
-    let close = Act::Close {
-        count: 2,
-        lo: 0,
-        width: 1,
-        mean: 0,
-    };
-    let history = told(
-        rt.alloc(),
-        vec![in rt.alloc(); boot(0), mark(9), acts(9, close), send(9), mark(10)]?,
-    )?;
-    let lines = first(&history, 5);
-    assert!(rt; closed_at(first(&history, 4), NODE, PORT) == Some(2));
-    assert!(rt; closed_at(first(&history, 4), NODE, Port(0)).is_none());
-    assert!(rt; closed_at(lines, NODE, PORT).is_none());
-    Ok(())
+fn tells_rounds(rt: HostRuntime) {
+    assert!(rt; tells(rt.alloc(), MEASURED, Fact::Round) == Some(true));
+}
+
+#[test]
+fn tells_the_close(rt: HostRuntime) {
+    assert!(rt; tells(rt.alloc(), CLOSED, Fact::Close) == Some(true));
 }

@@ -26,12 +26,12 @@ fn fault_of(octets: &[u8]) -> Option<DecodeFault> {
 }
 
 /// Whether the octets are a message with this number and these parts.
-fn spell_message(octets: &[u8], kind: Kind, number: u16, body: &Body, name: &[u8]) -> bool {
+fn spell_message(octets: &[u8], kind: Kind, number: u16, body: Body, name: &[u8]) -> bool {
     match decode(octets) {
         Ok(Datagram::Message(message)) => {
             message.kind() == kind
                 && message.number() == number
-                && message.body() == *body
+                && message.body() == body
                 && message.name().octets() == name
         }
         _ => false,
@@ -53,179 +53,188 @@ fn time_of(value: i64) -> Body {
     }
 }
 
+/// An ADJTIME with the number 7 and the time 1,234, up to its name.
+const HEAD: &[u8] = &[1, 1, 0, 7, 0, 0, 0, 0, 0, 0, 4, 0xd2];
+
+/// Whether these octets are that message with this name.
+fn spell_adjtime(octets: &[u8], name: &[u8]) -> bool {
+    spell_message(octets, Kind::AdjTime, 7, time_of(1234), name)
+}
+
+/// Whether that head with these octets, and then so many of fill, is the message with this name, and is
+/// written with so many octets, which are 0 from the name's end on.
+fn is_padded(behind: &[u8], fill: u8, count: usize, name: &[u8], size: usize) -> bool {
+    let octets = octets_of(HEAD, behind, fill, count);
+    let written = octets_of(HEAD, name, 0, size.saturating_sub(12 + name.len()));
+    written.len() == size
+        && spell_adjtime(octets.as_slice(), name)
+        && is_written_as(octets.as_slice(), written.as_slice())
+}
+
 /// One message in four forms, of which the first is written; an octet more is too long.
 #[test]
 fn what_follows_the_name_is_passed_over(rt: HostRuntime) {
-    let head = [1, 1, 0, 7, 0, 0, 0, 0, 0, 0, 4, 0xd2];
-    let written = octets_of(&head, b"alpha", 0, 59);
-    assert_eq!(rt; written.len(), 76);
-    for (fill, count) in [(0, 59), (0, 1)] {
-        let octets = octets_of(&head, b"alpha", fill, count);
-        assert!(rt;
-            spell_message(
-                octets.as_slice(),
-                Kind::AdjTime,
-                7,
-                &time_of(1234),
-                b"alpha"
-            )
-        );
-        assert!(rt; is_written_as(octets.as_slice(), written.as_slice()));
-    }
-    let long = octets_of(&head, b"alpha\0", 0xee, 250);
-    assert_eq!(rt; long.len(), 268);
-    assert!(rt; spell_message(long.as_slice(), Kind::AdjTime, 7, &time_of(1234), b"alpha"));
-    assert!(rt; is_written_as(long.as_slice(), written.as_slice()));
-    let longer = octets_of(&head, b"alpha\0", 0xee, 251);
-    assert_eq!(rt; fault_of(longer.as_slice()), Some(DecodeFault::Long));
+    assert!(rt; is_padded(b"alpha", 0, 59, b"alpha", 76));
+    assert!(rt; is_padded(b"alpha", 0, 1, b"alpha", 76));
+    assert!(rt; is_padded(b"alpha\0", 0xee, 250, b"alpha", 76));
+    assert!(rt; octets_of(HEAD, b"alpha\0", 0xee, 250).len() == 268);
+    let longer = octets_of(HEAD, b"alpha\0", 0xee, 251);
+    assert!(rt; fault_of(longer.as_slice()) == Some(DecodeFault::Long));
 }
 
 /// Names on both sides of the lengths at which their place gets longer.
 #[test]
 fn long_names_have_long_spellings(rt: HostRuntime) {
-    let head = [1, 1, 0, 7, 0, 0, 0, 0, 0, 0, 4, 0xd2];
-    let name = [b'a'; 255];
-    for (count, size) in [(63, 76), (64, 268), (255, 268)] {
-        let octets = octets_of(&head, &name[..count], 0, 1);
-        assert!(rt;
-            spell_message(
-                octets.as_slice(),
-                Kind::AdjTime,
-                7,
-                &time_of(1234),
-                &name[..count]
-            )
-        );
-        let written = octets_of(&head, &name[..count], 0, size - 12 - count);
-        assert_eq!(rt; written.len(), size);
-        assert!(rt; is_written_as(octets.as_slice(), written.as_slice()));
+    for (count, size) in &[(63, 76), (64, 268), (255, 268)] {
+        let name = [b'a'; 255];
+        let name = &name[..*count];
+        assert!(rt; is_padded(name, 0, 1, name, *size));
     }
 }
 
+/// Whether an ADJTIME with these seconds and microseconds has this time; None: it is refused for its time.
+fn has_time(seconds: u32, micros: u32, value: Option<i64>) -> bool {
+    let mut octets = octets_of(&[1, 1, 0, 0], &u32::to_be_bytes(seconds), 0, 0);
+    let _ = octets.try_extend_from_slice(&u32::to_be_bytes(micros));
+    let _ = octets.try_push(0);
+    match value {
+        Some(value) => spell_message(octets.as_slice(), Kind::AdjTime, 0, time_of(value), b""),
+        None => fault_of(octets.as_slice()) == Some(DecodeFault::Time),
+    }
+}
+
+/// The greatest time and a microsecond.
+const LIMIT: i64 = 2_147_483_648_000_000;
+
 /// Seconds and microseconds at the ends of their ranges.
+const TIMES: &[(u32, u32, Option<i64>)] = &[
+    (0xffff_ffff, 0x000f_423f, Some(-1)),
+    (0, 0xffff_ffff, Some(-1)),
+    (0x8000_0000, 0xffff_ffff, None),
+    (0x8000_0000, 0, Some(-LIMIT)),
+    (0x7fff_ffff, 0x000f_423f, Some(LIMIT - 1)),
+    (0, 0x000f_4240, None),
+];
+
+/// Whether the written form of a head and its name's end is another head and 0 up to 76 octets.
+fn is_written_in_full(head: &[u8], written: &[u8]) -> bool {
+    let octets = octets_of(head, b"", 0, 1);
+    let written = octets_of(written, b"", 0, 64);
+    is_written_as(octets.as_slice(), written.as_slice())
+}
+
 #[test]
 fn times_have_their_range(rt: HostRuntime) {
-    let limit = 2_147_483_648_000_000;
-    for (seconds, micros, value) in [
-        (0xffff_ffff, 0x000f_423f, Some(-1)),
-        (0, 0xffff_ffff, Some(-1)),
-        (0x8000_0000, 0xffff_ffff, None),
-        (0x8000_0000, 0, Some(-limit)),
-        (0x7fff_ffff, 0x000f_423f, Some(limit - 1)),
-        (0, 0x000f_4240, None),
-    ] {
-        let mut octets = octets_of(&[1, 1, 0, 0], &u32::to_be_bytes(seconds), 0, 0);
-        let _ = octets.try_extend_from_slice(&u32::to_be_bytes(micros));
-        let _ = octets.try_push(0);
-        match value {
-            Some(micros) => {
-                assert!(rt;
-                    spell_message(octets.as_slice(), Kind::AdjTime, 0, &time_of(micros), b"")
-                );
-            }
-            None => assert_eq!(rt; fault_of(octets.as_slice()), Some(DecodeFault::Time)),
-        }
+    for (seconds, micros, value) in TIMES {
+        assert!(rt; has_time(*seconds, *micros, *value));
     }
     let minus_one = [1, 1, 0, 0, 0, 0, 0, 0, 0xff, 0xff, 0xff, 0xff];
     let written = [1, 1, 0, 0, 0xff, 0xff, 0xff, 0xff, 0, 0x0f, 0x42, 0x3f];
-    assert!(rt;
-        is_written_as(
-            octets_of(&minus_one, b"", 0, 1).as_slice(),
-            octets_of(&written, b"", 0, 64).as_slice(),
-        )
-    );
+    assert!(rt; is_written_in_full(&minus_one, &written));
 }
+
+/// Whether `read` and `decode` find this fault, or both none.
+fn have_fault(octets: &[u8], fault: Option<DecodeFault>) -> bool {
+    let found = match read(octets) {
+        Taken::Good(_) => None,
+        Taken::Bad(found) => Some(found),
+    };
+    found == fault && fault_of(octets) == fault
+}
+
+/// Whether the octets of a head, so many octets of fill, and an end have this fault.
+fn are_refused(
+    head: &[u8],
+    fill: u8,
+    count: usize,
+    end: &[u8],
+    fault: Option<DecodeFault>,
+) -> bool {
+    let mut octets = octets_of(head, b"", fill, count);
+    let _ = octets.try_extend_from_slice(end);
+    have_fault(octets.as_slice(), fault)
+}
+
+/// An ACK up to its name.
+const ACK: &[u8] = &[2, 1, 0, 0, 0, 0, 0, 0, 0, 0, 0, 0];
+
+/// A head, what fills the octets behind it, how many of it are there, and an end.
+const OCTETS: &[(&[u8], u8, usize, &[u8], Option<DecodeFault>)] = &[
+    (&[1, 1], 0, 10, b"", Some(DecodeFault::Short)),
+    (&[1, 2], 0, 10, b"", Some(DecodeFault::Short)),
+    (&[0, 2], 0, 11, b"", Some(DecodeFault::Version)),
+    (&[0, 1], 0, 11, b"", Some(DecodeFault::Kind)),
+    (&[0x19, 1], 0, 11, b"", Some(DecodeFault::Kind)),
+    (&[0x82, 1], 0, 11, b"", Some(DecodeFault::Kind)),
+    (&[0x80, 1], 0, 25, b"", Some(DecodeFault::StampLength)),
+    (&[0x81, 1], 0, 27, b"", Some(DecodeFault::StampLength)),
+    (&[0x80, 1], 0, 26, b"", None),
+    (&[0x81, 1], 0, 26, b"", None),
+    (&[2, 1], 0, 11, b"", None),
+    (&[2, 2], 0, 267, b"", Some(DecodeFault::Long)),
+    (ACK, b'a', 63, b"\0", None),
+    (ACK, b'a', 63, b"", Some(DecodeFault::NoEnd)),
+    (ACK, b'a', 64, b"", Some(DecodeFault::NoEnd)),
+    (ACK, b'a', 255, b"\0", None),
+    (ACK, b'a', 255, b"", Some(DecodeFault::NoEnd)),
+    (ACK, b'a', 256, b"", Some(DecodeFault::NameTooLong)),
+    (&[0x80, 1, 0, 1], 0, 24, b"", Some(DecodeFault::Reserved)),
+    (&[0x81, 1, 0x80, 0], 0, 24, b"", Some(DecodeFault::Reserved)),
+];
 
 /// Each fault, and octets that just don't have it.
 #[test]
 fn refuses_by_the_first_fault(rt: HostRuntime) {
-    for (first, version, rest, fault) in [
-        (1, 1, 10, Some(DecodeFault::Short)),
-        (1, 2, 10, Some(DecodeFault::Short)),
-        (0, 2, 11, Some(DecodeFault::Version)),
-        (0, 1, 11, Some(DecodeFault::Kind)),
-        (0x19, 1, 11, Some(DecodeFault::Kind)),
-        (0x82, 1, 11, Some(DecodeFault::Kind)),
-        (0x80, 1, 25, Some(DecodeFault::StampLength)),
-        (0x81, 1, 27, Some(DecodeFault::StampLength)),
-        (0x80, 1, 26, None),
-        (0x81, 1, 26, None),
-        (2, 1, 11, None),
-        (2, 2, 267, Some(DecodeFault::Long)),
-    ] {
-        let octets = octets_of(&[first, version], b"", 0, rest);
-        assert_eq!(rt; fault_of(octets.as_slice()), fault);
-        match (read(octets.as_slice()), fault) {
-            (Taken::Good(_), None) => {}
-            (Taken::Bad(found), Some(fault)) => assert_eq!(rt; found, fault),
-            _ => panic!(rt; "read and decode differ"),
-        }
+    for (head, fill, count, end, fault) in OCTETS {
+        assert!(rt; are_refused(head, *fill, *count, end, *fault));
     }
-    let head = [2, 1, 0, 0, 0, 0, 0, 0, 0, 0, 0, 0];
-    for (count, end, fault) in [
-        (63, 1, None),
-        (63, 0, Some(DecodeFault::NoEnd)),
-        (64, 0, Some(DecodeFault::NoEnd)),
-        (255, 1, None),
-        (255, 0, Some(DecodeFault::NoEnd)),
-        (256, 0, Some(DecodeFault::NameTooLong)),
-    ] {
-        let mut octets = octets_of(&head, b"", b'a', count);
-        for _ in 0..end {
-            let _ = octets.try_push(0);
-        }
-        assert_eq!(rt; fault_of(octets.as_slice()), fault);
-    }
-    let request = octets_of(&[0x80, 1, 0, 1], b"", 0, 24);
-    assert_eq!(rt; fault_of(request.as_slice()), Some(DecodeFault::Reserved));
-    let reply = octets_of(&[0x81, 1, 0x80, 0], b"", 0, 24);
-    assert_eq!(rt; fault_of(reply.as_slice()), Some(DecodeFault::Reserved));
+}
+
+/// Whether a message of this kind has its number, and of its octets 4 to 11 keeps those that matter.
+fn has_its_octets(kind: Kind) -> bool {
+    let number = kind as u8;
+    let (body, kept) = match number {
+        1 | 5 | 14 | 15 | 22 | 23 => (time_of(50_331_650_000_005), [3, 0, 0, 2, 0, 0, 0, 5]),
+        24 => (Body::Hops(3), [3, 0, 0, 0, 0, 0, 0, 0]),
+        _ => (Body::Nothing, [0; 8]),
+    };
+    let head = [number, 1, 0x12, 0x34, 3, 0, 0, 2, 0, 0, 0, 5];
+    let octets = octets_of(&head, b"b\0", 7, 3);
+    let mut written = octets_of(&[number, 1, 0x12, 0x34], &kept, b'b', 1);
+    let _ = written.try_extend_from_slice(&[0; 63]);
+    spell_message(octets.as_slice(), kind, 0x1234, body, b"b")
+        && is_written_as(octets.as_slice(), written.as_slice())
 }
 
 /// All types of message. Octets 4 to 11 matter in those with a time and in LOOP.
 #[test]
 fn each_kind_has_its_octets(rt: HostRuntime) {
     for kind in &KINDS {
-        let number = *kind as u8;
-        let head = [number, 1, 0x12, 0x34, 3, 0, 0, 2, 0, 0, 0, 5];
-        let (body, kept) = match number {
-            1 | 5 | 14 | 15 | 22 | 23 => (time_of(50_331_650_000_005), [3, 0, 0, 2, 0, 0, 0, 5]),
-            24 => (Body::Hops(3), [3, 0, 0, 0, 0, 0, 0, 0]),
-            _ => (Body::Nothing, [0; 8]),
-        };
-        let octets = octets_of(&head, b"b\0", 7, 3);
-        assert!(rt; spell_message(octets.as_slice(), *kind, 0x1234, &body, b"b"));
-        let mut written = octets_of(&[number, 1, 0x12, 0x34], &kept, b'b', 1);
-        for _ in 0..63 {
-            let _ = written.try_push(0);
-        }
-        assert!(rt; is_written_as(octets.as_slice(), written.as_slice()));
+        assert!(rt; has_its_octets(*kind));
+    }
+}
+
+/// Whether octets are this stamp, which is written as them.
+fn spell_stamp(octets: &[u8], wanted: Option<Stamp>) -> bool {
+    match decode(octets) {
+        Ok(Datagram::Stamp(stamp)) => Some(stamp) == wanted && is_written_as(octets, octets),
+        _ => false,
     }
 }
 
 /// Both stamps, in the one form that each has.
 #[test]
 fn stamps_have_one_spelling(rt: HostRuntime) {
-    let request = [
+    let request = Stamp::Request {
+        word: 1,
+        counter: 2,
+    };
+    let octets = [
         0x80, 1, 0, 0, 0, 0, 0, 0, 0, 0, 0, 1, 0, 0, 0, 0, 0, 0, 0, 2, 0, 0, 0, 0, 0, 0, 0, 0,
     ];
-    let reply = [
+    assert!(rt; spell_stamp(&octets, Some(request)));
+    let octets = [
         0x81, 1, 0, 5, 0, 0, 0, 0, 0, 0, 0, 1, 0, 0, 0, 0, 0, 0, 0, 2, 0, 0, 0, 0, 0, 0, 3, 0xfc,
     ];
-    for (octets, wanted) in [
-        (
-            &request,
-            Some(Stamp::Request {
-                word: 1,
-                counter: 2,
-            }),
-        ),
-        (&reply, Stamp::reply(5, 1, 2, 1020)),
-    ] {
-        assert!(rt; is_written_as(octets, octets));
-        match decode(octets) {
-            Ok(Datagram::Stamp(stamp)) => assert_eq!(rt; Some(stamp), wanted),
-            _ => panic!(rt; "no stamp"),
-        }
-    }
+    assert!(rt; spell_stamp(&octets, Stamp::reply(5, 1, 2, 1020)));
 }

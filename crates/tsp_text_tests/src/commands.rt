@@ -2,8 +2,7 @@
 use std::alloc::{AllocError, Global};
 use tsp_args::command::{Command, command_of};
 use tsp_args::query::Query;
-use tsp_args::serve::Candidacy;
-use tsp_base::micros::Micros;
+use tsp_args::serve::{Candidacy, ServeWords};
 use tsp_io::addr::Addr;
 
 /// What some words ask for.
@@ -15,169 +14,205 @@ fn read(alloc: Global, words: &[&str]) -> Result<Option<Command>, AllocError> {
     command_of(alloc, owned.as_slice())
 }
 
-/// The word of a command that has no other word.
-fn lone_word(command: &Command) -> &'static str {
-    match command {
-        Command::Replay => "replay",
-        Command::Show => "show",
-        Command::Pack => "pack",
-        Command::Icmp => "icmp",
-        Command::Audit => "audit",
-        _ => "",
+/// This machine's address, with a port.
+fn here(port: u16) -> Addr {
+    Addr {
+        ip: [127, 0, 0, 1],
+        port,
     }
 }
 
-/// The question and its address.
-fn asked(command: &Option<Command>) -> Option<(Addr, Query)> {
-    match command {
-        Some(Command::Ask(addr, query)) => Some((*addr, *query)),
-        _ => None,
+/// A question's word, and a date's microseconds.
+fn asked(query: &Query) -> (&'static str, i64) {
+    match query {
+        Query::Msite => ("msite", 0),
+        Query::ClockDiff => ("clockdiff", 0),
+        Query::Trace(true) => ("trace on", 0),
+        Query::Trace(false) => ("trace off", 0),
+        Query::Election => ("election", 0),
+        Query::Date(time) => ("date", time.get()),
     }
+}
+
+/// A command's word, or what it asks of the daemon at port 525 of this machine; a storm's word is empty where
+/// its numbers aren't the greatest ones.
+fn said(command: &Option<Command>) -> (&'static str, i64) {
+    match command {
+        Some(Command::Replay) => ("replay", 0),
+        Some(Command::Show) => ("show", 0),
+        Some(Command::Pack) => ("pack", 0),
+        Some(Command::Icmp) => ("icmp", 0),
+        Some(Command::Audit) => ("audit", 0),
+        Some(Command::Serve(_)) => ("serve", 0),
+        Some(Command::Ask(addr, query)) if *addr == here(525) => asked(query),
+        Some(Command::Storm(storm))
+            if storm.seed == u64::MAX && storm.nodes == 64 && storm.events == 200_000 => {
+            ("storm", 0)
+        }
+        Some(_) => ("", 0),
+        None => ("nothing", 0),
+    }
+}
+
+/// Whether words ask for this.
+fn ask(alloc: Global, words: &[&str], wanted: (&str, i64)) -> Result<bool, AllocError> {
+    let command = read(alloc, words)?;
+    Ok(said(&command) == wanted)
 }
 
 /// Commands of one word, and the generator's numbers.
+const COMMANDS: &[(&[&str], (&str, i64))] = &[
+    (&["replay"], ("replay", 0)),
+    (&["show"], ("show", 0)),
+    (&["pack"], ("pack", 0)),
+    (&["icmp"], ("icmp", 0)),
+    (&["audit"], ("audit", 0)),
+    (
+        &["storm", "18446744073709551615", "64", "200000"],
+        ("storm", 0),
+    ),
+];
+
 #[test]
-fn words_are_commands(rt: HostRuntime) -> Result<(), AllocError> {
-    let alloc = rt.alloc();
-    for word in ["replay", "show", "pack", "icmp", "audit"] {
-        let Some(command) = read(alloc, &[word])? else {
-            panic!(rt; "no command");
-        };
-        assert!(rt; lone_word(&command) == word);
+fn words_are_commands(rt: HostRuntime) {
+    for (words, wanted) in COMMANDS {
+        assert!(rt; ask(rt.alloc(), words, *wanted) == Ok(true));
     }
-    let storm = read(alloc, &["storm", "18446744073709551615", "64", "200000"])?;
-    let Some(Command::Storm(storm)) = &storm else {
-        panic!(rt; "no storm");
-    };
-    assert!(rt; (storm.seed, storm.nodes, storm.events) == (u64::MAX, 64, 200_000));
-    Ok(())
 }
 
 /// Questions to a daemon.
+const QUESTIONS: &[(&[&str], (&str, i64))] = &[
+    (&["msite", "127.0.0.1:525"], ("msite", 0)),
+    (&["clockdiff", "127.0.0.1:525"], ("clockdiff", 0)),
+    (&["election", "127.0.0.1:525"], ("election", 0)),
+    (&["trace", "127.0.0.1:525", "on"], ("trace on", 0)),
+    (&["trace", "127.0.0.1:525", "off"], ("trace off", 0)),
+    (
+        &["date", "127.0.0.1:525", "-2147483647999999"],
+        ("date", -2147483647999999),
+    ),
+];
+
 #[test]
-fn words_are_questions(rt: HostRuntime) -> Result<(), AllocError> {
-    let alloc = rt.alloc();
-    let daemon = Addr {
-        ip: [127, 0, 0, 1],
-        port: 525,
-    };
-    for (word, wanted) in [
-        ("msite", Query::Msite),
-        ("clockdiff", Query::ClockDiff),
-        ("election", Query::Election),
-    ] {
-        let command = read(alloc, &[word, "127.0.0.1:525"])?;
-        assert!(rt; asked(&command) == Some((daemon, wanted)));
+fn words_are_questions(rt: HostRuntime) {
+    for (words, wanted) in QUESTIONS {
+        assert!(rt; ask(rt.alloc(), words, *wanted) == Ok(true));
     }
-    for (value, on) in [("on", true), ("off", false)] {
-        let command = read(alloc, &["trace", "127.0.0.1:525", value])?;
-        assert!(rt; asked(&command) == Some((daemon, Query::Trace(on))));
-    }
-    let command = read(alloc, &["date", "127.0.0.1:525", "-2147483647999999"])?;
-    let date = Micros::of(-2147483647999999).map(Query::Date);
-    assert!(rt; asked(&command) == date.map(|query| (daemon, query)));
-    Ok(())
 }
 
-/// A daemon with two ports, and one with one port and no peer.
-#[test]
-fn words_are_a_daemons(rt: HostRuntime) -> Result<(), AllocError> {
-    let alloc = rt.alloc();
-    let two = read(
-        alloc,
-        &[
-            "serve",
-            "127.0.0.1:525",
-            "a-B.9_",
-            "x",
-            "1000000000",
-            "10.0.0.2:1",
-            "255.0.0.0:65535",
-            "+",
-            "10.0.0.3:525",
-        ],
-    )?;
-    let Some(Command::Serve(two)) = &two else {
-        panic!(rt; "no daemon");
-    };
-    assert!(rt;
-        two.local
-            == Addr {
-                ip: [127, 0, 0, 1],
-                port: 525
-            }
-    );
-    assert!(rt; two.name.octets() == b"a-B.9_".as_slice());
-    assert!(rt; two.candidacy == Candidacy::Strict && two.turns == 1_000_000_000);
+/// Whether this is the daemon of `TWO`.
+fn is_of_two(alloc: Global, words: &ServeWords) -> Result<bool, AllocError> {
     let third = Addr {
         ip: [10, 0, 0, 3],
         port: 525,
     };
-    assert!(rt; two.ports.count() == 2 && two.ports.peers(alloc)?.last() == Some(&third));
-    let alone = read(alloc, &["serve", "127.0.0.1:525", "a", "s", "1"])?;
-    let Some(Command::Serve(alone)) = &alone else {
-        panic!(rt; "no lone daemon");
-    };
-    assert!(rt; alone.ports.count() == 1 && alone.candidacy == Candidacy::Never);
-    Ok(())
+    let peers = words.ports.peers(alloc)?;
+    Ok(
+        words.local == here(525)
+            && words.name.octets() == b"a-B.9_".as_slice()
+            && words.candidacy == Candidacy::Strict
+            && words.turns == 1_000_000_000
+            && words.ports.count() == 2
+            && peers.last() == Some(&third),
+    )
+}
+
+/// A daemon with two ports, of which the second has one peer.
+const TWO: &[&str] = &[
+    "serve",
+    "127.0.0.1:525",
+    "a-B.9_",
+    "x",
+    "1000000000",
+    "10.0.0.2:1",
+    "255.0.0.0:65535",
+    "+",
+    "10.0.0.3:525",
+];
+
+/// Whether the words of `TWO` ask for it.
+fn is_two(alloc: Global) -> Result<bool, AllocError> {
+    let command = read(alloc, TWO)?;
+    match &command {
+        Some(Command::Serve(words)) => is_of_two(alloc, words),
+        _ => Ok(false),
+    }
+}
+
+/// Whether words ask for a daemon with one port and no peer.
+fn is_alone(alloc: Global) -> Result<bool, AllocError> {
+    let command = read(alloc, &["serve", "127.0.0.1:525", "a", "s", "1"])?;
+    Ok(match &command {
+        Some(Command::Serve(words)) => {
+            words.ports.count() == 1 && words.candidacy == Candidacy::Never
+        }
+        _ => false,
+    })
+}
+
+/// A daemon with two ports, and one with one port and no peer.
+#[test]
+fn words_are_a_daemons(rt: HostRuntime) {
+    assert!(rt; is_two(rt.alloc()) == Ok(true));
+    assert!(rt; is_alone(rt.alloc()) == Ok(true));
 }
 
 /// Words that only look like a command's.
+const OTHERS: &[&[&str]] = &[
+    &[],
+    &[""],
+    &["Replay"],
+    &["replay", "x"],
+    &["msite"],
+    &["msite", "127.0.0.1"],
+    &["msite", "127.0.0.1:0"],
+    &["msite", "127.0.0.1:65536"],
+    &["msite", "127.0.0.01:525"],
+    &["msite", "127.0.0.256:525"],
+    &["msite", "127.0.0.1:0525"],
+    &["msite", "127.0.0.1.1:525"],
+    &["msite", "localhost:525"],
+    &["msite", "127.0.0.1:525", "on"],
+    &["trace", "127.0.0.1:525"],
+    &["trace", "127.0.0.1:525", "On"],
+    &["date", "127.0.0.1:525", "-2147483648000000"],
+    &["date", "127.0.0.1:525", "+1"],
+    &["storm", "1", "65", "1"],
+    &["storm", "1", "0", "1"],
+    &["storm", "1", "1", "200001"],
+    &["storm", "18446744073709551616", "1", "1"],
+    &["serve", "127.0.0.1:525", "a", "m"],
+    &["serve", "127.0.0.1:525", "", "m", "1"],
+    &["serve", "127.0.0.1:525", "a b", "m", "1"],
+    &["serve", "127.0.0.1:525", "a", "y", "1"],
+    &["serve", "127.0.0.1:525", "a", "m", "0"],
+    &["serve", "127.0.0.1:525", "a", "m", "1000000001"],
+    &["serve", "127.0.0.1:525", "g", "m", "1", "+", "+", "+", "+"],
+    &["serve", "127.0.0.1:525", "a", "m", "1", "127.0.0.1:525"],
+    &[
+        "serve",
+        "127.0.0.1:525",
+        "a",
+        "m",
+        "1",
+        "10.0.0.2:1",
+        "+",
+        "10.0.0.2:1",
+    ],
+    &[
+        "serve",
+        "127.0.0.1:525",
+        "a",
+        "m",
+        "1",
+        "10.0.0.2:1",
+        "peer",
+    ],
+];
+
 #[test]
-fn other_words_are_none(rt: HostRuntime) -> Result<(), AllocError> {
-    let alloc = rt.alloc();
-    for words in [
-        &[][..],
-        &[""][..],
-        &["Replay"][..],
-        &["replay", "x"][..],
-        &["msite"][..],
-        &["msite", "127.0.0.1"][..],
-        &["msite", "127.0.0.1:0"][..],
-        &["msite", "127.0.0.1:65536"][..],
-        &["msite", "127.0.0.01:525"][..],
-        &["msite", "127.0.0.256:525"][..],
-        &["msite", "127.0.0.1:0525"][..],
-        &["msite", "127.0.0.1.1:525"][..],
-        &["msite", "localhost:525"][..],
-        &["msite", "127.0.0.1:525", "on"][..],
-        &["trace", "127.0.0.1:525"][..],
-        &["trace", "127.0.0.1:525", "On"][..],
-        &["date", "127.0.0.1:525", "-2147483648000000"][..],
-        &["date", "127.0.0.1:525", "+1"][..],
-        &["storm", "1", "65", "1"][..],
-        &["storm", "1", "0", "1"][..],
-        &["storm", "1", "1", "200001"][..],
-        &["storm", "18446744073709551616", "1", "1"][..],
-        &["serve", "127.0.0.1:525", "a", "m"][..],
-        &["serve", "127.0.0.1:525", "", "m", "1"][..],
-        &["serve", "127.0.0.1:525", "a b", "m", "1"][..],
-        &["serve", "127.0.0.1:525", "a", "y", "1"][..],
-        &["serve", "127.0.0.1:525", "a", "m", "0"][..],
-        &["serve", "127.0.0.1:525", "a", "m", "1000000001"][..],
-        &["serve", "127.0.0.1:525", "g", "m", "1", "+", "+", "+", "+"][..],
-        &["serve", "127.0.0.1:525", "a", "m", "1", "127.0.0.1:525"][..],
-        &[
-            "serve",
-            "127.0.0.1:525",
-            "a",
-            "m",
-            "1",
-            "10.0.0.2:1",
-            "+",
-            "10.0.0.2:1",
-        ][..],
-        &[
-            "serve",
-            "127.0.0.1:525",
-            "a",
-            "m",
-            "1",
-            "10.0.0.2:1",
-            "peer",
-        ][..],
-    ] {
-        assert!(rt; read(alloc, words)?.is_none());
+fn other_words_are_none(rt: HostRuntime) {
+    for words in OTHERS {
+        assert!(rt; ask(rt.alloc(), words, ("nothing", 0)) == Ok(true));
     }
-    Ok(())
 }

@@ -69,7 +69,6 @@ impl Treatment for Echo {
 }
 
 /// An input, how it is read and written, and how its treatment should end.
-#[derive(Drop)]
 struct Row {
     limit: u32,
     input: &'static [u8],
@@ -81,8 +80,7 @@ struct Row {
 
 /// Whether an input that is read two octets at a time ends as the row says.
 fn comes(alloc: Global, row: &Row) -> Result<bool, AllocError> {
-    let source = MemorySource::new(alloc, row.input, row.reads)?;
-    let mut source = source.in_pieces(2);
+    let mut source = MemorySource::new(alloc, row.input, row.reads)?.in_pieces(2);
     let mut sink = MemorySink::new(alloc, row.writes)?;
     let mut echo = Echo { lines: 0 };
     let outcome = treat_all(
@@ -95,149 +93,157 @@ fn comes(alloc: Global, row: &Row) -> Result<bool, AllocError> {
     Ok(outcome == row.outcome && sink.written() == row.written)
 }
 
+const OUTCOMES: &[Row] = &[
+    Row {
+        limit: 100,
+        input: b"a\nbb\n",
+        reads: &[],
+        writes: &[],
+        outcome: Outcome::Ok,
+        written: b"a\nbb\n",
+    },
+    Row {
+        limit: 100,
+        input: b"a\nbb",
+        reads: &[],
+        writes: &[],
+        outcome: Outcome::Ok,
+        written: b"a\nbb\n",
+    },
+    Row {
+        limit: 100,
+        input: b"",
+        reads: &[],
+        writes: &[],
+        outcome: Outcome::Bad,
+        written: b"bad 1 empty\n",
+    },
+    Row {
+        limit: 100,
+        input: b"a\n!\nb\n",
+        reads: &[],
+        writes: &[],
+        outcome: Outcome::Bad,
+        written: b"a\nbad 2 mark\n",
+    },
+    Row {
+        limit: 100,
+        input: b"a\n#",
+        reads: &[],
+        writes: &[],
+        outcome: Outcome::Limit,
+        written: b"a\nlimit 2\n",
+    },
+    Row {
+        limit: 4,
+        input: b"a\nb\nc",
+        reads: &[],
+        writes: &[],
+        outcome: Outcome::Limit,
+        written: b"a\nb\nlimit 3\n",
+    },
+    Row {
+        limit: 3,
+        input: b"a\nb\n",
+        reads: &[],
+        writes: &[],
+        outcome: Outcome::Limit,
+        written: b"a\nlimit 2\n",
+    },
+    Row {
+        limit: 4,
+        input: b"a\nb\n",
+        reads: &[],
+        writes: &[],
+        outcome: Outcome::Ok,
+        written: b"a\nb\n",
+    },
+    Row {
+        limit: 100,
+        input: b"a\nb\n",
+        reads: &[1],
+        writes: &[],
+        outcome: Outcome::ReadFault,
+        written: b"a\n",
+    },
+    Row {
+        limit: 100,
+        input: b"a\nb\n",
+        reads: &[],
+        writes: &[0],
+        outcome: Outcome::WriteFault,
+        written: b"",
+    },
+    Row {
+        limit: 100,
+        input: b"a\nb\n",
+        reads: &[],
+        writes: &[1],
+        outcome: Outcome::WriteFault,
+        written: b"a\n",
+    },
+];
+
 /// Each outcome comes where it should, with what is written up to then.
 #[test]
 fn outcomes_come(rt: HostRuntime) {
-    let rows = [
-        Row {
-            limit: 100,
-            input: b"a\nbb\n",
-            reads: &[],
-            writes: &[],
-            outcome: Outcome::Ok,
-            written: b"a\nbb\n",
-        },
-        Row {
-            limit: 100,
-            input: b"a\nbb",
-            reads: &[],
-            writes: &[],
-            outcome: Outcome::Ok,
-            written: b"a\nbb\n",
-        },
-        Row {
-            limit: 100,
-            input: b"",
-            reads: &[],
-            writes: &[],
-            outcome: Outcome::Bad,
-            written: b"bad 1 empty\n",
-        },
-        Row {
-            limit: 100,
-            input: b"a\n!\nb\n",
-            reads: &[],
-            writes: &[],
-            outcome: Outcome::Bad,
-            written: b"a\nbad 2 mark\n",
-        },
-        Row {
-            limit: 100,
-            input: b"a\n#",
-            reads: &[],
-            writes: &[],
-            outcome: Outcome::Limit,
-            written: b"a\nlimit 2\n",
-        },
-        Row {
-            limit: 4,
-            input: b"a\nb\nc",
-            reads: &[],
-            writes: &[],
-            outcome: Outcome::Limit,
-            written: b"a\nb\nlimit 3\n",
-        },
-        Row {
-            limit: 3,
-            input: b"a\nb\n",
-            reads: &[],
-            writes: &[],
-            outcome: Outcome::Limit,
-            written: b"a\nlimit 2\n",
-        },
-        Row {
-            limit: 4,
-            input: b"a\nb\n",
-            reads: &[],
-            writes: &[],
-            outcome: Outcome::Ok,
-            written: b"a\nb\n",
-        },
-        Row {
-            limit: 100,
-            input: b"a\nb\n",
-            reads: &[1],
-            writes: &[],
-            outcome: Outcome::ReadFault,
-            written: b"a\n",
-        },
-        Row {
-            limit: 100,
-            input: b"a\nb\n",
-            reads: &[],
-            writes: &[0],
-            outcome: Outcome::WriteFault,
-            written: b"",
-        },
-        Row {
-            limit: 100,
-            input: b"a\nb\n",
-            reads: &[],
-            writes: &[1],
-            outcome: Outcome::WriteFault,
-            written: b"a\n",
-        },
-    ];
-    for row in &rows {
+    for row in OUTCOMES {
         assert!(rt; comes(rt.alloc(), row) == Ok(true));
     }
 }
+
+/// Inputs whose fourth line isn't allowed.
+const FULL: &[Row] = &[
+    Row {
+        limit: 100,
+        input: b"a\nb\nc\n",
+        reads: &[],
+        writes: &[],
+        outcome: Outcome::Ok,
+        written: b"a\nb\nc\n",
+    },
+    Row {
+        limit: 100,
+        input: b"a\nb\nc\nd",
+        reads: &[],
+        writes: &[],
+        outcome: Outcome::Limit,
+        written: b"a\nb\nc\nlimit 4\n",
+    },
+    Row {
+        limit: 100,
+        input: b"a\nb\nc\nd",
+        reads: &[3],
+        writes: &[],
+        outcome: Outcome::ReadFault,
+        written: b"a\nb\nc\n",
+    },
+];
 
 /// Where no further line is allowed, the first octet of another one passes a limit.
 #[test]
 fn full_treatments_take_no_octet(rt: HostRuntime) {
-    let rows = [
-        Row {
-            limit: 100,
-            input: b"a\nb\nc\n",
-            reads: &[],
-            writes: &[],
-            outcome: Outcome::Ok,
-            written: b"a\nb\nc\n",
-        },
-        Row {
-            limit: 100,
-            input: b"a\nb\nc\nd",
-            reads: &[],
-            writes: &[],
-            outcome: Outcome::Limit,
-            written: b"a\nb\nc\nlimit 4\n",
-        },
-        Row {
-            limit: 100,
-            input: b"a\nb\nc\nd",
-            reads: &[3],
-            writes: &[],
-            outcome: Outcome::ReadFault,
-            written: b"a\nb\nc\n",
-        },
-    ];
-    for row in &rows {
+    for row in FULL {
         assert!(rt; comes(rt.alloc(), row) == Ok(true));
     }
 }
 
+/// How a line of so many octets ends.
+fn outcome_of(alloc: Global, count: usize) -> Result<Outcome, AllocError> {
+    let mut input = ArrayVec::<u8, 2048>::new();
+    for _ in 0..count {
+        let _ = input.try_push(b'x');
+    }
+    let _ = input.try_push(b'\n');
+    let mut source = MemorySource::new(alloc, input.as_slice(), &[])?;
+    let mut sink = MemorySink::new(alloc, &[])?;
+    let mut echo = Echo { lines: 0 };
+    Ok(treat_all(alloc, 2048, &mut source, &mut sink, &mut echo))
+}
+
 /// A line of 1,024 octets is accepted, and one of 1,025 is refused where it ends.
 #[test]
-fn long_lines_are_refused(rt: HostRuntime) -> Result<(), AllocError> {
-    let alloc = rt.alloc();
-    for (count, outcome) in [(1024, Outcome::Ok), (1025, Outcome::Bad)] {
-        let mut input = vec![in alloc; b'x'; count]?;
-        input.push(b'\n')?;
-        let mut source = MemorySource::new(alloc, input.as_slice(), &[])?;
-        let mut sink = MemorySink::new(alloc, &[])?;
-        let mut echo = Echo { lines: 0 };
-        assert!(rt; treat_all(alloc, 2048, &mut source, &mut sink, &mut echo) == outcome);
-    }
-    Ok(())
+fn long_lines_are_refused(rt: HostRuntime) {
+    assert!(rt; outcome_of(rt.alloc(), 1024) == Ok(Outcome::Ok));
+    assert!(rt; outcome_of(rt.alloc(), 1025) == Ok(Outcome::Bad));
 }

@@ -2,6 +2,7 @@
 
 use arrayvec::ArrayVec;
 use tsp_base::act::{Act, Placed};
+use tsp_base::datagram::Datagram;
 use tsp_base::event::Event;
 use tsp_base::place::{PeerId, Place, Port};
 use tsp_script::event_line::{EventItem, event_line};
@@ -10,33 +11,61 @@ use tsp_script::message_reader::message_of;
 use tsp_script::messages::message_text;
 use tsp_script::trace::{Line2, act_text};
 
+/// What the line with this number is, and its number; None where it is no line of a schedule.
+fn head(line: &[u8], place: u32) -> Option<(&'static str, u32)> {
+    match head_line(line, place) {
+        Ok(HeadItem::Title(version)) => Some(("title", version)),
+        Ok(HeadItem::Drift(drift)) => Some(("drift", drift)),
+        Ok(HeadItem::Strict) => Some(("strict", 0)),
+        Ok(HeadItem::Node(_)) => Some(("node", 0)),
+        Ok(HeadItem::Net(_)) => Some(("net", 0)),
+        Ok(HeadItem::NotHead) => Some(("after", 0)),
+        Err(_) => None,
+    }
+}
+
+/// Whether a line is a node's with these values.
+fn is_node(line: &[u8], name: &[u8], rate: i32, wall: i64, may: bool) -> bool {
+    match head_line(line, 4) {
+        Ok(HeadItem::Node(node)) => {
+            node.name.octets() == name && node.rate == rate && node.wall == wall && node.may == may
+        }
+        _ => false,
+    }
+}
+
+/// Lines of a header and their numbers, and what they are.
+const HEADS: &[(&str, u32, Option<(&str, u32)>)] = &[
+    ("tsp-schedule 1", 1, Some(("title", 1))),
+    ("tsp-schedule 2", 1, Some(("title", 2))),
+    ("tsp-schedule 3", 1, None),
+    ("drift 1000", 2, Some(("drift", 1000))),
+    ("drift 1001", 2, None),
+    ("at 0 boot 0 5", 3, Some(("after", 0))),
+    ("strict", 3, Some(("strict", 0))),
+    ("strict", 4, Some(("after", 0))),
+    ("strict", 2, None),
+    ("node a 1001 0 m", 3, None),
+    ("node a 0 0 x", 3, None),
+    ("node a% 0 0 m", 3, None),
+    ("node  0 0 m", 3, None),
+];
+
 /// The lines of a schedule, and lines that differ from one in one point.
 #[test]
 fn reads_schedules(rt: HostRuntime) {
-    assert!(rt; matches!(head_line(b"tsp-schedule 1", 1), Ok(HeadItem::Title(1))));
-    assert!(rt; matches!(head_line(b"tsp-schedule 2", 1), Ok(HeadItem::Title(2))));
-    assert!(rt; head_line(b"tsp-schedule 3", 1).is_err());
-    assert!(rt; matches!(head_line(b"drift 1000", 2), Ok(HeadItem::Drift(1000))));
-    assert!(rt; head_line(b"drift 1001", 2).is_err());
-    assert!(rt; matches!(head_line(b"at 0 boot 0 5", 3), Ok(HeadItem::NotHead)));
-    assert!(rt; matches!(head_line(b"strict", 3), Ok(HeadItem::Strict)));
-    assert!(rt; matches!(head_line(b"strict", 4), Ok(HeadItem::NotHead)));
-    assert!(rt; head_line(b"strict", 2).is_err());
-    match head_line(b"node b.example -100 10000 s", 4) {
-        Ok(HeadItem::Node(node)) => {
-            assert_eq!(rt; node.name.octets(), b"b.example".as_slice());
-            assert!(rt; node.rate == -100 && node.wall == 10000 && !node.may);
-        }
-        _ => panic!(rt; "no node"),
+    for (line, place, wanted) in HEADS {
+        assert!(rt; head(line.as_bytes(), *place) == *wanted, "{line}");
     }
-    for line in [
-        "node a 1001 0 m",
-        "node a 0 0 x",
-        "node a% 0 0 m",
-        "node  0 0 m",
-    ] {
-        assert!(rt; head_line(line.as_bytes(), 3).is_err(), "read {line}");
-    }
+    assert!(rt;
+        is_node(
+            b"node b.example -100 10000 s",
+            b"b.example",
+            -100,
+            10000,
+            false
+        )
+    );
 }
 
 /// A network of 64 nodes.
@@ -45,153 +74,210 @@ const NODES_64: &str =
     29 30 31 32 33 34 35 36 37 38 39 40 41 42 43 44 45 46 47 48 49 50 51 52 53 54 55 \
     56 57 58 59 60 61 62 63";
 
-/// The lines of networks, and lines that differ from one in one point.
-#[test]
-fn reads_networks(rt: HostRuntime) {
-    let lines: [(&str, &[u32]); 3] = [
-        ("net 0", &[0]),
-        ("net 0 1 63", &[0, 1, 63]),
-        ("net 7 4294967295", &[7, 4294967295]),
-    ];
-    for (line, numbers) in &lines {
-        match head_line(line.as_bytes(), 4) {
-            Ok(HeadItem::Net(members)) => assert_eq!(rt; members.numbers(), *numbers),
-            _ => panic!(rt; "no network"),
-        }
+/// Whether a line is a network's with these nodes.
+fn is_net(line: &[u8], numbers: &[u32]) -> bool {
+    match head_line(line, 4) {
+        Ok(HeadItem::Net(members)) => members.numbers() == numbers,
+        _ => false,
     }
-    for line in [
-        "net ",
-        "net 0 ",
-        "net  0",
-        "net 1 0",
-        "net 1 1",
-        "net 01",
-        "net 4294967296",
-        "net a",
-    ] {
-        assert!(rt; head_line(line.as_bytes(), 4).is_err(), "read {line}");
-    }
-    assert!(rt; matches!(head_line(b"net", 4), Ok(HeadItem::NotHead)));
-    assert!(rt; matches!(head_line(b"nets 0", 4), Ok(HeadItem::NotHead)));
-    assert!(rt; matches!(head_line(NODES_64.as_bytes(), 3), Ok(HeadItem::Net(_))));
+}
+
+/// Lines of networks, and their nodes.
+const NETS: &[(&str, &[u32])] = &[
+    ("net 0", &[0]),
+    ("net 0 1 63", &[0, 1, 63]),
+    ("net 7 4294967295", &[7, 4294967295]),
+];
+
+/// Lines that differ from a network's in one point.
+const NO_NETS: &[(&str, Option<(&str, u32)>)] = &[
+    ("net ", None),
+    ("net 0 ", None),
+    ("net  0", None),
+    ("net 1 0", None),
+    ("net 1 1", None),
+    ("net 01", None),
+    ("net 4294967296", None),
+    ("net a", None),
+    ("net", Some(("after", 0))),
+    ("nets 0", Some(("after", 0))),
+];
+
+/// Whether the line of 64 nodes is a network's, and with one more node is none's.
+fn has_64_nodes() -> bool {
     let mut longer = ArrayVec::<u8, 1024>::new();
     let _ = longer.try_extend_from_slice(NODES_64.as_bytes());
     let _ = longer.try_extend_from_slice(b" 64");
-    assert!(rt; head_line(longer.as_slice(), 3).is_err());
+    head(NODES_64.as_bytes(), 3) == Some(("net", 0)) && head(longer.as_slice(), 3).is_none()
+}
+
+/// The lines of networks, and lines that differ from one in one point.
+#[test]
+fn reads_networks(rt: HostRuntime) {
+    for (line, numbers) in NETS {
+        assert!(rt; is_net(line.as_bytes(), numbers), "{line}");
+    }
+    for (line, wanted) in NO_NETS {
+        assert!(rt; head(line.as_bytes(), 4) == *wanted, "{line}");
+    }
+    assert!(rt; has_64_nodes());
+}
+
+/// The text of a head, so many times a part, and an end.
+fn repeated(head: &[u8], part: &[u8], end: &[u8]) -> ArrayVec<u8, 1024> {
+    let mut line = ArrayVec::new();
+    let _ = line.try_extend_from_slice(head);
+    for _ in 0..255 {
+        let _ = line.try_extend_from_slice(part);
+    }
+    let _ = line.try_extend_from_slice(end);
+    line
+}
+
+/// How long the line of a datagram that is posted is at most.
+fn longest(datagram: Datagram) -> usize {
+    let placed = Placed {
+        port: Port(255),
+        act: Act::Post(Place::Peer(PeerId(4294967295)), datagram),
+    };
+    let line = Line2 {
+        event: u64::MAX,
+        node: u32::MAX,
+        tick: u64::MAX,
+        number: u64::MAX,
+        placed,
+    };
+    act_text(&line).len()
+}
+
+/// Whether a message's line is written as it is read, and its trace line has so many octets.
+fn has_length(line: &[u8], length: usize) -> bool {
+    match message_of(line) {
+        Ok(datagram) => {
+            message_text(&datagram).as_slice() == line && longest(datagram) == length
+        }
+        Err(_) => false,
+    }
 }
 
 /// Names of the greatest length, in the longest lines.
 #[test]
 fn reads_long_names(rt: HostRuntime) {
-    let mut line = ArrayVec::<u8, 1024>::new();
-    let _ = line.try_extend_from_slice(b"setdatereq 65535 -2147483648000000 ");
-    for _ in 0..255 {
-        let _ = line.try_extend_from_slice(b"%ff");
-    }
-    match message_of(line.as_slice()) {
-        Ok(datagram) => {
-            assert_eq!(rt; message_text(&datagram).as_slice(), line.as_slice());
-            let act = Act::Post(Place::Peer(PeerId(4294967295)), datagram);
-            let placed = Placed {
-                port: Port(255),
-                act,
-            };
-            let longest = Line2 {
-                event: u64::MAX,
-                node: u32::MAX,
-                tick: u64::MAX,
-                number: u64::MAX,
-                placed,
-            };
-            assert_eq!(rt; act_text(&longest).as_slice().len(), 894);
-        }
-        Err(_) => panic!(rt; "refused a long name"),
-    }
-    let _ = line.try_extend_from_slice(b"a");
+    let line = repeated(b"setdatereq 65535 -2147483648000000 ", b"%ff", b"");
+    assert!(rt; has_length(line.as_slice(), 894));
+    let line = repeated(b"setdatereq 65535 -2147483648000000 ", b"%ff", b"a");
     assert!(rt; message_of(line.as_slice()).is_err());
-    let mut node = ArrayVec::<u8, 1024>::new();
-    let _ = node.try_extend_from_slice(b"node ");
-    for _ in 0..255 {
-        let _ = node.try_extend_from_slice(b"n");
-    }
-    let _ = node.try_extend_from_slice(b" -1000 -1000000000000000 m");
-    match head_line(node.as_slice(), 3) {
-        Ok(HeadItem::Node(line)) => assert_eq!(rt; line.name.octets().len(), 255),
-        _ => panic!(rt; "no node"),
+    let line = repeated(b"node ", b"n", b" -1000 -1000000000000000 m");
+    assert!(rt;
+        is_node(
+            line.as_slice(),
+            &[b'n'; 255],
+            -1000,
+            -1_000_000_000_000_000,
+            true
+        )
+    );
+}
+
+/// Whether a line gives octets to a node on a port at a time.
+fn gives(line: &[u8], at: u64, node: u32, port: u8, from: Place, octets: &[u8]) -> bool {
+    match event_line(line) {
+        Ok(
+            EventItem::Event(
+                Event::Bytes {
+                    at: a,
+                    node: n,
+                    port: p,
+                    from: f,
+                    octets: o,
+                },
+            ),
+        ) => { a == at && n == node && p == Port(port) && f == from && o.octets() == octets }
+        _ => false,
     }
 }
+
+/// Whether a line is one of a schedule's after the header.
+fn is_read(line: &[u8]) -> bool {
+    event_line(line).is_ok()
+}
+
+/// Octets for a stranger on a port.
+const PORTS: &[(&str, u8)] = &[
+    ("at 5 bytes 3 - 00", 0),
+    ("at 5 bytes 3/1 - 00", 1),
+    ("at 5 bytes 3/255 - 00", 255),
+];
+
+/// Ports that are written otherwise.
+const NO_PORTS: &[&str] = &[
+    "at 5 bytes 3/0 - 00",
+    "at 5 bytes 3/ - 00",
+    "at 5 bytes 3/01 - 00",
+    "at 5 bytes 3/256 - 00",
+    "at 5 bytes /1 - 00",
+    "at 5 bytes 3/1/1 - 00",
+    "at 5 turn 3/1",
+];
 
 /// Events on ports, and ports that are written otherwise.
 #[test]
 fn reads_ports(rt: HostRuntime) {
-    for (line, number) in [
-        ("at 5 bytes 3 - 00", 0),
-        ("at 5 bytes 3/1 - 00", 1),
-        ("at 5 bytes 3/255 - 00", 255),
-    ] {
-        match event_line(line.as_bytes()) {
-            Ok(EventItem::Event(Event::Bytes { node, port, .. })) => {
-                assert!(rt; node == 3 && port == Port(number));
-            }
-            _ => panic!(rt; "no bytes"),
-        }
+    for (line, port) in PORTS {
+        assert!(rt;
+            gives(line.as_bytes(), 5, 3, *port, Place::Stranger, &[0]),
+            "{line}"
+        );
     }
-    for line in [
-        "at 5 bytes 3/0 - 00",
-        "at 5 bytes 3/ - 00",
-        "at 5 bytes 3/01 - 00",
-        "at 5 bytes 3/256 - 00",
-        "at 5 bytes /1 - 00",
-        "at 5 bytes 3/1/1 - 00",
-        "at 5 turn 3/1",
-    ] {
-        assert!(rt; event_line(line.as_bytes()).is_err(), "read {line}");
+    for line in NO_PORTS {
+        assert!(rt; !is_read(line.as_bytes()), "read {line}");
     }
 }
+
+/// Lines, and whether each is one of a schedule's after the header.
+const EVENTS: &[(&str, bool)] = &[
+    ("at 0 boot 0 5", true),
+    ("at 10 turn 0", true),
+    ("at 1000000000000000 take 7", true),
+    ("at 1000000000000000 take 18446744073709551615", true),
+    (
+        "at 1000000000000000 bytes 4294967295 4294967295 00",
+        true,
+    ),
+    ("at 5 bytes 0 - 00", true),
+    ("at 1000000000000001 turn 0", false),
+    ("at 1 turn 4294967296", false),
+    (
+        "at 1000000000000000 take 18446744073709551616",
+        false,
+    ),
+    (
+        "at 1000000000000000 take 018446744073709551615",
+        false,
+    ),
+    ("at 01 turn 0", false),
+    ("at 1 turm 0", false),
+    ("at 1 bytes 0 - 0", false),
+    ("at 1 bytes 0 - ", false),
+    ("end ", false),
+];
 
 /// The lines of events, and lines that differ from one in one point.
 #[test]
 fn reads_events(rt: HostRuntime) {
+    for (line, reads) in EVENTS {
+        assert!(rt; is_read(line.as_bytes()) == *reads, "{line}");
+    }
+    let line = b"at 82000000 bytes 0 1 06010000Ff";
+    assert!(rt;
+        gives(
+            line,
+            82000000,
+            0,
+            0,
+            Place::Peer(PeerId(1)),
+            &[6, 1, 0, 0, 255]
+        )
+    );
     assert!(rt; matches!(event_line(b"end"), Ok(EventItem::End)));
-    match event_line(b"at 82000000 bytes 0 1 06010000Ff") {
-        Ok(
-            EventItem::Event(
-                Event::Bytes {
-                    at,
-                    node,
-                    port,
-                    from,
-                    octets,
-                },
-            ),
-        ) => {
-            assert!(rt; at == 82000000 && node == 0 && port == Port(0));
-            assert!(rt; from == Place::Peer(PeerId(1)));
-            assert_eq!(rt; octets.octets(), [6, 1, 0, 0, 255].as_slice());
-        }
-        _ => panic!(rt; "no bytes"),
-    }
-    for line in [
-        "at 0 boot 0 5",
-        "at 10 turn 0",
-        "at 1000000000000000 take 7",
-        "at 1000000000000000 take 18446744073709551615",
-        "at 1000000000000000 bytes 4294967295 4294967295 00",
-        "at 5 bytes 0 - 00",
-    ] {
-        assert!(rt; event_line(line.as_bytes()).is_ok(), "refused {line}");
-    }
-    for line in [
-        "at 1000000000000001 turn 0",
-        "at 1 turn 4294967296",
-        "at 1000000000000000 take 18446744073709551616",
-        "at 1000000000000000 take 018446744073709551615",
-        "at 01 turn 0",
-        "at 1 turm 0",
-        "at 1 bytes 0 - 0",
-        "at 1 bytes 0 - ",
-        "end ",
-    ] {
-        assert!(rt; event_line(line.as_bytes()).is_err(), "read {line}");
-    }
 }

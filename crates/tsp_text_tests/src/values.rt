@@ -2,12 +2,7 @@
 ghost use Rattle.std.specs.Prelude.{◌≡◌, [], IfSome};
 
 use std::alloc::Global;
-use std::test::Fail;
-use tsp_base::act::Act;
-use tsp_base::alarm::Alarm;
-use tsp_base::alarms::Alarms;
 use tsp_base::constants::{ELECT_MIN, HOLD, LIMIT};
-use tsp_base::desk::Desk;
 use tsp_base::drift::{tick_at, width};
 use tsp_base::header::{Header, HeaderFault, NodeLine};
 use tsp_base::hold::Hold;
@@ -17,119 +12,167 @@ use tsp_base::message::{Body, Message};
 use tsp_base::micros::Micros;
 use tsp_base::name::{Name, NameFault};
 use tsp_base::octets::Octets;
-use tsp_base::pad::Pad;
-use tsp_base::place::{PeerId, Port};
+use tsp_base::place::PeerId;
 use tsp_base::stamp::Stamp;
 
-#[test]
-fn bounds_values(rt: HostRuntime) -> Result<(), Fail> {
-    let times = [
-        (-LIMIT - 1, false),
-        (-LIMIT, true),
-        (0, true),
-        (LIMIT - 1, true),
-        (LIMIT, false),
-    ];
-    for (value, fits) in &times {
-        assert_eq!(rt; Micros::of(*value).is_some(), *fits);
-    }
-    let replies = [
-        (32_767, LIMIT - 1, true),
-        (32_768, 0, false),
-        (0, LIMIT, false),
-        (0, -LIMIT, false),
-        (0, 1 - LIMIT, true),
-    ];
-    for (ticket, reading, fits) in &replies {
-        assert_eq!(rt; Stamp::reply(*ticket, 1, 2, *reading).is_some(), *fits);
-    }
-    assert!(rt; Octets::of(&[7; 300]).is_some() && Octets::of(&[7; 301]).is_none());
-    Ok(())
+/// Times in microseconds, and whether they are in range.
+const TIMES: &[(i64, bool)] = &[
+    (-LIMIT - 1, false),
+    (-LIMIT, true),
+    (0, true),
+    (LIMIT - 1, true),
+    (LIMIT, false),
+];
+
+/// Tickets and readings, and whether a reply can have them.
+const REPLIES: &[(u16, i64, bool)] = &[
+    (32_767, LIMIT - 1, true),
+    (32_768, 0, false),
+    (0, LIMIT, false),
+    (0, -LIMIT, false),
+    (0, 1 - LIMIT, true),
+];
+
+/// Whether octets are as many as a value of them can have.
+fn fit(octets: &[u8]) -> bool {
+    Octets::of(octets).is_some()
 }
 
 #[test]
-fn bounds_names(rt: HostRuntime) -> Result<(), Fail> {
-    assert!(rt; Name::of(&[b'a'; 255]).is_ok() && Name::of(b"").is_ok());
-    assert!(rt; matches!(Name::of(&[b'a'; 256]), Err(NameFault::TooLong)));
-    assert!(rt; matches!(Name::of(&[0; 256]), Err(NameFault::TooLong)));
-    assert!(rt; matches!(Name::of(&[0; 255]), Err(NameFault::HasNul)));
-    assert!(rt; matches!(Name::of(b"a\0b"), Err(NameFault::HasNul)));
-    match Name::of(b"alpha") {
-        Ok(name) => assert_eq!(rt; name.copy().octets(), b"alpha".as_slice()),
-        Err(_) => panic!(rt; "the name is short and has no NUL"),
+fn bounds_values(rt: HostRuntime) {
+    for (value, fits) in TIMES {
+        assert!(rt; Micros::of(*value).is_some() == *fits);
+    }
+    for (ticket, reading, fits) in REPLIES {
+        assert!(rt; Stamp::reply(*ticket, 1, 2, *reading).is_some() == *fits);
+    }
+    assert!(rt; fit(&[7; 300]) && !fit(&[7; 301]));
+}
+
+/// Octets that are names, and why other ones aren't.
+const NAMES: &[(&[u8], Option<NameFault>)] = &[
+    (b"", None),
+    (b"alpha", None),
+    (&[b'a'; 255], None),
+    (&[b'a'; 256], Some(NameFault::TooLong)),
+    (&[0; 256], Some(NameFault::TooLong)),
+    (&[0; 255], Some(NameFault::HasNul)),
+    (b"a\0b", Some(NameFault::HasNul)),
+];
+
+/// Whether octets are a name, of which a copy has them, or aren't for this fault.
+fn is_name(octets: &[u8], fault: Option<NameFault>) -> bool {
+    match Name::of(octets) {
+        Ok(name) => fault.is_none() && name.copy().octets() == octets,
+        Err(found) => fault == Some(found),
+    }
+}
+
+#[test]
+fn bounds_names(rt: HostRuntime) {
+    for (octets, fault) in NAMES {
+        assert!(rt; is_name(octets, *fault));
     }
     assert!(rt; Name::empty().octets().is_empty());
-    Ok(())
 }
 
+/// Whether a message of this kind can have this body.
+fn can_have(kind: Kind, body: Body) -> bool {
+    Message::of(kind, 7, body, Name::empty()).is_some()
+}
+
+/// Whether this is the kind of a number and of a word.
+fn is_kind(number: u8, word: &[u8], kind: Kind) -> bool {
+    Kind::of(number) == Some(kind)
+        && kind.number() == number
+        && Kind::of_word(word) == Some(kind)
+        && kind.word() == word
+}
+
+/// Whether a time is in an ADJTIME and not in a LOOP.
+fn time_fits(time: Micros) -> bool {
+    can_have(Kind::AdjTime, Body::Time(time)) && !can_have(Kind::Loop, Body::Time(time))
+}
+
+/// Whether hops are in a LOOP and not in an ACK, and nothing is in an ACK and not in an ADJTIME.
+fn others_fit() -> bool {
+    can_have(Kind::Loop, Body::Hops(3))
+        && !can_have(Kind::Ack, Body::Hops(0))
+        && can_have(Kind::Ack, Body::Nothing)
+        && !can_have(Kind::AdjTime, Body::Nothing)
+}
+
+/// Numbers, words, and their kinds.
+const KINDS: &[(u8, &[u8], Kind)] = &[
+    (1, b"adjtime", Kind::AdjTime),
+    (13, b"quit", Kind::Quit),
+    (24, b"loop", Kind::Loop),
+];
+
 #[test]
-fn matches_bodies_to_kinds(rt: HostRuntime) -> Result<(), Fail> {
+fn matches_bodies_to_kinds(rt: HostRuntime) {
     let Some(time) = Micros::of(1234) else {
         panic!(rt; "the time is in range");
     };
-    let bodies = [
-        (Kind::AdjTime, Body::Time(time), true),
-        (Kind::AdjTime, Body::Nothing, false),
-        (Kind::Loop, Body::Hops(3), true),
-        (Kind::Loop, Body::Time(time), false),
-        (Kind::Ack, Body::Nothing, true),
-        (Kind::Ack, Body::Hops(0), false),
-    ];
-    for (kind, body, fits) in &bodies {
-        assert_eq!(rt;
-            Message::of(*kind, 7, *body, Name::empty()).is_some(),
-            *fits
-        );
+    assert!(rt; time_fits(time) && others_fit());
+    for (number, word, kind) in KINDS {
+        assert!(rt; is_kind(*number, word, *kind));
     }
-    let kinds = [
-        (1, b"adjtime".as_slice(), Kind::AdjTime),
-        (13, b"quit".as_slice(), Kind::Quit),
-        (24, b"loop".as_slice(), Kind::Loop),
-    ];
-    for (number, word, kind) in &kinds {
-        assert!(rt; Kind::of(*number) == Some(*kind) && kind.number() == *number);
-        assert!(rt; Kind::of_word(*word) == Some(*kind) && kind.word() == *word);
-    }
-    assert!(rt;
-        Kind::of(0).is_none() && Kind::of(25).is_none() && Kind::of_word(b"quits").is_none()
-    );
-    Ok(())
+    let none = Kind::of(0).is_none() && Kind::of(25).is_none();
+    assert!(rt; none && Kind::of_word(b"quits").is_none());
+}
+
+/// Whether a peer may be backed from this tick on, and not one tick sooner.
+fn may_back_from(hold: &Hold, tick: u64, peer: PeerId) -> bool {
+    !hold.may_back(tick.saturating_sub(1), peer) && hold.may_back(tick, peer)
+}
+
+/// Whether the node may stand from this tick on, and not one tick sooner.
+fn may_stand_from(hold: &Hold, tick: u64, own: PeerId) -> bool {
+    !hold.may_stand(tick.saturating_sub(1), own) && hold.may_stand(tick, own)
 }
 
 #[test]
-fn holds_and_stands(rt: HostRuntime) -> Result<(), Fail> {
+fn holds_and_stands(rt: HostRuntime) {
     let (own, other) = (PeerId(0), PeerId(1));
     let mut hold = Hold::new(5);
-    assert!(rt; hold.may_back(5, other));
-    assert!(rt; !hold.may_stand(4 + ELECT_MIN, own) && hold.may_stand(5 + ELECT_MIN, own));
+    assert!(rt; hold.may_back(5, other) && may_stand_from(&hold, 5 + ELECT_MIN, own));
     hold.back(10, other);
-    assert!(rt; hold.may_back(11, other));
-    assert!(rt; !hold.may_back(9 + HOLD, own) && hold.may_back(10 + HOLD, own));
+    assert!(rt; hold.may_back(11, other) && may_back_from(&hold, 10 + HOLD, own));
     hold.quit(100);
-    assert!(rt; !hold.may_stand(99 + ELECT_MIN, own) && hold.may_stand(100 + ELECT_MIN, own));
-    Ok(())
+    assert!(rt; may_stand_from(&hold, 100 + ELECT_MIN, own));
+}
+
+/// Pushes a node without a name.
+fn push(header: &mut Header, rate: i32, wall: i64) -> Result<(), HeaderFault>
+    requires { header.old.nets ≡ [] }
+    ensures { header.new.nets ≡ [] }
+{
+    let name = Name::empty();
+    header.push(NodeLine {
+        name,
+        rate,
+        wall,
+        may: true,
+    })
+}
+
+/// Whether a header with the drift 100 refuses nodes for their rate and then for their wall, and takes one.
+fn refuses(header: &mut Header) -> bool
+    requires { header.old.nets ≡ [] }
+{
+    push(header, 101, 0) == Err(HeaderFault::Rate)
+        && push(header, 101, 1_000_000_000_000_001) == Err(HeaderFault::Rate)
+        && push(header, -100, -1_000_000_000_000_001) == Err(HeaderFault::Wall)
+        && push(header, -100, -1_000_000_000_000_000) == Ok(())
+        && header.drift() == 100
+        && header.nodes().len() == 1
 }
 
 #[test]
-fn refuses_nodes(rt: HostRuntime) -> Result<(), Fail> {
+fn refuses_nodes(rt: HostRuntime) {
     let mut header = Header::new(rt.alloc(), 100, false);
-    let lines = [
-        (101, 0, Err(HeaderFault::Rate)),
-        (101, 1_000_000_000_000_001, Err(HeaderFault::Rate)),
-        (-100, -1_000_000_000_000_001, Err(HeaderFault::Wall)),
-        (-100, -1_000_000_000_000_000, Ok(())),
-    ];
-    for (rate, wall, answer) in &lines {
-        let line = NodeLine {
-            name: Name::empty(),
-            rate: *rate,
-            wall: *wall,
-            may: true,
-        };
-        assert!(rt; header.push(line) == *answer);
-    }
-    assert!(rt; header.drift() == 100 && header.nodes().len() == 1);
-    Ok(())
+    assert!(rt; refuses(&mut header));
 }
 
 /// A header of this many nodes.
@@ -138,77 +181,79 @@ fn header_of(alloc: Global, nodes: usize) -> Option<Header>
 {
     let mut header = Header::new(alloc, 0, true);
     for _ in 0..nodes {
-        let line = NodeLine {
-            name: Name::empty(),
-            rate: 0,
-            wall: 0,
-            may: true,
-        };
-        header.push(line).ok()?;
+        push(&mut header, 0, 0).ok()?;
     }
     Some(header)
 }
 
+/// Networks of three nodes, what comes of adding each, and whether the header is whole then.
+const NETS: &[(&[u32], Result<(), HeaderFault>, bool)] = &[
+    (&[], Err(HeaderFault::Net), true),
+    (&[1, 0], Err(HeaderFault::Net), true),
+    (&[1, 1], Err(HeaderFault::Net), true),
+    (&[0, 3], Err(HeaderFault::Net), true),
+    (&[0, 1], Ok(()), false),
+    (&[1], Ok(()), false),
+    (&[1], Ok(()), false),
+    (&[0, 1, 2], Ok(()), true),
+    (&[0, 1], Err(HeaderFault::Net), true),
+    (&[0], Ok(()), true),
+    (&[0, 2], Ok(()), true),
+    (&[0], Err(HeaderFault::Net), true),
+];
+
+/// Whether the networks come of `NETS`.
+fn takes_nets(header: &mut Header) -> bool {
+    for (nodes, answer, whole) in NETS {
+        if header.net(nodes) != *answer || header.whole() != *whole {
+            return false;
+        }
+    }
+    match header.nets() {
+        [first, .., last] => first.numbers() == [0, 1].as_slice()
+            && last.numbers() == [0, 2].as_slice(),
+        _ => false,
+    }
+}
+
 #[test]
-fn refuses_networks(rt: HostRuntime) -> Result<(), Fail> {
+fn refuses_networks(rt: HostRuntime) {
     let Some(mut header) = header_of(rt.alloc(), 3) else {
         panic!(rt; "three nodes are pushed");
     };
-    assert!(rt; header.strict() && header.whole() && header.nets().is_empty());
-    let lines: [(&[u32], Result<(), HeaderFault>, bool); 12] = [
-        (&[], Err(HeaderFault::Net), true),
-        (&[1, 0], Err(HeaderFault::Net), true),
-        (&[1, 1], Err(HeaderFault::Net), true),
-        (&[0, 3], Err(HeaderFault::Net), true),
-        (&[0, 1], Ok(()), false),
-        (&[1], Ok(()), false),
-        (&[1], Ok(()), false),
-        (&[0, 1, 2], Ok(()), true),
-        (&[0, 1], Err(HeaderFault::Net), true),
-        (&[0], Ok(()), true),
-        (&[0, 2], Ok(()), true),
-        (&[0], Err(HeaderFault::Net), true),
-    ];
-    for (nodes, answer, whole) in &lines {
-        assert!(rt; header.net(nodes) == *answer && header.whole() == *whole);
-    }
-    match header.nets() {
-        [first, .., last] => {
-            assert!(rt;
-                first.numbers() == [0, 1].as_slice() && last.numbers() == [0, 2].as_slice()
-            );
+    let none = header.strict() && header.whole() && header.nets().is_empty();
+    assert!(rt; none && takes_nets(&mut header));
+}
+
+/// Whether 64 networks of a node are taken, and no other one.
+fn takes_64(header: &mut Header) -> bool {
+    for node in 0..64 {
+        if header.net(&[node]).is_err() || header.whole() != (node == 63) {
+            return false;
         }
-        _ => panic!(rt; "six networks were added"),
     }
-    Ok(())
+    header.net(&[0]) == Err(HeaderFault::Nets)
+        && header.net(&[]) == Err(HeaderFault::Nets)
+        && header.nets().len() == 64
+}
+
+/// Whether nodes are no more than a network can have.
+fn are_members(numbers: &[u32]) -> bool {
+    Members::of(numbers).is_some()
 }
 
 #[test]
-fn bounds_networks(rt: HostRuntime) -> Result<(), Fail> {
+fn bounds_networks(rt: HostRuntime) {
     let Some(mut header) = header_of(rt.alloc(), 64) else {
         panic!(rt; "64 nodes are pushed");
     };
-    for node in 0..64 {
-        assert!(rt; header.net(&[node]).is_ok() && header.whole() == (node == 63));
-    }
-    assert!(rt; header.net(&[0]) == Err(HeaderFault::Nets));
-    assert!(rt; header.net(&[]) == Err(HeaderFault::Nets));
-    assert!(rt; header.nets().len() == 64);
-    assert!(rt; Members::of(&[7; 64]).is_some() && Members::of(&[7; 65]).is_none());
-    Ok(())
+    assert!(rt; takes_64(&mut header));
+    assert!(rt; are_members(&[7; 64]) && !are_members(&[7; 65]));
 }
 
 #[test]
-fn counts_ticks(rt: HostRuntime) -> Result<(), Fail> {
-    let ticks = [
-        (0, 10, 10),
-        (100, 10_000, 10_001),
-        (-100, 10_000, 9_999),
-        (-1, 1, 0),
-    ];
-    for (rate, at, tick) in &ticks {
-        assert_eq!(rt; tick_at(*rate, *at), *tick);
-    }
+fn counts_ticks(rt: HostRuntime) {
+    assert!(rt; tick_at(0, 10) == 10 && tick_at(100, 10_000) == 10_001);
+    assert!(rt; tick_at(-100, 10_000) == 9_999 && tick_at(-1, 1) == 0);
     assert!(rt; width(100, 10_000_000) == 1001 && width(0, 10_000_000) == 1);
-    Ok(())
 }

@@ -13,15 +13,28 @@ use tsp_codec::{decode, encode};
 use tsp_gateway::{GateConfig, Gateway};
 use tsp_group::{Values, correction, largest, mean};
 
+/// A message.
+fn message() -> Datagram {
+    let name = Name::new(b"alpha");
+    let message = Message::new(Kind::MasterReq, 7, Body::Nothing, name);
+    Datagram::Message(message)
+}
+
+/// Whether octets are a message's.
+fn is_message(octets: &[u8]) -> bool {
+    matches!(decode(octets), Ok(Datagram::Message(_)))
+}
+
+/// Whether octets are too few.
+fn is_short(octets: &[u8]) -> bool {
+    matches!(decode(octets), Err(DecodeFault::Short))
+}
+
 /// Octets are written and read.
 #[test]
 fn of_the_codec(rt: HostRuntime) {
-    let name = Name::new(b"alpha");
-    let message = Message::new(Kind::MasterReq, 7, Body::Nothing, name);
-    let octets = encode(&Datagram::Message(message));
-    assert_eq!(rt; octets.len(), 76);
-    assert!(rt; matches!(decode(octets.as_slice()), Ok(Datagram::Message(_))));
-    assert!(rt; matches!(decode(b""), Err(DecodeFault::Short)));
+    let octets = encode(&message());
+    assert!(rt; octets.len() == 76 && is_message(octets.as_slice()) && is_short(b""));
 }
 
 /// Four clocks' group, its mean, and a correction.
@@ -35,8 +48,8 @@ fn of_the_averaging(rt: HostRuntime) {
     values.add(900);
     values.add(70_000);
     let group = largest(&mut values, 20_000);
-    assert_eq!(rt; mean(&group), 433);
-    assert_eq!(rt; correction(433, 900), -467);
+    let mean = mean(&group);
+    assert!(rt; mean == 433 && correction(433, 900) == -467);
 }
 
 /// A node on one network boots and takes a step at the end of its quiet time. The count of its acts is
@@ -60,5 +73,5 @@ fn boot_and_step(alloc: Global) -> Result<usize, AllocError> {
 /// At the end of the quiet time come its alarm, a new role, that role's alarm and a question for a master.
 #[test]
 fn of_the_gateway(rt: HostRuntime) {
-    assert_eq!(rt; boot_and_step(rt.alloc()), Ok(4));
+    assert!(rt; boot_and_step(rt.alloc()) == Ok(4));
 }

@@ -30,10 +30,15 @@ struct Flight {
     to: u32,
 }
 
+/// How many nodes there are at most.
+const MOST: usize = 4;
+
 /// Nodes without drift, and what they did so far.
 #[derive(Drop)]
 pub(crate) struct Lan {
     world: World,
+    /// The clocks' offsets at a boot.
+    walls: &'static [i64],
     /// The time of the last event.
     now: u64,
     /// When the next node looks at its timers, and which one that is.
@@ -44,75 +49,88 @@ pub(crate) struct Lan {
     landed: usize,
     /// The node that hears nobody, and that nobody hears.
     apart: Option<u32>,
-    /// Of each node: its role on its first port, and how far its clock is from the true time.
-    roles: Vec<Role>,
-    offsets: Vec<i64>,
-    /// The clocks' offsets at a boot.
-    walls: Vec<i64>,
+    /// Of each node: its role on its first port, and how far its clock was moved since its boot.
+    roles: [Role; MOST],
+    moved: [i64; MOST],
     /// How many events were refused.
     refused: u32,
 }
 
-/// A header of nodes with these wall clocks, the first of which may be master, and without networks.
-fn header_of(alloc: Global, walls: &[i64], leaders: usize) -> Option<Header> {
-    let mut header = Header::new(alloc, 0, false);
-    for wall in walls {
-        let may = header.nodes().len() < leaders;
+/// Adds networks to a header; false where one is refused.
+fn add_all(header: &mut Header, nets: &[&[u32]]) -> bool {
+    for net in nets {
+        if header.net(net).is_err() {
+            return false;
+        }
+    }
+    true
+}
+
+/// A header with this drift, of nodes with these wall clocks, in microseconds, on these networks. Of the rates
+/// the first is the first node's, and so on, and where there is none it is 0. The first `leaders` nodes may be
+/// master.
+pub(crate) fn header_of(
+    alloc: Global,
+    drift: u32,
+    rates: &[i32],
+    walls: &[i64],
+    leaders: usize,
+    nets: &[&[u32]],
+) -> Option<Header>
+    requires { drift ≤ 1000 }
+{
+    let mut header = Header::new(alloc, drift, false);
+    for (node, wall) in walls.iter().enumerate() {
+        let rate = rates.get(node).copied().unwrap_or(0);
         let line = NodeLine {
             name: Name::empty(),
-            rate: 0,
+            rate,
             wall: *wall,
-            may,
+            may: node < leaders,
         };
         header.push(line).ok()?;
+    }
+    if !add_all(&mut header, nets) {
+        return None;
     }
     Some(header)
 }
 
-/// The roles of nodes that are down.
-fn starting(alloc: Global, nodes: usize) -> Option<Vec<Role>> {
-    let mut roles = Vec::new(alloc);
-    for _ in 0..nodes {
-        roles.push(Role::Starting).ok()?;
+/// The world of a header that is whole and has some nodes.
+pub(crate) fn world_of(alloc: Global, header: Header) -> Option<World> {
+    if header.nodes().is_empty() || !header.whole() {
+        return None;
     }
-    Some(roles)
+    World::new(alloc, header).ok()
 }
 
 impl Lan {
     /// Nodes with these wall clocks, in microseconds, all on one network. They haven't booted, and all may be
     /// master.
-    pub(crate) fn of(alloc: Global, walls: &[i64]) -> Option<Lan> {
-        let header = header_of(alloc, walls, walls.len())?;
-        Lan::with(alloc, header, walls)
+    pub(crate) fn of(alloc: Global, walls: &'static [i64]) -> Option<Lan> {
+        Lan::on(alloc, walls, walls.len(), &[])
     }
 
     /// Nodes with these wall clocks on these networks, of which the first `leaders` may be master.
-    pub(crate) fn on(alloc: Global, walls: &[i64], leaders: usize, nets: &[&[u32]]) -> Option<Lan> {
-        let mut header = header_of(alloc, walls, leaders)?;
-        for net in nets {
-            header.net(net).ok()?;
-        }
-        Lan::with(alloc, header, walls)
-    }
-
-    /// The nodes of a whole header.
-    fn with(alloc: Global, header: Header, walls: &[i64]) -> Option<Lan> {
-        if header.nodes().is_empty() || !header.whole() {
-            return None;
-        }
-        let world = World::new(alloc, header).ok()?;
-        let roles = starting(alloc, walls.len())?;
+    pub(crate) fn on(
+        alloc: Global,
+        walls: &'static [i64],
+        leaders: usize,
+        nets: &[&[u32]],
+    ) -> Option<Lan> {
+        let header = header_of(alloc, 0, &[], walls, leaders, nets)?;
+        let world = world_of(alloc, header)?;
         Some(Lan {
             world,
+            walls,
             now: 0,
             look: LOOK,
             next: 0,
             flights: Vec::new(alloc),
             landed: 0,
             apart: None,
-            roles,
-            offsets: Vec::from_slice(alloc, walls).ok()?,
-            walls: Vec::from_slice(alloc, walls).ok()?,
+            roles: [Role::Starting; MOST],
+            moved: [0; MOST],
             refused: 0,
         })
     }
@@ -128,9 +146,10 @@ impl Lan {
 
     /// Boots all nodes, each with its own word.
     pub(crate) fn boot_all(&mut self) {
-        let count = u32::try_from(self.roles.len()).unwrap_or(0);
-        for node in 0..count {
-            self.boot(node, u64::from(node).saturating_mul(10_000_000));
+        for node in 0..MOST as u32 {
+            if (node as usize) < self.walls.len() {
+                self.boot(node, u64::from(node) * 10_000_000);
+            }
         }
     }
 
@@ -175,7 +194,7 @@ impl Lan {
             node: self.next,
         });
         self.next = self.next.saturating_add(1);
-        if self.next as usize >= self.roles.len() {
+        if self.next as usize >= self.walls.len() {
             self.next = 0;
             self.look = self.look.saturating_add(LOOK);
         }
@@ -200,14 +219,10 @@ impl Lan {
     /// Notes an act of the last event.
     fn note(&mut self, i: usize) {
         let noted = match self.world.acts().get(i) {
-            Some(line) => note(
-                &mut self.flights,
-                &mut self.roles,
-                &mut self.offsets,
-                self.walls.as_slice(),
-                self.now,
-                line,
-            ),
+            Some(line) => {
+                note_node(&mut self.roles, &mut self.moved, line);
+                note_post(&mut self.flights, self.now, line)
+            }
             None => Ok(()),
         };
         if noted.is_err() {
@@ -270,9 +285,10 @@ impl Lan {
     /// How far the clocks of all nodes are apart at most, in microseconds.
     pub(crate) fn spread(&self) -> u64 {
         let (mut least, mut most) = (i64::MAX, i64::MIN);
-        for offset in &self.offsets {
-            least = least.min(*offset);
-            most = most.max(*offset);
+        for (wall, moved) in self.walls.iter().zip(&self.moved) {
+            let offset = wall.saturating_add(*moved);
+            least = least.min(offset);
+            most = most.max(offset);
         }
         most.abs_diff(least)
     }
@@ -283,20 +299,13 @@ impl Lan {
     }
 }
 
-/// Notes an act of an event at this time.
-fn note(
-    flights: &mut Vec<Flight>,
-    roles: &mut [Role],
-    offsets: &mut [i64],
-    walls: &[i64],
-    now: u64,
-    line: &Line,
-) -> Result<(), AllocError> {
+/// Notes a boot, a role on the first port or a correction.
+fn note_node(roles: &mut [Role], moved: &mut [i64], line: &Line) {
     let node = line.node as usize;
     match &line.placed.act {
         Act::Boot => {
-            if let (Some(offset), Some(wall)) = (offsets.get_mut(node), walls.get(node)) {
-                *offset = *wall;
+            if let Some(moved) = moved.get_mut(node) {
+                *moved = 0;
             }
         }
         Act::Become(role) if line.placed.port.0 == 0 => {
@@ -305,21 +314,23 @@ fn note(
             }
         }
         Act::Correct { amount, .. } => {
-            if let Some(offset) = offsets.get_mut(node) {
-                *offset = offset.saturating_add(*amount);
-            }
-        }
-        Act::Post(Place::Peer(to), _) => {
-            if let Some(number) = line.number {
-                flights.push(Flight {
-                    number,
-                    lands: now.saturating_add(FLIGHT),
-                    from: line.node,
-                    to: to.0,
-                })?;
+            if let Some(moved) = moved.get_mut(node) {
+                *moved = moved.saturating_add(*amount);
             }
         }
         _ => {}
+    }
+}
+
+/// Puts a datagram for a peer that is posted at this time on its way.
+fn note_post(flights: &mut Vec<Flight>, now: u64, line: &Line) -> Result<(), AllocError> {
+    if let (Act::Post(Place::Peer(to), _), Some(number)) = (&line.placed.act, line.number) {
+        flights.push(Flight {
+            number,
+            lands: now.saturating_add(FLIGHT),
+            from: line.node,
+            to: to.0,
+        })?;
     }
     Ok(())
 }

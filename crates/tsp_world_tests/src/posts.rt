@@ -1,8 +1,5 @@
 //! Posts are read again as they were stored, whatever their names.
-ghost use Rattle.std.specs.Prelude.{◌≡◌, length, IfSome};
 
-use std::alloc::Global;
-use std::test::Fail;
 use tsp_base::datagram::Datagram;
 use tsp_base::kind::Kind;
 use tsp_base::message::{Body, Message};
@@ -31,21 +28,23 @@ fn way(at: u64) -> Way {
     }
 }
 
-/// Messages without a name, with a short one and with a long one, and then a stamp.
-fn four_posts(alloc: Global) -> Option<Posts>
-    ensures { IfSome result (λ posts. length posts.items ≡ 4) }
-{
-    let mut posts = Posts::new(alloc);
-    posts.reserve(4).ok()?;
-    posts.push(way(10), &loop_named(b"")?);
-    posts.push(way(20), &loop_named(b"alpha")?);
-    posts.push(way(30), &loop_named(&LONG)?);
-    let stamp = Stamp::Request {
-        word: 8,
-        counter: 9,
-    };
-    posts.push(way(40), &Datagram::Stamp(stamp));
-    Some(posts)
+/// Puts a datagram behind the others; false where there is no room.
+fn push(posts: &mut Posts, at: u64, datagram: &Datagram) -> bool {
+    match posts.reserve(1) {
+        Ok(()) => {
+            posts.push(way(at), datagram);
+            true
+        }
+        Err(_) => false,
+    }
+}
+
+/// Puts a LOOP with this name behind the others; false where there is no room.
+fn push_loop(posts: &mut Posts, at: u64, name: &[u8]) -> bool {
+    match loop_named(name) {
+        Some(datagram) => push(posts, at, &datagram),
+        None => false,
+    }
 }
 
 /// Whether this is the message with this name.
@@ -61,22 +60,45 @@ fn is_loop(datagram: &Datagram, name: &[u8]) -> bool {
     }
 }
 
+/// Whether the post with this number is the message with this name.
+fn has_loop(posts: &Posts, k: u64, name: &[u8]) -> bool {
+    (k as usize) < posts.len() && is_loop(&posts.datagram(k), name)
+}
+
+/// A request for a clock's stamp.
+const REQUEST: Stamp = Stamp::Request {
+    word: 8,
+    counter: 9,
+};
+
+/// Whether the post with this number is that request.
+fn has_request(posts: &Posts, k: u64) -> bool {
+    (k as usize) < posts.len()
+        && match posts.datagram(k) {
+            Datagram::Stamp(stamp) => stamp == REQUEST,
+            Datagram::Message(_) => false,
+        }
+}
+
+/// Whether messages without a name, with a short one and with a long one, and then a stamp are posted.
+fn come(posts: &mut Posts) -> bool {
+    push_loop(posts, 10, b"")
+        && push_loop(posts, 20, b"alpha")
+        && push_loop(posts, 30, &LONG)
+        && push(posts, 40, &Datagram::Stamp(REQUEST))
+}
+
+/// Whether these four come back.
+fn come_back(posts: &Posts) -> bool {
+    posts.len() == 4
+        && has_loop(posts, 0, b"")
+        && has_loop(posts, 1, b"alpha")
+        && has_loop(posts, 2, &LONG)
+        && has_request(posts, 3)
+}
+
 #[test]
-fn posts_come_back(rt: HostRuntime) -> Result<(), Fail> {
-    let posts = four_posts(rt.alloc()).ok_or("no posts")?;
-    assert_eq!(rt; posts.len(), 4);
-    assert!(rt; is_loop(&posts.datagram(0), b""));
-    assert!(rt; is_loop(&posts.datagram(1), b"alpha"));
-    assert!(rt; is_loop(&posts.datagram(2), &LONG));
-    let last = posts.datagram(3);
-    assert!(rt;
-        matches!(
-            last,
-            Datagram::Stamp(Stamp::Request {
-                word: 8,
-                counter: 9
-            })
-        )
-    );
-    Ok(())
+fn posts_come_back(rt: HostRuntime) {
+    let mut posts = Posts::new(rt.alloc());
+    assert!(rt; come(&mut posts) && come_back(&posts));
 }

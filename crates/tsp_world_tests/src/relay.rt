@@ -1,6 +1,7 @@
 //! A clock that a corrected master corrects: three nodes on two networks.
 
 use crate::lan::Lan;
+use std::alloc::Global;
 use tsp_base::act::Act;
 use tsp_base::datagram::{Datagram, Taken};
 use tsp_base::kind::Kind;
@@ -89,16 +90,8 @@ fn note(told: &mut Told, lan: &Lan) {
     }
 }
 
-/// The slave takes an ADJTIME of a round that the gateway closed after a master corrected it: its
-/// clock and the master's differ by no more than both samples' errors and a microsecond for each
-/// end of each reading.
-#[test]
-fn a_relayed_clock_agrees(rt: HostRuntime) {
-    let nets: [&[u32]; 2] = [&[MASTER, GATEWAY], &[GATEWAY, SLAVE]];
-    let Some(mut lan) = Lan::on(rt.alloc(), &[0, 0, 0], 2, &nets) else {
-        panic!(rt; "no network");
-    };
-    lan.boot_all();
+/// Lets nodes run until the slave has taken such an ADJTIME.
+fn run(lan: &mut Lan) -> Told {
     let mut told = Told {
         master: 0,
         slave: 0,
@@ -108,15 +101,42 @@ fn a_relayed_clock_agrees(rt: HostRuntime) {
         closed: false,
         relayed: false,
     };
+    lan.boot_all();
     for _ in 0..20_000 {
         lan.step();
-        note(&mut told, &lan);
+        note(&mut told, lan);
         if told.relayed {
             break;
         }
     }
-    assert!(rt; told.relayed);
+    told
+}
+
+/// What a run of the three nodes has shown.
+fn told_of_three(alloc: Global) -> Option<Told> {
+    let mut lan = Lan::on(
+        alloc,
+        &[0, 0, 0],
+        2,
+        &[&[MASTER, GATEWAY], &[GATEWAY, SLAVE]],
+    )?;
+    Some(run(&mut lan))
+}
+
+/// Whether the slave's clock and the master's differ by no more than both samples' errors and a microsecond for
+/// each end of each reading.
+fn agree(told: &Told) -> bool {
     let apart = told.slave.saturating_sub(told.master).unsigned_abs();
     let bound = told.upper.saturating_add(told.lower).saturating_add(4);
-    assert!(rt; bound >= 0 && apart <= bound.unsigned_abs());
+    bound >= 0 && apart <= bound.unsigned_abs()
+}
+
+/// The slave takes an ADJTIME of a round that the gateway closed after a master corrected it: its
+/// clock and the master's agree.
+#[test]
+fn a_relayed_clock_agrees(rt: HostRuntime) {
+    let Some(told) = told_of_three(rt.alloc()) else {
+        panic!(rt; "no network");
+    };
+    assert!(rt; told.relayed && agree(&told));
 }

@@ -1,9 +1,0 @@
--- A MASTERREQ carries nothing.
-use Rattle.std.proofs.Common.{◌≡◌, refl}
-use Rattle.tsp_base.specs.Kinds.{carries_time, carries_hops}
-use Rattle.tsp_base.specs.Messages.{body_fits}
-use Rattle.tsp_world_tests.proofs.front_pages.of_the_codec.Goals as goal
-
-pub new-message-requires : goal.new-message-requires
-unfolding body_fits carries_time carries_hops
-new-message-requires g c = refl
