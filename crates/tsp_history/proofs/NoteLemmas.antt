@@ -1,5 +1,5 @@
 -- What is known after the lines of a history.
-use Rattle.std.specs.Prelude.{◌≡◌, ◌<◌, ◌≤◌, ◌==◌, ◌+◌, ◌^◌, ◌*◌, ℕ, ℤ, Bool, true, false, MatchBool, List, [], ◌∷◌, ◌++◌, length, get_or, take, min, Option, None, Some}
+use Rattle.std.specs.Prelude.{◌≡◌, ◌<◌, ◌≤◌, ◌==◌, ◌+◌, ◌^◌, ℕ, ℤ, false, List, [], ◌∷◌, ◌++◌, length, get_or, take, min}
 use Rattle.std.proofs.Common.{◌∙◌, ap, sym, subst, arith, refl, ◌⊎◌, inl, inr, eq-eqb}
 use Rattle.std.proofs.lemmas.Bool.{cases_lt}
 use Rattle.std.proofs.lemmas.Int.{ints}
@@ -7,7 +7,6 @@ use Rattle.std.proofs.lemmas.List.{get_or_default, get_or-take, length-append, l
 use Rattle.std.proofs.Math.ListN.{get_or-append}
 use Rattle.std.proofs.Math.Seq.{get_or-append_seam}
 use Rattle.tsp_base.specs.declared.place.Port.{Port}
-use Rattle.tsp_promises.specs.Fits.{node_of}
 use Rattle.tsp_base.specs.History.{Line, of, dids}
 use Rattle.tsp_base.specs.Takings.{posted}
 use Rattle.tsp_base.proofs.ViewPlaces.{port-same}
@@ -18,8 +17,8 @@ use Rattle.tsp_history.specs.declared.notes.PortNote.{PortNote}
 use Rattle.tsp_history.specs.Changes.{BeginsOn}
 use Rattle.tsp_history.specs.Clocks.{IsSumOf}
 use Rattle.tsp_history.specs.Histories.{line_of, noted_after, history_of}
-use Rattle.tsp_history.specs.Notes.{Counted, LastAt, NodeKnown, NoteIs, PortKnown, Quiet, Told}
-use Rattle.tsp_history.specs.Spacing.{Spaced, SpacedBy}
+use Rattle.tsp_history.specs.Notes.{LastAt, NodeKnown, NoteIs, PortKnown, Quiet, Told}
+use Rattle.tsp_history.specs.Spacing.{SpacedBy}
 use Rattle.tsp_history.proofs.HistoryLemmas.{history-more}
 use Rattle.tsp_history.proofs.SpacingLemmas.{of-other, spaced-other}
 

@@ -1,6 +1,5 @@
 -- What is known after the lines of a history.
-use Rattle.std.specs.Prelude.{◌≡◌, ◌<◌, ◌≤◌, ℕ, ◌+◌, ◌^◌, Bool, true, false, List, ◌∷◌, length, get_or, take, Option, None, Some, MatchBool}
-use Rattle.tsp_base.specs.declared.constants.TheConstants.{GAP}
+use Rattle.std.specs.Prelude.{◌≡◌, ◌<◌, ◌≤◌, ℕ, ◌+◌, Bool, true, false, List, ◌∷◌, length, get_or, take, Option}
 use Rattle.tsp_base.specs.declared.place.Port.{Port}
 use Rattle.tsp_promises.specs.Fits.{node_of}
 use Rattle.tsp_base.specs.History.{Line, of, view, dids}

@@ -1,6 +1,8 @@
 -- The exchanges and the samples of a port's round, among noted lines.
-use Rattle.std.specs.Prelude.{◌≡◌, ◌<◌, ℕ, ℤ, pos, ◌-ℤ◌, int_lt, if◌then◌else◌, List, [], ◌∷◌, length, get_or, take, Option, None, Some}
-use Rattle.tsp_base.specs.declared.act.Act.TheVariants.{Sample}
+use Rattle.std.specs.Prelude.{◌≡◌, ◌<◌, ◌≤◌, ℕ, ℤ, pos, ◌-ℤ◌, int_lt, if◌then◌else◌, List, [], ◌∷◌, length, get_or, take, Option, None, Some}
+use Rattle.tsp_base.specs.declared.act.Act.{Act}
+use Rattle.tsp_base.specs.declared.act.Act.TheVariants.{Arm, Become, Boot, Sample}
+use Rattle.tsp_base.specs.declared.alarm.Alarm.TheVariants.{Close}
 use Rattle.tsp_base.specs.declared.place.Port.{Port}
 use Rattle.tsp_promises.specs.Fits.{node_of}
 use Rattle.tsp_base.specs.History.{Deed, Acts, Did, Line, Seen, Here, of, plain, view}
@@ -74,3 +76,18 @@ better_of (Some early) late = if int_lt late.trip early.trip then late else earl
 abbrev pub Bests : List HistoryLine → ℕ → Port → Option Sampled → Option Best → Type 0
 Bests ns n q sample None = sample ≡ None
 Bests ns n q sample (Some b) = BestAt ns n q sample b
+
+-- an act of port p, or a life of its node, after which nothing is left of the samples of port q
+abbrev pub ForgetsBy : Port → Port → Option Act → Type 0
+ForgetsBy q p (Some Boot) = Unit {0}
+ForgetsBy q p (Some (Become role)) = p ≡ q
+ForgetsBy q p (Some (Arm Close tick)) = p ≡ q
+ForgetsBy q p _ = ⊥
+
+-- after this line nothing is left of the samples of port q of node n
+abbrev pub Forgets : ℕ → Port → HistoryLine → Type 0
+Forgets n q l = (l.node ≡ n) × ForgetsBy q l.port l.act
+
+-- none of these lines from this index on forgets the samples of port q of node n
+pub record KeepsFrom (n : ℕ) (q : Port) (ns : List HistoryLine) (from : ℕ) : Type 0 where
+  pub at : (i : ℕ) (l : HistoryLine) → from ≤ i → i < length ns → get_or ns i l ≡ l → Forgets n q l → ⊥

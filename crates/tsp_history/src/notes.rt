@@ -75,7 +75,11 @@ impl PortNote {
 
 impl Note {
     /// What is known before any line.
-    pub fn new() -> Note {
+    pub fn new() -> Note
+        ensures posted { result.posted ≡ 0 }
+        ensures node { (node : ℕ) → NodeKnown node [] result.node }
+        ensures port { (node : ℕ) (port : Port) → PortKnown node port [] result.port }
+    {
         Note {
             posted: 0,
             node: NodeNote::new(),

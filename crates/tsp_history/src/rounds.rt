@@ -1,5 +1,5 @@
 //! Facts of a port's round: its exchanges and its samples.
-ghost use Rattle.std.specs.Prelude.{◌≡◌, ◌<◌, ◌≤◌, ◌^◌, ◌-ℤ◌, pos, true, List, ℕ, ◌∷◌, None, length, take, IfSome};
+ghost use Rattle.std.specs.Prelude.{◌≡◌, ◌<◌, ◌≤◌, ◌^◌, ◌-ℤ◌, pos, true, false, List, ℕ, ◌∷◌, None, length, take, IfSome};
 ghost use Rattle.tsp_base.specs.History.{Line, of, dids, view};
 ghost use Rattle.tsp_base.specs.RoundFacts.{best, exchange, is_going};
 ghost use Rattle.tsp_base.specs.NodeFacts.{target};
@@ -9,7 +9,7 @@ ghost use Rattle.tsp_history.specs.Clocks.{IsSmall, IsSumOf, IsTrip, Keeps};
 ghost use Rattle.tsp_history.specs.Histories.{line_of, history_of};
 ghost use Rattle.tsp_history.specs.Notes.{Told};
 ghost use Rattle.tsp_history.specs.Posts.{IsPost};
-ghost use Rattle.tsp_history.specs.Rounds.{Asked, Bests, better_of, LineAt, SeenBy, start_of, trip_at};
+ghost use Rattle.tsp_history.specs.Rounds.{Asked, Bests, better_of, Forgets, KeepsFrom, LineAt, SeenBy, start_of, trip_at};
 
 use crate::change::Change;
 use crate::clocks::target_at;
@@ -273,8 +273,9 @@ fn better(early: Option<Best>, late: Best) -> Best
 
 /// Whether a line forgets all samples of a node's port: a round begins, a role, or a life.
 fn forgets_samples(line: &HistoryLine, node: u32, port: Port) -> bool
-    ensures { result ≡ true → (before : List Line) (p : PeerId)
+    ensures forgets { result ≡ true → (before : List Line) (p : PeerId)
         → best p (view port (of node (line_of line.now ∷ before))) ≡ None }
+    ensures keeps { result ≡ false → Forgets node port line.now → ⊥ }
 {
     if line.node != node {
         return false;
@@ -292,6 +293,7 @@ pub fn samples_from(lines: &[HistoryLine], node: u32, port: Port) -> usize
     ensures few { result ≤ length lines.now }
     ensures none { (p : PeerId)
         → best p (view port (of node (history_of (take result lines.now)))) ≡ None }
+    ensures latest { KeepsFrom node port lines.now result }
 {
     let mut left = lines.len();
     while left > 0 {
