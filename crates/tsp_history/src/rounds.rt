@@ -1,5 +1,6 @@
 //! Facts of a port's round: its exchanges and its samples.
-ghost use Rattle.std.specs.Prelude.{◌≡◌, ◌<◌, ◌≤◌, ◌^◌, ◌-ℤ◌, pos, true, false, List, ℕ, ◌∷◌, None, length, take, IfSome};
+ghost use Rattle.std.specs.Prelude.{◌≡◌, ◌<◌, ◌≤◌, ◌^◌, ◌-ℤ◌, pos, true, false, List, ℕ, ◌∷◌};
+ghost use Rattle.std.specs.Prelude.{None, length, take, IfSome};
 ghost use Rattle.tsp_base.specs.History.{Line, of, dids, view};
 ghost use Rattle.tsp_base.specs.RoundFacts.{best, exchange, is_going};
 ghost use Rattle.tsp_base.specs.NodeFacts.{target};
@@ -9,7 +10,8 @@ ghost use Rattle.tsp_history.specs.Clocks.{IsSmall, IsSumOf, IsTrip, Keeps};
 ghost use Rattle.tsp_history.specs.Histories.{line_of, history_of};
 ghost use Rattle.tsp_history.specs.Notes.{Told};
 ghost use Rattle.tsp_history.specs.Posts.{IsPost};
-ghost use Rattle.tsp_history.specs.Rounds.{Asked, Bests, better_of, Forgets, KeepsFrom, LineAt, SeenBy, start_of, trip_at};
+ghost use Rattle.tsp_history.specs.Rounds.{Asked, Bests, better_of, Forgets, KeepsFrom};
+ghost use Rattle.tsp_history.specs.Rounds.{LineAt, SeenBy, start_of, trip_at};
 
 use crate::change::Change;
 use crate::clocks::target_at;
