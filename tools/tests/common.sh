@@ -66,7 +66,9 @@ import signal
 import subprocess
 import sys
 import time
-run = subprocess.Popen(sys.argv[1:], stdin=subprocess.PIPE, stdout=subprocess.PIPE, stderr=subprocess.PIPE)
+# (a job in the background of a shell ignores interrupts, and so does what it starts)
+run = subprocess.Popen(sys.argv[1:], stdin=subprocess.PIPE, stdout=subprocess.PIPE, stderr=subprocess.PIPE,
+                       preexec_fn=lambda: signal.signal(signal.SIGINT, signal.SIG_DFL))
 time.sleep(2)
 run.send_signal(signal.SIGINT)
 print(run.communicate(timeout=20), run.returncode)

@@ -35,6 +35,10 @@ done
 cp "$page" "$out/page"
 "$repository/tools/gate-times" sh -c 'exit 3' || :
 cmp -s "$page" "$out/page" || fail 'a second run of the same writes another page'
+# A process below may have words that aren't UTF-8.
+status=0
+"$repository/tools/gate-times" sh -c 'sh -c "sleep 1; exit 3" "$(printf "\377")"' 2>"$out/told" || status=$?
+[ "$status" -eq 3 ] && [ ! -s "$out/told" ] || fail "words that aren't UTF-8: status $status: $(cat "$out/told")"
 status=0
 "$repository/tools/gate-times" >"$out/said" 2>"$out/told" || status=$?
 [ "$status" -eq 1 ] && grep -q '^usage: ' "$out/told" || fail "without a command: status $status"
