@@ -1,5 +1,5 @@
 -- One place more changes nothing of what is measured.
-use Rattle.std.proofs.Common.{◌≡◌, ◌∙◌, ◌+◌, length, refl, ap, arith, rules}
+use Rattle.std.proofs.Common.{◌∙◌, ◌+◌, length, ap}
 use Rattle.std.proofs.lemmas.List.{length_push}
 use Rattle.tsp_measure.specs.Measures.{nothing_measured}
 use Rattle.tsp_measure.specs.Peers.{MeasuredPeers, with_peer}

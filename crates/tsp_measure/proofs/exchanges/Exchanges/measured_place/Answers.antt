@@ -1,5 +1,5 @@
 -- Nothing is measured with a peer past the list's end.
-use Rattle.std.proofs.Common.{◌≡◌, ◌≤◌, ◌∙◌, sym, ap, length, arith, rules}
+use Rattle.std.proofs.Common.{◌≤◌, ◌∙◌, sym, ap, length, rules}
 use Rattle.std.specs.Box.{boxed_slice_items}
 use Rattle.tsp_measure.specs.Peers.{MeasuredPeers, with_peer}
 use Rattle.tsp_measure.proofs.Peers.{at_peer-missing, at_peer-past}
