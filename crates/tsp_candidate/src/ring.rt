@@ -2,8 +2,7 @@
 ghost use Rattle.std.specs.Prelude.{◌≡◌, ℕ, ◌+◌, ◌≤◌, length};
 ghost use Rattle.tsp_base.specs.Rows.{either_by};
 ghost use Rattle.tsp_rules.specs.CandidateRows.{has_won, lead_row, window_rings, yields};
-ghost use Rattle.tsp_acks.specs.Calls.{IsTick, Past};
-ghost use Rattle.tsp_acks.specs.Calls.{Performs, Uses, UsesAtMost, IsSamePort, Stands};
+ghost use Rattle.tsp_acks.specs.Calls.{IsTick, Past, Performs, Uses, UsesAtMost, IsSamePort, Stands};
 
 use tsp_acks::station::Station;
 use tsp_base::alarm::Alarm;

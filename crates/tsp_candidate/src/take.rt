@@ -1,8 +1,7 @@
 //! What a candidate does with a message of a peer.
 ghost use Rattle.std.specs.Prelude.{◌≤◌, Option};
 ghost use Rattle.tsp_rules.specs.CandidateRows.{candidate_takes};
-ghost use Rattle.tsp_acks.specs.Calls.{Contains, IsTick, Received};
-ghost use Rattle.tsp_acks.specs.Calls.{Performs, UsesAtMost, IsSamePort};
+ghost use Rattle.tsp_acks.specs.Calls.{Contains, IsTick, Received, Performs, UsesAtMost, IsSamePort};
 ghost use Rattle.tsp_slave.specs.SlaveStands.{IsMessage, SlaveStands, slave};
 
 use crate::answers::{take_accept, take_refuse};

@@ -4,8 +4,7 @@ ghost use Rattle.tsp_base.specs.SendFacts.{sets_date};
 ghost use Rattle.tsp_base.specs.Takings.{time_in};
 ghost use Rattle.tsp_rules.specs.Answers.{from_peer};
 ghost use Rattle.tsp_rules.specs.DateRows.{date_acked, may_pass_on, passes_on};
-ghost use Rattle.tsp_acks.specs.Calls.{Contains, IsTick, Past, Received};
-ghost use Rattle.tsp_acks.specs.Calls.{Performs, UsesAtMost, IsSamePort, Stands};
+ghost use Rattle.tsp_acks.specs.Calls.{Contains, IsTick, Past, Received, Performs, UsesAtMost, IsSamePort, Stands};
 ghost use Rattle.tsp_date.specs.Dates.{peers_of};
 ghost use Rattle.tsp_date.specs.DateStands.{DatesStand, DateState, DateStands};
 

@@ -27,8 +27,7 @@ use tsp_base::place::Port;
 use tsp_clock::clock::Clock;
 
 impl Master {
-    ghost use Rattle.tsp_master.specs.MasterStands.{LeadStands, ProbesStands, RingStands};
-    ghost use Rattle.tsp_master.specs.MasterStands.{StartsStands, lead_of};
+    ghost use Rattle.tsp_master.specs.MasterStands.{LeadStands, ProbesStands, RingStands, StartsStands, lead_of};
 
     /// Handles one alarm of a round that is due: a Probe asks the measured peers again, a Close closes the
     /// round, and a Round begins one. One that is more than `SLACK` ticks late gives the round up (Probe,

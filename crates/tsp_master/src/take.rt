@@ -5,8 +5,7 @@ ghost use Rattle.tsp_base.specs.SendFacts.{is_correction};
 ghost use Rattle.tsp_rules.specs.MasterRows.{joins, sends_away};
 ghost use Rattle.tsp_rules.specs.SendRows.{acknowledges, is_kind_quit};
 ghost use Rattle.tsp_acks.specs.Openings.{is_of};
-ghost use Rattle.tsp_acks.specs.Calls.{Contains, IsTick};
-ghost use Rattle.tsp_acks.specs.Calls.{Performs, UsesAtMost, IsSamePort, StandsActing};
+ghost use Rattle.tsp_acks.specs.Calls.{Contains, IsTick, Performs, UsesAtMost, IsSamePort, StandsActing};
 ghost use Rattle.tsp_master.specs.MasterTakes.{master_takes_here};
 ghost use Rattle.tsp_master.specs.Slaves.{peers_of, entry_of, Changes, acks_where};
 

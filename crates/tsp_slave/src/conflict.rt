@@ -1,8 +1,7 @@
 //! How a follower tells its master of another one.
 ghost use Rattle.std.specs.Prelude.{◌≤◌};
 ghost use Rattle.tsp_rules.specs.SlaveRows.{reports_conflict};
-ghost use Rattle.tsp_acks.specs.Calls.{Contains, IsTick};
-ghost use Rattle.tsp_acks.specs.Calls.{Performs, UsesAtMost, IsSamePort, StandsActing};
+ghost use Rattle.tsp_acks.specs.Calls.{Contains, IsTick, Performs, UsesAtMost, IsSamePort, StandsActing};
 
 use tsp_acks::station::Station;
 use tsp_base::desk::Desk;

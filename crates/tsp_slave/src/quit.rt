@@ -4,8 +4,7 @@ ghost use Rattle.tsp_base.specs.PortFacts.{name_in};
 ghost use Rattle.tsp_base.specs.Rows.{reading};
 ghost use Rattle.tsp_rules.specs.CommonRows.{follows_unless, quits};
 ghost use Rattle.tsp_rules.specs.Guards.{role_at};
-ghost use Rattle.tsp_acks.specs.Calls.{Contains, IsTick, Received};
-ghost use Rattle.tsp_acks.specs.Calls.{Performs, UsesAtMost, IsSamePort};
+ghost use Rattle.tsp_acks.specs.Calls.{Contains, IsTick, Received, Performs, UsesAtMost, IsSamePort};
 ghost use Rattle.tsp_slave.specs.SlaveStands.{SlaveStands, slave};
 
 use crate::follow::follow;

@@ -5,8 +5,7 @@ ghost use Rattle.tsp_base.specs.Rows.{reading};
 ghost use Rattle.tsp_base.specs.SendFacts.{correcting_of};
 ghost use Rattle.tsp_rules.specs.SlaveRows.{from_master, masterack_in, masterup_in, slave_takes};
 ghost use Rattle.tsp_rules.specs.Guards.{role_at};
-ghost use Rattle.tsp_acks.specs.Calls.{Contains, IsTick, Received};
-ghost use Rattle.tsp_acks.specs.Calls.{Performs, UsesAtMost, IsSamePort};
+ghost use Rattle.tsp_acks.specs.Calls.{Contains, IsTick, Received, Performs, UsesAtMost, IsSamePort};
 ghost use Rattle.tsp_slave.specs.ClockChanges.{change_in, correction_of};
 ghost use Rattle.tsp_slave.specs.SlaveStands.{IsMessage, SlaveStands, slave};
 
