@@ -1,16 +1,13 @@
 //! How a station's numbered sends begin.
 ghost use Rattle.std.specs.Prelude.{◌≡◌, ◌+◌, ◌%◌, ◌≤◌, true, length, Some, [], ◌∷◌, ◌++◌};
-ghost use Rattle.std.specs.List.{Contains};
 ghost use Rattle.tsp_base.specs.declared.act.Act.TheVariants.{Post};
 ghost use Rattle.tsp_base.specs.declared.datagram.Datagram.TheVariants.{Message as MessageOf};
 ghost use Rattle.tsp_base.specs.declared.place.Place.TheVariants.{Peer};
-ghost use Rattle.tsp_base.specs.Frames.{IsTick, PutsAtMost, PutsExactly};
-ghost use Rattle.tsp_base.specs.Performs.{Performs};
 ghost use Rattle.tsp_base.specs.Rows.{bare, timed, placed, posts_time};
 ghost use Rattle.tsp_base.specs.SendFacts.{is_correction, is_set_date_request};
 ghost use Rattle.tsp_rules.specs.SendRows.{begins, begins_timed, begins_to_others};
 ghost use Rattle.tsp_sends.specs.Slots.{SetsOnly};
-ghost use Rattle.tsp_acks.specs.Changes.{ChangesSends};
+ghost use Rattle.tsp_acks.specs.Calls.{Contains, IsTick, Performs, Uses, UsesAtMost, ChangesSends};
 ghost use Rattle.tsp_acks.specs.Openings.{is_bare_send};
 
 use crate::station::Station;
@@ -45,8 +42,7 @@ impl Station {
             })) self.old.sends self.new.sends }
         ensures rest { ChangesSends self.old self.new }
         ensures begun { self.new.begun ≡ (self.old.begun + 1) % 32768 }
-        ensures room { PutsExactly 1 (D.spare desk.old) (D.spare desk.new) (D.acts desk.old)
-            (D.acts desk.new) }
+        ensures room { Uses 1 D.spare D.acts desk.old desk.new }
     {
         let message = Message::new(kind, self.next_number(), Body::Nothing, self.me.name.copy());
         self.open(p, message, tick, port, desk);
@@ -78,8 +74,7 @@ impl Station {
             })) self.old.sends self.new.sends }
         ensures rest { ChangesSends self.old self.new }
         ensures begun { self.new.begun ≡ (self.old.begun + 1) % 32768 }
-        ensures room { PutsExactly 1 (D.spare desk.old) (D.spare desk.new) (D.acts desk.old)
-            (D.acts desk.new) }
+        ensures room { Uses 1 D.spare D.acts desk.old desk.new }
     {
         let message = Message::new(
             kind,
@@ -118,8 +113,7 @@ impl Station {
             })) self.old.sends self.new.sends }
         ensures rest { ChangesSends self.old self.new }
         ensures begun { self.new.begun ≡ self.old.begun }
-        ensures room { PutsExactly 1 (D.spare desk.old) (D.spare desk.new) (D.acts desk.old)
-            (D.acts desk.new) }
+        ensures room { Uses 1 D.spare D.acts desk.old desk.new }
     {
         let message = Message::new(kind, number, Body::Time(time), self.me.name.copy());
         self.open(p, message, at.tick, at.port, desk);
@@ -133,8 +127,7 @@ impl Station {
         ensures row { Performs StandsActing StandsActing (begins_to_others kind) tick port
             self.old self.new (D.acts desk.old) (D.acts desk.new) }
         ensures rest { ChangesSends self.old self.new }
-        ensures room { PutsAtMost (length self.old.peers) (D.spare desk.old) (D.spare desk.new)
-            (D.acts desk.old) (D.acts desk.new) }
+        ensures room { UsesAtMost (length self.old.peers) D.spare D.acts desk.old desk.new }
     {
         for place in 0..self.peers.as_slice().len() {
             let p = self.peers.as_slice()[place];
@@ -155,8 +148,7 @@ impl Station {
             self.old.sends self.new.sends }
         ensures rest { ChangesSends self.old self.new }
         ensures begun { self.new.begun ≡ self.old.begun }
-        ensures room { PutsExactly 1 (D.spare desk.old) (D.spare desk.new) (D.acts desk.old)
-            (D.acts desk.new) }
+        ensures room { Uses 1 D.spare D.acts desk.old desk.new }
     {
         let datagram = Datagram::Message(message.copy());
         desk.put(port, Act::Post(Place::Peer(p), datagram));

@@ -4,8 +4,7 @@ ghost use Rattle.tsp_base.specs.declared.act.Act.TheVariants.{Become, Ring, Late
 ghost use Rattle.tsp_base.specs.declared.alarm.Alarm.TheVariants.{Probe, Close, Elect};
 ghost use Rattle.tsp_base.specs.declared.place.PeerId.{PeerId};
 ghost use Rattle.tsp_base.specs.Alarms.{with_deadline, none_armed};
-ghost use Rattle.tsp_base.specs.Frames.{IsTick, PutsExactly};
-ghost use Rattle.tsp_base.specs.Performs.{Performs};
+ghost use Rattle.tsp_acks.specs.Calls.{IsTick, Performs, Uses};
 ghost use Rattle.tsp_base.specs.Rows.{puts, arms};
 ghost use Rattle.tsp_rules.specs.CommonRows.{arms_elect};
 ghost use Rattle.tsp_rules.specs.Guards.{delay};
@@ -34,8 +33,7 @@ impl Station {
           alarms = with_deadline self.old.alarms alarm
               (Some (tick + long));
         } }
-        ensures room { PutsExactly 1 (D.spare desk.old) (D.spare desk.new) (D.acts desk.old)
-            (D.acts desk.new) }
+        ensures room { Uses 1 D.spare D.acts desk.old desk.new }
     {
         let at = tick + long;
         desk.put(port, Act::Arm(alarm, at));
@@ -51,8 +49,7 @@ impl Station {
           alarms = with_deadline self.old.alarms alarm
               None;
         } }
-        ensures room { PutsExactly 1 (D.spare desk.old) (D.spare desk.new) (D.acts desk.old)
-            (D.acts desk.new) }
+        ensures room { Uses 1 D.spare D.acts desk.old desk.new }
     {
         desk.put(port, Act::Ring(alarm));
         self.alarms.off(alarm);
@@ -67,8 +64,7 @@ impl Station {
           alarms = with_deadline self.old.alarms alarm
               None;
         } }
-        ensures room { PutsExactly 1 (D.spare desk.old) (D.spare desk.new) (D.acts desk.old)
-            (D.acts desk.new) }
+        ensures room { Uses 1 D.spare D.acts desk.old desk.new }
     {
         desk.put(port, Act::Late(alarm));
         self.alarms.off(alarm);
@@ -81,8 +77,7 @@ impl Station {
             (D.acts desk.old) (D.acts desk.new) }
         ensures station { self.new ≡ record self.old
             { alarms = with_deadline (with_deadline self.old.alarms Probe None) Close None } }
-        ensures room { PutsExactly 1 (D.spare desk.old) (D.spare desk.new) (D.acts desk.old)
-            (D.acts desk.new) }
+        ensures room { Uses 1 D.spare D.acts desk.old desk.new }
     {
         desk.put(port, Act::Abandon);
         self.alarms.off(Alarm::Probe);
@@ -104,8 +99,7 @@ impl Station {
         ensures role { self.new.role ≡ role }
         ensures alarms { self.new.alarms ≡ none_armed }
         ensures sends { (p : PeerId) → sending_to self.new.sends p ≡ None }
-        ensures room { PutsExactly 1 (D.spare desk.old) (D.spare desk.new) (D.acts desk.old)
-            (D.acts desk.new) }
+        ensures room { Uses 1 D.spare D.acts desk.old desk.new }
     {
         desk.put(port, Act::Become(role));
         self.role = role;
@@ -120,8 +114,7 @@ impl Station {
         ensures row { Performs Stands Stands (puts (Back p)) tick port self.old self.new
             (D.acts desk.old) (D.acts desk.new) }
         ensures station { self.new ≡ record self.old { hold = record self.old.hold { back = Some (tick, p) } } }
-        ensures room { PutsExactly 1 (D.spare desk.old) (D.spare desk.new) (D.acts desk.old)
-            (D.acts desk.new) }
+        ensures room { Uses 1 D.spare D.acts desk.old desk.new }
     {
         desk.put(port, Act::Back(p));
         self.hold.back(tick, p);
@@ -136,8 +129,7 @@ impl Station {
           backers = min (self.old.backers + 1)
               4294967295;
         } }
-        ensures room { PutsExactly 1 (D.spare desk.old) (D.spare desk.new) (D.acts desk.old)
-            (D.acts desk.new) }
+        ensures room { Uses 1 D.spare D.acts desk.old desk.new }
     {
         desk.put(port, Act::Backer(p));
         self.backers = self.backers.saturating_add(1);
@@ -149,8 +141,7 @@ impl Station {
         ensures row { Performs Stands Stands (puts (Quit p)) tick port self.old self.new
             (D.acts desk.old) (D.acts desk.new) }
         ensures station { self.new ≡ record self.old { hold = record self.old.hold { quit = Some tick } } }
-        ensures room { PutsExactly 1 (D.spare desk.old) (D.spare desk.new) (D.acts desk.old)
-            (D.acts desk.new) }
+        ensures room { Uses 1 D.spare D.acts desk.old desk.new }
     {
         desk.put(port, Act::Quit(p));
         self.hold.quit(tick);
@@ -174,8 +165,7 @@ impl Station {
           alarms = with_deadline self.old.alarms Elect
               (Some (tick + delay self.old.me.word));
         } }
-        ensures room { PutsExactly 1 (D.spare desk.old) (D.spare desk.new) (D.acts desk.old)
-            (D.acts desk.new) }
+        ensures room { Uses 1 D.spare D.acts desk.old desk.new }
     {
         let delay = self.delay();
         self.arm(Alarm::Elect, tick, delay, port, desk);

@@ -1,15 +1,12 @@
 //! How answers end a station's numbered sends.
 ghost use Rattle.std.specs.Prelude.{◌≡◌, ℕ, ◌≤◌, ◌&&◌, Bool, true, false, if◌then◌else◌, None, MatchBool};
 ghost use Rattle.tsp_base.specs.declared.act.Act.TheVariants.{Acked};
-ghost use Rattle.tsp_base.specs.Frames.{PutsExactly};
-ghost use Rattle.tsp_base.specs.History.{Past};
-ghost use Rattle.tsp_base.specs.Performs.{Performs};
 ghost use Rattle.tsp_base.specs.Rows.{puts};
 ghost use Rattle.tsp_base.specs.SendFacts.{is_set_date_request};
 ghost use Rattle.tsp_rules.specs.DateRows.{has_date};
 ghost use Rattle.tsp_rules.specs.SendRows.{has_election, has_other, is_kind_election, ends_by_ack, acknowledges};
 ghost use Rattle.tsp_sends.specs.Slots.{sending_to, kind_of, has_number, SetsOnly};
-ghost use Rattle.tsp_acks.specs.Changes.{ChangesSends};
+ghost use Rattle.tsp_acks.specs.Calls.{Past, Performs, Uses, ChangesSends};
 ghost use Rattle.tsp_acks.specs.Openings.{is_of};
 
 use crate::station::Station;
@@ -35,8 +32,7 @@ impl Station {
         ensures same { result ≡ false → D.acts desk.new ≡ D.acts desk.old }
         ensures rest { ChangesSends self.old self.new }
         ensures begun { self.new.begun ≡ self.old.begun }
-        ensures room { PutsExactly (if result then 1 else 0) (D.spare desk.old) (D.spare desk.new)
-            (D.acts desk.old) (D.acts desk.new) }
+        ensures room { Uses (if result then 1 else 0) D.spare D.acts desk.old desk.new }
     {
         let asks = is_election(self.sends.kind(p));
         self.end(asks, p, number, port, desk)
@@ -56,8 +52,7 @@ impl Station {
         ensures same { result ≡ false → D.acts desk.new ≡ D.acts desk.old }
         ensures rest { ChangesSends self.old self.new }
         ensures begun { self.new.begun ≡ self.old.begun }
-        ensures room { PutsExactly (if result then 1 else 0) (D.spare desk.old) (D.spare desk.new)
-            (D.acts desk.old) (D.acts desk.new) }
+        ensures room { Uses (if result then 1 else 0) D.spare D.acts desk.old desk.new }
     {
         let passes_on = is_date(self.sends.kind(p));
         self.end(passes_on, p, number, port, desk)
@@ -76,8 +71,7 @@ impl Station {
         ensures same { result ≡ false → D.acts desk.new ≡ D.acts desk.old }
         ensures rest { ChangesSends self.old self.new }
         ensures begun { self.new.begun ≡ self.old.begun }
-        ensures room { PutsExactly (if result then 1 else 0) (D.spare desk.old) (D.spare desk.new)
-            (D.acts desk.old) (D.acts desk.new) }
+        ensures room { Uses (if result then 1 else 0) D.spare D.acts desk.old desk.new }
     {
         let waits = ends_by_ack(self.sends.kind(p));
         self.end(waits, p, number, port, desk)
@@ -96,8 +90,7 @@ impl Station {
         ensures same { result ≡ false → D.acts desk.new ≡ D.acts desk.old }
         ensures rest { ChangesSends self.old self.new }
         ensures begun { self.new.begun ≡ self.old.begun }
-        ensures room { PutsExactly (if result then 1 else 0) (D.spare desk.old) (D.spare desk.new)
-            (D.acts desk.old) (D.acts desk.new) }
+        ensures room { Uses (if result then 1 else 0) D.spare D.acts desk.old desk.new }
     {
         if !fits {
             return false;

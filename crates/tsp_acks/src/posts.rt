@@ -1,7 +1,6 @@
 //! Messages that a station posts once: they carry a number and the node's own name, and nothing else.
 ghost use Rattle.std.specs.Prelude.{◌≡◌, ℕ, ◌≤◌, true, length, [], ◌∷◌, ◌++◌};
-ghost use Rattle.tsp_base.specs.Frames.{PutsAtMost, PutsExactly};
-ghost use Rattle.tsp_base.specs.Performs.{Performs};
+ghost use Rattle.tsp_acks.specs.Calls.{Performs, Uses, UsesAtMost};
 ghost use Rattle.tsp_base.specs.Rows.{posts, posts_back, posts_to_others, post_of, placed};
 ghost use Rattle.tsp_acks.specs.Posts.{is_plain};
 
@@ -23,8 +22,7 @@ impl Station {
         requires plain { is_plain kind ≡ true }
         ensures row { (x : ℕ) → Performs Stands Stands (posts_back to kind number) x port self.now
             self.now (D.acts desk.old) (D.acts desk.new) }
-        ensures room { PutsExactly 1 (D.spare desk.old) (D.spare desk.new) (D.acts desk.old)
-            (D.acts desk.new) }
+        ensures room { Uses 1 D.spare D.acts desk.old desk.new }
     {
         let message = Message::new(kind, number, Body::Nothing, self.me.name.copy());
         desk.put(port, Act::Post(to, Datagram::Message(message)));
@@ -38,8 +36,7 @@ impl Station {
             (post_of kind number self.now.me.name p ∷ []) }
         ensures row { (x : ℕ) → Performs Stands Stands (posts p kind number) x port self.now
             self.now (D.acts desk.old) (D.acts desk.new) }
-        ensures room { PutsExactly 1 (D.spare desk.old) (D.spare desk.new) (D.acts desk.old)
-            (D.acts desk.new) }
+        ensures room { Uses 1 D.spare D.acts desk.old desk.new }
     {
         let message = Message::new(kind, number, Body::Nothing, self.me.name.copy());
         desk.put(port, Act::Post(Place::Peer(p), Datagram::Message(message)));
@@ -51,8 +48,7 @@ impl Station {
         requires plain { is_plain kind ≡ true }
         ensures row { (x : ℕ) → Performs Stands Stands (posts_to_others kind number) x port self.now
             self.now (D.acts desk.old) (D.acts desk.new) }
-        ensures room { PutsAtMost (length self.now.peers) (D.spare desk.old) (D.spare desk.new)
-            (D.acts desk.old) (D.acts desk.new) }
+        ensures room { UsesAtMost (length self.now.peers) D.spare D.acts desk.old desk.new }
     {
         for p in self.peers.as_slice() {
             if p.0 != self.me.own.0 {

@@ -1,11 +1,8 @@
 //! How a station's due sends are posted again, or given up.
 ghost use Rattle.std.specs.Prelude.{◌≡◌, ◌≤◌, if◌then◌else◌, is_some, IfSome, IfNone};
-ghost use Rattle.std.specs.List.{Contains};
-ghost use Rattle.tsp_base.specs.Frames.{IsTick, PutsExactly};
-ghost use Rattle.tsp_base.specs.Performs.{Performs};
 ghost use Rattle.tsp_rules.specs.SendRows.{bare_send};
 ghost use Rattle.tsp_sends.specs.Repeating.{IsAfter, RepeatsNext, peer_of};
-ghost use Rattle.tsp_acks.specs.Changes.{ChangesSends};
+ghost use Rattle.tsp_acks.specs.Calls.{Contains, IsTick, Performs, Uses, ChangesSends};
 
 use crate::station::Station;
 use tsp_base::act::Act;
@@ -38,8 +35,7 @@ impl Station {
         ensures same { IfNone result ((self.new ≡ self.old) × (desk.new ≡ desk.old)) }
         ensures rest { ChangesSends self.old self.new }
         ensures begun { self.new.begun ≡ self.old.begun }
-        ensures room { PutsExactly (if is_some result then 1 else 0) (D.spare desk.old)
-            (D.spare desk.new) (D.acts desk.old) (D.acts desk.new) }
+        ensures room { Uses (if is_some result then 1 else 0) D.spare D.acts desk.old desk.new }
     {
         let due = self.sends.due(after, tick)?;
         match &due {

@@ -1,10 +1,7 @@
 //! The answers of peers to a candidate's ELECTIONs.
 ghost use Rattle.std.specs.Prelude.{ℕ, ◌≤◌};
-ghost use Rattle.tsp_base.specs.Frames.{IsTick, PutsAtMost};
-ghost use Rattle.tsp_base.specs.Performs.{Performs};
 ghost use Rattle.tsp_rules.specs.CandidateRows.{accepted_by, refused_by};
-ghost use Rattle.tsp_acks.specs.Changes.{IsSamePort};
-ghost use Rattle.tsp_acks.specs.Stands.{Stands};
+ghost use Rattle.tsp_acks.specs.Calls.{IsTick, Performs, UsesAtMost, IsSamePort, Stands};
 
 use crate::ring::give_way;
 use tsp_acks::station::Station;
@@ -23,8 +20,7 @@ pub(crate) fn take_accept<D: Desk>(
     requires room { 2 ≤ D.spare desk.old }
     ensures row { (x : ℕ) → Performs Stands Stands (accepted_by from number) x port station.old
         station.new (D.acts desk.old) (D.acts desk.new) }
-    ensures room { PutsAtMost 2 (D.spare desk.old) (D.spare desk.new) (D.acts desk.old)
-        (D.acts desk.new) }
+    ensures room { UsesAtMost 2 D.spare D.acts desk.old desk.new }
     ensures port { IsSamePort station.old station.new }
 {
     if station.answered(from, number, port, desk) {
@@ -45,8 +41,7 @@ pub(crate) fn take_refuse<D: Desk>(
     requires room { 3 ≤ D.spare desk.old }
     ensures row { Performs Stands Stands (refused_by from number) tick port station.old station.new
         (D.acts desk.old) (D.acts desk.new) }
-    ensures room { PutsAtMost 3 (D.spare desk.old) (D.spare desk.new) (D.acts desk.old)
-        (D.acts desk.new) }
+    ensures room { UsesAtMost 3 D.spare D.acts desk.old desk.new }
     ensures port { IsSamePort station.old station.new }
 {
     if station.answered(from, number, port, desk) {

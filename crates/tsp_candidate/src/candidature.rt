@@ -1,10 +1,7 @@
 //! How a candidature begins.
 ghost use Rattle.std.specs.Prelude.{◌+◌, ◌≤◌, length};
-ghost use Rattle.tsp_base.specs.Frames.{IsTick, PutsAtMost};
-ghost use Rattle.tsp_base.specs.Performs.{Performs};
 ghost use Rattle.tsp_rules.specs.CommonRows.{candidature_row};
-ghost use Rattle.tsp_acks.specs.Changes.{IsSamePort};
-ghost use Rattle.tsp_acks.specs.Stands.{StandsActing};
+ghost use Rattle.tsp_acks.specs.Calls.{IsTick, Performs, UsesAtMost, IsSamePort, StandsActing};
 
 use tsp_acks::station::Station;
 use tsp_base::alarm::Alarm;
@@ -22,8 +19,7 @@ pub fn begin_candidature<D: Desk>(station: &mut Station, tick: u64, port: Port, 
     requires room { length station.old.peers + 3 ≤ D.spare desk.old }
     ensures row { Performs StandsActing StandsActing candidature_row tick port station.old
         station.new (D.acts desk.old) (D.acts desk.new) }
-    ensures room { PutsAtMost (length station.old.peers + 3) (D.spare desk.old) (D.spare desk.new)
-        (D.acts desk.old) (D.acts desk.new) }
+    ensures room { UsesAtMost (length station.old.peers + 3) D.spare D.acts desk.old desk.new }
     ensures port { IsSamePort station.old station.new }
 {
     station.become_role(Role::Candidate, port, desk);

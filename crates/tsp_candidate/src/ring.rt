@@ -1,12 +1,8 @@
 //! The end of a candidature's time: the port becomes master or gives way.
 ghost use Rattle.std.specs.Prelude.{◌≡◌, ℕ, ◌+◌, ◌≤◌, length};
-ghost use Rattle.tsp_base.specs.Frames.{IsTick, PutsAtMost, PutsExactly};
-ghost use Rattle.tsp_base.specs.History.{Past};
-ghost use Rattle.tsp_base.specs.Performs.{Performs};
 ghost use Rattle.tsp_base.specs.Rows.{either_by};
 ghost use Rattle.tsp_rules.specs.CandidateRows.{has_won, lead_row, window_rings, yields};
-ghost use Rattle.tsp_acks.specs.Changes.{IsSamePort};
-ghost use Rattle.tsp_acks.specs.Stands.{Stands};
+ghost use Rattle.tsp_acks.specs.Calls.{IsTick, Past, Performs, Uses, UsesAtMost, IsSamePort, Stands};
 
 use tsp_acks::station::Station;
 use tsp_base::alarm::Alarm;
@@ -24,8 +20,7 @@ pub fn candidate_ring<D: Desk>(station: &mut Station, tick: u64, port: Port, des
     requires room { length station.old.peers + 3 ≤ D.spare desk.old }
     ensures row { Performs Stands Stands window_rings tick port station.old station.new
         (D.acts desk.old) (D.acts desk.new) }
-    ensures room { PutsAtMost (length station.old.peers + 3) (D.spare desk.old) (D.spare desk.new)
-        (D.acts desk.old) (D.acts desk.new) }
+    ensures room { UsesAtMost (length station.old.peers + 3) D.spare D.acts desk.old desk.new }
     ensures port { IsSamePort station.old station.new }
 {
     if station.is_in_time(Alarm::Window, tick) {
@@ -43,8 +38,7 @@ fn lead_or_give_way<D: Desk>(station: &mut Station, tick: u64, port: Port, desk:
     requires room { length station.old.peers + 2 ≤ D.spare desk.old }
     ensures row { Performs Stands Stands (either_by has_won lead_row yields) tick port station.old
         station.new (D.acts desk.old) (D.acts desk.new) }
-    ensures room { PutsAtMost (length station.old.peers + 2) (D.spare desk.old) (D.spare desk.new)
-        (D.acts desk.old) (D.acts desk.new) }
+    ensures room { UsesAtMost (length station.old.peers + 2) D.spare D.acts desk.old desk.new }
     ensures port { IsSamePort station.old station.new }
 {
     if has_won(station) {
@@ -68,8 +62,7 @@ fn lead<D: Desk>(station: &mut Station, tick: u64, port: Port, desk: &mut D)
     requires room { length station.old.peers + 2 ≤ D.spare desk.old }
     ensures row { Performs Stands Stands lead_row tick port station.old station.new
         (D.acts desk.old) (D.acts desk.new) }
-    ensures room { PutsAtMost (length station.old.peers + 2) (D.spare desk.old) (D.spare desk.new)
-        (D.acts desk.old) (D.acts desk.new) }
+    ensures room { UsesAtMost (length station.old.peers + 2) D.spare D.acts desk.old desk.new }
     ensures port { IsSamePort station.old station.new }
 {
     station.become_role(Role::Master, port, desk);
@@ -83,8 +76,7 @@ pub(crate) fn give_way<D: Desk>(station: &mut Station, tick: u64, port: Port, de
     requires room { 2 ≤ D.spare desk.old }
     ensures row { Performs Stands Stands yields tick port station.old station.new (D.acts desk.old)
         (D.acts desk.new) }
-    ensures room { PutsExactly 2 (D.spare desk.old) (D.spare desk.new) (D.acts desk.old)
-        (D.acts desk.new) }
+    ensures room { Uses 2 D.spare D.acts desk.old desk.new }
     ensures port { IsSamePort station.old station.new }
 {
     station.become_role(Role::Loose, port, desk);

@@ -1,12 +1,8 @@
 //! What a candidate does with a message of a peer.
 ghost use Rattle.std.specs.Prelude.{◌≤◌, Option};
-ghost use Rattle.std.specs.List.{Contains};
-ghost use Rattle.tsp_base.specs.Frames.{IsTick, PutsAtMost};
-ghost use Rattle.tsp_base.specs.Performs.{Performs};
-ghost use Rattle.tsp_base.specs.PortFacts.{Received};
 ghost use Rattle.tsp_rules.specs.CandidateRows.{candidate_takes};
-ghost use Rattle.tsp_acks.specs.Changes.{IsSamePort};
-ghost use Rattle.tsp_slave.specs.SlaveStands.{IsMessage, SlaveStands};
+ghost use Rattle.tsp_acks.specs.Calls.{Contains, IsTick, Received, Performs, UsesAtMost, IsSamePort};
+ghost use Rattle.tsp_slave.specs.SlaveStands.{IsMessage, SlaveStands, slave};
 
 use crate::answers::{take_accept, take_refuse};
 use tsp_acks::station::Station;
@@ -38,11 +34,9 @@ pub fn candidate_take<D: Desk>(
     requires peer { Contains station.old.peers from }
     ensures row { (took : Option Received) → IsMessage from m.now took
         → Performs SlaveStands SlaveStands (candidate_takes from m.now) tick port
-        (record { station = station.old; last = last.old; clock = clock.now; took = took })
-        (record { station = station.new; last = last.new; clock = clock.now; took = took })
+        (slave station.old last.old clock.now took) (slave station.new last.new clock.now took)
         (D.acts desk.old) (D.acts desk.new) }
-    ensures room { PutsAtMost 5 (D.spare desk.old) (D.spare desk.new) (D.acts desk.old)
-        (D.acts desk.new) }
+    ensures room { UsesAtMost 5 D.spare D.acts desk.old desk.new }
     ensures port { IsSamePort station.old station.new }
 {
     let number = m.number();

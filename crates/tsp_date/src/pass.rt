@@ -1,16 +1,10 @@
 //! How a follower passes a date on to its master, and learns that it was set.
 ghost use Rattle.std.specs.Prelude.{◌≡◌, ◌≤◌, ℕ, true, Some};
-ghost use Rattle.std.specs.List.{Contains};
-ghost use Rattle.tsp_base.specs.Frames.{IsTick, PutsAtMost};
-ghost use Rattle.tsp_base.specs.History.{Past};
-ghost use Rattle.tsp_base.specs.Performs.{Performs};
-ghost use Rattle.tsp_base.specs.PortFacts.{Received};
 ghost use Rattle.tsp_base.specs.SendFacts.{sets_date};
 ghost use Rattle.tsp_base.specs.Takings.{time_in};
 ghost use Rattle.tsp_rules.specs.Answers.{from_peer};
 ghost use Rattle.tsp_rules.specs.DateRows.{date_acked, may_pass_on, passes_on};
-ghost use Rattle.tsp_acks.specs.Changes.{IsSamePort};
-ghost use Rattle.tsp_acks.specs.Stands.{Stands};
+ghost use Rattle.tsp_acks.specs.Calls.{Contains, IsTick, Past, Received, Performs, UsesAtMost, IsSamePort, Stands};
 ghost use Rattle.tsp_date.specs.Dates.{peers_of};
 ghost use Rattle.tsp_date.specs.DateStands.{DatesStand, DateState, DateStands};
 
@@ -46,8 +40,7 @@ pub(crate) fn pass_on<D: Desk>(
         (record s { dates = dates.old; station = station.old })
         (record s { dates = dates.new; station = station.new })
         (D.acts desk.old) (D.acts desk.new) }
-    ensures room { PutsAtMost 2 (D.spare desk.old) (D.spare desk.new) (D.acts desk.old)
-        (D.acts desk.new) }
+    ensures room { UsesAtMost 2 D.spare D.acts desk.old desk.new }
     ensures port { IsSamePort station.old station.new }
     ensures role { station.new.role ≡ station.old.role }
     ensures peers { peers_of dates.new.dated ≡ peers_of dates.old.dated }
@@ -81,8 +74,7 @@ pub(crate) fn hear_end<D: Desk>(
         → Performs DateStands DateStands (from_peer from (date_acked m.now)) x port
         (record s { station = station.old }) (record s { station = station.new })
         (D.acts desk.old) (D.acts desk.new) }
-    ensures room { PutsAtMost 1 (D.spare desk.old) (D.spare desk.new) (D.acts desk.old)
-        (D.acts desk.new) }
+    ensures room { UsesAtMost 1 D.spare D.acts desk.old desk.new }
     ensures port { IsSamePort station.old station.new }
     ensures role { station.new.role ≡ station.old.role }
 {
@@ -103,8 +95,7 @@ fn end<D: Desk>(station: &mut Station, from: PeerId, m: &Message, port: Port, de
         → Performs DateStands DateStands (date_acked m.now from) x port
         (record s { station = station.old }) (record s { station = station.new })
         (D.acts desk.old) (D.acts desk.new) }
-    ensures room { PutsAtMost 1 (D.spare desk.old) (D.spare desk.new) (D.acts desk.old)
-        (D.acts desk.new) }
+    ensures room { UsesAtMost 1 D.spare D.acts desk.old desk.new }
     ensures port { IsSamePort station.old station.new }
     ensures role { station.new.role ≡ station.old.role }
 {

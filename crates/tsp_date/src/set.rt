@@ -5,11 +5,10 @@ ghost use Rattle.tsp_base.specs.declared.datagram.Taken.TheVariants.{Good};
 ghost use Rattle.tsp_base.specs.declared.kind.Kind.TheVariants.{DateAck, MasterUp};
 ghost use Rattle.tsp_base.specs.declared.place.PeerId.{PeerId};
 ghost use Rattle.tsp_base.specs.declared.place.Place.TheVariants.{Peer};
-ghost use Rattle.tsp_base.specs.Frames.{IsTick, PutsAtMost};
-ghost use Rattle.tsp_base.specs.History.{Past, plain};
+ghost use Rattle.tsp_base.specs.History.{plain};
 ghost use Rattle.tsp_base.specs.NodeFacts.{correct_tick};
 ghost use Rattle.tsp_base.specs.Peers.{is_among};
-ghost use Rattle.tsp_base.specs.Performs.{Performs};
+ghost use Rattle.tsp_acks.specs.Calls.{IsTick, Past, Performs, UsesAtMost};
 ghost use Rattle.tsp_base.specs.PortFacts.{said_by};
 ghost use Rattle.tsp_base.specs.Rows.{◌followed_by◌, posts_back, posts_to_others};
 ghost use Rattle.tsp_base.specs.SendFacts.{dating_of, is_date_request, sets_date};
@@ -72,8 +71,7 @@ pub(crate) fn correct<D: Desk>(
           clock = clock.new;
         })
         (D.acts desk.old) (D.acts desk.new) }
-    ensures room { PutsAtMost 1 (D.spare desk.old) (D.spare desk.new) (D.acts desk.old)
-        (D.acts desk.new) }
+    ensures room { UsesAtMost 1 D.spare D.acts desk.old desk.new }
     ensures peers { peers_of dates.new.dated ≡ peers_of dates.old.dated }
     ensures clock { clock.new.at ≤ at.tick }
 {
@@ -119,8 +117,7 @@ pub(crate) fn announce<D: Desk>(
         (record s { master = master.old; station = station.now })
         (record s { master = master.new; station = station.now })
         (D.acts desk.old) (D.acts desk.new) }
-    ensures room { PutsAtMost (2 * length station.now.peers + 1) (D.spare desk.old)
-        (D.spare desk.new) (D.acts desk.old) (D.acts desk.new) }
+    ensures room { UsesAtMost (2 * length station.now.peers + 1) D.spare D.acts desk.old desk.new }
     ensures slaves { slave_peers_of master.new.slaves ≡ slave_peers_of master.old.slaves }
 {
     station.post_back(from, Kind::DateAck, number, port, desk);
@@ -134,8 +131,7 @@ fn dismiss<D: Desk>(station: &Station, master: &mut Master, port: Port, desk: &m
     requires same { slave_peers_of master.old.slaves ≡ station.now.peers }
     ensures row { (x : ℕ) → Performs MasterStands MasterStands leaves_all x port master.old
         master.new (D.acts desk.old) (D.acts desk.new) }
-    ensures room { PutsAtMost (length station.now.peers) (D.spare desk.old) (D.spare desk.new)
-        (D.acts desk.old) (D.acts desk.new) }
+    ensures room { UsesAtMost (length station.now.peers) D.spare D.acts desk.old desk.new }
     ensures slaves { slave_peers_of master.new.slaves ≡ slave_peers_of master.old.slaves }
 {
     for p in station.peers() {

@@ -1,17 +1,12 @@
 //! What a port does with the messages that set the network's date.
 ghost use Rattle.std.specs.Prelude.{◌≡◌, ◌≤◌, ◌+◌, ◌*◌, true, length, Option, Some};
-ghost use Rattle.std.specs.List.{Contains};
 ghost use Rattle.tsp_base.specs.declared.datagram.Datagram.TheVariants.{Message as MessageOf};
 ghost use Rattle.tsp_base.specs.declared.datagram.Taken.TheVariants.{Good};
 ghost use Rattle.tsp_base.specs.declared.place.PeerId.{PeerId};
 ghost use Rattle.tsp_base.specs.declared.role.Role.TheVariants.{Follow};
-ghost use Rattle.tsp_base.specs.Frames.{IsTick, PutsAtMost};
-ghost use Rattle.tsp_base.specs.History.{Past};
-ghost use Rattle.tsp_base.specs.Performs.{Performs};
-ghost use Rattle.tsp_base.specs.PortFacts.{Received};
 ghost use Rattle.tsp_rules.specs.Answers.{handles_kind};
 ghost use Rattle.tsp_rules.specs.RoundRows.{corrects};
-ghost use Rattle.tsp_acks.specs.Changes.{IsSamePort};
+ghost use Rattle.tsp_acks.specs.Calls.{Contains, IsTick, Past, Received, Performs, UsesAtMost, IsSamePort};
 ghost use Rattle.tsp_master.specs.Slaves.{peers_of as slave_peers_of};
 ghost use Rattle.tsp_slave.specs.Lasts.{LastValue};
 ghost use Rattle.tsp_date.specs.Dates.{peers_of};
@@ -92,8 +87,7 @@ pub fn date_take<D: Desk>(
           took = took;
         })
         → result ≡ corrects (handles_kind charge from m.now m.now.kind tick past) }
-    ensures room { PutsAtMost (2 * length station.old.peers + 2) (D.spare desk.old)
-        (D.spare desk.new) (D.acts desk.old) (D.acts desk.new) }
+    ensures room { UsesAtMost (2 * length station.old.peers + 2) D.spare D.acts desk.old desk.new }
     ensures port { IsSamePort station.old station.new }
     ensures role { station.new.role ≡ station.old.role }
     ensures slaves { slave_peers_of master.new.slaves ≡ slave_peers_of master.old.slaves }

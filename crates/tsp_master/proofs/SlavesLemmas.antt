@@ -11,8 +11,10 @@ use Rattle.std.proofs.lemmas.List.{length-map, length-take-le, get_or-map, get_o
 use Rattle.std.proofs.lemmas.List.Kept.{AllPairs-from_increasing}
 use Rattle.tsp_base.specs.declared.place.PeerId.{PeerId}
 use Rattle.tsp_acks.specs.Peers.{IsPeers}
+use Rattle.tsp_master.specs.declared.entry.Change.{Change}
+use Rattle.tsp_master.specs.declared.entry.Change.TheVariants.{Join, Measure, Post, Begin, Acknowledge}
 use Rattle.tsp_master.specs.declared.entry.Entry.{Entry}
-use Rattle.tsp_master.specs.Slaves.{idle_entry, peers_of, entry_of, Changes, ChangesAll, IsPlaceOf}
+use Rattle.tsp_master.specs.Slaves.{idle_entry, peers_of, entry_of, changed_by, Changes, ChangesAll, IsPlaceOf}
 
 -- the peers' numbers rise along the entries
 pub record Rise (es : List Entry) : Type 0 where
@@ -194,3 +196,11 @@ mapped_more f xs now i d h e =
 -- all entries are changed
 pub mapped_all : (f : Entry → Entry) (xs now : List Entry) (i : ℕ) → length xs ≤ i → now ≡ map f (take i xs) ++ drop i xs → now ≡ map f xs
 mapped_all f xs now i h e = e ∙ ap (λ ys. map f (take i xs) ++ ys) (drop_past xs i h) ∙ append-nil (map f (take i xs)) ∙ ap (map f) (take_all i xs h)
+
+-- a change is of the same peer's entry
+pub changed_by-peer : (change : Change) (e : Entry) → (changed_by change e).peer ≡ e.peer
+changed_by-peer Join e = refl
+changed_by-peer Measure e = refl
+changed_by-peer (Post x) e = refl
+changed_by-peer (Begin x number) e = refl
+changed_by-peer Acknowledge e = refl

@@ -62,6 +62,10 @@ pub record LeadState : Type 0 where
   pub station : Station
   pub clock : ClockValue
 
+-- these three
+abbrev pub lead_of : Master → Station → ClockValue → LeadState
+lead_of master station clock = record { master = master; station = station; clock = clock }
+
 -- each of the three is what the past comes to, whether the step has acted or not
 pub record RingStands (past : Past) (lead : LeadState) : Type 0 where
   pub master : MasterStands past lead.master

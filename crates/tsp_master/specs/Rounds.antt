@@ -15,6 +15,9 @@ pub record RoundsValue : Type 0 where
   pub asked : ℕ
   pub probes : ℕ
 
+abbrev pub rounds_of : MeasuredPeers → ℕ → ℕ → RoundsValue
+rounds_of exchanges asked probes = record { exchanges = exchanges; asked = asked; probes = probes }
+
 -- what is measured with a peer
 abbrev pub measured_with : RoundsValue → PeerId → Measured
 measured_with v p = with_peer v.exchanges p.0

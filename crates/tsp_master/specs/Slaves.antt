@@ -4,6 +4,8 @@ use Rattle.std.specs.List.{list_all}
 use Rattle.tsp_base.specs.declared.constants.TheConstants.{REUSE}
 use Rattle.tsp_base.specs.declared.place.PeerId.{PeerId}
 use Rattle.tsp_base.specs.Hold.{is_past}
+use Rattle.tsp_master.specs.declared.entry.Change.{Change}
+use Rattle.tsp_master.specs.declared.entry.Change.TheVariants.{Join, Measure, Post, Begin, Acknowledge}
 use Rattle.tsp_master.specs.declared.entry.Entry.{Entry}
 
 -- a peer of which nothing is known
@@ -55,7 +57,15 @@ begins_at x number e = record e { posted = Some x; number = number; acked = fals
 abbrev pub acks : Entry → Entry
 acks e = record e { acked = true }
 
--- the same, where it did
+-- each of these changes of one peer's entry
+abbrev pub changed_by : Change → Entry → Entry
+changed_by Join = joins
+changed_by Measure = measures
+changed_by (Post x) = posts_at x
+changed_by (Begin x number) = begins_at x number
+changed_by Acknowledge = acks
+
+-- it acknowledged the last correction where this is so
 abbrev pub acks_where : Bool → Entry → Entry
 acks_where acked e = if acked then acks e else e
 

@@ -1,13 +1,11 @@
 //! How a master begins a round, and asks in it.
 ghost use Rattle.std.specs.Prelude.{◌≡◌, ◌+◌, ◌*◌, ◌≤◌, ◌<◌, ℕ, length, [], ◌∷◌, ◌++◌, slice_index_or};
-ghost use Rattle.std.specs.List.{Contains};
 ghost use Rattle.tsp_base.specs.declared.act.Act.TheVariants.{Post, Ring};
 ghost use Rattle.tsp_base.specs.declared.alarm.Alarm.TheVariants.{Probe as ProbeAlarm};
 ghost use Rattle.tsp_base.specs.declared.datagram.Datagram.TheVariants.{Stamp as StampOf};
 ghost use Rattle.tsp_base.specs.declared.place.PeerId.{PeerId};
 ghost use Rattle.tsp_base.specs.declared.place.Place.TheVariants.{Peer};
-ghost use Rattle.tsp_base.specs.Frames.{IsTick, PutsAtMost};
-ghost use Rattle.tsp_base.specs.Performs.{Performs};
+ghost use Rattle.tsp_acks.specs.Calls.{Contains, IsTick, Performs, UsesAtMost};
 ghost use Rattle.tsp_base.specs.Rows.{placed};
 ghost use Rattle.tsp_rules.specs.RoundRows.{asks_measured, asks_slaves};
 ghost use Rattle.tsp_measure.specs.Measures.{begun};
@@ -16,6 +14,7 @@ ghost use Rattle.tsp_clock.specs.Clocks.{target_of};
 ghost use Rattle.tsp_master.specs.Rounds.{IsCounted, Starts, measured_with};
 ghost use Rattle.tsp_master.specs.Slaves.{peers_of, Changes, measures};
 
+use crate::entry::Change;
 use crate::master::Master;
 use tsp_acks::station::Station;
 use tsp_base::act::Act;
@@ -26,7 +25,7 @@ use tsp_base::stamp::Stamp;
 use tsp_clock::clock::Clock;
 
 impl Master {
-    ghost use Rattle.tsp_master.specs.MasterStands.{ProbesStands, StartsStands};
+    ghost use Rattle.tsp_master.specs.MasterStands.{ProbesStands, StartsStands, lead_of};
 
     /// Posts a stamp request to a peer, and begins an exchange with it: a reply of the same word and counter
     /// gives a sample.
@@ -53,8 +52,7 @@ impl Master {
         ensures counted { (most : ℕ) → most < 4000 → IsCounted self.old.rounds most
             → IsCounted self.new.rounds (most + 1) }
         ensures slaves { self.new.slaves ≡ self.old.slaves }
-        ensures room { PutsAtMost 1 (D.spare desk.old) (D.spare desk.new) (D.acts desk.old)
-            (D.acts desk.new) }
+        ensures room { UsesAtMost 1 D.spare D.acts desk.old desk.new }
     {
         let word = station.me.word;
         let counter = self.rounds.start(peer, word, clock.target(tick));
@@ -79,11 +77,10 @@ impl Master {
             → begun (measured_with self.old.rounds p) ≤ self.old.rounds.probes }
         requires counted { IsCounted self.old.rounds (1000 * self.old.rounds.probes) }
         ensures row { Performs (ProbesStands tick) (ProbesStands tick) asks_measured tick port
-            (record { master = self.old; station = station.now; clock = clock.now })
-            (record { master = self.new; station = station.now; clock = clock.now })
+            (lead_of self.old station.now clock.now) (lead_of self.new station.now clock.now)
             (D.acts desk.old) (D.acts desk.new) }
-        ensures room { PutsAtMost (length (peers_of self.old.slaves)) (D.spare desk.old)
-            (D.spare desk.new) (D.acts desk.old) (D.acts desk.new) }
+        ensures room { UsesAtMost (length (peers_of self.old.slaves)) D.spare
+            D.acts desk.old desk.new }
         ensures slaves { self.new.slaves ≡ self.old.slaves }
         ensures probes { self.new.rounds.probes ≡ self.old.rounds.probes }
     {
@@ -120,10 +117,9 @@ impl Master {
             → IsCounted self.new.rounds (most + 1) }
         ensures slaves { Changes peer measures self.old.slaves self.new.slaves }
         ensures peers { peers_of self.new.slaves ≡ peers_of self.old.slaves }
-        ensures room { PutsAtMost 1 (D.spare desk.old) (D.spare desk.new) (D.acts desk.old)
-            (D.acts desk.new) }
+        ensures room { UsesAtMost 1 D.spare D.acts desk.old desk.new }
     {
-        self.slaves.measure(peer);
+        self.slaves.change(peer, Change::Measure);
         self.ask(station, clock, tick, peer, port, desk);
     }
 
@@ -144,11 +140,10 @@ impl Master {
             → begun (measured_with self.old.rounds p) ≤ self.old.rounds.probes }
         requires counted { IsCounted self.old.rounds (1000 * self.old.rounds.probes) }
         ensures row { Performs StartsStands StartsStands asks_slaves tick port
-            (record { master = self.old; station = station.now; clock = clock.now })
-            (record { master = self.new; station = station.now; clock = clock.now })
+            (lead_of self.old station.now clock.now) (lead_of self.new station.now clock.now)
             (D.acts desk.old) (D.acts desk.new) }
-        ensures room { PutsAtMost (length (peers_of self.old.slaves)) (D.spare desk.old)
-            (D.spare desk.new) (D.acts desk.old) (D.acts desk.new) }
+        ensures room { UsesAtMost (length (peers_of self.old.slaves)) D.spare
+            D.acts desk.old desk.new }
         ensures peers { peers_of self.new.slaves ≡ peers_of self.old.slaves }
     {
         for place in 0..self.slaves.len() {

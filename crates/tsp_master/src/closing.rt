@@ -1,19 +1,15 @@
 //! How a master closes a round.
 ghost use Rattle.std.specs.Prelude.{◌≡◌, ◌+ℤ◌, ◌-ℤ◌, ◌+◌, ◌≤◌, ℕ, true, false, length};
-ghost use Rattle.std.specs.List.{Contains};
 ghost use Rattle.tsp_base.specs.declared.place.PeerId.{PeerId};
-ghost use Rattle.tsp_base.specs.Frames.{IsTick, PutsAtMost};
-ghost use Rattle.tsp_base.specs.History.{Past};
-ghost use Rattle.tsp_base.specs.Performs.{Performs};
 ghost use Rattle.tsp_base.specs.Rows.{for_each};
 ghost use Rattle.tsp_group.specs.Values.{IsNear};
 ghost use Rattle.tsp_rules.specs.RoundRows.{close_rings, corrects, corrects_peer, moves};
 ghost use Rattle.tsp_acks.specs.declared.station.Station.{Station};
-ghost use Rattle.tsp_acks.specs.Changes.{IsSamePort};
+ghost use Rattle.tsp_acks.specs.Calls.{Contains, IsTick, Past, Performs, UsesAtMost, IsSamePort};
 ghost use Rattle.tsp_clock.specs.Clocks.{target_of};
 ghost use Rattle.tsp_rules.specs.Guards.{is_clock_value, is_over};
 ghost use Rattle.tsp_master.specs.declared.master.Master.{Master};
-ghost use Rattle.tsp_master.specs.MasterStands.{LeadStands, RingStands};
+ghost use Rattle.tsp_master.specs.MasterStands.{LeadStands, RingStands, lead_of};
 ghost use Rattle.tsp_master.specs.Closing.{closes_here, round_of, standing_with};
 ghost use Rattle.tsp_master.specs.Slaves.{peers_of, entry_of, Changes, leaves};
 
@@ -48,15 +44,12 @@ impl Master {
         requires room { length (peers_of self.old.slaves) + 3 ≤ D.spare desk.old }
         requires same { peers_of self.old.slaves ≡ station.old.peers }
         ensures row { Performs RingStands LeadStands (close_rings own) tick port
-            (record { master = self.old; station = station.old; clock = clock.old })
-            (record { master = self.new; station = station.new; clock = clock.new })
+            (lead_of self.old station.old clock.old) (lead_of self.new station.new clock.new)
             (D.acts desk.old) (D.acts desk.new) }
-        ensures corrects { (past : Past)
-            → RingStands past
-            (record { master = self.old; station = station.old; clock = clock.old })
+        ensures corrects { (past : Past) → RingStands past (lead_of self.old station.old clock.old)
             → result ≡ corrects (close_rings own tick past) }
-        ensures room { PutsAtMost (length (peers_of self.old.slaves) + 3) (D.spare desk.old)
-            (D.spare desk.new) (D.acts desk.old) (D.acts desk.new) }
+        ensures room { UsesAtMost (length (peers_of self.old.slaves) + 3) D.spare
+            D.acts desk.old desk.new }
         ensures port { IsSamePort station.old station.new }
         ensures peers { peers_of self.new.slaves ≡ peers_of self.old.slaves }
         ensures clock { clock.new.at ≤ tick }
@@ -87,15 +80,12 @@ impl Master {
         requires room { length (peers_of self.old.slaves) + 2 ≤ D.spare desk.old }
         requires same { peers_of self.old.slaves ≡ station.old.peers }
         ensures row { Performs LeadStands LeadStands (closes_here own self.old) tick port
-            (record { master = self.old; station = station.old; clock = clock.old })
-            (record { master = self.new; station = station.new; clock = clock.new })
+            (lead_of self.old station.old clock.old) (lead_of self.new station.new clock.new)
             (D.acts desk.old) (D.acts desk.new) }
-        ensures corrects { (past : Past)
-            → LeadStands past
-            (record { master = self.old; station = station.old; clock = clock.old })
+        ensures corrects { (past : Past) → LeadStands past (lead_of self.old station.old clock.old)
             → result ≡ corrects (closes_here own self.old tick past) }
-        ensures room { PutsAtMost (length (peers_of self.old.slaves) + 2) (D.spare desk.old)
-            (D.spare desk.new) (D.acts desk.old) (D.acts desk.new) }
+        ensures room { UsesAtMost (length (peers_of self.old.slaves) + 2) D.spare
+            D.acts desk.old desk.new }
         ensures port { IsSamePort station.old station.new }
         ensures peers { peers_of self.new.slaves ≡ peers_of self.old.slaves }
         ensures clock { clock.new.at ≤ tick }
@@ -137,11 +127,10 @@ impl Master {
         requires same { peers_of self.old.slaves ≡ station.old.peers }
         ensures row { Performs LeadStands LeadStands
             (for_each (corrects_peer mean) (round_of self.old.slaves self.old.rounds)) tick port
-            (record { master = self.old; station = station.old; clock = clock.now })
-            (record { master = self.new; station = station.new; clock = clock.now })
+            (lead_of self.old station.old clock.now) (lead_of self.new station.new clock.now)
             (D.acts desk.old) (D.acts desk.new) }
-        ensures room { PutsAtMost (length (peers_of self.old.slaves)) (D.spare desk.old)
-            (D.spare desk.new) (D.acts desk.old) (D.acts desk.new) }
+        ensures room { UsesAtMost (length (peers_of self.old.slaves)) D.spare
+            D.acts desk.old desk.new }
         ensures port { IsSamePort station.old station.new }
         ensures peers { peers_of self.new.slaves ≡ peers_of self.old.slaves }
     {
@@ -172,11 +161,9 @@ impl Master {
         requires peer { Contains station.old.peers peer }
         ensures row { Performs LeadStands LeadStands
             (corrects_peer mean (standing_with self.old.rounds peer)) at.tick at.port
-            (record { master = self.old; station = station.old; clock = clock.now })
-            (record { master = self.new; station = station.new; clock = clock.now })
+            (lead_of self.old station.old clock.now) (lead_of self.new station.new clock.now)
             (D.acts desk.old) (D.acts desk.new) }
-        ensures room { PutsAtMost 1 (D.spare desk.old) (D.spare desk.new) (D.acts desk.old)
-            (D.acts desk.new) }
+        ensures room { UsesAtMost 1 D.spare D.acts desk.old desk.new }
         ensures port { IsSamePort station.old station.new }
         ensures peers { peers_of self.new.slaves ≡ peers_of self.old.slaves }
         ensures rounds { self.new.rounds ≡ self.old.rounds }
@@ -220,11 +207,9 @@ fn move_own<D: Desk>(clock: &mut Clock, own: bool, mean: i64, tick: u64, port: P
     requires room { 1 ≤ D.spare desk.old }
     ensures row { (master : Master) (station : Station)
         → Performs LeadStands LeadStands (moves own mean) tick port
-        (record { master = master; station = station; clock = clock.old })
-        (record { master = master; station = station; clock = clock.new })
+        (lead_of master station clock.old) (lead_of master station clock.new)
         (D.acts desk.old) (D.acts desk.new) }
-    ensures room { PutsAtMost 1 (D.spare desk.old) (D.spare desk.new) (D.acts desk.old)
-        (D.acts desk.new) }
+    ensures room { UsesAtMost 1 D.spare D.acts desk.old desk.new }
     ensures clock { clock.new.at ≤ tick }
 {
     if own {

@@ -1,14 +1,12 @@
 //! The corrections that a master sends.
 ghost use Rattle.std.specs.Prelude.{◌≡◌, ◌≤◌, is_some, IfSome};
-ghost use Rattle.std.specs.List.{Contains};
-ghost use Rattle.tsp_base.specs.Frames.{IsTick, PutsAtMost};
-ghost use Rattle.tsp_base.specs.Performs.{Performs};
 ghost use Rattle.tsp_rules.specs.Guards.{is_clock_value};
 ghost use Rattle.tsp_rules.specs.SendRows.{begins_adjtime, begins_settime};
-ghost use Rattle.tsp_acks.specs.Changes.{IsSamePort};
+ghost use Rattle.tsp_acks.specs.Calls.{Contains, IsTick, Performs, UsesAtMost, IsSamePort};
 ghost use Rattle.tsp_clock.specs.Clocks.{ClockValue, target_of};
 ghost use Rattle.tsp_master.specs.Slaves.{peers_of, entry_of, Changes, begins_at};
 
+use crate::entry::Change;
 use crate::master::Master;
 use tsp_acks::station::Station;
 use tsp_base::at::At;
@@ -19,7 +17,7 @@ use tsp_base::place::PeerId;
 use tsp_clock::clock::{Clock, is_clock_value};
 
 impl Master {
-    ghost use Rattle.tsp_master.specs.MasterStands.{LeadStands};
+    ghost use Rattle.tsp_master.specs.MasterStands.{LeadStands, lead_of};
 
     /// Begins an ADJTIME with this number and amount, in microseconds, to a peer, where a correction may begin.
     pub(crate) fn begin_adjtime<D: Desk>(
@@ -37,11 +35,9 @@ impl Master {
         requires peer { Contains station.old.peers peer }
         ensures row { (clock : ClockValue)
             → Performs LeadStands LeadStands (begins_adjtime peer number amount) at.tick at.port
-            (record { master = self.old; station = station.old; clock = clock })
-            (record { master = self.new; station = station.new; clock = clock })
+            (lead_of self.old station.old clock) (lead_of self.new station.new clock)
             (D.acts desk.old) (D.acts desk.new) }
-        ensures room { PutsAtMost 1 (D.spare desk.old) (D.spare desk.new) (D.acts desk.old)
-            (D.acts desk.new) }
+        ensures room { UsesAtMost 1 D.spare D.acts desk.old desk.new }
         ensures port { IsSamePort station.old station.new }
         ensures peers { peers_of self.new.slaves ≡ peers_of self.old.slaves }
         ensures rounds { self.new.rounds ≡ self.old.rounds }
@@ -50,7 +46,7 @@ impl Master {
     {
         if self.slaves.of(peer).may_correct(number, at.tick) {
             station.begin_correction(Kind::AdjTime, peer, number, amount, at, desk);
-            self.slaves.begin(peer, number, at.tick);
+            self.slaves.change(peer, Change::Begin(at.tick, number));
         }
     }
 
@@ -71,11 +67,9 @@ impl Master {
         requires same { peers_of self.old.slaves ≡ station.old.peers }
         requires peer { Contains station.old.peers peer }
         ensures row { Performs LeadStands LeadStands (begins_settime peer number) at.tick at.port
-            (record { master = self.old; station = station.old; clock = clock.now })
-            (record { master = self.new; station = station.new; clock = clock.now })
+            (lead_of self.old station.old clock.now) (lead_of self.new station.new clock.now)
             (D.acts desk.old) (D.acts desk.new) }
-        ensures room { PutsAtMost 1 (D.spare desk.old) (D.spare desk.new) (D.acts desk.old)
-            (D.acts desk.new) }
+        ensures room { UsesAtMost 1 D.spare D.acts desk.old desk.new }
         ensures port { IsSamePort station.old station.new }
         ensures peers { peers_of self.new.slaves ≡ peers_of self.old.slaves }
         ensures rounds { self.new.rounds ≡ self.old.rounds }
@@ -87,7 +81,7 @@ impl Master {
             Some(value) => {
                 if self.slaves.of(peer).may_correct(number, at.tick) {
                     station.begin_correction(Kind::SetTime, peer, number, value, at, desk);
-                    self.slaves.begin(peer, number, at.tick);
+                    self.slaves.change(peer, Change::Begin(at.tick, number));
                 }
             }
         }

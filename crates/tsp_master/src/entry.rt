@@ -2,7 +2,7 @@
 ghost use Rattle.std.specs.Prelude.{◌≡◌};
 ghost use Rattle.tsp_base.specs.declared.constants.TheConstants.{REUSE};
 ghost use Rattle.tsp_base.specs.Hold.{is_past};
-ghost use Rattle.tsp_master.specs.Slaves.{idle_entry, may_correct_by, is_settled_by};
+ghost use Rattle.tsp_master.specs.Slaves.{idle_entry, changed_by, may_correct_by, is_settled_by};
 
 use tsp_base::constants::REUSE;
 use tsp_base::place::PeerId;
@@ -24,6 +24,21 @@ pub struct Entry {
     pub acked: bool,
 }
 
+/// What changes what a master knows of a peer. Ticks are those of the node's counter; numbers are 0 to 32,767.
+#[derive(Clone, Copy)]
+pub(crate) enum Change {
+    /// The peer joins the slaves.
+    Join,
+    /// The round that begins measures it.
+    Measure,
+    /// A correction was posted to it at this tick.
+    Post(u64),
+    /// A correction began to it at this tick, with this number.
+    Begin(u64, u16),
+    /// It acknowledged the last correction.
+    Acknowledge,
+}
+
 impl Entry {
     /// A peer of which nothing is known.
     pub(crate) fn idle(peer: PeerId) -> Entry
@@ -37,6 +52,25 @@ impl Entry {
             number: 0,
             acked: false,
         }
+    }
+
+    /// What is known of the peer after a change.
+    pub(crate) fn changed(self, change: Change) -> Entry
+        ensures { result ≡ changed_by change self }
+    {
+        let mut entry = self;
+        match change {
+            Change::Join => entry.joined = true,
+            Change::Measure => entry.measured = true,
+            Change::Post(tick) => entry.posted = Some(tick),
+            Change::Begin(tick, number) => {
+                entry.posted = Some(tick);
+                entry.number = number;
+                entry.acked = false;
+            }
+            Change::Acknowledge => entry.acked = true,
+        }
+        entry
     }
 
     /// Whether no correction was posted to the peer for `REUSE` ticks.

@@ -1,23 +1,17 @@
 //! What a port keeps that may lead.
 ghost use Rattle.std.specs.Prelude.{◌≡◌, ℕ, ◌+◌, ◌≤◌, true, false, length, map, [], ◌∷◌, IfOk};
-ghost use Rattle.std.specs.List.{Contains};
 ghost use Rattle.tsp_base.specs.declared.act.Act.TheVariants.{Boot, Post, Become, Leave, Abandon};
 ghost use Rattle.tsp_base.specs.declared.datagram.Datagram.TheVariants.{Message};
 ghost use Rattle.tsp_base.specs.declared.place.PeerId.{PeerId};
 ghost use Rattle.tsp_base.specs.declared.place.Place.TheVariants.{Peer};
 ghost use Rattle.tsp_base.specs.declared.role.Role.{Role};
-ghost use Rattle.tsp_base.specs.History.{Past};
-ghost use Rattle.tsp_base.specs.Messages.{MessageValue};
-ghost use Rattle.tsp_base.specs.PortFacts.{acting, in_table};
-ghost use Rattle.tsp_base.specs.RoundFacts.{is_going};
 ghost use Rattle.tsp_base.specs.Rows.{grown};
-ghost use Rattle.tsp_base.specs.SendFacts.{is_correction};
 ghost use Rattle.tsp_rules.specs.DateRows.{all_settled};
-ghost use Rattle.tsp_acks.specs.Changes.{IsSamePort};
 ghost use Rattle.tsp_acks.specs.Peers.{IsPeers};
-ghost use Rattle.tsp_acks.specs.Stands.{Stands};
+ghost use Rattle.tsp_acks.specs.Calls.{Contains, Past, IsSamePort, Stands};
 ghost use Rattle.tsp_master.specs.Slaves.{peers_of, entry_of, Changes, ChangesAll, leaves, posts_at};
 
+use crate::entry::Change;
 use crate::rounds::Rounds;
 use crate::slaves::Slaves;
 use std::alloc::{AllocError, Global};
@@ -38,6 +32,10 @@ pub struct Master {
 }
 
 impl Master {
+    ghost use Rattle.tsp_base.specs.Messages.{MessageValue};
+    ghost use Rattle.tsp_base.specs.PortFacts.{acting, in_table};
+    ghost use Rattle.tsp_base.specs.RoundFacts.{is_going};
+    ghost use Rattle.tsp_base.specs.SendFacts.{is_correction};
     ghost use Rattle.tsp_master.specs.MasterStands.{MasterStands, OwnStands};
 
     /// Nothing was done yet on a port with these peers.
@@ -69,7 +67,7 @@ impl Master {
             → acting past.seen ≡ false → MasterStands past self.old
             → MasterStands (grown tick past (Post (Peer peer) (Message m) ∷ [])) self.new }
     {
-        self.slaves.repeat(peer, tick);
+        self.slaves.change(peer, Change::Post(tick));
     }
 
     /// Takes a slave out of the table and of the measured peers. The answer is whether the peer was a slave;

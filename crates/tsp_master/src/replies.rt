@@ -1,7 +1,6 @@
 //! What a master does with the replies to its requests.
 ghost use Rattle.std.specs.Prelude.{◌≡◌, ◌≤◌};
-ghost use Rattle.tsp_base.specs.Frames.{IsTick, PutsAtMost};
-ghost use Rattle.tsp_base.specs.Performs.{Performs};
+ghost use Rattle.tsp_acks.specs.Calls.{IsTick, Performs, UsesAtMost};
 ghost use Rattle.tsp_rules.specs.RoundRows.{samples};
 ghost use Rattle.tsp_acks.specs.declared.station.Station.{Station};
 ghost use Rattle.tsp_master.specs.MasterTakes.{samples_of};
@@ -18,7 +17,7 @@ use tsp_clock::clock::Clock;
 use tsp_measure::Reply;
 
 impl Master {
-    ghost use Rattle.tsp_master.specs.MasterStands.{LeadStands, GoingStands};
+    ghost use Rattle.tsp_master.specs.MasterStands.{LeadStands, GoingStands, lead_of};
 
     /// Handles a stamp of another peer at a master: a reply that answers an open exchange of the going round
     /// gives a sample. At most one act.
@@ -36,11 +35,9 @@ impl Master {
         requires later { clock.now.at ≤ tick }
         requires room { 1 ≤ D.spare desk.old }
         ensures row { Performs LeadStands LeadStands (samples_of from s.now) tick port
-            (record { master = self.old; station = station.now; clock = clock.now })
-            (record { master = self.new; station = station.now; clock = clock.now })
+            (lead_of self.old station.now clock.now) (lead_of self.new station.now clock.now)
             (D.acts desk.old) (D.acts desk.new) }
-        ensures room { PutsAtMost 1 (D.spare desk.old) (D.spare desk.new) (D.acts desk.old)
-            (D.acts desk.new) }
+        ensures room { UsesAtMost 1 D.spare D.acts desk.old desk.new }
         ensures peers { peers_of self.new.slaves ≡ peers_of self.old.slaves }
     {
         match s {
@@ -68,11 +65,9 @@ impl Master {
         requires room { 1 ≤ D.spare desk.old }
         ensures row { (station : Station) → Performs GoingStands LeadStands (samples peer reply.now)
             tick port
-            (record { master = self.old; station = station; clock = clock.now })
-            (record { master = self.new; station = station; clock = clock.now })
+            (lead_of self.old station clock.now) (lead_of self.new station clock.now)
             (D.acts desk.old) (D.acts desk.new) }
-        ensures room { PutsAtMost 1 (D.spare desk.old) (D.spare desk.new) (D.acts desk.old)
-            (D.acts desk.new) }
+        ensures room { UsesAtMost 1 D.spare D.acts desk.old desk.new }
         ensures peers { peers_of self.new.slaves ≡ peers_of self.old.slaves }
     {
         let target = clock.target(tick);

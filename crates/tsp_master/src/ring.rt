@@ -4,15 +4,12 @@ ghost use Rattle.tsp_base.specs.declared.alarm.Alarm.TheVariants.{Probe as Probe
 ghost use Rattle.tsp_base.specs.declared.constants.TheConstants.{CLOSE, PROBE};
 ghost use Rattle.tsp_base.specs.declared.place.PeerId.{PeerId};
 ghost use Rattle.tsp_base.specs.Alarms.{deadline};
-ghost use Rattle.tsp_base.specs.History.{Past};
-ghost use Rattle.tsp_base.specs.Frames.{IsTick, PutsAtMost};
-ghost use Rattle.tsp_base.specs.Performs.{Performs};
 ghost use Rattle.tsp_base.specs.RoundFacts.{Sampled, best};
 ghost use Rattle.tsp_base.specs.Rows.{◌followed_by◌, arms};
 ghost use Rattle.tsp_rules.specs.RoundRows.{arms_next, corrects, round_begins, round_rings, probe_rings};
 ghost use Rattle.tsp_rules.specs.Guards.{is_over};
 ghost use Rattle.tsp_measure.specs.Measures.{begun};
-ghost use Rattle.tsp_acks.specs.Changes.{IsSamePort};
+ghost use Rattle.tsp_acks.specs.Calls.{IsTick, Past, Performs, UsesAtMost, IsSamePort};
 ghost use Rattle.tsp_clock.specs.Clocks.{ClockValue};
 ghost use Rattle.tsp_master.specs.MasterAlarms.{master_rings};
 ghost use Rattle.tsp_master.specs.MasterStands.{IsLeftAlone, IsSinceCorrect};
@@ -30,7 +27,7 @@ use tsp_base::place::Port;
 use tsp_clock::clock::Clock;
 
 impl Master {
-    ghost use Rattle.tsp_master.specs.MasterStands.{LeadStands, ProbesStands, RingStands, StartsStands};
+    ghost use Rattle.tsp_master.specs.MasterStands.{LeadStands, ProbesStands, RingStands, StartsStands, lead_of};
 
     /// Handles one alarm of a round that is due: a Probe asks the measured peers again, a Close closes the
     /// round, and a Round begins one. One that is more than `SLACK` ticks late gives the round up (Probe,
@@ -55,22 +52,17 @@ impl Master {
         requires room { 2 * length (peers_of self.old.slaves) + 4 ≤ D.spare desk.old }
         requires same { peers_of self.old.slaves ≡ station.old.peers }
         ensures row { Performs RingStands RingStands (master_rings group_mean alarm) tick port
-            (record { master = self.old; station = station.old; clock = clock.old })
-            (record { master = self.new; station = station.new; clock = clock.new })
+            (lead_of self.old station.old clock.old) (lead_of self.new station.new clock.new)
             (D.acts desk.old) (D.acts desk.new) }
-        ensures corrects { (past : Past)
-            → RingStands past
-            (record { master = self.old; station = station.old; clock = clock.old })
+        ensures corrects { (past : Past) → RingStands past (lead_of self.old station.old clock.old)
             → result ≡ corrects (master_rings group_mean alarm tick past) }
         ensures recent { alarm ≡ CloseAlarm → (past : Past)
-            → RingStands past
-            (record { master = self.old; station = station.old; clock = clock.old })
-            → IsLeftAlone past.seen
+            → RingStands past (lead_of self.old station.old clock.old) → IsLeftAlone past.seen
             → (p : PeerId) (s : Sampled) → best p past.seen ≡ Some s
             → IsSinceCorrect p s past.seen }
         ensures over { alarm ≡ ProbeAlarm → is_over station.new.alarms.probe tick ≡ false }
-        ensures room { PutsAtMost (2 * length (peers_of self.old.slaves) + 4) (D.spare desk.old)
-            (D.spare desk.new) (D.acts desk.old) (D.acts desk.new) }
+        ensures room { UsesAtMost (2 * length (peers_of self.old.slaves) + 4) D.spare
+            D.acts desk.old desk.new }
         ensures port { IsSamePort station.old station.new }
         ensures peers { peers_of self.new.slaves ≡ peers_of self.old.slaves }
         ensures clock { clock.new.at ≤ tick }
@@ -104,11 +96,10 @@ impl Master {
         requires room { 2 * length (peers_of self.old.slaves) + 4 ≤ D.spare desk.old }
         requires same { peers_of self.old.slaves ≡ station.old.peers }
         ensures row { Performs RingStands LeadStands (round_rings false) tick port
-            (record { master = self.old; station = station.old; clock = clock.now })
-            (record { master = self.new; station = station.new; clock = clock.now })
+            (lead_of self.old station.old clock.now) (lead_of self.new station.new clock.now)
             (D.acts desk.old) (D.acts desk.new) }
-        ensures room { PutsAtMost (2 * length (peers_of self.old.slaves) + 4) (D.spare desk.old)
-            (D.spare desk.new) (D.acts desk.old) (D.acts desk.new) }
+        ensures room { UsesAtMost (2 * length (peers_of self.old.slaves) + 4) D.spare
+            D.acts desk.old desk.new }
         ensures port { IsSamePort station.old station.new }
         ensures peers { peers_of self.new.slaves ≡ peers_of self.old.slaves }
     {
@@ -136,11 +127,10 @@ impl Master {
         requires room { 2 * length (peers_of self.old.slaves) + 3 ≤ D.spare desk.old }
         requires same { peers_of self.old.slaves ≡ station.old.peers }
         ensures row { Performs LeadStands LeadStands round_begins tick port
-            (record { master = self.old; station = station.old; clock = clock.now })
-            (record { master = self.new; station = station.new; clock = clock.now })
+            (lead_of self.old station.old clock.now) (lead_of self.new station.new clock.now)
             (D.acts desk.old) (D.acts desk.new) }
-        ensures room { PutsAtMost (2 * length (peers_of self.old.slaves) + 3) (D.spare desk.old)
-            (D.spare desk.new) (D.acts desk.old) (D.acts desk.new) }
+        ensures room { UsesAtMost (2 * length (peers_of self.old.slaves) + 3) D.spare
+            D.acts desk.old desk.new }
         ensures port { IsSamePort station.old station.new }
         ensures peers { peers_of self.new.slaves ≡ peers_of self.old.slaves }
     {
@@ -157,11 +147,9 @@ impl Master {
         ensures row { (clock : ClockValue)
             → Performs LeadStands StartsStands (arms ProbeAlarm PROBE followed_by arms CloseAlarm
             CLOSE) tick port
-            (record { master = self.old; station = station.old; clock = clock })
-            (record { master = self.new; station = station.new; clock = clock })
+            (lead_of self.old station.old clock) (lead_of self.new station.new clock)
             (D.acts desk.old) (D.acts desk.new) }
-        ensures room { PutsAtMost 2 (D.spare desk.old) (D.spare desk.new) (D.acts desk.old)
-            (D.acts desk.new) }
+        ensures room { UsesAtMost 2 D.spare D.acts desk.old desk.new }
         ensures port { IsSamePort station.old station.new }
         ensures peers { peers_of self.new.slaves ≡ peers_of self.old.slaves }
         ensures probes { self.new.rounds.probes ≡ 0 }
@@ -190,11 +178,10 @@ impl Master {
         requires room { length (peers_of self.old.slaves) + 2 ≤ D.spare desk.old }
         requires same { peers_of self.old.slaves ≡ station.old.peers }
         ensures row { Performs RingStands LeadStands probe_rings tick port
-            (record { master = self.old; station = station.old; clock = clock.now })
-            (record { master = self.new; station = station.new; clock = clock.now })
+            (lead_of self.old station.old clock.now) (lead_of self.new station.new clock.now)
             (D.acts desk.old) (D.acts desk.new) }
-        ensures room { PutsAtMost (length (peers_of self.old.slaves) + 2) (D.spare desk.old)
-            (D.spare desk.new) (D.acts desk.old) (D.acts desk.new) }
+        ensures room { UsesAtMost (length (peers_of self.old.slaves) + 2) D.spare
+            D.acts desk.old desk.new }
         ensures port { IsSamePort station.old station.new }
         ensures peers { peers_of self.new.slaves ≡ peers_of self.old.slaves }
         ensures over { is_over station.new.alarms.probe tick ≡ false }
@@ -218,11 +205,9 @@ impl Master {
         requires off { is_over station.old.alarms.probe tick ≡ false }
         ensures row { (clock : ClockValue)
             → Performs (ProbesStands tick) LeadStands arms_next tick port
-            (record { master = self.now; station = station.old; clock = clock })
-            (record { master = self.now; station = station.new; clock = clock })
+            (lead_of self.now station.old clock) (lead_of self.now station.new clock)
             (D.acts desk.old) (D.acts desk.new) }
-        ensures room { PutsAtMost 1 (D.spare desk.old) (D.spare desk.new) (D.acts desk.old)
-            (D.acts desk.new) }
+        ensures room { UsesAtMost 1 D.spare D.acts desk.old desk.new }
         ensures port { IsSamePort station.old station.new }
         ensures over { is_over station.new.alarms.probe tick ≡ false }
     {

@@ -25,17 +25,13 @@ pub struct Rounds {
 }
 
 impl Model for Rounds {
-    ghost use Rattle.tsp_master.specs.Rounds.{RoundsValue, IsRounds};
+    ghost use Rattle.tsp_master.specs.Rounds.{RoundsValue, IsRounds, rounds_of};
 
     ghost Value = { RoundsValue };
 
-    ghost view = { λ r. record { exchanges = r.exchanges; asked = r.asked; probes = r.probes } };
+    ghost view = { λ r. rounds_of r.exchanges r.asked r.probes };
 
-    ghost invariant = { λ r. IsRounds (record {
-      exchanges = r.exchanges;
-      asked = r.asked;
-      probes = r.probes;
-    }) };
+    ghost invariant = { λ r. IsRounds (rounds_of r.exchanges r.asked r.probes) };
 }
 
 impl Rounds {

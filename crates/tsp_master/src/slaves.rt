@@ -5,10 +5,9 @@ ghost use Rattle.tsp_base.specs.declared.place.PeerId.{PeerId};
 ghost use Rattle.tsp_acks.specs.Peers.{IsPeers};
 ghost use Rattle.tsp_master.specs.declared.entry.Entry.{Entry};
 ghost use Rattle.tsp_master.specs.Slaves.{peers_of, idle_entry, entry_of, Changes, ChangesAll};
-ghost use Rattle.tsp_master.specs.Slaves.{joins, leaves, measures, unmeasures, posts_at, begins_at};
-ghost use Rattle.tsp_master.specs.Slaves.{acks, are_settled_by, IsPlaceOf};
+ghost use Rattle.tsp_master.specs.Slaves.{changed_by, leaves, unmeasures, are_settled_by, IsPlaceOf};
 
-use crate::entry::Entry;
+use crate::entry::{Change, Entry};
 use std::alloc::{AllocError, Global};
 use std::boxed::BoxedSlice;
 use std::marker::Model;
@@ -120,95 +119,15 @@ impl Slaves {
         self.entries[place] = entry;
     }
 
-    /// A peer joins the slaves.
-    pub(crate) fn join(&mut self, peer: PeerId)
+    /// Changes the entry of one of the peers.
+    pub(crate) fn change(&mut self, peer: PeerId, change: Change)
         requires { Contains (peers_of self.old) peer }
-        ensures entries { Changes peer joins self.old self.new }
+        ensures entries { Changes peer (changed_by change) self.old self.new }
         ensures peers { peers_of self.new ≡ peers_of self.old }
     {
         if let Ok(place) = place_of(&self.entries, peer) {
             let entry = self.entries[place];
-            self.put(
-                place,
-                Entry {
-                    joined: true,
-                    ..entry
-                },
-            );
-        }
-    }
-
-    /// The round that begins measures a peer.
-    pub(crate) fn measure(&mut self, peer: PeerId)
-        requires { Contains (peers_of self.old) peer }
-        ensures entries { Changes peer measures self.old self.new }
-        ensures peers { peers_of self.new ≡ peers_of self.old }
-    {
-        if let Ok(place) = place_of(&self.entries, peer) {
-            let entry = self.entries[place];
-            self.put(
-                place,
-                Entry {
-                    measured: true,
-                    ..entry
-                },
-            );
-        }
-    }
-
-    /// A correction was posted to a peer at a tick.
-    pub(crate) fn repeat(&mut self, peer: PeerId, tick: u64)
-        requires { Contains (peers_of self.old) peer }
-        ensures entries { Changes peer (posts_at tick) self.old self.new }
-        ensures peers { peers_of self.new ≡ peers_of self.old }
-    {
-        if let Ok(place) = place_of(&self.entries, peer) {
-            let entry = self.entries[place];
-            self.put(
-                place,
-                Entry {
-                    posted: Some(tick),
-                    ..entry
-                },
-            );
-        }
-    }
-
-    /// A correction with this number began to a peer at a tick.
-    pub(crate) fn begin(&mut self, peer: PeerId, number: u16, tick: u64)
-        requires { Contains (peers_of self.old) peer }
-        ensures entries { Changes peer (begins_at tick number) self.old self.new }
-        ensures peers { peers_of self.new ≡ peers_of self.old }
-    {
-        if let Ok(place) = place_of(&self.entries, peer) {
-            let entry = self.entries[place];
-            self.put(
-                place,
-                Entry {
-                    posted: Some(tick),
-                    number,
-                    acked: false,
-                    ..entry
-                },
-            );
-        }
-    }
-
-    /// A peer acknowledged the last correction.
-    pub(crate) fn ack(&mut self, peer: PeerId)
-        requires { Contains (peers_of self.old) peer }
-        ensures entries { Changes peer acks self.old self.new }
-        ensures peers { peers_of self.new ≡ peers_of self.old }
-    {
-        if let Ok(place) = place_of(&self.entries, peer) {
-            let entry = self.entries[place];
-            self.put(
-                place,
-                Entry {
-                    acked: true,
-                    ..entry
-                },
-            );
+            self.put(place, entry.changed(change));
         }
     }
 

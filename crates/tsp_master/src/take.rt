@@ -1,18 +1,15 @@
 //! What a master does with messages of its peers.
 ghost use Rattle.std.specs.Prelude.{◌≡◌, ℕ, ◌≤◌, ◌&&◌, not, nat_lt};
-ghost use Rattle.std.specs.List.{Contains};
 ghost use Rattle.tsp_base.specs.declared.role.Role.TheVariants.{Master as MasterRole};
-ghost use Rattle.tsp_base.specs.Frames.{IsTick, PutsAtMost};
-ghost use Rattle.tsp_base.specs.Performs.{Performs};
 ghost use Rattle.tsp_base.specs.SendFacts.{is_correction};
 ghost use Rattle.tsp_rules.specs.MasterRows.{joins, sends_away};
 ghost use Rattle.tsp_rules.specs.SendRows.{acknowledges, is_kind_quit};
-ghost use Rattle.tsp_acks.specs.Changes.{IsSamePort};
 ghost use Rattle.tsp_acks.specs.Openings.{is_of};
-ghost use Rattle.tsp_acks.specs.Stands.{StandsActing};
+ghost use Rattle.tsp_acks.specs.Calls.{Contains, IsTick, Performs, UsesAtMost, IsSamePort, StandsActing};
 ghost use Rattle.tsp_master.specs.MasterTakes.{master_takes_here};
 ghost use Rattle.tsp_master.specs.Slaves.{peers_of, entry_of, Changes, acks_where};
 
+use crate::entry::Change;
 use crate::master::Master;
 use tsp_acks::station::Station;
 use tsp_base::act::Act;
@@ -24,7 +21,7 @@ use tsp_base::place::{PeerId, Port};
 use tsp_clock::clock::Clock;
 
 impl Master {
-    ghost use Rattle.tsp_master.specs.MasterStands.{LeadStands, OwnStands};
+    ghost use Rattle.tsp_master.specs.MasterStands.{LeadStands, OwnStands, lead_of};
 
     /// Handles a message of another peer at a master: a MASTERREQ or a RESOLVE is answered by a MASTERACK, a
     /// SLAVEUP makes its sender a slave and sends it the time, and an ELECTION is answered by a QUIT. Other
@@ -46,11 +43,9 @@ impl Master {
         requires peer { Contains station.old.peers from }
         requires role { station.old.role ≡ MasterRole }
         ensures row { Performs LeadStands LeadStands (master_takes_here from m.now) tick port
-            (record { master = self.old; station = station.old; clock = clock.now })
-            (record { master = self.new; station = station.new; clock = clock.now })
+            (lead_of self.old station.old clock.now) (lead_of self.new station.new clock.now)
             (D.acts desk.old) (D.acts desk.new) }
-        ensures room { PutsAtMost 2 (D.spare desk.old) (D.spare desk.new) (D.acts desk.old)
-            (D.acts desk.new) }
+        ensures room { UsesAtMost 2 D.spare D.acts desk.old desk.new }
         ensures port { IsSamePort station.old station.new }
         ensures peers { peers_of self.new.slaves ≡ peers_of self.old.slaves }
     {
@@ -84,17 +79,15 @@ impl Master {
         requires peer { Contains station.old.peers peer }
         requires role { station.old.role ≡ MasterRole }
         ensures row { Performs LeadStands LeadStands (joins peer number) at.tick at.port
-            (record { master = self.old; station = station.old; clock = clock.now })
-            (record { master = self.new; station = station.new; clock = clock.now })
+            (lead_of self.old station.old clock.now) (lead_of self.new station.new clock.now)
             (D.acts desk.old) (D.acts desk.new) }
-        ensures room { PutsAtMost 2 (D.spare desk.old) (D.spare desk.new) (D.acts desk.old)
-            (D.acts desk.new) }
+        ensures room { UsesAtMost 2 D.spare D.acts desk.old desk.new }
         ensures port { IsSamePort station.old station.new }
         ensures peers { peers_of self.new.slaves ≡ peers_of self.old.slaves }
     {
         if self.may_join(peer, number) {
             desk.put(at.port, Act::Join(peer));
-            self.slaves.join(peer);
+            self.slaves.change(peer, Change::Join);
             self.begin_settime(station, clock, at, peer, number, desk);
         }
     }
@@ -123,8 +116,7 @@ impl Master {
             (record { master = self.old; station = station.old })
             (record { master = self.new; station = station.new })
             (D.acts desk.old) (D.acts desk.new) }
-        ensures room { PutsAtMost 1 (D.spare desk.old) (D.spare desk.new) (D.acts desk.old)
-            (D.acts desk.new) }
+        ensures room { UsesAtMost 1 D.spare D.acts desk.old desk.new }
         ensures port { IsSamePort station.old station.new }
         ensures peers { peers_of self.new.slaves ≡ peers_of self.old.slaves }
     {
@@ -142,7 +134,7 @@ impl Master {
         ensures rounds { self.new.rounds ≡ self.old.rounds }
     {
         if ended && corrects {
-            self.slaves.ack(peer);
+            self.slaves.change(peer, Change::Acknowledge);
         }
     }
 }
@@ -154,8 +146,7 @@ fn send_away<D: Desk>(station: &mut Station, tick: u64, peer: PeerId, port: Port
     requires peer { Contains station.old.peers peer }
     ensures row { Performs StandsActing StandsActing (sends_away peer) tick port station.old
         station.new (D.acts desk.old) (D.acts desk.new) }
-    ensures room { PutsAtMost 1 (D.spare desk.old) (D.spare desk.new) (D.acts desk.old)
-        (D.acts desk.new) }
+    ensures room { UsesAtMost 1 D.spare D.acts desk.old desk.new }
     ensures port { IsSamePort station.old station.new }
 {
     if !is_quit(station.sends.kind(peer)) {

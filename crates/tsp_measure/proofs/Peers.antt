@@ -1,9 +1,9 @@
 -- Lemmas on what is measured with a peer.
-use Rattle.std.proofs.Common.{◌≡◌, ◌∙◌, refl, ap, sym, subst, ℕ, zero, suc, ◌<◌, ◌≤◌, ◌==◌, cond, Bool, true, false, List, [], ◌∷◌, length, get_or, set, take, arith, MatchResult, MatchOption, Result, Ok, Err, inl, inr, ◌⊎◌}
+use Rattle.std.proofs.Common.{◌≡◌, ◌∙◌, refl, ap, sym, ℕ, zero, suc, ◌<◌, ◌≤◌, ◌==◌, cond, Bool, true, false, List, [], ◌∷◌, ◌++◌, length, get_or, set, arith, MatchResult, MatchOption, Result, Ok, Err, inl, inr, ◌⊎◌}
 use Rattle.std.proofs.lemmas.Bool.Decides.{nat_tests}
-use Rattle.std.proofs.lemmas.List.Elements.{All-head, All-tail, All-from_get_or, All-contains}
+use Rattle.std.proofs.lemmas.List.Elements.{All-from_get_or, All-contains}
 use Rattle.std.proofs.lemmas.Bool.{cases_lt}
-use Rattle.std.proofs.lemmas.List.{get_or-set_same, get_or-take, length-take}
+use Rattle.std.proofs.lemmas.List.{get_or-set_same}
 use Rattle.std.proofs.Math.ListN.{length-set}
 use Rattle.std.specs.List.{All, Contains}
 use Rattle.std.specs.Result.{result_ok}
@@ -20,12 +20,13 @@ other_test : (q p : ℕ) → (q ≡ p → ⊥) → (q == p) ≡ false
 other_test q p e = grind (arith, nat_tests)
 
 -- the peer at a place
-pub at_peer-found : (peers : List ℕ) (measured : List Measured) (p i : ℕ) (d : Measured) → IsAscending peers → length measured ≡ length peers → i < length peers → get_or peers i 0 ≡ p → at_peer peers measured p ≡ get_or measured i d
+pub at_peer-found : (peers : List ℕ) (measured : List Measured) (p i : ℕ) (d : Measured) → IsAscending peers → length measured ≤ length peers → i < length measured → get_or peers i 0 ≡ p → at_peer peers measured p ≡ get_or measured i d
 at_peer-found [] measured p i d up e h k = absurd (omega arith)
 at_peer-found (q ∷ peers) [] p i d up e h k = absurd (omega arith)
 at_peer-found (q ∷ peers) (m ∷ measured) p zero d up e h k = rw (same_test q p k) refl
 at_peer-found (q ∷ peers) (m ∷ measured) p (suc i) d up e h k =
-    let lt : q < get_or peers i 0 = up 0 (suc i) (omega arith) h in
+    let inside : suc i < length (q ∷ peers) = omega arith in
+    let lt : q < get_or peers i 0 = up 0 (suc i) (omega arith) inside in
     rw (other_test q p (λ w. omega (arith, lt, k, w))) (at_peer-found peers measured p i d (ascending_tail q peers up) (omega arith) (omega arith) k)
 
 -- what is put at one peer's place leaves the others
@@ -47,10 +48,24 @@ either_way true x y z e f = e
 either_way false x y z e f = f
 
 -- nothing is measured with any peer
-pub at_peer-nothing : (peers : List ℕ) (measured : List Measured) (p : ℕ) → All (λ (m : Measured). m ≡ nothing_measured) measured → at_peer peers measured p ≡ nothing_measured
-at_peer-nothing [] measured p all = refl
-at_peer-nothing (q ∷ peers) [] p all = refl
-at_peer-nothing (q ∷ peers) (m ∷ measured) p all = either_way (q == p) m (at_peer peers measured p) nothing_measured (All-head (λ (m : Measured). m ≡ nothing_measured) m measured all) (at_peer-nothing peers measured p (All-tail (λ (m : Measured). m ≡ nothing_measured) m measured all))
+pub at_peer-nothing : (peers : List ℕ) (p : ℕ) → at_peer peers [] p ≡ nothing_measured
+at_peer-nothing [] p = refl
+at_peer-nothing (q ∷ peers) p = refl
+
+-- one place more, with which nothing is measured
+pub at_peer-more : (peers : List ℕ) (measured : List Measured) (p : ℕ) → at_peer peers (measured ++ nothing_measured ∷ []) p ≡ at_peer peers measured p
+at_peer-more [] measured p = refl
+at_peer-more (q ∷ peers) [] p = either_way (q == p) nothing_measured (at_peer peers [] p) nothing_measured refl (at_peer-nothing peers p)
+at_peer-more (q ∷ peers) (m ∷ measured) p = ap (λ (y : Measured). cond (q == p) m y) (at_peer-more peers measured p)
+
+-- a peer whose place is past the list's end
+pub at_peer-past : (peers : List ℕ) (measured : List Measured) (p i : ℕ) → IsAscending peers → length measured ≤ i → i < length peers → get_or peers i 0 ≡ p → at_peer peers measured p ≡ nothing_measured
+at_peer-past [] measured p i up e h k = refl
+at_peer-past (q ∷ peers) [] p i up e h k = refl
+at_peer-past (q ∷ peers) (m ∷ measured) p zero up e h k = absurd (omega arith)
+at_peer-past (q ∷ peers) (m ∷ measured) p (suc i) up e h k =
+    let lt : q < get_or peers i 0 = up 0 (suc i) (omega arith) h in
+    rw (other_test q p (λ w. omega (arith, lt, k, w))) (at_peer-past peers measured p i (ascending_tail q peers up) (omega arith) (omega arith) k)
 
 misses_by : (xs : List ℕ) (x i k : ℕ) → ((k : ℕ) → k < i → get_or xs k 0 < x) → ((k : ℕ) → i ≤ k → k < length xs → x < get_or xs k 0) → k < length xs → (k < i) ⊎ (i ≤ k) → get_or xs k 0 ≡ x → ⊥
 misses_by xs x i k low high h (inl lt) e = let a = low k lt in omega arith
@@ -73,14 +88,7 @@ pub rising : (xs : List ℕ) → IsAscending xs → (i j : ℕ) → i ≤ j → 
 rising xs up i j le h = rising_by xs up i j le h (cases_lt i j)
 
 -- what is put at a peer's place is what is measured with it
-pub at_peer-put : (peers : List ℕ) (measured : List Measured) (p i : ℕ) (m : Measured) → IsAscending peers → length measured ≡ length peers → i < length peers → get_or peers i 0 ≡ p → at_peer peers (set measured i m) p ≡ m
+pub at_peer-put : (peers : List ℕ) (measured : List Measured) (p i : ℕ) (m : Measured) → IsAscending peers → length measured ≤ length peers → i < length measured → get_or peers i 0 ≡ p → at_peer peers (set measured i m) p ≡ m
 at_peer-put peers measured p i m up e h k =
-    let long : length (set measured i m) ≡ length peers = length-set measured i m ∙ e in
-    at_peer-found peers (set measured i m) p i m up long h k ∙ get_or-set_same measured i m m (omega arith)
-
--- what holds of all that was taken holds of the list, where all of it was
-pub all_taken : (P : Measured → Type 0) (n : ℕ) (measured : List Measured) → length measured ≤ n → All P (take n measured) → All P measured
-all_taken P n measured h all k d lt =
-    let m : k < n = omega arith in
-    let e : get_or (take n measured) k d ≡ get_or measured k d = get_or-take n measured k d m in
-    subst P e (all k d (omega (arith, length-take n measured)))
+    let long : length (set measured i m) ≡ length measured = length-set measured i m in
+    at_peer-found peers (set measured i m) p i m up (omega arith) (omega arith) k ∙ get_or-set_same measured i m m h

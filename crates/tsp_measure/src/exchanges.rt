@@ -16,14 +16,17 @@ use std::marker::Model;
 use tsp_base::place::PeerId;
 
 /// The exchanges with each peer, at most four since the last `clear`, and their samples.
+///
+/// The list of what is measured has room for all peers, but ends with the last one with whom an exchange began:
+/// a node that measures nobody never touches its memory.
 #[derive(Drop)]
 pub struct Exchanges {
     peers: BoxedSlice<u32>,
-    measured: BoxedSlice<PeerExchanges>,
+    measured: Vec<PeerExchanges>,
 }
 
 impl Model for Exchanges {
-    ghost use Rattle.std.specs.Prelude.{◌≡◌, length};
+    ghost use Rattle.std.specs.Prelude.{◌≤◌, length, vec_capacity};
     ghost use Rattle.std.specs.Box.{boxed_slice_items};
     ghost use Rattle.tsp_measure.specs.Peers.{MeasuredPeers, IsAscending};
 
@@ -31,11 +34,12 @@ impl Model for Exchanges {
 
     ghost view = { λ e. record {
       peers = boxed_slice_items e.peers;
-      measured = boxed_slice_items e.measured;
+      measured = e.measured.items;
     } };
 
     ghost invariant = { λ e. IsAscending (boxed_slice_items e.peers)
-        × (length (boxed_slice_items e.measured) ≡ length (boxed_slice_items e.peers)) };
+        × ((length e.measured.items ≤ length (boxed_slice_items e.peers))
+        × (length (boxed_slice_items e.peers) ≤ vec_capacity e.measured)) };
 }
 
 /// The peers' numbers.
@@ -64,13 +68,10 @@ impl Exchanges {
         ensures nothing { IfOk result (λ x. (p : ℕ) → with_peer x p ≡ nothing_measured) }
     {
         let numbers = numbers_of(alloc, peers)?;
-        let mut measured = Vec::with_capacity(alloc, peers.len())?;
-        for _peer in peers {
-            measured.push(PeerExchanges::new())?;
-        }
+        let measured = Vec::with_capacity(alloc, peers.len())?;
         Ok(Exchanges {
             peers: numbers,
-            measured: measured.into_boxed_slice(),
+            measured,
         })
     }
 
@@ -92,8 +93,48 @@ impl Exchanges {
         ensures others { (q : ℕ) → q ≢ peer.0 → with_peer self.new q ≡ with_peer self.old q }
     {
         match place_of(self.peers.as_slice(), peer.0) {
-            Some(place) => self.measured[place].start(Exchange { word, counter, a }),
+            Some(place) => {
+                self.lengthen(place);
+                self.measured[place].start(Exchange { word, counter, a });
+            }
             None => unreachable!(),
+        }
+    }
+
+    /// Lengthens the list of what is measured, so that it has a peer's place.
+    fn lengthen(&mut self, place: usize)
+        requires { place < length self.old.peers }
+        ensures peers { self.new.peers ≡ self.old.peers }
+        ensures same { (p : ℕ) → with_peer self.new p ≡ with_peer self.old p }
+        ensures long { place < length self.new.measured }
+    {
+        for next in self.measured.len()..place + 1 {
+            self.add();
+        }
+    }
+
+    /// Adds the place of the next peer, with whom nothing is measured.
+    fn add(&mut self)
+        requires { length self.old.measured < length self.old.peers }
+        ensures { self.new ≡ record self.old { measured = self.old.measured ++ nothing_measured ∷ [] } }
+    {
+        self.measured.push_reserved(PeerExchanges::new());
+    }
+
+    /// The place of a peer in the list of what is measured; None where nothing is measured with it.
+    fn measured_place(&self, peer: PeerId) -> Option<usize>
+        ensures { MatchOption result (with_peer self.now peer.0 ≡ nothing_measured)
+            (λ i. (i < length self.now.measured) × (slice_index self.now.peers i ≡ peer.0)) }
+    {
+        match place_of(self.peers.as_slice(), peer.0) {
+            None => None,
+            Some(place) => {
+                if place < self.measured.len() {
+                    Some(place)
+                } else {
+                    None
+                }
+            }
         }
     }
 
@@ -118,7 +159,7 @@ impl Exchanges {
             (with_peer self.new peer.0) result }
         ensures others { (q : ℕ) → q ≢ peer.0 → with_peer self.new q ≡ with_peer self.old q }
     {
-        match place_of(self.peers.as_slice(), peer.0) {
+        match self.measured_place(peer) {
             Some(place) => self.measured[place].reply(word, counter, ticket, s, d),
             None => Reply::NotStarted,
         }
@@ -131,7 +172,7 @@ impl Exchanges {
         ensures first { IsBestOf (with_peer self.now peer.0).samples
             (best_of (with_peer self.now peer.0).samples) }
     {
-        match place_of(self.peers.as_slice(), peer.0) {
+        match self.measured_place(peer) {
             Some(place) => self.measured[place].best(),
             None => None,
         }
@@ -142,8 +183,6 @@ impl Exchanges {
         ensures peers { self.new.peers ≡ self.old.peers }
         ensures nothing { (p : ℕ) → with_peer self.new p ≡ nothing_measured }
     {
-        for measured in self.measured.iter_mut() {
-            measured.clear();
-        }
+        self.measured.clear();
     }
 }

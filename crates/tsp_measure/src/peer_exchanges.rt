@@ -87,12 +87,4 @@ impl PeerExchanges {
         }
         best.map(|taken| taken.sample)
     }
-
-    /// Forgets the exchanges and their samples.
-    pub(crate) fn clear(&mut self)
-        ensures { self.new ≡ nothing_measured }
-    {
-        self.pending.clear();
-        self.samples.clear();
-    }
 }

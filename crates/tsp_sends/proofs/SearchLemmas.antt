@@ -9,7 +9,7 @@ use Rattle.std.proofs.lemmas.Bool.Decides.{nat_tests}
 use Rattle.std.proofs.lemmas.List.{length-map, get_or-map}
 use Rattle.tsp_base.specs.declared.place.PeerId.{PeerId}
 use Rattle.tsp_sends.specs.declared.slot.Slot.{Slot}
-use Rattle.tsp_sends.specs.Slots.{peers_of, sending_to}
+use Rattle.tsp_sends.specs.Slots.{peers_of, empty_slot, sending_to}
 use Rattle.tsp_sends.specs.Repeating.{IsPlaceOf, IsFirstAfter}
 use Rattle.tsp_sends.proofs.SlotLemmas.{Rise, sending_to-absent}
 
@@ -32,12 +32,28 @@ never_falls slots r i j d l h = elim (cases_lt i j) [
   | inr above ↦ let e : i ≡ j = omega arith in rw e (omega arith)
 ]
 
+-- the peer of a slot
+peer_at : (slots : List Slot) (k : ℕ) (d : Slot) → k < length slots → (get_or (peers_of slots) k d.peer).0 ≡ (get_or slots k d).peer.0
+peer_at slots k d h = ap (λ (q : PeerId). q.0) (get_or-map (λ (s : Slot). s.peer) slots k d d.peer h)
+
+-- the slot that stands where a peer does
+slot_at : (slots : List Slot) (k : ℕ) (q : PeerId) → k < length slots → (get_or slots k (empty_slot q)).peer.0 ≡ (get_or (peers_of slots) k q).0
+slot_at slots k q h = sym (peer_at slots k (empty_slot q) h)
+
 -- what a binary search by the peers' numbers finds
-pub IsPlaceOf-searched : (slots : List Slot) (p : PeerId) (r : Result ℕ ℕ) → Rise slots → IsSearchInRange r (length slots) → IsBinarySearchResult (λ s. nat_cmp s.peer.0 p.0) slots r → IsPlaceOf p slots r
-IsPlaceOf-searched slots p (Ok i) rise bound found = (bound, λ d. equal_means (get_or slots i d).peer.0 p.0 (found d))
+pub IsPlaceOf-searched : (slots : List Slot) (p : PeerId) (r : Result ℕ ℕ) → Rise slots → IsSearchInRange r (length (peers_of slots)) → IsBinarySearchResult (λ (q : PeerId). nat_cmp q.0 p.0) (peers_of slots) r → IsPlaceOf p slots r
+IsPlaceOf-searched slots p (Ok i) rise bound found =
+    let many = length-map slots (λ (s : Slot). s.peer) in
+    let inside : i < length slots = omega (arith, many, bound) in
+    (inside, λ d. sym (peer_at slots i d inside) ∙ equal_means (get_or (peers_of slots) i d.peer).0 p.0 (found d.peer))
 IsPlaceOf-searched slots p (Err i) rise bound found =
-    let parted = found (λ a b d l h. index_rises (get_or slots a d).peer.0 (get_or slots b d).peer.0 p.0 (never_falls slots rise a b d l h)) in
-    (bound, λ k d l. less_means (get_or slots k d).peer.0 p.0 (parted.0 k d (omega arith) l), λ k d l h. greater_means (get_or slots k d).peer.0 p.0 (parted.1 k d l h))
+    let many = length-map slots (λ (s : Slot). s.peer) in
+    let parted = found (λ a b q l h. index_rises (get_or (peers_of slots) a q).0 (get_or (peers_of slots) b q).0 p.0
+    (omega (arith, never_falls slots rise a b (empty_slot q) l (omega (arith, many, h)), slot_at slots a q (omega (arith, many, h, l)), slot_at slots b q (omega (arith, many, h))))) in (
+      omega (arith, many, bound),
+      λ k d l. omega (arith, peer_at slots k d (omega (arith, many, bound)), less_means (get_or (peers_of slots) k d.peer).0 p.0 (parted.0 k d.peer (omega (arith, many, bound)) l)),
+      λ k d l h. omega (arith, peer_at slots k d h, greater_means (get_or (peers_of slots) k d.peer).0 p.0 (parted.1 k d.peer l (omega (arith, many)))),
+    )
 
 no_slot : (slots : List Slot) (p : PeerId) (i : ℕ) → IsPlaceOf p slots (Err i) → (k : ℕ) (d : Slot) → k < length slots → (get_or slots k d).peer.0 ≢ p.0
 no_slot slots p i place k d h = λ e. elim (cases_lt k i) [

@@ -20,6 +20,13 @@ IsSends-set slots deadlines new_deadlines i d new s inside peer e = record {
   deadlines_are = e ∙ ap (λ ds. set ds i (deadline_in new)) s.deadlines_are ∙ sym (map-set deadline_in slots i new);
 }
 
+-- a slot is changed, and the tree gets the deadline that it then has
+pub IsSends-fill : (slots new : List Slot) (deadlines new_deadlines : List (Option ℕ)) (i : ℕ) (d slot : Slot) (at : Option ℕ) → IsSends slots deadlines → i < length slots → new ≡ set slots i slot → slot.peer ≡ (get_or slots i d).peer
+    → at ≡ deadline_in (get_or new i d) → new_deadlines ≡ set deadlines i at → IsSends new new_deadlines
+IsSends-fill slots new deadlines new_deadlines i d slot at s inside put peer has tree =
+    let here : get_or new i d ≡ slot = ap (λ ss. get_or ss i d) put ∙ get_or-set_same slots i slot d inside in
+    rw put (IsSends-set slots deadlines new_deadlines i d slot s inside peer (tree ∙ ap (set deadlines i) (has ∙ ap deadline_in here)))
+
 -- the deadline of a place is that of its slot
 pub deadline_at-slot : (slots : List Slot) (i : ℕ) (d : Slot) → i < length slots → deadline_at (map deadline_in slots) i ≡ deadline_in (get_or slots i d)
 deadline_at-slot slots i d h = get_or-map deadline_in slots i d None h
@@ -87,6 +94,14 @@ RepeatsNext-found after tick slots deadlines from i d new r s f found peer sendi
       rw (← keeps) (SetsOnly-set slots i d (get_or slots i d).peer new rise inside refl (ap (λ (q : PeerId). q.0) peer)),
     )
 
+-- the same, as it is told of any default
+pub RepeatsNext-put : (after : Option PeerId) (tick : ℕ) (slots new : List Slot) (deadlines : List (Option ℕ)) (from i : ℕ) (r : Option Due) → IsSends slots deadlines → IsFirstAfter after slots from → IsFirstDueAt from tick deadlines i
+    → ((d : Slot) → r ≡ option_map (repeated (get_or slots i d).peer tick) (get_or slots i d).sending) → ((d : Slot) → new ≡ set slots i (record (get_or slots i d) { sending = option_and_then (kept tick) (get_or slots i d).sending }))
+    → RepeatsNext after tick slots new r
+RepeatsNext-put after tick slots new deadlines from i r s f found due put =
+    let d : Slot = empty_slot (record { 0 = 0 }) in
+    rw (put d) (RepeatsNext-found after tick slots deadlines from i d (record (get_or slots i d) { sending = option_and_then (kept tick) (get_or slots i d).sending }) r s f found refl refl (due d))
+
 -- the tree's least deadline is that of an open send
 pub IsEarliest-least : (slots : List Slot) (deadlines : List (Option ℕ)) (r : Option ℕ) → IsSends slots deadlines → IsLeast deadlines r → IsEarliest (sending_to slots) r
 IsEarliest-least slots deadlines None s least = λ p. none_open p (sending_to slots p) refl where
@@ -118,8 +133,8 @@ IsEarliest-least slots deadlines (Some t) s least =
       has_deadline (Some x) t e = (x, refl, cc)
 
 -- a slot that was found has the open send
-pub sending_found : (slots : List Slot) (p : PeerId) (i : ℕ) (d : Slot) → IsAscending (peers_of slots) → IsPlaceOf p slots (Ok i) → d ≡ get_or slots i d → sending_to slots p ≡ d.sending
-sending_found slots p i d up place e = sending_to-at slots i d p (Rise-ascending slots up) place.0 (place.1 d) ∙ ap (λ (s : Slot). s.sending) (sym e)
+pub sending_found : (slots : List Slot) (p : PeerId) (i : ℕ) (d : Slot) → IsAscending (peers_of slots) → IsPlaceOf p slots (Ok i) → sending_to slots p ≡ (get_or slots i d).sending
+sending_found slots p i d up place = sending_to-at slots i d p (Rise-ascending slots up) place.0 (place.1 d)
 
 -- a slot that was found gets another send
 pub SetsOnly-fill : (slots new : List Slot) (p : PeerId) (i : ℕ) (o : Option Sending) → IsAscending (peers_of slots) → IsPlaceOf p slots (Ok i) → ((d : Slot) → new ≡ set slots i (record (get_or slots i d) { sending = o })) → SetsOnly p o slots new

@@ -1,4 +1,5 @@
 pub mod Deadlines
+pub mod Held
 pub mod Repeating
 pub mod Slots
 pub mod Trees

@@ -20,6 +20,7 @@ mod due;
 mod sending;
 mod sends;
 mod slot;
+mod slots;
 mod store;
 mod tree;
 

@@ -1,17 +1,16 @@
 //! The open sends of a port.
-ghost use Rattle.std.specs.Prelude.{◌≡◌, ◌^◌, ◌≤◌, ◌<◌, length, map, slice_index_or, slice_set, true, MatchBool, IfOk};
+ghost use Rattle.std.specs.Prelude.{◌≡◌, ◌^◌, ◌≤◌, ◌<◌, length, slice_index_or, slice_set, true, MatchBool, IfOk};
 ghost use Rattle.std.specs.List.{Contains};
 ghost use Rattle.tsp_base.specs.declared.place.PeerId.{PeerId};
 ghost use Rattle.tsp_sends.specs.declared.slot.Slot.{Slot};
-ghost use Rattle.tsp_sends.specs.Slots.{IsAscending, peers_of, empty_slot, sending_to, kind_of, has_number, SetsOnly};
-ghost use Rattle.tsp_sends.specs.Repeating.{RepeatsNext, IsEarliest, IsPlaceOf, IsFirstAfter};
+ghost use Rattle.tsp_sends.specs.Slots.{IsAscending, peers_of, sending_to, kind_of, has_number, SetsOnly};
+ghost use Rattle.tsp_sends.specs.Repeating.{RepeatsNext, IsEarliest};
 
 use crate::due::Due;
 use crate::sending::Sending;
-use crate::slot::Slot;
+use crate::slots::Slots;
 use crate::tree::Tree;
 use std::alloc::{AllocError, Global};
-use std::boxed::BoxedSlice;
 use std::marker::Model;
 use tsp_base::kind::Kind;
 use tsp_base::message::Message;
@@ -22,21 +21,20 @@ use tsp_base::place::PeerId;
 /// A tree has the deadlines of the slots, so that a due send is found without a look at each slot.
 #[derive(Drop)]
 pub struct Sends {
-    slots: BoxedSlice<Slot>,
+    slots: Slots,
     tree: Tree,
 }
 
 impl Model for Sends {
     ghost use Rattle.std.specs.Prelude.{List};
-    ghost use Rattle.std.specs.Box.{boxed_slice_items};
     ghost use Rattle.tsp_sends.specs.declared.slot.Slot.{Slot};
     ghost use Rattle.tsp_sends.specs.Slots.{IsSends};
 
     ghost Value = { List Slot };
 
-    ghost view = { λ s. boxed_slice_items s.slots };
+    ghost view = { λ s. s.slots };
 
-    ghost invariant = { λ s. IsSends (boxed_slice_items s.slots) s.tree.deadlines };
+    ghost invariant = { λ s. IsSends s.slots s.tree.deadlines };
 }
 
 impl Sends {
@@ -49,11 +47,8 @@ impl Sends {
         ensures sends { IfOk result (λ s. (p : PeerId) → sending_to s p ≡ None) }
     {
         let tree = Tree::new(alloc, peers.len())?;
-        let slots = empty_slots(alloc, peers)?;
-        Ok(Sends {
-            slots: slots.into_boxed_slice(),
-            tree,
-        })
+        let slots = Slots::new(alloc, peers)?;
+        Ok(Sends { slots, tree })
     }
 
     /// Begins a send to one of the peers at a tick: its first post. It replaces the open one.
@@ -64,7 +59,7 @@ impl Sends {
             self.old self.new }
         ensures peers { peers_of self.new ≡ peers_of self.old }
     {
-        if let Ok(place) = place_of(&self.slots, peer) {
+        if let Ok(place) = self.slots.place_of(peer) {
             self.fill(place, Some(Sending::begin(m, tick)));
         }
     }
@@ -73,8 +68,8 @@ impl Sends {
     pub fn kind(&self, peer: PeerId) -> Option<Kind>
         ensures { result ≡ kind_of (sending_to self.now peer) }
     {
-        match place_of(&self.slots, peer) {
-            Ok(place) => self.slots[place].kind(),
+        match self.slots.place_of(peer) {
+            Ok(place) => self.slots.kind(place),
             Err(_) => None,
         }
     }
@@ -86,10 +81,10 @@ impl Sends {
             (self.new ≡ self.old) }
         ensures peers { peers_of self.new ≡ peers_of self.old }
     {
-        let Ok(place) = place_of(&self.slots, peer) else {
+        let Ok(place) = self.slots.place_of(peer) else {
             return false;
         };
-        let ends = self.slots[place].has_number(number);
+        let ends = self.slots.has_number(place, number);
         if ends {
             self.fill(place, None);
         }
@@ -102,11 +97,10 @@ impl Sends {
         ensures sends { RepeatsNext after tick self.old self.new result }
         ensures peers { peers_of self.new ≡ peers_of self.old }
     {
-        let from = place_after(&self.slots, after);
+        let from = self.slots.place_after(after);
         let place = self.tree.first_due(from, tick)?;
-        let slot = &mut self.slots[place];
-        let due = slot.repeat(tick);
-        let at = slot.deadline();
+        let due = self.slots.repeat(place, tick);
+        let at = self.slots.deadline(place);
         self.tree.put(place, at);
         due
     }
@@ -124,7 +118,20 @@ impl Sends {
         ensures peers { peers_of self.new ≡ peers_of self.old }
     {
         for place in 0..self.slots.len() {
-            self.fill(place, None);
+            self.end(place);
+        }
+    }
+
+    /// Ends the open send in a slot, if there is one.
+    fn end(&mut self, place: usize)
+        requires { place < length self.old }
+        ensures { (d : Slot)
+            → self.new ≡ slice_set self.old place (record (slice_index_or self.old place d)
+            { sending = None }) }
+    {
+        match self.slots.kind(place) {
+            None => {}
+            Some(_) => self.fill(place, None),
         }
     }
 
@@ -135,38 +142,8 @@ impl Sends {
             → self.new ≡ slice_set self.old place (record (slice_index_or self.old place d)
             { sending = sending }) }
     {
-        let slot = &mut self.slots[place];
-        slot.sending = sending;
-        let at = slot.deadline();
+        self.slots.set(place, sending);
+        let at = self.slots.deadline(place);
         self.tree.put(place, at);
-    }
-}
-
-/// A slot for each peer, without sends.
-fn empty_slots(alloc: Global, peers: &[PeerId]) -> Result<Vec<Slot>, AllocError>
-    ensures { IfOk result (λ v. v.items ≡ map empty_slot peers.now) }
-{
-    peers.iter().map(|peer| Slot::new(*peer)).collect(alloc)
-}
-
-/// The place of a peer's slot, or as an error the place where it would be.
-fn place_of(slots: &[Slot], peer: PeerId) -> Result<usize, usize>
-    requires { IsAscending (peers_of slots.now) }
-    ensures { IsPlaceOf peer slots.now result }
-{
-    slots.binary_search_by_key(&peer.0, |slot| slot.peer.0)
-}
-
-/// The place of the first slot whose peer comes after this one; without one, of the first slot.
-fn place_after(slots: &[Slot], after: Option<PeerId>) -> usize
-    requires { IsAscending (peers_of slots.now) }
-    ensures { IsFirstAfter after slots.now result }
-{
-    match after {
-        None => 0,
-        Some(peer) => match place_of(slots, peer) {
-            Ok(place) => place + 1,
-            Err(place) => place,
-        },
     }
 }

@@ -40,6 +40,10 @@ pub record SlaveState : Type 0 where
   pub clock : ClockValue
   pub took : Option Received
 
+-- these four
+abbrev pub slave : Station → LastValue → ClockValue → Option Received → SlaveState
+slave station last clock took = record { station = station; last = last; clock = clock; took = took }
+
 -- each of these is what the past comes to
 pub record SlaveStands (past : Past) (state : SlaveState) : Type 0 where
   pub station : Stands past state.station

@@ -1,6 +1,6 @@
 //! What a correction asks of the clock.
 ghost use Rattle.std.specs.Prelude.{◌≡◌, ◌≤◌, ◌+ℤ◌};
-ghost use Rattle.tsp_base.specs.Frames.{IsTick};
+ghost use Rattle.tsp_acks.specs.Calls.{IsTick};
 ghost use Rattle.tsp_rules.specs.Guards.{is_clock_value};
 ghost use Rattle.tsp_slave.specs.ClockChanges.{change_in, fits};
 

@@ -1,11 +1,7 @@
 //! How a follower tells its master of another one.
 ghost use Rattle.std.specs.Prelude.{◌≤◌};
-ghost use Rattle.std.specs.List.{Contains};
-ghost use Rattle.tsp_base.specs.Frames.{IsTick, PutsAtMost};
-ghost use Rattle.tsp_base.specs.Performs.{Performs};
 ghost use Rattle.tsp_rules.specs.SlaveRows.{reports_conflict};
-ghost use Rattle.tsp_acks.specs.Changes.{IsSamePort};
-ghost use Rattle.tsp_acks.specs.Stands.{StandsActing};
+ghost use Rattle.tsp_acks.specs.Calls.{Contains, IsTick, Performs, UsesAtMost, IsSamePort, StandsActing};
 
 use tsp_acks::station::Station;
 use tsp_base::desk::Desk;
@@ -26,8 +22,7 @@ pub(crate) fn report_conflict<D: Desk>(
     requires peer { Contains station.old.peers master }
     ensures row { Performs StandsActing StandsActing (reports_conflict master) tick port
         station.old station.new (D.acts desk.old) (D.acts desk.new) }
-    ensures room { PutsAtMost 1 (D.spare desk.old) (D.spare desk.new) (D.acts desk.old)
-        (D.acts desk.new) }
+    ensures room { UsesAtMost 1 D.spare D.acts desk.old desk.new }
     ensures port { IsSamePort station.old station.new }
 {
     match station.sends.kind(master) {

@@ -1,19 +1,16 @@
 //! A follower's corrections: each acts once, and its repeats are only acknowledged.
 ghost use Rattle.std.specs.Prelude.{◌≡◌, ℕ, ◌==◌, ◌&&◌, ◌≤◌, true, Option, Some};
 ghost use Rattle.tsp_base.specs.declared.constants.TheConstants.{GAP};
-ghost use Rattle.tsp_base.specs.Frames.{IsTick, PutsAtMost, PutsExactly};
 ghost use Rattle.tsp_base.specs.Hold.{is_past};
-ghost use Rattle.tsp_base.specs.Performs.{Performs};
-ghost use Rattle.tsp_base.specs.PortFacts.{Received, said};
+ghost use Rattle.tsp_base.specs.PortFacts.{said};
 ghost use Rattle.tsp_base.specs.SendFacts.{correcting_of};
 ghost use Rattle.tsp_rules.specs.SlaveRows.{confirms, acks_repeat};
 ghost use Rattle.tsp_acks.specs.declared.station.Station.{Station};
-ghost use Rattle.tsp_acks.specs.Changes.{IsSamePort};
-ghost use Rattle.tsp_acks.specs.Stands.{Stands};
+ghost use Rattle.tsp_acks.specs.Calls.{IsTick, Received, Performs, Uses, UsesAtMost, IsSamePort, Stands};
 ghost use Rattle.tsp_clock.specs.Clocks.{ClockValue};
 ghost use Rattle.tsp_slave.specs.ClockChanges.{fits, changes_clock, correction_of};
 ghost use Rattle.tsp_slave.specs.Lasts.{correcting_in};
-ghost use Rattle.tsp_slave.specs.SlaveStands.{SlaveStands};
+ghost use Rattle.tsp_slave.specs.SlaveStands.{SlaveStands, slave};
 
 use crate::change::Change;
 use crate::last::{Correction, Last};
@@ -43,11 +40,9 @@ pub(crate) fn correct<D: Desk>(
         → correcting_of (said took) ≡ correcting_in (Some correction)
         → Performs SlaveStands SlaveStands (correction_of correction.from correction.number change)
         at.tick at.port
-        (record { station = station.old; last = last.old; clock = clock.old; took = took })
-        (record { station = station.new; last = last.new; clock = clock.new; took = took })
+        (slave station.old last.old clock.old took) (slave station.new last.new clock.new took)
         (D.acts desk.old) (D.acts desk.new) }
-    ensures room { PutsAtMost 3 (D.spare desk.old) (D.spare desk.new) (D.acts desk.old)
-        (D.acts desk.new) }
+    ensures room { UsesAtMost 3 D.spare D.acts desk.old desk.new }
     ensures port { IsSamePort station.old station.new }
     ensures clock { clock.new.at ≤ at.tick }
 {
@@ -86,11 +81,9 @@ fn change_clock<D: Desk>(
     ensures row { (station : Station) (took : Option Received)
         → correcting_of (said took) ≡ correcting_in (Some correction)
         → Performs SlaveStands SlaveStands (changes_clock change) at.tick at.port
-        (record { station = station; last = last.old; clock = clock.old; took = took })
-        (record { station = station; last = last.new; clock = clock.new; took = took })
+        (slave station last.old clock.old took) (slave station last.new clock.new took)
         (D.acts desk.old) (D.acts desk.new) }
-    ensures room { PutsExactly 1 (D.spare desk.old) (D.spare desk.new) (D.acts desk.old)
-        (D.acts desk.new) }
+    ensures room { Uses 1 D.spare D.acts desk.old desk.new }
     ensures clock { clock.new.at ≤ at.tick }
 {
     last.took(at.tick, correction);
@@ -106,8 +99,7 @@ fn confirm<D: Desk>(station: &mut Station, at: At, correction: Correction, desk:
     requires room { 2 ≤ D.spare desk.old }
     ensures row { Performs Stands Stands (confirms correction.from correction.number) at.tick
         at.port station.old station.new (D.acts desk.old) (D.acts desk.new) }
-    ensures room { PutsExactly 2 (D.spare desk.old) (D.spare desk.new) (D.acts desk.old)
-        (D.acts desk.new) }
+    ensures room { Uses 2 D.spare D.acts desk.old desk.new }
     ensures port { IsSamePort station.old station.new }
 {
     station.arm_elect(at.tick, at.port, desk);
@@ -125,11 +117,9 @@ fn ack_repeat<D: Desk>(
     requires room { 1 ≤ D.spare desk.old }
     ensures row { (x : ℕ) (clock : ClockValue) (took : Option Received)
         → Performs SlaveStands SlaveStands (acks_repeat correction.from correction.number) x port
-        (record { station = station.now; last = last.now; clock = clock; took = took })
-        (record { station = station.now; last = last.now; clock = clock; took = took })
+        (slave station.now last.now clock took) (slave station.now last.now clock took)
         (D.acts desk.old) (D.acts desk.new) }
-    ensures room { PutsAtMost 1 (D.spare desk.old) (D.spare desk.new) (D.acts desk.old)
-        (D.acts desk.new) }
+    ensures room { UsesAtMost 1 D.spare D.acts desk.old desk.new }
 {
     if last.is_repeat(correction) {
         station.post(correction.from, Kind::Ack, correction.number, port, desk);

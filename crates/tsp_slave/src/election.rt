@@ -1,10 +1,7 @@
 //! What a port that is Loose or follows answers to a candidate.
 ghost use Rattle.std.specs.Prelude.{◌≤◌};
-ghost use Rattle.tsp_base.specs.Frames.{IsTick, PutsAtMost};
-ghost use Rattle.tsp_base.specs.Performs.{Performs};
 ghost use Rattle.tsp_rules.specs.SlaveRows.{election_of};
-ghost use Rattle.tsp_acks.specs.Changes.{IsSamePort};
-ghost use Rattle.tsp_acks.specs.Stands.{Stands};
+ghost use Rattle.tsp_acks.specs.Calls.{IsTick, Performs, UsesAtMost, IsSamePort, Stands};
 
 use tsp_acks::station::Station;
 use tsp_base::desk::Desk;
@@ -26,8 +23,7 @@ pub(crate) fn answer_candidate<D: Desk>(
     requires room { 3 ≤ D.spare desk.old }
     ensures row { Performs Stands Stands (election_of from number) tick port station.old station.new
         (D.acts desk.old) (D.acts desk.new) }
-    ensures room { PutsAtMost 3 (D.spare desk.old) (D.spare desk.new) (D.acts desk.old)
-        (D.acts desk.new) }
+    ensures room { UsesAtMost 3 D.spare D.acts desk.old desk.new }
     ensures port { IsSamePort station.old station.new }
 {
     if station.hold.may_back(tick, from) {

@@ -1,18 +1,16 @@
 //! How a port begins to follow a master, and tells it so.
 ghost use Rattle.std.specs.Prelude.{◌≡◌, ℕ, ◌+◌, ◌≤◌, Option, None, Some};
-ghost use Rattle.std.specs.List.{Contains};
 ghost use Rattle.tsp_base.specs.declared.alarm.Alarm.TheVariants.{Elect};
 ghost use Rattle.tsp_base.specs.declared.place.PeerId.{PeerId};
 ghost use Rattle.tsp_base.specs.declared.role.Role.TheVariants.{Follow};
 ghost use Rattle.tsp_base.specs.Alarms.{with_deadline, none_armed};
-ghost use Rattle.tsp_base.specs.Frames.{IsTick, PutsAtMost, PutsExactly};
-ghost use Rattle.tsp_base.specs.Performs.{Performs};
-ghost use Rattle.tsp_base.specs.PortFacts.{Received, name_in};
+ghost use Rattle.tsp_acks.specs.Calls.{Contains, IsTick, Received, Performs, Uses};
+ghost use Rattle.tsp_base.specs.PortFacts.{name_in};
 ghost use Rattle.tsp_rules.specs.CommonRows.{follow_row, tells_ticket};
 ghost use Rattle.tsp_rules.specs.Guards.{delay};
 ghost use Rattle.tsp_sends.specs.Slots.{sending_to};
 ghost use Rattle.tsp_slave.specs.Lasts.{LastValue};
-ghost use Rattle.tsp_slave.specs.SlaveStands.{SlaveStands};
+ghost use Rattle.tsp_slave.specs.SlaveStands.{SlaveStands, slave};
 
 use crate::last::Last;
 use tsp_acks::station::Station;
@@ -41,8 +39,7 @@ pub fn follow<D: Desk>(
     requires peer { Contains station.old.peers p }
     ensures row { (took : Option Received) → name_in took ≡ name.now
         → Performs SlaveStands SlaveStands (follow_row p) tick port
-        (record { station = station.old; last = last.old; clock = clock.now; took = took })
-        (record { station = station.new; last = last.new; clock = clock.now; took = took })
+        (slave station.old last.old clock.now took) (slave station.new last.new clock.now took)
         (D.acts desk.old) (D.acts desk.new) }
     ensures me { station.new.me ≡ station.old.me }
     ensures role { station.new.role ≡ Follow p }
@@ -53,8 +50,7 @@ pub fn follow<D: Desk>(
     ensures begun { station.new.begun ≡ station.old.begun }
     ensures peers { station.new.peers ≡ station.old.peers }
     ensures last { last.new ≡ record last.old { name = name.now } }
-    ensures room { PutsExactly 3 (D.spare desk.old) (D.spare desk.new) (D.acts desk.old)
-        (D.acts desk.new) }
+    ensures room { Uses 3 D.spare D.acts desk.old desk.new }
 {
     station.become_role(Role::Follow(p), port, desk);
     last.keep_name(name);
@@ -74,11 +70,9 @@ pub(crate) fn tell_ticket<D: Desk>(
     requires room { 1 ≤ D.spare desk.old }
     ensures row { (x : ℕ) (last : LastValue) (took : Option Received)
         → Performs SlaveStands SlaveStands (tells_ticket p) x port
-        (record { station = station.now; last = last; clock = clock.now; took = took })
-        (record { station = station.now; last = last; clock = clock.now; took = took })
+        (slave station.now last clock.now took) (slave station.now last clock.now took)
         (D.acts desk.old) (D.acts desk.new) }
-    ensures room { PutsExactly 1 (D.spare desk.old) (D.spare desk.new) (D.acts desk.old)
-        (D.acts desk.new) }
+    ensures room { Uses 1 D.spare D.acts desk.old desk.new }
 {
     station.post(p, Kind::SlaveUp, clock.ticket(), port, desk);
 }

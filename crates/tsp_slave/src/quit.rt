@@ -1,14 +1,11 @@
 //! What a port does that a peer asks to stop leading, whatever its role.
 ghost use Rattle.std.specs.Prelude.{◌≡◌, ◌≤◌, Option};
-ghost use Rattle.std.specs.List.{Contains};
-ghost use Rattle.tsp_base.specs.Frames.{IsTick, PutsAtMost};
-ghost use Rattle.tsp_base.specs.Performs.{Performs};
-ghost use Rattle.tsp_base.specs.PortFacts.{Received, name_in};
+ghost use Rattle.tsp_base.specs.PortFacts.{name_in};
 ghost use Rattle.tsp_base.specs.Rows.{reading};
 ghost use Rattle.tsp_rules.specs.CommonRows.{follows_unless, quits};
 ghost use Rattle.tsp_rules.specs.Guards.{role_at};
-ghost use Rattle.tsp_acks.specs.Changes.{IsSamePort};
-ghost use Rattle.tsp_slave.specs.SlaveStands.{SlaveStands};
+ghost use Rattle.tsp_acks.specs.Calls.{Contains, IsTick, Received, Performs, UsesAtMost, IsSamePort};
+ghost use Rattle.tsp_slave.specs.SlaveStands.{SlaveStands, slave};
 
 use crate::follow::follow;
 use crate::last::Last;
@@ -39,11 +36,9 @@ pub fn take_quit<D: Desk>(
     requires peer { Contains station.old.peers from }
     ensures row { (took : Option Received) → name_in took ≡ m.now.name
         → Performs SlaveStands SlaveStands (quits from m.now.number) at.tick at.port
-        (record { station = station.old; last = last.old; clock = clock.now; took = took })
-        (record { station = station.new; last = last.new; clock = clock.now; took = took })
+        (slave station.old last.old clock.now took) (slave station.new last.new clock.now took)
         (D.acts desk.old) (D.acts desk.new) }
-    ensures room { PutsAtMost 5 (D.spare desk.old) (D.spare desk.new) (D.acts desk.old)
-        (D.acts desk.new) }
+    ensures room { UsesAtMost 5 D.spare D.acts desk.old desk.new }
     ensures port { IsSamePort station.old station.new }
 {
     station.quit(from, at.tick, at.port, desk);
@@ -66,11 +61,9 @@ fn follow_unless_following<D: Desk>(
     requires peer { Contains station.old.peers p }
     ensures row { (took : Option Received) → name_in took ≡ name.now
         → Performs SlaveStands SlaveStands (reading role_at (follows_unless p)) at.tick at.port
-        (record { station = station.old; last = last.old; clock = clock.now; took = took })
-        (record { station = station.new; last = last.new; clock = clock.now; took = took })
+        (slave station.old last.old clock.now took) (slave station.new last.new clock.now took)
         (D.acts desk.old) (D.acts desk.new) }
-    ensures room { PutsAtMost 3 (D.spare desk.old) (D.spare desk.new) (D.acts desk.old)
-        (D.acts desk.new) }
+    ensures room { UsesAtMost 3 D.spare D.acts desk.old desk.new }
     ensures port { IsSamePort station.old station.new }
 {
     match station.role {

@@ -1,12 +1,9 @@
 //! The alarms of a port that is Starting, Loose or follows.
 ghost use Rattle.std.specs.Prelude.{◌≡◌, ℕ, ◌+◌, ◌≤◌, false, length};
 ghost use Rattle.tsp_base.specs.declared.alarm.Alarm.TheVariants.{Elect};
-ghost use Rattle.tsp_base.specs.Frames.{IsTick, PutsAtMost, PutsExactly};
-ghost use Rattle.tsp_base.specs.Performs.{Performs};
 ghost use Rattle.tsp_rules.specs.CommonRows.{searches};
 ghost use Rattle.tsp_rules.specs.SlaveRows.{quiet_rings, rings_or_late, search_rings, elect_rings, loosens};
-ghost use Rattle.tsp_acks.specs.Changes.{IsSamePort};
-ghost use Rattle.tsp_acks.specs.Stands.{Stands};
+ghost use Rattle.tsp_acks.specs.Calls.{IsTick, Performs, Uses, UsesAtMost, IsSamePort, Stands};
 ghost use Rattle.tsp_slave.specs.SlaveAlarms.{slave_rings, is_to_be_candidate};
 
 use tsp_acks::station::Station;
@@ -35,8 +32,7 @@ pub fn slave_ring<D: Desk>(station: &mut Station, alarm: Alarm, tick: u64, port:
     requires room { length station.old.peers + 3 ≤ D.spare desk.old }
     ensures row { Performs Stands Stands (slave_rings alarm) tick port station.old station.new
         (D.acts desk.old) (D.acts desk.new) }
-    ensures room { PutsAtMost (length station.old.peers + 3) (D.spare desk.old) (D.spare desk.new)
-        (D.acts desk.old) (D.acts desk.new) }
+    ensures room { UsesAtMost (length station.old.peers + 3) D.spare D.acts desk.old desk.new }
     ensures port { IsSamePort station.old station.new }
 {
     match alarm {
@@ -53,8 +49,7 @@ fn end_quiet<D: Desk>(station: &mut Station, tick: u64, port: Port, desk: &mut D
     requires room { length station.old.peers + 3 ≤ D.spare desk.old }
     ensures row { Performs Stands Stands quiet_rings tick port station.old station.new
         (D.acts desk.old) (D.acts desk.new) }
-    ensures room { PutsAtMost (length station.old.peers + 3) (D.spare desk.old) (D.spare desk.new)
-        (D.acts desk.old) (D.acts desk.new) }
+    ensures room { UsesAtMost (length station.old.peers + 3) D.spare D.acts desk.old desk.new }
     ensures port { IsSamePort station.old station.new }
 {
     station.ring(Alarm::Quiet, port, desk);
@@ -68,8 +63,7 @@ fn end_search<D: Desk>(station: &mut Station, tick: u64, port: Port, desk: &mut 
     requires room { 2 ≤ D.spare desk.old }
     ensures row { Performs Stands Stands search_rings tick port station.old station.new
         (D.acts desk.old) (D.acts desk.new) }
-    ensures room { PutsExactly 2 (D.spare desk.old) (D.spare desk.new) (D.acts desk.old)
-        (D.acts desk.new) }
+    ensures room { Uses 2 D.spare D.acts desk.old desk.new }
     ensures port { IsSamePort station.old station.new }
 {
     ring_or_late(station, Alarm::Search, tick, port, desk);
@@ -84,8 +78,7 @@ fn miss_master<D: Desk>(station: &mut Station, tick: u64, port: Port, desk: &mut
     requires room { length station.old.peers + 3 ≤ D.spare desk.old }
     ensures row { Performs Stands Stands elect_rings tick port station.old station.new
         (D.acts desk.old) (D.acts desk.new) }
-    ensures room { PutsAtMost (length station.old.peers + 3) (D.spare desk.old) (D.spare desk.new)
-        (D.acts desk.old) (D.acts desk.new) }
+    ensures room { UsesAtMost (length station.old.peers + 3) D.spare D.acts desk.old desk.new }
     ensures port { IsSamePort station.old station.new }
 {
     if station.is_in_time(Alarm::Elect, tick) {
@@ -103,8 +96,7 @@ fn ring_or_late<D: Desk>(station: &mut Station, alarm: Alarm, tick: u64, port: P
     requires room { 1 ≤ D.spare desk.old }
     ensures row { Performs Stands Stands (rings_or_late alarm) tick port station.old station.new
         (D.acts desk.old) (D.acts desk.new) }
-    ensures room { PutsExactly 1 (D.spare desk.old) (D.spare desk.new) (D.acts desk.old)
-        (D.acts desk.new) }
+    ensures room { Uses 1 D.spare D.acts desk.old desk.new }
     ensures port { IsSamePort station.old station.new }
 {
     if station.is_in_time(alarm, tick) {
@@ -119,8 +111,7 @@ fn loosen<D: Desk>(station: &mut Station, port: Port, desk: &mut D)
     requires room { 1 ≤ D.spare desk.old }
     ensures row { (x : ℕ) → Performs Stands Stands loosens x port station.old station.new
         (D.acts desk.old) (D.acts desk.new) }
-    ensures room { PutsAtMost 1 (D.spare desk.old) (D.spare desk.new) (D.acts desk.old)
-        (D.acts desk.new) }
+    ensures room { UsesAtMost 1 D.spare D.acts desk.old desk.new }
     ensures port { IsSamePort station.old station.new }
 {
     match station.role {
@@ -135,8 +126,7 @@ fn search<D: Desk>(station: &mut Station, tick: u64, port: Port, desk: &mut D)
     requires room { length station.old.peers + 1 ≤ D.spare desk.old }
     ensures row { Performs Stands Stands searches tick port station.old station.new
         (D.acts desk.old) (D.acts desk.new) }
-    ensures room { PutsAtMost (length station.old.peers + 1) (D.spare desk.old) (D.spare desk.new)
-        (D.acts desk.old) (D.acts desk.new) }
+    ensures room { UsesAtMost (length station.old.peers + 1) D.spare D.acts desk.old desk.new }
     ensures port { IsSamePort station.old station.new }
 {
     station.arm(Alarm::Search, tick, WINDOW, port, desk);

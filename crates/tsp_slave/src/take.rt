@@ -1,16 +1,13 @@
 //! What a port that is Loose or follows does with a message of a peer.
 ghost use Rattle.std.specs.Prelude.{◌≡◌, ◌≤◌, Option, Some};
-ghost use Rattle.std.specs.List.{Contains};
-ghost use Rattle.tsp_base.specs.Frames.{IsTick, PutsAtMost};
-ghost use Rattle.tsp_base.specs.Performs.{Performs};
-ghost use Rattle.tsp_base.specs.PortFacts.{Received, said};
+ghost use Rattle.tsp_base.specs.PortFacts.{said};
 ghost use Rattle.tsp_base.specs.Rows.{reading};
 ghost use Rattle.tsp_base.specs.SendFacts.{correcting_of};
 ghost use Rattle.tsp_rules.specs.SlaveRows.{from_master, masterack_in, masterup_in, slave_takes};
 ghost use Rattle.tsp_rules.specs.Guards.{role_at};
-ghost use Rattle.tsp_acks.specs.Changes.{IsSamePort};
+ghost use Rattle.tsp_acks.specs.Calls.{Contains, IsTick, Received, Performs, UsesAtMost, IsSamePort};
 ghost use Rattle.tsp_slave.specs.ClockChanges.{change_in, correction_of};
-ghost use Rattle.tsp_slave.specs.SlaveStands.{IsMessage, SlaveStands};
+ghost use Rattle.tsp_slave.specs.SlaveStands.{IsMessage, SlaveStands, slave};
 
 use crate::change::Change;
 use crate::conflict::report_conflict;
@@ -54,11 +51,9 @@ pub fn slave_take<D: Desk>(
     requires peer { Contains station.old.peers from }
     ensures row { (took : Option Received) → IsMessage from m.now took
         → Performs SlaveStands SlaveStands (slave_takes from m.now) tick port
-        (record { station = station.old; last = last.old; clock = clock.old; took = took })
-        (record { station = station.new; last = last.new; clock = clock.new; took = took })
+        (slave station.old last.old clock.old took) (slave station.new last.new clock.new took)
         (D.acts desk.old) (D.acts desk.new) }
-    ensures room { PutsAtMost 5 (D.spare desk.old) (D.spare desk.new) (D.acts desk.old)
-        (D.acts desk.new) }
+    ensures room { UsesAtMost 5 D.spare D.acts desk.old desk.new }
     ensures port { IsSamePort station.old station.new }
     ensures clock { clock.new.at ≤ tick }
 {
@@ -93,11 +88,9 @@ fn hear_master<D: Desk>(
     requires peer { Contains station.old.peers from }
     ensures row { (took : Option Received) → IsMessage from m.now took
         → Performs SlaveStands SlaveStands (reading role_at (masterup_in from)) at.tick at.port
-        (record { station = station.old; last = last.old; clock = clock.now; took = took })
-        (record { station = station.new; last = last.new; clock = clock.now; took = took })
+        (slave station.old last.old clock.now took) (slave station.new last.new clock.now took)
         (D.acts desk.old) (D.acts desk.new) }
-    ensures room { PutsAtMost 3 (D.spare desk.old) (D.spare desk.new) (D.acts desk.old)
-        (D.acts desk.new) }
+    ensures room { UsesAtMost 3 D.spare D.acts desk.old desk.new }
     ensures port { IsSamePort station.old station.new }
 {
     match station.role {
@@ -129,11 +122,9 @@ fn find_master<D: Desk>(
     requires peer { Contains station.old.peers from }
     ensures row { (took : Option Received) → IsMessage from m.now took
         → Performs SlaveStands SlaveStands (reading role_at (masterack_in from)) at.tick at.port
-        (record { station = station.old; last = last.old; clock = clock.now; took = took })
-        (record { station = station.new; last = last.new; clock = clock.now; took = took })
+        (slave station.old last.old clock.now took) (slave station.new last.new clock.now took)
         (D.acts desk.old) (D.acts desk.new) }
-    ensures room { PutsAtMost 3 (D.spare desk.old) (D.spare desk.new) (D.acts desk.old)
-        (D.acts desk.new) }
+    ensures room { UsesAtMost 3 D.spare D.acts desk.old desk.new }
     ensures port { IsSamePort station.old station.new }
 {
     match station.role {
@@ -169,11 +160,9 @@ fn take_correction<D: Desk>(
         → Performs SlaveStands SlaveStands
         (reading role_at (from_master from (correction_of from m.now.number (change_in m.now))))
         at.tick at.port
-        (record { station = station.old; last = last.old; clock = clock.old; took = took })
-        (record { station = station.new; last = last.new; clock = clock.new; took = took })
+        (slave station.old last.old clock.old took) (slave station.new last.new clock.new took)
         (D.acts desk.old) (D.acts desk.new) }
-    ensures room { PutsAtMost 3 (D.spare desk.old) (D.spare desk.new) (D.acts desk.old)
-        (D.acts desk.new) }
+    ensures room { UsesAtMost 3 D.spare D.acts desk.old desk.new }
     ensures port { IsSamePort station.old station.new }
     ensures clock { clock.new.at ≤ at.tick }
 {

@@ -18,7 +18,7 @@ returns-then-may_correct-clause-row g c =
     (λ past h. may_set-is c.args.peer c.args.number c.args.at.tick past _ _ c.args.clock.now true true h.master h.clock (c.of.ensures) (sym c.may_correct.ensures ∙ c.if-may_correct.true) (sym c.in-Some.ensures.range))
     (Performs_reading target_at (posts_time c.args.peer SetTime c.args.number) c.in-Some.value (λ past h. target-is c.args.at.tick past c.args.clock.now h.clock ∙ sym c.in-Some.ensures.value)
     (Performs_lead _ _ c.args.clock.now (Emits_posts_time c.args.peer SetTime c.args.number c.in-Some.value refl)
-    (λ past h. MasterStands_begins c.args.peer (timed SetTime c.args.number c.in-Some.value past.name) c.args.at.tick past _ _ refl h.acted c.begin.ensures.entries c.begin.ensures.peers refl h.master)
+    (λ past h. MasterStands_begins c.args.peer (timed SetTime c.args.number c.in-Some.value past.name) c.args.at.tick past _ _ refl h.acted c.change.ensures.entries c.change.ensures.peers refl h.master)
     c.begin_correction.ensures.row))
 
 pub returns-else-may_correct-clause-row : goal.returns-else-may_correct-clause-row

@@ -18,7 +18,7 @@ returns-then-may_join-clause-row g c =
     Performs_then_part (may_join c.args.peer c.args.number) nothing (λ past h. may_join-is c.args.peer c.args.number c.args.at.tick past _ h.master ∙ sym c.may_join.ensures ∙ c.if-may_join.true)
     (Performs_then
     (Performs_lead _ _ c.args.clock.now (Emits_puts (Join c.args.peer) refl)
-    (λ past h. MasterStands_joins c.args.peer c.args.at.tick past _ _ c.args.station.now h.station c.requires.role c.join.ensures.entries c.join.ensures.peers refl h.master)
+    (λ past h. MasterStands_joins c.args.peer c.args.at.tick past _ _ c.args.station.now h.station c.requires.role c.change.ensures.entries c.change.ensures.peers refl h.master)
     (Performs_idle (Join c.args.peer) refl c.put.ensures.acts))
     c.begin_settime.ensures.row)
 

@@ -2,15 +2,15 @@ use Rattle.std.proofs.Common.{◌≡◌, ◌∙◌, sym, ap, refl}
 use Rattle.std.specs.Box.{boxed_slice_items}
 use Rattle.tsp_measure.specs.Peers.{MeasuredPeers, with_peer}
 use Rattle.tsp_measure.proofs.BestSamples.{best_of-IsBestOf}
-use Rattle.tsp_measure.proofs.Peers.{at_peer-found, at_peer-missing}
+use Rattle.tsp_measure.proofs.Peers.{at_peer-found}
 use Rattle.tsp_measure.proofs.exchanges.Exchanges.best.Goals as goal
 
 pub returns-in-Some-clause-value : goal.returns-in-Some-clause-value
 returns-in-Some-clause-value c =
-    let found = rw c.as_slice.ensures.value at c.in-Some.ensures in
+    let found = rw (← c.self.view_is) at c.in-Some.ensures in
     let here : with_peer c.args.self.now c.args.peer.0 ≡ c.index.result.now =
     ap (λ (x : MeasuredPeers). with_peer x c.args.peer.0) (sym c.self.view_is)
-    ∙ at_peer-found (boxed_slice_items c.self.inside.peers) (boxed_slice_items c.self.inside.measured) c.args.peer.0 c.in-Some.place c.index.result.now c.self.invariant.0 c.self.invariant.1 found.0 found.1
+    ∙ at_peer-found (boxed_slice_items c.self.inside.peers) c.self.inside.measured.items c.args.peer.0 c.in-Some.place c.index.result.now c.self.invariant.0 c.self.invariant.1.0 found.0 found.1
     ∙ sym c.index.ensures in
     rw here c.best.ensures
 
@@ -19,10 +19,7 @@ returns-in-Some-clause-first c = best_of-IsBestOf (with_peer c.args.self.now c.a
 
 pub returns-in-None-clause-value : goal.returns-in-None-clause-value
 returns-in-None-clause-value c =
-    let missing = rw c.as_slice.ensures.value at c.in-None.ensures in
-    let here = ap (λ (x : MeasuredPeers). with_peer x c.args.peer.0) (sym c.self.view_is)
-    ∙ at_peer-missing (boxed_slice_items c.self.inside.peers) (boxed_slice_items c.self.inside.measured) c.args.peer.0 missing in
-    rw here refl
+    rw c.in-None.ensures refl
 
 pub returns-in-None-clause-first : goal.returns-in-None-clause-first
 returns-in-None-clause-first c = best_of-IsBestOf (with_peer c.args.self.now c.args.peer.0).samples

@@ -1,3 +1,4 @@
+-- The peers are ascending, and nothing is measured yet.
 use Rattle.std.proofs.Common.{◌≡◌, ◌∙◌, ℕ, List, arith, sym, ap, subst, length}
 use Rattle.std.proofs.lemmas.List.{length-map}
 use Rattle.std.specs.Box.{boxed_slice_items}
@@ -7,11 +8,11 @@ use Rattle.tsp_measure.proofs.Peers.{at_peer-nothing}
 use Rattle.tsp_measure.proofs.exchanges.Exchanges.new.Goals as goal
 
 pub invariant_of-result : goal.invariant_of-result
-invariant_of-result c = (
-  subst (λ (xs : List ℕ). IsAscending xs) (sym c.in_ok-numbers.ensures) c.requires,
-  let many : length (boxed_slice_items c.in_ok-numbers.numbers) ≡ length c.args.peers.now = ap length c.in_ok-numbers.ensures ∙ length-map c.args.peers.now (λ (p : PeerId). p.0) in
-      omega (arith, many, ap length c.into_boxed_slice.ensures.items, c.loop-peer.invariant.0),
-)
+invariant_of-result c =
+    let many : length (boxed_slice_items c.in_ok-numbers.numbers) ≡ length c.args.peers.now = ap length c.in_ok-numbers.ensures ∙ length-map c.args.peers.now (λ (p : PeerId). p.0) in (
+      subst (λ (xs : List ℕ). IsAscending xs) (sym c.in_ok-numbers.ensures) c.requires,
+      (omega (arith, ap length c.in_ok-measured.ensures.items), omega (arith, many, c.in_ok-measured.ensures.capacity)),
+    )
 
 pub returns-clause-nothing : goal.returns-clause-nothing
-returns-clause-nothing c p = rw c.into_boxed_slice.ensures.items (at_peer-nothing (boxed_slice_items c.in_ok-numbers.numbers) c.loop-peer.measured.items p c.loop-peer.invariant.1)
+returns-clause-nothing c p = rw c.in_ok-measured.ensures.items (at_peer-nothing (boxed_slice_items c.in_ok-numbers.numbers) p)

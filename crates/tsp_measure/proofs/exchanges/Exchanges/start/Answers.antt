@@ -1,4 +1,5 @@
-use Rattle.std.proofs.Common.{◌≡◌, ◌∙◌, ◌<◌, ◌++◌, ◌∷◌, [], sym, ap, subst}
+-- The exchange is the peer's last one, in a list that has the peer's place.
+use Rattle.std.proofs.Common.{◌≡◌, ◌∙◌, ◌<◌, ◌++◌, ◌∷◌, [], List, length, sym, ap, subst}
 use Rattle.std.proofs.lemmas.Int.{to_z-of_z}
 use Rattle.std.specs.Int.{w64}
 use Rattle.std.specs.Box.{boxed_slice_items}
@@ -10,26 +11,34 @@ use Rattle.tsp_measure.proofs.exchanges.Exchanges.start.Goals as goal
 
 pub start-requires-clause-few : goal.start-requires-clause-few
 start-requires-clause-few c =
-    let found = rw c.as_slice.ensures.value at c.in-Some.ensures in
+    let same : boxed_slice_items c.self-in-Some.inside.peers ≡ boxed_slice_items c.self.inside.peers =
+    ap (λ (x : MeasuredPeers). x.peers) c.self-in-Some.view_is ∙ c.lengthen.ensures.peers ∙ sym (ap (λ (x : MeasuredPeers). x.peers) c.self.view_is) in
+    let found = rw (c.as_slice.ensures.value, ← same) at c.in-Some.ensures in
+    let inside : c.in-Some.place < length c.self-in-Some.inside.measured.items = subst (λ (ms : List Measured). c.in-Some.place < length ms) (sym (ap (λ (x : MeasuredPeers). x.measured) c.self-in-Some.view_is)) c.lengthen.ensures.long in
     let here : with_peer c.args.self.now c.args.peer.0 ≡ c.index_mut.result.now =
-    ap (λ (x : MeasuredPeers). with_peer x c.args.peer.0) (sym c.self.view_is)
-    ∙ at_peer-found (boxed_slice_items c.self.inside.peers) (boxed_slice_items c.self.inside.measured) c.args.peer.0 c.in-Some.place c.index_mut.result.now c.self.invariant.0 c.self.invariant.1 found.0 found.1
+    sym (c.lengthen.ensures.same c.args.peer.0) ∙ ap (λ (x : MeasuredPeers). with_peer x c.args.peer.0) (sym c.self-in-Some.view_is)
+    ∙ at_peer-found (boxed_slice_items c.self-in-Some.inside.peers) c.self-in-Some.inside.measured.items c.args.peer.0 c.in-Some.place c.index_mut.result.now c.self-in-Some.invariant.0 c.self-in-Some.invariant.1.0 inside found.1
     ∙ sym c.index_mut.ensures.value in
     subst (λ (m : Measured). begun m < 4) here c.requires.few
 
 pub returns-clause-started : goal.returns-clause-started
 returns-clause-started c =
-    let found = rw c.as_slice.ensures.value at c.in-Some.ensures in
+    let same : boxed_slice_items c.self-in-Some.inside.peers ≡ boxed_slice_items c.self.inside.peers =
+    ap (λ (x : MeasuredPeers). x.peers) c.self-in-Some.view_is ∙ c.lengthen.ensures.peers ∙ sym (ap (λ (x : MeasuredPeers). x.peers) c.self.view_is) in
+    let found = rw (c.as_slice.ensures.value, ← same) at c.in-Some.ensures in
+    let inside : c.in-Some.place < length c.self-in-Some.inside.measured.items = subst (λ (ms : List Measured). c.in-Some.place < length ms) (sym (ap (λ (x : MeasuredPeers). x.measured) c.self-in-Some.view_is)) c.lengthen.ensures.long in
     let here : with_peer c.args.self.now c.args.peer.0 ≡ c.index_mut.result.now =
-    ap (λ (x : MeasuredPeers). with_peer x c.args.peer.0) (sym c.self.view_is)
-    ∙ at_peer-found (boxed_slice_items c.self.inside.peers) (boxed_slice_items c.self.inside.measured) c.args.peer.0 c.in-Some.place c.index_mut.result.now c.self.invariant.0 c.self.invariant.1 found.0 found.1
+    sym (c.lengthen.ensures.same c.args.peer.0) ∙ ap (λ (x : MeasuredPeers). with_peer x c.args.peer.0) (sym c.self-in-Some.view_is)
+    ∙ at_peer-found (boxed_slice_items c.self-in-Some.inside.peers) c.self-in-Some.inside.measured.items c.args.peer.0 c.in-Some.place c.index_mut.result.now c.self-in-Some.invariant.0 c.self-in-Some.invariant.1.0 inside found.1
     ∙ sym c.index_mut.ensures.value in
-    at_peer-put (boxed_slice_items c.self.inside.peers) (boxed_slice_items c.self.inside.measured) c.args.peer.0 c.in-Some.place c.start.new.self c.self.invariant.0 c.self.invariant.1 found.0 found.1
+    at_peer-put (boxed_slice_items c.self-in-Some.inside.peers) c.self-in-Some.inside.measured.items c.args.peer.0 c.in-Some.place c.start.new.self c.self-in-Some.invariant.0 c.self-in-Some.invariant.1.0 inside found.1
     ∙ (rw (to_z-of_z w64 c.args.a c.ranges.a) at c.start.ensures)
     ∙ ap (λ (m : Measured). let e : Exchange = record { word = c.args.word; counter = c.args.counter; a = c.args.a } in record m { pending = m.pending ++ e ∷ [] }) (sym here)
 
 pub returns-clause-others : goal.returns-clause-others
 returns-clause-others c q ne =
-    let found = rw c.as_slice.ensures.value at c.in-Some.ensures in
-    at_peer-others (boxed_slice_items c.self.inside.peers) (boxed_slice_items c.self.inside.measured) c.args.peer.0 q c.in-Some.place c.start.new.self found.0 found.1 ne
-    ∙ ap (λ (x : MeasuredPeers). with_peer x q) c.self.view_is
+    let same : boxed_slice_items c.self-in-Some.inside.peers ≡ boxed_slice_items c.self.inside.peers =
+    ap (λ (x : MeasuredPeers). x.peers) c.self-in-Some.view_is ∙ c.lengthen.ensures.peers ∙ sym (ap (λ (x : MeasuredPeers). x.peers) c.self.view_is) in
+    let found = rw (c.as_slice.ensures.value, ← same) at c.in-Some.ensures in
+    at_peer-others (boxed_slice_items c.self-in-Some.inside.peers) c.self-in-Some.inside.measured.items c.args.peer.0 q c.in-Some.place c.start.new.self found.0 found.1 ne
+    ∙ ap (λ (x : MeasuredPeers). with_peer x q) c.self-in-Some.view_is ∙ c.lengthen.ensures.same q

@@ -1,21 +1,20 @@
+-- The slot that was found has the send, which ends.
 use Rattle.std.proofs.Common.{None, refl, sym, ap, ◌∙◌}
-use Rattle.std.specs.Box.{boxed_slice_items}
-use Rattle.tsp_sends.specs.Slots.{has_number}
+use Rattle.tsp_sends.specs.Slots.{empty_slot, has_number}
 use Rattle.tsp_sends.proofs.SearchLemmas.{sending_to-no_place}
 use Rattle.tsp_sends.proofs.SendsLemmas.{sending_found, SetsOnly-fill, peers_of-fill}
 use Rattle.tsp_sends.proofs.sends.Sends.ack.Goals as goal
 
 pub returns-in_default-clause-ends : goal.returns-in_default-clause-ends
-returns-in_default-clause-ends c = rw (← c.self.view_is, sending_to-no_place (boxed_slice_items c.self.inside.slots) c.args.peer c.in_default.field-0 (rw c.deref.ensures.value at c.in_default.ensures)) refl
+returns-in_default-clause-ends c = rw (← c.self.view_is, sending_to-no_place c.self.inside.slots c.args.peer c.in_default.field-0 c.in_default.ensures) refl
 
 pub returns-then-ends-clause-ends : goal.returns-then-ends-clause-ends
 returns-then-ends-clause-ends c =
-    let place = rw c.deref.ensures.value at c.in-Ok.ensures in
-    rw (← c.self.view_is) (c.has_number-ends.ensures ∙ ap (has_number c.args.number) (sym (sending_found (boxed_slice_items c.self.inside.slots) c.args.peer c.in-Ok.place c.index.result.now c.self.invariant.ascending place c.index.ensures)))
+    rw (← c.self.view_is) (c.has_number-ends.ensures (empty_slot c.args.peer) ∙ ap (has_number c.args.number) (sym (sending_found c.self.inside.slots c.args.peer c.in-Ok.place (empty_slot c.args.peer) c.self.invariant.ascending c.in-Ok.ensures)))
 
 pub returns-then-ends-clause-sends : goal.returns-then-ends-clause-sends
 returns-then-ends-clause-sends c =
-    let place = rw (c.deref.ensures.value, c.self.view_is) at c.in-Ok.ensures in
+    let place = rw c.self.view_is at c.in-Ok.ensures in
     rw c.if-ends.true (SetsOnly-fill c.args.self.now c.fill.new.self c.args.peer c.in-Ok.place None (rw c.self.view_is at c.self.invariant.ascending) place c.fill.ensures)
 
 pub returns-then-ends-clause-peers : goal.returns-then-ends-clause-peers
@@ -23,5 +22,4 @@ returns-then-ends-clause-peers c = peers_of-fill c.args.self.now c.fill.new.self
 
 pub returns-else-ends-clause-ends : goal.returns-else-ends-clause-ends
 returns-else-ends-clause-ends c =
-    let place = rw c.deref.ensures.value at c.in-Ok.ensures in
-    rw (← c.self.view_is) (c.has_number-ends.ensures ∙ ap (has_number c.args.number) (sym (sending_found (boxed_slice_items c.self.inside.slots) c.args.peer c.in-Ok.place c.index.result.now c.self.invariant.ascending place c.index.ensures)))
+    rw (← c.self.view_is) (c.has_number-ends.ensures (empty_slot c.args.peer) ∙ ap (has_number c.args.number) (sym (sending_found c.self.inside.slots c.args.peer c.in-Ok.place (empty_slot c.args.peer) c.self.invariant.ascending c.in-Ok.ensures)))

@@ -6,9 +6,9 @@ pub loop-place-preserved : goal.loop-place-preserved
 loop-place-preserved c =
     let inside : c.loop-place.place < length c.loop-place.self = omega (arith, c.loop-place-test.true, c.len-place-end.ensures, ap length c.self.view_is, c.loop-place.invariant.many) in
     record {
-      peers = peers_of-fill c.loop-place.self c.fill.new.self c.loop-place.place None c.fill.ensures ∙ c.loop-place.invariant.peers;
-      many = length-fill c.loop-place.self c.fill.new.self c.loop-place.place None c.fill.ensures ∙ c.loop-place.invariant.many;
-      empty = empty_more c.loop-place.self c.fill.new.self c.loop-place.place inside c.fill.ensures c.loop-place.invariant.empty;
+      peers = peers_of-fill c.loop-place.self c.end.new.self c.loop-place.place None c.end.ensures ∙ c.loop-place.invariant.peers;
+      many = length-fill c.loop-place.self c.end.new.self c.loop-place.place None c.end.ensures ∙ c.loop-place.invariant.many;
+      empty = empty_more c.loop-place.self c.end.new.self c.loop-place.place inside c.end.ensures c.loop-place.invariant.empty;
     }
 
 pub returns-clause-sends : goal.returns-clause-sends

@@ -1,37 +1,44 @@
-use Rattle.std.proofs.Common.{◌≡◌, arith, length, set, ap, ◌∙◌}
-use Rattle.std.specs.Option.{option_map, option_and_then}
+-- The slot that the tree finds is repeated or emptied, and the tree gets its deadline.
+use Rattle.std.proofs.Common.{◌≡◌, arith, length, length-set, get_or, set, refl, ap, ◌∙◌}
+use Rattle.std.specs.Option.{option_and_then}
 use Rattle.std.proofs.lemmas.List.{length-map}
-use Rattle.std.specs.Box.{boxed_slice_items}
 use Rattle.tsp_sends.specs.declared.slot.Slot.{Slot}
 use Rattle.tsp_sends.specs.Deadlines.{IsFirstDueAt}
-use Rattle.tsp_sends.specs.Slots.{deadline_in}
-use Rattle.tsp_sends.specs.Repeating.{repeated, kept}
+use Rattle.tsp_sends.specs.Repeating.{kept}
+use Rattle.tsp_sends.specs.Slots.{empty_slot, deadline_in, peers_of}
 use Rattle.tsp_sends.proofs.SlotLemmas.{peers_of-set}
-use Rattle.tsp_sends.proofs.SendsLemmas.{IsSends-set, RepeatsNext-none, RepeatsNext-found}
+use Rattle.tsp_sends.proofs.SendsLemmas.{IsSends-fill, RepeatsNext-none, RepeatsNext-put}
 use Rattle.tsp_sends.proofs.sends.Sends.due.Goals as goal
 
 pub returns-in_err-place-clause-sends : goal.returns-in_err-place-clause-sends
 returns-in_err-place-clause-sends c =
-    let from = rw c.deref.ensures.value at c.place_after-from.ensures in
-    rw (← c.self.view_is) (RepeatsNext-none c.args.after c.args.tick (boxed_slice_items c.self.inside.slots) c.self.inside.tree.deadlines c.place_after-from.result c.from_residual.result c.self.invariant from c.in_err-place.ensures.place c.from_residual.ensures)
+    rw (← c.self.view_is) (RepeatsNext-none c.args.after c.args.tick c.self.inside.slots c.self.inside.tree.deadlines c.place_after-from.result c.from_residual.result c.self.invariant c.place_after-from.ensures c.in_err-place.ensures.place c.from_residual.ensures)
+
+pub deadline-at-requires : goal.deadline-at-requires
+deadline-at-requires c =
+    let d : Slot = empty_slot (record { 0 = 0 }) in
+    let found : IsFirstDueAt c.place_after-from.result c.args.tick c.self.inside.tree.deadlines c.in_ok-place.place = c.in_ok-place.ensures.place in
+    let many : length c.self.inside.tree.deadlines ≡ length c.self.inside.slots = ap length c.self.invariant.deadlines_are ∙ length-map c.self.inside.slots deadline_in in
+    let slot : Slot = get_or c.self.inside.slots c.in_ok-place.place d in
+    omega (arith, found.inside, many, ap length (c.repeat-due.ensures.slots d), length-set c.self.inside.slots c.in_ok-place.place (record slot { sending = option_and_then (kept c.args.tick) slot.sending }))
 
 pub invariant_of-self-2 : goal.invariant_of-self-2
 invariant_of-self-2 c =
+    let d : Slot = empty_slot (record { 0 = 0 }) in
     let found : IsFirstDueAt c.place_after-from.result c.args.tick c.self.inside.tree.deadlines c.in_ok-place.place = c.in_ok-place.ensures.place in
-    let many : length c.self.inside.tree.deadlines ≡ length (boxed_slice_items c.self.inside.slots) = ap length c.self.invariant.deadlines_are ∙ length-map (boxed_slice_items c.self.inside.slots) deadline_in in
-    IsSends-set (boxed_slice_items c.self.inside.slots) c.self.inside.tree.deadlines c.put.new.self.deadlines c.in_ok-place.place c.index_mut-slot.result.now c.repeat-due.new.self c.self.invariant (omega (arith, found.inside))
-    (c.repeat-due.ensures.peer ∙ ap (λ (s : Slot). s.peer) c.index_mut-slot.ensures.value)
-    (c.put.ensures.deadlines ∙ ap (λ ds. set ds c.in_ok-place.place c.deadline-at.result) c.in_ok-place.ensures.deadlines ∙ ap (set c.self.inside.tree.deadlines c.in_ok-place.place) c.deadline-at.ensures)
+    let many : length c.self.inside.tree.deadlines ≡ length c.self.inside.slots = ap length c.self.invariant.deadlines_are ∙ length-map c.self.inside.slots deadline_in in
+    let slot : Slot = get_or c.self.inside.slots c.in_ok-place.place d in
+    IsSends-fill c.self.inside.slots c.repeat-due.new.self c.self.inside.tree.deadlines c.put.new.self.deadlines c.in_ok-place.place d (record slot { sending = option_and_then (kept c.args.tick) slot.sending }) c.deadline-at.result
+    c.self.invariant (omega (arith, found.inside, many)) (c.repeat-due.ensures.slots d) refl (c.deadline-at.ensures d)
+    (c.put.ensures.deadlines ∙ ap (λ ds. set ds c.in_ok-place.place c.deadline-at.result) c.in_ok-place.ensures.deadlines)
 
 pub returns-clause-sends : goal.returns-clause-sends
 returns-clause-sends c =
-    let from = rw c.deref.ensures.value at c.place_after-from.ensures in
-    rw (← c.self.view_is) (RepeatsNext-found c.args.after c.args.tick (boxed_slice_items c.self.inside.slots) c.self.inside.tree.deadlines c.place_after-from.result c.in_ok-place.place c.index_mut-slot.result.now c.repeat-due.new.self c.repeat-due.result
-    c.self.invariant from c.in_ok-place.ensures.place
-    (c.repeat-due.ensures.peer ∙ ap (λ (s : Slot). s.peer) c.index_mut-slot.ensures.value)
-    (c.repeat-due.ensures.sending ∙ ap (λ (s : Slot). option_and_then (kept c.args.tick) s.sending) c.index_mut-slot.ensures.value)
-    (c.repeat-due.ensures.due ∙ ap (λ (s : Slot). option_map (repeated s.peer c.args.tick) s.sending) c.index_mut-slot.ensures.value))
+    rw (← c.self.view_is) (RepeatsNext-put c.args.after c.args.tick c.self.inside.slots c.repeat-due.new.self c.self.inside.tree.deadlines c.place_after-from.result c.in_ok-place.place c.repeat-due.result
+    c.self.invariant c.place_after-from.ensures c.in_ok-place.ensures.place c.repeat-due.ensures.due c.repeat-due.ensures.slots)
 
 pub returns-clause-peers : goal.returns-clause-peers
 returns-clause-peers c =
-    rw (← c.self.view_is) (peers_of-set (boxed_slice_items c.self.inside.slots) c.in_ok-place.place c.index_mut-slot.result.now c.repeat-due.new.self (λ h. c.repeat-due.ensures.peer ∙ ap (λ (s : Slot). s.peer) c.index_mut-slot.ensures.value))
+    let d : Slot = empty_slot (record { 0 = 0 }) in
+    let slot : Slot = get_or c.self.inside.slots c.in_ok-place.place d in
+    rw (← c.self.view_is) (ap peers_of (c.repeat-due.ensures.slots d) ∙ peers_of-set c.self.inside.slots c.in_ok-place.place d (record slot { sending = option_and_then (kept c.args.tick) slot.sending }) (λ h. refl))

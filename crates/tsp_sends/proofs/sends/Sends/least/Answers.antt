@@ -1,6 +1,5 @@
-use Rattle.std.specs.Box.{boxed_slice_items}
 use Rattle.tsp_sends.proofs.SendsLemmas.{IsEarliest-least}
 use Rattle.tsp_sends.proofs.sends.Sends.least.Goals as goal
 
 pub returns : goal.returns
-returns c = rw (← c.self.view_is) (IsEarliest-least (boxed_slice_items c.self.inside.slots) c.self.inside.tree.deadlines c.least.result c.self.invariant c.least.ensures)
+returns c = rw (← c.self.view_is) (IsEarliest-least c.self.inside.slots c.self.inside.tree.deadlines c.least.result c.self.invariant c.least.ensures)

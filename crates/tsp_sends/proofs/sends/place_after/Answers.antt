@@ -1,6 +1,0 @@
-use Rattle.tsp_sends.proofs.SlotLemmas.{Rise-ascending}
-use Rattle.tsp_sends.proofs.SearchLemmas.{IsFirstAfter-next}
-use Rattle.tsp_sends.proofs.sends.place_after.Goals as goal
-
-pub returns-in-Ok : goal.returns-in-Ok
-returns-in-Ok c = IsFirstAfter-next c.args.slots.now c.args.after c.in-Some.peer c.in-Ok.place (Rise-ascending _ c.requires) c.in-Some.is c.in-Ok.ensures
