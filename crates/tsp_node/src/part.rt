@@ -65,10 +65,10 @@ impl Part {
             → ClockStands (grown tick past (Boot ∷ [])) clock
             → PortStands (grown tick past (Boot ∷ [])) (port_with part clock)) }
     {
-        let station = Station::new(alloc, me, peers, tick)?;
-        let master = Master::new(alloc, peers)?;
         let resolve = Resolve::new(alloc, peers)?;
         let dates = Dates::new(alloc, peers)?;
+        let master = Master::new(alloc, peers)?;
+        let station = Station::new(alloc, me, peers, tick)?;
         Ok(Part {
             station,
             last: Last::new(),

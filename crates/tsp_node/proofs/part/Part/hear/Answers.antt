@@ -1,5 +1,5 @@
 -- Who handles it. Only what is for the roles can be left.
-use Rattle.std.proofs.Common.{◌≡◌, refl}
+use Rattle.std.proofs.Common.{◌≡◌, ◌∙◌, ap, refl, sym}
 use Rattle.tsp_base.specs.Rows.{nothing}
 use Rattle.tsp_rules.specs.Answers.{is_left}
 use Rattle.tsp_rules.proofs.Emits.{Emits_either, Emits_more, Emits_nothing}
@@ -14,29 +14,29 @@ use Rattle.tsp_node.proofs.part.Part.hear.Goals as goal
 pub returns-in-OfClients-clause-row : goal.returns-in-OfClients-clause-row
 returns-in-OfClients-clause-row g c =
     let m = c.args.m.now in
-    let audience : audience_of m.kind ≡ OfClients = let k = c.kind.ensures in let o = c.audience_of.ensures in let i = c.in-OfClients.is in cc in
+    let audience : audience_of m.kind ≡ OfClients = ap audience_of (sym c.kind.ensures) ∙ (sym c.audience_of.ensures ∙ c.in-OfClients.is) in
     Performs_never_left c.args.terms.steer m.kind (kept_unless m.kind OfClients audience (λ e. let bad : ⊥ = cc in bad)) (c.answer.ensures.row c.args.terms.charge c.args.clock.now)
 
 pub returns-in-OfDates-clause-row : goal.returns-in-OfDates-clause-row
 returns-in-OfDates-clause-row g c =
     let m = c.args.m.now in
-    let audience : audience_of m.kind ≡ OfDates = let k = c.kind.ensures in let o = c.audience_of.ensures in let i = c.in-OfDates.is in cc in
+    let audience : audience_of m.kind ≡ OfDates = ap audience_of (sym c.kind.ensures) ∙ (sym c.audience_of.ensures ∙ c.in-OfDates.is) in
     Performs_never_left c.args.terms.steer m.kind (kept_unless m.kind OfDates audience (λ e. let bad : ⊥ = cc in bad)) (took_beside c.args.tracing.now (Emits_more date_sorts refl (emits_dates c.args.terms.charge c.args.from m m.kind audience)) c.hear_date.ensures.row)
 
 pub returns-in-OfNode-clause-row : goal.returns-in-OfNode-clause-row
 returns-in-OfNode-clause-row g c =
     let m = c.args.m.now in
-    let audience : audience_of m.kind ≡ OfNode = let k = c.kind.ensures in let o = c.audience_of.ensures in let i = c.in-OfNode.is in cc in
+    let audience : audience_of m.kind ≡ OfNode = ap audience_of (sym c.kind.ensures) ∙ (sym c.audience_of.ensures ∙ c.in-OfNode.is) in
     Performs_never_left c.args.terms.steer m.kind (kept_unless m.kind OfNode audience (λ e. let bad : ⊥ = cc in bad)) (rw (audience_node c.args.terms.charge c.args.from m m.kind audience) took_pass)
 
 pub returns-in-OfRoles-clause-row : goal.returns-in-OfRoles-clause-row
 returns-in-OfRoles-clause-row g c =
     let m = c.args.m.now in
-    let audience : audience_of m.kind ≡ OfRoles = let k = c.kind.ensures in let o = c.audience_of.ensures in let i = c.in-OfRoles.is in cc in
+    let audience : audience_of m.kind ≡ OfRoles = ap audience_of (sym c.kind.ensures) ∙ (sym c.audience_of.ensures ∙ c.in-OfRoles.is) in
     rw (audience_roles c.args.terms.charge c.args.from m m.kind audience) (took_beside c.args.tracing.now (Emits_either (is_left c.args.terms.steer m.kind) nothing _ Emits_nothing (emits_says c.args.from m)) c.hear_peer.ensures.row)
 
 pub returns-in-OfSends-clause-row : goal.returns-in-OfSends-clause-row
 returns-in-OfSends-clause-row g c =
     let m = c.args.m.now in
-    let audience : audience_of m.kind ≡ OfSends = let k = c.kind.ensures in let o = c.audience_of.ensures in let i = c.in-OfSends.is in cc in
+    let audience : audience_of m.kind ≡ OfSends = ap audience_of (sym c.kind.ensures) ∙ (sym c.audience_of.ensures ∙ c.in-OfSends.is) in
     Performs_never_left c.args.terms.steer m.kind (kept_unless m.kind OfSends audience (λ e. let bad : ⊥ = cc in bad)) (rw (handles_ack c.args.terms.charge c.args.from m (audience_sends m.kind audience)) (took_beside c.args.tracing.now (emits_says c.args.from m) (c.hear_ack.ensures.row _ c.args.terms.at.tick c.args.clock.now)))

@@ -71,7 +71,7 @@ returns-then-not-leaves-clause-row g c =
     let heard = sym c.in-Some.ensures in
     let other = c.in_default-role in
     let emits = emits_slave p m (roles_other m.kind c.requires.audience) in
-    let left : leaves_by c.args.terms.steer m.kind st.role ≡ false = let k = c.kind.ensures in cc in
+    let left : leaves_by c.args.terms.steer m.kind st.role ≡ false = ap (λ k. leaves_by c.args.terms.steer k st.role) (sym c.kind.ensures) ∙ (sym c.leaves.ensures ∙ c.if-not-leaves.true) in
     rw (is_from st from p heard) (Performs_kept c.args.terms.steer m.kind left (Performs_heard_at p (peer_says m) (is_hearing st from p heard)
     (Performs_by_role (says_in p m) (rw (says_slave p m st.role (heard_awake st from p heard) other.not-Candidate other.not-Master) (Performs_heard refl (DatesAside_slave p m) (roles_date m.kind c.requires.audience)
     (λ past h s. MasterStands_idle (slave_takes p m) (Emits_more role_sorts refl emits) x past c.args.self.now.master (λ e. other.not-Master (h.station.role ∙ e)) h.master)
@@ -81,5 +81,5 @@ returns-then-not-leaves-clause-row g c =
 pub returns-else-not-leaves-clause-row : goal.returns-else-not-leaves-clause-row
 returns-else-not-leaves-clause-row g c =
     let m = c.args.m.now in
-    let left : leaves_by c.args.terms.steer m.kind c.args.self.now.station.role ≡ true = let k = c.kind.ensures in cc in
+    let left : leaves_by c.args.terms.steer m.kind c.args.self.now.station.role ≡ true = ap (λ k. leaves_by c.args.terms.steer k c.args.self.now.station.role) (sym c.kind.ensures) ∙ (sym c.leaves.ensures ∙ c.if-not-leaves.false) in
     Performs_left c.args.terms.steer m.kind (from_peer c.args.from (peer_says m)) left
