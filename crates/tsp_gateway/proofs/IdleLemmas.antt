@@ -1,14 +1,14 @@
 -- A port with nothing due has nothing to do in its turn.
-use Rattle.std.specs.Prelude.{◌≡◌, ◌<◌, ◌+◌, ℕ, min, false, List, [], ◌∷◌, Option, None, Some, slice_get, refl}
+use Rattle.std.specs.Prelude.{◌≡◌, ◌<◌, ◌+◌, ℕ, false, List, [], ◌∷◌, Option, None, Some, slice_get, refl}
 use Rattle.std.proofs.Common.{append-nil, arith, leb-false, sym}
 use Rattle.std.proofs.lemmas.Bool.{lt-leb}
 use Rattle.tsp_base.specs.declared.act.Placed.{Placed}
 use Rattle.tsp_base.specs.declared.alarm.Alarm.{Alarm}
-use Rattle.tsp_base.specs.declared.alarm.Alarm.TheVariants.{Close, Elect, Probe, Quiet, Resolve, Round, Search, Window}
+use Rattle.tsp_base.specs.declared.alarm.Alarm.TheVariants.{Close, Probe, Round}
 use Rattle.tsp_base.specs.declared.alarm.TheConstants.Alarm.{ALL}
 use Rattle.tsp_base.specs.declared.place.PeerId.{PeerId}
 use Rattle.tsp_base.specs.declared.place.Port.{Port}
-use Rattle.tsp_base.specs.Alarms.{Deadlines, deadline, earlier, least_deadline}
+use Rattle.tsp_base.specs.Alarms.{least_deadline}
 use Rattle.tsp_base.specs.History.{Past}
 use Rattle.tsp_base.specs.Rows.{either_by, for_each, nothing, reading, ◌followed_by◌}
 use Rattle.tsp_base.specs.SendFacts.{Sending, deadline_of, open_send}
@@ -22,36 +22,10 @@ use Rattle.tsp_sends.specs.Repeating.{IsEarliest, is_due_send}
 use Rattle.tsp_node.specs.declared.part.Part.{Part}
 use Rattle.tsp_node.specs.Dues.{IsPartDue}
 use Rattle.tsp_node.specs.NodeStands.{PortStands, port_with}
-use Rattle.tsp_node.proofs.DueLemmas.{IsEarliest-open}
+use Rattle.tsp_node.proofs.DueLemmas.{IsEarliest-open, alarm_waits, neither_over}
 use Rattle.tsp_clock.specs.Clocks.{ClockValue}
 use Rattle.tsp_gateway.specs.declared.gateway.Gateway.{Gateway}
 use Rattle.tsp_gateway.specs.GatewayStands.{GatewayTurning, port_at}
-
--- neither of two deadlines has come before the earlier one has
-neither_over : (a b : Option ℕ) (x : ℕ) → is_over (earlier a b) x ≡ false → (is_over a x ≡ false) × (is_over b x ≡ false)
-neither_over None b x e = (refl, e)
-neither_over (Some p) None x e = (e, refl)
-neither_over (Some p) (Some q) x e =
-    let before : x < min p q = leb-false (min p q) x e in
-    (lt-leb p x (omega (arith, before)), lt-leb q x (omega (arith, before)))
-
--- no alarm is due before the earliest is
-alarm_waits : (d : Deadlines) (x : ℕ) → is_over (least_deadline d) x ≡ false → (alarm : Alarm) → is_over (deadline d alarm) x ≡ false
-alarm_waits d x e alarm =
-    let halves = neither_over (earlier (earlier d.quiet d.search) (earlier d.elect d.window)) (earlier (earlier d.probe d.close) (earlier d.resolve d.round)) x e in
-    let first = neither_over (earlier d.quiet d.search) (earlier d.elect d.window) x halves.0 in
-    let last = neither_over (earlier d.probe d.close) (earlier d.resolve d.round) x halves.1 in
-    by_alarm alarm (neither_over d.quiet d.search x first.0) (neither_over d.elect d.window x first.1) (neither_over d.probe d.close x last.0) (neither_over d.resolve d.round x last.1) where
-      by_alarm : (a : Alarm) → (is_over d.quiet x ≡ false) × (is_over d.search x ≡ false) → (is_over d.elect x ≡ false) × (is_over d.window x ≡ false) → (is_over d.probe x ≡ false) × (is_over d.close x ≡ false) →
-          (is_over d.resolve x ≡ false) × (is_over d.round x ≡ false) → is_over (deadline d a) x ≡ false
-      by_alarm Quiet p q r s = p.0
-      by_alarm Search p q r s = p.1
-      by_alarm Elect p q r s = q.0
-      by_alarm Window p q r s = q.1
-      by_alarm Probe p q r s = r.0
-      by_alarm Close p q r s = r.1
-      by_alarm Resolve p q r s = s.0
-      by_alarm Round p q r s = s.1
 
 -- no send is due before the earliest is
 send_waits : (sending : PeerId → Option Sending) (first : Option ℕ) (x : ℕ) → IsEarliest sending first → is_over first x ≡ false → (p : PeerId) → is_due_send x (sending p) ≡ false

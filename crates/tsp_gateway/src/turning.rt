@@ -49,9 +49,25 @@ impl Gateway {
         ensures room { PutsAtMost (turn_room (peers_at q (ports_in self.old))) (D.spare desk.old)
             (D.spare desk.new) (D.acts desk.old) (D.acts desk.new) }
     {
-        if self.is_idle(q, tick) {
-            return;
+        if !self.is_idle(q, tick) {
+            self.act(q, tick, desk);
         }
+    }
+
+    /// The same where something is due.
+    #[inline(never)]
+    fn act<D: Desk>(&mut self, q: usize, tick: u64, desk: &mut D)
+        requires port { q < length (ports_in self.old) }
+        requires room { turn_room (peers_at q (ports_in self.old)) ≤ D.spare desk.old }
+        requires tick { IsTick tick }
+        requires later { clock_at self.old ≤ tick }
+        ensures row { PerformsAll (GatewayTurning q) (GatewayTurning (q + 1)) (turns_on (port_at q))
+            tick self.old self.new (D.acts desk.old) (D.acts desk.new) }
+        ensures ports { ports_in self.new ≡ ports_in self.old }
+        ensures clock { clock_at self.new ≤ tick }
+        ensures room { PutsAtMost (turn_room (peers_at q (ports_in self.old))) (D.spare desk.old)
+            (D.spare desk.new) (D.acts desk.old) (D.acts desk.new) }
+    {
         self.send(q, tick, desk);
         self.ring_alarms(q, tick, desk);
     }
@@ -62,10 +78,7 @@ impl Gateway {
         ensures { (part : Part) → slice_get self.now.ports.items q ≡ Some part
             → (due : Option ℕ) × IsPartDue part due × (result ≡ not (is_over due tick)) }
     {
-        match self.ports[q].due() {
-            Some(at) => tick < at,
-            None => true,
-        }
+        self.ports[q].rests(tick)
     }
 
     /// Handles the due alarms of a port, each when its turn comes.
