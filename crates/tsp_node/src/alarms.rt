@@ -3,14 +3,10 @@ ghost use Rattle.std.specs.Prelude.{◌≡◌, Bool, ◌+◌, ◌*◌, ◌≤◌
 ghost use Rattle.tsp_base.specs.declared.alarm.Alarm.TheVariants.{Probe, Close};
 ghost use Rattle.tsp_base.specs.Alarms.{deadline};
 ghost use Rattle.tsp_base.specs.Frames.{IsTick, PutsAtMost};
-ghost use Rattle.tsp_base.specs.History.{Past};
 ghost use Rattle.tsp_base.specs.Performs.{Performs};
 ghost use Rattle.tsp_rules.specs.Answers.{alarm_rings, rings};
 ghost use Rattle.tsp_rules.specs.CandidateRows.{window_rings};
-ghost use Rattle.tsp_rules.specs.RoundRows.{corrects};
 ghost use Rattle.tsp_rules.specs.Guards.{is_over};
-ghost use Rattle.tsp_clock.specs.Clocks.{ClockValue};
-ghost use Rattle.tsp_master.specs.MasterAlarms.{master_rings};
 ghost use Rattle.tsp_node.specs.RoleAlarms.{is_of_master, is_of_slave};
 
 use crate::part::Part;
@@ -24,6 +20,10 @@ use tsp_candidate::ring::candidate_ring;
 use tsp_clock::clock::Clock;
 
 impl Part {
+    ghost use Rattle.tsp_base.specs.History.{Past};
+    ghost use Rattle.tsp_rules.specs.RoundRows.{corrects};
+    ghost use Rattle.tsp_clock.specs.Clocks.{ClockValue};
+    ghost use Rattle.tsp_master.specs.MasterAlarms.{master_rings};
     ghost use Rattle.tsp_node.specs.NodeStands.{PortUntaken, port_with};
 
     /// Handles one alarm where it is due, and says whether that corrected the clock. `group_mean` says

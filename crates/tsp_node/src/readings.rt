@@ -1,16 +1,10 @@
 //! What a caller can read of a node, and of a port.
 ghost use Rattle.std.specs.Prelude.{◌≡◌, ℕ, ◌≤◌, not, Option};
 ghost use Rattle.tsp_base.specs.Alarms.{earlier, least_deadline};
-ghost use Rattle.tsp_base.specs.Frames.{IsTick};
-ghost use Rattle.tsp_base.specs.History.{Past, plain};
-ghost use Rattle.tsp_base.specs.NodeFacts.{shown, tracing};
-ghost use Rattle.tsp_base.specs.PortFacts.{role, armed};
 ghost use Rattle.tsp_base.specs.SendFacts.{open_send};
 ghost use Rattle.tsp_rules.specs.Guards.{is_over};
-ghost use Rattle.tsp_clock.specs.Clocks.{shown_of};
 ghost use Rattle.tsp_sends.specs.Slots.{sending_to};
 ghost use Rattle.tsp_sends.specs.Repeating.{IsEarliest};
-ghost use Rattle.tsp_node.specs.Dues.{IsPartDue};
 
 use crate::node::Node;
 use crate::part::Part;
@@ -20,6 +14,8 @@ use tsp_base::alarms::earlier;
 use tsp_base::role::Role;
 
 impl Part {
+    ghost use Rattle.tsp_node.specs.Dues.{IsPartDue};
+
     /// The earliest deadline of an armed alarm or an open send, which may be in the past; None exactly where no
     /// alarm is armed and no send open.
     pub fn due(&self) -> Option<u64>
@@ -81,6 +77,11 @@ fn is_over(due: Option<u64>, tick: u64) -> bool
 }
 
 impl Node {
+    ghost use Rattle.tsp_base.specs.Frames.{IsTick};
+    ghost use Rattle.tsp_base.specs.History.{Past, plain};
+    ghost use Rattle.tsp_base.specs.NodeFacts.{shown, tracing};
+    ghost use Rattle.tsp_base.specs.PortFacts.{role, armed};
+    ghost use Rattle.tsp_clock.specs.Clocks.{shown_of};
     ghost use Rattle.tsp_node.specs.NodeStands.{NodeStands, clock_at, due_of};
 
     /// The tick at which the node needs its next step, if nothing comes before: the earliest deadline of an armed

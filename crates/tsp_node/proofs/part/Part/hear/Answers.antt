@@ -1,5 +1,5 @@
 -- Who handles it. Only what is for the roles can be left.
-use Rattle.std.proofs.Common.{◌≡◌, ◌∙◌, ap, refl, sym}
+use Rattle.std.proofs.Common.{◌≡◌, ◌∙◌, ap, refl, sym, arith}
 use Rattle.tsp_base.specs.Rows.{nothing}
 use Rattle.tsp_rules.specs.Answers.{is_left}
 use Rattle.tsp_rules.proofs.Emits.{Emits_either, Emits_more, Emits_nothing}
@@ -40,3 +40,30 @@ returns-in-OfSends-clause-row g c =
     let m = c.args.m.now in
     let audience : audience_of m.kind ≡ OfSends = ap audience_of (sym c.kind.ensures) ∙ (sym c.audience_of.ensures ∙ c.in-OfSends.is) in
     Performs_never_left c.args.terms.steer m.kind (kept_unless m.kind OfSends audience (λ e. let bad : ⊥ = cc in bad)) (rw (handles_ack c.args.terms.charge c.args.from m (audience_sends m.kind audience)) (took_beside c.args.tracing.now (emits_says c.args.from m) (c.hear_ack.ensures.row _ c.args.terms.at.tick c.args.clock.now)))
+
+pub answer-requires : goal.answer-requires
+answer-requires g c = record { room = omega (arith, c.requires.room); tick = c.requires.tick; audience = ap audience_of (sym c.kind.ensures) ∙ (sym c.audience_of.ensures ∙ c.in-OfClients.is) }
+
+pub hear_date-requires : goal.hear_date-requires
+hear_date-requires g c = record { room = omega (arith, c.requires.room); tick = c.requires.tick; later = c.requires.later; audience = ap audience_of (sym c.kind.ensures) ∙ (sym c.audience_of.ensures ∙ c.in-OfDates.is) }
+
+pub hear_peer-requires : goal.hear_peer-requires
+hear_peer-requires g c = record { room = omega (arith, c.requires.room); tick = c.requires.tick; later = c.requires.later; audience = ap audience_of (sym c.kind.ensures) ∙ (sym c.audience_of.ensures ∙ c.in-OfRoles.is) }
+
+pub hear_ack-requires : goal.hear_ack-requires
+hear_ack-requires g c = record { room = omega (arith, c.requires.room); audience = ap audience_of (sym c.kind.ensures) ∙ (sym c.audience_of.ensures ∙ c.in-OfSends.is) }
+
+pub returns-in-OfClients-clause-room : goal.returns-in-OfClients-clause-room
+returns-in-OfClients-clause-room g c = let room = c.answer.ensures.room in record { spare = omega (arith, room.spare); few = omega (arith, room.few) }
+
+pub returns-in-OfDates-clause-room : goal.returns-in-OfDates-clause-room
+returns-in-OfDates-clause-room g c = let room = c.hear_date.ensures.room in record { spare = omega (arith, room.spare); few = omega (arith, room.few) }
+
+pub returns-in-OfRoles-clause-room : goal.returns-in-OfRoles-clause-room
+returns-in-OfRoles-clause-room g c = let room = c.hear_peer.ensures.room in record { spare = omega (arith, room.spare); few = omega (arith, room.few) }
+
+pub returns-in-OfSends-clause-room : goal.returns-in-OfSends-clause-room
+returns-in-OfSends-clause-room g c = let room = c.hear_ack.ensures.room in record { spare = omega (arith, room.spare); few = omega (arith, room.few) }
+
+pub returns-in-OfNode-clause-room : goal.returns-in-OfNode-clause-room
+returns-in-OfNode-clause-room g c = record { spare = omega arith; few = omega arith }
