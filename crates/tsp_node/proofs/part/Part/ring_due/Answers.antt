@@ -1,8 +1,7 @@
 -- A master's alarm is its round's, and any other leaves the clock alone.
-use Rattle.std.proofs.Common.{◌≡◌, true, false, sym, ◌∙◌}
+use Rattle.std.proofs.Common.{◌≡◌, sym, ◌∙◌}
 use Rattle.tsp_rules.specs.Answers.{alarm_rings}
 use Rattle.tsp_master.specs.MasterAlarms.{master_rings}
-use Rattle.tsp_node.specs.RoleAlarms.{is_of_master}
 use Rattle.tsp_node.proofs.AlarmCases.{corrects_beside, master_rings-is, no_probe}
 use Rattle.tsp_node.proofs.part.Part.ring_due.Goals as goal
 
