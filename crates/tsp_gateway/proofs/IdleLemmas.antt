@@ -1,6 +1,6 @@
 -- A port with nothing due has nothing to do in its turn.
-use Rattle.std.specs.Prelude.{◌≡◌, ◌<◌, ◌+◌, ℕ, false, List, [], ◌∷◌, Option, None, Some, slice_get, refl}
-use Rattle.std.proofs.Common.{append-nil, arith, leb-false, sym}
+use Rattle.std.specs.Prelude.{◌≡◌, ◌<◌, ◌+◌, ℕ, not, Bool, true, false, length, List, [], ◌∷◌, Option, None, Some, slice_get, refl}
+use Rattle.std.proofs.Common.{append-nil, arith, leb-false, sym, true≢false, ◌∙◌}
 use Rattle.std.proofs.lemmas.Bool.{lt-leb}
 use Rattle.tsp_base.specs.declared.act.Placed.{Placed}
 use Rattle.tsp_base.specs.declared.alarm.Alarm.{Alarm}
@@ -26,6 +26,8 @@ use Rattle.tsp_node.proofs.DueLemmas.{IsEarliest-open, alarm_waits, neither_over
 use Rattle.tsp_clock.specs.Clocks.{ClockValue}
 use Rattle.tsp_gateway.specs.declared.gateway.Gateway.{Gateway}
 use Rattle.tsp_gateway.specs.GatewayStands.{GatewayTurning, port_at}
+use Rattle.tsp_gateway.specs.Rooms.{ports_in}
+use Rattle.tsp_gateway.proofs.LiftLemmas.{part_of}
 
 -- no send is due before the earliest is
 send_waits : (sending : PeerId → Option Sending) (first : Option ℕ) (x : ℕ) → IsEarliest sending first → is_over first x ≡ false → (p : PeerId) → is_due_send x (sending p) ≡ false
@@ -80,3 +82,14 @@ All_waits {x} {q} {g} {old} part due there d e = record {
   acts = λ past w. rw (no_turn (port_at q) x past part g.clock due (w.stands.ports q part there) d e) (sym (append-nil old));
   stands = λ past w. rw (no_turn (port_at q) x past part g.clock due (w.stands.ports q part there) d e) (record { stands = w.stands; turns = record { untaken = w.turns.untaken; still = λ r from. w.turns.still r (omega (arith, from)) } });
 }
+
+-- so where the port says that it is idle
+pub idle_waits : (x q : ℕ) (g : Gateway) {old : List Placed} (idle : Bool) → q < length (ports_in g) → idle ≡ true → ((part : Part) → slice_get g.ports.items q ≡ Some part → (due : Option ℕ) × IsPartDue part due × (idle ≡ not (is_over due x))) →
+    PerformsAll (GatewayTurning q) (GatewayTurning (q + 1)) (turns_on (port_at q)) x g g old old
+idle_waits x q g idle lt e says =
+    let part = part_of g q lt in
+    let due = says part.0 part.1 in
+    All_waits part.0 due.0 part.1 due.1 (not_over (is_over due.0 x) (sym due.2 ∙ e)) where
+      not_over : (b : Bool) → not b ≡ true → b ≡ false
+      not_over true e = absurd (true≢false (sym e))
+      not_over false e = refl

@@ -18,7 +18,8 @@ use tsp_base::alarm::Alarm;
 use tsp_base::desk::Desk;
 
 impl Gateway {
-    /// For every port in turn: repeats its due sends, and then handles its due alarms.
+    /// For every port in turn: repeats its due sends, and then handles its due alarms. Most turns end at once:
+    /// nothing is due.
     pub(crate) fn turn_ports<D: Desk>(&mut self, tick: u64, desk: &mut D)
         requires room { room_of_ports (ports_in self.old) ≤ D.spare desk.old }
         requires tick { IsTick tick }
@@ -32,31 +33,15 @@ impl Gateway {
             (D.spare desk.new) (D.acts desk.old) (D.acts desk.new) }
     {
         for q in 0..self.ports.len() {
-            self.turn_port(q, tick, desk);
+            if !self.is_idle(q, tick) {
+                self.turn_port(q, tick, desk);
+            }
         }
     }
 
-    /// Repeats the due sends and then handles the due alarms of a port. Most turns end at once: nothing is due.
-    fn turn_port<D: Desk>(&mut self, q: usize, tick: u64, desk: &mut D)
-        requires port { q < length (ports_in self.old) }
-        requires room { turn_room (peers_at q (ports_in self.old)) ≤ D.spare desk.old }
-        requires tick { IsTick tick }
-        requires later { clock_at self.old ≤ tick }
-        ensures row { PerformsAll (GatewayTurning q) (GatewayTurning (q + 1)) (turns_on (port_at q))
-            tick self.old self.new (D.acts desk.old) (D.acts desk.new) }
-        ensures ports { ports_in self.new ≡ ports_in self.old }
-        ensures clock { clock_at self.new ≤ tick }
-        ensures room { PutsAtMost (turn_room (peers_at q (ports_in self.old))) (D.spare desk.old)
-            (D.spare desk.new) (D.acts desk.old) (D.acts desk.new) }
-    {
-        if !self.is_idle(q, tick) {
-            self.act(q, tick, desk);
-        }
-    }
-
-    /// The same where something is due.
+    /// Repeats the due sends and then handles the due alarms of a port.
     #[inline(never)]
-    fn act<D: Desk>(&mut self, q: usize, tick: u64, desk: &mut D)
+    fn turn_port<D: Desk>(&mut self, q: usize, tick: u64, desk: &mut D)
         requires port { q < length (ports_in self.old) }
         requires room { turn_room (peers_at q (ports_in self.old)) ≤ D.spare desk.old }
         requires tick { IsTick tick }
