@@ -51,8 +51,15 @@ over-least d x =
     let c = is_over d.close x in
     let s = is_over d.resolve x in
     let r = is_over d.round x in
-    rw (over-earlier (earlier (earlier d.quiet d.search) (earlier d.elect d.window)) (earlier (earlier d.probe d.close) (earlier d.resolve d.round)) x, over-earlier (earlier d.quiet d.search) (earlier d.elect d.window) x,
-        over-earlier (earlier d.probe d.close) (earlier d.resolve d.round) x, over-earlier d.quiet d.search x, over-earlier d.elect d.window x, over-earlier d.probe d.close x, over-earlier d.resolve d.round x)
+    rw (
+      over-earlier (earlier (earlier d.quiet d.search) (earlier d.elect d.window)) (earlier (earlier d.probe d.close) (earlier d.resolve d.round)) x,
+      over-earlier (earlier d.quiet d.search) (earlier d.elect d.window) x,
+      over-earlier (earlier d.probe d.close) (earlier d.resolve d.round) x,
+      over-earlier d.quiet d.search x,
+      over-earlier d.elect d.window x,
+      over-earlier d.probe d.close x,
+      over-earlier d.resolve d.round x,
+    )
     (regroup a b e w p c s r) where
       regroup : (a b e w p c s r : Bool) → (a || (b || (e || (w || (p || (c || (s || r))))))) ≡ (((a || b) || (e || w)) || ((p || c) || (s || r)))
       regroup true b e w p c s r = refl
