@@ -39,7 +39,7 @@ impl Gateway {
         }
     }
 
-    /// Repeats the due sends and then handles the due alarms of a port.
+    /// Repeats the due sends and then handles the due alarms of a port. It is kept out of the loop of ports.
     #[inline(never)]
     fn turn_port<D: Desk>(&mut self, q: usize, tick: u64, desk: &mut D)
         requires port { q < length (ports_in self.old) }

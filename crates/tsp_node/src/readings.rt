@@ -24,7 +24,7 @@ impl Part {
         earlier(self.station.alarms.least(), self.station.sends.least())
     }
 
-    /// Whether neither an alarm nor an open send is due.
+    /// Whether neither an alarm nor an open send is due at this tick.
     #[inline]
     pub fn rests(&self, tick: u64) -> bool
         ensures { (due : Option ℕ) × IsPartDue self.now due × (result ≡ not (is_over due tick)) }
@@ -37,7 +37,7 @@ impl Part {
     }
 }
 
-/// Whether an alarm of a port is due.
+/// Whether an alarm of a port is due at this tick.
 #[inline]
 fn is_any_due(station: &Station, tick: u64) -> bool
     ensures { result ≡ is_over (least_deadline station.now.alarms) tick }
@@ -66,7 +66,7 @@ fn is_any_due(station: &Station, tick: u64) -> bool
     station.is_due(Alarm::Round, tick)
 }
 
-/// Whether a deadline has come.
+/// Whether a deadline has come at this tick; false where there is none.
 fn is_over(due: Option<u64>, tick: u64) -> bool
     ensures { result ≡ is_over due tick }
 {
