@@ -1,14 +1,14 @@
 -- A port with nothing due has nothing to do in its turn.
-use Rattle.std.specs.Prelude.{◌≡◌, ◌<◌, ◌+◌, ℕ, min, false, List, [], ◌∷◌, Option, None, Some, slice_get, refl}
-use Rattle.std.proofs.Common.{append-nil, arith, leb-false, sym}
+use Rattle.std.specs.Prelude.{◌≡◌, ◌<◌, ◌+◌, ℕ, not, Bool, true, false, length, List, [], ◌∷◌, Option, None, Some, slice_get, refl}
+use Rattle.std.proofs.Common.{append-nil, arith, leb-false, sym, true≢false, ◌∙◌}
 use Rattle.std.proofs.lemmas.Bool.{lt-leb}
 use Rattle.tsp_base.specs.declared.act.Placed.{Placed}
 use Rattle.tsp_base.specs.declared.alarm.Alarm.{Alarm}
-use Rattle.tsp_base.specs.declared.alarm.Alarm.TheVariants.{Close, Elect, Probe, Quiet, Resolve, Round, Search, Window}
+use Rattle.tsp_base.specs.declared.alarm.Alarm.TheVariants.{Close, Probe, Round}
 use Rattle.tsp_base.specs.declared.alarm.TheConstants.Alarm.{ALL}
 use Rattle.tsp_base.specs.declared.place.PeerId.{PeerId}
 use Rattle.tsp_base.specs.declared.place.Port.{Port}
-use Rattle.tsp_base.specs.Alarms.{Deadlines, deadline, earlier, least_deadline}
+use Rattle.tsp_base.specs.Alarms.{least_deadline}
 use Rattle.tsp_base.specs.History.{Past}
 use Rattle.tsp_base.specs.Rows.{either_by, for_each, nothing, reading, ◌followed_by◌}
 use Rattle.tsp_base.specs.SendFacts.{Sending, deadline_of, open_send}
@@ -22,36 +22,12 @@ use Rattle.tsp_sends.specs.Repeating.{IsEarliest, is_due_send}
 use Rattle.tsp_node.specs.declared.part.Part.{Part}
 use Rattle.tsp_node.specs.Dues.{IsPartDue}
 use Rattle.tsp_node.specs.NodeStands.{PortStands, port_with}
-use Rattle.tsp_node.proofs.DueLemmas.{IsEarliest-open}
+use Rattle.tsp_node.proofs.DueLemmas.{IsEarliest-open, alarm_waits, neither_over}
 use Rattle.tsp_clock.specs.Clocks.{ClockValue}
 use Rattle.tsp_gateway.specs.declared.gateway.Gateway.{Gateway}
 use Rattle.tsp_gateway.specs.GatewayStands.{GatewayTurning, port_at}
-
--- neither of two deadlines has come before the earlier one has
-neither_over : (a b : Option ℕ) (x : ℕ) → is_over (earlier a b) x ≡ false → (is_over a x ≡ false) × (is_over b x ≡ false)
-neither_over None b x e = (refl, e)
-neither_over (Some p) None x e = (e, refl)
-neither_over (Some p) (Some q) x e =
-    let before : x < min p q = leb-false (min p q) x e in
-    (lt-leb p x (omega (arith, before)), lt-leb q x (omega (arith, before)))
-
--- no alarm is due before the earliest is
-alarm_waits : (d : Deadlines) (x : ℕ) → is_over (least_deadline d) x ≡ false → (alarm : Alarm) → is_over (deadline d alarm) x ≡ false
-alarm_waits d x e alarm =
-    let halves = neither_over (earlier (earlier d.quiet d.search) (earlier d.elect d.window)) (earlier (earlier d.probe d.close) (earlier d.resolve d.round)) x e in
-    let first = neither_over (earlier d.quiet d.search) (earlier d.elect d.window) x halves.0 in
-    let last = neither_over (earlier d.probe d.close) (earlier d.resolve d.round) x halves.1 in
-    by_alarm alarm (neither_over d.quiet d.search x first.0) (neither_over d.elect d.window x first.1) (neither_over d.probe d.close x last.0) (neither_over d.resolve d.round x last.1) where
-      by_alarm : (a : Alarm) → (is_over d.quiet x ≡ false) × (is_over d.search x ≡ false) → (is_over d.elect x ≡ false) × (is_over d.window x ≡ false) → (is_over d.probe x ≡ false) × (is_over d.close x ≡ false) →
-          (is_over d.resolve x ≡ false) × (is_over d.round x ≡ false) → is_over (deadline d a) x ≡ false
-      by_alarm Quiet p q r s = p.0
-      by_alarm Search p q r s = p.1
-      by_alarm Elect p q r s = q.0
-      by_alarm Window p q r s = q.1
-      by_alarm Probe p q r s = r.0
-      by_alarm Close p q r s = r.1
-      by_alarm Resolve p q r s = s.0
-      by_alarm Round p q r s = s.1
+use Rattle.tsp_gateway.specs.Rooms.{ports_in}
+use Rattle.tsp_gateway.proofs.LiftLemmas.{part_of}
 
 -- no send is due before the earliest is
 send_waits : (sending : PeerId → Option Sending) (first : Option ℕ) (x : ℕ) → IsEarliest sending first → is_over first x ≡ false → (p : PeerId) → is_due_send x (sending p) ≡ false
@@ -106,3 +82,14 @@ All_waits {x} {q} {g} {old} part due there d e = record {
   acts = λ past w. rw (no_turn (port_at q) x past part g.clock due (w.stands.ports q part there) d e) (sym (append-nil old));
   stands = λ past w. rw (no_turn (port_at q) x past part g.clock due (w.stands.ports q part there) d e) (record { stands = w.stands; turns = record { untaken = w.turns.untaken; still = λ r from. w.turns.still r (omega (arith, from)) } });
 }
+
+-- so where the port says that it is idle
+pub idle_waits : (x q : ℕ) (g : Gateway) {old : List Placed} (idle : Bool) → q < length (ports_in g) → idle ≡ true → ((part : Part) → slice_get g.ports.items q ≡ Some part → (due : Option ℕ) × IsPartDue part due × (idle ≡ not (is_over due x))) →
+    PerformsAll (GatewayTurning q) (GatewayTurning (q + 1)) (turns_on (port_at q)) x g g old old
+idle_waits x q g idle lt e says =
+    let part = part_of g q lt in
+    let due = says part.0 part.1 in
+    All_waits part.0 due.0 part.1 due.1 (not_over (is_over due.0 x) (sym due.2 ∙ e)) where
+      not_over : (b : Bool) → not b ≡ true → b ≡ false
+      not_over true e = absurd (true≢false (sym e))
+      not_over false e = refl

@@ -1,17 +1,25 @@
 -- A port in its place among a node's ports.
-use Rattle.std.specs.Prelude.{◌≡◌, ◌<◌, ℕ, zero, suc, not, nat_le, nat_lt, List, [], ◌∷◌, length, map, Some, slice_get}
-use Rattle.std.proofs.Common.{ap, arith, get_or, subst, sym, ◌∙◌}
+use Rattle.std.specs.Prelude.{◌≡◌, ◌<◌, ◌≤◌, ℕ, zero, suc, List, [], ◌∷◌, length, map, Some, slice_get, vec_len}
+use Rattle.std.proofs.Common.{ap, arith, get_or, rules, subst, sym, ◌∙◌}
 use Rattle.std.proofs.Math.ListN.{set}
 use Rattle.std.proofs.lemmas.List.{length-map}
 use Rattle.tsp_acks.specs.declared.station.Station.{Station}
 use Rattle.tsp_node.specs.declared.part.Part.{Part}
 use Rattle.tsp_gateway.specs.declared.gateway.Gateway.{Gateway}
 use Rattle.tsp_gateway.specs.Rooms.{peers_at, ports_in}
-use Rattle.tsp_gateway.proofs.LiftLemmas.{part_there}
+use Rattle.tsp_gateway.proofs.LiftLemmas.{part_there, ports_many}
 
 -- a number of a port is a place
 pub inside : (g : Gateway) (q : ℕ) → q < length (ports_in g) → q < length g.ports.items
 inside g q lt = subst (λ n. q < n) (length-map g.ports.items _) lt
+
+-- how many places its memory has
+pub places : (g : Gateway) → vec_len g.ports ≡ length (ports_in g)
+places g = let len : vec_len g.ports ≡ length g.ports.items = search rules in len ∙ sym (ports_many g)
+
+-- a node has at most four ports
+pub ports_few : (g : Gateway) → length (ports_in g) ≤ 4
+ports_few g = let len = places g in let few = g.few in omega arith
 
 -- how many peers the part in a place has
 pub peers_there : (parts : List Part) (q : ℕ) (part : Part) → slice_get parts q ≡ Some part → peers_at q (map (λ (p : Part). p.station.peers) parts) ≡ length part.station.peers
@@ -32,7 +40,3 @@ ports_set (x ∷ parts) (suc q) old new e s = ap (λ peers. x.station.peers ∷ 
 -- a place has one part
 pub one_part : (parts : List Part) (q : ℕ) (p r : Part) → slice_get parts q ≡ Some p → slice_get parts q ≡ Some r → p ≡ r
 one_part parts q p r e f = let both : Some p ≡ Some r = sym e ∙ f in cc
-
--- a deadline is still ahead where it isn't over
-pub waits : (x at : ℕ) → nat_lt x at ≡ not (nat_le at x)
-waits x at = grind arith

@@ -1,10 +1,6 @@
 //! What a caller can read of a gateway.
 ghost use Rattle.std.specs.Prelude.{◌≡◌, ◌<◌, length};
-ghost use Rattle.tsp_base.specs.Frames.{IsTick};
-ghost use Rattle.tsp_base.specs.History.{dids};
-ghost use Rattle.tsp_base.specs.NodeFacts.{tracing};
 ghost use Rattle.tsp_rules.specs.NodeRows.{NodePast};
-ghost use Rattle.tsp_node.specs.NodeStands.{due_of};
 ghost use Rattle.tsp_gateway.specs.Dues.{IsNodeDue};
 ghost use Rattle.tsp_gateway.specs.PortOf.{port_of};
 
@@ -14,6 +10,8 @@ use tsp_base::place::{PeerId, Port};
 use tsp_rules::room::room_for;
 
 impl Gateway {
+    ghost use Rattle.tsp_base.specs.History.{dids};
+    ghost use Rattle.tsp_base.specs.NodeFacts.{tracing};
     ghost use Rattle.tsp_gateway.specs.GatewayStands.{GatewayStands};
     ghost use Rattle.tsp_gateway.specs.PortOf.{setups_in};
     ghost use Rattle.tsp_gateway.specs.Rooms.{ports_in, room_of_ports};

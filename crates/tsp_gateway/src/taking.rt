@@ -5,11 +5,8 @@ ghost use Rattle.tsp_base.specs.declared.datagram.Datagram.TheVariants.{Message 
 ghost use Rattle.tsp_base.specs.declared.datagram.Taken.TheVariants.{Good};
 ghost use Rattle.tsp_base.specs.declared.kind.Kind.TheVariants.{Loop};
 ghost use Rattle.tsp_base.specs.Frames.{IsTick, PutsAtMost};
-ghost use Rattle.tsp_base.specs.Rows.{puts};
-ghost use Rattle.tsp_rules.specs.Answers.{takes};
 ghost use Rattle.tsp_rules.specs.GateRows.{takes_loop, takes_message, takes_on};
 ghost use Rattle.tsp_rules.specs.NodePerforms.{PerformsAll};
-ghost use Rattle.tsp_rules.specs.NodeRows.{on};
 ghost use Rattle.tsp_gateway.specs.GateInputs.{HoldsNoMessage};
 ghost use Rattle.tsp_gateway.specs.GatewayStands.{GatewayStands, clock_at, port_at};
 ghost use Rattle.tsp_gateway.specs.Rooms.{all_peers, peers_at, ports_in};
@@ -23,6 +20,10 @@ use tsp_base::message::Message;
 use tsp_base::place::Place;
 
 impl Gateway {
+    ghost use Rattle.tsp_base.specs.Rows.{puts};
+    ghost use Rattle.tsp_rules.specs.Answers.{takes};
+    ghost use Rattle.tsp_rules.specs.NodeRows.{on};
+
     /// Takes, on a port, what was read of octets from `from`.
     pub(crate) fn take_in<D: Desk>(
         &mut self,

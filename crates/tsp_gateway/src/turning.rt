@@ -18,7 +18,8 @@ use tsp_base::alarm::Alarm;
 use tsp_base::desk::Desk;
 
 impl Gateway {
-    /// For every port in turn: repeats its due sends, and then handles its due alarms.
+    /// For every port in turn: repeats its due sends, and then handles its due alarms. Most turns end at once:
+    /// nothing is due.
     pub(crate) fn turn_ports<D: Desk>(&mut self, tick: u64, desk: &mut D)
         requires room { room_of_ports (ports_in self.old) ≤ D.spare desk.old }
         requires tick { IsTick tick }
@@ -32,11 +33,14 @@ impl Gateway {
             (D.spare desk.new) (D.acts desk.old) (D.acts desk.new) }
     {
         for q in 0..self.ports.len() {
-            self.turn_port(q, tick, desk);
+            if !self.is_idle(q, tick) {
+                self.turn_port(q, tick, desk);
+            }
         }
     }
 
-    /// Repeats the due sends and then handles the due alarms of a port. Most turns end at once: nothing is due.
+    /// Repeats the due sends and then handles the due alarms of a port. It is kept out of the loop of ports.
+    #[inline(never)]
     fn turn_port<D: Desk>(&mut self, q: usize, tick: u64, desk: &mut D)
         requires port { q < length (ports_in self.old) }
         requires room { turn_room (peers_at q (ports_in self.old)) ≤ D.spare desk.old }
@@ -49,9 +53,6 @@ impl Gateway {
         ensures room { PutsAtMost (turn_room (peers_at q (ports_in self.old))) (D.spare desk.old)
             (D.spare desk.new) (D.acts desk.old) (D.acts desk.new) }
     {
-        if self.is_idle(q, tick) {
-            return;
-        }
         self.send(q, tick, desk);
         self.ring_alarms(q, tick, desk);
     }
@@ -62,10 +63,7 @@ impl Gateway {
         ensures { (part : Part) → slice_get self.now.ports.items q ≡ Some part
             → (due : Option ℕ) × IsPartDue part due × (result ≡ not (is_over due tick)) }
     {
-        match self.ports[q].due() {
-            Some(at) => tick < at,
-            None => true,
-        }
+        self.ports[q].rests(tick)
     }
 
     /// Handles the due alarms of a port, each when its turn comes.

@@ -24,10 +24,11 @@ use Rattle.tsp_rules.proofs.Emits.{Alarming, Emits, Emits_arms, Emits_each, Emit
 use Rattle.tsp_rules.proofs.EmitsCandidate.{silent_window}
 use Rattle.tsp_rules.proofs.EmitsSlave.{emits_begins, silent_elect_rings, silent_quiet, silent_search, silent_sorts}
 use Rattle.tsp_slave.proofs.BesideLemmas.{beside_sorts}
+use Rattle.tsp_master.specs.MasterAlarms.{master_rings}
 use Rattle.tsp_master.proofs.CloseLemmas.{corrects-none}
 use Rattle.tsp_master.proofs.LeadLemmas.{still_sorts}
 use Rattle.tsp_node.specs.NodeStands.{PortUntaken, PortValue}
-use Rattle.tsp_node.specs.RoleAlarms.{is_of_slave}
+use Rattle.tsp_node.specs.RoleAlarms.{is_of_master, is_of_slave}
 
 -- whether an alarm is due, as the station has it
 due_is : (alarm : Alarm) (x : ℕ) (past : Past) (state : PortValue) → PortUntaken past state → is_due alarm x past ≡ is_over (deadline state.station.alarms alarm) x
@@ -59,15 +60,40 @@ pub corrects_now_due : (x : ℕ) (own wait : Bool) (alarm : Alarm) (before : Por
 corrects_now_due x own wait alarm before e b k past h = k past h ∙ ap corrects (sym (now_due own wait alarm x past (due_is alarm x past before h ∙ e)))
 
 -- an alarm that is no candidate's and no master's
-pub of_slave : (alarm : Alarm) → alarm ≢ Probe → alarm ≢ Close → alarm ≢ Round → alarm ≢ Window → alarm ≢ Resolve → is_of_slave alarm ≡ true
-of_slave Quiet p c r w s = refl
-of_slave Search p c r w s = refl
-of_slave Elect p c r w s = refl
-of_slave Window p c r w s = absurd (w refl)
-of_slave Probe p c r w s = absurd (p refl)
-of_slave Close p c r w s = absurd (c refl)
-of_slave Resolve p c r w s = absurd (s refl)
-of_slave Round p c r w s = absurd (r refl)
+pub of_slave : (wait : Bool) (alarm : Alarm) → is_of_master wait alarm ≡ false → alarm ≢ Round → alarm ≢ Window → alarm ≢ Resolve → is_of_slave alarm ≡ true
+of_slave wait Quiet e r w s = refl
+of_slave wait Search e r w s = refl
+of_slave wait Elect e r w s = refl
+of_slave wait Window e r w s = absurd (w refl)
+of_slave wait Probe e r w s = absurd (false≢true (sym e))
+of_slave wait Close e r w s = absurd (false≢true (sym e))
+of_slave wait Resolve e r w s = absurd (s refl)
+of_slave wait Round e r w s = absurd (r refl)
+
+-- one that isn't its master's is no Probe
+pub no_probe : (wait : Bool) (alarm : Alarm) → is_of_master wait alarm ≡ false → alarm ≡ Probe → ⊥
+no_probe wait Probe e is = false≢true (sym e)
+no_probe wait Quiet e is = let bad : ⊥ = cc in bad
+no_probe wait Search e is = let bad : ⊥ = cc in bad
+no_probe wait Elect e is = let bad : ⊥ = cc in bad
+no_probe wait Window e is = let bad : ⊥ = cc in bad
+no_probe wait Close e is = let bad : ⊥ = cc in bad
+no_probe wait Resolve e is = let bad : ⊥ = cc in bad
+no_probe wait Round e is = let bad : ⊥ = cc in bad
+
+-- a Round that isn't its master's waits
+pub waits : (wait : Bool) → is_of_master wait Round ≡ false → wait ≡ true
+waits true e = refl
+waits false e = absurd (false≢true (sym e))
+
+-- a master's alarm has its row
+pub master_rings-is : (own wait : Bool) (alarm : Alarm) → is_of_master wait alarm ≡ true → master_rings own alarm ≡ alarm_rings own wait alarm
+unfolding master_rings alarm_rings
+master_rings-is own wait Probe e = refl
+master_rings-is own wait Close e = refl
+master_rings-is own false Round e = refl
+master_rings-is own true Round e = absurd (false≢true e)
+master_rings-is own wait _ e = absurd (false≢true e)
 
 silent_alarm : (own wait : Bool) (alarm : Alarm) → is_of_slave alarm ≡ true → Emits silent_sorts (alarm_rings own wait alarm)
 unfolding alarm_rings
@@ -80,20 +106,20 @@ pub beside_alarm : (own wait : Bool) (alarm : Alarm) → is_of_slave alarm ≡ t
 beside_alarm own wait alarm e = Emits_more silent_sorts refl (silent_alarm own wait alarm e)
 
 -- the alarms of a port that is Starting, Loose or follows correct no clock, nor does a candidate's, nor a round that waits
-pub corrects_alarm : (own wait : Bool) (alarm : Alarm) → is_of_slave alarm ≡ true → (x : ℕ) (past : Past) → false ≡ corrects (alarm_rings own wait alarm x past)
+corrects_alarm : (own wait : Bool) (alarm : Alarm) → is_of_slave alarm ≡ true → (x : ℕ) (past : Past) → false ≡ corrects (alarm_rings own wait alarm x past)
 corrects_alarm own wait alarm e x past = sym (corrects-none (alarm_rings own wait alarm x past) ((Emits_more silent_sorts {all = still_sorts} refl (silent_alarm own wait alarm e)).only x past))
 
 pub beside_window : Emits beside_sorts window_rings
 beside_window = Emits_more (Leading ∷ silent_sorts) refl silent_window
 
-pub corrects_window : (x : ℕ) (past : Past) → false ≡ corrects (window_rings x past)
+corrects_window : (x : ℕ) (past : Past) → false ≡ corrects (window_rings x past)
 corrects_window x past = sym (corrects-none (window_rings x past) ((Emits_more (Leading ∷ silent_sorts) {all = still_sorts} refl silent_window).only x past))
 
 pub emits_wait : Emits (Alarming ∷ []) (round_rings true)
 unfolding round_rings begins_or_waits
 emits_wait = Emits_either (is_in_time Round) _ _ (Emits_then (puts (Ring Round)) (arms Round WAIT) (Emits_puts (Ring Round) refl) (Emits_arms Round WAIT refl)) (Emits_then (puts (Late Round)) (arms Round ROUND) (Emits_puts (Late Round) refl) (Emits_arms Round ROUND refl))
 
-pub corrects_wait : (x : ℕ) (past : Past) → false ≡ corrects (round_rings true x past)
+corrects_wait : (x : ℕ) (past : Past) → false ≡ corrects (round_rings true x past)
 corrects_wait x past = sym (corrects-none (round_rings true x past) ((Emits_more (Alarming ∷ []) {all = still_sorts} refl emits_wait).only x past))
 
 -- the end of a resolution
@@ -103,5 +129,18 @@ emits_resolve = Emits_either (is_in_time Resolve) _ _
     (Emits_then (puts (Ring Resolve)) _ (Emits_puts (Ring Resolve) refl) (Emits_reading rivals_at (for_each (begins Quit)) (λ ps. Emits_each (begins Quit) ps (λ p. emits_begins Quit p refl))))
     (Emits_puts (Late Resolve) refl)
 
-pub corrects_resolve : (x : ℕ) (past : Past) → false ≡ corrects (resolve_rings x past)
+corrects_resolve : (x : ℕ) (past : Past) → false ≡ corrects (resolve_rings x past)
 corrects_resolve x past = sym (corrects-none (resolve_rings x past) ((Emits_more (Numbering ∷ Alarming ∷ []) {all = still_sorts} refl emits_resolve).only x past))
+
+-- an alarm that isn't its master's corrects no clock
+pub corrects_beside : (own wait : Bool) (alarm : Alarm) → is_of_master wait alarm ≡ false → (x : ℕ) (past : Past) → false ≡ corrects (alarm_rings own wait alarm x past)
+unfolding alarm_rings
+corrects_beside own wait Quiet e x past = corrects_alarm own wait Quiet refl x past
+corrects_beside own wait Search e x past = corrects_alarm own wait Search refl x past
+corrects_beside own wait Elect e x past = corrects_alarm own wait Elect refl x past
+corrects_beside own wait Window e x past = corrects_window x past
+corrects_beside own wait Probe e x past = absurd (false≢true (sym e))
+corrects_beside own wait Close e x past = absurd (false≢true (sym e))
+corrects_beside own wait Resolve e x past = corrects_resolve x past
+corrects_beside own true Round e x past = corrects_wait x past
+corrects_beside own false Round e x past = absurd (false≢true (sym e))

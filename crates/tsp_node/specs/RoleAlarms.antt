@@ -1,7 +1,7 @@
--- The alarms of a port's role.
-use Rattle.std.specs.Prelude.{Bool, true, false}
+-- Whose the alarms of a port are.
+use Rattle.std.specs.Prelude.{not, Bool, true, false}
 use Rattle.tsp_base.specs.declared.alarm.Alarm.{Alarm}
-use Rattle.tsp_base.specs.declared.alarm.Alarm.TheVariants.{Quiet, Search, Elect}
+use Rattle.tsp_base.specs.declared.alarm.Alarm.TheVariants.{Close, Elect, Probe, Quiet, Round, Search}
 
 -- whether an alarm belongs to a port that is Starting, Loose or follows; the others belong to a candidate or a master
 abbrev pub is_of_slave : Alarm → Bool
@@ -9,3 +9,10 @@ is_of_slave Quiet = true
 is_of_slave Search = true
 is_of_slave Elect = true
 is_of_slave _ = false
+
+-- whether an alarm that is due is its master's: a Probe, a Close, or a Round that doesn't wait
+abbrev pub is_of_master : Bool → Alarm → Bool
+is_of_master wait Probe = true
+is_of_master wait Close = true
+is_of_master wait Round = not wait
+is_of_master wait _ = false

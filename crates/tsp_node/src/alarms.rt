@@ -3,17 +3,14 @@ ghost use Rattle.std.specs.Prelude.{◌≡◌, Bool, ◌+◌, ◌*◌, ◌≤◌
 ghost use Rattle.tsp_base.specs.declared.alarm.Alarm.TheVariants.{Probe, Close};
 ghost use Rattle.tsp_base.specs.Alarms.{deadline};
 ghost use Rattle.tsp_base.specs.Frames.{IsTick, PutsAtMost};
-ghost use Rattle.tsp_base.specs.History.{Past};
 ghost use Rattle.tsp_base.specs.Performs.{Performs};
 ghost use Rattle.tsp_rules.specs.Answers.{alarm_rings, rings};
-ghost use Rattle.tsp_rules.specs.RoundRows.{corrects};
+ghost use Rattle.tsp_rules.specs.CandidateRows.{window_rings};
 ghost use Rattle.tsp_rules.specs.Guards.{is_over};
-ghost use Rattle.tsp_clock.specs.Clocks.{ClockValue};
-ghost use Rattle.tsp_master.specs.MasterAlarms.{master_rings};
-ghost use Rattle.tsp_node.specs.RoleAlarms.{is_of_slave};
+ghost use Rattle.tsp_node.specs.RoleAlarms.{is_of_master, is_of_slave};
 
 use crate::part::Part;
-use crate::ringing::{ring_slave, wait_round};
+use crate::ringing::{is_of_master, ring_slave, wait_round};
 use crate::terms::RingTerms;
 use tsp_base::alarm::Alarm;
 use tsp_base::at::At;
@@ -23,6 +20,10 @@ use tsp_candidate::ring::candidate_ring;
 use tsp_clock::clock::Clock;
 
 impl Part {
+    ghost use Rattle.tsp_base.specs.History.{Past};
+    ghost use Rattle.tsp_rules.specs.RoundRows.{corrects};
+    ghost use Rattle.tsp_clock.specs.Clocks.{ClockValue};
+    ghost use Rattle.tsp_master.specs.MasterAlarms.{master_rings};
     ghost use Rattle.tsp_node.specs.NodeStands.{PortUntaken, port_with};
 
     /// Handles one alarm where it is due, and says whether that corrected the clock. `group_mean` says
@@ -92,32 +93,56 @@ impl Part {
             (D.spare desk.new) (D.acts desk.old) (D.acts desk.new) }
     {
         let At { tick, port } = terms.at;
-        match alarm {
-            Alarm::Probe => self.ring_round(clock, alarm, terms.group_mean, tick, port, desk),
-            Alarm::Close => self.ring_round(clock, alarm, terms.group_mean, tick, port, desk),
-            Alarm::Round => {
-                if terms.wait {
-                    wait_round(&mut self.station, tick, port, desk);
-                    false
-                } else {
-                    self.ring_round(clock, alarm, terms.group_mean, tick, port, desk)
-                }
-            }
-            Alarm::Window => {
-                candidate_ring(&mut self.station, tick, port, desk);
-                self.master.clear();
-                self.resolve.clear();
-                false
-            }
-            Alarm::Resolve => {
-                self.resolve.ring(&mut self.station, tick, port, desk);
-                false
-            }
-            _ => {
-                self.ring_role(alarm, tick, port, desk);
-                false
-            }
+        if is_of_master(alarm, terms.wait) {
+            self.ring_round(clock, alarm, terms.group_mean, tick, port, desk)
+        } else {
+            self.ring_beside(alarm, terms.wait, tick, port, desk);
+            false
         }
+    }
+
+    /// Handles a due alarm that isn't its master's. It leaves the clock alone.
+    fn ring_beside<D: Desk>(
+        &mut self,
+        alarm: Alarm,
+        wait: bool,
+        tick: u64,
+        port: Port,
+        desk: &mut D,
+    )
+        requires alarm { is_of_master wait alarm ≡ false }
+        requires tick { IsTick tick }
+        requires room { length self.old.station.peers + 4 ≤ D.spare desk.old }
+        ensures row { (own : Bool) (clock : ClockValue)
+            → Performs PortUntaken PortUntaken (alarm_rings own wait alarm) tick port
+            (port_with self.old clock) (port_with self.new clock) (D.acts desk.old)
+            (D.acts desk.new) }
+        ensures peers { self.new.station.peers ≡ self.old.station.peers }
+        ensures room { PutsAtMost (length self.old.station.peers + 4) (D.spare desk.old)
+            (D.spare desk.new) (D.acts desk.old) (D.acts desk.new) }
+    {
+        match alarm {
+            Alarm::Round => wait_round(&mut self.station, tick, port, desk),
+            Alarm::Window => self.ring_window(tick, port, desk),
+            Alarm::Resolve => self.resolve.ring(&mut self.station, tick, port, desk),
+            _ => self.ring_role(alarm, tick, port, desk),
+        }
+    }
+
+    /// Handles a due Window, after which the port has neither slaves nor rivals.
+    fn ring_window<D: Desk>(&mut self, tick: u64, port: Port, desk: &mut D)
+        requires tick { IsTick tick }
+        requires room { length self.old.station.peers + 3 ≤ D.spare desk.old }
+        ensures row { (clock : ClockValue)
+            → Performs PortUntaken PortUntaken window_rings tick port (port_with self.old clock)
+            (port_with self.new clock) (D.acts desk.old) (D.acts desk.new) }
+        ensures peers { self.new.station.peers ≡ self.old.station.peers }
+        ensures room { PutsAtMost (length self.old.station.peers + 3) (D.spare desk.old)
+            (D.spare desk.new) (D.acts desk.old) (D.acts desk.new) }
+    {
+        candidate_ring(&mut self.station, tick, port, desk);
+        self.master.clear();
+        self.resolve.clear();
     }
 
     /// Handles a due Probe, Close or Round.

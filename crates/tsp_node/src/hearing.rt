@@ -5,13 +5,9 @@ ghost use Rattle.tsp_base.specs.declared.datagram.Taken.TheVariants.{Good};
 ghost use Rattle.tsp_base.specs.declared.stamp.Stamp.TheVariants.{Reply};
 ghost use Rattle.tsp_base.specs.Frames.{IsTick, PutsAtMost};
 ghost use Rattle.tsp_base.specs.Performs.{Performs};
-ghost use Rattle.tsp_base.specs.PortFacts.{Received};
 ghost use Rattle.tsp_base.specs.Rows.{either_by, nothing};
-ghost use Rattle.tsp_base.specs.Stamps.{ReplyValue};
 ghost use Rattle.tsp_rules.specs.Answers.{from_peer, is_left, peer_replies, peer_says, handles_kind};
-ghost use Rattle.tsp_clock.specs.Clocks.{ClockValue};
 ghost use Rattle.tsp_node.specs.declared.audience.Audience.TheVariants.{OfDates, OfSends};
-ghost use Rattle.tsp_node.specs.Audiences.{audience_of, heard_from};
 ghost use Rattle.tsp_node.specs.NodeStands.{PortStands, PortTook, TakeStands, TookStands, port_with, traced_with};
 
 use crate::audience::{Audience, audience_of};
@@ -26,6 +22,11 @@ use tsp_clock::clock::Clock;
 use tsp_date::take::date_take;
 
 impl Part {
+    ghost use Rattle.tsp_base.specs.PortFacts.{Received};
+    ghost use Rattle.tsp_base.specs.Stamps.{ReplyValue};
+    ghost use Rattle.tsp_clock.specs.Clocks.{ClockValue};
+    ghost use Rattle.tsp_node.specs.Audiences.{audience_of, heard_from};
+
     /// Handles a message, by who handles its kind.
     pub(crate) fn hear<D: Desk>(
         &mut self,

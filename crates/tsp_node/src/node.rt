@@ -2,9 +2,7 @@
 ghost use Rattle.std.specs.Prelude.{◌≡◌, ◌≤◌, true, [], ◌∷◌, IfOk, IfErr, OnErr};
 ghost use Rattle.tsp_base.specs.declared.act.Act.TheVariants.{Boot};
 ghost use Rattle.tsp_base.specs.Frames.{IsTick, PutsAtMost};
-ghost use Rattle.tsp_base.specs.History.{Past};
 ghost use Rattle.tsp_base.specs.Performs.{Performs};
-ghost use Rattle.tsp_base.specs.Rows.{grown};
 ghost use Rattle.tsp_rules.specs.CommonRows.{boots};
 ghost use Rattle.tsp_rules.specs.Guards.{is_clock_value};
 ghost use Rattle.tsp_node.specs.Configs.{IsPort, BootsNot};
@@ -30,6 +28,8 @@ pub struct Node {
 pub(crate) const PORT: Port = Port(0);
 
 impl Node {
+    ghost use Rattle.tsp_base.specs.History.{Past};
+    ghost use Rattle.tsp_base.specs.Rows.{grown};
     ghost use Rattle.tsp_node.specs.NodeStands.{NodeStands, Unbooted, peers_in, clock_at};
 
     /// Boots a node with a word, at a tick and a wall clock (microseconds since 1970): puts Boot,

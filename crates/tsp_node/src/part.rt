@@ -8,13 +8,9 @@ ghost use Rattle.tsp_base.specs.Frames.{IsTick, PutsAtMost, PutsExactly};
 ghost use Rattle.tsp_base.specs.History.{Past, Booted, Step};
 ghost use Rattle.tsp_base.specs.Performs.{Performs};
 ghost use Rattle.tsp_base.specs.Rows.{grown, puts, arms, ◌followed_by◌};
-ghost use Rattle.tsp_rules.specs.GateRows.{loosens_master};
-ghost use Rattle.tsp_rules.specs.RoundRows.{abandons_going};
 ghost use Rattle.tsp_rules.specs.Guards.{is_master};
 ghost use Rattle.tsp_acks.specs.Peers.{IsPeers};
 ghost use Rattle.tsp_acks.specs.Stands.{IsPortOf};
-ghost use Rattle.tsp_clock.specs.Clocks.{ClockValue};
-ghost use Rattle.tsp_clock.specs.ClockStands.{ClockStands};
 ghost use Rattle.tsp_master.specs.Slaves.{peers_of};
 ghost use Rattle.tsp_date.specs.Dates.{peers_of as dated_of};
 
@@ -52,6 +48,10 @@ pub struct Part {
 }
 
 impl Part {
+    ghost use Rattle.tsp_rules.specs.GateRows.{loosens_master};
+    ghost use Rattle.tsp_rules.specs.RoundRows.{abandons_going};
+    ghost use Rattle.tsp_clock.specs.Clocks.{ClockValue};
+    ghost use Rattle.tsp_clock.specs.ClockStands.{ClockStands};
     ghost use Rattle.tsp_master.specs.Clearing.{Clears};
     ghost use Rattle.tsp_node.specs.NodeStands.{PortStands, corrected_elsewhere, port_with};
     ghost use Rattle.tsp_node.specs.Unmarking.{Unmarks};
@@ -65,10 +65,10 @@ impl Part {
             → ClockStands (grown tick past (Boot ∷ [])) clock
             → PortStands (grown tick past (Boot ∷ [])) (port_with part clock)) }
     {
-        let station = Station::new(alloc, me, peers, tick)?;
-        let master = Master::new(alloc, peers)?;
         let resolve = Resolve::new(alloc, peers)?;
         let dates = Dates::new(alloc, peers)?;
+        let master = Master::new(alloc, peers)?;
+        let station = Station::new(alloc, me, peers, tick)?;
         Ok(Part {
             station,
             last: Last::new(),

@@ -1,22 +1,21 @@
 //! What a caller can read of a node, and of a port.
-ghost use Rattle.std.specs.Prelude.{◌≡◌, ℕ, ◌≤◌, Option};
+ghost use Rattle.std.specs.Prelude.{◌≡◌, ℕ, ◌≤◌, not, Option};
 ghost use Rattle.tsp_base.specs.Alarms.{earlier, least_deadline};
-ghost use Rattle.tsp_base.specs.Frames.{IsTick};
-ghost use Rattle.tsp_base.specs.History.{Past, plain};
-ghost use Rattle.tsp_base.specs.NodeFacts.{shown, tracing};
-ghost use Rattle.tsp_base.specs.PortFacts.{role, armed};
 ghost use Rattle.tsp_base.specs.SendFacts.{open_send};
-ghost use Rattle.tsp_clock.specs.Clocks.{shown_of};
+ghost use Rattle.tsp_rules.specs.Guards.{is_over};
 ghost use Rattle.tsp_sends.specs.Slots.{sending_to};
 ghost use Rattle.tsp_sends.specs.Repeating.{IsEarliest};
-ghost use Rattle.tsp_node.specs.Dues.{IsPartDue};
 
 use crate::node::Node;
 use crate::part::Part;
+use tsp_acks::station::Station;
+use tsp_base::alarm::Alarm;
 use tsp_base::alarms::earlier;
 use tsp_base::role::Role;
 
 impl Part {
+    ghost use Rattle.tsp_node.specs.Dues.{IsPartDue};
+
     /// The earliest deadline of an armed alarm or an open send, which may be in the past; None exactly where no
     /// alarm is armed and no send open.
     pub fn due(&self) -> Option<u64>
@@ -24,9 +23,65 @@ impl Part {
     {
         earlier(self.station.alarms.least(), self.station.sends.least())
     }
+
+    /// Whether neither an alarm nor an open send is due at this tick.
+    #[inline]
+    pub fn rests(&self, tick: u64) -> bool
+        ensures { (due : Option ℕ) × IsPartDue self.now due × (result ≡ not (is_over due tick)) }
+    {
+        let sends = self.station.sends.least();
+        if is_any_due(&self.station, tick) {
+            return false;
+        }
+        !is_over(sends, tick)
+    }
+}
+
+/// Whether an alarm of a port is due at this tick.
+#[inline]
+fn is_any_due(station: &Station, tick: u64) -> bool
+    ensures { result ≡ is_over (least_deadline station.now.alarms) tick }
+{
+    if station.is_due(Alarm::Quiet, tick) {
+        return true;
+    }
+    if station.is_due(Alarm::Search, tick) {
+        return true;
+    }
+    if station.is_due(Alarm::Elect, tick) {
+        return true;
+    }
+    if station.is_due(Alarm::Window, tick) {
+        return true;
+    }
+    if station.is_due(Alarm::Probe, tick) {
+        return true;
+    }
+    if station.is_due(Alarm::Close, tick) {
+        return true;
+    }
+    if station.is_due(Alarm::Resolve, tick) {
+        return true;
+    }
+    station.is_due(Alarm::Round, tick)
+}
+
+/// Whether a deadline has come at this tick; false where there is none.
+fn is_over(due: Option<u64>, tick: u64) -> bool
+    ensures { result ≡ is_over due tick }
+{
+    match due {
+        Some(at) => at <= tick,
+        None => false,
+    }
 }
 
 impl Node {
+    ghost use Rattle.tsp_base.specs.Frames.{IsTick};
+    ghost use Rattle.tsp_base.specs.History.{Past, plain};
+    ghost use Rattle.tsp_base.specs.NodeFacts.{shown, tracing};
+    ghost use Rattle.tsp_base.specs.PortFacts.{role, armed};
+    ghost use Rattle.tsp_clock.specs.Clocks.{shown_of};
     ghost use Rattle.tsp_node.specs.NodeStands.{NodeStands, clock_at, due_of};
 
     /// The tick at which the node needs its next step, if nothing comes before: the earliest deadline of an armed

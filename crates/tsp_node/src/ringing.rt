@@ -7,7 +7,7 @@ ghost use Rattle.tsp_rules.specs.RoundRows.{round_rings};
 ghost use Rattle.tsp_rules.specs.SlaveRows.{elect_rings};
 ghost use Rattle.tsp_acks.specs.Changes.{IsSamePort};
 ghost use Rattle.tsp_acks.specs.Stands.{Stands};
-ghost use Rattle.tsp_node.specs.RoleAlarms.{is_of_slave};
+ghost use Rattle.tsp_node.specs.RoleAlarms.{is_of_master, is_of_slave};
 
 use tsp_acks::station::Station;
 use tsp_base::alarm::Alarm;
@@ -16,6 +16,17 @@ use tsp_base::desk::Desk;
 use tsp_base::place::Port;
 use tsp_candidate::candidature::begin_candidature;
 use tsp_slave::ring::{becomes_candidate, slave_ring};
+
+/// Whether a due alarm is its master's: a Probe, a Close, or a Round that doesn't wait.
+pub(crate) fn is_of_master(alarm: Alarm, wait: bool) -> bool
+    ensures { result ≡ is_of_master wait alarm }
+{
+    match alarm {
+        Alarm::Probe | Alarm::Close => true,
+        Alarm::Round => !wait,
+        _ => false,
+    }
+}
 
 /// Handles a due alarm of a port that is Starting, Loose or follows.
 pub(crate) fn ring_slave<D: Desk>(

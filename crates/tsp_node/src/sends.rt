@@ -6,13 +6,10 @@ ghost use Rattle.tsp_base.specs.declared.datagram.Datagram.TheVariants.{Message}
 ghost use Rattle.tsp_base.specs.declared.place.Place.TheVariants.{Peer};
 ghost use Rattle.tsp_base.specs.Frames.{IsTick, PutsAtMost};
 ghost use Rattle.tsp_base.specs.History.{Past};
-ghost use Rattle.tsp_base.specs.Messages.{MessageValue};
 ghost use Rattle.tsp_base.specs.Performs.{Performs};
-ghost use Rattle.tsp_base.specs.PortFacts.{acting};
 ghost use Rattle.tsp_base.specs.Rows.{grown};
 ghost use Rattle.tsp_rules.specs.SendRows.{due_send, due_sends, leaves_after};
 ghost use Rattle.tsp_sends.specs.Repeating.{IsAfter, RepeatsNext, peer_of};
-ghost use Rattle.tsp_clock.specs.Clocks.{ClockValue};
 ghost use Rattle.tsp_master.specs.MasterStands.{MasterStands};
 
 use crate::part::Part;
@@ -23,6 +20,9 @@ use tsp_base::place::{PeerId, Port};
 use tsp_sends::Due;
 
 impl Part {
+    ghost use Rattle.tsp_base.specs.Messages.{MessageValue};
+    ghost use Rattle.tsp_base.specs.PortFacts.{acting};
+    ghost use Rattle.tsp_clock.specs.Clocks.{ClockValue};
     ghost use Rattle.tsp_node.specs.NodeStands.{PortBegun, port_with};
     ghost use Rattle.tsp_node.specs.Dues.{IsNoted};
 

@@ -2,9 +2,6 @@
 ghost use Rattle.std.specs.Prelude.{◌≡◌, ℕ, ◌+◌, ◌*◌, ◌≤◌, length};
 ghost use Rattle.tsp_base.specs.Frames.{IsTick, PutsAtMost};
 ghost use Rattle.tsp_base.specs.History.{Past};
-ghost use Rattle.tsp_base.specs.Performs.{Performs};
-ghost use Rattle.tsp_base.specs.Rows.{either_by, nothing};
-ghost use Rattle.tsp_rules.specs.Answers.{takes, handles};
 ghost use Rattle.tsp_rules.specs.RoundRows.{corrects};
 ghost use Rattle.tsp_rules.specs.Guards.{is_own};
 ghost use Rattle.tsp_node.specs.NodeStands.{TakeStands, TookStands, traced_with};
@@ -21,6 +18,10 @@ use tsp_base::stamp::Stamp;
 use tsp_clock::clock::Clock;
 
 impl Part {
+    ghost use Rattle.tsp_base.specs.Performs.{Performs};
+    ghost use Rattle.tsp_base.specs.Rows.{either_by, nothing};
+    ghost use Rattle.tsp_rules.specs.Answers.{takes, handles};
+
     /// Takes what was read of octets from `from`, and says whether that corrected the clock. Where the port
     /// doesn't `steer` its node's clock, it ignores the corrections of the master that it follows; where it
     /// isn't in `charge` of its node's date, it sets none.

@@ -7,12 +7,7 @@ ghost use Rattle.tsp_base.specs.declared.place.PeerId.{PeerId};
 ghost use Rattle.tsp_base.specs.declared.role.Role.{Role};
 ghost use Rattle.tsp_base.specs.declared.role.Role.TheVariants.{Master};
 ghost use Rattle.tsp_base.specs.Frames.{IsTick, PutsAtMost};
-ghost use Rattle.tsp_base.specs.History.{Past};
-ghost use Rattle.tsp_base.specs.Peers.{is_among};
 ghost use Rattle.tsp_base.specs.Performs.{Performs};
-ghost use Rattle.tsp_base.specs.Rows.{grown};
-ghost use Rattle.tsp_rules.specs.ResolveRows.{finds_rival, quits_rivals, resolve_rings, resolves};
-ghost use Rattle.tsp_acks.specs.Changes.{IsSamePort};
 ghost use Rattle.tsp_acks.specs.Peers.{IsPeers};
 ghost use Rattle.tsp_resolve.specs.Marked.{marked};
 
@@ -33,6 +28,11 @@ pub struct Resolve {
 }
 
 impl Resolve {
+    ghost use Rattle.tsp_base.specs.Peers.{is_among};
+    ghost use Rattle.tsp_acks.specs.Changes.{IsSamePort};
+    ghost use Rattle.tsp_base.specs.History.{Past};
+    ghost use Rattle.tsp_base.specs.Rows.{grown};
+    ghost use Rattle.tsp_rules.specs.ResolveRows.{finds_rival, quits_rivals, resolve_rings, resolves};
     ghost use Rattle.tsp_resolve.specs.ResolveStands.{ResolveStands, ResolvingActs, ResolvingStands};
 
     /// No rival found yet, on a port with these peers.

@@ -1,5 +1,5 @@
 -- What the port does is what the node does.
-use Rattle.std.proofs.Common.{◌≡◌, [], true, false, Bool, if◌then◌else◌, ◌∷◌, refl}
+use Rattle.std.proofs.Common.{◌≡◌, [], true, false, Bool, if◌then◌else◌, ◌∷◌, refl, arith}
 use Rattle.tsp_base.specs.declared.act.Act.TheVariants.{Abandon}
 use Rattle.tsp_base.specs.declared.place.Port.{Port}
 use Rattle.tsp_base.specs.Rows.{either_by, nothing, placed, puts}
@@ -8,7 +8,7 @@ use Rattle.tsp_rules.specs.RoundRows.{abandons, abandons_going}
 use Rattle.tsp_rules.proofs.Emits.{Emits_more, Rounding}
 use Rattle.tsp_node.proofs.EmitsRows.{emits_abandons}
 use Rattle.tsp_gateway.proofs.LiftLemmas.{All_here, All_same, part_there}
-use Rattle.tsp_gateway.proofs.PlaceLemmas.{ports_set}
+use Rattle.tsp_gateway.proofs.PlaceLemmas.{places, ports_few, ports_set}
 use Rattle.tsp_gateway.specs.GatewayStands.{port_at}
 use Rattle.tsp_gateway.proofs.gateway.Gateway.abandon.Goals as goal
 
@@ -25,3 +25,12 @@ returns-clause-row g c x =
 
 pub returns-clause-ports : goal.returns-clause-ports
 returns-clause-ports g c = ports_set c.args.self.now.ports.items c.args.r c.index_mut.result.now c.abandon.new.self (part_there c.args.self.now c.args.r c.index_mut.result.now c.requires.port c.index_mut.ensures.value) c.abandon.ensures.peers
+
+pub index_mut-requires : goal.index_mut-requires
+index_mut-requires g c = let len = places c.args.self.now in omega (arith, len, c.requires.port)
+
+pub invariant_of-self : goal.invariant_of-self
+invariant_of-self g c = record { some = c.args.self.now.some; few = c.args.self.now.few; memory = c.args.self.now.memory }
+
+pub port_at-requires : goal.port_at-requires
+port_at-requires g c = let few = ports_few c.args.self.now in omega (arith, few, c.requires.port)

@@ -1,5 +1,5 @@
 -- What the port does, and what it stirs where it has corrected.
-use Rattle.std.proofs.Common.{◌∙◌, false, refl, sym, arith}
+use Rattle.std.proofs.Common.{ap, length, ◌∙◌, false, refl, sym, arith}
 use Rattle.tsp_base.specs.declared.alarm.Alarm.TheVariants.{Close}
 use Rattle.tsp_rules.specs.Answers.{rings}
 use Rattle.tsp_rules.specs.GateRows.{alarm_on, closes_on, leads_clock}
@@ -7,7 +7,7 @@ use Rattle.tsp_rules.specs.NodeRows.{on_port}
 use Rattle.tsp_node.proofs.TakeEmits.{emits_rings}
 use Rattle.tsp_gateway.specs.GatewayStands.{port_at}
 use Rattle.tsp_gateway.proofs.LiftLemmas.{All_reading, part_there}
-use Rattle.tsp_gateway.proofs.PlaceLemmas.{peers_there, ports_set}
+use Rattle.tsp_gateway.proofs.PlaceLemmas.{peers_there, places, ports_few, ports_set}
 use Rattle.tsp_gateway.proofs.StirLemmas.{All_calm, All_upset, untaken_there}
 use Rattle.tsp_gateway.proofs.gateway.Gateway.close.Goals as goal
 
@@ -42,3 +42,47 @@ returns-else-ring-clause-ports g c = ports_set c.args.self.now.ports.items c.arg
 
 pub returns-then-ring-clause-ports : goal.returns-then-ring-clause-ports
 returns-then-ring-clause-ports g c = c.upset.ensures.ports ∙ ports_set c.args.self.now.ports.items c.args.q c.index_mut.result.now c.ring.new.self (part_there c.args.self.now c.args.q c.index_mut.result.now c.requires.port c.index_mut.ensures.value) c.ring.ensures.peers
+
+pub upset-requires : goal.upset-requires
+upset-requires g c =
+    let there = part_there c.args.self.now c.args.q c.index_mut.result.now c.requires.port c.index_mut.ensures.value in
+    let many = peers_there c.args.self.now.ports.items c.args.q c.index_mut.result.now there in
+    let same = ap length (ports_set c.args.self.now.ports.items c.args.q c.index_mut.result.now c.ring.new.self there c.ring.ensures.peers) in
+    record { room = omega (arith, many, same, ports_few c.args.self.now, c.ring.ensures.room.spare, c.requires.room) }
+
+pub returns-then-ring-clause-clock : goal.returns-then-ring-clause-clock
+returns-then-ring-clause-clock g c = omega (arith, c.upset.ensures.clock, c.ring.ensures.clock)
+
+pub returns-then-ring-clause-room : goal.returns-then-ring-clause-room
+returns-then-ring-clause-room g c =
+    let there = part_there c.args.self.now c.args.q c.index_mut.result.now c.requires.port c.index_mut.ensures.value in
+    let many = peers_there c.args.self.now.ports.items c.args.q c.index_mut.result.now there in
+    let same = ap length (ports_set c.args.self.now.ports.items c.args.q c.index_mut.result.now c.ring.new.self there c.ring.ensures.peers) in
+    let few = ports_few c.args.self.now in
+    let first = c.ring.ensures.room in
+    let more = c.upset.ensures.room in
+    record { spare = omega (arith, many, same, few, first.spare, more.spare); few = omega (arith, many, same, few, first.few, more.few) }
+
+pub returns-else-ring-clause-room : goal.returns-else-ring-clause-room
+returns-else-ring-clause-room g c =
+    let many = peers_there c.args.self.now.ports.items c.args.q c.index_mut.result.now (part_there c.args.self.now c.args.q c.index_mut.result.now c.requires.port c.index_mut.ensures.value) in
+    let room = c.ring.ensures.room in
+    record { spare = omega (arith, many, room.spare); few = omega (arith, many, room.few) }
+
+pub leads_clock-own-requires : goal.leads_clock-own-requires
+leads_clock-own-requires g c = c.requires.port
+
+pub port_at-requires : goal.port_at-requires
+port_at-requires g c = let few = ports_few c.args.self.now in omega (arith, few, c.requires.port)
+
+pub index_mut-requires : goal.index_mut-requires
+index_mut-requires g c = let len = places c.args.self.now in omega (arith, len, c.requires.port)
+
+pub invariant_of-self : goal.invariant_of-self
+invariant_of-self g c = record { some = c.args.self.now.some; few = c.args.self.now.few; memory = c.args.self.now.memory }
+
+pub ring-requires-clause-tick : goal.ring-requires-clause-tick
+ring-requires-clause-tick g c = c.requires.tick
+
+pub ring-requires-clause-later : goal.ring-requires-clause-later
+ring-requires-clause-later g c = c.requires.later

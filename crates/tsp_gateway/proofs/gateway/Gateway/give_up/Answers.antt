@@ -1,5 +1,5 @@
 -- What the port does is what the node does.
-use Rattle.std.proofs.Common.{refl}
+use Rattle.std.proofs.Common.{refl, arith}
 use Rattle.tsp_base.specs.declared.act.Act.TheVariants.{Become}
 use Rattle.tsp_base.specs.declared.alarm.Alarm.TheVariants.{Elect}
 use Rattle.tsp_base.specs.declared.role.Role.TheVariants.{Loose}
@@ -10,7 +10,7 @@ use Rattle.tsp_rules.specs.GateRows.{loosens_master}
 use Rattle.tsp_rules.specs.Guards.{delay_at, is_master_at}
 use Rattle.tsp_rules.proofs.Emits.{Emits, Emits_arms, Emits_either, Emits_nothing, Emits_puts, Emits_reading, Emits_then}
 use Rattle.tsp_gateway.proofs.LiftLemmas.{All_here, part_there, still_sorts}
-use Rattle.tsp_gateway.proofs.PlaceLemmas.{ports_set}
+use Rattle.tsp_gateway.proofs.PlaceLemmas.{places, ports_few, ports_set}
 use Rattle.tsp_gateway.proofs.gateway.Gateway.give_up.Goals as goal
 
 emits-loosens : Emits still_sorts loosens_master
@@ -24,3 +24,12 @@ returns-clause-row g c =
 
 pub returns-clause-ports : goal.returns-clause-ports
 returns-clause-ports g c = ports_set c.args.self.now.ports.items c.args.q c.index_mut.result.now c.loosen.new.self (part_there c.args.self.now c.args.q c.index_mut.result.now c.requires.port c.index_mut.ensures.value) c.loosen.ensures.peers
+
+pub index_mut-requires : goal.index_mut-requires
+index_mut-requires g c = let len = places c.args.self.now in omega (arith, len, c.requires.port)
+
+pub invariant_of-self : goal.invariant_of-self
+invariant_of-self g c = record { some = c.args.self.now.some; few = c.args.self.now.few; memory = c.args.self.now.memory }
+
+pub port_at-requires : goal.port_at-requires
+port_at-requires g c = let few = ports_few c.args.self.now in omega (arith, few, c.requires.port)

@@ -6,6 +6,7 @@ use Rattle.tsp_gateway.specs.GatewayStands.{port_at}
 use Rattle.tsp_gateway.proofs.AnyLemmas.{station_there}
 use Rattle.tsp_gateway.proofs.JudgeLemmas.{All_judged, forward_kind, judge_same}
 use Rattle.tsp_gateway.proofs.LiftLemmas.{All_nothing}
+use Rattle.tsp_gateway.proofs.PlaceLemmas.{places, ports_few}
 use Rattle.tsp_gateway.proofs.gateway.Gateway.judge_loop.Goals as goal
 
 pub forward-requires : goal.forward-requires
@@ -46,3 +47,21 @@ returns-in-Forward-clause-row g c =
     let s = station_there past self q c.index.result.now c.station.result.now c.requires.port c.index.ensures c.station.ensures h in
     judge_same c.station.result.now.me.name past.name c.many.result (length past.ports) c.port_at.result (port_at q) c.args.m.now (Forward c.in-Forward.next) s.name (c.many.ensures ∙ h.many) c.port_at.ensures (c.in-Forward.ensures))
     (c.forward.ensures.row c.args.tick)
+
+pub index-requires : goal.index-requires
+index-requires g c = let len = places c.args.self.now in omega (arith, len, c.requires.port)
+
+pub port_at-requires : goal.port_at-requires
+port_at-requires g c = let few = ports_few c.args.self.now in omega (arith, few, c.requires.port)
+
+pub judge-requires : goal.judge-requires
+judge-requires g c = c.requires.kind
+
+pub returns-in-PassOver-clause-room : goal.returns-in-PassOver-clause-room
+returns-in-PassOver-clause-room g c = record { spare = omega arith; few = omega arith }
+
+pub returns-in-GiveUp-clause-room : goal.returns-in-GiveUp-clause-room
+returns-in-GiveUp-clause-room g c = let room = c.give_up.ensures.room in record { spare = omega (arith, room.spare); few = omega (arith, room.few) }
+
+pub returns-in-Forward-clause-room : goal.returns-in-Forward-clause-room
+returns-in-Forward-clause-room g c = let room = c.forward.ensures.room in record { spare = omega (arith, room.spare); few = omega (arith, room.few) }

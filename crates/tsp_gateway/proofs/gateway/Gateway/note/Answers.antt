@@ -1,11 +1,13 @@
 -- What was taken leaves all ports as they are.
-use Rattle.std.proofs.Common.{refl}
+use Rattle.std.proofs.Common.{ap, arith, length, refl, ◌∙◌}
+use Rattle.std.proofs.lemmas.List.{length-append}
 use Rattle.tsp_base.specs.declared.act.Act.TheVariants.{Took}
 use Rattle.tsp_base.specs.Rows.{puts}
 use Rattle.tsp_rules.proofs.Emits.{Emits_puts}
 use Rattle.tsp_node.specs.NodeStands.{TakeStands, port_with}
 use Rattle.tsp_node.proofs.NodeLemmas.{PortTook_took, Performs_put}
 use Rattle.tsp_gateway.proofs.LiftLemmas.{All_idle}
+use Rattle.tsp_gateway.proofs.PlaceLemmas.{ports_few}
 use Rattle.tsp_gateway.proofs.gateway.Gateway.note.Goals as goal
 
 pub returns-clause-row : goal.returns-clause-row
@@ -16,3 +18,14 @@ returns-clause-row g c =
     All_idle c.requires.port (Emits_puts (Took from taken) refl) (λ x past. refl)
     (λ part there. Performs_put {p = TakeStands} {q = TakeStands} (Took from taken) (rw (c.port_at.ensures, c.copy.ensures) at c.put.ensures.acts)
     (λ past h. record { port = (PortTook_took from taken c.args.tick past (port_with part c.args.self.now.clock) h.port).stands; trace = h.trace }))
+
+pub put-requires : goal.put-requires
+put-requires g c = omega (arith, c.requires.room)
+
+pub returns-clause-room : goal.returns-clause-room
+returns-clause-room g c =
+    let one = ap length c.put.ensures.acts ∙ length-append (g.D.Desk.acts c.args.desk.now) _ in
+    record { spare = omega (arith, c.put.ensures.spare); few = omega (arith, one) }
+
+pub port_at-requires : goal.port_at-requires
+port_at-requires g c = let few = ports_few c.args.self.now in omega (arith, few, c.requires.port)

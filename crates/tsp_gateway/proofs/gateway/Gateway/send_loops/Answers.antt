@@ -8,7 +8,7 @@ use Rattle.tsp_rules.specs.GateRows.{sends_loops}
 use Rattle.tsp_acks.specs.declared.station.Station.{Station}
 use Rattle.tsp_gateway.specs.GatewayStands.{port_at}
 use Rattle.tsp_gateway.proofs.LiftLemmas.{part_there}
-use Rattle.tsp_gateway.proofs.PlaceLemmas.{station_peers}
+use Rattle.tsp_gateway.proofs.PlaceLemmas.{places, ports_few, station_peers}
 use Rattle.tsp_gateway.proofs.PostLemmas.{All_posted, emits_loops, loops_are}
 use Rattle.tsp_gateway.proofs.gateway.Gateway.send_loops.Goals as goal
 
@@ -37,3 +37,9 @@ returns-clause-room g c =
     let many = station_peers c.args.self.now c.args.q c.index.result.now c.station-station.result.now c.requires.port c.index.ensures c.station-station.ensures in
     let room = c.repost.ensures.room in
     record { spare = omega (arith, many, room.spare); few = omega (arith, many, room.few) }
+
+pub index-requires : goal.index-requires
+index-requires g c = let len = places c.args.self.now in omega (arith, len, c.requires.port)
+
+pub port_at-requires : goal.port_at-requires
+port_at-requires g c = let few = ports_few c.args.self.now in omega (arith, few, c.requires.port)

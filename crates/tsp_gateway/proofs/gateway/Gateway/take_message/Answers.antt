@@ -1,7 +1,7 @@
 -- What the port does, and what it stirs where it has corrected.
-use Rattle.std.proofs.Common.{◌∙◌, refl, sym, arith}
+use Rattle.std.proofs.Common.{ap, length, ◌∙◌, refl, sym, arith}
 use Rattle.tsp_gateway.proofs.LiftLemmas.{part_there}
-use Rattle.tsp_gateway.proofs.PlaceLemmas.{peers_there, ports_set}
+use Rattle.tsp_gateway.proofs.PlaceLemmas.{peers_there, places, ports_few, ports_set}
 use Rattle.tsp_gateway.proofs.TakeLemmas.{All_passed, All_taken}
 use Rattle.tsp_gateway.proofs.gateway.Gateway.take_message.Goals as goal
 
@@ -29,3 +29,50 @@ returns-else-take-clause-ports g c = ports_set c.args.self.now.ports.items c.arg
 
 pub returns-then-take-clause-ports : goal.returns-then-take-clause-ports
 returns-then-take-clause-ports g c = c.upset.ensures.ports ∙ ports_set c.args.self.now.ports.items c.args.q c.index_mut.result.now c.take.new.self (part_there c.args.self.now c.args.q c.index_mut.result.now c.requires.port c.index_mut.ensures.value) c.take.ensures.peers
+
+pub upset-requires : goal.upset-requires
+upset-requires g c =
+    let there = part_there c.args.self.now c.args.q c.index_mut.result.now c.requires.port c.index_mut.ensures.value in
+    let many = peers_there c.args.self.now.ports.items c.args.q c.index_mut.result.now there in
+    let same = ap length (ports_set c.args.self.now.ports.items c.args.q c.index_mut.result.now c.take.new.self there c.take.ensures.peers) in
+    record { room = omega (arith, many, same, ports_few c.args.self.now, c.take.ensures.room.spare, c.requires.room) }
+
+pub returns-then-take-clause-clock : goal.returns-then-take-clause-clock
+returns-then-take-clause-clock g c = omega (arith, c.upset.ensures.clock, c.take.ensures.clock)
+
+pub returns-then-take-clause-room : goal.returns-then-take-clause-room
+returns-then-take-clause-room g c =
+    let there = part_there c.args.self.now c.args.q c.index_mut.result.now c.requires.port c.index_mut.ensures.value in
+    let many = peers_there c.args.self.now.ports.items c.args.q c.index_mut.result.now there in
+    let same = ap length (ports_set c.args.self.now.ports.items c.args.q c.index_mut.result.now c.take.new.self there c.take.ensures.peers) in
+    let few = ports_few c.args.self.now in
+    let first = c.take.ensures.room in
+    let more = c.upset.ensures.room in
+    record { spare = omega (arith, many, same, few, first.spare, more.spare); few = omega (arith, many, same, few, first.few, more.few) }
+
+pub returns-else-take-clause-room : goal.returns-else-take-clause-room
+returns-else-take-clause-room g c =
+    let many = peers_there c.args.self.now.ports.items c.args.q c.index_mut.result.now (part_there c.args.self.now c.args.q c.index_mut.result.now c.requires.port c.index_mut.ensures.value) in
+    let room = c.take.ensures.room in
+    record { spare = omega (arith, many, room.spare); few = omega (arith, many, room.few) }
+
+pub steers-steer-requires : goal.steers-steer-requires
+steers-steer-requires g c = c.requires.port
+
+pub in_charge-charge-requires : goal.in_charge-charge-requires
+in_charge-charge-requires g c = c.requires.port
+
+pub port_at-requires : goal.port_at-requires
+port_at-requires g c = let few = ports_few c.args.self.now in omega (arith, few, c.requires.port)
+
+pub index_mut-requires : goal.index_mut-requires
+index_mut-requires g c = let len = places c.args.self.now in omega (arith, len, c.requires.port)
+
+pub invariant_of-self : goal.invariant_of-self
+invariant_of-self g c = record { some = c.args.self.now.some; few = c.args.self.now.few; memory = c.args.self.now.memory }
+
+pub take-requires-clause-tick : goal.take-requires-clause-tick
+take-requires-clause-tick g c = c.requires.tick
+
+pub take-requires-clause-later : goal.take-requires-clause-later
+take-requires-clause-later g c = c.requires.later

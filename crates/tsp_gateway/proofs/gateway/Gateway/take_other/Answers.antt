@@ -5,7 +5,7 @@ use Rattle.tsp_node.proofs.TakeEmits.{emits_takes}
 use Rattle.tsp_rules.specs.NodeRows.{on_port}
 use Rattle.tsp_gateway.specs.GatewayStands.{GatewayStands, port_at}
 use Rattle.tsp_gateway.proofs.LiftLemmas.{All_on, part_there, take_stands}
-use Rattle.tsp_gateway.proofs.PlaceLemmas.{peers_there, ports_set}
+use Rattle.tsp_gateway.proofs.PlaceLemmas.{peers_there, places, ports_few, ports_set}
 use Rattle.tsp_gateway.proofs.TakeLemmas.{other_still}
 use Rattle.tsp_gateway.proofs.gateway.Gateway.take_other.Goals as goal
 
@@ -29,3 +29,18 @@ returns-clause-room g c =
     let many = peers_there c.args.self.now.ports.items c.args.q c.index_mut.result.now (part_there c.args.self.now c.args.q c.index_mut.result.now c.requires.port c.index_mut.ensures.value) in
     let room = c.take.ensures.room in
     record { spare = omega (arith, many, room.spare); few = omega (arith, many, room.few) }
+
+pub index_mut-requires : goal.index_mut-requires
+index_mut-requires g c = let len = places c.args.self.now in omega (arith, len, c.requires.port)
+
+pub invariant_of-self : goal.invariant_of-self
+invariant_of-self g c = record { some = c.args.self.now.some; few = c.args.self.now.few; memory = c.args.self.now.memory }
+
+pub port_at-requires : goal.port_at-requires
+port_at-requires g c = let few = ports_few c.args.self.now in omega (arith, few, c.requires.port)
+
+pub take-requires-clause-tick : goal.take-requires-clause-tick
+take-requires-clause-tick g c = c.requires.tick
+
+pub take-requires-clause-later : goal.take-requires-clause-later
+take-requires-clause-later g c = c.requires.later

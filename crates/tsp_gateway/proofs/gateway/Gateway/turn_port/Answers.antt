@@ -1,21 +1,7 @@
--- Nothing, where nothing is due; else the sends, and then the alarms.
-use Rattle.std.proofs.Common.{◌≡◌, ◌∙◌, false, not, refl, sym, true, true≢false}
-use Rattle.std.specs.Prelude.{Bool}
+-- The sends, and then the alarms.
 use Rattle.tsp_rules.specs.GateRows.{turns_on}
-use Rattle.tsp_rules.specs.Guards.{is_over}
 use Rattle.tsp_rules.proofs.NodeRowLemmas.{All_then}
-use Rattle.tsp_gateway.proofs.IdleLemmas.{All_waits}
-use Rattle.tsp_gateway.proofs.LiftLemmas.{part_of}
 use Rattle.tsp_gateway.proofs.gateway.Gateway.turn_port.Goals as goal
-
-pub returns-then-is_idle-clause-row : goal.returns-then-is_idle-clause-row
-returns-then-is_idle-clause-row g c =
-    let part = part_of c.args.self.now c.args.q c.requires.port in
-    let due = c.is_idle.ensures part.0 part.1 in
-    All_waits part.0 due.0 part.1 due.1 (not_over (is_over due.0 c.args.tick) (sym due.2 ∙ c.if-is_idle.true)) where
-      not_over : (b : Bool) → not b ≡ true → b ≡ false
-      not_over true e = absurd (true≢false (sym e))
-      not_over false e = refl
 
 pub returns-clause-row : goal.returns-clause-row
 unfolding turns_on

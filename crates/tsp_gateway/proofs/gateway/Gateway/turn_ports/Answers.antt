@@ -4,10 +4,13 @@ use Rattle.tsp_rules.specs.GateRows.{all_ports, turns_on}
 use Rattle.tsp_rules.specs.NodeRows.{for_ports, reading_all}
 use Rattle.tsp_gateway.specs.GatewayStands.{GatewayTurning}
 use Rattle.tsp_gateway.specs.Rooms.{peers_at, ports_in, turn_room}
+use Rattle.tsp_gateway.proofs.IdleLemmas.{idle_waits}
 use Rattle.tsp_gateway.proofs.LiftLemmas.{All_same, ports_many}
 use Rattle.tsp_gateway.proofs.LoopLemmas.{last_port, next_port, upset_all}
+use Rattle.tsp_gateway.proofs.PlaceLemmas.{places}
 use Rattle.tsp_gateway.proofs.RoomLemmas.{no_turns, turns_few, turns_more, turns_next}
 use Rattle.tsp_gateway.proofs.gateway.Gateway.turn_ports.Goals as goal
+use Rattle.tsp_gateway.proofs.gateway.Gateway.turn_ports.Goals.{then-not-is_idle, else-not-is_idle}
 
 pub loop-q-init : goal.loop-q-init
 loop-q-init g c = let none = no_turns (ports_in c.args.self.now) in record { row = λ last new d. d; ports = refl; clock = c.requires.later; room = record { spare = omega (arith, none); few = omega (arith, none) } }
@@ -29,6 +32,14 @@ turn_port-requires g c =
       later = i.clock;
     }
 
+-- whether a port is idle may be asked of each
+pub is_idle-requires : goal.is_idle-requires
+is_idle-requires g c =
+    let old = c.args.self.now in
+    let len = places old in
+    let end = c.len-q-end.ensures in
+    subst (λ ps. c.loop-q.q < length ps) (sym c.loop-q.invariant.ports) (omega (arith, len, end, c.loop-q-test.true))
+
 pub loop-q-preserved : goal.loop-q-preserved
 loop-q-preserved g c =
     let old = c.args.self.now in
@@ -39,15 +50,26 @@ loop-q-preserved g c =
     let many = ports_many old in
     let end = c.len-q-end.ensures in
     let inside : q < n = omega (arith, len, end, c.loop-q-test.true) in
+    let there : q < length (ports_in c.loop-q.self) = subst (λ ps. q < length ps) (sym i.ports) (omega (arith, inside, many)) in
     let more = turns_more q (ports_in old) (omega (arith, inside, many)) in
-    let turn = c.turn_port.ensures in
     let took : turn_room (peers_at q (ports_in c.loop-q.self)) ≡ turn_room (peers_at q (ports_in old)) = ap (λ ps. turn_room (peers_at q ps)) i.ports in
-    record {
-      row = λ last new d. i.row last new (next_port turns_on true 0 q n c.args.tick inside refl turn.row d);
-      ports = turn.ports ∙ i.ports;
-      clock = turn.clock;
-      room = record { spare = omega (arith, more, took, i.room.spare, turn.room.spare); few = omega (arith, more, took, i.room.few, turn.room.few) };
-    }
+    elim c.if-not-is_idle.branch [
+      | then-not-is_idle w ↦
+          let turn = w.turn_port.ensures in
+          rw (w.self-is, w.desk-is) (record {
+            row = λ last new d. i.row last new (next_port turns_on true 0 q n c.args.tick inside refl turn.row d);
+            ports = turn.ports ∙ i.ports;
+            clock = turn.clock;
+            room = record { spare = omega (arith, more, took, i.room.spare, turn.room.spare); few = omega (arith, more, took, i.room.few, turn.room.few) };
+          })
+      | else-not-is_idle w ↦
+          rw (w.self-is, w.desk-is) (record {
+            row = λ last new d. i.row last new (next_port turns_on true 0 q n c.args.tick inside refl (idle_waits c.args.tick q c.loop-q.self c.is_idle.result there w.if-not-is_idle.false c.is_idle.ensures) d);
+            ports = i.ports;
+            clock = i.clock;
+            room = record { spare = omega (arith, more, i.room.spare); few = omega (arith, more, i.room.few) };
+          })
+    ]
 
 pub returns-clause-row : goal.returns-clause-row
 unfolding reading_all

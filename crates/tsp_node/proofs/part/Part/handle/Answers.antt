@@ -1,5 +1,5 @@
 -- Whose it is, and what it is.
-use Rattle.std.proofs.Common.{◌∙◌}
+use Rattle.std.proofs.Common.{◌∙◌, arith}
 use Rattle.tsp_base.specs.Rows.{nothing}
 use Rattle.tsp_base.proofs.PerformsLemmas.{Performs_else_part, Performs_then_part}
 use Rattle.tsp_rules.specs.Answers.{handles}
@@ -33,3 +33,27 @@ unfolding handles
 returns-in-Reply-clause-row g c =
     rw (c.in-Good.is, c.in-Stamp.is, c.in-Reply.is) (Performs_else_part (is_own c.args.from) nothing (λ past h. c.is_own.ensures c.args.terms.at.tick past h.port.stands.station.own ∙ c.if-is_own.false)
     (took_beside c.args.tracing.now (emits_replies_in c.args.from _) (c.hear_stamp.ensures.row _ _ c.in-Reply.is)))
+
+pub hear-requires : goal.hear-requires
+hear-requires g c = record { room = c.requires.room; tick = c.requires.tick; later = c.requires.later }
+
+pub reply-requires : goal.reply-requires
+reply-requires g c = record { room = omega (arith, c.requires.room); tick = c.requires.tick; later = c.requires.later }
+
+pub hear_stamp-requires : goal.hear_stamp-requires
+hear_stamp-requires g c = record { room = omega (arith, c.requires.room); tick = c.requires.tick; later = c.requires.later }
+
+pub returns-then-is_own-clause-room : goal.returns-then-is_own-clause-room
+returns-then-is_own-clause-room g c = record { spare = omega arith; few = omega arith }
+
+pub returns-in_default-clause-room : goal.returns-in_default-clause-room
+returns-in_default-clause-room g c = record { spare = omega arith; few = omega arith }
+
+pub returns-in-Message-clause-room : goal.returns-in-Message-clause-room
+returns-in-Message-clause-room g c = c.hear.ensures.room
+
+pub returns-in-Request-clause-room : goal.returns-in-Request-clause-room
+returns-in-Request-clause-room g c = let room = c.reply.ensures.room in record { spare = omega (arith, room.spare); few = omega (arith, room.few) }
+
+pub returns-in-Reply-clause-room : goal.returns-in-Reply-clause-room
+returns-in-Reply-clause-room g c = let room = c.hear_stamp.ensures.room in record { spare = omega (arith, room.spare); few = omega (arith, room.few) }

@@ -1,5 +1,5 @@
 -- A QUIT ends its leading, other masters are asked or marked, and all else is the master's own.
-use Rattle.std.proofs.Common.{◌≡◌, ◌∷◌, [], refl, sym, ◌∙◌}
+use Rattle.std.proofs.Common.{◌≡◌, ◌∷◌, [], refl, sym, ◌∙◌, arith}
 use Rattle.tsp_base.specs.declared.kind.Kind.TheVariants.{Ack, Conflict, MasterAck, MasterUp, Quit}
 use Rattle.tsp_base.specs.Rows.{posts, ◌followed_by◌}
 use Rattle.tsp_base.proofs.PerformsLemmas.{Performs_then}
@@ -50,3 +50,21 @@ returns-in_default-clause-row g c =
     let take = c.take.ensures.row in
     rw (master_takes-other p m m.kind (roles_other m.kind c.requires.audience) (λ e. other.not-Quit (c.kind.ensures ∙ e)) (λ e. other.not-MasterUp (c.kind.ensures ∙ e)) (λ e. other.not-Conflict (c.kind.ensures ∙ e)) (λ e. other.not-MasterAck (c.kind.ensures ∙ e)))
     (Performs_led refl refl refl (emits_master_takes p m) (emits_master_still p m) (DatesStand_master p m) take)
+
+pub take_quit-requires : goal.take_quit-requires
+take_quit-requires g c = record { room = omega (arith, c.requires.room); tick = c.requires.tick; peer = c.requires.peer; role = c.requires.role; audience = c.requires.audience }
+
+pub returns-in-Quit-clause-room : goal.returns-in-Quit-clause-room
+returns-in-Quit-clause-room g c = let room = c.take_quit.ensures.room in record { spare = omega (arith, room.spare); few = omega (arith, room.few) }
+
+pub returns-in-MasterUp-clause-room : goal.returns-in-MasterUp-clause-room
+returns-in-MasterUp-clause-room g c = let room = c.start.ensures.room in record { spare = omega (arith, room.spare); few = omega (arith, room.few) }
+
+pub returns-in-MasterAck-clause-room : goal.returns-in-MasterAck-clause-room
+returns-in-MasterAck-clause-room g c = let room = c.rival.ensures.room in record { spare = omega (arith, room.spare); few = omega (arith, room.few) }
+
+pub returns-in_default-clause-room : goal.returns-in_default-clause-room
+returns-in_default-clause-room g c = let room = c.take.ensures.room in record { spare = omega (arith, room.spare); few = omega (arith, room.few) }
+
+pub returns-in-Conflict-clause-room : goal.returns-in-Conflict-clause-room
+returns-in-Conflict-clause-room g c = let post = c.post.ensures.room in let room = c.start-in-Conflict.ensures.room in record { spare = omega (arith, post.spare, room.spare); few = omega (arith, post.count, room.few) }

@@ -1,5 +1,5 @@
 -- Who is heard is handled by the role.
-use Rattle.std.proofs.Common.{◌≡◌, ◌∷◌, ◌∙◌, true, false, refl, sym, ap}
+use Rattle.std.proofs.Common.{◌≡◌, ◌∷◌, ◌∙◌, true, false, refl, sym, ap, arith}
 use Rattle.tsp_base.specs.declared.role.Role.TheVariants.{Candidate, Master}
 use Rattle.tsp_base.specs.Rows.{nothing}
 use Rattle.tsp_rules.specs.Answers.{from_peer, is_left, peer_says, says_in}
@@ -10,7 +10,7 @@ use Rattle.tsp_rules.proofs.Emits.{Acking, Counting, Emits_more}
 use Rattle.tsp_date.proofs.KeepLemmas.{DatesAside_by}
 use Rattle.tsp_master.proofs.TurnLemmas.{MasterStands_idle}
 use Rattle.tsp_resolve.proofs.ResolveLemmas.{ResolveStands_idle, rivalless}
-use Rattle.tsp_node.specs.NodeStands.{port_with}
+use Rattle.tsp_node.specs.NodeStands.{PortValue, port_with}
 use Rattle.tsp_node.proofs.DatesKeeps.{DatesAside_slave}
 use Rattle.tsp_node.proofs.EmitsRoles.{calm_sorts, emits_answers, emits_slave, role_sorts}
 use Rattle.tsp_node.proofs.HearLemmas.{candidate_keeps, heard_awake, heard_peer, is_from, is_hearing, leaves_by, leaves_none, Performs_by_role, Performs_either_way, Performs_heard_at, Performs_kept, Performs_left, Performs_role, Performs_unheard, roles_date, roles_other, says_slave}
@@ -43,8 +43,9 @@ returns-in-Candidate-clause-row g c =
     let here = port_with c.args.self.now c.args.clock.now in
     let heard = sym c.in-Some.ensures in
     let emits = emits_answers p m in
-    rw (is_from st from p heard) (Performs_kept c.args.terms.steer m.kind (leaves_none c.args.terms.steer m.kind st.role (ap is_follow c.in-Candidate.is)) (Performs_heard_at p (peer_says m) (is_hearing st from p heard)
-    (Performs_by_role (says_in p m) (Performs_role p m st.role Candidate c.in-Candidate.is (Performs_heard refl (DatesAside_by (candidate_takes p m) (Emits_more (Acking ∷ Counting ∷ calm_sorts) refl emits)) (roles_date m.kind c.requires.audience)
+    let after : PortValue = record here { station = c.candidate_take.new.station; last = c.candidate_take.new.last } in
+    rw (is_from st from p heard) (Performs_kept {after = after} c.args.terms.steer m.kind (leaves_none c.args.terms.steer m.kind st.role (ap is_follow c.in-Candidate.is)) (Performs_heard_at {after = after} p (peer_says m) (is_hearing st from p heard)
+    (Performs_by_role {after = after} (says_in p m) (Performs_role {after = after} p m st.role Candidate c.in-Candidate.is (Performs_heard {after = after} refl (DatesAside_by (candidate_takes p m) (Emits_more (Acking ∷ Counting ∷ calm_sorts) refl emits)) (roles_date m.kind c.requires.audience)
     (λ past h s. candidate_keeps p m (roles_other m.kind c.requires.audience) x past c.args.self.now.master (no_lead here Candidate (λ e. let bad : ⊥ = cc in bad) c.in-Candidate.is h) h.master)
     (λ past h s. ResolveStands_idle x past (candidate_takes p m x past) c.args.self.now.resolve ((Emits_more (Acking ∷ Counting ∷ calm_sorts) {all = rivalless} refl emits).only x past) (no_lead here Candidate (λ e. let bad : ⊥ = cc in bad) c.in-Candidate.is h) h.resolve)
     c.candidate_take.ensures.row)))))
@@ -57,8 +58,9 @@ returns-in-Master-clause-row g c =
     let st = c.args.self.now.station in
     let p = c.in-Some.p in
     let heard = sym c.in-Some.ensures in
-    rw (is_from st from p heard) (Performs_kept c.args.terms.steer m.kind (leaves_none c.args.terms.steer m.kind st.role (ap is_follow c.in-Master.is)) (Performs_heard_at p (peer_says m) (is_hearing st from p heard)
-    (Performs_by_role (says_in p m) (Performs_role p m st.role Master c.in-Master.is c.hear_as_master.ensures.row))))
+    let after : PortValue = port_with c.hear_as_master.new.self c.args.clock.now in
+    rw (is_from st from p heard) (Performs_kept {after = after} c.args.terms.steer m.kind (leaves_none c.args.terms.steer m.kind st.role (ap is_follow c.in-Master.is)) (Performs_heard_at {after = after} p (peer_says m) (is_hearing st from p heard)
+    (Performs_by_role {after = after} (says_in p m) (Performs_role {after = after} p m st.role Master c.in-Master.is c.hear_as_master.ensures.row))))
 
 pub returns-then-not-leaves-clause-row : goal.returns-then-not-leaves-clause-row
 unfolding peer_says
@@ -71,9 +73,10 @@ returns-then-not-leaves-clause-row g c =
     let heard = sym c.in-Some.ensures in
     let other = c.in_default-role in
     let emits = emits_slave p m (roles_other m.kind c.requires.audience) in
-    let left : leaves_by c.args.terms.steer m.kind st.role ≡ false = let k = c.kind.ensures in cc in
-    rw (is_from st from p heard) (Performs_kept c.args.terms.steer m.kind left (Performs_heard_at p (peer_says m) (is_hearing st from p heard)
-    (Performs_by_role (says_in p m) (rw (says_slave p m st.role (heard_awake st from p heard) other.not-Candidate other.not-Master) (Performs_heard refl (DatesAside_slave p m) (roles_date m.kind c.requires.audience)
+    let after : PortValue = record (port_with c.args.self.now c.slave_take.new.clock) { station = c.slave_take.new.station; last = c.slave_take.new.last } in
+    let left : leaves_by c.args.terms.steer m.kind st.role ≡ false = ap (λ k. leaves_by c.args.terms.steer k st.role) (sym c.kind.ensures) ∙ (sym c.leaves.ensures ∙ c.if-not-leaves.true) in
+    rw (is_from st from p heard) (Performs_kept {after = after} c.args.terms.steer m.kind left (Performs_heard_at {after = after} p (peer_says m) (is_hearing st from p heard)
+    (Performs_by_role {after = after} (says_in p m) (rw (says_slave p m st.role (heard_awake st from p heard) other.not-Candidate other.not-Master) (Performs_heard {after = after} refl (DatesAside_slave p m) (roles_date m.kind c.requires.audience)
     (λ past h s. MasterStands_idle (slave_takes p m) (Emits_more role_sorts refl emits) x past c.args.self.now.master (λ e. other.not-Master (h.station.role ∙ e)) h.master)
     (λ past h s. ResolveStands_idle x past (slave_takes p m x past) c.args.self.now.resolve ((Emits_more role_sorts {all = rivalless} refl emits).only x past) (λ e. other.not-Master (h.station.role ∙ e)) h.resolve)
     c.slave_take.ensures.row)))))
@@ -81,5 +84,50 @@ returns-then-not-leaves-clause-row g c =
 pub returns-else-not-leaves-clause-row : goal.returns-else-not-leaves-clause-row
 returns-else-not-leaves-clause-row g c =
     let m = c.args.m.now in
-    let left : leaves_by c.args.terms.steer m.kind c.args.self.now.station.role ≡ true = let k = c.kind.ensures in cc in
+    let left : leaves_by c.args.terms.steer m.kind c.args.self.now.station.role ≡ true = ap (λ k. leaves_by c.args.terms.steer k c.args.self.now.station.role) (sym c.kind.ensures) ∙ (sym c.leaves.ensures ∙ c.if-not-leaves.false) in
     Performs_left c.args.terms.steer m.kind (from_peer c.args.from (peer_says m)) left
+
+pub candidate_take-requires-clause-room : goal.candidate_take-requires-clause-room
+candidate_take-requires-clause-room g c = omega (arith, c.requires.room)
+
+pub candidate_take-requires-clause-tick : goal.candidate_take-requires-clause-tick
+candidate_take-requires-clause-tick g c = c.requires.tick
+
+pub slave_take-requires-clause-room : goal.slave_take-requires-clause-room
+slave_take-requires-clause-room g c = omega (arith, c.requires.room)
+
+pub slave_take-requires-clause-tick : goal.slave_take-requires-clause-tick
+slave_take-requires-clause-tick g c = c.requires.tick
+
+pub hear_as_master-requires-clause-room : goal.hear_as_master-requires-clause-room
+hear_as_master-requires-clause-room g c = c.requires.room
+
+pub hear_as_master-requires-clause-tick : goal.hear_as_master-requires-clause-tick
+hear_as_master-requires-clause-tick g c = c.requires.tick
+
+pub slave_take-requires-clause-later : goal.slave_take-requires-clause-later
+slave_take-requires-clause-later g c = c.requires.later
+
+pub hear_as_master-requires-clause-later : goal.hear_as_master-requires-clause-later
+hear_as_master-requires-clause-later g c = c.requires.later
+
+pub hear_as_master-requires-clause-audience : goal.hear_as_master-requires-clause-audience
+hear_as_master-requires-clause-audience g c = c.requires.audience
+
+pub hear_as_master-requires-clause-role : goal.hear_as_master-requires-clause-role
+hear_as_master-requires-clause-role g c = c.in-Master.is
+
+pub returns-in_default-clause-room : goal.returns-in_default-clause-room
+returns-in_default-clause-room g c = record { spare = omega arith; few = omega arith }
+
+pub returns-else-not-leaves-clause-room : goal.returns-else-not-leaves-clause-room
+returns-else-not-leaves-clause-room g c = record { spare = omega arith; few = omega arith }
+
+pub returns-in-Candidate-clause-room : goal.returns-in-Candidate-clause-room
+returns-in-Candidate-clause-room g c = let room = c.candidate_take.ensures.room in record { spare = omega (arith, room.spare); few = omega (arith, room.few) }
+
+pub returns-then-not-leaves-clause-room : goal.returns-then-not-leaves-clause-room
+returns-then-not-leaves-clause-room g c = let room = c.slave_take.ensures.room in record { spare = omega (arith, room.spare); few = omega (arith, room.few) }
+
+pub returns-in-Master-clause-room : goal.returns-in-Master-clause-room
+returns-in-Master-clause-room g c = c.hear_as_master.ensures.room

@@ -31,3 +31,15 @@ returns-clause-corrects g c past h =
     let tells = ticket_tells (takes c.args.steer c.args.charge c.args.from c.args.taken.now c.args.tick past) ((emits_takes c.args.steer c.args.charge c.args.from c.args.taken.now).only c.args.tick past) (omega (arith, put, few)) c.args.tick past
     c.args.clock.now c.handle.new.clock h.port.clock (row.stands past h).port.clock in
     rw (c.ticket.ensures.value, c.ticket-ticket.ensures.value) tells
+
+pub put-requires : goal.put-requires
+put-requires g c = omega (arith, c.requires.room)
+
+pub handle-requires : goal.handle-requires
+handle-requires g c = record { room = omega (arith, c.put.ensures.spare, c.requires.room); tick = c.requires.tick; later = c.requires.later }
+
+pub returns-clause-room : goal.returns-clause-room
+returns-clause-room g c =
+    let one = ap length c.put.ensures.acts ∙ length-append (g.D.Desk.acts c.args.desk.now) _ in
+    let room = c.handle.ensures.room in
+    record { spare = omega (arith, c.put.ensures.spare, room.spare); few = omega (arith, one, room.few) }
