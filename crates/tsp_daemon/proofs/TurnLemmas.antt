@@ -1,10 +1,20 @@
 -- Small facts of a turn and of a boot, over plain values, so that no tactic reads all that is known there.
-use Rattle.std.specs.Prelude.{◌≡◌, ◌≢◌, ℕ, ◌+◌, ◌≤◌, List, length, Err}
+use Rattle.std.specs.Prelude.{◌≡◌, ◌≢◌, ℕ, ◌+◌, ◌*◌, ◌≤◌, List, length, Ok, Err}
 use Rattle.std.specs.declared.result.Result.{Result}
 use Rattle.std.proofs.Common.{arith, ap, ◌∙◌, subst}
 use Rattle.tsp_base.specs.declared.act.Placed.{Placed}
 use Rattle.tsp_daemon.specs.declared.end.ServeEnd.{ServeEnd}
-use Rattle.tsp_daemon.specs.declared.end.ServeEnd.TheVariants.{LinkFault, WriteFault, OutOfMemory}
+use Rattle.tsp_daemon.specs.declared.end.ServeEnd.TheVariants.{Done, LinkFault, WriteFault, OutOfMemory}
+
+-- what doesn't fall twice doesn't fall
+pub le_on : (before between now : ℕ) → before ≤ between → between ≤ now → before ≤ now
+le_on before between now first then = omega (arith, first, then)
+
+-- the posts of one turn more
+pub posts_more : (counter room own before now : ℕ) → now ≤ before + own → before ≤ counter * room → own ≡ room → now ≤ (counter + 1) * room
+posts_more counter room own before now last all same =
+    let more : (counter + 1) * room ≡ counter * room + room = grind arith in
+    omega (arith, last, all, same, more)
 
 -- nothing falls below itself
 pub le_self : (n : ℕ) → n ≤ n
@@ -47,6 +57,22 @@ memory_unwritten e = cc
 pub link_unwritten : {A : Type 0} → ended {A = A} LinkFault ≡ ended WriteFault → ⊥
 link_unwritten e = cc
 
+-- a call that went well didn't end so
+abbrev pub went : {A : Type 0} → A → Result A ServeEnd
+went a = Ok a
+
+pub went_on : {A : Type 0} (a : A) (end : ServeEnd) → went a ≡ ended end → ⊥
+went_on a end e = cc
+
+pub done_unlinked : Done ≡ LinkFault → ⊥
+done_unlinked e = cc
+
+pub done_unwritten : Done ≡ WriteFault → ⊥
+done_unwritten e = cc
+
 -- ends are the same where the calls that ended so are
 pub same_end : {A : Type 0} (a b : ServeEnd) → ended {A = A} a ≡ ended b → a ≡ b
 same_end a b e = cc
+
+pub end_as : {A : Type 0} (a b : ServeEnd) → a ≡ b → ended {A = A} a ≡ ended b
+end_as a b e = ap (λ (x : ServeEnd). ended x) e
