@@ -1,7 +1,7 @@
 //! The lines of a group, and of the corrections to its mean.
 ghost use Rattle.std.specs.Prelude.{◌≡◌, ◌≢◌, ℕ, ◌≤◌, ◌<◌, ◌++◌, List, length, flat_map, OnOk, OnErr};
-ghost use Rattle.arrayvec.specs.ArrayVec.{array_vec_len};
 ghost use Rattle.tsp_icmp_command.specs.Bests.{group_line, correct_line, corrections, summary_of};
+ghost use Rattle.arrayvec.specs.ArrayVec.{array_vec_len};
 ghost use Rattle.tsp_group.specs.Groups.{mean_of, HasMean};
 ghost use Rattle.tsp_group.specs.Values.{IsNear};
 ghost use Rattle.tsp_io.specs.Counts.{Rose};
