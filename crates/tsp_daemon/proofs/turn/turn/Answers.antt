@@ -1,4 +1,4 @@
-use Rattle.std.proofs.Common.{rules, ◌≡◌, ◌∙◌, ◌+◌, List, [], ap, arith, inl, length, sym, subst, refl}
+use Rattle.std.proofs.Common.{◌≡◌, ◌∙◌, ◌+◌, List, [], ap, inl, sym, subst, refl}
 use Rattle.tsp_base.specs.declared.act.Placed.{Placed}
 use Rattle.tsp_daemon.specs.declared.end.ServeEnd.TheVariants.{LinkFault}
 use Rattle.tsp_io.specs.declared.link.Recv.TheVariants.{Failed}
