@@ -8,7 +8,7 @@ use tsp_query::exit::QueryExit;
 use tsp_storm::run::StormEnd;
 
 /// How a run of the program ends; the number is its exit status, 0 to 8 in this order.
-#[derive(Clone, Copy, PartialEq, Eq, Debug)]
+#[derive(Clone, Copy, PartialEq, Eq)]
 pub enum Status {
     /// All went well: the input was read to its end, the daemon took its turns, or the question was
     /// answered.

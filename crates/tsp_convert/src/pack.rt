@@ -69,14 +69,9 @@ impl Treatment for Pack {
         false
     }
 
-    fn treat<K: Sink>(
-        &mut self,
-        line: &[u8],
-        output: &mut Output,
-        sink: &mut K,
-    ) -> Result<(), Stop> {
+    fn treat<K: Sink>(&mut self, line: &[u8], out: &mut Output, sink: &mut K) -> Result<(), Stop> {
         match packed(line, &mut self.text) {
-            Ok(count) => hand_over(&self.text[..count], output, sink),
+            Ok(count) => hand_over(&self.text[..count], out, sink),
             Err(cause) => Err(Stop::Bad(cause)),
         }
     }

@@ -73,14 +73,9 @@ impl Treatment for Show {
         false
     }
 
-    fn treat<K: Sink>(
-        &mut self,
-        line: &[u8],
-        output: &mut Output,
-        sink: &mut K,
-    ) -> Result<(), Stop> {
+    fn treat<K: Sink>(&mut self, line: &[u8], out: &mut Output, sink: &mut K) -> Result<(), Stop> {
         match shown(line, &mut self.octets, &mut self.text) {
-            Ok(()) => hand_over(self.text.as_slice(), output, sink),
+            Ok(()) => hand_over(self.text.as_slice(), out, sink),
             Err(cause) => Err(Stop::Bad(cause)),
         }
     }

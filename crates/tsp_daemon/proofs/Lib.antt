@@ -6,4 +6,5 @@ pub mod ServeLemmas
 mod SessionFits
 pub mod SessionLemmas
 pub mod StrangerLemmas
+pub mod TurnLemmas
 pub mod WaitLemmas

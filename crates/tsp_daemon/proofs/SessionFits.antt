@@ -1,5 +1,5 @@
 -- The history of a daemon's node fits, whoever sends to it: its boot and each turn add a step that does.
-use Rattle.std.specs.Prelude.{◌≡◌, ℕ, zero, suc, ◌+◌, ◌*◌, ◌/◌, ◌<◌, ◌≤◌, ◌^◌, ◌==◌, if◌then◌else◌, ℤ, pos, negsuc, ◌+ℤ◌, nat_abs, Bool, true, false, List, [], ◌∷◌, length, None, Some, slice_index_or, refl}
+use Rattle.std.specs.Prelude.{◌≡◌, ℕ, zero, suc, ◌+◌, ◌*◌, ◌<◌, ◌≤◌, ◌==◌, if◌then◌else◌, ℤ, pos, negsuc, nat_abs, Bool, true, false, List, [], ◌∷◌, length, None, Some, slice_index_or, refl}
 use Rattle.std.proofs.Common.{sym, ap, ◌∙◌, subst, arith, inr}
 use Rattle.std.proofs.lemmas.Bool.{ne_eqb}
 use Rattle.tsp_args.specs.Serves.{IsServe}
@@ -49,7 +49,7 @@ use Rattle.tsp_run.proofs.RunLemmas.{up_joined}
 use Rattle.tsp_daemon.specs.Kept.{HistoryKept, SetByWords}
 use Rattle.tsp_daemon.specs.Nodes.{config_of, first_past, is_strict, setups_from}
 use Rattle.tsp_daemon.specs.Serving.{first_session}
-use Rattle.tsp_daemon.specs.Sessions.{Session, after_turns, begun, cause_of, given_in, given_of, port_from, read_once, Rises, tick_of}
+use Rattle.tsp_daemon.specs.Sessions.{after_turns, begun, cause_of, given_in, given_of, port_from, read_once, Rises, tick_of}
 use Rattle.tsp_daemon.proofs.NodeLemmas.{length-setups_from, room_is}
 
 -- all lines are of node 0

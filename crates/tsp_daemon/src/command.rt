@@ -48,12 +48,12 @@ fn serve_bound<K: Sink, L: Link, T: Ticker>(
         (observed K.Sink L.Link T.Ticker sink.new link.new ticker.new) result }
     ensures wall { result ≡ DaemonExit.BadWall
         → IfSome (T.wall_is ticker.old) (λ wall. is_clock_value wall ≡ false) }
-    ensures link { Counts (L.faults link.old) (L.faults link.new)
-        (result ≡ DaemonExit.LinkFault) }
-    ensures same { L.binds link.new ≡ L.binds link.old }
     ensures walled { ReadsWall T.Ticker ticker.old ticker.new }
+    ensures same { L.binds link.new ≡ L.binds link.old }
     ensures write { Counts (K.faults sink.old) (K.faults sink.new)
         (result ≡ DaemonExit.WriteFault) }
+    ensures link { Counts (L.faults link.old) (L.faults link.new)
+        (result ≡ DaemonExit.LinkFault) }
     ensures later { (L.send_faults link.old ≤ L.send_faults link.new)
         × (T.last ticker.old ≤ T.last ticker.new) }
 {

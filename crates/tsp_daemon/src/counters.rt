@@ -1,7 +1,7 @@
 //! How far the daemon has come.
 
 /// What the daemon counts over its turns.
-#[derive(Clone, Copy, PartialEq, Eq, Debug)]
+#[derive(Clone, Copy)]
 pub(crate) struct Counters {
     /// How many turns were taken.
     pub turns: u64,

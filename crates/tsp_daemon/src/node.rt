@@ -3,10 +3,10 @@ ghost use Rattle.std.specs.Prelude.{◌≡◌, ◌≤◌, ◌+◌, ◌*◌, [], 
 ghost use Rattle.tsp_base.specs.Frames.{IsTick};
 ghost use Rattle.tsp_gateway.specs.GatewayStands.{GatewayStands, clock_at};
 ghost use Rattle.tsp_gateway.specs.Rooms.{ports_in, room_of_ports};
+ghost use Rattle.tsp_daemon.specs.Nodes.{port_peers, setup_of, may_be, is_strict, config_of, first_past};
 ghost use Rattle.tsp_rules.specs.Guards.{is_clock_value};
 ghost use Rattle.tsp_args.specs.Ports.{all_peers};
 ghost use Rattle.tsp_args.specs.Serves.{IsServe};
-ghost use Rattle.tsp_daemon.specs.Nodes.{port_peers, setup_of, may_be, is_strict, config_of, first_past};
 
 use std::alloc::{AllocError, Global};
 use tsp_args::serve::{Candidacy, ServeWords};
@@ -18,7 +18,7 @@ use tsp_io::addr::Addr;
 use tsp_node::BootFault;
 
 /// Why the node doesn't boot.
-#[derive(Clone, Copy, PartialEq, Eq, Debug)]
+#[derive(Clone, Copy)]
 pub(crate) enum Unbooted {
     /// The wall clock isn't more than -2^31 and less than 2^31 seconds.
     BadWall,

@@ -1,13 +1,13 @@
 //! The node's step in a turn.
 ghost use Rattle.std.specs.Prelude.{◌≡◌, ◌≤◌, ◌<◌, ◌^◌, [], length, OnOk};
 ghost use Rattle.tsp_base.specs.Frames.{IsTick};
+ghost use Rattle.tsp_daemon.specs.Ends.{IsCount, given_by};
 ghost use Rattle.tsp_base.specs.Pad.{acts_of, spare_of};
 ghost use Rattle.tsp_gateway.specs.GatewayStands.{GatewayStands, GatewayBegun, clock_at};
 ghost use Rattle.tsp_gateway.specs.PortOf.{setups_in};
 ghost use Rattle.tsp_gateway.specs.Rooms.{ports_in, room_of_ports};
 ghost use Rattle.tsp_rules.specs.GateRows.{answers_all};
 ghost use Rattle.tsp_rules.specs.NodePerforms.{PerformsAll};
-ghost use Rattle.tsp_daemon.specs.Ends.{IsCount, given_by};
 ghost use Rattle.tsp_daemon.specs.Sessions.{port_from};
 
 use std::alloc::AllocError;

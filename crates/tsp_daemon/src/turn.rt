@@ -99,7 +99,7 @@ pub(crate) fn turn<K: Sink, L: Link, T: Ticker>(
     let first = ticker.tick();
     let mut buf = [0; 512];
     let received = link.recv(&mut buf, wait_until(node.due(), first));
-    if received == Recv::Failed {
+    if let Recv::Failed = received {
         return Err(ServeEnd::LinkFault);
     }
     let tick = ticker.tick();

@@ -1,6 +1,6 @@
 //! A difference between two clocks.
 /// How far another clock is ahead.
-#[derive(Clone, Copy, PartialEq, Eq, Debug)]
+#[derive(Clone, Copy)]
 pub struct Apart {
     /// How far it is ahead, in milliseconds, from -64,800,000 to 64,800,000.
     pub diff: i64,

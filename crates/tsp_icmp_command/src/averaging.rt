@@ -68,12 +68,12 @@ impl Averaging {
         requires room { 0 < self.old.tally.left }
         requires arrival { exchange.arrival < 86400000 }
         ensures taken { OnOk result (self.new.tally ≡ taken self.old.tally exchange) }
+        ensures stop { IfErr result (λ stop. (fault : Unwritten) × (stop ≡ stop_of fault)) }
+        ensures later { K.faults sink.old ≤ K.faults sink.new }
         ensures ok { OnOk result (Hands (K.written sink.old) output.old (K.written sink.new)
             output.new (close (exchange_line exchange))) }
         ensures err { OnErr result (Hands (K.written sink.old) output.old (K.written sink.new)
             output.new []) }
-        ensures stop { IfErr result (λ stop. (fault : Unwritten) × (stop ≡ stop_of fault)) }
-        ensures later { K.faults sink.old ≤ K.faults sink.new }
         ensures cause { result ≡ Err Stop.WriteFault → Rose (K.faults sink.old) (K.faults sink.new)
             × (0 < length output.new) }
         ensures still { result ≢ Err Stop.WriteFault → K.faults sink.new ≡ K.faults sink.old }
@@ -101,17 +101,12 @@ impl Treatment for Averaging {
         self.tally.is_full()
     }
 
-    fn treat<K: Sink>(
-        &mut self,
-        line: &[u8],
-        output: &mut Output,
-        sink: &mut K,
-    ) -> Result<(), Stop> {
+    fn treat<K: Sink>(&mut self, line: &[u8], out: &mut Output, sink: &mut K) -> Result<(), Stop> {
         if self.tally.is_full() {
             return Err(Stop::Limit);
         }
         match exchange_of(line) {
-            Ok(exchange) => self.take(exchange, output, sink),
+            Ok(exchange) => self.take(exchange, out, sink),
             Err(cause) => Err(Stop::Bad(cause)),
         }
     }

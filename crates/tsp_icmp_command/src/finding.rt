@@ -12,7 +12,7 @@ use tsp_icmp::{Timestamp, difference, standard, trip};
 use tsp_script::numbers::{append, append_next_signed, append_signed};
 
 /// What an exchange says of another clock, or why it says nothing.
-#[derive(Clone, Copy, PartialEq, Eq, Debug)]
+#[derive(Clone, Copy)]
 pub enum Finding {
     /// The reply doesn't repeat the request's identifier, sequence number and originate stamp.
     Unlike,

@@ -1,12 +1,12 @@
 //! The lines of a group, and of the corrections to its mean.
 ghost use Rattle.std.specs.Prelude.{◌≡◌, ◌≢◌, ℕ, ◌≤◌, ◌<◌, ◌++◌, List, length, flat_map, OnOk, OnErr};
+ghost use Rattle.tsp_icmp_command.specs.Bests.{group_line, correct_line, corrections, summary_of};
 ghost use Rattle.arrayvec.specs.ArrayVec.{array_vec_len};
 ghost use Rattle.tsp_group.specs.Groups.{mean_of, HasMean};
 ghost use Rattle.tsp_group.specs.Values.{IsNear};
 ghost use Rattle.tsp_io.specs.Counts.{Rose};
 ghost use Rattle.tsp_lines.specs.Lines.{close};
 ghost use Rattle.tsp_lines.specs.Outputs.{Hands};
-ghost use Rattle.tsp_icmp_command.specs.Bests.{group_line, correct_line, corrections, summary_of};
 
 use crate::best::Best;
 use arrayvec::ArrayVec;
@@ -53,12 +53,12 @@ fn tell_corrections<K: Sink>(
     sink: &mut K,
 ) -> Result<(), Unwritten>
     requires { IsNear mean }
+    ensures later { K.faults sink.old ≤ K.faults sink.new }
     ensures ok { OnOk result (Hands (K.written sink.old) output.old (K.written sink.new) output.new
         (corrections mean bests.now)) }
     ensures err { OnErr result ((part : List ℕ) × (rest : List ℕ)
         × (corrections mean bests.now ≡ part ++ rest) × Hands (K.written sink.old) output.old
         (K.written sink.new) output.new part) }
-    ensures later { K.faults sink.old ≤ K.faults sink.new }
     ensures cause { result ≡ Err Unwritten.WriteFault → Rose (K.faults sink.old) (K.faults sink.new)
         × (0 < length output.new) }
     ensures still { result ≢ Err Unwritten.WriteFault → K.faults sink.new ≡ K.faults sink.old }
@@ -79,12 +79,12 @@ pub(crate) fn tell_summary<K: Sink>(
 ) -> Result<(), Unwritten>
     requires mean { HasMean group.now }
     requires near { IsNear (mean_of group.now) }
+    ensures later { K.faults sink.old ≤ K.faults sink.new }
     ensures ok { OnOk result (Hands (K.written sink.old) output.old (K.written sink.new) output.new
         (summary_of group.now bests.now)) }
     ensures err { OnErr result ((part : List ℕ) × (rest : List ℕ)
         × (summary_of group.now bests.now ≡ part ++ rest) × Hands (K.written sink.old) output.old
         (K.written sink.new) output.new part) }
-    ensures later { K.faults sink.old ≤ K.faults sink.new }
     ensures cause { result ≡ Err Unwritten.WriteFault → Rose (K.faults sink.old) (K.faults sink.new)
         × (0 < length output.new) }
     ensures still { result ≢ Err Unwritten.WriteFault → K.faults sink.new ≡ K.faults sink.old }

@@ -49,7 +49,7 @@ pub enum QueryEnd {
 }
 
 /// What is read of the ticker when a question begins. Times are microseconds.
-#[derive(Clone, Copy, PartialEq, Eq, Debug)]
+#[derive(Clone, Copy)]
 struct Start {
     /// The first tick.
     first: u64,

@@ -1,6 +1,6 @@
 //! Replays of schedules with networks, whose traces and refusals were worked out by hand.
 use crate::status::Status;
-use crate::tests::replay_writes;
+use crate::tests::{replay_ends, replay_writes};
 use std::alloc::{AllocError, Global};
 use std::process::Abort;
 
@@ -23,29 +23,8 @@ at 84000000 bytes 0 1 01010007000000000000000a6100
 at 84000000 bytes 0/2 1 00
 ";
 
-/// What is written of that.
+/// The end of what is written of that.
 const JOINED: &str = "\
-1 0 0 0 boot
-1 0 0 0 become starting
-1 0 0 0 arm quiet 80000000
-1 0 1 0 become starting
-1 0 1 0 arm quiet 80000000
-2 0 0 80000000 ring quiet
-2 0 0 80000000 become loose
-2 0 0 80000000 arm search 85000000
-2 0 0 80000000 post 0 1 masterreq 0 g
-2 0 1 80000000 ring quiet
-2 0 1 80000000 become loose
-2 0 1 80000000 arm search 85000000
-2 0 1 80000000 post 1 2 masterreq 0 g
-3 0 1 81000000 took 2 masterup 0 b
-3 0 1 81000000 become follow 2
-3 0 1 81000000 arm elect 381000007
-3 0 1 81000000 post 2 2 slaveup 7 g
-4 0 0 82000000 took 1 masterup 0 a
-4 0 0 82000000 become follow 1
-4 0 0 82000000 arm elect 382000007
-4 0 0 82000000 post 3 1 slaveup 7 g
 5 0 1 83000000 took 2 adjtime 7 1 b
 6 0 0 84000000 took 1 adjtime 7 10 a
 6 0 0 84000000 correct 10 slew 84000000
@@ -57,7 +36,8 @@ bad 14 no-node 0 3
 /// A node of two networks is corrected on the port that steers.
 #[test]
 fn a_gateway_follows_on_two_networks(rt: HostRuntime) {
-    assert!(rt; replay_writes(rt.alloc(), JOINS, Status::Bad, JOINED) == Ok(true));
+    let right = replay_ends(rt.alloc(), JOINS.as_bytes(), Status::Bad, JOINED);
+    assert!(rt; right == Ok(true));
 }
 
 /// The lines of networks come after those of the nodes. The numbers of a network are ascending and of

@@ -8,14 +8,13 @@ use tsp_io::source::Source;
 use tsp_lines::treat::Outcome;
 use tsp_replay::run::replay;
 
-/// A schedule of one node that boots, looks at its timers, and answers a stranger's stamp request: 143 octets,
-/// of which the header's lines are the first 39, the boot's the next 14, and the turn's the next 13.
+/// A schedule of one node that boots and answers a stranger's stamp request: 130 octets, of which the
+/// header's lines are the first 39, and the boot's the next 14.
 const SCHEDULE: &str = "\
 tsp-schedule 1
 drift 0
 node a 0 1000 m
 at 0 boot 0 5
-at 10 turn 0
 at 20 bytes 0 - 80010000000000000000000100000000000000020000000000000000
 end
 ";
@@ -32,8 +31,8 @@ const TRACE: &str = "\
 1 0 0 0 boot
 1 0 0 0 become starting
 1 0 0 0 arm quiet 80000000
-3 0 0 20 took - request 1 2
-3 0 0 20 post 0 - reply 5 1 2 1020
+2 0 0 20 took - request 1 2
+2 0 0 20 post 0 - reply 5 1 2 1020
 ";
 
 /// Whether a replay of this source, where these writes fail, has this outcome and text.
@@ -63,7 +62,7 @@ fn replays(
     comes(alloc, &mut source, writes, outcome, written)
 }
 
-/// The reads give 40, 40, 40 and 23 octets, and then the end. The output of the lines that were read is
+/// The reads give 40, 40, 40 and 10 octets, and then the end. The output of the lines that were read is
 /// written before a read fails.
 #[test]
 fn each_read_fails(rt: HostRuntime) {

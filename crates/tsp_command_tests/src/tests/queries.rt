@@ -1,29 +1,12 @@
 //! Questions over links and tickers in memory, worked out by hand.
-use crate::tests::questions::query_of;
+use crate::tests::questions::{ACK, DAEMON, DATED, NAMED, REPLY, query_of};
 use std::alloc::{AllocError, Global};
 use std::process::Abort;
 use tsp_args::query::Query;
-use tsp_base::place::{PeerId, Place};
+use tsp_base::place::Place;
 use tsp_io::memory_link::MemoryLink;
 use tsp_io::memory_ticker::MemoryTicker;
 use tsp_query::query::{QueryEnd, clockdiff, election, msite, setdate, trace};
-
-/// The daemon.
-const DAEMON: Place = Place::Peer(PeerId(0));
-
-/// An ACK with number 2 and the name `a`.
-const ACK: &[u8] = &[2, 1, 0, 2, 0, 0, 0, 0, 0, 0, 0, 0, b'a', 0];
-
-/// An ACK with number 3 and the name `a`.
-const OTHER: &[u8] = &[2, 1, 0, 3, 0, 0, 0, 0, 0, 0, 0, 0, b'a', 0];
-
-/// A DATEACK with number 2 and the name `a`.
-const DATED: &[u8] = &[16, 1, 0, 2, 0, 0, 0, 0, 0, 0, 0, 0, b'a', 0];
-
-/// The reply with ticket 5, word 2, counter 0 and reading 1,000,500.
-const REPLY: &[u8] = &[
-    0x81, 1, 0, 5, 0, 0, 0, 0, 0, 0, 0, 2, 0, 0, 0, 0, 0, 0, 0, 0, 0, 0, 0, 0, 0, 0x0f, 0x44, 0x34,
-];
 
 /// How a question is to end.
 #[derive(Clone, Copy)]
@@ -54,7 +37,7 @@ type Row = (
 /// off. A send or a receive that fails ends a question.
 const MESSAGES: &[Row] = &[
     (19, &[], 0, DAEMON, ACK, Wanted::Master(b"a"), 0),
-    (19, &[], 0, DAEMON, OTHER, Wanted::NoAnswer, 0),
+    (19, &[], 0, DAEMON, NAMED, Wanted::NoAnswer, 0),
     (19, &[], 0, DAEMON, &[], Wanted::NoAnswer, 0),
     (21, &[], 0, DAEMON, ACK, Wanted::Heard, 0),
     (21, &[], 0, Place::Stranger, ACK, Wanted::NoAnswer, 0),
@@ -77,11 +60,11 @@ const TIMES: &[Row] = &[
 /// Asks over this link, with this ticker.
 fn put(query: &Query, link: &mut MemoryLink, ticker: &mut MemoryTicker) -> QueryEnd {
     match query {
-        Query::Msite => msite(link, ticker),
-        Query::ClockDiff => clockdiff(link, ticker),
         Query::Trace(on) => trace(*on, link, ticker),
-        Query::Election => election(link, ticker),
         Query::Date(time) => setdate(*time, link, ticker),
+        Query::Msite => msite(link, ticker),
+        Query::Election => election(link, ticker),
+        Query::ClockDiff => clockdiff(link, ticker),
     }
 }
 

@@ -13,55 +13,52 @@ use tsp_query::command::ask;
 use tsp_query::exit::QueryExit;
 
 /// The daemon that is asked.
-const DAEMON: Place = Place::Peer(PeerId(0));
+pub const DAEMON: Place = Place::Peer(PeerId(0));
 
 /// An ACK with number 2 and the name `a`.
-const ACK: &[u8] = &[2, 1, 0, 2, 0, 0, 0, 0, 0, 0, 0, 0, b'a', 0];
+pub const ACK: &[u8] = &[2, 1, 0, 2, 0, 0, 0, 0, 0, 0, 0, 0, b'a', 0];
 
 /// An ACK with number 3 and the name `a`.
-const NAMED: &[u8] = &[2, 1, 0, 3, 0, 0, 0, 0, 0, 0, 0, 0, b'a', 0];
+pub const NAMED: &[u8] = &[2, 1, 0, 3, 0, 0, 0, 0, 0, 0, 0, 0, b'a', 0];
 
 /// An ACK with number 3 and the empty name.
 const NAMELESS: &[u8] = &[2, 1, 0, 3, 0, 0, 0, 0, 0, 0, 0, 0, 0];
 
-/// An ACK with number 5 and the name `b`.
-const FORWARDED: &[u8] = &[2, 1, 0, 5, 0, 0, 0, 0, 0, 0, 0, 0, b'b', 0];
+/// A DATEACK with number 2 and the name `a`.
+pub const DATED: &[u8] = &[16, 1, 0, 2, 0, 0, 0, 0, 0, 0, 0, 0, b'a', 0];
 
-/// A DATEACK with number 5 and the name `b`.
-const DATED: &[u8] = &[16, 1, 0, 5, 0, 0, 0, 0, 0, 0, 0, 0, b'b', 0];
-
-/// The reply with ticket 5, word 9, counter 0 and reading 1,000,500.
-const REPLY: &[u8] = &[
-    0x81, 1, 0, 5, 0, 0, 0, 0, 0, 0, 0, 9, 0, 0, 0, 0, 0, 0, 0, 0, 0, 0, 0, 0, 0, 0x0f, 0x44, 0x34,
+/// The reply with ticket 5, word 2, counter 0 and reading 1,000,500.
+pub const REPLY: &[u8] = &[
+    0x81, 1, 0, 5, 0, 0, 0, 0, 0, 0, 0, 2, 0, 0, 0, 0, 0, 0, 0, 0, 0, 0, 0, 0, 0, 0x0f, 0x44, 0x34,
 ];
 
-/// A question by the type of its datagram, with the ticker's word, the calls of the link and the
-/// writes that fail, and the datagram that comes. A run of it gives its end, how many sends were
-/// tried, and the text that was written.
+/// A question by the type of its datagram, with the ticker's word, the datagram that comes, and the
+/// calls of the link and the writes that fail. A run of it gives its end, the text that was written,
+/// and how many sends were tried.
 #[derive(Clone, Copy)]
 struct Row {
     kind: u8,
     word: u64,
-    calls: &'static [u32],
-    writes: &'static [u32],
     from: Place,
     comes: &'static [u8],
+    calls: &'static [u32],
+    writes: &'static [u32],
     end: QueryExit,
-    tried: usize,
     text: &'static str,
+    tried: usize,
 }
 
 /// A question for the master that an ACK answers from the daemon, where no call fails.
 const ASKED: Row = Row {
     kind: 19,
     word: 2,
-    calls: &[],
-    writes: &[],
     from: DAEMON,
     comes: ACK,
+    calls: &[],
+    writes: &[],
     end: QueryExit::LinkFault,
-    tried: 1,
     text: "",
+    tried: 1,
 };
 
 /// Each question has its line, and the empty name means that there is no master.
@@ -69,12 +66,12 @@ const ANSWERED: &[(u8, u64, &[u8], QueryExit, &str)] = &[
     (19, 3, NAMED, QueryExit::Answered, "master a\n"),
     (19, 3, NAMELESS, QueryExit::Answered, "no master\n"),
     (19, 3, &[], QueryExit::NoAnswer, "no answer\n"),
-    (128, 9, REPLY, QueryExit::Answered, "clockdiff 100 401\n"),
+    (128, 2, REPLY, QueryExit::Answered, "clockdiff 100 401\n"),
     (17, 2, ACK, QueryExit::Answered, "trace on\n"),
     (18, 2, ACK, QueryExit::Answered, "trace off\n"),
     (21, 2, ACK, QueryExit::Answered, "election heard\n"),
-    (22, 5, FORWARDED, QueryExit::Answered, "date forwarded\n"),
-    (22, 5, DATED, QueryExit::Answered, "date set\n"),
+    (22, 2, ACK, QueryExit::Answered, "date forwarded\n"),
+    (22, 2, DATED, QueryExit::Answered, "date set\n"),
 ];
 
 /// The question that sends a datagram of this type; a date is 100 seconds.

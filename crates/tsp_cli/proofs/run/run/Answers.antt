@@ -1,6 +1,7 @@
 use Rattle.std.proofs.Common.{inl, inr, refl}
 use Rattle.tsp_query.proofs.FaultLemmas.{Counts-same}
 use Rattle.tsp_args.specs.declared.command.Command.TheVariants.{Replay}
+use Rattle.tsp_cli.specs.Commands.{now_of}
 use Rattle.tsp_cli.proofs.CommandLemmas.{command_same, does_as, untouched_as, command_read, command_none, words_link, said_counts, said_unlinked, said_unread, Untouched-same, Says-nothing, Replay_prints, Replay_so_far}
 use Rattle.tsp_cli.proofs.RunLemmas.{unused_link}
 use Rattle.tsp_cli.proofs.SoFarLemmas.{nothing-so-far}
@@ -12,17 +13,26 @@ run_command-requires-clause-command g c = (command_read _ _ _ c.in-Ok-Some.field
 pub returns-in-Ok-Some-clause-does : goal.returns-in-Ok-Some-clause-does
 returns-in-Ok-Some-clause-does g c = λ command is words.
     let same = command_same _ _ command c.in-Ok-Some.field-0-is (c.in-Ok-Some.ensures.one command is words) in
-    inr (does_as _ command _ _ c.run_command.result same c.run_command.ensures.does)
+    inr (does_as _ command
+    (now_of g.S.Source g.K.Sink g.L.Link g.T.Ticker c.args.source.now c.args.sink.now c.args.link.now c.args.ticker.now)
+    (now_of g.S.Source g.K.Sink g.L.Link g.T.Ticker c.run_command.new.source c.run_command.new.sink c.run_command.new.link c.run_command.new.ticker)
+    c.run_command.result same c.run_command.ensures.does)
 
 pub returns-in-Ok-Some-clause-headline : goal.returns-in-Ok-Some-clause-headline
 returns-in-Ok-Some-clause-headline g c = λ words ok.
     let same = command_same _ _ Replay c.in-Ok-Some.field-0-is (c.in-Ok-Some.ensures.one Replay tt words) in
-    Replay_prints _ _ _ c.run_command.result same c.run_command.ensures.does ok
+    Replay_prints _
+    (now_of g.S.Source g.K.Sink g.L.Link g.T.Ticker c.args.source.now c.args.sink.now c.args.link.now c.args.ticker.now)
+    (now_of g.S.Source g.K.Sink g.L.Link g.T.Ticker c.run_command.new.source c.run_command.new.sink c.run_command.new.link c.run_command.new.ticker)
+    c.run_command.result same c.run_command.ensures.does ok
 
 pub returns-in-Ok-Some-clause-so_far : goal.returns-in-Ok-Some-clause-so_far
 returns-in-Ok-Some-clause-so_far g c = λ words.
     let same = command_same _ _ Replay c.in-Ok-Some.field-0-is (c.in-Ok-Some.ensures.one Replay tt words) in
-    Replay_so_far _ _ _ c.run_command.result same c.run_command.ensures.does
+    Replay_so_far _
+    (now_of g.S.Source g.K.Sink g.L.Link g.T.Ticker c.args.source.now c.args.sink.now c.args.link.now c.args.ticker.now)
+    (now_of g.S.Source g.K.Sink g.L.Link g.T.Ticker c.run_command.new.source c.run_command.new.sink c.run_command.new.link c.run_command.new.ticker)
+    c.run_command.result same c.run_command.ensures.does
 
 pub returns-in-Ok-Some-clause-usage : goal.returns-in-Ok-Some-clause-usage
 returns-in-Ok-Some-clause-usage g c = λ none. let read = command_read _ _ _ c.in-Ok-Some.field-0-is c.in-Ok-Some.ensures.reads in absurd (none _ read.0 read.1)

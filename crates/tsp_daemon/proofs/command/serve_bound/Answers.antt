@@ -2,6 +2,7 @@ use Rattle.std.proofs.Common.{◌≡◌, ◌∙◌, ap, sym, inl, inr, refl, sub
 use Rattle.tsp_query.proofs.AskLemmas.{of_some}
 use Rattle.tsp_query.proofs.FaultLemmas.{Counts-from, Counts-same}
 use Rattle.tsp_query.proofs.OutsideLemmas.{Says_from}
+use Rattle.tsp_query.specs.Outside.{observed}
 use Rattle.tsp_rules.specs.Guards.{is_clock_value}
 use Rattle.tsp_daemon.proofs.NodeLemmas.{turns_fit}
 use Rattle.tsp_daemon.proofs.ServeLemmas.{Tells_read, IsServed_serves, walled_is, served_linked, served_written, served_in_time}
@@ -26,7 +27,8 @@ returns-in-Ok-clause-serves g c = λ o wall word written k.
     let last = c.word-word.ensures.same.4 ∙ c.wall-wall.ensures.same.3 ∙ c.tick-tick.ensures.last in
     let read = Tells_read o _ _ _ _ _ _ _ _ _ c.tick-tick.ensures.takes readings last k.tells in
     let back : to_z w64 (of_z w64 c.wall-wall.result) ≡ c.wall-wall.result = search rules in
-    inr (inr (IsServed_serves _ o wall _ word _ _ written c.in-Ok.node _ _ _ _ _ _ _ _ c.serve.result c.of.result read.1 (back ∙ wall_is) word_is c.in-Ok.ensures.wall c.in-Ok.ensures.stands read.0 k.written_is c.of.ensures c.requires.serve c.serve.ensures.serves))
+    inr (inr (IsServed_serves c.args.words.now o wall _ word _ _ written c.in-Ok.node _ _ _ _ _ _ _
+    (observed g.K.Sink g.L.Link g.T.Ticker c.serve.new.sink c.serve.new.link c.serve.new.ticker) c.serve.result c.of.result read.1 (back ∙ wall_is) word_is c.in-Ok.ensures.wall c.in-Ok.ensures.stands read.0 k.written_is c.of.ensures c.requires.serve c.serve.ensures.serves))
 
 pub returns-in-Ok-clause-link : goal.returns-in-Ok-clause-link
 returns-in-Ok-clause-link g c = Counts-from _ _ _ _ _ refl (λ e. served_linked c.serve.result (sym c.of.ensures ∙ e)) (λ e. c.of.ensures ∙ ap (λ (x : ServeEnd). served_of x) e) c.serve.ensures.link

@@ -1,9 +1,11 @@
-use Rattle.std.proofs.Common.{◌≡◌, ◌∙◌, ◌+◌, ◌*◌, ap, arith, refl, List}
+use Rattle.std.proofs.Common.{◌≡◌, ◌∙◌, ◌+◌, ap, arith, refl, List}
 use Rattle.tsp_base.specs.declared.place.PeerId.{PeerId}
 use Rattle.tsp_gateway.specs.Rooms.{ports_in, room_of_ports}
 use Rattle.tsp_query.proofs.FaultLemmas.{Counts-from, Counts-same}
+use Rattle.tsp_daemon.specs.declared.end.ServeEnd.TheVariants.{LinkFault, WriteFault}
 use Rattle.tsp_daemon.specs.Sessions.{after_turns}
 use Rattle.tsp_daemon.proofs.SessionLemmas.{rises_more, serves_until, turns_more}
+use Rattle.tsp_daemon.proofs.TurnLemmas.{le_on, posts_more, went_on, done_unlinked, done_unwritten, end_as, same_end}
 use Rattle.tsp_daemon.proofs.WaitLemmas.{one_more_noted, until_noted}
 use Rattle.tsp_daemon.proofs.serve.serve.Goals as goal
 
@@ -18,7 +20,6 @@ pub loop-preserved : goal.loop-preserved
 loop-preserved g c =
     let room = room_of_ports (ports_in c.args.gateway) in
     let same : room_of_ports (ports_in c.loop.gateway) ≡ room = ap (λ (ps : List (List PeerId)). room_of_ports ps) c.loop.invariant.ports in
-    let more : (c.loop.counter + 1) * room ≡ c.loop.counter * room + room = grind arith in
     record {
       at = λ s at. turns_more c.loop.counter s _ _ _ _ _ _ _ _ (c.in_default.ensures.turns (after_turns c.loop.counter s) (c.loop.invariant.at s at));
       rises = λ s at. rises_more c.loop.counter s _ _ _ _ _ _ _ _ _ _ _ _ _ _ _ _ (c.loop.invariant.rises s at) (c.loop.invariant.at s at) (c.in_default.ensures.turns (after_turns c.loop.counter s) (c.loop.invariant.at s at)) c.turn.ensures.keeps.last;
@@ -28,12 +29,12 @@ loop-preserved g c =
       lives = c.in_default.ensures.lives;
       clock = c.in_default.ensures.clock;
       turns = c.in_default.ensures.counts.0 ∙ ap (λ n. n + 1) c.loop.invariant.turns;
-      posts = (let posts = c.in_default.ensures.counts.1 in omega (arith, posts, c.loop.invariant.posts, same, more));
+      posts = posts_more c.loop.counter room _ _ _ c.in_default.ensures.counts.1 c.loop.invariant.posts same;
       ports = c.in_default.ensures.ports ∙ c.loop.invariant.ports;
-      faults = c.in_default.ensures.link.still (λ e. cc) ∙ c.loop.invariant.faults;
-      send_faults = omega (arith, c.loop.invariant.send_faults, c.turn.ensures.sends);
-      writes = c.in_default.ensures.write.still (λ e. cc) ∙ c.loop.invariant.writes;
-      last = omega (arith, c.loop.invariant.last, c.turn.ensures.keeps.last);
+      faults = c.in_default.ensures.link.still (λ e. went_on _ _ e) ∙ c.loop.invariant.faults;
+      send_faults = le_on _ _ _ c.loop.invariant.send_faults c.turn.ensures.sends;
+      writes = c.in_default.ensures.write.still (λ e. went_on _ _ e) ∙ c.loop.invariant.writes;
+      last = le_on _ _ _ c.loop.invariant.last c.turn.ensures.keeps.last;
     }
 
 pub returns-clause-serves : goal.returns-clause-serves
@@ -46,26 +47,26 @@ pub returns-in-Err-clause-keeps : goal.returns-in-Err-clause-keeps
 returns-in-Err-clause-keeps g c = record {
   binds = c.turn.ensures.keeps.binds ∙ c.loop.invariant.binds;
   walled = c.turn.ensures.keeps.walled ∙ c.loop.invariant.walled;
-  last = omega (arith, c.loop.invariant.last, c.turn.ensures.keeps.last);
+  last = le_on _ _ _ c.loop.invariant.last c.turn.ensures.keeps.last;
 }
 
 pub returns-in-Err-clause-link : goal.returns-in-Err-clause-link
-returns-in-Err-clause-link g c = Counts-from _ _ _ _ _ c.loop.invariant.faults (λ e. cc) (λ e. cc) c.in-Err.ensures.link
+returns-in-Err-clause-link g c = Counts-from _ _ _ _ _ c.loop.invariant.faults (λ e. end_as c.in-Err.end LinkFault e) (λ e. same_end c.in-Err.end LinkFault e) c.in-Err.ensures.link
 
 pub returns-in-Err-clause-write : goal.returns-in-Err-clause-write
-returns-in-Err-clause-write g c = Counts-from _ _ _ _ _ c.loop.invariant.writes (λ e. cc) (λ e. cc) c.in-Err.ensures.write
+returns-in-Err-clause-write g c = Counts-from _ _ _ _ _ c.loop.invariant.writes (λ e. end_as c.in-Err.end WriteFault e) (λ e. same_end c.in-Err.end WriteFault e) c.in-Err.ensures.write
 
 pub returns-in-Err-clause-sends : goal.returns-in-Err-clause-sends
-returns-in-Err-clause-sends g c = omega (arith, c.loop.invariant.send_faults, c.turn.ensures.sends)
+returns-in-Err-clause-sends g c = le_on _ _ _ c.loop.invariant.send_faults c.turn.ensures.sends
 
 pub returns-clause-keeps : goal.returns-clause-keeps
 returns-clause-keeps g c = record { binds = c.loop.invariant.binds; walled = c.loop.invariant.walled; last = c.loop.invariant.last }
 
 pub returns-clause-link : goal.returns-clause-link
-returns-clause-link g c = Counts-same _ _ _ c.loop.invariant.faults (λ e. cc)
+returns-clause-link g c = Counts-same _ _ _ c.loop.invariant.faults (λ e. done_unlinked e)
 
 pub returns-clause-write : goal.returns-clause-write
-returns-clause-write g c = Counts-same _ _ _ c.loop.invariant.writes (λ e. cc)
+returns-clause-write g c = Counts-same _ _ _ c.loop.invariant.writes (λ e. done_unwritten e)
 
 pub returns-clause-sends : goal.returns-clause-sends
 returns-clause-sends g c = c.loop.invariant.send_faults

@@ -1,4 +1,4 @@
-use Rattle.std.proofs.Common.{rules, ◌≡◌, ◌∙◌, ◌+◌, List, [], ap, arith, inl, length, sym, subst, refl}
+use Rattle.std.proofs.Common.{◌≡◌, ◌∙◌, ◌+◌, List, [], ap, inl, sym, subst, refl}
 use Rattle.tsp_base.specs.declared.act.Placed.{Placed}
 use Rattle.tsp_daemon.specs.declared.end.ServeEnd.TheVariants.{LinkFault}
 use Rattle.tsp_io.specs.declared.link.Recv.TheVariants.{Failed}
@@ -11,6 +11,7 @@ use Rattle.tsp_daemon.specs.Ends.{given_by}
 use Rattle.tsp_daemon.specs.Posts.{AreKnown}
 use Rattle.tsp_daemon.proofs.SessionLemmas.{waits_is, steps_is, turned_is, ends_is, lives_on, acts_known, unheard_is, finish_unlinked}
 use Rattle.tsp_query.proofs.OutsideLemmas.{Notes_same}
+use Rattle.tsp_daemon.proofs.TurnLemmas.{le_self, le_is, last_on, last_twice, sends_on, clock_on, posts_on, memory_unlinked, memory_unwritten, link_unwritten, same_end}
 use Rattle.tsp_daemon.proofs.WaitLemmas.{first_reading, turn_noted, wait_noted}
 use Rattle.tsp_daemon.proofs.turn.turn.Goals as goal
 
@@ -20,7 +21,7 @@ finish-requires-clause-known g c =
 
 pub returns-in-Err-clause-turns : goal.returns-in-Err-clause-turns
 returns-in-Err-clause-turns g c s at =
-    let ok : c.recv-received.result ≡ Failed → ⊥ = search rules in
+    let ok : c.recv-received.result ≡ Failed → ⊥ = c.in_default.not-Failed in
     let w = waits_is s.past.ports s.outside _ _ _ _ _ _ _ _ _ _ _ _ _ _ _ _ _ _ at.tells c.tick-first.ensures.takes c.tick-first.ensures.last c.recv-received.ensures.receives ok c.recv-received.ensures.same.0 c.recv-received.ensures.counted c.tick-tick.ensures.takes c.tick-tick.ensures.last in
     let row = subst (λ (ps : List Placed). PerformsAll GatewayBegun GatewayStands (answers_all (given_by (setups_in c.args.node.now) c.recv-received.result c.recv-received.new.buf)) c.tick-tick.result c.args.node.now c.step.new.node [] ps) (sym c.acts-acts.ensures) c.step.ensures.row in
     let steps = steps_is s _ _ c.args.course.now _ _ _ _ _ _ _ _ _ _ _ _ at.stands at.turns_is at.posts_is w row (c.tracing-before.ensures.past s.past at.stands) c.tracing.ensures.past c.is_shown-shown.ensures in
@@ -28,11 +29,11 @@ returns-in-Err-clause-turns g c s at =
 
 pub returns-clause-turns : goal.returns-clause-turns
 returns-clause-turns g c s at =
-    let ok : c.recv-received.result ≡ Failed → ⊥ = search rules in
+    let ok : c.recv-received.result ≡ Failed → ⊥ = c.in_default.not-Failed in
     let w = waits_is s.past.ports s.outside _ _ _ _ _ _ _ _ _ _ _ _ _ _ _ _ _ _ at.tells c.tick-first.ensures.takes c.tick-first.ensures.last c.recv-received.ensures.receives ok c.recv-received.ensures.same.0 c.recv-received.ensures.counted c.tick-tick.ensures.takes c.tick-tick.ensures.last in
     let row = subst (λ (ps : List Placed). PerformsAll GatewayBegun GatewayStands (answers_all (given_by (setups_in c.args.node.now) c.recv-received.result c.recv-received.new.buf)) c.tick-tick.result c.args.node.now c.step.new.node [] ps) (sym c.acts-acts.ensures) c.step.ensures.row in
     let steps = steps_is s _ _ c.args.course.now _ _ _ _ _ _ _ _ _ _ _ _ at.stands at.turns_is at.posts_is w row (c.tracing-before.ensures.past s.past at.stands) c.tracing.ensures.past c.is_shown-shown.ensures in
-    let sent = c.in_default.ensures.ok in
+    let sent = c.in_default-finish.ensures.ok in
     turned_is s _ c.args.course.now _ _ _ _ _ _ _ _ _ _ _ _ _ _ _ _ _ at.turns_is at.posts_is at.written_is w steps c.finish.ensures.only.arrivals c.finish.ensures.only.calls sent.0 sent.1 refl
     (ap (λ n. c.args.course.now.posts + n) c.posts_in.ensures.count)
 
@@ -53,89 +54,89 @@ pub returns-then-is_err-clause-waits : goal.returns-then-is_err-clause-waits
 returns-then-is_err-clause-waits g c s at = inl refl
 
 pub returns-then-is_err-clause-keeps : goal.returns-then-is_err-clause-keeps
-returns-then-is_err-clause-keeps g c = record { binds = refl; walled = refl; last = omega arith }
+returns-then-is_err-clause-keeps g c = record { binds = refl; walled = refl; last = le_self _ }
 
 pub returns-then-is_err-clause-link : goal.returns-then-is_err-clause-link
-returns-then-is_err-clause-link g c = Counts-same _ _ _ refl (λ e. cc)
+returns-then-is_err-clause-link g c = Counts-same _ _ _ refl (λ e. memory_unlinked e)
 
 pub returns-then-is_err-clause-write : goal.returns-then-is_err-clause-write
-returns-then-is_err-clause-write g c = Counts-same _ _ _ refl (λ e. cc)
+returns-then-is_err-clause-write g c = Counts-same _ _ _ refl (λ e. memory_unwritten e)
 
 pub returns-then-is_err-clause-sends : goal.returns-then-is_err-clause-sends
-returns-then-is_err-clause-sends g c = omega arith
+returns-then-is_err-clause-sends g c = le_self _
 
 -- the receive failed
-pub returns-then-eq-clause-turns : goal.returns-then-eq-clause-turns
-returns-then-eq-clause-turns g c s at =
-    let failed : c.recv-received.result ≡ Failed = search rules in (
+pub returns-in-Failed-clause-turns : goal.returns-in-Failed-clause-turns
+returns-in-Failed-clause-turns g c s at =
+    let failed : c.recv-received.result ≡ Failed = c.in-Failed.is in (
       unheard_is s.outside _ _ _ _ _ _ _ _ _ _ _ _ _ _ _ at.tells c.tick-first.ensures.takes c.tick-first.ensures.last c.recv-received.ensures.receives failed c.recv-received.ensures.same.0 c.recv-received.ensures.counted,
       at.written_is,
     )
 
-pub returns-then-eq-clause-waits : goal.returns-then-eq-clause-waits
-returns-then-eq-clause-waits g c s at = wait_noted s _ c.due.result c.tick-first.result c.wait_until.result _ _ at.stands c.due.ensures.past (first_reading s.outside _ _ _ _ _ _ _ at.tells c.tick-first.ensures.takes) c.wait_until.ensures c.recv-received.ensures.waits
+pub returns-in-Failed-clause-waits : goal.returns-in-Failed-clause-waits
+returns-in-Failed-clause-waits g c s at = wait_noted s _ c.due.result c.tick-first.result c.wait_until.result _ _ at.stands c.due.ensures.past (first_reading s.outside _ _ _ _ _ _ _ at.tells c.tick-first.ensures.takes) c.wait_until.ensures c.recv-received.ensures.waits
 
-pub returns-then-eq-clause-keeps : goal.returns-then-eq-clause-keeps
-returns-then-eq-clause-keeps g c = record {
+pub returns-in-Failed-clause-keeps : goal.returns-in-Failed-clause-keeps
+returns-in-Failed-clause-keeps g c = record {
   binds = c.recv-received.ensures.same.1;
   walled = c.tick-first.ensures.same.2;
-  last = omega (arith, c.tick-first.ensures.low, c.tick-first.ensures.last);
+  last = last_on _ _ _ c.tick-first.ensures.low c.tick-first.ensures.last;
 }
 
-pub returns-then-eq-clause-link : goal.returns-then-eq-clause-link
-returns-then-eq-clause-link g c =
-    let failed : c.recv-received.result ≡ Failed = search rules in
+pub returns-in-Failed-clause-link : goal.returns-in-Failed-clause-link
+returns-in-Failed-clause-link g c =
+    let failed : c.recv-received.result ≡ Failed = c.in-Failed.is in
     record { later = c.recv-received.ensures.later.0; cause = λ e. c.recv-received.ensures.cause failed; still = λ h. absurd (h refl) }
 
-pub returns-then-eq-clause-write : goal.returns-then-eq-clause-write
-returns-then-eq-clause-write g c = Counts-same _ _ _ refl (λ e. cc)
+pub returns-in-Failed-clause-write : goal.returns-in-Failed-clause-write
+returns-in-Failed-clause-write g c = Counts-same _ _ _ refl (λ e. link_unwritten e)
 
-pub returns-then-eq-clause-sends : goal.returns-then-eq-clause-sends
-returns-then-eq-clause-sends g c = omega (arith, c.recv-received.ensures.later.1)
+pub returns-in-Failed-clause-sends : goal.returns-in-Failed-clause-sends
+returns-in-Failed-clause-sends g c = le_is _ _ c.recv-received.ensures.later.1
 
 -- a send or a line ended it
 pub returns-in-Err-clause-keeps : goal.returns-in-Err-clause-keeps
 returns-in-Err-clause-keeps g c = record {
   binds = c.finish.ensures.only.binds ∙ c.recv-received.ensures.same.1;
   walled = c.tick-tick.ensures.same.2 ∙ c.tick-first.ensures.same.2;
-  last = omega (arith, c.tick-first.ensures.low, c.tick-first.ensures.last, c.tick-tick.ensures.low, c.tick-tick.ensures.last);
+  last = last_twice _ _ _ _ _ c.tick-first.ensures.low c.tick-first.ensures.last c.tick-tick.ensures.low c.tick-tick.ensures.last;
 }
 
 pub returns-in-Err-clause-link : goal.returns-in-Err-clause-link
 returns-in-Err-clause-link g c =
-    let ok : c.recv-received.result ≡ Failed → ⊥ = search rules in
-    Counts-same _ _ _ (c.finish.ensures.only.faults ∙ c.recv-received.ensures.still ok) (λ e. let is : c.in-Err.end ≡ LinkFault = cc in finish_unlinked _ _ _ _ _ _ c.in-Err.end c.in-Err.ensures.err is)
+    let ok : c.recv-received.result ≡ Failed → ⊥ = c.in_default.not-Failed in
+    Counts-same _ _ _ (c.finish.ensures.only.faults ∙ c.recv-received.ensures.still ok) (λ e. finish_unlinked _ _ _ _ _ _ c.in-Err.end c.in-Err.ensures.err (same_end c.in-Err.end LinkFault e))
 
 pub returns-in-Err-clause-write : goal.returns-in-Err-clause-write
 returns-in-Err-clause-write g c = c.in-Err.ensures.write
 
 pub returns-in-Err-clause-sends : goal.returns-in-Err-clause-sends
-returns-in-Err-clause-sends g c = omega (arith, c.recv-received.ensures.later.1, c.finish.ensures.only.sends)
+returns-in-Err-clause-sends g c = sends_on _ _ _ c.recv-received.ensures.later.1 c.finish.ensures.only.sends
 
 -- the turn was taken
 pub returns-clause-keeps : goal.returns-clause-keeps
 returns-clause-keeps g c = record {
   binds = c.finish.ensures.only.binds ∙ c.recv-received.ensures.same.1;
   walled = c.tick-tick.ensures.same.2 ∙ c.tick-first.ensures.same.2;
-  last = omega (arith, c.tick-first.ensures.low, c.tick-first.ensures.last, c.tick-tick.ensures.low, c.tick-tick.ensures.last);
+  last = last_twice _ _ _ _ _ c.tick-first.ensures.low c.tick-first.ensures.last c.tick-tick.ensures.low c.tick-tick.ensures.last;
 }
 
 pub returns-clause-clock : goal.returns-clause-clock
-returns-clause-clock g c = omega (arith, c.step.ensures.clock, c.tick-tick.ensures.last)
+returns-clause-clock g c = clock_on _ _ _ c.step.ensures.clock c.tick-tick.ensures.last
 
 pub returns-clause-counts : goal.returns-clause-counts
-returns-clause-counts g c = (refl, omega (arith, c.posts_in.ensures.few, c.step.ensures.few, ap (λ (ps : List Placed). length ps) c.acts-acts.ensures))
+returns-clause-counts g c = (refl, posts_on c.args.course.now.posts _ _ _ _ c.posts_in.ensures.few c.step.ensures.few c.acts-acts.ensures)
 
 pub returns-clause-ports : goal.returns-clause-ports
 returns-clause-ports g c = c.step.ensures.ports
 
 pub returns-clause-link : goal.returns-clause-link
 returns-clause-link g c =
-    let ok : c.recv-received.result ≡ Failed → ⊥ = search rules in
+    let ok : c.recv-received.result ≡ Failed → ⊥ = c.in_default.not-Failed in
     Counts-same _ _ _ (c.finish.ensures.only.faults ∙ c.recv-received.ensures.still ok) (λ e. cc)
 
 pub returns-clause-write : goal.returns-clause-write
-returns-clause-write g c = c.in_default.ensures.write
+returns-clause-write g c = c.in_default-finish.ensures.write
 
 pub returns-clause-sends : goal.returns-clause-sends
-returns-clause-sends g c = omega (arith, c.recv-received.ensures.later.1, c.finish.ensures.only.sends)
+returns-clause-sends g c = sends_on _ _ _ c.recv-received.ensures.later.1 c.finish.ensures.only.sends
