@@ -6,9 +6,6 @@ ghost use Rattle.tsp_promises.specs.Fits.{Fits};
 ghost use Rattle.tsp_base.specs.History.{Line};
 ghost use Rattle.tsp_promises.specs.Setting.{Setting};
 ghost use Rattle.tsp_promises.specs.Dated.{Dated};
-ghost use Rattle.tsp_promises.specs.DatedUse.{DatedUse};
-ghost use Rattle.tsp_promises.specs.DatesBroken.{DatesBreak};
-
 /// Only a master sets a date, and it sets its clock to the time that it took. A date that was
 /// passed on and acknowledged was set, if no peer's datagram is forged, no datagram outlives `LIFE`
 /// (30 s), and no port begins 32,768 sends with own numbers in one life of its node.
@@ -16,11 +13,13 @@ pub fn dated()
     ensures { (setting : Setting) (world : List Line) → Fits setting world → Dated setting world }
 {}
 
+ghost use Rattle.tsp_promises.specs.DatedUse.{DatedUse};
 /// The promise isn't empty: a history that fits sees a date passed on, set and acknowledged.
 pub fn dates_use()
     ensures { DatedUse }
 {}
 
+ghost use Rattle.tsp_promises.specs.DatesBroken.{DatesBreak};
 /// And it says something: for each of its parts a small history breaks it.
 pub fn dates_can_be_broken()
     ensures { DatesBreak }

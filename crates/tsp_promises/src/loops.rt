@@ -7,9 +7,6 @@ ghost use Rattle.tsp_promises.specs.Fits.{Fits};
 ghost use Rattle.tsp_base.specs.History.{Line};
 ghost use Rattle.tsp_promises.specs.Setting.{Setting};
 ghost use Rattle.tsp_promises.specs.Looped.{Looped};
-ghost use Rattle.tsp_promises.specs.LoopUse.{LoopUse};
-ghost use Rattle.tsp_promises.specs.LoopsBroken.{LoopsBreak};
-
 /// Each LOOP comes along a chain of at most eleven posts, if no peer's datagram is forged. If the
 /// nodes' names differ besides, a master becomes Loose only for a LOOP of its own node, which set
 /// out from a port with a lower number and was passed on by other nodes.
@@ -17,12 +14,14 @@ pub fn looped()
     ensures { (setting : Setting) (world : List Line) → Fits setting world → Looped setting world }
 {}
 
+ghost use Rattle.tsp_promises.specs.LoopUse.{LoopUse};
 /// The promise isn't empty: in a history that fits a LOOP goes round over two other nodes, and the
 /// master that began it gives up the lead of its higher port.
 pub fn loops_use()
     ensures { LoopUse }
 {}
 
+ghost use Rattle.tsp_promises.specs.LoopsBroken.{LoopsBreak};
 /// And it says something: for each of its parts a small history breaks it.
 pub fn loops_can_be_broken()
     ensures { LoopsBreak }

@@ -4,72 +4,37 @@
 //! hold. The front page of this crate says what the words mean.
 ghost use Rattle.std.specs.Prelude.{◌≡◌, ◌≤◌, ◌⊎◌, ◌+◌, nat_abs, true, ℕ, ℤ, List};
 ghost use Rattle.tsp_base.specs.History.{Line};
-ghost use Rattle.tsp_base.specs.Ticks.{tick_at, width};
-ghost use Rattle.tsp_promises.specs.Agreed.{Agreed, StayAgreed};
 ghost use Rattle.tsp_promises.specs.AgreedShown.{AgreedShown, ShownNear, Waited};
-ghost use Rattle.tsp_promises.specs.Answered.{Answered};
-ghost use Rattle.tsp_promises.specs.AnsweredUse.{AnsweredUse};
-ghost use Rattle.tsp_promises.specs.Became.{BecomesAfter};
-ghost use Rattle.tsp_promises.specs.Broken.{AllBreak};
-ghost use Rattle.tsp_promises.specs.ChainUse.{ChainUse};
-ghost use Rattle.tsp_promises.specs.Chained.{Chained};
-ghost use Rattle.tsp_promises.specs.DateUse.{DateUse, ForgedDate};
-ghost use Rattle.tsp_promises.specs.ErrsBounded.{ErrsBounded};
-ghost use Rattle.tsp_promises.specs.FirstSet.{FirstSet, FirstSetSoon};
 ghost use Rattle.tsp_promises.specs.Fits.{Fits, Finished};
-ghost use Rattle.tsp_promises.specs.LateReply.{LateReply};
 ghost use Rattle.tsp_promises.specs.Measured.{Measured, Trips};
-ghost use Rattle.tsp_promises.specs.Moderate.{Moderate, ModerateClocks};
-ghost use Rattle.tsp_promises.specs.ModerateUse.{ModerateUse};
 ghost use Rattle.tsp_promises.specs.Once.{OnceConfirmed, OnceCorrected, OnceObeyed};
 ghost use Rattle.tsp_promises.specs.Once.{OnceSpaced, OnceSpacedOverLives, OnceTaken};
-ghost use Rattle.tsp_promises.specs.OneBack.{OneBack};
-ghost use Rattle.tsp_promises.specs.OneError.{OneError};
-ghost use Rattle.tsp_promises.specs.OneWinner.{OneWinner};
-ghost use Rattle.tsp_promises.specs.OnlyMaster.{OnlyMaster};
-ghost use Rattle.tsp_promises.specs.OrdinaryUse.{OrdinaryUse};
 ghost use Rattle.tsp_promises.specs.Premises.{Few, Honest, Life, OwnWords};
-ghost use Rattle.tsp_promises.specs.QuietUse.{QuietUse};
-ghost use Rattle.tsp_promises.specs.Relayed.{Relayed};
-ghost use Rattle.tsp_promises.specs.Relays.{Relays};
 ghost use Rattle.tsp_promises.specs.Resolved.{StaysQuiet, StopsLeading, Yields};
-ghost use Rattle.tsp_promises.specs.RivalsMeet.{RivalsMeet};
-ghost use Rattle.tsp_promises.specs.RoundsUse.{RoundsUse};
-ghost use Rattle.tsp_promises.specs.Safe.{Safe};
-ghost use Rattle.tsp_promises.specs.SameWords.{MeasuresWrongly, SameWords};
-ghost use Rattle.tsp_promises.specs.Seldom.{Seldom};
-ghost use Rattle.tsp_promises.specs.SetUse.{SetUse};
 ghost use Rattle.tsp_promises.specs.Setting.{Setting};
-ghost use Rattle.tsp_promises.specs.PrintsUse.{PrintsUse};
-ghost use Rattle.tsp_promises.specs.ShownUse.{ShownUse};
-ghost use Rattle.tsp_promises.specs.Shows.{Shows};
-ghost use Rattle.tsp_promises.specs.Silent.{Silent};
 ghost use Rattle.tsp_promises.specs.Steady.{Meets, Steady};
-ghost use Rattle.tsp_promises.specs.StrictElections.{StrictElections};
-ghost use Rattle.tsp_promises.specs.Thrice.{Thrice};
-ghost use Rattle.tsp_promises.specs.ThriceUse.{ThriceUse};
-ghost use Rattle.tsp_promises.specs.Throughout.{Throughout};
-ghost use Rattle.tsp_promises.specs.Estimates.{EstimatesHold};
-ghost use Rattle.tsp_promises.specs.EstimatesUse.{EstimatesUse};
-
+ghost use Rattle.tsp_promises.specs.Safe.{Safe};
 /// All promises of a history that ends with a step, each under the premises that it needs.
 pub fn safe()
     ensures { (setting : Setting) (world : List Line) → Fits setting world → Finished world
         → Safe setting world }
 {}
 
+ghost use Rattle.tsp_promises.specs.OneBack.{OneBack};
 /// No node backs two candidates within `HOLD` ticks, 60 s, even if datagrams are forged.
 pub fn one_back()
     ensures { (setting : Setting) (world : List Line) → Fits setting world → Finished world
         → OneBack world }
 {}
 
+ghost use Rattle.tsp_promises.specs.Silent.{Silent};
 /// For `QUIET` ticks, 80 s, after a boot a node posts only replies to stamp requests and
 /// acknowledgments of MSITE, TRACEON and TRACEOFF, and doesn't correct its clock.
 pub fn silent_after_boot()
     ensures { (setting : Setting) (world : List Line) → Fits setting world → Silent world }
 {}
 
+ghost use Rattle.tsp_promises.specs.Answered.{Answered};
 /// A step takes at most one datagram. A port heeds a QUIT right after it took it, once in a step,
 /// and acknowledges it in that step, in every role. What a step posts to a stranger answers the
 /// datagram that it took from one on that port, and is the only thing that it posts to strangers. A
@@ -80,6 +45,7 @@ pub fn answered()
         → Answered setting world }
 {}
 
+ghost use Rattle.tsp_promises.specs.OnlyMaster.{OnlyMaster};
 /// Only masters post corrections, close rounds, and correct their clocks right after a Close.
 pub fn only_master()
     ensures { (setting : Setting) (world : List Line) → Fits setting world → OnlyMaster world }
@@ -121,6 +87,7 @@ pub fn once_confirmed()
         → Life world → OnceConfirmed world }
 {}
 
+ghost use Rattle.tsp_promises.specs.Thrice.{Thrice};
 /// A numbered message is posted at most three times, the last time at most 4 s of its node's ticks
 /// after the first.
 pub fn thrice()
@@ -141,6 +108,7 @@ pub fn measured()
         → Life world ⊎ OwnWords world → Measured setting world }
 {}
 
+ghost use Rattle.tsp_promises.specs.Agreed.{Agreed, StayAgreed};
 /// An ADJTIME that a Close begins rests on a sample. Clocks that one Close corrected agree with one
 /// another and with the master's, within their errors and drift: at each act, and after each line
 /// as long as nothing more happens.
@@ -151,6 +119,7 @@ pub fn agreed()
         → Life world → StayAgreed setting world }
 {}
 
+ghost use Rattle.tsp_promises.specs.Estimates.{EstimatesHold};
 /// What a round's estimates say of the clocks: two estimates differ by at most as much as the
 /// clocks do at the Close, plus their errors and drift. And the master's clock, once it has moved
 /// by the mean, differs from a clock that is left alone by at most what that clock's estimate
@@ -160,12 +129,14 @@ pub fn estimates_hold()
         → Life world → EstimatesHold setting world }
 {}
 
+ghost use Rattle.tsp_promises.specs.ErrsBounded.{ErrsBounded};
 /// The error on which an ADJTIME rests is at most 4.5 s, half of the longest round, whatever is
 /// delivered.
 pub fn errs_bounded()
     ensures { (setting : Setting) (world : List Line) → Fits setting world → ErrsBounded world }
 {}
 
+ghost use Rattle.tsp_promises.specs.Moderate.{Moderate, ModerateClocks};
 /// A minority of a round's estimates, whatever it says, moves no clock of the majority by much.
 /// Where more than half of the estimates are within 20 ms of one another, the mean differs by at
 /// most 40 ms from each of them. So a master among them slews its clock by at most that, and so
@@ -180,11 +151,13 @@ pub fn moderate()
         → Life world → ModerateClocks setting world }
 {}
 
+ghost use Rattle.tsp_promises.specs.Seldom.{Seldom};
 /// In one life of a node two rounds of one port close at least 239 s of its ticks apart.
 pub fn seldom()
     ensures { (setting : Setting) (world : List Line) → Fits setting world → Seldom world }
 {}
 
+ghost use Rattle.tsp_promises.specs.Throughout.{Throughout};
 /// A round's bound outlasts later Corrects, until either node boots. Take back what the two nodes
 /// were moved by since: then the clock of a node that a Close corrected and the clock of the master
 /// agree as they did. So the clocks themselves differ by at most those amounts besides. The same is
@@ -194,6 +167,7 @@ pub fn throughout()
         → Life world → Throughout setting world }
 {}
 
+ghost use Rattle.tsp_promises.specs.OneError.{OneError};
 /// No error is corrected twice, whichever masters there are, if no peer's datagram is forged and
 /// none outlives `LIFE`. Each correction that a clock takes rests on a reading or a SLAVEUP, and
 /// from that to the Correct that takes it the node neither boots nor corrects its clock.
@@ -202,6 +176,7 @@ pub fn one_error()
         → Life world → OneError world }
 {}
 
+ghost use Rattle.tsp_promises.specs.FirstSet.{FirstSet, FirstSetSoon};
 /// After a SETTIME a clock is behind its master's by the time since the SETTIME was first posted,
 /// give or take drift, even if datagrams are forged. If no datagram outlives `LIFE`, that is at
 /// most 34 s and drift.
@@ -212,6 +187,7 @@ pub fn first_set()
         → FirstSetSoon setting world }
 {}
 
+ghost use Rattle.tsp_promises.specs.Chained.{Chained};
 /// Clocks along chains of corrections agree: with the first master's, with those along another
 /// chain of the same Close, and, in a tree of gateways, any two of them. They differ by at most the
 /// errors of the readings on the path and drift.
@@ -220,6 +196,7 @@ pub fn chained()
         → Life world → Chained setting world }
 {}
 
+ghost use Rattle.tsp_promises.specs.Relayed.{Relayed};
 /// A clock corrected by a master that was itself corrected agrees with the first master's, within
 /// both errors and drift: at each line, and after it as long as nothing more happens.
 pub fn relayed()
@@ -233,6 +210,7 @@ pub fn runs_steadily()
     ensures { (setting : Setting) (world : List Line) → Fits setting world → Steady setting world }
 {}
 
+ghost use Rattle.tsp_promises.specs.Shows.{Shows};
 /// A Correct prints what its clock shows right after it. It says that it is stepped exactly where
 /// it sets the clock, by a SETTIME or a date, or where its amount is more than `MAXADJ`, 20 s. Then
 /// the clock shows its new target; otherwise it shows what it showed before. So a trace can be
@@ -271,6 +249,7 @@ pub fn resolved_yields()
         → Yields world }
 {}
 
+ghost use Rattle.tsp_promises.specs.Became.{BecomesAfter};
 /// It comes to follow by a change of its role in that step, after the QUIT.
 pub fn resolved_becomes()
     ensures { BecomesAfter }
@@ -289,6 +268,7 @@ pub fn resolved_stops()
         → Life world → StopsLeading world }
 {}
 
+ghost use Rattle.tsp_promises.specs.OneWinner.{OneWinner};
 /// In strict elections, where a candidate needs a majority, two wins of different nodes on one
 /// network are more than 50 s apart, if no peer's datagram is forged, no datagram outlives `LIFE`,
 /// and no port begins 32,768 sends with own numbers in one life of its node.
@@ -297,6 +277,7 @@ pub fn one_winner()
         → Honest world → Life world → Few world → OneWinner setting world }
 {}
 
+ghost use Rattle.tsp_base.specs.Ticks.{tick_at, width};
 /// Over a span of true time a tick counter advances by that span, give or take its `width`: the
 /// drift of that span, rounded up, and 1. Times are microseconds, rate and drift parts in a
 /// million.
@@ -306,6 +287,7 @@ pub fn ticks_keep_width()
         × (tick_at rate start + span ≤ tick_at rate (start + span) + width drift span) }
 {}
 
+ghost use Rattle.tsp_promises.specs.OrdinaryUse.{OrdinaryUse};
 /// No promise is empty: a history that fits and keeps the premises sees three nodes boot, one of
 /// them win an election, the others take a SETTIME each and acknowledge it, and a whole round that
 /// corrects both.
@@ -313,30 +295,35 @@ pub fn ordinary_use()
     ensures { OrdinaryUse }
 {}
 
+ghost use Rattle.tsp_promises.specs.Relays.{Relays};
 /// Nor are those of gateways: a history that fits sees a node of two ports that is corrected by one
 /// of them and corrects a third node by the other.
 pub fn relayed_use()
     ensures { Relays }
 {}
 
+ghost use Rattle.tsp_promises.specs.ChainUse.{ChainUse};
 /// Nor are those of chains: a history that fits sees a master correct a gateway, that one a second
 /// one, and that one a last node.
 pub fn chain_use()
     ensures { ChainUse }
 {}
 
+ghost use Rattle.tsp_promises.specs.RoundsUse.{RoundsUse};
 /// Nor is the promise that a round's bound outlasts later Corrects, nor that rounds are apart: a
 /// history that fits sees a second round of one life move both clocks of the first.
 pub fn rounds_use()
     ensures { RoundsUse }
 {}
 
+ghost use Rattle.tsp_promises.specs.EstimatesUse.{EstimatesUse};
 /// Nor is what estimates say: a history that fits sees a round that estimates two nodes, which
 /// nobody corrects until after its Close.
 pub fn estimates_use()
     ensures { EstimatesUse }
 {}
 
+ghost use Rattle.tsp_promises.specs.ModerateUse.{ModerateUse};
 /// Nor is what is promised of a majority: a history that fits sees a round in which a master and a
 /// peer agree, and another peer seems to be a second off. The first two are moved by 51 and 50
 /// microseconds, the last one by a second.
@@ -344,54 +331,63 @@ pub fn moderate_use()
     ensures { ModerateUse }
 {}
 
+ghost use Rattle.tsp_promises.specs.SetUse.{SetUse};
 /// Nor are those of first settings and of single corrections: a history that fits sees a clock set
 /// by the answer to a SLAVEUP, and corrected by an ADJTIME that rests on a reading.
 pub fn set_use()
     ensures { SetUse }
 {}
 
+ghost use Rattle.tsp_promises.specs.ShownUse.{ShownUse};
 /// Nor are those of shown values: a history that fits sees a clock slewed until it meets its
 /// target, and a wait that is long enough.
 pub fn shown_use()
     ensures { ShownUse }
 {}
 
+ghost use Rattle.tsp_promises.specs.PrintsUse.{PrintsUse};
 /// Nor is the promise of what a Correct prints: a history that fits sees a clock set, and slewed by
 /// a later Correct of the same life.
 pub fn prints_use()
     ensures { PrintsUse }
 {}
 
+ghost use Rattle.tsp_promises.specs.QuietUse.{QuietUse};
 /// Nor is the promise of silence after a boot: a history that fits sees a node answer in its quiet
 /// time, the `QUIET` ticks after its boot.
 pub fn quiet_use()
     ensures { QuietUse }
 {}
 
+ghost use Rattle.tsp_promises.specs.ThriceUse.{ThriceUse};
 /// Nor is the promise of few posts: a history that fits sees a candidate ask a peer for its vote
 /// three times.
 pub fn thrice_use()
     ensures { ThriceUse }
 {}
 
+ghost use Rattle.tsp_promises.specs.AnsweredUse.{AnsweredUse};
 /// Nor is the promise of answers: a history that fits sees a port heed a QUIT, and a stranger
 /// answered.
 pub fn answered_use()
     ensures { AnsweredUse }
 {}
 
+ghost use Rattle.tsp_promises.specs.RivalsMeet.{RivalsMeet};
 /// Nor are the promises of backings and of resolutions: a history that fits sees a node back two
 /// candidates, and a rival take the QUIT of a resolution and be master again after `ELECT_MIN`.
 pub fn rivals_meet()
     ensures { RivalsMeet }
 {}
 
+ghost use Rattle.tsp_promises.specs.StrictElections.{StrictElections};
 /// Nor is the promise of strict elections empty: a history that fits sees two nodes win, one long
 /// after the other.
 pub fn strict_elections()
     ensures { StrictElections }
 {}
 
+ghost use Rattle.tsp_promises.specs.DateUse.{DateUse, ForgedDate};
 /// A history that fits sees dates passed on and set, in two lives of a master. With forged octets
 /// between, one date is set twice, so `once_taken` needs its premise.
 pub fn dates_pass()
@@ -399,6 +395,7 @@ pub fn dates_pass()
     ensures forged { ForgedDate }
 {}
 
+ghost use Rattle.tsp_promises.specs.SameWords.{MeasuresWrongly, SameWords};
 /// Two boots may have the same word: a history that fits sees a master boot again with its old word
 /// and close a round in each of its lives, each of which corrects a node. If a datagram outlives
 /// `LIFE` too, a measurement goes wrong, so `measured` needs one of the two premises.
@@ -407,12 +404,14 @@ pub fn words_repeat()
     ensures late { MeasuresWrongly }
 {}
 
+ghost use Rattle.tsp_promises.specs.LateReply.{LateReply};
 /// A history that fits may bring a reply to a request of an earlier life. It ends no exchange, so a
 /// Sample of it would break a promise.
 pub fn late_reply()
     ensures { LateReply }
 {}
 
+ghost use Rattle.tsp_promises.specs.Broken.{AllBreak};
 /// Each promise says something: a small history breaks it.
 pub fn promises_can_be_broken()
     ensures { AllBreak }
