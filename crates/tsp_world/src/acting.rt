@@ -1,6 +1,6 @@
 //! What an event of a world does that nothing refuses: one of its nodes acts, or none.
-ghost use Rattle.std.specs.Prelude.{◌≡◌, ◌≤◌, ◌<◌, ◌+◌, ◌^◌, ◌+ℤ◌, pos, true, length, vec_len, slice_get, Some};
-ghost use Rattle.std.specs.Prelude.{OnOk, OnErr};
+ghost use Rattle.std.specs.Prelude.{◌≡◌, ◌≤◌, ◌<◌, ◌+◌, ◌^◌, ◌+ℤ◌, pos, true, length, vec_len};
+ghost use Rattle.std.specs.Prelude.{slice_get, Some, OnOk, OnErr};
 ghost use Rattle.tsp_base.specs.declared.event.Event.{Event};
 ghost use Rattle.tsp_base.specs.declared.datagram.Taken.{Taken};
 ghost use Rattle.tsp_base.specs.declared.place.Place.{Place};
@@ -13,7 +13,8 @@ ghost use Rattle.tsp_run.specs.Refusals.{Allowed};
 ghost use Rattle.tsp_run.specs.Run.{goes_to};
 ghost use Rattle.tsp_run.specs.Setup.{node_line};
 ghost use Rattle.tsp_world.specs.Sheets.{acts_on};
-ghost use Rattle.tsp_world.specs.WorldStands.{scene_of, IsReady, CanStep, Happens, HappensBy, Stays, CanNote, Notes, Passes};
+ghost use Rattle.tsp_world.specs.WorldStands.{scene_of, IsReady, CanStep, CanNote, Notes, Passes};
+ghost use Rattle.tsp_world.specs.WorldStands.{Happens, HappensBy, Stays};
 
 use crate::step;
 use crate::tell::{send, tell};
