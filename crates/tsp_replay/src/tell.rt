@@ -78,14 +78,7 @@ fn tell<K: Sink>(
     for line in lines {
         let number = number_in(line.number);
         text.clear();
-        append_placed(
-            text,
-            line.event,
-            line.node,
-            line.tick,
-            number,
-            &line.placed,
-        );
+        append_placed(text, line.event, line.node, line.tick, number, &line.placed);
         output.put_line(sink, text.as_slice())?;
     }
     Ok(())
