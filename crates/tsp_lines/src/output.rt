@@ -1,5 +1,5 @@
 //! Output that is gathered before it is written.
-ghost use Rattle.std.specs.Prelude.{◌≡◌, ◌≢◌, ℕ, ◌≤◌, ◌<◌, [], length, take, drop, vec_len, IfOk};
+ghost use Rattle.std.specs.Prelude.{◌≡◌, ◌≢◌, ℕ, ◌+◌, ◌≤◌, ◌<◌, [], ◌∷◌, ◌++◌, length, take, drop, vec_len, IfOk};
 ghost use Rattle.std.specs.Prelude.{IfErr, OnOk, OnErr, MatchResult};
 ghost use Rattle.tsp_io.specs.Counts.{Rose};
 ghost use Rattle.tsp_io.specs.Streams.{Grows};
@@ -64,6 +64,22 @@ fn drop_front(octets: &mut Vec<u8>, count: usize)
     let left = octets.len() - count;
     octets.copy_within(count.., 0);
     octets.truncate(left);
+}
+
+/// Appends a line and a line feed. Fails only if out of memory, and then appends nothing.
+fn append_line(octets: &mut Vec<u8>, line: &[u8]) -> Result<(), AllocError>
+    requires { vec_len octets.old + length line.now < 65536 }
+    ensures ok { OnOk result (octets.new.items ≡ octets.old.items ++ line.now ++ 10 ∷ []) }
+    ensures len { vec_len octets.new ≤ 65536 }
+    ensures err { OnErr result (octets.new.items ≡ octets.old.items) }
+{
+    octets.reserve(line.len() + 1)?;
+    match octets.extend_from_slice(line) {
+        Ok(()) => {}
+        Err(_) => unreachable!(),
+    }
+    octets.push_reserved(b'\n');
+    Ok(())
 }
 
 /// A buffer of 64 KiB before a sink. Octets are held until it is full or is flushed.
@@ -135,6 +151,27 @@ impl Output {
                 drop_front(&mut self.octets, cut.at);
                 Err(cut.fault)
             }
+        }
+    }
+
+    /// Puts a line of at most 65,535 octets into the buffer, and a line feed behind it, as `put` does with a piece.
+    pub fn put_line<K: Sink>(&mut self, sink: &mut K, line: &[u8]) -> Result<(), Unwritten>
+        requires { length line.now < 65536 }
+        ensures ok { OnOk result (Hands (K.written sink.old) self.old (K.written sink.new) self.new
+            (line.now ++ 10 ∷ [])) }
+        ensures err { OnErr result (Hands (K.written sink.old) self.old (K.written sink.new)
+            self.new []) }
+        ensures later { K.faults sink.old ≤ K.faults sink.new }
+        ensures cause { result ≡ Err Unwritten.WriteFault
+            → Rose (K.faults sink.old) (K.faults sink.new) × (0 < length self.new) }
+        ensures still { result ≢ Err Unwritten.WriteFault → K.faults sink.new ≡ K.faults sink.old }
+    {
+        if self.octets.len() + line.len() >= ROOM {
+            self.flush(sink)?;
+        }
+        match append_line(&mut self.octets, line) {
+            Ok(()) => Ok(()),
+            Err(_) => Err(Unwritten::OutOfMemory),
         }
     }
 }

@@ -1,10 +1,6 @@
 -- How the trace grows, and how lists of lines are read.
 use Rattle.std.specs.Prelude.{◌≡◌, ℕ, List, [], ◌∷◌, ◌++◌, reverse, refl, ◌==◌, Bool, true, false, if◌then◌else◌}
 use Rattle.std.proofs.Common.{sym, ap, ◌∙◌, inl, inr, subst, append-nil}
-use Rattle.std.specs.Prelude.{Option, Ok, Err, OnOk, OnErr}
-use Rattle.std.specs.declared.result.Result.{Result}
-use Rattle.tsp_lines.specs.Outputs.{Hands}
-use Rattle.tsp_lines.proofs.Outputs.{Hands-trans}
 use Rattle.std.proofs.lemmas.List.{reverse-append}
 use Rattle.std.proofs.lemmas.Grind.{flat_map-append}
 use Rattle.tsp_base.specs.declared.event.Event.{Event}
@@ -82,18 +78,3 @@ written_at-more (Heading header) line to next (inr (inl g)) s = ap written_at g.
 written_at-more (Heading header) line to next (inr (inr g)) s = run_written header [] line to next g.2 s
 written_at-more (Running header events) line to next g s = run_written header events line to next g s
 written_at-more (Ended header events) line to next g s = absurd g
-
--- nothing of a text was handed over
-pub told_none : {A B : Type 0} (w n : Option (List ℕ)) (h k : List ℕ) (line : List ℕ) (r : Result A B) → Hands w h n k [] → OnErr r ((part : List ℕ) × (rest : List ℕ) × (line ≡ part ++ rest) × Hands w h n k part)
-told_none w n h k line (Ok a) t = tt
-told_none w n h k line (Err e) t = ([], line, refl, t)
-
--- a text and then its line feed were handed over
-pub told_line : {A B : Type 0} (w n m : Option (List ℕ)) (h k l : List ℕ) (r : Result A B) (text line : List ℕ) → line ≡ text ++ 10 ∷ [] → Hands w h n k text → OnOk r (Hands n k m l (10 ∷ [])) → OnOk r (Hands w h m l line)
-told_line w n m h k l (Ok a) text line e t f = subst (λ o. Hands w h m l o) (sym e) (Hands-trans w n m h k l text (10 ∷ []) t f)
-told_line w n m h k l (Err b) text line e t f = tt
-
--- a text was handed over, and its line feed wasn't
-pub told_text : {A B : Type 0} (w n m : Option (List ℕ)) (h k l : List ℕ) (r : Result A B) (text line : List ℕ) → line ≡ text ++ 10 ∷ [] → Hands w h n k text → OnErr r (Hands n k m l []) → OnErr r ((part : List ℕ) × (rest : List ℕ) × (line ≡ part ++ rest) × Hands w h m l part)
-told_text w n m h k l (Ok a) text line e t f = tt
-told_text w n m h k l (Err b) text line e t f = (text, 10 ∷ [], e, subst (λ o. Hands w h m l o) (append-nil text) (Hands-trans w n m h k l text [] t f))

@@ -3,6 +3,7 @@ ghost use Rattle.std.specs.Prelude.{◌≡◌};
 
 use crate::replayed::Replayed;
 use crate::tell::tell_stage;
+use arrayvec::ArrayVec;
 use std::alloc::Global;
 use tsp_io::sink::Sink;
 use tsp_lines::cause::Cause;
@@ -15,6 +16,8 @@ use tsp_schedule::stage::Stage;
 pub struct Replay {
     alloc: Global,
     stage: Stage<Replayed>,
+    /// Where a line of the trace is made.
+    text: ArrayVec<u8, 1024>,
 }
 
 impl Replay {
@@ -25,6 +28,7 @@ impl Replay {
         Replay {
             alloc,
             stage: Stage::Untitled,
+            text: ArrayVec::new(),
         }
     }
 }
@@ -48,7 +52,7 @@ impl Treatment for Replay {
         sink: &mut K,
     ) -> Result<(), Stop> {
         match self.stage.advance(self.alloc, line) {
-            Ok(()) => tell_stage(&self.stage, output, sink),
+            Ok(()) => tell_stage(&self.stage, &mut self.text, output, sink),
             Err(stop) => Err(stop),
         }
     }

@@ -3,7 +3,7 @@ ghost use Rattle.std.specs.Prelude.{◌≡◌, ◌≢◌, ◌≤◌, ◌<◌, �
 ghost use Rattle.tsp_io.specs.Counts.{Rose};
 ghost use Rattle.tsp_lines.specs.Outputs.{Hands};
 ghost use Rattle.tsp_replay.specs.Stages.{told_at, told_by, Untold};
-ghost use Rattle.tsp_replay.specs.Traces.{line_text, lines_text, number_in};
+ghost use Rattle.tsp_replay.specs.Traces.{lines_text, number_in};
 
 use crate::replayed::Replayed;
 use arrayvec::ArrayVec;
@@ -35,9 +35,10 @@ fn told_by(run: &Run<Replayed>) -> &[Line]
     run.course.world.acts()
 }
 
-/// Puts the lines of the last event's acts into `output`.
+/// Puts the lines of the last event's acts into `output`, each of which is made in `text`.
 pub(crate) fn tell_stage<K: Sink>(
     stage: &Stage<Replayed>,
+    text: &mut ArrayVec<u8, 1024>,
     output: &mut Output,
     sink: &mut K,
 ) -> Result<(), Stop>
@@ -50,15 +51,20 @@ pub(crate) fn tell_stage<K: Sink>(
         × (0 < length output.new) }
     ensures still { result ≢ Err Stop.WriteFault → K.faults sink.new ≡ K.faults sink.old }
 {
-    match tell(told(stage), output, sink) {
+    match tell(told(stage), text, output, sink) {
         Ok(()) => Ok(()),
         Err(Unwritten::WriteFault) => Err(Stop::WriteFault),
         Err(Unwritten::OutOfMemory) => Err(Stop::OutOfMemory),
     }
 }
 
-/// Puts lines of the trace into `output`; where it fails, the beginning of them.
-fn tell<K: Sink>(lines: &[Line], output: &mut Output, sink: &mut K) -> Result<(), Unwritten>
+/// Puts lines of the trace into `output`, each of which is made in `text`; where it fails, the beginning of them.
+fn tell<K: Sink>(
+    lines: &[Line],
+    text: &mut ArrayVec<u8, 1024>,
+    output: &mut Output,
+    sink: &mut K,
+) -> Result<(), Unwritten>
     ensures ok { OnOk result (Hands (K.written sink.old) output.old (K.written sink.new) output.new
         (lines_text lines.now)) }
     ensures err { OnErr result ((part : List ℕ) × (rest : List ℕ)
@@ -70,35 +76,12 @@ fn tell<K: Sink>(lines: &[Line], output: &mut Output, sink: &mut K) -> Result<()
     ensures still { result ≢ Err Unwritten.WriteFault → K.faults sink.new ≡ K.faults sink.old }
 {
     for line in lines {
-        tell_one(line, output, sink)?;
+        let number = number_in(line.number);
+        text.clear();
+        append_placed(text, line.event, line.node, line.tick, number, &line.placed);
+        output.put_line(sink, text.as_slice())?;
     }
     Ok(())
-}
-
-/// Puts a line of the trace into `output`; where it fails, the beginning of it.
-fn tell_one<K: Sink>(line: &Line, output: &mut Output, sink: &mut K) -> Result<(), Unwritten>
-    ensures ok { OnOk result (Hands (K.written sink.old) output.old (K.written sink.new) output.new
-        (line_text line.now)) }
-    ensures err { OnErr result ((part : List ℕ) × (rest : List ℕ)
-        × (line_text line.now ≡ part ++ rest) × Hands (K.written sink.old) output.old
-        (K.written sink.new) output.new part) }
-    ensures later { K.faults sink.old ≤ K.faults sink.new }
-    ensures cause { result ≡ Err Unwritten.WriteFault → Rose (K.faults sink.old) (K.faults sink.new)
-        × (0 < length output.new) }
-    ensures still { result ≢ Err Unwritten.WriteFault → K.faults sink.new ≡ K.faults sink.old }
-{
-    let number = number_in(line.number);
-    let mut text = ArrayVec::new();
-    append_placed(
-        &mut text,
-        line.event,
-        line.node,
-        line.tick,
-        number,
-        &line.placed,
-    );
-    output.put(sink, text.as_slice())?;
-    output.put(sink, b"\n")
 }
 
 /// A post's number; 0 for other acts.

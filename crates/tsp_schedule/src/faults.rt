@@ -10,6 +10,7 @@ use tsp_lines::treatment::Stop;
 use tsp_script::numbers::{append, append_number};
 
 /// Why the reading stops at a refused event: `Bad` with the fault's words, or `Limit`, or out of memory.
+#[inline(never)]
 pub(crate) fn stop_of(fault: EventFault) -> Stop
     ensures stops { StopsFor fault result }
     ensures kind { result ≢ Stop.WriteFault }

@@ -98,6 +98,7 @@ impl<C: EventHandler> Run<C> {
 
     /// Reads any line where the last line wasn't read yet. Only here is there room for an event's octets, since
     /// each call clears that room.
+    #[inline(never)]
     fn any(&mut self, line: &[u8]) -> Result<(), Stop>
         requires { self.old.over ≡ false }
         ensures next { ReadsOn C.refused C.stands self.old line.now self.new result }
@@ -125,6 +126,7 @@ impl<C: EventHandler> Run<C> {
             Err(fault) => Err(stop_of(fault)),
         }
     }
+
     /// Lets an event without octets happen.
     fn happen_plain(&mut self, plain: &Plain) -> Result<(), Stop>
         requires { IsEvent (event_in plain.now) }

@@ -89,6 +89,7 @@ impl<C: EventHandler> Stage<C> {
 
     /// Reads the next line of a header, or the first one after it. Only here is there room for another stage,
     /// since each call clears that room.
+    #[inline(never)]
     fn go_on(&mut self, alloc: Global, line: &[u8]) -> Result<(), Stop>
         ensures next { (p : Progress) → StageStands C.stands p self.old
             → MatchResult result (λ _. Advances C.refused C.stands p line.now self.new)

@@ -88,6 +88,7 @@ fn occur_plain(world: &mut World, plain: &Plain) -> Result<(), EventFault>
 
 /// Lets a stranger's request happen, as it is read from its octets. Only here is there room for a datagram, since
 /// each call clears that room.
+#[inline(never)]
 fn occur_request(world: &mut World, at: u64, node: u32, word: u64) -> Result<(), EventFault>
     requires { at ≤ 1000000000000000 }
     ensures { MatchResult result (λ _. Occurs (request_event at node word) world.old world.new)

@@ -1,24 +1,25 @@
 -- Names stay where they lie when more octets are put behind them.
-use Rattle.std.specs.Prelude.{◌≡◌, ℕ, ◌≤◌, ◌-◌, List, [], ◌∷◌, ◌++◌, length, map, take, drop, slice_range, All, refl}
+use Rattle.std.specs.Prelude.{◌≡◌, ℕ, ◌≤◌, ◌+◌, ◌-◌, List, [], ◌∷◌, ◌++◌, length, map, take, drop, slice_range, All, refl}
 use Rattle.std.proofs.Common.{ap, ◌∙◌, arith, length-drop}
 use Rattle.std.proofs.lemmas.List.{drop-append-le, take-append-le, map_push}
 use Rattle.std.proofs.lemmas.List.Elements.{All-head, All-tail}
 use Rattle.tsp_base.specs.declared.datagram.Datagram.{Datagram}
 use Rattle.tsp_world.specs.declared.head.Head.{Head}
 use Rattle.tsp_world.specs.declared.head.StoredDatagram.{StoredDatagram}
-use Rattle.tsp_world.specs.declared.head.StoredDatagram.TheVariants.{Message, Stamp}
+use Rattle.tsp_world.specs.declared.head.StoredDatagram.TheVariants.{Message, Request, Reply}
 use Rattle.tsp_world.specs.Heads.{HeadStands, HeldStands, datagram_in, post_in}
 use Rattle.tsp_world.specs.Posts.{posted_on}
 
-range-append : (names more : List ℕ) (start end : ℕ) → start ≤ end → end ≤ length names → slice_range (names ++ more) start end ≡ slice_range names start end
-range-append names more start end ordered inside =
+range-append : (names more : List ℕ) (start len : ℕ) → start + len ≤ length names → slice_range (names ++ more) start (start + len) ≡ slice_range names start (start + len)
+range-append names more start len inside =
     let left = length-drop start names in
-    ap (λ l. take (end - start) l) (drop-append-le start names more (omega (arith, ordered, inside)))
-    ∙ take-append-le (end - start) (drop start names) more (omega (arith, left, ordered, inside))
+    ap (λ l. take (start + len - start) l) (drop-append-le start names more (omega (arith, inside)))
+    ∙ take-append-le (start + len - start) (drop start names) more (omega (arith, left, inside))
 
 datagram_in-append : (names more : List ℕ) (held : StoredDatagram) → HeldStands names held → datagram_in (names ++ more) held ≡ datagram_in names held
-datagram_in-append names more (Message kind number body start end) h = rw (range-append names more start end h.ordered h.inside) refl
-datagram_in-append names more (Stamp s) h = refl
+datagram_in-append names more (Message kind number len start body) h = rw (range-append names more start len h.inside) refl
+datagram_in-append names more (Request word counter) h = refl
+datagram_in-append names more (Reply ticket word counter reading) h = refl
 
 posts-append : (names more : List ℕ) (heads : List Head) → All (HeadStands names) heads → map (post_in (names ++ more)) heads ≡ map (post_in names) heads
 posts-append names more [] all = refl

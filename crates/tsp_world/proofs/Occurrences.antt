@@ -1,5 +1,5 @@
 -- An event that nothing refuses occurs, or it lacks memory.
-use Rattle.std.specs.Prelude.{◌≡◌, List, ◌∷◌, Option, None, Some, MatchResult, OnOk, OnErr, refl}
+use Rattle.std.specs.Prelude.{◌≡◌, ℕ, ◌≤◌, List, ◌∷◌, Option, None, Some, MatchResult, OnOk, OnErr, refl}
 use Rattle.std.proofs.Common.{sym, ◌∙◌, subst, inl, inr, rules}
 use Rattle.std.specs.declared.result.Result.{Result}
 use Rattle.std.specs.declared.result.Result.TheVariants.{Ok, Err}
@@ -7,10 +7,11 @@ use Rattle.tsp_base.specs.declared.event.Event.{Event}
 use Rattle.tsp_base.specs.declared.event.EventFault.{EventFault}
 use Rattle.tsp_base.specs.declared.event.EventFault.TheVariants.{OutOfMemory}
 use Rattle.tsp_base.specs.Headers.{HeaderValue}
-use Rattle.tsp_run.specs.Refusals.{Allowed, IsRefusal, scene, refusal}
+use Rattle.tsp_run.specs.Refusals.{Allowed, IsRefusal, actor, scene, refusal}
+use Rattle.tsp_run.specs.Run.{event_at}
 use Rattle.tsp_run.proofs.RefusalLemmas.{allowed, refusal-alike}
 use Rattle.tsp_world.specs.declared.world.World.{World}
-use Rattle.tsp_world.specs.WorldStands.{Declines, Happens, Occurs, Stays, WorldStands, scene_of}
+use Rattle.tsp_world.specs.WorldStands.{CanStep, Declines, Happens, Occurs, Stays, WorldStands, scene_of}
 use Rattle.tsp_world.proofs.WorldLemmas.{Alike-stands}
 
 -- what the world refuses, its schedule refuses
@@ -20,6 +21,13 @@ refuses header events world e w = refusal-alike (scene_of world) (scene header e
 -- where nothing refuses an event its facts hold, also when room was made for it
 pub may : (e : Event) (old ready : World) (cause : Option EventFault) → cause ≡ refusal (scene_of old) e → cause ≡ None → scene_of ready ≡ scene_of old → Allowed (scene_of ready) e
 may e old ready cause refused is same = subst (λ s. Allowed s e) (sym same) (allowed (scene_of old) e (sym refused ∙ is))
+
+-- and the step of its node passes no limit
+pub can_step : (e : Event) (at n : ℕ) (old ready : World) (cause : Option EventFault) → cause ≡ refusal (scene_of old) e → cause ≡ None → scene_of ready ≡ scene_of old → event_at e ≡ at → at ≤ 1000000000000000 →
+    actor (scene_of ready) e ≡ Some n → CanStep at n ready
+can_step e at n old ready cause refused is same at_is time acts =
+    let m = may e old ready cause refused is same in
+    record { time = time; order = subst (λ t. ready.last ≤ t) at_is m.time; events = m.events; posts = m.posts n acts }
 
 -- an event is refused, and nothing has changed
 pub declined : (e : Event) (world : World) (cause : Option EventFault) (fault : EventFault) → cause ≡ refusal (scene_of world) e → cause ≡ Some fault → Declines e world world fault

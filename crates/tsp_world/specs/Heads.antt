@@ -3,6 +3,8 @@ use Rattle.std.specs.Prelude.{◌≡◌, ℕ, ◌+◌, ◌*◌, ◌≤◌, true,
 use Rattle.std.specs.Global.{Vec}
 use Rattle.tsp_base.specs.declared.datagram.Datagram.{Datagram}
 use Rattle.tsp_base.specs.declared.datagram.Datagram.TheVariants.{Message, Stamp}
+use Rattle.tsp_base.specs.declared.stamp.Stamp.TheVariants.{Request, Reply}
+use Rattle.tsp_base.specs.Stamps.{IsReply}
 use Rattle.tsp_base.specs.declared.kind.Kind.{Kind}
 use Rattle.tsp_base.specs.declared.message.Body.{Body}
 use Rattle.tsp_base.specs.Messages.{body_fits}
@@ -10,7 +12,7 @@ use Rattle.tsp_base.specs.Names.{IsName}
 use Rattle.tsp_run.specs.declared.posted.Posted.{Posted}
 use Rattle.tsp_world.specs.declared.head.Head.{Head}
 use Rattle.tsp_world.specs.declared.head.StoredDatagram.{StoredDatagram}
-use Rattle.tsp_world.specs.declared.head.StoredDatagram.TheVariants.{Message as HeldMessage, Stamp as HeldStamp}
+use Rattle.tsp_world.specs.declared.head.StoredDatagram.TheVariants.{Message as HeldMessage, Request as HeldRequest, Reply as HeldReply}
 use Rattle.tsp_world.specs.Posts.{posted_on}
 
 -- the octets that a datagram adds to all names: its own name, if it has one
@@ -20,24 +22,25 @@ name_in (Stamp s) = []
 
 -- the stored datagram, whose name is among these octets
 abbrev pub datagram_in : List ℕ → StoredDatagram → Datagram
-datagram_in names (HeldMessage kind number body start end) = Message (record { kind = kind; number = number; body = body; name = slice_range names start end })
-datagram_in names (HeldStamp s) = Stamp s
+datagram_in names (HeldMessage kind number len start body) = Message (record { kind = kind; number = number; body = body; name = slice_range names start (start + len) })
+datagram_in names (HeldRequest word counter) = Stamp (Request word counter)
+datagram_in names (HeldReply ticket word counter reading) = Stamp (Reply (record { ticket = ticket; word = word; counter = counter; reading = reading }))
 
 -- the stored post
 abbrev pub post_in : List ℕ → Head → Posted
 post_in names head = posted_on head.way (datagram_in names head.held)
 
 -- a message's name is among these octets, and its body is the one that its kind carries
-pub record MessageStands (names : List ℕ) (kind : Kind) (body : Body) (start end : ℕ) : Type 0 where
-  pub ordered : start ≤ end
-  pub inside : end ≤ length names
-  pub name : IsName (slice_range names start end)
+pub record MessageStands (names : List ℕ) (kind : Kind) (len start : ℕ) (body : Body) : Type 0 where
+  pub inside : start + len ≤ length names
+  pub name : IsName (slice_range names start (start + len))
   pub body_is : body_fits kind body ≡ true
 
--- a stored message has its name among these octets; a stored stamp needs none
+-- a stored message has its name among these octets; a stored request is any, and a stored reply has values in their ranges
 abbrev pub HeldStands : List ℕ → StoredDatagram → Type 0
-HeldStands names (HeldMessage kind number body start end) = MessageStands names kind body start end
-HeldStands names (HeldStamp s) = Unit {0}
+HeldStands names (HeldMessage kind number len start body) = MessageStands names kind len start body
+HeldStands names (HeldRequest word counter) = Unit {0}
+HeldStands names (HeldReply ticket word counter reading) = IsReply ticket reading
 
 -- the same of a stored post
 abbrev pub HeadStands : List ℕ → Head → Type 0

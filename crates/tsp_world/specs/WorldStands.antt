@@ -11,7 +11,7 @@ use Rattle.tsp_gateway.specs.GatewayStands.{GatewayBegun, GatewayStands}
 use Rattle.tsp_rules.specs.NodeRows.{NodePast, NodeRow}
 use Rattle.tsp_run.specs.declared.posted.Posted.{Posted}
 use Rattle.tsp_world.specs.declared.world.World.{World}
-use Rattle.tsp_run.specs.Networks.{networks}
+use Rattle.tsp_run.specs.Networks.{networks, ports_on, room}
 use Rattle.tsp_run.specs.Ranges.{IsInRange}
 use Rattle.tsp_run.specs.Refusals.{Scene, Valid, scene, refusal, IsRefusal}
 use Rattle.tsp_run.specs.Run.{run, posts, last_at, gained, event_at, happening, steps, posts_from, told_from}
@@ -64,6 +64,13 @@ pub record IsReady (wanted : ℕ) (world : World) : Type 0 where
   pub desk : wanted ≤ world.desk.spare
   pub idle : acts_on world.desk ≡ []
   pub sent : wanted ≤ world.sent.spare
+
+-- a step of this node at this time, in microseconds, passes no limit: of time, of events and of posts
+pub record CanStep (at node : ℕ) (world : World) : Type 0 where
+  pub time : at ≤ 1000000000000000
+  pub order : world.last ≤ at
+  pub events : world.events < 200000
+  pub posts : length world.sent.items + room (ports_on node (networks world.header)) ≤ 1000000
 
 -- the world still stands for all that it stood for
 abbrev pub Stays : World → World → Type 0

@@ -1,17 +1,20 @@
 //! What an event of a world does that nothing refuses: one of its nodes acts, or none.
-ghost use Rattle.std.specs.Prelude.{◌≡◌, ◌≤◌, ◌<◌, ◌+◌, ◌^◌, length, vec_len, slice_get, Some, OnOk, OnErr};
+ghost use Rattle.std.specs.Prelude.{◌≡◌, ◌≤◌, ◌<◌, ◌+◌, ◌^◌, ◌+ℤ◌, pos, true, length, vec_len};
+ghost use Rattle.std.specs.Prelude.{slice_get, Some, OnOk, OnErr};
 ghost use Rattle.tsp_base.specs.declared.event.Event.{Event};
 ghost use Rattle.tsp_base.specs.declared.datagram.Taken.{Taken};
 ghost use Rattle.tsp_base.specs.declared.place.Place.{Place};
 ghost use Rattle.tsp_base.specs.Headers.{Keeps};
 ghost use Rattle.tsp_base.specs.Ticks.{tick_at};
 ghost use Rattle.tsp_rules.specs.GateRows.{GotOn, answers_all};
+ghost use Rattle.tsp_rules.specs.Guards.{is_clock_value};
 ghost use Rattle.tsp_run.specs.Networks.{networks, ports_on, room};
 ghost use Rattle.tsp_run.specs.Refusals.{Allowed};
 ghost use Rattle.tsp_run.specs.Run.{goes_to};
 ghost use Rattle.tsp_run.specs.Setup.{node_line};
 ghost use Rattle.tsp_world.specs.Sheets.{acts_on};
-ghost use Rattle.tsp_world.specs.WorldStands.{scene_of, IsReady, Happens, HappensBy, Stays, CanNote, Notes, Passes};
+ghost use Rattle.tsp_world.specs.WorldStands.{scene_of, IsReady, CanStep, CanNote, Notes, Passes};
+ghost use Rattle.tsp_world.specs.WorldStands.{Happens, HappensBy, Stays};
 
 use crate::step;
 use crate::tell::{send, tell};
@@ -24,6 +27,16 @@ use tsp_base::place::{PeerId, Place, Port};
 use tsp_gateway::Gateway;
 use tsp_node::BootFault;
 use tsp_run::address::Address;
+
+/// The wall clock of a node at a tick, in microseconds.
+fn wall_at(line: &NodeLine, tick: u64) -> i64
+    requires line { Keeps 1000 line.now }
+    requires tick { tick ≤ 2 ^ 50 }
+    ensures wall { result ≡ line.now.wall +ℤ pos tick }
+    ensures range { is_clock_value result ≡ true }
+{
+    line.wall + tick as i64
+}
 
 impl World {
     /// The line of a node in the header.
@@ -48,17 +61,13 @@ impl World {
     /// A node boots. Fails only if out of memory, and then changes nothing that the world stands for.
     pub(crate) fn start(&mut self, at: u64, node: u32, word: u64) -> Result<(), AllocError>
         requires ready { IsReady (room (ports_on node (networks self.old.header))) self.old }
-        requires time { at ≤ 1000000000000000 }
-        requires order { self.old.last ≤ at }
+        requires able { CanStep at node self.old }
         requires node { node < vec_len self.old.nodes }
-        requires events { self.old.events < 200000 }
-        requires posts { length self.old.sent.items + room
-            (ports_on node (networks self.old.header)) ≤ 1000000 }
         ensures happens { OnOk result (Happens (Event.Boot at node word) self.old self.new) }
         ensures kept { OnErr result (Stays self.old self.new) }
     {
         let tick = self.tick(node, at);
-        let wall = step::wall_at(self.line(node), tick);
+        let wall = wall_at(self.line(node), tick);
         let config = &self.configs[node as usize];
         match Gateway::boot(self.alloc, config, tick, wall, word, &mut self.desk) {
             Ok(booted) => {
@@ -76,12 +85,8 @@ impl World {
     /// A node looks at its timers.
     pub(crate) fn look(&mut self, at: u64, node: u32)
         requires ready { IsReady (room (ports_on node (networks self.old.header))) self.old }
-        requires time { at ≤ 1000000000000000 }
-        requires order { self.old.last ≤ at }
+        requires able { CanStep at node self.old }
         requires node { node < vec_len self.old.nodes }
-        requires events { self.old.events < 200000 }
-        requires posts { length self.old.sent.items + room
-            (ports_on node (networks self.old.header)) ≤ 1000000 }
         ensures { Happens (Event.Turn at node) self.old self.new }
     {
         let tick = self.tick(node, at);
@@ -113,12 +118,8 @@ impl World {
     /// A node takes on a port what was read of octets.
     pub(crate) fn receive(&mut self, at: u64, node: u32, port: Port, from: Place, taken: &Taken)
         requires ready { IsReady (room (ports_on node (networks self.old.header))) self.old }
-        requires time { at ≤ 1000000000000000 }
-        requires order { self.old.last ≤ at }
+        requires able { CanStep at node self.old }
         requires node { node < vec_len self.old.nodes }
-        requires events { self.old.events < 200000 }
-        requires posts { length self.old.sent.items + room
-            (ports_on node (networks self.old.header)) ≤ 1000000 }
         requires port { port.0 < length (ports_on node (networks self.old.header)) }
         ensures { HappensBy (answers_all (GotOn port from taken.now)) at node self.old self.new }
     {
@@ -155,6 +156,7 @@ impl World {
     }
 
     /// The same where there are acts.
+    #[inline(never)]
     fn note_acts(&mut self, node: u32, tick: u64)
         requires { CanNote self.old }
         ensures { Notes self.old.last node tick self.old.header self.old.nodes.items self.old.events

@@ -112,10 +112,14 @@ impl World {
         ensures { result ≡ goes_to (networks self.now.header) (slice_get self.now.sent.items k) }
     {
         let way = self.sent.way(k)?;
-        address_of(self.networks(), way.from, way.port, way.to)
+        match way.to {
+            Place::Peer(_) => address_of(self.networks(), way.from, way.port, way.to),
+            Place::Stranger => None,
+        }
     }
 
     /// A posted datagram reaches its addressee at this address.
+    #[inline(never)]
     fn take_at(&mut self, at: u64, k: u64, address: Address) -> Result<(), EventFault>
         requires time { at ≤ 1000000000000000 }
         requires goes { goes_to (networks self.old.header) (slice_get self.old.sent.items k) ≡ Some

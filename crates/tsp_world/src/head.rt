@@ -1,5 +1,5 @@
 //! What is stored of a post beside the octets of its name.
-ghost use Rattle.std.specs.Prelude.{◌≡◌, ◌≤◌, ◌+◌, ◌++◌, length, vec_len, vec_capacity};
+ghost use Rattle.std.specs.Prelude.{◌≡◌, ◌≤◌, ◌+◌, ◌++◌, ℕ, List, length, vec_len, vec_capacity};
 ghost use Rattle.tsp_base.specs.declared.datagram.Datagram.{Datagram};
 ghost use Rattle.tsp_world.specs.Heads.{HeldStands, datagram_in, name_in};
 
@@ -10,19 +10,29 @@ use tsp_base::message::{Body, Message};
 use tsp_base::name::Name;
 use tsp_base::stamp::Stamp;
 
-/// A datagram without the octets of its name.
+/// A datagram without the octets of its name, in as little room as it takes: the small parts lie first.
 #[derive(Clone, Copy)]
 pub(crate) enum StoredDatagram {
-    /// A message. Its name is from place `start` to before `end` of the octets of all names.
+    /// A message. Its name is the `len` octets from place `start` on of those of all names.
     Message {
         kind: Kind,
         number: u16,
-        body: Body,
+        len: u8,
         start: usize,
-        end: usize,
+        body: Body,
     },
-    /// A clock stamp.
-    Stamp(Stamp),
+    /// A request for a clock's reading.
+    Request {
+        word: u64,
+        counter: u64,
+    },
+    /// A clock's reading.
+    Reply {
+        ticket: u16,
+        word: u64,
+        counter: u64,
+        reading: i64,
+    },
 }
 
 /// A post without the octets of its name.
@@ -31,6 +41,9 @@ pub(crate) struct Head {
     pub(crate) way: Way,
     pub(crate) held: StoredDatagram,
 }
+
+// Most of what a long run holds are heads.
+const _: () = prove!(size_of::<Head>() == 56);
 
 /// Appends octets.
 fn append(names: &mut Vec<u8>, octets: &[u8])
@@ -55,13 +68,33 @@ fn hold_message(names: &mut Vec<u8>, message: &Message) -> StoredDatagram
     ensures stands { HeldStands names.new.items result }
 {
     let start = names.len();
-    append(names, message.name().octets());
+    let octets = message.name().octets();
+    append(names, octets);
     StoredDatagram::Message {
         kind: message.kind(),
         number: message.number(),
-        body: message.body(),
+        len: octets.len() as u8,
         start,
-        end: names.len(),
+        body: message.body(),
+    }
+}
+
+/// A stamp as it is stored. It has no name.
+fn hold_stamp(stamp: &Stamp) -> StoredDatagram
+    ensures datagram { (names : List ℕ) → datagram_in names result ≡ Datagram.Stamp stamp.now }
+    ensures stands { (names : List ℕ) → HeldStands names result }
+{
+    match stamp {
+        Stamp::Request { word, counter } => StoredDatagram::Request {
+            word: *word,
+            counter: *counter,
+        },
+        Stamp::Reply(reply) => StoredDatagram::Reply {
+            ticket: reply.ticket(),
+            word: reply.word(),
+            counter: reply.counter(),
+            reading: reply.reading(),
+        },
     }
 }
 
@@ -76,7 +109,7 @@ pub(crate) fn hold(names: &mut Vec<u8>, datagram: &Datagram) -> StoredDatagram
 {
     match datagram {
         Datagram::Message(message) => hold_message(names, message),
-        Datagram::Stamp(stamp) => StoredDatagram::Stamp(*stamp),
+        Datagram::Stamp(stamp) => hold_stamp(stamp),
     }
 }
 
@@ -89,13 +122,25 @@ pub(crate) fn datagram_of(names: &[u8], held: &StoredDatagram) -> Datagram
         StoredDatagram::Message {
             kind,
             number,
-            body,
+            len,
             start,
-            end,
+            body,
         } => {
-            let name = Name::new(&names[*start..*end]);
+            let name = Name::new(&names[*start..*start + *len as usize]);
             Datagram::Message(Message::new(*kind, *number, *body, name))
         }
-        StoredDatagram::Stamp(stamp) => Datagram::Stamp(*stamp),
+        StoredDatagram::Request { word, counter } => Datagram::Stamp(Stamp::Request {
+            word: *word,
+            counter: *counter,
+        }),
+        StoredDatagram::Reply {
+            ticket,
+            word,
+            counter,
+            reading,
+        } => match Stamp::reply(*ticket, *word, *counter, *reading) {
+            Some(stamp) => Datagram::Stamp(stamp),
+            None => unreachable!(),
+        },
     }
 }

@@ -39,8 +39,17 @@ impl World {
     {
         match self.rooms.get(node as usize) {
             Some(kept) => *kept,
-            None => room_of(self.networks(), node),
+            None => self.room_anew(node),
         }
+    }
+
+    /// The same where it isn't kept, since there is no such node.
+    #[inline(never)]
+    fn room_anew(&self, node: u32) -> u64
+        ensures room { result ≡ room (ports_on node (networks self.now.header)) }
+        ensures few { result ≤ 200000 }
+    {
+        room_of(self.networks(), node)
     }
 
     /// The first cause for which a boot is refused at a node, whose step may put so many acts.

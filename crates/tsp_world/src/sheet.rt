@@ -31,10 +31,14 @@ impl Sheet {
         }
     }
 
-    /// Removes all lines. No room is left until it is asked for.
+    /// Removes all lines. Where there were none the room is kept, as after most steps; else none is left until it
+    /// is asked for.
     pub(crate) fn clear(&mut self)
         ensures acts { acts_on self.new ≡ [] }
     {
+        if self.lines.is_empty() {
+            return;
+        }
         self.spare = 0;
         self.lines.clear();
     }

@@ -1,10 +1,8 @@
 //! One node's step.
-ghost use Rattle.std.specs.Prelude.{◌≡◌, ◌≤◌, ◌+◌, ◌^◌, ℕ, List, length, ◌+ℤ◌, pos, true};
-ghost use Rattle.tsp_base.specs.Headers.{Keeps};
+ghost use Rattle.std.specs.Prelude.{◌≤◌, ◌+◌, ◌^◌, List, length};
 ghost use Rattle.tsp_rules.specs.GateRows.{GotOn, NodeTurn, answers_all};
 ghost use Rattle.tsp_rules.specs.NodePerforms.{PerformsAll};
 ghost use Rattle.tsp_rules.specs.NodeRows.{PortSetup};
-ghost use Rattle.tsp_rules.specs.Guards.{is_clock_value};
 ghost use Rattle.tsp_run.specs.Networks.{room};
 ghost use Rattle.tsp_world.specs.NodesReady.{PlaceReady, CanAct, CanTake};
 ghost use Rattle.tsp_world.specs.Sheets.{acts_on};
@@ -12,7 +10,6 @@ ghost use Rattle.tsp_world.specs.WorldStands.{UpBegun, UpStands};
 
 use crate::sheet::Sheet;
 use tsp_base::datagram::Taken;
-use tsp_base::header::NodeLine;
 use tsp_base::place::{Place, Port};
 use tsp_gateway::Gateway;
 
@@ -53,14 +50,4 @@ pub(crate) fn take(
     if let Some(node) = place {
         node.take(tick, port, from, taken, desk);
     }
-}
-
-/// The wall clock of a node at a tick, in microseconds.
-pub(crate) fn wall_at(line: &NodeLine, tick: u64) -> i64
-    requires line { Keeps 1000 line.now }
-    requires tick { tick ≤ 2 ^ 50 }
-    ensures wall { result ≡ line.now.wall +ℤ pos tick }
-    ensures range { is_clock_value result ≡ true }
-{
-    line.wall + tick as i64
 }

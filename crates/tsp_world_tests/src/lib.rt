@@ -22,4 +22,6 @@ mod refusals;
 #[cfg(test)]
 mod relay;
 #[cfg(test)]
+mod scenes;
+#[cfg(test)]
 mod schedules;

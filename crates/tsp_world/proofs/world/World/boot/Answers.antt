@@ -1,7 +1,7 @@
 -- A boot is refused, or it happens after room was made for it, or memory lacks.
 use Rattle.tsp_base.specs.declared.event.Event.TheVariants.{Boot}
 use Rattle.std.proofs.Common.{refl}
-use Rattle.tsp_world.proofs.Occurrences.{declined, lacks_memory, may, occurred}
+use Rattle.tsp_world.proofs.Occurrences.{can_step, declined, lacks_memory, may, occurred}
 use Rattle.tsp_world.proofs.world.World.boot.Goals as goal
 
 pub returns-in-Some : goal.returns-in-Some
@@ -10,17 +10,11 @@ returns-in-Some c = declined (Boot c.args.at c.args.node c.args.word) c.args.sel
 pub returns-then-is_err : goal.returns-then-is_err
 returns-then-is_err c = lacks_memory (Boot c.args.at c.args.node c.args.word) c.args.self.now c.make_room.new.self c.bars_boot.result (c.bars_boot.ensures c.args.word) c.in_default.is c.make_room.ensures.stands
 
-pub start-requires-clause-order : goal.start-requires-clause-order
-start-requires-clause-order c = (may (Boot c.args.at c.args.node c.args.word) c.args.self.now c.make_room.new.self c.bars_boot.result (c.bars_boot.ensures c.args.word) c.in_default.is c.make_room.ensures.same).time
+pub start-requires-clause-able : goal.start-requires-clause-able
+start-requires-clause-able c = can_step (Boot c.args.at c.args.node c.args.word) c.args.at c.args.node c.args.self.now c.make_room.new.self c.bars_boot.result (c.bars_boot.ensures c.args.word) c.in_default.is c.make_room.ensures.same refl c.requires refl
 
 pub start-requires-clause-node : goal.start-requires-clause-node
 start-requires-clause-node c = (may (Boot c.args.at c.args.node c.args.word) c.args.self.now c.make_room.new.self c.bars_boot.result (c.bars_boot.ensures c.args.word) c.in_default.is c.make_room.ensures.same).node
-
-pub start-requires-clause-events : goal.start-requires-clause-events
-start-requires-clause-events c = (may (Boot c.args.at c.args.node c.args.word) c.args.self.now c.make_room.new.self c.bars_boot.result (c.bars_boot.ensures c.args.word) c.in_default.is c.make_room.ensures.same).events
-
-pub start-requires-clause-posts : goal.start-requires-clause-posts
-start-requires-clause-posts c = (may (Boot c.args.at c.args.node c.args.word) c.args.self.now c.make_room.new.self c.bars_boot.result (c.bars_boot.ensures c.args.word) c.in_default.is c.make_room.ensures.same).posts c.args.node refl
 
 pub returns-in-Ok : goal.returns-in-Ok
 returns-in-Ok c = occurred (Boot c.args.at c.args.node c.args.word) c.args.self.now c.make_room.new.self c.start.new.self c.bars_boot.result (c.bars_boot.ensures c.args.word) c.in_default.is c.make_room.ensures.stands c.in-Ok.ensures.happens

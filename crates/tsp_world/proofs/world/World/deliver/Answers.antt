@@ -19,6 +19,10 @@ use Rattle.tsp_world.specs.declared.way.Way.{Way}
 use Rattle.tsp_world.proofs.WorldLemmas.{Alike-stands, accepted}
 use Rattle.tsp_world.proofs.world.World.deliver.Goals as goal
 
+pub receive-requires-clause-able : goal.receive-requires-clause-able
+receive-requires-clause-able c = let allowed = c.requires.allowed in
+    record { time = c.requires.time; order = allowed.time; events = allowed.events; posts = allowed.posts c.args.address.node (ap node_in c.requires.goes) }
+
 pub receive-requires-clause-port : goal.receive-requires-clause-port
 receive-requires-clause-port c =
     let nets = networks c.args.self.now.header in

@@ -8,7 +8,7 @@ use Rattle.tsp_run.specs.Refusals.{scene}
 use Rattle.tsp_run.specs.Run.{run, steps}
 use Rattle.tsp_run.proofs.RefusalLemmas.{refusal-none, up-down}
 use Rattle.tsp_world.specs.WorldStands.{Happens}
-use Rattle.tsp_world.proofs.Occurrences.{declined, lacks_memory, may, occurred}
+use Rattle.tsp_world.proofs.Occurrences.{can_step, declined, lacks_memory, may, occurred}
 use Rattle.tsp_world.proofs.WorldLemmas.{Alike-stands}
 use Rattle.tsp_world.proofs.world.World.hand.Goals as goal
 
@@ -18,17 +18,11 @@ returns-in-Some c octets range is = declined (Bytes c.args.at c.args.node c.args
 pub returns-then-is_err : goal.returns-then-is_err
 returns-then-is_err c octets range is = lacks_memory (Bytes c.args.at c.args.node c.args.port c.args.from octets) c.args.self.now c.make_room.new.self c.bars_bytes.result (c.bars_bytes.ensures octets) c.in_default.is c.make_room.ensures.stands
 
-pub receive-requires-clause-order : goal.receive-requires-clause-order
-receive-requires-clause-order c = (may (Bytes c.args.at c.args.node c.args.port c.args.from []) c.args.self.now c.make_room.new.self c.bars_bytes.result (c.bars_bytes.ensures []) c.in_default.is c.make_room.ensures.same).time
+pub receive-requires-clause-able : goal.receive-requires-clause-able
+receive-requires-clause-able c = can_step (Bytes c.args.at c.args.node c.args.port c.args.from []) c.args.at c.args.node c.args.self.now c.make_room.new.self c.bars_bytes.result (c.bars_bytes.ensures []) c.in_default.is c.make_room.ensures.same refl c.requires refl
 
 pub receive-requires-clause-node : goal.receive-requires-clause-node
 receive-requires-clause-node c = (may (Bytes c.args.at c.args.node c.args.port c.args.from []) c.args.self.now c.make_room.new.self c.bars_bytes.result (c.bars_bytes.ensures []) c.in_default.is c.make_room.ensures.same).node.0
-
-pub receive-requires-clause-events : goal.receive-requires-clause-events
-receive-requires-clause-events c = (may (Bytes c.args.at c.args.node c.args.port c.args.from []) c.args.self.now c.make_room.new.self c.bars_bytes.result (c.bars_bytes.ensures []) c.in_default.is c.make_room.ensures.same).events
-
-pub receive-requires-clause-posts : goal.receive-requires-clause-posts
-receive-requires-clause-posts c = (may (Bytes c.args.at c.args.node c.args.port c.args.from []) c.args.self.now c.make_room.new.self c.bars_bytes.result (c.bars_bytes.ensures []) c.in_default.is c.make_room.ensures.same).posts c.args.node refl
 
 pub receive-requires-clause-port : goal.receive-requires-clause-port
 receive-requires-clause-port c = (may (Bytes c.args.at c.args.node c.args.port c.args.from []) c.args.self.now c.make_room.new.self c.bars_bytes.result (c.bars_bytes.ensures []) c.in_default.is c.make_room.ensures.same).node.1

@@ -18,14 +18,14 @@ there : (c : After-index_mut-place) → slice_get c.args.self.now.nodes.items c.
 there c = place_there c.args.self.now c.args.node c.index_mut-place.result.now c.requires.node (search rules) c.index_mut-place.ensures.value
 
 ready : (c : After-index_mut-place) → PlaceReady (ports_on c.args.node (networks c.args.self.now.header)) c.tick-tick.result c.index_mut-place.result.now
-ready c = PlaceReady-acts c.args.self.now c.args.node c.args.at c.tick-tick.result c.index_mut-place.result.now c.requires.order c.tick-tick.ensures.tick (there c)
+ready c = PlaceReady-acts c.args.self.now c.args.node c.args.at c.tick-tick.result c.index_mut-place.result.now c.requires.able.order c.tick-tick.ensures.tick (there c)
 
 pub take-requires-clause-able : goal.take-requires-clause-able
 take-requires-clause-able c = CanTake-ready (ports_on c.args.node (networks c.args.self.now.header)) c.tick-tick.result c.args.self.now.desk.spare c.args.port c.index_mut-place.result.now (ready (goal.at.take-requires-clause-able c).After-index_mut-place)
     c.requires.ready.desk c.requires.port
 
 pub invariant_of-self-clause-ready : goal.invariant_of-self-clause-ready
-invariant_of-self-clause-ready c = NodesReady-set c.args.node c.take.new.place (NodesReady-later c.requires.order c.args.self.now.ready)
+invariant_of-self-clause-ready c = NodesReady-set c.args.node c.take.new.place (NodesReady-later c.requires.able.order c.args.self.now.ready)
     (subst (λ t. PlaceReady (ports_on c.args.node (networks c.args.self.now.header)) t c.take.new.place) c.tick-tick.ensures.tick
     (c.take.ensures.ready (ports_on c.args.node (networks c.args.self.now.header)) (ready (goal.at.invariant_of-self-clause-ready c).After-index_mut-place)))
 
@@ -35,10 +35,10 @@ note-requires c =
     let few = c.take.ensures.few (ports_on c.args.node (networks world.header)) (ready (goal.at.note-requires c).After-index_mut-place) in
     let none = ap (λ ps. length ps) c.requires.ready.idle in
     let sent = c.requires.ready.sent in
-    let posts = c.requires.posts in
+    let posts = c.requires.able.posts in
     record {
       sent = omega (arith, few, none, sent);
-      few_events = c.requires.events;
+      few_events = c.requires.able.events;
       few_posts = omega (arith, few, none, posts);
     }
 

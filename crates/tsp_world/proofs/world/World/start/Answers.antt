@@ -76,7 +76,7 @@ invariant_of-self-clause-ready c =
     let ok = c.in-Ok.ensures.ok in
     let clock = ok.3 ∙ c.tick-tick.ensures.tick in
     let booted : NodeReady ports x c.in-Ok.booted = (ok.2 ∙ ap peers_of_ports (ports_are (goal.at.invariant_of-self-clause-ready c).After-index-config), omega (arith, clock)) in
-    NodesReady-set c.args.node (Some c.in-Ok.booted) (NodesReady-later c.requires.order world.ready) (λ node is. subst (λ n. NodeReady ports x n) (some_same is) booted)
+    NodesReady-set c.args.node (Some c.in-Ok.booted) (NodesReady-later c.requires.able.order world.ready) (λ node is. subst (λ n. NodeReady ports x n) (some_same is) booted)
 
 pub note-requires : goal.note-requires
 note-requires c =
@@ -86,10 +86,10 @@ note-requires c =
     let few = c.boot.ensures.room.few in
     let none = ap (λ ps. length ps) c.requires.ready.idle in
     let sent = c.requires.ready.sent in
-    let posts = c.requires.posts in
+    let posts = c.requires.able.posts in
     record {
       sent = omega (arith, few, many, room, none, sent);
-      few_events = c.requires.events;
+      few_events = c.requires.able.events;
       few_posts = omega (arith, few, many, room, none, posts);
     }
 
