@@ -23,13 +23,7 @@ fn backed_after(line: &HistoryLine, node: u32, port: Port, keep: Option<PeerId>)
     }
     match line.act.brief() {
         Brief::Mark => None,
-        Brief::Back(p) => {
-            if line.port.0 == port.0 {
-                Some(p)
-            } else {
-                keep
-            }
-        }
+        Brief::Back(p) => { if line.port.0 == port.0 { Some(p) } else { keep } }
         _ => keep,
     }
 }

@@ -32,10 +32,7 @@ fn line_of(alloc: Global, tick: u64, text: &str) -> Option<HistoryLine> {
         (Port(0), HeldAct::mark(alloc))
     } else {
         let line = act_of(text.as_bytes()).ok()?;
-        (
-            line.placed.port,
-            HeldAct::of(alloc, &line.placed.act).ok()?,
-        )
+        (line.placed.port, HeldAct::of(alloc, &line.placed.act).ok()?)
     };
     let why = match act.brief() {
         Brief::Boot => Why::Booted(7, 1_000),

@@ -10,7 +10,7 @@ use Rattle.tsp_base.specs.History.{Step}
 use Rattle.tsp_claims.specs.declared.claimed.Claimed.{Claimed}
 use Rattle.tsp_claims.specs.declared.claims.Claims.{Claims}
 use Rattle.tsp_claims.specs.declared.taking_in.HeldStep.{HeldStep}
-use Rattle.tsp_claims.specs.ClaimedHistory.{Claim, claimed, events_of, joins_acts, lines_in, posts_of, step_of}
+use Rattle.tsp_claims.specs.ClaimedHistory.{Claim, events_of, joins_acts, lines_in, posts_of, step_of}
 use Rattle.tsp_claims.specs.Fitting.{acts_of}
 use Rattle.tsp_claims.specs.Listed.{boots, booted, up_in}
 use Rattle.tsp_claims.specs.Stands.{ClaimsStand, claim_of}

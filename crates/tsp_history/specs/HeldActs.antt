@@ -1,5 +1,5 @@
 -- Acts that are held without the names in their messages, and what they are with these.
-use Rattle.std.specs.Prelude.{◌≡◌, ℕ, true, List, [], Option, None, Some}
+use Rattle.std.specs.Prelude.{◌≡◌, ℕ, true, List, Option, None, Some}
 use Rattle.tsp_base.specs.declared.act.Act.{Act}
 use Rattle.tsp_base.specs.declared.act.Act.TheVariants as acts
 use Rattle.tsp_base.specs.declared.datagram.Datagram.{Datagram}

@@ -1,6 +1,5 @@
 //! Acts that are held, each in little room.
 ghost use Rattle.std.specs.Prelude.{◌≡◌, List, ℕ, [], true, is_none, None, Some, IfOk};
-ghost use Rattle.tsp_base.specs.declared.datagram.Datagram.{Datagram as DatagramValue};
 ghost use Rattle.tsp_base.specs.Messages.{body_fits};
 ghost use Rattle.tsp_base.specs.Names.{IsName};
 ghost use Rattle.tsp_history.specs.HeldActs.{IsBrief, IsSilent, act_of, brief_of, datagram_in, message_of};

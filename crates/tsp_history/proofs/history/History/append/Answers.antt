@@ -1,6 +1,6 @@
 -- Each line is put behind those before it.
 use Rattle.std.proofs.Common.{◌≡◌, ◌∙◌, ◌∷◌, [], List, ap, arith, length, refl, sym}
-use Rattle.std.specs.Vec.Iter.{into_iter_items, into_iter_len}
+use Rattle.std.specs.Vec.Iter.{into_iter_items}
 use Rattle.tsp_history.specs.Histories.{history_of, noted_after}
 use Rattle.tsp_history.proofs.history.History.append.Goals as goal
 
