@@ -19,13 +19,12 @@ ghost use Rattle.tsp_history.specs.Notes.{Told};
 use crate::brought::brought;
 use crate::clock::clock_at;
 use crate::premises::Premises;
-use tsp_base::act::Act;
-use tsp_base::datagram::Datagram;
 use tsp_base::header::Header;
 use tsp_base::kind::Kind;
 use tsp_base::message::Body;
 use tsp_base::place::{PeerId, Place};
 use tsp_base::role::Role;
+use tsp_history::brief::Brief;
 use tsp_history::clocks::is_spaced;
 use tsp_history::line::HistoryLine;
 use tsp_history::posts::{has_taken, post_at};
@@ -39,8 +38,8 @@ fn spaces(lines: &[HistoryLine], line: &HistoryLine) -> bool
     ensures { MatchBool result (SpacedAt (line_of line.now) (history_of lines.now))
         (SpacedAt (line_of line.now) (history_of lines.now) → ⊥) }
 {
-    match &line.act {
-        Some(Act::Correct { .. }) => is_spaced(lines, line.node, line.tick),
+    match line.act.brief() {
+        Brief::Correct(_, _, _) => is_spaced(lines, line.node, line.tick),
         _ => true,
     }
 }
@@ -67,9 +66,9 @@ fn moves(post: &HistoryLine, amount: i64, target: i128) -> bool
     ensures { MatchBool result (Moves (deed_of post.now.act) amount target)
         (Moves (deed_of post.now.act) amount target → ⊥) }
 {
-    match &post.act {
-        Some(Act::Post(_, Datagram::Message(m))) => {
-            m.kind().is_correction() && i128::from(amount) == amount_of(m.kind(), m.body(), target)
+    match post.act.brief() {
+        Brief::PostMessage(_, kind, _, body) => {
+            kind.is_correction() && i128::from(amount) == amount_of(kind, body, target)
         }
         _ => false,
     }
@@ -111,9 +110,9 @@ fn obeys(header: &Header, lines: &[HistoryLine], line: &HistoryLine) -> bool
         → MatchBool result (ObeysAt setting (line_of line.now) (history_of lines.now))
         (ObeysAt setting (line_of line.now) (history_of lines.now) → ⊥) }
 {
-    match &line.act {
-        Some(Act::Correct { amount, .. }) => match role_at(lines, line.node, line.port) {
-            Role::Follow(master) => obeys_master(header, lines, line, *amount, master),
+    match line.act.brief() {
+        Brief::Correct(amount, _, _) => match role_at(lines, line.node, line.port) {
+            Role::Follow(master) => obeys_master(header, lines, line, amount, master),
             _ => true,
         },
         _ => true,
@@ -125,8 +124,8 @@ fn is_numbered(line: &HistoryLine) -> bool
     ensures { MatchBool result (IsNumbered (deed_of line.now.act))
         (IsNumbered (deed_of line.now.act) → ⊥) }
 {
-    match &line.act {
-        Some(Act::Post(_, Datagram::Message(m))) => m.kind().is_numbered(),
+    match line.act.brief() {
+        Brief::PostMessage(_, kind, _, _) => kind.is_numbered(),
         _ => false,
     }
 }
@@ -136,8 +135,8 @@ fn acts(lines: &[HistoryLine], line: &HistoryLine) -> bool
     ensures { MatchBool result (ActsNow (line_of line.now) (history_of lines.now))
         (ActsNow (line_of line.now) (history_of lines.now) → ⊥) }
 {
-    match &line.act {
-        Some(Act::Correct { .. }) => has_taken(lines, line.node),
+    match line.act.brief() {
+        Brief::Correct(_, _, _) => has_taken(lines, line.node),
         _ => false,
     }
 }
@@ -179,8 +178,8 @@ fn is_new(acted: &[u64], send: Option<u64>) -> bool
 fn is_correcting(line: &HistoryLine) -> bool
     ensures { result ≡ deed_corrects (deed_of line.now.act) }
 {
-    match &line.act {
-        Some(Act::Post(_, Datagram::Message(m))) => m.kind().is_correction(),
+    match line.act.brief() {
+        Brief::PostMessage(_, kind, _, _) => kind.is_correction(),
         _ => false,
     }
 }
@@ -204,8 +203,8 @@ fn confirms(lines: &[HistoryLine], acted: &[u64], line: &HistoryLine) -> bool
         → MatchBool result (ConfirmedAt (line_of line.now) (history_of lines.now))
         (ConfirmedAt (line_of line.now) (history_of lines.now) → ⊥) }
 {
-    match &line.act {
-        Some(Act::Acked(p)) => match open_to(lines, line.node, line.port, *p) {
+    match line.act.brief() {
+        Brief::Acked(p) => match open_to(lines, line.node, line.port, p) {
             None => true,
             Some(number) => {
                 if acted.contains(&number) {

@@ -19,6 +19,7 @@ use crate::round_correction::NodeState;
 use crate::states::{blank, is_quiet, state_after};
 use std::alloc::{AllocError, Global};
 use tsp_base::header::Header;
+use tsp_history::brief::Brief;
 use tsp_history::line::HistoryLine;
 use tsp_history::rounds::trip_of;
 
@@ -89,9 +90,9 @@ fn newest(line: &HistoryLine, index: usize, keep: Option<usize>) -> Option<usize
     ensures { (h : List Line) → index ≡ length h → FirstIs (from_act h) keep
         → FirstIs (from_act (line_of line.now ∷ h)) result }
 {
-    match &line.act {
-        None => keep,
-        Some(_) => Some(index),
+    match line.act.brief() {
+        Brief::Mark => keep,
+        _ => Some(index),
     }
 }
 
@@ -117,7 +118,7 @@ fn is_known(known: bool, line: &HistoryLine) -> bool
     if known {
         return true;
     }
-    line.act.is_some()
+    !line.act.is_mark()
 }
 
 impl AgreementTracker {
@@ -224,7 +225,7 @@ impl AgreementTracker {
         if !rests(before, self.trips.as_slice(), line) {
             return false;
         }
-        if line.act.is_none() {
+        if line.act.is_mark() {
             return true;
         }
         if self.nodes.len() > 64 {

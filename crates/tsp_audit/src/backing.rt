@@ -6,11 +6,10 @@ ghost use Rattle.tsp_promises.specs.OneBack.{BacksAt, HoldsAt, OneBack};
 ghost use Rattle.tsp_promises.specs.StepFacts.{backed, is_unbacked};
 ghost use Rattle.tsp_history.specs.Histories.{deed_of, line_of, history_of};
 
-use tsp_base::act::Act;
-use tsp_base::datagram::Datagram;
 use tsp_base::kind::Kind;
 use tsp_base::place::{PeerId, Place, Port};
 use tsp_base::role::Role;
+use tsp_history::brief::Brief;
 use tsp_history::line::HistoryLine;
 use tsp_history::scans::is_held;
 
@@ -22,15 +21,9 @@ fn backed_after(line: &HistoryLine, node: u32, port: Port, keep: Option<PeerId>)
     if line.node != node {
         return keep;
     }
-    match &line.act {
-        None => None,
-        Some(Act::Back(p)) => {
-            if line.port.0 == port.0 {
-                Some(*p)
-            } else {
-                keep
-            }
-        }
+    match line.act.brief() {
+        Brief::Mark => None,
+        Brief::Back(p) => { if line.port.0 == port.0 { Some(p) } else { keep } }
         _ => keep,
     }
 }
@@ -54,10 +47,10 @@ fn is_unbacked_after(line: &HistoryLine, node: u32, port: Port, keep: bool) -> b
     if line.node != node {
         return keep;
     }
-    match &line.act {
-        None => false,
-        Some(Act::Become(Role::Candidate)) => { if line.port.0 == port.0 { true } else { keep } }
-        Some(Act::Back(p)) => {
+    match line.act.brief() {
+        Brief::Mark => false,
+        Brief::Become(Role::Candidate) => { if line.port.0 == port.0 { true } else { keep } }
+        Brief::Back(p) => {
             if line.port.0 == port.0 && p.0 == node {
                 false
             } else {
@@ -84,8 +77,8 @@ fn holds(lines: &[HistoryLine], line: &HistoryLine) -> bool
     ensures { MatchBool result (HoldsAt (line_of line.now) (history_of lines.now))
         (HoldsAt (line_of line.now) (history_of lines.now) → ⊥) }
 {
-    match &line.act {
-        Some(Act::Back(p)) => is_held(lines, line.node, line.port, line.tick, *p),
+    match line.act.brief() {
+        Brief::Back(p) => is_held(lines, line.node, line.port, line.tick, p),
         _ => true,
     }
 }
@@ -99,7 +92,7 @@ fn stands(line: &HistoryLine, node: Option<u32>) -> bool
     {
         return false;
     }
-    matches!(&line.act, Some(Act::Become(Role::Candidate)))
+    matches!(line.act.brief(), Brief::Become(Role::Candidate))
 }
 
 /// Whether no port of this node is an unbacked candidate, where none was before `from`; `None` means every node.
@@ -142,8 +135,8 @@ fn votes(lines: &[HistoryLine], line: &HistoryLine) -> bool
     ensures { let seen = view line.now.port (of line.now.node (history_of lines.now)) in
         result ≡ deed_backs (deed_of line.now.act) (backed seen) (is_unbacked seen) }
 {
-    match &line.act {
-        Some(Act::Post(to, Datagram::Message(m))) => may_post(lines, line, *to, m.kind()),
+    match line.act.brief() {
+        Brief::PostMessage(to, kind, _, _) => may_post(lines, line, to, kind),
         _ => true,
     }
 }
@@ -156,9 +149,10 @@ fn backs(lines: &[HistoryLine], from: usize, line: &HistoryLine) -> bool
         → MatchBool result (BacksAt (line_of line.now) (history_of lines.now))
         (BacksAt (line_of line.now) (history_of lines.now) → ⊥) }
 {
-    match &line.act {
-        None => settles(lines, from, Some(line.node)),
-        Some(_) => votes(lines, line),
+    if line.act.is_mark() {
+        settles(lines, from, Some(line.node))
+    } else {
+        votes(lines, line)
     }
 }
 

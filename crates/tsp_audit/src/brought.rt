@@ -6,9 +6,8 @@ ghost use Rattle.tsp_audit.specs.Acting.{BringsAt, CameAt, IsUnposted, PostsTo};
 ghost use Rattle.tsp_history.specs.Histories.{deed_of, line_of, history_of};
 ghost use Rattle.tsp_history.specs.Notes.{Told};
 
-use tsp_base::act::Act;
-use tsp_base::datagram::Datagram;
 use tsp_base::place::Place;
+use tsp_history::brief::Brief;
 use tsp_history::line::{HistoryLine, Why};
 use tsp_history::posts::post_at;
 
@@ -29,8 +28,8 @@ fn posts_to(line: &HistoryLine, node: u32) -> bool
     ensures { MatchBool result (PostsTo (deed_of line.now.act) node) (PostsTo (deed_of line.now.act)
         node → ⊥) }
 {
-    match &line.act {
-        Some(Act::Post(Place::Peer(p), Datagram::Message(_))) => p.0 == node,
+    match line.act.brief() {
+        Brief::PostMessage(Place::Peer(p), _, _, _) => p.0 == node,
         _ => false,
     }
 }

@@ -11,10 +11,9 @@ ghost use Rattle.tsp_history.specs.Rounds.{Bests, SeenAt};
 
 use crate::acting::takes_send;
 use crate::round_correction::RoundCorrection;
-use tsp_base::act::Act;
-use tsp_base::datagram::Datagram;
 use tsp_base::kind::Kind;
 use tsp_base::place::{PeerId, Port};
+use tsp_history::brief::Brief;
 use tsp_history::counts::counts_at;
 use tsp_history::line::{HistoryLine, Why};
 use tsp_history::posts::post_at;
@@ -140,8 +139,8 @@ fn is_adjusting(line: &HistoryLine) -> bool
     ensures { MatchBool result (IsAdjusting (deed_of line.now.act))
         (IsAdjusting (deed_of line.now.act) → ⊥) }
 {
-    match &line.act {
-        Some(Act::Post(_, Datagram::Message(m))) => m.kind() == Kind::AdjTime,
+    match line.act.brief() {
+        Brief::PostMessage(_, kind, _, _) => kind == Kind::AdjTime,
         _ => false,
     }
 }

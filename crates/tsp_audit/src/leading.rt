@@ -7,9 +7,8 @@ ghost use Rattle.tsp_history.specs.Changes.{told_or};
 ghost use Rattle.tsp_history.specs.Histories.{line_of, history_of, deed_of};
 ghost use Rattle.tsp_history.specs.Notes.{Told};
 
-use tsp_base::act::Act;
-use tsp_base::datagram::Datagram;
 use tsp_base::role::Role;
+use tsp_history::brief::Brief;
 use tsp_history::line::HistoryLine;
 use tsp_history::scans::role_at;
 
@@ -18,10 +17,10 @@ fn closing_told(line: &HistoryLine) -> Option<bool>
     ensures { (before : List Line) → closing (line_of line.now ∷ before)
         ≡ told_or result (closing before) }
 {
-    match &line.act {
-        None => None,
-        Some(Act::Close { .. }) => Some(true),
-        Some(_) => Some(false),
+    match line.act.brief() {
+        Brief::Mark => None,
+        Brief::Close(_, _, _, _) => Some(true),
+        _ => Some(false),
     }
 }
 
@@ -43,10 +42,10 @@ fn closes_last(lines: &[HistoryLine]) -> bool
 fn must_lead(lines: &[HistoryLine], line: &HistoryLine) -> bool
     ensures { result ≡ must_lead (deed_of line.now.act) (closing (history_of lines.now)) }
 {
-    match &line.act {
-        Some(Act::Post(_, Datagram::Message(m))) => m.kind().is_correction(),
-        Some(Act::Close { .. }) => true,
-        Some(Act::Correct { .. }) => closes_last(lines),
+    match line.act.brief() {
+        Brief::PostMessage(_, kind, _, _) => kind.is_correction(),
+        Brief::Close(_, _, _, _) => true,
+        Brief::Correct(_, _, _) => closes_last(lines),
         _ => false,
     }
 }

@@ -15,11 +15,10 @@ use crate::brought::came_at;
 use crate::clock::clock_at;
 use crate::nearness::is_near;
 use crate::premises::Premises;
-use tsp_base::act::Act;
-use tsp_base::datagram::Datagram;
 use tsp_base::header::Header;
 use tsp_base::place::{PeerId, Place};
 use tsp_base::stamp::Stamp;
+use tsp_history::brief::Brief;
 use tsp_history::clocks::target_at;
 use tsp_history::line::HistoryLine;
 use tsp_history::rounds::{asked_at, is_going};
@@ -29,8 +28,8 @@ fn replies_to(post: &HistoryLine, peer: PeerId, node: u32) -> bool
     ensures { MatchBool result (RepliesTo (line_of post.now) peer node)
         (RepliesTo (line_of post.now) peer node → ⊥) }
 {
-    match &post.act {
-        Some(Act::Post(Place::Peer(to), Datagram::Stamp(Stamp::Reply(_)))) => {
+    match post.act.brief() {
+        Brief::PostStamp(Place::Peer(to), Stamp::Reply(_)) => {
             post.node == peer.0 && to.0 == node
         }
         _ => false,
@@ -111,15 +110,10 @@ fn errs_little(header: &Header, lines: &[HistoryLine], line: &HistoryLine) -> bo
         → MatchBool result (MeasuredAt setting (line_of line.now) (history_of lines.now))
         (MeasuredAt setting (line_of line.now) (history_of lines.now) → ⊥) }
 {
-    match &line.act {
-        Some(
-            Act::Sample {
-                peer,
-                diff,
-                err,
-                ..
-            },
-        ) => has_reading(header, lines, line, *peer, *diff, *err),
+    match line.act.brief() {
+        Brief::Sample(peer, _, diff, err, _) => {
+            has_reading(header, lines, line, peer, diff, err)
+        }
         _ => true,
     }
 }
@@ -188,15 +182,8 @@ fn trips_well(lines: &[HistoryLine], line: &HistoryLine) -> bool
     ensures { MatchBool result (TripAt (line_of line.now) (history_of lines.now))
         (TripAt (line_of line.now) (history_of lines.now) → ⊥) }
 {
-    match &line.act {
-        Some(
-            Act::Sample {
-                peer,
-                counter,
-                err,
-                ..
-            },
-        ) => ends_exchange(lines, line, *peer, *counter, *err),
+    match line.act.brief() {
+        Brief::Sample(peer, counter, _, err, _) => ends_exchange(lines, line, peer, counter, err),
         _ => true,
     }
 }

@@ -7,10 +7,9 @@ ghost use Rattle.tsp_base.specs.History.{of, view};
 ghost use Rattle.tsp_history.specs.Histories.{line_of, history_of};
 
 use crate::casting::best_in;
-use tsp_base::act::Act;
-use tsp_base::datagram::Datagram;
 use tsp_base::kind::Kind;
 use tsp_base::place::{PeerId, Place, Port};
+use tsp_history::brief::Brief;
 use tsp_history::line::HistoryLine;
 use tsp_history::posts::is_acting;
 use tsp_history::rounds::closed_at;
@@ -42,12 +41,12 @@ pub(crate) fn rests(lines: &[HistoryLine], trips: &[i128], line: &HistoryLine) -
         (RestsOnSample (line_of line.now)
         (view line.now.port (of line.now.node (history_of lines.now))) → ⊥) }
 {
-    match &line.act {
-        Some(Act::Post(Place::Peer(p), Datagram::Message(m))) => {
-            if m.kind() != Kind::AdjTime || !is_acting(lines, line.node, line.port) {
+    match line.act.brief() {
+        Brief::PostMessage(Place::Peer(p), kind, _, _) => {
+            if kind != Kind::AdjTime || !is_acting(lines, line.node, line.port) {
                 return true;
             }
-            has_sample(lines, trips, line.node, line.port, *p)
+            has_sample(lines, trips, line.node, line.port, p)
         }
         _ => true,
     }

@@ -10,7 +10,7 @@ ghost use Rattle.tsp_history.specs.Notes.{Told};
 
 use crate::casting::cast_at;
 use crate::round_correction::NodeState;
-use tsp_base::act::Act;
+use tsp_history::brief::Brief;
 use tsp_history::clocks::moved_at;
 use tsp_history::counts::counts_at;
 use tsp_history::line::HistoryLine;
@@ -33,7 +33,7 @@ fn is_boot(line: &HistoryLine) -> bool
     ensures { MatchBool result (deed_of line.now.act ≡ Acts Boot) ((n : ℕ)
         → lives_after (deed_of line.now.act) n ≡ n) }
 {
-    matches!(&line.act, Some(Act::Boot))
+    matches!(line.act.brief(), Brief::Boot)
 }
 
 /// Whether a line is a Correct.
@@ -41,7 +41,7 @@ fn is_correct(line: &HistoryLine) -> bool
     ensures { MatchBool result (IsCorrect (deed_of line.now.act)) ((n : ℕ)
         → all_corrects_after (deed_of line.now.act) n ≡ n) }
 {
-    matches!(&line.act, Some(Act::Correct { .. }))
+    matches!(line.act.brief(), Brief::Correct(_, _, _))
 }
 
 /// Whether a line is neither a Boot nor a Correct, so that it changes nothing of what is remembered.

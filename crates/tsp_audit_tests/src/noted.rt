@@ -3,12 +3,13 @@ ghost use Rattle.std.specs.Prelude.{◌<◌, ◌^◌, length};
 ghost use Rattle.tsp_history.specs.Notes.{Told};
 
 use std::alloc::{AllocError, Global};
-use tsp_base::act::Act;
 use tsp_base::constants::{GAP, HOLD};
 use tsp_base::place::{PeerId, Port};
 use tsp_base::role::Role;
+use tsp_history::brief::Brief;
 use tsp_history::clocks::{is_spaced, moved_at, target_at};
 use tsp_history::counts::counts_at;
+use tsp_history::held_act::HeldAct;
 use tsp_history::history::History;
 use tsp_history::line::{HistoryLine, Why};
 use tsp_history::notes::Note;
@@ -26,15 +27,15 @@ const PEER: PeerId = PeerId(2);
 
 /// The mark of a step of the node at a tick, or with a line of a trace its act on its port. A boot's wall clock
 /// shows 1,000.
-fn line_of(tick: u64, text: &str) -> Option<HistoryLine> {
+fn line_of(alloc: Global, tick: u64, text: &str) -> Option<HistoryLine> {
     let (port, act) = if text.is_empty() {
-        (Port(0), None)
+        (Port(0), HeldAct::mark(alloc))
     } else {
         let line = act_of(text.as_bytes()).ok()?;
-        (line.placed.port, Some(line.placed.act))
+        (line.placed.port, HeldAct::of(alloc, &line.placed.act).ok()?)
     };
-    let why = match &act {
-        Some(Act::Boot) => Why::Booted(7, 1_000),
+    let why = match act.brief() {
+        Brief::Boot => Why::Booted(7, 1_000),
         _ => Why::Turned,
     };
     Some(HistoryLine {
@@ -54,7 +55,7 @@ fn told(alloc: Global, rows: &[(u64, &str)]) -> Option<History> {
     for (tick, text) in rows {
         history.make_room(1).ok()?;
         if history.len() < 1_000 {
-            history.push(line_of(*tick, text)?);
+            history.push(line_of(alloc, *tick, text)?);
         }
     }
     Some(history)

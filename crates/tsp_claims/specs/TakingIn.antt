@@ -1,15 +1,14 @@
 -- What it takes to take claimed lines in, and what it comes to.
-use Rattle.std.specs.Prelude.{◌≡◌, ℕ, ◌+◌, ◌≤◌, List, ◌++◌, vec_len, vec_capacity}
+use Rattle.std.specs.Prelude.{◌≡◌, ℕ, ◌+◌, ◌≤◌, List, ◌++◌, length, Option, vec_len, vec_capacity}
 use Rattle.tsp_base.specs.declared.event.Event.{Event}
-use Rattle.tsp_base.specs.Joins.{stepped}
-use Rattle.tsp_claims.specs.declared.acting.Acting.{Acting}
+use Rattle.tsp_base.specs.declared.act.Placed.{Placed}
+use Rattle.tsp_base.specs.Headers.{HeaderValue}
+use Rattle.tsp_base.specs.History.{Line, Step}
 use Rattle.tsp_claims.specs.declared.claims.Claims.{Claims}
-use Rattle.tsp_claims.specs.ClaimedHistory.{joins_acts, posts_by, posts_in, step_of}
-use Rattle.tsp_claims.specs.Fitting.{acts_of}
-use Rattle.tsp_claims.specs.Listed.{up_in}
-use Rattle.tsp_claims.specs.Steps.{step_by}
-use Rattle.tsp_history.specs.Histories.{history_of}
-use Rattle.tsp_script.specs.declared.trace.Line2.{Line2}
+use Rattle.tsp_claims.specs.declared.taking_in.HeldStep.{HeldStep}
+use Rattle.tsp_claims.specs.ClaimedHistory.{joins_acts, posts_by}
+use Rattle.tsp_claims.specs.Listed.{Wakes}
+use Rattle.tsp_history.specs.Histories.{history_of, noted_after}
 
 -- there is room for a mark and so many lines, and for as many posts
 pub record HasRoom (count : ℕ) (c : Claims) : Type 0 where
@@ -25,20 +24,18 @@ pub record Stays (old new : Claims) : Type 0 where
   pub events_are : new.events ≡ old.events
   pub told_is : new.told ≡ old.told
 
--- a step's mark and the acts of these lines were appended to the history, and their posts to the claimed ones
-pub record Joins (step : Acting) (lines : List Line2) (old new : Claims) : Type 0 where
-  pub header_is : new.header ≡ old.header
-  pub up_is : new.up ≡ old.up
-  pub history : history_of new.lines.lines ≡ stepped (step_by step) step.tick (acts_of lines) (history_of old.lines.lines)
-  pub posts_are : new.posts.items ≡ old.posts.items ++ posts_in old.events (step_by step) (acts_of lines)
-  pub events_are : new.events ≡ old.events
-  pub told_is : new.told ≡ old.told
+-- these lines and posts are the step of an event of this number, if there is one, and what its acts claim
+pub record HoldsStep (header : HeaderValue) (event : ℕ) (step : Option Step) (acts : List Placed) (held : HeldStep) : Type 0 where
+  pub lines : (h : List Line) → noted_after h held.lines.items ≡ joins_acts header step acts h
+  pub posts : held.posts.items ≡ posts_by event step acts
+  pub many : vec_len held.lines ≤ length acts + 1
+  pub few : vec_len held.posts ≤ length acts
 
--- the step of an event, if there is one, was appended with the acts of these lines
-pub record TakesStep (e : Event) (lines : List Line2) (old new : Claims) : Type 0 where
+-- an event was counted with so many lines, a step was appended, and the event's node woke
+pub record Joins (e : Event) (held : HeldStep) (count : ℕ) (old new : Claims) : Type 0 where
   pub header_is : new.header ≡ old.header
-  pub up_is : new.up ≡ old.up
-  pub history : history_of new.lines.lines ≡ joins_acts old.header (step_of old.header old.posts.items (up_in old.up.items) e (acts_of lines)) (acts_of lines) (history_of old.lines.lines)
-  pub posts_are : new.posts.items ≡ old.posts.items ++ posts_by old.events (step_of old.header old.posts.items (up_in old.up.items) e (acts_of lines)) (acts_of lines)
-  pub events_are : new.events ≡ old.events
-  pub told_is : new.told ≡ old.told
+  pub history : history_of new.lines.lines ≡ noted_after (history_of old.lines.lines) held.lines.items
+  pub posts_are : new.posts.items ≡ old.posts.items ++ held.posts.items
+  pub events_are : new.events ≡ old.events + 1
+  pub told_is : new.told ≡ old.told + count
+  pub wakes : Wakes e old.up.items new.up.items

@@ -11,11 +11,11 @@ ghost use Rattle.tsp_claims.specs.Steps.{ActsIn, step_by};
 
 use crate::booted::has_booted;
 use crate::claims::Claims;
-use tsp_base::act::Act;
 use tsp_base::drift::tick_at;
 use tsp_base::event::Event;
 use tsp_base::header::NodeLine;
 use tsp_base::members::Members;
+use tsp_history::brief::Brief;
 use tsp_history::line::Why;
 use tsp_networks::{address_of, networks_of, port_count};
 use tsp_run::address::Address;
@@ -74,8 +74,10 @@ impl Claims {
         ensures { result ≡ reaches (networks self.now.header) (slice_get self.now.posts.items k) }
     {
         let post = self.posts.get(k as usize)?;
-        match &post.placed.act {
-            Act::Post(to, _) => address_of(self.networks(), post.node, post.placed.port, *to),
+        match post.placed.brief() {
+            Brief::PostMessage(to, _, _, _) | Brief::PostStamp(to, _) => {
+                address_of(self.networks(), post.node, post.placed.port(), to)
+            }
             _ => None,
         }
     }

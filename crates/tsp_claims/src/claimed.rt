@@ -1,6 +1,6 @@
 //! Claimed posts.
 
-use tsp_base::act::Placed;
+use crate::held::HeldPlaced;
 
 /// A post that is claimed.
 #[derive(Drop)]
@@ -12,5 +12,5 @@ pub struct Claimed {
     /// The node that posts.
     pub node: u32,
     /// The post, on its port.
-    pub placed: Placed,
+    pub placed: HeldPlaced,
 }

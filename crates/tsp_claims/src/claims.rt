@@ -91,10 +91,9 @@ impl Claims {
         if let Some(index) = self.misfit(e, step, acts) {
             return Err(AuditFault::History(index));
         }
-        if self.make_room(acts.len()).is_err() {
+        if self.take_in(e, step, acts).is_err() {
             return Err(AuditFault::OutOfMemory);
         }
-        self.take_in(e, step, acts);
         Ok(())
     }
 
@@ -116,9 +115,7 @@ impl Claims {
             → OnErr result (ClaimsStand header claims self.new) }
     {
         let step = self.acting(e);
-        self.make_room(acts.len())?;
-        self.take_in(e, step, acts);
-        Ok(())
+        self.take_in(e, step, acts)
     }
 
     /// Whether a line fits as the next one of an event, behind lines that were counted.

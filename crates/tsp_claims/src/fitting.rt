@@ -39,7 +39,7 @@ impl Claims {
             (Some(post), Some(address)) => {
                 port == address.port
                     && from == Place::Peer(PeerId(post.node))
-                    && is_posted(&post.placed.act, taken)
+                    && is_posted(&post.placed, taken)
             }
             _ => false,
         }

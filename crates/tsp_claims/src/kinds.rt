@@ -3,6 +3,7 @@ ghost use Rattle.std.specs.Prelude.{◌≡◌, ◌+◌, ◌≤◌, ◌↔◌, Is
 ghost use Rattle.tsp_claims.specs.Fitting.{is_took, IsPosted, NumberFits};
 ghost use Rattle.tsp_run.specs.Run.{posts_by};
 
+use crate::held::HeldPlaced;
 use tsp_base::act::Act;
 use tsp_base::datagram::{Datagram, Taken};
 use tsp_base::message::Message;
@@ -50,12 +51,12 @@ fn is_same(one: &Datagram, other: &Datagram) -> bool
     }
 }
 
-/// Whether what was taken is the datagram that an act posted.
-pub(crate) fn is_posted(act: &Act, taken: &Taken) -> bool
-    ensures { IsTrue result ↔ IsPosted act.now taken.now }
+/// Whether what was taken is the datagram that a claimed act posted.
+pub(crate) fn is_posted(placed: &HeldPlaced, taken: &Taken) -> bool
+    ensures { IsTrue result ↔ IsPosted placed.now.act taken.now }
 {
-    match (act, taken) {
-        (Act::Post(_, datagram), Taken::Good(good)) => is_same(good, datagram),
+    match (&placed.datagram(), taken) {
+        (Some(datagram), Taken::Good(good)) => is_same(good, datagram),
         _ => false,
     }
 }

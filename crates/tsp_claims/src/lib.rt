@@ -29,6 +29,7 @@ pub mod booted;
 pub mod claimed;
 pub mod claims;
 mod fitting;
+pub mod held;
 mod kinds;
 mod taking_in;
 pub mod tally;

@@ -10,6 +10,9 @@ use Rattle.tsp_base.specs.History.{Deed, Acts, Line, of, dids}
 use Rattle.tsp_base.specs.NodeFacts.{lives, lives_after}
 use Rattle.tsp_base.specs.Places.{Within}
 use Rattle.tsp_base.proofs.PlaceLemmas.{Within-tail}
+use Rattle.tsp_history.specs.declared.brief.Brief.TheVariants.{Boot as BriefBoot, Correct as BriefCorrect}
+use Rattle.tsp_history.specs.HeldActs.{brief_of}
+use Rattle.tsp_history.specs.Histories.{deed_of}
 use Rattle.tsp_history.specs.Spacing.{later_of, Spaced, SpacedBy}
 
 -- a node's lines with one of its own
@@ -102,8 +105,8 @@ spaced-near n x l h a s y own correct near f =
     omega (arith, near, far)
 
 -- an act that is no boot begins no life
-pub no-boot : (a : Act) → (a ≡ Boot → ⊥) → (k : ℕ) → lives_after (Acts a) k ≡ k
-no-boot Boot other k = absurd (other refl)
+pub no-boot : (o : Option Act) → (brief_of o ≡ BriefBoot → ⊥) → (k : ℕ) → lives_after (deed_of o) k ≡ k
+no-boot (Some Boot) other k = absurd (other refl)
 no-boot _ other k = refl
 
 -- a correction, after a history that is spaced
@@ -126,8 +129,13 @@ spaced-not b n x l h a s y own correct e m = subst (λ c. MatchBool c (Spaced n 
   bad g = before (λ k older c t z w node deed lived. g k older c t z (inr w) node deed (lived ∙ sym same))
 
 -- an act is the one that a deed is
-pub acts-is : (a c : Act) → Acts a ≡ Acts c → a ≡ c
-acts-is a c e = cc
+acts-is : (o : Option Act) (c : Act) → deed_of o ≡ Acts c → o ≡ Some c
+acts-is None c e = cc
+acts-is (Some a) c e = let same : a ≡ c = cc in ap (λ k. Some k) same
+
+-- a line that isn't held as a correction is none
+pub no-correct : (o : Option Act) → ((a : ℤ) (s : Bool) (y : ℤ) → brief_of o ≡ BriefCorrect a s y → ⊥) → (a : ℤ) (s : Bool) (y : ℤ) → deed_of o ≡ Acts (Correct a s y) → ⊥
+no-correct o other a s y e = other a s y (ap brief_of (acts-is o (Correct a s y) e))
 
 -- after a correction the later one of the ticks tells
 pub spaced-later : (n : ℕ) (l : Line) (h : List Line) (o : Option ℕ) (a : ℤ) (s : Bool) (y : ℤ) → node_of l ≡ n → l.did.deed ≡ Acts (Correct a s y) → SpacedBy n h o → SpacedBy n (l ∷ h) (Some (later_of o l.did.tick))

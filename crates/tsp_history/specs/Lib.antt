@@ -1,6 +1,7 @@
 pub mod Changes
 pub mod Clocks
 pub mod Growing
+pub mod HeldActs
 pub mod Histories
 pub mod Holding
 pub mod Notes

@@ -8,10 +8,10 @@ ghost use Rattle.tsp_history.specs.Histories.{line_of, history_of};
 ghost use Rattle.tsp_history.specs.Notes.{Told};
 ghost use Rattle.tsp_history.specs.Spacing.{later_of, Spaced, SpacedBy};
 
+use crate::brief::Brief;
 use crate::line::{HistoryLine, Why};
 use crate::notes::node_at;
 use crate::ticks::is_far;
-use tsp_base::act::Act;
 use tsp_base::constants::GAP;
 
 /// What is known of a node's clock.
@@ -77,12 +77,9 @@ pub(crate) fn latest_after(line: &HistoryLine, node: u32, keep: Option<u64>) -> 
     if line.node != node {
         return keep;
     }
-    let Some(act) = &line.act else {
-        return keep;
-    };
-    match act {
-        Act::Boot => None,
-        Act::Correct { .. } => Some(later(keep, line.tick)),
+    match line.act.brief() {
+        Brief::Boot => None,
+        Brief::Correct(_, _, _) => Some(later(keep, line.tick)),
         _ => keep,
     }
 }
@@ -110,8 +107,8 @@ pub(crate) fn clock_after(line: &HistoryLine, node: u32, keep: Clock) -> Clock
     if line.node != node {
         return keep;
     }
-    match &line.act {
-        Some(Act::Boot) => Clock {
+    match line.act.brief() {
+        Brief::Boot => Clock {
             wall: match line.why {
                 Why::Booted(_, wall) => wall,
                 _ => keep.wall,
@@ -119,8 +116,8 @@ pub(crate) fn clock_after(line: &HistoryLine, node: u32, keep: Clock) -> Clock
             boot_tick: line.tick,
             moved: 0,
         },
-        Some(Act::Correct { amount, .. }) => Clock {
-            moved: keep.moved + i128::from(*amount),
+        Brief::Correct(amount, _, _) => Clock {
+            moved: keep.moved + i128::from(amount),
             ..keep
         },
         _ => keep,

@@ -5,9 +5,9 @@ ghost use Rattle.tsp_base.specs.NodeFacts.{all_corrects, lives};
 ghost use Rattle.tsp_history.specs.Histories.{line_of, history_of};
 ghost use Rattle.tsp_history.specs.Notes.{Counted, Told};
 
+use crate::brief::Brief;
 use crate::line::HistoryLine;
 use crate::notes::node_at;
-use tsp_base::act::Act;
 
 /// How often a node has booted, and how often it has corrected its clock over all its lives.
 #[derive(Clone, Copy)]
@@ -40,12 +40,12 @@ pub(crate) fn counts_after(line: &HistoryLine, node: u32, keep: Counts) -> Count
     if line.node != node {
         return keep;
     }
-    match &line.act {
-        Some(Act::Boot) => Counts {
+    match line.act.brief() {
+        Brief::Boot => Counts {
             lives: keep.lives + 1,
             ..keep
         },
-        Some(Act::Correct { .. }) => Counts {
+        Brief::Correct(_, _, _) => Counts {
             corrects: keep.corrects + 1,
             ..keep
         },

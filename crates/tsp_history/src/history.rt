@@ -1,6 +1,6 @@
 //! The lines of a history, each with what is known after it.
-ghost use Rattle.std.specs.Prelude.{◌≡◌, ◌≤◌, ◌<◌, ◌+◌, ◌-◌, ◌^◌, [], ◌∷◌, length, OnOk};
-ghost use Rattle.tsp_history.specs.Histories.{line_of, history_of};
+ghost use Rattle.std.specs.Prelude.{◌≡◌, ◌≤◌, ◌<◌, ◌+◌, ◌-◌, ◌^◌, [], ◌∷◌, length, vec_len, OnOk};
+ghost use Rattle.tsp_history.specs.Histories.{line_of, history_of, noted_after};
 ghost use Rattle.tsp_history.specs.Notes.{Told};
 
 use crate::line::HistoryLine;
@@ -68,6 +68,21 @@ impl History {
             act: line.act,
             note,
         });
+    }
+
+    /// Puts these lines behind the others, the first of them first; their notes are found here. There must
+    /// be room for them, by `make_room`, and at most 2^31 lines with them, else the contract is broken: this
+    /// takes no memory.
+    pub fn append(&mut self, lines: Vec<HistoryLine>)
+        requires few { length self.old.lines + vec_len lines ≤ 2 ^ 31 }
+        requires room { vec_len lines ≤ self.old.room }
+        ensures history { history_of self.new.lines
+            ≡ noted_after (history_of self.old.lines) lines.items }
+        ensures length { length self.new.lines ≡ length self.old.lines + vec_len lines }
+    {
+        for line in lines {
+            self.push(line);
+        }
     }
 
     /// The lines.

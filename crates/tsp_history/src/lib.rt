@@ -23,9 +23,11 @@
 //! is of in [`sends`].
 #![tactic(auto)]
 
+pub mod brief;
 mod change;
 pub mod clocks;
 pub mod counts;
+pub mod held_act;
 pub mod history;
 pub mod line;
 mod newest;

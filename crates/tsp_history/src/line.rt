@@ -1,7 +1,7 @@
 //! A line of a history, with a note of what is known after it.
 
+use crate::held_act::HeldAct;
 use crate::notes::Note;
-use tsp_base::act::Act;
 use tsp_base::place::Port;
 
 /// Why a step happens.
@@ -31,7 +31,7 @@ pub struct HistoryLine {
     /// The port on which the act is done; 0 at a mark.
     pub port: Port,
     /// The act; none at the mark where a step begins.
-    pub act: Option<Act>,
+    pub act: HeldAct,
     /// What is known after it. `History::push` finds it, whatever is here: hand it `Note::new()`.
     pub note: Note,
 }

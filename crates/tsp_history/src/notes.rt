@@ -6,6 +6,7 @@ ghost use Rattle.tsp_history.specs.Histories.{line_of, history_of};
 ghost use Rattle.tsp_history.specs.Clocks.{IsSumOf};
 ghost use Rattle.tsp_history.specs.Notes.{IsOwnLine, NodeKnown, NoteIs, PortKnown, Told};
 
+use crate::brief::Brief;
 use crate::clocks::{Clock, clock_after, latest_after};
 use crate::counts::{Counts, counts_after};
 use crate::line::HistoryLine;
@@ -13,7 +14,6 @@ use crate::newest::last_of;
 use crate::posts::posted_in;
 use crate::rounds::is_going_after;
 use crate::scans::role_after;
-use tsp_base::act::Act;
 use tsp_base::place::Port;
 use tsp_base::role::Role;
 
@@ -135,8 +135,8 @@ fn is_own(line: &HistoryLine, node: u32, port: Port) -> bool
     if line.node != node {
         return false;
     }
-    match &line.act {
-        Some(Act::Boot) => true,
+    match line.act.brief() {
+        Brief::Boot => true,
         _ => line.port.0 == port.0,
     }
 }
@@ -163,8 +163,9 @@ fn posts(line: &HistoryLine) -> u64
     ensures posted { (before : List Line)
         → posted (dids (line_of line.now ∷ before)) ≡ posted (dids before) + result }
 {
-    match &line.act {
-        Some(Act::Post(_, _)) => 1,
+    match line.act.brief() {
+        Brief::PostMessage(_, _, _, _) => 1,
+        Brief::PostStamp(_, _) => 1,
         _ => 0,
     }
 }

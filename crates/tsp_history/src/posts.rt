@@ -8,8 +8,8 @@ ghost use Rattle.tsp_history.specs.Histories.{line_of, history_of};
 ghost use Rattle.tsp_history.specs.Notes.{Told};
 ghost use Rattle.tsp_history.specs.Posts.{IsPost, PostsAt};
 
+use crate::brief::Brief;
 use crate::line::HistoryLine;
-use tsp_base::act::Act;
 use tsp_base::place::Port;
 
 /// Whether a line posts.
@@ -17,7 +17,10 @@ fn is_post(line: &HistoryLine) -> bool
     ensures { MatchBool result (IsPost line.now) ((before : List Line)
         → posted (dids (line_of line.now ∷ before)) ≡ posted (dids before)) }
 {
-    matches!(&line.act, Some(Act::Post(_, _)))
+    matches!(
+        line.act.brief(),
+        Brief::PostMessage(_, _, _, _) | Brief::PostStamp(_, _)
+    )
 }
 
 /// How many datagrams these lines post.
@@ -63,9 +66,11 @@ fn taken_told(line: &HistoryLine, node: u32) -> Option<bool>
     if line.node != node {
         return None;
     }
-    match &line.act {
-        None => Some(false),
-        Some(Act::Took(_, _)) => Some(true),
+    match line.act.brief() {
+        Brief::Mark => Some(false),
+        Brief::TookMessage(_, _, _, _) | Brief::TookStamp(_, _) | Brief::TookBad(_, _) => {
+            Some(true)
+        }
         _ => None,
     }
 }
@@ -93,9 +98,13 @@ fn acting_told(line: &HistoryLine, node: u32, port: Port) -> Option<bool>
     if line.node != node {
         return None;
     }
-    match &line.act {
-        None => Some(false),
-        Some(Act::Took(_, _) | Act::Ring(_) | Act::Late(_)) => {
+    match line.act.brief() {
+        Brief::Mark => Some(false),
+        Brief::TookMessage(_, _, _, _)
+        | Brief::TookStamp(_, _)
+        | Brief::TookBad(_, _)
+        | Brief::Ring(_)
+        | Brief::Late(_) => {
             if line.port.0 == port.0 {
                 Some(true)
             } else {

@@ -13,13 +13,12 @@ ghost use Rattle.tsp_history.specs.Posts.{IsPost};
 ghost use Rattle.tsp_history.specs.Rounds.{Asked, Bests, better_of, Forgets, KeepsFrom};
 ghost use Rattle.tsp_history.specs.Rounds.{LineAt, SeenBy, start_of, trip_at};
 
+use crate::brief::Brief;
 use crate::change::Change;
 use crate::clocks::target_at;
 use crate::line::HistoryLine;
 use crate::notes::port_at;
-use tsp_base::act::Act;
 use tsp_base::alarm::Alarm;
-use tsp_base::datagram::Datagram;
 use tsp_base::place::{PeerId, Place, Port};
 use tsp_base::stamp::Stamp;
 
@@ -44,11 +43,11 @@ pub(crate) fn is_going_after(line: &HistoryLine, node: u32, port: Port, keep: bo
     if line.node != node {
         return keep;
     }
-    match &line.act {
-        Some(Act::Boot) => false,
-        Some(Act::Become(_) | Act::Ring(Alarm::Close) | Act::Late(Alarm::Close) | Act::Abandon) =>
+    match line.act.brief() {
+        Brief::Boot => false,
+        Brief::Become(_) | Brief::Ring(Alarm::Close) | Brief::Late(Alarm::Close) | Brief::Abandon =>
             keep && line.port.0 != port.0,
-        Some(Act::Arm(Alarm::Close, _)) => keep || line.port.0 == port.0,
+        Brief::Arm(Alarm::Close, _) => keep || line.port.0 == port.0,
         _ => keep,
     }
 }
@@ -71,9 +70,9 @@ fn close_change(line: &HistoryLine, node: u32, port: Port) -> Change
     if line.node != node {
         return Change::Keeps;
     }
-    match &line.act {
-        None => Change::Ends,
-        Some(Act::Close { .. }) => {
+    match line.act.brief() {
+        Brief::Mark => Change::Ends,
+        Brief::Close(_, _, _, _) => {
             if line.port.0 == port.0 {
                 Change::Begins
             } else {
@@ -113,35 +112,28 @@ fn exchange_change(line: &HistoryLine, node: u32, port: Port, p: PeerId, counter
     if line.node != node {
         return Change::Keeps;
     }
-    if let Some(Act::Boot) = &line.act {
+    let brief = line.act.brief();
+    if let Brief::Boot = brief {
         return Change::Ends;
     }
     if line.port.0 != port.0 {
         return Change::Keeps;
     }
-    match &line.act {
-        Some(
-            Act::Become(_)
-            | Act::Arm(Alarm::Close, _)
-            | Act::Ring(Alarm::Close)
-            | Act::Late(Alarm::Close)
-            | Act::Abandon,
-        ) => Change::Ends,
-        Some(Act::Post(Place::Peer(q), Datagram::Stamp(Stamp::Request { counter: c, .. }))) => {
-            if q.0 == p.0 && *c == counter {
+    match brief {
+        Brief::Become(_)
+        | Brief::Arm(Alarm::Close, _)
+        | Brief::Ring(Alarm::Close)
+        | Brief::Late(Alarm::Close)
+        | Brief::Abandon => Change::Ends,
+        Brief::PostStamp(Place::Peer(q), Stamp::Request { counter: c, .. }) => {
+            if q.0 == p.0 && c == counter {
                 Change::Begins
             } else {
                 Change::Keeps
             }
         }
-        Some(
-            Act::Sample {
-                peer,
-                counter: c,
-                ..
-            },
-        ) => {
-            if peer.0 == p.0 && *c == counter {
+        Brief::Sample(peer, c, _, _, _) => {
+            if peer.0 == p.0 && c == counter {
                 Change::Ends
             } else {
                 Change::Keeps
@@ -208,9 +200,9 @@ pub fn trip_of(lines: &[HistoryLine], line: &HistoryLine) -> i128
     ensures trip { result ≡ trip_at (line_of line.now) (history_of lines.now) }
     ensures small { IsTrip result }
 {
-    match &line.act {
-        Some(Act::Sample { peer, counter, .. }) => {
-            let asked = asked_at(lines, line.node, line.port, *peer, *counter);
+    match line.act.brief() {
+        Brief::Sample(peer, counter, _, _, _) => {
+            let asked = asked_at(lines, line.node, line.port, peer, counter);
             since(target_at(lines, line.node, line.tick), asked)
         }
         _ => 0,
@@ -236,22 +228,15 @@ pub fn best_after(
         return keep;
     }
     let here = line.port.0 == port.0;
-    match &line.act {
-        Some(Act::Boot) => None,
-        Some(Act::Become(_) | Act::Arm(Alarm::Close, _)) => { if here { None } else { keep } }
-        Some(
-            Act::Sample {
-                peer,
-                diff,
-                err,
-                ..
-            },
-        ) => {
+    match line.act.brief() {
+        Brief::Boot => None,
+        Brief::Become(_) | Brief::Arm(Alarm::Close, _) => { if here { None } else { keep } }
+        Brief::Sample(peer, _, diff, err, _) => {
             if here && peer.0 == p.0 {
                 let late = Best {
                     index,
-                    diff: *diff,
-                    err: *err,
+                    diff,
+                    err,
                     trip,
                 };
                 Some(better(keep, late))
@@ -282,9 +267,9 @@ fn forgets_samples(line: &HistoryLine, node: u32, port: Port) -> bool
     if line.node != node {
         return false;
     }
-    match &line.act {
-        Some(Act::Boot) => true,
-        Some(Act::Become(_) | Act::Arm(Alarm::Close, _)) => line.port.0 == port.0,
+    match line.act.brief() {
+        Brief::Boot => true,
+        Brief::Become(_) | Brief::Arm(Alarm::Close, _) => line.port.0 == port.0,
         _ => false,
     }
 }

@@ -7,10 +7,10 @@ ghost use Rattle.tsp_history.specs.Histories.{line_of, history_of};
 ghost use Rattle.tsp_history.specs.Holding.{Apart};
 ghost use Rattle.tsp_history.specs.Notes.{Told};
 
+use crate::brief::Brief;
 use crate::line::HistoryLine;
 use crate::notes::port_at;
 use crate::ticks::is_far;
-use tsp_base::act::Act;
 use tsp_base::constants::HOLD;
 use tsp_base::place::{PeerId, Port};
 use tsp_base::role::Role;
@@ -23,9 +23,9 @@ pub(crate) fn role_after(line: &HistoryLine, node: u32, port: Port, keep: Role) 
     if line.node != node {
         return keep;
     }
-    match &line.act {
-        Some(Act::Boot) => Role::Starting,
-        Some(Act::Become(role)) => { if line.port.0 == port.0 { *role } else { keep } }
+    match line.act.brief() {
+        Brief::Boot => Role::Starting,
+        Brief::Become(role) => { if line.port.0 == port.0 { role } else { keep } }
         _ => keep,
     }
 }
@@ -47,8 +47,8 @@ fn is_apart(line: &HistoryLine, node: u32, port: Port, tick: u64, p: PeerId) -> 
     if line.node != node || line.port != port {
         return true;
     }
-    match &line.act {
-        Some(Act::Back(q)) => *q == p || is_far(line.tick, HOLD, tick),
+    match line.act.brief() {
+        Brief::Back(q) => q == p || is_far(line.tick, HOLD, tick),
         _ => true,
     }
 }

@@ -9,11 +9,10 @@ ghost use Rattle.tsp_history.specs.Notes.{Told};
 ghost use Rattle.tsp_history.specs.PostedPlaces.{IsPlaceOf};
 ghost use Rattle.tsp_history.specs.Posts.{IsPost};
 
+use crate::brief::Brief;
 use crate::change::Change;
 use crate::line::HistoryLine;
 use crate::posts::is_acting;
-use tsp_base::act::Act;
-use tsp_base::datagram::Datagram;
 use tsp_base::place::{PeerId, Place, Port};
 
 /// What a line does to the last send of a node's port to a peer that began; with `is_open`, only to
@@ -34,24 +33,24 @@ fn send_change(line: &HistoryLine, node: u32, port: Port, p: PeerId, is_open: bo
         return Change::Keeps;
     }
     let here = line.port.0 == port.0;
-    match &line.act {
-        Some(Act::Boot) => Change::Ends,
-        Some(Act::Become(_)) => {
+    match line.act.brief() {
+        Brief::Boot => Change::Ends,
+        Brief::Become(_) => {
             if is_open && here {
                 Change::Ends
             } else {
                 Change::Keeps
             }
         }
-        Some(Act::Acked(c) | Act::Gave(c)) => {
+        Brief::Acked(c) | Brief::Gave(c) => {
             if is_open && here && c.0 == p.0 {
                 Change::Ends
             } else {
                 Change::Keeps
             }
         }
-        Some(Act::Post(Place::Peer(c), Datagram::Message(m))) => {
-            if here && c.0 == p.0 && m.kind().is_numbered() {
+        Brief::PostMessage(Place::Peer(c), kind, _, _) => {
+            if here && c.0 == p.0 && kind.is_numbered() {
                 Change::Begins
             } else {
                 Change::Keeps

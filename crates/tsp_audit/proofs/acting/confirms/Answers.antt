@@ -1,8 +1,8 @@
-use Rattle.std.proofs.Common.{◌≡◌, ◌∙◌, sym, true, false, rules}
+use Rattle.std.proofs.Common.{◌≡◌, ◌∙◌, ap, sym, true, false, rules}
 use Rattle.tsp_base.specs.declared.act.Act.TheVariants.{Acked}
 use Rattle.tsp_base.specs.History.{Acts, of, view}
 use Rattle.tsp_base.specs.SendFacts.{open_to}
-use Rattle.tsp_history.specs.Histories.{history_of, line_of}
+use Rattle.tsp_history.specs.Histories.{deed_of, history_of, line_of}
 use Rattle.tsp_history.specs.PostedPlaces.{PostedAt}
 use Rattle.tsp_audit.specs.Acting.{is_in}
 use Rattle.tsp_audit.proofs.ActLemmas.{confirmed-rest, confirmed-yes}
@@ -10,14 +10,14 @@ use Rattle.tsp_audit.proofs.acting.confirms.Goals as goal
 
 pub returns-then-contains : goal.returns-then-contains
 returns-then-contains c acted =
-    let deed : (line_of c.args.line.now).did.deed ≡ Acts (Acked c.in-Some-Acked.p) = search rules in
-    let at : PostedAt c.args.line.now.node c.args.line.now.port (history_of c.args.lines.now) (open_to c.in-Some-Acked.p (view c.args.line.now.port (of c.args.line.now.node (history_of c.args.lines.now)))) c.in-Some.number = search rules in
+    let deed : (line_of c.args.line.now).did.deed ≡ Acts (Acked c.in-Acked.p) = ap deed_of c.in-Acked.ensures.act.1 in
+    let at : PostedAt c.args.line.now.node c.args.line.now.port (history_of c.args.lines.now) (open_to c.in-Acked.p (view c.args.line.now.port (of c.args.line.now.node (history_of c.args.lines.now)))) c.in-Some.number = search rules in
     let old : is_in c.in-Some.number c.args.acted.now ≡ true = sym c.contains.ensures.value ∙ c.if-contains.true in
-    confirmed-yes (line_of c.args.line.now) (history_of c.args.lines.now) c.args.acted.now c.in-Some-Acked.p c.in-Some.number acted deed at old
+    confirmed-yes (line_of c.args.line.now) (history_of c.args.lines.now) c.args.acted.now c.in-Acked.p c.in-Some.number acted deed at old
 
 pub returns-else-contains : goal.returns-else-contains
 returns-else-contains c acted =
-    let deed : (line_of c.args.line.now).did.deed ≡ Acts (Acked c.in-Some-Acked.p) = search rules in
-    let at : PostedAt c.args.line.now.node c.args.line.now.port (history_of c.args.lines.now) (open_to c.in-Some-Acked.p (view c.args.line.now.port (of c.args.line.now.node (history_of c.args.lines.now)))) c.in-Some.number = search rules in
+    let deed : (line_of c.args.line.now).did.deed ≡ Acts (Acked c.in-Acked.p) = ap deed_of c.in-Acked.ensures.act.1 in
+    let at : PostedAt c.args.line.now.node c.args.line.now.port (history_of c.args.lines.now) (open_to c.in-Acked.p (view c.args.line.now.port (of c.args.line.now.node (history_of c.args.lines.now)))) c.in-Some.number = search rules in
     let new : is_in c.in-Some.number c.args.acted.now ≡ false = sym c.contains.ensures.value ∙ c.if-contains.false in
-    confirmed-rest (line_of c.args.line.now) (history_of c.args.lines.now) c.args.acted.now c.in-Some-Acked.p c.in-Some.number c.corrects.result acted deed at c.corrects.ensures new
+    confirmed-rest (line_of c.args.line.now) (history_of c.args.lines.now) c.args.acted.now c.in-Acked.p c.in-Some.number c.corrects.result acted deed at c.corrects.ensures new

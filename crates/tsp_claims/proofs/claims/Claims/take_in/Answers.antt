@@ -1,7 +1,11 @@
--- The event was counted, its step joined, and its node woken.
-use Rattle.std.proofs.Common.{refl}
+-- The claims were joined by the event's step.
+use Rattle.tsp_claims.specs.ClaimedHistory.{step_at}
+use Rattle.tsp_claims.specs.Listed.{up_in}
 use Rattle.tsp_claims.proofs.StandLemmas.{ClaimsStand-taken}
 use Rattle.tsp_claims.proofs.claims.Claims.take_in.Goals as goal
 
-pub returns : goal.returns
-returns c = λ header claims s. ClaimsStand-taken header claims c.args.e.now c.args.acts.now c.args.self.now _ c.take_step.new.self _ refl refl refl refl refl refl c.take_step.ensures refl refl refl refl refl c.wake.ensures s
+pub returns-clause-taken : goal.returns-clause-taken
+returns-clause-taken c header claims s =
+    let self = c.args.self.now in
+    let step = step_at self.header self.posts.items (up_in self.up.items) c.args.e.now in
+    ClaimsStand-taken header claims c.args.e.now c.args.acts.now c.in_ok-held.held self c.make_room.new.self c.join.new.self c.make_room.ensures.same c.join.ensures (c.in_ok-held.ensures self.header step c.requires.step) s

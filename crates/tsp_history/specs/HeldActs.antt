@@ -1,0 +1,88 @@
+-- Acts that are held without the names in their messages, and what they are with these.
+use Rattle.std.specs.Prelude.{◌≡◌, ℕ, true, List, Option, None, Some}
+use Rattle.tsp_base.specs.declared.act.Act.{Act}
+use Rattle.tsp_base.specs.declared.act.Act.TheVariants as acts
+use Rattle.tsp_base.specs.declared.datagram.Datagram.{Datagram}
+use Rattle.tsp_base.specs.declared.datagram.Datagram.TheVariants.{Message, Stamp}
+use Rattle.tsp_base.specs.declared.datagram.Taken.TheVariants.{Good, Bad}
+use Rattle.tsp_base.specs.declared.kind.Kind.{Kind}
+use Rattle.tsp_base.specs.declared.message.Body.{Body}
+use Rattle.tsp_base.specs.Messages.{MessageValue, body_fits}
+use Rattle.tsp_base.specs.Names.{IsName}
+use Rattle.tsp_history.specs.declared.brief.Brief.{Brief}
+use Rattle.tsp_history.specs.declared.brief.Brief.TheVariants as briefs
+
+-- a message of this kind and number, with this body and name
+abbrev pub message_of : Kind → ℕ → Body → List ℕ → MessageValue
+message_of kind number body name = record { kind = kind; number = number; body = body; name = name }
+
+-- the act, or none, that is held so, with the name in its message
+abbrev pub act_of : Brief → List ℕ → Option Act
+act_of briefs.Mark name = None
+act_of briefs.Boot name = Some acts.Boot
+act_of (briefs.TookMessage from kind number body) name = Some (acts.Took from (Good (Message (message_of kind number body name))))
+act_of (briefs.TookStamp from stamp) name = Some (acts.Took from (Good (Stamp stamp)))
+act_of (briefs.TookBad from fault) name = Some (acts.Took from (Bad fault))
+act_of (briefs.PostMessage to kind number body) name = Some (acts.Post to (Message (message_of kind number body name)))
+act_of (briefs.PostStamp to stamp) name = Some (acts.Post to (Stamp stamp))
+act_of (briefs.Become role) name = Some (acts.Become role)
+act_of (briefs.Back p) name = Some (acts.Back p)
+act_of (briefs.Backer p) name = Some (acts.Backer p)
+act_of (briefs.Quit p) name = Some (acts.Quit p)
+act_of (briefs.Arm alarm tick) name = Some (acts.Arm alarm tick)
+act_of (briefs.Ring alarm) name = Some (acts.Ring alarm)
+act_of (briefs.Late alarm) name = Some (acts.Late alarm)
+act_of (briefs.Join p) name = Some (acts.Join p)
+act_of (briefs.Leave p) name = Some (acts.Leave p)
+act_of (briefs.Rival p) name = Some (acts.Rival p)
+act_of (briefs.Acked p) name = Some (acts.Acked p)
+act_of (briefs.Gave p) name = Some (acts.Gave p)
+act_of (briefs.Sample peer counter diff err ticket) name = Some (acts.Sample peer counter diff err ticket)
+act_of (briefs.Close count lo width mean) name = Some (acts.Close count lo width mean)
+act_of (briefs.Correct amount stepped shown) name = Some (acts.Correct amount stepped shown)
+act_of briefs.Abandon name = Some acts.Abandon
+act_of (briefs.Trace on) name = Some (acts.Trace on)
+
+-- how an act, or none, is held
+abbrev pub brief_of : Option Act → Brief
+brief_of None = briefs.Mark
+brief_of (Some acts.Boot) = briefs.Boot
+brief_of (Some (acts.Took from (Good (Message m)))) = briefs.TookMessage from m.kind m.number m.body
+brief_of (Some (acts.Took from (Good (Stamp stamp)))) = briefs.TookStamp from stamp
+brief_of (Some (acts.Took from (Bad fault))) = briefs.TookBad from fault
+brief_of (Some (acts.Post to (Message m))) = briefs.PostMessage to m.kind m.number m.body
+brief_of (Some (acts.Post to (Stamp stamp))) = briefs.PostStamp to stamp
+brief_of (Some (acts.Become role)) = briefs.Become role
+brief_of (Some (acts.Back p)) = briefs.Back p
+brief_of (Some (acts.Backer p)) = briefs.Backer p
+brief_of (Some (acts.Quit p)) = briefs.Quit p
+brief_of (Some (acts.Arm alarm tick)) = briefs.Arm alarm tick
+brief_of (Some (acts.Ring alarm)) = briefs.Ring alarm
+brief_of (Some (acts.Late alarm)) = briefs.Late alarm
+brief_of (Some (acts.Join p)) = briefs.Join p
+brief_of (Some (acts.Leave p)) = briefs.Leave p
+brief_of (Some (acts.Rival p)) = briefs.Rival p
+brief_of (Some (acts.Acked p)) = briefs.Acked p
+brief_of (Some (acts.Gave p)) = briefs.Gave p
+brief_of (Some (acts.Sample peer counter diff err ticket)) = briefs.Sample peer counter diff err ticket
+brief_of (Some (acts.Close count lo width mean)) = briefs.Close count lo width mean
+brief_of (Some (acts.Correct amount stepped shown)) = briefs.Correct amount stepped shown
+brief_of (Some acts.Abandon) = briefs.Abandon
+brief_of (Some (acts.Trace on)) = briefs.Trace on
+
+-- a message's body is the one that its kind carries, and its name is a name
+abbrev pub IsBrief : Brief → List ℕ → Type 0
+IsBrief (briefs.TookMessage from kind number body) name = (body_fits kind body ≡ true) × IsName name
+IsBrief (briefs.PostMessage to kind number body) name = (body_fits kind body ≡ true) × IsName name
+IsBrief _ name = Unit {0}
+
+-- the act neither took nor posted
+abbrev pub IsSilent : Act → Type 0
+IsSilent (acts.Took from taken) = ⊥
+IsSilent (acts.Post to datagram) = ⊥
+IsSilent _ = Unit {0}
+
+-- the datagram that is posted, if one is
+abbrev pub datagram_in : Option Act → Option Datagram
+datagram_in (Some (acts.Post to datagram)) = Some datagram
+datagram_in _ = None
