@@ -14,3 +14,4 @@ pub mod OneAnswer
 pub mod KeepingUp
 pub mod WholeInputs
 pub mod Gatherings
+pub mod NearFeeds
