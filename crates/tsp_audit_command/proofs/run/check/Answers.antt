@@ -8,4 +8,4 @@ returns-clause-answers g c = c.treat_gathered.ensures.answers IsDefinite-auditin
 
 pub returns-clause-complete : goal.returns-clause-complete
 returns-clause-complete g c = λ octets told limit text reads writes.
-    complete MOST_INPUT _ _ _ _ octets c.treat_gathered.result told limit text c.treat_gathered.ensures.comes (λ e. reads (c.treat_gathered.ensures.read e).0) (λ e. writes (c.treat_gathered.ensures.write e))
+    complete MOST_INPUT _ _ _ _ octets c.treat_gathered.result told limit text c.treat_gathered.ensures.comes (λ e. reads (c.treat_gathered.ensures.leaves.read e).0) (λ e. writes (c.treat_gathered.ensures.leaves.write e))
