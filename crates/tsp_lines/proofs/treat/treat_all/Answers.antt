@@ -24,7 +24,7 @@ returns-then-is_full g c =
       answers = λ definite. Comes-answers g.T.Treatment.meaning definite c.args.limit (g.S.Source.left c.args.source.now) (g.S.Source.left c.close.new.source) (g.K.Sink.written c.args.sink.now) (g.K.Sink.written c.close.new.sink) c.close.result comes;
       keeps_up = rw (sym i.4) (c.close.ensures.keeps_up _ _ _ _ i.0.2 (rw i.4 i.1));
       leaves = Leaves-since g.S.Source g.K.Sink c.args.source.now c.loop-progress.source c.close.new.source c.args.sink.now c.loop-progress.sink c.close.new.sink c.close.result i.5 i.6
-      (record { later = c.close.ensures.later; read = c.close.ensures.read; write = c.close.ensures.write; still = c.close.ensures.still; ended = c.close.ensures.ended });
+          (record { later = c.close.ensures.later; read = c.close.ensures.read; write = c.close.ensures.write; still = c.close.ensures.still; ended = c.close.ensures.ended });
     }
 
 pub returns-in-Some : goal.returns-in-Some
@@ -37,7 +37,7 @@ returns-in-Some g c =
       answers = λ definite. Comes-answers g.T.Treatment.meaning definite c.args.limit (g.S.Source.left c.args.source.now) (g.S.Source.left c.turn.new.source) (g.K.Sink.written c.args.sink.now) (g.K.Sink.written c.turn.new.sink) c.in-Some.outcome comes;
       keeps_up = rw (sym i.4) (c.turn.ensures.keeps_up _ _ _ _ i.0.2 (rw i.4 i.1));
       leaves = Leaves-since g.S.Source g.K.Sink c.args.source.now c.loop-progress.source c.turn.new.source c.args.sink.now c.loop-progress.sink c.turn.new.sink c.in-Some.outcome i.5 i.6
-      (record { later = e.later; read = λ o. e.read (ap Some o); write = λ o. e.write (ap Some o); still = e.still; ended = λ o. e.ended (ap Some o) });
+          (record { later = e.later; read = λ o. e.read (ap Some o); write = λ o. e.write (ap Some o); still = e.still; ended = λ o. e.ended (ap Some o) });
     }
 
 pub loop-progress-preserved : goal.loop-progress-preserved
