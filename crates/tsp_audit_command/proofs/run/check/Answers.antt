@@ -3,6 +3,9 @@ use Rattle.tsp_audit_command.proofs.Completes.{complete}
 use Rattle.tsp_audit_command.proofs.Definites.{IsDefinite-auditing}
 use Rattle.tsp_audit_command.proofs.run.check.Goals as goal
 
+pub returns-clause-treats : goal.returns-clause-treats
+returns-clause-treats g c = c.treat_gathered.ensures
+
 pub returns-clause-answers : goal.returns-clause-answers
 returns-clause-answers g c = c.treat_gathered.ensures.answers IsDefinite-auditing
 
