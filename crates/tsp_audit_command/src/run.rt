@@ -1,9 +1,8 @@
 //! The audit of a whole input.
-ghost use Rattle.std.specs.Prelude.{◌≡◌, ◌≢◌, ◌≤◌, ◌⊎◌, ℕ, List, length, true, false};
+ghost use Rattle.std.specs.Prelude.{◌≡◌, false};
 ghost use Rattle.tsp_audit_command.specs.Meaning.{IsAuditText, auditing};
-ghost use Rattle.tsp_io.specs.Counts.{Rose};
 ghost use Rattle.tsp_lines.specs.Answers.{Answers};
-ghost use Rattle.tsp_lines.specs.Gatherings.{ComesGathered, IsGathered};
+ghost use Rattle.tsp_lines.specs.Frames.{Completes, TreatsGathered};
 ghost use Rattle.tsp_lines.specs.declared.limits.TheConstants.{MOST_INPUT};
 
 use crate::check::Check;
@@ -30,26 +29,12 @@ use tsp_lines::treat_gathered::treat_gathered;
 /// (`OutOfMemory`).
 pub fn check<S: Source, K: Sink>(alloc: Global, source: &mut S, sink: &mut K) -> Outcome
     requires open { S.ended source.old ≡ false }
-    ensures comes { ComesGathered auditing MOST_INPUT (S.left source.old) (S.left source.new)
-        (K.written sink.old) (K.written sink.new) result }
+    ensures treats { TreatsGathered S.Source K.Sink auditing MOST_INPUT source.old source.new sink.old
+        sink.new result }
     ensures answers { Answers auditing MOST_INPUT (S.left source.old) (K.written sink.old)
         (K.written sink.new) result }
-    ensures gathered { result ≢ Outcome.ReadFault → result ≢ Outcome.OutOfMemory
-        → IsGathered MOST_INPUT (S.left source.old) (S.left source.new) (S.ended source.new) }
-    ensures unwritten { result ≡ Outcome.ReadFault → sink.new ≡ sink.old }
-    ensures later { (S.faults source.old ≤ S.faults source.new)
-        × (K.faults sink.old ≤ K.faults sink.new) }
-    ensures read { result ≡ Outcome.ReadFault → Rose (S.faults source.old) (S.faults source.new)
-        × (S.ended source.new ≡ false) }
-    ensures write { result ≡ Outcome.WriteFault → Rose (K.faults sink.old) (K.faults sink.new) }
-    ensures still { (result ≢ Outcome.ReadFault → S.faults source.new ≡ S.faults source.old)
-        × (result ≢ Outcome.WriteFault → K.faults sink.new ≡ K.faults sink.old) }
-    ensures ended { result ≡ Outcome.Ok → S.ended source.new ≡ true }
-    ensures complete { (octets : List ℕ) → S.left source.old ≡ Some octets
-        → length octets ≤ MOST_INPUT → IsAuditText octets
-        → ¬ Rose (S.faults source.old) (S.faults source.new)
-        → ¬ Rose (K.faults sink.old) (K.faults sink.new) → (result ≡ Outcome.Ok)
-        ⊎ (result ≡ Outcome.OutOfMemory) }
+    ensures complete { Completes S.Source K.Sink IsAuditText MOST_INPUT source.old source.new
+        sink.old sink.new result }
 {
     treat_gathered(alloc, MOST_INPUT, source, sink, &mut Check::new(alloc))
 }

@@ -1,8 +1,6 @@
 //! The conversion of a whole input.
-ghost use Rattle.std.specs.Prelude.{◌≡◌, ◌≢◌, ◌≤◌, ◌⊎◌, ℕ, List, length, true, false};
-ghost use Rattle.tsp_io.specs.Counts.{Rose};
-ghost use Rattle.tsp_lines.specs.Answers.{Answers};
-ghost use Rattle.tsp_lines.specs.Outcomes.{Comes, KeepsUp};
+ghost use Rattle.std.specs.Prelude.{◌≡◌, false};
+ghost use Rattle.tsp_lines.specs.Frames.{Accepts};
 ghost use Rattle.tsp_lines.specs.declared.limits.TheConstants.{MOST_INPUT};
 ghost use Rattle.tsp_convert.specs.Shows.{AreHexLines, show_meaning};
 ghost use Rattle.tsp_convert.specs.Packs.{AreMessageLines, pack_meaning};
@@ -23,25 +21,8 @@ use tsp_lines::treat::{Outcome, treat_all};
 /// fails or out of memory.
 pub fn show<S: Source, K: Sink>(alloc: Global, source: &mut S, sink: &mut K) -> Outcome
     requires open { S.ended source.old ≡ false }
-    ensures comes { Comes show_meaning MOST_INPUT (S.left source.old) (S.left source.new)
-        (K.written sink.old) (K.written sink.new) result }
-    ensures answers { Answers show_meaning MOST_INPUT (S.left source.old) (K.written sink.old)
-        (K.written sink.new) result }
-    ensures keeps_up { KeepsUp show_meaning MOST_INPUT (S.left source.old) (S.left source.new)
-        (K.written sink.old) (K.written sink.new) }
-    ensures later { (S.faults source.old ≤ S.faults source.new)
-        × (K.faults sink.old ≤ K.faults sink.new) }
-    ensures read { result ≡ Outcome.ReadFault → Rose (S.faults source.old) (S.faults source.new)
-        × (S.ended source.new ≡ false) }
-    ensures write { result ≡ Outcome.WriteFault → Rose (K.faults sink.old) (K.faults sink.new) }
-    ensures still { (result ≢ Outcome.ReadFault → S.faults source.new ≡ S.faults source.old)
-        × (result ≢ Outcome.WriteFault → K.faults sink.new ≡ K.faults sink.old) }
-    ensures ended { result ≡ Outcome.Ok → S.ended source.new ≡ true }
-    ensures complete { (octets : List ℕ) → S.left source.old ≡ Some octets
-        → length octets ≤ MOST_INPUT → AreHexLines octets
-        → ¬ Rose (S.faults source.old) (S.faults source.new)
-        → ¬ Rose (K.faults sink.old) (K.faults sink.new) → (result ≡ Outcome.Ok)
-        ⊎ (result ≡ Outcome.OutOfMemory) }
+    ensures { Accepts S.Source K.Sink show_meaning AreHexLines MOST_INPUT source.old source.new
+        sink.old sink.new result }
 {
     treat_all(alloc, MOST_INPUT, source, sink, &mut Show::new())
 }
@@ -53,25 +34,8 @@ pub fn show<S: Source, K: Sink>(alloc: Global, source: &mut S, sink: &mut K) -> 
 /// write fails or out of memory.
 pub fn pack<S: Source, K: Sink>(alloc: Global, source: &mut S, sink: &mut K) -> Outcome
     requires open { S.ended source.old ≡ false }
-    ensures comes { Comes pack_meaning MOST_INPUT (S.left source.old) (S.left source.new)
-        (K.written sink.old) (K.written sink.new) result }
-    ensures answers { Answers pack_meaning MOST_INPUT (S.left source.old) (K.written sink.old)
-        (K.written sink.new) result }
-    ensures keeps_up { KeepsUp pack_meaning MOST_INPUT (S.left source.old) (S.left source.new)
-        (K.written sink.old) (K.written sink.new) }
-    ensures later { (S.faults source.old ≤ S.faults source.new)
-        × (K.faults sink.old ≤ K.faults sink.new) }
-    ensures read { result ≡ Outcome.ReadFault → Rose (S.faults source.old) (S.faults source.new)
-        × (S.ended source.new ≡ false) }
-    ensures write { result ≡ Outcome.WriteFault → Rose (K.faults sink.old) (K.faults sink.new) }
-    ensures still { (result ≢ Outcome.ReadFault → S.faults source.new ≡ S.faults source.old)
-        × (result ≢ Outcome.WriteFault → K.faults sink.new ≡ K.faults sink.old) }
-    ensures ended { result ≡ Outcome.Ok → S.ended source.new ≡ true }
-    ensures complete { (octets : List ℕ) → S.left source.old ≡ Some octets
-        → length octets ≤ MOST_INPUT → AreMessageLines octets
-        → ¬ Rose (S.faults source.old) (S.faults source.new)
-        → ¬ Rose (K.faults sink.old) (K.faults sink.new) → (result ≡ Outcome.Ok)
-        ⊎ (result ≡ Outcome.OutOfMemory) }
+    ensures { Accepts S.Source K.Sink pack_meaning AreMessageLines MOST_INPUT source.old source.new
+        sink.old sink.new result }
 {
     treat_all(alloc, MOST_INPUT, source, sink, &mut Pack::new())
 }

@@ -14,3 +14,5 @@ pub mod OneAnswer
 pub mod KeepingUp
 pub mod WholeInputs
 pub mod Gatherings
+pub mod Leaving
+pub mod NearFeeds

@@ -7,3 +7,4 @@ pub mod Outcomes
 pub mod Answers
 pub mod Definite
 pub mod Turns
+pub mod Frames

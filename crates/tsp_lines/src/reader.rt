@@ -8,9 +8,9 @@ ghost use Rattle.tsp_lines.specs.Lines.{NoFeed, close, IsOver};
 ghost use Rattle.tsp_lines.specs.Readings.{IsNext, IsPassed, long_of, is_over, IsFill, meets_end, count_of, is_end};
 
 use crate::buffer::refill;
+use crate::line_feed::first_feed;
 use crate::next::{Fill, Next};
 use arrayvec::ArrayVec;
-use memchr::memchr;
 use std::alloc::{AllocError, Global};
 use std::marker::Model;
 use tsp_io::source::{Got, Source};
@@ -131,7 +131,7 @@ impl LineReader {
             self.now.held)) }
         ensures within { IfSome result (λ place. place < length self.now.held) }
     {
-        memchr(b'\n', &self.buf[self.at..self.end])
+        first_feed(&self.buf[self.at..self.end])
     }
 
     /// Takes the line that ends at this place of what is held.

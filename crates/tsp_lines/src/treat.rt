@@ -1,9 +1,6 @@
 //! The treatment of a whole input.
-ghost use Rattle.std.specs.Prelude.{◌≡◌, ◌≢◌, ◌≤◌, ◌<◌, ◌^◌, [], true, false};
-ghost use Rattle.tsp_io.specs.Counts.{Rose};
-ghost use Rattle.tsp_lines.specs.Answers.{Answers};
-ghost use Rattle.tsp_lines.specs.Definite.{IsDefinite};
-ghost use Rattle.tsp_lines.specs.Outcomes.{Comes, KeepsUp};
+ghost use Rattle.std.specs.Prelude.{◌≡◌, ◌<◌, ◌^◌, [], false};
+ghost use Rattle.tsp_lines.specs.Frames.{Treats};
 
 use crate::output::Output;
 use crate::progress::Progress;
@@ -49,21 +46,8 @@ pub fn treat_all<S: Source, K: Sink, T: Treatment>(
     requires limit { limit < 2 ^ 63 }
     requires begin { T.stands treatment.old [] }
     requires nothing { T.meaning.accepts [] [] }
-    ensures comes { Comes T.meaning limit (S.left source.old) (S.left source.new)
-        (K.written sink.old) (K.written sink.new) result }
-    ensures answers { IsDefinite T.meaning
-        → Answers T.meaning limit (S.left source.old) (K.written sink.old) (K.written sink.new)
+    ensures { Treats S.Source K.Sink T.meaning limit source.old source.new sink.old sink.new
         result }
-    ensures keeps_up { KeepsUp T.meaning limit (S.left source.old) (S.left source.new)
-        (K.written sink.old) (K.written sink.new) }
-    ensures later { (S.faults source.old ≤ S.faults source.new)
-        × (K.faults sink.old ≤ K.faults sink.new) }
-    ensures read { result ≡ Outcome.ReadFault → Rose (S.faults source.old) (S.faults source.new)
-        × (S.ended source.new ≡ false) }
-    ensures write { result ≡ Outcome.WriteFault → Rose (K.faults sink.old) (K.faults sink.new) }
-    ensures still { (result ≢ Outcome.ReadFault → S.faults source.new ≡ S.faults source.old)
-        × (result ≢ Outcome.WriteFault → K.faults sink.new ≡ K.faults sink.old) }
-    ensures ended { result ≡ Outcome.Ok → S.ended source.new ≡ true }
 {
     let (Ok(reader), Ok(output)) = (LineReader::new(alloc, limit), Output::new(alloc)) else {
         return Outcome::OutOfMemory;

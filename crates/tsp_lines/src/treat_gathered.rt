@@ -1,9 +1,6 @@
 //! The treatment of an input that is read whole first.
-ghost use Rattle.std.specs.Prelude.{◌≡◌, ◌≢◌, ◌≤◌, ◌<◌, ◌^◌, [], true, false};
-ghost use Rattle.tsp_io.specs.Counts.{Rose};
-ghost use Rattle.tsp_lines.specs.Answers.{Answers};
-ghost use Rattle.tsp_lines.specs.Definite.{IsDefinite};
-ghost use Rattle.tsp_lines.specs.Gatherings.{ComesGathered, IsGathered};
+ghost use Rattle.std.specs.Prelude.{◌≡◌, ◌<◌, ◌^◌, [], false};
+ghost use Rattle.tsp_lines.specs.Frames.{TreatsGathered};
 
 use crate::gather::{Ungathered, gather};
 use crate::treat::{Outcome, treat_all};
@@ -27,22 +24,8 @@ pub fn treat_gathered<S: Source, K: Sink, T: Treatment>(
     requires limit { limit < 2 ^ 63 }
     requires begin { T.stands treatment.old [] }
     requires nothing { T.meaning.accepts [] [] }
-    ensures comes { ComesGathered T.meaning limit (S.left source.old) (S.left source.new)
-        (K.written sink.old) (K.written sink.new) result }
-    ensures answers { IsDefinite T.meaning
-        → Answers T.meaning limit (S.left source.old) (K.written sink.old) (K.written sink.new)
-        result }
-    ensures gathered { result ≢ Outcome.ReadFault → result ≢ Outcome.OutOfMemory
-        → IsGathered limit (S.left source.old) (S.left source.new) (S.ended source.new) }
-    ensures unwritten { result ≡ Outcome.ReadFault → sink.new ≡ sink.old }
-    ensures later { (S.faults source.old ≤ S.faults source.new)
-        × (K.faults sink.old ≤ K.faults sink.new) }
-    ensures read { result ≡ Outcome.ReadFault → Rose (S.faults source.old) (S.faults source.new)
-        × (S.ended source.new ≡ false) }
-    ensures write { result ≡ Outcome.WriteFault → Rose (K.faults sink.old) (K.faults sink.new) }
-    ensures still { (result ≢ Outcome.ReadFault → S.faults source.new ≡ S.faults source.old)
-        × (result ≢ Outcome.WriteFault → K.faults sink.new ≡ K.faults sink.old) }
-    ensures ended { result ≡ Outcome.Ok → S.ended source.new ≡ true }
+    ensures { TreatsGathered S.Source K.Sink T.meaning limit source.old source.new sink.old
+        sink.new result }
 {
     match gather(alloc, limit, source) {
         Ok(mut gathered) => treat_all(alloc, limit, &mut gathered, sink, treatment),

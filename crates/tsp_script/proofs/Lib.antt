@@ -5,8 +5,10 @@ pub mod Apart
 pub mod Bodies
 pub mod Cuts
 pub mod Digits
+pub mod EightDigits
 pub mod EventLines
 pub mod HeadLines
+pub mod HexDigits
 pub mod KindWords
 pub mod Lengths
 pub mod MessageLengths
@@ -17,6 +19,7 @@ pub mod NodeNames
 pub mod OneEvent
 pub mod OneHead
 pub mod Outcomes
+pub mod PairDigits
 pub mod PlainLines
 pub mod Ports
 pub mod StormDraws

@@ -7,3 +7,4 @@ pub mod Words
 pub mod Storms
 pub mod ActLines
 pub mod Verbs
+pub mod Eights

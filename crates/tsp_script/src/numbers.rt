@@ -8,6 +8,9 @@ ghost use Rattle.arrayvec.specs.ArrayVec.{array_vec_len};
 ghost use Rattle.tsp_script.specs.Texts.{space};
 ghost use Rattle.hex.specs.Hex.{decode_of, encode_lower};
 
+use crate::decimals::{append_long, append_middle};
+use crate::eights::eight_digits;
+use crate::hexes::value_of;
 use crate::words::{cut, mark_at};
 use arrayvec::ArrayVec;
 use itoa::Buffer;
@@ -31,11 +34,10 @@ pub fn append_number(out: &mut ArrayVec<u8, 1024>, number: u64)
     ensures text { out.new.items ≡ out.old.items ++ decimal number }
     ensures short { array_vec_len out.new ≤ array_vec_len out.old + 20 }
 {
-    if number < 10 {
-        out.push(b'0' + number as u8);
-    } else if number < 100 {
-        out.push(b'0' + (number / 10) as u8);
-        out.push(b'0' + (number % 10) as u8);
+    if number < 100_000_000 {
+        append_middle(out, number);
+    } else if number < 10_000_000_000_000_000 {
+        append_long(out, number);
     } else {
         append_digits(out, number);
     }
@@ -151,9 +153,10 @@ fn digits_on(front: u64, digits: &[u8]) -> (u64, usize)
     ensures number { decimal result.0 ≡ decimal front ++ take result.1 digits.now }
     ensures count { result.1 ≤ length digits.now }
 {
+    let (start, from) = eight_on(front, digits);
     let most = digits.len().min(RUN);
-    let mut number = front;
-    for place in 0..most {
+    let mut number = start;
+    for place in from..most {
         let digit = digits[place];
         if digit < b'0' || digit > b'9' {
             return (number, place);
@@ -161,6 +164,23 @@ fn digits_on(front: u64, digits: &[u8]) -> (u64, usize)
         number = number * 10 + (digit as u64 - 48);
     }
     (number, most)
+}
+
+/// The same, of the first eight of these or none.
+#[inline(always)]
+fn eight_on(front: u64, digits: &[u8]) -> (u64, usize)
+    requires { (0 < front) × (front < 10) }
+    ensures number { decimal result.0 ≡ decimal front ++ take result.1 digits.now }
+    ensures size { (0 < result.0) × (result.0 < 10 ^ (result.1 + 1)) }
+    ensures count { (result.1 ≤ length digits.now) × (result.1 ≤ 8) }
+{
+    if digits.len() < 8 {
+        return (front, 0);
+    }
+    match eight_digits(digits) {
+        Some(eight) => (front * 100_000_000 + eight, 8),
+        None => (front, 0),
+    }
 }
 
 /// The same as `number_of`, of a word of any length.
@@ -239,9 +259,20 @@ pub fn octets_in(line: &[u8], buffer: &mut [u8; 512]) -> Option<usize>
     ensures found { IfSome result (λ n. (n ≤ 512) × (decode_of line.now ≡ Ok (take n buffer.new))) }
     ensures none { IfNone result (IsErr (decode_of line.now)) }
 {
-    let count = line.len() / 2;
-    if hex::decode_to_slice(line, &mut buffer[..count]).is_err() {
+    if line.len() % 2 == 1 {
         return None;
+    }
+    let count = line.len() / 2;
+    for place in 0..count {
+        let high = value_of(line[2 * place]);
+        let low = value_of(line[2 * place + 1]);
+        if high > 15 {
+            return None;
+        }
+        if low > 15 {
+            return None;
+        }
+        buffer[place] = high * 16 + low;
     }
     Some(count)
 }

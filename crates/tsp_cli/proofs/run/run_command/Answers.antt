@@ -7,7 +7,7 @@ use Rattle.tsp_cli.proofs.run.run_command.Goals as goal
 
 pub returns-in-Replay-clause-does : goal.returns-in-Replay-clause-does
 returns-in-Replay-clause-does g c = rw c.in-Replay.is
-    (Runs-treated Replay _ _ _ _ _ _ _ _ _ c.replay.result c.of.result c.of.ensures c.replay.ensures.comes c.replay.ensures.answers c.replay.ensures.keeps_up c.replay.ensures.complete (λ e. (c.replay.ensures.read e).0) c.replay.ensures.write c.replay.ensures.ended)
+    (Runs-treated Replay _ _ _ _ _ _ _ _ _ c.replay.result c.of.result c.of.ensures c.replay.ensures.comes c.replay.ensures.answers c.replay.ensures.keeps_up c.replay.ensures.complete (λ e. (c.replay.ensures.leaves.read e).0) c.replay.ensures.leaves.write c.replay.ensures.leaves.ended)
 
 pub returns-in-Replay-clause-untouched : goal.returns-in-Replay-clause-untouched
 returns-in-Replay-clause-untouched g c = rw c.in-Replay.is (refl, refl)
@@ -16,17 +16,17 @@ pub returns-in-Replay-clause-link : goal.returns-in-Replay-clause-link
 returns-in-Replay-clause-link g c = unused_link _ _ _ _ (λ e. status_unlinked c.replay.result (sym c.of.ensures ∙ e))
 
 pub returns-in-Replay-clause-read : goal.returns-in-Replay-clause-read
-returns-in-Replay-clause-read g c = read_counts c.replay.result c.of.result _ _ _ c.of.ensures c.replay.ensures.later.0 c.replay.ensures.read c.replay.ensures.still.0
+returns-in-Replay-clause-read g c = read_counts c.replay.result c.of.result _ _ _ c.of.ensures c.replay.ensures.leaves.later.0 c.replay.ensures.leaves.read c.replay.ensures.leaves.still.0
 
 pub returns-in-Replay-clause-unended : goal.returns-in-Replay-clause-unended
-returns-in-Replay-clause-unended g c = read_open c.replay.result c.of.result _ _ _ c.of.ensures c.replay.ensures.read
+returns-in-Replay-clause-unended g c = read_open c.replay.result c.of.result _ _ _ c.of.ensures c.replay.ensures.leaves.read
 
 pub returns-in-Replay-clause-write : goal.returns-in-Replay-clause-write
-returns-in-Replay-clause-write g c = write_counts c.replay.result c.of.result _ _ c.of.ensures c.replay.ensures.later.1 c.replay.ensures.write c.replay.ensures.still.1
+returns-in-Replay-clause-write g c = write_counts c.replay.result c.of.result _ _ c.of.ensures c.replay.ensures.leaves.later.1 c.replay.ensures.leaves.write c.replay.ensures.leaves.still.1
 
 pub returns-in-Show-clause-does : goal.returns-in-Show-clause-does
 returns-in-Show-clause-does g c = rw c.in-Show.is
-    (Runs-treated Show _ _ _ _ _ _ _ _ _ c.show.result c.of-in-Show.result c.of-in-Show.ensures c.show.ensures.comes c.show.ensures.answers c.show.ensures.keeps_up c.show.ensures.complete (λ e. (c.show.ensures.read e).0) c.show.ensures.write c.show.ensures.ended)
+    (Runs-treated Show _ _ _ _ _ _ _ _ _ c.show.result c.of-in-Show.result c.of-in-Show.ensures c.show.ensures.comes c.show.ensures.answers c.show.ensures.keeps_up c.show.ensures.complete (λ e. (c.show.ensures.leaves.read e).0) c.show.ensures.leaves.write c.show.ensures.leaves.ended)
 
 pub returns-in-Show-clause-untouched : goal.returns-in-Show-clause-untouched
 returns-in-Show-clause-untouched g c = rw c.in-Show.is (refl, refl)
@@ -35,17 +35,17 @@ pub returns-in-Show-clause-link : goal.returns-in-Show-clause-link
 returns-in-Show-clause-link g c = unused_link _ _ _ _ (λ e. status_unlinked c.show.result (sym c.of-in-Show.ensures ∙ e))
 
 pub returns-in-Show-clause-read : goal.returns-in-Show-clause-read
-returns-in-Show-clause-read g c = read_counts c.show.result c.of-in-Show.result _ _ _ c.of-in-Show.ensures c.show.ensures.later.0 c.show.ensures.read c.show.ensures.still.0
+returns-in-Show-clause-read g c = read_counts c.show.result c.of-in-Show.result _ _ _ c.of-in-Show.ensures c.show.ensures.leaves.later.0 c.show.ensures.leaves.read c.show.ensures.leaves.still.0
 
 pub returns-in-Show-clause-unended : goal.returns-in-Show-clause-unended
-returns-in-Show-clause-unended g c = read_open c.show.result c.of-in-Show.result _ _ _ c.of-in-Show.ensures c.show.ensures.read
+returns-in-Show-clause-unended g c = read_open c.show.result c.of-in-Show.result _ _ _ c.of-in-Show.ensures c.show.ensures.leaves.read
 
 pub returns-in-Show-clause-write : goal.returns-in-Show-clause-write
-returns-in-Show-clause-write g c = write_counts c.show.result c.of-in-Show.result _ _ c.of-in-Show.ensures c.show.ensures.later.1 c.show.ensures.write c.show.ensures.still.1
+returns-in-Show-clause-write g c = write_counts c.show.result c.of-in-Show.result _ _ c.of-in-Show.ensures c.show.ensures.leaves.later.1 c.show.ensures.leaves.write c.show.ensures.leaves.still.1
 
 pub returns-in-Pack-clause-does : goal.returns-in-Pack-clause-does
 returns-in-Pack-clause-does g c = rw c.in-Pack.is
-    (Runs-treated Pack _ _ _ _ _ _ _ _ _ c.pack.result c.of-in-Pack.result c.of-in-Pack.ensures c.pack.ensures.comes c.pack.ensures.answers c.pack.ensures.keeps_up c.pack.ensures.complete (λ e. (c.pack.ensures.read e).0) c.pack.ensures.write c.pack.ensures.ended)
+    (Runs-treated Pack _ _ _ _ _ _ _ _ _ c.pack.result c.of-in-Pack.result c.of-in-Pack.ensures c.pack.ensures.comes c.pack.ensures.answers c.pack.ensures.keeps_up c.pack.ensures.complete (λ e. (c.pack.ensures.leaves.read e).0) c.pack.ensures.leaves.write c.pack.ensures.leaves.ended)
 
 pub returns-in-Pack-clause-untouched : goal.returns-in-Pack-clause-untouched
 returns-in-Pack-clause-untouched g c = rw c.in-Pack.is (refl, refl)
@@ -54,17 +54,17 @@ pub returns-in-Pack-clause-link : goal.returns-in-Pack-clause-link
 returns-in-Pack-clause-link g c = unused_link _ _ _ _ (λ e. status_unlinked c.pack.result (sym c.of-in-Pack.ensures ∙ e))
 
 pub returns-in-Pack-clause-read : goal.returns-in-Pack-clause-read
-returns-in-Pack-clause-read g c = read_counts c.pack.result c.of-in-Pack.result _ _ _ c.of-in-Pack.ensures c.pack.ensures.later.0 c.pack.ensures.read c.pack.ensures.still.0
+returns-in-Pack-clause-read g c = read_counts c.pack.result c.of-in-Pack.result _ _ _ c.of-in-Pack.ensures c.pack.ensures.leaves.later.0 c.pack.ensures.leaves.read c.pack.ensures.leaves.still.0
 
 pub returns-in-Pack-clause-unended : goal.returns-in-Pack-clause-unended
-returns-in-Pack-clause-unended g c = read_open c.pack.result c.of-in-Pack.result _ _ _ c.of-in-Pack.ensures c.pack.ensures.read
+returns-in-Pack-clause-unended g c = read_open c.pack.result c.of-in-Pack.result _ _ _ c.of-in-Pack.ensures c.pack.ensures.leaves.read
 
 pub returns-in-Pack-clause-write : goal.returns-in-Pack-clause-write
-returns-in-Pack-clause-write g c = write_counts c.pack.result c.of-in-Pack.result _ _ c.of-in-Pack.ensures c.pack.ensures.later.1 c.pack.ensures.write c.pack.ensures.still.1
+returns-in-Pack-clause-write g c = write_counts c.pack.result c.of-in-Pack.result _ _ c.of-in-Pack.ensures c.pack.ensures.leaves.later.1 c.pack.ensures.leaves.write c.pack.ensures.leaves.still.1
 
 pub returns-in-Icmp-clause-does : goal.returns-in-Icmp-clause-does
 returns-in-Icmp-clause-does g c = rw c.in-Icmp.is
-    (Runs-treated Icmp _ _ _ _ _ _ _ _ _ c.average.result c.of-in-Icmp.result c.of-in-Icmp.ensures c.average.ensures.comes c.average.ensures.answers c.average.ensures.keeps_up c.average.ensures.complete (λ e. (c.average.ensures.read e).0) c.average.ensures.write c.average.ensures.ended)
+    (Runs-treated Icmp _ _ _ _ _ _ _ _ _ c.average.result c.of-in-Icmp.result c.of-in-Icmp.ensures c.average.ensures.comes c.average.ensures.answers c.average.ensures.keeps_up c.average.ensures.complete (λ e. (c.average.ensures.leaves.read e).0) c.average.ensures.leaves.write c.average.ensures.leaves.ended)
 
 pub returns-in-Icmp-clause-untouched : goal.returns-in-Icmp-clause-untouched
 returns-in-Icmp-clause-untouched g c = rw c.in-Icmp.is (refl, refl)
@@ -73,13 +73,13 @@ pub returns-in-Icmp-clause-link : goal.returns-in-Icmp-clause-link
 returns-in-Icmp-clause-link g c = unused_link _ _ _ _ (λ e. status_unlinked c.average.result (sym c.of-in-Icmp.ensures ∙ e))
 
 pub returns-in-Icmp-clause-read : goal.returns-in-Icmp-clause-read
-returns-in-Icmp-clause-read g c = read_counts c.average.result c.of-in-Icmp.result _ _ _ c.of-in-Icmp.ensures c.average.ensures.later.0 c.average.ensures.read c.average.ensures.still.0
+returns-in-Icmp-clause-read g c = read_counts c.average.result c.of-in-Icmp.result _ _ _ c.of-in-Icmp.ensures c.average.ensures.leaves.later.0 c.average.ensures.leaves.read c.average.ensures.leaves.still.0
 
 pub returns-in-Icmp-clause-unended : goal.returns-in-Icmp-clause-unended
-returns-in-Icmp-clause-unended g c = read_open c.average.result c.of-in-Icmp.result _ _ _ c.of-in-Icmp.ensures c.average.ensures.read
+returns-in-Icmp-clause-unended g c = read_open c.average.result c.of-in-Icmp.result _ _ _ c.of-in-Icmp.ensures c.average.ensures.leaves.read
 
 pub returns-in-Icmp-clause-write : goal.returns-in-Icmp-clause-write
-returns-in-Icmp-clause-write g c = write_counts c.average.result c.of-in-Icmp.result _ _ c.of-in-Icmp.ensures c.average.ensures.later.1 c.average.ensures.write c.average.ensures.still.1
+returns-in-Icmp-clause-write g c = write_counts c.average.result c.of-in-Icmp.result _ _ c.of-in-Icmp.ensures c.average.ensures.leaves.later.1 c.average.ensures.leaves.write c.average.ensures.leaves.still.1
 
 pub run_daemon-requires : goal.run_daemon-requires
 run_daemon-requires g c = rw c.in-Serve.is at c.requires.command
@@ -122,19 +122,19 @@ returns-in-Storm-clause-unended g c = λ e. absurd (c.run_storm.ensures.unread e
 
 pub returns-in-Audit-clause-does : goal.returns-in-Audit-clause-does
 returns-in-Audit-clause-does g c = rw c.in-Audit.is
-    (RunsAudit-treated _ _ _ _ _ _ _ _ _ c.check.result c.of-in-Audit.result c.of-in-Audit.ensures c.check.ensures.comes c.check.ensures.answers c.check.ensures.complete c.check.ensures.gathered (λ e. (c.check.ensures.read e).0) c.check.ensures.write c.check.ensures.ended)
+    (RunsAudit-treated _ _ _ _ _ _ _ _ _ c.check.result c.of-in-Audit.result c.of-in-Audit.ensures c.check.ensures.treats.comes c.check.ensures.answers c.check.ensures.complete c.check.ensures.treats.gathered (λ e. (c.check.ensures.treats.leaves.read e).0) c.check.ensures.treats.leaves.write c.check.ensures.treats.leaves.ended)
 
 pub returns-in-Audit-clause-link : goal.returns-in-Audit-clause-link
 returns-in-Audit-clause-link g c = unused_link _ _ _ _ (λ e. status_unlinked c.check.result (sym c.of-in-Audit.ensures ∙ e))
 
 pub returns-in-Audit-clause-read : goal.returns-in-Audit-clause-read
-returns-in-Audit-clause-read g c = read_counts c.check.result c.of-in-Audit.result _ _ _ c.of-in-Audit.ensures c.check.ensures.later.0 c.check.ensures.read c.check.ensures.still.0
+returns-in-Audit-clause-read g c = read_counts c.check.result c.of-in-Audit.result _ _ _ c.of-in-Audit.ensures c.check.ensures.treats.leaves.later.0 c.check.ensures.treats.leaves.read c.check.ensures.treats.leaves.still.0
 
 pub returns-in-Audit-clause-unended : goal.returns-in-Audit-clause-unended
-returns-in-Audit-clause-unended g c = read_open c.check.result c.of-in-Audit.result _ _ _ c.of-in-Audit.ensures c.check.ensures.read
+returns-in-Audit-clause-unended g c = read_open c.check.result c.of-in-Audit.result _ _ _ c.of-in-Audit.ensures c.check.ensures.treats.leaves.read
 
 pub returns-in-Audit-clause-write : goal.returns-in-Audit-clause-write
-returns-in-Audit-clause-write g c = write_counts c.check.result c.of-in-Audit.result _ _ c.of-in-Audit.ensures c.check.ensures.later.1 c.check.ensures.write c.check.ensures.still.1
+returns-in-Audit-clause-write g c = write_counts c.check.result c.of-in-Audit.result _ _ c.of-in-Audit.ensures c.check.ensures.treats.leaves.later.1 c.check.ensures.treats.leaves.write c.check.ensures.treats.leaves.still.1
 
 pub returns-in-Audit-clause-untouched : goal.returns-in-Audit-clause-untouched
 returns-in-Audit-clause-untouched g c = rw c.in-Audit.is (refl, refl)

@@ -1,0 +1,7 @@
+use Rattle.std.proofs.Common.{arith, refl}
+use Rattle.std.proofs.lemmas.Nat.{and_le_r}
+use Rattle.tsp_script.proofs.EightDigits.{joined_value}
+use Rattle.tsp_script.proofs.eights.joined.Goals as goal
+
+pub returns : goal.returns
+returns c = λ a b d e f g h i a' b' d' e' f' g' h' i' is. joined_value a b d e f g h i c.args.word _ _ a' b' d' e' f' g' h' i' is refl refl
