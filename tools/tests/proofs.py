@@ -2,7 +2,8 @@
 """Compares docs/PROOFS.md and docs/RELIABILITY.md with the crates: each crate has its row in the first, and what a row names in parentheses is there.
 
 In `a`, `b` of `f`, `g` each of a and b is a clause of one of the calls f and g, or a call of the type f. A name alone is a clause, a
-call, a definition, a lemma or a file of the row's crate; a definition may be of another crate. In the second, the last three cells of a row
+call, a definition, a lemma or a file of the row's crate; a definition may be of another crate. Where a clause is a record, each fact of
+the record counts as a clause. In the second, the last three cells of a row
 are crates, calls and clauses: each crate has one of the calls, each call is there, and each clause is one of them; 'the one' is a clause without a name.
 """
 import re
@@ -15,6 +16,9 @@ GROUP = re.compile(r"\(([^()]*`[^()]*)\)")
 NAME = re.compile(r"`([^`]+)`")
 CALL = re.compile(r"^\s*(?:pub(?:\([a-z]+\))? )?(?:ghost )?fn (\w+)", re.M)
 CLAUSE = re.compile(r"^\s*ensures (\w+) \{", re.M)
+HEAD = re.compile(r"^\s*ensures (?:\w+ )?\{ (\w+)", re.M)
+RECORD = re.compile(r"^pub record (\w+) .*\n((?:  .*\n)*)", re.M)
+FACT = re.compile(r"^  pub (\w+) :", re.M)
 
 
 def crate_names():
@@ -27,7 +31,7 @@ class Crate:
 
     def __init__(self, name):
         folder = ROOT / "crates" / name
-        self.clauses, self.unnamed, self.others = {}, {}, set()
+        self.clauses, self.unnamed, self.others, self.heads, self.records = {}, {}, set(), {}, {}
         for path in sorted((folder / "src").glob("**/*.rt")):
             text = path.read_text()
             self.others.update((path.name, path.stem))
@@ -36,9 +40,18 @@ class Crate:
             for call, after in zip(calls, calls[1:] + [None]):
                 part = text[call.end(): after.start() if after else len(text)]
                 self.clauses.setdefault(call.group(1), set()).update(CLAUSE.findall(part))
+                self.heads.setdefault(call.group(1), set()).update(HEAD.findall(part))
                 self.unnamed[call.group(1)] = self.unnamed.get(call.group(1)) or re.search(r"^\s*ensures \{", part, re.M)
         for path in sorted(folder.glob("specs/**/*.antt")) + sorted(folder.glob("proofs/**/*.antt")):
-            self.others.update(re.findall(r"^(?:abbrev |unfoldable )*pub (?:record |data )?([^ :(]+)", path.read_text(), re.M))
+            text = path.read_text()
+            self.others.update(re.findall(r"^(?:abbrev |unfoldable )*pub (?:record |data )?([^ :(]+)", text, re.M))
+            self.records.update((name, set(FACT.findall(facts))) for name, facts in RECORD.findall(text))
+
+    def add_facts(self, records):
+        """Counts the facts of records among the clauses of the calls whose clauses they are."""
+        for call, heads in self.heads.items():
+            for head in heads & records.keys():
+                self.clauses[call] |= records[head]
 
     def has(self, name):
         last = name.split("::")[-1]
@@ -88,6 +101,9 @@ def reliability(crates):
 def main():
     rows, faults, count = {}, [], 0
     crates = {name: Crate(name) for name in crate_names()}
+    records = {name: facts for crate in crates.values() for name, facts in crate.records.items()}
+    for crate in crates.values():
+        crate.add_facts(records)
     defined = {name for crate in crates.values() for name in crate.others}
     for line in (ROOT / "docs" / "PROOFS.md").read_text().splitlines():
         match = ROW.match(line)
