@@ -1,7 +1,8 @@
-//! The time of a master's rounds over the number of its network's peers.
+//! The time of a master's rounds over the number of its network's peers, which are the program's words.
 //!
 //! Standard output has how many rounds closed. Standard error has, for each number of peers, the
-//! nanoseconds of a round, and how they grew beside n log n, in hundredths.
+//! nanoseconds of a round and of a slave's share of it, and how the share grew from the first number
+//! on, in hundredths: 100 where a round's time is linear.
 #![tactic(auto)]
 
 mod network;
@@ -9,8 +10,8 @@ mod slave;
 
 use network::Network;
 use std::alloc::{AllocError, Global};
-use std::io;
 use std::time::Instant;
+use std::{env, io};
 
 /// How many peers all rounds of a line have together.
 const WORK: u32 = 30_000;
@@ -43,20 +44,35 @@ fn time_network(rt: HostRuntime, peers: u32, rounds: u32) -> io::Result<(u64, u3
     }
 }
 
-/// Writes a line for each number of peers: powers of ten, so that their logarithms are 1, 2 and 3.
-fn main(rt: HostRuntime) -> io::Result<()> {
-    let mut least = 1u64;
-    for (peers, log) in [(10u32, 1u64), (100, 2), (1000, 3)] {
-        let rounds = WORK / peers.max(1);
-        let (time, closed) = time_network(rt, peers, rounds)?;
-        println!(rt; "{peers} peers: {closed} of {rounds} rounds closed")?;
-        let unit = time / (u64::from(WORK).saturating_mul(log)).max(1);
-        if log == 1 {
-            least = unit.max(1);
+/// The numbers of peers that the program's words name; 10, 100 and 1,000 where there are none.
+fn counts(rt: HostRuntime) -> io::Result<Vec<u32>> {
+    let mut counts = Vec::new(rt.alloc());
+    for word in env::args(&rt)?.skip(1) {
+        counts.push(word.parse().unwrap_or(0))?;
+    }
+    if counts.is_empty() {
+        for count in [10, 100, 1000] {
+            counts.push(count)?;
         }
-        let round = time / u64::from(rounds.max(1));
-        let growth = unit.saturating_mul(100) / least.max(1);
-        eprintln!(rt; "{peers} peers: {round} ns a round, growth {growth} of n log n")?;
+    }
+    Ok(counts)
+}
+
+/// Writes a line for each number of peers.
+fn main(rt: HostRuntime) -> io::Result<()> {
+    let mut first = 0u64;
+    for peers in counts(rt)?.as_slice() {
+        let slaves = u64::from(*peers).saturating_sub(1).max(1);
+        let rounds = WORK / (*peers).max(1);
+        let (time, closed) = time_network(rt, *peers, rounds)?;
+        println!(rt; "{peers} peers: {closed} of {rounds} rounds closed")?;
+        let round = time / u64::from(rounds).max(1);
+        let share = round / slaves;
+        if first == 0 {
+            first = share.max(1);
+        }
+        let growth = share.saturating_mul(100) / first.max(1);
+        eprintln!(rt; "{peers} peers: {round} ns a round, {share} ns a slave, growth {growth}")?;
     }
     Ok(())
 }
