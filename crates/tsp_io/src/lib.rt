@@ -35,6 +35,7 @@
 pub mod addr;
 mod arrivals;
 pub mod clock;
+mod directory;
 mod failing;
 pub mod link;
 pub mod machine;

@@ -2,6 +2,7 @@
 ghost use Rattle.std.specs.Prelude.{◌≡◌, ℕ, false, [], None};
 
 use crate::addr::Addr;
+use crate::directory::Directory;
 use crate::link::{Bound, Link, Recv, Sent};
 use crate::socket::{Socket, addr_of, socket_addr};
 use std::alloc::Global;
@@ -18,6 +19,7 @@ pub struct UdpLink<R> {
     alloc: Global,
     socket: Option<Socket>,
     peers: Vec<Addr>,
+    directory: Directory,
     last: Option<SocketAddr>,
     stranger: bool,
     faults: u64,
@@ -35,6 +37,7 @@ impl<R: Net> UdpLink<R> {
             alloc,
             socket: None,
             peers: Vec::new(alloc),
+            directory: Directory::new(alloc),
             last: None,
             stranger: false,
             faults: 0,
@@ -54,15 +57,11 @@ impl<R: Net> UdpLink<R> {
     }
 }
 
-/// Who has this address: the peer with the lowest number that does, or else a stranger.
-fn place_of(peers: &[Addr], from: SocketAddr) -> Place {
-    let number = match addr_of(from) {
-        Some(addr) => peers.iter().position(|peer| *peer == addr),
-        None => None,
-    };
-    match number.map(u32::try_from) {
-        Some(Ok(number)) => Place::Peer(PeerId(number)),
-        _ => Place::Stranger,
+/// Who has this address of the standard library: a stranger where it isn't an IPv4 one.
+fn place_of(directory: &Directory, from: SocketAddr) -> Place {
+    match addr_of(from) {
+        Some(addr) => directory.place_of(addr),
+        None => Place::Stranger,
     }
 }
 
@@ -84,6 +83,9 @@ impl<R: Net> Link for UdpLink<R> {
     ghost send_faults = { λ s. s.send_faults };
 
     fn bind(&mut self, local: Addr, peers: &[Addr]) -> Bound {
+        let Ok(directory) = Directory::of(self.alloc, peers) else {
+            return Bound::OutOfMemory;
+        };
         let Ok(peers) = Vec::from_slice(self.alloc, peers) else {
             return Bound::OutOfMemory;
         };
@@ -91,6 +93,7 @@ impl<R: Net> Link for UdpLink<R> {
             Ok(socket) => {
                 self.socket = Some(socket);
                 self.peers = peers;
+                self.directory = directory;
                 Bound::Bound
             }
             Err(_) => {
@@ -107,7 +110,7 @@ impl<R: Net> Link for UdpLink<R> {
         };
         match received {
             Some(Some((count, from))) => {
-                let place = place_of(self.peers.as_slice(), from);
+                let place = place_of(&self.directory, from);
                 self.stranger = place == Place::Stranger;
                 self.last = Some(from);
                 Recv::Datagram(place, count)
