@@ -11,24 +11,29 @@ use Rattle.tsp_base.specs.declared.kind.Kind.TheVariants.{Quit}
 use Rattle.tsp_base.specs.declared.place.Port.{Port}
 use Rattle.tsp_base.specs.Alarms.{deadline}
 use Rattle.tsp_base.specs.History.{Past}
-use Rattle.tsp_base.specs.Performs.{Performs}
-use Rattle.tsp_base.specs.Rows.{arms, either_by, for_each, nothing, puts}
+use Rattle.tsp_base.specs.Performs.{Keeps, Performs}
+use Rattle.tsp_base.specs.Rows.{Row, arms, either_by, for_each, nothing, puts}
 use Rattle.tsp_base.proofs.PerformsLemmas.{Performs_nothing, Performs_same}
 use Rattle.tsp_rules.specs.Answers.{alarm_rings, rings}
 use Rattle.tsp_rules.specs.CandidateRows.{window_rings}
 use Rattle.tsp_rules.specs.RoundRows.{begins_or_waits, corrects, round_rings}
 use Rattle.tsp_rules.specs.ResolveRows.{quits_rivals, resolve_rings}
 use Rattle.tsp_rules.specs.SendRows.{begins}
+use Rattle.tsp_rules.specs.SlaveRows.{quiet_rings, search_rings}
 use Rattle.tsp_rules.specs.Guards.{is_due, is_in_time, is_over, rivals_at}
 use Rattle.tsp_rules.proofs.Emits.{Alarming, Emits, Emits_arms, Emits_each, Emits_either, Emits_more, Emits_puts, Emits_reading, Emits_then, Leading, Numbering}
 use Rattle.tsp_rules.proofs.EmitsCandidate.{silent_window}
 use Rattle.tsp_rules.proofs.EmitsSlave.{emits_begins, silent_elect_rings, silent_quiet, silent_search, silent_sorts}
+use Rattle.tsp_date.specs.DateStands.{DatesStand}
+use Rattle.tsp_slave.specs.SlaveAlarms.{slave_rings}
 use Rattle.tsp_slave.proofs.BesideLemmas.{beside_sorts}
 use Rattle.tsp_master.specs.MasterAlarms.{master_rings}
 use Rattle.tsp_master.proofs.CloseLemmas.{corrects-none}
 use Rattle.tsp_master.proofs.LeadLemmas.{still_sorts}
 use Rattle.tsp_node.specs.NodeStands.{PortUntaken, PortValue}
 use Rattle.tsp_node.specs.RoleAlarms.{is_of_master, is_of_slave}
+use Rattle.tsp_node.proofs.DatesKeeps.{calm, elect-keeps}
+use Rattle.tsp_node.proofs.EmitsRoles.{calm_sorts, elect-rings, quiet-rings, role_sorts, search-rings}
 
 -- whether an alarm is due, as the station has it
 due_is : (alarm : Alarm) (x : ℕ) (past : Past) (state : PortValue) → PortUntaken past state → is_due alarm x past ≡ is_over (deadline state.station.alarms alarm) x
@@ -61,25 +66,17 @@ corrects_now_due x own wait alarm before e b k past h = k past h ∙ ap corrects
 
 -- an alarm that is no candidate's and no master's
 pub of_slave : (wait : Bool) (alarm : Alarm) → is_of_master wait alarm ≡ false → alarm ≢ Round → alarm ≢ Window → alarm ≢ Resolve → is_of_slave alarm ≡ true
-of_slave wait Quiet e r w s = refl
-of_slave wait Search e r w s = refl
-of_slave wait Elect e r w s = refl
 of_slave wait Window e r w s = absurd (w refl)
 of_slave wait Probe e r w s = absurd (false≢true (sym e))
 of_slave wait Close e r w s = absurd (false≢true (sym e))
 of_slave wait Resolve e r w s = absurd (s refl)
 of_slave wait Round e r w s = absurd (r refl)
+of_slave wait _ e r w s = refl
 
 -- one that isn't its master's is no Probe
 pub no_probe : (wait : Bool) (alarm : Alarm) → is_of_master wait alarm ≡ false → alarm ≡ Probe → ⊥
 no_probe wait Probe e is = false≢true (sym e)
-no_probe wait Quiet e is = let bad : ⊥ = cc in bad
-no_probe wait Search e is = let bad : ⊥ = cc in bad
-no_probe wait Elect e is = let bad : ⊥ = cc in bad
-no_probe wait Window e is = let bad : ⊥ = cc in bad
-no_probe wait Close e is = let bad : ⊥ = cc in bad
-no_probe wait Resolve e is = let bad : ⊥ = cc in bad
-no_probe wait Round e is = let bad : ⊥ = cc in bad
+no_probe wait _ e is = let bad : ⊥ = cc in bad
 
 -- a Round that isn't its master's waits
 pub waits : (wait : Bool) → is_of_master wait Round ≡ false → wait ≡ true
@@ -95,19 +92,33 @@ master_rings-is own false Round e = refl
 master_rings-is own true Round e = absurd (false≢true e)
 master_rings-is own wait _ e = absurd (false≢true e)
 
-silent_alarm : (own wait : Bool) (alarm : Alarm) → is_of_slave alarm ≡ true → Emits silent_sorts (alarm_rings own wait alarm)
+-- what an alarm of a port that is Starting, Loose or follows puts, and that it keeps the port's dates
+pub record Besides (row : Row) : Type 0 where
+  pub silent : Emits silent_sorts row
+  pub roles : Emits role_sorts row
+  pub dates : Keeps DatesStand row
+
+pub slave_alarm : (own wait : Bool) (alarm : Alarm) → is_of_slave alarm ≡ true → Besides (alarm_rings own wait alarm)
 unfolding alarm_rings
-silent_alarm own wait Quiet e = silent_quiet
-silent_alarm own wait Search e = silent_search
-silent_alarm own wait Elect e = silent_elect_rings
-silent_alarm own wait _ e = absurd (false≢true e)
+slave_alarm own wait Quiet e = record { silent = silent_quiet; roles = Emits_more calm_sorts refl quiet-rings; dates = calm quiet_rings quiet-rings }
+slave_alarm own wait Search e = record { silent = silent_search; roles = Emits_more calm_sorts refl search-rings; dates = calm search_rings search-rings }
+slave_alarm own wait Elect e = record { silent = silent_elect_rings; roles = elect-rings; dates = elect-keeps }
+slave_alarm own wait _ e = absurd (false≢true e)
+
+-- one that the slave handles has the slave's row
+pub slave_rings-is : (own wait : Bool) (alarm : Alarm) → is_of_slave alarm ≡ true → alarm ≢ Elect → slave_rings alarm ≡ alarm_rings own wait alarm
+unfolding slave_rings alarm_rings
+slave_rings-is own wait Quiet b e = refl
+slave_rings-is own wait Search b e = refl
+slave_rings-is own wait Elect b e = absurd (e refl)
+slave_rings-is own wait _ b e = absurd (false≢true b)
 
 pub beside_alarm : (own wait : Bool) (alarm : Alarm) → is_of_slave alarm ≡ true → Emits beside_sorts (alarm_rings own wait alarm)
-beside_alarm own wait alarm e = Emits_more silent_sorts refl (silent_alarm own wait alarm e)
+beside_alarm own wait alarm e = Emits_more silent_sorts refl (slave_alarm own wait alarm e).silent
 
 -- the alarms of a port that is Starting, Loose or follows correct no clock, nor does a candidate's, nor a round that waits
 corrects_alarm : (own wait : Bool) (alarm : Alarm) → is_of_slave alarm ≡ true → (x : ℕ) (past : Past) → false ≡ corrects (alarm_rings own wait alarm x past)
-corrects_alarm own wait alarm e x past = sym (corrects-none (alarm_rings own wait alarm x past) ((Emits_more silent_sorts {all = still_sorts} refl (silent_alarm own wait alarm e)).only x past))
+corrects_alarm own wait alarm e x past = sym (corrects-none (alarm_rings own wait alarm x past) ((Emits_more silent_sorts {all = still_sorts} refl (slave_alarm own wait alarm e).silent).only x past))
 
 pub beside_window : Emits beside_sorts window_rings
 beside_window = Emits_more (Leading ∷ silent_sorts) refl silent_window
@@ -135,12 +146,10 @@ corrects_resolve x past = sym (corrects-none (resolve_rings x past) ((Emits_more
 -- an alarm that isn't its master's corrects no clock
 pub corrects_beside : (own wait : Bool) (alarm : Alarm) → is_of_master wait alarm ≡ false → (x : ℕ) (past : Past) → false ≡ corrects (alarm_rings own wait alarm x past)
 unfolding alarm_rings
-corrects_beside own wait Quiet e x past = corrects_alarm own wait Quiet refl x past
-corrects_beside own wait Search e x past = corrects_alarm own wait Search refl x past
-corrects_beside own wait Elect e x past = corrects_alarm own wait Elect refl x past
 corrects_beside own wait Window e x past = corrects_window x past
 corrects_beside own wait Probe e x past = absurd (false≢true (sym e))
 corrects_beside own wait Close e x past = absurd (false≢true (sym e))
 corrects_beside own wait Resolve e x past = corrects_resolve x past
 corrects_beside own true Round e x past = corrects_wait x past
 corrects_beside own false Round e x past = absurd (false≢true (sym e))
+corrects_beside own wait a e x past = corrects_alarm own wait a refl x past

@@ -1,9 +1,7 @@
 -- Rows of a port's other parts leave its dates alone.
-use Rattle.std.specs.Prelude.{◌≡◌, ℕ, ◌==◌, Bool, true, false, if◌then◌else◌, [], ◌∷◌, refl}
-use Rattle.std.proofs.lemmas.Bool.{false≢true}
+use Rattle.std.specs.Prelude.{ℕ, ◌==◌, Bool, true, false, if◌then◌else◌, [], ◌∷◌, refl}
 use Rattle.tsp_base.specs.declared.act.Act.TheVariants.{Become, Join, Ring}
-use Rattle.tsp_base.specs.declared.alarm.Alarm.{Alarm}
-use Rattle.tsp_base.specs.declared.alarm.Alarm.TheVariants.{Elect, Quiet, Resolve, Search, Window}
+use Rattle.tsp_base.specs.declared.alarm.Alarm.TheVariants.{Elect, Resolve, Window}
 use Rattle.tsp_base.specs.declared.constants.TheConstants.{WINDOW}
 use Rattle.tsp_base.specs.declared.kind.Kind.{Kind}
 use Rattle.tsp_base.specs.declared.kind.Kind.TheVariants.{Ack, AdjTime, Conflict, Election, MasterAck, MasterReq, MasterUp, Quit, Resolve as ResolveKind, SetTime, SlaveUp}
@@ -16,7 +14,6 @@ use Rattle.tsp_base.specs.Performs.{Keeps}
 use Rattle.tsp_base.specs.Rows.{Row, arms, for_each, nothing, posts_back, puts, ◌followed_by◌}
 use Rattle.tsp_base.specs.Takings.{time_in}
 use Rattle.tsp_base.proofs.PerformsLemmas.{Keeps_each, Keeps_either, Keeps_nothing, Keeps_reading, Keeps_then}
-use Rattle.tsp_rules.specs.Answers.{alarm_rings}
 use Rattle.tsp_rules.specs.CommonRows.{is_awake, may_be_asked, tests, arms_elect, backs_own, follow_row, searches, candidature_row, tells_ticket}
 use Rattle.tsp_rules.specs.MasterRows.{joins, may_join, sends_away}
 use Rattle.tsp_rules.specs.ResolveRows.{quits_rivals, resolve_rings}
@@ -28,10 +25,9 @@ use Rattle.tsp_rules.proofs.EmitsSends.{emits_settime_begins}
 use Rattle.tsp_date.specs.DateStands.{DatesStand}
 use Rattle.tsp_date.proofs.KeepLemmas.{DatesAside, DatesAside_begins, DatesAside_by, DatesStand_act, DatesStand_begins, DatesStand_begins_to_others, DatesStand_by}
 use Rattle.tsp_master.specs.MasterTakes.{master_takes_here, master_takes_kind_here}
-use Rattle.tsp_node.specs.RoleAlarms.{is_of_slave}
-use Rattle.tsp_node.proofs.EmitsRoles.{acking, adjtime, again, backing, calm_sorts, election, emits_quits, following, found, late-elect, loosening, of-master, plain_sorts, quiet-rings, search-rings, searching, settime}
+use Rattle.tsp_node.proofs.EmitsRoles.{acking, adjtime, again, backing, calm_sorts, election, emits_quits, following, found, late-elect, loosening, of-master, plain_sorts, searching, settime}
 
-calm : (row : Row) → Emits calm_sorts row → Keeps DatesStand row
+pub calm : (row : Row) → Emits calm_sorts row → Keeps DatesStand row
 calm row e = DatesStand_by row (Emits_more calm_sorts refl e)
 
 -- a node that stands
@@ -41,20 +37,12 @@ DatesStand_candidature =
     Keeps_then DatesStand (puts (Become Candidate)) _ (DatesStand_act (Become Candidate) refl)
     (Keeps_then DatesStand backs_own _ (calm backs_own backing) (Keeps_then DatesStand (arms Window WINDOW) (begins_to_others Election) (DatesStand_by (arms Window WINDOW) (Emits_arms Window WINDOW refl)) (DatesStand_begins_to_others Election refl)))
 
-elect-keeps : Keeps DatesStand elect_rings
+pub elect-keeps : Keeps DatesStand elect_rings
 unfolding elect_rings
 elect-keeps = Keeps_either DatesStand (is_in_time Elect) _ _
     (Keeps_then DatesStand (puts (Ring Elect)) _ (DatesStand_act (Ring Elect) refl)
     (Keeps_either DatesStand may_stand_at candidature_row (loosens followed_by searches) DatesStand_candidature (calm (loosens followed_by searches) (Emits_then loosens searches loosening searching))))
     (calm _ late-elect)
-
--- the alarms of a port that is Starting, Loose or follows
-pub DatesStand_alarm : (own wait : Bool) (alarm : Alarm) → is_of_slave alarm ≡ true → Keeps DatesStand (alarm_rings own wait alarm)
-unfolding alarm_rings
-DatesStand_alarm own wait Quiet e = calm _ quiet-rings
-DatesStand_alarm own wait Search e = calm _ search-rings
-DatesStand_alarm own wait Elect e = elect-keeps
-DatesStand_alarm own wait _ e = absurd (false≢true e)
 
 -- the end of a resolution
 pub DatesStand_resolve : Keeps DatesStand resolve_rings

@@ -1,10 +1,11 @@
 -- The earliest deadline of a port's open sends.
 use Rattle.std.specs.Prelude.{◌≡◌, ◌<◌, ℕ, ◌||◌, min, not, nat_le, Bool, true, false, Option, None, Some, refl}
-use Rattle.std.proofs.Common.{arith, sym, ◌∙◌}
+use Rattle.std.proofs.Common.{ap, arith, sym, ◌∙◌}
 use Rattle.std.proofs.lemmas.Bool.{false≢true, le-leb, leb-false, leb-true, lt-leb}
 use Rattle.tsp_base.specs.declared.alarm.Alarm.{Alarm}
-use Rattle.tsp_base.specs.declared.alarm.Alarm.TheVariants.{Close, Elect, Probe, Quiet, Resolve, Round, Search, Window}
+use Rattle.tsp_base.specs.declared.alarm.Alarm.TheVariants.{Quiet}
 use Rattle.tsp_base.specs.Alarms.{Deadlines, deadline, earlier, least_deadline}
+use Rattle.tsp_base.proofs.AlarmLemmas.{least_deadline_armed}
 use Rattle.tsp_rules.specs.Guards.{is_over}
 use Rattle.tsp_base.specs.History.{Past}
 use Rattle.tsp_base.specs.SendFacts.{open_send}
@@ -39,41 +40,6 @@ over-earlier (Some p) (Some q) x = by_test (nat_le p x) (nat_le q x) refl refl w
   by_test false true e f = let last = leb-true q x f in le-leb (min p q) x (omega (arith, last))
   by_test false false e f = let first = leb-false p x e in let last = leb-false q x f in lt-leb (min p q) x (omega (arith, first, last))
 
--- so of the earliest of all alarms
-pub over-least : (d : Deadlines) (x : ℕ) →
-    (is_over d.quiet x || (is_over d.search x || (is_over d.elect x || (is_over d.window x || (is_over d.probe x || (is_over d.close x || (is_over d.resolve x || is_over d.round x))))))) ≡ is_over (least_deadline d) x
-over-least d x =
-    let a = is_over d.quiet x in
-    let b = is_over d.search x in
-    let e = is_over d.elect x in
-    let w = is_over d.window x in
-    let p = is_over d.probe x in
-    let c = is_over d.close x in
-    let s = is_over d.resolve x in
-    let r = is_over d.round x in
-    rw (
-      over-earlier (earlier (earlier d.quiet d.search) (earlier d.elect d.window)) (earlier (earlier d.probe d.close) (earlier d.resolve d.round)) x,
-      over-earlier (earlier d.quiet d.search) (earlier d.elect d.window) x,
-      over-earlier (earlier d.probe d.close) (earlier d.resolve d.round) x,
-      over-earlier d.quiet d.search x,
-      over-earlier d.elect d.window x,
-      over-earlier d.probe d.close x,
-      over-earlier d.resolve d.round x,
-    )
-    (regroup a b e w p c s r) where
-      regroup : (a b e w p c s r : Bool) → (a || (b || (e || (w || (p || (c || (s || r))))))) ≡ (((a || b) || (e || w)) || ((p || c) || (s || r)))
-      regroup true b e w p c s r = refl
-      regroup false true e w p c s r = refl
-      regroup false false true w p c s r = refl
-      regroup false false false true p c s r = refl
-      regroup false false false false true c s r = refl
-      regroup false false false false false c s r = refl
-
--- where none of the others has come, it is the last's
-pub over-last : (d : Deadlines) (x : ℕ) → is_over d.quiet x ≡ false → is_over d.search x ≡ false → is_over d.elect x ≡ false → is_over d.window x ≡ false → is_over d.probe x ≡ false → is_over d.close x ≡ false → is_over d.resolve x ≡ false →
-    is_over d.round x ≡ is_over (least_deadline d) x
-over-last d x q s e w p c r = rw (q, s, e, w, p, c, r) at (over-least d x)
-
 -- neither of two deadlines has come before the earlier one has
 pub neither_over : (a b : Option ℕ) (x : ℕ) → is_over (earlier a b) x ≡ false → (is_over a x ≡ false) × (is_over b x ≡ false)
 neither_over None b x e = (refl, e)
@@ -82,30 +48,25 @@ neither_over (Some p) (Some q) x e =
     let before : x < min p q = leb-false (min p q) x e in
     (lt-leb p x (omega (arith, before)), lt-leb q x (omega (arith, before)))
 
--- no alarm is due before the earliest is
-pub alarm_waits : (d : Deadlines) (x : ℕ) → is_over (least_deadline d) x ≡ false → (alarm : Alarm) → is_over (deadline d alarm) x ≡ false
-alarm_waits d x e alarm =
-    let halves = neither_over (earlier (earlier d.quiet d.search) (earlier d.elect d.window)) (earlier (earlier d.probe d.close) (earlier d.resolve d.round)) x e in
-    let first = neither_over (earlier d.quiet d.search) (earlier d.elect d.window) x halves.0 in
-    let last = neither_over (earlier d.probe d.close) (earlier d.resolve d.round) x halves.1 in
-    by_alarm alarm (neither_over d.quiet d.search x first.0) (neither_over d.elect d.window x first.1) (neither_over d.probe d.close x last.0) (neither_over d.resolve d.round x last.1) where
-      by_alarm : (a : Alarm) → (is_over d.quiet x ≡ false) × (is_over d.search x ≡ false) → (is_over d.elect x ≡ false) × (is_over d.window x ≡ false) → (is_over d.probe x ≡ false) × (is_over d.close x ≡ false) →
-          (is_over d.resolve x ≡ false) × (is_over d.round x ≡ false) → is_over (deadline d a) x ≡ false
-      by_alarm Quiet p q r s = p.0
-      by_alarm Search p q r s = p.1
-      by_alarm Elect p q r s = q.0
-      by_alarm Window p q r s = q.1
-      by_alarm Probe p q r s = r.0
-      by_alarm Close p q r s = r.1
-      by_alarm Resolve p q r s = s.0
-      by_alarm Round p q r s = s.1
+or-true : (a : Bool) → (a || true) ≡ true
+or-true true = refl
+or-true false = refl
 
 -- the earliest has come where an alarm is due
 pub over-at : (d : Deadlines) (x : ℕ) (alarm : Alarm) → is_over (deadline d alarm) x ≡ true → is_over (least_deadline d) x ≡ true
-over-at d x alarm h = by_test (is_over (least_deadline d) x) refl where
-  by_test : (b : Bool) → is_over (least_deadline d) x ≡ b → is_over (least_deadline d) x ≡ true
-  by_test true e = e
-  by_test false e = absurd (false≢true (sym (alarm_waits d x e alarm) ∙ h))
+over-at d x Quiet h = simp (over-earlier, h) refl
+over-at d x _ h = simp (over-earlier, h, or-true) refl
+
+-- no alarm is due before the earliest is
+pub alarm_waits : (d : Deadlines) (x : ℕ) → is_over (least_deadline d) x ≡ false → (alarm : Alarm) → is_over (deadline d alarm) x ≡ false
+alarm_waits d x e alarm = by_test (is_over (deadline d alarm) x) refl where
+  by_test : (b : Bool) → is_over (deadline d alarm) x ≡ b → is_over (deadline d alarm) x ≡ false
+  by_test true h = absurd (false≢true (sym e ∙ over-at d x alarm h))
+  by_test false h = h
+
+-- the earliest hasn't come where no alarm is due
+pub none_over : (d : Deadlines) (x : ℕ) → ((alarm : Alarm) → is_over (deadline d alarm) x ≡ false) → is_over (least_deadline d) x ≡ false
+none_over d x waits = let first = least_deadline_armed d in ap (λ o. is_over o x) first.1 ∙ waits first.0
 
 -- where an alarm is due the port doesn't rest
 pub rests-not : (d : Deadlines) (sends : Option ℕ) (x : ℕ) → is_over (least_deadline d) x ≡ true → false ≡ not (is_over (earlier (least_deadline d) sends) x)

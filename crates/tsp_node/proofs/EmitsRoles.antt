@@ -1,7 +1,6 @@
 -- What ports that don't lead put for alarms and messages, but for what ends their sends: nothing of a round, a correction or the slave table.
 use Rattle.std.specs.Prelude.{◌≡◌, ◌≢◌, ℕ, ℤ, ◌==◌, Bool, true, false, if◌then◌else◌, List, [], ◌∷◌, refl}
 use Rattle.tsp_base.specs.declared.act.Act.TheVariants.{Acked, Back, Backer, Become, Late, Quit as QuitAct, Ring}
-use Rattle.tsp_base.specs.declared.alarm.Alarm.{Alarm}
 use Rattle.tsp_base.specs.declared.alarm.Alarm.TheVariants.{Elect, Quiet, Round, Search, Window}
 use Rattle.tsp_base.specs.declared.constants.TheConstants.{QUIET, ROUND, WINDOW}
 use Rattle.tsp_base.specs.declared.kind.Kind.{Kind}
@@ -13,7 +12,6 @@ use Rattle.tsp_base.specs.History.{Past}
 use Rattle.tsp_base.specs.Messages.{MessageValue}
 use Rattle.tsp_base.specs.Rows.{Row, arms, either_by, for_each, grown, nothing, posts, posts_to_others, puts, reading, ◌followed_by◌}
 use Rattle.tsp_base.specs.Takings.{time_in}
-use Rattle.tsp_rules.specs.Answers.{alarm_rings}
 use Rattle.tsp_rules.specs.CandidateRows.{accepted_by, candidate_takes, candidate_takes_kind, has_won, lead_row, refused_by, window_rings, yields}
 use Rattle.tsp_rules.specs.ClockRows.{adjusts, sets}
 use Rattle.tsp_rules.specs.CommonRows.{arms_elect, backs_own, follow_row, follows_unless, own_at, quits, searches, candidature_row, tells_ticket}
@@ -23,7 +21,6 @@ use Rattle.tsp_rules.specs.Guards.{delay_at, follows_at, is_armed, is_in_time, m
 use Rattle.tsp_rules.proofs.Emits.{Sort, Acking, Alarming, Backing, Changing, Counting, Following, Leading, Moving, Numbering, Posting, Emits, Emits_adjusts, Emits_arms, Emits_each, Emits_either, Emits_more, Emits_nothing, Emits_posts, Emits_posts_to_others, Emits_puts, Emits_reading, Emits_sets, Emits_then}
 use Rattle.tsp_rules.proofs.EmitsSlave.{emits_begins}
 use Rattle.tsp_rules.proofs.EmitsTables.{changes}
-use Rattle.tsp_node.specs.RoleAlarms.{is_of_slave}
 
 -- neither sends with the port's own numbers nor corrections
 abbrev pub calm_sorts : List Sort
@@ -70,19 +67,11 @@ search-rings = Emits_then (either_by (is_in_time Search) (puts (Ring Search)) (p
 pub late-elect : Emits calm_sorts (puts (Late Elect) followed_by arms_elect)
 late-elect = Emits_then (puts (Late Elect)) arms_elect (Emits_puts (Late Elect) refl) elect
 
-elect-rings : Emits role_sorts elect_rings
+pub elect-rings : Emits role_sorts elect_rings
 unfolding elect_rings
 elect-rings = Emits_either (is_in_time Elect) _ _
     (Emits_then (puts (Ring Elect)) _ (Emits_puts (Ring Elect) refl) (Emits_either may_stand_at candidature_row (loosens followed_by searches) begins_candidature (Emits_more calm_sorts refl (Emits_then loosens searches loosening searching))))
     (Emits_more calm_sorts refl late-elect)
-
--- the alarms of a port that is Starting, Loose or follows
-pub emits_alarm : (own wait : Bool) (alarm : Alarm) → is_of_slave alarm ≡ true → Emits role_sorts (alarm_rings own wait alarm)
-unfolding alarm_rings
-emits_alarm own wait Quiet e = Emits_more calm_sorts refl quiet-rings
-emits_alarm own wait Search e = Emits_more calm_sorts refl search-rings
-emits_alarm own wait Elect e = elect-rings
-emits_alarm own wait _ e = absurd (let bad : ⊥ = cc in bad)
 
 pub yielding : Emits calm_sorts yields
 unfolding yields

@@ -1,23 +1,20 @@
 -- How the alarms' calls meet their rows.
-use Rattle.std.specs.Prelude.{◌≡◌, ◌≢◌, ℕ, ◌&&◌, Bool, true, false, List, refl}
+use Rattle.std.specs.Prelude.{◌≡◌, ℕ, ◌&&◌, Bool, true, false, List, refl}
 use Rattle.std.proofs.lemmas.Bool.{false≢true}
 use Rattle.tsp_base.specs.declared.act.Act.TheVariants.{Ring, Late}
-use Rattle.tsp_base.specs.declared.alarm.Alarm.{Alarm}
-use Rattle.tsp_base.specs.declared.alarm.Alarm.TheVariants.{Quiet, Search, Elect}
+use Rattle.tsp_base.specs.declared.alarm.Alarm.TheVariants.{Elect}
 use Rattle.tsp_base.specs.declared.act.Placed.{Placed}
 use Rattle.tsp_base.specs.declared.place.Port.{Port}
 use Rattle.tsp_base.specs.History.{Past}
 use Rattle.tsp_base.specs.Performs.{Performs}
 use Rattle.tsp_base.specs.Rows.{puts, ◌followed_by◌}
 use Rattle.tsp_base.proofs.PerformsLemmas.{Performs_then, Performs_then_part, Performs_from, Performs_to}
-use Rattle.tsp_rules.specs.Answers.{alarm_rings}
 use Rattle.tsp_rules.specs.CommonRows.{arms_elect, searches, candidature_row}
 use Rattle.tsp_rules.specs.SlaveRows.{loosens, elect_rings}
 use Rattle.tsp_rules.specs.Guards.{is_in_time, may_stand_at}
 use Rattle.tsp_acks.specs.declared.station.Station.{Station}
 use Rattle.tsp_acks.specs.Stands.{Stands, StandsActing}
-use Rattle.tsp_slave.specs.SlaveAlarms.{slave_rings, is_to_be_candidate}
-use Rattle.tsp_node.specs.RoleAlarms.{is_of_slave}
+use Rattle.tsp_slave.specs.SlaveAlarms.{is_to_be_candidate}
 
 -- of two tests that hold both, the first and the second
 first_true : (a b : Bool) → (a && b) ≡ true → a ≡ true
@@ -27,14 +24,6 @@ first_true false b h = absurd (false≢true h)
 second_true : (a b : Bool) → (a && b) ≡ true → b ≡ true
 second_true true b h = h
 second_true false b h = absurd (false≢true h)
-
--- an alarm that is a slave's alone
-pub slave_rings-is : (own wait : Bool) (alarm : Alarm) → is_of_slave alarm ≡ true → alarm ≢ Elect → slave_rings alarm ≡ alarm_rings own wait alarm
-unfolding slave_rings alarm_rings
-slave_rings-is own wait Quiet b e = refl
-slave_rings-is own wait Search b e = refl
-slave_rings-is own wait Elect b e = absurd (e refl)
-slave_rings-is own wait _ b e = absurd (false≢true b)
 
 -- whether a node stands, as its station has it
 pub to_be_candidate-is : (x : ℕ) (past : Past) (station : Station) → Stands past station →

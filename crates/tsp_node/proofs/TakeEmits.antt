@@ -2,7 +2,7 @@
 use Rattle.std.specs.Prelude.{◌≡◌, ℕ, Bool, true, false, List, [], ◌∷◌, refl}
 use Rattle.tsp_base.specs.declared.act.Act.TheVariants.{Took}
 use Rattle.tsp_base.specs.declared.alarm.Alarm.{Alarm}
-use Rattle.tsp_base.specs.declared.alarm.Alarm.TheVariants.{Close, Elect, Probe, Quiet, Resolve, Round, Search, Window}
+use Rattle.tsp_base.specs.declared.alarm.Alarm.TheVariants.{Close, Probe, Resolve, Round, Window}
 use Rattle.tsp_base.specs.declared.datagram.Datagram.TheVariants.{Message, Stamp}
 use Rattle.tsp_base.specs.declared.datagram.Taken.{Taken}
 use Rattle.tsp_base.specs.declared.datagram.Taken.TheVariants.{Bad, Good}
@@ -28,7 +28,8 @@ use Rattle.tsp_rules.proofs.EmitsMaster.{emits_master_takes, emits_resolve_rings
 use Rattle.tsp_rules.proofs.EmitsRounds.{emits_close_rings, emits_probe_rings, emits_round_rings, emits_samples, round_sorts}
 use Rattle.tsp_node.specs.declared.audience.Audience.TheVariants.{OfDates}
 use Rattle.tsp_node.specs.Audiences.{audience_of}
-use Rattle.tsp_rules.proofs.EmitsSlave.{emits_elect_rings, emits_quiet, emits_search, emits_slave_takes, slave_sorts}
+use Rattle.tsp_rules.proofs.EmitsSlave.{emits_slave_takes, silent_sorts, slave_sorts}
+use Rattle.tsp_node.proofs.AlarmCases.{slave_alarm}
 
 -- all sorts but Boot, Took and Trace
 abbrev pub silent_trace : List Sort
@@ -40,14 +41,12 @@ bootless = Taking ∷ Tracing ∷ silent_trace
 
 alarm-emits : (own wait : Bool) (alarm : Alarm) → Emits silent_trace (alarm_rings own wait alarm)
 unfolding alarm_rings
-alarm-emits own wait Quiet = Emits_more slave_sorts refl emits_quiet
-alarm-emits own wait Search = Emits_more slave_sorts refl emits_search
-alarm-emits own wait Elect = Emits_more slave_sorts refl emits_elect_rings
 alarm-emits own wait Window = Emits_more window_sorts refl emits_window
 alarm-emits own wait Probe = Emits_more round_sorts refl emits_probe_rings
 alarm-emits own wait Close = Emits_more round_sorts refl (emits_close_rings own)
 alarm-emits own wait Resolve = Emits_more resolve_sorts refl emits_resolve_rings
 alarm-emits own wait Round = Emits_more round_sorts refl (emits_round_rings wait)
+alarm-emits own wait a = Emits_more silent_sorts refl (slave_alarm own wait a refl).silent
 
 -- an alarm, whether it is due or not
 pub emits_rings : (own wait : Bool) (alarm : Alarm) → Emits silent_trace (rings own wait alarm)

@@ -29,3 +29,10 @@ pub record IsPartDue (part : Part) (due : Option ℕ) : Type 0 where
 abbrev pub IsNoted : Due → ℕ → Port → Master → Master → List Placed → List Placed → Type 0
 IsNoted (Again p m) x port before after old new = (new ≡ old) × ((past : Past) → acting past.seen ≡ false → MasterStands past before → MasterStands (grown x past (Post (Peer p) (Message m) ∷ [])) after)
 IsNoted (Gave p k) x port before after old new = Performs MasterStands MasterStands (leaves_after p k) x port before after old new
+
+-- only what the port remembers as a master may have changed
+pub record IsMasterAlone (before after : Part) : Type 0 where
+  pub station : after.station ≡ before.station
+  pub last : after.last ≡ before.last
+  pub resolve : after.resolve ≡ before.resolve
+  pub dates : after.dates ≡ before.dates

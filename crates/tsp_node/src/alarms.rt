@@ -5,9 +5,8 @@ ghost use Rattle.tsp_base.specs.Alarms.{deadline};
 ghost use Rattle.tsp_base.specs.Frames.{IsTick, PutsAtMost};
 ghost use Rattle.tsp_base.specs.Performs.{Performs};
 ghost use Rattle.tsp_rules.specs.Answers.{alarm_rings, rings};
-ghost use Rattle.tsp_rules.specs.CandidateRows.{window_rings};
 ghost use Rattle.tsp_rules.specs.Guards.{is_over};
-ghost use Rattle.tsp_node.specs.RoleAlarms.{is_of_master, is_of_slave};
+ghost use Rattle.tsp_node.specs.RoleAlarms.{is_of_master};
 
 use crate::part::Part;
 use crate::ringing::{is_of_master, ring_slave, wait_round};
@@ -23,7 +22,6 @@ impl Part {
     ghost use Rattle.tsp_base.specs.History.{Past};
     ghost use Rattle.tsp_rules.specs.RoundRows.{corrects};
     ghost use Rattle.tsp_clock.specs.Clocks.{ClockValue};
-    ghost use Rattle.tsp_master.specs.MasterAlarms.{master_rings};
     ghost use Rattle.tsp_node.specs.NodeStands.{PortUntaken, port_with};
 
     /// Handles one alarm where it is due, and says whether that corrected the clock. `group_mean` says
@@ -40,9 +38,9 @@ impl Part {
         port: Port,
         desk: &mut D,
     ) -> bool
+        requires order { alarm ≡ Close → is_over self.old.station.alarms.probe tick ≡ false }
         requires tick { IsTick tick }
         requires later { clock.old.at ≤ tick }
-        requires order { alarm ≡ Close → is_over self.old.station.alarms.probe tick ≡ false }
         requires room { 2 * length self.old.station.peers + 16 ≤ D.spare desk.old }
         ensures row { Performs PortUntaken PortUntaken (rings group_mean wait alarm) tick port
             (port_with self.old clock.old) (port_with self.new clock.new) (D.acts desk.old)
@@ -66,7 +64,7 @@ impl Part {
         self.ring_due(clock, alarm, terms, desk)
     }
 
-    /// Handles an alarm that is due.
+    /// Handles an alarm that is due: its master's, or one that leaves the clock alone.
     fn ring_due<D: Desk>(
         &mut self,
         clock: &mut Clock,
@@ -93,12 +91,18 @@ impl Part {
             (D.spare desk.new) (D.acts desk.old) (D.acts desk.new) }
     {
         let At { tick, port } = terms.at;
-        if is_of_master(alarm, terms.wait) {
-            self.ring_round(clock, alarm, terms.group_mean, tick, port, desk)
-        } else {
+        if !is_of_master(alarm, terms.wait) {
             self.ring_beside(alarm, terms.wait, tick, port, desk);
-            false
+            return false;
         }
+        let station = &mut self.station;
+        let corrected = self
+            .master
+            .ring(station, clock, alarm, terms.group_mean, tick, port, desk);
+        if corrected {
+            self.last.moved(tick);
+        }
+        corrected
     }
 
     /// Handles a due alarm that isn't its master's. It leaves the clock alone.
@@ -125,9 +129,15 @@ impl Part {
             Alarm::Round => wait_round(&mut self.station, tick, port, desk),
             Alarm::Window => self.ring_window(tick, port, desk),
             Alarm::Resolve => self.resolve.ring(&mut self.station, tick, port, desk),
-            _ => self.ring_role(alarm, tick, port, desk),
+            _ => {
+                let led = self.leads();
+                ring_slave(&mut self.station, alarm, tick, port, desk);
+                self.part_from(led);
+            }
         }
     }
+
+    ghost use Rattle.tsp_rules.specs.CandidateRows.{window_rings};
 
     /// Handles a due Window, after which the port has neither slaves nor rivals.
     fn ring_window<D: Desk>(&mut self, tick: u64, port: Port, desk: &mut D)
@@ -143,59 +153,5 @@ impl Part {
         candidate_ring(&mut self.station, tick, port, desk);
         self.master.clear();
         self.resolve.clear();
-    }
-
-    /// Handles a due Probe, Close or Round.
-    fn ring_round<D: Desk>(
-        &mut self,
-        clock: &mut Clock,
-        alarm: Alarm,
-        group_mean: bool,
-        tick: u64,
-        port: Port,
-        desk: &mut D,
-    ) -> bool
-        requires tick { IsTick tick }
-        requires later { clock.old.at ≤ tick }
-        requires due { is_over (deadline self.old.station.alarms alarm) tick ≡ true }
-        requires order { alarm ≡ Close → is_over self.old.station.alarms.probe tick ≡ false }
-        requires room { 2 * length self.old.station.peers + 4 ≤ D.spare desk.old }
-        ensures row { Performs PortUntaken PortUntaken (master_rings group_mean alarm) tick port
-            (port_with self.old clock.old) (port_with self.new clock.new) (D.acts desk.old)
-            (D.acts desk.new) }
-        ensures corrects { (past : Past) → PortUntaken past (port_with self.old clock.old)
-            → result ≡ corrects (master_rings group_mean alarm tick past) }
-        ensures over { alarm ≡ Probe → is_over self.new.station.alarms.probe tick ≡ false }
-        ensures clock { clock.new.at ≤ tick }
-        ensures peers { self.new.station.peers ≡ self.old.station.peers }
-        ensures room { PutsAtMost (2 * length self.old.station.peers + 4) (D.spare desk.old)
-            (D.spare desk.new) (D.acts desk.old) (D.acts desk.new) }
-    {
-        let station = &mut self.station;
-        let corrected = self
-            .master
-            .ring(station, clock, alarm, group_mean, tick, port, desk);
-        if corrected {
-            self.last.moved(tick);
-        }
-        corrected
-    }
-
-    /// Handles a due alarm of a port that is Starting, Loose or follows.
-    fn ring_role<D: Desk>(&mut self, alarm: Alarm, tick: u64, port: Port, desk: &mut D)
-        requires alarm { is_of_slave alarm ≡ true }
-        requires tick { IsTick tick }
-        requires room { length self.old.station.peers + 4 ≤ D.spare desk.old }
-        ensures row { (own wait : Bool) (clock : ClockValue)
-            → Performs PortUntaken PortUntaken (alarm_rings own wait alarm) tick port
-            (port_with self.old clock) (port_with self.new clock) (D.acts desk.old)
-            (D.acts desk.new) }
-        ensures peers { self.new.station.peers ≡ self.old.station.peers }
-        ensures room { PutsAtMost (length self.old.station.peers + 4) (D.spare desk.old)
-            (D.spare desk.new) (D.acts desk.old) (D.acts desk.new) }
-    {
-        let led = self.leads();
-        ring_slave(&mut self.station, alarm, tick, port, desk);
-        self.part_from(led);
     }
 }

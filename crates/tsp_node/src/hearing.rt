@@ -114,11 +114,10 @@ impl Part {
         ensures room { PutsAtMost 1 (D.spare desk.old) (D.spare desk.new) (D.acts desk.old)
             (D.acts desk.new) }
     {
-        let Some(p) = self.heard(from) else {
-            return;
-        };
-        let station = &mut self.station;
-        self.master.acknowledge(station, p, m.number(), port, desk);
+        if let Some(p) = self.heard(from) {
+            let station = &mut self.station;
+            self.master.acknowledge(station, p, m.number(), port, desk);
+        }
     }
 
     /// Handles a stamp reply of a peer: to a master it gives a sample of the peer's clock. Requests are answered

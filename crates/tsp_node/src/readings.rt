@@ -42,28 +42,12 @@ impl Part {
 fn is_any_due(station: &Station, tick: u64) -> bool
     ensures { result ≡ is_over (least_deadline station.now.alarms) tick }
 {
-    if station.is_due(Alarm::Quiet, tick) {
-        return true;
+    for alarm in &Alarm::ALL {
+        if station.is_due(*alarm, tick) {
+            return true;
+        }
     }
-    if station.is_due(Alarm::Search, tick) {
-        return true;
-    }
-    if station.is_due(Alarm::Elect, tick) {
-        return true;
-    }
-    if station.is_due(Alarm::Window, tick) {
-        return true;
-    }
-    if station.is_due(Alarm::Probe, tick) {
-        return true;
-    }
-    if station.is_due(Alarm::Close, tick) {
-        return true;
-    }
-    if station.is_due(Alarm::Resolve, tick) {
-        return true;
-    }
-    station.is_due(Alarm::Round, tick)
+    false
 }
 
 /// Whether a deadline has come at this tick; false where there is none.

@@ -2,9 +2,6 @@
 ghost use Rattle.std.specs.Prelude.{◌≡◌, Bool, ◌+◌, ◌≤◌, true, length};
 ghost use Rattle.tsp_base.specs.Frames.{IsTick, PutsAtMost};
 ghost use Rattle.tsp_base.specs.Performs.{Performs};
-ghost use Rattle.tsp_rules.specs.Answers.{alarm_rings};
-ghost use Rattle.tsp_rules.specs.RoundRows.{round_rings};
-ghost use Rattle.tsp_rules.specs.SlaveRows.{elect_rings};
 ghost use Rattle.tsp_acks.specs.Changes.{IsSamePort};
 ghost use Rattle.tsp_acks.specs.Stands.{Stands};
 ghost use Rattle.tsp_node.specs.RoleAlarms.{is_of_master, is_of_slave};
@@ -28,6 +25,7 @@ pub(crate) fn is_of_master(alarm: Alarm, wait: bool) -> bool
     }
 }
 
+ghost use Rattle.tsp_rules.specs.Answers.{alarm_rings};
 /// Handles a due alarm of a port that is Starting, Loose or follows.
 pub(crate) fn ring_slave<D: Desk>(
     station: &mut Station,
@@ -51,6 +49,7 @@ pub(crate) fn ring_slave<D: Desk>(
     }
 }
 
+ghost use Rattle.tsp_rules.specs.SlaveRows.{elect_rings};
 /// No master was heard for the election delay: the port stands for election where it may, else it searches.
 fn ring_elect<D: Desk>(station: &mut Station, tick: u64, port: Port, desk: &mut D)
     requires tick { IsTick tick }
@@ -69,6 +68,7 @@ fn ring_elect<D: Desk>(station: &mut Station, tick: u64, port: Port, desk: &mut 
     }
 }
 
+ghost use Rattle.tsp_rules.specs.RoundRows.{round_rings};
 /// A due Round that waits for the round of another port of its node: in time it is put off by `WAIT` ticks.
 pub(crate) fn wait_round<D: Desk>(station: &mut Station, tick: u64, port: Port, desk: &mut D)
     requires tick { IsTick tick }

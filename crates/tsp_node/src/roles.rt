@@ -1,6 +1,5 @@
 //! What a port does with a peer's message, by its role.
 ghost use Rattle.std.specs.Prelude.{◌≡◌, ◌+◌, ◌*◌, ◌≤◌, ◌&&◌, not, length};
-ghost use Rattle.std.specs.List.{Contains};
 ghost use Rattle.tsp_base.specs.declared.datagram.Datagram.TheVariants.{Message as MessageOf};
 ghost use Rattle.tsp_base.specs.declared.datagram.Taken.TheVariants.{Good};
 ghost use Rattle.tsp_base.specs.declared.place.Place.TheVariants.{Peer};
@@ -10,7 +9,6 @@ ghost use Rattle.tsp_base.specs.Performs.{Performs};
 ghost use Rattle.tsp_base.specs.Rows.{either_by, nothing};
 ghost use Rattle.tsp_base.specs.SendFacts.{is_correction};
 ghost use Rattle.tsp_rules.specs.Answers.{from_peer, is_left, peer_says};
-ghost use Rattle.tsp_rules.specs.CommonRows.{quits};
 ghost use Rattle.tsp_rules.specs.MasterRows.{master_takes};
 ghost use Rattle.tsp_rules.specs.Guards.{is_follow};
 ghost use Rattle.tsp_node.specs.declared.audience.Audience.TheVariants.{OfRoles};
@@ -31,6 +29,9 @@ use tsp_slave::quit::take_quit;
 use tsp_slave::take::slave_take;
 
 impl Part {
+    ghost use Rattle.std.specs.List.{Contains};
+    ghost use Rattle.tsp_rules.specs.CommonRows.{quits};
+
     /// Handles a message of a peer by the port's role, where the port heeds the peer.
     pub(crate) fn hear_peer<D: Desk>(
         &mut self,
@@ -98,7 +99,7 @@ impl Part {
             (D.spare desk.new) (D.acts desk.old) (D.acts desk.new) }
     {
         match m.kind() {
-            Kind::Quit => self.take_quit(clock, tick, p, m, port, desk),
+            Kind::Quit => self.take_quit(clock, At { tick, port }, p, m, desk),
             Kind::MasterUp => self.resolve.start(&mut self.station, tick, port, desk),
             Kind::Conflict => {
                 self.station.post(p, Kind::Ack, m.number(), port, desk);
@@ -113,29 +114,20 @@ impl Part {
     }
 
     /// Takes a QUIT at a master, which then follows its sender.
-    fn take_quit<D: Desk>(
-        &mut self,
-        clock: &Clock,
-        tick: u64,
-        p: PeerId,
-        m: &Message,
-        port: Port,
-        desk: &mut D,
-    )
+    fn take_quit<D: Desk>(&mut self, clock: &Clock, at: At, p: PeerId, m: &Message, desk: &mut D)
         requires room { 5 ≤ D.spare desk.old }
-        requires tick { IsTick tick }
+        requires tick { IsTick at.tick }
         requires peer { Contains self.old.station.peers p }
         requires role { self.old.station.role ≡ Master }
         requires audience { audience_of m.now.kind ≡ OfRoles }
         ensures row { Performs (PortTook (record { from = Peer p; taken = Good (MessageOf m.now) }))
-            PortStands (quits p m.now.number) tick port (port_with self.old clock.now)
+            PortStands (quits p m.now.number) at.tick at.port (port_with self.old clock.now)
             (port_with self.new clock.now) (D.acts desk.old) (D.acts desk.new) }
         ensures peers { self.new.station.peers ≡ self.old.station.peers }
         ensures room { PutsAtMost 5 (D.spare desk.old) (D.spare desk.new) (D.acts desk.old)
             (D.acts desk.new) }
     {
         let station = &mut self.station;
-        let at = At { tick, port };
         take_quit(station, &mut self.last, clock, at, p, m, desk);
         self.part_from(true);
     }

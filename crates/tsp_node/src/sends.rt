@@ -24,7 +24,7 @@ impl Part {
     ghost use Rattle.tsp_base.specs.PortFacts.{acting};
     ghost use Rattle.tsp_clock.specs.Clocks.{ClockValue};
     ghost use Rattle.tsp_node.specs.NodeStands.{PortBegun, port_with};
-    ghost use Rattle.tsp_node.specs.Dues.{IsNoted};
+    ghost use Rattle.tsp_node.specs.Dues.{IsMasterAlone, IsNoted};
 
     /// Repeats every due send, in the order of the peers: each is posted again or given up, and a slave that
     /// didn't acknowledge a correction leaves. A step does this first.
@@ -82,10 +82,7 @@ impl Part {
         requires peer { Contains self.old.station.peers (peer_of due.now) }
         ensures noted { IsNoted due.now tick port self.old.master self.new.master
             (D.acts desk.old) (D.acts desk.new) }
-        ensures station { self.new.station ≡ self.old.station }
-        ensures last { self.new.last ≡ self.old.last }
-        ensures resolve { self.new.resolve ≡ self.old.resolve }
-        ensures dates { self.new.dates ≡ self.old.dates }
+        ensures rest { IsMasterAlone self.old self.new }
         ensures room { PutsAtMost 1 (D.spare desk.old) (D.spare desk.new) (D.acts desk.old)
             (D.acts desk.new) }
     {
@@ -101,10 +98,7 @@ impl Part {
         ensures stands { (past : Past) (m : MessageValue) → m.kind ≡ kind → acting past.seen ≡ false
             → MasterStands past self.old.master
             → MasterStands (grown tick past (Post (Peer peer) (Message m) ∷ [])) self.new.master }
-        ensures station { self.new.station ≡ self.old.station }
-        ensures last { self.new.last ≡ self.old.last }
-        ensures resolve { self.new.resolve ≡ self.old.resolve }
-        ensures dates { self.new.dates ≡ self.old.dates }
+        ensures rest { IsMasterAlone self.old self.new }
     {
         if kind.is_correction() {
             self.master.again(peer, tick);
@@ -116,10 +110,7 @@ impl Part {
         requires room { 1 ≤ D.spare desk.old }
         ensures row { (x : ℕ) → Performs MasterStands MasterStands (leaves_after peer kind) x port
             self.old.master self.new.master (D.acts desk.old) (D.acts desk.new) }
-        ensures station { self.new.station ≡ self.old.station }
-        ensures last { self.new.last ≡ self.old.last }
-        ensures resolve { self.new.resolve ≡ self.old.resolve }
-        ensures dates { self.new.dates ≡ self.old.dates }
+        ensures rest { IsMasterAlone self.old self.new }
         ensures room { PutsAtMost 1 (D.spare desk.old) (D.spare desk.new) (D.acts desk.old)
             (D.acts desk.new) }
     {

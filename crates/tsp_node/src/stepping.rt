@@ -1,6 +1,7 @@
 //! The steps of a node that has booted.
 ghost use Rattle.std.specs.Prelude.{◌≡◌, ◌+◌, ◌*◌, ◌≤◌, true, false, length};
 ghost use Rattle.tsp_base.specs.declared.alarm.Alarm.TheVariants.{Probe, Close};
+ghost use Rattle.tsp_base.specs.declared.alarm.TheConstants.Alarm.{ALL};
 ghost use Rattle.tsp_base.specs.Frames.{IsTick, PutsAtMost};
 ghost use Rattle.tsp_base.specs.Performs.{Performs};
 ghost use Rattle.tsp_rules.specs.Answers.{Turn, Got, answers, due_alarms, rings_alone, takes};
@@ -107,13 +108,13 @@ impl Node {
     fn ring_alarms<D: Desk>(&mut self, tick: u64, desk: &mut D)
         requires tick { IsTick tick }
         requires later { clock_at self.old ≤ tick }
-        requires room { 20 * length (peers_in self.old) + 64 ≤ D.spare desk.old }
+        requires room { length ALL * (2 * length (peers_in self.old) + 4) + 16 ≤ D.spare desk.old }
         ensures row { Performs NodeUntaken NodeUntaken due_alarms tick (record { 0 = 0 }) self.old
             self.new (D.acts desk.old) (D.acts desk.new) }
         ensures peers { peers_in self.new ≡ peers_in self.old }
         ensures clock { clock_at self.new ≤ tick }
-        ensures room { PutsAtMost (16 * length (peers_in self.old) + 32) (D.spare desk.old)
-            (D.spare desk.new) (D.acts desk.old) (D.acts desk.new) }
+        ensures room { PutsAtMost (length ALL * (2 * length (peers_in self.old) + 4))
+            (D.spare desk.old) (D.spare desk.new) (D.acts desk.old) (D.acts desk.new) }
     {
         for alarm in &Alarm::ALL {
             self.ring(*alarm, tick, desk);

@@ -4,7 +4,9 @@ use Rattle.std.proofs.Common.{sym, subst, ap, ◌∙◌, arith, inl, inr, true�
 use Rattle.tsp_base.specs.declared.act.Act.{Act}
 use Rattle.tsp_base.specs.declared.act.Act.TheVariants.{Abandon, Become, Boot, Took}
 use Rattle.tsp_base.specs.declared.act.Placed.{Placed}
-use Rattle.tsp_base.specs.declared.alarm.Alarm.TheVariants.{Quiet, Search, Elect, Window, Probe, Close, Resolve, Round}
+use Rattle.tsp_base.specs.declared.alarm.Alarm.{Alarm}
+use Rattle.tsp_base.specs.declared.alarm.Alarm.TheVariants.{Quiet, Probe, Close, Round}
+use Rattle.tsp_base.specs.declared.alarm.TheConstants.Alarm.{ALL}
 use Rattle.tsp_base.specs.declared.constants.TheConstants.{QUIET}
 use Rattle.tsp_base.specs.declared.datagram.Datagram.TheVariants.{Message, Stamp}
 use Rattle.tsp_base.specs.declared.datagram.Taken.{Taken}
@@ -25,24 +27,22 @@ use Rattle.tsp_base.specs.Rows.{Row, grown, arms, placed, nothing, puts, ◌foll
 use Rattle.tsp_base.specs.SendFacts.{is_correction, sets_date}
 use Rattle.tsp_base.proofs.LeadsLemmas.{Leads_from, Leads_then}
 use Rattle.tsp_base.proofs.RowLemmas.{grown_append}
-use Rattle.tsp_rules.specs.Answers.{answers, due_alarms, input_row, rings, rings_alone, alarm_rings, takes, handles, handles_kind, is_left}
+use Rattle.tsp_rules.specs.Answers.{answers, due_alarms, input_row, rings, rings_alone, rings_each, alarm_rings, takes, handles, handles_kind, is_left}
 use Rattle.tsp_rules.specs.CommonRows.{boots}
-use Rattle.tsp_rules.specs.GateRows.{NodeGiven, NodeTurn, GotOn, alarm_on, alarms_on, all_ports, answers_all, any_port, begins_round_on, boots_all, boots_on, closes_on, ends_probes, follows_on, goes_on, has_rung, hears_on, heeds_loop, in_charge, input_all, is_last_probe, judge, judges, leads_clock, leads_on, loops_after, lower_ports, other_ports, ports_from, probes_on, steers, stirred_ports, takes_kind, takes_loop, takes_loop_step, takes_message, takes_on, turns_on}
+use Rattle.tsp_rules.specs.GateRows.{NodeGiven, NodeTurn, GotOn, is_probe, alarm_on, each_on, alarms_on, all_ports, answers_all, any_port, begins_round_on, boots_all, boots_on, closes_on, ends_probes, follows_on, goes_on, has_rung, hears_on, heeds_loop, in_charge, input_all, is_last_probe, judge, judges, leads_clock, leads_on, loops_after, lower_ports, other_ports, ports_from, probes_on, steers, stirred_ports, takes_kind, takes_loop, takes_loop_step, takes_message, takes_on, turns_on}
 use Rattle.tsp_rules.specs.NodeRows.{NodePast, NodeRow, PortSetup, abandons_on, for_ports, nothing_at_all, on, on_port, ◌and_then◌, reading_all, spread, stirring}
 use Rattle.tsp_rules.specs.RoundRows.{abandons, abandons_going, close_rings, corrects, upsetting}
 use Rattle.tsp_rules.specs.SendRows.{due_sends}
 use Rattle.tsp_rules.specs.Guards.{is_due, is_follow, is_going_at, is_over, is_own}
 use Rattle.tsp_rules.proofs.NodeRowLemmas.{on_own}
 use Rattle.tsp_promises.specs.NodeRuns.{NodeAnswers, IsGivenOn}
-use Rattle.tsp_promises.proofs.AlarmLeads.{quiet_leads, search_leads, elect_leads, resolve_leads}
-use Rattle.tsp_promises.proofs.AnswerLeads.{due_alarms_lead, takes_upsets}
+use Rattle.tsp_promises.proofs.AlarmTable.{Around, after_turn, alarm_leads, are_probed, around_open, before_turn, due_alarms_lead}
+use Rattle.tsp_promises.proofs.AnswerLeads.{takes_upsets}
+use Rattle.tsp_rules.proofs.CalmAlarms.{moves_by}
 use Rattle.tsp_rules.proofs.CalmSteps.{is_message}
-use Rattle.tsp_promises.proofs.CloseLeads.{close_leads}
 use Rattle.tsp_promises.proofs.CorrectionLeads.{due_sends_lead}
 use Rattle.tsp_promises.proofs.Known.{Fresh, Open, Rests}
 use Rattle.tsp_promises.proofs.Rings.{open_of}
-use Rattle.tsp_promises.proofs.RoundLeads.{probe_leads}
-use Rattle.tsp_promises.proofs.WindowLeads.{window_leads}
 use Rattle.tsp_promises.specs.Alone.{given_alone}
 use Rattle.tsp_promises.proofs.SteadyLemmas.{steady_takes, still_takes}
 
@@ -170,17 +170,25 @@ same-round = record {
   run = λ x past s one c. ap (λ ports. placed first_port (rings true (any_port (goes_on past) ports) Round x (alone past))) (none-other past s one);
 }
 
+-- an alarm's turn
+same-alarm : (a : Alarm) → Same (Around (moves_by a)) (alarm_on first_port a) (rings_alone a)
+unfolding alarm_on rings_alone
+same-alarm Probe = same-probe
+same-alarm Close = same-from (alarm_on first_port Close) (rings true false Close) (around_open true) same-close
+same-alarm Round = same-round
+same-alarm a = same-on (rings true false a)
+
+same-each : (probed : Bool) (alarms : List Alarm) → are_probed probed alarms ≡ true → Same (Around probed) (each_on first_port alarms) (rings_each alarms)
+unfolding nothing_at_all nothing rings_alone
+same-each probed [] e = record { run = λ x past s one c. refl }
+same-each probed (a ∷ []) e = same-from (alarm_on first_port a) (rings_alone a) (before_turn probed a [] e) (same-alarm a)
+same-each probed (a ∷ next ∷ rest) e =
+    same-from (each_on first_port (a ∷ next ∷ rest)) (rings_each (a ∷ next ∷ rest)) (before_turn probed a (next ∷ rest) e)
+    (same-then (alarm_on first_port a) (each_on first_port (next ∷ rest)) (rings_alone a) (rings_each (next ∷ rest)) (same-alarm a) (alarm_leads true false a) (same-each (is_probe a) (next ∷ rest) (after_turn probed a (next ∷ rest) e)))
+
 same-alarms : Same Open (alarms_on first_port) due_alarms
-unfolding alarms_on due_alarms rings_alone alarm_on
-same-alarms =
-    same-then (on first_port (rings true false Quiet)) _ (rings true false Quiet) _ (same-on (rings true false Quiet)) (quiet_leads true false)
-    (same-then (on first_port (rings true false Search)) _ (rings true false Search) _ (same-on (rings true false Search)) (search_leads true false)
-    (same-then (on first_port (rings true false Elect)) _ (rings true false Elect) _ (same-on (rings true false Elect)) (elect_leads true false)
-    (same-then (on first_port (rings true false Window)) _ (rings true false Window) _ (same-on (rings true false Window)) (window_leads true false)
-    (same-then _ _ (rings true false Probe) _ same-probe (probe_leads true false)
-    (same-then _ _ (rings true false Close) _ (same-from (alarm_on first_port Close) (rings true false Close) (λ x past h. h.open_port) same-close) (close_leads true false)
-    (same-then (on first_port (rings true false Resolve)) _ (rings true false Resolve) _ (same-on (rings true false Resolve)) (resolve_leads true false)
-    same-round))))))
+unfolding alarms_on due_alarms
+same-alarms = same-each false ALL refl
 
 same-turns : Same Fresh (turns_on first_port) (due_sends followed_by due_alarms)
 unfolding turns_on

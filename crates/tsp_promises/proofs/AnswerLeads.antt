@@ -2,7 +2,6 @@
 use Rattle.std.specs.Prelude.{◌≡◌, ℕ, not, Bool, true, false, List, [], ◌∷◌, refl}
 use Rattle.std.proofs.Common.{sym, subst, inl, inr, ap, true≢false, eq-eqb, ◌∙◌}
 use Rattle.tsp_base.specs.declared.act.Act.TheVariants.{Took}
-use Rattle.tsp_base.specs.declared.alarm.Alarm.TheVariants.{Quiet, Search, Elect, Window, Probe, Close, Resolve, Round}
 use Rattle.tsp_base.specs.declared.datagram.Datagram.TheVariants.{Message, Stamp}
 use Rattle.tsp_base.specs.declared.datagram.Taken.{Taken}
 use Rattle.tsp_base.specs.declared.datagram.Taken.TheVariants.{Good, Bad}
@@ -25,7 +24,7 @@ use Rattle.tsp_base.specs.Rows.{Row, grown, nothing, puts, ◌followed_by◌}
 use Rattle.tsp_base.specs.SendFacts.{is_date_request, sets_date}
 use Rattle.tsp_base.specs.Stamps.{ReplyValue}
 use Rattle.tsp_base.proofs.LeadsLemmas.{Leads_then, Leads_reading, Leads_nothing, Leads_from}
-use Rattle.tsp_rules.specs.Answers.{rings_alone, due_alarms, says_in, peer_says, replies_in, peer_replies, from_peer, handles_kind, is_left, handles, takes, Given, Turn, Got, input_row, answers}
+use Rattle.tsp_rules.specs.Answers.{due_alarms, says_in, peer_says, replies_in, peer_replies, from_peer, handles_kind, is_left, handles, takes, Given, Turn, Got, input_row, answers}
 use Rattle.tsp_rules.specs.CandidateRows.{candidate_takes}
 use Rattle.tsp_rules.specs.CommonRows.{quits}
 use Rattle.tsp_rules.specs.DateRows.{date_request_of, date_acked}
@@ -38,10 +37,7 @@ use Rattle.tsp_promises.proofs.Leaves.{none-among}
 use Rattle.tsp_promises.proofs.Rings.{open_of}
 use Rattle.tsp_promises.proofs.Changes.{Is, JustTook, take}
 use Rattle.tsp_rules.proofs.GuardFacts.{and-cases, not-true, awake_is}
-use Rattle.tsp_promises.proofs.AlarmLeads.{quiet_leads, search_leads, elect_leads, resolve_leads}
-use Rattle.tsp_promises.proofs.WindowLeads.{window_leads}
-use Rattle.tsp_promises.proofs.RoundLeads.{probe_leads, round_leads}
-use Rattle.tsp_promises.proofs.CloseLeads.{close_leads}
+use Rattle.tsp_promises.proofs.AlarmTable.{due_alarms_lead}
 use Rattle.tsp_promises.proofs.CorrectionLeads.{due_sends_lead}
 use Rattle.tsp_promises.proofs.TakenLeads.{Heard, HeardIn, Unanswered, rests_of, took_awake, names_master_leads, says_master_leads, traces_leads, tests_leads, replies_lead, quits_lead}
 use Rattle.tsp_promises.proofs.SlaveLeads.{quit_follower, idle_heard}
@@ -50,11 +46,6 @@ use Rattle.tsp_promises.proofs.SampleLeads.{samples_lead}
 use Rattle.tsp_promises.proofs.Upsets.{Upsets, upsets_of, upsets_from, upsets_either}
 use Rattle.tsp_promises.proofs.DateLeads.{date_upsets, date_request_upsets, date_acked_leads}
 use Rattle.tsp_promises.proofs.Stirring.{upsetting_lead}
-
-pub due_alarms_lead : Leads Open due_alarms Open
-unfolding due_alarms rings_alone
-due_alarms_lead = Leads_then (rings_alone Quiet) _ (quiet_leads true false) (Leads_then (rings_alone Search) _ (search_leads true false) (Leads_then (rings_alone Elect) _ (elect_leads true false) (Leads_then (rings_alone Window) _ (window_leads true false)
-    (Leads_then (rings_alone Probe) _ (probe_leads true false) (Leads_then (rings_alone Close) _ (close_leads true false) (Leads_then (rings_alone Resolve) (rings_alone Round) (resolve_leads true false) (round_leads true false)))))))
 
 module _ {p : PeerId} {m : MessageValue} where
   pub quit_loose : m.kind ≡ QuitKind → Leads (HeardIn p m Loose) (quits p m.number) Rests

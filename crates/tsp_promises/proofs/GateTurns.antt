@@ -3,13 +3,14 @@ use Rattle.std.specs.Prelude.{◌≡◌, ◌≤◌, ◌<◌, ℕ, ◌+◌, ◌==
 use Rattle.std.proofs.Common.{sym, subst, arith, eqb-true, ◌∙◌}
 use Rattle.tsp_base.specs.declared.act.Act.{Act}
 use Rattle.tsp_base.specs.declared.alarm.Alarm.{Alarm}
-use Rattle.tsp_base.specs.declared.alarm.Alarm.TheVariants.{Quiet, Search, Elect, Window, Probe, Close, Resolve, Round}
+use Rattle.tsp_base.specs.declared.alarm.Alarm.TheVariants.{Probe, Close, Round}
+use Rattle.tsp_base.specs.declared.alarm.TheConstants.Alarm.{ALL}
 use Rattle.tsp_base.specs.declared.place.Port.{Port}
 use Rattle.tsp_base.specs.History.{Past}
 use Rattle.tsp_base.specs.Leads.{Leads}
 use Rattle.tsp_base.specs.Rows.{grown}
 use Rattle.tsp_rules.specs.Answers.{rings}
-use Rattle.tsp_rules.specs.GateRows.{ports_from, all_ports, other_ports, leads_clock, waits, has_rung, is_last_probe, ends_probes, sends_loops, loops_after, probes_on, closes_on, begins_round_on, alarm_on, alarms_on, turns_on}
+use Rattle.tsp_rules.specs.GateRows.{ports_from, all_ports, other_ports, leads_clock, waits, has_rung, is_last_probe, ends_probes, sends_loops, loops_after, probes_on, closes_on, begins_round_on, is_probe, alarm_on, each_on, alarms_on, turns_on}
 use Rattle.tsp_rules.specs.NodeRows.{PortSetup, NodePast, on_port, spread, nothing_at_all, on, ◌and_then◌, reading_all, for_ports}
 use Rattle.tsp_rules.specs.SendRows.{due_sends}
 use Rattle.tsp_rules.proofs.NodeRowLemmas.{spread_append}
@@ -17,16 +18,14 @@ use Rattle.tsp_promises.proofs.Known.{Open, OpenIn, Fresh, FreshIn, Untaken}
 use Rattle.tsp_promises.proofs.Rings.{open_of}
 use Rattle.tsp_rules.proofs.GuardFacts.{and-cases}
 use Rattle.tsp_promises.proofs.CorrectionLeads.{due_sends_lead}
-use Rattle.tsp_promises.proofs.AlarmLeads.{quiet_leads, search_leads, elect_leads, resolve_leads}
-use Rattle.tsp_promises.proofs.WindowLeads.{window_leads}
-use Rattle.tsp_promises.proofs.RoundLeads.{Probed, probe_leads, round_leads}
-use Rattle.tsp_promises.proofs.CloseLeads.{close_leads}
+use Rattle.tsp_promises.proofs.AlarmTable.{Around, after_turn, alarm_leads, are_probed, around_open, before_turn}
+use Rattle.tsp_promises.proofs.RoundLeads.{Probed}
 use Rattle.tsp_rules.proofs.CalmRows.{calm_due_sends}
 use Rattle.tsp_rules.proofs.CalmAlarms.{moves_by, calm_rings}
 use Rattle.tsp_promises.proofs.Elsewheres.{Family, fresh_family, open_family, kept_aside, moved_aside, calm_bootless, calm_still}
 use Rattle.tsp_rules.proofs.Asides.{all_aside}
 use Rattle.tsp_promises.proofs.PortLists.{other_ranged, other_others, other_listed, unlisted}
-use Rattle.tsp_promises.proofs.GateFacts.{AllPorts, LeadsAll, All_after, All_reading, All_from, Pick, passes, same_port}
+use Rattle.tsp_promises.proofs.GateFacts.{AllPorts, LeadsAll, All_after, All_reading, All_from, All_to, Pick, passes, same_port}
 use Rattle.tsp_promises.proofs.GateSteps.{AtPort, own_of, at_to, on_run, on_leads, stirring_all}
 use Rattle.tsp_promises.proofs.GateLoops.{loops_kept, loops_calm}
 
@@ -67,7 +66,7 @@ module _ (done : Port → Bool) where
         let acts = rings true false Probe x (on_port q past) in
         let first = on q (rings true false Probe) x past in
         subst (λ z. AtPort q Probed (λ r. Rest r false) x z) (sym (spread_append x past first (loops_after q acts x (spread x past first))))
-        (loops-run q acts x (spread x past first) ((alarm-leads q false Probe refl (probe_leads true false)).run x past h));
+        (loops-run q acts x (spread x past first) ((alarm-leads q false Probe refl (alarm_leads true false Probe)).run x past h));
   }
 
   -- while port q closes, it counts as one whose turn has been
@@ -81,7 +80,7 @@ module _ (done : Port → Bool) where
         let row = rings own false Close in
         let acts = row x (on_port q past) in
         let calm = (calm_rings {strange = false} {moving = true} own false Close (λ e. refl)).calm x (on_port q past) in
-        let opened : Open x (grown x (on_port q past) acts) = (close_leads own false).run x (on_port q past) (own_of q x past h) in
+        let opened : Open x (grown x (on_port q past) acts) = (alarm_leads own false Close).run x (on_port q past) (own_of q x past h) in
         let mine : With q q false x (grown x (on_port q past) acts) = subst (λ b. Standing (b || done q) false x (grown x (on_port q past) acts)) (sym (same_port q)) opened in
         let all = stirring_all (With q) (λ r. standing-family ((q.0 == r.0) || done r)) q (other_ports q past) row x past (λ r. Pick (q.0 == r.0) Probed (Rest r false)) (calm_bootless false true acts calm) (other_ranged q past) h.all
         (λ e. mine)
@@ -99,20 +98,28 @@ module _ (done : Port → Bool) where
         };
   }
 
+  -- an alarm's turn
+  alarm-on-leads : (q : Port) (a : Alarm) → LeadsAll (AtPort q (Around (moves_by a)) (λ r. Rest r false)) (alarm_on q a) (AtPort q (Around (is_probe a)) (λ r. Rest r false))
+  unfolding alarm_on begins_round_on
+  alarm-on-leads q Probe = probes-lead q
+  alarm-on-leads q Close = All_reading (leads_clock q) (closes_on q) (closes-lead q)
+  alarm-on-leads q Round = All_reading (waits q) (begins_round_on q) (λ wait. alarm-leads q wait Round refl (alarm_leads true wait Round))
+  alarm-on-leads q a = alarm-leads q false a refl (alarm_leads true false a)
+
+  each-leads : (q : Port) (probed : Bool) (alarms : List Alarm) → are_probed probed alarms ≡ true → LeadsAll (AtPort q (Around probed) (λ r. Rest r false)) (each_on q alarms) (AtPort q Open (λ r. Rest r false))
+  unfolding nothing_at_all
+  each-leads q probed [] e = record { run = λ x past h. at_to q (around_open probed) x past h }
+  each-leads q probed (a ∷ []) e = All_from (λ x past h. at_to q (before_turn probed a [] e) x past h) (All_to (λ x past h. at_to q (around_open (is_probe a)) x past h) (alarm-on-leads q a))
+  each-leads q probed (a ∷ next ∷ rest) e =
+      All_from (λ x past h. at_to q (before_turn probed a (next ∷ rest) e) x past h)
+      (All_after (alarm_on q a) (each_on q (next ∷ rest)) (alarm-on-leads q a) (each-leads q (is_probe a) (next ∷ rest) (after_turn probed a (next ∷ rest) e)))
+
   -- a port's whole turn
   turn-leads : (q : Port) → LeadsAll (AtPort q Fresh (λ r. Rest r false)) (turns_on q) (AtPort q Open (λ r. Rest r false))
-  unfolding turns_on alarms_on alarm_on begins_round_on
+  unfolding turns_on alarms_on
   turn-leads q =
       All_after (on q due_sends) (alarms_on q) (on_leads Rest rest-family false q due_sends (λ x past. (calm_due_sends {strange = false} {moving = false}).calm x past) due_sends_lead)
-      (All_from (λ x past h. at_to q (λ y now k. open_of k) x past h)
-      (All_after (alarm_on q Quiet) _ (alarm-leads q false Quiet refl (quiet_leads true false))
-      (All_after (alarm_on q Search) _ (alarm-leads q false Search refl (search_leads true false))
-      (All_after (alarm_on q Elect) _ (alarm-leads q false Elect refl (elect_leads true false))
-      (All_after (alarm_on q Window) _ (alarm-leads q false Window refl (window_leads true false))
-      (All_after (alarm_on q Probe) _ (probes-lead q)
-      (All_after (alarm_on q Close) _ (All_reading (leads_clock q) (closes_on q) (closes-lead q))
-      (All_after (alarm_on q Resolve) (alarm_on q Round) (alarm-leads q false Resolve refl (resolve_leads true false))
-      (All_reading (waits q) (begins_round_on q) (λ wait. alarm-leads q wait Round refl (round_leads true wait)))))))))))
+      (All_from (λ x past h. at_to q (λ y now k. open_of k) x past h) (each-leads q false ALL refl))
 
 -- the ports below k have had their turn
 below : ℕ → Port → Bool

@@ -3,6 +3,7 @@ pub mod AgreedProof
 pub mod AgreedShownProof
 pub mod AgreedSums
 pub mod AlarmLeads
+pub mod AlarmTable
 pub mod AloneLemmas
 pub mod AnswerLeads
 pub mod AnsweredProof

@@ -1,9 +1,8 @@
--- The alarms keep a port sound.
+-- What each alarm does keeps a port sound.
 use Rattle.std.specs.Prelude.{◌≡◌, ◌^◌, ◌-ℤ◌, ℤ, Bool, true, false, if◌then◌else◌, List, [], ◌∷◌, map, Option, None, Some, refl}
 use Rattle.std.proofs.Common.{subst, arith}
 use Rattle.std.proofs.Math.Nat.{mod-lt}
 use Rattle.tsp_base.specs.declared.act.Act.TheVariants.{Become, Ring, Late, Leave, Abandon}
-use Rattle.tsp_base.specs.declared.alarm.Alarm.{Alarm}
 use Rattle.tsp_base.specs.declared.alarm.Alarm.TheVariants.{Quiet, Search, Elect, Window, Probe, Close, Resolve, Round}
 use Rattle.tsp_base.specs.declared.constants.TheConstants.{PROBE, CLOSE, ROUND, SPAN, WAIT}
 use Rattle.tsp_base.specs.declared.kind.Kind.TheVariants.{MasterUp, Quit}
@@ -17,7 +16,6 @@ use Rattle.tsp_base.specs.Rows.{nothing, puts, ◌followed_by◌, either_by, rea
 use Rattle.tsp_base.specs.Times.{IsMicros}
 use Rattle.tsp_base.proofs.LeadsLemmas.{Leads_then, Leads_reading, Leads_nothing, Leads_each}
 use Rattle.tsp_group.specs.Groups.{group_of}
-use Rattle.tsp_rules.specs.Answers.{alarm_rings, rings, rings_alone, due_alarms}
 use Rattle.tsp_rules.specs.CandidateRows.{lead_row, yields, has_won, window_rings}
 use Rattle.tsp_rules.specs.ClockRows.{can_adjust}
 use Rattle.tsp_rules.specs.CommonRows.{arms_elect, searches, candidature_row}
@@ -25,24 +23,24 @@ use Rattle.tsp_rules.specs.ResolveRows.{quits_rivals, resolve_rings}
 use Rattle.tsp_rules.specs.RoundRows.{asks, asks_slaves, round_begins, begins_or_waits, round_rings, measured_at, asks_measured, has_more, arms_next, abandons, probe_rings, Standing, standing, round_at, is_near, estimates, corrects_by, corrects_peer, mean_by, close_act, moves, closes_with, closes, close_rings}
 use Rattle.tsp_rules.specs.SendRows.{begins, begins_adjtime, begins_settime}
 use Rattle.tsp_rules.specs.SlaveRows.{quiet_rings, rings_or_late, search_rings, loosens, elect_rings}
-use Rattle.tsp_rules.specs.Guards.{is_due, is_in_time, may_stand_at, follows_at, rivals_at, table_at}
+use Rattle.tsp_rules.specs.Guards.{is_in_time, may_stand_at, follows_at, rivals_at, table_at}
 use Rattle.tsp_promises.specs.Sound.{AreSound}
 use Rattle.tsp_promises.proofs.MeanFacts.{correction_time}
 use Rattle.tsp_promises.proofs.SoundFacts.{IsSoundEstimate, estimate_sound}
 use Rattle.tsp_promises.proofs.SoundRows.{SoundAt, Soundly, sound_act, sound_either, sound_reading, sound_puts, sound_arms, sound_posts_to_others, sound_elect, sound_searches, sound_candidature, sound_begins, sound_begins_adjtime, sound_begins_settime}
 use Rattle.tsp_promises.proofs.SoundRoles.{sound_adjusts, sound_yields}
 
-quiet-sound : Soundly quiet_rings
+pub quiet_sound : Soundly quiet_rings
 unfolding quiet_rings
-quiet-sound = Leads_then (puts (Ring Quiet)) (puts (Become Loose) followed_by searches) (sound_puts (Ring Quiet) (λ c n. refl) tt) (Leads_then (puts (Become Loose)) searches (sound_puts (Become Loose) (λ c n. refl) tt) sound_searches)
+quiet_sound = Leads_then (puts (Ring Quiet)) (puts (Become Loose) followed_by searches) (sound_puts (Ring Quiet) (λ c n. refl) tt) (Leads_then (puts (Become Loose)) searches (sound_puts (Become Loose) (λ c n. refl) tt) sound_searches)
 
-search-sound : Soundly search_rings
+pub search_sound : Soundly search_rings
 unfolding search_rings rings_or_late
-search-sound = Leads_then (rings_or_late Search) arms_elect (sound_either (is_in_time Search) (puts (Ring Search)) (puts (Late Search)) (sound_puts (Ring Search) (λ c n. refl) tt) (sound_puts (Late Search) (λ c n. refl) tt)) sound_elect
+search_sound = Leads_then (rings_or_late Search) arms_elect (sound_either (is_in_time Search) (puts (Ring Search)) (puts (Late Search)) (sound_puts (Ring Search) (λ c n. refl) tt) (sound_puts (Late Search) (λ c n. refl) tt)) sound_elect
 
-elect-sound : Soundly elect_rings
+pub elect_sound : Soundly elect_rings
 unfolding elect_rings loosens
-elect-sound = sound_either (is_in_time Elect) (puts (Ring Elect) followed_by either_by may_stand_at candidature_row (loosens followed_by searches)) (puts (Late Elect) followed_by arms_elect)
+elect_sound = sound_either (is_in_time Elect) (puts (Ring Elect) followed_by either_by may_stand_at candidature_row (loosens followed_by searches)) (puts (Late Elect) followed_by arms_elect)
     (Leads_then (puts (Ring Elect)) (either_by may_stand_at candidature_row (loosens followed_by searches)) (sound_puts (Ring Elect) (λ c n. refl) tt)
     (sound_either may_stand_at candidature_row (loosens followed_by searches) sound_candidature
     (Leads_then loosens searches (sound_either follows_at (puts (Become Loose)) nothing (sound_puts (Become Loose) (λ c n. refl) tt) Leads_nothing) sound_searches)))
@@ -53,15 +51,15 @@ unfolding lead_row body_fits carries_time carries_hops
 lead-sound = Leads_then (puts (Become Master)) (arms Round ROUND followed_by posts_to_others MasterUp 0) (sound_puts (Become Master) (λ c n. refl) tt)
     (Leads_then (arms Round ROUND) (posts_to_others MasterUp 0) (sound_arms Round ROUND) (sound_posts_to_others MasterUp 0 refl (omega arith)))
 
-window-sound : Soundly window_rings
+pub window_sound : Soundly window_rings
 unfolding window_rings
-window-sound = sound_either (is_in_time Window) (puts (Ring Window) followed_by either_by has_won lead_row yields) (puts (Late Window) followed_by yields)
+window_sound = sound_either (is_in_time Window) (puts (Ring Window) followed_by either_by has_won lead_row yields) (puts (Late Window) followed_by yields)
     (Leads_then (puts (Ring Window)) (either_by has_won lead_row yields) (sound_puts (Ring Window) (λ c n. refl) tt) (sound_either has_won lead_row yields lead-sound sound_yields))
     (Leads_then (puts (Late Window)) yields (sound_puts (Late Window) (λ c n. refl) tt) sound_yields)
 
-resolve-sound : Soundly resolve_rings
+pub resolve_sound : Soundly resolve_rings
 unfolding resolve_rings quits_rivals body_fits carries_time carries_hops
-resolve-sound = sound_either (is_in_time Resolve) (puts (Ring Resolve) followed_by reading rivals_at (for_each (begins Quit))) (puts (Late Resolve))
+resolve_sound = sound_either (is_in_time Resolve) (puts (Ring Resolve) followed_by reading rivals_at (for_each (begins Quit))) (puts (Late Resolve))
     (Leads_then (puts (Ring Resolve)) (reading rivals_at (for_each (begins Quit))) (sound_puts (Ring Resolve) (λ c n. refl) tt)
     (sound_reading rivals_at (for_each (begins Quit)) (λ ps. Leads_each (begins Quit) ps (λ p. sound_begins Quit p refl))))
     (sound_puts (Late Resolve) (λ c n. refl) tt)
@@ -80,15 +78,15 @@ begins-sound false = Leads_then (arms Round ROUND) (arms Probe PROBE followed_by
     (Leads_then (posts_to_others MasterUp 0) asks_slaves (sound_posts_to_others MasterUp 0 refl (omega arith))
     (sound_reading table_at (for_each asks) (λ ps. Leads_each asks ps asks-sound)))))
 
-round-sound : (wait : Bool) → Soundly (round_rings wait)
+pub round_sound : (wait : Bool) → Soundly (round_rings wait)
 unfolding round_rings
-round-sound wait = sound_either (is_in_time Round) (puts (Ring Round) followed_by begins_or_waits wait) (puts (Late Round) followed_by arms Round ROUND)
+round_sound wait = sound_either (is_in_time Round) (puts (Ring Round) followed_by begins_or_waits wait) (puts (Late Round) followed_by arms Round ROUND)
     (Leads_then (puts (Ring Round)) (begins_or_waits wait) (sound_puts (Ring Round) (λ c n. refl) tt) (begins-sound wait))
     (Leads_then (puts (Late Round)) (arms Round ROUND) (sound_puts (Late Round) (λ c n. refl) tt) (sound_arms Round ROUND))
 
-probe-sound : Soundly probe_rings
+pub probe_sound : Soundly probe_rings
 unfolding probe_rings asks_measured arms_next abandons
-probe-sound = sound_either (is_in_time Probe) (puts (Ring Probe) followed_by (asks_measured followed_by arms_next)) (puts (Late Probe) followed_by puts Abandon)
+probe_sound = sound_either (is_in_time Probe) (puts (Ring Probe) followed_by (asks_measured followed_by arms_next)) (puts (Late Probe) followed_by puts Abandon)
     (Leads_then (puts (Ring Probe)) (asks_measured followed_by arms_next) (sound_puts (Ring Probe) (λ c n. refl) tt)
     (Leads_then asks_measured arms_next (sound_reading measured_at (for_each asks) (λ ps. Leads_each asks ps asks-sound)) (sound_either has_more (arms Probe PROBE) nothing (sound_arms Probe PROBE) Leads_nothing)))
     (Leads_then (puts (Late Probe)) (puts Abandon) (sound_puts (Late Probe) (λ c n. refl) tt) (sound_puts Abandon (λ c n. refl) tt))
@@ -131,28 +129,8 @@ closes-sound own round h =
     (Leads_then (moves own mean) (for_each (corrects_peer mean) round) (moves-sound own mean) (peers-sound mean round (λ diff e. correction_time own SPAN round diff e) h)))
     (sound_puts Abandon (λ c n. refl) tt))
 
-close-sound : (own : Bool) → Soundly (close_rings own)
+pub close_sound : (own : Bool) → Soundly (close_rings own)
 unfolding close_rings abandons
-close-sound own = sound_either (is_in_time Close) (reading round_at (closes own)) (puts (Late Close) followed_by puts Abandon)
+close_sound own = sound_either (is_in_time Close) (reading round_at (closes own)) (puts (Late Close) followed_by puts Abandon)
     (record { run = λ x past h. (Leads_reading {P = λ y now. SoundAt y now × (AreSoundStandings (round_at y now))} {Q = SoundAt} round_at (closes own) (λ round. record { run = λ y now k. (closes-sound own round (subst AreSoundStandings k.1 k.0.1)).run y now k.0.0 })).run x past (h, standings-sound past.seen (measured_at x past) h.acts) })
     (Leads_then (puts (Late Close)) (puts Abandon) (sound_puts (Late Close) (λ c n. refl) tt) (sound_puts Abandon (λ c n. refl) tt))
-
-alarm-sound : (own wait : Bool) (a : Alarm) → Soundly (alarm_rings own wait a)
-unfolding alarm_rings
-alarm-sound own wait Quiet = quiet-sound
-alarm-sound own wait Search = search-sound
-alarm-sound own wait Elect = elect-sound
-alarm-sound own wait Window = window-sound
-alarm-sound own wait Probe = probe-sound
-alarm-sound own wait Close = close-sound own
-alarm-sound own wait Resolve = resolve-sound
-alarm-sound own wait Round = round-sound wait
-
-pub sound_rings : (own wait : Bool) (a : Alarm) → Soundly (rings own wait a)
-unfolding rings
-sound_rings own wait a = sound_either (is_due a) (alarm_rings own wait a) nothing (alarm-sound own wait a) Leads_nothing
-
-pub sound_alarms : Soundly due_alarms
-unfolding due_alarms rings_alone
-sound_alarms = Leads_then (rings_alone Quiet) _ (sound_rings true false Quiet) (Leads_then (rings_alone Search) _ (sound_rings true false Search) (Leads_then (rings_alone Elect) _ (sound_rings true false Elect) (Leads_then (rings_alone Window) _ (sound_rings true false Window)
-    (Leads_then (rings_alone Probe) _ (sound_rings true false Probe) (Leads_then (rings_alone Close) _ (sound_rings true false Close) (Leads_then (rings_alone Resolve) (rings_alone Round) (sound_rings true false Resolve) (sound_rings true false Round)))))))

@@ -37,7 +37,7 @@ use Rattle.tsp_promises.specs.Sound.{IsSound, IsSoundTaken, IsSoundAct, AreSound
 use Rattle.tsp_promises.proofs.SoundFacts.{time_sound}
 use Rattle.tsp_promises.proofs.SoundRows.{Soundly, sound_either, sound_reading, sound_if, sound_puts, sound_posts, sound_posts_back, sound_posts_to_others, sound_replies, sound_names_master, sound_says_master, sound_traces, sound_tests, sound_begins_timed, sound_due_sends}
 use Rattle.tsp_promises.proofs.SoundRoles.{sound_sets, sound_peer_says}
-use Rattle.tsp_promises.proofs.SoundAlarms.{sound_alarms}
+use Rattle.tsp_promises.proofs.AlarmTable.{sound_alarms}
 
 -- a reply
 request-sound : (p : PeerId) (r : ReplyValue) → r.ticket < 32768 → (o : Option OpenRequest) → Soundly (samples_request p r o)

@@ -1,5 +1,5 @@
 -- What a node that is up puts in a step fits.
-use Rattle.std.specs.Prelude.{◌≡◌, ℕ, ◌+◌, ◌*◌, ◌≤◌, ◌<◌, pos, ◌+ℤ◌, Bool, true, false, List, [], ◌∷◌, ◌++◌, length, refl}
+use Rattle.std.specs.Prelude.{◌≡◌, ℕ, ◌≤◌, ◌<◌, pos, ◌+ℤ◌, Bool, true, false, List, [], ◌∷◌, ◌++◌, length, refl}
 use Rattle.std.proofs.Common.{sym, subst, arith, true≢false}
 use Rattle.tsp_base.specs.Joins.{first_port, line_of}
 use Rattle.tsp_base.specs.Rows.{puts}
@@ -17,7 +17,7 @@ use Rattle.tsp_rules.specs.NodeRows.{NodePast, on, ◌and_then◌, reading_all, 
 use Rattle.tsp_rules.proofs.FewActs.{is_calm_act}
 use Rattle.tsp_rules.specs.Strangers.{is_stranger}
 use Rattle.tsp_run.specs.Networks.{room}
-use Rattle.tsp_run.proofs.CalmPorts.{AreCalm, Small, calm_boots, calm_turn_all, small_spread, takes_once_on}
+use Rattle.tsp_run.proofs.CalmPorts.{AreCalm, Small, calm_boots, calm_turn_all, small_spread, step_most, takes_once_on}
 use Rattle.tsp_run.proofs.FitsLines.{TakenOk, AllTaken, AllAlive, ActsOn}
 use Rattle.tsp_run.proofs.NetworkLemmas.{peers_few}
 
@@ -58,7 +58,7 @@ on-all strange n (p ∷ acts) c = ((λ e. c.0), on-all strange n acts c.2)
 
 -- what a step by the rules owes besides
 pub record StepOk (ports wanted : ℕ) (setting : Setting) (step : Step) (x : ℕ) (history : List Line) (is_up : Bool) (acts : List Placed) : Type 0 where
-  pub few : length acts ≤ 109 * wanted + 266
+  pub few : length acts ≤ step_most wanted
   pub alive : AllAlive setting step x is_up acts
   pub taken : AllTaken setting step x history acts
   pub on : ActsOn ports acts

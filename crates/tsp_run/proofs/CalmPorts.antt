@@ -5,7 +5,8 @@ use Rattle.tsp_base.specs.declared.act.Act.{Act}
 use Rattle.tsp_base.specs.declared.act.Act.TheVariants.{Took, Become, Abandon}
 use Rattle.tsp_base.specs.declared.act.Placed.{Placed}
 use Rattle.tsp_base.specs.declared.alarm.Alarm.{Alarm}
-use Rattle.tsp_base.specs.declared.alarm.Alarm.TheVariants.{Quiet, Search, Elect, Window, Probe, Close, Resolve, Round}
+use Rattle.tsp_base.specs.declared.alarm.Alarm.TheVariants.{Quiet, Probe, Close, Round}
+use Rattle.tsp_base.specs.declared.alarm.TheConstants.Alarm.{ALL}
 use Rattle.tsp_base.specs.declared.datagram.Datagram.TheVariants.{Message, Stamp}
 use Rattle.tsp_base.specs.declared.datagram.Taken.{Taken}
 use Rattle.tsp_base.specs.declared.datagram.Taken.TheVariants.{Good, Bad}
@@ -23,7 +24,7 @@ use Rattle.tsp_base.specs.Rows.{Row, nothing, puts, arms, ◌followed_by◌, oth
 use Rattle.tsp_base.specs.SendFacts.{sets_date}
 use Rattle.tsp_rules.specs.Answers.{rings, handles, takes}
 use Rattle.tsp_rules.specs.CandidateRows.{yields}
-use Rattle.tsp_rules.specs.GateRows.{ports_from, all_ports, other_ports, leads_clock, waits, loop_to, sends_loops, ends_probes, loops_after, probes_on, closes_on, begins_round_on, alarm_on, alarms_on, turns_on, LoopStep, PassOver, GiveUp, Forward, judge, repost, reposts, is_awake_on, reposts_on, loosens_master, forwards, takes_loop_step, hears_on, judges, heeds_loop, takes_loop, stirred_ports, takes_message, takes_kind, takes_on, steers, in_charge, NodeTurn, GotOn, input_all, answers_all, boots_on}
+use Rattle.tsp_rules.specs.GateRows.{ports_from, all_ports, other_ports, leads_clock, waits, loop_to, sends_loops, ends_probes, loops_after, probes_on, closes_on, begins_round_on, alarm_on, each_on, alarms_on, turns_on, LoopStep, PassOver, GiveUp, Forward, judge, repost, reposts, is_awake_on, reposts_on, loosens_master, forwards, takes_loop_step, hears_on, judges, heeds_loop, takes_loop, stirred_ports, takes_message, takes_kind, takes_on, steers, in_charge, NodeTurn, GotOn, input_all, answers_all, boots_on}
 use Rattle.tsp_rules.specs.NodeRows.{PortSetup, NodePast, NodeRow, port_setup, on_port, spread, nothing_at_all, on, ◌and_then◌, reading_all, for_ports, abandons_on, stirring}
 use Rattle.tsp_rules.specs.RoundRows.{corrects}
 use Rattle.tsp_rules.specs.SendRows.{due_sends}
@@ -36,6 +37,14 @@ use Rattle.tsp_rules.proofs.FewActs.{is_calm_act, is_calm, Calm, calm_arms, calm
 use Rattle.tsp_promises.proofs.GateLoops.{loops_calm}
 use Rattle.tsp_promises.proofs.PortLists.{Ranged, ranged_from, other_ranged}
 use Rattle.tsp_rules.proofs.GuardFacts.{and-cases}
+
+-- how many acts the due sends and alarms of four ports put at the most, where each port has so many peers
+abbrev pub turns_most : ℕ → ℕ
+turns_most peers = (2 * peers + (3 * peers + 8) * length ALL) * 4
+
+-- how many a step puts at the most
+abbrev pub step_most : ℕ → ℕ
+step_most peers = turns_most peers + (5 * peers + 10)
 
 -- calm acts, each on one of so many ports
 abbrev pub AreCalm : Bool → ℕ → List Placed → Type 0
@@ -224,20 +233,24 @@ module _ {strange : Bool} {n peers : ℕ} (four : n ≤ 4) where
   calm-alarm q Round has = calm-all-more (reading_all (waits q) (begins_round_on q)) (omega arith) (calm-reading (waits q) (begins_round_on q) (λ wait. calm-on {k = 2} {c = 4} q (rings true wait Round) has (calm_rings true wait Round (λ e. refl))))
   calm-alarm q a has = calm-all-more (on q (rings true false a)) (omega arith) (calm-on {k = 2} {c = 4} q (rings true false a) has (calm_rings true false a (λ e. refl)))
 
-  calm-alarms : (q : Port) → q.0 < n → CalmAll strange n peers (24 * peers + 64) (alarms_on q)
-  unfolding alarms_on
-  calm-alarms q has =
-      let one = λ (a : Alarm). calm-alarm q a has in
-      calm-all-more (alarms_on q) (omega arith)
-      (calm-and (alarm_on q Quiet) _ (one Quiet) (calm-and (alarm_on q Search) _ (one Search) (calm-and (alarm_on q Elect) _ (one Elect) (calm-and (alarm_on q Window) _ (one Window)
-      (calm-and (alarm_on q Probe) _ (one Probe) (calm-and (alarm_on q Close) _ (one Close) (calm-and (alarm_on q Resolve) (alarm_on q Round) (one Resolve) (one Round))))))))
+  calm-each : (q : Port) (alarms : List Alarm) → q.0 < n → CalmAll strange n peers ((3 * peers + 8) * length alarms) (each_on q alarms)
+  unfolding nothing_at_all
+  calm-each q [] has = record { run = λ x past s. no-acts strange n _ }
+  calm-each q (a ∷ []) has = calm-all-more (alarm_on q a) (omega arith) (calm-alarm q a has)
+  calm-each q (a ∷ next ∷ rest) has =
+      let more : (3 * peers + 8) * length (a ∷ next ∷ rest) ≡ (3 * peers + 8) + (3 * peers + 8) * length (next ∷ rest) = grind arith in
+      calm-all-more (alarm_on q a and_then each_on q (next ∷ rest)) (omega (arith, more)) (calm-and (alarm_on q a) (each_on q (next ∷ rest)) (calm-alarm q a has) (calm-each q (next ∷ rest) has))
 
-  calm-turns : (q : Port) → q.0 < n → CalmAll strange n peers ((2 * peers + 0) + (24 * peers + 64)) (turns_on q)
+  calm-alarms : (q : Port) → q.0 < n → CalmAll strange n peers ((3 * peers + 8) * length ALL) (alarms_on q)
+  unfolding alarms_on
+  calm-alarms q has = calm-each q ALL has
+
+  calm-turns : (q : Port) → q.0 < n → CalmAll strange n peers ((2 * peers + 0) + (3 * peers + 8) * length ALL) (turns_on q)
   unfolding turns_on
   calm-turns q has = calm-and (on q due_sends) (alarms_on q) (calm-on {k = 2} {c = 0} q due_sends has calm_due_sends) (calm-alarms q has)
 
   -- the due sends and alarms of all ports
-  pub calm_turns : CalmAll strange n peers (104 * peers + 256) (reading_all all_ports (for_ports turns_on))
+  pub calm_turns : CalmAll strange n peers (turns_most peers) (reading_all all_ports (for_ports turns_on))
   unfolding reading_all
   calm_turns = record {
     run = λ x past s.
@@ -347,7 +360,7 @@ module _ {n : ℕ} (peers : ℕ) (four : n ≤ 4) (q : Port) (has : q.0 < n) (fr
   takes-first (Bad fault) x past s = plain-first (Bad fault) x past s
 
   -- a step that is given a datagram on a port takes it once
-  pub takes_once_on : (t : Taken) (x : ℕ) (past : NodePast) → Small n peers past → TakesOnce from t q n (109 * peers + 266) (answers_all (GotOn q from t) x past)
+  pub takes_once_on : (t : Taken) (x : ℕ) (past : NodePast) → Small n peers past → TakesOnce from t q n (step_most peers) (answers_all (GotOn q from t) x past)
   unfolding answers_all ◌and_then◌ input_all
   takes_once_on t x past s =
       let turns = reading_all all_ports (for_ports turns_on) x past in
@@ -364,6 +377,6 @@ module _ {n : ℕ} (peers : ℕ) (four : n ≤ 4) (q : Port) (has : q.0 < n) (fr
       }
 
 -- a step that is given nothing is calm
-pub calm_turn_all : {strange : Bool} (n peers : ℕ) → n ≤ 4 → CalmAll strange n peers (104 * peers + 256) (answers_all NodeTurn)
+pub calm_turn_all : {strange : Bool} (n peers : ℕ) → n ≤ 4 → CalmAll strange n peers (turns_most peers) (answers_all NodeTurn)
 unfolding answers_all input_all nothing_at_all ◌and_then◌
-calm_turn_all {strange} n peers four = record { run = λ x past s. subst (λ acts. CalmActs strange n (104 * peers + 256) acts) (sym (append-nil (reading_all all_ports (for_ports turns_on) x past))) ((calm_turns four).run x past s) }
+calm_turn_all {strange} n peers four = record { run = λ x past s. subst (λ acts. CalmActs strange n (turns_most peers) acts) (sym (append-nil (reading_all all_ports (for_ports turns_on) x past))) ((calm_turns four).run x past s) }

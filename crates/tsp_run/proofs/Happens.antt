@@ -1,5 +1,5 @@
 -- What the events of a schedule make happen.
-use Rattle.std.specs.Prelude.{◌≡◌, ◌⊎◌, ◌≤◌, ◌<◌, ℕ, ◌+◌, ◌*◌, false, List, [], ◌∷◌, length, Option, None, Some, slice_get, refl}
+use Rattle.std.specs.Prelude.{◌≡◌, ◌⊎◌, ◌≤◌, ◌<◌, ℕ, false, List, [], ◌∷◌, length, Option, None, Some, slice_get, refl}
 use Rattle.std.proofs.Common.{ap, ◌∙◌, inl, inr}
 use Rattle.tsp_base.specs.declared.act.Act.TheVariants.{Boot}
 use Rattle.tsp_base.specs.declared.act.Placed.{Placed}
@@ -24,7 +24,7 @@ use Rattle.tsp_run.specs.Run.{Happening, arrives, arrives_at, goes_to, happening
 use Rattle.tsp_run.specs.Run.{posts}
 use Rattle.tsp_run.specs.Setup.{past_of}
 use Rattle.tsp_run.proofs.AnswersFit.{small_room}
-use Rattle.tsp_run.proofs.CalmPorts.{AreCalm, TakesOnce, calm_boots, calm_turn_all, small_spread, takes_once_on}
+use Rattle.tsp_run.proofs.CalmPorts.{AreCalm, TakesOnce, calm_boots, calm_turn_all, small_spread, step_most, takes_once_on}
 use Rattle.tsp_run.proofs.NetworkLemmas.{few_ports, goes_there}
 use Rattle.tsp_run.proofs.RefusalLemmas.{goes-nowhere, goes_to-post}
 
@@ -76,7 +76,7 @@ module _ {header : HeaderValue} (is : IsHeader header) (history : List Line) (st
 
   -- how many acts a taking has at the most
   abbrev pub most : ℕ
-  most = 109 * room (ports_on step.node (networks header)) + 266
+  most = step_most (room (ports_on step.node (networks header)))
 
   -- a datagram is taken once
   pub got_acts : (q : Port) (from : Place) (t : Taken) → q.0 < ports_in header step → TakesOnce from t q (ports_in header step) most (acts_by header history (answers_all (GotOn q from t)) step)

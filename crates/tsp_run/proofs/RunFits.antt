@@ -1,5 +1,5 @@
 -- The history of every schedule fits.
-use Rattle.std.specs.Prelude.{◌≡◌, ℕ, ◌+◌, ◌*◌, ◌<◌, ◌≤◌, ◌^◌, ◌==◌, pos, ◌+ℤ◌, Bool, true, false, List, [], ◌∷◌, length, Option, None, Some, slice_get, All, refl}
+use Rattle.std.specs.Prelude.{◌≡◌, ℕ, ◌+◌, ◌<◌, ◌≤◌, ◌^◌, ◌==◌, pos, ◌+ℤ◌, Bool, true, false, List, [], ◌∷◌, length, Option, None, Some, slice_get, All, refl}
 use Rattle.std.proofs.Common.{sym, ap, subst, inr, arith, ◌∙◌, eq-eqb, eqb-true}
 use Rattle.std.proofs.lemmas.List.Elements.{All-head, All-tail}
 use Rattle.tsp_base.specs.Joins.{first_port, joined, line_of, stepped}
@@ -38,6 +38,7 @@ use Rattle.tsp_run.specs.Run.{run, joins, happening, steps, step_tick, boot_step
 use Rattle.tsp_run.specs.Setting.{SetBy, RunsFit, named_or}
 use Rattle.tsp_run.specs.Setup.{node_line, past_of, rests}
 use Rattle.tsp_run.proofs.AnswersFit.{StepOk, turn_ok, got_ok, boot_ok}
+use Rattle.tsp_run.proofs.CalmPorts.{step_most}
 use Rattle.tsp_run.proofs.FitsLines.{ActsOn, AllAlive, ArePlaced, acts_fit, all_end, mark_line, of_placed}
 use Rattle.tsp_run.proofs.HeaderLines.{name-node_line}
 use Rattle.tsp_run.proofs.NetworkLemmas.{few_ports, goes_there, set_up}
@@ -116,7 +117,7 @@ own_is : (header : HeaderValue) (step : Step) (h : List Line) (q : Port) → q.0
 own_is header step h q has = ap (λ (k : PortSetup). k.own.0) (set_up step.node q.0 0 0 (networks header) has).setup
 
 -- a step by a row that keeps what is known of each port
-by_row : (header : HeaderValue) (setting : Setting) (t : ℕ) (h : List Line) (step : Step) (row : NodeRow) → SetBy header setting → Ran header setting t h → t ≤ step.at → posted (dids h) + (109 * room (ports_on step.node (networks header)) + 266) < 2 ^ 64 →
+by_row : (header : HeaderValue) (setting : Setting) (t : ℕ) (h : List Line) (step : Step) (row : NodeRow) → SetBy header setting → Ran header setting t h → t ≤ step.at → posted (dids h) + step_most (room (ports_on step.node (networks header))) < 2 ^ 64 →
     (AllPorts (λ r. Fresh) (step_tick header step) (in_node_step step (step_tick header step) (past_of header step h)) →
     AllPorts (λ r. Rests) (step_tick header step) (spread (step_tick header step) (in_node_step step (step_tick header step) (past_of header step h)) (row (step_tick header step) (in_node_step step (step_tick header step) (past_of header step h))))) →
     (SoundNode (in_node_step step (step_tick header step) (past_of header step h)) → SoundNode (spread (step_tick header step) (in_node_step step (step_tick header step) (past_of header step h)) (row (step_tick header step) (in_node_step step (step_tick header step) (past_of header step h))))) →
@@ -153,7 +154,7 @@ by_row header setting t h step row set r later few leads soundly ok =
     }
 
 -- the posts leave room
-few_posts : (header : HeaderValue) (before : List Event) (e : Event) (n : ℕ) → refusal (scene header before) e ≡ None → actor (scene header before) e ≡ Some n → posted (dids (run header before)) + (109 * room (ports_on n (networks header)) + 266) < 2 ^ 64
+few_posts : (header : HeaderValue) (before : List Event) (e : Event) (n : ℕ) → refusal (scene header before) e ≡ None → actor (scene header before) e ≡ Some n → posted (dids (run header before)) + step_most (room (ports_on n (networks header))) < 2 ^ 64
 few_posts header before e n none acts =
     let a = allowed (scene header before) e none in
     let some = a.posts n acts in

@@ -6,7 +6,8 @@ use Rattle.tsp_base.specs.declared.act.Act.{Act}
 use Rattle.tsp_base.specs.declared.act.Act.TheVariants.{Boot, Took, Become, Abandon}
 use Rattle.tsp_base.specs.declared.act.Placed.{Placed}
 use Rattle.tsp_base.specs.declared.alarm.Alarm.{Alarm}
-use Rattle.tsp_base.specs.declared.alarm.Alarm.TheVariants.{Quiet, Search, Elect, Window, Probe, Close, Resolve, Round}
+use Rattle.tsp_base.specs.declared.alarm.Alarm.TheVariants.{Quiet, Probe, Close, Round}
+use Rattle.tsp_base.specs.declared.alarm.TheConstants.Alarm.{ALL}
 use Rattle.tsp_base.specs.declared.constants.TheConstants.{HOPS, QUIET}
 use Rattle.tsp_base.specs.declared.datagram.Datagram.TheVariants.{Message, Stamp}
 use Rattle.tsp_base.specs.declared.datagram.Taken.{Taken}
@@ -39,9 +40,9 @@ use Rattle.tsp_rules.specs.SendRows.{due_sends}
 use Rattle.tsp_rules.specs.Guards.{is_master_at}
 use Rattle.tsp_rules.proofs.NodeRowLemmas.{view_own, spread_append}
 use Rattle.tsp_promises.specs.Sound.{IsSound, IsSoundAct, IsSoundBody, IsSoundDeed, IsSoundTaken, AreSound, SoundPast}
-use Rattle.tsp_promises.proofs.GateFacts.{LeadsAll, All_after, All_reading}
+use Rattle.tsp_promises.proofs.GateFacts.{LeadsAll, All_after, All_alarms, All_reading}
 use Rattle.tsp_promises.proofs.PortLists.{Ranged, ranged_from, other_ranged}
-use Rattle.tsp_promises.proofs.SoundAlarms.{sound_rings}
+use Rattle.tsp_promises.proofs.AlarmTable.{sound_rings}
 use Rattle.tsp_promises.proofs.SoundRoles.{sound_yields}
 use Rattle.tsp_promises.proofs.SoundRows.{Soundly, sound_act, sound_arms, sound_either, sound_puts, sound_due_sends}
 use Rattle.tsp_promises.proofs.SoundSteps.{acts_sound, sound_takes}
@@ -173,11 +174,7 @@ sound-alarm q a few = sound-on q (rings true false a) (sound_rings true false a)
 
 sound-turns : (q : Port) → q.0 < 4 → SoundlyAll (turns_on q)
 unfolding turns_on alarms_on
-sound-turns q few =
-    let one = λ (a : Alarm). sound-alarm q a few in
-    All_after (on q due_sends) (alarms_on q) (sound-on q due_sends sound_due_sends)
-    (All_after (alarm_on q Quiet) _ (one Quiet) (All_after (alarm_on q Search) _ (one Search) (All_after (alarm_on q Elect) _ (one Elect) (All_after (alarm_on q Window) _ (one Window)
-    (All_after (alarm_on q Probe) _ (one Probe) (All_after (alarm_on q Close) _ (one Close) (All_after (alarm_on q Resolve) (alarm_on q Round) (one Resolve) (one Round))))))))
+sound-turns q few = All_after (on q due_sends) (alarms_on q) (sound-on q due_sends sound_due_sends) (All_alarms q ALL (λ a. sound-alarm q a few))
 
 sound-all-turns : SoundlyAll (reading_all all_ports (for_ports turns_on))
 unfolding reading_all

@@ -1,29 +1,33 @@
 -- The tests of all alarms are that of the earliest.
-use Rattle.std.proofs.Common.{sym, ◌∙◌}
-use Rattle.tsp_base.specs.declared.alarm.Alarm.TheVariants.{Close, Elect, Probe, Quiet, Resolve, Search, Window}
-use Rattle.tsp_node.proofs.DueLemmas.{over-at, over-last}
+use Rattle.std.specs.Prelude.{slice_index_or}
+use Rattle.std.proofs.Common.{◌≡◌, ◌∙◌, ℕ, arith, false, inl, inr, subst, sym}
+use Rattle.std.proofs.lemmas.Bool.{cases_lt}
+use Rattle.tsp_base.specs.declared.alarm.Alarm.{Alarm}
+use Rattle.tsp_base.specs.declared.alarm.Alarm.TheVariants.{Quiet}
+use Rattle.tsp_base.specs.declared.alarm.TheConstants.Alarm.{ALL}
+use Rattle.tsp_base.specs.Alarms.{deadline}
+use Rattle.tsp_rules.specs.Guards.{is_over}
+use Rattle.tsp_node.proofs.AlarmOrder.{at_place, has_place, place}
+use Rattle.tsp_node.proofs.DueLemmas.{none_over, over-at}
 use Rattle.tsp_node.proofs.readings.is_any_due.Goals as goal
 
 pub returns-then-is_due : goal.returns-then-is_due
-returns-then-is_due c = sym (over-at c.args.station.now.alarms c.args.tick Quiet (sym c.is_due.ensures ∙ c.if-is_due.true))
+returns-then-is_due c = sym (over-at c.args.station.now.alarms c.args.tick (slice_index_or ALL c.loop-alarm.alarm-index Quiet) (sym c.is_due.ensures ∙ c.if-is_due.true))
 
-pub returns-then-is_due-2 : goal.returns-then-is_due-2
-returns-then-is_due-2 c = sym (over-at c.args.station.now.alarms c.args.tick Search (sym c.is_due-2.ensures ∙ c.if-is_due-2.true))
+pub loop-alarm-init : goal.loop-alarm-init
+loop-alarm-init c = λ i lt. absurd (omega (arith, lt))
 
-pub returns-then-is_due-3 : goal.returns-then-is_due-3
-returns-then-is_due-3 c = sym (over-at c.args.station.now.alarms c.args.tick Elect (sym c.is_due-3.ensures ∙ c.if-is_due-3.true))
-
-pub returns-then-is_due-4 : goal.returns-then-is_due-4
-returns-then-is_due-4 c = sym (over-at c.args.station.now.alarms c.args.tick Window (sym c.is_due-4.ensures ∙ c.if-is_due-4.true))
-
-pub returns-then-is_due-5 : goal.returns-then-is_due-5
-returns-then-is_due-5 c = sym (over-at c.args.station.now.alarms c.args.tick Probe (sym c.is_due-5.ensures ∙ c.if-is_due-5.true))
-
-pub returns-then-is_due-6 : goal.returns-then-is_due-6
-returns-then-is_due-6 c = sym (over-at c.args.station.now.alarms c.args.tick Close (sym c.is_due-6.ensures ∙ c.if-is_due-6.true))
-
-pub returns-then-is_due-7 : goal.returns-then-is_due-7
-returns-then-is_due-7 c = sym (over-at c.args.station.now.alarms c.args.tick Resolve (sym c.is_due-7.ensures ∙ c.if-is_due-7.true))
+pub loop-alarm-preserved : goal.loop-alarm-preserved
+loop-alarm-preserved c =
+    let alarms = c.args.station.now.alarms in
+    let at = λ (i : ℕ). is_over (deadline alarms (slice_index_or ALL i Quiet)) c.args.tick ≡ false in
+    λ i lt. elim (cases_lt i c.loop-alarm.alarm-index) [
+      | inl before ↦ c.loop-alarm.invariant i before
+      | inr after ↦ let now : c.loop-alarm.alarm-index ≡ i = omega (arith, lt, after) in subst at now (sym c.is_due.ensures ∙ c.if-is_due.false)
+    ]
 
 pub returns : goal.returns
-returns c = c.is_due-8.ensures ∙ over-last c.args.station.now.alarms c.args.tick (sym c.is_due.ensures ∙ c.if-is_due.false) (sym c.is_due-2.ensures ∙ c.if-is_due-2.false) (sym c.is_due-3.ensures ∙ c.if-is_due-3.false) (sym c.is_due-4.ensures ∙ c.if-is_due-4.false) (sym c.is_due-5.ensures ∙ c.if-is_due-5.false) (sym c.is_due-6.ensures ∙ c.if-is_due-6.false) (sym c.is_due-7.ensures ∙ c.if-is_due-7.false)
+returns c =
+    let alarms = c.args.station.now.alarms in
+    let waits = λ (a : Alarm). subst (λ (b : Alarm). is_over (deadline alarms b) c.args.tick ≡ false) (at_place a) (c.loop-alarm.invariant (place a) (omega (arith, has_place a, c.loop-alarm-test.false))) in
+    sym (none_over alarms c.args.tick waits)

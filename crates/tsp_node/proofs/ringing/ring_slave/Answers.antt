@@ -2,7 +2,7 @@
 use Rattle.std.proofs.Common.{◌≡◌}
 use Rattle.tsp_rules.specs.Answers.{alarm_rings}
 use Rattle.tsp_slave.specs.SlaveAlarms.{slave_rings}
-use Rattle.tsp_node.proofs.RingLemmas.{slave_rings-is}
+use Rattle.tsp_node.proofs.AlarmCases.{slave_rings-is}
 use Rattle.tsp_node.proofs.ringing.ring_slave.Goals as goal
 
 pub returns-in-Elect-clause-row : goal.returns-in-Elect-clause-row

@@ -8,18 +8,21 @@ use Rattle.tsp_base.specs.Rows.{for_each}
 use Rattle.tsp_base.proofs.PerformsLemmas.{Performs_each_more, Performs_nothing, Performs_same}
 use Rattle.tsp_rules.specs.Answers.{due_alarms, rings_alone}
 use Rattle.tsp_node.specs.NodeStands.{peers_in}
-use Rattle.tsp_node.proofs.AlarmOrder.{all_due, take_one_more}
+use Rattle.tsp_node.proofs.AlarmOrder.{all_due, close_after_probe, take_one_more}
 use Rattle.tsp_node.proofs.node.Node.ring_alarms.Goals as goal
 
 pub loop-alarm-init : goal.loop-alarm-init
 unfolding for_each
 loop-alarm-init g c = record {
   row = Performs_nothing;
-  probe = λ e. absurd (omega (arith, e));
+  probe = λ e. let bad : ⊥ = cc in absurd bad;
   peers = refl;
   clock = c.requires.later;
   room = record { spare = omega arith; few = omega arith };
 }
+
+pub ring-requires-clause-order : goal.ring-requires-clause-order
+ring-requires-clause-order g c = c.loop-alarm.invariant.probe
 
 pub loop-alarm-preserved : goal.loop-alarm-preserved
 loop-alarm-preserved g c =
@@ -30,7 +33,7 @@ loop-alarm-preserved g c =
     let more : (c.loop-alarm.alarm-index + 1) * (2 * length (peers_in c.args.self.now) + 4) ≡ c.loop-alarm.alarm-index * (2 * length (peers_in c.args.self.now) + 4) + (2 * length (peers_in c.args.self.now) + 4) = grind arith in
     record {
       row = rw (take_one_more ALL i Quiet c.loop-alarm-test.true) (Performs_each_more rings_alone (take i ALL) (slice_index_or ALL i Quiet) inv.row ring.row);
-      probe = λ e. let last : c.loop-alarm.alarm-index ≡ 4 = omega (arith, e) in ring.over (ap (λ k. slice_index_or ALL k Quiet) last);
+      probe = λ e. ring.over (close_after_probe i e);
       peers = ring.peers ∙ inv.peers;
       clock = ring.clock;
       room = record { spare = omega (arith, more, same, inv.room.spare, ring.room.spare); few = omega (arith, more, same, inv.room.few, ring.room.few) };

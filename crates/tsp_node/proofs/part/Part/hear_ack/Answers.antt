@@ -13,9 +13,9 @@ returns-in_default-clause-row g c took x clock = Performs_unheard c.args.from (p
 pub acknowledge-requires-clause-peer : goal.acknowledge-requires-clause-peer
 acknowledge-requires-clause-peer g c = heard_peer c.args.self.now.station c.args.from c.in-Some.p (sym c.in-Some.ensures)
 
-pub returns-clause-row : goal.returns-clause-row
+pub returns-in-Some-clause-row : goal.returns-in-Some-clause-row
 unfolding peer_says
-returns-clause-row g c took x clock =
+returns-in-Some-clause-row g c took x clock =
     let st = c.args.self.now.station in
     let m = c.args.m.now in
     let from = c.args.from in

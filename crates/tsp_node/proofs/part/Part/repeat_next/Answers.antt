@@ -6,6 +6,6 @@ use Rattle.tsp_node.proofs.part.Part.repeat_next.Goals as goal
 pub returns-clause-row : goal.returns-clause-row
 returns-clause-row g c clock =
     let note = c.note_due.ensures in
-    let sends = rw (← note.station) at c.in_ok-due.ensures.sends in
-    let row = rw (← note.station) at c.in_ok-due.ensures.row in
-    Performs_noted c.args.after c.in_ok-due.due sends note.last note.resolve note.dates refl row note.noted
+    let sends = rw (← note.rest.station) at c.in_ok-due.ensures.sends in
+    let row = rw (← note.rest.station) at c.in_ok-due.ensures.row in
+    Performs_noted c.args.after c.in_ok-due.due sends note.rest.last note.rest.resolve note.rest.dates refl row note.noted

@@ -9,9 +9,11 @@ use Rattle.tsp_master.specs.MasterStands.{MasterStands}
 use Rattle.tsp_master.proofs.TableLemmas.{MasterStands_quiet, quiet_sorts}
 use Rattle.tsp_resolve.proofs.ResolveLemmas.{ResolveStands_by}
 use Rattle.tsp_node.specs.RoleAlarms.{is_of_master}
-use Rattle.tsp_node.proofs.AlarmCases.{emits_resolve, emits_wait, of_slave, waits}
+use Rattle.tsp_node.specs.NodeStands.{port_with}
+use Rattle.tsp_node.proofs.AlarmCases.{beside_alarm, emits_resolve, emits_wait, of_slave, slave_alarm, waits}
 use Rattle.tsp_node.proofs.DatesKeeps.{DatesStand_resolve}
-use Rattle.tsp_node.proofs.NodeLemmas.{Performs_resolved, Performs_station, Performs_untaken}
+use Rattle.tsp_node.proofs.EmitsRoles.{role_sorts}
+use Rattle.tsp_node.proofs.NodeLemmas.{Performs_resolved, Performs_station, Performs_untaken, rivals_part, slaves_part}
 use Rattle.tsp_node.proofs.part.Part.ring_beside.Goals as goal
 
 pub returns-in-Round-clause-row : goal.returns-in-Round-clause-row
@@ -36,8 +38,19 @@ returns-in-Resolve-clause-row g c own clock =
     rw c.in-Resolve.is (Performs_untaken (Emits_more (Numbering ∷ Alarming ∷ []) refl emits_resolve)
     (Performs_resolved refl refl refl refl (Emits_more (Numbering ∷ Alarming ∷ []) refl emits_resolve) (Emits_more (Numbering ∷ Alarming ∷ []) refl emits_resolve) DatesStand_resolve c.ring.ensures.row))
 
-pub ring_role-requires-clause-alarm : goal.ring_role-requires-clause-alarm
-ring_role-requires-clause-alarm g c = of_slave c.args.wait c.args.alarm c.requires.alarm c.in_default.not-Round c.in_default.not-Window c.in_default.not-Resolve
+pub ring_slave-requires-clause-alarm : goal.ring_slave-requires-clause-alarm
+ring_slave-requires-clause-alarm g c = of_slave c.args.wait c.args.alarm c.requires.alarm c.in_default.not-Round c.in_default.not-Window c.in_default.not-Resolve
 
+-- what the station does, and what the slaves and the rivals become
 pub returns-in_default-clause-row : goal.returns-in_default-clause-row
-returns-in_default-clause-row g c own clock = c.ring_role.ensures.row own c.args.wait clock
+returns-in_default-clause-row g c own clock =
+    let wait = c.args.wait in
+    let alarm = c.args.alarm in
+    let is = of_slave wait alarm c.requires.alarm c.in_default.not-Round c.in_default.not-Window c.in_default.not-Resolve in
+    let row = rw (← c.part_from.ensures.station) at (c.ring_slave.ensures.row own wait) in
+    let emits = (slave_alarm own wait alarm is).roles in
+    Performs_untaken (Emits_more role_sorts refl emits)
+    (Performs_station {after = port_with c.part_from.new.self clock} c.part_from.ensures.last refl c.part_from.ensures.dates (beside_alarm own wait alarm is) (slave_alarm own wait alarm is).dates
+    (λ past h s. slaves_part (alarm_rings own wait alarm) emits c.args.tick past (port_with c.args.self.now clock) (port_with c.part_from.new.self clock) (rw (c.leads-led.ensures, ← c.part_from.ensures.station) at c.part_from.ensures.slaves) h s)
+    (λ past h s. rivals_part (alarm_rings own wait alarm) emits c.args.tick past (port_with c.args.self.now clock) (port_with c.part_from.new.self clock) (rw (c.leads-led.ensures, ← c.part_from.ensures.station) at c.part_from.ensures.rivals) h s)
+    row)

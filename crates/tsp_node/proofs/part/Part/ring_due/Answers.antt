@@ -1,30 +1,43 @@
--- A master's alarm is its round's, and any other leaves the clock alone.
-use Rattle.std.proofs.Common.{◌≡◌, sym, ◌∙◌}
+-- A master's alarm is its round's, and a correction is remembered; any other leaves the clock alone.
+use Rattle.std.proofs.Common.{◌≡◌, false, true, refl, sym, ◌∙◌}
 use Rattle.tsp_rules.specs.Answers.{alarm_rings}
 use Rattle.tsp_master.specs.MasterAlarms.{master_rings}
 use Rattle.tsp_node.proofs.AlarmCases.{corrects_beside, master_rings-is, no_probe}
+use Rattle.tsp_node.proofs.RoundLemmas.{Performs_round}
 use Rattle.tsp_node.proofs.part.Part.ring_due.Goals as goal
 
-pub returns-then-is_of_master-clause-row : goal.returns-then-is_of_master-clause-row
-returns-then-is_of_master-clause-row g c =
-    let same : master_rings c.args.terms.group_mean c.args.alarm ≡ alarm_rings c.args.terms.group_mean c.args.terms.wait c.args.alarm =
-    master_rings-is c.args.terms.group_mean c.args.terms.wait c.args.alarm (sym c.is_of_master.ensures ∙ c.if-is_of_master.true) in
-    rw same at c.ring_round.ensures.row
-
-pub returns-then-is_of_master-clause-corrects : goal.returns-then-is_of_master-clause-corrects
-returns-then-is_of_master-clause-corrects g c past h =
-    let same : master_rings c.args.terms.group_mean c.args.alarm ≡ alarm_rings c.args.terms.group_mean c.args.terms.wait c.args.alarm =
-    master_rings-is c.args.terms.group_mean c.args.terms.wait c.args.alarm (sym c.is_of_master.ensures ∙ c.if-is_of_master.true) in
-    rw same at (c.ring_round.ensures.corrects past h)
-
 pub ring_beside-requires-clause-alarm : goal.ring_beside-requires-clause-alarm
-ring_beside-requires-clause-alarm g c = sym c.is_of_master.ensures ∙ c.if-is_of_master.false
+ring_beside-requires-clause-alarm g c = sym c.is_of_master.ensures ∙ c.if-not-is_of_master.true
 
-pub returns-else-is_of_master-clause-row : goal.returns-else-is_of_master-clause-row
-returns-else-is_of_master-clause-row g c = c.ring_beside.ensures.row c.args.terms.group_mean c.args.clock.now
+pub returns-then-not-is_of_master-clause-row : goal.returns-then-not-is_of_master-clause-row
+returns-then-not-is_of_master-clause-row g c = c.ring_beside.ensures.row c.args.terms.group_mean c.args.clock.now
 
-pub returns-else-is_of_master-clause-corrects : goal.returns-else-is_of_master-clause-corrects
-returns-else-is_of_master-clause-corrects g c past h = corrects_beside c.args.terms.group_mean c.args.terms.wait c.args.alarm (sym c.is_of_master.ensures ∙ c.if-is_of_master.false) c.args.terms.at.tick past
+pub returns-then-not-is_of_master-clause-corrects : goal.returns-then-not-is_of_master-clause-corrects
+returns-then-not-is_of_master-clause-corrects g c past h = corrects_beside c.args.terms.group_mean c.args.terms.wait c.args.alarm (sym c.is_of_master.ensures ∙ c.if-not-is_of_master.true) c.args.terms.at.tick past
 
-pub returns-else-is_of_master-clause-over : goal.returns-else-is_of_master-clause-over
-returns-else-is_of_master-clause-over g c e = absurd (no_probe c.args.terms.wait c.args.alarm (sym c.is_of_master.ensures ∙ c.if-is_of_master.false) e)
+pub returns-then-not-is_of_master-clause-over : goal.returns-then-not-is_of_master-clause-over
+returns-then-not-is_of_master-clause-over g c e = absurd (no_probe c.args.terms.wait c.args.alarm (sym c.is_of_master.ensures ∙ c.if-not-is_of_master.true) e)
+
+pub returns-then-corrected-clause-row : goal.returns-then-corrected-clause-row
+returns-then-corrected-clause-row g c =
+    let same : master_rings c.args.terms.group_mean c.args.alarm ≡ alarm_rings c.args.terms.group_mean c.args.terms.wait c.args.alarm =
+    master_rings-is c.args.terms.group_mean c.args.terms.wait c.args.alarm (sym c.is_of_master.ensures ∙ c.if-not-is_of_master.false) in
+    rw (← same) (Performs_round c.args.terms.group_mean c.args.alarm true c.ring-corrected.ensures.row (λ past h. sym c.if-corrected.true ∙ c.ring-corrected.ensures.corrects past h) c.moved.ensures refl refl)
+
+pub returns-else-corrected-clause-row : goal.returns-else-corrected-clause-row
+returns-else-corrected-clause-row g c =
+    let same : master_rings c.args.terms.group_mean c.args.alarm ≡ alarm_rings c.args.terms.group_mean c.args.terms.wait c.args.alarm =
+    master_rings-is c.args.terms.group_mean c.args.terms.wait c.args.alarm (sym c.is_of_master.ensures ∙ c.if-not-is_of_master.false) in
+    rw (← same) (Performs_round c.args.terms.group_mean c.args.alarm false c.ring-corrected.ensures.row (λ past h. sym c.if-corrected.false ∙ c.ring-corrected.ensures.corrects past h) refl refl refl)
+
+pub returns-then-corrected-clause-corrects : goal.returns-then-corrected-clause-corrects
+returns-then-corrected-clause-corrects g c past h =
+    let same : master_rings c.args.terms.group_mean c.args.alarm ≡ alarm_rings c.args.terms.group_mean c.args.terms.wait c.args.alarm =
+    master_rings-is c.args.terms.group_mean c.args.terms.wait c.args.alarm (sym c.is_of_master.ensures ∙ c.if-not-is_of_master.false) in
+    rw same at (c.ring-corrected.ensures.corrects past (record { master = h.stands.master; station = h.stands.station; clock = h.stands.clock }))
+
+pub returns-else-corrected-clause-corrects : goal.returns-else-corrected-clause-corrects
+returns-else-corrected-clause-corrects g c past h =
+    let same : master_rings c.args.terms.group_mean c.args.alarm ≡ alarm_rings c.args.terms.group_mean c.args.terms.wait c.args.alarm =
+    master_rings-is c.args.terms.group_mean c.args.terms.wait c.args.alarm (sym c.is_of_master.ensures ∙ c.if-not-is_of_master.false) in
+    rw same at (c.ring-corrected.ensures.corrects past (record { master = h.stands.master; station = h.stands.station; clock = h.stands.clock }))

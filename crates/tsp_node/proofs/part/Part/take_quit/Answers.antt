@@ -14,7 +14,7 @@ use Rattle.tsp_node.proofs.part.Part.take_quit.Goals as goal
 
 pub returns-clause-row : goal.returns-clause-row
 returns-clause-row g c =
-    let x = c.args.tick in
+    let x = c.args.at.tick in
     let p = c.args.p in
     let m = c.args.m.now in
     let new = c.part_from.new.self in
