@@ -2,16 +2,16 @@
 ghost use Rattle.std.specs.Prelude.{◌≡◌, ◌≤◌, ◌<◌, ◌⊎◌, ◌+◌, ◌-◌, ◌^◌, ℕ, [], ◌∷◌, ◌++◌, List, length};
 ghost use Rattle.std.specs.Prelude.{get_or, is_some, take, vec_len, vec_capacity, true, MatchBool, IfOk};
 ghost use Rattle.std.specs.Prelude.{OnOk};
+ghost use Rattle.tsp_base.specs.History.{Line, from_act};
+ghost use Rattle.tsp_promises.specs.Agreed.{Agreed, AgreedAt};
+ghost use Rattle.tsp_promises.specs.Setting.{Setting};
+ghost use Rattle.tsp_history.specs.declared.line.HistoryLine.{HistoryLine as NotedValue};
+ghost use Rattle.tsp_history.specs.Histories.{deed_of, line_of, history_of};
+ghost use Rattle.tsp_history.specs.Notes.{Told};
 ghost use Rattle.tsp_audit.specs.Agreeing.{AccordIs, AllAgree, AllAre, AllBounded, AreBlank};
 ghost use Rattle.tsp_audit.specs.Agreeing.{FirstIs, Numbered, StaysKnown, TripsTell};
 ghost use Rattle.tsp_audit.specs.Changes.{IsQuiet};
 ghost use Rattle.tsp_audit.specs.Settings.{HasClocks, Timely};
-ghost use Rattle.tsp_promises.specs.Agreed.{Agreed, AgreedAt};
-ghost use Rattle.tsp_base.specs.History.{Line, from_act};
-ghost use Rattle.tsp_promises.specs.Setting.{Setting};
-ghost use Rattle.tsp_history.specs.Histories.{deed_of, line_of, history_of};
-ghost use Rattle.tsp_history.specs.Notes.{Told};
-ghost use Rattle.tsp_history.specs.declared.line.HistoryLine.{HistoryLine as NotedValue};
 
 use crate::nearness::all_agree;
 use crate::resting::rests;

@@ -61,14 +61,14 @@ pub struct Audit {
 }
 
 impl Audit {
+    ghost use Rattle.std.specs.Prelude.{List};
     ghost use Rattle.tsp_audit.specs.Settings.{HasClocks};
-    ghost use Rattle.tsp_audit.specs.Verdicts.{AuditStands, Audits, IsFound};
-    ghost use Rattle.tsp_base.specs.Headers.{HeaderValue};
     ghost use Rattle.tsp_promises.specs.Setting.{Setting};
+    ghost use Rattle.tsp_base.specs.Headers.{HeaderValue};
+    ghost use Rattle.tsp_audit.specs.Verdicts.{AuditStands, Audits, IsFound};
     ghost use Rattle.tsp_claims.specs.ClaimedHistory.{Claim};
     ghost use Rattle.tsp_claims.specs.Listed.{NamesNode};
     ghost use Rattle.tsp_run.specs.Run.{event_at};
-    ghost use Rattle.std.specs.Prelude.{List};
 
     /// Nothing is claimed. The header has 1 to 16 nodes, and each is in a network if it names any.
     /// Fails only if out of memory, and then drops the header.

@@ -1,14 +1,12 @@
 //! Whether the lines of an event keep all parts.
 ghost use Rattle.std.specs.Prelude.{◌≡◌, ◌≤◌, ◌<◌, ◌+◌, ◌-◌, ◌^◌, ℕ, true, length, take, vec_len};
 ghost use Rattle.std.specs.Prelude.{vec_capacity, None, MatchBool};
-ghost use Rattle.tsp_audit.specs.Agreeing.{AccordIs, Numbered};
-ghost use Rattle.tsp_audit.specs.Judged.{Judges};
-ghost use Rattle.tsp_audit.specs.Notes.{HasRoom, NotesStand};
-ghost use Rattle.tsp_audit.specs.Parts.{Agreeing, AllKeep, AllKept, Keeps};
-ghost use Rattle.tsp_audit.specs.Settings.{HasClocks, Timely};
 ghost use Rattle.tsp_promises.specs.Setting.{Setting};
 ghost use Rattle.tsp_history.specs.Histories.{history_of};
 ghost use Rattle.tsp_history.specs.Notes.{Told};
+ghost use Rattle.tsp_audit.specs.Agreeing.{AccordIs, Numbered};
+ghost use Rattle.tsp_audit.specs.Parts.{Agreeing, AllKept, Keeps};
+ghost use Rattle.tsp_audit.specs.Settings.{HasClocks, Timely};
 
 use crate::acting::keeps_acting;
 use crate::agreement_tracker::AgreementTracker;
@@ -51,6 +49,10 @@ fn keeps_agreeing_if(
         true
     }
 }
+
+ghost use Rattle.tsp_audit.specs.Judged.{Judges};
+ghost use Rattle.tsp_audit.specs.Notes.{HasRoom, NotesStand};
+ghost use Rattle.tsp_audit.specs.Parts.{AllKeep};
 
 /// The number of the least part that fails of all lines, where all parts hold of those before
 /// `from`; none where all hold. The notes are those of the lines before `from`, with room for the

@@ -1,16 +1,11 @@
 //! Looking for the first failure of a claimed history, event by event.
 ghost use Rattle.std.specs.Prelude.{◌≡◌, ◌<◌, ◌+◌, ◌-◌, ◌∷◌, ◌^◌, [], List, length, vec_len, vec_capacity, IfOk};
-ghost use Rattle.tsp_audit.specs.Ends.{AreDated, EndsAt};
+ghost use Rattle.tsp_claims.specs.ClaimedHistory.{Claim, claimed};
+ghost use Rattle.tsp_history.specs.Notes.{Told};
 ghost use Rattle.tsp_audit.specs.Looking.{Grown, Looks};
 ghost use Rattle.tsp_audit.specs.Notes.{HasRoom, NotesStand};
-ghost use Rattle.tsp_audit.specs.Verdicts.{Looked};
-ghost use Rattle.tsp_base.specs.Headers.{HeaderValue};
 ghost use Rattle.tsp_base.specs.History.{Line};
-ghost use Rattle.tsp_base.specs.Places.{Within};
-ghost use Rattle.tsp_claims.specs.ClaimedHistory.{Claim, claimed};
-ghost use Rattle.tsp_claims.specs.Stands.{ClaimsStand};
 ghost use Rattle.tsp_history.specs.Histories.{history_of};
-ghost use Rattle.tsp_history.specs.Notes.{Told};
 
 use crate::judging::judge;
 use crate::notes::Notes;
@@ -50,6 +45,11 @@ pub(crate) fn look(
     }
 }
 
+ghost use Rattle.tsp_base.specs.Headers.{HeaderValue};
+ghost use Rattle.tsp_base.specs.Places.{Within};
+ghost use Rattle.tsp_claims.specs.Stands.{ClaimsStand};
+ghost use Rattle.tsp_audit.specs.Ends.{AreDated, EndsAt};
+
 /// The first failure among the lines of the event with this number, which begin at index `from` and
 /// end before index `end`, where all parts hold before it; the notes are as in `look`. Fails only if
 /// out of memory.
@@ -76,6 +76,8 @@ fn look_at(
     }
     Ok(look(claims.header(), &lines[..end], premises, from, event, notes))
 }
+
+ghost use Rattle.tsp_audit.specs.Verdicts.{Looked};
 
 /// The first failure of what is claimed, where nothing is noted yet; `ends` has, for each event, the
 /// oldest first, how many lines of the history stand up to its end. Where nothing fails the notes are

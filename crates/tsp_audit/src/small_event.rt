@@ -1,21 +1,38 @@
 //! Events that are held, each in little room.
 ghost use Rattle.std.specs.Prelude.{◌≡◌, IfOk};
 ghost use Rattle.tsp_audit.specs.Premised.{boots_with};
+ghost use Rattle.tsp_audit.specs.SmallEvents.{handing};
 ghost use Rattle.tsp_script.specs.Plains.{event_in};
 
 use std::alloc::{AllocError, Global};
 use std::marker::Model;
 use tsp_base::event::Event;
 use tsp_base::octets::Octets;
+use tsp_base::place::{Place, Port};
 use tsp_script::plain::Plain;
+
+/// Octets that are handed to a node.
+#[derive(Drop)]
+pub(crate) struct Handed {
+    /// The octets: 1 to 300.
+    pub(crate) octets: Octets,
+    /// Who seems to have sent them.
+    pub(crate) from: Place,
+    /// The node to which they are handed.
+    pub(crate) node: u32,
+    /// On which of its ports.
+    pub(crate) port: Port,
+    /// The true time, in microseconds.
+    pub(crate) at: u64,
+}
 
 /// How an event is held.
 #[derive(Drop)]
 pub(crate) enum Held {
     /// It has no octets.
     Plain(Plain),
-    /// Any event, in room of its own.
-    Boxed(Box<Event>),
+    /// It has octets, in room of its own.
+    Boxed(Box<Handed>),
 }
 
 /// An event, which takes little room unless it has octets.
@@ -43,45 +60,24 @@ fn copy_octets(octets: &Octets) -> Octets
     }
 }
 
-/// A copy of an event. Takes no memory.
-fn copy_event(e: &Event) -> Event
-    ensures { result ≡ e.now }
+/// The event that hands these octets to a node. Takes no memory.
+fn handing(handed: &Handed) -> Event
+    ensures { result ≡ handing handed.now }
 {
-    match e {
-        Event::Boot { at, node, word } => Event::Boot {
-            at: *at,
-            node: *node,
-            word: *word,
-        },
-        Event::Turn { at, node } => Event::Turn {
-            at: *at,
-            node: *node,
-        },
-        Event::Take { at, datagram } => Event::Take {
-            at: *at,
-            datagram: *datagram,
-        },
-        Event::Bytes {
-            at,
-            node,
-            port,
-            from,
-            octets,
-        } => Event::Bytes {
-            at: *at,
-            node: *node,
-            port: *port,
-            from: *from,
-            octets: copy_octets(octets),
-        },
+    Event::Bytes {
+        at: handed.at,
+        node: handed.node,
+        port: handed.port,
+        from: handed.from,
+        octets: copy_octets(&handed.octets),
     }
 }
 
-/// An event in room of its own.
-fn boxed(alloc: Global, e: &Event) -> Result<SmallEvent, AllocError>
-    ensures { IfOk result (λ s. s ≡ e.now) }
+/// The event that hands these octets to a node, in room of its own. Fails only if out of memory.
+fn boxed(alloc: Global, handed: Handed) -> Result<SmallEvent, AllocError>
+    ensures { IfOk result (λ s. s ≡ handing handed) }
 {
-    match Box::new(alloc, copy_event(e)) {
+    match Box::new(alloc, handed) {
         Ok(held) => Ok(SmallEvent {
             held: Held::Boxed(held),
         }),
@@ -95,16 +91,6 @@ fn plain(e: Plain) -> SmallEvent
 {
     SmallEvent {
         held: Held::Plain(e),
-    }
-}
-
-/// Whether an event is a boot with this word.
-fn is_boot_with(e: &Event, word: u64) -> bool
-    ensures { result ≡ boots_with word e.now }
-{
-    match e {
-        Event::Boot { word: other, .. } => *other == word,
-        _ => false,
     }
 }
 
@@ -137,7 +123,22 @@ impl SmallEvent {
                 at: *at,
                 datagram: *datagram,
             })),
-            Event::Bytes { .. } => boxed(alloc, e),
+            Event::Bytes {
+                at,
+                node,
+                from,
+                port,
+                octets,
+            } => boxed(
+                alloc,
+                Handed {
+                    at: *at,
+                    node: *node,
+                    port: *port,
+                    from: *from,
+                    octets: copy_octets(octets),
+                },
+            ),
         }
     }
 
@@ -147,7 +148,7 @@ impl SmallEvent {
     {
         match &self.held {
             Held::Plain(e) => e.event(),
-            Held::Boxed(e) => copy_event(e),
+            Held::Boxed(handed) => handing(handed),
         }
     }
 
@@ -157,7 +158,7 @@ impl SmallEvent {
     {
         match &self.held {
             Held::Plain(e) => is_plain_boot_with(*e, word),
-            Held::Boxed(e) => is_boot_with(e, word),
+            Held::Boxed(_) => false,
         }
     }
 }

@@ -57,33 +57,6 @@ pub(crate) fn is_quiet(line: &HistoryLine) -> bool
     true
 }
 
-/// What is remembered of a node after a Correct of it, where `last` is the index of the newest act before it.
-fn corrected(
-    upto: &[HistoryLine],
-    before: &[HistoryLine],
-    trips: &[i128],
-    line: &HistoryLine,
-    last: Option<usize>,
-    keep: NodeState,
-) -> NodeState
-    requires few { length upto.now < 2 ^ 32 }
-    requires told { Told upto.now }
-    requires past { Told before.now }
-    ensures { history_of upto.now ≡ line_of line.now ∷ history_of before.now
-        → TripsTell (history_of before.now) trips.now
-        → FirstIs (from_act (history_of before.now)) last → IsCorrect (deed_of line.now.act)
-        → NodeIs line.now.node (history_of before.now) keep
-        → NodeIs line.now.node (line_of line.now ∷ history_of before.now) result }
-{
-    NodeState {
-        moved: moved_at(upto, line.node),
-        lives: keep.lives,
-        corrects: counts_at(upto, line.node).corrects,
-        after: last,
-        cast: cast_at(before, trips, line),
-    }
-}
-
 /// What is remembered of a node after a Boot of it.
 fn booted(upto: &[HistoryLine], line: &HistoryLine, keep: NodeState) -> NodeState
     requires { Told upto.now }
@@ -123,7 +96,13 @@ pub(crate) fn state_after(
         return booted(upto, line, keep);
     }
     if is_correct(line) {
-        return corrected(upto, before, trips, line, last, keep);
+        return NodeState {
+            moved: moved_at(upto, line.node),
+            lives: keep.lives,
+            corrects: counts_at(upto, line.node).corrects,
+            after: last,
+            cast: cast_at(before, trips, line),
+        };
     }
     keep
 }

@@ -1,6 +1,6 @@
 //! Claimed posts that are held, each in little room.
 ghost use Rattle.std.specs.Prelude.{◌≡◌, List, ℕ, Some, IfOk};
-ghost use Rattle.tsp_history.specs.HeldActs.{act_of, brief_of, datagram_in};
+ghost use Rattle.tsp_history.specs.HeldActs.{act_of, datagram_in};
 
 use std::alloc::{AllocError, Global};
 use std::marker::Model;
@@ -50,7 +50,6 @@ impl HeldPlaced {
 
     /// The act but for the name of its message.
     pub fn brief(&self) -> Brief
-        ensures is { result ≡ brief_of (Some self.now.act) }
         ensures act { (name : List ℕ) × (Some self.now.act ≡ act_of result name) }
     {
         self.act.brief()

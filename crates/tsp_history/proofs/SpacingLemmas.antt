@@ -10,8 +10,9 @@ use Rattle.tsp_base.specs.History.{Deed, Acts, Line, of, dids}
 use Rattle.tsp_base.specs.NodeFacts.{lives, lives_after}
 use Rattle.tsp_base.specs.Places.{Within}
 use Rattle.tsp_base.proofs.PlaceLemmas.{Within-tail}
+use Rattle.tsp_history.specs.declared.brief.Brief.{Brief}
 use Rattle.tsp_history.specs.declared.brief.Brief.TheVariants.{Boot as BriefBoot, Correct as BriefCorrect}
-use Rattle.tsp_history.specs.HeldActs.{brief_of}
+use Rattle.tsp_history.specs.HeldActs.{act_of}
 use Rattle.tsp_history.specs.Histories.{deed_of}
 use Rattle.tsp_history.specs.Spacing.{later_of, Spaced, SpacedBy}
 
@@ -104,10 +105,13 @@ spaced-near n x l h a s y own correct near f =
     let far : l.did.tick + GAP ≤ x = f l h a s y (inl refl) own correct (sym same) in
     omega (arith, near, far)
 
--- an act that is no boot begins no life
-pub no-boot : (o : Option Act) → (brief_of o ≡ BriefBoot → ⊥) → (k : ℕ) → lives_after (deed_of o) k ≡ k
-no-boot (Some Boot) other k = absurd (other refl)
-no-boot _ other k = refl
+-- an act that isn't held as a boot begins no life
+held-no-boot : (b : Brief) (name : List ℕ) → (b ≡ BriefBoot → ⊥) → (k : ℕ) → lives_after (deed_of (act_of b name)) k ≡ k
+held-no-boot BriefBoot name other k = absurd (other refl)
+held-no-boot _ name other k = refl
+
+pub no-boot : (o : Option Act) (b : Brief) → (name : List ℕ) × (o ≡ act_of b name) → (b ≡ BriefBoot → ⊥) → (k : ℕ) → lives_after (deed_of o) k ≡ k
+no-boot o b (name, is) other k = ap (λ a. lives_after (deed_of a) k) is ∙ held-no-boot b name other k
 
 -- a correction, after a history that is spaced
 pub spaced-correct : (r b : Bool) (n x : ℕ) (l : Line) (h : List Line) (a : ℤ) (s : Bool) (y : ℤ) → node_of l ≡ n → l.did.deed ≡ Acts (Correct a s y) → b ≡ true →
@@ -128,14 +132,13 @@ spaced-not b n x l h a s y own correct e m = subst (λ c. MatchBool c (Spaced n 
   bad : Spaced n x (l ∷ h) → ⊥
   bad g = before (λ k older c t z w node deed lived. g k older c t z (inr w) node deed (lived ∙ sym same))
 
--- an act is the one that a deed is
-acts-is : (o : Option Act) (c : Act) → deed_of o ≡ Acts c → o ≡ Some c
-acts-is None c e = cc
-acts-is (Some a) c e = let same : a ≡ c = cc in ap (λ k. Some k) same
+-- an act that isn't held as a correction is none
+held-no-correct : (b : Brief) (name : List ℕ) → ((a : ℤ) (s : Bool) (y : ℤ) → b ≡ BriefCorrect a s y → ⊥) → (a : ℤ) (s : Bool) (y : ℤ) → deed_of (act_of b name) ≡ Acts (Correct a s y) → ⊥
+held-no-correct (BriefCorrect c t z) name other a s y e = other c t z refl
+held-no-correct _ name other a s y e = cc
 
--- a line that isn't held as a correction is none
-pub no-correct : (o : Option Act) → ((a : ℤ) (s : Bool) (y : ℤ) → brief_of o ≡ BriefCorrect a s y → ⊥) → (a : ℤ) (s : Bool) (y : ℤ) → deed_of o ≡ Acts (Correct a s y) → ⊥
-no-correct o other a s y e = other a s y (ap brief_of (acts-is o (Correct a s y) e))
+pub no-correct : (o : Option Act) (b : Brief) → (name : List ℕ) × (o ≡ act_of b name) → ((a : ℤ) (s : Bool) (y : ℤ) → b ≡ BriefCorrect a s y → ⊥) → (a : ℤ) (s : Bool) (y : ℤ) → deed_of o ≡ Acts (Correct a s y) → ⊥
+no-correct o b (name, is) other a s y e = held-no-correct b name other a s y (sym (ap deed_of is) ∙ e)
 
 -- after a correction the later one of the ticks tells
 pub spaced-later : (n : ℕ) (l : Line) (h : List Line) (o : Option ℕ) (a : ℤ) (s : Bool) (y : ℤ) → node_of l ≡ n → l.did.deed ≡ Acts (Correct a s y) → SpacedBy n h o → SpacedBy n (l ∷ h) (Some (later_of o l.did.tick))

@@ -43,33 +43,6 @@ act_of (briefs.Correct amount stepped shown) name = Some (acts.Correct amount st
 act_of briefs.Abandon name = Some acts.Abandon
 act_of (briefs.Trace on) name = Some (acts.Trace on)
 
--- how an act, or none, is held
-abbrev pub brief_of : Option Act → Brief
-brief_of None = briefs.Mark
-brief_of (Some acts.Boot) = briefs.Boot
-brief_of (Some (acts.Took from (Good (Message m)))) = briefs.TookMessage from m.kind m.number m.body
-brief_of (Some (acts.Took from (Good (Stamp stamp)))) = briefs.TookStamp from stamp
-brief_of (Some (acts.Took from (Bad fault))) = briefs.TookBad from fault
-brief_of (Some (acts.Post to (Message m))) = briefs.PostMessage to m.kind m.number m.body
-brief_of (Some (acts.Post to (Stamp stamp))) = briefs.PostStamp to stamp
-brief_of (Some (acts.Become role)) = briefs.Become role
-brief_of (Some (acts.Back p)) = briefs.Back p
-brief_of (Some (acts.Backer p)) = briefs.Backer p
-brief_of (Some (acts.Quit p)) = briefs.Quit p
-brief_of (Some (acts.Arm alarm tick)) = briefs.Arm alarm tick
-brief_of (Some (acts.Ring alarm)) = briefs.Ring alarm
-brief_of (Some (acts.Late alarm)) = briefs.Late alarm
-brief_of (Some (acts.Join p)) = briefs.Join p
-brief_of (Some (acts.Leave p)) = briefs.Leave p
-brief_of (Some (acts.Rival p)) = briefs.Rival p
-brief_of (Some (acts.Acked p)) = briefs.Acked p
-brief_of (Some (acts.Gave p)) = briefs.Gave p
-brief_of (Some (acts.Sample peer counter diff err ticket)) = briefs.Sample peer counter diff err ticket
-brief_of (Some (acts.Close count lo width mean)) = briefs.Close count lo width mean
-brief_of (Some (acts.Correct amount stepped shown)) = briefs.Correct amount stepped shown
-brief_of (Some acts.Abandon) = briefs.Abandon
-brief_of (Some (acts.Trace on)) = briefs.Trace on
-
 -- a message's body is the one that its kind carries, and its name is a name
 abbrev pub IsBrief : Brief → List ℕ → Type 0
 IsBrief (briefs.TookMessage from kind number body) name = (body_fits kind body ≡ true) × IsName name

@@ -2,7 +2,7 @@
 ghost use Rattle.std.specs.Prelude.{◌≡◌, List, ℕ, [], true, is_none, None, Some, IfOk};
 ghost use Rattle.tsp_base.specs.Messages.{body_fits};
 ghost use Rattle.tsp_base.specs.Names.{IsName};
-ghost use Rattle.tsp_history.specs.HeldActs.{IsBrief, IsSilent, act_of, brief_of, datagram_in, message_of};
+ghost use Rattle.tsp_history.specs.HeldActs.{IsBrief, IsSilent, act_of, datagram_in, message_of};
 
 use crate::brief::Brief;
 use std::alloc::{AllocError, Global};
@@ -43,32 +43,32 @@ fn silent(act: &Act) -> Brief
         Act::Back(p) => Brief::Back(*p),
         Act::Backer(p) => Brief::Backer(*p),
         Act::Quit(p) => Brief::Quit(*p),
-        Act::Arm(alarm, at) => Brief::Arm(*alarm, *at),
-        Act::Ring(alarm) => Brief::Ring(*alarm),
-        Act::Late(alarm) => Brief::Late(*alarm),
         Act::Join(p) => Brief::Join(*p),
         Act::Leave(p) => Brief::Leave(*p),
         Act::Rival(p) => Brief::Rival(*p),
         Act::Acked(p) => Brief::Acked(*p),
         Act::Gave(p) => Brief::Gave(*p),
+        Act::Arm(alarm, at) => Brief::Arm(*alarm, *at),
+        Act::Ring(alarm) => Brief::Ring(*alarm),
+        Act::Late(alarm) => Brief::Late(*alarm),
         Act::Sample {
-            peer,
+            peer: p,
             counter,
             diff,
             err,
             ticket,
-        } => Brief::Sample(*peer, *counter, *diff, *err, *ticket),
+        } => Brief::Sample(*p, *counter, *diff, *err, *ticket),
+        Act::Correct {
+            amount,
+            stepped,
+            shown,
+        } => Brief::Correct(*amount, *stepped, *shown),
         Act::Close {
             count,
             lo,
             width,
             mean,
         } => Brief::Close(*count, *lo, *width, *mean),
-        Act::Correct {
-            amount,
-            stepped,
-            shown,
-        } => Brief::Correct(*amount, *stepped, *shown),
         Act::Abandon => Brief::Abandon,
         Act::Trace(on) => Brief::Trace(*on),
         _ => Brief::Boot,
@@ -129,7 +129,6 @@ impl HeldAct {
 
     /// The act but for the name of its message.
     pub fn brief(&self) -> Brief
-        ensures is { result ≡ brief_of self.now }
         ensures act { (name : List ℕ) × (self.now ≡ act_of result name) }
     {
         self.brief

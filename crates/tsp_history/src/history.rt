@@ -1,5 +1,5 @@
 //! The lines of a history, each with what is known after it.
-ghost use Rattle.std.specs.Prelude.{◌≡◌, ◌≤◌, ◌<◌, ◌+◌, ◌-◌, ◌^◌, [], ◌∷◌, length, vec_len, OnOk};
+ghost use Rattle.std.specs.Prelude.{◌≡◌, ◌≤◌, ◌<◌, ◌+◌, ◌-◌, ◌^◌, [], ◌∷◌, length, vec_len, OnOk, OnErr};
 ghost use Rattle.tsp_history.specs.Histories.{line_of, history_of, noted_after};
 ghost use Rattle.tsp_history.specs.Notes.{Told};
 
@@ -30,19 +30,23 @@ impl Model for History {
 }
 
 impl History {
-    /// No line yet. Takes no memory.
+    /// No line yet, and room for none. Takes no memory.
     pub fn new(alloc: Global) -> History
-        ensures { result.lines ≡ [] }
+        ensures lines { result.lines ≡ [] }
+        ensures room { result.room ≡ 0 }
     {
         History {
             lines: Vec::new(alloc),
         }
     }
 
-    /// Makes room for this many lines more, which pushes need. Fails only if out of memory; either
-    /// way the lines are what they were.
+    /// Makes room for this many lines more, which pushes need. Fails only if out of memory, and never
+    /// where there is that room already; either way the lines are what they were, and there is no
+    /// less room.
     pub fn make_room(&mut self, count: usize) -> Result<(), AllocError>
         ensures room { OnOk result (count ≤ self.new.room) }
+        ensures full { OnErr result (self.old.room < count) }
+        ensures kept { self.old.room ≤ self.new.room }
         ensures lines { self.new.lines ≡ self.old.lines }
     {
         self.lines.reserve(count)
@@ -56,7 +60,7 @@ impl History {
         requires room { 1 ≤ self.old.room }
         ensures history { history_of self.new.lines ≡ line_of line ∷ history_of self.old.lines }
         ensures length { length self.new.lines ≡ length self.old.lines + 1 }
-        ensures room { self.old.room ≤ self.new.room + 1 }
+        ensures room { self.old.room ≡ self.new.room + 1 }
     {
         let note = note_behind(self.lines.as_slice(), &line);
         self.lines.push_reserved(HistoryLine {
@@ -70,15 +74,16 @@ impl History {
         });
     }
 
-    /// Puts these lines behind the others, the first of them first; their notes are found here. There must
-    /// be room for them, by `make_room`, and at most 2^31 lines with them, else the contract is broken: this
-    /// takes no memory.
+    /// Puts these lines behind the others, the first of them first; their notes are found here. There
+    /// must be room for them, by `make_room`, and at most 2^31 lines with them, else the contract is
+    /// broken: this takes no memory.
     pub fn append(&mut self, lines: Vec<HistoryLine>)
         requires few { length self.old.lines + vec_len lines ≤ 2 ^ 31 }
         requires room { vec_len lines ≤ self.old.room }
         ensures history { history_of self.new.lines
             ≡ noted_after (history_of self.old.lines) lines.items }
         ensures length { length self.new.lines ≡ length self.old.lines + vec_len lines }
+        ensures room { self.old.room ≡ self.new.room + vec_len lines }
     {
         for line in lines {
             self.push(line);

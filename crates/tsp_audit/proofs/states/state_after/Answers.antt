@@ -1,10 +1,12 @@
-use Rattle.std.proofs.Common.{◌≡◌, refl, rules, ℕ}
-use Rattle.tsp_base.specs.NodeFacts.{all_corrects_after, lives_after}
-use Rattle.tsp_history.specs.Histories.{deed_of, history_of, line_of}
-use Rattle.tsp_audit.proofs.StateLemmas.{boot-loud, correct-loud, node-still, still-deed}
-use Rattle.tsp_audit.specs.Changes.{IsCorrect}
+use Rattle.std.proofs.Common.{◌≡◌, ◌∷◌, ap, subst, sym, ◌∙◌, refl, rules, List, ℕ, to_z, of_z, ℤ}
+use Rattle.std.specs.Int.{w128}
 use Rattle.tsp_base.specs.declared.act.Act.TheVariants.{Boot}
-use Rattle.tsp_base.specs.History.{Acts}
+use Rattle.tsp_base.specs.History.{Acts, Line, dids, of}
+use Rattle.tsp_base.specs.NodeFacts.{all_corrects, all_corrects_after, lives_after, moved}
+use Rattle.tsp_history.specs.Clocks.{IsSumOf}
+use Rattle.tsp_history.specs.Histories.{deed_of, history_of, line_of}
+use Rattle.tsp_audit.specs.Changes.{IsCorrect}
+use Rattle.tsp_audit.proofs.StateLemmas.{boot-loud, correct-loud, node-correct, node-still, still-deed, sum-more}
 use Rattle.tsp_audit.proofs.states.state_after.Goals as goal
 
 pub returns-clause-is : goal.returns-clause-is
@@ -15,6 +17,16 @@ returns-clause-is c upto tell first is =
 
 pub returns-then-is_boot-clause-same : goal.returns-then-is_boot-clause-same
 returns-then-is_boot-clause-same c quiet = let boots : deed_of c.args.line.now.act ≡ Acts Boot = search rules in absurd (boot-loud (deed_of c.args.line.now.act) boots quiet)
+
+pub returns-then-is_correct-clause-is : goal.returns-then-is_correct-clause-is
+returns-then-is_correct-clause-is c upto tell first is =
+    let n = c.args.line.now.node in
+    let correct : IsCorrect (deed_of c.args.line.now.act) = search rules in
+    let same : to_z w128 (of_z w128 c.moved_at.result) ≡ c.moved_at.result = search rules in
+    let moved_is : to_z w128 (of_z w128 c.moved_at.result) ≡ moved (dids (of n (line_of c.args.line.now ∷ history_of c.args.before.now))) = same ∙ (c.moved_at.ensures.moved ∙ ap (λ (h : List Line). moved (dids (of n h))) upto) in
+    let bounded : IsSumOf 4294967295 (to_z w128 (of_z w128 c.moved_at.result)) = subst (λ (z : ℤ). IsSumOf 4294967295 z) (sym same) (sum-more _ c.moved_at.result c.requires.few c.moved_at.ensures.bounded) in
+    let corrects_is = c.counts_at.ensures.corrects ∙ ap (λ (h : List Line). all_corrects (dids (of n h))) upto in
+    node-correct n (line_of c.args.line.now) (history_of c.args.before.now) c.args.keep _ refl correct is first (c.cast_at.ensures tell) moved_is bounded refl corrects_is
 
 pub returns-then-is_correct-clause-same : goal.returns-then-is_correct-clause-same
 returns-then-is_correct-clause-same c quiet = let corrects : IsCorrect (deed_of c.args.line.now.act) = search rules in absurd (correct-loud (deed_of c.args.line.now.act) corrects quiet)

@@ -1,4 +1,4 @@
-use Rattle.std.proofs.Common.{ap, ◌∙◌, sym, subst, ◌∷◌, Some}
+use Rattle.std.proofs.Common.{ap, sym, subst, ◌∷◌, Some}
 use Rattle.tsp_history.specs.Histories.{line_of, deed_of}
 use Rattle.tsp_history.specs.Spacing.{SpacedBy}
 use Rattle.tsp_history.proofs.SpacingLemmas.{no-boot, no-correct, spaced-later, spaced-new, spaced-plain}
@@ -15,5 +15,5 @@ returns-in-Correct c before s =
 pub returns-in_default : goal.returns-in_default
 returns-in_default c before s =
     λ x b far. spaced-plain b c.args.node x (line_of c.args.line.now) before c.if-line-node.false
-    (no-boot c.args.line.now.act (λ e. c.in_default.not-Boot (c.brief.ensures.is ∙ e)))
-    (no-correct c.args.line.now.act (λ a y z e. c.in_default.not-Correct a y z (c.brief.ensures.is ∙ e))) (s x b far)
+    (no-boot c.args.line.now.act c.brief.result c.brief.ensures.act c.in_default.not-Boot)
+    (no-correct c.args.line.now.act c.brief.result c.brief.ensures.act c.in_default.not-Correct) (s x b far)

@@ -8,7 +8,7 @@ returns c = record {
   header_is = refl;
   count = refl;
   told = refl;
-  history = ap (λ ns. history_of ns) c.new.ensures;
+  history = ap (λ ns. history_of ns) c.new.ensures.lines;
   posts_are = c.new-2.ensures.items;
   up_is = c.in_ok-up.ensures.none;
 }

@@ -19,5 +19,6 @@ loop-line-preserved c =
       history = ap (λ h. noted_after h (into_iter_items c.next.new.self)) c.push.ensures.history ∙ sym (ap (λ ns. noted_after (history_of at.self.lines) ns) steps) ∙ at.invariant.history;
       many = omega arith;
       room = omega arith;
+      used = omega arith;
       count = omega arith;
     }
