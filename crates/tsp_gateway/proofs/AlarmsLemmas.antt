@@ -9,13 +9,8 @@ use Rattle.tsp_base.specs.declared.place.Port.{Port}
 use Rattle.tsp_rules.specs.GateRows.{alarm_on, alarms_on, each_on}
 use Rattle.tsp_rules.specs.NodePerforms.{PerformsAll}
 use Rattle.tsp_rules.specs.NodeRows.{NodePast, NodeRow, nothing_at_all, spread, ◌and_then◌}
-use Rattle.tsp_gateway.specs.Rooms.{alarm_room}
+use Rattle.tsp_gateway.specs.Rooms.{alarm_room, alarms_room}
 use Rattle.tsp_gateway.proofs.LiftLemmas.{All_nothing}
-
--- what these alarms may take together
-abbrev pub alarms_room : List Alarm → ℕ → ℕ
-alarms_room [] peers = 0
-alarms_room (a ∷ rest) peers = alarm_room a peers + alarms_room rest peers
 
 pub alarms_room-more : (alarms : List Alarm) (a : Alarm) (peers : ℕ) → alarms_room (alarms ++ a ∷ []) peers ≡ alarms_room alarms peers + alarm_room a peers
 alarms_room-more [] a peers = omega arith
@@ -25,9 +20,6 @@ pub alarms_room-front : (alarms : List Alarm) (i peers : ℕ) → alarms_room (t
 alarms_room-front alarms zero peers = omega arith
 alarms_room-front [] (suc i) peers = omega arith
 alarms_room-front (a ∷ rest) (suc i) peers = let front = alarms_room-front rest i peers in omega (arith, front)
-
-pub all_room : (peers : ℕ) → alarms_room ALL peers ≡ 17 * peers + 64
-all_room peers = omega arith
 
 pub little_room : (a : Alarm) (peers : ℕ) → 2 * peers + 8 ≤ alarm_room a peers
 little_room Probe peers = omega arith
