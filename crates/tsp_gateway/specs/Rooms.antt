@@ -33,7 +33,7 @@ alarms_room (a ∷ rest) peers = alarm_room a peers + alarms_room rest peers
 
 -- how many acts a port's due sends and alarms may put, with some to spare; and the sum over all ports
 abbrev pub turn_room : ℕ → ℕ
-turn_room peers = alarms_room ALL peers + (3 * peers + 16)
+turn_room peers = alarms_room ALL peers + (2 * peers + 16)
 
 abbrev pub turns_room : List (List PeerId) → ℕ
 turns_room [] = 0

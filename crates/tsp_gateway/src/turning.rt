@@ -72,8 +72,7 @@ impl Gateway {
     /// Handles the due alarms of a port, each when its turn comes.
     fn ring_alarms<D: Desk>(&mut self, q: usize, tick: u64, desk: &mut D)
         requires port { q < length (ports_in self.old) }
-        requires room { alarms_room ALL (peers_at q (ports_in self.old))
-            + (peers_at q (ports_in self.old) + 16) ≤ D.spare desk.old }
+        requires room { alarms_room ALL (peers_at q (ports_in self.old)) + 8 ≤ D.spare desk.old }
         requires tick { IsTick tick }
         requires later { clock_at self.old ≤ tick }
         ensures row { PerformsAll (GatewayTurning (q + 1)) (GatewayTurning (q + 1))
@@ -93,7 +92,7 @@ impl Gateway {
     fn ring_alarm<D: Desk>(&mut self, q: usize, alarm: Alarm, tick: u64, desk: &mut D)
         requires order { alarm ≡ Close → HasProbed q tick self.old }
         requires port { q < length (ports_in self.old) }
-        requires room { 3 * peers_at q (ports_in self.old) + 16 ≤ D.spare desk.old }
+        requires room { alarm_room alarm (peers_at q (ports_in self.old)) + 8 ≤ D.spare desk.old }
         requires tick { IsTick tick }
         requires later { clock_at self.old ≤ tick }
         ensures row { PerformsAll (GatewayTurning (q + 1)) (GatewayTurning (q + 1))

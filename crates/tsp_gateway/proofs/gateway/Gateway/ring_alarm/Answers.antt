@@ -1,6 +1,6 @@
 -- Each alarm has its call.
 use Rattle.std.proofs.Common.{◌≡◌, ◌∙◌, arith, sym}
-use Rattle.tsp_base.specs.declared.alarm.Alarm.TheVariants.{Close, Probe, Round}
+use Rattle.tsp_base.specs.declared.alarm.Alarm.TheVariants.{Close, Probe}
 use Rattle.tsp_rules.specs.GateRows.{alarm_on, begins_round_on, waits}
 use Rattle.tsp_gateway.specs.GatewayStands.{port_at}
 use Rattle.tsp_gateway.specs.Rooms.{peers_at, ports_in}
@@ -13,7 +13,7 @@ pub probe-requires-clause-port : goal.probe-requires-clause-port
 probe-requires-clause-port g c = c.requires.port
 
 pub probe-requires-clause-room : goal.probe-requires-clause-room
-probe-requires-clause-room g c = omega (arith, c.requires.room)
+probe-requires-clause-room g c = let room = rw c.in-Probe.is at c.requires.room in omega (arith, room)
 
 pub probe-requires-clause-tick : goal.probe-requires-clause-tick
 probe-requires-clause-tick g c = c.requires.tick
@@ -25,7 +25,7 @@ pub close-requires-clause-port : goal.close-requires-clause-port
 close-requires-clause-port g c = c.requires.port
 
 pub close-requires-clause-room : goal.close-requires-clause-room
-close-requires-clause-room g c = omega (arith, c.requires.room)
+close-requires-clause-room g c = let room = rw c.in-Close.is at c.requires.room in omega (arith, room)
 
 pub close-requires-clause-tick : goal.close-requires-clause-tick
 close-requires-clause-tick g c = c.requires.tick
@@ -68,6 +68,12 @@ returns-in-Close-clause-room g c = let room = c.close.ensures.room in rw c.in-Cl
 
 pub any_other-wait-requires : goal.any_other-wait-requires
 any_other-wait-requires g c = c.requires.port
+
+pub ring-requires-clause-room : goal.ring-requires-clause-room
+ring-requires-clause-room g c = let few = little_room c.args.alarm (peers_at c.args.q (ports_in c.args.self.now)) in omega (arith, few, c.requires.room)
+
+pub ring-requires-in_default-clause-room : goal.ring-requires-in_default-clause-room
+ring-requires-in_default-clause-room g c = let few = little_room c.args.alarm (peers_at c.args.q (ports_in c.args.self.now)) in omega (arith, few, c.requires.room)
 
 pub returns-in-Round-clause-row : goal.returns-in-Round-clause-row
 unfolding alarm_on begins_round_on

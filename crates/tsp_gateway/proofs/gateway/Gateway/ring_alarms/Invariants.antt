@@ -1,13 +1,11 @@
 -- What is left to perform are the alarms that are still to come; the Close comes right after the Probe.
-use Rattle.std.proofs.Common.{◌≡◌, ◌+◌, ◌≤◌, List, drop, false, take, Some}
-use Rattle.std.specs.Prelude.{slice_get, slice_index_or}
+use Rattle.std.proofs.Common.{◌≡◌, ◌+◌, ◌≤◌, List, drop, take}
+use Rattle.std.specs.Prelude.{slice_index_or}
 use Rattle.tsp_base.specs.declared.act.Placed.{Placed}
 use Rattle.tsp_base.specs.declared.alarm.Alarm.TheVariants.{Close, Quiet}
 use Rattle.tsp_base.specs.declared.alarm.TheConstants.Alarm.{ALL}
 use Rattle.tsp_base.specs.Frames.{PutsAtMost}
 use Rattle.tsp_rules.specs.NodePerforms.{PerformsAll}
-use Rattle.tsp_rules.specs.Guards.{is_over}
-use Rattle.tsp_node.specs.declared.part.Part.{Part}
 use Rattle.tsp_gateway.specs.declared.gateway.Gateway.{Gateway}
 use Rattle.tsp_gateway.specs.Dues.{HasProbed}
 use Rattle.tsp_gateway.specs.GatewayStands.{GatewayTurning, clock_at, port_at}
