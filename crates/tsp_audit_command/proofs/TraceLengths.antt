@@ -7,7 +7,7 @@ use Rattle.std.specs.Fmt.{signed_decimal}
 use Rattle.tsp_base.specs.declared.act.Act.{Act}
 use Rattle.tsp_base.specs.declared.act.Act.TheVariants.{Boot, Took, Post, Become, Back, Backer, Quit, Arm, Ring, Late, Join, Leave, Rival, Acked, Gave, Sample, Close as CloseAct, Correct, Abandon, Trace}
 use Rattle.tsp_base.specs.declared.alarm.Alarm.{Alarm}
-use Rattle.tsp_base.specs.declared.alarm.Alarm.TheVariants.{Quiet, Search, Elect, Window, Probe, Close, Resolve, Round}
+use Rattle.tsp_base.specs.declared.alarm.Alarm.TheVariants.{Quiet}
 use Rattle.tsp_base.specs.declared.datagram.DecodeFault.{DecodeFault}
 use Rattle.tsp_base.specs.declared.datagram.DecodeFault.TheVariants.{Short, Long, Version, Kind, StampLength, NoEnd, NameTooLong, Reserved, Time}
 use Rattle.tsp_base.specs.declared.datagram.Taken.{Taken}
@@ -25,13 +25,7 @@ use Rattle.tsp_script.specs.declared.trace.Line2.{Line2}
 
 alarm_length : (a : Alarm) → length (alarm_word a) ≤ 7
 alarm_length Quiet = omega arith
-alarm_length Search = omega arith
-alarm_length Elect = omega arith
-alarm_length Window = omega arith
-alarm_length Probe = omega arith
-alarm_length Close = omega arith
-alarm_length Resolve = omega arith
-alarm_length Round = omega arith
+alarm_length _ = omega arith
 
 fault_length : (f : DecodeFault) → length (fault_word f) ≤ 13
 fault_length Short = omega arith

@@ -3,21 +3,17 @@ use Rattle.std.proofs.Common.{◌≡◌, ◌+◌, ◌*◌, ◌<◌, ◌≤◌, �
 use Rattle.std.specs.Prelude.{slice_index_or}
 use Rattle.tsp_base.specs.declared.act.Placed.{Placed}
 use Rattle.tsp_base.specs.declared.alarm.Alarm.{Alarm}
-use Rattle.tsp_base.specs.declared.alarm.Alarm.TheVariants.{Probe}
+use Rattle.tsp_base.specs.declared.alarm.Alarm.TheVariants.{Probe, Quiet}
 use Rattle.tsp_base.specs.declared.alarm.TheConstants.Alarm.{ALL}
 use Rattle.tsp_base.specs.declared.place.Port.{Port}
 use Rattle.tsp_rules.specs.GateRows.{alarm_on, alarms_on, each_on}
 use Rattle.tsp_rules.specs.NodePerforms.{PerformsAll}
 use Rattle.tsp_rules.specs.NodeRows.{NodePast, NodeRow, nothing_at_all, spread, ◌and_then◌}
-use Rattle.tsp_gateway.specs.Rooms.{alarm_room}
+use Rattle.tsp_node.proofs.AlarmOrder.{take_one_more}
+use Rattle.tsp_gateway.specs.Rooms.{alarm_room, alarms_room}
 use Rattle.tsp_gateway.proofs.LiftLemmas.{All_nothing}
 
--- what these alarms may take together
-abbrev pub alarms_room : List Alarm → ℕ → ℕ
-alarms_room [] peers = 0
-alarms_room (a ∷ rest) peers = alarm_room a peers + alarms_room rest peers
-
-pub alarms_room-more : (alarms : List Alarm) (a : Alarm) (peers : ℕ) → alarms_room (alarms ++ a ∷ []) peers ≡ alarms_room alarms peers + alarm_room a peers
+alarms_room-more : (alarms : List Alarm) (a : Alarm) (peers : ℕ) → alarms_room (alarms ++ a ∷ []) peers ≡ alarms_room alarms peers + alarm_room a peers
 alarms_room-more [] a peers = omega arith
 alarms_room-more (b ∷ rest) a peers = let more = alarms_room-more rest a peers in omega (arith, more)
 
@@ -26,8 +22,9 @@ alarms_room-front alarms zero peers = omega arith
 alarms_room-front [] (suc i) peers = omega arith
 alarms_room-front (a ∷ rest) (suc i) peers = let front = alarms_room-front rest i peers in omega (arith, front)
 
-pub all_room : (peers : ℕ) → alarms_room ALL peers ≡ 17 * peers + 64
-all_room peers = omega arith
+-- one alarm more of all
+pub alarms_room-next : (i peers : ℕ) → i < length ALL → alarms_room (take (i + 1) ALL) peers ≡ alarms_room (take i ALL) peers + alarm_room (slice_index_or ALL i Quiet) peers
+alarms_room-next i peers lt = ap (λ alarms. alarms_room alarms peers) (take_one_more ALL i Quiet lt) ∙ alarms_room-more (take i ALL) (slice_index_or ALL i Quiet) peers
 
 pub little_room : (a : Alarm) (peers : ℕ) → 2 * peers + 8 ≤ alarm_room a peers
 little_room Probe peers = omega arith

@@ -1,5 +1,5 @@
 -- What the calls of a port's turn make of its node.
-use Rattle.std.specs.Prelude.{◌≡◌, ℕ, ◌<◌, ◌≤◌, ◌+◌, ◌==◌, ◌&&◌, Bool, true, false, List, [], ◌∷◌, Some, None, slice_get, refl}
+use Rattle.std.specs.Prelude.{◌≡◌, ◌≢◌, ℕ, ◌<◌, ◌≤◌, ◌+◌, ◌==◌, ◌&&◌, Bool, true, false, List, [], ◌∷◌, Some, None, slice_get, refl}
 use Rattle.std.proofs.Common.{sym, subst, ap, arith, eqb-true, true≢false, ◌∙◌}
 use Rattle.std.proofs.Math.ListN.{set}
 use Rattle.tsp_base.specs.declared.act.Act.{Act}
@@ -30,7 +30,6 @@ use Rattle.tsp_node.proofs.NodeLemmas.{Performs_traced, untaken_by}
 use Rattle.tsp_node.proofs.TakeEmits.{silent_trace}
 use Rattle.tsp_gateway.specs.declared.gateway.Gateway.{Gateway}
 use Rattle.tsp_gateway.specs.GatewayStands.{GatewayStands, GatewayTurning, TurnsFrom, port_at}
-use Rattle.tsp_gateway.specs.RoundAlarms.{is_of_round}
 use Rattle.tsp_gateway.proofs.AsideLemmas.{acting_aside, taken_aside}
 use Rattle.tsp_gateway.proofs.LiftLemmas.{All_on, bootless_by, bootless_silent, take_stands}
 
@@ -55,12 +54,17 @@ pub rings_still : (own wait : Bool) (alarm : Alarm) → moves_by alarm ≡ false
 rings_still own wait alarm still x past = calm_corrects (rings own wait alarm x past) ((calm_rings {strange = false} {moving = false} own wait alarm (λ e. sym still ∙ e)).calm x past)
 
 -- an alarm that is none of a round is its port's alone
-pub alarm_alone : (q : Port) (alarm : Alarm) → is_of_round alarm ≡ false → (on q (rings true false alarm) ≡ alarm_on q alarm) × (moves_by alarm ≡ false)
+pub alarm_alone : (q : Port) (alarm : Alarm) → alarm ≢ Probe → alarm ≢ Close → alarm ≢ Round → on q (rings true false alarm) ≡ alarm_on q alarm
 unfolding alarm_on
-alarm_alone q Probe e = absurd (true≢false e)
-alarm_alone q Close e = absurd (true≢false e)
-alarm_alone q Round e = absurd (true≢false e)
-alarm_alone q _ e = (refl, refl)
+alarm_alone q Probe p c r = absurd (p refl)
+alarm_alone q Close p c r = absurd (c refl)
+alarm_alone q Round p c r = absurd (r refl)
+alarm_alone q _ p c r = refl
+
+-- only a Close moves the clock
+pub moves_not : (alarm : Alarm) → alarm ≢ Close → moves_by alarm ≡ false
+moves_not Close c = absurd (c refl)
+moves_not _ c = refl
 
 -- acts of a port that take nothing keep what no port has taken, and what later ports have done
 turned-acts : (q j k x : ℕ) (past : NodePast) (acts : List Act) → Bootless acts → taken (grown x (on_port (port_at q) past) acts).seen ≡ None → q < k → j ≤ k → TurnsFrom j past → TurnsFrom k (spread x past (placed (port_at q) acts))

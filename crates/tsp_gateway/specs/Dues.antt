@@ -1,12 +1,15 @@
--- When a gateway needs its next step.
-use Rattle.std.specs.Prelude.{◌≡◌, ℕ, List, [], ◌∷◌, length, Option, None, Some, slice_get}
+-- When a gateway needs its next step, and whether a port has probed.
+use Rattle.std.specs.Prelude.{◌≡◌, ℕ, false, List, [], ◌∷◌, length, Option, None, Some, slice_get}
 use Rattle.tsp_base.specs.Alarms.{earlier, least_deadline}
 use Rattle.tsp_base.specs.History.{Seen, view}
 use Rattle.tsp_base.specs.PortFacts.{armed}
 use Rattle.tsp_base.specs.SendFacts.{open_send}
+use Rattle.tsp_rules.specs.Guards.{is_over}
 use Rattle.tsp_rules.specs.NodeRows.{NodePast}
 use Rattle.tsp_sends.specs.Repeating.{IsEarliest}
+use Rattle.tsp_node.specs.declared.part.Part.{Part}
 use Rattle.tsp_node.specs.NodeStands.{due_of}
+use Rattle.tsp_gateway.specs.declared.gateway.Gateway.{Gateway}
 use Rattle.tsp_gateway.specs.GatewayStands.{port_at}
 
 -- the earliest of some deadlines
@@ -26,3 +29,7 @@ pub record IsNodeDue (past : NodePast) (at : ℕ) : Type 0 where
   pub many : length dues ≡ length past.ports
   pub each : (q : ℕ) (due : Option ℕ) → slice_get dues q ≡ Some due → IsPortDue (view (port_at q) past.lines) due
   pub at_is : at ≡ due_of (least_of dues)
+
+-- no Probe of port q is due any more at this tick
+abbrev pub HasProbed : ℕ → ℕ → Gateway → Type 0
+HasProbed q x g = (part : Part) → slice_get g.ports.items q ≡ Some part → is_over part.station.alarms.probe x ≡ false

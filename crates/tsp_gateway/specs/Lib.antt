@@ -7,5 +7,4 @@ pub mod PartsFresh
 pub mod PortFacts
 pub mod PortOf
 pub mod Rooms
-pub mod RoundAlarms
 pub mod Untold

@@ -2,6 +2,7 @@
 use Rattle.std.specs.Prelude.{ℕ, ◌+◌, ◌*◌, List, [], ◌∷◌, length, map, slice_index_or}
 use Rattle.tsp_base.specs.declared.alarm.Alarm.{Alarm}
 use Rattle.tsp_base.specs.declared.alarm.Alarm.TheVariants.{Probe}
+use Rattle.tsp_base.specs.declared.alarm.TheConstants.Alarm.{ALL}
 use Rattle.tsp_base.specs.declared.place.PeerId.{PeerId}
 use Rattle.tsp_rules.specs.Rooms.{room_for}
 use Rattle.tsp_node.specs.declared.part.Part.{Part}
@@ -25,9 +26,14 @@ abbrev pub alarm_room : Alarm → ℕ → ℕ
 alarm_room Probe peers = 3 * peers + 8
 alarm_room _ peers = 2 * peers + 8
 
--- how many acts a port's due sends and alarms may put; and the sum over all ports
+-- how many acts these alarms may put together
+abbrev pub alarms_room : List Alarm → ℕ → ℕ
+alarms_room [] peers = 0
+alarms_room (a ∷ rest) peers = alarm_room a peers + alarms_room rest peers
+
+-- how many acts a port's due sends and alarms may put, with some to spare; and the sum over all ports
 abbrev pub turn_room : ℕ → ℕ
-turn_room peers = 20 * peers + 80
+turn_room peers = alarms_room ALL peers + (2 * peers + 16)
 
 abbrev pub turns_room : List (List PeerId) → ℕ
 turns_room [] = 0

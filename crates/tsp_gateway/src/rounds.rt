@@ -1,20 +1,18 @@
 //! The alarms of a port's round, which affect the other ports of its node.
-ghost use Rattle.std.specs.Prelude.{◌≡◌, ℕ, ◌≤◌, ◌<◌, ◌+◌, ◌*◌, ◌&&◌, nat_le, not, true, false};
-ghost use Rattle.std.specs.Prelude.{length, Some, is_some, slice_get};
-ghost use Rattle.tsp_base.specs.declared.alarm.Alarm.TheVariants.{Close, Probe, Round};
+ghost use Rattle.std.specs.Prelude.{◌≡◌, ℕ, ◌≤◌, ◌<◌, ◌+◌, ◌*◌, ◌&&◌, nat_le, not};
+ghost use Rattle.std.specs.Prelude.{length, is_some};
+ghost use Rattle.tsp_base.specs.declared.alarm.Alarm.TheVariants.{Close, Probe};
 ghost use Rattle.tsp_base.specs.Alarms.{deadline};
 ghost use Rattle.tsp_base.specs.Frames.{IsTick, PutsAtMost};
-ghost use Rattle.tsp_rules.specs.Answers.{rings};
 ghost use Rattle.tsp_rules.specs.GateRows.{alarm_on, is_last_probe};
 ghost use Rattle.tsp_rules.specs.NodePerforms.{PerformsAll};
-ghost use Rattle.tsp_rules.specs.NodeRows.{NodePast, on, on_port};
-ghost use Rattle.tsp_rules.specs.Guards.{is_due, is_in_time, is_over};
-ghost use Rattle.tsp_node.specs.declared.part.Part.{Part};
+ghost use Rattle.tsp_rules.specs.NodeRows.{NodePast, on_port};
+ghost use Rattle.tsp_rules.specs.Guards.{is_due, is_in_time};
+ghost use Rattle.tsp_gateway.specs.Dues.{HasProbed};
 ghost use Rattle.tsp_gateway.specs.GatewayStands.{GatewayStands, GatewayTurning, clock_at, port_at};
 ghost use Rattle.tsp_gateway.specs.Rooms.{peers_at, ports_in};
 
 use crate::gateway::{Gateway, port_at};
-use crate::leading::Asked;
 use tsp_base::alarm::Alarm;
 use tsp_base::alarms::Alarms;
 use tsp_base::desk::Desk;
@@ -38,15 +36,14 @@ impl Gateway {
         ensures row { PerformsAll (GatewayTurning (q + 1)) (GatewayTurning (q + 1))
             (alarm_on (port_at q) Probe) tick self.old self.new (D.acts desk.old)
             (D.acts desk.new) }
-        ensures over { (part : Part) → slice_get self.new.ports.items q ≡ Some part
-            → is_over part.station.alarms.probe tick ≡ false }
+        ensures over { HasProbed q tick self.new }
         ensures ports { ports_in self.new ≡ ports_in self.old }
         ensures clock { clock_at self.new ≤ tick }
         ensures room { PutsAtMost (3 * peers_at q (ports_in self.old) + 4) (D.spare desk.old)
             (D.spare desk.new) (D.acts desk.old) (D.acts desk.new) }
     {
         let rung = self.probe_rings(q, tick);
-        self.ring_probe(q, tick, desk);
+        self.ring(q, Alarm::Probe, false, tick, desk);
         if rung && self.ends_probes(q) {
             self.send_loops(q, desk);
         }
@@ -72,26 +69,6 @@ impl Gateway {
         asks_no_more(&self.ports[q].station().alarms) && self.ports.len() >= 2
     }
 
-    /// Handles a port's Probe where it is due.
-    fn ring_probe<D: Desk>(&mut self, q: usize, tick: u64, desk: &mut D)
-        requires port { q < length (ports_in self.old) }
-        requires room { 2 * peers_at q (ports_in self.old) + 16 ≤ D.spare desk.old }
-        requires tick { IsTick tick }
-        requires later { clock_at self.old ≤ tick }
-        ensures row { PerformsAll (GatewayTurning (q + 1)) (GatewayTurning (q + 1))
-            (on (port_at q) (rings true false Probe)) tick self.old self.new (D.acts desk.old)
-            (D.acts desk.new) }
-        ensures over { (part : Part) → slice_get self.new.ports.items q ≡ Some part
-            → is_over part.station.alarms.probe tick ≡ false }
-        ensures ports { ports_in self.new ≡ ports_in self.old }
-        ensures clock { clock_at self.new ≤ tick }
-        ensures room { PutsAtMost (2 * peers_at q (ports_in self.old) + 4) (D.spare desk.old)
-            (D.spare desk.new) (D.acts desk.old) (D.acts desk.new) }
-    {
-        let clock = &mut self.clock;
-        let _ = self.ports[q].ring(clock, Alarm::Probe, true, false, tick, port_at(q), desk);
-    }
-
     /// Handles a port's Close where it is due: it moves the clock where the port leads it, and then the
     /// rounds of the other ports are given up. The caller handles a due Probe before.
     pub(crate) fn close<D: Desk>(&mut self, q: usize, tick: u64, desk: &mut D)
@@ -99,8 +76,7 @@ impl Gateway {
         requires room { 2 * peers_at q (ports_in self.old) + 16 ≤ D.spare desk.old }
         requires tick { IsTick tick }
         requires later { clock_at self.old ≤ tick }
-        requires order { (part : Part) → slice_get self.old.ports.items q ≡ Some part
-            → is_over part.station.alarms.probe tick ≡ false }
+        requires order { HasProbed q tick self.old }
         ensures row { PerformsAll (GatewayTurning (q + 1)) (GatewayTurning (q + 1))
             (alarm_on (port_at q) Close) tick self.old self.new (D.acts desk.old)
             (D.acts desk.new) }
@@ -114,24 +90,5 @@ impl Gateway {
         if self.ports[q].ring(clock, Alarm::Close, own, false, tick, port_at(q), desk) {
             self.upset(q, false, tick, desk);
         }
-    }
-
-    /// Handles a port's Round where it is due: it is put off while another port has a round going.
-    pub(crate) fn begin_round<D: Desk>(&mut self, q: usize, tick: u64, desk: &mut D)
-        requires port { q < length (ports_in self.old) }
-        requires room { 2 * peers_at q (ports_in self.old) + 16 ≤ D.spare desk.old }
-        requires tick { IsTick tick }
-        requires later { clock_at self.old ≤ tick }
-        ensures row { PerformsAll (GatewayTurning (q + 1)) (GatewayTurning (q + 1))
-            (alarm_on (port_at q) Round) tick self.old self.new (D.acts desk.old)
-            (D.acts desk.new) }
-        ensures ports { ports_in self.new ≡ ports_in self.old }
-        ensures clock { clock_at self.new ≤ tick }
-        ensures room { PutsAtMost (2 * peers_at q (ports_in self.old) + 4) (D.spare desk.old)
-            (D.spare desk.new) (D.acts desk.old) (D.acts desk.new) }
-    {
-        let wait = self.any_other(q, Asked::Goes);
-        let clock = &mut self.clock;
-        let _ = self.ports[q].ring(clock, Alarm::Round, true, wait, tick, port_at(q), desk);
     }
 }

@@ -1,7 +1,9 @@
 //! The due sends and the due alarms of a node, port by port.
-ghost use Rattle.std.specs.Prelude.{◌≡◌, ◌≤◌, ◌<◌, ◌+◌, ◌*◌, ℕ, Option, false, not, length, Some, slice_get};
+ghost use Rattle.std.specs.Prelude.{◌≡◌, ◌≢◌, ◌≤◌, ◌<◌, ◌+◌, ◌*◌, ℕ, Option, true, false, not, length, Some, slice_get};
 ghost use Rattle.tsp_base.specs.declared.alarm.Alarm.TheVariants.{Close, Probe};
+ghost use Rattle.tsp_base.specs.declared.alarm.TheConstants.Alarm.{ALL};
 ghost use Rattle.tsp_base.specs.Frames.{IsTick, PutsAtMost};
+ghost use Rattle.tsp_rules.specs.Answers.{rings};
 ghost use Rattle.tsp_rules.specs.GateRows.{alarm_on, alarms_on, all_ports, turns_on};
 ghost use Rattle.tsp_rules.specs.NodePerforms.{PerformsAll};
 ghost use Rattle.tsp_rules.specs.NodeRows.{for_ports, on, reading_all};
@@ -9,11 +11,12 @@ ghost use Rattle.tsp_rules.specs.SendRows.{due_sends};
 ghost use Rattle.tsp_rules.specs.Guards.{is_over};
 ghost use Rattle.tsp_node.specs.declared.part.Part.{Part};
 ghost use Rattle.tsp_node.specs.Dues.{IsPartDue};
-ghost use Rattle.tsp_gateway.specs.RoundAlarms.{is_of_round};
+ghost use Rattle.tsp_gateway.specs.Dues.{HasProbed};
 ghost use Rattle.tsp_gateway.specs.GatewayStands.{GatewayBegun, GatewayStands, GatewayTurning, clock_at, port_at};
-ghost use Rattle.tsp_gateway.specs.Rooms.{alarm_room, peers_at, ports_in, room_of_ports, turn_room, turns_room};
+ghost use Rattle.tsp_gateway.specs.Rooms.{alarm_room, alarms_room, peers_at, ports_in, room_of_ports, turn_room, turns_room};
 
 use crate::gateway::{Gateway, port_at};
+use crate::leading::Asked;
 use tsp_base::alarm::Alarm;
 use tsp_base::desk::Desk;
 
@@ -69,15 +72,15 @@ impl Gateway {
     /// Handles the due alarms of a port, each when its turn comes.
     fn ring_alarms<D: Desk>(&mut self, q: usize, tick: u64, desk: &mut D)
         requires port { q < length (ports_in self.old) }
-        requires room { 18 * peers_at q (ports_in self.old) + 80 ≤ D.spare desk.old }
+        requires room { alarms_room ALL (peers_at q (ports_in self.old)) + 8 ≤ D.spare desk.old }
         requires tick { IsTick tick }
         requires later { clock_at self.old ≤ tick }
         ensures row { PerformsAll (GatewayTurning (q + 1)) (GatewayTurning (q + 1))
             (alarms_on (port_at q)) tick self.old self.new (D.acts desk.old) (D.acts desk.new) }
         ensures ports { ports_in self.new ≡ ports_in self.old }
         ensures clock { clock_at self.new ≤ tick }
-        ensures room { PutsAtMost (17 * peers_at q (ports_in self.old) + 64) (D.spare desk.old)
-            (D.spare desk.new) (D.acts desk.old) (D.acts desk.new) }
+        ensures room { PutsAtMost (alarms_room ALL (peers_at q (ports_in self.old)))
+            (D.spare desk.old) (D.spare desk.new) (D.acts desk.old) (D.acts desk.new) }
     {
         for alarm in &Alarm::ALL {
             self.ring_alarm(q, *alarm, tick, desk);
@@ -87,19 +90,15 @@ impl Gateway {
     /// Handles one alarm of a port where it is due: those of a round touch other ports, or wait for them. A
     /// Close comes after its Probe.
     fn ring_alarm<D: Desk>(&mut self, q: usize, alarm: Alarm, tick: u64, desk: &mut D)
+        requires order { alarm ≡ Close → HasProbed q tick self.old }
         requires port { q < length (ports_in self.old) }
-        requires room { 3 * peers_at q (ports_in self.old) + 16 ≤ D.spare desk.old }
+        requires room { alarm_room alarm (peers_at q (ports_in self.old)) + 8 ≤ D.spare desk.old }
         requires tick { IsTick tick }
         requires later { clock_at self.old ≤ tick }
-        requires order { alarm ≡ Close → (part : Part)
-            → slice_get self.old.ports.items q ≡ Some part
-            → is_over part.station.alarms.probe tick ≡ false }
         ensures row { PerformsAll (GatewayTurning (q + 1)) (GatewayTurning (q + 1))
             (alarm_on (port_at q) alarm) tick self.old self.new (D.acts desk.old)
             (D.acts desk.new) }
-        ensures over { alarm ≡ Probe → (part : Part)
-            → slice_get self.new.ports.items q ≡ Some part
-            → is_over part.station.alarms.probe tick ≡ false }
+        ensures over { alarm ≡ Probe → HasProbed q tick self.new }
         ensures ports { ports_in self.new ≡ ports_in self.old }
         ensures clock { clock_at self.new ≤ tick }
         ensures room { PutsAtMost (alarm_room alarm (peers_at q (ports_in self.old)))
@@ -108,8 +107,11 @@ impl Gateway {
         match alarm {
             Alarm::Probe => self.probe(q, tick, desk),
             Alarm::Close => self.close(q, tick, desk),
-            Alarm::Round => self.begin_round(q, tick, desk),
-            _ => self.ring(q, alarm, tick, desk),
+            Alarm::Round => {
+                let wait = self.any_other(q, Asked::Goes);
+                self.ring(q, alarm, wait, tick, desk)
+            }
+            _ => self.ring(q, alarm, false, tick, desk),
         }
     }
 
@@ -128,21 +130,30 @@ impl Gateway {
         self.ports[q].sends(tick, port_at(q), desk);
     }
 
-    /// Handles one alarm of a port where it is due. It isn't a Probe, a Close or a Round.
-    fn ring<D: Desk>(&mut self, q: usize, alarm: Alarm, tick: u64, desk: &mut D)
-        requires alarm { is_of_round alarm ≡ false }
+    /// Handles one alarm of a port where it is due, but no Close: it leaves the other ports alone. `wait` says
+    /// whether a Round that is in time is put off.
+    pub(crate) fn ring<D: Desk>(
+        &mut self,
+        q: usize,
+        alarm: Alarm,
+        wait: bool,
+        tick: u64,
+        desk: &mut D,
+    )
+        requires alarm { alarm ≢ Close }
         requires port { q < length (ports_in self.old) }
         requires room { 2 * peers_at q (ports_in self.old) + 16 ≤ D.spare desk.old }
         requires tick { IsTick tick }
         requires later { clock_at self.old ≤ tick }
         ensures row { PerformsAll (GatewayTurning (q + 1)) (GatewayTurning (q + 1))
-            (alarm_on (port_at q) alarm) tick self.old self.new (D.acts desk.old)
+            (on (port_at q) (rings true wait alarm)) tick self.old self.new (D.acts desk.old)
             (D.acts desk.new) }
+        ensures over { alarm ≡ Probe → HasProbed q tick self.new }
         ensures ports { ports_in self.new ≡ ports_in self.old }
         ensures clock { clock_at self.new ≤ tick }
         ensures room { PutsAtMost (2 * peers_at q (ports_in self.old) + 4) (D.spare desk.old)
             (D.spare desk.new) (D.acts desk.old) (D.acts desk.new) }
     {
-        let _ = self.ports[q].ring(&mut self.clock, alarm, true, false, tick, port_at(q), desk);
+        let _ = self.ports[q].ring(&mut self.clock, alarm, true, wait, tick, port_at(q), desk);
     }
 }

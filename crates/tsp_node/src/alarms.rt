@@ -6,7 +6,6 @@ ghost use Rattle.tsp_base.specs.Frames.{IsTick, PutsAtMost};
 ghost use Rattle.tsp_base.specs.Performs.{Performs};
 ghost use Rattle.tsp_rules.specs.Answers.{alarm_rings, rings};
 ghost use Rattle.tsp_rules.specs.Guards.{is_over};
-ghost use Rattle.tsp_node.specs.RoleAlarms.{is_of_master};
 
 use crate::part::Part;
 use crate::ringing::{is_of_master, ring_slave, wait_round};
@@ -21,7 +20,6 @@ use tsp_clock::clock::Clock;
 impl Part {
     ghost use Rattle.tsp_base.specs.History.{Past};
     ghost use Rattle.tsp_rules.specs.RoundRows.{corrects};
-    ghost use Rattle.tsp_clock.specs.Clocks.{ClockValue};
     ghost use Rattle.tsp_node.specs.NodeStands.{PortUntaken, port_with};
 
     /// Handles one alarm where it is due, and says whether that corrected the clock. `group_mean` says
@@ -104,6 +102,9 @@ impl Part {
         }
         corrected
     }
+
+    ghost use Rattle.tsp_clock.specs.Clocks.{ClockValue};
+    ghost use Rattle.tsp_node.specs.RoleAlarms.{is_of_master};
 
     /// Handles a due alarm that isn't its master's. It leaves the clock alone.
     fn ring_beside<D: Desk>(

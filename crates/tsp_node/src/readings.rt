@@ -61,7 +61,6 @@ fn is_over(due: Option<u64>, tick: u64) -> bool
 }
 
 impl Node {
-    ghost use Rattle.tsp_base.specs.Frames.{IsTick};
     ghost use Rattle.tsp_base.specs.History.{Past, plain};
     ghost use Rattle.tsp_base.specs.NodeFacts.{shown, tracing};
     ghost use Rattle.tsp_base.specs.PortFacts.{role, armed};
@@ -99,6 +98,8 @@ impl Node {
     {
         self.tracing
     }
+
+    ghost use Rattle.tsp_base.specs.Frames.{IsTick};
 
     /// What its clock shows at a tick, in microseconds. The tick must not be before its last correction or boot.
     pub fn shown(&self, tick: u64) -> i64

@@ -3,13 +3,11 @@ ghost use Rattle.std.specs.Prelude.{◌≡◌, ◌+◌, ◌*◌, ◌≤◌, ◌&
 ghost use Rattle.tsp_base.specs.declared.datagram.Datagram.TheVariants.{Message as MessageOf};
 ghost use Rattle.tsp_base.specs.declared.datagram.Taken.TheVariants.{Good};
 ghost use Rattle.tsp_base.specs.declared.place.Place.TheVariants.{Peer};
-ghost use Rattle.tsp_base.specs.declared.role.Role.TheVariants.{Master};
 ghost use Rattle.tsp_base.specs.Frames.{IsTick, PutsAtMost};
 ghost use Rattle.tsp_base.specs.Performs.{Performs};
 ghost use Rattle.tsp_base.specs.Rows.{either_by, nothing};
 ghost use Rattle.tsp_base.specs.SendFacts.{is_correction};
 ghost use Rattle.tsp_rules.specs.Answers.{from_peer, is_left, peer_says};
-ghost use Rattle.tsp_rules.specs.MasterRows.{master_takes};
 ghost use Rattle.tsp_rules.specs.Guards.{is_follow};
 ghost use Rattle.tsp_node.specs.declared.audience.Audience.TheVariants.{OfRoles};
 ghost use Rattle.tsp_node.specs.Audiences.{audience_of};
@@ -73,6 +71,9 @@ impl Part {
             }
         }
     }
+
+    ghost use Rattle.tsp_base.specs.declared.role.Role.TheVariants.{Master};
+    ghost use Rattle.tsp_rules.specs.MasterRows.{master_takes};
 
     /// Handles a message of a peer at a master. A hint of another master makes it ask all peers
     /// who is one; an answer notes a rival; a QUIT ends its role.

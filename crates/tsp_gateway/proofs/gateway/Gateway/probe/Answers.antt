@@ -16,7 +16,7 @@ pub returns-then-ends_probes-clause-row : goal.returns-then-ends_probes-clause-r
 unfolding alarm_on
 returns-then-ends_probes-clause-row g c =
     let q = c.args.q in
-    All_looped q (q + 1) c.ring_probe.ensures.row
+    All_looped q (q + 1) c.ring.ensures.row
     (All_turning q (q + 1) (q + 1) (emits_loops (port_at q) refl) (omega arith) (omega arith) (All_from {p = GatewayStands} (λ past w. w.stands) (c.send_loops.ensures.row c.args.tick)))
     (λ past w. sym (c.probe_rings-rung.ensures past w.stands) ∙ c.if-rung.true) (λ past h. sym (c.ends_probes.ensures past h) ∙ c.if-ends_probes.true)
 
@@ -25,9 +25,9 @@ unfolding alarm_on
 returns-else-rung-clause-row g c =
     let q = c.args.q in
     let x = c.args.tick in
-    All_loopless q (q + 1) c.ring_probe.ensures.row (λ past w.
+    All_loopless q (q + 1) c.ring.ensures.row (λ past w.
     let later = spread x past (on (port_at q) (rings true false Probe) x past) in
     elim c.else-rung.branch [
-      | else-rung-via-then-rung+else-ends_probes b ↦ not_last x q past later (sym (b.ends_probes.ensures later (c.ring_probe.ensures.row.stands past w).stands) ∙ b.if-ends_probes.false)
+      | else-rung-via-then-rung+else-ends_probes b ↦ not_last x q past later (sym (b.ends_probes.ensures later (c.ring.ensures.row.stands past w).stands) ∙ b.if-ends_probes.false)
       | else-rung-via-else-rung b ↦ no_loops x q past later (sym (c.probe_rings-rung.ensures past w.stands) ∙ b.if-rung.false)
     ])

@@ -1,18 +1,22 @@
 -- What the port does is what the node does.
-use Rattle.std.proofs.Common.{true, false, refl, arith, true≢false}
+use Rattle.std.proofs.Common.{◌≡◌, true, false, refl, subst, arith}
 use Rattle.tsp_rules.specs.Answers.{rings}
+use Rattle.tsp_rules.specs.Guards.{is_over}
+use Rattle.tsp_node.specs.declared.part.Part.{Part}
 use Rattle.tsp_node.proofs.TakeEmits.{emits_rings}
-use Rattle.tsp_gateway.specs.GatewayStands.{port_at}
-use Rattle.tsp_gateway.proofs.LiftLemmas.{part_there}
+use Rattle.tsp_gateway.proofs.LiftLemmas.{part_there, set_there}
 use Rattle.tsp_gateway.proofs.PlaceLemmas.{peers_there, places, ports_few, ports_set}
-use Rattle.tsp_gateway.proofs.TurnLemmas.{All_rung, alarm_alone, rings_still}
+use Rattle.tsp_gateway.proofs.TurnLemmas.{All_rung, moves_not, rings_still}
 use Rattle.tsp_gateway.proofs.gateway.Gateway.ring.Goals as goal
 
 pub returns-clause-row : goal.returns-clause-row
 returns-clause-row g c =
     let there = part_there c.args.self.now c.args.q c.index_mut.result.now c.requires.port c.index_mut.ensures.value in
-    let alone = alarm_alone (port_at c.args.q) c.args.alarm c.requires.alarm in
-    rw (← alone.0) (All_rung c.ring.new.self (rings true false c.args.alarm) (emits_rings true false c.args.alarm) (rings_still true false c.args.alarm alone.1) there refl refl (rw c.port_at.ensures at c.ring.ensures.row))
+    let row = rings true c.args.wait c.args.alarm in
+    All_rung c.ring.new.self row (emits_rings true c.args.wait c.args.alarm) (rings_still true c.args.wait c.args.alarm (moves_not c.args.alarm c.requires.alarm)) there refl refl (rw c.port_at.ensures at c.ring.ensures.row)
+
+pub returns-clause-over : goal.returns-clause-over
+returns-clause-over g c e part is = subst (λ (p : Part). is_over p.station.alarms.probe c.args.tick ≡ false) (set_there c.args.self.now.ports.items c.args.q c.ring.new.self part is) (c.ring.ensures.over e)
 
 pub ring-requires-clause-room : goal.ring-requires-clause-room
 ring-requires-clause-room g c = let many = peers_there c.args.self.now.ports.items c.args.q c.index_mut.result.now (part_there c.args.self.now c.args.q c.index_mut.result.now c.requires.port c.index_mut.ensures.value) in omega (arith, many, c.requires.room)
@@ -36,7 +40,7 @@ pub ring-requires-clause-later : goal.ring-requires-clause-later
 ring-requires-clause-later g c = c.requires.later
 
 pub ring-requires-clause-order : goal.ring-requires-clause-order
-ring-requires-clause-order g c e = absurd (true≢false (rw e at c.requires.alarm))
+ring-requires-clause-order g c e = absurd (c.requires.alarm e)
 
 pub returns-clause-room : goal.returns-clause-room
 returns-clause-room g c =

@@ -1,13 +1,19 @@
 -- Each alarm has its call.
 use Rattle.std.proofs.Common.{◌≡◌, ◌∙◌, arith, sym}
-use Rattle.tsp_base.specs.declared.alarm.Alarm.TheVariants.{Close, Probe, Round}
+use Rattle.tsp_base.specs.declared.alarm.Alarm.TheVariants.{Close, Probe}
+use Rattle.tsp_rules.specs.GateRows.{alarm_on, begins_round_on, waits}
+use Rattle.tsp_gateway.specs.GatewayStands.{port_at}
+use Rattle.tsp_gateway.specs.Rooms.{peers_at, ports_in}
+use Rattle.tsp_gateway.proofs.AlarmsLemmas.{little_room}
+use Rattle.tsp_gateway.proofs.LiftLemmas.{All_reading}
+use Rattle.tsp_gateway.proofs.TurnLemmas.{alarm_alone}
 use Rattle.tsp_gateway.proofs.gateway.Gateway.ring_alarm.Goals as goal
 
 pub probe-requires-clause-port : goal.probe-requires-clause-port
 probe-requires-clause-port g c = c.requires.port
 
 pub probe-requires-clause-room : goal.probe-requires-clause-room
-probe-requires-clause-room g c = omega (arith, c.requires.room)
+probe-requires-clause-room g c = let room = rw c.in-Probe.is at c.requires.room in omega (arith, room)
 
 pub probe-requires-clause-tick : goal.probe-requires-clause-tick
 probe-requires-clause-tick g c = c.requires.tick
@@ -19,25 +25,13 @@ pub close-requires-clause-port : goal.close-requires-clause-port
 close-requires-clause-port g c = c.requires.port
 
 pub close-requires-clause-room : goal.close-requires-clause-room
-close-requires-clause-room g c = omega (arith, c.requires.room)
+close-requires-clause-room g c = let room = rw c.in-Close.is at c.requires.room in omega (arith, room)
 
 pub close-requires-clause-tick : goal.close-requires-clause-tick
 close-requires-clause-tick g c = c.requires.tick
 
 pub close-requires-clause-later : goal.close-requires-clause-later
 close-requires-clause-later g c = c.requires.later
-
-pub begin_round-requires-clause-port : goal.begin_round-requires-clause-port
-begin_round-requires-clause-port g c = c.requires.port
-
-pub begin_round-requires-clause-room : goal.begin_round-requires-clause-room
-begin_round-requires-clause-room g c = omega (arith, c.requires.room)
-
-pub begin_round-requires-clause-tick : goal.begin_round-requires-clause-tick
-begin_round-requires-clause-tick g c = c.requires.tick
-
-pub begin_round-requires-clause-later : goal.begin_round-requires-clause-later
-begin_round-requires-clause-later g c = c.requires.later
 
 pub close-requires-clause-order : goal.close-requires-clause-order
 close-requires-clause-order g c = c.requires.order c.in-Close.is
@@ -72,17 +66,31 @@ returns-in-Close-clause-clock g c = c.close.ensures.clock
 pub returns-in-Close-clause-room : goal.returns-in-Close-clause-room
 returns-in-Close-clause-room g c = let room = c.close.ensures.room in rw c.in-Close.is (record { spare = omega (arith, room.spare); few = omega (arith, room.few) })
 
+pub any_other-wait-requires : goal.any_other-wait-requires
+any_other-wait-requires g c = c.requires.port
+
+pub ring-requires-clause-room : goal.ring-requires-clause-room
+ring-requires-clause-room g c = let few = little_room c.args.alarm (peers_at c.args.q (ports_in c.args.self.now)) in omega (arith, few, c.requires.room)
+
+pub ring-requires-in_default-clause-room : goal.ring-requires-in_default-clause-room
+ring-requires-in_default-clause-room g c = let few = little_room c.args.alarm (peers_at c.args.q (ports_in c.args.self.now)) in omega (arith, few, c.requires.room)
+
 pub returns-in-Round-clause-row : goal.returns-in-Round-clause-row
-returns-in-Round-clause-row g c = rw c.in-Round.is c.begin_round.ensures.row
+unfolding alarm_on begins_round_on
+returns-in-Round-clause-row g c =
+    let q = port_at c.args.q in
+    let row = rw c.in-Round.is at c.ring.ensures.row in
+    rw c.in-Round.is (All_reading (waits q) (begins_round_on q) c.any_other-wait.result (λ past h. sym (c.any_other-wait.ensures past h.stands)) row)
 
-pub returns-in-Round-clause-over : goal.returns-in-Round-clause-over
-returns-in-Round-clause-over g c = λ e. let same : Round ≡ Probe = sym c.in-Round.is ∙ e in let bad : ⊥ = cc in absurd bad
-
-pub returns-in-Round-clause-ports : goal.returns-in-Round-clause-ports
-returns-in-Round-clause-ports g c = c.begin_round.ensures.ports
-
-pub returns-in-Round-clause-clock : goal.returns-in-Round-clause-clock
-returns-in-Round-clause-clock g c = c.begin_round.ensures.clock
-
-pub returns-in-Round-clause-room : goal.returns-in-Round-clause-room
-returns-in-Round-clause-room g c = let room = c.begin_round.ensures.room in rw c.in-Round.is (record { spare = omega (arith, room.spare); few = omega (arith, room.few) })
+pub returns-in_default : goal.returns-in_default
+returns-in_default g c =
+    let ring = c.ring-in_default.ensures in
+    let other = c.in_default in
+    let few = little_room c.args.alarm (peers_at c.args.q (ports_in c.args.self.now)) in
+    record {
+      row = rw (← alarm_alone (port_at c.args.q) c.args.alarm other.not-Probe other.not-Close other.not-Round) ring.row;
+      over = ring.over;
+      ports = ring.ports;
+      clock = ring.clock;
+      room = record { spare = omega (arith, few, ring.room.spare); few = omega (arith, few, ring.room.few) };
+    }

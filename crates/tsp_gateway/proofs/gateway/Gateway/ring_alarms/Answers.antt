@@ -5,17 +5,17 @@ use Rattle.tsp_base.specs.declared.alarm.Alarm.TheVariants.{Quiet}
 use Rattle.tsp_base.specs.declared.alarm.TheConstants.Alarm.{ALL}
 use Rattle.tsp_rules.specs.GateRows.{alarms_on}
 use Rattle.tsp_rules.proofs.NodeRowLemmas.{All_then}
-use Rattle.tsp_node.proofs.AlarmOrder.{take_one_more}
+use Rattle.tsp_node.proofs.AlarmOrder.{close_after_probe}
 use Rattle.tsp_gateway.specs.GatewayStands.{port_at}
-use Rattle.tsp_gateway.specs.Rooms.{alarm_room, peers_at, ports_in}
-use Rattle.tsp_gateway.proofs.AlarmsLemmas.{alarms_room, alarms_room-front, alarms_room-more, all_on-alarms, all_room, drop_all, drop_next, little_room, nothing_left}
+use Rattle.tsp_gateway.specs.Rooms.{alarm_room, alarms_room, peers_at, ports_in}
+use Rattle.tsp_gateway.proofs.AlarmsLemmas.{alarms_room-front, alarms_room-next, all_on-alarms, drop_all, drop_next, nothing_left}
 use Rattle.tsp_gateway.proofs.LiftLemmas.{All_same}
 use Rattle.tsp_gateway.proofs.gateway.Gateway.ring_alarms.Goals as goal
 
 pub loop-alarm-init : goal.loop-alarm-init
 loop-alarm-init g c = record {
   row = λ last new d. d;
-  probe = λ e. absurd (omega (arith, e));
+  probe = λ e. let bad : ⊥ = cc in absurd bad;
   ports = refl;
   clock = c.requires.later;
   room = record { spare = omega arith; few = omega arith };
@@ -27,11 +27,13 @@ ring_alarm-requires-clause-room g c =
     let inv = c.loop-alarm.invariant in
     let peers = peers_at c.args.q (ports_in c.args.self.now) in
     let alarm = slice_index_or ALL i Quiet in
-    let same : peers_at c.args.q (ports_in c.loop-alarm.self) ≡ peers_at c.args.q (ports_in c.args.self.now) = ap (peers_at c.args.q) inv.ports in
-    let front : alarms_room (take (c.loop-alarm.alarm-index + 1) ALL) (peers_at c.args.q (ports_in c.args.self.now)) ≤ alarms_room ALL (peers_at c.args.q (ports_in c.args.self.now)) = alarms_room-front ALL (c.loop-alarm.alarm-index + 1) (peers_at c.args.q (ports_in c.args.self.now)) in
-    let more : alarms_room (take (c.loop-alarm.alarm-index + 1) ALL) (peers_at c.args.q (ports_in c.args.self.now)) ≡ alarms_room (take c.loop-alarm.alarm-index ALL) (peers_at c.args.q (ports_in c.args.self.now)) + alarm_room (slice_index_or ALL c.loop-alarm.alarm-index Quiet) (peers_at c.args.q (ports_in c.args.self.now)) =
-    ap (λ alarms. alarms_room alarms peers) (take_one_more ALL i Quiet c.loop-alarm-test.true) ∙ alarms_room-more (take i ALL) alarm peers in
-    omega (arith, same, front, more, all_room peers, little_room alarm peers, inv.room.spare, c.requires.room)
+    let same : alarm_room (slice_index_or ALL c.loop-alarm.alarm-index Quiet) (peers_at c.args.q (ports_in c.loop-alarm.self)) ≡ alarm_room (slice_index_or ALL c.loop-alarm.alarm-index Quiet) (peers_at c.args.q (ports_in c.args.self.now)) = ap (λ ps. alarm_room alarm (peers_at c.args.q ps)) inv.ports in
+    let front = alarms_room-front ALL (c.loop-alarm.alarm-index + 1) (peers_at c.args.q (ports_in c.args.self.now)) in
+    let more = alarms_room-next c.loop-alarm.alarm-index (peers_at c.args.q (ports_in c.args.self.now)) c.loop-alarm-test.true in
+    omega (arith, same, front, more, inv.room.spare, c.requires.room)
+
+pub ring_alarm-requires-clause-order : goal.ring_alarm-requires-clause-order
+ring_alarm-requires-clause-order g c = c.loop-alarm.invariant.probe
 
 pub loop-alarm-preserved : goal.loop-alarm-preserved
 loop-alarm-preserved g c =
@@ -41,11 +43,10 @@ loop-alarm-preserved g c =
     let peers = peers_at c.args.q (ports_in c.args.self.now) in
     let alarm = slice_index_or ALL i Quiet in
     let same : alarm_room (slice_index_or ALL c.loop-alarm.alarm-index Quiet) (peers_at c.args.q (ports_in c.loop-alarm.self)) ≡ alarm_room (slice_index_or ALL c.loop-alarm.alarm-index Quiet) (peers_at c.args.q (ports_in c.args.self.now)) = ap (λ ps. alarm_room alarm (peers_at c.args.q ps)) inv.ports in
-    let more : alarms_room (take (c.loop-alarm.alarm-index + 1) ALL) (peers_at c.args.q (ports_in c.args.self.now)) ≡ alarms_room (take c.loop-alarm.alarm-index ALL) (peers_at c.args.q (ports_in c.args.self.now)) + alarm_room (slice_index_or ALL c.loop-alarm.alarm-index Quiet) (peers_at c.args.q (ports_in c.args.self.now)) =
-    ap (λ alarms. alarms_room alarms peers) (take_one_more ALL i Quiet c.loop-alarm-test.true) ∙ alarms_room-more (take i ALL) alarm peers in
+    let more = alarms_room-next c.loop-alarm.alarm-index (peers_at c.args.q (ports_in c.args.self.now)) c.loop-alarm-test.true in
     record {
       row = λ last new d. inv.row last new (rw (drop_next ALL i Quiet c.loop-alarm-test.true) (All_then ring.row d));
-      probe = λ e part is. let last : c.loop-alarm.alarm-index ≡ 4 = omega (arith, e) in ring.over (ap (λ k. slice_index_or ALL k Quiet) last) part is;
+      probe = λ e part is. ring.over (close_after_probe i e) part is;
       ports = ring.ports ∙ inv.ports;
       clock = ring.clock;
       room = record { spare = omega (arith, more, same, inv.room.spare, ring.room.spare); few = omega (arith, more, same, inv.room.few, ring.room.few) };
@@ -62,4 +63,4 @@ returns-clause-room g c =
     let inv = c.loop-alarm.invariant in
     let peers = peers_at c.args.q (ports_in c.args.self.now) in
     let front : alarms_room (take c.loop-alarm.alarm-index ALL) (peers_at c.args.q (ports_in c.args.self.now)) ≤ alarms_room ALL (peers_at c.args.q (ports_in c.args.self.now)) = alarms_room-front ALL c.loop-alarm.alarm-index (peers_at c.args.q (ports_in c.args.self.now)) in
-    record { spare = omega (arith, front, all_room peers, inv.room.spare); few = omega (arith, front, all_room peers, inv.room.few) }
+    record { spare = omega (arith, front, inv.room.spare); few = omega (arith, front, inv.room.few) }

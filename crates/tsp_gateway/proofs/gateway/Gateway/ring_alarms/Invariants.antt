@@ -1,23 +1,23 @@
 -- What is left to perform are the alarms that are still to come; the Close comes right after the Probe.
-use Rattle.std.proofs.Common.{◌≡◌, ◌+◌, ◌≤◌, List, drop, false, take, Some}
-use Rattle.std.specs.Prelude.{slice_get}
+use Rattle.std.proofs.Common.{◌≡◌, ◌+◌, ◌≤◌, List, drop, take}
+use Rattle.std.specs.Prelude.{slice_index_or}
 use Rattle.tsp_base.specs.declared.act.Placed.{Placed}
+use Rattle.tsp_base.specs.declared.alarm.Alarm.TheVariants.{Close, Quiet}
 use Rattle.tsp_base.specs.declared.alarm.TheConstants.Alarm.{ALL}
 use Rattle.tsp_base.specs.Frames.{PutsAtMost}
 use Rattle.tsp_rules.specs.NodePerforms.{PerformsAll}
-use Rattle.tsp_rules.specs.Guards.{is_over}
-use Rattle.tsp_node.specs.declared.part.Part.{Part}
 use Rattle.tsp_gateway.specs.declared.gateway.Gateway.{Gateway}
+use Rattle.tsp_gateway.specs.Dues.{HasProbed}
 use Rattle.tsp_gateway.specs.GatewayStands.{GatewayTurning, clock_at, port_at}
-use Rattle.tsp_gateway.specs.Rooms.{peers_at, ports_in}
-use Rattle.tsp_gateway.proofs.AlarmsLemmas.{all_on, alarms_room}
+use Rattle.tsp_gateway.specs.Rooms.{alarms_room, peers_at, ports_in}
+use Rattle.tsp_gateway.proofs.AlarmsLemmas.{all_on}
 use Rattle.tsp_gateway.proofs.gateway.Gateway.ring_alarms.Given as goal
 
 abbrev pub invariant-loop-alarm : goal.invariant-loop-alarm
 invariant-loop-alarm g l = record {
   row : (last : Gateway) (new : List Placed) → PerformsAll (GatewayTurning (l.q + 1)) (GatewayTurning (l.q + 1)) (all_on (port_at l.q) (drop l.alarm-index ALL)) l.tick l.self last (g.D.Desk.acts l.desk) new →
       PerformsAll (GatewayTurning (l.q + 1)) (GatewayTurning (l.q + 1)) (all_on (port_at l.q) ALL) l.tick l.initial.self last (g.D.Desk.acts l.initial.desk) new;
-  probe : l.alarm-index ≡ 5 → (part : Part) → slice_get l.self.ports.items l.q ≡ Some part → is_over part.station.alarms.probe l.tick ≡ false;
+  probe : slice_index_or ALL l.alarm-index Quiet ≡ Close → HasProbed l.q l.tick l.self;
   ports : ports_in l.self ≡ ports_in l.initial.self;
   clock : clock_at l.self ≤ l.tick;
   room : PutsAtMost (alarms_room (take l.alarm-index ALL) (peers_at l.q (ports_in l.initial.self))) (g.D.Desk.spare l.initial.desk) (g.D.Desk.spare l.desk) (g.D.Desk.acts l.initial.desk) (g.D.Desk.acts l.desk);
