@@ -23,6 +23,7 @@ use tsp_base::desk::Desk;
 impl Gateway {
     /// For every port in turn: repeats its due sends, and then handles its due alarms. Most turns end at once:
     /// nothing is due.
+    #[inline(always)]
     pub(crate) fn turn_ports<D: Desk>(&mut self, tick: u64, desk: &mut D)
         requires room { room_of_ports (ports_in self.old) ≤ D.spare desk.old }
         requires tick { IsTick tick }

@@ -1,5 +1,6 @@
 //! What a port does with octets that it takes.
-ghost use Rattle.std.specs.Prelude.{◌≡◌, ℕ, ◌+◌, ◌*◌, ◌≤◌, length};
+ghost use Rattle.std.specs.Prelude.{◌≡◌, ℕ, ◌+◌, ◌*◌, ◌≤◌, ◌++◌, [], ◌∷◌, length};
+ghost use Rattle.tsp_base.specs.declared.act.Act.TheVariants.{Took};
 ghost use Rattle.tsp_base.specs.Frames.{IsTick, PutsAtMost};
 ghost use Rattle.tsp_base.specs.History.{Past};
 ghost use Rattle.tsp_rules.specs.RoundRows.{corrects};
@@ -54,7 +55,7 @@ impl Part {
         let ticket = clock.ticket();
         // At most 1,000 peers, and so too few acts to correct the clock so often that its ticket is the same again.
         let _peers = self.station.peers();
-        desk.put(port, Act::Took(from, taken.copy()));
+        put_taken(from, taken, port, desk);
         let terms = TakeTerms {
             at: At { tick, port },
             steer,
@@ -103,6 +104,29 @@ impl Part {
                 Stamp::Reply(_) => self.hear_stamp(clock, tick, from, stamp, port, desk),
             },
         }
+    }
+}
+
+/// Puts the Took of what was read of octets. Each kind is copied by itself, since a stamp is much shorter than a
+/// message.
+fn put_taken<D: Desk>(from: Place, taken: &Taken, port: Port, desk: &mut D)
+    requires { 1 ≤ D.spare desk.old }
+    ensures acts { D.acts desk.new ≡ D.acts desk.old ++ record {
+      port = port;
+      act = Took from taken.now;
+    } ∷ [] }
+    ensures spare { D.spare desk.new + 1 ≡ D.spare desk.old }
+{
+    match taken {
+        Taken::Good(Datagram::Message(m)) => {
+            let datagram = Datagram::Message(m.copy());
+            desk.put(port, Act::Took(from, Taken::Good(datagram)))
+        }
+        Taken::Good(Datagram::Stamp(stamp)) => {
+            let datagram = Datagram::Stamp(*stamp);
+            desk.put(port, Act::Took(from, Taken::Good(datagram)))
+        }
+        Taken::Bad(fault) => desk.put(port, Act::Took(from, Taken::Bad(*fault))),
     }
 }
 

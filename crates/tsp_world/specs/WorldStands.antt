@@ -1,5 +1,5 @@
 -- Which schedules a world stands for: its header, and the events that it accepted.
-use Rattle.std.specs.Prelude.{◌≡◌, ℕ, ◌+◌, ◌≤◌, Bool, true, false, List, [], ◌∷◌, ◌++◌, ◌<◌, length, Option, None, Some, slice_get, All, vec_len}
+use Rattle.std.specs.Prelude.{◌≡◌, ℕ, ◌+◌, ◌≤◌, Bool, true, false, List, [], ◌∷◌, ◌++◌, ◌<◌, length, Option, None, Some, is_some, slice_get, All, vec_len}
 use Rattle.tsp_base.specs.declared.act.Placed.{Placed}
 use Rattle.tsp_base.specs.declared.event.Event.{Event}
 use Rattle.tsp_base.specs.declared.event.EventFault.{EventFault}
@@ -36,8 +36,7 @@ UpBegun past (Some node) = GatewayBegun past node
 -- whether a place of the world's nodes has a node that is up
 abbrev pub is_node : Option (Option Gateway) → Bool
 is_node None = false
-is_node (Some None) = false
-is_node (Some (Some node)) = true
+is_node (Some place) = is_some place
 
 abbrev pub up_at : List (Option Gateway) → ℕ → Bool
 up_at places n = is_node (slice_get places n)

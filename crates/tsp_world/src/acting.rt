@@ -17,7 +17,7 @@ ghost use Rattle.tsp_world.specs.WorldStands.{scene_of, IsReady, CanStep, CanNot
 ghost use Rattle.tsp_world.specs.WorldStands.{Happens, HappensBy, Stays};
 
 use crate::step;
-use crate::tell::{send, tell};
+use crate::tell::tell;
 use crate::world::World;
 use std::alloc::AllocError;
 use tsp_base::datagram::Taken;
@@ -83,6 +83,7 @@ impl World {
     }
 
     /// A node looks at its timers.
+    #[inline(always)]
     pub(crate) fn look(&mut self, at: u64, node: u32)
         requires ready { IsReady (room (ports_on node (networks self.old.header))) self.old }
         requires able { CanStep at node self.old }
@@ -162,11 +163,16 @@ impl World {
         ensures { Notes self.old.last node tick self.old.header self.old.nodes.items self.old.events
             self.old.sent.items (acts_on self.old.desk) self.new }
     {
-        let first = self.posted();
         self.events += 1;
-        let event = self.events;
-        send(&mut self.sent, self.desk.lines.as_slice(), self.last, node);
-        self.desk.exchange(&mut self.lines);
-        tell(self.lines.as_mut_slice(), event, node, tick, first);
+        let lines = &mut self.lines;
+        self.desk.exchange(lines);
+        tell(
+            lines.as_mut_slice(),
+            &mut self.sent,
+            self.events,
+            self.last,
+            node,
+            tick,
+        );
     }
 }

@@ -36,6 +36,7 @@ impl World {
     }
 
     /// A node looks at its timers.
+    #[inline(always)]
     pub fn turn(&mut self, at: u64, node: u32) -> Result<(), EventFault>
         requires { at ≤ 1000000000000000 }
         ensures { MatchResult result (λ _. Occurs (Event.Turn at node) self.old self.new)
@@ -53,6 +54,7 @@ impl World {
     }
 
     /// A posted datagram reaches its addressee, or nobody where it has none.
+    #[inline(always)]
     pub fn take(&mut self, at: u64, k: u64) -> Result<(), EventFault>
         requires { at ≤ 1000000000000000 }
         ensures { MatchResult result (λ _. Occurs (Event.Take at k) self.old self.new)

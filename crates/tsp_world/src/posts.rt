@@ -2,7 +2,7 @@
 ghost use Rattle.std.specs.Prelude.{◌≡◌, ◌≤◌, ◌<◌, ◌+◌, ◌++◌, [], ◌∷◌, length, slice_get, Some, OnOk, OnErr};
 ghost use Rattle.std.specs.Option.{option_map};
 
-use crate::head::{Head, datagram_of, hold};
+use crate::head::{Head, datagram_of, hold, number_of, way_of};
 use crate::way::Way;
 use std::alloc::{AllocError, Global};
 use std::marker::Model;
@@ -11,8 +11,8 @@ use tsp_base::datagram::Datagram;
 /// The greatest length of a name, in octets.
 const LONGEST: usize = 255;
 
-/// Posted datagrams, numbered from 0, and room for more. It counts its room itself, since a vector may have
-/// more than was asked for.
+/// Posted datagrams, numbered from 0, and room for more. It counts its room itself, so that a step that has enough
+/// asks no vector.
 #[derive(Drop)]
 pub struct Posts {
     /// The posts without the octets of their names.
@@ -67,7 +67,7 @@ impl Posts {
         ensures { result ≡ option_map way_of (slice_get self.now.items k) }
     {
         match self.heads.get(k as usize) {
-            Some(head) => Some(head.way),
+            Some(head) => Some(way_of(head)),
             None => None,
         }
     }
@@ -77,7 +77,7 @@ impl Posts {
         requires { k < length self.now.items }
         ensures { (p : Posted) → slice_get self.now.items k ≡ Some p → result ≡ p.datagram }
     {
-        datagram_of(self.names.as_slice(), &self.heads[k as usize].held)
+        datagram_of(self.names.as_slice(), &self.heads[k as usize])
     }
 
     /// Makes room for at least `n` more posts, whatever their names. Fails only if out of memory; the room is
@@ -96,7 +96,9 @@ impl Posts {
         };
         self.heads.reserve(n)?;
         self.names.reserve(octets)?;
-        self.spare = n;
+        let heads = self.heads.capacity() - self.heads.len();
+        let names = (self.names.capacity() - self.names.len()) / LONGEST;
+        self.spare = heads.min(names);
         Ok(())
     }
 
@@ -106,8 +108,13 @@ impl Posts {
         ensures items { self.new.items ≡ self.old.items ++ posted_on way datagram.now ∷ [] }
         ensures spare { self.new.spare + 1 ≡ self.old.spare }
     {
-        let held = hold(&mut self.names, datagram);
-        self.heads.push_reserved(Head { way, held });
+        let held = hold(&mut self.names, way, datagram);
+        self.heads.push_reserved(Head {
+            at: way.at,
+            from: way.from,
+            to: number_of(way.to),
+            held,
+        });
         self.spare -= 1;
     }
 }

@@ -11,9 +11,20 @@ use crate::world::World;
 use tsp_base::event::EventFault;
 use tsp_base::members::Members;
 use tsp_base::place::{Place, Port};
+use tsp_gateway::Gateway;
 use tsp_networks::refusals::absent;
 use tsp_networks::{networks_of, room_of};
 use tsp_run::address::Address;
+
+/// Whether a place of the nodes has one that has booted.
+fn is_up(places: &[Option<Gateway>], n: u32) -> bool
+    ensures { result ≡ up_at places.now n }
+{
+    match places.get(n as usize) {
+        Some(place) => place.is_some(),
+        None => false,
+    }
+}
 
 impl World {
     /// The number of nodes.
@@ -139,20 +150,13 @@ impl World {
         limit(self.events, self.posted(), None)
     }
 
-    /// Whether a node has booted.
-    fn is_up(&self, n: u32) -> bool
-        ensures { result ≡ up_at self.now.nodes.items n }
-    {
-        matches!(self.nodes.get(n as usize), Some(Some(_)))
-    }
-
     /// `NotUp` where a node hasn't booted, else `Limit` where there is no room for its step.
     fn bars_step(&self, node: u32, wanted: u64) -> Option<EventFault>
         requires few { wanted ≤ 200000 }
         ensures { result ≡ first_of (down_at (up_at self.now.nodes.items node) node)
             (limit self.now.events (length self.now.sent.items) (Some wanted)) }
     {
-        if !self.is_up(node) {
+        if !is_up(self.nodes.as_slice(), node) {
             return Some(EventFault::NotUp(node));
         }
         limit(self.events, self.posted(), Some(wanted))

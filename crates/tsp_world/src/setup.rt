@@ -1,5 +1,5 @@
 //! The configurations of a schedule's nodes.
-ghost use Rattle.std.specs.Prelude.{◌≡◌, ◌≤◌, [], ◌∷◌, ◌++◌, length, IfOk, OnOk};
+ghost use Rattle.std.specs.Prelude.{◌≡◌, ◌≤◌, [], ◌∷◌, ◌++◌, length, vec_len, replicate, None, IfOk, OnOk};
 ghost use Rattle.tsp_run.specs.Networks.{networks, peers_on, ports_on};
 ghost use Rattle.tsp_world.specs.Configs.{configs_below, AreRooms};
 
@@ -7,7 +7,7 @@ use std::alloc::{AllocError, Global};
 use tsp_base::header::{Header, NodeLine};
 use tsp_base::members::Members;
 use tsp_base::place::PeerId;
-use tsp_gateway::GateConfig;
+use tsp_gateway::{GateConfig, Gateway};
 use tsp_networks::room_of;
 
 /// The configuration of each node of a header, in order, on these networks. Fails only if out of memory.
@@ -94,4 +94,16 @@ pub(crate) fn rooms_of(alloc: Global, count: u32, nets: &[Members]) -> Result<Ve
         rooms.push(room_of(nets, node))?;
     }
     Ok(rooms)
+}
+
+/// So many places, in none of which a node is up. Fails only if out of memory.
+pub(crate) fn places_of(alloc: Global, count: usize) -> Result<Vec<Option<Gateway>>, AllocError>
+    ensures places { IfOk result (λ v. v.items ≡ replicate count None) }
+    ensures len { IfOk result (λ v. vec_len v ≡ count) }
+{
+    let mut places = Vec::new(alloc);
+    for _ in 0..count {
+        places.push(None)?;
+    }
+    Ok(places)
 }

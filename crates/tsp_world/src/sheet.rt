@@ -9,8 +9,7 @@ use tsp_base::desk::Desk;
 use tsp_base::place::Port;
 use tsp_run::line::Line;
 
-/// Lines with their acts, whose other parts are still to be told. It counts its room itself, since a vector
-/// may have more than was asked for.
+/// Lines with their acts, whose other parts are still to be told, and how many more there is room for.
 #[derive(Drop)]
 pub(crate) struct Sheet {
     pub(crate) lines: Vec<Line>,
@@ -31,16 +30,12 @@ impl Sheet {
         }
     }
 
-    /// Removes all lines. Where there were none the room is kept, as after most steps; else none is left until it
-    /// is asked for.
+    /// Removes all lines. Their room stays.
     pub(crate) fn clear(&mut self)
         ensures acts { acts_on self.new ≡ [] }
     {
-        if self.lines.is_empty() {
-            return;
-        }
-        self.spare = 0;
         self.lines.clear();
+        self.spare = self.lines.capacity();
     }
 
     /// Gives its lines for others. No room is left until it is asked for.

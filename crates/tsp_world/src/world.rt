@@ -7,7 +7,7 @@ ghost use Rattle.tsp_world.specs.Configs.{AreRooms};
 ghost use Rattle.tsp_world.specs.NodesReady.{NodesReady};
 
 use crate::posts::Posts;
-use crate::setup::{configs_of, rooms_of};
+use crate::setup::{configs_of, places_of, rooms_of};
 use crate::sheet::Sheet;
 use std::alloc::{AllocError, Global};
 use tsp_base::desk::Desk;
@@ -72,10 +72,7 @@ impl World {
         let configs = configs_of(alloc, &header, networks_of(&header, one.as_slice()))?;
         let nets = networks_of(&header, one.as_slice());
         let rooms = rooms_of(alloc, header.nodes().len() as u32, nets)?;
-        let mut nodes = Vec::new(alloc);
-        for _ in header.nodes() {
-            nodes.push(None)?;
-        }
+        let nodes = places_of(alloc, header.nodes().len())?;
         Ok(World {
             alloc,
             header,
@@ -172,6 +169,7 @@ impl World {
 
     /// Makes room for so many acts of a step, each in its line, and for so many posts. Fails only if out of
     /// memory, and then changes nothing that the world stands for.
+    #[inline(always)]
     pub(crate) fn make_room(&mut self, wanted: u64) -> Result<(), AllocError>
         ensures stands { Stays self.old self.new }
         ensures ready { OnOk result (IsReady wanted self.new) }

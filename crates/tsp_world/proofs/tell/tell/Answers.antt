@@ -3,8 +3,8 @@ use Rattle.std.proofs.Common.{◌≤◌, ◌∙◌, sym, arith, length}
 use Rattle.tsp_world.proofs.TellLemmas.{told_all}
 use Rattle.tsp_world.proofs.tell.tell.Goals as goal
 
-pub returns : goal.returns
-returns c =
+pub returns-clause-lines : goal.returns-clause-lines
+returns-clause-lines c =
     let past = c.loop-line-test.false in
     let all : length c.loop-line.lines ≤ c.loop-line.line-index = omega (arith, past) in
-    sym (told_all c.args.event c.args.node c.args.tick c.loop-line.next c.loop-line.line-index c.loop-line.lines all) ∙ c.loop-line.invariant.told
+    sym (told_all c.args.event c.args.node c.args.tick (length c.loop-line.sent.items) c.loop-line.line-index c.loop-line.lines all) ∙ c.loop-line.invariant.told

@@ -10,12 +10,12 @@ use Rattle.tsp_world.proofs.world.World.new.Goals as goal
 
 pub invariant_of-result-clause-ready : goal.invariant_of-result-clause-ready
 invariant_of-result-clause-ready c = record {
-  header_is = c.nodes-items.ensures.valid;
+  header_is = c.nodes-3.ensures.valid;
   whole = c.requires.whole;
   one_is = c.in_ok-one.ensures ∙ ap (λ l. numbers_below (length l) ∷ []) c.nodes.ensures.nodes;
   configs_are = c.in_ok-configs.ensures;
   places = λ n place is node up.
-      let none = slice_get-replicate c.loop.index n None place (subst (λ ps. slice_get ps n ≡ Some place) c.loop.invariant.none is) in
+      let none = slice_get-replicate _ n None place (subst (λ ps. slice_get ps n ≡ Some place) c.in_ok-nodes.ensures.places is) in
       let bad : ⊥ = cc in absurd bad;
 }
 
@@ -32,6 +32,6 @@ returns c = record {
   sent = c.new.ensures.items;
   lines = c.new-2.ensures.items;
   places = search rules;
-  nodes = λ n place is. subst (λ p. PlaceStands c.args.header [] n p) (sym (slice_get-replicate c.loop.index n None place (subst (λ ps. slice_get ps n ≡ Some place) c.loop.invariant.none is))) refl;
+  nodes = λ n place is. subst (λ p. PlaceStands c.args.header [] n p) (sym (slice_get-replicate _ n None place (subst (λ ps. slice_get ps n ≡ Some place) c.in_ok-nodes.ensures.places is))) refl;
   nobody = λ n past. refl;
 }
