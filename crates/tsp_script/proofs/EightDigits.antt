@@ -1,5 +1,5 @@
 -- Eight digits that are read at once: their octets as one word, and the number that they make.
-use Rattle.std.proofs.Common.{◌≡◌, ℕ, ◌+◌, ◌-◌, ◌*◌, ◌/◌, ◌%◌, ◌^◌, ◌<◌, ◌≤◌, List, ◌++◌, length, take, slice_index_or, arith, sym, ap, ◌∙◌, append-nil, subst}
+use Rattle.std.proofs.Common.{◌≡◌, ℕ, ◌+◌, ◌-◌, ◌*◌, ◌/◌, ◌%◌, ◌<◌, ◌≤◌, List, ◌++◌, length, take, slice_index_or, arith, sym, ap, ◌∙◌, append-nil, subst}
 use Rattle.std.specs.Prelude.{decimal}
 use Rattle.std.proofs.Common.{Fits, w8}
 use Rattle.std.specs.Int.RustNames.{bit_and}
