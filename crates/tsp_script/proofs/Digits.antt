@@ -6,10 +6,6 @@ use Rattle.std.proofs.lemmas.Grind.{pow_more}
 use Rattle.std.proofs.Math.Nat.{pow-le-pow_right}
 use Rattle.std.proofs.lemmas.List.{take_more, take-append-drop}
 
--- a number of two digits
-pub decimal_pair : (n : ℕ) → 10 ≤ n → n < 100 → decimal n ≡ (48 + n / 10) ∷ (48 + n % 10) ∷ []
-decimal_pair n low high = rw (decimal_step n low (omega arith), decimal_digit (n / 10) (omega arith))
-
 -- a digit behind a number that isn't 0
 pub decimal-digit : (n d : ℕ) → 0 < n → n ≤ 1000000000000000000 → 48 ≤ d → d < 58 → decimal (n * 10 + (d - 48)) ≡ decimal n ++ d ∷ []
 decimal-digit n d some small low high =

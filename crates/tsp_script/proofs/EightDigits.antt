@@ -1,5 +1,5 @@
 -- Eight digits that are read at once: their octets as one word, and the number that they make.
-use Rattle.std.proofs.Common.{◌≡◌, ℕ, ◌+◌, ◌-◌, ◌*◌, ◌/◌, ◌%◌, ◌^◌, ◌<◌, ◌≤◌, List, ◌++◌, length, take, slice_index_or, arith, sym, ap, ◌∙◌, append-nil, subst}
+use Rattle.std.proofs.Common.{◌≡◌, ℕ, ◌+◌, ◌-◌, ◌*◌, ◌/◌, ◌%◌, ◌<◌, ◌≤◌, List, ◌++◌, length, take, slice_index_or, arith, sym, ap, ◌∙◌, append-nil, subst, refl, lit<, lit≤}
 use Rattle.std.specs.Prelude.{decimal}
 use Rattle.std.proofs.Common.{Fits, w8}
 use Rattle.std.specs.Int.RustNames.{bit_and}
@@ -94,32 +94,34 @@ joined_value a b c d e f g h w p q a' b' c' d' e' f' g' h' is is_p is_q =
     let u = whole_value ((a * 10 + b) * 100 + (c * 10 + d)) ((e * 10 + f) * 100 + (g * 10 + h)) q (omega arith) (omega arith) t in
     omega (arith, u)
 
+-- a number of at most so much whose text is that of another one and then so many digits
+abbrev Grown : ℕ → ℕ → ℕ → ℕ → List ℕ → Type 0
+Grown front n k most ds = (0 < n) × (n ≤ most) × (decimal n ≡ decimal front ++ take k ds)
+
+-- one digit more
+grow : (front n k most : ℕ) (ds : List ℕ) → k < 8 → 8 ≤ length ds → most ≤ 1000000000000000000 → IsDigit (slice_index_or ds k 0) → Grown front n k most ds → Grown front (n * 10 + (slice_index_or ds k 0 - 48)) (k + 1) (most * 10 + 9) ds
+grow front n k most ds k' l small d g = (omega arith, omega arith, digits-more front n k ds (omega arith) g.0 (omega arith) d.0 d.1 g.2)
+
+joined_eight : (front n a b c d e f g h : ℕ) → n ≡ eight_value a b c d e f g h → front * 100000000 + n ≡ (((((((front * 10 + a) * 10 + b) * 10 + c) * 10 + d) * 10 + e) * 10 + f) * 10 + g) * 10 + h
+joined_eight front n a b c d e f g h is = omega (arith, is)
+
 -- eight digits behind a number
-pub eight_more : (front n : ℕ) (ds : List ℕ) → 8 ≤ length ds → 0 < front → front ≤ 10000000000
+eight_more : (front n : ℕ) (ds : List ℕ) → 8 ≤ length ds → 0 < front → front ≤ 10000000000
     → IsDigit (slice_index_or ds 0 0) → IsDigit (slice_index_or ds 1 0) → IsDigit (slice_index_or ds 2 0) → IsDigit (slice_index_or ds 3 0)
     → IsDigit (slice_index_or ds 4 0) → IsDigit (slice_index_or ds 5 0) → IsDigit (slice_index_or ds 6 0) → IsDigit (slice_index_or ds 7 0)
     → n ≡ eight_value (slice_index_or ds 0 0 - 48) (slice_index_or ds 1 0 - 48) (slice_index_or ds 2 0 - 48) (slice_index_or ds 3 0 - 48)
     (slice_index_or ds 4 0 - 48) (slice_index_or ds 5 0 - 48) (slice_index_or ds 6 0 - 48) (slice_index_or ds 7 0 - 48)
     → decimal (front * 100000000 + n) ≡ decimal front ++ take 8 ds
 eight_more front n ds l some small a b c d e f g h is =
-    let n1 : ℕ = front * 10 + (slice_index_or ds 0 0 - 48) in
-    let n2 : ℕ = n1 * 10 + (slice_index_or ds 1 0 - 48) in
-    let n3 : ℕ = n2 * 10 + (slice_index_or ds 2 0 - 48) in
-    let n4 : ℕ = n3 * 10 + (slice_index_or ds 3 0 - 48) in
-    let n5 : ℕ = n4 * 10 + (slice_index_or ds 4 0 - 48) in
-    let n6 : ℕ = n5 * 10 + (slice_index_or ds 5 0 - 48) in
-    let n7 : ℕ = n6 * 10 + (slice_index_or ds 6 0 - 48) in
-    let n8 : ℕ = n7 * 10 + (slice_index_or ds 7 0 - 48) in
-    let s1 : decimal n1 ≡ decimal front ++ take 1 ds = digits-more front front 0 ds (omega arith) some (omega arith) a.0 a.1 (sym (append-nil (decimal front))) in
-    let s2 : decimal n2 ≡ decimal front ++ take 2 ds = digits-more front n1 1 ds (omega arith) (omega arith) (omega arith) b.0 b.1 s1 in
-    let s3 : decimal n3 ≡ decimal front ++ take 3 ds = digits-more front n2 2 ds (omega arith) (omega arith) (omega arith) c.0 c.1 s2 in
-    let s4 : decimal n4 ≡ decimal front ++ take 4 ds = digits-more front n3 3 ds (omega arith) (omega arith) (omega arith) d.0 d.1 s3 in
-    let s5 : decimal n5 ≡ decimal front ++ take 5 ds = digits-more front n4 4 ds (omega arith) (omega arith) (omega arith) e.0 e.1 s4 in
-    let s6 : decimal n6 ≡ decimal front ++ take 6 ds = digits-more front n5 5 ds (omega arith) (omega arith) (omega arith) f.0 f.1 s5 in
-    let s7 : decimal n7 ≡ decimal front ++ take 7 ds = digits-more front n6 6 ds (omega arith) (omega arith) (omega arith) g.0 g.1 s6 in
-    let s8 : decimal n8 ≡ decimal front ++ take 8 ds = digits-more front n7 7 ds (omega arith) (omega arith) (omega arith) h.0 h.1 s7 in
-    let same : front * 100000000 + n ≡ n8 = omega arith in
-    ap decimal same ∙ s8
+    let g1 = grow front front 0 10000000000 ds (lit< tt) l (lit≤ tt) a (some, small, sym (append-nil (decimal front))) in
+    let g2 = grow front _ 1 100000000009 ds (lit< tt) l (lit≤ tt) b g1 in
+    let g3 = grow front _ 2 1000000000099 ds (lit< tt) l (lit≤ tt) c g2 in
+    let g4 = grow front _ 3 10000000000999 ds (lit< tt) l (lit≤ tt) d g3 in
+    let g5 = grow front _ 4 100000000009999 ds (lit< tt) l (lit≤ tt) e g4 in
+    let g6 = grow front _ 5 1000000000099999 ds (lit< tt) l (lit≤ tt) f g5 in
+    let g7 = grow front _ 6 10000000000999999 ds (lit< tt) l (lit≤ tt) g g6 in
+    let g8 = grow front _ 7 100000000009999999 ds (lit< tt) l (lit≤ tt) h g7 in
+    ap decimal (joined_eight front n _ _ _ _ _ _ _ _ is) ∙ g8.2
 
 -- the first eight of some octets are in the half of the digits
 abbrev pub AreHigh : List ℕ → Type 0
@@ -134,13 +136,39 @@ high_word ds word fits is high =
     all_high (slice_index_or ds 0 0) (slice_index_or ds 1 0) (slice_index_or ds 2 0) (slice_index_or ds 3 0) (slice_index_or ds 4 0) (slice_index_or ds 5 0) (slice_index_or ds 6 0) (slice_index_or ds 7 0)
     (fits 0).fits (fits 1).fits (fits 2).fits (fits 3).fits (fits 4).fits (fits 5).fits (fits 6).fits (fits 7).fits (ap (λ (x : ℕ). bit_and x 0xF0F0F0F0F0F0F0F0) (sym is) ∙ high)
 
+-- two words of which one is octet by octet at most the other, and one by so much more
+more_le : (x y a i : ℕ) → x ≤ y → a ≤ i → x * 256 + a ≤ y * 256 + i
+more_le x y a i h k = omega arith
+
+octets_le : (a b c d e f g h i j l m n o p q : ℕ) → a ≤ i → b ≤ j → c ≤ l → d ≤ m → e ≤ n → f ≤ o → g ≤ p → h ≤ q → octets_word a b c d e f g h ≤ octets_word i j l m n o p q
+octets_le a b c d e f g h i j l m n o p q a' b' c' d' e' f' g' h' =
+    more_le _ _ a i (more_le _ _ b j (more_le _ _ c l (more_le _ _ d m (more_le _ _ e n (more_le _ _ f o (more_le h q g p h' g') f') e') d') c') b') a'
+
+more_sum : (x y z a i k : ℕ) → x ≡ y + z → a ≡ i + k → x * 256 + a ≡ (y * 256 + i) + (z * 256 + k)
+more_sum x y z a i k h e = omega arith
+
+octets_sum : (k a b c d e f g h i j l m n o p q : ℕ) → a ≡ i + k → b ≡ j + k → c ≡ l + k → d ≡ m + k → e ≡ n + k → f ≡ o + k → g ≡ p + k → h ≡ q + k
+    → octets_word a b c d e f g h ≡ octets_word i j l m n o p q + octets_word k k k k k k k k
+octets_sum k a b c d e f g h i j l m n o p q a' b' c' d' e' f' g' h' =
+    more_sum _ _ _ a i k (more_sum _ _ _ b j k (more_sum _ _ _ c l k (more_sum _ _ _ d m k (more_sum _ _ _ e n k (more_sum _ _ _ f o k (more_sum h q k g p k h' g') f') e') d') c') b') a'
+
+high_top : (b : ℕ) → IsHigh b → b ≤ 63
+high_top b h = omega (arith, h.1)
+
 -- how large the word of such octets is
 pub high_word-bounds : (ds : List ℕ) (word : ℕ) → word ≡ word_at ds → AreHigh ds → (3472328296227680304 ≤ word) × (word < 4629771061636907072)
-high_word-bounds ds word is p = (omega (arith, is, p.0.0.0, p.0.1.0, p.0.2.0, p.0.3.0, p.1.0.0, p.1.1.0, p.1.2.0, p.1.3.0), omega (arith, is, p.0.0.1, p.0.1.1, p.0.2.1, p.0.3.1, p.1.0.1, p.1.1.1, p.1.2.1, p.1.3.1))
+high_word-bounds ds word is p =
+    let low : octets_word 48 48 48 48 48 48 48 48 ≤ word_at ds = octets_le 48 48 48 48 48 48 48 48 _ _ _ _ _ _ _ _ p.0.0.0 p.0.1.0 p.0.2.0 p.0.3.0 p.1.0.0 p.1.1.0 p.1.2.0 p.1.3.0 in
+    let high : word_at ds ≤ octets_word 63 63 63 63 63 63 63 63 = octets_le _ _ _ _ _ _ _ _ 63 63 63 63 63 63 63 63 (high_top _ p.0.0) (high_top _ p.0.1) (high_top _ p.0.2) (high_top _ p.0.3) (high_top _ p.1.0) (high_top _ p.1.1) (high_top _ p.1.2) (high_top _ p.1.3) in
+    bounds_of word (word_at ds) is low high
+  where
+    bounds_of : (w v : ℕ) → w ≡ v → 3472328296227680304 ≤ v → v ≤ 4557430888798830399 → (3472328296227680304 ≤ w) × (w < 4629771061636907072)
+    bounds_of w v e l h = (omega arith, omega arith)
 
 pub digits_word : (ds : List ℕ) (word : ℕ) → ((k : ℕ) → Fits w8 (slice_index_or ds k 0)) → word ≡ word_at ds → AreHigh ds → bit_and (word + 0x0606060606060606) 0xF0F0F0F0F0F0F0F0 ≡ 0x3030303030303030 → AreDigits ds
 digits_word ds word fits is p high =
-    let sum : word + 0x0606060606060606 ≡ octets_word (slice_index_or ds 0 0 + 6) (slice_index_or ds 1 0 + 6) (slice_index_or ds 2 0 + 6) (slice_index_or ds 3 0 + 6) (slice_index_or ds 4 0 + 6) (slice_index_or ds 5 0 + 6) (slice_index_or ds 6 0 + 6) (slice_index_or ds 7 0 + 6) = omega (arith, is) in
+    let more = octets_sum 6 (slice_index_or ds 0 0 + 6) (slice_index_or ds 1 0 + 6) (slice_index_or ds 2 0 + 6) (slice_index_or ds 3 0 + 6) (slice_index_or ds 4 0 + 6) (slice_index_or ds 5 0 + 6) (slice_index_or ds 6 0 + 6) (slice_index_or ds 7 0 + 6) _ _ _ _ _ _ _ _ refl refl refl refl refl refl refl refl in
+    let sum : word + 0x0606060606060606 ≡ octets_word (slice_index_or ds 0 0 + 6) (slice_index_or ds 1 0 + 6) (slice_index_or ds 2 0 + 6) (slice_index_or ds 3 0 + 6) (slice_index_or ds 4 0 + 6) (slice_index_or ds 5 0 + 6) (slice_index_or ds 6 0 + 6) (slice_index_or ds 7 0 + 6) = ap (λ (x : ℕ). x + 0x0606060606060606) is ∙ sym more in
     let q = all_high (slice_index_or ds 0 0 + 6) (slice_index_or ds 1 0 + 6) (slice_index_or ds 2 0 + 6) (slice_index_or ds 3 0 + 6) (slice_index_or ds 4 0 + 6) (slice_index_or ds 5 0 + 6) (slice_index_or ds 6 0 + 6) (slice_index_or ds 7 0 + 6)
     (omega (arith, p.0.0.1)) (omega (arith, p.0.1.1)) (omega (arith, p.0.2.1)) (omega (arith, p.0.3.1)) (omega (arith, p.1.0.1)) (omega (arith, p.1.1.1)) (omega (arith, p.1.2.1)) (omega (arith, p.1.3.1)) (ap (λ (x : ℕ). bit_and x 0xF0F0F0F0F0F0F0F0) (sym sum) ∙ high) in
     (((p.0.0.0, omega (arith, q.0.0.1)), (p.0.1.0, omega (arith, q.0.1.1)), (p.0.2.0, omega (arith, q.0.2.1)), (p.0.3.0, omega (arith, q.0.3.1))), ((p.1.0.0, omega (arith, q.1.0.1)), (p.1.1.0, omega (arith, q.1.1.1)), (p.1.2.0, omega (arith, q.1.2.1)), (p.1.3.0, omega (arith, q.1.3.1))))
@@ -152,12 +180,8 @@ octet_of_value b h = (omega arith, omega arith)
 without : (w x c : ℕ) → w ≡ x + c → w - c ≡ x
 without w x c e = omega (arith, e)
 
-shifted_word : (a b c d e f g h i j k l m n o p word : ℕ) → a ≡ i + 48 → b ≡ j + 48 → c ≡ k + 48 → d ≡ l + 48 → e ≡ m + 48 → f ≡ n + 48 → g ≡ o + 48 → h ≡ p + 48
-    → word ≡ octets_word a b c d e f g h → word ≡ octets_word i j k l m n o p + 3472328296227680304
-shifted_word a b c d e f g h i j k l m n o p word a' b' c' d' e' f' g' h' is = omega (arith, is)
-
-small_word : (i j k l m n o p : ℕ) → i < 10 → j < 10 → k < 10 → l < 10 → m < 10 → n < 10 → o < 10 → p < 10 → octets_word i j k l m n o p ≤ 651061555542690057
-small_word i j k l m n o p i' j' k' l' m' n' o' p' = omega arith
+value_top : (x : ℕ) → x < 10 → x ≤ 9
+value_top x h = omega arith
 
 -- the word of the digits' values
 pub values_word : (ds : List ℕ) (word : ℕ) → word ≡ word_at ds → AreDigits ds → (word - 3472328296227680304 ≤ 651061555542690057) × (word - 3472328296227680304 ≡ octets_word (slice_index_or ds 0 0 - 48) (slice_index_or ds 1 0 - 48) (slice_index_or ds 2 0 - 48) (slice_index_or ds 3 0 - 48) (slice_index_or ds 4 0 - 48) (slice_index_or ds 5 0 - 48) (slice_index_or ds 6 0 - 48) (slice_index_or ds 7 0 - 48))
@@ -171,10 +195,9 @@ values_word ds word is p =
     let g = octet_of_value (slice_index_or ds 6 0) p.1.2 in
     let h = octet_of_value (slice_index_or ds 7 0) p.1.3 in
     let values : ℕ = octets_word (slice_index_or ds 0 0 - 48) (slice_index_or ds 1 0 - 48) (slice_index_or ds 2 0 - 48) (slice_index_or ds 3 0 - 48) (slice_index_or ds 4 0 - 48) (slice_index_or ds 5 0 - 48) (slice_index_or ds 6 0 - 48) (slice_index_or ds 7 0 - 48) in
-    let shift : word ≡ values + 3472328296227680304 = shifted_word (slice_index_or ds 0 0) (slice_index_or ds 1 0) (slice_index_or ds 2 0) (slice_index_or ds 3 0) (slice_index_or ds 4 0) (slice_index_or ds 5 0) (slice_index_or ds 6 0) (slice_index_or ds 7 0)
-    (slice_index_or ds 0 0 - 48) (slice_index_or ds 1 0 - 48) (slice_index_or ds 2 0 - 48) (slice_index_or ds 3 0 - 48) (slice_index_or ds 4 0 - 48) (slice_index_or ds 5 0 - 48) (slice_index_or ds 6 0 - 48) (slice_index_or ds 7 0 - 48) word a.0 b.0 c.0 d.0 e.0 f.0 g.0 h.0 is in
+    let shift : word ≡ values + 3472328296227680304 = is ∙ octets_sum 48 _ _ _ _ _ _ _ _ (slice_index_or ds 0 0 - 48) (slice_index_or ds 1 0 - 48) (slice_index_or ds 2 0 - 48) (slice_index_or ds 3 0 - 48) (slice_index_or ds 4 0 - 48) (slice_index_or ds 5 0 - 48) (slice_index_or ds 6 0 - 48) (slice_index_or ds 7 0 - 48) a.0 b.0 c.0 d.0 e.0 f.0 g.0 h.0 in
     let less : word - 3472328296227680304 ≡ values = without word values 3472328296227680304 shift in
-    let small : values ≤ 651061555542690057 = small_word (slice_index_or ds 0 0 - 48) (slice_index_or ds 1 0 - 48) (slice_index_or ds 2 0 - 48) (slice_index_or ds 3 0 - 48) (slice_index_or ds 4 0 - 48) (slice_index_or ds 5 0 - 48) (slice_index_or ds 6 0 - 48) (slice_index_or ds 7 0 - 48) a.1 b.1 c.1 d.1 e.1 f.1 g.1 h.1 in
+    let small : values ≤ 651061555542690057 = octets_le (slice_index_or ds 0 0 - 48) (slice_index_or ds 1 0 - 48) (slice_index_or ds 2 0 - 48) (slice_index_or ds 3 0 - 48) (slice_index_or ds 4 0 - 48) (slice_index_or ds 5 0 - 48) (slice_index_or ds 6 0 - 48) (slice_index_or ds 7 0 - 48) 9 9 9 9 9 9 9 9 (value_top _ a.1) (value_top _ b.1) (value_top _ c.1) (value_top _ d.1) (value_top _ e.1) (value_top _ f.1) (value_top _ g.1) (value_top _ h.1) in
     (subst (λ (v : ℕ). v ≤ 651061555542690057) (sym less) small, less)
 
 -- the number of eight digits

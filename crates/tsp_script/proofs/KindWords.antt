@@ -1,32 +1,19 @@
 -- Laws of the words of kinds.
-use Rattle.std.proofs.Common.{◌≡◌, ℕ, List, [], ◌∷◌, zero, suc, refl, ap, sym, ◌∙◌, arith, true, false, Bool, Option, Some, None}
-use Rattle.std.specs.Prelude.{Contains, codes, ◌==◌, ◌&&◌, not, if◌then◌else◌}
+use Rattle.std.proofs.Common.{◌≡◌, ℕ, List, [], ◌∷◌, zero, suc, refl, arith, true, false, Bool, Some}
+use Rattle.std.specs.Prelude.{Contains, codes, ◌==◌, ◌&&◌, not}
 use Rattle.tsp_base.specs.Kinds.{kinds, kind_word}
 use Rattle.tsp_base.specs.declared.kind.Kind.{Kind}
 use Rattle.tsp_base.specs.declared.kind.Kind.TheVariants.{AdjTime}
-use Rattle.tsp_script.proofs.Outcomes.{some_injective}
+use Rattle.tsp_script.proofs.WordTables.{same_word, first_with, one_word}
 
--- whether two words are the same
-abbrev same_word : List ℕ → List ℕ → Bool
-same_word [] [] = true
-same_word [] (y ∷ ys) = false
-same_word (x ∷ xs) [] = false
-same_word (x ∷ xs) (y ∷ ys) = (x == y) && same_word xs ys
-
--- the first of some kinds that has this word
-abbrev first_kind : List Kind → List ℕ → Option Kind
-first_kind [] word = None
-first_kind (k ∷ ks) word = if same_word (kind_word k) word then Some k else first_kind ks word
-
-first_kind-kind_word : (k : Kind) → first_kind kinds (kind_word k) ≡ Some k
+first_kind : (k : Kind) → first_with kind_word kinds (kind_word k) ≡ Some k
 unfolding kind_word
-first_kind-kind_word AdjTime = refl
-first_kind-kind_word _ = refl
+first_kind AdjTime = refl
+first_kind _ = refl
 
 -- a word is one kind's
 pub kind_word-injective : (k l : Kind) → kind_word k ≡ kind_word l → k ≡ l
-kind_word-injective k l e =
-    some_injective k l (sym (first_kind-kind_word k) ∙ ap (λ w. first_kind kinds w) e ∙ first_kind-kind_word l)
+kind_word-injective k l e = one_word kind_word kinds k l (first_kind k) (first_kind l) e
 
 -- whether a word has no space
 abbrev spaceless : List ℕ → Bool

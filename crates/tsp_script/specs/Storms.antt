@@ -24,9 +24,13 @@ pub record StormValue : Type 0 where
   pub at : ℕ
   pub asked : Option ℕ
 
+-- a generator of these parts
+abbrev pub storm_of : ℕ → ℕ → ℕ → ℕ → ℕ → Option ℕ → StormValue
+storm_of state nodes named given at asked = record { state = state; nodes = nodes; named = named; given = given; at = at; asked = asked }
+
 -- a generator that has given nothing
 abbrev pub storm_begins : ℕ → ℕ → StormValue
-storm_begins seed nodes = record { state = seed; nodes = nodes; named = 0; given = 0; at = 0; asked = None }
+storm_begins seed nodes = storm_of seed nodes 0 0 0 None
 
 -- the state moves on with each draw
 abbrev pub moved : StormValue → StormValue

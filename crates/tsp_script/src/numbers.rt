@@ -8,7 +8,7 @@ ghost use Rattle.arrayvec.specs.ArrayVec.{array_vec_len};
 ghost use Rattle.tsp_script.specs.Texts.{space};
 ghost use Rattle.hex.specs.Hex.{decode_of, encode_lower};
 
-use crate::decimals::{append_long, append_middle};
+use crate::decimals::append_decimal;
 use crate::eights::eight_digits;
 use crate::hexes::value_of;
 use crate::words::{cut, mark_at};
@@ -34,23 +34,7 @@ pub fn append_number(out: &mut ArrayVec<u8, 1024>, number: u64)
     ensures text { out.new.items ≡ out.old.items ++ decimal number }
     ensures short { array_vec_len out.new ≤ array_vec_len out.old + 20 }
 {
-    if number < 100_000_000 {
-        append_middle(out, number);
-    } else if number < 10_000_000_000_000_000 {
-        append_long(out, number);
-    } else {
-        append_digits(out, number);
-    }
-}
-
-/// The same for a number of any length.
-fn append_digits(out: &mut ArrayVec<u8, 1024>, number: u64)
-    requires { array_vec_len out.old + 20 ≤ 1024 }
-    ensures text { out.new.items ≡ out.old.items ++ decimal number }
-    ensures short { array_vec_len out.new ≤ array_vec_len out.old + 20 }
-{
-    let mut buffer = Buffer::new();
-    append(out, buffer.format(number).as_bytes());
+    append_decimal(out, number);
 }
 
 /// Writes a number in decimal, with a dash where it is negative, in at most 20 octets.
@@ -59,8 +43,12 @@ pub fn append_signed(out: &mut ArrayVec<u8, 1024>, number: i64)
     ensures text { out.new.items ≡ out.old.items ++ signed_decimal number }
     ensures short { array_vec_len out.new ≤ array_vec_len out.old + 20 }
 {
-    let mut buffer = Buffer::new();
-    append(out, buffer.format(number).as_bytes());
+    if number < 0 {
+        out.push(b'-');
+        append_decimal(out, number.unsigned_abs());
+    } else {
+        append_decimal(out, number as u64);
+    }
 }
 
 /// Writes a space and a number.
@@ -79,9 +67,8 @@ pub fn append_next_long(out: &mut ArrayVec<u8, 1024>, number: u32)
     ensures text { out.new.items ≡ out.old.items ++ space ++ decimal number }
     ensures short { array_vec_len out.new ≤ array_vec_len out.old + 11 }
 {
-    let mut buffer = Buffer::new();
     out.push(b' ');
-    append(out, buffer.format(number).as_bytes());
+    append_decimal(out, number as u64);
 }
 
 /// Writes a space and a number with its sign.

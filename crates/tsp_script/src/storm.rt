@@ -75,27 +75,13 @@ pub struct Storm {
 }
 
 impl Model for Storm {
-    ghost use Rattle.tsp_script.specs.Storms.{StormValue, IsStorm};
+    ghost use Rattle.tsp_script.specs.Storms.{StormValue, storm_of, IsStorm};
 
     ghost Value = { StormValue };
 
-    ghost view = { λ s. record {
-      state = s.state;
-      nodes = s.nodes;
-      named = s.named;
-      given = s.given;
-      at = s.at;
-      asked = s.asked;
-    } };
+    ghost view = { λ s. storm_of s.state s.nodes s.named s.given s.at s.asked };
 
-    ghost invariant = { λ s. IsStorm (record {
-      state = s.state;
-      nodes = s.nodes;
-      named = s.named;
-      given = s.given;
-      at = s.at;
-      asked = s.asked;
-    }) };
+    ghost invariant = { λ s. IsStorm (storm_of s.state s.nodes s.named s.given s.at s.asked) };
 }
 
 impl Storm {

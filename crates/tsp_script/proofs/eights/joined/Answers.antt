@@ -1,5 +1,4 @@
-use Rattle.std.proofs.Common.{arith, refl}
-use Rattle.std.proofs.lemmas.Nat.{and_le_r}
+use Rattle.std.proofs.Common.{refl}
 use Rattle.tsp_script.proofs.EightDigits.{joined_value}
 use Rattle.tsp_script.proofs.eights.joined.Goals as goal
 
