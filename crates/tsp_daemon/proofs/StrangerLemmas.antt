@@ -6,7 +6,8 @@ use Rattle.tsp_base.specs.declared.act.Act.{Act}
 use Rattle.tsp_base.specs.declared.act.Act.TheVariants.{Abandon, Become, Post, Took}
 use Rattle.tsp_base.specs.declared.act.Placed.{Placed}
 use Rattle.tsp_base.specs.declared.alarm.Alarm.{Alarm}
-use Rattle.tsp_base.specs.declared.alarm.Alarm.TheVariants.{Quiet, Search, Elect, Window, Probe, Close, Resolve, Round}
+use Rattle.tsp_base.specs.declared.alarm.Alarm.TheVariants.{Probe, Close, Round}
+use Rattle.tsp_base.specs.declared.alarm.TheConstants.Alarm.{ALL}
 use Rattle.tsp_base.specs.declared.datagram.Datagram.TheVariants.{Message, Stamp}
 use Rattle.tsp_base.specs.declared.datagram.Taken.{Taken}
 use Rattle.tsp_base.specs.declared.datagram.Taken.TheVariants.{Good, Bad}
@@ -28,7 +29,7 @@ use Rattle.tsp_rules.proofs.FewActs.{Calm, calm_either, calm_more, calm_nothing,
 use Rattle.tsp_rules.specs.Answers.{rings, takes, handles}
 use Rattle.tsp_rules.specs.CandidateRows.{yields}
 use Rattle.tsp_rules.specs.CommonRows.{arms_elect}
-use Rattle.tsp_rules.specs.GateRows.{LoopStep, PassOver, GiveUp, Forward, NodeGiven, NodeTurn, GotOn, all_ports, alarm_on, alarms_on, answers_all, begins_round_on, closes_on, ends_probes, forwards, heeds_loop, hears_on, input_all, is_awake_on, judge, judges, leads_clock, in_charge, loop_to, loops_after, loosens_master, other_ports, probes_on, repost, reposts, reposts_on, sends_loops, steers, stirred_ports, takes_kind, takes_loop, takes_loop_step, takes_message, takes_on, turns_on, waits}
+use Rattle.tsp_rules.specs.GateRows.{LoopStep, PassOver, GiveUp, Forward, NodeGiven, NodeTurn, GotOn, all_ports, alarm_on, alarms_on, each_on, answers_all, begins_round_on, closes_on, ends_probes, forwards, heeds_loop, hears_on, input_all, is_awake_on, judge, judges, leads_clock, in_charge, loop_to, loops_after, loosens_master, other_ports, probes_on, repost, reposts, reposts_on, sends_loops, steers, stirred_ports, takes_kind, takes_loop, takes_loop_step, takes_message, takes_on, turns_on, waits}
 use Rattle.tsp_rules.specs.NodeRows.{NodePast, NodeRow, abandons_on, for_ports, nothing_at_all, on, on_port, ◌and_then◌, reading_all, spread, stirring}
 use Rattle.tsp_rules.specs.RoundRows.{corrects}
 use Rattle.tsp_rules.specs.SendRows.{due_sends}
@@ -175,20 +176,19 @@ module _ (strange : Bool) where
 
   known-alarm : (q : Port) (a : Alarm) → Known strange (alarm_on q a)
   unfolding alarm_on begins_round_on
-  known-alarm q Quiet = known-on q _ (known-rings true false Quiet)
-  known-alarm q Search = known-on q _ (known-rings true false Search)
-  known-alarm q Elect = known-on q _ (known-rings true false Elect)
-  known-alarm q Window = known-on q _ (known-rings true false Window)
   known-alarm q Probe = known-probes q
   known-alarm q Close = known-reading (leads_clock q) (closes_on q) (known-closes q)
-  known-alarm q Resolve = known-on q _ (known-rings true false Resolve)
   known-alarm q Round = known-reading (waits q) _ (λ wait. known-on q _ (known-rings true wait Round))
+  known-alarm q a = known-on q _ (known-rings true false a)
+
+  known-each : (q : Port) (alarms : List Alarm) → Known strange (each_on q alarms)
+  known-each q [] = known-nothing
+  known-each q (a ∷ []) = known-alarm q a
+  known-each q (a ∷ next ∷ rest) = known-then (alarm_on q a) (each_on q (next ∷ rest)) (known-alarm q a) (known-each q (next ∷ rest))
 
   known-alarms : (q : Port) → Known strange (alarms_on q)
   unfolding alarms_on
-  known-alarms q =
-      known-then _ _ (known-alarm q Quiet) (known-then _ _ (known-alarm q Search) (known-then _ _ (known-alarm q Elect) (known-then _ _ (known-alarm q Window)
-      (known-then _ _ (known-alarm q Probe) (known-then _ _ (known-alarm q Close) (known-then _ _ (known-alarm q Resolve) (known-alarm q Round)))))))
+  known-alarms q = known-each q ALL
 
   known-turns : (q : Port) → Known strange (turns_on q)
   unfolding turns_on
