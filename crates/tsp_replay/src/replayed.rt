@@ -23,10 +23,8 @@ impl EventHandler for Replayed {
     ghost stands = { stands };
 
     fn begin(alloc: Global, header: Header) -> Result<Replayed, AllocError> {
-        match World::new(alloc, header) {
-            Ok(world) => Ok(Replayed { world }),
-            Err(fault) => Err(fault),
-        }
+        let world = World::new(alloc, header)?;
+        Ok(Replayed { world })
     }
 
     fn event(&mut self, e: &Event) -> Result<(), EventFault> {
