@@ -30,7 +30,7 @@ storm_of state nodes named given at asked = record { state = state; nodes = node
 
 -- a generator that has given nothing
 abbrev pub storm_begins : ℕ → ℕ → StormValue
-storm_begins seed nodes = storm_of seed nodes 0 0 0 None
+storm_begins seed nodes = record { state = seed; nodes = nodes; named = 0; given = 0; at = 0; asked = None }
 
 -- the state moves on with each draw
 abbrev pub moved : StormValue → StormValue
