@@ -5,18 +5,4 @@
 #![tactic(auto)]
 
 #[cfg(test)]
-mod auditing;
-#[cfg(test)]
-mod claim_rows;
-#[cfg(test)]
-mod claiming;
-#[cfg(test)]
-mod inputs;
-#[cfg(test)]
-mod noted;
-#[cfg(test)]
-mod refusals;
-#[cfg(test)]
-mod rows;
-#[cfg(test)]
-mod verdicts;
+mod tests;

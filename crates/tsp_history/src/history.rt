@@ -1,5 +1,6 @@
 //! The lines of a history, each with what is known after it.
-ghost use Rattle.std.specs.Prelude.{◌≡◌, ◌≤◌, ◌<◌, ◌+◌, ◌-◌, ◌^◌, [], ◌∷◌, length, vec_len, OnOk, OnErr};
+ghost use Rattle.std.specs.Prelude.{◌≡◌, ◌≤◌, ◌<◌, ◌+◌, ◌-◌, ◌^◌, [], ◌∷◌, length, vec_len};
+ghost use Rattle.std.specs.Prelude.{OnOk, OnErr};
 ghost use Rattle.tsp_history.specs.Histories.{line_of, history_of, noted_after};
 ghost use Rattle.tsp_history.specs.Notes.{Told};
 
@@ -40,9 +41,9 @@ impl History {
         }
     }
 
-    /// Makes room for this many lines more, which pushes need. Fails only if out of memory, and never
-    /// where there is that room already; either way the lines are what they were, and there is no
-    /// less room.
+    /// Makes room for this many lines more, which pushes need. Fails only if out of memory, and
+    /// never where there is that room already; either way the lines are what they were, and there
+    /// is no less room.
     pub fn make_room(&mut self, count: usize) -> Result<(), AllocError>
         ensures room { OnOk result (count ≤ self.new.room) }
         ensures full { OnErr result (self.old.room < count) }
@@ -74,9 +75,9 @@ impl History {
         });
     }
 
-    /// Puts these lines behind the others, the first of them first; their notes are found here. There
-    /// must be room for them, by `make_room`, and at most 2^31 lines with them, else the contract is
-    /// broken: this takes no memory.
+    /// Puts these lines behind the others, the first of them first; their notes are found here.
+    /// There must be room for them, by `make_room`, and at most 2^31 lines with them, else the
+    /// contract is broken: this takes no memory.
     pub fn append(&mut self, lines: Vec<HistoryLine>)
         requires few { length self.old.lines + vec_len lines ≤ 2 ^ 31 }
         requires room { vec_len lines ≤ self.old.room }

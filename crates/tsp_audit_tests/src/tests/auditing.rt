@@ -1,6 +1,6 @@
 //! Audits over lines of text.
 
-use crate::claiming::{event_of, header_of, is_claimable, lines_of};
+use crate::tests::claiming::{event_of, header_of, is_claimable, lines_of};
 use std::alloc::Global;
 use tsp_audit::audit::Audit;
 use tsp_audit::premises::Premises;

@@ -1,5 +1,5 @@
 //! Refusals, and what is written where one comes.
-use crate::inputs::{ANSWERED, ASKED, comes};
+use crate::tests::inputs::{ANSWERED, ASKED, comes};
 use tsp_lines::treat::Outcome;
 
 /// A line that isn't a trace's, one that isn't allowed, and a boot whose line is missing after the schedule.

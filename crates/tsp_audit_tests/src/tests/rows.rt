@@ -1,6 +1,6 @@
 //! A claimed history with one wrong line, and what its verdict names.
 
-use crate::auditing::{Answer, audit_of, first_wrong};
+use crate::tests::auditing::{Answer, audit_of, first_wrong};
 use std::alloc::Global;
 use tsp_audit::audit::Audit;
 use tsp_audit::verdict::{Failure, Verdict};
@@ -9,7 +9,7 @@ use tsp_audit::verdict::{Failure, Verdict};
 const HOLDS: Answer = Ok(Verdict::Holds);
 
 /// A follower that corrects its clock again, one tick too soon.
-const TOO_SOON: &[(&str, &str, Answer)] = &[
+pub(crate) const TOO_SOON: &[(&str, &str, Answer)] = &[
     (
         "at 0 boot 0 7",
         "1 0 0 0 boot\n1 0 0 0 become starting\n1 0 0 0 arm quiet 80000000",

@@ -3,6 +3,7 @@ ghost use Rattle.std.specs.Prelude.{◌<◌, ◌^◌, length};
 ghost use Rattle.tsp_history.specs.Notes.{Told};
 
 use std::alloc::{AllocError, Global};
+use std::process::Abort;
 use tsp_base::constants::{GAP, HOLD};
 use tsp_base::place::{PeerId, Port};
 use tsp_base::role::Role;
@@ -256,32 +257,20 @@ fn tells(alloc: Global, rows: &[(u64, &str)], fact: Fact) -> Option<bool> {
     })
 }
 
-#[test]
-fn tells_roles_and_holds(rt: HostRuntime) {
-    assert!(rt; tells(rt.alloc(), HELD, Fact::Holds) == Some(true));
-}
+/// Histories, each with what it tells.
+const TOLD: &[(&str, &[(u64, &str)], Fact)] = &[
+    ("roles and holds", HELD, Fact::Holds),
+    ("clocks", MOVED, Fact::Clocks),
+    ("posts", POSTED, Fact::Posts),
+    ("sends", SENT, Fact::Sends),
+    ("rounds", MEASURED, Fact::Round),
+    ("the close", CLOSED, Fact::Close),
+];
 
+/// Each history tells its facts.
 #[test]
-fn tells_clocks(rt: HostRuntime) {
-    assert!(rt; tells(rt.alloc(), MOVED, Fact::Clocks) == Some(true));
-}
-
-#[test]
-fn tells_posts(rt: HostRuntime) {
-    assert!(rt; tells(rt.alloc(), POSTED, Fact::Posts) == Some(true));
-}
-
-#[test]
-fn tells_sends(rt: HostRuntime) {
-    assert!(rt; tells(rt.alloc(), SENT, Fact::Sends) == Some(true));
-}
-
-#[test]
-fn tells_rounds(rt: HostRuntime) {
-    assert!(rt; tells(rt.alloc(), MEASURED, Fact::Round) == Some(true));
-}
-
-#[test]
-fn tells_the_close(rt: HostRuntime) {
-    assert!(rt; tells(rt.alloc(), CLOSED, Fact::Close) == Some(true));
+fn histories_tell(rt: HostRuntime) {
+    for (what, rows, fact) in TOLD {
+        assert!(rt; tells(rt.alloc(), rows, *fact) == Some(true), "{what}");
+    }
 }

@@ -1,8 +1,9 @@
 //! Rows that were worked out by hand: which lines are allowed of which events, what was posted, and what
 //! the clocks show.
 
-use crate::claiming::{Answer, base, claims_of_two, counts, first_wrong, looks_at};
+use crate::tests::claiming::{Answer, base, claims_of_two, counts, first_wrong, looks_at};
 use std::alloc::Global;
+use std::process::Abort;
 use tsp_claims::claims::Claims;
 
 /// Lines that aren't allowed of a boot.
@@ -148,11 +149,17 @@ fn bases_come(claims: &mut Claims, alloc: Global) -> bool {
 /// What is claimed.
 #[derive(Clone, Copy)]
 enum Part {
+    /// A boot begins with a Boot on port 0, and has no other; each line has its event's number, node and tick.
     Boots,
+    /// Posts are numbered from 0, and a turn takes nothing.
     Posts,
+    /// A take that has lines takes what an earlier event posted, to a node that is up.
     Takes,
+    /// A take that has lines says exactly once what was posted, and by whom.
     Taken,
+    /// Octets are taken exactly once, from their sender; what was read of them isn't compared.
     Octets,
+    /// A clock's base is its wall clock and the corrections since the last boot.
     Bases,
 }
 
@@ -169,38 +176,20 @@ fn comes(alloc: Global, part: Part) -> Option<bool> {
     })
 }
 
-/// A boot begins with a Boot on port 0, and has no other; each line has its event's number, node and tick.
-#[test]
-fn boots(rt: HostRuntime) {
-    assert!(rt; comes(rt.alloc(), Part::Boots) == Some(true));
-}
+/// The parts, by name.
+const PARTS: &[(&str, Part)] = &[
+    ("boots", Part::Boots),
+    ("posts", Part::Posts),
+    ("takes of what is there", Part::Takes),
+    ("takes of what was posted", Part::Taken),
+    ("octets", Part::Octets),
+    ("bases", Part::Bases),
+];
 
-/// Posts are numbered from 0, and a turn takes nothing.
+/// Each part comes as it should.
 #[test]
-fn posts(rt: HostRuntime) {
-    assert!(rt; comes(rt.alloc(), Part::Posts) == Some(true));
-}
-
-/// A take that has lines takes what an earlier event posted, to a node that is up.
-#[test]
-fn takes_what_is_there(rt: HostRuntime) {
-    assert!(rt; comes(rt.alloc(), Part::Takes) == Some(true));
-}
-
-/// A take that has lines says exactly once what was posted, and by whom.
-#[test]
-fn takes_what_was_posted(rt: HostRuntime) {
-    assert!(rt; comes(rt.alloc(), Part::Taken) == Some(true));
-}
-
-/// Octets are taken exactly once, from their sender; what was read of them isn't compared.
-#[test]
-fn octets(rt: HostRuntime) {
-    assert!(rt; comes(rt.alloc(), Part::Octets) == Some(true));
-}
-
-/// A clock's base is its wall clock and the corrections since the last boot.
-#[test]
-fn bases(rt: HostRuntime) {
-    assert!(rt; comes(rt.alloc(), Part::Bases) == Some(true));
+fn claims_come(rt: HostRuntime) {
+    for (what, part) in PARTS {
+        assert!(rt; comes(rt.alloc(), *part) == Some(true), "{what}");
+    }
 }
