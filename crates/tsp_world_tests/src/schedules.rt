@@ -4,35 +4,27 @@ use crate::scenes::{Did, Outcome, Row, Scene, Step, What, comes};
 use tsp_base::event::EventFault;
 use tsp_base::place::{PeerId, Place};
 
+/// What a node does that boots on one network at its tick 0.
+const BOOTED: &[Row] = &[
+    (0, Did::Boots),
+    (0, Did::Starts),
+    (0, Did::Arms(80_000_000)),
+];
+
+/// A node answers a stranger, to whom its clock shows 1020.
+const ANSWERED: &[Row] = &[
+    (0, Did::Took(Place::Stranger, None)),
+    (0, Did::Posts(0, Place::Stranger, Some((5, 1020)))),
+];
+
 /// A node boots, does nothing at a turn, and is asked by a stranger.
 const ASKED: &[Step] = &[
-    (
-        0,
-        What::Boot(0, 5),
-        Outcome::Does(
-            1,
-            0,
-            0,
-            &[
-                (0, Did::Boots),
-                (0, Did::Starts),
-                (0, Did::Arms(80_000_000)),
-            ],
-        ),
-    ),
+    (0, What::Boot(0, 5), Outcome::Does(1, 0, 0, BOOTED)),
     (10, What::Turn(0), Outcome::Nothing),
     (
         20,
         What::Ask(0, 0, Place::Stranger),
-        Outcome::Does(
-            3,
-            0,
-            20,
-            &[
-                (0, Did::Took(Place::Stranger, None)),
-                (0, Did::Posts(0, Place::Stranger, Some((5, 1020)))),
-            ],
-        ),
+        Outcome::Does(3, 0, 20, ANSWERED),
     ),
 ];
 
