@@ -7,28 +7,4 @@
 #![tactic(auto)]
 
 #[cfg(test)]
-mod acts;
-#[cfg(test)]
-mod alone;
-#[cfg(test)]
-mod candidate;
-#[cfg(test)]
-mod clients;
-#[cfg(test)]
-mod clock;
-#[cfg(test)]
-mod groups;
-#[cfg(test)]
-mod loops;
-#[cfg(test)]
-mod measures;
-#[cfg(test)]
-mod node;
-#[cfg(test)]
-mod resolve;
-#[cfg(test)]
-mod sends;
-#[cfg(test)]
-mod slave;
-#[cfg(test)]
-mod station;
+mod tests;

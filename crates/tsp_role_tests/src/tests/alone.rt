@@ -3,7 +3,7 @@ ghost use Rattle.std.specs.Prelude.{◌≤◌, IfOk};
 ghost use Rattle.tsp_base.specs.Frames.{IsTick};
 ghost use Rattle.tsp_node.specs.NodeStands.{clock_at};
 
-use crate::acts::are_told;
+use crate::tests::acts::are_told;
 use std::alloc::Global;
 use std::test::Fail;
 use tsp_base::act::Placed;

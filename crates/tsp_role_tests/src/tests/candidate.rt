@@ -1,8 +1,8 @@
 //! A candidate that becomes master, one that is refused, one that is too late, and one that finds a master.
 
-use crate::acts::are_told;
-use crate::candidate::Step::{Hears, Rings, Stands};
-use crate::node::{Node, PORT};
+use crate::tests::acts::are_told;
+use crate::tests::candidate::Step::{Hears, Rings, Stands};
+use crate::tests::node::{Node, PORT};
 use std::alloc::{AllocError, Global};
 use std::test::Fail;
 use tsp_base::desk::Desk;

@@ -1,8 +1,8 @@
 //! What a port answers to clients, in each of its roles.
 
-use crate::acts::are_told;
-use crate::clients::Step::{Follows, Leads, Loosens, Names, Says, Tests, Traces};
-use crate::node::{Node, PORT};
+use crate::tests::acts::are_told;
+use crate::tests::clients::Step::{Follows, Leads, Loosens, Names, Says, Tests, Traces};
+use crate::tests::node::{Node, PORT};
 use std::alloc::{AllocError, Global};
 use std::test::Fail;
 use tsp_base::desk::Desk;

@@ -30,14 +30,19 @@ fn near_correction(middle: i64, diff: i64) -> Option<i64> {
     }
 }
 
-/// The group of the values from `lo` to `lo + span`, by one look at each.
-fn tried(items: &[i64], lo: i64, span: i64) -> Group {
-    let mut group = Group {
+/// A group without members.
+fn empty(lo: i64) -> Group {
+    Group {
         lo,
         width: 0,
         count: 0,
         sum: 0,
-    };
+    }
+}
+
+/// The group of the values from `lo` to `lo + span`, by one look at each.
+fn tried(items: &[i64], lo: i64, span: i64) -> Group {
+    let mut group = empty(lo);
     for item in items {
         let above = item.wrapping_sub(lo);
         if 0 <= above && above <= span {
@@ -49,135 +54,59 @@ fn tried(items: &[i64], lo: i64, span: i64) -> Group {
     group
 }
 
+/// The better of two groups has the lower rank: the larger, then the narrower, then the one nearer to 0.
+fn rank(group: &Group) -> (u32, i64, u64, i64) {
+    (
+        u32::MAX - group.count,
+        group.width,
+        group.lo.unsigned_abs(),
+        group.lo,
+    )
+}
+
 /// The definition's own program: it tries every value as `lo`.
 fn tried_all(items: &[i64], span: i64) -> Group {
-    let mut best = Group {
-        lo: 0,
-        width: 0,
-        count: 0,
-        sum: 0,
-    };
+    let mut best = empty(0);
     for lo in items {
         let group = tried(items, *lo, span);
-        let rank = (
-            u32::MAX - group.count,
-            group.width,
-            lo.unsigned_abs(),
-            group.lo,
-        );
-        let best_rank = (
-            u32::MAX - best.count,
-            best.width,
-            best.lo.unsigned_abs(),
-            best.lo,
-        );
-        if rank < best_rank {
+        if rank(&group) < rank(&best) {
             best = group;
         }
     }
     best
 }
 
-/// Values and a span; their largest group, its mean, and the correction of each value.
-type Row = (&'static [i64], u32, Group, i64, &'static [i64]);
+/// Values and a span; the `lo`, `width`, `count` and `sum` of their largest group, its mean, and the correction of
+/// each value.
+type Row = (
+    &'static [i64],
+    u32,
+    (i64, i64, u32, i128),
+    i64,
+    &'static [i64],
+);
 
 const ROWS: [Row; 8] = [
     (
         &[0, 5_000, 9_000, 500_000],
         20_000,
-        Group {
-            lo: 0,
-            width: 9_000,
-            count: 3,
-            sum: 14_000,
-        },
+        (0, 9_000, 3, 14_000),
         4_666,
         &[4_666, -334, -4_334, -495_334],
     ),
-    (
-        &[0, -30_000],
-        20_000,
-        Group {
-            lo: 0,
-            width: 0,
-            count: 1,
-            sum: 0,
-        },
-        0,
-        &[0, 30_000],
-    ),
-    (
-        &[0, -1],
-        20_000,
-        Group {
-            lo: -1,
-            width: 1,
-            count: 2,
-            sum: -1,
-        },
-        -1,
-        &[-1, 0],
-    ),
+    (&[0, -30_000], 20_000, (0, 0, 1, 0), 0, &[0, 30_000]),
+    (&[0, -1], 20_000, (-1, 1, 2, -1), -1, &[-1, 0]),
     (
         &[0, 20_000],
         20_000,
-        Group {
-            lo: 0,
-            width: 20_000,
-            count: 2,
-            sum: 20_000,
-        },
+        (0, 20_000, 2, 20_000),
         10_000,
         &[10_000, -10_000],
     ),
-    (
-        &[0, 20_001],
-        20_000,
-        Group {
-            lo: 0,
-            width: 0,
-            count: 1,
-            sum: 0,
-        },
-        0,
-        &[0, -20_001],
-    ),
-    (
-        &[5, 5, 5],
-        0,
-        Group {
-            lo: 5,
-            width: 0,
-            count: 3,
-            sum: 15,
-        },
-        5,
-        &[0, 0, 0],
-    ),
-    (
-        &[-3, 3],
-        5,
-        Group {
-            lo: -3,
-            width: 0,
-            count: 1,
-            sum: -3,
-        },
-        -3,
-        &[0, -6],
-    ),
-    (
-        &[7, 4, 1, -9, -4],
-        3,
-        Group {
-            lo: 1,
-            width: 3,
-            count: 2,
-            sum: 5,
-        },
-        2,
-        &[-5, -2, 1, 11, 6],
-    ),
+    (&[0, 20_001], 20_000, (0, 0, 1, 0), 0, &[0, -20_001]),
+    (&[5, 5, 5], 0, (5, 0, 3, 15), 5, &[0, 0, 0]),
+    (&[-3, 3], 5, (-3, 0, 1, -3), -3, &[0, -6]),
+    (&[7, 4, 1, -9, -4], 3, (1, 3, 2, 5), 2, &[-5, -2, 1, 11, 6]),
 ];
 
 /// Whether each value has this correction.
@@ -214,9 +143,16 @@ fn swept(alloc: Global, items: &[i64], span: u32) -> Result<Option<(Group, i64)>
 
 /// The index of the first row whose group isn't found.
 fn first_wrong(alloc: Global, rows: &[Row]) -> Result<Option<usize>, AllocError> {
-    for (i, (items, span, group, middle, corrections)) in rows.iter().enumerate() {
+    for (i, (items, span, members, middle, corrections)) in rows.iter().enumerate() {
+        let (lo, width, count, sum) = *members;
+        let group = Group {
+            lo,
+            width,
+            count,
+            sum,
+        };
         let found = swept(alloc, items, *span)?;
-        if found != Some((*group, *middle)) || !are_corrected(items, *middle, corrections) {
+        if found != Some((group, *middle)) || !are_corrected(items, *middle, corrections) {
             return Ok(Some(i));
         }
     }

@@ -2,9 +2,9 @@
 ghost use Rattle.std.specs.Prelude.{◌≡◌, ◌≤◌, length};
 ghost use Rattle.tsp_base.specs.Pad.{spare_of};
 
-use crate::acts::are_told;
-use crate::node::{Node, PORT};
-use crate::resolve::Step::{Answers, Forgets, Leads, Rings, Starts};
+use crate::tests::acts::are_told;
+use crate::tests::node::{Node, PORT};
+use crate::tests::resolve::Step::{Answers, Forgets, Leads, Rings, Starts};
 use std::alloc::{AllocError, Global};
 use std::test::Fail;
 use tsp_base::desk::Desk;

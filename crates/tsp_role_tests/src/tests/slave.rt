@@ -3,9 +3,9 @@
 ghost use Rattle.std.specs.Prelude.{◌≤◌, IfOk};
 ghost use Rattle.tsp_base.specs.Frames.{IsTick};
 
-use crate::acts::are_told;
-use crate::node::{Node, PORT};
-use crate::slave::Told::{Plain, Timed};
+use crate::tests::acts::are_told;
+use crate::tests::node::{Node, PORT};
+use crate::tests::slave::Told::{Plain, Timed};
 use std::alloc::{AllocError, Global};
 use std::test::Fail;
 use tsp_base::alarm::Alarm;
@@ -132,15 +132,18 @@ fn remembers(node: &Node, tick: u64) -> bool {
     node.last.tick() == Some(tick) && node.last.name().octets() == b"b".as_slice()
 }
 
+/// The port hears of its master, and follows it.
+const MEETS: Row = (
+    81_000_000,
+    MASTER,
+    Plain(Kind::MasterUp, 0),
+    &FOLLOWS,
+    81_000_000,
+);
+
 /// What a follower takes whose clock is corrected.
 const CORRECTIONS: [Row; 6] = [
-    (
-        81_000_000,
-        MASTER,
-        Plain(Kind::MasterUp, 0),
-        &FOLLOWS,
-        81_000_000,
-    ),
+    MEETS,
     (
         82_000_000,
         MASTER,
@@ -216,13 +219,7 @@ fn corrects_once(rt: HostRuntime) -> Result<(), Fail> {
 
 /// What a follower takes from a peer that is no master of its own.
 const REPORTS: [Row; 6] = [
-    (
-        81_000_000,
-        MASTER,
-        Plain(Kind::MasterUp, 0),
-        &FOLLOWS,
-        81_000_000,
-    ),
+    MEETS,
     // A CONFLICT begins to the master, and no second one while it is open.
     (
         82_000_000,

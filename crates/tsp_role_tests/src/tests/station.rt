@@ -1,8 +1,8 @@
 //! A station, through each of its calls.
 
-use crate::acts::are_told;
-use crate::node::{Node, PORT};
-use crate::station::Step::{
+use crate::tests::acts::are_told;
+use crate::tests::node::{Node, PORT};
+use crate::tests::station::Step::{
     Acknowledged, Answered, Asks, Corrects, Dated, Dates, Repeats, Stands, Warns,
 };
 use std::alloc::{AllocError, Global};

@@ -1,6 +1,6 @@
 -- The clock was last corrected at the tick of the row before, or at an earlier one.
 use Rattle.std.proofs.Common.{◌≤◌}
-use Rattle.tsp_role_tests.proofs.slave.first_wrong.Given as goal
+use Rattle.tsp_role_tests.proofs.tests.slave.first_wrong.Given as goal
 
 abbrev pub invariant-loop-i : goal.invariant-loop-i
 invariant-loop-i l = l.node.clock.at ≤ l.before

@@ -1,7 +1,7 @@
 -- A peer at a place is one of the peers.
 use Rattle.std.proofs.Common.{◌<◌, length, rules}
 use Rattle.std.proofs.lemmas.List.{get_or_default}
-use Rattle.tsp_role_tests.proofs.node.Node.peer_at.Goals as goal
+use Rattle.tsp_role_tests.proofs.tests.node.Node.peer_at.Goals as goal
 
 pub returns : goal.returns
 returns c =
