@@ -182,18 +182,7 @@ const OUTCOMES: &[Row] = &[
         outcome: Outcome::WriteFault,
         written: b"a\n",
     },
-];
-
-/// Each outcome comes where it should, with what is written up to then.
-#[test]
-fn outcomes_come(rt: HostRuntime) {
-    for row in OUTCOMES {
-        assert!(rt; comes(rt.alloc(), row) == Ok(true));
-    }
-}
-
-/// Inputs whose fourth line isn't allowed.
-const FULL: &[Row] = &[
+    // A fourth line isn't allowed: the first octet of one passes a limit.
     Row {
         limit: 100,
         input: b"a\nb\nc\n",
@@ -220,10 +209,10 @@ const FULL: &[Row] = &[
     },
 ];
 
-/// Where no further line is allowed, the first octet of another one passes a limit.
+/// Each outcome comes where it should, with what is written up to then.
 #[test]
-fn full_treatments_take_no_octet(rt: HostRuntime) {
-    for row in FULL {
+fn outcomes_come(rt: HostRuntime) {
+    for row in OUTCOMES {
         assert!(rt; comes(rt.alloc(), row) == Ok(true));
     }
 }
