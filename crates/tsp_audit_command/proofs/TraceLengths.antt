@@ -4,6 +4,7 @@ use Rattle.std.specs.Prelude.{ℤ, pos, negsuc, decimal, codes}
 use Rattle.std.specs.Int.{w64}
 use Rattle.std.specs.Int.RustNames.{FitsSigned}
 use Rattle.std.specs.Fmt.{signed_decimal}
+use Rattle.tsp_base.specs.Alarms.{alarm_word}
 use Rattle.tsp_base.specs.declared.act.Act.{Act}
 use Rattle.tsp_base.specs.declared.act.Act.TheVariants.{Boot, Took, Post, Become, Back, Backer, Quit, Arm, Ring, Late, Join, Leave, Rival, Acked, Gave, Sample, Close as CloseAct, Correct, Abandon, Trace}
 use Rattle.tsp_base.specs.declared.alarm.Alarm.{Alarm}
@@ -20,7 +21,7 @@ use Rattle.tsp_schedule.proofs.LongLines.{place_length}
 use Rattle.tsp_script.proofs.Lengths.{number_length}
 use Rattle.tsp_script.specs.ActLines.{IsAct, IsLine2, IsNumberOf, IsRole, IsTaken, SpellsTrace}
 use Rattle.tsp_script.specs.Texts.{space, message_text}
-use Rattle.tsp_script.specs.Traces.{act_text, alarm_word, fault_word, place_text, role_text, taken_text, trace_text, way_word}
+use Rattle.tsp_script.specs.Traces.{act_text, fault_word, place_text, role_text, taken_text, trace_text, way_word}
 use Rattle.tsp_script.specs.declared.trace.Line2.{Line2}
 
 alarm_length : (a : Alarm) → length (alarm_word a) ≤ 7

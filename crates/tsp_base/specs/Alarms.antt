@@ -1,7 +1,18 @@
--- What the alarms of a port are armed for.
-use Rattle.std.specs.Prelude.{ℕ, Option, None, Some, min}
+-- The alarms of a port: the word of each, and what it is armed for.
+use Rattle.std.specs.Prelude.{ℕ, List, Option, None, Some, min, codes}
 use Rattle.tsp_base.specs.declared.alarm.Alarm.{Alarm}
 use Rattle.tsp_base.specs.declared.alarm.Alarm.TheVariants.{Quiet, Search, Elect, Window, Probe, Close, Resolve, Round}
+
+-- the word of an alarm
+abbrev pub alarm_word : Alarm → List ℕ
+alarm_word Quiet = codes "quiet"
+alarm_word Search = codes "search"
+alarm_word Elect = codes "elect"
+alarm_word Window = codes "window"
+alarm_word Probe = codes "probe"
+alarm_word Close = codes "close"
+alarm_word Resolve = codes "resolve"
+alarm_word Round = codes "round"
 
 -- what each alarm is armed for
 pub record Deadlines : Type 0 where

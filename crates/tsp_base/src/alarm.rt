@@ -1,4 +1,6 @@
 //! The kinds of alarm.
+ghost use Rattle.std.specs.Prelude.{◌≡◌, ◌≤◌, length};
+ghost use Rattle.tsp_base.specs.Alarms.{alarm_word};
 
 /// What a deadline is for, in the order in which due alarms are handled.
 #[derive(Clone, Copy, PartialEq, Eq, Debug)]
@@ -33,4 +35,21 @@ impl Alarm {
         Alarm::Resolve,
         Alarm::Round,
     ];
+
+    /// The alarm's word in a trace, at most 7 octets.
+    pub fn word(self) -> &'static [u8]
+        ensures word { result.now ≡ alarm_word self }
+        ensures short { length result.now ≤ 7 }
+    {
+        match self {
+            Alarm::Quiet => b"quiet",
+            Alarm::Search => b"search",
+            Alarm::Elect => b"elect",
+            Alarm::Window => b"window",
+            Alarm::Probe => b"probe",
+            Alarm::Close => b"close",
+            Alarm::Resolve => b"resolve",
+            Alarm::Round => b"round",
+        }
+    }
 }

@@ -43,6 +43,7 @@ impl Gateway {
     }
 
     /// A step without octets: due sends and alarms are handled.
+    #[inline(always)]
     pub fn turn<D: Desk>(&mut self, tick: u64, desk: &mut D)
         requires room { room_of_ports (ports_in self.old) ≤ D.spare desk.old }
         requires tick { IsTick tick }

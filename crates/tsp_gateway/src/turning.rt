@@ -13,7 +13,8 @@ ghost use Rattle.tsp_node.specs.declared.part.Part.{Part};
 ghost use Rattle.tsp_node.specs.Dues.{IsPartDue};
 ghost use Rattle.tsp_gateway.specs.Dues.{HasProbed};
 ghost use Rattle.tsp_gateway.specs.GatewayStands.{GatewayBegun, GatewayStands, GatewayTurning, clock_at, port_at};
-ghost use Rattle.tsp_gateway.specs.Rooms.{alarm_room, alarms_room, peers_at, ports_in, room_of_ports, turn_room, turns_room};
+ghost use Rattle.tsp_gateway.specs.Rooms.{alarm_room, alarms_room, peers_at, ports_in};
+ghost use Rattle.tsp_gateway.specs.Rooms.{room_of_ports, turn_room, turns_room};
 
 use crate::gateway::{Gateway, port_at};
 use crate::leading::Asked;

@@ -7,6 +7,7 @@ ghost use Rattle.std.specs.Prelude.{decimal, Some, IfSome, IsSomeAnd};
 ghost use Rattle.std.specs.Fmt.{signed_decimal};
 ghost use Rattle.std.specs.Int.{w64};
 ghost use Rattle.std.specs.Int.RustNames.{FitsSigned};
+ghost use Rattle.tsp_base.specs.Alarms.{alarm_word};
 ghost use Rattle.tsp_base.specs.declared.act.Act.{Act};
 ghost use Rattle.tsp_base.specs.declared.alarm.Alarm.{Alarm};
 ghost use Rattle.tsp_base.specs.declared.datagram.Datagram.{Datagram};
@@ -18,7 +19,7 @@ ghost use Rattle.tsp_script.specs.ActLines.{IsAct, IsSilent, IsNumberOf, IsTaken
 ghost use Rattle.tsp_script.specs.Ranges.{IsDatagram};
 ghost use Rattle.tsp_script.specs.Schedules.{IsPlace};
 ghost use Rattle.tsp_script.specs.Texts.{message_text};
-ghost use Rattle.tsp_script.specs.Traces.{alarm_word, role_text, place_text, taken_text};
+ghost use Rattle.tsp_script.specs.Traces.{role_text, place_text, taken_text};
 ghost use Rattle.tsp_script.specs.Verbs.{way_text, switch_text};
 
 use crate::act_words::{alarm_of, fault_of};

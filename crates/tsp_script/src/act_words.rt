@@ -1,10 +1,11 @@
 //! Reads the words inside an act's text.
 ghost use Rattle.std.specs.Prelude.{◌≡◌, Some};
+ghost use Rattle.tsp_base.specs.Alarms.{alarm_word};
 ghost use Rattle.tsp_base.specs.declared.alarm.Alarm.{Alarm};
 ghost use Rattle.tsp_base.specs.declared.datagram.DecodeFault.{DecodeFault};
-ghost use Rattle.tsp_script.specs.Traces.{alarm_word, fault_word};
+ghost use Rattle.tsp_script.specs.Traces.{fault_word};
 
-use crate::acts::{alarm_word, fault_word};
+use crate::acts::fault_word;
 use crate::words::is_same;
 use tsp_base::alarm::Alarm;
 use tsp_base::datagram::DecodeFault;
@@ -27,7 +28,7 @@ pub(crate) fn alarm_of(word: &[u8]) -> Option<Alarm>
     ensures { (a : Alarm) → word.now ≡ alarm_word a → result ≡ Some a }
 {
     for alarm in &Alarm::ALL {
-        if is_same(alarm_word(*alarm), word) {
+        if is_same(alarm.word(), word) {
             return Some(*alarm);
         }
     }

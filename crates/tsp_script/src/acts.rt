@@ -3,7 +3,8 @@ ghost use Rattle.std.specs.Prelude.{◌≡◌, ℕ, ◌+◌, ◌≤◌, ◌++◌
 ghost use Rattle.std.specs.Fmt.{signed_decimal};
 ghost use Rattle.arrayvec.specs.ArrayVec.{array_vec_len};
 ghost use Rattle.tsp_script.specs.Texts.{space, message_text};
-ghost use Rattle.tsp_script.specs.Traces.{alarm_word, fault_word, role_text, place_text};
+ghost use Rattle.tsp_base.specs.Alarms.{alarm_word};
+ghost use Rattle.tsp_script.specs.Traces.{fault_word, role_text, place_text};
 ghost use Rattle.tsp_script.specs.Traces.{taken_text, way_word, act_text, is_measured};
 
 use crate::messages::append_datagram;
@@ -16,23 +17,6 @@ use tsp_base::alarm::Alarm;
 use tsp_base::datagram::{Datagram, DecodeFault, Taken};
 use tsp_base::place::{PeerId, Place};
 use tsp_base::role::Role;
-
-/// The word of an alarm.
-pub fn alarm_word(alarm: Alarm) -> &'static [u8]
-    ensures word { result.now ≡ alarm_word alarm }
-    ensures short { length result.now ≤ 7 }
-{
-    match alarm {
-        Alarm::Quiet => b"quiet",
-        Alarm::Search => b"search",
-        Alarm::Elect => b"elect",
-        Alarm::Window => b"window",
-        Alarm::Probe => b"probe",
-        Alarm::Close => b"close",
-        Alarm::Resolve => b"resolve",
-        Alarm::Round => b"round",
-    }
-}
 
 /// The word of a fault of reading octets.
 pub fn fault_word(fault: DecodeFault) -> &'static [u8]
@@ -125,7 +109,7 @@ fn append_alarm(out: &mut ArrayVec<u8, 1024>, word: &[u8], alarm: Alarm)
     ensures short { array_vec_len out.new ≤ array_vec_len out.old + length word.now + 7 }
 {
     append(out, word);
-    append(out, alarm_word(alarm));
+    append(out, alarm.word());
 }
 
 fn append_arm(out: &mut ArrayVec<u8, 1024>, alarm: Alarm, at: u64)

@@ -179,6 +179,7 @@ impl Storm {
     }
 
     /// What comes next, where no question is open.
+    #[inline(always)]
     fn choose(&mut self, posted: u64) -> Choice
         requires few { self.old.given < 200000 }
         requires quiet { self.old.asked ≡ None }
