@@ -65,6 +65,12 @@ pub record IsRounds (v : RoundsValue) : Type 0 where
   pub counted : IsCounted v (1000 * (v.probes + 1))
   pub apart : (p : ℕ) → AreApart (with_peer v.exchanges p).pending
 
+-- each peer may be asked once more: at the start of a round, or at a probe that was counted
+pub record MayAsk (v : RoundsValue) : Type 0 where
+  pub three : v.probes ≤ 3
+  pub few : (p : PeerId) → begun (measured_with v p) ≤ v.probes
+  pub counted : IsCounted v (1000 * v.probes)
+
 -- nothing is measured with any peer
 abbrev pub IsNothing : RoundsValue → Type 0
 IsNothing v = (p : ℕ) → with_peer v.exchanges p ≡ nothing_measured

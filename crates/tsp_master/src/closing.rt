@@ -1,17 +1,17 @@
 //! How a master closes a round.
-ghost use Rattle.std.specs.Prelude.{◌≡◌, ◌+ℤ◌, ◌-ℤ◌, ◌+◌, ◌≤◌, ℕ, true, false, length};
-ghost use Rattle.tsp_base.specs.declared.place.PeerId.{PeerId};
+ghost use Rattle.std.specs.Prelude.{◌≡◌, ◌+ℤ◌, ◌-ℤ◌, ◌+◌, ◌≤◌, true, false};
 ghost use Rattle.tsp_base.specs.Rows.{for_each};
 ghost use Rattle.tsp_group.specs.Values.{IsNear};
 ghost use Rattle.tsp_rules.specs.RoundRows.{close_rings, corrects, corrects_peer, moves};
 ghost use Rattle.tsp_acks.specs.declared.station.Station.{Station};
-ghost use Rattle.tsp_acks.specs.Calls.{Contains, IsTick, Past, Performs, UsesAtMost, IsSamePort};
+ghost use Rattle.tsp_acks.specs.Calls.{IsTick, Past, Performs, UsesAtMost, IsSamePort};
 ghost use Rattle.tsp_clock.specs.Clocks.{target_of};
 ghost use Rattle.tsp_rules.specs.Guards.{is_clock_value, is_over};
 ghost use Rattle.tsp_master.specs.declared.master.Master.{Master};
 ghost use Rattle.tsp_master.specs.MasterStands.{LeadStands, RingStands, lead_of};
 ghost use Rattle.tsp_master.specs.Closing.{closes_here, round_of, standing_with};
-ghost use Rattle.tsp_master.specs.Slaves.{peers_of, entry_of, Changes, leaves};
+ghost use Rattle.tsp_master.specs.Frames.{ChangesOnly, MayServe, peer_count};
+ghost use Rattle.tsp_master.specs.Slaves.{peers_of};
 
 use crate::gathering::{is_near, mean_by};
 use crate::master::Master;
@@ -33,34 +33,32 @@ impl Master {
         station: &mut Station,
         clock: &mut Clock,
         own: bool,
-        tick: u64,
-        port: Port,
+        at: At,
         desk: &mut D,
     ) -> bool
-        requires tick { IsTick tick }
-        requires later { clock.old.at ≤ tick }
-        requires due { is_over station.old.alarms.close tick ≡ true }
-        requires order { is_over station.old.alarms.probe tick ≡ false }
-        requires room { length (peers_of self.old.slaves) + 3 ≤ D.spare desk.old }
+        requires tick { IsTick at.tick }
+        requires later { clock.old.at ≤ at.tick }
+        requires due { is_over station.old.alarms.close at.tick ≡ true }
+        requires order { is_over station.old.alarms.probe at.tick ≡ false }
+        requires room { peer_count self.old + 3 ≤ D.spare desk.old }
         requires same { peers_of self.old.slaves ≡ station.old.peers }
-        ensures row { Performs RingStands LeadStands (close_rings own) tick port
+        ensures row { Performs RingStands LeadStands (close_rings own) at.tick at.port
             (lead_of self.old station.old clock.old) (lead_of self.new station.new clock.new)
             (D.acts desk.old) (D.acts desk.new) }
         ensures corrects { (past : Past) → RingStands past (lead_of self.old station.old clock.old)
-            → result ≡ corrects (close_rings own tick past) }
-        ensures room { UsesAtMost (length (peers_of self.old.slaves) + 3) D.spare
-            D.acts desk.old desk.new }
+            → result ≡ corrects (close_rings own at.tick past) }
+        ensures room { UsesAtMost (peer_count self.old + 3) D.spare D.acts desk.old desk.new }
         ensures port { IsSamePort station.old station.new }
         ensures peers { peers_of self.new.slaves ≡ peers_of self.old.slaves }
-        ensures clock { clock.new.at ≤ tick }
+        ensures clock { clock.new.at ≤ at.tick }
     {
-        if !station.is_in_time(Alarm::Close, tick) {
-            station.late(Alarm::Close, port, desk);
-            station.abandon(port, desk);
+        if !station.is_in_time(Alarm::Close, at.tick) {
+            station.late(Alarm::Close, at.port, desk);
+            station.abandon(at.port, desk);
             return false;
         }
-        station.ring(Alarm::Close, port, desk);
-        self.close(station, clock, own, tick, port, desk)
+        station.ring(Alarm::Close, at.port, desk);
+        self.close(station, clock, own, at, desk)
     }
 
     /// Closes a round with the largest group: the own clock is moved by its mean where this port
@@ -71,33 +69,31 @@ impl Master {
         station: &mut Station,
         clock: &mut Clock,
         own: bool,
-        tick: u64,
-        port: Port,
+        at: At,
         desk: &mut D,
     ) -> bool
-        requires tick { IsTick tick }
-        requires later { clock.old.at ≤ tick }
-        requires room { length (peers_of self.old.slaves) + 2 ≤ D.spare desk.old }
+        requires tick { IsTick at.tick }
+        requires later { clock.old.at ≤ at.tick }
+        requires room { peer_count self.old + 2 ≤ D.spare desk.old }
         requires same { peers_of self.old.slaves ≡ station.old.peers }
-        ensures row { Performs LeadStands LeadStands (closes_here own self.old) tick port
+        ensures row { Performs LeadStands LeadStands (closes_here own self.old) at.tick at.port
             (lead_of self.old station.old clock.old) (lead_of self.new station.new clock.new)
             (D.acts desk.old) (D.acts desk.new) }
         ensures corrects { (past : Past) → LeadStands past (lead_of self.old station.old clock.old)
-            → result ≡ corrects (closes_here own self.old tick past) }
-        ensures room { UsesAtMost (length (peers_of self.old.slaves) + 2) D.spare
-            D.acts desk.old desk.new }
+            → result ≡ corrects (closes_here own self.old at.tick past) }
+        ensures room { UsesAtMost (peer_count self.old + 2) D.spare D.acts desk.old desk.new }
         ensures port { IsSamePort station.old station.new }
         ensures peers { peers_of self.new.slaves ≡ peers_of self.old.slaves }
-        ensures clock { clock.new.at ≤ tick }
+        ensures clock { clock.new.at ≤ at.tick }
     {
         let group = self.group();
         let mean = mean_by(own, &group);
-        if !clock.can_adjust(tick, mean) {
-            station.abandon(port, desk);
+        if !clock.can_adjust(at.tick, mean) {
+            station.abandon(at.port, desk);
             return false;
         }
         desk.put(
-            port,
+            at.port,
             Act::Close {
                 count: group.count,
                 lo: group.lo,
@@ -105,8 +101,8 @@ impl Master {
                 mean,
             },
         );
-        move_own(clock, own, mean, tick, port, desk);
-        self.correct_each(station, clock, tick, mean, port, desk);
+        move_own(clock, own, mean, at.tick, at.port, desk);
+        self.correct_each(station, clock, at, mean, desk);
         own
     }
 
@@ -115,29 +111,28 @@ impl Master {
         &mut self,
         station: &mut Station,
         clock: &Clock,
-        tick: u64,
+        at: At,
         mean: i64,
-        port: Port,
         desk: &mut D,
     )
-        requires tick { IsTick tick }
-        requires later { clock.now.at ≤ tick }
+        requires tick { IsTick at.tick }
+        requires later { clock.now.at ≤ at.tick }
         requires near { IsNear mean }
-        requires room { length (peers_of self.old.slaves) ≤ D.spare desk.old }
+        requires room { peer_count self.old ≤ D.spare desk.old }
         requires same { peers_of self.old.slaves ≡ station.old.peers }
         ensures row { Performs LeadStands LeadStands
-            (for_each (corrects_peer mean) (round_of self.old.slaves self.old.rounds)) tick port
+            (for_each (corrects_peer mean) (round_of self.old.slaves self.old.rounds))
+            at.tick at.port
             (lead_of self.old station.old clock.now) (lead_of self.new station.new clock.now)
             (D.acts desk.old) (D.acts desk.new) }
-        ensures room { UsesAtMost (length (peers_of self.old.slaves)) D.spare
-            D.acts desk.old desk.new }
+        ensures room { UsesAtMost (peer_count self.old) D.spare D.acts desk.old desk.new }
         ensures port { IsSamePort station.old station.new }
         ensures peers { peers_of self.new.slaves ≡ peers_of self.old.slaves }
     {
         for place in 0..self.slaves.len() {
             let entry = self.slaves.at(place);
             if entry.measured {
-                self.correct_peer(station, clock, At { tick, port }, entry.peer, mean, desk);
+                self.correct_peer(station, clock, at, entry.peer, mean, desk);
             }
         }
     }
@@ -153,22 +148,16 @@ impl Master {
         mean: i64,
         desk: &mut D,
     )
-        requires tick { IsTick at.tick }
-        requires later { clock.now.at ≤ at.tick }
+        requires ready { MayServe peer at.tick (lead_of self.old station.old clock.now) }
         requires near { IsNear mean }
         requires room { 1 ≤ D.spare desk.old }
-        requires same { peers_of self.old.slaves ≡ station.old.peers }
-        requires peer { Contains station.old.peers peer }
         ensures row { Performs LeadStands LeadStands
             (corrects_peer mean (standing_with self.old.rounds peer)) at.tick at.port
             (lead_of self.old station.old clock.now) (lead_of self.new station.new clock.now)
             (D.acts desk.old) (D.acts desk.new) }
         ensures room { UsesAtMost 1 D.spare D.acts desk.old desk.new }
         ensures port { IsSamePort station.old station.new }
-        ensures peers { peers_of self.new.slaves ≡ peers_of self.old.slaves }
-        ensures rounds { self.new.rounds ≡ self.old.rounds }
-        ensures others { (q : PeerId) → (q.0 ≡ peer.0 → ⊥)
-            → entry_of self.new.slaves q ≡ entry_of self.old.slaves q }
+        ensures only { ChangesOnly peer self.old self.new }
     {
         match self.rounds.best(peer) {
             None => {

@@ -4,7 +4,8 @@ ghost use Rattle.tsp_rules.specs.Guards.{is_clock_value};
 ghost use Rattle.tsp_rules.specs.SendRows.{begins_adjtime, begins_settime};
 ghost use Rattle.tsp_acks.specs.Calls.{Contains, IsTick, Performs, UsesAtMost, IsSamePort};
 ghost use Rattle.tsp_clock.specs.Clocks.{ClockValue, target_of};
-ghost use Rattle.tsp_master.specs.Slaves.{peers_of, entry_of, Changes, begins_at};
+ghost use Rattle.tsp_master.specs.Frames.{ChangesOnly, MayServe};
+ghost use Rattle.tsp_master.specs.Slaves.{peers_of};
 
 use crate::entry::Change;
 use crate::master::Master;
@@ -39,10 +40,7 @@ impl Master {
             (D.acts desk.old) (D.acts desk.new) }
         ensures room { UsesAtMost 1 D.spare D.acts desk.old desk.new }
         ensures port { IsSamePort station.old station.new }
-        ensures peers { peers_of self.new.slaves ≡ peers_of self.old.slaves }
-        ensures rounds { self.new.rounds ≡ self.old.rounds }
-        ensures others { (q : PeerId) → (q.0 ≡ peer.0 → ⊥)
-            → entry_of self.new.slaves q ≡ entry_of self.old.slaves q }
+        ensures only { ChangesOnly peer self.old self.new }
     {
         if self.slaves.of(peer).may_correct(number, at.tick) {
             station.begin_correction(Kind::AdjTime, peer, number, amount, at, desk);
@@ -61,20 +59,14 @@ impl Master {
         number: u16,
         desk: &mut D,
     )
-        requires tick { IsTick at.tick }
-        requires later { clock.now.at ≤ at.tick }
+        requires ready { MayServe peer at.tick (lead_of self.old station.old clock.now) }
         requires room { 1 ≤ D.spare desk.old }
-        requires same { peers_of self.old.slaves ≡ station.old.peers }
-        requires peer { Contains station.old.peers peer }
         ensures row { Performs LeadStands LeadStands (begins_settime peer number) at.tick at.port
             (lead_of self.old station.old clock.now) (lead_of self.new station.new clock.now)
             (D.acts desk.old) (D.acts desk.new) }
         ensures room { UsesAtMost 1 D.spare D.acts desk.old desk.new }
         ensures port { IsSamePort station.old station.new }
-        ensures peers { peers_of self.new.slaves ≡ peers_of self.old.slaves }
-        ensures rounds { self.new.rounds ≡ self.old.rounds }
-        ensures others { (q : PeerId) → (q.0 ≡ peer.0 → ⊥)
-            → entry_of self.new.slaves q ≡ entry_of self.old.slaves q }
+        ensures only { ChangesOnly peer self.old self.new }
     {
         match settable(clock, at.tick) {
             None => {}

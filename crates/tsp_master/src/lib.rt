@@ -21,7 +21,6 @@
 //! microseconds. Only `new` fails, and only if out of memory.
 #![tactic(auto)]
 
-mod asking;
 mod closing;
 mod corrections;
 pub mod entry;

@@ -10,6 +10,7 @@ use crate::master::Master;
 use tsp_acks::station::Station;
 use tsp_base::act::Act;
 use tsp_base::alarm::Alarm;
+use tsp_base::at::At;
 use tsp_base::desk::Desk;
 use tsp_base::place::{PeerId, Port};
 use tsp_base::stamp::{Stamp, StampReply};
@@ -44,7 +45,7 @@ impl Master {
             Stamp::Request { .. } => {}
             Stamp::Reply(reply) => {
                 if station.alarms.at(Alarm::Close).is_some() {
-                    self.sample(clock, tick, from, reply, port, desk);
+                    self.sample(clock, At { tick, port }, from, reply, desk);
                 }
             }
         }
@@ -54,23 +55,22 @@ impl Master {
     fn sample<D: Desk>(
         &mut self,
         clock: &Clock,
-        tick: u64,
+        at: At,
         peer: PeerId,
         reply: &StampReply,
-        port: Port,
         desk: &mut D,
     )
-        requires tick { IsTick tick }
-        requires later { clock.now.at ≤ tick }
+        requires tick { IsTick at.tick }
+        requires later { clock.now.at ≤ at.tick }
         requires room { 1 ≤ D.spare desk.old }
         ensures row { (station : Station) → Performs GoingStands LeadStands (samples peer reply.now)
-            tick port
+            at.tick at.port
             (lead_of self.old station clock.now) (lead_of self.new station clock.now)
             (D.acts desk.old) (D.acts desk.new) }
         ensures room { UsesAtMost 1 D.spare D.acts desk.old desk.new }
         ensures peers { peers_of self.new.slaves ≡ peers_of self.old.slaves }
     {
-        let target = clock.target(tick);
+        let target = clock.target(at.tick);
         let answer = self.rounds.reply(
             peer,
             reply.word(),
@@ -82,7 +82,7 @@ impl Master {
         match answer {
             Reply::NotStarted => {}
             Reply::Sample(sample) => desk.put(
-                port,
+                at.port,
                 Act::Sample {
                     peer,
                     counter: sample.counter,

@@ -6,6 +6,7 @@ ghost use Rattle.tsp_rules.specs.MasterRows.{joins, sends_away};
 ghost use Rattle.tsp_rules.specs.SendRows.{acknowledges, is_kind_quit};
 ghost use Rattle.tsp_acks.specs.Openings.{is_of};
 ghost use Rattle.tsp_acks.specs.Calls.{Contains, IsTick, Performs, UsesAtMost, IsSamePort, StandsActing};
+ghost use Rattle.tsp_master.specs.Frames.{MayServe};
 ghost use Rattle.tsp_master.specs.MasterTakes.{master_takes_here};
 ghost use Rattle.tsp_master.specs.Slaves.{peers_of, entry_of, Changes, acks_where};
 
@@ -53,38 +54,34 @@ impl Master {
             Kind::MasterReq | Kind::Resolve => {
                 station.post(from, Kind::MasterAck, m.number(), port, desk)
             }
-            Kind::SlaveUp => {
-                self.join(station, clock, At { tick, port }, from, m.number(), desk)
-            }
+            Kind::SlaveUp => { self.join(station, clock, At { tick, port }, from, m, desk) }
             Kind::Election => send_away(station, tick, from, port, desk),
             _ => {}
         }
     }
 
-    /// Makes a peer a slave and sends it the time under the number that it told. Nothing is done where that is
-    /// no ticket (below 32,768), or it is a slave already.
+    /// Makes a peer a slave and sends it the time under its message's number. Nothing is done where that is no
+    /// ticket (below 32,768), or it is a slave already.
     fn join<D: Desk>(
         &mut self,
         station: &mut Station,
         clock: &Clock,
         at: At,
         peer: PeerId,
-        number: u16,
+        m: &Message,
         desk: &mut D,
     )
-        requires tick { IsTick at.tick }
-        requires later { clock.now.at ≤ at.tick }
+        requires ready { MayServe peer at.tick (lead_of self.old station.old clock.now) }
         requires room { 2 ≤ D.spare desk.old }
-        requires same { peers_of self.old.slaves ≡ station.old.peers }
-        requires peer { Contains station.old.peers peer }
         requires role { station.old.role ≡ MasterRole }
-        ensures row { Performs LeadStands LeadStands (joins peer number) at.tick at.port
+        ensures row { Performs LeadStands LeadStands (joins peer m.now.number) at.tick at.port
             (lead_of self.old station.old clock.now) (lead_of self.new station.new clock.now)
             (D.acts desk.old) (D.acts desk.new) }
         ensures room { UsesAtMost 2 D.spare D.acts desk.old desk.new }
         ensures port { IsSamePort station.old station.new }
         ensures peers { peers_of self.new.slaves ≡ peers_of self.old.slaves }
     {
+        let number = m.number();
         if self.may_join(peer, number) {
             desk.put(at.port, Act::Join(peer));
             self.slaves.change(peer, Change::Join);

@@ -22,8 +22,8 @@ loop-place-init g c = record {
   row = Performs_nothing;
   slaves = refl;
   probes = refl;
-  few = λ k d low high. c.requires.few (get_or (peers_of c.args.self.now.slaves) k d);
-  counted = IsCounted-more _ (1000 * c.args.self.now.rounds.probes) _ (omega arith) c.requires.counted;
+  few = λ k d low high. c.requires.asks.few (get_or (peers_of c.args.self.now.slaves) k d);
+  counted = IsCounted-more _ (1000 * c.args.self.now.rounds.probes) _ (omega arith) c.requires.asks.counted;
   room = record { spare = omega arith; few = omega arith };
 }
 
@@ -50,7 +50,7 @@ loop-place-preserved g c =
             slaves = rw w.self-is (w.ask.ensures.slaves ∙ inv.slaves);
             probes = rw w.self-is (w.ask.ensures.starts.probes ∙ inv.probes);
             few = rw w.self-is (later-few ps n c.args.self.now.rounds.probes p _ _ _ _ up here w.ask.ensures.starts inv.few);
-            counted = rw w.self-is (IsCounted-more _ (1000 * c.args.self.now.rounds.probes + n + 1) _ (omega arith) (w.ask.ensures.counted (1000 * c.args.self.now.rounds.probes + n) (omega (arith, c.requires.three, up.few, inside)) inv.counted));
+            counted = rw w.self-is (IsCounted-more _ (1000 * c.args.self.now.rounds.probes + n + 1) _ (omega arith) (w.ask.ensures.counted (1000 * c.args.self.now.rounds.probes + n) (omega (arith, c.requires.asks.three, up.few, inside)) inv.counted));
             room = rw w.desk-is (record { spare = omega (arith, inv.room.spare, w.ask.ensures.room.spare); few = omega (arith, inv.room.few, w.ask.ensures.room.few) });
           }
       | else-entry w ↦
@@ -72,7 +72,7 @@ returns-clause-row g c =
     let ps = peers_of m.slaves in
     let n = c.loop-place.place in
     let all : take n ps ≡ ps = take_all n ps (omega (arith, c.loop-place-test.false, c.len-place-end.ensures.value)) in
-    Performs_reading measured_at (for_each asks) (measured_of m.slaves ps) (λ past h. measured-is c.args.tick past m h.stands.master)
+    Performs_reading measured_at (for_each asks) (measured_of m.slaves ps) (λ past h. measured-is c.args.at.tick past m h.stands.master)
     (rw all at c.loop-place.invariant.row)
 
 pub returns-clause-room : goal.returns-clause-room

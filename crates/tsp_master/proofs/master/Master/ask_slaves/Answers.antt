@@ -10,7 +10,7 @@ use Rattle.tsp_rules.specs.RoundRows.{asks, asks_slaves}
 use Rattle.tsp_rules.specs.Guards.{table_at}
 use Rattle.tsp_acks.specs.Peers.{IsPeers}
 use Rattle.tsp_master.specs.declared.entry.Entry.{Entry}
-use Rattle.tsp_master.specs.Slaves.{entry_of, peers_of}
+use Rattle.tsp_master.specs.Slaves.{Changes, entry_of, measures, peers_of}
 use Rattle.tsp_master.proofs.AskLemmas.{Performs_starts, filter-more, filter-past, joined-is, joined-kept, joined_of, later-few, take-more}
 use Rattle.tsp_master.proofs.ExchangeLemmas.{IsCounted-more}
 use Rattle.tsp_master.proofs.master.Master.ask_slaves.Goals.{then-entry, else-entry}
@@ -23,8 +23,8 @@ loop-place-init g c = record {
   peers = refl;
   joined = λ q. refl;
   probes = refl;
-  few = λ k d low high. c.requires.few (get_or (peers_of c.args.self.now.slaves) k d);
-  counted = IsCounted-more _ (1000 * c.args.self.now.rounds.probes) _ (omega arith) c.requires.counted;
+  few = λ k d low high. c.requires.asks.few (get_or (peers_of c.args.self.now.slaves) k d);
+  counted = IsCounted-more _ (1000 * c.args.self.now.rounds.probes) _ (omega arith) c.requires.asks.counted;
   room = record { spare = omega arith; few = omega arith };
 }
 
@@ -44,15 +44,17 @@ loop-place-preserved g c =
       | then-entry w ↦
           let now : (entry_of c.loop-place.self.slaves p).joined ≡ true = ap (λ (e : Entry). e.joined) c.at-entry.ensures.entry ∙ w.if-entry.true in
           let joined : (entry_of es p).joined ≡ true = sym (inv.joined p) ∙ now in
+          let slaves : Changes p measures c.loop-place.self.slaves w.ask.new.self.slaves = rw w.ask.ensures.slaves w.change.ensures.entries in
+          let same : peers_of w.ask.new.self.slaves ≡ peers_of c.loop-place.self.slaves = ap peers_of w.ask.ensures.slaves ∙ w.change.ensures.peers in
           record {
             row = rw (w.self-is, w.desk-is, more, filter-more (λ (q : PeerId). (entry_of es q).joined) (take n ps) p joined)
-                (Performs_each_more asks (joined_of es (take n ps)) p inv.row (Performs_starts p _ _ c.args.station.now c.args.clock.now now w.ask_slave.ensures.slaves w.ask_slave.ensures.peers w.ask_slave.ensures.starts w.ask_slave.ensures.acts));
-            peers = rw w.self-is (w.ask_slave.ensures.peers ∙ inv.peers);
-            joined = rw w.self-is (λ q. joined-kept p _ _ w.ask_slave.ensures.slaves q ∙ inv.joined q);
-            probes = rw w.self-is (w.ask_slave.ensures.starts.probes ∙ inv.probes);
-            few = rw w.self-is (later-few ps n c.args.self.now.rounds.probes p _ _ _ _ up here w.ask_slave.ensures.starts inv.few);
-            counted = rw w.self-is (IsCounted-more _ (1000 * c.args.self.now.rounds.probes + n + 1) _ (omega arith) (w.ask_slave.ensures.counted (1000 * c.args.self.now.rounds.probes + n) (omega (arith, c.requires.three, up.few, inside)) inv.counted));
-            room = rw w.desk-is (record { spare = omega (arith, inv.room.spare, w.ask_slave.ensures.room.spare); few = omega (arith, inv.room.few, w.ask_slave.ensures.room.few) });
+                (Performs_each_more asks (joined_of es (take n ps)) p inv.row (Performs_starts p _ _ c.args.station.now c.args.clock.now now slaves same w.ask.ensures.starts w.ask.ensures.acts));
+            peers = rw w.self-is (same ∙ inv.peers);
+            joined = rw w.self-is (λ q. joined-kept p _ _ slaves q ∙ inv.joined q);
+            probes = rw w.self-is (w.ask.ensures.starts.probes ∙ inv.probes);
+            few = rw w.self-is (later-few ps n c.args.self.now.rounds.probes p _ _ _ _ up here w.ask.ensures.starts inv.few);
+            counted = rw w.self-is (IsCounted-more _ (1000 * c.args.self.now.rounds.probes + n + 1) _ (omega arith) (w.ask.ensures.counted (1000 * c.args.self.now.rounds.probes + n) (omega (arith, c.requires.asks.three, up.few, inside)) inv.counted));
+            room = rw w.desk-is (record { spare = omega (arith, inv.room.spare, w.ask.ensures.room.spare); few = omega (arith, inv.room.few, w.ask.ensures.room.few) });
           }
       | else-entry w ↦
           let away : (entry_of es p).joined ≡ false = sym (inv.joined p) ∙ ap (λ (e : Entry). e.joined) c.at-entry.ensures.entry ∙ w.if-entry.false in
@@ -74,7 +76,7 @@ returns-clause-row g c =
     let ps = peers_of m.slaves in
     let n = c.loop-place.place in
     let all : take n ps ≡ ps = take_all n ps (omega (arith, c.loop-place-test.false, c.len-place-end.ensures.value)) in
-    Performs_reading table_at (for_each asks) (joined_of m.slaves ps) (λ past h. joined-is c.args.tick past m h.stands.master)
+    Performs_reading table_at (for_each asks) (joined_of m.slaves ps) (λ past h. joined-is c.args.at.tick past m h.stands.master)
     (rw all at c.loop-place.invariant.row)
 
 pub returns-clause-room : goal.returns-clause-room

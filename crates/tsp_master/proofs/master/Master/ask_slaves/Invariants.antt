@@ -14,7 +14,7 @@ use Rattle.tsp_master.proofs.master.Master.ask_slaves.Given as goal
 
 abbrev pub invariant-loop-place : goal.invariant-loop-place
 invariant-loop-place g l = record {
-  row : Performs StartsStands StartsStands (for_each asks (joined_of l.initial.self.slaves (take l.place (peers_of l.initial.self.slaves)))) l.tick l.port (record { master = l.initial.self; station = l.station; clock = l.clock }) (record { master = l.self; station = l.station; clock = l.clock })
+  row : Performs StartsStands StartsStands (for_each asks (joined_of l.initial.self.slaves (take l.place (peers_of l.initial.self.slaves)))) l.at.tick l.at.port (record { master = l.initial.self; station = l.station; clock = l.clock }) (record { master = l.self; station = l.station; clock = l.clock })
       (g.D.Desk.acts l.initial.desk) (g.D.Desk.acts l.desk);
   peers : peers_of l.self.slaves ≡ peers_of l.initial.self.slaves;
   joined : (q : PeerId) → (entry_of l.self.slaves q).joined ≡ (entry_of l.initial.self.slaves q).joined;

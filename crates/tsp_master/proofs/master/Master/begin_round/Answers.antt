@@ -17,7 +17,7 @@ use Rattle.tsp_master.proofs.master.Master.begin_round.Goals as goal
 pub returns-clause-row : goal.returns-clause-row
 unfolding round_begins
 returns-clause-row g c =
-    let x = c.args.tick in
+    let x = c.args.at.tick in
     let says = posts_to_others MasterUp 0 in
     Performs_then (Performs_quiet _ c.args.clock.now (Emits_arms Round ROUND refl) (Performs_acting c.arm.ensures.row))
     (Performs_same (arms Probe PROBE followed_by (arms Close CLOSE followed_by (says followed_by asks_slaves)))

@@ -22,7 +22,7 @@ use Rattle.tsp_master.proofs.master.Master.close.Goals as goal
 pub returns-then-not-can_adjust-clause-row : goal.returns-then-not-can_adjust-clause-row
 unfolding closes_with abandons puts
 returns-then-not-can_adjust-clause-row g c =
-    let x = c.args.tick in
+    let x = c.args.at.tick in
     let own = c.args.own in
     let k = c.group-group.result in
     let mean = c.mean_by-mean.result in
@@ -40,7 +40,7 @@ returns-then-not-can_adjust-clause-row g c =
 
 pub returns-then-not-can_adjust-clause-corrects : goal.returns-then-not-can_adjust-clause-corrects
 returns-then-not-can_adjust-clause-corrects g c past h =
-    let x = c.args.tick in
+    let x = c.args.at.tick in
     let own = c.args.own in
     let k = c.group-group.result in
     let mean = c.mean_by-mean.result in
@@ -55,7 +55,7 @@ returns-then-not-can_adjust-clause-corrects g c past h =
 pub returns-clause-row : goal.returns-clause-row
 unfolding closes_with puts
 returns-clause-row g c =
-    let x = c.args.tick in
+    let x = c.args.at.tick in
     let own = c.args.own in
     let k = c.group-group.result in
     let mean = c.mean_by-mean.result in
@@ -81,7 +81,7 @@ returns-clause-row g c =
 
 pub returns-clause-corrects : goal.returns-clause-corrects
 returns-clause-corrects g c past h =
-    let x = c.args.tick in
+    let x = c.args.at.tick in
     let own = c.args.own in
     let k = c.group-group.result in
     let mean = c.mean_by-mean.result in

@@ -48,9 +48,9 @@ loop-place-preserved g c =
           let marked : (entry_of es p).measured ≡ true = ap (λ (e : Entry). e.measured) entry ∙ w.if-entry.true in
           record {
             row = rw (w.self-is, w.station-is, w.desk-is, more, standings-more es v (take n ps) p marked) (Performs_each_more (corrects_peer mean) (standings_of es v (take n ps)) (standing_with v p) inv.row (corrects_with mean p inv.rounds w.correct_peer.ensures.row));
-            peers = rw w.self-is (w.correct_peer.ensures.peers ∙ inv.peers);
-            rounds = rw w.self-is (w.correct_peer.ensures.rounds ∙ inv.rounds);
-            later = rw w.self-is (later-same ps n p es _ _ up here w.correct_peer.ensures.others inv.later);
+            peers = rw w.self-is (w.correct_peer.ensures.only.peers ∙ inv.peers);
+            rounds = rw w.self-is (w.correct_peer.ensures.only.rounds ∙ inv.rounds);
+            later = rw w.self-is (later-same ps n p es _ _ up here w.correct_peer.ensures.only.others inv.later);
             port = rw w.station-is (record { me = w.correct_peer.ensures.port.me ∙ inv.port.me; peers = w.correct_peer.ensures.port.peers ∙ inv.port.peers });
             room = rw w.desk-is (record { spare = omega (arith, inv.room.spare, w.correct_peer.ensures.room.spare); few = omega (arith, inv.room.few, w.correct_peer.ensures.room.few) });
           }

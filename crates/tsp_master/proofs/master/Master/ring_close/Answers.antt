@@ -21,7 +21,7 @@ use Rattle.tsp_master.proofs.master.Master.ring_close.Goals as goal
 pub returns-then-not-is_in_time-clause-row : goal.returns-then-not-is_in_time-clause-row
 unfolding close_rings abandons puts
 returns-then-not-is_in_time-clause-row g c =
-    let x = c.args.tick in
+    let x = c.args.at.tick in
     Performs_else_part (is_in_time Close) (reading round_at (closes c.args.own)) (λ past h. let a = h.station.alarms in cc)
     (Performs_then
     (Performs_rung (Late Close) _ _ c.args.clock.now refl (λ past. refl)
@@ -32,13 +32,13 @@ returns-then-not-is_in_time-clause-row g c =
 pub returns-then-not-is_in_time-clause-corrects : goal.returns-then-not-is_in_time-clause-corrects
 unfolding close_rings abandons puts either_by ◌followed_by◌
 returns-then-not-is_in_time-clause-corrects g c past h =
-    let late : is_in_time Close c.args.tick past ≡ false = let a = h.station.alarms in cc in
+    let late : is_in_time Close c.args.at.tick past ≡ false = let a = h.station.alarms in cc in
     rw late refl
 
 pub returns-clause-row : goal.returns-clause-row
 unfolding close_rings closes puts
 returns-clause-row g c =
-    let x = c.args.tick in
+    let x = c.args.at.tick in
     let m = c.args.self.now in
     Performs_then_part (is_in_time Close) (puts (Late Close) followed_by abandons) (λ past h. let a = h.station.alarms in cc)
     (Performs_reading round_at (closes c.args.own) (round_of m.slaves m.rounds)
@@ -52,7 +52,7 @@ returns-clause-row g c =
 pub returns-clause-corrects : goal.returns-clause-corrects
 unfolding close_rings closes puts either_by reading ◌followed_by◌
 returns-clause-corrects g c past h =
-    let x = c.args.tick in
+    let x = c.args.at.tick in
     let m = c.args.self.now in
     let a = h.station.alarms in
     let timely : is_in_time Close x past ≡ true = cc in

@@ -22,13 +22,13 @@ unfolding probe_rings abandons puts
 returns-then-not-is_in_time-clause-row g c =
     Performs_else_part (is_in_time Probe) (puts (Ring Probe) followed_by (asks_measured followed_by arms_next)) (λ past h. let a = h.station.alarms in cc)
     (Performs_then
-    (Performs_rung (Late Probe) _ _ c.args.clock.now refl (λ past. refl) (λ past h. MasterStands_late_probe c.args.tick past _ h.master) (λ past h k. k) (c.late.ensures.row c.args.tick))
-    (Performs_lead _ _ c.args.clock.now (Emits_puts Abandon refl) (λ past h. MasterStands_abandon c.args.tick past _ h.master) (Performs_acting (c.abandon.ensures.row c.args.tick))))
+    (Performs_rung (Late Probe) _ _ c.args.clock.now refl (λ past. refl) (λ past h. MasterStands_late_probe c.args.at.tick past _ h.master) (λ past h k. k) (c.late.ensures.row c.args.at.tick))
+    (Performs_lead _ _ c.args.clock.now (Emits_puts Abandon refl) (λ past h. MasterStands_abandon c.args.at.tick past _ h.master) (Performs_acting (c.abandon.ensures.row c.args.at.tick))))
 
 pub returns-then-count_probe-clause-row : goal.returns-then-count_probe-clause-row
 unfolding probe_rings puts
 returns-then-count_probe-clause-row g c =
-    let x = c.args.tick in
+    let x = c.args.at.tick in
     let due = over-some c.args.station.now.alarms.probe x c.requires.due in
     let low = met-some c.args.station.now.alarms.probe x due.0 (sym c.is_in_time.ensures ∙ c.if-not-is_in_time.false) due.1 in
     Performs_then_part (is_in_time Probe) (puts (Late Probe) followed_by abandons) (λ past h. let a = h.station.alarms in cc)

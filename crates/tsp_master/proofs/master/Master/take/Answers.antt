@@ -25,9 +25,7 @@ pub returns-in-SlaveUp-clause-row : goal.returns-in-SlaveUp-clause-row
 unfolding master_takes_here master_takes_kind_here
 returns-in-SlaveUp-clause-row g c =
     let k : c.args.m.now.kind ≡ SlaveUp = sym c.kind.ensures ∙ c.in-SlaveUp.is in
-    let n = c.number-in-SlaveUp.ensures in
-    let d = c.join.ensures.row in
-    rw k (rw n at d)
+    rw k c.join.ensures.row
 
 pub returns-in-Election-clause-row : goal.returns-in-Election-clause-row
 unfolding master_takes_here master_takes_kind_here
