@@ -30,6 +30,10 @@ pub record DateState : Type 0 where
   pub clock : ClockValue
   pub took : Option Received
 
+-- these six
+abbrev pub date_state : DatesValue → Master → Station → LastValue → ClockValue → Option Received → DateState
+date_state dates master station last clock took = record { dates = dates; master = master; station = station; last = last; clock = clock; took = took }
+
 -- each of these is what the past comes to
 pub record DateStands (past : Past) (s : DateState) : Type 0 where
   pub dates : DatesStand past s.dates

@@ -10,7 +10,7 @@ ghost use Rattle.tsp_acks.specs.Calls.{Contains, IsTick, Past, Received, Perform
 ghost use Rattle.tsp_master.specs.Slaves.{peers_of as slave_peers_of};
 ghost use Rattle.tsp_slave.specs.Lasts.{LastValue};
 ghost use Rattle.tsp_date.specs.Dates.{peers_of};
-ghost use Rattle.tsp_date.specs.DateStands.{DateStands, is_of_dates, moved_where};
+ghost use Rattle.tsp_date.specs.DateStands.{DateStands, date_state, is_of_dates, moved_where};
 
 use crate::dates::Dates;
 use crate::pass::{hear_end, pass_on};
@@ -58,34 +58,12 @@ pub fn date_take<D: Desk>(
     ensures row { (last : LastValue) (took : Option Received) → last.tick ≡ corrected
         → took ≡ Some (record { from = from; taken = Good (MessageOf m.now) })
         → Performs DateStands DateStands (handles_kind charge from m.now m.now.kind) tick port
-        (record {
-          dates = dates.old;
-          master = master.old;
-          station = station.old;
-          last = last;
-          clock = clock.old;
-          took = took;
-        })
-        (record {
-          dates = dates.new;
-          master = master.new;
-          station = station.new;
-          last = moved_where result tick last;
-          clock = clock.new;
-          took = took;
-        })
+        (date_state dates.old master.old station.old last clock.old took)
+        (date_state dates.new master.new station.new (moved_where result tick last) clock.new took)
         (D.acts desk.old) (D.acts desk.new) }
     ensures corrects { (past : Past) (last : LastValue) (took : Option Received)
         → last.tick ≡ corrected
-        → DateStands past
-        (record {
-          dates = dates.old;
-          master = master.old;
-          station = station.old;
-          last = last;
-          clock = clock.old;
-          took = took;
-        })
+        → DateStands past (date_state dates.old master.old station.old last clock.old took)
         → result ≡ corrects (handles_kind charge from m.now m.now.kind tick past) }
     ensures room { UsesAtMost (2 * length station.old.peers + 2) D.spare D.acts desk.old desk.new }
     ensures port { IsSamePort station.old station.new }
