@@ -1,6 +1,8 @@
 //! What a master does with the replies to its requests.
-ghost use Rattle.std.specs.Prelude.{◌≡◌, ◌≤◌};
+ghost use Rattle.std.specs.Prelude.{◌≡◌, ◌≤◌, ℕ};
 ghost use Rattle.tsp_acks.specs.Calls.{IsTick, Performs, UsesAtMost};
+ghost use Rattle.tsp_clock.specs.Clocks.{ClockValue, target_of};
+ghost use Rattle.tsp_measure.specs.Measures.{IsReading};
 ghost use Rattle.tsp_rules.specs.RoundRows.{samples};
 ghost use Rattle.tsp_acks.specs.declared.station.Station.{Station};
 ghost use Rattle.tsp_master.specs.MasterTakes.{samples_of};
@@ -10,7 +12,6 @@ use crate::master::Master;
 use tsp_acks::station::Station;
 use tsp_base::act::Act;
 use tsp_base::alarm::Alarm;
-use tsp_base::at::At;
 use tsp_base::desk::Desk;
 use tsp_base::place::{PeerId, Port};
 use tsp_base::stamp::{Stamp, StampReply};
@@ -45,32 +46,30 @@ impl Master {
             Stamp::Request { .. } => {}
             Stamp::Reply(reply) => {
                 if station.alarms.at(Alarm::Close).is_some() {
-                    self.sample(clock, At { tick, port }, from, reply, desk);
+                    self.sample(from, reply, clock.target(tick), port, desk);
                 }
             }
         }
     }
 
-    /// Takes a reply while a round goes on.
+    /// Takes a reply while a round goes on, at this target of the own clock, in microseconds.
     fn sample<D: Desk>(
         &mut self,
-        clock: &Clock,
-        at: At,
         peer: PeerId,
         reply: &StampReply,
+        target: i64,
+        port: Port,
         desk: &mut D,
     )
-        requires tick { IsTick at.tick }
-        requires later { clock.now.at ≤ at.tick }
+        requires reading { IsReading target }
         requires room { 1 ≤ D.spare desk.old }
-        ensures row { (station : Station) → Performs GoingStands LeadStands (samples peer reply.now)
-            at.tick at.port
-            (lead_of self.old station clock.now) (lead_of self.new station clock.now)
+        ensures row { (station : Station) (clock : ClockValue) (x : ℕ) → target ≡ target_of clock x
+            → Performs GoingStands LeadStands (samples peer reply.now) x port
+            (lead_of self.old station clock) (lead_of self.new station clock)
             (D.acts desk.old) (D.acts desk.new) }
         ensures room { UsesAtMost 1 D.spare D.acts desk.old desk.new }
         ensures peers { peers_of self.new.slaves ≡ peers_of self.old.slaves }
     {
-        let target = clock.target(at.tick);
         let answer = self.rounds.reply(
             peer,
             reply.word(),
@@ -82,7 +81,7 @@ impl Master {
         match answer {
             Reply::NotStarted => {}
             Reply::Sample(sample) => desk.put(
-                at.port,
+                port,
                 Act::Sample {
                     peer,
                     counter: sample.counter,

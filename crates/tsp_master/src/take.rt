@@ -37,11 +37,8 @@ impl Master {
         port: Port,
         desk: &mut D,
     )
-        requires tick { IsTick tick }
-        requires later { clock.now.at ≤ tick }
+        requires ready { MayServe from tick (lead_of self.old station.old clock.now) }
         requires room { 2 ≤ D.spare desk.old }
-        requires same { peers_of self.old.slaves ≡ station.old.peers }
-        requires peer { Contains station.old.peers from }
         requires role { station.old.role ≡ MasterRole }
         ensures row { Performs LeadStands LeadStands (master_takes_here from m.now) tick port
             (lead_of self.old station.old clock.now) (lead_of self.new station.new clock.now)

@@ -5,16 +5,16 @@ use Rattle.tsp_master.proofs.RoomLemmas.{put_once}
 use Rattle.tsp_master.proofs.master.Master.sample.Goals as goal
 
 pub returns-in-NotStarted-clause-row : goal.returns-in-NotStarted-clause-row
-returns-in-NotStarted-clause-row g c station =
+returns-in-NotStarted-clause-row g c station clock x is =
     let r = c.in-NotStarted.ensures in
     let none = rw (c.word.ensures, c.counter.ensures) at r.replies in
-    Performs_missed c.args.peer c.args.reply.now _ _ station c.args.clock.now none.0 refl r.asked r.probes (all_stay c.args.peer c.args.self.now.rounds c.reply-answer.new.self none.1 r.others)
+    Performs_missed c.args.peer c.args.reply.now _ _ station clock none.0 refl r.asked r.probes (all_stay c.args.peer c.args.self.now.rounds c.reply-answer.new.self none.1 r.others)
 
 pub returns-in-Sample-clause-row : goal.returns-in-Sample-clause-row
-returns-in-Sample-clause-row g c station =
+returns-in-Sample-clause-row g c station clock x is =
     let r = c.in-Sample.ensures in
     let s = c.reading.result in
-    let d = c.target-target.result in
+    let d = c.args.target in
     let t = c.in-Sample.sample in
     let fits_s : SFits w64 s = search rules in
     let fits_d : SFits w64 d = search rules in
@@ -26,7 +26,7 @@ returns-in-Sample-clause-row g c station =
     let back_err : to_z w64 (of_z w64 t.err) ≡ t.err = to_z-of_z fits_err in
     let answered = rw (back_s, back_d, c.word.ensures, c.counter.ensures, c.ticket.ensures.value, c.reading.ensures) at r.replies in
     let put = rw (back_diff, back_err) at c.put.ensures.acts in
-    Performs_sample c.args.peer c.args.reply.now d t _ _ station c.args.clock.now c.target-target.ensures.value r.apart answered r.others r.asked r.probes refl put
+    Performs_sample c.args.peer c.args.reply.now d t _ _ station clock is r.apart answered r.others r.asked r.probes refl put
 
 pub returns-in-Sample-clause-room : goal.returns-in-Sample-clause-room
 returns-in-Sample-clause-room g c = put_once 0 0 _ c.put.ensures.spare c.put.ensures.acts
