@@ -1,12 +1,12 @@
 -- What a Sample makes of what a master stands for.
-use Rattle.std.proofs.Common.{◌≡◌, ℕ, ◌+◌, ◌==◌, ◌&&◌, Bool, true, false, if◌then◌else◌, List, [], ◌∷◌, ◌++◌, Option, Some, None, ℤ, ◌-ℤ◌, int_lt, eqb-true, eq-eqb, refl, sym, ◌∙◌, ap, subst}
+use Rattle.std.proofs.Common.{◌≡◌, ℕ, ◌==◌, ◌&&◌, Bool, true, false, if◌then◌else◌, List, [], ◌∷◌, ◌++◌, Option, Some, None, ℤ, ◌-ℤ◌, int_lt, eqb-true, eq-eqb, refl, sym, ◌∙◌, ap, subst}
 use Rattle.std.specs.List.{fold}
 use Rattle.std.specs.Option.{option_map}
 use Rattle.tsp_base.specs.declared.act.Act.TheVariants.{Sample as SampleAct}
 use Rattle.tsp_base.specs.declared.place.PeerId.{PeerId}
 use Rattle.tsp_base.specs.History.{Past, Seen, plain}
 use Rattle.tsp_base.specs.Places.{Within}
-use Rattle.tsp_base.specs.NodeFacts.{target, word}
+use Rattle.tsp_base.specs.NodeFacts.{target}
 use Rattle.tsp_base.specs.RoundFacts.{OpenRequest, Sampled, best, better, exchange, is_going, request_at_place, request_open, started, target_there, word_asked}
 use Rattle.tsp_base.specs.Rows.{grown}
 use Rattle.tsp_base.proofs.SendLemmas.{seen_act}

@@ -1,17 +1,13 @@
 -- What a close reads of a master's table and exchanges.
-use Rattle.std.specs.Prelude.{Bool, List, map, Option}
+use Rattle.std.specs.Prelude.{List, map, Option}
 use Rattle.std.specs.List.{filter}
 use Rattle.std.specs.Option.{option_map}
 use Rattle.tsp_base.specs.declared.place.PeerId.{PeerId}
-use Rattle.tsp_base.specs.declared.constants.TheConstants.{SPAN}
-use Rattle.tsp_base.specs.Rows.{Row}
-use Rattle.tsp_group.specs.Groups.{group_of}
 use Rattle.tsp_base.specs.RoundFacts.{Estimate}
 use Rattle.tsp_measure.specs.declared.sample.TimedSample.{TimedSample}
 use Rattle.tsp_measure.specs.Measures.{best_of}
-use Rattle.tsp_rules.specs.RoundRows.{Standing, closes_with, estimates}
+use Rattle.tsp_rules.specs.RoundRows.{Standing}
 use Rattle.tsp_master.specs.declared.entry.Entry.{Entry}
-use Rattle.tsp_master.specs.declared.master.Master.{Master}
 use Rattle.tsp_master.specs.Rounds.{RoundsValue, estimate_in, measured_with}
 use Rattle.tsp_master.specs.Slaves.{entry_of, peers_of}
 
@@ -34,7 +30,3 @@ standings_of es v ps = map (standing_with v) (measured_of es ps)
 -- what the round has come to: each measured peer with its best sample
 abbrev pub round_of : List Entry → RoundsValue → List Standing
 round_of es v = standings_of es v (peers_of es)
-
--- the close of the round that the master's table and exchanges tell of
-abbrev pub closes_here : Bool → Master → Row
-closes_here own m = closes_with own (group_of SPAN (estimates (round_of m.slaves m.rounds))) (round_of m.slaves m.rounds)

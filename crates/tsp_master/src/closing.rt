@@ -9,7 +9,7 @@ ghost use Rattle.tsp_clock.specs.Clocks.{target_of};
 ghost use Rattle.tsp_rules.specs.Guards.{is_clock_value, is_over};
 ghost use Rattle.tsp_master.specs.declared.master.Master.{Master};
 ghost use Rattle.tsp_master.specs.MasterStands.{LeadStands, RingStands, lead_of};
-ghost use Rattle.tsp_master.specs.Closing.{closes_here, round_of, standing_with};
+ghost use Rattle.tsp_master.specs.Closing.{round_of, standing_with};
 ghost use Rattle.tsp_master.specs.Frames.{ChangesOnly, MayServe, peer_count};
 ghost use Rattle.tsp_master.specs.Slaves.{peers_of};
 
@@ -26,8 +26,10 @@ use tsp_clock::clock::Clock;
 use tsp_group::correction;
 
 impl Master {
-    /// Handles a Close that is due, after its Probe was: where it is at most `SLACK` ticks late the
-    /// round closes, else it is given up. The answer is whether the clock was corrected.
+    /// Handles a Close that is due, after its Probe was. Where it is at most `SLACK` ticks late the round closes
+    /// with the largest group: the own clock is moved by its mean where this port leads it (`own`), and then
+    /// each measured peer is corrected; else the mean is 0. Where the clock would leave its range, or the alarm
+    /// is later than that, the round is given up. The answer is whether the clock was corrected.
     pub(crate) fn ring_close<D: Desk>(
         &mut self,
         station: &mut Station,
@@ -58,34 +60,6 @@ impl Master {
             return false;
         }
         station.ring(Alarm::Close, at.port, desk);
-        self.close(station, clock, own, at, desk)
-    }
-
-    /// Closes a round with the largest group: the own clock is moved by its mean where this port
-    /// leads it (`own`), and then each measured peer is corrected; else the mean is 0. Where the clock
-    /// would leave its range the round is given up. The answer is whether the clock was corrected.
-    fn close<D: Desk>(
-        &mut self,
-        station: &mut Station,
-        clock: &mut Clock,
-        own: bool,
-        at: At,
-        desk: &mut D,
-    ) -> bool
-        requires tick { IsTick at.tick }
-        requires later { clock.old.at ≤ at.tick }
-        requires room { peer_count self.old + 2 ≤ D.spare desk.old }
-        requires same { peers_of self.old.slaves ≡ station.old.peers }
-        ensures row { Performs LeadStands LeadStands (closes_here own self.old) at.tick at.port
-            (lead_of self.old station.old clock.old) (lead_of self.new station.new clock.new)
-            (D.acts desk.old) (D.acts desk.new) }
-        ensures corrects { (past : Past) → LeadStands past (lead_of self.old station.old clock.old)
-            → result ≡ corrects (closes_here own self.old at.tick past) }
-        ensures room { UsesAtMost (peer_count self.old + 2) D.spare D.acts desk.old desk.new }
-        ensures port { IsSamePort station.old station.new }
-        ensures peers { peers_of self.new.slaves ≡ peers_of self.old.slaves }
-        ensures clock { clock.new.at ≤ at.tick }
-    {
         let group = self.group();
         let mean = mean_by(own, &group);
         if !clock.can_adjust(at.tick, mean) {
