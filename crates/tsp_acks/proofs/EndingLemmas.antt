@@ -13,10 +13,12 @@ use Rattle.tsp_base.proofs.SendLemmas.{open_send-acked}
 use Rattle.tsp_base.proofs.PerformsLemmas.{Performs_then_part, Performs_else_part, Performs_nothing}
 use Rattle.tsp_rules.specs.DateRows.{answers_date}
 use Rattle.tsp_rules.specs.SendRows.{answers_election, answers_other, ends_by_ack, has_other, is_kind_election, acknowledges}
-use Rattle.tsp_sends.specs.Slots.{SetsOnly, kind_of, has_number}
+use Rattle.tsp_sends.specs.Slots.{SetsOnly, kind_of, has_number, sending_to}
+use Rattle.tsp_acks.specs.declared.ends.Answer.{Answer}
+use Rattle.tsp_acks.specs.declared.ends.Answer.TheVariants.{Vote, Date, Ack}
 use Rattle.tsp_acks.specs.declared.station.Station.{Station}
 use Rattle.tsp_acks.specs.Changes.{ChangesSends}
-use Rattle.tsp_acks.specs.Openings.{is_of}
+use Rattle.tsp_acks.specs.Openings.{is_of, answered_by, has_open}
 use Rattle.tsp_acks.specs.Stands.{Stands}
 
 -- the open send to a peer ends
@@ -53,6 +55,18 @@ answers_date-is number (Some s) = refl
 pub answers_other-is : (number : ℕ) (o : Option Sending) → (is_of ends_by_ack (kind_of o) && has_number number o) ≡ answers_other number o
 answers_other-is number None = refl
 answers_other-is number (Some s) = refl
+
+-- whether the open send is one that an answer ends, as the station has it
+pub has_open-is : (a : Answer) (p : PeerId) (number x : ℕ) (past : Past) (s : Station) → Stands past s →
+    has_open a p number x past ≡ (is_of (answered_by a) (kind_of (sending_to s.sends p)) && has_number number (sending_to s.sends p))
+has_open-is Vote p number x past s h = ap (answers_election number) (sym (h.sends p)) ∙ sym (answers_election-is number (sending_to s.sends p))
+has_open-is Date p number x past s h = ap (answers_date number) (sym (h.sends p)) ∙ sym (answers_date-is number (sending_to s.sends p))
+has_open-is Ack p number x past s h = ap (answers_other number) (sym (h.sends p)) ∙ sym (answers_other-is number (sending_to s.sends p))
+
+-- where the open send is of the right kind, its number decides
+pub has_open-of : (a : Answer) (p : PeerId) (number x : ℕ) (past : Past) (s : Station) → is_of (answered_by a) (kind_of (sending_to s.sends p)) ≡ true → Stands past s →
+    has_open a p number x past ≡ has_number number (sending_to s.sends p)
+has_open-of a p number x past s e h = has_open-is a p number x past s h ∙ ap (λ b. b && has_number number (sending_to s.sends p)) e
 
 -- an ACK ends the send that it names, or nothing
 pub Performs_acknowledges : (p : PeerId) (number : ℕ) {x : ℕ} {port : Port} {before after : Station} {old new : List Placed} (ends : Bool) → ((past : Past) → Stands past before → has_other p number x past ≡ ends) →

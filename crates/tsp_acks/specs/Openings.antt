@@ -1,7 +1,14 @@
--- Which call begins which kind of send, and of which kind the open one is.
-use Rattle.std.specs.Prelude.{Bool, true, false, Option, None, Some}
+-- Which call begins which kind of send, of which kind the open one is, and what answers it.
+use Rattle.std.specs.Prelude.{ℕ, Bool, true, false, Option, None, Some}
 use Rattle.tsp_base.specs.declared.kind.Kind.{Kind}
 use Rattle.tsp_base.specs.declared.kind.Kind.TheVariants.{Election, Conflict, Quit}
+use Rattle.tsp_base.specs.declared.place.PeerId.{PeerId}
+use Rattle.tsp_base.specs.History.{Past}
+use Rattle.tsp_base.specs.SendFacts.{is_set_date_request}
+use Rattle.tsp_rules.specs.DateRows.{has_date}
+use Rattle.tsp_rules.specs.SendRows.{has_election, has_other, is_kind_election, ends_by_ack}
+use Rattle.tsp_acks.specs.declared.ends.Answer.{Answer}
+use Rattle.tsp_acks.specs.declared.ends.Answer.TheVariants.{Vote, Date, Ack}
 
 -- whether a send of this kind has the port's own next number and carries nothing else
 abbrev pub is_bare_send : Kind → Bool
@@ -14,3 +21,15 @@ is_bare_send _ = false
 abbrev pub is_of : (Kind → Bool) → Option Kind → Bool
 is_of test None = false
 is_of test (Some k) = test k
+
+-- whether such an answer ends a send of this kind
+abbrev pub answered_by : Answer → Kind → Bool
+answered_by Vote = is_kind_election
+answered_by Date = is_set_date_request
+answered_by Ack = ends_by_ack
+
+-- whether the open send to a peer has this number and is of a kind that such an answer ends
+abbrev pub has_open : Answer → PeerId → ℕ → ℕ → Past → Bool
+has_open Vote = has_election
+has_open Date = has_date
+has_open Ack = has_other

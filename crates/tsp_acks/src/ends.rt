@@ -1,19 +1,42 @@
 //! How answers end a station's numbered sends.
-ghost use Rattle.std.specs.Prelude.{◌≡◌, ℕ, ◌≤◌, ◌&&◌, Bool, true, false, if◌then◌else◌, None, MatchBool};
-ghost use Rattle.tsp_base.specs.declared.act.Act.TheVariants.{Acked};
-ghost use Rattle.tsp_base.specs.Rows.{puts};
-ghost use Rattle.tsp_base.specs.SendFacts.{is_set_date_request};
+ghost use Rattle.std.specs.Prelude.{◌≡◌, ℕ, ◌≤◌, true, false, if◌then◌else◌, None, MatchBool};
 ghost use Rattle.tsp_rules.specs.DateRows.{has_date};
-ghost use Rattle.tsp_rules.specs.SendRows.{has_election, has_other, is_kind_election, ends_by_ack, acknowledges};
-ghost use Rattle.tsp_sends.specs.Slots.{sending_to, kind_of, has_number, SetsOnly};
-ghost use Rattle.tsp_acks.specs.Calls.{Past, Performs, Uses, ChangesSends};
-ghost use Rattle.tsp_acks.specs.Openings.{is_of};
+ghost use Rattle.tsp_rules.specs.SendRows.{has_election, has_other, acknowledges};
+ghost use Rattle.tsp_sends.specs.Slots.{SetsOnly};
+ghost use Rattle.tsp_acks.specs.Calls.{Past, ActsBy, EndsWhere, Uses, ChangesSends};
+ghost use Rattle.tsp_acks.specs.Openings.{is_of, answered_by, has_open};
 
 use crate::station::Station;
 use tsp_base::act::Act;
 use tsp_base::desk::Desk;
 use tsp_base::kind::Kind;
 use tsp_base::place::{PeerId, Port};
+
+/// What answers a numbered send.
+#[derive(Clone, Copy)]
+enum Answer {
+    /// An ACCEPT or a REFUSE: it answers an ELECTION.
+    Vote,
+    /// A DATEACK: it answers a SETDATEREQ.
+    Date,
+    /// An ACK: it answers any other send.
+    Ack,
+}
+
+impl Answer {
+    /// Whether it ends the open send, of which this is the kind if one is open.
+    #[inline(always)]
+    fn ends(self, kind: Option<Kind>) -> bool
+        ensures { result ≡ is_of (answered_by self) kind }
+    {
+        match kind {
+            None => false,
+            Some(Kind::Election) => matches!(self, Answer::Vote),
+            Some(Kind::SetDateReq) => matches!(self, Answer::Date),
+            Some(_) => matches!(self, Answer::Ack),
+        }
+    }
+}
 
 impl Station {
     ghost use Rattle.tsp_acks.specs.Stands.{Stands};
@@ -22,40 +45,10 @@ impl Station {
     /// number, and says whether it had.
     pub fn answered<D: Desk>(&mut self, p: PeerId, number: u16, port: Port, desk: &mut D) -> bool
         requires room { 1 ≤ D.spare desk.old }
-        ensures test { (x : ℕ) (past : Past) → Stands past self.old
-            → has_election p number x past ≡ result }
-        ensures row { result ≡ true → (x : ℕ)
-            → Performs Stands Stands (puts (Acked p)) x port self.old self.new (D.acts desk.old)
-            (D.acts desk.new) }
-        ensures sends { MatchBool result (SetsOnly p None self.old.sends self.new.sends)
-            (self.new ≡ self.old) }
-        ensures same { result ≡ false → D.acts desk.new ≡ D.acts desk.old }
-        ensures rest { ChangesSends self.old self.new }
-        ensures begun { self.new.begun ≡ self.old.begun }
-        ensures room { Uses (if result then 1 else 0) D.spare D.acts desk.old desk.new }
+        ensures { EndsWhere (has_election p number) p port self.old self.new result
+            D.spare D.acts desk.old desk.new }
     {
-        let asks = is_election(self.sends.kind(p));
-        self.end(asks, p, number, port, desk)
-    }
-
-    /// A DATEACK with this number came: ends the open SETDATEREQ to the peer, where it has this number, and says
-    /// whether it had.
-    pub fn dated<D: Desk>(&mut self, p: PeerId, number: u16, port: Port, desk: &mut D) -> bool
-        requires room { 1 ≤ D.spare desk.old }
-        ensures test { (x : ℕ) (past : Past) → Stands past self.old
-            → has_date p number x past ≡ result }
-        ensures row { result ≡ true → (x : ℕ)
-            → Performs Stands Stands (puts (Acked p)) x port self.old self.new (D.acts desk.old)
-            (D.acts desk.new) }
-        ensures sends { MatchBool result (SetsOnly p None self.old.sends self.new.sends)
-            (self.new ≡ self.old) }
-        ensures same { result ≡ false → D.acts desk.new ≡ D.acts desk.old }
-        ensures rest { ChangesSends self.old self.new }
-        ensures begun { self.new.begun ≡ self.old.begun }
-        ensures room { Uses (if result then 1 else 0) D.spare D.acts desk.old desk.new }
-    {
-        let passes_on = is_date(self.sends.kind(p));
-        self.end(passes_on, p, number, port, desk)
+        self.end(Answer::Vote, p, number, port, desk)
     }
 
     /// An ACK with this number came: ends the open send to the peer, where it has this number, and says whether
@@ -64,8 +57,8 @@ impl Station {
         requires room { 1 ≤ D.spare desk.old }
         ensures test { (x : ℕ) (past : Past) → Stands past self.old
             → has_other p number x past ≡ result }
-        ensures row { (x : ℕ) → Performs Stands Stands (acknowledges p number) x port self.old
-            self.new (D.acts desk.old) (D.acts desk.new) }
+        ensures row { (x : ℕ) → ActsBy (acknowledges p number) x port self.old self.new
+            D.acts desk.old desk.new }
         ensures sends { MatchBool result (SetsOnly p None self.old.sends self.new.sends)
             (self.new ≡ self.old) }
         ensures same { result ≡ false → D.acts desk.new ≡ D.acts desk.old }
@@ -73,56 +66,40 @@ impl Station {
         ensures begun { self.new.begun ≡ self.old.begun }
         ensures room { Uses (if result then 1 else 0) D.spare D.acts desk.old desk.new }
     {
-        let waits = ends_by_ack(self.sends.kind(p));
-        self.end(waits, p, number, port, desk)
+        self.end(Answer::Ack, p, number, port, desk)
     }
 
-    /// Ends the open send to a peer where `fits` says that it is of the right kind and it has this number, and
-    /// says whether it did.
-    fn end<D: Desk>(&mut self, fits: bool, p: PeerId, number: u16, port: Port, desk: &mut D) -> bool
+    /// A DATEACK with this number came: ends the open SETDATEREQ to the peer, where it has this number, and says
+    /// whether it had.
+    pub fn dated<D: Desk>(&mut self, p: PeerId, number: u16, port: Port, desk: &mut D) -> bool
         requires room { 1 ≤ D.spare desk.old }
-        ensures ends { result ≡ (fits && has_number number (sending_to self.old.sends p)) }
-        ensures row { result ≡ true → (x : ℕ)
-            → Performs Stands Stands (puts (Acked p)) x port self.old self.new (D.acts desk.old)
-            (D.acts desk.new) }
-        ensures sends { MatchBool result (SetsOnly p None self.old.sends self.new.sends)
-            (self.new ≡ self.old) }
-        ensures same { result ≡ false → D.acts desk.new ≡ D.acts desk.old }
-        ensures rest { ChangesSends self.old self.new }
-        ensures begun { self.new.begun ≡ self.old.begun }
-        ensures room { Uses (if result then 1 else 0) D.spare D.acts desk.old desk.new }
+        ensures { EndsWhere (has_date p number) p port self.old self.new result
+            D.spare D.acts desk.old desk.new }
     {
-        if !fits {
+        self.end(Answer::Date, p, number, port, desk)
+    }
+
+    /// Ends the open send to a peer, where it has this number and such an answer ends it, and says whether it did.
+    #[inline(always)]
+    fn end<D: Desk>(
+        &mut self,
+        answer: Answer,
+        p: PeerId,
+        number: u16,
+        port: Port,
+        desk: &mut D,
+    ) -> bool
+        requires room { 1 ≤ D.spare desk.old }
+        ensures { EndsWhere (has_open answer p number) p port self.old self.new result
+            D.spare D.acts desk.old desk.new }
+    {
+        if !answer.ends(self.sends.kind(p)) {
             return false;
         }
-        let ends = self.sends.ack(p, number);
-        if ends {
+        let ended = self.sends.ack(p, number);
+        if ended {
             desk.put(port, Act::Acked(p));
         }
-        ends
-    }
-}
-
-/// Whether the open send is an ELECTION.
-fn is_election(kind: Option<Kind>) -> bool
-    ensures { result ≡ is_of is_kind_election kind }
-{
-    matches!(kind, Some(Kind::Election))
-}
-
-/// Whether the open send passes a date on.
-fn is_date(kind: Option<Kind>) -> bool
-    ensures { result ≡ is_of is_set_date_request kind }
-{
-    matches!(kind, Some(Kind::SetDateReq))
-}
-
-/// Whether the open send is one that an ACK answers.
-fn ends_by_ack(kind: Option<Kind>) -> bool
-    ensures { result ≡ is_of ends_by_ack kind }
-{
-    match kind {
-        None | Some(Kind::Election) | Some(Kind::SetDateReq) => false,
-        Some(_) => true,
+        ended
     }
 }

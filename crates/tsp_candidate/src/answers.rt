@@ -1,7 +1,7 @@
 //! The answers of peers to a candidate's ELECTIONs.
 ghost use Rattle.std.specs.Prelude.{ℕ, ◌≤◌};
 ghost use Rattle.tsp_rules.specs.CandidateRows.{accepted_by, refused_by};
-ghost use Rattle.tsp_acks.specs.Calls.{IsTick, Performs, UsesAtMost, IsSamePort, Stands};
+ghost use Rattle.tsp_acks.specs.Calls.{ActsBy, IsTick, UsesAtMost, IsSamePort};
 
 use crate::ring::give_way;
 use tsp_acks::station::Station;
@@ -18,8 +18,8 @@ pub(crate) fn take_accept<D: Desk>(
     desk: &mut D,
 )
     requires room { 2 ≤ D.spare desk.old }
-    ensures row { (x : ℕ) → Performs Stands Stands (accepted_by from number) x port station.old
-        station.new (D.acts desk.old) (D.acts desk.new) }
+    ensures row { (x : ℕ) → ActsBy (accepted_by from number) x port station.old station.new
+        D.acts desk.old desk.new }
     ensures room { UsesAtMost 2 D.spare D.acts desk.old desk.new }
     ensures port { IsSamePort station.old station.new }
 {
@@ -39,8 +39,8 @@ pub(crate) fn take_refuse<D: Desk>(
 )
     requires tick { IsTick tick }
     requires room { 3 ≤ D.spare desk.old }
-    ensures row { Performs Stands Stands (refused_by from number) tick port station.old station.new
-        (D.acts desk.old) (D.acts desk.new) }
+    ensures row { ActsBy (refused_by from number) tick port station.old station.new
+        D.acts desk.old desk.new }
     ensures room { UsesAtMost 3 D.spare D.acts desk.old desk.new }
     ensures port { IsSamePort station.old station.new }
 {

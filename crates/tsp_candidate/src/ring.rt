@@ -2,7 +2,7 @@
 ghost use Rattle.std.specs.Prelude.{◌≡◌, ℕ, ◌+◌, ◌≤◌, length};
 ghost use Rattle.tsp_base.specs.Rows.{either_by};
 ghost use Rattle.tsp_rules.specs.CandidateRows.{has_won, lead_row, window_rings, yields};
-ghost use Rattle.tsp_acks.specs.Calls.{IsTick, Past, Performs, Uses, UsesAtMost, IsSamePort, Stands};
+ghost use Rattle.tsp_acks.specs.Calls.{ActsBy, IsTick, Past, Uses, UsesAtMost, IsSamePort, Stands};
 
 use tsp_acks::station::Station;
 use tsp_base::alarm::Alarm;
@@ -18,8 +18,7 @@ use tsp_base::role::Role;
 pub fn candidate_ring<D: Desk>(station: &mut Station, tick: u64, port: Port, desk: &mut D)
     requires tick { IsTick tick }
     requires room { length station.old.peers + 3 ≤ D.spare desk.old }
-    ensures row { Performs Stands Stands window_rings tick port station.old station.new
-        (D.acts desk.old) (D.acts desk.new) }
+    ensures row { ActsBy window_rings tick port station.old station.new D.acts desk.old desk.new }
     ensures room { UsesAtMost (length station.old.peers + 3) D.spare D.acts desk.old desk.new }
     ensures port { IsSamePort station.old station.new }
 {
@@ -32,17 +31,20 @@ pub fn candidate_ring<D: Desk>(station: &mut Station, tick: u64, port: Port, des
     }
 }
 
-/// Becomes master where the election is won, else ends the candidature.
+/// Becomes master where the election is won, else ends the candidature. A new master posts a MASTERUP to each
+/// other peer; its first round is due `ROUND` ticks from now.
 fn lead_or_give_way<D: Desk>(station: &mut Station, tick: u64, port: Port, desk: &mut D)
     requires tick { IsTick tick }
     requires room { length station.old.peers + 2 ≤ D.spare desk.old }
-    ensures row { Performs Stands Stands (either_by has_won lead_row yields) tick port station.old
-        station.new (D.acts desk.old) (D.acts desk.new) }
+    ensures row { ActsBy (either_by has_won lead_row yields) tick port station.old station.new
+        D.acts desk.old desk.new }
     ensures room { UsesAtMost (length station.old.peers + 2) D.spare D.acts desk.old desk.new }
     ensures port { IsSamePort station.old station.new }
 {
     if has_won(station) {
-        lead(station, tick, port, desk);
+        station.become_role(Role::Master, port, desk);
+        station.arm(Alarm::Round, tick, ROUND, port, desk);
+        station.post_to_others(Kind::MasterUp, 0, port, desk);
     } else {
         give_way(station, tick, port, desk);
     }
@@ -56,26 +58,11 @@ fn has_won(station: &Station) -> bool
     !station.me.strict || station.peers().len() < 2 * station.backers as usize + 2
 }
 
-/// Becomes master and posts a MASTERUP to each other peer; its first round is due `ROUND` ticks from now.
-fn lead<D: Desk>(station: &mut Station, tick: u64, port: Port, desk: &mut D)
-    requires tick { IsTick tick }
-    requires room { length station.old.peers + 2 ≤ D.spare desk.old }
-    ensures row { Performs Stands Stands lead_row tick port station.old station.new
-        (D.acts desk.old) (D.acts desk.new) }
-    ensures room { UsesAtMost (length station.old.peers + 2) D.spare D.acts desk.old desk.new }
-    ensures port { IsSamePort station.old station.new }
-{
-    station.become_role(Role::Master, port, desk);
-    station.arm(Alarm::Round, tick, ROUND, port, desk);
-    station.post_to_others(Kind::MasterUp, 0, port, desk);
-}
-
 /// Ends the candidature: the port follows nobody, and waits for a master again.
 pub(crate) fn give_way<D: Desk>(station: &mut Station, tick: u64, port: Port, desk: &mut D)
     requires tick { IsTick tick }
     requires room { 2 ≤ D.spare desk.old }
-    ensures row { Performs Stands Stands yields tick port station.old station.new (D.acts desk.old)
-        (D.acts desk.new) }
+    ensures row { ActsBy yields tick port station.old station.new D.acts desk.old desk.new }
     ensures room { Uses 2 D.spare D.acts desk.old desk.new }
     ensures port { IsSamePort station.old station.new }
 {

@@ -1,8 +1,8 @@
 //! What a candidate does with a message of a peer.
-ghost use Rattle.std.specs.Prelude.{◌≤◌, Option};
+ghost use Rattle.std.specs.Prelude.{◌≤◌};
 ghost use Rattle.tsp_rules.specs.CandidateRows.{candidate_takes};
-ghost use Rattle.tsp_acks.specs.Calls.{Contains, IsTick, Received, Performs, UsesAtMost, IsSamePort};
-ghost use Rattle.tsp_slave.specs.SlaveStands.{IsMessage, SlaveStands, slave};
+ghost use Rattle.tsp_acks.specs.Calls.{Contains, IsTick, UsesAtMost, IsSamePort};
+ghost use Rattle.tsp_slave.specs.SlaveStands.{ActsOn, IsMessage, slave};
 
 use crate::answers::{take_accept, take_refuse};
 use tsp_acks::station::Station;
@@ -32,10 +32,9 @@ pub fn candidate_take<D: Desk>(
     requires tick { IsTick tick }
     requires room { 5 ≤ D.spare desk.old }
     requires peer { Contains station.old.peers from }
-    ensures row { (took : Option Received) → IsMessage from m.now took
-        → Performs SlaveStands SlaveStands (candidate_takes from m.now) tick port
-        (slave station.old last.old clock.now took) (slave station.new last.new clock.now took)
-        (D.acts desk.old) (D.acts desk.new) }
+    ensures row { ActsOn (IsMessage from m.now) (candidate_takes from m.now) tick port
+        (slave station.old last.old clock.now) (slave station.new last.new clock.now)
+        D.acts desk.old desk.new }
     ensures room { UsesAtMost 5 D.spare D.acts desk.old desk.new }
     ensures port { IsSamePort station.old station.new }
 {

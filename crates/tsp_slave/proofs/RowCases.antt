@@ -1,21 +1,23 @@
 -- Rows and tests by cases, in the cases that are left.
-use Rattle.std.specs.Prelude.{◌≡◌, ◌≢◌, ◌⊎◌, ◌&&◌, not, ℕ, true, false, Option, None, Some, is_some, refl}
+use Rattle.std.specs.Prelude.{◌≡◌, ◌≢◌, ◌⊎◌, ◌==◌, ◌&&◌, not, ℕ, Bool, true, false, if◌then◌else◌, [], Option, None, Some, is_some, refl}
 use Rattle.std.proofs.Common.{◌∙◌, ap, sym, inl, inr}
 use Rattle.tsp_base.specs.declared.alarm.Alarm.{Alarm}
 use Rattle.tsp_base.specs.declared.alarm.Alarm.TheVariants.{Quiet, Search, Elect}
 use Rattle.tsp_base.specs.declared.kind.Kind.{Kind}
 use Rattle.tsp_base.specs.declared.kind.Kind.TheVariants.{AdjTime, SetTime}
 use Rattle.tsp_base.specs.declared.place.PeerId.{PeerId}
+use Rattle.tsp_base.specs.declared.role.Role.TheVariants.{Loose, Follow}
 use Rattle.tsp_base.specs.Alarms.{deadline}
 use Rattle.tsp_base.specs.History.{Past}
 use Rattle.tsp_base.specs.Hold.{may_stand}
 use Rattle.tsp_base.specs.Messages.{MessageValue}
-use Rattle.tsp_base.specs.PortFacts.{held}
-use Rattle.tsp_base.specs.Rows.{nothing, reading}
+use Rattle.tsp_base.specs.PortFacts.{held, role}
+use Rattle.tsp_base.specs.Rows.{Row, nothing, reading, either_by, ◌followed_by◌}
 use Rattle.tsp_base.specs.SendFacts.{Sending, is_correction}
 use Rattle.tsp_rules.specs.SendRows.{is_free}
-use Rattle.tsp_rules.specs.SlaveRows.{from_master, slave_takes_kind}
-use Rattle.tsp_rules.specs.Guards.{is_met, may_stand_at, role_at}
+use Rattle.tsp_rules.specs.CommonRows.{arms_elect, tells_ticket}
+use Rattle.tsp_rules.specs.SlaveRows.{from_master, masterack_in, masterup_in, reports_conflict, slave_takes_kind}
+use Rattle.tsp_rules.specs.Guards.{is_armed, is_met, may_stand_at, role_at}
 use Rattle.tsp_sends.specs.Slots.{kind_of, sending_to}
 use Rattle.tsp_acks.specs.declared.station.Station.{Station}
 use Rattle.tsp_acks.specs.Stands.{Stands}
@@ -57,3 +59,27 @@ is_some-kind (Some s) = refl
 -- whether no send to a peer is open, as the station has it
 pub is_free-is : (p : PeerId) (x : ℕ) (past : Past) (s : Station) → Stands past s → is_free p x past ≡ not (is_some (kind_of (sending_to s.sends p)))
 is_free-is p x past s h = ap (λ o. not (is_some o)) (sym (h.sends p)) ∙ ap not (sym (is_some-kind (sending_to s.sends p)))
+
+-- a MASTERACK at a port that is Loose does what a MASTERUP does where the port searches
+pub masterack_in-Loose : (p : PeerId) (b : Bool) (x : ℕ) (past : Past) → role past.seen ≡ Loose → is_armed Search x past ≡ b →
+    reading role_at (masterack_in p) x past ≡ (if b then reading role_at (masterup_in p) x past else [])
+unfolding reading masterack_in masterup_in either_by nothing
+masterack_in-Loose p b x past r e = rw (r, e) refl
+
+-- at a follower it does so where another master is followed
+pub masterack_in-Follow : (p q : PeerId) (b : Bool) (x : ℕ) (past : Past) → role past.seen ≡ Follow q → not (q.0 == p.0) ≡ b →
+    reading role_at (masterack_in p) x past ≡ (if b then reading role_at (masterup_in p) x past else [])
+unfolding reading masterack_in masterup_in nothing
+masterack_in-Follow p q b x past r e = rw (r, ← e) (by_case (q.0 == p.0)) where
+  by_case : (same : Bool) → (if same then nothing else reports_conflict q) x past ≡ (if not same then (if same then (arms_elect followed_by tells_ticket p) else reports_conflict q) x past else [])
+  by_case true = refl
+  by_case false = refl
+
+-- a correction is taken where its sender is the one that is followed
+pub from_master-Follow : (p q : PeerId) (row : Row) (b : Bool) (x : ℕ) (past : Past) → role past.seen ≡ Follow q → (q.0 == p.0) ≡ b →
+    reading role_at (from_master p row) x past ≡ (if b then row x past else [])
+unfolding reading from_master nothing
+from_master-Follow p q row b x past r e = rw (r, ← e) (by_case (q.0 == p.0)) where
+  by_case : (same : Bool) → (if same then row else nothing) x past ≡ (if same then row x past else [])
+  by_case true = refl
+  by_case false = refl

@@ -29,6 +29,9 @@ use Rattle.tsp_acks.proofs.ActingLemmas.{taken-acts}
 use Rattle.tsp_acks.proofs.StandsLemmas.{Stands_idle}
 use Rattle.tsp_clock.specs.Clocks.{ClockValue}
 use Rattle.tsp_clock.specs.ClockStands.{ClockStands}
+use Rattle.tsp_slave.specs.declared.change.Change.{Change}
+use Rattle.tsp_slave.specs.declared.change.Change.TheVariants.{By, To}
+use Rattle.tsp_slave.specs.ClockChanges.{changes_clock}
 use Rattle.tsp_slave.specs.Lasts.{LastValue}
 use Rattle.tsp_slave.specs.SlaveStands.{AlsoStands, SlaveStands}
 use Rattle.tsp_slave.proofs.BesideLemmas.{AlsoStands_by, beside_sorts}
@@ -113,7 +116,7 @@ Stands_took (Correct amount stepped shown) x past station first last clock moved
 }
 Stands_took _ x past station first last clock moved took by i s e h m = absurd (false≢true i)
 
-pub Performs_adjusts : (amount : ℤ) {x : ℕ} {port : Port} (station : Station) (first last : LastValue) {clock moved : ClockValue} (took : Option Received) (by : Correcting) {old new : List Placed} →
+Performs_adjusts : (amount : ℤ) {x : ℕ} {port : Port} (station : Station) (first last : LastValue) {clock moved : ClockValue} (took : Option Received) (by : Correcting) {old new : List Placed} →
     correcting_of (said took) ≡ Some by → last ≡ record first { tick = Some x; taken = Some by } → Performs ClockStands ClockStands (adjusts amount) x port clock moved old new →
     Performs SlaveStands SlaveStands (adjusts amount) x port (record { station = station; last = first; clock = clock; took = took }) (record { station = station; last = last; clock = moved; took = took }) old new
 unfolding adjusts
@@ -122,7 +125,7 @@ Performs_adjusts amount {x = x} station first last {clock = clock} {moved = move
   stands = λ past h. Stands_took _ x past station first last clock moved took by refl s e h (d.stands past h.clock);
 }
 
-pub Performs_sets : (value : ℤ) {x : ℕ} {port : Port} (station : Station) (first last : LastValue) {clock moved : ClockValue} (took : Option Received) (by : Correcting) {old new : List Placed} →
+Performs_sets : (value : ℤ) {x : ℕ} {port : Port} (station : Station) (first last : LastValue) {clock moved : ClockValue} (took : Option Received) (by : Correcting) {old new : List Placed} →
     correcting_of (said took) ≡ Some by → last ≡ record first { tick = Some x; taken = Some by } → Performs ClockStands ClockStands (sets value) x port clock moved old new →
     Performs SlaveStands SlaveStands (sets value) x port (record { station = station; last = first; clock = clock; took = took }) (record { station = station; last = last; clock = moved; took = took }) old new
 unfolding sets
@@ -130,3 +133,11 @@ Performs_sets value {x = x} station first last {clock = clock} {moved = moved} t
   acts = λ past h. d.acts past h.clock;
   stands = λ past h. Stands_took _ x past station first last clock moved took by refl s e h (d.stands past h.clock);
 }
+
+-- a change of either kind
+pub Performs_changes : (change : Change) {x : ℕ} {port : Port} (station : Station) (first last : LastValue) {clock moved : ClockValue} (took : Option Received) (by : Correcting) {old new : List Placed} →
+    correcting_of (said took) ≡ Some by → last ≡ record first { tick = Some x; taken = Some by } → Performs ClockStands ClockStands (changes_clock change) x port clock moved old new →
+    Performs SlaveStands SlaveStands (changes_clock change) x port (record { station = station; last = first; clock = clock; took = took }) (record { station = station; last = last; clock = moved; took = took }) old new
+unfolding changes_clock
+Performs_changes (By amount) station first last took by s e d = Performs_adjusts amount station first last took by s e d
+Performs_changes (To value) station first last took by s e d = Performs_sets value station first last took by s e d

@@ -1,12 +1,17 @@
 -- What a port's station, what it remembers and its node's clock stand for, while a step handles what it took.
-use Rattle.std.specs.Prelude.{◌≡◌, Option, Some}
+use Rattle.std.specs.Prelude.{◌≡◌, ℕ, List, Option, Some}
+use Rattle.tsp_base.specs.declared.act.Placed.{Placed}
 use Rattle.tsp_base.specs.declared.datagram.Datagram.TheVariants.{Message}
 use Rattle.tsp_base.specs.declared.datagram.Taken.TheVariants.{Good}
 use Rattle.tsp_base.specs.declared.place.PeerId.{PeerId}
 use Rattle.tsp_base.specs.declared.place.Place.TheVariants.{Peer}
+use Rattle.tsp_base.specs.declared.place.Port.{Port}
 use Rattle.tsp_base.specs.History.{Past}
 use Rattle.tsp_base.specs.Messages.{MessageValue}
-use Rattle.tsp_base.specs.PortFacts.{Received, taken}
+use Rattle.tsp_base.specs.Performs.{Performs}
+use Rattle.tsp_base.specs.PortFacts.{Received, name_in, said, taken}
+use Rattle.tsp_base.specs.Rows.{Row}
+use Rattle.tsp_base.specs.SendFacts.{Correcting, correcting_of}
 use Rattle.tsp_acks.specs.declared.station.Station.{Station}
 use Rattle.tsp_acks.specs.Stands.{Stands}
 use Rattle.tsp_clock.specs.Clocks.{ClockValue}
@@ -20,6 +25,14 @@ Took past took = taken past.seen ≡ took
 -- what was taken is this message of a peer
 abbrev pub IsMessage : PeerId → MessageValue → Option Received → Type 0
 IsMessage p m took = took ≡ Some (record { from = Peer p; taken = Good (Message m) })
+
+-- what was taken carries this name
+abbrev pub IsNamed : List ℕ → Option Received → Type 0
+IsNamed name took = name_in took ≡ name
+
+-- what was taken is this correction
+abbrev pub IsCorrection : Option Correcting → Option Received → Type 0
+IsCorrection by took = correcting_of (said took) ≡ by
 
 -- what stands beside a station: what it remembers, its node's clock, and what the step took
 pub record AlsoState : Type 0 where
@@ -50,3 +63,7 @@ pub record SlaveStands (past : Past) (state : SlaveState) : Type 0 where
   pub last : Remembers past state.last
   pub clock : ClockStands past state.clock
   pub took : Took past state.took
+
+-- a call puts a row's acts on this desk for a port that took something of this sort, and what the port has stands for the past before it and after it
+abbrev pub ActsOn : {D : Type 0} → (Option Received → Type 0) → Row → ℕ → Port → (Option Received → SlaveState) → (Option Received → SlaveState) → (D → List Placed) → D → D → Type 0
+ActsOn sort row x port before after acts old new = (took : Option Received) → sort took → Performs SlaveStands SlaveStands row x port (before took) (after took) (acts old) (acts new)

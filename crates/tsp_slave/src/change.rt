@@ -1,9 +1,12 @@
 //! What a correction asks of the clock.
-ghost use Rattle.std.specs.Prelude.{◌≡◌, ◌≤◌, ◌+ℤ◌};
-ghost use Rattle.tsp_acks.specs.Calls.{IsTick};
+ghost use Rattle.std.specs.Prelude.{◌≡◌, ◌≤◌, ◌+ℤ◌, true};
+ghost use Rattle.tsp_acks.specs.Calls.{IsTick, Performs, Uses};
 ghost use Rattle.tsp_rules.specs.Guards.{is_clock_value};
-ghost use Rattle.tsp_slave.specs.ClockChanges.{change_in, fits};
+ghost use Rattle.tsp_clock.specs.ClockStands.{ClockStands};
+ghost use Rattle.tsp_slave.specs.ClockChanges.{change_in, changes_clock, fits};
 
+use tsp_base::at::At;
+use tsp_base::desk::Desk;
 use tsp_base::kind::Kind;
 use tsp_base::message::{Body, Message};
 use tsp_clock::clock::{Clock, is_clock_value};
@@ -41,6 +44,23 @@ impl Change {
         match self {
             Change::By(amount) => clock.can_adjust(tick, amount),
             Change::To(value) => is_clock_value(value),
+        }
+    }
+
+    /// Changes the clock so. It must stay in its range.
+    pub(crate) fn make<D: Desk>(self, clock: &mut Clock, at: At, desk: &mut D)
+        requires tick { IsTick at.tick }
+        requires later { clock.old.at ≤ at.tick }
+        requires range { fits clock.old at.tick self ≡ true }
+        requires room { 1 ≤ D.spare desk.old }
+        ensures row { Performs ClockStands ClockStands (changes_clock self) at.tick at.port
+            clock.old clock.new (D.acts desk.old) (D.acts desk.new) }
+        ensures room { Uses 1 D.spare D.acts desk.old desk.new }
+        ensures clock { clock.new.at ≤ at.tick }
+    {
+        match self {
+            Change::By(amount) => clock.correct_by(at.tick, amount, at.port, desk),
+            Change::To(value) => clock.correct_to(at.tick, value, at.port, desk),
         }
     }
 }

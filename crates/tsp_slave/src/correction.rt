@@ -1,16 +1,14 @@
 //! A follower's corrections: each acts once, and its repeats are only acknowledged.
-ghost use Rattle.std.specs.Prelude.{◌≡◌, ℕ, ◌==◌, ◌&&◌, ◌≤◌, true, Option, Some};
+ghost use Rattle.std.specs.Prelude.{◌≡◌, ℕ, ◌==◌, ◌&&◌, ◌≤◌, if◌then◌else◌, [], Option, Some};
 ghost use Rattle.tsp_base.specs.declared.constants.TheConstants.{GAP};
 ghost use Rattle.tsp_base.specs.Hold.{is_past};
-ghost use Rattle.tsp_base.specs.PortFacts.{said};
-ghost use Rattle.tsp_base.specs.SendFacts.{correcting_of};
-ghost use Rattle.tsp_rules.specs.SlaveRows.{confirms, acks_repeat};
-ghost use Rattle.tsp_acks.specs.declared.station.Station.{Station};
-ghost use Rattle.tsp_acks.specs.Calls.{IsTick, Received, Performs, Uses, UsesAtMost, IsSamePort, Stands};
+ghost use Rattle.tsp_base.specs.Rows.{Row, reading};
+ghost use Rattle.tsp_rules.specs.Guards.{role_at};
+ghost use Rattle.tsp_rules.specs.SlaveRows.{confirms, acks_repeat, from_master};
+ghost use Rattle.tsp_acks.specs.Calls.{ActsBy, IsSamePort, IsTick, Past, Performs, Received, Stands, Uses, UsesAtMost};
 ghost use Rattle.tsp_clock.specs.Clocks.{ClockValue};
-ghost use Rattle.tsp_slave.specs.ClockChanges.{fits, changes_clock, correction_of};
-ghost use Rattle.tsp_slave.specs.Lasts.{correcting_in};
-ghost use Rattle.tsp_slave.specs.SlaveStands.{SlaveStands, slave};
+ghost use Rattle.tsp_slave.specs.ClockChanges.{change_in, fits, correction_of};
+ghost use Rattle.tsp_slave.specs.SlaveStands.{ActsOn, IsCorrection, SlaveStands, slave};
 
 use crate::change::Change;
 use crate::last::{Correction, Last};
@@ -18,39 +16,60 @@ use tsp_acks::station::Station;
 use tsp_base::at::At;
 use tsp_base::desk::Desk;
 use tsp_base::kind::Kind;
-use tsp_base::place::Port;
+use tsp_base::message::Message;
+use tsp_base::place::PeerId;
+use tsp_base::role::Role;
 use tsp_clock::clock::Clock;
 
-/// Takes a correction from the master that is followed. It changes the clock and is acknowledged where its
-/// number is the clock's ticket, the last correction is `GAP` ticks or more ago, and the clock stays in its
-/// range. Else it is acknowledged where it repeats the last one, and passed over where it doesn't.
-pub(crate) fn correct<D: Desk>(
+/// Takes a correction, where its sender is the master that is followed. It changes the clock and is
+/// acknowledged where its number is the clock's ticket, the last correction is `GAP` ticks or more ago, and the
+/// clock stays in its range. Else it is acknowledged where it repeats the last one, and passed over where it
+/// doesn't.
+pub(crate) fn take_correction<D: Desk>(
     station: &mut Station,
     last: &mut Last,
     clock: &mut Clock,
+    from: PeerId,
+    m: &Message,
     at: At,
-    correction: Correction,
-    change: Change,
     desk: &mut D,
 )
     requires tick { IsTick at.tick }
     requires later { clock.old.at ≤ at.tick }
     requires room { 3 ≤ D.spare desk.old }
-    ensures row { (took : Option Received)
-        → correcting_of (said took) ≡ correcting_in (Some correction)
-        → Performs SlaveStands SlaveStands (correction_of correction.from correction.number change)
+    ensures row { ActsOn (IsCorrection (Some (record { from = from; number = m.now.number })))
+        (reading role_at (from_master from (correction_of from m.now.number (change_in m.now))))
         at.tick at.port
-        (slave station.old last.old clock.old took) (slave station.new last.new clock.new took)
-        (D.acts desk.old) (D.acts desk.new) }
+        (slave station.old last.old clock.old) (slave station.new last.new clock.new)
+        D.acts desk.old desk.new }
     ensures room { UsesAtMost 3 D.spare D.acts desk.old desk.new }
     ensures port { IsSamePort station.old station.new }
     ensures clock { clock.new.at ≤ at.tick }
 {
-    if acts_now(last, clock, at.tick, correction.number, change) {
-        change_clock(last, clock, at, correction, change, desk);
+    if !follows(station, from) {
+        return;
+    }
+    let number = m.number();
+    let correction = Correction { from, number };
+    let change = Change::of(m);
+    if acts_now(last, clock, at.tick, number, change) {
+        last.took(at.tick, correction);
+        change.make(clock, at, desk);
         confirm(station, at, correction, desk);
     } else {
-        ack_repeat(station, last, correction, at.port, desk);
+        ack_repeat(station, last, at, correction, desk);
+    }
+}
+
+/// Whether the port follows this peer, so that it takes its corrections.
+#[inline(always)]
+fn follows(station: &Station, from: PeerId) -> bool
+    ensures { (row : Row) (x : ℕ) (past : Past) → Stands past station.now
+        → reading role_at (from_master from row) x past ≡ (if result then row x past else []) }
+{
+    match station.role {
+        Role::Follow(q) => q.0 == from.0,
+        _ => false,
     }
 }
 
@@ -65,40 +84,12 @@ fn acts_now(last: &Last, clock: &Clock, tick: u64, number: u16, change: Change) 
     number == clock.ticket() && last.is_rested(tick) && change.fits(clock, tick)
 }
 
-/// Changes the clock, and remembers whose correction did.
-fn change_clock<D: Desk>(
-    last: &mut Last,
-    clock: &mut Clock,
-    at: At,
-    correction: Correction,
-    change: Change,
-    desk: &mut D,
-)
-    requires tick { IsTick at.tick }
-    requires later { clock.old.at ≤ at.tick }
-    requires range { fits clock.old at.tick change ≡ true }
-    requires room { 1 ≤ D.spare desk.old }
-    ensures row { (station : Station) (took : Option Received)
-        → correcting_of (said took) ≡ correcting_in (Some correction)
-        → Performs SlaveStands SlaveStands (changes_clock change) at.tick at.port
-        (slave station last.old clock.old took) (slave station last.new clock.new took)
-        (D.acts desk.old) (D.acts desk.new) }
-    ensures room { Uses 1 D.spare D.acts desk.old desk.new }
-    ensures clock { clock.new.at ≤ at.tick }
-{
-    last.took(at.tick, correction);
-    match change {
-        Change::By(amount) => clock.correct_by(at.tick, amount, at.port, desk),
-        Change::To(value) => clock.correct_to(at.tick, value, at.port, desk),
-    }
-}
-
 /// After a correction the master counts as heard, so that the election delay begins anew, and gets an ACK.
 fn confirm<D: Desk>(station: &mut Station, at: At, correction: Correction, desk: &mut D)
     requires tick { IsTick at.tick }
     requires room { 2 ≤ D.spare desk.old }
-    ensures row { Performs Stands Stands (confirms correction.from correction.number) at.tick
-        at.port station.old station.new (D.acts desk.old) (D.acts desk.new) }
+    ensures row { ActsBy (confirms correction.from correction.number) at.tick at.port station.old
+        station.new D.acts desk.old desk.new }
     ensures room { Uses 2 D.spare D.acts desk.old desk.new }
     ensures port { IsSamePort station.old station.new }
 {
@@ -107,21 +98,16 @@ fn confirm<D: Desk>(station: &mut Station, at: At, correction: Correction, desk:
 }
 
 /// Acknowledges a repeat of the last correction again, and passes over any other.
-fn ack_repeat<D: Desk>(
-    station: &Station,
-    last: &Last,
-    correction: Correction,
-    port: Port,
-    desk: &mut D,
-)
+fn ack_repeat<D: Desk>(station: &Station, last: &Last, at: At, correction: Correction, desk: &mut D)
     requires room { 1 ≤ D.spare desk.old }
-    ensures row { (x : ℕ) (clock : ClockValue) (took : Option Received)
-        → Performs SlaveStands SlaveStands (acks_repeat correction.from correction.number) x port
+    ensures row { (clock : ClockValue) (took : Option Received)
+        → Performs SlaveStands SlaveStands (acks_repeat correction.from correction.number)
+        at.tick at.port
         (slave station.now last.now clock took) (slave station.now last.now clock took)
         (D.acts desk.old) (D.acts desk.new) }
     ensures room { UsesAtMost 1 D.spare D.acts desk.old desk.new }
 {
     if last.is_repeat(correction) {
-        station.post(correction.from, Kind::Ack, correction.number, port, desk);
+        station.post(correction.from, Kind::Ack, correction.number, at.port, desk);
     }
 }

@@ -5,12 +5,11 @@ ghost use Rattle.tsp_base.specs.declared.place.PeerId.{PeerId};
 ghost use Rattle.tsp_base.specs.declared.role.Role.TheVariants.{Follow};
 ghost use Rattle.tsp_base.specs.Alarms.{with_deadline, none_armed};
 ghost use Rattle.tsp_acks.specs.Calls.{Contains, IsTick, Received, Performs, Uses};
-ghost use Rattle.tsp_base.specs.PortFacts.{name_in};
 ghost use Rattle.tsp_rules.specs.CommonRows.{follow_row, tells_ticket};
 ghost use Rattle.tsp_rules.specs.Guards.{delay};
 ghost use Rattle.tsp_sends.specs.Slots.{sending_to};
 ghost use Rattle.tsp_slave.specs.Lasts.{LastValue};
-ghost use Rattle.tsp_slave.specs.SlaveStands.{SlaveStands, slave};
+ghost use Rattle.tsp_slave.specs.SlaveStands.{ActsOn, IsNamed, SlaveStands, slave};
 
 use crate::last::Last;
 use tsp_acks::station::Station;
@@ -37,10 +36,9 @@ pub fn follow<D: Desk>(
     requires tick { IsTick tick }
     requires room { 3 ≤ D.spare desk.old }
     requires peer { Contains station.old.peers p }
-    ensures row { (took : Option Received) → name_in took ≡ name.now
-        → Performs SlaveStands SlaveStands (follow_row p) tick port
-        (slave station.old last.old clock.now took) (slave station.new last.new clock.now took)
-        (D.acts desk.old) (D.acts desk.new) }
+    ensures row { ActsOn (IsNamed name.now) (follow_row p) tick port
+        (slave station.old last.old clock.now) (slave station.new last.new clock.now)
+        D.acts desk.old desk.new }
     ensures me { station.new.me ≡ station.old.me }
     ensures role { station.new.role ≡ Follow p }
     ensures hold { station.new.hold ≡ station.old.hold }

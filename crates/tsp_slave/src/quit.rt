@@ -1,11 +1,8 @@
 //! What a port does that a peer asks to stop leading, whatever its role.
-ghost use Rattle.std.specs.Prelude.{◌≡◌, ◌≤◌, Option};
-ghost use Rattle.tsp_base.specs.PortFacts.{name_in};
-ghost use Rattle.tsp_base.specs.Rows.{reading};
-ghost use Rattle.tsp_rules.specs.CommonRows.{follows_unless, quits};
-ghost use Rattle.tsp_rules.specs.Guards.{role_at};
-ghost use Rattle.tsp_acks.specs.Calls.{Contains, IsTick, Received, Performs, UsesAtMost, IsSamePort};
-ghost use Rattle.tsp_slave.specs.SlaveStands.{SlaveStands, slave};
+ghost use Rattle.std.specs.Prelude.{◌≤◌};
+ghost use Rattle.tsp_acks.specs.Calls.{Contains, IsTick, UsesAtMost, IsSamePort};
+ghost use Rattle.tsp_rules.specs.CommonRows.{quits};
+ghost use Rattle.tsp_slave.specs.SlaveStands.{ActsOn, IsNamed, slave};
 
 use crate::follow::follow;
 use crate::last::Last;
@@ -14,7 +11,6 @@ use tsp_base::at::At;
 use tsp_base::desk::Desk;
 use tsp_base::kind::Kind;
 use tsp_base::message::Message;
-use tsp_base::name::Name;
 use tsp_base::place::PeerId;
 use tsp_base::role::Role;
 use tsp_clock::clock::Clock;
@@ -34,40 +30,16 @@ pub fn take_quit<D: Desk>(
     requires tick { IsTick at.tick }
     requires room { 5 ≤ D.spare desk.old }
     requires peer { Contains station.old.peers from }
-    ensures row { (took : Option Received) → name_in took ≡ m.now.name
-        → Performs SlaveStands SlaveStands (quits from m.now.number) at.tick at.port
-        (slave station.old last.old clock.now took) (slave station.new last.new clock.now took)
-        (D.acts desk.old) (D.acts desk.new) }
+    ensures row { ActsOn (IsNamed m.now.name) (quits from m.now.number) at.tick at.port
+        (slave station.old last.old clock.now) (slave station.new last.new clock.now)
+        D.acts desk.old desk.new }
     ensures room { UsesAtMost 5 D.spare D.acts desk.old desk.new }
     ensures port { IsSamePort station.old station.new }
 {
     station.quit(from, at.tick, at.port, desk);
     station.post(from, Kind::Ack, m.number(), at.port, desk);
-    follow_unless_following(station, last, clock, at, from, m.name(), desk);
-}
-
-/// Follows a peer, unless the port follows a master already.
-fn follow_unless_following<D: Desk>(
-    station: &mut Station,
-    last: &mut Last,
-    clock: &Clock,
-    at: At,
-    p: PeerId,
-    name: &Name,
-    desk: &mut D,
-)
-    requires tick { IsTick at.tick }
-    requires room { 3 ≤ D.spare desk.old }
-    requires peer { Contains station.old.peers p }
-    ensures row { (took : Option Received) → name_in took ≡ name.now
-        → Performs SlaveStands SlaveStands (reading role_at (follows_unless p)) at.tick at.port
-        (slave station.old last.old clock.now took) (slave station.new last.new clock.now took)
-        (D.acts desk.old) (D.acts desk.new) }
-    ensures room { UsesAtMost 3 D.spare D.acts desk.old desk.new }
-    ensures port { IsSamePort station.old station.new }
-{
     match station.role {
         Role::Follow(_) => {}
-        _ => follow(station, last, clock, at.tick, p, name, at.port, desk),
+        _ => follow(station, last, clock, at.tick, from, m.name(), at.port, desk),
     }
 }

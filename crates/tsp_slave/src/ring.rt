@@ -2,8 +2,8 @@
 ghost use Rattle.std.specs.Prelude.{◌≡◌, ℕ, ◌+◌, ◌≤◌, false, length};
 ghost use Rattle.tsp_base.specs.declared.alarm.Alarm.TheVariants.{Elect};
 ghost use Rattle.tsp_rules.specs.CommonRows.{searches};
-ghost use Rattle.tsp_rules.specs.SlaveRows.{quiet_rings, rings_or_late, search_rings, elect_rings, loosens};
-ghost use Rattle.tsp_acks.specs.Calls.{IsTick, Performs, Uses, UsesAtMost, IsSamePort, Stands};
+ghost use Rattle.tsp_rules.specs.SlaveRows.{rings_or_late, elect_rings, loosens};
+ghost use Rattle.tsp_acks.specs.Calls.{IsTick, ActsBy, Uses, UsesAtMost, IsSamePort};
 ghost use Rattle.tsp_slave.specs.SlaveAlarms.{slave_rings, is_to_be_candidate};
 
 use tsp_acks::station::Station;
@@ -26,58 +26,40 @@ pub fn becomes_candidate(station: &Station, tick: u64) -> bool
 /// Handles one alarm that is due: Quiet, the quiet time ends; Search, a search for a master ends; Elect, no
 /// master was heard for the election delay. Any other alarm does nothing here. An Elect for which
 /// [`becomes_candidate`] is true isn't handed to it. At most three acts, and one more for each peer.
+///
+/// The quiet time ends however late: the port becomes Loose and searches for a master. Where no master
+/// answered a search, it waits for one election delay.
 pub fn slave_ring<D: Desk>(station: &mut Station, alarm: Alarm, tick: u64, port: Port, desk: &mut D)
     requires tick { IsTick tick }
-    requires stays { alarm ≡ Elect → is_to_be_candidate tick station.old ≡ false }
     requires room { length station.old.peers + 3 ≤ D.spare desk.old }
-    ensures row { Performs Stands Stands (slave_rings alarm) tick port station.old station.new
-        (D.acts desk.old) (D.acts desk.new) }
+    requires stays { alarm ≡ Elect → is_to_be_candidate tick station.old ≡ false }
+    ensures row { ActsBy (slave_rings alarm) tick port station.old station.new
+        D.acts desk.old desk.new }
     ensures room { UsesAtMost (length station.old.peers + 3) D.spare D.acts desk.old desk.new }
     ensures port { IsSamePort station.old station.new }
 {
     match alarm {
-        Alarm::Quiet => end_quiet(station, tick, port, desk),
-        Alarm::Search => end_search(station, tick, port, desk),
+        Alarm::Quiet => {
+            station.ring(Alarm::Quiet, port, desk);
+            station.become_role(Role::Loose, port, desk);
+            search(station, tick, port, desk);
+        }
+        Alarm::Search => {
+            ring_or_late(station, Alarm::Search, tick, port, desk);
+            station.arm_elect(tick, port, desk);
+        }
         Alarm::Elect => miss_master(station, tick, port, desk),
         _ => {}
     }
-}
-
-/// The quiet time ends, however late: the port becomes Loose and searches for a master.
-fn end_quiet<D: Desk>(station: &mut Station, tick: u64, port: Port, desk: &mut D)
-    requires tick { IsTick tick }
-    requires room { length station.old.peers + 3 ≤ D.spare desk.old }
-    ensures row { Performs Stands Stands quiet_rings tick port station.old station.new
-        (D.acts desk.old) (D.acts desk.new) }
-    ensures room { UsesAtMost (length station.old.peers + 3) D.spare D.acts desk.old desk.new }
-    ensures port { IsSamePort station.old station.new }
-{
-    station.ring(Alarm::Quiet, port, desk);
-    station.become_role(Role::Loose, port, desk);
-    search(station, tick, port, desk);
-}
-
-/// No master answered a search: the port waits for one election delay.
-fn end_search<D: Desk>(station: &mut Station, tick: u64, port: Port, desk: &mut D)
-    requires tick { IsTick tick }
-    requires room { 2 ≤ D.spare desk.old }
-    ensures row { Performs Stands Stands search_rings tick port station.old station.new
-        (D.acts desk.old) (D.acts desk.new) }
-    ensures room { Uses 2 D.spare D.acts desk.old desk.new }
-    ensures port { IsSamePort station.old station.new }
-{
-    ring_or_late(station, Alarm::Search, tick, port, desk);
-    station.arm_elect(tick, port, desk);
 }
 
 /// No master was heard for the election delay, and the node doesn't stand for election. In time it gives up
 /// its master and searches for another one; too late it waits for one delay more.
 fn miss_master<D: Desk>(station: &mut Station, tick: u64, port: Port, desk: &mut D)
     requires tick { IsTick tick }
-    requires stays { is_to_be_candidate tick station.old ≡ false }
     requires room { length station.old.peers + 3 ≤ D.spare desk.old }
-    ensures row { Performs Stands Stands elect_rings tick port station.old station.new
-        (D.acts desk.old) (D.acts desk.new) }
+    requires stays { is_to_be_candidate tick station.old ≡ false }
+    ensures row { ActsBy elect_rings tick port station.old station.new D.acts desk.old desk.new }
     ensures room { UsesAtMost (length station.old.peers + 3) D.spare D.acts desk.old desk.new }
     ensures port { IsSamePort station.old station.new }
 {
@@ -94,8 +76,8 @@ fn miss_master<D: Desk>(station: &mut Station, tick: u64, port: Port, desk: &mut
 /// Notes that an alarm rings, or that it is late: more than `SLACK` ticks after its deadline.
 fn ring_or_late<D: Desk>(station: &mut Station, alarm: Alarm, tick: u64, port: Port, desk: &mut D)
     requires room { 1 ≤ D.spare desk.old }
-    ensures row { Performs Stands Stands (rings_or_late alarm) tick port station.old station.new
-        (D.acts desk.old) (D.acts desk.new) }
+    ensures row { ActsBy (rings_or_late alarm) tick port station.old station.new
+        D.acts desk.old desk.new }
     ensures room { Uses 1 D.spare D.acts desk.old desk.new }
     ensures port { IsSamePort station.old station.new }
 {
@@ -109,8 +91,8 @@ fn ring_or_late<D: Desk>(station: &mut Station, alarm: Alarm, tick: u64, port: P
 /// Gives up the master that is followed, if one is.
 fn loosen<D: Desk>(station: &mut Station, port: Port, desk: &mut D)
     requires room { 1 ≤ D.spare desk.old }
-    ensures row { (x : ℕ) → Performs Stands Stands loosens x port station.old station.new
-        (D.acts desk.old) (D.acts desk.new) }
+    ensures row { (x : ℕ) → ActsBy loosens x port station.old station.new
+        D.acts desk.old desk.new }
     ensures room { UsesAtMost 1 D.spare D.acts desk.old desk.new }
     ensures port { IsSamePort station.old station.new }
 {
@@ -124,8 +106,7 @@ fn loosen<D: Desk>(station: &mut Station, port: Port, desk: &mut D)
 fn search<D: Desk>(station: &mut Station, tick: u64, port: Port, desk: &mut D)
     requires tick { IsTick tick }
     requires room { length station.old.peers + 1 ≤ D.spare desk.old }
-    ensures row { Performs Stands Stands searches tick port station.old station.new
-        (D.acts desk.old) (D.acts desk.new) }
+    ensures row { ActsBy searches tick port station.old station.new D.acts desk.old desk.new }
     ensures room { UsesAtMost (length station.old.peers + 1) D.spare D.acts desk.old desk.new }
     ensures port { IsSamePort station.old station.new }
 {

@@ -1,20 +1,16 @@
 //! What a port that is Loose or follows does with a message of a peer.
-ghost use Rattle.std.specs.Prelude.{◌≡◌, ◌≤◌, Option, Some};
-ghost use Rattle.tsp_base.specs.PortFacts.{said};
+ghost use Rattle.std.specs.Prelude.{◌≡◌, ℕ, ◌≤◌, if◌then◌else◌, []};
 ghost use Rattle.tsp_base.specs.Rows.{reading};
-ghost use Rattle.tsp_base.specs.SendFacts.{correcting_of};
-ghost use Rattle.tsp_rules.specs.SlaveRows.{from_master, masterack_in, masterup_in, slave_takes};
+ghost use Rattle.tsp_rules.specs.SlaveRows.{masterack_in, masterup_in, slave_takes};
 ghost use Rattle.tsp_rules.specs.Guards.{role_at};
-ghost use Rattle.tsp_acks.specs.Calls.{Contains, IsTick, Received, Performs, UsesAtMost, IsSamePort};
-ghost use Rattle.tsp_slave.specs.ClockChanges.{change_in, correction_of};
-ghost use Rattle.tsp_slave.specs.SlaveStands.{IsMessage, SlaveStands, slave};
+ghost use Rattle.tsp_acks.specs.Calls.{Contains, IsTick, Past, Stands, UsesAtMost, IsSamePort};
+ghost use Rattle.tsp_slave.specs.SlaveStands.{ActsOn, IsMessage, slave};
 
-use crate::change::Change;
 use crate::conflict::report_conflict;
-use crate::correction::correct;
-use crate::election::answer_candidate;
+use crate::correction::take_correction;
+use crate::election::vote;
 use crate::follow::{follow, tell_ticket};
-use crate::last::{Correction, Last};
+use crate::last::Last;
 use crate::quit::take_quit;
 use tsp_acks::station::Station;
 use tsp_base::alarm::Alarm;
@@ -49,10 +45,9 @@ pub fn slave_take<D: Desk>(
     requires later { clock.old.at ≤ tick }
     requires room { 5 ≤ D.spare desk.old }
     requires peer { Contains station.old.peers from }
-    ensures row { (took : Option Received) → IsMessage from m.now took
-        → Performs SlaveStands SlaveStands (slave_takes from m.now) tick port
-        (slave station.old last.old clock.old took) (slave station.new last.new clock.new took)
-        (D.acts desk.old) (D.acts desk.new) }
+    ensures row { ActsOn (IsMessage from m.now) (slave_takes from m.now) tick port
+        (slave station.old last.old clock.old) (slave station.new last.new clock.new)
+        D.acts desk.old desk.new }
     ensures room { UsesAtMost 5 D.spare D.acts desk.old desk.new }
     ensures port { IsSamePort station.old station.new }
     ensures clock { clock.new.at ≤ tick }
@@ -60,10 +55,14 @@ pub fn slave_take<D: Desk>(
     let number = m.number();
     let at = At { tick, port };
     match m.kind() {
-        Kind::MasterUp => hear_master(station, last, clock, at, from, m, desk),
-        Kind::MasterAck => find_master(station, last, clock, at, from, m, desk),
-        Kind::Election => answer_candidate(station, tick, from, number, port, desk),
-        Kind::AdjTime | Kind::SetTime => take_correction(station, last, clock, at, from, m, desk),
+        Kind::MasterUp => hear_master(station, last, clock, from, m, at, desk),
+        Kind::MasterAck => {
+            if heeds_masterack(station, from) {
+                hear_master(station, last, clock, from, m, at, desk);
+            }
+        }
+        Kind::Election => vote(station, at, from, number, desk),
+        Kind::AdjTime | Kind::SetTime => take_correction(station, last, clock, from, m, at, desk),
         Kind::Quit => take_quit(station, last, clock, at, from, m, desk),
         Kind::Ack => {
             let _ = station.acknowledge(from, number, port, desk);
@@ -78,18 +77,18 @@ fn hear_master<D: Desk>(
     station: &mut Station,
     last: &mut Last,
     clock: &Clock,
-    at: At,
     from: PeerId,
     m: &Message,
+    at: At,
     desk: &mut D,
 )
+    requires peer { Contains station.old.peers from }
     requires tick { IsTick at.tick }
     requires room { 3 ≤ D.spare desk.old }
-    requires peer { Contains station.old.peers from }
-    ensures row { (took : Option Received) → IsMessage from m.now took
-        → Performs SlaveStands SlaveStands (reading role_at (masterup_in from)) at.tick at.port
-        (slave station.old last.old clock.now took) (slave station.new last.new clock.now took)
-        (D.acts desk.old) (D.acts desk.new) }
+    ensures row { ActsOn (IsMessage from m.now) (reading role_at (masterup_in from))
+        at.tick at.port
+        (slave station.old last.old clock.now) (slave station.new last.new clock.now)
+        D.acts desk.old desk.new }
     ensures room { UsesAtMost 3 D.spare D.acts desk.old desk.new }
     ensures port { IsSamePort station.old station.new }
 {
@@ -107,73 +106,17 @@ fn hear_master<D: Desk>(
     }
 }
 
-/// A master answers: where the port searches it follows it, and a follower tells its master of any other one.
-fn find_master<D: Desk>(
-    station: &mut Station,
-    last: &mut Last,
-    clock: &Clock,
-    at: At,
-    from: PeerId,
-    m: &Message,
-    desk: &mut D,
-)
-    requires tick { IsTick at.tick }
-    requires room { 3 ≤ D.spare desk.old }
-    requires peer { Contains station.old.peers from }
-    ensures row { (took : Option Received) → IsMessage from m.now took
-        → Performs SlaveStands SlaveStands (reading role_at (masterack_in from)) at.tick at.port
-        (slave station.old last.old clock.now took) (slave station.new last.new clock.now took)
-        (D.acts desk.old) (D.acts desk.new) }
-    ensures room { UsesAtMost 3 D.spare D.acts desk.old desk.new }
-    ensures port { IsSamePort station.old station.new }
+/// Whether a MASTERACK tells the port as much as a MASTERUP does: where the port searches, or follows another
+/// master than this one. Else it tells nothing.
+#[inline(always)]
+fn heeds_masterack(station: &Station, from: PeerId) -> bool
+    ensures { (x : ℕ) (past : Past) → Stands past station.now
+        → reading role_at (masterack_in from) x past
+        ≡ (if result then reading role_at (masterup_in from) x past else []) }
 {
     match station.role {
-        Role::Loose => {
-            if station.alarms.at(Alarm::Search).is_some() {
-                follow(station, last, clock, at.tick, from, m.name(), at.port, desk);
-            }
-        }
-        Role::Follow(q) => {
-            if q.0 != from.0 {
-                report_conflict(station, q, at.tick, at.port, desk);
-            }
-        }
-        _ => {}
-    }
-}
-
-/// Takes a correction, where its sender is the master that is followed.
-fn take_correction<D: Desk>(
-    station: &mut Station,
-    last: &mut Last,
-    clock: &mut Clock,
-    at: At,
-    from: PeerId,
-    m: &Message,
-    desk: &mut D,
-)
-    requires tick { IsTick at.tick }
-    requires later { clock.old.at ≤ at.tick }
-    requires room { 3 ≤ D.spare desk.old }
-    ensures row { (took : Option Received)
-        → correcting_of (said took) ≡ Some (record { from = from; number = m.now.number })
-        → Performs SlaveStands SlaveStands
-        (reading role_at (from_master from (correction_of from m.now.number (change_in m.now))))
-        at.tick at.port
-        (slave station.old last.old clock.old took) (slave station.new last.new clock.new took)
-        (D.acts desk.old) (D.acts desk.new) }
-    ensures room { UsesAtMost 3 D.spare D.acts desk.old desk.new }
-    ensures port { IsSamePort station.old station.new }
-    ensures clock { clock.new.at ≤ at.tick }
-{
-    match station.role {
-        Role::Follow(q) => {
-            if from.0 == q.0 {
-                let number = m.number();
-                let correction = Correction { from, number };
-                correct(station, last, clock, at, correction, Change::of(m), desk);
-            }
-        }
-        _ => {}
+        Role::Loose => station.alarms.at(Alarm::Search).is_some(),
+        Role::Follow(q) => q.0 != from.0,
+        _ => false,
     }
 }

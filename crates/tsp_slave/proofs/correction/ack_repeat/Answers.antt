@@ -11,13 +11,13 @@ use Rattle.tsp_slave.proofs.correction.ack_repeat.Goals as goal
 
 pub returns-then-is_repeat-clause-row : goal.returns-then-is_repeat-clause-row
 unfolding acks_repeat
-returns-then-is_repeat-clause-row g c x clock took =
+returns-then-is_repeat-clause-row g c clock took =
     Performs_then_part (is_repeated c.args.correction.from c.args.correction.number) nothing (λ past h. let t = h.last.taken_is in cc)
-    (Performs_station (AlsoStands_posts c.args.correction.from Ack c.args.correction.number refl) (c.post.ensures.row x))
+    (Performs_station (AlsoStands_posts c.args.correction.from Ack c.args.correction.number refl) (c.post.ensures.row c.args.at.tick))
 
 pub returns-else-is_repeat-clause-row : goal.returns-else-is_repeat-clause-row
 unfolding acks_repeat
-returns-else-is_repeat-clause-row g c x clock took =
+returns-else-is_repeat-clause-row g c clock took =
     Performs_else_part (is_repeated c.args.correction.from c.args.correction.number) (posts c.args.correction.from Ack c.args.correction.number) (λ past h. let t = h.last.taken_is in cc) Performs_nothing
 
 pub returns-then-is_repeat-clause-room : goal.returns-then-is_repeat-clause-room

@@ -1,11 +1,12 @@
 -- Each kind has its row.
-use Rattle.std.proofs.Common.{◌≡◌, ◌⊎◌, if◌then◌else◌, Some, None, sym, ◌∙◌, ap, refl}
+use Rattle.std.proofs.Common.{◌≡◌, ◌⊎◌, if◌then◌else◌, [], Some, None, sym, ◌∙◌, ap, refl}
 use Rattle.tsp_base.specs.declared.kind.Kind.TheVariants.{AdjTime, Ack, MasterAck, SetTime, MasterUp, Election, Quit}
 use Rattle.tsp_base.specs.PortFacts.{said, name_in}
 use Rattle.tsp_base.specs.SendFacts.{correcting_of}
-use Rattle.tsp_base.specs.Rows.{nothing}
-use Rattle.tsp_base.proofs.PerformsLemmas.{Performs_nothing}
-use Rattle.tsp_rules.specs.SlaveRows.{slave_takes, slave_takes_kind}
+use Rattle.tsp_base.specs.Rows.{nothing, reading}
+use Rattle.tsp_base.proofs.PerformsLemmas.{Performs_nothing, Performs_same}
+use Rattle.tsp_rules.specs.SlaveRows.{masterack_in, masterup_in, slave_takes, slave_takes_kind}
+use Rattle.tsp_rules.specs.Guards.{role_at}
 use Rattle.tsp_rules.proofs.RowsOther.{slave_takes_kind-other}
 use Rattle.tsp_slave.proofs.BesideLemmas.{Performs_station}
 use Rattle.tsp_slave.proofs.RowCases.{is_correction-either, slave_takes_kind-correction}
@@ -19,11 +20,21 @@ returns-in-MasterUp-clause-row g c took e =
     let k : c.args.m.now.kind ≡ MasterUp = sym c.kind.ensures ∙ c.in-MasterUp.is in
     rw k (c.hear_master.ensures.row took e)
 
-pub returns-in-MasterAck-clause-row : goal.returns-in-MasterAck-clause-row
+pub returns-then-heeds_masterack-clause-row : goal.returns-then-heeds_masterack-clause-row
 unfolding slave_takes slave_takes_kind
-returns-in-MasterAck-clause-row g c took e =
+returns-then-heeds_masterack-clause-row g c took e =
     let k : c.args.m.now.kind ≡ MasterAck = sym c.kind.ensures ∙ c.in-MasterAck.is in
-    rw k (c.find_master.ensures.row took e)
+    let row = reading role_at (masterup_in c.args.from) in
+    rw k (Performs_same (reading role_at (masterack_in c.args.from))
+    (λ past h. sym (c.heeds_masterack.ensures c.args.tick past h.station ∙ ap (λ b. if b then row c.args.tick past else []) c.if-heeds_masterack.true)) (c.hear_master-then-heeds_masterack.ensures.row took e))
+
+pub returns-else-heeds_masterack-clause-row : goal.returns-else-heeds_masterack-clause-row
+unfolding slave_takes slave_takes_kind nothing
+returns-else-heeds_masterack-clause-row g c took e =
+    let k : c.args.m.now.kind ≡ MasterAck = sym c.kind.ensures ∙ c.in-MasterAck.is in
+    let row = reading role_at (masterup_in c.args.from) in
+    rw k (Performs_same (reading role_at (masterack_in c.args.from))
+    (λ past h. sym (c.heeds_masterack.ensures c.args.tick past h.station ∙ ap (λ b. if b then row c.args.tick past else []) c.if-heeds_masterack.false)) Performs_nothing)
 
 pub returns-in-Election-clause-row : goal.returns-in-Election-clause-row
 unfolding slave_takes slave_takes_kind
@@ -31,7 +42,7 @@ returns-in-Election-clause-row g c took e =
     let m = c.args.m.now in
     let k : m.kind ≡ Election = sym c.kind.ensures ∙ c.in-Election.is in
     let n : c.number-number.result ≡ m.number = c.number-number.ensures in
-    let d = c.answer_candidate.ensures.row in
+    let d = c.vote.ensures.row in
     rw k (Performs_station (AlsoStands_election_of c.args.from m.number) (rw n at d))
 
 pub returns-in-Quit-clause-row : goal.returns-in-Quit-clause-row
@@ -71,11 +82,11 @@ returns-in_default-clause-row g c took e =
 pub returns-in-MasterUp-clause-room : goal.returns-in-MasterUp-clause-room
 returns-in-MasterUp-clause-room g c = more_room 3 2 c.hear_master.ensures.room
 
-pub returns-in-MasterAck-clause-room : goal.returns-in-MasterAck-clause-room
-returns-in-MasterAck-clause-room g c = more_room 3 2 c.find_master.ensures.room
+pub returns-then-heeds_masterack-clause-room : goal.returns-then-heeds_masterack-clause-room
+returns-then-heeds_masterack-clause-room g c = more_room 3 2 c.hear_master-then-heeds_masterack.ensures.room
 
 pub returns-in-Election-clause-room : goal.returns-in-Election-clause-room
-returns-in-Election-clause-room g c = more_room 3 2 c.answer_candidate.ensures.room
+returns-in-Election-clause-room g c = more_room 3 2 c.vote.ensures.room
 
 pub returns-in-AdjTime-clause-room : goal.returns-in-AdjTime-clause-room
 returns-in-AdjTime-clause-room g c = more_room 3 2 c.take_correction.ensures.room

@@ -1,21 +1,24 @@
 -- An end is told by an Acked.
-use Rattle.std.specs.Prelude.{None, refl}
+use Rattle.std.specs.Prelude.{◌≡◌, true, None, refl}
+use Rattle.std.proofs.Common.{sym, ◌∙◌, ap, true≢false}
 use Rattle.std.proofs.lemmas.Bool.{MatchBool-at_true}
-use Rattle.tsp_base.proofs.FrameLemmas.{PutsExactly_none, PutsExactly_put}
-use Rattle.tsp_sends.specs.Slots.{SetsOnly}
-use Rattle.tsp_acks.proofs.EndingLemmas.{Performs_acked}
+use Rattle.tsp_base.proofs.FrameLemmas.{PutsExactly_put}
+use Rattle.tsp_sends.specs.Slots.{SetsOnly, kind_of, sending_to}
+use Rattle.tsp_acks.specs.Openings.{answered_by, is_of}
+use Rattle.tsp_acks.proofs.EndingLemmas.{Performs_acked, has_open-of}
 use Rattle.tsp_acks.proofs.station.Station.end.Goals as goal
 
-pub returns-then-ends-clause-row : goal.returns-then-ends-clause-row
-returns-then-ends-clause-row g c e x =
-    let only : SetsOnly c.args.p None c.args.self.now.sends c.ack-ends.new.self = MatchBool-at_true _ _ e c.ack-ends.ensures.sends in
-    Performs_acked c.args.p (record { me = refl; role = refl; hold = refl; alarms = refl; backers = refl; peers = refl }) refl only c.put.ensures.acts
-
-pub returns-then-not-fits-clause-room : goal.returns-then-not-fits-clause-room
-returns-then-not-fits-clause-room g c = PutsExactly_none
-
-pub returns-then-ends-clause-room : goal.returns-then-ends-clause-room
-returns-then-ends-clause-room g c = rw c.if-ends.true (PutsExactly_put _ c.put.ensures.spare c.put.ensures.acts)
-
-pub returns-else-ends-clause-room : goal.returns-else-ends-clause-room
-returns-else-ends-clause-room g c = rw c.if-ends.false PutsExactly_none
+pub returns-then-ended : goal.returns-then-ended
+returns-then-ended g c =
+    let fits : is_of (answered_by c.args.answer) (kind_of (sending_to c.args.self.now.sends c.args.p)) ≡ true =
+    ap (is_of (answered_by c.args.answer)) (sym c.kind.ensures) ∙ (sym c.ends.ensures ∙ c.if-not-ends.false) in
+    let only : SetsOnly c.args.p None c.args.self.now.sends c.ack-ended.new.self = MatchBool-at_true _ _ c.if-ended.true c.ack-ended.ensures.sends in
+    record {
+      test = λ x past s. has_open-of c.args.answer c.args.p c.args.number x past c.args.self.now fits s ∙ sym c.ack-ended.ensures.ends;
+      row = λ e x. Performs_acked c.args.p (record { me = refl; role = refl; hold = refl; alarms = refl; backers = refl; peers = refl }) refl only c.put.ensures.acts;
+      sends = rw c.if-ended.true only;
+      same = λ e. absurd (true≢false (sym c.if-ended.true ∙ e));
+      rest = record { me = refl; role = refl; hold = refl; alarms = refl; backers = refl; peers = refl };
+      begun = refl;
+      room = rw c.if-ended.true (PutsExactly_put _ c.put.ensures.spare c.put.ensures.acts);
+    }

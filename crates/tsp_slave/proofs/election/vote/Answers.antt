@@ -7,19 +7,19 @@ use Rattle.tsp_rules.specs.CommonRows.{arms_elect}
 use Rattle.tsp_rules.specs.SlaveRows.{election_of}
 use Rattle.tsp_rules.specs.Guards.{may_back_at}
 use Rattle.tsp_slave.proofs.RoomLemmas.{at_most, both}
-use Rattle.tsp_slave.proofs.election.answer_candidate.Goals as goal
+use Rattle.tsp_slave.proofs.election.vote.Goals as goal
 
 pub returns-then-may_back-clause-row : goal.returns-then-may_back-clause-row
 unfolding election_of
 returns-then-may_back-clause-row g c =
     Performs_then_part (may_back_at c.args.from) (posts c.args.from Refuse c.args.number) (λ past s. let h = s.hold in cc)
-    (Performs_then c.back.ensures.row (Performs_then c.arm_elect.ensures.row (c.post.ensures.row c.args.tick)))
+    (Performs_then c.back.ensures.row (Performs_then c.arm_elect.ensures.row (c.post.ensures.row c.args.at.tick)))
 
 pub returns-else-may_back-clause-row : goal.returns-else-may_back-clause-row
 unfolding election_of
 returns-else-may_back-clause-row g c =
     Performs_else_part (may_back_at c.args.from) (puts (Back c.args.from) followed_by (arms_elect followed_by posts c.args.from Accept c.args.number))
-    (λ past s. let h = s.hold in cc) (c.post-else-may_back.ensures.row c.args.tick)
+    (λ past s. let h = s.hold in cc) (c.post-else-may_back.ensures.row c.args.at.tick)
 
 pub returns-then-may_back-clause-room : goal.returns-then-may_back-clause-room
 returns-then-may_back-clause-room g c = at_most 3 0 (both 2 1 (both 1 1 c.back.ensures.room c.arm_elect.ensures.room) c.post.ensures.room)
