@@ -70,15 +70,7 @@ impl Master {
         ensures room { UsesAtMost 1 D.spare D.acts desk.old desk.new }
         ensures peers { peers_of self.new.slaves ≡ peers_of self.old.slaves }
     {
-        let answer = self.rounds.reply(
-            peer,
-            reply.word(),
-            reply.counter(),
-            reply.ticket(),
-            reply.reading(),
-            target,
-        );
-        match answer {
+        match self.rounds.reply(peer, reply, target) {
             Reply::NotStarted => {}
             Reply::Sample(sample) => desk.put(
                 port,

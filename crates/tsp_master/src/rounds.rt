@@ -3,7 +3,7 @@ ghost use Rattle.std.specs.Prelude.{◌≡◌, ◌≢◌, ℕ, ◌+◌, ◌*◌,
 ghost use Rattle.std.specs.List.{Contains};
 ghost use Rattle.std.specs.Option.{option_map};
 ghost use Rattle.tsp_base.specs.declared.place.PeerId.{PeerId};
-ghost use Rattle.tsp_measure.specs.Measures.{IsReading, IsStamp, Replies, begun, best_of};
+ghost use Rattle.tsp_measure.specs.Measures.{IsReading, Replies, begun, best_of};
 ghost use Rattle.tsp_measure.specs.Peers.{with_peer};
 ghost use Rattle.tsp_acks.specs.Peers.{IsPeers};
 ghost use Rattle.tsp_master.specs.Rounds.{RoundsValue, measured_with, IsCounted, IsNothing, AreApart, Starts};
@@ -11,6 +11,7 @@ ghost use Rattle.tsp_master.specs.Rounds.{RoundsValue, measured_with, IsCounted,
 use std::alloc::{AllocError, Global};
 use std::marker::Model;
 use tsp_base::place::PeerId;
+use tsp_base::stamp::StampReply;
 use tsp_measure::{Exchanges, Reply, Sample};
 
 /// How often a round probes its slaves after its first requests.
@@ -106,29 +107,28 @@ impl Rounds {
         counter
     }
 
-    /// Takes an answer, in microseconds: the other clock read `s` when it answered, and the own one read `d`
-    /// when the answer came. It gives a sample where an exchange with this peer has this word and counter.
-    pub(crate) fn reply(
-        &mut self,
-        peer: PeerId,
-        word: u64,
-        counter: u64,
-        ticket: u16,
-        s: i64,
-        d: i64,
-    ) -> Reply
-        requires s { IsStamp s }
-        requires d { IsReading d }
+    /// Takes a reply that came at this target of the own clock, in microseconds. It gives a sample where an
+    /// exchange with this peer has its word and counter.
+    pub(crate) fn reply(&mut self, peer: PeerId, reply: &StampReply, target: i64) -> Reply
+        requires { IsReading target }
         ensures asked { self.new.asked ≡ self.old.asked }
         ensures probes { self.new.probes ≡ self.old.probes }
         ensures peers { self.new.exchanges.peers ≡ self.old.exchanges.peers }
         ensures apart { AreApart (measured_with self.old peer).pending }
-        ensures replies { Replies word counter ticket s d (measured_with self.old peer)
-            (measured_with self.new peer) result }
+        ensures replies { Replies reply.now.word reply.now.counter reply.now.ticket
+            reply.now.reading target (measured_with self.old peer) (measured_with self.new peer)
+            result }
         ensures others { (q : PeerId) → (q.0 ≡ peer.0 → ⊥)
             → measured_with self.new q ≡ measured_with self.old q }
     {
-        self.exchanges.reply(peer, word, counter, ticket, s, d)
+        self.exchanges.reply(
+            peer,
+            reply.word(),
+            reply.counter(),
+            reply.ticket(),
+            reply.reading(),
+            target,
+        )
     }
 
     /// The first of a peer's samples of least round trip; None exactly where it has none.

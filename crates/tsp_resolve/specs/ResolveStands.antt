@@ -21,6 +21,10 @@ pub record ResolvingState : Type 0 where
   pub resolve : Resolve
   pub station : Station
 
+-- these two
+abbrev pub resolving : Resolve → Station → ResolvingState
+resolving resolve station = record { resolve = resolve; station = station }
+
 -- both are what the past comes to
 pub record ResolvingStands (past : Past) (state : ResolvingState) : Type 0 where
   pub resolve : ResolveStands past state.resolve

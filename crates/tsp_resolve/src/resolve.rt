@@ -1,13 +1,11 @@
 //! The rivals of a master: which of its peers say that they are masters too.
 ghost use Rattle.std.specs.Prelude.{◌≡◌, ℕ, ◌+◌, ◌≤◌, ◌<◌, ◌==◌, ◌||◌, not, List, [], ◌∷◌, length};
 ghost use Rattle.std.specs.Prelude.{slice_index_or, IfOk, IsSomeAnd};
-ghost use Rattle.std.specs.List.{Contains};
 ghost use Rattle.tsp_base.specs.declared.act.Act.TheVariants.{Boot, Become};
 ghost use Rattle.tsp_base.specs.declared.place.PeerId.{PeerId};
 ghost use Rattle.tsp_base.specs.declared.role.Role.{Role};
 ghost use Rattle.tsp_base.specs.declared.role.Role.TheVariants.{Master};
-ghost use Rattle.tsp_base.specs.Frames.{IsTick, PutsAtMost};
-ghost use Rattle.tsp_base.specs.Performs.{Performs};
+ghost use Rattle.tsp_acks.specs.Calls.{Contains, IsTick, Past, Performs, UsesAtMost, IsSamePort};
 ghost use Rattle.tsp_acks.specs.Peers.{IsPeers};
 ghost use Rattle.tsp_resolve.specs.Marked.{marked};
 
@@ -29,11 +27,9 @@ pub struct Resolve {
 
 impl Resolve {
     ghost use Rattle.tsp_base.specs.Peers.{is_among};
-    ghost use Rattle.tsp_acks.specs.Changes.{IsSamePort};
-    ghost use Rattle.tsp_base.specs.History.{Past};
     ghost use Rattle.tsp_base.specs.Rows.{grown};
     ghost use Rattle.tsp_rules.specs.ResolveRows.{finds_rival, quits_rivals, resolve_rings, resolves};
-    ghost use Rattle.tsp_resolve.specs.ResolveStands.{ResolveStands, ResolvingActs, ResolvingStands};
+    ghost use Rattle.tsp_resolve.specs.ResolveStands.{ResolveStands, ResolvingActs, ResolvingStands, resolving};
 
     /// No rival found yet, on a port with these peers.
     ///
@@ -50,16 +46,13 @@ impl Resolve {
     /// Asks each other peer by a RESOLVE whether it is a master, and waits `WINDOW` ticks for answers. While it
     /// still waits for those of an earlier call it does nothing. It puts at most one act, and one more for
     /// each peer.
-    pub fn start<D: Desk>(&mut self, station: &mut Station, tick: u64, port: Port, desk: &mut D)
+    pub fn start<D: Desk>(&self, station: &mut Station, tick: u64, port: Port, desk: &mut D)
         requires tick { IsTick tick }
         requires room { length station.old.peers + 1 ≤ D.spare desk.old }
         ensures row { Performs ResolvingStands ResolvingStands resolves tick port
-            (record { resolve = self.old; station = station.old })
-            (record { resolve = self.new; station = station.new })
+            (resolving self.now station.old) (resolving self.now station.new)
             (D.acts desk.old) (D.acts desk.new) }
-        ensures same { self.new ≡ self.old }
-        ensures room { PutsAtMost (length station.old.peers + 1) (D.spare desk.old)
-            (D.spare desk.new) (D.acts desk.old) (D.acts desk.new) }
+        ensures room { UsesAtMost (length station.old.peers + 1) D.spare D.acts desk.old desk.new }
         ensures port { IsSamePort station.old station.new }
     {
         match station.alarms.at(Alarm::Resolve) {
@@ -79,12 +72,10 @@ impl Resolve {
         requires peer { Contains station.now.peers from }
         requires role { station.now.role ≡ Master }
         ensures row { (x : ℕ) → Performs ResolvingStands ResolvingStands (finds_rival from) x port
-            (record { resolve = self.old; station = station.now })
-            (record { resolve = self.new; station = station.now })
+            (resolving self.old station.now) (resolving self.new station.now)
             (D.acts desk.old) (D.acts desk.new) }
         ensures many { length self.new.marks ≡ length self.old.marks }
-        ensures room { PutsAtMost 1 (D.spare desk.old) (D.spare desk.new) (D.acts desk.old)
-            (D.acts desk.new) }
+        ensures room { UsesAtMost 1 D.spare D.acts desk.old desk.new }
     {
         match station.alarms.at(Alarm::Resolve) {
             None => {}
@@ -117,17 +108,14 @@ impl Resolve {
 
     /// The Resolve alarm is due: the time for answers is over. In time, a QUIT begins to each rival, ascending.
     /// It puts at most one act, and one more for each peer.
-    pub fn ring<D: Desk>(&mut self, station: &mut Station, tick: u64, port: Port, desk: &mut D)
+    pub fn ring<D: Desk>(&self, station: &mut Station, tick: u64, port: Port, desk: &mut D)
         requires tick { IsTick tick }
         requires room { length station.old.peers + 1 ≤ D.spare desk.old }
-        requires many { length self.old.marks ≡ length station.old.peers }
+        requires many { length self.now.marks ≡ length station.old.peers }
         ensures row { Performs ResolvingStands ResolvingStands resolve_rings tick port
-            (record { resolve = self.old; station = station.old })
-            (record { resolve = self.new; station = station.new })
+            (resolving self.now station.old) (resolving self.now station.new)
             (D.acts desk.old) (D.acts desk.new) }
-        ensures same { self.new ≡ self.old }
-        ensures room { PutsAtMost (length station.old.peers + 1) (D.spare desk.old)
-            (D.spare desk.new) (D.acts desk.old) (D.acts desk.new) }
+        ensures room { UsesAtMost (length station.old.peers + 1) D.spare D.acts desk.old desk.new }
         ensures port { IsSamePort station.old station.new }
     {
         if station.is_in_time(Alarm::Resolve, tick) {
@@ -144,11 +132,9 @@ impl Resolve {
         requires room { length station.old.peers ≤ D.spare desk.old }
         requires many { length self.now.marks ≡ length station.old.peers }
         ensures row { Performs ResolvingActs ResolvingActs quits_rivals tick port
-            (record { resolve = self.now; station = station.old })
-            (record { resolve = self.now; station = station.new })
+            (resolving self.now station.old) (resolving self.now station.new)
             (D.acts desk.old) (D.acts desk.new) }
-        ensures room { PutsAtMost (length station.old.peers) (D.spare desk.old) (D.spare desk.new)
-            (D.acts desk.old) (D.acts desk.new) }
+        ensures room { UsesAtMost (length station.old.peers) D.spare D.acts desk.old desk.new }
         ensures port { IsSamePort station.old station.new }
     {
         for place in 0..station.peers().len() {
