@@ -1,3 +1,4 @@
+pub mod Tallies
 pub mod Gatherings
 pub mod Lines
 pub mod Outputs
