@@ -1,4 +1,4 @@
-pub mod Tallies
+pub mod Faults
 pub mod Gatherings
 pub mod Lines
 pub mod Outputs

@@ -1,7 +1,7 @@
 //! Reads an input whole, before any of it is treated.
 ghost use Rattle.std.specs.Prelude.{◌≡◌, ◌≤◌, ◌<◌, ◌^◌, length, false, IfOk};
 ghost use Rattle.tsp_lines.specs.Gatherings.{Adds, ReadsWhole};
-ghost use Rattle.tsp_lines.specs.Tallies.{Tallies};
+ghost use Rattle.tsp_lines.specs.Faults.{Counts};
 
 use crate::gathered::Gathered;
 use std::alloc::{AllocError, Global};
@@ -36,7 +36,7 @@ fn read_more<S: Source>(octets: &mut Vec<u8>, buf: &mut [u8], most: usize, sourc
     requires open { S.ended source.old ≡ false }
     ensures adds { Adds most (S.left source.old) (S.left source.new) (S.ended source.new)
         octets.old.items octets.new.items result }
-    ensures faults { Tallies (S.faults source.old) (S.faults source.new)
+    ensures faults { Counts (S.faults source.old) (S.faults source.new)
         (result ≡ Added.Fault Ungathered.ReadFault) }
 {
     match source.read(&mut buf[..most]) {
@@ -61,7 +61,7 @@ fn gather_by<S: Source>(
     requires room { 0 < length buf.old }
     ensures comes { ReadsWhole limit (S.left source.old) (S.left source.new) (S.ended source.new)
         result }
-    ensures faults { Tallies (S.faults source.old) (S.faults source.new)
+    ensures faults { Counts (S.faults source.old) (S.faults source.new)
         (result ≡ Err Ungathered.ReadFault) }
 {
     let mut octets = Vec::new(alloc);
@@ -86,7 +86,7 @@ pub(crate) fn gather<S: Source>(
     requires limit { limit < 2 ^ 63 }
     ensures comes { ReadsWhole limit (S.left source.old) (S.left source.new) (S.ended source.new)
         result }
-    ensures faults { Tallies (S.faults source.old) (S.faults source.new)
+    ensures faults { Counts (S.faults source.old) (S.faults source.new)
         (result ≡ Err Ungathered.ReadFault) }
 {
     let Ok(mut buf) = buffer(alloc) else {

@@ -10,7 +10,7 @@ ghost use Rattle.tsp_lines.specs.Meanings.{Breaks, Goes};
 ghost use Rattle.tsp_lines.specs.Outputs.{Hands};
 ghost use Rattle.tsp_lines.specs.Outcomes.{Comes};
 ghost use Rattle.tsp_lines.specs.Readings.{IsNext, IsFill, is_over, meets_end};
-ghost use Rattle.tsp_lines.specs.Tallies.{Tallies};
+ghost use Rattle.tsp_lines.specs.Faults.{Counts};
 ghost use Rattle.tsp_lines.specs.Turns.{only_so, line_sayings, end_sayings, Ends, Stopped, IsAt, StillKeepsUp};
 
 use crate::next::{Fill, Next};
@@ -91,9 +91,9 @@ impl Progress {
         ensures same { (self.new.number ≡ self.old.number)
             × (self.new.reader.limit ≡ self.old.reader.limit)
             × (self.new.reader.got ≤ self.new.reader.limit + 1) }
-        ensures reads { Tallies (S.faults source.old) (S.faults source.new)
+        ensures reads { Counts (S.faults source.old) (S.faults source.new)
             (result ≡ Ok Next.Failed) }
-        ensures writes { Tallies (K.faults sink.old) (K.faults sink.new)
+        ensures writes { Counts (K.faults sink.old) (K.faults sink.new)
             (result ≡ Err Unwritten.WriteFault) }
         ensures unwritten { result ≡ Err Unwritten.WriteFault → 0 < length self.new.output }
         ensures over { IfOk result (λ next. is_over next ≡ true → IsOver (S.left source.new)) }
@@ -216,9 +216,9 @@ impl Progress {
         ensures flushed { IfOk result (λ _. self.new.output ≡ []) }
         ensures same { (self.new.number ≡ self.old.number)
             × (self.new.reader.limit ≡ self.old.reader.limit) }
-        ensures reads { Tallies (S.faults source.old) (S.faults source.new)
+        ensures reads { Counts (S.faults source.old) (S.faults source.new)
             (result ≡ Ok Fill.NotRead) }
-        ensures writes { Tallies (K.faults sink.old) (K.faults sink.new)
+        ensures writes { Counts (K.faults sink.old) (K.faults sink.new)
             (result ≡ Err Unwritten.WriteFault) }
         ensures unwritten { result ≡ Err Unwritten.WriteFault → 0 < length self.new.output }
         ensures over { result ≡ Ok Fill.Over → IsOver (S.left source.new) }

@@ -5,7 +5,7 @@ ghost use Rattle.std.specs.Prelude.{IfSome, MatchOption};
 ghost use Rattle.tsp_io.specs.Streams.{Gives};
 ghost use Rattle.tsp_lines.specs.Lines.{NoFeed, close, IsOver};
 ghost use Rattle.tsp_lines.specs.Readings.{IsNext, ReadsNext, IsPassed, long_of, is_over, IsFill, meets_end};
-ghost use Rattle.tsp_lines.specs.Tallies.{Tallies};
+ghost use Rattle.tsp_lines.specs.Faults.{Counts};
 
 use crate::buffer::refill;
 use crate::line_feed::first_feed;
@@ -200,7 +200,7 @@ impl LineReader {
             × (self.new.got ≡ self.old.got + length octets) × IsFill result octets }
         ensures limit { (self.new.limit ≡ self.old.limit) × (self.new.got ≤ self.new.limit + 1)
             × (length self.new.held ≤ 65536) }
-        ensures faults { Tallies (S.faults source.old) (S.faults source.new)
+        ensures faults { Counts (S.faults source.old) (S.faults source.new)
             (result ≡ Fill.NotRead) }
         ensures over { result ≡ Fill.Over → IsOver (S.left source.new) }
         ensures ended { S.ended source.new ≡ (if meets_end result then true else S.ended
@@ -267,7 +267,7 @@ impl LineReader {
             × (0 < length octets) × (self.new.got ≤ self.new.limit))
             (λ next. IsPassed self.new octets next) }
         ensures limit { (self.new.limit ≡ self.old.limit) × (self.new.got ≤ self.new.limit + 1) }
-        ensures faults { Tallies (S.faults source.old) (S.faults source.new)
+        ensures faults { Counts (S.faults source.old) (S.faults source.new)
             (result ≡ Some Next.Failed) }
         ensures over { IfSome result (λ next. is_over next ≡ true → IsOver (S.left source.new)) }
         ensures ended { MatchOption result (S.ended source.new ≡ false)
@@ -311,7 +311,7 @@ impl LineReader {
         ensures there { IsFill result self.new.held }
         ensures limit { (self.new.limit ≡ self.old.limit) × (self.new.got ≤ self.new.limit + 1)
             × (length self.new.held ≤ 65536) }
-        ensures faults { Tallies (S.faults source.old) (S.faults source.new)
+        ensures faults { Counts (S.faults source.old) (S.faults source.new)
             (result ≡ Fill.NotRead) }
         ensures over { result ≡ Fill.Over → IsOver (S.left source.new) }
         ensures ended { S.ended source.new ≡ meets_end result }

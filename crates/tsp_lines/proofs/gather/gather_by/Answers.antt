@@ -4,6 +4,7 @@ use Rattle.std.proofs.Common.{◌∙◌, ap, arith, sym}
 use Rattle.tsp_lines.specs.declared.gather.Added.TheVariants.{Fault}
 use Rattle.tsp_lines.specs.declared.gather.Ungathered.TheVariants.{ReadFault}
 use Rattle.tsp_lines.proofs.Streams.{Gives-nil}
+use Rattle.tsp_lines.proofs.Faults.{Counts-from}
 use Rattle.tsp_lines.proofs.Gatherings.{Gathers-end, Gathers-past, Gives-more, more_added, ReadsWhole-fault}
 use Rattle.tsp_lines.proofs.gather.gather_by.Goals as goal
 
@@ -23,11 +24,7 @@ returns-in-Fault-clause-comes g c =
 pub returns-in-Fault-clause-faults : goal.returns-in-Fault-clause-faults
 returns-in-Fault-clause-faults g c =
     let i = c.loop-octets.invariant in
-    let f = c.read_more.ensures.faults in record {
-      later = omega (arith, f.later, i.3);
-      cause = λ e. rw (sym i.3) (f.cause (c.in-Fault.is ∙ ap Fault (cc)));
-      still = λ n. f.still (λ e. let q : Fault c.in-Fault.fault ≡ Fault ReadFault = sym c.in-Fault.is ∙ e in n (cc)) ∙ i.3;
-    }
+    Counts-from _ _ _ _ _ i.3 (λ e. c.in-Fault.is ∙ ap Fault (cc)) (λ e. let q : Fault c.in-Fault.fault ≡ Fault ReadFault = sym c.in-Fault.is ∙ e in cc) c.read_more.ensures.faults
 
 pub loop-octets-preserved : goal.loop-octets-preserved
 loop-octets-preserved g c =

@@ -1,7 +1,7 @@
 use Rattle.std.proofs.Common.{arith, ◌∙◌, subst, sym}
 use Rattle.tsp_lines.specs.Readings.{IsNext}
 use Rattle.tsp_lines.proofs.Passes.{next_more}
-use Rattle.tsp_lines.proofs.Tallies.{Tallies-since}
+use Rattle.tsp_lines.proofs.Faults.{Counts-from, Counts-same}
 use Rattle.tsp_lines.proofs.reader.LineReader.next.Goals as goal
 
 pub returns-then-held-gt-LONGEST : goal.returns-then-held-gt-LONGEST
@@ -12,7 +12,7 @@ returns-then-held-gt-LONGEST g c =
     let n = c.in_default.ensures in record {
       next = next_more _ _ _ _ _ _ _ _ _ _ i.0.1 (n.next.1 ∙ i.0.3) p.1 (omega (arith, i.0.2, p.2, n.same.0)) p.3;
       limit = (e.limit.0 ∙ n.same.1 ∙ i.1, e.limit.1);
-      faults = Tallies-since _ _ _ _ i.3 e.faults;
+      faults = Counts-from _ _ _ _ _ i.3 (λ f. f) (λ f. f) e.faults;
       over = e.over;
       ended = e.ended;
     }
@@ -23,7 +23,7 @@ returns-in-Some g c =
     let e = c.in-Some.ensures in record {
       next = (i.0.0, i.0.1, e.same.0 ∙ i.0.2, subst (λ held. IsNext c.next_held.new.self held c.in-Some.next) i.0.3 e.next.0);
       limit = (e.same.1 ∙ i.1, e.same.2);
-      faults = record { later = omega (arith, i.3); cause = λ f. absurd (e.next.2 f); still = λ n. i.3 };
+      faults = Counts-same _ _ _ i.3 e.next.2;
       over = λ o. let q = sym e.next.1 ∙ o in cc;
       ended = i.2 ∙ sym e.next.1;
     }

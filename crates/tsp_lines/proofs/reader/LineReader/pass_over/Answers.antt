@@ -1,7 +1,7 @@
 use Rattle.std.proofs.Common.{arith, ap, refl, ◌∙◌, [], append-nil, Some}
 use Rattle.tsp_lines.proofs.Streams.{Gives-nil}
 use Rattle.tsp_lines.proofs.Passes.{passed, passed_more}
-use Rattle.tsp_lines.proofs.Tallies.{Tallies-as, Tallies-since}
+use Rattle.tsp_lines.proofs.Faults.{Counts-from}
 use Rattle.tsp_lines.proofs.reader.LineReader.pass_over.Goals as goal
 
 pub returns-in-Some : goal.returns-in-Some
@@ -12,7 +12,7 @@ returns-in-Some g c =
     rw c.keep.ensures (record {
       next = passed _ _ _ c.pass.new.self _ _ _ _ _ _ c.requires.long c.start_of_held-start.ensures i.0.1 i.0.3 p.1 (omega (arith, i.0.2, p.2)) p.3;
       limit = (e.limit.0 ∙ i.1, e.limit.1);
-      faults = Tallies-since _ _ _ _ i.4 (Tallies-as _ _ (ap Some) (λ f. (cc)) e.faults);
+      faults = Counts-from _ _ _ _ _ i.4 (ap Some) (λ f. cc) e.faults;
       over = e.over;
       ended = e.ended;
     })
