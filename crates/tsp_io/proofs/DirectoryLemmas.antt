@@ -1,6 +1,6 @@
 -- Laws of the table of a directory.
-use Rattle.std.proofs.Common.{◌≡◌, ℕ, ◌+◌, ◌*◌, ◌<◌, ◌⊎◌, List, [], ◌∷◌, ◌++◌, length, refl, sym, ap, ◌∙◌, arith, true, false, zero, suc, slice_index_or, length-append, ⊎_elim, inl, inr}
-use Rattle.std.specs.Prelude.{Contains, take, slice_get, nat_eq, Option, Some, None, is_some}
+use Rattle.std.proofs.Common.{◌≡◌, ℕ, ◌<◌, ◌⊎◌, List, [], ◌∷◌, ◌++◌, length, refl, sym, ap, ◌∙◌, arith, true, false, zero, suc, slice_index_or, length-append, ⊎_elim, inl, inr}
+use Rattle.std.specs.Prelude.{Contains, nat_eq, Option, Some, None, is_some}
 use Rattle.std.specs.Int.{w32, to_be_bytes, from_be_bytes}
 use Rattle.std.proofs.Math.Seq.{get_or-append_seam, take-append_seam}
 use Rattle.std.proofs.lemmas.Bool.{cases_eq, ne_eqb}
@@ -76,5 +76,6 @@ numbers_add peers a t u n len fa e h put others = record {
       let at : Some m ≡ Some n = sym g ∙ ap u (sym same) ∙ put in
       let number : m ≡ n = cc in
       first_last peers a addr m (one_key a addr fa f same) (number ∙ len) (h.none a fa (false_none (t (key_of a)) e))
+
   missed : (addr : Addr) → FitsKey addr → u (key_of addr) ≡ None → Contains (peers ++ a ∷ []) addr → (key_of a ≡ key_of addr → ⊥) → ⊥
   missed addr f g k apart = ⊎_elim (h.none addr f (sym (others (key_of addr) (ne_eqb (key_of a) (key_of addr) apart)) ∙ g)) (λ same. apart (ap key_of same)) (among_more peers a addr k)

@@ -7,7 +7,6 @@ use Rattle.std.specs.declared.net.socket_addr.SocketAddr.TheVariants.{V4, V6}
 use Rattle.std.specs.Int.{w32, to_be_bytes, from_be_bytes}
 use Rattle.tsp_base.specs.declared.place.Place.{Place}
 use Rattle.tsp_base.specs.declared.place.Place.TheVariants.{Peer, Stranger}
-use Rattle.tsp_base.specs.declared.place.PeerId.{PeerId}
 use Rattle.tsp_io.specs.declared.addr.Addr.{Addr}
 
 -- this number is the lowest of a peer with this address
