@@ -57,8 +57,17 @@ pub fn serve<K: Sink, L: Link, T: Ticker>(
 {
     let mut pad = Pad::new(alloc);
     let mut course = Counters { turns: 0, posts: 0 };
+    let mut buf = [0; 512];
     for _ in 0..turns {
-        if let Err(end) = turn(&mut gateway, &mut pad, &mut course, sink, link, ticker) {
+        if let Err(end) = turn(
+            &mut gateway,
+            &mut pad,
+            &mut course,
+            sink,
+            link,
+            ticker,
+            &mut buf,
+        ) {
             return end;
         }
     }

@@ -57,7 +57,7 @@ fn finish<K: Sink, L: Link>(
 
 /// A turn: reads the tick, waits for a datagram, reads the tick again, and lets the node step; then
 /// tries its sends, and writes the lines of a traced step. Fails if the receive or a write fails,
-/// or if out of memory: that ends the session.
+/// or if out of memory: that ends the session. The buffer is for the datagram: what it held is lost.
 pub(crate) fn turn<K: Sink, L: Link, T: Ticker>(
     node: &mut Gateway,
     pad: &mut Pad,
@@ -65,6 +65,7 @@ pub(crate) fn turn<K: Sink, L: Link, T: Ticker>(
     sink: &mut K,
     link: &mut L,
     ticker: &mut T,
+    buf: &mut [u8; 512],
 ) -> Result<(), ServeEnd>
     requires lives { Lives node.old }
     requires later { clock_at node.old ≤ T.last ticker.old }
@@ -97,14 +98,13 @@ pub(crate) fn turn<K: Sink, L: Link, T: Ticker>(
         return Err(ServeEnd::OutOfMemory);
     }
     let first = ticker.tick();
-    let mut buf = [0; 512];
-    let received = link.recv(&mut buf, wait_until(node.due(), first));
+    let received = link.recv(buf, wait_until(node.due(), first));
     if let Recv::Failed = received {
         return Err(ServeEnd::LinkFault);
     }
     let tick = ticker.tick();
     let before = node.tracing();
-    step(node, tick, received, &buf, pad);
+    step(node, tick, received, buf, pad);
     let shown = is_shown(before, node.tracing());
     let acts = pad.acts();
     if let Err(end) = finish(shown, course, tick, acts, sink, link) {

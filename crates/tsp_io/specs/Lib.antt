@@ -1,5 +1,6 @@
 pub mod Clocks
 pub mod Counts
+pub mod Directories
 pub mod FailingCalls
 pub mod Links
 pub mod MemoryLinks

@@ -1,5 +1,6 @@
 //! A UDP socket whose receives wait for a given time.
-ghost use Rattle.std.specs.Prelude.{◌≡◌, ◌≤◌, length, IfOk, IfSome};
+ghost use Rattle.std.specs.Prelude.{◌≡◌, ◌≤◌, length, IfOk, IfSome, Some};
+ghost use Rattle.tsp_io.specs.Directories.{addr_of};
 
 use crate::addr::Addr;
 use std::io;
@@ -77,12 +78,16 @@ fn is_no_datagram(kind: ErrorKind) -> bool {
 }
 
 /// The address as a value of the standard library.
-pub(crate) fn socket_addr(addr: Addr) -> SocketAddr {
+pub(crate) fn socket_addr(addr: Addr) -> SocketAddr
+    ensures { addr_of result ≡ Some addr }
+{
     SocketAddr::new(IpAddr::V4(Ipv4Addr::from_octets(addr.ip)), addr.port)
 }
 
 /// The address; None if it isn't an IPv4 one.
-pub(crate) fn addr_of(from: SocketAddr) -> Option<Addr> {
+pub(crate) fn addr_of(from: SocketAddr) -> Option<Addr>
+    ensures { result ≡ addr_of from }
+{
     match from.ip() {
         IpAddr::V4(ip) => Some(Addr {
             ip: ip.octets(),

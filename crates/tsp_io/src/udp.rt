@@ -1,5 +1,7 @@
 //! A link over a UDP socket.
-ghost use Rattle.std.specs.Prelude.{◌≡◌, ℕ, false, [], None};
+ghost use Rattle.std.specs.Prelude.{◌≡◌, ℕ, false, [], None, Some};
+ghost use Rattle.tsp_io.specs.Links.{is_stranger};
+ghost use Rattle.tsp_io.specs.Directories.{ComesFrom, GoesTo};
 
 use crate::addr::Addr;
 use crate::directory::Directory;
@@ -7,7 +9,7 @@ use crate::link::{Bound, Link, Recv, Sent};
 use crate::socket::{Socket, addr_of, socket_addr};
 use std::alloc::Global;
 use std::net::{Net, SocketAddr};
-use tsp_base::place::{PeerId, Place};
+use tsp_base::place::Place;
 
 /// A UDP socket and the addresses of its peers. What will come over it isn't told, nor what was sent.
 ///
@@ -18,7 +20,6 @@ pub struct UdpLink<R> {
     rt: R,
     alloc: Global,
     socket: Option<Socket>,
-    peers: Vec<Addr>,
     directory: Directory,
     last: Option<SocketAddr>,
     stranger: bool,
@@ -29,14 +30,13 @@ pub struct UdpLink<R> {
 impl<R: Net> UdpLink<R> {
     /// A link that isn't bound yet: until `bind`, each receive and each send fails.
     pub fn new(rt: R, alloc: Global) -> UdpLink<R>
-        ensures { (result.socket ≡ None) × (result.peers.items ≡ []) × (result.last ≡ None)
+        ensures { (result.socket ≡ None) × (result.directory ≡ []) × (result.last ≡ None)
             × (result.stranger ≡ false) × (result.faults ≡ 0) × (result.send_faults ≡ 0) }
     {
         UdpLink {
             rt,
             alloc,
             socket: None,
-            peers: Vec::new(alloc),
             directory: Directory::new(alloc),
             last: None,
             stranger: false,
@@ -46,22 +46,31 @@ impl<R: Net> UdpLink<R> {
     }
 
     /// The address of a peer, or of the stranger whose datagram was the last that came.
-    fn addr_at(&self, place: Place) -> Option<SocketAddr> {
+    fn addr_at(&self, place: Place) -> Option<SocketAddr>
+        ensures { GoesTo self.now.directory self.now.last place result }
+    {
         match place {
-            Place::Peer(PeerId(number)) => {
-                let peer = self.peers.get(number as usize)?;
-                Some(socket_addr(*peer))
-            }
+            Place::Peer(peer) => Some(socket_addr(self.directory.addr_of(peer)?)),
             Place::Stranger => self.last,
         }
     }
-}
 
-/// Who has this address of the standard library: a stranger where it isn't an IPv4 one.
-fn place_of(directory: &Directory, from: SocketAddr) -> Place {
-    match addr_of(from) {
-        Some(addr) => directory.place_of(addr),
-        None => Place::Stranger,
+    /// Notes that a datagram came from this address, and says from whom.
+    #[inline(always)]
+    fn came_from(&mut self, from: SocketAddr) -> Place
+        ensures place { ComesFrom self.old.directory from result }
+        ensures noted { self.new ≡ record self.old {
+          last = Some from;
+          stranger = is_stranger result;
+        } }
+    {
+        let place = match addr_of(from) {
+            Some(addr) => self.directory.place_of(addr),
+            None => Place::Stranger,
+        };
+        self.stranger = place == Place::Stranger;
+        self.last = Some(from);
+        place
     }
 }
 
@@ -86,13 +95,9 @@ impl<R: Net> Link for UdpLink<R> {
         let Ok(directory) = Directory::of(self.alloc, peers) else {
             return Bound::OutOfMemory;
         };
-        let Ok(peers) = Vec::from_slice(self.alloc, peers) else {
-            return Bound::OutOfMemory;
-        };
         match Socket::bind(&self.rt, local) {
             Ok(socket) => {
                 self.socket = Some(socket);
-                self.peers = peers;
                 self.directory = directory;
                 Bound::Bound
             }
@@ -109,12 +114,7 @@ impl<R: Net> Link for UdpLink<R> {
             None => None,
         };
         match received {
-            Some(Some((count, from))) => {
-                let place = place_of(&self.directory, from);
-                self.stranger = place == Place::Stranger;
-                self.last = Some(from);
-                Recv::Datagram(place, count)
-            }
+            Some(Some((count, from))) => Recv::Datagram(self.came_from(from), count),
             Some(None) => Recv::Nothing,
             None => {
                 self.faults = self.faults.saturating_add(1);
