@@ -62,7 +62,7 @@ printf '%s\n' '1 alpha 192.0.2.11:525 master' '1 beta 192.0.2.12:526 slave' '1 g
 
 # A host in two networks is a gateway. Its words have a + between its networks.
 gives gate 'serve 192.0.2.1:525 gate m 1000000000 192.0.2.11:525 192.0.2.12:526 + 198.51.100.7:525'
-for case in '9: beta stands in two networks of gate, which can have it as a peer once|beta 192.0.2.12:526 slave' \
+for case in '9: beta stands in two networks of gate: each of them needs an address of its own in each network|beta 192.0.2.12:526 slave' \
     '14: gate stands in more than four networks|+\ngate 192.0.2.1 master\n+\ngate 192.0.2.1 master\n+\ngate 192.0.2.1 master'; do
     { cat "$hosts"; printf '%b\n' "${case#*|}"; } >"$out/hosts"
     status=0
@@ -72,6 +72,24 @@ done
 printf 'gate 192.0.2.1 master\n+\nalpha 192.0.2.11 slave\n+\nbeta 192.0.2.12 slave\ngate 192.0.2.1 master\n+\ngate 192.0.2.1 master\n' >"$out/hosts"
 sh tools/tsp-launch -n -f "$out/hosts" -s gate >"$out/said" || fail 'a gateway without peers in a network is refused'
 [ "$(cat "$out/said")" = 'serve 192.0.2.1:525 gate m 1000000000 + 192.0.2.12:525 +' ] || fail "a gateway is given '$(cat "$out/said")'"
+
+# Two gateways between the same two networks have an address of their own in each, and listen at all of them. A third one is refused.
+two=tools/tests/witness/loops.hosts
+hosts=$two
+gives a 'serve 192.0.2.1:525 a s 1000000000 192.0.2.2:525 192.0.2.3:525'
+gives b 'serve 0.0.0.0:525 b m 1000000000 192.0.2.1:525 192.0.2.3:525 + 198.51.100.2:525 198.51.100.3:525'
+gives c 'serve 0.0.0.0:525 c m 1000000000 192.0.2.1:525 192.0.2.2:525 + 198.51.100.1:525 198.51.100.3:525'
+gives d 'serve 198.51.100.3:525 d s 1000000000 198.51.100.1:525 198.51.100.2:525'
+hosts=tools/tests/launch.hosts
+{ sed '3a e 192.0.2.5 slave' $two; echo 'e 198.51.100.5 slave'; } >"$out/hosts"
+refuses "$out/hosts:9: e is a third host in network 1 and network 2, which two at most may join" -n -f "$out/hosts" -s a
+printf '+\n%s\n' 'b 203.0.113.1 master' | cat $two - >"$out/hosts"
+ends 0 -n -f "$out/hosts" -s b
+[ "$(cut -d ' ' -f 2 "$out/said")" = 0.0.0.0:525 ] || fail "a gateway with three addresses is given '$(cat "$out/said")'"
+for address in 192.0.2.2 198.51.100.1; do
+    printf '+\n%s\n' "b $address master" | cat $two - >"$out/hosts"
+    refuses "$out/hosts:9: b has neither one address for all of its networks nor one for each" -l -f "$out/hosts"
+done
 
 # The host's own name, if it is alone; a last line without its line feed; a name, and one of a host name's own dots; all on one machine.
 printf '%s 192.0.2.1 strict' "$(uname -n)" >"$out/hosts"
@@ -183,7 +201,7 @@ calls=$(wc -l <"$CALLS")
 sleep 2.2
 [ "$(wc -l <"$CALLS")" -le $((calls + 1)) ] || fail 'a daemon that has ended is still asked to trace'
 
-# A daemon starts after a random part of the spread: some parts are below its half, and some above.
+# A daemon starts at a random moment within the spread: some moments are in its first half, and some in its second.
 cat >"$out/bin/sleep" <<'END'
 #!/bin/sh
 echo "$1" >>"$SLEPT"
@@ -197,17 +215,17 @@ while [ "$count" -lt 40 ]; do
     count=$((count + 1))
 done
 given=''
-[ "$(cat "$out/told")" = "tsp-launch: the daemon starts in $(tail -n 1 "$out/slept") s, a random part of 5 s" ] || fail "$(cat "$out/told")"
+[ "$(cat "$out/told")" = "tsp-launch: the daemon starts in $(tail -n 1 "$out/slept") s, at a random moment within 5 s" ] || fail "$(cat "$out/told")"
 given="SLEPT=$out/slept-long STATUS=0 WANTED=1 TSP_SPREAD="
 ends 0 -f "$hosts" -s gate -p "$out/fake"
 given=''
-grep -qx 'tsp-launch: the daemon starts in [0-9.]* s, a random part of 120 s' "$out/told" || fail "of a gateway: $(cat "$out/told")"
+grep -qx 'tsp-launch: the daemon starts in [0-9.]* s, at a random moment within 120 s' "$out/told" || fail "of a gateway: $(cat "$out/told")"
 given="SLEPT=$out/slept-long STATUS=0 WANTED=1 TSP_SPREAD="
 ends 0 -f "$hosts" -s beta -p "$out/fake"
 given=''
-grep -qx 'tsp-launch: the daemon starts in [0-9.]* s, a random part of 5 s' "$out/told" || fail "of a host without a spread: $(cat "$out/told")"
+grep -qx 'tsp-launch: the daemon starts in [0-9.]* s, at a random moment within 5 s' "$out/told" || fail "of a host without a spread: $(cat "$out/told")"
 awk '!/^[0-9]\.[0-9][0-9][0-9]$/ || $1 > 5 { exit 1 } $1 < 2.5 { below++ } $1 > 2.5 { above++ } END { exit !(NR == 40 && below >= 5 && above >= 5) }' "$out/slept" ||
-    fail "the parts of the spread are $(paste -sd ' ' "$out/slept")"
+    fail "the moments within the spread are $(paste -sd ' ' "$out/slept")"
 rm "$out/bin/sleep"
 
 # Supervised, it ends as its daemon does, says why an address can't be bound, and ends with 0 where it is told to end.
@@ -249,6 +267,15 @@ python3 "$out/notify" "$out/link" tools/tsp-launch -f "$hosts" -s gamma -p "$out
 grep -v '^[12] 0 0 ' "$out/said" | paste -sd ';' >"$out/notified"
 [ "$(cat "$out/notified")" = 'main READY=1 STATUS=follows peer 1;main STOPPING=1;0' ] || fail "systemd is told '$(cat "$out/notified")'"
 [ "$(grep -c '^[12] 0 0 [12] ' "$out/said")" -eq 2 ] && [ ! -s "$out/told" ] || fail 'the trace is not handed on'
+
+# A daemon that listens at all addresses is asked over the loopback.
+: >"$CALLS"
+given='WANTED=3 STATUS=0'
+ends 0 -f "$two" -s b -p "$out/fake" --trace
+given=''
+printf '%s\n' 'serve 0.0.0.0:525 b m 1000000000 192.0.2.1:525 192.0.2.3:525 + 198.51.100.2:525 198.51.100.3:525' 'trace 127.0.0.1:525 on' 'trace 127.0.0.1:525 on' >"$out/wanted"
+sort "$CALLS" | cmp -s - "$out/wanted" || fail "a daemon at all addresses is asked to trace as '$(cat "$CALLS")'"
+[ "$(cat "$out/told")" = 'tsp-launch: in the trace peer 0 is b, 1 a, 2 c, 3 c, 4 d' ] || fail "$(cat "$out/told")"
 
 # The example of a hosts file is a good one.
 ends 0 -n -f daemon/hosts -s printer

@@ -63,6 +63,13 @@ export TSP_SELF
 ends 0 --offset
 [ "$said" = -0.000001 ] || fail "the offset of this host is '$said'"
 
+# A gateway with another address in each network listens at all of them, and is asked over the loopback on its own machine.
+printf '%s\n' + 'beta 198.51.100.12:526 slave' >>"$out/hosts"
+echo 'clockdiff 7 0' >"$ANSWERS/clockdiff-127.0.0.1:526"
+ends 0 --offset
+[ "$said" = 0.000007 ] || fail "the offset of a gateway is '$said', asked by '$(cat "$CALLS")'"
+sed -i '/^+$/,$d' "$out/hosts"
+
 # A date that a master sets: in each spelling, and as this machine's clock.
 echo 'date set' >"$ANSWERS/date-192.0.2.11:525"
 for case in 2026-11-28T09:41:02.5Z=1795858862500000 '2026-11-28 15:11:02+05:30=1795858862000000' 1969-12-31T23:59:59.75-00:30=1799750000 @-1.25=-1250000; do

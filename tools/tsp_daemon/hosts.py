@@ -39,6 +39,12 @@ def listed(file) -> List[Host]:
     return hosts
 
 
+def asked_at(local) -> str:
+    """Where this machine asks a daemon that listens at an address: over the loopback, where that is all addresses."""
+    host, port = local.split(':')
+    return f'127.0.0.1:{port}' if host == '0.0.0.0' else local
+
+
 def own_address(file) -> str:
-    """The address of this machine's own daemon."""
-    return launched(file, '--print').split(' ')[1]
+    """The address at which this machine's own daemon is asked."""
+    return asked_at(launched(file, '--print').split(' ')[1])

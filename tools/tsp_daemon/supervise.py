@@ -14,7 +14,7 @@ import time
 
 sys.dont_write_bytecode = True
 sys.path.insert(0, os.path.dirname(os.path.dirname(os.path.realpath(__file__))))
-from tsp_daemon import questions, sockets, state, trace, usage, views  # noqa: E402
+from tsp_daemon import hosts, questions, sockets, state, trace, usage, views  # noqa: E402
 from tsp_texts.tool import Fault, say  # noqa: E402
 
 CHUNK = 65536
@@ -89,7 +89,7 @@ class Supervisor:
     def answers(self, asker):
         """Whether the daemon answers a question."""
         try:
-            return asker.master(self.local) is not None
+            return asker.master(hosts.asked_at(self.local)) is not None
         except Fault:
             return False
 

@@ -1,3 +1,4 @@
+pub mod BriefLemmas
 pub mod HistoryLemmas
 pub mod NoteLemmas
 pub mod RoundLemmas

@@ -127,7 +127,7 @@ impl HeldAct {
         Ok(HeldAct { brief, name })
     }
 
-    /// The act but for the name of its message.
+    /// The act but for the name of its message. An act has one brief ([`crate::laws::one_brief`]).
     pub fn brief(&self) -> Brief
         ensures act { (name : List ℕ) × (self.now ≡ act_of result name) }
     {

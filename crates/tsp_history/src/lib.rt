@@ -29,6 +29,7 @@ pub mod clocks;
 pub mod counts;
 pub mod held_act;
 pub mod history;
+pub mod laws;
 pub mod line;
 mod newest;
 pub mod notes;

@@ -1,0 +1,68 @@
+-- An act has one brief.
+use Rattle.std.specs.Prelude.{◌≡◌, ℕ, List, Option, None, Some}
+use Rattle.std.proofs.Common.{◌∙◌, ap, sym, refl}
+use Rattle.tsp_base.specs.declared.act.Act.{Act}
+use Rattle.tsp_base.specs.declared.act.Act.TheVariants as acts
+use Rattle.tsp_base.specs.declared.datagram.Datagram.TheVariants.{Message, Stamp}
+use Rattle.tsp_base.specs.declared.datagram.Taken.TheVariants.{Good, Bad}
+use Rattle.tsp_history.specs.declared.brief.Brief.{Brief}
+use Rattle.tsp_history.specs.declared.brief.Brief.TheVariants as briefs
+use Rattle.tsp_history.specs.HeldActs.{act_of}
+
+-- the brief of an act, or of none
+abbrev brief_of : Option Act → Brief
+brief_of None = briefs.Mark
+brief_of (Some acts.Boot) = briefs.Boot
+brief_of (Some (acts.Took from (Good (Message m)))) = briefs.TookMessage from m.kind m.number m.body
+brief_of (Some (acts.Took from (Good (Stamp stamp)))) = briefs.TookStamp from stamp
+brief_of (Some (acts.Took from (Bad fault))) = briefs.TookBad from fault
+brief_of (Some (acts.Post to (Message m))) = briefs.PostMessage to m.kind m.number m.body
+brief_of (Some (acts.Post to (Stamp stamp))) = briefs.PostStamp to stamp
+brief_of (Some (acts.Become role)) = briefs.Become role
+brief_of (Some (acts.Back p)) = briefs.Back p
+brief_of (Some (acts.Backer p)) = briefs.Backer p
+brief_of (Some (acts.Quit p)) = briefs.Quit p
+brief_of (Some (acts.Arm alarm tick)) = briefs.Arm alarm tick
+brief_of (Some (acts.Ring alarm)) = briefs.Ring alarm
+brief_of (Some (acts.Late alarm)) = briefs.Late alarm
+brief_of (Some (acts.Join p)) = briefs.Join p
+brief_of (Some (acts.Leave p)) = briefs.Leave p
+brief_of (Some (acts.Rival p)) = briefs.Rival p
+brief_of (Some (acts.Acked p)) = briefs.Acked p
+brief_of (Some (acts.Gave p)) = briefs.Gave p
+brief_of (Some (acts.Sample peer counter diff err ticket)) = briefs.Sample peer counter diff err ticket
+brief_of (Some (acts.Close count lo width mean)) = briefs.Close count lo width mean
+brief_of (Some (acts.Correct amount stepped shown)) = briefs.Correct amount stepped shown
+brief_of (Some acts.Abandon) = briefs.Abandon
+brief_of (Some (acts.Trace on)) = briefs.Trace on
+
+-- it is read back from an act that is held by it
+brief-back : (b : Brief) (name : List ℕ) → brief_of (act_of b name) ≡ b
+brief-back briefs.Mark name = refl
+brief-back briefs.Boot name = refl
+brief-back (briefs.TookMessage from kind number body) name = refl
+brief-back (briefs.TookStamp from stamp) name = refl
+brief-back (briefs.TookBad from fault) name = refl
+brief-back (briefs.PostMessage to kind number body) name = refl
+brief-back (briefs.PostStamp to stamp) name = refl
+brief-back (briefs.Become role) name = refl
+brief-back (briefs.Back p) name = refl
+brief-back (briefs.Backer p) name = refl
+brief-back (briefs.Quit p) name = refl
+brief-back (briefs.Arm alarm tick) name = refl
+brief-back (briefs.Ring alarm) name = refl
+brief-back (briefs.Late alarm) name = refl
+brief-back (briefs.Join p) name = refl
+brief-back (briefs.Leave p) name = refl
+brief-back (briefs.Rival p) name = refl
+brief-back (briefs.Acked p) name = refl
+brief-back (briefs.Gave p) name = refl
+brief-back (briefs.Sample peer counter diff err ticket) name = refl
+brief-back (briefs.Close count lo width mean) name = refl
+brief-back (briefs.Correct amount stepped shown) name = refl
+brief-back briefs.Abandon name = refl
+brief-back (briefs.Trace on) name = refl
+
+-- different briefs are of different acts
+pub one-brief : (a b : Brief) (n m : List ℕ) → act_of a n ≡ act_of b m → a ≡ b
+one-brief a b n m same = sym (brief-back a n) ∙ ap brief_of same ∙ brief-back b m
