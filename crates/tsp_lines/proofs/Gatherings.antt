@@ -1,11 +1,11 @@
 -- What reads add to the octets that were gathered.
-use Rattle.std.proofs.Common.{◌≡◌, ℕ, ◌<◌, ◌≤◌, ◌+◌, refl, None, Some, inl, inr, List, [], ◌++◌, sym, ap, ◌∙◌, append-nil, subst, length, length-append, arith}
+use Rattle.std.proofs.Common.{◌≡◌, ℕ, ◌<◌, ◌≤◌, ◌+◌, refl, None, Some, Err, inl, inr, List, [], ◌++◌, sym, ap, ◌∙◌, append-nil, subst, length, length-append, arith}
 use Rattle.std.specs.Prelude.{Bool, false}
 use Rattle.std.specs.declared.option.Option.{Option}
 use Rattle.tsp_io.specs.Streams.{Gives, IsEndWhere, Reads}
 use Rattle.tsp_io.specs.declared.source.Got.TheVariants.{Got as Gave}
 use Rattle.tsp_lines.specs.Lines.{IsOver}
-use Rattle.tsp_lines.specs.Gatherings.{Adds, Gathers, ReadsPart}
+use Rattle.tsp_lines.specs.Gatherings.{Adds, Gathers, ReadsWhole}
 use Rattle.tsp_lines.specs.declared.gather.Added.TheVariants.{More, End, Fault}
 use Rattle.tsp_lines.specs.declared.gather.Ungathered.{Ungathered}
 use Rattle.tsp_lines.specs.declared.gather.Ungathered.TheVariants.{ReadFault, OutOfMemory}
@@ -40,13 +40,8 @@ more_added most left rest ended octets now a =
     let e : length now ≡ length (octets ++ a.1.0) = ap length a.1.4 in
     (omega (arith, e, length-append octets a.1.0, a.1.2), omega (arith, e, length-append octets a.1.0, a.1.3))
 
-fault_added : (most : ℕ) (left rest : Option (List ℕ)) (ended : Bool) (octets now : List ℕ) (fault : Ungathered) → Adds most left rest ended octets now (Fault fault) → fault ≡ ReadFault → (ended ≡ false) × (rest ≡ left)
-fault_added most left rest ended octets now ReadFault a e = a
-fault_added most left rest ended octets now OutOfMemory a e = let no : ⊥ = cc in absurd no
-
--- the read failed
-pub ReadsPart-fault : (limit most : ℕ) (input left rest : Option (List ℕ)) (ended : Bool) (octets now : List ℕ) (fault : Ungathered) → Gives input left octets → length octets ≤ limit → Adds most left rest ended octets now (Fault fault) → fault ≡ ReadFault
-    → ReadsPart limit input rest × (ended ≡ false)
-ReadsPart-fault limit most input left rest ended octets now fault g h a e =
-    let f = fault_added most left rest ended octets now fault a e in
-    ((octets, subst (λ r. Gives input r octets) (sym f.1) g, h), f.0)
+-- the read failed, or out of memory
+pub ReadsWhole-fault : (limit most : ℕ) (input left rest : Option (List ℕ)) (ended : Bool) (octets now : List ℕ) (fault : Ungathered) → Gives input left octets → length octets ≤ limit → Adds most left rest ended octets now (Fault fault)
+    → ReadsWhole limit input rest ended (Err fault)
+ReadsWhole-fault limit most input left rest ended octets now ReadFault g h a = ((octets, subst (λ r. Gives input r octets) (sym a.1) g, h), a.0)
+ReadsWhole-fault limit most input left rest ended octets now OutOfMemory g h a = tt

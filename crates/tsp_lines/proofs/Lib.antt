@@ -16,3 +16,4 @@ pub mod WholeInputs
 pub mod Gatherings
 pub mod Leaving
 pub mod NearFeeds
+pub mod Faults

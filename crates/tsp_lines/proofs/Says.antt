@@ -1,12 +1,14 @@
 -- Laws of words that are handed over and written.
-use Rattle.std.proofs.Common.{◌≡◌, ℕ, inl, inr, List, [], ◌++◌, Ok, Err, append-nil, subst}
+use Rattle.std.proofs.Common.{◌≡◌, ℕ, ◌⊎◌, inl, inr, List, [], ◌++◌, Ok, Err, append-nil, subst}
 use Rattle.std.specs.Prelude.{OnOk, OnErr}
 use Rattle.std.specs.declared.option.Option.{Option}
 use Rattle.std.specs.declared.result.Result.{Result}
 use Rattle.tsp_lines.specs.Meanings.{Breaks}
 use Rattle.tsp_lines.specs.Outputs.{Hands}
-use Rattle.tsp_lines.specs.Turns.{IsSaying, only_bad, only_limited}
+use Rattle.tsp_lines.specs.Turns.{IsSaying, only_bad, only_limited, only_so}
 use Rattle.tsp_lines.specs.declared.output.Unwritten.{Unwritten}
+use Rattle.tsp_lines.specs.declared.treat.Outcome.{Outcome}
+use Rattle.tsp_lines.specs.declared.treat.Outcome.TheVariants.{Bad, Limit}
 use Rattle.tsp_lines.proofs.Outputs.{Hands-trans}
 
 -- words that were handed over, and written where all that is held was
@@ -24,8 +26,11 @@ said_err a b c held keeps left words (Err x) p q = (words, said a b c held keeps
 pub Breaks-imp : (P Q : List ℕ → Type 0) → ((w : List ℕ) → P w → Q w) → (a c : Option (List ℕ)) (held keeps : List ℕ) → Breaks P a held c keeps → Breaks Q a held c keeps
 Breaks-imp P Q f a c held keeps b = (b.0, b.1, elim b.2 [ inl e ↦ inl e | inr r ↦ inr (r.0, f (b.0 ++ r.0) r.1) ])
 
-pub cut_bad : (words : List ℕ) (a c : Option (List ℕ)) (held keeps : List ℕ) → Breaks (λ w. w ≡ words) a held c keeps → Breaks (IsSaying (only_bad words)) a held c keeps
+cut_bad : (words : List ℕ) (a c : Option (List ℕ)) (held keeps : List ℕ) → Breaks (λ w. w ≡ words) a held c keeps → Breaks (IsSaying (only_bad words)) a held c keeps
 cut_bad words a c held keeps b = Breaks-imp (λ w. w ≡ words) (IsSaying (only_bad words)) (λ w e. inr (inl e)) a c held keeps b
 
-pub cut_limited : (words : List ℕ) (a c : Option (List ℕ)) (held keeps : List ℕ) → Breaks (λ w. w ≡ words) a held c keeps → Breaks (IsSaying (only_limited words)) a held c keeps
+cut_limited : (words : List ℕ) (a c : Option (List ℕ)) (held keeps : List ℕ) → Breaks (λ w. w ≡ words) a held c keeps → Breaks (IsSaying (only_limited words)) a held c keeps
 cut_limited words a c held keeps b = Breaks-imp (λ w. w ≡ words) (IsSaying (only_limited words)) (λ w e. inr (inr (inl e))) a c held keeps b
+
+pub cut_so : (outcome : Outcome) (words : List ℕ) (a c : Option (List ℕ)) (held keeps : List ℕ) → (outcome ≡ Bad) ⊎ (outcome ≡ Limit) → Breaks (λ w. w ≡ words) a held c keeps → Breaks (IsSaying (only_so outcome words)) a held c keeps
+cut_so outcome words a c held keeps told b = elim told [ inl e ↦ rw e (cut_bad words a c held keeps b) | inr e ↦ rw e (cut_limited words a c held keeps b) ]

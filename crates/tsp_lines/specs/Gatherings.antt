@@ -1,10 +1,12 @@
 -- What comes of an input that is read whole first.
-use Rattle.std.specs.Prelude.{◌≡◌, ℕ, ◌<◌, ◌≤◌, ◌+◌, ◌⊎◌, List, [], ◌++◌, length, Bool, true, false}
+use Rattle.std.specs.Prelude.{◌≡◌, ℕ, ◌<◌, ◌≤◌, ◌+◌, ◌⊎◌, List, [], ◌++◌, length, Bool, true, false, Ok, Err}
 use Rattle.std.specs.declared.option.Option.{Option}
+use Rattle.std.specs.declared.result.Result.{Result}
 use Rattle.tsp_io.specs.Streams.{Gives}
 use Rattle.tsp_lines.specs.Lines.{IsOver}
 use Rattle.tsp_lines.specs.Meanings.{Meaning}
 use Rattle.tsp_lines.specs.Outcomes.{Comes}
+use Rattle.tsp_lines.specs.declared.gather.Ungathered.{Ungathered}
 use Rattle.tsp_lines.specs.declared.gather.Ungathered.TheVariants.{ReadFault as NotRead, OutOfMemory as NoMemory}
 use Rattle.tsp_lines.specs.declared.gather.Added.{Added}
 use Rattle.tsp_lines.specs.declared.gather.Added.TheVariants.{More, End, Fault}
@@ -30,6 +32,12 @@ GathersAs limit input left ended g = Gathers limit input left ended g.octets.ite
 -- octets of the input were read, none past the limit
 abbrev pub ReadsPart : ℕ → Option (List ℕ) → Option (List ℕ) → Type 0
 ReadsPart limit input left = (octets : List ℕ) × Gives input left octets × (length octets ≤ limit)
+
+-- what comes of reading an input whole: its octets, or where a read failed a part of them
+abbrev pub ReadsWhole : ℕ → Option (List ℕ) → Option (List ℕ) → Bool → Result Gathered Ungathered → Type 0
+ReadsWhole limit input left ended (Ok g) = GathersAs limit input left ended g
+ReadsWhole limit input left ended (Err NotRead) = ReadsPart limit input left × (ended ≡ false)
+ReadsWhole limit input left ended (Err NoMemory) = Unit {0}
 
 -- the input was read to its end, or up to the first octet past the limit
 abbrev pub IsGathered : ℕ → Option (List ℕ) → Option (List ℕ) → Bool → Type 0

@@ -1,3 +1,4 @@
+pub mod Faults
 pub mod Gatherings
 pub mod Lines
 pub mod Outputs

@@ -2,7 +2,10 @@
 use Rattle.std.specs.Prelude.{◌≡◌, ℕ, ◌<◌, ◌≤◌, ◌+◌, List, [], ◌∷◌, ◌++◌, length, take, Bool, true, false, ◌==◌}
 use Rattle.tsp_io.specs.declared.source.Got.{Got}
 use Rattle.tsp_io.specs.declared.source.Got.TheVariants.{Got as Gave, Failed as NotGot}
-use Rattle.tsp_lines.specs.Lines.{NoFeed, close}
+use Rattle.tsp_io.specs.declared.source.Source.{Ghosts as SourceOf}
+use Rattle.tsp_io.specs.Streams.{Gives}
+use Rattle.tsp_lines.specs.Lines.{NoFeed, close, IsOver}
+use Rattle.tsp_lines.specs.Faults.{Counts}
 use Rattle.tsp_lines.specs.declared.next.Next.{Next}
 use Rattle.tsp_lines.specs.declared.next.Next.TheVariants.{Line, Last, Long, LongLast, End, Limit, Failed}
 use Rattle.tsp_lines.specs.declared.next.Fill.{Fill}
@@ -59,6 +62,14 @@ is_over Line = false
 is_over Long = false
 is_over Limit = false
 is_over Failed = false
+
+-- what comes of a call that reads up to the next line: source and reader, each before and after, and what it gives
+pub record ReadsNext {S : Type 0} (sources : SourceOf S) (source source_now : S) (reader reader_now : ReaderValue) (given : Next) : Type 0 where
+  pub next : (octets : List ℕ) × Gives (sources.left source) (sources.left source_now) octets × (reader_now.got ≡ reader.got + length octets) × IsNext reader_now (reader.held ++ octets) given
+  pub limit : (reader_now.limit ≡ reader.limit) × (reader_now.got ≤ reader_now.limit + 1)
+  pub faults : Counts (sources.faults source) (sources.faults source_now) (given ≡ Failed)
+  pub over : is_over given ≡ true → IsOver (sources.left source_now)
+  pub ended : sources.ended source_now ≡ is_over given
 
 -- a read gave octets, or none
 abbrev pub IsFill : Fill → List ℕ → Type 0

@@ -5,7 +5,7 @@ use Rattle.tsp_io.specs.Streams.{Gives}
 use Rattle.tsp_lines.specs.Lines.{NoFeed, closed}
 use Rattle.tsp_lines.specs.Meanings.{Meaning, Breaks}
 use Rattle.tsp_lines.specs.Outputs.{Hands}
-use Rattle.tsp_lines.specs.Outcomes.{bad_line, limit_line}
+use Rattle.tsp_lines.specs.Outcomes.{bad_line, limit_line, KeepsUp}
 use Rattle.tsp_lines.specs.Readings.{ReaderValue}
 use Rattle.tsp_lines.specs.declared.treatment.Stop.{Stop}
 use Rattle.tsp_lines.specs.declared.treatment.Stop.TheVariants.{Bad as Refused, Limit as Limited, WriteFault as Unwrote, OutOfMemory as Unheld}
@@ -34,6 +34,15 @@ only_bad words = record { done = λ w. ⊥; bad = λ w. w ≡ words; limited = �
 -- these words alone, of a limit
 abbrev pub only_limited : List ℕ → Sayings
 only_limited words = record { done = λ w. ⊥; bad = λ w. ⊥; limited = λ w. w ≡ words; more = λ w. ⊥ }
+
+-- these words alone, of a refusal or of a limit
+abbrev pub only_so : Outcome → List ℕ → Sayings
+only_so Done words = only_bad words
+only_so Bad words = only_bad words
+only_so ReadFault words = only_bad words
+only_so WriteFault words = only_bad words
+only_so Limit words = only_limited words
+only_so OutOfMemory words = only_bad words
 
 -- what may be written at a line
 abbrev pub line_sayings : Meaning → List (List ℕ) → List ℕ → ℕ → List ℕ → Sayings
@@ -78,3 +87,9 @@ pub record IsAt (m : Meaning) (Stands : List (List ℕ) → Type 0) (input left 
   pub within : reader.got ≤ reader.limit + length reader.held
   pub handed : Hands written [] now held text
   pub counted : number ≡ length lines + 1
+
+-- wherever the treatment is, output that kept up with input before a call keeps up with it after that: what is left of the input and what was written, each before and after
+abbrev pub StillKeepsUp : Meaning → (List (List ℕ) → Type 0) → ReaderValue → List ℕ → ℕ → Option (List ℕ) → Option (List ℕ) → Option (List ℕ) → Option (List ℕ) → Type 0
+StillKeepsUp m Stands reader held number left left_now now now_after =
+    (input written : Option (List ℕ)) (lines : List (List ℕ)) (text : List ℕ) → IsAt m Stands input left written now reader held number lines text → KeepsUp m reader.limit input left written now
+    → KeepsUp m reader.limit input left_now written now_after

@@ -1,10 +1,10 @@
 //! The buffer of a reader.
-ghost use Rattle.std.specs.Prelude.{◌≡◌, ◌≢◌, ℕ, List, ◌≤◌, ◌<◌, ◌+◌, ◌-◌, ◌++◌, length, take};
+ghost use Rattle.std.specs.Prelude.{◌≡◌, ℕ, List, ◌≤◌, ◌<◌, ◌+◌, ◌-◌, ◌++◌, length, take};
 ghost use Rattle.std.specs.Prelude.{slice_range, true, if◌then◌else◌};
-ghost use Rattle.tsp_io.specs.Counts.{Rose};
 ghost use Rattle.tsp_io.specs.Streams.{Gives};
 ghost use Rattle.tsp_lines.specs.Lines.{IsOver};
 ghost use Rattle.tsp_lines.specs.Readings.{count_of, is_end};
+ghost use Rattle.tsp_lines.specs.Faults.{Counts};
 
 use tsp_io::source::{Got, Source};
 
@@ -25,9 +25,7 @@ fn read_behind<S: Source>(source: &mut S, buf: &mut [u8], held: usize, most: usi
         (slice_range buf.new held (held + count_of result)) }
     ensures held { take held buf.new ≡ take held buf.old }
     ensures most { count_of result ≤ most }
-    ensures later { S.faults source.old ≤ S.faults source.new }
-    ensures cause { result ≡ Got.Failed → Rose (S.faults source.old) (S.faults source.new) }
-    ensures still { result ≢ Got.Failed → S.faults source.new ≡ S.faults source.old }
+    ensures faults { Counts (S.faults source.old) (S.faults source.new) (result ≡ Got.Failed) }
     ensures over { result ≡ Got.Got 0 → IsOver (S.left source.new) }
     ensures ended { S.ended source.new ≡ (if is_end result then true else S.ended source.old) }
 {
@@ -50,9 +48,7 @@ pub(crate) fn refill<S: Source>(
         × (length octets ≡ count_of result)
         × (take (to - from + count_of result) buf.new ≡ slice_range buf.old from to ++ octets) }
     ensures most { count_of result ≤ most }
-    ensures later { S.faults source.old ≤ S.faults source.new }
-    ensures cause { result ≡ Got.Failed → Rose (S.faults source.old) (S.faults source.new) }
-    ensures still { result ≢ Got.Failed → S.faults source.new ≡ S.faults source.old }
+    ensures faults { Counts (S.faults source.old) (S.faults source.new) (result ≡ Got.Failed) }
     ensures over { result ≡ Got.Got 0 → IsOver (S.left source.new) }
     ensures ended { S.ended source.new ≡ (if is_end result then true else S.ended source.old) }
 {

@@ -1,7 +1,7 @@
 //! Reads an input whole, before any of it is treated.
-ghost use Rattle.std.specs.Prelude.{◌≡◌, ◌≢◌, ◌≤◌, ◌<◌, ◌^◌, length, false, IfOk};
-ghost use Rattle.tsp_io.specs.Counts.{Rose};
-ghost use Rattle.tsp_lines.specs.Gatherings.{Adds, GathersAs, ReadsPart};
+ghost use Rattle.std.specs.Prelude.{◌≡◌, ◌≤◌, ◌<◌, ◌^◌, length, false, IfOk};
+ghost use Rattle.tsp_lines.specs.Gatherings.{Adds, ReadsWhole};
+ghost use Rattle.tsp_lines.specs.Faults.{Counts};
 
 use crate::gathered::Gathered;
 use std::alloc::{AllocError, Global};
@@ -36,11 +36,8 @@ fn read_more<S: Source>(octets: &mut Vec<u8>, buf: &mut [u8], most: usize, sourc
     requires open { S.ended source.old ≡ false }
     ensures adds { Adds most (S.left source.old) (S.left source.new) (S.ended source.new)
         octets.old.items octets.new.items result }
-    ensures later { S.faults source.old ≤ S.faults source.new }
-    ensures cause { result ≡ Added.Fault Ungathered.ReadFault
-        → Rose (S.faults source.old) (S.faults source.new) }
-    ensures still { result ≢ Added.Fault Ungathered.ReadFault
-        → S.faults source.new ≡ S.faults source.old }
+    ensures faults { Counts (S.faults source.old) (S.faults source.new)
+        (result ≡ Added.Fault Ungathered.ReadFault) }
 {
     match source.read(&mut buf[..most]) {
         Got::Got(0) => Added::End,
@@ -62,14 +59,10 @@ fn gather_by<S: Source>(
     requires open { S.ended source.old ≡ false }
     requires limit { limit < 2 ^ 63 }
     requires room { 0 < length buf.old }
-    ensures gathers { IfOk result (λ g. GathersAs limit (S.left source.old) (S.left source.new)
-        (S.ended source.new) g) }
-    ensures unread { result ≡ Err Ungathered.ReadFault
-        → ReadsPart limit (S.left source.old) (S.left source.new) × (S.ended source.new ≡ false) }
-    ensures later { S.faults source.old ≤ S.faults source.new }
-    ensures cause { result ≡ Err Ungathered.ReadFault
-        → Rose (S.faults source.old) (S.faults source.new) }
-    ensures still { result ≢ Err Ungathered.ReadFault → S.faults source.new ≡ S.faults source.old }
+    ensures comes { ReadsWhole limit (S.left source.old) (S.left source.new) (S.ended source.new)
+        result }
+    ensures faults { Counts (S.faults source.old) (S.faults source.new)
+        (result ≡ Err Ungathered.ReadFault) }
 {
     let mut octets = Vec::new(alloc);
     while octets.len() as u64 <= limit {
@@ -91,14 +84,10 @@ pub(crate) fn gather<S: Source>(
 ) -> Result<Gathered, Ungathered>
     requires open { S.ended source.old ≡ false }
     requires limit { limit < 2 ^ 63 }
-    ensures gathers { IfOk result (λ g. GathersAs limit (S.left source.old) (S.left source.new)
-        (S.ended source.new) g) }
-    ensures unread { result ≡ Err Ungathered.ReadFault
-        → ReadsPart limit (S.left source.old) (S.left source.new) × (S.ended source.new ≡ false) }
-    ensures later { S.faults source.old ≤ S.faults source.new }
-    ensures cause { result ≡ Err Ungathered.ReadFault
-        → Rose (S.faults source.old) (S.faults source.new) }
-    ensures still { result ≢ Err Ungathered.ReadFault → S.faults source.new ≡ S.faults source.old }
+    ensures comes { ReadsWhole limit (S.left source.old) (S.left source.new) (S.ended source.new)
+        result }
+    ensures faults { Counts (S.faults source.old) (S.faults source.new)
+        (result ≡ Err Ungathered.ReadFault) }
 {
     let Ok(mut buf) = buffer(alloc) else {
         return Err(Ungathered::OutOfMemory);

@@ -8,9 +8,10 @@ ghost use Rattle.tsp_io.specs.Streams.{Gives};
 ghost use Rattle.tsp_lines.specs.Lines.{NoFeed, IsOver};
 ghost use Rattle.tsp_lines.specs.Meanings.{Breaks, Goes};
 ghost use Rattle.tsp_lines.specs.Outputs.{Hands};
-ghost use Rattle.tsp_lines.specs.Outcomes.{bad_line, limit_line, Comes, KeepsUp};
+ghost use Rattle.tsp_lines.specs.Outcomes.{Comes};
 ghost use Rattle.tsp_lines.specs.Readings.{IsNext, IsFill, is_over, meets_end};
-ghost use Rattle.tsp_lines.specs.Turns.{only_bad, only_limited, line_sayings, end_sayings, Ends, Stopped, IsAt};
+ghost use Rattle.tsp_lines.specs.Faults.{Counts};
+ghost use Rattle.tsp_lines.specs.Turns.{only_so, line_sayings, end_sayings, Ends, Stopped, IsAt, StillKeepsUp};
 
 use crate::next::{Fill, Next};
 use crate::output::{Output, Unwritten};
@@ -37,27 +38,11 @@ fn say<K: Sink>(output: &mut Output, sink: &mut K, words: &[u8]) -> Result<(), U
     output.flush(sink)
 }
 
-/// Writes that the input is refused.
-fn refuse<K: Sink>(output: &mut Output, sink: &mut K, words: &[u8]) -> Outcome
-    requires { length words.now ≤ 65536 }
-    ensures ends { Ends (only_bad words.now) (K.written sink.old) output.old (K.written sink.new)
-        result }
-    ensures later { K.faults sink.old ≤ K.faults sink.new }
-    ensures cause { result ≡ Outcome.WriteFault → Rose (K.faults sink.old) (K.faults sink.new) }
-    ensures still { result ≢ Outcome.WriteFault → K.faults sink.new ≡ K.faults sink.old }
-    ensures kind { (result ≢ Outcome.ReadFault) × (result ≢ Outcome.Ok) }
-{
-    match say(output, sink, words) {
-        Ok(()) => Outcome::Bad,
-        Err(Unwritten::WriteFault) => Outcome::WriteFault,
-        Err(Unwritten::OutOfMemory) => Outcome::OutOfMemory,
-    }
-}
-
-/// Writes that a limit is passed.
-fn refuse_limit<K: Sink>(output: &mut Output, sink: &mut K, words: &[u8]) -> Outcome
-    requires { length words.now ≤ 65536 }
-    ensures ends { Ends (only_limited words.now) (K.written sink.old) output.old
+/// Writes these words, and ends so.
+fn end_with<K: Sink>(output: &mut Output, sink: &mut K, words: &[u8], outcome: Outcome) -> Outcome
+    requires short { length words.now ≤ 65536 }
+    requires told { (outcome ≡ Outcome.Bad) ⊎ (outcome ≡ Outcome.Limit) }
+    ensures ends { Ends (only_so outcome words.now) (K.written sink.old) output.old
         (K.written sink.new) result }
     ensures later { K.faults sink.old ≤ K.faults sink.new }
     ensures cause { result ≡ Outcome.WriteFault → Rose (K.faults sink.old) (K.faults sink.new) }
@@ -65,7 +50,7 @@ fn refuse_limit<K: Sink>(output: &mut Output, sink: &mut K, words: &[u8]) -> Out
     ensures kind { (result ≢ Outcome.ReadFault) × (result ≢ Outcome.Ok) }
 {
     match say(output, sink, words) {
-        Ok(()) => Outcome::Limit,
+        Ok(()) => outcome,
         Err(Unwritten::WriteFault) => Outcome::WriteFault,
         Err(Unwritten::OutOfMemory) => Outcome::OutOfMemory,
     }
@@ -106,13 +91,11 @@ impl Progress {
         ensures same { (self.new.number ≡ self.old.number)
             × (self.new.reader.limit ≡ self.old.reader.limit)
             × (self.new.reader.got ≤ self.new.reader.limit + 1) }
-        ensures later { (S.faults source.old ≤ S.faults source.new)
-            × (K.faults sink.old ≤ K.faults sink.new) }
-        ensures read { result ≡ Ok Next.Failed → Rose (S.faults source.old) (S.faults source.new) }
-        ensures write { result ≡ Err Unwritten.WriteFault
-            → Rose (K.faults sink.old) (K.faults sink.new) × (0 < length self.new.output) }
-        ensures still { (result ≢ Ok Next.Failed → S.faults source.new ≡ S.faults source.old)
-            × (result ≢ Err Unwritten.WriteFault → K.faults sink.new ≡ K.faults sink.old) }
+        ensures reads { Counts (S.faults source.old) (S.faults source.new)
+            (result ≡ Ok Next.Failed) }
+        ensures writes { Counts (K.faults sink.old) (K.faults sink.new)
+            (result ≡ Err Unwritten.WriteFault) }
+        ensures unwritten { result ≡ Err Unwritten.WriteFault → 0 < length self.new.output }
         ensures over { IfOk result (λ next. is_over next ≡ true → IsOver (S.left source.new)) }
         ensures ended { IfOk result (λ next. S.ended source.new ≡ is_over next) }
     {
@@ -137,11 +120,11 @@ impl Progress {
         match stop {
             Stop::Bad(cause) => {
                 let words = bad_line(self.number, cause.words());
-                refuse(&mut self.output, sink, words.as_slice())
+                end_with(&mut self.output, sink, words.as_slice(), Outcome::Bad)
             }
             Stop::Limit => {
                 let words = limit_line(self.number);
-                refuse_limit(&mut self.output, sink, words.as_slice())
+                end_with(&mut self.output, sink, words.as_slice(), Outcome::Limit)
             }
             Stop::WriteFault => Outcome::WriteFault,
             Stop::OutOfMemory => Outcome::OutOfMemory,
@@ -192,22 +175,7 @@ impl Progress {
         ensures kind { (result ≢ Outcome.ReadFault) × (result ≢ Outcome.Ok) }
     {
         let cause = treatment.refuse_long(self.reader.start());
-        let words = bad_line(self.number, cause.words());
-        refuse(&mut self.output, sink, words.as_slice())
-    }
-
-    /// Refuses the line with the first octet past the limit.
-    fn refuse_past<K: Sink>(&mut self, sink: &mut K) -> Outcome
-        ensures ends { Ends (only_limited (limit_line self.old.number)) (K.written sink.old)
-            self.old.output (K.written sink.new) result }
-        ensures same { self.new.reader ≡ self.old.reader }
-        ensures later { K.faults sink.old ≤ K.faults sink.new }
-        ensures cause { result ≡ Outcome.WriteFault → Rose (K.faults sink.old) (K.faults sink.new) }
-        ensures still { result ≢ Outcome.WriteFault → K.faults sink.new ≡ K.faults sink.old }
-        ensures kind { (result ≢ Outcome.ReadFault) × (result ≢ Outcome.Ok) }
-    {
-        let words = limit_line(self.number);
-        refuse_limit(&mut self.output, sink, words.as_slice())
+        self.stop(sink, Stop::Bad(cause))
     }
 
     /// Ends the treatment where the input ends.
@@ -248,13 +216,11 @@ impl Progress {
         ensures flushed { IfOk result (λ _. self.new.output ≡ []) }
         ensures same { (self.new.number ≡ self.old.number)
             × (self.new.reader.limit ≡ self.old.reader.limit) }
-        ensures later { (S.faults source.old ≤ S.faults source.new)
-            × (K.faults sink.old ≤ K.faults sink.new) }
-        ensures read { result ≡ Ok Fill.NotRead → Rose (S.faults source.old) (S.faults source.new) }
-        ensures write { result ≡ Err Unwritten.WriteFault
-            → Rose (K.faults sink.old) (K.faults sink.new) × (0 < length self.new.output) }
-        ensures still { (result ≢ Ok Fill.NotRead → S.faults source.new ≡ S.faults source.old)
-            × (result ≢ Err Unwritten.WriteFault → K.faults sink.new ≡ K.faults sink.old) }
+        ensures reads { Counts (S.faults source.old) (S.faults source.new)
+            (result ≡ Ok Fill.NotRead) }
+        ensures writes { Counts (K.faults sink.old) (K.faults sink.new)
+            (result ≡ Err Unwritten.WriteFault) }
+        ensures unwritten { result ≡ Err Unwritten.WriteFault → 0 < length self.new.output }
         ensures over { result ≡ Ok Fill.Over → IsOver (S.left source.new) }
         ensures ended { IfOk result (λ fill. S.ended source.new ≡ meets_end fill) }
     {
@@ -280,13 +246,9 @@ impl Progress {
             (K.written sink.old) self.old.reader self.old.output self.old.number lines text
             → Comes T.meaning self.old.reader.limit input (S.left source.new) written
             (K.written sink.new) result }
-        ensures keeps_up { (input : Option (List ℕ)) → (written : Option (List ℕ))
-            → (lines : List (List ℕ)) → (text : List ℕ)
-            → IsAt T.meaning (T.stands treatment.old) input (S.left source.old) written
-            (K.written sink.old) self.old.reader self.old.output self.old.number lines text
-            → KeepsUp T.meaning self.old.reader.limit input (S.left source.old) written
-            (K.written sink.old) → KeepsUp T.meaning self.old.reader.limit input (S.left source.new)
-            written (K.written sink.new) }
+        ensures keeps_up { StillKeepsUp T.meaning (T.stands treatment.old) self.old.reader
+            self.old.output self.old.number (S.left source.old) (S.left source.new)
+            (K.written sink.old) (K.written sink.new) }
         ensures later { (S.faults source.old ≤ S.faults source.new)
             × (K.faults sink.old ≤ K.faults sink.new) }
         ensures read { result ≡ Outcome.ReadFault → Rose (S.faults source.old) (S.faults source.new)
@@ -297,7 +259,7 @@ impl Progress {
         ensures ended { result ≡ Outcome.Ok → S.ended source.new ≡ true }
     {
         match self.peek(source, sink) {
-            Ok(Fill::More) => self.refuse_past(sink),
+            Ok(Fill::More) => self.stop(sink, Stop::Limit),
             Ok(Fill::Over) => self.finish(sink, treatment),
             Ok(Fill::NotRead) => Outcome::ReadFault,
             Err(Unwritten::WriteFault) => Outcome::WriteFault,
@@ -326,13 +288,9 @@ impl Progress {
             (K.written sink.new) self.new.reader self.new.output self.new.number more longer)
             (Comes T.meaning self.old.reader.limit input (S.left source.new) written
             (K.written sink.new)) }
-        ensures keeps_up { (input : Option (List ℕ)) → (written : Option (List ℕ))
-            → (lines : List (List ℕ)) → (text : List ℕ)
-            → IsAt T.meaning (T.stands treatment.old) input (S.left source.old) written
-            (K.written sink.old) self.old.reader self.old.output self.old.number lines text
-            → KeepsUp T.meaning self.old.reader.limit input (S.left source.old) written
-            (K.written sink.old) → KeepsUp T.meaning self.old.reader.limit input (S.left source.new)
-            written (K.written sink.new) }
+        ensures keeps_up { StillKeepsUp T.meaning (T.stands treatment.old) self.old.reader
+            self.old.output self.old.number (S.left source.old) (S.left source.new)
+            (K.written sink.old) (K.written sink.new) }
         ensures open { result ≡ None → S.ended source.new ≡ false }
         ensures counted { result ≡ None
             → self.new.number + length self.new.reader.held ≤ self.new.reader.got + 1 }
@@ -365,7 +323,7 @@ impl Progress {
             },
             Next::Long | Next::LongLast => Some(self.refuse_long(sink, treatment)),
             Next::End => Some(self.finish(sink, treatment)),
-            Next::Limit => Some(self.refuse_past(sink)),
+            Next::Limit => Some(self.stop(sink, Stop::Limit)),
             Next::Failed => Some(Outcome::ReadFault),
         }
     }

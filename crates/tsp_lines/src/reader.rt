@@ -2,10 +2,10 @@
 ghost use Rattle.std.specs.Prelude.{◌≡◌, ◌≢◌, ℕ, List, ◌≤◌, ◌<◌, ◌+◌, ◌-◌, ◌^◌, [], ◌++◌, length};
 ghost use Rattle.std.specs.Prelude.{take, drop, slice_range, true, false, if◌then◌else◌, IfOk};
 ghost use Rattle.std.specs.Prelude.{IfSome, MatchOption};
-ghost use Rattle.tsp_io.specs.Counts.{Rose};
 ghost use Rattle.tsp_io.specs.Streams.{Gives};
 ghost use Rattle.tsp_lines.specs.Lines.{NoFeed, close, IsOver};
-ghost use Rattle.tsp_lines.specs.Readings.{IsNext, IsPassed, long_of, is_over, IsFill, meets_end, count_of, is_end};
+ghost use Rattle.tsp_lines.specs.Readings.{IsNext, ReadsNext, IsPassed, long_of, is_over, IsFill, meets_end};
+ghost use Rattle.tsp_lines.specs.Faults.{Counts};
 
 use crate::buffer::refill;
 use crate::line_feed::first_feed;
@@ -200,9 +200,8 @@ impl LineReader {
             × (self.new.got ≡ self.old.got + length octets) × IsFill result octets }
         ensures limit { (self.new.limit ≡ self.old.limit) × (self.new.got ≤ self.new.limit + 1)
             × (length self.new.held ≤ 65536) }
-        ensures later { S.faults source.old ≤ S.faults source.new }
-        ensures cause { result ≡ Fill.NotRead → Rose (S.faults source.old) (S.faults source.new) }
-        ensures still { result ≢ Fill.NotRead → S.faults source.new ≡ S.faults source.old }
+        ensures faults { Counts (S.faults source.old) (S.faults source.new)
+            (result ≡ Fill.NotRead) }
         ensures over { result ≡ Fill.Over → IsOver (S.left source.new) }
         ensures ended { S.ended source.new ≡ (if meets_end result then true else S.ended
             source.old) }
@@ -268,11 +267,8 @@ impl LineReader {
             × (0 < length octets) × (self.new.got ≤ self.new.limit))
             (λ next. IsPassed self.new octets next) }
         ensures limit { (self.new.limit ≡ self.old.limit) × (self.new.got ≤ self.new.limit + 1) }
-        ensures later { S.faults source.old ≤ S.faults source.new }
-        ensures cause { result ≡ Some Next.Failed
-            → Rose (S.faults source.old) (S.faults source.new) }
-        ensures still { MatchOption result (S.faults source.new ≡ S.faults source.old)
-            (λ next. next ≢ Next.Failed → S.faults source.new ≡ S.faults source.old) }
+        ensures faults { Counts (S.faults source.old) (S.faults source.new)
+            (result ≡ Some Next.Failed) }
         ensures over { IfSome result (λ next. is_over next ≡ true → IsOver (S.left source.new)) }
         ensures ended { MatchOption result (S.ended source.new ≡ false)
             (λ next. S.ended source.new ≡ is_over next) }
@@ -295,15 +291,7 @@ impl LineReader {
         requires long { 1024 < length self.old.held }
         requires within { self.old.got ≤ self.old.limit }
         requires open { S.ended source.old ≡ false }
-        ensures next { (octets : List ℕ) × Gives (S.left source.old) (S.left source.new) octets
-            × (self.new.got ≡ self.old.got + length octets)
-            × IsNext self.new (self.old.held ++ octets) result }
-        ensures limit { (self.new.limit ≡ self.old.limit) × (self.new.got ≤ self.new.limit + 1) }
-        ensures later { S.faults source.old ≤ S.faults source.new }
-        ensures cause { result ≡ Next.Failed → Rose (S.faults source.old) (S.faults source.new) }
-        ensures still { result ≢ Next.Failed → S.faults source.new ≡ S.faults source.old }
-        ensures over { is_over result ≡ true → IsOver (S.left source.new) }
-        ensures ended { S.ended source.new ≡ is_over result }
+        ensures { ReadsNext S.Source source.old source.new self.old self.new result }
     {
         let start = self.start_of_held();
         loop {
@@ -323,9 +311,8 @@ impl LineReader {
         ensures there { IsFill result self.new.held }
         ensures limit { (self.new.limit ≡ self.old.limit) × (self.new.got ≤ self.new.limit + 1)
             × (length self.new.held ≤ 65536) }
-        ensures later { S.faults source.old ≤ S.faults source.new }
-        ensures cause { result ≡ Fill.NotRead → Rose (S.faults source.old) (S.faults source.new) }
-        ensures still { result ≢ Fill.NotRead → S.faults source.new ≡ S.faults source.old }
+        ensures faults { Counts (S.faults source.old) (S.faults source.new)
+            (result ≡ Fill.NotRead) }
         ensures over { result ≡ Fill.Over → IsOver (S.left source.new) }
         ensures ended { S.ended source.new ≡ meets_end result }
     {
@@ -338,15 +325,7 @@ impl LineReader {
     /// The next line. Reads as often as it needs.
     pub fn next<S: Source>(&mut self, source: &mut S) -> Next
         requires open { S.ended source.old ≡ false }
-        ensures next { (octets : List ℕ) × Gives (S.left source.old) (S.left source.new) octets
-            × (self.new.got ≡ self.old.got + length octets)
-            × IsNext self.new (self.old.held ++ octets) result }
-        ensures limit { (self.new.limit ≡ self.old.limit) × (self.new.got ≤ self.new.limit + 1) }
-        ensures later { S.faults source.old ≤ S.faults source.new }
-        ensures cause { result ≡ Next.Failed → Rose (S.faults source.old) (S.faults source.new) }
-        ensures still { result ≢ Next.Failed → S.faults source.new ≡ S.faults source.old }
-        ensures over { is_over result ≡ true → IsOver (S.left source.new) }
-        ensures ended { S.ended source.new ≡ is_over result }
+        ensures { ReadsNext S.Source source.old source.new self.old self.new result }
     {
         loop {
             if let Some(next) = self.next_held() {

@@ -1,29 +1,30 @@
 -- What was read so far goes on with what the next read adds.
 use Rattle.std.specs.Prelude.{◌≡◌, refl}
-use Rattle.std.proofs.Common.{◌∙◌, arith, sym}
+use Rattle.std.proofs.Common.{◌∙◌, ap, arith, sym}
 use Rattle.tsp_lines.specs.declared.gather.Added.TheVariants.{Fault}
 use Rattle.tsp_lines.specs.declared.gather.Ungathered.TheVariants.{ReadFault}
 use Rattle.tsp_lines.proofs.Streams.{Gives-nil}
-use Rattle.tsp_lines.proofs.Gatherings.{Gathers-end, Gathers-past, Gives-more, more_added, ReadsPart-fault}
+use Rattle.tsp_lines.proofs.Faults.{Counts-from}
+use Rattle.tsp_lines.proofs.Gatherings.{Gathers-end, Gathers-past, Gives-more, more_added, ReadsWhole-fault}
 use Rattle.tsp_lines.proofs.gather.gather_by.Goals as goal
 
 pub loop-octets-init : goal.loop-octets-init
 loop-octets-init g c = (rw c.new-octets.ensures.items (Gives-nil (g.S.Source.left c.args.source.now)), rw c.new-octets.ensures.items (omega arith), c.requires.open, refl)
 
-pub returns-in-End-clause-gathers : goal.returns-in-End-clause-gathers
-returns-in-End-clause-gathers g c =
+pub returns-in-End-clause-comes : goal.returns-in-End-clause-comes
+returns-in-End-clause-comes g c =
     let i = c.loop-octets.invariant in
     (rw c.new.ensures.0 (Gathers-end c.args.limit c.min-most.result _ _ _ _ _ _ i.0 (omega arith) c.in-End.ensures.adds), c.new.ensures.1, c.new.ensures.2)
 
-pub returns-in-Fault-clause-unread : goal.returns-in-Fault-clause-unread
-returns-in-Fault-clause-unread g c = λ e.
+pub returns-in-Fault-clause-comes : goal.returns-in-Fault-clause-comes
+returns-in-Fault-clause-comes g c =
     let i = c.loop-octets.invariant in
-    ReadsPart-fault c.args.limit c.min-most.result (g.S.Source.left c.args.source.now) (g.S.Source.left c.loop-octets.source) (g.S.Source.left c.read_more.new.source) (g.S.Source.ended c.read_more.new.source) c.loop-octets.octets.items c.read_more.new.octets.items c.in-Fault.fault i.0 (omega arith) c.in-Fault.ensures.adds (cc)
+    ReadsWhole-fault c.args.limit c.min-most.result (g.S.Source.left c.args.source.now) (g.S.Source.left c.loop-octets.source) (g.S.Source.left c.read_more.new.source) (g.S.Source.ended c.read_more.new.source) c.loop-octets.octets.items c.read_more.new.octets.items c.in-Fault.fault i.0 (omega arith) c.in-Fault.ensures.adds
 
-pub returns-in-Fault-clause-still : goal.returns-in-Fault-clause-still
-returns-in-Fault-clause-still g c = λ n.
+pub returns-in-Fault-clause-faults : goal.returns-in-Fault-clause-faults
+returns-in-Fault-clause-faults g c =
     let i = c.loop-octets.invariant in
-    c.read_more.ensures.still (λ e. let q : Fault c.in-Fault.fault ≡ Fault ReadFault = sym c.in-Fault.is ∙ e in n (cc)) ∙ i.3
+    Counts-from _ _ _ _ _ i.3 (λ e. c.in-Fault.is ∙ ap Fault (cc)) (λ e. let q : Fault c.in-Fault.fault ≡ Fault ReadFault = sym c.in-Fault.is ∙ e in cc) c.read_more.ensures.faults
 
 pub loop-octets-preserved : goal.loop-octets-preserved
 loop-octets-preserved g c =
@@ -33,7 +34,7 @@ loop-octets-preserved g c =
       Gives-more c.min-most.result _ _ _ _ _ _ i.0 a,
       omega (arith, longer.0, longer.1),
       a.0,
-      c.read_more.ensures.still (λ e. let q = sym c.in-More.is ∙ e in cc) ∙ i.3,
+      c.read_more.ensures.faults.still (λ e. let q = sym c.in-More.is ∙ e in cc) ∙ i.3,
     )
 
 pub loop-octets-smaller : goal.loop-octets-smaller
@@ -41,7 +42,7 @@ loop-octets-smaller g c =
     let longer = more_added c.min-most.result _ _ _ _ _ c.in-More.ensures.adds in
     omega (arith, longer.0, longer.1)
 
-pub returns-clause-gathers : goal.returns-clause-gathers
-returns-clause-gathers g c =
+pub returns-clause-comes : goal.returns-clause-comes
+returns-clause-comes g c =
     let i = c.loop-octets.invariant in
     (rw c.new-2.ensures.0 (Gathers-past c.args.limit _ _ _ _ i.0 i.1 (omega arith) i.2), c.new-2.ensures.1, c.new-2.ensures.2)

@@ -11,7 +11,7 @@ use Rattle.tsp_lines.proofs.treat_gathered.treat_gathered.Goals as goal
 
 pub returns-in-Ok : goal.returns-in-Ok
 returns-in-Ok g c =
-    let e = c.in-Ok.ensures.gathers in
+    let e = c.in-Ok.ensures.comes in
     let t = c.treat_all.ensures in
     let read : c.treat_all.result ≡ ReadFault → ⊥ = λ r. absurd (omega (arith, (t.leaves.read r).0)) in
     let given : Comes g.T.Treatment.meaning c.args.limit (g.S.Source.left c.args.source.now) (g.S.Source.left c.gather.new.source) (g.K.Sink.written c.args.sink.now) (g.K.Sink.written c.treat_all.new.sink) c.treat_all.result =
@@ -21,10 +21,10 @@ returns-in-Ok g c =
       gathered = λ r m. (c.in-Ok.gathered.octets.items, e.0);
       unwritten = λ r. absurd (read r);
       leaves = record {
-        later = (c.gather.ensures.later, t.leaves.later.1);
+        later = (c.gather.ensures.faults.later, t.leaves.later.1);
         read = λ r. absurd (read r);
         write = t.leaves.write;
-        still = (λ r. c.gather.ensures.still (λ n. let q = sym c.in-Ok.is ∙ n in cc), t.leaves.still.1);
+        still = (λ r. c.gather.ensures.faults.still (λ n. let q = sym c.in-Ok.is ∙ n in cc), t.leaves.still.1);
         ended = λ done. ended-given g.T.Treatment.meaning c.args.limit (g.S.Source.left c.args.source.now) (g.S.Source.left c.gather.new.source) (Some (drop c.treat_all.new.source.at c.treat_all.new.source.octets.items)) (g.K.Sink.written c.args.sink.now) (g.K.Sink.written c.treat_all.new.sink) (g.S.Source.ended c.gather.new.source) c.in-Ok.gathered.octets.items c.in-Ok.gathered.at c.treat_all.result e.0 e.1 t.comes done;
       };
     }
@@ -32,14 +32,14 @@ returns-in-Ok g c =
 pub returns-in-Err-ReadFault : goal.returns-in-Err-ReadFault
 returns-in-Err-ReadFault g c =
     let fault : c.gather.result ≡ Err NotRead = c.in-Err-ReadFault.is ∙ ap Err c.in-Err-ReadFault.field-0-is in
-    let u = c.gather.ensures.unread fault in record {
+    let u = rw fault at c.gather.ensures.comes in record {
       comes = (u.0, refl);
       answers = λ definite octets outcome output told answer. (output, ([], refl, Grows-none _));
       gathered = λ r m. absurd (r refl);
       unwritten = λ r. refl;
       leaves = record {
-        later = (c.gather.ensures.later, omega arith);
-        read = λ r. (c.gather.ensures.cause fault, u.1);
+        later = (c.gather.ensures.faults.later, omega arith);
+        read = λ r. (c.gather.ensures.faults.cause fault, u.1);
         write = λ r. cc;
         still = (λ r. absurd (r refl), λ r. refl);
         ended = λ r. cc;
@@ -54,10 +54,10 @@ returns-in-Err-OutOfMemory g c =
       gathered = λ r m. absurd (m refl);
       unwritten = λ r. cc;
       leaves = record {
-        later = (c.gather.ensures.later, omega arith);
+        later = (c.gather.ensures.faults.later, omega arith);
         read = λ r. cc;
         write = λ r. cc;
-        still = (λ r. c.gather.ensures.still (λ n. let q = sym fault ∙ n in cc), λ r. refl);
+        still = (λ r. c.gather.ensures.faults.still (λ n. let q = sym fault ∙ n in cc), λ r. refl);
         ended = λ r. cc;
       };
     }

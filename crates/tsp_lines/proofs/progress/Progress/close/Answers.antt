@@ -11,7 +11,7 @@ returns-in-Ok-More-clause-closes g c = λ input written lines text at.
     let f = c.in-Ok-More.ensures.fills in
     let some = rw (c.in-Ok-More.field-0-is, f.0.2) at f.1 in
     let a = After-next _ _ _ _ _ _ _ _ _ c.peek.new.self.reader _ c.peek.new.self.output _ c.peek.new.self.number lines text f.0.0 at f.0.1 f.0.3 c.peek.ensures.hands c.peek.ensures.same.0 c.peek.ensures.same.1 in
-    Turn-full _ _ _ _ _ _ _ c.peek.new.self.reader _ _ lines text _ a _ c.refuse_past.result (c.requires.full lines at.stands) some c.refuse_past.ensures.ends
+    Turn-full _ _ _ _ _ _ _ c.peek.new.self.reader _ _ lines text _ a _ c.stop.result (c.requires.full lines at.stands) some c.stop.ensures.stops
 
 pub returns-in-Ok-Over-clause-closes : goal.returns-in-Ok-Over-clause-closes
 returns-in-Ok-Over-clause-closes g c = λ input written lines text at.
@@ -30,7 +30,7 @@ returns-in-Ok-NotRead-clause-closes g c = λ input written lines text at.
 pub returns-in-Err-WriteFault-clause-closes : goal.returns-in-Err-WriteFault-clause-closes
 returns-in-Err-WriteFault-clause-closes g c = λ input written lines text at.
     Comes-unflushed _ _ input _ (g.S.Source.left c.peek.new.source) written _ _ _ _ c.peek.new.self.output _ lines text WriteFault at
-    (c.peek.new.self.output, (c.peek.ensures.write (c.in-Err-WriteFault.is ∙ ap Err c.in-Err-WriteFault.field-0-is)).1, ([], c.peek.ensures.hands, inl refl))
+    (c.peek.new.self.output, c.peek.ensures.unwritten (c.in-Err-WriteFault.is ∙ ap Err c.in-Err-WriteFault.field-0-is), ([], c.peek.ensures.hands, inl refl))
 
 pub returns-in-Err-OutOfMemory-clause-closes : goal.returns-in-Err-OutOfMemory-clause-closes
 returns-in-Err-OutOfMemory-clause-closes g c = λ input written lines text at.
@@ -40,7 +40,7 @@ returns-in-Err-OutOfMemory-clause-closes g c = λ input written lines text at.
 pub returns-in-Ok-More-clause-keeps_up : goal.returns-in-Ok-More-clause-keeps_up
 returns-in-Ok-More-clause-keeps_up g c = λ input written lines text at kept.
     let f = c.in-Ok-More.ensures.fills in
-    KeepsUp-grew g.T.Treatment.meaning _ _ _ _ (g.K.Sink.written c.peek.new.sink) _ (KeepsUp-peek g.T.Treatment.meaning _ _ _ _ _ _ (g.K.Sink.written c.peek.new.sink) c.args.self.now.reader c.peek.new.self.reader _ c.peek.new.self.output _ lines text f.0.0 at f.0.1 f.0.2 f.0.3 c.peek.ensures.hands (omega (arith, c.in-Ok-More.ensures.fits.0, c.peek.ensures.same.1)) c.in-Ok-More.ensures.fits.1 c.in-Ok-More.ensures.flushed) (Ends-grew (only_limited (limit_line c.peek.new.self.number)) _ _ _ _ c.refuse_past.ensures.ends)
+    KeepsUp-grew g.T.Treatment.meaning _ _ _ _ (g.K.Sink.written c.peek.new.sink) _ (KeepsUp-peek g.T.Treatment.meaning _ _ _ _ _ _ (g.K.Sink.written c.peek.new.sink) c.args.self.now.reader c.peek.new.self.reader _ c.peek.new.self.output _ lines text f.0.0 at f.0.1 f.0.2 f.0.3 c.peek.ensures.hands (omega (arith, c.in-Ok-More.ensures.fits.0, c.peek.ensures.same.1)) c.in-Ok-More.ensures.fits.1 c.in-Ok-More.ensures.flushed) (Ends-grew (only_limited (limit_line c.peek.new.self.number)) _ _ _ _ c.stop.ensures.stops)
 
 pub returns-in-Ok-Over-clause-keeps_up : goal.returns-in-Ok-Over-clause-keeps_up
 returns-in-Ok-Over-clause-keeps_up g c = λ input written lines text at kept.

@@ -6,7 +6,7 @@ use Rattle.tsp_lines.proofs.progress.Progress.refuse_long.Goals as goal
 
 pub returns-clause-ends : goal.returns-clause-ends
 returns-clause-ends g c = λ lines text line stands accepts room feedless long start.
-    Ends-only_bad (line_sayings g.T.Treatment.meaning lines text c.args.self.now.number line) _ _ _ _ c.args.self.now.output c.args.self.now.output c.refuse.result
+    Ends-only_bad (line_sayings g.T.Treatment.meaning lines text c.args.self.now.number line) _ _ _ _ c.args.self.now.output c.args.self.now.output c.stop.result
     (c.refuse_long-cause.result, c.refuse_long-cause.ensures lines text line stands accepts room feedless long (c.start.ensures ∙ start), refl)
     (Hands-nil _ c.args.self.now.output)
-    (rw (c.as_slice.ensures.value, c.bad_line-words.ensures, c.words.ensures.value) at c.refuse.ensures.ends)
+    c.stop.ensures.stops

@@ -10,7 +10,7 @@ use Rattle.tsp_lines.proofs.progress.Progress.turn.Goals as goal
 pub returns-in-Err-WriteFault-clause-turns : goal.returns-in-Err-WriteFault-clause-turns
 returns-in-Err-WriteFault-clause-turns g c = λ input written lines text at.
     Comes-unflushed _ _ input _ (g.S.Source.left c.next.new.source) written _ _ _ _ c.next.new.self.output _ lines text WriteFault at
-    (c.next.new.self.output, (c.next.ensures.write (c.in-Err-WriteFault.is ∙ ap Err c.in-Err-WriteFault.field-0-is)).1, ([], c.next.ensures.hands, inl refl))
+    (c.next.new.self.output, c.next.ensures.unwritten (c.in-Err-WriteFault.is ∙ ap Err c.in-Err-WriteFault.field-0-is), ([], c.next.ensures.hands, inl refl))
 
 pub returns-in-Err-OutOfMemory-clause-turns : goal.returns-in-Err-OutOfMemory-clause-turns
 returns-in-Err-OutOfMemory-clause-turns g c = λ input written lines text at.
@@ -68,7 +68,7 @@ pub returns-in-Limit-clause-turns : goal.returns-in-Limit-clause-turns
 returns-in-Limit-clause-turns g c = λ input written lines text at.
     let n = c.in-Ok.ensures.next in
     let a = After-next _ _ _ _ _ _ _ _ _ c.next.new.self.reader _ c.next.new.self.output _ c.next.new.self.number lines text n.0 at n.1 n.2 c.next.ensures.hands c.next.ensures.same.0 c.next.ensures.same.1 in
-    Turn-limit _ _ _ _ _ _ _ c.next.new.self.reader _ _ lines text _ a _ c.refuse_past.result (rw c.in-Limit.is at n.3) c.refuse_past.ensures.ends
+    Turn-limit _ _ _ _ _ _ _ c.next.new.self.reader _ _ lines text _ a _ c.stop.result (rw c.in-Limit.is at n.3) c.stop.ensures.stops
 
 pub returns-in-Failed-clause-turns : goal.returns-in-Failed-clause-turns
 returns-in-Failed-clause-turns g c = λ input written lines text at.
@@ -99,7 +99,7 @@ pub returns-in-Limit-clause-keeps_up : goal.returns-in-Limit-clause-keeps_up
 returns-in-Limit-clause-keeps_up g c = λ input written lines text at kept.
     let n = c.in-Ok.ensures.next in
     KeepsUp-grew g.T.Treatment.meaning _ _ _ _ (g.K.Sink.written c.next.new.sink) _ (KeepsUp-next g.T.Treatment.meaning _ _ _ _ _ _ (g.K.Sink.written c.next.new.sink) c.args.self.now.reader c.next.new.self.reader _ c.next.new.self.output _ lines text n.0 c.in-Ok.next at kept n.1 n.2 c.next.ensures.hands n.3 (omega (arith, c.next.ensures.same.1, c.next.ensures.same.2)) (elim c.next.ensures.flushed [ inl e ↦ inl (ap g.S.Source.left e) | inr e ↦ inr e ]))
-    (Ends-grew (only_limited (limit_line c.next.new.self.number)) _ _ _ _ c.refuse_past.ensures.ends)
+    (Ends-grew (only_limited (limit_line c.next.new.self.number)) _ _ _ _ c.stop.ensures.stops)
 
 pub returns-in-None-clause-keeps_up : goal.returns-in-None-clause-keeps_up
 returns-in-None-clause-keeps_up g c = λ input written lines text at kept.
