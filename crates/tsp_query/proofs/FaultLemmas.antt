@@ -1,22 +1,11 @@
 -- Laws of what calls do to counts of faults.
-use Rattle.std.specs.Prelude.{◌≡◌, ℕ}
+use Rattle.std.specs.Prelude.{◌≡◌}
 use Rattle.std.proofs.Common.{◌∙◌, arith}
 use Rattle.tsp_io.specs.declared.link.Link.{Ghosts as LinkOf}
-use Rattle.tsp_query.specs.Faults.{Counts, LinkCounts}
+pub use Rattle.tsp_lines.proofs.Faults.{Counts-from, Counts-same}
+use Rattle.tsp_query.specs.Faults.{LinkCounts}
 
--- a count from an earlier moment, at which it was the same, and by another word for the fault
-pub Counts-from : (old before now : ℕ) (fault failed : Type 0) → before ≡ old → (fault → failed) → (failed → fault) → Counts before now failed → Counts old now fault
-Counts-from old before now fault failed same to from c = record {
-  later = omega (arith, same, c.later);
-  cause = λ e. rw (← same) (c.cause (to e));
-  still = λ h. c.still (λ e. h (from e)) ∙ same;
-}
-
--- a count that is unchanged, where the fault doesn't come
-pub Counts-same : (before now : ℕ) (fault : Type 0) → now ≡ before → ¬ fault → Counts before now fault
-Counts-same before now fault same never = record { later = omega (arith, same); cause = λ e. absurd (never e); still = λ h. same }
-
--- the same of a link's counts
+-- a link's counts from an earlier moment, at which they were the same, and by another word for the fault
 pub LinkCounts-from : {L : Type 0} (links : LinkOf L) (old before now : L) (fault failed : Type 0) → links.faults before ≡ links.faults old → links.send_faults before ≡ links.send_faults old → (fault → failed) → (failed → fault)
     → LinkCounts links before now failed → LinkCounts links old now fault
 LinkCounts-from links old before now fault failed same sends to from c = record {

@@ -1,16 +1,11 @@
 -- How a call leaves counts of faults.
-use Rattle.std.specs.Prelude.{◌≡◌, ◌⊎◌, ◌≤◌, ℕ}
+use Rattle.std.specs.Prelude.{◌≡◌, ◌⊎◌, ◌≤◌}
 use Rattle.tsp_io.specs.Counts.{Rose}
 use Rattle.tsp_io.specs.declared.link.Link.{Ghosts as LinkOf}
+pub use Rattle.tsp_lines.specs.Faults.{Counts}
 
--- a count never falls; this fault comes only if the count rose; where this fault doesn't come, the count is unchanged
-pub record Counts (before now : ℕ) (fault : Type 0) : Type 0 where
-  pub later : before ≤ now
-  pub cause : fault → Rose before now
-  pub still : ¬ fault → now ≡ before
-
--- the same of a link's two counts, that of failed binds and receives and that of failed sends: this fault comes only if
--- one of them rose
+-- what `Counts` says of one count, of a link's two, that of failed binds and receives and that of failed sends: this
+-- fault comes only if one of them rose
 pub record LinkCounts {L : Type 0} (links : LinkOf L) (before now : L) (fault : Type 0) : Type 0 where
   pub later : (links.faults before ≤ links.faults now) × (links.send_faults before ≤ links.send_faults now)
   pub cause : fault → Rose (links.faults before) (links.faults now) ⊎ Rose (links.send_faults before) (links.send_faults now)

@@ -45,14 +45,9 @@ impl Treatment for Replay {
         false
     }
 
-    fn treat<K: Sink>(
-        &mut self,
-        line: &[u8],
-        output: &mut Output,
-        sink: &mut K,
-    ) -> Result<(), Stop> {
+    fn treat<K: Sink>(&mut self, line: &[u8], out: &mut Output, sink: &mut K) -> Result<(), Stop> {
         match self.stage.advance(self.alloc, line) {
-            Ok(()) => tell_stage(&self.stage, &mut self.text, output, sink),
+            Ok(()) => tell_stage(&self.stage, &mut self.text, out, sink),
             Err(stop) => Err(stop),
         }
     }

@@ -4,22 +4,4 @@
 #![tactic(auto)]
 
 #[cfg(test)]
-mod acts;
-#[cfg(test)]
-mod codec;
-#[cfg(test)]
-mod commands;
-#[cfg(test)]
-mod conversions;
-#[cfg(test)]
-mod gathered;
-#[cfg(test)]
-mod lines;
-#[cfg(test)]
-mod messages;
-#[cfg(test)]
-mod outside;
-#[cfg(test)]
-mod schedules;
-#[cfg(test)]
-mod values;
+mod tests;

@@ -33,12 +33,7 @@ impl Treatment for Echo {
         self.lines >= 3
     }
 
-    fn treat<K: Sink>(
-        &mut self,
-        line: &[u8],
-        output: &mut Output,
-        sink: &mut K,
-    ) -> Result<(), Stop> {
+    fn treat<K: Sink>(&mut self, line: &[u8], out: &mut Output, sink: &mut K) -> Result<(), Stop> {
         match line {
             [b'!'] => Err(Stop::Bad(Cause::of(b"mark"))),
             [b'#'] => Err(Stop::Limit),
@@ -47,7 +42,7 @@ impl Treatment for Echo {
                 let mut text = ArrayVec::<u8, 1025>::new();
                 let _ = text.try_extend_from_slice(line);
                 let _ = text.try_push(b'\n');
-                output.put(sink, text.as_slice())?;
+                out.put(sink, text.as_slice())?;
                 Ok(())
             }
         }
@@ -68,145 +63,56 @@ impl Treatment for Echo {
     }
 }
 
-/// An input, how it is read and written, and how its treatment should end.
-struct Row {
-    limit: u32,
-    input: &'static [u8],
-    reads: &'static [u32],
-    writes: &'static [u32],
-    outcome: Outcome,
-    written: &'static [u8],
-}
+/// An input and its limit, the reads and the writes that fail, how its treatment should end, and what is written.
+type Row = (
+    &'static str,
+    u32,
+    &'static [u32],
+    &'static [u32],
+    Outcome,
+    &'static str,
+);
 
 /// Whether an input that is read two octets at a time ends as the row says.
 fn comes(alloc: Global, row: &Row) -> Result<bool, AllocError> {
-    let mut source = MemorySource::new(alloc, row.input, row.reads)?.in_pieces(2);
-    let mut sink = MemorySink::new(alloc, row.writes)?;
+    let (input, limit, reads, writes, outcome, written) = *row;
+    let mut source = MemorySource::new(alloc, input.as_bytes(), reads)?.in_pieces(2);
+    let mut sink = MemorySink::new(alloc, writes)?;
     let mut echo = Echo { lines: 0 };
-    let outcome = treat_all(
-        alloc,
-        u64::from(row.limit),
-        &mut source,
-        &mut sink,
-        &mut echo,
-    );
-    Ok(outcome == row.outcome && sink.written() == row.written)
+    let ended = treat_all(alloc, u64::from(limit), &mut source, &mut sink, &mut echo);
+    Ok(ended == outcome && sink.written() == written.as_bytes())
 }
 
 const OUTCOMES: &[Row] = &[
-    Row {
-        limit: 100,
-        input: b"a\nbb\n",
-        reads: &[],
-        writes: &[],
-        outcome: Outcome::Ok,
-        written: b"a\nbb\n",
-    },
-    Row {
-        limit: 100,
-        input: b"a\nbb",
-        reads: &[],
-        writes: &[],
-        outcome: Outcome::Ok,
-        written: b"a\nbb\n",
-    },
-    Row {
-        limit: 100,
-        input: b"",
-        reads: &[],
-        writes: &[],
-        outcome: Outcome::Bad,
-        written: b"bad 1 empty\n",
-    },
-    Row {
-        limit: 100,
-        input: b"a\n!\nb\n",
-        reads: &[],
-        writes: &[],
-        outcome: Outcome::Bad,
-        written: b"a\nbad 2 mark\n",
-    },
-    Row {
-        limit: 100,
-        input: b"a\n#",
-        reads: &[],
-        writes: &[],
-        outcome: Outcome::Limit,
-        written: b"a\nlimit 2\n",
-    },
-    Row {
-        limit: 4,
-        input: b"a\nb\nc",
-        reads: &[],
-        writes: &[],
-        outcome: Outcome::Limit,
-        written: b"a\nb\nlimit 3\n",
-    },
-    Row {
-        limit: 3,
-        input: b"a\nb\n",
-        reads: &[],
-        writes: &[],
-        outcome: Outcome::Limit,
-        written: b"a\nlimit 2\n",
-    },
-    Row {
-        limit: 4,
-        input: b"a\nb\n",
-        reads: &[],
-        writes: &[],
-        outcome: Outcome::Ok,
-        written: b"a\nb\n",
-    },
-    Row {
-        limit: 100,
-        input: b"a\nb\n",
-        reads: &[1],
-        writes: &[],
-        outcome: Outcome::ReadFault,
-        written: b"a\n",
-    },
-    Row {
-        limit: 100,
-        input: b"a\nb\n",
-        reads: &[],
-        writes: &[0],
-        outcome: Outcome::WriteFault,
-        written: b"",
-    },
-    Row {
-        limit: 100,
-        input: b"a\nb\n",
-        reads: &[],
-        writes: &[1],
-        outcome: Outcome::WriteFault,
-        written: b"a\n",
-    },
+    ("a\nbb\n", 100, &[], &[], Outcome::Ok, "a\nbb\n"),
+    ("a\nbb", 100, &[], &[], Outcome::Ok, "a\nbb\n"),
+    ("", 100, &[], &[], Outcome::Bad, "bad 1 empty\n"),
+    ("a\n!\nb\n", 100, &[], &[], Outcome::Bad, "a\nbad 2 mark\n"),
+    ("a\n#", 100, &[], &[], Outcome::Limit, "a\nlimit 2\n"),
+    ("a\nb\nc", 4, &[], &[], Outcome::Limit, "a\nb\nlimit 3\n"),
+    ("a\nb\n", 3, &[], &[], Outcome::Limit, "a\nlimit 2\n"),
+    ("a\nb\n", 4, &[], &[], Outcome::Ok, "a\nb\n"),
+    ("a\nb\n", 100, &[1], &[], Outcome::ReadFault, "a\n"),
+    ("a\nb\n", 100, &[], &[0], Outcome::WriteFault, ""),
+    ("a\nb\n", 100, &[], &[1], Outcome::WriteFault, "a\n"),
     // A fourth line isn't allowed: the first octet of one passes a limit.
-    Row {
-        limit: 100,
-        input: b"a\nb\nc\n",
-        reads: &[],
-        writes: &[],
-        outcome: Outcome::Ok,
-        written: b"a\nb\nc\n",
-    },
-    Row {
-        limit: 100,
-        input: b"a\nb\nc\nd",
-        reads: &[],
-        writes: &[],
-        outcome: Outcome::Limit,
-        written: b"a\nb\nc\nlimit 4\n",
-    },
-    Row {
-        limit: 100,
-        input: b"a\nb\nc\nd",
-        reads: &[3],
-        writes: &[],
-        outcome: Outcome::ReadFault,
-        written: b"a\nb\nc\n",
-    },
+    ("a\nb\nc\n", 100, &[], &[], Outcome::Ok, "a\nb\nc\n"),
+    (
+        "a\nb\nc\nd",
+        100,
+        &[],
+        &[],
+        Outcome::Limit,
+        "a\nb\nc\nlimit 4\n",
+    ),
+    (
+        "a\nb\nc\nd",
+        100,
+        &[3],
+        &[],
+        Outcome::ReadFault,
+        "a\nb\nc\n",
+    ),
 ];
 
 /// Each outcome comes where it should, with what is written up to then.

@@ -1,5 +1,5 @@
 use Rattle.std.proofs.Common.{◌≡◌, []}
-use Rattle.tsp_text_tests.proofs.values.header_of.Given as goal
+use Rattle.tsp_text_tests.proofs.tests.values.header_of.Given as goal
 
 -- no network is added
 abbrev pub invariant-loop : goal.invariant-loop

@@ -1,7 +1,7 @@
 use Rattle.std.proofs.Common.{◌≤◌, [], inl, refl, length}
 use Rattle.tsp_lines.specs.Meanings.{Meaning}
 use Rattle.tsp_lines.proofs.Stops.{MatchResult-line}
-use Rattle.tsp_text_tests.proofs.lines.EchoTreatment.treat.Goals as goal
+use Rattle.tsp_text_tests.proofs.tests.lines.EchoTreatment.treat.Goals as goal
 
 pub returns-in_err-put-in_default-clause-treats : goal.returns-in_err-put-in_default-clause-treats
 returns-in_err-put-in_default-clause-treats g c = λ lines text s a room.
@@ -13,4 +13,4 @@ returns-in_err-put-in_default-clause-treats g c = λ lines text s a room.
       ends = λ lines more. Unit {0};
       lacks = λ lines cause. Unit {0};
     } in
-    MatchResult-line m lines text c.args.line.now _ _ c.args.output.now c.put.new.self _ c.from_residual.result c.in_err-put-in_default.field-0.0 c.from_residual.ensures ([], c.in_err-put-in_default.ensures.err, inl refl)
+    MatchResult-line m lines text c.args.line.now _ _ c.args.out.now c.put.new.self _ c.from_residual.result c.in_err-put-in_default.field-0.0 c.from_residual.ensures ([], c.in_err-put-in_default.ensures.err, inl refl)
