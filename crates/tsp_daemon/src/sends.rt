@@ -1,13 +1,33 @@
 //! The sends of a step.
-ghost use Rattle.std.specs.Prelude.{◌≡◌, ◌≤◌, ◌+◌, length, OnOk, OnErr};
+ghost use Rattle.std.specs.Prelude.{◌≡◌, ◌≤◌, ◌+◌, [], ◌∷◌, length, OnOk, OnErr, true};
 ghost use Rattle.tsp_rules.specs.Strangers.{IsKnown};
 ghost use Rattle.tsp_daemon.specs.Ends.{OnlySends, TriesAll, TriesSome};
 ghost use Rattle.tsp_daemon.specs.Posts.{AreKnown, send_of, sends_of};
 
+use crate::stamps::stamp_octets;
 use std::alloc::AllocError;
 use tsp_base::act::{Act, Placed};
+use tsp_base::datagram::Datagram;
+use tsp_base::place::Place;
 use tsp_codec::encode;
 use tsp_io::link::{Link, Sent};
+
+/// Tries a send. One that fails is a lost datagram, and no error. Fails only if out of memory: then the send
+/// wasn't tried.
+#[inline(always)]
+fn send_octets<L: Link>(link: &mut L, to: Place, octets: &[u8]) -> Result<(), AllocError>
+    requires known { to ≡ Place.Stranger → L.stranger link.old ≡ true }
+    ensures ok { OnOk result (TriesAll ((to, octets.now) ∷ []) (L.tried link.old)
+        (L.tried link.new)) }
+    ensures err { OnErr result (L.tried link.new ≡ L.tried link.old) }
+    ensures only { OnlySends L.Link link.old link.new }
+{
+    match link.send(to, octets) {
+        Sent::OutOfMemory => Err(AllocError),
+        Sent::Sent => Ok(()),
+        Sent::Failed => Ok(()),
+    }
+}
 
 /// Tries the send of an act, if it is a post. A send that fails is a lost datagram, and no error.
 /// Fails only if out of memory: then the send wasn't tried.
@@ -18,10 +38,9 @@ fn send_one<L: Link>(link: &mut L, act: &Act) -> Result<(), AllocError>
     ensures only { OnlySends L.Link link.old link.new }
 {
     match act {
-        Act::Post(to, datagram) => match link.send(*to, encode(datagram).as_slice()) {
-            Sent::OutOfMemory => Err(AllocError),
-            Sent::Sent => Ok(()),
-            Sent::Failed => Ok(()),
+        Act::Post(to, datagram) => match datagram {
+            Datagram::Stamp(stamp) => send_octets(link, *to, stamp_octets(stamp).as_slice()),
+            Datagram::Message(_) => send_octets(link, *to, encode(datagram).as_slice()),
         },
         _ => Ok(()),
     }

@@ -25,14 +25,14 @@ abbrev pub addr_of : SocketAddr → Option Addr
 addr_of (V4 a) = Some (record { ip = ipv4_octets (v4_ip a); port = v4_port a })
 addr_of (V6 a) = None
 
--- whose a datagram is that comes from this address: one that isn't an IPv4 one is a stranger's
-abbrev pub ComesFrom : List Addr → SocketAddr → Place → Type 0
-ComesFrom peers from place = MatchOption (addr_of from) (place ≡ Stranger) (λ addr. IsPlaceOf peers addr place)
+-- whose a datagram is that comes from this address: one from no IPv4 address is a stranger's
+abbrev pub ComesFrom : List Addr → Option Addr → Place → Type 0
+ComesFrom peers from place = MatchOption from (place ≡ Stranger) (λ addr. IsPlaceOf peers addr place)
 
 -- where a datagram goes: to the peer's own address, if there is such a peer, or to that of the last that came
-abbrev pub GoesTo : List Addr → Option SocketAddr → Place → Option SocketAddr → Type 0
-GoesTo peers last (Peer p) to = MatchOption to (slice_get peers p.0 ≡ None) (λ at. addr_of at ≡ slice_get peers p.0)
-GoesTo peers last Stranger to = to ≡ last
+abbrev pub addr_at : List Addr → Option Addr → Place → Option Addr
+addr_at peers last (Peer p) = slice_get peers p.0
+addr_at peers last Stranger = last
 
 -- the address as one number: its octets, and below them its port
 abbrev pub key_of : Addr → ℕ

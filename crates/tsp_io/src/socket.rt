@@ -34,27 +34,27 @@ impl Socket {
         Ok(())
     }
 
-    /// The size and the sender of a datagram that came; None if none came within the wait. Fails at
-    /// any other error of the system.
+    /// The size and the sender of a datagram that came, where that is an IPv4 address; None if none came
+    /// within the wait. Fails at any other error of the system.
     pub(crate) fn receive(
         &mut self,
         buf: &mut [u8],
         wait: u64,
-    ) -> io::Result<Option<(usize, SocketAddr)>>
+    ) -> io::Result<Option<(usize, Option<Addr>)>>
         requires { length buf.old ≡ 512 }
         ensures { IfOk result (λ got. IfSome got (λ g. g.0 ≤ 512)) }
     {
         self.set_wait(wait)?;
         match self.udp.recv_from(buf) {
-            Ok((count, from)) => Ok(Some((count, from))),
+            Ok((count, from)) => Ok(Some((count, addr_of(from)))),
             Err(error) if is_no_datagram(error.kind()) => Ok(None),
             Err(error) => Err(error),
         }
     }
 
     /// Sends a datagram, and says whether the system took all of it.
-    pub(crate) fn send(&self, octets: &[u8], to: SocketAddr) -> bool {
-        match self.udp.send_to(octets, to) {
+    pub(crate) fn send(&self, octets: &[u8], to: Addr) -> bool {
+        match self.udp.send_to(octets, socket_addr(to)) {
             Ok(count) => count == octets.len(),
             Err(_) => false,
         }
@@ -78,14 +78,14 @@ fn is_no_datagram(kind: ErrorKind) -> bool {
 }
 
 /// The address as a value of the standard library.
-pub(crate) fn socket_addr(addr: Addr) -> SocketAddr
+fn socket_addr(addr: Addr) -> SocketAddr
     ensures { addr_of result ≡ Some addr }
 {
     SocketAddr::new(IpAddr::V4(Ipv4Addr::from_octets(addr.ip)), addr.port)
 }
 
 /// The address; None if it isn't an IPv4 one.
-pub(crate) fn addr_of(from: SocketAddr) -> Option<Addr>
+fn addr_of(from: SocketAddr) -> Option<Addr>
     ensures { result ≡ addr_of from }
 {
     match from.ip() {

@@ -1,27 +1,28 @@
 //! A link over a UDP socket.
 ghost use Rattle.std.specs.Prelude.{◌≡◌, ℕ, false, [], None, Some};
 ghost use Rattle.tsp_io.specs.Links.{is_stranger};
-ghost use Rattle.tsp_io.specs.Directories.{ComesFrom, GoesTo};
+ghost use Rattle.tsp_io.specs.Directories.{addr_at, ComesFrom};
 
 use crate::addr::Addr;
 use crate::directory::Directory;
 use crate::link::{Bound, Link, Recv, Sent};
-use crate::socket::{Socket, addr_of, socket_addr};
+use crate::socket::Socket;
 use std::alloc::Global;
-use std::net::{Net, SocketAddr};
+use std::net::Net;
 use tsp_base::place::Place;
 
 /// A UDP socket and the addresses of its peers. What will come over it isn't told, nor what was sent.
 ///
 /// A receive that only reports that an earlier datagram couldn't be delivered (ICMP's 'port unreachable' and
-/// the like) answers `Nothing` and is no fault. So a peer whose port is closed doesn't end a daemon.
+/// the like) answers `Nothing` and is no fault. So a peer whose port is closed doesn't end a daemon. The socket is
+/// one of IPv4: a sender with another address couldn't be answered.
 #[derive(Drop)]
 pub struct UdpLink<R> {
     rt: R,
     alloc: Global,
     socket: Option<Socket>,
     directory: Directory,
-    last: Option<SocketAddr>,
+    last: Option<Addr>,
     stranger: bool,
     faults: u64,
     send_faults: u64,
@@ -46,30 +47,31 @@ impl<R: Net> UdpLink<R> {
     }
 
     /// The address of a peer, or of the stranger whose datagram was the last that came.
-    fn addr_at(&self, place: Place) -> Option<SocketAddr>
-        ensures { GoesTo self.now.directory self.now.last place result }
+    #[inline(always)]
+    fn addr_at(&self, place: Place) -> Option<Addr>
+        ensures { result ≡ addr_at self.now.directory self.now.last place }
     {
         match place {
-            Place::Peer(peer) => Some(socket_addr(self.directory.addr_of(peer)?)),
+            Place::Peer(peer) => self.directory.addr_of(peer),
             Place::Stranger => self.last,
         }
     }
 
     /// Notes that a datagram came from this address, and says from whom.
     #[inline(always)]
-    fn came_from(&mut self, from: SocketAddr) -> Place
-        ensures place { ComesFrom self.old.directory from result }
+    fn came_from(&mut self, addr: Option<Addr>) -> Place
+        ensures place { ComesFrom self.old.directory addr result }
         ensures noted { self.new ≡ record self.old {
-          last = Some from;
+          last = addr;
           stranger = is_stranger result;
         } }
     {
-        let place = match addr_of(from) {
+        let place = match addr {
             Some(addr) => self.directory.place_of(addr),
             None => Place::Stranger,
         };
         self.stranger = place == Place::Stranger;
-        self.last = Some(from);
+        self.last = addr;
         place
     }
 }
@@ -108,13 +110,14 @@ impl<R: Net> Link for UdpLink<R> {
         }
     }
 
+    #[inline(always)]
     fn recv(&mut self, buf: &mut [u8], wait: u64) -> Recv {
         let received = match &mut self.socket {
             Some(socket) => socket.receive(buf, wait).ok(),
             None => None,
         };
         match received {
-            Some(Some((count, from))) => Recv::Datagram(self.came_from(from), count),
+            Some(Some((count, addr))) => Recv::Datagram(self.came_from(addr), count),
             Some(None) => Recv::Nothing,
             None => {
                 self.faults = self.faults.saturating_add(1);
@@ -123,6 +126,7 @@ impl<R: Net> Link for UdpLink<R> {
         }
     }
 
+    #[inline(always)]
     fn send(&mut self, to: Place, octets: &[u8]) -> Sent {
         let went = match (&self.socket, self.addr_at(to)) {
             (Some(socket), Some(addr)) => socket.send(octets, addr),
