@@ -46,12 +46,13 @@ impl Resolve {
     /// Asks each other peer by a RESOLVE whether it is a master, and waits `WINDOW` ticks for answers. While it
     /// still waits for those of an earlier call it does nothing. It puts at most one act, and one more for
     /// each peer.
-    pub fn start<D: Desk>(&self, station: &mut Station, tick: u64, port: Port, desk: &mut D)
+    pub fn start<D: Desk>(&mut self, station: &mut Station, tick: u64, port: Port, desk: &mut D)
         requires tick { IsTick tick }
         requires room { length station.old.peers + 1 ≤ D.spare desk.old }
         ensures row { Performs ResolvingStands ResolvingStands resolves tick port
-            (resolving self.now station.old) (resolving self.now station.new)
+            (resolving self.old station.old) (resolving self.new station.new)
             (D.acts desk.old) (D.acts desk.new) }
+        ensures same { self.new ≡ self.old }
         ensures room { UsesAtMost (length station.old.peers + 1) D.spare D.acts desk.old desk.new }
         ensures port { IsSamePort station.old station.new }
     {
@@ -108,13 +109,14 @@ impl Resolve {
 
     /// The Resolve alarm is due: the time for answers is over. In time, a QUIT begins to each rival, ascending.
     /// It puts at most one act, and one more for each peer.
-    pub fn ring<D: Desk>(&self, station: &mut Station, tick: u64, port: Port, desk: &mut D)
+    pub fn ring<D: Desk>(&mut self, station: &mut Station, tick: u64, port: Port, desk: &mut D)
         requires tick { IsTick tick }
         requires room { length station.old.peers + 1 ≤ D.spare desk.old }
-        requires many { length self.now.marks ≡ length station.old.peers }
+        requires many { length self.old.marks ≡ length station.old.peers }
         ensures row { Performs ResolvingStands ResolvingStands resolve_rings tick port
-            (resolving self.now station.old) (resolving self.now station.new)
+            (resolving self.old station.old) (resolving self.new station.new)
             (D.acts desk.old) (D.acts desk.new) }
+        ensures same { self.new ≡ self.old }
         ensures room { UsesAtMost (length station.old.peers + 1) D.spare D.acts desk.old desk.new }
         ensures port { IsSamePort station.old station.new }
     {
