@@ -1,6 +1,7 @@
 -- Which pasts a gateway stands for.
 use Rattle.std.specs.Prelude.{◌≡◌, ℕ, ◌≤◌, false, List, length, None, Some, slice_get}
 use Rattle.tsp_base.specs.declared.place.Port.{Port}
+use Rattle.tsp_base.specs.Frames.{IsTick}
 use Rattle.tsp_base.specs.History.{dids, view}
 use Rattle.tsp_base.specs.NodeFacts.{tracing}
 use Rattle.tsp_base.specs.PortFacts.{acting, taken}
@@ -41,3 +42,7 @@ GatewayBegun = GatewayTurning 0
 -- the tick of the node's last correction, or of its boot
 abbrev pub clock_at : Gateway → ℕ
 clock_at g = g.clock.at
+
+-- a step may come at this tick: it is in its range, and not before the clock's last
+abbrev pub ComesAt : ℕ → Gateway → Type 0
+ComesAt tick g = IsTick tick × (clock_at g ≤ tick)

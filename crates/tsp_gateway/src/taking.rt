@@ -3,12 +3,11 @@ ghost use Rattle.std.specs.Prelude.{◌≡◌, ◌≢◌, ◌≤◌, ◌<◌, �
 ghost use Rattle.tsp_base.specs.declared.act.Act.TheVariants.{Took};
 ghost use Rattle.tsp_base.specs.declared.datagram.Datagram.TheVariants.{Message as MessageOf};
 ghost use Rattle.tsp_base.specs.declared.datagram.Taken.TheVariants.{Good};
-ghost use Rattle.tsp_base.specs.declared.kind.Kind.TheVariants.{Loop};
-ghost use Rattle.tsp_base.specs.Frames.{IsTick, PutsAtMost};
-ghost use Rattle.tsp_rules.specs.GateRows.{takes_loop, takes_message, takes_on};
+ghost use Rattle.tsp_base.specs.Frames.{PutsAtMost};
+ghost use Rattle.tsp_rules.specs.GateRows.{takes_message, takes_on};
 ghost use Rattle.tsp_rules.specs.NodePerforms.{PerformsAll};
 ghost use Rattle.tsp_gateway.specs.GateInputs.{HoldsNoMessage};
-ghost use Rattle.tsp_gateway.specs.GatewayStands.{GatewayStands, clock_at, port_at};
+ghost use Rattle.tsp_gateway.specs.GatewayStands.{ComesAt, GatewayStands, clock_at, port_at};
 ghost use Rattle.tsp_gateway.specs.Rooms.{all_peers, peers_at, ports_in};
 
 use crate::gateway::{Gateway, port_at};
@@ -36,8 +35,7 @@ impl Gateway {
         requires port { q < length (ports_in self.old) }
         requires room { 2 * peers_at q (ports_in self.old) + all_peers
             (ports_in self.old) + 24 ≤ D.spare desk.old }
-        requires tick { IsTick tick }
-        requires later { clock_at self.old ≤ tick }
+        requires tick { ComesAt tick self.old }
         ensures row { PerformsAll GatewayStands GatewayStands (takes_on (port_at q) from taken.now)
             tick self.old self.new (D.acts desk.old) (D.acts desk.new) }
         ensures ports { ports_in self.new ≡ ports_in self.old }
@@ -48,7 +46,12 @@ impl Gateway {
     {
         match taken {
             Taken::Good(Datagram::Message(m)) => match m.kind() {
-                Kind::Loop => self.take_loop(tick, q, from, m, taken, desk),
+                Kind::Loop => {
+                    self.note(tick, q, from, taken, desk);
+                    if self.hears(q, from) {
+                        self.judge_loop(q, m, tick, desk);
+                    }
+                }
                 _ => self.take_message(tick, q, from, m, taken, desk),
             },
             _ => self.take_other(tick, q, from, taken, desk),
@@ -69,8 +72,7 @@ impl Gateway {
         requires is { taken.now ≡ Good (MessageOf m.now) }
         requires port { q < length (ports_in self.old) }
         requires room { 2 * peers_at q (ports_in self.old) + 24 ≤ D.spare desk.old }
-        requires tick { IsTick tick }
-        requires later { clock_at self.old ≤ tick }
+        requires tick { ComesAt tick self.old }
         ensures row { PerformsAll GatewayStands GatewayStands (takes_message (port_at q) from m.now)
             tick self.old self.new (D.acts desk.old) (D.acts desk.new) }
         ensures ports { ports_in self.new ≡ ports_in self.old }
@@ -97,37 +99,6 @@ impl Gateway {
         }
     }
 
-    /// Takes a LOOP.
-    fn take_loop<D: Desk>(
-        &mut self,
-        tick: u64,
-        q: usize,
-        from: Place,
-        m: &Message,
-        taken: &Taken,
-        desk: &mut D,
-    )
-        requires is { taken.now ≡ Good (MessageOf m.now) }
-        requires kind { m.now.kind ≡ Loop }
-        requires port { q < length (ports_in self.old) }
-        requires room { 2 * peers_at q (ports_in self.old) + all_peers
-            (ports_in self.old) + 24 ≤ D.spare desk.old }
-        requires tick { IsTick tick }
-        requires later { clock_at self.old ≤ tick }
-        ensures row { PerformsAll GatewayStands GatewayStands (takes_loop (port_at q) from m.now)
-            tick self.old self.new (D.acts desk.old) (D.acts desk.new) }
-        ensures ports { ports_in self.new ≡ ports_in self.old }
-        ensures clock { clock_at self.new ≤ tick }
-        ensures room { PutsAtMost
-            (2 * peers_at q (ports_in self.old) + all_peers (ports_in self.old) + 24)
-            (D.spare desk.old) (D.spare desk.new) (D.acts desk.old) (D.acts desk.new) }
-    {
-        self.note(tick, q, from, taken, desk);
-        if self.hears(q, from) {
-            self.judge_loop(q, m, tick, desk);
-        }
-    }
-
     /// Puts the Took of octets, and does nothing else with them.
     fn note<D: Desk>(&mut self, tick: u64, q: usize, from: Place, taken: &Taken, desk: &mut D)
         requires port { q < length (ports_in self.old) }
@@ -148,8 +119,7 @@ impl Gateway {
         requires other { HoldsNoMessage taken.now }
         requires port { q < length (ports_in self.old) }
         requires room { 2 * peers_at q (ports_in self.old) + 24 ≤ D.spare desk.old }
-        requires tick { IsTick tick }
-        requires later { clock_at self.old ≤ tick }
+        requires tick { ComesAt tick self.old }
         ensures row { PerformsAll GatewayStands GatewayStands
             (on (port_at q) (takes true true from taken.now)) tick self.old self.new
             (D.acts desk.old) (D.acts desk.new) }

@@ -1,6 +1,6 @@
 //! Tests of a world of nodes, and a harness of nodes on networks.
 //!
-//! [`lan::Lan`] has some nodes, lets them look at their timers twice a second, and carries their
+//! [`tests::lan::Lan`] has some nodes, lets them look at their timers twice a second, and carries their
 //! datagrams. A test boots them, lets seconds pass, cuts a node off and joins it again, and asks who
 //! is master and how far apart the clocks are.
 //!
@@ -8,20 +8,4 @@
 #![tactic(auto)]
 
 #[cfg(test)]
-mod front_pages;
-#[cfg(test)]
-mod lan;
-#[cfg(test)]
-mod meetings;
-#[cfg(test)]
-mod networks;
-#[cfg(test)]
-mod posts;
-#[cfg(test)]
-mod refusals;
-#[cfg(test)]
-mod relay;
-#[cfg(test)]
-mod scenes;
-#[cfg(test)]
-mod schedules;
+mod tests;

@@ -1,6 +1,6 @@
 //! Nodes on a network: they elect a master, follow it, are corrected, are separated, and joined again.
 
-use crate::lan::Lan;
+use crate::tests::lan::Lan;
 use std::alloc::Global;
 use tsp_base::role::Role;
 

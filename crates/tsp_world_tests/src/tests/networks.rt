@@ -1,6 +1,6 @@
 //! A node between two networks.
 
-use crate::lan::header_of;
+use crate::tests::lan::header_of;
 use std::alloc::{AllocError, Global};
 use tsp_base::header::Header;
 use tsp_base::members::Members;

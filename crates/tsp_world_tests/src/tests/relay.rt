@@ -1,6 +1,6 @@
 //! A clock that a corrected master corrects: three nodes on two networks.
 
-use crate::lan::Lan;
+use crate::tests::lan::Lan;
 use std::alloc::Global;
 use tsp_base::act::Act;
 use tsp_base::datagram::{Datagram, Taken};

@@ -2,7 +2,7 @@
 ghost use Rattle.std.specs.Prelude.{◌≤◌, IfSome};
 ghost use Rattle.tsp_run.specs.Run.{event_at};
 
-use crate::lan::{header_of, world_of};
+use crate::tests::lan::{header_of, world_of};
 use std::alloc::Global;
 use tsp_base::act::Act;
 use tsp_base::alarm::Alarm;

@@ -1,6 +1,6 @@
 //! Schedules that were worked out by hand.
 
-use crate::scenes::{Did, Outcome, Row, Scene, Step, What, comes};
+use crate::tests::scenes::{Did, Outcome, Row, Scene, Step, What, comes};
 use tsp_base::event::EventFault;
 use tsp_base::place::{PeerId, Place};
 

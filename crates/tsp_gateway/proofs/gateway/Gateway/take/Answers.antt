@@ -15,8 +15,7 @@ take_in-requires g c =
     record {
       port = subst (λ ps. q < length ps) (sym same) c.requires.port;
       room = subst (λ ps. 2 * peers_at q ps + all_peers ps + 24 ≤ g.D.Desk.spare c.turn_ports.new.desk) (sym same) (omega (arith, room, c.requires.room, c.turn_ports.ensures.room.spare));
-      tick = c.requires.tick;
-      later = c.turn_ports.ensures.clock;
+      tick = (c.requires.tick, c.turn_ports.ensures.clock);
     }
 
 pub returns-clause-row : goal.returns-clause-row

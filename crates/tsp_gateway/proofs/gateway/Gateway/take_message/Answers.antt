@@ -72,7 +72,7 @@ pub invariant_of-self : goal.invariant_of-self
 invariant_of-self g c = record { some = c.args.self.now.some; few = c.args.self.now.few; memory = c.args.self.now.memory }
 
 pub take-requires-clause-tick : goal.take-requires-clause-tick
-take-requires-clause-tick g c = c.requires.tick
+take-requires-clause-tick g c = c.requires.tick.0
 
 pub take-requires-clause-later : goal.take-requires-clause-later
-take-requires-clause-later g c = c.requires.later
+take-requires-clause-later g c = c.requires.tick.1

@@ -40,7 +40,7 @@ pub port_at-requires : goal.port_at-requires
 port_at-requires g c = let few = ports_few c.args.self.now in omega (arith, few, c.requires.port)
 
 pub take-requires-clause-tick : goal.take-requires-clause-tick
-take-requires-clause-tick g c = c.requires.tick
+take-requires-clause-tick g c = c.requires.tick.0
 
 pub take-requires-clause-later : goal.take-requires-clause-later
-take-requires-clause-later g c = c.requires.later
+take-requires-clause-later g c = c.requires.tick.1

@@ -2,7 +2,7 @@
 use Rattle.std.proofs.Common.{◌≡◌, refl}
 use Rattle.tsp_base.specs.Kinds.{carries_time, carries_hops}
 use Rattle.tsp_base.specs.Messages.{body_fits}
-use Rattle.tsp_world_tests.proofs.front_pages.message.Goals as goal
+use Rattle.tsp_world_tests.proofs.tests.front_pages.message.Goals as goal
 
 pub new-message-requires : goal.new-message-requires
 unfolding body_fits carries_time carries_hops
