@@ -15,8 +15,8 @@ fn append(out: &mut ArrayVec<u8, 28>, piece: &[u8])
     let _ = out.try_extend_from_slice(piece);
 }
 
-/// The octets that `tsp_codec` writes for a stamp. A daemon answers more requests than it sends messages, and a
-/// move of a message's 268 octets takes a twentieth of such an answer's time.
+/// The octets that `tsp_codec` writes for a stamp. Most of what a daemon sends are stamps, and so they aren't moved
+/// through the room of a message.
 #[inline(always)]
 pub(crate) fn stamp_octets(stamp: &Stamp) -> ArrayVec<u8, 28>
     ensures { result.items ≡ stamp_octets stamp.now }

@@ -1,5 +1,5 @@
 //! A link over a UDP socket.
-ghost use Rattle.std.specs.Prelude.{◌≡◌, ℕ, false, [], None, Some};
+ghost use Rattle.std.specs.Prelude.{◌≡◌, ℕ, false, [], None};
 ghost use Rattle.tsp_io.specs.Links.{is_stranger};
 ghost use Rattle.tsp_io.specs.Directories.{addr_at, ComesFrom};
 
