@@ -1,6 +1,6 @@
 -- The earlier of two deadlines.
-use Rattle.std.specs.Prelude.{◌≡◌, ◌⊎◌, ℕ, Option, None, Some, min}
-use Rattle.std.proofs.Common.{refl, inl, inr, arith, ap, ◌∙◌}
+use Rattle.std.specs.Prelude.{◌≡◌, ◌≤◌, ◌⊎◌, ℕ, Option, None, Some, IfSome, IsSome, min}
+use Rattle.std.proofs.Common.{refl, inl, inr, arith, ap, sym, subst, ◌∙◌}
 use Rattle.std.proofs.lemmas.Bool.{cases_lt}
 use Rattle.tsp_base.specs.declared.alarm.Alarm.{Alarm}
 use Rattle.tsp_base.specs.declared.alarm.Alarm.TheVariants.{Quiet, Search, Elect, Window, Probe, Close, Resolve, Round}
@@ -26,3 +26,45 @@ least_deadline_armed d =
 
       two : (w x y z : Option ℕ) (a b e f : Alarm) → w ≡ deadline d a → x ≡ deadline d b → y ≡ deadline d e → z ≡ deadline d f → (k : Alarm) × (earlier (earlier w x) (earlier y z) ≡ deadline d k)
       two w x y z a b e f p q r s = one (earlier w x) (earlier y z) (one w x (a, p) (b, q)) (one y z (e, r) (f, s))
+
+-- a deadline is armed for this tick or an earlier one
+abbrev pub IsBy : ℕ → Option ℕ → Type 0
+IsBy t None = ⊥
+IsBy t (Some x) = x ≤ t
+
+by_left : (t : ℕ) (a b : Option ℕ) → IsBy t a → IsBy t (earlier a b)
+by_left t None b p = absurd p
+by_left t (Some x) None p = p
+by_left t (Some x) (Some y) p = omega (arith, p)
+
+by_right : (t : ℕ) (a b : Option ℕ) → IsBy t b → IsBy t (earlier a b)
+by_right t None b p = p
+by_right t (Some x) None p = absurd p
+by_right t (Some x) (Some y) p = omega (arith, p)
+
+by_some : (t : ℕ) (d : Option ℕ) → d ≡ Some t → IsBy t d
+by_some t d e = subst (λ x. IsBy t x) (sym e) (omega arith)
+
+is_by : (t : ℕ) (d : Option ℕ) → IsBy t d → IfSome d (λ l. l ≤ t) × IsSome d
+is_by t None p = absurd p
+is_by t (Some x) p = (p, refl)
+
+-- each half of the alarms, in two pairs
+abbrev early : Deadlines → Option ℕ
+early d = earlier (earlier d.quiet d.search) (earlier d.elect d.window)
+
+abbrev late : Deadlines → Option ℕ
+late d = earlier (earlier d.probe d.close) (earlier d.resolve d.round)
+
+-- the earliest deadline is no later than any alarm's
+pub none_later : (d : Deadlines) (a : Alarm) (t : ℕ) → deadline d a ≡ Some t → IfSome (least_deadline d) (λ l. l ≤ t) × IsSome (least_deadline d)
+none_later d a t e = is_by t (least_deadline d) (pick a e) where
+  pick : (a : Alarm) → deadline d a ≡ Some t → IsBy t (least_deadline d)
+  pick Quiet e = by_left t (early d) (late d) (by_left t (earlier d.quiet d.search) (earlier d.elect d.window) (by_left t d.quiet d.search (by_some t d.quiet e)))
+  pick Search e = by_left t (early d) (late d) (by_left t (earlier d.quiet d.search) (earlier d.elect d.window) (by_right t d.quiet d.search (by_some t d.search e)))
+  pick Elect e = by_left t (early d) (late d) (by_right t (earlier d.quiet d.search) (earlier d.elect d.window) (by_left t d.elect d.window (by_some t d.elect e)))
+  pick Window e = by_left t (early d) (late d) (by_right t (earlier d.quiet d.search) (earlier d.elect d.window) (by_right t d.elect d.window (by_some t d.window e)))
+  pick Probe e = by_right t (early d) (late d) (by_left t (earlier d.probe d.close) (earlier d.resolve d.round) (by_left t d.probe d.close (by_some t d.probe e)))
+  pick Close e = by_right t (early d) (late d) (by_left t (earlier d.probe d.close) (earlier d.resolve d.round) (by_right t d.probe d.close (by_some t d.close e)))
+  pick Resolve e = by_right t (early d) (late d) (by_right t (earlier d.probe d.close) (earlier d.resolve d.round) (by_left t d.resolve d.round (by_some t d.resolve e)))
+  pick Round e = by_right t (early d) (late d) (by_right t (earlier d.probe d.close) (earlier d.resolve d.round) (by_right t d.resolve d.round (by_some t d.round e)))

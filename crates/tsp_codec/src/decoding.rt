@@ -1,5 +1,5 @@
 //! Octets to datagrams.
-ghost use Rattle.std.specs.Prelude.{◌≡◌, ◌≤◌, MatchResult, Ok, Err, Some};
+ghost use Rattle.std.specs.Prelude.{◌≡◌, ◌≤◌, MatchResult, Ok, Err, Some, IfSome};
 ghost use Rattle.tsp_base.specs.Kinds.{kind_of};
 ghost use Rattle.tsp_base.specs.declared.datagram.Datagram.{Datagram};
 ghost use Rattle.tsp_base.specs.declared.datagram.DecodeFault.{DecodeFault};
@@ -90,6 +90,21 @@ fn reply_of(octets: &[u8]) -> Result<Stamp, DecodeFault>
     }
 }
 
+/// The stamp that these octets are, if they are one.
+#[inline(always)]
+fn stamp_of(octets: &[u8]) -> Option<Stamp>
+    ensures { IfSome result (λ stamp. Spells octets.now (Datagram.Stamp stamp)) }
+{
+    if octets.len() != STAMP || octets[1] != VERSION {
+        return None;
+    }
+    match octets[0] {
+        REQUEST => request_of(octets).ok(),
+        REPLY => reply_of(octets).ok(),
+        _ => None,
+    }
+}
+
 /// The datagram of octets with a head.
 fn datagram_of(octets: &[u8]) -> Result<Datagram, DecodeFault>
     requires { HasHead octets.now }
@@ -137,6 +152,10 @@ pub fn read(octets: &[u8]) -> Taken
     ensures reads { Reads octets.now result }
     ensures value { result ≡ taken_of octets.now }
 {
+    // a stamp isn't moved through the room of a message
+    if let Some(stamp) = stamp_of(octets) {
+        return Taken::Good(Datagram::Stamp(stamp));
+    }
     match decode(octets) {
         Ok(datagram) => Taken::Good(datagram),
         Err(fault) => Taken::Bad(fault),

@@ -22,8 +22,8 @@ use tsp_base::stamp::Stamp;
 static ZEROS: [u8; 256] = [0; 256];
 
 /// Appends octets.
-fn append(out: &mut ArrayVec<u8, 268>, piece: &[u8])
-    requires { array_vec_len out.old + length piece.now ≤ 268 }
+fn append<const ROOM: usize>(out: &mut ArrayVec<u8, ROOM>, piece: &[u8])
+    requires { array_vec_len out.old + length piece.now ≤ ROOM }
     ensures { out.new.items ≡ out.old.items ++ piece.now }
 {
     let _ = out.try_extend_from_slice(piece);
@@ -120,8 +120,10 @@ fn message_spelling(message: &Message) -> ArrayVec<u8, 268>
     out
 }
 
-/// The 28 octets of a stamp.
-fn stamp_spelling(stamp: &Stamp) -> ArrayVec<u8, 268>
+/// The octets that `encode` writes for a stamp, in no more room than they take: whoever sends stamps alone needn't move
+/// them through the room of a message.
+#[inline(always)]
+pub fn encode_stamp(stamp: &Stamp) -> ArrayVec<u8, 28>
     ensures octets { result.items ≡ stamp_octets stamp.now }
     ensures ranges { IsWritable (Datagram.Stamp stamp.now) }
 {
@@ -131,7 +133,7 @@ fn stamp_spelling(stamp: &Stamp) -> ArrayVec<u8, 268>
             append(&mut out, &[REQUEST, VERSION, 0, 0]);
             append(&mut out, &word.to_be_bytes());
             append(&mut out, &counter.to_be_bytes());
-            append_zeros(&mut out, 8);
+            append(&mut out, &[0; 8]);
         }
         Stamp::Reply(reply) => {
             append(&mut out, &[REPLY, VERSION]);
@@ -141,6 +143,16 @@ fn stamp_spelling(stamp: &Stamp) -> ArrayVec<u8, 268>
             append(&mut out, &reply.reading().cast_unsigned().to_be_bytes());
         }
     }
+    out
+}
+
+/// The 28 octets of a stamp.
+fn stamp_spelling(stamp: &Stamp) -> ArrayVec<u8, 268>
+    ensures octets { result.items ≡ stamp_octets stamp.now }
+    ensures ranges { IsWritable (Datagram.Stamp stamp.now) }
+{
+    let mut out = ArrayVec::new();
+    append(&mut out, encode_stamp(stamp).as_slice());
     out
 }
 

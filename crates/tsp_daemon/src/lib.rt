@@ -22,7 +22,6 @@ mod lines;
 mod node;
 mod sends;
 pub mod serve;
-mod stamps;
 mod step;
 mod turn;
 pub mod wait;

@@ -4,12 +4,11 @@ ghost use Rattle.tsp_rules.specs.Strangers.{IsKnown};
 ghost use Rattle.tsp_daemon.specs.Ends.{OnlySends, TriesAll, TriesSome};
 ghost use Rattle.tsp_daemon.specs.Posts.{AreKnown, send_of, sends_of};
 
-use crate::stamps::stamp_octets;
 use std::alloc::AllocError;
 use tsp_base::act::{Act, Placed};
 use tsp_base::datagram::Datagram;
 use tsp_base::place::Place;
-use tsp_codec::encode;
+use tsp_codec::{encode, encode_stamp};
 use tsp_io::link::{Link, Sent};
 
 /// Tries a send. One that fails is a lost datagram, and no error. Fails only if out of memory: then the send
@@ -39,7 +38,7 @@ fn send_one<L: Link>(link: &mut L, act: &Act) -> Result<(), AllocError>
 {
     match act {
         Act::Post(to, datagram) => match datagram {
-            Datagram::Stamp(stamp) => send_octets(link, *to, stamp_octets(stamp).as_slice()),
+            Datagram::Stamp(stamp) => send_octets(link, *to, encode_stamp(stamp).as_slice()),
             Datagram::Message(_) => send_octets(link, *to, encode(datagram).as_slice()),
         },
         _ => Ok(()),

@@ -1,6 +1,10 @@
--- Tables of words: those of kinds, of faults and of acts. Each word is in its table once.
+-- Tables of words: those of alarms, of faults and of acts. Each word is in its table once.
 use Rattle.std.proofs.Common.{◌≡◌, ℕ, suc, ◌<◌, ◌≤◌, List, [], ◌∷◌, length, refl, ap, sym, ◌∙◌, true, false, Bool, Option, Some, None, slice_index_or, arith}
 use Rattle.std.specs.Prelude.{◌==◌, ◌&&◌, if◌then◌else◌}
+use Rattle.tsp_base.specs.Alarms.{alarm_word}
+use Rattle.tsp_base.specs.declared.alarm.Alarm.{Alarm}
+use Rattle.tsp_base.specs.declared.alarm.Alarm.TheVariants.{Quiet}
+use Rattle.tsp_base.specs.declared.alarm.TheConstants.Alarm.{ALL}
 use Rattle.tsp_base.specs.declared.datagram.DecodeFault.{DecodeFault}
 use Rattle.tsp_base.specs.declared.datagram.DecodeFault.TheVariants.{Short, Long, Version, Kind, StampLength, NoEnd, NameTooLong, Reserved, Time}
 use Rattle.tsp_script.proofs.Outcomes.{some_injective, none_not_some}
@@ -40,6 +44,13 @@ no_word w all word n a first whole none e = let there = stands_there w all (w a)
 -- a word is one value's
 pub one_word : {A : Type 0} (w : A → List ℕ) (all : List A) (a b : A) → first_with w all (w a) ≡ Some a → first_with w all (w b) ≡ Some b → w a ≡ w b → a ≡ b
 one_word w all a b first second e = some_injective a b (sym first ∙ ap (λ x. first_with w all x) e ∙ second)
+
+first_alarm : (a : Alarm) → first_with alarm_word ALL (alarm_word a) ≡ Some a
+first_alarm Quiet = refl
+first_alarm _ = refl
+
+pub no_alarm : (word : List ℕ) (n : ℕ) (a : Alarm) → length ALL ≤ n → ((i : ℕ) (d : Alarm) → i < n → word ≡ alarm_word (slice_index_or ALL i d) → ⊥) → word ≡ alarm_word a → ⊥
+no_alarm word n a = no_word alarm_word ALL word n a (first_alarm a)
 
 abbrev pub faults : List DecodeFault
 faults = Short ∷ Long ∷ Version ∷ Kind ∷ StampLength ∷ NoEnd ∷ NameTooLong ∷ Reserved ∷ Time ∷ []
