@@ -147,18 +147,25 @@ pub fn decode(octets: &[u8]) -> Result<Datagram, DecodeFault>
     }
 }
 
+/// What `read` makes of octets that are no stamp. (A call of its own, so that a stamp needs no room for a message.)
+#[inline(never)]
+fn read_any(octets: &[u8]) -> Taken
+    ensures { Reads octets.now result }
+{
+    match decode(octets) {
+        Ok(datagram) => Taken::Good(datagram),
+        Err(fault) => Taken::Bad(fault),
+    }
+}
+
 /// The same as `decode`, with datagram and fault alike as a value: what a node takes.
 pub fn read(octets: &[u8]) -> Taken
     ensures reads { Reads octets.now result }
     ensures value { result ≡ taken_of octets.now }
 {
-    // a stamp isn't moved through the room of a message
-    if let Some(stamp) = stamp_of(octets) {
-        return Taken::Good(Datagram::Stamp(stamp));
-    }
-    match decode(octets) {
-        Ok(datagram) => Taken::Good(datagram),
-        Err(fault) => Taken::Bad(fault),
+    match stamp_of(octets) {
+        Some(stamp) => Taken::Good(Datagram::Stamp(stamp)),
+        None => read_any(octets),
     }
 }
 

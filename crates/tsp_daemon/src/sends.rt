@@ -1,6 +1,7 @@
 //! The sends of a step.
 ghost use Rattle.std.specs.Prelude.{◌≡◌, ◌≤◌, ◌+◌, [], ◌∷◌, length, OnOk, OnErr, true};
 ghost use Rattle.tsp_rules.specs.Strangers.{IsKnown};
+ghost use Rattle.tsp_codec.specs.Canon.{canon};
 ghost use Rattle.tsp_daemon.specs.Ends.{OnlySends, TriesAll, TriesSome};
 ghost use Rattle.tsp_daemon.specs.Posts.{AreKnown, send_of, sends_of};
 
@@ -28,6 +29,18 @@ fn send_octets<L: Link>(link: &mut L, to: Place, octets: &[u8]) -> Result<(), Al
     }
 }
 
+/// Tries the send of a datagram, as `send_octets` does. (A call of its own, so that a stamp needs no room for a message.)
+#[inline(never)]
+fn send_any<L: Link>(link: &mut L, to: Place, datagram: &Datagram) -> Result<(), AllocError>
+    requires known { to ≡ Place.Stranger → L.stranger link.old ≡ true }
+    ensures ok { OnOk result (TriesAll ((to, canon datagram.now) ∷ []) (L.tried link.old)
+        (L.tried link.new)) }
+    ensures err { OnErr result (L.tried link.new ≡ L.tried link.old) }
+    ensures only { OnlySends L.Link link.old link.new }
+{
+    send_octets(link, to, encode(datagram).as_slice())
+}
+
 /// Tries the send of an act, if it is a post. A send that fails is a lost datagram, and no error.
 /// Fails only if out of memory: then the send wasn't tried.
 fn send_one<L: Link>(link: &mut L, act: &Act) -> Result<(), AllocError>
@@ -39,7 +52,7 @@ fn send_one<L: Link>(link: &mut L, act: &Act) -> Result<(), AllocError>
     match act {
         Act::Post(to, datagram) => match datagram {
             Datagram::Stamp(stamp) => send_octets(link, *to, encode_stamp(stamp).as_slice()),
-            Datagram::Message(_) => send_octets(link, *to, encode(datagram).as_slice()),
+            Datagram::Message(_) => send_any(link, *to, datagram),
         },
         _ => Ok(()),
     }

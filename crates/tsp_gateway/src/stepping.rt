@@ -32,13 +32,10 @@ impl Gateway {
     {
         match input {
             Input::Turn => self.turn(tick, desk),
-            Input::Bytes { port, from, octets } => self.take(
-                tick,
-                *port,
-                *from,
-                &read(octets),
-                desk,
-            ),
+            Input::Bytes { port, from, octets } => {
+                let taken = read(octets);
+                self.take(tick, *port, *from, &taken, desk);
+            }
         }
     }
 

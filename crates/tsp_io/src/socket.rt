@@ -8,6 +8,9 @@ use std::io::ErrorKind;
 use std::net::{IpAddr, Ipv4Addr, Net, SocketAddr, UdpSocket};
 use std::time::Duration;
 
+/// The system reported an error of a receive, and not only that there was no datagram.
+pub(crate) struct ReceiveFault;
+
 /// A bound socket, and the wait in microseconds that was last set for it; 0 if none was set, so
 /// that it waits for ever.
 #[derive(Drop)]
@@ -36,19 +39,22 @@ impl Socket {
 
     /// The size and the sender of a datagram that came, where that is an IPv4 address; None if none came
     /// within the wait. Fails at any other error of the system.
+    #[inline(always)]
     pub(crate) fn receive(
         &mut self,
         buf: &mut [u8],
         wait: u64,
-    ) -> io::Result<Option<(usize, Option<Addr>)>>
+    ) -> Result<Option<(usize, Option<Addr>)>, ReceiveFault>
         requires { length buf.old ≡ 512 }
         ensures { IfOk result (λ got. IfSome got (λ g. g.0 ≤ 512)) }
     {
-        self.set_wait(wait)?;
+        if self.set_wait(wait).is_err() {
+            return Err(ReceiveFault);
+        }
         match self.udp.recv_from(buf) {
             Ok((count, from)) => Ok(Some((count, addr_of(from)))),
             Err(error) if is_no_datagram(error.kind()) => Ok(None),
-            Err(error) => Err(error),
+            Err(_) => Err(ReceiveFault),
         }
     }
 

@@ -6,7 +6,7 @@ ghost use Rattle.tsp_io.specs.Directories.{addr_at, ComesFrom};
 use crate::addr::Addr;
 use crate::directory::Directory;
 use crate::link::{Bound, Link, Recv, Sent};
-use crate::socket::Socket;
+use crate::socket::{ReceiveFault, Socket};
 use std::alloc::Global;
 use std::net::Net;
 use tsp_base::place::Place;
@@ -113,13 +113,13 @@ impl<R: Net> Link for UdpLink<R> {
     #[inline(always)]
     fn recv(&mut self, buf: &mut [u8], wait: u64) -> Recv {
         let received = match &mut self.socket {
-            Some(socket) => socket.receive(buf, wait).ok(),
-            None => None,
+            Some(socket) => socket.receive(buf, wait),
+            None => Err(ReceiveFault),
         };
         match received {
-            Some(Some((count, addr))) => Recv::Datagram(self.came_from(addr), count),
-            Some(None) => Recv::Nothing,
-            None => {
+            Ok(Some((count, addr))) => Recv::Datagram(self.came_from(addr), count),
+            Ok(None) => Recv::Nothing,
+            Err(ReceiveFault) => {
                 self.faults = self.faults.saturating_add(1);
                 Recv::Failed
             }
