@@ -32,7 +32,7 @@ use Rattle.tsp_claims.specs.ClaimedHistory.{Claim, claimed, events_of, joins_act
 use Rattle.tsp_claims.specs.Listed.{booted}
 use Rattle.tsp_claims.specs.Fitting.{acts_of}
 use Rattle.tsp_claims.specs.Stands.{ClaimsStand, TakesIn}
-use Rattle.tsp_script.specs.declared.trace.Line2.{Line2}
+use Rattle.tsp_base.specs.declared.trace.Line2.{Line2}
 use Rattle.tsp_run.specs.declared.address.Address.{Address}
 use Rattle.tsp_run.specs.Run.{event_at, step_tick}
 

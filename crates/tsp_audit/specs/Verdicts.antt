@@ -23,7 +23,7 @@ use Rattle.tsp_claims.specs.ClaimedHistory.{Claim, claimed}
 use Rattle.tsp_claims.specs.Fitting.{Fit, Misfit}
 use Rattle.tsp_claims.specs.Listed.{NamesNode}
 use Rattle.tsp_claims.specs.Stands.{ClaimsStand, claim_of}
-use Rattle.tsp_script.specs.declared.trace.Line2.{Line2}
+use Rattle.tsp_base.specs.declared.trace.Line2.{Line2}
 
 -- all parts hold up to each of these events, and before the first event
 abbrev pub AllHold : Premises → Setting → HeaderValue → List Claim → Type 0

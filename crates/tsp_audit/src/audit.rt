@@ -15,9 +15,9 @@ use crate::verdict::{Failure, Verdict, verdict_of};
 use std::alloc::{AllocError, Global};
 use tsp_base::event::Event;
 use tsp_base::header::Header;
+use tsp_base::trace::Line2;
 use tsp_claims::audit_fault::AuditFault;
 use tsp_claims::claims::Claims;
-use tsp_script::trace::Line2;
 
 /// The first failure, which is the earlier one if there is one.
 fn find(

@@ -2,14 +2,14 @@
 ghost use Rattle.std.specs.Prelude.{◌≡◌, IfOk};
 ghost use Rattle.tsp_audit.specs.Premised.{boots_with};
 ghost use Rattle.tsp_audit.specs.SmallEvents.{handing};
-ghost use Rattle.tsp_script.specs.Plains.{event_in};
+ghost use Rattle.tsp_base.specs.Plains.{event_in};
 
 use std::alloc::{AllocError, Global};
 use std::marker::Model;
 use tsp_base::event::Event;
 use tsp_base::octets::Octets;
 use tsp_base::place::{Place, Port};
-use tsp_script::plain::Plain;
+use tsp_base::plain::Plain;
 
 /// Octets that are handed to a node.
 #[derive(Drop)]

@@ -23,7 +23,7 @@ use Rattle.tsp_claims.specs.Listed.{booted}
 use Rattle.tsp_claims.specs.Stands.{ClaimsStand, claim_of}
 use Rattle.tsp_history.specs.Histories.{history_of}
 use Rattle.tsp_run.specs.Run.{step_tick}
-use Rattle.tsp_script.specs.declared.trace.Line2.{Line2}
+use Rattle.tsp_base.specs.declared.trace.Line2.{Line2}
 
 acts_in-append : (a b : List Line) → acts_in (a ++ b) ≡ acts_in b ++ acts_in a
 acts_in-append [] b = sym (append-nil (acts_in b))

@@ -30,7 +30,7 @@ use Rattle.tsp_schedule.proofs.OneReading.{GoesOn-not_limited, GoesOn-not_refuse
 use Rattle.tsp_schedule.proofs.ReadHeaders.{KeepsHeader, Reaches-header}
 use Rattle.tsp_lines.specs.Definite.{IsDefinite}
 use Rattle.tsp_run.proofs.SettingLemmas.{each-is-set}
-use Rattle.tsp_script.specs.declared.trace.Line2.{Line2}
+use Rattle.tsp_base.specs.declared.trace.Line2.{Line2}
 
 reading-unended : (q p : Progress) → reading_of q ≡ Scheduling p → q ≡ p
 reading-unended Untitled p is = cc

@@ -7,7 +7,7 @@ use Rattle.tsp_audit_command.specs.Sound.{FitSoFar}
 use Rattle.tsp_claims.specs.declared.tally.Tally.{Tally}
 use Rattle.tsp_claims.specs.Fitting.{AllFit, Misfits, counted, lacks}
 use Rattle.tsp_claims.proofs.FitLemmas.{posts_by-few}
-use Rattle.tsp_script.specs.declared.trace.Line2.{Line2}
+use Rattle.tsp_base.specs.declared.trace.Line2.{Line2}
 
 -- one line more
 pub tallied-more : (t : Tally) (lines : List Line2) (l : Line2) → tallied t (lines ++ l ∷ []) ≡ counted (tallied t lines) l.placed.act

@@ -10,7 +10,7 @@ use Rattle.tsp_claims.specs.Fitting.{lacks, untold}
 use Rattle.tsp_claims.specs.Stands.{claim_of}
 use Rattle.tsp_lines.specs.declared.treatment.Stop.{Stop}
 use Rattle.tsp_lines.specs.declared.treatment.Stop.TheVariants.{Bad, Limit, WriteFault, OutOfMemory}
-use Rattle.tsp_script.specs.declared.trace.Line2.{Line2}
+use Rattle.tsp_base.specs.declared.trace.Line2.{Line2}
 
 pub some-one : (a b : ClaimingValue) → Some a ≡ Some b → a ≡ b
 some-one a b p = cc

@@ -20,7 +20,7 @@ use Rattle.tsp_claims.specs.declared.tally.Tally.{Tally}
 use Rattle.tsp_claims.specs.ClaimedHistory.{Claim, claimed, events_of, lines_in, posts_of}
 use Rattle.tsp_claims.specs.Fitting.{Fit, FitsNext, counted, lacks, untold}
 use Rattle.tsp_claims.specs.Stands.{ClaimsStand, claim_of}
-use Rattle.tsp_script.specs.declared.trace.Line2.{Line2}
+use Rattle.tsp_base.specs.declared.trace.Line2.{Line2}
 
 -- the event with this index is at hand, and the rest behind it
 pub ahead-at : {A : Type 0} (events : List A) (n : ℕ) (e : A) → slice_get events n ≡ Some e → drop n events ≡ (e ∷ drop (n + 1) events)

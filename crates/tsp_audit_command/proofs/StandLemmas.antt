@@ -19,7 +19,7 @@ use Rattle.tsp_lines.specs.declared.treatment.Stop.{Stop}
 use Rattle.tsp_lines.specs.declared.treatment.Stop.TheVariants.{Bad, Limit, WriteFault, OutOfMemory}
 use Rattle.tsp_lines.specs.Meanings.{Goes, StopsAt}
 use Rattle.tsp_lines.proofs.Outputs.{Hands-nil}
-use Rattle.tsp_script.specs.declared.trace.Line2.{Line2}
+use Rattle.tsp_base.specs.declared.trace.Line2.{Line2}
 
 -- a long line is no trace's
 pub Refuses-long : (r : Reading) (held : AuditInput) (c : ClaimingValue) (line cause : List ℕ) → held ≡ ClaimsOf c → HeldStands r held → 1024 < length line → cause ≡ codes "line" → Refuses r line cause

@@ -22,7 +22,7 @@ use Rattle.tsp_script.proofs.Lengths.{number_length}
 use Rattle.tsp_script.specs.ActLines.{IsAct, IsLine2, IsNumberOf, IsRole, IsTaken, SpellsTrace}
 use Rattle.tsp_script.specs.Texts.{space, message_text}
 use Rattle.tsp_script.specs.Traces.{act_text, fault_word, place_text, role_text, taken_text, trace_text, way_word}
-use Rattle.tsp_script.specs.declared.trace.Line2.{Line2}
+use Rattle.tsp_base.specs.declared.trace.Line2.{Line2}
 
 alarm_length : (a : Alarm) → length (alarm_word a) ≤ 7
 alarm_length Quiet = omega arith

@@ -8,7 +8,7 @@ use Rattle.tsp_claims.specs.ClaimedHistory.{Claim, lines_in}
 use Rattle.tsp_claims.specs.Fitting.{FitsNext, counted, lacks, untold}
 use Rattle.tsp_claims.specs.Stands.{claim_of}
 use Rattle.tsp_script.specs.ActLines.{SpellsTrace}
-use Rattle.tsp_script.specs.declared.trace.Line2.{Line2}
+use Rattle.tsp_base.specs.declared.trace.Line2.{Line2}
 
 -- the most lines that may be claimed, of all events together
 abbrev pub most_lines : ℕ

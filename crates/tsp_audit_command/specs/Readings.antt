@@ -13,7 +13,7 @@ use Rattle.tsp_audit_command.specs.Texts.{verdict_text}
 use Rattle.tsp_claims.specs.ClaimedHistory.{Claim}
 use Rattle.tsp_schedule.specs.Schedules.{Progress, Untitled, Titled, Drifted, Heading, Running, Ended, GoesOn as GoesOnBy, Refuses as RefusesBy, Limits as LimitsBy, Lacks as LacksBy}
 use Rattle.tsp_script.specs.ActLines.{SpellsTrace}
-use Rattle.tsp_script.specs.declared.trace.Line2.{Line2}
+use Rattle.tsp_base.specs.declared.trace.Line2.{Line2}
 
 -- how far the lines of an input have come
 pub data Reading : Type 0 where

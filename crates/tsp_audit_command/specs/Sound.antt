@@ -16,7 +16,7 @@ use Rattle.tsp_claims.specs.ClaimedHistory.{Claim, claimed, events_of}
 use Rattle.tsp_claims.specs.Fitting.{FitsNext, counted, untold}
 use Rattle.tsp_claims.specs.Stands.{ClaimsStand}
 use Rattle.tsp_history.specs.Histories.{history_of}
-use Rattle.tsp_script.specs.declared.trace.Line2.{Line2}
+use Rattle.tsp_base.specs.declared.trace.Line2.{Line2}
 
 -- the act of a line of a history, on its port; none of a mark
 abbrev pub placed_by : Port → Deed → List Placed

@@ -17,7 +17,7 @@ use Rattle.tsp_lines.specs.Outputs.{Hands}
 use Rattle.tsp_lines.specs.declared.treatment.Stop.{Stop}
 use Rattle.tsp_lines.specs.declared.treatment.Stop.TheVariants.{Bad, Limit, WriteFault, OutOfMemory}
 use Rattle.tsp_run.specs.Run.{last_at}
-use Rattle.tsp_script.specs.declared.trace.Line2.{Line2}
+use Rattle.tsp_base.specs.declared.trace.Line2.{Line2}
 
 -- the listing stands for a header and these events, which are given newest first
 pub record ListingStands (header : HeaderValue) (events : List Event) (listing : Listing) : Type 0 where

@@ -9,12 +9,12 @@ use tsp_audit::premised::{all_kept, keep_with};
 use tsp_audit::premises::Premises;
 use tsp_audit::small_event::SmallEvent;
 use tsp_base::header::Header;
+use tsp_base::trace::Line2;
 use tsp_claims::claims::Claims;
 use tsp_claims::tally::Tally;
 use tsp_lines::cause::Cause;
 use tsp_lines::treatment::Stop;
 use tsp_script::act_reader::act_of;
-use tsp_script::trace::Line2;
 
 /// The most lines that may be claimed, of all events together.
 const MOST_LINES: u64 = 20_000;

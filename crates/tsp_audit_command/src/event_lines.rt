@@ -3,7 +3,7 @@ ghost use Rattle.std.specs.Prelude.{◌≡◌, ◌++◌, ◌∷◌, [], OnErr, O
 
 use std::alloc::{AllocError, Global};
 use std::marker::Model;
-use tsp_script::trace::Line2;
+use tsp_base::trace::Line2;
 
 /// The lines that are claimed of one event, in the order in which they were read.
 #[derive(Drop)]
@@ -13,7 +13,7 @@ pub(crate) struct EventLines {
 
 impl Model for EventLines {
     ghost use Rattle.std.specs.Prelude.{List};
-    ghost use Rattle.tsp_script.specs.declared.trace.Line2.{Line2};
+    ghost use Rattle.tsp_base.specs.declared.trace.Line2.{Line2};
 
     ghost Value = { List Line2 };
 

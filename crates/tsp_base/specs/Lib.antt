@@ -13,6 +13,7 @@ pub mod Pad
 pub mod Peers
 pub mod Performs
 pub mod Places
+pub mod Plains
 pub mod PortFacts
 pub mod RoundFacts
 pub mod Rows

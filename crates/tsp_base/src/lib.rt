@@ -52,5 +52,7 @@ pub mod name;
 pub mod octets;
 pub mod pad;
 pub mod place;
+pub mod plain;
 pub mod role;
 pub mod stamp;
+pub mod trace;

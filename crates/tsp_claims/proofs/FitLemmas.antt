@@ -8,7 +8,7 @@ use Rattle.tsp_base.specs.declared.event.Event.{Event}
 use Rattle.tsp_claims.specs.declared.tally.Tally.{Tally}
 use Rattle.tsp_claims.specs.Fitting.{AllFit, Misfits, counted, lacks, untold}
 use Rattle.tsp_run.specs.Run.{posts_by}
-use Rattle.tsp_script.specs.declared.trace.Line2.{Line2}
+use Rattle.tsp_base.specs.declared.trace.Line2.{Line2}
 
 -- an act posts one datagram at the most
 pub posts_by-few : (a : Act) → posts_by a ≤ 1

@@ -16,7 +16,7 @@ use Rattle.tsp_claims.specs.Listed.{boots, booted, up_in}
 use Rattle.tsp_claims.specs.Stands.{ClaimsStand, claim_of}
 use Rattle.tsp_claims.specs.TakingIn.{HoldsStep, Joins, Stays}
 use Rattle.tsp_history.specs.Histories.{history_of}
-use Rattle.tsp_script.specs.declared.trace.Line2.{Line2}
+use Rattle.tsp_base.specs.declared.trace.Line2.{Line2}
 
 -- what holds of the fields holds of the claims that they stand for
 pub of-fields : (header : HeaderValue) (claims : List Claim) (c : Claims) → ClaimsStand header claims c → (P : HeaderValue → List Claimed → (ℕ → Bool) → ℕ → Type 0) →

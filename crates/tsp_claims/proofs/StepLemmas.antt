@@ -12,7 +12,7 @@ use Rattle.tsp_history.specs.declared.line.HistoryLine.{HistoryLine}
 use Rattle.tsp_history.specs.Histories.{history_of, line_of}
 use Rattle.tsp_history.proofs.HistoryLemmas.{noted-append}
 use Rattle.tsp_run.specs.Run.{step_tick}
-use Rattle.tsp_script.specs.declared.trace.Line2.{Line2}
+use Rattle.tsp_base.specs.declared.trace.Line2.{Line2}
 
 -- a step that these values are
 pub record Acts-by (header : HeaderValue) (o : Option Step) (a : Acting) : Type 0 where

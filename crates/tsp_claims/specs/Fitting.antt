@@ -20,7 +20,7 @@ use Rattle.tsp_claims.specs.Listed.{booted}
 use Rattle.tsp_run.specs.declared.address.Address.{Address}
 use Rattle.tsp_run.specs.Networks.{networks, ports_on}
 use Rattle.tsp_run.specs.Run.{posts_by, step_tick}
-use Rattle.tsp_script.specs.declared.trace.Line2.{Line2}
+use Rattle.tsp_base.specs.declared.trace.Line2.{Line2}
 
 -- whether an act is a Took
 abbrev pub is_took : Act → Bool

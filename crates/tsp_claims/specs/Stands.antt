@@ -11,7 +11,7 @@ use Rattle.tsp_claims.specs.ClaimedHistory.{Claim, claimed, events_of, lines_in,
 use Rattle.tsp_claims.specs.Fitting.{Fit, Misfit, acts_of}
 use Rattle.tsp_claims.specs.Listed.{booted, up_in}
 use Rattle.tsp_history.specs.Histories.{history_of}
-use Rattle.tsp_script.specs.declared.trace.Line2.{Line2}
+use Rattle.tsp_base.specs.declared.trace.Line2.{Line2}
 
 -- the claims stand for a header, and for events with the acts that are claimed of them, the newest first
 pub record ClaimsStand (header : HeaderValue) (claims : List Claim) (c : Claims) : Type 0 where

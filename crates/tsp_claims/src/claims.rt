@@ -12,11 +12,11 @@ use std::alloc::{AllocError, Global};
 use tsp_base::event::Event;
 use tsp_base::header::Header;
 use tsp_base::members::Members;
+use tsp_base::trace::Line2;
 use tsp_history::clocks::moved_at;
 use tsp_history::history::History;
 use tsp_history::line::HistoryLine;
 use tsp_networks::all_nodes;
-use tsp_script::trace::Line2;
 
 /// The claimed lines of some events, event by event: all fit the schedule.
 #[derive(Drop)]

@@ -15,7 +15,7 @@ use tsp_base::act::{Act, Placed};
 use tsp_base::datagram::Taken;
 use tsp_base::event::Event;
 use tsp_base::place::{PeerId, Place, Port};
-use tsp_script::trace::Line2;
+use tsp_base::trace::Line2;
 
 /// Whether an event is a boot.
 fn begins_with_boot(e: &Event) -> bool

@@ -21,10 +21,10 @@ use std::alloc::{AllocError, Global};
 use tsp_base::act::{Act, Placed};
 use tsp_base::event::Event;
 use tsp_base::place::Port;
+use tsp_base::trace::Line2;
 use tsp_history::held_act::HeldAct;
 use tsp_history::line::HistoryLine;
 use tsp_history::notes::Note;
-use tsp_script::trace::Line2;
 
 /// The step of an event and its lines, which is to be taken in: nothing where the event makes none.
 #[derive(Drop)]

@@ -15,7 +15,7 @@ use Rattle.tsp_run.specs.declared.line.Line.{Line as ToldLine}
 use Rattle.tsp_run.specs.Ranges.{Accepted}
 use Rattle.tsp_run.specs.Run.{gained, run}
 use Rattle.tsp_run.specs.Setting.{SetBy}
-use Rattle.tsp_script.specs.declared.trace.Line2.{Line2}
+use Rattle.tsp_base.specs.declared.trace.Line2.{Line2}
 
 -- the number of a post, and 0 for any other act
 abbrev pub number_or_zero : Option ℕ → ℕ

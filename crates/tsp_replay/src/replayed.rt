@@ -3,8 +3,8 @@
 use std::alloc::{AllocError, Global};
 use tsp_base::event::{Event, EventFault};
 use tsp_base::header::Header;
+use tsp_base::plain::Plain;
 use tsp_schedule::handler::EventHandler;
-use tsp_script::plain::Plain;
 use tsp_world::world::World;
 
 /// The world of a replay.

@@ -4,13 +4,13 @@ ghost use Rattle.tsp_base.specs.Headers.{HeaderValue, is_whole};
 ghost use Rattle.tsp_base.specs.declared.event.Event.{Event};
 ghost use Rattle.tsp_schedule.specs.Refusing.{Refusing};
 ghost use Rattle.tsp_run.specs.Refusals.{IsRefusal};
-ghost use Rattle.tsp_script.specs.Plains.{event_in};
+ghost use Rattle.tsp_base.specs.Plains.{event_in};
 ghost use Rattle.tsp_script.specs.Schedules.{IsEvent};
 
 use std::alloc::{AllocError, Global};
 use tsp_base::event::{Event, EventFault};
 use tsp_base::header::Header;
-use tsp_script::plain::Plain;
+use tsp_base::plain::Plain;
 
 /// A handler of a schedule's events. It gets the header once, and then one event after the other.
 pub trait EventHandler: Drop {

@@ -5,7 +5,7 @@ ghost use Rattle.tsp_base.specs.Headers.{is_whole};
 ghost use Rattle.tsp_base.specs.declared.event.Event.{Event};
 ghost use Rattle.tsp_schedule.specs.Schedules.{IsEnded, Lacks, Progress, Refuses};
 ghost use Rattle.tsp_schedule.specs.Stages.{Halts, ReadsOn, RunAdvances, RunStands, Treats};
-ghost use Rattle.tsp_script.specs.Plains.{event_in};
+ghost use Rattle.tsp_base.specs.Plains.{event_in};
 ghost use Rattle.tsp_script.specs.Schedules.{IsEvent};
 
 use crate::faults::stop_of;
@@ -13,10 +13,10 @@ use crate::handler::EventHandler;
 use std::alloc::{AllocError, Global};
 use tsp_base::event::Event;
 use tsp_base::header::Header;
+use tsp_base::plain::Plain;
 use tsp_lines::cause::Cause;
 use tsp_lines::treatment::Stop;
 use tsp_script::event_line::{EventItem, event_line, plain_line};
-use tsp_script::plain::Plain;
 
 /// The line of a turn or a take is at most so long; a longer one isn't tried as such.
 const PLAIN: usize = 45;

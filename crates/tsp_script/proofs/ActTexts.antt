@@ -5,7 +5,7 @@ use Rattle.std.specs.Fmt.{signed_decimal}
 use Rattle.tsp_base.specs.Alarms.{alarm_word}
 use Rattle.tsp_base.specs.declared.act.Act.{Act}
 use Rattle.tsp_base.specs.declared.act.Act.TheVariants.{Boot, Took, Post, Become, Back, Backer, Quit, Arm, Ring, Late, Join, Leave, Rival, Acked, Gave, Sample, Close, Correct, Abandon, Trace}
-use Rattle.tsp_script.specs.declared.trace.Line2.{Line2}
+use Rattle.tsp_base.specs.declared.trace.Line2.{Line2}
 use Rattle.tsp_script.specs.Traces.{way_word, act_text, trace_text}
 use Rattle.tsp_script.specs.Verbs.{verb_word, verb_of, way_text, rest_of_act}
 use Rattle.tsp_script.specs.Words.{first_word, after_word}

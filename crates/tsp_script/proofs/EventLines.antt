@@ -10,7 +10,7 @@ use Rattle.tsp_base.specs.declared.event.Event.TheVariants.{Boot, Turn, Take, By
 use Rattle.tsp_base.specs.declared.place.Place.{Place}
 use Rattle.tsp_base.specs.declared.place.Port.{Port}
 use Rattle.tsp_base.specs.declared.place.Place.TheVariants.{Peer, Stranger}
-use Rattle.tsp_script.specs.declared.plain.Plain.TheVariants.{Turn as PlainTurn, Take as PlainTake}
+use Rattle.tsp_base.specs.declared.plain.Plain.TheVariants.{Turn as PlainTurn, Take as PlainTake}
 use Rattle.tsp_script.specs.Plains.{IsNotPlain}
 use Rattle.tsp_script.specs.Schedules.{event_text, port_text, IsHexOf, IsPlace, IsTrueTime, IsEvent}
 use Rattle.tsp_script.specs.Traces.{place_text}

@@ -15,7 +15,7 @@ use Rattle.tsp_script.specs.Schedules.{IsPlace}
 use Rattle.tsp_script.specs.Traces.{trace_text}
 use Rattle.tsp_script.specs.declared.line_fault.LineFault.{LineFault}
 use Rattle.tsp_script.specs.declared.line_fault.LineFault.TheVariants.{Bad}
-use Rattle.tsp_script.specs.declared.trace.Line2.{Line2}
+use Rattle.tsp_base.specs.declared.trace.Line2.{Line2}
 
 -- what was taken is a datagram in its range, or a fault
 abbrev pub IsTaken : Taken → Type 0

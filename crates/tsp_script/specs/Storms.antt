@@ -9,7 +9,7 @@ use Rattle.tsp_base.specs.declared.datagram.Datagram.TheVariants.{Stamp as Stamp
 use Rattle.tsp_base.specs.Joins.{first_port}
 use Rattle.tsp_codec.specs.Canon.{canon}
 use Rattle.tsp_script.specs.Schedules.{IsEvent, IsTrueTime}
-use Rattle.tsp_script.specs.Plains.{event_in}
+use Rattle.tsp_base.specs.Plains.{event_in}
 use Rattle.tsp_script.specs.declared.storm.Choice.{Choice}
 use Rattle.tsp_script.specs.declared.storm.Choice.TheVariants.{Plain, Request as Asked, Ask as Asks}
 use Rattle.tsp_script.specs.declared.storm.Draw.{Draw}

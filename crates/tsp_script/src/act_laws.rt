@@ -7,11 +7,12 @@ ghost use Rattle.tsp_script.specs.Traces.{trace_text};
 use crate::act_reader::act_of;
 use crate::line_fault::LineFault;
 use crate::messages::message_text;
-use crate::trace::{Line2, act_text};
+use crate::trace::act_text;
 use tsp_base::act::Act;
 use tsp_base::datagram::Taken;
 use tsp_base::place::{PeerId, Place};
 use tsp_base::role::Role;
+use tsp_base::trace::Line2;
 
 /// A peer's number is in its range.
 fn peer_in_range(peer: PeerId)

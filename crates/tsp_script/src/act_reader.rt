@@ -4,7 +4,7 @@ ghost use Rattle.tsp_base.specs.declared.act.Act.{Act};
 ghost use Rattle.tsp_script.specs.ActLines.{IsAct, IsSilent, IsNumberOf, IsLine2, SpellsTrace, ReadsTrace};
 ghost use Rattle.tsp_script.specs.Traces.{act_text};
 ghost use Rattle.tsp_script.specs.Verbs.{verb_of, rest_of_act, act_of_peer};
-ghost use Rattle.tsp_script.specs.declared.trace.Line2.{Line2};
+ghost use Rattle.tsp_base.specs.declared.trace.Line2.{Line2};
 ghost use Rattle.tsp_script.specs.declared.verbs.Verb.{Verb};
 
 use crate::act_parts::{
@@ -14,11 +14,12 @@ use crate::act_parts::{
 use crate::act_words::alarm_of;
 use crate::line_fault::LineFault;
 use crate::numbers::{long_of, next_number};
-use crate::trace::{Line2, act_text};
+use crate::trace::act_text;
 use crate::verbs::Verb;
 use crate::words::{cut, is_same};
 use tsp_base::act::{Act, Placed};
 use tsp_base::place::{PeerId, Port};
+use tsp_base::trace::Line2;
 
 /// The act with this word that names a peer and nothing else.
 fn peer_act(verb: Verb, peer: PeerId) -> Option<Act>

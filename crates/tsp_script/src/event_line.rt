@@ -7,8 +7,9 @@ ghost use Rattle.tsp_base.specs.declared.event.Event.{Event};
 ghost use Rattle.tsp_base.specs.declared.place.Place.{Place};
 ghost use Rattle.tsp_base.specs.declared.place.Port.{Port};
 ghost use Rattle.tsp_script.specs.declared.event_line.EventItem.{EventItem};
-ghost use Rattle.tsp_script.specs.Plains.{event_in, IsTurnOrTake, IsNotPlain};
-ghost use Rattle.tsp_script.specs.declared.plain.Plain.{Plain};
+ghost use Rattle.tsp_base.specs.Plains.{event_in};
+ghost use Rattle.tsp_script.specs.Plains.{IsTurnOrTake, IsNotPlain};
+ghost use Rattle.tsp_base.specs.declared.plain.Plain.{Plain};
 ghost use Rattle.tsp_script.specs.Schedules.{event_text, port_text, NamesPort, IsHexOf, IsPlace};
 ghost use Rattle.tsp_script.specs.Schedules.{IsEvent, SpellsEvent, ReadsEvent};
 ghost use Rattle.tsp_script.specs.Traces.{place_text};
@@ -20,13 +21,13 @@ use crate::numbers::{
     append, append_next_number, append_number, front_number, long_of, next_number, number_of,
     octets_in,
 };
-use crate::plain::Plain;
 use crate::words::{cut, is_same, part};
 use arrayvec::ArrayVec;
 use tsp_base::constants::SCHEDULE_END;
 use tsp_base::event::Event;
 use tsp_base::octets::Octets;
 use tsp_base::place::{PeerId, Place, Port};
+use tsp_base::plain::Plain;
 
 /// The line of a turn or a take is at most so long, in octets.
 const PLAIN: usize = 45;

@@ -24,7 +24,7 @@
 //! each event.
 //!
 //! An `Event` has room for 300 octets, so handing it on costs time. `Storm::choice` is `next` for callers to
-//! whom that matters: it gives an event without octets as a small [`plain::Plain`]. So does
+//! whom that matters: it gives an event without octets as a small [`Plain`](tsp_base::plain::Plain). So does
 //! [`event_line::plain_line`] with a turn's line or a take's.
 #![tactic(auto)]
 
@@ -45,7 +45,6 @@ pub mod messages;
 pub mod names;
 mod net_line;
 pub mod numbers;
-pub mod plain;
 pub mod storm;
 pub mod trace;
 mod verbs;

@@ -3,7 +3,6 @@ ghost use Rattle.std.specs.Prelude.{◌≡◌, ◌<◌, ◌≤◌, ◌↔◌, �
 ghost use Rattle.tsp_script.specs.Schedules.{IsEvent};
 ghost use Rattle.tsp_script.specs.Storms.{request_octets, request_event};
 
-use crate::plain::Plain;
 use arrayvec::ArrayVec;
 use itoa::Buffer;
 use std::marker::Model;
@@ -13,6 +12,7 @@ use tsp_base::header::NodeLine;
 use tsp_base::name::Name;
 use tsp_base::octets::Octets;
 use tsp_base::place::{Place, Port};
+use tsp_base::plain::Plain;
 use tsp_base::stamp::Stamp;
 use tsp_codec::encode;
 

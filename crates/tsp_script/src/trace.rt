@@ -7,21 +7,7 @@ use crate::acts::append_act;
 use crate::numbers::{append, append_next_number, append_number};
 use arrayvec::ArrayVec;
 use tsp_base::act::Placed;
-
-/// The values of a line of the trace.
-#[derive(Drop)]
-pub struct Line2 {
-    /// The event's number, from 1.
-    pub event: u64,
-    /// The node that acts.
-    pub node: u32,
-    /// Its tick counter, in microseconds.
-    pub tick: u64,
-    /// The posted datagram's number, from 0; for any other act it isn't used.
-    pub number: u64,
-    /// The act and its port.
-    pub placed: Placed,
-}
+use tsp_base::trace::Line2;
 
 /// The trace's line of an act, without a line end, in at most 1,024 octets.
 pub fn act_text(line: &Line2) -> ArrayVec<u8, 1024>

@@ -8,7 +8,7 @@ use Rattle.tsp_base.specs.declared.event.Event.TheVariants.{Boot, Turn, Take, By
 use Rattle.tsp_base.specs.declared.place.Place.TheVariants.{Stranger}
 use Rattle.tsp_base.specs.Headers.{HeaderValue}
 use Rattle.tsp_base.specs.Joins.{first_port}
-use Rattle.tsp_script.specs.Plains.{event_in}
+use Rattle.tsp_base.specs.Plains.{event_in}
 use Rattle.tsp_script.specs.declared.storm.Choice.{Choice}
 use Rattle.tsp_script.specs.declared.storm.Choice.TheVariants.{Plain, Request, Ask as Asked}
 use Rattle.tsp_script.specs.declared.storm.Draw.{Draw}

@@ -8,12 +8,12 @@ use std::alloc::Global;
 use tsp_base::event::Event;
 use tsp_base::header::{Header, NodeLine};
 use tsp_base::name::Name;
+use tsp_base::trace::Line2;
 use tsp_claims::audit_fault::AuditFault;
 use tsp_claims::claims::Claims;
 use tsp_claims::tally::Tally;
 use tsp_script::act_reader::act_of;
 use tsp_script::event_line::{EventItem, event_line};
-use tsp_script::trace::Line2;
 
 /// What should come of lines that are claimed of an event: they are taken in, or the line with this index isn't
 /// allowed, or with the index behind the last one, the event lacks something.

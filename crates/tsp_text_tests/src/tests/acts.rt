@@ -6,9 +6,10 @@ use tsp_base::datagram::{Datagram, DecodeFault, Taken};
 use tsp_base::place::{PeerId, Place, Port};
 use tsp_base::role::Role;
 use tsp_base::stamp::Stamp;
+use tsp_base::trace::Line2;
 use tsp_script::act_laws::{act_comes_back, one_line_one_act};
 use tsp_script::act_reader::act_of;
-use tsp_script::trace::{Line2, act_text};
+use tsp_script::trace::act_text;
 
 /// Whether an act is written as this line.
 fn is_written(act: Act, text: &[u8]) -> bool {

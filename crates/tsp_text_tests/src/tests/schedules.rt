@@ -5,11 +5,12 @@ use tsp_base::act::{Act, Placed};
 use tsp_base::datagram::Datagram;
 use tsp_base::event::Event;
 use tsp_base::place::{PeerId, Place, Port};
+use tsp_base::trace::Line2;
 use tsp_script::event_line::{EventItem, event_line};
 use tsp_script::head_line::{HeadItem, head_line};
 use tsp_script::message_reader::message_of;
 use tsp_script::messages::message_text;
-use tsp_script::trace::{Line2, act_text};
+use tsp_script::trace::act_text;
 
 /// What the line with this number is, and its number; None where it is no line of a schedule.
 fn head(line: &[u8], place: u32) -> Option<(&'static str, u32)> {

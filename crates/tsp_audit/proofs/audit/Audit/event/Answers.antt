@@ -15,7 +15,7 @@ use Rattle.tsp_claims.specs.Listed.{NamesNode}
 use Rattle.tsp_claims.specs.Stands.{ClaimsStand, claim_of}
 use Rattle.tsp_history.specs.declared.line.HistoryLine.{HistoryLine}
 use Rattle.tsp_history.specs.Histories.{history_of}
-use Rattle.tsp_script.specs.declared.trace.Line2.{Line2}
+use Rattle.tsp_base.specs.declared.trace.Line2.{Line2}
 use Rattle.tsp_audit.proofs.audit.Audit.event.Goals as goal
 
 pub returns-then-is_err : goal.returns-then-is_err

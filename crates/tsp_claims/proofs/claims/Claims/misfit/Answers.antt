@@ -6,7 +6,7 @@ use Rattle.tsp_claims.specs.Fitting.{FitsAfter, Misfits, untold}
 use Rattle.tsp_claims.specs.Listed.{up_in}
 use Rattle.tsp_claims.proofs.FitLemmas.{Left, left-next, left-misfits, left-lacks, posts_by-few}
 use Rattle.tsp_claims.proofs.claims.Claims.misfit.Goals as goal
-use Rattle.tsp_script.specs.declared.trace.Line2.{Line2}
+use Rattle.tsp_base.specs.declared.trace.Line2.{Line2}
 
 pub returns-then-not-fits_in : goal.returns-then-not-fits_in
 returns-then-not-fits_in c =

@@ -4,7 +4,7 @@ use Rattle.tsp_schedule.proofs.StageLemmas.{MatchResult-map, Advances-event, Hal
 use Rattle.tsp_schedule.specs.declared.stage.Stage.TheVariants.{Running}
 use Rattle.tsp_script.proofs.OneEvent.{SpellsEvent-one}
 use Rattle.tsp_script.specs.declared.event_line.EventItem.TheVariants.{Event as EventOf}
-use Rattle.tsp_script.specs.Plains.{event_in}
+use Rattle.tsp_base.specs.Plains.{event_in}
 use Rattle.tsp_schedule.proofs.run.Run.go_on.Goals as goal
 
 pub returns-in-Some-clause-next : goal.returns-in-Some-clause-next

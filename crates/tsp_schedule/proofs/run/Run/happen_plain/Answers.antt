@@ -1,6 +1,6 @@
 -- A refused event stops the reading as its fault says.
 use Rattle.tsp_schedule.proofs.StageLemmas.{HaltsEvent-stops}
-use Rattle.tsp_script.specs.Plains.{event_in}
+use Rattle.tsp_base.specs.Plains.{event_in}
 use Rattle.tsp_schedule.proofs.run.Run.happen_plain.Goals as goal
 
 pub returns-in-Err-clause-next : goal.returns-in-Err-clause-next

@@ -1,8 +1,8 @@
 //! Events without octets.
 ghost use Rattle.std.specs.Prelude.{◌≡◌};
-ghost use Rattle.tsp_script.specs.Plains.{event_in};
+ghost use Rattle.tsp_base.specs.Plains.{event_in};
 
-use tsp_base::event::Event;
+use crate::event::Event;
 
 /// An event without octets. It takes little room, so that it is cheap to hand on.
 #[derive(Clone, Copy)]

@@ -1,0 +1,11 @@
+-- Events without octets.
+use Rattle.tsp_base.specs.declared.event.Event.{Event}
+use Rattle.tsp_base.specs.declared.event.Event.TheVariants.{Boot, Turn, Take}
+use Rattle.tsp_base.specs.declared.plain.Plain.{Plain}
+use Rattle.tsp_base.specs.declared.plain.Plain.TheVariants.{Boot as PlainBoot, Turn as PlainTurn, Take as PlainTake}
+
+-- the event
+abbrev pub event_in : Plain → Event
+event_in (PlainBoot at node word) = Boot at node word
+event_in (PlainTurn at node) = Turn at node
+event_in (PlainTake at datagram) = Take at datagram
