@@ -63,9 +63,9 @@ has_open-is Vote p number x past s h = ap (answers_election number) (sym (h.send
 has_open-is Date p number x past s h = ap (answers_date number) (sym (h.sends p)) ∙ sym (answers_date-is number (sending_to s.sends p))
 has_open-is Ack p number x past s h = ap (answers_other number) (sym (h.sends p)) ∙ sym (answers_other-is number (sending_to s.sends p))
 
--- where the open send is of the right kind, its number decides
-pub has_open-of : (a : Answer) (p : PeerId) (number x : ℕ) (past : Past) (s : Station) → is_of (answered_by a) (kind_of (sending_to s.sends p)) ≡ true → Stands past s →
-    has_open a p number x past ≡ has_number number (sending_to s.sends p)
+-- where the open send is of the right kind, its number decides, and else none is answered
+pub has_open-of : (a : Answer) (p : PeerId) (number x : ℕ) (past : Past) (s : Station) {b : Bool} → is_of (answered_by a) (kind_of (sending_to s.sends p)) ≡ b → Stands past s →
+    has_open a p number x past ≡ (b && has_number number (sending_to s.sends p))
 has_open-of a p number x past s e h = has_open-is a p number x past s h ∙ ap (λ b. b && has_number number (sending_to s.sends p)) e
 
 -- an ACK ends the send that it names, or nothing

@@ -191,18 +191,11 @@ fn count_nets(nets: &[Members], node: u32) -> usize
         .count()
 }
 
-/// Whether a node is in fewer than 4 of the networks.
-fn is_free(nets: &[Members], node: u32) -> bool
-    ensures { result ≡ nat_lt (nets_with node nets.now) 4 }
-{
-    count_nets(nets, node) < 4
-}
-
 /// Whether each of the nodes is in fewer than 4 of the networks.
 fn are_free(nets: &[Members], numbers: &[u32]) -> bool
     ensures { result ≡ list_all (λ n. nat_lt (nets_with n nets.now) 4) numbers.now }
 {
-    numbers.iter().all(|n| is_free(nets, *n))
+    numbers.iter().all(|&node| count_nets(nets, node) < 4)
 }
 
 /// Whether one network more may join these of so many nodes.

@@ -48,5 +48,10 @@ impl Members {
 pub fn is_ascending(numbers: &[u32]) -> bool
     ensures { IsTrue result ↔ IsStrictlyIncreasing numbers.now }
 {
-    numbers.windows(2).all(|pair| pair[0] < pair[1])
+    for next in 1..numbers.len() {
+        if numbers[next - 1] >= numbers[next] {
+            return false;
+        }
+    }
+    true
 }
