@@ -9,6 +9,7 @@ pub mod EmitsRows
 pub mod HearLemmas
 pub mod LeaveLemmas
 pub mod NodeLemmas
+pub mod PartLemmas
 pub mod RingLemmas
 pub mod RivalKeeps
 pub mod RoundLemmas

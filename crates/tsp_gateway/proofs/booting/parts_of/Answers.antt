@@ -35,3 +35,6 @@ loop-q-preserved c =
       ];
       memory = c.push_reserved.ensures.capacity ∙ c.loop-q.invariant.memory;
     }
+
+pub returns-clause-fresh : goal.returns-clause-fresh
+returns-clause-fresh c = record { many = omega (arith, c.loop-q.invariant.many, c.ports-q-end.ensures.value, c.loop-q-test.false, c.loop-q.auto.q-end); each = c.loop-q.invariant.each }

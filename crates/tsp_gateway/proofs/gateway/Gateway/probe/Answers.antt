@@ -1,10 +1,11 @@
 -- The Probe, and the LOOPs after the last one.
-use Rattle.std.proofs.Common.{◌+◌, ◌∙◌, arith, false, refl, sym, true}
+use Rattle.std.proofs.Common.{◌+◌, ◌∙◌, arith, false, refl, sym, true, ap}
 use Rattle.tsp_base.specs.declared.alarm.Alarm.TheVariants.{Probe}
 use Rattle.tsp_rules.specs.Answers.{rings}
 use Rattle.tsp_rules.specs.GateRows.{alarm_on}
 use Rattle.tsp_rules.specs.NodeRows.{on, spread}
 use Rattle.tsp_gateway.specs.GatewayStands.{GatewayStands, port_at}
+use Rattle.tsp_gateway.specs.Rooms.{peers_at}
 use Rattle.tsp_gateway.proofs.LiftLemmas.{All_from}
 use Rattle.tsp_gateway.proofs.PostLemmas.{emits_loops}
 use Rattle.tsp_gateway.proofs.StirLemmas.{All_looped, All_loopless, no_loops, not_last}
@@ -31,3 +32,25 @@ returns-else-rung-clause-row g c =
       | else-rung-via-then-rung+else-ends_probes b ↦ not_last x q past later (sym (b.ends_probes.ensures later (c.ring.ensures.row.stands past w).stands) ∙ b.if-ends_probes.false)
       | else-rung-via-else-rung b ↦ no_loops x q past later (sym (c.probe_rings-rung.ensures past w.stands) ∙ b.if-rung.false)
     ])
+
+pub ring-requires-clause-room : goal.ring-requires-clause-room
+ring-requires-clause-room g c = omega (arith, c.requires.room)
+
+pub ends_probes-requires : goal.ends_probes-requires
+ends_probes-requires g c = rw c.ring.ensures.ports c.requires.port
+
+pub send_loops-requires-clause-port : goal.send_loops-requires-clause-port
+send_loops-requires-clause-port g c = rw c.ring.ensures.ports c.requires.port
+
+pub send_loops-requires-clause-room : goal.send_loops-requires-clause-room
+send_loops-requires-clause-room g c = omega (arith, ap (peers_at c.args.q) c.ring.ensures.ports, c.ring.ensures.room.spare, c.requires.room)
+
+pub returns-then-ends_probes-clause-room : goal.returns-then-ends_probes-clause-room
+returns-then-ends_probes-clause-room g c =
+    let same = ap (peers_at c.args.q) c.ring.ensures.ports in
+    let ring = c.ring.ensures.room in
+    let loops = c.send_loops.ensures.room in
+    record { spare = omega (arith, same, ring.spare, loops.spare); few = omega (arith, same, ring.few, loops.few) }
+
+pub returns-else-rung-clause-room : goal.returns-else-rung-clause-room
+returns-else-rung-clause-room g c = let ring = c.ring.ensures.room in record { spare = omega (arith, ring.spare); few = omega (arith, ring.few) }

@@ -1,6 +1,6 @@
 -- Each alarm has its call.
 use Rattle.std.proofs.Common.{◌≡◌, ◌∙◌, arith, sym}
-use Rattle.tsp_base.specs.declared.alarm.Alarm.TheVariants.{Close, Probe}
+use Rattle.tsp_base.specs.declared.alarm.Alarm.TheVariants.{Close, Probe, Round}
 use Rattle.tsp_rules.specs.GateRows.{alarm_on, begins_round_on, waits}
 use Rattle.tsp_gateway.specs.GatewayStands.{port_at}
 use Rattle.tsp_gateway.specs.Rooms.{peers_at, ports_in}
@@ -94,3 +94,15 @@ returns-in_default g c =
       clock = ring.clock;
       room = record { spare = omega (arith, few, ring.room.spare); few = omega (arith, few, ring.room.few) };
     }
+
+pub ring-requires-clause-alarm : goal.ring-requires-clause-alarm
+ring-requires-clause-alarm g c = λ e. let same : Round ≡ Close = sym c.in-Round.is ∙ e in let bad : ⊥ = cc in bad
+
+pub returns-in-Round-clause-over : goal.returns-in-Round-clause-over
+returns-in-Round-clause-over g c = c.ring.ensures.over
+
+pub returns-in-Round-clause-room : goal.returns-in-Round-clause-room
+returns-in-Round-clause-room g c =
+    let few = little_room c.args.alarm (peers_at c.args.q (ports_in c.args.self.now)) in
+    let room = c.ring.ensures.room in
+    record { spare = omega (arith, few, room.spare); few = omega (arith, few, room.few) }

@@ -43,3 +43,6 @@ index-requires g c = let len = places c.args.self.now in omega (arith, len, c.re
 
 pub port_at-requires : goal.port_at-requires
 port_at-requires g c = let few = ports_few c.args.self.now in omega (arith, few, c.requires.port)
+
+pub overflow_cast-q : goal.overflow_cast-q
+overflow_cast-q g c = let few = ports_few c.args.self.now in omega (arith, few, c.requires.port)

@@ -1,5 +1,5 @@
 -- A LOOP, which is noted and judged where its sender is heard; another message, or what is none.
-use Rattle.std.proofs.Common.{◌≡◌, ◌∙◌, ap, false, rules, sym, true}
+use Rattle.std.proofs.Common.{◌≡◌, ◌∙◌, ap, arith, false, rules, sym, true}
 use Rattle.tsp_base.specs.declared.datagram.Datagram.TheVariants.{Message}
 use Rattle.tsp_base.specs.declared.datagram.Taken.TheVariants.{Good}
 use Rattle.tsp_base.specs.declared.kind.Kind.TheVariants.{Loop}
@@ -7,6 +7,7 @@ use Rattle.tsp_rules.specs.GateRows.{hears_on, heeds_loop, takes_kind, takes_loo
 use Rattle.tsp_rules.specs.NodeRows.{nothing_at_all}
 use Rattle.tsp_rules.proofs.NodeRowLemmas.{All_then}
 use Rattle.tsp_gateway.specs.GatewayStands.{port_at}
+use Rattle.tsp_gateway.specs.Rooms.{all_peers}
 use Rattle.tsp_gateway.proofs.LiftLemmas.{All_nothing, All_reading, All_row}
 use Rattle.tsp_gateway.proofs.TakeLemmas.{loop_on, message_on, message_taken_on, other_on}
 use Rattle.tsp_gateway.proofs.gateway.Gateway.take_in.Goals as goal
@@ -40,3 +41,34 @@ returns-in_default-kind-clause-row g c =
 
 pub returns-in_default-clause-row : goal.returns-in_default-clause-row
 returns-in_default-clause-row g c = All_row (other_on (port_at c.args.q) c.args.from c.args.taken.now (search rules)) c.take_other.ensures.row
+
+pub hears-requires : goal.hears-requires
+hears-requires g c = rw c.note.ensures.ports c.requires.port
+
+pub judge_loop-requires-clause-port : goal.judge_loop-requires-clause-port
+judge_loop-requires-clause-port g c = rw c.note.ensures.ports c.requires.port
+
+pub judge_loop-requires-clause-room : goal.judge_loop-requires-clause-room
+judge_loop-requires-clause-room g c = omega (arith, ap all_peers c.note.ensures.ports, c.note.ensures.room.spare, c.requires.room)
+
+pub returns-then-hears-clause-ports : goal.returns-then-hears-clause-ports
+returns-then-hears-clause-ports g c = c.judge_loop.ensures.ports ∙ c.note.ensures.ports
+
+pub returns-then-hears-clause-clock : goal.returns-then-hears-clause-clock
+returns-then-hears-clause-clock g c = rw (c.judge_loop.ensures.clock, c.note.ensures.clock) c.requires.tick.1
+
+pub returns-then-hears-clause-room : goal.returns-then-hears-clause-room
+returns-then-hears-clause-room g c =
+    let same = ap all_peers c.note.ensures.ports in
+    let note = c.note.ensures.room in
+    let judge = c.judge_loop.ensures.room in
+    record { spare = omega (arith, same, note.spare, judge.spare); few = omega (arith, same, note.few, judge.few) }
+
+pub returns-else-hears-clause-room : goal.returns-else-hears-clause-room
+returns-else-hears-clause-room g c = let note = c.note.ensures.room in record { spare = omega (arith, note.spare); few = omega (arith, note.few) }
+
+pub returns-in_default-kind-clause-room : goal.returns-in_default-kind-clause-room
+returns-in_default-kind-clause-room g c = let room = c.take_message.ensures.room in record { spare = omega (arith, room.spare); few = omega (arith, room.few) }
+
+pub returns-in_default-clause-room : goal.returns-in_default-clause-room
+returns-in_default-clause-room g c = let room = c.take_other.ensures.room in record { spare = omega (arith, room.spare); few = omega (arith, room.few) }

@@ -1,5 +1,5 @@
 -- What is taken, and what it upsets.
-use Rattle.std.proofs.Common.{◌∷◌, [], true, refl, sym, ◌∙◌}
+use Rattle.std.proofs.Common.{◌∷◌, [], true, refl, sym, arith, ◌∙◌}
 use Rattle.tsp_rules.specs.Answers.{takes}
 use Rattle.tsp_rules.proofs.Emits.{Emits_more, Rounding}
 use Rattle.tsp_node.specs.declared.node.Node.{Node}
@@ -17,3 +17,12 @@ returns-then-take-clause-row g c =
 pub returns-else-take-clause-row : goal.returns-else-take-clause-row
 returns-else-take-clause-row g c =
     Performs_calm (takes true true c.args.from c.args.taken.now) (λ past h. sym (c.take.ensures.corrects past (record { port = h.port.stands; trace = h.trace })) ∙ c.if-take.false) (node_takes c.take.ensures.row)
+
+pub returns-then-take-clause-room : goal.returns-then-take-clause-room
+returns-then-take-clause-room g c =
+    let take = c.take.ensures.room in
+    let abandon = c.abandon.ensures.room in
+    record { spare = omega (arith, take.spare, abandon.spare); few = omega (arith, take.few, abandon.few) }
+
+pub returns-else-take-clause-room : goal.returns-else-take-clause-room
+returns-else-take-clause-room g c = let take = c.take.ensures.room in record { spare = omega (arith, take.spare); few = omega (arith, take.few) }

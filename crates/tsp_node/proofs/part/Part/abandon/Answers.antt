@@ -5,6 +5,7 @@ use Rattle.tsp_base.proofs.PerformsLemmas.{Performs_else_part, Performs_then_par
 use Rattle.tsp_rules.specs.RoundRows.{abandons, abandons_going}
 use Rattle.tsp_rules.specs.Guards.{is_going_at}
 use Rattle.tsp_node.proofs.NodeLemmas.{abandoned, same_part}
+use Rattle.tsp_node.proofs.PartLemmas.{still_alike}
 use Rattle.tsp_node.proofs.part.Part.abandon.Goals as goal
 
 pub returns-then-abandon-clause-row : goal.returns-then-abandon-clause-row
@@ -21,3 +22,6 @@ unfolding abandons_going
 returns-else-abandon-clause-row g c x clock =
     let same = c.abandon.ensures.same c.if-abandon.false in
     Performs_else_part is_going_at abandons (λ past h. c.abandon.ensures.going past h.station ∙ c.if-abandon.false) (same_part refl refl refl refl same.1 same.0)
+
+pub invariant_of-self : goal.invariant_of-self
+invariant_of-self g c = still_alike c.args.self.now c.abandon.ensures.peers refl refl c.abandon.ensures.port.peers

@@ -1,5 +1,5 @@
 -- The role, and then the alarm; the slaves are forgotten.
-use Rattle.std.proofs.Common.{refl}
+use Rattle.std.proofs.Common.{refl, ◌∙◌, ap}
 use Rattle.tsp_base.specs.declared.act.Act.TheVariants.{Become}
 use Rattle.tsp_base.specs.declared.alarm.Alarm.TheVariants.{Quiet}
 use Rattle.tsp_base.specs.declared.constants.TheConstants.{QUIET}
@@ -11,8 +11,10 @@ use Rattle.tsp_slave.proofs.BesideLemmas.{beside_sorts}
 use Rattle.tsp_master.proofs.TurnLemmas.{MasterStands_changing, turning_sorts}
 use Rattle.tsp_date.proofs.KeepLemmas.{DatesStand_by}
 use Rattle.tsp_resolve.proofs.ResolveLemmas.{ResolveStands_changed, rivalless}
+use Rattle.tsp_acks.specs.declared.station.Station.{Station}
 use Rattle.tsp_node.proofs.EmitsRoles.{begin_changes}
 use Rattle.tsp_node.proofs.NodeLemmas.{Performs_station}
+use Rattle.tsp_node.proofs.PartLemmas.{still_alike}
 use Rattle.tsp_node.proofs.part.Part.begin.Goals as goal
 
 pub returns-clause-row : goal.returns-clause-row
@@ -25,3 +27,6 @@ returns-clause-row g c clock =
     (λ past h s. MasterStands_changing row turning c.args.tick past c.args.self.now.master c.clear.new.self (begin_changes c.args.tick past) (record { slaves = c.clear.ensures.slaves; peers = c.clear.ensures.peers; rounds = c.clear.ensures.rounds }) h.master)
     (λ past h s. ResolveStands_changed c.args.tick past (row c.args.tick past) c.args.self.now.resolve c.clear-2.new.self (rivals.only c.args.tick past) (begin_changes c.args.tick past) c.clear-2.ensures.many c.clear-2.ensures.none h.resolve)
     (Performs_then (c.become_role.ensures.row c.args.tick) c.arm.ensures.row)
+
+pub invariant_of-self : goal.invariant_of-self
+invariant_of-self g c = still_alike c.args.self.now c.clear.ensures.peers c.clear-2.ensures.many refl (ap (λ (s : Station). s.peers) c.arm.ensures.station ∙ c.become_role.ensures.peers)

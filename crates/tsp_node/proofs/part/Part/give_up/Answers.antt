@@ -1,7 +1,8 @@
 -- A slave that didn't acknowledge a correction leaves.
-use Rattle.std.proofs.Common.{sym, ◌∙◌, ap, arith, length}
+use Rattle.std.proofs.Common.{sym, ◌∙◌, ap, arith, length, refl}
 use Rattle.std.proofs.lemmas.List.{length-append}
 use Rattle.tsp_node.proofs.LeaveLemmas.{Performs_leaves, Performs_other, Performs_stays}
+use Rattle.tsp_node.proofs.PartLemmas.{still_alike}
 use Rattle.tsp_node.proofs.part.Part.give_up.Goals as goal
 
 pub returns-then-not-is_correction-clause-row : goal.returns-then-not-is_correction-clause-row
@@ -27,3 +28,6 @@ returns-then-leave-clause-room g c = let one = ap length c.put.ensures.acts ∙ 
 
 pub returns-else-leave-clause-room : goal.returns-else-leave-clause-room
 returns-else-leave-clause-room g c = record { spare = omega arith; few = omega arith }
+
+pub invariant_of-self : goal.invariant_of-self
+invariant_of-self g c = still_alike c.args.self.now c.leave.ensures.peers refl refl refl

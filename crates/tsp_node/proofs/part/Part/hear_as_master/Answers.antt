@@ -13,6 +13,7 @@ use Rattle.tsp_node.proofs.DatesKeeps.{DatesStand_master}
 use Rattle.tsp_node.proofs.EmitsRows.{emits_conflict, emits_finds, emits_master_still, emits_master_takes, emits_resolves}
 use Rattle.tsp_node.proofs.HearLemmas.{master_conflict, master_masterack, master_masterup, master_quit, master_takes-other, roles_other}
 use Rattle.tsp_node.proofs.NodeLemmas.{Performs_led, Performs_resolved, Performs_took}
+use Rattle.tsp_node.proofs.PartLemmas.{as_many, still_alike}
 use Rattle.tsp_node.proofs.part.Part.hear_as_master.Goals as goal
 
 pub returns-in-Quit-clause-row : goal.returns-in-Quit-clause-row
@@ -68,3 +69,15 @@ returns-in_default-clause-room g c = let room = c.take.ensures.room in record { 
 
 pub returns-in-Conflict-clause-room : goal.returns-in-Conflict-clause-room
 returns-in-Conflict-clause-room g c = let post = c.post.ensures.room in let room = c.start-in-Conflict.ensures.room in record { spare = omega (arith, post.spare, room.spare); few = omega (arith, post.count, room.few) }
+
+pub invariant_of-self : goal.invariant_of-self
+invariant_of-self g c = still_alike c.args.self.now refl (as_many c.start.ensures.same) refl c.start.ensures.port.peers
+
+pub invariant_of-self-in-Conflict : goal.invariant_of-self-in-Conflict
+invariant_of-self-in-Conflict g c = still_alike c.args.self.now refl (as_many c.start-in-Conflict.ensures.same) refl c.start-in-Conflict.ensures.port.peers
+
+pub invariant_of-self-in-MasterAck : goal.invariant_of-self-in-MasterAck
+invariant_of-self-in-MasterAck g c = still_alike c.args.self.now refl c.rival.ensures.many refl refl
+
+pub invariant_of-self-in_default : goal.invariant_of-self-in_default
+invariant_of-self-in_default g c = still_alike c.args.self.now c.take.ensures.peers refl refl c.take.ensures.port.peers

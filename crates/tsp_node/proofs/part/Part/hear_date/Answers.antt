@@ -3,6 +3,7 @@ use Rattle.std.proofs.Common.{true, false, refl, sym}
 use Rattle.tsp_acks.proofs.FollowLemmas.{followed-Contains}
 use Rattle.tsp_node.proofs.NodeLemmas.{Performs_dated}
 use Rattle.tsp_node.proofs.TakeEmits.{emits_dates}
+use Rattle.tsp_node.proofs.PartLemmas.{still_alike}
 use Rattle.tsp_node.proofs.part.Part.hear_date.Goals as goal
 
 pub date_take-corrected-requires-clause-followed : goal.date_take-corrected-requires-clause-followed
@@ -19,3 +20,9 @@ returns-else-corrected-clause-row g c =
     let m = c.args.m.now in
     let row = rw c.if-corrected.false at c.date_take-corrected.ensures.row in
     Performs_dated false refl refl (emits_dates c.args.charge c.args.from m m.kind c.requires.audience) (λ took is. row c.args.self.now.last took (sym c.tick.ensures) is)
+
+pub invariant_of-self : goal.invariant_of-self
+invariant_of-self g c = still_alike c.args.self.now c.date_take-corrected.ensures.slaves refl c.date_take-corrected.ensures.peers c.date_take-corrected.ensures.port.peers
+
+pub invariant_of-self-else-corrected : goal.invariant_of-self-else-corrected
+invariant_of-self-else-corrected g c = still_alike c.args.self.now c.date_take-corrected.ensures.slaves refl c.date_take-corrected.ensures.peers c.date_take-corrected.ensures.port.peers

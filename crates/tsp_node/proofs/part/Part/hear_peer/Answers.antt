@@ -15,6 +15,7 @@ use Rattle.tsp_node.proofs.DatesKeeps.{DatesAside_slave}
 use Rattle.tsp_node.proofs.EmitsRoles.{calm_sorts, emits_answers, emits_slave, role_sorts}
 use Rattle.tsp_node.proofs.HearLemmas.{candidate_keeps, heard_awake, heard_peer, is_from, is_hearing, leaves_by, leaves_none, Performs_by_role, Performs_either_way, Performs_heard_at, Performs_kept, Performs_left, Performs_role, Performs_unheard, roles_date, roles_other, says_slave}
 use Rattle.tsp_node.proofs.NodeLemmas.{Performs_heard, Performs_pass, no_lead}
+use Rattle.tsp_node.proofs.PartLemmas.{still_alike}
 use Rattle.tsp_node.proofs.part.Part.hear_peer.Goals as goal
 
 pub returns-in_default-clause-row : goal.returns-in_default-clause-row
@@ -131,3 +132,9 @@ returns-then-not-leaves-clause-room g c = let room = c.slave_take.ensures.room i
 
 pub returns-in-Master-clause-room : goal.returns-in-Master-clause-room
 returns-in-Master-clause-room g c = c.hear_as_master.ensures.room
+
+pub invariant_of-self : goal.invariant_of-self
+invariant_of-self g c = still_alike c.args.self.now refl refl refl c.candidate_take.ensures.port.peers
+
+pub invariant_of-self-then-not-leaves : goal.invariant_of-self-then-not-leaves
+invariant_of-self-then-not-leaves g c = still_alike c.args.self.now refl refl refl c.slave_take.ensures.port.peers

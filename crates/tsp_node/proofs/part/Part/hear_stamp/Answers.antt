@@ -7,6 +7,7 @@ use Rattle.tsp_date.proofs.KeepLemmas.{DatesStand_by}
 use Rattle.tsp_node.proofs.EmitsRows.{emits_samples}
 use Rattle.tsp_node.proofs.HearLemmas.{Performs_by_role, Performs_heard_by, Performs_unheard, replies_none, replies_master}
 use Rattle.tsp_node.proofs.NodeLemmas.{Performs_led, Performs_pass}
+use Rattle.tsp_node.proofs.PartLemmas.{still_alike}
 use Rattle.tsp_node.proofs.part.Part.hear_stamp.Goals as goal
 
 pub returns-in_default-clause-row : goal.returns-in_default-clause-row
@@ -26,3 +27,6 @@ unfolding peer_replies
 returns-else-leads-clause-row g c took r e =
     let p = c.in-Some.p in
     Performs_heard_by c.args.from p (peer_replies r) (sym c.in-Some.ensures) (Performs_by_role (replies_in p r) (rw (replies_none p r c.args.self.now.station.role (sym c.leads.ensures ∙ c.if-leads.false)) Performs_pass))
+
+pub invariant_of-self : goal.invariant_of-self
+invariant_of-self g c = still_alike c.args.self.now c.reply.ensures.peers refl refl refl

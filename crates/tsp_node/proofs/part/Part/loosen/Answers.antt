@@ -14,7 +14,9 @@ use Rattle.tsp_date.proofs.KeepLemmas.{DatesStand_by}
 use Rattle.tsp_master.specs.Clearing.{Clears}
 use Rattle.tsp_node.specs.Unmarking.{Unmarks}
 use Rattle.tsp_node.specs.NodeStands.{port_with}
+use Rattle.tsp_acks.specs.declared.station.Station.{Station}
 use Rattle.tsp_node.proofs.NodeLemmas.{Performs_station, rivals_part, same_part, slaves_part}
+use Rattle.tsp_node.proofs.PartLemmas.{still_alike}
 use Rattle.tsp_node.proofs.part.Part.loosen.Goals as goal
 
 changes_role : Emits (Changing ∷ Alarming ∷ []) yields
@@ -39,3 +41,6 @@ pub returns-else-leads-clause-row : goal.returns-else-leads-clause-row
 unfolding loosens_master
 returns-else-leads-clause-row g c clock =
     Performs_else_part is_master_at yields (λ past h. ap is_master (sym h.station.role) ∙ sym c.leads.ensures ∙ c.if-leads.false) (same_part refl refl refl refl refl refl)
+
+pub invariant_of-self : goal.invariant_of-self
+invariant_of-self g c = still_alike c.args.self.now refl refl refl (ap (λ (s : Station). s.peers) c.arm_elect.ensures.station ∙ c.become_role.ensures.peers)

@@ -1,6 +1,7 @@
 -- A due send is posted again or given up, and the master notes it.
 use Rattle.std.proofs.Common.{refl}
 use Rattle.tsp_node.proofs.DueSendLemmas.{Performs_noted}
+use Rattle.tsp_node.proofs.PartLemmas.{still_alike}
 use Rattle.tsp_node.proofs.part.Part.repeat_next.Goals as goal
 
 pub returns-clause-row : goal.returns-clause-row
@@ -9,3 +10,6 @@ returns-clause-row g c clock =
     let sends = rw (← note.rest.station) at c.in_ok-due.ensures.sends in
     let row = rw (← note.rest.station) at c.in_ok-due.ensures.row in
     Performs_noted c.args.after c.in_ok-due.due sends note.rest.last note.rest.resolve note.rest.dates refl row note.noted
+
+pub invariant_of-self : goal.invariant_of-self
+invariant_of-self g c = still_alike c.args.self.now refl refl refl c.repeat_next.ensures.rest.peers

@@ -14,6 +14,7 @@ use Rattle.tsp_node.proofs.AlarmCases.{beside_alarm, emits_resolve, emits_wait, 
 use Rattle.tsp_node.proofs.DatesKeeps.{DatesStand_resolve}
 use Rattle.tsp_node.proofs.EmitsRoles.{role_sorts}
 use Rattle.tsp_node.proofs.NodeLemmas.{Performs_resolved, Performs_station, Performs_untaken, rivals_part, slaves_part}
+use Rattle.tsp_node.proofs.PartLemmas.{as_many, still_alike}
 use Rattle.tsp_node.proofs.part.Part.ring_beside.Goals as goal
 
 pub returns-in-Round-clause-row : goal.returns-in-Round-clause-row
@@ -54,3 +55,12 @@ returns-in_default-clause-row g c own clock =
     (λ past h s. slaves_part (alarm_rings own wait alarm) emits c.args.tick past (port_with c.args.self.now clock) (port_with c.part_from.new.self clock) (rw (c.leads-led.ensures, ← c.part_from.ensures.station) at c.part_from.ensures.slaves) h s)
     (λ past h s. rivals_part (alarm_rings own wait alarm) emits c.args.tick past (port_with c.args.self.now clock) (port_with c.part_from.new.self clock) (rw (c.leads-led.ensures, ← c.part_from.ensures.station) at c.part_from.ensures.rivals) h s)
     row)
+
+pub invariant_of-self : goal.invariant_of-self
+invariant_of-self g c = still_alike c.args.self.now refl refl refl c.wait_round.ensures.port.peers
+
+pub invariant_of-self-in-Resolve : goal.invariant_of-self-in-Resolve
+invariant_of-self-in-Resolve g c = still_alike c.args.self.now refl (as_many c.ring.ensures.same) refl c.ring.ensures.port.peers
+
+pub invariant_of-self-in_default : goal.invariant_of-self-in_default
+invariant_of-self-in_default g c = still_alike c.args.self.now refl refl refl c.ring_slave.ensures.port.peers

@@ -4,6 +4,7 @@ use Rattle.tsp_rules.specs.Answers.{alarm_rings}
 use Rattle.tsp_master.specs.MasterAlarms.{master_rings}
 use Rattle.tsp_node.proofs.AlarmCases.{corrects_beside, master_rings-is, no_probe}
 use Rattle.tsp_node.proofs.RoundLemmas.{Performs_round}
+use Rattle.tsp_node.proofs.PartLemmas.{still_alike}
 use Rattle.tsp_node.proofs.part.Part.ring_due.Goals as goal
 
 pub ring_beside-requires-clause-alarm : goal.ring_beside-requires-clause-alarm
@@ -41,3 +42,9 @@ returns-else-corrected-clause-corrects g c past h =
     let same : master_rings c.args.terms.group_mean c.args.alarm ≡ alarm_rings c.args.terms.group_mean c.args.terms.wait c.args.alarm =
     master_rings-is c.args.terms.group_mean c.args.terms.wait c.args.alarm (sym c.is_of_master.ensures ∙ c.if-not-is_of_master.false) in
     rw same at (c.ring-corrected.ensures.corrects past (record { master = h.stands.master; station = h.stands.station; clock = h.stands.clock }))
+
+pub invariant_of-self : goal.invariant_of-self
+invariant_of-self g c = still_alike c.args.self.now c.ring-corrected.ensures.peers refl refl c.ring-corrected.ensures.port.peers
+
+pub invariant_of-self-else-corrected : goal.invariant_of-self-else-corrected
+invariant_of-self-else-corrected g c = still_alike c.args.self.now c.ring-corrected.ensures.peers refl refl c.ring-corrected.ensures.port.peers

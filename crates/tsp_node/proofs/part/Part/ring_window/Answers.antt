@@ -8,6 +8,7 @@ use Rattle.tsp_resolve.proofs.ResolveLemmas.{ResolveStands_changed, rivalless}
 use Rattle.tsp_node.proofs.AlarmCases.{beside_window}
 use Rattle.tsp_node.proofs.EmitsRoles.{calm_sorts, emits_window, window_changes}
 use Rattle.tsp_node.proofs.NodeLemmas.{Performs_station, Performs_untaken}
+use Rattle.tsp_node.proofs.PartLemmas.{still_alike}
 use Rattle.tsp_node.proofs.part.Part.ring_window.Goals as goal
 
 pub returns-clause-row : goal.returns-clause-row
@@ -18,3 +19,6 @@ returns-clause-row g c clock =
     (λ past h s. MasterStands_changing window_rings (Emits_more (Leading ∷ calm_sorts) {all = turning_sorts} refl emits_window) x past c.args.self.now.master c.clear.new.self (window_changes x past) (record { slaves = c.clear.ensures.slaves; peers = c.clear.ensures.peers; rounds = c.clear.ensures.rounds }) h.master)
     (λ past h s. ResolveStands_changed x past (window_rings x past) c.args.self.now.resolve c.clear-2.new.self ((Emits_more (Leading ∷ calm_sorts) {all = rivalless} refl emits_window).only x past) (window_changes x past) c.clear-2.ensures.many c.clear-2.ensures.none h.resolve)
     c.candidate_ring.ensures.row)
+
+pub invariant_of-self : goal.invariant_of-self
+invariant_of-self g c = still_alike c.args.self.now c.clear.ensures.peers c.clear-2.ensures.many refl c.candidate_ring.ensures.port.peers

@@ -10,6 +10,7 @@ use Rattle.tsp_node.specs.NodeStands.{port_with}
 use Rattle.tsp_node.proofs.EmitsRoles.{calm_sorts, emits_quits}
 use Rattle.tsp_node.proofs.HearLemmas.{roles_date}
 use Rattle.tsp_node.proofs.NodeLemmas.{Performs_heard, rivals_part, slaves_part}
+use Rattle.tsp_node.proofs.PartLemmas.{still_alike}
 use Rattle.tsp_node.proofs.part.Part.take_quit.Goals as goal
 
 pub returns-clause-row : goal.returns-clause-row
@@ -27,3 +28,6 @@ returns-clause-row g c =
     (λ past h s. slaves_part (quits p m.number) (Emits_more calm_sorts refl emits) x past (port_with c.args.self.now c.args.clock.now) (port_with new c.args.clock.now) clears h s)
     (λ past h s. rivals_part (quits p m.number) (Emits_more calm_sorts refl emits) x past (port_with c.args.self.now c.args.clock.now) (port_with new c.args.clock.now) unmarks h s)
     (λ took is. row took (rw is refl))
+
+pub invariant_of-self : goal.invariant_of-self
+invariant_of-self g c = still_alike c.args.self.now refl refl refl c.take_quit.ensures.port.peers

@@ -5,6 +5,7 @@ use Rattle.tsp_node.specs.NodeStands.{port_with}
 use Rattle.tsp_node.proofs.DatesKeeps.{DatesStand_tests}
 use Rattle.tsp_node.proofs.EmitsRows.{emits_tests_beside, emits_tests_here}
 use Rattle.tsp_node.proofs.NodeLemmas.{Performs_acting_by, rivals_part, slaves_part}
+use Rattle.tsp_node.proofs.PartLemmas.{still_alike}
 use Rattle.tsp_node.proofs.part.Part.test.Goals as goal
 
 pub returns-clause-row : goal.returns-clause-row
@@ -17,3 +18,6 @@ returns-clause-row g c r clock =
     (λ past h s. slaves_part (tests from number) emits c.args.tick past (port_with c.args.self.now clock) (port_with c.part_from.new.self clock) (rw (c.leads-led.ensures, ← c.part_from.ensures.station) at c.part_from.ensures.slaves) h s)
     (λ past h s. rivals_part (tests from number) emits c.args.tick past (port_with c.args.self.now clock) (port_with c.part_from.new.self clock) (rw (c.leads-led.ensures, ← c.part_from.ensures.station) at c.part_from.ensures.rivals) h s)
     row
+
+pub invariant_of-self : goal.invariant_of-self
+invariant_of-self g c = still_alike c.args.self.now refl refl refl c.take_test.ensures.port.peers

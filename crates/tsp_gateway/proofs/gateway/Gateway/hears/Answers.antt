@@ -1,0 +1,26 @@
+-- The station says whether it heeds a peer, and whose its number is.
+use Rattle.std.proofs.Common.{◌≡◌, ◌∙◌, arith, false, refl, sym, true}
+use Rattle.tsp_rules.specs.Guards.{is_heard}
+use Rattle.tsp_rules.specs.NodeRows.{on_port}
+use Rattle.tsp_gateway.specs.GatewayStands.{port_at}
+use Rattle.tsp_gateway.proofs.AnyLemmas.{station_there}
+use Rattle.tsp_gateway.proofs.PlaceLemmas.{places}
+use Rattle.tsp_gateway.proofs.gateway.Gateway.hears.Goals as goal
+
+pub index-requires : goal.index-requires
+index-requires c = let len = places c.args.self.now in omega (arith, len, c.requires)
+
+pub returns-then-hears : goal.returns-then-hears
+returns-then-hears c x past h =
+    let s = station_there past c.args.self.now c.args.q c.index.result.now c.station-station.result.now c.requires c.index.ensures c.station-station.ensures h in
+    let heard : is_heard c.in-Peer.p x (on_port (port_at c.args.q) past) ≡ true = rw (s.peers, s.role) at (sym c.hears.ensures ∙ c.if-hears.true) in
+    rw (c.in-Peer.is, heard, s.own) refl
+
+pub returns-else-hears : goal.returns-else-hears
+returns-else-hears c x past h =
+    let s = station_there past c.args.self.now c.args.q c.index.result.now c.station-station.result.now c.requires c.index.ensures c.station-station.ensures h in
+    let unheard : is_heard c.in-Peer.p x (on_port (port_at c.args.q) past) ≡ false = rw (s.peers, s.role) at (sym c.hears.ensures ∙ c.if-hears.false) in
+    rw (c.in-Peer.is, unheard) c.if-hears.false
+
+pub returns-in-Stranger : goal.returns-in-Stranger
+returns-in-Stranger c x past h = rw c.in-Stranger.is refl
