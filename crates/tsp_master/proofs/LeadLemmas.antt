@@ -31,7 +31,7 @@ Performs_idle a i {x = x} {station = station} put = Performs_acting (record { ac
 abbrev pub still_sorts : List Sort
 still_sorts = Taking ∷ Asking ∷ Correcting ∷ Numbering ∷ Posting ∷ Leading ∷ Following ∷ Changing ∷ Backing ∷ Counting ∷ Rounding ∷ Alarming ∷ Tabling ∷ Rivalling ∷ Acking ∷ Giving ∷ Sampling ∷ Closing ∷ Tracing ∷ []
 
-ClockStands_still : (a : Act) → is_in (sort_of a) still_sorts ≡ true → Keeps ClockStands (puts a)
+pub ClockStands_still : (a : Act) → is_in (sort_of a) still_sorts ≡ true → Keeps ClockStands (puts a)
 unfolding puts
 ClockStands_still Boot e x past clock h = absurd (false≢true e)
 ClockStands_still (Correct amount stepped shown) e x past clock h = absurd (false≢true e)

@@ -13,11 +13,11 @@ use Rattle.tsp_base.proofs.SendLemmas.{seen_act}
 use Rattle.tsp_measure.specs.declared.sample.Sample.{Sample}
 use Rattle.tsp_measure.specs.declared.sample.TimedSample.{TimedSample}
 use Rattle.tsp_measure.specs.Measures.{Measured, IsAnswered, best_of, timed_sample, better as better_timed}
+use Rattle.tsp_measure.specs.Rounds.{AreApart, measured_with, pending_at, request_of, timed_of}
+use Rattle.tsp_measure.specs.Slaves.{entry_of, peers_of}
+use Rattle.tsp_measure.proofs.Counters.{asks-counter, pending_at-found, pending_at-remove}
 use Rattle.tsp_master.specs.declared.master.Master.{Master}
 use Rattle.tsp_master.specs.MasterStands.{IsOfRound, MasterStands}
-use Rattle.tsp_master.specs.Rounds.{AreApart, measured_with, pending_at, request_of, timed_of}
-use Rattle.tsp_master.specs.Slaves.{entry_of, peers_of}
-use Rattle.tsp_master.proofs.ExchangeLemmas.{asks-counter, pending_at-found, pending_at-remove}
 
 -- an open request is answered
 request_open-sampled : (p q : PeerId) (k c : ℕ) (diff err : ℤ) (ticket : ℕ) (past : Past) (x : ℕ) →

@@ -9,12 +9,12 @@ use Rattle.tsp_rules.specs.RoundRows.{abandons, arms_next, asks_measured, probe_
 use Rattle.tsp_rules.specs.Guards.{is_in_time}
 use Rattle.tsp_rules.proofs.Emits.{Emits_puts}
 use Rattle.tsp_acks.proofs.ActingLemmas.{Performs_acting}
+use Rattle.tsp_measure.specs.Slaves.{peers_of}
 use Rattle.tsp_master.specs.MasterStands.{ProbesStands}
 use Rattle.tsp_master.proofs.LeadLemmas.{Performs_lead, Performs_rung}
 use Rattle.tsp_master.proofs.PhaseLemmas.{met-some, over-some, rings_early}
 use Rattle.tsp_master.proofs.RoundLemmas.{MasterStands_abandon, MasterStands_late_probe, MasterStands_ring_probe}
 use Rattle.tsp_master.proofs.RoomLemmas.{once, then_put, twice}
-use Rattle.tsp_master.specs.Slaves.{peers_of}
 use Rattle.tsp_master.proofs.master.Master.ring_probe.Goals as goal
 
 pub returns-then-not-is_in_time-clause-row : goal.returns-then-not-is_in_time-clause-row

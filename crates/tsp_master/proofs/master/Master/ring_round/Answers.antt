@@ -9,10 +9,10 @@ use Rattle.tsp_rules.specs.RoundRows.{begins_or_waits, round_rings}
 use Rattle.tsp_rules.specs.Guards.{is_in_time}
 use Rattle.tsp_rules.proofs.Emits.{Emits_arms}
 use Rattle.tsp_acks.proofs.ActingLemmas.{Performs_acting}
+use Rattle.tsp_measure.specs.Slaves.{peers_of}
 use Rattle.tsp_master.proofs.LeadLemmas.{Performs_quiet, Performs_rung}
 use Rattle.tsp_master.proofs.TableLemmas.{MasterStands_quiet}
 use Rattle.tsp_master.proofs.RoomLemmas.{once_then, twice}
-use Rattle.tsp_master.specs.Slaves.{peers_of}
 use Rattle.tsp_master.proofs.master.Master.ring_round.Goals as goal
 
 pub returns-then-is_in_time-clause-row : goal.returns-then-is_in_time-clause-row
