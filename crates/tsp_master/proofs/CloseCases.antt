@@ -27,7 +27,7 @@ use Rattle.tsp_master.specs.declared.master.Master.{Master}
 use Rattle.tsp_master.specs.Closing.{round_of}
 use Rattle.tsp_master.specs.MasterStands.{LeadStands, LeadState, MasterStands, RingStands, lead_of}
 use Rattle.tsp_master.proofs.CloseLemmas.{closes_same, corrects-closes, goes_where, no_probe, round-is}
-use Rattle.tsp_master.proofs.LeadLemmas.{ClockStands_still, Performs_lead, Performs_rung}
+use Rattle.tsp_master.proofs.LeadLemmas.{ClockStands_still, Performs_lead, Performs_rung, in_time-is}
 use Rattle.tsp_master.proofs.RoundLemmas.{MasterStands_abandon, MasterStands_late_close, MasterStands_ring_close}
 use Rattle.tsp_master.proofs.TableLemmas.{MasterStands_same, target-is}
 
@@ -41,9 +41,6 @@ past-due x past st h due = ap (λ (d : Deadlines). is_over d.close x) (sym h.ala
 past-off : (x : ℕ) (past : Past) (m : Master) (st : Station) → Stands past st → MasterStands past m → IsClosing x st → (armed past.seen).probe ≡ None
 past-off x past m st h k due = no_probe x past m (ap (λ (d : Deadlines). is_over d.probe x) (sym h.alarms) ∙ due.0) (past-due x past st h due) k
 
-past-timely : (x : ℕ) (past : Past) (st : Station) {b : Bool} → Stands past st → is_met st.alarms.close x ≡ b → is_in_time Close x past ≡ b
-past-timely x past st h e = ap (λ (d : Deadlines). is_met d.close x) (sym h.alarms) ∙ e
-
 pub Performs_abandons : {x : ℕ} {port : Port} {before after : Station} (m : Master) (clock : ClockValue) {old new : List Placed} → Performs Stands Stands (puts Abandon) x port before after old new →
     Performs LeadStands LeadStands abandons x port (lead_of m before clock) (lead_of m after clock) old new
 unfolding abandons puts
@@ -55,7 +52,7 @@ pub Performs_late_close : (own : Bool) {x : ℕ} {port : Port} {before mid after
     Performs RingStands LeadStands (close_rings own) x port (lead_of m before clock) (lead_of m after clock) old new
 unfolding close_rings
 Performs_late_close own {x = x} {before = before} m clock due late d e =
-    Performs_else_part (is_in_time Close) (reading round_at (closes own)) (λ past h. past-timely x past before h.station late)
+    Performs_else_part (is_in_time Close) (reading round_at (closes own)) (λ past h. in_time-is Close x past before h.station late)
     (Performs_then
     (Performs_rung {Q = LeadStands} (Late Close) m m clock refl (λ past. refl) (λ past h. MasterStands_late_close x past m (past-off x past m before h.station h.master due) h.master) (λ past h k. k) d)
     (Performs_abandons m clock e))
@@ -66,7 +63,7 @@ pub Performs_timely_close : (own : Bool) {x : ℕ} {port : Port} {before mid : S
     Performs LeadStands LeadStands (closes_with own k (round_of m.slaves m.rounds)) x port (lead_of n mid clock) last first new → Performs RingStands LeadStands (close_rings own) x port (lead_of m before clock) last old new
 unfolding close_rings closes
 Performs_timely_close own {x = x} {before = before} {mid = mid} m n k clock due timely same ss rs d e =
-    Performs_then_part (is_in_time Close) (puts (Late Close) followed_by abandons) (λ past h. past-timely x past before h.station timely)
+    Performs_then_part (is_in_time Close) (puts (Late Close) followed_by abandons) (λ past h. in_time-is Close x past before h.station timely)
     (Performs_reading round_at (closes own) (round_of m.slaves m.rounds) (λ past h. round-is x past m (goes_where x past (past-due x past before h.station due)) h.master)
     (Performs_then
     (Performs_rung {Q = LeadStands} (Ring Close) m m clock refl (λ past. refl) (λ past h. MasterStands_ring_close x past m (past-off x past m before h.station h.master due) h.master) (λ past h k. k) d)
@@ -81,7 +78,7 @@ can_adjust-is mean x past clock h e = ap (λ t. is_clock_value (t +ℤ mean)) (t
 -- whether such a close corrects
 pub corrects-late : (own : Bool) (x : ℕ) (past : Past) (st : Station) → Stands past st → is_met st.alarms.close x ≡ false → corrects (close_rings own x past) ≡ false
 unfolding close_rings abandons puts either_by ◌followed_by◌
-corrects-late own x past st h late = rw (past-timely x past st h late) refl
+corrects-late own x past st h late = rw (in_time-is Close x past st h late) refl
 
 pub corrects-timely : (own : Bool) (x : ℕ) (past : Past) (m : Master) (st : Station) (clock : ClockValue) (k : Group) {can : Bool} → RingStands past (lead_of m st clock) → IsClosing x st → is_met st.alarms.close x ≡ true →
     k ≡ group_of SPAN (estimates (round_of m.slaves m.rounds)) → is_clock_value (target_of clock x +ℤ mean_by own k) ≡ can → corrects (close_rings own x past) ≡ (can && own)
@@ -91,4 +88,4 @@ corrects-timely own x past m st clock k {can = can} h due timely same e =
     let later : Past = grown x past (Ring Close ∷ []) in
     let is : corrects (closes_with own (group_of SPAN (estimates round)) round x later) ≡ (can && own) =
     ap (λ j. corrects (closes_with own j round x later)) (sym same) ∙ corrects-closes own k round x later can (can_adjust-is (mean_by own k) x later clock (ClockStands_still (Ring Close) refl x past clock h.clock) e) in
-    rw (past-timely x past st h.station timely, round-is x past m (goes_where x past (past-due x past st h.station due)) h.master) is
+    rw (in_time-is Close x past st h.station timely, round-is x past m (goes_where x past (past-due x past st h.station due)) h.master) is
