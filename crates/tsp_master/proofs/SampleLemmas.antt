@@ -145,8 +145,10 @@ MasterStands_samples p w c ticket s d answer x past old new goes d_is apart i ot
       let found : request_open p c past.seen ≡ Some (request_of i.exchange) = r ∙ ap (pending_at c) i.was_pending ∙ ap (λ n. pending_at n (i.before ++ i.exchange ∷ i.after)) (sym (asks-counter w c i.exchange i.asked)) ∙ pending_at-found i.before i.exchange i.after was in
       let there : target_there (exchange q answer.counter past.seen) ≡ i.exchange.a = ap (λ (t : PeerId). target_there (exchange t answer.counter past.seen)) (sym it) ∙ ap (λ n. target_there (exchange p n past.seen)) counter_is ∙ target-of-place (exchange p c past.seen) (request_of i.exchange) found in
       let trip : target (plain past.seen) x -ℤ target_there (exchange q answer.counter past.seen) ≡ d -ℤ i.exchange.a = ap (λ z. z -ℤ target_there (exchange q answer.counter past.seen)) (sym d_is) ∙ ap (λ z. d -ℤ z) there in
+      let by_trip : timed_of (late q) ≡ record { sample = answer; trip = d -ℤ i.exchange.a } = ap (λ z. record { sample = answer; trip = z }) trip in
+      let timed : timed_of (late q) ≡ taken = by_trip ∙ ap (λ k. record { sample = k; trip = d -ℤ i.exchange.a }) told in
       better-timed (best q past.seen) (late q)
-      ∙ ap (λ t. better_timed (option_map timed_of (best q past.seen)) t) (ap (λ z. record { sample = answer; trip = z }) trip ∙ ap (λ k. record { sample = k; trip = d -ℤ i.exchange.a }) told)
+      ∙ ap (λ t. better_timed (option_map timed_of (best q past.seen)) t) timed
       ∙ ap (λ o. better_timed o taken) (b ∙ ap (λ (t : PeerId). best_of (measured_with old.rounds t).samples) (sym it))
       ∙ sym (best_of-push (measured_with old.rounds p).samples taken) ∙ ap best_of (sym i.samples) ∙ ap (λ (t : PeerId). best_of (measured_with new.rounds t).samples) it
   by_sample q false e b r = b ∙ ap (λ (m : Measured). best_of m.samples) (sym (others q (other q e)))
