@@ -36,10 +36,10 @@ use Rattle.tsp_clock.specs.Clocks.{ClockValue}
 use Rattle.tsp_clock.specs.ClockStands.{ClockStands}
 use Rattle.tsp_slave.specs.SlaveStands.{AlsoState, AlsoStands}
 use Rattle.tsp_slave.proofs.BesideLemmas.{AlsoStands_by, beside_sorts}
-use Rattle.tsp_master.specs.declared.entry.Entry.{Entry}
+use Rattle.tsp_measure.specs.declared.entry.Entry.{Entry}
+use Rattle.tsp_measure.specs.Slaves.{Changes, acks_where, entry_of}
 use Rattle.tsp_master.specs.declared.master.Master.{Master}
 use Rattle.tsp_master.specs.MasterStands.{MasterStands}
-use Rattle.tsp_master.specs.Slaves.{Changes, acks_where, entry_of}
 use Rattle.tsp_master.proofs.MasterLemmas.{MasterStands_aside}
 use Rattle.tsp_master.proofs.TableLemmas.{MasterStands_changed, MasterStands_quiet, acked-after, quiet_sorts}
 use Rattle.tsp_date.specs.Dates.{DatesValue, last_in, peers_of}

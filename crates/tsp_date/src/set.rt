@@ -16,8 +16,8 @@ ghost use Rattle.tsp_rules.specs.ClockRows.{sets};
 ghost use Rattle.tsp_rules.specs.DateRows.{leaves_all, may_date};
 ghost use Rattle.tsp_rules.specs.Guards.{is_clock_value};
 ghost use Rattle.tsp_acks.specs.Calls.{IsTick, Past, Performs, UsesAtMost};
+ghost use Rattle.tsp_measure.specs.Slaves.{peers_of as slave_peers_of};
 ghost use Rattle.tsp_master.specs.MasterStands.{MasterStands};
-ghost use Rattle.tsp_master.specs.Slaves.{peers_of as slave_peers_of};
 ghost use Rattle.tsp_date.specs.Dates.{last_in, peers_of};
 ghost use Rattle.tsp_date.specs.DateStands.{DateState, DateStands, moved_where};
 

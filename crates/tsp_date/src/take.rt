@@ -7,7 +7,7 @@ ghost use Rattle.tsp_base.specs.declared.role.Role.TheVariants.{Follow};
 ghost use Rattle.tsp_rules.specs.Answers.{handles_kind};
 ghost use Rattle.tsp_rules.specs.RoundRows.{corrects};
 ghost use Rattle.tsp_acks.specs.Calls.{Contains, IsTick, Past, Received, Performs, UsesAtMost, IsSamePort};
-ghost use Rattle.tsp_master.specs.Slaves.{peers_of as slave_peers_of};
+ghost use Rattle.tsp_measure.specs.Slaves.{peers_of as slave_peers_of};
 ghost use Rattle.tsp_slave.specs.Lasts.{LastValue};
 ghost use Rattle.tsp_date.specs.Dates.{peers_of};
 ghost use Rattle.tsp_date.specs.DateStands.{DateStands, date_state, is_of_dates, moved_where};

@@ -29,12 +29,13 @@ use Rattle.tsp_acks.proofs.StandsLemmas.{Stands_stamp}
 use Rattle.tsp_clock.specs.Clocks.{ClockValue, target_of}
 use Rattle.tsp_clock.specs.ClockStands.{ClockStands}
 use Rattle.tsp_measure.specs.Measures.{begun}
-use Rattle.tsp_master.specs.declared.entry.Entry.{Entry}
+use Rattle.tsp_measure.specs.Peers.{IsAscending}
+use Rattle.tsp_measure.specs.declared.entry.Entry.{Entry}
+use Rattle.tsp_measure.specs.Rounds.{RoundsValue, Starts, measured_with}
+use Rattle.tsp_measure.specs.Slaves.{entry_of, peers_of, Changes, measures}
 use Rattle.tsp_master.specs.declared.master.Master.{Master}
 use Rattle.tsp_master.specs.MasterStands.{LeadStands, MasterStands, ProbesStands, StartsStands, entry_at}
 use Rattle.tsp_master.specs.Closing.{measured_of}
-use Rattle.tsp_master.specs.Rounds.{RoundsValue, Starts, measured_with}
-use Rattle.tsp_master.specs.Slaves.{entry_of, peers_of, Changes, measures}
 use Rattle.tsp_master.proofs.RoundLemmas.{MasterStands_asks}
 use Rattle.tsp_master.proofs.TableLemmas.{EntriesAfter_changed, target-is}
 
@@ -136,19 +137,23 @@ Performs_starts p {x = x} {port = port} old new st clock {earlier = earlier} j c
   };
 }
 
+-- the peers of a port ascend
+pub IsPeers-ascending : (ps : List PeerId) → IsPeers ps → IsAscending (map (λ (t : PeerId). t.0) ps)
+IsPeers-ascending ps up i j l h = AllPairs-from_increasing (map (λ (t : PeerId). t.0) ps) up.ascending i j 0 l h
+
 -- of two places the later one has the greater peer
-pub peers_apart : (ps : List PeerId) → IsPeers ps → (i j : ℕ) (d : PeerId) → i < j → j < length ps → (get_or ps i d).0 < (get_or ps j d).0
+pub peers_apart : (ps : List PeerId) → IsAscending (map (λ (t : PeerId). t.0) ps) → (i j : ℕ) (d : PeerId) → i < j → j < length ps → (get_or ps i d).0 < (get_or ps j d).0
 peers_apart ps up i j d l h =
     let low = get_or-map (λ (p : PeerId). p.0) ps i d 0 (omega arith) in
     let high = get_or-map (λ (p : PeerId). p.0) ps j d 0 h in
-    omega (arith, AllPairs-from_increasing (map (λ (p : PeerId). p.0) ps) up.ascending i j 0 l (omega (arith, length-map ps (λ (p : PeerId). p.0))))
+    omega (arith, up i j l (omega (arith, length-map ps (λ (p : PeerId). p.0))))
 
 -- one peer more of those so far
 pub take-more : (ps : List PeerId) (n : ℕ) (p : PeerId) → n < length ps → get_or ps n p ≡ p → take (n + 1) ps ≡ take n ps ++ p ∷ []
 take-more ps n p h here = let one : n + 1 ≡ suc n = omega arith in ap (λ k. take k ps) one ∙ take-suc ps n p h ∙ ap (λ q. take n ps ++ q ∷ []) here
 
 -- what is measured with later peers stays
-pub later-few : (ps : List PeerId) (n most : ℕ) (p : PeerId) (old new : RoundsValue) (word : ℕ) (a : ℤ) → IsPeers ps → get_or ps n p ≡ p → Starts p word a old new → ((k : ℕ) (d : PeerId) → n ≤ k → k < length ps → begun (measured_with old (get_or ps k d)) ≤ most) →
+pub later-few : (ps : List PeerId) (n most : ℕ) (p : PeerId) (old new : RoundsValue) (word : ℕ) (a : ℤ) → IsAscending (map (λ (t : PeerId). t.0) ps) → get_or ps n p ≡ p → Starts p word a old new → ((k : ℕ) (d : PeerId) → n ≤ k → k < length ps → begun (measured_with old (get_or ps k d)) ≤ most) →
     (k : ℕ) (d : PeerId) → n + 1 ≤ k → k < length ps → begun (measured_with new (get_or ps k d)) ≤ most
 later-few ps n most p old new word a up here s few k d low high =
     let apart : p.0 < (get_or ps k p).0 = omega (arith, peers_apart ps up n k p (omega arith) high, ap (λ (t : PeerId). t.0) here) in

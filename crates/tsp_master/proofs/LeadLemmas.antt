@@ -1,15 +1,18 @@
 -- Calls of a station and of a clock, beside a master.
-use Rattle.std.proofs.Common.{◌≡◌, ℕ, true, List, [], ◌∷◌, ◌++◌, refl}
+use Rattle.std.proofs.Common.{◌≡◌, ℕ, Bool, true, List, [], ◌∷◌, ◌++◌, refl, sym, ◌∙◌, ap}
 use Rattle.std.proofs.lemmas.Bool.{false≢true}
 use Rattle.tsp_base.specs.declared.act.Act.{Act}
 use Rattle.tsp_base.specs.declared.act.Act.TheVariants.{Boot, Correct}
 use Rattle.tsp_base.specs.declared.act.Placed.{Placed}
+use Rattle.tsp_base.specs.declared.alarm.Alarm.{Alarm}
 use Rattle.tsp_base.specs.declared.place.Port.{Port}
+use Rattle.tsp_base.specs.Alarms.{deadline}
 use Rattle.tsp_base.specs.History.{Past}
 use Rattle.tsp_base.specs.Performs.{Performs, Keeps}
 use Rattle.tsp_base.specs.PortFacts.{acting}
 use Rattle.tsp_base.proofs.SendLemmas.{seen_act}
 use Rattle.tsp_base.specs.Rows.{Row, grown, puts}
+use Rattle.tsp_rules.specs.Guards.{is_in_time, is_met}
 use Rattle.tsp_rules.proofs.Emits.{Sort, Taking, Asking, Correcting, Numbering, Posting, Leading, Following, Changing, Backing, Counting, Rounding, Alarming, Tabling, Rivalling, Acking, Giving, Sampling, Closing, Tracing, is_in, sort_of, Emits, Emits_more, Keeps_by}
 use Rattle.tsp_acks.specs.declared.station.Station.{Station}
 use Rattle.tsp_acks.specs.Stands.{Stands, StandsActing}
@@ -27,11 +30,15 @@ pub Performs_idle : (a : Act) → is_idle a ≡ true → {x : ℕ} {port : Port}
 unfolding puts
 Performs_idle a i {x = x} {station = station} put = Performs_acting (record { acts = λ past s. put; stands = λ past s. Stands_idle a i x past station s })
 
+-- whether an alarm is in time, as the station has it
+pub in_time-is : (alarm : Alarm) (x : ℕ) (past : Past) (st : Station) {b : Bool} → Stands past st → is_met (deadline st.alarms alarm) x ≡ b → is_in_time alarm x past ≡ b
+in_time-is alarm x past st h e = ap (λ d. is_met (deadline d alarm) x) (sym h.alarms) ∙ e
+
 -- all sorts but Boot and Correct
 abbrev pub still_sorts : List Sort
 still_sorts = Taking ∷ Asking ∷ Correcting ∷ Numbering ∷ Posting ∷ Leading ∷ Following ∷ Changing ∷ Backing ∷ Counting ∷ Rounding ∷ Alarming ∷ Tabling ∷ Rivalling ∷ Acking ∷ Giving ∷ Sampling ∷ Closing ∷ Tracing ∷ []
 
-ClockStands_still : (a : Act) → is_in (sort_of a) still_sorts ≡ true → Keeps ClockStands (puts a)
+pub ClockStands_still : (a : Act) → is_in (sort_of a) still_sorts ≡ true → Keeps ClockStands (puts a)
 unfolding puts
 ClockStands_still Boot e x past clock h = absurd (false≢true e)
 ClockStands_still (Correct amount stepped shown) e x past clock h = absurd (false≢true e)

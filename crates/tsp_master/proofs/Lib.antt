@@ -1,6 +1,6 @@
 pub mod AskLemmas
+pub mod CloseCases
 pub mod CloseLemmas
-pub mod ExchangeLemmas
 pub mod LeadLemmas
 pub mod MasterLemmas
 pub mod PhaseLemmas
@@ -10,7 +10,6 @@ pub mod RoomLemmas
 pub mod RoundLemmas
 pub mod SampleLemmas
 pub mod SinceLemmas
-pub mod SlavesLemmas
 pub mod StillLemmas
 pub mod TableLemmas
 pub mod TakeLemmas

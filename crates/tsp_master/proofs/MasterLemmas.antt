@@ -14,9 +14,9 @@ use Rattle.tsp_base.specs.PortFacts.{in_table, role}
 use Rattle.tsp_base.specs.RoundFacts.{is_measured}
 use Rattle.tsp_base.specs.Rows.{grown}
 use Rattle.tsp_base.proofs.SendLemmas.{seen_act}
+use Rattle.tsp_measure.specs.Slaves.{entry_of, peers_of}
 use Rattle.tsp_master.specs.declared.master.Master.{Master}
 use Rattle.tsp_master.specs.MasterStands.{MasterStands, entry_at}
-use Rattle.tsp_master.specs.Slaves.{entry_of, peers_of}
 
 -- acts that leave rounds alone
 abbrev pub is_aside : Act → Bool

@@ -18,10 +18,10 @@ use Rattle.tsp_base.proofs.RowLemmas.{grown_append}
 use Rattle.tsp_rules.specs.Guards.{is_met, is_over}
 use Rattle.tsp_rules.proofs.Emits.{Posting, is_in, sort_of}
 use Rattle.tsp_measure.specs.Measures.{Measured, best_of}
+use Rattle.tsp_measure.specs.Rounds.{IsNothing, pending_at}
+use Rattle.tsp_measure.specs.Slaves.{ChangesAll, peers_of, unmeasures}
 use Rattle.tsp_master.specs.declared.master.Master.{Master}
 use Rattle.tsp_master.specs.MasterStands.{MasterStands, IsProbing}
-use Rattle.tsp_master.specs.Rounds.{IsNothing, pending_at}
-use Rattle.tsp_master.specs.Slaves.{ChangesAll, peers_of, unmeasures}
 
 -- a call that no past allows
 pub Performs_never : {S T : Type 0} {p : Past → S → Type 0} {q : Past → T → Type 0} {row : Row} {x : ℕ} {port : Port} {before : S} {after : T} {old new : List Placed} → ((past : Past) → p past before → ⊥) → Performs p q row x port before after old new

@@ -20,10 +20,10 @@ use Rattle.tsp_clock.specs.Clocks.{ClockValue, target_of}
 use Rattle.tsp_measure.specs.declared.exchange.Exchange.{Exchange}
 use Rattle.tsp_measure.specs.declared.sample.Sample.{Sample}
 use Rattle.tsp_measure.specs.Measures.{IsAnswered, asks}
+use Rattle.tsp_measure.specs.Rounds.{RoundsValue, AreApart, measured_with, pending_at, request_of}
+use Rattle.tsp_measure.proofs.Counters.{asks-counter, pending_at-found}
 use Rattle.tsp_master.specs.declared.master.Master.{Master}
 use Rattle.tsp_master.specs.MasterStands.{GoingStands, LeadStands, LeadState}
-use Rattle.tsp_master.specs.Rounds.{RoundsValue, AreApart, measured_with, pending_at, request_of}
-use Rattle.tsp_master.proofs.ExchangeLemmas.{asks-counter, pending_at-found}
 use Rattle.tsp_master.proofs.LeadLemmas.{Performs_idle, Performs_lead_by}
 use Rattle.tsp_master.proofs.RoundLemmas.{MasterStands_unasked}
 use Rattle.tsp_master.proofs.SampleLemmas.{MasterStands_samples}

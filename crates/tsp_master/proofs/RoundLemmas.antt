@@ -16,11 +16,11 @@ use Rattle.tsp_base.specs.Rows.{grown}
 use Rattle.tsp_base.proofs.SendLemmas.{seen_act}
 use Rattle.tsp_measure.specs.declared.exchange.Exchange.{Exchange}
 use Rattle.tsp_measure.specs.Measures.{Measured, best_of}
+use Rattle.tsp_measure.specs.Rounds.{RoundsValue, Starts, measured_with, pending_at, request_of}
+use Rattle.tsp_measure.specs.Slaves.{entry_of, peers_of}
+use Rattle.tsp_measure.proofs.Counters.{pending_at-push}
 use Rattle.tsp_master.specs.declared.master.Master.{Master}
 use Rattle.tsp_master.specs.MasterStands.{MasterStands}
-use Rattle.tsp_master.specs.Rounds.{RoundsValue, Starts, measured_with, pending_at, request_of}
-use Rattle.tsp_master.specs.Slaves.{entry_of, peers_of}
-use Rattle.tsp_master.proofs.ExchangeLemmas.{pending_at-push}
 use Rattle.tsp_master.proofs.MasterLemmas.{EmptyAfter, EntriesAfter}
 
 -- a round ends

@@ -13,11 +13,11 @@ use Rattle.tsp_base.proofs.SendLemmas.{seen_act}
 use Rattle.tsp_measure.specs.declared.sample.Sample.{Sample}
 use Rattle.tsp_measure.specs.declared.sample.TimedSample.{TimedSample}
 use Rattle.tsp_measure.specs.Measures.{Measured, IsAnswered, best_of, timed_sample, better as better_timed}
+use Rattle.tsp_measure.specs.Rounds.{AreApart, measured_with, pending_at, request_of, timed_of}
+use Rattle.tsp_measure.specs.Slaves.{entry_of, peers_of}
+use Rattle.tsp_measure.proofs.Counters.{asks-counter, pending_at-found, pending_at-remove}
 use Rattle.tsp_master.specs.declared.master.Master.{Master}
 use Rattle.tsp_master.specs.MasterStands.{IsOfRound, MasterStands}
-use Rattle.tsp_master.specs.Rounds.{AreApart, measured_with, pending_at, request_of, timed_of}
-use Rattle.tsp_master.specs.Slaves.{entry_of, peers_of}
-use Rattle.tsp_master.proofs.ExchangeLemmas.{asks-counter, pending_at-found, pending_at-remove}
 
 -- an open request is answered
 request_open-sampled : (p q : PeerId) (k c : ℕ) (diff err : ℤ) (ticket : ℕ) (past : Past) (x : ℕ) →
@@ -115,42 +115,40 @@ MasterStands_samples p w c ticket s d answer x past old new goes d_is apart i ot
   by_place q t [] e is n opened = absurd (n refl)
   by_place q t (post ∷ older) e is n opened = record { taken = seen_act past.step x (SampleAct p answer.counter answer.diff answer.err answer.ticket); before = past.seen; place_is = is; post = post; older = older; exchange_is = e; since = opened post older e }
 
+  -- the sample that comes
+  late : PeerId → Sampled
+  late q = record {
+    counter = answer.counter;
+    diff = answer.diff;
+    err = answer.err;
+    ticket = answer.ticket;
+    trip = target (plain past.seen) x -ℤ target_there (exchange q answer.counter past.seen);
+    place = seen_act past.step x (SampleAct p answer.counter answer.diff answer.err answer.ticket) ∷ past.seen;
+  }
+
   by_recent : (q : PeerId) (t : Sampled) (b : Bool) → (p.0 == q.0) ≡ b → ((u : Sampled) → best q past.seen ≡ Some u → IsOfRound q u (started past.seen)) → ((post : Seen) (older : List Seen) → exchange p c past.seen ≡ post ∷ older → Within (started past.seen) older) →
       request_open p c past.seen ≡ pending_at c (measured_with old.rounds p).pending →
-      (if b then Some (better (best q past.seen) (record {
-        counter = answer.counter;
-        diff = answer.diff;
-        err = answer.err;
-        ticket = answer.ticket;
-        trip = target (plain past.seen) x -ℤ target_there (exchange q answer.counter past.seen);
-        place = seen_act past.step x (SampleAct p answer.counter answer.diff answer.err answer.ticket) ∷ past.seen;
-      })) else best q past.seen) ≡ Some t → IsOfRound q t (started past.seen)
+      (if b then Some (better (best q past.seen) (late q)) else best q past.seen) ≡ Some t → IsOfRound q t (started past.seen)
   by_recent q t true e known opened r f =
       let it : p ≡ q = ap (λ n. record { 0 = n }) (eqb-true p.0 q.0 e) in
       let found : request_open p c past.seen ≡ Some (request_of i.exchange) = r ∙ ap (pending_at c) i.was_pending ∙ ap (λ n. pending_at n (i.before ++ i.exchange ∷ i.after)) (sym (asks-counter w c i.exchange i.asked)) ∙ pending_at-found i.before i.exchange i.after was in
-      let late : Sampled = record { counter = answer.counter; diff = answer.diff; err = answer.err; ticket = answer.ticket; trip = target (plain past.seen) x -ℤ target_there (exchange q answer.counter past.seen); place = seen_act past.step x (SampleAct p answer.counter answer.diff answer.err answer.ticket) ∷ past.seen } in
       let there : exchange q answer.counter past.seen ≡ exchange p c past.seen = ap (λ (u : PeerId). exchange u answer.counter past.seen) (sym it) ∙ ap (λ n. exchange p n past.seen) counter_is in
-      let fresh : IsOfRound q late (started past.seen) = by_place q late (exchange q answer.counter past.seen) refl refl (λ none. let bad : ⊥ = none_open (exchange p c past.seen) (request_of i.exchange) found (sym there ∙ none) in bad) (λ post older g. opened post older (sym there ∙ g)) in
-      of_better (best q past.seen) late t known fresh f
+      let fresh : IsOfRound q (late q) (started past.seen) = by_place q (late q) (exchange q answer.counter past.seen) refl refl (λ none. let bad : ⊥ = none_open (exchange p c past.seen) (request_of i.exchange) found (sym there ∙ none) in bad) (λ post older g. opened post older (sym there ∙ g)) in
+      of_better (best q past.seen) (late q) t known fresh f
   by_recent q t false e known opened r f = known t f
 
   by_sample : (q : PeerId) (b : Bool) → (p.0 == q.0) ≡ b → option_map timed_of (best q past.seen) ≡ best_of (measured_with old.rounds q).samples → request_open p c past.seen ≡ pending_at c (measured_with old.rounds p).pending →
-      option_map timed_of (if b then Some (better (best q past.seen) (record {
-        counter = answer.counter;
-        diff = answer.diff;
-        err = answer.err;
-        ticket = answer.ticket;
-        trip = target (plain past.seen) x -ℤ target_there (exchange q answer.counter past.seen);
-        place = seen_act past.step x (SampleAct p answer.counter answer.diff answer.err answer.ticket) ∷ past.seen;
-      })) else best q past.seen)
+      option_map timed_of (if b then Some (better (best q past.seen) (late q)) else best q past.seen)
       ≡ best_of (measured_with new.rounds q).samples
   by_sample q true e b r =
       let it : p ≡ q = ap (λ n. record { 0 = n }) (eqb-true p.0 q.0 e) in
       let found : request_open p c past.seen ≡ Some (request_of i.exchange) = r ∙ ap (pending_at c) i.was_pending ∙ ap (λ n. pending_at n (i.before ++ i.exchange ∷ i.after)) (sym (asks-counter w c i.exchange i.asked)) ∙ pending_at-found i.before i.exchange i.after was in
       let there : target_there (exchange q answer.counter past.seen) ≡ i.exchange.a = ap (λ (t : PeerId). target_there (exchange t answer.counter past.seen)) (sym it) ∙ ap (λ n. target_there (exchange p n past.seen)) counter_is ∙ target-of-place (exchange p c past.seen) (request_of i.exchange) found in
       let trip : target (plain past.seen) x -ℤ target_there (exchange q answer.counter past.seen) ≡ d -ℤ i.exchange.a = ap (λ z. z -ℤ target_there (exchange q answer.counter past.seen)) (sym d_is) ∙ ap (λ z. d -ℤ z) there in
-      better-timed (best q past.seen) _
-      ∙ ap (λ t. better_timed (option_map timed_of (best q past.seen)) t) (ap (λ z. record { sample = answer; trip = z }) trip ∙ ap (λ k. record { sample = k; trip = d -ℤ i.exchange.a }) told)
+      let by_trip : timed_of (late q) ≡ record { sample = answer; trip = d -ℤ i.exchange.a } = ap (λ z. record { sample = answer; trip = z }) trip in
+      let timed : timed_of (late q) ≡ taken = by_trip ∙ ap (λ k. record { sample = k; trip = d -ℤ i.exchange.a }) told in
+      better-timed (best q past.seen) (late q)
+      ∙ ap (λ t. better_timed (option_map timed_of (best q past.seen)) t) timed
       ∙ ap (λ o. better_timed o taken) (b ∙ ap (λ (t : PeerId). best_of (measured_with old.rounds t).samples) (sym it))
       ∙ sym (best_of-push (measured_with old.rounds p).samples taken) ∙ ap best_of (sym i.samples) ∙ ap (λ (t : PeerId). best_of (measured_with new.rounds t).samples) it
   by_sample q false e b r = b ∙ ap (λ (m : Measured). best_of m.samples) (sym (others q (other q e)))

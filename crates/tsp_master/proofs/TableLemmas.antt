@@ -26,14 +26,13 @@ use Rattle.tsp_rules.specs.DateRows.{all_settled, are_settled, is_settled}
 use Rattle.tsp_rules.specs.SendRows.{may_correct, may_set}
 use Rattle.tsp_rules.specs.Guards.{is_clock_value, is_in_range, target_at}
 use Rattle.tsp_rules.proofs.Emits.{Sort, Taking, Numbering, Posting, Backing, Counting, Alarming, Rivalling, Giving, Closing, Tracing, is_in, sort_of, sort_of_kind}
-use Rattle.tsp_acks.specs.Peers.{IsPeers}
 use Rattle.tsp_clock.specs.Clocks.{ClockValue, target_of}
 use Rattle.tsp_clock.specs.ClockStands.{ClockStands}
-use Rattle.tsp_master.specs.declared.entry.Entry.{Entry}
+use Rattle.tsp_measure.specs.declared.entry.Entry.{Entry}
+use Rattle.tsp_measure.specs.Slaves.{IsTable, entry_of, peers_of, Changes, joins, leaves, posts_at, begins_at, acks, acks_where, may_correct_by, is_settled_by, are_settled_by}
+use Rattle.tsp_measure.proofs.Entries.{Rise-table, entry_of-at}
 use Rattle.tsp_master.specs.declared.master.Master.{Master}
 use Rattle.tsp_master.specs.MasterStands.{MasterStands, entry_at}
-use Rattle.tsp_master.specs.Slaves.{entry_of, peers_of, Changes, joins, leaves, posts_at, begins_at, acks, acks_where, may_correct_by, is_settled_by, are_settled_by}
-use Rattle.tsp_master.proofs.SlavesLemmas.{Rise-peers, entry_of-at}
 use Rattle.tsp_master.proofs.MasterLemmas.{EntriesAfter, MasterStands_aside, is_aside}
 
 -- an entry that changes where the act is about its peer
@@ -225,10 +224,10 @@ settled-all x past (e ∷ es) h =
       by_test false j k rest = rw (j, rest) refl
 
 -- whether all slaves are settled, as the table has it
-pub settled-is : (x : ℕ) (past : Past) (m : Master) → IsPeers (peers_of m.slaves) → MasterStands past m → all_settled x past ≡ are_settled_by x m.slaves
+pub settled-is : (x : ℕ) (past : Past) (m : Master) → IsTable m.slaves → MasterStands past m → all_settled x past ≡ are_settled_by x m.slaves
 settled-is x past m up h =
     ap (λ ps. are_settled (filter (λ (p : PeerId). in_table p past.seen) ps) x past) (sym h.peers)
-    ∙ settled-all x past m.slaves (λ k d l. sym (entry_of-at m.slaves k d (get_or m.slaves k d).peer (Rise-peers m.slaves up) l refl) ∙ h.entries (get_or m.slaves k d).peer)
+    ∙ settled-all x past m.slaves (λ k d l. sym (entry_of-at m.slaves k d (get_or m.slaves k d).peer (Rise-table m.slaves up) l refl) ∙ h.entries (get_or m.slaves k d).peer)
 
 -- the same table and rounds stand for the same past
 pub MasterStands_same : (past : Past) (old new : Master) → peers_of new.slaves ≡ peers_of old.slaves → new.rounds ≡ old.rounds → ((q : PeerId) → entry_of new.slaves q ≡ entry_of old.slaves q) → MasterStands past old → MasterStands past new

@@ -17,11 +17,11 @@ use Rattle.tsp_sends.specs.Slots.{kind_of, sending_to}
 use Rattle.tsp_acks.specs.declared.station.Station.{Station}
 use Rattle.tsp_acks.specs.Openings.{is_of}
 use Rattle.tsp_acks.specs.Stands.{Stands}
-use Rattle.tsp_master.specs.declared.entry.Entry.{Entry}
+use Rattle.tsp_measure.specs.declared.entry.Entry.{Entry}
+use Rattle.tsp_measure.specs.Slaves.{entry_of, peers_of, Changes, acks_where, joins}
 use Rattle.tsp_master.specs.declared.master.Master.{Master}
 use Rattle.tsp_master.specs.MasterStands.{MasterStands}
 use Rattle.tsp_master.specs.MasterTakes.{master_takes_kind_here}
-use Rattle.tsp_master.specs.Slaves.{entry_of, peers_of, Changes, acks_where, joins}
 use Rattle.tsp_master.proofs.MasterLemmas.{MasterStands_aside}
 use Rattle.tsp_master.proofs.TableLemmas.{EntriesAfter_changed, MasterStands_changed, MasterStands_same, acked-after, joins-after, quiet_sorts}
 

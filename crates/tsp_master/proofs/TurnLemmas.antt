@@ -20,11 +20,11 @@ use Rattle.tsp_base.specs.Rows.{Row, added, grown, in_step, puts}
 use Rattle.tsp_rules.specs.Guards.{is_master}
 use Rattle.tsp_rules.proofs.Emits.{Sort, Taking, Numbering, Posting, Leading, Following, Changing, Backing, Counting, Alarming, Rivalling, Giving, Closing, Moving, Tracing, AllOf, is_in, sort_of, sort_of_kind, Emits, Emits_more}
 use Rattle.tsp_rules.proofs.EmitsTables.{changes, is_change}
-use Rattle.tsp_master.specs.declared.entry.Entry.{Entry}
+use Rattle.tsp_measure.specs.declared.entry.Entry.{Entry}
+use Rattle.tsp_measure.specs.Slaves.{acks_where, entry_of, leaves}
 use Rattle.tsp_master.specs.declared.master.Master.{Master}
 use Rattle.tsp_master.specs.Clearing.{Cleared, Clears}
 use Rattle.tsp_master.specs.MasterStands.{MasterStands, entry_at}
-use Rattle.tsp_master.specs.Slaves.{acks_where, entry_of, leaves}
 use Rattle.tsp_master.proofs.MasterLemmas.{MasterStands_aside}
 use Rattle.tsp_master.proofs.TableLemmas.{quiet_sorts, MasterStands_changed, MasterStands_quiet, acked-after}
 

@@ -1,7 +1,7 @@
 -- How a master forgets its slaves.
 use Rattle.std.specs.Prelude.{◌≡◌, Bool, true, false}
+use Rattle.tsp_measure.specs.Slaves.{ChangesAll, leaves, peers_of}
 use Rattle.tsp_master.specs.declared.master.Master.{Master}
-use Rattle.tsp_master.specs.Slaves.{ChangesAll, leaves, peers_of}
 
 -- all slaves are forgotten, and the round; the last corrections stay
 pub record Cleared (old new : Master) : Type 0 where

@@ -7,9 +7,9 @@ use Rattle.tsp_base.specs.RoundFacts.{Estimate}
 use Rattle.tsp_measure.specs.declared.sample.TimedSample.{TimedSample}
 use Rattle.tsp_measure.specs.Measures.{best_of}
 use Rattle.tsp_rules.specs.RoundRows.{Standing}
-use Rattle.tsp_master.specs.declared.entry.Entry.{Entry}
-use Rattle.tsp_master.specs.Rounds.{RoundsValue, estimate_in, measured_with}
-use Rattle.tsp_master.specs.Slaves.{entry_of, peers_of}
+use Rattle.tsp_measure.specs.declared.entry.Entry.{Entry}
+use Rattle.tsp_measure.specs.Rounds.{RoundsValue, estimate_in, measured_with}
+use Rattle.tsp_measure.specs.Slaves.{entry_of, peers_of}
 
 -- those of some peers that are measured
 abbrev pub measured_of : List Entry → List PeerId → List PeerId

@@ -2,9 +2,9 @@
 use Rattle.std.specs.Prelude.{◌≡◌, ◌≤◌, ℕ, length}
 use Rattle.tsp_base.specs.declared.place.PeerId.{PeerId}
 use Rattle.tsp_acks.specs.Calls.{Contains, IsTick}
+use Rattle.tsp_measure.specs.Slaves.{entry_of, peers_of}
 use Rattle.tsp_master.specs.declared.master.Master.{Master}
 use Rattle.tsp_master.specs.MasterStands.{LeadState}
-use Rattle.tsp_master.specs.Slaves.{entry_of, peers_of}
 
 -- how many peers a master has
 abbrev pub peer_count : Master → ℕ

@@ -4,5 +4,3 @@ pub mod Frames
 pub mod MasterAlarms
 pub mod MasterStands
 pub mod MasterTakes
-pub mod Rounds
-pub mod Slaves

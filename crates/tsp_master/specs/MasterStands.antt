@@ -14,10 +14,10 @@ use Rattle.tsp_acks.specs.Stands.{Stands}
 use Rattle.tsp_clock.specs.Clocks.{ClockValue}
 use Rattle.tsp_clock.specs.ClockStands.{ClockStands}
 use Rattle.tsp_measure.specs.Measures.{best_of}
-use Rattle.tsp_master.specs.declared.entry.Entry.{Entry}
+use Rattle.tsp_measure.specs.declared.entry.Entry.{Entry}
+use Rattle.tsp_measure.specs.Rounds.{RoundsValue, measured_with, pending_at, timed_of}
+use Rattle.tsp_measure.specs.Slaves.{entry_of, peers_of}
 use Rattle.tsp_master.specs.declared.master.Master.{Master}
-use Rattle.tsp_master.specs.Rounds.{RoundsValue, measured_with, pending_at, timed_of}
-use Rattle.tsp_master.specs.Slaves.{entry_of, peers_of}
 
 -- what the past comes to with a peer
 abbrev pub entry_at : PeerId → List Seen → Entry

@@ -7,11 +7,11 @@ ghost use Rattle.tsp_acks.specs.declared.station.Station.{Station};
 ghost use Rattle.tsp_acks.specs.Calls.{IsTick, Past, Performs, UsesAtMost, IsSamePort};
 ghost use Rattle.tsp_clock.specs.Clocks.{target_of};
 ghost use Rattle.tsp_rules.specs.Guards.{is_clock_value, is_over};
+ghost use Rattle.tsp_measure.specs.Slaves.{peers_of};
 ghost use Rattle.tsp_master.specs.declared.master.Master.{Master};
 ghost use Rattle.tsp_master.specs.MasterStands.{LeadStands, RingStands, lead_of};
 ghost use Rattle.tsp_master.specs.Closing.{round_of, standing_with};
 ghost use Rattle.tsp_master.specs.Frames.{ChangesOnly, MayServe, peer_count};
-ghost use Rattle.tsp_master.specs.Slaves.{peers_of};
 
 use crate::gathering::{is_near, mean_by};
 use crate::master::Master;

@@ -4,10 +4,9 @@ ghost use Rattle.tsp_rules.specs.Guards.{is_clock_value};
 ghost use Rattle.tsp_rules.specs.SendRows.{begins_adjtime, begins_settime};
 ghost use Rattle.tsp_acks.specs.Calls.{Contains, IsTick, Performs, UsesAtMost, IsSamePort};
 ghost use Rattle.tsp_clock.specs.Clocks.{ClockValue, target_of};
+ghost use Rattle.tsp_measure.specs.Slaves.{peers_of};
 ghost use Rattle.tsp_master.specs.Frames.{ChangesOnly, MayServe};
-ghost use Rattle.tsp_master.specs.Slaves.{peers_of};
 
-use crate::entry::Change;
 use crate::master::Master;
 use tsp_acks::station::Station;
 use tsp_base::at::At;
@@ -16,6 +15,7 @@ use tsp_base::kind::Kind;
 use tsp_base::micros::Micros;
 use tsp_base::place::PeerId;
 use tsp_clock::clock::{Clock, is_clock_value};
+use tsp_measure::Change;
 
 impl Master {
     ghost use Rattle.tsp_master.specs.MasterStands.{LeadStands, lead_of};

@@ -6,7 +6,8 @@
 //! close the largest group of clocks that agree within `SPAN` gives a mean, and each measured slave is
 //! corrected towards it; one that never answered is a slave no more.
 //!
-//! [`master::Master`] is made with the port's peers and kept through all roles. While the port leads:
+//! [`master::Master`] is made with the port's peers and kept through all roles. What it has measured and knows
+//! of them is in the `Rounds` and the `Slaves` of `tsp_measure`. While the port leads:
 //!
 //! - each message of a peer goes to `take`, an ACK to `acknowledge`;
 //! - each stamp goes to `reply`;
@@ -23,11 +24,8 @@
 
 mod closing;
 mod corrections;
-pub mod entry;
 mod gathering;
 pub mod master;
 mod replies;
 mod ring;
-pub mod rounds;
-pub mod slaves;
 mod take;

@@ -9,16 +9,14 @@ ghost use Rattle.tsp_base.specs.Rows.{grown};
 ghost use Rattle.tsp_rules.specs.DateRows.{all_settled};
 ghost use Rattle.tsp_acks.specs.Peers.{IsPeers};
 ghost use Rattle.tsp_acks.specs.Calls.{Contains, Past, IsSamePort, Stands};
-ghost use Rattle.tsp_master.specs.Slaves.{peers_of, entry_of, Changes, ChangesAll, leaves, posts_at};
+ghost use Rattle.tsp_measure.specs.Slaves.{peers_of, entry_of, Changes, ChangesAll, leaves, posts_at};
 
-use crate::entry::Change;
-use crate::rounds::Rounds;
-use crate::slaves::Slaves;
 use std::alloc::{AllocError, Global};
 use tsp_acks::station::Station;
 use tsp_base::alarm::Alarm;
 use tsp_base::place::PeerId;
 use tsp_group::Values;
+use tsp_measure::{Change, Rounds, Slaves};
 
 /// What a port keeps that may lead: its slaves and the last correction to each peer, the last round, and the
 /// list from which a close takes its group.

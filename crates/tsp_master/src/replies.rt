@@ -5,8 +5,8 @@ ghost use Rattle.tsp_clock.specs.Clocks.{ClockValue, target_of};
 ghost use Rattle.tsp_measure.specs.Measures.{IsReading};
 ghost use Rattle.tsp_rules.specs.RoundRows.{samples};
 ghost use Rattle.tsp_acks.specs.declared.station.Station.{Station};
+ghost use Rattle.tsp_measure.specs.Slaves.{peers_of};
 ghost use Rattle.tsp_master.specs.MasterTakes.{samples_of};
-ghost use Rattle.tsp_master.specs.Slaves.{peers_of};
 
 use crate::master::Master;
 use tsp_acks::station::Station;

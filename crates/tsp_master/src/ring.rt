@@ -15,15 +15,13 @@ ghost use Rattle.tsp_rules.specs.Guards.{is_over};
 ghost use Rattle.tsp_measure.specs.Measures.{begun};
 ghost use Rattle.tsp_acks.specs.Calls.{Contains, IsTick, Past, Performs, UsesAtMost, IsSamePort};
 ghost use Rattle.tsp_clock.specs.Clocks.{ClockValue, target_of};
+ghost use Rattle.tsp_measure.specs.Rounds.{IsCounted, IsNothing, MayAsk, Starts, measured_with};
+ghost use Rattle.tsp_measure.specs.Slaves.{peers_of};
 ghost use Rattle.tsp_master.specs.Frames.{peer_count};
 ghost use Rattle.tsp_master.specs.MasterAlarms.{master_rings};
 ghost use Rattle.tsp_master.specs.MasterStands.{IsLeftAlone, IsSinceCorrect};
-ghost use Rattle.tsp_master.specs.Rounds.{IsCounted, IsNothing, MayAsk, Starts, measured_with};
-ghost use Rattle.tsp_master.specs.Slaves.{peers_of};
 
-use crate::entry::Change;
 use crate::master::Master;
-use crate::rounds::PROBES;
 use tsp_acks::station::Station;
 use tsp_base::act::Act;
 use tsp_base::alarm::Alarm;
@@ -35,6 +33,7 @@ use tsp_base::kind::Kind;
 use tsp_base::place::{PeerId, Place, Port};
 use tsp_base::stamp::Stamp;
 use tsp_clock::clock::Clock;
+use tsp_measure::{Change, PROBES};
 
 impl Master {
     ghost use Rattle.tsp_master.specs.MasterStands.{LeadStands, ProbesStands, RingStands, StartsStands, lead_of};

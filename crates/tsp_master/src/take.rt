@@ -6,11 +6,10 @@ ghost use Rattle.tsp_rules.specs.MasterRows.{joins, sends_away};
 ghost use Rattle.tsp_rules.specs.SendRows.{acknowledges, is_kind_quit};
 ghost use Rattle.tsp_acks.specs.Openings.{is_of};
 ghost use Rattle.tsp_acks.specs.Calls.{Contains, IsTick, Performs, UsesAtMost, IsSamePort, StandsActing};
+ghost use Rattle.tsp_measure.specs.Slaves.{peers_of, entry_of, Changes, acks_where};
 ghost use Rattle.tsp_master.specs.Frames.{MayServe};
 ghost use Rattle.tsp_master.specs.MasterTakes.{master_takes_here};
-ghost use Rattle.tsp_master.specs.Slaves.{peers_of, entry_of, Changes, acks_where};
 
-use crate::entry::Change;
 use crate::master::Master;
 use tsp_acks::station::Station;
 use tsp_base::act::Act;
@@ -20,6 +19,7 @@ use tsp_base::kind::Kind;
 use tsp_base::message::Message;
 use tsp_base::place::{PeerId, Port};
 use tsp_clock::clock::Clock;
+use tsp_measure::Change;
 
 impl Master {
     ghost use Rattle.tsp_master.specs.MasterStands.{LeadStands, OwnStands, lead_of};

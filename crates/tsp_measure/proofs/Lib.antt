@@ -3,3 +3,5 @@ pub mod Samples
 pub mod Removals
 pub mod Peers
 pub mod BestSamples
+pub mod Counters
+pub mod Entries

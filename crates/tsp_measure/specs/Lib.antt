@@ -1,2 +1,4 @@
 pub mod Measures
 pub mod Peers
+pub mod Rounds
+pub mod Slaves

@@ -1,8 +1,9 @@
-//! Exchanges of stamps with other nodes, and the samples of their clocks that they give.
+//! What a master has measured of its peers and knows of them: exchanges of stamps, the samples of their
+//! clocks that these give, the rounds of requests, and the table of the slaves.
 //!
-//! A caller calls [`Exchanges::start`] for each request that it sends and [`Exchanges::reply`] for each
-//! reply that comes, which gives a [`Sample`] where it answers an open request. `best` is a peer's
-//! sample with the shortest round trip since the last `clear`, which begins a new round:
+//! [`Exchanges`] are for any node: a caller calls [`Exchanges::start`] for each request that it sends and
+//! [`Exchanges::reply`] for each reply that comes, which gives a [`Sample`] where it answers an open request.
+//! `best` is a peer's sample with the shortest round trip since the last `clear`, which begins a new round:
 //!
 //! ```
 //! let peer = PeerId(4);
@@ -15,13 +16,23 @@
 //! assert_eq!((best.diff, best.err), (100, 401));
 //! exchanges.clear();
 //! ```
+//!
+//! [`Rounds`] are a master's exchanges: they number the requests, and count how often the going round has
+//! probed. [`Slaves`] has an [`Entry`] for each peer: whether it is a slave, whether the round measures it, and
+//! its last correction. Neither posts anything nor knows the protocol's rows; that is `tsp_master`'s.
 #![tactic(auto)]
 
+mod entry;
 mod exchange;
 mod exchanges;
 mod peer_exchanges;
+mod rounds;
 mod sample;
+mod slaves;
 
+pub use entry::{Change, Entry};
 pub use exchange::Exchange;
 pub use exchanges::Exchanges;
+pub use rounds::{PROBES, Rounds};
 pub use sample::{Reply, Sample, TimedSample};
+pub use slaves::Slaves;

@@ -5,8 +5,8 @@ use Rattle.tsp_base.specs.Frames.{PutsAtMost}
 use Rattle.tsp_base.specs.Performs.{Performs}
 use Rattle.tsp_base.specs.Rows.{for_each}
 use Rattle.tsp_rules.specs.DateRows.{leaves}
+use Rattle.tsp_measure.specs.Slaves.{entry_of, peers_of}
 use Rattle.tsp_master.specs.MasterStands.{MasterStands}
-use Rattle.tsp_master.specs.Slaves.{entry_of, peers_of}
 use Rattle.tsp_master.proofs.AskLemmas.{joined_of}
 use Rattle.tsp_date.proofs.set.dismiss.Given as goal
 

@@ -7,12 +7,11 @@ use Rattle.tsp_base.specs.Rows.{for_each}
 use Rattle.tsp_base.proofs.PerformsLemmas.{Performs_each_more, Performs_nothing, Performs_reading}
 use Rattle.tsp_base.proofs.FrameLemmas.{PutsAtMost_up}
 use Rattle.tsp_rules.specs.RoundRows.{asks, asks_measured, measured_at}
-use Rattle.tsp_acks.specs.Peers.{IsPeers}
-use Rattle.tsp_master.specs.declared.entry.Entry.{Entry}
+use Rattle.tsp_measure.specs.declared.entry.Entry.{Entry}
+use Rattle.tsp_measure.specs.Slaves.{IsTable, entry_of, peers_of}
+use Rattle.tsp_measure.proofs.Counters.{IsCounted-more}
 use Rattle.tsp_master.specs.Closing.{measured_of}
-use Rattle.tsp_master.specs.Slaves.{entry_of, peers_of}
 use Rattle.tsp_master.proofs.AskLemmas.{Performs_probes, filter-more, filter-past, later-few, measured-is, take-more}
-use Rattle.tsp_master.proofs.ExchangeLemmas.{IsCounted-more}
 use Rattle.tsp_master.proofs.master.Master.ask_measured.Goals.{then-entry, else-entry}
 use Rattle.tsp_master.proofs.master.Master.ask_measured.Goals as goal
 
@@ -35,7 +34,7 @@ loop-place-preserved g c =
     let n = c.loop-place.place in
     let p : PeerId = c.at-entry.result.peer in
     let inside : n < length ps = omega (arith, c.loop-place-test.true, c.len-place-end.ensures.value) in
-    let up : IsPeers ps = c.len-place-end.ensures.valid in
+    let up : IsTable es = c.len-place-end.ensures.valid in
     let peer = rw inv.slaves at c.at-entry.ensures.peer in
     let here : get_or ps n p ≡ p = peer p in
     let entry : entry_of es p ≡ c.at-entry.result = rw inv.slaves at c.at-entry.ensures.entry in
@@ -49,7 +48,7 @@ loop-place-preserved g c =
                 (Performs_each_more asks (measured_of es (take n ps)) p inv.row (Performs_probes p _ _ c.args.station.now c.args.clock.now now w.ask.ensures.slaves w.ask.ensures.starts w.ask.ensures.acts));
             slaves = rw w.self-is (w.ask.ensures.slaves ∙ inv.slaves);
             probes = rw w.self-is (w.ask.ensures.starts.probes ∙ inv.probes);
-            few = rw w.self-is (later-few ps n c.args.self.now.rounds.probes p _ _ _ _ up here w.ask.ensures.starts inv.few);
+            few = rw w.self-is (later-few ps n c.args.self.now.rounds.probes p _ _ _ _ up.ascending here w.ask.ensures.starts inv.few);
             counted = rw w.self-is (IsCounted-more _ (1000 * c.args.self.now.rounds.probes + n + 1) _ (omega arith) (w.ask.ensures.counted (1000 * c.args.self.now.rounds.probes + n) (omega (arith, c.requires.asks.three, up.few, inside)) inv.counted));
             room = rw w.desk-is (record { spare = omega (arith, inv.room.spare, w.ask.ensures.room.spare); few = omega (arith, inv.room.few, w.ask.ensures.room.few) });
           }

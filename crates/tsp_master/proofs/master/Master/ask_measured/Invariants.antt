@@ -6,9 +6,9 @@ use Rattle.tsp_base.specs.Performs.{Performs}
 use Rattle.tsp_base.specs.Rows.{for_each}
 use Rattle.tsp_rules.specs.RoundRows.{asks}
 use Rattle.tsp_measure.specs.Measures.{begun}
+use Rattle.tsp_measure.specs.Rounds.{IsCounted, measured_with}
+use Rattle.tsp_measure.specs.Slaves.{peers_of}
 use Rattle.tsp_master.specs.MasterStands.{ProbesStands}
-use Rattle.tsp_master.specs.Rounds.{IsCounted, measured_with}
-use Rattle.tsp_master.specs.Slaves.{peers_of}
 use Rattle.tsp_master.specs.Closing.{measured_of}
 use Rattle.tsp_master.proofs.master.Master.ask_measured.Given as goal
 

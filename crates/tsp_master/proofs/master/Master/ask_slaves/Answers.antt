@@ -8,11 +8,10 @@ use Rattle.tsp_base.proofs.PerformsLemmas.{Performs_each_more, Performs_nothing,
 use Rattle.tsp_base.proofs.FrameLemmas.{PutsAtMost_up}
 use Rattle.tsp_rules.specs.RoundRows.{asks, asks_slaves}
 use Rattle.tsp_rules.specs.Guards.{table_at}
-use Rattle.tsp_acks.specs.Peers.{IsPeers}
-use Rattle.tsp_master.specs.declared.entry.Entry.{Entry}
-use Rattle.tsp_master.specs.Slaves.{Changes, entry_of, measures, peers_of}
+use Rattle.tsp_measure.specs.declared.entry.Entry.{Entry}
+use Rattle.tsp_measure.specs.Slaves.{Changes, IsTable, entry_of, measures, peers_of}
+use Rattle.tsp_measure.proofs.Counters.{IsCounted-more}
 use Rattle.tsp_master.proofs.AskLemmas.{Performs_starts, filter-more, filter-past, joined-is, joined-kept, joined_of, later-few, take-more}
-use Rattle.tsp_master.proofs.ExchangeLemmas.{IsCounted-more}
 use Rattle.tsp_master.proofs.master.Master.ask_slaves.Goals.{then-entry, else-entry}
 use Rattle.tsp_master.proofs.master.Master.ask_slaves.Goals as goal
 
@@ -36,7 +35,7 @@ loop-place-preserved g c =
     let n = c.loop-place.place in
     let p : PeerId = c.at-entry.result.peer in
     let inside : n < length ps = omega (arith, c.loop-place-test.true, c.len-place-end.ensures.value) in
-    let up : IsPeers ps = c.len-place-end.ensures.valid in
+    let up : IsTable es = c.len-place-end.ensures.valid in
     let peer = rw inv.peers at c.at-entry.ensures.peer in
     let here : get_or ps n p ≡ p = peer p in
     let more : take (n + 1) ps ≡ take n ps ++ p ∷ [] = take-more ps n p inside here in
@@ -52,7 +51,7 @@ loop-place-preserved g c =
             peers = rw w.self-is (same ∙ inv.peers);
             joined = rw w.self-is (λ q. joined-kept p _ _ slaves q ∙ inv.joined q);
             probes = rw w.self-is (w.ask.ensures.starts.probes ∙ inv.probes);
-            few = rw w.self-is (later-few ps n c.args.self.now.rounds.probes p _ _ _ _ up here w.ask.ensures.starts inv.few);
+            few = rw w.self-is (later-few ps n c.args.self.now.rounds.probes p _ _ _ _ up.ascending here w.ask.ensures.starts inv.few);
             counted = rw w.self-is (IsCounted-more _ (1000 * c.args.self.now.rounds.probes + n + 1) _ (omega arith) (w.ask.ensures.counted (1000 * c.args.self.now.rounds.probes + n) (omega (arith, c.requires.asks.three, up.few, inside)) inv.counted));
             room = rw w.desk-is (record { spare = omega (arith, inv.room.spare, w.ask.ensures.room.spare); few = omega (arith, inv.room.few, w.ask.ensures.room.few) });
           }

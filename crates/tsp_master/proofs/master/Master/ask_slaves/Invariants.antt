@@ -6,9 +6,9 @@ use Rattle.tsp_base.specs.Performs.{Performs}
 use Rattle.tsp_base.specs.Rows.{for_each}
 use Rattle.tsp_rules.specs.RoundRows.{asks}
 use Rattle.tsp_measure.specs.Measures.{begun}
+use Rattle.tsp_measure.specs.Rounds.{IsCounted, measured_with}
+use Rattle.tsp_measure.specs.Slaves.{entry_of, peers_of}
 use Rattle.tsp_master.specs.MasterStands.{StartsStands}
-use Rattle.tsp_master.specs.Rounds.{IsCounted, measured_with}
-use Rattle.tsp_master.specs.Slaves.{entry_of, peers_of}
 use Rattle.tsp_master.proofs.AskLemmas.{joined_of}
 use Rattle.tsp_master.proofs.master.Master.ask_slaves.Given as goal
 

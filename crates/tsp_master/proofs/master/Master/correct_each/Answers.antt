@@ -7,10 +7,9 @@ use Rattle.tsp_base.specs.Rows.{for_each}
 use Rattle.tsp_base.proofs.PerformsLemmas.{Performs_each_more, Performs_nothing}
 use Rattle.tsp_base.proofs.FrameLemmas.{PutsAtMost_up}
 use Rattle.tsp_rules.specs.RoundRows.{corrects_peer}
-use Rattle.tsp_acks.specs.Peers.{IsPeers}
-use Rattle.tsp_master.specs.declared.entry.Entry.{Entry}
+use Rattle.tsp_measure.specs.declared.entry.Entry.{Entry}
+use Rattle.tsp_measure.specs.Slaves.{IsTable, entry_of, peers_of}
 use Rattle.tsp_master.specs.Closing.{standing_with, standings_of}
-use Rattle.tsp_master.specs.Slaves.{entry_of, peers_of}
 use Rattle.tsp_master.proofs.AskLemmas.{take-more}
 use Rattle.tsp_master.proofs.CloseLemmas.{corrects_with, later-same, standings-more, standings-past}
 use Rattle.tsp_master.proofs.master.Master.correct_each.Goals.{then-entry, else-entry}
@@ -37,7 +36,7 @@ loop-place-preserved g c =
     let p : PeerId = c.at-entry.result.peer in
     let mean = to_z w64 (of_z w64 c.args.mean) in
     let inside : n < length ps = omega (arith, c.loop-place-test.true, c.len-place-end.ensures.value) in
-    let up : IsPeers ps = c.len-place-end.ensures.valid in
+    let up : IsTable es = c.len-place-end.ensures.valid in
     let peer = rw inv.peers at c.at-entry.ensures.peer in
     let here : get_or ps n p ≡ p = peer p in
     let kept = inv.later n p (omega arith) inside in
@@ -50,7 +49,7 @@ loop-place-preserved g c =
             row = rw (w.self-is, w.station-is, w.desk-is, more, standings-more es v (take n ps) p marked) (Performs_each_more (corrects_peer mean) (standings_of es v (take n ps)) (standing_with v p) inv.row (corrects_with mean p inv.rounds w.correct_peer.ensures.row));
             peers = rw w.self-is (w.correct_peer.ensures.only.peers ∙ inv.peers);
             rounds = rw w.self-is (w.correct_peer.ensures.only.rounds ∙ inv.rounds);
-            later = rw w.self-is (later-same ps n p es _ _ up here w.correct_peer.ensures.only.others inv.later);
+            later = rw w.self-is (later-same ps n p es _ _ up.ascending here w.correct_peer.ensures.only.others inv.later);
             port = rw w.station-is (record { me = w.correct_peer.ensures.port.me ∙ inv.port.me; peers = w.correct_peer.ensures.port.peers ∙ inv.port.peers });
             room = rw w.desk-is (record { spare = omega (arith, inv.room.spare, w.correct_peer.ensures.room.spare); few = omega (arith, inv.room.few, w.correct_peer.ensures.room.few) });
           }

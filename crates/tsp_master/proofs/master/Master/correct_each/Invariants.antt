@@ -6,9 +6,9 @@ use Rattle.tsp_base.specs.Performs.{Performs}
 use Rattle.tsp_base.specs.Rows.{for_each}
 use Rattle.tsp_rules.specs.RoundRows.{corrects_peer}
 use Rattle.tsp_acks.specs.Changes.{IsSamePort}
+use Rattle.tsp_measure.specs.Slaves.{entry_of, peers_of}
 use Rattle.tsp_master.specs.Closing.{standings_of}
 use Rattle.tsp_master.specs.MasterStands.{LeadStands}
-use Rattle.tsp_master.specs.Slaves.{entry_of, peers_of}
 use Rattle.tsp_master.proofs.master.Master.correct_each.Given as goal
 
 abbrev pub invariant-loop-place : goal.invariant-loop-place

@@ -6,8 +6,8 @@ use Rattle.tsp_base.specs.Rows.{puts}
 use Rattle.tsp_rules.specs.RoundRows.{corrects_by, corrects_peer, is_near}
 use Rattle.tsp_rules.proofs.Emits.{Emits_puts}
 use Rattle.tsp_measure.specs.Measures.{best_of}
+use Rattle.tsp_measure.specs.Rounds.{estimate_in, measured_with}
 use Rattle.tsp_master.specs.Closing.{estimate_with}
-use Rattle.tsp_master.specs.Rounds.{estimate_in, measured_with}
 use Rattle.tsp_master.proofs.CloseLemmas.{MasterStands_leaves, estimate-sample}
 use Rattle.tsp_master.proofs.LeadLemmas.{Performs_idle, Performs_lead}
 use Rattle.tsp_master.proofs.RoomLemmas.{put_once}

@@ -2,9 +2,9 @@
 use Rattle.std.proofs.Common.{◌≡◌, ◌+◌, ◌<◌, ◌∷◌, [], ◌++◌, length, take, get_or, true, false, length-append, sym, ◌∙◌, ap, arith}
 use Rattle.tsp_base.specs.declared.place.PeerId.{PeerId}
 use Rattle.tsp_rules.specs.RoundRows.{diff_before, estimates}
-use Rattle.tsp_master.specs.declared.entry.Entry.{Entry}
+use Rattle.tsp_measure.specs.declared.entry.Entry.{Entry}
+use Rattle.tsp_measure.specs.Slaves.{entry_of, peers_of}
 use Rattle.tsp_master.specs.Closing.{estimate_with}
-use Rattle.tsp_master.specs.Slaves.{entry_of, peers_of}
 use Rattle.tsp_master.proofs.AskLemmas.{take-more}
 use Rattle.tsp_master.proofs.CloseLemmas.{estimates-more, one-estimate, standings-past}
 use Rattle.tsp_master.proofs.master.Master.gather.Goals.{then-entry, else-entry}

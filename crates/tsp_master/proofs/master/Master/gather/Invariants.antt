@@ -1,8 +1,8 @@
 -- The estimates of the measured peers so far are listed.
 use Rattle.std.proofs.Common.{◌≡◌, ◌+◌, ◌≤◌, length, take}
 use Rattle.tsp_rules.specs.RoundRows.{estimates}
+use Rattle.tsp_measure.specs.Slaves.{peers_of}
 use Rattle.tsp_master.specs.Closing.{standings_of}
-use Rattle.tsp_master.specs.Slaves.{peers_of}
 use Rattle.tsp_master.proofs.master.Master.gather.Given as goal
 
 abbrev pub invariant-loop-place : goal.invariant-loop-place

@@ -1,102 +1,66 @@
 -- Late the round is given up. In time the alarm rings, and then the group, the test, and one act after the other.
-use Rattle.std.proofs.Common.{◌≡◌, ◌+ℤ◌, [], ◌∷◌, false, true, refl, sym, ◌∙◌, ap, length, w64, to_z, of_z, to_z-of_z, SFits, rules}
-use Rattle.tsp_base.specs.declared.act.Act.TheVariants.{Ring, Late, Abandon, Close as CloseAct}
-use Rattle.tsp_base.specs.declared.alarm.Alarm.TheVariants.{Close}
-use Rattle.tsp_base.specs.Alarms.{Deadlines}
-use Rattle.tsp_base.specs.History.{Past}
-use Rattle.tsp_base.specs.Rows.{either_by, for_each, grown, puts, reading, ◌followed_by◌}
-use Rattle.tsp_base.proofs.PerformsLemmas.{Performs_else_part, Performs_from, Performs_reading, Performs_then, Performs_then_part}
+use Rattle.std.proofs.Common.{◌≡◌, ◌+ℤ◌, refl, sym, ◌∙◌, ap, length, w64, to_z, of_z, to_z-of_z, SFits, rules}
+use Rattle.tsp_base.specs.declared.act.Act.TheVariants.{Close as CloseAct}
+use Rattle.tsp_base.specs.Rows.{for_each, puts, ◌followed_by◌}
+use Rattle.tsp_base.proofs.PerformsLemmas.{Performs_else_part, Performs_then, Performs_then_part}
 use Rattle.tsp_base.proofs.FrameLemmas.{PutsExactly_put}
 use Rattle.tsp_rules.specs.ClockRows.{can_adjust}
-use Rattle.tsp_rules.specs.RoundRows.{abandons, close_act, close_rings, closes, closes_with, corrects, corrects_peer, mean_by, moves, round_at}
-use Rattle.tsp_rules.specs.Guards.{is_clock_value, is_in_time, is_over}
+use Rattle.tsp_rules.specs.RoundRows.{abandons, close_act, closes_with, corrects_peer, mean_by, moves}
+use Rattle.tsp_rules.specs.Guards.{is_clock_value}
 use Rattle.tsp_rules.proofs.Emits.{Emits_puts}
-use Rattle.tsp_acks.proofs.ActingLemmas.{Performs_acting}
+use Rattle.tsp_clock.specs.Clocks.{target_of}
+use Rattle.tsp_measure.specs.Slaves.{peers_of}
 use Rattle.tsp_master.specs.Closing.{round_of}
-use Rattle.tsp_master.specs.MasterStands.{LeadStands}
-use Rattle.tsp_master.specs.Slaves.{entry_of, peers_of}
-use Rattle.tsp_master.proofs.CloseLemmas.{closes_same, corrects-closes, each_same, goes_where, no_probe, round-is}
-use Rattle.tsp_master.proofs.LeadLemmas.{Performs_idle, Performs_lead, Performs_quiet, Performs_rung}
-use Rattle.tsp_master.proofs.RoundLemmas.{MasterStands_abandon, MasterStands_late_close, MasterStands_ring_close}
-use Rattle.tsp_master.proofs.TableLemmas.{MasterStands_same, target-is}
+use Rattle.tsp_master.proofs.CloseCases.{Performs_abandons, Performs_late_close, Performs_timely_close, can_adjust-is, corrects-late, corrects-timely}
+use Rattle.tsp_master.proofs.CloseLemmas.{each_same}
+use Rattle.tsp_master.proofs.LeadLemmas.{Performs_idle, Performs_quiet}
 use Rattle.tsp_master.proofs.RoomLemmas.{once_then, put_then, twice}
 use Rattle.tsp_master.proofs.master.Master.ring_close.Goals as goal
 
 pub returns-then-not-is_in_time-clause-row : goal.returns-then-not-is_in_time-clause-row
-unfolding close_rings abandons puts
+unfolding abandons
 returns-then-not-is_in_time-clause-row g c =
-    let x = c.args.at.tick in
-    Performs_else_part (is_in_time Close) (reading round_at (closes c.args.own)) (λ past h. let a = h.station.alarms in cc)
-    (Performs_then
-    (Performs_rung (Late Close) _ _ c.args.clock.now refl (λ past. refl)
-    (λ past h. let a = h.station.alarms in MasterStands_late_close x past _ (no_probe x past _ (ap (λ (d : Deadlines). is_over d.probe x) (sym a) ∙ c.requires.order) (ap (λ (d : Deadlines). is_over d.close x) (sym a) ∙ c.requires.due) h.master) h.master)
-    (λ past h k. k) (c.late.ensures.row x))
-    (Performs_lead _ _ c.args.clock.now (Emits_puts Abandon refl) (λ past h. MasterStands_abandon x past _ h.master) (Performs_acting (c.abandon.ensures.row x))))
+    Performs_late_close c.args.own _ c.args.clock.now (c.requires.order, c.requires.due) (sym c.is_in_time.ensures ∙ c.if-not-is_in_time.true) (c.late.ensures.row c.args.at.tick) (c.abandon.ensures.row c.args.at.tick)
 
 pub returns-then-not-is_in_time-clause-corrects : goal.returns-then-not-is_in_time-clause-corrects
-unfolding close_rings abandons puts either_by ◌followed_by◌
-returns-then-not-is_in_time-clause-corrects g c past h =
-    let late : is_in_time Close c.args.at.tick past ≡ false = let a = h.station.alarms in cc in
-    rw late refl
+returns-then-not-is_in_time-clause-corrects g c past h = sym (corrects-late c.args.own c.args.at.tick past c.args.station.now h.station (sym c.is_in_time.ensures ∙ c.if-not-is_in_time.true))
 
 pub returns-then-not-can_adjust-clause-row : goal.returns-then-not-can_adjust-clause-row
-unfolding close_rings closes closes_with abandons puts
+unfolding closes_with abandons
 returns-then-not-can_adjust-clause-row g c =
     let x = c.args.at.tick in
     let m = c.args.self.now in
     let own = c.args.own in
     let k = c.group-group.result in
     let mean = c.mean_by-mean.result in
-    let round = round_of m.slaves m.rounds in
     let fits : SFits w64 mean = search rules in
     let back : to_z w64 (of_z w64 mean) ≡ mean = to_z-of_z fits in
     let is : mean ≡ mean_by own k = c.mean_by-mean.ensures.value in
     let test = rw back at c.can_adjust.ensures in
-    Performs_then_part (is_in_time Close) (puts (Late Close) followed_by abandons) (λ past h. let a = h.station.alarms in cc)
-    (Performs_reading round_at (closes own) round
-    (λ past h. round-is x past m (goes_where x past (ap (λ (d : Deadlines). is_over d.close x) (sym h.station.alarms) ∙ c.requires.due)) h.master)
-    (Performs_then
-    (Performs_rung {Q = LeadStands} (Ring Close) m m c.args.clock.now refl (λ past. refl)
-    (λ past h. let a = h.station.alarms in MasterStands_ring_close x past _ (no_probe x past _ (ap (λ (d : Deadlines). is_over d.probe x) (sym a) ∙ c.requires.order) (ap (λ (d : Deadlines). is_over d.close x) (sym a) ∙ c.requires.due) h.master) h.master)
-    (λ past h k. k) (c.ring.ensures.row x))
-    (closes_same own round c.group-group.ensures.group (
-    Performs_from {p = LeadStands} {before = (record { master = c.group-group.new.self; station = c.ring.new.self; clock = c.args.clock.now })}
-    (λ past h. record { master = MasterStands_same past c.args.self.now c.group-group.new.self (ap peers_of c.group-group.ensures.slaves) c.group-group.ensures.rounds (λ q. ap (λ es. entry_of es q) c.group-group.ensures.slaves) h.master; station = h.station; acted = h.acted; clock = h.clock })
-    (Performs_else_part (can_adjust (mean_by own k)) (puts (close_act own k) followed_by (moves own (mean_by own k) followed_by for_each (corrects_peer (mean_by own k)) round))
-    (λ past h. ap (λ z. can_adjust z x past) (sym is) ∙ ap (λ t. is_clock_value (t +ℤ mean)) (target-is x past c.args.clock.now h.clock) ∙ sym test ∙ c.if-not-can_adjust.true)
-    (Performs_lead _ _ c.args.clock.now (Emits_puts Abandon refl) (λ past h. MasterStands_abandon x past _ h.master) (Performs_acting (c.abandon-then-not-can_adjust.ensures.row x))))))))
+    Performs_timely_close own m c.group-group.new.self k c.args.clock.now (c.requires.order, c.requires.due) (sym c.is_in_time.ensures ∙ c.if-not-is_in_time.false) c.group-group.ensures.group c.group-group.ensures.slaves c.group-group.ensures.rounds
+    (c.ring.ensures.row x)
+    (Performs_else_part (can_adjust (mean_by own k)) (puts (close_act own k) followed_by (moves own (mean_by own k) followed_by for_each (corrects_peer (mean_by own k)) (round_of m.slaves m.rounds)))
+    (λ past h. ap (λ z. can_adjust z x past) (sym is) ∙ can_adjust-is mean x past c.args.clock.now h.clock (sym test ∙ c.if-not-can_adjust.true))
+    (Performs_abandons c.group-group.new.self c.args.clock.now (c.abandon-then-not-can_adjust.ensures.row x)))
 
 pub returns-then-not-can_adjust-clause-corrects : goal.returns-then-not-can_adjust-clause-corrects
-unfolding close_rings closes puts either_by reading ◌followed_by◌
 returns-then-not-can_adjust-clause-corrects g c past h =
-    let x = c.args.at.tick in
-    let m = c.args.self.now in
-    let own = c.args.own in
-    let k = c.group-group.result in
     let mean = c.mean_by-mean.result in
-    let round = round_of m.slaves m.rounds in
+    let clock = c.args.clock.now in
     let fits : SFits w64 mean = search rules in
     let back : to_z w64 (of_z w64 mean) ≡ mean = to_z-of_z fits in
-    let is : mean ≡ mean_by own k = c.mean_by-mean.ensures.value in
     let test = rw back at c.can_adjust.ensures in
-    let a = h.station.alarms in
-    let timely : is_in_time Close x past ≡ true = cc in
-    let read = round-is x past m (goes_where x past (ap (λ (d : Deadlines). is_over d.close x) (sym a) ∙ c.requires.due)) h.master in
-    let later : Past = grown x past (Ring Close ∷ []) in
-    let rung = (Performs_rung {Q = LeadStands} (Ring Close) m m c.args.clock.now refl (λ q. refl) (λ q k. MasterStands_ring_close x q m (no_probe x q m (ap (λ (d : Deadlines). is_over d.probe x) (sym k.station.alarms) ∙ c.requires.order) (ap (λ (d : Deadlines). is_over d.close x) (sym k.station.alarms) ∙ c.requires.due) k.master) k.master)
-    (λ q k l. l) (c.ring.ensures.row x)).stands past h in
-    rw (timely, read) (sym (ap (λ j. corrects (closes_with own j round x later)) (sym c.group-group.ensures.group)
-    ∙ corrects-closes own k round x later false (ap (λ z. can_adjust z x later) (sym is) ∙ ap (λ t. is_clock_value (t +ℤ mean)) (target-is x later c.args.clock.now rung.clock) ∙ sym test ∙ c.if-not-can_adjust.true)))
+    sym (corrects-timely c.args.own c.args.at.tick past c.args.self.now c.args.station.now clock c.group-group.result h (c.requires.order, c.requires.due) (sym c.is_in_time.ensures ∙ c.if-not-is_in_time.false) c.group-group.ensures.group
+    (ap (λ z. is_clock_value (target_of clock c.args.at.tick +ℤ z)) (sym c.mean_by-mean.ensures.value) ∙ sym test ∙ c.if-not-can_adjust.true))
 
 pub returns-clause-row : goal.returns-clause-row
-unfolding close_rings closes closes_with abandons puts
+unfolding closes_with
 returns-clause-row g c =
     let x = c.args.at.tick in
     let m = c.args.self.now in
     let own = c.args.own in
     let k = c.group-group.result in
     let mean = c.mean_by-mean.result in
-    let round = round_of m.slaves m.rounds in
     let fits : SFits w64 mean = search rules in
     let back : to_z w64 (of_z w64 mean) ≡ mean = to_z-of_z fits in
     let is : mean ≡ mean_by own k = c.mean_by-mean.ensures.value in
@@ -108,42 +72,22 @@ returns-clause-row g c =
     let put = rw (back, back_lo, back_width) at c.put.ensures.acts in
     let moved = rw back at c.move_own.ensures.row in
     let each = rw back at c.correct_each.ensures.row in
-    Performs_then_part (is_in_time Close) (puts (Late Close) followed_by abandons) (λ past h. let a = h.station.alarms in cc)
-    (Performs_reading round_at (closes own) round
-    (λ past h. round-is x past m (goes_where x past (ap (λ (d : Deadlines). is_over d.close x) (sym h.station.alarms) ∙ c.requires.due)) h.master)
-    (Performs_then
-    (Performs_rung {Q = LeadStands} (Ring Close) m m c.args.clock.now refl (λ past. refl)
-    (λ past h. let a = h.station.alarms in MasterStands_ring_close x past _ (no_probe x past _ (ap (λ (d : Deadlines). is_over d.probe x) (sym a) ∙ c.requires.order) (ap (λ (d : Deadlines). is_over d.close x) (sym a) ∙ c.requires.due) h.master) h.master)
-    (λ past h k. k) (c.ring.ensures.row x))
-    (closes_same own round c.group-group.ensures.group (
-    Performs_from {p = LeadStands} {before = (record { master = c.group-group.new.self; station = c.ring.new.self; clock = c.args.clock.now })}
-    (λ past h. record { master = MasterStands_same past c.args.self.now c.group-group.new.self (ap peers_of c.group-group.ensures.slaves) c.group-group.ensures.rounds (λ q. ap (λ es. entry_of es q) c.group-group.ensures.slaves) h.master; station = h.station; acted = h.acted; clock = h.clock })
+    Performs_timely_close own m c.group-group.new.self k c.args.clock.now (c.requires.order, c.requires.due) (sym c.is_in_time.ensures ∙ c.if-not-is_in_time.false) c.group-group.ensures.group c.group-group.ensures.slaves c.group-group.ensures.rounds
+    (c.ring.ensures.row x)
     (Performs_then_part (can_adjust (mean_by own k)) abandons
-    (λ past h. ap (λ z. can_adjust z x past) (sym is) ∙ ap (λ t. is_clock_value (t +ℤ mean)) (target-is x past c.args.clock.now h.clock) ∙ sym test ∙ c.if-not-can_adjust.false)
+    (λ past h. ap (λ z. can_adjust z x past) (sym is) ∙ can_adjust-is mean x past c.args.clock.now h.clock (sym test ∙ c.if-not-can_adjust.false))
     (rw (← is) (Performs_then (Performs_quiet _ c.args.clock.now (Emits_puts (CloseAct k.count k.lo k.width mean) refl) (Performs_idle (CloseAct k.count k.lo k.width mean) refl put))
-    (Performs_then (moved c.group-group.new.self c.ring.new.self) (each_same mean c.group-group.ensures.slaves c.group-group.ensures.rounds each)))))))))
+    (Performs_then (moved c.group-group.new.self c.ring.new.self) (each_same mean c.group-group.ensures.slaves c.group-group.ensures.rounds each)))))
 
 pub returns-clause-corrects : goal.returns-clause-corrects
-unfolding close_rings closes puts either_by reading ◌followed_by◌
 returns-clause-corrects g c past h =
-    let x = c.args.at.tick in
-    let m = c.args.self.now in
-    let own = c.args.own in
-    let k = c.group-group.result in
     let mean = c.mean_by-mean.result in
-    let round = round_of m.slaves m.rounds in
+    let clock = c.args.clock.now in
     let fits : SFits w64 mean = search rules in
     let back : to_z w64 (of_z w64 mean) ≡ mean = to_z-of_z fits in
-    let is : mean ≡ mean_by own k = c.mean_by-mean.ensures.value in
     let test = rw back at c.can_adjust.ensures in
-    let a = h.station.alarms in
-    let timely : is_in_time Close x past ≡ true = cc in
-    let read = round-is x past m (goes_where x past (ap (λ (d : Deadlines). is_over d.close x) (sym a) ∙ c.requires.due)) h.master in
-    let later : Past = grown x past (Ring Close ∷ []) in
-    let rung = (Performs_rung {Q = LeadStands} (Ring Close) m m c.args.clock.now refl (λ q. refl) (λ q k. MasterStands_ring_close x q m (no_probe x q m (ap (λ (d : Deadlines). is_over d.probe x) (sym k.station.alarms) ∙ c.requires.order) (ap (λ (d : Deadlines). is_over d.close x) (sym k.station.alarms) ∙ c.requires.due) k.master) k.master)
-    (λ q k l. l) (c.ring.ensures.row x)).stands past h in
-    rw (timely, read) (sym (ap (λ j. corrects (closes_with own j round x later)) (sym c.group-group.ensures.group)
-    ∙ corrects-closes own k round x later true (ap (λ z. can_adjust z x later) (sym is) ∙ ap (λ t. is_clock_value (t +ℤ mean)) (target-is x later c.args.clock.now rung.clock) ∙ sym test ∙ c.if-not-can_adjust.false)))
+    sym (corrects-timely c.args.own c.args.at.tick past c.args.self.now c.args.station.now clock c.group-group.result h (c.requires.order, c.requires.due) (sym c.is_in_time.ensures ∙ c.if-not-is_in_time.false) c.group-group.ensures.group
+    (ap (λ z. is_clock_value (target_of clock c.args.at.tick +ℤ z)) (sym c.mean_by-mean.ensures.value) ∙ sym test ∙ c.if-not-can_adjust.false))
 
 pub returns-then-not-is_in_time-clause-room : goal.returns-then-not-is_in_time-clause-room
 returns-then-not-is_in_time-clause-room g c = twice (length (peers_of c.args.self.now.slaves)) 1 c.late.ensures.room c.abandon.ensures.room

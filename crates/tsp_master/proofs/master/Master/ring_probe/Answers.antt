@@ -1,29 +1,28 @@
 -- In time the measured peers are asked again; late the round is given up.
 use Rattle.std.proofs.Common.{refl, sym, ◌∙◌, ap, length}
-use Rattle.tsp_base.specs.declared.act.Act.TheVariants.{Ring, Late, Abandon}
+use Rattle.tsp_base.specs.declared.act.Act.TheVariants.{Ring, Late}
 use Rattle.tsp_base.specs.declared.alarm.Alarm.TheVariants.{Probe}
 use Rattle.tsp_base.specs.Alarms.{Deadlines}
 use Rattle.tsp_base.specs.Rows.{puts, ◌followed_by◌}
 use Rattle.tsp_base.proofs.PerformsLemmas.{Performs_else_part, Performs_then, Performs_then_part}
 use Rattle.tsp_rules.specs.RoundRows.{abandons, arms_next, asks_measured, probe_rings}
 use Rattle.tsp_rules.specs.Guards.{is_in_time}
-use Rattle.tsp_rules.proofs.Emits.{Emits_puts}
-use Rattle.tsp_acks.proofs.ActingLemmas.{Performs_acting}
+use Rattle.tsp_measure.specs.Slaves.{peers_of}
 use Rattle.tsp_master.specs.MasterStands.{ProbesStands}
-use Rattle.tsp_master.proofs.LeadLemmas.{Performs_lead, Performs_rung}
+use Rattle.tsp_master.proofs.CloseCases.{Performs_abandons}
+use Rattle.tsp_master.proofs.LeadLemmas.{Performs_rung, in_time-is}
 use Rattle.tsp_master.proofs.PhaseLemmas.{met-some, over-some, rings_early}
-use Rattle.tsp_master.proofs.RoundLemmas.{MasterStands_abandon, MasterStands_late_probe, MasterStands_ring_probe}
+use Rattle.tsp_master.proofs.RoundLemmas.{MasterStands_late_probe, MasterStands_ring_probe}
 use Rattle.tsp_master.proofs.RoomLemmas.{once, then_put, twice}
-use Rattle.tsp_master.specs.Slaves.{peers_of}
 use Rattle.tsp_master.proofs.master.Master.ring_probe.Goals as goal
 
 pub returns-then-not-is_in_time-clause-row : goal.returns-then-not-is_in_time-clause-row
-unfolding probe_rings abandons puts
+unfolding probe_rings puts
 returns-then-not-is_in_time-clause-row g c =
-    Performs_else_part (is_in_time Probe) (puts (Ring Probe) followed_by (asks_measured followed_by arms_next)) (λ past h. let a = h.station.alarms in cc)
+    Performs_else_part (is_in_time Probe) (puts (Ring Probe) followed_by (asks_measured followed_by arms_next)) (λ past h. in_time-is Probe c.args.at.tick past c.args.station.now h.station (sym c.is_in_time.ensures ∙ c.if-not-is_in_time.true))
     (Performs_then
     (Performs_rung (Late Probe) _ _ c.args.clock.now refl (λ past. refl) (λ past h. MasterStands_late_probe c.args.at.tick past _ h.master) (λ past h k. k) (c.late.ensures.row c.args.at.tick))
-    (Performs_lead _ _ c.args.clock.now (Emits_puts Abandon refl) (λ past h. MasterStands_abandon c.args.at.tick past _ h.master) (Performs_acting (c.abandon.ensures.row c.args.at.tick))))
+    (Performs_abandons c.args.self.now c.args.clock.now (c.abandon.ensures.row c.args.at.tick)))
 
 pub returns-then-count_probe-clause-row : goal.returns-then-count_probe-clause-row
 unfolding probe_rings puts
@@ -31,7 +30,7 @@ returns-then-count_probe-clause-row g c =
     let x = c.args.at.tick in
     let due = over-some c.args.station.now.alarms.probe x c.requires.due in
     let low = met-some c.args.station.now.alarms.probe x due.0 (sym c.is_in_time.ensures ∙ c.if-not-is_in_time.false) due.1 in
-    Performs_then_part (is_in_time Probe) (puts (Late Probe) followed_by abandons) (λ past h. let a = h.station.alarms in cc)
+    Performs_then_part (is_in_time Probe) (puts (Late Probe) followed_by abandons) (λ past h. in_time-is Probe x past c.args.station.now h.station (sym c.is_in_time.ensures ∙ c.if-not-is_in_time.false))
     (Performs_then
     (Performs_rung {Q = ProbesStands x} (Ring Probe) _ _ c.args.clock.now refl (λ past. refl)
     (λ past h. MasterStands_ring_probe x past _ _ refl c.if-count_probe.ensures.counts h.master)

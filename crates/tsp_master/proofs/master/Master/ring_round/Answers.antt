@@ -1,5 +1,5 @@
 -- In time a round begins; the next one is put off in any case.
-use Rattle.std.proofs.Common.{false, refl, length, ◌*◌}
+use Rattle.std.proofs.Common.{false, refl, sym, ◌∙◌, length, ◌*◌}
 use Rattle.tsp_base.specs.declared.act.Act.TheVariants.{Ring, Late}
 use Rattle.tsp_base.specs.declared.alarm.Alarm.TheVariants.{Round}
 use Rattle.tsp_base.specs.declared.constants.TheConstants.{ROUND}
@@ -9,22 +9,22 @@ use Rattle.tsp_rules.specs.RoundRows.{begins_or_waits, round_rings}
 use Rattle.tsp_rules.specs.Guards.{is_in_time}
 use Rattle.tsp_rules.proofs.Emits.{Emits_arms}
 use Rattle.tsp_acks.proofs.ActingLemmas.{Performs_acting}
-use Rattle.tsp_master.proofs.LeadLemmas.{Performs_quiet, Performs_rung}
+use Rattle.tsp_measure.specs.Slaves.{peers_of}
+use Rattle.tsp_master.proofs.LeadLemmas.{Performs_quiet, Performs_rung, in_time-is}
 use Rattle.tsp_master.proofs.TableLemmas.{MasterStands_quiet}
 use Rattle.tsp_master.proofs.RoomLemmas.{once_then, twice}
-use Rattle.tsp_master.specs.Slaves.{peers_of}
 use Rattle.tsp_master.proofs.master.Master.ring_round.Goals as goal
 
 pub returns-then-is_in_time-clause-row : goal.returns-then-is_in_time-clause-row
 unfolding round_rings begins_or_waits puts
 returns-then-is_in_time-clause-row g c =
-    Performs_then_part (is_in_time Round) (puts (Late Round) followed_by arms Round ROUND) (λ past h. let a = h.station.alarms in cc)
+    Performs_then_part (is_in_time Round) (puts (Late Round) followed_by arms Round ROUND) (λ past h. in_time-is Round c.args.at.tick past c.args.station.now h.station (sym c.is_in_time.ensures ∙ c.if-is_in_time.true))
     (Performs_then (Performs_rung (Ring Round) _ _ c.args.clock.now refl (λ past. refl) (λ past h. MasterStands_quiet (Ring Round) refl c.args.at.tick past _ h.master) (λ past h k. k) (c.ring.ensures.row c.args.at.tick)) c.begin_round.ensures.row)
 
 pub returns-else-is_in_time-clause-row : goal.returns-else-is_in_time-clause-row
 unfolding round_rings puts
 returns-else-is_in_time-clause-row g c =
-    Performs_else_part (is_in_time Round) (puts (Ring Round) followed_by begins_or_waits false) (λ past h. let a = h.station.alarms in cc)
+    Performs_else_part (is_in_time Round) (puts (Ring Round) followed_by begins_or_waits false) (λ past h. in_time-is Round c.args.at.tick past c.args.station.now h.station (sym c.is_in_time.ensures ∙ c.if-is_in_time.false))
     (Performs_then (Performs_rung (Late Round) _ _ c.args.clock.now refl (λ past. refl) (λ past h. MasterStands_quiet (Late Round) refl c.args.at.tick past _ h.master) (λ past h k. k) (c.late.ensures.row c.args.at.tick)) (Performs_quiet _ c.args.clock.now (Emits_arms Round ROUND refl) (Performs_acting c.arm.ensures.row)))
 
 pub returns-then-is_in_time-clause-room : goal.returns-then-is_in_time-clause-room

@@ -1,7 +1,0 @@
--- The entries so far are changed.
-use Rattle.std.proofs.Common.{◌≡◌, ◌++◌, map, take, drop}
-use Rattle.tsp_master.specs.Slaves.{leaves}
-use Rattle.tsp_master.proofs.slaves.leave_each.Given as goal
-
-abbrev pub invariant-loop-entry : goal.invariant-loop-entry
-invariant-loop-entry l = l.entries ≡ map leaves (take l.entry-index l.fn.entries) ++ drop l.entry-index l.fn.entries

@@ -1,0 +1,14 @@
+-- An idle entry for each peer.
+use Rattle.tsp_measure.proofs.Entries.{peers_of-idle, entry_of-idle}
+use Rattle.tsp_measure.proofs.slaves.Slaves.new.Goals as goal
+
+pub invariant_of-result : goal.invariant_of-result
+invariant_of-result c =
+    let same = peers_of-idle c.args.peers.now in
+    rw (c.into_boxed_slice.ensures.items, c.in_ok-entries.ensures) (record { few = rw same c.requires.few; ascending = rw same c.requires.ascending })
+
+pub returns-clause-peers : goal.returns-clause-peers
+returns-clause-peers c = rw (c.into_boxed_slice.ensures.items, c.in_ok-entries.ensures) (peers_of-idle c.args.peers.now)
+
+pub returns-clause-idle : goal.returns-clause-idle
+returns-clause-idle c p = rw (c.into_boxed_slice.ensures.items, c.in_ok-entries.ensures) (entry_of-idle c.args.peers.now p)
