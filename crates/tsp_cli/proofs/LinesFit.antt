@@ -31,7 +31,7 @@ use Rattle.tsp_run.specs.Run.{Happening, boot_step, happening, posts, run, step_
 use Rattle.tsp_run.proofs.CalmPorts.{TakesOnce}
 use Rattle.tsp_run.proofs.RefusalLemmas.{allowed, handed-port, refusal-none}
 use Rattle.tsp_run.proofs.RunPromises.{posted-read}
-use Rattle.tsp_world.proofs.SetupLemmas.{some_port}
+use Rattle.tsp_networks.proofs.MemberLemmas.{some_port}
 use Rattle.tsp_cli.proofs.ActsFit.{ActsFit, begun-after, calm-untaken, calm_fit, calm_fit_all, tallied, told_fit, took-after, wants-none, wants_tallied}
 use Rattle.tsp_cli.proofs.ClaimedPosts.{SamePost, get-ArePosts, length-ArePosts}
 use Rattle.tsp_run.proofs.Happens.{acts_by, boot_acts, got_acts, ports_in, steps-are, taken_in, takes-or, taking, taking_row, taking_step, turn_acts}

@@ -20,7 +20,7 @@ use Rattle.tsp_run.specs.Ranges.{Accepted, IsInRange}
 use Rattle.tsp_run.specs.Refusals.{scene, refusal}
 use Rattle.tsp_run.specs.Run.{run, joins, happening, steps, step_tick, event_at}
 use Rattle.tsp_run.specs.Setup.{past_of, rests}
-use Rattle.tsp_world.specs.Sheets.{acts_on}
+use Rattle.tsp_networks.specs.Sheets.{acts_on}
 use Rattle.tsp_world.specs.WorldStands.{WorldStands, PlaceStands, UpBegun, UpStands, Notes, Passes, up_at, is_node, scene_of}
 use Rattle.tsp_gateway.proofs.StepLemmas.{GatewayStands_step, GatewayBegun_in_step}
 use Rattle.tsp_run.proofs.NetworkLemmas.{some_same}

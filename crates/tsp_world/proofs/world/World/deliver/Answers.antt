@@ -14,8 +14,8 @@ use Rattle.tsp_run.specs.Run.{arrives, arrives_at, goes_to, reaches, run, posts,
 use Rattle.tsp_run.proofs.NetworkLemmas.{goes_there, some_same}
 use Rattle.tsp_run.proofs.RefusalLemmas.{refusal-none, up-down, goes_to-post}
 use Rattle.tsp_run.proofs.RunPromises.{posted-read}
-use Rattle.tsp_world.specs.Posts.{way_of}
-use Rattle.tsp_world.specs.declared.way.Way.{Way}
+use Rattle.tsp_networks.specs.Posts.{way_of}
+use Rattle.tsp_networks.specs.declared.way.Way.{Way}
 use Rattle.tsp_world.proofs.WorldLemmas.{Alike-stands, accepted}
 use Rattle.tsp_world.proofs.world.World.deliver.Goals as goal
 

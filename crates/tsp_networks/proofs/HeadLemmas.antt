@@ -5,13 +5,13 @@ use Rattle.std.proofs.lemmas.List.{drop-append-le, take-append-le, map_push}
 use Rattle.std.proofs.lemmas.List.Elements.{All-head, All-tail}
 use Rattle.tsp_base.specs.declared.datagram.Datagram.{Datagram}
 use Rattle.tsp_base.specs.declared.place.Place.{Place}
-use Rattle.tsp_world.specs.declared.head.Head.{Head}
-use Rattle.tsp_world.specs.declared.head.Route.{Route}
-use Rattle.tsp_world.specs.declared.way.Way.{Way}
-use Rattle.tsp_world.specs.declared.head.StoredDatagram.{StoredDatagram}
-use Rattle.tsp_world.specs.declared.head.StoredDatagram.TheVariants.{Message, Request, Reply}
-use Rattle.tsp_world.specs.Heads.{HeadStands, HeldStands, datagram_in, is_peer, place_of, post_in, route_of, small_of, way_in}
-use Rattle.tsp_world.specs.Posts.{posted_on}
+use Rattle.tsp_networks.specs.declared.head.Head.{Head}
+use Rattle.tsp_networks.specs.declared.head.Route.{Route}
+use Rattle.tsp_networks.specs.declared.way.Way.{Way}
+use Rattle.tsp_networks.specs.declared.head.StoredDatagram.{StoredDatagram}
+use Rattle.tsp_networks.specs.declared.head.StoredDatagram.TheVariants.{Message, Request, Reply}
+use Rattle.tsp_networks.specs.Heads.{HeadStands, HeldStands, datagram_in, is_peer, place_of, post_in, route_of, small_of, way_in}
+use Rattle.tsp_networks.specs.Posts.{posted_on}
 
 range-append : (names more : List ℕ) (start len : ℕ) → start + len ≤ length names → slice_range (names ++ more) start (start + len) ≡ slice_range names start (start + len)
 range-append names more start len inside =

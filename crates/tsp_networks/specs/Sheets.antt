@@ -2,7 +2,7 @@
 use Rattle.std.specs.Prelude.{ℕ, List, map}
 use Rattle.tsp_base.specs.declared.act.Placed.{Placed}
 use Rattle.tsp_run.specs.declared.line.Line.{Line}
-use Rattle.tsp_world.specs.declared.sheet.Sheet.{Sheet}
+use Rattle.tsp_networks.specs.declared.sheet.Sheet.{Sheet}
 
 -- the act of a line, and its port
 abbrev pub placed_in : Line → Placed

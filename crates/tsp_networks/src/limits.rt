@@ -24,7 +24,7 @@ fn is_crowded(posted: u64, wanted: Option<u64>) -> bool
 
 /// `Limit` where one event more passes the greatest number of events, or its step, of at most `wanted` acts,
 /// might pass that of posts.
-pub(crate) fn limit(events: u64, posted: u64, wanted: Option<u64>) -> Option<EventFault>
+pub fn limit(events: u64, posted: u64, wanted: Option<u64>) -> Option<EventFault>
     requires posted { posted ≤ 1000000 }
     requires wanted { IfSome wanted (λ w. w ≤ 200000) }
     ensures { result ≡ limit events posted wanted }

@@ -2,7 +2,7 @@
 use Rattle.std.specs.Prelude.{ℕ, List}
 use Rattle.tsp_base.specs.declared.datagram.Datagram.{Datagram}
 use Rattle.tsp_run.specs.declared.posted.Posted.{Posted}
-use Rattle.tsp_world.specs.declared.way.Way.{Way}
+use Rattle.tsp_networks.specs.declared.way.Way.{Way}
 
 -- posts in the order of their numbers, and how many more there is room for
 pub record PostsValue : Type 0 where

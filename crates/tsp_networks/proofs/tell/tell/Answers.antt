@@ -1,7 +1,7 @@
 -- At the end all lines are told.
 use Rattle.std.proofs.Common.{◌≤◌, ◌∙◌, sym, arith, length}
-use Rattle.tsp_world.proofs.TellLemmas.{told_all}
-use Rattle.tsp_world.proofs.tell.tell.Goals as goal
+use Rattle.tsp_networks.proofs.TellLemmas.{told_all}
+use Rattle.tsp_networks.proofs.tell.tell.Goals as goal
 
 pub returns-clause-lines : goal.returns-clause-lines
 returns-clause-lines c =

@@ -1,8 +1,8 @@
 //! What is stored of a post beside the octets of its name.
 ghost use Rattle.std.specs.Prelude.{◌≡◌, ◌≤◌, ◌+◌, ◌++◌, ℕ, List, length, vec_len, vec_capacity};
 ghost use Rattle.tsp_base.specs.declared.datagram.Datagram.{Datagram};
-ghost use Rattle.tsp_world.specs.Heads.{HeldStands, datagram_in, is_peer, name_in};
-ghost use Rattle.tsp_world.specs.Heads.{place_of, route_of, small_of, way_in};
+ghost use Rattle.tsp_networks.specs.Heads.{HeldStands, datagram_in, is_peer, name_in};
+ghost use Rattle.tsp_networks.specs.Heads.{place_of, route_of, small_of, way_in};
 
 use crate::way::Way;
 use tsp_base::datagram::Datagram;

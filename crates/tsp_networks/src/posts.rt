@@ -25,8 +25,8 @@ pub struct Posts {
 
 impl Model for Posts {
     ghost use Rattle.std.specs.Prelude.{map};
-    ghost use Rattle.tsp_world.specs.Posts.{PostsValue};
-    ghost use Rattle.tsp_world.specs.Heads.{ArePosts, post_in};
+    ghost use Rattle.tsp_networks.specs.Posts.{PostsValue};
+    ghost use Rattle.tsp_networks.specs.Heads.{ArePosts, post_in};
 
     ghost Value = { PostsValue };
 
@@ -40,7 +40,7 @@ impl Model for Posts {
 
 impl Posts {
     ghost use Rattle.tsp_run.specs.declared.posted.Posted.{Posted};
-    ghost use Rattle.tsp_world.specs.Posts.{posted_on, way_of};
+    ghost use Rattle.tsp_networks.specs.Posts.{posted_on, way_of};
 
     /// No posts and no room. Takes no memory.
     pub fn new(alloc: Global) -> Posts

@@ -3,7 +3,7 @@ use Rattle.std.specs.Prelude.{◌≡◌, ℕ, zero, suc, ◌≤◌, List, [], �
 use Rattle.std.proofs.Common.{ap, arith}
 use Rattle.tsp_run.specs.declared.line.Line.{Line}
 use Rattle.tsp_run.specs.Run.{told_from}
-use Rattle.tsp_world.specs.Sheets.{placed_in}
+use Rattle.tsp_networks.specs.Sheets.{placed_in}
 
 -- at the end all are told
 pub told_all : (event node x next i : ℕ) (lines : List Line) → length lines ≤ i → take i lines ++ told_from event node x next (map placed_in (drop i lines)) ≡ lines

@@ -1,6 +1,6 @@
 //! A desk on which each act is put into its line of the trace.
 ghost use Rattle.std.specs.Prelude.{◌≡◌, ◌+◌, ◌<◌, ◌≤◌, ℕ, List, [], ◌∷◌, ◌++◌, OnOk, OnErr};
-ghost use Rattle.std.specs.Prelude.{vec_len, vec_capacity};
+ghost use Rattle.std.specs.Prelude.{length, vec_len, vec_capacity, ◌==◌};
 
 use std::alloc::{AllocError, Global};
 use std::mem::swap;
@@ -11,17 +11,17 @@ use tsp_run::line::Line;
 
 /// Lines with their acts, whose other parts are still to be told, and how many more there is room for.
 #[derive(Drop)]
-pub(crate) struct Sheet {
-    pub(crate) lines: Vec<Line>,
+pub struct Sheet {
+    lines: Vec<Line>,
     spare: usize,
     ghost room: { vec_len lines + spare ≤ vec_capacity lines },
 }
 
 impl Sheet {
-    ghost use Rattle.tsp_world.specs.Sheets.{acts_on};
+    ghost use Rattle.tsp_networks.specs.Sheets.{acts_on};
 
     /// No lines and no room. Takes no memory.
-    pub(crate) fn new(alloc: Global) -> Sheet
+    pub fn new(alloc: Global) -> Sheet
         ensures lines { result.lines.items ≡ [] }
     {
         Sheet {
@@ -31,15 +31,22 @@ impl Sheet {
     }
 
     /// Removes all lines. Their room stays.
-    pub(crate) fn clear(&mut self)
+    pub fn clear(&mut self)
         ensures acts { acts_on self.new ≡ [] }
     {
         self.lines.clear();
         self.spare = self.lines.capacity();
     }
 
+    /// Whether there are no lines.
+    pub fn is_empty(&self) -> bool
+        ensures { result ≡ (length (acts_on self.now) == 0) }
+    {
+        self.lines.is_empty()
+    }
+
     /// Gives its lines for others. No room is left until it is asked for.
-    pub(crate) fn exchange(&mut self, lines: &mut Vec<Line>)
+    pub fn exchange(&mut self, lines: &mut Vec<Line>)
         ensures { lines.new.items ≡ self.old.lines.items }
     {
         self.spare = 0;
@@ -48,7 +55,7 @@ impl Sheet {
 }
 
 impl Desk for Sheet {
-    ghost use Rattle.tsp_world.specs.Sheets.{acts_on, spare_on};
+    ghost use Rattle.tsp_networks.specs.Sheets.{acts_on, spare_on};
 
     ghost acts = { acts_on };
 

@@ -1,8 +1,8 @@
 -- What was told and posted, and what is still to be.
 use Rattle.std.proofs.Common.{◌≡◌, ◌≤◌, ◌+◌, ◌++◌, length, take, drop, map}
 use Rattle.tsp_run.specs.Run.{told_from, posts_from}
-use Rattle.tsp_world.specs.Sheets.{placed_in}
-use Rattle.tsp_world.proofs.tell.tell.Given as goal
+use Rattle.tsp_networks.specs.Sheets.{placed_in}
+use Rattle.tsp_networks.proofs.tell.tell.Given as goal
 
 abbrev pub invariant-loop-line : goal.invariant-loop-line
 invariant-loop-line l = record {

@@ -1,7 +1,7 @@
 //! The lines and the posted datagrams of an event's acts.
 ghost use Rattle.std.specs.Prelude.{◌≡◌, ◌≤◌, ◌<◌, ◌+◌, ◌++◌, length, map};
 ghost use Rattle.tsp_run.specs.Run.{told_from, posts_by, number_of, posts_from, posted_by};
-ghost use Rattle.tsp_world.specs.Sheets.{placed_in};
+ghost use Rattle.tsp_networks.specs.Sheets.{placed_in};
 
 use crate::posts::Posts;
 use crate::way::Way;
@@ -9,7 +9,7 @@ use tsp_base::act::{Act, Placed};
 use tsp_run::line::Line;
 
 /// Completes the lines of an event's acts, and adds the datagrams that they post, with the next numbers.
-pub(crate) fn tell(lines: &mut [Line], sent: &mut Posts, event: u64, at: u64, node: u32, tick: u64)
+pub fn tell(lines: &mut [Line], sent: &mut Posts, event: u64, at: u64, node: u32, tick: u64)
     requires room { length lines.old ≤ sent.old.spare }
     ensures lines { lines.new ≡ told_from event node tick (length sent.old.items)
         (map placed_in lines.old) }

@@ -12,12 +12,12 @@ use Rattle.tsp_base.specs.declared.place.Place.{Place}
 use Rattle.tsp_base.specs.declared.place.Place.TheVariants.{Peer, Stranger}
 use Rattle.tsp_base.specs.Names.{IsName}
 use Rattle.tsp_run.specs.declared.posted.Posted.{Posted}
-use Rattle.tsp_world.specs.declared.head.Head.{Head}
-use Rattle.tsp_world.specs.declared.head.Route.{Route}
-use Rattle.tsp_world.specs.declared.head.StoredDatagram.{StoredDatagram}
-use Rattle.tsp_world.specs.declared.head.StoredDatagram.TheVariants.{Message as HeldMessage, Request as HeldRequest, Reply as HeldReply}
-use Rattle.tsp_world.specs.declared.way.Way.{Way}
-use Rattle.tsp_world.specs.Posts.{posted_on}
+use Rattle.tsp_networks.specs.declared.head.Head.{Head}
+use Rattle.tsp_networks.specs.declared.head.Route.{Route}
+use Rattle.tsp_networks.specs.declared.head.StoredDatagram.{StoredDatagram}
+use Rattle.tsp_networks.specs.declared.head.StoredDatagram.TheVariants.{Message as HeldMessage, Request as HeldRequest, Reply as HeldReply}
+use Rattle.tsp_networks.specs.declared.way.Way.{Way}
+use Rattle.tsp_networks.specs.Posts.{posted_on}
 
 -- the octets that a datagram adds to all names: its own name, if it has one
 abbrev pub name_in : Datagram → List ℕ

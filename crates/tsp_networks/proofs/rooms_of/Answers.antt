@@ -5,8 +5,8 @@ use Rattle.std.proofs.lemmas.Option.{slice_get_within, get_or_from_slice_get, sl
 use Rattle.std.proofs.Math.ListN.{get_or-append}
 use Rattle.std.proofs.Math.Seq.{get_or-append_seam}
 use Rattle.tsp_run.specs.Networks.{ports_on, room}
-use Rattle.tsp_world.specs.Configs.{AreRooms}
-use Rattle.tsp_world.proofs.setup.rooms_of.Goals as goal
+use Rattle.tsp_networks.specs.Rooms.{AreRooms}
+use Rattle.tsp_networks.proofs.rooms_of.Goals as goal
 
 none_are : (nets : List (List ℕ)) → AreRooms nets []
 none_are nets n r is = let bad : ⊥ = cc in absurd bad
