@@ -11,14 +11,14 @@ use Rattle.tsp_base.specs.declared.place.Place.TheVariants.{Peer, Stranger}
 use Rattle.tsp_base.specs.Headers.{HeaderValue}
 use Rattle.tsp_claims.specs.declared.claimed.Claimed.{Claimed}
 use Rattle.tsp_claims.specs.ClaimedHistory.{posts_of}
-use Rattle.tsp_cli.specs.AuditedRuns.{claims_of}
+use Rattle.tsp_audit.specs.AuditedRuns.{claims_of}
 use Rattle.tsp_run.specs.declared.posted.Posted.{Posted}
 use Rattle.tsp_run.specs.Premised.{AllBootOtherwise, Apart, BootsOtherwise, IsApart, IsPrompt, IsSealed, Prompt, Sealed}
 use Rattle.tsp_run.specs.Ranges.{Accepted}
 use Rattle.tsp_run.specs.Run.{posts, run}
 use Rattle.tsp_run.proofs.SealedRun.{accepted_before}
-use Rattle.tsp_cli.proofs.ClaimedPosts.{SamePost, get-ArePosts}
-use Rattle.tsp_cli.proofs.RunClaims.{told_are}
+use Rattle.tsp_audit.proofs.ClaimedPosts.{SamePost, get-ArePosts}
+use Rattle.tsp_audit.proofs.RunClaims.{told_are}
 
 is-sealed : (e : Event) → forges e ≡ false → IsSealed e
 is-sealed (Boot at node word) f = tt

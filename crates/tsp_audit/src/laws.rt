@@ -1,5 +1,5 @@
 //! What an audit says of a run's own trace: laws, which do nothing.
-ghost use Rattle.tsp_cli.specs.AuditedRuns.{RunsAreClaimed, RunsFitClaims, RunsHold};
+ghost use Rattle.tsp_audit.specs.AuditedRuns.{RunsAreClaimed, RunsFitClaims, RunsHold};
 
 /// The history that a run's own trace claims is the run's history.
 pub fn runs_are_claimed()

@@ -14,7 +14,7 @@ use Rattle.tsp_claims.specs.declared.tally.Tally.{Tally}
 use Rattle.tsp_claims.specs.ClaimedHistory.{step_at}
 use Rattle.tsp_claims.specs.Fitting.{ActFits, AllFit, FitsAfter, LineFitsIn, NumberFits, begins_with_boot, counted, is_took, lacks, wants_boot}
 use Rattle.tsp_rules.proofs.FewActs.{is_calm_act}
-use Rattle.tsp_cli.specs.AuditedRuns.{number_or_zero, traced}
+use Rattle.tsp_audit.specs.AuditedRuns.{number_or_zero, traced}
 use Rattle.tsp_run.specs.Networks.{networks, ports_on}
 use Rattle.tsp_run.specs.Run.{number_of, posts_by, step_tick, told_from}
 use Rattle.tsp_run.proofs.CalmPorts.{AreCalm}

@@ -16,16 +16,16 @@ use Rattle.tsp_promises.specs.Safe.{Safe}
 use Rattle.tsp_promises.specs.Setting.{Setting}
 use Rattle.tsp_promises.proofs.WordsProof.{own_words}
 use Rattle.tsp_claims.specs.ClaimedHistory.{Claim, claimed, posts_of}
-use Rattle.tsp_cli.specs.AuditedRuns.{RunsHold, claims_of}
+use Rattle.tsp_audit.specs.AuditedRuns.{RunsHold, claims_of}
 use Rattle.tsp_run.specs.Ranges.{Accepted}
 use Rattle.tsp_run.specs.Run.{run}
 use Rattle.tsp_run.specs.Setting.{SetBy}
 use Rattle.tsp_run.proofs.RunPromises.{runs-keep-promises}
 use Rattle.tsp_run.proofs.RunPremises.{runs-keep-premises}
 use Rattle.tsp_run.proofs.SealedRun.{accepted_before}
-use Rattle.tsp_cli.proofs.RunClaims.{told_are}
-use Rattle.tsp_cli.proofs.TextPremises.{apart-text, prompt-text, sealed-text}
-use Rattle.tsp_cli.proofs.ClaimedEvents.{events-claims}
+use Rattle.tsp_audit.proofs.RunClaims.{told_are}
+use Rattle.tsp_audit.proofs.TextPremises.{apart-text, prompt-text, sealed-text}
+use Rattle.tsp_audit.proofs.ClaimedEvents.{events-claims}
 
 -- of the premises that a verdict goes by, a history keeps each that they grant
 pub record Granted (premises : Premises) (history : List Line) : Type 0 where

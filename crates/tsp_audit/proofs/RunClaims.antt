@@ -17,7 +17,7 @@ use Rattle.tsp_claims.specs.Fitting.{acts_of}
 use Rattle.tsp_claims.specs.Listed.{booted, boots}
 use Rattle.tsp_codec.specs.Canon.{canon}
 use Rattle.tsp_codec.specs.Taken.{taken_of}
-use Rattle.tsp_cli.specs.AuditedRuns.{claims_of, last_lines}
+use Rattle.tsp_audit.specs.AuditedRuns.{claims_of, last_lines}
 use Rattle.tsp_rules.specs.GateRows.{GotOn, NodeTurn, answers_all, boots_all}
 use Rattle.tsp_run.specs.Networks.{networks}
 use Rattle.tsp_run.specs.Ranges.{Accepted}
@@ -26,9 +26,9 @@ use Rattle.tsp_run.specs.Run.{Happening, boot_step, goes_to, happening, joins, p
 use Rattle.tsp_run.proofs.RefusalLemmas.{allowed, up-down}
 use Rattle.tsp_run.proofs.SealedRun.{accepted_before}
 use Rattle.tsp_run.proofs.RunLemmas.{posts_stepped, stepped_other, stepped_own, up_joined}
-use Rattle.tsp_cli.proofs.ClaimedPosts.{ArePosts, ArePosts-append, get-ArePosts, goes-same, posts_of_acts}
+use Rattle.tsp_audit.proofs.ClaimedPosts.{ArePosts, ArePosts-append, get-ArePosts, goes-same, posts_of_acts}
 use Rattle.tsp_run.proofs.Happens.{Arrives, acts_by, boot_acts, got_acts, stepping, steps-are, takes-or, taking, taking_row, taking_step}
-use Rattle.tsp_cli.proofs.ClaimedEvents.{acts-told_of, happened}
+use Rattle.tsp_audit.proofs.ClaimedEvents.{acts-told_of, happened}
 
 -- a step is that of what happens; none, where nothing does
 abbrev pub IsStep : HeaderValue → Option Happening → Option Step → Type 0

@@ -6,7 +6,7 @@ use Rattle.tsp_base.specs.declared.event.Event.{Event}
 use Rattle.tsp_base.specs.Headers.{HeaderValue}
 use Rattle.tsp_claims.specs.ClaimedHistory.{events_of}
 use Rattle.tsp_claims.specs.Fitting.{acts_of}
-use Rattle.tsp_cli.specs.AuditedRuns.{claims_of, traced}
+use Rattle.tsp_audit.specs.AuditedRuns.{claims_of, traced}
 use Rattle.tsp_run.specs.Run.{Happening, posts_by, told_from, told_of}
 
 -- the acts that happen, if any do

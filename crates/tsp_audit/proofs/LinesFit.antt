@@ -21,7 +21,7 @@ use Rattle.tsp_claims.specs.ClaimedHistory.{Claim, events_of, posts_of, step_at,
 use Rattle.tsp_claims.specs.Fitting.{AllFit, Fit, FitsAfter, IsPosted, TakesPost, TookFits, counted, lacks, untold, wants_boot}
 use Rattle.tsp_claims.specs.Listed.{booted}
 use Rattle.tsp_codec.specs.Taken.{taken_of}
-use Rattle.tsp_cli.specs.AuditedRuns.{RunsFitClaims, claims_of, last_lines, traced}
+use Rattle.tsp_audit.specs.AuditedRuns.{RunsFitClaims, claims_of, last_lines, traced}
 use Rattle.tsp_rules.specs.GateRows.{GotOn, NodeTurn, answers_all, boots_all}
 use Rattle.tsp_run.specs.declared.address.Address.{Address}
 use Rattle.tsp_run.specs.declared.posted.Posted.{Posted}
@@ -32,12 +32,12 @@ use Rattle.tsp_run.proofs.CalmPorts.{TakesOnce}
 use Rattle.tsp_run.proofs.RefusalLemmas.{allowed, handed-port, refusal-none}
 use Rattle.tsp_run.proofs.RunPromises.{posted-read}
 use Rattle.tsp_networks.proofs.MemberLemmas.{some_port}
-use Rattle.tsp_cli.proofs.ActsFit.{ActsFit, begun-after, calm-untaken, calm_fit, calm_fit_all, tallied, told_fit, took-after, wants-none, wants_tallied}
-use Rattle.tsp_cli.proofs.ClaimedPosts.{SamePost, get-ArePosts, length-ArePosts}
+use Rattle.tsp_audit.proofs.ActsFit.{ActsFit, begun-after, calm-untaken, calm_fit, calm_fit_all, tallied, told_fit, took-after, wants-none, wants_tallied}
+use Rattle.tsp_audit.proofs.ClaimedPosts.{SamePost, get-ArePosts, length-ArePosts}
 use Rattle.tsp_run.proofs.Happens.{acts_by, boot_acts, got_acts, ports_in, steps-are, taken_in, takes-or, taking, taking_row, taking_step, turn_acts}
 use Rattle.tsp_run.proofs.SealedRun.{accepted_before}
-use Rattle.tsp_cli.proofs.RunClaims.{AreOf, takes-at, told_are}
-use Rattle.tsp_cli.proofs.ClaimedEvents.{length-claims}
+use Rattle.tsp_audit.proofs.RunClaims.{AreOf, takes-at, told_are}
+use Rattle.tsp_audit.proofs.ClaimedEvents.{length-claims}
 
 -- what was taken is what was posted
 takes-post : (o : Option Claimed) (p : Posted) (a : Address) (t : Option Address) (taken : Taken) → SamePost o (Some p) → t ≡ Some a → taken ≡ Good p.datagram → TakesPost o t a.port (Peer (peer_of p.from)) taken
