@@ -1,4 +1,5 @@
 pub mod BootLemmas
+pub mod Deliveries
 pub mod Occurrences
 pub mod ReadyLemmas
 pub mod Replicates

@@ -97,7 +97,7 @@ WorldStands-acted header events e row step old new nodes acts w range none happe
     }
 
 -- where a place has a node that is up, there it is
-up_place : (places : List (Option Gateway)) (n : ℕ) (o : Option (Option Gateway)) → slice_get places n ≡ o → is_node o ≡ true → (node : Gateway) × (slice_get places n ≡ Some (Some node))
+pub up_place : (places : List (Option Gateway)) (n : ℕ) (o : Option (Option Gateway)) → slice_get places n ≡ o → is_node o ≡ true → (node : Gateway) × (slice_get places n ≡ Some (Some node))
 up_place places n None e up = absurd (true≢false (sym up))
 up_place places n (Some None) e up = absurd (true≢false (sym up))
 up_place places n (Some (Some node)) e up = (node, e)
