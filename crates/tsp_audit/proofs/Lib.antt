@@ -1,19 +1,26 @@
 pub mod AccordLemmas
 pub mod AccordSteps
 pub mod ActLemmas
+mod ActsFit
 pub mod BackLemmas
 pub mod CastLemmas
+mod ClaimedEvents
+mod ClaimedPosts
 pub mod EventLemmas
 pub mod JoinLemmas
 pub mod JudgeLemmas
+mod LinesFit
 pub mod MeasureLemmas
 pub mod NearLemmas
 pub mod NoteLemmas
 pub mod NumberedLemmas
 pub mod Prefixes
 pub mod PremiseLemmas
+mod RunClaims
 pub mod SampleLemmas
 pub mod SendPlaces
 pub mod StateLemmas
 pub mod TakeLemmas
+mod TextPremises
 pub mod ThroughLemmas
+mod TracedVerdict

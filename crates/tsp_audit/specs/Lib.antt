@@ -1,5 +1,6 @@
 pub mod Acting
 pub mod Agreeing
+pub mod AuditedRuns
 pub mod Backing
 pub mod Casting
 pub mod Changes

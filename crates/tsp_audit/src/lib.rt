@@ -28,6 +28,8 @@
 //!
 //! Claims that were taken in before are judged by [`audit::Audit::of`], which doesn't ask again whether
 //! their lines fit. It needs to know how many lines of the history stand up to the end of each event.
+//!
+//! [`laws`] has what an audit says of a run's own trace: that all parts hold.
 #![tactic(auto)]
 
 mod acting;
@@ -38,6 +40,7 @@ mod brought;
 mod casting;
 mod clock;
 mod judging;
+pub mod laws;
 mod leading;
 mod looking;
 mod measuring;

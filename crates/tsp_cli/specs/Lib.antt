@@ -1,4 +1,3 @@
-pub mod AuditedRuns
 pub mod Commands
 pub mod Headline
 pub mod Lines

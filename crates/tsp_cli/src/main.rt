@@ -5,7 +5,6 @@
 #![tactic(auto)]
 
 mod help;
-mod laws;
 mod run;
 mod status;
 #[cfg(test)]

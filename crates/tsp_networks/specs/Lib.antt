@@ -1,0 +1,4 @@
+pub mod Heads
+pub mod Posts
+pub mod Rooms
+pub mod Sheets

@@ -1,9 +1,14 @@
-//! Which networks the nodes of a schedule are on, and by which ports.
+//! Which networks the nodes of a schedule are on, by which ports, and what is posted on them.
 //!
 //! A header names its networks; where it names none, all nodes are on one. [`networks_of`] gives them;
 //! [`all_nodes`] makes that one network. [`address_of`] says where a datagram goes that a port posts, and
 //! [`room_of`] how many acts a node's step may put. [`refusals`] has the causes for which an event of
-//! the schedule is refused: by its time, by what it names and by who is up.
+//! the schedule is refused by its time, by what it names and by who is up, and [`limits`] how many events
+//! and posts there may be.
+//!
+//! A step puts its acts on a [`sheet::Sheet`], each in its line of the trace. [`tell::tell`] completes the
+//! lines, and adds what they post to the [`posts::Posts`], numbered from 0. A name may have 255 octets but
+//! mostly has few, so the octets of all names are in one list, and each post has the place of its own.
 //!
 //! ```
 //! let all = all_nodes(alloc, header.nodes().len() as u32)?;
@@ -17,16 +22,24 @@
 
 ghost use Rattle.std.specs.Prelude.{◌≡◌, ◌≤◌, [], ◌∷◌, length, true, IfOk};
 ghost use Rattle.tsp_base.specs.Headers.{has_member};
-ghost use Rattle.tsp_run.specs.Networks.{networks, numbers_below, network_at, port_from, ports_on, address_of, room};
+ghost use Rattle.tsp_networks.specs.Rooms.{AreRooms};
+ghost use Rattle.tsp_run.specs.Networks.{networks, numbers_below, peers_on, ports_on, room};
+ghost use Rattle.tsp_run.specs.Networks.{address_of, network_at, port_from};
 
 use std::alloc::{AllocError, Global};
 use tsp_base::header::Header;
 use tsp_base::members::Members;
-use tsp_base::place::{Place, Port};
+use tsp_base::place::{PeerId, Place, Port};
 use tsp_rules::room::room_for;
 use tsp_run::address::Address;
 
+mod head;
+pub mod limits;
+pub mod posts;
 pub mod refusals;
+pub mod sheet;
+pub mod tell;
+pub mod way;
 
 /// One network of so many nodes, at most 64. Fails only if out of memory.
 pub fn all_nodes(alloc: Global, count: u32) -> Result<Vec<Members>, AllocError>
@@ -76,6 +89,18 @@ fn is_in_place(numbers: &[u32], n: u32) -> bool
     }
 }
 
+/// The members of a network, as the peers of a port on it. Fails only if out of memory.
+pub fn peers_of(alloc: Global, net: &Members) -> Result<Vec<PeerId>, AllocError>
+    ensures { IfOk result (λ v. v.items ≡ peers_on net.now) }
+{
+    let mut peers = Vec::new(alloc);
+    let numbers = net.numbers();
+    for number in numbers {
+        peers.push(PeerId(*number))?;
+    }
+    Ok(peers)
+}
+
 /// How many ports a node has.
 pub fn port_count(nets: &[Members], n: u32) -> usize
     requires { length nets.now ≤ 64 }
@@ -104,6 +129,18 @@ pub fn room_of(nets: &[Members], n: u32) -> u64
         }
     }
     room
+}
+
+/// How many acts a step of each of so many nodes may put, in order, on these networks. Fails only if out of memory.
+pub fn rooms_of(alloc: Global, count: u32, nets: &[Members]) -> Result<Vec<u64>, AllocError>
+    requires { length nets.now ≤ 64 }
+    ensures { IfOk result (λ v. AreRooms nets.now v.items) }
+{
+    let mut rooms = Vec::new(alloc);
+    for node in 0..count {
+        rooms.push(room_of(nets, node))?;
+    }
+    Ok(rooms)
 }
 
 /// The number of the network of a node's port; None where the node has no such port.

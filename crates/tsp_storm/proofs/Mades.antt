@@ -23,7 +23,7 @@ use Rattle.tsp_run.specs.Refusals.{Scene, scene, refusal, time_back, unknown, la
 use Rattle.tsp_run.specs.Run.{event_at, last_at, goes_to, posts, run}
 use Rattle.tsp_run.proofs.NetworkLemmas.{goes_there}
 use Rattle.tsp_run.proofs.RefusalLemmas.{goes_to-post}
-use Rattle.tsp_world.proofs.SetupLemmas.{member_alone, some_port}
+use Rattle.tsp_networks.proofs.MemberLemmas.{member_alone, some_port}
 
 -- a generator that has given the lines of so many nodes
 pub record After (n : ℕ) (v w : StormValue) : Type 0 where

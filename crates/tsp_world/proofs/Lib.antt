@@ -1,8 +1,7 @@
 pub mod BootLemmas
-pub mod HeadLemmas
+pub mod Deliveries
 pub mod Occurrences
 pub mod ReadyLemmas
 pub mod Replicates
 pub mod SetupLemmas
-pub mod TellLemmas
 pub mod WorldLemmas

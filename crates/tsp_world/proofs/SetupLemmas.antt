@@ -1,23 +1,22 @@
 -- What a header sets its nodes up with: each can boot.
-use Rattle.std.specs.Prelude.{◌≡◌, ℕ, zero, suc, ◌+◌, ◌*◌, ◌<◌, ◌≤◌, ◌==◌, nat_le, ◌&&◌, ◌||◌, Bool, true, false, if◌then◌else◌, List, [], ◌∷◌, ◌++◌, length, map, slice_index, slice_index_or, All, refl}
-use Rattle.std.proofs.Common.{sym, ap, ◌∙◌, arith, subst, get_or, inl, inr, length-append, add-one, le-leb, leb-true, eq-eqb, eqb-true, true≢false}
-use Rattle.std.proofs.lemmas.Bool.{cases_lt, ne_eqb}
+use Rattle.std.specs.Prelude.{◌≡◌, ℕ, zero, suc, ◌+◌, ◌*◌, ◌<◌, ◌≤◌, Bool, true, false, if◌then◌else◌, List, [], ◌∷◌, ◌++◌, length, All, refl}
+use Rattle.std.proofs.Common.{sym, ap, ◌∙◌, arith, subst, get_or, inl, inr, length-append, add-one}
+use Rattle.std.proofs.lemmas.Bool.{cases_lt}
 use Rattle.std.proofs.lemmas.List.{length-map}
 use Rattle.std.proofs.lemmas.List.Elements.{All-head, All-tail}
-use Rattle.std.specs.List.{list_any}
 use Rattle.std.specs.List.Sorted.{IsStrictlyIncreasing}
 use Rattle.std.proofs.Math.ListN.{get_or-append}
 use Rattle.std.proofs.Math.Seq.{get_or-append_seam}
-use Rattle.tsp_base.specs.declared.place.PeerId.{PeerId}
-use Rattle.tsp_base.specs.Headers.{HeaderValue, IsHeader, IsNet, all_joined, has_member, is_whole}
+use Rattle.tsp_base.specs.Headers.{HeaderValue, IsHeader, IsNet, has_member}
 use Rattle.tsp_base.specs.Takings.{peer_of}
 use Rattle.tsp_base.proofs.HeaderLemmas.{length-net}
 use Rattle.tsp_gateway.specs.declared.gateway.Gateway.{Gateway}
 use Rattle.tsp_node.specs.Configs.{IsPortSetup}
 use Rattle.tsp_gateway.specs.GateConfigs.{ArePorts, GateConfigValue, peers_of_ports}
 use Rattle.tsp_gateway.specs.Rooms.{ports_in, room_of_ports}
+use Rattle.tsp_networks.proofs.MemberLemmas.{ascending-below, length-below, numbers-peers}
 use Rattle.tsp_rules.specs.NodeRows.{PortSetup}
-use Rattle.tsp_run.specs.Networks.{networks, networks_among, numbers_below, peers_on, port_on, ports_on, room}
+use Rattle.tsp_run.specs.Networks.{networks, networks_among, numbers_below, port_on, ports_on, room}
 use Rattle.tsp_run.proofs.NetworkLemmas.{is_among-peers}
 use Rattle.tsp_world.specs.Configs.{config_of, configs_below}
 use Rattle.tsp_world.specs.NodesReady.{NodeReady}
@@ -32,92 +31,6 @@ room-ready ports x node h = ap room_of_ports h.0 ∙ room-peers ports
 
 pub many-ready : (ports : List PortSetup) (x : ℕ) (node : Gateway) → NodeReady ports x node → length (ports_in node) ≡ length ports
 many-ready ports x node h = ap (λ ps. length ps) h.0 ∙ length-map ports (λ (s : PortSetup). s.peers)
-
--- whether these numbers rise, each by one at the least, and none is below this
-abbrev rises_from : ℕ → List ℕ → Bool
-rises_from least [] = true
-rises_from least (p ∷ rest) = nat_le least p && rises_from (p + 1) rest
-
--- the least number behind some others
-next : ℕ → List ℕ → ℕ
-next least [] = least
-next least (p ∷ rest) = next (p + 1) rest
-
-next-append : (least : ℕ) (ps : List ℕ) (q : ℕ) → next least (ps ++ q ∷ []) ≡ q + 1
-unfolding next
-next-append least [] q = refl
-next-append least (p ∷ rest) q = next-append (p + 1) rest q
-
--- both tests hold
-and-true : (a b : Bool) → (a && b) ≡ true → (a ≡ true) × (b ≡ true)
-and-true true b e = (refl, e)
-and-true false b e = let bad : ⊥ = cc in absurd bad
-
-rises-append : (least : ℕ) (ps : List ℕ) (q : ℕ) → rises_from least ps ≡ true → next least ps ≤ q → rises_from least (ps ++ q ∷ []) ≡ true
-unfolding next
-rises-append least [] q e h = rw (le-leb least q h) refl
-rises-append least (p ∷ rest) q e h = let both = and-true (nat_le least p) (rises_from (p + 1) rest) e in rw both.0 (rises-append (p + 1) rest q both.1 h)
-
-next-below : (n : ℕ) → next 0 (numbers_below n) ≡ n
-unfolding next
-next-below zero = refl
-next-below (suc n) = next-append 0 (numbers_below n) n ∙ add-one n
-
--- the numbers of all nodes rise
-rises-below : (n : ℕ) → rises_from 0 (numbers_below n) ≡ true
-rises-below zero = refl
-rises-below (suc n) = rises-append 0 (numbers_below n) n (rises-below n) (let e = next-below n in omega (arith, e))
-
--- the next number is no less than the last one
-rises-first : (least p : ℕ) (rest : List ℕ) (k : ℕ) → rises_from least (p ∷ rest) ≡ true → k < length (p ∷ rest) → least ≤ slice_index (p ∷ rest) k
-rises-first least p rest zero e h = leb-true least p (and-true (nat_le least p) (rises_from (p + 1) rest) e).0
-rises-first least p [] (suc k) e h = absurd (omega (arith, h))
-rises-first least p (q ∷ rest) (suc k) e h =
-    let both = and-true (nat_le least p) (rises_from (p + 1) (q ∷ rest)) e in
-    let first = leb-true least p both.0 in
-    let later = rises-first (p + 1) q rest k both.1 (omega (arith, h)) in
-    omega (arith, first, later)
-
--- each number is below the one behind it
-rises-next : (least : ℕ) (ps : List ℕ) → rises_from least ps ≡ true → (k : ℕ) → suc k < length ps → slice_index ps k < slice_index ps (suc k)
-rises-next least [] e k h = absurd (omega (arith, h))
-rises-next least (p ∷ []) e k h = absurd (omega (arith, h))
-rises-next least (p ∷ q ∷ rest) e zero h =
-    let both = and-true (nat_le least p) (rises_from (p + 1) (q ∷ rest)) e in
-    let next = rises-first (p + 1) q rest 0 both.1 (omega arith) in
-    omega (arith, next)
-rises-next least (p ∷ q ∷ rest) e (suc k) h =
-    let both = and-true (nat_le least p) (rises_from (p + 1) (q ∷ rest)) e in
-    rises-next (p + 1) (q ∷ rest) both.1 k (omega (arith, h))
-
--- numbers that rise are strictly ascending
-ascending-below : (n : ℕ) → IsStrictlyIncreasing (numbers_below n)
-ascending-below n k h = subst (λ m. slice_index (numbers_below n) k < slice_index (numbers_below n) m) (sym (add-one k)) (rises-next 0 (numbers_below n) (rises-below n) k (omega (arith, h)))
-
-length-below : (n : ℕ) → length (numbers_below n) ≡ n
-length-below zero = refl
-length-below (suc n) = length-append (numbers_below n) (n ∷ []) ∙ ap (λ k. k + 1) (length-below n) ∙ add-one n
-
-any-append : (n : ℕ) (ms : List ℕ) (m : ℕ) → has_member n (ms ++ m ∷ []) ≡ (has_member n ms || (m == n))
-any-append n [] m = elim (m == n) as (λ b. (b || false) ≡ b) [ true ↦ refl | false ↦ refl ]
-any-append n (k ∷ rest) m = elim (k == n) as (λ b. (b || has_member n (rest ++ m ∷ [])) ≡ ((b || has_member n rest) || (m == n))) [ true ↦ refl | false ↦ any-append n rest m ]
-
-or-right : (a : Bool) → (a || true) ≡ true
-or-right true = refl
-or-right false = refl
-
--- each node is among all nodes
-member-below : (n m : ℕ) → m < n → has_member m (numbers_below n) ≡ true
-member-below zero m h = absurd (omega (arith, h))
-member-below (suc n) m h = any-append m (numbers_below n) n ∙ (elim (cases_lt m n) [
-  | inl lt ↦ rw (member-below n m lt) refl
-  | inr ge ↦ (let same : (n == m) ≡ true = eq-eqb n m (omega (arith, h, ge)) in rw same (or-right (has_member m (numbers_below n))))
-])
-
--- the peers of a port have their network's numbers
-numbers-peers : (net : List ℕ) → map (λ (q : PeerId). q.0) (peers_on net) ≡ net
-numbers-peers [] = refl
-numbers-peers (n ∷ rest) = ap (λ l. n ∷ l) (numbers-peers rest)
 
 can-have : (n : ℕ) (net : List ℕ) → length net ≤ 64 → IsStrictlyIncreasing net → has_member n net ≡ true → IsPortSetup (port_on n net)
 can-have n net few ascending m = record {
@@ -142,26 +55,6 @@ can_boot header is n = by_nets header.nets is.nets_are where
     by_member false m = tt
   by_nets (net ∷ rest) all = are-ports n (net ∷ rest) (λ k d lt. let one = all k d lt in ((let le = length-net (length header.nodes) _ one in let few = is.few in omega (arith, le, few)), one.ascending))
 
-joined-some : (n : ℕ) (nets : List (List ℕ)) → list_any (has_member n) nets ≡ true → 1 ≤ length (ports_on n nets)
-joined-some n [] e = absurd (true≢false (sym e))
-joined-some n (net ∷ rest) e = by_member (has_member n net) (λ f. joined-some n rest f) e where
-  by_member : (b : Bool) → (list_any (has_member n) rest ≡ true → 1 ≤ length (ports_on n rest)) → (b || list_any (has_member n) rest) ≡ true → 1 ≤ length (if b then port_on n net ∷ ports_on n rest else ports_on n rest)
-  by_member true more e = omega arith
-  by_member false more e = more e
-
-joined-below : (n count : ℕ) (nets : List (List ℕ)) → all_joined count nets ≡ true → n < count → list_any (has_member n) nets ≡ true
-joined-below n zero nets e h = absurd (omega (arith, h))
-joined-below n (suc count) nets e h =
-    let both = and-true (all_joined count nets) (list_any (has_member count) nets) e in
-    elim (cases_lt n count) [ inl lt ↦ joined-below n count nets both.0 lt | inr ge ↦ (let same : count ≡ n = omega (arith, h, ge) in subst (λ m. list_any (has_member m) nets ≡ true) same both.1) ]
-
--- each node of a whole header has a port
-pub some_port : (header : HeaderValue) → is_whole header ≡ true → (n : ℕ) → n < length header.nodes → 1 ≤ length (ports_on n (networks header))
-some_port header whole n h = by_nets header.nets whole where
-  by_nets : (nets : List (List ℕ)) → ((length nets == 0) || all_joined (length header.nodes) nets) ≡ true → 1 ≤ length (ports_on n (networks_among (length header.nodes) nets))
-  by_nets [] e = joined-some n (numbers_below (length header.nodes) ∷ []) (let m = member-below (length header.nodes) n h in rw m refl)
-  by_nets (net ∷ rest) e = joined-some n (net ∷ rest) (joined-below n (length header.nodes) (net ∷ rest) (let some : (length (net ∷ rest) == 0) ≡ false = ne_eqb (length (net ∷ rest)) 0 (λ z. absurd (omega (arith, z))) in rw some at e) h)
-
 pub length-configs_below : (header : HeaderValue) (n : ℕ) → length (configs_below header n) ≡ n
 length-configs_below header zero = refl
 length-configs_below header (suc n) = length-append (configs_below header n) (config_of header n ∷ []) ∙ ap (λ k. k + 1) (length-configs_below header n) ∙ add-one n
@@ -177,47 +70,3 @@ get_or-configs_below header (suc count) n d h =
           subst (λ k. get_or (configs_below header count ++ config_of header count ∷ []) k d ≡ config_of header k) (sym same)
           (subst (λ k. get_or (configs_below header count ++ config_of header count ∷ []) k d ≡ config_of header count) len (get_or-append_seam (configs_below header count) (config_of header count) [] d)))
     ]
-
--- a step's room has place for a boot
-pub room-many : (ports : List PortSetup) → 256 * length ports ≤ room ports
-room-many [] = omega arith
-room-many (s ∷ rest) = let more = room-many rest in omega (arith, more)
-
-below-member : (count n : ℕ) → has_member n (numbers_below count) ≡ true → n < count
-below-member zero n e = absurd (true≢false (sym e))
-below-member (suc count) n e = by_case (has_member n (numbers_below count)) (λ f. below-member count n f) (count == n) refl (sym (any-append n (numbers_below count) count) ∙ e) where
-  by_case : (a : Bool) → (a ≡ true → n < count) → (b : Bool) → (count == n) ≡ b → (a || b) ≡ true → n < suc count
-  by_case true more b same e = let lt = more refl in omega (arith, lt)
-  by_case false more true same e = let is = eqb-true count n same in omega (arith, is)
-  by_case false more false same e = absurd (true≢false (sym e))
-
-in-net : (count n : ℕ) (net : List ℕ) → All (λ m. m < count) net → has_member n net ≡ true → n < count
-in-net count n [] all e = absurd (true≢false (sym e))
-in-net count n (m ∷ rest) all e = by_case (m == n) refl (λ f. in-net count n rest (All-tail (λ m. m < count) m rest all) f) e where
-  by_case : (b : Bool) → (m == n) ≡ b → (has_member n rest ≡ true → n < count) → (b || has_member n rest) ≡ true → n < count
-  by_case true same more e = subst (λ k. k < count) (eqb-true m n same) (All-head (λ m. m < count) m rest all)
-  by_case false same more e = more e
-
-in-nets : (count n k : ℕ) (nets : List (List ℕ)) → All (IsNet count) nets → has_member n (slice_index_or nets k []) ≡ true → n < count
-in-nets count n k [] all e = absurd (true≢false (sym e))
-in-nets count n zero (net ∷ rest) all e = in-net count n net (All-head (IsNet count) net rest all).known e
-in-nets count n (suc k) (net ∷ rest) all e = in-nets count n k rest (All-tail (IsNet count) net rest all) e
-
--- where the header names no network, who is on that of all nodes is a node
-pub member_alone : (count n k : ℕ) → has_member n (slice_index_or (networks_among count []) k []) ≡ true → n < count
-member_alone count n zero e = below-member count n e
-member_alone count n (suc k) e = absurd (true≢false (sym e))
-
--- who is on a network is a node
-pub member_known : (header : HeaderValue) → IsHeader header → (n k : ℕ) → has_member n (slice_index_or (networks header) k []) ≡ true → n < length header.nodes
-member_known header is n k e = by_nets header.nets is.nets_are k e where
-  by_nets : (nets : List (List ℕ)) → All (IsNet (length header.nodes)) nets → (k : ℕ) → has_member n (slice_index_or (networks_among (length header.nodes) nets) k []) ≡ true → n < length header.nodes
-  by_nets [] all k e = member_alone (length header.nodes) n k e
-  by_nets (net ∷ rest) all k e = in-nets (length header.nodes) n k (net ∷ rest) all e
-
--- the ports on a network, and those on others
-pub ports_on-one : (n : ℕ) (net : List ℕ) (rest : List (List ℕ)) → ports_on n (net ∷ []) ++ ports_on n rest ≡ ports_on n (net ∷ rest)
-ports_on-one n net rest = by_member (has_member n net) where
-  by_member : (b : Bool) → (if b then port_on n net ∷ [] else []) ++ ports_on n rest ≡ (if b then port_on n net ∷ ports_on n rest else ports_on n rest)
-  by_member true = refl
-  by_member false = refl

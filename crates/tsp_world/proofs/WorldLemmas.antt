@@ -20,7 +20,7 @@ use Rattle.tsp_run.specs.Ranges.{Accepted, IsInRange}
 use Rattle.tsp_run.specs.Refusals.{scene, refusal}
 use Rattle.tsp_run.specs.Run.{run, joins, happening, steps, step_tick, event_at}
 use Rattle.tsp_run.specs.Setup.{past_of, rests}
-use Rattle.tsp_world.specs.Sheets.{acts_on}
+use Rattle.tsp_networks.specs.Sheets.{acts_on}
 use Rattle.tsp_world.specs.WorldStands.{WorldStands, PlaceStands, UpBegun, UpStands, Notes, Passes, up_at, is_node, scene_of}
 use Rattle.tsp_gateway.proofs.StepLemmas.{GatewayStands_step, GatewayBegun_in_step}
 use Rattle.tsp_run.proofs.NetworkLemmas.{some_same}
@@ -97,7 +97,7 @@ WorldStands-acted header events e row step old new nodes acts w range none happe
     }
 
 -- where a place has a node that is up, there it is
-up_place : (places : List (Option Gateway)) (n : ℕ) (o : Option (Option Gateway)) → slice_get places n ≡ o → is_node o ≡ true → (node : Gateway) × (slice_get places n ≡ Some (Some node))
+pub up_place : (places : List (Option Gateway)) (n : ℕ) (o : Option (Option Gateway)) → slice_get places n ≡ o → is_node o ≡ true → (node : Gateway) × (slice_get places n ≡ Some (Some node))
 up_place places n None e up = absurd (true≢false (sym up))
 up_place places n (Some None) e up = absurd (true≢false (sym up))
 up_place places n (Some (Some node)) e up = (node, e)

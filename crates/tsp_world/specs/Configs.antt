@@ -1,8 +1,8 @@
 -- The configurations of a schedule's nodes.
-use Rattle.std.specs.Prelude.{◌≡◌, ℕ, zero, suc, ◌≤◌, List, [], ◌∷◌, ◌++◌, Some, slice_get}
+use Rattle.std.specs.Prelude.{ℕ, zero, suc, List, [], ◌∷◌, ◌++◌}
 use Rattle.tsp_base.specs.Headers.{HeaderValue}
 use Rattle.tsp_gateway.specs.GateConfigs.{GateConfigValue}
-use Rattle.tsp_run.specs.Networks.{networks, ports_on, room}
+use Rattle.tsp_run.specs.Networks.{networks, ports_on}
 use Rattle.tsp_run.specs.Setup.{node_line}
 
 -- the configuration of a node: a port for each of its networks
@@ -18,7 +18,3 @@ config_of header n = record {
 abbrev pub configs_below : HeaderValue → ℕ → List GateConfigValue
 configs_below header zero = []
 configs_below header (suc n) = configs_below header n ++ config_of header n ∷ []
-
--- each of these numbers, by its place, is how many acts a step of the node with that number may put on these networks
-abbrev pub AreRooms : List (List ℕ) → List ℕ → Type 0
-AreRooms nets rooms = (n r : ℕ) → slice_get rooms n ≡ Some r → (r ≡ room (ports_on n nets)) × (r ≤ 200000)

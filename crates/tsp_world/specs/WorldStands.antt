@@ -16,7 +16,7 @@ use Rattle.tsp_run.specs.Ranges.{IsInRange}
 use Rattle.tsp_run.specs.Refusals.{Scene, Valid, scene, refusal, IsRefusal}
 use Rattle.tsp_run.specs.Run.{run, posts, last_at, gained, event_at, happening, steps, posts_from, told_from}
 use Rattle.tsp_run.specs.Setup.{past_of, rests}
-use Rattle.tsp_world.specs.Sheets.{acts_on}
+use Rattle.tsp_networks.specs.Sheets.{acts_on}
 
 -- a place of the world's nodes has a node that is up and stands for its past, or one that hasn't booted
 abbrev pub PlaceStands : HeaderValue → List Line → ℕ → Option Gateway → Type 0

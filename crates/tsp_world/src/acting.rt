@@ -12,12 +12,11 @@ ghost use Rattle.tsp_run.specs.Networks.{networks, ports_on, room};
 ghost use Rattle.tsp_run.specs.Refusals.{Allowed};
 ghost use Rattle.tsp_run.specs.Run.{goes_to};
 ghost use Rattle.tsp_run.specs.Setup.{node_line};
-ghost use Rattle.tsp_world.specs.Sheets.{acts_on};
+ghost use Rattle.tsp_networks.specs.Sheets.{acts_on};
 ghost use Rattle.tsp_world.specs.WorldStands.{scene_of, IsReady, CanStep, CanNote, Notes, Passes};
 ghost use Rattle.tsp_world.specs.WorldStands.{Happens, HappensBy, Stays};
 
 use crate::step;
-use crate::tell::tell;
 use crate::world::World;
 use std::alloc::AllocError;
 use tsp_base::datagram::Taken;
@@ -25,6 +24,7 @@ use tsp_base::drift::tick_at;
 use tsp_base::header::NodeLine;
 use tsp_base::place::{PeerId, Place, Port};
 use tsp_gateway::Gateway;
+use tsp_networks::tell::tell;
 use tsp_node::BootFault;
 use tsp_run::address::Address;
 
@@ -148,7 +148,7 @@ impl World {
         ensures { Notes self.old.last node tick self.old.header self.old.nodes.items self.old.events
             self.old.sent.items (acts_on self.old.desk) self.new }
     {
-        if self.desk.lines.is_empty() {
+        if self.desk.is_empty() {
             self.events += 1;
             self.lines.clear();
         } else {

@@ -15,19 +15,13 @@
 //! assert!(matches!(fault, Err(EventFault::NoNode(1, 1))));
 //! ```
 //!
-//! [`posts::Posts`] has the posted datagrams, numbered from 0. A name may have 255 octets but mostly has
-//! few, so the octets of all names are in one list, and each post has the place of its own.
+//! What needs no node is in `tsp_networks`: who is on which network, the posted datagrams, and the lines of a
+//! step's acts.
 #![tactic(auto)]
 
 mod acting;
 mod events;
-mod head;
-mod limits;
-pub mod posts;
 mod refusing;
 mod setup;
-mod sheet;
 mod step;
-mod tell;
-pub mod way;
 pub mod world;

@@ -6,12 +6,12 @@ ghost use Rattle.tsp_run.specs.Refusals.{refusal, down_at, first_of, limit};
 ghost use Rattle.tsp_run.specs.Run.{goes_to};
 ghost use Rattle.tsp_world.specs.WorldStands.{scene_of, up_at};
 
-use crate::limits::limit;
 use crate::world::World;
 use tsp_base::event::EventFault;
 use tsp_base::members::Members;
 use tsp_base::place::{Place, Port};
 use tsp_gateway::Gateway;
+use tsp_networks::limits::limit;
 use tsp_networks::refusals::absent;
 use tsp_networks::{networks_of, room_of};
 use tsp_run::address::Address;

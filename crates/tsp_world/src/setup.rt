@@ -1,14 +1,14 @@
 //! The configurations of a schedule's nodes.
-ghost use Rattle.std.specs.Prelude.{◌≡◌, ◌≤◌, [], ◌∷◌, ◌++◌, length, vec_len, replicate, None, IfOk, OnOk};
-ghost use Rattle.tsp_run.specs.Networks.{networks, peers_on, ports_on};
-ghost use Rattle.tsp_world.specs.Configs.{configs_below, AreRooms};
+ghost use Rattle.std.specs.Prelude.{◌≡◌, [], ◌∷◌, ◌++◌, length, vec_len, replicate, None, IfOk, OnOk};
+ghost use Rattle.tsp_run.specs.Networks.{networks, ports_on};
+ghost use Rattle.tsp_world.specs.Configs.{configs_below};
 
 use std::alloc::{AllocError, Global};
 use tsp_base::header::{Header, NodeLine};
 use tsp_base::members::Members;
 use tsp_base::place::PeerId;
 use tsp_gateway::{GateConfig, Gateway};
-use tsp_networks::room_of;
+use tsp_networks::peers_of;
 
 /// The configuration of each node of a header, in order, on these networks. Fails only if out of memory.
 pub(crate) fn configs_of(
@@ -70,30 +70,6 @@ fn join(
         Ok(()) => Ok(()),
         Err(_) => Err(AllocError),
     }
-}
-
-/// The members of a network, as the peers of a port on it. Fails only if out of memory.
-fn peers_of(alloc: Global, net: &Members) -> Result<Vec<PeerId>, AllocError>
-    ensures { IfOk result (λ v. v.items ≡ peers_on net.now) }
-{
-    let mut peers = Vec::new(alloc);
-    let numbers = net.numbers();
-    for number in numbers {
-        peers.push(PeerId(*number))?;
-    }
-    Ok(peers)
-}
-
-/// How many acts a step of each of so many nodes may put, in order, on these networks. Fails only if out of memory.
-pub(crate) fn rooms_of(alloc: Global, count: u32, nets: &[Members]) -> Result<Vec<u64>, AllocError>
-    requires { length nets.now ≤ 64 }
-    ensures { IfOk result (λ v. AreRooms nets.now v.items) }
-{
-    let mut rooms = Vec::new(alloc);
-    for node in 0..count {
-        rooms.push(room_of(nets, node))?;
-    }
-    Ok(rooms)
 }
 
 /// So many places, in none of which a node is up. Fails only if out of memory.

@@ -5,13 +5,13 @@ ghost use Rattle.tsp_rules.specs.NodePerforms.{PerformsAll};
 ghost use Rattle.tsp_rules.specs.NodeRows.{PortSetup};
 ghost use Rattle.tsp_run.specs.Networks.{room};
 ghost use Rattle.tsp_world.specs.NodesReady.{PlaceReady, CanAct, CanTake};
-ghost use Rattle.tsp_world.specs.Sheets.{acts_on};
+ghost use Rattle.tsp_networks.specs.Sheets.{acts_on};
 ghost use Rattle.tsp_world.specs.WorldStands.{UpBegun, UpStands};
 
-use crate::sheet::Sheet;
 use tsp_base::datagram::Taken;
 use tsp_base::place::{Place, Port};
 use tsp_gateway::Gateway;
+use tsp_networks::sheet::Sheet;
 
 /// A node looks at its timers, if it is up.
 pub(crate) fn turn(place: &mut Option<Gateway>, tick: u64, desk: &mut Sheet)

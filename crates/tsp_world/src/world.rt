@@ -3,23 +3,22 @@ ghost use Rattle.std.specs.Prelude.{◌≡◌, ◌≤◌, [], ◌∷◌, List, t
 ghost use Rattle.std.specs.Prelude.{OnErr, MatchResult, slice_get, None};
 ghost use Rattle.tsp_base.specs.Headers.{is_whole};
 ghost use Rattle.tsp_run.specs.Networks.{networks};
-ghost use Rattle.tsp_world.specs.Configs.{AreRooms};
+ghost use Rattle.tsp_networks.specs.Rooms.{AreRooms};
 ghost use Rattle.tsp_world.specs.NodesReady.{NodesReady};
 
-use crate::posts::Posts;
-use crate::setup::{configs_of, places_of, rooms_of};
-use crate::sheet::Sheet;
+use crate::setup::{configs_of, places_of};
 use std::alloc::{AllocError, Global};
 use tsp_base::desk::Desk;
 use tsp_base::event::{Event, EventFault};
 use tsp_base::header::Header;
 use tsp_base::members::Members;
 use tsp_gateway::{GateConfig, Gateway};
-use tsp_networks::{all_nodes, networks_of};
+use tsp_networks::posts::Posts;
+use tsp_networks::sheet::Sheet;
+use tsp_networks::{all_nodes, networks_of, rooms_of};
 use tsp_run::line::Line;
 
 /// The nodes of a schedule, the datagrams that they posted, and the lines of the last event.
-#[derive(Drop)]
 pub struct World {
     /// The allocator, for boots.
     pub(crate) alloc: Global,
@@ -48,6 +47,25 @@ pub struct World {
     ghost few_events: { events ≤ 200000 },
     ghost few_posts: { length sent.items ≤ 1000000 },
     ghost ready: { NodesReady header one.items nodes.items configs.items last },
+}
+
+// Not derived, so that whoever drops a world relies on this, and doesn't take its parts apart once more.
+impl Drop for World {
+    fn drop(self) {
+        let World {
+            alloc: _,
+            header: _,
+            one: _,
+            configs: _,
+            rooms: _,
+            nodes: _,
+            sent: _,
+            lines: _,
+            desk: _,
+            events: _,
+            last: _,
+        } = self;
+    }
 }
 
 impl World {

@@ -6,8 +6,8 @@ use tsp_base::message::{Body, Message};
 use tsp_base::name::Name;
 use tsp_base::place::{PeerId, Place, Port};
 use tsp_base::stamp::Stamp;
-use tsp_world::posts::Posts;
-use tsp_world::way::Way;
+use tsp_networks::posts::Posts;
+use tsp_networks::way::Way;
 
 /// A name of the greatest length.
 const LONG: [u8; 255] = [b'x'; 255];

@@ -3,7 +3,7 @@ use Rattle.std.proofs.Common.{◌≡◌, ◌∙◌, ◌+◌, ap, sym, drop, List
 use Rattle.std.proofs.lemmas.List.{drop_more}
 use Rattle.tsp_gateway.specs.GateConfigs.{GateConfigValue}
 use Rattle.tsp_run.specs.Networks.{ports_on}
-use Rattle.tsp_world.proofs.SetupLemmas.{ports_on-one}
+use Rattle.tsp_networks.proofs.MemberLemmas.{ports_on-one}
 use Rattle.tsp_world.proofs.setup.config_of.Goals as goal
 
 pub loop-net-preserved : goal.loop-net-preserved

@@ -11,7 +11,7 @@ use Rattle.tsp_base.specs.History.{Turned}
 use Rattle.tsp_run.specs.Refusals.{scene}
 use Rattle.tsp_run.proofs.RefusalLemmas.{refusal-none, up-down}
 use Rattle.tsp_world.specs.NodesReady.{PlaceReady}
-use Rattle.tsp_world.specs.Sheets.{acts_on}
+use Rattle.tsp_networks.specs.Sheets.{acts_on}
 use Rattle.tsp_world.specs.WorldStands.{Notes, UpBegun, UpStands}
 use Rattle.tsp_world.proofs.ReadyLemmas.{NodesReady-later, NodesReady-set, CanAct-ready, PlaceReady-acts, place_there}
 use Rattle.tsp_world.proofs.WorldLemmas.{WorldStands-handed, Alike-stands, in_header}

@@ -3,7 +3,7 @@ use Rattle.std.proofs.Common.{◌≡◌, ◌∙◌, ap, refl, sym, subst, rules,
 use Rattle.tsp_run.specs.Networks.{numbers_below}
 use Rattle.std.proofs.lemmas.List.Elements.{All-nil}
 use Rattle.tsp_run.specs.Ranges.{IsInRange}
-use Rattle.tsp_world.specs.Configs.{AreRooms}
+use Rattle.tsp_networks.specs.Rooms.{AreRooms}
 use Rattle.tsp_world.specs.WorldStands.{PlaceStands}
 use Rattle.tsp_world.proofs.Replicates.{slice_get-replicate}
 use Rattle.tsp_world.proofs.world.World.new.Goals as goal

@@ -7,7 +7,7 @@ use Rattle.tsp_rules.specs.NodePerforms.{PerformsAll}
 use Rattle.tsp_run.specs.Networks.{networks, ports_on}
 use Rattle.tsp_run.specs.Setup.{node_line}
 use Rattle.tsp_world.specs.NodesReady.{PlaceReady}
-use Rattle.tsp_world.specs.Sheets.{acts_on}
+use Rattle.tsp_networks.specs.Sheets.{acts_on}
 use Rattle.tsp_world.specs.WorldStands.{Notes, UpBegun, UpStands}
 use Rattle.tsp_world.proofs.ReadyLemmas.{NodesReady-later, NodesReady-set, CanTake-ready, PlaceReady-acts, place_there}
 use Rattle.tsp_world.proofs.WorldLemmas.{WorldStands-handed, in_header}

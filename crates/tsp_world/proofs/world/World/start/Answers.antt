@@ -14,12 +14,13 @@ use Rattle.tsp_run.specs.Setup.{node_line, past_of}
 use Rattle.tsp_run.proofs.NetworkLemmas.{some_same}
 use Rattle.tsp_world.specs.Configs.{config_of}
 use Rattle.tsp_world.specs.NodesReady.{NodeReady}
-use Rattle.tsp_world.specs.Sheets.{acts_on}
+use Rattle.tsp_networks.specs.Sheets.{acts_on}
 use Rattle.tsp_world.specs.WorldStands.{Notes, PlaceStands}
 use Rattle.tsp_world.proofs.BootLemmas.{boots-up}
 use Rattle.tsp_world.proofs.ReadyLemmas.{NodesReady-later, NodesReady-set}
 use Rattle.tsp_gateway.proofs.LiftLemmas.{set_cases}
-use Rattle.tsp_world.proofs.SetupLemmas.{can_boot, get_or-configs_below, length-configs_below, room-many, some_port}
+use Rattle.tsp_networks.proofs.MemberLemmas.{room-many, some_port}
+use Rattle.tsp_world.proofs.SetupLemmas.{can_boot, get_or-configs_below, length-configs_below}
 use Rattle.tsp_world.proofs.WorldLemmas.{WorldStands-acted, PlaceStands-acted, in_header}
 use Rattle.tsp_world.proofs.world.World.start.Goals as goal
 use Rattle.tsp_world.proofs.world.World.start.Goals.{After-index-config}

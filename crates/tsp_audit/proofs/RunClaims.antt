@@ -1,0 +1,168 @@
+-- What is told of a run, where it is claimed, makes the run, posts what it posts, and boots whom it boots.
+use Rattle.std.specs.Prelude.{◌≡◌, ℕ, ◌+◌, ◌==◌, Bool, true, false, ◌||◌, if◌then◌else◌, List, [], ◌∷◌, ◌++◌, length, Option, None, Some, slice_get, refl}
+use Rattle.std.proofs.Common.{ap, ◌∙◌, sym, subst, inl, inr, eqb-true, append-nil}
+use Rattle.tsp_base.specs.declared.act.Act.TheVariants.{Boot}
+use Rattle.tsp_base.specs.declared.act.Placed.{Placed}
+use Rattle.tsp_base.specs.declared.event.Event.{Event}
+use Rattle.tsp_base.specs.declared.event.Event.TheVariants.{Boot as BootAt, Turn, Take, Bytes}
+use Rattle.tsp_base.specs.declared.place.Place.TheVariants.{Peer}
+use Rattle.tsp_base.specs.Headers.{HeaderValue, IsHeader}
+use Rattle.tsp_base.specs.History.{Acts, Begins, Handed, Line, Step, Turned, dids, of}
+use Rattle.tsp_base.specs.Joins.{first_port, line_of, stepped}
+use Rattle.tsp_base.specs.NodeFacts.{up}
+use Rattle.tsp_base.specs.Takings.{peer_of}
+use Rattle.tsp_claims.specs.declared.claimed.Claimed.{Claimed}
+use Rattle.tsp_claims.specs.ClaimedHistory.{Claim, awake, claimed, events_of, joins_acts, makes_step, posts_by, posts_of, reaches as claim_reaches, step_of, taker, takes_step}
+use Rattle.tsp_claims.specs.Fitting.{acts_of}
+use Rattle.tsp_claims.specs.Listed.{booted, boots}
+use Rattle.tsp_codec.specs.Canon.{canon}
+use Rattle.tsp_codec.specs.Taken.{taken_of}
+use Rattle.tsp_audit.specs.AuditedRuns.{claims_of, last_lines}
+use Rattle.tsp_rules.specs.GateRows.{GotOn, NodeTurn, answers_all, boots_all}
+use Rattle.tsp_run.specs.Networks.{networks}
+use Rattle.tsp_run.specs.Ranges.{Accepted}
+use Rattle.tsp_run.specs.Refusals.{down, node_in, refusal, scene}
+use Rattle.tsp_run.specs.Run.{Happening, boot_step, goes_to, happening, joins, posts, posts_from, run, step_tick}
+use Rattle.tsp_run.proofs.RefusalLemmas.{allowed, up-down}
+use Rattle.tsp_run.proofs.SealedRun.{accepted_before}
+use Rattle.tsp_run.proofs.RunLemmas.{posts_stepped, stepped_other, stepped_own, up_joined}
+use Rattle.tsp_audit.proofs.ClaimedPosts.{ArePosts, ArePosts-append, get-ArePosts, goes-same, posts_of_acts}
+use Rattle.tsp_run.proofs.Happens.{Arrives, acts_by, boot_acts, got_acts, stepping, steps-are, takes-or, taking, taking_row, taking_step}
+use Rattle.tsp_audit.proofs.ClaimedEvents.{acts-told_of, happened}
+
+-- a step is that of what happens; none, where nothing does
+abbrev pub IsStep : HeaderValue → Option Happening → Option Step → Type 0
+IsStep header None None = Unit {0}
+IsStep header (Some h) (Some step) = (h.step ≡ step) × (h.tick ≡ step_tick header step)
+IsStep header _ _ = ⊥
+
+-- claims are those of a run: they make its history, they claim its posts, and whom they boot is up
+pub record AreOf (header : HeaderValue) (claims : List Claim) (history : List Line) : Type 0 where
+  pub history_is : claimed header claims ≡ history
+  pub posts_are : ArePosts (posts_of header claims) (posts history)
+  pub up_is : (n : ℕ) → booted (events_of claims) n ≡ up (dids (of n history))
+
+-- the history grows alike
+joins-alike : (header : HeaderValue) (o : Option Happening) (s : Option Step) (before history : List Line) → IsStep header o s → before ≡ history → joins_acts header s (happened o) before ≡ joins o history
+joins-alike header None None before history is e = e
+joins-alike header None (Some s) before history is e = absurd is
+joins-alike header (Some h) None before history is e = absurd is
+joins-alike header (Some h) (Some s) before history is e =
+    ap (λ x. stepped s x h.acts before) (sym is.1) ∙ ap (λ t. stepped t h.tick h.acts before) (sym is.0) ∙ ap (λ l. stepped h.step h.tick h.acts l) e
+
+-- and so do the posts
+posts-alike : (header : HeaderValue) (event : ℕ) (o : Option Happening) (s : Option Step) (cs : List Claimed) (history : List Line) → IsStep header o s → ArePosts cs (posts history) → ArePosts (cs ++ posts_by event s (happened o)) (posts (joins o history))
+posts-alike header event None None cs history is a = subst (λ ps. ArePosts (cs ++ []) ps) (append-nil (posts history)) (ArePosts-append cs [] (posts history) [] a tt)
+posts-alike header event None (Some s) cs history is a = absurd is
+posts-alike header event (Some h) None cs history is a = absurd is
+posts-alike header event (Some h) (Some s) cs history is a =
+    subst (λ ps. ArePosts (cs ++ posts_by event (Some s) h.acts) ps) (sym (posts_stepped h.step h.tick h.acts history))
+    (subst (λ t. ArePosts (cs ++ posts_by event (Some s) h.acts) (posts history ++ posts_from t.at t.node h.acts)) (sym is.0)
+    (ArePosts-append cs (posts_by event (Some s) h.acts) (posts history) (posts_from s.at s.node h.acts) a (posts_of_acts event s h.acts)))
+
+-- a step of a node that is up leaves each node as it is
+up-stays : (step : Step) (x : ℕ) (acts : List Placed) (h : List Line) (n : ℕ) → up (dids (of step.node h)) ≡ true → up (dids (of n (stepped step x acts h))) ≡ up (dids (of n h))
+up-stays step x acts h n is = by_case (step.node == n) refl where
+  by_case : (b : Bool) → (step.node == n) ≡ b → up (dids (of n (stepped step x acts h))) ≡ up (dids (of n h))
+  by_case true e =
+      let here : up (dids (of n h)) ≡ true = subst (λ m. up (dids (of m h)) ≡ true) (eqb-true step.node n e) is in
+      ap (λ l. up (dids l)) (stepped_own n step x acts h e) ∙ up_joined step x acts (line_of step x first_port Begins ∷ of n h) here ∙ sym here
+  by_case false e = ap (λ l. up (dids l)) (stepped_other n step x acts h e)
+
+-- a step that begins with a Boot wakes its node
+up-boots : (step : Step) (x : ℕ) (rest : List Placed) (h : List Line) (n : ℕ) → up (dids (of n (stepped step x (record { port = first_port; act = Boot } ∷ rest) h))) ≡ ((step.node == n) || up (dids (of n h)))
+up-boots step x rest h n = by_case (step.node == n) refl where
+  by_case : (b : Bool) → (step.node == n) ≡ b → up (dids (of n (stepped step x (record { port = first_port; act = Boot } ∷ rest) h))) ≡ (b || up (dids (of n h)))
+  by_case true e =
+      ap (λ l. up (dids l)) (stepped_own n step x (record { port = first_port; act = Boot } ∷ rest) h e)
+      ∙ up_joined step x rest (line_of step x first_port (Acts Boot) ∷ line_of step x first_port Begins ∷ of n h) refl
+  by_case false e = ap (λ l. up (dids l)) (stepped_other n step x (record { port = first_port; act = Boot } ∷ rest) h e)
+
+-- acts among which one stands make the step of a take
+makes-some : (at k : ℕ) (before after : List Placed) (p : Placed) → makes_step (Take at k) (before ++ p ∷ after) ≡ true
+makes-some at k [] after p = refl
+makes-some at k (q ∷ before) after p = refl
+
+module _ {header : HeaderValue} (is : IsHeader header) (before : List Event) (claims : List Claim) (known : AreOf header claims (run header before)) where
+  abbrev Steps : Event → Option Happening → Type 0
+  Steps e o = IsStep header o (step_of header (posts_of header claims) (booted (events_of claims)) e (happened o))
+
+  abbrev Wakes : Event → Option Happening → Type 0
+  Wakes e o = (n : ℕ) → (boots e n || booted (events_of claims) n) ≡ up (dids (of n (joins o (run header before))))
+
+  -- the addressee of a datagram that is taken is up
+  taker-up : (at k : ℕ) → refusal (scene header before) (Take at k) ≡ None → (a : Arrives header (run header before) at k) → up (dids (of a.to.node (run header before))) ≡ true
+  taker-up at k none a =
+      let goes : node_in (goes_to (networks header) (slice_get (posts (run header before)) k)) ≡ Some a.to.node = ap (λ o. node_in (goes_to (networks header) o)) a.there ∙ ap (λ o. node_in o) a.goes in
+      up-down (scene header before) a.to.node (ap (λ o. down (scene header before).up o) (sym goes) ∙ (allowed (scene header before) (Take at k) none).up)
+
+  -- the step in which somebody takes a datagram
+  pub takes-at : (at k : ℕ) → refusal (scene header before) (Take at k) ≡ None → (a : Arrives header (run header before) at k) → taker header (posts_of header claims) (booted (events_of claims)) k ≡ Some a.to
+  takes-at at k none a =
+      let cs = posts_of header claims in
+      let ups = booted (events_of claims) in
+      let reach : claim_reaches (networks header) (slice_get cs k) ≡ Some a.to =
+      goes-same (networks header) (slice_get cs k) (slice_get (posts (run header before)) k) (get-ArePosts cs (posts (run header before)) k known.posts_are)
+      ∙ ap (λ o. goes_to (networks header) o) a.there ∙ a.goes in
+      ap (λ o. awake ups o) reach ∙ ap (λ b. if b then Some a.to else None) (known.up_is a.to.node ∙ taker-up at k none a)
+
+  takes-step : (at k : ℕ) → refusal (scene header before) (Take at k) ≡ None → (a : Arrives header (run header before) at k) → Steps (Take at k) (Some (stepping header (run header before) (taking_row a.post a.to) (taking_step at k a.to)))
+  takes-step at k none a =
+      let cs = posts_of header claims in
+      let ups = booted (events_of claims) in
+      let acts = acts_by header (run header before) (taking_row a.post a.to) (taking_step at k a.to) in
+      let once = got_acts is (run header before) (taking_step at k a.to) a.to.port (Peer (peer_of a.post.from)) (taken_of (canon a.post.datagram)) a.has in
+      let makes : makes_step (Take at k) acts ≡ true = ap (λ l. makes_step (Take at k) l) once.is ∙ makes-some at k once.before once.after _ in
+      let step_is : step_of header cs ups (Take at k) acts ≡ Some (taking_step at k a.to) =
+      ap (λ b. if b then takes_step at k (taker header cs ups k) else None) makes ∙ ap (λ o. takes_step at k o) (takes-at at k none a) in
+      subst (λ o. IsStep header (Some (stepping header (run header before) (taking_row a.post a.to) (taking_step at k a.to))) o) (sym step_is) (refl, refl)
+
+  steps-of : (e : Event) → refusal (scene header before) e ≡ None → Steps e (happening header (run header before) e)
+  steps-of (BootAt at node word) none = subst (λ h. Steps (BootAt at node word) (Some h)) (sym (steps-are header (run header before) boots_all (boot_step header at node word))) (refl, refl)
+  steps-of (Turn at node) none = subst (λ h. Steps (Turn at node) (Some h)) (sym (steps-are header (run header before) (answers_all NodeTurn) (record { at = at; node = node; cause = Turned }))) (refl, refl)
+  steps-of (Bytes at node port from octets) none = subst (λ h. Steps (Bytes at node port from octets) (Some h)) (sym (steps-are header (run header before) (answers_all (GotOn port from (taken_of octets))) (record { at = at; node = node; cause = Handed }))) (refl, refl)
+  steps-of (Take at k) none = elim (takes-or header (run header before) at k) [
+    | inl a ↦ subst (λ o. Steps (Take at k) o) (sym (taking header (run header before) at k a)) (takes-step at k none a)
+    | inr nothing ↦ subst (λ o. Steps (Take at k) o) (sym nothing.1) tt
+  ]
+
+  -- an event but a boot leaves who is up
+  wakes-none : (e : Event) (h : Happening) → ((n : ℕ) → boots e n ≡ false) → up (dids (of h.step.node (run header before))) ≡ true → Wakes e (Some h)
+  wakes-none e h none is_up n = ap (λ b. b || booted (events_of claims) n) (none n) ∙ known.up_is n ∙ sym (up-stays h.step h.tick h.acts (run header before) n is_up)
+
+  wakes-of : (e : Event) → refusal (scene header before) e ≡ None → Wakes e (happening header (run header before) e)
+  wakes-of (BootAt at node word) none = λ n.
+      let step = boot_step header at node word in
+      let b = boot_acts is (run header before) step in
+      ap (λ u. (node == n) || u) (known.up_is n)
+      ∙ sym (ap (λ (h : Happening). up (dids (of n (stepped h.step h.tick h.acts (run header before))))) (steps-are header (run header before) boots_all step)
+      ∙ ap (λ acts. up (dids (of n (stepped step (step_tick header step) acts (run header before))))) b.is
+      ∙ up-boots step (step_tick header step) b.rest (run header before) n)
+  wakes-of (Turn at node) none =
+      subst (λ h. Wakes (Turn at node) (Some h)) (sym (steps-are header (run header before) (answers_all NodeTurn) (record { at = at; node = node; cause = Turned })))
+      (wakes-none (Turn at node) (stepping header (run header before) (answers_all NodeTurn) (record { at = at; node = node; cause = Turned })) (λ n. refl) (up-down (scene header before) node (allowed (scene header before) (Turn at node) none).up))
+  wakes-of (Bytes at node port from octets) none =
+      subst (λ h. Wakes (Bytes at node port from octets) (Some h)) (sym (steps-are header (run header before) (answers_all (GotOn port from (taken_of octets))) (record { at = at; node = node; cause = Handed })))
+      (wakes-none (Bytes at node port from octets) (stepping header (run header before) (answers_all (GotOn port from (taken_of octets))) (record { at = at; node = node; cause = Handed })) (λ n. refl) (up-down (scene header before) node (allowed (scene header before) (Bytes at node port from octets) none).up))
+  wakes-of (Take at k) none = elim (takes-or header (run header before) at k) [
+    | inl a ↦ subst (λ o. Wakes (Take at k) o) (sym (taking header (run header before) at k a)) (wakes-none (Take at k) (stepping header (run header before) (taking_row a.post a.to) (taking_step at k a.to)) (λ n. refl) (taker-up at k none a))
+    | inr nothing ↦ subst (λ o. Wakes (Take at k) o) (sym nothing.1) (λ n. known.up_is n)
+  ]
+
+  -- one event more
+  of-event : (e : Event) (acts : List Placed) → refusal (scene header before) e ≡ None → acts ≡ happened (happening header (run header before) e) → AreOf header (record { event = e; acts = acts } ∷ claims) (run header (e ∷ before))
+  of-event e acts none acts_are =
+      let o = happening header (run header before) e in
+      let s = steps-of e none in
+      subst (λ l. AreOf header (record { event = e; acts = l } ∷ claims) (run header (e ∷ before))) (sym acts_are) (record {
+        history_is = joins-alike header o (step_of header (posts_of header claims) (booted (events_of claims)) e (happened o)) (claimed header claims) (run header before) s known.history_is;
+        posts_are = posts-alike header (length claims + 1) o (step_of header (posts_of header claims) (booted (events_of claims)) e (happened o)) (posts_of header claims) (run header before) s known.posts_are;
+        up_is = wakes-of e none;
+      })
+
+-- what is told of a run is of it
+pub told_are : (header : HeaderValue) (events : List Event) → Accepted header events → AreOf header (claims_of header events) (run header events)
+told_are header [] a = record { history_is = refl; posts_are = tt; up_is = λ n. refl }
+told_are header (e ∷ before) a =
+    of-event a.header_is before (claims_of header before) (told_are header before (accepted_before header e before a)) e (acts_of (last_lines header (e ∷ before))) a.valid.0
+    (acts-told_of (length before + 1) (length (posts (run header before))) (happening header (run header before) e))

@@ -1,5 +1,0 @@
-use Rattle.tsp_cli.proofs.laws.runs_fit_claims.Goals as goal
-use Rattle.tsp_cli.proofs.LinesFit.{lines-fit}
-
-pub returns : goal.returns
-returns c = lines-fit

@@ -1,0 +1,46 @@
+-- Names stay where they lie when more octets are put behind them.
+use Rattle.std.specs.Prelude.{◌≡◌, ℕ, ◌≤◌, ◌+◌, ◌-◌, List, [], ◌∷◌, ◌++◌, length, map, take, drop, slice_range, All, refl}
+use Rattle.std.proofs.Common.{ap, ◌∙◌, arith, length-drop}
+use Rattle.std.proofs.lemmas.List.{drop-append-le, take-append-le, map_push}
+use Rattle.std.proofs.lemmas.List.Elements.{All-head, All-tail}
+use Rattle.tsp_base.specs.declared.datagram.Datagram.{Datagram}
+use Rattle.tsp_base.specs.declared.place.Place.{Place}
+use Rattle.tsp_networks.specs.declared.head.Head.{Head}
+use Rattle.tsp_networks.specs.declared.head.Route.{Route}
+use Rattle.tsp_networks.specs.declared.way.Way.{Way}
+use Rattle.tsp_networks.specs.declared.head.StoredDatagram.{StoredDatagram}
+use Rattle.tsp_networks.specs.declared.head.StoredDatagram.TheVariants.{Message, Request, Reply}
+use Rattle.tsp_networks.specs.Heads.{HeadStands, HeldStands, datagram_in, is_peer, place_of, post_in, route_of, small_of, way_in}
+use Rattle.tsp_networks.specs.Posts.{posted_on}
+
+range-append : (names more : List ℕ) (start len : ℕ) → start + len ≤ length names → slice_range (names ++ more) start (start + len) ≡ slice_range names start (start + len)
+range-append names more start len inside =
+    let left = length-drop start names in
+    ap (λ l. take (start + len - start) l) (drop-append-le start names more (omega (arith, inside)))
+    ∙ take-append-le (start + len - start) (drop start names) more (omega (arith, left, inside))
+
+datagram_in-append : (names more : List ℕ) (held : StoredDatagram) → HeldStands names held → datagram_in (names ++ more) held ≡ datagram_in names held
+datagram_in-append names more (Message route kind number len start body) h = rw (range-append names more start len h.inside) refl
+datagram_in-append names more (Request route word counter) h = refl
+datagram_in-append names more (Reply route ticket word counter reading) h = refl
+
+posts-append : (names more : List ℕ) (heads : List Head) → All (HeadStands names) heads → map (post_in (names ++ more)) heads ≡ map (post_in names) heads
+posts-append names more [] all = refl
+posts-append names more (head ∷ rest) all =
+    let first = datagram_in-append names more head.held (All-head (HeadStands names) head rest all) in
+    let others = posts-append names more rest (All-tail (HeadStands names) head rest all) in
+    ap (λ d. posted_on (way_in head) d ∷ map (post_in (names ++ more)) rest) first ∙ ap (λ l. post_in names head ∷ l) others
+
+-- the posts after one more
+pub posts-push : (names more : List ℕ) (heads : List Head) (head : Head) (datagram : Datagram) → All (HeadStands names) heads → datagram_in (names ++ more) head.held ≡ datagram →
+    map (post_in (names ++ more)) (heads ++ head ∷ []) ≡ map (post_in names) heads ++ posted_on (way_in head) datagram ∷ []
+posts-push names more heads head datagram all is =
+    map_push (post_in (names ++ more)) heads head
+    ∙ ap (λ l. l ++ post_in (names ++ more) head ∷ []) (posts-append names more heads all)
+    ∙ ap (λ d. map (post_in names) heads ++ posted_on (way_in head) d ∷ []) is
+
+-- a head has its post's way
+pub way_in-head : (way : Way) (held : StoredDatagram) (n : ℕ) → route_of held ≡ small_of way → place_of (is_peer way.to) n ≡ way.to → way_in (record { at = way.at; from = way.from; to = n; held = held }) ≡ way
+way_in-head way held n route number =
+    ap (λ (r : Route). let w : Way = record { at = way.at; from = way.from; port = r.port; to = place_of r.to_peer n } in w) route
+    ∙ ap (λ (p : Place). let w : Way = record { at = way.at; from = way.from; port = way.port; to = p } in w) number

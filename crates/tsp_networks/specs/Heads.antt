@@ -1,0 +1,81 @@
+-- How posts are stored: the octets of all names in one list, and in another all else.
+use Rattle.std.specs.Prelude.{◌≡◌, ℕ, ◌+◌, ◌*◌, ◌≤◌, Bool, true, false, List, [], length, slice_range, All, vec_len, vec_capacity}
+use Rattle.std.specs.Global.{Vec}
+use Rattle.tsp_base.specs.declared.datagram.Datagram.{Datagram}
+use Rattle.tsp_base.specs.declared.datagram.Datagram.TheVariants.{Message, Stamp}
+use Rattle.tsp_base.specs.declared.stamp.Stamp.TheVariants.{Request, Reply}
+use Rattle.tsp_base.specs.Stamps.{IsReply}
+use Rattle.tsp_base.specs.declared.kind.Kind.{Kind}
+use Rattle.tsp_base.specs.declared.message.Body.{Body}
+use Rattle.tsp_base.specs.Messages.{body_fits}
+use Rattle.tsp_base.specs.declared.place.Place.{Place}
+use Rattle.tsp_base.specs.declared.place.Place.TheVariants.{Peer, Stranger}
+use Rattle.tsp_base.specs.Names.{IsName}
+use Rattle.tsp_run.specs.declared.posted.Posted.{Posted}
+use Rattle.tsp_networks.specs.declared.head.Head.{Head}
+use Rattle.tsp_networks.specs.declared.head.Route.{Route}
+use Rattle.tsp_networks.specs.declared.head.StoredDatagram.{StoredDatagram}
+use Rattle.tsp_networks.specs.declared.head.StoredDatagram.TheVariants.{Message as HeldMessage, Request as HeldRequest, Reply as HeldReply}
+use Rattle.tsp_networks.specs.declared.way.Way.{Way}
+use Rattle.tsp_networks.specs.Posts.{posted_on}
+
+-- the octets that a datagram adds to all names: its own name, if it has one
+abbrev pub name_in : Datagram → List ℕ
+name_in (Message m) = m.name
+name_in (Stamp s) = []
+
+-- the stored datagram, whose name is among these octets
+abbrev pub datagram_in : List ℕ → StoredDatagram → Datagram
+datagram_in names (HeldMessage route kind number len start body) = Message (record { kind = kind; number = number; body = body; name = slice_range names start (start + len) })
+datagram_in names (HeldRequest route word counter) = Stamp (Request word counter)
+datagram_in names (HeldReply route ticket word counter reading) = Stamp (Reply (record { ticket = ticket; word = word; counter = counter; reading = reading }))
+
+-- whether a place is a peer
+abbrev pub is_peer : Place → Bool
+is_peer (Peer p) = true
+is_peer Stranger = false
+
+-- the small parts of a way
+abbrev pub small_of : Way → Route
+small_of way = record { port = way.port; to_peer = is_peer way.to }
+
+-- the place with this number, where it is that of a peer
+abbrev pub place_of : Bool → ℕ → Place
+place_of true n = Peer (record { 0 = n })
+place_of false n = Stranger
+
+-- the small parts of the way of a stored datagram
+abbrev pub route_of : StoredDatagram → Route
+route_of (HeldMessage route kind number len start body) = route
+route_of (HeldRequest route word counter) = route
+route_of (HeldReply route ticket word counter reading) = route
+
+-- when a stored post was posted, by whom and for whom
+abbrev pub way_in : Head → Way
+way_in head = record { at = head.at; from = head.from; port = (route_of head.held).port; to = place_of (route_of head.held).to_peer head.to }
+
+-- the stored post
+abbrev pub post_in : List ℕ → Head → Posted
+post_in names head = posted_on (way_in head) (datagram_in names head.held)
+
+-- a message's name is among these octets, and its body is the one that its kind carries
+pub record MessageStands (names : List ℕ) (kind : Kind) (len start : ℕ) (body : Body) : Type 0 where
+  pub inside : start + len ≤ length names
+  pub name : IsName (slice_range names start (start + len))
+  pub body_is : body_fits kind body ≡ true
+
+-- a stored message has its name among these octets; a stored request is any, and a stored reply has values in their ranges
+abbrev pub HeldStands : List ℕ → StoredDatagram → Type 0
+HeldStands names (HeldMessage route kind number len start body) = MessageStands names kind len start body
+HeldStands names (HeldRequest route word counter) = Unit {0}
+HeldStands names (HeldReply route ticket word counter reading) = IsReply ticket reading
+
+-- the same of a stored post
+abbrev pub HeadStands : List ℕ → Head → Type 0
+HeadStands names head = HeldStands names head.held
+
+-- each head has its name among these octets, and there is room for so many more heads, each with a name of 255 octets
+pub record ArePosts (names : Vec ℕ) (heads : Vec Head) (spare : ℕ) : Type 0 where
+  pub stand : All (HeadStands names.items) heads.items
+  pub heads_fit : vec_len heads + spare ≤ vec_capacity heads
+  pub names_fit : vec_len names + 255 * spare ≤ vec_capacity names

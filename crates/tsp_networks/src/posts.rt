@@ -1,0 +1,120 @@
+//! Posted datagrams, stored so that a short name takes little memory.
+ghost use Rattle.std.specs.Prelude.{◌≡◌, ◌≤◌, ◌<◌, ◌+◌, ◌++◌, [], ◌∷◌, length, slice_get, Some, OnOk, OnErr};
+ghost use Rattle.std.specs.Option.{option_map};
+
+use crate::head::{Head, datagram_of, hold, number_of, way_of};
+use crate::way::Way;
+use std::alloc::{AllocError, Global};
+use std::marker::Model;
+use tsp_base::datagram::Datagram;
+
+/// The greatest length of a name, in octets.
+const LONGEST: usize = 255;
+
+/// Posted datagrams, numbered from 0, and room for more. It counts its room itself, so that a step that has enough
+/// asks no vector.
+#[derive(Drop)]
+pub struct Posts {
+    /// The posts without the octets of their names.
+    heads: Vec<Head>,
+    /// The octets of all names, one after the other.
+    names: Vec<u8>,
+    /// How many more there is room for, whatever their names.
+    spare: usize,
+}
+
+impl Model for Posts {
+    ghost use Rattle.std.specs.Prelude.{map};
+    ghost use Rattle.tsp_networks.specs.Posts.{PostsValue};
+    ghost use Rattle.tsp_networks.specs.Heads.{ArePosts, post_in};
+
+    ghost Value = { PostsValue };
+
+    ghost view = { λ p. record {
+      items = map (post_in p.names.items) p.heads.items;
+      spare = p.spare;
+    } };
+
+    ghost invariant = { λ p. ArePosts p.names p.heads p.spare };
+}
+
+impl Posts {
+    ghost use Rattle.tsp_run.specs.declared.posted.Posted.{Posted};
+    ghost use Rattle.tsp_networks.specs.Posts.{posted_on, way_of};
+
+    /// No posts and no room. Takes no memory.
+    pub fn new(alloc: Global) -> Posts
+        ensures items { result.items ≡ [] }
+        ensures spare { result.spare ≡ 0 }
+    {
+        Posts {
+            heads: Vec::new(alloc),
+            names: Vec::new(alloc),
+            spare: 0,
+        }
+    }
+
+    /// How many datagrams were posted.
+    pub fn len(&self) -> usize
+        ensures { result ≡ length self.now.items }
+    {
+        self.heads.len()
+    }
+
+    /// When the datagram with this number was posted, by whom and for whom; None exactly where there is no
+    /// such datagram.
+    pub fn way(&self, k: u64) -> Option<Way>
+        ensures { result ≡ option_map way_of (slice_get self.now.items k) }
+    {
+        match self.heads.get(k as usize) {
+            Some(head) => Some(way_of(head)),
+            None => None,
+        }
+    }
+
+    /// What the datagram with this number carries.
+    pub fn datagram(&self, k: u64) -> Datagram
+        requires { k < length self.now.items }
+        ensures { (p : Posted) → slice_get self.now.items k ≡ Some p → result ≡ p.datagram }
+    {
+        datagram_of(self.names.as_slice(), &self.heads[k as usize])
+    }
+
+    /// Makes room for at least `n` more posts, whatever their names. Fails only if out of memory; the room is
+    /// then unchanged.
+    pub fn reserve(&mut self, n: usize) -> Result<(), AllocError>
+        ensures items { self.new.items ≡ self.old.items }
+        ensures room { OnOk result (n ≤ self.new.spare) }
+        ensures kept { self.old.spare ≤ self.new.spare }
+        ensures err { OnErr result (self.new.spare ≡ self.old.spare) }
+    {
+        if n <= self.spare {
+            return Ok(());
+        }
+        let Some(octets) = n.checked_mul(LONGEST) else {
+            return Err(AllocError);
+        };
+        self.heads.reserve(n)?;
+        self.names.reserve(octets)?;
+        let heads = self.heads.capacity() - self.heads.len();
+        let names = (self.names.capacity() - self.names.len()) / LONGEST;
+        self.spare = heads.min(names);
+        Ok(())
+    }
+
+    /// Adds a datagram; there must be room, which becomes one less.
+    pub fn push(&mut self, way: Way, datagram: &Datagram)
+        requires { 0 < self.old.spare }
+        ensures items { self.new.items ≡ self.old.items ++ posted_on way datagram.now ∷ [] }
+        ensures spare { self.new.spare + 1 ≡ self.old.spare }
+    {
+        let held = hold(&mut self.names, way, datagram);
+        self.heads.push_reserved(Head {
+            at: way.at,
+            from: way.from,
+            to: number_of(way.to),
+            held,
+        });
+        self.spare -= 1;
+    }
+}

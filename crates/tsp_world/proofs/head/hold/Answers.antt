@@ -1,5 +1,0 @@
--- A stored stamp needs no octets.
-use Rattle.tsp_world.proofs.head.hold.Goals as goal
-
-pub returns-in-Stamp-clause-stands : goal.returns-in-Stamp-clause-stands
-returns-in-Stamp-clause-stands c = c.hold_stamp.ensures.stands c.args.names.now.items
