@@ -15,7 +15,6 @@ use tsp_clock::clock::Clock;
 use tsp_node::{BootFault, Part};
 
 /// A node that has booted: its clock, whether its trace is on, and the state of each of its 1 to 4 ports.
-#[derive(Drop)]
 pub struct Gateway {
     pub(crate) clock: Clock,
     pub(crate) tracing: bool,
@@ -23,6 +22,17 @@ pub struct Gateway {
     ghost some: { 1 ≤ vec_len ports },
     ghost few: { vec_len ports ≤ 4 },
     ghost memory: { vec_capacity ports ≡ 4 },
+}
+
+// Not derived, so that whoever drops a node relies on this, and doesn't take its parts apart once more.
+impl Drop for Gateway {
+    fn drop(self) {
+        let Gateway {
+            clock: _,
+            tracing: _,
+            ports: _,
+        } = self;
+    }
 }
 
 /// The port on which a node boots.

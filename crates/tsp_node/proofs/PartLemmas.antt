@@ -3,7 +3,7 @@ use Rattle.std.specs.Prelude.{◌≡◌, ℕ, List, length}
 use Rattle.std.proofs.Common.{sym, ◌∙◌, ap}
 use Rattle.tsp_base.specs.declared.place.PeerId.{PeerId}
 use Rattle.tsp_date.specs.Dates.{peers_of as dated_of}
-use Rattle.tsp_master.specs.Slaves.{peers_of}
+use Rattle.tsp_measure.specs.Slaves.{peers_of}
 use Rattle.tsp_resolve.specs.declared.resolve.Resolve.{Resolve}
 use Rattle.tsp_node.specs.declared.part.Part.{Part}
 

@@ -30,7 +30,6 @@ use tsp_slave::last::Last;
 
 /// The state of a port: what all roles share, what it remembers of corrections and of dates, and what a
 /// master has: its slaves and its rivals.
-#[derive(Drop)]
 pub struct Part {
     /// What all roles share: who the node is here, its role, its peers, its alarms and its open sends.
     pub(crate) station: Station,
@@ -45,6 +44,19 @@ pub struct Part {
     ghost same: { peers_of master.slaves ≡ station.peers },
     ghost marks: { length resolve.marks ≡ length station.peers },
     ghost dated: { dated_of dates.dated ≡ station.peers },
+}
+
+// Not derived, so that whoever drops a port relies on this, and doesn't take its parts apart once more.
+impl Drop for Part {
+    fn drop(self) {
+        let Part {
+            station: _,
+            last: _,
+            master: _,
+            resolve: _,
+            dates: _,
+        } = self;
+    }
 }
 
 impl Part {
