@@ -2,12 +2,8 @@
 ghost use Rattle.std.specs.Prelude.{◌≡◌, false};
 
 mod commands;
-mod limits;
 mod links;
-mod networks;
 mod ports;
-mod refusals;
-mod replays;
 
 use crate::run::run;
 use crate::status::Status;
@@ -116,48 +112,4 @@ fn writes<S: Source>(alloc: Global, row: &Row, source: &mut S) -> Result<bool, A
 fn comes(alloc: Global, row: &Row) -> Result<bool, AllocError> {
     let mut source = MemorySource::new(alloc, row.input.as_bytes(), row.reads)?;
     writes(alloc, row, &mut source)
-}
-
-/// The same as `replay_ends`, of a source.
-fn ends<S: Source>(
-    alloc: Global,
-    source: &mut S,
-    status: Status,
-    last: &str,
-) -> Result<bool, AllocError>
-    requires { S.ended source.old ≡ false }
-{
-    let mut sink = MemorySink::new(alloc, &[])?;
-    let came = run_lines(alloc, &["replay"], source, &mut sink)?;
-    Ok(came == status && sink.written().ends_with(last.as_bytes()))
-}
-
-/// Whether a replay of this input ends with this status, and writes this.
-fn replay_writes(
-    alloc: Global,
-    input: &str,
-    status: Status,
-    written: &'static str,
-) -> Result<bool, AllocError> {
-    let mut source = MemorySource::new(alloc, input.as_bytes(), &[])?;
-    let row = Row {
-        words: &["replay"],
-        input: "",
-        reads: &[],
-        writes: &[],
-        status,
-        written,
-    };
-    writes(alloc, &row, &mut source)
-}
-
-/// Whether a replay of this input ends with this status, and what it writes with these words.
-fn replay_ends(
-    alloc: Global,
-    input: &[u8],
-    status: Status,
-    last: &str,
-) -> Result<bool, AllocError> {
-    let mut source = MemorySource::new(alloc, input, &[])?;
-    ends(alloc, &mut source, status, last)
 }

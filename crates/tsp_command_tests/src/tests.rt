@@ -6,3 +6,4 @@ mod icmp;
 mod queries;
 mod questions;
 mod records;
+mod replays;

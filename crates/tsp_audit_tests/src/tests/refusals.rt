@@ -1,30 +1,6 @@
-//! Refusals, and what is written where one comes.
+//! Inputs, each with how its audit ends and what is written.
 use crate::tests::inputs::{ANSWERED, ASKED, comes};
 use tsp_lines::treat::Outcome;
-
-/// A line that isn't a trace's, one that isn't allowed, and a boot whose line is missing after the schedule.
-#[test]
-fn claimed_lines_are_refused(rt: HostRuntime) {
-    let again = [ASKED, ANSWERED, "2 0 0 10 abandon\n"];
-    assert!(rt; comes(rt.alloc(), &[ASKED], &[], Outcome::Bad, "bad 8 history\n") == Ok(true));
-    assert!(rt;
-        comes(
-            rt.alloc(),
-            &[ASKED, "end\n"],
-            &[],
-            Outcome::Bad,
-            "bad 8 line\n"
-        ) == Ok(true)
-    );
-    assert!(rt; comes(rt.alloc(), &again, &[], Outcome::Bad, "bad 13 history\n") == Ok(true));
-}
-
-/// Nothing is written where a read fails, though a line before it isn't a schedule's.
-#[test]
-fn a_read_fault_comes_first(rt: HostRuntime) {
-    assert!(rt; comes(rt.alloc(), &["x\n"], &[], Outcome::Bad, "bad 1 header\n") == Ok(true));
-    assert!(rt; comes(rt.alloc(), &["x\n"], &[1], Outcome::ReadFault, "") == Ok(true));
-}
 
 /// A header of 16 nodes.
 const NODES: &str = "\
@@ -48,13 +24,42 @@ node a 0 0 m
 node a 0 0 m
 ";
 
-/// The 17th node passes a limit, if the header would accept it.
+/// Texts that are one input, the reads that fail, how the audit ends, and what is written. A run keeps every promise,
+/// also where no trace line of a turn is claimed. A line that isn't a trace's, one that isn't allowed, and a boot whose
+/// line is missing after the schedule are refused. Nothing is written where a read fails, though a line before it isn't a
+/// schedule's. The 17th node passes a limit, if the header would accept it.
+const ROWS: &[(&[&str], &[u32], Outcome, &str)] = &[
+    (&[ASKED, ANSWERED], &[], Outcome::Ok, "holds\n"),
+    (&[ASKED], &[], Outcome::Bad, "bad 8 history\n"),
+    (&[ASKED, "end\n"], &[], Outcome::Bad, "bad 8 line\n"),
+    (
+        &[ASKED, ANSWERED, "2 0 0 10 abandon\n"],
+        &[],
+        Outcome::Bad,
+        "bad 13 history\n",
+    ),
+    (&["x\n"], &[], Outcome::Bad, "bad 1 header\n"),
+    (&["x\n"], &[1], Outcome::ReadFault, ""),
+    (
+        &[NODES, "node a 0 0 m\n"],
+        &[],
+        Outcome::Limit,
+        "limit 19\n",
+    ),
+    (
+        &[NODES, "node a 1 0 m\n"],
+        &[],
+        Outcome::Bad,
+        "bad 19 header\n",
+    ),
+    (&[NODES, "end\n"], &[], Outcome::Ok, "holds\n"),
+];
+
+/// Each audit ends as its row says.
 #[test]
-fn nodes_are_limited(rt: HostRuntime) {
-    let more = [NODES, "node a 0 0 m\n"];
-    let wild = [NODES, "node a 1 0 m\n"];
-    let none = [NODES, "end\n"];
-    assert!(rt; comes(rt.alloc(), &more, &[], Outcome::Limit, "limit 19\n") == Ok(true));
-    assert!(rt; comes(rt.alloc(), &wild, &[], Outcome::Bad, "bad 19 header\n") == Ok(true));
-    assert!(rt; comes(rt.alloc(), &none, &[], Outcome::Ok, "holds\n") == Ok(true));
+fn audits_end(rt: HostRuntime) {
+    for (texts, reads, outcome, written) in ROWS {
+        let right = comes(rt.alloc(), texts, reads, *outcome, written);
+        assert!(rt; right == Ok(true), "{written}");
+    }
 }

@@ -1,6 +1,6 @@
 //! Verdicts on whole inputs.
 use crate::tests::auditing::Answer;
-use crate::tests::inputs::{ANSWERED, ASKED, comes};
+use crate::tests::inputs::comes;
 use crate::tests::rows::TOO_SOON;
 use std::alloc::{AllocError, Global};
 use tsp_lines::treat::Outcome;
@@ -39,15 +39,10 @@ fn judges(
     comes(alloc, &[input.as_str()], &[], Outcome::Ok, verdict)
 }
 
-/// A run keeps every promise, also where no trace line of a turn is claimed.
-#[test]
-fn a_run_holds(rt: HostRuntime) {
-    assert!(rt; comes(rt.alloc(), &[ASKED, ANSWERED], &[], Outcome::Ok, "holds\n") == Ok(true));
-}
-
 /// A clock that moves again too soon fails at its event, and not before it.
 #[test]
 fn a_second_correction_fails(rt: HostRuntime) {
-    assert!(rt; judges(rt.alloc(), TOO_SOON, 5, "holds\n") == Ok(true));
-    assert!(rt; judges(rt.alloc(), TOO_SOON, 6, "fails \x4414 6\n") == Ok(true));
+    for (count, verdict) in [(5, "holds\n"), (6, "fails \x4414 6\n")] {
+        assert!(rt; judges(rt.alloc(), TOO_SOON, count, verdict) == Ok(true));
+    }
 }

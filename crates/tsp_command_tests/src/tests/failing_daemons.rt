@@ -56,33 +56,6 @@ fn is_shown(alloc: Global, shown: &MemorySink, lines: usize) -> Result<bool, All
     Ok(shown.written() == text.as_bytes())
 }
 
-/// How a daemon with these words ends, over this link and this sink.
-fn end_of(
-    alloc: Global,
-    words: &ServeWords,
-    shown: &mut MemorySink,
-    link: &mut MemoryLink,
-) -> Result<DaemonExit, AllocError>
-    requires { IsServe words.now }
-{
-    let mut ticker = MemoryTicker::new(alloc, &[0, 10, 20, 30, 40], 1000, 2)?;
-    Ok(serve_words(alloc, words, shown, link, &mut ticker))
-}
-
-/// Whether a daemon over this link ends so, and writes to this sink.
-fn shows(
-    alloc: Global,
-    words: &ServeWords,
-    link: &mut MemoryLink,
-    shown: &mut MemorySink,
-    wanted: Wanted,
-) -> Result<bool, AllocError>
-    requires { IsServe words.now }
-{
-    let end = end_of(alloc, words, shown, link)?;
-    Ok(is_shown(alloc, shown, wanted.1)? && end == wanted.0 && link.tried() == wanted.2)
-}
-
 /// Whether a daemon over this link ends so whose trace is turned on and which is then asked for a stamp, where
 /// these writes fail.
 fn ends(
@@ -97,38 +70,24 @@ fn ends(
     link.arrive(Place::Stranger, TRACE_ON)?;
     link.arrive(Place::Stranger, REQUEST)?;
     let mut shown = MemorySink::new(alloc, writes)?;
-    shows(alloc, words, link, &mut shown, wanted)
+    let mut ticker = MemoryTicker::new(alloc, &[0, 10, 20, 30, 40], 1000, 2)?;
+    let end = serve_words(alloc, words, &mut shown, link, &mut ticker);
+    Ok(is_shown(alloc, &shown, wanted.1)? && end == wanted.0 && link.tried() == wanted.2)
 }
 
-/// The same where these calls of the link fail, too. They are the bind, and in each turn the receive and the
-/// send.
-fn is_right(
-    alloc: Global,
-    words: &ServeWords,
-    calls: &[u32],
-    writes: &[u32],
-    wanted: Wanted,
-) -> Result<bool, AllocError>
-    requires { IsServe words.now }
-{
-    if words.ports.count() != 1 {
-        return Ok(false);
-    }
-    let mut link = MemoryLink::new(alloc, calls)?;
-    ends(alloc, words, &mut link, writes, wanted)
-}
-
-/// The same of a daemon with the words above.
+/// The same of a daemon with one port and the words above, where these calls of the link fail, too. They are the
+/// bind, and in each turn the receive and the send.
 fn daemon_ends(
     alloc: Global,
     calls: &[u32],
     writes: &[u32],
     wanted: Wanted,
 ) -> Result<bool, AllocError> {
-    match words_of(alloc)? {
-        Some(words) => is_right(alloc, &words, calls, writes, wanted),
-        None => Ok(false),
-    }
+    let Some(words) = words_of(alloc)? else {
+        return Ok(false);
+    };
+    let mut link = MemoryLink::new(alloc, calls)?;
+    Ok(words.ports.count() == 1 && ends(alloc, &words, &mut link, writes, wanted)?)
 }
 
 /// A bind or a receive that fails ends the daemon, after what the turns before it sent and wrote. A send that

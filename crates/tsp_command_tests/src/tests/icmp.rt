@@ -29,10 +29,9 @@ fn reads_and_writes_messages(rt: HostRuntime) {
         transmit: 1500,
         ..request
     };
-    assert_eq!(rt; icmp_decode(&REQUEST), Ok(request));
-    assert_eq!(rt; icmp_encode(&request), REQUEST);
-    assert_eq!(rt; icmp_decode(&REPLY), Ok(reply));
-    assert_eq!(rt; icmp_encode(&reply), REPLY);
+    for (octets, message) in [(REQUEST, request), (REPLY, reply)] {
+        assert!(rt; icmp_decode(&octets) == Ok(message) && icmp_encode(&message) == octets);
+    }
 }
 
 /// Each fault, and the first of several.
@@ -40,23 +39,30 @@ fn reads_and_writes_messages(rt: HostRuntime) {
 fn names_the_first_fault(rt: HostRuntime) {
     let mut octets = REQUEST;
     octets[3] = 0x15;
-    assert_eq!(rt; icmp_decode(&octets), Err(IcmpFault::Checksum));
+    assert!(rt; icmp_decode(&octets) == Err(IcmpFault::Checksum));
     octets[1] = 1;
-    assert_eq!(rt; icmp_decode(&octets), Err(IcmpFault::Code));
+    assert!(rt; icmp_decode(&octets) == Err(IcmpFault::Code));
     octets[0] = 8;
-    assert_eq!(rt; icmp_decode(&octets), Err(IcmpFault::Kind));
-    assert_eq!(rt; icmp_decode(&octets[..19]), Err(IcmpFault::Length));
-    assert_eq!(rt; icmp_decode(&[]), Err(IcmpFault::Length));
+    assert!(rt; icmp_decode(&octets) == Err(IcmpFault::Kind));
+    assert!(rt; icmp_decode(&octets[..19]) == Err(IcmpFault::Length));
+    assert!(rt; icmp_decode(&[]) == Err(IcmpFault::Length));
 }
+
+/// Stamps, how far the clocks are apart, and by how much that may be wrong.
+const STAMPS: &[(u32, u32, u32, Option<(i64, i64)>)] = &[
+    (1000, 1500, 1801, Some((100, 402))),
+    (86_399_900, 200, 300, Some((100, 201))),
+    (0, 0, 43_200_000, None),
+    (0, 43_200_000, 0, Some((-43_200_000, 1))),
+];
 
 /// Midnight between the stamps, and the edges of half a day.
 #[test]
 fn tells_how_far_clocks_are_apart(rt: HostRuntime) {
-    assert_eq!(rt; difference(1000, 1500, 1801), Some((100, 402)));
-    assert_eq!(rt; difference(86_399_900, 200, 300), Some((100, 201)));
-    assert_eq!(rt; difference(0, 0, 43_200_000), None);
-    assert_eq!(rt; difference(0, 43_200_000, 0), Some((-43_200_000, 1)));
-    assert_eq!(rt; trip(86_399_900, 300), 400);
-    assert!(rt; standard(86_399_999));
-    assert!(rt; !standard(86_400_000));
+    for (sent, met, back, apart) in STAMPS {
+        let fit = standard(*sent) && standard(*met) && standard(*back);
+        assert!(rt; fit && difference(*sent, *met, *back) == *apart);
+    }
+    assert!(rt; trip(86_399_900, 300) == 400);
+    assert!(rt; standard(86_399_999) && !standard(86_400_000));
 }

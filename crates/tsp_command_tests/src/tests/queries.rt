@@ -34,8 +34,9 @@ type Row = (
 
 /// The master's name is that in the ACK; a datagram with another number, or none, is no answer. An ACK of
 /// the daemon is an answer, a stranger's isn't; the ninth arrival isn't received. A trace is turned on or
-/// off. A send or a receive that fails ends a question.
-const MESSAGES: &[Row] = &[
+/// off. A send or a receive that fails ends a question. A reply that came after 801 microseconds: 100 ahead, give
+/// or take 401. A date that is acknowledged was passed on, and one that a DATEACK answers was set.
+const ROWS: &[Row] = &[
     (19, &[], 0, DAEMON, ACK, Wanted::Master(b"a"), 0),
     (19, &[], 0, DAEMON, NAMED, Wanted::NoAnswer, 0),
     (19, &[], 0, DAEMON, &[], Wanted::NoAnswer, 0),
@@ -47,11 +48,6 @@ const MESSAGES: &[Row] = &[
     (18, &[], 0, DAEMON, ACK, Wanted::Heard, 0),
     (17, &[0], 0, DAEMON, ACK, Wanted::LinkFault, 1),
     (17, &[1], 0, DAEMON, ACK, Wanted::LinkFault, 1),
-];
-
-/// A reply that came after 801 microseconds: 100 ahead, give or take 401. A date that is acknowledged was
-/// passed on, and one that a DATEACK answers was set.
-const TIMES: &[Row] = &[
     (128, &[], 0, DAEMON, REPLY, Wanted::Diff(100, 401), 0),
     (22, &[], 0, DAEMON, ACK, Wanted::Date(false), 0),
     (22, &[], 0, DAEMON, DATED, Wanted::Date(true), 0),
@@ -97,13 +93,6 @@ fn is_sent(link: &MemoryLink, kind: u8) -> bool {
     kind == 128 || link.tried_octets(0) == wanted.as_slice()
 }
 
-/// Whether a question over this link ends as its row says.
-fn ends(alloc: Global, row: &Row, link: &mut MemoryLink) -> Result<bool, AllocError> {
-    let mut ticker = MemoryTicker::new(alloc, &[0, 1_000_000, 1_000_801], 0, 2)?;
-    let end = put(&query_of(row.0), link, &mut ticker);
-    Ok(is_end(&end, row.5) && ticker.left() == row.6)
-}
-
 /// Lets the datagram of a row arrive.
 fn arrive(row: &Row, link: &mut MemoryLink) -> Result<(), AllocError> {
     for _ in 0..row.2 {
@@ -115,30 +104,19 @@ fn arrive(row: &Row, link: &mut MemoryLink) -> Result<(), AllocError> {
     link.arrive(row.3, row.4)
 }
 
-/// Whether the question of a row ends and sends over this link as it is to.
-fn asks(alloc: Global, row: &Row, link: &mut MemoryLink) -> Result<bool, AllocError> {
-    arrive(row, link)?;
-    Ok(ends(alloc, row, link)? && is_sent(link, row.0))
-}
-
-/// The same over a link whose calls fail as the row says.
+/// Whether the question of a row, over a link whose calls fail as the row says, ends and sends as it is to.
 fn is_right(alloc: Global, row: &Row) -> Result<bool, AllocError> {
     let mut link = MemoryLink::new(alloc, row.1)?;
-    asks(alloc, row, &mut link)
+    arrive(row, &mut link)?;
+    let mut ticker = MemoryTicker::new(alloc, &[0, 1_000_000, 1_000_801], 0, 2)?;
+    let end = put(&query_of(row.0), &mut link, &mut ticker);
+    Ok(is_end(&end, row.5) && ticker.left() == row.6 && is_sent(&link, row.0))
 }
 
-/// Each question that is a message, its answers, and what is none.
+/// Each question, its answers, and what is none.
 #[test]
-fn messages_ask(rt: HostRuntime) {
-    for row in MESSAGES {
-        assert!(rt; is_right(rt.alloc(), row) == Ok(true), "{}", row.0);
-    }
-}
-
-/// The questions about time.
-#[test]
-fn times_are_asked_and_set(rt: HostRuntime) {
-    for row in TIMES {
+fn questions_are_answered(rt: HostRuntime) {
+    for row in ROWS {
         assert!(rt; is_right(rt.alloc(), row) == Ok(true), "{}", row.0);
     }
 }

@@ -61,19 +61,6 @@ const ASKED: Row = Row {
     tried: 1,
 };
 
-/// Each question has its line, and the empty name means that there is no master.
-const ANSWERED: &[(u8, u64, &[u8], QueryExit, &str)] = &[
-    (19, 3, NAMED, QueryExit::Answered, "master a\n"),
-    (19, 3, NAMELESS, QueryExit::Answered, "no master\n"),
-    (19, 3, &[], QueryExit::NoAnswer, "no answer\n"),
-    (128, 2, REPLY, QueryExit::Answered, "clockdiff 100 401\n"),
-    (17, 2, ACK, QueryExit::Answered, "trace on\n"),
-    (18, 2, ACK, QueryExit::Answered, "trace off\n"),
-    (21, 2, ACK, QueryExit::Answered, "election heard\n"),
-    (22, 2, ACK, QueryExit::Answered, "date forwarded\n"),
-    (22, 2, DATED, QueryExit::Answered, "date set\n"),
-];
-
 /// The question that sends a datagram of this type; a date is 100 seconds.
 pub fn query_of(kind: u8) -> Query {
     match kind {
@@ -100,71 +87,89 @@ fn is_sent(link: &MemoryLink, tried: usize, kind: u8) -> bool {
     link.tried_to(0) == DAEMON && link.tried_octets(0).first() == Some(&kind)
 }
 
-/// How a question over this link ends.
-fn end_of(
-    alloc: Global,
-    row: &Row,
-    link: &mut MemoryLink,
-    sink: &mut MemorySink,
-) -> Result<QueryExit, AllocError> {
+/// Whether a question over this link ends as its row says, with the row's text.
+fn asks(alloc: Global, row: &Row, link: &mut MemoryLink) -> Result<bool, AllocError> {
+    let mut sink = MemorySink::new(alloc, row.writes)?;
     let mut ticker = MemoryTicker::new(alloc, &[0, 1_000_000, 1_000_801], 0, row.word)?;
     let daemon = Addr {
         ip: [127, 0, 0, 1],
         port: 525,
     };
-    Ok(ask(daemon, &query_of(row.kind), sink, link, &mut ticker))
-}
-
-/// Whether a question over this link ends as its row says, with the row's text written to this sink.
-fn tells(
-    alloc: Global,
-    row: &Row,
-    link: &mut MemoryLink,
-    sink: &mut MemorySink,
-) -> Result<bool, AllocError> {
-    let end = end_of(alloc, row, link, sink)?;
+    let end = ask(daemon, &query_of(row.kind), &mut sink, link, &mut ticker);
     Ok(end == row.end && sink.written() == row.text.as_bytes())
 }
 
-/// The same with a sink whose writes fail as the row says.
-fn is_told(alloc: Global, row: &Row, link: &mut MemoryLink) -> Result<bool, AllocError> {
-    let mut sink = MemorySink::new(alloc, row.writes)?;
-    tells(alloc, row, link, &mut sink)
-}
-
-/// Whether a question over this link ends as its row says.
-fn asks(alloc: Global, row: &Row, link: &mut MemoryLink) -> Result<bool, AllocError> {
+/// The same over a link whose calls fail as the row says, and whether it sends as it is to.
+fn is_right(alloc: Global, row: &Row) -> Result<bool, AllocError> {
+    let mut link = MemoryLink::new(alloc, row.calls)?;
     if !row.comes.is_empty() {
         link.arrive(row.from, row.comes)?;
     }
-    Ok(is_told(alloc, row, link)? && is_sent(link, row.tried, row.kind))
+    Ok(asks(alloc, row, &mut link)? && is_sent(&link, row.tried, row.kind))
 }
 
-/// The same over a link whose calls fail as the row says.
-fn is_right(alloc: Global, row: &Row) -> Result<bool, AllocError> {
-    let mut link = MemoryLink::new(alloc, row.calls)?;
-    asks(alloc, row, &mut link)
-}
+/// A question for the master by a daemon that knows one.
+const MASTER: Row = Row {
+    word: 3,
+    comes: NAMED,
+    end: QueryExit::Answered,
+    text: "master a\n",
+    ..ASKED
+};
 
-/// Each question has its line.
-#[test]
-fn lines_say_what_came(rt: HostRuntime) {
-    for (kind, word, comes, end, text) in ANSWERED {
-        let row = Row {
-            kind: *kind,
-            word: *word,
-            comes,
-            end: *end,
-            text,
-            ..ASKED
-        };
-        assert!(rt; is_right(rt.alloc(), &row) == Ok(true), "{text}");
-    }
-}
-
-/// A stranger's datagram is no answer. A bind, a send, a receive or a write that fails ends the
-/// question without a line.
-const FAILING: &[Row] = &[
+/// Each question has its line, and the empty name means that there is no master. A stranger's datagram is no answer.
+/// A bind, a send, a receive or a write that fails ends the question without a line.
+const ROWS: &[Row] = &[
+    MASTER,
+    Row {
+        comes: NAMELESS,
+        text: "no master\n",
+        ..MASTER
+    },
+    Row {
+        comes: &[],
+        end: QueryExit::NoAnswer,
+        text: "no answer\n",
+        ..MASTER
+    },
+    Row {
+        kind: 128,
+        comes: REPLY,
+        end: QueryExit::Answered,
+        text: "clockdiff 100 401\n",
+        ..ASKED
+    },
+    Row {
+        kind: 17,
+        end: QueryExit::Answered,
+        text: "trace on\n",
+        ..ASKED
+    },
+    Row {
+        kind: 18,
+        end: QueryExit::Answered,
+        text: "trace off\n",
+        ..ASKED
+    },
+    Row {
+        kind: 21,
+        end: QueryExit::Answered,
+        text: "election heard\n",
+        ..ASKED
+    },
+    Row {
+        kind: 22,
+        end: QueryExit::Answered,
+        text: "date forwarded\n",
+        ..ASKED
+    },
+    Row {
+        kind: 22,
+        comes: DATED,
+        end: QueryExit::Answered,
+        text: "date set\n",
+        ..ASKED
+    },
     Row {
         from: Place::Stranger,
         end: QueryExit::NoAnswer,
@@ -191,10 +196,10 @@ const FAILING: &[Row] = &[
     },
 ];
 
-/// Each call fails.
+/// Each question ends as its row says.
 #[test]
-fn questions_fail(rt: HostRuntime) {
-    for row in FAILING {
+fn lines_say_what_came(rt: HostRuntime) {
+    for row in ROWS {
         assert!(rt; is_right(rt.alloc(), row) == Ok(true), "{}", row.text);
     }
 }

@@ -1,29 +1,20 @@
 //! Inputs that were worked out by hand, or by two other programs.
-ghost use Rattle.std.specs.Prelude.{◌≡◌, false};
 
 use std::alloc::Global;
 use std::process::Abort;
 use tsp_icmp_command::average;
 use tsp_io::memory::{MemorySink, MemorySource};
-use tsp_io::source::Source;
 use tsp_lines::treat::Outcome;
-
-/// Whether this source has this outcome, with this written.
-fn comes<S: Source>(alloc: Global, source: &mut S, outcome: Outcome, written: &[u8]) -> bool
-    requires { S.ended source.old ≡ false }
-{
-    match MemorySink::new(alloc, &[]) {
-        Ok(mut sink) => average(alloc, source, &mut sink) == outcome && sink.written() == written,
-        Err(_) => false,
-    }
-}
 
 /// Whether the input has this outcome, with this written.
 fn averages(alloc: Global, input: &[u8], outcome: Outcome, written: &[u8]) -> bool {
-    match MemorySource::new(alloc, input, &[]) {
-        Ok(mut source) => comes(alloc, &mut source, outcome, written),
-        Err(_) => false,
-    }
+    let Ok(mut source) = MemorySource::new(alloc, input, &[]) else {
+        return false;
+    };
+    let Ok(mut sink) = MemorySink::new(alloc, &[]) else {
+        return false;
+    };
+    average(alloc, &mut source, &mut sink) == outcome && sink.written() == written
 }
 
 /// One exchange, none, and lines that aren't exchanges.

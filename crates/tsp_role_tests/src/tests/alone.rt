@@ -177,16 +177,11 @@ fn holds(node: &mut Node, pad: &mut Pad) -> Result<(Option<usize>, bool), Fail>
     Ok((wrong, is_right && node.role() == Role::Loose))
 }
 
-/// The same of a new node, whose acts are put on this pad.
-fn tried_on(alloc: Global, pad: &mut Pad) -> Result<(Option<usize>, bool), Fail> {
-    let mut node = booted(alloc, pad)?;
-    holds(&mut node, pad)
-}
-
-/// The same on a new pad.
+/// The same of a new node.
 fn tried(alloc: Global) -> Result<(Option<usize>, bool), Fail> {
     let mut pad = Pad::new(alloc);
-    tried_on(alloc, &mut pad)
+    let mut node = booted(alloc, &mut pad)?;
+    holds(&mut node, &mut pad)
 }
 
 #[test]

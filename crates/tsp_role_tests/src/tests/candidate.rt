@@ -41,13 +41,6 @@ const STANDS: Row = (
     ],
 );
 
-/// Peer 2 of two, where elections are strict or aren't.
-fn node(alloc: Global, strict: bool) -> Result<Node, Fail> {
-    let mut node = Node::new(alloc, PeerId(2), &[PeerId(1), PeerId(2)])?;
-    node.station.me.strict = strict;
-    Ok(node)
-}
-
 /// Lets the node hear a message of its first peer, whose name is `b`.
 fn hears(node: &mut Node, tick: u32, kind: Kind, number: u16) -> Result<(), AllocError> {
     let name = Name::of(b"b").unwrap_or(Name::empty());
@@ -92,10 +85,14 @@ fn first_wrong(node: &mut Node, rows: &[Row]) -> Result<Option<usize>, Fail> {
     Ok(None)
 }
 
-/// Goes through steps at a new node, where elections aren't strict.
-fn tried(alloc: Global, rows: &[Row]) -> Result<Option<usize>, Fail> {
-    let mut node = node(alloc, false)?;
-    first_wrong(&mut node, rows)
+/// Lets peer 2 of two, where elections are strict or aren't, go through steps. What goes wrong, the port's role at the
+/// end, and whether it then knows its master's name.
+fn tried(alloc: Global, strict: bool, rows: &[Row]) -> Result<(Option<usize>, Role, bool), Fail> {
+    let mut node = Node::new(alloc, PeerId(2), &[PeerId(1), PeerId(2)])?;
+    node.station.me.strict = strict;
+    let wrong = first_wrong(&mut node, rows)?;
+    let is_named = node.last.name().octets() == b"b".as_slice();
+    Ok((wrong, node.station.role, is_named))
 }
 
 /// A candidate that is accepted: an ACCEPT of another number counts for nothing.
@@ -108,12 +105,6 @@ const ACCEPTED: [Row; 3] = [
         &["acked 1", "backer 1"],
     ),
 ];
-
-#[test]
-fn counts_who_accepts(rt: HostRuntime) -> Result<(), Fail> {
-    assert_eq!(rt; tried(rt.alloc(), &ACCEPTED)?, None);
-    Ok(())
-}
 
 /// A candidate that nobody refuses.
 const LEADS: [Row; 3] = [
@@ -135,12 +126,6 @@ const LEADS: [Row; 3] = [
     ),
 ];
 
-#[test]
-fn leads_where_nobody_refuses(rt: HostRuntime) -> Result<(), Fail> {
-    assert_eq!(rt; tried(rt.alloc(), &LEADS)?, None);
-    Ok(())
-}
-
 /// A candidate that is refused.
 const REFUSED: [Row; 3] = [
     STANDS,
@@ -151,12 +136,6 @@ const REFUSED: [Row; 3] = [
         &["acked 1", "become loose", "arm elect 700000009"],
     ),
 ];
-
-#[test]
-fn gives_way_at_a_refusal(rt: HostRuntime) -> Result<(), Fail> {
-    assert_eq!(rt; tried(rt.alloc(), &REFUSED)?, None);
-    Ok(())
-}
 
 /// A candidate that is too late, and stands again.
 const LATE: [Row; 3] = [
@@ -178,12 +157,6 @@ const LATE: [Row; 3] = [
     ),
 ];
 
-#[test]
-fn gives_way_when_late(rt: HostRuntime) -> Result<(), Fail> {
-    assert_eq!(rt; tried(rt.alloc(), &LATE)?, None);
-    Ok(())
-}
-
 /// A candidate that finds a master.
 const FOLLOWS: [Row; 3] = [
     STANDS,
@@ -198,24 +171,6 @@ const FOLLOWS: [Row; 3] = [
         ],
     ),
 ];
-
-/// Goes through these steps. What goes wrong, and whether the node then knows its master's name.
-fn followed(node: &mut Node) -> Result<(Option<usize>, bool), Fail> {
-    let wrong = first_wrong(node, &FOLLOWS)?;
-    Ok((wrong, node.last.name().octets() == b"b".as_slice()))
-}
-
-/// The same at a new node.
-fn tried_following(alloc: Global) -> Result<(Option<usize>, bool), Fail> {
-    let mut node = node(alloc, false)?;
-    followed(&mut node)
-}
-
-#[test]
-fn follows_a_master(rt: HostRuntime) -> Result<(), Fail> {
-    assert_eq!(rt; tried_following(rt.alloc())?, (None, true));
-    Ok(())
-}
 
 /// One of two isn't a majority, and two of two are one.
 const STRICT: [Row; 5] = [
@@ -252,20 +207,22 @@ const STRICT: [Row; 5] = [
     ),
 ];
 
-/// Goes through these steps. What goes wrong, and whether the node is master then.
-fn won(node: &mut Node) -> Result<(Option<usize>, bool), Fail> {
-    let wrong = first_wrong(node, &STRICT)?;
-    Ok((wrong, node.station.role == Role::Master))
-}
-
-/// The same at a new node, where elections are strict.
-fn tried_strictly(alloc: Global) -> Result<(Option<usize>, bool), Fail> {
-    let mut node = node(alloc, true)?;
-    won(&mut node)
-}
+/// Whether elections are strict, a candidate's steps, its role at the end, and whether it then knows its master's name.
+const RUNS: [(bool, &[Row], Role, bool); 6] = [
+    (false, &ACCEPTED, Role::Candidate, false),
+    (false, &LEADS, Role::Master, false),
+    (false, &REFUSED, Role::Loose, false),
+    (false, &LATE, Role::Candidate, false),
+    (false, &FOLLOWS, Role::Follow(PeerId(1)), true),
+    (true, &STRICT, Role::Master, false),
+];
 
 #[test]
-fn wins_strictly_with_more_than_half(rt: HostRuntime) -> Result<(), Fail> {
-    assert_eq!(rt; tried_strictly(rt.alloc())?, (None, true));
+fn candidates_win_and_give_way(rt: HostRuntime) -> Result<(), Fail> {
+    for (run, (strict, rows, role, named)) in RUNS.iter().enumerate() {
+        let (wrong, last, is_named) = tried(rt.alloc(), *strict, rows)?;
+        assert!(rt; wrong.is_none(), "row {wrong:?} of run {run}");
+        assert!(rt; last == *role && is_named == *named, "run {run}");
+    }
     Ok(())
 }

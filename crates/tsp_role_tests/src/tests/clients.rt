@@ -33,13 +33,8 @@ enum Step {
     Leads,
 }
 
-/// A step, and its acts as texts of a trace.
-type Row = (Step, &'static [&'static str]);
-
-/// Peer 0 of two.
-fn node(alloc: Global) -> Result<Node, Fail> {
-    Node::new(alloc, PeerId(0), &[PeerId(0), PeerId(1)])
-}
+/// A step, its acts as texts of a trace, and whether the node's own trace is on then.
+type Row = (Step, &'static [&'static str], bool);
 
 /// Lets the node follow its second peer, whose name is `b`.
 fn follows(node: &mut Node) -> Result<(), AllocError> {
@@ -78,27 +73,28 @@ fn goes(node: &mut Node, tracing: &mut bool, step: Step) -> Result<(), AllocErro
     Ok(())
 }
 
-/// Goes through steps one after the other. The index of the first row whose texts aren't those of its step's
-/// acts.
-fn first_wrong(node: &mut Node, tracing: &mut bool, rows: &[Row]) -> Result<Option<usize>, Fail> {
-    for (i, (step, acts)) in rows.iter().enumerate() {
-        goes(node, tracing, *step)?;
-        if !are_told(node.pad.acts(), acts) {
+/// Goes through steps one after the other, where the trace is off at first. The index of the first row whose
+/// texts aren't those of its step's acts, or after which the trace is as it should not be.
+fn first_wrong(node: &mut Node, rows: &[Row]) -> Result<Option<usize>, Fail> {
+    let mut tracing = false;
+    for (i, (step, acts, traces)) in rows.iter().enumerate() {
+        goes(node, &mut tracing, *step)?;
+        if !are_told(node.pad.acts(), acts) || tracing != *traces {
             return Ok(Some(i));
         }
     }
     Ok(None)
 }
 
-/// Goes through steps at a new node whose trace is off.
+/// Lets peer 0 of two go through steps.
 fn tried(alloc: Global, rows: &[Row]) -> Result<Option<usize>, Fail> {
-    let mut node = node(alloc)?;
-    first_wrong(&mut node, &mut false, rows)
+    let mut node = Node::new(alloc, PeerId(0), &[PeerId(0), PeerId(1)])?;
+    first_wrong(&mut node, rows)
 }
 
 /// A port that knows no master, one that follows, and one that leads.
 const NAMES: [Row; 7] = [
-    (Names(1), &["post 0 - ack 1 %"]),
+    (Names(1), &["post 0 - ack 1 %"], false),
     (
         Follows,
         &[
@@ -106,51 +102,26 @@ const NAMES: [Row; 7] = [
             "arm elect 380000007",
             "post 0 1 slaveup 7 a",
         ],
+        false,
     ),
-    (Names(2), &["post 0 - ack 2 b"]),
-    (Says(3), &[]),
-    (Leads, &["become master"]),
-    (Names(4), &["post 0 - ack 4 a"]),
-    (Says(5), &["post 0 - ack 5 a"]),
+    (Names(2), &["post 0 - ack 2 b"], false),
+    (Says(3), &[], false),
+    (Leads, &["become master"], false),
+    (Names(4), &["post 0 - ack 4 a"], false),
+    (Says(5), &["post 0 - ack 5 a"], false),
 ];
 
-#[test]
-fn names_the_master(rt: HostRuntime) -> Result<(), Fail> {
-    assert_eq!(rt; tried(rt.alloc(), &NAMES)?, None);
-    Ok(())
-}
-
-const ON: [Row; 1] = [(Traces(true, 6), &["trace on", "post 0 - ack 6 a"])];
-
-const OFF: [Row; 1] = [(Traces(false, 7), &["trace off", "post 0 - ack 7 a"])];
-
-/// Turns a node's trace on and off. What goes wrong at each, and whether the trace is on after it.
-fn turned(node: &mut Node) -> Result<[(Option<usize>, bool); 2], Fail> {
-    let mut tracing = false;
-    let first = first_wrong(node, &mut tracing, &ON)?;
-    let is_on = tracing;
-    let last = first_wrong(node, &mut tracing, &OFF)?;
-    Ok([(first, is_on), (last, tracing)])
-}
-
-/// The same at a new node.
-fn tried_turning(alloc: Global) -> Result<[(Option<usize>, bool); 2], Fail> {
-    let mut node = node(alloc)?;
-    turned(&mut node)
-}
-
-#[test]
-fn turns_the_trace(rt: HostRuntime) -> Result<(), Fail> {
-    let turned = tried_turning(rt.alloc())?;
-    assert_eq!(rt; turned, [(None, true), (None, false)]);
-    Ok(())
-}
+/// A node's trace is turned on and off.
+const TRACES: [Row; 2] = [
+    (Traces(true, 6), &["trace on", "post 0 - ack 6 a"], true),
+    (Traces(false, 7), &["trace off", "post 0 - ack 7 a"], false),
+];
 
 /// It may stand for election 300 seconds after its boot.
 const STANDS: [Row; 4] = [
-    (Tests(79_000_000, 1), &[]),
-    (Loosens, &["become loose"]),
-    (Tests(299_999_999, 2), &["post 0 - ack 2 a"]),
+    (Tests(79_000_000, 1), &[], false),
+    (Loosens, &["become loose"], false),
+    (Tests(299_999_999, 2), &["post 0 - ack 2 a"], false),
     (
         Tests(300_000_000, 3),
         &[
@@ -160,11 +131,18 @@ const STANDS: [Row; 4] = [
             "arm window 305000000",
             "post 0 1 election 32775 a",
         ],
+        false,
     ),
 ];
 
+/// Runs of steps, each of a new node.
+const RUNS: [&[Row]; 3] = [&NAMES, &TRACES, &STANDS];
+
 #[test]
-fn stands_when_it_is_asked_to(rt: HostRuntime) -> Result<(), Fail> {
-    assert_eq!(rt; tried(rt.alloc(), &STANDS)?, None);
+fn answers_clients(rt: HostRuntime) -> Result<(), Fail> {
+    for (run, rows) in RUNS.iter().enumerate() {
+        let wrong = tried(rt.alloc(), rows)?;
+        assert!(rt; wrong.is_none(), "row {wrong:?} of run {run}");
+    }
     Ok(())
 }

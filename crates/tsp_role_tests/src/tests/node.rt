@@ -30,6 +30,7 @@ impl Node {
         requires { IsPeers peers.now }
         ensures { IfOk result (λ n. n.clock.at ≡ 0) }
     {
+        let clock = Clock::boot(0, 0, 7)?;
         let me = Me {
             own,
             name: Name::of(b"a")?,
@@ -40,7 +41,7 @@ impl Node {
         Ok(Node {
             station: Station::new(alloc, me, peers, 0)?,
             last: Last::new(),
-            clock: Clock::boot(0, 0, 7)?,
+            clock,
             pad: Pad::new(alloc),
         })
     }

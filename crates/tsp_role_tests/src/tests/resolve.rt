@@ -105,12 +105,6 @@ const RIVAL: [Row; 6] = [
     (Rings(6_000_100), &["ring resolve", "post 0 1 quit 32775 a"]),
 ];
 
-#[test]
-fn sends_a_rival_away(rt: HostRuntime) -> Result<(), Fail> {
-    assert_eq!(rt; tried(rt.alloc(), &RIVAL)?, None);
-    Ok(())
-}
-
 /// A rival that is forgotten is sent nothing.
 const FORGOTTEN: [Row; 5] = [
     (Leads, &["become master"]),
@@ -120,8 +114,14 @@ const FORGOTTEN: [Row; 5] = [
     (Rings(5_000_100), &["ring resolve"]),
 ];
 
+/// Runs of steps, each of a new node.
+const RUNS: [&[Row]; 2] = [&RIVAL, &FORGOTTEN];
+
 #[test]
-fn forgets_its_rivals(rt: HostRuntime) -> Result<(), Fail> {
-    assert_eq!(rt; tried(rt.alloc(), &FORGOTTEN)?, None);
+fn sends_rivals_away(rt: HostRuntime) -> Result<(), Fail> {
+    for (run, rows) in RUNS.iter().enumerate() {
+        let wrong = tried(rt.alloc(), rows)?;
+        assert!(rt; wrong.is_none(), "row {wrong:?} of run {run}");
+    }
     Ok(())
 }

@@ -127,9 +127,28 @@ fn searches(node: &Node) -> bool {
     )
 }
 
-/// Whether the port remembers a correction at this tick, and that its master is called `b`.
-fn remembers(node: &Node, tick: u64) -> bool {
-    node.last.tick() == Some(tick) && node.last.name().octets() == b"b".as_slice()
+/// What a port has come to: its role, whether its master is called `b`, the tick of its last correction, when its
+/// Elect alarm is due, and whether it may back peer 2 at tick 141,000,000.
+type End = (Role, bool, Option<u64>, Option<u64>, bool);
+
+/// What the node's port has come to.
+fn end_of(node: &Node) -> End {
+    let station = &node.station;
+    (
+        station.role,
+        node.last.name().octets() == b"b".as_slice(),
+        node.last.tick(),
+        station.alarms.at(Alarm::Elect),
+        station.hold.may_back(141_000_000, PeerId(2)),
+    )
+}
+
+/// Lets a new node take messages. Whether it searched before, what goes wrong, and what its port has come to.
+fn tried(alloc: Global, rows: &[Row]) -> Result<(bool, Option<usize>, End), Fail> {
+    let mut node = node(alloc)?;
+    let searched = searches(&node);
+    let wrong = first_wrong(&mut node, rows)?;
+    Ok((searched, wrong, end_of(&node)))
 }
 
 /// The port hears of its master, and follows it.
@@ -193,30 +212,6 @@ const CORRECTIONS: [Row; 6] = [
     ),
 ];
 
-/// Lets a port be corrected, and then its node by another port. Whether it searched before, what goes wrong,
-/// and whether it follows its master and remembers both.
-fn corrected(node: &mut Node) -> Result<(bool, Option<usize>, [bool; 2]), Fail>
-    requires { node.old.clock.at ≤ 0 }
-{
-    let searched = searches(node);
-    let wrong = first_wrong(node, &CORRECTIONS)?;
-    let first = remembers(node, 84_000_000) && node.station.role == Role::Follow(PeerId(1));
-    node.last.moved(84_000_001);
-    Ok((searched, wrong, [first, remembers(node, 84_000_001)]))
-}
-
-/// The same at a new node.
-fn tried_correcting(alloc: Global) -> Result<(bool, Option<usize>, [bool; 2]), Fail> {
-    let mut node = node(alloc)?;
-    corrected(&mut node)
-}
-
-#[test]
-fn corrects_once(rt: HostRuntime) -> Result<(), Fail> {
-    assert_eq!(rt; tried_correcting(rt.alloc())?, (true, None, [true, true]));
-    Ok(())
-}
-
 /// What a follower takes from a peer that is no master of its own.
 const REPORTS: [Row; 6] = [
     MEETS,
@@ -253,30 +248,6 @@ const REPORTS: [Row; 6] = [
     ),
 ];
 
-/// Lets a follower take them. What goes wrong, and whether it still follows its master, called `b`.
-fn reported(node: &mut Node) -> Result<(Option<usize>, bool), Fail>
-    requires { node.old.clock.at ≤ 0 }
-{
-    let wrong = first_wrong(node, &REPORTS)?;
-    let follows = node.station.role == Role::Follow(PeerId(1));
-    Ok((
-        wrong,
-        follows && node.last.name().octets() == b"b".as_slice(),
-    ))
-}
-
-/// The same at a new node.
-fn tried_reporting(alloc: Global) -> Result<(Option<usize>, bool), Fail> {
-    let mut node = node(alloc)?;
-    reported(&mut node)
-}
-
-#[test]
-fn reports_another_master_and_takes_a_quit(rt: HostRuntime) -> Result<(), Fail> {
-    assert_eq!(rt; tried_reporting(rt.alloc())?, (None, true));
-    Ok(())
-}
-
 /// The port backs the first candidate that asks it.
 const BACKS: Row = (
     81_000_000,
@@ -285,26 +256,6 @@ const BACKS: Row = (
     &["back 2", "arm elect 381000007", "post 0 2 accept 40000 a"],
     81_000_000,
 );
-
-/// Lets a port back a candidate. What goes wrong, and when it waits no longer for it.
-fn backed(node: &mut Node) -> Result<(Option<usize>, Option<u64>), Fail>
-    requires { node.old.clock.at ≤ 0 }
-{
-    let wrong = first_wrong(node, &[BACKS])?;
-    Ok((wrong, node.station.alarms.at(Alarm::Elect)))
-}
-
-/// The same at a new node.
-fn tried_backing(alloc: Global) -> Result<(Option<usize>, Option<u64>), Fail> {
-    let mut node = node(alloc)?;
-    backed(&mut node)
-}
-
-#[test]
-fn waits_for_whom_it_backs(rt: HostRuntime) -> Result<(), Fail> {
-    assert_eq!(rt; tried_backing(rt.alloc())?, (None, Some(381_000_007)));
-    Ok(())
-}
 
 /// What a port takes from two candidates.
 const CANDIDATES: [Row; 4] = [
@@ -332,23 +283,32 @@ const CANDIDATES: [Row; 4] = [
     ),
 ];
 
-/// Lets a port take them. What goes wrong, and whether it is Loose then and may back no other.
-fn held(node: &mut Node) -> Result<(Option<usize>, bool), Fail>
-    requires { node.old.clock.at ≤ 0 }
-{
-    let wrong = first_wrong(node, &CANDIDATES)?;
-    let may = node.station.hold.may_back(141_000_000, PeerId(2));
-    Ok((wrong, node.station.role == Role::Loose && !may))
-}
+/// A port that follows its master.
+const FOLLOWER: Role = Role::Follow(PeerId(1));
 
-/// The same at a new node.
-fn tried_holding(alloc: Global) -> Result<(Option<usize>, bool), Fail> {
-    let mut node = node(alloc)?;
-    held(&mut node)
-}
+/// What a port takes, and what it comes to.
+const RUNS: [(&[Row], End); 4] = [
+    (
+        &CORRECTIONS,
+        (FOLLOWER, true, Some(84_000_000), Some(384_000_007), true),
+    ),
+    (&REPORTS, (FOLLOWER, true, None, Some(381_000_007), true)),
+    (
+        &[BACKS],
+        (Role::Loose, false, None, Some(381_000_007), true),
+    ),
+    (
+        &CANDIDATES,
+        (Role::Loose, false, None, Some(441_000_007), false),
+    ),
+];
 
 #[test]
-fn backs_one_candidate(rt: HostRuntime) -> Result<(), Fail> {
-    assert_eq!(rt; tried_holding(rt.alloc())?, (None, true));
+fn follows_and_backs(rt: HostRuntime) -> Result<(), Fail> {
+    for (run, (rows, end)) in RUNS.iter().enumerate() {
+        let (searched, wrong, last) = tried(rt.alloc(), rows)?;
+        assert!(rt; searched && wrong.is_none(), "row {wrong:?} of run {run}");
+        assert!(rt; last == *end, "end of run {run}");
+    }
     Ok(())
 }

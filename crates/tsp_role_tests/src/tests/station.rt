@@ -40,11 +40,6 @@ enum Step {
 /// A step, its acts as texts of a trace, the number of the next send, and when the next repeat is due.
 type Row = (Step, &'static [&'static str], u16, Option<u64>);
 
-/// Peer 2 of three.
-fn node(alloc: Global) -> Result<Node, Fail> {
-    Node::new(alloc, PeerId(2), &[PeerId(1), PeerId(2), PeerId(4)])
-}
-
 /// Begins a send to the first peer.
 fn begins(node: &mut Node, step: Step) -> Result<(), AllocError> {
     node.pad.reserve(1)?;
@@ -113,9 +108,9 @@ fn first_wrong(node: &mut Node, rows: &[Row]) -> Result<Option<usize>, Fail> {
     Ok(None)
 }
 
-/// Goes through steps at a new node.
+/// Lets peer 2 of three go through steps.
 fn tried(alloc: Global, rows: &[Row]) -> Result<Option<usize>, Fail> {
-    let mut node = node(alloc)?;
+    let mut node = Node::new(alloc, PeerId(2), &[PeerId(1), PeerId(2), PeerId(4)])?;
     first_wrong(&mut node, rows)
 }
 
@@ -155,12 +150,6 @@ const SENDS: [Row; 11] = [
     (Acknowledged(1, 32_777), &["acked 1"], 32_778, None),
 ];
 
-#[test]
-fn sends_until_answered(rt: HostRuntime) -> Result<(), Fail> {
-    assert_eq!(rt; tried(rt.alloc(), &SENDS)?, None);
-    Ok(())
-}
-
 /// An ACK doesn't answer a date, and a DATEACK no correction.
 const TIMES: [Row; 6] = [
     (
@@ -181,8 +170,14 @@ const TIMES: [Row; 6] = [
     (Acknowledged(1, 7), &["acked 1"], 32_776, None),
 ];
 
+/// Runs of steps, each of a new node.
+const RUNS: [&[Row]; 2] = [&SENDS, &TIMES];
+
 #[test]
-fn answers_that_end_a_date_and_a_correction(rt: HostRuntime) -> Result<(), Fail> {
-    assert_eq!(rt; tried(rt.alloc(), &TIMES)?, None);
+fn sends_until_answered(rt: HostRuntime) -> Result<(), Fail> {
+    for (run, rows) in RUNS.iter().enumerate() {
+        let wrong = tried(rt.alloc(), rows)?;
+        assert!(rt; wrong.is_none(), "row {wrong:?} of run {run}");
+    }
     Ok(())
 }

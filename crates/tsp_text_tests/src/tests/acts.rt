@@ -12,96 +12,103 @@ use tsp_script::act_reader::act_of;
 use tsp_script::trace::act_text;
 
 /// Whether an act is written as this line.
-fn is_written(act: Act, text: &[u8]) -> bool {
+fn is_written(act: &Act, text: &[u8]) -> bool {
     let line = Line2 {
         event: 186,
         node: 2,
         tick: 637975324,
         number: 141,
-        placed: Placed { port: Port(1), act },
+        placed: Placed {
+            port: Port(1),
+            act: act.copy(),
+        },
     };
     act_text(&line).as_slice() == text
 }
 
-/// The texts of the acts of an election and of a master.
-#[test]
-fn writes_roles(rt: HostRuntime) {
-    assert!(rt; is_written(Act::Boot, b"186 2 1 637975324 boot"));
-    assert!(rt;
-        is_written(
-            Act::Become(Role::Starting),
-            b"186 2 1 637975324 become starting"
-        )
-    );
-    assert!(rt; is_written(Act::Become(Role::Loose), b"186 2 1 637975324 become loose"));
-    assert!(rt;
-        is_written(
-            Act::Become(Role::Follow(PeerId(3))),
-            b"186 2 1 637975324 become follow 3"
-        )
-    );
-    assert!(rt;
-        is_written(
-            Act::Become(Role::Candidate),
-            b"186 2 1 637975324 become candidate"
-        )
-    );
-    assert!(rt;
-        is_written(
-            Act::Become(Role::Master),
-            b"186 2 1 637975324 become master"
-        )
-    );
-    assert!(rt; is_written(Act::Back(PeerId(2)), b"186 2 1 637975324 back 2"));
-    assert!(rt; is_written(Act::Backer(PeerId(3)), b"186 2 1 637975324 backer 3"));
-    assert!(rt; is_written(Act::Quit(PeerId(0)), b"186 2 1 637975324 quit 0"));
-    assert!(rt; is_written(Act::Join(PeerId(9)), b"186 2 1 637975324 join 9"));
-    assert!(rt; is_written(Act::Leave(PeerId(10)), b"186 2 1 637975324 leave 10"));
-    assert!(rt; is_written(Act::Rival(PeerId(99)), b"186 2 1 637975324 rival 99"));
-    assert!(rt; is_written(Act::Acked(PeerId(100)), b"186 2 1 637975324 acked 100"));
-    assert!(rt; is_written(Act::Gave(PeerId(3)), b"186 2 1 637975324 gave 3"));
-    assert!(rt; is_written(Act::Trace(true), b"186 2 1 637975324 trace on"));
-    assert!(rt; is_written(Act::Trace(false), b"186 2 1 637975324 trace off"));
-}
+/// Acts and their lines.
+const WRITTEN: [(Act, &str); 25] = [
+    (Act::Boot, "186 2 1 637975324 boot"),
+    (
+        Act::Become(Role::Starting),
+        "186 2 1 637975324 become starting",
+    ),
+    (Act::Become(Role::Loose), "186 2 1 637975324 become loose"),
+    (
+        Act::Become(Role::Follow(PeerId(3))),
+        "186 2 1 637975324 become follow 3",
+    ),
+    (
+        Act::Become(Role::Candidate),
+        "186 2 1 637975324 become candidate",
+    ),
+    (Act::Become(Role::Master), "186 2 1 637975324 become master"),
+    (Act::Back(PeerId(2)), "186 2 1 637975324 back 2"),
+    (Act::Backer(PeerId(3)), "186 2 1 637975324 backer 3"),
+    (Act::Quit(PeerId(0)), "186 2 1 637975324 quit 0"),
+    (Act::Join(PeerId(9)), "186 2 1 637975324 join 9"),
+    (Act::Leave(PeerId(10)), "186 2 1 637975324 leave 10"),
+    (Act::Rival(PeerId(99)), "186 2 1 637975324 rival 99"),
+    (Act::Acked(PeerId(100)), "186 2 1 637975324 acked 100"),
+    (Act::Gave(PeerId(3)), "186 2 1 637975324 gave 3"),
+    (Act::Trace(true), "186 2 1 637975324 trace on"),
+    (Act::Trace(false), "186 2 1 637975324 trace off"),
+    (
+        Act::Arm(Alarm::Probe, 1957464717),
+        "186 2 1 637975324 arm probe 1957464717",
+    ),
+    (Act::Ring(Alarm::Elect), "186 2 1 637975324 ring elect"),
+    (Act::Late(Alarm::Close), "186 2 1 637975324 late close"),
+    (Act::Abandon, "186 2 1 637975324 abandon"),
+    (
+        Act::Correct {
+            amount: -657769,
+            stepped: true,
+            shown: 632195137,
+        },
+        "186 2 1 637975324 correct -657769 step 632195137",
+    ),
+    (
+        Act::Close {
+            count: 2,
+            lo: -500,
+            width: 500,
+            mean: -250,
+        },
+        "186 2 1 637975324 close 2 -500 500 -250",
+    ),
+    (
+        Act::Sample {
+            peer: PeerId(2),
+            counter: 23,
+            diff: -1528614,
+            err: 2634852,
+            ticket: 32333,
+        },
+        "186 2 1 637975324 sample 2 23 -1528614 2634852 32333",
+    ),
+    (
+        Act::Post(
+            Place::Peer(PeerId(0)),
+            Datagram::Stamp(Stamp::Request {
+                word: 17392,
+                counter: 4,
+            }),
+        ),
+        "186 2 1 637975324 post 141 0 request 17392 4",
+    ),
+    (
+        Act::Took(Place::Stranger, Taken::Bad(DecodeFault::NameTooLong)),
+        "186 2 1 637975324 took - refused name-too-long",
+    ),
+];
 
-/// The texts of the other acts.
+/// The text of each act.
 #[test]
 fn writes_acts(rt: HostRuntime) {
-    let arm = Act::Arm(Alarm::Probe, 1957464717);
-    assert!(rt; is_written(arm, b"186 2 1 637975324 arm probe 1957464717"));
-    assert!(rt; is_written(Act::Ring(Alarm::Elect), b"186 2 1 637975324 ring elect"));
-    assert!(rt; is_written(Act::Late(Alarm::Close), b"186 2 1 637975324 late close"));
-    assert!(rt; is_written(Act::Abandon, b"186 2 1 637975324 abandon"));
-    let correct = Act::Correct {
-        amount: -657769,
-        stepped: true,
-        shown: 632195137,
-    };
-    assert!(rt; is_written(correct, b"186 2 1 637975324 correct -657769 step 632195137"));
-    let close = Act::Close {
-        count: 2,
-        lo: -500,
-        width: 500,
-        mean: -250,
-    };
-    assert!(rt; is_written(close, b"186 2 1 637975324 close 2 -500 500 -250"));
-    let sample = Act::Sample {
-        peer: PeerId(2),
-        counter: 23,
-        diff: -1528614,
-        err: 2634852,
-        ticket: 32333,
-    };
-    let text = b"186 2 1 637975324 sample 2 23 -1528614 2634852 32333";
-    assert!(rt; is_written(sample, text));
-    let request = Stamp::Request {
-        word: 17392,
-        counter: 4,
-    };
-    let post = Act::Post(Place::Peer(PeerId(0)), Datagram::Stamp(request));
-    assert!(rt; is_written(post, b"186 2 1 637975324 post 141 0 request 17392 4"));
-    let took = Act::Took(Place::Stranger, Taken::Bad(DecodeFault::NameTooLong));
-    assert!(rt; is_written(took, b"186 2 1 637975324 took - refused name-too-long"));
+    for (act, text) in &WRITTEN {
+        assert!(rt; is_written(act, text.as_bytes()), "{text}");
+    }
 }
 
 /// Whether a line is read, written again as it was, and read as the same again.
@@ -158,11 +165,6 @@ fn reads_each_act(rt: HostRuntime) {
     }
 }
 
-/// Whether a line is a trace's.
-fn is_read(line: &[u8]) -> bool {
-    act_of(line).is_ok()
-}
-
 /// Lines that aren't a trace's.
 const OTHERS: &[&str] = &[
     "",
@@ -204,6 +206,6 @@ const OTHERS: &[&str] = &[
 #[test]
 fn refuses_other_lines(rt: HostRuntime) {
     for line in OTHERS {
-        assert!(rt; !is_read(line.as_bytes()), "{line}");
+        assert!(rt; act_of(line.as_bytes()).is_err(), "{line}");
     }
 }

@@ -56,18 +56,13 @@ fn time_of(value: i64) -> Body {
 /// An ADJTIME with the number 7 and the time 1,234, up to its name.
 const HEAD: &[u8] = &[1, 1, 0, 7, 0, 0, 0, 0, 0, 0, 4, 0xd2];
 
-/// Whether these octets are that message with this name.
-fn spell_adjtime(octets: &[u8], name: &[u8]) -> bool {
-    spell_message(octets, Kind::AdjTime, 7, time_of(1234), name)
-}
-
 /// Whether that head with these octets, and then so many of fill, is the message with this name, and is
 /// written with so many octets, which are 0 from the name's end on.
 fn is_padded(behind: &[u8], fill: u8, count: usize, name: &[u8], size: usize) -> bool {
     let octets = octets_of(HEAD, behind, fill, count);
     let written = octets_of(HEAD, name, 0, size.saturating_sub(12 + name.len()));
     written.len() == size
-        && spell_adjtime(octets.as_slice(), name)
+        && spell_message(octets.as_slice(), Kind::AdjTime, 7, time_of(1234), name)
         && is_written_as(octets.as_slice(), written.as_slice())
 }
 

@@ -60,7 +60,7 @@ fn ask(alloc: Global, words: &[&str], wanted: (&str, i64)) -> Result<bool, Alloc
     Ok(said(&command) == wanted)
 }
 
-/// Commands of one word, and the generator's numbers.
+/// Commands of one word, the generator's numbers, and questions to a daemon.
 const COMMANDS: &[(&[&str], (&str, i64))] = &[
     (&["replay"], ("replay", 0)),
     (&["show"], ("show", 0)),
@@ -71,17 +71,6 @@ const COMMANDS: &[(&[&str], (&str, i64))] = &[
         &["storm", "18446744073709551615", "64", "200000"],
         ("storm", 0),
     ),
-];
-
-#[test]
-fn words_are_commands(rt: HostRuntime) {
-    for (words, wanted) in COMMANDS {
-        assert!(rt; ask(rt.alloc(), words, *wanted) == Ok(true));
-    }
-}
-
-/// Questions to a daemon.
-const QUESTIONS: &[(&[&str], (&str, i64))] = &[
     (&["msite", "127.0.0.1:525"], ("msite", 0)),
     (&["clockdiff", "127.0.0.1:525"], ("clockdiff", 0)),
     (&["election", "127.0.0.1:525"], ("election", 0)),
@@ -92,13 +81,6 @@ const QUESTIONS: &[(&[&str], (&str, i64))] = &[
         ("date", -2147483647999999),
     ),
 ];
-
-#[test]
-fn words_are_questions(rt: HostRuntime) {
-    for (words, wanted) in QUESTIONS {
-        assert!(rt; ask(rt.alloc(), words, *wanted) == Ok(true));
-    }
-}
 
 /// Whether this is the daemon of `TWO`.
 fn is_of_two(alloc: Global, words: &ServeWords) -> Result<bool, AllocError> {
@@ -197,7 +179,10 @@ const OTHERS: &[&[&str]] = &[
 ];
 
 #[test]
-fn other_words_are_none(rt: HostRuntime) {
+fn words_are_commands(rt: HostRuntime) {
+    for (words, wanted) in COMMANDS {
+        assert!(rt; ask(rt.alloc(), words, *wanted) == Ok(true));
+    }
     for words in OTHERS {
         assert!(rt; ask(rt.alloc(), words, ("nothing", 0)) == Ok(true));
     }

@@ -21,16 +21,6 @@ fn comes(alloc: Global, packs: bool, input: &[u8], outcome: Outcome, written: &[
     ended == outcome && sink.written() == written
 }
 
-/// Whether `show` ends with this outcome on the input, and writes this.
-fn shows(alloc: Global, input: &[u8], outcome: Outcome, written: &[u8]) -> bool {
-    comes(alloc, false, input, outcome, written)
-}
-
-/// Whether `pack` ends with this outcome on the input, and writes this.
-fn packs(alloc: Global, input: &[u8], outcome: Outcome, written: &[u8]) -> bool {
-    comes(alloc, true, input, outcome, written)
-}
-
 /// A line: the digits, and then the fill again and again, up to so many octets.
 fn filled(digits: &str, fill: &str, octets: usize) -> ArrayVec<u8, 2048> {
     let mut line = ArrayVec::new();
@@ -45,7 +35,8 @@ fn filled(digits: &str, fill: &str, octets: usize) -> ArrayVec<u8, 2048> {
 /// An ACK without a name, up to the name's end.
 const LETTERS: &str = "020100000000000000000000";
 
-/// Digits, what fills their line up to so many octets, how `show` ends on it, and what it writes.
+/// Digits, what fills their line up to so many octets, how `show` ends on it, and what it writes. The last line is too
+/// long.
 const SPELLINGS: &[(&str, &str, usize, Outcome, &str)] = &[
     (
         "0101000700000000000004d2616c70686100",
@@ -128,6 +119,7 @@ const SPELLINGS: &[(&str, &str, usize, Outcome, &str)] = &[
     (LETTERS, "61", 75, Outcome::Bad, "bad 1 no-end\n"),
     ("8001", "00", 27, Outcome::Bad, "bad 1 stamp-length\n"),
     ("80010001", "00", 28, Outcome::Bad, "bad 1 reserved\n"),
+    ("8001", "00", 513, Outcome::Bad, "bad 1 hex\n"),
 ];
 
 /// Octets of a message or a stamp, with their length, and octets that aren't a datagram.
@@ -136,84 +128,101 @@ fn shows_what_octets_spell(rt: HostRuntime) {
     for (digits, fill, octets, outcome, written) in SPELLINGS {
         let line = filled(digits, fill, *octets);
         assert!(rt;
-            shows(rt.alloc(), line.as_slice(), *outcome, written.as_bytes()),
+            comes(
+                rt.alloc(),
+                false,
+                line.as_slice(),
+                *outcome,
+                written.as_bytes()
+            ),
             "{written}"
         );
     }
 }
 
-/// Inputs of `show`, how it ends on them, and what it writes.
-const SHOWN: &[(&str, Outcome, &str)] = &[
-    ("", Outcome::Ok, ""),
-    ("\n", Outcome::Bad, "bad 1 short\n"),
-    ("0101\n", Outcome::Bad, "bad 1 short\n"),
-    ("zz\n", Outcome::Bad, "bad 1 hex\n"),
-    ("02010000000000000000000000a\n", Outcome::Bad, "bad 1 hex\n"),
-    ("02010003000000000000000000", Outcome::Ok, "ack 3 %\n"),
+/// Inputs of `pack`, or else of `show`: none, with lines that it refuses, and with more than one line; how it ends on
+/// them, and what it writes.
+const LINES: &[(bool, &str, Outcome, &str)] = &[
+    (false, "", Outcome::Ok, ""),
+    (false, "\n", Outcome::Bad, "bad 1 short\n"),
+    (false, "0101\n", Outcome::Bad, "bad 1 short\n"),
+    (false, "zz\n", Outcome::Bad, "bad 1 hex\n"),
     (
+        false,
+        "02010000000000000000000000a\n",
+        Outcome::Bad,
+        "bad 1 hex\n",
+    ),
+    (
+        false,
+        "02010003000000000000000000",
+        Outcome::Ok,
+        "ack 3 %\n",
+    ),
+    (
+        false,
         "02010003000000000000000000\n0D01000400000000000000006200\n",
         Outcome::Ok,
         "ack 3 %\nquit 4 b\n",
     ),
     (
+        false,
         "02010003000000000000000000\n02010003000000000000000000 \n",
         Outcome::Bad,
         "ack 3 %\nbad 2 hex\n",
     ),
-];
-
-/// Inputs without a line, with lines that aren't hexadecimal, and with more than one line.
-#[test]
-fn shows_lines_in_turn(rt: HostRuntime) {
-    for (input, outcome, written) in SHOWN {
-        assert!(rt;
-            shows(rt.alloc(), input.as_bytes(), *outcome, written.as_bytes()),
-            "{written}"
-        );
-    }
-    let long = filled("8001", "00", 513);
-    assert!(rt; shows(rt.alloc(), long.as_slice(), Outcome::Bad, b"bad 1 hex\n"));
-}
-
-/// Inputs of `pack`, how it ends on them, and what it writes.
-const PACKED: &[(&str, Outcome, &str)] = &[
-    ("", Outcome::Ok, ""),
-    ("\n", Outcome::Bad, "bad 1 message\n"),
-    ("adjtime 7 01 alpha\n", Outcome::Bad, "bad 1 message\n"),
+    (true, "", Outcome::Ok, ""),
+    (true, "\n", Outcome::Bad, "bad 1 message\n"),
     (
+        true,
+        "adjtime 7 01 alpha\n",
+        Outcome::Bad,
+        "bad 1 message\n",
+    ),
+    (
+        true,
         "request 10 2\nrequest 10\n",
         Outcome::Bad,
         "80010000000000000000000a00000000000000020000000000000000\nbad 2 message\n",
     ),
 ];
 
-/// Whether `pack` refuses a long line.
-fn packs_long(alloc: Global) -> bool {
+/// Whether `pack` refuses a long line, and writes a message without a name as 76 octets.
+fn packs(alloc: Global) -> bool {
     let long = filled("ack 1 a", "aa", 520);
-    packs(alloc, long.as_slice(), Outcome::Bad, b"bad 1 message\n")
-}
-
-/// Whether `pack` writes a message without a name as 76 octets.
-fn packs_empty(alloc: Global) -> bool {
     let octets = filled("13010003", "00", 76);
-    octets.len() == 153 && packs(alloc, b"msite 3 %", Outcome::Ok, octets.as_slice())
+    octets.len() == 153
+        && comes(
+            alloc,
+            true,
+            long.as_slice(),
+            Outcome::Bad,
+            b"bad 1 message\n",
+        )
+        && comes(alloc, true, b"msite 3 %", Outcome::Ok, octets.as_slice())
 }
 
-/// Inputs without a line, with lines that aren't a message's, and with more than one line.
+/// Inputs end as their rows say.
 #[test]
-fn packs_lines_in_turn(rt: HostRuntime) {
-    for (input, outcome, written) in PACKED {
+fn converts_lines_in_turn(rt: HostRuntime) {
+    for (packs, input, outcome, written) in LINES {
         assert!(rt;
-            packs(rt.alloc(), input.as_bytes(), *outcome, written.as_bytes()),
+            comes(
+                rt.alloc(),
+                *packs,
+                input.as_bytes(),
+                *outcome,
+                written.as_bytes()
+            ),
             "{written}"
         );
     }
-    assert!(rt; packs_long(rt.alloc()) && packs_empty(rt.alloc()));
+    assert!(rt; packs(rt.alloc()));
 }
 
 /// Whether `show` makes this line of these octets, and `pack` the octets of the line.
 fn converts(alloc: Global, hex: &[u8], line: &[u8]) -> bool {
-    shows(alloc, hex, Outcome::Ok, line) && packs(alloc, line, Outcome::Ok, hex)
+    comes(alloc, false, hex, Outcome::Ok, line) && comes(alloc, true, line, Outcome::Ok, hex)
 }
 
 /// Whether a name of so many letters makes octets of this size.

@@ -1,5 +1,4 @@
 //! What no contract says of inputs that are read whole: that each outcome does come.
-ghost use Rattle.std.specs.Prelude.{◌<◌};
 
 use crate::tests::lines::Echo;
 use std::alloc::{AllocError, Global};
@@ -8,10 +7,11 @@ use tsp_io::source::{Got, Source};
 use tsp_lines::treat::Outcome;
 use tsp_lines::treat_gathered::treat_gathered;
 
-/// An input and its limit, the reads that fail, how its treatment should end, what is written, and how many octets one
-/// more read gives.
+/// An input, how many octets a read gives at most, its limit, the reads that fail, how its treatment should end, what is
+/// written, and how many octets one more read gives.
 type Row = (
     &'static str,
+    usize,
     u32,
     &'static [u32],
     Outcome,
@@ -19,11 +19,12 @@ type Row = (
     usize,
 );
 
-/// Whether an input that is read so many octets at a time ends as the row says.
-fn comes(alloc: Global, row: &Row, most: usize) -> Result<bool, AllocError>
-    requires { 0 < most }
-{
-    let (input, limit, reads, outcome, written, next) = *row;
+/// Whether an input ends as the row says.
+fn comes(alloc: Global, row: &Row) -> Result<bool, AllocError> {
+    let (input, most, limit, reads, outcome, written, next) = *row;
+    if most == 0 {
+        return Ok(false);
+    }
     let mut source = MemorySource::new(alloc, input.as_bytes(), reads)?.in_pieces(most);
     let mut sink = MemorySink::new(alloc, &[])?;
     let mut echo = Echo { lines: 0 };
@@ -32,34 +33,20 @@ fn comes(alloc: Global, row: &Row, most: usize) -> Result<bool, AllocError>
     Ok(right && source.read(&mut [0; 8]) == Got::Got(next))
 }
 
-/// A line that is refused, with another one behind it.
-const BEHIND: Row = ("a\n!\nb\n", 6, &[], Outcome::Bad, "a\nbad 2 mark\n", 0);
-
-/// A line is refused once the input was read to its end.
-#[test]
-fn refuses_behind_the_end(rt: HostRuntime) {
-    assert!(rt; comes(rt.alloc(), &BEHIND, 2) == Ok(true));
-}
-
-/// Inputs of which no read fails, and the third.
-const READS: &[Row] = &[
-    ("a\nb\n", 100, &[], Outcome::Ok, "a\nb\n", 0),
-    ("a\nb\n", 100, &[2], Outcome::ReadFault, "", 0),
+/// A line is refused, with another one behind it, once the input was read to its end. Nothing is written where a read
+/// fails, here the third, and all of the lines where none does. Of five octets where three are allowed, one past the
+/// limit is read, and not another one.
+const ROWS: &[Row] = &[
+    ("a\n!\nb\n", 2, 6, &[], Outcome::Bad, "a\nbad 2 mark\n", 0),
+    ("a\nb\n", 2, 100, &[], Outcome::Ok, "a\nb\n", 0),
+    ("a\nb\n", 2, 100, &[2], Outcome::ReadFault, "", 0),
+    ("a\nb\nc", 100, 3, &[], Outcome::Limit, "a\nlimit 2\n", 1),
 ];
 
-/// Nothing is written where a read fails, and all of the lines where none does.
+/// Each input ends as its row says.
 #[test]
-fn writes_nothing_before_a_read_fault(rt: HostRuntime) {
-    for row in READS {
-        assert!(rt; comes(rt.alloc(), row, 2) == Ok(true));
+fn gathered_inputs_end(rt: HostRuntime) {
+    for row in ROWS {
+        assert!(rt; comes(rt.alloc(), row) == Ok(true), "{}", row.0);
     }
-}
-
-/// Five octets, where three are allowed.
-const BEYOND: Row = ("a\nb\nc", 3, &[], Outcome::Limit, "a\nlimit 2\n", 1);
-
-/// One octet past the limit is read, and not another one.
-#[test]
-fn reads_one_octet_past_the_limit(rt: HostRuntime) {
-    assert!(rt; comes(rt.alloc(), &BEYOND, 100) == Ok(true));
 }

@@ -80,15 +80,10 @@ const OTHERS: &[&str] = &[
     "reply 1 0 0 -2147483648000000",
 ];
 
-/// Whether a line is a message's.
-fn is_read(line: &[u8]) -> bool {
-    message_of(line).is_ok()
-}
-
 #[test]
 fn refuses_other_spellings(rt: HostRuntime) {
     for line in OTHERS {
-        assert!(rt; !is_read(line.as_bytes()), "read {line}");
+        assert!(rt; message_of(line.as_bytes()).is_err(), "read {line}");
     }
 }
 

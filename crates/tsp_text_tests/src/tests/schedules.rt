@@ -50,6 +50,16 @@ const HEADS: &[(&str, u32, Option<(&str, u32)>)] = &[
     ("node a 0 0 x", 3, None),
     ("node a% 0 0 m", 3, None),
     ("node  0 0 m", 3, None),
+    ("net ", 4, None),
+    ("net 0 ", 4, None),
+    ("net  0", 4, None),
+    ("net 1 0", 4, None),
+    ("net 1 1", 4, None),
+    ("net 01", 4, None),
+    ("net 4294967296", 4, None),
+    ("net a", 4, None),
+    ("net", 4, Some(("after", 0))),
+    ("nets 0", 4, Some(("after", 0))),
 ];
 
 /// The lines of a schedule, and lines that differ from one in one point.
@@ -90,20 +100,6 @@ const NETS: &[(&str, &[u32])] = &[
     ("net 7 4294967295", &[7, 4294967295]),
 ];
 
-/// Lines that differ from a network's in one point.
-const NO_NETS: &[(&str, Option<(&str, u32)>)] = &[
-    ("net ", None),
-    ("net 0 ", None),
-    ("net  0", None),
-    ("net 1 0", None),
-    ("net 1 1", None),
-    ("net 01", None),
-    ("net 4294967296", None),
-    ("net a", None),
-    ("net", Some(("after", 0))),
-    ("nets 0", Some(("after", 0))),
-];
-
 /// Whether the line of 64 nodes is a network's, and with one more node is none's.
 fn has_64_nodes() -> bool {
     let mut longer = ArrayVec::<u8, 1024>::new();
@@ -112,14 +108,11 @@ fn has_64_nodes() -> bool {
     head(NODES_64.as_bytes(), 3) == Some(("net", 0)) && head(longer.as_slice(), 3).is_none()
 }
 
-/// The lines of networks, and lines that differ from one in one point.
+/// The lines of networks.
 #[test]
 fn reads_networks(rt: HostRuntime) {
     for (line, numbers) in NETS {
         assert!(rt; is_net(line.as_bytes(), numbers), "{line}");
-    }
-    for (line, wanted) in NO_NETS {
-        assert!(rt; head(line.as_bytes(), 4) == *wanted, "{line}");
     }
     assert!(rt; has_64_nodes());
 }
@@ -198,43 +191,6 @@ fn gives(line: &[u8], at: u64, node: u32, port: u8, from: Place, octets: &[u8]) 
     }
 }
 
-/// Whether a line is one of a schedule's after the header.
-fn is_read(line: &[u8]) -> bool {
-    event_line(line).is_ok()
-}
-
-/// Octets for a stranger on a port.
-const PORTS: &[(&str, u8)] = &[
-    ("at 5 bytes 3 - 00", 0),
-    ("at 5 bytes 3/1 - 00", 1),
-    ("at 5 bytes 3/255 - 00", 255),
-];
-
-/// Ports that are written otherwise.
-const NO_PORTS: &[&str] = &[
-    "at 5 bytes 3/0 - 00",
-    "at 5 bytes 3/ - 00",
-    "at 5 bytes 3/01 - 00",
-    "at 5 bytes 3/256 - 00",
-    "at 5 bytes /1 - 00",
-    "at 5 bytes 3/1/1 - 00",
-    "at 5 turn 3/1",
-];
-
-/// Events on ports, and ports that are written otherwise.
-#[test]
-fn reads_ports(rt: HostRuntime) {
-    for (line, port) in PORTS {
-        assert!(rt;
-            gives(line.as_bytes(), 5, 3, *port, Place::Stranger, &[0]),
-            "{line}"
-        );
-    }
-    for line in NO_PORTS {
-        assert!(rt; !is_read(line.as_bytes()), "read {line}");
-    }
-}
-
 /// Lines, and whether each is one of a schedule's after the header.
 const EVENTS: &[(&str, bool)] = &[
     ("at 0 boot 0 5", true),
@@ -252,24 +208,41 @@ const EVENTS: &[(&str, bool)] = &[
     ("at 1 bytes 0 - 0", false),
     ("at 1 bytes 0 - ", false),
     ("end ", false),
+    ("at 5 bytes 3/0 - 00", false),
+    ("at 5 bytes 3/ - 00", false),
+    ("at 5 bytes 3/01 - 00", false),
+    ("at 5 bytes 3/256 - 00", false),
+    ("at 5 bytes /1 - 00", false),
+    ("at 5 bytes 3/1/1 - 00", false),
+    ("at 5 turn 3/1", false),
+];
+
+/// Lines that give octets to a node on a port at a time.
+const GIVEN: &[(&str, u64, u32, u8, Place, &[u8])] = &[
+    ("at 5 bytes 3 - 00", 5, 3, 0, Place::Stranger, &[0]),
+    ("at 5 bytes 3/1 - 00", 5, 3, 1, Place::Stranger, &[0]),
+    ("at 5 bytes 3/255 - 00", 5, 3, 255, Place::Stranger, &[0]),
+    (
+        "at 82000000 bytes 0 1 06010000Ff",
+        82000000,
+        0,
+        0,
+        Place::Peer(PeerId(1)),
+        &[6, 1, 0, 0, 255],
+    ),
 ];
 
 /// The lines of events, and lines that differ from one in one point.
 #[test]
 fn reads_events(rt: HostRuntime) {
     for (line, reads) in EVENTS {
-        assert!(rt; is_read(line.as_bytes()) == *reads, "{line}");
+        assert!(rt; event_line(line.as_bytes()).is_ok() == *reads, "{line}");
     }
-    let line = b"at 82000000 bytes 0 1 06010000Ff";
-    assert!(rt;
-        gives(
-            line,
-            82000000,
-            0,
-            0,
-            Place::Peer(PeerId(1)),
-            &[6, 1, 0, 0, 255]
-        )
-    );
+    for (line, at, node, port, from, octets) in GIVEN {
+        assert!(rt;
+            gives(line.as_bytes(), *at, *node, *port, *from, octets),
+            "{line}"
+        );
+    }
     assert!(rt; matches!(event_line(b"end"), Ok(EventItem::End)));
 }

@@ -33,11 +33,6 @@ const REPLIES: &[(u16, i64, bool)] = &[
     (0, 1 - LIMIT, true),
 ];
 
-/// Whether octets are as many as a value of them can have.
-fn fit(octets: &[u8]) -> bool {
-    Octets::of(octets).is_some()
-}
-
 #[test]
 fn bounds_values(rt: HostRuntime) {
     for (value, fits) in TIMES {
@@ -46,7 +41,7 @@ fn bounds_values(rt: HostRuntime) {
     for (ticket, reading, fits) in REPLIES {
         assert!(rt; Stamp::reply(*ticket, 1, 2, *reading).is_some() == *fits);
     }
-    assert!(rt; fit(&[7; 300]) && !fit(&[7; 301]));
+    assert!(rt; Octets::of(&[7; 300]).is_some() && Octets::of(&[7; 301]).is_none());
 }
 
 /// Octets that are names, and why other ones aren't.
@@ -89,18 +84,13 @@ fn is_kind(number: u8, word: &[u8], kind: Kind) -> bool {
         && kind.word() == word
 }
 
-/// Whether a time is in an ADJTIME and not in a LOOP.
-fn time_fits(time: Micros) -> bool {
-    can_have(Kind::AdjTime, Body::Time(time)) && !can_have(Kind::Loop, Body::Time(time))
-}
-
-/// Whether hops are in a LOOP and not in an ACK, and nothing is in an ACK and not in an ADJTIME.
-fn others_fit() -> bool {
-    can_have(Kind::Loop, Body::Hops(3))
-        && !can_have(Kind::Ack, Body::Hops(0))
-        && can_have(Kind::Ack, Body::Nothing)
-        && !can_have(Kind::AdjTime, Body::Nothing)
-}
+/// Kinds and bodies, and whether a message can have them.
+const BODIES: [(Kind, Body, bool); 4] = [
+    (Kind::Loop, Body::Hops(3), true),
+    (Kind::Ack, Body::Hops(0), false),
+    (Kind::Ack, Body::Nothing, true),
+    (Kind::AdjTime, Body::Nothing, false),
+];
 
 /// Numbers, words, and their kinds.
 const KINDS: &[(u8, &[u8], Kind)] = &[
@@ -114,7 +104,11 @@ fn matches_bodies_to_kinds(rt: HostRuntime) {
     let Some(time) = Micros::of(1234) else {
         panic!(rt; "the time is in range");
     };
-    assert!(rt; time_fits(time) && others_fit());
+    let time = Body::Time(time);
+    assert!(rt; can_have(Kind::AdjTime, time) && !can_have(Kind::Loop, time));
+    for (kind, body, fits) in BODIES {
+        assert!(rt; can_have(kind, body) == fits);
+    }
     for (number, word, kind) in KINDS {
         assert!(rt; is_kind(*number, word, *kind));
     }
@@ -237,18 +231,13 @@ fn takes_64(header: &mut Header) -> bool {
         && header.nets().len() == 64
 }
 
-/// Whether nodes are no more than a network can have.
-fn are_members(numbers: &[u32]) -> bool {
-    Members::of(numbers).is_some()
-}
-
 #[test]
 fn bounds_networks(rt: HostRuntime) {
     let Some(mut header) = header_of(rt.alloc(), 64) else {
         panic!(rt; "64 nodes are pushed");
     };
     assert!(rt; takes_64(&mut header));
-    assert!(rt; are_members(&[7; 64]) && !are_members(&[7; 65]));
+    assert!(rt; Members::of(&[7; 64]).is_some() && Members::of(&[7; 65]).is_none());
 }
 
 #[test]

@@ -20,21 +20,13 @@ fn message() -> Datagram {
     Datagram::Message(message)
 }
 
-/// Whether octets are a message's.
-fn is_message(octets: &[u8]) -> bool {
-    matches!(decode(octets), Ok(Datagram::Message(_)))
-}
-
-/// Whether octets are too few.
-fn is_short(octets: &[u8]) -> bool {
-    matches!(decode(octets), Err(DecodeFault::Short))
-}
-
 /// Octets are written and read.
 #[test]
 fn of_the_codec(rt: HostRuntime) {
     let octets = encode(&message());
-    assert!(rt; octets.len() == 76 && is_message(octets.as_slice()) && is_short(b""));
+    let is_message = matches!(decode(octets.as_slice()), Ok(Datagram::Message(_)));
+    assert!(rt; octets.len() == 76 && is_message);
+    assert!(rt; matches!(decode(b""), Err(DecodeFault::Short)));
 }
 
 /// Four clocks' group, its mean, and a correction.

@@ -76,27 +76,25 @@ fn meets(alloc: Global, walls: &'static [i64], meeting: Meeting) -> Option<bool>
     })
 }
 
-/// Two nodes are quiet at first; then one of them becomes master, and the other follows it.
-#[test]
-fn two_nodes_elect_one(rt: HostRuntime) {
-    assert!(rt; meets(rt.alloc(), &[0, 0], Meeting::Elect) == Some(true));
-}
+/// The clocks of nodes, and what they do. Two nodes are quiet at first; then one of them becomes master, and the other
+/// follows it. Three clocks that are far apart come within two milliseconds of each other. A node that boots late follows
+/// the master that is there already, and its clock is set. A master that is cut off is still master alone, and the others
+/// elect another one; once a node boots that hears both, one of the two gives way.
+const MEETINGS: &[(&str, &[i64], Meeting)] = &[
+    ("two nodes elect one", &[0, 0], Meeting::Elect),
+    (
+        "three clocks come together",
+        &[0, 400_000, -300_000],
+        Meeting::Come,
+    ),
+    ("a late node follows", &[0, 0, 5_000_000], Meeting::Late),
+    ("a split network joins again", &[0, 0, 0], Meeting::Split),
+];
 
-/// Three clocks that are far apart come within two milliseconds of each other.
+/// Nodes do so.
 #[test]
-fn three_clocks_come_together(rt: HostRuntime) {
-    assert!(rt; meets(rt.alloc(), &[0, 400_000, -300_000], Meeting::Come) == Some(true));
-}
-
-/// A node that boots late follows the master that is there already, and its clock is set.
-#[test]
-fn a_late_node_follows(rt: HostRuntime) {
-    assert!(rt; meets(rt.alloc(), &[0, 0, 5_000_000], Meeting::Late) == Some(true));
-}
-
-/// A master that is cut off is still master alone, and the others elect another one. Once a node boots that
-/// hears both, one of the two gives way.
-#[test]
-fn a_split_network_joins_again(rt: HostRuntime) {
-    assert!(rt; meets(rt.alloc(), &[0, 0, 0], Meeting::Split) == Some(true));
+fn nodes_meet(rt: HostRuntime) {
+    for (what, walls, meeting) in MEETINGS {
+        assert!(rt; meets(rt.alloc(), walls, *meeting) == Some(true), "{what}");
+    }
 }

@@ -28,7 +28,8 @@ const ASKED: &[Step] = &[
     ),
 ];
 
-static ALONE: Scene = Scene {
+/// A node boots, does nothing at a turn, and answers a stranger's request.
+const ALONE: Scene = Scene {
     drift: 0,
     rates: &[0],
     walls: &[1000],
@@ -37,12 +38,6 @@ static ALONE: Scene = Scene {
     events: 3,
     posts: &[20],
 };
-
-/// A node boots, does nothing at a turn, and answers a stranger's request.
-#[test]
-fn answers_a_stranger(rt: HostRuntime) {
-    assert!(rt; comes(rt.alloc(), &ALONE) == Some(true));
-}
 
 const FIRST: Place = Place::Peer(PeerId(0));
 
@@ -96,7 +91,8 @@ const CARRIED: &[Step] = &[
     (4_000_000, What::Take(1), Outcome::Nothing),
 ];
 
-static APART: Scene = Scene {
+/// Two nodes whose clocks drift apart. The reply is taken twice, and one to a stranger by nobody.
+const APART: Scene = Scene {
     drift: 1000,
     rates: &[1000, -500],
     walls: &[1000, -7],
@@ -105,12 +101,6 @@ static APART: Scene = Scene {
     events: 7,
     posts: &[2_000_000, 4_000_000],
 };
-
-/// Two nodes whose clocks drift apart. The reply is taken twice, and one to a stranger by nobody.
-#[test]
-fn carries_a_reply_to_its_node(rt: HostRuntime) {
-    assert!(rt; comes(rt.alloc(), &APART) == Some(true));
-}
 
 /// Events of one node, of which two happen.
 const REFUSED: &[Step] = &[
@@ -135,7 +125,8 @@ const REFUSED: &[Step] = &[
     (5, What::Turn(0), Outcome::Happens),
 ];
 
-static FAULTY: Scene = Scene {
+/// Each cause except the limit and memory, and which of two comes first.
+const FAULTY: Scene = Scene {
     drift: 0,
     rates: &[0],
     walls: &[0],
@@ -144,12 +135,6 @@ static FAULTY: Scene = Scene {
     events: 2,
     posts: &[],
 };
-
-/// Each cause except the limit and memory, and which of two comes first.
-#[test]
-fn refuses_by_the_first_cause(rt: HostRuntime) {
-    assert!(rt; comes(rt.alloc(), &FAULTY) == Some(true));
-}
 
 /// A node on two networks is asked on both.
 const ON_TWO: &[Step] = &[
@@ -198,8 +183,9 @@ const ON_TWO: &[Step] = &[
     (40, What::Take(1), Outcome::Nothing),
 ];
 
-/// Three nodes, of which the first is on a network with each other one.
-static ON_BOTH: Scene = Scene {
+/// A node on two networks boots on both ports. What it posts on one reaches that network alone, and an event
+/// on a port that it doesn't have is refused.
+const ON_BOTH: Scene = Scene {
     drift: 0,
     rates: &[],
     walls: &[0, 0, 0],
@@ -209,9 +195,18 @@ static ON_BOTH: Scene = Scene {
     posts: &[10, 40],
 };
 
-/// A node on two networks boots on both ports. What it posts on one reaches that network alone, and an event
-/// on a port that it doesn't have is refused.
+/// The schedules, by what they show.
+const SCENES: &[(&str, Scene)] = &[
+    ("answers a stranger", ALONE),
+    ("carries a reply to its node", APART),
+    ("refuses by the first cause", FAULTY),
+    ("carries a reply on its network", ON_BOTH),
+];
+
+/// Each comes as it should.
 #[test]
-fn carries_a_reply_on_its_network(rt: HostRuntime) {
-    assert!(rt; comes(rt.alloc(), &ON_BOTH) == Some(true));
+fn schedules_come(rt: HostRuntime) {
+    for (what, scene) in SCENES {
+        assert!(rt; comes(rt.alloc(), scene) == Some(true), "{what}");
+    }
 }
