@@ -117,6 +117,7 @@ impl World {
     }
 
     /// A node takes on a port what was read of octets.
+    #[inline(always)]
     pub(crate) fn receive(&mut self, at: u64, node: u32, port: Port, from: Place, taken: &Taken)
         requires ready { IsReady (room (ports_on node (networks self.old.header))) self.old }
         requires able { CanStep at node self.old }
