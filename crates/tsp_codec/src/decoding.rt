@@ -1,8 +1,10 @@
 //! Octets to datagrams.
-ghost use Rattle.std.specs.Prelude.{◌≡◌, ◌≤◌, MatchResult, Ok, Err, Some, IfSome};
+ghost use Rattle.std.specs.Prelude.{◌≡◌, ◌≢◌, ◌≤◌, MatchResult, MatchOption, Ok, Err, Some};
 ghost use Rattle.tsp_base.specs.Kinds.{kind_of};
 ghost use Rattle.tsp_base.specs.declared.datagram.Datagram.{Datagram};
 ghost use Rattle.tsp_base.specs.declared.datagram.DecodeFault.{DecodeFault};
+ghost use Rattle.tsp_base.specs.declared.datagram.Taken.{Taken};
+ghost use Rattle.tsp_base.specs.declared.stamp.Stamp.{Stamp};
 ghost use Rattle.tsp_codec.specs.Numbers.{octet_at};
 ghost use Rattle.tsp_codec.specs.Spelling.{HasHead, IsStamp, SpellsMessage, SpellsStamp, Spells};
 ghost use Rattle.tsp_codec.specs.Faults.{IsFault, Reads};
@@ -90,17 +92,24 @@ fn reply_of(octets: &[u8]) -> Result<Stamp, DecodeFault>
     }
 }
 
-/// The stamp that these octets are, if they are one.
+/// The stamp that these octets are; None exactly where they aren't one.
 #[inline(always)]
 fn stamp_of(octets: &[u8]) -> Option<Stamp>
-    ensures { IfSome result (λ stamp. Spells octets.now (Datagram.Stamp stamp)) }
+    ensures { MatchOption result ((stamp : Stamp) → ¬ Spells octets.now (Datagram.Stamp stamp))
+        (λ stamp. Spells octets.now (Datagram.Stamp stamp)) }
 {
     if octets.len() != STAMP || octets[1] != VERSION {
         return None;
     }
     match octets[0] {
-        REQUEST => request_of(octets).ok(),
-        REPLY => reply_of(octets).ok(),
+        REQUEST => match request_of(octets) {
+            Ok(stamp) => Some(stamp),
+            Err(_) => None,
+        },
+        REPLY => match reply_of(octets) {
+            Ok(stamp) => Some(stamp),
+            Err(_) => None,
+        },
         _ => None,
     }
 }
@@ -144,6 +153,20 @@ pub fn decode(octets: &[u8]) -> Result<Datagram, DecodeFault>
     match first_reading(octets) {
         Ok(datagram) => Ok(datagram),
         Err(fault) => Err(fault),
+    }
+}
+
+/// The stamp that `read` takes octets for; None exactly where it takes them for something else. A caller that asks this
+/// first needs no room for a message.
+#[inline(always)]
+pub fn read_stamp(octets: &[u8]) -> Option<Stamp>
+    ensures { MatchOption result
+        ((stamp : Stamp) → taken_of octets.now ≢ Taken.Good (Datagram.Stamp stamp))
+        (λ stamp. taken_of octets.now ≡ Taken.Good (Datagram.Stamp stamp)) }
+{
+    match stamp_of(octets) {
+        Some(stamp) => Some(stamp),
+        None => None,
     }
 }
 

@@ -2,8 +2,8 @@
 //!
 //! Received octets are read by [`decode`], or by [`read`] where a fault is itself an input of a node. A
 //! datagram to send is written by [`encode`], always in the same octets, and reading these gives the
-//! same datagram; [`encode_stamp`] writes a stamp in no more room than it takes. Octets that aren't a
-//! valid datagram get the first fault that they have. No call allocates memory:
+//! same datagram. [`read_stamp`] and [`encode_stamp`] read and write a stamp in no more room than it takes.
+//! Octets that aren't a valid datagram get the first fault that they have. No call allocates memory:
 //!
 //! ```
 //! let name = Name::new(b"alpha");
@@ -21,5 +21,5 @@ mod fields;
 pub mod laws;
 mod layout;
 
-pub use decoding::{decode, read, read_back};
+pub use decoding::{decode, read, read_back, read_stamp};
 pub use encoding::{encode, encode_stamp};

@@ -24,6 +24,7 @@ impl Gateway {
     ghost use Rattle.tsp_rules.specs.NodeRows.{on};
 
     /// Takes, on a port, what was read of octets from `from`.
+    #[inline(always)]
     pub(crate) fn take_in<D: Desk>(
         &mut self,
         tick: u64,
@@ -115,6 +116,7 @@ impl Gateway {
     }
 
     /// Takes octets that aren't a message: a stamp, or no datagram. They don't correct the clock.
+    #[inline(always)]
     fn take_other<D: Desk>(&mut self, tick: u64, q: usize, from: Place, taken: &Taken, desk: &mut D)
         requires other { HoldsNoMessage taken.now }
         requires port { q < length (ports_in self.old) }

@@ -5,7 +5,7 @@ use tsp_base::kind::{KINDS, Kind};
 use tsp_base::message::Body;
 use tsp_base::micros::Micros;
 use tsp_base::stamp::Stamp;
-use tsp_codec::{decode, encode, read, read_back};
+use tsp_codec::{decode, encode, encode_stamp, read, read_back, read_stamp};
 
 /// The octets of a head and a name, and then this many octets of fill.
 fn octets_of(head: &[u8], name: &[u8], fill: u8, count: usize) -> ArrayVec<u8, 300> {
@@ -212,12 +212,17 @@ fn each_kind_has_its_octets(rt: HostRuntime) {
 /// Whether octets are this stamp, which is written as them.
 fn spell_stamp(octets: &[u8], wanted: Option<Stamp>) -> bool {
     match decode(octets) {
-        Ok(Datagram::Stamp(stamp)) => Some(stamp) == wanted && is_written_as(octets, octets),
+        Ok(Datagram::Stamp(stamp)) => {
+            Some(stamp) == wanted
+                && read_stamp(octets) == wanted
+                && encode_stamp(&stamp).as_slice() == octets
+                && is_written_as(octets, octets)
+        }
         _ => false,
     }
 }
 
-/// Both stamps, in the one form that each has.
+/// Both stamps, in the one form that each has; and, as long as they are, a message and a request with a ticket.
 #[test]
 fn stamps_have_one_spelling(rt: HostRuntime) {
     let request = Stamp::Request {
@@ -232,4 +237,6 @@ fn stamps_have_one_spelling(rt: HostRuntime) {
         0x81, 1, 0, 5, 0, 0, 0, 0, 0, 0, 0, 1, 0, 0, 0, 0, 0, 0, 0, 2, 0, 0, 0, 0, 0, 0, 3, 0xfc,
     ];
     assert!(rt; spell_stamp(&octets, Stamp::reply(5, 1, 2, 1020)));
+    assert!(rt; read_stamp(octets_of(HEAD, b"alpha", 0, 11).as_slice()).is_none());
+    assert!(rt; read_stamp(octets_of(&[0x80, 1, 0, 1], b"", 0, 24).as_slice()).is_none());
 }
