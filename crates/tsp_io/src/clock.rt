@@ -3,7 +3,7 @@ ghost use Rattle.std.specs.Prelude.{◌≡◌, ◌≤◌, ◌^◌, None};
 
 use crate::ticker::Ticker;
 use std::rt::Clock;
-use std::time::{Instant, SystemTime};
+use std::time::SystemTime;
 
 /// The greatest tick: 2^61 microseconds, some 73,000 years.
 const LAST_TICK: u64 = 1 << 61;
@@ -14,12 +14,13 @@ const LAST_WALL: u64 = 1 << 62;
 /// The machine's monotonic clock as a tick counter, and its wall clock. What they will answer isn't
 /// told.
 ///
-/// The counter's first reading is 0. The wall clock is read once; that reading is the word too. If
-/// the machine gives no reading, the counter answers its last one, and wall and word are 0.
+/// The counter's first reading is 0; from then on it is how far the machine's clock, in whole microseconds, has come.
+/// The wall clock is read once; that reading is the word too. If the machine gives no reading, the counter answers its last
+/// one, and wall and word are 0.
 #[derive(Drop)]
 pub struct MachineTicker<R> {
     rt: R,
-    start: Option<Instant>,
+    start: Option<u64>,
     wall: Option<u64>,
     last: u64,
     ghost bounded: { last ≤ 2 ^ 61 },
@@ -40,11 +41,9 @@ impl<R: Clock> MachineTicker<R> {
 }
 
 /// The microseconds since the first reading; None if the machine gives no reading.
-fn since_start(rt: &impl Clock, start: &mut Option<Instant>) -> Option<u64> {
-    let now = Instant::now(rt).ok()?;
-    let start = *start.get_or_insert(now);
-    let passed = now.checked_duration_since(start)?;
-    u64::try_from(passed.as_micros()).ok()
+fn since_start(rt: &impl Clock, start: &mut Option<u64>) -> Option<u64> {
+    let now = u64::try_from(rt.monotonic().ok()?.as_micros()).ok()?;
+    now.checked_sub(*start.get_or_insert(now))
 }
 
 /// The wall clock, in microseconds since 1970; None if the machine gives no reading, or an earlier

@@ -26,14 +26,11 @@ impl Socket {
         Ok(Socket { udp, wait: 0 })
     }
 
-    /// Sets how many microseconds receives wait, at least 1. Fails if the system refuses it.
+    /// Sets how many microseconds receives wait. Fails if the system refuses it.
     fn set_wait(&mut self, wait: u64) -> io::Result<()> {
-        let wait = wait.max(1);
-        if wait != self.wait {
-            self.udp
-                .set_read_timeout(Some(Duration::from_micros(wait)))?;
-            self.wait = wait;
-        }
+        self.udp
+            .set_read_timeout(Some(Duration::from_micros(wait)))?;
+        self.wait = wait;
         Ok(())
     }
 
@@ -48,7 +45,8 @@ impl Socket {
         requires { length buf.old ≡ 512 }
         ensures { IfOk result (λ got. IfSome got (λ g. g.0 ≤ 512)) }
     {
-        if self.set_wait(wait).is_err() {
+        let wait = settable(wait);
+        if wait != self.wait && self.set_wait(wait).is_err() {
             return Err(ReceiveFault);
         }
         match self.udp.recv_from(buf) {
@@ -64,6 +62,17 @@ impl Socket {
             Ok(count) => count == octets.len(),
             Err(_) => false,
         }
+    }
+}
+
+/// The wait that is set for a receive of at most `wait` microseconds: at least 1, and from 1,000 on so many whole
+/// milliseconds. So a caller that waits for a certain time, while datagrams come, asks the system once a millisecond, and
+/// not before each receive.
+fn settable(wait: u64) -> u64 {
+    if wait < 1_000 {
+        wait.max(1)
+    } else {
+        wait - wait % 1_000
     }
 }
 
