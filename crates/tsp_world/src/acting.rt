@@ -143,7 +143,9 @@ impl World {
         self.lines.clear();
     }
 
-    /// Notes an event, at which a node put the acts on the desk, if it put any. The event's time was noted before.
+    /// Notes an event, at which a node put the acts on the desk, if it put any. The event's time was noted before. (A call of
+    /// its own: as a part of each event's code it made that code slower.)
+    #[inline(never)]
     fn note(&mut self, node: u32, tick: u64)
         requires { CanNote self.old }
         ensures { Notes self.old.last node tick self.old.header self.old.nodes.items self.old.events
