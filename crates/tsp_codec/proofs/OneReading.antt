@@ -8,7 +8,7 @@ use Rattle.tsp_codec.proofs.OneDatagram.{Spells-one}
 use Rattle.tsp_codec.proofs.NoFault.{Spells-no_fault}
 
 -- of two first faults none stands before the other
-IsFault-one : (o : List ℕ) (f g : DecodeFault) → IsFault o f → IsFault o g → f ≡ g
+pub IsFault-one : (o : List ℕ) (f g : DecodeFault) → IsFault o f → IsFault o g → f ≡ g
 IsFault-one o f g p q = search rules
 
 pub Reads-one : (o : List ℕ) (t u : Taken) → Reads o t → Reads o u → t ≡ u

@@ -9,6 +9,7 @@ use Rattle.tsp_base.specs.Kinds.{kind_of, carries_time, carries_hops}
 use Rattle.tsp_base.specs.declared.kind.Kind.{Kind}
 use Rattle.tsp_base.specs.declared.message.Body.{Body}
 use Rattle.tsp_base.specs.declared.message.Body.TheVariants.{Nothing, Time as TimeBody, Hops}
+use Rattle.tsp_base.specs.declared.stamp.Stamp.{Stamp as StampValue}
 use Rattle.tsp_base.specs.declared.stamp.Stamp.TheVariants.{Request, Reply}
 use Rattle.tsp_base.specs.declared.datagram.Datagram.{Datagram}
 use Rattle.tsp_base.specs.declared.datagram.Datagram.TheVariants.{Stamp}
@@ -16,7 +17,7 @@ use Rattle.tsp_base.specs.declared.datagram.DecodeFault.TheVariants.{Short, Long
 use Rattle.tsp_base.specs.declared.datagram.Taken.{Taken}
 use Rattle.tsp_base.specs.declared.datagram.Taken.TheVariants.{Good, Bad}
 use Rattle.tsp_codec.specs.Numbers.{octet_at, be16_at, be64_at}
-use Rattle.tsp_codec.specs.Spelling.{HasHead, IsStamp, IsTime, SpellsBody, SpellsName, time_field, reading_field}
+use Rattle.tsp_codec.specs.Spelling.{HasHead, IsStamp, IsTime, Spells, SpellsBody, SpellsName, time_field, reading_field}
 use Rattle.tsp_codec.specs.Faults.{name_room, IsReading, Reads}
 use Rattle.tsp_codec.specs.Taken.{before_nul, is_time, is_reading, body_of, message_taken, request_taken, reply_taken, kind_taken, taken_of}
 use Rattle.tsp_codec.proofs.Lists.{Contains-∷}
@@ -152,6 +153,10 @@ taken_of-Reads o t r = Reads-one o (taken_of o) t (Reads-taken_of o) r
 
 pub Reads-taken_of-iff : (o : List ℕ) (t : Taken) → (taken_of o ≡ t) ↔ Reads o t
 Reads-taken_of-iff o t = ((λ e. rw (← e) (Reads-taken_of o)), taken_of-Reads o t)
+
+-- octets that spell no stamp aren't taken for one
+pub no_stamp : (o : List ℕ) → ((s : StampValue) → ¬ Spells o (Stamp s)) → (s : StampValue) → taken_of o ≢ Good (Stamp s)
+no_stamp o none s e = none s ((Reads-taken_of-iff o (Good (Stamp s))).0 e)
 
 -- what was written is taken as it was
 pub taken_of-canon : (d : Datagram) → IsWritable d → taken_of (canon d) ≡ Good d

@@ -1,5 +1,5 @@
 //! Octets to datagrams.
-ghost use Rattle.std.specs.Prelude.{◌≡◌, ◌≢◌, ◌≤◌, MatchResult, MatchOption, Ok, Err, Some};
+ghost use Rattle.std.specs.Prelude.{◌≡◌, ◌≢◌, MatchResult, MatchOption, Ok, Err, Some};
 ghost use Rattle.tsp_base.specs.Kinds.{kind_of};
 ghost use Rattle.tsp_base.specs.declared.datagram.Datagram.{Datagram};
 ghost use Rattle.tsp_base.specs.declared.datagram.DecodeFault.{DecodeFault};
@@ -92,28 +92,6 @@ fn reply_of(octets: &[u8]) -> Result<Stamp, DecodeFault>
     }
 }
 
-/// The stamp that these octets are; None exactly where they aren't one.
-#[inline(always)]
-fn stamp_of(octets: &[u8]) -> Option<Stamp>
-    ensures { MatchOption result ((stamp : Stamp) → ¬ Spells octets.now (Datagram.Stamp stamp))
-        (λ stamp. Spells octets.now (Datagram.Stamp stamp)) }
-{
-    if octets.len() != STAMP || octets[1] != VERSION {
-        return None;
-    }
-    match octets[0] {
-        REQUEST => match request_of(octets) {
-            Ok(stamp) => Some(stamp),
-            Err(_) => None,
-        },
-        REPLY => match reply_of(octets) {
-            Ok(stamp) => Some(stamp),
-            Err(_) => None,
-        },
-        _ => None,
-    }
-}
-
 /// The datagram of octets with a head.
 fn datagram_of(octets: &[u8]) -> Result<Datagram, DecodeFault>
     requires { HasHead octets.now }
@@ -164,20 +142,19 @@ pub fn read_stamp(octets: &[u8]) -> Option<Stamp>
         ((stamp : Stamp) → taken_of octets.now ≢ Taken.Good (Datagram.Stamp stamp))
         (λ stamp. taken_of octets.now ≡ Taken.Good (Datagram.Stamp stamp)) }
 {
-    match stamp_of(octets) {
-        Some(stamp) => Some(stamp),
-        None => None,
+    if octets.len() != STAMP || octets[1] != VERSION {
+        return None;
     }
-}
-
-/// What `read` makes of octets that are no stamp. (A call of its own, so that a stamp needs no room for a message.)
-#[inline(never)]
-fn read_any(octets: &[u8]) -> Taken
-    ensures { Reads octets.now result }
-{
-    match decode(octets) {
-        Ok(datagram) => Taken::Good(datagram),
-        Err(fault) => Taken::Bad(fault),
+    match octets[0] {
+        REQUEST => match request_of(octets) {
+            Ok(stamp) => Some(stamp),
+            Err(_) => None,
+        },
+        REPLY => match reply_of(octets) {
+            Ok(stamp) => Some(stamp),
+            Err(_) => None,
+        },
+        _ => None,
     }
 }
 
@@ -186,9 +163,9 @@ pub fn read(octets: &[u8]) -> Taken
     ensures reads { Reads octets.now result }
     ensures value { result ≡ taken_of octets.now }
 {
-    match stamp_of(octets) {
-        Some(stamp) => Taken::Good(Datagram::Stamp(stamp)),
-        None => read_any(octets),
+    match decode(octets) {
+        Ok(datagram) => Taken::Good(datagram),
+        Err(fault) => Taken::Bad(fault),
     }
 }
 

@@ -1,5 +1,5 @@
 //! A UDP socket whose receives wait for a given time.
-ghost use Rattle.std.specs.Prelude.{◌≡◌, ◌≤◌, length, IfOk, IfSome, Some};
+ghost use Rattle.std.specs.Prelude.{◌≡◌, ◌<◌, ◌≤◌, length, max, IfOk, IfSome, Some};
 ghost use Rattle.tsp_io.specs.Directories.{addr_of};
 
 use crate::addr::Addr;
@@ -68,7 +68,10 @@ impl Socket {
 /// The wait that is set for a receive of at most `wait` microseconds: at least 1, and from 1,000 on so many whole
 /// milliseconds. So a caller that waits for a certain time, while datagrams come, asks the system once a millisecond, and
 /// not before each receive.
-fn settable(wait: u64) -> u64 {
+fn settable(wait: u64) -> u64
+    ensures positive { 0 < result }
+    ensures within { result ≤ max wait 1 }
+{
     if wait < 1_000 {
         wait.max(1)
     } else {

@@ -1,10 +1,24 @@
+use Rattle.std.proofs.Common.{rules}
 use Rattle.tsp_base.specs.declared.datagram.Datagram.TheVariants.{Stamp}
 use Rattle.tsp_base.specs.declared.datagram.Taken.TheVariants.{Good}
-use Rattle.tsp_codec.proofs.TakenOf.{taken_of-Reads, Reads-taken_of-iff}
+use Rattle.tsp_codec.proofs.NoFault.{Spells-no_fault}
+use Rattle.tsp_codec.proofs.TakenOf.{no_stamp, taken_of-Reads}
 use Rattle.tsp_codec.proofs.decoding.read_stamp.Goals as goal
 
-pub returns-in-Some : goal.returns-in-Some
-returns-in-Some c = taken_of-Reads c.args.octets.now (Good (Stamp c.in-Some.stamp)) c.in-Some.ensures
+pub returns-then-octets-ne-STAMP : goal.returns-then-octets-ne-STAMP
+returns-then-octets-ne-STAMP c = no_stamp c.args.octets.now (λ s p. search rules)
 
-pub returns-in-None : goal.returns-in-None
-returns-in-None c = λ s e. c.in-None.ensures s ((Reads-taken_of-iff c.args.octets.now (Good (Stamp s))).0 e)
+pub returns-in_default : goal.returns-in_default
+returns-in_default c = no_stamp c.args.octets.now (λ s p. search rules)
+
+pub returns-in-Ok : goal.returns-in-Ok
+returns-in-Ok c = taken_of-Reads c.args.octets.now (Good (Stamp c.in-Ok.stamp)) c.in-Ok.ensures
+
+pub returns-in-Err : goal.returns-in-Err
+returns-in-Err c = no_stamp c.args.octets.now (λ s p. Spells-no_fault c.args.octets.now (Stamp s) c.in-Err.field-0 p c.in-Err.ensures)
+
+pub returns-in-Ok-reply_of : goal.returns-in-Ok-reply_of
+returns-in-Ok-reply_of c = taken_of-Reads c.args.octets.now (Good (Stamp c.in-Ok-reply_of.stamp)) c.in-Ok-reply_of.ensures
+
+pub returns-in-Err-reply_of : goal.returns-in-Err-reply_of
+returns-in-Err-reply_of c = no_stamp c.args.octets.now (λ s p. Spells-no_fault c.args.octets.now (Stamp s) c.in-Err-reply_of.field-0 p c.in-Err-reply_of.ensures)
