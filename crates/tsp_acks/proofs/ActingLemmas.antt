@@ -29,7 +29,7 @@ Performs_acting {row = row} {x = x} d = record {
   stands = λ past h. record { stands = d.stands past h.stands; acted = acting-added past.step x (row x past) past.seen h.acted };
 }
 
-taken_after-acts : (d : Deed) (took : Option Received) (before : Bool) (r : Received) → (took ≡ Some r → before ≡ true) → taken_after d took ≡ Some r → acting_after d before ≡ true
+pub taken_after-acts : (d : Deed) (took : Option Received) (before : Bool) (r : Received) → (took ≡ Some r → before ≡ true) → taken_after d took ≡ Some r → acting_after d before ≡ true
 taken_after-acts Begins took before r k e = absurd (none-some r e)
 taken_after-acts (Acts (Took from t)) took before r k e = refl
 taken_after-acts (Acts (Ring alarm)) took before r k e = refl

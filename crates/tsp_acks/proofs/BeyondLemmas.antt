@@ -12,7 +12,7 @@ use Rattle.tsp_base.specs.History.{Past}
 use Rattle.tsp_base.specs.Performs.{Performs}
 use Rattle.tsp_base.specs.Rows.{Row, for_each}
 use Rattle.tsp_base.proofs.PerformsLemmas.{Performs_then, Performs_nothing}
-use Rattle.tsp_sends.specs.Slots.{IsAscending}
+use Rattle.tsp_base.specs.Peers.{IsAscending}
 use Rattle.tsp_sends.specs.Repeating.{IsAfter}
 
 -- whether a peer comes after this one

@@ -1,15 +1,9 @@
 -- The peers of a port.
-use Rattle.std.specs.Prelude.{◌≤◌, Bool, true, List, length}
+use Rattle.std.specs.Prelude.{Bool, true, List}
 use Rattle.tsp_base.specs.declared.place.PeerId.{PeerId}
 use Rattle.tsp_base.specs.declared.role.Role.{Role}
 use Rattle.tsp_base.specs.declared.role.Role.TheVariants.{Follow}
 use Rattle.tsp_base.specs.Peers.{is_among}
-use Rattle.tsp_sends.specs.Slots.{IsAscending}
-
--- at most 1,000 peers, strictly ascending
-pub record IsPeers (peers : List PeerId) : Type 0 where
-  pub few : length peers ≤ 1000
-  pub ascending : IsAscending peers
 
 -- whether a port of these peers may have this role: a master that it follows is one of them
 abbrev pub follows_among : Role → List PeerId → Bool

@@ -1,7 +1,6 @@
 //! The peers of a port.
-ghost use Rattle.std.specs.Prelude.{◌≡◌, ◌≤◌, length, IfOk};
-ghost use Rattle.tsp_base.specs.Peers.{is_among};
-ghost use Rattle.tsp_acks.specs.Peers.{IsPeers};
+ghost use Rattle.std.specs.Prelude.{◌≡◌, IfOk};
+ghost use Rattle.tsp_base.specs.Peers.{IsPeers, is_among};
 
 use std::alloc::{AllocError, Global};
 use std::boxed::BoxedSlice;
@@ -18,7 +17,7 @@ impl Model for Peers {
     ghost use Rattle.std.specs.Prelude.{List};
     ghost use Rattle.std.specs.Box.{boxed_slice_items};
     ghost use Rattle.tsp_base.specs.declared.place.PeerId.{PeerId};
-    ghost use Rattle.tsp_acks.specs.Peers.{IsPeers};
+    ghost use Rattle.tsp_base.specs.Peers.{IsPeers};
 
     ghost Value = { List PeerId };
 

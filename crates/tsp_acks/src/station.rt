@@ -4,10 +4,10 @@ ghost use Rattle.tsp_base.specs.declared.act.Act.TheVariants.{Boot};
 ghost use Rattle.tsp_base.specs.Alarms.{deadline};
 ghost use Rattle.tsp_base.specs.History.{Past, Booted};
 ghost use Rattle.tsp_base.specs.Rows.{grown};
-ghost use Rattle.tsp_base.specs.Peers.{is_among};
+ghost use Rattle.tsp_base.specs.Peers.{IsPeers, is_among};
 ghost use Rattle.tsp_rules.specs.Guards.{is_over, is_met, is_starting_role};
 ghost use Rattle.tsp_sends.specs.Slots.{peers_of};
-ghost use Rattle.tsp_acks.specs.Peers.{IsPeers, follows_among};
+ghost use Rattle.tsp_acks.specs.Peers.{follows_among};
 
 use crate::me::Me;
 use crate::peers::Peers;

@@ -15,7 +15,7 @@ use Rattle.tsp_base.specs.declared.place.Port.{Port}
 use Rattle.tsp_promises.specs.Agreed.{AgreedAt, RestsOnSample}
 use Rattle.tsp_promises.specs.Fits.{node_of}
 use Rattle.tsp_base.specs.Headers.{HeaderValue}
-use Rattle.tsp_base.specs.History.{Acts, Begins, Here, Line, Seen, from_act, of, view}
+use Rattle.tsp_base.specs.History.{Acts, Here, Line, Seen, from_act, of, view}
 use Rattle.tsp_base.specs.Messages.{MessageValue}
 use Rattle.tsp_base.specs.Places.{Within}
 use Rattle.tsp_base.specs.PortFacts.{acting}
@@ -131,10 +131,6 @@ pub agrees-told : (header : HeaderValue) (setting : Setting) (count : ℕ) (l : 
     MatchBool b (AllAgree header l.did.step.at a.nodes.items) (AllAgree header l.did.step.at a.nodes.items → ⊥) → MatchBool b (AgreedAt setting l h) (AgreedAt setting l h → ⊥)
 agrees-told header setting count l h a act true has numbered is rests deed good = record { rests = rests; clocks = λ d e. clocks-agree header setting count (l ∷ h) a l.did.step.at has numbered is good }
 agrees-told header setting count l h a act false has numbered is rests deed bad = λ c. bad (clocks-back header setting count (l ∷ h) a l.did.step.at has is (c.clocks act deed))
-
--- a mark changes no clock
-pub agrees-mark : (setting : Setting) (l : Line) (h : List Line) → RestsOnSample l (view l.port (of (node_of l) h)) → l.did.deed ≡ Begins → AgreedAt setting l h
-agrees-mark setting l h rests deed = record { rests = rests; clocks = λ d e. (let both : Begins ≡ Acts d = sym deed ∙ e in let bad : ⊥ = cc in absurd bad) }
 
 pub all-bounded : (h : List Line) (states : List NodeState) → AllAre h states → AllBounded states
 all-bounded h states a = λ n s at. (a n s at).bounded

@@ -2,6 +2,7 @@
 use Rattle.std.specs.Prelude.{◌≡◌, ℕ, Bool, true, false, not, List, [], ◌∷◌, ◌++◌, ◌||◌, ◌==◌, refl, MatchBool, MatchOption, Option, None, Some}
 use Rattle.std.proofs.Common.{sym, ap, subst, subst₂, ◌∙◌, inl, inr, true≢false, eqb-true, eq-eqb}
 use Rattle.std.proofs.lemmas.List.Folds.{list_any-append}
+use Rattle.std.proofs.lemmas.Bool.{or_left}
 use Rattle.tsp_base.specs.declared.act.Act.TheVariants.{Acked, Post}
 use Rattle.tsp_base.specs.declared.datagram.Datagram.TheVariants.{Message}
 use Rattle.tsp_base.specs.declared.place.PeerId.{PeerId}
@@ -86,9 +87,6 @@ either true c e f = let bad : ⊥ = cc in absurd bad
 either false true e f = refl
 either false false e f = let bad : ⊥ = cc in absurd bad
 
-left : (b c : Bool) → b ≡ true → (b || c) ≡ true
-left b c e = rw e refl
-
 right : (b c : Bool) → c ≡ true → (b || (c || false)) ≡ true
 right true c e = refl
 right false c e = rw e refl
@@ -108,15 +106,7 @@ acted-more l h acted s a t = record { sound = λ k i. known k (is_in k acted) re
       let rest : past ≡ h = cc in
       let same : s ≡ k = takes-one l h s k t (subst₂ (λ (i : Line) (p : List Line). TakesSend i p k) line rest u) in
       in-more k s acted ∙ right (is_in k acted) (s == k) (eq-eqb s k same)
-  all c past k (inr w) u = in-more k s acted ∙ left (is_in k acted) ((s == k) || false) (a.complete c past k w u)
-
--- an Acked that ends no send
-pub confirmed-none : (l : Line) (h : List Line) (p : PeerId) → l.did.deed ≡ Acts (Acked p) → open_to p (view l.port (of (node_of l) h)) ≡ [] → ConfirmedAt l h
-confirmed-none l h p deed none = λ q first older m e o d k.
-    let peer : p ≡ q = cc in
-    let opened_is : open_to p (view l.port (of (node_of l) h)) ≡ Here first ∷ older = subst (λ (r : PeerId). open_to r (view l.port (of (node_of l) h)) ≡ Here first ∷ older) (sym peer) o in
-    let bad : ⊥ = cc in
-    absurd bad
+  all c past k (inr w) u = in-more k s acted ∙ or_left (is_in k acted) ((s == k) || false) (a.complete c past k w u)
 
 -- an Acked that ends a send which is no correction
 pub confirmed-other : (l : Line) (h : List Line) (p : PeerId) (s : ℕ) → l.did.deed ≡ Acts (Acked p) → PostedAt (node_of l) l.port h (open_to p (view l.port (of (node_of l) h))) s → Corrects h s false → ConfirmedAt l h

@@ -19,10 +19,10 @@ use Rattle.tsp_base.specs.Messages.{MessageValue}
 use Rattle.tsp_promises.specs.OneBack.{BacksAt, HoldsAt, IsBacked, OneBack}
 use Rattle.tsp_promises.specs.StepFacts.{backed, is_unbacked, is_unbacked_after}
 use Rattle.tsp_promises.proofs.EverywhereLemmas.{Everywhere-at, Everywhere-from}
-use Rattle.tsp_promises.proofs.SendProof.{peer-same}
 use Rattle.tsp_base.proofs.ViewPlaces.{or-false, port-same}
 use Rattle.tsp_audit.specs.Backing.{Backs, Settled, deed_backs, is_stand, is_standing, post_backs}
 use Rattle.tsp_history.specs.Holding.{Apart}
+use Rattle.tsp_rules.proofs.GuardFacts.{same_peer}
 
 kept : (b keep : Bool) → (if b then false else keep) ≡ true → keep ≡ true
 kept true keep e = let bad : ⊥ = cc in absurd bad
@@ -114,7 +114,7 @@ post-decides l world (Peer p) m Accept b (Some q) u deed kind backs asks e =
     subst (λ (z : Bool). MatchBool z (BacksAt l world) (BacksAt l world → ⊥)) (sym e) (by_case (q.0 == p.0) refl)
   where
     by_case : (c : Bool) → (q.0 == p.0) ≡ c → MatchBool c (BacksAt l world) (BacksAt l world → ⊥)
-    by_case true c = keeps-post l world (Peer p) m deed (λ i. backs ∙ ap Some (peer-same q p c)) (λ i. let bad : ⊥ = cc in absurd bad)
+    by_case true c = keeps-post l world (Peer p) m deed (λ i. backs ∙ ap Some (same_peer q p c)) (λ i. let bad : ⊥ = cc in absurd bad)
     by_case false c = λ f. let one : q ≡ p = (let k : backed (view l.port (of (node_of l) world)) ≡ Some p = f.accepts (Peer p) m deed kind in cc) in
         true≢false (sym (eq-eqb q.0 p.0 (ap (λ (z : PeerId). z.0) one)) ∙ c)
 post-decides l world Stranger m Accept b v u deed kind backs asks e =

@@ -8,7 +8,7 @@ use Rattle.tsp_audit.specs.Judged.{FailsNow, Judges}
 use Rattle.tsp_audit.specs.Looking.{Grown}
 use Rattle.tsp_audit.specs.Parts.{Acting, ActsOnce, Agreeing, AllKeep, Backing, Keeps, Leading, Measuring, Part, part_number}
 use Rattle.tsp_audit.specs.Settings.{HasClocks, Timely}
-use Rattle.tsp_history.proofs.NoteLemmas.{length-noted}
+use Rattle.tsp_history.proofs.NoteLemmas.{length-history}
 use Rattle.tsp_audit.proofs.Prefixes.{history-within}
 use Rattle.tsp_base.specs.Headers.{HeaderValue}
 use Rattle.tsp_base.specs.History.{Line}
@@ -89,10 +89,6 @@ pub if-kept : (b : Bool) (K P Q : Type 0) → K → (Q → MatchBool b P (P → 
 if-kept true K P Q k m old = λ x. m (old k)
 if-kept false K P Q k m old = λ g. m (old k) (g k)
 
--- a history is as long as its lines
-pub history-length : (ns : List HistoryLine) → length (history_of ns) ≡ length ns
-history-length ns = omega (arith, length-noted [] ns)
-
 pub same-length : (s t : List Line) → Within s t → length s ≡ length t → s ≡ t
 same-length s [] w e = w
 same-length s (l ∷ t) (inl e) long = e
@@ -101,8 +97,8 @@ same-length s (l ∷ t) (inr w) long = let bad : ⊥ = omega (arith, Within-leng
 -- the first lines are the history that was there before
 pub prefix-is : (ns : List HistoryLine) (h : List Line) (from : ℕ) → Within h (history_of ns) → length h ≡ from → history_of (take from ns) ≡ h
 prefix-is ns h from w long =
-    let le : from ≤ length ns = omega (arith, Within-length h (history_of ns) w, history-length ns, long) in
-    let taken : length (history_of (take from ns)) ≡ from = omega (arith, history-length (take from ns), length-take from ns) in
+    let le : from ≤ length ns = omega (arith, Within-length h (history_of ns) w, length-history ns, long) in
+    let taken : length (history_of (take from ns)) ≡ from = omega (arith, length-history (take from ns), length-take from ns) in
     elim (Within-comparable (history_of (take from ns)) h (history_of ns) (history-within ns from) w) [
       | inl v ↦ same-length (history_of (take from ns)) h v (taken ∙ sym long)
       | inr v ↦ sym (same-length h (history_of (take from ns)) v (long ∙ sym taken))
@@ -125,4 +121,4 @@ looked-notes ns count w h from N M is grown f a =
 
 -- the newest event begins no later than the history ends
 pub begins-within : (ns : List HistoryLine) (count : ℕ) (w h : List Line) (from : ℕ) → history_of ns ≡ w → Grown count h w from → from ≤ length ns
-begins-within ns count w h from is grown = omega (arith, Within-length h w grown.within, grown.long, history-length ns, ap (λ (x : List Line). length x) is)
+begins-within ns count w h from is grown = omega (arith, Within-length h w grown.within, grown.long, length-history ns, ap (λ (x : List Line). length x) is)

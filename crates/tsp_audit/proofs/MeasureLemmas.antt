@@ -1,6 +1,6 @@
 -- Measurements: what a step reads of a peer's clock, and the exchange that a Sample ends.
-use Rattle.std.specs.Prelude.{◌≡◌, ◌+◌, ℕ, ℤ, ◌-ℤ◌, Bool, true, false, List, [], ◌∷◌, MatchBool}
-use Rattle.std.proofs.Common.{sym, ap, subst, subst₂, ◌∙◌, get_or, take, true≢false}
+use Rattle.std.specs.Prelude.{◌≡◌, ◌+◌, ℕ, ℤ, ◌-ℤ◌, Bool, true, false, List, ◌∷◌, MatchBool}
+use Rattle.std.proofs.Common.{sym, ap, subst, subst₂, ◌∙◌, get_or, take}
 use Rattle.tsp_base.specs.declared.act.Act.TheVariants.{Sample}
 use Rattle.tsp_base.specs.declared.datagram.Datagram.TheVariants.{Stamp}
 use Rattle.tsp_base.specs.declared.place.PeerId.{PeerId}
@@ -97,17 +97,6 @@ measured-line setting l h p counter diff err number true deed good = λ q c d e 
     let most : err ≡ e = cc in
     subst (λ (x : PeerId). ReadBy setting l h x d e) who (subst₂ (λ (x y : ℤ). ReadBy setting l h p x y) far most good)
 measured-line setting l h p counter diff err number false deed bad = λ f. bad (f p counter diff err number deed)
-
--- no round goes
-pub trip-idle : (l : Line) (seen : List Seen) (p : PeerId) (counter : ℕ) (err : ℤ) → is_going seen ≡ false → TripOf l seen p counter err → ⊥
-trip-idle l seen p counter err idle t = true≢false (sym t.going ∙ idle)
-
--- no exchange is open
-pub trip-none : (l : Line) (seen : List Seen) (p : PeerId) (counter : ℕ) (err : ℤ) → exchange p counter seen ≡ [] → TripOf l seen p counter err → ⊥
-trip-none l seen p counter err none t =
-    let both : [] ≡ Here t.request ∷ t.older = sym none ∙ t.exchange_is in
-    let bad : ⊥ = cc in
-    bad
 
 pub trip-decides : (l : Line) (h : List Line) (p : PeerId) (counter : ℕ) (err start now : ℤ) (b : Bool) → is_going (view l.port (of (node_of l) h)) ≡ true → AskedAt (exchange p counter (view l.port (of (node_of l) h))) start →
     now ≡ target (dids (of (node_of l) h)) l.did.tick → MatchBool b (err ≡ half_up (now -ℤ start)) (err ≡ half_up (now -ℤ start) → ⊥) →

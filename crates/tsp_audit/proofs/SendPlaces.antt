@@ -1,15 +1,13 @@
 -- Sends by the numbers of the datagrams with which they begin.
-use Rattle.std.specs.Prelude.{◌≡◌, ℕ, false, List, ◌∷◌, refl}
+use Rattle.std.specs.Prelude.{◌≡◌, ℕ, List, ◌∷◌, refl}
 use Rattle.std.proofs.Common.{sym, ap, subst, subst₂, ◌∙◌}
 use Rattle.tsp_base.specs.declared.act.Act.TheVariants.{Post}
-use Rattle.tsp_base.specs.declared.datagram.Datagram.{Datagram}
 use Rattle.tsp_base.specs.declared.datagram.Datagram.TheVariants.{Message}
 use Rattle.tsp_base.specs.declared.place.PeerId.{PeerId}
-use Rattle.tsp_base.specs.declared.place.Place.{Place}
 use Rattle.tsp_base.specs.declared.place.Place.TheVariants.{Peer}
 use Rattle.tsp_base.specs.declared.place.Port.{Port}
 use Rattle.tsp_promises.specs.Fits.{node_of}
-use Rattle.tsp_base.specs.History.{Acts, Did, Here, Line, Seen, dids, is_shared, of, view}
+use Rattle.tsp_base.specs.History.{Acts, Did, Here, Line, Seen, dids, of, view}
 use Rattle.tsp_base.specs.Messages.{MessageValue}
 use Rattle.tsp_promises.specs.Once.{Brings, OfSend}
 use Rattle.tsp_base.specs.Places.{Within}
@@ -18,13 +16,10 @@ use Rattle.tsp_base.specs.Takings.{peer_of, posted}
 use Rattle.tsp_base.proofs.PlaceLemmas.{Within-through}
 use Rattle.tsp_promises.proofs.Locating.{line_on, locate, view-line}
 use Rattle.tsp_promises.proofs.SeenPlaces.{seen_same}
-use Rattle.tsp_promises.proofs.SendPlaces.{post_unique, same-number}
+use Rattle.tsp_promises.proofs.SendPlaces.{post_unique, same-number, not-shared}
 use Rattle.tsp_promises.proofs.SendProof.{begun_at}
 use Rattle.tsp_audit.specs.Acting.{TakesSend}
 use Rattle.tsp_history.specs.PostedPlaces.{PostedAt}
-
-not-shared : (d : Did) (to : Place) (datagram : Datagram) → d.deed ≡ Acts (Post to datagram) → is_shared d.deed ≡ false
-not-shared d to datagram e = rw e refl
 
 -- the place where the last send to p began, and the message that begins it
 pub record Begun (n : ℕ) (q : Port) (p : PeerId) (h : List Line) (first : Did) (older : List Seen) : Type 0 where

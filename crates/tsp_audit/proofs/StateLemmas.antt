@@ -11,12 +11,12 @@ use Rattle.tsp_base.specs.Places.{Within}
 use Rattle.tsp_base.proofs.PlaceLemmas.{Within-all, Within-comparable}
 use Rattle.tsp_base.proofs.ViewPlaces.{Within-dids}
 use Rattle.tsp_promises.proofs.HistoryPlaces.{Within-of, of-other, of-own}
-use Rattle.tsp_promises.proofs.LateProof.{lives-deed}
 use Rattle.tsp_audit.specs.Agreeing.{AfterIs, CastAs, FirstIs, IsNoCast, LiveIs, NodeIs}
 use Rattle.tsp_audit.specs.Changes.{IsCorrect, IsQuiet}
 use Rattle.tsp_audit.specs.declared.round_correction.RoundCorrection.{RoundCorrection}
 use Rattle.tsp_audit.specs.declared.round_correction.NodeState.{NodeState}
 use Rattle.tsp_history.specs.Clocks.{IsSumOf}
+use Rattle.tsp_history.proofs.SpacingLemmas.{lives-mono}
 
 -- a node's Corrects and Boots grow in number
 corrects-deed : (deed : Deed) (n : ℕ) → n ≤ all_corrects_after deed n
@@ -28,16 +28,8 @@ corrects-dids s [] e = subst (λ w. all_corrects w ≤ 0) (sym e) (omega arith)
 corrects-dids s (d ∷ t) (inl e) = subst (λ w. all_corrects w ≤ all_corrects (d ∷ t)) (sym e) (omega arith)
 corrects-dids s (d ∷ t) (inr p) = omega (arith, corrects-dids s t p, corrects-deed d.deed (all_corrects t))
 
-lives-dids : (s t : List Did) → Within s t → lives s ≤ lives t
-lives-dids s [] e = subst (λ w. lives w ≤ 0) (sym e) (omega arith)
-lives-dids s (d ∷ t) (inl e) = subst (λ w. lives w ≤ lives (d ∷ t)) (sym e) (omega arith)
-lives-dids s (d ∷ t) (inr p) = omega (arith, lives-dids s t p, lives-deed d.deed (lives t))
-
 corrects-mono : (n : ℕ) (s t : List Line) → Within s t → all_corrects (dids (of n s)) ≤ all_corrects (dids (of n t))
 corrects-mono n s t w = corrects-dids (dids (of n s)) (dids (of n t)) (Within-dids (of n s) (of n t) (Within-of n s t w))
-
-lives-mono : (n : ℕ) (s t : List Line) → Within s t → lives (dids (of n s)) ≤ lives (dids (of n t))
-lives-mono n s t w = lives-dids (dids (of n s)) (dids (of n t)) (Within-dids (of n s) (of n t) (Within-of n s t w))
 
 correct-counts : (n : ℕ) (l : Line) (h : List Line) (a : ℤ) (s : Bool) (y : ℤ) → node_of l ≡ n → l.did.deed ≡ Acts (Correct a s y) → all_corrects (dids (of n (l ∷ h))) ≡ all_corrects (dids (of n h)) + 1
 correct-counts n l h a s y node deed = ap (λ (t : List Line). all_corrects (dids t)) (of-own n l h node) ∙ ap (λ (d : Deed). all_corrects_after d (all_corrects (dids (of n h)))) deed
@@ -175,20 +167,6 @@ node-correct n l h s t node is a first cast moved_is bounded lives_is corrects_i
       corrects_is = corrects_is;
       after_is = after-correct n l h t.after is.amount is.stepped is.shown node is.is first;
       cast_is = live-correct n l h t.cast is.amount is.stepped is.shown node is.is cast;
-    }
-
--- nothing is known of a node of which nothing has happened
-pub node-blank : (n : ℕ) (s : NodeState) → s.moved ≡ pos 0 → s.lives ≡ 0 → s.corrects ≡ 0 → s.after ≡ None → s.cast ≡ None → NodeIs n [] s
-node-blank n s moved_is lives_is corrects_is after_is cast_is =
-    let none : LiveIs n [] None = λ c past same u m close cpast r older e cast. (let w = u.within in let bad : ⊥ = cc in bad) in
-    let first : AfterIs n [] None = λ act apast x. (let w = x.place in let bad : ⊥ = cc in bad) in
-    record {
-      moved_is = moved_is;
-      bounded = subst (λ (z : ℤ). IsSumOf 4294967295 z) (sym moved_is) (omega arith, omega arith);
-      lives_is = lives_is;
-      corrects_is = corrects_is;
-      after_is = subst (λ (o : Option ℕ). AfterIs n [] o) (sym after_is) first;
-      cast_is = subst (λ (o : Option RoundCorrection). LiveIs n [] o) (sym cast_is) none;
     }
 
 -- as many amounts as there can be lines

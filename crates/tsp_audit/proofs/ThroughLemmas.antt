@@ -11,7 +11,7 @@ use Rattle.tsp_audit.specs.Notes.{NotesStand}
 use Rattle.tsp_audit.specs.Settings.{HasClocks, Timely}
 use Rattle.tsp_audit.specs.Verdicts.{AllHold, IsFound, Looked}
 use Rattle.tsp_audit.proofs.EventLemmas.{found-more, grown-claims, holds-none, joins-within}
-use Rattle.tsp_audit.proofs.JudgeLemmas.{history-length, prefix-is}
+use Rattle.tsp_audit.proofs.JudgeLemmas.{prefix-is}
 use Rattle.tsp_audit.proofs.NumberedLemmas.{AllName}
 use Rattle.tsp_promises.specs.Setting.{Setting}
 use Rattle.tsp_promises.proofs.EverywhereLemmas.{Everywhere-within}
@@ -23,6 +23,7 @@ use Rattle.tsp_claims.specs.ClaimedHistory.{Claim, claimed, events_of, posts_of,
 use Rattle.tsp_claims.specs.Listed.{NamesNode, booted}
 use Rattle.tsp_history.specs.declared.line.HistoryLine.{HistoryLine}
 use Rattle.tsp_history.specs.Histories.{history_of}
+use Rattle.tsp_history.proofs.NoteLemmas.{length-history}
 use Rattle.tsp_run.specs.Run.{event_at}
 
 -- the history up to an event is a place of the whole
@@ -53,7 +54,7 @@ upto-is header told upto ns end is place end_is =
 
 pub upto-below : (header : HeaderValue) (told upto : List Claim) (ns : List HistoryLine) (end : ℕ) → history_of ns ≡ claimed header told → Within upto told → end ≡ length (claimed header upto) → end ≤ length ns
 upto-below header told upto ns end is place end_is =
-    omega (arith, end_is, Within-length (claimed header upto) (claimed header told) (claims-within header upto told place), history-length ns, ap (λ (h : List Line). length h) is)
+    omega (arith, end_is, Within-length (claimed header upto) (claimed header told) (claims-within header upto told place), length-history ns, ap (λ (h : List Line). length h) is)
 
 -- a place as long as the whole is the whole
 pub whole-place : (told before : List Claim) → Within before told → length told ≤ length before → before ≡ told

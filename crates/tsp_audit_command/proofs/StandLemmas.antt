@@ -101,8 +101,3 @@ pub Ends-schedule : (lines : List (List ℕ)) (r : Reading) (held : AuditInput) 
     ((p : Progress) → StageStands ListingStands p stage → ¬ IsEnded p → Lacks (Scheduling p) cause) → Lacks r cause
 Ends-schedule lines (Scheduling p) held stage cause is reaches stands lacks = lacks p (subst (λ h. HeldStands (Scheduling p) h) is stands) (λ e. Reaches-open (reverse lines) p reaches e)
 Ends-schedule lines (Claimed c) held stage cause is reaches stands lacks = let bad : ⊥ = subst (λ h. HeldStands (Claimed c) h) is stands in absurd bad
-
--- the claims that are held are those to which the lines have come
-pub held-claims : (r : Reading) (held : AuditInput) (c : ClaimingValue) → held ≡ ClaimsOf c → HeldStands r held → r ≡ Claimed c
-held-claims (Scheduling p) held c is stands = let bad : ⊥ = subst (λ h. HeldStands (Scheduling p) h) is stands in absurd bad
-held-claims (Claimed v) held c is stands = let same : c ≡ v = subst (λ h. HeldStands (Claimed v) h) is stands in ap (λ x. Claimed x) (sym same)

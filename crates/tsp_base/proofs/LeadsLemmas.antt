@@ -1,11 +1,9 @@
 -- The rules by which rows lead from one fact of a past to another.
-use Rattle.std.specs.Prelude.{◌≡◌, ℕ, Bool, true, false, if◌then◌else◌, List, [], ◌∷◌, map, refl}
+use Rattle.std.specs.Prelude.{◌≡◌, ℕ, Bool, true, false, if◌then◌else◌, List, [], ◌∷◌, refl}
 use Rattle.tsp_base.specs.declared.act.Act.{Act}
-use Rattle.tsp_base.specs.declared.kind.Kind.{Kind}
-use Rattle.tsp_base.specs.declared.place.PeerId.{PeerId}
 use Rattle.tsp_base.specs.History.{Past}
 use Rattle.tsp_base.specs.Leads.{Leads}
-use Rattle.tsp_base.specs.Rows.{Row, grown, nothing, puts, posts_to_others, post_of, others, ◌followed_by◌, either_by, reading, for_each}
+use Rattle.tsp_base.specs.Rows.{Row, grown, nothing, puts, ◌followed_by◌, either_by, reading, for_each}
 use Rattle.tsp_base.proofs.RowLemmas.{added_append}
 
 pub Leads_then : {P Q R : ℕ → Past → Type 0} (r s : Row) → Leads P r Q → Leads Q s R → Leads P (r followed_by s) R
@@ -47,19 +45,3 @@ Leads_from k p = record { run = λ x past h. p.run x past (k x past h) }
 
 pub Leads_to : {P Q R : ℕ → Past → Type 0} {r : Row} → ((x : ℕ) (past : Past) → Q x past → R x past) → Leads P r Q → Leads P r R
 Leads_to {r = r} k p = record { run = λ x past h. k x (grown x past (r x past)) (p.run x past h) }
-
--- the past in which a row starts, held fast for what the row does later
-pub Leads_fix : {P Q : ℕ → Past → Type 0} {r : Row} → ((x : ℕ) (start : Past) → P x start → Leads (λ y past. (y ≡ x) × (past ≡ start)) r Q) → Leads P r Q
-Leads_fix k = record { run = λ x past h. (k x past h).run x past (refl, refl) }
-
--- posts keep what each post keeps
-kept-posts : (P : ℕ → Past → Type 0) → ((x : ℕ) (past : Past) (kind : Kind) (number : ℕ) (name : List ℕ) (p : PeerId) → P x past → P x (grown x past (post_of kind number name p ∷ []))) →
-    (kind : Kind) (number : ℕ) (name : List ℕ) (ps : List PeerId) (x : ℕ) (past : Past) → P x past → P x (grown x past (map (post_of kind number name) ps))
-kept-posts P k kind number name [] x past h = h
-kept-posts P k kind number name (p ∷ ps) x past h =
-    kept-posts P k kind number name ps x (grown x past (post_of kind number name p ∷ [])) (k x past kind number name p h)
-
-pub Leads_posts_to_others : {P : ℕ → Past → Type 0} → ((x : ℕ) (past : Past) (kind : Kind) (number : ℕ) (name : List ℕ) (p : PeerId) → P x past → P x (grown x past (post_of kind number name p ∷ []))) →
-    (kind : Kind) (number : ℕ) → Leads P (posts_to_others kind number) P
-unfolding posts_to_others
-Leads_posts_to_others {P = P} k kind number = record { run = λ x past h. kept-posts P k kind number past.name (others past.own past.peers) x past h }

@@ -1,4 +1,5 @@
 pub mod AlarmLemmas
+pub mod AscendingLemmas
 pub mod FrameLemmas
 pub mod HeaderLemmas
 pub mod KindLemmas

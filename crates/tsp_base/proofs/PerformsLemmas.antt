@@ -5,7 +5,7 @@ use Rattle.std.proofs.lemmas.List.{map-append}
 use Rattle.tsp_base.specs.declared.act.Placed.{Placed}
 use Rattle.tsp_base.specs.declared.place.Port.{Port}
 use Rattle.tsp_base.specs.History.{Past}
-use Rattle.tsp_base.specs.Performs.{Performs, Beside, Keeps}
+use Rattle.tsp_base.specs.Performs.{Performs, Keeps}
 use Rattle.tsp_base.specs.Rows.{Row, grown, placed, nothing, ◌followed_by◌, either_by, reading, for_each}
 use Rattle.tsp_base.proofs.RowLemmas.{added_append, for_each-more}
 
@@ -66,14 +66,6 @@ Performs_from k d = record { acts = λ past h. d.acts past (k past h); stands = 
 pub Performs_to : {S T U : Type 0} {p : Past → S → Type 0} {q : Past → T → Type 0} {w : Past → U → Type 0} {r : Row} {x : ℕ} {port : Port} {before : S} {after : T} {last : U} {old new : List Placed} →
     ((past : Past) → q past after → w past last) → Performs p q r x port before after old new → Performs p w r x port before last old new
 Performs_to {r = r} {x = x} k d = record { acts = d.acts; stands = λ past h. k (grown x past (r x past)) (d.stands past h) }
-
--- a call that leaves another state alone
-pub Performs_beside : {S T U : Type 0} {fits : Past → S → Type 0} {then_fits : Past → T → Type 0} {also : Past → U → Type 0} {r : Row} {x : ℕ} {port : Port} {before : S} {after : T} {old new : List Placed} (state : U) →
-    Keeps also r → Performs fits then_fits r x port before after old new → Performs (Beside fits also) (Beside then_fits also) r x port (before, state) (after, state) old new
-Performs_beside {x = x} state k d = record {
-  acts = λ past h. d.acts past h.first;
-  stands = λ past h. record { first = d.stands past h.first; second = k x past state h.second };
-}
 
 -- rows that keep a state, one after the other, on one of two ways, for what a fact is, and for each of some
 pub Keeps_nothing : {T : Type 0} (also : Past → T → Type 0) → Keeps also nothing

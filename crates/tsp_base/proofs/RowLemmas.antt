@@ -15,6 +15,14 @@ added_append step x (a ∷ xs) ys seen = added_append step x xs ys (Here (record
 pub grown_append : (x : ℕ) (past : Past) (xs ys : List Act) → grown x past (xs ++ ys) ≡ grown x (grown x past xs) ys
 grown_append x past xs ys = ap (λ s. record past { seen = s }) (added_append past.step x xs ys past.seen)
 
+-- rows one after another, in whatever way they are grouped
+pub then_assoc : (r s t : Row) (x : ℕ) (past : Past) → ((r followed_by s) followed_by t) x past ≡ (r followed_by (s followed_by t)) x past
+unfolding ◌followed_by◌
+then_assoc r s t x past =
+    let a = r x past in
+    let b = s x (grown x past a) in
+    ap (λ q. (a ++ b) ++ t x q) (grown_append x past a b) ∙ append_assoc a b (t x (grown x (grown x past a) b))
+
 -- a row for each of some, and then for one more
 pub for_each-more : {A : Type 0} (r : A → Row) (ps : List A) (p : A) (x : ℕ) (past : Past) →
     for_each r (ps ++ p ∷ []) x past ≡ (for_each r ps followed_by r p) x past

@@ -1,5 +1,6 @@
 -- What one act more makes of a port's sends.
 use Rattle.std.specs.Prelude.{◌≡◌, ℕ, ◌+◌, ◌==◌, ◌&&◌, Bool, true, false, if◌then◌else◌, List, [], ◌∷◌, Option, None, Some, refl}
+use Rattle.std.proofs.lemmas.Bool.{and_right}
 use Rattle.tsp_base.specs.declared.act.Act.{Act}
 use Rattle.tsp_base.specs.declared.act.Act.TheVariants.{Post, Acked, Gave}
 use Rattle.tsp_base.specs.declared.datagram.Datagram.TheVariants.{Message}
@@ -42,14 +43,10 @@ open_send-repeats step x p q m seen numbered acts = rw (numbered, acts) (by_case
   by_case true = sending_at-more (open_to p seen) (posts_of p seen)
   by_case false = refl
 
-and-false : (b : Bool) → (b && false) ≡ false
-and-false true = refl
-and-false false = refl
-
 -- a message that isn't numbered changes no send
 pub open_send-unnumbered : (step : Step) (x : ℕ) (p : PeerId) (to : Place) (m : MessageValue) (seen : List Seen) → is_numbered m.kind ≡ false →
     open_send p (seen_act step x (Post to (Message m)) ∷ seen) ≡ open_send p seen
-open_send-unnumbered step x p (Peer q) m seen bare = rw (bare, and-false (q.0 == p.0)) refl
+open_send-unnumbered step x p (Peer q) m seen bare = rw (bare, and_right (q.0 == p.0) false refl) refl
 open_send-unnumbered step x p Stranger m seen bare = refl
 
 -- the end of a send
@@ -78,7 +75,7 @@ last_post-posts step x p q m seen corrects = rw corrects (by_case (q.0 == p.0)) 
 -- a message that doesn't correct changes nothing of the last correction
 pub last_post-other : (step : Step) (x : ℕ) (p : PeerId) (to : Place) (m : MessageValue) (seen : List Seen) → is_correction m.kind ≡ false →
     last_post p (seen_act step x (Post to (Message m)) ∷ seen) ≡ last_post p seen
-last_post-other step x p (Peer q) m seen other = rw (other, and-false (q.0 == p.0)) refl
+last_post-other step x p (Peer q) m seen other = rw (other, and_right (q.0 == p.0) false refl) refl
 last_post-other step x p Stranger m seen other = refl
 
 pub last_number-begins : (step : Step) (x : ℕ) (p q : PeerId) (m : MessageValue) (seen : List Seen) → is_correction m.kind ≡ true → acting seen ≡ true →
@@ -92,7 +89,7 @@ last_number-begins step x p q m seen corrects acts = rw (corrects, acts) (by_cas
 -- a post that begins no correction
 pub last_number-other : (step : Step) (x : ℕ) (p : PeerId) (to : Place) (m : MessageValue) (seen : List Seen) → (is_correction m.kind && acting seen) ≡ false →
     last_number p (seen_act step x (Post to (Message m)) ∷ seen) ≡ last_number p seen
-last_number-other step x p (Peer q) m seen other = rw (other, and-false (q.0 == p.0)) refl
+last_number-other step x p (Peer q) m seen other = rw (other, and_right (q.0 == p.0) false refl) refl
 last_number-other step x p Stranger m seen other = refl
 
 pub is_acknowledged-begins : (step : Step) (x : ℕ) (p q : PeerId) (m : MessageValue) (seen : List Seen) → is_correction m.kind ≡ true → acting seen ≡ true →
@@ -104,7 +101,7 @@ is_acknowledged-begins step x p q m seen corrects acts = rw (corrects, acts) (by
 
 pub is_acknowledged-other : (step : Step) (x : ℕ) (p : PeerId) (to : Place) (m : MessageValue) (seen : List Seen) → (is_correction m.kind && acting seen) ≡ false →
     is_acknowledged p (seen_act step x (Post to (Message m)) ∷ seen) ≡ is_acknowledged p seen
-is_acknowledged-other step x p (Peer q) m seen other = rw (other, and-false (q.0 == p.0)) refl
+is_acknowledged-other step x p (Peer q) m seen other = rw (other, and_right (q.0 == p.0) false refl) refl
 is_acknowledged-other step x p Stranger m seen other = refl
 
 pub corrects_by-open : (p : PeerId) (seen : List Seen) → corrects_by (message_at (open_to p seen)) ≡ corrects_in (open_send p seen)

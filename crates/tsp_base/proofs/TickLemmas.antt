@@ -1,7 +1,14 @@
--- How ticks follow the true time.
+-- How ticks follow the true time, and what is slewed.
 use Rattle.std.specs.Prelude.{◌≡◌, ℕ, ◌+◌, ◌-◌, ◌*◌, ◌≤◌, ℤ, pos, negsuc, nat_abs}
 use Rattle.std.proofs.Common.{arith, subst, mul-le-mul_left}
+use Rattle.std.proofs.lemmas.Int.{ints}
+use Rattle.tsp_base.specs.NodeFacts.{eased}
 use Rattle.tsp_base.specs.Ticks.{tick_at, width}
+
+-- nothing is slewed by 0
+pub eased_none : (r : ℤ) → eased r 0 ≡ r
+eased_none (pos r) = grind (arith, ints)
+eased_none (negsuc r) = grind (arith, ints)
 
 -- over x of true time a tick advances by x, give or take the width
 pub tick_at-width : (r : ℤ) (p s x : ℕ) → nat_abs r ≤ p → p ≤ 1000 →

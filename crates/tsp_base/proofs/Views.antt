@@ -1,7 +1,6 @@
 use Rattle.std.specs.Prelude.{◌≡◌, ◌==◌, ◌||◌, Bool, true, false, List, [], ◌∷◌, refl}
-use Rattle.std.proofs.Common.{eq-eqb}
 use Rattle.tsp_base.specs.declared.place.Port.{Port}
-use Rattle.tsp_base.specs.History.{Did, Line, Here, is_shared, seen_as, view, did_of, plain, dids}
+use Rattle.tsp_base.specs.History.{Did, Line, is_shared, seen_as, view, did_of, plain, dids}
 
 did_of-seen_as : (b : Bool) (d : Did) → did_of (seen_as b d) ≡ d
 did_of-seen_as true d = refl
@@ -11,7 +10,3 @@ did_of-seen_as false d = refl
 pub plain_view : (q : Port) (own : List Line) → plain (view q own) ≡ dids own
 plain_view q [] = refl
 plain_view q (l ∷ before) = rw (did_of-seen_as ((l.port.0 == q.0) || is_shared l.did.deed) l.did, plain_view q before) refl
-
--- a port sees its own deeds here
-pub view-own : (q : Port) (d : Did) (own : List Line) → view q (record { port = q; did = d } ∷ own) ≡ Here d ∷ view q own
-view-own q d own = let same : (q.0 == q.0) ≡ true = eq-eqb q.0 q.0 refl in rw same refl

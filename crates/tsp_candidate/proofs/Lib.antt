@@ -1,4 +1,3 @@
 pub mod AlsoLemmas
 pub mod AnswerLemmas
 pub mod RowCases
-pub mod WinLemmas

@@ -20,10 +20,6 @@ pub record Left (fits : Event → Tally → Line2 → Type 0) (e : Event) (t : T
   pub fit : AllFit fits e t (drop i lines) → AllFit fits e untold lines
   pub misfit : (j : ℕ) → Misfits fits e t (drop i lines) j → Misfits fits e untold lines (i + j)
 
--- before the first line all are left
-pub left-all : (fits : Event → Tally → Line2 → Type 0) (e : Event) (lines : List Line2) → Left fits e untold 0 lines
-left-all fits e lines = record { fit = λ h. h; misfit = λ j m. subst (λ k. Misfits fits e untold lines k) (omega arith) m }
-
 module _ (fits : Event → Tally → Line2 → Type 0) (e : Event) (t : Tally) (i : ℕ) (lines : List Line2) (left : Left fits e t i lines) where
   left-is : (l : Line2) → i < length lines → get_or lines i l ≡ l → drop i lines ≡ (l ∷ drop (i + 1) lines)
   left-is l below is = drop_more lines i l below ∙ ap (λ (k : Line2). k ∷ drop (i + 1) lines) is

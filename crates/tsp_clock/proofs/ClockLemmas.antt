@@ -1,10 +1,11 @@
 -- What keeps a clock in its range.
-use Rattle.std.specs.Prelude.{◌≡◌, ◌⊎◌, ℕ, ◌+◌, ◌-◌, ◌/◌, ◌%◌, ◌^◌, ◌≤◌, ℤ, pos, negsuc, ◌+ℤ◌, ◌-ℤ◌, ◌≤ℤ◌, ◌<ℤ◌, Bool, true, false, if◌then◌else◌, refl}
-use Rattle.std.proofs.Common.{arith, inl, inr, SFits, w64}
+use Rattle.std.specs.Prelude.{◌≡◌, ℕ, ◌+◌, ◌-◌, ◌/◌, ◌%◌, ◌^◌, ◌≤◌, ℤ, pos, negsuc, ◌+ℤ◌, ◌-ℤ◌, ◌≤ℤ◌, ◌<ℤ◌, Bool, true, false, if◌then◌else◌, refl}
+use Rattle.std.proofs.Common.{arith, SFits, w64}
 use Rattle.std.proofs.lemmas.Int.{ints}
 use Rattle.tsp_base.specs.declared.constants.TheConstants.{SLEW}
 use Rattle.tsp_base.specs.History.{Past, plain}
 use Rattle.tsp_base.specs.NodeFacts.{eased, base, moved, word, corrects}
+use Rattle.tsp_base.proofs.TickLemmas.{eased_none}
 use Rattle.tsp_base.specs.Rows.{grown}
 use Rattle.tsp_rules.specs.ClockRows.{is_step, adjusts, sets}
 use Rattle.tsp_rules.specs.Guards.{is_clock_value}
@@ -18,16 +19,6 @@ clock_value_low z h = grind (arith, ints)
 pub clock_value_high : (z : ℤ) → is_clock_value z ≡ true → z <ℤ pos 2147483648000000
 clock_value_high z h = grind (arith, ints)
 
--- a rest goes up by no more than what is slewed
-pub eased_high : (r : ℤ) (n : ℕ) → eased r n ≤ℤ (r +ℤ pos n)
-eased_high (pos m) n = grind (arith, ints)
-eased_high (negsuc m) n = grind (arith, ints)
-
--- a rest goes down to zero, and no further
-pub eased_low : (r : ℤ) (n : ℕ) → (pos 0 ≤ℤ eased r n) ⊎ (r ≤ℤ eased r n)
-eased_low (pos m) n = inl (grind (arith, ints))
-eased_low (negsuc m) n = inr (grind (arith, ints))
-
 -- one correction more
 pub next_ticket : (old w n : ℕ) → old ≡ (w + n) % 32768 → (old + 1) % 32768 ≡ (w + (n + 1)) % 32768
 next_ticket old w n e = omega arith
@@ -38,16 +29,11 @@ set_offset value base moved x = omega (arith, ints)
 pub adjusted_offset : (base moved amount : ℤ) → (base +ℤ moved) +ℤ amount ≡ base +ℤ (moved +ℤ amount)
 adjusted_offset base moved amount = omega (arith, ints)
 
--- nothing is slewed at once
-pub eased_zero : (r : ℤ) → eased r 0 ≡ r
-eased_zero (pos m) = grind (arith, ints)
-eased_zero (negsuc m) = grind (arith, ints)
-
 -- what is shown right after an adjustment: the new target after a step, else what was shown before
 shown_after : (b : Bool) (offset left amount : ℤ) (x n : ℕ) → n ≡ 0 →
     ((offset +ℤ amount) +ℤ pos x) -ℤ eased (if b then pos 0 else left +ℤ amount) n ≡ (if b then (offset +ℤ pos x) +ℤ amount else (offset +ℤ pos x) -ℤ left)
-shown_after true offset left amount x n e = rw (e, eased_zero (pos 0)) (omega (arith, ints))
-shown_after false offset left amount x n e = rw (e, eased_zero (left +ℤ amount)) (omega (arith, ints))
+shown_after true offset left amount x n e = rw (e, eased_none (pos 0)) (omega (arith, ints))
+shown_after false offset left amount x n e = rw (e, eased_none (left +ℤ amount)) (omega (arith, ints))
 
 pub shown_adjusted : (v : ClockValue) (x : ℕ) (amount : ℤ) →
     shown_of (adjusted v x amount) x ≡ (if is_step amount then target_of v x +ℤ amount else shown_of v x)

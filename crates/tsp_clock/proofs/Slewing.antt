@@ -13,10 +13,6 @@ pub eased_whole : (r : ℤ) (n : ℕ) → nat_abs r ≤ n → eased r n ≡ pos 
 eased_whole (pos r) n h = grind (arith, ints)
 eased_whole (negsuc r) n h = grind (arith, ints)
 
-pub eased_none : (r : ℤ) → eased r 0 ≡ r
-eased_none (pos r) = grind (arith, ints)
-eased_none (negsuc r) = grind (arith, ints)
-
 -- the slewing of a time is no longer than the time
 pub slewed_between : (at x y : ℕ) → at ≤ x → x ≤ y → ((x - at) / 200 ≤ (y - at) / 200) × ((y - at) / 200 - (x - at) / 200 ≤ y - x)
 slewed_between at x y h k = (omega arith, omega arith)

@@ -2,11 +2,8 @@
 use Rattle.std.proofs.Common.{◌≡◌, ℕ, ◌≤◌, inl, inr, List, [], false, true, refl, sym, ap, ◌∙◌, append-nil, length, arith}
 use Rattle.hex.specs.Hex.{encode_lower}
 use Rattle.hex.proofs.HexLemmas.{decode_of-same}
-use Rattle.tsp_base.specs.declared.datagram.DecodeFault.{DecodeFault}
-use Rattle.tsp_base.specs.declared.datagram.Taken.TheVariants.{Bad}
 use Rattle.tsp_codec.specs.Canon.{canon}
-use Rattle.tsp_codec.specs.Faults.{IsFault}
-use Rattle.tsp_codec.proofs.OneReading.{Reads-one}
+use Rattle.tsp_codec.proofs.OneReading.{IsFault-one}
 use Rattle.tsp_script.specs.Texts.{message_text}
 use Rattle.tsp_script.specs.Traces.{fault_word}
 use Rattle.tsp_lines.specs.Answers.{IsAnswer}
@@ -17,9 +14,6 @@ use Rattle.tsp_convert.specs.Shows.{IsHex, IsNoHex, IsHexOf, RefusesHex, AreHexL
 use Rattle.tsp_convert.proofs.Conversions.{Converts-one, Converts-before}
 use Rattle.tsp_convert.proofs.Hexes.{IsHexOf-one, IsHexOf-not_refused}
 use Rattle.tsp_convert.proofs.LinesApart.{IsLineOf-one}
-
-same_fault : (octets : List ℕ) (f g : DecodeFault) → IsFault octets f → IsFault octets g → f ≡ g
-same_fault octets f g p q = let e = Reads-one octets (Bad f) (Bad g) p q in cc
 
 no_hex : (line octets : List ℕ) → IsNoHex line → IsHex line octets → ⊥
 no_hex line octets (inl long) h = omega (arith, long, h.0)
@@ -32,7 +26,7 @@ RefusesHex-one line cause other (inl r) (inr s) = absurd (no_hex line s.0 r.0 s.
 RefusesHex-one line cause other (inr r) (inl s) = absurd (no_hex line r.0 s.0 r.2)
 RefusesHex-one line cause other (inr (octets, f, hex, p, e)) (inr (others, g, hexes, q, d)) =
     let same = decode_of-same line octets others hex.1 hexes.1 in
-    e ∙ ap fault_word (same_fault others f g (rw same at p) q) ∙ sym d
+    e ∙ ap fault_word (IsFault-one others f g (rw same at p) q) ∙ sym d
 
 pub IsDefinite-show : IsDefinite show_meaning
 IsDefinite-show = record {

@@ -12,6 +12,7 @@ use Rattle.tsp_promises.specs.Setting.{Alone, Named, Network, Setting}
 use Rattle.tsp_rules.specs.NodeRows.{PortSetup, no_port}
 use Rattle.tsp_daemon.specs.Kept.{SetByWords}
 use Rattle.tsp_daemon.specs.Nodes.{is_strict, peer_of, setups_from}
+use Rattle.tsp_run.proofs.NetworkLemmas.{port_named}
 
 -- each port is on a network of its own
 abbrev net_of : ℕ → Port → Network
@@ -27,17 +28,14 @@ abbrev members_in : List PortSetup → Network → List PeerId
 members_in ports (Named k) = peers_in (slice_get ports k)
 members_in ports (Alone n q) = peer_of n ∷ []
 
-port-one : (p q : Port) → p.0 ≡ q.0 → p ≡ q
-port-one p q e = let same : record { 0 = p.0 } ≡ record { 0 = q.0 } = rw e refl in same
-
 -- the number of a network
 abbrev number_of : Network → ℕ
 number_of (Named k) = k
 number_of (Alone n q) = q
 
 apart : (n : ℕ) (p q : Port) → net_of n p ≡ net_of n q → p ≡ q
-apart zero p q e = port-one p q (ap number_of e)
-apart (suc n) p q e = port-one p q (ap number_of e)
+apart zero p q e = port_named p q (ap number_of e)
+apart (suc n) p q e = port_named p q (ap number_of e)
 
 among-self : (n : ℕ) (rest : List PeerId) → is_among (peer_of n) (peer_of n ∷ rest) ≡ true
 among-self n rest = let same : (n == n) ≡ true = eq-eqb n n refl in rw same refl

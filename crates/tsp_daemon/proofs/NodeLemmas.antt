@@ -1,5 +1,5 @@
 -- The daemon's node can boot, and then stands for its first past.
-use Rattle.std.specs.Prelude.{◌≡◌, ℕ, zero, suc, ◌+◌, ◌*◌, ◌^◌, ◌<◌, ◌≤◌, ℤ, List, [], ◌∷◌, ◌++◌, length, map, drop, slice_get, slice_index, Some}
+use Rattle.std.specs.Prelude.{◌≡◌, ℕ, zero, suc, ◌+◌, ◌*◌, ◌^◌, ◌<◌, ◌≤◌, List, [], ◌∷◌, ◌++◌, length, map, drop, slice_get, slice_index, Some}
 use Rattle.std.proofs.Common.{ap, sym, ◌∙◌, arith, refl, subst, length-append, append_assoc}
 use Rattle.std.proofs.lemmas.List.{drop_more, get_or-map, length-map}
 use Rattle.std.proofs.lemmas.Option.{get_or_from_slice_get, slice_get_within}
@@ -7,13 +7,13 @@ use Rattle.std.proofs.lemmas.List.FromFn.{length-map-range_with_len, get_or-map-
 use Rattle.std.specs.List.{range_with_len}
 use Rattle.tsp_base.specs.declared.place.PeerId.{PeerId}
 use Rattle.tsp_node.specs.Configs.{IsPortSetup}
-use Rattle.tsp_gateway.specs.GateConfigs.{ArePorts, UnbootedNode, peers_of_ports}
+use Rattle.tsp_gateway.specs.GateConfigs.{ArePorts, peers_of_ports}
 use Rattle.tsp_gateway.specs.Rooms.{room_of_ports}
 use Rattle.tsp_io.specs.declared.addr.Addr.{Addr}
 use Rattle.tsp_rules.specs.NodeRows.{PortSetup}
 use Rattle.tsp_args.specs.Ports.{all_peers}
 use Rattle.tsp_args.specs.declared.serve.ServeWords.{ServeWords}
-use Rattle.tsp_daemon.specs.Nodes.{peer_of, port_peers, setup_of, setups_from, config_of, booting}
+use Rattle.tsp_daemon.specs.Nodes.{peer_of, port_peers, setup_of, setups_from, config_of}
 
 -- a port has one peer more than it has behind the daemon
 length-peers : (done count : ℕ) → length (port_peers done count) ≡ count + 1
@@ -90,10 +90,6 @@ peers_more done ports i peers e few =
     let here = ap (λ (ps : List (List Addr)). length (all_peers ps)) (ports-here ports i peers e) in
     let both = length-append peers (all_peers (drop (i + 1) ports)) in
     omega (arith, few, here, both)
-
--- the node boots in its first step
-pub Unbooted-booting : (s : ServeWords) (tick word : ℕ) (wall : ℤ) → UnbootedNode (config_of s) word wall (booting (config_of s) tick wall word) tt
-Unbooted-booting s tick word wall = record { cause = refl; of = record { name = refl; may = refl; strict = refl; ports = refl } }
 
 -- the room of so many turns fits 64 bits
 pub turns_fit : (turns room : ℕ) → turns ≤ 1000000000 → room ≤ 24 * 1003 + 4 * 256 → turns * room < 2 ^ 64

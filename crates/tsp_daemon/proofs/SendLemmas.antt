@@ -1,17 +1,12 @@
 -- Sends and lines, a few at a time.
-use Rattle.std.specs.Prelude.{◌≡◌, ℕ, ◌+◌, ◌<◌, List, [], ◌++◌, length, Option, None, Some, refl}
+use Rattle.std.specs.Prelude.{◌≡◌, ℕ, ◌+◌, ◌<◌, List, ◌++◌, length, Option, None, Some}
 use Rattle.std.specs.Option.{option_map}
-use Rattle.std.proofs.Common.{ap, sym, ◌∙◌, append_assoc, append-nil, get_or, drop}
+use Rattle.std.proofs.Common.{ap, ◌∙◌, append_assoc, get_or, drop}
 use Rattle.std.proofs.lemmas.List.{drop_more}
 use Rattle.tsp_base.specs.declared.act.Placed.{Placed}
 use Rattle.tsp_io.specs.Links.{Tried}
-use Rattle.tsp_daemon.specs.Ends.{TriesAll, TriesSome}
+use Rattle.tsp_daemon.specs.Ends.{TriesAll}
 use Rattle.tsp_daemon.specs.Posts.{send_of, sends_of}
-
--- no sends
-pub TriesAll-nil : (tried : Option (List Tried)) → TriesAll [] tried tried
-TriesAll-nil None = refl
-TriesAll-nil (Some ts) = ap (λ (xs : List Tried). Some xs) (sym (append-nil ts))
 
 -- sends, and then others
 pub TriesAll-trans : (a b c : Option (List Tried)) (xs ys : List Tried) → TriesAll xs a b → TriesAll ys b c → TriesAll (xs ++ ys) a c
@@ -21,7 +16,3 @@ TriesAll-trans (Some ts) b c xs ys p q = q ∙ ap (option_map (λ zs. zs ++ ys))
 -- the sends of acts from a place on are those of the act there, and those of the acts behind it
 pub sends_here : (acts : List Placed) (i : ℕ) (item : Placed) → i < length acts → get_or acts i item ≡ item → sends_of (drop i acts) ≡ send_of item.act ++ sends_of (drop (i + 1) acts)
 sends_here acts i item l e = ap (λ ps. sends_of ps) (drop_more acts i item l) ∙ ap (λ (p : Placed). send_of p.act ++ sends_of (drop (i + 1) acts)) e
-
--- some of the sends were tried, and then no more
-pub tries_some : (a b c : Option (List Tried)) (all done rest : List Tried) → TriesAll done a b → all ≡ done ++ rest → c ≡ b → TriesSome all a c
-tries_some a b c all done rest t is same = (done, rest, is, same ∙ t)

@@ -4,17 +4,15 @@ use Rattle.std.proofs.Common.{sym, ap, ◌∙◌, subst, arith, inr}
 use Rattle.std.proofs.lemmas.Bool.{ne_eqb}
 use Rattle.tsp_args.specs.Serves.{IsServe}
 use Rattle.tsp_args.specs.declared.serve.ServeWords.{ServeWords}
-use Rattle.tsp_base.specs.declared.act.Act.TheVariants.{Boot, Post}
 use Rattle.tsp_base.specs.declared.act.Placed.{Placed}
 use Rattle.tsp_base.specs.declared.place.PeerId.{PeerId}
 use Rattle.tsp_base.specs.declared.place.Place.{Place}
 use Rattle.tsp_base.specs.declared.place.Place.TheVariants.{Peer, Stranger}
 use Rattle.tsp_base.specs.declared.place.Port.{Port}
-use Rattle.tsp_base.specs.History.{Acts, Begins, Booted, Cause, Deed, Line, Step, Turned, dids, of, view}
+use Rattle.tsp_base.specs.History.{Acts, Begins, Booted, Cause, Line, Step, Turned, dids, of, view}
 use Rattle.tsp_base.specs.Joins.{first_port, joined, line_of}
 use Rattle.tsp_base.specs.NodeFacts.{time_of, up}
-use Rattle.tsp_base.specs.Rows.{puts}
-use Rattle.tsp_base.specs.Takings.{posted, posted_after}
+use Rattle.tsp_base.specs.Takings.{posted}
 use Rattle.tsp_base.specs.Ticks.{tick_at}
 use Rattle.tsp_base.proofs.PlaceLemmas.{Within-all}
 use Rattle.tsp_gateway.specs.GateConfigs.{peers_of_ports}
@@ -39,13 +37,14 @@ use Rattle.tsp_promises.proofs.SafeProof.{safe}
 use Rattle.tsp_promises.proofs.SetProof.{sets_at}
 use Rattle.tsp_query.specs.Arrivals.{next_arrival}
 use Rattle.tsp_query.specs.Ends.{Outside}
-use Rattle.tsp_rules.specs.GateRows.{NodeGiven, NodeTurn, GotOn, all_ports, answers_all, boots_all, boots_on}
-use Rattle.tsp_rules.specs.NodeRows.{NodePast, NodeRow, PortSetup, in_node_step, no_port, on, on_port, port_setup, reading_all, spread, for_ports, ◌and_then◌}
-use Rattle.tsp_rules.proofs.NodeRowLemmas.{spread_append}
+use Rattle.tsp_rules.specs.GateRows.{NodeGiven, NodeTurn, GotOn, answers_all, boots_all}
+use Rattle.tsp_rules.specs.NodeRows.{NodePast, NodeRow, PortSetup, in_node_step, no_port, on, on_port, port_setup, spread}
 use Rattle.tsp_run.specs.Networks.{room}
+use Rattle.tsp_run.proofs.BootLemmas.{boots-up}
 use Rattle.tsp_run.proofs.AnswersFit.{StepOk, boot_ok, got_ok, turn_ok}
-use Rattle.tsp_run.proofs.FitsLines.{ActsOn, AllAlive, AreOn, acts_fit, all_end, mark_line}
+use Rattle.tsp_run.proofs.FitsLines.{ActsOn, AllAlive, AreOn, acts_fit, all_end, mark_line, posted_more}
 use Rattle.tsp_run.proofs.RunLemmas.{up_joined}
+use Rattle.tsp_run.proofs.RunFits.{joined-time}
 use Rattle.tsp_daemon.specs.Kept.{HistoryKept, SetByWords}
 use Rattle.tsp_daemon.specs.Nodes.{config_of, first_past, is_strict, setups_from}
 use Rattle.tsp_daemon.specs.Serving.{first_session}
@@ -78,19 +77,11 @@ joined-on : (ports : ℕ) (step : Step) (x : ℕ) (acts : List Placed) (h : List
 joined-on ports step x [] h on are = are
 joined-on ports step x (p ∷ rest) h on are = joined-on ports step x rest (line_of step x p.port (Acts p.act) ∷ h) on.1 (on.0, are)
 
-joined-time : (step : Step) (x : ℕ) (acts : List Placed) (h : List Line) → time_of (dids h) ≤ step.at → time_of (dids (joined step x acts h)) ≤ step.at
-joined-time step x [] h e = e
-joined-time step x (p ∷ rest) h e = joined-time step x rest (line_of step x p.port (Acts p.act) ∷ h) (omega arith)
-
-one-post : (d : Deed) (n : ℕ) → posted_after d n ≤ n + 1
-one-post (Acts (Post to datagram)) n = omega arith
-one-post _ n = omega arith
-
 joined-posts : (step : Step) (x : ℕ) (acts : List Placed) (h : List Line) → posted (dids (joined step x acts h)) ≤ posted (dids h) + length acts
 joined-posts step x [] h = omega arith
 joined-posts step x (p ∷ rest) h =
     let more = joined-posts step x rest (line_of step x p.port (Acts p.act) ∷ h) in
-    let one = one-post (Acts p.act) (posted (dids h)) in
+    let one = posted_more (Acts p.act) (posted (dids h)) in
     omega (arith, more, one)
 
 -- a clock without drift ticks as true time does
@@ -119,14 +110,6 @@ port-below k p (s ∷ rest) some = by_case (has_other p s) (port-below (k + 1) p
 given-below : (ports : List PortSetup) (from : Place) → 0 < length ports → (port_from ports from).0 < length ports
 given-below ports (Peer p) some = let below = port-below 0 p ports (omega (arith, some)) in omega (arith, below)
 given-below ports Stranger some = some
-
--- a node that has booted is up
-boots-up : (x : ℕ) (past : NodePast) → up (dids (spread x past (boots_all x past)).lines) ≡ true
-unfolding boots_all on puts ◌and_then◌
-boots-up x past =
-    let boot : List Placed = record { port = first_port; act = Boot } ∷ [] in
-    let rest = reading_all all_ports (for_ports boots_on) x (spread x past boot) in
-    subst (λ (z : NodePast). up (dids z.lines) ≡ true) (sym (spread_append x past boot rest)) (up_joined past.step x rest (spread x past boot).lines refl)
 
 -- a step of node 0
 abbrev step_of : Cause → ℕ → Step

@@ -156,11 +156,6 @@ ends_is s next course r buf tick acts arrivals now_arrivals tried now_tried call
         | inr all ↦ inr (inr (record { arrivals_are = same ∙ w.tells.arrivals_are; tried_are = all.0; calls_are = counted ∙ w.tells.calls_are; readings_are = w.tells.readings_are; last_is = w.tells.last_is }, all.1))
       ]
 
--- nothing has happened yet
-pub ends_none : (s : Session) (tried : Option (List Tried)) (arrivals : Option (List Arrival)) (calls : Option ℕ) (readings : Option (List ℕ)) (last : ℕ) (written : Option (List ℕ)) →
-    Tells s.outside arrivals tried calls readings last → written ≡ Some s.written → EndsTurn s arrivals tried calls readings last written OutOfMemory
-ends_none s tried arrivals calls readings last written t w = inl (t, w)
-
 -- a node that lives through a step lives
 pub lives_on : (node next : Gateway) (g : NodeGiven) (tick : ℕ) (acts : List Placed) → Lives node → PerformsAll GatewayBegun GatewayStands (answers_all g) tick node next [] acts → Lives next
 lives_on node next g tick acts l row = record {

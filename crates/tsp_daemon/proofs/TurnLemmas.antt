@@ -36,10 +36,6 @@ last_twice last first between tick now low one high two = omega (arith, low, one
 pub sends_on : (before heard now : ℕ) → heard ≡ before → heard ≤ now → before ≤ now
 sends_on before heard now same later = omega (arith, same, later)
 
--- a clock that is at most at the tick is at most at the last reading
-pub clock_on : (clock tick last : ℕ) → clock ≤ tick → last ≡ tick → clock ≤ last
-clock_on clock tick last low is = omega (arith, low, is)
-
 -- the datagrams of a turn are no more than its acts, for which there is room
 pub posts_on : (before count room : ℕ) (acts all : List Placed) → count ≤ length acts → length all ≤ room → acts ≡ all → before + count ≤ before + room
 posts_on before count room acts all few fit is = let same = ap (λ (ps : List Placed). length ps) is in omega (arith, few, fit, same)

@@ -1,6 +1,6 @@
 -- How long receives wait, turn by turn.
 use Rattle.std.specs.Prelude.{◌≡◌, ℕ, suc, ◌+◌, List, [], ◌∷◌, ◌++◌, Option, None, Some, refl}
-use Rattle.std.proofs.Common.{ap, inl, inr, sym, subst, ◌∙◌, append_assoc, append-nil, arith}
+use Rattle.std.proofs.Common.{ap, inl, inr, sym, subst, ◌∙◌, append_assoc, arith}
 use Rattle.tsp_gateway.specs.declared.gateway.Gateway.{Gateway}
 use Rattle.tsp_gateway.specs.Dues.{IsNodeDue}
 use Rattle.tsp_gateway.specs.GatewayStands.{GatewayStands}
@@ -25,11 +25,6 @@ first_reading o arrivals tried calls readings between last first t takes = (read
 pub wait_noted : (s : Session) (node : Gateway) (due first wait : ℕ) (waits now : Option (List ℕ)) → GatewayStands s.past node → ((past : NodePast) → GatewayStands past node → IsNodeDue past due) →
     first ≡ (read_once s.outside).last → wait ≡ wait_until due first → Notes waits now wait → NotesWait s waits now
 wait_noted s node due first wait waits now stands due_is first_is is n = (wait, record { due = due; due_is = due_is s.past stands; is = is ∙ ap (λ x. wait_until due x) first_is }, n)
-
--- no receive was made
-pub none_noted : (s : Session) (waits : Option (List ℕ)) → NotesWaits s 0 waits waits
-none_noted s None = tt
-none_noted s (Some ws) = ([], sym (append-nil ws), refl)
 
 -- one receive more
 pub more_noted : (s : Session) (n : ℕ) (waits between now : Option (List ℕ)) → NotesWaits s n waits between → NotesWait (after_turns n s) between now → NotesWaits s (suc n) waits now

@@ -1,7 +1,7 @@
 -- The calls that a date makes, beside what they leave alone.
 use Rattle.std.proofs.Common.{◌≡◌, ℕ, ℤ, ◌==◌, ◌&&◌, not, Bool, true, false, if◌then◌else◌, List, [], ◌∷◌, ◌++◌, Option, Some, None, refl, sym, ◌∙◌, ap}
 use Rattle.std.specs.Prelude.{MatchBool}
-use Rattle.std.proofs.lemmas.Bool.{false≢true, ne_eqb}
+use Rattle.std.proofs.lemmas.Bool.{false≢true, ne_eqb, and_parts}
 use Rattle.tsp_base.specs.declared.act.Act.TheVariants.{Acked, Correct, Leave}
 use Rattle.tsp_base.specs.declared.act.Placed.{Placed}
 use Rattle.tsp_base.specs.declared.datagram.Datagram.TheVariants.{Message}
@@ -157,13 +157,9 @@ request-no-correction : (k : Kind) → is_set_date_request k ≡ true → is_cor
 request-no-correction SetDateReq e = refl
 request-no-correction _ e = absurd (false≢true e)
 
-first-true : (a b : Bool) → (a && b) ≡ true → a ≡ true
-first-true true b e = refl
-first-true false b e = absurd (false≢true e)
-
 date-open : (number : ℕ) (o : Option Sending) → answers_date number o ≡ true → corrects_in o ≡ false
 date-open number None e = refl
-date-open number (Some s) e = request-no-correction s.message.kind (first-true (is_set_date_request s.message.kind) (s.message.number == number) e)
+date-open number (Some s) e = request-no-correction s.message.kind ((and_parts (is_set_date_request s.message.kind) (s.message.number == number) e).0)
 
 MasterStands_dated : (p : PeerId) (number x : ℕ) (past : Past) (m : Master) → has_date p number x past ≡ true → MasterStands past m → MasterStands (grown x past (Acked p ∷ [])) m
 MasterStands_dated p number x past m e h =

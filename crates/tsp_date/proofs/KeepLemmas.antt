@@ -1,17 +1,14 @@
 -- What leaves a port's dates alone.
 use Rattle.std.proofs.Common.{◌≡◌, ℕ, ℤ, ◌==◌, ◌&&◌, Bool, true, false, if◌then◌else◌, List, [], ◌∷◌, Option, Some, None, refl, sym, ◌∙◌}
-use Rattle.std.proofs.lemmas.Bool.{false≢true}
+use Rattle.std.proofs.lemmas.Bool.{false≢true, and_left}
 use Rattle.tsp_base.specs.declared.act.Act.{Act}
-use Rattle.tsp_base.specs.declared.act.Act.TheVariants.{Arm, Become, Boot, Correct, Gave, Join, Late, Leave, Post, Ring, Took}
-use Rattle.tsp_base.specs.declared.alarm.Alarm.TheVariants.{Close, Probe}
-use Rattle.tsp_base.specs.declared.datagram.Datagram.TheVariants.{Message, Stamp}
+use Rattle.tsp_base.specs.declared.act.Act.TheVariants.{Boot, Correct, Post, Took}
+use Rattle.tsp_base.specs.declared.datagram.Datagram.TheVariants.{Message}
 use Rattle.tsp_base.specs.declared.kind.Kind.{Kind}
 use Rattle.tsp_base.specs.declared.kind.Kind.TheVariants.{SetDateReq}
 use Rattle.tsp_base.specs.declared.place.PeerId.{PeerId}
 use Rattle.tsp_base.specs.declared.place.Place.{Place}
 use Rattle.tsp_base.specs.declared.place.Place.TheVariants.{Peer}
-use Rattle.tsp_base.specs.declared.role.Role.TheVariants.{Follow, Master}
-use Rattle.tsp_base.specs.declared.stamp.Stamp.TheVariants.{Reply, Request}
 use Rattle.tsp_base.specs.History.{Past, Seen}
 use Rattle.tsp_base.specs.Messages.{MessageValue}
 use Rattle.tsp_base.specs.Performs.{Keeps}
@@ -21,7 +18,6 @@ use Rattle.tsp_base.specs.SendFacts.{Dating, dating_of, is_date_request, is_set_
 use Rattle.tsp_base.proofs.PerformsLemmas.{Keeps_each, Keeps_reading}
 use Rattle.tsp_rules.specs.SendRows.{begins, begins_to_others, next_number, others_at}
 use Rattle.tsp_rules.proofs.Emits.{Sort, Taking, Asking, Correcting, Posting, Leading, Following, Changing, Backing, Counting, Rounding, Alarming, Tabling, Rivalling, Acking, Giving, Sampling, Closing, Moving, Tracing, is_in, sort_of, sort_of_kind, Emits, Keeps_by}
-use Rattle.tsp_rules.proofs.EmitsSends.{send_sorts}
 use Rattle.tsp_date.specs.Dates.{DatesValue}
 use Rattle.tsp_date.specs.DateStands.{DatesStand}
 
@@ -58,14 +54,10 @@ kind-other : (k : Kind) → is_in (sort_of_kind k) dates_sorts ≡ true → is_s
 kind-other SetDateReq e = absurd (false≢true e)
 kind-other _ e = refl
 
-false-and : (a b : Bool) → a ≡ false → (a && b) ≡ false
-false-and true b e = absurd (false≢true (sym e))
-false-and false b e = refl
-
 pub DatesStand_act : (a : Act) → is_in (sort_of a) dates_sorts ≡ true → Keeps DatesStand (puts a)
 unfolding puts
 DatesStand_act Boot e x past d h = absurd (false≢true e)
-DatesStand_act (Post to (Message m)) e x past d h = DatesStand_post to m x past d (false-and (is_set_date_request m.kind) (acting past.seen) (kind-other m.kind e)) h
+DatesStand_act (Post to (Message m)) e x past d h = DatesStand_post to m x past d (and_left (is_set_date_request m.kind) (acting past.seen) (kind-other m.kind e)) h
 DatesStand_act (Correct amount stepped shown) e x past d h = absurd (false≢true e)
 DatesStand_act _ e x past d h = record { peers = h.peers; last = h.last; asked = h.asked }
 
@@ -76,7 +68,7 @@ DatesStand_by row e = Keeps_by dates_sorts DatesStand row DatesStand_act e
 -- a send with an own number that passes no date on
 pub DatesStand_begins : (kind : Kind) (p : PeerId) → is_set_date_request kind ≡ false → Keeps DatesStand (begins kind p)
 unfolding begins posts
-DatesStand_begins kind p e = Keeps_reading DatesStand next_number (posts p kind) (λ number x past d h. DatesStand_post (Peer p) (bare kind number past.name) x past d (false-and (is_set_date_request kind) (acting past.seen) e) h)
+DatesStand_begins kind p e = Keeps_reading DatesStand next_number (posts p kind) (λ number x past d h. DatesStand_post (Peer p) (bare kind number past.name) x past d (and_left (is_set_date_request kind) (acting past.seen) e) h)
 
 pub DatesStand_begins_to_others : (kind : Kind) → is_set_date_request kind ≡ false → Keeps DatesStand (begins_to_others kind)
 unfolding begins_to_others
@@ -99,7 +91,7 @@ pub DatesAside_act : (a : Act) → is_in (sort_of a) aside_sorts ≡ true → Ke
 unfolding puts
 DatesAside_act Boot e x past d h = absurd (false≢true e)
 DatesAside_act (Took from t) e x past d h = absurd (false≢true e)
-DatesAside_act (Post to (Message m)) e x past d h = record { stands = DatesStand_post to m x past d (false-and (is_set_date_request m.kind) (acting past.seen) (kind-aside m.kind e)) h.stands; none = h.none }
+DatesAside_act (Post to (Message m)) e x past d h = record { stands = DatesStand_post to m x past d (and_left (is_set_date_request m.kind) (acting past.seen) (kind-aside m.kind e)) h.stands; none = h.none }
 DatesAside_act (Correct amount stepped shown) e x past d h = record { stands = DatesStand_correct amount stepped shown x past d h.none h.stands; none = h.none }
 DatesAside_act _ e x past d h = record { stands = record { peers = h.stands.peers; last = h.stands.last; asked = h.stands.asked }; none = h.none }
 
@@ -110,43 +102,4 @@ DatesAside_by row e = Keeps_by aside_sorts DatesAside row DatesAside_act e
 -- a send with an own number that passes no date on
 pub DatesAside_begins : (kind : Kind) (p : PeerId) → is_set_date_request kind ≡ false → Keeps DatesAside (begins kind p)
 unfolding begins posts
-DatesAside_begins kind p e = Keeps_reading DatesAside next_number (posts p kind) (λ number x past d h. record { stands = DatesStand_post (Peer p) (bare kind number past.name) x past d (false-and (is_set_date_request kind) (acting past.seen) e) h.stands; none = h.none })
-
-pub DatesAside_begins_to_others : (kind : Kind) → is_set_date_request kind ≡ false → Keeps DatesAside (begins_to_others kind)
-unfolding begins_to_others
-DatesAside_begins_to_others kind e = Keeps_reading DatesAside others_at (for_each (begins kind)) (λ ps. Keeps_each DatesAside (begins kind) ps (λ p. DatesAside_begins kind p e))
-
--- the dates in a step that hasn't acted, whose numbered posts are repeats
-pub record DatesStill (past : Past) (dates : DatesValue) : Type 0 where
-  pub stands : DatesStand past dates
-  pub still : acting past.seen ≡ false
-
-and-false : (a b : Bool) → b ≡ false → (a && b) ≡ false
-and-false true b e = e
-and-false false b e = refl
-
-DatesStill_act : (a : Act) → is_in (sort_of a) send_sorts ≡ true → Keeps DatesStill (puts a)
-unfolding puts
-DatesStill_act (Post to (Message m)) e x past d h = record { stands = DatesStand_post to m x past d (and-false (is_set_date_request m.kind) (acting past.seen) h.still) h.stands; still = h.still }
-DatesStill_act (Post to (Stamp (Request word counter))) e x past d h = absurd (false≢true e)
-DatesStill_act (Post to (Stamp (Reply r))) e x past d h = record { stands = record { peers = h.stands.peers; last = h.stands.last; asked = h.stands.asked }; still = h.still }
-DatesStill_act (Gave p) e x past d h = record { stands = record { peers = h.stands.peers; last = h.stands.last; asked = h.stands.asked }; still = h.still }
-DatesStill_act (Join p) e x past d h = record { stands = record { peers = h.stands.peers; last = h.stands.last; asked = h.stands.asked }; still = h.still }
-DatesStill_act (Leave p) e x past d h = record { stands = record { peers = h.stands.peers; last = h.stands.last; asked = h.stands.asked }; still = h.still }
-DatesStill_act (Become Master) e x past d h = absurd (false≢true e)
-DatesStill_act (Become (Follow p)) e x past d h = absurd (false≢true e)
-DatesStill_act (Become _) e x past d h = absurd (false≢true e)
-DatesStill_act (Arm Probe at) e x past d h = absurd (false≢true e)
-DatesStill_act (Arm Close at) e x past d h = absurd (false≢true e)
-DatesStill_act (Arm _ at) e x past d h = absurd (false≢true e)
-DatesStill_act (Ring Probe) e x past d h = absurd (false≢true e)
-DatesStill_act (Ring Close) e x past d h = absurd (false≢true e)
-DatesStill_act (Ring _) e x past d h = absurd (false≢true e)
-DatesStill_act (Late Probe) e x past d h = absurd (false≢true e)
-DatesStill_act (Late Close) e x past d h = absurd (false≢true e)
-DatesStill_act (Late _) e x past d h = absurd (false≢true e)
-DatesStill_act _ e x past d h = absurd (false≢true e)
-
--- a row of repeats
-pub DatesStill_by : (row : Row) → Emits send_sorts row → Keeps DatesStill row
-DatesStill_by row e = Keeps_by send_sorts DatesStill row DatesStill_act e
+DatesAside_begins kind p e = Keeps_reading DatesAside next_number (posts p kind) (λ number x past d h. record { stands = DatesStand_post (Peer p) (bare kind number past.name) x past d (and_left (is_set_date_request kind) (acting past.seen) e) h.stands; none = h.none })

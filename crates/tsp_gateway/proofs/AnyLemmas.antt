@@ -1,7 +1,7 @@
 -- What is asked of a node's ports, one after the other.
 use Rattle.std.specs.Prelude.{◌≡◌, ◌≢◌, ℕ, ◌<◌, ◌≤◌, ◌+◌, ◌==◌, nat_lt, ◌||◌, not, Bool, true, false, if◌then◌else◌, List, [], ◌∷◌, length, filter, refl}
 use Rattle.std.proofs.Common.{sym, subst, ap, arith, eq-eqb, eqb-true, get_or, true≢false, ◌∙◌}
-use Rattle.std.proofs.lemmas.Bool.{false≢true, lt-ltb, ltb-true, ne_eqb}
+use Rattle.std.proofs.lemmas.Bool.{lt-ltb, ltb-true, ne_eqb, not-true}
 use Rattle.tsp_base.specs.declared.place.Port.{Port}
 use Rattle.tsp_rules.specs.GateRows.{any_port, ports_from}
 use Rattle.tsp_rules.specs.NodeRows.{NodePast, PortSetup, on_port}
@@ -49,10 +49,6 @@ lower_none asked q past none = any-none (asked_on asked past) (λ r. nat_lt r.0 
 -- one of them
 pub lower_some : (asked : Asked) (q : ℕ) (past : NodePast) (k : ℕ) → k < q → k < length past.ports → asked_on asked past (port_at k) ≡ true → any_lower asked (port_at q) past ≡ true
 lower_some asked q past k lt has is = any-some (asked_on asked past) (λ r. nat_lt r.0 q) 0 past.ports k (lt-ltb k q lt) (omega arith) (omega (arith, has)) is
-
-not-true : (b : Bool) → not b ≡ true → b ≡ false
-not-true true e = absurd (false≢true e)
-not-true false e = refl
 
 -- none of the other ports
 pub other_none : (asked : Asked) (q : ℕ) (past : NodePast) → ((k : ℕ) → k < length past.ports → k ≢ q → asked_on asked past (port_at k) ≡ false) → any_other asked (port_at q) past ≡ false

@@ -1,6 +1,7 @@
 -- What a port stands for while another port of its node acts.
 use Rattle.std.specs.Prelude.{◌≡◌, ℕ, ◌+ℤ◌, ◌||◌, Bool, true, false, List, [], ◌∷◌, Option, None, Some, refl}
 use Rattle.std.proofs.Common.{sym, subst, true≢false}
+use Rattle.std.proofs.lemmas.Bool.{or_parts}
 use Rattle.tsp_base.specs.declared.act.Act.{Act}
 use Rattle.tsp_base.specs.declared.act.Act.TheVariants.{Boot, Correct}
 use Rattle.tsp_base.specs.History.{Did, Past, plain}
@@ -73,14 +74,10 @@ still-aside x past Boot tick took n c h = absurd (n refl)
 still-aside x past (Correct amount stepped shown) tick took n c h = absurd (true≢false c)
 still-aside x past _ tick took n c h = record { tick_is = h.tick_is; taken_is = h.taken_is }
 
-or-false : (a b : Bool) → (a || b) ≡ false → (a ≡ false) × (b ≡ false)
-or-false true b e = absurd (true≢false e)
-or-false false b e = (refl, e)
-
 still-all-aside : (x : ℕ) (past : Past) (acts : List Act) (tick : Option ℕ) (took : Option Correcting) → Bootless acts → corrects acts ≡ false → Remembered past tick took → Remembered (all_aside x past acts) tick took
 still-all-aside x past [] tick took b c h = record { tick_is = h.tick_is; taken_is = h.taken_is }
 still-all-aside x past (a ∷ later) tick took b c h =
-    let both = or-false (is_correct a) (corrects later) c in
+    let both = or_parts (is_correct a) (corrects later) c in
     still-all-aside x (aside x past a) later tick took b.1 both.1 (still-aside x past a tick took b.0 both.0 h)
 
 moved-aside : (x : ℕ) (past : Past) (a : Act) → is_correct a ≡ true → Remembered (aside x past a) (Some x) None

@@ -1,6 +1,7 @@
 -- A node that has just booted.
-use Rattle.std.specs.Prelude.{◌≡◌, ◌⊎◌, ℕ, zero, suc, ◌<◌, ◌==◌, ◌||◌, ℤ, Bool, true, false, List, [], ◌∷◌, ◌++◌, length, map, Some, slice_get, slice_index_or, refl}
+use Rattle.std.specs.Prelude.{◌≡◌, ◌⊎◌, ℕ, zero, suc, ◌<◌, ◌==◌, ℤ, true, false, List, [], ◌∷◌, ◌++◌, length, map, Some, slice_get, slice_index_or, refl}
 use Rattle.std.proofs.Common.{sym, subst, ap, arith, inl, inr, ◌∙◌}
+use Rattle.std.proofs.lemmas.Bool.{or_right}
 use Rattle.tsp_base.specs.declared.act.Act.TheVariants.{Boot}
 use Rattle.tsp_base.specs.declared.place.PeerId.{PeerId}
 use Rattle.tsp_base.specs.declared.place.Port.{Port}
@@ -34,13 +35,9 @@ get_last (x ∷ xs) y (suc k) p is = elim (get_last xs y k p is) [
   | inr h ↦ inr (ap suc h.0, h.1)
 ]
 
-boot-seen : (b : Bool) → (b || true) ≡ true
-boot-seen true = refl
-boot-seen false = refl
-
 -- every port sees a boot
 boot-on : (q : Port) (x : ℕ) (past : NodePast) → on_port q (spread x past (record { port = first_port; act = Boot } ∷ [])) ≡ grown x (on_port q past) (Boot ∷ [])
-boot-on q x past = ap (λ b. record (on_port q past) { seen = seen_as b (line_of past.step x first_port (Acts Boot)).did ∷ view q past.lines }) (boot-seen (first_port.0 == q.0))
+boot-on q x past = ap (λ b. record (on_port q past) { seen = seen_as b (line_of past.step x first_port (Acts Boot)).did ∷ view q past.lines }) (or_right (first_port.0 == q.0) true refl)
 
 -- the node stands after its boot
 pub booted : (c : GateConfigValue) (word x : ℕ) (wall : ℤ) (past : NodePast) (g : Gateway) → AreFresh c word x g.ports.items → g.tracing ≡ false → ((p : Past) → p.step.cause ≡ Booted word wall → ClockStands (grown x p (Boot ∷ [])) g.clock) → UnbootedNode c word wall past tt →

@@ -1,6 +1,7 @@
 -- What a node stands for doesn't rest on the step that it is in, and a step begins.
-use Rattle.std.specs.Prelude.{◌≡◌, ℕ, ◌==◌, ◌||◌, Bool, true, false, ◌∷◌, refl}
+use Rattle.std.specs.Prelude.{◌≡◌, ℕ, ◌==◌, true, ◌∷◌, refl}
 use Rattle.std.proofs.Common.{sym, subst, ap}
+use Rattle.std.proofs.lemmas.Bool.{or_right}
 use Rattle.tsp_base.specs.History.{Begins, Past, Step, seen_as, view}
 use Rattle.tsp_base.specs.Joins.{first_port, line_of}
 use Rattle.tsp_base.specs.PortFacts.{acting, taken}
@@ -38,13 +39,9 @@ part-in-step step x past part clock p = record {
   clock = record { offset_is = p.clock.offset_is; rest_is = p.clock.rest_is; at_is = p.clock.at_is; ticket_is = p.clock.ticket_is };
 }
 
-mark-seen : (b : Bool) → (b || true) ≡ true
-mark-seen true = refl
-mark-seen false = refl
-
 -- every port sees the mark where a step begins
 pub mark_on : (q : ℕ) (step : Step) (x : ℕ) (past : NodePast) → on_port (port_at q) (in_node_step step x past) ≡ in_step step x (on_port (port_at q) past)
-mark_on q step x past = ap (λ b. record (on_port (port_at q) (record past { step = step })) { seen = seen_as b (line_of step x first_port Begins).did ∷ view (port_at q) past.lines }) (mark-seen (first_port.0 == q))
+mark_on q step x past = ap (λ b. record (on_port (port_at q) (record past { step = step })) { seen = seen_as b (line_of step x first_port Begins).did ∷ view (port_at q) past.lines }) (or_right (first_port.0 == q) true refl)
 
 -- a step of a node that stands begins
 pub GatewayBegun_in_step : (step : Step) (x : ℕ) (past : NodePast) (g : Gateway) → GatewayStands past g → GatewayBegun (in_node_step step x past) g

@@ -2,6 +2,7 @@
 use Rattle.std.specs.Prelude.{◌≡◌, ℕ, ◌<◌, ◌+◌, ◌==◌, ◌||◌, ◌&&◌, nat_le, Bool, true, false, if◌then◌else◌, List, [], ◌∷◌, ◌++◌, length, Some, slice_get, refl}
 use Rattle.std.proofs.Common.{sym, subst, ap, append-nil, arith, ◌∙◌}
 use Rattle.std.proofs.Math.ListN.{set}
+use Rattle.std.proofs.lemmas.Bool.{and_right}
 use Rattle.tsp_base.specs.declared.act.Act.{Act}
 use Rattle.tsp_base.specs.declared.act.Act.TheVariants.{Abandon, Late, Ring}
 use Rattle.tsp_base.specs.declared.act.Placed.{Placed}
@@ -124,9 +125,5 @@ All_loopless {x} q k d none = All_same (probes_on (port_at q)) (λ past w. rw (n
 pub no_loops : (x q : ℕ) (past later : NodePast) → (is_due Probe x (on_port (port_at q) past) && is_in_time Probe x (on_port (port_at q) past)) ≡ false → ends_probes (rings true false Probe x (on_port (port_at q) past)) (on_port (port_at q) later) past.ports ≡ false
 no_loops x q past later e = ap (λ b. b && (is_last_probe (on_port (port_at q) later) && nat_le 2 (length past.ports))) (probe_rung x (on_port (port_at q) past) ∙ e)
 
-and-nothing : (a : Bool) → (a && false) ≡ false
-and-nothing true = refl
-and-nothing false = refl
-
 pub not_last : (x q : ℕ) (past later : NodePast) → (is_last_probe (on_port (port_at q) later) && nat_le 2 (length past.ports)) ≡ false → ends_probes (rings true false Probe x (on_port (port_at q) past)) (on_port (port_at q) later) past.ports ≡ false
-not_last x q past later e = ap (λ b. has_rung (rings true false Probe x (on_port (port_at q) past)) && b) e ∙ and-nothing (has_rung (rings true false Probe x (on_port (port_at q) past)))
+not_last x q past later e = ap (λ b. has_rung (rings true false Probe x (on_port (port_at q) past)) && b) e ∙ and_right (has_rung (rings true false Probe x (on_port (port_at q) past))) false refl

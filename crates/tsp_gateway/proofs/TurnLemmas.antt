@@ -1,7 +1,8 @@
 -- What the calls of a port's turn make of its node.
-use Rattle.std.specs.Prelude.{◌≡◌, ◌≢◌, ℕ, ◌<◌, ◌≤◌, ◌+◌, ◌==◌, ◌&&◌, Bool, true, false, List, [], ◌∷◌, Some, None, slice_get, refl}
+use Rattle.std.specs.Prelude.{◌≡◌, ◌≢◌, ℕ, ◌<◌, ◌≤◌, ◌+◌, ◌==◌, Bool, true, false, List, [], ◌∷◌, Some, None, slice_get, refl}
 use Rattle.std.proofs.Common.{sym, subst, ap, arith, eqb-true, true≢false, ◌∙◌}
 use Rattle.std.proofs.Math.ListN.{set}
+use Rattle.std.proofs.lemmas.Bool.{and_parts}
 use Rattle.tsp_base.specs.declared.act.Act.{Act}
 use Rattle.tsp_base.specs.declared.act.Act.TheVariants.{Correct}
 use Rattle.tsp_base.specs.declared.act.Placed.{Placed}
@@ -33,10 +34,6 @@ use Rattle.tsp_gateway.specs.GatewayStands.{GatewayStands, GatewayTurning, Turns
 use Rattle.tsp_gateway.proofs.AsideLemmas.{acting_aside, taken_aside}
 use Rattle.tsp_gateway.proofs.LiftLemmas.{All_on, bootless_by, bootless_silent, take_stands}
 
-and-both : (a b : Bool) → (a && b) ≡ true → (a ≡ true) × (b ≡ true)
-and-both true b e = (refl, e)
-and-both false b e = absurd (true≢false (sym e))
-
 calm-correct : (a : Act) → is_calm_act false false a ≡ true → is_correct a ≡ false
 calm-correct (Correct amount stepped shown) e = absurd (true≢false (sym e))
 calm-correct _ e = refl
@@ -45,7 +42,7 @@ calm-correct _ e = refl
 pub calm_corrects : (acts : List Act) → is_calm false false acts ≡ true → corrects acts ≡ false
 calm_corrects [] e = refl
 calm_corrects (a ∷ later) e =
-    let both = and-both (is_calm_act false false a) (is_calm false false later) e in
+    let both = and_parts (is_calm_act false false a) (is_calm false false later) e in
     let here = calm-correct a both.0 in
     rw here (calm_corrects later both.1)
 

@@ -30,7 +30,7 @@ mean_high : (span : ℕ) (xs : List ℤ) (lo : ℤ) → Contains xs lo → mean_
 unfolding group_from
 mean_high span xs lo c = floor_div-le (total (members span xs lo)) (lo +ℤ pos span) (length (members span xs lo)) (group_from-count span xs lo c) (total-le (lo +ℤ pos span) (members span xs lo) (members_high span xs lo))
 
-near_sum : (s : ℤ) (n : ℕ) → 0 < n → (negsuc 1073741823999998 *ℤ pos n) ≤ℤ s → s ≤ℤ (pos 1073741823999999 *ℤ pos n) → unsigned_abs s < n * 1073741824000000
+pub near_sum : (s : ℤ) (n : ℕ) → 0 < n → (negsuc 1073741823999998 *ℤ pos n) ≤ℤ s → s ≤ℤ (pos 1073741823999999 *ℤ pos n) → unsigned_abs s < n * 1073741824000000
 near_sum (pos s) n some low high = omega (arith, ints)
 near_sum (negsuc s) n some low high = omega (arith, ints)
 

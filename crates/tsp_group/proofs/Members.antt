@@ -60,7 +60,7 @@ filter-stretch p xs i j o n before inside after =
     ∙ ap (λ ys. ys ++ filter p (drop j xs)) (ap (filter p) (sym (take-append-drop i (take j xs))) ∙ filter-append p (take i (take j xs)) (drop i (take j xs)) ∙ ap (λ ys. ys ++ filter p (drop i (take j xs))) (filter-none p (take i (take j xs)) a) ∙ filter-all p (drop i (take j xs)) b)
     ∙ ap (λ ys. drop i (take j xs) ++ ys) (filter-none p (drop j xs) c) ∙ append-nil (drop i (take j xs))
 
-le_antisymm_ℤ : (x y : ℤ) → x ≤ℤ y → y ≤ℤ x → x ≡ y
+pub le_antisymm_ℤ : (x y : ℤ) → x ≤ℤ y → y ≤ℤ x → x ≡ y
 le_antisymm_ℤ x y h k = omega (arith, ints)
 
 -- the greatest member

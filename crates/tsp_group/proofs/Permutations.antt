@@ -9,6 +9,7 @@ use Rattle.std.specs.List.Sorted.{IsPermutation}
 use Rattle.std.specs.Int.{int_max}
 use Rattle.tsp_group.specs.Groups.{is_member, members, total, group_from}
 use Rattle.tsp_group.proofs.Sums.{total-cons}
+use Rattle.tsp_group.proofs.Members.{le_antisymm_ℤ}
 
 -- how far a value is above 0, and how far below
 abbrev above : ℤ → ℕ
@@ -80,11 +81,8 @@ greatest_le p a xs ys h =
       | inr k ↦ All-contains (λ x. x ≤ℤ fold int_max a (filter p xs)) (filter p ys) (fold int_max a (filter p ys)) all k
     ]
 
-same_from_le : (x y : ℤ) → x ≤ℤ y → y ≤ℤ x → x ≡ y
-same_from_le x y h k = omega (arith, ints)
-
 greatest-permutation : (p : ℤ → Bool) (a : ℤ) (xs ys : List ℤ) → IsPermutation xs ys → fold int_max a (filter p ys) ≡ fold int_max a (filter p xs)
-greatest-permutation p a xs ys h = same_from_le _ _ (greatest_le p a xs ys h) (greatest_le p a ys xs (IsPermutation-sym xs ys h))
+greatest-permutation p a xs ys h = le_antisymm_ℤ _ _ (greatest_le p a xs ys h) (greatest_le p a ys xs (IsPermutation-sym xs ys h))
 
 -- a value's group is that of the list in any order
 pub group_from-permutation : (span : ℕ) (xs ys : List ℤ) (lo : ℤ) → IsPermutation xs ys → group_from span ys lo ≡ group_from span xs lo

@@ -30,9 +30,6 @@ best_count span xs m k best h = elim h.found [
   | inr w ↦ (let size : w.0 + m - w.0 ≡ m = omega arith in ap (λ (g : Group). g.count) w.4 ∙ size)
 ]
 
-le_last : (xs : List ℤ) (i j : ℕ) → IsAscending xs → i ≤ j → j < length xs → get_or xs i (pos 0) ≤ℤ get_or xs j (pos 0)
-le_last xs i j up le lt = up i j le lt
-
 -- a window without its last value
 shorter : (span : ℕ) (xs : List ℤ) (i k : ℕ) → IsAscending xs → i < k → k < length xs → Spans span xs i (k + 1) → Spans span xs i k
 shorter span xs i k up lt n h =

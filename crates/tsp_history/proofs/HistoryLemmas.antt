@@ -1,7 +1,7 @@
 -- How a history of noted lines grows.
-use Rattle.std.specs.Prelude.{◌≡◌, ◌<◌, ◌≤◌, ◌+◌, ℕ, zero, suc, Bool, true, false, MatchBool, List, [], ◌∷◌, ◌++◌, length, get_or, take, drop}
+use Rattle.std.specs.Prelude.{◌≡◌, ◌<◌, ◌≤◌, ◌+◌, ℕ, zero, suc, Bool, true, false, MatchBool, List, [], ◌∷◌, ◌++◌, length, get_or, take}
 use Rattle.std.proofs.Common.{◌∙◌, ap, sym, subst, arith, refl, ◌⊎◌, inl, inr}
-use Rattle.std.proofs.lemmas.List.{take_more, drop_more, at_drop_all}
+use Rattle.std.proofs.lemmas.List.{take_more}
 use Rattle.tsp_base.specs.declared.act.Act.TheVariants.{Back}
 use Rattle.tsp_base.specs.declared.constants.TheConstants.{HOLD}
 use Rattle.tsp_base.specs.declared.place.PeerId.{PeerId}
@@ -49,14 +49,6 @@ Within-noted ns i n below is = within [] ns i below is where
   within h [] j lt e = let bad : ⊥ = omega (arith, lt) in absurd bad
   within h (m ∷ rest) zero lt e = Within-after (line_of n ∷ h) (line_of m ∷ h) rest (subst (λ k. Within (line_of n ∷ h) (line_of k ∷ h)) (sym e) (Within-all (line_of n ∷ h)))
   within h (m ∷ rest) (suc j) lt e = within (line_of m ∷ h) rest j (omega (arith, lt)) e
-
--- the lines that are left, one step on
-pub noted-next : (h : List Line) (ns : List HistoryLine) (i : ℕ) (n : HistoryLine) → i < length ns → get_or ns i n ≡ n → noted_after (line_of n ∷ h) (drop (i + 1) ns) ≡ noted_after h (drop i ns)
-noted-next h ns i n below is = sym (ap (λ ms. noted_after h ms) (drop_more ns i n below) ∙ ap (λ m. noted_after (line_of m ∷ h) (drop (i + 1) ns)) is)
-
--- none is left at the end
-pub noted-end : (h : List Line) (ns : List HistoryLine) (i : ℕ) → length ns ≤ i → noted_after h (drop i ns) ≡ h
-noted-end h ns i past = at_drop_all (λ ms. noted_after h ms) ns i past
 
 -- a Back for another candidate is apart exactly where it is far enough before
 pub apart-told : (b : Bool) (n : ℕ) (q : Port) (x : ℕ) (p c : PeerId) (l : Line) → node_of l ≡ n → l.port ≡ q → l.did.deed ≡ Acts (Back c) → (c ≡ p → ⊥) → MatchBool b (l.did.tick + HOLD ≤ x) (x < l.did.tick + HOLD) →

@@ -20,7 +20,8 @@ use Rattle.tsp_history.specs.Histories.{line_of, noted_after, history_of}
 use Rattle.tsp_history.specs.Notes.{LastAt, NodeKnown, NoteIs, PortKnown, Quiet, Told}
 use Rattle.tsp_history.specs.Spacing.{SpacedBy}
 use Rattle.tsp_history.proofs.HistoryLemmas.{history-more}
-use Rattle.tsp_history.proofs.SpacingLemmas.{of-other, spaced-other}
+use Rattle.tsp_history.proofs.SpacingLemmas.{spaced-other}
+use Rattle.tsp_promises.proofs.HistoryPlaces.{of-other}
 
 -- a history is longer by its lines
 pub length-noted : (h : List Line) (ns : List HistoryLine) → length (noted_after h ns) ≡ length h + length ns
@@ -38,9 +39,6 @@ newest-is F ns k j n next below is so = so ∙ ap (λ i. F (history_of (take i n
 pub all-lines : {A : Type 0} (F : List Line → A) (ns : List HistoryLine) (k : ℕ) → length ns ≤ k → F (history_of ns) ≡ F (history_of (take k ns))
 all-lines F ns k le = ap (λ ms. F (history_of ms)) (sym (take_all k ns le))
 
-pub no-lines : {A : Type 0} (F : List Line → A) (ns : List HistoryLine) (k : ℕ) → k ≡ 0 → F (history_of ns) ≡ F (history_of (take k ns)) → F (history_of ns) ≡ F []
-no-lines F ns k none so = so ∙ ap (λ i. F (history_of (take i ns))) none
-
 -- the first of lines that tell tell
 pub told_take : (ns : List HistoryLine) (k : ℕ) → Told ns → Told (take k ns)
 told_take ns k told = record { at = at } where
@@ -48,10 +46,6 @@ told_take ns k told = record { at = at } where
   at i n below is =
       let few : i < min k (length ns) = subst (λ m. i < m) (length-take k ns) below in
       subst (λ ms. NoteIs (line_of n) (history_of ms) n.note) (sym (take-take i k ns (omega arith))) (told.at i n (omega arith) (sym (get_or-take k ns i n (omega arith)) ∙ is))
-
--- nothing tells
-pub told_none : Told []
-told_none = record { at = λ i n below is. let bad : ⊥ = omega (arith, below) in absurd bad }
 
 -- one line more tells too
 pub told_push : (ns : List HistoryLine) (n : HistoryLine) → Told ns → NoteIs (line_of n) (history_of ns) n.note → Told (ns ++ n ∷ [])

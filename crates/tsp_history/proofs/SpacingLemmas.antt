@@ -6,7 +6,9 @@ use Rattle.tsp_base.specs.declared.act.Act.{Act}
 use Rattle.tsp_base.specs.declared.act.Act.TheVariants.{Boot, Correct}
 use Rattle.tsp_base.specs.declared.constants.TheConstants.{GAP}
 use Rattle.tsp_promises.specs.Fits.{node_of}
-use Rattle.tsp_base.specs.History.{Deed, Acts, Line, of, dids}
+use Rattle.tsp_promises.proofs.HistoryPlaces.{of-other}
+use Rattle.tsp_promises.proofs.SteadyProof.{lives-more}
+use Rattle.tsp_base.specs.History.{Acts, Line, of, dids}
 use Rattle.tsp_base.specs.NodeFacts.{lives, lives_after}
 use Rattle.tsp_base.specs.Places.{Within}
 use Rattle.tsp_base.proofs.PlaceLemmas.{Within-tail}
@@ -20,18 +22,11 @@ use Rattle.tsp_history.specs.Spacing.{later_of, Spaced, SpacedBy}
 pub of-own : (n : ℕ) (l : Line) (h : List Line) → node_of l ≡ n → of n (l ∷ h) ≡ (l ∷ of n h)
 of-own n l h e = let same : (node_of l == n) ≡ true = eq-eqb (node_of l) n e in rw same refl
 
--- a node's lines without another's
-pub of-other : (n : ℕ) (l : Line) (h : List Line) → (node_of l == n) ≡ false → of n (l ∷ h) ≡ of n h
-of-other n l h e = rw e refl
-
 lives-own : (n : ℕ) (l : Line) (h : List Line) → node_of l ≡ n → lives (dids (of n (l ∷ h))) ≡ lives_after l.did.deed (lives (dids (of n h)))
 lives-own n l h e = ap (λ o. lives (dids o)) (of-own n l h e)
 
-after-no-fewer : (d : Deed) (k : ℕ) → k ≤ lives_after d k
-after-no-fewer d k = grind arith
-
 lives-no-fewer : (n : ℕ) (l : Line) (h : List Line) (b : Bool) → (node_of l == n) ≡ b → lives (dids (of n h)) ≤ lives (dids (of n (l ∷ h)))
-lives-no-fewer n l h true e = rw e (after-no-fewer l.did.deed (lives (dids (of n h))))
+lives-no-fewer n l h true e = rw e (lives-more l.did.deed (lives (dids (of n h))))
 lives-no-fewer n l h false e = rw e (omega arith)
 
 -- an earlier place has no more lives before it

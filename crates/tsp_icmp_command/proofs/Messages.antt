@@ -1,5 +1,5 @@
 -- A word of hexadecimal says one thing.
-use Rattle.std.proofs.Common.{◌≡◌, ℕ, List, Bool, true, false, Ok, Err, refl, sym, ap, ◌∙◌}
+use Rattle.std.proofs.Common.{◌≡◌, ℕ, List, Ok, Err, refl, sym, ap, ◌∙◌}
 use Rattle.std.specs.Prelude.{Contains}
 use Rattle.std.specs.declared.result.Result.{Result}
 use Rattle.hex.specs.Hex.{decode_of, is_hex_digit}
@@ -8,9 +8,7 @@ use Rattle.tsp_icmp.specs.declared.timestamp.Timestamp.{Timestamp}
 use Rattle.tsp_icmp.specs.declared.timestamp.IcmpFault.{IcmpFault}
 use Rattle.tsp_icmp.proofs.Octets.{icmp_octets-injective, icmp_octets-no_fault, IsFault-one}
 use Rattle.tsp_icmp_command.specs.Records.{Says, SaysInHex}
-
-true_or_false : (b : Bool) → b ≡ true → b ≡ false → ⊥
-true_or_false b p q = cc
+use Rattle.tsp_script.proofs.Outcomes.{true_or_false}
 
 -- a word of hexadecimal has no space
 pub no_space-hex : (word octets : List ℕ) → decode_of word ≡ Ok octets → ¬ Contains word 32

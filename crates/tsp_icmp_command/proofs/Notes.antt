@@ -5,6 +5,7 @@ use Rattle.std.specs.List.{position_or_len}
 use Rattle.std.specs.Str.{bytes_eq}
 use Rattle.std.proofs.lemmas.List.{set-get_or}
 use Rattle.std.proofs.lemmas.List.Sums.{passes_at_first}
+use Rattle.std.proofs.lemmas.Bool.{lt-ltb}
 use Rattle.tsp_icmp_command.specs.Bests.{BestValue, is_same_clock, better, note}
 
 -- whether a difference is of this clock
@@ -63,9 +64,6 @@ worse-case true true a b q = cc
 worse-case true false a b q = refl
 worse-case false t a b q = refl
 
-ltb : (a b : ℕ) → a < b → nat_lt a b ≡ true
-ltb a b h = grind arith
-
 geb : (a b : ℕ) → b < suc a → nat_lt a b ≡ false
 geb a b h = grind arith
 
@@ -75,7 +73,7 @@ note-replaces all x y i e g less =
     let h : x.trip < (get_or all i x).trip = rw (at_place all x y i e g) at less in
     let p = position-some all x.name i e in
     let same : of_clock x.name (get_or all i x) ≡ true = rw p.1 at (passes_at_first (of_clock x.name) all x p.0) in
-    (rw p.1 at (note-at all x p.0)) ∙ ap (slice_set all i) (better-case (is_same_clock (get_or all i x) x) (nat_lt x.trip (get_or all i x).trip) (get_or all i x) x same (ltb _ _ h))
+    (rw p.1 at (note-at all x p.0)) ∙ ap (slice_set all i) (better-case (is_same_clock (get_or all i x) x) (nat_lt x.trip (get_or all i x).trip) (get_or all i x) x same (lt-ltb _ _ h))
 
 -- a later difference of no lesser trip changes nothing
 pub note-keeps : (all : List BestValue) (x y : BestValue) (i : ℕ) → position (of_clock x.name) all ≡ Some i → y ≡ get_or all i y → y.trip < suc x.trip → note all x ≡ all

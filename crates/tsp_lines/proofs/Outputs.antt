@@ -25,10 +25,6 @@ Grows-take a b c xs at n p q =
 pub Hands-nil : (written : Option (List ℕ)) (held : List ℕ) → Hands written held written held []
 Hands-nil written held = ([], Grows-nil written, append-nil held)
 
--- octets are held
-pub Hands-held : (written : Option (List ℕ)) (held octets : List ℕ) → Hands written held written (held ++ octets) octets
-Hands-held written held octets = ([], Grows-nil written, refl)
-
 -- octets and then others are handed over
 pub Hands-trans : (a b c : Option (List ℕ)) (held keeps left xs ys : List ℕ) → Hands a held b keeps xs → Hands b keeps c left ys → Hands a held c left (xs ++ ys)
 Hands-trans a b c held keeps left xs ys p q = (

@@ -1,11 +1,11 @@
 -- Laws of a long line that is passed over.
-use Rattle.std.proofs.Common.{◌≡◌, ◌≢◌, ℕ, ◌<◌, ◌+◌, List, [], ◌∷◌, ◌++◌, false, refl, sym, ap, ◌∙◌, append_assoc, append-nil, length, take, arith, length-append, inl, inr, subst}
+use Rattle.std.proofs.Common.{◌≡◌, ◌≢◌, ℕ, ◌<◌, ◌+◌, List, [], ◌∷◌, ◌++◌, sym, ap, ◌∙◌, append_assoc, append-nil, length, take, arith, length-append, inl, inr, subst}
 use Rattle.std.proofs.lemmas.List.{take-append-le}
 use Rattle.std.proofs.lemmas.List.Elements.{Contains-append_cases}
 use Rattle.std.specs.declared.option.Option.{Option}
 use Rattle.tsp_io.specs.Streams.{Gives}
 use Rattle.tsp_lines.specs.Lines.{NoFeed, close}
-use Rattle.tsp_lines.specs.Readings.{ReaderValue, IsNext, IsPassed, is_over, long_of}
+use Rattle.tsp_lines.specs.Readings.{ReaderValue, IsNext, IsPassed}
 use Rattle.tsp_lines.specs.declared.next.Next.{Next}
 use Rattle.tsp_lines.specs.declared.next.Next.TheVariants.{Line, Last, Long, LongLast, End, Limit, Failed}
 use Rattle.tsp_lines.proofs.Streams.{Gives-trans}
@@ -13,16 +13,6 @@ use Rattle.tsp_lines.proofs.Streams.{Gives-trans}
 -- no line feed in two lists, none in both
 pub NoFeed-append : (xs ys : List ℕ) → NoFeed xs → NoFeed ys → NoFeed (xs ++ ys)
 NoFeed-append xs ys p q = λ c. elim (Contains-append_cases xs ys 10 c) [ inl a ↦ p a | inr b ↦ q b ]
-
--- the next line's end ends the long line
-pub IsPassed-long_of : (r : ReaderValue) (octets : List ℕ) (n : Next) → IsNext r octets n → is_over n ≡ false → n ≢ Failed → IsPassed r octets (long_of n)
-IsPassed-long_of r octets Line p o f = (r.line, p.0, p.2, p.3)
-IsPassed-long_of r octets Last p o f = cc
-IsPassed-long_of r octets Long p o f = (p.0, p.1, p.3, p.5)
-IsPassed-long_of r octets LongLast p o f = cc
-IsPassed-long_of r octets End p o f = cc
-IsPassed-long_of r octets Limit p o f = p
-IsPassed-long_of r octets Failed p o f = absurd (f refl)
 
 -- a reader that keeps the first octets of a long line
 abbrev pub keeping : ReaderValue → List ℕ → ReaderValue

@@ -4,7 +4,7 @@ use Rattle.std.specs.Prelude.{MatchResult, IsErr}
 use Rattle.std.specs.Result.{IsErrAnd}
 use Rattle.std.specs.declared.option.Option.{Option}
 use Rattle.std.specs.declared.result.Result.{Result}
-use Rattle.tsp_lines.specs.Meanings.{Meaning, Breaks, StopsAt, StopsAtEnd, stop_of}
+use Rattle.tsp_lines.specs.Meanings.{Meaning, Breaks, StopsAt, stop_of}
 use Rattle.tsp_lines.specs.declared.output.Unwritten.{Unwritten}
 use Rattle.tsp_lines.specs.declared.output.Unwritten.TheVariants.{WriteFault as NotWritten, OutOfMemory as NoMemory}
 use Rattle.tsp_lines.specs.declared.treatment.Stop.{Stop}
@@ -15,20 +15,8 @@ pub StopsAt-stop_of : (m : Meaning) (lines : List (List ℕ)) (text line : List 
 StopsAt-stop_of m lines text line a b held keeps NotWritten h = h
 StopsAt-stop_of m lines text line a b held keeps NoMemory h = h
 
--- a part of the output of the input's end was handed over
-pub StopsAtEnd-stop_of : (m : Meaning) (lines : List (List ℕ)) (a b : Option (List ℕ)) (held keeps : List ℕ) (f : Unwritten)
-    → Breaks (m.ends lines) a held b keeps → StopsAtEnd m lines a held b keeps (stop_of f)
-StopsAtEnd-stop_of m lines a b held keeps NotWritten h = h
-StopsAtEnd-stop_of m lines a b held keeps NoMemory h = h
-
 -- where `?` leaves a treatment of a line
 pub MatchResult-line : (m : Meaning) (lines : List (List ℕ)) (text line : List ℕ) (a b : Option (List ℕ)) (held keeps : List ℕ) (OnGo : Unit {0} → Type 0) (r : Result (Unit {0}) Stop) (f : Unwritten)
     → IsErr r × IsErrAnd r (λ stop. stop ≡ stop_of f) → Breaks (λ more. m.accepts (lines ++ line ∷ []) (text ++ more)) a held b keeps → MatchResult r OnGo (StopsAt m lines text line a held b keeps)
 MatchResult-line m lines text line a b held keeps OnGo (Ok u) f e h = cc
 MatchResult-line m lines text line a b held keeps OnGo (Err stop) f e h = subst (StopsAt m lines text line a held b keeps) (sym e.1) (StopsAt-stop_of m lines text line a b held keeps f h)
-
--- where `?` leaves the treatment of the input's end
-pub MatchResult-end : (m : Meaning) (lines : List (List ℕ)) (a b : Option (List ℕ)) (held keeps : List ℕ) (OnGo : Unit {0} → Type 0) (r : Result (Unit {0}) Stop) (f : Unwritten)
-    → IsErr r × IsErrAnd r (λ stop. stop ≡ stop_of f) → Breaks (m.ends lines) a held b keeps → MatchResult r OnGo (StopsAtEnd m lines a held b keeps)
-MatchResult-end m lines a b held keeps OnGo (Ok u) f e h = cc
-MatchResult-end m lines a b held keeps OnGo (Err stop) f e h = subst (StopsAtEnd m lines a held b keeps) (sym e.1) (StopsAtEnd-stop_of m lines a b held keeps f h)

@@ -14,7 +14,6 @@ use Rattle.tsp_lines.specs.declared.next.Next.TheVariants.{Line, Last, Long, Lon
 use Rattle.tsp_lines.specs.declared.treat.Outcome.{Outcome}
 use Rattle.tsp_lines.specs.declared.treat.Outcome.TheVariants.{ReadFault, OutOfMemory}
 use Rattle.tsp_lines.proofs.Outputs.{Hands-trans, Grows-nil}
-use Rattle.tsp_lines.proofs.Streams.{Gives-nil}
 use Rattle.tsp_lines.proofs.Says.{said}
 use Rattle.tsp_lines.proofs.Aheads.{Ahead, Ahead-next, HasLines-got, HasNext-line, HasNext-last, HasMore-got, IsInput-got, IsPast-limit}
 use Rattle.tsp_lines.proofs.Comes.{Comes-Ends, Grows-handed, Place-line, Place-end, Place-limit, Place-any, no_sayings, closed-push}
@@ -153,15 +152,3 @@ Begins-nil limit (Some x) = (omega arith, (x, refl))
 -- there was no memory to begin with
 pub Comes-nothing : (m : Meaning) (limit : ℕ) (input written : Option (List ℕ)) → m.accepts [] [] → Comes m limit input input written written OutOfMemory
 Comes-nothing m limit input written a = ([], ([], [], [], [], λ k d h. absurd (omega (arith, h)), a, inl (inl (Begins-nil limit input), refl), refl, Grows-nil written))
-
--- nothing was read or treated yet
-pub IsAt-nothing : (m : Meaning) (Stands : List (List ℕ) → Type 0) (input written : Option (List ℕ)) (r : ReaderValue) (held : List ℕ) (number : ℕ) → Stands [] → m.accepts [] [] → r.held ≡ [] → r.got ≡ 0 → held ≡ [] → number ≡ 1 → IsAt m Stands input input written written r held number [] []
-IsAt-nothing m Stands input written r held number s a h g k n = record {
-  feedless = λ k d h. absurd (omega (arith, h));
-  accepted = a;
-  stands = s;
-  got = ([], Gives-nil input, sym h, g);
-  within = omega (arith, g);
-  handed = ([], Grows-nil written, sym k);
-  counted = n;
-}

@@ -1,8 +1,8 @@
 -- What comes of octets that were gathered comes of the input that they were read of.
-use Rattle.std.proofs.Common.{◌≡◌, ℕ, ◌+◌, inl, inr, List, [], ◌∷◌, ◌++◌, None, Some, refl, sym, ap, ◌∙◌, append-nil, append_assoc, drop, subst, length, arith}
+use Rattle.std.proofs.Common.{◌≡◌, ℕ, ◌+◌, inl, inr, List, [], ◌∷◌, ◌++◌, None, Some, refl, ap, ◌∙◌, append-nil, append_assoc, drop, subst, length, arith}
 use Rattle.std.specs.Prelude.{Bool, true}
 use Rattle.std.specs.declared.option.Option.{Option}
-use Rattle.tsp_io.specs.Streams.{Gives, Grows}
+use Rattle.tsp_io.specs.Streams.{Gives}
 use Rattle.tsp_lines.specs.Gatherings.{Gathers, ComesGathered}
 use Rattle.tsp_lines.specs.Lines.{close, closed, Begins, IsInput, IsOver, IsWhole, HasLines, HasNext, HasMore, IsPast}
 use Rattle.tsp_lines.specs.Meanings.{Meaning}
@@ -96,8 +96,3 @@ pub Comes-given : (m : Meaning) (n : ℕ) (input left rest written now : Option 
     → Comes m n (Some (drop at octets)) rest written now outcome → Comes m n input left written now outcome
 Comes-given m n input left rest written now ended octets at outcome g e f c =
     Comes-gathered m n input left rest written now ended octets outcome g f (subst (λ (k : ℕ). Comes m n (Some (drop k octets)) rest written now outcome) e c)
-
--- nothing was written
-pub Grows-none : (written : Option (List ℕ)) → Grows written written []
-Grows-none None = refl
-Grows-none (Some x) = ap Some (sym (append-nil x))

@@ -1,9 +1,8 @@
 -- How one peer after the other is asked.
-use Rattle.std.proofs.Common.{◌≡◌, ℕ, suc, ◌+◌, ◌%◌, ◌^◌, ◌<◌, ◌≤◌, ◌==◌, ◌&&◌, Bool, true, false, if◌then◌else◌, cond, List, [], ◌∷◌, ◌++◌, length, map, take, get_or, eqb-true, ℤ, refl, sym, ◌∙◌, ap, subst, arith}
+use Rattle.std.proofs.Common.{◌≡◌, ℕ, suc, ◌+◌, ◌%◌, ◌^◌, ◌<◌, ◌≤◌, ◌==◌, ◌&&◌, Bool, true, false, if◌then◌else◌, cond, List, [], ◌∷◌, ◌++◌, length, take, get_or, eqb-true, ℤ, refl, sym, ◌∙◌, ap, subst, arith}
 use Rattle.std.specs.List.{filter}
 use Rattle.std.proofs.Math.Seq.{take-suc}
-use Rattle.std.proofs.lemmas.List.{length-map, get_or-map, get_or_default}
-use Rattle.std.proofs.lemmas.List.Kept.{AllPairs-from_increasing}
+use Rattle.std.proofs.lemmas.List.{get_or_default}
 use Rattle.tsp_base.specs.declared.act.Act.{Act}
 use Rattle.tsp_base.specs.declared.act.Act.TheVariants.{Post}
 use Rattle.tsp_base.specs.declared.act.Placed.{Placed}
@@ -23,13 +22,13 @@ use Rattle.tsp_base.proofs.SendLemmas.{seen_act}
 use Rattle.tsp_rules.specs.RoundRows.{asks, measured_at}
 use Rattle.tsp_rules.specs.Guards.{table_at}
 use Rattle.tsp_acks.specs.declared.station.Station.{Station}
-use Rattle.tsp_acks.specs.Peers.{IsPeers}
+use Rattle.tsp_base.specs.Peers.{IsAscending}
+use Rattle.tsp_base.proofs.AscendingLemmas.{Rise-peers}
 use Rattle.tsp_acks.specs.Stands.{Stands}
 use Rattle.tsp_acks.proofs.StandsLemmas.{Stands_stamp}
 use Rattle.tsp_clock.specs.Clocks.{ClockValue, target_of}
 use Rattle.tsp_clock.specs.ClockStands.{ClockStands}
 use Rattle.tsp_measure.specs.Measures.{begun}
-use Rattle.tsp_measure.specs.Peers.{IsAscending}
 use Rattle.tsp_measure.specs.declared.entry.Entry.{Entry}
 use Rattle.tsp_measure.specs.Rounds.{RoundsValue, Starts, measured_with}
 use Rattle.tsp_measure.specs.Slaves.{entry_of, peers_of, Changes, measures}
@@ -137,26 +136,15 @@ Performs_starts p {x = x} {port = port} old new st clock {earlier = earlier} j c
   };
 }
 
--- the peers of a port ascend
-pub IsPeers-ascending : (ps : List PeerId) → IsPeers ps → IsAscending (map (λ (t : PeerId). t.0) ps)
-IsPeers-ascending ps up i j l h = AllPairs-from_increasing (map (λ (t : PeerId). t.0) ps) up.ascending i j 0 l h
-
--- of two places the later one has the greater peer
-pub peers_apart : (ps : List PeerId) → IsAscending (map (λ (t : PeerId). t.0) ps) → (i j : ℕ) (d : PeerId) → i < j → j < length ps → (get_or ps i d).0 < (get_or ps j d).0
-peers_apart ps up i j d l h =
-    let low = get_or-map (λ (p : PeerId). p.0) ps i d 0 (omega arith) in
-    let high = get_or-map (λ (p : PeerId). p.0) ps j d 0 h in
-    omega (arith, up i j l (omega (arith, length-map ps (λ (p : PeerId). p.0))))
-
 -- one peer more of those so far
 pub take-more : (ps : List PeerId) (n : ℕ) (p : PeerId) → n < length ps → get_or ps n p ≡ p → take (n + 1) ps ≡ take n ps ++ p ∷ []
 take-more ps n p h here = let one : n + 1 ≡ suc n = omega arith in ap (λ k. take k ps) one ∙ take-suc ps n p h ∙ ap (λ q. take n ps ++ q ∷ []) here
 
 -- what is measured with later peers stays
-pub later-few : (ps : List PeerId) (n most : ℕ) (p : PeerId) (old new : RoundsValue) (word : ℕ) (a : ℤ) → IsAscending (map (λ (t : PeerId). t.0) ps) → get_or ps n p ≡ p → Starts p word a old new → ((k : ℕ) (d : PeerId) → n ≤ k → k < length ps → begun (measured_with old (get_or ps k d)) ≤ most) →
+pub later-few : (ps : List PeerId) (n most : ℕ) (p : PeerId) (old new : RoundsValue) (word : ℕ) (a : ℤ) → IsAscending ps → get_or ps n p ≡ p → Starts p word a old new → ((k : ℕ) (d : PeerId) → n ≤ k → k < length ps → begun (measured_with old (get_or ps k d)) ≤ most) →
     (k : ℕ) (d : PeerId) → n + 1 ≤ k → k < length ps → begun (measured_with new (get_or ps k d)) ≤ most
 later-few ps n most p old new word a up here s few k d low high =
-    let apart : p.0 < (get_or ps k p).0 = omega (arith, peers_apart ps up n k p (omega arith) high, ap (λ (t : PeerId). t.0) here) in
+    let apart : p.0 < (get_or ps k p).0 = omega (arith, (Rise-peers ps up).at n k p (omega arith) high, ap (λ (t : PeerId). t.0) here) in
     let same : get_or ps k d ≡ get_or ps k p = get_or_default ps k d p high in
     let other : (get_or ps k d).0 ≡ p.0 → ⊥ = λ e. omega (arith, apart, ap (λ (t : PeerId). t.0) same, e) in
     rw (s.others (get_or ps k d) other) (few k d (omega arith) high)

@@ -25,14 +25,15 @@ use Rattle.tsp_base.specs.Rows.{either_by, for_each, grown, nothing, puts, ◌fo
 use Rattle.tsp_base.specs.RoundFacts.{Estimate, Sampled, best, estimate_of, is_going}
 use Rattle.tsp_rules.specs.RoundRows.{Standing, abandons, closes_with, corrects, corrects_by, corrects_peer, diff_before, is_correct, mean_by, moves, estimates, is_near, near_diffs, round_at, standing}
 use Rattle.tsp_measure.specs.declared.sample.TimedSample.{TimedSample}
-use Rattle.tsp_measure.specs.Peers.{IsAscending}
+use Rattle.tsp_base.specs.Peers.{IsAscending}
+use Rattle.tsp_base.proofs.AscendingLemmas.{Rise-peers}
 use Rattle.tsp_measure.specs.declared.entry.Entry.{Entry}
 use Rattle.tsp_measure.specs.Rounds.{RoundsValue, estimate_in, timed_of}
 use Rattle.tsp_measure.specs.Slaves.{Changes, entry_of, leaves, peers_of}
 use Rattle.tsp_master.specs.declared.master.Master.{Master}
 use Rattle.tsp_master.specs.Closing.{estimate_with, measured_of, round_of, standing_with, standings_of}
 use Rattle.tsp_master.specs.MasterStands.{LeadStands, MasterStands}
-use Rattle.tsp_master.proofs.AskLemmas.{filter-more, filter-past, measured-is, peers_apart}
+use Rattle.tsp_master.proofs.AskLemmas.{filter-more, filter-past, measured-is}
 use Rattle.tsp_master.proofs.LeadLemmas.{still_sorts}
 use Rattle.tsp_master.proofs.MasterLemmas.{MasterStands_aside}
 use Rattle.tsp_master.proofs.PhaseLemmas.{over-low, over-some}
@@ -93,10 +94,10 @@ pub MasterStands_leaves : (p : PeerId) (x : ℕ) (past : Past) (old new : Master
 MasterStands_leaves p x past old new change ps rs h = MasterStands_changed p leaves (Leave p) x past old new refl (λ e j m. (refl, refl)) (leaves-after p past x) change ps rs h
 
 -- the entries of later peers stay
-pub later-same : (ps : List PeerId) (n : ℕ) (p : PeerId) (first old new : List Entry) → IsAscending (map (λ (t : PeerId). t.0) ps) → get_or ps n p ≡ p → ((q : PeerId) → (q.0 ≡ p.0 → ⊥) → entry_of new q ≡ entry_of old q) →
+pub later-same : (ps : List PeerId) (n : ℕ) (p : PeerId) (first old new : List Entry) → IsAscending ps → get_or ps n p ≡ p → ((q : PeerId) → (q.0 ≡ p.0 → ⊥) → entry_of new q ≡ entry_of old q) →
     ((k : ℕ) (d : PeerId) → n ≤ k → k < length ps → entry_of old (get_or ps k d) ≡ entry_of first (get_or ps k d)) → (k : ℕ) (d : PeerId) → n + 1 ≤ k → k < length ps → entry_of new (get_or ps k d) ≡ entry_of first (get_or ps k d)
 later-same ps n p first old new up here others same k d low high =
-    let apart : p.0 < (get_or ps k p).0 = omega (arith, peers_apart ps up n k p (omega arith) high, ap (λ (t : PeerId). t.0) here) in
+    let apart : p.0 < (get_or ps k p).0 = omega (arith, (Rise-peers ps up).at n k p (omega arith) high, ap (λ (t : PeerId). t.0) here) in
     let is : get_or ps k d ≡ get_or ps k p = get_or_default ps k d p high in
     others (get_or ps k d) (λ e. omega (arith, apart, ap (λ (t : PeerId). t.0) is, e)) ∙ same k d (omega arith) high
 

@@ -1,20 +1,17 @@
 -- How a round begins and goes on.
-use Rattle.std.proofs.Common.{◌≡◌, ℕ, ◌+◌, ◌*◌, ◌<◌, ◌≤◌, nat_lt, true, false, List, [], ◌∷◌, ◌++◌, Option, Some, None, append_assoc, refl, sym, ◌∙◌, ap, arith}
+use Rattle.std.proofs.Common.{◌≡◌, ℕ, ◌+◌, ◌*◌, ◌<◌, ◌≤◌, nat_lt, true, false, [], ◌∷◌, Option, Some, None, refl, sym, ◌∙◌, ap, arith}
 use Rattle.std.proofs.lemmas.Bool.{false≢true, leb-true}
 use Rattle.std.proofs.lemmas.Bool.Decides.{nat_tests}
 use Rattle.tsp_base.specs.declared.act.Act.{Act}
 use Rattle.tsp_base.specs.declared.act.Act.TheVariants.{Post, Become, Arm, Ring, Late}
-use Rattle.tsp_base.specs.declared.act.Placed.{Placed}
 use Rattle.tsp_base.specs.declared.alarm.Alarm.TheVariants.{Probe, Close}
 use Rattle.tsp_base.specs.declared.constants.TheConstants.{CLOSE, PROBE}
-use Rattle.tsp_base.specs.declared.place.Port.{Port}
 use Rattle.tsp_base.specs.declared.role.Role.TheVariants.{Follow, Master as MasterRole}
 use Rattle.tsp_base.specs.History.{Past}
-use Rattle.tsp_base.specs.Performs.{Performs, Keeps}
+use Rattle.tsp_base.specs.Performs.{Keeps}
 use Rattle.tsp_base.specs.PortFacts.{armed}
 use Rattle.tsp_base.specs.RoundFacts.{is_going, is_starting, probes}
-use Rattle.tsp_base.specs.Rows.{Row, arms, grown, puts, ◌followed_by◌}
-use Rattle.tsp_base.proofs.RowLemmas.{grown_append}
+use Rattle.tsp_base.specs.Rows.{arms, grown, puts, ◌followed_by◌}
 use Rattle.tsp_rules.specs.Guards.{is_met, is_over}
 use Rattle.tsp_rules.proofs.Emits.{Posting, is_in, sort_of}
 use Rattle.tsp_measure.specs.Measures.{Measured, best_of}
@@ -22,17 +19,6 @@ use Rattle.tsp_measure.specs.Rounds.{IsNothing, pending_at}
 use Rattle.tsp_measure.specs.Slaves.{ChangesAll, peers_of, unmeasures}
 use Rattle.tsp_master.specs.declared.master.Master.{Master}
 use Rattle.tsp_master.specs.MasterStands.{MasterStands, IsProbing}
-
--- a call that no past allows
-pub Performs_never : {S T : Type 0} {p : Past → S → Type 0} {q : Past → T → Type 0} {row : Row} {x : ℕ} {port : Port} {before : S} {after : T} {old new : List Placed} → ((past : Past) → p past before → ⊥) → Performs p q row x port before after old new
-Performs_never k = record { acts = λ past h. absurd (k past h); stands = λ past h. absurd (k past h) }
-
-pub then_assoc : (r s t : Row) (x : ℕ) (past : Past) → ((r followed_by s) followed_by t) x past ≡ (r followed_by (s followed_by t)) x past
-unfolding ◌followed_by◌
-then_assoc r s t x past =
-    let a = r x past in
-    let b = s x (grown x past a) in
-    ap (λ q. (a ++ b) ++ t x q) (grown_append x past a b) ∙ append_assoc a b (t x (grown x (grown x past a) b))
 
 -- a round begins
 pub MasterStands_begins_round : (x : ℕ) (past : Past) (old new : Master) → ChangesAll unmeasures old.slaves new.slaves → peers_of new.slaves ≡ peers_of old.slaves → IsNothing new.rounds → new.rounds.asked ≡ old.rounds.asked → new.rounds.probes ≡ 0 → MasterStands past old →

@@ -2,6 +2,7 @@
 use Rattle.std.proofs.Common.{◌≡◌, ℕ, ◌==◌, ◌&&◌, Bool, true, false, if◌then◌else◌, List, [], ◌∷◌, ◌++◌, Some, None, ℤ, eqb-true, eq-eqb, refl, sym, ◌∙◌, ap}
 use Rattle.std.specs.List.{All}
 use Rattle.std.proofs.lemmas.List.Elements.{All-head, All-tail}
+use Rattle.std.proofs.lemmas.Bool.{and_parts}
 use Rattle.tsp_base.specs.declared.act.Act.TheVariants.{Sample as SampleAct}
 use Rattle.tsp_base.specs.declared.act.Placed.{Placed}
 use Rattle.tsp_base.specs.declared.place.PeerId.{PeerId}
@@ -51,10 +52,6 @@ Performs_missed p r old new station clock none ss asked_is probes_is same =
     (rw (missed p r (measured_with old.rounds p).pending none)
     (Performs_to (λ past h. record { master = MasterStands_unasked past old new ss asked_is probes_is same h.stands.master; station = h.stands.station; acted = h.stands.acted; clock = h.stands.clock }) (Performs_nothing {p = GoingStands} {state = (record { master = old; station = station; clock = clock })})))
 
-and-left : (a b : Bool) → (a && b) ≡ true → a ≡ true
-and-left true b e = refl
-and-left false b e = let bad : ⊥ = cc in absurd bad
-
 pub Performs_sample : (p : PeerId) (r : ReplyValue) (d : ℤ) (answer : Sample) {x : ℕ} {port : Port} (old new : Master) (station : Station) (clock : ClockValue) {earlier later : List Placed} → d ≡ target_of clock x → AreApart (measured_with old.rounds p).pending →
     IsAnswered r.word r.counter r.ticket r.reading d (measured_with old.rounds p) (measured_with new.rounds p) answer → ((q : PeerId) → (q.0 ≡ p.0 → ⊥) → measured_with new.rounds q ≡ measured_with old.rounds q) →
     new.rounds.asked ≡ old.rounds.asked → new.rounds.probes ≡ old.rounds.probes → new.slaves ≡ old.slaves → later ≡ earlier ++ record { port = port; act = SampleAct p answer.counter answer.diff answer.err answer.ticket } ∷ [] →
@@ -63,7 +60,7 @@ unfolding samples samples_request puts
 Performs_sample p r d answer {x = x} {port = port} old new station clock {earlier = earlier} d_is apart i others asked_is probes_is ss put =
     let was : AreApart (i.before ++ i.exchange ∷ i.after) = rw i.was_pending at apart in
     let found : pending_at r.counter (measured_with old.rounds p).pending ≡ Some (request_of i.exchange) = ap (pending_at r.counter) i.was_pending ∙ ap (λ n. pending_at n (i.before ++ i.exchange ∷ i.after)) (sym (asks-counter r.word r.counter i.exchange i.asked)) ∙ pending_at-found i.before i.exchange i.after was in
-    let same : (i.exchange.word == r.word) ≡ true = and-left _ _ i.asked in
+    let same : (i.exchange.word == r.word) ≡ true = (and_parts _ _ i.asked).0 in
     let act_is : SampleAct p answer.counter answer.diff answer.err answer.ticket ≡ sample_of p r i.exchange.a d = ap (λ (t : Sample). SampleAct p t.counter t.diff t.err t.ticket) i.told in
     Performs_reading (request_at p r.counter) (samples_request p r) (Some (request_of i.exchange)) (λ past h. (h.stands.master.going h.goes).requests p r.counter ∙ found)
     (rw same (Performs_reading target_at (λ t. puts (sample_of p r i.exchange.a t)) d (λ past h. target-is x past clock h.stands.clock ∙ sym d_is)

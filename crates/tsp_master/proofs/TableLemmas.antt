@@ -1,7 +1,7 @@
 -- What one act more makes of the past of a peer, and of a master's table.
 use Rattle.std.proofs.Common.{◌≡◌, ℕ, ◌==◌, ◌&&◌, ◌||◌, not, cond, get_or, pos, ◌+ℤ◌, Bool, true, false, if◌then◌else◌, List, [], ◌∷◌, Option, Some, eqb-true, refl, sym, ◌∙◌, ap}
 use Rattle.std.specs.List.{All, filter}
-use Rattle.std.proofs.lemmas.Bool.{false≢true}
+use Rattle.std.proofs.lemmas.Bool.{false≢true, and_right, and_left}
 use Rattle.std.proofs.lemmas.List.Elements.{All-head, All-tail}
 use Rattle.tsp_base.specs.declared.act.Act.{Act}
 use Rattle.tsp_base.specs.declared.act.Act.TheVariants.{Boot, Post, Become, Arm, Ring, Late, Join, Leave, Acked, Sample, Abandon}
@@ -29,8 +29,9 @@ use Rattle.tsp_rules.proofs.Emits.{Sort, Taking, Numbering, Posting, Backing, Co
 use Rattle.tsp_clock.specs.Clocks.{ClockValue, target_of}
 use Rattle.tsp_clock.specs.ClockStands.{ClockStands}
 use Rattle.tsp_measure.specs.declared.entry.Entry.{Entry}
-use Rattle.tsp_measure.specs.Slaves.{IsTable, entry_of, peers_of, Changes, joins, leaves, posts_at, begins_at, acks, acks_where, may_correct_by, is_settled_by, are_settled_by}
-use Rattle.tsp_measure.proofs.Entries.{Rise-table, entry_of-at}
+use Rattle.tsp_base.specs.Peers.{IsPeers}
+use Rattle.tsp_measure.specs.Slaves.{entry_of, peers_of, Changes, joins, leaves, begins_at, acks, acks_where, may_correct_by, is_settled_by, are_settled_by}
+use Rattle.tsp_measure.proofs.Entries.{Rising-peers, entry_of-at}
 use Rattle.tsp_master.specs.declared.master.Master.{Master}
 use Rattle.tsp_master.specs.MasterStands.{MasterStands, entry_at}
 use Rattle.tsp_master.proofs.MasterLemmas.{EntriesAfter, MasterStands_aside, is_aside}
@@ -77,32 +78,13 @@ begins-after p m past x corrects acts q =
       by_test true = refl
       by_test false = refl
 
-and-false : (a b : Bool) → b ≡ false → (a && b) ≡ false
-and-false true b e = e
-and-false false b e = refl
-
-false-and : (a b : Bool) → a ≡ false → (a && b) ≡ false
-false-and true b e = absurd (false≢true (sym e))
-false-and false b e = refl
-
--- a correction is posted again
-pub repeats-after : (p : PeerId) (m : MessageValue) (past : Past) (x : ℕ) → is_correction m.kind ≡ true → acting past.seen ≡ false → ChangesAt p (posts_at x) past x (Post (Peer p) (Message m))
-repeats-after p m past x corrects still q =
-    let none : (is_correction m.kind && acting past.seen) ≡ false = and-false (is_correction m.kind) (acting past.seen) still in
-    entry-is q (in_table q past.seen) (is_measured q past.seen) (last_post-posts past.step x q p m past.seen corrects) (last_number-other past.step x q (Peer p) m past.seen none) (is_acknowledged-other past.step x q (Peer p) m past.seen none)
-    ∙ by_test (p.0 == q.0) where
-      by_test : (b : Bool) → entry_with q (in_table q past.seen) (is_measured q past.seen) (if b then Some x else last_post q past.seen) (last_number q past.seen) (is_acknowledged q past.seen)
-          ≡ (if b then posts_at x (entry_at q past.seen) else entry_at q past.seen)
-      by_test true = refl
-      by_test false = refl
-
 -- another message is posted
 message-quiet : (to : Place) (m : MessageValue) (past : Past) (x : ℕ) (q : PeerId) → is_correction m.kind ≡ false → entry_at q (seen_act past.step x (Post to (Message m)) ∷ past.seen) ≡ entry_at q past.seen
 message-quiet (Peer p) m past x q other =
-    let none : (is_correction m.kind && acting past.seen) ≡ false = false-and (is_correction m.kind) (acting past.seen) other in
+    let none : (is_correction m.kind && acting past.seen) ≡ false = and_left (is_correction m.kind) (acting past.seen) other in
     entry-is q (in_table q past.seen) (is_measured q past.seen) (last_post-other past.step x q (Peer p) m past.seen other) (last_number-other past.step x q (Peer p) m past.seen none) (is_acknowledged-other past.step x q (Peer p) m past.seen none)
 message-quiet Stranger m past x q other =
-    let none : (is_correction m.kind && acting past.seen) ≡ false = false-and (is_correction m.kind) (acting past.seen) other in
+    let none : (is_correction m.kind && acting past.seen) ≡ false = and_left (is_correction m.kind) (acting past.seen) other in
     entry-is q (in_table q past.seen) (is_measured q past.seen) (last_post-other past.step x q Stranger m past.seen other) (last_number-other past.step x q Stranger m past.seen none) (is_acknowledged-other past.step x q Stranger m past.seen none)
 
 pub acked-after : (p : PeerId) (past : Past) (x : ℕ) → ChangesAt p (acks_where (corrects_in (open_send p past.seen))) past x (Acked p)
@@ -209,7 +191,7 @@ may_set-is p number x past m e clock a b h k is f g =
     ap (λ t. t && is_in_range x past) (may_correct-is p number x past m e h is ∙ f) ∙ ap (λ t. a && t) (ap is_clock_value (target-is x past clock k) ∙ g)
 
 pub may_set-none : (p : PeerId) (number x : ℕ) (past : Past) (clock : ClockValue) → ClockStands past clock → is_clock_value (target_of clock x) ≡ false → may_set p number x past ≡ false
-may_set-none p number x past clock k g = and-false (may_correct p number x past) (is_in_range x past) (ap is_clock_value (target-is x past clock k) ∙ g)
+may_set-none p number x past clock k g = and_right (may_correct p number x past) (is_in_range x past) (ap is_clock_value (target-is x past clock k) ∙ g)
 
 settled-all : (x : ℕ) (past : Past) (es : List Entry) → All (λ (e : Entry). e ≡ entry_at e.peer past.seen) es → are_settled (filter (λ (p : PeerId). in_table p past.seen) (peers_of es)) x past ≡ are_settled_by x es
 settled-all x past [] h = refl
@@ -224,10 +206,10 @@ settled-all x past (e ∷ es) h =
       by_test false j k rest = rw (j, rest) refl
 
 -- whether all slaves are settled, as the table has it
-pub settled-is : (x : ℕ) (past : Past) (m : Master) → IsTable m.slaves → MasterStands past m → all_settled x past ≡ are_settled_by x m.slaves
+pub settled-is : (x : ℕ) (past : Past) (m : Master) → IsPeers (peers_of m.slaves) → MasterStands past m → all_settled x past ≡ are_settled_by x m.slaves
 settled-is x past m up h =
     ap (λ ps. are_settled (filter (λ (p : PeerId). in_table p past.seen) ps) x past) (sym h.peers)
-    ∙ settled-all x past m.slaves (λ k d l. sym (entry_of-at m.slaves k d (get_or m.slaves k d).peer (Rise-table m.slaves up) l refl) ∙ h.entries (get_or m.slaves k d).peer)
+    ∙ settled-all x past m.slaves (λ k d l. sym (entry_of-at m.slaves k d (get_or m.slaves k d).peer (Rising-peers m.slaves up) l refl) ∙ h.entries (get_or m.slaves k d).peer)
 
 -- the same table and rounds stand for the same past
 pub MasterStands_same : (past : Past) (old new : Master) → peers_of new.slaves ≡ peers_of old.slaves → new.rounds ≡ old.rounds → ((q : PeerId) → entry_of new.slaves q ≡ entry_of old.slaves q) → MasterStands past old → MasterStands past new

@@ -1,7 +1,7 @@
 -- What the acts of a port's other parts make of a master: they leave it alone, but for a change of the role, which takes its slaves.
 use Rattle.std.specs.Prelude.{◌≡◌, ◌≢◌, ◌==◌, ℕ, zero, ℤ, Bool, true, false, not, ◌||◌, ◌&&◌, if◌then◌else◌, List, [], ◌∷◌, ◌⊎◌, refl}
 use Rattle.std.proofs.Common.{sym, ◌∙◌, ap, inl, inr, true≢false}
-use Rattle.std.proofs.lemmas.Bool.{false≢true}
+use Rattle.std.proofs.lemmas.Bool.{false≢true, or_parts, or_cases}
 use Rattle.tsp_base.specs.declared.act.Act.{Act}
 use Rattle.tsp_base.specs.declared.act.Act.TheVariants.{Boot, Post, Become, Arm, Ring, Late, Acked, Correct}
 use Rattle.tsp_base.specs.declared.alarm.Alarm.TheVariants.{Probe, Close}
@@ -101,13 +101,9 @@ role-same Boot e k step x seen = absurd (false≢true e)
 role-same (Become r) e k step x seen = absurd (true≢false k)
 role-same _ e k step x seen = refl
 
-neither : (a b : Bool) → (a || b) ≡ false → (a ≡ false) × (b ≡ false)
-neither true b e = absurd (true≢false e)
-neither false b e = (refl, e)
-
 role-stays : (acts : List Act) → AllOf turning_sorts acts → changes acts ≡ false → (step : Step) (x : ℕ) (seen : List Seen) → role (added step x acts seen) ≡ role seen
 role-stays [] e k step x seen = refl
-role-stays (a ∷ rest) e k step x seen = let n = neither (is_change a) (changes rest) k in role-stays rest e.1 n.1 step x _ ∙ role-same a e.0 n.0 step x seen
+role-stays (a ∷ rest) e k step x seen = let n = or_parts (is_change a) (changes rest) k in role-stays rest e.1 n.1 step x _ ∙ role-same a e.0 n.0 step x seen
 
 -- by such acts no port becomes a master
 parting : (a : Act) → is_in (sort_of a) parting_sorts ≡ true → (step : Step) (x : ℕ) (seen : List Seen) → (is_change a ≡ true) ⊎ (role seen ≢ MasterRole) → role (Here (record { step = step; tick = x; deed = Acts a }) ∷ seen) ≢ MasterRole
@@ -121,15 +117,11 @@ parting _ e step x seen (inr n) = n
 more : (acts : List Act) → AllOf parting_sorts acts → AllOf turning_sorts acts
 more acts e = (Emits_more parting_sorts {all = turning_sorts} {row = λ x past. acts} refl (record { only = λ x past. e })).only zero (record { own = record { 0 = 0 }; name = []; may = false; strict = false; port = record { 0 = 0 }; peers = []; step = record { at = 0; node = 0; cause = Turned }; seen = [] })
 
-one-of : (a b : Bool) → (a || b) ≡ true → (a ≡ true) ⊎ (b ≡ true)
-one-of true b e = inl refl
-one-of false b e = inr e
-
 role-parts : (acts : List Act) → AllOf parting_sorts acts → (step : Step) (x : ℕ) (seen : List Seen) → (changes acts ≡ true) ⊎ (role seen ≢ MasterRole) → role (added step x acts seen) ≢ MasterRole
 role-parts [] e step x seen (inl k) = absurd (false≢true k)
 role-parts [] e step x seen (inr n) = n
 role-parts (a ∷ rest) e step x seen (inr n) = role-parts rest e.1 step x _ (inr (parting a e.0 step x seen (inr n)))
-role-parts (a ∷ rest) e step x seen (inl k) = by_one (one-of (is_change a) (changes rest) k) (λ n. role-parts rest e.1 step x _ n) where
+role-parts (a ∷ rest) e step x seen (inl k) = by_one (or_cases (is_change a) (changes rest) k) (λ n. role-parts rest e.1 step x _ n) where
   after : List Seen
   after = Here (record { step = step; tick = x; deed = Acts a }) ∷ seen
 

@@ -7,7 +7,7 @@ ghost use Rattle.tsp_base.specs.declared.place.Place.TheVariants.{Peer};
 ghost use Rattle.tsp_base.specs.declared.role.Role.{Role};
 ghost use Rattle.tsp_base.specs.Rows.{grown};
 ghost use Rattle.tsp_rules.specs.DateRows.{all_settled};
-ghost use Rattle.tsp_acks.specs.Peers.{IsPeers};
+ghost use Rattle.tsp_base.specs.Peers.{IsPeers};
 ghost use Rattle.tsp_acks.specs.Calls.{Contains, Past, IsSamePort, Stands};
 ghost use Rattle.tsp_measure.specs.Slaves.{peers_of, entry_of, Changes, ChangesAll, leaves, posts_at};
 

@@ -1,7 +1,7 @@
 -- Lemmas on the exchanges of a round: their counters tell them apart.
-use Rattle.std.proofs.Common.{◌≡◌, ◌≢◌, ℕ, suc, ◌+◌, ◌*◌, ◌%◌, ◌^◌, ◌<◌, ◌≤◌, ◌==◌, ◌&&◌, Bool, true, false, if◌then◌else◌, List, [], ◌∷◌, ◌++◌, length, Some, None, ℤ, eqb-true, eq-eqb, refl, sym, ◌∙◌, ap, subst, arith, length-append}
+use Rattle.std.proofs.Common.{◌≡◌, ◌≢◌, ℕ, suc, ◌+◌, ◌*◌, ◌%◌, ◌^◌, ◌<◌, ◌≤◌, ◌==◌, Bool, true, false, if◌then◌else◌, List, [], ◌∷◌, ◌++◌, length, Some, None, ℤ, eqb-true, eq-eqb, refl, sym, ◌∙◌, ap, subst, arith, length-append}
 use Rattle.std.specs.List.{All}
-use Rattle.std.proofs.lemmas.Bool.{ne_eqb}
+use Rattle.std.proofs.lemmas.Bool.{ne_eqb, and_parts}
 use Rattle.std.proofs.lemmas.List.Elements.{All-nil, All-cons, All-head, All-tail, All-push, All-weaker}
 use Rattle.tsp_base.specs.declared.place.PeerId.{PeerId}
 use Rattle.tsp_measure.specs.declared.exchange.Exchange.{Exchange}
@@ -220,12 +220,8 @@ IsRounds-starts p word a old new s h few c =
           rw (same, is) (AreApart-push (measured_with old p).pending (record { word = word; counter = old.asked; a = a }) (h.apart p.0) s.fresh)
       apart_of q false e = rw (s.others (record { 0 = q }) (λ same. let t : (q == p.0) ≡ true = eq-eqb q p.0 same in let bad : ⊥ = cc in bad)) (h.apart q)
 
-and-right : (a b : Bool) → (a && b) ≡ true → b ≡ true
-and-right true b e = e
-and-right false b e = let bad : ⊥ = cc in absurd bad
-
 pub asks-counter : (word counter : ℕ) (e : Exchange) → asks word counter e ≡ true → e.counter ≡ counter
-asks-counter word counter e h = eqb-true e.counter counter (and-right (e.word == word) (e.counter == counter) h)
+asks-counter word counter e h = eqb-true e.counter counter ((and_parts (e.word == word) (e.counter == counter) h).1)
 
 IsAsked-replies : (first total most : ℕ) (word counter ticket : ℕ) (s d : ℤ) (old new : Measured) (r : Reply) → Replies word counter ticket s d old new r → IsAsked first total most old → IsAsked first total most new
 IsAsked-replies first total most word counter ticket s d old new NotStarted r h = subst (IsAsked first total most) (sym r.1) h

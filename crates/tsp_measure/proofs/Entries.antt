@@ -1,75 +1,41 @@
 -- Lemmas on the table of a master's peers.
-use Rattle.std.proofs.Common.{◌≡◌, ◌≢◌, ℕ, zero, suc, ◌+◌, ◌<◌, ◌≤◌, ◌==◌, Bool, true, false, if◌then◌else◌, List, [], ◌∷◌, ◌++◌, length, map, take, drop, append_assoc, append-nil, Result, Ok, Err, get_or, set, eqb-true, eq-eqb, refl, sym, ◌∙◌, ap, arith, inl, inr}
+use Rattle.std.proofs.Common.{◌≡◌, ◌≢◌, ℕ, zero, suc, ◌+◌, ◌<◌, ◌≤◌, ◌==◌, Bool, true, false, if◌then◌else◌, List, [], ◌∷◌, ◌++◌, length, map, take, drop, append_assoc, append-nil, Result, Ok, Err, get_or, set, eqb-true, eq-eqb, refl, sym, ◌∙◌, ap, arith}
 use Rattle.std.specs.List.{Contains}
 use Rattle.std.specs.List.Sorted.{IsBinarySearchResult, IsSearchInRange}
-use Rattle.std.specs.Ordering.{nat_cmp, ordering_index}
-use Rattle.std.specs.declared.cmp.Ordering.TheVariants.{Less, Equal, Greater}
-use Rattle.std.proofs.lemmas.Bool.{cases_lt, ne_eqb}
-use Rattle.std.proofs.lemmas.Bool.Decides.{nat_tests}
+use Rattle.std.specs.Ordering.{nat_cmp}
+use Rattle.std.proofs.lemmas.Bool.{ne_eqb}
 use Rattle.std.proofs.Math.Seq.{take-suc, take-append_seam}
 use Rattle.std.proofs.lemmas.List.{length-map, length-take-le, get_or-map, get_or_at, set_at, take_all, drop_more, map-append}
 use Rattle.tsp_base.specs.declared.place.PeerId.{PeerId}
+use Rattle.tsp_base.specs.Peers.{IsPeers}
+use Rattle.tsp_base.proofs.AscendingLemmas.{Rise, Rise-of, Rise-rest, Parts-absent, Parts-searched, equal_means}
 use Rattle.tsp_measure.specs.declared.entry.Change.{Change}
 use Rattle.tsp_measure.specs.declared.entry.Change.TheVariants.{Join, Measure, Post, Begin, Acknowledge}
 use Rattle.tsp_measure.specs.declared.entry.Entry.{Entry}
-use Rattle.tsp_measure.specs.Slaves.{IsTable, idle_entry, peers_of, entry_of, changed_by, Changes, ChangesAll, IsPlaceOf}
+use Rattle.tsp_measure.specs.Slaves.{idle_entry, peers_of, entry_of, changed_by, Changes, ChangesAll, IsPlaceOf}
 
 -- the peers' numbers rise along the entries
-pub record Rise (es : List Entry) : Type 0 where
-  pub at : (i j : ℕ) (d : Entry) → i < j → j < length es → (get_or es i d).peer.0 < (get_or es j d).peer.0
+abbrev pub Rising : List Entry → Type 0
+Rising es = Rise (λ (e : Entry). e.peer.0) es
 
-number_at : (es : List Entry) (i : ℕ) (d : Entry) → i < length es → get_or (map (λ (p : PeerId). p.0) (peers_of es)) i 0 ≡ (get_or es i d).peer.0
-number_at es i d h =
-    let within : i < length (peers_of es) = omega (arith, length-map es (λ (e : Entry). e.peer)) in
-    get_or-map (λ (p : PeerId). p.0) (peers_of es) i d.peer 0 within ∙ ap (λ (p : PeerId). p.0) (get_or-map (λ (e : Entry). e.peer) es i d d.peer h)
-
-pub Rise-table : (es : List Entry) → IsTable es → Rise es
-Rise-table es up = record {
-  at = λ i j d l h.
-      let many : length (map (λ (p : PeerId). p.0) (peers_of es)) ≡ length es = length-map (peers_of es) (λ (p : PeerId). p.0) ∙ length-map es (λ (e : Entry). e.peer) in
-      let low = number_at es i d (omega arith) in
-      let high = number_at es j d h in
-      omega (arith, up.ascending i j l (omega arith));
-}
-
--- a table with the same peers
-pub IsTable-same : (es new : List Entry) → peers_of new ≡ peers_of es → IsTable es → IsTable new
-IsTable-same es new same up = record { few = rw same up.few; ascending = rw same up.ascending }
-
-Rise-rest : (e : Entry) (es : List Entry) → Rise (e ∷ es) → Rise es
-Rise-rest e es r = record { at = λ i j d l h. r.at (suc i) (suc j) d (omega arith) (omega arith) }
-
-pub same_or : {A : Type 0} (b : Bool) (x y : A) → b ≡ true → (if b then x else y) ≡ x
-same_or true x y e = refl
-same_or false x y e = let bad : ⊥ = cc in absurd bad
-
-pub other_or : {A : Type 0} (b : Bool) (x y : A) → b ≡ false → (if b then x else y) ≡ y
-other_or true x y e = let bad : ⊥ = cc in absurd bad
-other_or false x y e = refl
+pub Rising-peers : (es : List Entry) → IsPeers (peers_of es) → Rising es
+Rising-peers es up = Rise-of (λ (e : Entry). e.peer) es up.ascending
 
 -- the entry at a place is its peer's
-pub entry_of-at : (es : List Entry) (i : ℕ) (d : Entry) (p : PeerId) → Rise es → i < length es → (get_or es i d).peer.0 ≡ p.0 → entry_of es p ≡ get_or es i d
+pub entry_of-at : (es : List Entry) (i : ℕ) (d : Entry) (p : PeerId) → Rising es → i < length es → (get_or es i d).peer.0 ≡ p.0 → entry_of es p ≡ get_or es i d
 entry_of-at [] i d p r h e = absurd (omega arith)
-entry_of-at (x ∷ es) zero d p r h e = same_or _ _ _ (eq-eqb x.peer.0 p.0 e)
+entry_of-at (x ∷ es) zero d p r h e = rw (eq-eqb x.peer.0 p.0 e) refl
 entry_of-at (x ∷ es) (suc i) d p r h e =
     let before : x.peer.0 < (get_or es i d).peer.0 = r.at 0 (suc i) d (omega arith) h in
-    other_or _ _ _ (ne_eqb x.peer.0 p.0 (λ same. omega arith)) ∙ entry_of-at es i d p (Rise-rest x es r) (omega arith) e
+    rw (ne_eqb x.peer.0 p.0 (λ same. omega arith)) (entry_of-at es i d p (Rise-rest x es r) (omega arith) e)
 
 -- nothing is known of a peer without an entry
 pub entry_of-absent : (es : List Entry) (p : PeerId) → ((k : ℕ) (d : Entry) → k < length es → (get_or es k d).peer.0 ≢ p.0) → entry_of es p ≡ idle_entry p
 entry_of-absent [] p h = refl
-entry_of-absent (x ∷ es) p h = other_or _ _ _ (ne_eqb x.peer.0 p.0 (h 0 x (omega arith))) ∙ entry_of-absent es p (λ k d l. h (suc k) d (omega arith))
-
--- an entry stays its peer's
-pub entry_of-peer : (es : List Entry) (p : PeerId) → (entry_of es p).peer ≡ p
-entry_of-peer [] p = refl
-entry_of-peer (x ∷ es) p = by_test (x.peer.0 == p.0) refl (entry_of-peer es p) where
-  by_test : (b : Bool) → (x.peer.0 == p.0) ≡ b → (entry_of es p).peer ≡ p → (if b then x else entry_of es p).peer ≡ p
-  by_test true e rest = ap (λ n. record { 0 = n }) (eqb-true x.peer.0 p.0 e)
-  by_test false e rest = rest
+entry_of-absent (x ∷ es) p h = rw (ne_eqb x.peer.0 p.0 (h 0 x (omega arith))) (entry_of-absent es p (λ k d l. h (suc k) d (omega arith)))
 
 -- an entry is put in its peer's place
-entry_of-set : (es : List Entry) (i : ℕ) (d : Entry) (p : PeerId) (new : Entry) (q : PeerId) → Rise es → i < length es → (get_or es i d).peer.0 ≡ p.0 → new.peer.0 ≡ p.0
+entry_of-set : (es : List Entry) (i : ℕ) (d : Entry) (p : PeerId) (new : Entry) (q : PeerId) → Rising es → i < length es → (get_or es i d).peer.0 ≡ p.0 → new.peer.0 ≡ p.0
     → entry_of (set es i new) q ≡ (if p.0 == q.0 then new else entry_of es q)
 entry_of-set [] i d p new q r h e f = absurd (omega arith)
 entry_of-set (x ∷ es) zero d p new q r h e f =
@@ -86,9 +52,9 @@ entry_of-set (x ∷ es) (suc i) d p new q r h e f =
       by_test false g n = refl
 
 -- the entry that was found, changed, is put back
-pub Changes-put : (f : Entry → Entry) (es new : List Entry) (p : PeerId) (i : ℕ) (x : Entry) → IsTable es → IsPlaceOf p es (Ok i) → x ≡ get_or es i x → (f x).peer ≡ x.peer → new ≡ set es i (f x) → Changes p f es new
+pub Changes-put : (f : Entry → Entry) (es new : List Entry) (p : PeerId) (i : ℕ) (x : Entry) → IsPeers (peers_of es) → IsPlaceOf p es (Ok i) → x ≡ get_or es i x → (f x).peer ≡ x.peer → new ≡ set es i (f x) → Changes p f es new
 Changes-put f es new p i x up place is same put q = rw put (
-    let r = Rise-table es up in
+    let r = Rising-peers es up in
     let here : (get_or es i x).peer.0 ≡ p.0 = place.1 x in
     let own : x.peer.0 ≡ p.0 = ap (λ (e : Entry). e.peer.0) is ∙ here in
     entry_of-set es i x p (f x) q r place.0 here (ap (λ (t : PeerId). t.0) same ∙ own)
@@ -113,33 +79,12 @@ peers_of-set [] i d new e = refl
 peers_of-set (x ∷ es) zero d new e = ap (λ p. p ∷ peers_of es) (e (omega arith))
 peers_of-set (x ∷ es) (suc i) d new e = ap (λ ps. x.peer ∷ ps) (peers_of-set es i d new (λ h. e (omega arith)))
 
-equal_means : (a b : ℕ) → nat_cmp a b ≡ Equal → a ≡ b
-equal_means a b e = grind (arith, nat_tests)
-
-less_means : (a b : ℕ) → nat_cmp a b ≡ Less → a < b
-less_means a b e = grind (arith, nat_tests)
-
-greater_means : (a b : ℕ) → nat_cmp a b ≡ Greater → b < a
-greater_means a b e = grind (arith, nat_tests)
-
-index_rises : (a b p : ℕ) → a ≤ b → ordering_index (nat_cmp a p) ≤ ordering_index (nat_cmp b p)
-index_rises a b p h = grind (arith, nat_tests)
-
-never_falls : (es : List Entry) → Rise es → (i j : ℕ) (d : Entry) → i ≤ j → j < length es → (get_or es i d).peer.0 ≤ (get_or es j d).peer.0
-never_falls es r i j d l h = elim (cases_lt i j) [
-  | inl below ↦ omega (arith, r.at i j d below h)
-  | inr above ↦ let e : i ≡ j = omega arith in rw e (omega arith)
-]
-
 -- what a binary search by the peers' numbers finds
-pub IsPlaceOf-searched : (es : List Entry) (p : PeerId) (r : Result ℕ ℕ) → Rise es → IsSearchInRange r (length es) → IsBinarySearchResult (λ (e : Entry). nat_cmp e.peer.0 p.0) es r → IsPlaceOf p es r
+pub IsPlaceOf-searched : (es : List Entry) (p : PeerId) (r : Result ℕ ℕ) → Rising es → IsSearchInRange r (length es) → IsBinarySearchResult (λ (e : Entry). nat_cmp e.peer.0 p.0) es r → IsPlaceOf p es r
 IsPlaceOf-searched es p (Ok i) rise bound found = (bound, λ d. equal_means (get_or es i d).peer.0 p.0 (found d))
 IsPlaceOf-searched es p (Err i) rise bound found =
-    let parted = found (λ a b d l h. index_rises (get_or es a d).peer.0 (get_or es b d).peer.0 p.0 (never_falls es rise a b d l h)) in
-    λ k d h e. elim (cases_lt k i) [
-      | inl below ↦ omega (arith, less_means (get_or es k d).peer.0 p.0 (parted.0 k d (omega arith) below))
-      | inr above ↦ omega (arith, greater_means (get_or es k d).peer.0 p.0 (parted.1 k d above h))
-    ]
+    let number = λ (e : Entry). e.peer.0 in
+    Parts-absent number p.0 es i (Parts-searched number p.0 es i rise bound found)
 
 -- a search finds the entry of a peer that has one
 pub always_found : (es : List Entry) (p : PeerId) (i : ℕ) → Contains (peers_of es) p → IsPlaceOf p es (Err i) → ⊥

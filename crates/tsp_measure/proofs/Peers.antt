@@ -8,10 +8,8 @@ use Rattle.std.proofs.Math.ListN.{length-set}
 use Rattle.std.specs.List.{All, Contains}
 use Rattle.std.specs.Result.{result_ok}
 use Rattle.tsp_measure.specs.Measures.{Measured, nothing_measured}
-use Rattle.tsp_measure.specs.Peers.{at_peer, IsAscending}
-
-pub ascending_tail : (q : ℕ) (peers : List ℕ) → IsAscending (q ∷ peers) → IsAscending peers
-ascending_tail q peers up i j h k = up (suc i) (suc j) (omega arith) (omega arith)
+use Rattle.tsp_base.proofs.AscendingLemmas.{Rise, Rise-rest}
+use Rattle.tsp_measure.specs.Peers.{at_peer}
 
 same_test : (q p : ℕ) → q ≡ p → (q == p) ≡ true
 same_test q p e = grind (arith, nat_tests)
@@ -20,14 +18,14 @@ other_test : (q p : ℕ) → (q ≡ p → ⊥) → (q == p) ≡ false
 other_test q p e = grind (arith, nat_tests)
 
 -- the peer at a place
-pub at_peer-found : (peers : List ℕ) (measured : List Measured) (p i : ℕ) (d : Measured) → IsAscending peers → length measured ≤ length peers → i < length measured → get_or peers i 0 ≡ p → at_peer peers measured p ≡ get_or measured i d
+pub at_peer-found : (peers : List ℕ) (measured : List Measured) (p i : ℕ) (d : Measured) → Rise (λ (n : ℕ). n) peers → length measured ≤ length peers → i < length measured → get_or peers i 0 ≡ p → at_peer peers measured p ≡ get_or measured i d
 at_peer-found [] measured p i d up e h k = absurd (omega arith)
 at_peer-found (q ∷ peers) [] p i d up e h k = absurd (omega arith)
 at_peer-found (q ∷ peers) (m ∷ measured) p zero d up e h k = rw (same_test q p k) refl
 at_peer-found (q ∷ peers) (m ∷ measured) p (suc i) d up e h k =
     let inside : suc i < length (q ∷ peers) = omega arith in
-    let lt : q < get_or peers i 0 = up 0 (suc i) (omega arith) inside in
-    rw (other_test q p (λ w. omega (arith, lt, k, w))) (at_peer-found peers measured p i d (ascending_tail q peers up) (omega arith) (omega arith) k)
+    let lt : q < get_or peers i 0 = up.at 0 (suc i) 0 (omega arith) inside in
+    rw (other_test q p (λ w. omega (arith, lt, k, w))) (at_peer-found peers measured p i d (Rise-rest q peers up) (omega arith) (omega arith) k)
 
 -- what is put at one peer's place leaves the others
 pub at_peer-others : (peers : List ℕ) (measured : List Measured) (p q i : ℕ) (m : Measured) → i < length peers → get_or peers i 0 ≡ p → (q ≡ p → ⊥) → at_peer peers (set measured i m) q ≡ at_peer peers measured q
@@ -59,13 +57,13 @@ at_peer-more (q ∷ peers) [] p = either_way (q == p) nothing_measured (at_peer 
 at_peer-more (q ∷ peers) (m ∷ measured) p = ap (λ (y : Measured). cond (q == p) m y) (at_peer-more peers measured p)
 
 -- a peer whose place is past the list's end
-pub at_peer-past : (peers : List ℕ) (measured : List Measured) (p i : ℕ) → IsAscending peers → length measured ≤ i → i < length peers → get_or peers i 0 ≡ p → at_peer peers measured p ≡ nothing_measured
+pub at_peer-past : (peers : List ℕ) (measured : List Measured) (p i : ℕ) → Rise (λ (n : ℕ). n) peers → length measured ≤ i → i < length peers → get_or peers i 0 ≡ p → at_peer peers measured p ≡ nothing_measured
 at_peer-past [] measured p i up e h k = refl
 at_peer-past (q ∷ peers) [] p i up e h k = refl
 at_peer-past (q ∷ peers) (m ∷ measured) p zero up e h k = absurd (omega arith)
 at_peer-past (q ∷ peers) (m ∷ measured) p (suc i) up e h k =
-    let lt : q < get_or peers i 0 = up 0 (suc i) (omega arith) h in
-    rw (other_test q p (λ w. omega (arith, lt, k, w))) (at_peer-past peers measured p i (ascending_tail q peers up) (omega arith) (omega arith) k)
+    let lt : q < get_or peers i 0 = up.at 0 (suc i) 0 (omega arith) h in
+    rw (other_test q p (λ w. omega (arith, lt, k, w))) (at_peer-past peers measured p i (Rise-rest q peers up) (omega arith) (omega arith) k)
 
 misses_by : (xs : List ℕ) (x i k : ℕ) → ((k : ℕ) → k < i → get_or xs k 0 < x) → ((k : ℕ) → i ≤ k → k < length xs → x < get_or xs k 0) → k < length xs → (k < i) ⊎ (i ≤ k) → get_or xs k 0 ≡ x → ⊥
 misses_by xs x i k low high h (inl lt) e = let a = low k lt in omega arith
@@ -80,15 +78,8 @@ found_or_missing xs x (Err i) h = λ c.
     let none : All (λ y. y ≡ x → ⊥) xs = All-from_get_or (λ y. y ≡ x → ⊥) xs 0 (λ k lt. misses_by xs x i k h.1 h.2 lt (cases_lt k i)) in
     All-contains (λ y. y ≡ x → ⊥) xs x none c refl
 
-rising_by : (xs : List ℕ) → IsAscending xs → (i j : ℕ) → i ≤ j → j < length xs → (i < j) ⊎ (j ≤ i) → get_or xs i 0 ≤ get_or xs j 0
-rising_by xs up i j le h (inl lt) = let a : get_or xs i 0 < get_or xs j 0 = up i j lt h in omega arith
-rising_by xs up i j le h (inr ge) = let e : i ≡ j = omega arith in rw e (omega arith)
-
-pub rising : (xs : List ℕ) → IsAscending xs → (i j : ℕ) → i ≤ j → j < length xs → get_or xs i 0 ≤ get_or xs j 0
-rising xs up i j le h = rising_by xs up i j le h (cases_lt i j)
-
 -- what is put at a peer's place is what is measured with it
-pub at_peer-put : (peers : List ℕ) (measured : List Measured) (p i : ℕ) (m : Measured) → IsAscending peers → length measured ≤ length peers → i < length measured → get_or peers i 0 ≡ p → at_peer peers (set measured i m) p ≡ m
+pub at_peer-put : (peers : List ℕ) (measured : List Measured) (p i : ℕ) (m : Measured) → Rise (λ (n : ℕ). n) peers → length measured ≤ length peers → i < length measured → get_or peers i 0 ≡ p → at_peer peers (set measured i m) p ≡ m
 at_peer-put peers measured p i m up e h k =
     let long : length (set measured i m) ≡ length measured = length-set measured i m in
     at_peer-found peers (set measured i m) p i m up (omega arith) (omega arith) k ∙ get_or-set_same measured i m m h

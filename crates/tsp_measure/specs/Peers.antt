@@ -1,5 +1,5 @@
 -- What is measured with each peer.
-use Rattle.std.specs.Prelude.{ℕ, ◌<◌, ◌==◌, if◌then◌else◌, List, ◌∷◌, length, slice_index}
+use Rattle.std.specs.Prelude.{ℕ, ◌==◌, if◌then◌else◌, List, ◌∷◌}
 use Rattle.tsp_measure.specs.Measures.{Measured, nothing_measured}
 
 -- the peers' numbers, ascending, and what is measured with each of them
@@ -15,7 +15,3 @@ at_peer _ _ p = nothing_measured
 -- what is measured with a peer: nothing with one that isn't among the peers
 abbrev pub with_peer : MeasuredPeers → ℕ → Measured
 with_peer x p = at_peer x.peers x.measured p
-
--- no peer's number comes before a lesser or equal one
-abbrev pub IsAscending : List ℕ → Type 0
-IsAscending peers = (i j : ℕ) → i < j → j < length peers → slice_index peers i < slice_index peers j

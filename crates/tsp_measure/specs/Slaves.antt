@@ -1,5 +1,5 @@
 -- What a master knows of its peers, and how it changes.
-use Rattle.std.specs.Prelude.{◌≡◌, ◌≢◌, ℕ, ◌+◌, ◌%◌, ◌<◌, ◌≤◌, ◌==◌, Bool, true, false, not, ◌&&◌, ◌||◌, if◌then◌else◌, List, [], ◌∷◌, map, length, slice_index_or, None, Some, Result, Ok, Err}
+use Rattle.std.specs.Prelude.{◌≡◌, ◌≢◌, ℕ, ◌+◌, ◌%◌, ◌<◌, ◌==◌, Bool, true, false, not, ◌&&◌, ◌||◌, if◌then◌else◌, List, [], ◌∷◌, map, length, slice_index_or, None, Some, Result, Ok, Err}
 use Rattle.std.specs.List.{list_all}
 use Rattle.tsp_base.specs.declared.constants.TheConstants.{REUSE}
 use Rattle.tsp_base.specs.declared.place.PeerId.{PeerId}
@@ -7,7 +7,6 @@ use Rattle.tsp_base.specs.Hold.{is_past}
 use Rattle.tsp_measure.specs.declared.entry.Change.{Change}
 use Rattle.tsp_measure.specs.declared.entry.Change.TheVariants.{Join, Measure, Post, Begin, Acknowledge}
 use Rattle.tsp_measure.specs.declared.entry.Entry.{Entry}
-use Rattle.tsp_measure.specs.Peers.{IsAscending}
 
 -- a peer of which nothing is known
 abbrev pub idle_entry : PeerId → Entry
@@ -16,11 +15,6 @@ idle_entry p = record { peer = p; joined = false; measured = false; posted = Non
 -- the peers that have an entry
 abbrev pub peers_of : List Entry → List PeerId
 peers_of es = map (λ (e : Entry). e.peer) es
-
--- entries for at most 1,000 peers, in ascending order
-pub record IsTable (es : List Entry) : Type 0 where
-  pub few : length (peers_of es) ≤ 1000
-  pub ascending : IsAscending (map (λ (p : PeerId). p.0) (peers_of es))
 
 -- what is known of a peer
 abbrev pub entry_of : List Entry → PeerId → Entry

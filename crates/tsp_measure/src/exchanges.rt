@@ -2,10 +2,12 @@
 ghost use Rattle.std.specs.Prelude.{◌≡◌, ◌≢◌, ℕ, ◌+◌, ◌<◌, [], ◌∷◌, ◌++◌, map, length, slice_index, IfOk, MatchOption};
 ghost use Rattle.std.specs.Box.{boxed_slice_items};
 ghost use Rattle.std.specs.List.{Contains};
+ghost use Rattle.std.specs.List.Sorted.{IsStrictlyIncreasing};
 ghost use Rattle.std.specs.Option.{option_map};
 ghost use Rattle.tsp_measure.specs.Measures.{IsReading, IsStamp, IsNewCounter, IsBestOf, Replies};
 ghost use Rattle.tsp_measure.specs.Measures.{nothing_measured, begun, best_of};
-ghost use Rattle.tsp_measure.specs.Peers.{IsAscending, with_peer};
+ghost use Rattle.tsp_base.specs.Peers.{IsAscending};
+ghost use Rattle.tsp_measure.specs.Peers.{with_peer};
 
 use crate::exchange::Exchange;
 use crate::peer_exchanges::PeerExchanges;
@@ -28,7 +30,8 @@ pub struct Exchanges {
 impl Model for Exchanges {
     ghost use Rattle.std.specs.Prelude.{◌≤◌, length, vec_capacity};
     ghost use Rattle.std.specs.Box.{boxed_slice_items};
-    ghost use Rattle.tsp_measure.specs.Peers.{MeasuredPeers, IsAscending};
+    ghost use Rattle.std.specs.List.Sorted.{IsStrictlyIncreasing};
+    ghost use Rattle.tsp_measure.specs.Peers.{MeasuredPeers};
 
     ghost Value = { MeasuredPeers };
 
@@ -37,7 +40,7 @@ impl Model for Exchanges {
       measured = e.measured.items;
     } };
 
-    ghost invariant = { λ e. IsAscending (boxed_slice_items e.peers)
+    ghost invariant = { λ e. IsStrictlyIncreasing (boxed_slice_items e.peers)
         × ((length e.measured.items ≤ length (boxed_slice_items e.peers))
         × (length (boxed_slice_items e.peers) ≤ vec_capacity e.measured)) };
 }
@@ -51,7 +54,7 @@ fn numbers_of(alloc: Global, peers: &[PeerId]) -> Result<BoxedSlice<u32>, AllocE
 
 /// The place of a number in an ascending list; None where it isn't there.
 fn place_of(peers: &[u32], peer: u32) -> Option<usize>
-    requires { IsAscending peers.now }
+    requires { IsStrictlyIncreasing peers.now }
     ensures { MatchOption result (Contains peers.now peer → ⊥) (λ i. (i < length peers.now)
         × (slice_index peers.now i ≡ peer)) }
 {
@@ -63,7 +66,7 @@ impl Exchanges {
     ///
     /// Fails only if out of memory. No later call allocates any.
     pub fn new(alloc: Global, peers: &[PeerId]) -> Result<Exchanges, AllocError>
-        requires { IsAscending (map (λ p. p.0) peers.now) }
+        requires { IsAscending peers.now }
         ensures peers { IfOk result (λ x. x.peers ≡ map (λ p. p.0) peers.now) }
         ensures nothing { IfOk result (λ x. (p : ℕ) → with_peer x p ≡ nothing_measured) }
     {

@@ -1,10 +1,11 @@
 //! The exchanges of a master's rounds.
-ghost use Rattle.std.specs.Prelude.{◌≡◌, ◌≢◌, ℕ, ◌+◌, ◌*◌, ◌≤◌, ◌<◌, true, false, map, IfOk, MatchBool};
+ghost use Rattle.std.specs.Prelude.{◌≡◌, ℕ, ◌+◌, ◌*◌, ◌≤◌, ◌<◌, true, false, map, IfOk, MatchBool};
 ghost use Rattle.std.specs.List.{Contains};
 ghost use Rattle.std.specs.Option.{option_map};
 ghost use Rattle.tsp_base.specs.declared.place.PeerId.{PeerId};
 ghost use Rattle.tsp_measure.specs.Measures.{IsReading, Replies, begun, best_of};
-ghost use Rattle.tsp_measure.specs.Peers.{IsAscending, with_peer};
+ghost use Rattle.tsp_base.specs.Peers.{IsAscending};
+ghost use Rattle.tsp_measure.specs.Peers.{with_peer};
 ghost use Rattle.tsp_measure.specs.Rounds.{RoundsValue, measured_with, IsCounted, IsNothing, AreApart, Starts};
 
 use crate::exchanges::Exchanges;
@@ -40,7 +41,7 @@ impl Rounds {
     ///
     /// Fails only if out of memory; no later call takes any.
     pub fn new(alloc: Global, peers: &[PeerId]) -> Result<Rounds, AllocError>
-        requires { IsAscending (map (λ p. p.0) peers.now) }
+        requires { IsAscending peers.now }
         ensures peers { IfOk result (λ r. r.exchanges.peers ≡ map (λ p. p.0) peers.now) }
         ensures asked { IfOk result (λ r. r.asked ≡ 0) }
     {

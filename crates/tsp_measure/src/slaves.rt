@@ -1,10 +1,10 @@
 //! The table of a master's peers.
-ghost use Rattle.std.specs.Prelude.{◌≡◌, ◌<◌, ◌≤◌, length, map, slice_index_or, slice_set, IfOk};
+ghost use Rattle.std.specs.Prelude.{◌≡◌, ◌<◌, length, map, slice_index_or, slice_set, IfOk};
 ghost use Rattle.std.specs.List.{Contains};
 ghost use Rattle.tsp_base.specs.declared.place.PeerId.{PeerId};
+ghost use Rattle.tsp_base.specs.Peers.{IsPeers};
 ghost use Rattle.tsp_measure.specs.declared.entry.Entry.{Entry};
-ghost use Rattle.tsp_measure.specs.Peers.{IsAscending};
-ghost use Rattle.tsp_measure.specs.Slaves.{IsTable, peers_of, idle_entry, entry_of, Changes, ChangesAll};
+ghost use Rattle.tsp_measure.specs.Slaves.{peers_of, idle_entry, entry_of, Changes, ChangesAll};
 ghost use Rattle.tsp_measure.specs.Slaves.{changed_by, leaves, unmeasures, are_settled_by, IsPlaceOf};
 
 use crate::entry::{Change, Entry};
@@ -23,18 +23,19 @@ impl Model for Slaves {
     ghost use Rattle.std.specs.Prelude.{List};
     ghost use Rattle.std.specs.Box.{boxed_slice_items};
     ghost use Rattle.tsp_measure.specs.declared.entry.Entry.{Entry};
-    ghost use Rattle.tsp_measure.specs.Slaves.{IsTable};
+    ghost use Rattle.tsp_base.specs.Peers.{IsPeers};
+    ghost use Rattle.tsp_measure.specs.Slaves.{peers_of};
 
     ghost Value = { List Entry };
 
     ghost view = { λ s. boxed_slice_items s.entries };
 
-    ghost invariant = { λ s. IsTable (boxed_slice_items s.entries) };
+    ghost invariant = { λ s. IsPeers (peers_of (boxed_slice_items s.entries)) };
 }
 
 /// The place of a peer's entry; where the peer has none, `Err` with the place where it would be.
 fn place_of(entries: &[Entry], peer: PeerId) -> Result<usize, usize>
-    requires { IsTable entries.now }
+    requires { IsPeers (peers_of entries.now) }
     ensures { IsPlaceOf peer entries.now result }
 {
     entries.binary_search_by_key(&peer.0, |entry| entry.peer.0)
@@ -71,8 +72,7 @@ impl Slaves {
     ///
     /// Fails only if out of memory; no later call takes any.
     pub fn new(alloc: Global, peers: &[PeerId]) -> Result<Slaves, AllocError>
-        requires few { length peers.now ≤ 1000 }
-        requires ascending { IsAscending (map (λ p. p.0) peers.now) }
+        requires { IsPeers peers.now }
         ensures peers { IfOk result (λ s. peers_of s ≡ peers.now) }
         ensures idle { IfOk result (λ s. (p : PeerId) → entry_of s p ≡ idle_entry p) }
     {
@@ -85,7 +85,7 @@ impl Slaves {
     /// The number of peers.
     pub fn len(&self) -> usize
         ensures value { result ≡ length (peers_of self.now) }
-        ensures valid { IsTable self.now }
+        ensures valid { IsPeers (peers_of self.now) }
     {
         self.entries.len()
     }
@@ -168,7 +168,7 @@ impl Slaves {
     /// Whether no correction is on its way to a slave that it hasn't acknowledged.
     pub fn are_settled(&self, tick: u64) -> bool
         ensures value { result ≡ are_settled_by tick self.now }
-        ensures valid { IsTable self.now }
+        ensures valid { IsPeers (peers_of self.now) }
     {
         self.entries
             .iter()

@@ -1,12 +1,11 @@
 -- Who is on which network of a header: each node of a whole header is on one, and who is on one is a node.
-use Rattle.std.specs.Prelude.{◌≡◌, ℕ, zero, suc, ◌+◌, ◌*◌, ◌<◌, ◌≤◌, ◌==◌, nat_le, ◌&&◌, ◌||◌, Bool, true, false, if◌then◌else◌, List, [], ◌∷◌, ◌++◌, length, map, slice_index, slice_index_or, All, refl}
+use Rattle.std.specs.Prelude.{◌≡◌, ℕ, zero, suc, ◌+◌, ◌*◌, ◌<◌, ◌≤◌, ◌==◌, nat_le, ◌&&◌, ◌||◌, Bool, true, false, if◌then◌else◌, List, [], ◌∷◌, ◌++◌, length, map, slice_index, slice_index_or, refl}
 use Rattle.std.proofs.Common.{sym, ap, ◌∙◌, arith, subst, inl, inr, length-append, add-one, le-leb, leb-true, eq-eqb, eqb-true, true≢false}
-use Rattle.std.proofs.lemmas.Bool.{cases_lt, ne_eqb}
-use Rattle.std.proofs.lemmas.List.Elements.{All-head, All-tail}
+use Rattle.std.proofs.lemmas.Bool.{cases_lt, ne_eqb, and_parts, or_right}
 use Rattle.std.specs.List.{list_any}
 use Rattle.std.specs.List.Sorted.{IsStrictlyIncreasing}
 use Rattle.tsp_base.specs.declared.place.PeerId.{PeerId}
-use Rattle.tsp_base.specs.Headers.{HeaderValue, IsHeader, IsNet, all_joined, has_member, is_whole}
+use Rattle.tsp_base.specs.Headers.{HeaderValue, all_joined, has_member, is_whole}
 use Rattle.tsp_rules.specs.NodeRows.{PortSetup}
 use Rattle.tsp_run.specs.Networks.{networks, networks_among, numbers_below, peers_on, port_on, ports_on, room}
 
@@ -25,15 +24,10 @@ unfolding next
 next-append least [] q = refl
 next-append least (p ∷ rest) q = next-append (p + 1) rest q
 
--- both tests hold
-and-true : (a b : Bool) → (a && b) ≡ true → (a ≡ true) × (b ≡ true)
-and-true true b e = (refl, e)
-and-true false b e = let bad : ⊥ = cc in absurd bad
-
 rises-append : (least : ℕ) (ps : List ℕ) (q : ℕ) → rises_from least ps ≡ true → next least ps ≤ q → rises_from least (ps ++ q ∷ []) ≡ true
 unfolding next
 rises-append least [] q e h = rw (le-leb least q h) refl
-rises-append least (p ∷ rest) q e h = let both = and-true (nat_le least p) (rises_from (p + 1) rest) e in rw both.0 (rises-append (p + 1) rest q both.1 h)
+rises-append least (p ∷ rest) q e h = let both = and_parts (nat_le least p) (rises_from (p + 1) rest) e in rw both.0 (rises-append (p + 1) rest q both.1 h)
 
 next-below : (n : ℕ) → next 0 (numbers_below n) ≡ n
 unfolding next
@@ -47,10 +41,10 @@ rises-below (suc n) = rises-append 0 (numbers_below n) n (rises-below n) (let e 
 
 -- the next number is no less than the last one
 rises-first : (least p : ℕ) (rest : List ℕ) (k : ℕ) → rises_from least (p ∷ rest) ≡ true → k < length (p ∷ rest) → least ≤ slice_index (p ∷ rest) k
-rises-first least p rest zero e h = leb-true least p (and-true (nat_le least p) (rises_from (p + 1) rest) e).0
+rises-first least p rest zero e h = leb-true least p (and_parts (nat_le least p) (rises_from (p + 1) rest) e).0
 rises-first least p [] (suc k) e h = absurd (omega (arith, h))
 rises-first least p (q ∷ rest) (suc k) e h =
-    let both = and-true (nat_le least p) (rises_from (p + 1) (q ∷ rest)) e in
+    let both = and_parts (nat_le least p) (rises_from (p + 1) (q ∷ rest)) e in
     let first = leb-true least p both.0 in
     let later = rises-first (p + 1) q rest k both.1 (omega (arith, h)) in
     omega (arith, first, later)
@@ -60,11 +54,11 @@ rises-next : (least : ℕ) (ps : List ℕ) → rises_from least ps ≡ true → 
 rises-next least [] e k h = absurd (omega (arith, h))
 rises-next least (p ∷ []) e k h = absurd (omega (arith, h))
 rises-next least (p ∷ q ∷ rest) e zero h =
-    let both = and-true (nat_le least p) (rises_from (p + 1) (q ∷ rest)) e in
+    let both = and_parts (nat_le least p) (rises_from (p + 1) (q ∷ rest)) e in
     let next = rises-first (p + 1) q rest 0 both.1 (omega arith) in
     omega (arith, next)
 rises-next least (p ∷ q ∷ rest) e (suc k) h =
-    let both = and-true (nat_le least p) (rises_from (p + 1) (q ∷ rest)) e in
+    let both = and_parts (nat_le least p) (rises_from (p + 1) (q ∷ rest)) e in
     rises-next (p + 1) (q ∷ rest) both.1 k (omega (arith, h))
 
 -- numbers that rise are strictly ascending
@@ -79,16 +73,12 @@ any-append : (n : ℕ) (ms : List ℕ) (m : ℕ) → has_member n (ms ++ m ∷ [
 any-append n [] m = elim (m == n) as (λ b. (b || false) ≡ b) [ true ↦ refl | false ↦ refl ]
 any-append n (k ∷ rest) m = elim (k == n) as (λ b. (b || has_member n (rest ++ m ∷ [])) ≡ ((b || has_member n rest) || (m == n))) [ true ↦ refl | false ↦ any-append n rest m ]
 
-or-right : (a : Bool) → (a || true) ≡ true
-or-right true = refl
-or-right false = refl
-
 -- each node is among all nodes
 member-below : (n m : ℕ) → m < n → has_member m (numbers_below n) ≡ true
 member-below zero m h = absurd (omega (arith, h))
 member-below (suc n) m h = any-append m (numbers_below n) n ∙ (elim (cases_lt m n) [
   | inl lt ↦ rw (member-below n m lt) refl
-  | inr ge ↦ (let same : (n == m) ≡ true = eq-eqb n m (omega (arith, h, ge)) in rw same (or-right (has_member m (numbers_below n))))
+  | inr ge ↦ (let same : (n == m) ≡ true = eq-eqb n m (omega (arith, h, ge)) in rw same (or_right (has_member m (numbers_below n)) true refl))
 ])
 
 -- the peers of a port have their network's numbers
@@ -106,7 +96,7 @@ joined-some n (net ∷ rest) e = by_member (has_member n net) (λ f. joined-some
 joined-below : (n count : ℕ) (nets : List (List ℕ)) → all_joined count nets ≡ true → n < count → list_any (has_member n) nets ≡ true
 joined-below n zero nets e h = absurd (omega (arith, h))
 joined-below n (suc count) nets e h =
-    let both = and-true (all_joined count nets) (list_any (has_member count) nets) e in
+    let both = and_parts (all_joined count nets) (list_any (has_member count) nets) e in
     elim (cases_lt n count) [ inl lt ↦ joined-below n count nets both.0 lt | inr ge ↦ (let same : count ≡ n = omega (arith, h, ge) in subst (λ m. list_any (has_member m) nets ≡ true) same both.1) ]
 
 -- each node of a whole header has a port
@@ -129,29 +119,10 @@ below-member (suc count) n e = by_case (has_member n (numbers_below count)) (λ 
   by_case false more true same e = let is = eqb-true count n same in omega (arith, is)
   by_case false more false same e = absurd (true≢false (sym e))
 
-in-net : (count n : ℕ) (net : List ℕ) → All (λ m. m < count) net → has_member n net ≡ true → n < count
-in-net count n [] all e = absurd (true≢false (sym e))
-in-net count n (m ∷ rest) all e = by_case (m == n) refl (λ f. in-net count n rest (All-tail (λ m. m < count) m rest all) f) e where
-  by_case : (b : Bool) → (m == n) ≡ b → (has_member n rest ≡ true → n < count) → (b || has_member n rest) ≡ true → n < count
-  by_case true same more e = subst (λ k. k < count) (eqb-true m n same) (All-head (λ m. m < count) m rest all)
-  by_case false same more e = more e
-
-in-nets : (count n k : ℕ) (nets : List (List ℕ)) → All (IsNet count) nets → has_member n (slice_index_or nets k []) ≡ true → n < count
-in-nets count n k [] all e = absurd (true≢false (sym e))
-in-nets count n zero (net ∷ rest) all e = in-net count n net (All-head (IsNet count) net rest all).known e
-in-nets count n (suc k) (net ∷ rest) all e = in-nets count n k rest (All-tail (IsNet count) net rest all) e
-
 -- where the header names no network, who is on that of all nodes is a node
 pub member_alone : (count n k : ℕ) → has_member n (slice_index_or (networks_among count []) k []) ≡ true → n < count
 member_alone count n zero e = below-member count n e
 member_alone count n (suc k) e = absurd (true≢false (sym e))
-
--- who is on a network is a node
-pub member_known : (header : HeaderValue) → IsHeader header → (n k : ℕ) → has_member n (slice_index_or (networks header) k []) ≡ true → n < length header.nodes
-member_known header is n k e = by_nets header.nets is.nets_are k e where
-  by_nets : (nets : List (List ℕ)) → All (IsNet (length header.nodes)) nets → (k : ℕ) → has_member n (slice_index_or (networks_among (length header.nodes) nets) k []) ≡ true → n < length header.nodes
-  by_nets [] all k e = member_alone (length header.nodes) n k e
-  by_nets (net ∷ rest) all k e = in-nets (length header.nodes) n k (net ∷ rest) all e
 
 -- the ports on a network, and those on others
 pub ports_on-one : (n : ℕ) (net : List ℕ) (rest : List (List ℕ)) → ports_on n (net ∷ []) ++ ports_on n rest ≡ ports_on n (net ∷ rest)

@@ -1,7 +1,7 @@
 -- The alarms in their order, and their rows.
 use Rattle.std.proofs.Common.{◌≡◌, ◌+◌, ◌<◌, ◌++◌, ◌∷◌, [], ℕ, zero, suc, Bool, true, false, List, length, take, Some, arith, refl, ap, append-nil, subst, sym, ◌∙◌}
 use Rattle.std.proofs.Math.Seq.{take-suc}
-use Rattle.std.proofs.lemmas.Bool.{false≢true}
+use Rattle.std.proofs.lemmas.Bool.{false≢true, and_parts}
 use Rattle.std.specs.Prelude.{◌&&◌, ◌||◌, if◌then◌else◌, is_some, not, slice_index_or}
 use Rattle.tsp_base.specs.declared.alarm.Alarm.{Alarm}
 use Rattle.tsp_base.specs.declared.alarm.Alarm.TheVariants.{Close, Probe, Quiet}
@@ -12,7 +12,6 @@ use Rattle.tsp_base.specs.Rows.{for_each, nothing, grown, ◌followed_by◌}
 use Rattle.tsp_rules.specs.Answers.{due_alarms, rings_alone, rings_each}
 use Rattle.tsp_rules.specs.GateRows.{is_probe}
 use Rattle.tsp_rules.proofs.CalmAlarms.{moves_by}
-use Rattle.tsp_rules.proofs.GuardFacts.{and-cases}
 
 -- one more of a list
 pub take_one_more : {A : Type 0} (xs : List A) (i : ℕ) (d : A) → i < length xs → take (i + 1) xs ≡ take i xs ++ slice_index_or xs i d ∷ []
@@ -63,9 +62,9 @@ close-after : (alarms : List Alarm) (i : ℕ) (probed : Bool) → are_probed pro
 close-after [] i probed e is = let bad : ⊥ = cc in absurd bad
 close-after (a ∷ []) zero probed e is = let bad : ⊥ = cc in absurd bad
 close-after (a ∷ b ∷ rest) zero probed e is =
-    let later = (and-cases (not (moves_by a) || probed) (are_probed (is_probe a) (b ∷ rest)) e).1 in
-    a-probe a (and-cases (is_probe a) (are_probed (is_probe b) rest) (subst (λ z. ((not (moves_by z) || is_probe a) && are_probed (is_probe b) rest) ≡ true) is later)).0
-close-after (a ∷ rest) (suc i) probed e is = close-after rest i (is_probe a) (and-cases (not (moves_by a) || probed) (are_probed (is_probe a) rest) e).1 is
+    let later = (and_parts (not (moves_by a) || probed) (are_probed (is_probe a) (b ∷ rest)) e).1 in
+    a-probe a (and_parts (is_probe a) (are_probed (is_probe b) rest) (subst (λ z. ((not (moves_by z) || is_probe a) && are_probed (is_probe b) rest) ≡ true) is later)).0
+close-after (a ∷ rest) (suc i) probed e is = close-after rest i (is_probe a) (and_parts (not (moves_by a) || probed) (are_probed (is_probe a) rest) e).1 is
 
 -- the Close comes right after the Probe
 pub close_after_probe : (i : ℕ) → slice_index_or ALL (i + 1) Quiet ≡ Close → slice_index_or ALL i Quiet ≡ Probe

@@ -5,8 +5,7 @@ use Rattle.std.proofs.Common.{sym, ◌∙◌, ap, arith}
 use Rattle.std.proofs.lemmas.Bool.{false≢true, ltb-true, lt-ltb}
 use Rattle.std.proofs.lemmas.List.{get_or-map, length-map}
 use Rattle.tsp_base.specs.declared.place.PeerId.{PeerId}
-use Rattle.tsp_base.specs.Peers.{is_among}
-use Rattle.tsp_sends.specs.Slots.{IsAscending}
+use Rattle.tsp_base.specs.Peers.{is_among, IsAscending}
 
 -- whether each peer was found to be below the next is whether they are ascending
 pub IsAscending-answer : (ps : List PeerId) (b : Bool) → IsAllAdjacentAnswer (λ p q b. b ≡ nat_lt p.0 q.0) ps b → (b ≡ true) ↔ IsAscending ps

@@ -1,31 +1,29 @@
 -- Rows of a port's other parts leave its dates alone.
-use Rattle.std.specs.Prelude.{ℕ, ◌==◌, Bool, true, false, if◌then◌else◌, [], ◌∷◌, refl}
+use Rattle.std.specs.Prelude.{ℕ, refl}
 use Rattle.tsp_base.specs.declared.act.Act.TheVariants.{Become, Join, Ring}
 use Rattle.tsp_base.specs.declared.alarm.Alarm.TheVariants.{Elect, Resolve, Window}
 use Rattle.tsp_base.specs.declared.constants.TheConstants.{WINDOW}
 use Rattle.tsp_base.specs.declared.kind.Kind.{Kind}
-use Rattle.tsp_base.specs.declared.kind.Kind.TheVariants.{Ack, AdjTime, Conflict, Election, MasterAck, MasterReq, MasterUp, Quit, Resolve as ResolveKind, SetTime, SlaveUp}
+use Rattle.tsp_base.specs.declared.kind.Kind.TheVariants.{Ack, Election, MasterAck, MasterReq, Quit, Resolve as ResolveKind, SlaveUp}
 use Rattle.tsp_base.specs.declared.place.PeerId.{PeerId}
 use Rattle.tsp_base.specs.declared.place.Place.{Place}
-use Rattle.tsp_base.specs.declared.role.Role.{Role}
-use Rattle.tsp_base.specs.declared.role.Role.TheVariants.{Candidate, Follow, Loose}
+use Rattle.tsp_base.specs.declared.role.Role.TheVariants.{Candidate}
 use Rattle.tsp_base.specs.Messages.{MessageValue}
 use Rattle.tsp_base.specs.Performs.{Keeps}
 use Rattle.tsp_base.specs.Rows.{Row, arms, for_each, nothing, posts_back, puts, ◌followed_by◌}
-use Rattle.tsp_base.specs.Takings.{time_in}
 use Rattle.tsp_base.proofs.PerformsLemmas.{Keeps_each, Keeps_either, Keeps_nothing, Keeps_reading, Keeps_then}
-use Rattle.tsp_rules.specs.CommonRows.{is_awake, may_be_asked, tests, arms_elect, backs_own, follow_row, searches, candidature_row, tells_ticket}
+use Rattle.tsp_rules.specs.CommonRows.{is_awake, may_be_asked, tests, backs_own, searches, candidature_row}
 use Rattle.tsp_rules.specs.MasterRows.{joins, may_join, sends_away}
 use Rattle.tsp_rules.specs.ResolveRows.{quits_rivals, resolve_rings}
-use Rattle.tsp_rules.specs.SendRows.{begins, begins_settime, begins_to_others, has_quit, is_free}
-use Rattle.tsp_rules.specs.SlaveRows.{adjtime_of, elect_rings, from_master, loosens, masterack_in, masterup_in, reports_conflict, settime_of, slave_takes, slave_takes_kind}
-use Rattle.tsp_rules.specs.Guards.{is_in_time, may_stand_at, rivals_at, role_at}
-use Rattle.tsp_rules.proofs.Emits.{Acking, Emits, Emits_arms, Emits_either, Emits_more, Emits_nothing, Emits_posts, Emits_posts_back, Emits_puts, Emits_then}
+use Rattle.tsp_rules.specs.SendRows.{begins, begins_settime, begins_to_others, has_quit}
+use Rattle.tsp_rules.specs.SlaveRows.{elect_rings, loosens}
+use Rattle.tsp_rules.specs.Guards.{is_in_time, may_stand_at, rivals_at}
+use Rattle.tsp_rules.proofs.Emits.{Emits, Emits_arms, Emits_either, Emits_more, Emits_nothing, Emits_posts, Emits_posts_back, Emits_puts, Emits_then}
 use Rattle.tsp_rules.proofs.EmitsSends.{emits_settime_begins}
 use Rattle.tsp_date.specs.DateStands.{DatesStand}
-use Rattle.tsp_date.proofs.KeepLemmas.{DatesAside, DatesAside_begins, DatesAside_by, DatesStand_act, DatesStand_begins, DatesStand_begins_to_others, DatesStand_by}
+use Rattle.tsp_date.proofs.KeepLemmas.{DatesAside, DatesAside_by, DatesStand_act, DatesStand_begins, DatesStand_begins_to_others, DatesStand_by}
 use Rattle.tsp_master.specs.MasterTakes.{master_takes_here, master_takes_kind_here}
-use Rattle.tsp_node.proofs.EmitsRoles.{acking, adjtime, again, backing, calm_sorts, election, emits_quits, following, found, late-elect, loosening, of-master, plain_sorts, searching, settime}
+use Rattle.tsp_node.proofs.EmitsRoles.{backing, calm_sorts, late-elect, loosening, plain_sorts, searching}
 
 pub calm : (row : Row) → Emits calm_sorts row → Keeps DatesStand row
 calm row e = DatesStand_by row (Emits_more calm_sorts refl e)
@@ -53,45 +51,6 @@ DatesStand_resolve = Keeps_either DatesStand (is_in_time Resolve) _ _
 
 aside : (row : Row) → Emits plain_sorts row → Keeps DatesAside row
 aside row e = DatesAside_by row (Emits_more plain_sorts refl e)
-
-aside-calm : (row : Row) → Emits calm_sorts row → Keeps DatesAside row
-aside-calm row e = DatesAside_by row (Emits_more calm_sorts refl e)
-
-reports-keep : (q : PeerId) → Keeps DatesAside (reports_conflict q)
-unfolding reports_conflict
-reports-keep q = Keeps_either DatesAside (is_free q) (begins Conflict q) nothing (DatesAside_begins Conflict q refl) (Keeps_nothing DatesAside)
-
-masterup-keep : (p : PeerId) (r : Role) → Keeps DatesAside (masterup_in p r)
-unfolding masterup_in
-masterup-keep p Loose = aside-calm (follow_row p) (following p)
-masterup-keep p (Follow q) = by_case (q.0 == p.0) where
-  by_case : (b : Bool) → Keeps DatesAside (if b then (arms_elect followed_by tells_ticket p) else reports_conflict q)
-  by_case true = aside-calm (arms_elect followed_by tells_ticket p) (again p)
-  by_case false = reports-keep q
-masterup-keep p _ = Keeps_nothing DatesAside
-
-masterack-keep : (p : PeerId) (r : Role) → Keeps DatesAside (masterack_in p r)
-unfolding masterack_in
-masterack-keep p Loose = aside-calm _ (found p)
-masterack-keep p (Follow q) = by_case (q.0 == p.0) where
-  by_case : (b : Bool) → Keeps DatesAside (if b then nothing else reports_conflict q)
-  by_case true = Keeps_nothing DatesAside
-  by_case false = reports-keep q
-masterack-keep p _ = Keeps_nothing DatesAside
-
--- messages to a port that is Loose or follows
-pub DatesAside_slave : (p : PeerId) (m : MessageValue) → Keeps DatesAside (slave_takes p m)
-unfolding slave_takes slave_takes_kind
-DatesAside_slave p m = by_kind m.kind where
-  by_kind : (k : Kind) → Keeps DatesAside (slave_takes_kind p m k)
-  by_kind MasterUp = Keeps_reading DatesAside role_at (masterup_in p) (masterup-keep p)
-  by_kind MasterAck = Keeps_reading DatesAside role_at (masterack_in p) (masterack-keep p)
-  by_kind Election = aside-calm _ (election p m.number)
-  by_kind AdjTime = Keeps_reading DatesAside role_at (from_master p (adjtime_of p m.number (time_in m.body))) (λ r. aside (from_master p (adjtime_of p m.number (time_in m.body)) r) (of-master p (adjtime_of p m.number (time_in m.body)) r (adjtime p m.number (time_in m.body))))
-  by_kind SetTime = Keeps_reading DatesAside role_at (from_master p (settime_of p m.number (time_in m.body))) (λ r. aside (from_master p (settime_of p m.number (time_in m.body)) r) (of-master p (settime_of p m.number (time_in m.body)) r (settime p m.number (time_in m.body))))
-  by_kind Quit = aside-calm _ (emits_quits p m.number)
-  by_kind Ack = DatesAside_by _ (Emits_more (Acking ∷ []) refl (acking p m.number))
-  by_kind _ = Keeps_nothing DatesAside
 
 -- a master's own messages
 pub DatesStand_master : (p : PeerId) (m : MessageValue) → Keeps DatesStand (master_takes_here p m)

@@ -26,10 +26,6 @@ or-none : (b : Bool) → (b || false) ≡ b
 or-none true = refl
 or-none false = refl
 
-or-assoc : (a b c : Bool) → ((a || b) || c) ≡ (a || (b || c))
-or-assoc true b c = refl
-or-assoc false b c = refl
-
 -- the earlier of two deadlines has come where either has
 pub over-earlier : (a b : Option ℕ) (x : ℕ) → is_over (earlier a b) x ≡ (is_over a x || is_over b x)
 over-earlier None b x = refl

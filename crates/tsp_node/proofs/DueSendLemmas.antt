@@ -1,6 +1,7 @@
 -- How a port's due sends meet their rows.
-use Rattle.std.specs.Prelude.{◌≡◌, ◌&&◌, ℕ, Bool, true, false, if◌then◌else◌, List, [], ◌∷◌, Option, None, Some, refl}
+use Rattle.std.specs.Prelude.{◌≡◌, ℕ, Bool, true, false, if◌then◌else◌, List, [], ◌∷◌, Option, None, Some, refl}
 use Rattle.std.proofs.Common.{sym, ◌∙◌, ap}
+use Rattle.std.proofs.lemmas.Bool.{and_right}
 use Rattle.tsp_base.specs.declared.act.Act.TheVariants.{Gave as GaveAct, Leave, Post}
 use Rattle.tsp_base.specs.declared.act.Placed.{Placed}
 use Rattle.tsp_base.specs.declared.datagram.Datagram.TheVariants.{Message}
@@ -110,10 +111,6 @@ bare_repeats : (q : PeerId) (s : Sending) (x : ℕ) (past : Past) → open_at q 
 unfolding bare_send repeats_bare_send reading either_by
 bare_repeats q s x past o d g = rw (o, d, g) refl
 
-and-false : (a b : Bool) → b ≡ false → (a && b) ≡ false
-and-false true b e = e
-and-false false b e = refl
-
 posts-beside : (k : Kind) → is_in (sort_of_kind k) beside_sorts ≡ true
 posts-beside AdjTime = refl
 posts-beside SetTime = refl
@@ -204,7 +201,7 @@ Performs_again {x = x} {before = before} {after = after} last q m t e u v f bare
       stands = λ past h.
           let s = again.stands past (record { stands = h.stands.station; still = h.still }) in
           record {
-            stands = record { station = s.stands; last = rw e (Remembers_by (puts (Post (Peer q) (Message m))) put x past before.last h.stands.last); master = master past h.still h.stands.master; resolve = rw u (record { many = h.stands.resolve.many; rivals = h.stands.resolve.rivals; empty = h.stands.resolve.empty }); dates = rw v (DatesStand_post (Peer q) m x past before.dates (and-false (is_set_date_request m.kind) (acting past.seen) h.still) h.stands.dates); clock = rw f (ClockStands_by (puts (Post (Peer q) (Message m))) put x past before.clock h.stands.clock) };
+            stands = record { station = s.stands; last = rw e (Remembers_by (puts (Post (Peer q) (Message m))) put x past before.last h.stands.last); master = master past h.still h.stands.master; resolve = rw u (record { many = h.stands.resolve.many; rivals = h.stands.resolve.rivals; empty = h.stands.resolve.empty }); dates = rw v (DatesStand_post (Peer q) m x past before.dates (and_right (is_set_date_request m.kind) (acting past.seen) h.still) h.stands.dates); clock = rw f (ClockStands_by (puts (Post (Peer q) (Message m))) put x past before.clock h.stands.clock) };
             untaken = h.untaken;
             still = s.still;
           };

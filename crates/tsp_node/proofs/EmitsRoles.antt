@@ -216,10 +216,6 @@ emits_answers p m = by_kind m.kind where
   by_kind Ack = Emits_more (Acking ∷ []) refl (acking p m.number)
   by_kind k = Emits_more calm_sorts refl (emits_candidate p m k (λ e. let bad : ⊥ = cc in bad) (λ e. let bad : ⊥ = cc in bad) (λ e. let bad : ⊥ = cc in bad))
 
--- a candidature that is refused ends
-pub emits_yields : Emits calm_sorts yields
-emits_yields = yielding
-
 -- a life begins with a change of the role
 pub begin_changes : (x : ℕ) (past : Past) → changes ((puts (Become Starting) followed_by arms Quiet QUIET) x past) ≡ true
 unfolding puts arms ◌followed_by◌

@@ -44,7 +44,7 @@ use Rattle.tsp_node.specs.declared.audience.Audience.{Audience}
 use Rattle.tsp_node.specs.declared.audience.Audience.TheVariants.{OfClients, OfNode, OfRoles, OfSends}
 use Rattle.tsp_node.specs.Audiences.{audience_of, heard_from, hears_by}
 use Rattle.tsp_node.specs.NodeStands.{PortStands, PortTook, PortValue}
-use Rattle.tsp_node.proofs.EmitsRoles.{calm_sorts, emits_candidate, emits_yields}
+use Rattle.tsp_node.proofs.EmitsRoles.{calm_sorts, emits_candidate, yielding}
 use Rattle.tsp_node.proofs.NodeLemmas.{Performs_pass}
 
 pub is_stranger : (from : Place) → ((p : PeerId) → from ≡ Peer p → ⊥) → from ≡ Stranger
@@ -225,7 +225,7 @@ unfolding refused_by either_by puts nothing ◌followed_by◌
 refused_keeps p number x past m other h = by_test (has_election p number x past) refl where
   by_test : (b : Bool) → has_election p number x past ≡ b → MasterStands (grown x past (if b then Acked p ∷ yields x (grown x past (Acked p ∷ [])) else [])) m
   by_test true e =
-      MasterStands_idle yields (Emits_more calm_sorts refl emits_yields) x (grown x past (Acked p ∷ [])) m other (MasterStands_unheld p x past m (not-correcting number (open_send p past.seen) e) h)
+      MasterStands_idle yields (Emits_more calm_sorts refl yielding) x (grown x past (Acked p ∷ [])) m other (MasterStands_unheld p x past m (not-correcting number (open_send p past.seen) e) h)
   by_test false e = h
 
 -- what a candidate does leaves a master alone that doesn't lead

@@ -13,7 +13,6 @@ pub mod PartLemmas
 pub mod RingLemmas
 pub mod RivalKeeps
 pub mod RoundLemmas
-pub mod StepLemmas
 pub mod TakeEmits
 pub mod TicketLemmas
 pub mod UpsetLemmas

@@ -3,7 +3,7 @@ use Rattle.std.specs.Prelude.{◌≡◌, ℕ, ◌&&◌, not, Bool, true, false, 
 use Rattle.std.proofs.Common.{append-nil, sym, ◌∙◌, ap}
 use Rattle.std.proofs.lemmas.Bool.{false≢true}
 use Rattle.tsp_base.specs.declared.act.Act.{Act}
-use Rattle.tsp_base.specs.declared.act.Act.TheVariants.{Abandon, Late, Post, Ring, Took}
+use Rattle.tsp_base.specs.declared.act.Act.TheVariants.{Abandon, Post, Took}
 use Rattle.tsp_base.specs.declared.act.Placed.{Placed}
 use Rattle.tsp_base.specs.declared.datagram.Datagram.TheVariants.{Stamp as StampOf}
 use Rattle.tsp_base.specs.declared.datagram.Taken.{Taken}
@@ -12,9 +12,9 @@ use Rattle.tsp_base.specs.declared.place.Port.{Port}
 use Rattle.tsp_base.specs.declared.role.Role.{Role}
 use Rattle.tsp_base.specs.declared.role.Role.TheVariants.{Master as MasterRole}
 use Rattle.tsp_base.specs.declared.stamp.Stamp.TheVariants.{Reply}
-use Rattle.tsp_base.specs.History.{Acts, Begins, Deed, Elsewhere, Here, Past, Seen}
+use Rattle.tsp_base.specs.History.{Past}
 use Rattle.tsp_base.specs.Performs.{Performs, Keeps}
-use Rattle.tsp_base.specs.PortFacts.{Received, acting, acting_after, role, said, taken, taken_after}
+use Rattle.tsp_base.specs.PortFacts.{Received, role, said, taken}
 use Rattle.tsp_base.specs.Rows.{Row, nothing, puts, grown}
 use Rattle.tsp_base.specs.Stamps.{ReplyValue}
 use Rattle.tsp_base.proofs.PerformsLemmas.{Performs_from, Performs_nothing}
@@ -25,6 +25,7 @@ use Rattle.tsp_acks.specs.Stands.{Stands, StandsActing}
 use Rattle.tsp_clients.specs.ClientStands.{NamingStands, TraceStands, TracingStands}
 use Rattle.tsp_clients.proofs.ClientLemmas.{TraceStands_by}
 use Rattle.tsp_acks.proofs.StandsLemmas.{Stands_idle, Stands_stamp}
+use Rattle.tsp_acks.proofs.ActingLemmas.{taken-acts}
 use Rattle.tsp_clock.specs.Clocks.{ClockValue}
 use Rattle.tsp_clock.specs.ClockStands.{ClockStands}
 use Rattle.tsp_slave.specs.Lasts.{LastValue, Remembers}
@@ -179,19 +180,6 @@ Performs_heard {r = r} {row = row} {x = x} {before = before} same keep none mast
       };
 }
 
-acted-deed : (deed : Deed) (took : Option Received) (acts : Bool) (r : Received) → (took ≡ Some r → acts ≡ true) → taken_after deed took ≡ Some r → acting_after deed acts ≡ true
-acted-deed Begins took acts r k e = let bad : ⊥ = cc in absurd bad
-acted-deed (Acts (Took from t)) took acts r k e = refl
-acted-deed (Acts (Ring a)) took acts r k e = refl
-acted-deed (Acts (Late a)) took acts r k e = refl
-acted-deed _ took acts r k e = k e
-
--- a step that has taken something has acted
-acted : (seen : List Seen) (r : Received) → taken seen ≡ Some r → acting seen ≡ true
-acted [] r e = let bad : ⊥ = cc in absurd bad
-acted (Here d ∷ before) r e = acted-deed d.deed (taken before) (acting before) r (λ f. acted before r f) e
-acted (Elsewhere d ∷ before) r e = acted before r e
-
 -- what a master makes of what was taken
 pub Performs_led : {r : Received} {row : Row} {x : ℕ} {port : Port} {before after : PortValue} {old new : List Placed} → after.last ≡ before.last → after.resolve ≡ before.resolve → after.dates ≡ before.dates →
     Emits beside_sorts row → Emits unchanging row → Keeps DatesStand row →
@@ -210,7 +198,7 @@ Performs_led {r = r} {row = row} {x = x} {before = before} e f g k u keep d = re
       };
 } where
   lead : (past : Past) → PortTook r past before → LeadStands past (record { master = before.master; station = before.station; clock = before.clock })
-  lead past h = record { master = h.stands.master; station = h.stands.station; acted = acted past.seen r h.took; clock = h.stands.clock }
+  lead past h = record { master = h.stands.master; station = h.stands.station; acted = taken-acts past.seen r h.took; clock = h.stands.clock }
 
 -- what is done about rivals
 pub Performs_resolved : {row : Row} {x : ℕ} {port : Port} {before after : PortValue} {old new : List Placed} → after.last ≡ before.last → after.master ≡ before.master → after.dates ≡ before.dates → after.clock ≡ before.clock →
@@ -339,9 +327,9 @@ pub Performs_acting_by : {r : Received} {row : Row} {x : ℕ} {port : Port} {bef
     ((past : Past) → PortStands past before → Stands (grown x past (row x past)) after.station → ResolveStands (grown x past (row x past)) after.resolve) →
     Performs StandsActing StandsActing row x port before.station after.station old new → Performs (PortTook r) PortStands row x port before after old new
 Performs_acting_by {r = r} {row = row} {x = x} {before = before} e f g k keep master resolve d = record {
-  acts = λ past h. d.acts past (record { stands = h.stands.station; acted = acted past.seen r h.took });
+  acts = λ past h. d.acts past (record { stands = h.stands.station; acted = taken-acts past.seen r h.took });
   stands = λ past h.
-      let s = (d.stands past (record { stands = h.stands.station; acted = acted past.seen r h.took })).stands in
+      let s = (d.stands past (record { stands = h.stands.station; acted = taken-acts past.seen r h.took })).stands in
       record {
         station = s;
         last = rw e (Remembers_by row k x past before.last h.stands.last);

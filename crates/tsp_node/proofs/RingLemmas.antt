@@ -1,6 +1,6 @@
 -- How the alarms' calls meet their rows.
-use Rattle.std.specs.Prelude.{◌≡◌, ℕ, ◌&&◌, Bool, true, false, List, refl}
-use Rattle.std.proofs.lemmas.Bool.{false≢true}
+use Rattle.std.specs.Prelude.{◌≡◌, ℕ, ◌&&◌, true, List, refl}
+use Rattle.std.proofs.lemmas.Bool.{and_parts}
 use Rattle.tsp_base.specs.declared.act.Act.TheVariants.{Ring, Late}
 use Rattle.tsp_base.specs.declared.alarm.Alarm.TheVariants.{Elect}
 use Rattle.tsp_base.specs.declared.act.Placed.{Placed}
@@ -15,15 +15,6 @@ use Rattle.tsp_rules.specs.Guards.{is_in_time, may_stand_at}
 use Rattle.tsp_acks.specs.declared.station.Station.{Station}
 use Rattle.tsp_acks.specs.Stands.{Stands, StandsActing}
 use Rattle.tsp_slave.specs.SlaveAlarms.{is_to_be_candidate}
-
--- of two tests that hold both, the first and the second
-first_true : (a b : Bool) → (a && b) ≡ true → a ≡ true
-first_true true b h = refl
-first_true false b h = absurd (false≢true h)
-
-second_true : (a b : Bool) → (a && b) ≡ true → b ≡ true
-second_true true b h = h
-second_true false b h = absurd (false≢true h)
 
 -- whether a node stands, as its station has it
 pub to_be_candidate-is : (x : ℕ) (past : Past) (station : Station) → Stands past station →
@@ -40,10 +31,10 @@ pub Performs_stands : {x : ℕ} {port : Port} {before mid after : Station} {old 
     Performs Stands Stands (puts (Ring Elect)) x port before mid old middle → Performs StandsActing StandsActing candidature_row x port mid after middle new → Performs Stands Stands elect_rings x port before after old new
 unfolding elect_rings puts
 Performs_stands {x = x} {port = port} {before = before} {mid = mid} {old = old} {middle = middle} t ring stand =
-    Performs_then_part (is_in_time Elect) (puts (Late Elect) followed_by arms_elect) (λ past s. first_true (is_in_time Elect x past) (may_stand_at x past) (t past s))
+    Performs_then_part (is_in_time Elect) (puts (Late Elect) followed_by arms_elect) (λ past s. (and_parts (is_in_time Elect x past) (may_stand_at x past) (t past s)).0)
     (Performs_then rung (Performs_then_part may_stand_at (loosens followed_by searches) (λ past r. r.may) (Performs_from {p = StandsActing} (λ past r. r.acting) (Performs_to {q = StandsActing} (λ past h. h.stands) stand)))) where
       rung : Performs Stands (Ready x) (puts (Ring Elect)) x port before mid old middle
       rung = record {
         acts = ring.acts;
-        stands = λ past s. record { acting = record { stands = ring.stands past s; acted = refl }; may = second_true (is_in_time Elect x past) (may_stand_at x past) (t past s) };
+        stands = λ past s. record { acting = record { stands = ring.stands past s; acted = refl }; may = (and_parts (is_in_time Elect x past) (may_stand_at x past) (t past s)).1 };
       }

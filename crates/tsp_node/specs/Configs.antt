@@ -2,10 +2,9 @@
 use Rattle.std.specs.Prelude.{◌≡◌, ℕ, ℤ, Bool, true, false, List}
 use Rattle.tsp_base.specs.declared.place.PeerId.{PeerId}
 use Rattle.tsp_base.specs.History.{Past}
-use Rattle.tsp_base.specs.Peers.{is_among}
+use Rattle.tsp_base.specs.Peers.{is_among, IsPeers}
 use Rattle.tsp_rules.specs.NodeRows.{PortSetup}
 use Rattle.tsp_rules.specs.Guards.{is_clock_value}
-use Rattle.tsp_acks.specs.Peers.{IsPeers}
 use Rattle.tsp_node.specs.declared.fault.BootFault.{BootFault}
 use Rattle.tsp_node.specs.declared.fault.BootFault.TheVariants.{Peers, Range, OutOfMemory}
 

@@ -1,6 +1,6 @@
 //! The configuration of a node with one port.
 ghost use Rattle.std.specs.Prelude.{◌≡◌, ◌↔◌, true, IfOk};
-ghost use Rattle.tsp_sends.specs.Slots.{IsAscending};
+ghost use Rattle.tsp_base.specs.Peers.{IsAscending};
 ghost use Rattle.tsp_node.specs.Configs.{IsPort, IsPortSetup};
 
 use std::alloc::{AllocError, Global};

@@ -9,7 +9,7 @@ ghost use Rattle.tsp_base.specs.History.{Past, Booted, Step};
 ghost use Rattle.tsp_base.specs.Performs.{Performs};
 ghost use Rattle.tsp_base.specs.Rows.{grown, puts, arms, ◌followed_by◌};
 ghost use Rattle.tsp_rules.specs.Guards.{is_master};
-ghost use Rattle.tsp_acks.specs.Peers.{IsPeers};
+ghost use Rattle.tsp_base.specs.Peers.{IsPeers};
 ghost use Rattle.tsp_acks.specs.Stands.{IsPortOf};
 ghost use Rattle.tsp_measure.specs.Slaves.{peers_of};
 ghost use Rattle.tsp_date.specs.Dates.{peers_of as dated_of};

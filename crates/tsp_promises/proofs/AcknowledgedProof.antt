@@ -1,6 +1,7 @@
 -- Where the last correction was acknowledged, and where the last taken one was taken.
 use Rattle.std.specs.Prelude.{◌≡◌, ◌==◌, ◌&&◌, cond, Bool, true, false, List, [], ◌∷◌, refl}
 use Rattle.std.proofs.Common.{sym, ap, inl, inr, true≢false, ◌∙◌}
+use Rattle.std.proofs.lemmas.Bool.{and_parts}
 use Rattle.tsp_base.specs.declared.act.Act.TheVariants.{Boot, Post, Become, Acked, Gave}
 use Rattle.tsp_base.specs.declared.datagram.Datagram.TheVariants.{Message}
 use Rattle.tsp_base.specs.declared.place.PeerId.{PeerId}
@@ -9,7 +10,8 @@ use Rattle.tsp_base.specs.History.{Acts, Deed, Did, Seen, Here, Elsewhere}
 use Rattle.tsp_base.specs.Places.{Within}
 use Rattle.tsp_base.specs.PortFacts.{acting}
 use Rattle.tsp_base.specs.SendFacts.{is_correction, is_numbered, open_to, open_to_after, last_to, last_to_after, is_acknowledged, is_acknowledged_after, corrects_by, message_at, message_of}
-use Rattle.tsp_promises.proofs.SendProof.{and-true, numbered, peer-same}
+use Rattle.tsp_promises.proofs.SendProof.{numbered}
+use Rattle.tsp_rules.proofs.GuardFacts.{same_peer}
 
 last-of-post : (peer number correct begins : Bool) (d : Did) (before now last : List Seen) → (correct ≡ true → number ≡ true) → (corrects_by (message_at (Here d ∷ before)) ≡ correct) →
     (corrects_by (message_at now) ≡ true → last ≡ now) → corrects_by (message_at (cond (peer && (number && begins)) (Here d ∷ before) now)) ≡ true →
@@ -65,8 +67,8 @@ acked-deed p d before (Acts (Post (Peer q) (Message m))) is h e = by-test ((q.0 
 acked-deed p d before (Acts (Acked q)) is h e = by-test ((q.0 == p.0) && corrects_by (message_at (open_to p before))) refl e where
   by-test : (b : Bool) → ((q.0 == p.0) && corrects_by (message_at (open_to p before))) ≡ b → cond b true (is_acknowledged p before) ≡ true → AckedAt p (last_to p before) (Here d ∷ before)
   by-test true b e =
-      let one = and-true (q.0 == p.0) (corrects_by (message_at (open_to p before))) b in
-      record { acked = d; rest = before; place = inl refl; deed = sym is ∙ ap (λ r. Acts (Acked r)) (peer-same q p one.0); is = sym (open-last p before one.1) }
+      let one = and_parts (q.0 == p.0) (corrects_by (message_at (open_to p before))) b in
+      record { acked = d; rest = before; place = inl refl; deed = sym is ∙ ap (λ r. Acts (Acked r)) (same_peer q p one.0); is = sym (open-last p before one.1) }
   by-test false b e = acked-before p (last_to p before) (Here d) before (h e)
 acked-deed p d before _ is h e = acked-before p (last_to p before) (Here d) before (h e)
 

@@ -1,6 +1,7 @@
 -- The alarms of a port that is Loose or follows, and Resolve, keep what is known of it.
 use Rattle.std.specs.Prelude.{◌≡◌, ◌≤◌, ℕ, ◌+◌, Bool, true, false, refl}
 use Rattle.std.proofs.Common.{sym, subst, inl, inr, arith, ◌∙◌, true≢false}
+use Rattle.std.proofs.lemmas.Bool.{and_parts}
 use Rattle.tsp_base.specs.declared.act.Act.TheVariants.{Become, Ring, Late}
 use Rattle.tsp_base.specs.declared.alarm.Alarm.{Alarm}
 use Rattle.tsp_base.specs.declared.alarm.Alarm.TheVariants.{Quiet, Search, Elect, Resolve}
@@ -25,7 +26,7 @@ use Rattle.tsp_promises.proofs.Known.{Free, Open, Untaken}
 use Rattle.tsp_promises.proofs.Leaves.{none-some}
 use Rattle.tsp_promises.proofs.Rings.{open_of, rested_of, ring_search, late_search, ring_elect, late_elect, ring_resolve, late_resolve, ring_quiet}
 use Rattle.tsp_promises.proofs.Changes.{become_loose}
-use Rattle.tsp_rules.proofs.GuardFacts.{due_is, stand_is, and-cases}
+use Rattle.tsp_rules.proofs.GuardFacts.{due_is, stand_is}
 use Rattle.tsp_promises.proofs.CommonLeads.{arms_elect_during, searches_during, begins_quit, candidature_leads}
 use Rattle.tsp_promises.proofs.TakenLeads.{master_awake}
 
@@ -119,7 +120,7 @@ elect_leads own wait = rings_lead own wait Elect
     (Leads_then {Q = Free Untaken} (puts (Ring Elect)) (either_by may_stand_at candidature_row (loosens followed_by searches))
     (Leads_puts (Ring Elect) (λ x past h. ring_elect (elect_rested x past h.0) h.0.0))
     (Leads_either may_stand_at candidature_row (loosens followed_by searches)
-    (Leads_from (λ x past h. record { free = h.0; may = stand_is (held past.seen) x past.own (and-cases past.may (may_stand (held past.seen) x past.own) h.1).1 })
+    (Leads_from (λ x past h. record { free = h.0; may = stand_is (held past.seen) x past.own (and_parts past.may (may_stand (held past.seen) x past.own) h.1).1 })
     (Leads_to (λ x past h. open_of h.free) candidature_leads))
     (Leads_from (λ x past h. h.0) (Leads_to to_open (Leads_then loosens searches loosens_leads searches_during)))))
     (Leads_to to_open (Leads_then {Q = Free Untaken} (puts (Late Elect)) arms_elect

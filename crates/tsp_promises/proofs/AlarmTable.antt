@@ -1,6 +1,7 @@
 -- Each alarm keeps a port sound, and what is known of it: one table for both.
 use Rattle.std.specs.Prelude.{◌≡◌, ℕ, ◌&&◌, ◌||◌, not, Bool, true, false, List, [], ◌∷◌, refl}
 use Rattle.std.proofs.Common.{sym, true≢false}
+use Rattle.std.proofs.lemmas.Bool.{and_parts}
 use Rattle.tsp_base.specs.declared.alarm.Alarm.{Alarm}
 use Rattle.tsp_base.specs.declared.alarm.Alarm.TheVariants.{Quiet, Search, Elect, Window, Probe, Close, Resolve, Round}
 use Rattle.tsp_base.specs.declared.alarm.TheConstants.Alarm.{ALL}
@@ -12,7 +13,6 @@ use Rattle.tsp_rules.specs.Answers.{alarm_rings, rings, rings_alone, rings_each,
 use Rattle.tsp_rules.specs.GateRows.{is_probe}
 use Rattle.tsp_rules.specs.Guards.{is_due}
 use Rattle.tsp_rules.proofs.CalmAlarms.{moves_by}
-use Rattle.tsp_rules.proofs.GuardFacts.{and-cases}
 use Rattle.tsp_promises.proofs.Known.{Open}
 use Rattle.tsp_promises.proofs.AlarmLeads.{quiet_leads, search_leads, elect_leads, resolve_leads}
 use Rattle.tsp_promises.proofs.WindowLeads.{window_leads}
@@ -74,14 +74,14 @@ are_probed probed (a ∷ rest) = (not (moves_by a) || probed) && are_probed (is_
 
 -- then what is known before an alarm's turn is what it needs
 pub before_turn : (probed : Bool) (a : Alarm) (rest : List Alarm) → are_probed probed (a ∷ rest) ≡ true → (x : ℕ) (past : Past) → Around probed x past → Around (moves_by a) x past
-before_turn probed a rest e = by_need (moves_by a) probed (and-cases (not (moves_by a) || probed) (are_probed (is_probe a) rest) e).0 where
+before_turn probed a rest e = by_need (moves_by a) probed (and_parts (not (moves_by a) || probed) (are_probed (is_probe a) rest) e).0 where
   by_need : (needs has : Bool) → (not needs || has) ≡ true → (x : ℕ) (past : Past) → Around has x past → Around needs x past
   by_need true true e x past h = h
   by_need true false e x past h = absurd (true≢false (sym e))
   by_need false has e x past h = around_open has x past h
 
 pub after_turn : (probed : Bool) (a : Alarm) (rest : List Alarm) → are_probed probed (a ∷ rest) ≡ true → are_probed (is_probe a) rest ≡ true
-after_turn probed a rest e = (and-cases (not (moves_by a) || probed) (are_probed (is_probe a) rest) e).1
+after_turn probed a rest e = (and_parts (not (moves_by a) || probed) (are_probed (is_probe a) rest) e).1
 
 each-lead : (probed : Bool) (alarms : List Alarm) → are_probed probed alarms ≡ true → Leads (Around probed) (rings_each alarms) Open
 unfolding rings_alone

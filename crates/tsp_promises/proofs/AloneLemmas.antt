@@ -1,6 +1,7 @@
 -- A node with one port and that port alone, row by row.
 use Rattle.std.specs.Prelude.{◌≡◌, ℕ, ◌==◌, nat_lt, ◌&&◌, ◌||◌, not, Bool, true, false, if◌then◌else◌, List, [], ◌∷◌, ◌++◌, length, filter, Option, None, Some, is_some, refl}
-use Rattle.std.proofs.Common.{sym, subst, ap, ◌∙◌, arith, inl, inr, true≢false, append-nil, append_assoc}
+use Rattle.std.proofs.Common.{sym, subst, ap, ◌∙◌, arith, inl, inr, true≢false, append-nil}
+use Rattle.std.proofs.lemmas.Bool.{and_right}
 use Rattle.tsp_base.specs.declared.act.Act.{Act}
 use Rattle.tsp_base.specs.declared.act.Act.TheVariants.{Abandon, Become, Boot, Took}
 use Rattle.tsp_base.specs.declared.act.Placed.{Placed}
@@ -26,7 +27,7 @@ use Rattle.tsp_base.specs.RoundFacts.{is_going}
 use Rattle.tsp_base.specs.Rows.{Row, grown, arms, placed, nothing, puts, ◌followed_by◌, either_by}
 use Rattle.tsp_base.specs.SendFacts.{is_correction, sets_date}
 use Rattle.tsp_base.proofs.LeadsLemmas.{Leads_from, Leads_then}
-use Rattle.tsp_base.proofs.RowLemmas.{grown_append}
+use Rattle.tsp_base.proofs.RowLemmas.{then_assoc}
 use Rattle.tsp_rules.specs.Answers.{answers, due_alarms, input_row, rings, rings_alone, rings_each, alarm_rings, takes, handles, handles_kind, is_left}
 use Rattle.tsp_rules.specs.CommonRows.{boots}
 use Rattle.tsp_rules.specs.GateRows.{NodeGiven, NodeTurn, GotOn, is_probe, alarm_on, each_on, alarms_on, all_ports, answers_all, any_port, begins_round_on, boots_all, boots_on, closes_on, ends_probes, follows_on, goes_on, has_rung, hears_on, heeds_loop, in_charge, input_all, is_last_probe, judge, judges, leads_clock, leads_on, loops_after, lower_ports, other_ports, ports_from, probes_on, steers, stirred_ports, takes_kind, takes_loop, takes_loop_step, takes_message, takes_on, turns_on}
@@ -98,10 +99,6 @@ and-all : (b : Bool) → (b && true) ≡ b
 and-all true = refl
 and-all false = refl
 
-and-none : (b : Bool) → (b && false) ≡ false
-and-none true = refl
-and-none false = refl
-
 -- the port leads the clock where it doesn't follow, and steers it where it does
 leads-alone : (x : ℕ) (past : NodePast) (s : PortSetup) → past.ports ≡ s ∷ [] → leads_clock first_port x past ≡ not (follows_on past first_port)
 leads-alone x past s one =
@@ -132,7 +129,7 @@ same-probe = record {
   run = λ x past s one c.
       let acts = rings true false Probe x (alone past) in
       let after = on_port first_port (spread x past (placed first_port acts)) in
-      let few : ends_probes acts after past.ports ≡ false = ap (λ ps. ends_probes acts after ps) one ∙ ap (λ b. has_rung acts && b) (and-none (is_last_probe after)) ∙ and-none (has_rung acts) in
+      let few : ends_probes acts after past.ports ≡ false = ap (λ ps. ends_probes acts after ps) one ∙ ap (λ b. has_rung acts && b) (and_right (is_last_probe after) false refl) ∙ and_right (has_rung acts) false refl in
       rw few (append-nil (placed first_port acts));
 }
 
@@ -203,7 +200,7 @@ same-ports = record {
 -- a correction isn't passed over: who follows steers the clock
 never-left : (f c : Bool) → (not f && (c && f)) ≡ false
 never-left true c = refl
-never-left false c = and-none c
+never-left false c = and_right c false refl
 
 takes-alone : (from : Place) (m : MessageValue) (steer charge : Bool) (x : ℕ) (past : Past) → steer ≡ is_follow (role past.seen) → charge ≡ true →
     takes steer charge from (Good (Message m)) x past ≡ takes true true from (Good (Message m)) x past
@@ -338,13 +335,6 @@ same-input (GotOn q from t) here =
     let first : first_port ≡ q = ap (λ n. let r : Port = record { 0 = n } in r) (sym zero) in
     subst (λ r. Same Open (takes_on r from t) (upsetting (takes true true from t))) first (same-taken from t)
 
-grouped : (a b c : Row) (x : ℕ) (past : Past) → ((a followed_by b) followed_by c) x past ≡ (a followed_by (b followed_by c)) x past
-unfolding ◌followed_by◌
-grouped a b c x past =
-    let first = a x past in
-    let second = b x (grown x past first) in
-    ap (λ z. (first ++ second) ++ c x z) (grown_append x past first second) ∙ append_assoc first second (c x (grown x (grown x past first) second))
-
 -- a step
 pub same_answers : (g : NodeGiven) → IsGivenOn 1 (NodeAnswers g) → Same Fresh (answers_all g) (answers (given_alone g))
 unfolding answers_all answers
@@ -353,7 +343,7 @@ same_answers g here = record {
       let row = input_row (given_alone g) in
       let parts = (same-then (reading_all all_ports (for_ports turns_on)) (input_all g) (due_sends followed_by due_alarms) row same-ports
       (Leads_then due_sends due_alarms due_sends_lead (Leads_from (λ y z h. open_of h) due_alarms_lead)) (same-input g here)).run x past s one c in
-      parts ∙ ap (λ zs. placed first_port zs) (grouped due_sends due_alarms row x (alone past));
+      parts ∙ ap (λ zs. placed first_port zs) (then_assoc due_sends due_alarms row x (alone past));
 }
 
 boots-on : {C : ℕ → Past → Type 0} → Same C (reading_all all_ports (for_ports boots_on)) (puts (Become Starting) followed_by arms Quiet QUIET)

@@ -1,6 +1,7 @@
 -- What a port does with what it takes, and a whole step, keeps what is known of it.
 use Rattle.std.specs.Prelude.{◌≡◌, ℕ, not, Bool, true, false, List, [], ◌∷◌, refl}
 use Rattle.std.proofs.Common.{sym, subst, inl, inr, ap, true≢false, eq-eqb, ◌∙◌}
+use Rattle.std.proofs.lemmas.Bool.{and_parts, not-true}
 use Rattle.tsp_base.specs.declared.act.Act.TheVariants.{Took}
 use Rattle.tsp_base.specs.declared.datagram.Datagram.TheVariants.{Message, Stamp}
 use Rattle.tsp_base.specs.declared.datagram.Taken.{Taken}
@@ -36,7 +37,7 @@ use Rattle.tsp_promises.proofs.Known.{Open, Fresh, Early, Rests}
 use Rattle.tsp_promises.proofs.Leaves.{none-among}
 use Rattle.tsp_promises.proofs.Rings.{open_of}
 use Rattle.tsp_promises.proofs.Changes.{Is, JustTook, take}
-use Rattle.tsp_rules.proofs.GuardFacts.{and-cases, not-true, awake_is}
+use Rattle.tsp_rules.proofs.GuardFacts.{awake_is}
 use Rattle.tsp_promises.proofs.AlarmTable.{due_alarms_lead}
 use Rattle.tsp_promises.proofs.CorrectionLeads.{due_sends_lead}
 use Rattle.tsp_promises.proofs.TakenLeads.{Heard, HeardIn, Unanswered, rests_of, took_awake, names_master_leads, says_master_leads, traces_leads, tests_leads, replies_lead, quits_lead}
@@ -84,7 +85,7 @@ passes_over k = Leads_from (λ x past h. rests_of (k x past h).free) Leads_nothi
 
 pub hears : (p : PeerId) (t : Taken) (x : ℕ) (past : Past) → Foreign (Peer p) t x past → is_heard p x past ≡ true → Heard p t x past
 hears p t x past h e =
-    let both = and-cases (is_among p past.peers) (not (is_starting_role (role past.seen))) e in
+    let both = and_parts (is_among p past.peers) (not (is_starting_role (role past.seen))) e in
     let awake = awake_is (role past.seen) (not-true (is_starting_role (role past.seen)) both.1) in
     record {
       just = took_awake awake h.just;

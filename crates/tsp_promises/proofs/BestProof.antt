@@ -7,7 +7,7 @@ use Rattle.tsp_base.specs.declared.place.PeerId.{PeerId}
 use Rattle.tsp_base.specs.History.{Deed, Acts, Did, Seen, Here, Elsewhere}
 use Rattle.tsp_base.specs.Places.{Within}
 use Rattle.tsp_base.specs.RoundFacts.{Sampled, best, best_after, better, started, started_after}
-use Rattle.tsp_promises.proofs.SendProof.{peer-same}
+use Rattle.tsp_rules.proofs.GuardFacts.{same_peer}
 
 -- a sample stands at its place, in the last round
 pub record BestAt (p : PeerId) (s : Sampled) (seen : List Seen) : Type 0 where
@@ -41,7 +41,7 @@ best-sample p q d before keep s late is at h true b e = elim (better-is keep lat
     rest = before;
     is = at;
     place = inl refl;
-    deed = sym is ∙ ap (λ r. Acts (Sample r late.counter late.diff late.err late.ticket)) (peer-same q p b);
+    deed = sym is ∙ ap (λ r. Acts (Sample r late.counter late.diff late.err late.ticket)) (same_peer q p b);
     round = sym (ap (λ k. started_after k (Here d ∷ before) (started before)) (sym is));
   })
 ]

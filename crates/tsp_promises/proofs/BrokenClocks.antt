@@ -47,7 +47,7 @@ errs = record {
       omega (arith, ints);
 }
 
-turned : (k : ℕ) → Turned ≡ Came k → ⊥
+pub turned : (k : ℕ) → Turned ≡ Came k → ⊥
 turned k e = cc
 
 unread : Breaks (Measured (still false))

@@ -22,6 +22,7 @@ use Rattle.tsp_promises.specs.Broken.{Breaks, SendsBreak}
 use Rattle.tsp_promises.specs.Thrice.{Thrice}
 use Rattle.tsp_promises.proofs.Histories.{begins, does, line, msg, step_at, still}
 use Rattle.tsp_promises.proofs.StepChecks.{port0, port1}
+use Rattle.tsp_promises.proofs.BrokenClocks.{turned}
 
 abbrev moves : ℕ → ℕ → Line
 moves at k = does at 0 (Came k) (Correct (pos 1) false (pos 0))
@@ -34,9 +35,6 @@ spaced_over_lives = record {
   world = moves 20 0 ∷ (does 15 0 (Booted 5 (pos 15)) Boot ∷ (moves 10 0 ∷ []));
   broken = λ h. (let k : 10 + GAP ≤ 20 = h.0 (moves 10 0) [] (pos 1) (pos 1) false false (pos 0) (pos 0) refl (inr (inl refl)) refl refl in omega arith);
 }
-
-turned : (k : ℕ) → Turned ≡ Came k → ⊥
-turned k e = cc
 
 obeyed : Breaks (OnceObeyed (still false))
 obeyed = record {

@@ -44,6 +44,7 @@ use Rattle.tsp_promises.proofs.SendProof.{BeginsSend, number-same, opened}
 use Rattle.tsp_promises.proofs.SinceProof.{since}
 use Rattle.tsp_promises.specs.Dated.{DateConfirmedAt}
 use Rattle.tsp_promises.proofs.DateAt.{date_at}
+use Rattle.tsp_promises.proofs.ConfirmedProof.{port-is}
 
 -- the date that port q of n passes on to k is still open
 record OpenDate (n k : ℕ) (q : Port) (world : List Line) (f : Did) (fw : List Line) (m : MessageValue) : Type 0 where
@@ -155,10 +156,6 @@ not-held setting n k q r world f p c u fw o cw uo mf mp w few d s i same u_in c_
           let v = times setting k r r c u cw uo world w c_node u_node u_in c_in in
           omega (arith, new.boot, quiet, t.most, t.order, v.least, v.order, s.soon, came, after, fresh)
     ]
-
--- a post of n that reaches k on a network was posted on the port of that network
-port-is : (setting : Setting) (n k : ℕ) (q r : Port) (p : Line) → node_of p ≡ n → setting.net (node_of p) p.port ≡ setting.net k r → setting.net k r ≡ setting.net n q → p.port ≡ q
-port-is setting n k q r p node one two = setting.apart n p.port q (subst (λ z. setting.net z p.port ≡ setting.net n q) node (one ∙ two))
 
 on-port : (q : Port) (p : Line) (o world : List Line) → p.port ≡ q → Within (p ∷ o) world → Within (line_on q p.did ∷ o) world
 on-port q p o world e w = subst (λ z. Within (line_on z p.did ∷ o) world) e w

@@ -130,7 +130,7 @@ confirmed-c setting n k q f u c p3 world fw uo cw o3 mf t2 amount stepped shown 
     }
 
 -- a post of node n that reaches a port which shares its network with port q of n was posted on q
-port-is : (setting : Setting) (n k : ℕ) (q r : Port) (p : Line) → node_of p ≡ n → setting.net (node_of p) p.port ≡ setting.net k r → setting.net k r ≡ setting.net n q → p.port ≡ q
+pub port-is : (setting : Setting) (n k : ℕ) (q r : Port) (p : Line) → node_of p ≡ n → setting.net (node_of p) p.port ≡ setting.net k r → setting.net k r ≡ setting.net n q → p.port ≡ q
 port-is setting n k q r p node one two = setting.apart n p.port q (subst (λ z. setting.net z p.port ≡ setting.net n q) node (one ∙ two))
 
 -- the ACK u answers a post p2 of the open send

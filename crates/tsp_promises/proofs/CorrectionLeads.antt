@@ -1,6 +1,7 @@
 -- When a correction may begin, and what a repeat owes.
 use Rattle.std.specs.Prelude.{◌≡◌, ◌⊎◌, ◌≤◌, ◌<◌, ℕ, ◌+◌, ◌%◌, ◌==◌, ◌&&◌, ◌||◌, nat_lt, nat_le, cond, Bool, true, false, if◌then◌else◌, List, [], ◌∷◌, Option, None, Some, refl}
 use Rattle.std.proofs.Common.{sym, subst, inl, inr, ap, arith, true≢false, eqb-true, leb-false, ltb-false, ◌∙◌}
+use Rattle.std.proofs.lemmas.Bool.{and_parts, or_cases}
 use Rattle.tsp_base.specs.declared.act.Act.TheVariants.{Boot, Post, Become, Acked, Gave, Leave}
 use Rattle.tsp_base.specs.declared.constants.TheConstants.{LAST, REUSE, TRIES}
 use Rattle.tsp_base.specs.declared.datagram.Datagram.TheVariants.{Message}
@@ -19,8 +20,8 @@ use Rattle.tsp_base.specs.Rows.{nothing, puts, ◌followed_by◌, either_by, for
 use Rattle.tsp_base.specs.SendFacts.{is_correction, is_numbered, Sending, open_send, open_to, open_to_after, posts_of, sending_at, message_at, message_of, corrects_by, last_to, last_to_after, last_number, number_of, last_post, is_acknowledged, is_acknowledged_after}
 use Rattle.tsp_base.specs.Setup.{Setup}
 use Rattle.tsp_promises.specs.StepFacts.{is_unbacked}
-use Rattle.tsp_base.proofs.LeadsLemmas.{Leads_then, Leads_either, Leads_reading, Leads_nothing, Leads_puts, Leads_each, Leads_from, Leads_to}
-use Rattle.tsp_rules.specs.SendRows.{may_correct, open_at, leaves_after, gives_up, repeats, repeats_send, due_send, repeats_bare_send, bare_send, peers_at, due_sends, is_send_due, is_spent}
+use Rattle.tsp_base.proofs.LeadsLemmas.{Leads_then, Leads_either, Leads_reading, Leads_nothing, Leads_puts, Leads_each, Leads_from}
+use Rattle.tsp_rules.specs.SendRows.{may_correct, open_at, leaves_after, gives_up, repeats, repeats_send, due_send, peers_at, due_sends, is_send_due, is_spent}
 use Rattle.tsp_rules.specs.Guards.{is_slave_at}
 use Rattle.tsp_promises.specs.PortFits.{PortFits, setup_in}
 use Rattle.tsp_promises.proofs.Known.{During, Fresh, Untaken}
@@ -29,7 +30,7 @@ use Rattle.tsp_rules.proofs.Asides.{now}
 use Rattle.tsp_promises.proofs.PostLeaves.{post_again}
 use Rattle.tsp_promises.proofs.Rings.{wake, forget}
 use Rattle.tsp_promises.proofs.SendFits.{OpenIs, open_is}
-use Rattle.tsp_rules.proofs.GuardFacts.{and-cases, or-cases, past_is, same_peer}
+use Rattle.tsp_rules.proofs.GuardFacts.{past_is, same_peer}
 
 -- the place where the last correction to p begins
 pub record LastIs (p : PeerId) (seen : List Seen) : Type 0 where
@@ -45,7 +46,7 @@ last-more p seen more e l = record { last = l.last; older = l.older; is = e ∙ 
 last-post : (p q : PeerId) (m : MessageValue) (d : Did) (before : List Seen) → Acts (Post (Peer q) (Message m)) ≡ d.deed → LastIs p before → (b : Bool) → ((q.0 == p.0) && (is_correction m.kind && acting before)) ≡ b →
     last_to p (Here d ∷ before) ≡ cond b (Here d ∷ before) (last_to p before) → LastIs p (Here d ∷ before)
 last-post p q m d before is l true test e =
-    let one = and-cases (q.0 == p.0) (is_correction m.kind && acting before) test in
+    let one = and_parts (q.0 == p.0) (is_correction m.kind && acting before) test in
     let same : q ≡ p = same_peer q p one.0 in
     record { last = d; older = before; is = e; message = m; deed = subst (λ t. d.deed ≡ Acts (Post (Peer t) (Message m))) same (sym is) }
 last-post p q m d before is l false test e = last-more p before (Here d ∷ before) e l
@@ -59,15 +60,15 @@ here-or-last : (p q : PeerId) (m : MessageValue) (d : Did) (before : List Seen) 
     (a : Bool) → ((q.0 == p.0) && (is_numbered m.kind && acting before)) ≡ a → corrects_by (message_at (cond a (Here d ∷ before) (open_to p before))) ≡ true →
     (b : Bool) → ((q.0 == p.0) && (is_correction m.kind && acting before)) ≡ b → last_to p (Here d ∷ before) ≡ cond b (Here d ∷ before) (last_to p before) → LastIs p (Here d ∷ before)
 here-or-last p q m d before is k true one e true two place =
-    let first = and-cases (q.0 == p.0) (is_correction m.kind && acting before) two in
+    let first = and_parts (q.0 == p.0) (is_correction m.kind && acting before) two in
     record { last = d; older = before; is = place; message = m; deed = subst (λ t. d.deed ≡ Acts (Post (Peer t) (Message m))) (same_peer q p first.0) (sym is) }
 here-or-last p q m d before is k true one e false two place =
-    let first = and-cases (q.0 == p.0) (is_numbered m.kind && acting before) one in
-    let second = and-cases (is_numbered m.kind) (acting before) first.1 in
+    let first = and_parts (q.0 == p.0) (is_numbered m.kind && acting before) one in
+    let second = and_parts (is_numbered m.kind) (acting before) first.1 in
     let corrects : is_correction m.kind ≡ true = subst (λ t. corrects_by (message_of t) ≡ true) (sym is) e in
     absurd (true≢false (sym (subst (λ b. (b && (is_correction m.kind && acting before)) ≡ true) (sym first.0) (subst (λ b. (b && acting before) ≡ true) (sym corrects) second.1)) ∙ two))
 here-or-last p q m d before is k false one e true two place =
-    let first = and-cases (q.0 == p.0) (is_correction m.kind && acting before) two in
+    let first = and_parts (q.0 == p.0) (is_correction m.kind && acting before) two in
     record { last = d; older = before; is = place; message = m; deed = subst (λ t. d.deed ≡ Acts (Post (Peer t) (Message m))) (same_peer q p first.0) (sym is) }
 here-or-last p q m d before is k false one e false two place = last-more p before (Here d ∷ before) place (k e)
 
@@ -89,7 +90,7 @@ open-last p (Here d ∷ before) e = open-last-deed p d before (open-last p befor
 acked-last : (p q : PeerId) (d : Did) (before : List Seen) → (is_acknowledged p before ≡ true → LastIs p before) → last_to p (Here d ∷ before) ≡ last_to p before → (b : Bool) → ((q.0 == p.0) && corrects_by (message_at (open_to p before))) ≡ b →
     cond b true (is_acknowledged p before) ≡ true → LastIs p (Here d ∷ before)
 acked-last p q d before k t true test e =
-    let one = and-cases (q.0 == p.0) (corrects_by (message_at (open_to p before))) test in
+    let one = and_parts (q.0 == p.0) (corrects_by (message_at (open_to p before))) test in
     last-more p before (Here d ∷ before) t (open-last p before one.1)
 acked-last p q d before k t false test e = last-more p before (Here d ∷ before) t (k e)
 
@@ -113,10 +114,10 @@ acknowledged_last p (Here d ∷ before) e = acknowledged-deed p d before (acknow
 
 -- a correction that may begin rests or follows the last one
 pub may_fits : (p : PeerId) (number x : ℕ) (past : Past) (d : Did) (m : MessageValue) → d.tick ≡ x → m.number ≡ number → may_correct p number x past ≡ true → Rests d past.seen p ⊎ Follows past.seen p m
-may_fits p number x past d m tick_is number_is e = elim (or-cases (is_past (last_post p past.seen) REUSE x) (is_acknowledged p past.seen && (number == (last_number p past.seen + 1) % 32768)) e) [
+may_fits p number x past d m tick_is number_is e = elim (or_cases (is_past (last_post p past.seen) REUSE x) (is_acknowledged p past.seen && (number == (last_number p past.seen + 1) % 32768)) e) [
   | inl rests ↦ inl (record { long = λ t is. subst (λ y. t + REUSE ≤ y) (sym tick_is) (past_is (last_post p past.seen) REUSE x rests t is) })
   | inr follows ↦
-      let both = and-cases (is_acknowledged p past.seen) (number == (last_number p past.seen + 1) % 32768) follows in
+      let both = and_parts (is_acknowledged p past.seen) (number == (last_number p past.seen + 1) % 32768) follows in
       let l = acknowledged_last p past.seen both.0 in
       let n : last_number p past.seen ≡ l.message.number = ap (λ place. number_of (message_at place)) l.is ∙ ap (λ t. number_of (message_of t)) l.deed in
       inr (record {
@@ -212,22 +213,10 @@ repeats_send_leads p (Some s) = Leads_either (is_send_due s) (either_by (is_spen
     (repeats_lead p s))
     (Leads_from (λ x past h. h.0.0) Leads_nothing)
 
-repeats_bare_leads : (p : PeerId) (o : Option Sending) → Leads (λ x past. Fresh x past × (open_at p x past ≡ o)) (repeats_bare_send p o) Fresh
-unfolding repeats_bare_send
-repeats_bare_leads p None = Leads_from (λ x past h. h.0) Leads_nothing
-repeats_bare_leads p (Some s) = Leads_either (is_send_due s) (either_by (is_spent s) (puts (Gave p)) (repeats p s.message)) nothing
-    (Leads_either (is_spent s) (puts (Gave p)) (repeats p s.message) (Leads_to (λ x past h. forget h) (gives_up_leads p s)) (repeats_lead p s))
-    (Leads_from (λ x past h. h.0.0) Leads_nothing)
-
 -- an open send that is due keeps what is known of a port
 pub due_send_leads : (p : PeerId) → Leads Fresh (due_send p) Fresh
 unfolding due_send
 due_send_leads p = Leads_reading (open_at p) (repeats_send p) (repeats_send_leads p)
-
--- so it does without a slave table
-pub bare_send_leads : (p : PeerId) → Leads Fresh (bare_send p) Fresh
-unfolding bare_send
-bare_send_leads p = Leads_reading (open_at p) (repeats_bare_send p) (repeats_bare_leads p)
 
 -- and so do all sends
 pub due_sends_lead : Leads Fresh due_sends Fresh

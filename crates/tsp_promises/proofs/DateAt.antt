@@ -1,6 +1,7 @@
 -- Where the last date of a peer was set.
 use Rattle.std.specs.Prelude.{◌≡◌, ◌==◌, ◌||◌, ◌&&◌, cond, Bool, true, false, ℤ, List, [], ◌∷◌, Option, None, Some, refl}
 use Rattle.std.proofs.Common.{sym, ap, subst, inl, inr}
+use Rattle.std.proofs.lemmas.Bool.{and_parts}
 use Rattle.tsp_base.specs.declared.act.Act.TheVariants.{Boot, Correct}
 use Rattle.tsp_base.specs.declared.datagram.Datagram.TheVariants.{Message}
 use Rattle.tsp_base.specs.declared.place.PeerId.{PeerId}
@@ -15,7 +16,7 @@ use Rattle.tsp_base.proofs.ViewPlaces.{port-same, or-false}
 use Rattle.tsp_promises.proofs.KnownProof.{line-is}
 use Rattle.tsp_promises.proofs.LastTakenProof.{said_took}
 use Rattle.tsp_promises.proofs.Locating.{line_on}
-use Rattle.tsp_promises.proofs.SendProof.{and-true, peer-same}
+use Rattle.tsp_rules.proofs.GuardFacts.{same_peer}
 
 -- the Correct by which the last date of p was set on port q
 pub record DateAt (q : Port) (p : PeerId) (t : List Line) (d : Dating) : Type 0 where
@@ -45,7 +46,7 @@ date-said q p l t d amount stepped shown port deed (Some s) is more e = by-test 
   by-test : (b : Bool) → ((s.from.0 == p.0) && is_date_request s.message.kind) ≡ b → cond {A = Option Dating} b (Some (record { at = l.did.tick; number = s.message.number })) (last_date p (view q t)) ≡ Some d → DateAt q p (l ∷ t) d
   by-test false b e = later q p l t d (more e)
   by-test true b e =
-      let one = and-true (s.from.0 == p.0) (is_date_request s.message.kind) b in
+      let one = and_parts (s.from.0 == p.0) (is_date_request s.message.kind) b in
       let date = same-date (record { at = l.did.tick; number = s.message.number }) d e in
       record {
         correct = l.did;
@@ -56,7 +57,7 @@ date-said q p l t d amount stepped shown port deed (Some s) is more e = by-test 
         shown = shown;
         deed = deed;
         message = s.message;
-        took = subst (λ z. Receives (view q t) z (Message s.message)) (peer-same s.from p one.0) (said_took (taken (view q t)) s is);
+        took = subst (λ z. Receives (view q t) z (Message s.message)) (same_peer s.from p one.0) (said_took (taken (view q t)) s is);
         kind = one.1;
         number = ap (λ (k : Dating). k.number) date;
         at = ap (λ (k : Dating). k.at) date;

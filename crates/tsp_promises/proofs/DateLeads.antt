@@ -1,6 +1,7 @@
 -- The rows of the network's date keep what is known of a port.
 use Rattle.std.specs.Prelude.{◌≡◌, ◌⊎◌, ◌≤◌, ◌<◌, ℕ, ◌+◌, ◌==◌, ◌&&◌, nat_lt, ℤ, ◌-ℤ◌, Bool, true, false, if◌then◌else◌, List, [], ◌∷◌, Option, None, Some, refl}
 use Rattle.std.proofs.Common.{sym, subst, inl, inr, ap, arith, true≢false, eqb-true, eq-eqb, ltb-false, ltb-true, ◌∙◌}
+use Rattle.std.proofs.lemmas.Bool.{and_parts}
 use Rattle.tsp_base.specs.declared.act.Act.TheVariants.{Post, Acked, Leave, Correct}
 use Rattle.tsp_base.specs.declared.constants.TheConstants.{DATEHOLD, GAP, REUSE}
 use Rattle.tsp_base.specs.declared.datagram.Datagram.TheVariants.{Message}
@@ -39,7 +40,7 @@ use Rattle.tsp_rules.proofs.Asides.{now}
 use Rattle.tsp_promises.proofs.PostLeaves.{post_message, post_back}
 use Rattle.tsp_promises.proofs.Changes.{Is, JustTook}
 use Rattle.tsp_promises.proofs.LeadsLeaves.{Leads_posts, Leads_posts_back, Leads_posts_time, Leads_others}
-use Rattle.tsp_rules.proofs.GuardFacts.{and-cases, past_is}
+use Rattle.tsp_rules.proofs.GuardFacts.{past_is}
 use Rattle.tsp_promises.proofs.CommonLeads.{own_number}
 use Rattle.tsp_promises.proofs.Printed.{date_sets, flag_of, sets_prints}
 use Rattle.tsp_promises.proofs.StrangerFacts.{own_named}
@@ -92,7 +93,7 @@ module _ {from : Place} {m : MessageValue} where
   unfolding passes_on begins_timed
   passes_on_leads q time client = Leads_either (may_pass_on q) (posts_back from Ack m.number followed_by begins_timed SetDateReq q time) nothing
       (Leads_then {Q = Passing from m} (posts_back from Ack m.number) (begins_timed SetDateReq q time)
-      (Leads_posts_back from Ack m.number (λ x past h. answered x past client h.0.none (record { free = h.0.was; seldom = (and-cases (is_past (last_asked past.seen) REUSE x) (is_free q x past) h.1).0 })))
+      (Leads_posts_back from Ack m.number (λ x past h. answered x past client h.0.none (record { free = h.0.was; seldom = (and_parts (is_past (last_asked past.seen) REUSE x) (is_free q x past) h.1).0 })))
       (Leads_reading next_number (λ n. posts_time q SetDateReq n time) (λ n. Leads_posts_time q SetDateReq n time (λ x past h.
       let d = timed SetDateReq n time past.name in
       let here = now x past (Post (Peer q) (Message d)) in
@@ -191,7 +192,7 @@ module _ {from : Place} {m : MessageValue} where
   new_date_upsets who = record {
     run = λ x past h.
         let time = time_in m.body in
-        let gap = and-cases (is_past (correct_tick (plain past.seen)) GAP x) (is_clock_value time && all_settled x past) h.1 in
+        let gap = and_parts (is_past (correct_tick (plain past.seen)) GAP x) (is_clock_value time && all_settled x past) h.1 in
         inr (h.0.date, refl, (rest_of_date.run x (grown x past (Correct (time -ℤ target (plain past.seen) x) true time ∷ [])) (corrected x past who gap.0 h.0)));
   }
 
@@ -234,7 +235,7 @@ record LastDate (number x : ℕ) (o : Option Dating) : Type 0 where
 is_last-is : (number x : ℕ) (o : Option Dating) → is_last number x o ≡ true → LastDate number x o
 is_last-is number x None e = absurd (true≢false (sym e))
 is_last-is number x (Some d) e =
-    let both = and-cases (d.number == number) (nat_lt x (d.at + DATEHOLD)) e in
+    let both = and_parts (d.number == number) (nat_lt x (d.at + DATEHOLD)) e in
     record { last = d; is = refl; same = eqb-true d.number number both.0; fresh = ltb-true x (d.at + DATEHOLD) both.1 }
 
 module _ {p : PeerId} {m : MessageValue} where
@@ -279,7 +280,7 @@ module _ {p : PeerId} {m : MessageValue} where
   date_ended x past k took e first older sent is deed =
       let known = open_known p past.seen first older sent is deed in
       let at : answers_date m.number (Some (record { began = first.tick; posts = posts_of p past.seen; message = sent })) ≡ true = subst (λ o. answers_date m.number o ≡ true) known e in
-      let both = and-cases (is_set_date_request sent.kind) (sent.number == m.number) at in
+      let both = and_parts (is_set_date_request sent.kind) (sent.number == m.number) at in
       record {
         correction = λ c. absurd (no_correction sent.kind both.0 c);
         date = λ d. record { message = m; took = took; kind = k; number_is = sym (eqb-true sent.number m.number both.1) };

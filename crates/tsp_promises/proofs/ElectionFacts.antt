@@ -1,6 +1,7 @@
 -- What a port has seen of its candidatures: when they began, who backed them, and which sends asked for votes.
 use Rattle.std.specs.Prelude.{◌≡◌, ◌⊎◌, ◌≤◌, ℕ, ◌+◌, ◌==◌, ◌&&◌, ◌||◌, cond, Bool, true, false, List, [], ◌∷◌, Option, None, Some, refl}
 use Rattle.std.proofs.Common.{sym, ap, arith, subst, subst₂, inl, inr, eqb-true, true≢false, ◌∙◌}
+use Rattle.std.proofs.lemmas.Bool.{or_parts}
 use Rattle.tsp_base.specs.declared.act.Act.TheVariants.{Boot, Post, Become, Back, Backer, Acked, Gave}
 use Rattle.tsp_base.specs.declared.datagram.Datagram.TheVariants.{Message}
 use Rattle.tsp_base.specs.declared.kind.Kind.TheVariants.{Election}
@@ -22,7 +23,8 @@ use Rattle.tsp_promises.specs.HoldFits.{BackerFits}
 use Rattle.tsp_base.specs.Setup.{Setup}
 use Rattle.tsp_promises.proofs.Elections.{In, in_among, not_among, ElectFits, Elects}
 use Rattle.tsp_promises.proofs.Pigeons.{Distinct, AllIn}
-use Rattle.tsp_promises.proofs.SendProof.{not-nil, if-nil}
+use Rattle.tsp_promises.proofs.SendProof.{if-nil}
+use Rattle.tsp_promises.proofs.Leaves.{nil-cons}
 
 abbrev pub boots_after : Deed → ℕ → ℕ
 boots_after (Acts Boot) n = n + 1
@@ -42,16 +44,12 @@ not-boot : (deed : Deed) (n : ℕ) → is_shared deed ≡ false → lives_after 
 not-boot (Acts Boot) n e = absurd (true≢false e)
 not-boot _ n e = refl
 
-or-right : (a b : Bool) → (a || b) ≡ false → b ≡ false
-or-right true b e = absurd (true≢false e)
-or-right false b e = e
-
 pub boots_view : (q : Port) (own : List Line) → boots (view q own) ≡ lives (dids own)
 boots_view q [] = refl
 boots_view q (l ∷ own) = by-case ((l.port.0 == q.0) || is_shared l.did.deed) refl (boots_view q own) where
   by-case : (b : Bool) → ((l.port.0 == q.0) || is_shared l.did.deed) ≡ b → boots (view q own) ≡ lives (dids own) → boots (seen_as b l.did ∷ view q own) ≡ lives_after l.did.deed (lives (dids own))
   by-case true e h = same-boots l.did.deed (boots (view q own)) ∙ ap (lives_after l.did.deed) h
-  by-case false e h = h ∙ sym (not-boot l.did.deed (lives (dids own)) (or-right (l.port.0 == q.0) (is_shared l.did.deed) e))
+  by-case false e h = h ∙ sym (not-boot l.did.deed (lives (dids own)) ((or_parts (l.port.0 == q.0) (is_shared l.did.deed) e).1))
 
 boots-deed : (deed : Deed) (n : ℕ) → n ≤ boots_after deed n
 boots-deed (Acts Boot) n = omega arith
@@ -67,7 +65,7 @@ boots_mono s (Elsewhere d ∷ t) (inr w) = boots_mono s t w
 -- the last change of the role
 stood-deed : (d : Did) (before : List Seen) (s : Seen) (i : List Seen) (deed : Deed) → deed ≡ d.deed → stood_after deed (Here d ∷ before) (stood before) ≡ s ∷ i →
     ((Here d ∷ before ≡ s ∷ i) × (is_shared d.deed ≡ false)) ⊎ ((stood before ≡ s ∷ i) × (boots_after deed (boots before) ≡ boots before))
-stood-deed d before s i (Acts Boot) is e = not-nil s i e
+stood-deed d before s i (Acts Boot) is e = nil-cons s i e
 stood-deed d before s i (Acts (Become r)) is e = inl (e, ap is_shared (sym is))
 stood-deed d before s i _ is e = inr (e, refl)
 
@@ -78,7 +76,7 @@ pub record StoodAt (s : Seen) (i seen : List Seen) : Type 0 where
   pub own : is_shared (did_of s).deed ≡ false
 
 pub stood_at : (seen : List Seen) (s : Seen) (i : List Seen) → stood seen ≡ s ∷ i → StoodAt s i seen
-stood_at [] s i e = not-nil s i e
+stood_at [] s i e = nil-cons s i e
 stood_at (Elsewhere d ∷ before) s i e = let o = stood_at before s i e in record { place = inr o.place; life = o.life; own = o.own }
 stood_at (Here d ∷ before) s i e = elim (stood-deed d before s i d.deed refl e) [
   | inl h ↦ record { place = inl (sym h.0); life = ap boots (sym h.0); own = (let k = h.0 in let head : Here d ≡ s = cc in subst (λ z. is_shared (did_of z).deed ≡ false) head h.1) }
@@ -101,8 +99,8 @@ open-post f d o before keep true e same role h =
 open-post f d o before keep false e same role h = kept-open f d o before same role (h e)
 
 open-deed : (p : PeerId) (f d : Did) (o before : List Seen) (deed : Deed) → deed ≡ d.deed → open_to_after p deed (acting before) (Here d ∷ before) (open_to p before) ≡ Here f ∷ o → (open_to p before ≡ Here f ∷ o → OpenAt f o before) → OpenAt f o (Here d ∷ before)
-open-deed p f d o before (Acts Boot) is e h = not-nil (Here f) o e
-open-deed p f d o before (Acts (Become r)) is e h = not-nil (Here f) o e
+open-deed p f d o before (Acts Boot) is e h = nil-cons (Here f) o e
+open-deed p f d o before (Acts (Become r)) is e h = nil-cons (Here f) o e
 open-deed p f d o before (Acts (Post (Peer q) (Message m))) is e h =
     open-post f d o before (open_to p before) ((q.0 == p.0) && (is_numbered m.kind && acting before)) e (ap (λ k. boots_after k (boots before)) (sym is)) (ap (λ k. stood_after k (Here d ∷ before) (stood before)) (sym is)) h
 open-deed p f d o before (Acts (Acked q)) is e h = kept-open f d o before (ap (λ k. boots_after k (boots before)) (sym is)) (ap (λ k. stood_after k (Here d ∷ before) (stood before)) (sym is)) (h (if-nil (q.0 == p.0) (open_to p before) (Here f) o e))
@@ -110,7 +108,7 @@ open-deed p f d o before (Acts (Gave q)) is e h = kept-open f d o before (ap (λ
 open-deed p f d o before _ is e h = kept-open f d o before (ap (λ k. boots_after k (boots before)) (sym is)) (ap (λ k. stood_after k (Here d ∷ before) (stood before)) (sym is)) (h e)
 
 pub open_at : (p : PeerId) (seen : List Seen) (f : Did) (o : List Seen) → open_to p seen ≡ Here f ∷ o → OpenAt f o seen
-open_at p [] f o e = not-nil (Here f) o e
+open_at p [] f o e = nil-cons (Here f) o e
 open_at p (Elsewhere d ∷ before) f o e = let h = open_at p before f o e in record { place = inr h.place; life = h.life; after = h.after }
 open_at p (Here d ∷ before) f o e = open-deed p f d o before d.deed refl e (λ k. open_at p before f o k)
 

@@ -1,5 +1,5 @@
 -- What elections add to what a deed owes, taken out of that.
-use Rattle.std.specs.Prelude.{◌≡◌, ◌⊎◌, ℕ, ◌+◌, ◌%◌, ◌==◌, ◌||◌, Bool, true, false, List, [], ◌∷◌, refl}
+use Rattle.std.specs.Prelude.{◌≡◌, ◌⊎◌, ℕ, ◌+◌, ◌%◌, ◌==◌, true, false, List, [], ◌∷◌, refl}
 use Rattle.std.proofs.Common.{sym, inl, inr, true≢false, eq-eqb, ◌∙◌}
 use Rattle.tsp_base.specs.declared.act.Act.TheVariants.{Post, Become, Backer}
 use Rattle.tsp_base.specs.declared.datagram.Datagram.TheVariants.{Message}
@@ -22,21 +22,18 @@ use Rattle.tsp_promises.specs.Setting.{Setting, setup_of}
 use Rattle.tsp_base.specs.Setup.{Setup}
 use Rattle.tsp_promises.proofs.PortFits.{deed_fits}
 use Rattle.std.proofs.Math.Bool.{or-true}
-use Rattle.tsp_promises.proofs.SendProof.{peer-same}
+use Rattle.std.proofs.lemmas.Bool.{or_cases}
+use Rattle.tsp_rules.proofs.GuardFacts.{same_peer}
 
 -- p is one of these
 abbrev pub In : PeerId → List PeerId → Type 0
 In p [] = ⊥
 In p (q ∷ rest) = (q ≡ p) ⊎ In p rest
 
-or-cases : (a b : Bool) → (a || b) ≡ true → (a ≡ true) ⊎ (b ≡ true)
-or-cases true b e = inl refl
-or-cases false b e = inr e
-
 pub in_among : (p : PeerId) (ps : List PeerId) → is_among p ps ≡ true → In p ps
 in_among p [] e = absurd (true≢false (sym e))
-in_among p (q ∷ rest) e = elim (or-cases (q.0 == p.0) (is_among p rest) e) [
-  | inl h ↦ inl (peer-same q p h)
+in_among p (q ∷ rest) e = elim (or_cases (q.0 == p.0) (is_among p rest) e) [
+  | inl h ↦ inl (same_peer q p h)
   | inr h ↦ inr (in_among p rest h)
 ]
 

@@ -1,6 +1,7 @@
 -- What is known of a port while another port of its node acts.
-use Rattle.std.specs.Prelude.{◌≡◌, ℕ, ◌||◌, Bool, true, false, List, [], ◌∷◌, Option, None, refl}
+use Rattle.std.specs.Prelude.{◌≡◌, ℕ, Bool, true, false, List, [], ◌∷◌, Option, None, refl}
 use Rattle.std.proofs.Common.{sym, subst, arith, true≢false}
+use Rattle.std.proofs.lemmas.Bool.{or_parts, and_parts}
 use Rattle.tsp_base.specs.declared.act.Act.{Act}
 use Rattle.tsp_base.specs.declared.act.Act.TheVariants.{Boot, Took, Post, Correct, Abandon}
 use Rattle.tsp_base.specs.declared.place.Place.TheVariants.{Stranger}
@@ -14,7 +15,6 @@ use Rattle.tsp_promises.proofs.Known.{KnowsOf, FreshIn, OpenIn, RestsIn}
 use Rattle.tsp_promises.proofs.Leaves.{stir, abandon}
 use Rattle.tsp_rules.proofs.FewActs.{is_calm_act, is_calm}
 use Rattle.tsp_promises.proofs.Stirring.{calmed, abandoned}
-use Rattle.tsp_rules.proofs.GuardFacts.{and-cases}
 
 -- whether an act elsewhere leaves all alone that is known of a port: it is no boot, and no correction
 abbrev pub is_apart : Act → Bool
@@ -26,12 +26,6 @@ is_apart _ = true
 abbrev pub is_still : Act → Bool
 is_still (Took from t) = false
 is_still a = is_apart a
-
--- what is known
-knows-aside : {stirred : Bool} (x : ℕ) (past : Past) (a : Act) → is_apart a ≡ true → KnowsOf stirred x past.own past.seen → KnowsOf stirred x past.own (aside x past a).seen
-knows-aside x past Boot e k = absurd (true≢false (sym e))
-knows-aside x past (Correct amount stepped shown) e k = absurd (true≢false (sym e))
-knows-aside x past _ e k = k
 
 -- a port that may be stirred
 pub stirring : (x : ℕ) (past : Past) → {stirred : Bool} → KnowsOf stirred x past.own past.seen → KnowsOf true x past.own past.seen
@@ -143,7 +137,7 @@ calm-apart strange moving (Took from t) e n = e
 calm-apart strange moving (Correct amount stepped shown) e n = absurd (true≢false n)
 calm-apart strange moving _ e n = refl
 
-calm-correct : (strange : Bool) (a : Act) → is_calm_act strange false a ≡ true → is_correct a ≡ false
+pub calm-correct : (strange : Bool) (a : Act) → is_calm_act strange false a ≡ true → is_correct a ≡ false
 calm-correct strange (Correct amount stepped shown) e = absurd (true≢false (sym e))
 calm-correct strange _ e = refl
 
@@ -152,7 +146,7 @@ calm-boot strange moving a e is = true≢false (sym (subst (λ b. is_calm_act st
 
 pub calm_bootless : (strange moving : Bool) (acts : List Act) → is_calm strange moving acts ≡ true → Bootless acts
 calm_bootless strange moving [] e = tt
-calm_bootless strange moving (a ∷ rest) e = let both = and-cases (is_calm_act strange moving a) (is_calm strange moving rest) e in (λ is. calm-boot strange moving a both.0 is, calm_bootless strange moving rest both.1)
+calm_bootless strange moving (a ∷ rest) e = let both = and_parts (is_calm_act strange moving a) (is_calm strange moving rest) e in (λ is. calm-boot strange moving a both.0 is, calm_bootless strange moving rest both.1)
 
 -- calm acts without a correction are calm where the clock may not be moved
 still-calm : (strange : Bool) (a : Act) → is_calm_act strange true a ≡ true → is_correct a ≡ false → is_calm_act strange false a ≡ true
@@ -162,15 +156,11 @@ still-calm strange (Took from t) e n = e
 still-calm strange (Post Stranger datagram) e n = e
 still-calm strange _ e n = refl
 
-or-false : (a b : Bool) → (a || b) ≡ false → (a ≡ false) × (b ≡ false)
-or-false true b e = absurd (true≢false e)
-or-false false b e = (refl, e)
-
 pub calm_still : (strange : Bool) (acts : List Act) → is_calm strange true acts ≡ true → corrects acts ≡ false → is_calm strange false acts ≡ true
 calm_still strange [] e n = refl
 calm_still strange (a ∷ rest) e n =
-    let both = and-cases (is_calm_act strange true a) (is_calm strange true rest) e in
-    let none = or-false (is_correct a) (corrects rest) n in
+    let both = and_parts (is_calm_act strange true a) (is_calm strange true rest) e in
+    let none = or_parts (is_correct a) (corrects rest) n in
     let here = still-calm strange a both.0 none.0 in
     rw here (calm_still strange rest both.1 none.1)
 
@@ -179,7 +169,7 @@ module _ {S : Bool → ℕ → Past → Type 0} (family : Family S) where
   pub kept_aside : (strange : Bool) {stirred : Bool} (x : ℕ) (past : Past) (acts : List Act) → is_calm strange false acts ≡ true → S stirred x past → S stirred x (all_aside x past acts)
   kept_aside strange x past [] e h = h
   kept_aside strange x past (a ∷ rest) e h =
-      let both = and-cases (is_calm_act strange false a) (is_calm strange false rest) e in
+      let both = and_parts (is_calm_act strange false a) (is_calm strange false rest) e in
       kept_aside strange x (aside x past a) rest both.1 (family.still x past a (calm-apart strange false a both.0 (calm-correct strange a both.0)) h)
 
   step-moved : (strange : Bool) (x : ℕ) (past : Past) (a : Act) → is_calm_act strange true a ≡ true → (b : Bool) → is_correct a ≡ b → S true x past → S true x (aside x past a)
@@ -190,5 +180,5 @@ module _ {S : Bool → ℕ → Past → Type 0} (family : Family S) where
   pub moved_aside : (strange : Bool) (x : ℕ) (past : Past) (acts : List Act) → is_calm strange true acts ≡ true → S true x past → S true x (all_aside x past acts)
   moved_aside strange x past [] e h = h
   moved_aside strange x past (a ∷ rest) e h =
-      let both = and-cases (is_calm_act strange true a) (is_calm strange true rest) e in
+      let both = and_parts (is_calm_act strange true a) (is_calm strange true rest) e in
       moved_aside strange x (aside x past a) rest both.1 (step-moved strange x past a both.0 (is_correct a) refl h)

@@ -19,19 +19,8 @@ pub Everywhere-from : {A : Type 0} (P : A → List A → Type 0) (h : List A) �
 Everywhere-from P [] f = tt
 Everywhere-from P (l ∷ t) f = (f l t (inl refl), Everywhere-from P t (λ m s w. f m s (inr w)))
 
--- by induction: at each place, where it holds at each place before
-pub Everywhere-by : {A : Type 0} (R : List A → Type 0) (P : A → List A → Type 0) → ((l : A) (t : List A) → R (l ∷ t) → R t) →
-    ((l : A) (t : List A) → R (l ∷ t) → Everywhere P t → P l t) → (h : List A) → R h → Everywhere P h
-Everywhere-by R P tail step [] r = tt
-Everywhere-by R P tail step (l ∷ t) r = let e = Everywhere-by R P tail step t (tail l t r) in (step l t r e, e)
-
 -- up to a place
 pub Everywhere-within : {A : Type 0} (P : A → List A → Type 0) (s h : List A) → Everywhere P h → Within s h → Everywhere P s
 Everywhere-within P s [] e w = subst (λ k. Everywhere P k) (sym w) tt
 Everywhere-within P s (x ∷ t) e (inl i) = subst (λ k. Everywhere P k) (sym i) e
 Everywhere-within P s (x ∷ t) e (inr w) = Everywhere-within P s t e.1 w
-
--- of two properties together
-pub Everywhere-both : {A : Type 0} (P Q : A → List A → Type 0) (h : List A) → Everywhere P h → Everywhere Q h → Everywhere (λ l s. P l s × Q l s) h
-Everywhere-both P Q [] p q = tt
-Everywhere-both P Q (l ∷ t) p q = ((p.0, q.0), Everywhere-both P Q t p.1 q.1)

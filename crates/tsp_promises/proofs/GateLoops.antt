@@ -1,6 +1,7 @@
 -- The LOOPs after a round's last probe keep what is known of their port.
 use Rattle.std.specs.Prelude.{◌≡◌, ℕ, not, Bool, true, false, List, [], ◌∷◌, map, Option, None, Some, is_some, refl}
 use Rattle.std.proofs.Common.{sym, inl, ap, true≢false}
+use Rattle.std.proofs.lemmas.Bool.{and_parts}
 use Rattle.tsp_base.specs.declared.alarm.Alarm.TheVariants.{Probe, Close}
 use Rattle.tsp_base.specs.declared.place.PeerId.{PeerId}
 use Rattle.tsp_base.specs.declared.place.Port.{Port}
@@ -15,7 +16,6 @@ use Rattle.tsp_promises.proofs.Rings.{open_of, wake}
 use Rattle.tsp_promises.proofs.AlarmLeads.{master_rested}
 use Rattle.tsp_promises.proofs.RoundLeads.{Probed}
 use Rattle.tsp_rules.proofs.FewActs.{is_calm}
-use Rattle.tsp_rules.proofs.GuardFacts.{and-cases}
 
 -- a port in a step, whether it has acted or not
 pub during_open : {stirred : Bool} {T : Option Received → Option Received → Type 0} {x : ℕ} {past : Past} → OpenIn stirred T x past → During stirred false false [] (acting past.seen) T x past
@@ -54,7 +54,7 @@ some-is (Some at) e = (at, refl)
 pub loops_kept : (q : Port) (x : ℕ) (past : Past) → past.port ≡ q → is_last_probe past ≡ true → Probed x past → Probed x (grown x past (sends_loops q x past))
 unfolding sends_loops
 loops_kept q x past port last h =
-    let both = and-cases (is_some (deadline (armed past.seen) Close)) (not (is_some (deadline (armed past.seen) Probe))) last in
+    let both = and_parts (is_some (deadline (armed past.seen) Close)) (not (is_some (deadline (armed past.seen) Probe))) last in
     let goes = some-is (armed past.seen).close both.0 in
     (loops-list q (others past.own past.peers) x past (record { probed = h; port_is = port; until = goes.0; goes = goes.1 })).probed
 

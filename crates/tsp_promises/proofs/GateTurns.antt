@@ -1,6 +1,7 @@
 -- The due sends and alarms of all ports, one port after the other, keep what is known of each.
-use Rattle.std.specs.Prelude.{◌≡◌, ◌≤◌, ◌<◌, ℕ, ◌+◌, ◌==◌, ◌||◌, ◌&&◌, nat_lt, nat_le, Bool, true, false, if◌then◌else◌, List, [], ◌∷◌, length, refl}
+use Rattle.std.specs.Prelude.{◌≡◌, ◌≤◌, ℕ, ◌+◌, ◌==◌, ◌||◌, ◌&&◌, nat_lt, nat_le, Bool, true, false, if◌then◌else◌, List, [], ◌∷◌, length, refl}
 use Rattle.std.proofs.Common.{sym, subst, arith, eqb-true, ◌∙◌}
+use Rattle.std.proofs.lemmas.Bool.{lt-ltb, le-ltb, and_parts}
 use Rattle.tsp_base.specs.declared.act.Act.{Act}
 use Rattle.tsp_base.specs.declared.alarm.Alarm.{Alarm}
 use Rattle.tsp_base.specs.declared.alarm.Alarm.TheVariants.{Probe, Close, Round}
@@ -16,7 +17,6 @@ use Rattle.tsp_rules.specs.SendRows.{due_sends}
 use Rattle.tsp_rules.proofs.NodeRowLemmas.{spread_append}
 use Rattle.tsp_promises.proofs.Known.{Open, OpenIn, Fresh, FreshIn, Untaken}
 use Rattle.tsp_promises.proofs.Rings.{open_of}
-use Rattle.tsp_rules.proofs.GuardFacts.{and-cases}
 use Rattle.tsp_promises.proofs.CorrectionLeads.{due_sends_lead}
 use Rattle.tsp_promises.proofs.AlarmTable.{Around, after_turn, alarm_leads, are_probed, around_open, before_turn}
 use Rattle.tsp_promises.proofs.RoundLeads.{Probed}
@@ -54,8 +54,8 @@ module _ (done : Port → Bool) where
   loops-run q acts x past h = by_case (ends_probes acts (on_port q past) past.ports) refl where
     by_case : (b : Bool) → ends_probes acts (on_port q past) past.ports ≡ b → AtPort q Probed (λ r. Rest r false) x (spread x past (if b then on q (sends_loops q) x past else []))
     by_case true e =
-        let rung = and-cases (has_rung acts) (is_last_probe (on_port q past) && nat_le 2 (length past.ports)) e in
-        let last = and-cases (is_last_probe (on_port q past)) (nat_le 2 (length past.ports)) rung.1 in
+        let rung = and_parts (has_rung acts) (is_last_probe (on_port q past) && nat_le 2 (length past.ports)) e in
+        let last = and_parts (is_last_probe (on_port q past)) (nat_le 2 (length past.ports)) rung.1 in
         on_run Rest rest-family false q (sends_loops q) x past (loops_calm false false q x (on_port q past)) (loops_kept q x (on_port q past) refl last.0 (own_of q x past h)) h
     by_case false e = h
 
@@ -125,12 +125,6 @@ module _ (done : Port → Bool) where
 below : ℕ → Port → Bool
 below k r = nat_lt r.0 k
 
-lt-true : (a b : ℕ) → a < b → nat_lt a b ≡ true
-lt-true a b lt = grind (arith, lt)
-
-lt-false : (a b : ℕ) → b ≤ a → nat_lt a b ≡ false
-lt-false a b le = grind (arith, le)
-
 lt-more : (k r : ℕ) → (k == r) ≡ false → nat_lt r k ≡ nat_lt r (k + 1)
 lt-more k r n = grind (arith, n)
 
@@ -145,7 +139,7 @@ turns-list k (s ∷ rest) x past le all =
     let before : AtPort q Fresh (λ r. Standing (below k r) false) x past = record {
       has = omega (arith, le);
       all = λ r has. record {
-        yes = λ e. let same = eqb-true k r.0 e in subst (λ b. Standing b false x (on_port r past)) (lt-false r.0 k (omega (arith, same))) (all r has);
+        yes = λ e. let same = eqb-true k r.0 e in subst (λ b. Standing b false x (on_port r past)) (le-ltb r.0 k (omega (arith, same))) (all r has);
         no = λ e. all r has;
       };
     } in
@@ -156,7 +150,7 @@ turns-list k (s ∷ rest) x past le all =
     (λ r has. subst (λ n. Standing (nat_lt r.0 n) false x (on_port r (spread x now (for_ports turns_on (ports_from (k + 1) rest) x now)))) (omega arith) (more r has))
   where
     turned : (k : ℕ) (r : Port) (x : ℕ) (now : NodePast) → Pick (k == r.0) Open (Standing (below k r) false) x (on_port r now) → (b : Bool) → (k == r.0) ≡ b → Standing (below (k + 1) r) false x (on_port r now)
-    turned k r x now p true e = let same = eqb-true k r.0 e in subst (λ b. Standing b false x (on_port r now)) (sym (lt-true r.0 (k + 1) (omega (arith, same)))) (p.yes e)
+    turned k r x now p true e = let same = eqb-true k r.0 e in subst (λ b. Standing b false x (on_port r now)) (sym (lt-ltb r.0 (k + 1) (omega (arith, same)))) (p.yes e)
     turned k r x now p false e = subst (λ b. Standing b false x (on_port r now)) (lt-more k r.0 e) (p.no e)
 
 -- the turns of all ports
@@ -164,6 +158,6 @@ pub turns_lead : LeadsAll (AllPorts (λ r. Fresh)) (reading_all all_ports (for_p
 unfolding reading_all below
 turns_lead = record {
   run = λ x past all.
-      let turned = turns-list 0 past.ports x past (omega arith) (λ r has. subst (λ b. Standing b false x (on_port r past)) (sym (lt-false r.0 0 (omega arith))) (all r has)) in
-      λ r has. subst (λ b. Standing b false x (on_port r (spread x past (for_ports turns_on (ports_from 0 past.ports) x past)))) (lt-true r.0 (0 + length past.ports) (omega (arith, has))) (turned r has);
+      let turned = turns-list 0 past.ports x past (omega arith) (λ r has. subst (λ b. Standing b false x (on_port r past)) (sym (le-ltb r.0 0 (omega arith))) (all r has)) in
+      λ r has. subst (λ b. Standing b false x (on_port r (spread x past (for_ports turns_on (ports_from 0 past.ports) x past)))) (lt-ltb r.0 (0 + length past.ports) (omega (arith, has))) (turned r has);
 }

@@ -4,10 +4,8 @@ use Rattle.std.proofs.Common.{sym, ap, subst, subst₂, inl, inr, ◌∙◌}
 use Rattle.tsp_base.specs.declared.act.Act.{Act}
 use Rattle.tsp_base.specs.declared.act.Act.TheVariants.{Took, Post}
 use Rattle.tsp_base.specs.declared.datagram.Datagram.{Datagram}
-use Rattle.tsp_base.specs.declared.datagram.Taken.{Taken}
 use Rattle.tsp_base.specs.declared.datagram.Taken.TheVariants.{Good}
 use Rattle.tsp_base.specs.declared.place.PeerId.{PeerId}
-use Rattle.tsp_base.specs.declared.place.Place.{Place}
 use Rattle.tsp_base.specs.declared.place.Place.TheVariants.{Peer}
 use Rattle.tsp_promises.specs.Fits.{Fits, SameStep, TookFits, node_of}
 use Rattle.tsp_base.specs.History.{Cause, Booted, Turned, Came, Handed, Step, Deed, Begins, Acts, Line, of, dids}
@@ -20,7 +18,7 @@ use Rattle.tsp_promises.proofs.EverywhereLemmas.{Everywhere-at}
 use Rattle.tsp_base.proofs.PlaceLemmas.{Within-through, Within-tail}
 use Rattle.tsp_promises.specs.OwnFits.{OwnFits}
 use Rattle.tsp_promises.proofs.HistoryPlaces.{lift}
-use Rattle.tsp_promises.proofs.KnownProof.{InStep, in-step, own-in-step}
+use Rattle.tsp_promises.proofs.KnownProof.{InStep, in-step, own-in-step, received-from, same-place, same-good}
 use Rattle.tsp_promises.proofs.Locating.{fits_in}
 use Rattle.tsp_promises.proofs.OwnFitsProof.{own_fits}
 
@@ -34,11 +32,6 @@ record HeardAt (t : List Line) (r : Received) : Type 0 where
 
 later-heard : (l : Line) (t : List Line) (r : Received) (a : Act) → SameStep (Acts a) l.did.step (dids t) → HeardAt t r → HeardAt (l ∷ t) r
 later-heard l t r a same o = record { line = o.line; rest = o.rest; place = inr o.place; deed = o.deed; step = λ s e. o.step l.did.step (in-step a l.did.step t same) ∙ e }
-
-received-from : (from : Place) (t : Taken) (r : Received) → Some (record { from = from; taken = t }) ≡ Some r → (from ≡ r.from) × (t ≡ r.taken)
-received-from from t r e =
-    let k : record { from = from; taken = t } ≡ r = cc in
-    (ap (λ (z : Received). z.from) k, ap (λ (z : Received). z.taken) k)
 
 heard-here : (l : Line) (t : List Line) (r : Received) (deed : Deed) → deed ≡ l.did.deed → SameStep deed l.did.step (dids t) → (heard (dids t) ≡ Some r → HeardAt t r) → taken_after deed (heard (dids t)) ≡ Some r → HeardAt (l ∷ t) r
 heard-here l t r Begins is same o e = let bad : ⊥ = cc in absurd bad
@@ -59,12 +52,6 @@ pub record HeardPost (l : Line) (world : List Line) (from : PeerId) (datagram : 
   pub takes : l.did.step.cause ≡ Came (posted (dids older))
   pub deed : post.did.deed ≡ Acts (Post (Peer (peer_of (node_of l))) datagram)
   pub node : peer_of (node_of post) ≡ from
-
-same-place : (p q : PeerId) → Peer p ≡ Peer q → p ≡ q
-same-place p q e = cc
-
-same-good : (d e : Datagram) → Good d ≡ Good e → d ≡ e
-same-good d e h = cc
 
 heard-by : (setting : Setting) (l x : Line) (world rest : List Line) (from : PeerId) (datagram : Datagram) (cause : Cause) → x.did.step ≡ l.did.step → cause ≡ l.did.step.cause → Within (x ∷ rest) world → HonestAt x rest →
     x.did.deed ≡ Acts (Took (Peer from) (Good datagram)) → TookFits cause setting x rest (Peer from) (Good datagram) → HeardPost l world from datagram

@@ -65,7 +65,7 @@ back (suc (suc (suc (suc n)))) q = refl
 pub nets-apart : (n : ℕ) (p q : Port) → net_of n p.0 ≡ net_of n q.0 → p ≡ q
 nets-apart n p q e = ap (λ k. let r : Port = record { 0 = k } in r) (sym (back n p.0) ∙ (ap (port_back n) e ∙ back n q.0))
 
-alone : (n : ℕ) → is_among (peer_of n) (peer_of n ∷ []) ≡ true
+pub alone : (n : ℕ) → is_among (peer_of n) (peer_of n ∷ []) ≡ true
 alone n = rw (eq-eqb n n refl) refl
 
 pub in-own : (n q : ℕ) → is_among (peer_of n) (members_of (net_of n q)) ≡ true

@@ -1,7 +1,7 @@
 -- Small histories fit, step by step.
 use Rattle.std.specs.Prelude.{◌≡◌, ◌==◌, ◌&&◌, cond, ◌≤◌, ◌<◌, nat_lt, nat_le, Bool, true, false, ℕ, zero, suc, ◌+◌, List, [], ◌∷◌, length, refl}
 use Rattle.std.proofs.Common.{sym, ap, arith, subst, inl, inr, eqb-true, ◌∙◌}
-use Rattle.std.proofs.lemmas.Bool.{ltb-true, leb-true}
+use Rattle.std.proofs.lemmas.Bool.{ltb-true, leb-true, and_parts}
 use Rattle.tsp_base.specs.declared.act.Act.{Act}
 use Rattle.tsp_base.specs.declared.act.Act.TheVariants.{Post}
 use Rattle.tsp_base.specs.declared.act.Placed.{Placed}
@@ -19,7 +19,6 @@ use Rattle.tsp_base.specs.Places.{Within}
 use Rattle.tsp_promises.specs.StepFacts.{StepEnds}
 use Rattle.tsp_base.specs.Takings.{peer_of, posted, posted_after}
 use Rattle.tsp_promises.proofs.Histories.{ActsOk, ActOk, alive-of, deeds-of, post_at, post_here, still, then_step, took-of}
-use Rattle.tsp_promises.proofs.SendProof.{and-true}
 use Rattle.tsp_promises.proofs.StepChecks.{settled, settled-ends}
 
 posted-few : (h : List Line) → posted (dids h) ≤ length h
@@ -65,8 +64,8 @@ mark-fits strict step h order few ends = record {
 -- a step more fits
 pub step-fits : (strict : Bool) (step : Step) (acts : List Placed) (h : List Line) → Fits (still strict) h → may_begin step acts h ≡ true → ActsOk strict step acts (line_of step step.at first_port Begins ∷ h) → Fits (still strict) (then_step step acts h)
 step-fits strict step acts h f e ok =
-    let a = and-true (nat_le (time_of (dids h)) step.at) (settled (of step.node h) && nat_lt (length h + (length acts + 1)) 1000) e in
-    let b = and-true (settled (of step.node h)) (nat_lt (length h + (length acts + 1)) 1000) a.1 in
+    let a = and_parts (nat_le (time_of (dids h)) step.at) (settled (of step.node h) && nat_lt (length h + (length acts + 1)) 1000) e in
+    let b = and_parts (settled (of step.node h)) (nat_lt (length h + (length acts + 1)) 1000) a.1 in
     let order = leb-true (time_of (dids h)) step.at a.0 in
     let few = ltb-true (length h + (length acts + 1)) 1000 b.1 in
     acts-fit strict step acts (line_of step step.at first_port Begins) h refl (omega arith) (mark-fits strict step h order (omega arith) (settled-ends (of step.node h) b.0), f) ok
@@ -82,7 +81,7 @@ all_settled h = below_four h && ((settled (of 0 h) && settled (of 1 h)) && (sett
 none-of : (n : ℕ) (h : List Line) → below_four h ≡ true → of (suc (suc (suc (suc n)))) h ≡ []
 none-of n [] e = refl
 none-of n (l ∷ h) e =
-    let a = and-true (nat_lt (node_of l) 4) (below_four h) e in
+    let a = and_parts (nat_lt (node_of l) 4) (below_four h) e in
     rw (other (node_of l) (ltb-true (node_of l) 4 a.0) (node_of l == suc (suc (suc (suc n)))) refl) (none-of n h a.1)
   where
     other : (k : ℕ) → k < 4 → (b : Bool) → (k == suc (suc (suc (suc n)))) ≡ b → b ≡ false
@@ -92,9 +91,9 @@ none-of n (l ∷ h) e =
 -- and the history ends with a step
 pub all-finished : (h : List Line) → all_settled h ≡ true → Finished h
 all-finished h e n q =
-    let a = and-true (below_four h) ((settled (of 0 h) && settled (of 1 h)) && (settled (of 2 h) && settled (of 3 h))) e in
-    let b = and-true (settled (of 0 h) && settled (of 1 h)) (settled (of 2 h) && settled (of 3 h)) a.1 in
-    by-node a.0 (and-true (settled (of 0 h)) (settled (of 1 h)) b.0) (and-true (settled (of 2 h)) (settled (of 3 h)) b.1) n
+    let a = and_parts (below_four h) ((settled (of 0 h) && settled (of 1 h)) && (settled (of 2 h) && settled (of 3 h))) e in
+    let b = and_parts (settled (of 0 h) && settled (of 1 h)) (settled (of 2 h) && settled (of 3 h)) a.1 in
+    by-node a.0 (and_parts (settled (of 0 h)) (settled (of 1 h)) b.0) (and_parts (settled (of 2 h)) (settled (of 3 h)) b.1) n
   where
     by-node : below_four h ≡ true → (settled (of 0 h) ≡ true) × (settled (of 1 h) ≡ true) → (settled (of 2 h) ≡ true) × (settled (of 3 h) ≡ true) → (n : ℕ) → StepEnds (view q (of n h))
     by-node few x y zero = settled-ends (of 0 h) x.0 q

@@ -4,7 +4,7 @@ use Rattle.std.proofs.Common.{sym, ap, subst, inl, inr, eqb-true, eq-eqb}
 use Rattle.tsp_promises.specs.Fits.{node_of}
 use Rattle.tsp_base.specs.History.{Line, of}
 use Rattle.tsp_base.specs.Places.{Within}
-use Rattle.tsp_base.proofs.PlaceLemmas.{Within-all, Within-none, Within-tail, Within-strict, Within-comparable}
+use Rattle.tsp_base.proofs.PlaceLemmas.{Within-all, Within-none, Within-strict, Within-comparable}
 
 of-more : (b : Bool) (n : ℕ) (l : Line) (s t : List Line) → (node_of l == n) ≡ b → Within (of n s) (of n t) → Within (of n s) (of n (l ∷ t))
 of-more true n l s t e p = rw e (inr p)
@@ -48,15 +48,6 @@ lift-more n x h l s false e f w = let o = f (rw e at w) in record { world = o.wo
 pub lift : (n : ℕ) (h : List Line) (l : Line) (s : List Line) → Within (l ∷ s) (of n h) → Lifted n h l s
 lift n [] l s w = Within-none l s w
 lift n (x ∷ h) l s w = lift-more n x h l s (node_of x == n) refl (lift n h l s) w
-
--- order among a node's lines is order in the history
-pub own_before : (n : ℕ) (s t : Line) (a b h : List Line) → node_of s ≡ n → node_of t ≡ n → Within (s ∷ a) h → Within (t ∷ b) h → Within (s ∷ of n a) (of n b) → Within (s ∷ a) b
-own_before n s t a b h sn tn v w o = elim (Within-comparable (s ∷ a) (t ∷ b) h v w) [
-  | inl (inl e) ↦ let r : a ≡ b = cc in absurd (Within-strict s (of n a) (of n b) o (subst (λ k. Within (of n b) (of n k)) (sym r) (Within-all (of n b))))
-  | inl (inr i) ↦ i
-  | inr (inl e) ↦ let r : a ≡ b = cc in absurd (Within-strict s (of n a) (of n b) o (subst (λ k. Within (of n b) (of n k)) (sym r) (Within-all (of n b))))
-  | inr (inr i) ↦ absurd (Within-strict s (of n a) (of n b) o (Within-tail t (of n b) (of n a) (own_in n t b a tn i)))
-]
 
 -- one place among the node's lines is one place of the history
 pub own_same : (n : ℕ) (s t : Line) (a b h : List Line) → node_of s ≡ n → node_of t ≡ n → Within (s ∷ a) h → Within (t ∷ b) h → s ∷ of n a ≡ t ∷ of n b → s ∷ a ≡ t ∷ b

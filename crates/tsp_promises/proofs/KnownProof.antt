@@ -52,7 +52,7 @@ own-in-step n s (x ∷ world) same e = rw (of-own n x world (ap (λ (k : Step). 
 pub line-is : (l : Line) (q : Port) → l.port ≡ q → line_on q l.did ≡ l
 line-is l q e = subst (λ p. line_on p l.did ≡ l) e refl
 
-received-from : (from : Place) (t : Taken) (r : Received) → Some (record { from = from; taken = t }) ≡ Some r → (from ≡ r.from) × (t ≡ r.taken)
+pub received-from : (from : Place) (t : Taken) (r : Received) → Some (record { from = from; taken = t }) ≡ Some r → (from ≡ r.from) × (t ≡ r.taken)
 received-from from t r e =
     let k : record { from = from; taken = t } ≡ r = cc in
     (ap (λ (z : Received). z.from) k, ap (λ (z : Received). z.taken) k)
@@ -98,10 +98,10 @@ pub record Known (setting : Setting) (l : Line) (world : List Line) (from : Peer
   pub node : peer_of (node_of post) ≡ from
   pub net : setting.net (node_of post) post.port ≡ setting.net (node_of l) l.port
 
-same-place : (p q : PeerId) → Peer p ≡ Peer q → p ≡ q
+pub same-place : (p q : PeerId) → Peer p ≡ Peer q → p ≡ q
 same-place p q e = cc
 
-same-good : (d e : Datagram) → Good d ≡ Good e → d ≡ e
+pub same-good : (d e : Datagram) → Good d ≡ Good e → d ≡ e
 same-good d e h = cc
 
 -- by the cause of the step

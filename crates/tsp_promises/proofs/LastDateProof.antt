@@ -1,6 +1,7 @@
 -- The last date of a peer, and the last time that a port began to pass one on.
 use Rattle.std.specs.Prelude.{◌≡◌, ◌==◌, ◌||◌, ◌&&◌, ◌≤◌, cond, Bool, true, false, ℕ, ℤ, List, [], ◌∷◌, Option, None, Some, refl}
 use Rattle.std.proofs.Common.{sym, ap, arith, subst, inl, inr, eq-eqb, ◌∙◌}
+use Rattle.std.proofs.lemmas.Bool.{and_parts}
 use Rattle.tsp_base.specs.declared.act.Act.TheVariants.{Boot, Correct, Post}
 use Rattle.tsp_base.specs.declared.datagram.Datagram.TheVariants.{Message}
 use Rattle.tsp_base.specs.declared.place.PeerId.{PeerId}
@@ -22,8 +23,8 @@ use Rattle.tsp_promises.proofs.HeldProof.{still-lives}
 use Rattle.tsp_promises.proofs.KnownProof.{line-is}
 use Rattle.tsp_promises.proofs.LastTakenProof.{said_took}
 use Rattle.tsp_promises.proofs.Locating.{line_on}
-use Rattle.tsp_promises.proofs.SendProof.{and-true, peer-same}
 use Rattle.tsp_promises.proofs.SinceProof.{since}
+use Rattle.tsp_rules.proofs.GuardFacts.{same_peer}
 
 -- where the last date of p was set: at the Correct c of port q or after it
 pub record DateLate (q : Port) (p : PeerId) (c : Did) (crest t : List Line) : Type 0 where
@@ -71,7 +72,7 @@ date-said q p c crest t l amount stepped shown port deed w h (Some s) is e = by-
   by-test : (b : Bool) → ((s.from.0 == p.0) && is_date_request s.message.kind) ≡ b → last_date p (view q (l ∷ t)) ≡ cond {A = Option Dating} b (Some (record { at = l.did.tick; number = s.message.number })) (last_date p (view q t)) → DateLate q p c crest (l ∷ t)
   by-test false b e = date-kept q p c crest t l _ e h refl
   by-test true b e =
-      let one = and-true (s.from.0 == p.0) (is_date_request s.message.kind) b in
+      let one = and_parts (s.from.0 == p.0) (is_date_request s.message.kind) b in
       let line : line_on q l.did ≡ l = line-is l q port in
       record {
         last = record { at = l.did.tick; number = s.message.number };
@@ -85,7 +86,7 @@ date-said q p c crest t l amount stepped shown port deed w h (Some s) is e = by-
         shown = shown;
         deed = deed;
         message = s.message;
-        took = subst (λ z. Receives (view q t) z (Message s.message)) (peer-same s.from p one.0) (said_took (taken (view q t)) s is);
+        took = subst (λ z. Receives (view q t) z (Message s.message)) (same_peer s.from p one.0) (said_took (taken (view q t)) s is);
         kind = one.1;
         number = refl;
         at = refl;

@@ -1,21 +1,25 @@
 -- The last send and the last correction to a peer aren't older than a send that has begun.
-use Rattle.std.specs.Prelude.{◌≡◌, ◌==◌, ◌&&◌, cond, Bool, true, false, ℕ, ◌≤◌, ◌⊎◌, List, [], ◌∷◌, refl}
+use Rattle.std.specs.Prelude.{◌≡◌, ◌==◌, ◌&&◌, cond, Bool, true, false, ◌≤◌, ◌⊎◌, List, [], ◌∷◌, refl}
 use Rattle.std.proofs.Common.{sym, ap, arith, subst, inl, inr, eq-eqb, ◌∙◌}
+use Rattle.std.proofs.lemmas.Bool.{and_parts}
 use Rattle.tsp_base.specs.declared.act.Act.TheVariants.{Boot, Post}
 use Rattle.tsp_base.specs.declared.datagram.Datagram.TheVariants.{Message}
 use Rattle.tsp_base.specs.declared.place.PeerId.{PeerId}
 use Rattle.tsp_base.specs.declared.place.Place.TheVariants.{Peer}
 use Rattle.tsp_base.specs.History.{Acts, Deed, Did, Seen, Here, Elsewhere, plain, did_of}
 use Rattle.tsp_base.specs.Messages.{MessageValue}
-use Rattle.tsp_base.specs.NodeFacts.{lives, lives_after}
+use Rattle.tsp_base.specs.NodeFacts.{lives}
 use Rattle.tsp_base.specs.Places.{Within}
 use Rattle.tsp_base.specs.PortFacts.{acting}
 use Rattle.tsp_base.specs.SendFacts.{begun_to, is_correction, last_to, last_to_after}
-use Rattle.tsp_promises.proofs.SendProof.{BeginsSend, CorrectsTo, and-true, begun-begins, begun-here, peer-same, not-nil}
+use Rattle.tsp_promises.proofs.SendProof.{BeginsSend, CorrectsTo, begun-begins, begun-here}
+use Rattle.tsp_promises.proofs.Leaves.{nil-cons}
+use Rattle.tsp_promises.proofs.SteadyProof.{lives-more}
+use Rattle.tsp_rules.proofs.GuardFacts.{same_peer}
 
 -- the last send to a peer isn't older than one that has begun
 pub begun_late : (p : PeerId) (m : MessageValue) (t : Did) (b x : List Seen) (first : Did) (older : List Seen) → BeginsSend p m t b → Within (Here t ∷ b) x → begun_to p x ≡ Here first ∷ older → Within (Here t ∷ b) (Here first ∷ older)
-begun_late p m t b [] first older c w e = not-nil (Here first) older e
+begun_late p m t b [] first older c w e = nil-cons (Here first) older e
 begun_late p m t b (Elsewhere d ∷ x) first older c (inl s) e = let bad : ⊥ = cc in absurd bad
 begun_late p m t b (Elsewhere d ∷ x) first older c (inr w) e = begun_late p m t b x first older c w e
 begun_late p m t b (Here d ∷ x) first older c (inl s) e =
@@ -36,9 +40,9 @@ pub record LastHere (p : PeerId) (d : Did) (before : List Seen) (first : Did) (o
 last-post : (p q : PeerId) (m : MessageValue) (d : Did) (before : List Seen) (first : Did) (older keep : List Seen) → Acts (Post (Peer q) (Message m)) ≡ d.deed → (b : Bool) → ((q.0 == p.0) && (is_correction m.kind && acting before)) ≡ b →
     cond b (Here d ∷ before) keep ≡ Here first ∷ older → LastHere p d before first older ⊎ (keep ≡ Here first ∷ older)
 last-post p q m d before first older keep is true e h =
-    let one = and-true (q.0 == p.0) (is_correction m.kind && acting before) e in
-    let two = and-true (is_correction m.kind) (acting before) one.1 in
-    let same : q ≡ p = peer-same q p one.0 in
+    let one = and_parts (q.0 == p.0) (is_correction m.kind && acting before) e in
+    let two = and_parts (is_correction m.kind) (acting before) one.1 in
+    let same : q ≡ p = same_peer q p one.0 in
     let deed : d ≡ first = cc in
     let rest : before ≡ older = cc in
     inl (record {
@@ -55,7 +59,7 @@ last-post p q m d before first older keep is false e h = inr h
 
 pub last-deed : (p : PeerId) (d : Did) (before : List Seen) (first : Did) (older : List Seen) (deed : Deed) → deed ≡ d.deed → last_to_after p deed (acting before) (Here d ∷ before) (last_to p before) ≡ Here first ∷ older →
     LastHere p d before first older ⊎ (last_to p before ≡ Here first ∷ older)
-last-deed p d before first older (Acts Boot) is e = not-nil (Here first) older e
+last-deed p d before first older (Acts Boot) is e = nil-cons (Here first) older e
 last-deed p d before first older (Acts (Post (Peer q) (Message m))) is e = last-post p q m d before first older (last_to p before) is _ refl e
 last-deed p d before first older _ is e = inr e
 
@@ -66,7 +70,7 @@ pub record LastIs (p : PeerId) (x : List Seen) (first : Did) (older : List Seen)
   pub corrects : CorrectsTo p message first older
 
 pub last_is : (p : PeerId) (x : List Seen) (first : Did) (older : List Seen) → last_to p x ≡ Here first ∷ older → LastIs p x first older
-last_is p [] first older e = not-nil (Here first) older e
+last_is p [] first older e = nil-cons (Here first) older e
 last_is p (Elsewhere d ∷ x) first older e = let o = last_is p x first older e in record { place = inr o.place; message = o.message; corrects = o.corrects }
 last_is p (Here d ∷ x) first older e = elim (last-deed p d x first older d.deed refl e) [
   | inl h ↦ record { place = inl (let a = h.deed in let b = h.rest in cc); message = h.message; corrects = h.corrects }
@@ -78,24 +82,19 @@ last-begins p m t b c =
     let e : (p.0 == p.0) ≡ true = eq-eqb p.0 p.0 refl in
     rw c.deed (rw (e, c.kind, c.begins) refl)
 
--- lives never fall
-pub lives-deed : (deed : Deed) (n : ℕ) → n ≤ lives_after deed n
-lives-deed (Acts Boot) n = omega arith
-lives-deed _ n = omega arith
-
 lives-mono : (s t : List Seen) → Within s t → lives (plain s) ≤ lives (plain t)
 lives-mono s [] e = subst (λ w. lives (plain w) ≤ 0) (sym e) (omega arith)
 lives-mono s (l ∷ t) (inl e) = subst (λ w. lives (plain w) ≤ lives (plain (l ∷ t))) (sym e) (omega arith)
-lives-mono s (l ∷ t) (inr p) = omega (arith, lives-mono s t p, lives-deed (did_of l).deed (lives (plain t)))
+lives-mono s (l ∷ t) (inr p) = omega (arith, lives-mono s t p, lives-more (did_of l).deed (lives (plain t)))
 
 pub last_late : (p : PeerId) (m : MessageValue) (t : Did) (b x : List Seen) (first : Did) (older : List Seen) → CorrectsTo p m t b → Within (Here t ∷ b) x → lives (plain (Here t ∷ b)) ≡ lives (plain x) → last_to p x ≡ Here first ∷ older → Within (Here t ∷ b) (Here first ∷ older)
-last_late p m t b [] first older c w v e = not-nil (Here first) older e
+last_late p m t b [] first older c w v e = nil-cons (Here first) older e
 last_late p m t b (Elsewhere d ∷ x) first older c (inl s) v e = let bad : ⊥ = cc in absurd bad
-last_late p m t b (Elsewhere d ∷ x) first older c (inr w) v e = last_late p m t b x first older c w (let i = lives-mono (Here t ∷ b) x w in let j = lives-deed d.deed (lives (plain x)) in omega arith) e
+last_late p m t b (Elsewhere d ∷ x) first older c (inr w) v e = last_late p m t b x first older c w (let i = lives-mono (Here t ∷ b) x w in let j = lives-more d.deed (lives (plain x)) in omega arith) e
 last_late p m t b (Here d ∷ x) first older c (inl s) v e =
     let o : Here t ∷ b ≡ Here first ∷ older = sym (last-begins p m t b c) ∙ (ap (last_to p) s ∙ e) in
     inl o
 last_late p m t b (Here d ∷ x) first older c (inr w) v e = elim (last-deed p d x first older d.deed refl e) [
   | inl h ↦ inr (subst (λ k. Within (Here t ∷ b) k) h.rest w)
-  | inr h ↦ last_late p m t b x first older c w (let i = lives-mono (Here t ∷ b) x w in let j = lives-deed d.deed (lives (plain x)) in omega arith) h
+  | inr h ↦ last_late p m t b x first older c w (let i = lives-mono (Here t ∷ b) x w in let j = lives-more d.deed (lives (plain x)) in omega arith) h
 ]

@@ -1,6 +1,7 @@
 -- What a node does with a LOOP keeps what is known of each of its ports.
 use Rattle.std.specs.Prelude.{◌≡◌, ◌≢◌, ◌≤◌, ◌<◌, ℕ, ◌+◌, ◌-◌, ◌==◌, ◌&&◌, nat_le, nat_lt, Bool, true, false, if◌then◌else◌, List, [], ◌∷◌, map, length, Option, Some, refl}
 use Rattle.std.proofs.Common.{sym, subst, inr, ap, arith, true≢false, eqb-true, eq-eqb, leb-true, ltb-true, ◌∙◌}
+use Rattle.std.proofs.lemmas.Bool.{and_parts, not-true}
 use Rattle.tsp_base.specs.declared.act.Act.TheVariants.{Took, Post, Become}
 use Rattle.tsp_base.specs.declared.datagram.Datagram.TheVariants.{Message}
 use Rattle.tsp_base.specs.declared.datagram.Taken.{Taken}
@@ -35,7 +36,7 @@ use Rattle.tsp_promises.proofs.Leaves.{none-among}
 use Rattle.tsp_promises.proofs.PostLeaves.{post_message}
 use Rattle.tsp_promises.proofs.Rings.{open_of}
 use Rattle.tsp_promises.proofs.Changes.{JustTook, Is, become_loose, take}
-use Rattle.tsp_rules.proofs.GuardFacts.{and-cases, not-true, awake_is, master_is}
+use Rattle.tsp_rules.proofs.GuardFacts.{awake_is, master_is}
 use Rattle.tsp_promises.proofs.CommonLeads.{arms_elect_during}
 use Rattle.tsp_promises.proofs.TakenLeads.{rests_of, wake_role, master_awake}
 use Rattle.tsp_rules.proofs.FewActs.{is_calm, calm_either}
@@ -64,7 +65,7 @@ name-same [] [] e = refl
 name-same [] (b ∷ theirs) e = absurd (true≢false (sym e))
 name-same (a ∷ mine) [] e = absurd (true≢false (sym e))
 name-same (a ∷ mine) (b ∷ theirs) e =
-    let both = and-cases (a == b) (same_name mine theirs) e in
+    let both = and_parts (a == b) (same_name mine theirs) e in
     ap (λ k. k ∷ mine) (eqb-true a b both.0) ∙ ap (λ rest. b ∷ rest) (name-same mine theirs both.1)
 
 name-own : (a : List ℕ) → same_name a a ≡ true
@@ -222,7 +223,7 @@ judges-all q p m x past kind h = by_case (nat_le 2 (length past.ports)) (same_na
   by_case true true s true l hops o = gives-up-all q p m x past kind (name-same m.name past.name s) (ltb-true m.number q.0 l) h
   by_case true true s false l hops o = over
   by_case true false s lower l true o =
-      let both = and-cases (nat_le 1 (hops_in m.body)) (nat_le (hops_in m.body) 10) o in
+      let both = and_parts (nat_le 1 (hops_in m.body)) (nat_le (hops_in m.body) 10) o in
       forwards-all q p m x past (record { kind = kind; other = name-other m.name past.name s; some = both.0; few = leb-true (hops_in m.body) 10 both.1 }) h
   by_case true false s lower l false o = over
 

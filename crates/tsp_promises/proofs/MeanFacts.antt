@@ -1,5 +1,5 @@
 -- The mean of a round's differences is near, as they are.
-use Rattle.std.specs.Prelude.{◌≡◌, ◌<◌, ℕ, ◌*◌, zero, suc, ℤ, pos, negsuc, ◌-ℤ◌, ◌*ℤ◌, ◌≤ℤ◌, unsigned_abs, Bool, true, false, if◌then◌else◌, List, [], ◌∷◌, Option, None, Some, refl}
+use Rattle.std.specs.Prelude.{◌≡◌, ℕ, ◌*◌, zero, suc, ℤ, pos, negsuc, ◌-ℤ◌, ◌*ℤ◌, ◌≤ℤ◌, Bool, true, false, if◌then◌else◌, List, [], ◌∷◌, Option, None, Some, refl}
 use Rattle.std.specs.List.{All, fold}
 use Rattle.std.proofs.Common.{sym, subst, ap, arith}
 use Rattle.std.proofs.lemmas.Int.{ints}
@@ -11,6 +11,7 @@ use Rattle.tsp_group.specs.Values.{IsNear}
 use Rattle.tsp_group.specs.declared.group.Group.{Group}
 use Rattle.tsp_group.proofs.Means.{floor_div_fits}
 use Rattle.tsp_group.proofs.Sums.{near_total-low, near_total-high}
+use Rattle.tsp_group.proofs.Majority.{near_sum}
 use Rattle.tsp_rules.specs.RoundRows.{Standing, is_near, diff_before, near_diffs, estimates, mean_by}
 
 -- a difference that is averaged is near
@@ -62,10 +63,6 @@ zero-sum s n e low high =
     let b : s ≤ℤ (pos 1073741823999999 *ℤ pos 0) = subst (λ k. s ≤ℤ (pos 1073741823999999 *ℤ pos k)) e high in
     omega (arith, ints, a, b)
 
-sum-fits : (s : ℤ) (n : ℕ) → 0 < n → (negsuc 1073741823999998 *ℤ pos n) ≤ℤ s → s ≤ℤ (pos 1073741823999999 *ℤ pos n) → unsigned_abs s < n * 1073741824000000
-sum-fits (pos s) n p low high = omega (arith, ints, low, high)
-sum-fits (negsuc s) n p low high = omega (arith, ints, low, high)
-
 -- a mean is near
 mean-cases : (g : Group) (n : ℕ) → g.count ≡ n → IsNearGroup g → (negsuc 1073741823999999 ≤ℤ mean_of g) × (mean_of g ≤ℤ pos 1073741823999999)
 mean-cases g zero e n =
@@ -78,7 +75,7 @@ mean-cases g zero e n =
 mean-cases g (suc n) e near =
     let low = near.low in
     let high = near.high in
-    floor_div_fits g.sum g.count (omega (arith, e)) (sum-fits g.sum g.count (omega (arith, e)) low high)
+    floor_div_fits g.sum g.count (omega (arith, e)) (near_sum g.sum g.count (omega (arith, e)) low high)
 
 pub mean_near : (span : ℕ) (round : List Standing) → (negsuc 1073741823999999 ≤ℤ mean_of (group_of span (estimates round))) × (mean_of (group_of span (estimates round)) ≤ℤ pos 1073741823999999)
 mean_near span round =

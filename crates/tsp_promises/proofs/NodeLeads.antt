@@ -1,6 +1,7 @@
 -- The steps of a node follow one another, and each deed of its ports fits.
-use Rattle.std.specs.Prelude.{◌≡◌, ◌≤◌, ◌<◌, ℕ, ◌+◌, ◌==◌, ◌||◌, Bool, true, false, List, [], ◌∷◌, ◌++◌, length, refl}
+use Rattle.std.specs.Prelude.{◌≡◌, ◌≤◌, ◌<◌, ℕ, ◌+◌, ◌==◌, true, false, List, [], ◌∷◌, ◌++◌, length, refl}
 use Rattle.std.proofs.Common.{sym, subst, inl, ap, arith, true≢false, ◌∙◌}
+use Rattle.std.proofs.lemmas.Bool.{or_right}
 use Rattle.tsp_base.specs.declared.act.Act.TheVariants.{Boot, Become, Arm}
 use Rattle.tsp_base.specs.declared.alarm.Alarm.TheVariants.{Quiet}
 use Rattle.tsp_base.specs.declared.constants.TheConstants.{QUIET}
@@ -24,18 +25,15 @@ use Rattle.tsp_rules.proofs.Asides.{all_aside}
 use Rattle.tsp_promises.proofs.PortLists.{Ranged, ranged_from}
 use Rattle.tsp_promises.proofs.GateFacts.{AllPorts, LeadsAll, placed_all}
 use Rattle.tsp_promises.proofs.GateLeads.{answers_all_lead}
-
-or-true : (b : Bool) → (b || true) ≡ true
-or-true true = refl
-or-true false = refl
+use Rattle.tsp_promises.proofs.RunLemmas.{ports-ran}
 
 -- a mark is seen by each port
 on-mark : (q : Port) (step : Step) (x : ℕ) (past : NodePast) → on_port q (in_node_step step x past) ≡ in_step step x (on_port q past)
-on-mark q step x past = ap (λ b. record (on_port q past) { step = step; seen = seen_as b (line_of step x first_port Begins).did ∷ view q past.lines }) (or-true (first_port.0 == q.0))
+on-mark q step x past = ap (λ b. record (on_port q past) { step = step; seen = seen_as b (line_of step x first_port Begins).did ∷ view q past.lines }) (or_right (first_port.0 == q.0) true refl)
 
 -- so is a boot
 on-boot : (q : Port) (x : ℕ) (past : NodePast) → on_port q (spread x past (placed first_port (Boot ∷ []))) ≡ grown x (on_port q past) (Boot ∷ [])
-on-boot q x past = ap (λ b. record (on_port q past) { seen = seen_as b (line_of past.step x first_port (Acts Boot)).did ∷ view q past.lines }) (or-true (first_port.0 == q.0))
+on-boot q x past = ap (λ b. record (on_port q past) { seen = seen_as b (line_of past.step x first_port (Acts Boot)).did ∷ view q past.lines }) (or_right (first_port.0 == q.0) true refl)
 
 -- a port whose node boots now
 record Booting (x : ℕ) (past : Past) : Type 0 where
@@ -137,10 +135,6 @@ given-on : (m : NodeMakes) (x y : ℕ) (step : Step) (past : NodePast) → x ≤
 given-on NodeBoots x y step past later own given all = boots_all_lead.run y (in_node_step step y past) (begins_all step x y past later own all)
 given-on (NodeAnswers NodeTurn) x y step past later own given all = (answers_all_lead NodeTurn).run y (in_node_step step y past) (tt, begins_all step x y past later own all)
 given-on (NodeAnswers (GotOn q from t)) x y step past later own given all = (answers_all_lead (GotOn q from t)).run y (in_node_step step y past) (given, begins_all step x y past later own all)
-
-ports-ran : (hs : List NodeHappening) (past : NodePast) → (node_ran hs past).ports ≡ past.ports
-ports-ran [] past = refl
-ports-ran (h ∷ before) past = ports-ran before past
 
 setup-ran : (hs : List NodeHappening) (past : NodePast) (q : Port) → setup_in (on_port q (node_ran hs past)) ≡ setup_in (on_port q past)
 setup-ran [] past q = refl

@@ -1,6 +1,7 @@
 -- How a Close corrects the measured peers, and what stays known of the port.
 use Rattle.std.specs.Prelude.{◌≡◌, ◌⊎◌, ◌≤◌, ℕ, ◌+◌, ℤ, pos, ◌-ℤ◌, Bool, true, false, if◌then◌else◌, List, [], ◌∷◌, map, Option, None, Some, refl}
 use Rattle.std.proofs.Common.{sym, inl, inr, ap, true≢false, ◌∙◌}
+use Rattle.std.proofs.lemmas.Bool.{and_parts}
 use Rattle.tsp_base.specs.declared.act.Act.TheVariants.{Post, Leave, Close as CloseAct}
 use Rattle.tsp_base.specs.declared.constants.TheConstants.{CLOSE, SLACK}
 use Rattle.tsp_base.specs.declared.datagram.Datagram.TheVariants.{Message}
@@ -26,7 +27,6 @@ use Rattle.tsp_promises.proofs.Leaves.{leave}
 use Rattle.tsp_rules.proofs.Asides.{now}
 use Rattle.tsp_promises.proofs.PostLeaves.{post_message}
 use Rattle.tsp_promises.proofs.LeadsLeaves.{Leads_posts_time}
-use Rattle.tsp_rules.proofs.GuardFacts.{and-cases}
 use Rattle.tsp_promises.proofs.TargetFacts.{sets_target}
 use Rattle.tsp_promises.proofs.CorrectionLeads.{may_fits}
 
@@ -140,7 +140,7 @@ module _ {mean : ℤ} {close : Did} {before : List Seen} where
   settime_leads p e b is ticket = Leads_either (may_set p e.ticket) (reading target_at (posts_time p SetTime e.ticket)) nothing
       (Leads_reading target_at (posts_time p SetTime e.ticket) (λ t. Leads_posts_time p SetTime e.ticket t (λ x past h.
       let m = timed SetTime e.ticket t past.name in
-      let may = and-cases (may_correct p e.ticket x past) (is_in_range x past) h.0.1 in
+      let may = and_parts (may_correct p e.ticket x past) (is_in_range x past) h.0.1 in
       correcting_post x past p m (correction_of x past p e.ticket m b is refl ticket (λ k. let bad : ⊥ = cc in absurd bad) (λ k. sets_target x past (now x past (Post (Peer p) (Message m))) m refl (sym h.1) may.1) may.0 h.0.0)
       (λ f u. post_message p m refl f u.free) h.0.0)))
       (Leads_from (λ x past h. h.0) Leads_nothing)

@@ -1,9 +1,9 @@
 -- Two lists of different peers that are longer together than the list of all have one in common.
 use Rattle.std.specs.Prelude.{◌≡◌, ◌⊎◌, ◌≤◌, ◌<◌, ℕ, ◌+◌, ◌==◌, Bool, true, false, ◌||◌, if◌then◌else◌, List, [], ◌∷◌, length, refl}
-use Rattle.std.proofs.Common.{sym, ap, arith, inl, inr, eq-eqb, eqb-true, true≢false, ◌∙◌}
+use Rattle.std.proofs.Common.{sym, ap, arith, inl, inr, eq-eqb, true≢false, ◌∙◌}
 use Rattle.tsp_base.specs.declared.place.PeerId.{PeerId}
-use Rattle.tsp_base.specs.Takings.{peer_of}
 use Rattle.tsp_promises.proofs.Elections.{In}
+use Rattle.tsp_rules.proofs.GuardFacts.{same_peer}
 
 -- no peer stands twice
 abbrev pub Distinct : List PeerId → Type 0
@@ -23,14 +23,11 @@ abbrev pub counted : (PeerId → Bool) → List PeerId → ℕ
 counted test [] = 0
 counted test (z ∷ rest) = if test z then counted test rest + 1 else counted test rest
 
-same-peer : (p z : PeerId) → (p.0 == z.0) ≡ true → p ≡ z
-same-peer p z e = ap peer_of (eqb-true p.0 z.0 e)
-
 pub among-in : (xs : List PeerId) (z : PeerId) → among xs z ≡ true → In z xs
 among-in [] z e = absurd (true≢false (sym e))
 among-in (p ∷ rest) z e = by-case (p.0 == z.0) refl (among-in rest z) e where
   by-case : (b : Bool) → (p.0 == z.0) ≡ b → (among rest z ≡ true → In z rest) → (b || among rest z) ≡ true → In z (p ∷ rest)
-  by-case true is h f = inl (same-peer p z is)
+  by-case true is h f = inl (same_peer p z is)
   by-case false is h f = inr (h f)
 
 -- one more passes the wider test

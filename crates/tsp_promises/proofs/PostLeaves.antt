@@ -1,6 +1,7 @@
 -- What posts make of what is known of a port.
 use Rattle.std.specs.Prelude.{◌≡◌, ◌≤◌, ℕ, ◌+◌, ◌%◌, ◌^◌, ◌==◌, ◌&&◌, Bool, true, false, if◌then◌else◌, cond, List, [], ◌∷◌, Option, Some, refl}
 use Rattle.std.proofs.Common.{sym, subst, inl, inr, ap, ◌∙◌, true≢false}
+use Rattle.std.proofs.lemmas.Bool.{and_parts}
 use Rattle.tsp_base.specs.declared.act.Act.TheVariants.{Post}
 use Rattle.tsp_base.specs.declared.constants.TheConstants.{QUIET}
 use Rattle.tsp_base.specs.declared.datagram.Datagram.TheVariants.{Message, Stamp}
@@ -25,15 +26,14 @@ use Rattle.tsp_promises.specs.StepFacts.{acked_by}
 use Rattle.tsp_promises.proofs.Known.{Asked, asks_vote, During, KnowsOf}
 use Rattle.tsp_promises.proofs.Leaves.{then_seen, made}
 use Rattle.tsp_rules.proofs.Asides.{now}
-use Rattle.tsp_rules.proofs.GuardFacts.{and-cases}
 
 -- a vote that is asked for after a post: by this message, which begins a send, or before
 post-vote : (p q : PeerId) (m : MessageValue) (d : Did) (before : List Seen) (bs : List PeerId) → d.deed ≡ Acts (Post (Peer p) (Message m)) → (is_kind_election m.kind ≡ true → acting before ≡ true → is_among q bs ≡ false) →
     (asks_vote (message_at (open_to q before)) ≡ true → is_among q bs ≡ false) → (b : Bool) → ((p.0 == q.0) && (is_numbered m.kind && acting before)) ≡ b →
     asks_vote (message_at (cond b (Here d ∷ before) (open_to q before))) ≡ true → is_among q bs ≡ false
 post-vote p q m d before bs deed new old true test e =
-    let one = and-cases (p.0 == q.0) (is_numbered m.kind && acting before) test in
-    let two = and-cases (is_numbered m.kind) (acting before) one.1 in
+    let one = and_parts (p.0 == q.0) (is_numbered m.kind && acting before) test in
+    let two = and_parts (is_numbered m.kind) (acting before) one.1 in
     new (subst (λ t. asks_vote (message_at (Here (record d { deed = t }) ∷ before)) ≡ true) deed e) two.1
 post-vote p q m d before bs deed new old false test e = old e
 

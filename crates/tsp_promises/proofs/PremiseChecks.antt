@@ -1,7 +1,7 @@
 -- The premises of small histories, by computing.
 use Rattle.std.specs.Prelude.{◌≡◌, ◌==◌, ◌&&◌, ◌||◌, nat_le, nat_lt, cond, Bool, true, false, ℕ, ◌+◌, ℤ, List, [], ◌∷◌, refl}
 use Rattle.std.proofs.Common.{sym, arith, subst, subst₂, inl, inr, eqb-true, eq-eqb, true≢false}
-use Rattle.std.proofs.lemmas.Bool.{leb-true, ltb-true}
+use Rattle.std.proofs.lemmas.Bool.{leb-true, ltb-true, or_left, or_right, and_parts}
 use Rattle.tsp_base.specs.declared.act.Act.TheVariants.{Boot, Post, Took}
 use Rattle.tsp_base.specs.declared.constants.TheConstants.{LIFE}
 use Rattle.tsp_base.specs.declared.datagram.Datagram.{Datagram}
@@ -17,7 +17,6 @@ use Rattle.tsp_promises.specs.Kept.{Kept}
 use Rattle.tsp_promises.proofs.HistoriesFit.{all-finished, all_settled}
 use Rattle.tsp_promises.proofs.Histories.{still, post_at, post_here}
 use Rattle.tsp_promises.proofs.SendPlaces.{posted-mono, posted-post}
-use Rattle.tsp_promises.proofs.SendProof.{and-true}
 
 -- the post of a number is the one that is found by it
 found-is : (h : List Line) (post : Line) (older : List Line) (to : Place) (datagram : Datagram) → Within (post ∷ older) h → post.did.deed ≡ Acts (Post to datagram) → post_at (posted (dids older)) h ≡ post ∷ older
@@ -53,7 +52,7 @@ soon-at l t e post older to datagram w deed cause =
 
 pub life-by : (h : List Line) → all_soon h ≡ true → Life h
 life-by [] e = tt
-life-by (l ∷ t) e = let a = and-true (soon_by l.did.step.cause l.did.step.at t) (all_soon t) e in (soon-at l t a.0, life-by t a.1)
+life-by (l ∷ t) e = let a = and_parts (soon_by l.did.step.cause l.did.step.at t) (all_soon t) e in (soon-at l t a.0, life-by t a.1)
 
 abbrev ours_by : Cause → Deed → Bool
 ours_by Handed (Acts (Took (Peer p) taken)) = false
@@ -67,7 +66,7 @@ all_ours (l ∷ t) = ours_by l.did.step.cause l.did.deed && all_ours t
 pub honest-by : (h : List Line) → all_ours h ≡ true → Honest h
 honest-by [] e = tt
 honest-by (l ∷ t) e =
-    let a = and-true (ours_by l.did.step.cause l.did.deed) (all_ours t) e in
+    let a = and_parts (ours_by l.did.step.cause l.did.deed) (all_ours t) e in
     (λ handed p taken deed. true≢false (sym (subst₂ (λ c d. ours_by c d ≡ true) handed deed a.0)), honest-by t a.1)
 
 abbrev word_by : Deed → Cause → ℕ → Bool
@@ -87,18 +86,10 @@ abbrev pub all_new : List Line → Bool
 all_new [] = true
 all_new (l ∷ t) = new_by l.did.deed l.did.step.cause t && all_new t
 
-or-here : (a b : Bool) → a ≡ true → (a || b) ≡ true
-or-here true b e = refl
-or-here false b e = absurd (true≢false (sym e))
-
-or-there : (a b : Bool) → b ≡ true → (a || b) ≡ true
-or-there true b e = refl
-or-there false b e = e
-
 among : (t : List Line) (l : Line) (s : List Line) (w : ℕ) (wall : ℤ) → Within (l ∷ s) t → l.did.deed ≡ Acts Boot → l.did.step.cause ≡ Booted w wall → word_among w t ≡ true
 among [] l s w wall i deed cause = let bad : ⊥ = cc in absurd bad
-among (x ∷ t) l s w wall (inl e) deed cause = subst (λ z. word_among w z ≡ true) e (or-here (word_by l.did.deed l.did.step.cause w) (word_among w s) (rw (deed, cause) (eq-eqb w w refl)))
-among (x ∷ t) l s w wall (inr i) deed cause = or-there (word_by x.did.deed x.did.step.cause w) (word_among w t) (among t l s w wall i deed cause)
+among (x ∷ t) l s w wall (inl e) deed cause = subst (λ z. word_among w z ≡ true) e (or_left (word_by l.did.deed l.did.step.cause w) (word_among w s) (rw (deed, cause) (eq-eqb w w refl)))
+among (x ∷ t) l s w wall (inr i) deed cause = or_right (word_by x.did.deed x.did.step.cause w) (word_among w t) (among t l s w wall i deed cause)
 
 new-at : (l : Line) (t : List Line) → new_by l.did.deed l.did.step.cause t ≡ true → WordsAt l t
 new-at l t e other older v w x y i deed other_deed cause other_cause same =
@@ -108,7 +99,7 @@ new-at l t e other older v w x y i deed other_deed cause other_cause same =
 
 pub words-by : (h : List Line) → all_new h ≡ true → Words h
 words-by [] e = tt
-words-by (l ∷ t) e = let a = and-true (new_by l.did.deed l.did.step.cause t) (all_new t) e in (new-at l t a.0, words-by t a.1)
+words-by (l ∷ t) e = let a = and_parts (new_by l.did.deed l.did.step.cause t) (all_new t) e in (new-at l t a.0, words-by t a.1)
 
 -- all of them, of a history that ends with a step
 pub kept-by : (strict : Bool) (h : List Line) → Fits (still strict) h → all_settled h ≡ true → all_ours h ≡ true → all_soon h ≡ true → all_new h ≡ true → Kept (still strict) h
@@ -121,4 +112,4 @@ all_few (l ∷ t) = nat_lt (begun (view l.port (of (node_of l) (l ∷ t)))) 3276
 
 pub few-by : (h : List Line) → all_few h ≡ true → Few h
 few-by [] e = tt
-few-by (l ∷ t) e = let a = and-true (nat_lt (begun (view l.port (of (node_of l) (l ∷ t)))) 32768) (all_few t) e in (ltb-true (begun (view l.port (of (node_of l) (l ∷ t)))) 32768 a.0, few-by t a.1)
+few-by (l ∷ t) e = let a = and_parts (nat_lt (begun (view l.port (of (node_of l) (l ∷ t)))) 32768) (all_few t) e in (ltb-true (begun (view l.port (of (node_of l) (l ∷ t)))) 32768 a.0, few-by t a.1)

@@ -1,5 +1,5 @@
 -- What a Correct prints is what the clock shows right after it.
-use Rattle.std.specs.Prelude.{◌≡◌, ℕ, ◌-◌, ◌/◌, ℤ, pos, negsuc, ◌+ℤ◌, ◌-ℤ◌, nat_lt, nat_abs, Bool, true, false, ◌||◌, if◌then◌else◌, List, ◌∷◌, Some, refl}
+use Rattle.std.specs.Prelude.{◌≡◌, ℕ, ◌-◌, ◌/◌, ℤ, pos, ◌+ℤ◌, ◌-ℤ◌, nat_lt, nat_abs, Bool, true, false, ◌||◌, if◌then◌else◌, List, ◌∷◌, Some, refl}
 use Rattle.std.proofs.Common.{sym, ap, arith, subst, ◌∙◌}
 use Rattle.std.proofs.lemmas.Int.{ints}
 use Rattle.tsp_base.specs.declared.act.Act.TheVariants.{Correct, Took}
@@ -15,14 +15,10 @@ use Rattle.tsp_base.specs.NodeFacts.{base, eased, moved, rest, rest_at, shown, t
 use Rattle.tsp_base.specs.PortFacts.{taken_after}
 use Rattle.tsp_base.specs.SendFacts.{sets_date}
 use Rattle.tsp_base.specs.Takings.{heard}
+use Rattle.tsp_base.proofs.TickLemmas.{eased_none}
 use Rattle.tsp_promises.specs.CorrectFits.{is_stepped, sets_time}
 use Rattle.tsp_rules.specs.Guards.{target_at}
 use Rattle.tsp_rules.proofs.Asides.{now}
-
--- nothing is slewed by 0
-pub eased_none : (r : ℤ) → eased r 0 ≡ r
-eased_none (pos r) = grind (arith, ints)
-eased_none (negsuc r) = grind (arith, ints)
 
 -- nothing is slewed in no time
 eased-now : (r : ℤ) (x : ℕ) → eased r ((x - x) / SLEW) ≡ r

@@ -1,7 +1,7 @@
 -- What a reading asks of the lines after a place, by computing.
 use Rattle.std.specs.Prelude.{◌≡◌, ◌==◌, ◌&&◌, ◌≤◌, nat_le, cond, Bool, true, false, ℕ, zero, suc, ℤ, List, [], ◌∷◌, refl}
 use Rattle.std.proofs.Common.{sym, ap, subst, inl, inr, eq-eqb, true≢false, ◌∙◌}
-use Rattle.std.proofs.lemmas.Bool.{leb-true}
+use Rattle.std.proofs.lemmas.Bool.{leb-true, and_parts}
 use Rattle.tsp_base.specs.declared.act.Act.TheVariants.{Correct}
 use Rattle.tsp_promises.specs.Fits.{node_of}
 use Rattle.tsp_base.specs.History.{Acts, Deed, Line, of, dids}
@@ -10,7 +10,6 @@ use Rattle.tsp_base.specs.Places.{Within}
 use Rattle.tsp_promises.specs.Steady.{NoneStepped, ReadTicks, ReadTimes, Unstepped}
 use Rattle.tsp_base.proofs.PlaceLemmas.{Within-none, Within-strict}
 use Rattle.tsp_promises.proofs.Histories.{skip, skipped}
-use Rattle.tsp_promises.proofs.SendProof.{and-true}
 
 abbrev keeps : Deed → Bool
 keeps (Acts (Correct amount true value)) = false
@@ -42,19 +41,19 @@ none-by n zero h e l before amount stepped value w i node is = absurd (Within-st
 none-by n (suc k) [] e l before amount stepped value w i node is = Within-none l before w
 none-by n (suc k) (x ∷ t) e l before amount stepped value (inl w) i node is =
     let line : x ≡ l = cc in
-    let a = and-true (cond (node_of x == n) (keeps x.did.deed) true) (all_keep n k t) e in
+    let a = and_parts (cond (node_of x == n) (keeps x.did.deed) true) (all_keep n k t) e in
     not-stepped l.did.deed amount stepped value (subst (λ z. keeps z.did.deed ≡ true) line (own n x (keeps x.did.deed) a.0 (subst (λ z. node_of z ≡ n) (sym line) node))) is
 none-by n (suc k) (x ∷ t) e l before amount stepped value (inr w) i node is =
-    none-by n k t (and-true (cond (node_of x == n) (keeps x.did.deed) true) (all_keep n k t) e).1 l before amount stepped value w i node is
+    none-by n k t (and_parts (cond (node_of x == n) (keeps x.did.deed) true) (all_keep n k t) e).1 l before amount stepped value w i node is
 
 late-by : (f : Line → ℕ) (n x k : ℕ) (h : List Line) → all_late f n x k h ≡ true → (l : Line) (before : List Line) → Within (l ∷ before) h → Within (skip k h) before → node_of l ≡ n → x ≤ f l
 late-by f n x zero h e l before w i node = absurd (Within-strict l before h w i)
 late-by f n x (suc k) [] e l before w i node = Within-none l before w
 late-by f n x (suc k) (y ∷ t) e l before (inl w) i node =
     let line : y ≡ l = cc in
-    let a = and-true (cond (node_of y == n) (nat_le x (f y)) true) (all_late f n x k t) e in
+    let a = and_parts (cond (node_of y == n) (nat_le x (f y)) true) (all_late f n x k t) e in
     leb-true x (f l) (subst (λ z. nat_le x (f z) ≡ true) line (own n y (nat_le x (f y)) a.0 (subst (λ z. node_of z ≡ n) (sym line) node)))
-late-by f n x (suc k) (y ∷ t) e l before (inr w) i node = late-by f n x k t (and-true (cond (node_of y == n) (nat_le x (f y)) true) (all_late f n x k t) e).1 l before w i node
+late-by f n x (suc k) (y ∷ t) e l before (inr w) i node = late-by f n x k t (and_parts (cond (node_of y == n) (nat_le x (f y)) true) (all_late f n x k t) e).1 l before w i node
 
 -- after the first k lines, backwards
 pub unstepped-by : (n k : ℕ) (h : List Line) → lives (dids (of n (skip k h))) ≡ lives (dids (of n h)) → all_keep n k h ≡ true → Unstepped n (skip k h) h

@@ -1,6 +1,7 @@
 -- What a port does with a message of a peer keeps what is known of it, in each role.
 use Rattle.std.specs.Prelude.{◌≡◌, ◌≢◌, ℕ, ◌+◌, ◌==◌, ◌||◌, ℤ, Bool, true, false, [], ◌∷◌, Option, refl}
 use Rattle.std.proofs.Common.{sym, subst, inl, true≢false, ◌∙◌}
+use Rattle.std.proofs.lemmas.Bool.{and_parts}
 use Rattle.tsp_base.specs.declared.act.Act.TheVariants.{Post, Join, Rival}
 use Rattle.tsp_base.specs.declared.alarm.Alarm.TheVariants.{Resolve as ResolveAlarm}
 use Rattle.tsp_base.specs.declared.constants.TheConstants.{WINDOW}
@@ -34,7 +35,7 @@ use Rattle.tsp_promises.proofs.Leaves.{none-among, join, rival, arm_resolve}
 use Rattle.tsp_rules.proofs.Asides.{now}
 use Rattle.tsp_promises.proofs.PostLeaves.{post_message}
 use Rattle.tsp_promises.proofs.LeadsLeaves.{Leads_arms, Leads_posts, Leads_others, Leads_posts_time}
-use Rattle.tsp_rules.proofs.GuardFacts.{and-cases, same_peer}
+use Rattle.tsp_rules.proofs.GuardFacts.{same_peer}
 use Rattle.tsp_promises.proofs.TargetFacts.{sets_target}
 use Rattle.tsp_promises.proofs.CommonLeads.{begins_quit}
 use Rattle.tsp_promises.proofs.CorrectionLeads.{may_fits}
@@ -103,7 +104,7 @@ module _ {p : PeerId} {m : MessageValue} where
       (Leads_puts (Join p) (λ x past h. record { free = join p h.0.0.just.free; leads = h.0.1 }))
       (Leads_either (may_set p m.number) (reading target_at (posts_time p SetTime m.number)) nothing
       (Leads_reading target_at (posts_time p SetTime m.number) (λ t. Leads_posts_time p SetTime m.number t (λ x past h.
-      let may = and-cases (may_correct p m.number x past) (is_in_range x past) h.0.1 in
+      let may = and_parts (may_correct p m.number x past) (is_in_range x past) h.0.1 in
       rests_of (post_message p (timed SetTime m.number t past.name) refl (answers_slave x past t k may.0 (sets_target x past (now x past (Post (Peer p) (Message (timed SetTime m.number t past.name)))) (timed SetTime m.number t past.name) refl (sym h.1) may.1) h.0.0) h.0.0.free))))
       (Leads_from (λ x past h. rests_of h.0.free) Leads_nothing)))
       (idle_heard (λ x past h. h.0.0))

@@ -1,6 +1,7 @@
 -- Where a round began and where an open exchange was asked.
 use Rattle.std.specs.Prelude.{◌≡◌, ◌==◌, ◌&&◌, cond, Bool, true, false, ℕ, ◌⊎◌, List, [], ◌∷◌, refl}
 use Rattle.std.proofs.Common.{sym, ap, subst, inl, inr, eqb-true, ◌∙◌}
+use Rattle.std.proofs.lemmas.Bool.{and_parts}
 use Rattle.tsp_base.specs.declared.act.Act.TheVariants.{Boot, Post, Become, Arm, Ring, Late, Sample, Abandon}
 use Rattle.tsp_base.specs.declared.alarm.Alarm.TheVariants.{Close}
 use Rattle.tsp_base.specs.declared.datagram.Datagram.TheVariants.{Stamp}
@@ -10,7 +11,8 @@ use Rattle.tsp_base.specs.declared.stamp.Stamp.TheVariants.{Request}
 use Rattle.tsp_base.specs.History.{Deed, Acts, Did, Seen, Here, Elsewhere}
 use Rattle.tsp_base.specs.Places.{Within}
 use Rattle.tsp_base.specs.RoundFacts.{started, started_after, exchange, exchange_after}
-use Rattle.tsp_promises.proofs.SendProof.{and-true, peer-same, not-nil}
+use Rattle.tsp_rules.proofs.GuardFacts.{same_peer}
+use Rattle.tsp_promises.proofs.Leaves.{nil-cons}
 
 -- the last round's beginning stands at its place
 pub record StartedAt (start : Did) (idle seen : List Seen) : Type 0 where
@@ -20,12 +22,12 @@ pub record StartedAt (start : Did) (idle seen : List Seen) : Type 0 where
 
 started-deed : (d : Did) (before : List Seen) (start : Did) (idle : List Seen) (deed : Deed) → deed ≡ d.deed → started_after deed (Here d ∷ before) (started before) ≡ Here start ∷ idle →
     ((Here d ∷ before ≡ Here start ∷ idle) × ((at : ℕ) × (d.deed ≡ Acts (Arm Close at)))) ⊎ (started before ≡ Here start ∷ idle)
-started-deed d before start idle (Acts Boot) is e = not-nil (Here start) idle e
+started-deed d before start idle (Acts Boot) is e = nil-cons (Here start) idle e
 started-deed d before start idle (Acts (Arm Close at)) is e = inl (e, (at, sym is))
 started-deed d before start idle _ is e = inr e
 
 pub started_at : (seen : List Seen) (start : Did) (idle : List Seen) → started seen ≡ Here start ∷ idle → StartedAt start idle seen
-started_at [] start idle e = not-nil (Here start) idle e
+started_at [] start idle e = nil-cons (Here start) idle e
 started_at (Elsewhere d ∷ before) start idle e = let o = started_at before start idle e in record { place = inr o.place; at = o.at; deed = o.deed }
 started_at (Here d ∷ before) start idle e = elim (started-deed d before start idle d.deed refl e) [
   | inl h ↦
@@ -44,8 +46,8 @@ pub record ExchangeAt (p : PeerId) (c : ℕ) (post : Did) (older seen : List See
 exchange-post : (p q : PeerId) (c word counter : ℕ) (d : Did) (before : List Seen) (post : Did) (older keep : List Seen) → Acts (Post (Peer q) (Stamp (Request word counter))) ≡ d.deed → (keep ≡ Here post ∷ older → ExchangeAt p c post older before) →
     (b : Bool) → ((q.0 == p.0) && (counter == c)) ≡ b → cond b (Here d ∷ before) keep ≡ Here post ∷ older → ExchangeAt p c post older (Here d ∷ before)
 exchange-post p q c word counter d before post older keep is h true b e =
-    let one = and-true (q.0 == p.0) (counter == c) b in
-    let peer : q ≡ p = peer-same q p one.0 in
+    let one = and_parts (q.0 == p.0) (counter == c) b in
+    let peer : q ≡ p = same_peer q p one.0 in
     let number : counter ≡ c = eqb-true counter c one.1 in
     let deed : d ≡ post = cc in
     let rest : before ≡ older = cc in
@@ -60,7 +62,7 @@ exchange-post p q c word counter d before post older keep is h false b e =
     record { place = inr o.place; word = o.word; deed = o.deed; after = λ start idle s. o.after start idle (subst (λ k. started_after k (Here d ∷ before) (started before) ≡ Here start ∷ idle) (sym is) s) }
 
 exchange-sample : (b : Bool) (keep : List Seen) (post : Did) (older : List Seen) → cond b [] keep ≡ Here post ∷ older → keep ≡ Here post ∷ older
-exchange-sample true keep post older e = not-nil (Here post) older e
+exchange-sample true keep post older e = nil-cons (Here post) older e
 exchange-sample false keep post older e = e
 
 later : (p : PeerId) (c : ℕ) (d : Did) (before : List Seen) (post : Did) (older : List Seen) → started (Here d ∷ before) ≡ started before → ExchangeAt p c post older before → ExchangeAt p c post older (Here d ∷ before)
@@ -68,19 +70,19 @@ later p c d before post older s o = record { place = inr o.place; word = o.word;
 
 exchange-deed : (p : PeerId) (c : ℕ) (d : Did) (before : List Seen) (post : Did) (older : List Seen) (deed : Deed) → deed ≡ d.deed → (exchange p c before ≡ Here post ∷ older → ExchangeAt p c post older before) →
     exchange_after p c deed (Here d ∷ before) (exchange p c before) ≡ Here post ∷ older → ExchangeAt p c post older (Here d ∷ before)
-exchange-deed p c d before post older (Acts Boot) is h e = not-nil (Here post) older e
-exchange-deed p c d before post older (Acts (Become r)) is h e = not-nil (Here post) older e
-exchange-deed p c d before post older (Acts (Arm Close at)) is h e = not-nil (Here post) older e
-exchange-deed p c d before post older (Acts (Ring Close)) is h e = not-nil (Here post) older e
-exchange-deed p c d before post older (Acts (Late Close)) is h e = not-nil (Here post) older e
-exchange-deed p c d before post older (Acts Abandon) is h e = not-nil (Here post) older e
+exchange-deed p c d before post older (Acts Boot) is h e = nil-cons (Here post) older e
+exchange-deed p c d before post older (Acts (Become r)) is h e = nil-cons (Here post) older e
+exchange-deed p c d before post older (Acts (Arm Close at)) is h e = nil-cons (Here post) older e
+exchange-deed p c d before post older (Acts (Ring Close)) is h e = nil-cons (Here post) older e
+exchange-deed p c d before post older (Acts (Late Close)) is h e = nil-cons (Here post) older e
+exchange-deed p c d before post older (Acts Abandon) is h e = nil-cons (Here post) older e
 exchange-deed p c d before post older (Acts (Post (Peer q) (Stamp (Request word counter)))) is h e = exchange-post p q c word counter d before post older (exchange p c before) is h _ refl e
 exchange-deed p c d before post older (Acts (Sample q counter diff err ticket)) is h e =
     later p c d before post older (ap (λ k. started_after k (Here d ∷ before) (started before)) (sym is)) (h (exchange-sample ((q.0 == p.0) && (counter == c)) (exchange p c before) post older e))
 exchange-deed p c d before post older deed is h e = later p c d before post older (ap (λ k. started_after k (Here d ∷ before) (started before)) (sym is)) (h e)
 
 pub exchange_at : (p : PeerId) (c : ℕ) (seen : List Seen) (post : Did) (older : List Seen) → exchange p c seen ≡ Here post ∷ older → ExchangeAt p c post older seen
-exchange_at p c [] post older e = not-nil (Here post) older e
+exchange_at p c [] post older e = nil-cons (Here post) older e
 exchange_at p c (Elsewhere d ∷ before) post older e = let o = exchange_at p c before post older e in record { place = inr o.place; word = o.word; deed = o.deed; after = o.after }
 exchange_at p c (Here d ∷ before) post older e = exchange-deed p c d before post older d.deed refl (λ k. exchange_at p c before post older k) e
 

@@ -19,7 +19,7 @@ same-row NodeBoots here = record { run = λ x past s one c. same_boots.run x pas
 same-row (NodeAnswers g) here = same_answers g here
 
 -- a node keeps its ports
-ports-ran : (hs : List NodeHappening) (past : NodePast) → (node_ran hs past).ports ≡ past.ports
+pub ports-ran : (hs : List NodeHappening) (past : NodePast) → (node_ran hs past).ports ≡ past.ports
 ports-ran [] past = refl
 ports-ran (h ∷ before) past = ports-ran before past
 

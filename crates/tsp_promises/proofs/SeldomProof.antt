@@ -19,11 +19,11 @@ use Rattle.tsp_promises.specs.Setting.{Setting, setup_of}
 use Rattle.tsp_base.specs.Setup.{Setup}
 use Rattle.tsp_promises.proofs.EverywhereLemmas.{Everywhere-from}
 use Rattle.tsp_promises.proofs.HistoryPlaces.{of-own, own_in}
-use Rattle.tsp_promises.proofs.LateProof.{lives-deed}
 use Rattle.tsp_promises.proofs.Locating.{fits_in, view-line}
 use Rattle.tsp_promises.proofs.OwnFitsProof.{fits_at, own_fits}
 use Rattle.tsp_promises.proofs.PortFits.{deed_fits}
 use Rattle.tsp_promises.proofs.SinceProof.{since}
+use Rattle.tsp_promises.proofs.SteadyProof.{lives-more}
 
 -- what stands after a round's end: no other round yet, or one that began ROUND later
 abbrev Ahead : Did → List Seen → List Seen → Option ℕ → Type 0
@@ -60,7 +60,7 @@ module _ (setting : Setting) (q : Port) (first : Did) (idle : List Seen) where
   along s (l ∷ t) f (inl e) life st shut_is = subst (λ z. Ahead first idle (started (view q z)) (armed (view q z)).close) e (inl (st, shut_is))
   along s (l ∷ t) f (inr w) life st shut_is =
       let less = (since setting s t f.1 w).lives in
-      let more = lives-deed l.did.deed (lives (dids t)) in
+      let more = lives-more l.did.deed (lives (dids t)) in
       let same : lives_after l.did.deed (lives (dids t)) ≡ lives (dids t) = omega (arith, less, more, life) in
       let here : lives (dids s) ≡ lives (dids t) = omega (arith, less, more, life) in
       one-more l t f.0.deeds same (along s t f.1 w here st shut_is) ((l.port.0 == q.0) || is_shared l.did.deed) refl

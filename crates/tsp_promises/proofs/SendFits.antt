@@ -1,6 +1,7 @@
 -- What stands behind an open send and behind an acknowledged correction.
 use Rattle.std.specs.Prelude.{◌≡◌, ◌==◌, ◌&&◌, cond, Bool, true, false, List, [], ◌∷◌, None, Some, refl}
 use Rattle.std.proofs.Common.{sym, subst, ap, ◌∙◌}
+use Rattle.std.proofs.lemmas.Bool.{and_parts}
 use Rattle.tsp_base.specs.declared.act.Act.TheVariants.{Boot, Post, Become, Acked, Gave}
 use Rattle.tsp_base.specs.declared.datagram.Datagram.TheVariants.{Message}
 use Rattle.tsp_base.specs.declared.place.PeerId.{PeerId}
@@ -13,7 +14,7 @@ use Rattle.tsp_base.specs.SendFacts.{is_numbered, Sending, open_send, sending_at
 use Rattle.tsp_base.specs.Setup.{Setup}
 use Rattle.tsp_promises.specs.PortFits.{PortFits}
 use Rattle.tsp_promises.proofs.Leaves.{nil-cons, none-some, some-same}
-use Rattle.tsp_rules.proofs.GuardFacts.{and-cases, same_peer}
+use Rattle.tsp_rules.proofs.GuardFacts.{same_peer}
 
 -- the beginning of the open send: its first post, in the role that the port still has
 pub record Began (setup : Setup) (p : PeerId) (seen : List Seen) : Type 0 where
@@ -39,8 +40,8 @@ began-post : (setup : Setup) (p q : PeerId) (m : MessageValue) (d : Did) (before
     (b : Bool) → ((q.0 == p.0) && (is_numbered m.kind && acting before)) ≡ b → cond b (Here d ∷ before) (open_to p before) ≡ s ∷ older →
     open_to p (Here d ∷ before) ≡ cond b (Here d ∷ before) (open_to p before) → role (Here d ∷ before) ≡ role before → Began setup p (Here d ∷ before)
 began-post setup p q m d before s older is f k true test e place r =
-    let one = and-cases (q.0 == p.0) (is_numbered m.kind && acting before) test in
-    let two = and-cases (is_numbered m.kind) (acting before) one.1 in
+    let one = and_parts (q.0 == p.0) (is_numbered m.kind && acting before) test in
+    let two = and_parts (is_numbered m.kind) (acting before) one.1 in
     let same : q ≡ p = same_peer q p one.0 in
     let deed : d.deed ≡ Acts (Post (Peer p) (Message m)) = subst (λ t. d.deed ≡ Acts (Post (Peer t) (Message m))) same (sym is) in
     record { first = d; older = before; is = place; message = m; deed = deed; numbered = two.0; fits = (subst (λ t. DeedFits setup t d before) deed f).fits; role_is = r }

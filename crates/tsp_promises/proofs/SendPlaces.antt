@@ -63,7 +63,7 @@ repeats_in setting m p o k msg f node deed kind =
     subst (λ n. acting (view p.port (of n o)) ≡ false → RepeatFits p.did (view p.port (of n o)) k msg) node
     (repeats-of (setup_of setting (node_of p) p.port) msg.kind p.did (view p.port (of (node_of p) o)) k msg kind (deed_fits setting p o (Acts (Post (Peer k) (Message msg))) deed f).fits)
 
-not-shared : (d : Did) (to : Place) (datagram : Datagram) → d.deed ≡ Acts (Post to datagram) → is_shared d.deed ≡ false
+pub not-shared : (d : Did) (to : Place) (datagram : Datagram) → d.deed ≡ Acts (Post to datagram) → is_shared d.deed ≡ false
 not-shared d to datagram e = rw e refl
 
 pub send_place : (setting : Setting) (m k : ℕ) (p : Line) (o : List Line) (msg : MessageValue) → Fits setting (p ∷ o) → node_of p ≡ m → p.did.deed ≡ Acts (Post (Peer (peer_of k)) (Message msg)) → is_numbered msg.kind ≡ true →

@@ -1,6 +1,7 @@
 -- Sends: where the last one to a peer began, and which one a post belongs to.
 use Rattle.std.specs.Prelude.{◌≡◌, ◌==◌, ◌&&◌, cond, Bool, true, false, ℕ, ◌+◌, ◌≤◌, ◌⊎◌, List, [], ◌∷◌, refl}
-use Rattle.std.proofs.Common.{sym, ap, arith, subst, inl, inr, eq-eqb, eqb-true, true≢false, ◌∙◌}
+use Rattle.std.proofs.Common.{sym, ap, arith, subst, inl, inr, eq-eqb, true≢false, ◌∙◌}
+use Rattle.std.proofs.lemmas.Bool.{and_parts}
 use Rattle.tsp_base.specs.declared.act.Act.TheVariants.{Boot, Post, Become, Acked, Gave}
 use Rattle.tsp_base.specs.declared.constants.TheConstants.{LAST}
 use Rattle.tsp_base.specs.declared.datagram.Datagram.TheVariants.{Message}
@@ -9,12 +10,14 @@ use Rattle.tsp_base.specs.declared.kind.Kind.TheVariants.{AdjTime, SetTime}
 use Rattle.tsp_base.specs.declared.place.PeerId.{PeerId}
 use Rattle.tsp_base.specs.declared.place.Place.TheVariants.{Peer}
 use Rattle.tsp_promises.specs.CorrectionFits.{RepeatFits}
+use Rattle.tsp_promises.proofs.Leaves.{nil-cons}
 use Rattle.tsp_base.specs.History.{Acts, Deed, Did, Seen, Here, Elsewhere}
 use Rattle.tsp_base.specs.Messages.{MessageValue}
 use Rattle.tsp_base.specs.Places.{Within}
 use Rattle.tsp_base.specs.PortFacts.{acting}
 use Rattle.tsp_base.specs.SendFacts.{begun_to, begun_to_after, is_correction, is_numbered, open_to, open_to_after}
 use Rattle.tsp_base.specs.Takings.{peer_of}
+use Rattle.tsp_rules.proofs.GuardFacts.{same_peer}
 
 -- a numbered send of this message to p begins here
 pub record BeginsSend (p : PeerId) (m : MessageValue) (first : Did) (older : List Seen) : Type 0 where
@@ -40,13 +43,6 @@ corrects-sends p m first older c = record { deed = c.deed; kind = numbered m.kin
 pub sends-correct : (p : PeerId) (m : MessageValue) (first : Did) (older : List Seen) → BeginsSend p m first older → is_correction m.kind ≡ true → CorrectsTo p m first older
 sends-correct p m first older b kind = record { deed = b.deed; kind = kind; begins = b.begins }
 
-pub and-true : (a b : Bool) → (a && b) ≡ true → (a ≡ true) × (b ≡ true)
-and-true true b e = (refl, e)
-and-true false b e = absurd (true≢false (sym e))
-
-pub peer-same : (q p : PeerId) → (q.0 == p.0) ≡ true → q ≡ p
-peer-same q p e = ap peer_of (eqb-true q.0 p.0 e)
-
 pub number-same : (m n : ℕ) → peer_of m ≡ peer_of n → m ≡ n
 number-same m n e = ap (λ (p : PeerId). p.0) e
 
@@ -54,11 +50,8 @@ number-same m n e = ap (λ (p : PeerId). p.0) e
 pub one-message : (j k : PeerId) (m n : MessageValue) → Acts (Post (Peer j) (Message m)) ≡ Acts (Post (Peer k) (Message n)) → m ≡ n
 one-message j k m n e = cc
 
-pub not-nil : {B : Type 0} (s : Seen) (older : List Seen) → [] ≡ s ∷ older → B
-not-nil s older e = let bad : ⊥ = cc in absurd bad
-
 pub if-nil : (b : Bool) (keep : List Seen) (s : Seen) (older : List Seen) → cond b [] keep ≡ s ∷ older → keep ≡ s ∷ older
-if-nil true keep s older e = not-nil s older e
+if-nil true keep s older e = nil-cons s older e
 if-nil false keep s older e = e
 
 -- the last send begins at the newest deed
@@ -71,9 +64,9 @@ pub record BeginsHere (p : PeerId) (d : Did) (before : List Seen) (first : Did) 
 begun-post : (p q : PeerId) (m : MessageValue) (d : Did) (before : List Seen) (first : Did) (older keep : List Seen) → Acts (Post (Peer q) (Message m)) ≡ d.deed → (b : Bool) → ((q.0 == p.0) && (is_numbered m.kind && acting before)) ≡ b →
     cond b (Here d ∷ before) keep ≡ Here first ∷ older → BeginsHere p d before first older ⊎ (keep ≡ Here first ∷ older)
 begun-post p q m d before first older keep is true e h =
-    let one = and-true (q.0 == p.0) (is_numbered m.kind && acting before) e in
-    let two = and-true (is_numbered m.kind) (acting before) one.1 in
-    let same : q ≡ p = peer-same q p one.0 in
+    let one = and_parts (q.0 == p.0) (is_numbered m.kind && acting before) e in
+    let two = and_parts (is_numbered m.kind) (acting before) one.1 in
+    let same : q ≡ p = same_peer q p one.0 in
     let deed : d ≡ first = cc in
     let rest : before ≡ older = cc in
     inl (record {
@@ -90,7 +83,7 @@ begun-post p q m d before first older keep is false e h = inr h
 
 begun-deed : (p : PeerId) (d : Did) (before : List Seen) (first : Did) (older : List Seen) (deed : Deed) → deed ≡ d.deed →
     begun_to_after p deed (acting before) (Here d ∷ before) (begun_to p before) ≡ Here first ∷ older → BeginsHere p d before first older ⊎ (begun_to p before ≡ Here first ∷ older)
-begun-deed p d before first older (Acts Boot) is e = not-nil (Here first) older e
+begun-deed p d before first older (Acts Boot) is e = nil-cons (Here first) older e
 begun-deed p d before first older (Acts (Post (Peer q) (Message m))) is e = begun-post p q m d before first older (begun_to p before) is _ refl e
 begun-deed p d before first older _ is e = inr e
 
@@ -105,7 +98,7 @@ pub record Opened (p : PeerId) (first : Did) (older seen : List Seen) : Type 0 w
   pub begins : BeginsSend p message first older
 
 pub begun_at : (p : PeerId) (seen : List Seen) (first : Did) (older : List Seen) → begun_to p seen ≡ Here first ∷ older → Opened p first older seen
-begun_at p [] first older e = not-nil (Here first) older e
+begun_at p [] first older e = nil-cons (Here first) older e
 begun_at p (Elsewhere d ∷ before) first older e = let o = begun_at p before first older e in record { place = inr o.place; message = o.message; begins = o.begins }
 begun_at p (Here d ∷ before) first older e = elim (begun-here p d before first older e) [
   | inl h ↦ record { place = inl (let a = h.deed in let b = h.rest in cc); message = h.message; begins = h.begins }
@@ -118,8 +111,8 @@ open-if false here now began s older h e = h e
 
 open-deed : (p : PeerId) (d : Did) (before : List Seen) (s : Seen) (older : List Seen) (deed : Deed) → (open_to p before ≡ s ∷ older → begun_to p before ≡ s ∷ older) →
     open_to_after p deed (acting before) (Here d ∷ before) (open_to p before) ≡ s ∷ older → begun_to_after p deed (acting before) (Here d ∷ before) (begun_to p before) ≡ s ∷ older
-open-deed p d before s older (Acts Boot) h e = not-nil s older e
-open-deed p d before s older (Acts (Become r)) h e = not-nil s older e
+open-deed p d before s older (Acts Boot) h e = nil-cons s older e
+open-deed p d before s older (Acts (Become r)) h e = nil-cons s older e
 open-deed p d before s older (Acts (Post (Peer q) (Message m))) h e = open-if _ (Here d ∷ before) (open_to p before) (begun_to p before) s older h e
 open-deed p d before s older (Acts (Acked q)) h e = h (if-nil (q.0 == p.0) (open_to p before) s older e)
 open-deed p d before s older (Acts (Gave q)) h e = h (if-nil (q.0 == p.0) (open_to p before) s older e)
@@ -127,7 +120,7 @@ open-deed p d before s older _ h e = h e
 
 -- the open send is the last one that began
 pub open_begun : (p : PeerId) (seen : List Seen) (s : Seen) (older : List Seen) → open_to p seen ≡ s ∷ older → begun_to p seen ≡ s ∷ older
-open_begun p [] s older e = not-nil s older e
+open_begun p [] s older e = nil-cons s older e
 open_begun p (Elsewhere d ∷ before) s older e = open_begun p before s older e
 open_begun p (Here d ∷ before) s older e = open-deed p d before s older d.deed (open_begun p before s older) e
 

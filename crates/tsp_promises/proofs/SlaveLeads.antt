@@ -1,6 +1,7 @@
 -- The rows of a port that is Loose or follows keep what is known of it.
 use Rattle.std.specs.Prelude.{◌≡◌, ◌≢◌, ◌⊎◌, ◌≤◌, ℕ, ◌+◌, ◌==◌, ℤ, ◌-ℤ◌, Bool, true, false, ◌||◌, if◌then◌else◌, List, [], ◌∷◌, Option, None, Some, refl}
 use Rattle.std.proofs.Common.{sym, subst, inl, inr, ap, arith, true≢false, eqb-true, ◌∙◌}
+use Rattle.std.proofs.lemmas.Bool.{and_parts}
 use Rattle.tsp_base.specs.declared.act.Act.TheVariants.{Boot, Back, Correct, Post, Quit}
 use Rattle.tsp_base.specs.declared.alarm.Alarm.TheVariants.{Search}
 use Rattle.tsp_base.specs.declared.constants.TheConstants.{QUIET, GAP}
@@ -35,7 +36,7 @@ use Rattle.tsp_promises.proofs.Leaves.{correct, arm_elect, none-among}
 use Rattle.tsp_promises.proofs.PostLeaves.{post_knows, post_message}
 use Rattle.tsp_promises.proofs.Changes.{Quitting, quitting_of, back_other, quit_acked, quit_taken}
 use Rattle.tsp_promises.proofs.LeadsLeaves.{Leads_posts}
-use Rattle.tsp_rules.proofs.GuardFacts.{and-cases, past_is, back_is, same_peer}
+use Rattle.tsp_rules.proofs.GuardFacts.{past_is, back_is, same_peer}
 use Rattle.tsp_promises.proofs.CommonLeads.{arms_elect_keeps, arms_elect_during, tells_ticket_during, follow_leads, begins_conflict}
 use Rattle.tsp_promises.proofs.Printed.{adjusts_prints, flag_of, sets_prints}
 use Rattle.tsp_promises.proofs.TakenLeads.{Says, Heard, HeardIn, rests_of, ack_fits, quit_ack, quits_now}
@@ -137,7 +138,7 @@ no_close x past q r h (Some at) e = let leads = (h.knows.round.closes refl at e)
 is_by-is : (p : PeerId) (number : ℕ) (o : Option Correcting) → is_by p number o ≡ true → o ≡ Some (record { from = p; number = number })
 is_by-is p number None e = absurd (true≢false (sym e))
 is_by-is p number (Some c) e =
-    let both = and-cases (c.from.0 == p.0) (c.number == number) e in
+    let both = and_parts (c.from.0 == p.0) (c.number == number) e in
     let from : c.from ≡ p = same_peer c.from p both.0 in
     let count : c.number ≡ number = eqb-true c.number number both.1 in
     ap (λ (q : PeerId). Some (record { from = q; number = c.number })) from ∙ ap (λ n. Some (record { from = p; number = n })) count
@@ -172,7 +173,7 @@ module _ {p : PeerId} {m : MessageValue} where
   obeys x past amount stepped printed sets kind h next amount_is sets_is steps prints =
       let free = h.0.just.free in
       let just = h.0.just in
-      let both = and-cases (m.number == ticket (plain past.seen)) (is_past (correct_tick (plain past.seen)) GAP x) next in
+      let both = and_parts (m.number == ticket (plain past.seen)) (is_past (correct_tick (plain past.seen)) GAP x) next in
       let rested = free.rested refl in
       record {
         free = correct amount stepped printed (no_close x past p h.1 free _ refl) (record {
@@ -204,7 +205,7 @@ module _ {p : PeerId} {m : MessageValue} where
       (Leads_then {Q = Obeyed p m.number (Says p m)} (adjusts (time_in m.body)) (confirms p m.number)
       (record {
         run = λ x past h.
-            let both = and-cases (is_next m.number x past) (can_adjust (time_in m.body) x past) h.1 in
+            let both = and_parts (is_next m.number x past) (can_adjust (time_in m.body) x past) h.1 in
             obeys x past (time_in m.body) (is_step (time_in m.body)) _ false kind h.0 both.0 (sym (ap (λ i. amount_of i (time_in m.body) (target (plain past.seen) x)) k))
             (ap sets_time k) refl (adjusts_prints x past (time_in m.body) (is_step (time_in m.body)));
       })
@@ -219,7 +220,7 @@ module _ {p : PeerId} {m : MessageValue} where
       (Leads_then {Q = Obeyed p m.number (Says p m)} (sets (time_in m.body)) (confirms p m.number)
       (record {
         run = λ x past h.
-            let both = and-cases (is_next m.number x past) (is_clock_value (time_in m.body)) h.1 in
+            let both = and_parts (is_next m.number x past) (is_clock_value (time_in m.body)) h.1 in
             obeys x past (time_in m.body -ℤ target (plain past.seen) x) true (time_in m.body) true kind h.0 both.0 (sym (ap (λ i. amount_of i (time_in m.body) (target (plain past.seen) x)) k))
             (ap sets_time k) refl (sets_prints x past (time_in m.body));
       })

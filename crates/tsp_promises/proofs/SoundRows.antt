@@ -3,6 +3,7 @@ use Rattle.std.specs.Prelude.{◌≡◌, ◌<◌, ◌^◌, ℕ, ◌+◌, ◌%◌
 use Rattle.std.proofs.Common.{sym, subst, arith}
 use Rattle.std.proofs.Math.Nat.{mod-lt}
 use Rattle.std.proofs.lemmas.Int.{ints}
+use Rattle.std.proofs.lemmas.Bool.{and_parts}
 use Rattle.tsp_base.specs.declared.act.Act.{Act}
 use Rattle.tsp_base.specs.declared.act.Act.TheVariants.{Post, Become, Back, Quit, Leave, Acked, Gave, Trace}
 use Rattle.tsp_base.specs.declared.alarm.Alarm.{Alarm}
@@ -29,11 +30,10 @@ use Rattle.tsp_base.specs.Stamps.{IsReply}
 use Rattle.tsp_base.specs.Times.{IsMicros}
 use Rattle.tsp_base.proofs.LeadsLemmas.{Leads_then, Leads_either, Leads_reading, Leads_nothing, Leads_puts, Leads_each, Leads_from}
 use Rattle.tsp_rules.specs.CommonRows.{arms_elect, searches, tells_ticket, follow_row, own_at, backs_own, candidature_row, follows_unless, quits, posts_reply, replies, master_name_in, master_name, names_master, says_master, traces, may_be_asked, is_awake, tests}
-use Rattle.tsp_rules.specs.SendRows.{next_number, begins, begins_timed, others_at, begins_to_others, may_correct, begins_adjtime, may_set, begins_settime, open_at, has_other, acknowledges, is_send_due, is_spent, leaves_after, gives_up, repeats, repeats_send, due_send, repeats_bare_send, bare_send, peers_at, due_sends}
+use Rattle.tsp_rules.specs.SendRows.{next_number, begins, begins_timed, others_at, begins_to_others, may_correct, begins_adjtime, may_set, begins_settime, open_at, has_other, acknowledges, is_send_due, is_spent, leaves_after, gives_up, repeats, repeats_send, due_send, peers_at, due_sends}
 use Rattle.tsp_rules.specs.Guards.{role_at, ticket_at, target_at, delay_at, is_clock_value, is_in_range, is_master_at, is_slave_at}
 use Rattle.tsp_promises.specs.Sound.{IsSound, IsSoundAct, SoundPast}
 use Rattle.tsp_promises.proofs.LeadsLeaves.{Leads_arms, Leads_posts, Leads_posts_back, Leads_posts_time, Leads_others}
-use Rattle.tsp_rules.proofs.GuardFacts.{and-cases}
 use Rattle.tsp_promises.proofs.SoundFacts.{no_name, kept_sound, open_sound}
 
 -- a port that is sound
@@ -189,7 +189,7 @@ pub sound_begins_settime : (p : PeerId) (number : ℕ) → number < 2 ^ 16 → S
 unfolding begins_settime body_fits carries_time carries_hops
 sound_begins_settime p number few = Leads_either (may_set p number) (reading target_at (posts_time p SetTime number)) nothing
     (Leads_reading target_at (posts_time p SetTime number) (λ t. Leads_posts_time p SetTime number t (λ x past h.
-    let may = and-cases (may_correct p number x past) (is_in_range x past) h.0.1 in
+    let may = and_parts (may_correct p number x past) (is_in_range x past) h.0.1 in
     sound_act x past _ (λ c n. refl) (timed_sound SetTime number t past.name refl few (subst IsMicros h.1 (clock_time (target_at x past) may.1)) h.0.0.name) h.0.0)))
     (Leads_from (λ x past h. h.0) Leads_nothing)
 
@@ -209,17 +209,6 @@ sound_due_send p = Leads_reading (open_at p) (repeats_send p) by_send where
   by_send (Some s) = Leads_either (is_send_due s) (either_by (is_spent s) (puts (Gave p) followed_by leaves_after p s.message.kind) (repeats p s.message)) nothing
       (Leads_either (is_spent s) (puts (Gave p) followed_by leaves_after p s.message.kind) (repeats p s.message)
       (Leads_from (λ x past h. h.0.0.0) (Leads_then (puts (Gave p)) (leaves_after p s.message.kind) (sound_puts (Gave p) (λ c n. refl) tt) (leaves-sound p s.message.kind)))
-      (Leads_from (λ x past h. h.0.0) (repeats-sound p s)))
-      (Leads_from (λ x past h. h.0.0) Leads_nothing)
-
-pub sound_bare_send : (p : PeerId) → Soundly (bare_send p)
-unfolding bare_send repeats_bare_send
-sound_bare_send p = Leads_reading (open_at p) (repeats_bare_send p) by_send where
-  by_send : (o : Option Sending) → Leads (λ x past. SoundPast past × (open_at p x past ≡ o)) (repeats_bare_send p o) SoundAt
-  by_send None = Leads_from (λ x past h. h.0) Leads_nothing
-  by_send (Some s) = Leads_either (is_send_due s) (either_by (is_spent s) (puts (Gave p)) (repeats p s.message)) nothing
-      (Leads_either (is_spent s) (puts (Gave p)) (repeats p s.message)
-      (Leads_from (λ x past h. h.0.0.0) (sound_puts (Gave p) (λ c n. refl) tt))
       (Leads_from (λ x past h. h.0.0) (repeats-sound p s)))
       (Leads_from (λ x past h. h.0.0) Leads_nothing)
 

@@ -1,9 +1,9 @@
 -- A whole step keeps a port sound, where what it is given is.
-use Rattle.std.specs.Prelude.{◌≡◌, ◌<◌, ◌^◌, ℕ, ◌==◌, ℤ, Bool, true, false, if◌then◌else◌, List, [], ◌∷◌, ◌++◌, Option, None, Some, All, refl}
+use Rattle.std.specs.Prelude.{◌<◌, ℕ, ◌==◌, Bool, true, false, if◌then◌else◌, List, [], ◌∷◌, ◌++◌, Option, None, Some, All, refl}
 use Rattle.std.proofs.Common.{subst, arith, append-nil, sym}
 use Rattle.std.proofs.lemmas.List.Elements.{All-nil, All-cons}
 use Rattle.tsp_base.specs.declared.act.Act.{Act}
-use Rattle.tsp_base.specs.declared.act.Act.TheVariants.{Boot, Took, Acked, Leave, Abandon}
+use Rattle.tsp_base.specs.declared.act.Act.TheVariants.{Took, Acked, Leave, Abandon}
 use Rattle.tsp_base.specs.declared.datagram.Datagram.TheVariants.{Message, Stamp}
 use Rattle.tsp_base.specs.declared.datagram.Taken.{Taken}
 use Rattle.tsp_base.specs.declared.datagram.Taken.TheVariants.{Good, Bad}
@@ -15,20 +15,18 @@ use Rattle.tsp_base.specs.declared.place.Place.TheVariants.{Peer, Stranger}
 use Rattle.tsp_base.specs.declared.role.Role.{Role}
 use Rattle.tsp_base.specs.declared.role.Role.TheVariants.{Follow, Master}
 use Rattle.tsp_base.specs.declared.stamp.Stamp.TheVariants.{Request, Reply}
-use Rattle.tsp_base.specs.History.{Booted, Step, Seen, Here, Acts, Past, plain}
+use Rattle.tsp_base.specs.History.{Step, Seen, Here, Acts, Past}
 use Rattle.tsp_base.specs.Kinds.{carries_time, carries_hops}
 use Rattle.tsp_base.specs.Messages.{MessageValue, body_fits}
-use Rattle.tsp_base.specs.Names.{IsName}
-use Rattle.tsp_base.specs.NodeFacts.{word, word_after}
+use Rattle.tsp_base.specs.NodeFacts.{word}
 use Rattle.tsp_base.specs.RoundFacts.{OpenRequest}
-use Rattle.tsp_base.specs.Rows.{Row, added, grown, in_step, nothing, puts, arms, ◌followed_by◌, either_by, reading, for_each, posts, posts_back, posts_to_others}
+use Rattle.tsp_base.specs.Rows.{Row, added, grown, nothing, puts, ◌followed_by◌, either_by, reading, for_each, posts, posts_back, posts_to_others}
 use Rattle.tsp_base.specs.Stamps.{ReplyValue}
 use Rattle.tsp_base.specs.Takings.{time_in}
 use Rattle.tsp_base.proofs.LeadsLemmas.{Leads_then, Leads_nothing, Leads_each}
 use Rattle.tsp_base.proofs.RowLemmas.{added_append}
 use Rattle.tsp_rules.specs.Answers.{due_alarms, peer_says, replies_in, peer_replies, from_peer, handles_kind, is_left, handles, takes, Turn, Got, input_row, answers}
 use Rattle.tsp_rules.specs.ClockRows.{sets}
-use Rattle.tsp_rules.specs.CommonRows.{boots}
 use Rattle.tsp_rules.specs.DateRows.{may_pass_on, passes_on, may_date, leaves, leaves_all, new_date, sets_date_where, date_in, date_of, is_dated, sets_in_charge, date_request_in, date_request_of, has_date, date_acked_in, date_acked}
 use Rattle.tsp_rules.specs.RoundRows.{request_at, sample_of, samples_request, samples, corrects, abandons, abandons_going, upsetting}
 use Rattle.tsp_rules.specs.SendRows.{begins_timed, due_sends}
@@ -156,20 +154,3 @@ acts_sound step x [] seen h = All-nil IsSoundAct
 acts_sound step x (a ∷ rest) seen h =
     let now = Here (record { step = step; tick = x; deed = Acts a }) ∷ seen in
     All-cons IsSoundAct a rest (before-sound step x rest now h).0 (acts_sound step x rest now h)
-
--- a port that has done nothing is sound
-pub nothing_sound : (past : Past) → IsName past.name → SoundPast (record past { seen = [] })
-nothing_sound past name = record { name = name; word_fits = omega arith; acts = tt }
-
--- so is one whose step begins
-pub begins_sound : (step : Step) (x : ℕ) (past : Past) → SoundPast past → SoundPast (in_step step x past)
-begins_sound step x past h = record { name = h.name; word_fits = h.word_fits; acts = (tt, h.acts) }
-
--- and one whose node boots with a word of 64 bits
-pub boots_sound : (x : ℕ) (past : Past) (word : ℕ) (wall : ℤ) → past.step.cause ≡ Booted word wall → word < 2 ^ 64 → SoundPast past → SoundPast (grown x past (boots x past))
-unfolding boots puts arms ◌followed_by◌
-boots_sound x past w wall is few h = record {
-  name = h.name;
-  word_fits = subst (λ c. word_after (Acts Boot) c (word (plain past.seen)) < 2 ^ 64) (sym is) few;
-  acts = (tt, (tt, (tt, h.acts)));
-}

@@ -2,7 +2,7 @@
 use Rattle.std.specs.Prelude.{◌≡◌, ◌⊎◌, ℕ, ◌==◌, ◌||◌, ◌&&◌, ℤ, Bool, true, false, if◌then◌else◌, List, [], ◌∷◌, ◌++◌, refl}
 use Rattle.std.proofs.Common.{sym, ap, inl, inr, true≢false}
 use Rattle.tsp_base.specs.declared.act.Act.{Act}
-use Rattle.tsp_base.specs.declared.act.Act.TheVariants.{Correct, Took}
+use Rattle.tsp_base.specs.declared.act.Act.TheVariants.{Took}
 use Rattle.tsp_base.specs.declared.datagram.Datagram.TheVariants.{Message}
 use Rattle.tsp_base.specs.declared.datagram.Taken.{Taken}
 use Rattle.tsp_base.specs.declared.datagram.Taken.TheVariants.{Good}
@@ -31,29 +31,21 @@ use Rattle.tsp_rules.proofs.FewActs.{Calm, is_calm_act, is_calm, calm_posts, cal
 use Rattle.tsp_rules.proofs.CalmRows.{calm-quits, calm-candidature}
 use Rattle.tsp_rules.proofs.CalmTaken.{calm-masterup, calm-masterack, calm-election, calm-ends, calm_candidate, calm_master}
 use Rattle.tsp_rules.proofs.CalmSteps.{calm-date-acked, calm_stamps, is_message}
+use Rattle.tsp_promises.proofs.Elsewheres.{calm-correct}
 
 -- acts that don't correct the clock
 pub record Still (row : Row) : Type 0 where
   pub run : (x : ℕ) (past : Past) → corrects (row x past) ≡ false
 
--- calm acts that may not move the clock don't correct it
-still-act : (strange : Bool) (a : Act) → is_calm_act strange false a ≡ true → is_correct a ≡ false
-still-act strange (Correct amount stepped shown) e = absurd (true≢false (sym e))
-still-act strange _ e = refl
-
 still-acts : (strange : Bool) (acts : List Act) → is_calm strange false acts ≡ true → corrects acts ≡ false
 still-acts strange [] e = refl
 still-acts strange (a ∷ rest) e = both (is_calm_act strange false a) refl e (λ k. still-acts strange rest k) where
   both : (b : Bool) → is_calm_act strange false a ≡ b → (b && is_calm strange false rest) ≡ true → (is_calm strange false rest ≡ true → corrects rest ≡ false) → (is_correct a || corrects rest) ≡ false
-  both true i k later = rw (still-act strange a i) (later k)
+  both true i k later = rw (calm-correct strange a i) (later k)
   both false i k later = absurd (true≢false (sym k))
 
 pub still_calm : (strange : Bool) (k c : ℕ) (row : Row) → Calm strange false k c row → Still row
 still_calm strange k c row p = record { run = λ x past. still-acts strange (row x past) (p.calm x past) }
-
-or-false : (a b : Bool) → a ≡ false → b ≡ false → (a || b) ≡ false
-or-false true b e f = absurd (true≢false e)
-or-false false b e f = f
 
 corrects-append : (xs ys : List Act) → corrects xs ≡ false → corrects ys ≡ false → corrects (xs ++ ys) ≡ false
 corrects-append [] ys e f = f

@@ -18,7 +18,7 @@ use Rattle.tsp_promises.proofs.EverywhereLemmas.{Everywhere-from}
 use Rattle.tsp_promises.proofs.HistoryPlaces.{of-other, of-own, Within-of}
 use Rattle.tsp_promises.proofs.Locating.{tick_in}
 use Rattle.tsp_promises.proofs.OwnFitsProof.{fits_at, own_fits, tick_is}
-use Rattle.tsp_promises.proofs.Printed.{eased_none}
+use Rattle.tsp_base.proofs.TickLemmas.{eased_none}
 use Rattle.tsp_promises.proofs.SinceProof.{last_by, since}
 
 -- more slewing changes a rest by no more than itself
@@ -79,7 +79,7 @@ onward (Acts (Correct amount false value)) d b j none = inr (λ y h.
     omega (arith, z))
 onward _ d b j none = inl (λ y. refl)
 
-lives-more : (deed : Deed) (n : ℕ) → n ≤ lives_after deed n
+pub lives-more : (deed : Deed) (n : ℕ) → n ≤ lives_after deed n
 lives-more (Acts Boot) n = omega arith
 lives-more _ n = omega arith
 

@@ -1,7 +1,7 @@
 -- What a step owes at its end, read from a history by computing.
 use Rattle.std.specs.Prelude.{◌≡◌, ◌==◌, ◌||◌, ◌&&◌, nat_lt, cond, Bool, true, false, ℕ, zero, suc, if◌then◌else◌, List, [], ◌∷◌, Option, None, Some, is_some, refl}
 use Rattle.std.proofs.Common.{sym, ap, arith, subst, eqb-true, true≢false, ◌∙◌}
-use Rattle.std.proofs.lemmas.Bool.{ltb-true}
+use Rattle.std.proofs.lemmas.Bool.{ltb-true, and_parts}
 use Rattle.tsp_base.specs.declared.act.Act.TheVariants.{Abandon, Arm, Become, Boot, Correct, Late, Post, Ring, Sample}
 use Rattle.tsp_base.specs.declared.alarm.Alarm.TheVariants.{Close}
 use Rattle.tsp_base.specs.declared.datagram.Datagram.TheVariants.{Stamp}
@@ -17,8 +17,8 @@ use Rattle.tsp_base.specs.PortFacts.{role}
 use Rattle.tsp_base.specs.RoundFacts.{exchange, exchange_after}
 use Rattle.tsp_promises.specs.StepFacts.{StepEnds, is_unbacked, owes, unacknowledged}
 use Rattle.tsp_base.specs.Takings.{Undisturbed}
-use Rattle.tsp_promises.proofs.Leaves.{none-among}
-use Rattle.tsp_promises.proofs.SendProof.{and-true, not-nil, peer-same}
+use Rattle.tsp_promises.proofs.Leaves.{none-among, nil-cons}
+use Rattle.tsp_rules.proofs.GuardFacts.{same_peer}
 
 abbrev asks_after : Deed → Bool → Bool
 asks_after (Acts Boot) keep = false
@@ -79,24 +79,24 @@ Quiet p c seen = (request : Did) (older : List Seen) → exchange p c seen ≡ H
 
 no-open : (p : PeerId) (c : ℕ) (before : List Seen) (request : Did) (older : List Seen) (asking keep : Bool) → (asking ≡ false → exchange p c before ≡ []) → (if asking then false else keep) ≡ true → exchange p c before ≡ Here request ∷ older → ⊥
 no-open p c before request older true keep h e open_is = true≢false (sym e)
-no-open p c before request older false keep h e open_is = not-nil (Here request) older (sym (h refl) ∙ open_is)
+no-open p c before request older false keep h e open_is = nil-cons (Here request) older (sym (h refl) ∙ open_is)
 
 quiet-post : (d : Did) (before : List Seen) (request : Did) (older keep : List Seen) (b : Bool) → (keep ≡ Here request ∷ older → Undisturbed (plain older) (plain before)) → cond b (Here d ∷ before) keep ≡ Here request ∷ older → Undisturbed (plain older) (plain before)
 quiet-post d before request older keep true h e = let same : before ≡ older = cc in subst (λ z. Undisturbed (plain z) (plain before)) same (record { corrects = refl; lives = refl })
 quiet-post d before request older keep false h e = h e
 
 quiet-sample : (request : Did) (older keep : List Seen) (b : Bool) → cond b [] keep ≡ Here request ∷ older → keep ≡ Here request ∷ older
-quiet-sample request older keep true e = not-nil (Here request) older e
+quiet-sample request older keep true e = nil-cons (Here request) older e
 quiet-sample request older keep false e = e
 
 quiet-deed : (p : PeerId) (c : ℕ) (d : Did) (deed : Deed) (before : List Seen) → deed ≡ d.deed → (rests before ≡ true → Quiet p c before) → rests_after deed (asks before) (rests before) ≡ true → (request : Did) (older : List Seen) →
     exchange_after p c deed (Here d ∷ before) (exchange p c before) ≡ Here request ∷ older → Undisturbed (plain older) (plain (Here d ∷ before))
-quiet-deed p c d (Acts Boot) before is h r request older e = not-nil (Here request) older e
-quiet-deed p c d (Acts (Become role)) before is h r request older e = not-nil (Here request) older e
-quiet-deed p c d (Acts (Arm Close at)) before is h r request older e = not-nil (Here request) older e
-quiet-deed p c d (Acts (Ring Close)) before is h r request older e = not-nil (Here request) older e
-quiet-deed p c d (Acts (Late Close)) before is h r request older e = not-nil (Here request) older e
-quiet-deed p c d (Acts Abandon) before is h r request older e = not-nil (Here request) older e
+quiet-deed p c d (Acts Boot) before is h r request older e = nil-cons (Here request) older e
+quiet-deed p c d (Acts (Become role)) before is h r request older e = nil-cons (Here request) older e
+quiet-deed p c d (Acts (Arm Close at)) before is h r request older e = nil-cons (Here request) older e
+quiet-deed p c d (Acts (Ring Close)) before is h r request older e = nil-cons (Here request) older e
+quiet-deed p c d (Acts (Late Close)) before is h r request older e = nil-cons (Here request) older e
+quiet-deed p c d (Acts Abandon) before is h r request older e = nil-cons (Here request) older e
 quiet-deed p c d (Acts (Correct amount stepped shown)) before is h r request older e = absurd (no-open p c before request older (asks before) (rests before) (none-open p c before) r e)
 quiet-deed p c d (Acts (Post (Peer q) (Stamp (Request word counter)))) before is h r request older e =
     let u = quiet-post d before request older (exchange p c before) ((q.0 == p.0) && (counter == c)) (h r request older) e in
@@ -113,7 +113,7 @@ quiet-elsewhere p c d (Acts (Correct amount stepped shown)) before is h r reques
 quiet-elsewhere p c d _ before is h r request older e = let u = h r request older e in record { corrects = u.corrects ∙ rw (sym is) refl; lives = u.lives ∙ rw (sym is) refl }
 
 quiet : (p : PeerId) (c : ℕ) (seen : List Seen) → rests seen ≡ true → Quiet p c seen
-quiet p c [] r request older e = not-nil (Here request) older e
+quiet p c [] r request older e = nil-cons (Here request) older e
 quiet p c (Here d ∷ before) r request older e = quiet-deed p c d d.deed before refl (quiet p c before) r request older e
 quiet p c (Elsewhere d ∷ before) r request older e = quiet-elsewhere p c d d.deed before refl (quiet p c before) r request older e
 
@@ -125,11 +125,11 @@ met (p ∷ rest) _ = false
 met-by : (ps : List PeerId) (r : Role) → met ps r ≡ true → (p : PeerId) → is_among p ps ≡ true → r ≡ Follow p
 met-by [] r m p e = absurd (true≢false (sym e))
 met-by (x ∷ rest) (Follow q) m p e =
-    let both = and-true (q.0 == x.0) (met rest (Follow q)) m in
-    by_case (x.0 == p.0) refl (peer-same q x both.0) (met-by rest (Follow q) both.1 p) e
+    let both = and_parts (q.0 == x.0) (met rest (Follow q)) m in
+    by_case (x.0 == p.0) refl (same_peer q x both.0) (met-by rest (Follow q) both.1 p) e
   where
     by_case : (b : Bool) → (x.0 == p.0) ≡ b → q ≡ x → (is_among p rest ≡ true → Follow q ≡ Follow p) → (b || is_among p rest) ≡ true → Follow q ≡ Follow p
-    by_case true same one others i = ap Follow (one ∙ peer-same x p same)
+    by_case true same one others i = ap Follow (one ∙ same_peer x p same)
     by_case false other one others i = others i
 met-by (x ∷ rest) _ m p e = absurd (true≢false (sym m))
 
@@ -147,9 +147,9 @@ paid seen = cond (is_unbacked seen) false true && (met (owes seen) (role seen) &
 
 paid-ends : (seen : List Seen) → paid seen ≡ true → StepEnds seen
 paid-ends seen e =
-    let a = and-true (cond (is_unbacked seen) false true) (met (owes seen) (role seen) && (cond (is_some (unacknowledged seen)) false true && rests seen)) e in
-    let b = and-true (met (owes seen) (role seen)) (cond (is_some (unacknowledged seen)) false true && rests seen) a.1 in
-    let c = and-true (cond (is_some (unacknowledged seen)) false true) (rests seen) b.1 in
+    let a = and_parts (cond (is_unbacked seen) false true) (met (owes seen) (role seen) && (cond (is_some (unacknowledged seen)) false true && rests seen)) e in
+    let b = and_parts (met (owes seen) (role seen)) (cond (is_some (unacknowledged seen)) false true && rests seen) a.1 in
+    let c = and_parts (cond (is_some (unacknowledged seen)) false true) (rests seen) b.1 in
     record { backs = not-so (is_unbacked seen) a.0; follows = met-by (owes seen) (role seen) b.0; acknowledged = none-such (unacknowledged seen) c.0; exchanges = λ p i. quiet p i seen c.1 }
 
 -- lines on ports 0 and 1 alone
@@ -178,7 +178,7 @@ other-port l k e false i = refl
 far : (q : Port) (k : ℕ) (own : List Line) → q.0 ≡ suc (suc k) → on_two own ≡ true → Empty (view q own)
 far q k [] is e = record { backs = refl; none = refl; heeded = refl; shut = λ p c. refl }
 far q k (l ∷ own) is e =
-    let a = and-true (nat_lt l.port.0 2) (on_two own) e in
+    let a = and_parts (nat_lt l.port.0 2) (on_two own) e in
     let other : (l.port.0 == q.0) ≡ false = ap (λ n. l.port.0 == n) is ∙ other-port l.port.0 k a.0 (l.port.0 == suc (suc k)) refl in
     rw other (far-deed (false || is_shared l.did.deed) l.did l.did.deed (view q own) refl refl (far q k own is a.1))
 
@@ -193,12 +193,12 @@ abbrev pub settled : List Line → Bool
 settled own = on_two own && (paid (view port0 own) && paid (view port1 own))
 
 far-ends : (seen : List Seen) → Empty seen → StepEnds seen
-far-ends seen h = record { backs = h.backs; follows = λ p e. none-among p h.none e; acknowledged = h.heeded; exchanges = λ p c request older e. not-nil (Here request) older (sym (h.shut p c) ∙ e) }
+far-ends seen h = record { backs = h.backs; follows = λ p e. none-among p h.none e; acknowledged = h.heeded; exchanges = λ p c request older e. nil-cons (Here request) older (sym (h.shut p c) ∙ e) }
 
 pub settled-ends : (own : List Line) → settled own ≡ true → (q : Port) → StepEnds (view q own)
 settled-ends own e q =
-    let a = and-true (on_two own) (paid (view port0 own) && paid (view port1 own)) e in
-    let b = and-true (paid (view port0 own)) (paid (view port1 own)) a.1 in
+    let a = and_parts (on_two own) (paid (view port0 own) && paid (view port1 own)) e in
+    let b = and_parts (paid (view port0 own)) (paid (view port1 own)) a.1 in
     by-port a.0 b.0 b.1 q.0 refl
   where
     by-port : on_two own ≡ true → paid (view port0 own) ≡ true → paid (view port1 own) ≡ true → (k : ℕ) → q.0 ≡ k → StepEnds (view q own)

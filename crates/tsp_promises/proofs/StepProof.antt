@@ -29,11 +29,6 @@ pub all-stepped : (setting : Setting) (t : List Line) → Fits setting t → Ste
 all-stepped setting [] f = tt
 all-stepped setting (l ∷ t) f = (f.0.step, all-stepped setting t f.1)
 
-pub Within-dids : (s t : List Line) → Within s t → Within (dids s) (dids t)
-Within-dids s [] e = ap dids e
-Within-dids s (l ∷ t) (inl e) = inl (ap dids e)
-Within-dids s (l ∷ t) (inr w) = inr (Within-dids s t w)
-
 steps-deed : (deed : Deed) (n : ℕ) → n ≤ steps_after deed n
 steps-deed Begins n = omega arith
 steps-deed _ n = omega arith

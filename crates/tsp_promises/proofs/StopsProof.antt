@@ -27,7 +27,7 @@ use Rattle.tsp_base.specs.Messages.{MessageValue}
 use Rattle.tsp_base.specs.Ticks.{tick_at}
 use Rattle.tsp_promises.proofs.EverywhereLemmas.{Everywhere-from, Everywhere-within}
 use Rattle.tsp_base.proofs.PlaceLemmas.{Within-none, Within-tail, Within-through}
-use Rattle.tsp_base.proofs.ViewPlaces.{sees-own}
+use Rattle.tsp_base.proofs.ViewPlaces.{sees-own, Within-dids}
 use Rattle.tsp_base.proofs.Views.{plain_view}
 use Rattle.tsp_promises.specs.OwnFits.{OwnFits}
 use Rattle.tsp_promises.proofs.Clocks.{near}
@@ -36,7 +36,7 @@ use Rattle.tsp_promises.proofs.HistoryPlaces.{of-own, own_in}
 use Rattle.tsp_promises.proofs.Locating.{line_on}
 use Rattle.tsp_promises.proofs.OwnFitsProof.{own_fits, fits_at, of-tick, place-time}
 use Rattle.tsp_promises.proofs.SendPlaces.{send_place}
-use Rattle.tsp_promises.proofs.StepProof.{Within-dids, all-stepped, finished_at, last_time, one_step, own-stepped}
+use Rattle.tsp_promises.proofs.StepProof.{all-stepped, finished_at, last_time, one_step, own-stepped}
 use Rattle.tsp_promises.proofs.SinceProof.{since}
 
 -- where a port leads after a QUIT, it owes its step's end to follow somebody

@@ -1,6 +1,7 @@
 -- The rows that take a message, of whichever role, keep what is known of a port.
 use Rattle.std.specs.Prelude.{◌≡◌, ◌≢◌, ℕ, ◌==◌, Bool, true, false, List, [], ◌∷◌, Option, None, Some, refl}
 use Rattle.std.proofs.Common.{sym, subst, ap, true≢false, eqb-true, ◌∙◌}
+use Rattle.std.proofs.lemmas.Bool.{and_parts, not-true}
 use Rattle.tsp_base.specs.declared.act.Act.TheVariants.{Post, Quit, Acked, Trace}
 use Rattle.tsp_base.specs.declared.datagram.Datagram.TheVariants.{Message, Stamp}
 use Rattle.tsp_base.specs.declared.datagram.Taken.{Taken}
@@ -41,7 +42,7 @@ use Rattle.tsp_promises.proofs.Rings.{rested_of, wake}
 use Rattle.tsp_promises.proofs.Changes.{Quitting, FreeIn, quit_acked, quit_taken, Is, JustTook}
 use Rattle.tsp_promises.proofs.LeadsLeaves.{Leads_posts, Leads_posts_back}
 use Rattle.tsp_promises.proofs.StrangerFacts.{master_named, own_named}
-use Rattle.tsp_rules.proofs.GuardFacts.{and-cases, not-true, stand_is, awake_is, master_is}
+use Rattle.tsp_rules.proofs.GuardFacts.{stand_is, awake_is, master_is}
 use Rattle.tsp_promises.proofs.CommonLeads.{follow_leads, candidature_leads}
 
 -- what a step took from a peer: a message
@@ -94,8 +95,8 @@ module _ {from : Place} (m : MessageValue) (other : asks_name m.kind ≡ false) 
       (Leads_from (λ x past h. record { was = wake_role (awake_is (role past.seen) (not-true (is_starting_role (role past.seen)) h.1)) h.0.was; none = h.0.none }) (Leads_then (posts_back from Ack m.number) (either_by may_be_asked candidature_row nothing) acks_back
       (Leads_either may_be_asked candidature_row nothing
       (Leads_from (λ x past h.
-      let asked = and-cases (is_idle (role past.seen)) (may_stand_at x past) h.1 in
-      record { free = h.0; may = stand_is (held past.seen) x past.own (and-cases past.may (may_stand (held past.seen) x past.own) asked.1).1 })
+      let asked = and_parts (is_idle (role past.seen)) (may_stand_at x past) h.1 in
+      record { free = h.0; may = stand_is (held past.seen) x past.own (and_parts past.may (may_stand (held past.seen) x past.own) asked.1).1 })
       (Leads_to (λ x past h. rests_of h.free) candidature_leads))
       (Leads_from (λ x past h. rests_of h.0) Leads_nothing))))
       (Leads_from (λ x past h. rests_of h.0.was) Leads_nothing)
@@ -138,7 +139,7 @@ module _ {p : PeerId} {m : MessageValue} where
   acked_fits x past k took e first older sent is deed =
       let known = open_known p past.seen first older sent is deed in
       let at : answers_other m.number (Some (record { began = first.tick; posts = posts_of p past.seen; message = sent })) ≡ true = subst (λ o. answers_other m.number o ≡ true) known e in
-      let both = and-cases (ends_by_ack sent.kind) (sent.number == m.number) at in
+      let both = and_parts (ends_by_ack sent.kind) (sent.number == m.number) at in
       record {
         correction = λ c. record { message = m; took = took; kind = k; number_is = sym (eqb-true sent.number m.number both.1) };
         date = λ d. absurd (true≢false (sym (subst (λ i. ends_by_ack i ≡ true) d both.0)));
@@ -159,7 +160,7 @@ pub election_acked : (p : PeerId) (number x : ℕ) (past : Past) → has_electio
 election_acked p number x past e first older sent is deed =
     let known = open_known p past.seen first older sent is deed in
     let at : answers_election number (Some (record { began = first.tick; posts = posts_of p past.seen; message = sent })) ≡ true = subst (λ o. answers_election number o ≡ true) known e in
-    let both = and-cases (is_kind_election sent.kind) (sent.number == number) at in
+    let both = and_parts (is_kind_election sent.kind) (sent.number == number) at in
     record {
       correction = λ c. absurd (no_election sent.kind both.0 c);
       date = λ d. absurd (true≢false (sym (subst (λ i. is_kind_election i ≡ true) d both.0)));

@@ -18,7 +18,7 @@ use Rattle.tsp_promises.proofs.EverywhereLemmas.{Everywhere-from}
 use Rattle.tsp_promises.proofs.Locating.{line_on, view-line}
 use Rattle.tsp_promises.proofs.OwnFitsProof.{fits_at}
 use Rattle.tsp_promises.proofs.SendPlaces.{repeats_in, send_place}
-use Rattle.tsp_promises.proofs.SendProof.{not-nil}
+use Rattle.tsp_promises.proofs.Leaves.{nil-cons}
 
 -- what a send has had is what the open one has had, where one is open
 abbrev Counted : List Seen → ℕ → ℕ → Type 0
@@ -57,7 +57,7 @@ counted p (Here d ∷ before) = counted-deed p d before d.deed (counted p before
 -- an open send has had as many posts as are counted
 open-had : (p : PeerId) (seen : List Seen) (first : Did) (older : List Seen) → open_to p seen ≡ Here first ∷ older → sent p seen ≡ posts_of p seen
 open-had p seen first older e = elim (counted p seen) [
-  | inl none ↦ not-nil (Here first) older (sym none ∙ e)
+  | inl none ↦ nil-cons (Here first) older (sym none ∙ e)
   | inr same ↦ same
 ]
 

@@ -1,6 +1,7 @@
 -- The answers to a candidate's votes keep what is known of a port.
 use Rattle.std.specs.Prelude.{◌≡◌, ◌==◌, ℕ, true, List, [], ◌∷◌, Option, None, Some, refl}
 use Rattle.std.proofs.Common.{sym, ap, true≢false, eqb-true, eq-eqb, ◌∙◌}
+use Rattle.std.proofs.lemmas.Bool.{and_parts}
 use Rattle.tsp_base.specs.declared.act.Act.TheVariants.{Post, Become, Backer, Acked}
 use Rattle.tsp_base.specs.declared.datagram.Datagram.TheVariants.{Message}
 use Rattle.tsp_base.specs.declared.datagram.Taken.TheVariants.{Good}
@@ -27,7 +28,6 @@ use Rattle.tsp_promises.proofs.Leaves.{acked, backer}
 use Rattle.tsp_rules.proofs.Asides.{now}
 use Rattle.tsp_promises.proofs.Changes.{become_loose}
 use Rattle.tsp_promises.proofs.SendFits.{open_is}
-use Rattle.tsp_rules.proofs.GuardFacts.{and-cases}
 use Rattle.tsp_promises.proofs.CommonLeads.{arms_elect_during}
 use Rattle.tsp_promises.proofs.TakenLeads.{Says, Heard, HeardIn, rests_of, election_acked}
 use Rattle.tsp_promises.proofs.SlaveLeads.{idle_heard}
@@ -50,7 +50,7 @@ vote-open : (setup : Setup) (p : PeerId) (number : ℕ) (seen : List Seen) → P
 vote-open setup p number seen f None is e = absurd (true≢false (sym e))
 vote-open setup p number seen f (Some s) is e =
     let o = open_is setup p seen s f is in
-    let both = and-cases (is_kind_election s.message.kind) (s.message.number == number) e in
+    let both = and_parts (is_kind_election s.message.kind) (s.message.number == number) e in
     let m = o.message_is in
     record {
       first = o.began.first;

@@ -29,8 +29,9 @@ use Rattle.tsp_base.specs.Setup.{Setup}
 use Rattle.tsp_promises.specs.RoundFits.{CloseFits, StartFits}
 use Rattle.tsp_promises.specs.StepFacts.{closed}
 use Rattle.tsp_base.specs.Takings.{Receives, Undisturbed, heard, time_in}
-use Rattle.tsp_promises.proofs.SendProof.{not-nil, one-message}
+use Rattle.tsp_promises.proofs.SendProof.{one-message}
 use Rattle.tsp_promises.proofs.StrangerFacts.{same_message}
+use Rattle.tsp_promises.proofs.Leaves.{nil-cons}
 
 pub none-some : {A B : Type 0} (x : A) → None ≡ Some x → B
 none-some x e = let bad : ⊥ = cc in absurd bad
@@ -134,7 +135,7 @@ corrects-by from m gap rested is deed kind number amount follows flag prints = r
 
 -- the first round of a life
 pub first-round : {here : Did} {before : List Seen} → started before ≡ [] → StartFits here before
-first-round none = record { spaced = λ start idle e. not-nil (Here start) idle (sym none ∙ e) }
+first-round none = record { spaced = λ start idle e. nil-cons (Here start) idle (sym none ∙ e) }
 
 -- a round after another one
 pub next-round : {here last : Did} {before rest : List Seen} → started before ≡ Here last ∷ rest → last.tick + ROUND ≤ here.tick → StartFits here before

@@ -1,34 +1,15 @@
 -- Marks of peers that ascend.
-use Rattle.std.specs.Prelude.{◌≡◌, ℕ, zero, suc, ◌<◌, ◌==◌, ◌||◌, Bool, true, false, if◌then◌else◌, List, [], ◌∷◌, ◌++◌, length, map, take, set, replicate, cond, Result, Ok, Err, refl}
+use Rattle.std.specs.Prelude.{◌≡◌, ℕ, zero, suc, ◌<◌, ◌==◌, ◌||◌, Bool, true, false, if◌then◌else◌, List, [], ◌∷◌, ◌++◌, length, take, set, replicate, cond, Result, Ok, Err, refl}
 use Rattle.std.specs.List.{Contains, filter}
 use Rattle.std.specs.List.Sorted.{IsBinarySearchResult, IsSearchInRange}
 use Rattle.std.specs.Ordering.{nat_cmp}
-use Rattle.std.specs.declared.cmp.Ordering.TheVariants.{Equal}
 use Rattle.std.proofs.Common.{◌∙◌, ap, sym, arith, eq-eqb, get_or}
 use Rattle.std.proofs.lemmas.Bool.{false≢true, ne_eqb}
-use Rattle.std.proofs.lemmas.Bool.Decides.{nat_tests}
-use Rattle.std.proofs.lemmas.List.{length-map, get_or-map}
-use Rattle.std.proofs.lemmas.List.Kept.{AllPairs-from_increasing}
 use Rattle.tsp_base.specs.declared.place.PeerId.{PeerId}
-use Rattle.tsp_base.specs.Peers.{is_among}
-use Rattle.tsp_acks.specs.Peers.{IsPeers}
+use Rattle.tsp_base.specs.Peers.{is_among, IsPeers}
+use Rattle.tsp_base.proofs.AscendingLemmas.{Rise, Rise-rest, equal_means}
 use Rattle.tsp_acks.proofs.PeerLemmas.{among-Contains, is_among-searched}
 use Rattle.tsp_resolve.specs.Marked.{marked}
-
--- of two places the later one has the greater peer
-pub record Rise (ps : List PeerId) : Type 0 where
-  pub at : (i j : ℕ) (d : PeerId) → i < j → j < length ps → (get_or ps i d).0 < (get_or ps j d).0
-
-pub Rise-peers : (ps : List PeerId) → IsPeers ps → Rise ps
-Rise-peers ps up = record {
-  at = λ i j d l h.
-      let low = get_or-map (λ (p : PeerId). p.0) ps i d 0 (omega arith) in
-      let high = get_or-map (λ (p : PeerId). p.0) ps j d 0 h in
-      omega (arith, AllPairs-from_increasing (map (λ (p : PeerId). p.0) ps) up.ascending i j 0 l (omega (arith, length-map ps (λ (p : PeerId). p.0))));
-}
-
-Rise-rest : (p : PeerId) (ps : List PeerId) → Rise (p ∷ ps) → Rise ps
-Rise-rest p ps r = record { at = λ i j d l h. r.at (suc i) (suc j) d (omega arith) (omega arith) }
 
 -- without marks nobody is marked
 pub marked-none : (ps : List PeerId) (n : ℕ) → marked ps (replicate n false) ≡ []
@@ -47,7 +28,7 @@ marked-below p (q ∷ ps) (b ∷ marks) above =
       by_test false other rest = rest
 
 -- a peer is marked exactly where its place is
-pub marked-at : (ps : List PeerId) (marks : List Bool) (i : ℕ) (d p : PeerId) → Rise ps → length marks ≡ length ps → i < length ps → (get_or ps i d).0 ≡ p.0 → is_among p (marked ps marks) ≡ get_or marks i false
+pub marked-at : (ps : List PeerId) (marks : List Bool) (i : ℕ) (d p : PeerId) → Rise (λ (p : PeerId). p.0) ps → length marks ≡ length ps → i < length ps → (get_or ps i d).0 ≡ p.0 → is_among p (marked ps marks) ≡ get_or marks i false
 marked-at [] marks i d p r m h e = absurd (omega arith)
 marked-at (x ∷ ps) [] i d p r m h e = absurd (omega arith)
 marked-at (x ∷ ps) (b ∷ marks) zero d p r m h e =
@@ -107,11 +88,8 @@ filter-marked test (x ∷ ps) (b ∷ marks) m e =
       by_test false rest = rest
 
 -- the peers that are marked, in their order
-pub marked-filter : (ps : List PeerId) (marks : List Bool) → Rise ps → length marks ≡ length ps → filter (λ p. is_among p (marked ps marks)) ps ≡ marked ps marks
+pub marked-filter : (ps : List PeerId) (marks : List Bool) → Rise (λ (p : PeerId). p.0) ps → length marks ≡ length ps → filter (λ p. is_among p (marked ps marks)) ps ≡ marked ps marks
 marked-filter ps marks r m = filter-marked (λ p. is_among p (marked ps marks)) ps marks m (λ k d l. marked-at ps marks k d (get_or ps k d) r m l refl)
-
-equal_means : (a b : ℕ) → nat_cmp a b ≡ Equal → a ≡ b
-equal_means a b e = grind (arith, nat_tests)
 
 -- a search finds the place of a peer
 abbrev pub IsSearched : PeerId → List PeerId → Result ℕ ℕ → Type 0

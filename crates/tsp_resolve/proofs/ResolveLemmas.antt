@@ -1,7 +1,7 @@
 -- What a port's marks of rivals stand for after more acts.
 use Rattle.std.specs.Prelude.{◌≡◌, ◌≢◌, ℕ, ◌==◌, ◌||◌, ◌&&◌, not, Bool, true, false, if◌then◌else◌, List, [], ◌∷◌, ◌++◌, length, is_some, Some, None, refl}
 use Rattle.std.proofs.Common.{◌∙◌, ap, sym, subst, eqb-true}
-use Rattle.std.proofs.lemmas.Bool.{false≢true}
+use Rattle.std.proofs.lemmas.Bool.{false≢true, or_parts, not-false}
 use Rattle.std.proofs.lemmas.List.Elements.{filter_agree}
 use Rattle.tsp_base.specs.declared.act.Act.{Act}
 use Rattle.tsp_base.specs.declared.act.Act.TheVariants.{Boot, Become, Ring, Rival}
@@ -14,7 +14,7 @@ use Rattle.tsp_base.specs.declared.role.Role.{Role}
 use Rattle.tsp_base.specs.declared.role.Role.TheVariants.{Master}
 use Rattle.tsp_base.specs.Alarms.{deadline}
 use Rattle.tsp_base.specs.History.{Step, Acts, Seen, Here, Past}
-use Rattle.tsp_base.specs.Peers.{is_among}
+use Rattle.tsp_base.specs.Peers.{is_among, IsPeers}
 use Rattle.tsp_base.specs.Performs.{Performs, Keeps}
 use Rattle.tsp_base.specs.PortFacts.{is_rival, is_rival_after, role, role_after}
 use Rattle.tsp_base.specs.Rows.{Row, added, grown, nothing, puts}
@@ -24,13 +24,13 @@ use Rattle.tsp_rules.specs.Guards.{rivals_at}
 use Rattle.tsp_rules.proofs.Emits.{Sort, Taking, Asking, Correcting, Numbering, Posting, Leading, Following, Changing, Backing, Counting, Rounding, Alarming, Tabling, Acking, Giving, Sampling, Closing, Moving, Tracing, AllOf, Emits, Keeps_by, is_in, sort_of}
 use Rattle.tsp_rules.proofs.EmitsTables.{changes, is_change}
 use Rattle.tsp_acks.specs.declared.station.Station.{Station}
-use Rattle.tsp_acks.specs.Peers.{IsPeers}
 use Rattle.tsp_acks.specs.Stands.{Stands, StandsActing}
 use Rattle.tsp_acks.proofs.StandsLemmas.{Stands_idle}
 use Rattle.tsp_resolve.specs.declared.resolve.Resolve.{Resolve}
 use Rattle.tsp_resolve.specs.Marked.{marked}
 use Rattle.tsp_resolve.specs.ResolveStands.{ResolveStands, ResolvingActs, ResolvingStands}
-use Rattle.tsp_resolve.proofs.MarkedLemmas.{Rise-peers, marked-filter}
+use Rattle.tsp_base.proofs.AscendingLemmas.{Rise-peers}
+use Rattle.tsp_resolve.proofs.MarkedLemmas.{marked-filter}
 
 -- all sorts of acts but Boot and Rival
 abbrev pub rivalless : List Sort
@@ -95,10 +95,6 @@ ResolveStands_idle x past acts r e other h =
     λ p. rivals_after p past.step x acts past.seen e ∙ ap (λ k. if changes acts then false else k) (h.empty other p) ∙ if-false (changes acts) in
     record { many = h.many; rivals = λ p. h.rivals p ∙ h.empty other p ∙ sym (after p); empty = λ still p. after p }
 
-or-false : (a b : Bool) → (a || b) ≡ false → (a ≡ false) × (b ≡ false)
-or-false true b e = absurd (false≢true (sym e))
-or-false false b e = (refl, e)
-
 role-deed : (a : Act) (keep : Role) → is_in (sort_of a) rivalless ≡ true → is_change a ≡ false → role_after (Acts a) keep ≡ keep
 role-deed Boot keep e c = absurd (false≢true e)
 role-deed (Become r) keep e c = absurd (false≢true (sym c))
@@ -108,7 +104,7 @@ role-deed _ keep e c = refl
 pub role_stays : (step : Step) (x : ℕ) (acts : List Act) (seen : List Seen) → AllOf rivalless acts → changes acts ≡ false → role (added step x acts seen) ≡ role seen
 role_stays step x [] seen e c = refl
 role_stays step x (a ∷ rest) seen e c =
-    let both = or-false (is_change a) (changes rest) c in
+    let both = or_parts (is_change a) (changes rest) c in
     role_stays step x rest (Here (record { step = step; tick = x; deed = Acts a }) ∷ seen) e.1 both.1 ∙ role-deed a (role seen) e.0 both.0
 
 -- the role doesn't change
@@ -154,7 +150,7 @@ Performs_rung alarm {x = x} r e d = record {
 pub rivals-marked : (x : ℕ) (past : Past) (r : Resolve) (peers : List PeerId) → IsPeers peers → peers ≡ past.peers → ResolveStands past r → rivals_at x past ≡ marked peers r.marks
 rivals-marked x past r peers up same h =
     filter_agree (λ p. is_rival p past.seen) (λ p. is_among p (marked past.peers r.marks)) (λ p. sym (h.rivals p)) past.peers
-    ∙ marked-filter past.peers r.marks (Rise-peers past.peers (subst IsPeers same up)) h.many ∙ ap (λ ps. marked ps r.marks) (sym same)
+    ∙ marked-filter past.peers r.marks (Rise-peers past.peers (subst IsPeers same up).ascending) h.many ∙ ap (λ ps. marked ps r.marks) (sym same)
 
 -- a new rival is put, and marked
 pub ResolveStands_found : (p : PeerId) (x : ℕ) (past : Past) (old new : Resolve) → role past.seen ≡ Master → length new.marks ≡ length old.marks →
@@ -175,10 +171,6 @@ ResolveStands_again p past old new m was found h = record { many = m ∙ h.many;
   by_test : (q : PeerId) (b : Bool) → (p.0 == q.0) ≡ b → (b || is_among q (marked past.peers old.marks)) ≡ is_among q (marked past.peers old.marks)
   by_test q true e = sym was ∙ ap (λ n. is_among (record { 0 = n }) (marked past.peers old.marks)) (eqb-true p.0 q.0 e)
   by_test q false e = refl
-
-not-true : (b : Bool) → not b ≡ false → b ≡ true
-not-true true e = refl
-not-true false e = absurd (false≢true (sym e))
 
 is_new-is : (p : PeerId) (x : ℕ) (past : Past) (r : Resolve) (station : Station) (peers : List PeerId) → peers ≡ past.peers → Stands past station → ResolveStands past r →
     is_new_rival p x past ≡ (is_some (deadline station.alarms ResolveAlarm) && not (is_among p (marked peers r.marks)))
@@ -216,7 +208,7 @@ module _ (p : PeerId) (x : ℕ) (port : Port) (station : Station) (old new : Res
   Performs_answered_again at on many found known = Performs_else_part (is_new_rival p) (puts (Rival p))
       (λ past h. is_new-is p x past old station station.peers h.station.peers h.station h.resolve ∙ ap (λ d. is_some d && not (is_among p (marked station.peers old.marks))) on ∙ known)
       (Performs_to {q = ResolvingStands} (λ past h. record {
-        resolve = ResolveStands_again p past old new many (ap (λ ps. is_among p (marked ps old.marks)) (sym h.station.peers) ∙ not-true _ known)
+        resolve = ResolveStands_again p past old new many (ap (λ ps. is_among p (marked ps old.marks)) (sym h.station.peers) ∙ not-false _ known)
             (λ q. ap (λ ps. is_among q (marked ps new.marks)) (sym h.station.peers) ∙ found q ∙ ap (λ ps. (p.0 == q.0) || is_among q (marked ps old.marks)) h.station.peers) h.resolve;
         station = h.station;
       }) Performs_nothing)

@@ -6,7 +6,7 @@ ghost use Rattle.tsp_base.specs.declared.place.PeerId.{PeerId};
 ghost use Rattle.tsp_base.specs.declared.role.Role.{Role};
 ghost use Rattle.tsp_base.specs.declared.role.Role.TheVariants.{Master};
 ghost use Rattle.tsp_acks.specs.Calls.{Contains, IsTick, Past, Performs, UsesAtMost, IsSamePort};
-ghost use Rattle.tsp_acks.specs.Peers.{IsPeers};
+ghost use Rattle.tsp_base.specs.Peers.{IsPeers};
 ghost use Rattle.tsp_resolve.specs.Marked.{marked};
 
 use crate::marks::Marks;

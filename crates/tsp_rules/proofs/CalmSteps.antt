@@ -2,6 +2,7 @@
 use Rattle.std.specs.Prelude.{◌≡◌, ◌≤◌, ℕ, ◌+◌, ◌*◌, ◌==◌, ℤ, Bool, true, false, if◌then◌else◌, List, [], ◌∷◌, ◌++◌, length, Option, None, Some, All, refl}
 use Rattle.std.proofs.Common.{sym, subst, ap, arith, true≢false, append_assoc, append-nil, length-append, ◌∙◌}
 use Rattle.std.proofs.lemmas.List.Elements.{All-nil, All-cons, All-append}
+use Rattle.std.proofs.lemmas.Bool.{and_parts}
 use Rattle.tsp_base.specs.declared.act.Act.{Act}
 use Rattle.tsp_base.specs.declared.act.Act.TheVariants.{Took, Post, Acked, Leave, Abandon, Trace}
 use Rattle.tsp_base.specs.declared.datagram.Datagram.TheVariants.{Message, Stamp}
@@ -37,7 +38,6 @@ use Rattle.tsp_rules.proofs.FewActs.{Calm, is_calm_act, is_calm, calm_append, ca
 use Rattle.tsp_rules.proofs.CalmRows.{sum, none, calm_due_sends, calm-candidature, calm-sets}
 use Rattle.tsp_rules.proofs.CalmAlarms.{calm_due_alarms}
 use Rattle.tsp_rules.proofs.CalmTaken.{five, calm_slave, calm_candidate, calm_master}
-use Rattle.tsp_rules.proofs.GuardFacts.{and-cases}
 
 module _ {strange : Bool} where
   pub calm-says : (p : PeerId) (m : MessageValue) (r : Role) → Calm strange true 1 5 (says_in p m r)
@@ -281,7 +281,7 @@ known_act strange moving _ e = tt
 
 pub known_calm : (strange moving : Bool) (acts : List Act) → is_calm strange moving acts ≡ true → All (IsKnown strange) acts
 known_calm strange moving [] e = All-nil (IsKnown strange)
-known_calm strange moving (a ∷ acts) e = let both = and-cases (is_calm_act strange moving a) (is_calm strange moving acts) e in All-cons (IsKnown strange) a acts (known_act strange moving a both.0) (known_calm strange moving acts both.1)
+known_calm strange moving (a ∷ acts) e = let both = and_parts (is_calm_act strange moving a) (is_calm strange moving acts) e in All-cons (IsKnown strange) a acts (known_act strange moving a both.0) (known_calm strange moving acts both.1)
 
 -- what a step takes once is known
 pub known_once : (from : Place) (t : Taken) (peers : ℕ) (acts : List Act) → TakesOnce from t peers acts → All (IsKnown (is_stranger from)) acts

@@ -1,6 +1,7 @@
 -- Which sorts of acts a row puts, and what rows of such acts leave alone.
 use Rattle.std.specs.Prelude.{◌≡◌, ℕ, ◌==◌, ◌||◌, ◌&&◌, Bool, true, false, if◌then◌else◌, ℤ, List, [], ◌∷◌, ◌++◌, map, refl}
 use Rattle.std.proofs.Common.{sym, ap, true≢false, eqb-true, ◌∙◌}
+use Rattle.std.proofs.lemmas.Bool.{and_parts}
 use Rattle.tsp_base.specs.declared.act.Act.{Act}
 use Rattle.tsp_base.specs.declared.act.Act.TheVariants.{Boot, Took, Post, Become, Back, Backer, Quit, Arm, Ring, Late, Join, Leave, Rival, Acked, Gave, Sample, Close as CloseAct, Correct, Abandon, Trace}
 use Rattle.tsp_base.specs.declared.alarm.Alarm.{Alarm}
@@ -216,14 +217,6 @@ or-false : (a b : Bool) → (a || b) ≡ true → a ≡ false → b ≡ true
 or-false true b h e = absurd (true≢false e)
 or-false false b h e = h
 
-and-left : (a b : Bool) → (a && b) ≡ true → a ≡ true
-and-left true b h = refl
-and-left false b h = absurd (true≢false (sym h))
-
-and-right : (a b : Bool) → (a && b) ≡ true → b ≡ true
-and-right true b h = h
-and-right false b h = absurd (true≢false (sym h))
-
 is_in-code : (s t : Sort) (all : List Sort) → code s ≡ code t → is_in t all ≡ true → is_in s all ≡ true
 is_in-code s t [] e h = h
 is_in-code s t (u ∷ all) e h = by-head (code t == code u) refl (λ k. is_in-code s t all e k) where
@@ -235,9 +228,9 @@ is_in-code s t (u ∷ all) e h = by-head (code t == code u) refl (λ k. is_in-co
 
 is_in-part : (s : Sort) (few all : List Sort) → is_part few all ≡ true → is_in s few ≡ true → is_in s all ≡ true
 is_in-part s [] all p h = absurd (true≢false (sym h))
-is_in-part s (t ∷ few) all p h = by-head (code s == code t) refl (λ k. is_in-part s few all (and-right (is_in t all) (is_part few all) p) k) where
+is_in-part s (t ∷ few) all p h = by-head (code s == code t) refl (λ k. is_in-part s few all ((and_parts (is_in t all) (is_part few all) p).1) k) where
   by-head : (b : Bool) → (code s == code t) ≡ b → (is_in s few ≡ true → is_in s all ≡ true) → is_in s all ≡ true
-  by-head true k f = is_in-code s t all (eqb-true (code s) (code t) k) (and-left (is_in t all) (is_part few all) p)
+  by-head true k f = is_in-code s t all (eqb-true (code s) (code t) k) ((and_parts (is_in t all) (is_part few all) p).0)
   by-head false k f = f (or-false (code s == code t) (is_in s few) h k)
 
 all-more : (few all : List Sort) (acts : List Act) → is_part few all ≡ true → AllOf few acts → AllOf all acts

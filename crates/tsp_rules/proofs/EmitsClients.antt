@@ -12,20 +12,16 @@ use Rattle.tsp_base.specs.Messages.{MessageValue}
 use Rattle.tsp_base.specs.Rows.{nothing, puts, reading, for_each, bare, posts, posts_to_others, posts_back, posts_time}
 use Rattle.tsp_base.specs.Takings.{time_in}
 use Rattle.tsp_rules.specs.ClockRows.{sets}
-use Rattle.tsp_rules.specs.CommonRows.{candidature_row, posts_reply, replies, master_name, names_master, says_master, traces, may_be_asked, is_awake, tests}
+use Rattle.tsp_rules.specs.CommonRows.{candidature_row, master_name, names_master, says_master, traces, may_be_asked, is_awake, tests}
 use Rattle.tsp_rules.specs.DateRows.{may_pass_on, passes_on, may_date, leaves, leaves_all, new_date, sets_date_where, date_in, date_of, is_dated, sets_in_charge, date_request_in, date_request_of, has_date, date_acked_in, date_acked}
 use Rattle.tsp_rules.specs.SendRows.{next_number, begins_timed}
-use Rattle.tsp_rules.specs.Guards.{role_at, is_in_range, is_master_at, table_at}
+use Rattle.tsp_rules.specs.Guards.{role_at, is_master_at, table_at}
 use Rattle.tsp_rules.proofs.Emits.{Sort, Numbering, Posting, Tabling, Acking, Moving, Tracing, Emits, Emits_nothing, Emits_puts, Emits_then, Emits_either, Emits_reading, Emits_each, Emits_posts, Emits_posts_to_others, Emits_posts_back, Emits_posts_time, Emits_sets, Emits_more}
 use Rattle.tsp_rules.proofs.EmitsSlave.{slave_sorts, emits_candidature}
 
 -- what anybody is answered
 abbrev pub client_sorts : List Sort
 client_sorts = Tracing ∷ slave_sorts
-
-pub emits_replies : (from : Place) (word counter : ℕ) → Emits client_sorts (replies from word counter)
-unfolding replies posts_reply
-emits_replies from word counter = Emits_either is_in_range (posts_reply from word counter) nothing (record { only = λ x past. (refl, tt) }) Emits_nothing
 
 pub emits_names_master : (from : Place) (number : ℕ) → Emits client_sorts (names_master from number)
 unfolding names_master

@@ -9,7 +9,7 @@ use Rattle.tsp_base.specs.declared.place.Place.TheVariants.{Peer}
 use Rattle.tsp_base.specs.Messages.{MessageValue}
 use Rattle.tsp_base.specs.Rows.{nothing, puts, for_each, posts_time}
 use Rattle.tsp_base.specs.SendFacts.{Sending, is_correction}
-use Rattle.tsp_rules.specs.SendRows.{may_correct, begins_adjtime, may_set, begins_settime, open_at, is_send_due, is_spent, repeats, repeats_bare_send, bare_send, leaves_after, gives_up, repeats_send, due_send, peers_at, due_sends}
+use Rattle.tsp_rules.specs.SendRows.{may_correct, begins_adjtime, may_set, begins_settime, open_at, is_send_due, is_spent, repeats, leaves_after, gives_up, repeats_send, due_send, peers_at, due_sends}
 use Rattle.tsp_rules.specs.Guards.{target_at, is_slave_at}
 use Rattle.tsp_rules.proofs.Emits.{Sort, Correcting, Numbering, Posting, Tabling, Giving, is_in, sort_of_kind, Emits, Emits_nothing, Emits_puts, Emits_then, Emits_either, Emits_reading, Emits_each, Emits_posts_time, Emits_if}
 
@@ -37,15 +37,6 @@ kind-sent _ = refl
 repeats-emits : (p : PeerId) (m : MessageValue) → Emits send_sorts (repeats p m)
 unfolding repeats
 repeats-emits p m = Emits_puts (Post (Peer p) (Message m)) (kind-sent m.kind)
-
-bare-emits : (p : PeerId) (s : Option Sending) → Emits send_sorts (repeats_bare_send p s)
-unfolding repeats_bare_send
-bare-emits p None = Emits_nothing
-bare-emits p (Some s) = Emits_either (is_send_due s) _ nothing (Emits_either (is_spent s) (puts (Gave p)) (repeats p s.message) (Emits_puts (Gave p) refl) (repeats-emits p s.message)) Emits_nothing
-
-pub emits_bare_send : (p : PeerId) → Emits send_sorts (bare_send p)
-unfolding bare_send
-emits_bare_send p = Emits_reading (open_at p) (repeats_bare_send p) (bare-emits p)
 
 leaves-emits : (p : PeerId) (k : Kind) → Emits send_sorts (leaves_after p k)
 unfolding leaves_after

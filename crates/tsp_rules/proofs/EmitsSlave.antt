@@ -36,9 +36,6 @@ pub silent_searches : Emits silent_sorts searches
 unfolding searches
 silent_searches = Emits_then (arms Search WINDOW) (posts_to_others MasterReq 0) (Emits_arms Search WINDOW refl) (Emits_posts_to_others MasterReq 0 refl)
 
-pub emits_searches : Emits slave_sorts searches
-emits_searches = Emits_more silent_sorts refl silent_searches
-
 emits_ticket : (p : PeerId) → Emits slave_sorts (tells_ticket p)
 unfolding tells_ticket
 emits_ticket p = Emits_reading ticket_at (posts p SlaveUp) (λ n. Emits_posts p SlaveUp n refl)
@@ -80,25 +77,16 @@ pub silent_quiet : Emits silent_sorts quiet_rings
 unfolding quiet_rings
 silent_quiet = Emits_then (puts (Ring Quiet)) _ (Emits_puts (Ring Quiet) refl) (Emits_then (puts (Become Loose)) searches (Emits_puts (Become Loose) refl) silent_searches)
 
-pub emits_quiet : Emits slave_sorts quiet_rings
-emits_quiet = Emits_more silent_sorts refl silent_quiet
-
 pub silent_search : Emits silent_sorts search_rings
 unfolding search_rings rings_or_late
 silent_search = Emits_then (either_by (is_in_time Search) (puts (Ring Search)) (puts (Late Search))) arms_elect
     (Emits_either (is_in_time Search) (puts (Ring Search)) (puts (Late Search)) (Emits_puts (Ring Search) refl) (Emits_puts (Late Search) refl)) silent_elect
-
-pub emits_search : Emits slave_sorts search_rings
-emits_search = Emits_more silent_sorts refl silent_search
 
 pub silent_elect_rings : Emits silent_sorts elect_rings
 unfolding elect_rings
 silent_elect_rings = Emits_either (is_in_time Elect) _ _
     (Emits_then (puts (Ring Elect)) _ (Emits_puts (Ring Elect) refl) (Emits_either may_stand_at candidature_row (loosens followed_by searches) silent_candidature (Emits_then loosens searches silent_loosens silent_searches)))
     (Emits_then (puts (Late Elect)) arms_elect (Emits_puts (Late Elect) refl) silent_elect)
-
-pub emits_elect_rings : Emits slave_sorts elect_rings
-emits_elect_rings = Emits_more silent_sorts refl silent_elect_rings
 
 reports-emits : (q : PeerId) → Emits slave_sorts (reports_conflict q)
 unfolding reports_conflict

@@ -1,6 +1,7 @@
 -- How many acts the rows put at the most, that only a taking takes, and that only a stranger's datagram is answered to a stranger.
 use Rattle.std.specs.Prelude.{◌≡◌, ◌≤◌, ℕ, suc, ◌+◌, ◌*◌, ◌&&◌, ◌==◌, not, ℤ, Bool, true, false, if◌then◌else◌, List, [], ◌∷◌, ◌++◌, length, map, filter, refl}
 use Rattle.std.proofs.Common.{sym, ap, arith, true≢false, length-append}
+use Rattle.std.proofs.lemmas.Bool.{and_from}
 use Rattle.tsp_base.specs.declared.act.Act.{Act}
 use Rattle.tsp_base.specs.declared.act.Act.TheVariants.{Boot, Took, Post, Correct}
 use Rattle.tsp_base.specs.declared.datagram.Datagram.{Datagram}
@@ -31,10 +32,6 @@ pub record Calm (strange moving : Bool) (k c : ℕ) (row : Row) : Type 0 where
   pub few : (x : ℕ) (past : Past) → length (row x past) ≤ k * length past.peers + c
   pub calm : (x : ℕ) (past : Past) → is_calm strange moving (row x past) ≡ true
 
-and-true : (a b : Bool) → a ≡ true → b ≡ true → (a && b) ≡ true
-and-true true b p q = q
-and-true false b p q = absurd (true≢false (sym p))
-
 pub calm_append : (strange moving : Bool) (xs ys : List Act) → is_calm strange moving xs ≡ true → is_calm strange moving ys ≡ true → is_calm strange moving (xs ++ ys) ≡ true
 calm_append strange moving [] ys p q = q
 calm_append strange moving (a ∷ xs) ys p q = both strange moving (is_calm_act strange moving a) (is_calm strange moving xs) xs ys p (calm_append strange moving xs ys) q where
@@ -42,9 +39,9 @@ calm_append strange moving (a ∷ xs) ys p q = both strange moving (is_calm_act 
   both strange moving true b xs ys e k q = k e q
   both strange moving false b xs ys e k q = absurd (true≢false (sym e))
 
-filter-length : (test : PeerId → Bool) (ps : List PeerId) → length (filter test ps) ≤ length ps
-filter-length test [] = omega arith
-filter-length test (p ∷ ps) = by_case (test p) (filter-length test ps) where
+pub filter_few : (test : PeerId → Bool) (ps : List PeerId) → length (filter test ps) ≤ length ps
+filter_few test [] = omega arith
+filter_few test (p ∷ ps) = by_case (test p) (filter_few test ps) where
   by_case : (b : Bool) → length (filter test ps) ≤ length ps → length (if b then p ∷ filter test ps else filter test ps) ≤ length (p ∷ ps)
   by_case true le = omega (arith, le)
   by_case false le = omega (arith, le)
@@ -56,9 +53,6 @@ map-calm strange moving kind number name (p ∷ ps) = map-calm strange moving ki
 map-length : (kind : Kind) (number : ℕ) (name : List ℕ) (ps : List PeerId) → length (map (post_of kind number name) ps) ≡ length ps
 map-length kind number name [] = refl
 map-length kind number name (p ∷ ps) = ap (λ n. suc n) (map-length kind number name ps)
-
-pub filter_few : (test : PeerId → Bool) (ps : List PeerId) → length (filter test ps) ≤ length ps
-filter_few test ps = filter-length test ps
 
 -- what goes back to wherever a datagram came from is calm
 pub calm_back : (moving : Bool) (from : Place) (datagram : Datagram) → is_calm (is_stranger from) moving (Post from datagram ∷ []) ≡ true
@@ -77,7 +71,7 @@ module _ {strange moving : Bool} where
 
   pub calm_puts : (a : Act) → is_calm_act strange moving a ≡ true → Calm strange moving 0 1 (puts a)
   unfolding puts
-  calm_puts a e = record { few = λ x past. omega arith; calm = λ x past. and-true (is_calm_act strange moving a) true e refl }
+  calm_puts a e = record { few = λ x past. omega arith; calm = λ x past. and_from (is_calm_act strange moving a) true e refl }
 
   pub calm_then : (j b k c : ℕ) (r s : Row) → Calm strange moving j b r → Calm strange moving k c s → Calm strange moving (j + k) (b + c) (r followed_by s)
   unfolding ◌followed_by◌
@@ -130,7 +124,7 @@ module _ {strange moving : Bool} where
   calm_posts_to_others kind number = record {
     few = λ x past.
         let all = map-length kind number past.name (others past.own past.peers) in
-        let some = filter-length (λ p. not (p.0 == past.own.0)) past.peers in
+        let some = filter_few (λ p. not (p.0 == past.own.0)) past.peers in
         let one : 1 * length past.peers ≡ length past.peers = grind arith in
         omega (arith, all, some, one);
     calm = λ x past. map-calm strange moving kind number past.name (others past.own past.peers);

@@ -1,7 +1,7 @@
 -- What the guards of rows tell.
-use Rattle.std.specs.Prelude.{◌≡◌, ◌≢◌, ◌⊎◌, ◌≤◌, ℕ, ◌+◌, ℤ, neg_ℤ, ◌<ℤ◌, ◌==◌, ◌&&◌, ◌||◌, not, nat_le, Bool, true, false, Option, None, Some, refl}
+use Rattle.std.specs.Prelude.{◌≡◌, ◌≢◌, ◌⊎◌, ◌≤◌, ℕ, ◌+◌, ℤ, neg_ℤ, ◌<ℤ◌, ◌==◌, ◌&&◌, nat_le, true, false, Option, None, Some, refl}
 use Rattle.std.proofs.Common.{sym, subst, inl, inr, arith, true≢false, eqb-true, ap, ◌∙◌}
-use Rattle.std.proofs.lemmas.Bool.{leb-true}
+use Rattle.std.proofs.lemmas.Bool.{leb-true, and_parts, or_cases}
 use Rattle.std.proofs.lemmas.Int.{ints}
 use Rattle.tsp_base.specs.declared.constants.TheConstants.{HOLD, ELECT_MIN, LIMIT, SLACK}
 use Rattle.tsp_base.specs.declared.place.PeerId.{PeerId}
@@ -10,18 +10,6 @@ use Rattle.tsp_base.specs.declared.role.Role.TheVariants.{Starting, Master}
 use Rattle.tsp_base.specs.Hold.{Held, is_past, may_back, may_back_after, may_stand}
 use Rattle.tsp_base.specs.Takings.{peer_of}
 use Rattle.tsp_rules.specs.Guards.{is_clock_value, is_over, is_met, is_starting_role, is_master}
-
-pub and-cases : (a b : Bool) → (a && b) ≡ true → (a ≡ true) × (b ≡ true)
-and-cases true b e = (refl, e)
-and-cases false b e = absurd (true≢false (sym e))
-
-pub or-cases : (a b : Bool) → (a || b) ≡ true → (a ≡ true) ⊎ (b ≡ true)
-or-cases true b e = inl refl
-or-cases false b e = inr e
-
-pub not-true : (b : Bool) → not b ≡ true → b ≡ false
-not-true true e = absurd (true≢false (sym e))
-not-true false e = refl
 
 pub same_peer : (q p : PeerId) → (q.0 == p.0) ≡ true → q ≡ p
 same_peer q p e = ap peer_of (eqb-true q.0 p.0 e)
@@ -43,7 +31,7 @@ pub past_is : (o : Option ℕ) (long x : ℕ) → is_past o long x ≡ true → 
 past_is o long x e t is = leb-true (t + long) x (subst (λ k. is_past k long x ≡ true) is e)
 
 pub back_is : (o : Option (ℕ × PeerId)) (x : ℕ) (p : PeerId) → may_back_after o x p ≡ true → (b : ℕ × PeerId) → o ≡ Some b → (b.1 ≡ p) ⊎ (b.0 + HOLD ≤ x)
-back_is o x p e b is = elim (or-cases (b.1.0 == p.0) (nat_le (b.0 + HOLD) x) (subst (λ k. may_back_after k x p ≡ true) is e)) [
+back_is o x p e b is = elim (or_cases (b.1.0 == p.0) (nat_le (b.0 + HOLD) x) (subst (λ k. may_back_after k x p ≡ true) is e)) [
   | inl s ↦ inl (same_peer b.1 p s)
   | inr l ↦ inr (leb-true (b.0 + HOLD) x l)
 ]
@@ -56,8 +44,8 @@ pub record MayStand (h : Held) (x : ℕ) (own : PeerId) : Type 0 where
 
 pub stand_is : (h : Held) (x : ℕ) (own : PeerId) → may_stand h x own ≡ true → MayStand h x own
 stand_is h x own e =
-    let one = and-cases (nat_le (h.boot + ELECT_MIN) x) (is_past h.quit ELECT_MIN x && may_back h x own) e in
-    let two = and-cases (is_past h.quit ELECT_MIN x) (may_back h x own) one.1 in
+    let one = and_parts (nat_le (h.boot + ELECT_MIN) x) (is_past h.quit ELECT_MIN x && may_back h x own) e in
+    let two = and_parts (is_past h.quit ELECT_MIN x) (may_back h x own) one.1 in
     record { boot = leb-true (h.boot + ELECT_MIN) x one.0; quit = past_is h.quit ELECT_MIN x two.0; back = two.1 }
 
 pub awake_is : (r : Role) → is_starting_role r ≡ false → r ≢ Starting

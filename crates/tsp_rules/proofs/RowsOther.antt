@@ -1,18 +1,14 @@
 -- What rows that are written by cases do in the cases that are left.
-use Rattle.std.specs.Prelude.{◌≡◌, ◌≢◌, Bool, false, refl}
+use Rattle.std.specs.Prelude.{◌≡◌, ◌≢◌, false, refl}
 use Rattle.tsp_base.specs.declared.kind.Kind.{Kind}
-use Rattle.tsp_base.specs.declared.kind.Kind.TheVariants.{AdjTime, Ack, MasterReq, MasterAck, SetTime, MasterUp, SlaveUp, Election, Accept, Refuse, Conflict, Resolve, Quit, Date, DateReq, DateAck, TraceOn, TraceOff, Msite, MsiteReq, Test, SetDate, SetDateReq, Loop}
+use Rattle.tsp_base.specs.declared.kind.Kind.TheVariants.{AdjTime, Ack, MasterAck, SetTime, MasterUp, Election, Accept, Refuse, Quit}
 use Rattle.tsp_base.specs.declared.place.PeerId.{PeerId}
-use Rattle.tsp_base.specs.declared.place.Place.{Place}
 use Rattle.tsp_base.specs.declared.role.Role.{Role}
 use Rattle.tsp_base.specs.declared.role.Role.TheVariants.{Loose, Follow, Master}
 use Rattle.tsp_base.specs.Messages.{MessageValue}
 use Rattle.tsp_base.specs.Rows.{Row, nothing}
-use Rattle.tsp_base.specs.Stamps.{ReplyValue}
-use Rattle.tsp_rules.specs.Answers.{from_peer, peer_says, replies_in, handles_kind}
 use Rattle.tsp_rules.specs.CandidateRows.{candidate_takes_kind}
 use Rattle.tsp_rules.specs.CommonRows.{follow_row, follows_unless}
-use Rattle.tsp_rules.specs.MasterRows.{master_takes_kind}
 use Rattle.tsp_rules.specs.SlaveRows.{masterup_in, masterack_in, from_master, slave_takes_kind}
 use Rattle.tsp_rules.specs.Guards.{is_follow, is_master}
 
@@ -69,40 +65,3 @@ candidate_takes_kind-other p m Refuse a b c d e f g = absurd (e refl)
 candidate_takes_kind-other p m Quit a b c d e f g = absurd (f refl)
 candidate_takes_kind-other p m Ack a b c d e f g = absurd (g refl)
 candidate_takes_kind-other p m _ a b c d e f g = refl
-
-pub master_takes_kind-other : (p : PeerId) (m : MessageValue) (k : Kind) →
-    k ≢ MasterReq → k ≢ Resolve → k ≢ SlaveUp → k ≢ Election → k ≢ MasterUp → k ≢ Conflict → k ≢ MasterAck → k ≢ Quit → k ≢ Ack →
-    master_takes_kind p m k ≡ nothing
-unfolding master_takes_kind
-master_takes_kind-other p m MasterReq a b c d e f g h i = absurd (a refl)
-master_takes_kind-other p m Resolve a b c d e f g h i = absurd (b refl)
-master_takes_kind-other p m SlaveUp a b c d e f g h i = absurd (c refl)
-master_takes_kind-other p m Election a b c d e f g h i = absurd (d refl)
-master_takes_kind-other p m MasterUp a b c d e f g h i = absurd (e refl)
-master_takes_kind-other p m Conflict a b c d e f g h i = absurd (f refl)
-master_takes_kind-other p m MasterAck a b c d e f g h i = absurd (g refl)
-master_takes_kind-other p m Quit a b c d e f g h i = absurd (h refl)
-master_takes_kind-other p m Ack a b c d e f g h i = absurd (i refl)
-master_takes_kind-other p m _ a b c d e f g h i = refl
-
-pub replies_in-other : (p : PeerId) (r : ReplyValue) (role : Role) → role ≢ Master → replies_in p r role ≡ nothing
-unfolding replies_in
-replies_in-other p r Master n = absurd (n refl)
-replies_in-other p r _ n = refl
-
-pub handles_kind-other : (charge : Bool) (from : Place) (m : MessageValue) (k : Kind) →
-    k ≢ Msite → k ≢ MsiteReq → k ≢ TraceOn → k ≢ TraceOff → k ≢ Test → k ≢ Date → k ≢ SetDate → k ≢ DateReq → k ≢ SetDateReq → k ≢ DateAck → k ≢ Loop →
-    handles_kind charge from m k ≡ from_peer from (peer_says m)
-unfolding handles_kind
-handles_kind-other charge from m Msite a b c d e f g h i j l = absurd (a refl)
-handles_kind-other charge from m MsiteReq a b c d e f g h i j l = absurd (b refl)
-handles_kind-other charge from m TraceOn a b c d e f g h i j l = absurd (c refl)
-handles_kind-other charge from m TraceOff a b c d e f g h i j l = absurd (d refl)
-handles_kind-other charge from m Test a b c d e f g h i j l = absurd (e refl)
-handles_kind-other charge from m Date a b c d e f g h i j l = absurd (f refl)
-handles_kind-other charge from m SetDate a b c d e f g h i j l = absurd (g refl)
-handles_kind-other charge from m DateReq a b c d e f g h i j l = absurd (h refl)
-handles_kind-other charge from m SetDateReq a b c d e f g h i j l = absurd (i refl)
-handles_kind-other charge from m DateAck a b c d e f g h i j l = absurd (j refl)
-handles_kind-other charge from m Loop a b c d e f g h i j l = absurd (l refl)
-handles_kind-other charge from m _ a b c d e f g h i j l = refl

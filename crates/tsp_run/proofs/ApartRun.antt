@@ -10,7 +10,7 @@ use Rattle.tsp_promises.specs.Everywhere.{Everywhere}
 use Rattle.tsp_base.specs.Headers.{HeaderValue, IsHeader}
 use Rattle.tsp_base.specs.History.{Acts, Begins, Booted, Cause, Line, Step}
 use Rattle.tsp_base.specs.Joins.{first_port, joined, line_of, stepped}
-use Rattle.tsp_promises.specs.Premises.{OwnWords, Words, WordsAt}
+use Rattle.tsp_promises.specs.Premises.{Words, WordsAt}
 use Rattle.tsp_promises.proofs.EverywhereLemmas.{Everywhere-at}
 use Rattle.tsp_rules.proofs.FewActs.{is_calm_act}
 use Rattle.tsp_rules.specs.GateRows.{boots_all}
@@ -86,8 +86,3 @@ module _ {header : HeaderValue} (is : IsHeader header) (before : List Event) (wo
 pub apart-words : (header : HeaderValue) (events : List Event) → Accepted header events → Apart events → Words (run header events)
 apart-words header [] a d = tt
 apart-words header (e ∷ before) a d = words-event a.header_is before (apart-words header before (accepted_before header e before a) d.1) e d.0
-
--- boots of one node are among them
-pub own-words : (h : List Line) → Words h → OwnWords h
-own-words [] w = tt
-own-words (l ∷ before) w = ((λ other older v x y z same within own boot first second. w.0 other older v x y z within own boot first second), own-words before w.1)

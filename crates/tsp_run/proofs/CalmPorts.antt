@@ -1,6 +1,7 @@
 -- What a node's rows over its ports put: few acts, each on a port that the node has, of which only that of a taking takes.
 use Rattle.std.specs.Prelude.{◌≡◌, ◌≤◌, ◌<◌, ℕ, suc, ◌+◌, ◌*◌, ◌==◌, not, Bool, true, false, if◌then◌else◌, List, [], ◌∷◌, ◌++◌, length, map, filter, refl}
 use Rattle.std.proofs.Common.{sym, ap, subst, arith, ◌∙◌, append-nil, append_assoc, length-append}
+use Rattle.std.proofs.lemmas.Bool.{and_parts}
 use Rattle.tsp_base.specs.declared.act.Act.{Act}
 use Rattle.tsp_base.specs.declared.act.Act.TheVariants.{Took, Become, Abandon}
 use Rattle.tsp_base.specs.declared.act.Placed.{Placed}
@@ -36,7 +37,6 @@ use Rattle.tsp_rules.proofs.CalmSteps.{TakesFirst, taking, calm_handles}
 use Rattle.tsp_rules.proofs.FewActs.{is_calm_act, is_calm, Calm, calm_arms, calm_either, calm_puts, calm_then, filter_few}
 use Rattle.tsp_promises.proofs.GateLoops.{loops_calm}
 use Rattle.tsp_promises.proofs.PortLists.{Ranged, ranged_from, other_ranged}
-use Rattle.tsp_rules.proofs.GuardFacts.{and-cases}
 
 -- how many acts the due sends and alarms of four ports put at the most, where each port has so many peers
 abbrev pub turns_most : ℕ → ℕ
@@ -58,7 +58,7 @@ AreCalm-append strange n (a ∷ ps) qs p q = (p.0, p.1, AreCalm-append strange n
 pub AreCalm-placed : (strange : Bool) (n : ℕ) (q : Port) (acts : List Act) → q.0 < n → is_calm strange true acts ≡ true → AreCalm strange n (placed q acts)
 AreCalm-placed strange n q [] has e = tt
 AreCalm-placed strange n q (a ∷ rest) has e =
-    let both = and-cases (is_calm_act strange true a) (is_calm strange true rest) e in (has, both.0, AreCalm-placed strange n q rest has both.1)
+    let both = and_parts (is_calm_act strange true a) (is_calm strange true rest) e in (has, both.0, AreCalm-placed strange n q rest has both.1)
 
 pub length-placed : (q : Port) (acts : List Act) → length (placed q acts) ≡ length acts
 length-placed q [] = refl

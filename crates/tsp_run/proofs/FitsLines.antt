@@ -21,7 +21,7 @@ use Rattle.tsp_base.specs.RoundFacts.{exchange, exchange_after}
 use Rattle.tsp_promises.specs.StepFacts.{StepEnds, is_unbacked, is_unbacked_after, owes, owes_after, unacknowledged, unacknowledged_after}
 use Rattle.tsp_base.specs.Takings.{posted, posted_after}
 use Rattle.tsp_base.specs.Ticks.{tick_at}
-use Rattle.std.proofs.lemmas.Bool.{cases_lt}
+use Rattle.std.proofs.lemmas.Bool.{cases_lt, or_right}
 use Rattle.tsp_promises.proofs.Leaves.{none-among}
 use Rattle.tsp_base.proofs.PlaceLemmas.{Within-through}
 use Rattle.tsp_base.proofs.ViewPlaces.{port-same, sees-own}
@@ -66,15 +66,11 @@ shared-here d seen b Begins is e = record { backs = (let i = is in subst (λ k. 
 shared-here d seen b (Acts Boot) is e = record { backs = subst (λ k. is_unbacked_after k d.step.node (is_unbacked seen) ≡ false) is b.backs; owed = subst (λ k. owes_after k (role seen) (owes seen) ≡ []) is b.owed; paid = subst (λ k. unacknowledged_after k (taken seen) (unacknowledged seen) ≡ None) is b.paid; idle = λ p c. subst (λ k. exchange_after p c k (Here d ∷ seen) (exchange p c seen) ≡ []) is refl }
 shared-here d seen b _ is e = absurd (true≢false (sym e))
 
-or-true : (a : Bool) → (a || true) ≡ true
-or-true true = refl
-or-true false = refl
-
 bystands : (ports : ℕ) (q : Port) → ports ≤ q.0 → (ls : List Line) → AreOn ports ls → Bystander (view q ls)
 bystands ports q past [] f = record { backs = refl; owed = refl; paid = refl; idle = λ p c. refl }
 bystands ports q past (l ∷ before) f = by_case (l.port.0 == q.0) refl (is_shared l.did.deed) refl (bystands ports q past before f.1) where
   by_case : (a : Bool) → (l.port.0 == q.0) ≡ a → (b : Bool) → is_shared l.did.deed ≡ b → Bystander (view q before) → Bystander (seen_as (a || b) l.did ∷ view q before)
-  by_case a e true i s = subst (λ b. Bystander (seen_as b l.did ∷ view q before)) (sym (or-true a)) (shared-here l.did (view q before) s l.did.deed refl i)
+  by_case a e true i s = subst (λ b. Bystander (seen_as b l.did ∷ view q before)) (sym (or_right a true refl)) (shared-here l.did (view q before) s l.did.deed refl i)
   by_case true e false i s = let same = eqb-true l.port.0 q.0 e in let less = f.0 i in absurd (omega (arith, same, less, past))
   by_case false e false i s = record { backs = s.backs; owed = s.owed; paid = s.paid; idle = s.idle }
 
@@ -179,7 +175,7 @@ act_line setting step x history port d before p tick w few alive took fits = rec
   deeds = λ q sees. act_fits setting step.node p (record { step = step; tick = x; deed = Acts p.act }) q (of step.node (line_of step x port d ∷ before)) fits sees;
 }
 
-posted_more : (d : Deed) (n : ℕ) → posted_after d n ≤ n + 1
+pub posted_more : (d : Deed) (n : ℕ) → posted_after d n ≤ n + 1
 posted_more (Acts (Post to datagram)) n = omega arith
 posted_more _ n = omega arith
 

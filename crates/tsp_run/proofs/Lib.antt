@@ -1,6 +1,7 @@
 mod AnswerOctetsProof
 pub mod AnswersFit
 pub mod ApartRun
+pub mod BootLemmas
 pub mod CalmPorts
 pub mod EachLine
 pub mod FitsLines

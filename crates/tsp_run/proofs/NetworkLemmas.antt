@@ -9,6 +9,7 @@ use Rattle.tsp_base.specs.declared.place.Port.{Port}
 use Rattle.tsp_base.specs.Headers.{HeaderValue, IsHeader, has_member, nets_with}
 use Rattle.tsp_base.specs.Peers.{is_among}
 use Rattle.tsp_promises.specs.Setting.{Alone}
+use Rattle.tsp_promises.proofs.Histories.{alone}
 use Rattle.tsp_base.specs.Takings.{peer_of}
 use Rattle.tsp_rules.specs.NodeRows.{PortSetup, no_port}
 use Rattle.tsp_run.specs.declared.address.Address.{Address}
@@ -130,9 +131,6 @@ pub is_among-peers : (n : ℕ) (net : List ℕ) → is_among (peer_of n) (peers_
 is_among-peers n [] = refl
 is_among-peers n (m ∷ rest) = ap (λ b. (m == n) || b) (is_among-peers n rest)
 
-alone : (n : ℕ) → is_among (peer_of n) (peer_of n ∷ []) ≡ true
-alone n = let same : (n == n) ≡ true = eq-eqb n n refl in rw same refl
-
 -- a node is a member of its networks
 pub own_member : (nets : List (List ℕ)) (n : ℕ) (q : Port) → is_among (peer_of n) (members_of nets (network_of nets n q)) ≡ true
 own_member nets n q = by_case (network_at n q nets) refl where
@@ -143,7 +141,7 @@ own_member nets n q = by_case (network_at n q nets) refl where
       let same : h.j ≡ k = (let a = h.place in omega (arith, a)) in
       is_among-peers n (slice_index_or nets k []) ∙ subst (λ j. has_member n (slice_index_or nets j []) ≡ true) same h.member
 
-port_named : (q r : Port) → q.0 ≡ r.0 → q ≡ r
+pub port_named : (q r : Port) → q.0 ≡ r.0 → q ≡ r
 port_named q r e = ap (λ k. let p : Port = record { 0 = k } in p) e
 
 -- a node's ports are on different networks

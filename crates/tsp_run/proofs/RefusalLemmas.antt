@@ -1,7 +1,7 @@
 -- What is known where nothing refuses an event, and where two scenes refuse alike.
 use Rattle.std.specs.Prelude.{◌≡◌, ℕ, ◌+◌, ◌<◌, nat_lt, nat_le, ◌||◌, Bool, true, false, if◌then◌else◌, List, length, Option, None, Some, slice_get, refl}
 use Rattle.std.proofs.Common.{ap, ◌∙◌, subst}
-use Rattle.std.proofs.lemmas.Bool.{ltb-true, ltb-false, leb-false}
+use Rattle.std.proofs.lemmas.Bool.{ltb-true, ltb-false, leb-false, or_parts}
 use Rattle.tsp_base.specs.declared.event.Event.{Event}
 use Rattle.tsp_base.specs.declared.event.Event.TheVariants.{Boot, Turn, Take, Bytes}
 use Rattle.tsp_base.specs.declared.event.EventFault.{EventFault}
@@ -26,10 +26,6 @@ if-none false f e = refl
 if-some : (b : Bool) (f : EventFault) → (if b then None else Some f) ≡ None → b ≡ true
 if-some true f e = refl
 if-some false f e = let bad : ⊥ = cc in absurd bad
-
-or-false : (a b : Bool) → (a || b) ≡ false → (a ≡ false) × (b ≡ false)
-or-false true b e = let bad : ⊥ = cc in absurd bad
-or-false false b e = (refl, e)
 
 -- the pieces of a refusal that isn't there
 pub record Pieces (s : Scene) (e : Event) : Type 0 where
@@ -73,7 +69,7 @@ allowed s e h =
     let p = refusal-none s e h in
     let wanted = room_at s.networks (actor s e) in
     let full = if-none (nat_le most_events s.events || is_crowded (length s.posts) wanted) (Limit s.events (length s.posts)) p.limit in
-    let both = or-false (nat_le most_events s.events) (is_crowded (length s.posts) wanted) full in
+    let both = or_parts (nat_le most_events s.events) (is_crowded (length s.posts) wanted) full in
     record {
       time = ltb-false (event_at e) s.last (if-none (nat_lt (event_at e) s.last) (TimeBack (event_at e) s.last) p.time);
       events = leb-false most_events s.events both.0;

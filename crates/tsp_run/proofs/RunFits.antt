@@ -17,7 +17,6 @@ use Rattle.tsp_promises.specs.Setting.{Alone, Named, Setting, setup_of}
 use Rattle.tsp_base.specs.Takings.{posted, peer_of}
 use Rattle.tsp_base.specs.Ticks.{tick_at}
 use Rattle.tsp_base.proofs.PlaceLemmas.{Within-all}
-use Rattle.tsp_base.proofs.TickLemmas.{tick_at-near}
 use Rattle.tsp_codec.specs.Canon.{canon}
 use Rattle.tsp_codec.specs.Taken.{taken_of}
 use Rattle.tsp_rules.specs.GateRows.{NodeGiven, NodeTurn, GotOn, answers_all, boots_all}
@@ -29,6 +28,7 @@ use Rattle.tsp_promises.proofs.GateLeads.{GivenOn, answers_all_lead}
 use Rattle.tsp_promises.proofs.Known.{Fresh, Rests}
 use Rattle.tsp_promises.proofs.NodeLeads.{begins_all, boots_all_lead}
 use Rattle.tsp_promises.proofs.RunLeads.{ends_of, rests_later, rests_seen, nothing-done}
+use Rattle.tsp_promises.proofs.Clocks.{tick-mono}
 use Rattle.tsp_run.specs.declared.address.Address.{Address}
 use Rattle.tsp_run.specs.declared.posted.Posted.{Posted}
 use Rattle.tsp_run.specs.Networks.{networks, network_from, ports_on, address_of, room}
@@ -60,13 +60,9 @@ joined-placed : (nets : List (List ℕ)) (step : Step) (x : ℕ) (acts : List Pl
 joined-placed nets step x [] h on p = p
 joined-placed nets step x (a ∷ rest) h on p = joined-placed nets step x rest (line_of step x a.port (Acts a.act) ∷ h) on.1 (on.0, p)
 
-joined-time : (step : Step) (x : ℕ) (acts : List Placed) (h : List Line) → time_of (dids h) ≤ step.at → time_of (dids (joined step x acts h)) ≤ step.at
+pub joined-time : (step : Step) (x : ℕ) (acts : List Placed) (h : List Line) → time_of (dids h) ≤ step.at → time_of (dids (joined step x acts h)) ≤ step.at
 joined-time step x [] h e = e
 joined-time step x (a ∷ rest) h e = joined-time step x rest (line_of step x a.port (Acts a.act) ∷ h) (omega arith)
-
--- ticks don't fall
-ticks-rise : (setting : Setting) (n s t : ℕ) → s ≤ t → tick_at (setting.rate n) s ≤ tick_at (setting.rate n) t
-ticks-rise setting n s t le = (tick_at-near (setting.rate n) s t (let a = setting.rates n in let b = setting.small in omega (arith, a, b)) le).mono
 
 -- after a step each port of each node is at rest
 node_after : (header : HeaderValue) (setting : Setting) (t : ℕ) (h : List Line) (step : Step) (x : ℕ) (acts : List Placed) → t ≤ step.at → ((n : ℕ) → AllPorts (λ r. Rests) (tick_at (setting.rate n) t) (past_of header (rests n) h)) →
@@ -82,7 +78,7 @@ node_after header setting t h step x acts later nodes after tick_is n true e =
 node_after header setting t h step x acts later nodes after tick_is n false e = λ r has.
     let now : List Line = stepped step x acts h in
     rests_seen (tick_at (setting.rate n) step.at) (on_port r (past_of header (rests n) h)) (on_port r (past_of header (rests n) now)) refl refl (ap (λ l. view r l) (sym (stepped_other n step x acts h e)))
-    (rests_later (tick_at (setting.rate n) t) (tick_at (setting.rate n) step.at) (on_port r (past_of header (rests n) h)) (ticks-rise setting n t step.at later) (nodes n r has))
+    (rests_later (tick_at (setting.rate n) t) (tick_at (setting.rate n) step.at) (on_port r (past_of header (rests n) h)) (tick-mono setting n t step.at later) (nodes n r has))
 
 -- after a step whose acts are sound all nodes' are
 sound_after : (header : HeaderValue) (h : List Line) (step : Step) (x : ℕ) (acts : List Placed) → ((n : ℕ) → SoundNode (past_of header (rests n) h)) → SoundNode (spread x (in_node_step step x (past_of header step h)) acts) →
@@ -136,7 +132,7 @@ by_row header setting t h step row set r later few leads soundly ok =
     let rested : AllPorts (λ r. Rests) x base = λ q has.
     rests_seen x (on_port q (past_of header (rests step.node) h)) (on_port q base) refl refl refl
     (subst (λ k. Rests k (on_port q (past_of header (rests step.node) h))) (sym tick_is)
-    (rests_later (tick_at (setting.rate step.node) t) (tick_at (setting.rate step.node) step.at) (on_port q (past_of header (rests step.node) h)) (ticks-rise setting step.node t step.at later) (r.nodes step.node q has))) in
+    (rests_later (tick_at (setting.rate step.node) t) (tick_at (setting.rate step.node) step.at) (on_port q (past_of header (rests step.node) h)) (tick-mono setting step.node t step.at later) (r.nodes step.node q has))) in
     let after : AllPorts (λ r. Rests) x (spread x past acts) = leads (begins_all step x x base (omega arith) (λ q has. own_is header step h q has) rested) in
     let line = mark_line ports setting step x h tick_is (of_placed nets step.node h r.placed) (let b = r.time in omega (arith, b, later)) (omega (arith, few)) (λ q has. ends_of (rested q has)) in
     let own : (step.node == step.node) ≡ true = eq-eqb step.node step.node refl in
@@ -213,7 +209,7 @@ module _ {header : HeaderValue} {setting : Setting} (is : IsHeader header) (set 
     fits = r.fits;
     placed = r.placed;
     time = (let b = r.time in let c = (allowed (scene header before) (Take at k) none).time in omega (arith, b, c));
-    nodes = λ n q has. rests_later (tick_at (setting.rate n) (last_at before)) (tick_at (setting.rate n) at) (on_port q (past_of header (rests n) (run header before))) (ticks-rise setting n (last_at before) at (allowed (scene header before) (Take at k) none).time) (r.nodes n q has);
+    nodes = λ n q has. rests_later (tick_at (setting.rate n) (last_at before)) (tick_at (setting.rate n) at) (on_port q (past_of header (rests n) (run header before))) (tick-mono setting n (last_at before) at (allowed (scene header before) (Take at k) none).time) (r.nodes n q has);
     sound = r.sound;
   }
 

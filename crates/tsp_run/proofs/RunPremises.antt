@@ -1,18 +1,19 @@
 -- The premises of the promises hold of a run where they hold of its text.
 use Rattle.tsp_run.specs.Premised.{RunsKeepPremises}
 use Rattle.tsp_run.specs.Run.{run}
-use Rattle.tsp_run.proofs.ApartRun.{apart-words, own-words}
+use Rattle.tsp_run.proofs.ApartRun.{apart-words}
 use Rattle.tsp_run.proofs.NamesRun.{names-apart}
 use Rattle.tsp_run.proofs.PromptRun.{prompt-life}
 use Rattle.tsp_run.proofs.SealedRun.{sealed-honest}
 use Rattle.tsp_run.proofs.ShortRun.{short-few}
+use Rattle.tsp_promises.proofs.WordsProof.{own_words}
 
 pub runs-keep-premises : RunsKeepPremises
 runs-keep-premises header events a = record {
   honest = λ s. sealed-honest header events a s;
   life = λ p. prompt-life header events p;
   words = λ w. apart-words header events a w;
-  own_words = λ w. own-words (run header events) (apart-words header events a w);
+  own_words = λ w. own_words (run header events) (apart-words header events a w);
   few = λ s. short-few (run header events) s;
   names = λ setting set differ. names-apart header setting events set a differ;
 }

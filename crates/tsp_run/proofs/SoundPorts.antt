@@ -52,10 +52,6 @@ abbrev pub AreSoundLines : List Line → Type 0
 AreSoundLines [] = Unit {0}
 AreSoundLines (l ∷ before) = IsSoundDeed l.did.deed × AreSoundLines before
 
-abbrev pub AreSoundActs : List Placed → Type 0
-AreSoundActs [] = Unit {0}
-AreSoundActs (p ∷ rest) = IsSoundAct p.act × AreSoundActs rest
-
 -- a node whose name is one, which booted with a word of 64 bits, has at most four ports, and whose deeds are sound
 pub record SoundNode (past : NodePast) : Type 0 where
   pub name : IsName past.name

@@ -5,8 +5,9 @@ use Rattle.tsp_base.specs.declared.event.EventFault.{EventFault}
 use Rattle.tsp_base.specs.declared.event.EventFault.TheVariants.{TimeBack, NoNode, NoDatagram, NotUp, Limit, OutOfMemory}
 use Rattle.tsp_base.specs.Headers.{HeaderValue}
 use Rattle.tsp_script.specs.declared.event_line.EventItem.TheVariants.{Event as EventOf}
+use Rattle.tsp_script.proofs.OneEvent.{events_apart}
 use Rattle.tsp_schedule.specs.Schedules.{Progress, Untitled, Titled, Drifted, Heading, Running, Ended, IsCause, Refuses, RefusesRun, Limits, LimitsRun, Lacks, IsEnded}
-use Rattle.tsp_schedule.proofs.OneReading.{same_event, end_kept}
+use Rattle.tsp_schedule.proofs.OneReading.{end_kept}
 use Rattle.tsp_schedule.specs.Refusing.{Refusing}
 
 -- a fault has one cause
@@ -48,7 +49,7 @@ module _ (refused : Refusing) where
   RefusesRun-one header events line cause other (inl r) (inr s) = absurd (r.0 (EventOf s.0) s.2)
   RefusesRun-one header events line cause other (inr r) (inl s) = absurd (s.0 (EventOf r.0) r.2)
   RefusesRun-one header events line cause other (inr (e, fault, spells, r, c)) (inr (f, faults, others, s, d)) =
-      let same = same_refusal header events e f fault faults (same_event line e f spells others) r s in
+      let same = same_refusal header events e f fault faults (events_apart line e f spells others) r s in
       IsCause-one faults cause other (subst (λ x. IsCause x cause) same c) d
 
   -- a line is refused for one cause, and passes no limit
@@ -66,7 +67,7 @@ module _ (refused : Refusing) where
   run_within : (header : HeaderValue) (events : List Event) (line cause : List ℕ) → RefusesRun refused header events line cause → LimitsRun refused header events line → ⊥
   run_within header events line cause (inl r) (e, a, b, spells, l) = r.0 (EventOf e) spells
   run_within header events line cause (inr (e, fault, spells, r, c)) (f, a, b, others, l) =
-      let same = same_refusal header events e f fault (Limit a b) (same_event line e f spells others) r l in
+      let same = same_refusal header events e f fault (Limit a b) (events_apart line e f spells others) r l in
       subst (λ x. IsCause x cause) same c
 
   pub Refuses-within : (p : Progress) (line cause : List ℕ) → Refuses refused p line cause → Limits refused p line → ⊥

@@ -18,7 +18,7 @@ use Rattle.tsp_script.specs.declared.event_line.EventItem.{EventItem}
 use Rattle.tsp_script.specs.declared.event_line.EventItem.TheVariants.{Event as EventOf, End}
 use Rattle.tsp_script.specs.declared.head_line.HeadItem.{HeadItem}
 use Rattle.tsp_script.specs.declared.head_line.HeadItem.TheVariants.{Title, Drift, Strict, Node, Net, NotHead}
-use Rattle.tsp_script.specs.Schedules.{event_text, port_text, node_text, numbers_text, net_text, flag_text, IsPlace, IsEvent, IsHexOf, IsNodeLine, IsNetLine, IsTitle, IsNotHead, SpellsEvent, SpellsHead}
+use Rattle.tsp_script.specs.Schedules.{event_text, port_text, node_text, numbers_text, net_text, flag_text, IsPlace, IsEvent, IsHexOf, IsNodeLine, IsNetLine, IsNotHead, SpellsEvent, SpellsHead}
 use Rattle.tsp_script.proofs.EventLines.{short_hex}
 use Rattle.tsp_script.proofs.Lengths.{number_length, signed_length}
 use Rattle.tsp_schedule.specs.Schedules.{Progress, Untitled, Titled, Drifted, Heading, Running, Ended, next_place, Refuses, IsComplete}
@@ -118,11 +118,7 @@ numbers_length (n ∷ ns) h =
 net_length : (members : List ℕ) → IsNetLine members → length (net_text members) ≤ 1024
 net_length members i = omega (arith, length-append (codes "net") (numbers_text members), numbers_length members i.small, i.few)
 
--- a long line is no title and no drift
-pub SpellsHead-first : (line : List ℕ) → 1024 < length line → (version : ℕ) → IsTitle line version → ⊥
-SpellsHead-first line l version (inl s) = let b : length line ≡ length (codes "tsp-schedule 1") = ap length s.1 in omega (arith, l, b)
-SpellsHead-first line l version (inr s) = let b : length line ≡ length (codes "tsp-schedule 2") = ap length s.1 in omega (arith, l, b)
-
+-- a long line isn't a schedule's second one
 pub SpellsHead-second : (line : List ℕ) → 1024 < length line → (item : HeadItem) → SpellsHead 2 line item → ⊥
 SpellsHead-second line l (Title v) s = omega (arith, s.0)
 SpellsHead-second line l (Drift p) s = let b : length line ≡ length (codes "drift " ++ decimal p) = ap length s.2 in omega (arith, l, b, length-append (codes "drift ") (decimal p), number_length p (omega (arith, s.1)))

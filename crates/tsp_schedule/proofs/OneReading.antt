@@ -6,13 +6,10 @@ use Rattle.tsp_base.specs.Headers.{HeaderValue}
 use Rattle.tsp_script.specs.declared.event_line.EventItem.TheVariants.{Event as EventOf, End}
 use Rattle.tsp_script.specs.declared.head_line.HeadItem.TheVariants.{Title, Drift, Strict, Node, Net, NotHead}
 use Rattle.tsp_script.specs.Schedules.{SpellsEvent, SpellsHead}
-use Rattle.tsp_script.proofs.OneEvent.{SpellsEvent-one}
+use Rattle.tsp_script.proofs.OneEvent.{SpellsEvent-one, events_apart}
 use Rattle.tsp_script.proofs.OneHead.{SpellsHead-one}
 use Rattle.tsp_schedule.specs.Schedules.{Progress, Untitled, Titled, Drifted, Heading, Running, Ended, Takes, TakesNet, next_place, RunsOn, GoesOn, Reaches, Refuses, RefusesRun, RefusesHeading, IsComplete, Limits, LimitsRun, drifted}
 use Rattle.tsp_schedule.specs.Refusing.{Refusing}
-
-pub same_event : (line : List ℕ) (e f : Event) → SpellsEvent line (EventOf e) → SpellsEvent line (EventOf f) → e ≡ f
-same_event line e f s t = let p = SpellsEvent-one line (EventOf e) (EventOf f) s t in cc
 
 pub event_end : (line : List ℕ) (e : Event) → SpellsEvent line (EventOf e) → SpellsEvent line End → ⊥
 event_end line e s t = let p = SpellsEvent-one line (EventOf e) End s t in absurd (cc)
@@ -73,7 +70,7 @@ end_kept header line s t (inr (inr (inr (inr r)))) = end_strict (next_place head
 module _ (refused : Refusing) where
   -- a line brings a schedule to one place
   RunsOn-one : (header : HeaderValue) (events : List Event) (line : List ℕ) (p q : Progress) → RunsOn refused header events line p → RunsOn refused header events line q → p ≡ q
-  RunsOn-one header events line p q (inl g) (inl h) = g.3 ∙ ap (λ e. Running header (e ∷ events)) (same_event line g.0 h.0 g.1 h.1) ∙ sym h.3
+  RunsOn-one header events line p q (inl g) (inl h) = g.3 ∙ ap (λ e. Running header (e ∷ events)) (events_apart line g.0 h.0 g.1 h.1) ∙ sym h.3
   RunsOn-one header events line p q (inl g) (inr h) = absurd (event_end line g.0 g.1 h.0)
   RunsOn-one header events line p q (inr g) (inl h) = absurd (event_end line h.0 h.1 g.0)
   RunsOn-one header events line p q (inr g) (inr h) = g.1 ∙ sym h.1
@@ -102,7 +99,7 @@ module _ (refused : Refusing) where
   RunsOn-not_refused : (header : HeaderValue) (events : List Event) (line cause : List ℕ) (p : Progress) → RunsOn refused header events line p → RefusesRun refused header events line cause → ⊥
   RunsOn-not_refused header events line cause p (inl g) (inl (none, c)) = none (EventOf g.0) g.1
   RunsOn-not_refused header events line cause p (inl g) (inr (e, fault, s, f, w)) =
-      let same = same_event line g.0 e g.1 s in
+      let same = events_apart line g.0 e g.1 s in
       let none : refused header events e ≡ None = rw (sym same) g.2 in
       absurd (cc)
   RunsOn-not_refused header events line cause p (inr g) (inl (none, c)) = none End g.0
@@ -124,7 +121,7 @@ module _ (refused : Refusing) where
   -- and passes no limit
   RunsOn-not_limited : (header : HeaderValue) (events : List Event) (line : List ℕ) (p : Progress) → RunsOn refused header events line p → LimitsRun refused header events line → ⊥
   RunsOn-not_limited header events line p (inl g) (e, a, b, s, f) =
-      let same = same_event line g.0 e g.1 s in
+      let same = events_apart line g.0 e g.1 s in
       let none : refused header events e ≡ None = rw (sym same) g.2 in
       absurd (cc)
   RunsOn-not_limited header events line p (inr g) r = event_end line r.0 r.3 g.0

@@ -58,7 +58,7 @@ rests_apart (Bytes at node port from octets) (Boot t n w) hex other h k x y a v 
 rests_apart (Bytes at node port from octets) (Turn t n) hex other h k x y a v r = absurd (words_differ (codes "bytes") (codes "turn") v (omega arith))
 rests_apart (Bytes at node port from octets) (Take t d) hex other h k x y a v r = absurd (words_differ (codes "bytes") (codes "take") v (omega arith))
 
-events_apart : (line : List ℕ) (e f : Event) → SpellsEvent line (EventOf e) → SpellsEvent line (EventOf f) → e ≡ f
+pub events_apart : (line : List ℕ) (e f : Event) → SpellsEvent line (EventOf e) → SpellsEvent line (EventOf f) → e ≡ f
 events_apart line e f (h, (hex, x, l)) (k, (other, y, m)) =
     let s : decimal (at_of e) ++ 32 ∷ (verb_of e ++ 32 ∷ rest_of e hex) ≡ decimal (at_of f) ++ 32 ∷ (verb_of f ++ 32 ∷ rest_of f other) = sym (after_at e line hex l) ∙ after_at f line other m in
     let a = numbers_apart (at_of e) (at_of f) (verb_of e ++ 32 ∷ rest_of e hex) (verb_of f ++ 32 ∷ rest_of f other) (omega (arith, IsTrueTime-at_of e h)) (omega (arith, IsTrueTime-at_of f k)) s in

@@ -3,7 +3,7 @@ use Rattle.std.proofs.Common.{◌≡◌, ◌≢◌, ℕ, ◌+◌, ◌-◌, ◌*�
 use Rattle.std.proofs.Math.Seq.{take-set-lt}
 use Rattle.std.proofs.lemmas.Nat.{shl_whole}
 use Rattle.std.proofs.lemmas.Bool.Decides.{nat_tests}
-use Rattle.std.proofs.lemmas.Bool.{cases_lt}
+use Rattle.std.proofs.lemmas.Bool.{cases_lt, lt-leb}
 use Rattle.std.proofs.lemmas.List.{get_or_past, length-replicate, get_or-replicate, drop-set-add, take-replicate, drop-replicate}
 use Rattle.tsp_sends.specs.Deadlines.{is_due, deadline_at, IsLeast}
 use Rattle.tsp_sends.specs.Trees.{HoldsEarlier, IsTree}
@@ -39,9 +39,6 @@ none_due-root nodes places levels tick t late i =
 due_itself : (u : ℕ) → nat_le u u ≡ true
 due_itself u = grind (arith, nat_tests)
 
-late_before : (t u : ℕ) → u < t → nat_le t u ≡ false
-late_before t u h = grind (arith, nat_tests)
-
 due_means : (t : ℕ) (d : Option ℕ) → is_due t d ≡ true → (u : ℕ) × (d ≡ Some u) × (u ≤ t)
 due_means t None e = let bad : ⊥ = cc in absurd bad
 due_means t (Some u) e = (u, refl, grind (arith, nat_tests))
@@ -50,7 +47,7 @@ due_means t (Some u) e = (u, refl, grind (arith, nat_tests))
 first_of_root : (nodes : List (Option ℕ)) (places levels t : ℕ) → IsTree nodes places levels → deadline_at nodes 1 ≡ Some t → (i u : ℕ) → deadline_at (places_in nodes places levels) i ≡ Some u → t ≤ u
 first_of_root nodes places levels t tree e i u f = elim (cases_lt u t) [
   | inl before ↦
-      let late : is_due u (deadline_at nodes 1) ≡ false = rw e (late_before t u before) in
+      let late : is_due u (deadline_at nodes 1) ≡ false = rw e (lt-leb t u before) in
       let not_due : is_due u (deadline_at (places_in nodes places levels) i) ≡ false = none_due-root nodes places levels u tree late i in
       let due : is_due u (deadline_at (places_in nodes places levels) i) ≡ true = rw f (due_itself u) in
       let bad : true ≡ false = sym due ∙ not_due in

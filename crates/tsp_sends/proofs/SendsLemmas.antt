@@ -8,9 +8,10 @@ use Rattle.tsp_base.specs.SendFacts.{Sending, deadline_of}
 use Rattle.tsp_sends.specs.declared.due.Due.{Due}
 use Rattle.tsp_sends.specs.declared.slot.Slot.{Slot}
 use Rattle.tsp_sends.specs.Deadlines.{is_due, deadline_at, IsFirstDue, IsFirstDueAt, IsLeast}
-use Rattle.tsp_sends.specs.Slots.{IsAscending, peers_of, empty_slot, sending_to, deadline_in, SetsOnly, IsSends}
+use Rattle.tsp_base.specs.Peers.{IsAscending}
+use Rattle.tsp_sends.specs.Slots.{peers_of, empty_slot, sending_to, deadline_in, SetsOnly, IsSends}
 use Rattle.tsp_sends.specs.Repeating.{IsAfter, is_due_send, repeated, kept, RepeatsNext, IsEarliest, IsPlaceOf, IsFirstAfter}
-use Rattle.tsp_sends.proofs.SlotLemmas.{Rise, Rise-ascending, sending_to-at, sending_to-found, SetsOnly-set, peers_of-set}
+use Rattle.tsp_sends.proofs.SlotLemmas.{Rising, Rising-ascending, sending_to-at, sending_to-found, SetsOnly-set, peers_of-set}
 
 -- a slot gets another send, and its leaf the deadline
 pub IsSends-set : (slots : List Slot) (deadlines new_deadlines : List (Option ℕ)) (i : ℕ) (d new : Slot) → IsSends slots deadlines → i < length slots → new.peer ≡ (get_or slots i d).peer
@@ -63,7 +64,7 @@ pub RepeatsNext-found : (after : Option PeerId) (tick : ℕ) (slots : List Slot)
     → new.peer ≡ (get_or slots i d).peer → new.sending ≡ option_and_then (kept tick) (get_or slots i d).sending → r ≡ option_map (repeated (get_or slots i d).peer tick) (get_or slots i d).sending
     → RepeatsNext after tick slots (set slots i new) r
 RepeatsNext-found after tick slots deadlines from i d new r s f found peer sending due =
-    let rise : Rise slots = Rise-ascending slots s.ascending in
+    let rise : Rising slots = Rising-ascending slots s.ascending in
     let many : length deadlines ≡ length slots = ap length s.deadlines_are ∙ length-map slots deadline_in in
     let inside : i < length slots = omega (arith, found.inside) in
     let p : PeerId = (get_or slots i d).peer in
@@ -114,7 +115,7 @@ IsEarliest-least slots deadlines None s least = λ p. none_open p (sending_to sl
       let bad : None ≡ Some (deadline_of t) = sym (least w.0) ∙ here in
       absurd (cc)
 IsEarliest-least slots deadlines (Some t) s least =
-    let rise : Rise slots = Rise-ascending slots s.ascending in
+    let rise : Rising slots = Rising-ascending slots s.ascending in
     let many : length deadlines ≡ length slots = ap length s.deadlines_are ∙ length-map slots deadline_in in
     let i = least.armed.0 in
     let inside : least.armed.0 < length slots = omega (arith, least.armed.1) in
@@ -134,13 +135,13 @@ IsEarliest-least slots deadlines (Some t) s least =
 
 -- a slot that was found has the open send
 pub sending_found : (slots : List Slot) (p : PeerId) (i : ℕ) (d : Slot) → IsAscending (peers_of slots) → IsPlaceOf p slots (Ok i) → sending_to slots p ≡ (get_or slots i d).sending
-sending_found slots p i d up place = sending_to-at slots i d p (Rise-ascending slots up) place.0 (place.1 d)
+sending_found slots p i d up place = sending_to-at slots i d p (Rising-ascending slots up) place.0 (place.1 d)
 
 -- a slot that was found gets another send
 pub SetsOnly-fill : (slots new : List Slot) (p : PeerId) (i : ℕ) (o : Option Sending) → IsAscending (peers_of slots) → IsPlaceOf p slots (Ok i) → ((d : Slot) → new ≡ set slots i (record (get_or slots i d) { sending = o })) → SetsOnly p o slots new
 SetsOnly-fill slots new p i o up place e =
     let d : Slot = empty_slot p in
-    rw (e d) (SetsOnly-set slots i d p (record (get_or slots i d) { sending = o }) (Rise-ascending slots up) place.0 (place.1 d) (place.1 d))
+    rw (e d) (SetsOnly-set slots i d p (record (get_or slots i d) { sending = o }) (Rising-ascending slots up) place.0 (place.1 d) (place.1 d))
 
 pub peers_of-fill : (slots new : List Slot) (i : ℕ) (o : Option Sending) → ((d : Slot) → new ≡ set slots i (record (get_or slots i d) { sending = o })) → peers_of new ≡ peers_of slots
 peers_of-fill slots new i o e =

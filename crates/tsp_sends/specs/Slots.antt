@@ -1,15 +1,11 @@
 -- The slots of a port's peers, each with at most one open send.
 use Rattle.std.specs.Prelude.{◌≡◌, ℕ, ◌==◌, Bool, false, if◌then◌else◌, List, [], ◌∷◌, map, Option, None, Some}
-use Rattle.std.specs.List.Sorted.{IsStrictlyIncreasing}
 use Rattle.std.specs.Option.{option_map}
 use Rattle.tsp_base.specs.declared.kind.Kind.{Kind}
 use Rattle.tsp_base.specs.declared.place.PeerId.{PeerId}
+use Rattle.tsp_base.specs.Peers.{IsAscending}
 use Rattle.tsp_base.specs.SendFacts.{Sending, deadline_of}
 use Rattle.tsp_sends.specs.declared.slot.Slot.{Slot}
-
--- the peers' numbers, ascending
-abbrev pub IsAscending : List PeerId → Type 0
-IsAscending peers = IsStrictlyIncreasing (map (λ p. p.0) peers)
 
 -- the peers that have a slot
 abbrev pub peers_of : List Slot → List PeerId

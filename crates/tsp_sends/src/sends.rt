@@ -1,9 +1,10 @@
 //! The open sends of a port.
-ghost use Rattle.std.specs.Prelude.{◌≡◌, ◌^◌, ◌≤◌, ◌<◌, length, slice_index_or, slice_set, true, MatchBool, IfOk};
+ghost use Rattle.std.specs.Prelude.{◌≡◌, ◌^◌, ◌≤◌, ◌<◌, length, slice_index_or, slice_set, MatchBool, IfOk};
 ghost use Rattle.std.specs.List.{Contains};
 ghost use Rattle.tsp_base.specs.declared.place.PeerId.{PeerId};
 ghost use Rattle.tsp_sends.specs.declared.slot.Slot.{Slot};
-ghost use Rattle.tsp_sends.specs.Slots.{IsAscending, peers_of, sending_to, kind_of, has_number, SetsOnly};
+ghost use Rattle.tsp_base.specs.Peers.{IsAscending};
+ghost use Rattle.tsp_sends.specs.Slots.{peers_of, sending_to, kind_of, has_number, SetsOnly};
 ghost use Rattle.tsp_sends.specs.Repeating.{RepeatsNext, IsEarliest};
 
 use crate::due::Due;

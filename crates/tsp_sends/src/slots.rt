@@ -2,7 +2,8 @@
 ghost use Rattle.std.specs.Prelude.{◌≡◌, ◌<◌, length, map, vec_capacity, slice_index_or, slice_set, IfOk};
 ghost use Rattle.std.specs.Option.{option_map, option_and_then};
 ghost use Rattle.tsp_sends.specs.declared.slot.Slot.{Slot};
-ghost use Rattle.tsp_sends.specs.Slots.{IsAscending, peers_of, empty_slot, deadline_in, kind_of, has_number};
+ghost use Rattle.tsp_base.specs.Peers.{IsAscending};
+ghost use Rattle.tsp_sends.specs.Slots.{peers_of, empty_slot, deadline_in, kind_of, has_number};
 ghost use Rattle.tsp_sends.specs.Held.{slots_of, AreHeld};
 ghost use Rattle.tsp_sends.specs.Repeating.{repeated, kept, IsPlaceOf, IsFirstAfter};
 

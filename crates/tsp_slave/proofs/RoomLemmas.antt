@@ -22,9 +22,6 @@ both n k a b = record { spare = omega arith; count = omega arith }
 pub one_then : (peers n : ℕ) {room between left : ℕ} {old mid new : List Placed} → PutsExactly 1 room between old mid → PutsAtMost (peers + n) between left mid new → PutsAtMost (peers + (n + 1)) room left old new
 one_then peers n a b = record { spare = omega arith; few = omega arith }
 
-pub at_most_one_then : (peers n : ℕ) {room between left : ℕ} {old mid new : List Placed} → PutsAtMost 1 room between old mid → PutsAtMost (peers + n) between left mid new → PutsAtMost (peers + (n + 1)) room left old new
-at_most_one_then peers n a b = record { spare = omega arith; few = omega arith }
-
 -- one at most
 pub at_most_once : (b : Bool) (k : ℕ) {room left : ℕ} {old new : List Placed} → PutsExactly (if b then 1 else 0) room left old new → PutsAtMost (k + 1) room left old new
 at_most_once true k a = record { spare = omega arith; few = omega arith }

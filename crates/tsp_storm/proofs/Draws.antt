@@ -143,17 +143,9 @@ next-chosen header events v posted (Plain p) w same is other = ap (λ (r : Event
 next-chosen header events v posted (Request at node word) w same is other = ap (λ (r : Event × StormValue). as_event r) (next-given header events v posted (request_event at node word) w same is)
 next-chosen header events v posted (Asked k) w same is other = absurd (other k refl)
 
--- the event of a draw is given back
-pub given-back : (e : Event) (w : StormValue) (r : Event × StormValue) → (Gives e, w) ≡ as_event r → (e, w) ≡ r
-given-back e w (f, x) is = let event : Gives e ≡ Gives f = ap (λ (d : Draw × StormValue). d.0) is in let storm : w ≡ x = ap (λ (d : Draw × StormValue). d.1) is in let same : e ≡ f = cc in cc
-
 -- a draw that gives what comes next gives its event
 pub given-next : (d : Draw) (w : StormValue) (r : Event × StormValue) → (d, w) ≡ as_event r → (d ≡ Gives r.0) × ((r.0, w) ≡ r)
 given-next d w (f, x) is = (ap (λ (p : Draw × StormValue). p.0) is, ap (λ (p : Draw × StormValue). (f, p.1)) is)
-
--- a question is no event
-pub asks-none : (k : ℕ) (w : StormValue) (r : Event × StormValue) → (Ask k, w) ≡ as_event r → ⊥
-asks-none k w (f, x) is = let event : Ask k ≡ Gives f = ap (λ (d : Draw × StormValue). d.0) is in cc
 
 -- a generator that asked waits for the answer
 pub asks_is : (posted k : ℕ) (v u : StormValue) → 1 ≤ v.nodes → (Ask k, u) ≡ storm_next posted None v → Asks posted v k u

@@ -7,7 +7,7 @@ use Rattle.tsp_io.specs.Streams.{Grows}
 use Rattle.tsp_lines.specs.Outcomes.{limit_line}
 use Rattle.tsp_storm.specs.declared.run.StormEnd.{StormEnd}
 use Rattle.tsp_storm.specs.declared.run.StormEnd.TheVariants.{Done, Limit, WriteFault, OutOfMemory}
-use Rattle.tsp_storm.specs.Answers.{IsLimit, StopsAfter, IsAnswer, IsPart, WritesPart, StormsAs, Agrees, refused_after, Says, HasRoom}
+use Rattle.tsp_storm.specs.Answers.{IsLimit, StopsAfter, IsAnswer, IsPart, WritesPart, StormsAs, Agrees, refused_after, Says}
 use Rattle.tsp_storm.specs.Schedules.{header_of, events_of}
 use Rattle.tsp_args.specs.declared.storm.StormWords.{StormWords}
 use Rattle.tsp_run.specs.Refusals.{Valid}
@@ -78,13 +78,6 @@ agrees s written now Limit (other, b, grows) end text a = let one = one_answer s
 agrees s written now WriteFault part end text a = part_of s end text written now a part
 agrees s written now OutOfMemory (inl same) end text a = (text, some_text s end text a, ([], refl, grows_nothing written now same))
 agrees s written now OutOfMemory (inr part) end text a = part_of s end text written now a part
-
--- where each event has room, no limit is met
-pub has_room : (s : StormWords) (written now : Option (List ℕ)) (result : StormEnd) → HasRoom s → StormsAs s written now result → (result ≡ WriteFault → ⊥) → (result ≡ Done) ⊎ (result ≡ OutOfMemory)
-has_room s written now Done room e w = inl refl
-has_room s written now Limit room e w = let stops = e.1.1 in absurd (room e.1.0 stops.within stops.limit)
-has_room s written now WriteFault room e w = absurd (w refl)
-has_room s written now OutOfMemory room e w = inr refl
 
 -- not all of a text was written
 pub said_part : (text : List ℕ) (end result : StormEnd) (written now : Option (List ℕ)) (at : ℕ) → (result ≡ WriteFault) ⊎ (result ≡ OutOfMemory) → at < length text → Grows written now (take at text) → Says text end written now result

@@ -13,7 +13,7 @@ use Rattle.tsp_rules.specs.NodeRows.{in_node_step}
 use Rattle.tsp_run.specs.Run.{Happening, happening, joins, run, steps, step_tick, boot_step}
 use Rattle.tsp_run.specs.Setup.{past_of}
 use Rattle.tsp_run.proofs.RunLemmas.{stepped_own, stepped_other, up_joined}
-use Rattle.tsp_world.proofs.BootLemmas.{boots-up}
+use Rattle.tsp_run.proofs.BootLemmas.{boots-up}
 
 up-stepped : (n : ℕ) (step : Step) (x : ℕ) (acts : List Placed) (h : List Line) → up (dids (of n h)) ≡ true → up (dids (of n (stepped step x acts h))) ≡ true
 up-stepped n step x acts h was = by_case (step.node == n) refl where

@@ -1,4 +1,3 @@
-pub mod BootLemmas
 pub mod Deliveries
 pub mod Occurrences
 pub mod ReadyLemmas

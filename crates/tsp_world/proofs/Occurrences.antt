@@ -1,5 +1,5 @@
 -- An event that nothing refuses occurs, or it lacks memory.
-use Rattle.std.specs.Prelude.{◌≡◌, ℕ, ◌≤◌, List, ◌∷◌, Option, None, Some, MatchResult, OnOk, OnErr, refl}
+use Rattle.std.specs.Prelude.{◌≡◌, ℕ, ◌≤◌, List, ◌∷◌, Option, None, Some, MatchResult, OnOk, refl}
 use Rattle.std.proofs.Common.{sym, ◌∙◌, subst, inl, inr, rules}
 use Rattle.std.specs.declared.result.Result.{Result}
 use Rattle.std.specs.declared.result.Result.TheVariants.{Ok, Err}
@@ -7,7 +7,7 @@ use Rattle.tsp_base.specs.declared.event.Event.{Event}
 use Rattle.tsp_base.specs.declared.event.EventFault.{EventFault}
 use Rattle.tsp_base.specs.declared.event.EventFault.TheVariants.{OutOfMemory}
 use Rattle.tsp_base.specs.Headers.{HeaderValue}
-use Rattle.tsp_run.specs.Refusals.{Allowed, IsRefusal, actor, scene, refusal}
+use Rattle.tsp_run.specs.Refusals.{Allowed, actor, scene, refusal}
 use Rattle.tsp_run.specs.Run.{event_at}
 use Rattle.tsp_run.proofs.RefusalLemmas.{allowed, refusal-alike}
 use Rattle.tsp_world.specs.declared.world.World.{World}
@@ -46,19 +46,6 @@ occurred e old ready new cause refused is stays happens header events w =
 -- what came of an event
 abbrev Comes : Event → World → World → Result (Unit {0}) EventFault → Type 0
 Comes e old new r = MatchResult r (λ _. Occurs e old new) (Declines e old new)
-
-pub comes-stands : (e : Event) (old new : World) (r : Result (Unit {0}) EventFault) → Comes e old new r → (header : HeaderValue) (events : List Event) → WorldStands header events old → OnOk r (WorldStands header (e ∷ events) new)
-comes-stands e old new (Ok u) is header events w = (is header events w).1
-comes-stands e old new (Err f) is header events w = tt
-
-pub comes-kept : (e : Event) (old new : World) (r : Result (Unit {0}) EventFault) → Comes e old new r → (header : HeaderValue) (events : List Event) → WorldStands header events old → OnErr r (WorldStands header events new)
-comes-kept e old new (Ok u) is header events w = tt
-comes-kept e old new (Err f) is header events w = (is header events w).1
-
-pub comes-fault : (e : Event) (old new : World) (r : Result (Unit {0}) EventFault) → Comes e old new r → (header : HeaderValue) (events : List Event) → WorldStands header events old →
-    MatchResult r (λ _. refusal (scene header events) e ≡ None) (λ f. IsRefusal (refusal (scene header events) e) f)
-comes-fault e old new (Ok u) is header events w = (is header events w).0
-comes-fault e old new (Err f) is header events w = (is header events w).0
 
 pub comes-so : (e : Event) (old new : World) (r : Result (Unit {0}) EventFault) (P : Type 0) → Comes e old new r → (header : HeaderValue) (events : List Event) → WorldStands header events old → (WorldStands header (e ∷ events) new → P) → OnOk r P
 comes-so e old new (Ok u) P is header events w f = f (is header events w).1

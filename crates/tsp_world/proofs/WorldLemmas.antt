@@ -21,7 +21,7 @@ use Rattle.tsp_run.specs.Refusals.{scene, refusal}
 use Rattle.tsp_run.specs.Run.{run, joins, happening, steps, step_tick, event_at}
 use Rattle.tsp_run.specs.Setup.{past_of, rests}
 use Rattle.tsp_networks.specs.Sheets.{acts_on}
-use Rattle.tsp_world.specs.WorldStands.{WorldStands, PlaceStands, UpBegun, UpStands, Notes, Passes, up_at, is_node, scene_of}
+use Rattle.tsp_world.specs.WorldStands.{WorldStands, PlaceStands, UpBegun, UpStands, Notes, up_at, is_node, scene_of}
 use Rattle.tsp_gateway.proofs.StepLemmas.{GatewayStands_step, GatewayBegun_in_step}
 use Rattle.tsp_run.proofs.NetworkLemmas.{some_same}
 use Rattle.tsp_run.proofs.RefusalLemmas.{Alike}
@@ -136,21 +136,6 @@ WorldStands-handed header events e row step old new before after acts w range no
       | inr h ↦ absurd (h.0 refl)
     ])
     (λ n place other is. elim (set_cases old.nodes.items step.node n after place is) [ inl h ↦ absurd (other (sym h.0)) | inr h ↦ h.1 ])
-
--- and so does one that has noted an event at which nobody acts
-pub WorldStands-passed : (header : HeaderValue) (events : List Event) (e : Event) (old new : World) → WorldStands header events old → IsInRange e → refusal (scene header events) e ≡ None → happening header (run header events) e ≡ None → Passes (event_at e) old new → WorldStands header (e ∷ events) new
-WorldStands-passed header events e old new w range none happens passed = record {
-  header_is = passed.header ∙ w.header_is;
-  ranges = All-cons IsInRange e events range w.ranges;
-  valid = (none, w.valid);
-  count = (let a = passed.events in let b = w.count in omega (arith, a, b));
-  last = passed.last;
-  sent = rw happens (ap (λ v. v.items) passed.sent ∙ w.sent);
-  lines = rw happens passed.lines;
-  places = ap (λ v. length v.items) passed.nodes ∙ w.places;
-  nodes = λ n place is. rw happens (w.nodes n place (ap (λ v. slice_get v.items n) (sym passed.nodes) ∙ is));
-  nobody = λ n past. rw happens (w.nobody n past);
-}
 
 up_at-stands : (header : HeaderValue) (history : List Line) (n : ℕ) (o : Option (Option Gateway)) → ((place : Option Gateway) → o ≡ Some place → PlaceStands header history n place) → (o ≡ None → up (dids (of n history)) ≡ false) → is_node o ≡ up (dids (of n history))
 up_at-stands header history n None there none = sym (none refl)

@@ -1,7 +1,7 @@
 //! A node with one port, step by step.
 ghost use Rattle.std.specs.Prelude.{◌≡◌, IfOk, IfSome};
 ghost use Rattle.std.specs.List.{Contains};
-ghost use Rattle.tsp_acks.specs.Peers.{IsPeers};
+ghost use Rattle.tsp_base.specs.Peers.{IsPeers};
 
 use std::alloc::Global;
 use std::test::Fail;

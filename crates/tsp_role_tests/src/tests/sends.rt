@@ -1,6 +1,6 @@
 //! Examples of the tree and of sends, and a count of rounds that only the tree can finish in time.
-ghost use Rattle.std.specs.Prelude.{◌≡◌, ◌^◌, ◌≤◌, ◌<◌, length, IfOk};
-ghost use Rattle.tsp_sends.specs.Slots.{IsAscending, peers_of};
+ghost use Rattle.std.specs.Prelude.{◌≡◌, ◌^◌, ◌≤◌, ◌<◌, length};
+ghost use Rattle.tsp_sends.specs.Slots.{peers_of};
 
 use std::alloc::{AllocError, Global};
 use tsp_base::kind::Kind;

@@ -3,10 +3,11 @@ use Rattle.std.proofs.Common.{◌≡◌, ◌≤◌, ◌-◌, ◌∙◌, ℕ, ari
 use Rattle.tsp_base.specs.Headers.{HeaderValue}
 use Rattle.tsp_base.specs.History.{Line}
 use Rattle.tsp_history.specs.declared.line.HistoryLine.{HistoryLine}
+use Rattle.tsp_history.proofs.NoteLemmas.{length-history}
 use Rattle.tsp_claims.specs.ClaimedHistory.{claimed}
 use Rattle.tsp_audit.specs.Judged.{Judges}
 use Rattle.tsp_audit.specs.Notes.{HasRoom, NotesStand}
-use Rattle.tsp_audit.proofs.JudgeLemmas.{begins-within, history-length, looked, looked-notes}
+use Rattle.tsp_audit.proofs.JudgeLemmas.{begins-within, looked, looked-notes}
 use Rattle.tsp_audit.proofs.looking.look.Goals as goal
 
 pub returns-then-lines-from : goal.returns-then-lines-from
@@ -21,7 +22,7 @@ returns-in-None c new h is event grown room notes =
     let header : HeaderValue = c.args.header.now in
     let ns : List HistoryLine = c.args.lines.now in
     let count : ℕ = length header.nodes in
-    let long : length (claimed header new) ≡ length ns = sym (ap (λ (x : List Line). length x) is) ∙ history-length ns in
+    let long : length (claimed header new) ≡ length ns = sym (ap (λ (x : List Line). length x) is) ∙ length-history ns in
     let spare : HasRoom (length ns - c.args.from) c.args.notes.now = subst (λ (k : ℕ). HasRoom (k - c.args.from) c.args.notes.now) long room in (
       looked-notes ns count (claimed header new) h c.args.from (λ (x : List Line). NotesStand c.args.premises count x c.args.notes.now) (λ (x : List Line). NotesStand c.args.premises count x c.judge.new.notes) is grown
           (c.judge.ensures.notes count c.in-None.is spare) notes,
@@ -36,7 +37,7 @@ returns-in-Some c new h is event grown room notes =
     let header : HeaderValue = c.args.header.now in
     let ns : List HistoryLine = c.args.lines.now in
     let count : ℕ = length header.nodes in
-    let long : length (claimed header new) ≡ length ns = sym (ap (λ (x : List Line). length x) is) ∙ history-length ns in
+    let long : length (claimed header new) ≡ length ns = sym (ap (λ (x : List Line). length x) is) ∙ length-history ns in
     let spare : HasRoom (length ns - c.args.from) c.args.notes.now = subst (λ (k : ℕ). HasRoom (k - c.args.from) c.args.notes.now) long room in (
       event,
       (λ setting has keeps.

@@ -1,7 +1,8 @@
 use Rattle.std.proofs.Common.{pos, ◌+ℤ◌}
 use Rattle.tsp_clock.specs.Clocks.{rest_of}
-use Rattle.tsp_clock.proofs.Slewing.{eased_none, no_time, stays_by, moves_by, none_left}
+use Rattle.tsp_clock.proofs.Slewing.{no_time, stays_by, moves_by, none_left}
 use Rattle.tsp_clock.proofs.laws.corrections_keep_or_step.Goals as goal
+use Rattle.tsp_base.proofs.TickLemmas.{eased_none}
 
 pub returns-clause-moves : goal.returns-clause-moves
 returns-clause-moves c v x y amount = moves_by v.offset amount y

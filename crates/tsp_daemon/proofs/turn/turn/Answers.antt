@@ -11,7 +11,7 @@ use Rattle.tsp_daemon.specs.Ends.{given_by}
 use Rattle.tsp_daemon.specs.Posts.{AreKnown}
 use Rattle.tsp_daemon.proofs.SessionLemmas.{waits_is, steps_is, turned_is, ends_is, lives_on, acts_known, unheard_is, finish_unlinked}
 use Rattle.tsp_query.proofs.OutsideLemmas.{Notes_same}
-use Rattle.tsp_daemon.proofs.TurnLemmas.{le_self, le_is, last_on, last_twice, sends_on, clock_on, posts_on, memory_unlinked, memory_unwritten, link_unwritten, same_end}
+use Rattle.tsp_daemon.proofs.TurnLemmas.{le_self, le_is, last_on, last_twice, sends_on, posts_on, memory_unlinked, memory_unwritten, link_unwritten, same_end}
 use Rattle.tsp_daemon.proofs.WaitLemmas.{first_reading, turn_noted, wait_noted}
 use Rattle.tsp_daemon.proofs.turn.turn.Goals as goal
 
@@ -122,7 +122,7 @@ returns-clause-keeps g c = record {
 }
 
 pub returns-clause-clock : goal.returns-clause-clock
-returns-clause-clock g c = clock_on _ _ _ c.step.ensures.clock c.tick-tick.ensures.last
+returns-clause-clock g c = last_on _ _ _ c.step.ensures.clock c.tick-tick.ensures.last
 
 pub returns-clause-counts : goal.returns-clause-counts
 returns-clause-counts g c = (refl, posts_on c.args.course.now.posts _ _ _ _ c.posts_in.ensures.few c.step.ensures.few c.acts-acts.ensures)

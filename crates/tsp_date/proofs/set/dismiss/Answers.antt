@@ -10,7 +10,7 @@ use Rattle.tsp_rules.specs.DateRows.{leaves, leaves_all}
 use Rattle.tsp_rules.specs.Guards.{table_at}
 use Rattle.tsp_measure.specs.declared.entry.Entry.{Entry}
 use Rattle.tsp_measure.specs.Slaves.{entry_of, leaves as leaves_entry, peers_of}
-use Rattle.tsp_master.proofs.AskLemmas.{IsPeers-ascending, filter-more, filter-past, joined-is, joined_of, take-more}
+use Rattle.tsp_master.proofs.AskLemmas.{filter-more, filter-past, joined-is, joined_of, take-more}
 use Rattle.tsp_master.proofs.CloseLemmas.{later-same}
 use Rattle.tsp_date.proofs.DateLemmas.{Performs_leave, changes-others}
 use Rattle.tsp_date.proofs.set.dismiss.Goals.{then-leave, else-leave}
@@ -34,7 +34,7 @@ loop-p-preserved g c =
     let p : PeerId = slice_index_or c.peers-p-items.result.now n (record { 0 = 0 }) in
     let there : c.peers-p-items.result.now ≡ ps = c.peers-p-items.ensures.value in
     let inside : n < length ps = omega (arith, c.loop-p-test.true, ap length there) in
-    let up = IsPeers-ascending ps c.peers-p-items.ensures.valid in
+    let up = c.peers-p-items.ensures.valid.ascending in
     let here : get_or ps n p ≡ p = ap (λ l. get_or l n p) (sym there) ∙ get_or_default c.peers-p-items.result.now n p (record { 0 = 0 }) (omega (arith, c.loop-p-test.true)) in
     let entry : entry_of c.loop-p.master.slaves p ≡ entry_of es p = ap (entry_of c.loop-p.master.slaves) (sym here) ∙ inv.later n p (omega arith) inside ∙ ap (entry_of es) here in
     let more : take (n + 1) ps ≡ take n ps ++ p ∷ [] = take-more ps n p inside here in

@@ -2,7 +2,7 @@
 use Rattle.std.proofs.Common.{◌≡◌, ◌∙◌, [], ◌∷◌, ◌++◌, List, Some, ap, arith, inl, inr, length, length-append, rules, slice_get, subst, sym, vec_len}
 use Rattle.std.specs.Prelude.{slice_index_or}
 use Rattle.tsp_rules.specs.NodeRows.{no_port}
-use Rattle.tsp_acks.specs.Peers.{IsPeers}
+use Rattle.tsp_base.specs.Peers.{IsPeers}
 use Rattle.tsp_node.specs.declared.part.Part.{Part}
 use Rattle.tsp_gateway.specs.PartsFresh.{IsFresh}
 use Rattle.tsp_gateway.proofs.BootLemmas.{get_last, port_in_place}

@@ -6,8 +6,9 @@ use Rattle.tsp_lines.specs.declared.gather.Ungathered.TheVariants.{ReadFault as 
 use Rattle.tsp_lines.specs.declared.treat.Outcome.TheVariants.{ReadFault, OutOfMemory}
 use Rattle.tsp_lines.proofs.OneAnswer.{Comes-answers}
 use Rattle.tsp_lines.proofs.Turns.{Comes-nothing}
-use Rattle.tsp_lines.proofs.WholeInputs.{Comes-given, ComesGathered-comes, Grows-none, ended-given}
+use Rattle.tsp_lines.proofs.WholeInputs.{Comes-given, ComesGathered-comes, ended-given}
 use Rattle.tsp_lines.proofs.treat_gathered.treat_gathered.Goals as goal
+use Rattle.tsp_lines.proofs.Outputs.{Grows-nil}
 
 pub returns-in-Ok : goal.returns-in-Ok
 returns-in-Ok g c =
@@ -34,7 +35,7 @@ returns-in-Err-ReadFault g c =
     let fault : c.gather.result ≡ Err NotRead = c.in-Err-ReadFault.is ∙ ap Err c.in-Err-ReadFault.field-0-is in
     let u = rw fault at c.gather.ensures.comes in record {
       comes = (u.0, refl);
-      answers = λ definite octets outcome output told answer. (output, ([], refl, Grows-none _));
+      answers = λ definite octets outcome output told answer. (output, ([], refl, Grows-nil _));
       gathered = λ r m. absurd (r refl);
       unwritten = λ r. refl;
       leaves = record {

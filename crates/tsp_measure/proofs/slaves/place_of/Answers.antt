@@ -2,10 +2,10 @@
 use Rattle.std.proofs.Common.{rules}
 use Rattle.std.proofs.lemmas.List.Sorted.{answers_always}
 use Rattle.tsp_measure.specs.declared.entry.Entry.{Entry}
-use Rattle.tsp_measure.proofs.Entries.{Rise-table, IsPlaceOf-searched}
+use Rattle.tsp_measure.proofs.Entries.{Rising-peers, IsPlaceOf-searched}
 use Rattle.tsp_measure.proofs.slaves.place_of.Goals as goal
 
 pub returns : goal.returns
 returns c =
-    IsPlaceOf-searched c.args.entries.now c.args.peer c.binary_search_by_key.result (Rise-table _ c.requires) c.binary_search_by_key.ensures.bound
+    IsPlaceOf-searched c.args.entries.now c.args.peer c.binary_search_by_key.result (Rising-peers _ c.requires) c.binary_search_by_key.ensures.bound
     (c.binary_search_by_key.ensures.position (λ (e : Entry). e.peer.0) (answers_always _ _ _ (λ f a r g h. search rules)))

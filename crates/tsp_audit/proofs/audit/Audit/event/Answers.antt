@@ -5,7 +5,6 @@ use Rattle.tsp_audit.specs.Looking.{Finds, Grown}
 use Rattle.tsp_audit.specs.Notes.{HasRoom, NotesStand}
 use Rattle.tsp_audit.specs.Verdicts.{IsVerdict}
 use Rattle.tsp_audit.proofs.EventLemmas.{acts-length, audit-refused, audit-with, found-more, grown-claims, longer-claims, notes-later, verdict-is}
-use Rattle.tsp_audit.proofs.JudgeLemmas.{history-length}
 use Rattle.tsp_audit.proofs.NoteLemmas.{room-less}
 use Rattle.tsp_base.specs.Headers.{HeaderValue}
 use Rattle.tsp_base.specs.History.{Line}
@@ -15,6 +14,7 @@ use Rattle.tsp_claims.specs.Listed.{NamesNode}
 use Rattle.tsp_claims.specs.Stands.{ClaimsStand, claim_of}
 use Rattle.tsp_history.specs.declared.line.HistoryLine.{HistoryLine}
 use Rattle.tsp_history.specs.Histories.{history_of}
+use Rattle.tsp_history.proofs.NoteLemmas.{length-history}
 use Rattle.tsp_base.specs.declared.trace.Line2.{Line2}
 use Rattle.tsp_audit.proofs.audit.Audit.event.Goals as goal
 
@@ -35,7 +35,7 @@ returns-in-Ok c premises header claims stands =
     let ns : List HistoryLine = c.lines-from.result.now in
     let taken : Fit header claims c.args.e.now acts × ClaimsStand header (claim ∷ claims) c.event.new.self = c.in-Ok.ensures header claims stands.claims_stand in
     let is : history_of ns ≡ h = c.lines-from.ensures.lines header claims stands.claims_stand in
-    let begins : length h ≡ length ns = sym (ap (λ (x : List Line). length x) is) ∙ history-length ns in
+    let begins : length h ≡ length ns = sym (ap (λ (x : List Line). length x) is) ∙ length-history ns in
     let count : ℕ = length header.nodes in
     let names : NamesNode count c.args.e.now = subst (λ (k : HeaderValue). NamesNode (length k.nodes) c.args.e.now) stands.claims_stand.header_is c.requires.node in
     let g : Grown count h (claimed header (claim ∷ claims)) (length h) = grown-claims header claims claim c.requires.time stands.timely (names, stands.named) in

@@ -4,7 +4,6 @@ use Rattle.std.specs.Prelude.{List, length, take, reverse, [], ◌∷◌, ◌++�
 use Rattle.std.specs.List.{slice_get}
 use Rattle.std.proofs.lemmas.Option.{slice_get_within}
 use Rattle.tsp_audit.specs.Premised.{kept_with}
-use Rattle.tsp_audit.proofs.JudgeLemmas.{history-length}
 use Rattle.tsp_base.specs.History.{Line}
 use Rattle.tsp_audit_command.specs.ClaimReaders.{pass_one}
 use Rattle.tsp_audit_command.specs.Sound.{Sound, claims_on}
@@ -12,6 +11,7 @@ use Rattle.tsp_claims.specs.ClaimedHistory.{claimed, posts_of}
 use Rattle.tsp_claims.specs.Fitting.{Fit, lacks}
 use Rattle.tsp_claims.specs.Stands.{ClaimsStand, claim_of}
 use Rattle.tsp_audit_command.proofs.SoundLemmas.{Sound-passed, at-fit, few-passed, got-at, view-passed}
+use Rattle.tsp_history.proofs.NoteLemmas.{length-history}
 use Rattle.tsp_audit_command.proofs.claim_reader.ClaimReader.pass_one.Goals as goal
 
 pub add-requires-clause-events : goal.add-requires-clause-events
@@ -47,7 +47,7 @@ invariant_of-result c =
     let stand : ClaimsStand i.claims.header (claim_of e i.pending ∷ passed) c.add.new.self = subst (λ ls. ClaimsStand i.claims.header (claim_of e ls ∷ passed) c.add.new.self) c.lines.ensures given in
     let more_is : c.push.new.self.items ≡ i.ends.items ++ (length c.lines-2.result.now) ∷ [] = search rules in
     let n_is : length c.lines-2.result.now ≡ length (claimed i.claims.header (claim_of e i.pending ∷ passed)) =
-    sym (history-length c.lines-2.result.now) ∙ ap (λ (h : List Line). length h) (c.lines-2.ensures.lines i.claims.header (claim_of e i.pending ∷ passed) stand) in
+    sym (length-history c.lines-2.result.now) ∙ ap (λ (h : List Line). length h) (c.lines-2.ensures.lines i.claims.header (claim_of e i.pending ∷ passed) stand) in
     let kept_is : c.keep_with-premises.result ≡ kept_with i.premises (reverse (take (length i.ends.items) i.events.items)) (posts_of i.claims.header passed) e =
     (let k : c.keep_with-premises.result ≡ kept_with i.premises (reverse (take c.len-at.result c.deref-2.result.now)) c.posts.result.now e = c.keep_with-premises.ensures in
     let len : c.len-at.result ≡ length i.ends.items = search rules in

@@ -1,6 +1,7 @@
 -- No port follows, and no lower one leads.
 use Rattle.std.proofs.Common.{◌≡◌, ◌∙◌, ap, false, length, refl, rules, sym, true, vec_len}
 use Rattle.std.specs.Prelude.{◌&&◌, Bool, not}
+use Rattle.std.proofs.lemmas.Bool.{and_left}
 use Rattle.tsp_rules.specs.GateRows.{any_port, follows_on, ports_from}
 use Rattle.tsp_rules.specs.NodeRows.{NodePast}
 use Rattle.tsp_gateway.specs.declared.leading.Asked.TheVariants.{Follows}
@@ -20,10 +21,6 @@ and-first : (a b : Bool) → a ≡ true → (a && b) ≡ b
 and-first true b e = refl
 and-first false b e = let bad : ⊥ = cc in absurd bad
 
-and-none : (a b : Bool) → a ≡ false → (a && b) ≡ false
-and-none true b e = let bad : ⊥ = cc in absurd bad
-and-none false b e = refl
-
 pub returns-then-not-any_lower : goal.returns-then-not-any_lower
 returns-then-not-any_lower c x past h =
     let first = ap not (sym (none-follows (goal.at.returns-then-not-any_lower c).After-any_lower past h)) ∙ ap not c.if-not-any_lower.true in
@@ -32,4 +29,4 @@ returns-then-not-any_lower c x past h =
 pub returns-else-not-any_lower : goal.returns-else-not-any_lower
 returns-else-not-any_lower c x past h =
     let first = ap not (sym (none-follows (goal.at.returns-else-not-any_lower c).After-any_lower past h)) ∙ ap not c.if-not-any_lower.false in
-    ap not c.if-not-any_lower.false ∙ sym (and-none _ _ first)
+    ap not c.if-not-any_lower.false ∙ sym (and_left _ _ first)

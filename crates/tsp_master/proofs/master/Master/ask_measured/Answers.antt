@@ -8,7 +8,8 @@ use Rattle.tsp_base.proofs.PerformsLemmas.{Performs_each_more, Performs_nothing,
 use Rattle.tsp_base.proofs.FrameLemmas.{PutsAtMost_up}
 use Rattle.tsp_rules.specs.RoundRows.{asks, asks_measured, measured_at}
 use Rattle.tsp_measure.specs.declared.entry.Entry.{Entry}
-use Rattle.tsp_measure.specs.Slaves.{IsTable, entry_of, peers_of}
+use Rattle.tsp_base.specs.Peers.{IsPeers}
+use Rattle.tsp_measure.specs.Slaves.{entry_of, peers_of}
 use Rattle.tsp_measure.proofs.Counters.{IsCounted-more}
 use Rattle.tsp_master.specs.Closing.{measured_of}
 use Rattle.tsp_master.proofs.AskLemmas.{Performs_probes, filter-more, filter-past, later-few, measured-is, take-more}
@@ -34,7 +35,7 @@ loop-place-preserved g c =
     let n = c.loop-place.place in
     let p : PeerId = c.at-entry.result.peer in
     let inside : n < length ps = omega (arith, c.loop-place-test.true, c.len-place-end.ensures.value) in
-    let up : IsTable es = c.len-place-end.ensures.valid in
+    let up : IsPeers (peers_of es) = c.len-place-end.ensures.valid in
     let peer = rw inv.slaves at c.at-entry.ensures.peer in
     let here : get_or ps n p ≡ p = peer p in
     let entry : entry_of es p ≡ c.at-entry.result = rw inv.slaves at c.at-entry.ensures.entry in

@@ -9,7 +9,8 @@ use Rattle.tsp_base.proofs.FrameLemmas.{PutsAtMost_up}
 use Rattle.tsp_rules.specs.RoundRows.{asks, asks_slaves}
 use Rattle.tsp_rules.specs.Guards.{table_at}
 use Rattle.tsp_measure.specs.declared.entry.Entry.{Entry}
-use Rattle.tsp_measure.specs.Slaves.{Changes, IsTable, entry_of, measures, peers_of}
+use Rattle.tsp_base.specs.Peers.{IsPeers}
+use Rattle.tsp_measure.specs.Slaves.{Changes, entry_of, measures, peers_of}
 use Rattle.tsp_measure.proofs.Counters.{IsCounted-more}
 use Rattle.tsp_master.proofs.AskLemmas.{Performs_starts, filter-more, filter-past, joined-is, joined-kept, joined_of, later-few, take-more}
 use Rattle.tsp_master.proofs.master.Master.ask_slaves.Goals.{then-entry, else-entry}
@@ -35,7 +36,7 @@ loop-place-preserved g c =
     let n = c.loop-place.place in
     let p : PeerId = c.at-entry.result.peer in
     let inside : n < length ps = omega (arith, c.loop-place-test.true, c.len-place-end.ensures.value) in
-    let up : IsTable es = c.len-place-end.ensures.valid in
+    let up : IsPeers (peers_of es) = c.len-place-end.ensures.valid in
     let peer = rw inv.peers at c.at-entry.ensures.peer in
     let here : get_or ps n p ≡ p = peer p in
     let more : take (n + 1) ps ≡ take n ps ++ p ∷ [] = take-more ps n p inside here in

@@ -10,7 +10,8 @@ use Rattle.tsp_rules.proofs.Emits.{Posting, Emits_arms, Emits_posts_to_others, K
 use Rattle.tsp_acks.proofs.ActingLemmas.{Performs_acting}
 use Rattle.tsp_master.specs.MasterStands.{MasterStands, StartsStands}
 use Rattle.tsp_master.proofs.LeadLemmas.{Performs_lead_by, Performs_quiet}
-use Rattle.tsp_master.proofs.PhaseLemmas.{begins_posting, goes_posting, then_assoc}
+use Rattle.tsp_base.proofs.RowLemmas.{then_assoc}
+use Rattle.tsp_master.proofs.PhaseLemmas.{begins_posting, goes_posting}
 use Rattle.tsp_master.proofs.TableLemmas.{MasterStands_quiet, quiet_sorts}
 use Rattle.tsp_master.proofs.master.Master.begin_round.Goals as goal
 

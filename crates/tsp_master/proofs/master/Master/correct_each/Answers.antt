@@ -8,7 +8,8 @@ use Rattle.tsp_base.proofs.PerformsLemmas.{Performs_each_more, Performs_nothing}
 use Rattle.tsp_base.proofs.FrameLemmas.{PutsAtMost_up}
 use Rattle.tsp_rules.specs.RoundRows.{corrects_peer}
 use Rattle.tsp_measure.specs.declared.entry.Entry.{Entry}
-use Rattle.tsp_measure.specs.Slaves.{IsTable, entry_of, peers_of}
+use Rattle.tsp_base.specs.Peers.{IsPeers}
+use Rattle.tsp_measure.specs.Slaves.{entry_of, peers_of}
 use Rattle.tsp_master.specs.Closing.{standing_with, standings_of}
 use Rattle.tsp_master.proofs.AskLemmas.{take-more}
 use Rattle.tsp_master.proofs.CloseLemmas.{corrects_with, later-same, standings-more, standings-past}
@@ -36,7 +37,7 @@ loop-place-preserved g c =
     let p : PeerId = c.at-entry.result.peer in
     let mean = to_z w64 (of_z w64 c.args.mean) in
     let inside : n < length ps = omega (arith, c.loop-place-test.true, c.len-place-end.ensures.value) in
-    let up : IsTable es = c.len-place-end.ensures.valid in
+    let up : IsPeers (peers_of es) = c.len-place-end.ensures.valid in
     let peer = rw inv.peers at c.at-entry.ensures.peer in
     let here : get_or ps n p ≡ p = peer p in
     let kept = inv.later n p (omega arith) inside in

@@ -2,6 +2,7 @@ use Rattle.std.proofs.Common.{◌≡◌, ◌∙◌, sym, ap, refl}
 use Rattle.std.specs.Box.{boxed_slice_items}
 use Rattle.tsp_measure.specs.Peers.{MeasuredPeers, with_peer}
 use Rattle.tsp_measure.proofs.BestSamples.{best_of-IsBestOf}
+use Rattle.tsp_base.proofs.AscendingLemmas.{Rise-numbers}
 use Rattle.tsp_measure.proofs.Peers.{at_peer-found}
 use Rattle.tsp_measure.proofs.exchanges.Exchanges.best.Goals as goal
 
@@ -10,7 +11,7 @@ returns-in-Some-clause-value c =
     let found = rw (← c.self.view_is) at c.in-Some.ensures in
     let here : with_peer c.args.self.now c.args.peer.0 ≡ c.index.result.now =
     ap (λ (x : MeasuredPeers). with_peer x c.args.peer.0) (sym c.self.view_is)
-    ∙ at_peer-found (boxed_slice_items c.self.inside.peers) c.self.inside.measured.items c.args.peer.0 c.in-Some.place c.index.result.now c.self.invariant.0 c.self.invariant.1.0 found.0 found.1
+    ∙ at_peer-found (boxed_slice_items c.self.inside.peers) c.self.inside.measured.items c.args.peer.0 c.in-Some.place c.index.result.now (Rise-numbers _ c.self.invariant.0) c.self.invariant.1.0 found.0 found.1
     ∙ sym c.index.ensures in
     rw here c.best.ensures
 

@@ -1,16 +1,16 @@
 -- The peers are ascending, and nothing is measured yet.
-use Rattle.std.proofs.Common.{◌≡◌, ◌∙◌, ℕ, List, arith, sym, ap, subst, length}
+use Rattle.std.proofs.Common.{◌≡◌, ◌∙◌, arith, sym, ap, subst, length}
 use Rattle.std.proofs.lemmas.List.{length-map}
 use Rattle.std.specs.Box.{boxed_slice_items}
+use Rattle.std.specs.List.Sorted.{IsStrictlyIncreasing}
 use Rattle.tsp_base.specs.declared.place.PeerId.{PeerId}
-use Rattle.tsp_measure.specs.Peers.{IsAscending}
 use Rattle.tsp_measure.proofs.Peers.{at_peer-nothing}
 use Rattle.tsp_measure.proofs.exchanges.Exchanges.new.Goals as goal
 
 pub invariant_of-result : goal.invariant_of-result
 invariant_of-result c =
     let many : length (boxed_slice_items c.in_ok-numbers.numbers) ≡ length c.args.peers.now = ap length c.in_ok-numbers.ensures ∙ length-map c.args.peers.now (λ (p : PeerId). p.0) in (
-      subst (λ (xs : List ℕ). IsAscending xs) (sym c.in_ok-numbers.ensures) c.requires,
+      subst IsStrictlyIncreasing (sym c.in_ok-numbers.ensures) c.requires,
       (omega (arith, ap length c.in_ok-measured.ensures.items), omega (arith, many, c.in_ok-measured.ensures.capacity)),
     )
 

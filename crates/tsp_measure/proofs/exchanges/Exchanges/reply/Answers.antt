@@ -6,6 +6,7 @@ use Rattle.std.specs.Box.{boxed_slice_items}
 use Rattle.tsp_measure.specs.Measures.{asks}
 use Rattle.tsp_measure.specs.Peers.{MeasuredPeers, with_peer}
 use Rattle.tsp_measure.specs.declared.exchange.Exchange.{Exchange}
+use Rattle.tsp_base.proofs.AscendingLemmas.{Rise-numbers}
 use Rattle.tsp_measure.proofs.Peers.{at_peer-found, at_peer-put, at_peer-others}
 use Rattle.tsp_measure.proofs.exchanges.Exchanges.reply.Goals as goal
 
@@ -14,9 +15,9 @@ returns-in-Some-clause-replies c =
     let found = rw (← c.self.view_is) at c.in-Some.ensures in
     let here : with_peer c.args.self.now c.args.peer.0 ≡ c.index_mut.result.now =
     ap (λ (x : MeasuredPeers). with_peer x c.args.peer.0) (sym c.self.view_is)
-    ∙ at_peer-found (boxed_slice_items c.self.inside.peers) c.self.inside.measured.items c.args.peer.0 c.in-Some.place c.index_mut.result.now c.self.invariant.0 c.self.invariant.1.0 found.0 found.1
+    ∙ at_peer-found (boxed_slice_items c.self.inside.peers) c.self.inside.measured.items c.args.peer.0 c.in-Some.place c.index_mut.result.now (Rise-numbers _ c.self.invariant.0) c.self.invariant.1.0 found.0 found.1
     ∙ sym c.index_mut.ensures.value in
-    let there = at_peer-put (boxed_slice_items c.self.inside.peers) c.self.inside.measured.items c.args.peer.0 c.in-Some.place c.reply.new.self c.self.invariant.0 c.self.invariant.1.0 found.0 found.1 in
+    let there = at_peer-put (boxed_slice_items c.self.inside.peers) c.self.inside.measured.items c.args.peer.0 c.in-Some.place c.reply.new.self (Rise-numbers _ c.self.invariant.0) c.self.invariant.1.0 found.0 found.1 in
     rw (here, there) (rw (to_z-of_z w64 c.args.s c.ranges.s, to_z-of_z w64 c.args.d c.ranges.d) at c.reply.ensures)
 
 pub returns-in-Some-clause-others : goal.returns-in-Some-clause-others

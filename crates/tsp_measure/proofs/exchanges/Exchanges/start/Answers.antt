@@ -6,6 +6,7 @@ use Rattle.std.specs.Box.{boxed_slice_items}
 use Rattle.tsp_measure.specs.Measures.{Measured, begun}
 use Rattle.tsp_measure.specs.Peers.{MeasuredPeers, with_peer}
 use Rattle.tsp_measure.specs.declared.exchange.Exchange.{Exchange}
+use Rattle.tsp_base.proofs.AscendingLemmas.{Rise-numbers}
 use Rattle.tsp_measure.proofs.Peers.{at_peer-found, at_peer-put, at_peer-others}
 use Rattle.tsp_measure.proofs.exchanges.Exchanges.start.Goals as goal
 
@@ -17,7 +18,7 @@ start-requires-clause-few c =
     let inside : c.in-Some.place < length c.self-in-Some.inside.measured.items = subst (λ (ms : List Measured). c.in-Some.place < length ms) (sym (ap (λ (x : MeasuredPeers). x.measured) c.self-in-Some.view_is)) c.lengthen.ensures.long in
     let here : with_peer c.args.self.now c.args.peer.0 ≡ c.index_mut.result.now =
     sym (c.lengthen.ensures.same c.args.peer.0) ∙ ap (λ (x : MeasuredPeers). with_peer x c.args.peer.0) (sym c.self-in-Some.view_is)
-    ∙ at_peer-found (boxed_slice_items c.self-in-Some.inside.peers) c.self-in-Some.inside.measured.items c.args.peer.0 c.in-Some.place c.index_mut.result.now c.self-in-Some.invariant.0 c.self-in-Some.invariant.1.0 inside found.1
+    ∙ at_peer-found (boxed_slice_items c.self-in-Some.inside.peers) c.self-in-Some.inside.measured.items c.args.peer.0 c.in-Some.place c.index_mut.result.now (Rise-numbers _ c.self-in-Some.invariant.0) c.self-in-Some.invariant.1.0 inside found.1
     ∙ sym c.index_mut.ensures.value in
     subst (λ (m : Measured). begun m < 4) here c.requires.few
 
@@ -29,9 +30,9 @@ returns-clause-started c =
     let inside : c.in-Some.place < length c.self-in-Some.inside.measured.items = subst (λ (ms : List Measured). c.in-Some.place < length ms) (sym (ap (λ (x : MeasuredPeers). x.measured) c.self-in-Some.view_is)) c.lengthen.ensures.long in
     let here : with_peer c.args.self.now c.args.peer.0 ≡ c.index_mut.result.now =
     sym (c.lengthen.ensures.same c.args.peer.0) ∙ ap (λ (x : MeasuredPeers). with_peer x c.args.peer.0) (sym c.self-in-Some.view_is)
-    ∙ at_peer-found (boxed_slice_items c.self-in-Some.inside.peers) c.self-in-Some.inside.measured.items c.args.peer.0 c.in-Some.place c.index_mut.result.now c.self-in-Some.invariant.0 c.self-in-Some.invariant.1.0 inside found.1
+    ∙ at_peer-found (boxed_slice_items c.self-in-Some.inside.peers) c.self-in-Some.inside.measured.items c.args.peer.0 c.in-Some.place c.index_mut.result.now (Rise-numbers _ c.self-in-Some.invariant.0) c.self-in-Some.invariant.1.0 inside found.1
     ∙ sym c.index_mut.ensures.value in
-    at_peer-put (boxed_slice_items c.self-in-Some.inside.peers) c.self-in-Some.inside.measured.items c.args.peer.0 c.in-Some.place c.start.new.self c.self-in-Some.invariant.0 c.self-in-Some.invariant.1.0 inside found.1
+    at_peer-put (boxed_slice_items c.self-in-Some.inside.peers) c.self-in-Some.inside.measured.items c.args.peer.0 c.in-Some.place c.start.new.self (Rise-numbers _ c.self-in-Some.invariant.0) c.self-in-Some.invariant.1.0 inside found.1
     ∙ (rw (to_z-of_z w64 c.args.a c.ranges.a) at c.start.ensures)
     ∙ ap (λ (m : Measured). let e : Exchange = record { word = c.args.word; counter = c.args.counter; a = c.args.a } in record m { pending = m.pending ++ e ∷ [] }) (sym here)
 

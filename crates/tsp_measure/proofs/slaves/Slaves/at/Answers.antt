@@ -2,7 +2,7 @@
 use Rattle.std.proofs.Common.{◌<◌, length, ap, ◌∙◌, sym, arith}
 use Rattle.std.proofs.lemmas.List.{length-map, get_or-map}
 use Rattle.tsp_measure.specs.declared.entry.Entry.{Entry}
-use Rattle.tsp_measure.proofs.Entries.{Rise-table, entry_of-at}
+use Rattle.tsp_measure.proofs.Entries.{Rising-peers, entry_of-at}
 use Rattle.tsp_measure.proofs.slaves.Slaves.at.Goals as goal
 
 pub returns-clause-peer : goal.returns-clause-peer
@@ -19,4 +19,4 @@ returns-clause-entry c =
     let x : Entry = c.index.result.now in
     let is = rw c.self.view_is at c.index.ensures in
     let inside : c.args.place < length es = omega (arith, c.requires, length-map es (λ (e : Entry). e.peer)) in
-    entry_of-at es c.args.place x x.peer (Rise-table es (rw c.self.view_is at c.self.invariant)) inside (ap (λ (e : Entry). e.peer.0) (sym is)) ∙ sym is
+    entry_of-at es c.args.place x x.peer (Rising-peers es (rw c.self.view_is at c.self.invariant)) inside (ap (λ (e : Entry). e.peer.0) (sym is)) ∙ sym is

@@ -1,11 +1,12 @@
 -- An idle entry for each peer.
+use Rattle.std.proofs.Common.{subst, sym}
+use Rattle.tsp_base.specs.Peers.{IsPeers}
 use Rattle.tsp_measure.proofs.Entries.{peers_of-idle, entry_of-idle}
 use Rattle.tsp_measure.proofs.slaves.Slaves.new.Goals as goal
 
 pub invariant_of-result : goal.invariant_of-result
 invariant_of-result c =
-    let same = peers_of-idle c.args.peers.now in
-    rw (c.into_boxed_slice.ensures.items, c.in_ok-entries.ensures) (record { few = rw same c.requires.few; ascending = rw same c.requires.ascending })
+    rw (c.into_boxed_slice.ensures.items, c.in_ok-entries.ensures) (subst IsPeers (sym (peers_of-idle c.args.peers.now)) c.requires)
 
 pub returns-clause-peers : goal.returns-clause-peers
 returns-clause-peers c = rw (c.into_boxed_slice.ensures.items, c.in_ok-entries.ensures) (peers_of-idle c.args.peers.now)

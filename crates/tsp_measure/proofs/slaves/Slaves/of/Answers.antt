@@ -1,13 +1,13 @@
 -- The entry that is found is the peer's; a peer without one is idle.
 use Rattle.std.proofs.Common.{sym, ◌∙◌}
-use Rattle.tsp_measure.proofs.Entries.{Rise-table, entry_of-at, entry_of-absent}
+use Rattle.tsp_measure.proofs.Entries.{Rising-peers, entry_of-at, entry_of-absent}
 use Rattle.tsp_measure.proofs.slaves.Slaves.of.Goals as goal
 
 pub returns-in-Ok : goal.returns-in-Ok
 returns-in-Ok c =
     let place = rw (c.deref.ensures.value, c.self.view_is) at c.in-Ok.ensures in
     let is = rw c.self.view_is at c.index.ensures in
-    is ∙ sym (entry_of-at c.args.self.now c.in-Ok.place c.index.result.now c.args.peer (Rise-table c.args.self.now (rw c.self.view_is at c.self.invariant)) place.0 (place.1 c.index.result.now))
+    is ∙ sym (entry_of-at c.args.self.now c.in-Ok.place c.index.result.now c.args.peer (Rising-peers c.args.self.now (rw c.self.view_is at c.self.invariant)) place.0 (place.1 c.index.result.now))
 
 pub returns-in-Err : goal.returns-in-Err
 returns-in-Err c =

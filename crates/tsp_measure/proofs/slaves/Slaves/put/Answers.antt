@@ -1,15 +1,16 @@
 -- An entry of the same peer is put in its place.
-use Rattle.std.proofs.Common.{◌≡◌, set}
+use Rattle.std.proofs.Common.{◌≡◌, set, subst, sym}
 use Rattle.std.specs.Box.{boxed_slice_items}
+use Rattle.tsp_base.specs.Peers.{IsPeers}
 use Rattle.tsp_measure.specs.Slaves.{peers_of}
-use Rattle.tsp_measure.proofs.Entries.{IsTable-same, peers_of-set}
+use Rattle.tsp_measure.proofs.Entries.{peers_of-set}
 use Rattle.tsp_measure.proofs.slaves.Slaves.put.Goals as goal
 
 pub invariant_of-self : goal.invariant_of-self
 invariant_of-self c =
     let es = boxed_slice_items c.self.inside.entries in
     let same : peers_of (set es c.args.place c.args.entry) ≡ peers_of es = peers_of-set es c.args.place c.args.entry c.args.entry (λ h. rw c.self.view_is (c.requires.same c.args.entry)) in
-    IsTable-same es (set es c.args.place c.args.entry) same c.self.invariant
+    subst IsPeers (sym same) c.self.invariant
 
 pub returns-clause-peers : goal.returns-clause-peers
 returns-clause-peers c =

@@ -1,16 +1,17 @@
 -- Each entry is changed.
-use Rattle.std.proofs.Common.{◌≡◌, length, map, refl, ap, ◌∙◌, arith}
+use Rattle.std.proofs.Common.{◌≡◌, length, map, refl, ap, ◌∙◌, arith, subst, sym}
 use Rattle.std.proofs.lemmas.List.{length-map}
 use Rattle.std.specs.Box.{boxed_slice_items, boxed_slice_len}
+use Rattle.tsp_base.specs.Peers.{IsPeers}
 use Rattle.tsp_measure.specs.Slaves.{unmeasures}
-use Rattle.tsp_measure.proofs.Entries.{ChangesAll-map, IsTable-same, peers_of-map, written}
+use Rattle.tsp_measure.proofs.Entries.{ChangesAll-map, peers_of-map, written}
 use Rattle.tsp_measure.proofs.slaves.Slaves.unmeasure_all.Goals as goal
 
 pub invariant_of-self : goal.invariant_of-self
 invariant_of-self c =
     let is : c.unmeasure_each.new.entries ≡ map unmeasures (boxed_slice_items c.self.inside.entries) = c.unmeasure_each.ensures ∙ ap (map unmeasures) c.as_mut_slice.ensures.value in
     let many : boxed_slice_len c.self.inside.entries ≡ length c.unmeasure_each.new.entries = omega (arith, ap length is, length-map (boxed_slice_items c.self.inside.entries) unmeasures, c.as_mut_slice.ensures.len, ap length c.as_mut_slice.ensures.value) in
-    rw (written (boxed_slice_len c.self.inside.entries) c.unmeasure_each.new.entries (boxed_slice_items c.self.inside.entries) many, is) (IsTable-same (boxed_slice_items c.self.inside.entries) _ (peers_of-map unmeasures (λ e. refl) (boxed_slice_items c.self.inside.entries)) c.self.invariant)
+    rw (written (boxed_slice_len c.self.inside.entries) c.unmeasure_each.new.entries (boxed_slice_items c.self.inside.entries) many, is) (subst IsPeers (sym (peers_of-map unmeasures (λ e. refl) (boxed_slice_items c.self.inside.entries))) c.self.invariant)
 
 pub returns-clause-entries : goal.returns-clause-entries
 returns-clause-entries c =

@@ -8,10 +8,10 @@ use Rattle.tsp_rules.specs.SlaveRows.{slave_takes}
 use Rattle.tsp_rules.specs.Guards.{is_follow}
 use Rattle.tsp_rules.proofs.Emits.{Acking, Counting, Emits_more}
 use Rattle.tsp_date.proofs.KeepLemmas.{DatesAside_by}
+use Rattle.tsp_date.proofs.AsideLemmas.{DatesAside_slave_takes}
 use Rattle.tsp_master.proofs.TurnLemmas.{MasterStands_idle}
 use Rattle.tsp_resolve.proofs.ResolveLemmas.{ResolveStands_idle, rivalless}
 use Rattle.tsp_node.specs.NodeStands.{PortValue, port_with}
-use Rattle.tsp_node.proofs.DatesKeeps.{DatesAside_slave}
 use Rattle.tsp_node.proofs.EmitsRoles.{calm_sorts, emits_answers, emits_slave, role_sorts}
 use Rattle.tsp_node.proofs.HearLemmas.{candidate_keeps, heard_awake, heard_peer, is_from, is_hearing, leaves_by, leaves_none, Performs_by_role, Performs_either_way, Performs_heard_at, Performs_kept, Performs_left, Performs_role, Performs_unheard, roles_date, roles_other, says_slave}
 use Rattle.tsp_node.proofs.NodeLemmas.{Performs_heard, Performs_pass, no_lead}
@@ -77,7 +77,7 @@ returns-then-not-leaves-clause-row g c =
     let after : PortValue = record (port_with c.args.self.now c.slave_take.new.clock) { station = c.slave_take.new.station; last = c.slave_take.new.last } in
     let left : leaves_by c.args.terms.steer m.kind st.role ≡ false = ap (λ k. leaves_by c.args.terms.steer k st.role) (sym c.kind.ensures) ∙ (sym c.leaves.ensures ∙ c.if-not-leaves.true) in
     rw (is_from st from p heard) (Performs_kept {after = after} c.args.terms.steer m.kind left (Performs_heard_at {after = after} p (peer_says m) (is_hearing st from p heard)
-    (Performs_by_role {after = after} (says_in p m) (rw (says_slave p m st.role (heard_awake st from p heard) other.not-Candidate other.not-Master) (Performs_heard {after = after} refl (DatesAside_slave p m) (roles_date m.kind c.requires.audience)
+    (Performs_by_role {after = after} (says_in p m) (rw (says_slave p m st.role (heard_awake st from p heard) other.not-Candidate other.not-Master) (Performs_heard {after = after} refl (DatesAside_slave_takes p m) (roles_date m.kind c.requires.audience)
     (λ past h s. MasterStands_idle (slave_takes p m) (Emits_more role_sorts refl emits) x past c.args.self.now.master (λ e. other.not-Master (h.station.role ∙ e)) h.master)
     (λ past h s. ResolveStands_idle x past (slave_takes p m x past) c.args.self.now.resolve ((Emits_more role_sorts {all = rivalless} refl emits).only x past) (λ e. other.not-Master (h.station.role ∙ e)) h.resolve)
     c.slave_take.ensures.row)))))

@@ -4,14 +4,15 @@ use Rattle.std.proofs.Common.{◌∙◌, ap, sym}
 use Rattle.tsp_base.specs.declared.place.PeerId.{PeerId}
 use Rattle.tsp_base.specs.Peers.{is_among}
 use Rattle.tsp_resolve.specs.Marked.{marked}
-use Rattle.tsp_resolve.proofs.MarkedLemmas.{Rise-peers, marked-at, marked-set}
+use Rattle.tsp_base.proofs.AscendingLemmas.{Rise-peers}
+use Rattle.tsp_resolve.proofs.MarkedLemmas.{marked-at, marked-set}
 use Rattle.tsp_resolve.proofs.resolve.Resolve.find.Goals as goal
 
 pub returns-clause-found : goal.returns-clause-found
 returns-clause-found c =
     let at = c.in-Some.ensures in
     let p = c.args.p in
-    ap not (c.at-was.ensures ∙ sym (marked-at c.args.peers.now c.args.self.now.marks c.in-Some.place p p (Rise-peers c.args.peers.now c.requires.peers) c.requires.many at.0 (ap (λ (q : PeerId). q.0) (at.1 p))))
+    ap not (c.at-was.ensures ∙ sym (marked-at c.args.peers.now c.args.self.now.marks c.in-Some.place p p (Rise-peers c.args.peers.now c.requires.peers.ascending) c.requires.many at.0 (ap (λ (q : PeerId). q.0) (at.1 p))))
 
 pub returns-clause-marks : goal.returns-clause-marks
 returns-clause-marks c q =

@@ -16,7 +16,7 @@ use Rattle.tsp_world.specs.Configs.{config_of}
 use Rattle.tsp_world.specs.NodesReady.{NodeReady}
 use Rattle.tsp_networks.specs.Sheets.{acts_on}
 use Rattle.tsp_world.specs.WorldStands.{Notes, PlaceStands}
-use Rattle.tsp_world.proofs.BootLemmas.{boots-up}
+use Rattle.tsp_run.proofs.BootLemmas.{boots-up}
 use Rattle.tsp_world.proofs.ReadyLemmas.{NodesReady-later, NodesReady-set}
 use Rattle.tsp_gateway.proofs.LiftLemmas.{set_cases}
 use Rattle.tsp_networks.proofs.MemberLemmas.{room-many, some_port}

@@ -1,9 +1,8 @@
 -- A node that has booted is up.
-use Rattle.std.specs.Prelude.{◌≡◌, ℕ, true, [], ◌∷◌, refl}
+use Rattle.std.specs.Prelude.{◌≡◌, ℕ, true, List, [], ◌∷◌, refl}
 use Rattle.std.proofs.Common.{sym, subst}
 use Rattle.tsp_base.specs.declared.act.Act.TheVariants.{Boot}
 use Rattle.tsp_base.specs.declared.act.Placed.{Placed}
-use Rattle.std.specs.Prelude.{List}
 use Rattle.tsp_base.specs.History.{dids}
 use Rattle.tsp_base.specs.Joins.{first_port}
 use Rattle.tsp_base.specs.NodeFacts.{up}

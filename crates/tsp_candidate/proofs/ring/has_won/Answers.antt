@@ -1,1 +1,0 @@
--- The station has what the past comes to.
