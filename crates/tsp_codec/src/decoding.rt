@@ -163,6 +163,19 @@ pub fn read(octets: &[u8]) -> Taken
     ensures reads { Reads octets.now result }
     ensures value { result ≡ taken_of octets.now }
 {
+    match read_stamp(octets) {
+        Some(stamp) => Taken::Good(Datagram::Stamp(stamp)),
+        None => read_any(octets),
+    }
+}
+
+/// The same as `read`, for octets that `read_stamp` gave no stamp for. (A call of its own, so that its caller needs no
+/// room for a message where they are a stamp.)
+#[inline(never)]
+pub fn read_any(octets: &[u8]) -> Taken
+    ensures reads { Reads octets.now result }
+    ensures value { result ≡ taken_of octets.now }
+{
     match decode(octets) {
         Ok(datagram) => Taken::Good(datagram),
         Err(fault) => Taken::Bad(fault),

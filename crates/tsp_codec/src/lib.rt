@@ -2,7 +2,8 @@
 //!
 //! Received octets are read by [`decode`], or by [`read`] where a fault is itself an input of a node. A
 //! datagram to send is written by [`encode`], always in the same octets, and reading these gives the
-//! same datagram. [`read_stamp`] and [`encode_stamp`] read and write a stamp in no more room than it takes.
+//! same datagram. [`read_stamp`] and [`encode_stamp`] read and write a stamp in no more room than it takes; what is no
+//! stamp is then read by [`read_any`].
 //! Octets that aren't a valid datagram get the first fault that they have. No call allocates memory:
 //!
 //! ```
@@ -21,5 +22,5 @@ mod fields;
 pub mod laws;
 mod layout;
 
-pub use decoding::{decode, read, read_back, read_stamp};
+pub use decoding::{decode, read, read_any, read_back, read_stamp};
 pub use encoding::{encode, encode_stamp};

@@ -11,7 +11,7 @@ use tsp_base::datagram::{Datagram, Taken};
 use tsp_base::desk::Desk;
 use tsp_base::input::Input;
 use tsp_base::place::{Place, Port};
-use tsp_codec::{read, read_stamp};
+use tsp_codec::{read_any, read_stamp};
 
 impl Gateway {
     ghost use Rattle.tsp_gateway.specs.GatewayStands.{GatewayBegun, GatewayStands, clock_at};
@@ -66,7 +66,7 @@ impl Gateway {
         ensures room { PutsAtMost (room_of_ports (ports_in self.old)) (D.spare desk.old)
             (D.spare desk.new) (D.acts desk.old) (D.acts desk.new) }
     {
-        let taken = read(octets);
+        let taken = read_any(octets);
         self.take(tick, port, from, &taken, desk);
     }
 

@@ -5,7 +5,7 @@ use tsp_base::kind::{KINDS, Kind};
 use tsp_base::message::Body;
 use tsp_base::micros::Micros;
 use tsp_base::stamp::Stamp;
-use tsp_codec::{decode, encode, encode_stamp, read, read_back, read_stamp};
+use tsp_codec::{decode, encode, encode_stamp, read, read_any, read_back, read_stamp};
 
 /// The octets of a head and a name, and then this many octets of fill.
 fn octets_of(head: &[u8], name: &[u8], fill: u8, count: usize) -> ArrayVec<u8, 300> {
@@ -128,13 +128,19 @@ fn times_have_their_range(rt: HostRuntime) {
     assert!(rt; is_written_in_full(&minus_one, &written));
 }
 
-/// Whether `read` and `decode` find this fault, or both none.
-fn have_fault(octets: &[u8], fault: Option<DecodeFault>) -> bool {
-    let found = match read(octets) {
+/// The fault of what was read, if it has one.
+fn fault_in(taken: Taken) -> Option<DecodeFault> {
+    match taken {
         Taken::Good(_) => None,
-        Taken::Bad(found) => Some(found),
-    };
-    found == fault && fault_of(octets) == fault
+        Taken::Bad(fault) => Some(fault),
+    }
+}
+
+/// Whether `read`, `read_any` and `decode` find this fault, or all none.
+fn have_fault(octets: &[u8], fault: Option<DecodeFault>) -> bool {
+    fault_in(read(octets)) == fault
+        && fault_in(read_any(octets)) == fault
+        && fault_of(octets) == fault
 }
 
 /// Whether the octets of a head, so many octets of fill, and an end have this fault.

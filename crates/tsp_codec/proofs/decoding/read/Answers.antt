@@ -1,10 +1,11 @@
 use Rattle.std.proofs.Common.{sym}
-use Rattle.tsp_base.specs.declared.datagram.Taken.TheVariants.{Good, Bad}
-use Rattle.tsp_codec.proofs.TakenOf.{taken_of-Reads}
+use Rattle.tsp_base.specs.declared.datagram.Datagram.TheVariants.{Stamp}
+use Rattle.tsp_base.specs.declared.datagram.Taken.TheVariants.{Good}
+use Rattle.tsp_codec.proofs.TakenOf.{Reads-taken_of-iff}
 use Rattle.tsp_codec.proofs.decoding.read.Goals as goal
 
-pub returns-in-Ok-clause-value : goal.returns-in-Ok-clause-value
-returns-in-Ok-clause-value c = sym (taken_of-Reads c.args.octets.now (Good c.in-Ok.datagram) c.in-Ok.ensures.reads)
+pub returns-in-Some-clause-reads : goal.returns-in-Some-clause-reads
+returns-in-Some-clause-reads c = (Reads-taken_of-iff c.args.octets.now (Good (Stamp c.in-Some.stamp))).0 c.in-Some.ensures
 
-pub returns-in-Err-clause-value : goal.returns-in-Err-clause-value
-returns-in-Err-clause-value c = sym (taken_of-Reads c.args.octets.now (Bad c.in-Err.fault) c.in-Err.ensures.reads)
+pub returns-in-Some-clause-value : goal.returns-in-Some-clause-value
+returns-in-Some-clause-value c = sym c.in-Some.ensures
