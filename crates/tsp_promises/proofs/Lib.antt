@@ -67,6 +67,7 @@ pub mod LateProof
 pub mod LeadsLeaves
 pub mod Leaves
 pub mod Locating
+pub mod LookedProof
 pub mod LoopLeads
 pub mod MasterMoved
 pub mod Matching
@@ -150,6 +151,7 @@ pub mod WitnessDebts
 pub mod WitnessEstimates
 pub mod WitnessLead
 pub mod WitnessLife
+pub mod WitnessLooks
 pub mod WitnessLoop
 pub mod WitnessModerate
 pub mod WitnessQuiet

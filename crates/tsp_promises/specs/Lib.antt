@@ -28,6 +28,7 @@ pub mod Kept
 pub mod LateReply
 pub mod LoopFits
 pub mod LoopUse
+pub mod Looked
 pub mod Looped
 pub mod LoopsBroken
 pub mod MeasureFits

@@ -45,5 +45,6 @@
 pub mod alone;
 pub mod date;
 pub mod fit;
+pub mod looks;
 pub mod loops;
 pub mod safe;
