@@ -50,6 +50,26 @@ input=$out/long
 ends 7 'limit 1' replay
 input=/dev/null
 
+# A standard stream that is closed at the start ends each command with one line, and no socket gets its number. (help needs its output alone)
+closed() {
+    wanted=$1 name=$2
+    shift 2
+    status=0
+    sh -c "$1" sh "$program" "127.0.0.1:$port" >"$out/text" 2>"$out/line" || status=$?
+    [ "$status" -eq "$wanted" ] && [ ! -s "$out/text" ] || fail "'$1' ends with status $status and '$(cat "$out/text")'"
+    [ -z "$name" ] || [ "$(cat "$out/line")" = "[WARN  tsp_cli] $name is closed, so it ended with status $wanted" ] || fail "'$1' says '$(cat "$out/line")'"
+}
+port=$1
+# shellcheck disable=SC2016  # for the shell that is started
+for command in 'show' 'replay' 'msite "$2"' 'serve "$2" a m 3' ''; do
+    closed 3 'standard input' "exec \"\$1\" $command <&-"
+    closed 4 'standard output' "exec \"\$1\" $command </dev/null >&-"
+    closed 4 '' "exec \"\$1\" $command </dev/null 2>&-"
+    closed 3 'standard input' "exec \"\$1\" $command <&- >&-"
+    closed 3 '' "exec \"\$1\" $command <&- >&- 2>&-"
+done
+"$program" --help <&- 2>&- | grep -q TSP_RATE || fail 'the help is not there without standard input'
+
 # A daemon at 127.0.0.2 answers there, and nobody answers at 127.0.0.1: it binds its own address, and a question asks the one it is given.
 "$program" serve "127.0.0.2:$2" alpha s 40 >/dev/null 2>&1 &
 note_process

@@ -2,7 +2,7 @@
 """Runs the program for ./tsp, and explains the statuses 1 and 5 in one line more: `explain.py PROGRAM [WORD..]`.
 
 Its streams and its status are the program's own, and signals are handed on to it. Of words that are no command the line has the first one that
-the grammar has no place for, and where the network failed, which address it was and what the system says of it.
+the grammar has no place for, or that TSP_RATE is no rate, and where the network failed, which address it was and what the system says of it.
 """
 import ctypes
 import os
@@ -51,7 +51,8 @@ class Child:
 def reason(program, words, status):
     """The line that explains a status, or None."""
     if status == NO_WORDS:
-        return grammar.fault(words, subprocess.run([program, '--help'], stdout=subprocess.PIPE, check=False).stdout.decode())
+        told = grammar.fault(words, subprocess.run([program, '--help'], stdout=subprocess.PIPE, check=False).stdout.decode())
+        return told or 'TSP_RATE names no rate: a whole number from -1000000 to 1000000 belongs there'
     if status != NO_NETWORK:
         return None
     address = words[1]

@@ -152,7 +152,7 @@ ends_is s next course r buf tick acts arrivals now_arrivals tried now_tried call
       by_end LinkFault h = absurd h.1
       by_end WriteFault h = (record { arrivals_are = same ∙ w.tells.arrivals_are; tried_are = h.0; calls_are = counted ∙ w.tells.calls_are; readings_are = w.tells.readings_are; last_is = w.tells.last_is }, h.1)
       by_end OutOfMemory h = elim h [
-        | inl some ↦ inr (inl (some.0.0, some.0.1, some.0.2, record { arrivals_are = same ∙ w.tells.arrivals_are; tried_are = some.0.3; calls_are = counted ∙ w.tells.calls_are; readings_are = w.tells.readings_are; last_is = w.tells.last_is }, some.1))
+        | inl some ↦ inr (inl (some.0.0, some.0.1, some.0.2, some.0.3, record { arrivals_are = same ∙ w.tells.arrivals_are; tried_are = some.0.4; calls_are = counted ∙ w.tells.calls_are; readings_are = w.tells.readings_are; last_is = w.tells.last_is }, some.1))
         | inr all ↦ inr (inr (record { arrivals_are = same ∙ w.tells.arrivals_are; tried_are = all.0; calls_are = counted ∙ w.tells.calls_are; readings_are = w.tells.readings_are; last_is = w.tells.last_is }, all.1))
       ]
 

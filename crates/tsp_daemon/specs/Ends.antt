@@ -33,9 +33,9 @@ IsCount _ room = Unit {0}
 abbrev pub TriesAll : List Tried → Option (List Tried) → Option (List Tried) → Type 0
 TriesAll sends tried more = more ≡ option_map (λ ts. ts ++ sends) tried
 
--- of these sends the first ones were tried, maybe none or all
+-- of these sends the first ones were tried, maybe none, and not all
 abbrev pub TriesSome : List Tried → Option (List Tried) → Option (List Tried) → Type 0
-TriesSome sends tried more = (part : List Tried) × (rest : List Tried) × (sends ≡ part ++ rest) × TriesAll part tried more
+TriesSome sends tried more = (part : List Tried) × (rest : List Tried) × (0 < length rest) × (sends ≡ part ++ rest) × TriesAll part tried more
 
 -- a call that only sends leaves the rest of its link as it was, and the count of failed sends doesn't fall
 pub record OnlySends {L : Type 0} (links : LinkOf L) (before now : L) : Type 0 where
@@ -47,24 +47,20 @@ pub record OnlySends {L : Type 0} (links : LinkOf L) (before now : L) : Type 0 w
   pub faults : links.faults now ≡ links.faults before
   pub sends : links.send_faults before ≤ links.send_faults now
 
--- of this text the beginning was written, maybe nothing or all
-abbrev pub WritesSome : List ℕ → Option (List ℕ) → Option (List ℕ) → Type 0
-WritesSome text written now = (part : List ℕ) × (rest : List ℕ) × (text ≡ part ++ rest) × Grows written now part
-
 -- of this text the beginning was written, and not all
 abbrev pub CutsShort : List ℕ → Option (List ℕ) → Option (List ℕ) → Type 0
 CutsShort text written now = (part : List ℕ) × (rest : List ℕ) × (0 < length rest) × (text ≡ part ++ rest) × Grows written now part
 
--- how much of a text was written if its writing ends so: after a failed write not all of it; without memory any part
+-- how much of a text was written if its writing ends so: not all of it
 abbrev pub TellsUntil : List ℕ → Option (List ℕ) → Option (List ℕ) → ServeEnd → Type 0
 TellsUntil text written now Done = ⊥
 TellsUntil text written now LinkFault = ⊥
 TellsUntil text written now WriteFault = CutsShort text written now
-TellsUntil text written now OutOfMemory = WritesSome text written now
+TellsUntil text written now OutOfMemory = CutsShort text written now
 
 -- how far it came if sends, and after them the writing of a text, end so
 abbrev pub FinishesUntil : List Tried → List ℕ → Option (List Tried) → Option (List Tried) → Option (List ℕ) → Option (List ℕ) → ServeEnd → Type 0
-FinishesUntil sends text tried more written now OutOfMemory = (TriesSome sends tried more × (now ≡ written)) ⊎ (TriesAll sends tried more × WritesSome text written now)
+FinishesUntil sends text tried more written now OutOfMemory = (TriesSome sends tried more × (now ≡ written)) ⊎ (TriesAll sends tried more × CutsShort text written now)
 FinishesUntil sends text tried more written now end = TriesAll sends tried more × TellsUntil text written now end
 
 -- the node stands for some past: it is in the state that this past gives
@@ -85,15 +81,15 @@ abbrev pub tried_some : List Tried → Session → Outside
 tried_some part s = record (waited s.outside) { tried = s.outside.tried ++ part }
 
 -- the turn after this session ends the daemon so. Done never comes of a turn. Out of memory comes at one of three
--- places: before the turn did anything; at a send, after those before it were tried; or at a line
+-- places: before the turn did anything; at a send, after those before it were tried; or within a line
 abbrev pub EndsTurn : Session → Option (List Arrival) → Option (List Tried) → Option ℕ → Option (List ℕ) → ℕ → Option (List ℕ) → ServeEnd → Type 0
 EndsTurn s arrivals tried calls readings last written Done = ⊥
 EndsTurn s arrivals tried calls readings last written LinkFault = Tells (unheard s.outside) arrivals tried calls readings last × (written ≡ Some s.written)
 EndsTurn s arrivals tried calls readings last written WriteFault = Tells (turned s).outside arrivals tried calls readings last × CutsShort (shown s) (Some s.written) written
 EndsTurn s arrivals tried calls readings last written OutOfMemory =
     (Tells s.outside arrivals tried calls readings last × (written ≡ Some s.written))
-    ⊎ ((part : List Tried) × (rest : List Tried) × (sends_of (acts_in s) ≡ part ++ rest) × Tells (tried_some part s) arrivals tried calls readings last × (written ≡ Some s.written))
-    ⊎ (Tells (turned s).outside arrivals tried calls readings last × WritesSome (shown s) (Some s.written) written)
+    ⊎ ((part : List Tried) × (rest : List Tried) × (0 < length rest) × (sends_of (acts_in s) ≡ part ++ rest) × Tells (tried_some part s) arrivals tried calls readings last × (written ≡ Some s.written))
+    ⊎ (Tells (turned s).outside arrivals tried calls readings last × CutsShort (shown s) (Some s.written) written)
 
 -- how many receives a session makes that ends so after i turns: one for each turn, and one for the turn that ended it,
 -- unless it ran out of memory before the receive

@@ -1,5 +1,5 @@
 //! The sends of a step.
-ghost use Rattle.std.specs.Prelude.{◌≡◌, ◌≤◌, ◌+◌, [], ◌∷◌, length, OnOk, OnErr, true};
+ghost use Rattle.std.specs.Prelude.{◌≡◌, ◌≤◌, ◌<◌, ◌+◌, [], ◌∷◌, length, OnOk, OnErr, true};
 ghost use Rattle.tsp_rules.specs.Strangers.{IsKnown};
 ghost use Rattle.tsp_codec.specs.Canon.{canon};
 ghost use Rattle.tsp_daemon.specs.Ends.{OnlySends, TriesAll, TriesSome};
@@ -47,6 +47,7 @@ fn send_one<L: Link>(link: &mut L, act: &Act) -> Result<(), AllocError>
     requires known { IsKnown (L.stranger link.old) act.now }
     ensures ok { OnOk result (TriesAll (send_of act.now) (L.tried link.old) (L.tried link.new)) }
     ensures err { OnErr result (L.tried link.new ≡ L.tried link.old) }
+    ensures some { OnErr result (0 < length (send_of act.now)) }
     ensures only { OnlySends L.Link link.old link.new }
 {
     match act {
@@ -59,7 +60,7 @@ fn send_one<L: Link>(link: &mut L, act: &Act) -> Result<(), AllocError>
 }
 
 /// Tries the sends of all posts among the acts, in order. Fails only if out of memory: then only
-/// the first of them were tried.
+/// the first of them were tried, and not all.
 pub(crate) fn send_all<L: Link>(link: &mut L, acts: &[Placed]) -> Result<(), AllocError>
     requires known { AreKnown (L.stranger link.old) acts.now }
     ensures ok { OnOk result (TriesAll (sends_of acts.now) (L.tried link.old) (L.tried link.new)) }

@@ -1,5 +1,5 @@
 -- What tick counters and wall clocks answer.
-use Rattle.std.specs.Prelude.{◌≡◌, ℕ, ◌^◌, Bool, true, ◌&&◌, nat_le, List, [], ◌∷◌, None, Some, Option, ℤ, pos, negsuc, ◌≤ℤ◌}
+use Rattle.std.specs.Prelude.{◌≡◌, ℕ, ◌≤◌, ◌*◌, ◌/◌, ◌^◌, min, max, Bool, true, ◌&&◌, nat_le, List, [], ◌∷◌, None, Some, Option, ℤ, pos, negsuc, ◌≤ℤ◌}
 
 -- the answer is the next of the readings, or the last one again once they are used up. If the readings weren't told,
 -- they aren't told afterwards either
@@ -17,3 +17,18 @@ climbs last (x ∷ xs) = nat_le last x && (nat_le x (2 ^ 61) && climbs x xs)
 pub record IsWall (x : ℤ) : Type 0 where
   pub low : negsuc 4611686018427387903 ≤ℤ x
   pub high : x ≤ℤ pos 4611686018427387904
+
+-- a counter's rate, in ticks for 10^9 microseconds of the machine's clock: at most 1,000,000 more or fewer
+pub record IsSpeed (speed : ℕ) : Type 0 where
+  pub slow : 999000000 ≤ speed
+  pub fast : speed ≤ 1001000000
+
+-- how far such a counter comes while the machine's clock comes so many microseconds: rounded down, and at most 2^61
+abbrev pub counted : ℕ → ℕ → ℕ
+counted speed elapsed = min (elapsed * speed / 1000000000) (2 ^ 61)
+
+-- what the counter answers: how far it has come, and not less than its last answer. If the machine gave no reading, it
+-- answers that again
+abbrev pub comes_to : ℕ → ℕ → Option ℕ → ℕ
+comes_to speed last None = last
+comes_to speed last (Some elapsed) = max (counted speed elapsed) last

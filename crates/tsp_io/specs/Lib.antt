@@ -4,4 +4,6 @@ pub mod Directories
 pub mod FailingCalls
 pub mod Links
 pub mod MemoryLinks
+pub mod Sockets
 pub mod Streams
+pub mod UdpLinks

@@ -1,63 +1,259 @@
-//! A UDP socket whose receives wait for a given time.
-ghost use Rattle.std.specs.Prelude.{◌≡◌, ◌<◌, ◌≤◌, length, max, IfOk, IfSome, Some};
+//! A UDP socket whose receives wait for a given time, and whose sends don't wait.
+ghost use Rattle.std.specs.Prelude.{◌≡◌, ◌⊎◌, ◌≤◌, ◌<ℤ◌, length, false, true, None, Some, pos};
+ghost use Rattle.std.specs.Prelude.{IfOk, IfSome, IsTrue, OnErr, OnOk};
+ghost use Rattle.std.specs.Net.Udp.{udp_raw_fd};
+ghost use Rattle.std.specs.Option.{option_map};
 ghost use Rattle.tsp_io.specs.Directories.{addr_of};
+ghost use Rattle.tsp_io.specs.Sockets.{IsWaitFor, is_late};
 
 use crate::addr::Addr;
+use crate::machine_clock::machine_micros;
 use std::io;
 use std::io::ErrorKind;
 use std::net::{IpAddr, Ipv4Addr, Net, SocketAddr, UdpSocket};
+use std::os::fd::AsRawFd;
+use std::rt::Clock;
 use std::time::Duration;
 
+/// The number of standard error, the last of the standard streams.
+const LAST_STREAM: i32 = 2;
+
+/// How long the program may have been away beyond a receive's wait, in microseconds, before what
+/// came meanwhile counts as old.
+const LONGEST_PAUSE: u64 = 1_000_000;
+
+/// How many datagrams one receive throws away at most.
+const MOST_DISCARDED: u32 = 100_000;
+
 /// The system reported an error of a receive, and not only that there was no datagram.
+#[derive(Clone, Copy)]
 pub(crate) struct ReceiveFault;
 
-/// A bound socket, and the wait in microseconds that was last set for it; 0 if none was set, so
-/// that it waits for ever.
+/// Why a call for a datagram gave none.
+#[derive(Clone, Copy)]
+enum Untaken {
+    /// None is there, and none came within the wait.
+    Empty,
+    /// A signal came, or the network reported that an earlier datagram of this socket couldn't be
+    /// delivered.
+    Report,
+    /// Any other error of the system.
+    Fault,
+}
+
+/// A datagram that came: how many of its octets are in the buffer, and its sender's address if that
+/// is an IPv4 one.
+#[derive(Clone, Copy)]
+pub(crate) struct Came {
+    /// The octets at the front of the buffer.
+    pub count: usize,
+    /// The sender's address.
+    pub from: Option<Addr>,
+}
+
+/// A bound socket. None of the standard streams has its number.
 #[derive(Drop)]
 pub(crate) struct Socket {
     udp: UdpSocket,
+    /// The address that the system was asked for.
+    pub local: SocketAddr,
+    /// The address of the last send.
+    pub to: Option<SocketAddr>,
+    /// How many datagrams were thrown away.
+    pub discarded: u64,
+    /// The wait in microseconds that was last set; 0 if none was set, so that receives wait for ever.
     wait: u64,
+    /// Whether calls wait: a receive for a datagram, a send for room.
+    waits: bool,
+    /// When the last receive ended, or the bind; None if the machine's clock gave no reading.
+    ended: Option<u64>,
+    ghost no_stream: { pos 2 <ℤ udp_raw_fd udp },
 }
 
 impl Socket {
-    /// A socket bound to this address. Fails if the system refuses it.
-    pub(crate) fn bind(rt: &impl Net, local: Addr) -> io::Result<Socket> {
-        let udp = UdpSocket::bind(rt, socket_addr(local))?;
-        Ok(Socket { udp, wait: 0 })
+    /// A socket bound to this address. Fails if the system refuses it, or if it would take the number
+    /// of a standard stream that was closed.
+    pub(crate) fn bind<R: Net + Clock>(rt: &R, local: Addr) -> io::Result<Socket>
+        ensures { IfOk result (λ s. (addr_of s.local ≡ Some local) × (s.discarded ≡ 0)
+            × (s.to ≡ None)) }
+    {
+        Socket::bind_to(rt, socket_addr(local))
+    }
+
+    /// The same, with the address as the system gets it.
+    fn bind_to<R: Net + Clock>(rt: &R, local: SocketAddr) -> io::Result<Socket>
+        ensures { IfOk result (λ s. (s.local ≡ local) × (s.discarded ≡ 0) × (s.to ≡ None)
+            × (s.wait ≡ 0) × (s.waits ≡ true)) }
+    {
+        let udp = UdpSocket::bind(rt, local)?;
+        if udp.as_raw_fd() <= LAST_STREAM {
+            return Err(io::Error::from(ErrorKind::Other));
+        }
+        Ok(Socket {
+            udp,
+            local,
+            to: None,
+            discarded: 0,
+            wait: 0,
+            waits: true,
+            ended: machine_micros(rt),
+        })
     }
 
     /// Sets how many microseconds receives wait. Fails if the system refuses it.
-    fn set_wait(&mut self, wait: u64) -> io::Result<()> {
-        self.udp
-            .set_read_timeout(Some(Duration::from_micros(wait)))?;
-        self.wait = wait;
+    fn set_wait(&mut self, wait: u64) -> io::Result<()>
+        ensures ok { OnOk result (self.new ≡ record self.old { wait = wait }) }
+        ensures err { OnErr result (self.new ≡ self.old) }
+    {
+        if wait != self.wait {
+            self.udp
+                .set_read_timeout(Some(Duration::from_micros(wait)))?;
+            self.wait = wait;
+        }
         Ok(())
     }
 
-    /// The size and the sender of a datagram that came, where that is an IPv4 address; None if none came
-    /// within the wait. Fails at any other error of the system.
-    #[inline(always)]
-    pub(crate) fn receive(
-        &mut self,
-        buf: &mut [u8],
-        wait: u64,
-    ) -> Result<Option<(usize, Option<Addr>)>, ReceiveFault>
-        requires { length buf.old ≡ 512 }
-        ensures { IfOk result (λ got. IfSome got (λ g. g.0 ≤ 512)) }
+    /// Sets whether calls wait. Fails if the system refuses it.
+    fn set_waits(&mut self, waits: bool) -> io::Result<()>
+        ensures ok { OnOk result (self.new ≡ record self.old { waits = waits }) }
+        ensures err { OnErr result (self.new ≡ self.old) }
     {
-        let wait = settable(wait);
-        if wait != self.wait && self.set_wait(wait).is_err() {
-            return Err(ReceiveFault);
+        if waits != self.waits {
+            self.udp.set_nonblocking(!waits)?;
+            self.waits = waits;
         }
+        Ok(())
+    }
+
+    /// One call of the system's for a datagram.
+    fn take(&self, buf: &mut [u8]) -> Result<Came, Untaken>
+        requires { length buf.old ≡ 512 }
+        ensures { IfOk result (λ came. came.count ≤ 512) }
+    {
         match self.udp.recv_from(buf) {
-            Ok((count, from)) => Ok(Some((count, addr_of(from)))),
-            Err(error) if is_no_datagram(error.kind()) => Ok(None),
-            Err(_) => Err(ReceiveFault),
+            Ok((count, from)) => Ok(Came {
+                count,
+                from: addr_of(from),
+            }),
+            Err(error) => Err(cause_of(error.kind())),
         }
     }
 
-    /// Sends a datagram, and says whether the system took all of it.
-    pub(crate) fn send(&self, octets: &[u8], to: Addr) -> bool {
+    /// The next datagram that comes within the wait that is set. Where the socket doesn't wait since
+    /// its last send, what is there already is taken first.
+    #[inline(always)]
+    fn next(&mut self, buf: &mut [u8]) -> Result<Came, Untaken>
+        requires { length buf.old ≡ 512 }
+        ensures size { IfOk result (λ came. came.count ≤ 512) }
+        ensures same { self.new ≡ record self.old { waits = self.new.waits } }
+    {
+        if !self.waits {
+            match self.take(buf) {
+                Err(Untaken::Empty) => {}
+                taken => return taken,
+            }
+            if self.set_waits(true).is_err() {
+                return Err(Untaken::Fault);
+            }
+        }
+        self.take(buf)
+    }
+
+    /// Throws away the datagrams that are there, at most `MOST_DISCARDED`. Says how many these were,
+    /// and whether none is left.
+    fn empty(&self) -> Result<(u32, bool), ReceiveFault> {
+        let mut buf = [0; 512];
+        let mut count: u32 = 0;
+        for _ in 0..MOST_DISCARDED {
+            match self.take(&mut buf) {
+                Ok(_) => count = count.saturating_add(1),
+                Err(Untaken::Empty) => return Ok((count, true)),
+                Err(Untaken::Report) => {}
+                Err(Untaken::Fault) => return Err(ReceiveFault),
+            }
+        }
+        Ok((count, false))
+    }
+
+    /// Throws away what is there, and `came` datagrams besides. Once nothing is left, receives count
+    /// from now on.
+    fn begin_anew(&mut self, rt: &impl Clock, came: u64) -> Result<(), ReceiveFault>
+        ensures same { self.new ≡ record self.old {
+          waits = self.new.waits;
+          discarded = self.new.discarded;
+          ended = self.new.ended;
+        } }
+        ensures counted { self.old.discarded ≤ self.new.discarded }
+    {
+        self.discarded = self.discarded.saturating_add(came);
+        if self.set_waits(false).is_err() {
+            return Err(ReceiveFault);
+        }
+        let (count, emptied) = self.empty()?;
+        self.discarded = self.discarded.saturating_add(u64::from(count));
+        if emptied {
+            self.ended = machine_micros(rt);
+        }
+        Ok(())
+    }
+
+    /// A datagram that came; None if none came within the wait. Fails at any error of the system but
+    /// one that only says that there was no datagram.
+    ///
+    /// If the machine's clock shows that it ended more than a second after the last receive had ended,
+    /// the wait not counted, the program was away meanwhile: what came by then is thrown away, and
+    /// the answer is None.
+    #[inline(always)]
+    pub(crate) fn receive(
+        &mut self,
+        rt: &impl Clock,
+        buf: &mut [u8],
+        wait: u64,
+    ) -> Result<Option<Came>, ReceiveFault>
+        requires { length buf.old ≡ 512 }
+        ensures size { IfOk result (λ came. IfSome came (λ c. c.count ≤ 512)) }
+        ensures waits { OnOk result (IsWaitFor wait self.new.wait) }
+        ensures fresh { IfOk result (λ came. IfSome came
+            (λ _. is_late self.old.ended self.new.ended wait ≡ false)) }
+        ensures same { self.new ≡ record self.old {
+          wait = self.new.wait;
+          waits = self.new.waits;
+          discarded = self.new.discarded;
+          ended = self.new.ended;
+        } }
+        ensures counted { self.old.discarded ≤ self.new.discarded }
+    {
+        if self.set_wait(settable(wait)).is_err() {
+            return Err(ReceiveFault);
+        }
+        let came = match self.next(buf) {
+            Ok(came) => Some(came),
+            Err(Untaken::Fault) => return Err(ReceiveFault),
+            Err(_) => None,
+        };
+        let now = machine_micros(rt);
+        if is_late(self.ended, now, wait) {
+            return match self.begin_anew(rt, u64::from(came.is_some())) {
+                Ok(()) => Ok(None),
+                Err(fault) => Err(fault),
+            };
+        }
+        self.ended = now;
+        Ok(came)
+    }
+
+    /// Sends a datagram without a wait for room, and says whether the system took all of it.
+    #[inline(always)]
+    pub(crate) fn send(&mut self, octets: &[u8], to: Addr) -> bool
+        ensures to { option_map addr_of self.new.to ≡ Some (Some to) }
+        ensures waits { IsTrue result → self.new.waits ≡ false }
+        ensures same { (self.new.local ≡ self.old.local)
+            × (self.new.discarded ≡ self.old.discarded) × (self.new.ended ≡ self.old.ended) }
+    {
+        self.to = Some(socket_addr(to));
+        if self.set_waits(false).is_err() {
+            return false;
+        }
         match self.udp.send_to(octets, socket_addr(to)) {
             Ok(count) => count == octets.len(),
             Err(_) => false,
@@ -65,12 +261,25 @@ impl Socket {
     }
 }
 
+/// Whether a receive ended so late after the last one that the program was away meanwhile; false if
+/// the machine's clock gave no reading at one of these ends.
+#[inline(always)]
+fn is_late(ended: Option<u64>, now: Option<u64>, wait: u64) -> bool
+    ensures { result ≡ is_late ended now wait }
+{
+    match (ended, now) {
+        (Some(ended), Some(now)) => {
+            now.saturating_sub(ended) as u128 > wait as u128 + LONGEST_PAUSE as u128
+        }
+        _ => false,
+    }
+}
+
 /// The wait that is set for a receive of at most `wait` microseconds: at least 1, and from 1,000 on so many whole
 /// milliseconds. So a caller that waits for a certain time, while datagrams come, asks the system once a millisecond, and
 /// not before each receive.
 fn settable(wait: u64) -> u64
-    ensures positive { 0 < result }
-    ensures within { result ≤ max wait 1 }
+    ensures { IsWaitFor wait result }
 {
     if wait < 1_000 {
         wait.max(1)
@@ -79,20 +288,17 @@ fn settable(wait: u64) -> u64
     }
 }
 
-/// Whether this error of a receive only means that there was no datagram: the wait was over, a
-/// signal came, or the network reported that an earlier datagram of this socket couldn't be
-/// delivered.
-fn is_no_datagram(kind: ErrorKind) -> bool {
-    matches!(
-        kind,
-        ErrorKind::WouldBlock
-            | ErrorKind::TimedOut
-            | ErrorKind::Interrupted
-            | ErrorKind::ConnectionRefused
-            | ErrorKind::ConnectionReset
-            | ErrorKind::HostUnreachable
-            | ErrorKind::NetworkUnreachable
-    )
+/// What this error of a receive means.
+fn cause_of(kind: ErrorKind) -> Untaken {
+    match kind {
+        ErrorKind::WouldBlock | ErrorKind::TimedOut => Untaken::Empty,
+        ErrorKind::Interrupted
+        | ErrorKind::ConnectionRefused
+        | ErrorKind::ConnectionReset
+        | ErrorKind::HostUnreachable
+        | ErrorKind::NetworkUnreachable => Untaken::Report,
+        _ => Untaken::Fault,
+    }
 }
 
 /// The address as a value of the standard library.

@@ -1,0 +1,41 @@
+-- What a link over a UDP socket is bound to, whom it hears, and where it sends.
+use Rattle.std.specs.Prelude.{◌≡◌, ℕ, Bool, true, false, List, [], ◌∷◌, None, Some, Option, MatchOption}
+use Rattle.std.specs.Option.{option_map}
+use Rattle.tsp_io.specs.Directories.{addr_of, ComesFrom}
+use Rattle.tsp_io.specs.Links.{Binding}
+use Rattle.tsp_io.specs.Sockets.{IsWaitFor}
+use Rattle.tsp_io.specs.declared.addr.Addr.{Addr}
+use Rattle.tsp_io.specs.declared.link.Recv.{Recv}
+use Rattle.tsp_io.specs.declared.link.Recv.TheVariants.{Datagram, Nothing, Failed}
+use Rattle.tsp_io.specs.declared.socket.Socket.{Socket}
+
+-- what the link was bound to: nothing yet, or the address that the system was asked for, and its peers. It isn't told
+-- of a link that was bound again
+abbrev pub binds_of : Bool → Option Socket → List Addr → Option (List Binding)
+binds_of true socket peers = None
+binds_of false None peers = Some []
+binds_of false (Some socket) peers = option_map (λ local. record { local = local; peers = peers } ∷ []) (addr_of socket.local)
+
+-- how many datagrams were thrown away
+abbrev pub discarded_by : Option Socket → ℕ
+discarded_by None = 0
+discarded_by (Some socket) = socket.discarded
+
+-- the system was asked for this address
+abbrev pub IsBoundTo : Addr → Option Socket → Type 0
+IsBoundTo local socket = MatchOption socket ⊥ (λ s. addr_of s.local ≡ Some local)
+
+-- a datagram is that of whoever has the address from which it came, which is noted
+abbrev pub TakesFrom : List Addr → Option Addr → Recv → Type 0
+TakesFrom peers last (Datagram from count) = ComesFrom peers last from
+TakesFrom peers last Nothing = Unit {0}
+TakesFrom peers last Failed = Unit {0}
+
+-- unless the receive failed, the socket's wait was set for it
+abbrev pub IsAwaited : ℕ → Option Socket → Recv → Type 0
+IsAwaited wait socket Failed = Unit {0}
+IsAwaited wait socket result = MatchOption socket ⊥ (λ s. IsWaitFor wait s.wait)
+
+-- the last send of the socket went to this address
+abbrev pub GoesTo : Option Addr → Option Socket → Type 0
+GoesTo addr socket = MatchOption socket ⊥ (λ s. option_map addr_of s.to ≡ Some addr)

@@ -1,0 +1,109 @@
+#!/bin/sh
+# The daemon's edge, where the kernel's own behaviour counts: a link that takes nothing stops no other; what came while the daemon was stopped
+# is thrown away; TSP_RATE; a daemon beside a program that has its port at another address; and how long a question waits.
+. "$(dirname "$0")/common.sh"
+unset TSP_RATE
+serving_program
+# shellcheck disable=SC2046  # four ports
+set -- $(free_ports 4)
+
+# Waits until the daemon at an address answers.
+answers() {
+    tries=0
+    until "$program" msite "$1" >"$out/text" 2>/dev/null; do
+        tries=$((tries + 1))
+        [ "$tries" -lt 10 ] || fail "a daemon at $1 is not heard"
+        sleep 0.2
+    done
+}
+
+# How far the clock of the daemon at an address is ahead of this machine's, in microseconds.
+ahead() {
+    "$program" clockdiff "$1" >"$out/text" || fail "the clock at $1 is not told"
+    cut -d ' ' -f 2 "$out/text"
+}
+
+# One that is stopped for less than a second takes what came meanwhile. After 3 seconds it doesn't: a date that was to be set stays out of the
+# trace, the clock is the old one, and the next question is answered.
+"$program" serve "127.0.0.1:$1" a m 100000 >"$out/trace" 2>/dev/null &
+note_process
+stopped=$!
+answers "127.0.0.1:$1"
+"$program" trace "127.0.0.1:$1" on >/dev/null
+kill -STOP "$stopped"
+(sleep 0.3; kill -CONT "$stopped") &
+"$program" msite "127.0.0.1:$1" >"$out/text" || fail 'a daemon that is stopped for 0.3 s loses a question'
+wait $!
+kill -STOP "$stopped"
+python3 - "$1" <<'END'
+import socket
+import sys
+import time
+link = socket.socket(socket.AF_INET, socket.SOCK_DGRAM)
+for number in range(20):
+    link.sendto(bytes([17, 1, 3, number]) + bytes(8) + b'late\0', ('127.0.0.1', int(sys.argv[1])))
+time.sleep(3)
+END
+kill -CONT "$stopped"
+answers "127.0.0.1:$1"
+! grep -q ' late$' "$out/trace" || fail "a daemon takes what came while it was stopped: $(grep ' late$' "$out/trace" | head -n 1)"
+grep -q ' took - traceon [0-9]* timedc$' "$out/trace" || fail 'the trace is not on'
+
+# A counter that is 1,000 parts in a million fast comes 1,000 microseconds further in a second, one without a rate no further, and one that
+# isn't a rate comes nowhere.
+TSP_RATE=1000000 "$program" serve "127.0.0.1:$2" b s 100000 >/dev/null 2>&1 &
+note_process
+TSP_RATE=-1000000 "$program" serve "127.0.0.1:$3" c s 100000 >/dev/null 2>&1 &
+note_process
+answers "127.0.0.1:$2"
+answers "127.0.0.1:$3"
+fast=$(ahead "127.0.0.1:$2") slow=$(ahead "127.0.0.1:$3") plain=$(ahead "127.0.0.1:$1")
+sleep 2
+fast=$(($(ahead "127.0.0.1:$2") - fast)) slow=$(($(ahead "127.0.0.1:$3") - slow)) plain=$(($(ahead "127.0.0.1:$1") - plain))
+[ $((fast - plain)) -ge 1500 ] && [ $((fast - plain)) -le 3500 ] && [ $((plain - slow)) -ge 1500 ] && [ $((plain - slow)) -le 3500 ] || fail "in two seconds counters come $fast, $plain and $slow microseconds further"
+for rate in '' 1000001 -1000001 +1 01 -0 1.5 one 99999999999999999999; do
+    status=0
+    TSP_RATE=$rate "$program" serve "127.0.0.1:$1" a m 1 >"$out/text" 2>"$out/line" || status=$?
+    [ "$status" -eq 1 ] && [ "$(cat "$out/text")" = 'bad rate' ] && [ "$(wc -l <"$out/line")" -eq 1 ] || fail "TSP_RATE='$rate' ends with status $status"
+done
+TSP_RATE=one "$program" msite "127.0.0.1:$1" >"$out/text" || fail 'a question reads TSP_RATE'
+status=0
+TSP_RATE=0 "$program" serve "127.0.0.1:$1" a m 1 >"$out/text" 2>/dev/null || status=$?
+[ "$status" -eq 5 ] || fail "a port that is taken ends with status $status, with a rate of 0"
+
+# A daemon at 127.0.0.2, beside a program that has its port at 127.0.0.1: each gets what is sent to its own address.
+python3 - "$4" <<'END' &
+import socket
+import sys
+link = socket.socket(socket.AF_INET, socket.SOCK_DGRAM)
+link.bind(('127.0.0.1', int(sys.argv[1])))
+link.settimeout(20)
+question, asker = link.recvfrom(512)
+assert question[0] == 19
+link.sendto(b'\2\1' + question[2:4] + bytes(8) + b'other\0', asker)
+END
+other=$!
+"$program" serve "127.0.0.2:$4" d s 100000 >/dev/null 2>&1 &
+note_process
+answers "127.0.0.2:$4"
+[ "$(cat "$out/text")" = 'no master' ] || fail "a daemon beside another program says '$(cat "$out/text")'"
+[ "$("$program" msite "127.0.0.1:$4")" = 'master other' ] || fail 'the program beside a daemon is not asked'
+wait "$other" || fail 'the program beside a daemon got something else'
+
+# A question to nobody waits eight times for a second.
+end_all
+began=$(date +%s%N)
+status=0
+"$program" msite "127.0.0.1:$1" >"$out/text" 2>/dev/null || status=$?
+took=$((($(date +%s%N) - began) / 1000000))
+[ "$status" -eq 6 ] && [ "$took" -ge 7000 ] && [ "$took" -le 9000 ] || fail "a question to nobody ends after $took ms with status $status"
+
+# A link that takes nothing.
+if has tc && has nsenter && unshare -rn true 2>/dev/null; then
+    count=$(unshare -rn tools/tests/stalled.py "$program" 2>"$out/told") || fail "no link was stalled: $(cat "$out/told")"
+    [ "$count" -ge 15 ] || fail "beside a link that takes nothing $count of 20 questions are answered"
+    echo "$check: beside a link that takes nothing $count of 20 questions are answered"
+else
+    skip 'there is no tc, or there are no namespaces' 'a link that takes nothing'
+fi
+echo "$check: pauses, rates, addresses and waits are as they should be"
