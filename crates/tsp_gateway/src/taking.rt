@@ -86,8 +86,9 @@ impl Gateway {
         let clock = &mut self.clock;
         let tracing = &mut self.tracing;
         let port = port_at(q);
-        let corrected =
-            self.ports[q].take(clock, tracing, steer, charge, tick, from, taken, port, desk);
+        let corrected = self.ports[q].take(
+            clock, tracing, steer, charge, tick, from, taken, port, desk,
+        );
         if corrected {
             self.upset(q, m.kind().sets_date(), tick, desk);
         }

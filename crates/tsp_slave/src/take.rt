@@ -85,7 +85,7 @@ pub fn slave_hear<D: Desk>(
     if m.kind().is_correction() {
         take_correction(station, last, clock, from, m, at, desk)
     } else {
-        hear_other(station, last, clock, at, from, m, desk);
+        hear_other(station, last, clock, from, at, m, desk);
         false
     }
 }
@@ -95,15 +95,15 @@ fn hear_other<D: Desk>(
     station: &mut Station,
     last: &mut Last,
     clock: &Clock,
-    at: At,
     from: PeerId,
+    at: At,
     m: &Message,
     desk: &mut D,
 )
+    requires other { is_correction m.now.kind ≡ false }
+    requires peer { Contains station.old.peers from }
     requires tick { IsTick at.tick }
     requires room { 5 ≤ D.spare desk.old }
-    requires peer { Contains station.old.peers from }
-    requires other { is_correction m.now.kind ≡ false }
     ensures row { ActsOn (IsMessage from m.now) (slave_takes from m.now) at.tick at.port
         (slave station.old last.old clock.now) (slave station.new last.new clock.now)
         D.acts desk.old desk.new }
