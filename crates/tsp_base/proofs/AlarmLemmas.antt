@@ -1,10 +1,11 @@
 -- The earlier of two deadlines.
-use Rattle.std.specs.Prelude.{◌≡◌, ◌≤◌, ◌⊎◌, ℕ, Option, None, Some, IfSome, IsSome, min}
+use Rattle.std.specs.Prelude.{◌≡◌, ◌≤◌, ◌⊎◌, ℕ, List, [], ◌∷◌, length, drop, Option, None, Some, IfSome, IsSome, min}
 use Rattle.std.proofs.Common.{refl, inl, inr, arith, ap, sym, subst, ◌∙◌}
 use Rattle.std.proofs.lemmas.Bool.{cases_lt}
+use Rattle.std.proofs.lemmas.List.{drop_all}
 use Rattle.tsp_base.specs.declared.alarm.Alarm.{Alarm}
 use Rattle.tsp_base.specs.declared.alarm.Alarm.TheVariants.{Quiet, Search, Elect, Window, Probe, Close, Resolve, Round}
-use Rattle.tsp_base.specs.Alarms.{Deadlines, deadline, earlier, least_deadline}
+use Rattle.tsp_base.specs.Alarms.{Deadlines, deadline, deadlines_in, earlier, least_deadline}
 
 -- the earlier of two is one of them
 pub earlier_is_one : (a b : Option ℕ) → (earlier a b ≡ a) ⊎ (earlier a b ≡ b)
@@ -14,6 +15,11 @@ earlier_is_one (Some x) (Some y) = elim (cases_lt x y) [
   | inl lt ↦ inl (let e : min x y ≡ x = omega (arith, lt) in ap (λ n. Some n) e)
   | inr ge ↦ inr (let e : min x y ≡ y = omega (arith, ge) in ap (λ n. Some n) e)
 ]
+
+-- the earliest of some deadlines and this one
+abbrev pub earliest : List (Option ℕ) → Option ℕ → Option ℕ
+earliest [] least = least
+earliest (d ∷ rest) least = earliest rest (earlier least d)
 
 -- an alarm with the earliest deadline, if one is armed
 pub least_deadline_armed : (d : Deadlines) → (a : Alarm) × (least_deadline d ≡ deadline d a)
@@ -68,3 +74,29 @@ none_later d a t e = is_by t (least_deadline d) (pick a e) where
   pick Close e = by_right t (early d) (late d) (by_left t (earlier d.probe d.close) (earlier d.resolve d.round) (by_right t d.probe d.close (by_some t d.close e)))
   pick Resolve e = by_right t (early d) (late d) (by_right t (earlier d.probe d.close) (earlier d.resolve d.round) (by_left t d.resolve d.round (by_some t d.resolve e)))
   pick Round e = by_right t (early d) (late d) (by_right t (earlier d.probe d.close) (earlier d.resolve d.round) (by_right t d.resolve d.round (by_some t d.round e)))
+
+-- what holds of each list of eight
+eight : (P : List (Option ℕ) → Type 0) → ((q s e w p c r o : Option ℕ) → P (q ∷ s ∷ e ∷ w ∷ p ∷ c ∷ r ∷ o ∷ [])) → (xs : List (Option ℕ)) → length xs ≡ 8 → P xs
+eight P all (q ∷ s ∷ e ∷ w ∷ p ∷ c ∷ r ∷ o ∷ []) l = all q s e w p c r o
+eight P all _ l = absurd (omega (arith, l))
+
+earlier-assoc : (a b c : Option ℕ) → earlier (earlier a b) c ≡ earlier a (earlier b c)
+earlier-assoc None b c = refl
+earlier-assoc (Some x) None c = refl
+earlier-assoc (Some x) (Some y) None = refl
+earlier-assoc (Some x) (Some y) (Some z) = let e : min (min x y) z ≡ min x (min y z) = omega arith in ap (λ n. Some n) e
+
+-- one after the other, the eight have the same earliest one as in pairs
+in_pairs : (q s e w p c r o : Option ℕ) → earliest (q ∷ s ∷ e ∷ w ∷ p ∷ c ∷ r ∷ o ∷ []) None ≡ least_deadline (deadlines_in (q ∷ s ∷ e ∷ w ∷ p ∷ c ∷ r ∷ o ∷ []))
+in_pairs q s e w p c r o =
+    let four = earlier (earlier q s) (earlier e w) in
+    ap (λ x. earlier (earlier (earlier (earlier x p) c) r) o) (earlier-assoc (earlier q s) e w)
+    ∙ ap (λ x. earlier (earlier x r) o) (earlier-assoc four p c)
+    ∙ earlier-assoc (earlier four (earlier p c)) r o
+    ∙ earlier-assoc four (earlier p c) (earlier r o)
+
+-- a walk over all eight finds the earliest one
+pub all_seen : (xs : List (Option ℕ)) (i : ℕ) (least : Option ℕ) → length xs ≡ 8 → 8 ≤ i → earliest (drop i xs) least ≡ earliest xs None → least ≡ least_deadline (deadlines_in xs)
+all_seen xs i least e past walk =
+    let none : drop i xs ≡ [] = drop_all i xs (omega (arith, e, past)) in
+    sym (ap (λ rest. earliest rest least) none) ∙ walk ∙ eight (λ xs. earliest xs None ≡ least_deadline (deadlines_in xs)) in_pairs xs e

@@ -1,5 +1,5 @@
 -- The alarms of a port: the word of each, and what it is armed for.
-use Rattle.std.specs.Prelude.{ℕ, List, Option, None, Some, min, codes}
+use Rattle.std.specs.Prelude.{ℕ, List, Option, None, Some, min, codes, get_or}
 use Rattle.tsp_base.specs.declared.alarm.Alarm.{Alarm}
 use Rattle.tsp_base.specs.declared.alarm.Alarm.TheVariants.{Quiet, Search, Elect, Window, Probe, Close, Resolve, Round}
 
@@ -24,6 +24,19 @@ pub record Deadlines : Type 0 where
   pub close : Option ℕ
   pub resolve : Option ℕ
   pub round : Option ℕ
+
+-- the deadlines in an array of them, by alarm
+abbrev pub deadlines_in : List (Option ℕ) → Deadlines
+deadlines_in xs = record {
+  quiet = get_or xs 0 None;
+  search = get_or xs 1 None;
+  elect = get_or xs 2 None;
+  window = get_or xs 3 None;
+  probe = get_or xs 4 None;
+  close = get_or xs 5 None;
+  resolve = get_or xs 6 None;
+  round = get_or xs 7 None;
+}
 
 -- what one alarm is armed for
 abbrev pub deadline : Deadlines → Alarm → Option ℕ

@@ -9,31 +9,19 @@ use std::marker::Model;
 /// What each alarm is armed for, in ticks.
 #[derive(Drop)]
 pub struct Alarms {
-    quiet: Option<u64>,
-    search: Option<u64>,
-    elect: Option<u64>,
-    window: Option<u64>,
-    probe: Option<u64>,
-    close: Option<u64>,
-    resolve: Option<u64>,
-    round: Option<u64>,
+    /// By alarm, in the order of `Alarm`.
+    deadlines: [Option<u64>; 8],
 }
 
 impl Model for Alarms {
-    ghost use Rattle.tsp_base.specs.Alarms.{Deadlines};
+    ghost use Rattle.std.specs.Prelude.{◌≡◌, length};
+    ghost use Rattle.tsp_base.specs.Alarms.{Deadlines, deadlines_in};
 
     ghost Value = { Deadlines };
 
-    ghost view = { λ a. record {
-      quiet = a.quiet;
-      search = a.search;
-      elect = a.elect;
-      window = a.window;
-      probe = a.probe;
-      close = a.close;
-      resolve = a.resolve;
-      round = a.round;
-    } };
+    ghost view = { λ a. deadlines_in a.deadlines };
+
+    ghost invariant = { λ a. length a.deadlines ≡ 8 };
 }
 
 impl Alarms {
@@ -42,30 +30,14 @@ impl Alarms {
         ensures { result ≡ none_armed }
     {
         Alarms {
-            quiet: None,
-            search: None,
-            elect: None,
-            window: None,
-            probe: None,
-            close: None,
-            resolve: None,
-            round: None,
+            deadlines: [None; 8],
         }
     }
 
     fn set(&mut self, a: Alarm, at: Option<u64>)
         ensures { self.new ≡ with_deadline self.old a at }
     {
-        match a {
-            Alarm::Quiet => self.quiet = at,
-            Alarm::Search => self.search = at,
-            Alarm::Elect => self.elect = at,
-            Alarm::Window => self.window = at,
-            Alarm::Probe => self.probe = at,
-            Alarm::Close => self.close = at,
-            Alarm::Resolve => self.resolve = at,
-            Alarm::Round => self.round = at,
-        }
+        self.deadlines[a as usize] = at;
     }
 
     /// Arms an alarm for a tick, in place of an earlier deadline.
@@ -93,31 +65,18 @@ impl Alarms {
     pub fn at(&self, a: Alarm) -> Option<u64>
         ensures { result ≡ deadline self.now a }
     {
-        match a {
-            Alarm::Quiet => self.quiet,
-            Alarm::Search => self.search,
-            Alarm::Elect => self.elect,
-            Alarm::Window => self.window,
-            Alarm::Probe => self.probe,
-            Alarm::Close => self.close,
-            Alarm::Resolve => self.resolve,
-            Alarm::Round => self.round,
-        }
+        self.deadlines[a as usize]
     }
 
     /// The earliest deadline; None exactly where no alarm is armed.
     pub fn least(&self) -> Option<u64>
         ensures { result ≡ least_deadline self.now }
     {
-        let first = earlier(
-            earlier(self.quiet, self.search),
-            earlier(self.elect, self.window),
-        );
-        let last = earlier(
-            earlier(self.probe, self.close),
-            earlier(self.resolve, self.round),
-        );
-        earlier(first, last)
+        let mut least = None;
+        for at in &self.deadlines {
+            least = earlier(least, *at);
+        }
+        least
     }
 }
 

@@ -18,8 +18,7 @@ use Rattle.tsp_rules.specs.RoundRows.{corrects}
 use Rattle.tsp_rules.specs.SendRows.{begins_timed}
 use Rattle.tsp_rules.specs.Guards.{is_heard, role_at}
 use Rattle.tsp_rules.proofs.Emits.{Emits, Emits_either, Emits_more, Emits_nothing, Emits_posts_back, Emits_puts, Emits_reading, Emits_then}
-use Rattle.tsp_master.proofs.CloseLemmas.{corrects-none}
-use Rattle.tsp_master.proofs.LeadLemmas.{still_sorts}
+use Rattle.tsp_rules.proofs.EmitsStill.{corrects-none, still_sorts}
 use Rattle.tsp_date.proofs.DateLemmas.{begins-emits, numbering}
 
 pub corrects-nothing : (x : ℕ) (past : Past) → corrects (nothing x past) ≡ false

@@ -6,7 +6,7 @@ use Rattle.std.proofs.lemmas.List.{length-map}
 use Rattle.std.proofs.lemmas.Option.{slice_get-get_or}
 use Rattle.std.proofs.Math.ListN.{set, length-set}
 use Rattle.tsp_base.specs.declared.act.Act.{Act}
-use Rattle.tsp_base.specs.declared.act.Act.TheVariants.{Boot, Correct}
+use Rattle.tsp_base.specs.declared.act.Act.TheVariants.{Boot}
 use Rattle.tsp_base.specs.declared.act.Placed.{Placed}
 use Rattle.tsp_base.specs.History.{Past, dids, plain}
 use Rattle.tsp_base.specs.NodeFacts.{tracing}
@@ -15,8 +15,9 @@ use Rattle.tsp_base.specs.Rows.{Row, grown, placed}
 use Rattle.tsp_base.proofs.Views.{plain_view}
 use Rattle.tsp_rules.specs.NodePerforms.{PerformsAll}
 use Rattle.tsp_rules.specs.NodeRows.{NodePast, NodeRow, abandons_on, for_ports, on, on_port, reading_all, spread, stirring, ◌and_then◌}
-use Rattle.tsp_rules.specs.RoundRows.{corrects, is_correct}
+use Rattle.tsp_rules.specs.RoundRows.{corrects}
 use Rattle.tsp_rules.proofs.Emits.{Sort, Acking, Alarming, AllOf, Asking, Backing, Changing, Closing, Correcting, Counting, Emits, Emits_more, Following, Giving, Leading, Numbering, Posting, Rivalling, Rounding, Sampling, Tabling, is_in, sort_of}
+use Rattle.tsp_rules.proofs.EmitsStill.{row_corrects-none}
 use Rattle.tsp_rules.proofs.NodeRowLemmas.{All_then, Bootless, on_own}
 use Rattle.tsp_rules.proofs.Asides.{all_aside, on_other}
 use Rattle.tsp_clients.specs.ClientStands.{TraceStands}
@@ -167,17 +168,9 @@ All_unstirred {x = x} q row whole still d =
 abbrev pub still_sorts : List Sort
 still_sorts = Asking ∷ Correcting ∷ Numbering ∷ Posting ∷ Leading ∷ Following ∷ Changing ∷ Backing ∷ Counting ∷ Rounding ∷ Alarming ∷ Tabling ∷ Rivalling ∷ Acking ∷ Giving ∷ Sampling ∷ Closing ∷ []
 
-still-act : (a : Act) → is_in (sort_of a) still_sorts ≡ true → is_correct a ≡ false
-still-act (Correct amount stepped shown) e = absurd (true≢false (sym e))
-still-act _ e = refl
-
-still-all : (acts : List Act) → AllOf still_sorts acts → corrects acts ≡ false
-still-all [] h = refl
-still-all (a ∷ rest) h = let here = still-act a h.0 in rw here (still-all rest h.1)
-
 -- rows of these sorts don't correct
 pub still_by : {row : Row} → Emits still_sorts row → (x : ℕ) (past : Past) → corrects (row x past) ≡ false
-still_by {row} e x past = still-all (row x past) (e.only x past)
+still_by e x past = row_corrects-none (Emits_more still_sorts refl e) x past
 
 pub silent_still : {row : Row} → Emits still_sorts row → Emits silent_trace row
 silent_still e = Emits_more still_sorts refl e

@@ -85,17 +85,11 @@ impl Gateway {
         let charge = self.in_charge(q);
         let clock = &mut self.clock;
         let tracing = &mut self.tracing;
-        if self.ports[q].take(
-            clock,
-            tracing,
-            steer,
-            charge,
-            tick,
-            from,
-            taken,
-            port_at(q),
-            desk,
-        ) {
+        let port = port_at(q);
+        let corrected = self.ports[q].take(
+            clock, tracing, steer, charge, tick, from, taken, port, desk,
+        );
+        if corrected {
             self.upset(q, m.kind().sets_date(), tick, desk);
         }
     }
@@ -130,18 +124,12 @@ impl Gateway {
         ensures room { PutsAtMost (2 * peers_at q (ports_in self.old) + 24) (D.spare desk.old)
             (D.spare desk.new) (D.acts desk.old) (D.acts desk.new) }
     {
+        // Only a message asks which port steers the clock, and which is in charge of the date.
+        let steer = true;
+        let charge = true;
         let clock = &mut self.clock;
         let tracing = &mut self.tracing;
-        let _ = self.ports[q].take(
-            clock,
-            tracing,
-            true,
-            true,
-            tick,
-            from,
-            taken,
-            port_at(q),
-            desk,
-        );
+        let port = port_at(q);
+        let _ = self.ports[q].take(clock, tracing, steer, charge, tick, from, taken, port, desk);
     }
 }

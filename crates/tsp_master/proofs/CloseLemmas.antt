@@ -15,6 +15,7 @@ use Rattle.tsp_rules.specs.SendRows.{begins_adjtime, begins_settime}
 use Rattle.tsp_rules.specs.Guards.{is_over}
 use Rattle.tsp_rules.proofs.Emits.{AllOf, Emits, Emits_each, Emits_if, Emits_puts, is_in, sort_of}
 use Rattle.tsp_rules.proofs.EmitsSends.{emits_adjtime_begins, emits_settime_begins}
+use Rattle.tsp_rules.proofs.EmitsStill.{corrects-none, still_sorts}
 use Rattle.tsp_acks.specs.declared.station.Station.{Station}
 use Rattle.tsp_acks.proofs.StandsLemmas.{Stands_idle}
 use Rattle.tsp_clock.specs.Clocks.{ClockValue}
@@ -34,7 +35,6 @@ use Rattle.tsp_master.specs.declared.master.Master.{Master}
 use Rattle.tsp_master.specs.Closing.{estimate_with, measured_of, round_of, standing_with, standings_of}
 use Rattle.tsp_master.specs.MasterStands.{LeadStands, MasterStands}
 use Rattle.tsp_master.proofs.AskLemmas.{filter-more, filter-past, measured-is}
-use Rattle.tsp_master.proofs.LeadLemmas.{still_sorts}
 use Rattle.tsp_master.proofs.MasterLemmas.{MasterStands_aside}
 use Rattle.tsp_master.proofs.PhaseLemmas.{over-low, over-some}
 use Rattle.tsp_master.proofs.TableLemmas.{MasterStands_changed, leaves-after}
@@ -146,14 +146,6 @@ no_probe x past m off due h = by_probe (armed past.seen).probe refl off where
       let over : nat_le at x ≡ true = le-leb at x (omega (arith, early, low, p.1)) in
       let bad : ⊥ = cc in
       absurd bad
-
--- acts without a Correct
-pub corrects-none : (acts : List Act) → AllOf still_sorts acts → corrects acts ≡ false
-corrects-none [] h = refl
-corrects-none (a ∷ acts) h = ap (λ b. b || corrects acts) (by_act a h.0) ∙ corrects-none acts h.1 where
-  by_act : (k : Act) → is_in (sort_of k) still_sorts ≡ true → is_correct k ≡ false
-  by_act (Correct amount stepped shown) e = absurd (false≢true e)
-  by_act _ e = refl
 
 by-still : (mean : ℤ) (p : PeerId) (o : Option Estimate) → Emits still_sorts (corrects_by mean p o)
 unfolding corrects_by

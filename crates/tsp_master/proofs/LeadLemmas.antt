@@ -14,6 +14,7 @@ use Rattle.tsp_base.proofs.SendLemmas.{seen_act}
 use Rattle.tsp_base.specs.Rows.{Row, grown, puts}
 use Rattle.tsp_rules.specs.Guards.{is_in_time, is_met}
 use Rattle.tsp_rules.proofs.Emits.{Sort, Taking, Asking, Correcting, Numbering, Posting, Leading, Following, Changing, Backing, Counting, Rounding, Alarming, Tabling, Rivalling, Acking, Giving, Sampling, Closing, Tracing, is_in, sort_of, Emits, Emits_more, Keeps_by}
+use Rattle.tsp_rules.proofs.EmitsStill.{still_sorts}
 use Rattle.tsp_acks.specs.declared.station.Station.{Station}
 use Rattle.tsp_acks.specs.Stands.{Stands, StandsActing}
 use Rattle.tsp_acks.proofs.ActingLemmas.{Performs_acting}
@@ -33,10 +34,6 @@ Performs_idle a i {x = x} {station = station} put = Performs_acting (record { ac
 -- whether an alarm is in time, as the station has it
 pub in_time-is : (alarm : Alarm) (x : ℕ) (past : Past) (st : Station) {b : Bool} → Stands past st → is_met (deadline st.alarms alarm) x ≡ b → is_in_time alarm x past ≡ b
 in_time-is alarm x past st h e = ap (λ d. is_met (deadline d alarm) x) (sym h.alarms) ∙ e
-
--- all sorts but Boot and Correct
-abbrev pub still_sorts : List Sort
-still_sorts = Taking ∷ Asking ∷ Correcting ∷ Numbering ∷ Posting ∷ Leading ∷ Following ∷ Changing ∷ Backing ∷ Counting ∷ Rounding ∷ Alarming ∷ Tabling ∷ Rivalling ∷ Acking ∷ Giving ∷ Sampling ∷ Closing ∷ Tracing ∷ []
 
 pub ClockStands_still : (a : Act) → is_in (sort_of a) still_sorts ≡ true → Keeps ClockStands (puts a)
 unfolding puts

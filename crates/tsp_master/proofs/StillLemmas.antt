@@ -10,8 +10,7 @@ use Rattle.tsp_base.specs.Rows.{arms, for_each, nothing, posts_to_others, puts, 
 use Rattle.tsp_rules.specs.RoundRows.{abandons, arms_next, asks, asks_measured, asks_slaves, begins_or_waits, corrects, has_more, measured_at, probe_rings, round_begins, round_rings}
 use Rattle.tsp_rules.specs.Guards.{is_in_time, table_at}
 use Rattle.tsp_rules.proofs.Emits.{Emits, Emits_arms, Emits_each, Emits_either, Emits_nothing, Emits_posts_to_others, Emits_puts, Emits_reading, Emits_then}
-use Rattle.tsp_master.proofs.CloseLemmas.{corrects-none}
-use Rattle.tsp_master.proofs.LeadLemmas.{still_sorts}
+use Rattle.tsp_rules.proofs.EmitsStill.{corrects-none, still_sorts}
 
 asks-still : (p : PeerId) → Emits still_sorts (asks p)
 unfolding asks

@@ -28,8 +28,7 @@ use Rattle.tsp_date.specs.DateStands.{DatesStand}
 use Rattle.tsp_slave.specs.SlaveAlarms.{slave_rings}
 use Rattle.tsp_slave.proofs.BesideLemmas.{beside_sorts}
 use Rattle.tsp_master.specs.MasterAlarms.{master_rings}
-use Rattle.tsp_master.proofs.CloseLemmas.{corrects-none}
-use Rattle.tsp_master.proofs.LeadLemmas.{still_sorts}
+use Rattle.tsp_rules.proofs.EmitsStill.{corrects-none, still_sorts}
 use Rattle.tsp_node.specs.NodeStands.{PortUntaken, PortValue}
 use Rattle.tsp_node.specs.RoleAlarms.{is_of_master, is_of_slave}
 use Rattle.tsp_node.proofs.DatesKeeps.{calm, elect-keeps}

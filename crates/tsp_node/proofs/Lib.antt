@@ -13,6 +13,6 @@ pub mod PartLemmas
 pub mod RingLemmas
 pub mod RivalKeeps
 pub mod RoundLemmas
+pub mod StillTakes
 pub mod TakeEmits
-pub mod TicketLemmas
 pub mod UpsetLemmas

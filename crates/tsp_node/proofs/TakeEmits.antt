@@ -25,11 +25,12 @@ use Rattle.tsp_rules.proofs.Emits.{Sort, Acking, Alarming, Asking, Backing, Chan
 use Rattle.tsp_rules.proofs.EmitsCandidate.{candidate_sorts, emits_candidate_takes, emits_window, window_sorts}
 use Rattle.tsp_rules.proofs.EmitsClients.{client_sorts, date_sorts, emits_date_acked, emits_date_of, emits_date_request_of, emits_names_master, emits_says_master, emits_tests, emits_traces}
 use Rattle.tsp_rules.proofs.EmitsMaster.{emits_master_takes, emits_resolve_rings, master_sorts, resolve_sorts}
-use Rattle.tsp_rules.proofs.EmitsRounds.{emits_close_rings, emits_probe_rings, emits_round_rings, emits_samples, round_sorts}
+use Rattle.tsp_rules.proofs.EmitsRounds.{emits_close_rings, emits_probe_rings, emits_round_rings, round_sorts}
 use Rattle.tsp_node.specs.declared.audience.Audience.TheVariants.{OfDates}
 use Rattle.tsp_node.specs.Audiences.{audience_of}
-use Rattle.tsp_rules.proofs.EmitsSlave.{emits_slave_takes, silent_sorts, slave_sorts}
+use Rattle.tsp_rules.proofs.EmitsSlave.{emits_slave_takes, follower_sorts, silent_sorts}
 use Rattle.tsp_node.proofs.AlarmCases.{slave_alarm}
+use Rattle.tsp_node.proofs.EmitsRows.{emits_samples}
 
 -- all sorts but Boot, Took and Trace
 abbrev pub silent_trace : List Sort
@@ -56,12 +57,12 @@ emits_rings own wait alarm = Emits_either (is_due alarm) (alarm_rings own wait a
 says-emits : (p : PeerId) (m : MessageValue) (r : Role) → Emits silent_trace (says_in p m r)
 unfolding says_in
 says-emits p m Starting = Emits_nothing
-says-emits p m Loose = Emits_more slave_sorts refl (emits_slave_takes p m)
-says-emits p m (Follow q) = Emits_more slave_sorts refl (emits_slave_takes p m)
+says-emits p m Loose = Emits_more follower_sorts refl (emits_slave_takes p m)
+says-emits p m (Follow q) = Emits_more follower_sorts refl (emits_slave_takes p m)
 says-emits p m Candidate = Emits_more candidate_sorts refl (emits_candidate_takes p m)
 says-emits p m Master = Emits_more master_sorts refl (emits_master_takes p m)
 
-peer-emits : {sorts : List Sort} (from : Place) (row : PeerId → Row) → ((p : PeerId) → Emits sorts (row p)) → Emits sorts (from_peer from row)
+pub peer-emits : {sorts : List Sort} (from : Place) (row : PeerId → Row) → ((p : PeerId) → Emits sorts (row p)) → Emits sorts (from_peer from row)
 unfolding from_peer
 peer-emits (Peer p) row k = Emits_either (is_heard p) (row p) nothing (k p) Emits_nothing
 peer-emits Stranger row k = Emits_nothing
@@ -71,18 +72,18 @@ pub emits_says : (from : Place) (m : MessageValue) → Emits silent_trace (from_
 unfolding peer_says
 emits_says from m = peer-emits from (λ p. reading role_at (says_in p m)) (λ p. Emits_reading role_at (says_in p m) (says-emits p m))
 
-replies-in : (p : PeerId) (r : ReplyValue) (role : Role) → Emits silent_trace (replies_in p r role)
+replies-in : (p : PeerId) (r : ReplyValue) (role : Role) → Emits (Sampling ∷ []) (replies_in p r role)
 unfolding replies_in
-replies-in p r Master = Emits_more round_sorts refl (emits_samples p r)
+replies-in p r Master = emits_samples p r
 replies-in p r _ = Emits_nothing
 
 -- a stamp reply
-pub emits_replies_in : (from : Place) (r : ReplyValue) → Emits silent_trace (from_peer from (peer_replies r))
+pub emits_replies_in : (from : Place) (r : ReplyValue) → Emits (Sampling ∷ []) (from_peer from (peer_replies r))
 unfolding peer_replies
 emits_replies_in from r = peer-emits from (λ p. reading role_at (replies_in p r)) (λ p. Emits_reading role_at (replies_in p r) (replies-in p r))
 
 -- the answer to a stamp request
-pub emits_reply : (from : Place) (word counter : ℕ) → Emits silent_trace (replies from word counter)
+pub emits_reply : (from : Place) (word counter : ℕ) → Emits (Posting ∷ []) (replies from word counter)
 unfolding replies posts_reply
 emits_reply from word counter = Emits_either is_in_range (posts_reply from word counter) nothing (record { only = λ x past. (refl, tt) }) Emits_nothing
 
@@ -123,8 +124,8 @@ handles-emits : (steer charge : Bool) (from : Place) (t : Taken) → Emits bootl
 unfolding handles
 handles-emits steer charge from (Bad fault) = Emits_nothing
 handles-emits steer charge from (Good (Message m)) = Emits_either (is_left steer m.kind) nothing (handles_kind charge from m m.kind) Emits_nothing (kind-emits charge from m m.kind)
-handles-emits steer charge from (Good (Stamp (Request word counter))) = Emits_more silent_trace refl (emits_reply from word counter)
-handles-emits steer charge from (Good (Stamp (Reply r))) = Emits_more silent_trace refl (emits_replies_in from r)
+handles-emits steer charge from (Good (Stamp (Request word counter))) = Emits_more (Posting ∷ []) refl (emits_reply from word counter)
+handles-emits steer charge from (Good (Stamp (Reply r))) = Emits_more (Sampling ∷ []) refl (emits_replies_in from r)
 
 -- all that a port does with what it takes
 pub emits_takes : (steer charge : Bool) (from : Place) (t : Taken) → Emits bootless (takes steer charge from t)

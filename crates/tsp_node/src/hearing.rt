@@ -4,9 +4,11 @@ ghost use Rattle.tsp_base.specs.declared.datagram.Datagram.TheVariants.{Message 
 ghost use Rattle.tsp_base.specs.declared.datagram.Taken.TheVariants.{Good};
 ghost use Rattle.tsp_base.specs.declared.stamp.Stamp.TheVariants.{Reply};
 ghost use Rattle.tsp_base.specs.Frames.{IsTick, PutsAtMost};
+ghost use Rattle.tsp_base.specs.History.{Past};
 ghost use Rattle.tsp_base.specs.Performs.{Performs};
 ghost use Rattle.tsp_base.specs.Rows.{either_by, nothing};
 ghost use Rattle.tsp_rules.specs.Answers.{from_peer, is_left, peer_replies, peer_says, handles_kind};
+ghost use Rattle.tsp_slave.specs.Corrections.{TellsCorrection};
 ghost use Rattle.tsp_node.specs.declared.audience.Audience.TheVariants.{OfDates, OfSends};
 ghost use Rattle.tsp_node.specs.NodeStands.{PortStands, PortTook, TakeStands, TookStands, port_with, traced_with};
 
@@ -27,7 +29,7 @@ impl Part {
     ghost use Rattle.tsp_clock.specs.Clocks.{ClockValue};
     ghost use Rattle.tsp_node.specs.Audiences.{audience_of, heard_from};
 
-    /// Handles a message, by who handles its kind.
+    /// Handles a message, by who handles its kind, and says whether that corrected the clock.
     pub(crate) fn hear<D: Desk>(
         &mut self,
         clock: &mut Clock,
@@ -36,7 +38,7 @@ impl Part {
         from: Place,
         m: &Message,
         desk: &mut D,
-    )
+    ) -> bool
         requires room { 2 * length self.old.station.peers + 10 ≤ D.spare desk.old }
         requires tick { IsTick terms.at.tick }
         requires later { clock.old.at ≤ terms.at.tick }
@@ -45,6 +47,10 @@ impl Part {
             (handles_kind terms.charge from m.now m.now.kind)) terms.at.tick terms.at.port
             (traced_with self.old clock.old tracing.old)
             (traced_with self.new clock.new tracing.new) (D.acts desk.old) (D.acts desk.new) }
+        ensures corrects { (past : Past)
+            → TookStands (record { from = from; taken = Good (MessageOf m.now) }) past
+            (traced_with self.old clock.old tracing.old)
+            → TellsCorrection result terms.at.port (D.acts desk.old) (D.acts desk.new) }
         ensures peers { self.new.station.peers ≡ self.old.station.peers }
         ensures clock { clock.new.at ≤ terms.at.tick }
         ensures room { PutsAtMost (2 * length self.old.station.peers + 10) (D.spare desk.old)
@@ -52,15 +58,22 @@ impl Part {
     {
         let At { tick, port } = terms.at;
         match audience_of(m.kind()) {
-            Audience::OfClients => self.answer(tracing, tick, from, m, port, desk),
+            Audience::OfClients => {
+                self.answer(tracing, tick, from, m, port, desk);
+                false
+            }
             Audience::OfDates => self.hear_date(clock, terms.charge, terms.at, from, m, desk),
-            Audience::OfNode => {}
+            Audience::OfNode => false,
             Audience::OfRoles => self.hear_peer(clock, terms, from, m, desk),
-            Audience::OfSends => self.hear_ack(from, m, port, desk),
+            Audience::OfSends => {
+                self.hear_ack(from, m, port, desk);
+                false
+            }
         }
     }
 
-    /// Handles a message that sets the date, passes one on or says that one was set.
+    /// Handles a message that sets the date, passes one on or says that one was set. Says whether the clock was
+    /// set.
     fn hear_date<D: Desk>(
         &mut self,
         clock: &mut Clock,
@@ -69,7 +82,7 @@ impl Part {
         from: Place,
         m: &Message,
         desk: &mut D,
-    )
+    ) -> bool
         requires room { 2 * length self.old.station.peers + 2 ≤ D.spare desk.old }
         requires tick { IsTick at.tick }
         requires later { clock.old.at ≤ at.tick }
@@ -78,6 +91,10 @@ impl Part {
             PortStands (handles_kind charge from m.now m.now.kind) at.tick at.port
             (port_with self.old clock.old) (port_with self.new clock.new) (D.acts desk.old)
             (D.acts desk.new) }
+        ensures corrects { (past : Past)
+            → PortTook (record { from = from; taken = Good (MessageOf m.now) }) past
+            (port_with self.old clock.old)
+            → TellsCorrection result at.port (D.acts desk.old) (D.acts desk.new) }
         ensures peers { self.new.station.peers ≡ self.old.station.peers }
         ensures clock { clock.new.at ≤ at.tick }
         ensures room { PutsAtMost (2 * length self.old.station.peers + 2) (D.spare desk.old)
@@ -100,6 +117,7 @@ impl Part {
         if corrected {
             self.last.moved(tick);
         }
+        corrected
     }
 
     /// Handles an ACK of a peer, in the same way in every role: it ends the send that it answers.

@@ -4,11 +4,13 @@ ghost use Rattle.tsp_base.specs.declared.datagram.Datagram.TheVariants.{Message 
 ghost use Rattle.tsp_base.specs.declared.datagram.Taken.TheVariants.{Good};
 ghost use Rattle.tsp_base.specs.declared.place.Place.TheVariants.{Peer};
 ghost use Rattle.tsp_base.specs.Frames.{IsTick, PutsAtMost};
+ghost use Rattle.tsp_base.specs.History.{Past};
 ghost use Rattle.tsp_base.specs.Performs.{Performs};
 ghost use Rattle.tsp_base.specs.Rows.{either_by, nothing};
 ghost use Rattle.tsp_base.specs.SendFacts.{is_correction};
 ghost use Rattle.tsp_rules.specs.Answers.{from_peer, is_left, peer_says};
 ghost use Rattle.tsp_rules.specs.Guards.{is_follow};
+ghost use Rattle.tsp_slave.specs.Corrections.{TellsCorrection};
 ghost use Rattle.tsp_node.specs.declared.audience.Audience.TheVariants.{OfRoles};
 ghost use Rattle.tsp_node.specs.Audiences.{audience_of};
 ghost use Rattle.tsp_node.specs.NodeStands.{PortStands, PortTook, port_with};
@@ -24,13 +26,14 @@ use tsp_base::role::Role;
 use tsp_candidate::take::candidate_take;
 use tsp_clock::clock::Clock;
 use tsp_slave::quit::take_quit;
-use tsp_slave::take::slave_take;
+use tsp_slave::take::slave_hear;
 
 impl Part {
     ghost use Rattle.std.specs.List.{Contains};
     ghost use Rattle.tsp_rules.specs.CommonRows.{quits};
 
-    /// Handles a message of a peer by the port's role, where the port heeds the peer.
+    /// Handles a message of a peer by the port's role, where the port heeds the peer. Says whether that corrected
+    /// the clock.
     pub(crate) fn hear_peer<D: Desk>(
         &mut self,
         clock: &mut Clock,
@@ -38,7 +41,7 @@ impl Part {
         from: Place,
         m: &Message,
         desk: &mut D,
-    )
+    ) -> bool
         requires room { 2 * length self.old.station.peers + 5 ≤ D.spare desk.old }
         requires tick { IsTick terms.at.tick }
         requires later { clock.old.at ≤ terms.at.tick }
@@ -48,26 +51,35 @@ impl Part {
             (from_peer from (peer_says m.now))) terms.at.tick terms.at.port
             (port_with self.old clock.old) (port_with self.new clock.new) (D.acts desk.old)
             (D.acts desk.new) }
+        ensures corrects { (past : Past)
+            → PortTook (record { from = from; taken = Good (MessageOf m.now) }) past
+            (port_with self.old clock.old)
+            → TellsCorrection result terms.at.port (D.acts desk.old) (D.acts desk.new) }
         ensures peers { self.new.station.peers ≡ self.old.station.peers }
         ensures clock { clock.new.at ≤ terms.at.tick }
         ensures room { PutsAtMost (2 * length self.old.station.peers + 5) (D.spare desk.old)
             (D.spare desk.new) (D.acts desk.old) (D.acts desk.new) }
     {
         let Some(p) = self.heard(from) else {
-            return;
+            return false;
         };
         let At { tick, port } = terms.at;
         match self.station.role {
             Role::Candidate => {
                 let station = &mut self.station;
-                candidate_take(station, &mut self.last, clock, tick, p, m, port, desk)
+                candidate_take(station, &mut self.last, clock, tick, p, m, port, desk);
+                false
             }
-            Role::Master => self.hear_as_master(clock, tick, p, m, port, desk),
+            Role::Master => {
+                self.hear_as_master(clock, tick, p, m, port, desk);
+                false
+            }
             _ => {
-                if !leaves(self.station.role, terms.steer, m.kind()) {
-                    let station = &mut self.station;
-                    slave_take(station, &mut self.last, clock, tick, p, m, port, desk)
+                if leaves(self.station.role, terms.steer, m.kind()) {
+                    return false;
                 }
+                let station = &mut self.station;
+                slave_hear(station, &mut self.last, clock, terms.at, p, m, desk)
             }
         }
     }

@@ -94,12 +94,15 @@ impl Node {
         ensures room { PutsAtMost (2 * length (peers_in self.old) + 17) (D.spare desk.old)
             (D.spare desk.new) (D.acts desk.old) (D.acts desk.new) }
     {
+        // A node's only port steers the clock, and is in charge of the date.
+        let steer = true;
+        let charge = true;
         let clock = &mut self.clock;
         let tracing = &mut self.tracing;
-        if self
-            .part
-            .take(clock, tracing, true, true, tick, from, taken, PORT, desk)
-        {
+        let corrected = self.part.take(
+            clock, tracing, steer, charge, tick, from, taken, PORT, desk,
+        );
+        if corrected {
             self.part.abandon(PORT, desk);
         }
     }
@@ -135,8 +138,12 @@ impl Node {
         ensures room { PutsAtMost (2 * length (peers_in self.old) + 4) (D.spare desk.old)
             (D.spare desk.new) (D.acts desk.old) (D.acts desk.new) }
     {
+        // A node's only port moves the clock by its group's mean, and waits for no other port's round.
+        let group_mean = true;
+        let wait = false;
+        let clock = &mut self.clock;
         let _ = self
             .part
-            .ring(&mut self.clock, alarm, true, false, tick, PORT, desk);
+            .ring(clock, alarm, group_mean, wait, tick, PORT, desk);
     }
 }

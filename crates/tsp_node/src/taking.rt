@@ -22,6 +22,7 @@ impl Part {
     ghost use Rattle.tsp_base.specs.Performs.{Performs};
     ghost use Rattle.tsp_base.specs.Rows.{either_by, nothing};
     ghost use Rattle.tsp_rules.specs.Answers.{takes, handles};
+    ghost use Rattle.tsp_slave.specs.Corrections.{TellsCorrection};
 
     /// Takes what was read of octets from `from`, and says whether that corrected the clock. Where the port
     /// doesn't `steer` its node's clock, it ignores the corrections of the master that it follows; where it
@@ -52,21 +53,17 @@ impl Part {
         ensures room { PutsAtMost (2 * length self.old.station.peers + 16) (D.spare desk.old)
             (D.spare desk.new) (D.acts desk.old) (D.acts desk.new) }
     {
-        let ticket = clock.ticket();
-        // At most 1,000 peers, and so too few acts to correct the clock so often that its ticket is the same again.
-        let _peers = self.station.peers();
         put_taken(from, taken, port, desk);
         let terms = TakeTerms {
             at: At { tick, port },
             steer,
             charge,
         };
-        self.handle(clock, tracing, terms, from, taken, desk);
-        clock.ticket() != ticket
+        self.handle(clock, tracing, terms, from, taken, desk)
     }
 
     /// Ignores what seems to come from the port itself and octets that aren't a datagram, answers a stamp
-    /// request, and handles a message or a stamp reply.
+    /// request, and handles a message or a stamp reply. Says whether that corrected the clock.
     fn handle<D: Desk>(
         &mut self,
         clock: &mut Clock,
@@ -75,7 +72,7 @@ impl Part {
         from: Place,
         taken: &Taken,
         desk: &mut D,
-    )
+    ) -> bool
         requires room { 2 * length self.old.station.peers + 10 ≤ D.spare desk.old }
         requires tick { IsTick terms.at.tick }
         requires later { clock.old.at ≤ terms.at.tick }
@@ -83,25 +80,33 @@ impl Part {
             (either_by (is_own from) nothing (handles terms.steer terms.charge from taken.now))
             terms.at.tick terms.at.port (traced_with self.old clock.old tracing.old)
             (traced_with self.new clock.new tracing.new) (D.acts desk.old) (D.acts desk.new) }
+        ensures corrects { (past : Past)
+            → TookStands (record { from = from; taken = taken.now }) past
+            (traced_with self.old clock.old tracing.old)
+            → TellsCorrection result terms.at.port (D.acts desk.old) (D.acts desk.new) }
         ensures peers { self.new.station.peers ≡ self.old.station.peers }
         ensures clock { clock.new.at ≤ terms.at.tick }
         ensures room { PutsAtMost (2 * length self.old.station.peers + 10) (D.spare desk.old)
             (D.spare desk.new) (D.acts desk.old) (D.acts desk.new) }
     {
         if is_own(from, self.station.me.own) {
-            return;
+            return false;
         }
         let Taken::Good(datagram) = taken else {
-            return;
+            return false;
         };
         let At { tick, port } = terms.at;
         match datagram {
             Datagram::Message(m) => self.hear(clock, tracing, terms, from, m, desk),
             Datagram::Stamp(stamp) => match stamp {
                 Stamp::Request { word, counter } => {
-                    reply(clock, tick, from, *word, *counter, port, desk)
+                    reply(clock, tick, from, *word, *counter, port, desk);
+                    false
                 }
-                Stamp::Reply(_) => self.hear_stamp(clock, tick, from, stamp, port, desk),
+                Stamp::Reply(_) => {
+                    self.hear_stamp(clock, tick, from, stamp, port, desk);
+                    false
+                }
             },
         }
     }

@@ -1,5 +1,6 @@
 -- Which sorts of acts the rows of a port put that is Starting, Loose or follows.
 use Rattle.std.specs.Prelude.{◌≡◌, ℕ, ◌==◌, Bool, true, false, if◌then◌else◌, ℤ, List, [], ◌∷◌, refl}
+use Rattle.std.proofs.Common.{true≢false}
 use Rattle.tsp_base.specs.declared.act.Act.TheVariants.{Become, Back, Quit, Ring, Late, Acked}
 use Rattle.tsp_base.specs.declared.alarm.Alarm.TheVariants.{Quiet, Search, Elect, Window}
 use Rattle.tsp_base.specs.declared.constants.TheConstants.{WINDOW}
@@ -9,6 +10,7 @@ use Rattle.tsp_base.specs.declared.place.PeerId.{PeerId}
 use Rattle.tsp_base.specs.declared.role.Role.{Role}
 use Rattle.tsp_base.specs.declared.role.Role.TheVariants.{Loose, Follow, Candidate}
 use Rattle.tsp_base.specs.Messages.{MessageValue}
+use Rattle.tsp_base.specs.SendFacts.{is_correction}
 use Rattle.tsp_base.specs.Rows.{Row, nothing, puts, ◌followed_by◌, either_by, reading, for_each, arms, posts, posts_to_others}
 use Rattle.tsp_base.specs.Takings.{time_in}
 use Rattle.tsp_rules.specs.ClockRows.{adjusts, sets}
@@ -18,8 +20,13 @@ use Rattle.tsp_rules.specs.SlaveRows.{quiet_rings, rings_or_late, search_rings, 
 use Rattle.tsp_rules.specs.Guards.{role_at, delay_at, ticket_at, is_armed, is_in_time, may_back_at, may_stand_at, follows_at}
 use Rattle.tsp_rules.proofs.Emits.{Sort, Numbering, Posting, Following, Changing, Backing, Alarming, Acking, Moving, is_in, sort_of_kind, Emits, Emits_nothing, Emits_puts, Emits_then, Emits_either, Emits_reading, Emits_each, Emits_arms, Emits_posts, Emits_posts_to_others, Emits_adjusts, Emits_sets, Emits_more}
 
+-- a slave's acts, but for its corrections
 abbrev pub slave_sorts : List Sort
-slave_sorts = Numbering ∷ Posting ∷ Following ∷ Changing ∷ Backing ∷ Alarming ∷ Acking ∷ Moving ∷ []
+slave_sorts = Numbering ∷ Posting ∷ Following ∷ Changing ∷ Backing ∷ Alarming ∷ Acking ∷ []
+
+-- with its corrections
+abbrev pub follower_sorts : List Sort
+follower_sorts = Moving ∷ slave_sorts
 
 -- acts that neither take, follow nor correct
 abbrev pub silent_sorts : List Sort
@@ -114,7 +121,7 @@ election-emits : (p : PeerId) (number : ℕ) → Emits slave_sorts (election_of 
 unfolding election_of
 election-emits p number = Emits_either (may_back_at p) _ _ (Emits_then (puts (Back p)) _ (Emits_puts (Back p) refl) (Emits_then arms_elect (posts p Accept number) emits_elect (Emits_posts p Accept number refl))) (Emits_posts p Refuse number refl)
 
-repeat-emits : (p : PeerId) (number : ℕ) → Emits slave_sorts (acks_repeat p number)
+pub repeat-emits : (p : PeerId) (number : ℕ) → Emits slave_sorts (acks_repeat p number)
 unfolding acks_repeat
 repeat-emits p number = Emits_either (is_repeated p number) (posts p Ack number) nothing (Emits_posts p Ack number refl) Emits_nothing
 
@@ -122,18 +129,18 @@ confirms-emits : (p : PeerId) (number : ℕ) → Emits slave_sorts (confirms p n
 unfolding confirms
 confirms-emits p number = Emits_then arms_elect (posts p Ack number) emits_elect (Emits_posts p Ack number refl)
 
-adjtime-emits : (p : PeerId) (number : ℕ) (amount : ℤ) → Emits slave_sorts (adjtime_of p number amount)
+adjtime-emits : (p : PeerId) (number : ℕ) (amount : ℤ) → Emits follower_sorts (adjtime_of p number amount)
 unfolding adjtime_of
-adjtime-emits p number amount = Emits_either (takes_amount number amount) _ _ (Emits_then (adjusts amount) _ (Emits_adjusts amount refl) (confirms-emits p number)) (repeat-emits p number)
+adjtime-emits p number amount = Emits_either (takes_amount number amount) _ _ (Emits_then (adjusts amount) _ (Emits_adjusts amount refl) (Emits_more slave_sorts refl (confirms-emits p number))) (Emits_more slave_sorts refl (repeat-emits p number))
 
-settime-emits : (p : PeerId) (number : ℕ) (value : ℤ) → Emits slave_sorts (settime_of p number value)
+settime-emits : (p : PeerId) (number : ℕ) (value : ℤ) → Emits follower_sorts (settime_of p number value)
 unfolding settime_of
-settime-emits p number value = Emits_either (takes_value number value) _ _ (Emits_then (sets value) _ (Emits_sets value refl) (confirms-emits p number)) (repeat-emits p number)
+settime-emits p number value = Emits_either (takes_value number value) _ _ (Emits_then (sets value) _ (Emits_sets value refl) (Emits_more slave_sorts refl (confirms-emits p number))) (Emits_more slave_sorts refl (repeat-emits p number))
 
-from-emits : (p : PeerId) (row : Row) (r : Role) → Emits slave_sorts row → Emits slave_sorts (from_master p row r)
+from-emits : (p : PeerId) (row : Row) (r : Role) → Emits follower_sorts row → Emits follower_sorts (from_master p row r)
 unfolding from_master
 from-emits p row (Follow q) e = by_case (q.0 == p.0) where
-  by_case : (b : Bool) → Emits slave_sorts (if b then row else nothing)
+  by_case : (b : Bool) → Emits follower_sorts (if b then row else nothing)
   by_case true = e
   by_case false = Emits_nothing
 from-emits p row _ e = Emits_nothing
@@ -145,17 +152,28 @@ silent_acks p number = Emits_either (has_other p number) (puts (Acked p)) nothin
 pub emits_acks : (p : PeerId) (number : ℕ) → Emits slave_sorts (acknowledges p number)
 emits_acks p number = Emits_more silent_sorts refl (silent_acks p number)
 
-kind-emits : (p : PeerId) (m : MessageValue) (k : Kind) → Emits slave_sorts (slave_takes_kind p m k)
+-- a message that is no correction
+other-emits : (p : PeerId) (m : MessageValue) (k : Kind) → is_correction k ≡ false → Emits slave_sorts (slave_takes_kind p m k)
 unfolding slave_takes_kind
-kind-emits p m MasterUp = Emits_reading role_at (masterup_in p) (masterup-emits p)
-kind-emits p m MasterAck = Emits_reading role_at (masterack_in p) (masterack-emits p)
-kind-emits p m Election = election-emits p m.number
+other-emits p m MasterUp e = Emits_reading role_at (masterup_in p) (masterup-emits p)
+other-emits p m MasterAck e = Emits_reading role_at (masterack_in p) (masterack-emits p)
+other-emits p m Election e = election-emits p m.number
+other-emits p m AdjTime e = absurd (true≢false e)
+other-emits p m SetTime e = absurd (true≢false e)
+other-emits p m QuitKind e = emits_quits p m.number
+other-emits p m Ack e = emits_acks p m.number
+other-emits p m _ e = Emits_nothing
+
+pub emits_slave_other : (p : PeerId) (m : MessageValue) → is_correction m.kind ≡ false → Emits slave_sorts (slave_takes p m)
+unfolding slave_takes
+emits_slave_other p m e = other-emits p m m.kind e
+
+kind-emits : (p : PeerId) (m : MessageValue) (k : Kind) → Emits follower_sorts (slave_takes_kind p m k)
+unfolding slave_takes_kind
 kind-emits p m AdjTime = Emits_reading role_at (from_master p (adjtime_of p m.number (time_in m.body))) (λ r. from-emits p (adjtime_of p m.number (time_in m.body)) r (adjtime-emits p m.number (time_in m.body)))
 kind-emits p m SetTime = Emits_reading role_at (from_master p (settime_of p m.number (time_in m.body))) (λ r. from-emits p (settime_of p m.number (time_in m.body)) r (settime-emits p m.number (time_in m.body)))
-kind-emits p m QuitKind = emits_quits p m.number
-kind-emits p m Ack = emits_acks p m.number
-kind-emits p m _ = Emits_nothing
+kind-emits p m k = Emits_more slave_sorts refl (other-emits p m k refl)
 
-pub emits_slave_takes : (p : PeerId) (m : MessageValue) → Emits slave_sorts (slave_takes p m)
+pub emits_slave_takes : (p : PeerId) (m : MessageValue) → Emits follower_sorts (slave_takes p m)
 unfolding slave_takes
 emits_slave_takes p m = kind-emits p m m.kind

@@ -12,6 +12,7 @@ pub mod EmitsMaster
 pub mod EmitsRounds
 pub mod EmitsSends
 pub mod EmitsSlave
+pub mod EmitsStill
 pub mod EmitsTables
 pub mod FewActs
 mod GatewayScriptAnswered

@@ -3,3 +3,4 @@ pub mod ChangeLemmas
 pub mod RoomLemmas
 pub mod RowCases
 pub mod SlaveLemmas
+pub mod TellLemmas

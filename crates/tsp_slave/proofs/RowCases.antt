@@ -1,6 +1,7 @@
 -- Rows and tests by cases, in the cases that are left.
 use Rattle.std.specs.Prelude.{◌≡◌, ◌≢◌, ◌⊎◌, ◌==◌, ◌&&◌, not, ℕ, Bool, true, false, if◌then◌else◌, [], Option, None, Some, is_some, refl}
 use Rattle.std.proofs.Common.{◌∙◌, ap, sym, inl, inr}
+use Rattle.std.proofs.lemmas.Bool.{false≢true}
 use Rattle.tsp_base.specs.declared.alarm.Alarm.{Alarm}
 use Rattle.tsp_base.specs.declared.alarm.Alarm.TheVariants.{Quiet, Search, Elect}
 use Rattle.tsp_base.specs.declared.kind.Kind.{Kind}
@@ -11,9 +12,9 @@ use Rattle.tsp_base.specs.Alarms.{deadline}
 use Rattle.tsp_base.specs.History.{Past}
 use Rattle.tsp_base.specs.Hold.{may_stand}
 use Rattle.tsp_base.specs.Messages.{MessageValue}
-use Rattle.tsp_base.specs.PortFacts.{held, role}
+use Rattle.tsp_base.specs.PortFacts.{Received, held, role, said}
 use Rattle.tsp_base.specs.Rows.{Row, nothing, reading, either_by, ◌followed_by◌}
-use Rattle.tsp_base.specs.SendFacts.{Sending, is_correction}
+use Rattle.tsp_base.specs.SendFacts.{Sending, correcting_of, is_correction}
 use Rattle.tsp_rules.specs.SendRows.{is_free}
 use Rattle.tsp_rules.specs.CommonRows.{arms_elect, tells_ticket}
 use Rattle.tsp_rules.specs.SlaveRows.{from_master, masterack_in, masterup_in, reports_conflict, slave_takes_kind}
@@ -22,6 +23,7 @@ use Rattle.tsp_sends.specs.Slots.{kind_of, sending_to}
 use Rattle.tsp_acks.specs.declared.station.Station.{Station}
 use Rattle.tsp_acks.specs.Stands.{Stands}
 use Rattle.tsp_slave.specs.ClockChanges.{change_in, correction_of}
+use Rattle.tsp_slave.specs.SlaveStands.{IsCorrection, IsMessage}
 use Rattle.tsp_slave.specs.SlaveAlarms.{slave_rings, is_to_be_candidate}
 
 pub slave_rings-other : (a : Alarm) → a ≢ Quiet → a ≢ Search → a ≢ Elect → slave_rings a ≡ nothing
@@ -45,6 +47,16 @@ may_stand-is x past s h =
 pub is_correction-either : (k : Kind) → (k ≡ AdjTime) ⊎ (k ≡ SetTime) → is_correction k ≡ true
 is_correction-either k (inl e) = rw e refl
 is_correction-either k (inr e) = rw e refl
+
+pub correction-kind : (k : Kind) → is_correction k ≡ true → (k ≡ AdjTime) ⊎ (k ≡ SetTime)
+correction-kind AdjTime e = inl refl
+correction-kind SetTime e = inr refl
+correction-kind _ e = absurd (false≢true e)
+
+-- what such a message is taken as
+pub told_correction : (p : PeerId) (m : MessageValue) (took : Option Received) → (m.kind ≡ AdjTime) ⊎ (m.kind ≡ SetTime) → IsMessage p m took → IsCorrection (Some (record { from = p; number = m.number })) took
+told_correction p m took k e =
+    ap (λ t. correcting_of (said t)) e ∙ ap (λ b. if b then Some (record { from = p; number = m.number }) else None) (is_correction-either m.kind k)
 
 pub slave_takes_kind-correction : (p : PeerId) (m : MessageValue) (k : Kind) → m.kind ≡ k → (k ≡ AdjTime) ⊎ (k ≡ SetTime) →
     slave_takes_kind p m k ≡ reading role_at (from_master p (correction_of p m.number (change_in m)))

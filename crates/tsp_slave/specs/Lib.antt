@@ -1,4 +1,5 @@
 pub mod ClockChanges
+pub mod Corrections
 pub mod Lasts
 pub mod SlaveAlarms
 pub mod SlaveStands

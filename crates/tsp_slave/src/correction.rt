@@ -8,6 +8,7 @@ ghost use Rattle.tsp_rules.specs.SlaveRows.{confirms, acks_repeat, from_master};
 ghost use Rattle.tsp_acks.specs.Calls.{ActsBy, IsSamePort, IsTick, Past, Performs, Received, Stands, Uses, UsesAtMost};
 ghost use Rattle.tsp_clock.specs.Clocks.{ClockValue};
 ghost use Rattle.tsp_slave.specs.ClockChanges.{change_in, fits, correction_of};
+ghost use Rattle.tsp_slave.specs.Corrections.{TellsCorrection};
 ghost use Rattle.tsp_slave.specs.SlaveStands.{ActsOn, IsCorrection, SlaveStands, slave};
 
 use crate::change::Change;
@@ -24,7 +25,7 @@ use tsp_clock::clock::Clock;
 /// Takes a correction, where its sender is the master that is followed. It changes the clock and is
 /// acknowledged where its number is the clock's ticket, the last correction is `GAP` ticks or more ago, and the
 /// clock stays in its range. Else it is acknowledged where it repeats the last one, and passed over where it
-/// doesn't.
+/// doesn't. Says whether it changed the clock.
 pub(crate) fn take_correction<D: Desk>(
     station: &mut Station,
     last: &mut Last,
@@ -33,7 +34,7 @@ pub(crate) fn take_correction<D: Desk>(
     m: &Message,
     at: At,
     desk: &mut D,
-)
+) -> bool
     requires tick { IsTick at.tick }
     requires later { clock.old.at ≤ at.tick }
     requires room { 3 ≤ D.spare desk.old }
@@ -42,12 +43,16 @@ pub(crate) fn take_correction<D: Desk>(
         at.tick at.port
         (slave station.old last.old clock.old) (slave station.new last.new clock.new)
         D.acts desk.old desk.new }
+    ensures corrects { (past : Past) (took : Option Received)
+        → IsCorrection (Some (record { from = from; number = m.now.number })) took
+        → SlaveStands past (slave station.old last.old clock.old took)
+        → TellsCorrection result at.port (D.acts desk.old) (D.acts desk.new) }
     ensures room { UsesAtMost 3 D.spare D.acts desk.old desk.new }
     ensures port { IsSamePort station.old station.new }
     ensures clock { clock.new.at ≤ at.tick }
 {
     if !follows(station, from) {
-        return;
+        return false;
     }
     let number = m.number();
     let correction = Correction { from, number };
@@ -56,8 +61,10 @@ pub(crate) fn take_correction<D: Desk>(
         last.took(at.tick, correction);
         change.make(clock, at, desk);
         confirm(station, at, correction, desk);
+        true
     } else {
         ack_repeat(station, last, at, correction, desk);
+        false
     }
 }
 

@@ -1,10 +1,12 @@
 //! What a port that is Loose or follows does with a message of a peer.
-ghost use Rattle.std.specs.Prelude.{◌≡◌, ℕ, ◌≤◌, if◌then◌else◌, []};
+ghost use Rattle.std.specs.Prelude.{◌≡◌, ℕ, ◌≤◌, false, if◌then◌else◌, [], Option};
 ghost use Rattle.tsp_base.specs.Rows.{reading};
+ghost use Rattle.tsp_base.specs.SendFacts.{is_correction};
 ghost use Rattle.tsp_rules.specs.SlaveRows.{masterack_in, masterup_in, slave_takes};
 ghost use Rattle.tsp_rules.specs.Guards.{role_at};
-ghost use Rattle.tsp_acks.specs.Calls.{Contains, IsTick, Past, Stands, UsesAtMost, IsSamePort};
-ghost use Rattle.tsp_slave.specs.SlaveStands.{ActsOn, IsMessage, slave};
+ghost use Rattle.tsp_acks.specs.Calls.{Contains, IsTick, Past, Received, Stands, UsesAtMost, IsSamePort};
+ghost use Rattle.tsp_slave.specs.Corrections.{TellsCorrection};
+ghost use Rattle.tsp_slave.specs.SlaveStands.{ActsOn, IsMessage, SlaveStands, slave};
 
 use crate::conflict::report_conflict;
 use crate::correction::take_correction;
@@ -30,7 +32,8 @@ use tsp_clock::clock::Clock;
 /// - QUIT: it follows the sender unless it follows a master.
 /// - ACK: it ends the open send that it answers.
 ///
-/// Any other message is passed over. At most five acts.
+/// Any other message is passed over. At most five acts. [`slave_hear`] also says whether the clock was
+/// corrected.
 pub fn slave_take<D: Desk>(
     station: &mut Station,
     last: &mut Last,
@@ -52,8 +55,62 @@ pub fn slave_take<D: Desk>(
     ensures port { IsSamePort station.old station.new }
     ensures clock { clock.new.at ≤ tick }
 {
+    let _ = slave_hear(station, last, clock, At { tick, port }, from, m, desk);
+}
+
+/// Handles a message as [`slave_take`] does, and says whether that corrected the clock.
+pub fn slave_hear<D: Desk>(
+    station: &mut Station,
+    last: &mut Last,
+    clock: &mut Clock,
+    at: At,
+    from: PeerId,
+    m: &Message,
+    desk: &mut D,
+) -> bool
+    requires tick { IsTick at.tick }
+    requires later { clock.old.at ≤ at.tick }
+    requires room { 5 ≤ D.spare desk.old }
+    requires peer { Contains station.old.peers from }
+    ensures row { ActsOn (IsMessage from m.now) (slave_takes from m.now) at.tick at.port
+        (slave station.old last.old clock.old) (slave station.new last.new clock.new)
+        D.acts desk.old desk.new }
+    ensures corrects { (past : Past) (took : Option Received) → IsMessage from m.now took
+        → SlaveStands past (slave station.old last.old clock.old took)
+        → TellsCorrection result at.port (D.acts desk.old) (D.acts desk.new) }
+    ensures room { UsesAtMost 5 D.spare D.acts desk.old desk.new }
+    ensures port { IsSamePort station.old station.new }
+    ensures clock { clock.new.at ≤ at.tick }
+{
+    if m.kind().is_correction() {
+        take_correction(station, last, clock, from, m, at, desk)
+    } else {
+        hear_other(station, last, clock, from, at, m, desk);
+        false
+    }
+}
+
+/// Handles a message that is no correction.
+fn hear_other<D: Desk>(
+    station: &mut Station,
+    last: &mut Last,
+    clock: &Clock,
+    from: PeerId,
+    at: At,
+    m: &Message,
+    desk: &mut D,
+)
+    requires other { is_correction m.now.kind ≡ false }
+    requires peer { Contains station.old.peers from }
+    requires tick { IsTick at.tick }
+    requires room { 5 ≤ D.spare desk.old }
+    ensures row { ActsOn (IsMessage from m.now) (slave_takes from m.now) at.tick at.port
+        (slave station.old last.old clock.now) (slave station.new last.new clock.now)
+        D.acts desk.old desk.new }
+    ensures room { UsesAtMost 5 D.spare D.acts desk.old desk.new }
+    ensures port { IsSamePort station.old station.new }
+{
     let number = m.number();
-    let at = At { tick, port };
     match m.kind() {
         Kind::MasterUp => hear_master(station, last, clock, from, m, at, desk),
         Kind::MasterAck => {
@@ -62,10 +119,9 @@ pub fn slave_take<D: Desk>(
             }
         }
         Kind::Election => vote(station, at, from, number, desk),
-        Kind::AdjTime | Kind::SetTime => take_correction(station, last, clock, from, m, at, desk),
         Kind::Quit => take_quit(station, last, clock, at, from, m, desk),
         Kind::Ack => {
-            let _ = station.acknowledge(from, number, port, desk);
+            let _ = station.acknowledge(from, number, at.port, desk);
         }
         _ => {}
     }

@@ -1,16 +1,19 @@
 -- Of the master that is followed the next correction acts, and any other may be a repeat.
-use Rattle.std.proofs.Common.{◌≡◌, if◌then◌else◌, [], Some, sym, ◌∙◌, ap}
+use Rattle.std.proofs.Common.{◌≡◌, if◌then◌else◌, [], Some, true, refl, sym, ◌∙◌, ap}
 use Rattle.tsp_base.specs.PortFacts.{said}
 use Rattle.tsp_base.specs.Rows.{nothing, reading, ◌followed_by◌}
 use Rattle.tsp_base.specs.SendFacts.{correcting_of}
 use Rattle.tsp_base.proofs.PerformsLemmas.{Performs_nothing, Performs_same, Performs_then, Performs_then_part, Performs_else_part}
 use Rattle.tsp_rules.specs.Guards.{role_at}
 use Rattle.tsp_rules.specs.SlaveRows.{acks_repeat, confirms, from_master}
+use Rattle.tsp_rules.proofs.Emits.{Emits_more}
+use Rattle.tsp_rules.proofs.EmitsSlave.{repeat-emits, slave_sorts}
 use Rattle.tsp_slave.specs.ClockChanges.{change_in, changes_clock, correction_of}
 use Rattle.tsp_slave.proofs.BesideLemmas.{Performs_station}
 use Rattle.tsp_slave.proofs.ChangeLemmas.{acts_at, acts_at-is, correction_of-is}
 use Rattle.tsp_slave.proofs.SlaveLemmas.{AlsoStands_confirms, Performs_changes}
 use Rattle.tsp_slave.proofs.RoomLemmas.{at_most, both, more_room}
+use Rattle.tsp_slave.proofs.TellLemmas.{corrects-change, tells_nothing, tells_row, tells_still}
 use Rattle.tsp_slave.proofs.correction.take_correction.Goals as goal
 
 pub returns-then-not-follows-clause-row : goal.returns-then-not-follows-clause-row
@@ -36,6 +39,22 @@ returns-then-acts_now-clause-row g c took s =
     (rw (correction_of-is from n change) (Performs_then_part (acts_at n change) (acks_repeat from n)
     (λ past h. acts_at-is n change x past c.args.last.now c.args.clock.now h.last h.clock ∙ (sym c.acts_now.ensures ∙ c.if-acts_now.true))
     (Performs_then (Performs_changes change c.args.station.now c.args.last.now _ took _ told c.took.ensures c.make.ensures.row) (Performs_station (AlsoStands_confirms from n) c.confirm.ensures.row))))
+
+pub returns-then-not-follows-clause-corrects : goal.returns-then-not-follows-clause-corrects
+returns-then-not-follows-clause-corrects g c past took s h = tells_nothing c.args.at.port _
+
+pub returns-then-acts_now-clause-corrects : goal.returns-then-acts_now-clause-corrects
+returns-then-acts_now-clause-corrects g c past took s h =
+    let from = c.args.from in
+    let n = c.number-number.result in
+    let change = c.of-change.result in
+    let told : correcting_of (said took) ≡ Some (record { from = from; number = n }) = s ∙ ap (λ k. Some (record { from = from; number = k })) (sym c.number-number.ensures) in
+    tells_row (Performs_then (Performs_changes change c.args.station.now c.args.last.now _ took _ told c.took.ensures c.make.ensures.row) (Performs_station (AlsoStands_confirms from n) c.confirm.ensures.row))
+    past h true (corrects-change change (confirms from n) c.args.at.tick past)
+
+pub returns-else-acts_now-clause-corrects : goal.returns-else-acts_now-clause-corrects
+returns-else-acts_now-clause-corrects g c past took s h =
+    tells_still (Emits_more slave_sorts refl (repeat-emits c.args.from c.number-number.result)) (c.ack_repeat.ensures.row c.args.clock.now took) past h
 
 pub returns-else-acts_now-clause-row : goal.returns-else-acts_now-clause-row
 returns-else-acts_now-clause-row g c took s =

@@ -16,7 +16,7 @@ returns-clause-row g c =
     let taken = c.args.taken.now in
     let there = part_there c.args.self.now q c.index_mut.result.now c.requires.port c.index_mut.ensures.value in
     All_on {W = GatewayStands} {P = TakeStands} {Q = TakeStands} c.index_mut.result.now c.take.new.self (emits_takes true true from taken) (λ past w. other_still from taken c.requires.other c.args.tick (on_port (port_at q) past)) refl (λ past w. w)
-    (λ past w. take_stands q past c.args.self.now c.index_mut.result.now there w) (λ past t. t) (rw c.port_at.ensures at c.take.ensures.row)
+    (λ past w. take_stands q past c.args.self.now c.index_mut.result.now there w) (λ past t. t) (rw c.port_at-port.ensures at c.take.ensures.row)
 
 pub take-requires-clause-room : goal.take-requires-clause-room
 take-requires-clause-room g c = let many = peers_there c.args.self.now.ports.items c.args.q c.index_mut.result.now (part_there c.args.self.now c.args.q c.index_mut.result.now c.requires.port c.index_mut.ensures.value) in omega (arith, many, c.requires.room)
@@ -36,8 +36,8 @@ index_mut-requires g c = let len = places c.args.self.now in omega (arith, len, 
 pub invariant_of-self : goal.invariant_of-self
 invariant_of-self g c = record { some = c.args.self.now.some; few = c.args.self.now.few; memory = c.args.self.now.memory }
 
-pub port_at-requires : goal.port_at-requires
-port_at-requires g c = let few = ports_few c.args.self.now in omega (arith, few, c.requires.port)
+pub port_at-port-requires : goal.port_at-port-requires
+port_at-port-requires g c = let few = ports_few c.args.self.now in omega (arith, few, c.requires.port)
 
 pub take-requires-clause-tick : goal.take-requires-clause-tick
 take-requires-clause-tick g c = c.requires.tick.0

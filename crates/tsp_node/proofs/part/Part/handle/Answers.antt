@@ -1,9 +1,11 @@
 -- Whose it is, and what it is.
-use Rattle.std.proofs.Common.{◌∙◌, arith}
+use Rattle.std.proofs.Common.{◌∙◌, [], ◌∷◌, refl, arith}
 use Rattle.tsp_base.specs.Rows.{nothing}
 use Rattle.tsp_base.proofs.PerformsLemmas.{Performs_else_part, Performs_then_part}
 use Rattle.tsp_rules.specs.Answers.{handles}
 use Rattle.tsp_rules.specs.Guards.{is_own}
+use Rattle.tsp_rules.proofs.Emits.{Emits_more, Posting, Sampling}
+use Rattle.tsp_slave.proofs.TellLemmas.{tells_nothing, tells_still}
 use Rattle.tsp_node.proofs.NodeLemmas.{Performs_took, took_beside, took_pass}
 use Rattle.tsp_node.proofs.TakeEmits.{emits_replies_in, emits_reply}
 use Rattle.tsp_node.proofs.part.Part.handle.Goals as goal
@@ -26,13 +28,28 @@ pub returns-in-Request-clause-row : goal.returns-in-Request-clause-row
 unfolding handles
 returns-in-Request-clause-row g c =
     rw (c.in-Good.is, c.in-Stamp.is, c.in-Request.is) (Performs_else_part (is_own c.args.from) nothing (λ past h. c.is_own.ensures c.args.terms.at.tick past h.port.stands.station.own ∙ c.if-is_own.false)
-    (took_beside c.args.tracing.now (emits_reply c.args.from _ _) (Performs_took (c.reply.ensures.row c.args.self.now))))
+    (took_beside c.args.tracing.now (Emits_more (Posting ∷ []) refl (emits_reply c.args.from _ _)) (Performs_took (c.reply.ensures.row c.args.self.now))))
 
 pub returns-in-Reply-clause-row : goal.returns-in-Reply-clause-row
 unfolding handles
 returns-in-Reply-clause-row g c =
     rw (c.in-Good.is, c.in-Stamp.is, c.in-Reply.is) (Performs_else_part (is_own c.args.from) nothing (λ past h. c.is_own.ensures c.args.terms.at.tick past h.port.stands.station.own ∙ c.if-is_own.false)
-    (took_beside c.args.tracing.now (emits_replies_in c.args.from _) (c.hear_stamp.ensures.row _ _ c.in-Reply.is)))
+    (took_beside c.args.tracing.now (Emits_more (Sampling ∷ []) refl (emits_replies_in c.args.from _)) (c.hear_stamp.ensures.row _ _ c.in-Reply.is)))
+
+pub returns-then-is_own-clause-corrects : goal.returns-then-is_own-clause-corrects
+returns-then-is_own-clause-corrects g c past h = tells_nothing c.args.terms.at.port _
+
+pub returns-in_default-clause-corrects : goal.returns-in_default-clause-corrects
+returns-in_default-clause-corrects g c past h = tells_nothing c.args.terms.at.port _
+
+pub returns-in-Message-clause-corrects : goal.returns-in-Message-clause-corrects
+returns-in-Message-clause-corrects g c = rw (c.in-Good.is, c.in-Message.is) c.hear.ensures.corrects
+
+pub returns-in-Request-clause-corrects : goal.returns-in-Request-clause-corrects
+returns-in-Request-clause-corrects g c past h = tells_still (Emits_more (Posting ∷ []) refl (emits_reply c.args.from _ _)) (c.reply.ensures.row c.args.self.now) past h.port.stands
+
+pub returns-in-Reply-clause-corrects : goal.returns-in-Reply-clause-corrects
+returns-in-Reply-clause-corrects g c past h = tells_still (Emits_more (Sampling ∷ []) refl (emits_replies_in c.args.from _)) (c.hear_stamp.ensures.row _ _ c.in-Reply.is) past h.port
 
 pub hear-requires : goal.hear-requires
 hear-requires g c = record { room = c.requires.room; tick = c.requires.tick; later = c.requires.later }

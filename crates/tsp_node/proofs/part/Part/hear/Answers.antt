@@ -1,14 +1,16 @@
 -- Who handles it. Only what is for the roles can be left.
-use Rattle.std.proofs.Common.{◌≡◌, ◌∙◌, ap, refl, sym, arith}
+use Rattle.std.proofs.Common.{◌≡◌, ◌∙◌, [], ◌∷◌, ap, refl, sym, arith}
 use Rattle.tsp_base.specs.Rows.{nothing}
 use Rattle.tsp_rules.specs.Answers.{is_left}
-use Rattle.tsp_rules.proofs.Emits.{Emits_either, Emits_more, Emits_nothing}
-use Rattle.tsp_rules.proofs.EmitsClients.{date_sorts}
+use Rattle.tsp_rules.proofs.Emits.{Acking, Emits_either, Emits_more, Emits_nothing}
+use Rattle.tsp_rules.proofs.EmitsClients.{client_sorts, date_sorts}
+use Rattle.tsp_slave.proofs.TellLemmas.{tells_nothing, tells_still}
 use Rattle.tsp_node.specs.declared.audience.Audience.TheVariants.{OfClients, OfDates, OfNode, OfRoles, OfSends}
 use Rattle.tsp_node.specs.Audiences.{audience_of}
 use Rattle.tsp_node.specs.NodeStands.{traced_with}
 use Rattle.tsp_node.proofs.HearLemmas.{audience_node, audience_roles, audience_sends, handles_ack, kept_unless, Performs_never_left}
 use Rattle.tsp_node.proofs.NodeLemmas.{took_beside, took_pass}
+use Rattle.tsp_node.proofs.StillTakes.{emits_ack, emits_clients}
 use Rattle.tsp_node.proofs.TakeEmits.{emits_dates, emits_says}
 use Rattle.tsp_node.proofs.part.Part.hear.Goals as goal
 
@@ -41,6 +43,27 @@ returns-in-OfSends-clause-row g c =
     let m = c.args.m.now in
     let audience : audience_of m.kind ≡ OfSends = ap audience_of (sym c.kind.ensures) ∙ (sym c.audience_of.ensures ∙ c.in-OfSends.is) in
     Performs_never_left {after = traced_with c.hear_ack.new.self c.args.clock.now c.args.tracing.now} c.args.terms.steer m.kind (kept_unless m.kind OfSends audience (λ e. let bad : ⊥ = cc in bad)) (rw (handles_ack c.args.terms.charge c.args.from m (audience_sends m.kind audience)) (took_beside c.args.tracing.now (emits_says c.args.from m) (c.hear_ack.ensures.row _ c.args.terms.at.tick c.args.clock.now)))
+
+pub returns-in-OfClients-clause-corrects : goal.returns-in-OfClients-clause-corrects
+returns-in-OfClients-clause-corrects g c past h =
+    let m = c.args.m.now in
+    let audience : audience_of m.kind ≡ OfClients = ap audience_of (sym c.kind.ensures) ∙ (sym c.audience_of.ensures ∙ c.in-OfClients.is) in
+    tells_still (Emits_more client_sorts refl (emits_clients c.args.terms.charge c.args.from m m.kind audience)) (c.answer.ensures.row c.args.terms.charge c.args.clock.now) past h
+
+pub returns-in-OfDates-clause-corrects : goal.returns-in-OfDates-clause-corrects
+returns-in-OfDates-clause-corrects g c past h = c.hear_date.ensures.corrects past h.port
+
+pub returns-in-OfNode-clause-corrects : goal.returns-in-OfNode-clause-corrects
+returns-in-OfNode-clause-corrects g c past h = tells_nothing c.args.terms.at.port _
+
+pub returns-in-OfRoles-clause-corrects : goal.returns-in-OfRoles-clause-corrects
+returns-in-OfRoles-clause-corrects g c past h = c.hear_peer.ensures.corrects past h.port
+
+pub returns-in-OfSends-clause-corrects : goal.returns-in-OfSends-clause-corrects
+returns-in-OfSends-clause-corrects g c past h =
+    let m = c.args.m.now in
+    let audience : audience_of m.kind ≡ OfSends = ap audience_of (sym c.kind.ensures) ∙ (sym c.audience_of.ensures ∙ c.in-OfSends.is) in
+    tells_still (Emits_more (Acking ∷ []) refl (emits_ack c.args.from m (audience_sends m.kind audience))) (c.hear_ack.ensures.row _ c.args.terms.at.tick c.args.clock.now) past h.port
 
 pub answer-requires : goal.answer-requires
 answer-requires g c = record { room = omega (arith, c.requires.room); tick = c.requires.tick; audience = ap audience_of (sym c.kind.ensures) ∙ (sym c.audience_of.ensures ∙ c.in-OfClients.is) }

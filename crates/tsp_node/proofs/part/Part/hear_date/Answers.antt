@@ -1,6 +1,9 @@
 -- A date is handled, and a correction noted.
 use Rattle.std.proofs.Common.{true, false, refl, sym}
+use Rattle.tsp_base.specs.PortFacts.{taken}
 use Rattle.tsp_acks.proofs.FollowLemmas.{followed-Contains}
+use Rattle.tsp_slave.proofs.TellLemmas.{tells_row}
+use Rattle.tsp_node.proofs.StillTakes.{took_dates}
 use Rattle.tsp_node.proofs.NodeLemmas.{Performs_dated}
 use Rattle.tsp_node.proofs.TakeEmits.{emits_dates}
 use Rattle.tsp_node.proofs.PartLemmas.{still_alike}
@@ -20,6 +23,20 @@ returns-else-corrected-clause-row g c =
     let m = c.args.m.now in
     let row = rw c.if-corrected.false at c.date_take-corrected.ensures.row in
     Performs_dated false refl refl (emits_dates c.args.charge c.args.from m m.kind c.requires.audience) (λ took is. row c.args.self.now.last took (sym c.tick.ensures) is)
+
+pub returns-then-corrected-clause-corrects : goal.returns-then-corrected-clause-corrects
+returns-then-corrected-clause-corrects g c past h =
+    let date = c.date_take-corrected.ensures in
+    let last = c.args.self.now.last in
+    let stands = took_dates _ past _ h in
+    tells_row (date.row last (taken past.seen) (sym c.tick.ensures) h.took) past stands c.date_take-corrected.result (date.corrects past last (taken past.seen) (sym c.tick.ensures) stands)
+
+pub returns-else-corrected-clause-corrects : goal.returns-else-corrected-clause-corrects
+returns-else-corrected-clause-corrects g c past h =
+    let date = c.date_take-corrected.ensures in
+    let last = c.args.self.now.last in
+    let stands = took_dates _ past _ h in
+    tells_row (date.row last (taken past.seen) (sym c.tick.ensures) h.took) past stands c.date_take-corrected.result (date.corrects past last (taken past.seen) (sym c.tick.ensures) stands)
 
 pub invariant_of-self : goal.invariant_of-self
 invariant_of-self g c = still_alike c.args.self.now c.date_take-corrected.ensures.slaves refl c.date_take-corrected.ensures.peers c.date_take-corrected.ensures.port.peers

@@ -1,6 +1,7 @@
 -- Who is heard is handled by the role.
 use Rattle.std.proofs.Common.{◌≡◌, ◌∷◌, ◌∙◌, true, false, refl, sym, ap, arith}
 use Rattle.tsp_base.specs.declared.role.Role.TheVariants.{Candidate, Master}
+use Rattle.tsp_base.specs.PortFacts.{taken}
 use Rattle.tsp_base.specs.Rows.{nothing}
 use Rattle.tsp_rules.specs.Answers.{from_peer, is_left, peer_says, says_in}
 use Rattle.tsp_rules.specs.CandidateRows.{candidate_takes}
@@ -14,6 +15,9 @@ use Rattle.tsp_resolve.proofs.ResolveLemmas.{ResolveStands_idle, rivalless}
 use Rattle.tsp_node.specs.NodeStands.{PortValue, port_with}
 use Rattle.tsp_node.proofs.EmitsRoles.{calm_sorts, emits_answers, emits_slave, role_sorts}
 use Rattle.tsp_node.proofs.HearLemmas.{candidate_keeps, heard_awake, heard_peer, is_from, is_hearing, leaves_by, leaves_none, Performs_by_role, Performs_either_way, Performs_heard_at, Performs_kept, Performs_left, Performs_role, Performs_unheard, roles_date, roles_other, says_slave}
+use Rattle.tsp_rules.proofs.EmitsMaster.{emits_master_takes, master_sorts}
+use Rattle.tsp_slave.proofs.TellLemmas.{tells_nothing, tells_still}
+use Rattle.tsp_node.proofs.StillTakes.{took_of, took_slave}
 use Rattle.tsp_node.proofs.NodeLemmas.{Performs_heard, Performs_pass, no_lead}
 use Rattle.tsp_node.proofs.PartLemmas.{still_alike}
 use Rattle.tsp_node.proofs.part.Part.hear_peer.Goals as goal
@@ -30,8 +34,8 @@ candidate_take-requires-clause-peer g c = heard_peer c.args.self.now.station c.a
 pub hear_as_master-requires-clause-peer : goal.hear_as_master-requires-clause-peer
 hear_as_master-requires-clause-peer g c = heard_peer c.args.self.now.station c.args.from c.in-Some.p (sym c.in-Some.ensures)
 
-pub slave_take-requires-clause-peer : goal.slave_take-requires-clause-peer
-slave_take-requires-clause-peer g c = heard_peer c.args.self.now.station c.args.from c.in-Some.p (sym c.in-Some.ensures)
+pub slave_hear-requires-clause-peer : goal.slave_hear-requires-clause-peer
+slave_hear-requires-clause-peer g c = heard_peer c.args.self.now.station c.args.from c.in-Some.p (sym c.in-Some.ensures)
 
 pub returns-in-Candidate-clause-row : goal.returns-in-Candidate-clause-row
 unfolding peer_says says_in
@@ -63,9 +67,9 @@ returns-in-Master-clause-row g c =
     rw (is_from st from p heard) (Performs_kept {after = after} c.args.terms.steer m.kind (leaves_none c.args.terms.steer m.kind st.role (ap is_follow c.in-Master.is)) (Performs_heard_at {after = after} p (peer_says m) (is_hearing st from p heard)
     (Performs_by_role {after = after} (says_in p m) (Performs_role {after = after} p m st.role Master c.in-Master.is c.hear_as_master.ensures.row))))
 
-pub returns-then-not-leaves-clause-row : goal.returns-then-not-leaves-clause-row
+pub returns-else-leaves-clause-row : goal.returns-else-leaves-clause-row
 unfolding peer_says
-returns-then-not-leaves-clause-row g c =
+returns-else-leaves-clause-row g c =
     let x = c.args.terms.at.tick in
     let from = c.args.from in
     let m = c.args.m.now in
@@ -74,19 +78,46 @@ returns-then-not-leaves-clause-row g c =
     let heard = sym c.in-Some.ensures in
     let other = c.in_default-role in
     let emits = emits_slave p m (roles_other m.kind c.requires.audience) in
-    let after : PortValue = record (port_with c.args.self.now c.slave_take.new.clock) { station = c.slave_take.new.station; last = c.slave_take.new.last } in
-    let left : leaves_by c.args.terms.steer m.kind st.role ≡ false = ap (λ k. leaves_by c.args.terms.steer k st.role) (sym c.kind.ensures) ∙ (sym c.leaves.ensures ∙ c.if-not-leaves.true) in
+    let after : PortValue = record (port_with c.args.self.now c.slave_hear.new.clock) { station = c.slave_hear.new.station; last = c.slave_hear.new.last } in
+    let left : leaves_by c.args.terms.steer m.kind st.role ≡ false = ap (λ k. leaves_by c.args.terms.steer k st.role) (sym c.kind.ensures) ∙ (sym c.leaves.ensures ∙ c.if-leaves.false) in
     rw (is_from st from p heard) (Performs_kept {after = after} c.args.terms.steer m.kind left (Performs_heard_at {after = after} p (peer_says m) (is_hearing st from p heard)
     (Performs_by_role {after = after} (says_in p m) (rw (says_slave p m st.role (heard_awake st from p heard) other.not-Candidate other.not-Master) (Performs_heard {after = after} refl (DatesAside_slave_takes p m) (roles_date m.kind c.requires.audience)
     (λ past h s. MasterStands_idle (slave_takes p m) (Emits_more role_sorts refl emits) x past c.args.self.now.master (λ e. other.not-Master (h.station.role ∙ e)) h.master)
     (λ past h s. ResolveStands_idle x past (slave_takes p m x past) c.args.self.now.resolve ((Emits_more role_sorts {all = rivalless} refl emits).only x past) (λ e. other.not-Master (h.station.role ∙ e)) h.resolve)
-    c.slave_take.ensures.row)))))
+    c.slave_hear.ensures.row)))))
 
-pub returns-else-not-leaves-clause-row : goal.returns-else-not-leaves-clause-row
-returns-else-not-leaves-clause-row g c =
+pub returns-then-leaves-clause-row : goal.returns-then-leaves-clause-row
+returns-then-leaves-clause-row g c =
     let m = c.args.m.now in
-    let left : leaves_by c.args.terms.steer m.kind c.args.self.now.station.role ≡ true = ap (λ k. leaves_by c.args.terms.steer k c.args.self.now.station.role) (sym c.kind.ensures) ∙ (sym c.leaves.ensures ∙ c.if-not-leaves.false) in
+    let left : leaves_by c.args.terms.steer m.kind c.args.self.now.station.role ≡ true = ap (λ k. leaves_by c.args.terms.steer k c.args.self.now.station.role) (sym c.kind.ensures) ∙ (sym c.leaves.ensures ∙ c.if-leaves.true) in
     Performs_left c.args.terms.steer m.kind (from_peer c.args.from (peer_says m)) left
+
+pub returns-in_default-clause-corrects : goal.returns-in_default-clause-corrects
+returns-in_default-clause-corrects g c past h = tells_nothing c.args.terms.at.port _
+
+pub returns-in-Candidate-clause-corrects : goal.returns-in-Candidate-clause-corrects
+returns-in-Candidate-clause-corrects g c past h =
+    let p = c.in-Some.p in
+    let m = c.args.m.now in
+    let from = is_from c.args.self.now.station c.args.from p (sym c.in-Some.ensures) in
+    tells_still (Emits_more (Acking ∷ Counting ∷ calm_sorts) refl (emits_answers p m)) (c.candidate_take.ensures.row (taken past.seen) (took_of c.args.from p m past _ from h)) past (took_slave _ past _ h)
+
+pub returns-in-Master-clause-corrects : goal.returns-in-Master-clause-corrects
+returns-in-Master-clause-corrects g c past h =
+    let p = c.in-Some.p in
+    let m = c.args.m.now in
+    let from = is_from c.args.self.now.station c.args.from p (sym c.in-Some.ensures) in
+    tells_still (Emits_more master_sorts refl (emits_master_takes p m)) c.hear_as_master.ensures.row past (record { stands = h.stands; took = took_of c.args.from p m past _ from h })
+
+pub returns-then-leaves-clause-corrects : goal.returns-then-leaves-clause-corrects
+returns-then-leaves-clause-corrects g c past h = tells_nothing c.args.terms.at.port _
+
+pub returns-else-leaves-clause-corrects : goal.returns-else-leaves-clause-corrects
+returns-else-leaves-clause-corrects g c past h =
+    let p = c.in-Some.p in
+    let m = c.args.m.now in
+    let from = is_from c.args.self.now.station c.args.from p (sym c.in-Some.ensures) in
+    c.slave_hear.ensures.corrects past (taken past.seen) (took_of c.args.from p m past _ from h) (took_slave _ past _ h)
 
 pub candidate_take-requires-clause-room : goal.candidate_take-requires-clause-room
 candidate_take-requires-clause-room g c = omega (arith, c.requires.room)
@@ -94,11 +125,11 @@ candidate_take-requires-clause-room g c = omega (arith, c.requires.room)
 pub candidate_take-requires-clause-tick : goal.candidate_take-requires-clause-tick
 candidate_take-requires-clause-tick g c = c.requires.tick
 
-pub slave_take-requires-clause-room : goal.slave_take-requires-clause-room
-slave_take-requires-clause-room g c = omega (arith, c.requires.room)
+pub slave_hear-requires-clause-room : goal.slave_hear-requires-clause-room
+slave_hear-requires-clause-room g c = omega (arith, c.requires.room)
 
-pub slave_take-requires-clause-tick : goal.slave_take-requires-clause-tick
-slave_take-requires-clause-tick g c = c.requires.tick
+pub slave_hear-requires-clause-tick : goal.slave_hear-requires-clause-tick
+slave_hear-requires-clause-tick g c = c.requires.tick
 
 pub hear_as_master-requires-clause-room : goal.hear_as_master-requires-clause-room
 hear_as_master-requires-clause-room g c = c.requires.room
@@ -106,8 +137,8 @@ hear_as_master-requires-clause-room g c = c.requires.room
 pub hear_as_master-requires-clause-tick : goal.hear_as_master-requires-clause-tick
 hear_as_master-requires-clause-tick g c = c.requires.tick
 
-pub slave_take-requires-clause-later : goal.slave_take-requires-clause-later
-slave_take-requires-clause-later g c = c.requires.later
+pub slave_hear-requires-clause-later : goal.slave_hear-requires-clause-later
+slave_hear-requires-clause-later g c = c.requires.later
 
 pub hear_as_master-requires-clause-later : goal.hear_as_master-requires-clause-later
 hear_as_master-requires-clause-later g c = c.requires.later
@@ -121,14 +152,14 @@ hear_as_master-requires-clause-role g c = c.in-Master.is
 pub returns-in_default-clause-room : goal.returns-in_default-clause-room
 returns-in_default-clause-room g c = record { spare = omega arith; few = omega arith }
 
-pub returns-else-not-leaves-clause-room : goal.returns-else-not-leaves-clause-room
-returns-else-not-leaves-clause-room g c = record { spare = omega arith; few = omega arith }
+pub returns-then-leaves-clause-room : goal.returns-then-leaves-clause-room
+returns-then-leaves-clause-room g c = record { spare = omega arith; few = omega arith }
 
 pub returns-in-Candidate-clause-room : goal.returns-in-Candidate-clause-room
 returns-in-Candidate-clause-room g c = let room = c.candidate_take.ensures.room in record { spare = omega (arith, room.spare); few = omega (arith, room.few) }
 
-pub returns-then-not-leaves-clause-room : goal.returns-then-not-leaves-clause-room
-returns-then-not-leaves-clause-room g c = let room = c.slave_take.ensures.room in record { spare = omega (arith, room.spare); few = omega (arith, room.few) }
+pub returns-else-leaves-clause-room : goal.returns-else-leaves-clause-room
+returns-else-leaves-clause-room g c = let room = c.slave_hear.ensures.room in record { spare = omega (arith, room.spare); few = omega (arith, room.few) }
 
 pub returns-in-Master-clause-room : goal.returns-in-Master-clause-room
 returns-in-Master-clause-room g c = c.hear_as_master.ensures.room
@@ -136,5 +167,5 @@ returns-in-Master-clause-room g c = c.hear_as_master.ensures.room
 pub invariant_of-self : goal.invariant_of-self
 invariant_of-self g c = still_alike c.args.self.now refl refl refl c.candidate_take.ensures.port.peers
 
-pub invariant_of-self-then-not-leaves : goal.invariant_of-self-then-not-leaves
-invariant_of-self-then-not-leaves g c = still_alike c.args.self.now refl refl refl c.slave_take.ensures.port.peers
+pub invariant_of-self-in_default-role : goal.invariant_of-self-in_default-role
+invariant_of-self-in_default-role g c = still_alike c.args.self.now refl refl refl c.slave_hear.ensures.port.peers

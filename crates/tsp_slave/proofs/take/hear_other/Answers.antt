@@ -1,18 +1,17 @@
 -- Each kind has its row.
-use Rattle.std.proofs.Common.{◌≡◌, ◌⊎◌, if◌then◌else◌, [], Some, None, sym, ◌∙◌, ap, refl}
-use Rattle.tsp_base.specs.declared.kind.Kind.TheVariants.{AdjTime, Ack, MasterAck, SetTime, MasterUp, Election, Quit}
-use Rattle.tsp_base.specs.PortFacts.{said, name_in}
-use Rattle.tsp_base.specs.SendFacts.{correcting_of}
+use Rattle.std.proofs.Common.{◌≡◌, if◌then◌else◌, [], false, true≢false, sym, ◌∙◌, ap}
+use Rattle.tsp_base.specs.declared.kind.Kind.TheVariants.{Ack, MasterAck, MasterUp, Election, Quit}
+use Rattle.tsp_base.specs.PortFacts.{name_in}
+use Rattle.tsp_base.specs.SendFacts.{is_correction}
 use Rattle.tsp_base.specs.Rows.{nothing, reading}
 use Rattle.tsp_base.proofs.PerformsLemmas.{Performs_nothing, Performs_same}
 use Rattle.tsp_rules.specs.SlaveRows.{masterack_in, masterup_in, slave_takes, slave_takes_kind}
 use Rattle.tsp_rules.specs.Guards.{role_at}
 use Rattle.tsp_rules.proofs.RowsOther.{slave_takes_kind-other}
 use Rattle.tsp_slave.proofs.BesideLemmas.{Performs_station}
-use Rattle.tsp_slave.proofs.RowCases.{is_correction-either, slave_takes_kind-correction}
 use Rattle.tsp_slave.proofs.SlaveLemmas.{AlsoStands_election_of, AlsoStands_acknowledges}
 use Rattle.tsp_slave.proofs.RoomLemmas.{at_most_once, more_room}
-use Rattle.tsp_slave.proofs.take.slave_take.Goals as goal
+use Rattle.tsp_slave.proofs.take.hear_other.Goals as goal
 
 pub returns-in-MasterUp-clause-row : goal.returns-in-MasterUp-clause-row
 unfolding slave_takes slave_takes_kind
@@ -26,7 +25,7 @@ returns-then-heeds_masterack-clause-row g c took e =
     let k : c.args.m.now.kind ≡ MasterAck = sym c.kind.ensures ∙ c.in-MasterAck.is in
     let row = reading role_at (masterup_in c.args.from) in
     rw k (Performs_same (reading role_at (masterack_in c.args.from))
-    (λ past h. sym (c.heeds_masterack.ensures c.args.tick past h.station ∙ ap (λ b. if b then row c.args.tick past else []) c.if-heeds_masterack.true)) (c.hear_master-then-heeds_masterack.ensures.row took e))
+    (λ past h. sym (c.heeds_masterack.ensures c.args.at.tick past h.station ∙ ap (λ b. if b then row c.args.at.tick past else []) c.if-heeds_masterack.true)) (c.hear_master-then-heeds_masterack.ensures.row took e))
 
 pub returns-else-heeds_masterack-clause-row : goal.returns-else-heeds_masterack-clause-row
 unfolding slave_takes slave_takes_kind nothing
@@ -34,7 +33,7 @@ returns-else-heeds_masterack-clause-row g c took e =
     let k : c.args.m.now.kind ≡ MasterAck = sym c.kind.ensures ∙ c.in-MasterAck.is in
     let row = reading role_at (masterup_in c.args.from) in
     rw k (Performs_same (reading role_at (masterack_in c.args.from))
-    (λ past h. sym (c.heeds_masterack.ensures c.args.tick past h.station ∙ ap (λ b. if b then row c.args.tick past else []) c.if-heeds_masterack.false)) Performs_nothing)
+    (λ past h. sym (c.heeds_masterack.ensures c.args.at.tick past h.station ∙ ap (λ b. if b then row c.args.at.tick past else []) c.if-heeds_masterack.false)) Performs_nothing)
 
 pub returns-in-Election-clause-row : goal.returns-in-Election-clause-row
 unfolding slave_takes slave_takes_kind
@@ -58,25 +57,18 @@ returns-in-Ack-clause-row g c took e =
     let m = c.args.m.now in
     let k : m.kind ≡ Ack = sym c.kind.ensures ∙ c.in-Ack.is in
     let n : c.number-number.result ≡ m.number = c.number-number.ensures in
-    let d = c.acknowledge.ensures.row c.args.tick in
+    let d = c.acknowledge.ensures.row c.args.at.tick in
     rw k (Performs_station (AlsoStands_acknowledges c.args.from m.number) (rw n at d))
-
-pub returns-in-AdjTime-clause-row : goal.returns-in-AdjTime-clause-row
-unfolding slave_takes
-returns-in-AdjTime-clause-row g c took e =
-    let m = c.args.m.now in
-    let k : (m.kind ≡ AdjTime) ⊎ (m.kind ≡ SetTime) = rw c.kind.ensures at c.in-AdjTime.is in
-    rw (slave_takes_kind-correction c.args.from m m.kind refl k)
-    (c.take_correction.ensures.row took (ap (λ t. correcting_of (said t)) e ∙ ap (λ b. if b then Some (record { from = c.args.from; number = m.number }) else None) (is_correction-either m.kind k)))
 
 pub returns-in_default-clause-row : goal.returns-in_default-clause-row
 unfolding slave_takes
 returns-in_default-clause-row g c took e =
     let m = c.args.m.now in
     let o = c.in_default in
+    let other : is_correction c.kind.result ≡ false = ap is_correction c.kind.ensures ∙ c.requires.other in
     let k : slave_takes_kind c.args.from m m.kind ≡ nothing =
     ap (slave_takes_kind c.args.from m) (sym c.kind.ensures)
-    ∙ slave_takes_kind-other c.args.from m c.kind.result o.not-MasterUp o.not-MasterAck o.not-Election o.not-AdjTime o.not-SetTime o.not-Quit o.not-Ack in
+    ∙ slave_takes_kind-other c.args.from m c.kind.result o.not-MasterUp o.not-MasterAck o.not-Election (λ e. true≢false (sym (ap is_correction e) ∙ other)) (λ e. true≢false (sym (ap is_correction e) ∙ other)) o.not-Quit o.not-Ack in
     rw k Performs_nothing
 
 pub returns-in-MasterUp-clause-room : goal.returns-in-MasterUp-clause-room
@@ -87,9 +79,6 @@ returns-then-heeds_masterack-clause-room g c = more_room 3 2 c.hear_master-then-
 
 pub returns-in-Election-clause-room : goal.returns-in-Election-clause-room
 returns-in-Election-clause-room g c = more_room 3 2 c.vote.ensures.room
-
-pub returns-in-AdjTime-clause-room : goal.returns-in-AdjTime-clause-room
-returns-in-AdjTime-clause-room g c = more_room 3 2 c.take_correction.ensures.room
 
 pub returns-in-Ack-clause-room : goal.returns-in-Ack-clause-room
 returns-in-Ack-clause-room g c = at_most_once c.acknowledge.result 4 c.acknowledge.ensures.room

@@ -1,0 +1,26 @@
+-- Acts that don't correct the clock.
+use Rattle.std.specs.Prelude.{◌≡◌, ◌||◌, ℕ, true, false, List, [], ◌∷◌, refl}
+use Rattle.std.proofs.Common.{ap, ◌∙◌}
+use Rattle.std.proofs.lemmas.Bool.{false≢true}
+use Rattle.tsp_base.specs.declared.act.Act.{Act}
+use Rattle.tsp_base.specs.declared.act.Act.TheVariants.{Correct}
+use Rattle.tsp_base.specs.History.{Past}
+use Rattle.tsp_base.specs.Rows.{Row}
+use Rattle.tsp_rules.specs.RoundRows.{corrects, is_correct}
+use Rattle.tsp_rules.proofs.Emits.{Sort, Acking, Alarming, Asking, Backing, Changing, Closing, Correcting, Counting, Following, Giving, Leading, Numbering, Posting, Rivalling, Rounding, Sampling, Tabling, Taking, Tracing, AllOf, Emits, is_in, sort_of}
+
+-- all sorts but Boot and Correct
+abbrev pub still_sorts : List Sort
+still_sorts = Taking ∷ Asking ∷ Correcting ∷ Numbering ∷ Posting ∷ Leading ∷ Following ∷ Changing ∷ Backing ∷ Counting ∷ Rounding ∷ Alarming ∷ Tabling ∷ Rivalling ∷ Acking ∷ Giving ∷ Sampling ∷ Closing ∷ Tracing ∷ []
+
+-- acts without a Correct
+pub corrects-none : (acts : List Act) → AllOf still_sorts acts → corrects acts ≡ false
+corrects-none [] h = refl
+corrects-none (a ∷ acts) h = ap (λ b. b || corrects acts) (by_act a h.0) ∙ corrects-none acts h.1 where
+  by_act : (k : Act) → is_in (sort_of k) still_sorts ≡ true → is_correct k ≡ false
+  by_act (Correct amount stepped shown) e = absurd (false≢true e)
+  by_act _ e = refl
+
+-- a row of such acts
+pub row_corrects-none : {row : Row} → Emits still_sorts row → (x : ℕ) (past : Past) → corrects (row x past) ≡ false
+row_corrects-none {row} e x past = corrects-none (row x past) (e.only x past)

@@ -1,0 +1,36 @@
+-- A correction, or another message.
+use Rattle.std.proofs.Common.{◌≡◌, ◌⊎◌, sym, ◌∙◌, ap, false, refl}
+use Rattle.tsp_base.specs.declared.kind.Kind.TheVariants.{AdjTime, SetTime}
+use Rattle.tsp_base.specs.SendFacts.{is_correction}
+use Rattle.tsp_rules.proofs.Emits.{Emits_more}
+use Rattle.tsp_rules.proofs.EmitsSlave.{emits_slave_other, slave_sorts}
+use Rattle.tsp_rules.specs.SlaveRows.{slave_takes}
+use Rattle.tsp_slave.proofs.RowCases.{correction-kind, slave_takes_kind-correction, told_correction}
+use Rattle.tsp_slave.proofs.RoomLemmas.{more_room}
+use Rattle.tsp_slave.proofs.TellLemmas.{tells_still}
+use Rattle.tsp_slave.proofs.take.slave_hear.Goals as goal
+
+pub returns-then-is_correction-clause-row : goal.returns-then-is_correction-clause-row
+unfolding slave_takes
+returns-then-is_correction-clause-row g c took e =
+    let m = c.args.m.now in
+    let k : (m.kind ≡ AdjTime) ⊎ (m.kind ≡ SetTime) = correction-kind m.kind (ap is_correction (sym c.kind.ensures) ∙ (sym c.is_correction.ensures ∙ c.if-is_correction.true)) in
+    rw (slave_takes_kind-correction c.args.from m m.kind refl k) (c.take_correction.ensures.row took (told_correction c.args.from m took k e))
+
+pub returns-then-is_correction-clause-corrects : goal.returns-then-is_correction-clause-corrects
+returns-then-is_correction-clause-corrects g c past took e h =
+    let m = c.args.m.now in
+    let k : (m.kind ≡ AdjTime) ⊎ (m.kind ≡ SetTime) = correction-kind m.kind (ap is_correction (sym c.kind.ensures) ∙ (sym c.is_correction.ensures ∙ c.if-is_correction.true)) in
+    c.take_correction.ensures.corrects past took (told_correction c.args.from m took k e) h
+
+pub returns-else-is_correction-clause-corrects : goal.returns-else-is_correction-clause-corrects
+returns-else-is_correction-clause-corrects g c past took e h =
+    let m = c.args.m.now in
+    let other : is_correction m.kind ≡ false = ap is_correction (sym c.kind.ensures) ∙ (sym c.is_correction.ensures ∙ c.if-is_correction.false) in
+    tells_still (Emits_more slave_sorts refl (emits_slave_other c.args.from m other)) (c.hear_other.ensures.row took e) past h
+
+pub hear_other-requires-clause-other : goal.hear_other-requires-clause-other
+hear_other-requires-clause-other g c = ap is_correction (sym c.kind.ensures) ∙ (sym c.is_correction.ensures ∙ c.if-is_correction.false)
+
+pub returns-then-is_correction-clause-room : goal.returns-then-is_correction-clause-room
+returns-then-is_correction-clause-room g c = more_room 3 2 c.take_correction.ensures.room

@@ -1,0 +1,11 @@
+-- Whether a call has corrected the clock.
+use Rattle.std.specs.Prelude.{◌≡◌, Bool, List, ◌++◌}
+use Rattle.tsp_base.specs.declared.act.Act.{Act}
+use Rattle.tsp_base.specs.declared.act.Placed.{Placed}
+use Rattle.tsp_base.specs.declared.place.Port.{Port}
+use Rattle.tsp_base.specs.Rows.{placed}
+use Rattle.tsp_rules.specs.RoundRows.{corrects}
+
+-- this says whether one of the acts that a call has put on the desk corrects the clock
+abbrev pub TellsCorrection : Bool → Port → List Placed → List Placed → Type 0
+TellsCorrection corrected port old new = (acts : List Act) → new ≡ old ++ placed port acts → corrected ≡ corrects acts
