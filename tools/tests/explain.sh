@@ -3,7 +3,18 @@
 . "$(dirname "$0")/common.sh"
 serving_program
 unset TSP_PROGRAM TSP_HOSTS TSP_SELF TSP_TURNS TSP_WAIT TSP_TRACE TSP_SPREAD
-explain=tools/tsp_daemon/explain.py
+
+# Puts a program in the place of the proved one, in a small repository with the same scripts: $out/stand/tsp runs it.
+stand_in() {
+    mkdir -p "$out/stand/crates/tsp_cli/src" "$out/stand/crates/tsp_cli/out"
+    cp tsp "$out/stand/tsp"
+    [ -e "$out/stand/tools" ] || ln -s "$PWD/tools" "$out/stand/tools"
+    echo 'tsp_cli:' >"$out/stand/crates.txt"
+    cp "$1" "$out/stand/crates/tsp_cli/out/tsp_cli"
+    mkdir -p "$out/stand/out"
+    echo 'crates.txt crates/tsp_cli/out/tsp_cli' >"$out/stand/out/tsp_cli.folders"
+    (cd "$out/stand" && find crates.txt crates/tsp_cli/out/tsp_cli -printf '%p %s %C@ %T@\n') >"$out/stand/out/tsp_cli.listing"
+}
 
 # Wants this status, and this behind the program's line on standard error, or an empty standard error with status 0.
 ends() {
@@ -64,14 +75,16 @@ ends 5 "tsp: nothing could be sent to 255.255.255.255:9: $reason" ./tsp msite 25
 printf '#!/bin/sh\n[ "$1" = serve ] || exit 0\necho "[WARN ] ended with status 5" >&2\nexit 5\n' >"$out/failing"
 printf '#!/bin/sh\necho "$$" >"%s"\nexec sleep 60\n' "$out/child" >"$out/lasting"
 chmod +x "$out/failing" "$out/lasting"
-ends 5 "tsp: the socket failed while receiving on 127.0.0.1:$port, which can be bound" python3 "$explain" "$out/failing" serve "127.0.0.1:$port" a s 1
+stand_in "$out/failing"
+ends 5 "tsp: the socket failed while receiving on 127.0.0.1:$port, which can be bound" "$out/stand/tsp" serve "127.0.0.1:$port" a s 1
 
 # A signal ends the program too, and no program outlives what started it. (SIGHUP stays ignored where it is, as under nohup)
 hangup=1
 python3 -c 'import signal, sys; sys.exit(signal.getsignal(signal.SIGHUP) == signal.SIG_IGN)' || hangup=''
+stand_in "$out/lasting"
 for signal in 15 $hangup 9; do
     rm -f "$out/child"
-    python3 "$explain" "$out/lasting" serve "127.0.0.1:$port" a s 1 2>"$out/told" &
+    "$out/stand/tsp" serve "127.0.0.1:$port" a s 1 2>"$out/told" &
     note_process
     process=$!
     until [ -s "$out/child" ]; do sleep 0.1; done
@@ -95,7 +108,7 @@ ends 5 "tsp-launch: 192.0.2.1:525 can't be bound: Cannot assign requested addres
 
 # Without python3 the program runs all the same.
 mkdir "$out/without"
-for each in awk cat cksum cut date find readlink sed sh sort xargs; do
+for each in cat cmp find readlink sed sh; do
     ln -s "$(command -v "$each")" "$out/without/$each"
 done
 ends 1 '' env PATH="$out/without" ./tsp nosuch

@@ -1,0 +1,1 @@
+"""What proves and builds the program for ./tsp, and says how far that is."""

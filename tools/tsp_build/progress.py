@@ -1,0 +1,59 @@
+"""The line that says how far a build is: once in ten seconds, on a terminal in the place of the one before."""
+import sys
+import time
+
+EVERY = 10
+WIDTH = 78
+
+
+def say(text):
+    print(f'tsp: {text}', file=sys.stderr, flush=True)
+
+
+def in_words(seconds):
+    seconds = int(seconds)
+    return f'{seconds} s' if seconds < 60 else f'{seconds // 60} min {seconds % 60:02} s'
+
+
+class Progress:
+    """What is said of a build while it goes on."""
+
+    def __init__(self, forecast, total):
+        self.forecast, self.total = forecast, total
+        self.began, self.since = time.monotonic(), {}
+        self.next, self.shown, self.said = 0.0, None, 0.0
+        self.terminal = sys.stderr.isatty()
+
+    def spent(self):
+        return time.monotonic() - self.began
+
+    def look(self, runs):
+        """Notes what has ended and begun, and says how far it is if that is due."""
+        spent = self.spent()
+        proved, kept = runs.said()
+        self.forecast.keep(kept)
+        self.forecast.end(proved, spent)
+        now = runs.begun()
+        self.since = {name: self.since.get(name, spent) for name in now}
+        if spent >= self.next:
+            self.next = spent + EVERY
+            self.show(spent, sorted(now - set(self.forecast.ended)))
+
+    def show(self, spent, now):
+        percent, left = self.forecast.reckon(self.since, spent)
+        ended = len(self.forecast.ended)
+        minutes = max(1, int(-(-left // 60)))
+        line = f'{ended} of {self.total} crates, {percent} % of the work, {in_words(spent)}, about {minutes} min more'
+        if now:
+            line += '; now ' + ' '.join(now)
+        if self.terminal:
+            sys.stderr.write(f'\r\033[K{("tsp: " + line)[:WIDTH]}')
+            sys.stderr.flush()
+        elif (ended, now) != self.shown or spent - self.said >= 60:
+            self.shown, self.said = (ended, now), spent
+            say(line)
+
+    def clear(self):
+        if self.terminal:
+            sys.stderr.write('\r\033[K')
+            sys.stderr.flush()
