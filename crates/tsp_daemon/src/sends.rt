@@ -29,7 +29,8 @@ fn send_octets<L: Link>(link: &mut L, to: Place, octets: &[u8]) -> Result<(), Al
     }
 }
 
-/// Tries the send of a datagram, as `send_octets` does. (A call of its own, so that a stamp needs no room for a message.)
+/// Tries the send of a datagram, as `send_octets` does. (A call of its own, so that a stamp needs
+/// no room for a message.)
 #[inline(never)]
 fn send_any<L: Link>(link: &mut L, to: Place, datagram: &Datagram) -> Result<(), AllocError>
     requires known { to ≡ Place.Stranger → L.stranger link.old ≡ true }

@@ -275,9 +275,9 @@ fn is_late(ended: Option<u64>, now: Option<u64>, wait: u64) -> bool
     }
 }
 
-/// The wait that is set for a receive of at most `wait` microseconds: at least 1, and from 1,000 on so many whole
-/// milliseconds. So a caller that waits for a certain time, while datagrams come, asks the system once a millisecond, and
-/// not before each receive.
+/// The wait that is set for a receive of at most `wait` microseconds: at least 1, and from 1,000 on
+/// so many whole milliseconds. So a caller that waits for a certain time, while datagrams come,
+/// asks the system once a millisecond, and not before each receive.
 fn settable(wait: u64) -> u64
     ensures { IsWaitFor wait result }
 {

@@ -143,8 +143,9 @@ impl World {
         self.lines.clear();
     }
 
-    /// Notes an event, at which a node put the acts on the desk, if it put any. The event's time was noted before. (A call of
-    /// its own: as a part of each event's code it made that code slower.)
+    /// Notes an event, at which a node put the acts on the desk, if it put any. The event's time
+    /// was noted before. (A call of its own: as a part of each event's code it made that code
+    /// slower.)
     #[inline(never)]
     fn note(&mut self, node: u32, tick: u64)
         requires { CanNote self.old }

@@ -24,10 +24,11 @@ node a 0 0 m
 node a 0 0 m
 ";
 
-/// Texts that are one input, the reads that fail, how the audit ends, and what is written. A run keeps every promise,
-/// also where no trace line of a turn is claimed. A line that isn't a trace's, one that isn't allowed, and a boot whose
-/// line is missing after the schedule are refused. Nothing is written where a read fails, though a line before it isn't a
-/// schedule's. The 17th node passes a limit, if the header would accept it.
+/// Texts that are one input, the reads that fail, how the audit ends, and what is written. A run
+/// keeps every promise, also where no trace line of a turn is claimed. A line that isn't a trace's,
+/// one that isn't allowed, and a boot whose line is missing after the schedule are refused. Nothing
+/// is written where a read fails, though a line before it isn't a schedule's. The 17th node passes
+/// a limit, if the header would accept it.
 const ROWS: &[(&[&str], &[u32], Outcome, &str)] = &[
     (&[ASKED, ANSWERED], &[], Outcome::Ok, "holds\n"),
     (&[ASKED], &[], Outcome::Bad, "bad 8 history\n"),

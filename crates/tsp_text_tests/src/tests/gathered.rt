@@ -7,8 +7,8 @@ use tsp_io::source::{Got, Source};
 use tsp_lines::treat::Outcome;
 use tsp_lines::treat_gathered::treat_gathered;
 
-/// An input, how many octets a read gives at most, its limit, the reads that fail, how its treatment should end, what is
-/// written, and how many octets one more read gives.
+/// An input, how many octets a read gives at most, its limit, the reads that fail, how its
+/// treatment should end, what is written, and how many octets one more read gives.
 type Row = (
     &'static str,
     usize,

@@ -76,10 +76,11 @@ fn meets(alloc: Global, walls: &'static [i64], meeting: Meeting) -> Option<bool>
     })
 }
 
-/// The clocks of nodes, and what they do. Two nodes are quiet at first; then one of them becomes master, and the other
-/// follows it. Three clocks that are far apart come within two milliseconds of each other. A node that boots late follows
-/// the master that is there already, and its clock is set. A master that is cut off is still master alone, and the others
-/// elect another one; once a node boots that hears both, one of the two gives way.
+/// The clocks of nodes, and what they do. Two nodes are quiet at first; then one of them becomes
+/// master, and the other follows it. Three clocks that are far apart come within two milliseconds
+/// of each other. A node that boots late follows the master that is there already, and its clock is
+/// set. A master that is cut off is still master alone, and the others elect another one; once a
+/// node boots that hears both, one of the two gives way.
 const MEETINGS: &[(&str, &[i64], Meeting)] = &[
     ("two nodes elect one", &[0, 0], Meeting::Elect),
     (
