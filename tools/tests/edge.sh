@@ -4,8 +4,8 @@
 . "$(dirname "$0")/common.sh"
 unset TSP_RATE
 serving_program
-# shellcheck disable=SC2046  # four ports
-set -- $(free_ports 4)
+# shellcheck disable=SC2046  # five ports
+set -- $(free_ports 5)
 
 # Waits until the daemon at an address answers.
 answers() {
@@ -24,9 +24,20 @@ ahead() {
     done | sort -n -k 3 | head -n 1 | cut -d ' ' -f 2
 }
 
-# One that is stopped for less than a second takes what came meanwhile. After 3 seconds it doesn't: a date that was to be set stays out of the
-# trace, the clock is the old one, and the next question is answered.
-"$program" serve "127.0.0.1:$1" a m 100000 >"$out/trace" 2>/dev/null &
+# A question to nobody waits eight times for a second. (it does so beside what follows)
+(
+    began=$(date +%s%N)
+    status=0
+    "$program" msite "127.0.0.3:$5" >/dev/null 2>&1 || status=$?
+    took=$((($(date +%s%N) - began) / 1000000))
+    echo "ends after $took ms with status $status" >"$out/asked"
+    [ "$status" -eq 6 ] && [ "$took" -ge 7000 ] && [ "$took" -le 9000 ]
+) &
+asked=$!
+
+# A daemon that is stopped for less than a second takes what came meanwhile. After 3 seconds it doesn't: what came stays out of the trace,
+# and the next question is answered. When its turns are done it says how many datagrams it threw away.
+"$program" serve "127.0.0.1:$1" a m 20 >"$out/trace" 2>"$out/log" &
 note_process
 stopped=$!
 answers "127.0.0.1:$1"
@@ -56,20 +67,23 @@ TSP_RATE=1000000 "$program" serve "127.0.0.1:$2" b s 100000 >/dev/null 2>&1 &
 note_process
 TSP_RATE=-1000000 "$program" serve "127.0.0.1:$3" c s 100000 >/dev/null 2>&1 &
 note_process
+TSP_RATE=0 "$program" serve "127.0.0.1:$5" e m 100000 >/dev/null 2>&1 &
+note_process
 answers "127.0.0.1:$2"
 answers "127.0.0.1:$3"
-fast=$(ahead "127.0.0.1:$2") slow=$(ahead "127.0.0.1:$3") plain=$(ahead "127.0.0.1:$1")
+answers "127.0.0.1:$5"
+fast=$(ahead "127.0.0.1:$2") slow=$(ahead "127.0.0.1:$3") plain=$(ahead "127.0.0.1:$5")
 sleep 4
-fast=$(($(ahead "127.0.0.1:$2") - fast)) slow=$(($(ahead "127.0.0.1:$3") - slow)) plain=$(($(ahead "127.0.0.1:$1") - plain))
+fast=$(($(ahead "127.0.0.1:$2") - fast)) slow=$(($(ahead "127.0.0.1:$3") - slow)) plain=$(($(ahead "127.0.0.1:$5") - plain))
 [ $((fast - plain)) -ge 2500 ] && [ $((fast - plain)) -le 8000 ] && [ $((plain - slow)) -ge 2500 ] && [ $((plain - slow)) -le 8000 ] || fail "in four seconds counters come $fast, $plain and $slow microseconds further"
 for rate in '' 1000001 -1000001 +1 01 -0 1.5 one 99999999999999999999; do
     status=0
-    TSP_RATE=$rate "$program" serve "127.0.0.1:$1" a m 1 >"$out/text" 2>"$out/line" || status=$?
+    TSP_RATE=$rate "$program" serve "127.0.0.1:$5" a m 1 >"$out/text" 2>"$out/line" || status=$?
     [ "$status" -eq 1 ] && [ "$(cat "$out/text")" = 'bad rate' ] && [ "$(wc -l <"$out/line")" -eq 1 ] || fail "TSP_RATE='$rate' ends with status $status"
 done
-TSP_RATE=one "$program" msite "127.0.0.1:$1" >"$out/text" || fail 'a question reads TSP_RATE'
+TSP_RATE=one "$program" msite "127.0.0.1:$5" >"$out/text" || fail 'a question reads TSP_RATE'
 status=0
-TSP_RATE=0 "$program" serve "127.0.0.1:$1" a m 1 >"$out/text" 2>/dev/null || status=$?
+TSP_RATE=0 "$program" serve "127.0.0.1:$5" a m 1 >"$out/text" 2>/dev/null || status=$?
 [ "$status" -eq 5 ] || fail "a port that is taken ends with status $status, with a rate of 0"
 
 # A daemon at 127.0.0.2, beside a program that has its port at 127.0.0.1: each gets what is sent to its own address.
@@ -93,13 +107,10 @@ answers "127.0.0.2:$4"
 [ "$("$program" msite "127.0.0.1:$4")" = 'master other' ] || fail 'the program beside a daemon is not asked'
 wait "$other" || fail 'the program beside a daemon got something else'
 
-# A question to nobody waits eight times for a second.
-end_all
-began=$(date +%s%N)
-status=0
-"$program" msite "127.0.0.1:$1" >"$out/text" 2>/dev/null || status=$?
-took=$((($(date +%s%N) - began) / 1000000))
-[ "$status" -eq 6 ] && [ "$took" -ge 7000 ] && [ "$took" -le 9000 ] || fail "a question to nobody ends after $took ms with status $status"
+wait "$asked" || fail "a question to nobody $(cat "$out/asked")"
+
+wait "$stopped" || fail "a daemon whose turns are done ends with status $?"
+[ "$(cat "$out/log")" = '[WARN  tsp_cli] threw away 20 datagrams that came while the program was stopped or paused' ] || fail "it says '$(cat "$out/log")' of what it threw away"
 
 # A link that takes nothing.
 if has tc && has nsenter && unshare -rn true 2>/dev/null; then
