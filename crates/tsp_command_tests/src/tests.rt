@@ -3,6 +3,7 @@ mod failing_daemons;
 mod failing_replays;
 mod handlers;
 mod icmp;
+mod order;
 mod queries;
 mod questions;
 mod records;

@@ -24,8 +24,8 @@ use tsp_base::place::Place;
 /// A send doesn't wait: where the system has no room for the datagram, the send failed.
 ///
 /// If the program was away for more than a second, for instance because it was stopped, what came
-/// meanwhile is thrown away, and the receive answers `Nothing`: a datagram that is taken came less
-/// than two seconds ago, where receives follow each other and wait for a second at most.
+/// meanwhile is thrown away, and the receive answers `Nothing`: that is so if it ended more than a
+/// second later than its wait lets it, counted from the end of the receive before it.
 #[derive(Drop)]
 pub struct UdpLink<R> {
     rt: R,
