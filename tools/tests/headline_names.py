@@ -1,29 +1,32 @@
-"""Wants each heading of docs/HEADLINE.md to stand once, and each name that two of its files have to be told apart where it is defined."""
+"""Wants each heading of docs/HEADLINE.md and of its annex to stand once, and each name that two files have to be told apart where it is defined."""
 import re
 import sys
 
 DEFINED = re.compile(r'^(?:abbrev |unfoldable )*(?:pub )?(?:record |data )?([^\s:(]+)(?= [:(])')
+PAGES = ('docs/HEADLINE.md', 'docs/HEADLINE_ANNEX.md')
 
 
 def main():
-    headings, places, notes, inside, file = {}, {}, [], False, None
-    with open('docs/HEADLINE.md', encoding='utf-8') as page:
-        for number, line in enumerate(page, 1):
-            inside ^= line.startswith('```')
-            if line.startswith('#') and not inside:
-                file = line.strip('# \n')
-                if headings.setdefault(file, number) != number:
-                    sys.exit(f'line {number}: the heading {file} stands in line {headings[file]} already')
-            found = DEFINED.match(line) if inside and not line.startswith('--') else None
-            if found:
-                places.setdefault(found.group(1), {}).setdefault(file, (number, notes))
-            notes = notes + [line.strip()] if line.startswith('--') else []
+    headings, places = {}, {}
+    for path in PAGES:
+        notes, inside, file = [], False, None
+        with open(path, encoding='utf-8') as page:
+            for number, line in enumerate(page, 1):
+                inside ^= line.startswith('```')
+                if line.startswith('#') and not inside:
+                    file = line.strip('# \n')
+                    if headings.setdefault((path, file), number) != number:
+                        sys.exit(f'{path}:{number}: the heading {file} stands in line {headings[path, file]} already')
+                found = DEFINED.match(line) if inside and not line.startswith('--') else None
+                if found:
+                    places.setdefault(found.group(1), {}).setdefault(file, (f'{path}:{number}', notes))
+                notes = notes + [line.strip()] if line.startswith('--') else []
     doubles = {name: files for name, files in places.items() if len(files) > 1}
     for name, files in doubles.items():
         for file, (number, told) in files.items():
             others = sorted(other for other in files if other != file)
             if f'-- (another {name}: {", ".join(others)})' not in told:
-                sys.exit(f'line {number}: {name} of {file} isn\'t told apart from that of {others}')
+                sys.exit(f'{number}: {name} of {file} isn\'t told apart from that of {others}')
     if not doubles or len(headings) < 20:
         sys.exit(f'{len(headings)} headings and {len(doubles)} names of two files were found, which is too few')
     print(f'{len(headings)} headings, and {len(doubles)} names that two files have')
