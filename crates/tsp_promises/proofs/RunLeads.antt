@@ -130,6 +130,10 @@ nothing-done x past = (
   refl,
 )
 
+-- and owes nothing
+pub nothing-ends : (setup : Setup) → StepEnds setup []
+nothing-ends setup = record { backs = refl; heeds = refl; follows = λ p e. none-among p refl e; acknowledged = refl; exchanges = λ p i s older e. nil-cons (Here s) older e }
+
 own-ran : (hs : List Happening) (past : Past) → (ran hs past).own ≡ past.own
 own-ran [] past = refl
 own-ran (h ∷ before) past = own-ran before past
