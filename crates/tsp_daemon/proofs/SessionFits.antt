@@ -28,9 +28,9 @@ use Rattle.tsp_promises.specs.StepFacts.{StepEnds}
 use Rattle.tsp_promises.proofs.ChainProof.{looped_in}
 use Rattle.tsp_promises.proofs.EverywhereLemmas.{Everywhere-from}
 use Rattle.tsp_promises.proofs.GateFacts.{AllPorts}
-use Rattle.tsp_promises.proofs.GateLeads.{GivenOn, answers_all_end}
+use Rattle.tsp_promises.proofs.GateLeads.{GivenOn}
 use Rattle.tsp_promises.proofs.Known.{Ended, Fresh}
-use Rattle.tsp_promises.proofs.NodeLeads.{begins_all, boots_all_lead}
+use Rattle.tsp_promises.proofs.NodeLeads.{answers_all_end, begins_all, boots_all_lead}
 use Rattle.tsp_promises.proofs.OwnFitsProof.{fits_at}
 use Rattle.tsp_promises.proofs.RunLeads.{ended_later, ends_of, nothing-done, nothing-ends}
 use Rattle.tsp_promises.proofs.SafeProof.{safe}
