@@ -189,11 +189,3 @@ pub none_before : (after : Option PeerId) (x : ℕ) (slots new : List Slot) (due
 none_before after x slots new due t q later below =
     let is : peer_of due ≡ t.0 = ap peer_of t.3 ∙ peer_of-repeated t.0 x t.1 in
     t.2.first q later (rw (← is) below)
-
--- nothing is done for a send that isn't due
-pub Performs_not_due : (p : PeerId) (x : ℕ) (port : Port) (station : Station) (old : List Placed) → is_due_send x (sending_to station.sends p) ≡ false → Performs StandsStill StandsStill (bare_send p) x port station station old old
-unfolding bare_send repeats_bare_send
-Performs_not_due p x port station old late = Performs_reading (open_at p) (repeats_bare_send p) (sending_to station.sends p) (λ past h. sym (h.stands.sends p)) (by_send (sending_to station.sends p) late) where
-  by_send : (o : Option Sending) → is_due_send x o ≡ false → Performs StandsStill StandsStill (repeats_bare_send p o) x port station station old old
-  by_send None e = Performs_nothing
-  by_send (Some s) e = Performs_else_part (is_send_due s) _ (λ past h. e) Performs_nothing

@@ -151,4 +151,4 @@ pub audit-refused : (premises : Premises) (header : HeaderValue) (claims : List 
     (NotesStand premises (length header.nodes) (claimed header claims) old.notes → NotesStand premises (length header.nodes) (claimed header claims) n) →
     Audits premises header claims e lines (Err fault) (record { claims = c; premises = old.premises; notes = n; failed = old.failed })
 audit-refused premises header claims e lines (History i) old c n stands refused keep = (refused.0, audit-with premises header claims old c n stands refused.1 keep)
-audit-refused premises header claims e lines OutOfMemory old c n stands refused keep = audit-with premises header claims old c n stands refused.1 keep
+audit-refused premises header claims e lines OutOfMemory old c n stands refused keep = (refused.0, audit-with premises header claims old c n stands refused.1 keep)

@@ -64,10 +64,10 @@ pub record AuditStands (premises : Premises) (header : HeaderValue) (claims : Li
   pub notes : a.failed ≡ None → NotesStand premises (length header.nodes) (claimed header claims) a.notes
 
 -- what a call does with an event and the lines that are claimed of it: they fit and are taken in, and this is the
--- verdict; or the line at this index doesn't fit, or the event lacks something, or memory is refused, and nothing
--- changes
+-- verdict; or the line at this index doesn't fit, or the event lacks something, or they fit and memory is refused, and
+-- nothing changes
 abbrev pub Audits : Premises → HeaderValue → List Claim → Event → List Line2 → Result Verdict AuditFault → Audit → Type 0
 Audits premises header claims e lines (Ok v) new = Fit header claims e lines × AuditStands premises header (claim_of e lines ∷ claims) new ×
     ((setting : Setting) → HasClocks header setting → IsVerdict premises setting header (claim_of e lines ∷ claims) v)
 Audits premises header claims e lines (Err (History i)) new = Misfit header claims e lines i × AuditStands premises header claims new
-Audits premises header claims e lines (Err OutOfMemory) new = AuditStands premises header claims new
+Audits premises header claims e lines (Err OutOfMemory) new = Fit header claims e lines × AuditStands premises header claims new

@@ -118,7 +118,8 @@ impl Audit {
     /// so far. The time is at most 10^15 microseconds, the node that the event names exists, and
     /// with this event there are at most 20,000 events and 20,000 lines. `History` has the index,
     /// from 0, of the first line that doesn't fit; or how many there are, where all fit and the
-    /// event lacks something. After either fault the audit is what it was.
+    /// event lacks something. It is out of memory only where all fit. After either fault the audit
+    /// is what it was.
     pub fn event(&mut self, e: &Event, acts: &[Line2]) -> Result<Verdict, AuditFault>
         requires time { event_at e.now ≤ 1000000000000000 }
         requires node { NamesNode (length self.old.claims.header.nodes) e.now }
@@ -130,7 +131,10 @@ impl Audit {
     {
         let from = self.claims.lines().len();
         if self.notes.make_room(acts.len() + 1).is_err() {
-            return Err(AuditFault::OutOfMemory);
+            return Err(match self.claims.first_misfit(e, acts) {
+                Some(index) => AuditFault::History(index),
+                None => AuditFault::OutOfMemory,
+            });
         }
         match self.claims.event(e, acts) {
             Ok(()) => {

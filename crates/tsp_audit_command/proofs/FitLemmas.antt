@@ -30,8 +30,3 @@ module _ (fits : Event → Tally → Line2 → Type 0) (e : Event) where
   AllFit-so-far t [] s none = none
   AllFit-so-far t (k ∷ rest) s none = (s.0, AllFit-so-far (counted t k.placed.act) rest s.1 none)
 
-  -- lines that fit don't misfit
-  pub fit-misfit : (t : Tally) (lines : List Line2) (i : ℕ) → AllFit fits e t lines → Misfits fits e t lines i → ⊥
-  fit-misfit t [] i f m = let none = f in let some = m.0 in let bad : ⊥ = cc in bad
-  fit-misfit t (k ∷ rest) zero f m = m f.0
-  fit-misfit t (k ∷ rest) (suc i) f m = fit-misfit (counted t k.placed.act) rest i f.1 m.1

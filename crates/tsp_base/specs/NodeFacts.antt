@@ -60,11 +60,6 @@ abbrev pub boot_tick : List Did → ℕ
 boot_tick [] = 0
 boot_tick (d ∷ before) = boot_after d.deed d.tick (boot_tick before)
 
--- the true time of the last boot
-abbrev pub boot_at : List Did → ℕ
-boot_at [] = 0
-boot_at (d ∷ before) = boot_after d.deed d.step.at (boot_at before)
-
 -- the wall clock at the last boot less the tick then: a clock that is never corrected shows its ticks and this
 abbrev pub base : List Did → ℤ
 base ds = wall ds -ℤ pos (boot_tick ds)

@@ -10,11 +10,6 @@ pub record Performs {S T : Type 0} (fits : Past → S → Type 0) (then_fits : P
   pub acts : (past : Past) → fits past before → new ≡ old ++ placed port (row x past)
   pub stands : (past : Past) → fits past before → then_fits (grown x past (row x past)) after
 
--- two states, both of which stand for the past
-pub record Beside {S T : Type 0} (fits : Past → S → Type 0) (also : Past → T → Type 0) (past : Past) (both : S × T) : Type 0 where
-  pub first : fits past both.0
-  pub second : also past both.1
-
 -- the state still stands for the past after the row's acts: they change nothing of it
 abbrev pub Keeps : {T : Type 0} → (Past → T → Type 0) → Row → Type 0
 Keeps {T} also row = (x : ℕ) (past : Past) (state : T) → also past state → also (grown x past (row x past)) state

@@ -14,7 +14,7 @@ use tsp_base::role::Role;
 /// Stands for election: the port backs itself, sends each other peer an ELECTION with its own number, and
 /// waits `WINDOW` ticks for answers. Before it in the step, an alarm must have been handled or a datagram
 /// taken. It puts at most three acts, and one more for each peer.
-pub fn begin_candidature<D: Desk>(station: &mut Station, tick: u64, port: Port, desk: &mut D)
+pub fn stand<D: Desk>(station: &mut Station, tick: u64, port: Port, desk: &mut D)
     requires tick { IsTick tick }
     requires room { length station.old.peers + 3 ≤ D.spare desk.old }
     ensures row { Performs StandsActing StandsActing candidature_row tick port station.old

@@ -2,7 +2,7 @@
 //!
 //! In this order:
 //!
-//! 1. [`candidature::begin_candidature`] begins the election; the caller has checked that the port may
+//! 1. [`candidature::stand`] begins the election; the caller has checked that the port is Loose or follows, and may
 //!    stand (`Hold::may_stand`).
 //! 2. Each message of a peer goes to [`take::candidate_take`]. An ACCEPT counts; a REFUSE, a master or a
 //!    QUIT ends the candidature.

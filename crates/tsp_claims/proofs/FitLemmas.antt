@@ -35,10 +35,6 @@ module _ (fits : Event → Tally → Line2 → Type 0) (e : Event) (t : Tally) (
   pub left-misfits : (l : Line2) → i < length lines → get_or lines i l ≡ l → ¬ fits e t l → Misfits fits e untold lines i
   left-misfits l below is f = subst (λ k. Misfits fits e untold lines k) (omega arith) (left.misfit zero (subst (λ ls. Misfits fits e t ls zero) (sym (left-is l below is)) f))
 
-  -- all fit, and nothing lacks
-  pub left-fit : length lines ≤ i → lacks e t ≡ false → AllFit fits e untold lines
-  left-fit past none = left.fit (subst (λ ls. AllFit fits e t ls) (sym (drop_all i lines past)) none)
-
   -- all fit, and something lacks
   pub left-lacks : length lines ≤ i → lacks e t ≡ true → Misfits fits e untold lines i
   left-lacks past some = subst (λ k. Misfits fits e untold lines k) (omega arith) (left.misfit zero (subst (λ ls. Misfits fits e t ls zero) (sym (drop_all i lines past)) (some, refl)))

@@ -1,6 +1,6 @@
 //! The lines that are claimed of a schedule's events, as far as they fit.
 ghost use Rattle.std.specs.Prelude.{◌≡◌, ◌≤◌, ◌<◌, ◌+◌, ◌↔◌, ◌∷◌, [], true, IsTrue, length};
-ghost use Rattle.std.specs.Prelude.{vec_len, slice_get, option_copied, IfOk};
+ghost use Rattle.std.specs.Prelude.{vec_len, slice_get, option_copied, IfOk, MatchOption};
 ghost use Rattle.tsp_base.specs.Headers.{is_whole};
 ghost use Rattle.tsp_run.specs.Networks.{numbers_below};
 
@@ -48,7 +48,7 @@ impl Claims {
     ghost use Rattle.tsp_history.specs.Histories.{history_of};
     ghost use Rattle.tsp_history.specs.Notes.{Told};
     ghost use Rattle.tsp_claims.specs.ClaimedHistory.{Claim, base_of, claimed, posts_of};
-    ghost use Rattle.tsp_claims.specs.Fitting.{Fit, FitsNext};
+    ghost use Rattle.tsp_claims.specs.Fitting.{Fit, FitsNext, Misfit};
     ghost use Rattle.tsp_claims.specs.Listed.{NamesNode};
     ghost use Rattle.tsp_claims.specs.Stands.{ClaimsStand, TakesIn, claim_of};
     ghost use Rattle.std.specs.Prelude.{List, OnErr, OnOk, ℕ};
@@ -95,6 +95,21 @@ impl Claims {
             return Err(AuditFault::OutOfMemory);
         }
         Ok(())
+    }
+
+    /// The index of the first of an event's lines that doesn't fit; or how many there are, where all
+    /// fit and the event lacks something; None where they fit. The limits are those of `event`.
+    pub fn first_misfit(&self, e: &Event, acts: &[Line2]) -> Option<usize>
+        requires time { event_at e.now ≤ 1000000000000000 }
+        requires node { NamesNode (length self.now.header.nodes) e.now }
+        requires events { self.now.events < 20000 }
+        requires lines { self.now.told + length acts.now ≤ 20000 }
+        ensures { (header : HeaderValue) (claims : List Claim) → ClaimsStand header claims self.now
+            → MatchOption result (Fit header claims e.now acts.now)
+            (λ i. Misfit header claims e.now acts.now i) }
+    {
+        let step = self.acting(e);
+        self.misfit(e, step, acts)
     }
 
     /// Takes in an event and lines that fit it: the caller must know that they do, they aren't

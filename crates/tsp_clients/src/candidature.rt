@@ -13,7 +13,7 @@ use tsp_base::desk::Desk;
 use tsp_base::kind::Kind;
 use tsp_base::place::{Place, Port};
 use tsp_base::role::Role;
-use tsp_candidate::candidature::begin_candidature;
+use tsp_candidate::candidature::stand;
 
 /// Answers a TEST by an ACK, and then stands for election where it may. In the quiet time it does nothing. The
 /// datagram was taken before in the step. It puts at most four acts, and one more for each peer.
@@ -53,7 +53,7 @@ fn begin_if_asked<D: Desk>(station: &mut Station, tick: u64, port: Port, desk: &
     ensures port { IsSamePort station.old station.new }
 {
     if may_be_asked(station, tick) {
-        begin_candidature(station, tick, port, desk);
+        stand(station, tick, port, desk);
     }
 }
 

@@ -28,11 +28,11 @@ use Rattle.tsp_promises.specs.StepFacts.{StepEnds}
 use Rattle.tsp_promises.proofs.ChainProof.{looped_in}
 use Rattle.tsp_promises.proofs.EverywhereLemmas.{Everywhere-from}
 use Rattle.tsp_promises.proofs.GateFacts.{AllPorts}
-use Rattle.tsp_promises.proofs.GateLeads.{GivenOn, answers_all_lead}
-use Rattle.tsp_promises.proofs.Known.{Fresh, Rests}
-use Rattle.tsp_promises.proofs.NodeLeads.{begins_all, boots_all_lead}
+use Rattle.tsp_promises.proofs.GateLeads.{GivenOn}
+use Rattle.tsp_promises.proofs.Known.{Ended, Fresh}
+use Rattle.tsp_promises.proofs.NodeLeads.{answers_all_end, begins_all, boots_all_lead}
 use Rattle.tsp_promises.proofs.OwnFitsProof.{fits_at}
-use Rattle.tsp_promises.proofs.RunLeads.{ends_of, nothing-done, rests_later}
+use Rattle.tsp_promises.proofs.RunLeads.{ended_later, ends_of, nothing-done, nothing-ends}
 use Rattle.tsp_promises.proofs.SafeProof.{safe}
 use Rattle.tsp_promises.proofs.SetProof.{sets_at}
 use Rattle.tsp_query.specs.Arrivals.{next_arrival}
@@ -124,7 +124,7 @@ record Ran (s : ServeWords) (setting : Setting) (n t : ℕ) (past : NodePast) : 
   pub own : AreOwn past.lines
   pub on : AreOn (length past.ports) past.lines
   pub time : time_of (dids past.lines) ≤ t
-  pub rests : AllPorts (λ r. Rests) t past
+  pub rests : AllPorts (λ r. Ended) t past
   pub posts : posted (dids past.lines) ≤ n * 3000000
 
 module _ {s : ServeWords} {setting : Setting} {tick : ℕ} {wall : ℤ} (is : IsServe s) (set : SetByWords s tick wall setting) where
@@ -161,7 +161,7 @@ module _ {s : ServeWords} {setting : Setting} {tick : ℕ} {wall : ℤ} (is : Is
 
   -- one step more, by a row that keeps what is known of each port
   one-step : (n t x : ℕ) (past : NodePast) (cause : Cause) (row : NodeRow) → Ran s setting n t past → t ≤ x → n ≤ 1000000001 →
-      (AllPorts (λ r. Fresh) x (in_node_step (step_of cause x) x past) → AllPorts (λ r. Rests) x (spread x (in_node_step (step_of cause x) x past) (row x (in_node_step (step_of cause x) x past)))) →
+      (AllPorts (λ r. Fresh) x (in_node_step (step_of cause x) x past) → AllPorts (λ r. Ended) x (spread x (in_node_step (step_of cause x) x past) (row x (in_node_step (step_of cause x) x past)))) →
       StepOk (length past.ports) (room past.ports) setting (step_of cause x) x past.lines (up (dids past.lines)) (row x (in_node_step (step_of cause x) x past)) →
       Ran s setting (n + 1) x (spread x (in_node_step (step_of cause x) x past) (row x (in_node_step (step_of cause x) x past)))
   one-step n t x past cause row r later turns leads ok =
@@ -172,14 +172,14 @@ module _ {s : ServeWords} {setting : Setting} {tick : ℕ} {wall : ℤ} (is : Is
       let mark : Line = line_of step x first_port Begins in
       let ports : ℕ = length past.ports in
       let own_h : of 0 h ≡ h = of-own h r.own in
-      let rested : AllPorts (λ r. Rests) x past = λ q has. rests_later t x (on_port q past) later (r.rests q has) in
-      let after : AllPorts (λ r. Rests) x (spread x mid acts) =
+      let rested : AllPorts (λ r. Ended) x past = λ q has. ended_later t x (on_port q past) later (r.rests q has) in
+      let after : AllPorts (λ r. Ended) x (spread x mid acts) =
       leads (begins_all step x x past (omega arith) (λ q has. ap (λ (ps : List PortSetup). (slice_index_or ps q.0 no_port).own.0) r.ports ∙ own-setups 0 s.ports q.0) rested) in
       let few = r.posts in
       let most = ok.few in
       let room_few = room-small past r.ports in
       let before = r.time in
-      let line = mark_line ports setting step x h (tick-is x) (subst (λ ls. AreOn ports ls) (sym own_h) r.on) (omega (arith, before, later)) (omega (arith, few, turns)) (λ q has. subst (λ ls. StepEnds (view q ls)) (sym own_h) (ends_of (rested q has))) in
+      let line = mark_line ports setting step x h (tick-is x) (subst (λ ls. AreOn ports ls) (sym own_h) r.on) (omega (arith, before, later)) (omega (arith, few, turns)) (λ q has. subst (λ ls. StepEnds (setup_of setting 0 q) (view q ls)) (sym own_h) (subst (λ k. StepEnds k (view q h)) (set-up past q r.name r.strict r.ports has) (ends_of (rested q has)))) in
       let all_own : AreOwn (joined step x acts (mark ∷ h)) = joined-own step x acts (mark ∷ h) refl (refl, r.own) in
       let up_is : up (dids (of 0 (mark ∷ h))) ≡ up (dids h) = ap (λ ls. up (dids ls)) (of-own (mark ∷ h) (refl, r.own)) in
       let more = joined-posts step x acts (mark ∷ h) in
@@ -190,7 +190,7 @@ module _ {s : ServeWords} {setting : Setting} {tick : ℕ} {wall : ℤ} (is : Is
         fits = acts_fit ports setting step x h acts first_port Begins h (tick-is x) ok.on (inr (Within-all h)) (omega (arith, few, turns, most, room_few))
             (subst (λ b. AllAlive setting step x b acts) (sym up_is) ok.alive) ok.taken
             (λ q has. subst (λ ls. PortFits (setup_of setting 0 q) (view q ls)) (sym (of-own (joined step x acts (mark ∷ h)) all_own))
-            (subst (λ k. PortFits k (view q (joined step x acts (mark ∷ h)))) (set-up past q r.name r.strict r.ports has) (after q has).fits))
+            (subst (λ k. PortFits k (view q (joined step x acts (mark ∷ h)))) (set-up past q r.name r.strict r.ports has) (after q has).0.fits))
             (line, r.fits);
         own = all_own;
         on = joined-on ports step x acts (mark ∷ h) ok.on ((λ e. let bad : ⊥ = cc in absurd bad), r.on);
@@ -236,7 +236,7 @@ module _ {s : ServeWords} {setting : Setting} {tick : ℕ} {wall : ℤ} (is : Is
   one-turn n t x past NodeTurn r later turns given =
       let mid : NodePast = begun NodeTurn x past in
       let ok = turn_ok setting (step_of Turned x) x past.lines mid (four past r.0.ports) in (
-        one-step n t x past Turned (answers_all NodeTurn) r.0 later turns (λ fresh. (answers_all_lead NodeTurn).run x mid (tt, fresh))
+        one-step n t x past Turned (answers_all NodeTurn) r.0 later turns (λ fresh. (answers_all_end NodeTurn).run x mid (tt, fresh))
             (subst (λ b. StepOk (length past.ports) (room past.ports) setting (step_of Turned x) x past.lines b (answers_all NodeTurn x mid)) (sym r.1) ok),
         up-after x Turned past (answers_all NodeTurn x mid) r.1,
       )
@@ -244,7 +244,7 @@ module _ {s : ServeWords} {setting : Setting} {tick : ℕ} {wall : ℤ} (is : Is
       let g : NodeGiven = GotOn q from taken in
       let mid : NodePast = begun g x past in
       let ok = got_ok setting (step_of (cause_of g) x) x past.lines mid q from taken (four past r.0.ports) given tt in (
-        one-step n t x past (cause_of g) (answers_all g) r.0 later turns (λ fresh. (answers_all_lead g).run x mid (given, fresh))
+        one-step n t x past (cause_of g) (answers_all g) r.0 later turns (λ fresh. (answers_all_end g).run x mid (given, fresh))
             (subst (λ b. StepOk (length past.ports) (room past.ports) setting (step_of (cause_of g) x) x past.lines b (answers_all g x mid)) (sym r.1) ok),
         up-after x (cause_of g) past (answers_all g x mid) r.1,
       )
@@ -265,11 +265,13 @@ turns-ran s o wall word written setting is set (suc i) few rises =
     let same : i + 1 + 1 ≡ suc i + 1 = omega arith in
     (subst (λ n. Ran s setting n (tick_of now) (after_turns (suc i) (first_session s o wall word written)).past) same one.0, one.1)
 
-finished : (s : ServeWords) (setting : Setting) (n t : ℕ) (past : NodePast) → Ran s setting n t past → Finished past.lines
-finished s setting n t past r zero q =
+finished : (s : ServeWords) (setting : Setting) (tick : ℕ) (wall : ℤ) (n t : ℕ) (past : NodePast) → IsServe s → SetByWords s tick wall setting → Ran s setting n t past → Finished setting past.lines
+finished s setting tick wall n t past is set r zero q =
     let own = of-own past.lines r.own in
-    all_end (length past.ports) q (of 0 past.lines) (subst (λ ls. AreOn (length past.ports) ls) (sym own) r.on) (λ has. subst (λ ls. StepEnds (view q ls)) (sym own) (ends_of (r.rests q has)))
-finished s setting n t past r (suc m) q = subst (λ ls. StepEnds (view q ls)) (sym (of-other m past.lines r.own)) (ends_of (nothing-done 0 (on_port q past)))
+    all_end (setup_of setting 0 q) (length past.ports) q (of 0 past.lines) (subst (λ ls. AreOn (length past.ports) ls) (sym own) r.on)
+    (λ has. subst (λ ls. StepEnds (setup_of setting 0 q) (view q ls)) (sym own) (subst (λ k. StepEnds k (view q past.lines)) (set-up is set past q r.name r.strict r.ports has) (ends_of (r.rests q has))))
+finished s setting tick wall n t past is set r (suc m) q =
+    subst (λ ls. StepEnds (setup_of setting (suc m) q) (view q ls)) (sym (of-other m past.lines r.own)) (nothing-ends (setup_of setting (suc m) q))
 
 -- so it keeps what is promised
 pub session_kept : (s : ServeWords) (o : Outside) (wall : ℤ) (word : ℕ) (written : List ℕ) → IsServe s → (setting : Setting) → SetByWords s (read_once o).last wall setting → (i : ℕ) → i ≤ s.turns → Rises i (first_session s o wall word written) →
@@ -279,7 +281,7 @@ session_kept s o wall word written is setting set i few rises =
     let lines : List Line = now.past.lines in
     let r = turns-ran s o wall word written setting is set i few rises in
     let fits = r.0.fits in
-    let ends = finished s setting (i + 1) now.outside.last now.past r.0 in
+    let ends = finished s setting (read_once o).last wall (i + 1) now.outside.last now.past is set r.0 in
     record {
       fits = fits;
       finished = ends;

@@ -25,7 +25,7 @@ pub record SetByWords (s : ServeWords) (tick : ℕ) (wall : ℤ) (setting : Sett
 -- the node
 pub record HistoryKept (setting : Setting) (lines : List Line) : Type 0 where
   pub fits : Fits setting lines
-  pub finished : Finished lines
+  pub finished : Finished setting lines
   pub safe : Safe setting lines
   pub dates : Everywhere (SetsAt setting) lines
   pub hops : Everywhere HopsAt lines

@@ -29,9 +29,6 @@ use Rattle.tsp_rules.specs.Guards.{delay_at, is_armed, may_back_at, role_at, tic
 aside_posts : (p : PeerId) (kind : Kind) (number : ℕ) → is_in (sort_of_kind kind) aside_sorts ≡ true → Keeps DatesAside (posts p kind number)
 aside_posts p kind number e = DatesAside_by (posts p kind number) (Emits_posts p kind number e)
 
-aside_posts_to_others : (kind : Kind) (number : ℕ) → is_in (sort_of_kind kind) aside_sorts ≡ true → Keeps DatesAside (posts_to_others kind number)
-aside_posts_to_others kind number e = DatesAside_by (posts_to_others kind number) (Emits_posts_to_others kind number e)
-
 aside_arms : (alarm : Alarm) (long : ℕ) → is_in (sort_of_alarm alarm) aside_sorts ≡ true → Keeps DatesAside (arms alarm long)
 aside_arms alarm long e = DatesAside_by (arms alarm long) (Emits_arms alarm long e)
 
@@ -40,9 +37,6 @@ aside_adjusts amount e = DatesAside_by (adjusts amount) (Emits_adjusts amount e)
 
 aside_sets : (value : ℤ) → is_in Moving aside_sorts ≡ true → Keeps DatesAside (sets value)
 aside_sets value e = DatesAside_by (sets value) (Emits_sets value e)
-
-aside_begins : (p : PeerId) (number : ℕ) → Keeps DatesAside (begins_settime p number)
-aside_begins p number = DatesAside_by (begins_settime p number) (emits_settime_begins p number refl)
 
 pub DatesAside_elect : Keeps DatesAside arms_elect
 unfolding arms_elect
@@ -136,55 +130,3 @@ aside-kind p m _ = Keeps_nothing DatesAside
 pub DatesAside_slave_takes : (p : PeerId) (m : MessageValue) → Keeps DatesAside (slave_takes p m)
 unfolding slave_takes
 DatesAside_slave_takes p m = aside-kind p m m.kind
-
-pub DatesAside_yields : Keeps DatesAside yields
-unfolding yields
-DatesAside_yields = Keeps_then DatesAside (puts (Become Loose)) arms_elect (DatesAside_act (Become Loose) refl) DatesAside_elect
-
-aside-accepted : (p : PeerId) (number : ℕ) → Keeps DatesAside (accepted_by p number)
-unfolding accepted_by
-aside-accepted p number = Keeps_either DatesAside (has_election p number) _ nothing (Keeps_then DatesAside (puts (Acked p)) (puts (Backer p)) (DatesAside_act (Acked p) refl) (DatesAside_act (Backer p) refl)) (Keeps_nothing DatesAside)
-
-aside-refused : (p : PeerId) (number : ℕ) → Keeps DatesAside (refused_by p number)
-unfolding refused_by
-aside-refused p number = Keeps_either DatesAside (has_election p number) _ nothing (Keeps_then DatesAside (puts (Acked p)) yields (DatesAside_act (Acked p) refl) DatesAside_yields) (Keeps_nothing DatesAside)
-
-candidate-kind : (p : PeerId) (m : MessageValue) (k : Kind) → Keeps DatesAside (candidate_takes_kind p m k)
-unfolding candidate_takes_kind
-candidate-kind p m MasterUp = DatesAside_follow p
-candidate-kind p m MasterAck = DatesAside_follow p
-candidate-kind p m Election = aside_posts p Refuse m.number refl
-candidate-kind p m Accept = aside-accepted p m.number
-candidate-kind p m Refuse = aside-refused p m.number
-candidate-kind p m QuitKind = DatesAside_quits p m.number
-candidate-kind p m Ack = DatesAside_acks p m.number
-candidate-kind p m _ = Keeps_nothing DatesAside
-
-aside-joins : (p : PeerId) (number : ℕ) → Keeps DatesAside (joins p number)
-unfolding joins
-aside-joins p number = Keeps_either DatesAside (may_join p number) _ nothing (Keeps_then DatesAside (puts (Join p)) (begins_settime p number) (DatesAside_act (Join p) refl) (aside_begins p number)) (Keeps_nothing DatesAside)
-
-aside-away : (p : PeerId) → Keeps DatesAside (sends_away p)
-unfolding sends_away
-aside-away p = Keeps_either DatesAside (has_quit p) nothing (begins QuitKind p) (Keeps_nothing DatesAside) (DatesAside_begins QuitKind p refl)
-
-pub DatesAside_resolves : Keeps DatesAside resolves
-unfolding resolves
-DatesAside_resolves = Keeps_either DatesAside (is_armed ResolveAlarm) nothing _ (Keeps_nothing DatesAside) (Keeps_then DatesAside (arms ResolveAlarm WINDOW) (posts_to_others Resolve 0) (aside_arms ResolveAlarm WINDOW refl) (aside_posts_to_others Resolve 0 refl))
-
-pub DatesAside_finds_rival : (p : PeerId) → Keeps DatesAside (finds_rival p)
-unfolding finds_rival
-DatesAside_finds_rival p = Keeps_either DatesAside (is_new_rival p) (puts (Rival p)) nothing (DatesAside_act (Rival p) refl) (Keeps_nothing DatesAside)
-
-master-kind : (p : PeerId) (m : MessageValue) (k : Kind) → Keeps DatesAside (master_takes_kind p m k)
-unfolding master_takes_kind
-master-kind p m MasterReq = aside_posts p MasterAck m.number refl
-master-kind p m Resolve = aside_posts p MasterAck m.number refl
-master-kind p m SlaveUp = aside-joins p m.number
-master-kind p m Election = aside-away p
-master-kind p m MasterUp = DatesAside_resolves
-master-kind p m Conflict = Keeps_then DatesAside (posts p Ack m.number) resolves (aside_posts p Ack m.number refl) DatesAside_resolves
-master-kind p m MasterAck = DatesAside_finds_rival p
-master-kind p m QuitKind = DatesAside_quits p m.number
-master-kind p m Ack = DatesAside_acks p m.number
-master-kind p m _ = Keeps_nothing DatesAside

@@ -28,7 +28,7 @@ pub struct Exchanges {
 }
 
 impl Model for Exchanges {
-    ghost use Rattle.std.specs.Prelude.{◌≤◌, length, vec_capacity};
+    ghost use Rattle.std.specs.Prelude.{◌≡◌, ◌≤◌, length, vec_capacity};
     ghost use Rattle.std.specs.Box.{boxed_slice_items};
     ghost use Rattle.std.specs.List.Sorted.{IsStrictlyIncreasing};
     ghost use Rattle.tsp_measure.specs.Peers.{MeasuredPeers};
@@ -42,7 +42,7 @@ impl Model for Exchanges {
 
     ghost invariant = { λ e. IsStrictlyIncreasing (boxed_slice_items e.peers)
         × ((length e.measured.items ≤ length (boxed_slice_items e.peers))
-        × (length (boxed_slice_items e.peers) ≤ vec_capacity e.measured)) };
+        × (vec_capacity e.measured ≡ length (boxed_slice_items e.peers))) };
 }
 
 /// The peers' numbers.

@@ -11,7 +11,7 @@ use tsp_base::alarm::Alarm;
 use tsp_base::constants::{ROUND, WAIT};
 use tsp_base::desk::Desk;
 use tsp_base::place::Port;
-use tsp_candidate::candidature::begin_candidature;
+use tsp_candidate::candidature::stand;
 use tsp_slave::ring::{becomes_candidate, slave_ring};
 
 /// Whether a due alarm is its master's: a Probe, a Close, or a Round that doesn't wait.
@@ -62,7 +62,7 @@ fn ring_elect<D: Desk>(station: &mut Station, tick: u64, port: Port, desk: &mut 
 {
     if becomes_candidate(station, tick) {
         station.ring(Alarm::Elect, port, desk);
-        begin_candidature(station, tick, port, desk);
+        stand(station, tick, port, desk);
     } else {
         slave_ring(station, Alarm::Elect, tick, port, desk);
     }

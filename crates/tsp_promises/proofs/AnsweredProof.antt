@@ -11,7 +11,7 @@ use Rattle.tsp_base.specs.declared.place.PeerId.{PeerId}
 use Rattle.tsp_base.specs.declared.place.Place.{Place}
 use Rattle.tsp_base.specs.declared.place.Place.TheVariants.{Peer, Stranger}
 use Rattle.tsp_base.specs.declared.place.Port.{Port}
-use Rattle.tsp_promises.specs.Answered.{Acknowledged, Answered, HeedsQuit, OneForOneAt, QuitsAt, StrangersAt, TakesOneAt, from_strangers, from_strangers_after, has_answered, has_answered_after, has_quit, has_quit_after, to_strangers, to_strangers_after}
+use Rattle.tsp_promises.specs.Answered.{Acknowledged, Answered, AnswersAt, Heeded, HeedsQuit, OneForOneAt, QuitsAt, StrangersAt, TakesOneAt, from_strangers, from_strangers_after, has_answered, has_answered_after, has_quit, has_quit_after, to_strangers, to_strangers_after}
 use Rattle.tsp_promises.specs.DeedFits.{DeedFits}
 use Rattle.tsp_promises.specs.Fits.{Finished, Fits, SameStep, node_of}
 use Rattle.tsp_base.specs.History.{Acts, Begins, Deed, Did, Line, Seen, Here, Step, dids, is_shared, of, seen_as, view}
@@ -20,7 +20,7 @@ use Rattle.tsp_base.specs.PortFacts.{Received, taken, taken_after}
 use Rattle.tsp_promises.specs.QuitFits.{QuitFits}
 use Rattle.tsp_promises.specs.Setting.{Setting, setup_of}
 use Rattle.tsp_base.specs.Setup.{Setup}
-use Rattle.tsp_promises.specs.StepFacts.{is_answered, is_answered_after, unacknowledged}
+use Rattle.tsp_promises.specs.StepFacts.{is_answered, is_answered_after, unacknowledged, unheeded}
 use Rattle.tsp_base.specs.Takings.{heard}
 use Rattle.tsp_base.proofs.ViewPlaces.{or-false, port-same, sees-own}
 use Rattle.tsp_base.proofs.Views.{plain_view}
@@ -30,7 +30,7 @@ use Rattle.tsp_promises.proofs.HistoryPlaces.{of-own}
 use Rattle.tsp_promises.proofs.OwnFitsProof.{fits_at, own_fits}
 use Rattle.tsp_promises.proofs.PortFits.{deed_fits, mark_fits}
 use Rattle.tsp_promises.proofs.Printed.{heard_now}
-use Rattle.tsp_promises.proofs.StrangerFacts.{answering}
+use Rattle.tsp_promises.proofs.StrangerFacts.{answering, answers_asked}
 
 takes_one_at : (setting : Setting) (l : Line) (world : List Line) → Fits setting (l ∷ world) → TakesOneAt l world
 takes_one_at setting l world f from t is = ap heard (sym (plain_view l.port (of (node_of l) world))) ∙ deed_fits setting l world (Acts (Took from t)) is f.0
@@ -82,12 +82,25 @@ quits-of setting l world p (x ∷ older) f is q =
 quits_at : (setting : Setting) (l : Line) (world : List Line) → Fits setting (l ∷ world) → QuitsAt l world
 quits_at setting l world f p is = quits-of setting l world p (of (node_of l) world) (own_fits setting (node_of l) world f.1) refl (deed_fits setting l world (Acts (Quit p)) is f.0)
 
-acknowledged : (setting : Setting) (world : List Line) → Fits setting world → Finished world → Acknowledged world
+acknowledged : (setting : Setting) (world : List Line) → Fits setting world → Finished setting world → Acknowledged world
 acknowledged setting world f end = record {
   marks = Everywhere-from (λ (l : Line) (before : List Line). l.did.deed ≡ Begins → (q : Port) → unacknowledged (view q (of (node_of l) before)) ≡ None) world
       (λ l s w is q. (mark_fits setting l s is (fits_at setting (l ∷ s) world f w).0 q).acknowledged);
   ends = λ n q. (end n q).acknowledged;
 }
+
+heeded : (setting : Setting) (world : List Line) → Fits setting world → Finished setting world → Heeded setting world
+heeded setting world f end = record {
+  marks = Everywhere-from (λ (l : Line) (before : List Line). l.did.deed ≡ Begins → (q : Port) → unheeded (setup_of setting (node_of l) q).peers (view q (of (node_of l) before)) ≡ None) world
+      (λ l s w is q. (mark_fits setting l s is (fits_at setting (l ∷ s) world f w).0 q).heeds);
+  ends = λ n q. (end n q).heeds;
+}
+
+-- each answer answers what its step took from there
+answers_at : (setting : Setting) (l : Line) (world : List Line) → Fits setting (l ∷ world) → AnswersAt l world
+answers_at setting l world f to datagram is answer =
+    let a = answers_asked (setup_of setting (node_of l) l.port) to datagram l.did (view l.port (of (node_of l) world)) (deed_fits setting l world (Acts (Post to datagram)) is f.0).fits answer in
+    record { asked = a.asked; took = a.took; answer = a.answer }
 
 -- the port on which a step took its datagram: it took that, and no other port took any
 record TookOn (q : Port) (r : Received) (own : List Line) : Type 0 where
@@ -283,11 +296,13 @@ counted setting (l ∷ t) f = by-deed l.did.deed refl (counted setting t f.1) wh
 one_for_one_at : (setting : Setting) (l : Line) (world : List Line) → Fits setting (l ∷ world) → OneForOneAt l world
 one_for_one_at setting l world f = let c = counted setting (l ∷ world) f in omega (arith, c)
 
-pub answered : (setting : Setting) (world : List Line) → Fits setting world → Finished world → Answered setting world
+pub answered : (setting : Setting) (world : List Line) → Fits setting world → Finished setting world → Answered setting world
 answered setting world f end = record {
   takes_one = Everywhere-from TakesOneAt world (λ l s w. takes_one_at setting l s (fits_at setting (l ∷ s) world f w));
   quits = Everywhere-from QuitsAt world (λ l s w. quits_at setting l s (fits_at setting (l ∷ s) world f w));
+  heeded = heeded setting world f end;
   acknowledged = acknowledged setting world f end;
+  answers = Everywhere-from AnswersAt world (λ l s w. answers_at setting l s (fits_at setting (l ∷ s) world f w));
   strangers = Everywhere-from (StrangersAt setting) world (λ l s w. strangers_at setting l s (fits_at setting (l ∷ s) world f w));
   one_for_one = Everywhere-from OneForOneAt world (λ l s w. one_for_one_at setting l s (fits_at setting (l ∷ s) world f w));
 }

@@ -1,22 +1,26 @@
 -- Small histories that break the promise of answers.
 use Rattle.std.specs.Prelude.{◌≡◌, ◌≤◌, false, ℕ, pos, List, [], ◌∷◌, Option, None, Some, refl}
-use Rattle.std.proofs.Common.{sym, ap, arith, true≢false, ◌∙◌}
-use Rattle.tsp_base.specs.declared.act.Act.TheVariants.{Post, Quit, Took}
+use Rattle.std.proofs.Common.{sym, ap, arith, subst, true≢false, ◌∙◌}
+use Rattle.tsp_base.specs.declared.act.Act.TheVariants.{Become, Post, Quit, Took}
 use Rattle.tsp_base.specs.declared.datagram.Datagram.{Datagram}
 use Rattle.tsp_base.specs.declared.datagram.Datagram.TheVariants.{Message, Stamp}
 use Rattle.tsp_base.specs.declared.datagram.Taken.{Taken}
 use Rattle.tsp_base.specs.declared.datagram.Taken.TheVariants.{Good}
 use Rattle.tsp_base.specs.declared.kind.Kind.TheVariants.{Ack, Quit as QuitKind, Test}
 use Rattle.tsp_base.specs.declared.message.Body.TheVariants.{Nothing}
+use Rattle.tsp_base.specs.declared.place.PeerId.{PeerId}
+use Rattle.tsp_base.specs.declared.place.Place.{Place}
 use Rattle.tsp_base.specs.declared.place.Place.TheVariants.{Peer, Stranger}
+use Rattle.tsp_base.specs.declared.role.Role.TheVariants.{Loose}
 use Rattle.tsp_base.specs.declared.stamp.Stamp.TheVariants.{Reply, Request}
-use Rattle.tsp_promises.specs.Answered.{Answered}
+use Rattle.tsp_promises.specs.Answered.{Answered, AnswersAsked, AnswersWith}
 use Rattle.tsp_promises.specs.Broken.{AnswersBreak, Breaks}
-use Rattle.tsp_base.specs.History.{Handed, Line, dids}
+use Rattle.tsp_base.specs.History.{Handed, Turned, Line, dids}
+use Rattle.tsp_base.specs.Messages.{MessageValue}
 use Rattle.tsp_base.specs.PortFacts.{Received}
 use Rattle.tsp_base.specs.Stamps.{ReplyValue}
 use Rattle.tsp_base.specs.Takings.{heard, peer_of}
-use Rattle.tsp_promises.proofs.Histories.{does, msg, still}
+use Rattle.tsp_promises.proofs.Histories.{begins, does, msg, still}
 use Rattle.tsp_promises.proofs.StepChecks.{port0}
 
 abbrev asked : List Line
@@ -59,6 +63,11 @@ abbrev datagram-taken : Option Received → Option Datagram
 datagram-taken None = None
 datagram-taken (Some r) = datagram-in r.taken
 
+same-from : (p : PeerId) (o : Option Received) (d e : Datagram) → o ≡ Some (record { from = Peer p; taken = Good d }) → o ≡ Some (record { from = Peer p; taken = Good e }) → e ≡ d
+same-from p o d e x y =
+    let both : Some d ≡ Some e = ap datagram-taken (sym x ∙ y) in
+    cc
+
 same-datagram : (o : Option Received) (d e : Datagram) → o ≡ Some (record { from = Stranger; taken = Good d }) → o ≡ Some (record { from = Stranger; taken = Good e }) → e ≡ d
 same-datagram o d e x y =
     let both : Some d ≡ Some e = ap datagram-taken (sym x ∙ y) in
@@ -78,5 +87,62 @@ nameless = record {
 unasked : Breaks (Answered (still false))
 unasked = record { world = does 10 0 Handed (Post Stranger (Stamp (Reply reply))) ∷ []; broken = λ h. (let k : 1 ≤ 0 = h.one_for_one.0 in omega arith) }
 
+unheeded : Breaks (Answered (still false))
+unheeded = record {
+  world = does 10 0 Handed (Took (Peer (peer_of 1)) (Good (Message (msg QuitKind 32770 Nothing)))) ∷ (begins 10 0 Handed ∷ (does 5 0 Turned (Become Loose) ∷ []));
+  broken = λ h. (let k = h.heeded.ends 0 port0 in let bad : ⊥ = cc in bad);
+}
+
+abbrev number-at : Place → ℕ
+number-at (Peer p) = p.0
+number-at Stranger = 0
+
+abbrev sender-number : Option Received → ℕ
+sender-number None = 0
+sender-number (Some r) = number-at r.from
+
+unasked_peer : Breaks (Answered (still false))
+unasked_peer = record {
+  world = does 10 0 Handed (Post (Peer (peer_of 1)) (Stamp (Reply reply))) ∷ [];
+  broken = λ h. (let k = (h.answers.0 (Peer (peer_of 1)) (Stamp (Reply reply)) refl refl).took in let bad : ⊥ = cc in bad);
+}
+
+-- an ACK with the number after that of the QUIT
+abbrev next : MessageValue
+next = msg Ack 32771 Nothing
+
+misnumbered : Breaks (Answered (still false))
+misnumbered = record {
+  world = does 10 0 Handed (Post (Peer (peer_of 1)) (Message next)) ∷ quits;
+  broken = λ h. by_asked (h.answers.0 (Peer (peer_of 1)) (Message next) refl refl);
+} where
+  no-answer : (asked : Datagram) → asked ≡ Message (msg QuitKind 32770 Nothing) → AnswersWith asked (Message next) → ⊥
+  no-answer asked e answer =
+      let k = subst (λ d. AnswersWith d (Message next)) e answer in
+      let same = k.1 in
+      omega (arith, same)
+
+  by_asked : AnswersAsked (Peer (peer_of 1)) (does 10 0 Handed (Post (Peer (peer_of 1)) (Message next))) quits (Message next) → ⊥
+  by_asked a = no-answer a.asked (same-from (peer_of 1) _ (Message (msg QuitKind 32770 Nothing)) a.asked refl a.took) a.answer
+
+misled : Breaks (Answered (still false))
+misled = record {
+  world = does 10 0 Handed (Post (Peer (peer_of 2)) (Message (msg Ack 32770 Nothing))) ∷ quits;
+  broken = λ h.
+      let same = ap sender-number (h.answers.0 (Peer (peer_of 2)) (Message (msg Ack 32770 Nothing)) refl refl).took in
+      omega (arith, same);
+}
+
 pub answers_break : AnswersBreak (still false)
-answers_break = record { takes_two = takes_two; quits_twice = quits_twice; unacknowledged = unacknowledged; replies_twice = replies_twice; nameless = nameless; unasked = unasked }
+answers_break = record {
+  takes_two = takes_two;
+  quits_twice = quits_twice;
+  unheeded = unheeded;
+  unacknowledged = unacknowledged;
+  replies_twice = replies_twice;
+  nameless = nameless;
+  unasked = unasked;
+  unasked_peer = unasked_peer;
+  misnumbered = misnumbered;
+  misled = misled;
+}

@@ -21,7 +21,7 @@ use Rattle.tsp_promises.specs.OneError.{OneError}
 use Rattle.tsp_base.specs.Takings.{peer_of}
 use Rattle.tsp_promises.proofs.BrokenAnswers.{answers_break}
 use Rattle.tsp_promises.proofs.BrokenClocks.{clocks_break, left_alone, relays_wrong, stray, strays, wrong}
-use Rattle.tsp_promises.proofs.BrokenEstimates.{estimates_apart, master_near}
+use Rattle.tsp_promises.proofs.BrokenEstimates.{ended_near, estimates_apart, master_near}
 use Rattle.tsp_promises.proofs.BrokenReadings.{readings_break}
 use Rattle.tsp_promises.proofs.BrokenRoles.{roles_break}
 use Rattle.tsp_promises.proofs.BrokenRounds.{rounds_break}
@@ -172,7 +172,7 @@ first_set_soon = record {
 }
 
 chains_break : ChainsBreak (still false)
-chains_break = record { down = down; across = across; tree = tree; throughout = throughout; throughout_peers = throughout_peers; estimates_apart = estimates_apart; master_near = master_near; errs_bounded = errs_bounded; one_error = one_error; answered_late = answered_late; first_set = first_set; first_set_soon = first_set_soon }
+chains_break = record { down = down; across = across; tree = tree; throughout = throughout; throughout_peers = throughout_peers; estimates_apart = estimates_apart; master_near = master_near; ended_near = ended_near; errs_bounded = errs_bounded; one_error = one_error; answered_late = answered_late; first_set = first_set; first_set_soon = first_set_soon }
 
 -- each promise is broken by some history
 pub all_break : AllBreak

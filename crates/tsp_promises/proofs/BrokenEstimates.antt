@@ -41,11 +41,12 @@ near-two = record {
   unchanged = record { corrects = refl; lives = refl };
 }
 
+-- a Close that begins no ADJTIME
 pub estimates_apart : Breaks (EstimatesHold (still false))
 estimates_apart = record {
-  world = adjusts ∷ (closing ∷ far19);
+  world = closing ∷ far19;
   broken = λ h.
-      let k : pos 9000151 ≤ℤ pos 855 = h.apart.0 0 1 2 closing far19 (negsuc 83) (sample1 (pos 9000000) far17) (sample2 far18) sounds answers (skip 1 w15) (skip 1 w16) (begins-at far19 (closing ∷ far19) (inl refl) refl refl) far-one near-two in
+      let k : pos 9000151 ≤ℤ pos 855 = h.apart.0 0 1 2 3 (negsuc 150) (pos 151) (negsuc 83) (sample1 (pos 9000000) far17) (sample2 far18) sounds answers (skip 1 w15) (skip 1 w16) refl refl far-one near-two in
       omega (arith, ints);
 }
 
@@ -60,5 +61,17 @@ master_near = record {
       let k : pos 5000001 ≤ℤ pos 420 = h.near.0 408000000 (omega arith) 0 1 closing (skip 4 w19) (negsuc 83) adjusts strayed (sample1 (negsuc 100) w17) sounds (skip 1 w15) (inl refl) (begins-at (skip 4 w19) strayed (skipped 1 strayed) refl refl)
       (estimate1 (adjusts ∷ strayed) (record { corrects = refl; lives = refl }))
       (record { lives = refl; corrects = inr (record { next = does 408000000 0 Turned (Correct (pos 5000000) false (pos 0)); before = skip 3 w19; is = refl; amount = pos 5000000; stepped = false; shown = pos 0; place = skipped 1 (adjusts ∷ strayed); node = refl; deed = refl; corrects = refl }) }) in
+      omega (arith, ints);
+}
+
+-- the same, before the first ADJTIME is posted
+pub ended_near : Breaks (EstimatesHold (still false))
+ended_near = record {
+  world = strayed;
+  broken = λ h.
+      let k : pos 5000001 ≤ℤ pos 420 = h.ended.0 408000000 (omega arith) 0 1 closing (does 408000000 0 Turned (Correct (pos 5000000) false (pos 0))) (skip 4 w19) (pos 5000000) (sample1 (negsuc 100) w17) sounds (skip 1 w15)
+      (record { within = inl refl; since = record { corrects = refl; lives = refl } })
+      (record { count = 3; lo = negsuc 150; size = pos 151; mean = negsuc 83; deed = refl; node = refl; stepped = false; shown = pos 0; correct = refl; correct_node = refl })
+      (estimate1 strayed (record { corrects = refl; lives = refl })) in
       omega (arith, ints);
 }

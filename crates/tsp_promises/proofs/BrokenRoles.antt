@@ -1,21 +1,25 @@
 -- Small histories that break the promises of roles.
-use Rattle.std.specs.Prelude.{◌≡◌, ◌≤◌, ◌<◌, true, false, ◌+◌, pos, List, [], ◌∷◌, Some, None, refl}
+use Rattle.std.specs.Prelude.{◌≡◌, ◌≤◌, ◌<◌, ℕ, true, false, ◌+◌, pos, List, [], ◌∷◌, Option, Some, None, refl}
 use Rattle.std.proofs.Common.{ap, arith, inl, inr, sym, true≢false}
 use Rattle.tsp_base.specs.declared.act.Act.TheVariants.{Boot, Took, Post, Become, Back, Quit, Ring, Close, Correct}
 use Rattle.tsp_base.specs.declared.alarm.Alarm.TheVariants.{Resolve}
 use Rattle.tsp_base.specs.declared.constants.TheConstants.{ELECT_MIN}
-use Rattle.tsp_base.specs.declared.datagram.Datagram.TheVariants.{Message}
+use Rattle.tsp_base.specs.declared.datagram.Datagram.TheVariants.{Message, Stamp}
 use Rattle.tsp_base.specs.declared.datagram.Taken.TheVariants.{Good}
-use Rattle.tsp_base.specs.declared.kind.Kind.TheVariants.{Ack, AdjTime, Accept, Election, MasterReq, Quit as QuitKind}
+use Rattle.tsp_base.specs.declared.kind.Kind.TheVariants.{Ack, AdjTime, Accept, Election, MasterReq, Msite, Quit as QuitKind}
 use Rattle.tsp_base.specs.declared.message.Body.TheVariants.{Nothing, Time}
 use Rattle.tsp_base.specs.declared.place.PeerId.{PeerId}
 use Rattle.tsp_base.specs.declared.place.Place.TheVariants.{Peer, Stranger}
 use Rattle.tsp_base.specs.declared.role.Role.TheVariants.{Candidate, Starting, Follow, Master}
-use Rattle.tsp_base.specs.History.{Booted, Came, Turned, Line, of, view}
+use Rattle.tsp_base.specs.declared.stamp.Stamp.TheVariants.{Reply}
+use Rattle.tsp_base.specs.History.{Booted, Came, Handed, Turned, Line, of, view}
+use Rattle.tsp_base.specs.Messages.{MessageValue}
+use Rattle.tsp_base.specs.PortFacts.{Received, message_in}
+use Rattle.tsp_base.specs.Stamps.{ReplyValue}
 use Rattle.tsp_promises.specs.OneBack.{OneBack}
 use Rattle.tsp_promises.specs.OneWinner.{OneWinner}
 use Rattle.tsp_promises.specs.OnlyMaster.{OnlyMaster}
-use Rattle.tsp_promises.specs.Resolved.{StaysQuiet, StopsLeading, TakesQuit, Yields}
+use Rattle.tsp_promises.specs.Resolved.{StaysQuiet, StopsLeading, TakesQuit, Yields, YieldsTaken}
 use Rattle.tsp_promises.specs.Silent.{Silent}
 use Rattle.tsp_base.specs.Takings.{peer_of}
 use Rattle.tsp_promises.specs.Broken.{Breaks, RolesBreak}
@@ -125,6 +129,13 @@ yields_again = record {
   broken = λ h. two-one (h.ends 0 port0 (peer_of 1) refl);
 }
 
+-- it takes the QUIT, and does nothing
+only_takes : Breaks (YieldsTaken (still false))
+only_takes = record {
+  world = does 20 0 Handed (Took (Peer (peer_of 1)) (Good (Message (msg QuitKind 32770 Nothing)))) ∷ (begins 20 0 Handed ∷ (does 10 0 Turned (Become Master) ∷ []));
+  broken = λ h. follow-master (peer_of 1) (h.ends 0 port0 (peer_of 1) refl);
+}
+
 quiet : Breaks StaysQuiet
 quiet = record {
   world = does 20 0 Turned (Become Master) ∷ (does 10 0 Turned (Quit (peer_of 1)) ∷ []);
@@ -184,6 +195,42 @@ speaks = record {
   ];
 }
 
+some-some : {A B : Type 0} (a : A) → None ≡ Some a → B
+some-some a e = let bad : ⊥ = cc in absurd bad
+
+-- a reply that nobody asked for
+abbrev idle : ReplyValue
+idle = record { ticket = 0; word = 5; counter = 0; reading = pos 10 }
+
+replies_early : Breaks Silent
+replies_early = record {
+  world = does 10 0 Turned (Post (Peer (peer_of 1)) (Stamp (Reply idle))) ∷ (does 0 0 (Booted 7 (pos 0)) Boot ∷ []);
+  broken = λ h. elim (h.0.posts (Peer (peer_of 1)) (Stamp (Reply idle)) refl) [
+    | inl late ↦ omega arith
+    | inr early ↦ some-some _ early
+  ];
+}
+
+abbrev pub asked-name : List Line
+asked-name = does 10 0 Handed (Took Stranger (Good (Message (msg Msite 3 Nothing)))) ∷ (does 0 0 (Booted 7 (pos 0)) Boot ∷ [])
+
+abbrev number-of : Option MessageValue → ℕ
+number-of None = 0
+number-of (Some m) = m.number
+
+abbrev number-in : Option Received → ℕ
+number-in None = 0
+number-in (Some r) = number-of (message_in r.taken)
+
+acks_early : Breaks Silent
+acks_early = record {
+  world = does 10 0 Handed (Post Stranger (Message (msg Ack 4 Nothing))) ∷ asked-name;
+  broken = λ h. elim (h.0.posts Stranger (Message (msg Ack 4 Nothing)) refl) [
+    | inl late ↦ omega arith
+    | inr early ↦ (let same : 3 ≡ early.1.message.number = ap number-in early.1.took in let is = early.1.number_is in omega (arith, same, is))
+  ];
+}
+
 corrects_early : Breaks Silent
 corrects_early = record {
   world = does 10 0 Turned (Correct (pos 5) true (pos 0)) ∷ (does 0 0 (Booted 7 (pos 0)) Boot ∷ []);
@@ -201,12 +248,15 @@ roles_break = record {
   corrects = corrects;
   closes = closes;
   speaks = speaks;
+  replies_early = replies_early;
+  acks_early = acks_early;
   corrects_early = corrects_early;
   follows_close = follows_close;
   winners = winners;
   yields = yields;
   yields_twice = yields_twice;
   yields_again = yields_again;
+  only_takes = only_takes;
   quiet = quiet;
   stops = stops;
   stops_later = stops_later;

@@ -11,10 +11,10 @@ use Rattle.tsp_base.specs.declared.place.Place.TheVariants.{Peer}
 use Rattle.tsp_base.specs.declared.stamp.Stamp.TheVariants.{Reply}
 use Rattle.tsp_promises.specs.Agreed.{Cast}
 use Rattle.tsp_promises.specs.Broken.{Breaks, RoundsBreak}
-use Rattle.tsp_promises.specs.Estimates.{Estimate}
+use Rattle.tsp_promises.specs.Estimates.{Estimate, Moves}
 use Rattle.tsp_base.specs.History.{Came, Turned, Line}
 use Rattle.tsp_base.specs.Messages.{MessageValue}
-use Rattle.tsp_promises.specs.Moderate.{Moderate, ModerateClocks, Moves, PeerCorrects}
+use Rattle.tsp_promises.specs.Moderate.{Moderate, ModerateClocks, PeerCorrects}
 use Rattle.tsp_promises.specs.Seldom.{Seldom}
 use Rattle.tsp_base.specs.Takings.{peer_of}
 use Rattle.tsp_promises.proofs.CastBy.{cast-by}
@@ -40,13 +40,26 @@ moves = record { count = 2; lo = negsuc 100; size = pos 101; mean = pos 300000; 
 mean_far : Breaks (Moderate (still false))
 mean_far = record {
   world = jumped;
-  broken = λ h. (let k : 300101 ≤ 40000 = h.0.mean 0 shut (skip 4 n4) (pos 300000) (negsuc 100) refl moves (small-agrees (pos 300000) (negsuc 100) (1, omega arith, refl) refl) in omega arith);
+  broken = λ h. (let k : 300101 ≤ 40000 = (h.0.mean 0 shut (skip 4 n4) (pos 300000) (negsuc 100) refl moves (small-agrees (pos 300000) (negsuc 100) (1, omega arith, refl) refl)).moves in omega arith);
 }
 
 own_far : Breaks (Moderate (still false))
 own_far = record {
   world = jumped;
   broken = λ h. (let k : 300000 ≤ 40000 = (h.0.own 0 shut (skip 4 n4) (pos 300000) refl moves (own-agrees (pos 300000))).near in omega arith);
+}
+
+-- it prints that mean, and moves the clock by -50 microseconds
+abbrev crawls : Line
+crawls = does 408000000 0 Turned (Correct (negsuc 49) false (pos 0))
+
+prints_far : Breaks (Moderate (still false))
+prints_far = record {
+  world = crawls ∷ (shut ∷ skip 4 n4);
+  broken = λ h.
+      let v : Moves 0 shut crawls (negsuc 49) = record { count = 2; lo = negsuc 100; size = pos 101; mean = pos 300000; deed = refl; node = refl; stepped = false; shown = pos 0; correct = refl; correct_node = refl } in
+      let k : 300101 ≤ 40000 = (h.0.mean 0 shut (skip 4 n4) (negsuc 49) (negsuc 100) refl v (small-agrees (pos 300000) (negsuc 100) (1, omega arith, refl) refl)).prints in
+      omega arith;
 }
 
 -- the same round with its own mean, and a Correct that is stepped
@@ -168,4 +181,4 @@ close_soon = record {
 }
 
 pub rounds_break : RoundsBreak (still false)
-rounds_break = record { mean_far = mean_far; own_far = own_far; own_stepped = own_stepped; peer_stepped = peer_stepped; adjtime_far = adjtime_far; peer_far = peer_far; late_met = late_met; clocks_far = clocks_far; close_soon = close_soon }
+rounds_break = record { mean_far = mean_far; own_far = own_far; prints_far = prints_far; own_stepped = own_stepped; peer_stepped = peer_stepped; adjtime_far = adjtime_far; peer_far = peer_far; late_met = late_met; clocks_far = clocks_far; close_soon = close_soon }

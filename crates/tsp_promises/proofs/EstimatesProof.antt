@@ -1,18 +1,21 @@
 -- What the estimates of a round tell of the clocks.
-use Rattle.std.specs.Prelude.{◌≡◌, ◌≤◌, ◌≤ℤ◌, ◌⊎◌, ℕ, ◌+◌, ◌-◌, ◌*◌, ℤ, pos, ◌+ℤ◌, ◌-ℤ◌, nat_abs, List, ◌∷◌}
-use Rattle.std.proofs.Common.{sym, arith, subst, subst₂, inl, inr, ◌∙◌}
+use Rattle.std.specs.Prelude.{◌≡◌, ◌≤◌, ◌≤ℤ◌, ◌⊎◌, ℕ, ◌+◌, ◌-◌, ◌*◌, ℤ, pos, ◌+ℤ◌, ◌-ℤ◌, nat_abs, List, ◌∷◌, refl}
+use Rattle.std.proofs.Common.{sym, ap, arith, subst, subst₂, inl, inr, ◌∙◌}
 use Rattle.std.proofs.lemmas.Int.{ints}
+use Rattle.tsp_base.specs.declared.act.Act.TheVariants.{Close}
 use Rattle.tsp_base.specs.declared.kind.Kind.TheVariants.{AdjTime}
 use Rattle.tsp_base.specs.declared.place.PeerId.{PeerId}
+use Rattle.tsp_promises.specs.Agreed.{Unchanged}
 use Rattle.tsp_promises.specs.ClockAt.{clock_at}
 use Rattle.tsp_promises.specs.CorrectionFits.{AnswersSlaveUp, AtClose, FollowedBy, FromClose}
-use Rattle.tsp_promises.specs.Estimates.{CloseBegins, Estimate, EstimatesHold, EstimatesNear, MasterNear}
-use Rattle.tsp_promises.specs.Fits.{Fits}
-use Rattle.tsp_base.specs.History.{Did, Here, Line, Seen, dids, of, plain, view}
+use Rattle.tsp_promises.specs.Estimates.{CloseBegins, EndedNear, Estimate, EstimatesHold, EstimatesNear, MasterNear, Moves, NearMean}
+use Rattle.tsp_promises.specs.Fits.{Fits, node_of}
+use Rattle.tsp_base.specs.History.{Acts, Did, Here, Line, Seen, dids, of, view}
 use Rattle.tsp_base.specs.Messages.{MessageValue}
-use Rattle.tsp_base.specs.NodeFacts.{moved, time_of}
+use Rattle.tsp_base.specs.NodeFacts.{lives, moved, time_of}
 use Rattle.tsp_base.specs.Places.{Within}
-use Rattle.tsp_base.specs.RoundFacts.{Sampled, started}
+use Rattle.tsp_base.specs.RoundFacts.{Sampled}
+use Rattle.tsp_promises.specs.RoundFits.{CloseFits}
 use Rattle.tsp_promises.specs.Setting.{Setting}
 use Rattle.tsp_promises.specs.StepFacts.{closed}
 use Rattle.tsp_base.specs.Takings.{Undisturbed}
@@ -22,8 +25,10 @@ use Rattle.tsp_promises.proofs.CastProof.{corrects-adj}
 use Rattle.tsp_promises.proofs.Clocks.{drift_apart}
 use Rattle.tsp_promises.proofs.EverywhereLemmas.{Everywhere-from}
 use Rattle.tsp_promises.proofs.Given.{Given, given_at}
-use Rattle.tsp_promises.proofs.MasterMoved.{master_moved, same-mean, unmoved}
+use Rattle.tsp_promises.proofs.HistoryPlaces.{of-own}
+use Rattle.tsp_promises.proofs.MasterMoved.{master_moved, moved-right-after, same-mean, unmoved}
 use Rattle.tsp_promises.proofs.OwnFitsProof.{fits_at, place-time}
+use Rattle.tsp_promises.proofs.PortFits.{deed_fits}
 use Rattle.tsp_promises.proofs.ReadingProof.{ReadAt, read_at}
 use Rattle.tsp_promises.proofs.SendPlaces.{post_fits}
 
@@ -51,19 +56,22 @@ closing setting m close cpast mean f fw fits b =
     let u = at-close f.did (view f.port (of m fw)) b.peer b.message close.did (view f.port (of m cpast)) b.kind b.close_is (c.begins b.begins).from in
     record { peer = b.peer; message = b.message; mean = u.0; sample = u.1.0; is = u.1.1 }
 
--- the reading of an estimate
-reading : (setting : Setting) (m k : ℕ) (close : Line) (cpast : List Line) (mean : ℤ) (f : Line) (fw : List Line) (x : Sampled) (r : Line) (older h : List Line) → Given setting (f ∷ fw) → (b : CloseBegins m close cpast mean f fw) →
-    (c : Closing f.did (view f.port (of m fw)) close.did (view f.port (of m cpast))) → Estimate m k close cpast x r older h → ReadAt setting m k cpast x c.is.start r older
-reading setting m k close cpast mean f fw x r older h g b c e =
+-- what a Close owes
+close-fits : (setting : Setting) (m : ℕ) (close : Line) (cpast : List Line) (count : ℕ) (lo size mean : ℤ) → Fits setting (close ∷ cpast) → close.did.deed ≡ Acts (Close count lo size mean) → node_of close ≡ m → CloseFits close.did (view close.port (of m cpast))
+close-fits setting m close cpast count lo size mean f deed node = subst (λ n. CloseFits close.did (view close.port (of n cpast))) node (deed_fits setting close cpast (Acts (Close count lo size mean)) deed f.0)
+
+-- the reading of an estimate that a Close has
+reading : (setting : Setting) (m k : ℕ) (close : Line) (cpast : List Line) (x : Sampled) (r : Line) (older h now : List Line) → Given setting h → Within (close ∷ cpast) h → (c : CloseFits close.did (view close.port (of m cpast))) → Estimate m k close cpast x r older now →
+    ReadAt setting m k cpast x c.start r older
+reading setting m k close cpast x r older h now g close_in c e =
     let rd = e.reading in
-    let u = c.is in
-    let close_in : Within (close ∷ cpast) (f ∷ fw) = inr b.closes in
-    let fc = fits_at setting (close ∷ cpast) (f ∷ fw) g.fits close_in in
-    let cpast_in : Within cpast (f ∷ fw) = Within-tail close cpast (f ∷ fw) close_in in
-    let gs = given_at setting (rd.line ∷ rd.before) (f ∷ fw) g (Within-through (rd.line ∷ rd.before) cpast (f ∷ fw) rd.at cpast_in) in
-    let start_is : started (view close.port (of m cpast)) ≡ Here u.start ∷ u.idle = subst (λ q. started (view q (of m cpast)) ≡ Here u.start ∷ u.idle) (sym b.port) u.start_is in
-    let left : Undisturbed (plain u.idle) (plain (view close.port (of m cpast))) = subst (λ q. Undisturbed (plain u.idle) (plain (view q (of m cpast)))) (sym b.port) u.undisturbed in
-    read_at setting m k close.port rd.line r rd.before cpast older x u.start u.idle rd.to rd.datagram gs.fits gs.honest gs.life fc.1 rd.node rd.port e.best_is rd.is rd.reads rd.takes rd.deed start_is left
+    let fc = fits_at setting (close ∷ cpast) h g.fits close_in in
+    let gs = given_at setting (rd.line ∷ rd.before) h g (Within-through (rd.line ∷ rd.before) cpast h rd.at (Within-tail close cpast h close_in)) in
+    read_at setting m k close.port rd.line r rd.before cpast older x c.start c.idle rd.to rd.datagram gs.fits gs.honest gs.life fc.1 rd.node rd.port e.best_is rd.is rd.reads rd.takes rd.deed c.start_is c.undisturbed
+
+-- it stands before the Close
+reading-in : (m k : ℕ) (close : Line) (cpast : List Line) (x : Sampled) (r : Line) (older now : List Line) → Estimate m k close cpast x r older now → Within (r ∷ older) cpast
+reading-in m k close cpast x r older now e = let rd = e.reading in Within-through (r ∷ older) rd.before cpast rd.reads (Within-tail rd.line rd.before cpast rd.at)
 
 -- the clock of k against m's as it was before the Close
 off-by : (wk wm k0 m0 diff e : ℤ) (kr kt mr mt w : ℕ) → pos (nat_abs (diff -ℤ (((wk +ℤ k0) +ℤ pos kr) -ℤ ((wm +ℤ m0) +ℤ pos mr)))) ≤ℤ e → kt + mr ≤ kr + mt + w → kr + mt ≤ kt + mr + w →
@@ -71,7 +79,7 @@ off-by : (wk wm k0 m0 diff e : ℤ) (kr kt mr mt w : ℕ) → pos (nat_abs (diff
 off-by wk wm k0 m0 diff e kr kt mr mt w a b c = omega (arith, ints)
 
 -- an estimate holds at a later time, as long as its node is left alone
-pub holds : (setting : Setting) (m k : ℕ) (cpast : List Line) (x : Sampled) (start : Did) (r : Line) (older h : List Line) (t : ℕ) → Fits setting h → Within (r ∷ older) h → time_of (dids h) ≤ t → ReadAt setting m k cpast x start r older → Undisturbed (dids (of k (r ∷ older))) (dids (of k h)) →
+holds : (setting : Setting) (m k : ℕ) (cpast : List Line) (x : Sampled) (start : Did) (r : Line) (older h : List Line) (t : ℕ) → Fits setting h → Within (r ∷ older) h → time_of (dids h) ≤ t → ReadAt setting m k cpast x start r older → Undisturbed (dids (of k (r ∷ older))) (dids (of k h)) →
     pos (nat_abs (x.diff -ℤ (clock_at setting k h t -ℤ ((setting.wall m +ℤ moved (dids (of m cpast))) +ℤ pos (tick_at (setting.rate m) t))))) ≤ℤ (x.err +ℤ pos (2 * width setting.drift (t - r.did.step.at)))
 holds setting m k cpast x start r older h t f r_in by d u =
     let order : r.did.step.at ≤ t = (let p = place-time setting (r ∷ older) h f r_in in omega arith) in
@@ -83,41 +91,56 @@ holds setting m k cpast x start r older h t f r_in by d u =
 two-near : (a b c d ref e f : ℤ) (v w : ℕ) → pos (nat_abs (a -ℤ (c -ℤ ref))) ≤ℤ (e +ℤ pos v) → pos (nat_abs (b -ℤ (d -ℤ ref))) ≤ℤ (f +ℤ pos w) → pos (nat_abs (a -ℤ b)) ≤ℤ ((pos (nat_abs (c -ℤ d)) +ℤ (e +ℤ f)) +ℤ pos (v + w))
 two-near a b c d ref e f v w h k = omega (arith, ints)
 
-pub one-near : (diff mean c ref now e : ℤ) (w : ℕ) → pos (nat_abs (diff -ℤ (c -ℤ ref))) ≤ℤ (e +ℤ pos w) → now ≡ ref +ℤ mean → pos (nat_abs (now -ℤ c)) ≤ℤ ((pos (nat_abs (mean -ℤ diff)) +ℤ e) +ℤ pos w)
+one-near : (diff mean c ref now e : ℤ) (w : ℕ) → pos (nat_abs (diff -ℤ (c -ℤ ref))) ≤ℤ (e +ℤ pos w) → now ≡ ref +ℤ mean → pos (nat_abs (now -ℤ c)) ≤ℤ ((pos (nat_abs (mean -ℤ diff)) +ℤ e) +ℤ pos w)
 one-near diff mean c ref now e w h g = omega (arith, ints)
 
-pub by-mean : (wall moved_h moved_c mean : ℤ) (tick : ℕ) → moved_h ≡ moved_c +ℤ mean → (wall +ℤ moved_h) +ℤ pos tick ≡ ((wall +ℤ moved_c) +ℤ pos tick) +ℤ mean
+by-mean : (wall moved_h moved_c mean : ℤ) (tick : ℕ) → moved_h ≡ moved_c +ℤ mean → (wall +ℤ moved_h) +ℤ pos tick ≡ ((wall +ℤ moved_c) +ℤ pos tick) +ℤ mean
 by-mean wall moved_h moved_c mean tick e = omega (arith, ints)
 
-estimates-near : (setting : Setting) (f : Line) (fw : List Line) → Given setting (f ∷ fw) → EstimatesNear setting f fw
-estimates-near setting f fw g m k l close cpast mean x y r q rolder qolder b d e =
-    let close_in : Within (close ∷ cpast) (f ∷ fw) = inr b.closes in
-    let fc = fits_at setting (close ∷ cpast) (f ∷ fw) g.fits close_in in
-    let c = closing setting m close cpast mean f fw g.fits b in
-    let r_in : Within (r ∷ rolder) cpast = Within-through (r ∷ rolder) d.reading.before cpast d.reading.reads (Within-tail d.reading.line d.reading.before cpast d.reading.at) in
-    let q_in : Within (q ∷ qolder) cpast = Within-through (q ∷ qolder) e.reading.before cpast e.reading.reads (Within-tail e.reading.line e.reading.before cpast e.reading.at) in
+estimates-near : (setting : Setting) (close : Line) (cpast : List Line) → Given setting (close ∷ cpast) → EstimatesNear setting close cpast
+estimates-near setting close cpast g m k l count lo size mean x y r q rolder qolder deed node d e =
+    let f = g.fits in
+    let c = close-fits setting m close cpast count lo size mean f deed node in
     let t = close.did.step.at in
     two-near x.diff y.diff (clock_at setting k cpast t) (clock_at setting l cpast t) ((setting.wall m +ℤ moved (dids (of m cpast))) +ℤ pos (tick_at (setting.rate m) t)) x.err y.err (2 * width setting.drift (t - r.did.step.at)) (2 * width setting.drift (t - q.did.step.at))
-    (holds setting m k cpast x c.is.start r rolder cpast t fc.1 r_in fc.0.order (reading setting m k close cpast mean f fw x r rolder cpast g b c d) d.unchanged)
-    (holds setting m l cpast y c.is.start q qolder cpast t fc.1 q_in fc.0.order (reading setting m l close cpast mean f fw y q qolder cpast g b c e) e.unchanged)
+    (holds setting m k cpast x c.start r rolder cpast t f.1 (reading-in m k close cpast x r rolder cpast d) f.0.order (reading setting m k close cpast x r rolder (close ∷ cpast) cpast g (inl refl) c d) d.unchanged)
+    (holds setting m l cpast y c.start q qolder cpast t f.1 (reading-in m l close cpast y q qolder cpast e) f.0.order (reading setting m l close cpast y q qolder (close ∷ cpast) cpast g (inl refl) c e) e.unchanged)
+
+-- an estimate against the master's clock, which has moved by the mean since the Close
+near-mean : (setting : Setting) (m k : ℕ) (close : Line) (cpast : List Line) (count : ℕ) (lo size mean : ℤ) (x : Sampled) (r : Line) (older h : List Line) (t : ℕ) → Given setting h → time_of (dids h) ≤ t → Within (close ∷ cpast) h → close.did.deed ≡ Acts (Close count lo size mean) → node_of close ≡ m →
+    Estimate m k close cpast x r older h → moved (dids (of m h)) ≡ moved (dids (of m cpast)) +ℤ mean → NearMean setting m k mean x r h t
+near-mean setting m k close cpast count lo size mean x r older h t g by close_in deed node e moved_is =
+    let c = close-fits setting m close cpast count lo size mean (fits_at setting (close ∷ cpast) h g.fits close_in) deed node in
+    let r_in : Within (r ∷ older) h = Within-through (r ∷ older) cpast h (reading-in m k close cpast x r older h e) (Within-tail close cpast h close_in) in
+    let near = holds setting m k cpast x c.start r older h t g.fits r_in by (reading setting m k close cpast x r older h h g close_in c e) e.unchanged in
+    one-near x.diff mean (clock_at setting k h t) ((setting.wall m +ℤ moved (dids (of m cpast))) +ℤ pos (tick_at (setting.rate m) t)) (clock_at setting m h t) x.err (2 * width setting.drift (t - r.did.step.at)) near
+    (by-mean (setting.wall m) (moved (dids (of m h))) (moved (dids (of m cpast))) mean (tick_at (setting.rate m) t) moved_is)
 
 master-near : (setting : Setting) (h : List Line) (t : ℕ) → Given setting h → time_of (dids h) ≤ t → MasterNear setting h t
 master-near setting h t g by m k close cpast mean f fw x r older f_in b e v =
     let gf = given_at setting (f ∷ fw) h g f_in in
     let c = closing setting m close cpast mean f fw gf.fits b in
     let close_h : Within (close ∷ cpast) h = Within-through (close ∷ cpast) (f ∷ fw) h (inr b.closes) f_in in
-    let cpast_h : Within cpast h = Within-tail close cpast h close_h in
-    let r_in : Within (r ∷ older) h = Within-through (r ∷ older) cpast h (Within-through (r ∷ older) e.reading.before cpast e.reading.reads (Within-tail e.reading.line e.reading.before cpast e.reading.at)) cpast_h in
-    let near = holds setting m k cpast x c.is.start r older h t g.fits r_in by (reading setting m k close cpast mean f fw x r older h gf b c e) e.unchanged in
     let same : c.mean ≡ mean = same-mean b.count c.is.count b.lo c.is.lo b.size c.is.size mean c.mean (sym b.deed ∙ c.is.deed) in
     let followed = subst (λ z. (z ≡ pos 0) ⊎ FollowedBy close.did (view f.port (of m cpast)) (view f.port (of m fw)) z) same c.is.followed in
     let fw_in : Within fw h = Within-tail f fw h f_in in
     let moved_is = master_moved setting m f.port close cpast fw h b.count b.lo b.size mean g.fits b.deed b.node close_h v fw_in followed in
-    one-near x.diff mean (clock_at setting k h t) ((setting.wall m +ℤ moved (dids (of m cpast))) +ℤ pos (tick_at (setting.rate m) t)) (clock_at setting m h t) x.err (2 * width setting.drift (t - r.did.step.at)) near
-    (by-mean (setting.wall m) (moved (dids (of m h))) (moved (dids (of m cpast))) mean (tick_at (setting.rate m) t) moved_is)
+    near-mean setting m k close cpast b.count b.lo b.size mean x r older h t g by close_h b.deed b.node e moved_is
+
+-- m's clock has moved by the mean since the Close
+moved-by : (setting : Setting) (m : ℕ) (close c : Line) (cpast h : List Line) (amount : ℤ) → Fits setting h → (v : Moves m close c amount) → Unchanged m (c ∷ (close ∷ cpast)) h → moved (dids (of m h)) ≡ moved (dids (of m cpast)) +ℤ v.mean
+moved-by setting m close c cpast h amount f v u =
+    let own : dids (of m (c ∷ (close ∷ cpast))) ≡ c.did ∷ dids (of m (close ∷ cpast)) = ap dids (of-own m c (close ∷ cpast) v.correct_node) in
+    let lives_c : lives (c.did ∷ dids (of m (close ∷ cpast))) ≡ lives (dids (of m (close ∷ cpast))) = rw v.correct refl in
+    moved-right-after setting m close c cpast h v.count v.lo v.size v.mean amount v.stepped v.shown f v.deed v.node (sym (ap lives own ∙ lives_c) ∙ u.since.lives) u.within v.correct_node v.correct u.since.corrects
+
+pub ended_near : (setting : Setting) (h : List Line) (t : ℕ) → Given setting h → time_of (dids h) ≤ t → EndedNear setting h t
+ended_near setting h t g by m k close c cpast amount x r older u v e =
+    near-mean setting m k close cpast v.count v.lo v.size v.mean x r older h t g by (Within-tail c (close ∷ cpast) h u.within) v.deed v.node e (moved-by setting m close c cpast h amount g.fits v u)
 
 pub estimates_hold : (setting : Setting) (world : List Line) → Given setting world → EstimatesHold setting world
 estimates_hold setting world g = record {
   apart = Everywhere-from (EstimatesNear setting) world (λ l s w. estimates-near setting l s (given_at setting (l ∷ s) world g w));
   near = Everywhere-from (λ (l : Line) (before : List Line). (t : ℕ) → l.did.step.at ≤ t → MasterNear setting (l ∷ before) t) world (λ l s w t by. master-near setting (l ∷ s) t (given_at setting (l ∷ s) world g w) by);
+  ended = Everywhere-from (λ (l : Line) (before : List Line). (t : ℕ) → l.did.step.at ≤ t → EndedNear setting (l ∷ before) t) world (λ l s w t by. ended_near setting (l ∷ s) t (given_at setting (l ∷ s) world g w) by);
 }

@@ -34,7 +34,7 @@ use Rattle.tsp_promises.proofs.GateTurns.{turns_lead}
 use Rattle.tsp_promises.proofs.LoopLeads.{takes_loop_lead}
 
 -- acts that take first and are calm then, as another port sees them
-taken-bootless : (strange moving : Bool) (from : Place) (t : Taken) (acts after : List Act) → acts ≡ Took from t ∷ after → is_calm strange moving after ≡ true → Bootless acts
+pub taken-bootless : (strange moving : Bool) (from : Place) (t : Taken) (acts after : List Act) → acts ≡ Took from t ∷ after → is_calm strange moving after ≡ true → Bootless acts
 taken-bootless strange moving from t acts after is calm = subst Bootless (sym is) ((λ e. let bad : ⊥ = cc in bad), calm_bootless strange moving after calm)
 
 taken-kept : {stirred : Bool} (strange : Bool) (from : Place) (t : Taken) (x : ℕ) (past : Past) (acts after : List Act) → acts ≡ Took from t ∷ after → is_calm strange false after ≡ true → RestsIn stirred x past → RestsIn stirred x (all_aside x past acts)
@@ -46,13 +46,13 @@ taken-moved strange from t x past acts after is calm h =
     subst (λ z. RestsIn true x (all_aside x past z)) (sym is) (moved_aside rests_family strange x (aside x past (Took from t)) after calm (rests_took x past (Took from t) refl h))
 
 -- which rounds a message's correction ends
-stirred-ranged : (q : Port) (kind : Kind) (past : NodePast) → Ranged (length past.ports) (stirred_ports q kind past)
+pub stirred-ranged : (q : Port) (kind : Kind) (past : NodePast) → Ranged (length past.ports) (stirred_ports q kind past)
 stirred-ranged q kind past = by_case (sets_date kind) where
   by_case : (b : Bool) → Ranged (length past.ports) (if b then ports_from 0 past.ports else other_ports q past)
   by_case true = ranged_from (length past.ports) 0 past.ports (omega arith)
   by_case false = other_ranged q past
 
-stirred-listed : (q r : Port) (kind : Kind) (past : NodePast) → (q.0 == r.0) ≡ false → r.0 < length past.ports → listed r (stirred_ports q kind past) ≡ true
+pub stirred-listed : (q r : Port) (kind : Kind) (past : NodePast) → (q.0 == r.0) ≡ false → r.0 < length past.ports → listed r (stirred_ports q kind past) ≡ true
 stirred-listed q r kind past n has = by_case (sets_date kind) where
   by_case : (b : Bool) → listed r (if b then ports_from 0 past.ports else other_ports q past) ≡ true
   by_case true = listed_from r 0 past.ports (omega arith) (omega (arith, has))
@@ -131,12 +131,12 @@ unfolding input_all nothing_at_all
 input-lead NodeTurn = record { run = λ x past h r has. open_rests x (on_port r past) (h.1 r has) }
 input-lead (GotOn q from t) = takes-on-lead q from t
 
+pub given_kept : (g : NodeGiven) (x : ℕ) (past : NodePast) → GivenOn g past → GivenOn g (spread x past (reading_all all_ports (for_ports turns_on) x past))
+given_kept NodeTurn x past h = tt
+given_kept (GotOn q from t) x past h = h
+
 -- what a node answers over its ports
 pub answers_all_lead : (g : NodeGiven) → LeadsAll (λ x past. GivenOn g past × AllPorts (λ r. Fresh) x past) (answers_all g) (AllPorts (λ r. Rests))
 unfolding answers_all
 answers_all_lead g = All_after {Q = λ x past. GivenOn g past × AllPorts (λ r. Open) x past} (reading_all all_ports (for_ports turns_on)) (input_all g)
-    (record { run = λ x past h. (given-kept g x past h.0, turns_lead.run x past h.1) }) (input-lead g)
-  where
-    given-kept : (g : NodeGiven) (x : ℕ) (past : NodePast) → GivenOn g past → GivenOn g (spread x past (reading_all all_ports (for_ports turns_on) x past))
-    given-kept NodeTurn x past h = tt
-    given-kept (GotOn q from t) x past h = h
+    (record { run = λ x past h. (given_kept g x past h.0, turns_lead.run x past h.1) }) (input-lead g)

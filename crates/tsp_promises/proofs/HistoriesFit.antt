@@ -8,6 +8,7 @@ use Rattle.tsp_base.specs.declared.act.Placed.{Placed}
 use Rattle.tsp_base.specs.declared.datagram.Datagram.{Datagram}
 use Rattle.tsp_base.specs.declared.datagram.Taken.{Taken}
 use Rattle.tsp_base.specs.declared.datagram.Taken.TheVariants.{Good}
+use Rattle.tsp_base.specs.declared.place.PeerId.{PeerId}
 use Rattle.tsp_base.specs.declared.place.Place.{Place}
 use Rattle.tsp_base.specs.declared.place.Place.TheVariants.{Peer}
 use Rattle.tsp_base.specs.declared.place.Port.{Port}
@@ -16,6 +17,7 @@ use Rattle.tsp_base.specs.History.{Step, Begins, Acts, Deed, Line, of, dids, vie
 use Rattle.tsp_base.specs.Joins.{first_port, joined, line_of}
 use Rattle.tsp_base.specs.NodeFacts.{time_of}
 use Rattle.tsp_base.specs.Places.{Within}
+use Rattle.tsp_promises.specs.Setting.{setup_of}
 use Rattle.tsp_promises.specs.StepFacts.{StepEnds}
 use Rattle.tsp_base.specs.Takings.{peer_of, posted, posted_after}
 use Rattle.tsp_promises.proofs.Histories.{ActsOk, ActOk, alive-of, deeds-of, post_at, post_here, still, then_step, took-of}
@@ -45,10 +47,14 @@ acts-fit strict step (p ∷ rest) x h same few f ok =
     acts-fit strict step rest (line_of step step.at p.port (Acts p.act)) (x ∷ h) refl (omega arith) (act-fits strict step p x h same (omega arith) ok.0, f) ok.1
 
 -- whether the node has ended its last step, and time doesn't go back
-abbrev pub may_begin : Step → List Placed → List Line → Bool
-may_begin step acts h = nat_le (time_of (dids h)) step.at && (settled (of step.node h) && nat_lt (length h + (length acts + 1)) 1000)
+-- the peers of a node's ports, whether elections are strict or not
+abbrev pub peers_at : ℕ → Port → List PeerId
+peers_at n q = (setup_of (still false) n q).peers
 
-mark-fits : (strict : Bool) (step : Step) (h : List Line) → time_of (dids h) ≤ step.at → length h < 1000 → ((q : Port) → StepEnds (view q (of step.node h))) → LineFits (still strict) (line_of step step.at first_port Begins) h
+abbrev pub may_begin : Step → List Placed → List Line → Bool
+may_begin step acts h = nat_le (time_of (dids h)) step.at && (settled (peers_at step.node) (of step.node h) && nat_lt (length h + (length acts + 1)) 1000)
+
+mark-fits : (strict : Bool) (step : Step) (h : List Line) → time_of (dids h) ≤ step.at → length h < 1000 → ((q : Port) → StepEnds (setup_of (still strict) step.node q) (view q (of step.node h))) → LineFits (still strict) (line_of step step.at first_port Begins) h
 mark-fits strict step h order few ends = record {
   order = order;
   tick = omega arith;
@@ -64,11 +70,11 @@ mark-fits strict step h order few ends = record {
 -- a step more fits
 pub step-fits : (strict : Bool) (step : Step) (acts : List Placed) (h : List Line) → Fits (still strict) h → may_begin step acts h ≡ true → ActsOk strict step acts (line_of step step.at first_port Begins ∷ h) → Fits (still strict) (then_step step acts h)
 step-fits strict step acts h f e ok =
-    let a = and_parts (nat_le (time_of (dids h)) step.at) (settled (of step.node h) && nat_lt (length h + (length acts + 1)) 1000) e in
-    let b = and_parts (settled (of step.node h)) (nat_lt (length h + (length acts + 1)) 1000) a.1 in
+    let a = and_parts (nat_le (time_of (dids h)) step.at) (settled (peers_at step.node) (of step.node h) && nat_lt (length h + (length acts + 1)) 1000) e in
+    let b = and_parts (settled (peers_at step.node) (of step.node h)) (nat_lt (length h + (length acts + 1)) 1000) a.1 in
     let order = leb-true (time_of (dids h)) step.at a.0 in
     let few = ltb-true (length h + (length acts + 1)) 1000 b.1 in
-    acts-fit strict step acts (line_of step step.at first_port Begins) h refl (omega arith) (mark-fits strict step h order (omega arith) (settled-ends (of step.node h) b.0), f) ok
+    acts-fit strict step acts (line_of step step.at first_port Begins) h refl (omega arith) (mark-fits strict step h order (omega arith) (settled-ends (setup_of (still strict) step.node) (of step.node h) b.0), f) ok
 
 abbrev below_four : List Line → Bool
 below_four [] = true
@@ -76,7 +82,7 @@ below_four (l ∷ t) = nat_lt (node_of l) 4 && below_four t
 
 -- whether all of the four nodes have ended their last steps
 abbrev pub all_settled : List Line → Bool
-all_settled h = below_four h && ((settled (of 0 h) && settled (of 1 h)) && (settled (of 2 h) && settled (of 3 h)))
+all_settled h = below_four h && ((settled (peers_at 0) (of 0 h) && settled (peers_at 1) (of 1 h)) && (settled (peers_at 2) (of 2 h) && settled (peers_at 3) (of 3 h)))
 
 none-of : (n : ℕ) (h : List Line) → below_four h ≡ true → of (suc (suc (suc (suc n)))) h ≡ []
 none-of n [] e = refl
@@ -89,18 +95,19 @@ none-of n (l ∷ h) e =
     other k few false is = refl
 
 -- and the history ends with a step
-pub all-finished : (h : List Line) → all_settled h ≡ true → Finished h
-all-finished h e n q =
-    let a = and_parts (below_four h) ((settled (of 0 h) && settled (of 1 h)) && (settled (of 2 h) && settled (of 3 h))) e in
-    let b = and_parts (settled (of 0 h) && settled (of 1 h)) (settled (of 2 h) && settled (of 3 h)) a.1 in
-    by-node a.0 (and_parts (settled (of 0 h)) (settled (of 1 h)) b.0) (and_parts (settled (of 2 h)) (settled (of 3 h)) b.1) n
+pub all-finished : (strict : Bool) (h : List Line) → all_settled h ≡ true → Finished (still strict) h
+all-finished strict h e n q =
+    let a = and_parts (below_four h) ((settled (peers_at 0) (of 0 h) && settled (peers_at 1) (of 1 h)) && (settled (peers_at 2) (of 2 h) && settled (peers_at 3) (of 3 h))) e in
+    let b = and_parts (settled (peers_at 0) (of 0 h) && settled (peers_at 1) (of 1 h)) (settled (peers_at 2) (of 2 h) && settled (peers_at 3) (of 3 h)) a.1 in
+    by-node a.0 (and_parts (settled (peers_at 0) (of 0 h)) (settled (peers_at 1) (of 1 h)) b.0) (and_parts (settled (peers_at 2) (of 2 h)) (settled (peers_at 3) (of 3 h)) b.1) n
   where
-    by-node : below_four h ≡ true → (settled (of 0 h) ≡ true) × (settled (of 1 h) ≡ true) → (settled (of 2 h) ≡ true) × (settled (of 3 h) ≡ true) → (n : ℕ) → StepEnds (view q (of n h))
-    by-node few x y zero = settled-ends (of 0 h) x.0 q
-    by-node few x y (suc zero) = settled-ends (of 1 h) x.1 q
-    by-node few x y (suc (suc zero)) = settled-ends (of 2 h) y.0 q
-    by-node few x y (suc (suc (suc zero))) = settled-ends (of 3 h) y.1 q
-    by-node few x y (suc (suc (suc (suc n)))) = subst (λ w. StepEnds (view q w)) (sym (none-of n h few)) (settled-ends [] refl q)
+    by-node : below_four h ≡ true → (settled (peers_at 0) (of 0 h) ≡ true) × (settled (peers_at 1) (of 1 h) ≡ true) → (settled (peers_at 2) (of 2 h) ≡ true) × (settled (peers_at 3) (of 3 h) ≡ true) → (n : ℕ) → StepEnds (setup_of (still strict) n q) (view q (of n h))
+    by-node few x y zero = settled-ends (setup_of (still strict) 0) (of 0 h) x.0 q
+    by-node few x y (suc zero) = settled-ends (setup_of (still strict) 1) (of 1 h) x.1 q
+    by-node few x y (suc (suc zero)) = settled-ends (setup_of (still strict) 2) (of 2 h) y.0 q
+    by-node few x y (suc (suc (suc zero))) = settled-ends (setup_of (still strict) 3) (of 3 h) y.1 q
+    by-node few x y (suc (suc (suc (suc n)))) =
+        subst (λ w. StepEnds (setup_of (still strict) (suc (suc (suc (suc n)))) q) (view q w)) (sym (none-of n h few)) (settled-ends (setup_of (still strict) (suc (suc (suc (suc n))))) [] refl q)
 
 -- where a post is found by its number
 pub record Found (k : ℕ) (h : List Line) (post : Line) (older : List Line) : Type 0 where

@@ -11,7 +11,7 @@ use Rattle.tsp_base.specs.Peers.{is_among}
 use Rattle.tsp_base.specs.PortFacts.{Received, role, held, armed, acting, taken, backers, stood}
 use Rattle.tsp_base.specs.RoundFacts.{started, exchange, word_asked, probes}
 use Rattle.tsp_base.specs.SendFacts.{open_to, message_at}
-use Rattle.tsp_promises.specs.StepFacts.{is_unbacked, owes, unacknowledged}
+use Rattle.tsp_promises.specs.StepFacts.{is_unbacked, owes, unacknowledged, unheeded}
 use Rattle.tsp_base.specs.Takings.{heard}
 use Rattle.tsp_rules.specs.SendRows.{is_kind_election}
 use Rattle.tsp_promises.specs.PortFits.{PortFits, setup_in}
@@ -174,3 +174,7 @@ pub record RestsIn (stirred : Bool) (x : ℕ) (past : Past) : Type 0 where
 
 abbrev pub Rests : ℕ → Past → Type 0
 Rests = RestsIn false
+
+-- a port at the end of its step, which has heeded what it took
+abbrev pub Ended : ℕ → Past → Type 0
+Ended x past = Rests x past × (unheeded past.peers past.seen ≡ None)

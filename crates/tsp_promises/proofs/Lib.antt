@@ -54,6 +54,7 @@ pub mod GateTurns
 pub mod Given
 pub mod HeardPosts
 pub mod HeardProof
+pub mod HeedLeads
 pub mod HeldProof
 pub mod Histories
 pub mod HistoriesFit

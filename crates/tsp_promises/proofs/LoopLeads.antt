@@ -97,7 +97,7 @@ gives-up-leads p m = Leads_either is_master_at (puts (Become Loose) followed_by 
     (Leads_to (λ x past h. rests_of h) arms_elect_during))
     (Leads_from (λ x past h. rests_of h.0.just.free) Leads_nothing)
 
-gives-up-calm : (x : ℕ) (past : Past) → is_calm false false (loosens_master x past) ≡ true
+pub gives-up-calm : (x : ℕ) (past : Past) → is_calm false false (loosens_master x past) ≡ true
 unfolding loosens_master
 gives-up-calm x past = (calm_either 0 2 is_master_at yields nothing (calm-yields {strange = false} {moving = false}) (none 0 2)).calm x past
 
@@ -143,7 +143,7 @@ passing-list : (p : PeerId) (m : MessageValue) (ps : List PeerId) (x : ℕ) (pas
 passing-list p m [] x past h = h
 passing-list p m (q ∷ ps) x past h = passing-list p m ps x (grown x past (repost (one_hop_less m) q ∷ [])) (passing-one p q m x past h)
 
-repost-calm : (m : MessageValue) (ps : List PeerId) → is_calm false false (map (repost m) ps) ≡ true
+pub repost-calm : (m : MessageValue) (ps : List PeerId) → is_calm false false (map (repost m) ps) ≡ true
 repost-calm m [] = refl
 repost-calm m (p ∷ ps) = repost-calm m ps
 

@@ -1,5 +1,5 @@
 -- The mean of a round's differences is near, as they are.
-use Rattle.std.specs.Prelude.{◌≡◌, ℕ, ◌*◌, zero, suc, ℤ, pos, negsuc, ◌-ℤ◌, ◌*ℤ◌, ◌≤ℤ◌, Bool, true, false, if◌then◌else◌, List, [], ◌∷◌, Option, None, Some, refl}
+use Rattle.std.specs.Prelude.{◌≡◌, ℕ, zero, suc, ℤ, pos, negsuc, ◌-ℤ◌, ◌*ℤ◌, ◌≤ℤ◌, Bool, true, false, if◌then◌else◌, List, [], ◌∷◌, Option, None, Some, refl}
 use Rattle.std.specs.List.{All, fold}
 use Rattle.std.proofs.Common.{sym, subst, ap, arith}
 use Rattle.std.proofs.lemmas.Int.{ints}

@@ -8,7 +8,6 @@ use Rattle.tsp_base.specs.declared.constants.TheConstants.{SPAN, SLEW, MAXADJ}
 use Rattle.tsp_group.specs.Groups.{FollowsMajority, IsWithin, group_of, mean_of}
 use Rattle.tsp_group.proofs.LargestGroup.{group_of-IsLargest}
 use Rattle.tsp_group.proofs.Majority.{IsLargest-majority}
-use Rattle.tsp_promises.specs.Agreed.{Unchanged}
 use Rattle.tsp_promises.specs.ClockAt.{clock_at}
 use Rattle.tsp_promises.specs.CorrectFits.{CorrectFits, WhyCorrect, ByRound, ByMaster, ByDate, is_stepped, sets_time}
 use Rattle.tsp_promises.specs.Fits.{Fits, node_of}
@@ -19,29 +18,27 @@ use Rattle.tsp_base.specs.declared.datagram.Datagram.TheVariants.{Message}
 use Rattle.tsp_base.specs.declared.datagram.Taken.TheVariants.{Good}
 use Rattle.tsp_base.specs.declared.kind.Kind.TheVariants.{AdjTime}
 use Rattle.tsp_base.specs.declared.place.Place.{Place}
-use Rattle.tsp_promises.specs.Moderate.{AdjTimeNear, Agrees, MeanNear, Moderate, ModerateAt, ModerateClocks, Moves, OwnNear, PeerCorrects, PeerNear, WithMajority, estimates_of}
-use Rattle.tsp_base.specs.NodeFacts.{lives, moved, time_of, eased, last_correct, rest, rest_at, shown, target}
-use Rattle.tsp_base.specs.Places.{Within}
+use Rattle.tsp_promises.specs.Estimates.{Moves}
+use Rattle.tsp_promises.specs.Moderate.{AdjTimeNear, Agrees, MeanNear, Moderate, ModerateAt, ModerateClocks, OwnNear, PeerCorrects, PeerNear, WithMajority, estimates_of}
+use Rattle.tsp_base.specs.NodeFacts.{time_of, eased, last_correct, rest, rest_at, shown, target}
 use Rattle.tsp_base.specs.RoundFacts.{Sampled, best}
-use Rattle.tsp_promises.specs.RoundFits.{CloseFits, group_mean}
+use Rattle.tsp_promises.specs.RoundFits.{group_mean}
 use Rattle.tsp_promises.specs.Setting.{Setting, setup_of}
 use Rattle.tsp_base.specs.Setup.{Setup}
 use Rattle.tsp_base.specs.Takings.{peer_of, time_in, heard}
-use Rattle.tsp_base.specs.Ticks.{tick_at, width}
-use Rattle.tsp_base.proofs.PlaceLemmas.{Within-through, Within-tail}
+use Rattle.tsp_base.specs.Ticks.{width}
 use Rattle.tsp_base.proofs.ViewPlaces.{or-false, port-same}
 use Rattle.tsp_promises.proofs.BestProof.{some-is}
 use Rattle.tsp_promises.proofs.CastProof.{amount-adj, corrects-adj}
 use Rattle.tsp_promises.proofs.Correcting.{heard_as}
-use Rattle.tsp_promises.proofs.EstimatesProof.{at-close, by-mean, holds, one-near}
+use Rattle.tsp_promises.proofs.EstimatesProof.{at-close, ended_near}
 use Rattle.tsp_promises.proofs.EverywhereLemmas.{Everywhere-from}
 use Rattle.tsp_promises.proofs.Given.{Given, given_at}
 use Rattle.tsp_promises.proofs.HistoryPlaces.{of-own}
-use Rattle.tsp_promises.proofs.MasterMoved.{mean-is, moved-right-after, same-mean}
+use Rattle.tsp_promises.proofs.MasterMoved.{mean-is, same-mean}
 use Rattle.tsp_promises.proofs.OnceTakenProof.{correct_fits}
 use Rattle.tsp_promises.proofs.OwnFitsProof.{fits_at}
 use Rattle.tsp_promises.proofs.PortFits.{deed_fits}
-use Rattle.tsp_promises.proofs.ReadingProof.{read_at}
 use Rattle.tsp_promises.proofs.SendPlaces.{post_fits}
 use Rattle.tsp_promises.proofs.TakingProof.{begun_facts, used-by}
 
@@ -99,7 +96,9 @@ follows setting m close cpast mean amount value stepped d a =
 mean_near : (setting : Setting) (l : Line) (world : List Line) → Fits setting (l ∷ world) → MeanNear setting l world
 mean_near setting l world f m close cpast amount value at v a =
     let g : Fits setting (l ∷ (close ∷ cpast)) = subst (λ w. Fits setting (l ∷ w)) at f in
-    follows setting m close cpast v.mean amount value v.stepped (found setting m close l cpast amount g v) a
+    let d = found setting m close l cpast amount g v in
+    let near = follows setting m close cpast v.mean amount value v.stepped d a in
+    record { moves = near; prints = subst (λ z. nat_abs (z -ℤ value) ≤ 2 * SPAN) d.is near }
 
 from-none : (a : ℤ) (n : ℕ) → nat_abs (a -ℤ pos 0) ≤ n → nat_abs a ≤ n
 from-none a n h = omega (arith, ints)
@@ -114,7 +113,7 @@ not-much n few = by-case (nat_lt MAXADJ n) refl where
 own_near : (setting : Setting) (l : Line) (world : List Line) → Fits setting (l ∷ world) → OwnNear setting l world
 own_near setting l world f m close cpast amount at v a =
     let g : Fits setting (l ∷ (close ∷ cpast)) = subst (λ w. Fits setting (l ∷ w)) at f in
-    let few = from-none amount (2 * SPAN) (mean_near setting l world f m close cpast amount (pos 0) at v a) in
+    let few = from-none amount (2 * SPAN) (mean_near setting l world f m close cpast amount (pos 0) at v a).moves in
     record { near = few; slews = (found setting m close l cpast amount g v).flag ∙ not-much (nat_abs amount) few }
 
 -- what an ADJTIME or its Correct says, where the mean and the sample are these
@@ -195,34 +194,14 @@ moderate_at setting l world f = record { mean = mean_near setting l world f; own
 pub moderate : (setting : Setting) (world : List Line) → Fits setting world → Moderate setting world
 moderate setting world f = Everywhere-from (ModerateAt setting) world (λ l s w. moderate_at setting l s (fits_at setting (l ∷ s) world f w))
 
--- m's clock has moved by the mean since the Close
-moved_by : (setting : Setting) (m : ℕ) (close c : Line) (cpast h : List Line) (amount : ℤ) → Fits setting h → (v : Moves m close c amount) → Unchanged m (c ∷ (close ∷ cpast)) h → moved (dids (of m h)) ≡ moved (dids (of m cpast)) +ℤ v.mean
-moved_by setting m close c cpast h amount f v u =
-    let own : dids (of m (c ∷ (close ∷ cpast))) ≡ c.did ∷ dids (of m (close ∷ cpast)) = ap dids (of-own m c (close ∷ cpast) v.correct_node) in
-    let lives_c : lives (c.did ∷ dids (of m (close ∷ cpast))) ≡ lives (dids (of m (close ∷ cpast))) = rw v.correct refl in
-    moved-right-after setting m close c cpast h v.count v.lo v.size v.mean amount v.stepped v.shown f v.deed v.node (sym (ap lives own ∙ lives_c) ∙ u.since.lives) u.within v.correct_node v.correct u.since.corrects
-
 widened : (apart mean amount diff e : ℤ) (n w : ℕ) → apart ≤ℤ ((pos (nat_abs (mean -ℤ diff)) +ℤ e) +ℤ pos w) → amount ≡ mean → nat_abs (amount -ℤ diff) ≤ n → apart ≤ℤ ((pos n +ℤ e) +ℤ pos w)
 widened apart mean amount diff e n w h is near = omega (arith, ints)
 
 with_majority : (setting : Setting) (h : List Line) (t : ℕ) → Given setting h → time_of (dids h) ≤ t → WithMajority setting h t
 with_majority setting h t g by m k close c cpast amount x r older un v e a =
-    let close_h : Within (close ∷ cpast) h = Within-tail c (close ∷ cpast) h un.within in
-    let cpast_h : Within cpast h = Within-tail close cpast h close_h in
-    let fc = fits_at setting (c ∷ (close ∷ cpast)) h g.fits un.within in
-    let d = found setting m close c cpast amount fc v in
-    let cf : CloseFits close.did (view close.port (of m cpast)) =
-    subst (λ n. CloseFits close.did (view close.port (of n cpast))) v.node (deed_fits setting close cpast (Acts (Close v.count v.lo v.size v.mean)) v.deed fc.1.0) in
-    let rd = e.reading in
-    let gs = given_at setting (rd.line ∷ rd.before) h g (Within-through (rd.line ∷ rd.before) cpast h rd.at cpast_h) in
-    let read = read_at setting m k close.port rd.line r rd.before cpast older x cf.start cf.idle rd.to rd.datagram gs.fits gs.honest gs.life fc.1.1 rd.node rd.port e.best_is rd.is rd.reads rd.takes rd.deed cf.start_is cf.undisturbed in
-    let r_in : Within (r ∷ older) h = Within-through (r ∷ older) cpast h (Within-through (r ∷ older) rd.before cpast rd.reads (Within-tail rd.line rd.before cpast rd.at)) cpast_h in
-    let near = holds setting m k cpast x cf.start r older h t g.fits r_in by read e.unchanged in
-    let w = 2 * width setting.drift (t - r.did.step.at) in
-    let moved_is = moved_by setting m close c cpast h amount g.fits v un in
-    let apart = one-near x.diff v.mean (clock_at setting k h t) ((setting.wall m +ℤ moved (dids (of m cpast))) +ℤ pos (tick_at (setting.rate m) t)) (clock_at setting m h t) x.err w near
-    (by-mean (setting.wall m) (moved (dids (of m h))) (moved (dids (of m cpast))) v.mean (tick_at (setting.rate m) t) moved_is) in
-    widened (pos (nat_abs (clock_at setting m h t -ℤ clock_at setting k h t))) v.mean amount x.diff x.err (2 * SPAN) w apart d.is (follows setting m close cpast v.mean amount x.diff v.stepped d a)
+    let d = found setting m close c cpast amount (fits_at setting (c ∷ (close ∷ cpast)) h g.fits un.within) v in
+    let apart = ended_near setting h t g by m k close c cpast amount x r older un v e in
+    widened (pos (nat_abs (clock_at setting m h t -ℤ clock_at setting k h t))) v.mean amount x.diff x.err (2 * SPAN) (2 * width setting.drift (t - r.did.step.at)) apart d.is (follows setting m close cpast v.mean amount x.diff v.stepped d a)
 
 pub moderate_clocks : (setting : Setting) (world : List Line) → Given setting world → ModerateClocks setting world
 moderate_clocks setting world g = Everywhere-from (λ (l : Line) (s : List Line). (t : ℕ) → l.did.step.at ≤ t → WithMajority setting (l ∷ s) t) world (λ l s w t by. with_majority setting (l ∷ s) t (given_at setting (l ∷ s) world g w) by)

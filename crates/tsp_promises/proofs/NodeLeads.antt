@@ -1,5 +1,5 @@
 -- The steps of a node follow one another, and each deed of its ports fits.
-use Rattle.std.specs.Prelude.{◌≡◌, ◌≤◌, ◌<◌, ℕ, ◌+◌, ◌==◌, true, false, List, [], ◌∷◌, ◌++◌, length, refl}
+use Rattle.std.specs.Prelude.{◌≡◌, ◌≤◌, ◌<◌, ℕ, ◌+◌, ◌==◌, true, List, [], ◌∷◌, ◌++◌, length, refl}
 use Rattle.std.proofs.Common.{sym, subst, inl, ap, arith, true≢false, ◌∙◌}
 use Rattle.std.proofs.lemmas.Bool.{or_right}
 use Rattle.tsp_base.specs.declared.act.Act.TheVariants.{Boot, Become, Arm}
@@ -12,19 +12,21 @@ use Rattle.tsp_base.specs.Joins.{first_port, line_of}
 use Rattle.tsp_base.specs.NodeFacts.{boot_tick}
 use Rattle.tsp_base.specs.PortFacts.{role}
 use Rattle.tsp_base.specs.Rows.{grown, in_step, puts, ◌followed_by◌, arms, placed}
-use Rattle.tsp_rules.specs.GateRows.{ports_from, boots_on, boots_all, NodeTurn, GotOn}
+use Rattle.tsp_rules.specs.GateRows.{ports_from, boots_on, boots_all, NodeGiven, NodeTurn, GotOn, answers_all}
 use Rattle.tsp_rules.specs.NodeRows.{NodePast, port_setup, on_port, spread, in_node_step, nothing_at_all, on, ◌and_then◌, reading_all, for_ports}
 use Rattle.tsp_rules.proofs.NodeRowLemmas.{spread_append}
 use Rattle.tsp_promises.specs.NodeRuns.{NodeMakes, NodeBoots, NodeAnswers, node_row_of, NodeHappening, node_ran, node_tick, IsGivenOn, NodeOrdered, NodesFit}
 use Rattle.tsp_promises.specs.PortFits.{PortFits, setup_in}
-use Rattle.tsp_promises.proofs.Known.{Fresh, Rests}
+use Rattle.tsp_promises.specs.StepFacts.{StepEnds}
+use Rattle.tsp_promises.proofs.Known.{Ended, Fresh, Rests}
 use Rattle.tsp_promises.proofs.Leaves.{none-some, none-among, nil-cons, some-same}
 use Rattle.tsp_promises.proofs.RunLeads.{ends_of, begins_fresh, nothing-done}
 use Rattle.tsp_promises.proofs.Elsewheres.{fresh_family}
 use Rattle.tsp_rules.proofs.Asides.{all_aside}
 use Rattle.tsp_promises.proofs.PortLists.{Ranged, ranged_from}
 use Rattle.tsp_promises.proofs.GateFacts.{AllPorts, LeadsAll, placed_all}
-use Rattle.tsp_promises.proofs.GateLeads.{answers_all_lead}
+use Rattle.tsp_promises.proofs.GateLeads.{GivenOn, answers_all_lead}
+use Rattle.tsp_promises.proofs.HeedLeads.{answers_all_heed, untaken_heeds}
 use Rattle.tsp_promises.proofs.RunLemmas.{ports-ran}
 
 -- a mark is seen by each port
@@ -113,8 +115,11 @@ boots-list (q ∷ rest) x past ranged all =
 boot-rests : (x : ℕ) (past : Past) → Booting x past → Rests x past
 boot-rests x past b = let h = b.fresh in record { fits = h.fits; knows = h.knows; backs = h.backs; follows = λ p e. none-among p h.owed e; paid = h.paid }
 
+boot-ends : (x : ℕ) (past : Past) → Booting x past → Ended x past
+boot-ends x past b = (boot-rests x past b, untaken_heeds past.peers past.seen b.fresh.took.0)
+
 -- a boot keeps what is known of each port
-pub boots_all_lead : LeadsAll (AllPorts (λ r. Fresh)) boots_all (AllPorts (λ r. Rests))
+pub boots_all_lead : LeadsAll (AllPorts (λ r. Fresh)) boots_all (AllPorts (λ r. Ended))
 unfolding boots_all on puts reading_all ◌and_then◌
 boots_all_lead = record {
   run = λ x past all.
@@ -123,25 +128,29 @@ boots_all_lead = record {
       let boot : AllPorts (λ r. Booting) x mid = λ r has. subst (λ z. Booting x z) (sym (on-boot r x past)) (booted x (on_port r past) (all r has)) in
       let rest = for_ports boots_on (ports_from 0 past.ports) x mid in
       let end = boots-list (ports_from 0 past.ports) x mid (ranged_from (length past.ports) 0 past.ports (omega arith)) boot in
-      λ r has. boot-rests x (on_port r (spread x past (placed first_port (Boot ∷ []) ++ rest))) (subst (λ z. Booting x (on_port r z)) (sym (spread_append x past first rest)) (end r has));
+      λ r has. boot-ends x (on_port r (spread x past (placed first_port (Boot ∷ []) ++ rest))) (subst (λ z. Booting x (on_port r z)) (sym (spread_append x past first rest)) (end r has));
 }
 
 -- a step begins at a later tick
-pub begins_all : (step : Step) (x y : ℕ) (past : NodePast) → x ≤ y → ((q : Port) → q.0 < length past.ports → (port_setup q past).own.0 ≡ step.node) → AllPorts (λ r. Rests) x past → AllPorts (λ r. Fresh) y (in_node_step step y past)
+pub begins_all : (step : Step) (x y : ℕ) (past : NodePast) → x ≤ y → ((q : Port) → q.0 < length past.ports → (port_setup q past).own.0 ≡ step.node) → AllPorts (λ r. Ended) x past → AllPorts (λ r. Fresh) y (in_node_step step y past)
 begins_all step x y past later own all q has = subst (λ z. Fresh y z) (sym (on-mark q step y past)) (begins_fresh step x y (on_port q past) later (own q has) (all q has))
 
-given-on : (m : NodeMakes) (x y : ℕ) (step : Step) (past : NodePast) → x ≤ y → ((q : Port) → q.0 < length past.ports → (port_setup q past).own.0 ≡ step.node) → IsGivenOn (length past.ports) m → AllPorts (λ r. Rests) x past →
-    AllPorts (λ r. Rests) y (spread y (in_node_step step y past) (node_row_of m y (in_node_step step y past)))
+-- so does a step that answers
+pub answers_all_end : (g : NodeGiven) → LeadsAll (λ x past. GivenOn g past × AllPorts (λ r. Fresh) x past) (answers_all g) (AllPorts (λ r. Ended))
+answers_all_end g = record { run = λ x past h r has. ((answers_all_lead g).run x past h r has, (answers_all_heed g).run x past h r has) }
+
+given-on : (m : NodeMakes) (x y : ℕ) (step : Step) (past : NodePast) → x ≤ y → ((q : Port) → q.0 < length past.ports → (port_setup q past).own.0 ≡ step.node) → IsGivenOn (length past.ports) m → AllPorts (λ r. Ended) x past →
+    AllPorts (λ r. Ended) y (spread y (in_node_step step y past) (node_row_of m y (in_node_step step y past)))
 given-on NodeBoots x y step past later own given all = boots_all_lead.run y (in_node_step step y past) (begins_all step x y past later own all)
-given-on (NodeAnswers NodeTurn) x y step past later own given all = (answers_all_lead NodeTurn).run y (in_node_step step y past) (tt, begins_all step x y past later own all)
-given-on (NodeAnswers (GotOn q from t)) x y step past later own given all = (answers_all_lead (GotOn q from t)).run y (in_node_step step y past) (given, begins_all step x y past later own all)
+given-on (NodeAnswers NodeTurn) x y step past later own given all = (answers_all_end NodeTurn).run y (in_node_step step y past) (tt, begins_all step x y past later own all)
+given-on (NodeAnswers (GotOn q from t)) x y step past later own given all = (answers_all_end (GotOn q from t)).run y (in_node_step step y past) (given, begins_all step x y past later own all)
 
 setup-ran : (hs : List NodeHappening) (past : NodePast) (q : Port) → setup_in (on_port q (node_ran hs past)) ≡ setup_in (on_port q past)
 setup-ran [] past q = refl
 setup-ran (h ∷ before) past q = setup-ran before past q
 
-all-ran : (past : NodePast) (n : ℕ) (hs : List NodeHappening) → past.lines ≡ [] → ((q : Port) → q.0 < length past.ports → (port_setup q past).own.0 ≡ n) → NodeOrdered n (length past.ports) hs → AllPorts (λ r. Rests) (node_tick hs) (node_ran hs past)
-all-ran past n [] e own o = λ r has. subst (λ l. Rests 0 (on_port r (record past { lines = l }))) (sym e) (nothing-done 0 (on_port r past))
+all-ran : (past : NodePast) (n : ℕ) (hs : List NodeHappening) → past.lines ≡ [] → ((q : Port) → q.0 < length past.ports → (port_setup q past).own.0 ≡ n) → NodeOrdered n (length past.ports) hs → AllPorts (λ r. Ended) (node_tick hs) (node_ran hs past)
+all-ran past n [] e own o = λ r has. subst (λ l. Ended 0 (on_port r (record past { lines = l }))) (sym e) (nothing-done 0 (on_port r past))
 all-ran past n (h ∷ before) e own o =
     let now = node_ran before past in
     let same = ports-ran before past in
@@ -154,4 +163,4 @@ all-ran past n (h ∷ before) e own o =
 pub nodes-fit : NodesFit
 nodes-fit past n hs e own o q has =
     let r = all-ran past n hs e own o q (subst (λ ports. q.0 < length ports) (sym (ports-ran hs past)) has) in
-    (subst (λ s. PortFits s (view q (node_ran hs past).lines)) (setup-ran hs past q) r.fits, ends_of r)
+    (subst (λ s. PortFits s (view q (node_ran hs past).lines)) (setup-ran hs past q) r.0.fits, subst (λ s. StepEnds s (view q (node_ran hs past).lines)) (setup-ran hs past q) (ends_of r))

@@ -68,7 +68,7 @@ backs_at setting l world f = record {
   ends = λ is q. (mark_fits setting l world is f.0 q).backs;
 }
 
-pub one_back : (setting : Setting) (world : List Line) → Fits setting world → Finished world → OneBack world
+pub one_back : (setting : Setting) (world : List Line) → Fits setting world → Finished setting world → OneBack world
 one_back setting world f end = record {
   holds = Everywhere-from HoldsAt world (λ l s w. holds_at setting l s (fits_at setting (l ∷ s) world f w));
   backs = Everywhere-from BacksAt world (λ l s w. backs_at setting l s (fits_at setting (l ∷ s) world f w));

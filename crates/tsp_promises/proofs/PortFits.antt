@@ -1,15 +1,16 @@
 -- What a line owes to its own port's past.
-use Rattle.std.specs.Prelude.{◌≡◌, ◌==◌, ◌≤◌, List, ◌∷◌, refl}
-use Rattle.std.proofs.Common.{subst}
+use Rattle.std.specs.Prelude.{◌≡◌, ◌==◌, ◌≤◌, ◌||◌, ℕ, Bool, true, false, if◌then◌else◌, List, [], ◌∷◌, refl}
+use Rattle.std.proofs.Common.{subst, eqb-true}
 use Rattle.std.proofs.Math.Bool.{or-true}
 use Rattle.tsp_promises.specs.DeedFits.{DeedFits}
 use Rattle.tsp_promises.specs.Fits.{Fits, LineFits, Sees, node_of}
-use Rattle.tsp_base.specs.History.{Deed, Begins, Line, of, dids, view, is_shared}
+use Rattle.tsp_base.specs.History.{Deed, Begins, Line, of, dids, view, is_shared, seen_as}
 use Rattle.tsp_base.specs.declared.place.Port.{Port}
 use Rattle.tsp_base.specs.NodeFacts.{tick_of}
 use Rattle.tsp_promises.specs.Setting.{Setting, setup_of}
 use Rattle.tsp_base.proofs.ViewPlaces.{sees-own}
 use Rattle.tsp_promises.specs.OwnFits.{OwnFits}
+use Rattle.tsp_promises.specs.PortFits.{PortFits}
 use Rattle.tsp_promises.proofs.HistoryPlaces.{of-own}
 use Rattle.tsp_promises.proofs.OwnFitsProof.{own_fits}
 
@@ -28,3 +29,15 @@ pub own_tick : (setting : Setting) (l : Line) (world : List Line) → Fits setti
 own_tick setting l world f =
     let own : OwnFits setting (l ∷ of (node_of l) world) = subst (λ k. OwnFits setting k) (of-own (node_of l) l world refl) (own_fits setting (node_of l) (l ∷ world) f) in
     own.0.tick
+
+-- so each deed on a port fits
+pub port_fits : (setting : Setting) (n : ℕ) (world : List Line) → Fits setting world → (q : Port) → PortFits (setup_of setting n q) (view q (of n world))
+port_fits setting n [] f q = tt
+port_fits setting n (l ∷ t) f q = by-node (node_of l == n) refl (port_fits setting n t f.1 q) where
+  here : (b : Bool) → ((l.port.0 == q.0) || is_shared l.did.deed) ≡ b → node_of l ≡ n → PortFits (setup_of setting n q) (view q (of n t)) → PortFits (setup_of setting n q) (seen_as b l.did ∷ view q (of n t))
+  here true e same rest = (subst (λ k. DeedFits (setup_of setting k q) l.did.deed l.did (view q (of k t))) same (f.0.deeds q e), rest)
+  here false e same rest = rest
+
+  by-node : (b : Bool) → (node_of l == n) ≡ b → PortFits (setup_of setting n q) (view q (of n t)) → PortFits (setup_of setting n q) (view q (if b then l ∷ of n t else of n t))
+  by-node true e rest = here ((l.port.0 == q.0) || is_shared l.did.deed) refl (eqb-true (node_of l) n e) rest
+  by-node false e rest = rest

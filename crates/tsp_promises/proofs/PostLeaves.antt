@@ -121,10 +121,10 @@ module _ {stirred owing : Bool} {follow : List PeerId} {T : Option Received → 
 -- posts in the quiet time too
 module _ {stirred awake owing acts : Bool} {follow : List PeerId} {T : Option Received → Option Received → Type 0} {x : ℕ} {past : Past} where
   pub post_reply : (from : Place) (r : ReplyValue) → PostFits (setup_in past) from (Stamp (Reply r)) (now x past (Post from (Stamp (Reply r)))) past.seen → During stirred awake owing follow acts T x past → During stirred awake owing follow acts T x (grown x past (Post from (Stamp (Reply r)) ∷ []))
-  post_reply (Peer p) r f h = made (Post (Peer p) (Stamp (Reply r))) h.own (record { rested = inr tt; fits = f }) h.fits h.knows h.rested h.backs h.owed h.paid h.acting_is h.took
-  post_reply Stranger r f h = made (Post Stranger (Stamp (Reply r))) h.own (record { rested = inr tt; fits = f }) h.fits h.knows h.rested h.backs h.owed h.paid h.acting_is h.took
+  post_reply (Peer p) r f h = made (Post (Peer p) (Stamp (Reply r))) h.own (record { rested = inr f.took; fits = f }) h.fits h.knows h.rested h.backs h.owed h.paid h.acting_is h.took
+  post_reply Stranger r f h = made (Post Stranger (Stamp (Reply r))) h.own (record { rested = inr f.0.took; fits = f }) h.fits h.knows h.rested h.backs h.owed h.paid h.acting_is h.took
 
-  pub post_early : (from : Place) (number : ℕ) (name : List ℕ) → PostFits (setup_in past) from (Message (bare Ack number name)) (now x past (Post from (Message (bare Ack number name)))) past.seen → AskedEarly past.seen →
+  pub post_early : (from : Place) (number : ℕ) (name : List ℕ) → PostFits (setup_in past) from (Message (bare Ack number name)) (now x past (Post from (Message (bare Ack number name)))) past.seen → AskedEarly from past.seen number →
       During stirred awake owing follow acts T x past → During stirred awake owing follow acts T x (grown x past (Post from (Message (bare Ack number name)) ∷ []))
   post_early Stranger number name f early h = made (Post Stranger (Message (bare Ack number name))) h.own (record { rested = inr (refl, early); fits = f }) h.fits h.knows h.rested h.backs h.owed h.paid h.acting_is h.took
   post_early (Peer p) number name f early h =

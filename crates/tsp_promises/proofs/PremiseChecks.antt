@@ -103,7 +103,7 @@ words-by (l ∷ t) e = let a = and_parts (new_by l.did.deed l.did.step.cause t) 
 
 -- all of them, of a history that ends with a step
 pub kept-by : (strict : Bool) (h : List Line) → Fits (still strict) h → all_settled h ≡ true → all_ours h ≡ true → all_soon h ≡ true → all_new h ≡ true → Kept (still strict) h
-kept-by strict h f ended ours soon new = record { fits = f; finished = all-finished h ended; honest = honest-by h ours; life = life-by h soon; words = words-by h new }
+kept-by strict h f ended ours soon new = record { fits = f; finished = all-finished strict h ended; honest = honest-by h ours; life = life-by h soon; words = words-by h new }
 
 -- whether each port begins few sends with own numbers
 abbrev pub all_few : List Line → Bool

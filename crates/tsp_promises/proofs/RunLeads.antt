@@ -9,21 +9,24 @@ use Rattle.tsp_base.specs.Leads.{Leads}
 use Rattle.tsp_base.specs.PortFacts.{role}
 use Rattle.tsp_base.specs.Rows.{in_step, puts, ◌followed_by◌, arms}
 use Rattle.tsp_base.specs.Peers.{is_among}
-use Rattle.tsp_promises.specs.StepFacts.{StepEnds, is_unbacked, owes, unacknowledged}
+use Rattle.tsp_base.specs.Setup.{Setup}
+use Rattle.tsp_promises.specs.StepFacts.{StepEnds, is_unbacked, owes, unacknowledged, unheeded}
 use Rattle.tsp_rules.specs.CommonRows.{boots}
 use Rattle.tsp_promises.specs.PortFits.{PortFits, setup_in}
 use Rattle.tsp_promises.specs.Runs.{Makes, Boots, Answers as Answering, row_of, Happening, ran, last_tick, Ordered, RulesFit}
-use Rattle.tsp_promises.proofs.Known.{KnowsOf, Fresh, Rests, RestsIn}
+use Rattle.tsp_promises.proofs.Known.{KnowsOf, Ended, Fresh, Rests}
 use Rattle.tsp_promises.proofs.Leaves.{none-some, none-among, nil-cons, some-same}
 use Rattle.tsp_promises.proofs.AnswerLeads.{answers_lead}
+use Rattle.tsp_promises.proofs.HeedLeads.{Heeds, answers_heed, untaken_heeds}
 
 -- a step of a port at rest may end
-pub ends_of : {x : ℕ} {past : Past} → Rests x past → StepEnds past.seen
+pub ends_of : {x : ℕ} {past : Past} → Ended x past → StepEnds (setup_in past) past.seen
 ends_of h = record {
-  backs = h.backs;
-  follows = h.follows;
-  acknowledged = h.paid;
-  exchanges = λ p counter request older e. let asked = h.knows.round.exchanges p counter _ older e in record { corrects = asked.corrects refl; lives = asked.life refl };
+  backs = h.0.backs;
+  heeds = h.1;
+  follows = h.0.follows;
+  acknowledged = h.0.paid;
+  exchanges = λ p counter request older e. let asked = h.0.knows.round.exchanges p counter _ older e in record { corrects = asked.corrects refl; lives = asked.life refl };
 }
 
 -- a boot keeps what is known of a port
@@ -67,11 +70,11 @@ knows_later x y own seen later k = record {
 }
 
 -- a step begins at a later tick
-pub begins_fresh : (step : Step) (x y : ℕ) (past : Past) → x ≤ y → past.own.0 ≡ step.node → Rests x past → Fresh y (in_step step y past)
+pub begins_fresh : (step : Step) (x y : ℕ) (past : Past) → x ≤ y → past.own.0 ≡ step.node → Ended x past → Fresh y (in_step step y past)
 begins_fresh step x y past later own h = record {
   own = own;
-  fits = (ends_of h, h.fits);
-  knows = knows_later x y past.own past.seen later h.knows;
+  fits = (ends_of h, h.0.fits);
+  knows = knows_later x y past.own past.seen later h.0.knows;
   rested = λ e. absurd (true≢false (sym e));
   backs = refl;
   owed = refl;
@@ -80,40 +83,56 @@ begins_fresh step x y past later own h = record {
   took = (refl, refl);
 }
 
-pub row_leads : (m : Makes) → Leads Fresh (row_of m) Rests
-row_leads Boots = boots_lead
-row_leads (Answering g) = answers_lead g
+-- and so it is heeded what a boot's step takes, which is nothing
+boots_heed : Leads Fresh boots Heeds
+unfolding boots puts arms ◌followed_by◌
+boots_heed = record { run = λ x past h. untaken_heeds past.peers past.seen h.took.0 }
 
-pub rests_later : {stirred : Bool} (x y : ℕ) (past : Past) → x ≤ y → RestsIn stirred x past → RestsIn stirred y past
-rests_later x y past later h = record { fits = h.fits; knows = knows_later x y past.own past.seen later h.knows; backs = h.backs; follows = h.follows; paid = h.paid }
+pub row_leads : (m : Makes) → Leads Fresh (row_of m) Ended
+row_leads Boots = record { run = λ x past h. (boots_lead.run x past h, boots_heed.run x past h) }
+row_leads (Answering g) = record { run = λ x past h. ((answers_lead g).run x past h, (answers_heed g).run x past h) }
 
--- and of another past of a port that is set up alike and has seen the same
-pub rests_seen : {stirred : Bool} (x : ℕ) (past now : Past) → past.own ≡ now.own → setup_in past ≡ setup_in now → past.seen ≡ now.seen → RestsIn stirred x past → RestsIn stirred x now
-rests_seen {stirred = stirred} x past now own setup seen h = record {
+pub ended_later : (x y : ℕ) (past : Past) → x ≤ y → Ended x past → Ended y past
+ended_later x y past later e = let h = e.0 in (record { fits = h.fits; knows = knows_later x y past.own past.seen later h.knows; backs = h.backs; follows = h.follows; paid = h.paid }, e.1)
+
+-- what is known is known of another past of a port that is set up alike and has seen the same
+rests-seen : (x : ℕ) (past now : Past) → past.own ≡ now.own → setup_in past ≡ setup_in now → past.seen ≡ now.seen → Rests x past → Rests x now
+rests-seen x past now own setup seen h = record {
   fits = subst (λ s. PortFits s now.seen) setup (subst (λ z. PortFits (setup_in past) z) seen h.fits);
-  knows = subst (λ o. KnowsOf stirred x o now.seen) own (subst (λ z. KnowsOf stirred x past.own z) seen h.knows);
+  knows = subst (λ o. KnowsOf false x o now.seen) own (subst (λ z. KnowsOf false x past.own z) seen h.knows);
   backs = subst (λ z. is_unbacked z ≡ false) seen h.backs;
   follows = subst (λ z. (p : PeerId) → is_among p (owes z) ≡ true → role z ≡ Follow p) seen h.follows;
   paid = subst (λ z. unacknowledged z ≡ None) seen h.paid;
 }
 
+-- so that has ended its step too
+pub ended_seen : (x : ℕ) (past now : Past) → past.own ≡ now.own → setup_in past ≡ setup_in now → past.seen ≡ now.seen → Ended x past → Ended x now
+ended_seen x past now own setup seen e = (rests-seen x past now own setup seen e.0, subst (λ (s : Setup). unheeded s.peers now.seen ≡ None) setup (subst (λ z. unheeded past.peers z ≡ None) seen e.1))
+
 -- a port that has done nothing
-pub nothing-done : (x : ℕ) (past : Past) → Rests x (record past { seen = [] })
-nothing-done x past = record {
-  fits = tt;
-  knows = record {
-    times = record { boot_le = omega arith; last_le = omega arith; boot_is = refl; start_le = λ start idle e. nil-cons (Here start) idle e; next = λ at e. none-some at e };
-    quiet = record {
-      rested = inl (record { starts = refl; unsearched = refl; unelected = refl; unresolved = refl; unsent = λ p. refl });
-      silent = λ at e. none-some at e;
+pub nothing-done : (x : ℕ) (past : Past) → Ended x (record past { seen = [] })
+nothing-done x past = (
+  record {
+    fits = tt;
+    knows = record {
+      times = record { boot_le = omega arith; last_le = omega arith; boot_is = refl; start_le = λ start idle e. nil-cons (Here start) idle e; next = λ at e. none-some at e };
+      quiet = record {
+        rested = inl (record { starts = refl; unsearched = refl; unelected = refl; unresolved = refl; unsent = λ p. refl });
+        silent = λ at e. none-some at e;
+      };
+      vote = record { stands = λ e. let bad : ⊥ = cc in absurd bad; windows = λ at e. none-some at e; votes = λ p e. absurd (true≢false (sym e)) };
+      round = record { rounds = λ at e. none-some at e; probing = λ at e. none-some at e; closes = λ calm at e. none-some at e; exchanges = λ p i s older e. nil-cons s older e };
     };
-    vote = record { stands = λ e. let bad : ⊥ = cc in absurd bad; windows = λ at e. none-some at e; votes = λ p e. absurd (true≢false (sym e)) };
-    round = record { rounds = λ at e. none-some at e; probing = λ at e. none-some at e; closes = λ calm at e. none-some at e; exchanges = λ p i s older e. nil-cons s older e };
-  };
-  backs = refl;
-  follows = λ p e. none-among p refl e;
-  paid = refl;
-}
+    backs = refl;
+    follows = λ p e. none-among p refl e;
+    paid = refl;
+  },
+  refl,
+)
+
+-- and owes nothing
+pub nothing-ends : (setup : Setup) → StepEnds setup []
+nothing-ends setup = record { backs = refl; heeds = refl; follows = λ p e. none-among p refl e; acknowledged = refl; exchanges = λ p i s older e. nil-cons (Here s) older e }
 
 own-ran : (hs : List Happening) (past : Past) → (ran hs past).own ≡ past.own
 own-ran [] past = refl
@@ -123,12 +142,14 @@ setup-ran : (hs : List Happening) (past : Past) → setup_in (ran hs past) ≡ s
 setup-ran [] past = refl
 setup-ran (h ∷ before) past = setup-ran before past
 
-ran-rests : (past : Past) (hs : List Happening) → past.seen ≡ [] → Ordered past.own.0 hs → Rests (last_tick hs) (ran hs past)
-ran-rests past [] e o = subst (λ s. Rests 0 (record past { seen = s })) (sym e) (nothing-done 0 past)
+ran-rests : (past : Past) (hs : List Happening) → past.seen ≡ [] → Ordered past.own.0 hs → Ended (last_tick hs) (ran hs past)
+ran-rests past [] e o = subst (λ s. Ended 0 (record past { seen = s })) (sym e) (nothing-done 0 past)
 ran-rests past (h ∷ before) e o =
     let own : (ran before past).own.0 ≡ h.step.node = ap (λ (p : PeerId). p.0) (own-ran before past) ∙ sym o.1 in
     (row_leads h.makes).run h.tick (in_step h.step h.tick (ran before past)) (begins_fresh h.step (last_tick before) h.tick (ran before past) o.0 own (ran-rests past before e o.2))
 
 -- a port that runs by the rules owes nothing
 pub rules-fit : RulesFit
-rules-fit past hs e o = let r = ran-rests past hs e o in (subst (λ s. PortFits s (ran hs past).seen) (setup-ran hs past) r.fits, ends_of r)
+rules-fit past hs e o =
+    let r = ran-rests past hs e o in
+    (subst (λ s. PortFits s (ran hs past).seen) (setup-ran hs past) r.0.fits, subst (λ s. StepEnds s (ran hs past).seen) (setup-ran hs past) (ends_of r))

@@ -8,7 +8,7 @@ use Rattle.tsp_rules.specs.NodeRows.{NodePast, PortSetup, in_node_step, no_port,
 use Rattle.tsp_rules.proofs.NodeRowLemmas.{on_own}
 use Rattle.tsp_promises.specs.NodeRuns.{NodeMakes, NodeBoots, NodeAnswers, NodeHappening, NodeOrdered, IsGivenOn, node_ran, node_row_of, node_tick}
 use Rattle.tsp_promises.specs.Runs.{ran, row_of}
-use Rattle.tsp_promises.proofs.Known.{Fresh, Rests}
+use Rattle.tsp_promises.proofs.Known.{Fresh, Ended}
 use Rattle.tsp_promises.proofs.RunLeads.{begins_fresh, nothing-done, row_leads}
 use Rattle.tsp_promises.specs.Alone.{IsNew, makes_alone, steps_alone}
 use Rattle.tsp_promises.proofs.AloneLemmas.{Same, alone, same_answers, same_boots}
@@ -27,7 +27,7 @@ own-is : (past : NodePast) (s : PortSetup) → past.ports ≡ s ∷ [] → (alon
 own-is past s one = ap (λ (ps : List PortSetup). (slice_index_or ps 0 no_port).own.0) one
 
 -- the port begins its step
-begins-alone : (past : NodePast) (s : PortSetup) (last x : ℕ) (step : Step) → past.ports ≡ s ∷ [] → last ≤ x → step.node ≡ s.own.0 → Rests last (alone past) → Fresh x (alone (in_node_step step x past))
+begins-alone : (past : NodePast) (s : PortSetup) (last x : ℕ) (step : Step) → past.ports ≡ s ∷ [] → last ≤ x → step.node ≡ s.own.0 → Ended last (alone past) → Fresh x (alone (in_node_step step x past))
 begins-alone past s last x step one later node rests = begins_fresh step last x (alone past) later (own-is past s one ∙ sym node) rests
 
 -- after a step, the port has put what its row has
@@ -35,20 +35,20 @@ alone-grown : (m : NodeMakes) (x : ℕ) (past : NodePast) (s : PortSetup) → Is
 alone-grown m x past s here one fresh = ap (λ ps. alone (spread x past ps)) ((same-row m here).run x past s one fresh) ∙ on_own first_port x past (row_of (makes_alone m) x (alone past))
 
 -- the port owes nothing between the steps
-rests-alone : (past : NodePast) (s : PortSetup) (hs : List NodeHappening) → IsNew past s → NodeOrdered s.own.0 1 hs → Rests (node_tick hs) (alone (node_ran hs past))
-rests-alone past s [] new o = subst (λ ls. Rests 0 (record (alone past) { seen = view first_port ls })) (sym new.lines) (nothing-done 0 (alone past))
-rests-alone past s (h ∷ before) new o =
+ended-alone : (past : NodePast) (s : PortSetup) (hs : List NodeHappening) → IsNew past s → NodeOrdered s.own.0 1 hs → Ended (node_tick hs) (alone (node_ran hs past))
+ended-alone past s [] new o = subst (λ ls. Ended 0 (record (alone past) { seen = view first_port ls })) (sym new.lines) (nothing-done 0 (alone past))
+ended-alone past s (h ∷ before) new o =
     let done = node_ran before past in
     let one : done.ports ≡ s ∷ [] = ports-ran before past ∙ new.ports in
-    let fresh = begins-alone done s (node_tick before) h.tick h.step one o.0 o.1 (rests-alone past s before new o.3) in
-    subst (λ z. Rests h.tick z) (sym (alone-grown h.makes h.tick (in_node_step h.step h.tick done) s o.2 one fresh))
+    let fresh = begins-alone done s (node_tick before) h.tick h.step one o.0 o.1 (ended-alone past s before new o.3) in
+    subst (λ z. Ended h.tick z) (sym (alone-grown h.makes h.tick (in_node_step h.step h.tick done) s o.2 one fresh))
     ((row_leads (makes_alone h.makes)).run h.tick (alone (in_node_step h.step h.tick done)) fresh)
 
 pub fresh_alone : (past : NodePast) (s : PortSetup) (hs : List NodeHappening) (step : Step) (x : ℕ) (m : NodeMakes) → IsNew past s → NodeOrdered s.own.0 1 (record { step = step; tick = x; makes = m } ∷ hs) →
     Fresh x (alone (in_node_step step x (node_ran hs past))) × ((node_ran hs past).ports ≡ s ∷ [])
 fresh_alone past s hs step x m new o =
     let one : (node_ran hs past).ports ≡ s ∷ [] = ports-ran hs past ∙ new.ports in (
-      begins-alone (node_ran hs past) s (node_tick hs) x step one o.0 o.1 (rests-alone past s hs new o.3),
+      begins-alone (node_ran hs past) s (node_tick hs) x step one o.0 o.1 (ended-alone past s hs new o.3),
       one,
     )
 

@@ -22,7 +22,7 @@ use Rattle.tsp_promises.proofs.OneBackProof.{one_back}
 use Rattle.tsp_promises.proofs.OneErrorProof.{one_error}
 use Rattle.tsp_promises.proofs.OnlyMasterProof.{only_master}
 use Rattle.tsp_promises.proofs.RelayedProof.{relayed}
-use Rattle.tsp_promises.proofs.ResolvedProof.{yields, stays_quiet}
+use Rattle.tsp_promises.proofs.ResolvedProof.{yields, yields_taken, stays_quiet}
 use Rattle.tsp_promises.proofs.SeldomProof.{seldom}
 use Rattle.tsp_promises.proofs.ShowsProof.{shows}
 use Rattle.tsp_promises.proofs.SilentProof.{silent}
@@ -32,7 +32,7 @@ use Rattle.tsp_promises.proofs.ThriceProof.{thrice}
 use Rattle.tsp_promises.proofs.ThroughoutProof.{throughout}
 use Rattle.tsp_promises.proofs.TripProof.{trips}
 
-pub safe : (setting : Setting) (world : List Line) → Fits setting world → Finished world → Safe setting world
+pub safe : (setting : Setting) (world : List Line) → Fits setting world → Finished setting world → Safe setting world
 safe setting world f end = record {
   one_back = one_back setting world f end;
   silent = silent setting world f;
@@ -60,7 +60,7 @@ safe setting world f end = record {
   seldom = seldom setting world f;
   throughout = λ honest life. throughout setting world (record { fits = f; honest = honest; life = life });
   relayed = λ honest life. relayed setting world (record { fits = f; honest = honest; life = life });
-  resolved = record { yields = yields setting world f end; quiet = stays_quiet setting world f; stops = stops_leading setting world f end };
+  resolved = record { yields = yields setting world f end; yields_taken = yields_taken setting world f end; quiet = stays_quiet setting world f; stops = stops_leading setting world f end };
   steady = steady setting world f;
   meets = meets world;
   shows = shows setting world f;

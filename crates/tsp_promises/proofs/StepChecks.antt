@@ -15,7 +15,8 @@ use Rattle.tsp_base.specs.History.{Begins, Acts, Deed, Did, Line, Seen, Here, El
 use Rattle.tsp_base.specs.Peers.{is_among}
 use Rattle.tsp_base.specs.PortFacts.{role}
 use Rattle.tsp_base.specs.RoundFacts.{exchange, exchange_after}
-use Rattle.tsp_promises.specs.StepFacts.{StepEnds, is_unbacked, owes, unacknowledged}
+use Rattle.tsp_base.specs.Setup.{Setup}
+use Rattle.tsp_promises.specs.StepFacts.{StepEnds, is_unbacked, owes, unacknowledged, unheeded}
 use Rattle.tsp_base.specs.Takings.{Undisturbed}
 use Rattle.tsp_promises.proofs.Leaves.{none-among, nil-cons}
 use Rattle.tsp_rules.proofs.GuardFacts.{same_peer}
@@ -142,15 +143,16 @@ none-such None e = refl
 none-such (Some a) e = absurd (true≢false (sym e))
 
 -- whether all is paid that a port owes at a step's end
-abbrev pub paid : List Seen → Bool
-paid seen = cond (is_unbacked seen) false true && (met (owes seen) (role seen) && (cond (is_some (unacknowledged seen)) false true && rests seen))
+abbrev pub paid : List PeerId → List Seen → Bool
+paid peers seen = cond (is_some (unheeded peers seen)) false true && (cond (is_unbacked seen) false true && (met (owes seen) (role seen) && (cond (is_some (unacknowledged seen)) false true && rests seen)))
 
-paid-ends : (seen : List Seen) → paid seen ≡ true → StepEnds seen
-paid-ends seen e =
-    let a = and_parts (cond (is_unbacked seen) false true) (met (owes seen) (role seen) && (cond (is_some (unacknowledged seen)) false true && rests seen)) e in
+paid-ends : (setup : Setup) (seen : List Seen) → paid setup.peers seen ≡ true → StepEnds setup seen
+paid-ends setup seen e =
+    let h = and_parts (cond (is_some (unheeded setup.peers seen)) false true) (cond (is_unbacked seen) false true && (met (owes seen) (role seen) && (cond (is_some (unacknowledged seen)) false true && rests seen))) e in
+    let a = and_parts (cond (is_unbacked seen) false true) (met (owes seen) (role seen) && (cond (is_some (unacknowledged seen)) false true && rests seen)) h.1 in
     let b = and_parts (met (owes seen) (role seen)) (cond (is_some (unacknowledged seen)) false true && rests seen) a.1 in
     let c = and_parts (cond (is_some (unacknowledged seen)) false true) (rests seen) b.1 in
-    record { backs = not-so (is_unbacked seen) a.0; follows = met-by (owes seen) (role seen) b.0; acknowledged = none-such (unacknowledged seen) c.0; exchanges = λ p i. quiet p i seen c.1 }
+    record { backs = not-so (is_unbacked seen) a.0; heeds = none-such (unheeded setup.peers seen) h.0; follows = met-by (owes seen) (role seen) b.0; acknowledged = none-such (unacknowledged seen) c.0; exchanges = λ p i. quiet p i seen c.1 }
 
 -- lines on ports 0 and 1 alone
 abbrev pub on_two : List Line → Bool
@@ -162,21 +164,22 @@ record Empty (seen : List Seen) : Type 0 where
   pub backs : is_unbacked seen ≡ false
   pub none : owes seen ≡ []
   pub heeded : unacknowledged seen ≡ None
+  pub untaken : (peers : List PeerId) → unheeded peers seen ≡ None
   pub shut : (p : PeerId) (c : ℕ) → exchange p c seen ≡ []
 
 -- a port that its node doesn't have sees marks and boots alone
 far-deed : (b : Bool) (d : Did) (deed : Deed) (seen : List Seen) → deed ≡ d.deed → (false || is_shared deed) ≡ b → Empty seen → Empty (seen_as b d ∷ seen)
-far-deed true d Begins seen is e h = record { backs = rw (sym is) refl; none = rw (sym is) refl; heeded = rw (sym is) refl; shut = λ p c. rw (sym is) (h.shut p c) }
-far-deed true d (Acts Boot) seen is e h = record { backs = rw (sym is) h.backs; none = rw (sym is) h.none; heeded = rw (sym is) h.heeded; shut = λ p c. rw (sym is) refl }
+far-deed true d Begins seen is e h = record { backs = rw (sym is) refl; none = rw (sym is) refl; heeded = rw (sym is) refl; untaken = λ peers. rw (sym is) refl; shut = λ p c. rw (sym is) (h.shut p c) }
+far-deed true d (Acts Boot) seen is e h = record { backs = rw (sym is) h.backs; none = rw (sym is) h.none; heeded = rw (sym is) h.heeded; untaken = λ peers. rw (sym is) (h.untaken peers); shut = λ p c. rw (sym is) refl }
 far-deed true d _ seen is e h = let bad : ⊥ = cc in absurd bad
-far-deed false d deed seen is e h = record { backs = h.backs; none = h.none; heeded = h.heeded; shut = h.shut }
+far-deed false d deed seen is e h = record { backs = h.backs; none = h.none; heeded = h.heeded; untaken = h.untaken; shut = h.shut }
 
 other-port : (l k : ℕ) → nat_lt l 2 ≡ true → (b : Bool) → (l == suc (suc k)) ≡ b → b ≡ false
 other-port l k e true i = (let a = ltb-true l 2 e in let c = eqb-true l (suc (suc k)) i in absurd (omega arith))
 other-port l k e false i = refl
 
 far : (q : Port) (k : ℕ) (own : List Line) → q.0 ≡ suc (suc k) → on_two own ≡ true → Empty (view q own)
-far q k [] is e = record { backs = refl; none = refl; heeded = refl; shut = λ p c. refl }
+far q k [] is e = record { backs = refl; none = refl; heeded = refl; untaken = λ peers. refl; shut = λ p c. refl }
 far q k (l ∷ own) is e =
     let a = and_parts (nat_lt l.port.0 2) (on_two own) e in
     let other : (l.port.0 == q.0) ≡ false = ap (λ n. l.port.0 == n) is ∙ other-port l.port.0 k a.0 (l.port.0 == suc (suc k)) refl in
@@ -188,20 +191,20 @@ port0 = record { 0 = 0 }
 abbrev pub port1 : Port
 port1 = record { 0 = 1 }
 
--- whether all is paid that a node owes at a step's end
-abbrev pub settled : List Line → Bool
-settled own = on_two own && (paid (view port0 own) && paid (view port1 own))
+-- whether all is paid that a node owes at a step's end, with these peers on each port
+abbrev pub settled : (Port → List PeerId) → List Line → Bool
+settled peers own = on_two own && (paid (peers port0) (view port0 own) && paid (peers port1) (view port1 own))
 
-far-ends : (seen : List Seen) → Empty seen → StepEnds seen
-far-ends seen h = record { backs = h.backs; follows = λ p e. none-among p h.none e; acknowledged = h.heeded; exchanges = λ p c request older e. nil-cons (Here request) older (sym (h.shut p c) ∙ e) }
+far-ends : (setup : Setup) (seen : List Seen) → Empty seen → StepEnds setup seen
+far-ends setup seen h = record { backs = h.backs; heeds = h.untaken setup.peers; follows = λ p e. none-among p h.none e; acknowledged = h.heeded; exchanges = λ p c request older e. nil-cons (Here request) older (sym (h.shut p c) ∙ e) }
 
-pub settled-ends : (own : List Line) → settled own ≡ true → (q : Port) → StepEnds (view q own)
-settled-ends own e q =
-    let a = and_parts (on_two own) (paid (view port0 own) && paid (view port1 own)) e in
-    let b = and_parts (paid (view port0 own)) (paid (view port1 own)) a.1 in
+pub settled-ends : (setups : Port → Setup) (own : List Line) → settled (λ q. (setups q).peers) own ≡ true → (q : Port) → StepEnds (setups q) (view q own)
+settled-ends setups own e q =
+    let a = and_parts (on_two own) (paid (setups port0).peers (view port0 own) && paid (setups port1).peers (view port1 own)) e in
+    let b = and_parts (paid (setups port0).peers (view port0 own)) (paid (setups port1).peers (view port1 own)) a.1 in
     by-port a.0 b.0 b.1 q.0 refl
   where
-    by-port : on_two own ≡ true → paid (view port0 own) ≡ true → paid (view port1 own) ≡ true → (k : ℕ) → q.0 ≡ k → StepEnds (view q own)
-    by-port two zero_is one_is zero is = subst (λ z. StepEnds (view z own)) (ap (λ k. let r : Port = record { 0 = k } in r) (sym is)) (paid-ends (view port0 own) zero_is)
-    by-port two zero_is one_is (suc zero) is = subst (λ z. StepEnds (view z own)) (ap (λ k. let r : Port = record { 0 = k } in r) (sym is)) (paid-ends (view port1 own) one_is)
-    by-port two zero_is one_is (suc (suc k)) is = far-ends (view q own) (far q k own is two)
+    by-port : on_two own ≡ true → paid (setups port0).peers (view port0 own) ≡ true → paid (setups port1).peers (view port1 own) ≡ true → (k : ℕ) → q.0 ≡ k → StepEnds (setups q) (view q own)
+    by-port two zero_is one_is zero is = subst (λ z. StepEnds (setups z) (view z own)) (ap (λ k. let r : Port = record { 0 = k } in r) (sym is)) (paid-ends (setups port0) (view port0 own) zero_is)
+    by-port two zero_is one_is (suc zero) is = subst (λ z. StepEnds (setups z) (view z own)) (ap (λ k. let r : Port = record { 0 = k } in r) (sym is)) (paid-ends (setups port1) (view port1 own) one_is)
+    by-port two zero_is one_is (suc (suc k)) is = far-ends (setups q) (view q own) (far q k own is two)

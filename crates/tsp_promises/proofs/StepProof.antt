@@ -8,7 +8,7 @@ use Rattle.tsp_promises.specs.Fits.{Finished, Fits, LineFits, SameStep, node_of}
 use Rattle.tsp_base.specs.History.{Begins, Acts, Deed, Did, Line, Step, of, dids, view}
 use Rattle.tsp_base.specs.NodeFacts.{time_of}
 use Rattle.tsp_base.specs.Places.{Within}
-use Rattle.tsp_promises.specs.Setting.{Setting}
+use Rattle.tsp_promises.specs.Setting.{Setting, setup_of}
 use Rattle.tsp_promises.specs.StepFacts.{StepEnds}
 use Rattle.tsp_base.specs.Takings.{steps, steps_after}
 use Rattle.tsp_base.proofs.PlaceLemmas.{Within-comparable, Within-none}
@@ -78,36 +78,36 @@ one_step a b s r t f v w e x y is_a is_b = elim (Within-comparable (a ∷ s) (b 
   stepped-at s (d ∷ t) f (inr w) = stepped-at s t f.1 w
 
 -- every other node than that of the newest line has ended its step
-abbrev OthersEnd : List Line → Type 0
-OthersEnd [] = (n : ℕ) (q : Port) → StepEnds (view q (of n []))
-OthersEnd (x ∷ t) = (n : ℕ) (q : Port) → (node_of x == n) ≡ false → StepEnds (view q (of n (x ∷ t)))
+abbrev OthersEnd : Setting → List Line → Type 0
+OthersEnd setting [] = (n : ℕ) (q : Port) → StepEnds (setup_of setting n q) (view q (of n []))
+OthersEnd setting (x ∷ t) = (n : ℕ) (q : Port) → (node_of x == n) ≡ false → StepEnds (setup_of setting n q) (view q (of n (x ∷ t)))
 
-ended-mark : (setting : Setting) (x : Line) (t : List Line) → LineFits setting x t → x.did.deed ≡ Begins → OthersEnd (x ∷ t) → Finished t
+ended-mark : (setting : Setting) (x : Line) (t : List Line) → LineFits setting x t → x.did.deed ≡ Begins → OthersEnd setting (x ∷ t) → Finished setting t
 ended-mark setting x t f is o n q = by-node (node_of x == n) refl where
-  by-node : (b : Bool) → (node_of x == n) ≡ b → StepEnds (view q (of n t))
-  by-node true e = subst (λ k. StepEnds (view q (of k t))) (eqb-true (node_of x) n e) (mark_fits setting x t is f q)
-  by-node false e = subst (λ w. StepEnds (view q w)) (of-other n x t e) (o n q e)
+  by-node : (b : Bool) → (node_of x == n) ≡ b → StepEnds (setup_of setting n q) (view q (of n t))
+  by-node true e = subst (λ k. StepEnds (setup_of setting k q) (view q (of k t))) (eqb-true (node_of x) n e) (mark_fits setting x t is f q)
+  by-node false e = subst (λ w. StepEnds (setup_of setting n q) (view q w)) (of-other n x t e) (o n q e)
 
-finished-others : (t : List Line) → Finished t → OthersEnd t
-finished-others [] o = o
-finished-others (y ∷ t) o = λ n q e. o n q
+finished-others : (setting : Setting) (t : List Line) → Finished setting t → OthersEnd setting t
+finished-others setting [] o = o
+finished-others setting (y ∷ t) o = λ n q e. o n q
 
-ended-act : (a : Act) (x : Line) (t : List Line) → SameStep (Acts a) x.did.step (dids t) → OthersEnd (x ∷ t) → OthersEnd t
-ended-act a x [] same o = absurd same
-ended-act a x (y ∷ t) same o = λ n q e.
+ended-act : (setting : Setting) (a : Act) (x : Line) (t : List Line) → SameStep (Acts a) x.did.step (dids t) → OthersEnd setting (x ∷ t) → OthersEnd setting t
+ended-act setting a x [] same o = absurd same
+ended-act setting a x (y ∷ t) same o = λ n q e.
     let node : node_of y ≡ node_of x = ap (λ (s : Step). s.node) same in
     let other : (node_of x == n) ≡ false = subst (λ k. (k == n) ≡ false) node e in
-    subst (λ w. StepEnds (view q w)) (of-other n x (y ∷ t) other) (o n q other)
+    subst (λ w. StepEnds (setup_of setting n q) (view q w)) (of-other n x (y ∷ t) other) (o n q other)
 
-ended-before : (setting : Setting) (x : Line) (t : List Line) (deed : Deed) → deed ≡ x.did.deed → LineFits setting x t → OthersEnd (x ∷ t) → OthersEnd t
-ended-before setting x t Begins is f o = finished-others t (ended-mark setting x t f (sym is) o)
-ended-before setting x t (Acts a) is f o = ended-act a x t (subst (λ k. SameStep k x.did.step (dids t)) (sym is) f.step) o
+ended-before : (setting : Setting) (x : Line) (t : List Line) (deed : Deed) → deed ≡ x.did.deed → LineFits setting x t → OthersEnd setting (x ∷ t) → OthersEnd setting t
+ended-before setting x t Begins is f o = finished-others setting t (ended-mark setting x t f (sym is) o)
+ended-before setting x t (Acts a) is f o = ended-act setting a x t (subst (λ k. SameStep k x.did.step (dids t)) (sym is) f.step) o
 
-ended-in : (setting : Setting) (s h : List Line) → Fits setting h → OthersEnd h → Within s h → OthersEnd s
-ended-in setting s [] f o e = subst (λ w. OthersEnd w) (sym e) o
-ended-in setting s (x ∷ h) f o (inl e) = subst (λ w. OthersEnd w) (sym e) o
+ended-in : (setting : Setting) (s h : List Line) → Fits setting h → OthersEnd setting h → Within s h → OthersEnd setting s
+ended-in setting s [] f o e = subst (λ w. OthersEnd setting w) (sym e) o
+ended-in setting s (x ∷ h) f o (inl e) = subst (λ w. OthersEnd setting w) (sym e) o
 ended-in setting s (x ∷ h) f o (inr w) = ended-in setting s h f.1 (ended-before setting x h x.did.deed refl f.0 o) w
 
 -- of a history that ends with a step, each place where a step begins is one
-pub finished_at : (setting : Setting) (l : Line) (before h : List Line) → Fits setting h → Finished h → Within (l ∷ before) h → l.did.deed ≡ Begins → Finished before
-finished_at setting l before h f end w is = ended-mark setting l before (fits_in setting l before h f w) is (ended-in setting (l ∷ before) h f (finished-others h end) w)
+pub finished_at : (setting : Setting) (l : Line) (before h : List Line) → Fits setting h → Finished setting h → Within (l ∷ before) h → l.did.deed ≡ Begins → Finished setting before
+finished_at setting l before h f end w is = ended-mark setting l before (fits_in setting l before h f w) is (ended-in setting (l ∷ before) h f (finished-others setting h end) w)

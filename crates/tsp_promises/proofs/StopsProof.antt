@@ -124,7 +124,7 @@ takes-times setting ring x rpast xpast h f life ring_in rings x_in t =
     let lives = (Everywhere-within (TakenWithinAt LIFE) (x ∷ xpast) h life x_in).0 p t.older (Peer pk) (Message s.message) t.place s.deed t.takes in
     record { after = omega (arith, d.after, fx.0.order); soon = omega (arith, d.soon) }
 
-stops_by : (setting : Setting) (h : List Line) → Fits setting h → Finished h → Life h → StopsBy h
+stops_by : (setting : Setting) (h : List Line) → Fits setting h → Finished setting h → Life h → StopsBy h
 stops_by setting h f end life ring x y past xpast ypast ring_in rings x_in tx y_in ty last leads =
     let r = node_of x in
     let fx = fits_at setting (x ∷ xpast) h f x_in in
@@ -143,7 +143,7 @@ stops_by setting h f end life ring x y past xpast ypast ring_in rings x_in tx y_
     not-both : (p : PeerId) → Follow p ≡ Master → ⊥
     not-both p e = cc
 
-pub stops_leading : (setting : Setting) (h : List Line) → Fits setting h → Finished h → Life h → StopsLeading h
+pub stops_leading : (setting : Setting) (h : List Line) → Fits setting h → Finished setting h → Life h → StopsLeading h
 stops_leading setting h f end life = record {
   marks = Everywhere-from (λ (l : Line) (before : List Line). l.did.deed ≡ Begins → StopsBy before) h (λ l before w is.
       let before_in : Within before h = Within-tail l before h w in

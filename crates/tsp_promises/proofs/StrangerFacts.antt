@@ -1,17 +1,20 @@
 -- What goes to strangers answers what was taken from one.
 use Rattle.std.specs.Prelude.{◌≡◌, true, false, if◌then◌else◌, List, [], ◌∷◌, Option, None, Some, refl}
-use Rattle.std.proofs.Common.{sym, ap, subst, subst₂, inl, inr, ◌∙◌}
+use Rattle.std.proofs.Common.{sym, ap, subst, subst₂, inl, inr, true≢false, ◌∙◌}
 use Rattle.tsp_base.specs.declared.act.Act.TheVariants.{Post, Took}
 use Rattle.tsp_base.specs.declared.datagram.Datagram.{Datagram}
 use Rattle.tsp_base.specs.declared.datagram.Datagram.TheVariants.{Message, Stamp}
 use Rattle.tsp_base.specs.declared.kind.Kind.{Kind}
 use Rattle.tsp_base.specs.declared.kind.Kind.TheVariants.{Ack, DateAck}
 use Rattle.tsp_base.specs.declared.datagram.Taken.TheVariants.{Good}
+use Rattle.tsp_base.specs.declared.place.PeerId.{PeerId}
 use Rattle.tsp_base.specs.declared.place.Place.{Place}
-use Rattle.tsp_base.specs.declared.place.Place.TheVariants.{Stranger}
+use Rattle.tsp_base.specs.declared.place.Place.TheVariants.{Peer, Stranger}
 use Rattle.tsp_base.specs.declared.stamp.Stamp.TheVariants.{Reply, Request}
-use Rattle.tsp_promises.specs.Answered.{AnswersWith}
-use Rattle.tsp_promises.specs.DeedFits.{DeedFits, NamedFits, PostFits, StrangerFits, answer_name, asks_name}
+use Rattle.tsp_promises.specs.AckFits.{AckFits}
+use Rattle.tsp_promises.specs.Answered.{AnswersWith, acknowledges, is_answer}
+use Rattle.tsp_promises.specs.DateFits.{DateAckFits}
+use Rattle.tsp_promises.specs.DeedFits.{DeedFits, MessageFits, NamedFits, PostFits, StrangerFits, answer_name, asks_name}
 use Rattle.tsp_base.specs.History.{Begins, Acts, Deed, Did, Seen, Here, Elsewhere}
 use Rattle.tsp_base.specs.Messages.{MessageValue}
 use Rattle.tsp_base.specs.PortFacts.{Received, kept_name, message_in, role, taken, taken_after}
@@ -29,6 +32,39 @@ pub record Answering (setup : Setup) (before : List Seen) (datagram : Datagram) 
   pub answer : AnswersWith asked datagram
   pub first : is_answered before ≡ false
   pub named : (m message : MessageValue) → datagram ≡ Message m → asked ≡ Message message → m.name ≡ answer_name message.kind setup before
+
+-- what is posted as an answer, and what it answers
+pub record Asked (to : Place) (before : List Seen) (datagram : Datagram) : Type 0 where
+  pub asked : Datagram
+  pub took : TakesFrom before to asked
+  pub answer : AnswersWith asked datagram
+
+ack-asked : (to : Place) (before : List Seen) (m : MessageValue) → m.kind ≡ Ack → AckFits to before m.number → Asked to before (Message m)
+ack-asked to before m is f = record { asked = Message f.message; took = f.took; answer = (inl is, sym f.number_is) }
+
+date-asked : (to : Place) (here : Did) (before : List Seen) (m : MessageValue) → m.kind ≡ DateAck → DateAckFits to here before m.number → Asked to before (Message m)
+date-asked Stranger here before m is f = record { asked = Message f.message; took = f.took; answer = (inr is, sym f.number_is) }
+date-asked (Peer p) here before m is f = elim f [
+  | inl c ↦ record { asked = Message c.message; took = c.took; answer = (inr is, sym c.number_is) }
+  | inr c ↦ record { asked = Message c.message; took = c.took; answer = (inr is, sym c.number_is) }
+]
+
+peer-asked : (setup : Setup) (k : Kind) (here : Did) (before : List Seen) (p : PeerId) (m : MessageValue) → m.kind ≡ k → acknowledges k ≡ true → MessageFits setup k here before p m → Asked (Peer p) before (Message m)
+peer-asked setup Ack here before p m is e f = ack-asked (Peer p) before m is f
+peer-asked setup DateAck here before p m is e f = date-asked (Peer p) here before m is f
+peer-asked setup _ here before p m is e f = absurd (true≢false (sym e))
+
+stranger-asked : (k : Kind) (here : Did) (before : List Seen) (m : MessageValue) → m.kind ≡ k → StrangerFits k here before m.number → Asked Stranger before (Message m)
+stranger-asked Ack here before m is f = ack-asked Stranger before m is f
+stranger-asked DateAck here before m is f = date-asked Stranger here before m is f
+stranger-asked _ here before m is f = absurd f
+
+pub answers_asked : (setup : Setup) (to : Place) (datagram : Datagram) (here : Did) (before : List Seen) → PostFits setup to datagram here before → is_answer datagram ≡ true → Asked to before datagram
+answers_asked setup (Peer p) (Message m) here before f e = peer-asked setup m.kind here before p m refl e f
+answers_asked setup Stranger (Message m) here before f e = stranger-asked m.kind here before m refl f.0
+answers_asked setup to (Stamp (Request word counter)) here before f e = absurd (true≢false (sym e))
+answers_asked setup (Peer p) (Stamp (Reply reply)) here before f e = record { asked = Stamp (Request reply.word reply.counter); took = f.took; answer = (refl, refl) }
+answers_asked setup Stranger (Stamp (Reply reply)) here before f e = record { asked = Stamp (Request reply.word reply.counter); took = f.0.took; answer = (refl, refl) }
 
 one-message : (m n : MessageValue) → Message m ≡ Message n → m ≡ n
 one-message m n e = cc

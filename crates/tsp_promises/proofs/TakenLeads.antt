@@ -106,7 +106,7 @@ module _ {from : Place} (m : MessageValue) (early : is_answered_early m.kind ≡
   names : (x : ℕ) (past : Past) (name : List ℕ) → NamedFits (setup_in past) past.seen (bare Ack m.number name) → Unanswered (Early (Is from (Good (Message m)))) x past → Rests x (grown x past (Post from (Message (bare Ack m.number name)) ∷ []))
   names x past name named h = rests_of (post_early from m.number name
       (ack_back (setup_in past) from m name (now x past (Post from (Message (bare Ack m.number name)))) past.seen h.was.took (answers past.seen) h.none named)
-      (record { from = from; message = m; took = h.was.took; kind = early }) h.was)
+      (record { message = m; took = h.was.took; kind = early; number_is = refl }) h.was)
 
   pub names_master_leads : asks_name m.kind ≡ true → Leads (Unanswered (Early (Is from (Good (Message m))))) (names_master from m.number) Rests
   unfolding names_master

@@ -7,7 +7,7 @@ use Rattle.tsp_base.specs.declared.datagram.Datagram.TheVariants.{Message}
 use Rattle.tsp_base.specs.declared.datagram.Taken.TheVariants.{Good}
 use Rattle.tsp_base.specs.declared.kind.Kind.TheVariants.{Ack, Test}
 use Rattle.tsp_base.specs.declared.message.Body.TheVariants.{Nothing}
-use Rattle.tsp_base.specs.declared.place.Place.TheVariants.{Stranger}
+use Rattle.tsp_base.specs.declared.place.Place.TheVariants.{Peer, Stranger}
 use Rattle.tsp_promises.specs.AnsweredUse.{AnsweredUse}
 use Rattle.tsp_promises.specs.Fits.{Fits}
 use Rattle.tsp_base.specs.History.{Came, Handed, Line}
@@ -32,12 +32,19 @@ answered_use = record {
   setting = still false;
   world = t13;
   fits = f13;
-  finished = all-finished t13 refl;
+  finished = all-finished false t13 refl;
   quit = does 400000001 1 (Came 2) (Quit (peer_of 0));
   past = skip 3 r9;
   quit_in = skipped 15 t13;
   from = peer_of 0;
   quits = refl;
+  reply = does 400000001 1 (Came 2) (Post (Peer (peer_of 0)) (Message (msg Ack 32776 Nothing)));
+  since = skip 2 r9;
+  reply_in = skipped 14 t13;
+  to = peer_of 0;
+  answer = Message (msg Ack 32776 Nothing);
+  replies = refl;
+  answers = refl;
   post = does 716000000 1 Handed (Post Stranger (Message (named_msg 1 Ack 5 Nothing)));
   before = skip 1 t13;
   post_in = inl refl;

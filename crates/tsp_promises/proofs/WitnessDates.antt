@@ -179,4 +179,4 @@ date_use = record {
 
 -- with forged octets one is set twice
 pub forged_date : ForgedDate
-forged_date = record { setting = still false; world = d11; fits = f11; finished = all-finished d11 refl; life = life-by d11 refl; words = words-by d11 refl; twice = λ h. h.1.0 passes (does 310000001 0 (Came 1) (Correct (pos 289999999) true (pos 600000000))) passes (skip 1 d7) (skip 2 d8) (skip 1 d7) passes.did (view port0 (of 1 (skip 1 d7))) dated-again refl (skipped 10 (skip 2 d11)) dates-at sends sends }
+forged_date = record { setting = still false; world = d11; fits = f11; finished = all-finished false d11 refl; life = life-by d11 refl; words = words-by d11 refl; twice = λ h. h.1.0 passes (does 310000001 0 (Came 1) (Correct (pos 289999999) true (pos 600000000))) passes (skip 1 d7) (skip 2 d8) (skip 1 d7) passes.did (view port0 (of 1 (skip 1 d7))) dated-again refl (skipped 10 (skip 2 d11)) dates-at sends sends }

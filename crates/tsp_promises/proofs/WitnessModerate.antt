@@ -17,10 +17,10 @@ use Rattle.tsp_base.specs.declared.stamp.Stamp.TheVariants.{Request, Reply}
 use Rattle.tsp_group.specs.Groups.{Agree, better, goes_before, group_from}
 use Rattle.tsp_promises.specs.Agreed.{Cast}
 use Rattle.tsp_promises.specs.CorrectFits.{ByRound}
-use Rattle.tsp_promises.specs.Estimates.{CloseBegins}
+use Rattle.tsp_promises.specs.Estimates.{CloseBegins, Moves}
 use Rattle.tsp_promises.specs.Fits.{Fits}
 use Rattle.tsp_base.specs.History.{Came, Turned, Line, of, view}
-use Rattle.tsp_promises.specs.Moderate.{Agrees, Majority, Moves, PeerAgrees, estimates_of}
+use Rattle.tsp_promises.specs.Moderate.{Agrees, Majority, PeerAgrees, estimates_of}
 use Rattle.tsp_promises.specs.ModerateUse.{ModerateUse}
 use Rattle.tsp_base.specs.RoundFacts.{Sampled}
 use Rattle.tsp_promises.specs.RoundFits.{group_mean}

@@ -38,7 +38,7 @@ abbrev pub q2 : List Line
 q2 = then_step (step_at 1000000 1 Handed) aq2 q1
 
 fq2 : Fits (still false) q2
-fq2 = step-fits false (step_at 1000000 1 Handed) aq2 q1 fq1 refl ((refl, (refl, tt)), ((refl, record { rested = inr tt; fits = (record { took = refl; ticket_is = refl; reading_is = refl }, refl) }), tt))
+fq2 = step-fits false (step_at 1000000 1 Handed) aq2 q1 fq1 refl ((refl, (refl, tt)), ((refl, record { rested = inr refl; fits = (record { took = refl; ticket_is = refl; reading_is = refl }, refl) }), tt))
 
 abbrev pub aq3 : List Placed
 aq3 = on port0 (Took Stranger (Good (Message (msg Msite 3 Nothing)))) ∷ (on port0 (Post Stranger (Message (msg Ack 3 Nothing))) ∷ [])
@@ -47,7 +47,7 @@ abbrev pub q3 : List Line
 q3 = then_step (step_at 2000000 1 Handed) aq3 q2
 
 fq3 : Fits (still false) q3
-fq3 = step-fits false (step_at 2000000 1 Handed) aq3 q2 fq2 refl ((refl, (refl, tt)), ((refl, record { rested = inr (refl, record { from = Stranger; message = msg Msite 3 Nothing; took = refl; kind = refl }); fits = (record { message = msg Msite 3 Nothing; took = refl; number_is = refl; answers = tt }, (refl, λ asked took. rw (asks-same (msg Msite 3 Nothing) asked _ refl took) refl)) }), tt))
+fq3 = step-fits false (step_at 2000000 1 Handed) aq3 q2 fq2 refl ((refl, (refl, tt)), ((refl, record { rested = inr (refl, record { message = msg Msite 3 Nothing; took = refl; kind = refl; number_is = refl }); fits = (record { message = msg Msite 3 Nothing; took = refl; number_is = refl; answers = tt }, (refl, λ asked took. rw (asks-same (msg Msite 3 Nothing) asked _ refl took) refl)) }), tt))
 
 pub quiet_use : QuietUse
 quiet_use = record {

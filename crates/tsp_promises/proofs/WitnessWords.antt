@@ -59,7 +59,7 @@ same_words = record {
   setting = still false;
   world = v13;
   fits = again-fits;
-  finished = all-finished v13 refl;
+  finished = all-finished false v13 refl;
   honest = honest-by v13 refl;
   life = life-by v13 refl;
   repeats = record { again = reboots; past = skip 1 v1; again_in = skipped 42 v13; once = boots; older = skip 77 v1; once_in = skipped 75 (skip 1 v1); node = refl; boots = refl; booted = refl; word = 7; wall = pos 500000000; wall_once = pos 0; word_is = refl; word_once = refl };
@@ -130,7 +130,7 @@ measures_wrongly = record {
   setting = still false;
   world = x5;
   fits = fx5;
-  finished = all-finished x5 refl;
+  finished = all-finished false x5 refl;
   honest = honest-by x5 refl;
   repeats = record { again = reboots; past = skip 1 x1; again_in = skipped 14 x5; once = boots; older = skip 48 x1; once_in = skipped 46 (skip 1 x1); node = refl; boots = refl; booted = refl; word = 7; wall = pos 500000000; wall_once = pos 0; word_is = refl; word_once = refl };
   wrong = wrongly;

@@ -5,6 +5,7 @@ use Rattle.tsp_base.specs.declared.datagram.Datagram.{Datagram}
 use Rattle.tsp_base.specs.declared.datagram.Datagram.TheVariants.{Message, Stamp}
 use Rattle.tsp_base.specs.declared.datagram.Taken.{Taken}
 use Rattle.tsp_base.specs.declared.datagram.Taken.TheVariants.{Good}
+use Rattle.tsp_base.specs.declared.kind.Kind.{Kind}
 use Rattle.tsp_base.specs.declared.kind.Kind.TheVariants.{Ack, DateAck, Quit as QuitKind}
 use Rattle.tsp_base.specs.declared.place.PeerId.{PeerId}
 use Rattle.tsp_base.specs.declared.place.Place.{Place}
@@ -17,7 +18,7 @@ use Rattle.tsp_promises.specs.Fits.{node_of}
 use Rattle.tsp_base.specs.History.{Acts, Begins, Deed, Did, Line, dids, of, view}
 use Rattle.tsp_base.specs.Messages.{MessageValue}
 use Rattle.tsp_promises.specs.Setting.{Setting, setup_of}
-use Rattle.tsp_promises.specs.StepFacts.{unacknowledged}
+use Rattle.tsp_promises.specs.StepFacts.{unacknowledged, unheeded}
 use Rattle.tsp_base.specs.Takings.{TakesFrom, heard}
 
 -- a step takes one datagram at most, on whatever port
@@ -48,6 +49,12 @@ pub record HeedsQuit (l : Line) (world : List Line) (p : PeerId) : Type 0 where
 abbrev pub QuitsAt : Line → List Line → Type 0
 QuitsAt l world = (p : PeerId) → l.did.deed ≡ Acts (Quit p) → HeedsQuit l world p
 
+-- at the end of each step, on each port: the QUIT of a peer that it took in that step, from another than its own node and
+-- while it wasn't Starting, has its Quit after it
+pub record Heeded (setting : Setting) (world : List Line) : Type 0 where
+  pub marks : Everywhere (λ (l : Line) (before : List Line). l.did.deed ≡ Begins → (q : Port) → unheeded (setup_of setting (node_of l) q).peers (view q (of (node_of l) before)) ≡ None) world
+  pub ends : (n : ℕ) (q : Port) → unheeded (setup_of setting n q).peers (view q (of n world)) ≡ None
+
 -- at the end of each step, on each port: if the step has a Quit, an ACK with the QUIT's number was posted to its sender
 -- after it
 pub record Acknowledged (world : List Line) : Type 0 where
@@ -60,6 +67,27 @@ abbrev pub AnswersWith : Datagram → Datagram → Type 0
 AnswersWith (Stamp (Request word counter)) (Stamp (Reply reply)) = (reply.word ≡ word) × (reply.counter ≡ counter)
 AnswersWith (Message asked) (Message answer) = ((answer.kind ≡ Ack) ⊎ (answer.kind ≡ DateAck)) × (answer.number ≡ asked.number)
 AnswersWith _ _ = ⊥
+
+abbrev pub acknowledges : Kind → Bool
+acknowledges Ack = true
+acknowledges DateAck = true
+acknowledges _ = false
+
+-- whether a datagram is an answer: a reply to a stamp request, an ACK or a DATEACK
+abbrev pub is_answer : Datagram → Bool
+is_answer (Stamp (Reply reply)) = true
+is_answer (Stamp (Request word counter)) = false
+is_answer (Message m) = acknowledges m.kind
+
+-- the step has taken what this answers, on that port and from whom it is posted to
+pub record AnswersAsked (to : Place) (l : Line) (world : List Line) (datagram : Datagram) : Type 0 where
+  pub asked : Datagram
+  pub took : TakesFrom (view l.port (of (node_of l) world)) to asked
+  pub answer : AnswersWith asked datagram
+
+-- each answer that is posted, to whomever, answers what its step has taken from there
+abbrev pub AnswersAt : Line → List Line → Type 0
+AnswersAt l world = (to : Place) (datagram : Datagram) → l.did.deed ≡ Acts (Post to datagram) → is_answer datagram ≡ true → AnswersAsked to l world datagram
 
 abbrev pub has_answered_after : Deed → Bool → Bool
 has_answered_after Begins keep = false
@@ -110,6 +138,8 @@ OneForOneAt l world = to_strangers (dids (l ∷ world)) ≤ from_strangers (dids
 pub record Answered (setting : Setting) (world : List Line) : Type 0 where
   pub takes_one : Everywhere TakesOneAt world
   pub quits : Everywhere QuitsAt world
+  pub heeded : Heeded setting world
   pub acknowledged : Acknowledged world
+  pub answers : Everywhere AnswersAt world
   pub strangers : Everywhere (StrangersAt setting) world
   pub one_for_one : Everywhere OneForOneAt world

@@ -1,25 +1,34 @@
 -- A QUIT and a stranger: the promise of answers isn't empty.
-use Rattle.std.specs.Prelude.{◌≡◌, List, ◌∷◌}
+use Rattle.std.specs.Prelude.{◌≡◌, true, List, ◌∷◌}
 use Rattle.tsp_base.specs.declared.act.Act.TheVariants.{Post, Quit}
 use Rattle.tsp_base.specs.declared.datagram.Datagram.{Datagram}
 use Rattle.tsp_base.specs.declared.place.PeerId.{PeerId}
-use Rattle.tsp_base.specs.declared.place.Place.TheVariants.{Stranger}
+use Rattle.tsp_base.specs.declared.place.Place.TheVariants.{Peer, Stranger}
+use Rattle.tsp_promises.specs.Answered.{is_answer}
 use Rattle.tsp_promises.specs.Fits.{Finished, Fits}
 use Rattle.tsp_base.specs.History.{Acts, Line}
 use Rattle.tsp_base.specs.Places.{Within}
 use Rattle.tsp_promises.specs.Setting.{Setting}
 
--- a history that fits, in which a port heeds a QUIT, and a stranger is answered
+-- a history that fits, in which a port heeds a QUIT and answers it, and a stranger is answered
 pub record AnsweredUse : Type 0 where
   pub setting : Setting
   pub world : List Line
   pub fits : Fits setting world
-  pub finished : Finished world
+  pub finished : Finished setting world
   pub quit : Line
   pub past : List Line
   pub quit_in : Within (quit ∷ past) world
   pub from : PeerId
   pub quits : quit.did.deed ≡ Acts (Quit from)
+  -- what goes to a peer
+  pub reply : Line
+  pub since : List Line
+  pub reply_in : Within (reply ∷ since) world
+  pub to : PeerId
+  pub answer : Datagram
+  pub replies : reply.did.deed ≡ Acts (Post (Peer to) answer)
+  pub answers : is_answer answer ≡ true
   pub post : Line
   pub before : List Line
   pub post_in : Within (post ∷ before) world

@@ -16,7 +16,7 @@ use Rattle.tsp_promises.specs.OneError.{OneError}
 use Rattle.tsp_promises.specs.OneWinner.{OneWinner}
 use Rattle.tsp_promises.specs.OnlyMaster.{OnlyMaster}
 use Rattle.tsp_promises.specs.Relayed.{Relayed}
-use Rattle.tsp_promises.specs.Resolved.{StaysQuiet, StopsLeading, Yields}
+use Rattle.tsp_promises.specs.Resolved.{StaysQuiet, StopsLeading, Yields, YieldsTaken}
 use Rattle.tsp_promises.specs.Seldom.{Seldom}
 use Rattle.tsp_promises.specs.Setting.{Setting}
 use Rattle.tsp_promises.specs.Shows.{Shows}
@@ -50,6 +50,10 @@ pub record RolesBreak (setting : Setting) : Type 0 where
   pub closes : Breaks OnlyMaster
   -- a request for a master right after a boot
   pub speaks : Breaks Silent
+  -- a reply right after a boot that nobody asked for
+  pub replies_early : Breaks Silent
+  -- an ACK of an MSITE right after a boot, with another number
+  pub acks_early : Breaks Silent
   -- a Correct right after a boot
   pub corrects_early : Breaks Silent
   -- a Correct of another port after a Close, with a mark between
@@ -62,6 +66,8 @@ pub record RolesBreak (setting : Setting) : Type 0 where
   pub yields_twice : Breaks Yields
   -- one that follows each of them in turn
   pub yields_again : Breaks Yields
+  -- a master that only takes a QUIT
+  pub only_takes : Breaks (YieldsTaken setting)
   -- a port that is master again soon after a QUIT
   pub quiet : Breaks StaysQuiet
   -- a rival that takes its QUIT and leads on
@@ -155,6 +161,8 @@ pub record ChainsBreak (setting : Setting) : Type 0 where
   pub estimates_apart : Breaks (EstimatesHold setting)
   -- a master that moves by another amount than the mean
   pub master_near : Breaks (EstimatesHold setting)
+  -- the same at a Close that begins no ADJTIME
+  pub ended_near : Breaks (EstimatesHold setting)
   -- a round that uses a sample with an error of 5 s
   pub errs_bounded : Breaks ErrsBounded
   -- an ADJTIME that acts on a clock which was corrected since the reading
@@ -172,6 +180,8 @@ pub record RoundsBreak (setting : Setting) : Type 0 where
   pub mean_far : Breaks (Moderate setting)
   -- and from its own
   pub own_far : Breaks (Moderate setting)
+  -- a Close there that prints a mean of 300 ms, and a Correct that moves it by little
+  pub prints_far : Breaks (Moderate setting)
   -- a master among the majority that is stepped
   pub own_stepped : Breaks (Moderate setting)
   -- a peer that is stepped
@@ -193,6 +203,8 @@ pub record AnswersBreak (setting : Setting) : Type 0 where
   pub takes_two : Breaks (Answered setting)
   -- two Quits in one step, the first of another peer than the QUIT's
   pub quits_twice : Breaks (Answered setting)
+  -- a QUIT that is only taken
+  pub unheeded : Breaks (Answered setting)
   -- a QUIT that is heeded and not acknowledged
   pub unacknowledged : Breaks (Answered setting)
   -- two replies to one stranger's request
@@ -201,6 +213,12 @@ pub record AnswersBreak (setting : Setting) : Type 0 where
   pub nameless : Breaks (Answered setting)
   -- a reply to a stranger that nobody asked for
   pub unasked : Breaks (Answered setting)
+  -- a reply to a peer that nobody asked for
+  pub unasked_peer : Breaks (Answered setting)
+  -- an ACK to a peer that isn't of the number that its step took
+  pub misnumbered : Breaks (Answered setting)
+  -- an ACK to another peer than that whose message its step took
+  pub misled : Breaks (Answered setting)
 
 -- each promise is broken by some history, in one setting
 pub record AllBreak : Type 0 where

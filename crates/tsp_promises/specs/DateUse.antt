@@ -39,7 +39,7 @@ pub record ForgedDate : Type 0 where
   pub setting : Setting
   pub world : List Line
   pub fits : Fits setting world
-  pub finished : Finished world
+  pub finished : Finished setting world
   pub life : Life world
   pub words : Words world
   pub twice : ¬ OnceTaken world

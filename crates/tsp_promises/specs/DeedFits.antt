@@ -1,12 +1,11 @@
 -- What each deed owes to its port's past, and to what the port is set up with.
-use Rattle.std.specs.Prelude.{◌≡◌, ℕ, ◌≤◌, ◌⊎◌, ◌+◌, ◌%◌, Bool, true, false, if◌then◌else◌, List, None, Some}
+use Rattle.std.specs.Prelude.{◌≡◌, ℕ, ◌≤◌, ◌⊎◌, ◌+◌, ◌%◌, Bool, true, false, if◌then◌else◌, List, None}
 use Rattle.tsp_base.specs.declared.act.Act.{Act}
 use Rattle.tsp_base.specs.declared.act.Act.TheVariants.{Took, Post, Become, Back, Backer, Arm, Quit as QuitAct, Sample, Acked, Close, Correct}
 use Rattle.tsp_base.specs.declared.alarm.Alarm.TheVariants.{Close as AlarmClose}
 use Rattle.tsp_base.specs.declared.constants.TheConstants.{QUIET}
 use Rattle.tsp_base.specs.declared.datagram.Datagram.{Datagram}
 use Rattle.tsp_base.specs.declared.datagram.Datagram.TheVariants.{Message, Stamp}
-use Rattle.tsp_base.specs.declared.datagram.Taken.TheVariants.{Good}
 use Rattle.tsp_base.specs.declared.kind.Kind.{Kind}
 use Rattle.tsp_base.specs.declared.kind.Kind.TheVariants.{AdjTime, Ack, MasterReq, MasterAck, SetTime, MasterUp, SlaveUp, Election, Accept, Refuse, Conflict, Resolve, Quit, Date, DateReq, DateAck, TraceOn, TraceOff, Msite, MsiteReq, Test, SetDate, SetDateReq, Loop}
 use Rattle.tsp_base.specs.declared.place.PeerId.{PeerId}
@@ -112,22 +111,23 @@ is_answered_early TraceOn = true
 is_answered_early TraceOff = true
 is_answered_early _ = false
 
--- the step took such a question
-pub record AskedEarly (before : List Seen) : Type 0 where
-  pub from : Place
+-- the step took such a question from there, with this number
+pub record AskedEarly (to : Place) (before : List Seen) (number : ℕ) : Type 0 where
   pub message : MessageValue
-  pub took : taken before ≡ Some (record { from = from; taken = Good (Message message) })
+  pub took : TakesFrom before to (Message message)
   pub kind : is_answered_early message.kind ≡ true
+  pub number_is : message.number ≡ number
 
--- what may be posted in the quiet time: replies to stamp requests, and acknowledgments of such questions
-abbrev pub AnswersEarly : Datagram → List Seen → Type 0
-AnswersEarly (Stamp (Reply reply)) before = Unit {0}
-AnswersEarly (Stamp (Request word counter)) before = ⊥
-AnswersEarly (Message m) before = (m.kind ≡ Ack) × AskedEarly before
+-- what may be posted in the quiet time: to the sender of a stamp request that the step took, the reply with its word and
+-- counter; and to the sender of such a question, the acknowledgment of its number
+abbrev pub AnswersEarly : Place → Datagram → List Seen → Type 0
+AnswersEarly to (Stamp (Reply reply)) before = TakesFrom before to (Stamp (Request reply.word reply.counter))
+AnswersEarly to (Stamp (Request word counter)) before = ⊥
+AnswersEarly to (Message m) before = (m.kind ≡ Ack) × AskedEarly to before m.number
 
 -- what any post owes: in the first QUIET ticks after the boot nothing but such answers is posted
 pub record PostsFit (setup : Setup) (to : Place) (datagram : Datagram) (here : Did) (before : List Seen) : Type 0 where
-  pub rested : (boot_tick (plain before) + QUIET ≤ here.tick) ⊎ AnswersEarly datagram before
+  pub rested : (boot_tick (plain before) + QUIET ≤ here.tick) ⊎ AnswersEarly to datagram before
   pub fits : PostFits setup to datagram here before
 
 -- what an act owes; a step takes at most one datagram, on whatever port
@@ -148,5 +148,5 @@ ActFits setup _ here before = Unit {0}
 -- what a deed owes: the mark of a new step, that the step before it has ended as it must (StepEnds); an act, what
 -- ActFits says
 abbrev pub DeedFits : Setup → Deed → Did → List Seen → Type 0
-DeedFits setup Begins here before = StepEnds before
+DeedFits setup Begins here before = StepEnds setup before
 DeedFits setup (Acts a) here before = ActFits setup a here before

@@ -1,11 +1,11 @@
 -- What the estimates of a round say of the clocks.
-use Rattle.std.specs.Prelude.{◌≡◌, ◌≤◌, ◌≤ℤ◌, ℕ, ◌+◌, ◌-◌, ◌*◌, ℤ, pos, ◌+ℤ◌, ◌-ℤ◌, nat_abs, true, List, ◌∷◌, Some}
-use Rattle.tsp_base.specs.declared.act.Act.TheVariants.{Close, Post}
+use Rattle.std.specs.Prelude.{◌≡◌, ◌≤◌, ◌≤ℤ◌, ℕ, ◌+◌, ◌-◌, ◌*◌, ℤ, pos, ◌+ℤ◌, ◌-ℤ◌, nat_abs, Bool, true, List, ◌∷◌, Some}
+use Rattle.tsp_base.specs.declared.act.Act.TheVariants.{Close, Correct, Post}
 use Rattle.tsp_base.specs.declared.datagram.Datagram.TheVariants.{Message}
 use Rattle.tsp_base.specs.declared.kind.Kind.TheVariants.{AdjTime}
 use Rattle.tsp_base.specs.declared.place.PeerId.{PeerId}
 use Rattle.tsp_base.specs.declared.place.Place.TheVariants.{Peer}
-use Rattle.tsp_promises.specs.Agreed.{ReadingOf, UnchangedBut}
+use Rattle.tsp_promises.specs.Agreed.{ReadingOf, Unchanged, UnchangedBut}
 use Rattle.tsp_promises.specs.ClockAt.{clock_at}
 use Rattle.tsp_promises.specs.Everywhere.{Everywhere}
 use Rattle.tsp_promises.specs.Fits.{node_of}
@@ -43,22 +43,46 @@ pub record Estimate (m k : ℕ) (close : Line) (cpast : List Line) (x : Sampled)
   pub reading : ReadingOf m close.port x.place cpast r older
   pub unchanged : Undisturbed (dids (of k (r ∷ older))) (dids (of k h))
 
--- the estimates of two nodes differ by at most as much as their clocks do at the Close, plus their errors and drift
+-- this is a Close of m, and this a Correct of m by this amount; where it stands right after the Close it ends the round
+pub record Moves (m : ℕ) (close : Line) (c : Line) (amount : ℤ) : Type 0 where
+  pub count : ℕ
+  pub lo : ℤ
+  pub size : ℤ
+  pub mean : ℤ
+  pub deed : close.did.deed ≡ Acts (Close count lo size mean)
+  pub node : node_of close ≡ m
+  pub stepped : Bool
+  pub shown : ℤ
+  pub correct : c.did.deed ≡ Acts (Correct amount stepped shown)
+  pub correct_node : node_of c ≡ m
+
+-- at each Close, whatever follows it: the estimates that it has of two nodes differ by at most as much as their clocks
+-- do then, plus their errors and drift
 abbrev pub EstimatesNear : Setting → Line → List Line → Type 0
-EstimatesNear setting f fw = (m k l : ℕ) (close : Line) (cpast : List Line) (mean : ℤ) (x y : Sampled) (r q : Line) (rolder qolder : List Line) → CloseBegins m close cpast mean f fw →
+EstimatesNear setting close cpast = (m k l count : ℕ) (lo size mean : ℤ) (x y : Sampled) (r q : Line) (rolder qolder : List Line) → close.did.deed ≡ Acts (Close count lo size mean) → node_of close ≡ m →
     Estimate m k close cpast x r rolder cpast → Estimate m l close cpast y q qolder cpast →
     pos (nat_abs (x.diff -ℤ y.diff)) ≤ℤ ((pos (nat_abs (clock_at setting k cpast close.did.step.at -ℤ clock_at setting l cpast close.did.step.at)) +ℤ (x.err +ℤ y.err))
     +ℤ pos (2 * width setting.drift (close.did.step.at - r.did.step.at) + 2 * width setting.drift (close.did.step.at - q.did.step.at)))
 
--- after the history h, at true time t: if a node is left alone since its reading, and the master is but for the Correct
--- right after the Close, their clocks differ by at most what the estimate differs from the mean, plus its error and
--- drift
+-- after the history h, at true time t: the clocks of the master m and of k differ by at most what this estimate of k
+-- differs from the mean, plus its error and drift
+abbrev pub NearMean : Setting → ℕ → ℕ → ℤ → Sampled → Line → List Line → ℕ → Type 0
+NearMean setting m k mean x r h t = pos (nat_abs (clock_at setting m h t -ℤ clock_at setting k h t)) ≤ℤ ((pos (nat_abs (mean -ℤ x.diff)) +ℤ x.err) +ℤ pos (2 * width setting.drift (t - r.did.step.at)))
+
+-- so it is where the Close begins an ADJTIME, if k is left alone since its reading, and the master is but for the
+-- Correct right after the Close
 abbrev pub MasterNear : Setting → List Line → ℕ → Type 0
 MasterNear setting h t = (m k : ℕ) (close : Line) (cpast : List Line) (mean : ℤ) (f : Line) (fw : List Line) (x : Sampled) (r : Line) (older : List Line) → Within (f ∷ fw) h → CloseBegins m close cpast mean f fw →
-    Estimate m k close cpast x r older h → UnchangedBut m close cpast h →
-    pos (nat_abs (clock_at setting m h t -ℤ clock_at setting k h t)) ≤ℤ ((pos (nat_abs (mean -ℤ x.diff)) +ℤ x.err) +ℤ pos (2 * width setting.drift (t - r.did.step.at)))
+    Estimate m k close cpast x r older h → UnchangedBut m close cpast h → NearMean setting m k mean x r h t
 
--- the first holds at each place; so does the second, and after that at any later time, as long as nothing more happens
+-- and where a Correct right after the Close ends the round, whether or not an ADJTIME begins: from the Correct on, if
+-- the master is left alone since it, and k since its reading
+abbrev pub EndedNear : Setting → List Line → ℕ → Type 0
+EndedNear setting h t = (m k : ℕ) (close c : Line) (cpast : List Line) (amount : ℤ) (x : Sampled) (r : Line) (older : List Line) → Unchanged m (c ∷ (close ∷ cpast)) h → (v : Moves m close c amount) →
+    Estimate m k close cpast x r older h → NearMean setting m k v.mean x r h t
+
+-- the first holds at each place; so do the others, and after that at any later time, as long as nothing more happens
 pub record EstimatesHold (setting : Setting) (world : List Line) : Type 0 where
   pub apart : Everywhere (EstimatesNear setting) world
   pub near : Everywhere (λ l before. (t : ℕ) → l.did.step.at ≤ t → MasterNear setting (l ∷ before) t) world
+  pub ended : Everywhere (λ l before. (t : ℕ) → l.did.step.at ≤ t → EndedNear setting (l ∷ before) t) world

@@ -75,5 +75,5 @@ abbrev pub Fits : Setting → List Line → Type 0
 Fits setting = Everywhere (LineFits setting)
 
 -- the history ends where a step ends: no port of any node owes anything there
-abbrev pub Finished : List Line → Type 0
-Finished world = (n : ℕ) (q : Port) → StepEnds (view q (of n world))
+abbrev pub Finished : Setting → List Line → Type 0
+Finished setting world = (n : ℕ) (q : Port) → StepEnds (setup_of setting n q) (view q (of n world))

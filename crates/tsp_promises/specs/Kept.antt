@@ -9,7 +9,7 @@ use Rattle.tsp_promises.specs.Setting.{Setting}
 -- Few and NamesApart, which few promises ask, aren't among them
 pub record Kept (setting : Setting) (world : List Line) : Type 0 where
   pub fits : Fits setting world
-  pub finished : Finished world
+  pub finished : Finished setting world
   pub honest : Honest world
   pub life : Life world
   pub words : Words world

@@ -1,7 +1,6 @@
 -- The promise that a minority of a round's estimates, whatever it says, moves no clock of the majority by much.
 use Rattle.std.specs.Prelude.{◌≡◌, ◌≤◌, ◌<◌, ◌≤ℤ◌, ℕ, ◌+◌, ◌-◌, ◌*◌, ℤ, pos, ◌+ℤ◌, ◌-ℤ◌, nat_abs, Bool, true, false, List, ◌∷◌, length, Some}
 use Rattle.std.specs.List.{Contains, count_by}
-use Rattle.tsp_base.specs.declared.act.Act.TheVariants.{Close, Correct}
 use Rattle.tsp_base.specs.declared.constants.TheConstants.{SLEW, SPAN}
 use Rattle.tsp_base.specs.declared.kind.Kind.TheVariants.{AdjTime}
 use Rattle.tsp_base.specs.declared.place.PeerId.{PeerId}
@@ -9,10 +8,10 @@ use Rattle.tsp_base.specs.declared.place.Port.{Port}
 use Rattle.tsp_group.specs.Groups.{Agree}
 use Rattle.tsp_promises.specs.Agreed.{Unchanged}
 use Rattle.tsp_promises.specs.ClockAt.{clock_at}
-use Rattle.tsp_promises.specs.Estimates.{CloseBegins, Estimate}
+use Rattle.tsp_promises.specs.Estimates.{CloseBegins, Estimate, Moves}
 use Rattle.tsp_promises.specs.Everywhere.{Everywhere}
 use Rattle.tsp_promises.specs.Fits.{node_of}
-use Rattle.tsp_base.specs.History.{Acts, Here, Line, dids, of, view}
+use Rattle.tsp_base.specs.History.{Here, Line, dids, of, view}
 use Rattle.tsp_base.specs.NodeFacts.{rest_at, shown, target}
 use Rattle.tsp_promises.specs.OneError.{Taking}
 use Rattle.tsp_base.specs.Places.{Within}
@@ -33,19 +32,6 @@ pub record Majority (values : List ℤ) (test : ℤ → Bool) : Type 0 where
   pub more : length values < 2 * count_by test values
   pub agrees : Agree SPAN values test
 
--- this is a Close of m, and this a Correct of m by this amount; where it stands right after the Close it ends the round
-pub record Moves (m : ℕ) (close : Line) (c : Line) (amount : ℤ) : Type 0 where
-  pub count : ℕ
-  pub lo : ℤ
-  pub size : ℤ
-  pub mean : ℤ
-  pub deed : close.did.deed ≡ Acts (Close count lo size mean)
-  pub node : node_of close ≡ m
-  pub stepped : Bool
-  pub shown : ℤ
-  pub correct : c.did.deed ≡ Acts (Correct amount stepped shown)
-  pub correct_node : node_of c ≡ m
-
 -- this value is one of the majority of the round's estimates
 pub record Agrees (setting : Setting) (m : ℕ) (close : Line) (cpast : List Line) (value : ℤ) : Type 0 where
   pub test : ℤ → Bool
@@ -59,9 +45,14 @@ pub record PeerAgrees (setting : Setting) (m : ℕ) (p : PeerId) (close : Line) 
   pub best_is : best p (view close.port (of m cpast)) ≡ Some sample
   pub agrees : Agrees setting m close cpast sample.diff
 
--- a round's Correct differs by at most twice SPAN (40 ms) from each estimate of the majority
+-- this amount differs by at most twice SPAN (40 ms) from this estimate, and so does this mean
+pub record NearBoth (amount mean value : ℤ) : Type 0 where
+  pub moves : nat_abs (amount -ℤ value) ≤ 2 * SPAN
+  pub prints : nat_abs (mean -ℤ value) ≤ 2 * SPAN
+
+-- so do a round's Correct, and the mean that its Close prints, from each estimate of the majority
 abbrev pub MeanNear : Setting → Line → List Line → Type 0
-MeanNear setting l world = (m : ℕ) (close : Line) (cpast : List Line) (amount value : ℤ) → world ≡ (close ∷ cpast) → Moves m close l amount → Agrees setting m close cpast value → nat_abs (amount -ℤ value) ≤ 2 * SPAN
+MeanNear setting l world = (m : ℕ) (close : Line) (cpast : List Line) (amount value : ℤ) → world ≡ (close ∷ cpast) → (v : Moves m close l amount) → Agrees setting m close cpast value → NearBoth amount v.mean value
 
 -- a Correct by at most twice SPAN, which is slewed
 pub record Little (amount : ℤ) (stepped : Bool) : Type 0 where

@@ -3,11 +3,11 @@ use Rattle.std.specs.Prelude.{◌≡◌, ◌≤◌, ◌≤ℤ◌, ℕ, ℤ, pos,
 use Rattle.std.specs.List.{Contains}
 use Rattle.tsp_base.specs.declared.act.Act.TheVariants.{Correct}
 use Rattle.tsp_promises.specs.Agreed.{Unchanged}
-use Rattle.tsp_promises.specs.Estimates.{CloseBegins, Estimate}
+use Rattle.tsp_promises.specs.Estimates.{CloseBegins, Estimate, Moves}
 use Rattle.tsp_promises.specs.Fits.{node_of}
 use Rattle.tsp_base.specs.History.{Acts, Line, dids, of, view}
 use Rattle.tsp_promises.specs.Kept.{Kept}
-use Rattle.tsp_promises.specs.Moderate.{Agrees, Moves, PeerAgrees, PeerCorrects, estimates_of}
+use Rattle.tsp_promises.specs.Moderate.{Agrees, PeerAgrees, PeerCorrects, estimates_of}
 use Rattle.tsp_base.specs.NodeFacts.{rest_at}
 use Rattle.tsp_base.specs.Places.{Within}
 use Rattle.tsp_base.specs.RoundFacts.{Sampled, best}

@@ -1,5 +1,5 @@
 -- The promise that a master that takes a QUIT stops being master.
-use Rattle.std.specs.Prelude.{◌≡◌, ◌≢◌, ◌≤◌, ℕ, ◌+◌, true, List, ◌∷◌}
+use Rattle.std.specs.Prelude.{◌≡◌, ◌≢◌, ◌≤◌, ℕ, ◌+◌, true, List, ◌∷◌, Some}
 use Rattle.tsp_base.specs.declared.act.Act.TheVariants.{Become, Post, Quit, Ring}
 use Rattle.tsp_base.specs.declared.alarm.Alarm.TheVariants.{Resolve}
 use Rattle.tsp_base.specs.declared.constants.TheConstants.{ELECT_MIN}
@@ -18,10 +18,11 @@ use Rattle.tsp_base.specs.Peers.{is_among}
 use Rattle.tsp_base.specs.Places.{Within}
 use Rattle.tsp_base.specs.PortFacts.{role}
 use Rattle.tsp_promises.specs.Premises.{Life}
-use Rattle.tsp_promises.specs.StepFacts.{owes}
+use Rattle.tsp_promises.specs.Setting.{Setting, setup_of}
+use Rattle.tsp_promises.specs.StepFacts.{owes, quits_master}
 use Rattle.tsp_base.specs.Takings.{peer_of, posted, steps}
 
--- at the end of a step the port follows each peer whose QUIT it took in that step as a master
+-- at the end of a step the port follows each peer of which it put a Quit in that step as a master
 abbrev pub YieldsAt : List Seen → Type 0
 YieldsAt seen = (p : PeerId) → is_among p (owes seen) ≡ true → role seen ≡ Follow p
 
@@ -29,6 +30,16 @@ YieldsAt seen = (p : PeerId) → is_among p (owes seen) ≡ true → role seen �
 pub record Yields (world : List Line) : Type 0 where
   pub marks : Everywhere (λ (l : Line) (before : List Line). l.did.deed ≡ Begins → (q : Port) → YieldsAt (view q (of (node_of l) before))) world
   pub ends : (n : ℕ) (q : Port) → YieldsAt (view q (of n world))
+
+-- at the end of a step the port, of which these are the peers, follows the peer whose QUIT it took in that step as a
+-- master, whatever it did then
+abbrev pub YieldsTakenAt : List PeerId → List Seen → Type 0
+YieldsTakenAt peers seen = (p : PeerId) → quits_master peers seen ≡ Some p → role seen ≡ Follow p
+
+-- so it is at the end of each step
+pub record YieldsTaken (setting : Setting) (world : List Line) : Type 0 where
+  pub marks : Everywhere (λ (l : Line) (before : List Line). l.did.deed ≡ Begins → (q : Port) → YieldsTakenAt (setup_of setting (node_of l) q).peers (view q (of (node_of l) before))) world
+  pub ends : (n : ℕ) (q : Port) → YieldsTakenAt (setup_of setting n q).peers (view q (of n world))
 
 -- after a Quit a port doesn't become master for ELECT_MIN ticks (300 s), even if its node boots between
 abbrev pub QuietAt : Line → List Line → Type 0
@@ -67,8 +78,9 @@ pub record StopsLeading (world : List Line) : Type 0 where
   pub marks : Everywhere (λ (l : Line) (before : List Line). l.did.deed ≡ Begins → StopsBy before) world
   pub ends : StopsBy world
 
--- the three parts, of a history that ends with a step; the last needs that no datagram outlives LIFE
-pub record Resolved (h : List Line) : Type 0 where
+-- the parts, of a history that ends with a step; the last needs that no datagram outlives LIFE
+pub record Resolved (setting : Setting) (h : List Line) : Type 0 where
   pub yields : Yields h
+  pub yields_taken : YieldsTaken setting h
   pub quiet : StaysQuiet h
   pub stops : Life h → StopsLeading h

@@ -1,24 +1,25 @@
 -- Rivals: the promises of backings and of resolutions aren't empty.
-use Rattle.std.specs.Prelude.{◌≡◌, ◌≢◌, List, ◌∷◌}
+use Rattle.std.specs.Prelude.{◌≡◌, ◌≢◌, List, ◌∷◌, Some}
 use Rattle.tsp_base.specs.declared.act.Act.TheVariants.{Back, Become, Ring}
 use Rattle.tsp_base.specs.declared.alarm.Alarm.TheVariants.{Resolve}
 use Rattle.tsp_base.specs.declared.place.PeerId.{PeerId}
 use Rattle.tsp_base.specs.declared.role.Role.TheVariants.{Master}
 use Rattle.tsp_promises.specs.Fits.{Fits, Finished, node_of}
-use Rattle.tsp_base.specs.History.{Begins, Acts, Line, dids}
+use Rattle.tsp_base.specs.History.{Begins, Acts, Line, dids, of, view}
 use Rattle.tsp_base.specs.Places.{Within}
 use Rattle.tsp_promises.specs.Premises.{Life}
 use Rattle.tsp_promises.specs.Resolved.{TakesQuit}
-use Rattle.tsp_promises.specs.Setting.{Setting}
-use Rattle.tsp_base.specs.Takings.{steps}
+use Rattle.tsp_promises.specs.Setting.{Setting, setup_of}
+use Rattle.tsp_promises.specs.StepFacts.{quits_master}
+use Rattle.tsp_base.specs.Takings.{peer_of, steps}
 
--- a history that fits and in which no datagram outlives LIFE: a rival takes the QUIT of a resolution, its step ends and
+-- a history that fits and in which no datagram outlives LIFE: a rival takes the QUIT of a resolution, as a master, its step ends and
 -- another begins, the rival leads again later, and a node backs two candidates
 pub record RivalsMeet : Type 0 where
   pub setting : Setting
   pub world : List Line
   pub fits : Fits setting world
-  pub finished : Finished world
+  pub finished : Finished setting world
   pub life : Life world
   pub ring : Line
   pub past : List Line
@@ -32,6 +33,8 @@ pub record RivalsMeet : Type 0 where
   pub ended : List Line
   pub mark_in : Within (mark ∷ ended) world
   pub begins : mark.did.deed ≡ Begins
+  -- it took the QUIT as a master
+  pub as_master : quits_master (setup_of setting (node_of rival) rival.port).peers (view rival.port (of (node_of rival) ended)) ≡ Some (peer_of (node_of ring))
   pub last : steps (dids (rival ∷ rpast)) ≡ steps (dids ended)
   pub later : Line
   pub before : List Line

@@ -55,7 +55,7 @@ pub record Safe (setting : Setting) (world : List Line) : Type 0 where
   pub seldom : Seldom world
   pub throughout : Honest world → Life world → Throughout setting world
   pub relayed : Honest world → Life world → Relayed setting world
-  pub resolved : Resolved world
+  pub resolved : Resolved setting world
   pub steady : Steady setting world
   pub meets : Meets world
   pub shows : Shows world

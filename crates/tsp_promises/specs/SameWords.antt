@@ -44,7 +44,7 @@ pub record SameWords : Type 0 where
   pub setting : Setting
   pub world : List Line
   pub fits : Fits setting world
-  pub finished : Finished world
+  pub finished : Finished setting world
   pub honest : Honest world
   pub life : Life world
   pub repeats : Repeats world
@@ -58,7 +58,7 @@ pub record MeasuresWrongly : Type 0 where
   pub setting : Setting
   pub world : List Line
   pub fits : Fits setting world
-  pub finished : Finished world
+  pub finished : Finished setting world
   pub honest : Honest world
   pub repeats : Repeats world
   pub wrong : ¬ Measured setting world

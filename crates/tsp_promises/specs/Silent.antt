@@ -10,10 +10,11 @@ use Rattle.tsp_promises.specs.Fits.{node_of}
 use Rattle.tsp_base.specs.History.{Acts, Line, dids, of, view}
 use Rattle.tsp_base.specs.NodeFacts.{boot_tick}
 
--- for QUIET ticks (80 s) after a boot a node posts only replies to stamp requests, and ACKs of MSITE, TRACEON and
--- TRACEOFF, and doesn't correct its clock
+-- for QUIET ticks (80 s) after a boot a node posts nothing but the answer to what its step took on that port: to the
+-- sender of a stamp request the reply with its word and counter, and to that of an MSITE, TRACEON or TRACEOFF the ACK of
+-- its number. And it doesn't correct its clock
 pub record SilentAt (l : Line) (world : List Line) : Type 0 where
-  pub posts : (to : Place) (datagram : Datagram) → l.did.deed ≡ Acts (Post to datagram) → (boot_tick (dids (of (node_of l) world)) + QUIET ≤ l.did.tick) ⊎ AnswersEarly datagram (view l.port (of (node_of l) world))
+  pub posts : (to : Place) (datagram : Datagram) → l.did.deed ≡ Acts (Post to datagram) → (boot_tick (dids (of (node_of l) world)) + QUIET ≤ l.did.tick) ⊎ AnswersEarly to datagram (view l.port (of (node_of l) world))
   pub corrects : (amount : ℤ) (stepped : Bool) (shown : ℤ) → l.did.deed ≡ Acts (Correct amount stepped shown) → boot_tick (dids (of (node_of l) world)) + QUIET ≤ l.did.tick
 
 abbrev pub Silent : List Line → Type 0

@@ -1,18 +1,19 @@
 -- Facts of the step that a port is in.
-use Rattle.std.specs.Prelude.{◌≡◌, ℕ, ◌==◌, Bool, true, false, ◌&&◌, if◌then◌else◌, List, [], ◌∷◌, Option, None, Some}
-use Rattle.tsp_base.specs.declared.act.Act.TheVariants.{Become, Back, Close, Post, Quit}
+use Rattle.std.specs.Prelude.{◌≡◌, ℕ, ◌==◌, Bool, true, false, not, ◌&&◌, if◌then◌else◌, List, [], ◌∷◌, Option, None, Some}
+use Rattle.tsp_base.specs.declared.act.Act.TheVariants.{Become, Back, Close, Post, Quit, Took}
 use Rattle.tsp_base.specs.declared.datagram.Datagram.TheVariants.{Message}
 use Rattle.tsp_base.specs.declared.kind.Kind.{Kind}
-use Rattle.tsp_base.specs.declared.kind.Kind.TheVariants.{Ack}
+use Rattle.tsp_base.specs.declared.kind.Kind.TheVariants.{Ack, Quit as QuitKind}
 use Rattle.tsp_base.specs.declared.place.PeerId.{PeerId}
 use Rattle.tsp_base.specs.declared.place.Place.TheVariants.{Peer, Stranger}
 use Rattle.tsp_base.specs.declared.role.Role.{Role}
-use Rattle.tsp_base.specs.declared.role.Role.TheVariants.{Candidate, Follow, Master}
+use Rattle.tsp_base.specs.declared.role.Role.TheVariants.{Candidate, Follow, Master, Starting}
 use Rattle.tsp_base.specs.History.{Did, Deed, Begins, Acts, Seen, Here, Elsewhere, plain}
 use Rattle.tsp_base.specs.Messages.{MessageValue}
 use Rattle.tsp_base.specs.Peers.{is_among}
-use Rattle.tsp_base.specs.PortFacts.{Received, Said, role, said, taken}
+use Rattle.tsp_base.specs.PortFacts.{Received, Said, message_in, role, said, said_by, taken}
 use Rattle.tsp_base.specs.RoundFacts.{exchange}
+use Rattle.tsp_base.specs.Setup.{Setup}
 use Rattle.tsp_base.specs.Takings.{Undisturbed}
 
 abbrev pub backed_after : Deed → Option PeerId → Option PeerId
@@ -54,11 +55,52 @@ owes_after Begins r keep = []
 owes_after (Acts (Quit p)) Master keep = p ∷ keep
 owes_after _ r keep = keep
 
--- whom the port must follow at the step's end: each peer whose QUIT it took in this step, while it was a master
+-- whom the port must follow at the step's end: each peer whose QUIT it heeded in this step, while it was a master
 abbrev pub owes : List Seen → List PeerId
 owes [] = []
 owes (Here d ∷ before) = owes_after d.deed (role before) (owes before)
 owes (Elsewhere d ∷ before) = owes before
+
+abbrev pub is_quit : Kind → Bool
+is_quit QuitKind = true
+is_quit _ = false
+
+-- the sender of a QUIT, if it is one of these peers and not the node n itself
+abbrev pub quit_by : List PeerId → ℕ → Option Said → Option PeerId
+quit_by peers n None = None
+quit_by peers n (Some s) = if is_quit s.message.kind && (is_among s.from peers && not (s.from.0 == n)) then Some s.from else None
+
+abbrev pub unless_starting : Role → Option PeerId → Option PeerId
+unless_starting Starting p = None
+unless_starting _ p = p
+
+abbrev pub unheeded_after : List PeerId → ℕ → Deed → Role → Option PeerId → Option PeerId
+unheeded_after peers n Begins r keep = None
+unheeded_after peers n (Acts (Took from t)) r keep = unless_starting r (quit_by peers n (said_by from (message_in t)))
+unheeded_after peers n (Acts (Quit p)) r keep = None
+unheeded_after peers n _ r keep = keep
+
+-- the peer whose QUIT this step took on this port, of which these are the peers, as long as no Quit came after it. One
+-- that comes while the port is Starting, or from the node itself, isn't heeded
+abbrev pub unheeded : List PeerId → List Seen → Option PeerId
+unheeded peers [] = None
+unheeded peers (Here d ∷ before) = unheeded_after peers d.step.node d.deed (role before) (unheeded peers before)
+unheeded peers (Elsewhere d ∷ before) = unheeded peers before
+
+abbrev pub if_master : Role → Option PeerId → Option PeerId
+if_master Master p = p
+if_master _ p = None
+
+abbrev pub quits_master_after : List PeerId → ℕ → Deed → Role → Option PeerId → Option PeerId
+quits_master_after peers n Begins r keep = None
+quits_master_after peers n (Acts (Took from t)) r keep = if_master r (quit_by peers n (said_by from (message_in t)))
+quits_master_after peers n _ r keep = keep
+
+-- the peer whose QUIT this step took on this port, of which these are the peers, while the port was a master
+abbrev pub quits_master : List PeerId → List Seen → Option PeerId
+quits_master peers [] = None
+quits_master peers (Here d ∷ before) = quits_master_after peers d.step.node d.deed (role before) (quits_master peers before)
+quits_master peers (Elsewhere d ∷ before) = quits_master peers before
 
 abbrev pub is_ack : Kind → Bool
 is_ack Ack = true
@@ -92,11 +134,12 @@ is_answered [] = false
 is_answered (Here d ∷ before) = is_answered_after d.deed (is_answered before)
 is_answered (Elsewhere d ∷ before) = is_answered before
 
--- what a port owes at the end of each step: a candidate has backed itself; a master follows the sender of each QUIT
--- that it took; each QUIT that it heeded is acknowledged; and since each open exchange began the node neither booted nor
--- corrected its clock
-pub record StepEnds (before : List Seen) : Type 0 where
+-- what a port with this setup owes at the end of each step: a candidate has backed itself; the QUIT of a peer that it
+-- took is heeded; a master follows the sender of each QUIT that it heeded; each QUIT that it heeded is acknowledged; and
+-- since each open exchange began the node neither booted nor corrected its clock
+pub record StepEnds (setup : Setup) (before : List Seen) : Type 0 where
   pub backs : is_unbacked before ≡ false
+  pub heeds : unheeded setup.peers before ≡ None
   pub follows : (p : PeerId) → is_among p (owes before) ≡ true → role before ≡ Follow p
   pub acknowledged : unacknowledged before ≡ None
   pub exchanges : (p : PeerId) (counter : ℕ) (request : Did) (older : List Seen) → exchange p counter before ≡ Here request ∷ older → Undisturbed (plain older) (plain before)

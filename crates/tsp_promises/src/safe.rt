@@ -10,38 +10,41 @@ ghost use Rattle.tsp_promises.specs.Measured.{Measured, Trips};
 ghost use Rattle.tsp_promises.specs.Once.{OnceConfirmed, OnceCorrected, OnceObeyed};
 ghost use Rattle.tsp_promises.specs.Once.{OnceSpaced, OnceSpacedOverLives, OnceTaken};
 ghost use Rattle.tsp_promises.specs.Premises.{Few, Honest, Life, OwnWords};
-ghost use Rattle.tsp_promises.specs.Resolved.{StaysQuiet, StopsLeading, Yields};
+ghost use Rattle.tsp_promises.specs.Resolved.{StaysQuiet, StopsLeading, Yields, YieldsTaken};
 ghost use Rattle.tsp_promises.specs.Setting.{Setting};
 ghost use Rattle.tsp_promises.specs.Steady.{Meets, Steady};
 ghost use Rattle.tsp_promises.specs.Safe.{Safe};
 /// All promises of a history that ends with a step, each under the premises that it needs.
 pub fn safe()
-    ensures { (setting : Setting) (world : List Line) → Fits setting world → Finished world
+    ensures { (setting : Setting) (world : List Line) → Fits setting world → Finished setting world
         → Safe setting world }
 {}
 
 ghost use Rattle.tsp_promises.specs.OneBack.{OneBack};
 /// No node backs two candidates within `HOLD` ticks, 60 s, even if datagrams are forged.
 pub fn one_back()
-    ensures { (setting : Setting) (world : List Line) → Fits setting world → Finished world
+    ensures { (setting : Setting) (world : List Line) → Fits setting world → Finished setting world
         → OneBack world }
 {}
 
 ghost use Rattle.tsp_promises.specs.Silent.{Silent};
-/// For `QUIET` ticks, 80 s, after a boot a node posts only replies to stamp requests and
-/// acknowledgments of MSITE, TRACEON and TRACEOFF, and doesn't correct its clock.
+/// For `QUIET` ticks, 80 s, after a boot a node posts only the reply to a stamp request, or the
+/// acknowledgment of an MSITE, TRACEON or TRACEOFF, that its step took, to whom that came from. And
+/// it doesn't correct its clock.
 pub fn silent_after_boot()
     ensures { (setting : Setting) (world : List Line) → Fits setting world → Silent world }
 {}
 
 ghost use Rattle.tsp_promises.specs.Answered.{Answered};
-/// A step takes at most one datagram. A port heeds a QUIT right after it took it, once in a step,
-/// and acknowledges it in that step, in every role. What a step posts to a stranger answers the
-/// datagram that it took from one on that port, and is the only thing that it posts to strangers. A
-/// message's answer is in the node's own name, but that of MSITE has the master's. So no more
-/// datagrams are posted to strangers than are taken from them.
+/// A step takes at most one datagram. A port that isn't Starting heeds each QUIT that it takes from
+/// a peer, other than its own node: right after it took it, once in a step. It acknowledges it in
+/// that step, in every role. Each reply, ACK and DATEACK answers the datagram that its step took,
+/// and goes to whom that came from. What a step posts to a stranger answers the datagram that it
+/// took from one on that port, and is the only thing that it posts to strangers. A message's answer
+/// is in the node's own name, but that of MSITE has the master's. So no more datagrams are posted to
+/// strangers than are taken from them.
 pub fn answered()
-    ensures { (setting : Setting) (world : List Line) → Fits setting world → Finished world
+    ensures { (setting : Setting) (world : List Line) → Fits setting world → Finished setting world
         → Answered setting world }
 {}
 
@@ -243,10 +246,13 @@ pub fn stamps_in_order()
     ensures { (setting : Setting) (world : List Line) → Fits setting world → Waited setting world }
 {}
 
-/// A master that takes a QUIT follows its sender at the end of that step.
+/// A master that takes a QUIT of a peer, other than its own node, follows that peer at the end of
+/// that step: `heeded` says so of the Quits that it puts, `taken` of the QUITs that it takes.
 pub fn resolved_yields()
-    ensures { (setting : Setting) (world : List Line) → Fits setting world → Finished world
-        → Yields world }
+    ensures heeded { (setting : Setting) (world : List Line) → Fits setting world
+        → Finished setting world → Yields world }
+    ensures taken { (setting : Setting) (world : List Line) → Fits setting world
+        → Finished setting world → YieldsTaken setting world }
 {}
 
 ghost use Rattle.tsp_promises.specs.Became.{BecomesAfter};
@@ -264,7 +270,7 @@ pub fn resolved_stays_quiet()
 /// of the step in which the last rival takes its QUIT no rival is a master, if no datagram outlives
 /// `LIFE`.
 pub fn resolved_stops()
-    ensures { (setting : Setting) (world : List Line) → Fits setting world → Finished world
+    ensures { (setting : Setting) (world : List Line) → Fits setting world → Finished setting world
         → Life world → StopsLeading world }
 {}
 

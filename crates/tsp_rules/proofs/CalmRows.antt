@@ -109,10 +109,6 @@ module _ {strange moving : Bool} where
       (calm_either 0 1 (is_spent s) (puts (Gave p)) (puts (Post (Peer p) (Message s.message))) (calm_puts (Gave p) refl) (calm_puts (Post (Peer p) (Message s.message)) refl))
       (none 0 1)
 
-  pub calm_bare_send : (p : PeerId) → Calm strange moving 0 1 (bare_send p)
-  unfolding bare_send
-  calm_bare_send p = calm_reading 0 1 (open_at p) (repeats_bare_send p) (calm-repeats-bare p)
-
   pub calm_due_sends : Calm strange moving 2 0 due_sends
   unfolding due_sends
   calm_due_sends = calm_each 2 peers_at due_send (λ x past. omega arith) calm_due_send

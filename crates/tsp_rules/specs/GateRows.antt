@@ -140,10 +140,6 @@ alarms_on q = each_on q ALL
 unfoldable pub turns_on : Port → NodeRow
 turns_on q = on q due_sends and_then alarms_on q
 
-abbrev pub is_loop : Kind → Bool
-is_loop LoopKind = true
-is_loop _ = false
-
 abbrev pub hops_in : Body → ℕ
 hops_in (Hops n) = n
 hops_in _ = 0

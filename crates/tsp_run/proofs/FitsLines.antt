@@ -18,7 +18,7 @@ use Rattle.tsp_base.specs.PortFacts.{role, taken}
 use Rattle.tsp_promises.specs.Setting.{Setting, setup_of}
 use Rattle.tsp_base.specs.Setup.{Setup}
 use Rattle.tsp_base.specs.RoundFacts.{exchange, exchange_after}
-use Rattle.tsp_promises.specs.StepFacts.{StepEnds, is_unbacked, is_unbacked_after, owes, owes_after, unacknowledged, unacknowledged_after}
+use Rattle.tsp_promises.specs.StepFacts.{StepEnds, is_unbacked, is_unbacked_after, owes, owes_after, unacknowledged, unacknowledged_after, unheeded, unheeded_after}
 use Rattle.tsp_base.specs.Takings.{posted, posted_after}
 use Rattle.tsp_base.specs.Ticks.{tick_at}
 use Rattle.std.proofs.lemmas.Bool.{cases_lt, or_right}
@@ -59,24 +59,26 @@ record Bystander (seen : List Seen) : Type 0 where
   pub backs : is_unbacked seen ≡ false
   pub owed : owes seen ≡ []
   pub paid : unacknowledged seen ≡ None
+  pub heeded : (peers : List PeerId) → unheeded peers seen ≡ None
   pub idle : (p : PeerId) (c : ℕ) → exchange p c seen ≡ []
 
 shared-here : (d : Did) (seen : List Seen) → Bystander seen → (deed : Deed) → deed ≡ d.deed → is_shared deed ≡ true → Bystander (Here d ∷ seen)
-shared-here d seen b Begins is e = record { backs = (let i = is in subst (λ k. is_unbacked_after k d.step.node (is_unbacked seen) ≡ false) is refl); owed = subst (λ k. owes_after k (role seen) (owes seen) ≡ []) is refl; paid = subst (λ k. unacknowledged_after k (taken seen) (unacknowledged seen) ≡ None) is refl; idle = λ p c. subst (λ k. exchange_after p c k (Here d ∷ seen) (exchange p c seen) ≡ []) is (b.idle p c) }
-shared-here d seen b (Acts Boot) is e = record { backs = subst (λ k. is_unbacked_after k d.step.node (is_unbacked seen) ≡ false) is b.backs; owed = subst (λ k. owes_after k (role seen) (owes seen) ≡ []) is b.owed; paid = subst (λ k. unacknowledged_after k (taken seen) (unacknowledged seen) ≡ None) is b.paid; idle = λ p c. subst (λ k. exchange_after p c k (Here d ∷ seen) (exchange p c seen) ≡ []) is refl }
+shared-here d seen b Begins is e = record { backs = (let i = is in subst (λ k. is_unbacked_after k d.step.node (is_unbacked seen) ≡ false) is refl); owed = subst (λ k. owes_after k (role seen) (owes seen) ≡ []) is refl; paid = subst (λ k. unacknowledged_after k (taken seen) (unacknowledged seen) ≡ None) is refl; heeded = λ peers. subst (λ k. unheeded_after peers d.step.node k (role seen) (unheeded peers seen) ≡ None) is refl; idle = λ p c. subst (λ k. exchange_after p c k (Here d ∷ seen) (exchange p c seen) ≡ []) is (b.idle p c) }
+shared-here d seen b (Acts Boot) is e = record { backs = subst (λ k. is_unbacked_after k d.step.node (is_unbacked seen) ≡ false) is b.backs; owed = subst (λ k. owes_after k (role seen) (owes seen) ≡ []) is b.owed; paid = subst (λ k. unacknowledged_after k (taken seen) (unacknowledged seen) ≡ None) is b.paid; heeded = λ peers. subst (λ k. unheeded_after peers d.step.node k (role seen) (unheeded peers seen) ≡ None) is (b.heeded peers); idle = λ p c. subst (λ k. exchange_after p c k (Here d ∷ seen) (exchange p c seen) ≡ []) is refl }
 shared-here d seen b _ is e = absurd (true≢false (sym e))
 
 bystands : (ports : ℕ) (q : Port) → ports ≤ q.0 → (ls : List Line) → AreOn ports ls → Bystander (view q ls)
-bystands ports q past [] f = record { backs = refl; owed = refl; paid = refl; idle = λ p c. refl }
+bystands ports q past [] f = record { backs = refl; owed = refl; paid = refl; heeded = λ peers. refl; idle = λ p c. refl }
 bystands ports q past (l ∷ before) f = by_case (l.port.0 == q.0) refl (is_shared l.did.deed) refl (bystands ports q past before f.1) where
   by_case : (a : Bool) → (l.port.0 == q.0) ≡ a → (b : Bool) → is_shared l.did.deed ≡ b → Bystander (view q before) → Bystander (seen_as (a || b) l.did ∷ view q before)
   by_case a e true i s = subst (λ b. Bystander (seen_as b l.did ∷ view q before)) (sym (or_right a true refl)) (shared-here l.did (view q before) s l.did.deed refl i)
   by_case true e false i s = let same = eqb-true l.port.0 q.0 e in let less = f.0 i in absurd (omega (arith, same, less, past))
-  by_case false e false i s = record { backs = s.backs; owed = s.owed; paid = s.paid; idle = s.idle }
+  by_case false e false i s = record { backs = s.backs; owed = s.owed; paid = s.paid; heeded = s.heeded; idle = s.idle }
 
-bystander_ends : (seen : List Seen) → Bystander seen → StepEnds seen
-bystander_ends seen b = record {
+bystander_ends : (setup : Setup) (seen : List Seen) → Bystander seen → StepEnds setup seen
+bystander_ends setup seen b = record {
   backs = b.backs;
+  heeds = b.heeded setup.peers;
   follows = λ p e. none-among p b.owed e;
   acknowledged = b.paid;
   exchanges = λ p c request older e. let i = b.idle p c in let bad : ⊥ = cc in absurd bad;
@@ -87,10 +89,10 @@ or-left true e = refl
 or-left false e = e
 
 -- each port of a node ends its step well, if those do that it has
-pub all_end : (ports : ℕ) (q : Port) (ls : List Line) → AreOn ports ls → (q.0 < ports → StepEnds (view q ls)) → StepEnds (view q ls)
-all_end ports q ls f ends = elim (cases_lt q.0 ports) [
+pub all_end : (setup : Setup) (ports : ℕ) (q : Port) (ls : List Line) → AreOn ports ls → (q.0 < ports → StepEnds setup (view q ls)) → StepEnds setup (view q ls)
+all_end setup ports q ls f ends = elim (cases_lt q.0 ports) [
   | inl has ↦ ends has
-  | inr past ↦ bystander_ends (view q ls) (bystands ports q past ls f)
+  | inr past ↦ bystander_ends setup (view q ls) (bystands ports q past ls f)
 ]
 
 boot_or : (a : Act) → (a ≡ Boot) ⊎ (is_shared (Acts a) ≡ false)
@@ -200,7 +202,7 @@ acts_fit ports setting step x history (p ∷ rest) port d before tick on w few a
 
 -- the mark of a step
 pub mark_line : (ports : ℕ) (setting : Setting) (step : Step) (x : ℕ) (history : List Line) → x ≡ tick_at (setting.rate step.node) step.at → AreOn ports (of step.node history) → time_of (dids history) ≤ step.at → posted (dids history) < 2 ^ 64 →
-    ((q : Port) → q.0 < ports → StepEnds (view q (of step.node history))) → LineFits setting (line_of step x first_port Begins) history
+    ((q : Port) → q.0 < ports → StepEnds (setup_of setting step.node q) (view q (of step.node history))) → LineFits setting (line_of step x first_port Begins) history
 mark_line ports setting step x history tick on order few ends = record {
   order = order;
   tick = tick;
@@ -208,5 +210,5 @@ mark_line ports setting step x history tick on order few ends = record {
   step = tt;
   alive = tt;
   took = λ from t e. let bad : ⊥ = cc in absurd bad;
-  deeds = λ q sees. all_end ports q (of step.node history) on (ends q);
+  deeds = λ q sees. all_end (setup_of setting step.node q) ports q (of step.node history) on (ends q);
 }

@@ -10,6 +10,7 @@ pub mod Happens
 pub mod HeaderLines
 mod NamesRun
 pub mod NetworkLemmas
+mod OnlyThen
 pub mod PostPlaces
 pub mod PromptRun
 pub mod RefusalLemmas

@@ -22,12 +22,13 @@ use Rattle.tsp_codec.specs.Taken.{taken_of}
 use Rattle.tsp_rules.specs.GateRows.{NodeGiven, NodeTurn, GotOn, answers_all, boots_all}
 use Rattle.tsp_rules.specs.NodeRows.{NodePast, NodeRow, PortSetup, in_node_step, on_port, port_setup, spread}
 use Rattle.tsp_promises.specs.PortFits.{PortFits, setup_in}
+use Rattle.tsp_promises.specs.StepFacts.{StepEnds}
 use Rattle.tsp_promises.specs.Sound.{IsSound, IsSoundDeed}
 use Rattle.tsp_promises.proofs.GateFacts.{AllPorts}
-use Rattle.tsp_promises.proofs.GateLeads.{GivenOn, answers_all_lead}
-use Rattle.tsp_promises.proofs.Known.{Fresh, Rests}
-use Rattle.tsp_promises.proofs.NodeLeads.{begins_all, boots_all_lead}
-use Rattle.tsp_promises.proofs.RunLeads.{ends_of, rests_later, rests_seen, nothing-done}
+use Rattle.tsp_promises.proofs.GateLeads.{GivenOn}
+use Rattle.tsp_promises.proofs.Known.{Ended, Fresh}
+use Rattle.tsp_promises.proofs.NodeLeads.{answers_all_end, begins_all, boots_all_lead}
+use Rattle.tsp_promises.proofs.RunLeads.{ends_of, ended_later, ended_seen, nothing-done}
 use Rattle.tsp_promises.proofs.Clocks.{tick-mono}
 use Rattle.tsp_run.specs.declared.address.Address.{Address}
 use Rattle.tsp_run.specs.declared.posted.Posted.{Posted}
@@ -53,7 +54,7 @@ pub record Ran (header : HeaderValue) (setting : Setting) (t : ℕ) (h : List Li
   pub fits : Fits setting h
   pub placed : ArePlaced (networks header) h
   pub time : time_of (dids h) ≤ t
-  pub nodes : (n : ℕ) → AllPorts (λ r. Rests) (tick_at (setting.rate n) t) (past_of header (rests n) h)
+  pub nodes : (n : ℕ) → AllPorts (λ r. Ended) (tick_at (setting.rate n) t) (past_of header (rests n) h)
   pub sound : (n : ℕ) → SoundNode (past_of header (rests n) h)
 
 joined-placed : (nets : List (List ℕ)) (step : Step) (x : ℕ) (acts : List Placed) (h : List Line) → ActsOn (length (ports_on step.node nets)) acts → ArePlaced nets h → ArePlaced nets (joined step x acts h)
@@ -65,20 +66,20 @@ joined-time step x [] h e = e
 joined-time step x (a ∷ rest) h e = joined-time step x rest (line_of step x a.port (Acts a.act) ∷ h) (omega arith)
 
 -- after a step each port of each node is at rest
-node_after : (header : HeaderValue) (setting : Setting) (t : ℕ) (h : List Line) (step : Step) (x : ℕ) (acts : List Placed) → t ≤ step.at → ((n : ℕ) → AllPorts (λ r. Rests) (tick_at (setting.rate n) t) (past_of header (rests n) h)) →
-    AllPorts (λ r. Rests) x (spread x (in_node_step step x (past_of header step h)) acts) → x ≡ tick_at (setting.rate step.node) step.at → (n : ℕ) (b : Bool) → (step.node == n) ≡ b →
-    AllPorts (λ r. Rests) (tick_at (setting.rate n) step.at) (past_of header (rests n) (stepped step x acts h))
+node_after : (header : HeaderValue) (setting : Setting) (t : ℕ) (h : List Line) (step : Step) (x : ℕ) (acts : List Placed) → t ≤ step.at → ((n : ℕ) → AllPorts (λ r. Ended) (tick_at (setting.rate n) t) (past_of header (rests n) h)) →
+    AllPorts (λ r. Ended) x (spread x (in_node_step step x (past_of header step h)) acts) → x ≡ tick_at (setting.rate step.node) step.at → (n : ℕ) (b : Bool) → (step.node == n) ≡ b →
+    AllPorts (λ r. Ended) (tick_at (setting.rate n) step.at) (past_of header (rests n) (stepped step x acts h))
 node_after header setting t h step x acts later nodes after tick_is n true e =
     let now : List Line = stepped step x acts h in
     let same : step.node ≡ n = eqb-true step.node n e in
     let own : (step.node == step.node) ≡ true = eq-eqb step.node step.node refl in
-    let here : AllPorts (λ r. Rests) x (past_of header (rests step.node) now) = λ r has.
-    rests_seen x (on_port r (spread x (in_node_step step x (past_of header step h)) acts)) (on_port r (past_of header (rests step.node) now)) refl refl (ap (λ l. view r l) (sym (stepped_own step.node step x acts h own))) (after r has) in
-    subst (λ k. AllPorts (λ r. Rests) (tick_at (setting.rate k) step.at) (past_of header (rests k) now)) same (subst (λ k. AllPorts (λ r. Rests) k (past_of header (rests step.node) now)) tick_is here)
+    let here : AllPorts (λ r. Ended) x (past_of header (rests step.node) now) = λ r has.
+    ended_seen x (on_port r (spread x (in_node_step step x (past_of header step h)) acts)) (on_port r (past_of header (rests step.node) now)) refl refl (ap (λ l. view r l) (sym (stepped_own step.node step x acts h own))) (after r has) in
+    subst (λ k. AllPorts (λ r. Ended) (tick_at (setting.rate k) step.at) (past_of header (rests k) now)) same (subst (λ k. AllPorts (λ r. Ended) k (past_of header (rests step.node) now)) tick_is here)
 node_after header setting t h step x acts later nodes after tick_is n false e = λ r has.
     let now : List Line = stepped step x acts h in
-    rests_seen (tick_at (setting.rate n) step.at) (on_port r (past_of header (rests n) h)) (on_port r (past_of header (rests n) now)) refl refl (ap (λ l. view r l) (sym (stepped_other n step x acts h e)))
-    (rests_later (tick_at (setting.rate n) t) (tick_at (setting.rate n) step.at) (on_port r (past_of header (rests n) h)) (tick-mono setting n t step.at later) (nodes n r has))
+    ended_seen (tick_at (setting.rate n) step.at) (on_port r (past_of header (rests n) h)) (on_port r (past_of header (rests n) now)) refl refl (ap (λ l. view r l) (sym (stepped_other n step x acts h e)))
+    (ended_later (tick_at (setting.rate n) t) (tick_at (setting.rate n) step.at) (on_port r (past_of header (rests n) h)) (tick-mono setting n t step.at later) (nodes n r has))
 
 -- after a step whose acts are sound all nodes' are
 sound_after : (header : HeaderValue) (h : List Line) (step : Step) (x : ℕ) (acts : List Placed) → ((n : ℕ) → SoundNode (past_of header (rests n) h)) → SoundNode (spread x (in_node_step step x (past_of header step h)) acts) →
@@ -115,7 +116,7 @@ own_is header step h q has = ap (λ (k : PortSetup). k.own.0) (set_up step.node 
 -- a step by a row that keeps what is known of each port
 by_row : (header : HeaderValue) (setting : Setting) (t : ℕ) (h : List Line) (step : Step) (row : NodeRow) → SetBy header setting → Ran header setting t h → t ≤ step.at → posted (dids h) + step_most (room (ports_on step.node (networks header))) < 2 ^ 64 →
     (AllPorts (λ r. Fresh) (step_tick header step) (in_node_step step (step_tick header step) (past_of header step h)) →
-    AllPorts (λ r. Rests) (step_tick header step) (spread (step_tick header step) (in_node_step step (step_tick header step) (past_of header step h)) (row (step_tick header step) (in_node_step step (step_tick header step) (past_of header step h))))) →
+    AllPorts (λ r. Ended) (step_tick header step) (spread (step_tick header step) (in_node_step step (step_tick header step) (past_of header step h)) (row (step_tick header step) (in_node_step step (step_tick header step) (past_of header step h))))) →
     (SoundNode (in_node_step step (step_tick header step) (past_of header step h)) → SoundNode (spread (step_tick header step) (in_node_step step (step_tick header step) (past_of header step h)) (row (step_tick header step) (in_node_step step (step_tick header step) (past_of header step h))))) →
     StepOk (length (ports_on step.node (networks header))) (room (ports_on step.node (networks header))) setting step (step_tick header step) h (up (dids (of step.node h))) (row (step_tick header step) (in_node_step step (step_tick header step) (past_of header step h))) →
     Ran header setting step.at (joins (Some (steps header h row step)) h)
@@ -129,19 +130,19 @@ by_row header setting t h step row set r later few leads soundly ok =
     let acts : List Placed = row x past in
     let mark : Line = line_of step x first_port Begins in
     let tick_is : x ≡ tick_at (setting.rate step.node) step.at = ap (λ k. tick_at k step.at) (sym (set.rate_is step.node)) in
-    let rested : AllPorts (λ r. Rests) x base = λ q has.
-    rests_seen x (on_port q (past_of header (rests step.node) h)) (on_port q base) refl refl refl
-    (subst (λ k. Rests k (on_port q (past_of header (rests step.node) h))) (sym tick_is)
-    (rests_later (tick_at (setting.rate step.node) t) (tick_at (setting.rate step.node) step.at) (on_port q (past_of header (rests step.node) h)) (tick-mono setting step.node t step.at later) (r.nodes step.node q has))) in
-    let after : AllPorts (λ r. Rests) x (spread x past acts) = leads (begins_all step x x base (omega arith) (λ q has. own_is header step h q has) rested) in
-    let line = mark_line ports setting step x h tick_is (of_placed nets step.node h r.placed) (let b = r.time in omega (arith, b, later)) (omega (arith, few)) (λ q has. ends_of (rested q has)) in
+    let rested : AllPorts (λ r. Ended) x base = λ q has.
+    ended_seen x (on_port q (past_of header (rests step.node) h)) (on_port q base) refl refl refl
+    (subst (λ k. Ended k (on_port q (past_of header (rests step.node) h))) (sym tick_is)
+    (ended_later (tick_at (setting.rate step.node) t) (tick_at (setting.rate step.node) step.at) (on_port q (past_of header (rests step.node) h)) (tick-mono setting step.node t step.at later) (r.nodes step.node q has))) in
+    let after : AllPorts (λ r. Ended) x (spread x past acts) = leads (begins_all step x x base (omega arith) (λ q has. own_is header step h q has) rested) in
+    let line = mark_line ports setting step x h tick_is (of_placed nets step.node h r.placed) (let b = r.time in omega (arith, b, later)) (omega (arith, few)) (λ q has. subst (λ s. StepEnds s (view q (of step.node h))) (setup_is header setting step h q set has) (ends_of (rested q has))) in
     let own : (step.node == step.node) ≡ true = eq-eqb step.node step.node refl in
     let up_is : up (dids (of step.node (mark ∷ h))) ≡ up (dids (of step.node h)) = rw own refl in
     let most = ok.few in
     record {
       fits = acts_fit ports setting step x h acts first_port Begins h tick_is ok.on (inr (Within-all h)) (omega (arith, few, most))
           (subst (λ b. AllAlive setting step x b acts) (sym up_is) ok.alive) ok.taken
-          (λ q has. subst (λ l. PortFits (setup_of setting step.node q) (view q l)) (sym (stepped_own step.node step x acts h own)) (subst (λ k. PortFits k (view q (joined step x acts (mark ∷ of step.node h)))) (setup_is header setting step h q set has) (after q has).fits))
+          (λ q has. subst (λ l. PortFits (setup_of setting step.node q) (view q l)) (sym (stepped_own step.node step x acts h own)) (subst (λ k. PortFits k (view q (joined step x acts (mark ∷ of step.node h)))) (setup_is header setting step h q set has) (after q has).0.fits))
           (line, r.fits);
       placed = joined-placed nets step x acts (mark ∷ h) ok.on ((λ e. let bad : ⊥ = cc in absurd bad), r.placed);
       time = joined-time step x acts (mark ∷ h) (omega arith);
@@ -169,7 +170,7 @@ module _ {header : HeaderValue} {setting : Setting} (is : IsHeader header) (set 
       let x : ℕ = step_tick header step in
       let past : NodePast = in_node_step step x (past_of header step (run header before)) in
       by_row header setting (last_at before) (run header before) step (answers_all g) set r later (few_posts header before e step.node none acts)
-      (λ fresh. (answers_all_lead g).run x past (given-in g given, fresh)) ((sound_answers_all g sound).run x past)
+      (λ fresh. (answers_all_end g).run x past (given-in g given, fresh)) ((sound_answers_all g sound).run x past)
       (subst (λ b. StepOk (length (ports_on step.node (networks header))) (room (ports_on step.node (networks header))) setting step x (run header before) b (answers_all g x past)) (sym is_up) ok)
     where
       given-in : (g : NodeGiven) → GivenOn g (past_of header step (run header before)) → GivenOn g (in_node_step step (step_tick header step) (past_of header step (run header before)))
@@ -209,7 +210,7 @@ module _ {header : HeaderValue} {setting : Setting} (is : IsHeader header) (set 
     fits = r.fits;
     placed = r.placed;
     time = (let b = r.time in let c = (allowed (scene header before) (Take at k) none).time in omega (arith, b, c));
-    nodes = λ n q has. rests_later (tick_at (setting.rate n) (last_at before)) (tick_at (setting.rate n) at) (on_port q (past_of header (rests n) (run header before))) (tick-mono setting n (last_at before) at (allowed (scene header before) (Take at k) none).time) (r.nodes n q has);
+    nodes = λ n q has. ended_later (tick_at (setting.rate n) (last_at before)) (tick_at (setting.rate n) at) (on_port q (past_of header (rests n) (run header before))) (tick-mono setting n (last_at before) at (allowed (scene header before) (Take at k) none).time) (r.nodes n q has);
     sound = r.sound;
   }
 
@@ -265,4 +266,8 @@ module _ {header : HeaderValue} {setting : Setting} (is : IsHeader header) (set 
 pub runs-fit : RunsFit
 runs-fit header setting events set s =
     let r = ran s.header_is set events s.ranges s.valid in
-    (r.fits, λ n q. all_end (length (ports_on n (networks header))) q (of n (run header events)) (of_placed (networks header) n (run header events) r.placed) (λ has. ends_of (r.nodes n q has)))
+    (
+      r.fits,
+      λ n q. all_end (setup_of setting n q) (length (ports_on n (networks header))) q (of n (run header events)) (of_placed (networks header) n (run header events) r.placed)
+      (λ has. subst (λ k. StepEnds k (view q (of n (run header events)))) (setup_is header setting (rests n) (run header events) q set has) (ends_of (r.nodes n q has))),
+    )

@@ -1,13 +1,27 @@
 -- Where few datagrams are posted, no port begins many sends.
-use Rattle.std.specs.Prelude.{◌≡◌, ◌<◌, ◌≤◌, ℕ, ◌+◌, ◌==◌, ◌&&◌, ◌||◌, Bool, true, false, if◌then◌else◌, List, [], ◌∷◌, length}
-use Rattle.std.proofs.Common.{arith, length-append}
+use Rattle.std.specs.Prelude.{◌≡◌, ◌<◌, ◌≤◌, nat_le, ℕ, ◌+◌, ◌==◌, ◌&&◌, ◌||◌, Bool, true, false, if◌then◌else◌, List, [], ◌∷◌, length, refl}
+use Rattle.std.proofs.Common.{arith, length-append, subst, sym, true≢false}
+use Rattle.std.proofs.lemmas.Bool.{le-leb}
+use Rattle.tsp_base.specs.declared.kind.Kind.{Kind}
+use Rattle.tsp_base.specs.declared.kind.Kind.TheVariants.{Ack, Conflict, DateAck, Election, Quit, SetDateReq}
+use Rattle.tsp_base.specs.declared.place.PeerId.{PeerId}
+use Rattle.tsp_base.specs.declared.place.Place.{Place}
+use Rattle.tsp_base.specs.declared.place.Place.TheVariants.{Peer, Stranger}
+use Rattle.tsp_base.specs.Messages.{MessageValue}
+use Rattle.tsp_base.specs.Setup.{Setup}
+use Rattle.tsp_promises.specs.DeedFits.{DeedFits, MessageFits, PostFits, StrangerFits}
+use Rattle.tsp_promises.specs.Everywhere.{Everywhere}
+use Rattle.tsp_promises.specs.PortFits.{PortFits}
+use Rattle.tsp_promises.specs.Setting.{Setting, setup_of}
+use Rattle.tsp_promises.proofs.PortFits.{port_fits}
+use Rattle.tsp_run.specs.Premised.{own_posts, own_posts_after}
 use Rattle.tsp_base.specs.declared.act.Act.TheVariants.{Boot, Post}
 use Rattle.tsp_base.specs.declared.datagram.Datagram.TheVariants.{Message, Stamp}
 use Rattle.tsp_base.specs.declared.place.Port.{Port}
-use Rattle.tsp_base.specs.History.{Acts, Begins, Deed, Line, Seen, is_shared, of, seen_as, view}
+use Rattle.tsp_base.specs.History.{Acts, Begins, Deed, Did, Line, Seen, Here, Elsewhere, is_shared, of, seen_as, view}
 use Rattle.tsp_base.specs.PortFacts.{acting}
 use Rattle.tsp_base.specs.SendFacts.{begun, begun_after, has_own_number}
-use Rattle.tsp_promises.specs.Fits.{node_of}
+use Rattle.tsp_promises.specs.Fits.{Fits, node_of}
 use Rattle.tsp_promises.specs.Premises.{Few}
 use Rattle.tsp_run.specs.Run.{posted_in, posts}
 
@@ -45,3 +59,51 @@ short-few (l ∷ before) s =
     let all = length-append (posts before) (posted_in l.port l.did.step l.did.deed) in
     let here = begun-posts l.port (node_of l) (l ∷ before) in
     ((omega (arith, here, s)), short-few before (omega (arith, all, s)))
+
+-- a send with an own number begins with a post of a number from 32,768 on
+own-number : (setup : Setup) (k : Kind) (here : Did) (before : List Seen) (p : PeerId) (m : MessageValue) → has_own_number k ≡ true → MessageFits setup k here before p m → 32768 ≤ m.number
+own-number setup Election here before p m own f = f.numbered.number
+own-number setup Conflict here before p m own f = f.number
+own-number setup Quit here before p m own f = f.number
+own-number setup SetDateReq here before p m own f = f.numbered.number
+own-number setup _ here before p m own f = absurd (true≢false (sym own))
+
+no-stranger : (k : Kind) (here : Did) (before : List Seen) (number : ℕ) → has_own_number k ≡ true → StrangerFits k here before number → ⊥
+no-stranger Ack here before number own f = true≢false (sym own)
+no-stranger DateAck here before number own f = true≢false (sym own)
+no-stranger _ here before number own f = f
+
+number-posted : (setup : Setup) (to : Place) (here : Did) (before : List Seen) (m : MessageValue) → has_own_number m.kind ≡ true → PostFits setup to (Message m) here before → 32768 ≤ m.number
+number-posted setup (Peer p) here before m own f = own-number setup m.kind here before p m own f
+number-posted setup Stranger here before m own f = absurd (no-stranger m.kind here before m.number own f.0)
+
+count-post : (own begins : Bool) (number n k : ℕ) → (own ≡ true → 32768 ≤ number) → n ≤ k → (if own && begins then n + 1 else n) ≤ (if nat_le 32768 number then k + 1 else k)
+count-post false begins number n k large le = more (nat_le 32768 number) where
+  more : (b : Bool) → n ≤ (if b then k + 1 else k)
+  more true = omega (arith, le)
+  more false = le
+count-post true false number n k large le = more (nat_le 32768 number) where
+  more : (b : Bool) → n ≤ (if b then k + 1 else k)
+  more true = omega (arith, le)
+  more false = le
+count-post true true number n k large le = subst (λ b. n + 1 ≤ (if b then k + 1 else k)) (sym (le-leb 32768 number (large refl))) (omega (arith, le))
+
+begins-own : (setup : Setup) (d : Did) (before : List Seen) (deed : Deed) → DeedFits setup deed d before → begun before ≤ own_posts before → begun_after deed (acting before) (begun before) ≤ own_posts_after deed (own_posts before)
+begins-own setup d before Begins f le = le
+begins-own setup d before (Acts Boot) f le = omega arith
+begins-own setup d before (Acts (Post to (Message m))) f le = count-post (has_own_number m.kind) (acting before) m.number (begun before) (own_posts before) (λ own. number-posted setup to d before m own f.fits) le
+begins-own setup d before (Acts (Post to (Stamp s))) f le = le
+begins-own setup d before _ f le = le
+
+own-begun : (setup : Setup) (seen : List Seen) → PortFits setup seen → begun seen ≤ own_posts seen
+own-begun setup [] f = omega arith
+own-begun setup (Elsewhere d ∷ before) f = own-begun setup before f
+own-begun setup (Here d ∷ before) f = begins-own setup d before d.deed f.0 (own-begun setup before f.1)
+
+-- so no port begins more sends in a life than it posts such numbers
+pub own-few : (setting : Setting) (h : List Line) → Fits setting h → Everywhere (λ (l : Line) (before : List Line). own_posts (view l.port (of (node_of l) (l ∷ before))) < 32768) h → Few h
+own-few setting [] f o = tt
+own-few setting (l ∷ before) f o =
+    let few = own-begun (setup_of setting (node_of l) l.port) (view l.port (of (node_of l) (l ∷ before))) (port_fits setting (node_of l) (l ∷ before) f l.port) in
+    let most = o.0 in
+    ((omega (arith, few, most)), own-few setting before f.1 o.1)

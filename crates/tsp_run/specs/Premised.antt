@@ -1,10 +1,16 @@
--- The premises of the promises, as statements about the text of a schedule: its header and its events, newest first.
-use Rattle.std.specs.Prelude.{◌≡◌, ◌≢◌, ◌<◌, ◌≤◌, ℕ, ◌+◌, List, [], ◌∷◌, length, Some, slice_get}
+-- The premises of the promises, as statements about the text of a schedule, its header and its events, newest first; and,
+-- where they ask what was posted, about its trace too.
+use Rattle.std.specs.Prelude.{◌≡◌, ◌≢◌, ◌<◌, ◌≤◌, nat_le, ℕ, ◌+◌, if◌then◌else◌, List, [], ◌∷◌, length, Some, slice_get}
+use Rattle.tsp_base.specs.declared.act.Act.TheVariants.{Boot as BootAct, Post}
 use Rattle.tsp_base.specs.declared.constants.TheConstants.{LIFE}
+use Rattle.tsp_base.specs.declared.datagram.Datagram.TheVariants.{Message}
 use Rattle.tsp_base.specs.declared.event.Event.{Event}
 use Rattle.tsp_base.specs.declared.event.Event.TheVariants.{Boot, Take, Bytes}
 use Rattle.tsp_base.specs.declared.place.Place.TheVariants.{Peer}
 use Rattle.tsp_base.specs.Headers.{HeaderValue}
+use Rattle.tsp_base.specs.History.{Acts, Deed, Line, Seen, Here, Elsewhere, of, view}
+use Rattle.tsp_promises.specs.Everywhere.{Everywhere}
+use Rattle.tsp_promises.specs.Fits.{node_of}
 use Rattle.tsp_promises.specs.Premises.{Few, Honest, Life, NamesApart, OwnWords, Words}
 use Rattle.tsp_promises.specs.Setting.{Setting}
 use Rattle.tsp_run.specs.declared.posted.Posted.{Posted}
@@ -53,21 +59,41 @@ abbrev pub Apart : List Event → Type 0
 Apart [] = Unit {0}
 Apart (e ∷ before) = IsApart e before × Apart before
 
--- fewer than 32,768 datagrams were posted: no line `post` of the trace has the number 32,767
+-- the run posts fewer than 32,768 datagrams: no line `post` of the trace has the number 32,767
 abbrev pub Short : HeaderValue → List Event → Type 0
 Short header events = length (posts (run header events)) < 32768
+
+abbrev pub own_posts_after : Deed → ℕ → ℕ
+own_posts_after (Acts BootAct) n = 0
+own_posts_after (Acts (Post to (Message m))) n = if nat_le 32768 m.number then n + 1 else n
+own_posts_after _ n = n
+
+-- how many messages with a number from 32,768 on a port has posted since its node's boot: in its own sends, and as
+-- answers to those of others
+abbrev pub own_posts : List Seen → ℕ
+own_posts [] = 0
+own_posts (Here d ∷ before) = own_posts_after d.deed (own_posts before)
+own_posts (Elsewhere d ∷ before) = own_posts before
+
+-- each port has posted fewer than 32,768 of them in each life of its node
+abbrev pub OwnShort : HeaderValue → List Event → Type 0
+OwnShort header events = Everywhere (λ (l : Line) (before : List Line). own_posts (view l.port (of (node_of l) (l ∷ before))) < 32768) (run header events)
 
 -- no two nodes of the header have the same name
 abbrev pub NamesDiffer : HeaderValue → Type 0
 NamesDiffer header = (m n : ℕ) → m < length header.nodes → n < length header.nodes → (node_line header m).name ≡ (node_line header n).name → m ≡ n
 
--- each premise of the promises holds of a run if its counterpart holds of the schedule's text
+-- each premise of the promises holds of a run if its counterpart holds of the schedule's text, or of its text and its
+-- trace: Prompt, Short and OwnShort ask what the run posted. Honest and Words hold of a run only then, too
 pub record KeptByText (header : HeaderValue) (events : List Event) : Type 0 where
   pub honest : Sealed events → Honest (run header events)
+  pub only_honest : Honest (run header events) → Sealed events
   pub life : Prompt header events → Life (run header events)
   pub words : Apart events → Words (run header events)
+  pub only_words : Words (run header events) → Apart events
   pub own_words : Apart events → OwnWords (run header events)
   pub few : Short header events → Few (run header events)
+  pub few_own : OwnShort header events → Few (run header events)
   pub names : (setting : Setting) → SetBy header setting → NamesDiffer header → NamesApart setting (run header events)
 
 -- the same of every schedule

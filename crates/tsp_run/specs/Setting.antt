@@ -40,7 +40,7 @@ pub record SetBy (header : HeaderValue) (setting : Setting) : Type 0 where
 
 -- the history of every accepted schedule fits, and ends where a step ends
 abbrev pub RunsFit : Type 0
-RunsFit = (header : HeaderValue) (setting : Setting) (events : List Event) → SetBy header setting → Accepted header events → Fits setting (run header events) × Finished (run header events)
+RunsFit = (header : HeaderValue) (setting : Setting) (events : List Event) → SetBy header setting → Accepted header events → Fits setting (run header events) × Finished setting (run header events)
 
 -- the history of every accepted schedule keeps the promises
 abbrev pub RunsKeepPromises : Type 0

@@ -135,15 +135,6 @@ module _ {C : Type 0} (refused : Refusing) (stands : HeaderValue → List Event 
     only = λ other g. g.2 ∙ ap (λ k. drifted version k) (drift_same r d g.0 is (one (Drift g.0) g.1));
   }
 
-  -- the third line of a strict schedule is accepted
-  pub Advances-strict : (drift : ℕ) (line : List ℕ) (held : HeaderValue) → SpellsHead 3 line Strict → held ≡ new_header drift true → Advances refused stands (Drifted drift) line (AtHeading held)
-  Advances-strict drift line held spells held_is = record {
-    to = Heading (new_header drift true);
-    goes = (spells, refl);
-    stands_for = held_is;
-    only = λ other g. g.1;
-  }
-
   node_same : (r : Result HeadItem LineFault) (n other : NodeLine) → r ≡ Ok (Node n) → r ≡ Ok (Node other) → other ≡ n
   node_same r n other p q = cc
 

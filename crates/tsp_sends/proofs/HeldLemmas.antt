@@ -41,7 +41,7 @@ pub AreHeld-set : (ps : List PeerId) (held : List Slot) (room i : ℕ) (d new : 
 AreHeld-set ps held room i d new h same = record {
   front = peers_of-set held i d new same ∙ h.front ∙ ap (λ n. take n ps) (sym (length-set held i new));
   few = omega (arith, length-set held i new, h.few);
-  enough = h.enough;
+  exact = h.exact;
 }
 
 -- one empty slot more is held
@@ -58,7 +58,7 @@ AreHeld-more ps held room p h inside here = record {
       ∙ ap (λ (q : PeerId). take (length held) ps ++ q ∷ []) here ∙ sym (take_more ps (length held) p inside)
       ∙ ap (λ n. take n ps) (sym (length_push held (empty_slot p)));
   few = omega (arith, length_push held (empty_slot p));
-  enough = h.enough;
+  exact = h.exact;
 }
 
 -- a slot that is held is the one at its place

@@ -8,8 +8,8 @@ use Rattle.tsp_sends.specs.Slots.{peers_of, empty_slot}
 abbrev pub slots_of : List PeerId → List Slot → List Slot
 slots_of peers held = held ++ map empty_slot (drop (length held) peers)
 
--- the slots are those of the first peers, and there is room for all
+-- the slots are those of the first peers, and there is room for all, and for no more: so the list never grows
 pub record AreHeld (peers : List PeerId) (held : List Slot) (room : ℕ) : Type 0 where
   pub front : peers_of held ≡ take (length held) peers
   pub few : length held ≤ length peers
-  pub enough : length peers ≤ room
+  pub exact : room ≡ length peers

@@ -11,7 +11,7 @@ use tsp_base::message::{Body, Message};
 use tsp_base::name::Name;
 use tsp_base::place::PeerId;
 use tsp_base::role::Role;
-use tsp_candidate::candidature::begin_candidature;
+use tsp_candidate::candidature::stand;
 use tsp_candidate::ring::candidate_ring;
 use tsp_candidate::take::candidate_take;
 
@@ -66,7 +66,7 @@ fn goes(node: &mut Node, tick: u32, step: Step) -> Result<(), AllocError> {
     node.pad.clear();
     node.pad.reserve(node.station.peers().len() + 3)?;
     match step {
-        Stands => begin_candidature(&mut node.station, tick as u64, PORT, &mut node.pad),
+        Stands => stand(&mut node.station, tick as u64, PORT, &mut node.pad),
         Rings => candidate_ring(&mut node.station, tick as u64, PORT, &mut node.pad),
         Hears(kind, number) => hears(node, tick, kind, number)?,
     }

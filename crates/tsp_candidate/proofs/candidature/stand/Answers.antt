@@ -5,7 +5,7 @@ use Rattle.tsp_base.specs.Rows.{puts}
 use Rattle.tsp_base.proofs.PerformsLemmas.{Performs_then, Performs_reading}
 use Rattle.tsp_rules.specs.CommonRows.{candidature_row, backs_own, own_at}
 use Rattle.tsp_acks.proofs.ActingLemmas.{Performs_acting}
-use Rattle.tsp_candidate.proofs.candidature.begin_candidature.Goals as goal
+use Rattle.tsp_candidate.proofs.candidature.stand.Goals as goal
 
 pub returns-clause-row : goal.returns-clause-row
 unfolding candidature_row backs_own
