@@ -128,6 +128,7 @@ fn port_of(word: &[u8]) -> Option<Port>
 /// The place that a word names: a peer's number, or a dash for a stranger.
 pub(crate) fn place_of(word: &[u8]) -> Option<Place>
     ensures reads { (p : Place) → IsPlace p → word.now ≡ place_text p → result ≡ Some p }
+    ensures found { IfSome result (λ p. word.now ≡ place_text p) }
     ensures range { IfSome result IsPlace }
 {
     if is_same(word, b"-") {

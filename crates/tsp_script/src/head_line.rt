@@ -11,7 +11,7 @@ ghost use Rattle.tsp_script.specs.Schedules.{is_host, flag_text, node_text, IsHo
 
 use crate::line_fault::LineFault;
 use crate::net_line::net_line;
-use crate::numbers::{append, append_next_signed, append_number, next_signed, number_of};
+use crate::numbers::{append, append_next_signed, append_number, front_signed, number_of};
 use crate::words::{cut, is_same};
 use arrayvec::ArrayVec;
 use tsp_base::constants::SCHEDULE_END;
@@ -86,9 +86,9 @@ fn read_node(line: &[u8]) -> Option<NodeLine>
 {
     let (name, line) = cut(line);
     let name = host_of(name)?;
-    let (rate, line) = next_signed(line)?;
+    let (rate, line) = front_signed(line)?;
     let rate = rate_of(rate)?;
-    let (wall, line) = next_signed(line)?;
+    let (wall, line) = front_signed(line)?;
     if wall.unsigned_abs() > SCHEDULE_END {
         return None;
     }

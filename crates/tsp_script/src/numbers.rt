@@ -11,7 +11,7 @@ ghost use Rattle.hex.specs.Hex.{decode_of, encode_lower};
 use crate::decimals::append_decimal;
 use crate::eights::eight_digits;
 use crate::hexes::value_of;
-use crate::words::{cut, mark_at};
+use crate::words::{cut, front_word, mark_at};
 use arrayvec::ArrayVec;
 use itoa::Buffer;
 use std::str;
@@ -327,16 +327,15 @@ fn front_by_mark(line: &[u8]) -> Option<(u64, &[u8])>
     Some((number, rest))
 }
 
-/// The number, maybe with a dash, before the first space, and what follows the space. It also accepts a line
-/// without a space.
-pub(crate) fn next_signed(line: &[u8]) -> Option<(i64, &[u8])>
-    ensures found { IfSome result (λ r. 0 < length r.1.now
-        → line.now ≡ signed_decimal r.0 ++ 32 ∷ r.1.now) }
+/// The number, maybe with a dash, before the first space, and what follows the space; None where there is no
+/// space.
+pub(crate) fn front_signed(line: &[u8]) -> Option<(i64, &[u8])>
+    ensures found { IfSome result (λ r. line.now ≡ signed_decimal r.0 ++ 32 ∷ r.1.now) }
     ensures reads { (n : ℤ) (rest : List ℕ) → FitsSigned w64 n
         → line.now ≡ signed_decimal n ++ 32 ∷ rest
         → IsSomeAnd result (λ r. (r.0 ≡ n) × (r.1.now ≡ rest)) }
 {
-    let (word, rest) = cut(line);
+    let (word, rest) = front_word(line)?;
     let number = signed_of(word)?;
     Some((number, rest))
 }
