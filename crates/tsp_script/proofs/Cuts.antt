@@ -76,7 +76,7 @@ pub cut_front : (line word rest : List ℕ) → ¬ Contains word 32 → line ≡
 cut_front line word rest n e = mark_front 32 line word rest n e
 
 -- a line with something behind its first mark
-line_of_marks : (m : ℕ) (line : List ℕ) → 0 < length (after_mark m line) → line ≡ before_mark m line ++ m ∷ after_mark m line
+pub line_of_marks : (m : ℕ) (line : List ℕ) → 0 < length (after_mark m line) → line ≡ before_mark m line ++ m ∷ after_mark m line
 line_of_marks m [] h = absurd (omega arith)
 line_of_marks m (c ∷ cs) h = elim (eqb_tells c m) [
   | inl e ↦ rw (before_mark-mark m c cs e.1, after_mark-mark m c cs e.1) (ap (λ x. x ∷ cs) e.1)

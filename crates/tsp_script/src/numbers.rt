@@ -11,7 +11,7 @@ ghost use Rattle.hex.specs.Hex.{decode_of, encode_lower};
 use crate::decimals::append_decimal;
 use crate::eights::eight_digits;
 use crate::hexes::value_of;
-use crate::words::{cut, front_word, mark_at};
+use crate::words::{front_word, mark_at};
 use arrayvec::ArrayVec;
 use itoa::Buffer;
 use std::str;
@@ -262,18 +262,6 @@ pub fn octets_in(line: &[u8], buffer: &mut [u8; 512]) -> Option<usize>
         buffer[place] = high * 16 + low;
     }
     Some(count)
-}
-
-/// The number before the first space, and what follows the space. It also accepts a line without a space.
-pub(crate) fn next_number(line: &[u8]) -> Option<(u64, &[u8])>
-    ensures found { IfSome result (λ r. (r.0 < 2 ^ 64) × (0 < length r.1.now
-        → line.now ≡ decimal r.0 ++ 32 ∷ r.1.now)) }
-    ensures reads { (n : ℕ) (rest : List ℕ) → n < 2 ^ 64 → line.now ≡ decimal n ++ 32 ∷ rest
-        → IsSomeAnd result (λ r. (r.0 ≡ n) × (r.1.now ≡ rest)) }
-{
-    let (word, rest) = cut(line);
-    let number = number_of(word)?;
-    Some((number, rest))
 }
 
 /// The number before the first space, and what follows the space; None where there is no space.
