@@ -47,6 +47,7 @@ impl<C: EventHandler> Run<C> {
     }
 
     /// Reads a line after the header: an event, or the last line.
+    #[inline(always)]
     pub(crate) fn advance(&mut self, line: &[u8]) -> Result<(), Stop>
         ensures next { (p : Progress) → RunStands C.stands p self.old
             → MatchResult result (λ _. RunAdvances C.refused C.stands p line.now self.new)

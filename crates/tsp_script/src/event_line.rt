@@ -91,6 +91,7 @@ fn front_time(line: &[u8]) -> Option<(u64, &[u8])>
 }
 
 /// The event of the most frequent lines, a turn or a take; None exactly where the line is neither's.
+#[inline(always)]
 pub fn plain_line(line: &[u8]) -> Option<Plain>
     ensures found { IfSome result (λ plain. IsTurnOrTake plain
         × SpellsEvent line.now (EventItem.Event (event_in plain))) }
