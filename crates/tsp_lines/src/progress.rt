@@ -77,6 +77,7 @@ impl Progress {
     }
 
     /// The next line. What is held is written before more of the input is read.
+    #[inline(always)]
     fn next<S: Source, K: Sink>(&mut self, source: &mut S, sink: &mut K) -> Result<Next, Unwritten>
         requires open { S.ended source.old ≡ false }
         ensures next { IfOk result (λ next. (octets : List ℕ)

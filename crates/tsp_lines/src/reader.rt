@@ -171,6 +171,7 @@ impl LineReader {
     }
 
     /// The next line, or `Limit`, where that needs no read; None where more has to be read first.
+    #[inline(always)]
     pub fn next_held(&mut self) -> Option<Next>
         ensures next { MatchOption result (NoFeed self.old.held × (self.new.held ≡ self.old.held)
             × (self.new.got ≤ self.new.limit)) (λ next. IsNext self.new self.old.held next

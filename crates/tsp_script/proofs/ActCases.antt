@@ -1,5 +1,5 @@
 -- An act with the word of a post is a post, and every other act has no number.
-use Rattle.std.proofs.Common.{◌≡◌, ◌≢◌, ℕ, ◌<◌, ◌^◌, List, ◌∷◌, ◌++◌, refl}
+use Rattle.std.proofs.Common.{◌≡◌, ◌≢◌, ◌⊎◌, inl, inr, ℕ, ◌<◌, ◌^◌, List, ◌∷◌, ◌++◌, refl}
 use Rattle.std.specs.Prelude.{decimal}
 use Rattle.tsp_base.specs.declared.act.Act.{Act}
 use Rattle.tsp_base.specs.declared.act.Act.TheVariants.{Post}
@@ -11,7 +11,8 @@ use Rattle.tsp_script.specs.Schedules.{IsPlace}
 use Rattle.tsp_script.specs.Texts.{message_text}
 use Rattle.tsp_script.specs.Traces.{place_text}
 use Rattle.tsp_script.specs.Verbs.{verb_of, rest_of_act}
-use Rattle.tsp_script.specs.declared.verbs.Verb.TheVariants.{Post as PostWord}
+use Rattle.tsp_script.specs.declared.verbs.Verb.{Verb}
+use Rattle.tsp_script.specs.declared.verbs.Verb.TheVariants.{Boot as BootWord, Post as PostWord, Abandon as AbandonWord}
 
 pub post_case : (Holds : ℕ → Act → Type 0) (rest : List ℕ) (number : ℕ) (a : Act) → IsAct a → IsNumberOf a number → PostWord ≡ verb_of a → rest ≡ rest_of_act number a
     → ((to : Place) (d : Datagram) → number < 2 ^ 64 → IsPlace to → IsDatagram d → rest ≡ decimal number ++ 32 ∷ (place_text to ++ 32 ∷ message_text d) → Holds number (Post to d)) → Holds number a
@@ -22,3 +23,7 @@ post_case Holds rest number _ is n v r h = absurd (cc)
 pub other_case : (rest : List ℕ) (number : ℕ) (a : Act) → IsNumberOf a number → PostWord ≢ verb_of a → rest ≡ rest_of_act number a → (number ≡ 0) × (rest ≡ rest_of_act 0 a)
 other_case rest number (Post to d) n v r = absurd (v refl)
 other_case rest number _ n v r = (n, r)
+
+pub post_differs : (v : Verb) → v ≡ PostWord → (v ≡ BootWord) ⊎ (v ≡ AbandonWord) → ⊥
+post_differs v p (inl b) = cc
+post_differs v p (inr b) = cc

@@ -1,6 +1,7 @@
 -- What stands behind an act's word: what was taken, and the parts of an act.
 use Rattle.std.proofs.Common.{◌≡◌, ℕ, List, ◌++◌, refl, sym, ◌∙◌, ap, arith, false, slice_index_or, append_assoc}
 use Rattle.std.specs.Prelude.{ℤ, codes}
+use Rattle.std.proofs.lemmas.List.{append_cancel_left}
 use Rattle.tsp_base.specs.Kinds.{kind_word}
 use Rattle.tsp_base.specs.declared.act.Act.TheVariants.{Sample, Close as CloseAct}
 use Rattle.tsp_base.specs.declared.datagram.Datagram.{Datagram}
@@ -14,7 +15,7 @@ use Rattle.tsp_base.specs.declared.place.PeerId.{PeerId}
 use Rattle.tsp_base.specs.declared.stamp.Stamp.TheVariants.{Request, Reply}
 use Rattle.tsp_script.specs.Texts.{message_text}
 use Rattle.tsp_script.specs.Traces.{fault_word, taken_text}
-use Rattle.tsp_script.specs.Words.{first_word, after_word}
+use Rattle.tsp_script.specs.Words.{first_word}
 use Rattle.tsp_script.proofs.Cuts.{cut_front}
 use Rattle.tsp_script.proofs.KindWords.{no_space-kind_word, no_space-spaceless}
 use Rattle.tsp_script.proofs.MessageLines.{message_rest, request_rest, reply_rest}
@@ -40,13 +41,10 @@ not_refused text (Message m) t w = kind_word-not_refused m.kind (sym (cut_front 
 not_refused text (StampOf (Request word counter)) t w = request_not_refused (first_word text) (cut_front text (codes "request") (request_rest word counter) (no_space-spaceless (codes "request") refl) (t ∙ simp append_assoc)).0 w
 not_refused text (StampOf (Reply r)) t w = reply_not_refused (first_word text) (cut_front text (codes "reply") (reply_rest r) (no_space-spaceless (codes "reply") refl) (t ∙ simp append_assoc)).0 w
 
-refused_splits : (text : List ℕ) (f : DecodeFault) → text ≡ codes "refused " ++ fault_word f → (first_word text ≡ codes "refused") × (after_word text ≡ fault_word f)
-refused_splits text f t = cut_front text (codes "refused") (fault_word f) (no_space-spaceless (codes "refused") refl) t
-
 -- behind `refused` stands a fault
-pub refused_case : (Holds : Taken → Type 0) (text : List ℕ) (t : Taken) → text ≡ taken_text t → first_word text ≡ codes "refused" → ((f : DecodeFault) → after_word text ≡ fault_word f → Holds (Bad f)) → Holds t
-refused_case Holds text (Good d) e w h = absurd (not_refused text d e w)
-refused_case Holds text (Bad f) e w h = h f (refused_splits text f e).1
+pub refused_case : (Holds : Taken → Type 0) (text rest : List ℕ) (t : Taken) → text ≡ taken_text t → text ≡ codes "refused " ++ rest → ((f : DecodeFault) → rest ≡ fault_word f → Holds (Bad f)) → Holds t
+refused_case Holds text rest (Good d) e w h = absurd (not_refused text d e (cut_front text (codes "refused") rest (no_space-spaceless (codes "refused") refl) w).0)
+refused_case Holds text rest (Bad f) e w h = h f (append_cancel_left (codes "refused ") _ _ (sym w ∙ e))
 
 -- acts of equal parts
 pub sample_of_parts : (n counter : ℕ) (diff err : ℤ) (ticket : ℕ) (p : PeerId) (other : ℕ) (near wide : ℤ) (drawn : ℕ) → n ≡ p.0 → counter ≡ other → diff ≡ near → err ≡ wide → ticket ≡ drawn

@@ -76,12 +76,25 @@ pub cut_front : (line word rest : List ℕ) → ¬ Contains word 32 → line ≡
 cut_front line word rest n e = mark_front 32 line word rest n e
 
 -- a line with something behind its first mark
-line_of_marks : (m : ℕ) (line : List ℕ) → 0 < length (after_mark m line) → line ≡ before_mark m line ++ m ∷ after_mark m line
+pub line_of_marks : (m : ℕ) (line : List ℕ) → 0 < length (after_mark m line) → line ≡ before_mark m line ++ m ∷ after_mark m line
 line_of_marks m [] h = absurd (omega arith)
 line_of_marks m (c ∷ cs) h = elim (eqb_tells c m) [
   | inl e ↦ rw (before_mark-mark m c cs e.1, after_mark-mark m c cs e.1) (ap (λ x. x ∷ cs) e.1)
   | inr e ↦ rw (before_mark-other m c cs e.1, after_mark-other m c cs e.1) (ap (λ xs. c ∷ xs) (line_of_marks m cs (let k = h in rw (after_mark-other m c cs e.1) at k)))
 ]
+
+-- a line with a mark at a place
+pub line_at : (m : ℕ) (line : List ℕ) (i : ℕ) → i < length line → slice_index_or line i 0 ≡ m → line ≡ take i line ++ m ∷ drop (suc i) line
+line_at m [] i h e = absurd (omega arith)
+line_at m (c ∷ cs) zero h e = ap (λ x. x ∷ cs) e
+line_at m (c ∷ cs) (suc i) h e = ap (λ xs. c ∷ xs) (line_at m cs i (omega arith) e)
+
+mark_inside : (m : ℕ) (word rest : List ℕ) → Contains (word ++ m ∷ rest) m
+mark_inside m [] rest = contains_first m rest m refl
+mark_inside m (c ∷ cs) rest = contains_later m (cs ++ m ∷ rest) c (mark_inside m cs rest)
+
+pub space_inside : (line word rest : List ℕ) → line ≡ word ++ 32 ∷ rest → Contains line 32
+space_inside line word rest e = subst (λ l. Contains l 32) (sym e) (mark_inside 32 word rest)
 
 pub cut_back : (line word rest text : List ℕ) → word ≡ first_word line → rest ≡ after_word line → word ≡ text → 0 < length rest → line ≡ text ++ 32 ∷ rest
 cut_back line word rest text v r e h =

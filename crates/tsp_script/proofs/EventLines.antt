@@ -1,5 +1,5 @@
 -- Laws of the lines of events.
-use Rattle.std.proofs.Common.{◌≡◌, ℕ, ◌<◌, ◌≤◌, ◌^◌, List, [], ◌∷◌, ◌++◌, length, refl, sym, ◌∙◌, arith, Some, append_assoc, Ok}
+use Rattle.std.proofs.Common.{◌≡◌, ℕ, ◌≤◌, List, ◌∷◌, ◌++◌, length, refl, sym, ◌∙◌, arith, Some, append_assoc, Ok}
 use Rattle.std.specs.Prelude.{decimal, codes, Contains}
 use Rattle.std.specs.Str.Parse.{AllDigits}
 use Rattle.std.proofs.lemmas.Fmt.{decimal_is_IsNumeral}
@@ -11,8 +11,12 @@ use Rattle.tsp_base.specs.declared.place.Place.{Place}
 use Rattle.tsp_base.specs.declared.place.Port.{Port}
 use Rattle.tsp_base.specs.declared.place.Place.TheVariants.{Peer, Stranger}
 use Rattle.tsp_base.specs.declared.plain.Plain.TheVariants.{Turn as PlainTurn, Take as PlainTake}
-use Rattle.tsp_script.specs.Plains.{IsNotPlain}
-use Rattle.tsp_script.specs.Schedules.{event_text, port_text, IsHexOf, IsPlace, IsTrueTime, IsEvent}
+use Rattle.tsp_base.specs.Plains.{event_in}
+use Rattle.tsp_base.specs.declared.plain.Plain.{Plain}
+use Rattle.tsp_script.specs.Plains.{IsTurnOrTake}
+use Rattle.tsp_script.specs.declared.event_line.EventItem.{EventItem}
+use Rattle.tsp_script.specs.declared.event_line.EventItem.TheVariants.{Event as EventOf, End}
+use Rattle.tsp_script.specs.Schedules.{event_text, port_text, IsPlace, IsTrueTime, IsEvent, SpellsEvent}
 use Rattle.tsp_script.specs.Traces.{place_text}
 use Rattle.tsp_script.specs.Words.{after_word}
 use Rattle.tsp_script.proofs.Cuts.{cut_front, no_space-decimal}
@@ -33,11 +37,6 @@ no_space-place (Peer p) h = no_space-decimal p.0 (omega arith)
 -- the hexadecimal of few octets is short
 pub short_hex : (hex octets : List ℕ) → decode_of hex ≡ Ok octets → length octets ≤ 300 → length hex ≤ 600
 short_hex hex octets e h = omega (arith, (decode_of-ok hex octets e).2)
-
--- octets handed by equal parts
-pub bytes_of_parts : (at node other : ℕ) (port stroke : Port) (from place : Place) (octets handed : List ℕ) → node ≡ other → port ≡ stroke → from ≡ place → octets ≡ handed
-    → Bytes at node port from octets ≡ Bytes at other stroke place handed
-bytes_of_parts at node other port stroke from place octets handed n q p o = rw (n, q, p, o) refl
 
 -- the time, the word and what follows it in an event's line
 abbrev pub at_of : Event → ℕ
@@ -80,30 +79,14 @@ no_space-verb_of (Turn at node) = no_space-spaceless (codes "turn") refl
 no_space-verb_of (Take at datagram) = no_space-spaceless (codes "take") refl
 no_space-verb_of (Bytes at node port from octets) = no_space-spaceless (codes "bytes") refl
 
--- a line with `bytes` hands octets
-pub bytes_reads : (Holds : Event → List ℕ → Type 0) (at : ℕ) (line hex : List ℕ) (e : Event) → IsEvent e → IsHexOf hex e → at ≡ at_of e
-    → codes "bytes" ≡ verb_of e → line ≡ rest_of e hex
-    → ((node : ℕ) (port : Port) (from : Place) (octets : List ℕ) → node < 2 ^ 32 → port.0 < 2 ^ 8 → IsPlace from → 1 ≤ length octets → length octets ≤ 300 → decode_of hex ≡ Ok octets
-    → line ≡ (decimal node ++ port_text port) ++ 32 ∷ (place_text from ++ 32 ∷ hex) → Holds (Bytes at node port from octets) hex)
-    → Holds e hex
-bytes_reads Holds at line hex (Boot t node word) h x a v l reads = absurd (cc)
-bytes_reads Holds at line hex (Turn t node) h x a v l reads = absurd (cc)
-bytes_reads Holds at line hex (Take t datagram) h x a v l reads = absurd (cc)
-bytes_reads Holds at line hex (Bytes t node port from octets) h x a v l reads =
-    let made = reads node port from octets h.1 h.2 h.3 h.4 h.5 x l in
-    let here : at ≡ t = a in
-    rw here at made
-
--- every other line that is no turn's and no take's is a boot's
-pub boot_reads : (Holds : Event → List ℕ → Type 0) (at : ℕ) (whole verb line hex : List ℕ) (e : Event) → IsNotPlain whole → whole ≡ event_text e hex → IsEvent e → IsHexOf hex e → at ≡ at_of e
-    → verb ≡ verb_of e → line ≡ rest_of e hex → (verb ≡ codes "bytes" → ⊥)
-    → ((node word : ℕ) → node < 2 ^ 32 → word < 2 ^ 64 → verb ≡ codes "boot" → line ≡ decimal node ++ 32 ∷ decimal word → Holds (Boot at node word) [])
-    → Holds e hex
-boot_reads Holds at whole verb line hex (Boot t node word) p w h x a v l n reads =
-    let made = reads node word h.1 h.2 v l in
-    let here : at ≡ t = a in
-    let none : hex ≡ [] = x in
-    rw none (rw here at made)
-boot_reads Holds at whole verb line hex (Turn t node) p w h x a v l n reads = absurd (p (PlainTurn t node) tt (h, (hex, x, w)))
-boot_reads Holds at whole verb line hex (Take t datagram) p w h x a v l n reads = absurd (p (PlainTake t datagram) tt (h, (hex, x, w)))
-boot_reads Holds at whole verb line hex (Bytes t node port from octets) p w h x a v l n reads = absurd (n v)
+-- a line of no event of any kind, and not the last, is no item's
+pub no_item : (line : List ℕ) (item : EventItem) → SpellsEvent line item
+    → ((at node : ℕ) (port : Port) (from : Place) (octets : List ℕ) → SpellsEvent line (EventOf (Bytes at node port from octets)) → ⊥)
+    → ((at node word : ℕ) → SpellsEvent line (EventOf (Boot at node word)) → ⊥)
+    → ((plain : Plain) → IsTurnOrTake plain → SpellsEvent line (EventOf (event_in plain)) → ⊥)
+    → (line ≡ codes "end" → ⊥) → ⊥
+no_item line (EventOf (Bytes at node port from octets)) s bytes boot plain end = bytes at node port from octets s
+no_item line (EventOf (Boot at node word)) s bytes boot plain end = boot at node word s
+no_item line (EventOf (Turn at node)) s bytes boot plain end = plain (PlainTurn at node) tt s
+no_item line (EventOf (Take at datagram)) s bytes boot plain end = plain (PlainTake at datagram) tt s
+no_item line End s bytes boot plain end = end s

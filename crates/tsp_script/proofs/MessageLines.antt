@@ -1,8 +1,6 @@
 -- Laws of message lines.
 use Rattle.std.proofs.Common.{◌≡◌, ℕ, ◌<◌, ◌^◌, List, ◌∷◌, ◌++◌, length, refl, sym, ap, ◌∙◌, Option, Some, None, append_assoc, length-append, arith, true}
-use Rattle.std.specs.Prelude.{IfSome, ℤ, pos, negsuc, ◌<ℤ◌, decimal, codes}
-use Rattle.std.proofs.lemmas.Fmt.{decimal_nonempty}
-use Rattle.std.proofs.lemmas.Int.{ints}
+use Rattle.std.specs.Prelude.{IfSome, decimal, codes}
 use Rattle.std.specs.Fmt.{signed_decimal}
 use Rattle.hex.specs.Hex.{IsBytes}
 use Rattle.tsp_base.specs.Kinds.{kind_word}
@@ -18,7 +16,6 @@ use Rattle.tsp_script.specs.Ranges.{IsBody, IsMessage, IsDatagram}
 use Rattle.tsp_script.specs.Texts.{body_text, name_text, message_line, reply_text, stamp_text, message_text}
 use Rattle.tsp_script.specs.Words.{first_word, after_word}
 use Rattle.tsp_script.proofs.Cuts.{cut_front, cut_back}
-use Rattle.tsp_script.proofs.NameTexts.{name_text_some}
 use Rattle.tsp_script.proofs.KindWords.{no_space-kind_word, no_space-spaceless, kind_word-not_request, kind_word-not_reply}
 
 -- what stands behind the word of a message, a request or a reply
@@ -94,37 +91,27 @@ some_behind : (line front rest : List ℕ) → line ≡ front ++ 32 ∷ rest →
 some_behind line front rest e = omega (arith, ap length e, length-append front (32 ∷ rest))
 
 -- what was read as the parts of a request, of a reply or of a message
-pub request_found : (line rest : List ℕ) (word counter : ℕ) → word < 2 ^ 64 → counter < 2 ^ 64 → (0 < length rest → line ≡ decimal word ++ 32 ∷ rest) → rest ≡ decimal counter
+pub request_found : (line rest : List ℕ) (word counter : ℕ) → word < 2 ^ 64 → counter < 2 ^ 64 → line ≡ decimal word ++ 32 ∷ rest → rest ≡ decimal counter
     → IsRestOf (codes "request") line (StampOf (Request word counter))
 request_found line rest word counter h k f e =
-    let l : line ≡ request_rest word counter = f (omega (arith, ap length e, decimal_nonempty counter k)) ∙ rw e refl in
+    let l : line ≡ request_rest word counter = f ∙ rw e refl in
     ((h, k), some_behind line (decimal word) (decimal counter) l, rw l (sym (request_form word counter)))
 
-signed_some : (t : ℤ) → t <ℤ pos 2147483648000000 → 0 < length (signed_decimal t)
-signed_some (pos n) h = decimal_nonempty n (omega (arith, ints, h))
-signed_some (negsuc n) h = omega arith
-
 pub reply_found : (line a b rest : List ℕ) (r : ReplyValue) → r.word < 2 ^ 64 → r.counter < 2 ^ 64 → IsReply r.ticket r.reading
-    → (0 < length a → line ≡ decimal r.ticket ++ 32 ∷ a) → (0 < length b → a ≡ decimal r.word ++ 32 ∷ b) → (0 < length rest → b ≡ decimal r.counter ++ 32 ∷ rest) → rest ≡ signed_decimal r.reading
+    → line ≡ decimal r.ticket ++ 32 ∷ a → a ≡ decimal r.word ++ 32 ∷ b → b ≡ decimal r.counter ++ 32 ∷ rest → rest ≡ signed_decimal r.reading
     → IsRestOf (codes "reply") line (StampOf (Reply r))
 reply_found line a b rest r h k v f g i e =
-    let s = i (omega (arith, ap length e, signed_some r.reading v.high)) in
-    let t = g (some_behind b _ rest s) in
-    let u = f (some_behind a _ b t) in
-    let l : line ≡ reply_rest r = u ∙ rw (t, s, e) refl in
-    ((h, k, v), some_behind line _ a u, rw l (sym (reply_form r)))
+    let l : line ≡ reply_rest r = f ∙ rw (g, i, e) refl in
+    ((h, k, v), some_behind line _ a f, rw l (sym (reply_form r)))
 
 pub plain_found : (word line more rest : List ℕ) (kind : Kind) (number : ℕ) (body : Body) (name : List ℕ) (m : MessageValue) → word ≡ kind_word kind → number < 2 ^ 16
     → IsBody body → body_fits kind body ≡ true → IsName name × IsBytes name × (rest ≡ name_text name)
-    → (0 < length more → line ≡ decimal number ++ 32 ∷ more) → (0 < length rest → more ≡ body_text body ++ rest)
+    → line ≡ decimal number ++ 32 ∷ more → more ≡ body_text body ++ rest
     → m ≡ record { kind = kind; number = number; body = body; name = name } → IsRestOf word line (Message m)
 plain_found word line more rest kind number body name m w h b fits n f g e =
-    let s : 0 < length rest = omega (arith, ap length n.2, name_text_some name) in
-    let t = g s in
-    let u = f (omega (arith, s, ap length t, length-append (body_text body) rest)) in
     let whole : word ++ 32 ∷ line ≡ message_line (record { kind = kind; number = number; body = body; name = name }) =
-    rw (w, u, t, n.2) (sym (message_form (record { kind = kind; number = number; body = body; name = name }))) in
-    rw e (record { number = h; fits = fits; body = b; name = n.0; octets = n.1 }, some_behind line _ more u, whole)
+    rw (w, f, g, n.2) (sym (message_form (record { kind = kind; number = number; body = body; name = name }))) in
+    rw e (record { number = h; fits = fits; body = b; name = n.0; octets = n.1 }, some_behind line _ more f, whole)
 
 -- the line of a word and what was read behind it
 pub line_found : (r : Option Datagram) (line word rest text : List ℕ) → word ≡ first_word line → rest ≡ after_word line → word ≡ text → IfSome r (IsRestOf text rest)

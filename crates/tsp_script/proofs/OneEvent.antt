@@ -78,3 +78,13 @@ SpellsEvent-one line (EventOf e) (EventOf f) s t = ap EventOf (events_apart line
 SpellsEvent-one line (EventOf e) End s t = absurd (event_text-end e s.1.0 (sym s.1.2 ∙ t))
 SpellsEvent-one line End (EventOf f) s t = absurd (event_text-end f t.1.0 (sym t.1.2 ∙ s))
 SpellsEvent-one line End End s t = refl
+
+-- a place in front of a space is one place
+pub places_apart : (line : List ℕ) (p q : Place) (r s : List ℕ) → IsPlace p → IsPlace q → line ≡ place_text p ++ 32 ∷ r → line ≡ place_text q ++ 32 ∷ s → (p ≡ q) × (r ≡ s)
+places_apart line p q r s h k e f =
+    let w = words_apart (place_text p) (place_text q) r s (no_space-place p h) (no_space-place q k) (sym e ∙ f) in
+    (place_text-injective p q h k w.0, w.1)
+
+pub no_place : (line rest : List ℕ) (p : Place) → IsPlace p → line ≡ place_text p ++ 32 ∷ rest → ((rest : List ℕ) → line ≡ codes "- " ++ rest → ⊥) → ((n : ℕ) → n < 2 ^ 32 → line ≡ decimal n ++ 32 ∷ rest → ⊥) → ⊥
+no_place line rest Stranger h e stranger peer = stranger rest e
+no_place line rest (Peer p) h e stranger peer = peer p.0 h e

@@ -1,6 +1,6 @@
 -- Laws of answers: an answer is one thing alone.
 use Rattle.std.proofs.Common.{◌≡◌, Option, Some, None, Result, Ok, Err, Bool, true, false}
-use Rattle.std.specs.Prelude.{IfSome}
+use Rattle.std.specs.Prelude.{IfSome, IfNone}
 
 pub some_injective : {A : Type 0} (a b : A) → Some a ≡ Some b → a ≡ b
 some_injective a b p = cc
@@ -27,3 +27,7 @@ true_or_false b p q = cc
 pub if_some-then : {A : Type 0} {P Q : A → Type 0} (r : Option A) → ((a : A) → P a → Q a) → IfSome r P → IfSome r Q
 if_some-then None f h = h
 if_some-then (Some a) f h = f a h
+
+pub if_none : {A P : Type 0} (r : Option A) → P → IfNone r P
+if_none None p = p
+if_none (Some a) p = tt

@@ -1,13 +1,11 @@
 -- Laws of the lines of turns and takes.
-use Rattle.std.proofs.Common.{◌≡◌, ◌∙◌, ◌<◌, ◌≤◌, ◌^◌, ℕ, List, ◌∷◌, ◌++◌, refl, sym, ap, length, Option, Some, arith}
-use Rattle.std.proofs.lemmas.Fmt.{length-decimal-le}
+use Rattle.std.proofs.Common.{◌≡◌, ◌∙◌, ◌<◌, ◌^◌, ℕ, List, ◌∷◌, ◌++◌, refl, sym, ap, length, Option, Some, arith}
 use Rattle.std.proofs.lemmas.List.{length-append}
 use Rattle.std.specs.Prelude.{decimal, codes, Contains}
 use Rattle.tsp_script.specs.declared.event_line.EventItem.TheVariants.{Event as EventOf}
 use Rattle.tsp_base.specs.declared.plain.Plain.{Plain}
 use Rattle.tsp_base.specs.declared.plain.Plain.TheVariants.{Boot, Turn, Take}
 use Rattle.tsp_base.specs.Plains.{event_in}
-use Rattle.tsp_script.specs.Plains.{IsTurnOrTake}
 use Rattle.tsp_script.specs.Schedules.{SpellsEvent, IsEvent}
 use Rattle.tsp_script.proofs.Apart.{words_apart}
 use Rattle.tsp_script.proofs.Cuts.{before_mark-alone, cut_front, no_space-decimal}
@@ -26,18 +24,6 @@ no_front line rest n h none e =
 pub plain_front : (line : List ℕ) (plain : Plain) (s : SpellsEvent line (EventOf (event_in plain)))
     → line ≡ codes "at " ++ (decimal (at_of (event_in plain)) ++ 32 ∷ (verb_of (event_in plain) ++ 32 ∷ rest_of (event_in plain) s.1.0))
 plain_front line plain s = s.1.2 ∙ event_parts (event_in plain) s.1.0
-
--- a line of a turn or a take is short
-pub plain_short : (line : List ℕ) (plain : Plain) → IsTurnOrTake plain → SpellsEvent line (EventOf (event_in plain)) → length line ≤ 45
-plain_short line (Boot t node word) i s = absurd i
-plain_short line (Turn t node) i s =
-    let e = simp length-append at (ap length s.1.2) in
-    let front = length-decimal-le 16 t (omega arith) (omega (arith, s.0.0)) (omega (arith, s.0.0)) in
-    omega (arith, e, front, length-decimal-le 10 node (omega arith) (omega (arith, s.0.1)) (omega (arith, s.0.1)))
-plain_short line (Take t datagram) i s =
-    let e = simp length-append at (ap length s.1.2) in
-    let front = length-decimal-le 16 t (omega arith) (omega (arith, s.0.0)) (omega (arith, s.0.0)) in
-    omega (arith, e, front, length-decimal-le 20 datagram (omega arith) (omega (arith, s.0.1)) s.0.1)
 
 -- the word of an event's line, and what follows it
 pub verb_is : (line rest hex word : List ℕ) (plain : Plain) → ¬ Contains word 32 → line ≡ word ++ 32 ∷ rest → line ≡ verb_of (event_in plain) ++ 32 ∷ rest_of (event_in plain) hex

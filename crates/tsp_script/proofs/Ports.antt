@@ -1,14 +1,19 @@
 -- Laws of a node's number with its port.
-use Rattle.std.proofs.Common.{◌≡◌, ℕ, ◌<◌, ◌^◌, List, [], ◌∷◌, ◌++◌, Bool, true, false, ◌==◌, if◌then◌else◌, length, refl, sym, ap, ◌∙◌, inl, inr, arith}
+use Rattle.std.proofs.Common.{◌≡◌, ℕ, ◌<◌, ◌^◌, List, [], ◌∷◌, ◌++◌, Bool, true, false, ◌==◌, if◌then◌else◌, length, refl, sym, ap, ◌∙◌, ◌⊎◌, inl, inr, zero, suc, arith}
 use Rattle.std.specs.Prelude.{decimal, Contains}
 use Rattle.std.proofs.lemmas.Bool.{eqb-true}
 use Rattle.std.proofs.lemmas.Fmt.{decimal_is_IsNumeral, decimal_injective}
 use Rattle.std.proofs.lemmas.List.{append-nil}
 use Rattle.std.proofs.lemmas.List.Elements.{Contains-append_cases}
 use Rattle.tsp_base.specs.declared.place.Port.{Port}
-use Rattle.tsp_script.specs.Schedules.{port_text, NamesPort}
+use Rattle.tsp_script.specs.Schedules.{port_text}
 use Rattle.tsp_script.specs.Words.{before_mark, after_mark}
-use Rattle.tsp_script.proofs.Cuts.{mark_front, before_mark-alone, after_mark-alone, no_slash-decimal, no_space-decimal, no_space-later}
+use Rattle.tsp_script.proofs.Apart.{words_apart}
+use Rattle.tsp_script.proofs.Cuts.{mark_front, line_of_marks, before_mark-alone, after_mark-alone, no_slash-decimal, no_space-decimal, no_space-later}
+
+-- the word after a node's slash is this port's: its number, or nothing for port 0
+abbrev NamesPort : List ℕ → Port → Type 0
+NamesPort word port = ((port ≡ record { 0 = 0 }) × (word ≡ [])) ⊎ (word ≡ decimal port.0)
 
 parts_by : (node : ℕ) (port : Port) (word : List ℕ) → node < 2 ^ 64 → (b : Bool) → (port.0 == 0) ≡ b → word ≡ decimal node ++ (if b then [] else 47 ∷ decimal port.0)
     → (before_mark 47 word ≡ decimal node) × NamesPort (after_mark 47 word) port
@@ -21,18 +26,13 @@ parts_by node port word h false z e =
     (p.0, inr p.1)
 
 -- a node's number and its port are parted by the first stroke
-pub port_parts : (node : ℕ) (port : Port) (word : List ℕ) → node < 2 ^ 64 → word ≡ decimal node ++ port_text port
+port_parts : (node : ℕ) (port : Port) (word : List ℕ) → node < 2 ^ 64 → word ≡ decimal node ++ port_text port
     → (before_mark 47 word ≡ decimal node) × NamesPort (after_mark 47 word) port
 port_parts node port word h e = parts_by node port word h (port.0 == 0) refl e
 
 -- a number has a digit
 decimal_some : (n : ℕ) → n < 2 ^ 64 → [] ≡ decimal n → ⊥
 decimal_some n h e = let z : 0 ≡ length (decimal n) = ap length e in omega (arith, z, (decimal_is_IsNumeral n h).0.0)
-
--- an empty word is port 0
-pub port_none : (word : List ℕ) (port : Port) → length word ≡ 0 → port.0 < 2 ^ 8 → NamesPort word port → record { 0 = 0 } ≡ port
-port_none word port e h (inl a) = sym a.0
-port_none word port e h (inr a) = absurd (let z : length word ≡ length (decimal port.0) = ap length a in omega (arith, z, e, (decimal_is_IsNumeral port.0 (omega (arith, h))).0.0))
 
 -- a word is one port's
 one_port : (p q : Port) (word : List ℕ) → p.0 < 2 ^ 64 → q.0 < 2 ^ 64 → NamesPort word p → NamesPort word q → p ≡ q
@@ -57,3 +57,38 @@ no_space-by node port false h k c = elim (Contains-append_cases (decimal node) (
 
 pub no_space-port : (node : ℕ) (port : Port) → node < 2 ^ 64 → port.0 < 2 ^ 64 → ¬ Contains (decimal node ++ port_text port) 32
 no_space-port node port h k = no_space-by node port (port.0 == 0) h k
+
+-- a port other than 0 is written behind a stroke
+port_text-some : (port : Port) → 0 < port.0 → port_text port ≡ 47 ∷ decimal port.0
+port_text-some port h = grind arith
+
+pub stroke_parts : (node : ℕ) (port : Port) (word : List ℕ) → node < 2 ^ 64 → 0 < port.0 → word ≡ decimal node ++ port_text port → (before_mark 47 word ≡ decimal node) × (after_mark 47 word ≡ decimal port.0)
+stroke_parts node port word h s e = mark_front 47 word (decimal node) (decimal port.0) (no_slash-decimal node h) (e ∙ rw (port_text-some port s) refl)
+
+pub node_found : (word front rest : List ℕ) (node : ℕ) (port : Port) → front ≡ before_mark 47 word → rest ≡ after_mark 47 word → front ≡ decimal node → rest ≡ decimal port.0 → 0 < port.0 → port.0 < 2 ^ 8 → word ≡ decimal node ++ port_text port
+node_found word front rest node port f r n p h k =
+    let some : 0 < length (after_mark 47 word) = omega (arith, ap length r, ap length p, (decimal_is_IsNumeral port.0 (omega (arith, k))).0.0) in
+    line_of_marks 47 word some ∙ rw (sym f ∙ n, sym r ∙ p, port_text-some port h) refl
+
+-- port 0 isn't written
+pub port_none : (line rest : List ℕ) (node : ℕ) → line ≡ decimal node ++ 32 ∷ rest → line ≡ (decimal node ++ port_text (record { 0 = 0 })) ++ 32 ∷ rest
+port_none line rest node e = e ∙ ap (λ (w : List ℕ). w ++ 32 ∷ rest) (sym (append-nil (decimal node)))
+
+-- a node's number and its port in front of a space are one node's and one port's
+pub nodes_apart : (line : List ℕ) (m n : ℕ) (p q : Port) (r s : List ℕ) → m < 2 ^ 64 → n < 2 ^ 64 → p.0 < 2 ^ 64 → q.0 < 2 ^ 64
+    → line ≡ (decimal m ++ port_text p) ++ 32 ∷ r → line ≡ (decimal n ++ port_text q) ++ 32 ∷ s → (m ≡ n) × (p ≡ q) × (r ≡ s)
+nodes_apart line m n p q r s h k i j e f =
+    let w = words_apart (decimal m ++ port_text p) (decimal n ++ port_text q) r s (no_space-port m p h i) (no_space-port n q k j) (sym e ∙ f) in
+    let a = ports_apart m n p q h k i j w.0 in
+    (a.0, a.1, w.1)
+
+number_cases : (n : ℕ) → (n ≡ 0) ⊎ (0 < n)
+number_cases zero = inl refl
+number_cases (suc n) = inr (omega arith)
+
+-- where no number stands in front of a space, a node's number has a port other than 0
+pub port_stands : (line rest : List ℕ) (node : ℕ) (port : Port) → line ≡ (decimal node ++ port_text port) ++ 32 ∷ rest → (line ≡ decimal node ++ 32 ∷ rest → ⊥) → 0 < port.0
+port_stands line rest node port e none = elim (number_cases port.0) [
+  | inl z ↦ absurd (none (e ∙ ap (λ (n : ℕ). (decimal node ++ port_text (record { 0 = n })) ++ 32 ∷ rest) z ∙ ap (λ (w : List ℕ). w ++ 32 ∷ rest) (append-nil (decimal node))))
+  | inr s ↦ s
+]

@@ -26,10 +26,6 @@ use Rattle.tsp_script.specs.declared.line_fault.LineFault.TheVariants.{Bad}
 abbrev pub port_text : Port → List ℕ
 port_text port = if port.0 == 0 then [] else 47 ∷ decimal port.0
 
--- the word after a node's slash is this port's: its number, or nothing for port 0
-abbrev pub NamesPort : List ℕ → Port → Type 0
-NamesPort word port = ((port ≡ record { 0 = 0 }) × (word ≡ [])) ⊎ (word ≡ decimal port.0)
-
 -- the line of an event, in which `hex` is the hexadecimal of the octets of a `bytes`
 abbrev pub event_text : Event → List ℕ → List ℕ
 event_text (Boot at node word) hex = codes "at " ++ decimal at ++ codes " boot " ++ decimal node ++ space ++ decimal word

@@ -1,5 +1,5 @@
 -- The words that begin an act's text, and what follows them.
-use Rattle.std.specs.Prelude.{ℕ, Option, None, Some, List, [], ◌∷◌, ◌++◌, Bool, true, false, decimal, codes}
+use Rattle.std.specs.Prelude.{◌≡◌, ℕ, Option, None, Some, List, [], ◌∷◌, ◌++◌, Bool, true, false, decimal, codes}
 use Rattle.std.specs.Fmt.{signed_decimal}
 use Rattle.tsp_base.specs.Alarms.{alarm_word}
 use Rattle.tsp_base.specs.declared.act.Act.{Act}
@@ -103,3 +103,7 @@ rest_of_act number (Close count lo width mean) = decimal count ++ 32 ∷ (signed
 rest_of_act number (Correct amount stepped shown) = signed_decimal amount ++ 32 ∷ (way_text stepped ++ 32 ∷ signed_decimal shown)
 rest_of_act number Abandon = []
 rest_of_act number (Trace on) = switch_text on
+
+-- an act, with this number, begins with this word, and this text follows the word and its space
+abbrev pub SpellsRest : Verb → ℕ → List ℕ → Act → Type 0
+SpellsRest verb number rest a = (verb ≡ verb_of a) × (rest ≡ rest_of_act number a)

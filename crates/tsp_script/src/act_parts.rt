@@ -1,8 +1,5 @@
-//! Reads what follows an act's word.
-//!
-//! Each function here reads every text that is written for an act, and may read others too. `act_of` writes
-//! the result again and compares, so that it accepts only what is written.
-ghost use Rattle.std.specs.Prelude.{◌≡◌, ◌≢◌, ℕ, ◌^◌, ◌<◌, ◌++◌, ◌∷◌, ℤ, Bool, true, false};
+//! Reads what follows an act's word: each function reads every text that is written for an act, and no other.
+ghost use Rattle.std.specs.Prelude.{◌≡◌, ℕ, ◌^◌, ◌<◌, ◌++◌, ◌∷◌, ℤ, Bool};
 ghost use Rattle.std.specs.Prelude.{decimal, Some, IfSome, IsSomeAnd};
 ghost use Rattle.std.specs.Fmt.{signed_decimal};
 ghost use Rattle.std.specs.Int.{w64};
@@ -20,13 +17,15 @@ ghost use Rattle.tsp_script.specs.Ranges.{IsDatagram};
 ghost use Rattle.tsp_script.specs.Schedules.{IsPlace};
 ghost use Rattle.tsp_script.specs.Texts.{message_text};
 ghost use Rattle.tsp_script.specs.Traces.{role_text, place_text, taken_text};
-ghost use Rattle.tsp_script.specs.Verbs.{way_text, switch_text};
+ghost use Rattle.tsp_script.specs.Verbs.{way_text, switch_text, SpellsRest};
+ghost use Rattle.tsp_script.specs.declared.verbs.Verb.{Verb};
 
 use crate::act_words::{alarm_of, fault_of};
 use crate::event_line::place_of;
+use crate::head_line::after;
 use crate::message_reader::message_of;
-use crate::numbers::{long_of, next_number, next_signed, number_of, short_of, signed_of};
-use crate::words::{cut, is_same};
+use crate::numbers::{front_number, front_signed, long_of, number_of, short_of, signed_of};
+use crate::words::{front_word, is_same};
 use tsp_base::act::Act;
 use tsp_base::alarm::Alarm;
 use tsp_base::datagram::{Datagram, Taken};
@@ -36,6 +35,7 @@ use tsp_base::role::Role;
 /// A peer's number.
 pub(crate) fn read_peer(text: &[u8]) -> Option<PeerId>
     ensures reads { (p : PeerId) → p.0 < 2 ^ 32 → text.now ≡ decimal p.0 → result ≡ Some p }
+    ensures found { IfSome result (λ p. text.now ≡ decimal p.0) }
     ensures range { IfSome result (λ p. p.0 < 2 ^ 32) }
 {
     let number = number_of(text)?;
@@ -46,10 +46,10 @@ pub(crate) fn read_peer(text: &[u8]) -> Option<PeerId>
 /// What was taken; its sender was read before.
 fn taken_of(text: &[u8]) -> Option<Taken>
     ensures reads { (t : Taken) → IsTaken t → text.now ≡ taken_text t → result ≡ Some t }
+    ensures found { IfSome result (λ t. text.now ≡ taken_text t) }
     ensures range { IfSome result IsTaken }
 {
-    let (word, rest) = cut(text);
-    if is_same(word, b"refused") {
+    if let Some(rest) = after(text, b"refused ") {
         return Some(Taken::Bad(fault_of(rest)?));
     }
     match message_of(text) {
@@ -62,10 +62,11 @@ fn taken_of(text: &[u8]) -> Option<Taken>
 pub(crate) fn read_took(text: &[u8]) -> Option<Act>
     ensures reads { (from : Place) (t : Taken) → IsPlace from → IsTaken t
         → text.now ≡ place_text from ++ 32 ∷ taken_text t → result ≡ Some (Act.Took from t) }
+    ensures found { IfSome result (SpellsRest Verb.Took 0 text.now) }
     ensures range { IfSome result IsSilent }
 {
-    let (from, rest) = cut(text);
-    let from = place_of(from)?;
+    let (word, rest) = front_word(text)?;
+    let from = place_of(word)?;
     let taken = taken_of(rest)?;
     Some(Act::Took(from, taken))
 }
@@ -75,11 +76,12 @@ pub(crate) fn read_post(text: &[u8]) -> Option<(u64, Act)>
     ensures reads { (number : ℕ) (to : Place) (d : Datagram) → number < 2 ^ 64 → IsPlace to
         → IsDatagram d → text.now ≡ decimal number ++ 32 ∷ (place_text to ++ 32 ∷ message_text d)
         → IsSomeAnd result (λ r. (r.0 ≡ number) × (r.1 ≡ Act.Post to d)) }
+    ensures found { IfSome result (λ r. SpellsRest Verb.Post r.0 text.now r.1) }
     ensures range { IfSome result (λ r. (r.0 < 2 ^ 64) × IsAct r.1 × IsNumberOf r.1 r.0) }
 {
-    let (number, rest) = next_number(text)?;
-    let (to, rest) = cut(rest);
-    let to = place_of(to)?;
+    let (number, rest) = front_number(text)?;
+    let (word, rest) = front_word(rest)?;
+    let to = place_of(word)?;
     match message_of(rest) {
         Ok(datagram) => Some((number, Act::Post(to, datagram))),
         Err(_) => None,
@@ -89,6 +91,7 @@ pub(crate) fn read_post(text: &[u8]) -> Option<(u64, Act)>
 /// A role.
 fn role_of(text: &[u8]) -> Option<Role>
     ensures reads { (r : Role) → IsRole r → text.now ≡ role_text r → result ≡ Some r }
+    ensures found { IfSome result (λ r. text.now ≡ role_text r) }
     ensures range { IfSome result IsRole }
 {
     if is_same(text, b"starting") {
@@ -103,13 +106,14 @@ fn role_of(text: &[u8]) -> Option<Role>
     if is_same(text, b"master") {
         return Some(Role::Master);
     }
-    let (_, rest) = cut(text);
-    Some(Role::Follow(read_peer(rest)?))
+    let master = after(text, b"follow ")?;
+    Some(Role::Follow(read_peer(master)?))
 }
 
 /// What follows `become`.
 pub(crate) fn read_become(text: &[u8]) -> Option<Act>
     ensures reads { (r : Role) → IsRole r → text.now ≡ role_text r → result ≡ Some (Act.Become r) }
+    ensures found { IfSome result (SpellsRest Verb.Become 0 text.now) }
     ensures range { IfSome result IsSilent }
 {
     Some(Act::Become(role_of(text)?))
@@ -119,10 +123,11 @@ pub(crate) fn read_become(text: &[u8]) -> Option<Act>
 pub(crate) fn read_arm(text: &[u8]) -> Option<Act>
     ensures reads { (a : Alarm) (at : ℕ) → at < 2 ^ 64 → text.now ≡ alarm_word a ++ 32 ∷ decimal at
         → result ≡ Some (Act.Arm a at) }
+    ensures found { IfSome result (SpellsRest Verb.Arm 0 text.now) }
     ensures range { IfSome result IsSilent }
 {
-    let (alarm, rest) = cut(text);
-    let alarm = alarm_of(alarm)?;
+    let (word, rest) = front_word(text)?;
+    let alarm = alarm_of(word)?;
     let at = number_of(rest)?;
     Some(Act::Arm(alarm, at))
 }
@@ -135,13 +140,14 @@ pub(crate) fn read_sample(text: &[u8]) -> Option<Act>
         p.0 ++ 32 ∷ (decimal counter ++ 32 ∷ (signed_decimal
         diff ++ 32 ∷ (signed_decimal err ++ 32 ∷ decimal ticket)))
         → result ≡ Some (Act.Sample p counter diff err ticket) }
+    ensures found { IfSome result (SpellsRest Verb.Sample 0 text.now) }
     ensures range { IfSome result IsSilent }
 {
-    let (peer, rest) = next_number(text)?;
+    let (peer, rest) = front_number(text)?;
     let peer = long_of(peer)?;
-    let (counter, rest) = next_number(rest)?;
-    let (diff, rest) = next_signed(rest)?;
-    let (err, rest) = next_signed(rest)?;
+    let (counter, rest) = front_number(rest)?;
+    let (diff, rest) = front_signed(rest)?;
+    let (err, rest) = front_signed(rest)?;
     let ticket = number_of(rest)?;
     let ticket = short_of(ticket)?;
     Some(Act::Sample {
@@ -160,12 +166,13 @@ pub(crate) fn read_close(text: &[u8]) -> Option<Act>
         → text.now ≡ decimal
         count ++ 32 ∷ (signed_decimal lo ++ 32 ∷ (signed_decimal width ++ 32 ∷ signed_decimal mean))
         → result ≡ Some (Act.Close count lo width mean) }
+    ensures found { IfSome result (SpellsRest Verb.Close 0 text.now) }
     ensures range { IfSome result IsSilent }
 {
-    let (count, rest) = next_number(text)?;
+    let (count, rest) = front_number(text)?;
     let count = long_of(count)?;
-    let (lo, rest) = next_signed(rest)?;
-    let (width, rest) = next_signed(rest)?;
+    let (lo, rest) = front_signed(rest)?;
+    let (width, rest) = front_signed(rest)?;
     let mean = signed_of(rest)?;
     Some(Act::Close {
         count,
@@ -175,19 +182,16 @@ pub(crate) fn read_close(text: &[u8]) -> Option<Act>
     })
 }
 
-/// Whether the word is the first of two, if it is one of them.
-fn choice_of(word: &[u8], yes: &[u8], no: &[u8]) -> Option<bool>
-    requires apart { yes.now ≢ no.now }
-    ensures yes { word.now ≡ yes.now → result ≡ Some true }
-    ensures no { word.now ≡ no.now → result ≡ Some false }
+/// Whether the clock is stepped: `step` says yes, `slew` no; None for any other word.
+fn way_of(word: &[u8]) -> Option<bool>
+    ensures found { IfSome result (λ stepped. word.now ≡ way_text stepped) }
+    ensures reads { (stepped : Bool) → word.now ≡ way_text stepped → result ≡ Some stepped }
 {
-    if is_same(word, yes) {
-        return Some(true);
+    match word {
+        b"step" => Some(true),
+        b"slew" => Some(false),
+        _ => None,
     }
-    if is_same(word, no) {
-        return Some(false);
-    }
-    None
 }
 
 /// What follows `correct`.
@@ -196,11 +200,12 @@ pub(crate) fn read_correct(text: &[u8]) -> Option<Act>
         → FitsSigned w64 shown
         → text.now ≡ signed_decimal amount ++ 32 ∷ (way_text stepped ++ 32 ∷ signed_decimal shown)
         → result ≡ Some (Act.Correct amount stepped shown) }
+    ensures found { IfSome result (SpellsRest Verb.Correct 0 text.now) }
     ensures range { IfSome result IsSilent }
 {
-    let (amount, rest) = next_signed(text)?;
-    let (way, rest) = cut(rest);
-    let stepped = choice_of(way, b"step", b"slew")?;
+    let (amount, rest) = front_signed(text)?;
+    let (way, rest) = front_word(rest)?;
+    let stepped = way_of(way)?;
     let shown = signed_of(rest)?;
     Some(Act::Correct {
         amount,
@@ -209,10 +214,23 @@ pub(crate) fn read_correct(text: &[u8]) -> Option<Act>
     })
 }
 
+/// Whether a trace is switched on: `on` says yes, `off` no; None for any other word.
+fn switch_of(word: &[u8]) -> Option<bool>
+    ensures found { IfSome result (λ on. word.now ≡ switch_text on) }
+    ensures reads { (on : Bool) → word.now ≡ switch_text on → result ≡ Some on }
+{
+    match word {
+        b"on" => Some(true),
+        b"off" => Some(false),
+        _ => None,
+    }
+}
+
 /// What follows `trace`.
 pub(crate) fn read_trace_act(text: &[u8]) -> Option<Act>
     ensures reads { (on : Bool) → text.now ≡ switch_text on → result ≡ Some (Act.Trace on) }
+    ensures found { IfSome result (SpellsRest Verb.Trace 0 text.now) }
     ensures range { IfSome result IsSilent }
 {
-    Some(Act::Trace(choice_of(text, b"on", b"off")?))
+    Some(Act::Trace(switch_of(text)?))
 }

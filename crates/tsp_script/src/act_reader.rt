@@ -1,9 +1,9 @@
 //! Reads lines of a trace.
-ghost use Rattle.std.specs.Prelude.{◌≡◌, ◌≢◌, ℕ, ◌<◌, ◌^◌, Some, Ok, IfSome, IsSomeAnd};
+ghost use Rattle.std.specs.Prelude.{◌≡◌, ◌≢◌, ℕ, ◌<◌, ◌^◌, Some, Ok, IfSome, IsSomeAnd, decimal};
 ghost use Rattle.tsp_base.specs.declared.act.Act.{Act};
 ghost use Rattle.tsp_script.specs.ActLines.{IsAct, IsSilent, IsNumberOf, IsLine2, SpellsTrace, ReadsTrace};
-ghost use Rattle.tsp_script.specs.Traces.{act_text};
-ghost use Rattle.tsp_script.specs.Verbs.{verb_of, rest_of_act, act_of_peer};
+ghost use Rattle.tsp_script.specs.Traces.{act_text, trace_text};
+ghost use Rattle.tsp_script.specs.Verbs.{verb_of, rest_of_act, act_of_peer, SpellsRest};
 ghost use Rattle.tsp_base.specs.declared.trace.Line2.{Line2};
 ghost use Rattle.tsp_script.specs.declared.verbs.Verb.{Verb};
 
@@ -13,10 +13,9 @@ use crate::act_parts::{
 };
 use crate::act_words::alarm_of;
 use crate::line_fault::LineFault;
-use crate::numbers::{long_of, next_number};
-use crate::trace::act_text;
+use crate::numbers::{front_number, long_of};
 use crate::verbs::Verb;
-use crate::words::{cut, is_same};
+use crate::words::front_word;
 use tsp_base::act::{Act, Placed};
 use tsp_base::place::{PeerId, Port};
 use tsp_base::trace::Line2;
@@ -24,6 +23,7 @@ use tsp_base::trace::Line2;
 /// The act with this word that names a peer and nothing else.
 fn peer_act(verb: Verb, peer: PeerId) -> Option<Act>
     ensures act { result ≡ act_of_peer verb peer }
+    ensures found { IfSome result (SpellsRest verb 0 (decimal peer.0)) }
     ensures range { peer.0 < 2 ^ 32 → IfSome result IsSilent }
 {
     match verb {
@@ -39,15 +39,31 @@ fn peer_act(verb: Verb, peer: PeerId) -> Option<Act>
     }
 }
 
-/// The act, no post, whose text is this word and then `rest`.
+/// The act whose text is one word.
+fn read_lone(word: &[u8]) -> Option<Act>
+    ensures found { IfSome result (λ a. word.now ≡ act_text 0 a) }
+    ensures boot { word.now ≡ act_text 0 Act.Boot → result ≡ Some Act.Boot }
+    ensures abandon { word.now ≡ act_text 0 Act.Abandon → result ≡ Some Act.Abandon }
+    ensures range { IfSome result IsSilent }
+{
+    match word {
+        b"boot" => Some(Act::Boot),
+        b"abandon" => Some(Act::Abandon),
+        _ => None,
+    }
+}
+
+/// The act, no post, whose text is this word, a space, and then `rest`.
 fn read_silent(verb: Verb, rest: &[u8]) -> Option<Act>
-    ensures reads { (a : Act) → IsAct a → verb ≢ Verb.Post → verb ≡ verb_of a
-        → rest.now ≡ rest_of_act 0 a → result ≡ Some a }
+    ensures reads { (a : Act) → IsAct a → verb ≢ Verb.Post → verb ≢ Verb.Boot
+        → verb ≢ Verb.Abandon → verb ≡ verb_of a → rest.now ≡ rest_of_act 0 a → result ≡ Some a }
+    ensures found { IfSome result (SpellsRest verb 0 rest.now) }
+    ensures apart { IfSome result (λ _. (verb ≢ Verb.Boot) × (verb ≢ Verb.Abandon)) }
     ensures range { IfSome result IsSilent }
 {
     match verb {
-        Verb::Boot => Some(Act::Boot),
-        Verb::Abandon => Some(Act::Abandon),
+        Verb::Boot => None,
+        Verb::Abandon => None,
         Verb::Post => None,
         Verb::Took => read_took(rest),
         Verb::Become => read_become(rest),
@@ -66,9 +82,12 @@ fn read_silent(verb: Verb, rest: &[u8]) -> Option<Act>
 fn read_act(text: &[u8]) -> Option<(u64, Act)>
     ensures reads { (number : ℕ) (a : Act) → IsAct a → IsNumberOf a number
         → text.now ≡ act_text number a → IsSomeAnd result (λ r. (r.0 ≡ number) × (r.1 ≡ a)) }
+    ensures found { IfSome result (λ r. text.now ≡ act_text r.0 r.1) }
     ensures range { IfSome result (λ r. IsAct r.1 × IsNumberOf r.1 r.0) }
 {
-    let (word, rest) = cut(text);
+    let Some((word, rest)) = front_word(text) else {
+        return Some((0, read_lone(text)?));
+    };
     match Verb::of_word(word)? {
         Verb::Post => read_post(rest),
         verb => Some((0, read_silent(verb, rest)?)),
@@ -83,17 +102,19 @@ fn octet_of(number: u64) -> Option<u8>
     u8::try_from(number).ok()
 }
 
-/// The values of a line. It may accept a line that isn't written so.
+/// The values of a line.
 fn read_line(line: &[u8]) -> Option<Line2>
+    ensures found { IfSome result (λ l. line.now ≡ trace_text l.event l.node l.tick l.number
+        l.placed) }
     ensures reads { (l : Line2) → SpellsTrace line.now l → result ≡ Some l }
     ensures range { IfSome result IsLine2 }
 {
-    let (event, rest) = next_number(line)?;
-    let (node, rest) = next_number(rest)?;
+    let (event, rest) = front_number(line)?;
+    let (node, rest) = front_number(rest)?;
     let node = long_of(node)?;
-    let (port, rest) = next_number(rest)?;
+    let (port, rest) = front_number(rest)?;
     let port = octet_of(port)?;
-    let (tick, rest) = next_number(rest)?;
+    let (tick, rest) = front_number(rest)?;
     let (number, act) = read_act(rest)?;
     let placed = Placed {
         port: Port(port),
@@ -114,12 +135,8 @@ pub fn act_of(line: &[u8]) -> Result<Line2, LineFault>
     ensures reads { ReadsTrace line.now result }
     ensures one { (l : Line2) → SpellsTrace line.now l → result ≡ Ok l }
 {
-    let Some(read) = read_line(line) else {
-        return Err(LineFault::Bad);
-    };
-    if is_same(act_text(&read).as_slice(), line) {
-        Ok(read)
-    } else {
-        Err(LineFault::Bad)
+    match read_line(line) {
+        Some(read) => Ok(read),
+        None => Err(LineFault::Bad),
     }
 }

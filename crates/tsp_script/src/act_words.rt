@@ -1,5 +1,5 @@
 //! Reads the words inside an act's text.
-ghost use Rattle.std.specs.Prelude.{◌≡◌, Some};
+ghost use Rattle.std.specs.Prelude.{◌≡◌, Some, IfSome};
 ghost use Rattle.tsp_base.specs.Alarms.{alarm_word};
 ghost use Rattle.tsp_base.specs.declared.alarm.Alarm.{Alarm};
 ghost use Rattle.tsp_base.specs.declared.datagram.DecodeFault.{DecodeFault};
@@ -25,7 +25,8 @@ const FAULTS: [DecodeFault; 9] = [
 
 /// The alarm with this word.
 pub(crate) fn alarm_of(word: &[u8]) -> Option<Alarm>
-    ensures { (a : Alarm) → word.now ≡ alarm_word a → result ≡ Some a }
+    ensures found { IfSome result (λ a. word.now ≡ alarm_word a) }
+    ensures reads { (a : Alarm) → word.now ≡ alarm_word a → result ≡ Some a }
 {
     for alarm in &Alarm::ALL {
         if is_same(alarm.word(), word) {
@@ -37,7 +38,8 @@ pub(crate) fn alarm_of(word: &[u8]) -> Option<Alarm>
 
 /// The fault with this word.
 pub(crate) fn fault_of(word: &[u8]) -> Option<DecodeFault>
-    ensures { (f : DecodeFault) → word.now ≡ fault_word f → result ≡ Some f }
+    ensures found { IfSome result (λ f. word.now ≡ fault_word f) }
+    ensures reads { (f : DecodeFault) → word.now ≡ fault_word f → result ≡ Some f }
 {
     for fault in &FAULTS {
         if is_same(fault_word(*fault), word) {

@@ -1,36 +1,26 @@
 //! The lines of a schedule after its header.
-ghost use Rattle.std.specs.Prelude.{◌≡◌, ◌≢◌, ℕ, ◌^◌, ◌<◌, ◌≤◌, ◌+◌, ◌++◌, ◌∷◌, List, [], length};
-ghost use Rattle.std.specs.Prelude.{decimal, codes, IfSome, IsSomeAnd};
-ghost use Rattle.arrayvec.specs.ArrayVec.{array_vec_len};
+ghost use Rattle.std.specs.Prelude.{◌≡◌, ℕ, ◌^◌, ◌<◌, ◌≤◌, ◌+◌, ◌++◌, ◌∷◌, List, [], length};
+ghost use Rattle.std.specs.Prelude.{decimal, codes, take, Ok, IfSome, IfNone, IsSomeAnd};
 ghost use Rattle.hex.specs.Hex.{decode_of};
 ghost use Rattle.tsp_base.specs.declared.event.Event.{Event};
 ghost use Rattle.tsp_base.specs.declared.place.Place.{Place};
 ghost use Rattle.tsp_base.specs.declared.place.Port.{Port};
 ghost use Rattle.tsp_script.specs.declared.event_line.EventItem.{EventItem};
 ghost use Rattle.tsp_base.specs.Plains.{event_in};
-ghost use Rattle.tsp_script.specs.Plains.{IsTurnOrTake, IsNotPlain};
+ghost use Rattle.tsp_script.specs.Plains.{IsTurnOrTake};
 ghost use Rattle.tsp_base.specs.declared.plain.Plain.{Plain};
-ghost use Rattle.tsp_script.specs.Schedules.{event_text, port_text, NamesPort, IsHexOf, IsPlace};
-ghost use Rattle.tsp_script.specs.Schedules.{IsEvent, SpellsEvent, ReadsEvent};
+ghost use Rattle.tsp_script.specs.Schedules.{port_text, IsPlace, SpellsEvent, ReadsEvent};
 ghost use Rattle.tsp_script.specs.Traces.{place_text};
 
-use crate::acts::append_place;
 use crate::head_line::after;
 use crate::line_fault::LineFault;
-use crate::numbers::{
-    append, append_next_number, append_number, front_number, long_of, next_number, number_of,
-    octets_in,
-};
-use crate::words::{cut, is_same, part};
-use arrayvec::ArrayVec;
+use crate::numbers::{front_number, long_of, number_of, octets_in};
+use crate::words::{front_word, is_same, part};
 use tsp_base::constants::SCHEDULE_END;
 use tsp_base::event::Event;
 use tsp_base::octets::Octets;
 use tsp_base::place::{PeerId, Place, Port};
 use tsp_base::plain::Plain;
-
-/// The line of a turn or a take is at most so long, in octets.
-const PLAIN: usize = 45;
 
 /// What a line after the header is.
 #[derive(Drop)]
@@ -41,93 +31,10 @@ pub enum EventItem {
     End,
 }
 
-/// The line of an event; `hex` is the hexadecimal of the octets of a `bytes`, and empty for other events.
-fn event_text(event: &Event, hex: &[u8]) -> ArrayVec<u8, 1024>
-    requires { length hex.now ≤ 600 }
-    ensures { result.items ≡ event_text event.now hex.now }
-{
-    let mut out = ArrayVec::new();
-    match event {
-        Event::Boot { at, node, word } => {
-            append_at(&mut out, *at, b" boot ", *node as u64);
-            append_next_number(&mut out, *word);
-        }
-        Event::Turn { at, node } => append_at(&mut out, *at, b" turn ", *node as u64),
-        Event::Take { at, datagram } => append_at(&mut out, *at, b" take ", *datagram),
-        Event::Bytes {
-            at,
-            node,
-            port,
-            from,
-            ..
-        } => {
-            append_at(&mut out, *at, b" bytes ", *node as u64);
-            append_port(&mut out, *port);
-            append(&mut out, b" ");
-            append_place(&mut out, *from);
-            append(&mut out, b" ");
-            append(&mut out, hex);
-        }
-    }
-    out
-}
-
-/// Writes an event's time, a word between spaces and a number.
-fn append_at(out: &mut ArrayVec<u8, 1024>, at: u64, verb: &[u8], number: u64)
-    requires { array_vec_len out.old + length verb.now + 43 ≤ 1024 }
-    ensures text { out.new.items ≡ out.old.items ++ (codes "at " ++ decimal at ++ verb.now ++ decimal
-        number) }
-    ensures short { array_vec_len out.new ≤ array_vec_len out.old + length verb.now + 43 }
-{
-    append(out, b"at ");
-    append_number(out, at);
-    append(out, verb);
-    append_number(out, number);
-}
-
-/// Writes the port that follows a node's number: nothing for port 0, else a slash and its number.
-fn append_port(out: &mut ArrayVec<u8, 1024>, port: Port)
-    requires { array_vec_len out.old + 21 ≤ 1024 }
-    ensures text { out.new.items ≡ out.old.items ++ port_text port }
-    ensures short { array_vec_len out.new ≤ array_vec_len out.old + 21 }
-{
-    if port.0 != 0 {
-        append(out, b"/");
-        append_number(out, port.0 as u64);
-    }
-}
-
-/// The node and its port that a word names: `N` is port 0, `N/Q` port Q. It also accepts a word that ends
-/// with a slash; `event_line` refuses that.
-fn node_of(word: &[u8]) -> Option<(u32, Port)>
-    ensures reads { (node : ℕ) (port : Port) → node < 2 ^ 32 → port.0 < 2 ^ 8
-        → word.now ≡ decimal node ++ port_text port
-        → IsSomeAnd result (λ r. (r.0 ≡ node) × (r.1 ≡ port)) }
-    ensures range { IfSome result (λ r. (r.0 < 2 ^ 32) × (r.1.0 < 2 ^ 8)) }
-{
-    let (node, port) = part(word, b'/');
-    let node = number_of(node)?;
-    let node = long_of(node)?;
-    let port = port_of(port)?;
-    Some((node, port))
-}
-
-/// The port that a number names, or port 0 where there is none.
-fn port_of(word: &[u8]) -> Option<Port>
-    ensures reads { (port : Port) → port.0 < 2 ^ 8 → NamesPort word.now port → result ≡ Some port }
-    ensures range { IfSome result (λ port. port.0 < 2 ^ 8) }
-{
-    if word.is_empty() {
-        return Some(Port(0));
-    }
-    let number = number_of(word)?;
-    let port = u8::try_from(number).ok()?;
-    Some(Port(port))
-}
-
 /// The place that a word names: a peer's number, or a dash for a stranger.
 pub(crate) fn place_of(word: &[u8]) -> Option<Place>
     ensures reads { (p : Place) → IsPlace p → word.now ≡ place_text p → result ≡ Some p }
+    ensures found { IfSome result (λ p. word.now ≡ place_text p) }
     ensures range { IfSome result IsPlace }
 {
     if is_same(word, b"-") {
@@ -136,22 +43,6 @@ pub(crate) fn place_of(word: &[u8]) -> Option<Place>
     let number = number_of(word)?;
     let number = long_of(number)?;
     Some(Place::Peer(PeerId(number)))
-}
-
-/// Reads what follows the time of a boot. None says that the word isn't `boot`, or that no boot is written so.
-fn read_boot(at: u64, verb: &[u8], line: &[u8]) -> Option<Event>
-    requires { at ≤ 1000000000000000 }
-    ensures reads { (node word : ℕ) → node < 2 ^ 32 → word < 2 ^ 64 → verb.now ≡ codes "boot"
-        → line.now ≡ decimal node ++ 32 ∷ decimal word → result ≡ Some (Event.Boot at node word) }
-    ensures range { IfSome result (λ e. IsEvent e × IsHexOf [] e) }
-{
-    if !is_same(verb, b"boot") {
-        return None;
-    }
-    let (node, line) = next_number(line)?;
-    let node = long_of(node)?;
-    let word = number_of(line)?;
-    Some(Event::Boot { at, node, word })
 }
 
 /// The node that a word names.
@@ -164,101 +55,22 @@ fn long_number(word: &[u8]) -> Option<u32>
     long_of(number)
 }
 
-/// Reads what follows `bytes`, and gives the hexadecimal too.
-fn read_bytes(at: u64, line: &[u8]) -> Option<(Event, &[u8])>
-    requires { at ≤ 1000000000000000 }
-    ensures reads { (node : ℕ) (port : Port) (from : Place) (octets hex : List ℕ) → node < 2 ^ 32
-        → port.0 < 2 ^ 8 → IsPlace from → 1 ≤ length octets → length octets ≤ 300
-        → decode_of hex ≡ Ok octets
-        → line.now ≡ (decimal node ++ port_text port) ++ 32 ∷ (place_text from ++ 32 ∷ hex)
-        → IsSomeAnd result (λ r. (r.0 ≡ Event.Bytes at node port from octets) × (r.1.now ≡ hex)) }
-    ensures range { IfSome result (λ r. IsEvent r.0 × IsHexOf r.1.now r.0
-        × (length r.1.now ≤ 600)) }
-{
-    let (node, line) = cut(line);
-    let (node, port) = node_of(node)?;
-    let (from, hex) = cut(line);
-    let from = place_of(from)?;
-    let octets = handed_of(hex)?;
-    Some((
-        Event::Bytes {
-            at,
-            node,
-            port,
-            from,
-            octets,
-        },
-        hex,
-    ))
-}
-
-/// The octets of hexadecimal, whose letters may be in either case; None where it isn't hexadecimal, or of
-/// no octet or more than 300.
-fn handed_of(hex: &[u8]) -> Option<Octets>
-    ensures found { IfSome result (λ octets. (decode_of hex.now ≡ Ok octets) × (1 ≤ length octets)
-        × (length octets ≤ 300) × (length hex.now ≤ 600)) }
-    ensures reads { (octets : List ℕ) → 1 ≤ length octets → length octets ≤ 300
-        → decode_of hex.now ≡ Ok octets → result ≡ Some octets }
+/// Puts the octets of hexadecimal, whose letters may be in either case, at the front of a buffer, and gives how many
+/// they are; None where it isn't hexadecimal, or of no octet or more than 300.
+fn octets_handed(hex: &[u8], buffer: &mut [u8; 512]) -> Option<usize>
+    ensures found { IfSome result (λ n. (decode_of hex.now ≡ Ok (take n buffer.new)) × (1 ≤ n)
+        × (n ≤ 300)) }
+    ensures none { IfNone result ((octets : List ℕ) → 1 ≤ length octets → length octets ≤ 300
+        → decode_of hex.now ≡ Ok octets → ⊥) }
 {
     if hex.len() > 600 {
         return None;
     }
-    let mut buffer = [0u8; 512];
-    let count = octets_in(hex, &mut buffer)?;
+    let count = octets_in(hex, buffer)?;
     if count == 0 {
         return None;
     }
-    Octets::of(&buffer[..count])
-}
-
-/// Reads the line of a boot or of `bytes`, and gives its hexadecimal too, which is empty for a boot.
-fn read_event(line: &[u8]) -> Option<(Event, &[u8])>
-    requires { IsNotPlain line.now }
-    ensures reads { (e : Event) (hex : List ℕ) → IsEvent e → IsHexOf hex e
-        → line.now ≡ event_text e hex → IsSomeAnd result (λ r. (r.0 ≡ e) × (r.1.now ≡ hex)) }
-    ensures range { IfSome result (λ r. IsEvent r.0 × IsHexOf r.1.now r.0
-        × (length r.1.now ≤ 600)) }
-{
-    let (_, line) = cut(line);
-    let (at, line) = next_number(line)?;
-    if at > SCHEDULE_END {
-        return None;
-    }
-    let (verb, line) = cut(line);
-    if is_same(verb, b"bytes") {
-        return read_bytes(at, line);
-    }
-    let event = read_boot(at, verb, line)?;
-    Some((event, &[]))
-}
-
-/// A line after the header: an event, or `end`. `Bad` exactly where it is neither.
-pub fn event_line(line: &[u8]) -> Result<EventItem, LineFault>
-    ensures reads { ReadsEvent line.now result }
-    ensures one { (item : EventItem) → SpellsEvent line.now item → result ≡ Ok item }
-{
-    if is_same(line, b"end") {
-        return Ok(EventItem::End);
-    }
-    if line.len() > PLAIN {
-        return long_line(line);
-    }
-    match plain_line(line) {
-        Some(plain) => Ok(EventItem::Event(plain.event())),
-        None => any_event(line),
-    }
-}
-
-/// What a line is that is longer than each turn's and each take's.
-fn long_line(line: &[u8]) -> Result<EventItem, LineFault>
-    requires { 45 < length line.now }
-    ensures reads { ReadsEvent line.now result }
-    ensures one { (item : EventItem) → SpellsEvent line.now item → result ≡ Ok item }
-{
-    match common_bytes(line) {
-        Some(item) => Ok(item),
-        None => any_event(line),
-    }
+    Some(count)
 }
 
 /// The time of an event's line, and what follows the space after it.
@@ -278,6 +90,7 @@ fn front_time(line: &[u8]) -> Option<(u64, &[u8])>
 }
 
 /// The event of the most frequent lines, a turn or a take; None exactly where the line is neither's.
+#[inline(always)]
 pub fn plain_line(line: &[u8]) -> Option<Plain>
     ensures found { IfSome result (λ plain. IsTurnOrTake plain
         × SpellsEvent line.now (EventItem.Event (event_in plain))) }
@@ -294,28 +107,58 @@ pub fn plain_line(line: &[u8]) -> Option<Plain>
     Some(Plain::Take { at, datagram })
 }
 
-/// The event of a line with octets on port 0. None says nothing: the line may be another event's.
-fn common_bytes(line: &[u8]) -> Option<EventItem>
-    ensures { IfSome result (λ item. SpellsEvent line.now item) }
+/// The port that a number names, from 1 on.
+fn port_of(word: &[u8]) -> Option<Port>
+    ensures found { IfSome result (λ port. (port.0 < 2 ^ 8) × (0 < port.0)
+        × (word.now ≡ decimal port.0)) }
+    ensures reads { (port : Port) → port.0 < 2 ^ 8 → 0 < port.0 → word.now ≡ decimal port.0
+        → result ≡ Some port }
 {
-    let (at, line) = front_time(line)?;
-    let line = after(line, b"bytes ")?;
-    let (node, line) = front_number(line)?;
-    let node = long_of(node)?;
-    let (from, hex) = front_place(line)?;
-    let octets = handed_of(hex)?;
-    Some(EventItem::Event(Event::Bytes {
-        at,
-        node,
-        port: Port(0),
-        from,
-        octets,
-    }))
+    let number = number_of(word)?;
+    let port = u8::try_from(number).ok()?;
+    if port == 0 {
+        return None;
+    }
+    Some(Port(port))
+}
+
+/// The node and its port, other than 0, that a word names: `N/Q`.
+fn node_of(word: &[u8]) -> Option<(u32, Port)>
+    ensures found { IfSome result (λ r. (r.0 < 2 ^ 32) × (r.1.0 < 2 ^ 8)
+        × (word.now ≡ decimal r.0 ++ port_text r.1)) }
+    ensures reads { (node : ℕ) (port : Port) → node < 2 ^ 32 → port.0 < 2 ^ 8 → 0 < port.0
+        → word.now ≡ decimal node ++ port_text port
+        → IsSomeAnd result (λ r. (r.0 ≡ node) × (r.1 ≡ port)) }
+{
+    let (node, port) = part(word, b'/');
+    let node = long_number(node)?;
+    let port = port_of(port)?;
+    Some((node, port))
+}
+
+/// The node and its port before the first space, and what follows the space: `N` is port 0, `N/Q` port Q.
+fn front_node(line: &[u8]) -> Option<(u32, Port, &[u8])>
+    ensures found { IfSome result (λ r. (r.0 < 2 ^ 32) × (r.1.0 < 2 ^ 8)
+        × (line.now ≡ (decimal r.0 ++ port_text r.1) ++ 32 ∷ r.2.now)) }
+    ensures reads { (node : ℕ) (port : Port) (rest : List ℕ) → node < 2 ^ 32 → port.0 < 2 ^ 8
+        → line.now ≡ (decimal node ++ port_text port) ++ 32 ∷ rest
+        → IsSomeAnd result (λ r. (r.0 ≡ node) × (r.1 ≡ port) × (r.2.now ≡ rest)) }
+{
+    if let Some((node, rest)) = front_number(line) {
+        let node = long_of(node)?;
+        return Some((node, Port(0), rest));
+    }
+    let (word, rest) = front_word(line)?;
+    let (node, port) = node_of(word)?;
+    Some((node, port, rest))
 }
 
 /// The place before the first space, and what follows the space.
 fn front_place(line: &[u8]) -> Option<(Place, &[u8])>
-    ensures { IfSome result (λ r. IsPlace r.0 × (line.now ≡ place_text r.0 ++ 32 ∷ r.1.now)) }
+    ensures found { IfSome result (λ r. IsPlace r.0
+        × (line.now ≡ place_text r.0 ++ 32 ∷ r.1.now)) }
+    ensures reads { (p : Place) (rest : List ℕ) → IsPlace p → line.now ≡ place_text p ++ 32 ∷ rest
+        → IsSomeAnd result (λ r. (r.0 ≡ p) × (r.1.now ≡ rest)) }
 {
     if let Some(rest) = after(line, b"- ") {
         return Some((Place::Stranger, rest));
@@ -325,19 +168,92 @@ fn front_place(line: &[u8]) -> Option<(Place, &[u8])>
     Some((Place::Peer(PeerId(number)), rest))
 }
 
-/// The event of any line but a turn's or a take's. What was read is written again and compared, so that only
-/// written lines pass.
-fn any_event(line: &[u8]) -> Result<EventItem, LineFault>
-    requires no_end { line.now ≢ codes "end" }
-    requires no_plain { IsNotPlain line.now }
+/// What the line of an event with octets says, except for the octets, which stand at the front of a buffer.
+#[derive(Clone, Copy)]
+pub struct HandedLine {
+    /// The true time.
+    pub at: u64,
+    /// Which node.
+    pub node: u32,
+    /// On which of its ports.
+    pub port: Port,
+    /// Who seems to have sent the octets.
+    pub from: Place,
+    /// How many octets there are, 1 to 300.
+    pub count: usize,
+}
+
+/// Reads the line of an event with octets, and puts these at the front of a buffer; None exactly where the line is no
+/// such event's.
+pub fn handed_line(line: &[u8], buffer: &mut [u8; 512]) -> Option<HandedLine>
+    ensures found { IfSome result (λ h. SpellsEvent line.now (EventItem.Event (Event.Bytes h.at
+        h.node h.port h.from (take h.count buffer.new)))) }
+    ensures count { IfSome result (λ h. h.count ≤ 300) }
+    ensures none { IfNone result ((at node : ℕ) (port : Port) (from : Place) (octets : List ℕ)
+        → SpellsEvent line.now (EventItem.Event (Event.Bytes at node port from octets)) → ⊥) }
+{
+    let (at, line) = front_time(line)?;
+    let line = after(line, b"bytes ")?;
+    let (node, port, line) = front_node(line)?;
+    let (from, hex) = front_place(line)?;
+    let count = octets_handed(hex, buffer)?;
+    Some(HandedLine {
+        at,
+        node,
+        port,
+        from,
+        count,
+    })
+}
+
+/// The event of a line with octets; None exactly where the line is no such event's.
+fn bytes_line(line: &[u8]) -> Option<Event>
+    ensures found { IfSome result (λ e. SpellsEvent line.now (EventItem.Event e)) }
+    ensures none { IfNone result ((at node : ℕ) (port : Port) (from : Place) (octets : List ℕ)
+        → SpellsEvent line.now (EventItem.Event (Event.Bytes at node port from octets)) → ⊥) }
+{
+    let mut buffer = [0; 512];
+    let handed = handed_line(line, &mut buffer)?;
+    let octets = Octets::of(&buffer[..handed.count])?;
+    Some(Event::Bytes {
+        at: handed.at,
+        node: handed.node,
+        port: handed.port,
+        from: handed.from,
+        octets,
+    })
+}
+
+/// The event of a boot's line; None exactly where the line is no boot's.
+fn boot_line(line: &[u8]) -> Option<Event>
+    ensures found { IfSome result (λ e. SpellsEvent line.now (EventItem.Event e)) }
+    ensures none { IfNone result ((at node word : ℕ)
+        → SpellsEvent line.now (EventItem.Event (Event.Boot at node word)) → ⊥) }
+{
+    let (at, line) = front_time(line)?;
+    let line = after(line, b"boot ")?;
+    let (node, line) = front_number(line)?;
+    let node = long_of(node)?;
+    let word = number_of(line)?;
+    Some(Event::Boot { at, node, word })
+}
+
+/// A line after the header: an event, or `end`. `Bad` exactly where it is neither.
+pub fn event_line(line: &[u8]) -> Result<EventItem, LineFault>
     ensures reads { ReadsEvent line.now result }
     ensures one { (item : EventItem) → SpellsEvent line.now item → result ≡ Ok item }
 {
-    let Some((event, hex)) = read_event(line) else {
-        return Err(LineFault::Bad);
-    };
-    if is_same(event_text(&event, hex).as_slice(), line) {
-        Ok(EventItem::Event(event))
+    if let Some(bytes) = bytes_line(line) {
+        return Ok(EventItem::Event(bytes));
+    }
+    if let Some(boot) = boot_line(line) {
+        return Ok(EventItem::Event(boot));
+    }
+    if let Some(plain) = plain_line(line) {
+        return Ok(EventItem::Event(plain.event()));
+    }
+    if is_same(line, b"end") {
+        Ok(EventItem::End)
     } else {
         Err(LineFault::Bad)
     }

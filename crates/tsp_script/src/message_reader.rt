@@ -11,7 +11,7 @@ ghost use Rattle.tsp_script.specs.Texts.{body_text, name_text, message_text, Rea
 
 use crate::line_fault::LineFault;
 use crate::names::name_of;
-use crate::numbers::{next_number, next_signed, number_of, short_of, signed_of};
+use crate::numbers::{front_number, front_signed, number_of, short_of, signed_of};
 use crate::words::{cut, is_same};
 use tsp_base::datagram::Datagram;
 use tsp_base::kind::Kind;
@@ -27,7 +27,7 @@ fn read_request(line: &[u8]) -> Option<Datagram>
         → line.now ≡ decimal word ++ 32 ∷ decimal counter
         → result ≡ Some (Datagram.Stamp (Stamp.Request word counter)) }
 {
-    let (word, line) = next_number(line)?;
+    let (word, line) = front_number(line)?;
     let counter = number_of(line)?;
     Some(Datagram::Stamp(Stamp::Request { word, counter }))
 }
@@ -42,9 +42,9 @@ fn read_reply(line: &[u8]) -> Option<Datagram>
         r.ticket ++ 32 ∷ (decimal r.word ++ 32 ∷ (decimal r.counter ++ 32 ∷ signed_decimal
         r.reading)) → result ≡ Some (Datagram.Stamp (Stamp.Reply r)) }
 {
-    let (ticket, line) = next_number(line)?;
-    let (word, line) = next_number(line)?;
-    let (counter, line) = next_number(line)?;
+    let (ticket, line) = front_number(line)?;
+    let (word, line) = front_number(line)?;
+    let (counter, line) = front_number(line)?;
     let reading = signed_of(line)?;
     reply_of(ticket, word, counter, reading)
 }
@@ -77,7 +77,7 @@ fn reply_of(ticket: u64, word: u64, counter: u64, reading: i64) -> Option<Datagr
 /// Reads what is between a message's number and its name, and gives what follows.
 fn next_body(kind: Kind, line: &[u8]) -> Option<(Body, &[u8])>
     ensures found { IfSome result (λ r. IsBody r.0 × (body_fits kind r.0 ≡ true)
-        × (0 < length r.1.now → line.now ≡ body_text r.0 ++ r.1.now)) }
+        × (line.now ≡ body_text r.0 ++ r.1.now)) }
     ensures reads { (body : Body) (rest : List ℕ) → IsBody body → body_fits kind body ≡ true
         → line.now ≡ body_text body ++ rest
         → IsSomeAnd result (λ r. (r.0 ≡ body) × (r.1.now ≡ rest)) }
@@ -93,26 +93,26 @@ fn next_body(kind: Kind, line: &[u8]) -> Option<(Body, &[u8])>
 
 /// Reads a time, and gives what follows.
 fn next_time(line: &[u8]) -> Option<(Body, &[u8])>
-    ensures found { IfSome result (λ r. IsBody r.0 × IsTimeBody r.0 × (0 < length r.1.now
-        → line.now ≡ body_text r.0 ++ r.1.now)) }
+    ensures found { IfSome result (λ r. IsBody r.0 × IsTimeBody r.0
+        × (line.now ≡ body_text r.0 ++ r.1.now)) }
     ensures reads { (body : Body) (rest : List ℕ) → IsBody body → IsTimeBody body
         → line.now ≡ body_text body ++ rest
         → IsSomeAnd result (λ r. (r.0 ≡ body) × (r.1.now ≡ rest)) }
 {
-    let (time, rest) = next_signed(line)?;
+    let (time, rest) = front_signed(line)?;
     let time = Micros::of(time)?;
     Some((Body::Time(time), rest))
 }
 
 /// Reads a hop count, and gives what follows.
 fn next_hops(line: &[u8]) -> Option<(Body, &[u8])>
-    ensures found { IfSome result (λ r. IsBody r.0 × IsHopsBody r.0 × (0 < length r.1.now
-        → line.now ≡ body_text r.0 ++ r.1.now)) }
+    ensures found { IfSome result (λ r. IsBody r.0 × IsHopsBody r.0
+        × (line.now ≡ body_text r.0 ++ r.1.now)) }
     ensures reads { (body : Body) (rest : List ℕ) → IsBody body → IsHopsBody body
         → line.now ≡ body_text body ++ rest
         → IsSomeAnd result (λ r. (r.0 ≡ body) × (r.1.now ≡ rest)) }
 {
-    let (hops, rest) = next_number(line)?;
+    let (hops, rest) = front_number(line)?;
     let hops = u8::try_from(hops).ok()?;
     Some((Body::Hops(hops), rest))
 }
@@ -126,7 +126,7 @@ fn read_plain(word: &[u8], line: &[u8]) -> Option<Datagram>
         → result ≡ Some (Datagram.Message m) }
 {
     let kind = Kind::of_word(word)?;
-    let (number, line) = next_number(line)?;
+    let (number, line) = front_number(line)?;
     let number = short_of(number)?;
     let Some((body, line)) = next_body(kind, line) else {
         return None;

@@ -11,7 +11,7 @@ ghost use Rattle.hex.specs.Hex.{decode_of, encode_lower};
 use crate::decimals::append_decimal;
 use crate::eights::eight_digits;
 use crate::hexes::value_of;
-use crate::words::{cut, mark_at};
+use crate::words::{front_word, mark_at};
 use arrayvec::ArrayVec;
 use itoa::Buffer;
 use std::str;
@@ -95,6 +95,7 @@ pub fn append_hex(out: &mut ArrayVec<u8, 1024>, octets: &[u8])
 
 /// The number of a decimal text; None exactly where no number of 64 bits is written so, for instance with a
 /// sign or a leading zero.
+#[inline(always)]
 pub fn number_of(word: &[u8]) -> Option<u64>
     ensures found { IfSome result (λ n. word.now ≡ decimal n) }
     ensures reads { (n : ℕ) → n < 2 ^ 64 → word.now ≡ decimal n → result ≡ Some n }
@@ -106,6 +107,7 @@ pub fn number_of(word: &[u8]) -> Option<u64>
 }
 
 /// The number of a decimal text, digit by digit. It gives None for more than 18 digits too, which may be a number.
+#[inline(always)]
 fn by_digits(word: &[u8]) -> Option<u64>
     ensures { IfSome result (λ n. (n < 2 ^ 64) × (word.now ≡ decimal n)) }
 {
@@ -120,6 +122,7 @@ fn by_digits(word: &[u8]) -> Option<u64>
 }
 
 /// The number whose digits are those of `front` and then these. It gives None for more than 18 digits too.
+#[inline(always)]
 fn more_digits(front: u64, digits: &[u8]) -> Option<u64>
     requires { (0 < front) × (front < 10) }
     ensures { IfSome result (λ n. (n < 2 ^ 64) × (decimal n ≡ decimal front ++ digits.now)) }
@@ -171,6 +174,8 @@ fn eight_on(front: u64, digits: &[u8]) -> (u64, usize)
 }
 
 /// The same as `number_of`, of a word of any length.
+#[cold]
+#[inline(never)]
 fn parsed(word: &[u8]) -> Option<u64>
     ensures found { IfSome result (λ n. word.now ≡ decimal n) }
     ensures reads { (n : ℕ) → n < 2 ^ 64 → word.now ≡ decimal n → result ≡ Some n }
@@ -264,19 +269,8 @@ pub fn octets_in(line: &[u8], buffer: &mut [u8; 512]) -> Option<usize>
     Some(count)
 }
 
-/// The number before the first space, and what follows the space. It also accepts a line without a space.
-pub(crate) fn next_number(line: &[u8]) -> Option<(u64, &[u8])>
-    ensures found { IfSome result (λ r. (r.0 < 2 ^ 64) × (0 < length r.1.now
-        → line.now ≡ decimal r.0 ++ 32 ∷ r.1.now)) }
-    ensures reads { (n : ℕ) (rest : List ℕ) → n < 2 ^ 64 → line.now ≡ decimal n ++ 32 ∷ rest
-        → IsSomeAnd result (λ r. (r.0 ≡ n) × (r.1.now ≡ rest)) }
-{
-    let (word, rest) = cut(line);
-    let number = number_of(word)?;
-    Some((number, rest))
-}
-
 /// The number before the first space, and what follows the space; None where there is no space.
+#[inline(always)]
 pub(crate) fn front_number(line: &[u8]) -> Option<(u64, &[u8])>
     ensures found { IfSome result (λ r. (r.0 < 2 ^ 64)
         × (line.now ≡ decimal r.0 ++ 32 ∷ r.1.now)) }
@@ -290,6 +284,7 @@ pub(crate) fn front_number(line: &[u8]) -> Option<(u64, &[u8])>
 }
 
 /// The same, digit by digit. It gives None for 0 and for more than 18 digits too, which may be a number.
+#[inline(always)]
 fn front_by_digits(line: &[u8]) -> Option<(u64, &[u8])>
     ensures { IfSome result (λ r. (r.0 < 2 ^ 64) × (line.now ≡ decimal r.0 ++ 32 ∷ r.1.now)) }
 {
@@ -302,6 +297,7 @@ fn front_by_digits(line: &[u8]) -> Option<(u64, &[u8])>
 
 /// The number whose digits are those of `front` and then these up to the first space, and what follows the
 /// space. It gives None for more than 18 digits too.
+#[inline(always)]
 fn digits_to_space(front: u64, digits: &[u8]) -> Option<(u64, &[u8])>
     requires { (0 < front) × (front < 10) }
     ensures { IfSome result (λ r. (r.0 < 2 ^ 64)
@@ -315,6 +311,8 @@ fn digits_to_space(front: u64, digits: &[u8]) -> Option<(u64, &[u8])>
 }
 
 /// The same as `front_number`, of a number of any length.
+#[cold]
+#[inline(never)]
 fn front_by_mark(line: &[u8]) -> Option<(u64, &[u8])>
     ensures found { IfSome result (λ r. (r.0 < 2 ^ 64)
         × (line.now ≡ decimal r.0 ++ 32 ∷ r.1.now)) }
@@ -327,16 +325,15 @@ fn front_by_mark(line: &[u8]) -> Option<(u64, &[u8])>
     Some((number, rest))
 }
 
-/// The number, maybe with a dash, before the first space, and what follows the space. It also accepts a line
-/// without a space.
-pub(crate) fn next_signed(line: &[u8]) -> Option<(i64, &[u8])>
-    ensures found { IfSome result (λ r. 0 < length r.1.now
-        → line.now ≡ signed_decimal r.0 ++ 32 ∷ r.1.now) }
+/// The number, maybe with a dash, before the first space, and what follows the space; None where there is no
+/// space.
+pub(crate) fn front_signed(line: &[u8]) -> Option<(i64, &[u8])>
+    ensures found { IfSome result (λ r. line.now ≡ signed_decimal r.0 ++ 32 ∷ r.1.now) }
     ensures reads { (n : ℤ) (rest : List ℕ) → FitsSigned w64 n
         → line.now ≡ signed_decimal n ++ 32 ∷ rest
         → IsSomeAnd result (λ r. (r.0 ≡ n) × (r.1.now ≡ rest)) }
 {
-    let (word, rest) = cut(line);
+    let (word, rest) = front_word(line)?;
     let number = signed_of(word)?;
     Some((number, rest))
 }

@@ -1,5 +1,5 @@
 //! The words that begin an act's text.
-ghost use Rattle.std.specs.Prelude.{◌≡◌, Some};
+ghost use Rattle.std.specs.Prelude.{◌≡◌, Some, IfSome};
 ghost use Rattle.tsp_script.specs.Verbs.{verb_word};
 ghost use Rattle.tsp_script.specs.declared.verbs.Verb.{Verb};
 
@@ -106,7 +106,8 @@ impl Verb {
 
     /// The word with these letters; None where there is none.
     pub(crate) fn of_word(word: &[u8]) -> Option<Verb>
-        ensures { (v : Verb) → word.now ≡ verb_word v → result ≡ Some v }
+        ensures found { IfSome result (λ v. word.now ≡ verb_word v) }
+        ensures reads { (v : Verb) → word.now ≡ verb_word v → result ≡ Some v }
     {
         for verb in &VERBS {
             if is_same(verb.word(), word) {

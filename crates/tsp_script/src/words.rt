@@ -1,6 +1,6 @@
 //! Words of a line.
 ghost use Rattle.std.specs.Prelude.{◌≡◌, ℕ, ◌<◌, ◌++◌, ◌∷◌, length, take, Contains, MatchBool};
-ghost use Rattle.std.specs.Prelude.{MatchOption, slice_index_or};
+ghost use Rattle.std.specs.Prelude.{MatchOption, slice_index_or, IfSome, IfNone, List};
 ghost use Rattle.tsp_script.specs.Words.{before_mark, after_mark, first_word, after_word};
 
 /// The place of the first octet of this value.
@@ -36,6 +36,16 @@ pub fn cut(line: &[u8]) -> (&[u8], &[u8])
     ensures rest { result.1.now ≡ after_word line.now }
 {
     part(line, b' ')
+}
+
+/// The word before the first space, and what follows the space; None where there is no space.
+pub(crate) fn front_word(line: &[u8]) -> Option<(&[u8], &[u8])>
+    ensures found { IfSome result (λ r. (r.0.now ≡ first_word line.now)
+        × (r.1.now ≡ after_word line.now) × (line.now ≡ r.0.now ++ 32 ∷ r.1.now)) }
+    ensures none { IfNone result ((word rest : List ℕ) → line.now ≡ word ++ 32 ∷ rest → ⊥) }
+{
+    let place = mark_at(line, b' ')?;
+    Some((line.split_at(place).0, line.split_at(place + 1).1))
 }
 
 /// Whether two texts are the same.

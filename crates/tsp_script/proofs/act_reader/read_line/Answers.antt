@@ -1,5 +1,5 @@
 use Rattle.std.proofs.Common.{◌∙◌, ◌<◌, ◌^◌, sym, subst, arith}
-use Rattle.tsp_script.proofs.ActTexts.{trace_parts, behind_event, behind_node, behind_port, line_of_parts}
+use Rattle.tsp_script.proofs.ActTexts.{trace_parts, behind_event, behind_node, behind_port, line_of_parts, line_found}
 use Rattle.tsp_script.proofs.Outcomes.{none_not_some}
 use Rattle.tsp_script.proofs.act_reader.read_line.Goals as goal
 
@@ -53,3 +53,8 @@ returns-clause-reads c = λ l s.
     let t = c.in_ok-tick.ensures.reads l.tick _ s.0.tick p.1 in
     let a = c.in_ok-number.ensures.reads l.number l.placed.act s.0.act s.0.number t.1 in
     line_of_parts _ _ _ _ _ _ l e.0 (c.in_ok-node-2.ensures.same.0 ∙ n.0) (c.in_ok-port-2.ensures.same.0 ∙ p.0) t.0 a.0 a.1
+
+pub returns-clause-found : goal.returns-clause-found
+returns-clause-found c =
+    line_found c.args.line.now c.in_ok-event.rest.now c.in_ok-node.rest.now c.in_ok-port.rest.now c.in_ok-tick.rest.now (record { event = c.in_ok-event.event; node = c.in_ok-node-2.node; tick = c.in_ok-tick.tick; number = c.in_ok-number.number; placed = record { port = record { 0 = c.in_ok-port-2.port }; act = c.in_ok-number.act } })
+    c.in_ok-event.ensures.found.1 (rw c.in_ok-node-2.ensures.same.0 c.in_ok-node.ensures.found.1) (rw c.in_ok-port-2.ensures.same.0 c.in_ok-port.ensures.found.1) c.in_ok-tick.ensures.found.1 c.in_ok-number.ensures.found

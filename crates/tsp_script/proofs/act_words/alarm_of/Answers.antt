@@ -2,5 +2,5 @@ use Rattle.std.proofs.Common.{arith}
 use Rattle.tsp_script.proofs.WordTables.{no_alarm}
 use Rattle.tsp_script.proofs.act_words.alarm_of.Goals as goal
 
-pub returns : goal.returns
-returns c = λ a e. absurd (no_alarm c.args.word.now _ a (let all = c.loop-alarm-test.false in omega (arith, all)) c.loop-alarm.invariant e)
+pub returns-clause-reads : goal.returns-clause-reads
+returns-clause-reads c = λ a e. absurd (no_alarm c.args.word.now _ a (let all = c.loop-alarm-test.false in omega (arith, all)) c.loop-alarm.invariant e)

@@ -16,7 +16,7 @@ pub returns-then-carries_hops-clause-reads : goal.returns-then-carries_hops-clau
 returns-then-carries_hops-clause-reads c = λ body rest b f e. c.next_hops.ensures.reads body rest b (hops_body c.args.kind body (sym c.if-carries_hops.ensures) f) e
 
 pub returns-clause-found : goal.returns-clause-found
-returns-clause-found c = (tt, nothing_fits c.args.kind (sym c.if-carries_time.ensures) (sym c.if-carries_hops.ensures), λ _. refl)
+returns-clause-found c = (tt, nothing_fits c.args.kind (sym c.if-carries_time.ensures) (sym c.if-carries_hops.ensures), refl)
 
 pub returns-clause-reads : goal.returns-clause-reads
 returns-clause-reads c = λ body rest b f e. no_body c.args.kind body c.args.line.now rest (sym c.if-carries_time.ensures) (sym c.if-carries_hops.ensures) f e
