@@ -18,14 +18,14 @@ use Rattle.tsp_history.proofs.NoteLemmas.{length-history}
 use Rattle.tsp_base.specs.declared.trace.Line2.{Line2}
 use Rattle.tsp_audit.proofs.audit.Audit.event.Goals as goal
 
-pub returns-then-is_err-in-Some : goal.returns-then-is_err-in-Some
-returns-then-is_err-in-Some c premises header claims stands = (
+pub returns-in-Some : goal.returns-in-Some
+returns-in-Some c premises header claims stands = (
   c.in-Some.ensures header claims stands.claims_stand,
   audit-with premises header claims c.args.self.now c.args.self.now.claims c.make_room.new.self stands stands.claims_stand (c.make_room.ensures.stand premises (length header.nodes) (claimed header claims)),
 )
 
-pub returns-then-is_err-in-None : goal.returns-then-is_err-in-None
-returns-then-is_err-in-None c premises header claims stands = (
+pub returns-in-None : goal.returns-in-None
+returns-in-None c premises header claims stands = (
   c.in-None.ensures header claims stands.claims_stand,
   audit-with premises header claims c.args.self.now c.args.self.now.claims c.make_room.new.self stands stands.claims_stand (c.make_room.ensures.stand premises (length header.nodes) (claimed header claims)),
 )
