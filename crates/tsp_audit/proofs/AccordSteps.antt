@@ -97,7 +97,7 @@ accord-next count h l a b is trips last nodes many = record {
   nodes_are = nodes;
 }
 
-pub accord-blank : (count : ℕ) (a : AgreementTracker) → count ≤ 64 → AreBlank count a.nodes.items → a.trips.items ≡ [] → a.last ≡ None → AccordIs count [] a
+pub accord-blank : (count : ℕ) (a : AgreementTracker) → count ≤ 16 → AreBlank count a.nodes.items → a.trips.items ≡ [] → a.last ≡ None → AccordIs count [] a
 accord-blank count a few blank trips last = record {
   few = few;
   many = blank.many;

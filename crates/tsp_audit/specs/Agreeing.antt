@@ -100,7 +100,7 @@ AllAre h states = (n : ℕ) (s : NodeState) → IsAt states n s → NodeIs n h s
 
 -- a tracker of this many nodes stands for a history
 pub record AccordIs (count : ℕ) (h : List Line) (a : AgreementTracker) : Type 0 where
-  pub few : count ≤ 64
+  pub few : count ≤ 16
   pub many : length a.nodes.items ≡ count
   pub lines : length a.trips.items ≡ length h
   pub trips_tell : TripsTell h a.trips.items

@@ -16,6 +16,7 @@ ghost use Rattle.tsp_audit.specs.Settings.{HasClocks, Timely};
 use crate::nearness::all_agree;
 use crate::resting::rests;
 use crate::round_correction::NodeState;
+use crate::standing::MOST_NODES;
 use crate::states::{blank, is_quiet, state_after};
 use std::alloc::{AllocError, Global};
 use tsp_base::header::Header;
@@ -134,7 +135,7 @@ impl AgreementTracker {
 
     /// Nothing has happened to so many nodes. Takes memory for them; fails only if out of memory.
     pub(crate) fn new(alloc: Global, count: usize) -> Result<AgreementTracker, AllocError>
-        requires { count ≤ 64 }
+        requires { count ≤ 16 }
         ensures { IfOk result (λ accord. AccordIs count [] accord) }
     {
         match blanks(alloc, count) {
@@ -186,7 +187,7 @@ impl AgreementTracker {
 
     /// Whether the clocks of all nodes agree at a true time, in microseconds; with `known`, they are known to.
     fn agree_at(&self, header: &Header, at: u64, known: bool) -> bool
-        requires few { length self.now.nodes.items ≤ 64 }
+        requires few { length self.now.nodes.items ≤ 16 }
         requires known { known ≡ true → at ≤ 1000000000000000 → AllBounded self.now.nodes.items
             → AllAgree header.now at self.now.nodes.items }
         ensures { at ≤ 1000000000000000 → AllBounded self.now.nodes.items
@@ -228,7 +229,7 @@ impl AgreementTracker {
         if line.act.is_mark() {
             return true;
         }
-        if self.nodes.len() > 64 {
+        if self.nodes.len() > MOST_NODES {
             return false;
         }
         self.agree_at(header, line.at, known)

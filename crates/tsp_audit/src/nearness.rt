@@ -149,7 +149,7 @@ fn node_agrees(node: usize, a: &NodeState, states: &[NodeState], stand: &[Standi
 /// Whether each of these nodes agrees with all that its Close corrected, and with its master, at a
 /// true time in microseconds.
 pub(crate) fn all_agree(header: &Header, at: u64, states: &[NodeState]) -> bool
-    requires { length states.now ≤ 64 }
+    requires { length states.now ≤ 16 }
     ensures { at ≤ 1000000000000000 → AllBounded states.now
         → IsWhether result (AllAgree header.now at states.now) }
 {

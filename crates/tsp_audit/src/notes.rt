@@ -20,7 +20,7 @@ impl Notes {
 
     /// Nothing is noted of so many nodes. Fails only if out of memory.
     pub(crate) fn new(alloc: Global, count: usize) -> Result<Notes, AllocError>
-        requires { count ≤ 64 }
+        requires { count ≤ 16 }
         ensures { IfOk result (λ notes. (premises : Premises)
             → NotesStand premises count [] notes) }
     {

@@ -11,6 +11,9 @@ use tsp_base::constants::SCHEDULE_END;
 use tsp_base::drift::width;
 use tsp_base::header::Header;
 
+/// The most nodes that an audited schedule has.
+pub(crate) const MOST_NODES: usize = 16;
+
 /// How far, at most, a clock may have drifted since a reading, in microseconds.
 fn drifted(drift: u32, at: u64, reading: u64) -> u64
     requires { drift ≤ 1000 }
@@ -63,15 +66,15 @@ fn stand_of(header: &Header, at: u64, node: u32, a: &NodeState) -> Standing
 }
 
 /// What each of these nodes' clocks shows at a true time, at the index of the node.
-pub(crate) fn standings(header: &Header, at: u64, states: &[NodeState]) -> [Standing; 64]
-    requires { length states.now ≤ 64 }
+pub(crate) fn standings(header: &Header, at: u64, states: &[NodeState]) -> [Standing; MOST_NODES]
+    requires { length states.now ≤ 16 }
     ensures { at ≤ 1000000000000000 → AllStand header.now at states.now result }
 {
     let mut stand = [Standing {
         clock: 0,
         low: 0,
         high: 0,
-    }; 64];
+    }; MOST_NODES];
     for node in 0..states.len() {
         stand[node] = stand_of(header, at, node as u32, &states[node]);
     }

@@ -3,6 +3,7 @@
 use std::alloc::{AllocError, Global};
 use tsp_base::event::{Event, EventFault};
 use tsp_base::header::Header;
+use tsp_base::place::{Place, Port};
 use tsp_base::plain::Plain;
 use tsp_schedule::handler::EventHandler;
 use tsp_world::world::World;
@@ -37,5 +38,16 @@ impl EventHandler for Replayed {
             Plain::Turn { at, node } => self.world.turn(*at, *node),
             Plain::Take { at, datagram } => self.world.take(*at, *datagram),
         }
+    }
+
+    fn bytes(
+        &mut self,
+        at: u64,
+        node: u32,
+        port: Port,
+        from: Place,
+        octets: &[u8],
+    ) -> Result<(), EventFault> {
+        self.world.bytes(at, node, port, from, octets)
     }
 }

@@ -10,6 +10,8 @@ ghost use Rattle.tsp_script.specs.Schedules.{IsEvent};
 use std::alloc::{AllocError, Global};
 use tsp_base::event::{Event, EventFault};
 use tsp_base::header::Header;
+use tsp_base::octets::Octets;
+use tsp_base::place::{Place, Port};
 use tsp_base::plain::Plain;
 
 /// A handler of a schedule's events. It gets the header once, and then one event after the other.
@@ -47,5 +49,36 @@ pub trait EventHandler: Drop {
             (λ f. IsRefusal (refused header events (event_in plain.now)) f) }
     {
         self.event(&plain.event())
+    }
+
+    /// Does as `event` does with an event of these octets. A handler of its own for these need not keep them.
+    fn bytes(
+        &mut self,
+        at: u64,
+        node: u32,
+        port: Port,
+        from: Place,
+        octets: &[u8],
+    ) -> Result<(), EventFault>
+        requires { IsEvent (Event.Bytes at node port from octets.now) }
+        ensures happens { (header : HeaderValue) (events : List Event)
+            → stands header events self.old
+            → OnOk result (stands header (Event.Bytes at node port from octets.now ∷ events)
+            self.new) }
+        ensures fault { (header : HeaderValue) (events : List Event) → stands header events self.old
+            → MatchResult result (λ _. refused header events (Event.Bytes at node port from
+            octets.now) ≡ None) (λ f. IsRefusal (refused header events (Event.Bytes at node port
+            from octets.now)) f) }
+    {
+        match Octets::of(octets) {
+            Some(octets) => self.event(&Event::Bytes {
+                at,
+                node,
+                port,
+                from,
+                octets,
+            }),
+            None => unreachable!(),
+        }
     }
 }

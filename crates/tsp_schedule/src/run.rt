@@ -16,7 +16,7 @@ use tsp_base::header::Header;
 use tsp_base::plain::Plain;
 use tsp_lines::cause::Cause;
 use tsp_lines::treatment::Stop;
-use tsp_script::event_line::{EventItem, event_line, plain_line};
+use tsp_script::event_line::{EventItem, HandedLine, event_line, handed_line, plain_line};
 
 /// The line of a turn or a take is at most so long; a longer one isn't tried as such.
 const PLAIN: usize = 45;
@@ -97,10 +97,23 @@ impl<C: EventHandler> Run<C> {
         self.any(line)
     }
 
-    /// Reads any line where the last line wasn't read yet. Only here is there room for an event's octets, since
-    /// each call clears that room.
+    /// Reads any line where the last line wasn't read yet. Octets are handed on from where they were read.
     #[inline(never)]
     fn any(&mut self, line: &[u8]) -> Result<(), Stop>
+        requires { self.old.over ≡ false }
+        ensures next { ReadsOn C.refused C.stands self.old line.now self.new result }
+        ensures kind { result ≢ Err Stop.WriteFault }
+    {
+        let mut octets = [0; 512];
+        match handed_line(line, &mut octets) {
+            Some(handed) => self.happen_bytes(handed, &octets[..handed.count]),
+            None => self.rare(line),
+        }
+    }
+
+    /// Reads a line that has no octets. Only here is there room for any event, since each call clears that room.
+    #[inline(never)]
+    fn rare(&mut self, line: &[u8]) -> Result<(), Stop>
         requires { self.old.over ≡ false }
         ensures next { ReadsOn C.refused C.stands self.old line.now self.new result }
         ensures kind { result ≢ Err Stop.WriteFault }
@@ -123,6 +136,27 @@ impl<C: EventHandler> Run<C> {
         ensures kind { result ≢ Err Stop.WriteFault }
     {
         match self.course.event(e) {
+            Ok(()) => Ok(()),
+            Err(fault) => Err(stop_of(fault)),
+        }
+    }
+
+    /// Lets an event of these octets happen.
+    fn happen_bytes(&mut self, handed: HandedLine, octets: &[u8]) -> Result<(), Stop>
+        requires { IsEvent (Event.Bytes handed.at handed.node handed.port handed.from octets.now) }
+        ensures next { Treats C.refused C.stands self.old (Event.Bytes handed.at handed.node
+            handed.port handed.from octets.now) self.new result }
+        ensures over { self.new.over ≡ self.old.over }
+        ensures kind { result ≢ Err Stop.WriteFault }
+    {
+        let HandedLine {
+            at,
+            node,
+            port,
+            from,
+            count: _,
+        } = handed;
+        match self.course.bytes(at, node, port, from, octets) {
             Ok(()) => Ok(()),
             Err(fault) => Err(stop_of(fault)),
         }

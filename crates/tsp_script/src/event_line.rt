@@ -1,6 +1,6 @@
 //! The lines of a schedule after its header.
 ghost use Rattle.std.specs.Prelude.{◌≡◌, ◌≢◌, ℕ, ◌^◌, ◌<◌, ◌≤◌, ◌+◌, ◌++◌, ◌∷◌, List, [], length};
-ghost use Rattle.std.specs.Prelude.{decimal, codes, IfSome, IfNone, IsSomeAnd};
+ghost use Rattle.std.specs.Prelude.{decimal, codes, take, Ok, IfSome, IfNone, IsSomeAnd};
 ghost use Rattle.hex.specs.Hex.{decode_of};
 ghost use Rattle.tsp_base.specs.declared.event.Event.{Event};
 ghost use Rattle.tsp_base.specs.declared.place.Place.{Place};
@@ -55,23 +55,22 @@ fn long_number(word: &[u8]) -> Option<u32>
     long_of(number)
 }
 
-/// The octets of hexadecimal, whose letters may be in either case; None where it isn't hexadecimal, or of
-/// no octet or more than 300.
-fn handed_of(hex: &[u8]) -> Option<Octets>
-    ensures found { IfSome result (λ octets. (decode_of hex.now ≡ Ok octets) × (1 ≤ length octets)
-        × (length octets ≤ 300) × (length hex.now ≤ 600)) }
-    ensures reads { (octets : List ℕ) → 1 ≤ length octets → length octets ≤ 300
-        → decode_of hex.now ≡ Ok octets → result ≡ Some octets }
+/// Puts the octets of hexadecimal, whose letters may be in either case, at the front of a buffer, and gives how many
+/// they are; None where it isn't hexadecimal, or of no octet or more than 300.
+fn octets_handed(hex: &[u8], buffer: &mut [u8; 512]) -> Option<usize>
+    ensures found { IfSome result (λ n. (decode_of hex.now ≡ Ok (take n buffer.new)) × (1 ≤ n)
+        × (n ≤ 300)) }
+    ensures none { IfNone result ((octets : List ℕ) → 1 ≤ length octets → length octets ≤ 300
+        → decode_of hex.now ≡ Ok octets → ⊥) }
 {
     if hex.len() > 600 {
         return None;
     }
-    let mut buffer = [0u8; 512];
-    let count = octets_in(hex, &mut buffer)?;
+    let count = octets_in(hex, buffer)?;
     if count == 0 {
         return None;
     }
-    Octets::of(&buffer[..count])
+    Some(count)
 }
 
 /// The time of an event's line, and what follows the space after it.
@@ -169,9 +168,27 @@ fn front_place(line: &[u8]) -> Option<(Place, &[u8])>
     Some((Place::Peer(PeerId(number)), rest))
 }
 
-/// The event of a line with octets; None exactly where the line is no such event's.
-fn bytes_line(line: &[u8]) -> Option<Event>
-    ensures found { IfSome result (λ e. SpellsEvent line.now (EventItem.Event e)) }
+/// What the line of an event with octets says, except for the octets, which stand at the front of a buffer.
+#[derive(Clone, Copy)]
+pub struct HandedLine {
+    /// The true time.
+    pub at: u64,
+    /// Which node.
+    pub node: u32,
+    /// On which of its ports.
+    pub port: Port,
+    /// Who seems to have sent the octets.
+    pub from: Place,
+    /// How many octets there are, 1 to 300.
+    pub count: usize,
+}
+
+/// Reads the line of an event with octets, and puts these at the front of a buffer; None exactly where the line is no
+/// such event's.
+pub fn handed_line(line: &[u8], buffer: &mut [u8; 512]) -> Option<HandedLine>
+    ensures found { IfSome result (λ h. SpellsEvent line.now (EventItem.Event (Event.Bytes h.at
+        h.node h.port h.from (take h.count buffer.new)))) }
+    ensures count { IfSome result (λ h. h.count ≤ 300) }
     ensures none { IfNone result ((at node : ℕ) (port : Port) (from : Place) (octets : List ℕ)
         → SpellsEvent line.now (EventItem.Event (Event.Bytes at node port from octets)) → ⊥) }
 {
@@ -179,12 +196,30 @@ fn bytes_line(line: &[u8]) -> Option<Event>
     let line = after(line, b"bytes ")?;
     let (node, port, line) = front_node(line)?;
     let (from, hex) = front_place(line)?;
-    let octets = handed_of(hex)?;
-    Some(Event::Bytes {
+    let count = octets_handed(hex, buffer)?;
+    Some(HandedLine {
         at,
         node,
         port,
         from,
+        count,
+    })
+}
+
+/// The event of a line with octets; None exactly where the line is no such event's.
+fn bytes_line(line: &[u8]) -> Option<Event>
+    ensures found { IfSome result (λ e. SpellsEvent line.now (EventItem.Event e)) }
+    ensures none { IfNone result ((at node : ℕ) (port : Port) (from : Place) (octets : List ℕ)
+        → SpellsEvent line.now (EventItem.Event (Event.Bytes at node port from octets)) → ⊥) }
+{
+    let mut buffer = [0; 512];
+    let handed = handed_line(line, &mut buffer)?;
+    let octets = Octets::of(&buffer[..handed.count])?;
+    Some(Event::Bytes {
+        at: handed.at,
+        node: handed.node,
+        port: handed.port,
+        from: handed.from,
         octets,
     })
 }

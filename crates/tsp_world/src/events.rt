@@ -93,7 +93,7 @@ impl World {
     }
 
     /// Octets reach a node on a port.
-    pub(crate) fn bytes(
+    pub fn bytes(
         &mut self,
         at: u64,
         node: u32,
