@@ -11,7 +11,8 @@ use Rattle.tsp_base.specs.declared.event.Event.{Event}
 use Rattle.tsp_base.specs.Headers.{HeaderValue}
 use Rattle.tsp_audit_command.specs.ClaimReaders.{ClaimingValue, FitsFirst, most_lines, pass_first, tallied}
 use Rattle.tsp_audit_command.specs.Listings.{AreListed, IsAudited, IsListed}
-use Rattle.tsp_audit_command.specs.Sound.{FitAtHand, Sound, claims_on, first_end}
+use Rattle.tsp_audit_command.specs.Sound.{FitAtHand, Sound, claims_by, claims_on, first_end}
+use Rattle.tsp_history.specs.Histories.{history_of}
 use Rattle.tsp_audit_command.proofs.ClaimLemmas.{EndsAt-more, EndsAt-none, claims_on-more, passed-more}
 use Rattle.tsp_audit_command.proofs.FitLemmas.{AllFit-so-far, FitSoFar-more, tallied-more, tallied-posts}
 use Rattle.tsp_audit_command.proofs.PassLemmas.{pass-whole}
@@ -157,4 +158,27 @@ module _ (header : HeaderValue) (events : List Event) (claims : Claims) (ends : 
         tally_is = counting_is ∙ (ap (λ t. counted t l.placed.act) s.tally_is ∙ (sym (tallied-more untold pending l) ∙ ap (λ ls. tallied untold ls) (sym more_is)));
         premises_are = s.premises_are;
         few_lines = omega (arith, long, told_is, room);
+      }
+
+  -- claims that stand for the same hold the same
+  pub Sound-kept : (now : Claims) → ClaimsStand header (claims_on events ends claims) now → Sound header events now ends pending tally premises
+  Sound-kept now stand =
+      let same : history_of now.lines.lines ≡ history_of claims.lines.lines = stand.history ∙ sym s.stand.history in
+      let are : claims_on events ends now ≡ claims_on events ends claims = ap (λ h. claims_by (reverse (take (length ends) events)) (reverse ends) h) same in
+      let told_is = stand.told in
+      let told_was = s.stand.told in
+      let lines = s.few_lines in
+      record {
+        header_is = s.header_is;
+        listed = s.listed;
+        within = s.within;
+        stand = subst (λ (cs : List Claim). ClaimsStand header cs now) (sym are) stand;
+        dated = subst (λ (cs : List Claim). AreDated (length header.nodes) cs) (sym are) s.dated;
+        ends_at = subst (λ (cs : List Claim). EndsAt header cs ends) (sym are) s.ends_at;
+        last_end = s.last_end ∙ ap (λ (cs : List Claim). length (claimed header cs)) (sym are);
+        events_are = ap (λ (cs : List Claim). events_of cs) are ∙ s.events_are;
+        at_hand = subst (λ (cs : List Claim). FitAtHand header cs (drop (length ends) events) pending) (sym are) s.at_hand;
+        tally_is = s.tally_is;
+        premises_are = s.premises_are ∙ ap (λ (cs : List Claim). premises_of header cs) (sym are);
+        few_lines = omega (arith, told_is, told_was, lines);
       }

@@ -4,11 +4,11 @@ use Rattle.std.proofs.Common.{◌∙◌, ap, subst, inl, inr, sym, refl, append-
 use Rattle.tsp_audit_command.specs.declared.check.AuditInput.{AuditInput}
 use Rattle.tsp_audit_command.specs.declared.check.AuditInput.TheVariants.{Schedule, Claims as ClaimsOf}
 use Rattle.tsp_audit_command.specs.declared.listing.Listing.{Listing}
-use Rattle.tsp_audit_command.specs.ClaimReaders.{ClaimingValue, comes_to, told_more}
+use Rattle.tsp_audit_command.specs.ClaimReaders.{ClaimingValue, comes_to, passes_all, told_more}
 use Rattle.tsp_audit_command.specs.Listings.{most_nodes, refused}
 use Rattle.tsp_audit_command.specs.Meaning.{auditing}
 use Rattle.tsp_audit_command.specs.Readings.{Claimed, Lacks, Reaches, Reading, Refuses, Scheduling, nodes_at, reading_of}
-use Rattle.tsp_audit_command.specs.Stands.{Advances, ClaimAdvances, Halts, HaltsBehind, HeldStands, ListingStands, Stands}
+use Rattle.tsp_audit_command.specs.Stands.{Advances, ClaimAdvances, Halts, HaltsBehind, HaltsConcluding, HeldStands, ListingStands, Stands, Unpassed}
 use Rattle.tsp_audit_command.proofs.PassLemmas.{some-one}
 use Rattle.tsp_audit_command.proofs.Reverses.{reverse-more}
 use Rattle.tsp_audit_command.proofs.TraceLengths.{SpellsTrace-long}
@@ -60,6 +60,18 @@ Advances-claimed c line next (l, tells, (here, fits, room, is)) = record {
 pub Advances-held : (r : Reading) (held : AuditInput) (c next : ClaimingValue) (line : List ℕ) → held ≡ ClaimsOf c → HeldStands r held → ClaimAdvances c line next → Advances r line (ClaimsOf next)
 Advances-held (Scheduling p) held c next line is stands a = let bad : ⊥ = subst (λ h. HeldStands (Scheduling p) h) is stands in absurd bad
 Advances-held (Claimed v) held c next line is stands a = let same : c ≡ v = subst (λ h. HeldStands (Claimed v) h) is stands in subst (λ x. Advances (Claimed x) line (ClaimsOf next)) same (Advances-claimed c line next a)
+
+-- a claimed line that isn't accepted
+pub Halts-held : (r : Reading) (held : AuditInput) (c : ClaimingValue) (line : List ℕ) (stop : Stop) → held ≡ ClaimsOf c → HeldStands r held → Halts (Claimed c) line stop → Halts r line stop
+Halts-held (Scheduling p) held c line stop is stands h = let bad : ⊥ = subst (λ x. HeldStands (Scheduling p) x) is stands in absurd bad
+Halts-held (Claimed v) held c line stop is stands h = let same : c ≡ v = subst (λ x. HeldStands (Claimed v) x) is stands in subst (λ x. Halts (Claimed x) line stop) same h
+
+-- events that are left can't be passed
+pub Halts-concluding : (c : ClaimingValue) (written : Option (List ℕ)) (held : List ℕ) (stop : Stop) → Unpassed (passes_all c) stop → HaltsConcluding c written held written held stop
+Halts-concluding c written held (Bad cause) u = (Hands-nil written held, u)
+Halts-concluding c written held Limit u = u
+Halts-concluding c written held WriteFault u = absurd u
+Halts-concluding c written held OutOfMemory u = Hands-nil written held
 
 -- an accepted line
 pub Goes-advances : (lines : List (List ℕ)) (text line : List ℕ) (r : Reading) (next : AuditInput) (written : Option (List ℕ)) (held : List ℕ) → Reaches (reverse lines) r → text ≡ [] → ((q : Reading) → Reaches (reverse lines) q → Advances q line next) →

@@ -61,7 +61,7 @@ fn missing(stage: &Stage<Listing>) -> Cause
 /// Passes the events that are left, and puts the verdict into `output`. `Bad` with `history` where one of them lacks
 /// something; `WriteFault` where a write to the sink fails; else fails only if out of memory. After any of these
 /// nothing of the verdict was put.
-fn conclude<K: Sink>(claiming: ClaimReader, output: &mut Output, sink: &mut K) -> Result<(), Stop>
+fn conclude<K: Sink>(mut claiming: ClaimReader, output: &mut Output, sink: &mut K) -> Result<(), Stop>
     ensures ends { MatchResult result
         (λ _. Concludes claiming (K.written sink.old) output.old (K.written sink.new) output.new)
         (HaltsConcluding claiming (K.written sink.old) output.old (K.written sink.new) output.new) }
@@ -71,7 +71,7 @@ fn conclude<K: Sink>(claiming: ClaimReader, output: &mut Output, sink: &mut K) -
     ensures still { result ≢ Err Stop.WriteFault → K.faults sink.new ≡ K.faults sink.old }
 {
     match claiming.pass_all() {
-        Ok(all) => match all.judge() {
+        Ok(()) => match claiming.judge() {
             Ok(found) => tell(found, output, sink),
             Err(_) => Err(Stop::OutOfMemory),
         },
@@ -87,9 +87,37 @@ impl AuditInput {
         AuditInput::Schedule(Stage::Untitled)
     }
 
-    /// What the lines come to with this one more; it comes without its line feed, in at most 1,024 octets. `Bad` with
-    /// the cause where it can't follow the lines before it. `Limit` where it could but for a limit: it has node 17,
-    /// event 20,001 or claimed line 20,001. Else fails only if out of memory. After a fault nothing is held any more.
+    /// Reads one line more; it comes without its line feed, in at most 1,024 octets. `Bad` with the cause where it can't
+    /// follow the lines before it. `Limit` where it could but for a limit: it has node 17, event 20,001 or claimed line
+    /// 20,001. Else fails only if out of memory. After a fault no further line must be read.
+    fn advance(&mut self, alloc: Global, line: &[u8]) -> Result<(), Stop>
+        ensures next { (r : Reading) → HeldStands r self.old
+            → MatchResult result (λ _. Advances r line.now self.new) (Halts r line.now) }
+        ensures kind { result ≢ Err Stop.WriteFault }
+    {
+        if let AuditInput::Claims(claiming) = self {
+            return claiming.line(line);
+        }
+        self.go_on(alloc, line)
+    }
+
+    /// The same within the schedule. Only here is there room for what is held next, since each call clears that room.
+    #[inline(never)]
+    fn go_on(&mut self, alloc: Global, line: &[u8]) -> Result<(), Stop>
+        ensures next { (r : Reading) → HeldStands r self.old
+            → MatchResult result (λ _. Advances r line.now self.new) (Halts r line.now) }
+        ensures kind { result ≢ Err Stop.WriteFault }
+    {
+        match mem::replace(self, AuditInput::new()).next(alloc, line) {
+            Ok(next) => {
+                *self = next;
+                Ok(())
+            }
+            Err(stop) => Err(stop),
+        }
+    }
+
+    /// What the lines come to with this one more; fails as `advance` does.
     fn next(self, alloc: Global, line: &[u8]) -> Result<AuditInput, Stop>
         ensures next { (r : Reading) → HeldStands r self
             → MatchResult result (Advances r line.now) (Halts r line.now) }
@@ -97,8 +125,8 @@ impl AuditInput {
     {
         match self {
             AuditInput::Schedule(stage) => Self::schedule(alloc, stage, line),
-            AuditInput::Claims(claiming) => match claiming.line(line) {
-                Ok(next) => Ok(AuditInput::Claims(next)),
+            AuditInput::Claims(mut claiming) => match claiming.line(line) {
+                Ok(()) => Ok(AuditInput::Claims(claiming)),
                 Err(stop) => Err(stop),
             },
         }
@@ -207,11 +235,8 @@ impl Treatment for Check {
         _output: &mut Output,
         _sink: &mut K,
     ) -> Result<(), Stop> {
-        match mem::replace(&mut self.held, AuditInput::new()).next(self.alloc, line) {
-            Ok(next) => {
-                self.held = next;
-                Ok(())
-            }
+        match self.held.advance(self.alloc, line) {
+            Ok(()) => Ok(()),
             Err(stop) => Err(stop),
         }
     }

@@ -28,8 +28,7 @@ fn bad_history() -> Stop
 }
 
 /// The events of a schedule, and the lines that are claimed of them so far: those of the events
-/// that were passed, and those of the event at hand. Each method that answers with a reader gives this
-/// one back, changed, with `Ok`; with a fault it is gone.
+/// that were passed, and those of the event at hand. After a fault no further line must be read.
 #[derive(Drop)]
 pub(crate) struct ClaimReader {
     /// Where memory comes from.
@@ -104,59 +103,51 @@ impl ClaimReader {
 
     /// Passes the event at hand. `Bad` with `history` where there is none, or where it lacks something with the lines
     /// that it has; else fails only if out of memory.
-    fn pass_one(self) -> Result<ClaimReader, Stop>
-        ensures { MatchResult result (λ now. pass_one self ≡ Some now) (Unpassed (pass_one self)) }
+    fn pass_one(&mut self) -> Result<(), Stop>
+        ensures { MatchResult result (λ _. pass_one self.old ≡ Some self.new)
+            (Unpassed (pass_one self.old)) }
     {
-        let events = self.events;
-        let mut claims = self.claims;
-        let mut ends = self.ends;
-        let mut pending = self.pending;
-        let at = ends.len();
-        let e = match events.get(at) {
+        let at = self.ends.len();
+        let e = match self.events.get(at) {
             Some(e) => e.event(),
             None => return Err(bad_history()),
         };
         if self.tally.lacks(&e) {
             return Err(bad_history());
         }
-        let premises = keep_with(self.premises, &events[..at], claims.posts(), &e);
-        if claims.add(&e, pending.lines()).is_err() {
+        if self.ends.reserve(1).is_err() {
             return Err(Stop::OutOfMemory);
         }
-        if ends.push(claims.lines().len() as u32).is_err() {
+        let premises = keep_with(self.premises, &self.events[..at], self.claims.posts(), &e);
+        if self.claims.add(&e, self.pending.lines()).is_err() {
             return Err(Stop::OutOfMemory);
         }
-        pending.clear();
-        Ok(ClaimReader {
-            alloc: self.alloc,
-            events,
-            claims,
-            ends,
-            pending,
-            tally: Tally::new(),
-            premises,
-        })
+        let end = self.claims.lines().len() as u32;
+        self.ends.push_reserved(end);
+        self.pending.clear();
+        self.tally = Tally::new();
+        self.premises = premises;
+        Ok(())
     }
 
     /// Passes this many events, one after the other; fails where one of them does, as `pass_one` does.
-    fn pass(self, count: u64) -> Result<ClaimReader, Stop>
-        ensures { MatchResult result (λ now. passes count self ≡ Some now)
-            (Unpassed (passes count self)) }
+    fn pass(&mut self, count: u64) -> Result<(), Stop>
+        ensures { MatchResult result (λ _. passes count self.old ≡ Some self.new)
+            (Unpassed (passes count self.old)) }
     {
-        let mut now = self;
         for _ in 0..count {
-            match now.pass_one() {
-                Ok(next) => now = next,
+            match self.pass_one() {
+                Ok(()) => {}
                 Err(stop) => return Err(stop),
             }
         }
-        Ok(now)
+        Ok(())
     }
 
     /// Passes all events that are left; fails as `pass` does.
-    pub(crate) fn pass_all(self) -> Result<ClaimReader, Stop>
-        ensures { MatchResult result (λ now. passes_all self ≡ Some now)
-            (Unpassed (passes_all self)) }
+    pub(crate) fn pass_all(&mut self) -> Result<(), Stop>
+        ensures { MatchResult result (λ _. passes_all self.old ≡ Some self.new)
+            (Unpassed (passes_all self.old)) }
     {
         let left = self.events.len() - self.ends.len();
         self.pass(left as u64)
@@ -181,8 +172,9 @@ impl ClaimReader {
 
     /// Adds a line to those of the event at hand. `Bad` with `history` where it doesn't fit as the next one; `Limit`
     /// where it does, but 20,000 lines are claimed already; else fails only if out of memory.
-    fn add(self, line: Line2) -> Result<ClaimReader, Stop>
-        ensures { MatchResult result (λ now. Adds self line now) (HaltsAdding self line) }
+    fn add(&mut self, line: Line2) -> Result<(), Stop>
+        ensures { MatchResult result (λ _. Adds self.old line self.new)
+            (HaltsAdding self.old line) }
     {
         if !self.fits(&line) {
             return Err(bad_history());
@@ -192,38 +184,31 @@ impl ClaimReader {
         }
         let mut tally = self.tally;
         tally.count(&line.placed.act);
-        let mut pending = self.pending;
-        if pending.push(line).is_err() {
+        if self.pending.push(line).is_err() {
             return Err(Stop::OutOfMemory);
         }
-        Ok(ClaimReader {
-            alloc: self.alloc,
-            events: self.events,
-            claims: self.claims,
-            ends: self.ends,
-            pending,
-            tally,
-            premises: self.premises,
-        })
+        self.tally = tally;
+        Ok(())
     }
 
     /// Passes the events before that of the line, and adds the line to those of its event. `Bad` with `history` where
     /// one of those lacks something, where there is no event of this number, and where the line doesn't fit, as when
     /// its event was passed before. `Limit` where it fits and is line 20,001; else fails only if out of memory.
-    fn tell(self, line: Line2) -> Result<ClaimReader, Stop>
-        ensures { MatchResult result (λ now. TellsMore self line now) (HaltsTelling self line) }
+    fn tell(&mut self, line: Line2) -> Result<(), Stop>
+        ensures { MatchResult result (λ _. TellsMore self.old line self.new)
+            (HaltsTelling self.old line) }
     {
         let before = line.event.saturating_sub(self.claims.events() + 1);
         match self.pass(before) {
-            Ok(here) => here.add(line),
+            Ok(()) => self.add(line),
             Err(stop) => Err(stop),
         }
     }
 
     /// Reads a claimed line, without its line feed. `Bad` with `line` where it is no line of a trace; else as `tell`.
-    pub(crate) fn line(self, line: &[u8]) -> Result<ClaimReader, Stop>
-        ensures { MatchResult result (λ now. ClaimAdvances self line.now now)
-            (Halts (Claimed self) line.now) }
+    pub(crate) fn line(&mut self, line: &[u8]) -> Result<(), Stop>
+        ensures { MatchResult result (λ _. ClaimAdvances self.old line.now self.new)
+            (Halts (Claimed self.old) line.now) }
     {
         match act_of(line) {
             Ok(read) => self.tell(read),

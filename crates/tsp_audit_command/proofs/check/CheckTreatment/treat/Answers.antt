@@ -1,13 +1,11 @@
 -- The line was read, and nothing is handed over.
-use Rattle.std.proofs.Common.{subst, sym}
-use Rattle.tsp_audit_command.specs.Stands.{HeldStands}
 use Rattle.tsp_audit_command.proofs.StandLemmas.{Goes-advances, StopsAt-halts}
 use Rattle.tsp_audit_command.proofs.check.CheckTreatment.treat.Goals as goal
 
 pub returns-in-Ok-clause-treats : goal.returns-in-Ok-clause-treats
 returns-in-Ok-clause-treats g c lines text stands accepts room =
-    Goes-advances lines text c.args.line.now accepts.0 c.in-Ok.next _ _ accepts.1 accepts.2 (λ q r. c.in-Ok.ensures.next q (subst (λ h. HeldStands q h) (sym c.replace.ensures.value) (stands q r)))
+    Goes-advances lines text c.args.line.now accepts.0 c.advance.new.self _ _ accepts.1 accepts.2 (λ q r. c.in-Ok.ensures.next q (stands q r))
 
 pub returns-in-Err-clause-treats : goal.returns-in-Err-clause-treats
 returns-in-Err-clause-treats g c lines text stands accepts room =
-    StopsAt-halts lines text c.args.line.now accepts.0 _ _ c.in-Err.stop accepts.1 (c.in-Err.ensures.next accepts.0 (subst (λ h. HeldStands accepts.0 h) (sym c.replace.ensures.value) (stands accepts.0 accepts.1)))
+    StopsAt-halts lines text c.args.line.now accepts.0 _ _ c.in-Err.stop accepts.1 (c.in-Err.ensures.next accepts.0 (stands accepts.0 accepts.1))

@@ -1,6 +1,6 @@
 -- The event at hand lacks nothing, and is passed.
 use Rattle.std.proofs.Common.{◌≡◌, ◌∙◌, ap, sym, subst, rules}
-use Rattle.std.specs.Prelude.{List, length, take, reverse, [], ◌∷◌, ◌++◌, Some, false, OnOk}
+use Rattle.std.specs.Prelude.{List, ℕ, length, take, reverse, [], ◌∷◌, ◌++◌, Some, false, OnOk, OnErr}
 use Rattle.std.specs.List.{slice_get}
 use Rattle.std.proofs.lemmas.Option.{slice_get_within}
 use Rattle.tsp_audit.specs.Premised.{kept_with}
@@ -10,7 +10,7 @@ use Rattle.tsp_audit_command.specs.Sound.{Sound, claims_on}
 use Rattle.tsp_claims.specs.ClaimedHistory.{claimed, posts_of}
 use Rattle.tsp_claims.specs.Fitting.{Fit, lacks}
 use Rattle.tsp_claims.specs.Stands.{ClaimsStand, claim_of}
-use Rattle.tsp_audit_command.proofs.SoundLemmas.{Sound-passed, at-fit, few-passed, got-at, view-passed}
+use Rattle.tsp_audit_command.proofs.SoundLemmas.{Sound-kept, Sound-passed, at-fit, few-passed, got-at, view-passed}
 use Rattle.tsp_history.proofs.NoteLemmas.{length-history}
 use Rattle.tsp_audit_command.proofs.claim_reader.ClaimReader.pass_one.Goals as goal
 
@@ -34,8 +34,8 @@ add-requires-clause-fit c =
       subst (λ ls. Fit i.claims.header passed e ls) (sym c.lines.ensures) (at-fit i.claims.header i.events.items i.claims i.ends.items i.pending i.tally i.premises c.self.invariant e at none),
     )
 
-pub invariant_of-result : goal.invariant_of-result
-invariant_of-result c =
+pub invariant_of-self-2 : goal.invariant_of-self-2
+invariant_of-self-2 c =
     let i = c.self.inside in
     let e = c.event-e.result in
     let passed = claims_on i.events.items i.ends.items i.claims in
@@ -45,7 +45,7 @@ invariant_of-result c =
     let took : OnOk c.add.result (ClaimsStand i.claims.header (claim_of e c.lines.result.now ∷ passed) c.add.new.self) = c.add.ensures.taken i.claims.header passed c.self.invariant.stand in
     let given : ClaimsStand i.claims.header (claim_of e c.lines.result.now ∷ passed) c.add.new.self = search rules in
     let stand : ClaimsStand i.claims.header (claim_of e i.pending ∷ passed) c.add.new.self = subst (λ ls. ClaimsStand i.claims.header (claim_of e ls ∷ passed) c.add.new.self) c.lines.ensures given in
-    let more_is : c.push.new.self.items ≡ i.ends.items ++ (length c.lines-2.result.now) ∷ [] = search rules in
+    let more_is : c.push_reserved.new.self.items ≡ i.ends.items ++ (length c.lines-2.result.now) ∷ [] = search rules in
     let n_is : length c.lines-2.result.now ≡ length (claimed i.claims.header (claim_of e i.pending ∷ passed)) =
     sym (length-history c.lines-2.result.now) ∙ ap (λ (h : List Line). length h) (c.lines-2.ensures.lines i.claims.header (claim_of e i.pending ∷ passed) stand) in
     let kept_is : c.keep_with-premises.result ≡ kept_with i.premises (reverse (take (length i.ends.items) i.events.items)) (posts_of i.claims.header passed) e =
@@ -54,8 +54,8 @@ invariant_of-result c =
     k ∙ (ap (λ n. kept_with i.premises (reverse (take n c.deref-2.result.now)) c.posts.result.now e) len
     ∙ (ap (λ es. kept_with i.premises (reverse (take (length i.ends.items) es)) c.posts.result.now e) c.deref-2.ensures.value
     ∙ ap (λ ps. kept_with i.premises (reverse (take (length i.ends.items) i.events.items)) ps e) (c.posts.ensures i.claims.header passed c.self.invariant.stand)))) in
-    subst (λ h. Sound h i.events.items c.add.new.self c.push.new.self.items c.clear.new.self c.new.result c.keep_with-premises.result) (sym stand.header_is)
-    (Sound-passed i.claims.header i.events.items i.claims i.ends.items i.pending i.tally i.premises c.self.invariant e at none c.add.new.self c.push.new.self.items (length c.lines-2.result.now) _ _ _ stand more_is n_is c.clear.ensures c.new.ensures kept_is)
+    subst (λ h. Sound h i.events.items c.add.new.self c.push_reserved.new.self.items c.clear.new.self c.new-self-inside.result c.keep_with-premises.result) (sym stand.header_is)
+    (Sound-passed i.claims.header i.events.items i.claims i.ends.items i.pending i.tally i.premises c.self.invariant e at none c.add.new.self c.push_reserved.new.self.items (length c.lines-2.result.now) _ _ _ stand more_is n_is c.clear.ensures c.new-self-inside.ensures kept_is)
 
 pub returns : goal.returns
 returns c =
@@ -68,5 +68,16 @@ returns c =
     let took : OnOk c.add.result (ClaimsStand i.claims.header (claim_of e c.lines.result.now ∷ passed) c.add.new.self) = c.add.ensures.taken i.claims.header passed c.self.invariant.stand in
     let given : ClaimsStand i.claims.header (claim_of e c.lines.result.now ∷ passed) c.add.new.self = search rules in
     let stand : ClaimsStand i.claims.header (claim_of e i.pending ∷ passed) c.add.new.self = subst (λ ls. ClaimsStand i.claims.header (claim_of e ls ∷ passed) c.add.new.self) c.lines.ensures given in
-    let more_is : c.push.new.self.items ≡ i.ends.items ++ (length c.lines-2.result.now) ∷ [] = search rules in
-    ap (λ v. pass_one v) (sym c.self.view_is) ∙ view-passed i.claims.header i.events.items i.claims i.ends.items i.pending i.tally i.premises c.self.invariant e at none c.add.new.self c.push.new.self.items (length c.lines-2.result.now) _ stand more_is c.clear.ensures
+    let more_is : c.push_reserved.new.self.items ≡ i.ends.items ++ (length c.lines-2.result.now) ∷ [] = search rules in
+    ap (λ v. pass_one v) (sym c.self.view_is) ∙ view-passed i.claims.header i.events.items i.claims i.ends.items i.pending i.tally i.premises c.self.invariant e at none c.add.new.self c.push_reserved.new.self.items (length c.lines-2.result.now) _ stand more_is c.clear.ensures
+
+-- without memory the claims stand for what they did
+pub invariant_of-self-then-is_err-2 : goal.invariant_of-self-then-is_err-2
+invariant_of-self-then-is_err-2 c =
+    let i = c.self.inside in
+    let refused : OnErr c.add.result (ClaimsStand i.claims.header (claims_on i.events.items i.ends.items i.claims) c.add.new.self) = c.add.ensures.refused i.claims.header (claims_on i.events.items i.ends.items i.claims) c.self.invariant.stand in
+    let stand : ClaimsStand i.claims.header (claims_on i.events.items i.ends.items i.claims) c.add.new.self = search rules in
+    let ends : c.reserve.new.self.items ≡ i.ends.items = search rules in
+    subst (λ (t : List ℕ). Sound c.add.new.self.header i.events.items c.add.new.self t i.pending i.tally i.premises) (sym ends)
+    (subst (λ h. Sound h i.events.items c.add.new.self i.ends.items i.pending i.tally i.premises) (sym stand.header_is)
+    (Sound-kept i.claims.header i.events.items i.claims i.ends.items i.pending i.tally i.premises c.self.invariant c.add.new.self stand))
