@@ -61,7 +61,11 @@ fn missing(stage: &Stage<Listing>) -> Cause
 /// Passes the events that are left, and puts the verdict into `output`. `Bad` with `history` where one of them lacks
 /// something; `WriteFault` where a write to the sink fails; else fails only if out of memory. After any of these
 /// nothing of the verdict was put.
-fn conclude<K: Sink>(mut claiming: ClaimReader, output: &mut Output, sink: &mut K) -> Result<(), Stop>
+fn conclude<K: Sink>(
+    mut claiming: ClaimReader,
+    output: &mut Output,
+    sink: &mut K,
+) -> Result<(), Stop>
     ensures ends { MatchResult result
         (λ _. Concludes claiming (K.written sink.old) output.old (K.written sink.new) output.new)
         (HaltsConcluding claiming (K.written sink.old) output.old (K.written sink.new) output.new) }

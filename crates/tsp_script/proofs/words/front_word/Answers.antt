@@ -11,8 +11,7 @@ returns-clause-found c =
     let line = c.args.line.now in
     let at = c.in_ok-place.ensures in
     let front = c.split_at.ensures.front in
-    let back : c.split_at-2.result.1.now ≡ drop (suc c.in_ok-place.place) line = c.split_at-2.ensures.back ∙ rw add-one refl in
-    (
+    let back : c.split_at-2.result.1.now ≡ drop (suc c.in_ok-place.place) line = c.split_at-2.ensures.back ∙ rw add-one refl in (
       front ∙ sym (before_mark-at 32 line c.in_ok-place.place at.0 at.1 at.2),
       back ∙ sym (after_mark-at 32 line c.in_ok-place.place at.0 at.1 at.2),
       rw (front, back) (line_at 32 line c.in_ok-place.place at.0 at.2),
