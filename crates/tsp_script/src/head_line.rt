@@ -3,7 +3,6 @@ ghost use Rattle.std.specs.Prelude.{Bool, ◌≡◌, ℕ, ℤ, ◌^◌, ◌<◌,
 ghost use Rattle.std.specs.Prelude.{decimal, codes, nat_abs, IfSome, MatchOption, MatchBool, IsTrue, ◌↔◌};
 ghost use Rattle.std.specs.Fmt.{signed_decimal};
 ghost use Rattle.std.specs.List.{AllPass};
-ghost use Rattle.arrayvec.specs.ArrayVec.{array_vec_len};
 ghost use Rattle.tsp_base.specs.Names.{IsName};
 ghost use Rattle.tsp_base.specs.declared.header.NodeLine.{NodeLine};
 ghost use Rattle.tsp_script.specs.declared.head_line.HeadItem.{HeadItem};
@@ -11,9 +10,8 @@ ghost use Rattle.tsp_script.specs.Schedules.{is_host, flag_text, node_text, IsHo
 
 use crate::line_fault::LineFault;
 use crate::net_line::net_line;
-use crate::numbers::{append, append_next_signed, append_number, front_signed, number_of};
-use crate::words::{cut, is_same};
-use arrayvec::ArrayVec;
+use crate::numbers::{front_signed, number_of};
+use crate::words::{front_word, is_same};
 use tsp_base::constants::SCHEDULE_END;
 use tsp_base::header::NodeLine;
 use tsp_base::members::Members;
@@ -58,6 +56,7 @@ pub fn host_of(word: &[u8]) -> Option<Name>
 /// The rate, where its magnitude is at most 1,000.
 fn rate_of(rate: i64) -> Option<i32>
     ensures reads { nat_abs rate ≤ 1000 → result ≡ Some rate }
+    ensures same { IfSome result (λ r. r ≡ rate) }
     ensures range { IfSome result (λ r. nat_abs r ≤ 1000) }
 {
     if rate.unsigned_abs() > 1000 {
@@ -68,7 +67,8 @@ fn rate_of(rate: i64) -> Option<i32>
 
 /// Whether a node may be master: `m` says yes, `s` no; None for any other word.
 fn flag_of(word: &[u8]) -> Option<bool>
-    ensures { (may : Bool) → word.now ≡ flag_text may → result ≡ Some may }
+    ensures found { IfSome result (λ may. word.now ≡ flag_text may) }
+    ensures reads { (may : Bool) → word.now ≡ flag_text may → result ≡ Some may }
 {
     match word {
         b"m" => Some(true),
@@ -82,10 +82,12 @@ fn read_node(line: &[u8]) -> Option<NodeLine>
     ensures reads { (n : NodeLine) → IsNodeLine n
         → line.now ≡ n.name ++ 32 ∷ (signed_decimal
         n.rate ++ 32 ∷ (signed_decimal n.wall ++ 32 ∷ flag_text n.may)) → result ≡ Some n }
+    ensures found { IfSome result (λ n. line.now ≡ n.name ++ 32 ∷ (signed_decimal
+        n.rate ++ 32 ∷ (signed_decimal n.wall ++ 32 ∷ flag_text n.may))) }
     ensures range { IfSome result IsNodeLine }
 {
-    let (name, line) = cut(line);
-    let name = host_of(name)?;
+    let (word, line) = front_word(line)?;
+    let name = host_of(word)?;
     let (rate, line) = front_signed(line)?;
     let rate = rate_of(rate)?;
     let (wall, line) = front_signed(line)?;
@@ -99,28 +101,6 @@ fn read_node(line: &[u8]) -> Option<NodeLine>
         wall,
         may,
     })
-}
-
-/// The word that says whether a node may be master: `m` or `s`.
-fn flag_word(may: bool) -> &'static [u8]
-    ensures word { result.now ≡ flag_text may }
-    ensures short { length result.now ≤ 1 }
-{
-    if may { b"m" } else { b"s" }
-}
-
-/// The line of a node.
-fn node_text(node: &NodeLine) -> ArrayVec<u8, 1024>
-    ensures { result.items ≡ node_text node.now }
-{
-    let mut out = ArrayVec::new();
-    append(&mut out, b"node ");
-    append(&mut out, node.name.octets());
-    append_next_signed(&mut out, node.rate as i64);
-    append_next_signed(&mut out, node.wall);
-    append(&mut out, b" ");
-    append(&mut out, flag_word(node.may));
-    out
 }
 
 /// What follows `front` in a line that begins with it; None where the line doesn't.
@@ -159,22 +139,12 @@ fn drift_of(line: &[u8]) -> Option<u32>
     ensures found { IfSome result (λ p. (p ≤ 1000) × (line.now ≡ codes "drift " ++ decimal p)) }
     ensures reads { (p : ℕ) → p ≤ 1000 → line.now ≡ codes "drift " ++ decimal p → result ≡ Some p }
 {
-    let (_, rest) = cut(line);
+    let rest = after(line, b"drift ")?;
     let drift = number_of(rest)?;
-    if drift > 1000 || !is_drift(line, drift) {
+    if drift > 1000 {
         return None;
     }
     Some(drift as u32)
-}
-
-/// Whether the line is the second line with this drift.
-fn is_drift(line: &[u8], drift: u64) -> bool
-    ensures { IsTrue result ↔ (line.now ≡ codes "drift " ++ decimal drift) }
-{
-    let mut out = ArrayVec::new();
-    append(&mut out, b"drift ");
-    append_number(&mut out, drift);
-    is_same(line, out.as_slice())
 }
 
 /// What a line is that begins with `node `.
@@ -183,13 +153,9 @@ fn node_line(line: &[u8], rest: &[u8]) -> Result<HeadItem, LineFault>
     ensures reads { ReadsHead 4 line.now result }
     ensures one { (item : HeadItem) → SpellsHead 4 line.now item → result ≡ Ok item }
 {
-    let Some(node) = read_node(rest) else {
-        return Err(LineFault::Bad);
-    };
-    if is_same(node_text(&node).as_slice(), line) {
-        Ok(HeadItem::Node(node))
-    } else {
-        Err(LineFault::Bad)
+    match read_node(rest) {
+        Some(node) => Ok(HeadItem::Node(node)),
+        None => Err(LineFault::Bad),
     }
 }
 
