@@ -50,6 +50,9 @@ impl<'a> Link for SlowLink<'a> {
 
     fn recv(&mut self, buf: &mut [u8], _wait: u64) -> Recv {
         pass(self.time, 200);
+        if buf.len() < 28 {
+            return Recv::Nothing;
+        }
         buf[..28].copy_from_slice(&REPLY);
         Recv::Datagram(Place::Peer(PeerId(0)), 28)
     }
