@@ -94,7 +94,9 @@ python3 "$out/root/usr/bin/tsp-status" --help | cmp -s - "$out/help" || fail 'th
 python3 "$out/root/usr/bin/tsp-watch" tools/tests/watch.trace | grep -q ' leads$' || fail 'the packed tsp-watch reads no trace'
 python3 "$out/root/usr/bin/tsp-now" --help | grep -q '^usage: tsp-now ' || fail 'the packed tsp-now has no help'
 echo "a 127.0.0.1:$(free_ports 1) master" >"$out/hosts"
-"$out/root$launch" --supervise --spread 0 -t 1 -f "$out/hosts" -s a || fail "the packed tsp-launch ends with status $?"
+TSP_CLOCK="$out/clock" timeout --preserve-status 2 "$out/root$launch" --supervise --spread 0 --trace -f "$out/hosts" -s a >"$out/trace" 2>"$out/told" ||
+    fail "the packed tsp-launch ends with status $?: $(cat "$out/told")"
+grep -q ' trace on$' "$out/trace" || fail 'the packed tsp-launch starts no daemon'
 cmp -s "$out/root/etc/default/tsp" daemon/tsp.default && [ "$(cat "$out/control/conffiles")" = /etc/default/tsp ] || fail 'the variables of the daemon are not kept'
 [ -d "$out/root/etc/tsp" ] && [ ! -e "$out/root/etc/tsp/hosts" ] || fail 'there is a hosts file that nobody wrote'
 for script in postinst prerm postrm; do

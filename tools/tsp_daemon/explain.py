@@ -4,7 +4,6 @@
 Its streams and its status are the program's own, and signals are handed on to it. Of words that are no command the line has the first one that
 the grammar has no place for, and where the network failed, which address it was and what the system says of it.
 """
-import ctypes
 import os
 import signal
 import subprocess
@@ -12,34 +11,26 @@ import sys
 
 sys.dont_write_bytecode = True
 sys.path.insert(0, os.path.dirname(os.path.dirname(os.path.realpath(__file__))))
-from tsp_daemon import sockets  # noqa: E402
+from tsp_daemon import child, sockets  # noqa: E402
 from tsp_texts import words as grammar  # noqa: E402
 from tsp_texts.tool import say  # noqa: E402
 
 HANDED_ON = (signal.SIGTERM, signal.SIGINT, signal.SIGHUP, signal.SIGQUIT)
 NO_WORDS, NO_NETWORK, NOT_STARTED = 1, 5, 126
-# The number by which Linux knows the call of prctl(2) that names a signal for the end of the parent.
-WHEN_PARENT_ENDS = 1
 
 
 class Child:
     """The program, which ends with this process, and gets its signals."""
 
     def __init__(self, command):
-        self.process, self.waiting, self.parent = None, [], os.getpid()
+        self.process, self.waiting = None, []
         # (a signal that is ignored stays ignored, as under nohup)
         for number in HANDED_ON:
             if signal.getsignal(number) is not signal.SIG_IGN:
                 signal.signal(number, self.hand_on)
-        self.process = subprocess.Popen(command, preexec_fn=self.end_with_parent)
+        self.process = child.begin(command)
         for number in self.waiting:
             self.process.send_signal(number)
-
-    def end_with_parent(self):
-        """Has the system end the program where this process is killed."""
-        ctypes.CDLL(None).prctl(WHEN_PARENT_ENDS, signal.SIGKILL)
-        if os.getppid() != self.parent:
-            os.kill(os.getpid(), signal.SIGKILL)
 
     def hand_on(self, number, _):
         if self.process is None:
