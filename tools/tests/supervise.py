@@ -22,7 +22,7 @@ from tsp_witness.datagram import octets_of  # noqa: E402
 PROGRAM, FOLDER = sys.argv[1:3]
 LAUNCH = os.path.join(TOOLS, 'tsp-launch')
 REQUEST, TRACE_ON, TRACE_OFF = (octets_of(words) for words in (('request', '1', '2'), ('traceon', '1', 'x'), ('traceoff', '1', 'x')))
-DROPPED = re.compile(rb'^\.\.\. ([0-9]+) lines dropped$', re.MULTILINE)
+DROPPED = re.compile(rb'^\.\.\. ([0-9]+) lines (?:dropped|of supervisors left out)$', re.MULTILINE)
 
 
 def wanted(is_so, text):
@@ -166,7 +166,7 @@ def stuck():
     wanted(dropped > count // 2, f'only {dropped} lines are dropped')
     last = re.findall(rb'^([0-9]+) 0 0 [0-9]+ trace on$', lines, re.MULTILINE)[-1]
     told = len(re.findall(rb'^[0-9]+ 0 0 ', lines, re.MULTILINE))
-    wanted(told + dropped >= 2 * int(last) - 100, f'{told} lines and {dropped} dropped ones are fewer than {last} turns have')
+    wanted(told + dropped >= 2 * int(last), f'{told} lines and {dropped} dropped ones are fewer than {last} turns have')
     server.end()
     os.close(end)
 

@@ -45,6 +45,12 @@ def asked_at(local) -> str:
     return f'127.0.0.1:{port}' if host == '0.0.0.0' else local
 
 
+def pair_of(address):
+    """An address A.B.C.D:PORT as Python has it."""
+    host, port = address.split(':')
+    return host, int(port)
+
+
 def own_address(file) -> str:
     """The address at which this machine's own daemon is asked."""
     return asked_at(launched(file, '--print').split(' ')[1])

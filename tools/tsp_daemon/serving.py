@@ -6,7 +6,7 @@ import signal
 import socket
 import subprocess
 
-from tsp_daemon import child, hosts, state
+from tsp_daemon import child, hosts, state, stamps
 from tsp_witness.datagram import octets_of
 
 # As much as the system lets a user's pipe hold: what comes in a tenth of a second at 100,000 datagrams a second.
@@ -24,16 +24,16 @@ PATIENCE = 0.3
 
 
 class Serving:
-    """A start of the daemon. `hears` is called with its whole lines, and with what they changed in its state."""
+    """A start of the daemon. `listener` is told its whole lines, how many were left out of them, what they changed in its state, and at which
+    ticks it took the questions of supervisors."""
 
-    def __init__(self, loop, words, names, hears):
-        self.loop, self.hears, self.rest = loop, hears, b''
+    def __init__(self, loop, words, names, listener):
+        self.loop, self.listener, self.rest = loop, listener, b''
         self.is_traced, self.asked_at, self.started = False, -AGAIN, loop.now()
         self.state = state.Daemon()
         self.state.names = dict(enumerate(names))
         self.state.ports = {number: state.Port('starting') for number in range(1 + words.count('+'))}
-        host, port = hosts.asked_at(words[2]).split(':')
-        self.address = host, int(port)
+        self.address = hosts.pair_of(hosts.asked_at(words[2]))
         self.link = socket.socket(socket.AF_INET, socket.SOCK_DGRAM)
         self.link.setblocking(False)
         self.output, into = os.pipe()
@@ -80,16 +80,22 @@ class Serving:
 
     def take(self, lines):
         """Takes whole lines: few of them change the state."""
-        changes = []
+        count, ticks = 0, {}
+        if stamps.SIGN in lines:
+            lines, count, ticks = stamps.left_out(lines)
+        self.listener.hear(lines, count, ticks)
         if any(word in lines for word in TELLING):
             for line in TOLD.findall(lines):
-                changes += self.state.take(line.decode('ascii', 'replace'))
-        for change in changes:
-            if change.kind == 'trace':
-                self.is_traced = change.values['trace'] == 'on'
-        if not self.is_traced and any(change.kind == 'trace' for change in changes):
-            self.loop.at('trace', max(self.loop.now(), self.asked_at + AGAIN), self.ask_to_trace)
-        self.hears(lines, changes)
+                for change in self.state.take(line.decode('ascii', 'replace')):
+                    self.change(change)
+
+    def change(self, change):
+        """Something of its state changed."""
+        if change.kind == 'trace':
+            self.is_traced = change.values['trace'] == 'on'
+            if not self.is_traced:
+                self.loop.at('trace', max(self.loop.now(), self.asked_at + AGAIN), self.ask_to_trace)
+        self.listener.changed(change)
 
     def status(self):
         """How it ended, or None: its status, or 128 and the number of the signal that ended it."""

@@ -11,18 +11,23 @@ import sys
 
 sys.dont_write_bytecode = True
 sys.path.insert(0, os.path.dirname(os.path.dirname(os.path.realpath(__file__))))
-from tsp_daemon import machine, sockets, usage, views  # noqa: E402
+from tsp_daemon import hosts, machine, sockets, usage, views  # noqa: E402
+from tsp_daemon.keeper import Keeper  # noqa: E402
 from tsp_daemon.loop import Loop  # noqa: E402
 from tsp_daemon.outlet import Outlet  # noqa: E402
 from tsp_daemon.output import Output  # noqa: E402
+from tsp_daemon.page import Writer  # noqa: E402
 from tsp_daemon.reload import Reload  # noqa: E402
 from tsp_daemon.serving import Serving  # noqa: E402
 from tsp_daemon.systemd import Systemd  # noqa: E402
 from tsp_texts import tool  # noqa: E402
+import tsp_clock  # noqa: E402
 
 DONE, NO_WORDS, BAD_WALL, NO_NETWORK = 0, 1, 2, 5
 # How many octets of what this says itself wait for a slow reader.
 MOST_SAID = 65536
+# By how many parts in a million counters may be wrong, where nobody says that.
+DRIFT = 100
 # Seconds: between two looks at the machine, between two starts at least, between two tries at most, after which a daemon has held, and for
 # the last lines.
 LOOK, APART, LONGEST_PAUSE, HELD, LAST_LINES = 0.5, 1, 60, 60, 0.3
@@ -41,7 +46,23 @@ class Supervisor:
         self.systemd = Systemd(self.loop, self.say)
         self.reload = Reload(self.loop, words, self.say, self.begin_anew)
         self.serving = self.sleep = self.final = None
-        self.has_answered, self.was_switched, self.pause, self.started = False, False, APART, -APART
+        self.has_answered, self.was_switched, self.pause, self.started, self.left_out = False, False, APART, -APART, 0
+        self.keeper = self.kept()
+
+    def kept(self):
+        """What keeps the page of the network's time, where there is a place for it."""
+        path = os.environ.get('TSP_CLOCK') or tsp_clock.PATH
+        if not os.environ.get('TSP_CLOCK') and not os.path.isdir(os.path.dirname(path)):
+            return None
+        try:
+            writer = Writer(path)
+        except OSError as fault:
+            self.say(f'programs can\'t read the time: {path}: {"another daemon writes it" if isinstance(fault, BlockingIOError) else fault.strerror}')
+            return None
+        peers = [hosts.pair_of(word) for word in self.words[6:] if word != '+']
+        names = self.names or [self.words[3], *self.words[6:]]
+        own = hosts.pair_of(hosts.asked_at(self.local))
+        return Keeper(self.loop, writer, own, peers, names, int(os.environ.get('TSP_RATE') or 0), int(os.environ.get('TSP_DRIFT') or DRIFT))
 
     def say(self, text):
         """A line on standard error, for which nobody waits."""
@@ -55,8 +76,7 @@ class Supervisor:
         self.start()
         while self.final is None:
             self.loop.step()
-        if self.serving:
-            self.serving.end()
+        self.end_daemon()
         for outlet in (self.lines, self.errors):
             outlet.flush(LAST_LINES)
         return self.final
@@ -77,22 +97,39 @@ class Supervisor:
             peers = ''.join(f', {number} {name}' for number, name in enumerate(self.names) if number)
             self.say(f'in the trace peer 0 is {self.names[0]}{peers}')
         self.sleep, self.started = machine.Sleep(), self.loop.now()
+        if self.keeper:
+            self.keeper.begin()
         try:
-            self.serving = Serving(self.loop, self.words, self.names, self.hear)
+            self.serving = Serving(self.loop, self.words, self.names, self)
         except OSError as fault:
             self.give_up(f'{self.words[0]}: {fault.strerror}', usage.BAD_FILE)
             return
         self.look()
 
-    def hear(self, lines, changes):
-        """Hands lines on, and tells systemd what they changed."""
-        if self.is_shown:
-            self.lines.put(lines)
-        for change in changes:
-            if change.kind == 'trace':
-                self.note_trace(change.values['trace'] == 'on')
-        if self.has_answered and changes:
+    def hear(self, lines, left_out, ticks):
+        """Hands lines on. The questions of supervisors are left out, and only counted."""
+        self.left_out += left_out
+        if lines and self.is_shown:
+            note = f'... {self.left_out} lines of supervisors left out\n'.encode() if self.left_out else b''
+            self.lines.put(note + lines)
+            self.left_out = 0
+        if ticks and self.keeper:
+            self.keeper.own.told(ticks)
+
+    def changed(self, change):
+        """The daemon's state changed: systemd is told of it, and the page."""
+        if change.kind == 'trace':
+            self.note_trace(change.values['trace'] == 'on')
+        if self.has_answered:
             self.systemd.tell('READY=1', f'STATUS={views.summary(self.serving.state)}')
+        if not self.keeper:
+            return
+        if change.kind == 'correction':
+            self.keeper.corrected(change.tick, *(change.values[name] for name in ('amount_us', 'way', 'shown_us')))
+        elif change.kind == 'role':
+            self.keeper.changed(self.serving.state)
+        elif change.values['trace'] == 'on':
+            self.keeper.traced()
 
     def note_trace(self, is_on):
         """The daemon traces, so it answers; or somebody switched that off."""
@@ -117,13 +154,15 @@ class Supervisor:
         elif slept:
             self.begin_again(f'the machine slept for {slept:.0f} s, in which the daemon didn\'t count')
         else:
-            self.loop.after('look', LOOK, self.look)
+            self.loop.after('watch', LOOK, self.look)
 
     def end_daemon(self):
         """Ends the daemon, if it runs."""
-        self.loop.cancel('look', 'start')
+        self.loop.cancel('watch', 'start')
         if self.serving:
             self.serving.end()
+        if self.keeper:
+            self.keeper.end()
         self.serving = None
 
     def begin_again(self, why):
