@@ -26,7 +26,7 @@ SEQUENCE, LENGTH = 16, HEAD.size + BODY.size
 LASTS = 64_000_000_000
 SLEW, MILLION, BILLION = 200, 1_000_000, 1_000_000_000
 # How often a page that is being written is read again at once, and then after a pause of so many seconds.
-AT_ONCE, TRIES, PAUSE = 64, 256, 0.00005
+AT_ONCE, TRIES, PAUSE = 64, 512, 0.00005
 NEVER = -1 << 63
 
 
@@ -66,7 +66,7 @@ class Page(NamedTuple):
 
     def shown_at(self, tick):
         """What the daemon's clock shows."""
-        moved = (tick - self.tick) // SLEW
+        moved = max(tick - self.tick, 0) // SLEW
         rest = max(self.rest - moved, 0) if self.rest > 0 else min(self.rest + moved, 0)
         return self.target_at(tick) - rest
 

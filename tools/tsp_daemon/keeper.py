@@ -12,6 +12,14 @@ APART, SILENT, TIMES = 16, 64, 4
 MAXADJ = 20_000_000
 
 
+def after_correction(page, tick, amount, is_step, shown):
+    """A page after a correction at a tick, by what the clock shows then: the target follows from that and from what is still to be slewed. To a clock
+    that leads the master's is no other one, and from any other it is as much farther, the other way."""
+    rest = 0 if is_step else page.target_at(tick) - page.shown_at(tick) + amount
+    apart = 0 if page.role == LEADS else amount
+    return page._replace(tick=tick, target=shown + rest, rest=rest, steps=page.steps + is_step, low=page.low - apart, high=page.high - apart)
+
+
 class Keeper:
     """A page, and what is known for it. `peers` are the addresses of peers 1, 2 and so on, and `names` all names from the own on."""
 
@@ -63,17 +71,13 @@ class Keeper:
         self.look()
 
     def corrected(self, tick, amount, way, shown):
-        """The daemon's clock was corrected at a tick: the target follows from what it shows, and from what is still to be slewed."""
-        is_step = way == 'step'
-        rest = 0 if is_step else self.page.target_at(tick) - self.page.shown_at(tick) + amount
+        """The daemon's clock was corrected at a tick."""
         self.is_corrected = True
-        self.move(tick, shown + rest, rest, amount, is_step)
+        self.move(after_correction(self.page, tick, amount, way == 'step', shown))
 
-    def move(self, tick, target, rest, amount, is_step):
-        """The clock is another one from a tick on, and the master is looked at again."""
-        leads = self.role == LEADS
-        self.page = self.page._replace(tick=tick, target=target, rest=rest, steps=self.page.steps + is_step,
-                                       low=self.page.low - (0 if leads else amount), high=self.page.high - (0 if leads else amount))
+    def move(self, page):
+        """The clock is another one from now on, and the master is looked at again."""
+        is_step, self.page = page.steps != self.page.steps, page
         if self.is_placed:
             self.write(is_step)
             self.look()
@@ -105,9 +109,9 @@ class Keeper:
             return
         amount = exchange.reading - self.page.target_at(exchange.tick)
         if amount and exchange.tick > self.page.tick:
-            shown, is_step = self.page.shown_at(exchange.tick), abs(amount) > MAXADJ
-            self.is_corrected = True
-            self.move(exchange.tick, exchange.reading, 0 if is_step else exchange.reading - shown, amount, is_step)
+            self.is_corrected, is_step = True, abs(amount) > MAXADJ
+            shown = exchange.reading if is_step else self.page.shown_at(exchange.tick)
+            self.move(after_correction(self.page, exchange.tick, amount, is_step, shown))
         elif self.role == FOLLOWS:
             self.ask_master()
         else:
