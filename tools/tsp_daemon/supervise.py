@@ -62,7 +62,7 @@ class Supervisor:
         peers = [hosts.pair_of(word) for word in self.words[6:] if word != '+']
         names = self.names or [self.words[3], *self.words[6:]]
         own = hosts.pair_of(hosts.asked_at(self.local))
-        return Keeper(self.loop, writer, own, peers, names, int(os.environ.get('TSP_RATE') or 0), int(os.environ.get('TSP_DRIFT') or DRIFT))
+        return Keeper(self.loop, writer, own, peers, names, int(os.environ.get('TSP_RATE', 0)), int(os.environ.get('TSP_DRIFT', DRIFT)))
 
     def say(self, text):
         """A line on standard error, for which nobody waits."""
