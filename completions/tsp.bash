@@ -87,9 +87,10 @@ _tsp_launch() {
     --program | -p) mapfile -t COMPREPLY < <(compgen -c -- "$2") ;;
     --file | -f | --output | -o) mapfile -t COMPREPLY < <(compgen -f -- "$2") ;;
     --self | -s) mapfile -t COMPREPLY < <(compgen -W "$(_tsp_hosts 2)" -- "$2") ;;
+    --firewall) mapfile -t COMPREPLY < <(compgen -W 'nft systemd' -- "$2") ;;
     --turns | -t | --wait | -w | --spread | --rate) ;;
     *)
-        mapfile -t COMPREPLY < <(compgen -W '--print --list --file --self --turns --wait --spread --rate --trace --supervise --output --program --help' -- "$2")
+        mapfile -t COMPREPLY < <(compgen -W '--print --list --firewall --file --self --turns --wait --spread --rate --trace --supervise --output --program --help' -- "$2")
         ;;
     esac
 }
