@@ -118,9 +118,9 @@ _tsp_now() {
     case $(_tsp_before "$3"):$2 in
     --program:* | -p:*) mapfile -t COMPREPLY < <(compgen -c -- "$2") ;;
     --file:* | -f:*) mapfile -t COMPREPLY < <(compgen -f -- "$2") ;;
-    --tries:* | -t:* | --timeout:*) ;;
+    --tries:* | -t:* | --timeout:* | --wait:[0-9]*) ;;
     --set:*) mapfile -t COMPREPLY < <(compgen -W 'now' -- "$2") ;;
-    *:-*) mapfile -t COMPREPLY < <(compgen -W '--utc --offset --set --file --timeout --tries --program --help' -- "$2") ;;
+    *:-*) mapfile -t COMPREPLY < <(compgen -W '--utc --offset --interval --wait --after --set --file --timeout --tries --program --help' -- "$2") ;;
     *) mapfile -t COMPREPLY < <(compgen -W "$(_tsp_hosts 2)" -- "$2") ;;
     esac
 }

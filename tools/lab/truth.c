@@ -16,7 +16,7 @@
 #define MOST_HOSTS 16
 #define KEPT 64
 #define DELAY INT64_C(400000000)
-#define PACE INT64_C(1500)
+#define PACE INT64_C(30000)
 #define ROOM (1 << 19)
 #define WIDEST 2000000
 #define THOUSAND 1000
@@ -164,6 +164,15 @@ static long width_at(const host *h, int hundredths)
     return place;
 }
 
+/* Waits until a nanosecond, without sleep where that would take longer. */
+static void pause_until(int64_t at)
+{
+    const struct timespec sleep = {0, 20000};
+    while (tsp_nanoseconds() < at)
+        if (at - tsp_nanoseconds() > 2 * sleep.tv_nsec)
+            nanosleep(&sleep, NULL);
+}
+
 static void run(int64_t until)
 {
     long head = 0, tail = 0;
@@ -175,8 +184,7 @@ static void run(int64_t until)
                 head += look(who, &ring[head % ROOM]);
         while (tail < head && begun - ring[tail % ROOM].at > DELAY)
             judge(&ring[tail++ % ROOM]);
-        while (tsp_nanoseconds() - begun < PACE * hosts_count)
-            ;
+        pause_until(begun + PACE / rate * hosts_count);
     }
 }
 
