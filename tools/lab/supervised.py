@@ -1,0 +1,51 @@
+"""Hosts whose daemons run under tsp-launch, in fast time, so that programs read a page at each."""
+import os
+import signal
+import subprocess
+
+from lab.hosts import Namespaces
+
+LAUNCH = os.path.join(os.path.dirname(os.path.dirname(os.path.realpath(__file__))), 'tsp-launch')
+
+
+class Supervised(Namespaces):
+    """Hosts whose daemons run under tsp-launch, which writes a page for each. `drift` is what readers are told of all clocks."""
+
+    def __init__(self, drift, *rest, **more):
+        super().__init__(*rest, **more)
+        self.drift = drift
+        # (in whole microseconds, in which daemons count)
+        self.begun -= self.begun % 1000
+        # (the daemon reads both of its clocks at one moment, so that the lab knows its first reading)
+        self.held = os.path.join(self.folder, 'held')
+        with open(self.held, 'w', encoding='ascii') as file:
+            file.write(f'#!/bin/sh\nFAST_HOLD=1 exec {self.program} "$@"\n')
+        os.chmod(self.held, 0o755)
+        self.hosts = self.write_hosts()
+
+    def page(self, daemon):
+        """The path of a host's page."""
+        return os.path.join(self.folder, f'{daemon.name}.page')
+
+    def start(self, daemon):
+        """Starts a host's daemon under its supervisor."""
+        self.starts += 1
+        path = os.path.join(self.folder, f'{daemon.name}-{self.starts}.trace')
+        environment = self.environment(daemon.ahead, drift=daemon.drift)
+        environment.update(TSP_CLOCK=self.page(daemon), TSP_DRIFT=str(self.drift), TSP_SPREAD='0', TSP_PROGRAM=self.held)
+        command = [*self.at(daemon.name), LAUNCH, '-f', self.hosts, '-s', daemon.name, '--supervise', '--trace']
+        with open(path, 'wb') as trace:
+            daemon.process = subprocess.Popen(command, stdout=trace, stderr=subprocess.STDOUT, env=environment)
+        daemon.trace.append(path)
+
+    @staticmethod
+    def stop(daemon, by=signal.SIGTERM):
+        """Tells a host's supervisor to end, or kills it."""
+        daemon.process.send_signal(by)
+        try:
+            daemon.process.wait(1)
+        except subprocess.TimeoutExpired:
+            # (it waits for its last lines by the machine's time, to which fast time is a time to come)
+            daemon.process.kill()
+            daemon.process.wait()
+        daemon.process = None
