@@ -8,9 +8,13 @@
  * Times are microseconds since 1970. A call never waits for the writer for more than some 50 milliseconds. Each thread needs a tsp_clock of
  * its own. With -std=c99 define _POSIX_C_SOURCE as 200809L first.
  *
- * The interval: this host was asked for nothing between two readings of its own clock, a and d, between which the master's clock read s. While
- * neither of the two clocks is corrected, each of them parts from true time by no more than its drift lets it, so the master's clock stays ahead
- * of this one by no less than s - d and no more than s - a, give or take twice that drift.
+ * The interval: the supervisor read this host's clock, a, then the master's, s, and then its own again, d. It is proved (the law looks_bound_clocks, the
+ * promise Looked) that later the master's clock is ahead of this one by no less than s - d - 2 * w, and no more than s - a + 2 * w. Here w is
+ * width(P, x + width(P, x)), with x for the microseconds that this host's own counter passed since a, and width(P, x) = (P * x + 999999) / 1000000 + 1. It asks
+ * that s was the master's clock (nobody forged this one exchange), that both counters run wrong by P parts in a million at most (TSP_DRIFT), and that
+ * neither clock is corrected meanwhile. It holds for x up to 100 seconds, and a page with a master that answers is never older than 64. Only a host
+ * whose master is gone reads on (TSP_HOLDING): past 100 seconds true time is taken to be x + 2 * width(P, x), which is always enough for a P up to
+ * 1000, and the law's other half bounds the clocks by true time without an end.
  */
 #ifndef TSP_CLOCK_H
 #define TSP_CLOCK_H
@@ -87,6 +91,7 @@ typedef struct {
 #define TSP_PAGE_SIZE 4096
 #define TSP_MAGIC UINT64_C(0x6b636f6c63707374) /* "tspclock" */
 #define TSP_LASTS INT64_C(64000000000)
+#define TSP_RECKONED INT64_C(100000000) /* the microseconds for which the own ticks tell the drift by the law */
 #define TSP_AT_ONCE 64
 #define TSP_TRIES 512
 
@@ -108,6 +113,13 @@ static inline int64_t tsp_floor(int64_t value, int64_t by)
 static inline int64_t tsp_width(int64_t drift, int64_t passed)
 {
     return (int64_t)(((uint64_t)drift * (uint64_t)passed + 999999) / 1000000 + 1);
+}
+
+/* By how many microseconds two clocks may have parted since the own counter was so many microseconds back. */
+static inline int64_t tsp_spread(int64_t drift, int64_t passed)
+{
+    int64_t width = tsp_width(drift, passed);
+    return 2 * tsp_width(drift, passed + (passed > TSP_RECKONED ? 2 * width : width));
 }
 
 /* The daemon's tick at a nanosecond. */
@@ -142,7 +154,7 @@ static inline int tsp_time_of(const tsp_page *page, int64_t now, tsp_time *time)
     time->role = (int)page->role;
     time->status = now - page->alive > TSP_LASTS ? TSP_STALE : (int)page->status;
     if (page->role != TSP_LEADS)
-        spread = 2 * tsp_width(page->drift, passed + tsp_width(page->drift, passed));
+        spread = tsp_spread(page->drift, passed);
     time->shown = shown < page->least ? page->least : shown;
     time->age = passed;
     time->earliest = target + page->low - spread;

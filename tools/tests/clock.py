@@ -149,6 +149,21 @@ def anchors():
         wanted(abs(place - first * 1000) <= off * 1000, f'the first reading is {first}, and {place} +/- {off} is found, at rate {rate} (seed {SEED})')
 
 
+def reckoned():
+    """The interval's formula is that of the law for 100 s, and past that what it takes for true time is never less than the greatest that a counter within
+    the drift leaves possible."""
+    for _ in range(COUNT):
+        drift, passed = DRAW.randint(0, 1000), DRAW.choice([DRAW.randint(0, 10 ** 8), DRAW.randint(0, 10 ** 15)])
+        own = -(-drift * passed // 10 ** 6) + 1
+        law = 2 * (-(-drift * (passed + own) // 10 ** 6) + 1)
+        found = tsp_clock.spread(drift, passed)
+        wanted(found == law if passed <= 10 ** 8 else found >= law, f'the spread of {passed} us at {drift} is {found}, and {law} by the law (seed {SEED})')
+        # (the slowest counter of this drift, which shows x when the true time is the greatest)
+        longest = (passed + 2) * 10 ** 6 // (10 ** 6 - drift)
+        least = 2 * (-(-drift * longest // 10 ** 6) + 1)
+        wanted(passed <= 10 ** 8 or found >= least, f'the spread of {passed} us at {drift} is {found}, and {least} is needed (seed {SEED})')
+
+
 def torn():
     """Pages that are read while they are written are whole, and those that nobody goes on writing end in status 0."""
     path = os.path.join(FOLDER, 'page')
@@ -192,6 +207,7 @@ def dead(path):
 def main():
     compared, pages = formula(), in_c()
     anchors()
+    reckoned()
     print(f'{compared} moments as in replay, {pages} pages in C as in Python, {torn()}')
 
 
