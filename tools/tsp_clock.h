@@ -122,43 +122,44 @@ static inline int64_t tsp_spread(int64_t drift, int64_t passed)
     return 2 * tsp_width(drift, passed + (passed > TSP_RECKONED ? 2 * width : width));
 }
 
+/* A field of a page that another process may write meanwhile. */
+#define TSP_OF(page, field) __atomic_load_n(&(page)->field, __ATOMIC_RELAXED)
+
 /* The daemon's tick at a nanosecond. */
 static inline int64_t tsp_tick_at(const tsp_page *page, int64_t now)
 {
-    int64_t passed = tsp_floor(now - page->anchor, 1000), billion = INT64_C(1000000000), whole;
-    if (page->rate == 0)
+    int64_t passed = tsp_floor(now - TSP_OF(page, anchor), 1000), rate = TSP_OF(page, rate), billion = INT64_C(1000000000), whole;
+    if (rate == 0)
         return passed;
     whole = tsp_floor(passed, billion);
-    return passed + whole * page->rate + tsp_floor((passed - whole * billion) * page->rate, billion);
+    return passed + whole * rate + tsp_floor((passed - whole * billion) * rate, billion);
 }
 
-/* What is still to be slewed at a tick. */
-static inline int64_t tsp_rest_at(const tsp_page *page, int64_t tick)
+/* What is still to be slewed of so many microseconds when so many ticks have passed. */
+static inline int64_t tsp_rest_after(int64_t rest, int64_t passed)
 {
-    int64_t moved;
-    if (page->rest == 0)
-        return 0;
-    moved = tick > page->tick ? (tick - page->tick) / 200 : 0;
-    if (page->rest > 0)
-        return page->rest > moved ? page->rest - moved : 0;
-    return page->rest < -moved ? page->rest + moved : 0;
+    int64_t moved = passed > 0 ? (int64_t)((uint64_t)passed / 200) : 0;
+    if (rest > 0)
+        return rest > moved ? rest - moved : 0;
+    return rest < -moved ? rest + moved : 0;
 }
 
 /* The time that a page gives at a nanosecond. */
 static inline int tsp_time_of(const tsp_page *page, int64_t now, tsp_time *time)
 {
-    int64_t tick = tsp_tick_at(page, now), target = page->target + tick - page->tick, shown = target - tsp_rest_at(page, tick);
-    int64_t passed = tick > page->looked ? tick - page->looked : 0, spread = 0;
-    time->life = page->life;
-    time->steps = page->steps;
-    time->role = (int)page->role;
-    time->status = now - page->alive > TSP_LASTS ? TSP_STALE : (int)page->status;
-    if (page->role != TSP_LEADS)
-        spread = tsp_spread(page->drift, passed);
-    time->shown = shown < page->least ? page->least : shown;
+    int64_t tick = tsp_tick_at(page, now), ahead = tick - TSP_OF(page, tick), target = TSP_OF(page, target) + ahead;
+    int64_t rest = TSP_OF(page, rest), least = TSP_OF(page, least), looked = TSP_OF(page, looked), spread = 0;
+    int64_t shown = rest == 0 ? target : target - tsp_rest_after(rest, ahead), passed = tick > looked ? tick - looked : 0;
+    time->life = TSP_OF(page, life);
+    time->steps = TSP_OF(page, steps);
+    time->role = (int)TSP_OF(page, role);
+    time->status = now - TSP_OF(page, alive) > TSP_LASTS ? TSP_STALE : (int)TSP_OF(page, status);
+    if (time->role != TSP_LEADS)
+        spread = tsp_spread(TSP_OF(page, drift), passed);
+    time->shown = shown < least ? least : shown;
     time->age = passed;
-    time->earliest = target + page->low - spread;
-    time->latest = target + page->high + spread;
+    time->earliest = target + TSP_OF(page, low) - spread;
+    time->latest = target + TSP_OF(page, high) + spread;
     if (time->status == TSP_STALE)
         time->shown = 0;
     if (time->status < TSP_SYNCHRONISED)
@@ -166,9 +167,30 @@ static inline int tsp_time_of(const tsp_page *page, int64_t now, tsp_time *time)
     return time->status;
 }
 
-#define TSP_LOAD(field) (copy->field = __atomic_load_n(&page->field, __ATOMIC_RELAXED))
+/* Begins to read a page: its sequence, which is odd while it is written. */
+static inline uint64_t tsp_begin(const tsp_page *page)
+{
+    return __atomic_load_n(&page->sequence, __ATOMIC_ACQUIRE);
+}
 
-/* Copies what the time follows from. */
+/* Whether a page was the same all the time since it had this sequence. */
+static inline int tsp_is_whole(const tsp_page *page, uint64_t sequence)
+{
+    __atomic_thread_fence(__ATOMIC_ACQUIRE);
+    return sequence % 2 == 0 && __atomic_load_n(&page->sequence, __ATOMIC_RELAXED) == sequence;
+}
+
+/* The time now by a page; 0 where it was written meanwhile. The clock is read in between, so that the page was the one of that moment. */
+static inline int tsp_time_once(const tsp_page *page, tsp_time *time)
+{
+    uint64_t sequence = tsp_begin(page);
+    tsp_time_of(page, tsp_nanoseconds(), time);
+    return tsp_is_whole(page, sequence);
+}
+
+#define TSP_LOAD(field) (copy->field = TSP_OF(page, field))
+
+/* Copies what the time follows from. (in place a page is read faster, but only once) */
 static inline void tsp_copy(tsp_page *copy, const tsp_page *page)
 {
     TSP_LOAD(life);
@@ -190,19 +212,16 @@ static inline void tsp_copy(tsp_page *copy, const tsp_page *page)
 
 #undef TSP_LOAD
 
-/* Reads a page once; 0 where it was being written. The clock is read in between, so that the page was the one of that moment. */
+/* Copies a page, and reads the clock in between; 0 where it was written meanwhile. */
 static inline int tsp_read_once(const tsp_page *page, tsp_page *copy, int64_t *now)
 {
-    uint64_t before = __atomic_load_n(&page->sequence, __ATOMIC_ACQUIRE);
-    if (before % 2 != 0)
-        return 0;
+    uint64_t sequence = tsp_begin(page);
     tsp_copy(copy, page);
     *now = tsp_nanoseconds();
-    __atomic_thread_fence(__ATOMIC_ACQUIRE);
-    return __atomic_load_n(&page->sequence, __ATOMIC_RELAXED) == before;
+    return tsp_is_whole(page, sequence);
 }
 
-/* Reads a page, again while it is being written; 0 where that never ends, since its writer was killed then. */
+/* Copies a page, again while it is being written; 0 where that never ends, since its writer was killed then. */
 static inline int tsp_read(const tsp_page *page, tsp_page *copy, int64_t *now)
 {
     const struct timespec pause = {0, 50000};
@@ -265,6 +284,8 @@ static inline int tsp_clock_look(const tsp_clock *clock, tsp_time *time)
 {
     tsp_page copy;
     int64_t now;
+    if (clock->page != NULL && tsp_time_once(clock->page, time))
+        return time->status;
     if (clock->page != NULL && tsp_read(clock->page, &copy, &now))
         return tsp_time_of(&copy, now, time);
     memset(time, 0, sizeof *time);

@@ -3,6 +3,7 @@ import os
 import signal
 import subprocess
 
+from lab import process
 from lab.hosts import Namespaces
 
 LAUNCH = os.path.join(os.path.dirname(os.path.dirname(os.path.realpath(__file__))), 'tsp-launch')
@@ -13,7 +14,7 @@ class Supervised(Namespaces):
 
     def __init__(self, drift, *rest, **more):
         super().__init__(*rest, **more)
-        self.drift = drift
+        self.drift, self.began = drift, {}
         # (in whole microseconds, in which daemons count)
         self.begun -= self.begun % 1000
         # (the daemon reads both of its clocks at one moment, so that the lab knows its first reading)
@@ -37,6 +38,13 @@ class Supervised(Namespaces):
         with open(path, 'wb') as trace:
             daemon.process = subprocess.Popen(command, stdout=trace, stderr=subprocess.STDOUT, env=environment)
         daemon.trace.append(path)
+        self.began[daemon.name] = self.seconds()
+
+    def share(self, daemon):
+        """How much of a processor a host's supervisor took since it was started, in hundredths of the network's time; - where that isn't told."""
+        if not daemon.process or not process.is_told():
+            return '-'
+        return f'{100 * process.spent(daemon.process.pid) / (self.seconds() - self.began[daemon.name]):.3f}'
 
     @staticmethod
     def stop(daemon, by=signal.SIGTERM):

@@ -172,7 +172,7 @@ def torn():
         writer, number = Writer(path), 0
         while True:
             number += 1
-            writer.write(tsp_clock.Page(number, number, 2, 1, 0, number, 0, number, number, -number, number, 0, number, -number, number, number))
+            writer.write(tsp_clock.Page(number, number, 2, tsp_clock.LEADS, 0, number, 0, number, number, -number, number, 0, number, -number, number, number))
     try:
         while not os.path.exists(path) or os.path.getsize(path) < tsp_clock.SIZE:
             time.sleep(0.01)

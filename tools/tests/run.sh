@@ -83,15 +83,15 @@ done
 first=$(tools/tsp-run sh -c 'date +%s%3N; rm "$TSP_CLOCK"; sleep 0.3; date +%s%3N')
 [ "$(echo "$first" | tail -n 1)" -ge "$(($(echo "$first" | head -n 1) + 300))" ] || fail 'the time falls when the page is gone'
 
-# make builds the tree of the examples by the time of the network, which is 50 minutes behind, while 15 ms are slewed.
-page -3000000000 -15000 2
+# make builds the tree of the examples by the time of the network, which is 50 minutes ahead, while 15 ms are slewed; and then nothing again.
+page 3000000000 -15000 2
 cp -r examples/build "$out/tree"
-tools/tsp-run make -s -C "$out/tree" >"$out/made" 2>&1 || fail "make fails: $(cat "$out/made")"
-awk -v now="$(date +%s)" '{ if ($1 > now - 2940 || $1 < now - 3060 || $1 <= last) exit 1; last = $1 } END { exit NR != 3 }' "$out/tree/build.log" ||
-    fail "make ran at $(paste -sd ' ' "$out/tree/build.log")"
+for _ in first again; do
+    tools/tsp-run make -s -C "$out/tree" >"$out/made" 2>&1 || fail "make fails: $(cat "$out/made")"
+    awk -v now="$(date +%s)" '{ if ($1 > now + 3010 || $1 < now + 2940 || $1 <= last) exit 1; last = $1 } END { exit NR != 3 }' "$out/tree/build.log" ||
+        fail "make ran at $(paste -sd ' ' "$out/tree/build.log")"
+done
 built=$(sed -n "s/^built at \(.*\) by the network's time\$/\1/p" "$out/made")
-away=$(($(date +%s) - $(date -d "$built" +%s)))
-[ "$away" -ge 2990 ] && [ "$away" -le 3060 ] || fail "the compiler looked at the clock at $built"
-tools/tsp-run make -s -C "$out/tree" >"$out/again" 2>&1 && cmp -s "$out/made" "$out/again" || fail "make builds again: $(cat "$out/again")"
-[ "$(wc -l <"$out/tree/build.log")" -eq 3 ] || fail 'make builds again what is built'
+away=$(($(date -d "$built" +%s) - $(date +%s)))
+[ "$away" -ge 2940 ] && [ "$away" -le 3010 ] || fail "the compiler looked at the clock at $built"
 echo "$check: programs under the time of the network, $(cat "$out/said")"
