@@ -1,8 +1,10 @@
 #!/usr/bin/env python3
-"""Runs examples/logger.py and examples/store.py on three hosts of a lab, whose master is killed meanwhile: `ordered.py PROGRAM FOLDER SEED`.
+"""Runs examples/logger.py and examples/store.py on three hosts of a lab, whose master is killed meanwhile, and a wall clock set: `ordered.py PROGRAM
+FOLDER SEED`.
 
 Things happen one after the other, each on some host. All that is logged and written is to sort as it happened; and, so that this says something, the same
-logger by the hosts' own clocks, and the same store without its wait, are to sort otherwise. It needs namespaces of its own.
+logger by the hosts' own clocks, and the same store without its wait, are to sort otherwise. Then it looks at what a reader sees of a host whose daemon and
+supervisor are stopped and killed. It needs namespaces of its own.
 """
 import os
 import random
@@ -19,6 +21,7 @@ import tsp_clock  # noqa: E402
 from lab import preload  # noqa: E402
 from lab.hosts import Daemon  # noqa: E402
 from lab.supervised import Supervised  # noqa: E402
+import seen  # noqa: E402
 
 PROGRAM, FOLDER, SEED = sys.argv[1], sys.argv[2], int(sys.argv[3])
 EXAMPLES = os.path.join(os.path.dirname(TOOLS), 'examples')
@@ -30,6 +33,8 @@ NO_WAIT = ('store.py', 'tsp_clock.wait_after(clock, now.latest + ROUND, LONGEST)
 # wait takes.
 TIMES, AT_ONCE, APART, LONGEST = 50, 5, 0.005, 60
 KEYS = 3
+# When a host's wall clock is set, in microseconds of the network's time, and by how much.
+STEP = 450_000_000, 7_000_000
 
 
 def wanted(is_so, text):
@@ -191,13 +196,14 @@ class Run:
         said = self.judge()
         for host in self.hosts:
             host.end()
-        return said
+        return f'{said}; {seen.told(self.lab, self.lab.daemons[2], os.path.join(FOLDER, "seen"))}'
 
 
 def main():
     library = preload.made('fastclock', FOLDER)
     chance = random.Random(SEED)
     daemons = [Daemon(name, role, chance.randint(-5_000_000, 5_000_000), chance.randint(-DRIFT, DRIFT)) for name, role in (('a', 'm'), ('b', 'm'), ('c', 's'))]
+    daemons[2].step = STEP
     lab = Supervised(TOLD, [daemons], PROGRAM, library, RATE, FOLDER, seed=SEED, capture=False)
     try:
         lab.tell('late 20 45')
