@@ -19,6 +19,7 @@ sys.path.insert(0, TOOLS)
 from lab import preload  # noqa: E402
 from tsp_daemon.loop import Loop  # noqa: E402
 from tsp_daemon.systemd import Systemd  # noqa: E402
+import tsp_clock  # noqa: E402
 from tsp_witness.datagram import octets_of  # noqa: E402
 
 PROGRAM, FOLDER = sys.argv[1:3]
@@ -265,6 +266,8 @@ def slept():
     server = Supervised(LD_PRELOAD=library, SLEPT_FILE=file)
     first = server.ready()
     with open(file, 'wb'):
+        # (a look comes twice a second, but the timer that runs on in a sleep is over at once)
+        until(lambda: not is_there(first), 'the daemon runs on after a sleep', 0.3)
         until(lambda: server.daemon() not in (None, first), 'the daemon isn\'t started again after a sleep', 1.5)
     server.ready()
     wanted('the machine slept for 600 s, in which the daemon didn\'t count; the daemon is started again' in server.read(), f'it says {server.read()}')
@@ -356,6 +359,35 @@ def rotated():
     text = b''.join(subprocess.run(['zcat', '-f', trace + end], stdout=subprocess.PIPE, check=True).stdout for end in ('.2.gz', '.1', ''))
     turns = sorted({int(line.split()[0]) for line in text.splitlines() if b' request 1 2' in line})
     wanted(len(turns) >= 600 and all(b' ' in line for line in text.splitlines()), f'{len(turns)} of 600 questions are in the files')
+
+
+def rated():
+    """The page of a daemon whose counter has a rate gives what the daemon answers, and by its trace to the microsecond; without the rate it doesn't."""
+    for rate in (1_000_000, -700_001, 0):
+        server = Supervised(TSP_RATE=str(rate))
+        server.ready()
+        clock = tsp_clock.Clock(server.path('clock'))
+        until(lambda: clock.now().status == tsp_clock.WAITING, 'the page isn\'t written')
+        page, _ = clock.read()
+        wanted(page.rate == rate, f'the page has the rate {page.rate}')
+        begun, misses = time.monotonic(), 0
+        while time.monotonic() < begun + 1:
+            sent = time.monotonic_ns()
+            server.link.sendto(REQUEST, server.address)
+            reading, got = int.from_bytes(server.link.recv(512)[20:], 'big'), time.monotonic_ns()
+            misses += not within(page._replace(rate=0), sent, reading, got)
+            wanted(within(page, sent, reading, got), f'the daemon answers {reading}, and the page {[page.target_at(page.tick_at(now)) for now in (sent, got)]}')
+            time.sleep(0.005)
+        wanted(bool(misses) == bool(rate), f'without the rate {rate} the page is {misses} times another one')
+        server.end()
+        told = re.findall(r'^[0-9]+ 0 0 ([0-9]+) post [0-9]+ - reply [0-9]+ 1 2 ([0-9]+)$', server.read(server.out), re.MULTILINE)
+        wanted(len(told) > 50 and all(page.target_at(int(tick)) == int(reading) for tick, reading in told), 'the page is another one than the trace')
+
+
+def within(page, sent, reading, got):
+    """Whether a reading lies between what a page gives before and after it, as far as that is known."""
+    low, high = (page.target_at(page.tick_at(now)) for now in (sent, got))
+    return low - page.off - 1 <= reading <= high + page.off + 1
 
 
 def gone():
