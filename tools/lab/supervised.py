@@ -4,7 +4,7 @@ import signal
 import subprocess
 
 from lab import process
-from lab.hosts import Namespaces
+from lab.hosts import Failed, Namespaces
 
 LAUNCH = os.path.join(os.path.dirname(os.path.dirname(os.path.realpath(__file__))), 'tsp-launch')
 
@@ -46,6 +46,21 @@ class Supervised(Namespaces):
         if not daemon.process or not process.is_told():
             return '-'
         return f'{100 * process.spent(daemon.process.pid) / (self.seconds() - self.began[daemon.name]):.3f}'
+
+    @staticmethod
+    def daemon_of(daemon):
+        """The process of a host's daemon itself."""
+        with open(f'/proc/{daemon.process.pid}/task/{daemon.process.pid}/children', encoding='ascii') as file:
+            processes = file.read().split()
+        if not processes:
+            raise Failed(f'{daemon.name} has no daemon')
+        return int(processes[0])
+
+    def pause(self, pid, seconds):
+        """Stops a process for so many seconds."""
+        os.kill(pid, signal.SIGSTOP)
+        self.sleep(seconds)
+        os.kill(pid, signal.SIGCONT)
 
     @staticmethod
     def stop(daemon, by=signal.SIGTERM):

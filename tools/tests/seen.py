@@ -53,9 +53,7 @@ class Seen:
     def stop(self, pid):
         """Stops a process for a while, and gives how long the page was stale then."""
         first = len(self.lines())
-        os.kill(pid, signal.SIGSTOP)
-        self.lab.sleep(STOPPED)
-        os.kill(pid, signal.SIGCONT)
+        self.lab.pause(pid, STOPPED)
         self.lab.sleep(2 * LOOKS)
         self.wait_for(tsp_clock.SYNCHRONISED, 2 * LOOKS)
         return self.stale(self.lines()[first:])
@@ -94,18 +92,12 @@ class Seen:
         self.process.wait()
 
 
-def children(pid):
-    """The processes that a process began."""
-    with open(f'/proc/{pid}/task/{pid}/children', encoding='ascii') as file:
-        return [int(word) for word in file.read().split()]
-
-
 def told(lab, daemon, path):
     """What a reader of this host saw, in words."""
     seen = Seen(lab, daemon, path)
     try:
         supervisor = daemon.process.pid
-        by_daemon, by_supervisor = seen.stop(children(supervisor)[0]), seen.stop(supervisor)
+        by_daemon, by_supervisor = seen.stop(lab.daemon_of(daemon)), seen.stop(supervisor)
         return (f'a page is stale for {by_daemon:.0f} s of {STOPPED} in which its daemon is stopped, for {by_supervisor:.0f} s where its supervisor is, '
                 f'and {seen.kill():.0f} s after that is killed')
     finally:
