@@ -1,7 +1,7 @@
 /* Reads the pages of a lab's hosts side by side, and compares what they give with what the lab knows: `truth FROM RATE SECONDS HOST..`
  *
- * HOST is PAGE,WALL,DRIFT,NAME: a page, what the host's wall clock showed when fast time began, in microseconds since 1970, by how many parts in a
- * million its clocks are fast, and the master's name in pages. Fast time is that of fastclock.c.
+ * HOST is PAGE,WALL,STEP,DRIFT,NAME: a page, what the host's wall clock showed when fast time began, in microseconds since 1970, by how many it is set
+ * at some time, by how many parts in a million its clocks are fast, and the master's name in pages. Fast time is that of fastclock.c.
  *
  * Each sample is judged a while after it was read, when all is known of the corrections before it. It writes a line for each host: its name, how many
  * readings it gave with an interval, how many of these had the master's clock outside, how many were between a correction of the master and the
@@ -30,7 +30,7 @@ typedef struct {
 
 typedef struct {
     const char *path, *name;
-    int64_t wall, drift, first; /* when the daemon's tick was 0, in microseconds of its own clock, as the lab knows */
+    int64_t wall, step, drift, first; /* when the daemon's tick was 0, in microseconds of its own clock, as the lab knows */
     tsp_clock clock;
     segment segments[KEPT];
     int count;
@@ -72,6 +72,13 @@ static int64_t machine_time(const host *h, int64_t own)
     return from + (int64_t)((double)(own - from) * MILLION / (MILLION + (double)h->drift) / (double)rate);
 }
 
+/* When a daemon's tick was 0, by the first page of its life: its wall clock was set before that, or wasn't; the page's anchor is much nearer to one. */
+static int64_t first_of(const host *h, const tsp_page *page)
+{
+    int64_t plain = page->target - h->wall + from / THOUSAND, set = plain - h->step;
+    return llabs(plain - page->anchor / THOUSAND) <= llabs(set - page->anchor / THOUSAND) ? plain : set;
+}
+
 /* Notes a page that differs from the last one of its host. */
 static void note(host *h, const tsp_page *page)
 {
@@ -79,7 +86,7 @@ static void note(host *h, const tsp_page *page)
     if (last != NULL && last->life == page->life && last->tick == page->tick && last->target == page->target)
         return;
     if (page->tick == 0)
-        h->first = page->target - h->wall + from / THOUSAND;
+        h->first = first_of(h, page);
     h->segments[h->count % KEPT] = (segment){page->life, page->tick, page->target};
     h->count++;
 }
@@ -205,6 +212,7 @@ int main(int count, char **words)
         host *h = &hosts[hosts_count++];
         h->path = strtok(words[number], ",");
         h->wall = atoll(strtok(NULL, ","));
+        h->step = atoll(strtok(NULL, ","));
         h->drift = atoll(strtok(NULL, ","));
         h->name = strtok(NULL, ",");
         h->widths = calloc(WIDEST, sizeof *h->widths);

@@ -266,7 +266,7 @@ def slept():
     server = Supervised(LD_PRELOAD=library, SLEPT_FILE=file)
     first = server.ready()
     with open(file, 'wb'):
-        # (a look comes twice a second, but the timer that runs on in a sleep is over at once)
+        # (a look comes once a second, but the timer that runs on in a sleep is over at once)
         until(lambda: not is_there(first), 'the daemon runs on after a sleep', 0.3)
         until(lambda: server.daemon() not in (None, first), 'the daemon isn\'t started again after a sleep', 1.5)
     server.ready()

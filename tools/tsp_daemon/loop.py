@@ -5,7 +5,7 @@ import signal
 import time
 
 # A wait is no longer than that, so that a clock that jumped is seen.
-LONGEST = 0.5
+LONGEST = 1
 
 
 class Loop:

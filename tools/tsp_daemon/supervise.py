@@ -30,7 +30,7 @@ MOST_SAID = 65536
 DRIFT = 100
 # Seconds: between two looks at the machine, by how many the alarm for its waking is later, between two starts at least, between two tries at most,
 # after which a daemon has held, and for the last lines.
-LOOK, WAKING, APART, LONGEST_PAUSE, HELD, LAST_LINES = 0.5, 0.1, 1, 60, 60, 0.3
+LOOK, WAKING, APART, LONGEST_PAUSE, HELD, LAST_LINES = 1, 0.1, 1, 60, 60, 0.3
 
 
 class Supervisor:
@@ -144,7 +144,7 @@ class Supervisor:
         self.has_answered = self.has_answered or is_on
 
     def look(self):
-        """Looks at the daemon and at what it stands on, twice a second, and at once when the machine wakes."""
+        """Looks at the daemon and at what it stands on, once a second, and at once when the machine wakes."""
         self.alarm.set(0)
         if self.serving is None:
             return
