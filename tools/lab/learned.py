@@ -3,10 +3,9 @@
 Times are microseconds, and rates parts in 10^9.
 """
 import random
-from statistics import median
 from typing import NamedTuple
 
-from tsp_daemon.learn import BILLION, Learning
+from tsp_daemon.learn import BILLION, FEWEST, Learning
 from tsp_daemon.state import Change
 
 # What the rules say of rounds, of clocks that agree, and of the silence after a start; and how long nobody leads where the master is gone.
@@ -47,8 +46,8 @@ class Host:
 
 
 class Restart(NamedTuple):
-    """A restart, before and after it: the greatest distance of two counters, and how far the host's is from the network's rate. `error` is that of
-    what it applies."""
+    """A restart, before and after it: the greatest distance of two counters, and how far the host's is from the network's rates in the last hour.
+    `error` is that of what it applies."""
     at: int
     apart: tuple
     away: tuple
@@ -85,9 +84,10 @@ class Network:
         rates = [host.rate for host in self.hosts]
         return max(rates) - min(rates)
 
-    def rate(self):
-        """The network's rate over the last hour: the mean of the counters that its rounds averaged."""
-        return median(self.course[-HOUR:])
+    def away(self, host, rounds):
+        """How far a host's counter is from the rates that the network had in these last rounds: of each, the mean of the counters that it averaged."""
+        course = self.course[-rounds:]
+        return max(min(course) - host.rate, host.rate - max(course), 0) if course else 0
 
     def start(self, number):
         """A daemon starts, or starts again."""
@@ -135,10 +135,12 @@ class Network:
 
     def restart(self, number):
         """A daemon is started again, and takes what it has learned."""
-        host, apart, rate = self.hosts[number], self.apart(), self.rate() if self.course else 0
-        away, found = abs(host.rate - rate), host.learning.found
+        host, apart, found = self.hosts[number], self.apart(), self.hosts[number].learning.found
+        # (as far as it was corrected in the last hour without a break)
+        rounds = HOUR if host.learning.hours else min(max(len(host.learning.points), FEWEST) - 1, HOUR)
+        away = self.away(host, rounds)
         self.start(number)
-        self.restarts.append(Restart(self.now, (apart, self.apart()), (away, abs(host.rate - rate)), found.error if found else 0))
+        self.restarts.append(Restart(self.now, (apart, self.apart()), (away, self.away(host, rounds)), found.error if found else 0))
 
     def run_to(self, at):
         """All rounds before a time."""
