@@ -85,10 +85,13 @@ _tsp_sim() {
 _tsp_launch() {
     case $(_tsp_before "$3") in
     --program | -p) mapfile -t COMPREPLY < <(compgen -c -- "$2") ;;
-    --file | -f) mapfile -t COMPREPLY < <(compgen -f -- "$2") ;;
+    --file | -f | --output | -o) mapfile -t COMPREPLY < <(compgen -f -- "$2") ;;
     --self | -s) mapfile -t COMPREPLY < <(compgen -W "$(_tsp_hosts 2)" -- "$2") ;;
-    --turns | -t | --wait | -w | --spread) ;;
-    *) mapfile -t COMPREPLY < <(compgen -W '--print --list --file --self --turns --wait --spread --trace --supervise --program --help' -- "$2") ;;
+    --firewall) mapfile -t COMPREPLY < <(compgen -W 'nft systemd' -- "$2") ;;
+    --turns | -t | --wait | -w | --spread | --rate) ;;
+    *)
+        mapfile -t COMPREPLY < <(compgen -W '--print --list --firewall --file --self --turns --wait --spread --rate --trace --supervise --output --program --help' -- "$2")
+        ;;
     esac
 }
 
@@ -115,9 +118,9 @@ _tsp_now() {
     case $(_tsp_before "$3"):$2 in
     --program:* | -p:*) mapfile -t COMPREPLY < <(compgen -c -- "$2") ;;
     --file:* | -f:*) mapfile -t COMPREPLY < <(compgen -f -- "$2") ;;
-    --tries:* | -t:* | --timeout:*) ;;
+    --tries:* | -t:* | --timeout:* | --wait:[0-9]*) ;;
     --set:*) mapfile -t COMPREPLY < <(compgen -W 'now' -- "$2") ;;
-    *:-*) mapfile -t COMPREPLY < <(compgen -W '--utc --offset --set --file --timeout --tries --program --help' -- "$2") ;;
+    *:-*) mapfile -t COMPREPLY < <(compgen -W '--utc --offset --interval --wait --after --set --file --timeout --tries --program --help' -- "$2") ;;
     *) mapfile -t COMPREPLY < <(compgen -W "$(_tsp_hosts 2)" -- "$2") ;;
     esac
 }

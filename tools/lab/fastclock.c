@@ -10,8 +10,9 @@
  *   FAST_SPOIL  a type: the first datagram of this type that is sent has the last bit of its octet 11 changed
  *
  * All programs with the same FAST_FROM, FAST_RATE and FAST_DRIFT have the same fast time, whenever they start. Receives
- * that wait so long in fast time wait less here. */
+ * and polls that wait so long in fast time wait less here. */
 #define _GNU_SOURCE
+#include <poll.h>
 #include <stdlib.h>
 #include <string.h>
 #include <sys/socket.h>
@@ -79,6 +80,13 @@ int setsockopt(int socket, int level, int name, const void *value, socklen_t siz
     wait.tv_sec = micros / MILLION;
     wait.tv_usec = micros % MILLION;
     return syscall(SYS_setsockopt, socket, level, name, &wait, sizeof wait);
+}
+
+int poll(struct pollfd *files, nfds_t count, int wait)
+{
+    long long nanos = wait * MILLION / setting("FAST_RATE", 1);
+    struct timespec time = {nanos / BILLION, nanos % BILLION};
+    return syscall(SYS_ppoll, files, count, wait < 0 ? NULL : &time, NULL, 0);
 }
 
 ssize_t sendto(int socket, const void *octets, size_t count, int flags, const struct sockaddr *to, socklen_t size)

@@ -59,7 +59,7 @@ tools/tsp-launch -f "$out/fourth" -s d -t 1 >"$out/said" 2>"$out/told" || fail "
 tools/tsp-launch --supervise -f "$out/fourth" -s d >"$out/said" 2>"$out/told" &
 supervised=$!
 tries=0
-until tools/tsp-now --timeout 1 -f "$out/fourth" d >"$out/said" 2>/dev/null; do
+until tools/tsp-now --offset --timeout 1 -f "$out/fourth" d >"$out/said" 2>/dev/null; do
     tries=$((tries + 1))
     [ "$tries" -lt 10 ] || fail "a supervised daemon doesn't answer: $(cat "$out/told")"
 done

@@ -94,7 +94,19 @@ python3 "$out/root/usr/bin/tsp-status" --help | cmp -s - "$out/help" || fail 'th
 python3 "$out/root/usr/bin/tsp-watch" tools/tests/watch.trace | grep -q ' leads$' || fail 'the packed tsp-watch reads no trace'
 python3 "$out/root/usr/bin/tsp-now" --help | grep -q '^usage: tsp-now ' || fail 'the packed tsp-now has no help'
 echo "a 127.0.0.1:$(free_ports 1) master" >"$out/hosts"
-"$out/root$launch" --supervise --spread 0 -t 1 -f "$out/hosts" -s a || fail "the packed tsp-launch ends with status $?"
+TSP_CLOCK="$out/clock" timeout --preserve-status 2 "$out/root$launch" --supervise --spread 0 --trace -f "$out/hosts" -s a >"$out/trace" 2>"$out/told" ||
+    fail "the packed tsp-launch ends with status $?: $(cat "$out/told")"
+grep -q ' trace on$' "$out/trace" || fail 'the packed tsp-launch starts no daemon'
+
+# Programs read the time: the header is found where compilers look, and the module where Python does, which is also where the tools take it.
+cmp -s "$out/root/usr/include/tsp_clock.h" tools/tsp_clock.h || fail 'tsp_clock.h is not packed'
+cmp -s "$out/root/usr/share/tsp/tsp_clock.py" tools/tsp_clock.py || fail 'the packed tools have another tsp_clock'
+PYTHONPATH="$out/root/usr/lib/python3/dist-packages" python3 -c 'import tsp_clock; tsp_clock.Clock("'"$out/clock"'").now()' || fail 'the packed tsp_clock does not read the page'
+if has cc; then
+    cc -std=c99 -Wall -Wextra -Werror -isystem "$out/root/usr/include" -o "$out/read_time" "$examples/read_time.c" || fail 'the packed example does not compile'
+    TSP_CLOCK="$out/clock" timeout 1 "$out/read_time" >"$out/said" || :
+    grep -q "the daemon doesn't run$" "$out/said" || fail "the packed example says $(cat "$out/said")"
+fi
 cmp -s "$out/root/etc/default/tsp" daemon/tsp.default && [ "$(cat "$out/control/conffiles")" = /etc/default/tsp ] || fail 'the variables of the daemon are not kept'
 [ -d "$out/root/etc/tsp" ] && [ ! -e "$out/root/etc/tsp/hosts" ] || fail 'there is a hosts file that nobody wrote'
 for script in postinst prerm postrm; do

@@ -241,9 +241,7 @@ ends 1 -f "$hosts" -s gamma -p "$out/fake" --supervise
 [ "$(cat "$out/told")" = "tsp-launch: $out/fake doesn't know the words 'serve 198.51.100.7:525 gamma s 1000000000 192.0.2.1:525': it is of another version" ] || fail "$(cat "$out/told")"
 cat >"$out/daemon" <<'END'
 #!/bin/sh
-[ "$1" = serve ] || { sleep 0.2; echo no master; exit; }
-echo '1 0 0 1 trace on'
-echo '2 0 0 2 become follow 1'
+printf '%s\n' '1 0 0 1 trace on' '2 0 0 2 become follow 1'
 exec sleep 30
 END
 chmod +x "$out/daemon"
@@ -263,10 +261,11 @@ with socket.socket(socket.AF_UNIX, socket.SOCK_DGRAM) as link:
                 run.send_signal(signal.SIGTERM)
     print(run.returncode)
 END
-python3 "$out/notify" "$out/link" tools/tsp-launch -f "$hosts" -s gamma -p "$out/daemon" --supervise >"$out/said" 2>"$out/told" || fail "$(cat "$out/told")"
+python3 "$out/notify" "$out/link" tools/tsp-launch -f "$hosts" -s gamma -p "$out/daemon" --supervise --trace >"$out/said" 2>"$out/told" || fail "$(cat "$out/told")"
 grep -v '^[12] 0 0 ' "$out/said" | paste -sd ';' >"$out/notified"
-[ "$(cat "$out/notified")" = 'main READY=1 STATUS=follows peer 1;main STOPPING=1;0' ] || fail "systemd is told '$(cat "$out/notified")'"
-[ "$(grep -c '^[12] 0 0 [12] ' "$out/said")" -eq 2 ] && [ ! -s "$out/told" ] || fail 'the trace is not handed on'
+[ "$(cat "$out/notified")" = 'main READY=1 STATUS=follows gate;main STOPPING=1;0' ] || fail "systemd is told '$(cat "$out/notified")'"
+[ "$(grep -c '^[12] 0 0 [12] ' "$out/said")" -eq 2 ] || fail 'the trace is not handed on'
+[ "$(cat "$out/told")" = 'tsp-launch: in the trace peer 0 is gamma, 1 gate' ] || fail "$(cat "$out/told")"
 
 # A daemon that listens at all addresses is asked over the loopback.
 : >"$CALLS"

@@ -18,11 +18,13 @@ calls_of() {
 
 tried=''
 if has strace && has systemd-analyze && strace -qq -o "$out/calls" true 2>/dev/null; then
-    # A name is looked up, the daemon is asked to trace, and takes three turns.
+    # A name is looked up, the daemon is asked to trace, takes eight turns, is started again, and is told to end.
     free_ports 2 >"$out/ports"
     read -r one two <"$out/ports"
     printf '%s\n' "a localhost:$one master" "b 127.0.0.1:$two slave" >"$out/hosts"
-    strace -f -qq -o "$out/calls" env TSP_SPREAD=1 NOTIFY_SOCKET=@tsp-none tools/tsp-launch -f "$out/hosts" -s a -t 3 --trace --supervise -p "$program" >"$out/trace" 2>"$out/told" || fail "$(cat "$out/told")"
+    TSP_SPREAD=1 TSP_CLOCK="$out/clock" NOTIFY_SOCKET=@tsp-none strace -f -qq -o "$out/calls" \
+        timeout --preserve-status 12 tools/tsp-launch -f "$out/hosts" -s a -t 8 --trace --supervise -p "$program" >"$out/trace" 2>"$out/told" || fail "$(cat "$out/told")"
+    [ "$(grep -c ' trace on$' "$out/trace")" -ge 2 ] || fail "the daemon isn't started again: $(cat "$out/told")"
     sed 's/^[0-9]* *//' "$out/calls" | grep -o '^[a-z_0-9]*(' | tr -d '(' | sort -u >"$out/used"
     grep -q recvfrom "$out/used" && grep -q execve "$out/used" || fail 'no calls were seen'
     sed -n 's/^SystemCallFilter=//p' "$unit" | while read -r groups; do

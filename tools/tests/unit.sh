@@ -45,9 +45,10 @@ fi
 
 # A root with the unit, what it starts, and the units that it names.
 root=$out/root
-install -d "$root/usr/lib/systemd/system" "$root/usr/sbin" "$root/etc/default"
+install -d "$root/usr/lib/systemd/system" "$root/usr/sbin" "$root/bin" "$root/etc/default"
 install -m 644 "$unit" "$root/usr/lib/systemd/system"
 install -m 755 tools/tsp-launch "$root/usr/sbin"
+install -m 755 /dev/null "$root/bin/kill"
 for folder in /usr/lib/systemd/system /lib/systemd/system; do
     [ ! -d "$folder" ] || { cp -r "$folder"/*.target "$root/usr/lib/systemd/system" 2>/dev/null || :; }
 done

@@ -79,6 +79,19 @@ sed -i 's/1 b, 2 c$/1 c, 2 b/' "$out/changed/a-1.trace"
 wants 3 '' three "$out/changed"
 tells 'the daemon was started with the peers 0 a, 1 c, 2 b; by the hosts file they are 0 a, 1 b, 2 c'
 
+# A supervisor left out questions for the clock, and says how many lines that are.
+rm -rf "$out/changed"
+cp -r "$given/three" "$out/changed"
+for trace in "$out/changed"/*.trace; do
+    awk '/ took - request | - reply / { left++; next } left { print "... " left " lines of supervisors left out"; left = 0 } { print }' "$trace" >"$out/trace"
+    mv "$out/trace" "$trace"
+done
+grep -q '^\.\.\. 4 lines' "$out/changed"/*.trace || fail 'no question is left out'
+wants 0 "$(written "$out/changed") acts alike, holds" three "$out/changed"
+[ ! -s "$out/besides" ] || fail "questions that were left out: $(cat "$out/besides")"
+sed -i 's/^\.\.\. 4 lines/... 2 lines/' "$out/changed"/*.trace
+wants 1 "$(written "$out/changed") acts alike, holds" three "$out/changed"
+
 # Two daemons as the launcher starts them, with what both write in one file as a journal has it; each is asked for its clock.
 free_ports 2 >"$out/ports"
 read -r one two <"$out/ports"

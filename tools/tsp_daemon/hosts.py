@@ -2,7 +2,7 @@
 import os
 import subprocess
 from dataclasses import dataclass
-from typing import List
+from typing import List, Tuple
 
 from tsp_daemon.usage import BAD_FILE
 from tsp_texts.tool import Fault
@@ -45,6 +45,13 @@ def asked_at(local) -> str:
     return f'127.0.0.1:{port}' if host == '0.0.0.0' else local
 
 
-def own_address(file) -> str:
-    """The address at which this machine's own daemon is asked."""
-    return asked_at(launched(file, '--print').split(' ')[1])
+def pair_of(address):
+    """An address A.B.C.D:PORT as Python has it."""
+    host, port = address.split(':')
+    return host, int(port)
+
+
+def own(file) -> Tuple[str, str]:
+    """The name of this machine's own daemon, and the address at which it is asked."""
+    words = launched(file, '--print').split()
+    return words[2], asked_at(words[1])

@@ -1,143 +1,238 @@
 #!/usr/bin/env python3
 """Runs a daemon for tsp-launch, and stays with it: `supervise.py PROGRAM serve LOCAL NAME ..`.
 
-What the daemon writes is handed on. systemd is told when the daemon answers, and which role it has. SIGTERM ends both, and the
-status is then 0; else it is the daemon's. Where its address can't be bound, a line says why.
+What the daemon writes is handed on, as fast as it is read. systemd is told when the daemon answers, and which role it has. SIGTERM ends
+both, and the status is then 0. A daemon that ends before it ever answered ends this too, with its status; one that answered is started
+again, but where that is no use. SIGHUP reads the hosts file again.
 """
 import os
 import signal
-import socket
-import subprocess
 import sys
-import threading
-import time
 
 sys.dont_write_bytecode = True
 sys.path.insert(0, os.path.dirname(os.path.dirname(os.path.realpath(__file__))))
-from tsp_daemon import hosts, questions, sockets, state, trace, usage, views  # noqa: E402
-from tsp_texts.tool import Fault, say  # noqa: E402
+from tsp_daemon import hosts, machine, sockets, usage, views  # noqa: E402
+from tsp_daemon.keeper import Keeper  # noqa: E402
+from tsp_daemon.loop import Loop  # noqa: E402
+from tsp_daemon.outlet import Outlet  # noqa: E402
+from tsp_daemon.output import Output  # noqa: E402
+from tsp_daemon.page import Writer  # noqa: E402
+from tsp_daemon.reload import Reload  # noqa: E402
+from tsp_daemon.serving import Serving  # noqa: E402
+from tsp_daemon.systemd import Systemd  # noqa: E402
+from tsp_texts import tool  # noqa: E402
+import tsp_clock  # noqa: E402
 
-CHUNK = 65536
-# How long one question waits while the daemon starts, and how long a daemon has to be there after it was answered. (another program may
-# have answered that has the port, and then this one's end is near)
-PATIENCE, SETTLED = 0.5, 0.3
-NO_WORDS, NO_NETWORK = 1, 5
-
-
-class Systemd:
-    """Tells systemd of the service: nothing, where it wasn't started by systemd."""
-
-    def __init__(self):
-        path = os.environ.pop('NOTIFY_SOCKET', '')
-        self.address = '\0' + path[1:] if path.startswith('@') else path
-        self.last = None
-
-    def tell(self, *lines):
-        """Sends these lines, unless they were the last ones."""
-        if not self.address or lines == self.last:
-            return
-        self.last = lines
-        try:
-            with socket.socket(socket.AF_UNIX, socket.SOCK_DGRAM) as link:
-                link.sendto('\n'.join(lines).encode('ascii', 'replace'), self.address)
-        except OSError as fault:
-            say(f'systemd isn\'t told: {fault.strerror}')
+DONE, NO_WORDS, BAD_WALL, NO_NETWORK = 0, 1, 2, 5
+# How many octets of what this says itself wait for a slow reader.
+MOST_SAID = 65536
+# By how many parts in a million counters may be wrong, where nobody says that.
+DRIFT = 100
+# Seconds: between two looks at the machine, between two starts at least, between two tries at most, after which a daemon has held, and for
+# the last lines.
+LOOK, APART, LONGEST_PAUSE, HELD, LAST_LINES = 0.5, 1, 60, 60, 0.3
 
 
 class Supervisor:
-    """A daemon, what its trace tells, and whether it was told to end."""
+    """A daemon, and what becomes of it; `final` is the status to end with, once that is known."""
 
     def __init__(self, words):
-        self.program, self.local, self.words = words[0], words[2], words
-        self.systemd, self.daemon, self.lines = Systemd(), state.Daemon(), trace.Lines()
-        self.is_bound = self.is_told = False
-        self.process = None
+        self.words, self.local, self.host = words, words[2], words[2].split(':')[0]
+        self.names = os.environ.get('TSP_NAMES', '').split()
+        self.is_shown = os.environ.get('TSP_TRACE', 'on') == 'on'
+        self.loop = Loop()
+        self.errors = Outlet(2, MOST_SAID)
+        self.lines = Output(os.environ.get('TSP_OUTPUT', ''), self.loop, self.say, self.give_up)
+        self.systemd = Systemd(self.loop, self.say)
+        self.reload = Reload(self.loop, words, self.say, self.begin_anew)
+        self.serving = self.sleep = self.final = None
+        self.has_answered, self.was_switched, self.pause, self.started, self.left_out = False, False, APART, -APART, 0
+        self.keeper = self.kept()
+
+    def kept(self):
+        """What keeps the page of the network's time, where there is a place for it."""
+        path = os.environ.get('TSP_CLOCK') or tsp_clock.PATH
+        if not os.environ.get('TSP_CLOCK') and not os.path.isdir(os.path.dirname(path)):
+            return None
+        try:
+            writer = Writer(path)
+        except OSError as fault:
+            self.say(f'programs can\'t read the time: {path}: {"another daemon writes it" if isinstance(fault, BlockingIOError) else fault.strerror}')
+            return None
+        peers = [hosts.pair_of(word) for word in self.words[6:] if word != '+']
+        names = self.names or [self.words[3], *self.words[6:]]
+        own = hosts.pair_of(hosts.asked_at(self.local))
+        return Keeper(self.loop, writer, own, peers, names, int(os.environ.get('TSP_RATE', 0)), int(os.environ.get('TSP_DRIFT', DRIFT)))
+
+    def say(self, text):
+        """A line on standard error, for which nobody waits."""
+        self.errors.put(f'tsp-launch: {tool.one_line(text)}\n'.encode('utf-8', 'replace'))
 
     def run(self):
-        """Runs the daemon to its end, and gives the status to end with."""
-        for number in (signal.SIGTERM, signal.SIGINT, signal.SIGHUP):
-            signal.signal(number, self.end)
+        """Runs the daemon, and gives the status to end with."""
+        for number, call in ((signal.SIGTERM, self.stop), (signal.SIGINT, self.stop), (signal.SIGHUP, self.hang_up), (signal.SIGCHLD, self.look)):
+            self.loop.on(number, call)
+        signal.pthread_sigmask(signal.SIG_UNBLOCK, (signal.SIGINT,))
+        self.start()
+        while self.final is None:
+            self.loop.step()
+        self.end_daemon()
+        for outlet in (self.lines, self.errors):
+            outlet.flush(LAST_LINES)
+        return self.final
+
+    def stop(self):
+        """The daemon and this are told to end."""
+        self.systemd.end()
+        self.final = usage.WELL
+
+    def hang_up(self):
+        """The trace's file is opened anew, and the hosts file is read again."""
+        self.lines.reopen()
+        self.reload.begin()
+
+    def start(self):
+        """Starts the daemon."""
+        if self.names and self.is_shown:
+            peers = ''.join(f', {number} {name}' for number, name in enumerate(self.names) if number)
+            self.say(f'in the trace peer 0 is {self.names[0]}{peers}')
+        self.sleep, self.started = machine.Sleep(), self.loop.now()
+        if self.keeper:
+            self.keeper.begin()
         try:
-            self.process = subprocess.Popen(self.words, stdin=subprocess.DEVNULL, stdout=subprocess.PIPE)
+            self.serving = Serving(self.loop, self.words, self.names, self)
         except OSError as fault:
-            raise Fault(f'{self.program}: {fault.strerror}', usage.BAD_FILE) from fault
-        if self.is_told:
-            self.process.terminate()
-        threading.Thread(target=self.wait_for_answer, daemon=True).start()
-        self.hand_on()
-        return self.status(self.process.wait())
+            self.give_up(f'{self.words[0]}: {fault.strerror}', usage.BAD_FILE)
+            return
+        self.look()
 
-    def end(self, *_):
-        """Tells the daemon to end."""
-        self.is_told = True
-        self.systemd.tell('STOPPING=1')
-        if self.process:
-            self.process.terminate()
+    def hear(self, lines, left_out, ticks):
+        """Hands lines on. The questions of supervisors are left out, and only counted."""
+        self.left_out += left_out
+        if lines and self.is_shown:
+            note = f'... {self.left_out} lines of supervisors left out\n'.encode() if self.left_out else b''
+            self.lines.put(note + lines)
+            self.left_out = 0
+        if ticks and self.keeper:
+            self.keeper.own.told(ticks)
 
-    def wait_for_answer(self):
-        """Asks the daemon until it answers, which it does when its address is bound, and then tells systemd."""
-        asker = questions.Asker(self.program, PATIENCE, 1)
-        while self.process.poll() is None and not self.is_told:
-            if self.answers(asker):
-                time.sleep(SETTLED)
-                if self.process.poll() is None:
-                    self.is_bound = True
-                    self.systemd.tell('READY=1', f'STATUS={views.summary(self.daemon)}')
-                return
-            time.sleep(PATIENCE / 5)
+    def changed(self, change):
+        """The daemon's state changed: systemd is told of it, and the page."""
+        if change.kind == 'trace':
+            self.note_trace(change.values['trace'] == 'on')
+        if self.has_answered:
+            self.systemd.tell('READY=1', f'STATUS={views.summary(self.serving.state)}')
+        if not self.keeper:
+            return
+        if change.kind == 'correction':
+            self.keeper.corrected(change.tick, *(change.values[name] for name in ('amount_us', 'way', 'shown_us')))
+        elif change.kind == 'role':
+            self.keeper.changed(self.serving.state)
+        elif change.values['trace'] == 'on':
+            self.keeper.traced()
 
-    def answers(self, asker):
-        """Whether the daemon answers a question."""
-        try:
-            return asker.master(hosts.asked_at(self.local)) is not None
-        except Fault:
-            return False
+    def note_trace(self, is_on):
+        """The daemon traces, so it answers; or somebody switched that off."""
+        if not is_on:
+            self.was_switched = True
+        elif self.was_switched:
+            self.was_switched = False
+            self.say('somebody switched the trace off; it is on again')
+        self.has_answered = self.has_answered or is_on
 
-    def hand_on(self):
-        """Hands on what the daemon writes, and tells systemd of each change of its role."""
-        while True:
-            octets = os.read(self.process.stdout.fileno(), CHUNK)
-            if not octets:
-                return
-            self.write(octets)
-            changes = [change for line in self.lines.cut(octets) for change in self.daemon.take(line)]
-            if self.is_bound and any(change.kind in ('role', 'trace') for change in changes):
-                self.systemd.tell(f'STATUS={views.summary(self.daemon)}')
+    def look(self):
+        """Looks at the daemon and at what it stands on, twice a second."""
+        if self.serving is None:
+            return
+        status, slept = self.serving.status(), self.sleep.seconds()
+        if self.has_answered and not machine.has_address(self.host):
+            self.end_daemon()
+            self.say(f'{self.host} is no address of this machine any more; the daemon is started again when it is')
+            self.wait_for_address()
+        elif status is not None:
+            self.ended(status)
+        elif slept:
+            self.begin_again(f'the machine slept for {slept:.0f} s, in which the daemon didn\'t count')
+        else:
+            self.loop.after('watch', LOOK, self.look)
 
-    def write(self, octets):
-        """Writes octets; where nobody takes them, the daemon learns that at its next line."""
-        try:
-            while octets:
-                octets = octets[os.write(1, octets):]
-        except OSError as fault:
-            self.process.terminate()
-            self.process.wait()
-            raise Fault(f'standard output takes nothing: {fault.strerror}', usage.NOT_WRITTEN) from fault
+    def end_daemon(self):
+        """Ends the daemon, if it runs."""
+        self.loop.cancel('watch', 'start')
+        if self.serving:
+            self.serving.end()
+        if self.keeper:
+            self.keeper.end()
+        self.serving = None
 
-    def status(self, status):
-        """The status to end with, by that of the daemon."""
-        if self.is_told:
-            signal.signal(signal.SIGTERM, signal.SIG_IGN)
-            return usage.WELL
-        if status == NO_NETWORK:
-            say(self.why())
+    def begin_again(self, why):
+        """Ends the daemon, and starts it again."""
+        self.end_daemon()
+        self.say(f'{why}; the daemon is started again')
+        self.start()
+
+    def begin_anew(self):
+        """Reads all anew, since the hosts file changed what the daemon is started with."""
+        self.end_daemon()
+        self.say('the hosts file changed what the daemon is started with; it is started again')
+        for outlet in (self.lines, self.errors):
+            outlet.flush(LAST_LINES)
+        self.reload.begin_anew()
+
+    def wait_for_address(self):
+        """Starts the daemon when its address is there."""
+        if machine.has_address(self.host):
+            self.say(f'{self.host} is an address of this machine again')
+            self.start()
+        else:
+            self.loop.after('start', LOOK, self.wait_for_address)
+
+    def ended(self, status):
+        """The daemon ended by itself: it is started again, where it ever answered and that is of use."""
+        self.end_daemon()
+        why = self.why(status)
+        if not self.has_answered or status in (NO_WORDS, BAD_WALL):
+            self.give_up(why, status)
+        elif status == DONE:
+            self.loop.at('start', max(self.loop.now(), self.started + APART), self.start)
+        else:
+            self.try_later(why or f'the daemon ended with status {status}')
+
+    def try_later(self, why):
+        """Starts the daemon again after a pause, which grows while it doesn't hold."""
+        self.pause = APART if self.loop.now() - self.started > HELD else min(2 * self.pause, LONGEST_PAUSE)
+        text = f'{why}; the daemon is started again in {self.pause} s'
+        self.say(text)
+        self.systemd.tell(f'STATUS={text}')
+        self.loop.after('start', self.pause, self.start)
+
+    def give_up(self, why, status):
+        """Ends with this status, and says why."""
+        if why:
+            self.say(why)
+        self.final = status
+
+    def why(self, status):
+        """What is to be said of the daemon's status, or None."""
         if status == NO_WORDS:
-            say(f'{self.program} doesn\'t know the words \'{" ".join(self.words[1:])}\': it is of another version')
-        return 128 - status if status < 0 else status
-
-    def why(self):
-        """Why the network failed."""
-        if self.is_bound:
-            return f'the socket failed while receiving on {self.local}'
+            return f'{self.words[0]} doesn\'t know the words \'{" ".join(self.words[1:])}\': it is of another version'
+        if status != NO_NETWORK:
+            return None
         why = sockets.why_not_bound(self.local)
-        return f'{self.local} can\'t be bound: {why}' if why else f'{self.local} couldn\'t be bound, and can be now'
+        if why:
+            return f'{self.local} can\'t be bound: {why}'
+        return f'the socket failed while receiving on {self.local}' if self.has_answered else f'{self.local} couldn\'t be bound, and can be now'
 
 
 def main():
-    words = sys.argv[1:]
-    # (what it says is said by the one that started it)
-    sys.argv[0] = 'tsp-launch'
-    return Supervisor(words).run()
+    tool.open_closed()
+    try:
+        status = Supervisor(sys.argv[1:]).run()
+    except tool.Fault as fault:
+        tool.say(fault.text)
+        status = fault.status
+    # (whatever a thread still writes isn't waited for)
+    os._exit(status)
 
 
-usage.run(main)
+main()

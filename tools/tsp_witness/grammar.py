@@ -24,6 +24,8 @@ ACT = '|'.join([
 LINE = re.compile(f'(?:^|: )([1-9][0-9]*) 0 ([0-3]) ({NUMBER}) ({ACT})$')
 # What looks like a line and isn't one was cut or changed.
 ALMOST = re.compile('(?:^|: )[1-9][0-9]* 0 [0-3] [0-9]+ ')
+# What a daemon's supervisor says of questions for its clock, and their answers, which it didn't hand on.
+LEFT_OUT = re.compile(r'(?:^|: )\.\.\. ([1-9][0-9]{0,18}) lines of supervisors left out$')
 START = re.compile(r'in the trace peer 0 is ([!-~]+)((?:, [1-9][0-9]* [!-~]+)*)$')
 PEER_ACTS = ('back', 'backer', 'quit', 'join', 'leave', 'rival', 'acked', 'gave', 'sample', 'took')
 

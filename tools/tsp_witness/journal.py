@@ -11,11 +11,11 @@ NUMBERED = ('slaveup', 'election', 'conflict', 'quit', 'setdatereq')
 
 class Act:
     """A line of a daemon: its port and words, and whether the daemon wrote it, or it follows from the rules. `number` is that
-    of its datagram in the schedule, where it is a post."""
-    __slots__ = ('port', 'words', 'written', 'number')
+    of its datagram in the schedule, where it is a post; `unseen` is how many posts before it the supervisor left out."""
+    __slots__ = ('port', 'words', 'written', 'number', 'unseen')
 
-    def __init__(self, port, words, written=True):
-        self.port, self.words, self.written, self.number = port, words, written, None
+    def __init__(self, port, words, written=True, unseen=0):
+        self.port, self.words, self.written, self.number, self.unseen = port, words, written, None, unseen
 
 
 class Turn:
@@ -66,6 +66,8 @@ class Life:
         wanted, self.first_tick = None, self.turns[0].tick
         for turn in self.turns:
             for act in turn.acts:
+                if wanted is not None:
+                    wanted += act.unseen
                 if act.words[0] == 'post':
                     number = int(act.words[1])
                     if wanted is None:
@@ -79,7 +81,7 @@ class Journal:
     """Reads the lines of one host's daemon into lives; `notes` say what couldn't be used."""
 
     def __init__(self, network, node):
-        self.network, self.node, self.lives, self.begins, self.notes = network, node, [], True, []
+        self.network, self.node, self.lives, self.begins, self.notes, self.unseen = network, node, [], True, [], 0
 
     def read(self, path):
         """Reads a file, which begins another life."""
@@ -92,7 +94,11 @@ class Journal:
         """One line: an act, what the launcher says at a start, or something else that is passed over."""
         found = grammar.LINE.search(line)
         if found:
-            self.act(int(found[1]), int(found[3]), Act(int(found[2]), found[4].split(' ')), place)
+            self.act(int(found[1]), int(found[3]), Act(int(found[2]), found[4].split(' '), unseen=self.unseen), place)
+            self.unseen = 0
+        elif grammar.LEFT_OUT.search(line):
+            # (of each question there is the line that it was taken, and that of its answer)
+            self.unseen += int(grammar.LEFT_OUT.search(line)[1]) // 2
         elif grammar.ALMOST.search(line):
             self.notes.append(f'{place}: this line is cut or changed, and is passed over')
         elif grammar.START.search(line):

@@ -1,0 +1,215 @@
+/* Reads the pages of a lab's hosts side by side, and compares what they give with what the lab knows: `truth FROM RATE SECONDS HOST..`
+ *
+ * HOST is PAGE,WALL,DRIFT,NAME: a page, what the host's wall clock showed when fast time began, in microseconds since 1970, by how many parts in a
+ * million its clocks are fast, and the master's name in pages. Fast time is that of fastclock.c.
+ *
+ * Each sample is judged a while after it was read, when all is known of the corrections before it. It writes a line for each host: its name, how many
+ * readings it gave with an interval, how many of these had the master's clock outside, how many were between a correction of the master and the
+ * next look at it and aren't judged, how long that took at most, how often a shown value fell, and the widths of the interval at the
+ * median and at 99 in 100; all times are microseconds.
+ */
+#define _POSIX_C_SOURCE 200809L
+#include "tsp_clock.h"
+#include <signal.h>
+#include <stdio.h>
+
+#define MOST_HOSTS 16
+#define KEPT 64
+#define DELAY INT64_C(400000000)
+#define PACE INT64_C(30000)
+#define ROOM (1 << 19)
+#define WIDEST 2000000
+#define THOUSAND 1000
+#define MILLION 1000000
+
+/* A page from when it was seen: the life, and from which tick on its target counts. */
+typedef struct {
+    uint64_t life;
+    int64_t tick, target;
+} segment;
+
+typedef struct {
+    const char *path, *name;
+    int64_t wall, drift, first; /* when the daemon's tick was 0, in microseconds of its own clock, as the lab knows */
+    tsp_clock clock;
+    segment segments[KEPT];
+    int count;
+    uint64_t life, steps;
+    int64_t shown;
+    long readings, outside, between, falls;
+    int64_t longest, begun;
+    int leads;
+    unsigned *widths;
+} host;
+
+typedef struct {
+    int64_t at, earliest, latest, looked;
+    int who, master;
+} sample;
+
+static int64_t from, rate;
+static host hosts[MOST_HOSTS];
+static int hosts_count;
+static sample ring[ROOM];
+static volatile sig_atomic_t is_over;
+
+static void over(int number)
+{
+    (void)number;
+    is_over = 1;
+}
+
+/* A host's monotonic clock in nanoseconds, at a nanosecond of the machine's. */
+static int64_t own_time(const host *h, int64_t at)
+{
+    int64_t passed = (at - from) * rate;
+    return passed + passed / MILLION * h->drift + passed % MILLION * h->drift / MILLION + from;
+}
+
+/* Notes a page that differs from the last one of its host. */
+static void note(host *h, const tsp_page *page)
+{
+    segment *last = h->count > 0 ? &h->segments[(h->count - 1) % KEPT] : NULL;
+    if (last != NULL && last->life == page->life && last->tick == page->tick && last->target == page->target)
+        return;
+    if (page->tick == 0)
+        h->first = page->target - h->wall + from / THOUSAND;
+    h->segments[h->count % KEPT] = (segment){page->life, page->tick, page->target};
+    h->count++;
+}
+
+/* A host's target at a moment, and how long ago in its own time that was corrected; 0 where it isn't known. */
+static int truth(const host *h, int64_t at, int64_t *target, int64_t *since)
+{
+    int64_t tick = tsp_floor(own_time(h, at), THOUSAND) - h->first;
+    int number;
+    for (number = h->count - 1; number >= 0 && number > h->count - KEPT; number--) {
+        const segment *s = &h->segments[number % KEPT];
+        if (s->life != h->segments[(h->count - 1) % KEPT].life)
+            return 0;
+        if (s->tick <= tick) {
+            *target = s->target + tick - s->tick;
+            *since = tick - s->tick;
+            return 1;
+        }
+    }
+    return 0;
+}
+
+/* Compares a sample with the master's clock. */
+static void judge(const sample *s)
+{
+    host *h = &hosts[s->who];
+    int64_t target, since, age = (own_time(h, s->at) - s->looked) / THOUSAND, width = s->latest - s->earliest;
+    if (s->master < 0 || !truth(&hosts[s->master], s->at, &target, &since))
+        return;
+    /* (a millionth of the drift aside, both count alike) */
+    if (since <= age + age / THOUSAND + 1) {
+        h->between++;
+        if (h->begun == 0)
+            h->begun = s->at;
+        if ((s->at - h->begun) * rate / THOUSAND > h->longest)
+            h->longest = (s->at - h->begun) * rate / THOUSAND;
+        return;
+    }
+    h->begun = 0;
+    h->readings++;
+    h->outside += target < s->earliest || target > s->latest;
+    h->widths[width < WIDEST ? width : WIDEST - 1]++;
+}
+
+/* Which host's page says that it leads, or that this page names; -1 where there is none. */
+static int master_of(int who, const tsp_page *page, const char *name)
+{
+    int number;
+    if (page->role == TSP_LEADS)
+        return who;
+    for (number = 0; number < hosts_count; number++)
+        if (strcmp(hosts[number].name, name) == 0)
+            return number;
+    return -1;
+}
+
+/* Reads a host's page, and fills in a sample of it; 0 where it gives no interval. */
+static int look(int who, sample *s)
+{
+    host *h = &hosts[who];
+    tsp_page page;
+    tsp_time time;
+    char name[256];
+    int64_t at;
+    if (h->clock.page == NULL && tsp_clock_open(&h->clock, h->path) != 0)
+        return 0;
+    if (!tsp_read(h->clock.page, &page, &at) || page.status == TSP_STALE)
+        return 0;
+    memcpy(name, h->clock.page->master, sizeof name);
+    note(h, &page);
+    tsp_time_of(&page, own_time(h, at), &time);
+    h->leads = page.role == TSP_LEADS;
+    if (time.life == h->life && time.steps == h->steps && time.status != TSP_STALE)
+        h->falls += time.shown < h->shown;
+    h->life = time.life;
+    h->steps = time.steps;
+    h->shown = time.shown;
+    *s = (sample){at, time.earliest, time.latest, own_time(h, at) - time.age * THOUSAND, who, master_of(who, &page, name)};
+    return time.status == TSP_SYNCHRONISED;
+}
+
+/* The width that so many in a hundred readings don't exceed. */
+static long width_at(const host *h, int hundredths)
+{
+    long sum = 0, place = 0;
+    while (place < WIDEST - 1 && (sum += h->widths[place]) * 100 < h->readings * hundredths)
+        place++;
+    return place;
+}
+
+/* Waits until a nanosecond, without sleep where that would take longer. */
+static void pause_until(int64_t at)
+{
+    const struct timespec sleep = {0, 20000};
+    while (tsp_nanoseconds() < at)
+        if (at - tsp_nanoseconds() > 2 * sleep.tv_nsec)
+            nanosleep(&sleep, NULL);
+}
+
+static void run(int64_t until)
+{
+    long head = 0, tail = 0;
+    while (!is_over && tsp_nanoseconds() < until) {
+        int64_t begun = tsp_nanoseconds();
+        int who;
+        for (who = 0; who < hosts_count; who++)
+            if (head - tail < ROOM)
+                head += look(who, &ring[head % ROOM]);
+        while (tail < head && begun - ring[tail % ROOM].at > DELAY)
+            judge(&ring[tail++ % ROOM]);
+        pause_until(begun + PACE / rate * hosts_count);
+    }
+}
+
+int main(int count, char **words)
+{
+    int number;
+    if (count < 5 || count - 4 > MOST_HOSTS)
+        return 2;
+    from = atoll(words[1]);
+    rate = atoll(words[2]);
+    for (number = 4; number < count; number++) {
+        host *h = &hosts[hosts_count++];
+        h->path = strtok(words[number], ",");
+        h->wall = atoll(strtok(NULL, ","));
+        h->drift = atoll(strtok(NULL, ","));
+        h->name = strtok(NULL, ",");
+        h->widths = calloc(WIDEST, sizeof *h->widths);
+        if (h->widths == NULL)
+            return 1;
+    }
+    signal(SIGTERM, over);
+    run(tsp_nanoseconds() + atoll(words[3]) * INT64_C(1000000000));
+    for (number = 0; number < hosts_count; number++) {
+        const host *h = &hosts[number];
+        printf("%s %ld %ld %ld %lld %ld %ld %ld\n", h->name, h->readings, h->outside, h->between, (long long)h->longest, h->falls, width_at(h, 50), width_at(h, 99));
+    }
+    return 0;
+}

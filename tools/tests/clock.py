@@ -1,0 +1,198 @@
+#!/usr/bin/env python3
+"""Tries the page of the network's time: `clock.py PROGRAM READER FOLDER COUNT SEED`, where READER is clock_reader.c, built.
+
+COUNT is how many moments are compared, and how often a page is read that is being written.
+"""
+import os
+import random
+import signal
+import struct
+import subprocess
+import sys
+import time
+
+HERE = os.path.dirname(os.path.realpath(__file__))
+TOOLS = os.path.dirname(HERE)
+sys.dont_write_bytecode = True
+sys.path.insert(0, TOOLS)
+import tsp_clock  # noqa: E402
+from tsp_daemon import trace  # noqa: E402
+from tsp_daemon.anchor import Anchor  # noqa: E402
+from tsp_daemon.keeper import after_correction  # noqa: E402
+from tsp_daemon.page import Writer  # noqa: E402
+from tsp_witness.datagram import octets_of  # noqa: E402
+
+PROGRAM, READER, FOLDER = sys.argv[1:4]
+COUNT, SEED = map(int, sys.argv[4:6])
+DRAW = random.Random(SEED)
+EVENTS = 2000
+HEADER = ['tsp-schedule 1', 'drift 0', 'node a 0 0 s', 'node b 0 0 m']
+
+
+def wanted(is_so, text):
+    """Ends where something isn't so."""
+    if not is_so:
+        sys.exit(f'clock: {text}')
+
+
+def amount():
+    """A correction: most are slewed, some are none, and some are more than a clock slews."""
+    return DRAW.choice([0, DRAW.randint(-20_000, 20_000), DRAW.randint(-20_000_000, 20_000_000), DRAW.choice([-1, 1]) * DRAW.randint(20_000_001, 10 ** 9)])
+
+
+def schedule(wall):
+    """A node that follows another, and is corrected by it, and asked for its clock in between."""
+    at, ticket, events = 90_000_000, wall % 32768, ['at 0 boot 0 ' + str(wall), 'at 80000000 turn 0']
+    events.append(f'at {at} bytes 0 1 {octets_of(("masterup", "0", "b")).hex()}')
+    for _ in range(EVENTS):
+        at += DRAW.choice([DRAW.randint(1_000_000, 1_100_000), DRAW.randint(1_000_000, 250_000_000)])
+        if DRAW.random() < 0.5:
+            word = DRAW.choice(['adjtime', 'adjtime', 'settime'])
+            time_of = amount() if word == 'adjtime' else wall + at + amount()
+            events.append(f'at {at} bytes 0 1 {octets_of((word, str(ticket), str(time_of), "b")).hex()}')
+            ticket = (ticket + 1) % 32768
+        else:
+            events.append(f'at {at} bytes 0 1 {octets_of(("request", "1", "2")).hex()}')
+    lines = [HEADER[0], HEADER[1], f'node a 0 {wall} s', HEADER[3], *events, 'end', '']
+    return '\n'.join(lines)
+
+
+def acts(text):
+    """The acts of the node."""
+    ran = subprocess.run([PROGRAM, 'replay'], input=text.encode(), stdout=subprocess.PIPE, stderr=subprocess.PIPE, check=False)
+    wanted(ran.returncode == 0, f'replay ends with {ran.returncode}: {ran.stdout[-200:]}{ran.stderr}')
+    return list(filter(None, map(trace.act_of, ran.stdout.decode().splitlines())))
+
+
+def slewed(corrections, tick):
+    """What the clock shows at a tick by what the rules say: each correction moves the target, and what is left of it is eased from tick to tick."""
+    left, last = 0, 0
+    for at, moved, is_step in corrections:
+        steps = (at - last) // 200
+        left = max(left - steps, 0) if left > 0 else min(left + steps, 0)
+        left, last = 0 if is_step else left + moved, at
+    steps = (tick - last) // 200
+    return max(left - steps, 0) if left > 0 else min(left + steps, 0)
+
+
+def formula():
+    """The page's target and shown value are those of `replay`, at each reading and each correction, and between them those of the rules."""
+    compared = 0
+    while compared < COUNT:
+        wall = DRAW.randint(0, 10 ** 15)
+        page, corrections = tsp_clock.Page(target=wall), []
+        for act in acts(schedule(wall)):
+            if act.word == 'post' and act.parts[2].startswith('reply'):
+                wanted(int(act.parts[2].split()[-1]) == page.target_at(act.tick), f'the target at {act.tick} isn\'t that of replay (seed {SEED})')
+                compared += 1
+            if act.word != 'correct':
+                continue
+            moved, is_step, shown = int(act.parts[0]), act.parts[1] == 'step', int(act.parts[2])
+            before = page.shown_at(act.tick)
+            wanted(is_step or shown == before, f'the clock shows {shown} at {act.tick}, and {before} by the page (seed {SEED})')
+            page = after_correction(page, act.tick, moved, is_step, shown)
+            corrections.append((act.tick, moved, is_step))
+            compared += 1 + between(page, corrections[-50:], act.tick)
+    return compared
+
+
+def between(page, corrections, tick):
+    """Compares some moments after a correction, and none shows less than one before it."""
+    ticks = sorted(tick + DRAW.choice([DRAW.randint(0, 400), DRAW.randint(0, 5_000_000), DRAW.randint(0, 5 * 10 ** 9)]) for _ in range(20))
+    shown = [page.shown_at(at) for at in ticks]
+    wanted(shown == sorted(shown), f'a shown value falls after {tick} (seed {SEED})')
+    if len(corrections) < 50:
+        wanted(all(page.target_at(at) - show == slewed(corrections, at) for at, show in zip(ticks, shown)), f'what is to be slewed after {tick} is another (seed {SEED})')
+    return len(ticks)
+
+
+def random_page():
+    """A page as it may be, and a nanosecond."""
+    rest, role = amount(), DRAW.choice([0, 1, 2])
+    anchor, tick = DRAW.randint(0, 10 ** 16), DRAW.randint(0, 10 ** 13)
+    now = anchor + 1000 * tick + DRAW.randint(0, DRAW.choice([10 ** 9, 10 ** 13, 10 ** 16]))
+    target = DRAW.randint(-2 ** 31 * 10 ** 6, 2 ** 31 * 10 ** 6)
+    return tsp_clock.Page(
+        DRAW.randint(0, 2 ** 63), DRAW.randint(0, 99), DRAW.randint(0, 3), role, now - DRAW.randint(0, 70 * 10 ** 9), anchor, DRAW.randint(0, 99),
+        DRAW.choice([0, DRAW.randint(-10 ** 6, 10 ** 6)]), tick, target, rest, DRAW.choice([tsp_clock.NEVER, target + DRAW.randint(-9, 10 ** 6)]),
+        tick - DRAW.randint(0, 10 ** 6), DRAW.randint(-10 ** 6, 10 ** 6), DRAW.randint(-10 ** 6, 10 ** 6), DRAW.randint(0, 1000), b'name'), now
+
+
+def in_c():
+    """The header's times are those of the module."""
+    pages = [random_page() for _ in range(max(COUNT // 10, 1000))]
+    path = os.path.join(FOLDER, 'pages')
+    with open(path, 'wb') as file:
+        for page, now in pages:
+            file.write(tsp_clock.HEAD.pack(tsp_clock.MAGIC, 1, tsp_clock.LENGTH, 0) + page.packed() + struct.pack('<q', now))
+    ran = subprocess.run([READER, 'times', path], stdout=subprocess.PIPE, check=True)
+    told = ran.stdout.decode().splitlines()
+    wanted(len(told) == len(pages), f'{len(told)} of {len(pages)} pages are read')
+    for (page, now), line in zip(pages, told):
+        found = tsp_clock.now_of(page, now)
+        values = [found.status, *(value or 0 for value in (found.shown, found.earliest, found.latest, found.age))]
+        wanted(line == ' '.join(map(str, values)), f'{page} at {now} is {line} in C, and {values} in Python (seed {SEED})')
+    return len(pages)
+
+
+def anchors():
+    """The first reading is found from questions, whatever the counter's rate."""
+    for _ in range(2000):
+        rate, first, off = DRAW.choice([0, DRAW.randint(-10 ** 6, 10 ** 6)]), DRAW.randint(0, 10 ** 12), 0
+        anchor = Anchor(rate)
+        for _ in range(20):
+            passed = DRAW.randint(0, DRAW.choice([10 ** 6, 10 ** 12]))
+            sent = (first + passed) * 1000 + DRAW.randint(0, 999) - DRAW.randint(0, 10 ** 6)
+            got = (first + passed) * 1000 + DRAW.randint(0, 999) + DRAW.randint(0, 10 ** 6)
+            anchor.add(min(sent, got), max(sent, got), passed + passed * rate // 10 ** 9)
+        place, off = anchor.place()
+        wanted(abs(place - first * 1000) <= off * 1000, f'the first reading is {first}, and {place} +/- {off} is found, at rate {rate} (seed {SEED})')
+
+
+def torn():
+    """Pages that are read while they are written are whole, and those that nobody goes on writing end in status 0."""
+    path = os.path.join(FOLDER, 'page')
+    writing = os.fork()
+    if writing == 0:
+        writer, number = Writer(path), 0
+        while True:
+            number += 1
+            writer.write(tsp_clock.Page(number, number, 2, 1, 0, number, 0, number, number, -number, number, 0, number, -number, number, number))
+    try:
+        while not os.path.exists(path) or os.path.getsize(path) < tsp_clock.SIZE:
+            time.sleep(0.01)
+        time.sleep(0.2)
+        told = subprocess.run([READER, 'torn', path, str(COUNT)], stdout=subprocess.PIPE, check=False).stdout.decode().strip()
+        words = told.split()
+        wanted(told.startswith('0 torn, ') and int(words[9]) >= 300 and int(words[2]) <= int(words[5]) / 1000, told)
+    finally:
+        os.kill(writing, signal.SIGKILL)
+        os.waitpid(writing, 0)
+    dead(path)
+    return told
+
+
+def dead(path):
+    """A writer that was killed between the two numbers of the lock, and one that was killed a while ago."""
+    writer = Writer(path)
+    writer.write(tsp_clock.Page(1, 0, 2, 2, target=7))
+    wanted(tsp_clock.Clock(path).now().status == tsp_clock.SYNCHRONISED, 'a page that was just written isn\'t taken')
+    writer.words[tsp_clock.SEQUENCE // 8] += 1
+    begun = time.monotonic()
+    wanted(tsp_clock.Clock(path).now().status == tsp_clock.STALE, 'a page that is being written for ever has a status')
+    wanted(time.monotonic() - begun < 1, 'a reader hangs')
+    status, taken = map(int, subprocess.run([READER, 'now', path], stdout=subprocess.PIPE, check=True).stdout.split())
+    wanted(status == tsp_clock.STALE and taken < 1_000_000, f'in C it has status {status}, after {taken} us')
+    writer.words[tsp_clock.SEQUENCE // 8] += 1
+    writer.map[tsp_clock.HEAD.size:tsp_clock.LENGTH] = writer.last._replace(alive=time.monotonic_ns() - 65 * 10 ** 9).packed()
+    wanted(tsp_clock.Clock(path).now().status == tsp_clock.STALE, 'a page that nobody writes any more has a status')
+    wanted(subprocess.run([READER, 'now', path], stdout=subprocess.PIPE, check=True).stdout.split()[0] == b'0', 'in C it has one')
+
+
+def main():
+    compared, pages = formula(), in_c()
+    anchors()
+    print(f'{compared} moments as in replay, {pages} pages in C as in Python, {torn()}')
+
+
+main()

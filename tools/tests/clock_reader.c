@@ -1,0 +1,116 @@
+/* Tries tsp_clock.h: `clock_reader WHAT PAGE [COUNT]`.
+ *
+ *   times  reads pages from a file, each with a nanosecond behind it, and writes the time that each gives
+ *   torn   reads so often a page that is written without pause, all of whose fields come from one number, and counts those that don't; also
+ *          of as many reads that don't look at the lock
+ *   now    reads the page once, and writes its status and the microseconds that this took
+ *   cost   writes the nanoseconds that a read takes, and those of clock_gettime
+ */
+#define _POSIX_C_SOURCE 200809L
+#include "tsp_clock.h"
+#include <stdio.h>
+
+#define ROUNDS 9
+#define LEAST_PAGES 300
+#define LONGEST INT64_C(20000000000)
+
+static int times(const char *path)
+{
+    tsp_page page;
+    tsp_time time;
+    int64_t now;
+    FILE *file = fopen(path, "rb");
+    if (file == NULL)
+        return 1;
+    while (fread(&page, sizeof page, 1, file) == 1 && fread(&now, sizeof now, 1, file) == 1) {
+        tsp_time_of(&page, now, &time);
+        printf("%d %lld %lld %lld %lld\n", time.status, (long long)time.shown, (long long)time.earliest, (long long)time.latest, (long long)time.age);
+    }
+    return fclose(file);
+}
+
+static int is_torn(const tsp_page *page)
+{
+    int64_t number = (int64_t)page->life;
+    return page->steps != page->life || page->tick != number || page->target != -number || page->rest != number || page->looked != number
+        || page->low != -number || page->high != number || page->rate != number || page->anchor != number || page->drift != number;
+}
+
+static int torn(tsp_clock *clock, long count)
+{
+    tsp_page page;
+    int64_t now, until = tsp_nanoseconds() + LONGEST;
+    long number, torn = 0, bare = 0, pages = 0, unread = 0;
+    uint64_t last = 0;
+    for (number = 0; number < count || (pages < LEAST_PAGES && tsp_nanoseconds() < until); number++) {
+        tsp_copy(&page, clock->page);
+        bare += is_torn(&page);
+        if (!tsp_read(clock->page, &page, &now)) {
+            unread++;
+            continue;
+        }
+        torn += is_torn(&page);
+        pages += page.life != last;
+        last = page.life;
+    }
+    printf("%ld torn, %ld unread, of %ld reads, which saw %ld pages, and %ld torn without the lock\n", torn, unread, number, pages, bare);
+    return torn != 0;
+}
+
+static int now(tsp_clock *clock)
+{
+    tsp_time time;
+    int64_t before = tsp_nanoseconds();
+    int status = tsp_clock_now(clock, &time);
+    printf("%d %lld\n", status, (long long)(tsp_nanoseconds() - before) / 1000);
+    return 0;
+}
+
+static int by_size(const void *a, const void *b)
+{
+    double first = *(const double *)a, second = *(const double *)b;
+    return (first > second) - (first < second);
+}
+
+static int cost(tsp_clock *clock, long count)
+{
+    double reads[ROUNDS], looks[ROUNDS];
+    int64_t sum = 0;
+    int round;
+    for (round = 0; round < ROUNDS; round++) {
+        int64_t begun = tsp_nanoseconds(), between;
+        tsp_time time;
+        struct timespec look;
+        long number;
+        for (number = 0; number < count; number++) {
+            tsp_clock_now(clock, &time);
+            sum += time.latest;
+        }
+        between = tsp_nanoseconds();
+        for (number = 0; number < count; number++) {
+            clock_gettime(CLOCK_MONOTONIC, &look);
+            sum += look.tv_nsec;
+        }
+        reads[round] = (double)(between - begun) / (double)count;
+        looks[round] = (double)(tsp_nanoseconds() - between) / (double)count;
+    }
+    qsort(reads, ROUNDS, sizeof *reads, by_size);
+    qsort(looks, ROUNDS, sizeof *looks, by_size);
+    printf("%.1f %.1f %.2f\n", reads[ROUNDS / 2], looks[ROUNDS / 2], reads[ROUNDS / 2] / looks[ROUNDS / 2]);
+    return sum == 1;
+}
+
+int main(int count, char **words)
+{
+    tsp_clock clock;
+    long number = count > 3 ? atol(words[3]) : 1;
+    if (count < 3)
+        return 2;
+    if (strcmp(words[1], "times") == 0)
+        return times(words[2]);
+    if (tsp_clock_open(&clock, words[2]) != 0)
+        return 3;
+    if (strcmp(words[1], "torn") == 0)
+        return torn(&clock, number);
+    return strcmp(words[1], "cost") == 0 ? cost(&clock, number) : now(&clock);
+}

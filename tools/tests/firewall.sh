@@ -1,0 +1,33 @@
+#!/bin/sh
+# The rules that tsp-launch prints for a firewall let in what the daemon needs, and nothing else.
+. "$(dirname "$0")/common.sh"
+unset TSP_HOSTS TSP_SELF TSP_TURNS TSP_WAIT TSP_TRACE TSP_ASKERS
+
+# What is printed: of a gateway that listens at all addresses, of a host without peers, and of networks that lie in each other.
+tools/tsp-launch --firewall nft -f tools/tests/witness/loops.hosts -s b >"$out/rules" || fail "there are no rules of a gateway"
+grep -qx '        udp dport 525 jump datagrams' "$out/rules" || fail "a gateway has the rules $(cat "$out/rules")"
+grep -q 'ip saddr { 192.0.2.1, 192.0.2.3, 198.51.100.2/31 } limit' "$out/rules" || fail "a gateway has the rules $(cat "$out/rules")"
+echo 'alone 192.0.2.1:1025 master' >"$out/hosts"
+tools/tsp-launch --firewall nft -f "$out/hosts" -s alone >"$out/rules" || fail 'there are no rules of a host alone'
+! grep saddr "$out/rules" || fail 'a host alone lets something in'
+TSP_ASKERS='192.0.2.0/28,192.0.2.7 10.0.0.0/8' tools/tsp-launch --firewall systemd -f "$out/hosts" -s alone >"$out/rules" || fail 'there is no drop-in'
+grep -qx 'IPAddressDeny=any' "$out/rules" && grep -q '^IPAddressAllow=127.0.0.0/8 10.0.0.0/8 192.0.2.0/28' "$out/rules" || fail "the drop-in is $(cat "$out/rules")"
+grep -qx 'CapabilityBoundingSet=' "$out/rules" || fail 'a port above 1023 keeps the capability'
+for askers in x 192.0.2.1/24 ::1; do
+    status=0
+    TSP_ASKERS=$askers tools/tsp-launch --firewall nft -f "$out/hosts" -s alone >"$out/rules" 2>"$out/told" || status=$?
+    [ "$status" -eq 78 ] && [ ! -s "$out/rules" ] && grep -q '^tsp-launch: TSP_ASKERS: ' "$out/told" || fail "askers '$askers': status $status, $(cat "$out/told")"
+done
+
+# What they do.
+if [ "$(id -u)" -eq 0 ]; then apart='unshare -n'; else apart='unshare -rn'; fi
+PATH=$PATH:/usr/sbin:/sbin
+if has nft && has ip && has nsenter && $apart nft list ruleset >"$out/said" 2>&1; then
+    serving_program
+    chmod 711 "$out"
+    $apart python3 -B tools/tests/firewall.py "$program" "$out" >"$out/said" || fail 'the rules do something else'
+    echo "$check: $(cat "$out/said")"
+else
+    skip 'there is no nft that works in a namespace' 'what the rules do'
+    echo "$check: rules are printed"
+fi

@@ -1,0 +1,323 @@
+#!/usr/bin/env python3
+"""Tries what may befall a daemon under `tsp-launch --supervise`: `supervise.py PROGRAM FOLDER CASE..`, in a folder for files.
+
+Each case is a function below. One that fails says why, with status 1.
+"""
+import os
+import re
+import select
+import signal
+import socket
+import subprocess
+import sys
+import time
+
+HERE = os.path.dirname(os.path.realpath(__file__))
+TOOLS = os.path.dirname(HERE)
+sys.dont_write_bytecode = True
+sys.path.insert(0, TOOLS)
+from lab import preload  # noqa: E402
+from tsp_witness.datagram import octets_of  # noqa: E402
+
+PROGRAM, FOLDER = sys.argv[1:3]
+LAUNCH = os.path.join(TOOLS, 'tsp-launch')
+REQUEST, TRACE_ON, TRACE_OFF = (octets_of(words) for words in (('request', '1', '2'), ('traceon', '1', 'x'), ('traceoff', '1', 'x')))
+DROPPED = re.compile(rb'^\.\.\. ([0-9]+) lines (?:dropped|of supervisors left out)$', re.MULTILINE)
+
+
+def wanted(is_so, text):
+    """Ends where something isn't so."""
+    if not is_so:
+        sys.exit(f'supervise: {text}')
+
+
+def until(what, text, seconds=5):
+    """Waits until something is so."""
+    end = time.monotonic() + seconds
+    while not what():
+        wanted(time.monotonic() < end, f'{text}, after {seconds} s')
+        time.sleep(0.01)
+
+
+def free_port():
+    """A port of this machine that nobody has."""
+    with socket.socket(socket.AF_INET, socket.SOCK_DGRAM) as link:
+        link.bind(('127.0.0.1', 0))
+        return link.getsockname()[1]
+
+
+def children(pid):
+    """The processes that a process began, and that haven't ended."""
+    try:
+        with open(f'/proc/{pid}/task/{pid}/children', encoding='ascii') as file:
+            return [int(word) for word in file.read().split()]
+    except OSError:
+        return []
+
+
+def is_there(pid):
+    """Whether a process runs."""
+    try:
+        with open(f'/proc/{pid}/stat', encoding='ascii') as file:
+            return file.read().rpartition(')')[2].split()[0] not in 'ZX'
+    except OSError:
+        return False
+
+
+class Supervised:
+    """A daemon under tsp-launch, at an address; its lines go to files, unless streams are named."""
+
+    def __init__(self, *words, address='127.0.0.1', turns=1_000_000_000, stdout=None, stderr=None, before=(), **variables):
+        self.address = address, free_port()
+        self.hosts = self.path('hosts')
+        self.write_hosts()
+        self.out, self.err, self.is_read = self.path('out'), self.path('err'), not stdout and '--output' not in words
+        environment = {name: value for name, value in os.environ.items() if not name.startswith('TSP_')}
+        environment.update(TSP_SPREAD='0', TSP_TRACE='on', TSP_CLOCK=self.path('clock'), **variables)
+        command = [*before, LAUNCH, '-f', self.hosts, '-s', 'a', '-t', str(turns), '-p', PROGRAM, '--supervise', *words]
+        with open(self.out, 'wb') as out, open(self.err, 'wb') as err:
+            self.process = subprocess.Popen(command, stdout=stdout or out, stderr=stderr or err, env=environment)
+        self.link = socket.socket(socket.AF_INET, socket.SOCK_DGRAM)
+        self.link.settimeout(0.2)
+
+    @staticmethod
+    def path(name):
+        return os.path.join(FOLDER, name)
+
+    def write_hosts(self, *more):
+        """Writes the hosts file, with these lines behind the daemon's own."""
+        with open(self.hosts, 'w', encoding='ascii') as file:
+            file.write('\n'.join([f'a {self.address[0]}:{self.address[1]} master', *more, '']))
+
+    def daemon(self):
+        """The daemon's process, or None."""
+        return next((pid for pid in children(self.process.pid) if is_there(pid)), None)
+
+    def answers(self):
+        """Whether the daemon answers a question."""
+        try:
+            self.link.sendto(REQUEST, self.address)
+            return len(self.link.recv(512)) == 28
+        except OSError:
+            return False
+
+    def read(self, path=None):
+        """What was written: to a file, or on standard error."""
+        with open(path or self.err, encoding='ascii') as file:
+            return file.read()
+
+    def ready(self):
+        """Waits until the daemon answers and traces."""
+        until(lambda: self.daemon() and self.answers(), 'the daemon doesn\'t answer')
+        if self.is_read:
+            until(lambda: ' trace on\n' in self.read(self.out), 'the daemon doesn\'t trace')
+        else:
+            time.sleep(0.3)
+        return self.daemon()
+
+    def end(self, status=0, by=signal.SIGTERM, within=1.0):
+        """Ends both, with this status and within this time."""
+        daemon, begun = self.daemon(), time.monotonic()
+        self.process.send_signal(by)
+        found = self.process.wait(10)
+        taken = time.monotonic() - begun
+        wanted(found == status, f'it ends with status {found}, and {status} is wanted: {self.read() if os.path.exists(self.err) else ""}')
+        wanted(taken < within, f'it ends after {taken:.2f} s')
+        if daemon:
+            until(lambda: not is_there(daemon), 'the daemon outlives it', 1)
+
+
+def flood(server, count, rate, every=1000):
+    """Asks a daemon so often, at so many questions a second, and asks it to trace each time after so many: how many answers came."""
+    server.link.setblocking(False)
+    server.link.setsockopt(socket.SOL_SOCKET, socket.SO_RCVBUF, 1 << 20)
+    begun, sent, got = time.monotonic(), 0, 0
+    while sent < count or select.select([server.link], [], [], 0.3)[0]:
+        for _ in range(min(count - sent, int((time.monotonic() - begun) * rate) - sent)):
+            sent += 1
+            server.link.sendto(TRACE_ON if sent % every == 0 else REQUEST, server.address)
+        try:
+            while True:
+                got += bool(server.link.recv(512))
+        except BlockingIOError:
+            time.sleep(0.0005)
+    return got
+
+
+def stuck():
+    """A reader that takes nothing: questions are answered on, and when it reads again it has all of the daemon's own lines, and is told how many
+    others there were."""
+    count, rate = 60_000, 20_000
+    end, into = os.pipe()
+    server = Supervised(stdout=into)
+    os.close(into)
+    server.ready()
+    answered = flood(server, count, rate)
+    wanted(answered >= 0.8 * count, f'{answered} of {count} questions are answered while nobody reads')
+    lines, deadline = bytearray(), time.monotonic() + 5
+    os.set_blocking(end, False)
+    while time.monotonic() < deadline and lines.count(b' trace on\n') < count // 1000 + 1:
+        try:
+            lines += os.read(end, 1 << 20)
+        except BlockingIOError:
+            time.sleep(0.01)
+    dropped = sum(map(int, DROPPED.findall(lines)))
+    wanted(lines.count(b' trace on\n') >= count // 1000, f'of {count // 1000} lines of its own {lines.count(b" trace on")} came')
+    wanted(dropped > count // 2, f'only {dropped} lines are dropped')
+    last = re.findall(rb'^([0-9]+) 0 0 [0-9]+ trace on$', lines, re.MULTILINE)[-1]
+    told = len(re.findall(rb'^[0-9]+ 0 0 ', lines, re.MULTILINE))
+    wanted(told + dropped >= 2 * int(last), f'{told} lines and {dropped} dropped ones are fewer than {last} turns have')
+    server.end()
+    os.close(end)
+
+
+def blocked():
+    """Nobody takes a line of either stream, and the daemon is stopped: SIGTERM ends both."""
+    end, into = os.pipe()
+    os.set_blocking(into, False)
+    try:
+        while True:
+            os.write(into, bytes(4096))
+    except BlockingIOError:
+        os.set_blocking(into, True)
+    server = Supervised(stdout=into, stderr=into)
+    os.kill(server.ready(), signal.SIGSTOP)
+    server.end()
+    os.close(end)
+    os.close(into)
+
+
+def switched():
+    """A stranger switches the trace off again and again: it is switched on once a second, and that is noted."""
+    server = Supervised()
+    server.ready()
+    begun, sent = time.monotonic(), 0
+    while time.monotonic() < begun + 2.5:
+        server.link.sendto(TRACE_OFF, server.address)
+        sent += 1
+        time.sleep(0.02)
+    until(lambda: server.read(server.out).rstrip('\n').split('\n')[-2].endswith(' trace on'), 'the trace stays off')
+    notes = server.read().count('somebody switched the trace off; it is on again')
+    wanted(1 <= notes <= 4, f'{sent} TRACEOFF bring {notes} notes')
+    server.end()
+
+
+def slept():
+    """The machine slept: the daemon is started again at once."""
+    library = preload.made('slept', FOLDER)
+    if library is None:
+        print('supervise: there is no cc, so a sleep isn\'t tried')
+        return
+    file = os.path.join(FOLDER, 'slept')
+    server = Supervised(LD_PRELOAD=library, SLEPT_FILE=file)
+    first = server.ready()
+    with open(file, 'wb'):
+        until(lambda: server.daemon() not in (None, first), 'the daemon isn\'t started again after a sleep', 1.5)
+    server.ready()
+    wanted('the machine slept for 600 s, in which the daemon didn\'t count; the daemon is started again' in server.read(), f'it says {server.read()}')
+    server.end()
+
+
+def killed():
+    """The supervisor is killed, and the daemon goes with it."""
+    server = Supervised()
+    server.ready()
+    server.end(-signal.SIGKILL, signal.SIGKILL)
+
+
+def interrupted():
+    """An interrupt at any moment of the start ends it without a traceback."""
+    for number in range(12):
+        server = Supervised()
+        time.sleep(0.02 * number)
+        server.process.send_signal(signal.SIGINT)
+        status = server.process.wait(5)
+        wanted(status in (0, -signal.SIGINT, 130), f'an interrupt after {20 * number} ms ends it with {status}')
+        wanted('Traceback' not in server.read() and 'KeyboardInterrupt' not in server.read(), f'an interrupt after {20 * number} ms: {server.read()}')
+
+
+def turned():
+    """The turns end, again and again: the daemon is started again, and it says nothing of that."""
+    server = Supervised(turns=9)
+    first = server.ready()
+    until(lambda: server.answers() and server.daemon() not in (None, first), 'the daemon isn\'t started again at its turns\' end', 6)
+    wanted(all(line.endswith('in the trace peer 0 is a') for line in server.read().splitlines()), f'it says {server.read()}')
+    server.end()
+
+
+def ended():
+    """A daemon that is killed is started again, after a pause."""
+    server = Supervised()
+    first = server.ready()
+    os.kill(first, signal.SIGKILL)
+    until(lambda: server.daemon() not in (None, first), 'the daemon isn\'t started again when it was killed')
+    wanted('the daemon ended with status 137; the daemon is started again in 2 s' in server.read(), f'it says {server.read()}')
+    server.ready()
+    server.end()
+
+
+def reloaded():
+    """SIGHUP: the daemon goes on where the hosts file has the same words for it or is faulty, and else is started again; its trace goes to a file
+    that is opened anew."""
+    trace = Supervised.path('trace')
+    server = Supervised('--output', trace)
+    first = server.ready()
+    for more, text in ((('# nothing',), 'since it is started with the same words'), (('b 127.0.0.1:1 leader',), ':2: role \'leader\''),
+                       (('b 127.0.0.1:1 slave',), 'the hosts file changed what the daemon is started with')):
+        wanted(server.daemon() == first, f'the daemon is another one before {more}')
+        server.write_hosts(*more)
+        os.rename(trace, trace + '.1')
+        server.process.send_signal(signal.SIGHUP)
+        until(lambda: text in server.read(), f'it doesn\'t say {text}')
+        until(lambda: os.path.exists(trace), 'the trace isn\'t opened anew')
+    until(lambda: server.daemon() not in (None, first) and server.answers(), 'the daemon isn\'t started with other words')
+    with open(f'/proc/{server.daemon()}/cmdline', encoding='ascii') as file:
+        wanted(file.read().split('\0')[-2] == '127.0.0.1:1', 'the daemon is started with other words than those of the file')
+    until(lambda: ' trace on\n' in server.read(trace), 'the trace doesn\'t go to its file')
+    wanted(server.read(server.out) == '', 'the trace goes to standard output too')
+    server.end()
+
+
+def gone():
+    """Its address is taken from the machine: the daemon ends, and is started again when the address is back. (in a network namespace)"""
+    def address(what):
+        subprocess.run(['ip', 'address', what, '192.0.2.5/32', 'dev', 'lo'], check=True)
+
+    subprocess.run(['ip', 'link', 'set', 'lo', 'up'], check=True)
+    address('add')
+    server = Supervised(address='192.0.2.5')
+    first = server.ready()
+    address('del')
+    until(lambda: server.daemon() is None, 'the daemon goes on without its address')
+    time.sleep(1)
+    wanted(server.daemon() is None and server.process.poll() is None, 'it doesn\'t wait for the address')
+    address('add')
+    until(lambda: server.daemon() not in (None, first) and server.answers(), 'the daemon isn\'t started again when its address is back')
+    wanted('192.0.2.5 is no address of this machine any more' in server.read(), f'it says {server.read()}')
+    server.end()
+
+
+def away():
+    """No name server answers at the start: it is asked on. (in a network namespace)"""
+    asked, tools = Supervised.path('asked'), Supervised.path('bin')
+    os.mkdir(tools)
+    with open(os.path.join(tools, 'getent'), 'w', encoding='ascii') as file:
+        file.write(f'#!/bin/sh\necho >>{asked}\n[ "$(wc -l <{asked})" -lt 3 ] || echo "127.0.0.1 STREAM x"\n')
+    os.chmod(os.path.join(tools, 'getent'), 0o755)
+    subprocess.run(['ip', 'link', 'set', 'lo', 'up'], check=True)
+    server = Supervised(address='late.example', PATH=f'{tools}:{os.environ["PATH"]}')
+    server.address = '127.0.0.1', server.address[1]
+    server.ready()
+    text = server.read()
+    wanted(all(f'no name server answers for late.example; it is asked again in {pause} s' in text for pause in (1, 2)), f'it says {text}')
+    server.end()
+
+
+def main():
+    for case in sys.argv[3:]:
+        begun = time.monotonic()
+        globals()[case]()
+        print(f'{case} {time.monotonic() - begun:.1f} s', flush=True)
+
+
+main()

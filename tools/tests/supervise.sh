@@ -1,0 +1,23 @@
+#!/bin/sh
+# What befalls a daemon under the supervisor: a reader that takes nothing, signals, a sleep of the machine, an address that goes, and more.
+. "$(dirname "$0")/common.sh"
+serving_program
+case $program in /*) ;; *) program=$PWD/$program ;; esac
+
+# Runs cases, each in a folder of its own.
+cases() {
+    for case; do
+        mkdir "$out/$case"
+        $before python3 tools/tests/supervise.py "$program" "$out/$case" "$case" >>"$out/took" || fail "$case fails"
+    done
+}
+
+before=''
+cases stuck blocked switched slept killed interrupted turned ended reloaded
+if unshare -rn true 2>/dev/null && has ip; then
+    before='unshare -rn'
+    cases gone away
+else
+    skip 'there are no network namespaces' 'an address that goes, and a name server that is away'
+fi
+echo "$check: $(paste -sd ',' "$out/took" | sed 's/,/, /g')"

@@ -1,0 +1,116 @@
+"""Prints rules that let in what a daemon needs, by its words: `firewall.py nft|systemd serve LOCAL NAME ..`. TSP_ASKERS names networks that may ask.
+
+As an nftables table: its peers from their ports, questions from its peers' machines and from those networks, so many in a second, and nothing else; over
+the loopback it is asked by root and by users of services alone. As a drop-in of the unit: datagrams of these addresses, and of name servers.
+"""
+import ipaddress
+import os
+import sys
+
+sys.dont_write_bytecode = True
+sys.path.insert(0, os.path.dirname(os.path.dirname(os.path.realpath(__file__))))
+from tsp_daemon import usage  # noqa: E402
+from tsp_texts.tool import Fault  # noqa: E402
+
+# How many questions are let in in a second: a network of a thousand hosts has 250, since supervisors ask a master four times in 16 s.
+ASKED = 'limit rate 1000/second burst 1000 packets'
+# Root, and the users that systemd makes for services.
+USERS = '0, 61184-65519'
+EVERYWHERE = '0.0.0.0'
+LOOPBACK = '127.0.0.0/8'
+UNPRIVILEGED = '/proc/sys/net/ipv4/ip_unprivileged_port_start'
+
+NFT = '''#!/usr/sbin/nft -f
+# What the daemon {name} at {local} needs, by the hosts file. Written by tsp-launch --firewall nft.
+table inet tsp
+delete table inet tsp
+table inet tsp {{
+    chain input {{
+        type filter hook input priority filter - 1; policy accept;
+        iifname "lo" accept
+        {place}udp dport {port} jump datagrams
+    }}
+    chain datagrams {{
+{peers}{askers}        counter drop
+    }}
+    chain output {{
+        type filter hook output priority filter - 1; policy accept;
+        oifname "lo" udp dport {port} meta skuid != {{ {users} }} counter drop
+    }}
+}}'''
+
+SYSTEMD = '''# What the daemon {name} at {local} needs, by the hosts file. Written by tsp-launch --firewall systemd, for tsp.service.d.
+[Service]
+IPAddressDeny=any
+IPAddressAllow={allowed}'''
+NO_CAPABILITY = '''
+# (its port needs no privilege here)
+AmbientCapabilities=
+CapabilityBoundingSet='''
+
+
+def asking_networks(text):
+    """The networks of TSP_ASKERS: A.B.C.D or A.B.C.D/BITS, with spaces or commas between."""
+    try:
+        return [ipaddress.IPv4Network(word) for word in text.replace(',', ' ').split()]
+    except ValueError as fault:
+        raise Fault(f'TSP_ASKERS: {fault}', usage.BAD_FILE) from fault
+
+
+def by_number(addresses):
+    """Each address once, in their order."""
+    return sorted(set(addresses), key=lambda address: ipaddress.IPv4Address(address.split(':')[0]))
+
+
+def together(addresses, networks):
+    """These addresses and networks, none of which has another one in it."""
+    each = [*map(ipaddress.IPv4Network, addresses), *networks]
+    return [str(network).replace('/32', '') for network in ipaddress.collapse_addresses(each)]
+
+
+def nft(words, askers):
+    """The table."""
+    (host, port), peers = words[1].split(':'), [word for word in words[5:] if word != '+']
+    pairs = ', '.join(' . '.join(peer.split(':')) for peer in by_number(peers))
+    asking = ', '.join(together((peer.split(':')[0] for peer in peers), askers))
+    return NFT.format(
+        name=words[2], local=words[1], port=port, users=USERS, place='' if host == EVERYWHERE else f'ip daddr {host} ',
+        peers=f'        ip saddr . udp sport {{ {pairs} }} counter accept\n' if pairs else '',
+        askers=f'        ip saddr {{ {asking} }} {ASKED} counter accept\n' if asking else '')
+
+
+def name_servers():
+    """The addresses of name servers, since names are looked up before the daemon starts."""
+    try:
+        with open('/etc/resolv.conf', encoding='utf-8', errors='replace') as file:
+            lines = [line.split() for line in file]
+    except OSError:
+        return []
+    return [line[1] for line in lines if len(line) > 1 and line[0] == 'nameserver']
+
+
+def is_free(port):
+    """Whether any user may bind a port."""
+    try:
+        with open(UNPRIVILEGED, encoding='ascii') as file:
+            return port >= int(file.read())
+    except OSError:
+        return port >= 1024
+
+
+def systemd(words, askers):
+    """The drop-in."""
+    host, port = words[1].split(':')
+    hosts = [*([] if host == EVERYWHERE else [host]), *(peer.split(':')[0] for peer in words[5:] if peer != '+')]
+    allowed = ' '.join([LOOPBACK, *together(hosts, askers), *name_servers()])
+    return SYSTEMD.format(name=words[2], local=words[1], allowed=allowed) + (NO_CAPABILITY if is_free(int(port)) else '')
+
+
+def main():
+    form, *words = sys.argv[1:]
+    # (what it says is said by the one that started it)
+    sys.argv[0] = 'tsp-launch'
+    print({'nft': nft, 'systemd': systemd}[form](words, asking_networks(os.environ.get('TSP_ASKERS', ''))))
+
+
+usage.run(main)

@@ -1,0 +1,93 @@
+"""The network's time as tsp-now tells it: by the page of this machine, or by questions to a host and to its master."""
+import os
+import time
+from typing import NamedTuple, Optional
+
+import tsp_clock
+from tsp_daemon import hosts, usage
+from tsp_texts.tool import Fault
+
+
+class Told(NamedTuple):
+    """A time, and between which the master's clock lies then; None where nobody leads whom it belongs to. All are microseconds since 1970."""
+    shown: int
+    earliest: Optional[int]
+    latest: Optional[int]
+
+    @property
+    def error(self):
+        """How far the time may be from the master's clock."""
+        return max(self.latest - self.shown, self.shown - self.earliest)
+
+
+def path():
+    """Where this machine's page is."""
+    return os.environ.get('TSP_CLOCK') or tsp_clock.PATH
+
+
+def page():
+    """This machine's page, or None where there is none, as on a machine without a daemon."""
+    try:
+        return tsp_clock.Clock()
+    except OSError:
+        return None
+
+
+def by_page(clock):
+    """What the page tells."""
+    now = clock.now()
+    if now.status == tsp_clock.STALE:
+        raise Fault(f'the daemon of this host doesn\'t run, by {clock.path}', usage.NOT_WELL)
+    return Told(now.shown, now.earliest, now.latest)
+
+
+def wait_until(clock, within, until):
+    """What the page tells once it is synchronised, and, where that is asked for, once its error is at most so many milliseconds."""
+    while True:
+        now = clock.now()
+        if now.status == tsp_clock.SYNCHRONISED:
+            told = Told(now.shown, now.earliest, now.latest)
+            if within is None or told.error <= within * 1000:
+                return told
+        if until is not None and time.monotonic() >= until:
+            raise Fault('not synchronised in that time' if within is None else f'not synchronised within {within:g} ms in that time', usage.NOT_WELL)
+        time.sleep(0.01)
+
+
+def stamp(clock, until):
+    """A stamp, once each later stamp of the network is greater."""
+    told = wait_until(clock, None, until)
+    longest = None if until is None else max(until - time.monotonic(), 0)
+    if not tsp_clock.wait_after(clock, told.latest, longest):
+        raise Fault('the network\'s time wasn\'t surely after the stamp in that time', usage.NOT_WELL)
+    return told.latest
+
+
+def by_questions(asker, own, address, file):
+    """What a host of this name, or without one, tells at its address, and its master at that of the hosts file; all of it at one moment of this
+    machine's clock."""
+    reading = asker.clock(address)
+    name = asker.master(address)
+    if reading is None or name is None:
+        raise Fault(f'{address} doesn\'t answer', usage.NOT_WELL)
+    shown = time.time_ns() // 1000 + reading.offset
+    if not name:
+        return Told(shown, None, None)
+    other = None if name == own else master_of(asker, name, address, file)
+    if other is None:
+        return Told(shown, shown - reading.error, shown + reading.error)
+    ahead, error = other.offset - reading.offset, other.error + reading.error
+    return Told(shown, shown + ahead - error, shown + ahead + error)
+
+
+def master_of(asker, name, address, file):
+    """The clock of a host's master, or None where that is the host itself."""
+    masters = [host.address for host in hosts.listed(file) if host.name == name]
+    if not masters:
+        raise Fault(f'its master, {name}, is no host of the hosts file, so nobody can say how far its clock is from that one\'s', usage.BAD_FILE)
+    if address in masters:
+        return None
+    found = asker.clock(masters[0])
+    if found is None:
+        raise Fault(f'its master, {name}, doesn\'t answer, so nobody can say how far its clock is from that one\'s', usage.NOT_WELL)
+    return found
