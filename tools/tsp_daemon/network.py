@@ -69,9 +69,8 @@ def first_lines(hosts: List[Host]) -> List[Host]:
     return list(firsts.values())
 
 
-def look(asker: Asker, hosts: List[Host]) -> List[Seen]:
-    """Asks all hosts for their master side by side, so that many silent ones take no longer than one, and then those that answered
-    for their clock, some times and one after the other, so that the asking itself doesn't make the measurements worse."""
+def ask_masters(asker: Asker, hosts: List[Host]) -> List[Seen]:
+    """Asks all hosts for their master side by side, so that many silent ones take no longer than one."""
     seen = [Seen(host) for host in hosts]
     with ThreadPoolExecutor(min(len(seen), MOST_AT_ONCE)) as pool:
         asking = [pool.submit(asker.master, each.host.address) for each in seen]
@@ -83,6 +82,13 @@ def look(asker: Asker, hosts: List[Host]) -> List[Seen]:
             for answer in asking:
                 answer.cancel()
             raise
+    return seen
+
+
+def look(asker: Asker, hosts: List[Host]) -> List[Seen]:
+    """Asks all hosts for their master, and then those that answered for their clock, some times and one after the other, so that the asking
+    itself doesn't make the measurements worse."""
+    seen = ask_masters(asker, hosts)
     for each in seen:
         if each.reached:
             each.clock = asker.best_clock(each.host.address)

@@ -75,6 +75,11 @@ class Asker:
         answer = self.ask('date', address, str(time))
         return None if answer is None else self.value(answer, 'date', 'date', address)[0]
 
+    def election(self, address) -> bool:
+        """Tells a daemon to stand for election, and says whether it heard that."""
+        answer = self.ask('election', address)
+        return answer is not None and self.value(answer, 'election', 'election', address) == ['heard']
+
     def value(self, answer, word, question, address, count=1) -> List[str]:
         """The words of an answer behind its first one."""
         if answer[0] != word or len(answer) != count + 1:

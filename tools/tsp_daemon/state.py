@@ -73,7 +73,8 @@ class Counts:
 
 
 class Daemon:
-    """A daemon: its ports, its peers by their numbers, its last correction, and what it was late with."""
+    """A daemon: its ports, its peers by their numbers, its last correction, what it was late with, when a QUIT came, and whom it voted for last
+    and when."""
 
     def __init__(self):
         self.counts = Counts()
@@ -84,7 +85,7 @@ class Daemon:
         """Forgets all that a start of the daemon makes void."""
         self.tick, self.ports, self.peers = 0, {}, {}
         self.correction: Optional[Correction] = None
-        self.late = None
+        self.late = self.quit = self.backed = None
         self.finder = rates.Finder()
         self.is_traced = True
         self.took = None
@@ -261,7 +262,12 @@ class Daemon:
         rivals += [int(number)] if int(number) not in rivals else []
         yield 'rival', {'peer': self.name(int(number))}
 
-    def on_quit(self, _, number):
+    def on_back(self, act, number):
+        self.backed = int(number), act.tick
+        return ()
+
+    def on_quit(self, act, number):
+        self.quit = act.tick
         yield 'quit', {'peer': self.name(int(number))}
 
     def on_gave(self, _, number):

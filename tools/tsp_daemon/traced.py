@@ -22,42 +22,43 @@ class Traced(NamedTuple):
     way: str
 
 
-def of_file(path) -> Dict[str, Traced]:
-    """What a file with a trace tells, or standard input where it is `-`."""
+def daemon_of_file(path) -> state.Daemon:
+    """The daemon whose trace a file has, or standard input where it is `-`."""
     octets = tool.read(path, MOST, NO_PROGRAM)
     if len(octets) > MOST:
         raise Fault(f'{path}: it has more than {MOST >> 20} MiB', NO_PROGRAM)
-    told = of_octets(octets)
-    if told is None:
+    daemon = daemon_of_octets(octets)
+    if daemon is None:
         raise Fault(f'{path}: it isn\'t a daemon\'s trace', NO_PROGRAM)
-    return told
+    return daemon
 
 
-def of_journal(own) -> Dict[str, Traced]:
-    """What the journal of this machine's unit tells, where that is the daemon of this name; nothing, where there is none to be read."""
+def daemon_of_journal(own) -> Optional[state.Daemon]:
+    """The daemon of this machine's unit by its journal, where it has this name; None where there is none to be read."""
     try:
         ran = subprocess.run(JOURNAL, stdin=subprocess.DEVNULL, stdout=subprocess.PIPE, stderr=subprocess.DEVNULL, timeout=PATIENCE, check=False)
     except (OSError, subprocess.TimeoutExpired):
-        return {}
-    return of_octets(ran.stdout, own) or {}
+        return None
+    daemon = daemon_of_octets(ran.stdout)
+    return daemon if daemon and daemon.own_name == own else None
 
 
-def of_octets(octets, own=None) -> Optional[Dict[str, Traced]]:
-    """What a trace tells, by the names of hosts; None where it is none."""
+def daemon_of_octets(octets) -> Optional[state.Daemon]:
+    """The daemon whose trace this is; None where it is none."""
     daemon, lines = state.Daemon(), trace.Lines()
     try:
         for line in [*lines.cut(octets), *lines.last()]:
             daemon.take(line)
     except state.NoDaemon:
         return None
-    if not daemon.counts.lines or own not in (None, daemon.own_name):
-        return None
-    return told_by(daemon)
+    return daemon if daemon.counts.lines else None
 
 
-def told_by(daemon):
-    """What a daemon's trace told: of its slaves where it leads, and of itself."""
+def told_by(daemon) -> Dict[str, Traced]:
+    """What a daemon's trace told, by the names of hosts: of its slaves where it leads, and of itself. Nothing, where there is no daemon."""
     found = {}
+    if daemon is None:
+        return found
     for number, peer in daemon.peers.items():
         if peer.told or peer.finder.rate:
             told = peer.told
