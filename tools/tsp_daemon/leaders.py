@@ -33,18 +33,17 @@ def leader(asker: Asker, listed: List[Host]) -> Host:
 
 
 def leader_over(asker: Asker, listed: List[Host], name, address) -> Host:
-    """The host that a host of this address follows, itself or by gateways, or is. Its name is None where only the address is known."""
+    """The host that a host of this address follows, itself or by gateways, or is; where that one doesn't lead, the leader of the first network. The
+    name is None where only the address is known."""
+    master = asker.master(address)
+    if master is None:
+        raise Fault(f'{address} doesn\'t answer', NOT_WELL)
     passed = set()
-    while True:
-        master = asker.master(address)
-        if master is None:
-            raise Fault(f'{address} doesn\'t answer', NOT_WELL)
-        if not master:
-            raise Fault(f'{name or address} knows no master', NOT_WELL)
+    while master and master not in passed:
         line = line_of(master, listed)
         if master == name or line.address == address:
             return line
-        if master in passed:
-            raise Fault(f'{master} is named as master and doesn\'t lead', NOT_WELL)
         passed.add(master)
         name, address = master, line.address
+        master = asker.master(address)
+    return leader(asker, listed)
