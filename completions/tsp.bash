@@ -98,10 +98,10 @@ _tsp_launch() {
 _tsp_status() {
     case $(_tsp_before "$3") in
     --program | -p) mapfile -t COMPREPLY < <(compgen -c -- "$2") ;;
-    --file | -f | --output | -o) mapfile -t COMPREPLY < <(compgen -f -- "$2") ;;
+    --file | -f | --output | -o | --trace) mapfile -t COMPREPLY < <(compgen -f -- "$2") ;;
     --tries | -t | --timeout | --within) ;;
     *)
-        mapfile -t COMPREPLY < <(compgen -W '--file --need-master --within --check --csv --json --prometheus --output --timeout --tries --program --help' -- "$2")
+        mapfile -t COMPREPLY < <(compgen -W '--file --within --trace --check --csv --json --prometheus --output --timeout --tries --program --help' -- "$2")
         ;;
     esac
 }

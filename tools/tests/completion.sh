@@ -49,7 +49,7 @@ wants ' ' tsp serve 192.0.2.11:525 alpha m ''
 wants ' ' tsp trace 192.0.2.11:525 on ''
 wants 'alpha ' tsp-launch -s al
 wants 'daemon/hosts ' tsp-status --file daemon/h
-wants '--need-master ' tsp-status --ne
+wants '--within ' tsp-status --wi
 wants 'daemon/hosts ' tsp-watch daemon/h
 wants 'daemon/hosts ' tsp-watch --prometheus daemon/h
 wants 'beta ' tsp-now b

@@ -116,12 +116,12 @@ def read(path, most, failed=1):
 def write(path, octets):
     """Writes a file as a whole or not at all; what is no file, as a device, is written as it is."""
     try:
-        there = os.path.realpath(path)
-        if os.path.lexists(there) and not stat.S_ISREG(os.stat(there).st_mode):
-            with open(there, 'wb') as out:
+        # (what /dev/stdout leads to has no path, where that is a pipe)
+        if os.path.exists(path) and not stat.S_ISREG(os.stat(path).st_mode):
+            with open(path, 'wb') as out:
                 out.write(octets)
             return
-        replace(there, octets)
+        replace(os.path.realpath(path), octets)
     except OSError as fault:
         raise Fault(reason(path, fault)) from fault
 
