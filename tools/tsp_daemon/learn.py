@@ -11,7 +11,8 @@ from typing import List, NamedTuple, Optional
 
 from tsp_texts import tool
 
-PATH = '/var/lib/tsp/rate'
+# Where what is learned is kept, unless TSP_LEARN says another place; and what TSP_RATE is then.
+PATH, WORD = '/var/lib/tsp/rate', 'learn'
 BILLION = 1_000_000_000
 # The greatest rate, and that of a counter which is taken for one that counts.
 MOST_RATE = 1_000_000
@@ -181,11 +182,6 @@ class Kept:
         self.learning.begin(self.learning.kept.rate if self.learning.kept else 0)
         return self.learning.applied
 
-    def change(self, change, is_set=False):
-        """Something changed in the daemon's state; what is learned by it is written."""
-        if self.learning.change(change, is_set):
-            self.write()
-
     def write(self):
         """Writes the file; that it can't be written is said once."""
         try:
@@ -197,6 +193,6 @@ class Kept:
             self.is_faulty = True
 
 
-def path_of(environment=os.environ):
-    """Where the unit keeps what is learned, or TSP_LEARN says."""
-    return environment.get('TSP_LEARN') or PATH
+def path_of():
+    """Where what is learned is kept."""
+    return os.environ.get('TSP_LEARN') or PATH
