@@ -27,6 +27,8 @@ ALMOST = re.compile('(?:^|: )[1-9][0-9]* 0 [0-3] [0-9]+ ')
 # What a daemon's supervisor says of questions for its clock, and their answers, which it didn't hand on.
 LEFT_OUT = re.compile(r'(?:^|: )\.\.\. ([1-9][0-9]{0,18}) lines of supervisors left out$')
 START = re.compile(r'in the trace peer 0 is ([!-~]+)((?:, [1-9][0-9]* [!-~]+)*)$')
+# What it says of a counter that runs at another rate than the machine's wall clock, in parts in 10^9.
+APPLIED = re.compile(r'(?:^|: )tsp-launch: the daemon counts (-?[0-9]{1,7}) parts in 10\^9 faster than the machine$')
 PEER_ACTS = ('back', 'backer', 'quit', 'join', 'leave', 'rival', 'acked', 'gave', 'sample', 'took')
 
 
