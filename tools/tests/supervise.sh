@@ -13,7 +13,7 @@ cases() {
 }
 
 before=''
-cases stuck blocked switched slept killed interrupted turned ended reloaded
+cases stuck blocked switched slept killed interrupted turned ended learned reloaded
 if unshare -rn true 2>/dev/null && has ip; then
     before='unshare -rn'
     cases gone away
