@@ -112,6 +112,7 @@ cmp -s "$out/root/etc/default/tsp" daemon/tsp.default && [ "$(cat "$out/control/
 for script in postinst prerm postrm; do
     sh -n "$out/control/$script" && [ -x "$out/control/$script" ] || fail "$script can't be run"
 done
+[ "$(dpkg-deb --field "$package" Conflicts)" = task-spooler ] || fail 'another package has /usr/bin/tsp too, and may be installed beside it'
 ! grep -e enable -e 'start ' "$out/control/postinst" || fail 'the daemon starts by itself'
 for page in man/*.[1-8]; do
     gzip -dc "$out/root/usr/share/man/man${page##*.}/${page#man/}.gz" | cmp -s - "$page" || fail "$page isn't packed"
@@ -130,11 +131,14 @@ if in_system --install "$package"; then
     [ -x "$out/system$launch" ] || fail 'the package is not installed'
     echo 'a 192.0.2.1 master' >"$out/system/etc/tsp/hosts"
     ln -s /usr/lib/systemd/system/tsp.service "$out/system/etc/systemd/system/multi-user.target.wants"
-    install -d "$out/system/usr/share/tsp/tsp_daemon/__pycache__"
+    install -d "$out/system/usr/share/tsp/__pycache__" "$out/system/usr/share/tsp/tsp_daemon/__pycache__" "$out/system/usr/share/tsp/tsp_texts/__pycache__" \
+        "$out/system/usr/share/tsp/tsp_witness/__pycache__" "$out/system/etc/systemd/system/tsp.service.d"
+    echo '[Service]' >"$out/system/etc/systemd/system/tsp.service.d/mine.conf"
     in_system --purge tsp || fail "$(tail -n 1 "$out/told")"
     left >"$out/rest"
     grep -v -x -e "$out/system" -e "$out/system/etc\(/systemd.*\)*" -e "$out/system/var\(/lib\)*" "$out/rest" >"$out/beyond" || :
-    [ ! -s "$out/beyond" ] && ! grep -q 'tsp.service' "$out/rest" || fail "a purge leaves $(cat "$out/beyond")"
+    [ ! -s "$out/beyond" ] && ! grep -q 'wants/tsp.service' "$out/rest" || fail "a purge leaves $(cat "$out/beyond")"
+    [ -s "$out/system/etc/systemd/system/tsp.service.d/mine.conf" ] || fail "a purge takes along the administrator's own changes of the unit"
 else
     skip "this dpkg installs into no other root: $(tail -n 1 "$out/told")" 'what a purge leaves'
 fi

@@ -38,13 +38,21 @@ gives() {
     [ ! -s "$out/told" ] || fail "$1: $(cat "$out/told")"
 }
 
-# Wants status 78 and this alone on standard error.
+# Wants status 78, or that of `faulty`, and this alone on standard error.
+faulty=78
 refuses() {
     text=$1
     shift
-    ends 78 "$@"
+    ends "$faulty" "$@"
     [ ! -s "$out/said" ] || fail "'$*' prints '$(cat "$out/said")'"
     [ "$(cat "$out/told")" = "tsp-launch: $text" ] || fail "'$*': it says '$(cat "$out/told")'"
+}
+
+# Wants status 2 and this alone on standard error.
+refuses_words() {
+    faulty=2
+    refuses "$@"
+    faulty=78
 }
 
 # Each host has its own line first, and the others of its network as peers.
@@ -133,11 +141,11 @@ ends 0 -n -f "$out/hosts" -s "$(printf '%0255d' 0)"
 sed -i 's/^/0/' "$out/hosts"
 refuses "$out/hosts:1: the name has more than 255 letters" -n -f "$out/hosts" -s alpha
 for turns in 0 01 1000000001 -1 x ''; do
-    refuses "turns '$turns': a number from 1 to 1000000000" -n -f "$hosts" -s alpha --turns="$turns"
+    refuses_words "turns '$turns': a number from 1 to 1000000000" -n -f "$hosts" -s alpha --turns="$turns"
 done
-refuses "wait 'x': a number of seconds from 0 to 86400" -n -f "$hosts" -s alpha -w x
+refuses_words "wait 'x': a number of seconds from 0 to 86400" -n -f "$hosts" -s alpha -w x
 for spread in 01 3601 x 0.5; do
-    refuses "spread '$spread': a number of seconds from 0 to 3600" -n -f "$hosts" -s alpha --spread="$spread"
+    refuses_words "spread '$spread': a number of seconds from 0 to 3600" -n -f "$hosts" -s alpha --spread="$spread"
 done
 printf 'alpha 192.0.2.11 master\nbeta\0 192.0.2.12 slave\n' >"$out/hosts"
 refuses "$out/hosts:2: the line has a NUL" -l -f "$out/hosts"
@@ -145,10 +153,10 @@ printf 'alpha 192.0.2.11 master # \0\n' >"$out/hosts"
 refuses "$out/hosts:1: the line has a NUL" -n -f "$out/hosts" -s alpha
 head -c 67108864 /dev/zero | tr '\0' '#' >"$out/hosts"
 refuses "$out/hosts: it has more than 2097152 octets" -l -f "$out/hosts"
-refuses '-q: tsp-launch --help says which words there are' -q
-refuses '-f: a word is missing behind it' -n -f
+refuses_words '-q: tsp-launch --help says which words there are' -q
+refuses_words '-f: a word is missing behind it' -n -f
 given=TSP_TRACE=yes
-refuses "trace 'yes': on or off" -n -f "$hosts" -s alpha
+refuses_words "trace 'yes': on or off" -n -f "$hosts" -s alpha
 given=''
 refuses "there is no program $out/none" -f "$hosts" -s alpha -p "$out/none"
 
