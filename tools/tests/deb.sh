@@ -66,9 +66,23 @@ done <"$out/documents"
 
 # The packed program replays each example, and the packed tools run it.
 tools/tsp-status --help >"$out/help"
+"$out/root/usr/lib/tsp/tsp" --help >"$out/words-of-tsp"
 PATH=$out/root/usr/bin:$PATH
 unset TSP_PROGRAM
 [ "$(command -v tsp)" = "$out/root/usr/bin/tsp" ] || fail 'the packed program is not found'
+# It explains two statuses, and knows how one asks for help.
+for words in -h help --help; do
+    tsp "$words" | cmp -s - "$out/words-of-tsp" || fail "tsp $words gives something else"
+done
+status=0
+tsp clockdiff alpha >"$out/said" 2>"$out/told" || status=$?
+[ "$status" -eq 1 ] && [ "$(cat "$out/said")" = usage ] && grep -qx "tsp: the first word that the grammar has no place for is 'alpha' (word 2): an address A.B.C.D:PORT belongs there" "$out/told" ||
+    fail "of wrong words the packed tsp says '$(cat "$out/said" "$out/told")', status $status"
+status=0
+tsp serve 192.0.2.1:525 a s 1 >"$out/said" 2>"$out/told" || status=$?
+[ "$status" -eq 5 ] && grep -q "^tsp: 192.0.2.1:525 can't be bound: " "$out/told" || fail "of an address that isn't there the packed tsp says '$(cat "$out/told")', status $status"
+ln -s "$out/root/usr/bin/tsp" "$out/linked"
+[ "$("$out/linked" --version)" = "$(tsp --version)" ] || fail 'a link to the packed tsp gives something else'
 examples=$out/root/usr/share/doc/tsp/examples
 count=0
 for schedule in "$examples"/*.tsp "$examples"/schedules/*.tsp; do
