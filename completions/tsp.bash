@@ -90,7 +90,7 @@ _tsp_launch() {
     --firewall) mapfile -t COMPREPLY < <(compgen -W 'nft systemd' -- "$2") ;;
     --turns | --wait | -w | --spread | --rate) ;;
     *)
-        mapfile -t COMPREPLY < <(compgen -W '--print --list --firewall --file --self --turns --wait --spread --rate --trace --supervise --output --program --version --help' -- "$2")
+        mapfile -t COMPREPLY < <(compgen -W '--print --list --lint --firewall --file --self --turns --wait --spread --rate --trace --supervise --output --program --version --help' -- "$2")
         ;;
     esac
 }

@@ -68,6 +68,44 @@ ends 0 --list -f "$hosts"
 printf '%s\n' '1 alpha 192.0.2.11:525 master' '1 beta 192.0.2.12:526 slave' '1 gate 192.0.2.1:525 master' '2 gamma 198.51.100.7:525 slave' '2 gate 192.0.2.1:525 master' |
     cmp -s - "$out/said" || fail "the hosts are listed as '$(cat "$out/said")'"
 
+# Files that can't work: `-n` says why beside its words, and --lint ends with 78.
+lints() {
+    wanted=$1
+    shift
+    printf '%s\n' "$@" | sed "s|^|tsp-launch: $out/linted:|" >"$out/faults"
+    [ $# -gt 0 ] || : >"$out/faults"
+    ends "$wanted" --lint -f "$out/linted"
+    [ ! -s "$out/said" ] && cmp -s "$out/told" "$out/faults" || fail "of a file that can't work it says '$(cat "$out/said" "$out/told")'"
+    name=$(sed -n '/^[a-z]/{s/ .*//p;q;}' "$out/linted")
+    ends 0 -n -f "$out/linted"
+    cmp -s "$out/told" "$out/faults" && [ "$(cut -d ' ' -f 3 "$out/said")" = "$name" ] || fail "of a file that can't work -n says '$(cat "$out/said" "$out/told")'"
+}
+given=TSP_SELF=a.example.org
+printf '%s\n' 'a 127.0.0.1:5251 master' 'b 127.0.0.1:5252 slave' >"$out/linted"
+lints 0
+printf '%s\n' 'a 127.0.0.1:5251 slave' 'b 127.0.0.1:5252 slave' >"$out/linted"
+lints 78 '1: no host of the network may lead: each is `slave`'
+printf '%s\n' 'a 192.0.2.11 master' 'b 192.0.2.12 slave' >"$out/linted"
+lints 78 "1: a is this machine's name, and 192.0.2.11 isn't its address: Cannot assign requested address"
+ends 0 --lint -f "$out/linted" -s a
+printf '%s\n' 'a 127.0.0.1:5251 master' 'g 127.0.0.1:5252 slave' + 'g 127.0.0.1:5252 slave' 'c 127.0.0.1:5253 master' '# behind it' 'd 127.0.0.1:5254 master' >"$out/linted"
+lints 78 '5: c may lead network 2 too, which g is to lead by the clock of an earlier one: `slave` belongs here' \
+    '7: d may lead network 2 too, which g is to lead by the clock of an earlier one: `slave` belongs here'
+printf '%s\n' 'a 127.0.0.1:5251 master' 'g 127.0.0.1:5252 slave' + 'g 127.0.0.1:5252 slave' 'c 127.0.0.1:5253 slave' >"$out/linted"
+lints 78 '4: no host of network 2 may lead: each is `slave`'
+printf '%s\n' 'a 127.0.0.1:5251 master' 'g 127.0.0.2:5251 master' 'h 127.0.0.3:5252 master' + 'g 127.0.0.4:5251 master' 'h 127.0.0.5:5252 master' 'c 127.0.0.6:5251 slave' >"$out/linted"
+lints 78 '1: a is on the machine of g, which listens at all of its addresses with port 5251: another port belongs here, or one address for the gateway' \
+    '7: c is on the machine of g, which listens at all of its addresses with port 5251: another port belongs here, or one address for the gateway'
+printf '%s\n' 'a 127.0.0.1:5251 master' 'b 127.0.0.1:5251 slave' >"$out/linted"
+refuses "$out/linted:2: 127.0.0.1:5251 stands in this network already" --lint -f "$out/linted"
+printf '%s\n' 'a 127.0.0.1:5251 master' + 'c 127.0.0.1:5251 master' >"$out/linted"
+refuses "$out/linted:3: 127.0.0.1:5251 is another host in an earlier network" --lint -f "$out/linted"
+given=TSP_SELF=elsewhere
+printf '%s\n' 'a 192.0.2.11 master' >"$out/linted"
+ends 0 --lint -f "$out/linted"
+given=''
+! tools/tsp-launch --lint -f daemon/hosts -s alpha 2>&1 | grep . || fail 'the example of a hosts file has a fault'
+
 # A host in two networks is a gateway. Its words have a + between its networks.
 gives gate 'serve 192.0.2.1:525 gate m 1000000000 192.0.2.11:525 192.0.2.12:526 + 198.51.100.7:525'
 for case in '9: beta stands in two networks of gate: each of them needs an address of its own in each network|beta 192.0.2.12:526 slave' \
