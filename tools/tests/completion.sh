@@ -87,5 +87,7 @@ tsp-status --file=daemon/ho|tsp-status --file=daemon/hosts |
 tsp-launch --self=al|tsp-launch --self=alpha |
 tsp-plot -o exam|tsp-plot -o examples/|
 tsp-now --s|tsp-now --s|
+tsp-witness al|tsp-witness alpha=|
+tsp-witness alpha=exam|tsp-witness alpha=examples/|
 END
 echo "$check: commands, options and files"

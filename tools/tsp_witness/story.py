@@ -2,6 +2,7 @@
 import collections
 import heapq
 import itertools
+import struct
 from typing import NamedTuple
 
 from tsp_texts import schedule
@@ -184,7 +185,11 @@ class Story:
         if turn.post:
             return f'take {turn.post.act.number}'
         place = f'{node}/{took.port}' if took.port else str(node)
-        return f'bytes {place} {self.node_word(node, took.words[1])} {octets_of(took.words[2:]).hex()}'
+        try:
+            octets = octets_of(took.words[2:])
+        except (ValueError, struct.error):
+            raise Unusable(f'{turn.place}: "{" ".join(took.words[2:])}" is no datagram') from None
+        return f'bytes {place} {self.node_word(node, took.words[1])} {octets.hex()}'
 
     def node_word(self, node, peer):
         """A peer of a daemon as the node's number that it is."""
