@@ -64,12 +64,12 @@ _tsp_lint() {
 _tsp_plot() {
     case $(_tsp_before "$3") in
     --program | -p) mapfile -t COMPREPLY < <(compgen -c -- "$2"); return ;;
-    --output | -o) _tsp_files 'svg|html' "$2"; return ;;
+    --output | -o) _tsp_files 'svg|html|png' "$2"; return ;;
     '<') _tsp_any_file "$2"; return ;;
     --title | --drift | -d) return ;;
     esac
     case $2 in
-    -*) mapfile -t COMPREPLY < <(compgen -W '--output --title --bounds --drift --program --version --help' -- "$2") ;;
+    -*) mapfile -t COMPREPLY < <(compgen -W '--output --title --strangers --bounds --drift --program --version --help' -- "$2") ;;
     *) _tsp_files 'tsp|trace' "$2" ;;
     esac
 }
