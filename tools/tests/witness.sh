@@ -130,6 +130,13 @@ wants 1 "$(written "$given/spoiled") acts alike, holds" spoiled "$given/spoiled"
 tells 'took "adjtime 24980 5431 b" of b' 'it posted "adjtime 24980 5430 b"'
 wants 0 "$(written "$given/spoiled") acts alike, holds" spoiled "$given/spoiled" --altered
 
+# A datagram that was changed on its way, and equals by chance what was posted three seconds later: it is named, and there is a verdict. (what is
+# answered to it is changed likewise)
+change three b-3 '/^571 /{s/ request \([0-9]*\) 0$/ request \1 6/;s/ reply \([0-9]*\) \([0-9]*\) 0 / reply \1 \2 6 /;}'
+wants 1 "$(written "$out/changed") acts alike, holds" three "$out/changed"
+tells 'b took "request 1800000007143483 6" of a in turn 571, which by its trace posted that to it at another time alone'
+wants 0 "$(written "$out/changed") acts alike, holds" three "$out/changed" --altered
+
 # Acts that the rules don't give: a correction by another amount, a role that the hosts file doesn't allow.
 change three c-2 's/ correct \(-\{0,1\}[0-9]*\)\([0-9]\) slew/ correct \12\2 slew/'
 status=0
