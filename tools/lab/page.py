@@ -27,11 +27,14 @@ knows neither: {judged}.
 - **promised**: what is promised of these two at that moment: their samples' errors, and the drift since these were taken, twice.
 - **most**: the greatest part of what was promised that any two clocks came to, at any moment.
 
+**learned** are the same networks once more, for as long, whose daemons count with the rates that their traces of the first run gave, as after a restart. **rates** is
+by how many parts in a million the counters that differ most do so then.
+
 The simulations are runs of `tsp-sim` with as many nodes and as much drift, whose datagrams are on their way for the daemons' least error, and up to the jitter
 besides. Jitter, errors and distances are milliseconds.
 
-| hosts | drift | jitter | daemons: error | apart | promised | most | simulated: error | apart | promised | most |
-|---|---|---|---|---|---|---|---|---|---|---|
+| hosts | drift | jitter | daemons: error | apart | promised | most | learned: error | apart | rates | simulated: error | apart | promised | most |
+|---|---|---|---|---|---|---|---|---|---|---|---|---|---|
 {rows}
 
 ![What was measured and what was promised](accuracy.svg)
@@ -55,9 +58,12 @@ def name_of(case):
 def row(case):
     """A case as a line of the table."""
     cells = [str(case['hosts']), str(case['drift']), f'{case["jitter"] / 1000:g}']
-    for kind in 'daemons', 'simulated':
+    for kind in 'daemons', 'learned', 'simulated':
         told = case[kind]
-        cells += [milliseconds(told['error']), milliseconds(told['apart']), milliseconds(told['promised']), f'{told["part"]:.0%}']
+        if kind == 'learned':
+            cells += [milliseconds(told['error']), milliseconds(told['apart']), f'{told["rates"]:.2f}'] if told else ['-'] * 3
+        else:
+            cells += [milliseconds(told['error']), milliseconds(told['apart']), milliseconds(told['promised']), f'{told["part"]:.0%}']
     return '| ' + ' | '.join(cells) + ' |'
 
 

@@ -77,7 +77,7 @@ class Supervised:
         self.out, self.err, self.is_read = self.path('out'), self.path('err'), not stdout and '--output' not in words
         environment = {name: value for name, value in os.environ.items() if not name.startswith('TSP_')}
         environment.update(TSP_SPREAD='0', TSP_TRACE='on', TSP_CLOCK=self.path('clock'), **variables)
-        command = [*before, LAUNCH, '-f', self.hosts, '-s', 'a', '-t', str(turns), '-p', PROGRAM, '--supervise', *words]
+        command = [*before, LAUNCH, '-f', self.hosts, '-s', 'a', '--turns', str(turns), '-p', PROGRAM, '--supervise', *words]
         with open(self.out, 'wb') as out, open(self.err, 'wb') as err:
             self.process = subprocess.Popen(command, stdout=stdout or out, stderr=stderr or err, env=environment)
         self.link = socket.socket(socket.AF_INET, socket.SOCK_DGRAM)
@@ -311,6 +311,36 @@ def ended():
     wanted('the daemon ended with status 137; the daemon is started again in 2 s' in server.read(), f'it says {server.read()}')
     server.ready()
     server.end()
+
+
+def learned():
+    """The daemon counts with the rate that was learned, and takes a new one when it starts again; a file without a rate is told of; `--rate learn`
+    goes on where the hosts file is read again."""
+    file = Supervised.path('rate')
+    for text, rate in (('', 0), ('123456 90\n123456 20\n', 123456), ('1000001 9\n', 0)):
+        with open(file, 'w', encoding='ascii') as out:
+            out.write(text)
+        server = Supervised('--rate', 'learn', TSP_LEARN=file)
+        first = server.ready()
+        wanted(variable(first, 'TSP_RATE') == str(rate), f'the file has {text!r}, and the daemon has the rate {variable(first, "TSP_RATE")}')
+        told = f'{file}: it has no rate from -1000000 to 1000000, and its error; the rate is 0'
+        wanted((told in server.read()) == (rate == 0), f'it says {server.read()}')
+        if rate:
+            server.write_hosts('b 127.0.0.1:1 slave')
+            os.rename(file, file + '.1')
+            with open(file, 'w', encoding='ascii') as out:
+                out.write('-5000 9\n')
+            server.process.send_signal(signal.SIGHUP)
+            until(lambda: server.daemon() not in (None, first) and server.answers(), 'the daemon isn\'t started again')
+            wanted(variable(server.daemon(), 'TSP_RATE') == '-5000', 'a daemon that starts again doesn\'t take what was learned')
+            wanted('the daemon counts -5000 parts in 10^9 faster than the machine' in server.read(), f'it says {server.read()}')
+        server.end()
+
+
+def variable(pid, name):
+    """A variable of a process's environment."""
+    with open(f'/proc/{pid}/environ', encoding='utf-8') as file:
+        return dict(each.split('=', 1) for each in file.read().split('\0') if '=' in each).get(name)
 
 
 def reloaded():

@@ -24,6 +24,8 @@ ACT = re.compile('|'.join((
     f'close {NUMBER} {SIGNED} {NUMBER} {SIGNED}', f'correct {SIGNED} (?:slew|step) {SIGNED}')))
 PLACE = re.compile(f'({NUMBER}) ({NUMBER}) ({NUMBER}) ({NUMBER}) (.*)')
 LONGEST = 1024
+# A picture of more lines couldn't be read.
+MOST_LINES = 500_000
 
 
 def is_line(text):
@@ -138,6 +140,8 @@ def acts_of(file, schedule):
     claims, acts = Claims(schedule), []
     for line in iter(lambda: file.readline(LONGEST + 2), b''):
         text = line[:-1] if line.endswith(b'\n') else line
+        if len(acts) == MOST_LINES:
+            raise NotATrace(MOST_LINES + 1, f'a trace of more than {MOST_LINES} lines isn\'t drawn')
         acts.append(claims.act(text.decode('ascii', 'replace')))
     claims.end()
     return acts

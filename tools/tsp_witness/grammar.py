@@ -26,8 +26,25 @@ LINE = re.compile(f'(?:^|: )([1-9][0-9]*) 0 ([0-3]) ({NUMBER}) ({ACT})$')
 ALMOST = re.compile('(?:^|: )[1-9][0-9]* 0 [0-3] [0-9]+ ')
 # What a daemon's supervisor says of questions for its clock, and their answers, which it didn't hand on.
 LEFT_OUT = re.compile(r'(?:^|: )\.\.\. ([1-9][0-9]{0,18}) lines of supervisors left out$')
-START = re.compile(r'in the trace peer 0 is ([!-~]+)((?:, [1-9][0-9]* [!-~]+)*)$')
+# What it says of a counter that runs at another rate than the machine's wall clock, in parts in 10^9.
+APPLIED = re.compile(r'(?:^|: )tsp-launch: the daemon counts (-?[0-9]{1,7}) parts in 10\^9 faster than the machine$')
+START, STARTED = 'in the trace peer 0 is ', re.compile(r'([!-~]+)((?:, [1-9][0-9]{0,2} [!-~]+)*)')
+# No act's line is longer, and no line of a start that names 999 peers; longer ones are passed over.
+LONGEST, LONGEST_START = 1024, 300_000
+# A number of a trace has at most 64 bits.
+NUMBERS, MOST_NUMBER = re.compile('-?[0-9]+'), 2**64 - 1
 PEER_ACTS = ('back', 'backer', 'quit', 'join', 'leave', 'rival', 'acked', 'gave', 'sample', 'took')
+
+
+def started(line):
+    """The names in the line with which the launcher tells of a start, or None. (what is before it is looked at once, however long it is)"""
+    _, told, names = line.rpartition(START)
+    return STARTED.fullmatch(names) if told else None
+
+
+def is_too_great(text):
+    """Whether a line has a number that no daemon has."""
+    return any(len(number) > 21 or abs(int(number)) > MOST_NUMBER for number in NUMBERS.findall(text))
 
 
 def place_of_peer(words):

@@ -9,6 +9,32 @@ TICKETS = 32768
 NUMBERED = ('slaveup', 'election', 'conflict', 'quit', 'setdatereq')
 
 
+# What a journal has before a line, so many octets without a line of a trace, acts of one host, and notes of it, at most.
+BEFORE, MOST_OTHER, MOST_ACTS, MOST_NOTES = 256, 16 * 2**20, 1_000_000, 100
+
+
+class Lines:
+    """The lines of a file, and None for each that is too long, of which no more is kept than of others. `octets` were read so far."""
+
+    def __init__(self, file):
+        self.file, self.octets = file, 0
+
+    def part(self):
+        """The next line, or as much of it as one may have."""
+        line = self.file.readline(grammar.LONGEST_START)
+        self.octets += len(line)
+        return line
+
+    def __iter__(self):
+        line = self.part()
+        while line:
+            rest = line
+            while rest and not rest.endswith(b'\n') and self.octets <= 2 * MOST_OTHER:
+                rest = self.part()
+            yield line.decode('ascii', 'replace').rstrip('\r\n') if rest is line or not rest and len(line) < grammar.LONGEST_START else None
+            line = self.part()
+
+
 class Act:
     """A line of a daemon: its port and words, and whether the daemon wrote it, or it follows from the rules. `number` is that
     of its datagram in the schedule, where it is a post; `unseen` is how many posts before it the supervisor left out."""
@@ -32,10 +58,11 @@ class Turn:
 
 
 class Life:
-    """A daemon from its start to its end. `base` is its wall clock at its start, by which it counts; None where no line tells it."""
+    """A daemon from its start to its end. `base` is its wall clock at its start, by which it counts; None where no line tells it. `rate` is by how many
+    parts in 10^9 its counter is faster than that clock."""
 
-    def __init__(self, node, number):
-        self.node, self.number, self.turns = node, number, []
+    def __init__(self, node, number, rate=0):
+        self.node, self.number, self.rate, self.turns = node, number, rate, []
         self.base, self.first_tick, self.first_post, self.gaps = None, 0, 0, []
 
     def read_clock(self):
@@ -81,29 +108,54 @@ class Journal:
     """Reads the lines of one host's daemon into lives; `notes` say what couldn't be used."""
 
     def __init__(self, network, node):
-        self.network, self.node, self.lives, self.begins, self.notes, self.unseen = network, node, [], True, [], 0
+        self.network, self.node, self.lives, self.begins, self.unseen = network, node, [], True, 0
+        self.notes, self.untold, self.acts = [], 0, 0
+        self.rate = 0
 
     def read(self, path):
         """Reads a file, which begins another life."""
-        self.begins = True
-        with open(path, encoding='ascii', errors='replace') as lines:
+        self.begins, before = True, self.acts
+        with open(path, 'rb') as file:
+            lines = Lines(file)
             for number, line in enumerate(lines, 1):
-                self.line(line.rstrip('\r\n'), f'{path}:{number}')
+                place = f'{path}:{number}'
+                if line is None:
+                    self.note(f'{place}: this line is longer than any of a trace, and is passed over')
+                else:
+                    self.line(line, place)
+                if self.acts == before and lines.octets > MOST_OTHER:
+                    raise Unusable(f'{path}: no line of a trace is in its first {MOST_OTHER >> 20} MiB')
+
+    def note(self, text):
+        """Notes what can't be used, if there isn't too much of that."""
+        if len(self.notes) < MOST_NOTES:
+            self.notes.append(text)
+        else:
+            self.untold += 1
 
     def line(self, line, place):
         """One line: an act, what the launcher says at a start, or something else that is passed over."""
+        if len(line) > grammar.LONGEST + BEFORE:
+            if grammar.started(line):
+                self.check_peers(grammar.started(line), place)
+                self.begins = True
+            return
         found = grammar.LINE.search(line)
-        if found:
+        if found and grammar.is_too_great(found[0]):
+            self.note(f'{place}: this line has a number beyond 64 bits, and is passed over')
+        elif found:
             self.act(int(found[1]), int(found[3]), Act(int(found[2]), found[4].split(' '), unseen=self.unseen), place)
             self.unseen = 0
         elif grammar.LEFT_OUT.search(line):
             # (of each question there is the line that it was taken, and that of its answer)
             self.unseen += int(grammar.LEFT_OUT.search(line)[1]) // 2
         elif grammar.ALMOST.search(line):
-            self.notes.append(f'{place}: this line is cut or changed, and is passed over')
-        elif grammar.START.search(line):
-            self.check_peers(grammar.START.search(line), place)
-            self.begins = True
+            self.note(f'{place}: this line is cut or changed, and is passed over')
+        elif grammar.started(line):
+            self.check_peers(grammar.started(line), place)
+            self.begins, self.rate = True, 0
+        elif grammar.APPLIED.search(line):
+            self.rate = int(grammar.APPLIED.search(line)[1])
 
     def check_peers(self, found, place):
         """The launcher names the daemon's peers: they are those of the network."""
@@ -111,19 +163,22 @@ class Journal:
         wanted = ', '.join(f'{number} {self.network.names[peer.node]}' for number, peer in peers.items())
         told = f'0 {found[1]}{found[2]}'
         if told != wanted:
-            raise Unusable(f'{place}: the daemon was started with the peers {told}; by the hosts file they are {wanted}')
+            raise Unusable(f'{place}: the daemon was started with the peers {told[:200]}; by the hosts file they are {wanted[:200]}')
 
     def act(self, number, tick, act, place):
         """An act of the last turn, of a new one, or of a new life."""
         last = None if self.begins else self.lives[-1].turns[-1]
         if last is None or number < last.number or tick < last.tick:
-            self.lives.append(Life(self.node, len(self.lives)))
+            self.lives.append(Life(self.node, len(self.lives), self.rate))
             self.begins, last = False, None
         if last is None or number != last.number:
             last = Turn(self.lives[-1], number, tick, place)
             self.lives[-1].turns.append(last)
         self.check(act, last, tick, place)
         last.acts.append(act)
+        self.acts += 1
+        if self.acts > MOST_ACTS:
+            raise Unusable(f'{place}: there are more than {MOST_ACTS} acts, and no schedule has room for them')
 
     def check(self, act, turn, tick, place):
         """An act has its turn's tick, and a port and a peer that the daemon has."""
