@@ -161,7 +161,7 @@ def missed():
     """Corrections while the trace is off: a look finds them by what the daemon answers. A small one is slewed from then on, the page doesn't fall, and it
     shows what the daemon does once that is over; the next one that is traced makes both the same at once. A great one is a step."""
     writer, wall = Writer(os.path.join(FOLDER, 'missed')), 10 ** 15
-    keeper = Keeper(Still(), writer, ('127.0.0.1', 9), [('127.0.0.1', 9)], ['a', 'b'], 0, 100)
+    keeper = Keeper(Still(), writer, ('127.0.0.1', 9), [('127.0.0.1', 9)], ['a', 'b'], 100)
     begun = time.monotonic_ns() // 1000
     keeper.page, keeper.is_placed = keeper.page._replace(life=2, anchor=begun * 1000, target=wall, tick=0), True
     tick, clock, amount = 1_000_000, [], DRAW.choice([-1, 1]) * 15_000

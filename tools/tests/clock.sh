@@ -47,6 +47,6 @@ for words in '--reads 0' a '--most x'; do
     status=0
     # shellcheck disable=SC2086  # words
     tools/read-cost $words >"$out/text" 2>"$out/said" || status=$?
-    [ "$status" -eq 1 ] && [ "$(wc -l <"$out/said")" -eq 1 ] && [ ! -s "$out/text" ] || fail "'$words': status $status, $(cat "$out/said")"
+    [ "$status" -eq 2 ] && [ "$(wc -l <"$out/said")" -eq 1 ] && [ ! -s "$out/text" ] || fail "'$words': status $status, $(cat "$out/said")"
 done
 echo "$check: $(cat "$out/told")$tried; a read in C takes $(sed -n 's/.*, *\([0-9.]*\) times as long/\1/p' "$out/cost" | head -n 1) times as long as clock_gettime"

@@ -11,6 +11,6 @@ for words in '--hosts 1' '--rate 51' 'a b'; do
     status=0
     # shellcheck disable=SC2086  # words
     tools/intervals $words >"$out/text" 2>"$out/told" || status=$?
-    [ "$status" -eq 1 ] && [ "$(wc -l <"$out/told")" -eq 1 ] && [ ! -s "$out/text" ] || fail "'$words': status $status, $(cat "$out/told")"
+    [ "$status" -eq 2 ] && [ "$(wc -l <"$out/told")" -eq 1 ] && [ ! -s "$out/text" ] || fail "'$words': status $status, $(cat "$out/told")"
 done
 echo "$check: $(awk 'NR > 1 { sum += $2 } END { print sum }' "$out/said") readings of two hosts, none outside"

@@ -9,6 +9,6 @@ for words in '--rate 0' '--least 2' 'a b'; do
     status=0
     # shellcheck disable=SC2086  # words
     tools/readers $words >"$out/text" 2>"$out/told" || status=$?
-    [ "$status" -eq 1 ] && [ "$(wc -l <"$out/told")" -eq 1 ] && [ ! -s "$out/text" ] || fail "'$words': status $status, $(cat "$out/told")"
+    [ "$status" -eq 2 ] && [ "$(wc -l <"$out/told")" -eq 1 ] && [ ! -s "$out/text" ] || fail "'$words': status $status, $(cat "$out/told")"
 done
 echo "$check: $(awk '{ print $1, $6 }' "$out/said" | paste -sd ',' | sed 's/,/, /g')"
