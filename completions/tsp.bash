@@ -135,6 +135,14 @@ _tsp_now() {
     esac
 }
 
+_tsp_run() {
+    case $COMP_CWORD:$2 in
+    1:-*) mapfile -t COMPREPLY < <(compgen -W '--status --version --help' -- "$2") ;;
+    1:*) mapfile -t COMPREPLY < <(compgen -c -- "$2") ;;
+    *) _tsp_any_file "$2" ;;
+    esac
+}
+
 # (bash makes words of NAME, = and TRACE)
 _tsp_witness() {
     case $3 in
@@ -162,4 +170,5 @@ complete -o filenames -F _tsp_status tsp-status
 complete -o filenames -F _tsp_elect tsp-elect
 complete -o filenames -F _tsp_watch tsp-watch
 complete -o filenames -F _tsp_now tsp-now
+complete -o filenames -F _tsp_run tsp-run
 complete -o filenames -F _tsp_witness tsp-witness

@@ -15,7 +15,7 @@ text_of() {
     LC_ALL=C.UTF-8 MANWIDTH=240 man -P cat -l "$1" | sed 's/.\x08//g'
 }
 
-for tool in tsp-lint tsp-plot tsp-sim tsp-launch tsp-status tsp-elect tsp-watch tsp-now tsp-witness; do
+for tool in tsp-lint tsp-plot tsp-sim tsp-launch tsp-status tsp-elect tsp-watch tsp-now tsp-run tsp-witness; do
     page=$(echo "man/$tool".[1-8])
     "tools/$tool" --help | grep -o -e '--[a-z][a-z-]*' | sort -u >"$out/options"
     text_of "$page" | sed -n '/^OPTIONS/,/^EXIT STATUS/p' | grep -o -e '--[a-z][a-z-]*' | sort -u >"$out/told"

@@ -36,7 +36,7 @@ class Keeper:
         self.role, self.master, self.looked_at, self.looks = NOBODY, None, None, []
 
     def begin(self):
-        """Another life begins."""
+        """Another life begins. (the page has the last one, which is over, until the clock of this one is known)"""
         self.end()
         self.forget()
         self.page = self.page._replace(life=self.page.life + 1, steps=0, status=STALE, role=NOBODY, tick=0, target=0, rest=0, low=0, high=0, master=b'')

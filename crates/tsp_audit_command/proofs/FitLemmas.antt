@@ -29,4 +29,3 @@ module _ (fits : Event → Tally → Line2 → Type 0) (e : Event) where
   pub AllFit-so-far : (t : Tally) (lines : List Line2) → FitSoFar fits e t lines → lacks e (tallied t lines) ≡ false → AllFit fits e t lines
   AllFit-so-far t [] s none = none
   AllFit-so-far t (k ∷ rest) s none = (s.0, AllFit-so-far (counted t k.placed.act) rest s.1 none)
-

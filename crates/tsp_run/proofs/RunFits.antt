@@ -265,9 +265,8 @@ module _ {header : HeaderValue} {setting : Setting} (is : IsHeader header) (set 
 -- the history of every schedule fits, and ends where a step ends
 pub runs-fit : RunsFit
 runs-fit header setting events set s =
-    let r = ran s.header_is set events s.ranges s.valid in
-    (
+    let r = ran s.header_is set events s.ranges s.valid in (
       r.fits,
       λ n q. all_end (setup_of setting n q) (length (ports_on n (networks header))) q (of n (run header events)) (of_placed (networks header) n (run header events) r.placed)
-      (λ has. subst (λ k. StepEnds k (view q (of n (run header events)))) (setup_is header setting (rests n) (run header events) q set has) (ends_of (r.nodes n q has))),
+          (λ has. subst (λ k. StepEnds k (view q (of n (run header events)))) (setup_is header setting (rests n) (run header events) q set has) (ends_of (r.nodes n q has))),
     )

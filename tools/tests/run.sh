@@ -1,0 +1,92 @@
+#!/bin/sh
+# tsp-run leads programs by the network's shown time, while it slews and after the page is gone; and says why it can't.
+. "$(dirname "$0")/common.sh"
+export TSP_CLOCK="$out/page"
+unset TSP_FAKETIME
+
+# Writes a page whose clock is ahead by so many microseconds, of which so many are still to be slewed, with a status.
+cat >"$out/write" <<'END'
+import os, sys, time
+sys.path.insert(0, 'tools')
+import tsp_clock
+from tsp_daemon.page import Writer
+path, ahead, rest, status = sys.argv[1], *map(int, sys.argv[2:])
+now, tick = time.monotonic_ns(), 10 ** 12
+Writer(path).write(tsp_clock.Page(1, 0, status, 2, 0, now - now % 1000 - 1000 * tick, 0, 0, tick, time.time_ns() // 1000 + ahead, rest, tsp_clock.NEVER, tick, 0, 0, 100, b'a'))
+END
+page() { python3 -B "$out/write" "$out/page" "$@"; }
+
+# Wants this status and this line.
+refuses() {
+    wanted=$1 line=$2
+    shift 2
+    status=0
+    "$@" >"$out/said" 2>"$out/told" || status=$?
+    [ "$status" -eq "$wanted" ] && [ "$(cat "$out/told")" = "tsp-run: $line" ] || fail "'$*': status $status, $(cat "$out/told")"
+}
+refuses 2 'COMMAND, or --status (tsp-run --help says more)' tools/tsp-run
+refuses 2 'COMMAND, or --status (tsp-run --help says more)' tools/tsp-run --all
+export TSP_FAKETIME="$out/none"
+refuses 125 "there is no $out/none: install libfaketime, or name it by TSP_FAKETIME" tools/tsp-run true
+unset TSP_FAKETIME
+tools/tsp-run --help | grep -q '^usage: tsp-run ' || fail 'there is no help'
+
+page 7200000000 0 2
+status=0
+tools/tsp-run --status >"$out/said" 2>"$out/told" || status=$?
+if grep -q 'install libfaketime' "$out/told"; then
+    skip 'there is no libfaketime' 'a program under the time of the network'
+    echo "$check: it says what is missing"
+    exit
+fi
+[ "$status" -eq 0 ] && grep -qx "$out/page: synchronised, ahead by 7[12][09][09]\.[0-9]* s" "$out/said" || fail "status $status: $(cat "$out/said" "$out/told")"
+rm "$out/page"
+refuses 125 "there is no page of the network's time at $out/page" tools/tsp-run true
+page 0 0 1
+refuses 125 "$out/page: no master yet" tools/tsp-run true
+
+# A program's status, also by a signal, and one that isn't there or can't be run.
+page 7200000000 0 2
+refuses 127 "$out/none: No such file or directory" tools/tsp-run "$out/none"
+refuses 126 "$out/page: Permission denied" tools/tsp-run "$out/page"
+for case in 'exit 7=7' 'kill -TERM $$=143'; do
+    status=0
+    tools/tsp-run sh -c "${case%=*}" || status=$?
+    [ "$status" -eq "${case#*=}" ] || fail "'${case%=*}' ends with $status"
+done
+away=$(($(tools/tsp-run date +%s) - $(date +%s)))
+[ "$away" -ge 7195 ] && [ "$away" -le 7200 ] || fail "date is ahead by $away s"
+
+# What programs read is the page's shown time, within two milliseconds, while 15 ms are slewed, and doesn't fall; also when the page is no more.
+cat >"$out/compare" <<'END'
+import sys, time
+sys.path.insert(0, 'tools')
+import tsp_clock
+clock, worst, last, count = tsp_clock.Clock(), 0, 0, 0
+until = time.monotonic() + 2
+while time.monotonic() < until:
+    before, wall, after = clock.now(), time.time_ns() // 1000, clock.now()
+    if wall < last:
+        sys.exit(f'it falls by {last - wall} us')
+    if after.shown is not None and after.shown - before.shown < 500:
+        worst, count = max(worst, before.shown - wall, wall - after.shown), count + 1
+    last = wall
+    time.sleep(0.001)
+if worst > 2000 or count < 100:
+    sys.exit(f'{worst} us away, at {count} moments')
+print(worst, 'us at most at', count, 'moments')
+END
+for rest in 15000 -15000; do
+    page -3000000 "$rest" 2
+    tools/tsp-run python3 -B "$out/compare" >"$out/said" 2>"$out/told" || fail "$(cat "$out/told")"
+done
+first=$(tools/tsp-run sh -c 'date +%s%3N; rm "$TSP_CLOCK"; sleep 0.3; date +%s%3N')
+[ "$(echo "$first" | tail -n 1)" -ge "$(($(echo "$first" | head -n 1) + 300))" ] || fail 'the time falls when the page is gone'
+
+# make, under a clock that is behind.
+page -3000000000 0 2
+mkdir "$out/tree"
+printf 'all: b\nb: a\n\tcp a b && date +%%s >>times\na:\n\techo a >a && date +%%s >>times\n' >"$out/tree/Makefile"
+tools/tsp-run make -s -C "$out/tree" >"$out/made" 2>&1 || fail "make fails: $(cat "$out/made")"
+awk -v now="$(date +%s)" '{ if ($1 > now - 2990 || $1 < now - 3010 || $1 < last) exit 1; last = $1 }' "$out/tree/times" || fail "make ran at $(paste -sd ' ' "$out/tree/times")"
+echo "$check: programs under the time of the network, $(cat "$out/said")"
