@@ -88,7 +88,8 @@ _tsp_launch() {
     --file | -f | --output | -o) mapfile -t COMPREPLY < <(compgen -f -- "$2") ;;
     --self | -s) mapfile -t COMPREPLY < <(compgen -W "$(_tsp_hosts 2)" -- "$2") ;;
     --firewall) mapfile -t COMPREPLY < <(compgen -W 'nft systemd' -- "$2") ;;
-    --turns | --wait | -w | --spread | --rate) ;;
+    --turns | --wait | -w | --spread) ;;
+    --rate) mapfile -t COMPREPLY < <(compgen -W 'learn 0' -- "$2") ;;
     *)
         mapfile -t COMPREPLY < <(compgen -W '--print --list --lint --firewall --file --self --turns --wait --spread --rate --trace --supervise --output --program --version --help' -- "$2")
         ;;
@@ -118,8 +119,8 @@ _tsp_elect() {
 
 _tsp_watch() {
     case $(_tsp_before "$3"):$2 in
-    --prometheus:*) mapfile -t COMPREPLY < <(compgen -f -- "$2") ;;
-    *:-*) mapfile -t COMPREPLY < <(compgen -W '--json --prometheus --version --help' -- "$2") ;;
+    --prometheus:* | --learn:*) mapfile -t COMPREPLY < <(compgen -f -- "$2") ;;
+    *:-*) mapfile -t COMPREPLY < <(compgen -W '--json --prometheus --learn --version --help' -- "$2") ;;
     *) mapfile -t COMPREPLY < <(compgen -f -- "$2") ;;
     esac
 }

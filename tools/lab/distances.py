@@ -4,7 +4,7 @@ from typing import NamedTuple
 from lab.hosts import Failed
 from tsp_texts import history, schedule, trace
 
-MILLION = 1_000_000
+MILLION, BILLION = 10**6, 10**9
 
 
 class Distance(NamedTuple):
@@ -14,15 +14,18 @@ class Distance(NamedTuple):
 
 
 class KnownClocks:
-    """The clocks of a lab, which knows the rate and the wall clock of each host, in the place of what would be found of them."""
+    """The clocks of a lab, which knows the rate and the wall clock of each host, in the place of what would be found of them. Each host has one life."""
 
     def __init__(self, daemons, start):
-        self.rates, self.walls = [daemon.drift for daemon in daemons], [start + daemon.ahead for daemon in daemons]
+        self.daemons, self.rates, self.walls = daemons, [daemon.fast for daemon in daemons], [start + daemon.ahead for daemon in daemons]
         self.drift = max(map(abs, self.rates))
 
     def of(self, clocks, _count):
-        """Takes the place of what a story makes of the clocks that it finds."""
+        """Takes the place of what a story makes of the clocks that it finds. (a wall clock doesn't run by the rate of the daemon's counter, so that the
+        one that would is another one)"""
         self.bases = {life: life.base for life in clocks.matching.lives()}
+        for life, base in self.bases.items():
+            self.walls[life.node] -= (base - self.walls[life.node]) * self.daemons[life.node].rate // BILLION
         return self
 
     def tick(self, life, tick):

@@ -8,10 +8,12 @@ import signal
 import subprocess
 import sys
 import time
+from fractions import Fraction
 
 from lab import fast
 
 HERE = os.path.dirname(os.path.realpath(__file__))
+MILLION, BILLION = 10**6, 10**9
 # A wall clock's microseconds at which the words of daemons that start soon after make them wait little more than 300 s.
 START = 1_800_000_005_000_000
 PORT = 525
@@ -31,12 +33,18 @@ class Unlike(Failed):
 
 class Daemon:
     """A host: its name, whether it may be master, how many microseconds its wall clock is ahead, and by how many parts in a million
-    its clock is fast; `step` says when the wall clock is set, and by how much; `addresses` are those that it has, by network."""
+    its clock is fast; its daemon counts faster than that by `rate` parts in 10^9; `step` says when the wall clock is set, and by how much; `addresses` are those that it has, by network."""
 
-    def __init__(self, name, role, ahead=0, drift=0, spoils=None):
-        self.name, self.role, self.ahead, self.drift, self.spoils = name, role, ahead, drift, spoils
+    def __init__(self, name, role, ahead=0, drift=0, spoils=None, rate=0):
+        self.name, self.role, self.ahead, self.drift, self.spoils, self.rate = name, role, ahead, drift, spoils, rate
         self.step, self.addresses, self.local = (0, 0), {}, None
         self.process, self.trace = None, []
+
+    @property
+    def fast(self):
+        """By how many parts in a million its daemon's counter is fast."""
+        rate = Fraction(self.rate, BILLION)
+        return self.drift + (MILLION + self.drift) * rate
 
     @property
     def address(self):
@@ -83,6 +91,7 @@ class Lab:
         path = os.path.join(self.folder, f'{daemon.name}-{self.starts}.trace')
         at, step = daemon.step
         environment = self.environment(daemon.ahead, drift=daemon.drift, hold=1, spoil=daemon.spoils, at=at * 1000, step=step * 1000)
+        environment['TSP_RATE'] = str(daemon.rate)
         with open(path, 'wb') as trace:
             daemon.process = subprocess.Popen(words, stdout=trace, stderr=subprocess.DEVNULL, env=environment)
         daemon.trace.append(path)

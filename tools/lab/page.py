@@ -3,10 +3,12 @@ import math
 import os
 
 WIDTH, LEFT, TOP, STEP, FOOT = 760, 230, 60, 22, 40
+INTERVALS = '## The interval that programs read\n'
 MARKS, LOWEST, HIGHEST = (0.01, 0.1, 1, 10, 100), 0.01, 200
 TEXT = '''# How well it keeps time
 
-How far two corrected clocks are from each other, measured, beside what is promised of them. `tools/accuracy` wrote this page and its picture:
+How far two corrected clocks are from each other, measured, beside what is promised of them, and below that how narrow the interval is that programs read.
+`tools/accuracy` wrote this part and its picture:
 
 ```
 tools/accuracy --minutes {minutes} --rate {rate} --seed {seed} --jobs {jobs}
@@ -25,11 +27,14 @@ knows neither: {judged}.
 - **promised**: what is promised of these two at that moment: their samples' errors, and the drift since these were taken, twice.
 - **most**: the greatest part of what was promised that any two clocks came to, at any moment.
 
+**learned** are the same networks once more, for as long, whose daemons count with the rates that their traces of the first run gave, as after a restart. **rates** is
+by how many parts in a million the counters that differ most do so then.
+
 The simulations are runs of `tsp-sim` with as many nodes and as much drift, whose datagrams are on their way for the daemons' least error, and up to the jitter
 besides. Jitter, errors and distances are milliseconds.
 
-| hosts | drift | jitter | daemons: error | apart | promised | most | simulated: error | apart | promised | most |
-|---|---|---|---|---|---|---|---|---|---|---|
+| hosts | drift | jitter | daemons: error | apart | promised | most | learned: error | apart | rates | simulated: error | apart | promised | most |
+|---|---|---|---|---|---|---|---|---|---|---|---|---|---|
 {rows}
 
 ![What was measured and what was promised](accuracy.svg)
@@ -53,9 +58,12 @@ def name_of(case):
 def row(case):
     """A case as a line of the table."""
     cells = [str(case['hosts']), str(case['drift']), f'{case["jitter"] / 1000:g}']
-    for kind in 'daemons', 'simulated':
+    for kind in 'daemons', 'learned', 'simulated':
         told = case[kind]
-        cells += [milliseconds(told['error']), milliseconds(told['apart']), milliseconds(told['promised']), f'{told["part"]:.0%}']
+        if kind == 'learned':
+            cells += [milliseconds(told['error']), milliseconds(told['apart']), f'{told["rates"]:.2f}'] if told else ['-'] * 3
+        else:
+            cells += [milliseconds(told['error']), milliseconds(told['apart']), milliseconds(told['promised']), f'{told["part"]:.0%}']
     return '| ' + ' | '.join(cells) + ' |'
 
 
@@ -114,10 +122,22 @@ def time_of(given):
     return f'for {given.minutes} minutes' if given.rate == 1 else f'for {given.minutes} minutes of its own time, which runs {given.rate} times as fast'
 
 
+def below(path):
+    """What other measurements wrote below those of this page."""
+    try:
+        with open(path, encoding='utf-8') as file:
+            _, heading, text = file.read().partition(INTERVALS)
+    except FileNotFoundError:
+        return ''
+    return '\n' + heading + text if heading else ''
+
+
 def write(folder, cases, given):
-    """Writes the page and its picture."""
+    """Writes the page and its picture. What stands below the heading of the intervals stays."""
+    path = os.path.join(folder, 'ACCURACY.md')
+    rest = below(path)
     told = {'rows': '\n'.join(map(row, cases)), 'sums': sums(cases), 'judged': judged(cases), 'time': time_of(given)}
-    with open(os.path.join(folder, 'ACCURACY.md'), 'w', encoding='utf-8') as file:
-        file.write(TEXT.format(minutes=given.minutes, rate=given.rate, seed=given.seed, jobs=given.jobs, **told))
+    with open(path, 'w', encoding='utf-8') as file:
+        file.write(TEXT.format(minutes=given.minutes, rate=given.rate, seed=given.seed, jobs=given.jobs, **told) + rest)
     with open(os.path.join(folder, 'accuracy.svg'), 'w', encoding='utf-8') as file:
         file.write(picture(cases))

@@ -112,6 +112,37 @@ ends 0 --prometheus "$out/metrics"
 grep -qxF 'tsp_daemon_rate_ppm -50.0' "$out/metrics" || fail "a slave's own rate is '$(grep rate "$out/metrics")'"
 cp "$out/metrics" "$out/slaves"
 
+# A counter's rate is learned of what corrections add up to: 12 ms in 240 s are 50 parts in a million, to which comes what the launcher says
+# that the daemon has. A clock that is set, an amount that no rate explains, and another master begin anew. It is kept in a file.
+{ echo 'tsp-launch: in the trace peer 0 is b, 1 a, 2 c'; echo 'tsp-launch: the daemon counts -7000 parts in 10^9 faster than the machine'
+    echo '5 0 0 1000000 become follow 1'; for round in $(seq 40); do
+    tick=$((1000000 + round * 240000000)) amount=12000 word="adjtime $round"
+    case $round in 5) word="settime $round" ;; 6) amount=900000 ;; 30) printf '%s\n' "$round 0 0 $((tick - 9)) become follow 2" ;; esac
+    printf '%s\n' "$round 0 0 $tick took 1 $word $amount a" "$round 0 0 $tick correct $amount slew 1795803775398554"
+done; } >"$out/learning"
+input=$out/learning
+ends 0 --learn "$out/rate"
+grep -o '^.* the counter needs .*' "$out/said" >"$out/needs"
+mv "$out/needs" "$out/said"
+says '961.000 the counter needs +43.000 parts in a million, give or take 0.006, and has -7.000' \
+    '2401.000 the counter needs +43.000 parts in a million, give or take 0.003, and has -7.000' \
+    '2641.000 the counter needs +43.000 parts in a million, give or take 0.002, and has -7.000' \
+    '3361.000 the counter needs +43.000 parts in a million, give or take 0.001, and has -7.000' \
+    '5041.000 the counter needs +43.000 parts in a million, give or take 0.001, and has -7.000'
+[ "$(head -n 1 "$out/rate")" = '43000 1' ] || fail "the file has $(head -n 1 "$out/rate")"
+[ "$(cat "$out/told")" = "tsp-watch: $out/rate: nothing is learned of the counter's rate yet" ] || fail "it tells $(cat "$out/told")"
+ends 0 --prometheus "$out/metrics"
+cp "$out/metrics" "$out/learned"
+grep -qxF 'tsp_daemon_counter_learned_ppm 43.000' "$out/learned" || fail "the metrics have $(grep counter_ "$out/learned")"
+for text in '' '1000001 5' '5' '5 -1' 'x y' '5 6 7'; do
+    printf '%s\n' "$text" >"$out/rate"
+    ends 0 --learn "$out/rate"
+    [ "$(cat "$out/told")" = "tsp-watch: $out/rate: it has no rate from -1000000 to 1000000, and its error; the rate is 0" ] || fail "'$text': $(cat "$out/told")"
+done
+ends 0 --learn "$out/none/rate"
+grep -qxF "tsp-watch: what is learned isn't kept: $out/none/rate: No such file or directory" "$out/told" || fail "it tells $(cat "$out/told")"
+[ "$(wc -l <"$out/told")" -eq 2 ] || fail "it tells $(cat "$out/told")"
+
 # Metrics: a file that is always whole, and nothing beside it.
 input=$trace
 ends 0 --prometheus "$out/metrics"
@@ -125,7 +156,7 @@ done
 [ "$(find "$out" -name '.metrics*' | wc -l)" -eq 0 ] || fail 'something is left beside the file'
 
 # The page names the metrics that there are, and no others.
-cat "$out/metrics" "$out/slaves" "$out/masters" | sed -n 's/^# TYPE \([a-z_]*\) .*/\1/p' | sort -u >"$out/there"
+cat "$out/metrics" "$out/slaves" "$out/masters" "$out/learned" | sed -n 's/^# TYPE \([a-z_]*\) .*/\1/p' | sort -u >"$out/there"
 grep -o 'tsp_daemon_[a-z_]*' man/tsp-watch.1 | sort -u | diff - "$out/there" >"$out/differ" || fail "the page has other metrics: $(cat "$out/differ")"
 
 # Lines come out as they come in, while the input goes on.

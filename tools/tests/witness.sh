@@ -125,6 +125,10 @@ before=$(sed '/ ring window$/,$d' "$given/stepped/a-1.trace" | cat - "$given/ste
 wants 1 "$before acts alike, holds" stepped "$given/stepped"
 tells 'b (start 2): its wall clock had been stepped by 500'
 
+# A host whose counter had a rate, and that was started again: likewise, and that is said.
+wants 1 '191 acts alike, holds' rated "$given/rated" --drift 1000
+tells 'c (start 2): its counter was 1000000 parts in 10^9 faster than its wall clock'
+
 # A daemon changed an octet of a datagram on its way out: it is named, with what it posted. By what came all is as it should be.
 wants 1 "$(written "$given/spoiled") acts alike, holds" spoiled "$given/spoiled"
 tells 'took "adjtime 24980 5431 b" of b' 'it posted "adjtime 24980 5430 b"'

@@ -13,21 +13,21 @@ MAXADJ = 20_000_000
 
 
 def after_correction(page, tick, amount, is_step, shown):
-    """A page after a correction at a tick, by what the clock shows then: the target follows from that and from what is still to be slewed. To a clock
-    that leads the master's is no other one, and from any other it is as much farther, the other way."""
-    rest = 0 if is_step else page.target_at(tick) - page.shown_at(tick) + amount
+    """A page after a correction at a tick, by what the clock shows then. To a clock that leads the master's is no other one, and from any other it is as
+    much farther, the other way. (a correction that wasn't seen leaves the page's shown value another one than the clock's, but not its target)"""
+    target = shown if is_step else page.target_at(tick) + amount
     apart = 0 if page.role == LEADS else amount
-    return page._replace(tick=tick, target=shown + rest, rest=rest, steps=page.steps + is_step, low=page.low - apart, high=page.high - apart)
+    return page._replace(tick=tick, target=target, rest=target - shown, steps=page.steps + is_step, low=page.low - apart, high=page.high - apart)
 
 
 class Keeper:
     """A page, and what is known for it. `peers` are the addresses of peers 1, 2 and so on, and `names` all names from the own on."""
 
-    def __init__(self, loop, writer, own, peers, names, rate, drift):
+    def __init__(self, loop, writer, own, peers, names, drift):
         self.loop, self.writer, self.peers, self.names = loop, writer, peers, names
         self.stamps = Stamps(loop)
         self.own = OwnDaemon(loop, self.stamps, own)
-        self.page = writer.last._replace(rate=rate, drift=drift)
+        self.page = writer.last._replace(drift=drift)
         self.forget()
 
     def forget(self):
@@ -35,11 +35,11 @@ class Keeper:
         self.anchor, self.until, self.is_placed, self.is_corrected = None, None, False, False
         self.role, self.master, self.looked_at, self.looks = NOBODY, None, None, []
 
-    def begin(self):
-        """Another life begins. (the page has the last one, which is over, until the clock of this one is known)"""
+    def begin(self, rate):
+        """Another life begins, in which the daemon counts with this rate. (the page has the last one, which is over, until the clock of this one is known)"""
         self.end()
         self.forget()
-        self.page = self.page._replace(life=self.page.life + 1, steps=0, status=STALE, role=NOBODY, tick=0, target=0, rest=0, low=0, high=0, master=b'')
+        self.page = self.page._replace(life=self.page.life + 1, rate=rate, steps=0, status=STALE, role=NOBODY, tick=0, target=0, rest=0, low=0, high=0, master=b'')
 
     def end(self):
         """The daemon runs no more."""

@@ -15,8 +15,8 @@ ROOM, SET_PIPE_SIZE = 1 << 20, 1031
 MUCH, GATHERING = 8192, 0.003
 # A line of a trace has less; more without a line feed is no line.
 LONGEST = 4096
-TELLING = (b' become ', b' correct ', b' trace ')
-TOLD = re.compile(rb'^[0-9]+ 0 [0-3] [0-9]+ (?:become|correct|trace) .*$', re.MULTILINE)
+TELLING = (b' become ', b' close ', b' correct ', b' settime ', b' trace ')
+TOLD = re.compile(rb'^[0-9]+ 0 [0-3] [0-9]+ (?:become|close|correct|trace|took [0-9]+ settime) .*$', re.MULTILINE)
 TRACE_ON = octets_of(('traceon', '1', 'tsp-launch'))
 # How many seconds a daemon that starts is given for an answer before it is asked again, and how long one whose trace was switched off stays so.
 ASKING, AGAIN = 0.1, 1
@@ -30,7 +30,7 @@ class Serving:
     def __init__(self, loop, words, names, listener):
         self.loop, self.listener, self.rest = loop, listener, b''
         self.is_traced, self.asked_at, self.started = False, -AGAIN, loop.now()
-        self.state = state.Daemon()
+        self.state = state.Daemon(listener.learning)
         self.state.names = dict(enumerate(names))
         self.state.ports = {number: state.Port('starting') for number in range(1 + words.count('+'))}
         self.address = hosts.pair_of(hosts.asked_at(words[2]))

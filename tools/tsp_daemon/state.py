@@ -2,7 +2,7 @@
 from dataclasses import dataclass, field
 from typing import Dict, List, Optional
 
-from tsp_daemon import rates, trace
+from tsp_daemon import learn, rates, trace
 
 ROLES = ('starting', 'loose', 'follow', 'candidate', 'master')
 # Alarms that only a node with this role has; where a trace is read from its middle, they tell the role.
@@ -74,10 +74,10 @@ class Counts:
 
 class Daemon:
     """A daemon: its ports, its peers by their numbers, its last correction, what it was late with, when a QUIT came, and whom it voted for last
-    and when."""
+    and when; and what is learned of its counter."""
 
-    def __init__(self):
-        self.counts = Counts()
+    def __init__(self, learning: Optional[learn.Learning] = None):
+        self.counts, self.learning = Counts(), learning or learn.Learning()
         self.names, self.said = {}, {}
         self.begin()
 
@@ -110,18 +110,32 @@ class Daemon:
         if names:
             self.begin()
             self.names = dict(enumerate(names))
+            self.learning.begin(0)
             return [Change(0, 0, 'start', {'name': names[0], 'peers': names[1:]})]
         act = trace.act_of(line)
         if act is None:
+            applied = trace.applied_of(line)
+            if applied is not None:
+                self.learning.begin(applied)
             return []
         if act.node:
             raise NoDaemon
         self.counts.lines += 1
         if act.tick < self.tick:
             self.begin()
+            self.learning.anew()
         self.tick = act.tick
         call = getattr(self, f'on_{act.word}', None)
-        return [Change(act.tick, act.port, kind, values) for kind, values in (call(act, *act.parts) if call else ())]
+        changes = [Change(act.tick, act.port, kind, values) for kind, values in (call(act, *act.parts) if call else ())]
+        return changes + self.learned(act, changes) if changes else changes
+
+    def learned(self, act, changes):
+        """What is learned by changes, where it is another estimate than before."""
+        is_set = self.took is not None and self.took[0] == act.turn and self.took[2] == 'settime'
+        if not any([self.learning.change(change, is_set) for change in changes]):
+            return []
+        found = self.learning.found
+        return [Change(act.tick, act.port, 'learned', {'learned_ppb': found.rate, 'error_ppb': found.error, 'applied_ppb': self.learning.applied})]
 
     def port(self, act):
         """The port of an act."""

@@ -11,7 +11,7 @@ import sys
 
 sys.dont_write_bytecode = True
 sys.path.insert(0, os.path.dirname(os.path.dirname(os.path.realpath(__file__))))
-from tsp_daemon import hosts, machine, sockets, usage, views  # noqa: E402
+from tsp_daemon import hosts, learn, machine, sockets, usage, views  # noqa: E402
 from tsp_daemon.keeper import Keeper  # noqa: E402
 from tsp_daemon.loop import Loop  # noqa: E402
 from tsp_daemon.outlet import Outlet  # noqa: E402
@@ -28,9 +28,9 @@ DONE, NO_WORDS, BAD_WALL, NO_NETWORK = 0, 1, 2, 5
 MOST_SAID = 65536
 # By how many parts in a million counters may be wrong, where nobody says that.
 DRIFT = 100
-# Seconds: between two looks at the machine, between two starts at least, between two tries at most, after which a daemon has held, and for
-# the last lines.
-LOOK, APART, LONGEST_PAUSE, HELD, LAST_LINES = 0.5, 1, 60, 60, 0.3
+# Seconds: between two looks at the machine, by how many the alarm for its waking is later, between two starts at least, between two tries at most,
+# after which a daemon has held, and for the last lines.
+LOOK, WAKING, APART, LONGEST_PAUSE, HELD, LAST_LINES = 0.5, 0.1, 1, 60, 60, 0.3
 
 
 class Supervisor:
@@ -46,8 +46,13 @@ class Supervisor:
         self.systemd = Systemd(self.loop, self.say)
         self.reload = Reload(self.loop, words, self.say, self.begin_anew)
         self.serving = self.sleep = self.final = None
+        self.alarm = machine.Alarm()
+        if self.alarm.file is not None:
+            self.loop.watch(self.alarm.file, self.look)
         self.has_answered, self.was_switched, self.pause, self.started, self.left_out = False, False, APART, -APART, 0
         self.keeper = self.kept()
+        # (where the rate is to be learned)
+        self.learned = learn.Kept(learn.path_of(), self.say) if os.environ.get('TSP_RATE') == learn.WORD else None
 
     def kept(self):
         """What keeps the page of the network's time, where there is a place for it."""
@@ -62,7 +67,12 @@ class Supervisor:
         peers = [hosts.pair_of(word) for word in self.words[6:] if word != '+']
         names = self.names or [self.words[3], *self.words[6:]]
         own = hosts.pair_of(hosts.asked_at(self.local))
-        return Keeper(self.loop, writer, own, peers, names, int(os.environ.get('TSP_RATE', 0)), int(os.environ.get('TSP_DRIFT', DRIFT)))
+        return Keeper(self.loop, writer, own, peers, names, int(os.environ.get('TSP_DRIFT', DRIFT)))
+
+    @property
+    def learning(self):
+        """What is learned of the counter, where that is asked for."""
+        return self.learned.learning if self.learned else None
 
     def say(self, text):
         """A line on standard error, for which nobody waits."""
@@ -97,14 +107,23 @@ class Supervisor:
             peers = ''.join(f', {number} {name}' for number, name in enumerate(self.names) if number)
             self.say(f'in the trace peer 0 is {self.names[0]}{peers}')
         self.sleep, self.started = machine.Sleep(), self.loop.now()
+        rate = self.apply_rate()
         if self.keeper:
-            self.keeper.begin()
+            self.keeper.begin(rate)
         try:
             self.serving = Serving(self.loop, self.words, self.names, self)
         except OSError as fault:
             self.give_up(f'{self.words[0]}: {fault.strerror}', usage.BAD_FILE)
             return
         self.look()
+
+    def apply_rate(self):
+        """The rate with which the daemon that starts is to count. It reads that from the environment."""
+        rate = self.learned.begin() if self.learned else int(os.environ.get('TSP_RATE', 0))
+        os.environ['TSP_RATE'] = str(rate)
+        if rate:
+            self.say(f'the daemon counts {rate} parts in 10^9 faster than the machine')
+        return rate
 
     def hear(self, lines, left_out, ticks):
         """Hands lines on. The questions of supervisors are left out, and only counted."""
@@ -122,13 +141,15 @@ class Supervisor:
             self.note_trace(change.values['trace'] == 'on')
         if self.has_answered:
             self.systemd.tell('READY=1', f'STATUS={views.summary(self.serving.state)}')
+        if change.kind == 'learned' and self.learned:
+            self.learned.write()
         if not self.keeper:
             return
         if change.kind == 'correction':
             self.keeper.corrected(change.tick, *(change.values[name] for name in ('amount_us', 'way', 'shown_us')))
         elif change.kind == 'role':
             self.keeper.changed(self.serving.state)
-        elif change.values['trace'] == 'on':
+        elif change.kind == 'trace' and change.values['trace'] == 'on':
             self.keeper.traced()
 
     def note_trace(self, is_on):
@@ -141,7 +162,8 @@ class Supervisor:
         self.has_answered = self.has_answered or is_on
 
     def look(self):
-        """Looks at the daemon and at what it stands on, twice a second."""
+        """Looks at the daemon and at what it stands on, twice a second, and at once when the machine wakes."""
+        self.alarm.set(0)
         if self.serving is None:
             return
         status, slept = self.serving.status(), self.sleep.seconds()
@@ -155,6 +177,7 @@ class Supervisor:
             self.begin_again(f'the machine slept for {slept:.0f} s, in which the daemon didn\'t count')
         else:
             self.loop.after('watch', LOOK, self.look)
+            self.alarm.set(LOOK + WAKING)
 
     def end_daemon(self):
         """Ends the daemon, if it runs."""
@@ -177,6 +200,8 @@ class Supervisor:
         self.say('the hosts file changed what the daemon is started with; it is started again')
         for outlet in (self.lines, self.errors):
             outlet.flush(LAST_LINES)
+        if self.learned:
+            os.environ['TSP_RATE'] = learn.WORD
         self.reload.begin_anew()
 
     def wait_for_address(self):

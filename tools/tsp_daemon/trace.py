@@ -11,6 +11,9 @@ LINE = re.compile(r'(?:^|: )([1-9][0-9]{0,18}) ([0-9]{1,3}) ([0-3]) ([0-9]{1,19}
 # What tsp-launch says of the peers' numbers.
 NAMES = re.compile(r'in the trace peer (0 is [A-Za-z0-9._-]+(?:, [0-9]{1,3} [A-Za-z0-9._-]+)*)$')
 
+# What it says of a counter with a rate.
+APPLIED = re.compile(r'the daemon counts (-?[0-9]{1,7}) parts in 10\^9 faster than the machine$')
+
 ALARM = '(quiet|search|elect|window|probe|close|resolve|round)'
 NUMBER = '(-?[0-9]{1,19})'
 VALUE = re.compile(NUMBER)
@@ -61,6 +64,12 @@ def names_of(line: str) -> Optional[List[str]]:
 def text_of(line: bytes) -> str:
     """A line as text that any stream and any file takes."""
     return line.decode('ascii', 'backslashreplace')
+
+
+def applied_of(line: str) -> Optional[int]:
+    """The rate with which the daemon counts, where tsp-launch says it in this line."""
+    found = APPLIED.search(line)
+    return int(found[1]) if found else None
 
 
 class Lines:

@@ -32,6 +32,7 @@ TEXTS = {
     'quit': '{peer} tells it to give way',
     'gave': '{peer} doesn\'t acknowledge',
     'late': 'late for {alarm}',
+    'learned': 'the counter needs {learned_ppb} parts in a million, give or take {error_ppb}, and has {applied_ppb}',
     'trace': 'the trace is {trace}',
 }
 
@@ -64,6 +65,8 @@ def value_text(name, value):
         return time_text(value)
     if name in SIGNED:
         return signed(value)
+    if name.endswith('_ppb'):
+        return learned_text(value, name != 'error_ppb')
     if name.endswith('_ppm'):
         return f'{value:+.1f}' if name == 'rate_ppm' else f'{value:.1f}'
     return milliseconds(value) if name.endswith('_us') else WAYS.get(value, ALARMS.get(value, value))
@@ -141,6 +144,18 @@ def rate_text(rate):
     return f'{rate.value:+.1f} parts in a million, as its corrections of the last {span(rate.seconds * 1e6)} say'
 
 
+def learned_text(rate, is_signed=True):
+    """A rate in parts in 10^9, in parts in a million."""
+    return f'{rate / 1000:{"+" if is_signed else ""}.3f}'
+
+
+def counter_text(learning):
+    """What the counter has, and what it needs."""
+    found = learning.found
+    needs = f'needs {learned_text(found.rate)}, give or take {learned_text(found.error, False)}' if found else 'nothing is learned yet'
+    return f'has {learned_text(learning.applied)} parts in a million, and {needs}'
+
+
 def screen(daemon, now):
     """The lines of a screen: the state as it is at this tick."""
     lines = [f'{daemon.own_name or "a daemon"}, {span(now)} after its start' + ('' if daemon.is_traced else '; its trace is off')]
@@ -151,6 +166,8 @@ def screen(daemon, now):
     lines += ['correction   ' + correction_text(daemon, now), 'late         ' + late_text(daemon, now)]
     if daemon.finder.rate:
         lines.append('rate         ' + rate_text(daemon.finder.rate))
+    if daemon.learning.found or daemon.learning.applied:
+        lines.append('counter      ' + counter_text(daemon.learning))
     rows = list(peer_rows(daemon, now))
     widths = [max(map(len, column)) for column in zip(*rows)]
     if len(rows) > 1:
@@ -178,6 +195,18 @@ def role_metrics(daemon):
             if alarm in port.alarms:
                 due.add(metrics.seconds(port.alarms[alarm]), port=number, alarm=alarm)
     return [role, slaves, rivals, due]
+
+
+def learning_metrics(learning):
+    """Metrics of the counter's rate."""
+    applied = metrics.Metric('tsp_daemon_counter_applied_ppm', 'By how many parts in a million the daemon counts faster than the machine.')
+    learned = metrics.Metric('tsp_daemon_counter_learned_ppm', 'By how many parts in a million it would have to, by what is learned of its corrections.')
+    error = metrics.Metric('tsp_daemon_counter_error_ppm', 'How far that may be wrong.')
+    applied.add(learned_text(learning.applied, False))
+    if learning.found:
+        learned.add(learned_text(learning.found.rate, False))
+        error.add(learned_text(learning.found.error, False))
+    return [applied, learned, error]
 
 
 def prometheus(daemon):
@@ -212,4 +241,4 @@ def prometheus(daemon):
                               ('unanswered', 'Sends that no peer acknowledged.', daemon.counts.unanswered)):
         counts.append(metrics.Metric(f'tsp_daemon_{name}_total', text, 'counter'))
         counts[-1].add(value)
-    return metrics.text_of([tick, *role_metrics(daemon), offset, error, rate, wrong, sent, own, amount, shown, *counts])
+    return metrics.text_of([tick, *role_metrics(daemon), offset, error, rate, wrong, sent, own, *learning_metrics(daemon.learning), amount, shown, *counts])

@@ -2,7 +2,7 @@
 from tsp_texts import schedule
 from tsp_witness import Unusable, times
 
-MILLION = 1_000_000
+MILLION, BILLION = 10**6, 10**9
 
 
 class Clocks:
@@ -58,10 +58,11 @@ class Clocks:
         ways = [way for way in (pair, pair[::-1]) if way in self.bounds.hulls]
         return sum(self.bounds.bound(way, self.fit.rates) for way in ways) if len(ways) == 2 else 0
 
-    def step(self, first, later):
-        """How much later a life of a host began than by its wall clock and that of its first life."""
+    def step(self, first, later, faster=0):
+        """How much later a life of a host began than by its wall clock and that of its first life, whose counter is so many parts in 10^9 faster."""
         one, other = self.clock(first), self.clock(later)
-        return self.fit.offsets[other] - self.fit.offsets[one] - times.stretched(self.begun[other] - self.begun[one], self.fit.rates[one])
+        rate = (MILLION + self.fit.rates[one]) / (1 + faster / BILLION) - MILLION
+        return self.fit.offsets[other] - self.fit.offsets[one] - times.stretched(self.begun[other] - self.begun[one], rate)
 
 
 class Placing:

@@ -26,6 +26,8 @@ LINE = re.compile(f'(?:^|: )([1-9][0-9]*) 0 ([0-3]) ({NUMBER}) ({ACT})$')
 ALMOST = re.compile('(?:^|: )[1-9][0-9]* 0 [0-3] [0-9]+ ')
 # What a daemon's supervisor says of questions for its clock, and their answers, which it didn't hand on.
 LEFT_OUT = re.compile(r'(?:^|: )\.\.\. ([1-9][0-9]{0,18}) lines of supervisors left out$')
+# What it says of a counter that runs at another rate than the machine's wall clock, in parts in 10^9.
+APPLIED = re.compile(r'(?:^|: )tsp-launch: the daemon counts (-?[0-9]{1,7}) parts in 10\^9 faster than the machine$')
 START, STARTED = 'in the trace peer 0 is ', re.compile(r'([!-~]+)((?:, [1-9][0-9]{0,2} [!-~]+)*)')
 # No act's line is longer, and no line of a start that names 999 peers; longer ones are passed over.
 LONGEST, LONGEST_START = 1024, 300_000

@@ -58,10 +58,11 @@ class Turn:
 
 
 class Life:
-    """A daemon from its start to its end. `base` is its wall clock at its start, by which it counts; None where no line tells it."""
+    """A daemon from its start to its end. `base` is its wall clock at its start, by which it counts; None where no line tells it. `rate` is by how many
+    parts in 10^9 its counter is faster than that clock."""
 
-    def __init__(self, node, number):
-        self.node, self.number, self.turns = node, number, []
+    def __init__(self, node, number, rate=0):
+        self.node, self.number, self.rate, self.turns = node, number, rate, []
         self.base, self.first_tick, self.first_post, self.gaps = None, 0, 0, []
 
     def read_clock(self):
@@ -109,6 +110,7 @@ class Journal:
     def __init__(self, network, node):
         self.network, self.node, self.lives, self.begins, self.unseen = network, node, [], True, 0
         self.notes, self.untold, self.acts = [], 0, 0
+        self.rate = 0
 
     def read(self, path):
         """Reads a file, which begins another life."""
@@ -151,7 +153,9 @@ class Journal:
             self.note(f'{place}: this line is cut or changed, and is passed over')
         elif grammar.started(line):
             self.check_peers(grammar.started(line), place)
-            self.begins = True
+            self.begins, self.rate = True, 0
+        elif grammar.APPLIED.search(line):
+            self.rate = int(grammar.APPLIED.search(line)[1])
 
     def check_peers(self, found, place):
         """The launcher names the daemon's peers: they are those of the network."""
@@ -165,7 +169,7 @@ class Journal:
         """An act of the last turn, of a new one, or of a new life."""
         last = None if self.begins else self.lives[-1].turns[-1]
         if last is None or number < last.number or tick < last.tick:
-            self.lives.append(Life(self.node, len(self.lives)))
+            self.lives.append(Life(self.node, len(self.lives), self.rate))
             self.begins, last = False, None
         if last is None or number != last.number:
             last = Turn(self.lives[-1], number, tick, place)

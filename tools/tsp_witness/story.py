@@ -105,22 +105,24 @@ class Story:
             f'{clocks.at(turn.post.turn) - clocks.at(turn):.0f} us before it left {self.turn_name(turn.post.turn)}, or another one likewise'
 
     def ends_at_step(self):
-        """Ends the story before a start at which a host's wall clock had been stepped, where that is why no times fit; says whether it
-        is: a schedule has one wall clock for each node."""
+        """Ends the story before a start at which a host's wall clock had been stepped, or was another one than its counter, where that is why no
+        times fit; says whether it is: a schedule has one clock for each node."""
         apart = Clocks(self.matching, self.most, apart=True)
         steps = {life: apart.step(journal.lives[0], life) for journal in self.journals.values() for life in journal.lives[1:] if life.base is not None}
         if apart.fit.least < 0 or not steps:
             return False
         stepped = max(steps, key=lambda life: abs(steps[life]))
         begun, lines = apart.fit.offsets[apart.clock(stepped)], 0
-        name = self.name(stepped)
+        name, first = self.name(stepped), self.journals[stepped.node].lives[0]
+        is_set = abs(apart.step(first, stepped, first.rate)) > abs(steps[stepped]) / 2
+        why = f'its wall clock had been stepped by {-steps[stepped]:.0f} us, and a schedule has one for each node' if is_set else \
+            f'its counter was {first.rate} parts in 10^9 faster than its wall clock, and a schedule has one for both'
         for life in self.matching.lives():
             lines += sum(len(turn.acts) for turn in life.turns if apart.at(turn) >= begun)
             life.turns = [turn for turn in life.turns if apart.at(turn) < begun]
         for journal in self.journals.values():
             journal.lives = [life for life in journal.lives if life.turns]
-        self.journals[stepped.node].notes.append(f'{name}: its wall clock had been stepped by {-steps[stepped]:.0f} us, and a schedule has one for each '
-                                                 f'node: the {lines} lines from there on aren\'t witnessed')
+        self.journals[stepped.node].notes.append(f'{name}: {why}: the {lines} lines from there on aren\'t witnessed')
         return True
 
     def note_faults(self):

@@ -1,0 +1,198 @@
+"""The rate of a daemon's counter against its network's, as the daemon's own corrections tell it, and the file in which that is kept.
+
+Rates are whole parts in 10^9, by which a counter is to be faster than the machine's. Corrections add up: what a clock was corrected by between two
+rounds, over the time between, is what its counter lacks, and only the errors of the first and the last measurement are in it.
+"""
+import itertools
+import os
+import re
+from statistics import median
+from typing import List, NamedTuple, Optional
+
+from tsp_texts import tool
+
+# Where what is learned is kept, unless TSP_LEARN says another place; and what TSP_RATE is then.
+PATH, WORD = '/var/lib/tsp/rate', 'learn'
+BILLION = 1_000_000_000
+# The greatest rate, and that of a counter which is taken for one that counts.
+MOST_RATE = 1_000_000
+# An estimate is over so many microseconds at least, and the last so many of them count: those of a day.
+HOUR, DAY = 3_600_000_000, 24
+# Before an hour is over, so many corrections give an estimate.
+FEWEST = 4
+# A correction that is greater than any rate explains, by more than clocks of a group are apart, is none of a rate.
+APART = 20_000
+# Hours whose error is so many times the usual one don't count; and so great a part of the others lies within the error.
+TIMES, PART = 3, 0.9
+LINE, LONGEST_FILE = re.compile('(-?[0-9]{1,7}) ([0-9]{1,18})'), 4096
+
+
+class Estimate(NamedTuple):
+    """A rate, and by how much it may be wrong."""
+    rate: int
+    error: int
+
+
+def fitted(points):
+    """The slope of points, in parts in 10^9, which a few bad ones don't move; and by how much it may be wrong, as the points lie beside it."""
+    slopes = [(moved - before) * BILLION / (tick - since) for (since, before), (tick, moved) in itertools.combinations(points, 2)]
+    slope, count, span = median(slopes), len(points), points[-1][0] - points[0][0]
+    beside = [moved - slope * (tick - points[0][0]) / BILLION for tick, moved in points]
+    return slope, (max(beside) - min(beside) + 2) * count / max(count - 2, 1) * BILLION / span
+
+
+def within(rate):
+    """A rate as it can be applied."""
+    return max(-MOST_RATE, min(round(rate), MOST_RATE))
+
+
+def usual(hours):
+    """The hours that count."""
+    most = TIMES * median(hour.error for hour in hours) if hours else 0
+    return [hour for hour in hours if hour.error <= most]
+
+
+def middle(hours):
+    """What the estimates of some hours say together. Where they aren't of one rate the error says so, since most of them lie within it."""
+    used = usual(hours)
+    rate = median(hour.rate for hour in used)
+    away = sorted(abs(hour.rate - rate) for hour in used)
+    least = median(hour.error for hour in used) / len(used) ** 0.5
+    return Estimate(round(rate), max(round(away[int(PART * (len(away) - 1))]), round(least), 1))
+
+
+class Learning:
+    """What is learned, and is to be kept: `kept` is the estimate that counts, `hours` are those of the last day, and `applied` is the rate with
+    which the daemon counts."""
+
+    def __init__(self, applied=0, kept: Optional[Estimate] = None, hours: Optional[List[Estimate]] = None):
+        self.applied, self.kept, self.hours = applied, kept, list(hours or ())
+        self.begin(applied)
+
+    def begin(self, applied):
+        """The daemon starts, and counts with this rate."""
+        self.applied, self.masters, self.closed = applied, set(), {}
+        self.anew()
+
+    def anew(self):
+        """What was gathered of this hour says nothing of a rate."""
+        self.points = []
+
+    def change(self, change, is_set=False):
+        """Takes a change of the daemon's state, and says whether that changed what is kept. `is_set` says of a correction that it set the clock."""
+        if change.kind == 'correction':
+            is_set = is_set or change.values['way'] == 'step' or change.port in self.masters and self.closed.get(change.port) != change.tick
+            return self.corrected(change.tick, change.values['amount_us'], is_set)
+        if change.kind == 'round':
+            self.closed[change.port] = change.tick if change.values['clocks'] > 1 else None
+        elif change.kind in ('start', 'role', 'trace'):
+            self.anew()
+        if change.kind == 'role':
+            (self.masters.add if change.values['role'] == 'master' else self.masters.discard)(change.port)
+        return False
+
+    def corrected(self, tick, amount, is_set):
+        """The clock was corrected: the amount says what the counter lacked since the last time. Where it was set, or is corrected by more than any
+        rate explains, or by a master with which no clock agrees, another hour begins."""
+        since, moved = self.points[-1] if self.points else (tick, 0)
+        is_apart = abs(amount) * BILLION > MOST_RATE * (tick - since) + APART * BILLION
+        if is_set or is_apart or tick <= since:
+            self.points = [(tick, 0)]
+            return False
+        self.points.append((tick, moved + amount))
+        return self.learned()
+
+    def learned(self):
+        """Looks at what was gathered, after a correction."""
+        is_whole = self.points[-1][0] - self.points[0][0] >= HOUR
+        if len(self.points) < FEWEST or self.hours and not is_whole:
+            return False
+        hour = self.begun()
+        if is_whole:
+            self.hours, self.points = [*self.hours, hour][-DAY:], [(self.points[-1][0], 0)]
+        return self.keep(middle(self.hours) if self.hours else hour) or is_whole
+
+    def begun(self):
+        """The estimate by what was gathered so far, or None."""
+        if len(self.points) < FEWEST:
+            return None
+        slope, error = fitted(self.points)
+        return Estimate(within(self.applied + slope), round(error))
+
+    def keep(self, found):
+        """Keeps an estimate that is no worse than the one that is kept, or that a whole day says against it."""
+        had = self.kept
+        if had and found.error > had.error and (len(self.hours) < DAY or abs(found.rate - had.rate) <= found.error + had.error):
+            return False
+        self.kept = found
+        return found != had
+
+    @property
+    def found(self):
+        """The rate that is kept, and by how much it may be wrong: its own error, or as far as the hours of the last day are from it, of which the
+        last one and the one that has begun count in any case, since others may have changed. None where nothing is kept."""
+        if self.kept is None:
+            return None
+        begun = self.begun()
+        hours = usual(self.hours) + self.hours[-1:] + ([begun] if begun else [])
+        return Estimate(self.kept.rate, max([self.kept.error, *(abs(hour.rate - self.kept.rate) + hour.error for hour in hours)]))
+
+
+def text_of(learning):
+    """The lines of the file: what was found, what is kept, and then the hours of the last day."""
+    return ''.join(f'{rate} {error}\n' for rate, error in [learning.found, learning.kept, *learning.hours])
+
+
+def estimate_of(line):
+    """The estimate of a line, or None."""
+    found = LINE.fullmatch(line)
+    numbers = [int(word) for word in found.groups()] if found else [MOST_RATE + 1]
+    return Estimate(*numbers) if abs(numbers[0]) <= MOST_RATE else None
+
+
+def read(path):
+    """What a file keeps: the estimate, and the hours of the last day. ValueError comes where it keeps none, and OSError where it can't be read."""
+    with open(path, 'rb') as file:
+        found = [estimate_of(line) for line in file.read(LONGEST_FILE).decode('ascii', 'replace').splitlines()]
+    if not found or None in found:
+        raise ValueError
+    return (found[1:2] or found)[0], found[2:][-DAY:]
+
+
+def write(path, learning):
+    """Writes the file by a rename."""
+    tool.write(path, text_of(learning).encode('ascii'))
+
+
+class Kept:
+    """A file and what is learned for it. `say` takes a line for the log."""
+
+    def __init__(self, path, say):
+        self.path, self.say, self.is_faulty = path, say, False
+        self.learning = Learning()
+        try:
+            self.learning = Learning(0, *read(path))
+        except FileNotFoundError:
+            say(f'{path}: nothing is learned of the counter\'s rate yet')
+        except (OSError, ValueError) as fault:
+            say(f'{path}: {fault.strerror if isinstance(fault, OSError) else "it has no rate from -1000000 to 1000000, and its error"}; the rate is 0')
+
+    def begin(self):
+        """The daemon starts: the rate with which it is to count."""
+        self.learning.begin(self.learning.kept.rate if self.learning.kept else 0)
+        return self.learning.applied
+
+    def write(self):
+        """Writes the file; that it can't be written is said once."""
+        try:
+            write(self.path, self.learning)
+            self.is_faulty = False
+        except tool.Fault as fault:
+            if not self.is_faulty:
+                self.say(f'what is learned isn\'t kept: {fault.text}')
+            self.is_faulty = True
+
+
+def path_of():
+    """Where what is learned is kept."""
+    return os.environ.get('TSP_LEARN') or PATH
