@@ -138,7 +138,7 @@ _tsp_now() {
 
 _tsp_run() {
     case $COMP_CWORD:$2 in
-    1:-*) mapfile -t COMPREPLY < <(compgen -W '--status --help' -- "$2") ;;
+    1:-*) mapfile -t COMPREPLY < <(compgen -W '--status --version --help' -- "$2") ;;
     1:*) mapfile -t COMPREPLY < <(compgen -c -- "$2") ;;
     *) _tsp_any_file "$2" ;;
     esac

@@ -8,9 +8,13 @@
  * Times are microseconds since 1970. A call never waits for the writer for more than some 50 milliseconds. Each thread needs a tsp_clock of
  * its own. With -std=c99 define _POSIX_C_SOURCE as 200809L first.
  *
- * The interval: this host was asked for nothing between two readings of its own clock, a and d, between which the master's clock read s. While
- * neither of the two clocks is corrected, each of them parts from true time by no more than its drift lets it, so the master's clock stays ahead
- * of this one by no less than s - d and no more than s - a, give or take twice that drift.
+ * The interval: the supervisor read this host's clock, a, then the master's, s, and then its own again, d. It is proved (the law looks_bound_clocks, the
+ * promise Looked) that later the master's clock is ahead of this one by no less than s - d - 2 * w, and no more than s - a + 2 * w. Here w is
+ * width(P, x + width(P, x)), with x for the microseconds that this host's own counter passed since a, and width(P, x) = (P * x + 999999) / 1000000 + 1. It asks
+ * that s was the master's clock (nobody forged this one exchange), that both counters run wrong by P parts in a million at most (TSP_DRIFT), and that
+ * neither clock is corrected meanwhile. It holds for x up to 100 seconds, and a page with a master that answers is never older than 64. Only a host
+ * whose master is gone reads on (TSP_HOLDING): past 100 seconds true time is taken to be x + 2 * width(P, x), which is always enough for a P up to
+ * 1000, and the law's other half bounds the clocks by true time without an end.
  */
 #ifndef TSP_CLOCK_H
 #define TSP_CLOCK_H
@@ -87,6 +91,7 @@ typedef struct {
 #define TSP_PAGE_SIZE 4096
 #define TSP_MAGIC UINT64_C(0x6b636f6c63707374) /* "tspclock" */
 #define TSP_LASTS INT64_C(64000000000)
+#define TSP_RECKONED INT64_C(100000000) /* the microseconds for which the own ticks tell the drift by the law */
 #define TSP_AT_ONCE 64
 #define TSP_TRIES 512
 
@@ -110,43 +115,51 @@ static inline int64_t tsp_width(int64_t drift, int64_t passed)
     return (int64_t)(((uint64_t)drift * (uint64_t)passed + 999999) / 1000000 + 1);
 }
 
+/* By how many microseconds two clocks may have parted since the own counter was so many microseconds back. */
+static inline int64_t tsp_spread(int64_t drift, int64_t passed)
+{
+    int64_t width = tsp_width(drift, passed);
+    return 2 * tsp_width(drift, passed + (passed > TSP_RECKONED ? 2 * width : width));
+}
+
+/* A field of a page that another process may write meanwhile. */
+#define TSP_OF(page, field) __atomic_load_n(&(page)->field, __ATOMIC_RELAXED)
+
 /* The daemon's tick at a nanosecond. */
 static inline int64_t tsp_tick_at(const tsp_page *page, int64_t now)
 {
-    int64_t passed = tsp_floor(now - page->anchor, 1000), billion = INT64_C(1000000000), whole;
-    if (page->rate == 0)
+    int64_t passed = tsp_floor(now - TSP_OF(page, anchor), 1000), rate = TSP_OF(page, rate), billion = INT64_C(1000000000), whole;
+    if (rate == 0)
         return passed;
     whole = tsp_floor(passed, billion);
-    return passed + whole * page->rate + tsp_floor((passed - whole * billion) * page->rate, billion);
+    return passed + whole * rate + tsp_floor((passed - whole * billion) * rate, billion);
 }
 
-/* What is still to be slewed at a tick. */
-static inline int64_t tsp_rest_at(const tsp_page *page, int64_t tick)
+/* What is still to be slewed of so many microseconds when so many ticks have passed. */
+static inline int64_t tsp_rest_after(int64_t rest, int64_t passed)
 {
-    int64_t moved;
-    if (page->rest == 0)
-        return 0;
-    moved = tick > page->tick ? (tick - page->tick) / 200 : 0;
-    if (page->rest > 0)
-        return page->rest > moved ? page->rest - moved : 0;
-    return page->rest < -moved ? page->rest + moved : 0;
+    int64_t moved = passed > 0 ? (int64_t)((uint64_t)passed / 200) : 0;
+    if (rest > 0)
+        return rest > moved ? rest - moved : 0;
+    return rest < -moved ? rest + moved : 0;
 }
 
 /* The time that a page gives at a nanosecond. */
 static inline int tsp_time_of(const tsp_page *page, int64_t now, tsp_time *time)
 {
-    int64_t tick = tsp_tick_at(page, now), target = page->target + tick - page->tick, shown = target - tsp_rest_at(page, tick);
-    int64_t passed = tick > page->looked ? tick - page->looked : 0, spread = 0;
-    time->life = page->life;
-    time->steps = page->steps;
-    time->role = (int)page->role;
-    time->status = now - page->alive > TSP_LASTS ? TSP_STALE : (int)page->status;
-    if (page->role != TSP_LEADS)
-        spread = 2 * tsp_width(page->drift, passed + tsp_width(page->drift, passed));
-    time->shown = shown < page->least ? page->least : shown;
+    int64_t tick = tsp_tick_at(page, now), ahead = tick - TSP_OF(page, tick), target = TSP_OF(page, target) + ahead;
+    int64_t rest = TSP_OF(page, rest), least = TSP_OF(page, least), looked = TSP_OF(page, looked), spread = 0;
+    int64_t shown = rest == 0 ? target : target - tsp_rest_after(rest, ahead), passed = tick > looked ? tick - looked : 0;
+    time->life = TSP_OF(page, life);
+    time->steps = TSP_OF(page, steps);
+    time->role = (int)TSP_OF(page, role);
+    time->status = now - TSP_OF(page, alive) > TSP_LASTS ? TSP_STALE : (int)TSP_OF(page, status);
+    if (time->role != TSP_LEADS)
+        spread = tsp_spread(TSP_OF(page, drift), passed);
+    time->shown = shown < least ? least : shown;
     time->age = passed;
-    time->earliest = target + page->low - spread;
-    time->latest = target + page->high + spread;
+    time->earliest = target + TSP_OF(page, low) - spread;
+    time->latest = target + TSP_OF(page, high) + spread;
     if (time->status == TSP_STALE)
         time->shown = 0;
     if (time->status < TSP_SYNCHRONISED)
@@ -154,9 +167,30 @@ static inline int tsp_time_of(const tsp_page *page, int64_t now, tsp_time *time)
     return time->status;
 }
 
-#define TSP_LOAD(field) (copy->field = __atomic_load_n(&page->field, __ATOMIC_RELAXED))
+/* Begins to read a page: its sequence, which is odd while it is written. */
+static inline uint64_t tsp_begin(const tsp_page *page)
+{
+    return __atomic_load_n(&page->sequence, __ATOMIC_ACQUIRE);
+}
 
-/* Copies what the time follows from. */
+/* Whether a page was the same all the time since it had this sequence. */
+static inline int tsp_is_whole(const tsp_page *page, uint64_t sequence)
+{
+    __atomic_thread_fence(__ATOMIC_ACQUIRE);
+    return sequence % 2 == 0 && __atomic_load_n(&page->sequence, __ATOMIC_RELAXED) == sequence;
+}
+
+/* The time now by a page; 0 where it was written meanwhile. The clock is read in between, so that the page was the one of that moment. */
+static inline int tsp_time_once(const tsp_page *page, tsp_time *time)
+{
+    uint64_t sequence = tsp_begin(page);
+    tsp_time_of(page, tsp_nanoseconds(), time);
+    return tsp_is_whole(page, sequence);
+}
+
+#define TSP_LOAD(field) (copy->field = TSP_OF(page, field))
+
+/* Copies what the time follows from. (in place a page is read faster, but only once) */
 static inline void tsp_copy(tsp_page *copy, const tsp_page *page)
 {
     TSP_LOAD(life);
@@ -178,19 +212,16 @@ static inline void tsp_copy(tsp_page *copy, const tsp_page *page)
 
 #undef TSP_LOAD
 
-/* Reads a page once; 0 where it was being written. The clock is read in between, so that the page was the one of that moment. */
+/* Copies a page, and reads the clock in between; 0 where it was written meanwhile. */
 static inline int tsp_read_once(const tsp_page *page, tsp_page *copy, int64_t *now)
 {
-    uint64_t before = __atomic_load_n(&page->sequence, __ATOMIC_ACQUIRE);
-    if (before % 2 != 0)
-        return 0;
+    uint64_t sequence = tsp_begin(page);
     tsp_copy(copy, page);
     *now = tsp_nanoseconds();
-    __atomic_thread_fence(__ATOMIC_ACQUIRE);
-    return __atomic_load_n(&page->sequence, __ATOMIC_RELAXED) == before;
+    return tsp_is_whole(page, sequence);
 }
 
-/* Reads a page, again while it is being written; 0 where that never ends, since its writer was killed then. */
+/* Copies a page, again while it is being written; 0 where that never ends, since its writer was killed then. */
 static inline int tsp_read(const tsp_page *page, tsp_page *copy, int64_t *now)
 {
     const struct timespec pause = {0, 50000};
@@ -253,6 +284,8 @@ static inline int tsp_clock_look(const tsp_clock *clock, tsp_time *time)
 {
     tsp_page copy;
     int64_t now;
+    if (clock->page != NULL && tsp_time_once(clock->page, time))
+        return time->status;
     if (clock->page != NULL && tsp_read(clock->page, &copy, &now))
         return tsp_time_of(&copy, now, time);
     memset(time, 0, sizeof *time);

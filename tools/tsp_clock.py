@@ -24,6 +24,8 @@ HEAD, BODY = struct.Struct('<QIIQ'), struct.Struct('<QQIIqqqqqqqqqqqq256s')
 SEQUENCE, LENGTH = 16, HEAD.size + BODY.size
 # A page that wasn't written for so many nanoseconds is stale.
 LASTS = 64_000_000_000
+# The microseconds for which the own ticks tell the drift by the law.
+RECKONED = 100_000_000
 SLEW, MILLION, BILLION = 200, 1_000_000, 1_000_000_000
 # How often a page that is being written is read again at once, and then after a pause of so many seconds.
 AT_ONCE, TRIES, PAUSE = 64, 512, 0.00005
@@ -72,8 +74,7 @@ class Page(NamedTuple):
 
     def spread_at(self, tick):
         """By how much the master's clock may have parted from this one since it was asked."""
-        passed = max(tick - self.looked, 0)
-        return 0 if self.role == LEADS else 2 * width(self.drift, passed + width(self.drift, passed))
+        return 0 if self.role == LEADS else spread(self.drift, max(tick - self.looked, 0))
 
     def packed(self):
         """The page's octets behind its sequence."""
@@ -97,6 +98,17 @@ class Now(NamedTuple):
 def width(drift, passed):
     """By how many microseconds a counter may be wrong after so many."""
     return (drift * passed + MILLION - 1) // MILLION + 1
+
+
+def spread(drift, passed):
+    """By how many microseconds two clocks may have parted since the own counter was so many microseconds back.
+
+    By the proved law looks_bound_clocks (the promise Looked) that is 2 * w, with w = width(P, x + width(P, x)), for x up to 100 seconds. It asks that the look was
+    answered by the master's clock (nobody forged this one exchange), that both counters keep within the drift P, and that neither clock is corrected
+    meanwhile. Past that, true time is taken to be x + 2 * width(P, x), which is always enough for a P up to 1000.
+    """
+    own = width(drift, passed)
+    return 2 * width(drift, passed + (2 * own if passed > RECKONED else own))
 
 
 def now_of(page, now):

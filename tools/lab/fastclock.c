@@ -9,9 +9,10 @@
  *   FAST_AT     when fast time has passed for so many nanoseconds
  *   FAST_SPOIL  a type: the first datagram of this type that is sent has the last bit of its octet 11 changed
  *
- * All programs with the same FAST_FROM, FAST_RATE and FAST_DRIFT have the same fast time, whenever they start. Receives
- * and polls that wait so long in fast time wait less here. */
+ * All programs with the same FAST_FROM, FAST_RATE and FAST_DRIFT have the same fast time, whenever they start. Receives,
+ * polls and sleeps that wait so long in fast time wait less here. */
 #define _GNU_SOURCE
+#include <errno.h>
 #include <poll.h>
 #include <stdlib.h>
 #include <string.h>
@@ -87,6 +88,17 @@ int poll(struct pollfd *files, nfds_t count, int wait)
     long long nanos = wait * MILLION / setting("FAST_RATE", 1);
     struct timespec time = {nanos / BILLION, nanos % BILLION};
     return syscall(SYS_ppoll, files, count, wait < 0 ? NULL : &time, NULL, 0);
+}
+
+/* A wait until a time is one until the machine's, by which the drift counts for nothing. */
+int clock_nanosleep(clockid_t id, int flags, const struct timespec *wait, struct timespec *left)
+{
+    long long from = setting("FAST_FROM", 0), nanos = wait->tv_sec * BILLION + wait->tv_nsec;
+    if (id != CLOCK_MONOTONIC)
+        return syscall(SYS_clock_nanosleep, id, flags, wait, left) == 0 ? 0 : errno;
+    nanos = flags & TIMER_ABSTIME ? from + (nanos - from) / setting("FAST_RATE", 1) : nanos / setting("FAST_RATE", 1);
+    struct timespec time = {nanos / BILLION, nanos % BILLION};
+    return syscall(SYS_clock_nanosleep, id, flags, &time, NULL) == 0 ? 0 : errno;
 }
 
 ssize_t sendto(int socket, const void *octets, size_t count, int flags, const struct sockaddr *to, socklen_t size)

@@ -3,10 +3,12 @@ import math
 import os
 
 WIDTH, LEFT, TOP, STEP, FOOT = 760, 230, 60, 22, 40
+INTERVALS = '## The interval that programs read\n'
 MARKS, LOWEST, HIGHEST = (0.01, 0.1, 1, 10, 100), 0.01, 200
 TEXT = '''# How well it keeps time
 
-How far two corrected clocks are from each other, measured, beside what is promised of them. `tools/accuracy` wrote this page and its picture:
+How far two corrected clocks are from each other, measured, beside what is promised of them, and below that how narrow the interval is that programs read.
+`tools/accuracy` wrote this part and its picture:
 
 ```
 tools/accuracy --minutes {minutes} --rate {rate} --seed {seed} --jobs {jobs}
@@ -120,10 +122,22 @@ def time_of(given):
     return f'for {given.minutes} minutes' if given.rate == 1 else f'for {given.minutes} minutes of its own time, which runs {given.rate} times as fast'
 
 
+def below(path):
+    """What other measurements wrote below those of this page."""
+    try:
+        with open(path, encoding='utf-8') as file:
+            _, heading, text = file.read().partition(INTERVALS)
+    except FileNotFoundError:
+        return ''
+    return '\n' + heading + text if heading else ''
+
+
 def write(folder, cases, given):
-    """Writes the page and its picture."""
+    """Writes the page and its picture. What stands below the heading of the intervals stays."""
+    path = os.path.join(folder, 'ACCURACY.md')
+    rest = below(path)
     told = {'rows': '\n'.join(map(row, cases)), 'sums': sums(cases), 'judged': judged(cases), 'time': time_of(given)}
-    with open(os.path.join(folder, 'ACCURACY.md'), 'w', encoding='utf-8') as file:
-        file.write(TEXT.format(minutes=given.minutes, rate=given.rate, seed=given.seed, jobs=given.jobs, **told))
+    with open(path, 'w', encoding='utf-8') as file:
+        file.write(TEXT.format(minutes=given.minutes, rate=given.rate, seed=given.seed, jobs=given.jobs, **told) + rest)
     with open(os.path.join(folder, 'accuracy.svg'), 'w', encoding='utf-8') as file:
         file.write(picture(cases))

@@ -66,6 +66,12 @@ static int64_t own_time(const host *h, int64_t at)
     return passed + passed / MILLION * h->drift + passed % MILLION * h->drift / MILLION + from;
 }
 
+/* The machine's nanosecond at one of a host's monotonic clock. */
+static int64_t machine_time(const host *h, int64_t own)
+{
+    return from + (int64_t)((double)(own - from) * MILLION / (MILLION + (double)h->drift) / (double)rate);
+}
+
 /* Notes a page that differs from the last one of its host. */
 static void note(host *h, const tsp_page *page)
 {
@@ -78,8 +84,8 @@ static void note(host *h, const tsp_page *page)
     h->count++;
 }
 
-/* A host's target at a moment, and how long ago in its own time that was corrected; 0 where it isn't known. */
-static int truth(const host *h, int64_t at, int64_t *target, int64_t *since)
+/* A host's target at a moment, and when that was corrected last; 0 where it isn't known. */
+static int truth(const host *h, int64_t at, int64_t *target, int64_t *corrected)
 {
     int64_t tick = tsp_floor(own_time(h, at), THOUSAND) - h->first;
     int number;
@@ -89,7 +95,7 @@ static int truth(const host *h, int64_t at, int64_t *target, int64_t *since)
             return 0;
         if (s->tick <= tick) {
             *target = s->target + tick - s->tick;
-            *since = tick - s->tick;
+            *corrected = machine_time(h, (s->tick + h->first) * THOUSAND);
             return 1;
         }
     }
@@ -100,11 +106,11 @@ static int truth(const host *h, int64_t at, int64_t *target, int64_t *since)
 static void judge(const sample *s)
 {
     host *h = &hosts[s->who];
-    int64_t target, since, age = (own_time(h, s->at) - s->looked) / THOUSAND, width = s->latest - s->earliest;
-    if (s->master < 0 || !truth(&hosts[s->master], s->at, &target, &since))
+    int64_t target, corrected, width = s->latest - s->earliest;
+    if (s->master < 0 || !truth(&hosts[s->master], s->at, &target, &corrected))
         return;
-    /* (a millionth of the drift aside, both count alike) */
-    if (since <= age + age / THOUSAND + 1) {
+    /* (both are known to the microsecond) */
+    if (corrected + 2 * THOUSAND >= machine_time(h, s->looked)) {
         h->between++;
         if (h->begun == 0)
             h->begun = s->at;

@@ -18,7 +18,8 @@ sys.path.insert(0, TOOLS)
 import tsp_clock  # noqa: E402
 from tsp_daemon import trace  # noqa: E402
 from tsp_daemon.anchor import Anchor  # noqa: E402
-from tsp_daemon.keeper import after_correction  # noqa: E402
+from tsp_daemon.keeper import MAXADJ, Keeper, after_correction  # noqa: E402
+from tsp_daemon.own import Exchange  # noqa: E402
 from tsp_daemon.page import Writer  # noqa: E402
 from tsp_witness.datagram import octets_of  # noqa: E402
 
@@ -149,6 +150,68 @@ def anchors():
         wanted(abs(place - first * 1000) <= off * 1000, f'the first reading is {first}, and {place} +/- {off} is found, at rate {rate} (seed {SEED})')
 
 
+class Still:
+    """A loop in which no time passes, and nothing comes."""
+
+    def __getattr__(self, name):
+        return lambda *_: 0
+
+
+def missed():
+    """Corrections while the trace is off: a look finds them by what the daemon answers. A small one is slewed from then on, the page doesn't fall, and it
+    shows what the daemon does once that is over; the next one that is traced makes both the same at once. A great one is a step."""
+    writer, wall = Writer(os.path.join(FOLDER, 'missed')), 10 ** 15
+    keeper = Keeper(Still(), writer, ('127.0.0.1', 9), [('127.0.0.1', 9)], ['a', 'b'], 0, 100)
+    begun = time.monotonic_ns() // 1000
+    keeper.page, keeper.is_placed = keeper.page._replace(life=2, anchor=begun * 1000, target=wall, tick=0), True
+    tick, clock, amount = 1_000_000, [], DRAW.choice([-1, 1]) * 15_000
+    clock.append((tick, amount, False))
+
+    def reading(at):
+        return wall + at + sum(moved for _, moved, _ in clock)
+
+    def shown(at):
+        return reading(at) - slewed(clock, at)
+
+    seen = tick + 800_000
+    before = keeper.page.shown_at(seen)
+    keeper.compared(Exchange(0, 0, seen, reading(seen)))
+    page = keeper.page
+    wanted(page.shown_at(seen) == before and page.target_at(seen) == reading(seen), f'a correction of {amount} us that was missed isn\'t slewed')
+    wanted(abs(page.shown_at(seen) - shown(seen)) <= 800_000 // 200, 'the page shows something else after a correction that was missed')
+    over = seen + 200 * abs(amount) + 200
+    wanted(page.shown_at(over) == shown(over) == reading(over), 'the page shows something else when a correction that was missed is slewed')
+    keeper.compared(Exchange(0, 0, seen + 100_000, reading(seen + 100_000)))
+    wanted((keeper.page.tick, keeper.page.target, keeper.page.rest) == (page.tick, page.target, page.rest), 'a correction that was missed is found twice')
+    # (the next one comes meanwhile, and is traced)
+    at = tick + 1_500_000
+    value = shown(at)
+    clock.append((at, -4000, False))
+    keeper.corrected(at, -4000, 'slew', value)
+    wanted(all(keeper.page.target_at(tick) == reading(tick) and keeper.page.shown_at(tick) == shown(tick) for tick in range(at, over, 9999)),
+           'the page shows something else after the next correction')
+    steps, at = keeper.page.steps, over + 1
+    clock.append((at, MAXADJ + 1, True))
+    keeper.compared(Exchange(0, 0, at + 5, reading(at + 5)))
+    wanted(keeper.page.steps == steps + 1 and keeper.page.shown_at(at + 9) == reading(at + 9), 'a step that was missed isn\'t one')
+    writer.close()
+
+
+def reckoned():
+    """The interval's formula is that of the law for 100 s, and past that what it takes for true time is never less than the greatest that a counter within
+    the drift leaves possible."""
+    for _ in range(COUNT):
+        drift, passed = DRAW.randint(0, 1000), DRAW.choice([DRAW.randint(0, 10 ** 8), DRAW.randint(0, 10 ** 15)])
+        own = -(-drift * passed // 10 ** 6) + 1
+        law = 2 * (-(-drift * (passed + own) // 10 ** 6) + 1)
+        found = tsp_clock.spread(drift, passed)
+        wanted(found == law if passed <= 10 ** 8 else found >= law, f'the spread of {passed} us at {drift} is {found}, and {law} by the law (seed {SEED})')
+        # (the slowest counter of this drift, which shows x when the true time is the greatest)
+        longest = (passed + 2) * 10 ** 6 // (10 ** 6 - drift)
+        least = 2 * (-(-drift * longest // 10 ** 6) + 1)
+        wanted(passed <= 10 ** 8 or found >= least, f'the spread of {passed} us at {drift} is {found}, and {least} is needed (seed {SEED})')
+
+
 def torn():
     """Pages that are read while they are written are whole, and those that nobody goes on writing end in status 0."""
     path = os.path.join(FOLDER, 'page')
@@ -157,7 +220,7 @@ def torn():
         writer, number = Writer(path), 0
         while True:
             number += 1
-            writer.write(tsp_clock.Page(number, number, 2, 1, 0, number, 0, number, number, -number, number, 0, number, -number, number, number))
+            writer.write(tsp_clock.Page(number, number, 2, tsp_clock.LEADS, 0, number, 0, number, number, -number, number, 0, number, -number, number, number))
     try:
         while not os.path.exists(path) or os.path.getsize(path) < tsp_clock.SIZE:
             time.sleep(0.01)
@@ -192,6 +255,8 @@ def dead(path):
 def main():
     compared, pages = formula(), in_c()
     anchors()
+    reckoned()
+    missed()
     print(f'{compared} moments as in replay, {pages} pages in C as in Python, {torn()}')
 
 

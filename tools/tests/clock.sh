@@ -15,6 +15,38 @@ for compiler in 'gcc -std=c99' 'clang -std=c99' 'g++ -xc++ -std=c++11' 'clang++ 
 done
 # shellcheck disable=SC2086
 cc -std=c99 $flags -o "$out/reader" tools/tests/clock_reader.c
+# What the README and the page show is a program as it stands.
+sed -n '/^#include <tsp_clock.h>/,/^ *printf/p' README.md >"$out/shown"
+{ printf '#include <stdio.h>\n'; sed -n 1p "$out/shown"; printf 'int main(void)\n{\n'; sed 1d "$out/shown"; printf 'return 0;\n}\n'; } >"$out/readme.c"
+# (man's example escapes its backslashes)
+sed -n '/^#define _POSIX_C_SOURCE/,/^}/p' man/tsp_clock.3 | sed 's/\\\\/\\/g' >"$out/page.c"
+for shown in readme page; do
+    # shellcheck disable=SC2086
+    cc -std=gnu99 $flags -o "$out/$shown" "$out/$shown.c" || fail "what $shown shows is no program"
+done
+sed -n '/^import tsp_clock/,/^ *print/p' README.md >"$out/readme.py"
+[ "$(wc -l <"$out/shown") $(wc -l <"$out/readme.py")" = '4 4' ] || fail 'the README shows no four lines'
+for leads in 2 1; do
+    python3 -B -c "
+import sys
+sys.path.insert(0, 'tools')
+import tsp_clock
+from tsp_daemon.page import Writer
+Writer('$out/led').write(tsp_clock.Page(1, 0, $leads, 2, target=10 ** 15))"
+    for command in "$out/readme" 'python3 -B '"$out/readme.py" "$out/page"; do
+        TSP_CLOCK="$out/led" PYTHONPATH=tools $command >"$out/said" || [ "$leads" -eq 1 ] || fail "'$command' fails"
+        [ "$(grep -cE '^1[0-9]{15} to 1[0-9]{15}( us)?$' "$out/said")" -eq "$((leads - 1))" ] || fail "'$command' says $(cat "$out/said")"
+    done
+done
 mkdir "$out/pages"
 python3 tools/tests/clock.py "$program" "$out/reader" "$out/pages" "${TSP_MOMENTS:-30000}" "${TSP_SEED:-1}" >"$out/told" || fail 'the page is another one'
-echo "$check: $(cat "$out/told")$tried"
+# A short form of tools/read-cost; how much a read may cost is looked at on a machine that has nothing else to do.
+tools/read-cost --reads 500 --most 5 >"$out/cost" 2>"$out/said" || fail "$(cat "$out/cost" "$out/said")"
+grep -q '^slewing  python ' "$out/cost" || fail "$(cat "$out/cost")"
+for words in '--reads 0' a '--most x'; do
+    status=0
+    # shellcheck disable=SC2086  # words
+    tools/read-cost $words >"$out/text" 2>"$out/said" || status=$?
+    [ "$status" -eq 1 ] && [ "$(wc -l <"$out/said")" -eq 1 ] && [ ! -s "$out/text" ] || fail "'$words': status $status, $(cat "$out/said")"
+done
+echo "$check: $(cat "$out/told")$tried; a read in C takes $(sed -n 's/.*, *\([0-9.]*\) times as long/\1/p' "$out/cost" | head -n 1) times as long as clock_gettime"

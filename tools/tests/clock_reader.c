@@ -4,13 +4,14 @@
  *   torn   reads so often a page that is written without pause, all of whose fields come from one number, and counts those that don't; also
  *          of as many reads that don't look at the lock
  *   now    reads the page once, and writes its status and the microseconds that this took
- *   cost   writes the nanoseconds that a read takes, and those of clock_gettime
+ *   cost   writes the nanoseconds that a read takes, those of clock_gettime right after it, and how many times as long the read takes: each at
+ *          the median of many rounds of COUNT
  */
 #define _POSIX_C_SOURCE 200809L
 #include "tsp_clock.h"
 #include <stdio.h>
 
-#define ROUNDS 9
+#define ROUNDS 501
 #define LEAST_PAGES 300
 #define LONGEST INT64_C(20000000000)
 
@@ -39,12 +40,15 @@ static int is_torn(const tsp_page *page)
 static int torn(tsp_clock *clock, long count)
 {
     tsp_page page;
+    tsp_time time;
     int64_t now, until = tsp_nanoseconds() + LONGEST;
     long number, torn = 0, bare = 0, pages = 0, unread = 0;
     uint64_t last = 0;
     for (number = 0; number < count || (pages < LEAST_PAGES && tsp_nanoseconds() < until); number++) {
         tsp_copy(&page, clock->page);
         bare += is_torn(&page);
+        if (tsp_time_once(clock->page, &time))
+            torn += time.steps != time.life || time.latest - time.earliest != 2 * (int64_t)time.life;
         if (!tsp_read(clock->page, &page, &now)) {
             unread++;
             continue;
@@ -72,9 +76,15 @@ static int by_size(const void *a, const void *b)
     return (first > second) - (first < second);
 }
 
+static double median(double *values)
+{
+    qsort(values, ROUNDS, sizeof *values, by_size);
+    return values[ROUNDS / 2];
+}
+
 static int cost(tsp_clock *clock, long count)
 {
-    double reads[ROUNDS], looks[ROUNDS];
+    double reads[ROUNDS], looks[ROUNDS], times[ROUNDS];
     int64_t sum = 0;
     int round;
     for (round = 0; round < ROUNDS; round++) {
@@ -93,10 +103,9 @@ static int cost(tsp_clock *clock, long count)
         }
         reads[round] = (double)(between - begun) / (double)count;
         looks[round] = (double)(tsp_nanoseconds() - between) / (double)count;
+        times[round] = reads[round] / looks[round];
     }
-    qsort(reads, ROUNDS, sizeof *reads, by_size);
-    qsort(looks, ROUNDS, sizeof *looks, by_size);
-    printf("%.1f %.1f %.2f\n", reads[ROUNDS / 2], looks[ROUNDS / 2], reads[ROUNDS / 2] / looks[ROUNDS / 2]);
+    printf("%.1f %.1f %.2f\n", median(reads), median(looks), median(times));
     return sum == 1;
 }
 

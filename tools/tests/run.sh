@@ -4,15 +4,15 @@
 export TSP_CLOCK="$out/page"
 unset TSP_FAKETIME
 
-# Writes a page whose clock is ahead by so many microseconds, of which so many are still to be slewed, with a status.
+# Writes a page whose clock is ahead by so many microseconds, of which so many are still to be slewed, with a status, and in which life.
 cat >"$out/write" <<'END'
 import os, sys, time
 sys.path.insert(0, 'tools')
 import tsp_clock
 from tsp_daemon.page import Writer
-path, ahead, rest, status = sys.argv[1], *map(int, sys.argv[2:])
+path, ahead, rest, status, life = sys.argv[1], *map(int, [*sys.argv[2:], 1][:4])
 now, tick = time.monotonic_ns(), 10 ** 12
-Writer(path).write(tsp_clock.Page(1, 0, status, 2, 0, now - now % 1000 - 1000 * tick, 0, 0, tick, time.time_ns() // 1000 + ahead, rest, tsp_clock.NEVER, tick, 0, 0, 100, b'a'))
+Writer(path).write(tsp_clock.Page(life, 0, status, 2, 0, now - now % 1000 - 1000 * tick, 0, 0, tick, time.time_ns() // 1000 + ahead, rest, tsp_clock.NEVER, tick, 0, 0, 100, b'a'))
 END
 page() { python3 -B "$out/write" "$out/page" "$@"; }
 
@@ -68,7 +68,7 @@ while time.monotonic() < until:
     before, wall, after = clock.now(), time.time_ns() // 1000, clock.now()
     if wall < last:
         sys.exit(f'it falls by {last - wall} us')
-    if after.shown is not None and after.shown - before.shown < 500:
+    if None not in (before.shown, after.shown) and after.shown - before.shown < 500:
         worst, count = max(worst, before.shown - wall, wall - after.shown), count + 1
     last = wall
     time.sleep(0.001)
@@ -80,13 +80,44 @@ for rest in 15000 -15000; do
     page -3000000 "$rest" 2
     tools/tsp-run python3 -B "$out/compare" >"$out/said" 2>"$out/told" || fail "$(cat "$out/told")"
 done
+# The same while the daemon ends and starts again, with a clock that is five seconds ahead of the last one's; and where the wall clock is set.
+page -3000000 0 2
+{ sleep 0.6; page -3000000 0 0; sleep 0.5; page 2000000 3000 2 2; } &
+tools/tsp-run python3 -B "$out/compare" >"$out/restarted" 2>"$out/told" || fail "a restart: $(cat "$out/told")"
+wait
+if cc -O2 -Wall -shared -fPIC -o "$out/stepped.so" tools/lab/fastclock.c 2>"$out/told"; then
+    # Runs a command whose wall clock is set by an hour 1.5 seconds later.
+    stepped() {
+        now=$(python3 -c 'import time; print("FAST_FROM=%d FAST_WALL=%d" % (time.monotonic_ns(), time.time_ns()))')
+        # shellcheck disable=SC2086  # words
+        env LD_PRELOAD="$out/stepped.so" $now FAST_STEP=3600000000000 FAST_AT=1500000000 "$@"
+    }
+    page -3000000 -15000 2
+    stepped python3 -c 'import time; first = time.time(); time.sleep(2); raise SystemExit(not 3601 < time.time() - first < 3610)' || fail 'no wall clock is set'
+    stepped tools/tsp-run python3 -B "$out/compare" >"$out/set" 2>"$out/told" || fail "a wall clock that is set: $(cat "$out/told")"
+else
+    skip 'there is no cc' 'a wall clock that is set'
+fi
+if has sqlite3; then
+    page 7200000000 0 2
+    away=$(($(tools/tsp-run sqlite3 :memory: "select strftime('%s', 'now')") - $(date +%s)))
+    [ "$away" -ge 7195 ] && [ "$away" -le 7201 ] || fail "sqlite3 is ahead by $away s"
+else
+    skip 'there is no sqlite3' 'a database'
+fi
+page -3000000 0 2
 first=$(tools/tsp-run sh -c 'date +%s%3N; rm "$TSP_CLOCK"; sleep 0.3; date +%s%3N')
 [ "$(echo "$first" | tail -n 1)" -ge "$(($(echo "$first" | head -n 1) + 300))" ] || fail 'the time falls when the page is gone'
 
-# make, under a clock that is behind.
-page -3000000000 0 2
-mkdir "$out/tree"
-printf 'all: b\nb: a\n\tcp a b && date +%%s >>times\na:\n\techo a >a && date +%%s >>times\n' >"$out/tree/Makefile"
-tools/tsp-run make -s -C "$out/tree" >"$out/made" 2>&1 || fail "make fails: $(cat "$out/made")"
-awk -v now="$(date +%s)" '{ if ($1 > now - 2990 || $1 < now - 3010 || $1 < last) exit 1; last = $1 }' "$out/tree/times" || fail "make ran at $(paste -sd ' ' "$out/tree/times")"
+# make builds the tree of the examples by the time of the network, which is 50 minutes ahead, while 15 ms are slewed; and then nothing again.
+page 3000000000 -15000 2
+cp -r examples/build "$out/tree"
+for _ in first again; do
+    tools/tsp-run make -s -C "$out/tree" >"$out/made" 2>&1 || fail "make fails: $(cat "$out/made")"
+    awk -v now="$(date +%s)" '{ if ($1 > now + 3010 || $1 < now + 2940 || $1 <= last) exit 1; last = $1 } END { exit NR != 3 }' "$out/tree/build.log" ||
+        fail "make ran at $(paste -sd ' ' "$out/tree/build.log")"
+done
+built=$(sed -n "s/^built at \(.*\) by the network's time\$/\1/p" "$out/made")
+away=$(($(date -d "$built" +%s) - $(date +%s)))
+[ "$away" -ge 2940 ] && [ "$away" -le 3010 ] || fail "the compiler looked at the clock at $built"
 echo "$check: programs under the time of the network, $(cat "$out/said")"

@@ -17,6 +17,9 @@ TOOLS = os.path.dirname(HERE)
 sys.dont_write_bytecode = True
 sys.path.insert(0, TOOLS)
 from lab import preload  # noqa: E402
+from tsp_daemon.loop import Loop  # noqa: E402
+from tsp_daemon.systemd import Systemd  # noqa: E402
+import tsp_clock  # noqa: E402
 from tsp_witness.datagram import octets_of  # noqa: E402
 
 PROGRAM, FOLDER = sys.argv[1:3]
@@ -202,6 +205,57 @@ def switched():
     server.end()
 
 
+def notified():
+    """What is told to systemd: one message a second at most, also under a stranger who switches the trace off again and again; of a state that changes
+    all the time the last one in the end."""
+    with socket.socket(socket.AF_UNIX, socket.SOCK_DGRAM) as heard:
+        heard.bind(os.path.join(FOLDER, 'notify'))
+        heard.settimeout(0.01)
+        server, messages, begun = Supervised(NOTIFY_SOCKET=heard.getsockname()), [], time.monotonic()
+        while time.monotonic() < begun + 4.5:
+            server.link.sendto(TRACE_OFF, server.address)
+            messages += received(heard)
+        server.end()
+        wanted(messages[0][1].startswith('READY=1\n'), f'systemd is told first {messages[:1]}')
+        apart(messages, 3, 6)
+        wanted([text for _, text in received(heard)] == ['STOPPING=1'], 'systemd isn\'t told that it ends')
+        states(heard)
+
+
+def states(heard):
+    """Tells systemd of a state that changes all the time."""
+    os.environ['NOTIFY_SOCKET'] = heard.getsockname()
+    loop, messages, number, begun = Loop(), [], 0, time.monotonic()
+    told = Systemd(loop, lambda text: wanted(False, text))
+    while time.monotonic() < begun + 3.4:
+        if time.monotonic() < begun + 2.2:
+            number += 1
+            told.tell('READY=1', f'STATUS=state {number}')
+        loop.after('look', 0.01, lambda: None)
+        loop.step()
+        messages += received(heard)
+    signal.set_wakeup_fd(-1)
+    apart(messages, 3, 4)
+    wanted(messages[0][1].endswith(' 1') and messages[-1][1].endswith(f' {number}') and number > 50, f'of {number} states systemd is told {messages}')
+
+
+def apart(messages, least, most):
+    """Wants so many messages, of which no two came within a second, but for what the machine is late."""
+    times = [at for at, _ in messages]
+    wanted(least <= len(times) <= most and all(later - earlier > 0.9 for earlier, later in zip(times, times[1:])), f'systemd is told at {times}: {messages}')
+
+
+def received(link):
+    """The messages that came, and when."""
+    found = []
+    try:
+        while True:
+            text = link.recv(4096).decode()
+            found.append((time.monotonic(), text))
+    except socket.timeout:
+        return found
+
+
 def slept():
     """The machine slept: the daemon is started again at once."""
     library = preload.made('slept', FOLDER)
@@ -212,6 +266,8 @@ def slept():
     server = Supervised(LD_PRELOAD=library, SLEPT_FILE=file)
     first = server.ready()
     with open(file, 'wb'):
+        # (a look comes twice a second, but the timer that runs on in a sleep is over at once)
+        until(lambda: not is_there(first), 'the daemon runs on after a sleep', 0.3)
         until(lambda: server.daemon() not in (None, first), 'the daemon isn\'t started again after a sleep', 1.5)
     server.ready()
     wanted('the machine slept for 600 s, in which the daemon didn\'t count; the daemon is started again' in server.read(), f'it says {server.read()}')
@@ -238,9 +294,10 @@ def interrupted():
 
 def turned():
     """The turns end, again and again: the daemon is started again, and it says nothing of that."""
-    server = Supervised(turns=9)
+    # (the supervisor's own questions take 200 of them)
+    server = Supervised(turns=300)
     first = server.ready()
-    until(lambda: server.answers() and server.daemon() not in (None, first), 'the daemon isn\'t started again at its turns\' end', 6)
+    until(lambda: server.answers() and server.daemon() not in (None, first), 'the daemon isn\'t started again at its turns\' end', 10)
     wanted(all(line.endswith('in the trace peer 0 is a') for line in server.read().splitlines()), f'it says {server.read()}')
     server.end()
 
@@ -306,6 +363,61 @@ def reloaded():
     until(lambda: ' trace on\n' in server.read(trace), 'the trace doesn\'t go to its file')
     wanted(server.read(server.out) == '', 'the trace goes to standard output too')
     server.end()
+
+
+def rotated():
+    """logrotate's example: the daemon goes on, and each of its lines is in the old file or in the new one."""
+    trace, config = Supervised.path('trace'), Supervised.path('logrotate')
+    server = Supervised('--output', trace)
+    first = server.ready()
+    with open(os.path.join(os.path.dirname(TOOLS), 'daemon', 'tsp.logrotate'), encoding='ascii') as file:
+        text = file.read()
+    told = 'systemctl kill --signal=HUP --kill-who=main tsp.service'
+    wanted(text.count('/var/log/tsp/trace {') == 1 and text.count(told) == 1, 'logrotate\'s example is another one')
+    with open(config, 'w', encoding='ascii') as file:
+        file.write(text.replace('/var/log/tsp/trace {', f'{trace} {{').replace(told, f'kill -HUP {server.process.pid}'))
+    for number in (1, 2):
+        wanted(flood(server, 200, 2000) == 200, 'questions stay unanswered')
+        server.link.setblocking(True)
+        time.sleep(0.2)
+        subprocess.run(['logrotate', '--force', '--state', Supervised.path('state'), config], check=True)
+        until(lambda: os.path.exists(trace), 'the trace isn\'t opened anew')
+        until(lambda number=number: server.read().count('the daemon goes on') == number, f'it says {server.read()}')
+    wanted(flood(server, 200, 2000) == 200, 'questions stay unanswered')
+    wanted(server.daemon() == first, 'the daemon is another one')
+    server.end()
+    text = b''.join(subprocess.run(['zcat', '-f', trace + end], stdout=subprocess.PIPE, check=True).stdout for end in ('.2.gz', '.1', ''))
+    turns = sorted({int(line.split()[0]) for line in text.splitlines() if b' request 1 2' in line})
+    wanted(len(turns) >= 600 and all(b' ' in line for line in text.splitlines()), f'{len(turns)} of 600 questions are in the files')
+
+
+def rated():
+    """The page of a daemon whose counter has a rate gives what the daemon answers, and by its trace to the microsecond; without the rate it doesn't."""
+    for rate in (1_000_000, -700_001, 0):
+        server = Supervised(TSP_RATE=str(rate))
+        server.ready()
+        clock = tsp_clock.Clock(server.path('clock'))
+        until(lambda: clock.now().status == tsp_clock.WAITING, 'the page isn\'t written')
+        page, _ = clock.read()
+        wanted(page.rate == rate, f'the page has the rate {page.rate}')
+        begun, misses = time.monotonic(), 0
+        while time.monotonic() < begun + 1:
+            sent = time.monotonic_ns()
+            server.link.sendto(REQUEST, server.address)
+            reading, got = int.from_bytes(server.link.recv(512)[20:], 'big'), time.monotonic_ns()
+            misses += not within(page._replace(rate=0), sent, reading, got)
+            wanted(within(page, sent, reading, got), f'the daemon answers {reading}, and the page {[page.target_at(page.tick_at(now)) for now in (sent, got)]}')
+            time.sleep(0.005)
+        wanted(bool(misses) == bool(rate), f'without the rate {rate} the page is {misses} times another one')
+        server.end()
+        told = re.findall(r'^[0-9]+ 0 0 ([0-9]+) post [0-9]+ - reply [0-9]+ 1 2 ([0-9]+)$', server.read(server.out), re.MULTILINE)
+        wanted(len(told) > 50 and all(page.target_at(int(tick)) == int(reading) for tick, reading in told), 'the page is another one than the trace')
+
+
+def within(page, sent, reading, got):
+    """Whether a reading lies between what a page gives before and after it, as far as that is known."""
+    low, high = (page.target_at(page.tick_at(now)) for now in (sent, got))
+    return low - page.off - 1 <= reading <= high + page.off + 1
 
 
 def gone():

@@ -13,7 +13,8 @@ cases() {
 }
 
 before=''
-cases stuck blocked switched slept killed interrupted turned ended learned reloaded
+cases stuck blocked switched notified slept killed interrupted turned ended learned reloaded rated
+if has logrotate; then cases rotated; else skip 'there is no logrotate' 'its example'; fi
 if unshare -rn true 2>/dev/null && has ip; then
     before='unshare -rn'
     cases gone away

@@ -13,11 +13,11 @@ MAXADJ = 20_000_000
 
 
 def after_correction(page, tick, amount, is_step, shown):
-    """A page after a correction at a tick, by what the clock shows then: the target follows from that and from what is still to be slewed. To a clock
-    that leads the master's is no other one, and from any other it is as much farther, the other way."""
-    rest = 0 if is_step else page.target_at(tick) - page.shown_at(tick) + amount
+    """A page after a correction at a tick, by what the clock shows then. To a clock that leads the master's is no other one, and from any other it is as
+    much farther, the other way. (a correction that wasn't seen leaves the page's shown value another one than the clock's, but not its target)"""
+    target = shown if is_step else page.target_at(tick) + amount
     apart = 0 if page.role == LEADS else amount
-    return page._replace(tick=tick, target=shown + rest, rest=rest, steps=page.steps + is_step, low=page.low - apart, high=page.high - apart)
+    return page._replace(tick=tick, target=target, rest=target - shown, steps=page.steps + is_step, low=page.low - apart, high=page.high - apart)
 
 
 class Keeper:

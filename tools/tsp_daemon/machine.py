@@ -1,5 +1,7 @@
-"""What changes under a daemon that runs: whether the machine slept, and whether the daemon's address is gone."""
+"""What changes under a daemon that runs: whether the machine slept, when it wakes, and whether the daemon's address is gone."""
+import ctypes
 import errno
+import os
 import socket
 import time
 
@@ -22,6 +24,29 @@ class Sleep:
         """How long it slept; 0 where it didn't."""
         slept = slept_so_far() - self.before
         return slept if slept > SLEPT else 0
+
+
+class Moment(ctypes.Structure):
+    """Seconds and nanoseconds, as the system's calls have them."""
+    _fields_ = [('seconds', ctypes.c_long), ('nanoseconds', ctypes.c_long)]
+
+
+class Alarm:
+    """A timer that runs on while the machine sleeps, so that it is over when that wakes. `file` can be read then; it is None where there is no such timer."""
+
+    def __init__(self):
+        try:
+            self.set_timer = ctypes.CDLL(None).timerfd_settime
+            file = ctypes.CDLL(None).timerfd_create(time.CLOCK_BOOTTIME, os.O_NONBLOCK | os.O_CLOEXEC)
+        except AttributeError:
+            file = -1
+        self.file = file if file >= 0 else None
+
+    def set(self, seconds):
+        """Is over after so many seconds, sleep included."""
+        if self.file is not None:
+            parts = divmod(int(seconds * 1e9), 10 ** 9)
+            self.set_timer(self.file, 0, (Moment * 2)(Moment(0, 0), Moment(*parts)), None)
 
 
 def has_address(host):

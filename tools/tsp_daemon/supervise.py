@@ -28,9 +28,9 @@ DONE, NO_WORDS, BAD_WALL, NO_NETWORK = 0, 1, 2, 5
 MOST_SAID = 65536
 # By how many parts in a million counters may be wrong, where nobody says that.
 DRIFT = 100
-# Seconds: between two looks at the machine, between two starts at least, between two tries at most, after which a daemon has held, and for
-# the last lines.
-LOOK, APART, LONGEST_PAUSE, HELD, LAST_LINES = 0.5, 1, 60, 60, 0.3
+# Seconds: between two looks at the machine, by how many the alarm for its waking is later, between two starts at least, between two tries at most,
+# after which a daemon has held, and for the last lines.
+LOOK, WAKING, APART, LONGEST_PAUSE, HELD, LAST_LINES = 0.5, 0.1, 1, 60, 60, 0.3
 
 
 class Supervisor:
@@ -46,6 +46,9 @@ class Supervisor:
         self.systemd = Systemd(self.loop, self.say)
         self.reload = Reload(self.loop, words, self.say, self.begin_anew)
         self.serving = self.sleep = self.final = None
+        self.alarm = machine.Alarm()
+        if self.alarm.file is not None:
+            self.loop.watch(self.alarm.file, self.look)
         self.has_answered, self.was_switched, self.pause, self.started, self.left_out = False, False, APART, -APART, 0
         self.keeper = self.kept()
         # (where the rate is to be learned)
@@ -159,7 +162,8 @@ class Supervisor:
         self.has_answered = self.has_answered or is_on
 
     def look(self):
-        """Looks at the daemon and at what it stands on, twice a second."""
+        """Looks at the daemon and at what it stands on, twice a second, and at once when the machine wakes."""
+        self.alarm.set(0)
         if self.serving is None:
             return
         status, slept = self.serving.status(), self.sleep.seconds()
@@ -173,6 +177,7 @@ class Supervisor:
             self.begin_again(f'the machine slept for {slept:.0f} s, in which the daemon didn\'t count')
         else:
             self.loop.after('watch', LOOK, self.look)
+            self.alarm.set(LOOK + WAKING)
 
     def end_daemon(self):
         """Ends the daemon, if it runs."""

@@ -1,0 +1,50 @@
+#!/usr/bin/env python3
+"""A store of several hosts that don't talk to each other: each writes to a journal of its own, and of two writes that came one after the other, on any
+two hosts, all who read the journals find the later one.
+
+usage: store.py JOURNAL        writes each line `KEY VALUE` of standard input, and answers `done`, `unsure` or `refused`
+       store.py --read FILE..  prints what all journals together hold
+
+Each write is stamped with the latest time that it can be, and answered when each later stamp of any host is greater (commit wait). A round of the network's
+master moves clocks that agree by 40 ms at most, and hosts learn of that one after the other: so much more is waited for. Writes are refused while no
+master is known. They are `unsure` where that took too long: the write is there, and where it stands among others isn't known.
+"""
+import sys
+
+import tsp_clock
+
+# By how many microseconds a round moves a clock at most, and how many seconds a write waits.
+ROUND, LONGEST = 40_000, 10
+
+
+def write(clock, journal, line):
+    """Writes a line, and says what came of it."""
+    now = clock.now()
+    if now.status != tsp_clock.SYNCHRONISED:
+        return 'refused'
+    journal.write(f'{now.latest} {line}\n')
+    journal.flush()
+    return 'done' if tsp_clock.wait_after(clock, now.latest + ROUND, LONGEST) else 'unsure'
+
+
+def read(paths):
+    """The values by their keys, as the last writes of all journals have them."""
+    lines = []
+    for path in paths:
+        with open(path, encoding='utf-8') as journal:
+            lines += [line.rstrip('\n').split(' ', 2) for line in journal]
+    return {key: value for _, key, value in sorted(lines, key=lambda words: int(words[0]))}
+
+
+def main():
+    if sys.argv[1] == '--read':
+        for key, value in sorted(read(sys.argv[2:]).items()):
+            print(key, value)
+        return
+    clock = tsp_clock.Clock()
+    with open(sys.argv[1], 'a', encoding='utf-8') as journal:
+        for line in sys.stdin:
+            print(write(clock, journal, line.rstrip('\n')), flush=True)
+
+
+main()
