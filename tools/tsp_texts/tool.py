@@ -1,5 +1,6 @@
 """What every tool does alike: how its words are read, what it says on standard error, and how it ends."""
 import argparse
+import gc
 import os
 import signal
 import stat
@@ -89,6 +90,12 @@ def run_tool(main, failed=1):
         say('interrupted')
         signal.signal(signal.SIGINT, signal.SIG_DFL)
         os.kill(os.getpid(), signal.SIGINT)
+
+
+def run_short(main, failed=1):
+    """The same for a tool that doesn't last: nearly all that it makes is needed until it ends, so nothing is looked through for what isn't."""
+    gc.disable()
+    run_tool(main, failed)
 
 
 def end(text, status):

@@ -2,28 +2,20 @@
 
 All times are microseconds. `at` is true time, `tick` a node's own count.
 """
-from typing import NamedTuple, Optional
+from collections import namedtuple
 
 MILLION = 1_000_000
 SLEW = 200
 
 
-class Act(NamedTuple):
+class Act(namedtuple('Act', 'place event node port tick at words')):
     """A line of a trace: its place among the lines, and the true time of its event. `words` say what was done."""
-    place: int
-    event: int
-    node: int
-    port: int
-    tick: int
-    at: int
-    words: list
+    __slots__ = ()
 
 
-class Post(NamedTuple):
+class Post(namedtuple('Post', 'act to message')):
     """A datagram that was posted; `to` is None where it went to a stranger."""
-    act: Act
-    to: Optional[int]
-    message: list
+    __slots__ = ()
 
 
 def post_of(act):
@@ -41,16 +33,13 @@ def width(drift, passed):
     return -(-drift * passed // MILLION) + 1
 
 
-class Clock(NamedTuple):
+class Clock(namedtuple('Clock', 'node base rest since')):
     """A node's clock from a boot or a correction on.
 
     `base` is what the target is before the node's tick, `rest` by how much the shown value was short of the target at
     `since`, a tick.
     """
-    node: object
-    base: int
-    rest: int
-    since: int
+    __slots__ = ()
 
     def offset(self, at):
         """The target less true time."""
