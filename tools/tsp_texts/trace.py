@@ -8,19 +8,24 @@ MILLION = 1_000_000
 SLEW = 200
 
 
-class Act(namedtuple('Act', 'place event node port tick at words')):
-    """A line of a trace: its place among the lines, and the true time of its event. `words` say what was done."""
+class Act(namedtuple('Act', 'place event node port tick at text')):
+    """A line of a trace: its place among the lines, and the true time of its event. The text says what was done."""
     __slots__ = ()
 
+    @property
+    def words(self):
+        """The words of the text, which aren't kept: a trace may have very many."""
+        return self.text.split(' ')
 
-class Post(namedtuple('Post', 'act to message')):
+
+class Post(namedtuple('Post', 'act to')):
     """A datagram that was posted; `to` is None where it went to a stranger."""
     __slots__ = ()
 
-
-def post_of(act):
-    """The post that an act is."""
-    return Post(act, None if act.words[2] == '-' else int(act.words[2]), act.words[3:])
+    @property
+    def message(self):
+        """The words of the message."""
+        return self.act.words[3:]
 
 
 def tick_at(node, at):
@@ -62,5 +67,6 @@ def booted(node, act):
 
 def corrected(clock, act):
     """A clock after a correction, by what its act says."""
-    base = clock.base + int(act.words[1])
-    return Clock(clock.node, base, base + act.tick - int(act.words[3]), act.tick)
+    _, amount, _, shown = act.words
+    base = clock.base + int(amount)
+    return Clock(clock.node, base, base + act.tick - int(shown), act.tick)

@@ -18,18 +18,14 @@ class Fault(namedtuple('Fault', 'line cause field hint')):
 
 
 class Reader:
-    """Reads a schedule line by line, and knows what a line may be at its place. Events that happen are kept, unless `keeps` is false."""
+    """Reads a schedule line by line, and knows what a line may be at its place: `next` is the call that finds the fault of the next
+    one, whose number is set before. Events that happen are kept, unless `keeps` is false."""
 
     def __init__(self, keeps=True):
         self.strict, self.drift, self.nodes, self.nets = False, None, [], []
         # (a take has no node of its own)
         self.events, self.happened, self.time, self.up = 0, [] if keeps else None, 0, {None}
         self.number, self.next, self.ended, self.stopped = 0, self.header_line, False, False
-
-    def line(self, line):
-        """The fault of the next line, or None."""
-        self.number += 1
-        return self.next(line)
 
     def header_line(self, line):
         """The fault of a line of the header, or of the first one behind it."""
@@ -84,12 +80,18 @@ class Reader:
         if event is None:
             return self.no_event(line)
         self.events += 1
+        kind, at, node, _, _, peer, port = event
         # (nothing else can be wrong with what most events are)
-        if event.at < self.time or event.node not in self.up or event.peer is not None or event.port:
-            fault = self.fault(event)
+        if at < self.time or node not in self.up or peer is not None or port or self.events > schedule.MOST_EVENTS:
+            fault = self.fault(event) or self.surplus()
             if fault:
                 return fault
-        return self.happens(event)
+        self.time = at
+        if self.happened is not None:
+            self.happened.append(event)
+        if kind == 'boot':
+            self.up.add(node)
+        return None
 
     def no_event(self, line):
         """The fault of a line that is no event, unless it is the end."""
@@ -122,17 +124,12 @@ class Reader:
             return Fault(self.number, f'not-up {event.node}', 4, f'node {event.node}, {name}, hasn\'t booted: `at T boot {event.node} WORD` comes first')
         return None
 
-    def happens(self, event):
-        """Lets an event happen, unless there are too many."""
-        if self.events > schedule.MOST_EVENTS:
-            self.stopped = True
-            return Fault(self.number, None, 0, f'there are {schedule.MOST_EVENTS} events, and no more are taken')
-        self.time = event.at
-        if self.happened is not None:
-            self.happened.append(event)
-        if event.kind == 'boot':
-            self.up.add(event.node)
-        return None
+    def surplus(self):
+        """The fault of an event where there are too many."""
+        if self.events <= schedule.MOST_EVENTS:
+            return None
+        self.stopped = True
+        return Fault(self.number, None, 0, f'there are {schedule.MOST_EVENTS} events, and no more are taken')
 
     def end(self):
         """The fault of the input's end, or None."""
@@ -159,8 +156,8 @@ def faults_of(text, reader=None):
     """The faults of a text, one after the other. Behind a fault of the header, nothing is looked at."""
     reader = reader or Reader(keeps=False)
     last = text.count(b'\n', 0, schedule.MOST_OCTETS) if len(text) > schedule.MOST_OCTETS else None
-    for line in itertools.islice(schedule.lines_of(text), last):
-        fault = reader.line(line)
+    for reader.number, line in enumerate(itertools.islice(schedule.lines_of(text), last), 1):
+        fault = reader.next(line)
         if fault:
             yield fault
             if reader.stopped:
