@@ -43,7 +43,7 @@ class Line(namedtuple('Line', 'number node port tick text')):
 @lru_cache(maxsize=None)
 def pattern():
     """The pattern of a line, which is made where it is first needed."""
-    return re.compile(f'({NUMBER}) ({NUMBER}) ({NUMBER}) ({NUMBER}) ({"|".join(ACTS)})')
+    return re.compile(f'^({NUMBER}) ({NUMBER}) ({NUMBER}) ({NUMBER}) ({"|".join(ACTS)})$', re.MULTILINE)
 
 
 def line_of(text):
@@ -53,6 +53,12 @@ def line_of(text):
         return None
     number, node, port, tick, act = found.groups()
     return Line(int(number), int(node), int(port), int(tick), act)
+
+
+def lines_of(text):
+    """The lines of a whole text as their parts, whose numbers are texts yet; None where one of them is none of a trace's."""
+    found = pattern().findall(text)
+    return found if len(found) == text.count('\n') and text[-1:] in ('', '\n') else None
 
 
 def place_of_peer(words):
