@@ -1,7 +1,8 @@
 """Journals: the lines that a host's daemon wrote, life by life, as files or a journal have them."""
 import math
 
-from tsp_witness import Unusable, grammar
+from tsp_texts.grammar import place_of_peer
+from tsp_witness import Unusable, lines
 
 ELECT_MIN, ELECT_SPREAD = 300_000_000, 300_000_000
 TICKETS = 32768
@@ -9,8 +10,8 @@ TICKETS = 32768
 NUMBERED = ('slaveup', 'election', 'conflict', 'quit', 'setdatereq')
 
 
-class Act:
-    """A line of a daemon: its port and words, and whether the daemon wrote it, or it follows from the rules. `number` is that
+class Entry:
+    """An act of a daemon in its journal: its port and words, and whether the daemon wrote it, or it follows from the rules. `number` is that
     of its datagram in the schedule, where it is a post; `unseen` is how many posts before it the supervisor left out."""
     __slots__ = ('port', 'words', 'written', 'number', 'unseen')
 
@@ -45,7 +46,7 @@ class Life:
             for act in turn.acts:
                 if act.words[0] == 'correct':
                     moved += int(act.words[1])
-                self.base = grammar.told_base(act.words, turn.tick, moved, corrected)
+                self.base = lines.told_base(act.words, turn.tick, moved, corrected)
                 if self.base is not None:
                     return
                 corrected = corrected or act.words[0] == 'correct'
@@ -86,23 +87,23 @@ class Journal:
     def read(self, path):
         """Reads a file, which begins another life."""
         self.begins = True
-        with open(path, encoding='ascii', errors='replace') as lines:
-            for number, line in enumerate(lines, 1):
+        with open(path, encoding='ascii', errors='replace') as file:
+            for number, line in enumerate(file, 1):
                 self.line(line.rstrip('\r\n'), f'{path}:{number}')
 
     def line(self, line, place):
         """One line: an act, what the launcher says at a start, or something else that is passed over."""
-        found = grammar.LINE.search(line)
+        found = lines.line_of(line)
         if found:
-            self.act(int(found[1]), int(found[3]), Act(int(found[2]), found[4].split(' '), unseen=self.unseen), place)
+            self.act(found.number, found.tick, Entry(found.port, found.text.split(' '), unseen=self.unseen), place)
             self.unseen = 0
-        elif grammar.LEFT_OUT.search(line):
+        elif lines.LEFT_OUT.search(line):
             # (of each question there is the line that it was taken, and that of its answer)
-            self.unseen += int(grammar.LEFT_OUT.search(line)[1]) // 2
-        elif grammar.ALMOST.search(line):
+            self.unseen += int(lines.LEFT_OUT.search(line)[1]) // 2
+        elif lines.ALMOST.search(line):
             self.notes.append(f'{place}: this line is cut or changed, and is passed over')
-        elif grammar.START.search(line):
-            self.check_peers(grammar.START.search(line), place)
+        elif lines.START.search(line):
+            self.check_peers(lines.START.search(line), place)
             self.begins = True
 
     def check_peers(self, found, place):
@@ -132,7 +133,7 @@ class Journal:
             raise Unusable(f'{place}: turn {turn.number} has two ticks, {turn.tick} and {tick}')
         if act.port >= len(self.network.ports_of(self.node)):
             raise Unusable(f'{place}: {name} has no port {act.port} by the hosts file')
-        peer = grammar.place_of_peer(act.words)
+        peer = place_of_peer(act.words)
         if peer is not None and int(act.words[peer]) not in peers:
             raise Unusable(f'{place}: {name} has no peer {act.words[peer]} by the hosts file, which gives it {len(peers) - 1}')
         if act.words[0] == 'took' and turn.took():

@@ -1,29 +1,24 @@
 """What the rules say of a story: whether each daemon's acts are those of its replay, and whether the whole keeps the promises."""
 import subprocess
-from typing import NamedTuple, Optional
+from collections import namedtuple
 
-from tsp_texts import program as programs
-from tsp_witness import Unusable, grammar
-from tsp_witness.journal import Act
+from tsp_texts import grammar, program as programs
+from tsp_witness import Unusable
+from tsp_witness.journal import Entry
 
 AUDITED_EVENTS = AUDITED_LINES = 20_000
 AUDITED_NODES = 16
 
 
-class Difference(NamedTuple):
+class Difference(namedtuple('Difference', 'event claimed ruled')):
     """The first event whose acts differ: its number, what was claimed of it, and what the rules say."""
-    event: int
-    claimed: list
-    ruled: list
+    __slots__ = ()
 
 
-class Verdict(NamedTuple):
+class Verdict(namedtuple('Verdict', 'alike difference audit audited', defaults=(None,))):
     """How many of the daemons' lines are as the rules say, the first event at which they aren't, the answer of the audit, which is None
     where it wasn't asked, and of how many events it was asked where these aren't all."""
-    alike: int
-    difference: Optional[Difference]
-    audit: Optional[str]
-    audited: Optional[int] = None
+    __slots__ = ()
 
     def is_well(self):
         return self.difference is None and self.audit in (None, 'holds')
@@ -118,7 +113,7 @@ def unplaced(story, turn, words):
         words[place] = str(story.network.known_as[turn.life.node].get((int(words[place]), port), 0))
     if words[0] == 'arm':
         words[2] = str(int(words[2]) - story.placing.tick(turn.life, 0))
-    return Act(port, words, False)
+    return Entry(port, words, False)
 
 
 def explain(story, difference):
