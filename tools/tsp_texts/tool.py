@@ -5,7 +5,6 @@ import os
 import signal
 import stat
 import sys
-import tempfile
 
 CUT_OFF = 141
 # A line on standard error is no longer than that, whatever it speaks of.
@@ -135,6 +134,7 @@ def write(path, octets):
 
 def replace(path, octets):
     """Puts a new file in the place of the one at a path, or of none."""
+    import tempfile
     handle, beside = tempfile.mkstemp(dir=os.path.dirname(path), prefix='.' + os.path.basename(path)[:100])
     try:
         with os.fdopen(handle, 'wb') as out:

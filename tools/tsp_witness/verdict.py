@@ -2,7 +2,7 @@
 import subprocess
 from collections import namedtuple
 
-from tsp_texts import grammar, program as programs
+from tsp_texts import grammar
 from tsp_witness import Unusable
 from tsp_witness.journal import Entry
 
@@ -23,6 +23,10 @@ class Verdict(namedtuple('Verdict', 'alike difference audit audited', defaults=(
     def is_well(self):
         return self.difference is None and self.audit in (None, 'holds')
 
+    def explained(self, story):
+        """Lines for a reader about the first act that differs, where there is one."""
+        return explain(story, self.difference) if self.difference else ()
+
     def text(self):
         """The verdict in a line."""
         if self.audit is None:
@@ -35,7 +39,7 @@ class Verdict(namedtuple('Verdict', 'alike difference audit audited', defaults=(
 def run(program, command, text):
     """What the program writes for a text."""
     try:
-        ran = subprocess.run([program, command], input=text.encode('ascii'), stdout=subprocess.PIPE, check=False, **programs.QUIET)
+        ran = subprocess.run([program, command], input=text.encode('ascii'), stdout=subprocess.PIPE, stderr=subprocess.DEVNULL, check=False)
     except OSError as fault:
         raise Unusable(f'{program}: {fault.strerror}') from fault
     return ran.stdout.decode('ascii', 'replace').splitlines()
