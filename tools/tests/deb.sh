@@ -130,7 +130,12 @@ if in_system --install "$package"; then
     [ -x "$out/system$launch" ] || fail 'the package is not installed'
     echo 'a 192.0.2.1 master' >"$out/system/etc/tsp/hosts"
     ln -s /usr/lib/systemd/system/tsp.service "$out/system/etc/systemd/system/multi-user.target.wants"
-    install -d "$out/system/usr/share/tsp/tsp_daemon/__pycache__"
+    for folder in tsp_texts tsp_daemon tsp_witness; do
+        for module in "$out/system/usr/share/tsp/$folder"/*.py; do
+            name=$(basename "$module" .py)
+            ls "$out/system/usr/share/tsp/$folder/__pycache__/$name".*.pyc >/dev/null || fail "$name is not compiled"
+        done
+    done
     in_system --purge tsp || fail "$(tail -n 1 "$out/told")"
     left >"$out/rest"
     grep -v -x -e "$out/system" -e "$out/system/etc\(/systemd.*\)*" -e "$out/system/var\(/lib\)*" "$out/rest" >"$out/beyond" || :
