@@ -1,8 +1,7 @@
 """How far a run of proofs is, and how long the rest takes, by what this machine has done so far.
 
-The run is played in advance as `rt` would do it on a machine that takes as long as docs/GATE.md says: each crate as soon as those below it
-are proved and a processor is free. What has been done by now tells which moment of that play the run is at, and how much slower this
-machine is.
+The rest is played in advance as `rt` would do it on a machine that takes as long as docs/GATE.md says: each crate as soon as those below it
+are proved and a processor is free. How much slower this machine is shows in what single crates took, and in how long it took to get this far.
 """
 import heapq
 
@@ -12,104 +11,83 @@ BUILD = 25.0
 FIRST_JOBS = 2.5
 
 
-class Play:
-    """A run that is played in advance: when each crate begins and ends."""
-
-    def __init__(self, work, listed, processors, first=None):
-        self.work, self.listed = work, listed
-        self.begin, self.end = {}, {}
-        self.first = first
-        self.play(max(1, processors))
-        self.total = max(self.end.values(), default=0.0) + BUILD
-
-    def play(self, processors):
-        waiting = list(self.work)
-        busy, now = [], 0.0
-        while waiting or busy:
-            ready = [name for name in waiting if all(each in self.end and self.end[each] <= now for each in self.listed[name])]
-            # (those on which most work waits go first, as the crates' order has it)
-            for name in ready[:processors - len(busy)]:
-                waiting.remove(name)
-                takes = self.work[name] / (FIRST_JOBS if name == self.first else 1)
-                self.begin[name], self.end[name] = now, now + takes
-                heapq.heappush(busy, (self.end[name], name))
-            if busy:
-                now = heapq.heappop(busy)[0]
-
-    def done(self, moment):
-        """The work that is done at a moment of the play."""
-        return sum(self.work[name] * min(1.0, max(0.0, (moment - self.begin[name]) / (self.end[name] - self.begin[name])))
-                   for name in self.work if self.work[name])
-
-    def moment(self, done):
-        """The first moment of the play at which so much work is done."""
-        low, high = 0.0, self.total - BUILD
-        if self.done(high) <= done:
-            return high
-        for _ in range(40):
-            middle = (low + high) / 2
-            low, high = (middle, high) if self.done(middle) < done else (low, middle)
-        return high
+def play(work, listed, processors, first):
+    """The seconds that these crates take, played in advance; a crate without work is proved already. The program's build comes last."""
+    end = {name: 0.0 for name in work if not work[name]}
+    waiting = [name for name in work if work[name]]
+    busy, now = [], 0.0
+    while waiting or busy:
+        ready = [name for name in waiting if all(end.get(each, now + 1) <= now for each in listed[name])]
+        for name in ready[:processors - len(busy)]:
+            waiting.remove(name)
+            end[name] = now + work[name] / (FIRST_JOBS if name == first else 1)
+            heapq.heappush(busy, end[name])
+        if busy:
+            now = heapq.heappop(busy)
+    return max(end.values(), default=0.0) + BUILD
 
 
 class Forecast:
     """How far a run is. Percentages never fall."""
 
-    def __init__(self, work, listed, processors, first=None):
-        self.work, self.listed = dict(work), listed
-        self.processors, self.first = processors, first
-        self.play = Play(self.work, listed, processors, first)
-        self.ended, self.percent = {}, 0
+    def __init__(self, work, listed, processors, first):
+        self.work, self.listed, self.first = dict(work), listed, first
+        self.processors = max(1, processors)
+        self.ended, self.took, self.percent = {}, {}, 0
 
     def expected(self):
         """The seconds of the whole run on a machine as docs/GATE.md has it."""
-        return self.play.total
+        return play(self.work, self.listed, self.processors, self.first)
 
     def keep(self, names):
         """These crates needn't be proved: an earlier run proved them."""
-        news = [name for name in names if name not in self.ended and self.work.get(name)]
-        for name in news:
-            self.work[name] = 0.0
-        if news:
-            self.play = Play(self.work, self.listed, self.processors, self.first)
         for name in names:
-            self.ended.setdefault(name, 0.0)
+            if name not in self.ended:
+                self.ended[name] = 0.0
+                self.work[name] = 0.0
 
-    def end(self, names, spent):
-        """These crates are proved."""
+    def end(self, names, spent, begun):
+        """These crates are proved; `begun` has when each of them began."""
         for name in names:
-            self.ended.setdefault(name, spent)
+            if name not in self.ended:
+                self.ended[name] = spent
+                if name in begun:
+                    self.took[name] = spent - begun[name]
 
     def reckon(self, begun, spent):
         """The percentage of the work that is done, and the seconds that are left, after so many seconds; `begun` has when each crate in work began."""
-        proved = sum(self.work[name] for name in self.ended if name in self.work)
-        moment = self.play.moment(proved)
-        slower = self.slower(spent, moment)
-        done = proved + sum(self.part(name, spent - since, slower) for name, since in begun.items() if name in self.work and name not in self.ended)
-        moment = self.play.moment(done)
-        slower = self.slower(spent, moment)
-        whole = sum(self.work.values()) + BUILD
-        if len(self.ended) < len(self.work):
-            left = slower * (self.play.total - moment)
-        else:
-            last = max(self.ended.values(), default=0.0)
-            left = max(slower * BUILD - (spent - last), 5.0)
-            done = whole - BUILD * min(1.0, left / (slower * BUILD))
-        self.percent = max(self.percent, min(99, int(100 * done / whole)))
-        return self.percent, left
+        whole, slower = self.expected(), self.by_crates()
+        rest = self.rest(begun, spent, slower)
+        if len(self.took) >= 2:
+            # (later in a run, how long it took to get this far tells more than single crates do)
+            share = 1 - rest / whole
+            slower = (1 - share) * slower + share * spent / max(whole - rest, 1.0)
+            rest = self.rest(begun, spent, slower)
+        self.percent = max(self.percent, min(99, int(100 * (1 - rest / whole))))
+        return self.percent, max(slower * rest, 5.0)
 
-    def slower(self, spent, moment):
-        """How many times as long as the play this machine takes. Before the second crate is proved that isn't known."""
-        proved = [name for name in self.ended if self.work.get(name)]
-        if len(proved) < 2 or moment <= 0:
-            return 1.0
-        return max(0.2, spent / moment)
+    def by_crates(self):
+        """How many times as long as docs/GATE.md says single crates took. Before the second one is proved that isn't known."""
+        work = sum(self.alone(name) for name in self.took)
+        return max(0.2, sum(self.took.values()) / work) if len(self.took) >= 2 and work > 0 else 1.0
+
+    def rest(self, begun, spent, slower):
+        """The seconds that the rest takes on a machine as docs/GATE.md has it."""
+        left = {name: 0.0 if name in self.ended else work for name, work in self.work.items()}
+        for name, since in begun.items():
+            if left.get(name):
+                left[name] *= 1 - self.part(name, spent - since, slower)
+        rest = play(left, self.listed, self.processors, self.first)
+        if len(self.ended) == len(self.work):
+            rest = max(rest - (spent - max(self.ended.values())) / slower, 1.0)
+        return rest
 
     def part(self, name, seconds, slower):
         """How much of a crate in work is done, as far as can be said: never all of it."""
-        takes = self.play.end[name] - self.play.begin[name]
-        if takes <= 0:
-            return 0.0
-        share = seconds / (slower * takes)
+        share = seconds / (slower * self.alone(name))
         # (one that takes longer than was thought comes near its end more and more slowly)
-        return self.work[name] * (share if share < 0.8 else 1 - 0.2 * 0.8 / share)
+        return share if share < 0.8 else 1 - 0.2 * 0.8 / share
+
+    def alone(self, name):
+        """The seconds that a crate takes on a machine as docs/GATE.md has it."""
+        return self.work[name] / (FIRST_JOBS if name == self.first else 1)

@@ -32,15 +32,15 @@ class Progress:
         spent = self.spent()
         proved, kept = runs.said()
         self.forecast.keep(kept)
-        self.forecast.end(proved, spent)
+        self.forecast.end(proved, spent, self.since)
         now = runs.begun()
-        self.since = {name: self.since.get(name, spent) for name in now}
+        self.since.update({name: spent for name in now if name not in self.since})
         if spent >= self.next:
             self.next = spent + EVERY
             self.show(spent, sorted(now - set(self.forecast.ended)))
 
     def show(self, spent, now):
-        percent, left = self.forecast.reckon(self.since, spent)
+        percent, left = self.forecast.reckon({name: self.since[name] for name in now}, spent)
         ended = len(self.forecast.ended)
         minutes = max(1, int(-(-left // 60)))
         line = f'{ended} of {self.total} crates, {percent} % of the work, {in_words(spent)}, about {minutes} min more'

@@ -1,5 +1,5 @@
 -- What is held, and how far the lines have come.
-use Rattle.std.specs.Prelude.{◌≡◌, ℕ, ◌<◌, ◌≤◌, List, [], ◌∷◌, length, codes, reverse, Option, Some}
+use Rattle.std.specs.Prelude.{◌≡◌, ℕ, ◌<◌, ◌≤◌, Bool, true, false, List, [], ◌∷◌, length, codes, reverse, MatchBool, Option, Some}
 use Rattle.std.proofs.Common.{◌∙◌, ap, subst, inl, inr, sym, refl, append-nil}
 use Rattle.tsp_audit_command.specs.declared.check.AuditInput.{AuditInput}
 use Rattle.tsp_audit_command.specs.declared.check.AuditInput.TheVariants.{Schedule, Claims as ClaimsOf}
@@ -14,10 +14,11 @@ use Rattle.tsp_audit_command.proofs.Reverses.{reverse-more}
 use Rattle.tsp_audit_command.proofs.TraceLengths.{SpellsTrace-long}
 use Rattle.tsp_schedule.specs.declared.stage.Stage.{Stage}
 use Rattle.tsp_schedule.specs.Schedules.{Progress, Untitled, Titled, Drifted, Heading, Running, Ended, IsEnded}
-use Rattle.tsp_schedule.specs.Stages.{StageStands, Advances as AdvancesBy}
+use Rattle.tsp_schedule.specs.Stages.{StageStands, Advances as AdvancesBy, AdvancesByEvent}
+use Rattle.tsp_schedule.proofs.StageLemmas.{MatchBool-map}
 use Rattle.tsp_lines.specs.declared.treatment.Stop.{Stop}
 use Rattle.tsp_lines.specs.declared.treatment.Stop.TheVariants.{Bad, Limit, WriteFault, OutOfMemory}
-use Rattle.tsp_lines.specs.Meanings.{Goes, StopsAt}
+use Rattle.tsp_lines.specs.Meanings.{Goes, StopsAt, Tried}
 use Rattle.tsp_lines.proofs.Outputs.{Hands-nil}
 use Rattle.tsp_base.specs.declared.trace.Line2.{Line2}
 
@@ -34,6 +35,20 @@ Advances-scheduled p line stage a next few stands = record {
   stands_for = stands;
   only = λ other g. g.3 ∙ ap (λ q. reading_of q) (a.only g.0 g.1);
 }
+
+-- a line of the schedule's, of an event
+Advances-event : (p : Progress) (line : List ℕ) (stage : Stage Listing) → AdvancesByEvent refused ListingStands p line stage → nodes_at p ≤ most_nodes → Advances (Scheduling p) line (Schedule stage)
+Advances-event p line stage (header, events, e, is, a, to) few =
+    Advances-scheduled p line stage a (Schedule stage) (subst (λ q. nodes_at q ≤ most_nodes) (sym to) (subst (λ q. nodes_at q ≤ most_nodes) is few))
+    (subst (λ q. HeldStands (reading_of q) (Schedule stage)) (sym to) (subst (λ q. StageStands ListingStands q stage) to a.stands_for))
+
+-- a line of the schedule's that was tried: it is that of an event, or nothing has changed
+pub Tries-scheduled : (r : Reading) (held : AuditInput) (old new : Stage Listing) (line : List ℕ) (count : ℕ) (done : Bool) → held ≡ Schedule old → HeldStands r held → ((p : Progress) → StageStands ListingStands p old → count ≡ nodes_at p) → count ≤ most_nodes →
+    ((p : Progress) → StageStands ListingStands p old → MatchBool done (AdvancesByEvent refused ListingStands p line new) (StageStands ListingStands p new)) → MatchBool done (Advances r line (Schedule new)) (HeldStands r (Schedule new))
+Tries-scheduled (Scheduling p) held old new line count done is stands counts few tries =
+    let s : StageStands ListingStands p old = subst (λ h. HeldStands (Scheduling p) h) is stands in
+    MatchBool-map done (tries p s) (λ a. Advances-event p line new a (subst (λ n. n ≤ most_nodes) (counts p s) few)) (λ t. t)
+Tries-scheduled (Claimed v) held old new line count done is stands counts few tries = let bad : ⊥ = subst (λ h. HeldStands (Claimed v) h) is stands in absurd bad
 
 -- one that brings a node too many
 pub Halts-behind : (p : Progress) (line : List ℕ) (stage : Stage Listing) (a : AdvancesBy refused ListingStands p line stage) (stop : Stop) → HaltsBehind a.to stop → Halts (Scheduling p) line stop
@@ -86,6 +101,12 @@ Goes-advances lines text line r next written held reaches text_is advances =
   where
     one : (q : Reading) → Reaches (line ∷ reverse lines) q → HeldStands q next
     one q h = let b = advances h.0 h.1 in subst (λ x. HeldStands x next) (sym (b.only q h.2)) b.stands_for
+
+-- a line that was tried
+pub Tried-advances : (lines : List (List ℕ)) (text line : List ℕ) (r : Reading) (next : AuditInput) (done : Bool) (written : Option (List ℕ)) (held : List ℕ) → Reaches (reverse lines) r → text ≡ [] →
+    ((q : Reading) → Reaches (reverse lines) q → MatchBool done (Advances q line next) (HeldStands q next)) → Tried auditing (Stands next) lines text line written held written held done
+Tried-advances lines text line r next true written held reaches text_is tries = Goes-advances lines text line r next written held reaches text_is tries
+Tried-advances lines text line r next false written held reaches text_is tries = (tries, refl, refl)
 
 -- a line that isn't accepted
 pub StopsAt-halts : (lines : List (List ℕ)) (text line : List ℕ) (r : Reading) (written : Option (List ℕ)) (held : List ℕ) (stop : Stop) → Reaches (reverse lines) r → Halts r line stop → StopsAt auditing lines text line written held written held stop

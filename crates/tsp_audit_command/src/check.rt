@@ -1,5 +1,5 @@
 //! The audit of a claimed history as a treatment of lines.
-ghost use Rattle.std.specs.Prelude.{◌≡◌, ◌≢◌, ◌≤◌, ◌<◌, ℕ, List, length, take, MatchResult, Err};
+ghost use Rattle.std.specs.Prelude.{◌≡◌, ◌≢◌, ◌≤◌, ◌<◌, ℕ, List, length, take, MatchBool, MatchResult, Err};
 ghost use Rattle.tsp_audit_command.specs.Listings.{most_nodes};
 ghost use Rattle.tsp_audit_command.specs.Readings.{Lacks, Reading, Refuses, Scheduling, nodes_at, reading_of};
 ghost use Rattle.tsp_audit_command.specs.Stands.{Advances, Concludes, Halts, HaltsBehind};
@@ -16,7 +16,7 @@ use std::alloc::Global;
 use std::mem;
 use tsp_io::sink::Sink;
 use tsp_lines::cause::Cause;
-use tsp_lines::output::Output;
+use tsp_lines::output::{Output, Unwritten};
 use tsp_lines::treatment::{Stop, Treatment};
 use tsp_schedule::run::Run;
 use tsp_schedule::stage::Stage;
@@ -119,6 +119,21 @@ impl AuditInput {
             }
             Err(stop) => Err(stop),
         }
+    }
+
+    /// Reads a line as `advance` does, if it is that of a turn, a take or octets within the schedule, and nothing refuses
+    /// it. False for any other line, and then nothing has changed.
+    fn try_advance(&mut self, line: &[u8]) -> bool
+        ensures { (r : Reading) → HeldStands r self.old
+            → MatchBool result (Advances r line.now self.new) (HeldStands r self.new) }
+    {
+        let AuditInput::Schedule(stage) = self else {
+            return false;
+        };
+        if node_count(stage) > MOST_NODES {
+            return false;
+        }
+        stage.try_advance(line)
     }
 
     /// What the lines come to with this one more; fails as `advance` does.
@@ -231,6 +246,15 @@ impl Treatment for Check {
 
     fn is_full(&self) -> bool {
         false
+    }
+
+    fn try_treat<K: Sink>(
+        &mut self,
+        line: &[u8],
+        _output: &mut Output,
+        _sink: &mut K,
+    ) -> Result<bool, Unwritten> {
+        Ok(self.held.try_advance(line))
     }
 
     fn treat<K: Sink>(

@@ -1,5 +1,5 @@
 -- What lines mean to a command, and what the calls of its treatment answer.
-use Rattle.std.specs.Prelude.{◌≡◌, ℕ, ◌⊎◌, List, [], ◌∷◌, ◌++◌}
+use Rattle.std.specs.Prelude.{◌≡◌, ℕ, ◌⊎◌, Bool, true, false, List, [], ◌∷◌, ◌++◌}
 use Rattle.std.specs.declared.option.Option.{Option}
 use Rattle.tsp_lines.specs.Outputs.{Hands}
 use Rattle.tsp_lines.specs.declared.output.Unwritten.{Unwritten}
@@ -34,6 +34,11 @@ Goes m Stands lines text line written held now keeps = (more : List ℕ) × Hand
 -- nothing was handed over, or the beginning of an output of this kind
 abbrev pub Breaks : (List ℕ → Type 0) → Option (List ℕ) → List ℕ → Option (List ℕ) → List ℕ → Type 0
 Breaks IsWhole written held now keeps = (part : List ℕ) × Hands written held now keeps part × ((part ≡ []) ⊎ ((rest : List ℕ) × IsWhole (part ++ rest)))
+
+-- what came of a line that was tried: it went so, or nothing has changed and it is still to be treated
+abbrev pub Tried : Meaning → (List (List ℕ) → Type 0) → List (List ℕ) → List ℕ → List ℕ → Option (List ℕ) → List ℕ → Option (List ℕ) → List ℕ → Bool → Type 0
+Tried m Stands lines text line written held now keeps true = Goes m Stands lines text line written held now keeps
+Tried m Stands lines text line written held now keeps false = Stands lines × (now ≡ written) × (keeps ≡ held)
 
 -- why a line isn't accepted, or its output not handed over
 abbrev pub StopsAt : Meaning → List (List ℕ) → List ℕ → List ℕ → Option (List ℕ) → List ℕ → Option (List ℕ) → List ℕ → Stop → Type 0

@@ -153,6 +153,43 @@ impl Progress {
             (λ outcome. outcome ≢ Outcome.WriteFault → K.faults sink.new ≡ K.faults sink.old) }
         ensures kind { (result ≢ Some Outcome.ReadFault) × (result ≢ Some Outcome.Ok) }
     {
+        match treatment.try_treat(self.reader.line(), &mut self.output, sink) {
+            Ok(true) => {
+                self.number += 1;
+                None
+            }
+            Ok(false) => self.treat_any(sink, treatment),
+            Err(Unwritten::WriteFault) => Some(Outcome::WriteFault),
+            Err(Unwritten::OutOfMemory) => Some(Outcome::OutOfMemory),
+        }
+    }
+
+    /// The same for a line of any kind. Only here is there room for a `Stop`, since each call clears that room.
+    #[inline(never)]
+    fn treat_any<K: Sink, T: Treatment>(
+        &mut self,
+        sink: &mut K,
+        treatment: &mut T,
+    ) -> Option<Outcome>
+        requires short { length self.old.reader.line ≤ 1024 }
+        requires feedless { NoFeed self.old.reader.line }
+        requires counted { self.old.number < 2 ^ 64 - 1 }
+        ensures treats { (lines : List (List ℕ)) → (text : List ℕ) → T.stands treatment.old lines
+            → T.meaning.accepts lines text → ¬ T.meaning.full lines
+            → MatchOption result (Goes T.meaning (T.stands treatment.new) lines text
+            self.old.reader.line (K.written sink.old) self.old.output (K.written sink.new)
+            self.new.output) (λ outcome. Ends (line_sayings T.meaning lines text self.old.number
+            self.old.reader.line) (K.written sink.old) self.old.output (K.written sink.new)
+            outcome) }
+        ensures number { result ≡ None → self.new.number ≡ self.old.number + 1 }
+        ensures same { self.new.reader ≡ self.old.reader }
+        ensures later { K.faults sink.old ≤ K.faults sink.new }
+        ensures cause { result ≡ Some Outcome.WriteFault
+            → Rose (K.faults sink.old) (K.faults sink.new) }
+        ensures still { MatchOption result (K.faults sink.new ≡ K.faults sink.old)
+            (λ outcome. outcome ≢ Outcome.WriteFault → K.faults sink.new ≡ K.faults sink.old) }
+        ensures kind { (result ≢ Some Outcome.ReadFault) × (result ≢ Some Outcome.Ok) }
+    {
         match treatment.treat(self.reader.line(), &mut self.output, sink) {
             Ok(()) => {
                 self.number += 1;

@@ -2,12 +2,12 @@
 ghost use Rattle.std.specs.Prelude.{◌≡◌};
 
 use crate::replayed::Replayed;
-use crate::tell::tell_stage;
+use crate::tell::{tell, tell_stage, told};
 use arrayvec::ArrayVec;
 use std::alloc::Global;
 use tsp_io::sink::Sink;
 use tsp_lines::cause::Cause;
-use tsp_lines::output::Output;
+use tsp_lines::output::{Output, Unwritten};
 use tsp_lines::treatment::{Stop, Treatment};
 use tsp_schedule::stage::Stage;
 
@@ -43,6 +43,22 @@ impl Treatment for Replay {
 
     fn is_full(&self) -> bool {
         false
+    }
+
+    #[inline(always)]
+    fn try_treat<K: Sink>(
+        &mut self,
+        line: &[u8],
+        output: &mut Output,
+        sink: &mut K,
+    ) -> Result<bool, Unwritten> {
+        if !self.stage.try_advance(line) {
+            return Ok(false);
+        }
+        match tell(told(&self.stage), &mut self.text, output, sink) {
+            Ok(()) => Ok(true),
+            Err(fault) => Err(fault),
+        }
     }
 
     fn treat<K: Sink>(&mut self, line: &[u8], out: &mut Output, sink: &mut K) -> Result<(), Stop> {

@@ -16,7 +16,7 @@ use tsp_schedule::stage::Stage;
 use tsp_script::trace::append_placed;
 
 /// The lines of the last event's acts; none where the last line wasn't an event.
-fn told(stage: &Stage<Replayed>) -> &[Line]
+pub(crate) fn told(stage: &Stage<Replayed>) -> &[Line]
     ensures { result.now ≡ told_at stage.now }
 {
     match stage {
@@ -59,7 +59,7 @@ pub(crate) fn tell_stage<K: Sink>(
 }
 
 /// Puts lines of the trace into `output`, each of which is made in `text`; where it fails, the beginning of them.
-fn tell<K: Sink>(
+pub(crate) fn tell<K: Sink>(
     lines: &[Line],
     text: &mut ArrayVec<u8, 1024>,
     output: &mut Output,

@@ -1,5 +1,5 @@
 -- How a stage goes on, and how it halts.
-use Rattle.std.specs.Prelude.{◌≡◌, ◌≢◌, ℕ, List, [], ◌∷◌, ◌++◌, Ok, Err, None, MatchResult, refl, true}
+use Rattle.std.specs.Prelude.{◌≡◌, ◌≢◌, ℕ, Bool, List, [], ◌∷◌, ◌++◌, Ok, Err, None, MatchBool, MatchResult, refl, true, false}
 use Rattle.std.proofs.Common.{sym, ap, ◌∙◌, inl, inr, subst}
 use Rattle.std.specs.declared.result.Result.{Result}
 use Rattle.tsp_base.specs.declared.event.Event.{Event}
@@ -12,19 +12,25 @@ use Rattle.tsp_lines.specs.declared.treatment.Stop.TheVariants.{Bad, Limit, Writ
 use Rattle.tsp_script.specs.declared.event_line.EventItem.{EventItem}
 use Rattle.tsp_script.specs.declared.event_line.EventItem.TheVariants.{Event as EventOf, End}
 use Rattle.tsp_script.specs.declared.head_line.HeadItem.{HeadItem}
-use Rattle.tsp_script.specs.declared.head_line.HeadItem.TheVariants.{Title, Drift, Strict, Node, Net, NotHead}
+use Rattle.tsp_script.specs.declared.head_line.HeadItem.TheVariants.{Title, Drift, Node, Net, NotHead}
 use Rattle.tsp_script.specs.declared.line_fault.LineFault.{LineFault}
 use Rattle.tsp_script.specs.Schedules.{SpellsEvent, SpellsHead}
+use Rattle.tsp_script.proofs.OneEvent.{SpellsEvent-one}
+use Rattle.tsp_schedule.specs.declared.run.Run.{Run}
 use Rattle.tsp_schedule.specs.declared.stage.Stage.{Stage}
-use Rattle.tsp_schedule.specs.declared.stage.Stage.TheVariants.{Titled as AtTitled, Drifted as AtDrifted, Heading as AtHeading}
+use Rattle.tsp_schedule.specs.declared.stage.Stage.TheVariants.{Titled as AtTitled, Drifted as AtDrifted, Heading as AtHeading, Running as AtRunning}
 use Rattle.tsp_schedule.specs.Schedules.{Progress, Untitled, Titled, Drifted, Heading, Running, Ended, GoesOn, RunsOn, Takes, TakesNet, IsComplete, next_place, new_header, IsCause, drifted}
-use Rattle.tsp_schedule.specs.Stages.{StageStands, Advances, Halts, HaltsFirst, HaltsNode, HaltsNet, HaltsEvent, StopsFor}
+use Rattle.tsp_schedule.specs.Stages.{StageStands, RunStands, TriesLine, Advances, AdvancesByEvent, Halts, HaltsFirst, HaltsNode, HaltsNet, HaltsEvent, StopsFor}
 use Rattle.tsp_schedule.specs.Refusing.{Refusing}
 use Rattle.tsp_run.specs.Refusals.{IsRefusal}
 
 pub MatchResult-map : {A B : Type 0} {P R : A → Type 0} {Q S : B → Type 0} (r : Result A B) → MatchResult r P Q → ((a : A) → P a → R a) → ((b : B) → Q b → S b) → MatchResult r R S
 MatchResult-map (Ok a) h f g = f a h
 MatchResult-map (Err b) h f g = g b h
+
+pub MatchBool-map : {P Q R S : Type 0} (b : Bool) → MatchBool b P Q → (P → R) → (Q → S) → MatchBool b R S
+MatchBool-map true h f g = f h
+MatchBool-map false h f g = g h
 
 bad_cause : (fault : EventFault) (cause : List ℕ) → StopsFor fault (Bad cause) → IsCause fault cause
 bad_cause (TimeBack a b) cause s = s
@@ -95,6 +101,20 @@ module _ {C : Type 0} (refused : Refusing) (stands : HeaderValue → List Event 
     stands_for = s;
     only = only_event header events e line r is one;
   }
+
+  pub Advances-by_event : (header : HeaderValue) (events : List Event) (e : Event) (line : List ℕ) (next : Stage C) → SpellsEvent line (EventOf e) → refused header events e ≡ None → StageStands stands (Running header (e ∷ events)) next → AdvancesByEvent refused stands (Running header events) line next
+  unfolding Advances-event
+  Advances-by_event header events e line next spells none s =
+      (header, events, e, refl, Advances-event header events e line next (Ok (EventOf e)) refl (λ item k. ap (λ i. Ok i) (SpellsEvent-one line (EventOf e) item spells k)) spells none s, refl)
+
+  -- a line that was tried where the last one wasn't read yet
+  pub Running-tried : (p : Progress) (old new : Run C) (line : List ℕ) (done : Bool) → RunStands stands p old → old.over ≡ false → TriesLine refused stands old line new done → MatchBool done (AdvancesByEvent refused stands p line (AtRunning new)) (RunStands stands p new)
+  Running-tried Untitled old new line done h over t = absurd h
+  Running-tried (Titled version) old new line done h over t = absurd h
+  Running-tried (Drifted drift) old new line done h over t = absurd h
+  Running-tried (Heading header) old new line done h over t = absurd h
+  Running-tried (Running header events) old new line done h over t = t header events h.1
+  Running-tried (Ended header events) old new line done h over t = let q = h.0 in let bad : ⊥ = cc in absurd bad
 
   only_end : (header : HeaderValue) (events : List Event) (line : List ℕ) (r : Result EventItem LineFault) → r ≡ Ok End → ((item : EventItem) → SpellsEvent line item → r ≡ Ok item) →
       (other : Progress) → RunsOn refused header events line other → other ≡ Ended header events

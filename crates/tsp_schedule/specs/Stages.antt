@@ -1,5 +1,5 @@
 -- What a stage of the reading of a schedule stands for.
-use Rattle.std.specs.Prelude.{◌≡◌, ◌⊎◌, ℕ, true, false, List, [], ◌∷◌, reverse, None, Some, codes, MatchResult}
+use Rattle.std.specs.Prelude.{◌≡◌, ◌⊎◌, ℕ, Bool, true, false, List, [], ◌∷◌, reverse, None, Some, codes, MatchBool, MatchResult}
 use Rattle.std.specs.declared.result.Result.{Result}
 use Rattle.tsp_base.specs.declared.event.Event.{Event}
 use Rattle.tsp_base.specs.declared.event.EventFault.{EventFault}
@@ -38,6 +38,11 @@ pub record Advances {C : Type 0} (refused : Refusing) (stands : HeaderValue → 
 -- a line after the header was accepted
 abbrev pub RunAdvances : {C : Type 0} → Refusing → (HeaderValue → List Event → C → Type 0) → Progress → List ℕ → Run C → Type 0
 RunAdvances refused stands p line run = Advances refused stands p line (AtRunning run)
+
+-- the line of an event was accepted: the schedule ran before it, and has one event more after it
+abbrev pub AdvancesByEvent : {C : Type 0} → Refusing → (HeaderValue → List Event → C → Type 0) → Progress → List ℕ → Stage C → Type 0
+AdvancesByEvent refused stands p line next =
+    (header : HeaderValue) × (events : List Event) × (e : Event) × (p ≡ Running header events) × (a : Advances refused stands p line next) × (a.to ≡ Running header (e ∷ events))
 
 -- a line was refused
 abbrev pub Halts : Refusing → Progress → List ℕ → Stop → Type 0
@@ -97,3 +102,13 @@ ReadsOn refused stands old line new result = (header : HeaderValue) (events : Li
 abbrev pub Treats : {C : Type 0} → Refusing → (HeaderValue → List Event → C → Type 0) → Run C → Event → Run C → Result (Unit {0}) Stop → Type 0
 Treats refused stands old e new result = (header : HeaderValue) (events : List Event) → stands header events old.course →
     MatchResult result (λ _. (refused header events e ≡ None) × stands header (e ∷ events) new.course) (HaltsEvent refused header events e)
+
+-- an event was tried: it happened, or nothing has changed
+abbrev pub TriesEvent : {C : Type 0} → Refusing → (HeaderValue → List Event → C → Type 0) → Run C → Event → Run C → Bool → Type 0
+TriesEvent refused stands old e new result = (header : HeaderValue) (events : List Event) → stands header events old.course →
+    MatchBool result ((refused header events e ≡ None) × stands header (e ∷ events) new.course) (stands header events new.course)
+
+-- a line after the header was tried where the last line wasn't read yet: it was accepted, or nothing has changed
+abbrev pub TriesLine : {C : Type 0} → Refusing → (HeaderValue → List Event → C → Type 0) → Run C → List ℕ → Run C → Bool → Type 0
+TriesLine refused stands old line new result = (header : HeaderValue) (events : List Event) → stands header events old.course →
+    MatchBool result (AdvancesByEvent refused stands (Running header events) line (AtRunning new)) (RunStands stands (Running header events) new)

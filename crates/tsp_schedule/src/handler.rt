@@ -1,5 +1,5 @@
 //! What a command does with the events of a schedule.
-ghost use Rattle.std.specs.Prelude.{◌≡◌, ◌≤◌, List, [], ◌∷◌, length, true, IfOk, OnOk, MatchResult, None};
+ghost use Rattle.std.specs.Prelude.{◌≡◌, ◌≤◌, List, [], ◌∷◌, length, true, IfOk, OnOk, OnErr, MatchResult, None};
 ghost use Rattle.tsp_base.specs.Headers.{HeaderValue, is_whole};
 ghost use Rattle.tsp_base.specs.declared.event.Event.{Event};
 ghost use Rattle.tsp_schedule.specs.Refusing.{Refusing};
@@ -28,12 +28,16 @@ pub trait EventHandler: Drop {
         requires whole { is_whole header ≡ true }
         ensures { IfOk result (λ course. stands header [] course) };
 
-    /// Lets an event happen, or refuses it: with the cause that `refused` gives, or if out of memory.
+    /// Lets an event happen, or refuses it: with the cause that `refused` gives, or if out of memory. A refused event
+    /// changes nothing.
     fn event(&mut self, e: &Event) -> Result<(), EventFault>
         requires { IsEvent e.now }
         ensures happens { (header : HeaderValue) (events : List Event)
             → stands header events self.old
             → OnOk result (stands header (e.now ∷ events) self.new) }
+        ensures kept { (header : HeaderValue) (events : List Event)
+            → stands header events self.old
+            → OnErr result (stands header events self.new) }
         ensures fault { (header : HeaderValue) (events : List Event) → stands header events self.old
             → MatchResult result (λ _. refused header events e.now ≡ None)
             (λ f. IsRefusal (refused header events e.now) f) };
@@ -44,6 +48,9 @@ pub trait EventHandler: Drop {
         ensures happens { (header : HeaderValue) (events : List Event)
             → stands header events self.old
             → OnOk result (stands header (event_in plain.now ∷ events) self.new) }
+        ensures kept { (header : HeaderValue) (events : List Event)
+            → stands header events self.old
+            → OnErr result (stands header events self.new) }
         ensures fault { (header : HeaderValue) (events : List Event) → stands header events self.old
             → MatchResult result (λ _. refused header events (event_in plain.now) ≡ None)
             (λ f. IsRefusal (refused header events (event_in plain.now)) f) }
@@ -65,6 +72,9 @@ pub trait EventHandler: Drop {
             → stands header events self.old
             → OnOk result (stands header (Event.Bytes at node port from octets.now ∷ events)
             self.new) }
+        ensures kept { (header : HeaderValue) (events : List Event)
+            → stands header events self.old
+            → OnErr result (stands header events self.new) }
         ensures fault { (header : HeaderValue) (events : List Event) → stands header events self.old
             → MatchResult result (λ _. refused header events (Event.Bytes at node port from
             octets.now) ≡ None) (λ f. IsRefusal (refused header events (Event.Bytes at node port

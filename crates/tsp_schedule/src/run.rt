@@ -1,10 +1,12 @@
 //! The part of a schedule after its header.
 ghost use Rattle.std.specs.Prelude.{◌≡◌, ◌≢◌, ◌≤◌, ◌<◌, ℕ, List, [], length, true, false};
-ghost use Rattle.std.specs.Prelude.{IfOk, MatchOption, MatchResult, None, Err};
+ghost use Rattle.std.specs.Prelude.{IfOk, MatchBool, MatchOption, MatchResult, None, Err};
 ghost use Rattle.tsp_base.specs.Headers.{is_whole};
 ghost use Rattle.tsp_base.specs.declared.event.Event.{Event};
 ghost use Rattle.tsp_schedule.specs.Schedules.{IsEnded, Lacks, Progress, Refuses};
 ghost use Rattle.tsp_schedule.specs.Stages.{Halts, ReadsOn, RunAdvances, RunStands, Treats};
+ghost use Rattle.tsp_schedule.specs.Stages.{AdvancesByEvent, TriesEvent, TriesLine};
+ghost use Rattle.tsp_schedule.specs.declared.stage.Stage.{Stage};
 ghost use Rattle.tsp_base.specs.Plains.{event_in};
 ghost use Rattle.tsp_script.specs.Schedules.{IsEvent};
 
@@ -88,36 +90,6 @@ impl<C: EventHandler> Run<C> {
         ensures next { ReadsOn C.refused C.stands self.old line.now self.new result }
         ensures kind { result ≢ Err Stop.WriteFault }
     {
-        // The most frequent events have no octets, and short lines, so that they are cheap to read.
-        if line.len() <= PLAIN {
-            if let Some(plain) = plain_line(line) {
-                return self.happen_plain(&plain);
-            }
-        }
-        self.any(line)
-    }
-
-    /// Reads any line where the last line wasn't read yet. Octets are handed on from where they were read.
-    #[inline(never)]
-    fn any(&mut self, line: &[u8]) -> Result<(), Stop>
-        requires { self.old.over ≡ false }
-        ensures next { ReadsOn C.refused C.stands self.old line.now self.new result }
-        ensures kind { result ≢ Err Stop.WriteFault }
-    {
-        let mut octets = [0; 512];
-        match handed_line(line, &mut octets) {
-            Some(handed) => self.happen_bytes(handed, &octets[..handed.count]),
-            None => self.rare(line),
-        }
-    }
-
-    /// Reads a line that has no octets. Only here is there room for any event, since each call clears that room.
-    #[inline(never)]
-    fn rare(&mut self, line: &[u8]) -> Result<(), Stop>
-        requires { self.old.over ≡ false }
-        ensures next { ReadsOn C.refused C.stands self.old line.now self.new result }
-        ensures kind { result ≢ Err Stop.WriteFault }
-    {
         match event_line(line) {
             Ok(EventItem::Event(e)) => self.happen(&e),
             Ok(EventItem::End) => {
@@ -141,13 +113,24 @@ impl<C: EventHandler> Run<C> {
         }
     }
 
-    /// Lets an event of these octets happen.
-    fn happen_bytes(&mut self, handed: HandedLine, octets: &[u8]) -> Result<(), Stop>
+    /// Lets an event without octets happen. False where it is refused, and then nothing has changed.
+    fn try_plain(&mut self, plain: &Plain) -> bool
+        requires { IsEvent (event_in plain.now) }
+        ensures next { TriesEvent C.refused C.stands self.old (event_in plain.now) self.new result }
+        ensures over { self.new.over ≡ self.old.over }
+    {
+        match self.course.plain(plain) {
+            Ok(()) => true,
+            Err(_) => false,
+        }
+    }
+
+    /// Lets an event of these octets happen. False where it is refused, and then nothing has changed.
+    fn try_octets(&mut self, handed: HandedLine, octets: &[u8]) -> bool
         requires { IsEvent (Event.Bytes handed.at handed.node handed.port handed.from octets.now) }
-        ensures next { Treats C.refused C.stands self.old (Event.Bytes handed.at handed.node
+        ensures next { TriesEvent C.refused C.stands self.old (Event.Bytes handed.at handed.node
             handed.port handed.from octets.now) self.new result }
         ensures over { self.new.over ≡ self.old.over }
-        ensures kind { result ≢ Err Stop.WriteFault }
     {
         let HandedLine {
             at,
@@ -157,21 +140,51 @@ impl<C: EventHandler> Run<C> {
             count: _,
         } = handed;
         match self.course.bytes(at, node, port, from, octets) {
-            Ok(()) => Ok(()),
-            Err(fault) => Err(stop_of(fault)),
+            Ok(()) => true,
+            Err(_) => false,
         }
     }
 
-    /// Lets an event without octets happen.
-    fn happen_plain(&mut self, plain: &Plain) -> Result<(), Stop>
-        requires { IsEvent (event_in plain.now) }
-        ensures next { Treats C.refused C.stands self.old (event_in plain.now) self.new result }
-        ensures over { self.new.over ≡ self.old.over }
-        ensures kind { result ≢ Err Stop.WriteFault }
+    /// Reads a line with octets, which are handed on from where they were read. False where the line is another, or
+    /// its event is refused, and then nothing has changed.
+    #[inline(never)]
+    fn try_bytes(&mut self, line: &[u8]) -> bool
+        requires { self.old.over ≡ false }
+        ensures { TriesLine C.refused C.stands self.old line.now self.new result }
     {
-        match self.course.plain(plain) {
-            Ok(()) => Ok(()),
-            Err(fault) => Err(stop_of(fault)),
+        let mut octets = [0; 512];
+        match handed_line(line, &mut octets) {
+            Some(handed) => self.try_octets(handed, &octets[..handed.count]),
+            None => false,
         }
+    }
+
+    /// Reads a turn, a take or octets, where the last line wasn't read yet; false as with `try_bytes`.
+    fn try_on(&mut self, line: &[u8]) -> bool
+        requires { self.old.over ≡ false }
+        ensures { TriesLine C.refused C.stands self.old line.now self.new result }
+    {
+        // The most frequent events have no octets, and short lines, so that they are cheap to read.
+        if line.len() <= PLAIN {
+            if let Some(plain) = plain_line(line) {
+                return self.try_plain(&plain);
+            }
+        }
+        self.try_bytes(line)
+    }
+
+    /// Reads the line of a turn, a take or octets, if nothing refuses it. False for any other line, and then nothing
+    /// has changed.
+    #[inline(always)]
+    pub(crate) fn try_advance(&mut self, line: &[u8]) -> bool
+        ensures { (p : Progress) → RunStands C.stands p self.old
+            → MatchBool result
+            (AdvancesByEvent C.refused C.stands p line.now (Stage.Running self.new))
+            (RunStands C.stands p self.new) }
+    {
+        if self.over {
+            return false;
+        }
+        self.try_on(line)
     }
 }

@@ -4,7 +4,7 @@ ghost use Rattle.std.specs.Prelude.{MatchBool, MatchResult, MatchOption, Err, co
 ghost use Rattle.tsp_schedule.specs.Schedules.{Progress, Untitled, Titled, Drifted, Heading};
 ghost use Rattle.tsp_schedule.specs.Schedules.{Running, Takes, TakesNet, IsComplete, next_place};
 ghost use Rattle.tsp_schedule.specs.Schedules.{drifted, new_header, Lacks, IsEnded, Refuses};
-ghost use Rattle.tsp_schedule.specs.Stages.{StageStands, RunStands, Advances, Halts, HaltsNode, HaltsNet, HaltsFirst};
+ghost use Rattle.tsp_schedule.specs.Stages.{StageStands, RunStands, Advances, AdvancesByEvent, Halts, HaltsNode, HaltsNet, HaltsFirst};
 
 use crate::handler::EventHandler;
 use crate::run::Run;
@@ -85,6 +85,20 @@ impl<C: EventHandler> Stage<C> {
             return run.advance(line);
         }
         self.go_on(alloc, line)
+    }
+
+    /// Reads the next line as `advance` does, if it is that of a turn, a take or octets after the first line behind
+    /// the header, and nothing refuses it. False for any other line, and then nothing has changed.
+    #[inline(always)]
+    pub fn try_advance(&mut self, line: &[u8]) -> bool
+        ensures { (p : Progress) → StageStands C.stands p self.old
+            → MatchBool result (AdvancesByEvent C.refused C.stands p line.now self.new)
+            (StageStands C.stands p self.new) }
+    {
+        if let Stage::Running(run) = self {
+            return run.try_advance(line);
+        }
+        false
     }
 
     /// Reads the next line of a header, or the first one after it. Only here is there room for another stage,
