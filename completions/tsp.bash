@@ -56,7 +56,7 @@ _tsp_lint() {
     --program | -p) mapfile -t COMPREPLY < <(compgen -c -- "$2"); return ;;
     esac
     case $2 in
-    -*) mapfile -t COMPREPLY < <(compgen -W '--program --premises --help' -- "$2") ;;
+    -*) mapfile -t COMPREPLY < <(compgen -W '--program --premises --version --help' -- "$2") ;;
     *) _tsp_files tsp "$2" ;;
     esac
 }
@@ -64,12 +64,12 @@ _tsp_lint() {
 _tsp_plot() {
     case $(_tsp_before "$3") in
     --program | -p) mapfile -t COMPREPLY < <(compgen -c -- "$2"); return ;;
-    --output | -o) _tsp_files 'svg|html' "$2"; return ;;
+    --output | -o) _tsp_files 'svg|html|png' "$2"; return ;;
     '<') _tsp_any_file "$2"; return ;;
-    --title | -t | --drift | -d) return ;;
+    --title | --drift | -d) return ;;
     esac
     case $2 in
-    -*) mapfile -t COMPREPLY < <(compgen -W '--output --title --bounds --drift --program --help' -- "$2") ;;
+    -*) mapfile -t COMPREPLY < <(compgen -W '--output --title --strangers --bounds --drift --program --version --help' -- "$2") ;;
     *) _tsp_files 'tsp|trace' "$2" ;;
     esac
 }
@@ -78,7 +78,7 @@ _tsp_sim() {
     case $(_tsp_before "$3") in
     --program | -p) mapfile -t COMPREPLY < <(compgen -c -- "$2") ;;
     '<') _tsp_any_file "$2" ;;
-    *) mapfile -t COMPREPLY < <(compgen -W '--nodes --slaves --drift --wall --latency --loss --twice --cut --reboot --net --until --seed --program --help' -- "$2") ;;
+    *) mapfile -t COMPREPLY < <(compgen -W '--nodes --slaves --drift --wall --latency --loss --twice --cut --reboot --net --until --seed --program --version --help' -- "$2") ;;
     esac
 }
 
@@ -88,9 +88,9 @@ _tsp_launch() {
     --file | -f | --output | -o) mapfile -t COMPREPLY < <(compgen -f -- "$2") ;;
     --self | -s) mapfile -t COMPREPLY < <(compgen -W "$(_tsp_hosts 2)" -- "$2") ;;
     --firewall) mapfile -t COMPREPLY < <(compgen -W 'nft systemd' -- "$2") ;;
-    --turns | -t | --wait | -w | --spread | --rate) ;;
+    --turns | --wait | -w | --spread | --rate) ;;
     *)
-        mapfile -t COMPREPLY < <(compgen -W '--print --list --firewall --file --self --turns --wait --spread --rate --trace --supervise --output --program --help' -- "$2")
+        mapfile -t COMPREPLY < <(compgen -W '--print --list --lint --firewall --file --self --turns --wait --spread --rate --trace --supervise --output --program --version --help' -- "$2")
         ;;
     esac
 }
@@ -98,18 +98,28 @@ _tsp_launch() {
 _tsp_status() {
     case $(_tsp_before "$3") in
     --program | -p) mapfile -t COMPREPLY < <(compgen -c -- "$2") ;;
-    --file | -f | --output | -o) mapfile -t COMPREPLY < <(compgen -f -- "$2") ;;
+    --file | -f | --output | -o | --trace) mapfile -t COMPREPLY < <(compgen -f -- "$2") ;;
     --tries | -t | --timeout | --within) ;;
     *)
-        mapfile -t COMPREPLY < <(compgen -W '--file --need-master --within --check --csv --json --prometheus --output --timeout --tries --program --help' -- "$2")
+        mapfile -t COMPREPLY < <(compgen -W '--file --within --trace --check --csv --json --prometheus --output --timeout --tries --program --version --help' -- "$2")
         ;;
+    esac
+}
+
+_tsp_elect() {
+    case $(_tsp_before "$3"):$2 in
+    --program:* | -p:*) mapfile -t COMPREPLY < <(compgen -c -- "$2") ;;
+    --file:* | -f:* | --trace:*) mapfile -t COMPREPLY < <(compgen -f -- "$2") ;;
+    --tries:* | -t:* | --timeout:*) ;;
+    *:-*) mapfile -t COMPREPLY < <(compgen -W '--file --handover --trace --timeout --tries --program --version --help' -- "$2") ;;
+    *) mapfile -t COMPREPLY < <(compgen -W "$(_tsp_hosts 2)" -- "$2") ;;
     esac
 }
 
 _tsp_watch() {
     case $(_tsp_before "$3"):$2 in
     --prometheus:*) mapfile -t COMPREPLY < <(compgen -f -- "$2") ;;
-    *:-*) mapfile -t COMPREPLY < <(compgen -W '--json --prometheus --help' -- "$2") ;;
+    *:-*) mapfile -t COMPREPLY < <(compgen -W '--json --prometheus --version --help' -- "$2") ;;
     *) mapfile -t COMPREPLY < <(compgen -f -- "$2") ;;
     esac
 }
@@ -120,7 +130,7 @@ _tsp_now() {
     --file:* | -f:*) mapfile -t COMPREPLY < <(compgen -f -- "$2") ;;
     --tries:* | -t:* | --timeout:* | --wait:[0-9]*) ;;
     --set:*) mapfile -t COMPREPLY < <(compgen -W 'now' -- "$2") ;;
-    *:-*) mapfile -t COMPREPLY < <(compgen -W '--utc --offset --interval --wait --after --set --file --timeout --tries --program --help' -- "$2") ;;
+    *:-*) mapfile -t COMPREPLY < <(compgen -W '--utc --offset --interval --wait --after --file --timeout --tries --program --version --help' -- "$2") ;;
     *) mapfile -t COMPREPLY < <(compgen -W "$(_tsp_hosts 2)" -- "$2") ;;
     esac
 }
@@ -137,13 +147,16 @@ _tsp_run() {
 _tsp_witness() {
     case $3 in
     --program | -p) mapfile -t COMPREPLY < <(compgen -c -- "$2"); return ;;
-    --file | -f | --schedule | -s | --claims | -l | =) mapfile -t COMPREPLY < <(compgen -f -- "$2"); return ;;
+    --file | -f | --schedule | --claims | =) mapfile -t COMPREPLY < <(compgen -f -- "$2"); return ;;
     --drift | -d) return ;;
     esac
     case $2 in
     =) mapfile -t COMPREPLY < <(compgen -f) ;;
-    -*) mapfile -t COMPREPLY < <(compgen -W '--check --file --drift --altered --schedule --claims --program --help' -- "$2") ;;
-    *) mapfile -t COMPREPLY < <(compgen -S = -W "$(_tsp_hosts 2)" -- "$2") ;;
+    -*) mapfile -t COMPREPLY < <(compgen -W '--check --file --drift --altered --schedule --claims --program --version --help' -- "$2") ;;
+    *)
+        compopt -o nospace +o filenames 2>/dev/null
+        mapfile -t COMPREPLY < <(compgen -S = -W "$(_tsp_hosts 2)" -- "$2")
+        ;;
     esac
 }
 
@@ -154,6 +167,7 @@ complete -o filenames -F _tsp_plot tsp-plot
 complete -F _tsp_sim tsp-sim
 complete -o filenames -F _tsp_launch tsp-launch
 complete -o filenames -F _tsp_status tsp-status
+complete -o filenames -F _tsp_elect tsp-elect
 complete -o filenames -F _tsp_watch tsp-watch
 complete -o filenames -F _tsp_now tsp-now
 complete -o filenames -F _tsp_run tsp-run

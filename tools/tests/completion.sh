@@ -49,7 +49,7 @@ wants ' ' tsp serve 192.0.2.11:525 alpha m ''
 wants ' ' tsp trace 192.0.2.11:525 on ''
 wants 'alpha ' tsp-launch -s al
 wants 'daemon/hosts ' tsp-status --file daemon/h
-wants '--need-master ' tsp-status --ne
+wants '--within ' tsp-status --wi
 wants 'daemon/hosts ' tsp-watch daemon/h
 wants 'daemon/hosts ' tsp-watch --prometheus daemon/h
 wants 'beta ' tsp-now b
@@ -66,8 +66,9 @@ wants ' ' tsp-launch -s ''
 complete_words tsp '' | cmp -s - "$out/commands" || fail 'the commands are others than those of tsp --help'
 
 # The options are those of each tool's help.
-for tool in tsp-lint tsp-plot tsp-sim tsp-launch tsp-status tsp-watch tsp-now tsp-run tsp-witness; do
-    "tools/$tool" --help | grep -o -e '--[a-z][a-z-]*' | sort -u >"$out/options"
+for tool in tsp-lint tsp-plot tsp-sim tsp-launch tsp-status tsp-elect tsp-watch tsp-now tsp-run tsp-witness; do
+    # (nobody is to set a date by the tabulator)
+    "tools/$tool" --help | grep -o -e '--[a-z][a-z-]*' | grep -v -x -e --set | sort -u >"$out/options"
     complete_words "$tool" -- >"$out/completed"
     cmp -s "$out/options" "$out/completed" || fail "the options are others than those of $tool --help"
 done
@@ -85,5 +86,8 @@ tsp trace 192.0.2.11:525 of|tsp trace 192.0.2.11:525 off |
 tsp-status --file=daemon/ho|tsp-status --file=daemon/hosts |
 tsp-launch --self=al|tsp-launch --self=alpha |
 tsp-plot -o exam|tsp-plot -o examples/|
+tsp-now --s|tsp-now --s|
+tsp-witness al|tsp-witness alpha=|
+tsp-witness alpha=exam|tsp-witness alpha=examples/|
 END
 echo "$check: commands, options and files"

@@ -22,7 +22,7 @@ start c
 
 # All answer, and nobody leads yet. The clock of each began with this machine's.
 tries=0
-until tools/tsp-status -c -t 1 -f "$out/hosts" >"$out/said" 2>"$out/told" && [ "$(grep -c ' trace on$' "$out/a.trace")" -ge 1 ]; do
+until { tools/tsp-status -c -t 1 -f "$out/hosts" >"$out/said" 2>"$out/told" || [ "$(cat "$out/told")" = 'tsp-status: nobody leads' ]; } && [ "$(grep -c ' trace on$' "$out/a.trace")" -ge 1 ]; do
     tries=$((tries + 1))
     [ "$tries" -lt 10 ] || fail "$(cat "$out/told" "$out"/*.log)"
     sleep 1
@@ -52,7 +52,7 @@ status=0
 tools/tsp-launch --supervise -f "$out/hosts" -s a >"$out/said" 2>"$out/told" || status=$?
 [ "$status" -eq 5 ] && grep -qx "tsp-launch: 127.0.0.1:$one can't be bound: Address already in use" "$out/told" || fail "a port that is taken ends with status $status: $(cat "$out/told")"
 echo "d 127.0.0.1:$four slave" >"$out/fourth"
-tools/tsp-launch -f "$out/fourth" -s d -t 1 >"$out/said" 2>"$out/told" || fail "a daemon whose turns are done ends with status $?"
+tools/tsp-launch -f "$out/fourth" -s d --turns 1 >"$out/said" 2>"$out/told" || fail "a daemon whose turns are done ends with status $?"
 [ ! -s "$out/said" ] || fail 'a daemon that does not trace writes something'
 
 # A daemon that is supervised ends with 0.
@@ -73,5 +73,5 @@ wait "$first" 2>/dev/null || status=$?
 [ "$status" -eq 143 ] || fail "a daemon that is told to end ends with status $status"
 status=0
 tools/tsp-status -t 1 -f "$out/hosts" >"$out/said" 2>"$out/told" || status=$?
-[ "$status" -eq 1 ] && [ "$(cat "$out/told")" = 'tsp-status: silent: a' ] || fail "a daemon that is gone gives status $status, '$(cat "$out/told")'"
+[ "$status" -eq 1 ] && [ "$(paste -sd , "$out/told")" = 'tsp-status: nobody leads,tsp-status: silent: a' ] || fail "a daemon that is gone gives status $status, '$(cat "$out/told")'"
 echo "$check: three daemons answer, trace and end"

@@ -66,9 +66,23 @@ done <"$out/documents"
 
 # The packed program replays each example, and the packed tools run it.
 tools/tsp-status --help >"$out/help"
+"$out/root/usr/lib/tsp/tsp" --help >"$out/words-of-tsp"
 PATH=$out/root/usr/bin:$PATH
 unset TSP_PROGRAM
 [ "$(command -v tsp)" = "$out/root/usr/bin/tsp" ] || fail 'the packed program is not found'
+# It explains two statuses, and knows how one asks for help.
+for words in -h help --help; do
+    tsp "$words" | cmp -s - "$out/words-of-tsp" || fail "tsp $words gives something else"
+done
+status=0
+tsp clockdiff alpha >"$out/said" 2>"$out/told" || status=$?
+[ "$status" -eq 1 ] && [ "$(cat "$out/said")" = usage ] && grep -qx "tsp: the first word that the grammar has no place for is 'alpha' (word 2): an address A.B.C.D:PORT belongs there" "$out/told" ||
+    fail "of wrong words the packed tsp says '$(cat "$out/said" "$out/told")', status $status"
+status=0
+tsp serve 192.0.2.1:525 a s 1 >"$out/said" 2>"$out/told" || status=$?
+[ "$status" -eq 5 ] && grep -q "^tsp: 192.0.2.1:525 can't be bound: " "$out/told" || fail "of an address that isn't there the packed tsp says '$(cat "$out/told")', status $status"
+ln -s "$out/root/usr/bin/tsp" "$out/linked"
+[ "$("$out/linked" --version)" = "$(tsp --version)" ] || fail 'a link to the packed tsp gives something else'
 examples=$out/root/usr/share/doc/tsp/examples
 count=0
 for schedule in "$examples"/*.tsp "$examples"/schedules/*.tsp; do
@@ -112,6 +126,7 @@ cmp -s "$out/root/etc/default/tsp" daemon/tsp.default && [ "$(cat "$out/control/
 for script in postinst prerm postrm; do
     sh -n "$out/control/$script" && [ -x "$out/control/$script" ] || fail "$script can't be run"
 done
+[ "$(dpkg-deb --field "$package" Conflicts)" = task-spooler ] || fail 'another package has /usr/bin/tsp too, and may be installed beside it'
 ! grep -e enable -e 'start ' "$out/control/postinst" || fail 'the daemon starts by itself'
 for page in man/*.[1-8]; do
     gzip -dc "$out/root/usr/share/man/man${page##*.}/${page#man/}.gz" | cmp -s - "$page" || fail "$page isn't packed"
@@ -136,10 +151,14 @@ if in_system --install "$package"; then
             ls "$out/system/usr/share/tsp/$folder/__pycache__/$name".*.pyc >/dev/null || fail "$name is not compiled"
         done
     done
+    install -d "$out/system/usr/share/tsp/__pycache__" "$out/system/usr/share/tsp/tsp_daemon/__pycache__" "$out/system/usr/share/tsp/tsp_texts/__pycache__" \
+        "$out/system/usr/share/tsp/tsp_witness/__pycache__" "$out/system/etc/systemd/system/tsp.service.d"
+    echo '[Service]' >"$out/system/etc/systemd/system/tsp.service.d/mine.conf"
     in_system --purge tsp || fail "$(tail -n 1 "$out/told")"
     left >"$out/rest"
     grep -v -x -e "$out/system" -e "$out/system/etc\(/systemd.*\)*" -e "$out/system/var\(/lib\)*" "$out/rest" >"$out/beyond" || :
-    [ ! -s "$out/beyond" ] && ! grep -q 'tsp.service' "$out/rest" || fail "a purge leaves $(cat "$out/beyond")"
+    [ ! -s "$out/beyond" ] && ! grep -q 'wants/tsp.service' "$out/rest" || fail "a purge leaves $(cat "$out/beyond")"
+    [ -s "$out/system/etc/systemd/system/tsp.service.d/mine.conf" ] || fail "a purge takes along the administrator's own changes of the unit"
 else
     skip "this dpkg installs into no other root: $(tail -n 1 "$out/told")" 'what a purge leaves'
 fi

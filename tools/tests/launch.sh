@@ -38,13 +38,21 @@ gives() {
     [ ! -s "$out/told" ] || fail "$1: $(cat "$out/told")"
 }
 
-# Wants status 78 and this alone on standard error.
+# Wants status 78, or that of `faulty`, and this alone on standard error.
+faulty=78
 refuses() {
     text=$1
     shift
-    ends 78 "$@"
+    ends "$faulty" "$@"
     [ ! -s "$out/said" ] || fail "'$*' prints '$(cat "$out/said")'"
     [ "$(cat "$out/told")" = "tsp-launch: $text" ] || fail "'$*': it says '$(cat "$out/told")'"
+}
+
+# Wants status 2 and this alone on standard error.
+refuses_words() {
+    faulty=2
+    refuses "$@"
+    faulty=78
 }
 
 # Each host has its own line first, and the others of its network as peers.
@@ -59,6 +67,44 @@ given=''
 ends 0 --list -f "$hosts"
 printf '%s\n' '1 alpha 192.0.2.11:525 master' '1 beta 192.0.2.12:526 slave' '1 gate 192.0.2.1:525 master' '2 gamma 198.51.100.7:525 slave' '2 gate 192.0.2.1:525 master' |
     cmp -s - "$out/said" || fail "the hosts are listed as '$(cat "$out/said")'"
+
+# Files that can't work: `-n` says why beside its words, and --lint ends with 78.
+lints() {
+    wanted=$1
+    shift
+    printf '%s\n' "$@" | sed "s|^|tsp-launch: $out/linted:|" >"$out/faults"
+    [ $# -gt 0 ] || : >"$out/faults"
+    ends "$wanted" --lint -f "$out/linted"
+    [ ! -s "$out/said" ] && cmp -s "$out/told" "$out/faults" || fail "of a file that can't work it says '$(cat "$out/said" "$out/told")'"
+    name=$(sed -n '/^[a-z]/{s/ .*//p;q;}' "$out/linted")
+    ends 0 -n -f "$out/linted"
+    cmp -s "$out/told" "$out/faults" && [ "$(cut -d ' ' -f 3 "$out/said")" = "$name" ] || fail "of a file that can't work -n says '$(cat "$out/said" "$out/told")'"
+}
+given=TSP_SELF=a.example.org
+printf '%s\n' 'a 127.0.0.1:5251 master' 'b 127.0.0.1:5252 slave' >"$out/linted"
+lints 0
+printf '%s\n' 'a 127.0.0.1:5251 slave' 'b 127.0.0.1:5252 slave' >"$out/linted"
+lints 78 '1: no host of the network may lead: each is `slave`'
+printf '%s\n' 'a 192.0.2.11 master' 'b 192.0.2.12 slave' >"$out/linted"
+lints 78 "1: a is this machine's name, and 192.0.2.11 isn't its address: Cannot assign requested address"
+ends 0 --lint -f "$out/linted" -s a
+printf '%s\n' 'a 127.0.0.1:5251 master' 'g 127.0.0.1:5252 slave' + 'g 127.0.0.1:5252 slave' 'c 127.0.0.1:5253 master' '# behind it' 'd 127.0.0.1:5254 master' >"$out/linted"
+lints 78 '5: c may lead network 2 too, which g is to lead by the clock of an earlier one: `slave` belongs here' \
+    '7: d may lead network 2 too, which g is to lead by the clock of an earlier one: `slave` belongs here'
+printf '%s\n' 'a 127.0.0.1:5251 master' 'g 127.0.0.1:5252 slave' + 'g 127.0.0.1:5252 slave' 'c 127.0.0.1:5253 slave' >"$out/linted"
+lints 78 '4: no host of network 2 may lead: each is `slave`'
+printf '%s\n' 'a 127.0.0.1:5251 master' 'g 127.0.0.2:5251 master' 'h 127.0.0.3:5252 master' + 'g 127.0.0.4:5251 master' 'h 127.0.0.5:5252 master' 'c 127.0.0.6:5251 slave' >"$out/linted"
+lints 78 '1: a is on the machine of g, which listens at all of its addresses with port 5251: another port belongs here, or one address for the gateway' \
+    '7: c is on the machine of g, which listens at all of its addresses with port 5251: another port belongs here, or one address for the gateway'
+printf '%s\n' 'a 127.0.0.1:5251 master' 'b 127.0.0.1:5251 slave' >"$out/linted"
+refuses "$out/linted:2: 127.0.0.1:5251 stands in this network already" --lint -f "$out/linted"
+printf '%s\n' 'a 127.0.0.1:5251 master' + 'c 127.0.0.1:5251 master' >"$out/linted"
+refuses "$out/linted:3: 127.0.0.1:5251 is another host in an earlier network" --lint -f "$out/linted"
+given=TSP_SELF=elsewhere
+printf '%s\n' 'a 192.0.2.11 master' >"$out/linted"
+ends 0 --lint -f "$out/linted"
+given=''
+! tools/tsp-launch --lint -f daemon/hosts -s alpha 2>&1 | grep . || fail 'the example of a hosts file has a fault'
 
 # A host in two networks is a gateway. Its words have a + between its networks.
 gives gate 'serve 192.0.2.1:525 gate m 1000000000 192.0.2.11:525 192.0.2.12:526 + 198.51.100.7:525'
@@ -133,11 +179,11 @@ ends 0 -n -f "$out/hosts" -s "$(printf '%0255d' 0)"
 sed -i 's/^/0/' "$out/hosts"
 refuses "$out/hosts:1: the name has more than 255 letters" -n -f "$out/hosts" -s alpha
 for turns in 0 01 1000000001 -1 x ''; do
-    refuses "turns '$turns': a number from 1 to 1000000000" -n -f "$hosts" -s alpha --turns="$turns"
+    refuses_words "turns '$turns': a number from 1 to 1000000000" -n -f "$hosts" -s alpha --turns="$turns"
 done
-refuses "wait 'x': a number of seconds from 0 to 86400" -n -f "$hosts" -s alpha -w x
+refuses_words "wait 'x': a number of seconds from 0 to 86400" -n -f "$hosts" -s alpha -w x
 for spread in 01 3601 x 0.5; do
-    refuses "spread '$spread': a number of seconds from 0 to 3600" -n -f "$hosts" -s alpha --spread="$spread"
+    refuses_words "spread '$spread': a number of seconds from 0 to 3600" -n -f "$hosts" -s alpha --spread="$spread"
 done
 printf 'alpha 192.0.2.11 master\nbeta\0 192.0.2.12 slave\n' >"$out/hosts"
 refuses "$out/hosts:2: the line has a NUL" -l -f "$out/hosts"
@@ -145,10 +191,10 @@ printf 'alpha 192.0.2.11 master # \0\n' >"$out/hosts"
 refuses "$out/hosts:1: the line has a NUL" -n -f "$out/hosts" -s alpha
 head -c 67108864 /dev/zero | tr '\0' '#' >"$out/hosts"
 refuses "$out/hosts: it has more than 2097152 octets" -l -f "$out/hosts"
-refuses '-q: tsp-launch --help says which words there are' -q
-refuses '-f: a word is missing behind it' -n -f
+refuses_words '-q: tsp-launch --help says which words there are' -q
+refuses_words '-f: a word is missing behind it' -n -f
 given=TSP_TRACE=yes
-refuses "trace 'yes': on or off" -n -f "$hosts" -s alpha
+refuses_words "trace 'yes': on or off" -n -f "$hosts" -s alpha
 given=''
 refuses "there is no program $out/none" -f "$hosts" -s alpha -p "$out/none"
 

@@ -29,7 +29,7 @@ try_cases() {
         [ "$(tail -n 1 "$out/trace")" = "$wanted" ] || fail "$script: replay ends with '$(tail -n 1 "$out/trace")'"
         status=0
         tools/tsp-lint "$out/broken.tsp" >"$out/said" || status=$?
-        [ "$status" -eq 2 ] || fail "$script: tsp-lint ends with status $status"
+        [ "$status" -eq 1 ] || fail "$script: tsp-lint ends with status $status"
         [ "$(head -n 1 "$out/said")" = "$wanted" ] || fail "$script: tsp-lint says '$(head -n 1 "$out/said")'"
         [ "$(sed -n 2p "$out/said")" = "$out/broken.tsp:$hint" ] || fail "$script: tsp-lint says '$(sed -n 2p "$out/said")'"
         count=$((count + 1))
@@ -59,7 +59,7 @@ nodes() {
 }
 
 # Line 67 is the 65th node.
-nodes 65 | refuses 2 'bad 67 header'
+nodes 65 | refuses 1 'bad 67 header'
 
 # With 3 lines of header, the event behind 200,000 stands on line 200,004.
 {
@@ -99,7 +99,7 @@ tools/tsp-lint --program "$out/other" tools/tests/lint.tsp >"$out/said" 2>&1 || 
 # Other words, and a file that isn't there.
 status=0
 tools/tsp-lint a b 2>/dev/null || status=$?
-[ "$status" -eq 1 ] || fail "two files end with status $status"
+[ "$status" -eq 2 ] || fail "two files end with status $status"
 status=0
 tools/tsp-lint "$out/none" 2>/dev/null || status=$?
 [ "$status" -eq 3 ] || fail "a file that isn't there ends with status $status"

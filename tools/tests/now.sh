@@ -11,7 +11,7 @@ cat >"$out/fake" <<'END'
 #!/bin/sh
 echo "$*" >>"$CALLS"
 if [ "$1-$2" = clockdiff-192.0.2.11:525 ] && [ -n "$BEHIND" ]; then
-    set -- $(grep '^date' "$CALLS")
+    set -- $(grep '^date' "$CALLS" | tail -n 1)
     echo "clockdiff $(($3 - $(date +%s%6N) - BEHIND)) 250"
     exit
 fi
@@ -77,7 +77,7 @@ ends 0 '+%Y-%m-%dT%H:%M:%S.%6N%z' alpha --utc
 is_an_hour_ahead "$said"
 [ "${said#*+}" = 0000 ] || fail "a format in UTC gives '$said'"
 ends 0 --offset alpha
-[ "$said" = 3600.000000 ] || fail "the offset is '$said'"
+[ "$said" = +3600.000000 ] || fail "the offset is '$said'"
 echo 'clockdiff -1 0' >"$ANSWERS/clockdiff-192.0.2.12:526"
 ends 0 --offset beta
 [ "$said" = -0.000001 ] || fail "a small offset is '$said'"
@@ -90,40 +90,67 @@ ends 0 --offset
 printf '%s\n' + 'beta 198.51.100.12:526 slave' >>"$out/hosts"
 echo 'clockdiff 7 0' >"$ANSWERS/clockdiff-127.0.0.1:526"
 ends 0 --offset
-[ "$said" = 0.000007 ] || fail "the offset of a gateway is '$said', asked by '$(cat "$CALLS")'"
+[ "$said" = +0.000007 ] || fail "the offset of a gateway is '$said', asked by '$(cat "$CALLS")'"
 sed -i '/^+$/,$d' "$out/hosts"
 
-# A date that a master sets: in each spelling, and as this machine's clock.
+# A date is set at the host that leads, in each spelling, and as this machine's clock: at the moment of the try, and no more than some seconds later.
 echo 'date set' >"$ANSWERS/date-192.0.2.11:525"
-for case in 2026-11-28T09:41:02.5Z=1795858862500000 '2026-11-28 15:11:02+05:30=1795858862000000' 1969-12-31T23:59:59.75-00:30=1799750000 @-1.25=-1250000; do
+BEHIND=-1000
+for case in 2026-11-28T09:41:02.5Z=1795858862500000 '2026-11-28 15:11:02+05:30=1795858862000000' 1969-12-31T23:59:59.75-00:30=1799750000 @-1.25=-1250000 now=; do
     ends 0 --set "${case%=*}" alpha
-    [ "$(cat "$CALLS")" = "date 192.0.2.11:525 ${case##*=}" ] || fail "${case%=*} is set by '$(cat "$CALLS")'"
-    [ "$said" = 'date set: 192.0.2.11:525 leads, and its clock is that date' ] || fail "of a date that is set it says '$said'"
+    date=${case##*=}
+    later=$(($(sed -n 's/^date 192.0.2.11:525 //p' "$CALLS") - ${date:-$(date +%s%6N)}))
+    [ "$later" -le 3000000 ] && [ "$later" -ge "$([ -n "$date" ] && echo 0 || echo -3000000)" ] || fail "${case%=*} is set $later us later: '$(cat "$CALLS")'"
+    # (the fake's clock stands at the date for as long as it is looked at)
+    echo "$said" | grep -qx "date set at alpha, which leads: its clock is [0-3]\.[0-9]* s [a-z ]* that date, give or take 0\.000250" || fail "of a date that is set it says '$said'"
 done
-ends 0 --set now alpha
-date=$(cut -d ' ' -f 3 "$CALLS")
-away=$((date / 1000000 - $(date +%s)))
-[ "$away" -le 0 ] && [ "$away" -ge -10 ] || fail "now is $away s away"
+[ "$(sed 's/ .*//' "$CALLS" | paste -sd ' ')" = 'msite date clockdiff clockdiff clockdiff clockdiff' ] || fail "of a date it asks '$(cat "$CALLS")'"
 
-# One that is handed on: the master is named, and its clock is looked at.
-echo 'date forwarded' >"$ANSWERS/date-192.0.2.12:526"
+# Whoever leads is asked for: by a host that follows, through a gateway, and, where no host is named, by all of the first network.
+cp "$out/hosts" "$out/flat"
+printf '%s\n' + 'gate 198.51.100.1 slave' 'gamma 198.51.100.2 slave' >>"$out/hosts"
+sed -i '2a gate 192.0.2.13 slave' "$out/hosts"
 echo 'master alpha' >"$ANSWERS/msite-192.0.2.12:526"
-BEHIND=1000
-ends 0 --set 2026-11-28T09:41:02.5Z beta
-[ "$(head -n 1 "$out/said")" = 'date forwarded: 192.0.2.12:526 hands it on to its master, alpha' ] || fail "of a date that is handed on it says '$said'"
-# (the fake's clock stands at the date for as long as it is looked at)
-tail -n 1 "$out/said" | grep -qx "alpha's clock is [0-3]\.[0-9]* s behind that date, give or take 0\.000250" || fail "of a date that is handed on it says '$said'"
-BEHIND=60000000
-ends 1 --set 2026-11-28T09:41:02.5Z beta
-echo "$told" | grep -qx "tsp-now: the date isn't set: alpha's clock is 6[0-9]\.[0-9]* s behind that date, give or take 0\.000250" || fail "of a date that isn't set it tells '$told'"
-[ "$(grep -c clockdiff "$CALLS")" -ge 3 ] || fail 'a clock is not looked at again'
-BEHIND=''
+echo 'master alpha' >"$ANSWERS/msite-192.0.2.13:525"
+echo 'master gate' >"$ANSWERS/msite-198.51.100.2:525"
+for host in beta gamma 192.0.2.12:526 ''; do
+    ends 0 --set now $host
+    [ "$(grep ^date "$CALLS" | cut -d ' ' -f 1-2)" = 'date 192.0.2.11:525' ] || fail "${host:-nobody}: it sets the date by '$(cat "$CALLS")'"
+done
+echo 'no master' >"$ANSWERS/msite-192.0.2.11:525"
+ends 1 --set now
+[ "$told" = 'tsp-now: nobody leads: tsp-status says how the hosts are' ] && ! grep date "$CALLS" || fail "where nobody leads it tells '$told'"
+echo 'master gate' >"$ANSWERS/msite-192.0.2.13:525"
+echo 'master alpha' >"$ANSWERS/msite-192.0.2.11:525"
+ends 1 --set now
+[ "$told" = 'tsp-now: alpha and gate lead at one time: tsp-status says how the hosts are' ] && ! grep date "$CALLS" || fail "where two lead it tells '$told'"
+echo 'master beta' >"$ANSWERS/msite-192.0.2.11:525"
+echo 'master beta' >"$ANSWERS/msite-192.0.2.13:525"
+ends 1 --set now beta
+[ "$told" = 'tsp-now: nobody leads: tsp-status says how the hosts are' ] && ! grep date "$CALLS" || fail "where two name each other it tells '$told'"
+echo 'master alpha' >"$ANSWERS/msite-192.0.2.11:525"
+mv "$out/flat" "$out/hosts"
 echo 'no master' >"$ANSWERS/msite-192.0.2.12:526"
-ends 1 --set @5 beta
-[ "$told" = 'tsp-now: look at the clocks with tsp-status: nobody can say whether the date was set' ] || fail "without a master it tells '$told'"
+ends 0 --set now beta
+echo 'master delta' >"$ANSWERS/msite-192.0.2.12:526"
 echo 'master delta' >"$ANSWERS/msite-192.0.2.12:526"
 ends 78 --set @5 beta
 [ "$told" = "tsp-now: 'delta' is no host of the hosts file" ] || fail "of a stranger as master it tells '$told'"
+
+# A clock that isn't near afterwards; a master that takes no date, with each try at its own moment, and the reason; and one whose answer is lost.
+BEHIND=60000000
+ends 1 --set 2026-11-28T09:41:02.5Z alpha
+echo "$told" | grep -qx "tsp-now: the date isn't set: alpha's clock is [56][0-9]\.[0-9]* s behind that date, give or take 0\.000250" || fail "of a date that isn't set it tells '$told'"
+mv "$ANSWERS/date-192.0.2.11:525" "$out/set"
+ends 1 --set 2026-11-28T09:41:02.5Z alpha
+[ "$told" = "tsp-now: the date isn't set: alpha leads, and takes none now, since a correction that it sent in the last 70 s isn't acknowledged; no master takes a date then. Try again in 70 s" ] || fail "of a date that isn't taken it tells '$told'"
+later=$(grep ^date "$CALLS" | awk 'NR == 1 { one = $3 } END { print $3 - one }')
+[ "$(grep -c ^date "$CALLS")" -eq 2 ] && [ "$later" -ge 1000000 ] || fail "two tries have dates $later us apart"
+BEHIND=-1000
+ends 0 --set now -t 1 alpha
+echo "$said" | grep -q "^alpha, which leads, doesn't say that it set the date; its clock is [0-3]\.[0-9]* s " || fail "of an answer that is lost it says '$said'"
+mv "$out/set" "$ANSWERS/date-192.0.2.11:525"
+BEHIND=''
 
 # The page of this machine, which is read without a question: one that leads, one that follows, one without a master, and one that nobody writes.
 cat >"$out/write" <<'END'
@@ -170,7 +197,7 @@ ends 1 --after
 [ ! -s "$CALLS" ] || fail "with a page it asks '$(cat "$CALLS")'"
 
 # Nobody answers, or something else does; faulty words, files and outputs.
-rm "$ANSWERS/clockdiff-192.0.2.11:525" "$ANSWERS/date-192.0.2.11:525"
+rm "$ANSWERS"/*-192.0.2.11:525
 for words in alpha '--offset alpha' '--set @5 alpha'; do
     # shellcheck disable=SC2086  # words
     ends 1 $words
@@ -185,13 +212,18 @@ ends 78 --program "$out/none" --file "$out/none" alpha
 TSP_SELF='delta'
 ends 78
 [ "$told" = "tsp-now: $out/hosts: no line for this host, delta" ] || fail "of a host that isn't there it tells '$told'"
-for words in '--set x alpha' '--set 2026-02-30T00:00:00Z' '--set 2026-11-28T09:41:02' '--set @9999999999' '--set' 'a b' '+%s +%T' '--offset +%s' '--all' '--set @5 --offset' '--wait 1 alpha' '--after alpha' '--wait -1' '--interval +%s'; do
+for words in '--set x alpha' '--set 2026-02-30T00:00:00Z' '--set 2026-11-28T09:41:02' '--set @9999999999' '--set' 'a b' '+%s +%T' '--offset +%s' '--all' '--set @5 --offset' '--wait 1 alpha' '--after alpha' '--wait -1' '--interval +%s' 127.0.0.1:0 300.1.1.1 1.2.3 ::1 '[::1]:525' 01.2.3.4 224.0.0.1 1.2.3.4:70000 alpha:525; do
     # shellcheck disable=SC2086  # words
     ends 2 $words
     [ "$(wc -l <"$out/told")" -eq 1 ] && [ -z "$said" ] && [ ! -s "$CALLS" ] || fail "'$words': it says '$said$told'"
 done
+for case in 127.0.0.1:0='a port is a number' 300.1.1.1='four numbers up to 255' ::1='no address of IPv4'; do
+    ends 2 "${case%%=*}"
+    case $told in *"${case#*=}"*) ;; *) fail "of ${case%%=*} it tells '$told'" ;; esac
+done
 ends 2 --set '' alpha
 echo 'clockdiff 1 1' >"$ANSWERS/clockdiff-192.0.2.11:525"
+echo 'master alpha' >"$ANSWERS/msite-192.0.2.11:525"
 for into in '>/dev/full' '>&-'; do
     status=0
     eval "tools/tsp-now --program '$out/fake' --file '$out/hosts' 192.0.2.11 $into" 2>"$out/told" || status=$?

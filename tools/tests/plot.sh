@@ -86,15 +86,68 @@ tools/tsp-plot "$out/many.tsp" "$out/many.trace" >"$out/picture.svg" || fail 'tw
     echo end
 } >"$out/crowded.tsp"
 ./tsp replay <"$out/crowded.tsp" >"$out/crowded.trace" || fail 'what comes from outside is not run'
-tools/tsp-plot "$out/crowded.tsp" "$out/crowded.trace" >"$out/picture.svg" || fail 'a crowded picture is not drawn'
+tools/tsp-plot --strangers "$out/crowded.tsp" "$out/crowded.trace" >"$out/picture.svg" || fail 'a crowded picture is not drawn'
 ! has xmllint || xmllint --noout "$out/picture.svg" || fail 'a crowded picture isn.t XML'
 triangle='M[0-9]* [0-9]*l-3 -6h6z'
 [ "$(drawn "<path d=\"$triangle$triangle\" fill=\"#555\"><title>octets from outside</title></path>")" -eq 1 ] && [ "$(drawn 'octets from outside</title>')" -eq 1 ] ||
     fail 'what lies on one pixel is drawn more than once'
 
+# A network that was witnessed: its clocks are decades from true time, which is subtracted and named, so that what they differ by is seen. What
+# strangers sent is drawn where that is asked for. No two texts in one line of the picture stand over each other.
+set -- --file tools/tests/witness/three.hosts
+for name in a-1 a-4 b-3 c-2; do set -- "$@" "${name%-*}=tools/tests/witness/three/$name.trace"; done
+TSP_PROGRAM=$(./tsp --path) tools/tsp-witness --schedule "$out/witnessed.tsp" --claims "$out/witnessed.trace" "$@" || fail 'a network is not witnessed'
+tools/tsp-plot -o "$out/picture.svg" "$out/witnessed.tsp" "$out/witnessed.trace" || fail 'a witnessed network is not drawn'
+grep -q 'clock less true time and less 999,999,99[0-9]\.[0-9]* s, which all have in common, ' "$out/picture.svg" || fail 'what the clocks have in common is not named'
+grep -q 'in seconds since 2027-01-15 08:00:0[0-9] UTC; ' "$out/picture.svg" || fail 'it is not said when the run was'
+python3 - "$out/picture.svg" <<'END' || fail 'the clocks of a witnessed network are not seen, or labels stand over each other'
+import re, sys
+text = open(sys.argv[1], encoding='utf-8').read()
+clocks = [set(re.findall(r',([0-9.]+)', found)) for found in re.findall(r'<polyline points="([^"]*)" fill="none" stroke="#[0-9a-f]*" stroke-width="1.6"', text)]
+heights = {round(float(height)) for found in clocks for height in found}
+assert len(clocks) == 3 and len(heights) >= 4, heights
+labels = {}
+for x, y, more, words in re.findall(r'<text x="([-0-9.]+)" y="([-0-9.]+)"([^>]*)>([^<]*)</text>', text):
+    wide, x = 5.5 * len(words), float(x)
+    begin = x - wide if '"end"' in more else x - wide / 2 if '"middle"' in more else x
+    labels.setdefault(y, []).append((begin, begin + wide, words))
+for found in labels.values():
+    found.sort()
+    for one, other in zip(found, found[1:]):
+        assert one[1] <= other[0] + 1, (one, other)
+END
+strangers=$(grep -c ' bytes [0-9/]* - ' "$out/witnessed.tsp")
+[ "$strangers" -ge 5 ] && [ "$(drawn 'octets from outside</title>')" -eq 0 ] || fail 'strangers are drawn, and nobody asked for them'
+tools/tsp-plot --strangers -o "$out/picture.svg" "$out/witnessed.tsp" "$out/witnessed.trace" || fail 'strangers are not drawn'
+[ "$(drawn 'octets from outside</title>')" -eq "$strangers" ] || fail 'not all strangers are drawn, where that is asked for'
+
+# A PNG is made, or it is said that it can't be; other pictures are refused. An event of two million lines is refused within bounds.
+status=0
+tools/tsp-plot -o "$out/picture.png" examples/election.tsp examples/election.trace 2>"$out/told" || status=$?
+if has rsvg-convert; then
+    [ "$status" -eq 0 ] && [ "$(head -c 4 "$out/picture.png" | tail -c 3)" = PNG ] || fail "no PNG is made: $(cat "$out/told")"
+else
+    [ "$status" -eq 1 ] && grep -q '^tsp-plot: a PNG is made by rsvg-convert, which isn.t here' "$out/told" && [ ! -e "$out/picture.png" ] || fail "of a PNG it says '$(cat "$out/told")'"
+fi
+mkdir "$out/unmade"
+status=0
+PATH=$out/bin tools/tsp-plot -o "$out/unmade/picture.png" examples/election.tsp examples/election.trace 2>"$out/told" || status=$?
+[ "$status" -ne 0 ] && [ ! -e "$out/unmade/picture.png" ] || fail 'without a program that makes a PNG there is one'
+status=0
+tools/tsp-plot -o "$out/picture.jpg" examples/election.tsp examples/election.trace 2>"$out/told" || status=$?
+[ "$status" -eq 2 ] && [ "$(cat "$out/told")" = "tsp-plot: $out/picture.jpg: a picture is .svg, .html or .png" ] || fail "of a JPEG it says '$(cat "$out/told")'"
+printf 'tsp-schedule 1\ndrift 0\nnode a 0 0 m\nat 0 boot 0 5\nend\n' >"$out/one.tsp"
+{ printf '1 0 0 0 boot\n'; yes '1 0 0 0 trace on' | head -n 2000000; } >"$out/one.trace"
+status=0
+limited=''
+! has prlimit || limited='prlimit --as=1000000000'
+$limited timeout 60 tools/tsp-plot "$out/one.tsp" "$out/one.trace" >"$out/picture.svg" 2>"$out/told" || status=$?
+[ "$status" -eq 1 ] && [ "$(cat "$out/told")" = "tsp-plot: $out/one.trace: line 500001: a trace of more than 500000 lines isn't drawn" ] || fail "of two million lines it says '$(cat "$out/told")', status $status"
+rm "$out/one.trace"
+
 # Without a trace the program is run.
 ./tsp show </dev/null || fail "the program isn't there"
-tools/tsp-plot examples/first.tsp -o "$out/picture.svg" || fail 'a schedule without a trace is not drawn'
+tools/tsp-plot --strangers examples/first.tsp -o "$out/picture.svg" || fail 'a schedule without a trace is not drawn'
 cmp -s "$out/picture.svg" examples/first.svg || fail 'a schedule without a trace gives another picture'
 for case in 'false|replay of examples/first.tsp ends with status 1; tsp-lint says more' 'true|the run of examples/first.tsp: line 1: event 1 of this schedule has no line' \
     'yes|the run of examples/first.tsp: line 1: it is no line of a trace'; do

@@ -4,7 +4,7 @@
 . "$(dirname "$0")/common.sh"
 
 schedule=examples/gateway.tsp trace=examples/gateway.trace
-tools/tsp-plot "$schedule" "$trace" -t '</title><b>&@SVG@' -o "$out/page.html" || fail 'no page is written'
+tools/tsp-plot "$schedule" "$trace" --title '</title><b>&@SVG@' -o "$out/page.html" || fail 'no page is written'
 ! grep -n -e 'src=' -e 'href=' -e '@import' -e 'url(' "$out/page.html" || fail 'the page needs another file'
 grep -qF '<title>&lt;/title&gt;&lt;b&gt;&amp;@SVG@</title>' "$out/page.html" || fail 'a title is taken for a part of the page'
 ! has xmllint || sed -n '/^<svg/,/<\/svg>$/p' "$out/page.html" | xmllint --noout - || fail 'the picture of the page is not XML'

@@ -23,7 +23,7 @@ if has strace && has systemd-analyze && strace -qq -o "$out/calls" true 2>/dev/n
     read -r one two <"$out/ports"
     printf '%s\n' "a localhost:$one master" "b 127.0.0.1:$two slave" >"$out/hosts"
     TSP_SPREAD=1 TSP_CLOCK="$out/clock" NOTIFY_SOCKET=@tsp-none strace -f -qq -o "$out/calls" \
-        timeout --preserve-status 12 tools/tsp-launch -f "$out/hosts" -s a -t 8 --trace --supervise -p "$program" >"$out/trace" 2>"$out/told" || fail "$(cat "$out/told")"
+        timeout --preserve-status 12 tools/tsp-launch -f "$out/hosts" -s a --turns 8 --trace --supervise -p "$program" >"$out/trace" 2>"$out/told" || fail "$(cat "$out/told")"
     [ "$(grep -c ' trace on$' "$out/trace")" -ge 2 ] || fail "the daemon isn't started again: $(cat "$out/told")"
     sed 's/^[0-9]* *//' "$out/calls" | grep -o '^[a-z_0-9]*(' | tr -d '(' | sort -u >"$out/used"
     grep -q recvfrom "$out/used" && grep -q execve "$out/used" || fail 'no calls were seen'
@@ -59,9 +59,9 @@ if has setpriv && [ "$(id -u)" -eq 0 ] && [ "$least" -gt 525 ]; then
         shift
         setpriv --reuid=65534 --regid=65534 --clear-groups --no-new-privs --inh-caps="-all$capability" --ambient-caps="-all$capability" --bounding-set="-all$capability" "$@"
     }
-    as_nobody ,+net_bind_service "$out/open/tsp-launch" -f "$out/open/hosts" -s a -t 1 -p "$out/open/tsp" 2>"$out/told" || fail "with its capability a daemon ends with status $?: $(cat "$out/told")"
+    as_nobody ,+net_bind_service "$out/open/tsp-launch" -f "$out/open/hosts" -s a --turns 1 -p "$out/open/tsp" 2>"$out/told" || fail "with its capability a daemon ends with status $?: $(cat "$out/told")"
     status=0
-    as_nobody '' "$out/open/tsp-launch" -f "$out/open/hosts" -s a -t 1 -p "$out/open/tsp" 2>"$out/told" || status=$?
+    as_nobody '' "$out/open/tsp-launch" -f "$out/open/hosts" -s a --turns 1 -p "$out/open/tsp" 2>"$out/told" || status=$?
     [ "$status" -eq 5 ] || fail "without its capability a daemon ends with status $status"
     tried="${tried:+$tried, }one capability"
 else

@@ -54,31 +54,42 @@ tells() {
 }" | diff - "$out/told" >"$out/differ" || fail "it tells otherwise: $(cat "$out/differ")"
 }
 
-# All are reached, and each network has a master. A gateway is asked once, in its first network.
+# All are reached, and each network has a master. A gateway is asked once, in its first network. It isn't well that this one has no master, and
+# that clocks are farther apart than 50 ms.
 answers 192.0.2.11:525 'master alpha' '100 401'
 answers 192.0.2.12:526 'master alpha' '-1250999 7'
 answers 192.0.2.1:525 'no master' '0 1'
 answers 198.51.100.7:525 'master gate' '-4503599627370497001 1000'
-ends 0
+ends 1
 says 'NET  NAME   ADDRESS           ROLE     MASTER              OFFSET ms  ERROR ms' \
-    '1    alpha  192.0.2.11:525    master   alpha                   0.100     0.401  reached' \
+    '1    alpha  192.0.2.11:525    master   alpha                  +0.100     0.401  reached' \
     '1    beta   192.0.2.12:526    slave    alpha               -1250.999     0.007  reached' \
-    '1    gate   192.0.2.1:525     waiting  -                       0.000     0.001  reached' \
+    '1    gate   192.0.2.1:525     waiting  -                      +0.000     0.001  reached' \
     '2    gamma  198.51.100.7:525  slave    gate    -4503599627370497.001     1.000  reached'
-tells ''
-[ "$(wc -l <"$CALLS")" -eq 8 ] || fail 'a host that answers is asked again'
-ends 0 -c
-says name,address,master,offset_ms,error_ms,reached,network,role alpha,192.0.2.11:525,alpha,0.100,0.401,yes,1,master \
-    beta,192.0.2.12:526,alpha,-1250.999,0.007,yes,1,slave gate,192.0.2.1:525,,0.000,0.001,yes,1,waiting \
-    gamma,198.51.100.7:525,gate,-4503599627370497.001,1.000,yes,2,slave
+tells 'tsp-status: no master is known to gate
+tsp-status: gamma and alpha may be 4503599627370498.502 ms apart, and 50.000 are allowed'
+[ "$(grep -c clockdiff "$CALLS")" -eq 16 ] && [ "$(grep -c msite "$CALLS")" -eq 4 ] || fail 'not each host is asked once who leads, and four times for its clock'
+ends 1 -c
+head=name,address,master,offset_ms,error_ms,reached,network,role,rate_ppm,rate_error_ppm,corrected_ms
+says "$head" alpha,192.0.2.11:525,alpha,0.100,0.401,yes,1,master,,, \
+    beta,192.0.2.12:526,alpha,-1250.999,0.007,yes,1,slave,,, gate,192.0.2.1:525,,0.000,0.001,yes,1,waiting,,, \
+    gamma,198.51.100.7:525,gate,-4503599627370497.001,1.000,yes,2,slave,,,
 
-# What is asked for besides: a master that every host knows, and clocks that are near. The farthest pair counts, with both errors.
-ends 1 --need-master
-tells 'tsp-status: no master is known to gate'
+# An hour between two clocks, and clocks that are near. The farthest pair counts, with both errors.
 answers 192.0.2.1:525 'master alpha' '0 1'
-ends 0 --need-master
-answers 198.51.100.7:525 'master gate' '-900 100'
 answers 192.0.2.12:526 'master alpha' '50 452'
+answers 198.51.100.7:525 'master gate' '3600000000 100'
+ends 2 --check
+says 'TSP CRITICAL: beta and gamma may be 3600000.502 ms apart, and 50.000 are allowed | reached=4;;;0;4 masters=1 spread=3600000.502ms;;50.000'
+answers 198.51.100.7:525 'master gate' '-900 100'
+ends 0
+tells ''
+answers 198.51.100.7:525 'master gate' '-49400 98'
+ends 0
+answers 198.51.100.7:525 'master gate' '-49400 99'
+ends 1
+tells 'tsp-status: gamma and beta may be 50.001 ms apart, and 50.000 are allowed'
+answers 198.51.100.7:525 'master gate' '-900 100'
 ends 0 --within 1.502
 ends 1 --within 1.501
 tells 'tsp-status: gamma and beta may be 1.502 ms apart, and 1.501 are allowed'
@@ -87,12 +98,71 @@ ends 1 --within 6.099
 tells 'tsp-status: gamma and alpha may be 6.100 ms apart, and 6.099 are allowed'
 answers 192.0.2.11:525 'master alpha' '100 401'
 
+# Of four measurements the best one counts; after one that isn't answered no other is tried.
+cat >"$out/often" <<'END'
+#!/bin/sh
+[ "$1-$2" = clockdiff-192.0.2.11:525 ] || exec "$FAKE" "$@"
+echo x >>"$CALLS-often"
+sed -n "$(wc -l <"$CALLS-often")p" "$ANSWERS/often" | grep . || exit 6
+END
+chmod +x "$out/often"
+export FAKE="$out/fake"
+printf 'clockdiff %s\n' '900 2700' '130 380' '120 90' '700 1000' >"$ANSWERS/often"
+ends 0 -c --program "$out/often"
+[ "$(sed -n 2p "$out/said")" = alpha,192.0.2.11:525,alpha,0.120,0.090,yes,1,master,,, ] || fail "of four measurements it takes '$(sed -n 2p "$out/said")'"
+printf 'clockdiff %s\n' '900 2700' '130 380' >"$ANSWERS/often"
+rm "$CALLS-often"
+ends 0 -c --program "$out/often" -t 1
+[ "$(sed -n 2p "$out/said")" = alpha,192.0.2.11:525,alpha,0.130,0.380,yes,1,master,,, ] && [ "$(wc -l <"$CALLS-often")" -eq 3 ] || fail "of two measurements it takes '$(sed -n 2p "$out/said")'"
+
 # As a monitoring plugin.
 ends 0 --check
-says 'TSP OK: 4 of 4 hosts answer, alpha leads, clocks within 1.502 ms | reached=4;;;0;4 masters=1 spread=1.502ms;;'
-ends 2 --check --within 1 --need-master
+says 'TSP OK: 4 of 4 hosts answer, alpha leads, clocks within 1.502 ms | reached=4;;;0;4 masters=1 spread=1.502ms;;50.000'
+ends 2 --check --within 1
 says 'TSP CRITICAL: gamma and beta may be 1.502 ms apart, and 1.000 are allowed | reached=4;;;0;4 masters=1 spread=1.502ms;;1.000'
 tells ''
+
+# The master's trace tells rates and corrections, and which clock is too fast.
+cat tools/tests/watch.trace - >"$out/trace" <<'END'
+1090 0 0 1062737788 ring round
+1091 0 0 1063795446 sample 2 5 -3692 732 31331
+1098 0 0 1065844282 sample 1 8 25000 1141 21828
+1103 0 0 1070805781 close 3 -3692 28692 436
+1103 0 0 1070805781 correct 436 slew 1795804263464523
+1103 0 0 1070805781 post 59 1 adjtime 21828 -24564 a
+END
+sed 's/ a$/ alpha/; s/ b$/ gamma/; s/ c$/ beta/; 2s/^/tsp-launch: in the trace peer 0 is alpha, 1 gamma, 2 beta\n/' "$out/trace" >"$out/named"
+ends 1 --trace "$out/named"
+says 'NET  NAME   ADDRESS           ROLE    MASTER  OFFSET ms  ERROR ms  RATE ppm  +/-  CORRECTED' \
+    '1    alpha  192.0.2.11:525    master  alpha      +0.100     0.401         -    -     +0.436  reached' \
+    '1    beta   192.0.2.12:526    slave   alpha      +0.050     0.452      -5.9  6.1          -  reached' \
+    '1    gate   192.0.2.1:525     slave   alpha      +0.000     0.001         -    -          -  reached' \
+    '2    gamma  198.51.100.7:525  slave   gate       -0.900     0.100    +104.2  9.5    -24.564  reached'
+tells "tsp-status: gamma's clock is +104.2 parts in a million fast, give or take 9.5, and beyond 83 rounds don't average it"
+ends 1 --trace "$out/named" --check
+ends 1 --trace "$out/named" --csv
+[ "$(tail -n 1 "$out/said")" = gamma,198.51.100.7:525,gate,-0.900,0.100,yes,2,slave,104.167,9.508,-24.564 ] || fail "of rates it says '$(tail -n 1 "$out/said")'"
+ends 1 --trace "$out/named" --prometheus
+for line in 'tsp_host_rate_ppm{network="2",host="gamma"} 104.167' 'tsp_host_rate_error_ppm{network="1",host="beta"} 6.1' 'tsp_host_correction_seconds{network="1",host="alpha"} 0.000436'; do
+    grep -qxF "$line" "$out/said" || fail "the metrics lack $line"
+done
+cp "$out/said" "$out/rates"
+# (on the machine that leads it is the journal)
+mkdir "$out/journal"
+printf '#!/bin/sh\ncat %s\n' "$out/named" >"$out/journal/journalctl"
+chmod +x "$out/journal/journalctl"
+for self in alpha alpha.example.org beta; do
+    status=0
+    PATH=$out/journal:$PATH TSP_SELF=$self tools/tsp-status --program "$out/fake" --file "$out/hosts" >"$out/said" 2>"$out/told" || status=$?
+    [ "$(grep -c 'RATE' "$out/said")$status" -eq "$([ "$self" = beta ] && echo 00 || echo 11)" ] || fail "on $self it says $(cat "$out/said")"
+done
+: >"$out/none"
+for file in none hosts; do
+    ends 3 --trace "$out/$file"
+    tells "tsp-status: $out/$file: it isn't a daemon's trace"
+done
+rm "$out/none"
+ends 3 --trace "$out/none"
 
 # As JSON and as metrics, and into a file.
 ends 0 --json
@@ -100,7 +170,7 @@ python3 - "$out/said" <<'END' || fail 'the JSON says otherwise'
 import json, sys
 told = json.load(open(sys.argv[1], encoding='ascii'))
 assert told['spread_us'] == 1502 and told['faults'] == [], told
-assert told['hosts'][1] == {'network': 1, 'name': 'beta', 'address': '192.0.2.12:526', 'reached': True, 'role': 'slave', 'master': 'alpha', 'offset_us': 50, 'error_us': 452}, told
+assert told['hosts'][1] == {'network': 1, 'name': 'beta', 'address': '192.0.2.12:526', 'reached': True, 'role': 'slave', 'master': 'alpha', 'offset_us': 50, 'error_us': 452, 'rate_ppm': None, 'rate_error_ppm': None, 'correction_us': None}, told
 END
 ends 0 --prometheus --output "$out/metrics"
 [ ! -s "$out/said" ] || fail 'what is written to a file is printed too'
@@ -110,7 +180,7 @@ for line in 'tsp_host_reached{network="1",host="beta"} 1' 'tsp_host_leads{networ
     grep -qxF "$line" "$out/metrics" || fail "the metrics lack $line"
 done
 [ "$(find "$out" -name '.metrics*' | wc -l)" -eq 0 ] || fail 'something is left beside the file'
-sed -n 's/^# TYPE \([a-z_]*\) .*/\1/p' "$out/metrics" | sort >"$out/there"
+cat "$out/metrics" "$out/rates" | sed -n 's/^# TYPE \([a-z_]*\) .*/\1/p' | sort -u >"$out/there"
 grep -o 'tsp_host_[a-z_]*\|tsp_spread_[a-z_]*' man/tsp-status.8 | sort -u | diff - "$out/there" >"$out/differ" || fail "the page has other metrics: $(cat "$out/differ")"
 
 # A silent host is asked as often as that was asked for, and costs no more than the time that an answer is waited for.
@@ -119,14 +189,14 @@ began=$(date +%s)
 ends 1 --csv
 took=$(($(date +%s) - began))
 [ "$took" -le 4 ] || fail "a silent host costs $took s"
-[ "$(sed -n 3p "$out/said")" = beta,192.0.2.12:526,,,,no,1, ] || fail "a silent host is '$(sed -n 3p "$out/said")'"
+[ "$(sed -n 3p "$out/said")" = beta,192.0.2.12:526,,,,no,1,,,, ] || fail "a silent host is '$(sed -n 3p "$out/said")'"
 tells 'tsp-status: silent: beta'
 [ "$(grep -c 'msite 192.0.2.12:526' "$CALLS")" -eq 2 ] && ! grep 'clockdiff 192.0.2.12:526' "$CALLS" || fail 'a silent host is not asked twice for its master alone'
 ends 1 -t 1 --timeout 0.5
 [ "$(sed -n 3p "$out/said" | tr -s ' ')" = '1 beta 192.0.2.12:526 - - - - silent' ] || fail "a silent host is '$(sed -n 3p "$out/said")'"
 [ "$(grep -c 'msite 192.0.2.12:526' "$CALLS")" -eq 1 ] || fail 'a silent host is asked more than once'
 ends 1 --timeout 0.5 --check
-says 'TSP WARNING: silent: beta | reached=3;;;0;4 masters=1 spread=1.501ms;;'
+says 'TSP WARNING: silent: beta | reached=3;;;0;4 masters=1 spread=1.501ms;;50.000'
 
 # A host to which nothing can be sent, or that nobody answers for, is silent too; one whose clock can't be read is reached.
 for status in 5 6; do
@@ -135,10 +205,11 @@ for status in 5 6; do
     tells 'tsp-status: silent: beta'
 done
 printf '0 master alpha\n' >"$ANSWERS/msite-192.0.2.12:526"
-ends 0 -c --timeout 0.5
-[ "$(sed -n 3p "$out/said")" = beta,192.0.2.12:526,alpha,,,yes,1,slave ] || fail "a host without a clock is '$(sed -n 3p "$out/said")'"
-ends 1 --within 5 --timeout 0.5
+ends 1 -c --timeout 0.5
+[ "$(sed -n 3p "$out/said")" = beta,192.0.2.12:526,alpha,,,yes,1,slave,,, ] || fail "a host without a clock is '$(sed -n 3p "$out/said")'"
 tells 'tsp-status: no clock was read: beta'
+ends 2 --check --timeout 0.5
+says 'TSP CRITICAL: no clock was read: beta | reached=4;;;0;4 masters=1 spread=1.501ms;;50.000'
 
 # Two masters of one network are told of. (each network has its own)
 answers 192.0.2.12:526 'master beta' '5 5'
@@ -147,26 +218,43 @@ tells 'tsp-status: 2 masters are named in network 1: alpha, beta'
 sed 5q "$out/hosts" >"$out/one" && mv "$out/one" "$out/hosts"
 ends 1
 tells 'tsp-status: 2 masters are named: alpha, beta'
-ends 1 --check
-says 'TSP WARNING: 2 masters are named: alpha, beta | reached=3;;;0;3 masters=2 spread=0.502ms;;'
+ends 2 --check
+says 'TSP CRITICAL: 2 masters are named: alpha, beta | reached=3;;;0;3 masters=2 spread=0.502ms;;50.000'
+
+# A master that the hosts file doesn't have, as one that writes a name for a spreadsheet, a plugin's reader or a terminal.
+for host in 192.0.2.11:525 192.0.2.12:526 192.0.2.1:525; do answers "$host" 'master stranger' '5 5'; done
+ends 2 --check
+says "TSP CRITICAL: stranger is named as master, and isn't in the hosts file | reached=3;;;0;3 masters=0 spread=0.010ms;;50.000"
+ends 1 -c
+tells "tsp-status: stranger is named as master, and isn't in the hosts file"
+for host in 192.0.2.11:525 192.0.2.1:525; do answers "$host" 'master alpha' '5 5'; done
 answers 192.0.2.12:526 'master a,"b%20' '5 5'
 ends 1 -c
-[ "$(sed -n 3p "$out/said")" = 'beta,192.0.2.12:526,"a,""b%20",0.005,0.005,yes,1,slave' ] || fail "a name with a comma is '$(sed -n 3p "$out/said")'"
+[ "$(sed -n 3p "$out/said")" = 'beta,192.0.2.12:526,"a,""b%20",0.005,0.005,yes,1,slave,,,' ] || fail "a name with a comma is '$(sed -n 3p "$out/said")'"
+answers 192.0.2.12:526 'master =cmd|x' '5 5'
+ends 1 -c
+[ "$(sed -n 3p "$out/said")" = "beta,192.0.2.12:526,'=cmd|x,0.005,0.005,yes,1,slave,,," ] || fail "a formula is '$(sed -n 3p "$out/said")'"
+ends 2 --check
+[ "$(tr -cd '|' <"$out/said")" = '|' ] || fail "a name with a stroke gives '$(cat "$out/said")'"
+answers 192.0.2.12:526 "master $(printf 'x\033[31m\377')" '5 5'
+for form in '' -c --check; do
+    # shellcheck disable=SC2086  # a word or none
+    LC_ALL=C PYTHONCOERCECLOCALE=0 PYTHONUTF8=0 tools/tsp-status --program "$out/fake" --file "$out/hosts" $form >"$out/said" 2>&1 || :
+    ! LC_ALL=C grep '[^ -~]' "$out/said" && grep -q '31m' "$out/said" || fail "$form: of a name with a control character it says $(cat "$out/said")"
+done
 
 # Nobody leads, as in the first minutes; or the one that is named doesn't, or is silent.
 for host in 192.0.2.11:525 192.0.2.12:526 192.0.2.1:525; do answers "$host" 'no master' '5 5'; done
-ends 0
-tells ''
-ends 1 --need-master
+ends 1
 tells 'tsp-status: nobody leads'
-ends 2 --need-master --check
+ends 2 --check
 answers 192.0.2.12:526 'master alpha' '5 5'
 answers 192.0.2.1:525 'master alpha' '5 5'
-ends 2 --need-master --check
-says "TSP CRITICAL: alpha is named as master and doesn't lead; no master is known to alpha | reached=3;;;0;3 masters=0 spread=0.010ms;;"
+ends 2 --check
+says "TSP CRITICAL: no master is known to alpha; alpha is named as master and doesn't lead | reached=3;;;0;3 masters=0 spread=0.010ms;;50.000"
 silence 192.0.2.11:525
-ends 2 --need-master --check --timeout 0.5
-says "TSP CRITICAL: alpha is named as master and doesn't lead; silent: alpha | reached=2;;;0;3 masters=0 spread=0.010ms;;"
+ends 2 --check --timeout 0.5
+says "TSP CRITICAL: alpha is named as master and doesn't lead; silent: alpha | reached=2;;;0;3 masters=0 spread=0.010ms;;50.000"
 for host in 192.0.2.12:526 192.0.2.1:525; do silence "$host"; done
 ends 2 --check --timeout 0.5
 says 'TSP CRITICAL: silent: alpha, beta, gate | reached=0;;;0;3 masters=0'
@@ -200,7 +288,7 @@ ends 78 --file "$out/none"
 tells "tsp-status: $out/none: there is no such file"
 ends 3 --check --file "$out/none"
 says "TSP UNKNOWN: $out/none: there is no such file"
-for words in '--tries 0' '--tries x' '--timeout 0' '--timeout nan' '--within -1' '--within inf' '--within' '--all' 'alpha' '--json --csv' '--need'; do
+for words in '--tries 0' '--tries x' '--timeout 0' '--timeout nan' '--within -1' '--within inf' '--within' '--all' 'alpha' '--json --csv' '--with 5' '--trace'; do
     # shellcheck disable=SC2086  # words
     ends 2 $words
     [ "$(wc -l <"$out/told")" -eq 1 ] && [ ! -s "$out/said" ] || fail "'$words': it says '$(cat "$out/said" "$out/told")'"

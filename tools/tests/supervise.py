@@ -74,7 +74,7 @@ class Supervised:
         self.out, self.err, self.is_read = self.path('out'), self.path('err'), not stdout and '--output' not in words
         environment = {name: value for name, value in os.environ.items() if not name.startswith('TSP_')}
         environment.update(TSP_SPREAD='0', TSP_TRACE='on', TSP_CLOCK=self.path('clock'), **variables)
-        command = [*before, LAUNCH, '-f', self.hosts, '-s', 'a', '-t', str(turns), '-p', PROGRAM, '--supervise', *words]
+        command = [*before, LAUNCH, '-f', self.hosts, '-s', 'a', '--turns', str(turns), '-p', PROGRAM, '--supervise', *words]
         with open(self.out, 'wb') as out, open(self.err, 'wb') as err:
             self.process = subprocess.Popen(command, stdout=stdout or out, stderr=stderr or err, env=environment)
         self.link = socket.socket(socket.AF_INET, socket.SOCK_DGRAM)

@@ -74,6 +74,44 @@ assert told[6] == {'tick_us': 0, 'port': 0, 'change': 'start', 'name': 'gate', '
 assert told[8] == {'tick_us': 85000000, 'port': 1, 'change': 'role', 'role': 'follow', 'master': 'gamma'}, told[8]
 END
 
+# Rates: what is measured of a slave, less what corrections moved it and the master since, is its rate. b was -575 us ahead, was sent -848, and
+# the master moved by -1423: without a drift it would be 0 us ahead. 5000 us in 240 s are 20.8 parts in a million, and 1141 twice are 9.5. The
+# same correction that is sent again counts once. A slave that doesn't acknowledge may have its correction or not, and begins anew.
+{ cat "$trace"; cat <<'END'; } >"$out/rounds"
+856 0 0 831805781 post 50 1 adjtime 21827 -848 a
+1090 0 0 1062737788 ring round
+1091 0 0 1063795446 sample 2 5 -3692 732 31331
+1098 0 0 1065844282 sample 1 8 5000 1141 21828
+1103 0 0 1070805781 close 3 -3692 8692 436
+1103 0 0 1070805781 correct 436 slew 1795804263464523
+1103 0 0 1070805781 post 59 1 adjtime 21828 -4564 a
+1103 0 0 1070805781 post 60 1 adjtime 21829 x a
+1103 0 0 1070805781 post 61 1 adjtime
+END
+input=$out/rounds
+ends 0
+tail -n 4 "$out/said" >"$out/end" && mv "$out/end" "$out/said"
+says '1070.806 a round ends: 3 clocks agree within 8.692 ms, and their mean is +0.436' '1070.806 b is +20.8 parts in a million fast, give or take 9.5' \
+    '1070.806 c is -5.9 parts in a million fast, give or take 6.1' \
+    '1070.806 the clock is corrected by +0.436 ms, slewed, and shows 2026-11-27 18:31:03.464 UTC'
+ends 0 --prometheus "$out/metrics"
+for line in 'tsp_daemon_peer_rate_ppm{peer="b"} 20.833' 'tsp_daemon_peer_rate_error_ppm{peer="b"} 9.508' 'tsp_daemon_peer_correction_seconds{peer="b"} -0.004564'; do
+    grep -qxF "$line" "$out/metrics" || fail "the metrics lack $line"
+done
+cp "$out/metrics" "$out/masters"
+echo '1104 0 0 1074805781 gave 1' >>"$out/rounds"
+ends 0 --prometheus "$out/metrics"
+! grep 'rate_ppm{peer="b"}' "$out/metrics" || fail 'a slave that may have its correction or not has a rate'
+# A slave's own: 12 ms behind in each of two rounds of 240 s are -50 parts in a million.
+printf '%s\n' '5 0 0 1000000 took 1 settime 7 1795803775398554 a' '5 0 0 1000000 correct 5 step 1795803775398554' '9 0 0 200000000 took 1 adjtime 8 300 a' \
+    '9 0 0 200000000 correct 300 slew 1795803775398554' '9 0 0 200000000 took 1 settime 9 1795803775398554 a' '9 0 0 200000000 correct -9999999 step 1795803775398554' \
+    '10 0 0 440000000 took 1 adjtime 10 12000 a' '10 0 0 440000000 correct 12000 slew 1795803775398554' \
+    '11 0 0 680000000 took 1 adjtime 11 12000 a' '11 0 0 680000000 correct 12000 slew 1795803775398554' >"$out/slave"
+input=$out/slave
+ends 0 --prometheus "$out/metrics"
+grep -qxF 'tsp_daemon_rate_ppm -50.0' "$out/metrics" || fail "a slave's own rate is '$(grep rate "$out/metrics")'"
+cp "$out/metrics" "$out/slaves"
+
 # Metrics: a file that is always whole, and nothing beside it.
 input=$trace
 ends 0 --prometheus "$out/metrics"
@@ -87,7 +125,7 @@ done
 [ "$(find "$out" -name '.metrics*' | wc -l)" -eq 0 ] || fail 'something is left beside the file'
 
 # The page names the metrics that there are, and no others.
-sed -n 's/^# TYPE \([a-z_]*\) .*/\1/p' "$out/metrics" | sort >"$out/there"
+cat "$out/metrics" "$out/slaves" "$out/masters" | sed -n 's/^# TYPE \([a-z_]*\) .*/\1/p' | sort -u >"$out/there"
 grep -o 'tsp_daemon_[a-z_]*' man/tsp-watch.1 | sort -u | diff - "$out/there" >"$out/differ" || fail "the page has other metrics: $(cat "$out/differ")"
 
 # Lines come out as they come in, while the input goes on.
@@ -143,6 +181,27 @@ for words in '--all' 'a b' '--json --prometheus x' '--prometheus'; do
     ends 2 $words
     [ "$(wc -l <"$out/told")" -eq 1 ] && [ ! -s "$out/said" ] || fail "'$words': it says '$(cat "$out/said" "$out/told")'"
 done
+
+# Names with control characters, and octets that are no text, are written by their numbers; two peers of one name are two series; and a trace of
+# several hosts is no daemon's.
+printf '5 0 0 5 took 1 adjtime 1 2 e\033[31mvil\n5 0 0 6 took 2 adjtime 1 2 \377\303\007b\n5 0 0 7 join 1\n5 0 0 7 join 2\n5 0 0 7 sample 1 2 3 4 5\n5 0 0 7 sample 2 2 3 4 5\n' >"$out/odd"
+for locale in C C.UTF-8; do
+    for form in '' --json; do
+        # shellcheck disable=SC2086  # a word or none
+        LC_ALL=$locale PYTHONCOERCECLOCALE=0 PYTHONUTF8=0 tools/tsp-watch $form "$out/odd" >"$out/said" || fail 'octets that are no text end it'
+        ! LC_ALL=C grep '[^ -~]' "$out/said" || fail 'a control character is printed'
+    done
+done
+grep -q 'vil", "offset_us"' "$out/said" || fail 'a name with a control character is not told'
+printf 'tsp-launch: in the trace peer 0 is a, 1 b, 2 b\n' | cat - "$out/odd" >"$out/twice"
+LC_ALL=C tools/tsp-watch --prometheus /dev/stdout "$out/twice" | grep -v '^#' | sed 's/ [^ ]*$//' | sort | uniq -d >"$out/said"
+[ ! -s "$out/said" ] || fail "there is twice $(cat "$out/said")"
+input=/dev/null
+printf '1 0 0 5 become loose\n1 1 0 5 become loose\n' >"$out/several"
+ends 1 "$out/several"
+tells "$out/several: a trace of several hosts, as tsp replay writes it, and not one of a daemon"
+ends 1 /dev/zero
+tells "/dev/zero: no line is one of a daemon's trace"
 
 # Lines among other octets, one too long, a last one without its line feed, and 64 MiB in little memory.
 { cat "$out/octets"; head -c 3000 /dev/zero | tr '\0' x; printf ' 5 0 0 6 become loose\n5 0 0 7 become loose\r\n6 0 0 8 become candidate'; } >"$out/mixed"

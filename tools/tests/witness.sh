@@ -111,9 +111,10 @@ tools/tsp-witness --check --file "$out/hosts" "a=$out/launched/a" "b=$out/launch
 grep -q ' reply ' "$out/launched/a" || fail 'the trace has no clock'
 
 # Clocks that drift fit no times without rates, and do with them.
-wants 3 '' drifting "$given/drifting"
+wants 3 '' drifting "$given/drifting" --drift 0
 tells 'the clocks fit no times within a drift of 0'
 wants 0 "$(written "$given/drifting") acts alike, holds" drifting "$given/drifting" --drift 200
+wants 0 "$(written "$given/drifting") acts alike, holds" drifting "$given/drifting"
 witness drifting "$given/drifting" --drift 200 --schedule "$out/schedule"
 rate=$(sed -n 's/^node b \(-[0-9]*\) .*/\1/p' "$out/schedule")
 [ "$rate" -le -95 ] && [ "$rate" -ge -105 ] || fail "a clock that is slow by a ten-thousandth has the rate $rate"
@@ -128,6 +129,13 @@ tells 'b (start 2): its wall clock had been stepped by 500'
 wants 1 "$(written "$given/spoiled") acts alike, holds" spoiled "$given/spoiled"
 tells 'took "adjtime 24980 5431 b" of b' 'it posted "adjtime 24980 5430 b"'
 wants 0 "$(written "$given/spoiled") acts alike, holds" spoiled "$given/spoiled" --altered
+
+# A datagram that was changed on its way, and equals by chance what was posted three seconds later: it is named, and there is a verdict. (what is
+# answered to it is changed likewise)
+change three b-3 '/^571 /{s/ request \([0-9]*\) 0$/ request \1 6/;s/ reply \([0-9]*\) \([0-9]*\) 0 / reply \1 \2 6 /;}'
+wants 1 "$(written "$out/changed") acts alike, holds" three "$out/changed"
+tells 'b took "request 1800000007143483 6" of a in turn 571, which by its trace posted that to it at another time alone'
+wants 0 "$(written "$out/changed") acts alike, holds" three "$out/changed" --altered
 
 # Acts that the rules don't give: a correction by another amount, a role that the hosts file doesn't allow.
 change three c-2 's/ correct \(-\{0,1\}[0-9]*\)\([0-9]\) slew/ correct \12\2 slew/'
@@ -182,4 +190,56 @@ for text in 'a 192.0.2.1' 'a 192.0.2.1 leader' 'a 192.0.2.1 master\na 192.0.2.2 
     printf '%b\n' "$text" >"$out/hosts"
     refuses --file "$out/hosts" "a=$given/hand/a-1.trace"
 done
+# Hostile traces end within bounds of time and memory, in one line, or in ten of complaints: numbers beyond 64 bits, lines that are too long, a
+# start line of 40 MiB, lines without an end, and files without one.
+bounded() {
+    wanted=$1
+    shift
+    status=0
+    # shellcheck disable=SC2086  # words or none
+    timeout 30 $limited tools/tsp-witness --check --file "$given/hand.hosts" "$@" >"$out/said" 2>"$out/besides" || status=$?
+    [ "$status" -eq "$wanted" ] && [ "$(wc -l <"$out/besides")" -le 10 ] && ! grep -q Traceback "$out/besides" || fail "$*: status $status, $(head -c 2000 "$out/besides")"
+}
+limited=''
+! has prlimit || limited='prlimit --as=400000000'
+hand=$given/hand
+great=99999999999999999999999999
+for line in "5 0 0 $great trace on" "$great 0 0 5 trace on" "5 0 0 5 took - ack $great x" "5 0 0 5 correct $great slew -$great" "5 0 0 5 post 5 1 ack $great a"; do
+    { cat "$hand/a-1.trace"; echo "$line"; } >"$out/hostile"
+    bounded 1 "a=$out/hostile" "b=$hand/b-2.trace"
+    tells 'this line has a number beyond 64 bits, and is passed over'
+done
+for line in '900 0 0 18446744073709551615 trace on' '9999999 0 0 999999999 took - ack 18446744073709551615 x' '18446744073709551615 0 0 9223372036854775807 correct 5 step -9223372036854775808' \
+    '900 0 0 999999999 took - loop 5 18446744073709551615 x' '900 0 0 999999999 arm elect 18446744073709551615' '900 0 0 999999999 took - date 5 9223372036854775807 x'; do
+    { cat "$hand/a-1.trace"; echo "$line"; } >"$out/hostile"
+    status=0
+    timeout 30 tools/tsp-witness --check --file "$given/hand.hosts" "a=$out/hostile" "b=$hand/b-2.trace" >"$out/said" 2>"$out/besides" || status=$?
+    case $status in 1 | 3) ;; *) fail "'$line' ends with status $status: $(cat "$out/besides")" ;; esac
+    [ "$(wc -l <"$out/besides")" -le 10 ] && ! grep -q Traceback "$out/besides" || fail "'$line': $(cat "$out/besides")"
+done
+{ cat "$hand/a-1.trace"; printf '5 0 0 5 took - ack 5 '; head -c 3000 /dev/zero | tr '\0' x; echo; } >"$out/hostile"
+bounded 0 "a=$out/hostile" "b=$hand/b-2.trace"
+{ printf 'tsp-launch: in the trace peer 0 is a'; awk 'BEGIN { for (i = 1; i < 4000000; i++) printf ", 1 bbbbbb" }'; echo; cat "$hand/a-1.trace"; } >"$out/hostile"
+[ "$(wc -c <"$out/hostile")" -ge 35000000 ] || fail 'the start line is too short'
+bounded 3 "a=$out/hostile" "b=$hand/b-2.trace"
+bounded 3 "a=/dev/zero" "b=$hand/b-2.trace"
+tells '/dev/zero: no line of a trace is in its first 16 MiB'
+bounded 3 --file /dev/zero "a=$hand/a-1.trace"
+yes 'nothing at all' | head -c 40000000 >"$out/hostile"
+bounded 3 "a=$out/hostile" "b=$hand/b-2.trace"
+{ cat "$hand/a-1.trace"; yes '5 0 0 7 become king' | head -c 40000000; } >"$out/hostile"
+bounded 1 "a=$out/hostile" "b=$hand/b-2.trace"
+[ "$(wc -l <"$out/besides")" -eq 10 ] && grep -q '^tsp-witness: and 19[0-9]* more$' "$out/besides" || fail "of two million bad lines it says '$(tail -n 1 "$out/besides")'"
+{ cat "$hand/a-1.trace"; awk 'BEGIN { for (i = 0; i < 1100000; i++) print "900 0 0 999999999 trace on" }'; } >"$out/hostile"
+limited=''
+! has prlimit || limited='prlimit --as=1500000000'
+bounded 3 "a=$out/hostile" "b=$hand/b-2.trace"
+tells 'there are more than 1000000 acts'
+rm "$out/hostile"
+# A file that isn't there, in a line without a number; and a trace that comes by a pipe.
+bounded 3 "a=$out/none" "b=$hand/b-2.trace"
+[ "$(cat "$out/besides")" = "tsp-witness: $out/none: No such file or directory" ] || fail "of a file that isn't there it says '$(cat "$out/besides")'"
+mkfifo "$out/pipe"
+cat "$hand/a-1.trace" >"$out/pipe" &
+bounded 0 "a=$out/pipe" "b=$hand/b-2.trace"
 echo "$check: $(cat "$given"/*/*.trace | wc -l) lines of daemons, and what is changed or missing in them"

@@ -9,6 +9,11 @@ def seconds(microseconds):
     return f'{"-" if microseconds < 0 else ""}{whole}.{rest:06}'
 
 
+def signed(microseconds):
+    """An offset in seconds with its sign, exactly."""
+    return ('' if microseconds < 0 else '+') + seconds(microseconds)
+
+
 def quoted(text):
     """A label's value."""
     return '"' + text.replace('\\', '\\\\').replace('"', '\\"').replace('\n', '\\n') + '"'

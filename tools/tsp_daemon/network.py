@@ -6,20 +6,35 @@ from typing import List, Optional
 
 from tsp_daemon.hosts import Host
 from tsp_daemon.questions import Asker, Reading
+from tsp_daemon.rates import MOST
+from tsp_daemon.traced import Traced
 
 WARNING, CRITICAL = 1, 2
 # How many names a line lists.
 MOST_NAMES = 10
 MOST_AT_ONCE = 256
+# How far clocks may be apart where nothing is said, in microseconds.
+WITHIN = 50_000
 
 
 @dataclass
 class Seen:
-    """A host, and what it answered: the master that it names (none is the empty text), and its clock."""
+    """A host, and what it answered: the master that it names (none is the empty text), and its clock. A trace may tell more of it."""
     host: Host
     reached: bool = False
     master: str = ''
     clock: Optional[Reading] = None
+    traced: Optional[Traced] = None
+
+    @property
+    def rate(self):
+        """Its rate against the master, where that is known."""
+        return self.traced.rate if self.traced else None
+
+    @property
+    def corrected(self):
+        """Its last correction in microseconds, where that is known."""
+        return self.traced.amount if self.traced else None
 
     @property
     def role(self):
@@ -54,9 +69,8 @@ def first_lines(hosts: List[Host]) -> List[Host]:
     return list(firsts.values())
 
 
-def look(asker: Asker, hosts: List[Host]) -> List[Seen]:
-    """Asks all hosts for their master side by side, so that many silent ones take no longer than one, and then those that answered
-    for their clock, one after the other, so that the asking itself doesn't make the measurements worse."""
+def ask_masters(asker: Asker, hosts: List[Host]) -> List[Seen]:
+    """Asks all hosts for their master side by side, so that many silent ones take no longer than one."""
     seen = [Seen(host) for host in hosts]
     with ThreadPoolExecutor(min(len(seen), MOST_AT_ONCE)) as pool:
         asking = [pool.submit(asker.master, each.host.address) for each in seen]
@@ -68,9 +82,16 @@ def look(asker: Asker, hosts: List[Host]) -> List[Seen]:
             for answer in asking:
                 answer.cancel()
             raise
+    return seen
+
+
+def look(asker: Asker, hosts: List[Host]) -> List[Seen]:
+    """Asks all hosts for their master, and then those that answered for their clock, some times and one after the other, so that the asking
+    itself doesn't make the measurements worse."""
+    seen = ask_masters(asker, hosts)
     for each in seen:
         if each.reached:
-            each.clock = asker.clock(each.host.address)
+            each.clock = asker.best_clock(each.host.address)
     return seen
 
 
@@ -96,10 +117,11 @@ def some_of(names):
 class Judge:
     """Says what isn't well: of hosts that are seen, by what is wanted of them."""
 
-    def __init__(self, hosts: List[Host], seen: List[Seen], needs_master=False, within: Optional[int] = None):
-        self.hosts, self.seen, self.needs_master, self.within = hosts, seen, needs_master, within
+    def __init__(self, hosts: List[Host], seen: List[Seen], within=WITHIN):
+        self.hosts, self.seen, self.within = hosts, seen, within
         self.networks = sorted({host.network for host in hosts})
         self.by_name = {each.host.name: each for each in seen}
+        self.lines = {(host.network, host.name) for host in hosts}
 
     def where(self, network):
         """Names a network, where there are several."""
@@ -110,17 +132,26 @@ class Judge:
         return sorted({each.master for each in self.seen if each.host.network == network and each.master})
 
     def silent(self):
-        """Hosts that don't answer."""
-        names = [each.host.name for each in self.seen if not each.reached]
-        if names:
-            yield Trouble(CRITICAL if len(names) == len(self.seen) else WARNING, f'silent: {some_of(names)}')
+        """Hosts that don't answer. It is worse where nobody of a network does."""
+        silent = [each for each in self.seen if not each.reached]
+        heard = {each.host.network for each in self.seen if each.reached}
+        if silent:
+            level = WARNING if all(each.host.network in heard for each in silent) else CRITICAL
+            yield Trouble(level, f'silent: {some_of([each.host.name for each in silent])}')
 
     def two_masters(self):
         """Networks whose hosts don't name the same master."""
         for network in self.networks:
             names = self.named(network)
             if len(names) > 1:
-                yield Trouble(WARNING, f'{len(names)} masters are named{self.where(network)}: {some_of(names)}')
+                yield Trouble(CRITICAL, f'{len(names)} masters are named{self.where(network)}: {some_of(names)}')
+
+    def strangers(self):
+        """Masters that the hosts file doesn't have in their network."""
+        for network in self.networks:
+            for name in self.named(network):
+                if (network, name) not in self.lines:
+                    yield Trouble(CRITICAL, f'{name} is named as master{self.where(network)}, and isn\'t in the hosts file{" there" * (len(self.networks) > 1)}')
 
     def no_master(self):
         """Networks in which nobody leads, and hosts that know no master where others do."""
@@ -131,9 +162,9 @@ class Judge:
             if answered and len(waiting) == len(answered):
                 yield Trouble(CRITICAL, f'nobody leads{self.where(network)}')
             elif waiting:
-                yield Trouble(WARNING, f'no master is known to {some_of(waiting)}')
+                yield Trouble(CRITICAL, f'no master is known to {some_of(waiting)}')
             for name in lost:
-                yield Trouble(CRITICAL if lost == self.named(network) else WARNING, f'{name} is named as master{self.where(network)} and doesn\'t lead')
+                yield Trouble(CRITICAL, f'{name} is named as master{self.where(network)} and doesn\'t lead')
 
     def leads(self, name, network):
         """Whether a host that is named as master says so itself. A gateway says so of its first network alone, and is believed of another."""
@@ -144,18 +175,22 @@ class Judge:
         """Clocks that may be too far from each other, or weren't read."""
         unread = [each.host.name for each in self.seen if each.reached and not each.clock]
         if unread:
-            yield Trouble(WARNING, f'no clock was read: {some_of(unread)}')
+            yield Trouble(CRITICAL, f'no clock was read: {some_of(unread)}')
         spread = spread_of(self.seen)
         if spread and spread.apart > self.within:
             yield Trouble(CRITICAL, f'{spread.low} and {spread.high} may be {milliseconds(spread.apart)} ms apart, and {milliseconds(self.within)} are allowed')
 
+    def fast(self):
+        """Clocks that are too fast or too slow to be averaged."""
+        for each in self.seen:
+            if each.rate and each.rate.is_too_great:
+                value, error = parts(each.rate)
+                wrong = '' if error == '-' else f', give or take {error}'
+                yield Trouble(WARNING, f'{each.host.name}\'s clock is {value} parts in a million fast{wrong}, and beyond {MOST} rounds don\'t average it')
+
     def troubles(self) -> List[Trouble]:
         """All that isn't well, the worst first."""
-        found = [*self.silent(), *self.two_masters()]
-        if self.needs_master:
-            found += self.no_master()
-        if self.within is not None:
-            found += self.apart()
+        found = [*self.silent(), *self.two_masters(), *self.strangers(), *self.no_master(), *self.apart(), *self.fast()]
         return sorted(found, key=lambda trouble: -trouble.level)
 
 
@@ -163,3 +198,13 @@ def milliseconds(microseconds):
     """Microseconds as milliseconds, exactly."""
     whole, rest = divmod(abs(microseconds), 1000)
     return f'{"-" if microseconds < 0 else ""}{whole}.{rest:03}'
+
+
+def signed(microseconds):
+    """An offset in milliseconds with its sign, exactly."""
+    return ('' if microseconds < 0 else '+') + milliseconds(microseconds)
+
+
+def parts(rate):
+    """A rate in parts in a million with its sign, and how far it may be wrong, or `-`."""
+    return f'{rate.value:+.1f}', '-' if rate.error is None else f'{rate.error:.1f}'

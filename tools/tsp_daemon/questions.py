@@ -9,6 +9,8 @@ from tsp_texts.tool import Fault
 
 # The statuses of a question that wasn't answered: nothing could be sent, or nothing came.
 SILENT = (5, 6)
+# Of so many readings of a clock the best one counts.
+READINGS = 4
 
 
 def add_words(parser):
@@ -58,10 +60,25 @@ class Asker:
         except ValueError:
             raise self.strange(answer, 'clockdiff', address) from None
 
+    def best_clock(self, address) -> Optional[Reading]:
+        """The reading with the least error of some, or None where the daemon is silent. The first question that isn't answered is the last one."""
+        best = None
+        for _ in range(READINGS):
+            reading = self.clock(address)
+            if reading is None:
+                break
+            best = min(best or reading, reading, key=lambda each: each.error)
+        return best
+
     def date(self, address, time) -> Optional[str]:
         """Sets the network's date: `set`, `forwarded`, or None where the daemon is silent."""
         answer = self.ask('date', address, str(time))
         return None if answer is None else self.value(answer, 'date', 'date', address)[0]
+
+    def election(self, address) -> bool:
+        """Tells a daemon to stand for election, and says whether it heard that."""
+        answer = self.ask('election', address)
+        return answer is not None and self.value(answer, 'election', 'election', address) == ['heard']
 
     def value(self, answer, word, question, address, count=1) -> List[str]:
         """The words of an answer behind its first one."""
@@ -91,7 +108,7 @@ class Asker:
         except OSError as fault:
             raise Fault(f'{self.program}: {fault.strerror}', NO_PROGRAM) from fault
         if run.returncode == 0:
-            return run.stdout.decode('ascii', 'replace').rstrip('\n').split(' ')
+            return run.stdout.decode('ascii', 'backslashreplace').rstrip('\n').split(' ')
         if run.returncode in SILENT:
             return None
         raise Fault(f'{self.program} {words[0]} {words[1]} ends with status {run.returncode}', NO_PROGRAM)

@@ -2,7 +2,7 @@
 from dataclasses import dataclass, field
 from typing import Dict, List, Optional
 
-from tsp_daemon import trace
+from tsp_daemon import rates, trace
 
 ROLES = ('starting', 'loose', 'follow', 'candidate', 'master')
 # Alarms that only a node with this role has; where a trace is read from its middle, they tell the role.
@@ -10,6 +10,10 @@ ROLE_OF_ALARM = {'quiet': 'starting', 'search': 'loose', 'window': 'candidate', 
 CORRECTIONS = ('adjtime', 'settime')
 # Messages that don't bear the name of the daemon that sends them: answers to questions, clock readings, and what is handed on.
 NAMELESS = ('ack', 'request', 'reply', 'refused', 'loop')
+
+
+class NoDaemon(Exception):
+    """The trace is one of several nodes, as `tsp replay` writes it."""
 
 
 @dataclass(frozen=True)
@@ -40,11 +44,14 @@ class Correction:
 
 @dataclass
 class Peer:
-    """Another daemon, as this one's trace tells of it."""
+    """Another daemon, as this one's trace tells of it. `told` is the last correction that was sent to it, with its number; `shown` isn't known of it."""
     port: int
     is_slave: bool = False
     sample: Optional[Sample] = None
     is_measured: bool = False
+    told: Optional[Correction] = None
+    number: str = ''
+    finder: rates.Finder = field(default_factory=rates.Finder)
 
 
 @dataclass
@@ -66,7 +73,8 @@ class Counts:
 
 
 class Daemon:
-    """A daemon: its ports, its peers by their numbers, its last correction, and what it was late with."""
+    """A daemon: its ports, its peers by their numbers, its last correction, what it was late with, when a QUIT came, and whom it voted for last
+    and when."""
 
     def __init__(self):
         self.counts = Counts()
@@ -77,7 +85,8 @@ class Daemon:
         """Forgets all that a start of the daemon makes void."""
         self.tick, self.ports, self.peers = 0, {}, {}
         self.correction: Optional[Correction] = None
-        self.late = None
+        self.late = self.quit = self.backed = None
+        self.finder = rates.Finder()
         self.is_traced = True
         self.took = None
 
@@ -85,13 +94,18 @@ class Daemon:
         """A peer's name, or its number where no line told its name."""
         return self.names.get(number) or self.said.get(number) or f'peer {number}'
 
+    def label(self, number):
+        """A peer's name, with its number where another peer has the same name."""
+        name = self.name(number)
+        return name if sum(self.name(other) == name for other in self.peers) == 1 else f'{name} ({number})'
+
     @property
     def own_name(self):
         """The daemon's own name, or the empty text."""
         return self.names.get(0) or self.said.get(0) or ''
 
     def take(self, line) -> List[Change]:
-        """Reads a line, and gives what it changed."""
+        """Reads a line, and gives what it changed. NoDaemon is raised where it is no daemon's."""
         names = trace.names_of(line)
         if names:
             self.begin()
@@ -100,6 +114,8 @@ class Daemon:
         act = trace.act_of(line)
         if act is None:
             return []
+        if act.node:
+            raise NoDaemon
         self.counts.lines += 1
         if act.tick < self.tick:
             self.begin()
@@ -121,6 +137,8 @@ class Daemon:
         for peer in self.peers.values():
             if peer.port == act.port:
                 peer.is_slave = False
+                peer.finder.forget()
+        self.finder.forget()
         yield 'role', {'role': role, 'master': self.master_name(self.ports[act.port])}
 
     def must_be(self, act, role, master=None):
@@ -152,6 +170,22 @@ class Daemon:
             self.said[0] = words[-1]
         if words[0] == 'slaveup' and who != '-':
             yield from self.must_be(act, 'follow', int(who))
+        if words[0] in CORRECTIONS and who != '-':
+            self.tell(act, self.peer(act, who), words)
+
+    @staticmethod
+    def tell(act, peer, words):
+        """A correction is sent to a slave, again where it has the same number. A clock that is set begins anew."""
+        word, number, amount = [*words, '', ''][:3]
+        if number == peer.number or not trace.VALUE.fullmatch(amount):
+            return
+        peer.number = number
+        if word == 'adjtime':
+            peer.told = Correction(int(amount), 'slew', 0, act.tick)
+            peer.finder.moves(int(amount))
+        else:
+            peer.told = Correction(0, 'step', int(amount), act.tick)
+            peer.finder.forget()
 
     def on_arm(self, act, alarm, tick):
         if alarm in ROLE_OF_ALARM:
@@ -179,6 +213,7 @@ class Daemon:
     def on_join(self, act, number):
         yield from self.must_be(act, 'master')
         self.peer(act, number).is_slave = True
+        self.peer(act, number).finder.forget()
         yield 'join', {'peer': self.name(int(number))}
 
     def on_leave(self, act, number):
@@ -197,11 +232,24 @@ class Daemon:
     def on_close(self, act, count, _low, width, mean):
         yield from self.must_be(act, 'master')
         yield 'round', {'clocks': int(count), 'width_us': int(width), 'mean_us': int(mean)}
+        for name, peer in sorted(self.peers.items()):
+            if peer.port == act.port and peer.is_measured:
+                peer.finder.measures(peer.sample.tick, peer.sample.offset, peer.sample.error)
+                rate = peer.finder.rate
+                if rate:
+                    yield 'rate', {'peer': self.name(name), 'rate_ppm': round(rate.value, 3), 'error_ppm': round(rate.error, 3)}
 
     def on_correct(self, act, amount, way, shown):
         turn, who, word = self.took or (0, '-', '')
         if turn == act.turn and word in CORRECTIONS and who != '-':
             yield from self.must_be(act, 'follow', int(who))
+            # (right after its correction it is with its master, as far as that could be measured there)
+            if word == 'settime' or way == 'step':
+                self.finder.forget()
+            self.finder.moves(int(amount))
+            self.finder.measures(act.tick, 0, None)
+        for peer in self.peers.values():
+            peer.finder.moves(-int(amount))
         self.counts.corrections += 1
         self.correction = Correction(int(amount), way, int(shown), act.tick)
         yield 'correction', {'amount_us': int(amount), 'way': way, 'shown_us': int(shown)}
@@ -214,11 +262,18 @@ class Daemon:
         rivals += [int(number)] if int(number) not in rivals else []
         yield 'rival', {'peer': self.name(int(number))}
 
-    def on_quit(self, _, number):
+    def on_back(self, act, number):
+        self.backed = int(number), act.tick
+        return ()
+
+    def on_quit(self, act, number):
+        self.quit = act.tick
         yield 'quit', {'peer': self.name(int(number))}
 
     def on_gave(self, _, number):
         self.counts.unanswered += 1
+        if int(number) in self.peers:
+            self.peers[int(number)].finder.forget()
         yield 'gave', {'peer': self.name(int(number))}
 
     def on_trace(self, _, way):

@@ -6,13 +6,14 @@ from typing import Iterator, List, Optional, Tuple
 # No line of a trace is longer; a longer one is passed over.
 LONGEST = 1024
 
-# A line `TURN 0 PORT TICK ACT`. (the journal may put the time and the program's name before it)
-LINE = re.compile(r'(?:^|: )([1-9][0-9]{0,18}) 0 ([0-3]) ([0-9]{1,19}) ([a-z]+)(?: (.*))?$')
+# A line `TURN NODE PORT TICK ACT`; a daemon's node is 0. (the journal may put the time and the program's name before it)
+LINE = re.compile(r'(?:^|: )([1-9][0-9]{0,18}) ([0-9]{1,3}) ([0-3]) ([0-9]{1,19}) ([a-z]+)(?: (.*))?$')
 # What tsp-launch says of the peers' numbers.
 NAMES = re.compile(r'in the trace peer (0 is [A-Za-z0-9._-]+(?:, [0-9]{1,3} [A-Za-z0-9._-]+)*)$')
 
 ALARM = '(quiet|search|elect|window|probe|close|resolve|round)'
 NUMBER = '(-?[0-9]{1,19})'
+VALUE = re.compile(NUMBER)
 PEER = '([0-9]{1,3})'
 WHO = '([0-9]{1,3}|-)'
 # What follows the first word of an act.
@@ -31,8 +32,10 @@ ACTS = {word: re.compile(shape) for word, shape in SHAPES.items()}
 
 @dataclass(frozen=True)
 class Act:
-    """What a daemon did: in this turn, on this port, at this tick (microseconds since its start). `parts` are what follows the word."""
+    """What a daemon did: in this turn, on this port, at this tick (microseconds since its start). `parts` are what follows the word. The node
+    is 0, unless the trace is one of `tsp replay`."""
     turn: int
+    node: int
     port: int
     tick: int
     word: str
@@ -42,9 +45,9 @@ class Act:
 def act_of(line: str) -> Optional[Act]:
     """The act of a line, or None where it is none of a trace's."""
     found = LINE.search(line)
-    shape = ACTS.get(found[4]) if found else None
-    parts = shape.fullmatch(found[5] or '') if shape else None
-    return Act(int(found[1]), int(found[2]), int(found[3]), found[4], parts.groups()) if parts else None
+    shape = ACTS.get(found[5]) if found else None
+    parts = shape.fullmatch(found[6] or '') if shape else None
+    return Act(*map(int, found.groups()[:4]), found[5], parts.groups()) if parts else None
 
 
 def names_of(line: str) -> Optional[List[str]]:
@@ -55,8 +58,13 @@ def names_of(line: str) -> Optional[List[str]]:
     return [words.split(' ')[-1] for words in found[1].split(', ')]
 
 
+def text_of(line: bytes) -> str:
+    """A line as text that any stream and any file takes."""
+    return line.decode('ascii', 'backslashreplace')
+
+
 class Lines:
-    """Cuts octets into lines, as they come."""
+    """Cuts octets into lines, as they come. What isn't ASCII is written by its numbers."""
 
     def __init__(self):
         self.rest, self.is_long = b'', False
@@ -66,7 +74,7 @@ class Lines:
         *whole, rest = (self.rest + octets).split(b'\n')
         for line in whole:
             if not self.is_long and len(line) <= LONGEST:
-                yield line.decode('ascii', 'replace').rstrip('\r')
+                yield text_of(line.rstrip(b'\r'))
             self.is_long = False
         self.is_long = self.is_long or len(rest) > LONGEST
         self.rest = b'' if self.is_long else rest
@@ -74,4 +82,4 @@ class Lines:
     def last(self) -> Iterator[str]:
         """The last line, where no line feed ends it."""
         if self.rest:
-            yield self.rest.decode('ascii', 'replace')
+            yield text_of(self.rest)

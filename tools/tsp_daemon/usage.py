@@ -11,8 +11,8 @@ WELL, NOT_WELL, BAD_WORDS, NO_PROGRAM, NOT_WRITTEN, BAD_FILE = 0, 1, 2, 3, 4, 78
 class Words(tool.Words):
     """The words of a tool, whose help is the tool's own text."""
 
-    def __init__(self, name, text, wrong=BAD_WORDS):
-        super().__init__(name, wrong)
+    def __init__(self, name, text):
+        super().__init__(name)
         self.text = text
 
     def format_help(self):

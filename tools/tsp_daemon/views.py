@@ -2,7 +2,7 @@
 from datetime import datetime, timedelta, timezone
 
 from tsp_daemon import metrics, state
-from tsp_daemon.network import milliseconds
+from tsp_daemon.network import milliseconds, parts, signed
 
 EPOCH = datetime(1970, 1, 1, tzinfo=timezone.utc)
 ROLES = {
@@ -12,6 +12,8 @@ ALARMS = {
     'quiet': 'its silence ends', 'search': 'its search for a master ends', 'elect': 'election', 'window': 'its election ends',
     'resolve': 'rivals are told to give way', 'round': 'round',
 }
+# Values that are printed with their sign.
+SIGNED = ('offset_us', 'mean_us', 'amount_us')
 WAYS = {'slew': 'slewed', 'step': 'stepped'}
 
 # A change in words.
@@ -22,6 +24,7 @@ TEXTS = {
     'join': '{peer} is a slave',
     'leave': '{peer} is no slave any more',
     'sample': '{peer} is {offset_us} ms ahead, give or take {error_us}',
+    'rate': '{peer} is {rate_ppm} parts in a million fast, give or take {error_ppm}',
     'round': 'a round ends: {clocks} clocks agree within {width_us} ms, and their mean is {mean_us}',
     'correction': 'the clock is corrected by {amount_us} ms, {way}, and shows {shown_us}',
     'abandon': 'a round is given up',
@@ -59,6 +62,10 @@ def value_text(name, value):
         return span(value)
     if name == 'shown_us':
         return time_text(value)
+    if name in SIGNED:
+        return signed(value)
+    if name.endswith('_ppm'):
+        return f'{value:+.1f}' if name == 'rate_ppm' else f'{value:.1f}'
     return milliseconds(value) if name.endswith('_us') else WAYS.get(value, ALARMS.get(value, value))
 
 
@@ -102,7 +109,7 @@ def correction_text(daemon, now):
     last = daemon.correction
     if last is None:
         return 'none seen'
-    return f'{milliseconds(last.amount)} ms {WAYS[last.way]}, {span(now - last.tick)} ago, to {time_text(last.shown)}'
+    return f'{signed(last.amount)} ms {WAYS[last.way]}, {span(now - last.tick)} ago, to {time_text(last.shown)}'
 
 
 def late_text(daemon, now):
@@ -114,11 +121,24 @@ def late_text(daemon, now):
 
 
 def peer_rows(daemon, now):
-    """A row for each peer: its name, whether it is a slave, its last measurement, and how long ago that was."""
-    yield ['PEER', 'SLAVE', 'OFFSET ms', 'ERROR ms', 'AGO']
+    """A row for each peer: its name, whether it is a slave, its last measurement and how long ago that was, its rate, and the last correction
+    that it was sent and how long ago that was."""
+    yield ['PEER', 'SLAVE', 'OFFSET ms', 'ERROR ms', 'AGO', 'RATE ppm', '+/-', 'CORRECTED', 'AGO']
     for number, peer in sorted(daemon.peers.items()):
-        measured = [milliseconds(peer.sample.offset), milliseconds(peer.sample.error), span(now - peer.sample.tick)] if peer.sample else ['-', '-', '-']
-        yield [daemon.name(number), 'yes' if peer.is_slave else 'no', *measured]
+        sample, told, rate = peer.sample, peer.told, peer.finder.rate
+        measured = [signed(sample.offset), milliseconds(sample.error), span(now - sample.tick)] if sample else ['-', '-', '-']
+        corrected = [corrected_text(told), span(now - told.tick)] if told else ['-', '-']
+        yield [daemon.name(number), 'yes' if peer.is_slave else 'no', *measured, *(parts(rate) if rate else ['-', '-']), *corrected]
+
+
+def corrected_text(told):
+    """A correction that was sent to a slave, in milliseconds; `set` where that is a time."""
+    return 'set' if told.way == 'step' else signed(told.amount)
+
+
+def rate_text(rate):
+    """This host's own rate, as the corrections that it took say."""
+    return f'{rate.value:+.1f} parts in a million, as its corrections of the last {span(rate.seconds * 1e6)} say'
 
 
 def screen(daemon, now):
@@ -129,6 +149,8 @@ def screen(daemon, now):
         if port.rivals:
             lines.append(f'{where}rivals'.ljust(12) + ' ' + ', '.join(map(daemon.name, port.rivals)))
     lines += ['correction   ' + correction_text(daemon, now), 'late         ' + late_text(daemon, now)]
+    if daemon.finder.rate:
+        lines.append('rate         ' + rate_text(daemon.finder.rate))
     rows = list(peer_rows(daemon, now))
     widths = [max(map(len, column)) for column in zip(*rows)]
     if len(rows) > 1:
@@ -166,8 +188,20 @@ def prometheus(daemon):
     error = metrics.Metric('tsp_daemon_peer_error_seconds', 'How far that may be wrong.')
     for number, peer in sorted(daemon.peers.items()):
         if peer.sample:
-            offset.add(metrics.seconds(peer.sample.offset), peer=daemon.name(number))
-            error.add(metrics.seconds(peer.sample.error), peer=daemon.name(number))
+            offset.add(metrics.seconds(peer.sample.offset), peer=daemon.label(number))
+            error.add(metrics.seconds(peer.sample.error), peer=daemon.label(number))
+    rate = metrics.Metric('tsp_daemon_peer_rate_ppm', 'By how many parts in a million the peer\'s clock is fast against the daemon\'s.')
+    wrong = metrics.Metric('tsp_daemon_peer_rate_error_ppm', 'How far that may be wrong.')
+    sent = metrics.Metric('tsp_daemon_peer_correction_seconds', 'The last correction that the peer was sent.')
+    for number, peer in sorted(daemon.peers.items()):
+        if peer.finder.rate:
+            rate.add(round(peer.finder.rate.value, 3), peer=daemon.label(number))
+            wrong.add(round(peer.finder.rate.error, 3), peer=daemon.label(number))
+        if peer.told and peer.told.way == 'slew':
+            sent.add(metrics.seconds(peer.told.amount), peer=daemon.label(number))
+    own = metrics.Metric('tsp_daemon_rate_ppm', 'By how many parts in a million the daemon\'s clock is fast, as the corrections that it took say.')
+    if daemon.finder.rate:
+        own.add(round(daemon.finder.rate.value, 3))
     amount = metrics.Metric('tsp_daemon_correction_seconds', 'The last correction.')
     shown = metrics.Metric('tsp_daemon_correction_time_seconds', 'The corrected time right after the last correction, since 1970.')
     if daemon.correction:
@@ -178,4 +212,4 @@ def prometheus(daemon):
                               ('unanswered', 'Sends that no peer acknowledged.', daemon.counts.unanswered)):
         counts.append(metrics.Metric(f'tsp_daemon_{name}_total', text, 'counter'))
         counts[-1].add(value)
-    return metrics.text_of([tick, *role_metrics(daemon), offset, error, amount, shown, *counts])
+    return metrics.text_of([tick, *role_metrics(daemon), offset, error, rate, wrong, sent, own, amount, shown, *counts])

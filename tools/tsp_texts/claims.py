@@ -1,6 +1,9 @@
 """Which lines are a trace of a schedule: what each line has to agree with."""
 from tsp_texts import grammar, trace
 
+# A picture of more lines couldn't be read.
+MOST_LINES = 500_000
+
 
 class NotATrace(Exception):
     """The line of a trace, counted from 1, that can't stand there, and why."""
@@ -104,6 +107,8 @@ def acts_of(file, schedule):
     claims, acts = Claims(schedule), []
     for line in iter(lambda: file.readline(grammar.LONGEST + 2), b''):
         text = line[:-1] if line.endswith(b'\n') else line
+        if len(acts) == MOST_LINES:
+            raise NotATrace(MOST_LINES + 1, f'a trace of more than {MOST_LINES} lines isn\'t drawn')
         acts.append(claims.act(text.decode('ascii', 'replace')))
     claims.end()
     return acts

@@ -4,6 +4,9 @@ from tsp_texts.history import Tree
 from tsp_texts.scale import Values, micros
 from tsp_texts.svg import wide
 
+MILLION = 1_000_000
+# Clocks that are all farther from true time, in microseconds, have that in common.
+FAR = 1_000_000_000
 # The premises that Agreed and Chained ask, as a schedule's text has them.
 NEEDED = ('Sealed', 'Prompt')
 NODES = ['#1b6ca8', '#b03060', '#2e7d32', '#8e44ad', '#c77700', '#00796b', '#5d4037', '#455a64']
@@ -11,6 +14,13 @@ NODES = ['#1b6ca8', '#b03060', '#2e7d32', '#8e44ad', '#c77700', '#00796b', '#5d4
 
 def colour_of(node):
     return NODES[node % len(NODES)]
+
+
+def common_of(values):
+    """What clocks have in common less true time, where that is so much that what they differ by couldn't be seen; else 0."""
+    if not values or min(values) * max(values) <= 0 or min(map(abs, values)) < FAR:
+        return 0
+    return sorted(values)[len(values) // 2]
 
 
 class Panel:
@@ -39,18 +49,20 @@ class Clocks(Panel):
     def __init__(self, frame, top, bottom):
         spans = [span for spans in frame.history.clocks for span in spans]
         values = [span.value.offset(at) for span in spans for at in (span.begin, span.end)] + [span.value.shown(span.begin) for span in spans]
-        super().__init__(frame, values, top, bottom)
+        self.common = common_of(values)
+        super().__init__(frame, [value - self.common for value in values], top, bottom)
 
     def draw(self):
-        self.axis('clock less true time, at the logarithm of its size')
+        less = f' and less {self.common / MILLION:,.6f} s, which all have in common' if self.common else ''
+        self.axis(f'clock less true time{less}, at the logarithm of its size')
         for node, spans in enumerate(self.history.clocks):
-            points = [point for span in spans for point in self.points(span, span.value.offset)]
+            points = [point for span in spans for point in self.points(span, lambda at, span=span: span.value.offset(at) - self.common)]
             self.drawing.path(points, f' stroke="{colour_of(node)}" stroke-width="1.6"')
             for span in spans:
                 end = min(span.value.met_at(), span.end)
                 if span.value.rest and end > span.begin:
                     times = [span.begin + (end - span.begin) * part // 24 for part in range(25)]
-                    self.drawing.path([(self.x(at), self.y(span.value.shown(at))) for at in times],
+                    self.drawing.path([(self.x(at), self.y(span.value.shown(at) - self.common)) for at in times],
                                       f' stroke="{colour_of(node)}" stroke-width="1.2" stroke-dasharray="2 2"')
 
 

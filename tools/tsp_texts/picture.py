@@ -1,5 +1,6 @@
 """A run as a picture in SVG: the clocks above, and below them a lane for each port with its role and its datagrams."""
 from bisect import bisect_left
+from datetime import datetime, timedelta, timezone
 
 from tsp_texts.panels import Clocks, Followers, Legend, Trees, colour_of
 from tsp_texts.scale import Times, micros
@@ -15,23 +16,27 @@ BEYOND = 24
 LOST = '#c00'
 # In a picture of more lines than that, what lies on one pixel is drawn once.
 CROWDED = 10_000
+EPOCH = datetime(1970, 1, 1, tzinfo=timezone.utc)
 
 
 class Picture:
     """The picture of a history. With `bounds` it has a part for what the promises bound."""
 
-    def __init__(self, history, title, bounds=False):
+    def __init__(self, history, title, bounds=False, strangers=True):
         self.history, self.title, self.is_crowded = history, title, len(history.acts) > CROWDED
         self.drawing = Drawing(self.is_crowded)
+        self.events = [event for event in history.schedule.events if strangers or event.kind != 'bytes' or event.peer is not None]
         self.left, self.right = LEFT, WIDTH - RIGHT
         self.ports = sorted(history.roles) or [(node, 0) for node in range(len(history.schedule.nodes))]
         self.place = {port: place for place, port in enumerate(self.ports)}
         self.has_few = len(self.ports) <= FEW
         self.lane_height = HIGH_LANE if self.has_few else LOW_LANE
         slews = [span.value.met_at() for spans in history.clocks for span in spans if span.value.rest]
-        times = [event.at for event in history.schedule.events] + [at for at in slews if at < history.last]
+        times = [event.at for event in self.events] + [at for at in slews if at < history.last]
         self.x = Times(times, LEFT, WIDTH - RIGHT - BEYOND)
         self.clocks = Clocks(self, TOP, TOP + CLOCKS)
+        # (a witnessed network's true time begins anywhere: times are told from its first second on)
+        self.origin = times[0] // 1_000_000 * 1_000_000 if times and self.clocks.common else 0
         below = TOP + CLOCKS + GAP
         self.followers = Followers(self, below, below + FOLLOWERS)
         self.follows = any(self.followers.lines.values())
@@ -64,16 +69,25 @@ class Picture:
         """The times of events, as many as there is room for, and what they are."""
         bottom = self.height - 40
         free = LEFT - 40.0
-        events = [event.at for event in self.history.schedule.events]
+        events = [event.at for event in self.events]
         # (of events that stand nearer than a tenth of a pixel, the first is looked at)
         for at in self.x.between(events[0], events[-1], .1) if events else ():
-            x, label = self.x(at), f'{at / 1e6:.12g}'
+            x, label = self.x(at), f'{(at - self.origin) / 1e6:.12g}'
             half = wide(label) / 2 + 4
             if free <= x - half and x + half <= WIDTH and events[bisect_left(events, at)] == at:
                 free = x + half
                 self.behind.line(x, TOP, x, bottom, '#eee')
                 self.drawing.text(x, bottom + 14, label, ' text-anchor="middle"')
-        self.drawing.text(LEFT, bottom + 30, 'true time of events, in seconds; a gap between two is drawn as long as its logarithm, so time isn\'t even', ' fill="#555"')
+        self.drawing.text(LEFT, bottom + 30, f'true time of events, in seconds{self.since()}; a gap between two is drawn as long as its logarithm, so time isn\'t even', ' fill="#555"')
+
+    def since(self):
+        """When the time 0 of the picture was by the clocks, where they are all far from true time."""
+        if not self.clocks.common:
+            return ''
+        try:
+            return f' since {EPOCH + timedelta(microseconds=self.clocks.common + self.origin):%Y-%m-%d %H:%M:%S} UTC'
+        except OverflowError:
+            return ''
 
     def roles(self):
         half = 9 if self.has_few else STRIP / 2
@@ -103,7 +117,7 @@ class Picture:
             if number not in self.history.takes or not self.has_lane(post.to):
                 self.lost(x, y, post, f'{title}: never taken')
         above = 10 if self.has_few else 5
-        self.drawing.triangles([(self.x(event.at), self.lane(event.node, event.port) - above) for event in self.history.schedule.events
+        self.drawing.triangles([(self.x(event.at), self.lane(event.node, event.port) - above) for event in self.events
                                 if event.kind == 'bytes' and self.has_lane(event.node)], 'octets from outside')
 
     def lost(self, x, y, post, title):
@@ -120,9 +134,10 @@ class Picture:
             self.correction(x, y, way == 'step', f'{way} {amount} µs')
             words = f'{int(amount):+,}'
             side = x > WIDTH - RIGHT - wide(words)
-            if self.has_few and free.get(y, 0) <= x:
+            begins = x - 5 - wide(words) if side else x + 5
+            if self.has_few and free.get(y, 0) <= begins:
                 self.drawing.text(x - 5 if side else x + 5, y - 12, words, ' text-anchor="end"' if side else '')
-                free[y] = x + wide(words)
+                free[y] = begins + wide(words)
 
     def correction(self, x, y, is_step, title=None):
         self.drawing.circle(x, y, 4 if self.has_few else 3, f' fill="{"#000" if is_step else "#fff"}" stroke="#000"', title)

@@ -10,6 +10,12 @@ def home():
     return above if os.path.exists(os.path.join(above, 'crates.txt')) else None
 
 
+def installed():
+    """The program of the package that these tools stand in, which `tsp` of PATH runs and explains; or None."""
+    path = os.path.join(os.path.dirname(os.path.dirname(os.path.dirname(os.path.dirname(os.path.realpath(__file__))))), 'lib', 'tsp', 'tsp')
+    return path if os.path.exists(path) else None
+
+
 def find(named=None, build=True):
     """The program to run: the one that is named, that of TSP_PROGRAM, the repository's own, or `tsp` of PATH; or None.
 
@@ -21,7 +27,7 @@ def find(named=None, build=True):
     top = home()
     if top is None:
         from shutil import which
-        return which('tsp')
+        return installed() or which('tsp')
     built = os.path.join(top, 'crates', 'tsp_cli', 'out', 'tsp_cli')
     return ready(os.path.join(top, 'tsp'), built) if build or os.path.exists(built) else None
 

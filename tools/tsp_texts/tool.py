@@ -6,6 +6,9 @@ import signal
 import stat
 import sys
 
+VERSION = '0.1'
+# The status for wrong words, which all tools have in common.
+BAD_WORDS = 2
 CUT_OFF = 141
 # A line on standard error is no longer than that, whatever it speaks of.
 MOST_SAID = 2000
@@ -19,12 +22,21 @@ class Fault(Exception):
         self.text, self.status = text, status
 
 
-class Words(argparse.ArgumentParser):
-    """The words of a tool. Other words are refused in one line, with the tool's own status for that."""
+class Version(argparse.Action):
+    """Prints the tool's version, and ends it."""
 
-    def __init__(self, name, wrong=2, **more):
+    def __call__(self, parser, *_):
+        # (argparse's own passes over a write that fails)
+        sys.stdout.write(f'{parser.prog} {VERSION}\n')
+        parser.exit()
+
+
+class Words(argparse.ArgumentParser):
+    """The words of a tool. Other words are refused in one line, with status 2."""
+
+    def __init__(self, name, **more):
         super().__init__(prog=name, formatter_class=argparse.RawDescriptionHelpFormatter, allow_abbrev=False, **more)
-        self.wrong = wrong
+        self.add_argument('--version', action=Version, nargs=0, help='prints the version')
 
     def read(self):
         """What the words ask for; options may stand between files."""
@@ -35,7 +47,7 @@ class Words(argparse.ArgumentParser):
         (file or sys.stdout).write(self.format_help())
 
     def error(self, message):
-        raise Fault(f'{message} ({self.prog} --help says which words there are)', self.wrong)
+        raise Fault(f'{message} ({self.prog} --help says which words there are)', BAD_WORDS)
 
 
 def name():
@@ -122,12 +134,12 @@ def read(path, most, failed=1):
 def write(path, octets):
     """Writes a file as a whole or not at all; what is no file, as a device, is written as it is."""
     try:
-        there = os.path.realpath(path)
-        if os.path.lexists(there) and not stat.S_ISREG(os.stat(there).st_mode):
-            with open(there, 'wb') as out:
+        # (what /dev/stdout leads to has no path, where that is a pipe)
+        if os.path.exists(path) and not stat.S_ISREG(os.stat(path).st_mode):
+            with open(path, 'wb') as out:
                 out.write(octets)
             return
-        replace(there, octets)
+        replace(os.path.realpath(path), octets)
     except OSError as fault:
         raise Fault(reason(path, fault)) from fault
 

@@ -1,13 +1,39 @@
 """Journals: the lines that a host's daemon wrote, life by life, as files or a journal have them."""
 import math
 
-from tsp_texts.grammar import place_of_peer
+from tsp_texts.grammar import LONGEST, place_of_peer
 from tsp_witness import Unusable, lines
 
 ELECT_MIN, ELECT_SPREAD = 300_000_000, 300_000_000
 TICKETS = 32768
 # Messages whose number is the ticket, or 32,768 more and the count of such sends so far.
 NUMBERED = ('slaveup', 'election', 'conflict', 'quit', 'setdatereq')
+
+
+# What a journal has before a line, so many octets without a line of a trace, acts of one host, and notes of it, at most.
+BEFORE, MOST_OTHER, MOST_ACTS, MOST_NOTES = 256, 16 * 2**20, 1_000_000, 100
+
+
+class Lines:
+    """The lines of a file, and None for each that is too long, of which no more is kept than of others. `octets` were read so far."""
+
+    def __init__(self, file):
+        self.file, self.octets = file, 0
+
+    def part(self):
+        """The next line, or as much of it as one may have."""
+        line = self.file.readline(lines.LONGEST_START)
+        self.octets += len(line)
+        return line
+
+    def __iter__(self):
+        line = self.part()
+        while line:
+            rest = line
+            while rest and not rest.endswith(b'\n') and self.octets <= 2 * MOST_OTHER:
+                rest = self.part()
+            yield line.decode('ascii', 'replace').rstrip('\r\n') if rest is line or not rest and len(line) < lines.LONGEST_START else None
+            line = self.part()
 
 
 class Entry:
@@ -82,28 +108,50 @@ class Journal:
     """Reads the lines of one host's daemon into lives; `notes` say what couldn't be used."""
 
     def __init__(self, network, node):
-        self.network, self.node, self.lives, self.begins, self.notes, self.unseen = network, node, [], True, [], 0
+        self.network, self.node, self.lives, self.begins, self.unseen = network, node, [], True, 0
+        self.notes, self.untold, self.acts = [], 0, 0
 
     def read(self, path):
         """Reads a file, which begins another life."""
-        self.begins = True
-        with open(path, encoding='ascii', errors='replace') as file:
-            for number, line in enumerate(file, 1):
-                self.line(line.rstrip('\r\n'), f'{path}:{number}')
+        self.begins, before = True, self.acts
+        with open(path, 'rb') as file:
+            told = Lines(file)
+            for number, line in enumerate(told, 1):
+                place = f'{path}:{number}'
+                if line is None:
+                    self.note(f'{place}: this line is longer than any of a trace, and is passed over')
+                else:
+                    self.line(line, place)
+                if self.acts == before and told.octets > MOST_OTHER:
+                    raise Unusable(f'{path}: no line of a trace is in its first {MOST_OTHER >> 20} MiB')
+
+    def note(self, text):
+        """Notes what can't be used, if there isn't too much of that."""
+        if len(self.notes) < MOST_NOTES:
+            self.notes.append(text)
+        else:
+            self.untold += 1
 
     def line(self, line, place):
         """One line: an act, what the launcher says at a start, or something else that is passed over."""
+        if len(line) > LONGEST + BEFORE:
+            if lines.started(line):
+                self.check_peers(lines.started(line), place)
+                self.begins = True
+            return
         found = lines.line_of(line)
-        if found:
+        if (found or lines.ALMOST.search(line)) and lines.is_too_great(line):
+            self.note(f'{place}: this line has a number beyond 64 bits, and is passed over')
+        elif found:
             self.act(found.number, found.tick, Entry(found.port, found.text.split(' '), unseen=self.unseen), place)
             self.unseen = 0
         elif lines.LEFT_OUT.search(line):
             # (of each question there is the line that it was taken, and that of its answer)
             self.unseen += int(lines.LEFT_OUT.search(line)[1]) // 2
         elif lines.ALMOST.search(line):
-            self.notes.append(f'{place}: this line is cut or changed, and is passed over')
-        elif lines.START.search(line):
-            self.check_peers(lines.START.search(line), place)
+            self.note(f'{place}: this line is cut or changed, and is passed over')
+        elif lines.started(line):
+            self.check_peers(lines.started(line), place)
             self.begins = True
 
     def check_peers(self, found, place):
@@ -112,7 +160,7 @@ class Journal:
         wanted = ', '.join(f'{number} {self.network.names[peer.node]}' for number, peer in peers.items())
         told = f'0 {found[1]}{found[2]}'
         if told != wanted:
-            raise Unusable(f'{place}: the daemon was started with the peers {told}; by the hosts file they are {wanted}')
+            raise Unusable(f'{place}: the daemon was started with the peers {told[:200]}; by the hosts file they are {wanted[:200]}')
 
     def act(self, number, tick, act, place):
         """An act of the last turn, of a new one, or of a new life."""
@@ -125,6 +173,9 @@ class Journal:
             self.lives[-1].turns.append(last)
         self.check(act, last, tick, place)
         last.acts.append(act)
+        self.acts += 1
+        if self.acts > MOST_ACTS:
+            raise Unusable(f'{place}: there are more than {MOST_ACTS} acts, and no schedule has room for them')
 
     def check(self, act, turn, tick, place):
         """An act has its turn's tick, and a port and a peer that the daemon has."""

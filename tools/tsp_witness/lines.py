@@ -8,7 +8,22 @@ MOST_PORTS = 4
 ALMOST = re.compile('(?:^|: )[1-9][0-9]* 0 [0-3] [0-9]+ ')
 # What a daemon's supervisor says of questions for its clock, and their answers, which it didn't hand on.
 LEFT_OUT = re.compile(r'(?:^|: )\.\.\. ([1-9][0-9]{0,18}) lines of supervisors left out$')
-START = re.compile(r'in the trace peer 0 is ([!-~]+)((?:, [1-9][0-9]* [!-~]+)*)$')
+START, STARTED = 'in the trace peer 0 is ', re.compile(r'([!-~]+)((?:, [1-9][0-9]{0,2} [!-~]+)*)')
+# No line of a start that names 999 peers is longer; longer ones are passed over.
+LONGEST_START = 300_000
+# A number of a trace has at most 64 bits.
+GREAT_NUMBERS, MOST_NUMBER = re.compile('-?[0-9]{20,}'), 2**64 - 1
+
+
+def started(line):
+    """The names in the line with which the launcher tells of a start, or None. (what is before it is looked at once, however long it is)"""
+    _, told, names = line.rpartition(START)
+    return STARTED.fullmatch(names) if told else None
+
+
+def is_too_great(line):
+    """Whether a line has a number that no daemon has."""
+    return any(len(number) > 21 or abs(int(number)) > MOST_NUMBER for number in GREAT_NUMBERS.findall(line.rpartition(': ')[2]))
 
 
 def line_of(text):

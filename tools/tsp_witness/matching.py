@@ -16,8 +16,8 @@ class Post(namedtuple('Post', 'turn act')):
 class Matching:
     """The posts of all journals, and for each datagram that was taken the posts that it may have been."""
 
-    def __init__(self, network, journals):
-        self.network, self.journals = network, journals
+    def __init__(self, network, journals, doubted=()):
+        self.network, self.journals, self.doubted = network, journals, doubted
         self.index, self.choices, self.strange = {}, {}, []
         for journal in journals.values():
             for life in journal.lives:
@@ -63,6 +63,10 @@ class Matching:
     def match(self, turn):
         """Notes which posts a turn's datagram may have been; one that nobody posted is strange."""
         if self.sender(turn) is None:
+            return
+        if turn in self.doubted:
+            turn.post = None
+            self.strange.append(turn)
             return
         found = self.candidates(turn) or self.unwritten_reply(turn)
         if len(found) == 1:

@@ -2,10 +2,12 @@
 import re
 from collections import namedtuple
 
-from tsp_texts import schedule
+from tsp_texts import schedule, tool
 from tsp_witness import Unusable
 
 NAME = re.compile('[A-Za-z0-9._-]{1,255}')
+# As many as tsp-launch takes.
+MOST_OCTETS = 2 * 2**20
 # The role of a host in the hosts file, and its flag in a schedule.
 FLAGS = {'master': 'm', 'slave': 's', 'strict': 'm'}
 
@@ -51,9 +53,11 @@ class Network:
 
 def read(path):
     """The network that a hosts file tells of. Addresses aren't looked at: a trace has numbers alone."""
+    octets = tool.read(path, MOST_OCTETS, 3)
+    if len(octets) > MOST_OCTETS:
+        raise Unusable(f'{path}: it has more than {MOST_OCTETS} octets')
     try:
-        with open(path, encoding='ascii') as file:
-            return network_of(file.read().splitlines(), path)
+        return network_of(octets.decode('ascii').splitlines(), path)
     except UnicodeDecodeError:
         raise Unusable(f'{path}: a hosts file has letters of ASCII alone') from None
 

@@ -2,6 +2,7 @@
 import collections
 import heapq
 import itertools
+import struct
 from collections import namedtuple
 
 from tsp_texts import grammar, schedule
@@ -13,6 +14,8 @@ from tsp_witness.matching import Matching
 
 MILLION = 1_000_000
 QUIET = 80_000_000
+# So many datagrams may be what they are by chance.
+MOST_DOUBTED, MOST_TRIED = 3, 12
 
 
 class Claim(namedtuple('Claim', 'event text turn act')):
@@ -29,7 +32,7 @@ class Story:
 
     def __init__(self, network, journals, most=0, placing=Placing):
         self.network, self.journals, self.most = network, journals, most
-        self.notes, self.altered = [], []
+        self.notes, self.altered, self.doubted = [], [], []
         self.placing = placing(self.clocks(), len(network.names))
         self.note_faults()
         self.events, self.claims, self.posted = [], [], 0
@@ -56,23 +59,45 @@ class Story:
             journal.lives = kept
 
     def clocks(self):
-        """Clocks by which nothing is taken before it was posted."""
+        """Clocks by which nothing is taken before it was posted. A datagram or a few of which that can't be so are taken for changed ones, which are
+        by chance what was posted at another time."""
         while True:
-            self.matching = Matching(self.network, self.journals)
+            self.matching = Matching(self.network, self.journals, self.doubted)
             self.leave_out_silent()
             if not self.matching.lives():
                 raise Unusable('there is no line of a trace')
             clocks = Clocks(self.matching, self.most)
             if clocks.fit.least >= 0:
                 return clocks
-            text = self.unfit_text(clocks)
-            if not self.ends_at_step():
+            if not self.doubted:
+                text = self.unfit_text(clocks)
+                if self.ends_at_step():
+                    continue
+            if len(self.doubted) == MOST_DOUBTED:
                 raise Unusable(text)
+            self.doubted.append(self.doubtful(clocks))
+
+    def doubtful(self, clocks):
+        """The turn without whose datagram the clocks fit best: one of those that bound two clocks the most."""
+        bounding = {}
+        for life in self.matching.lives():
+            for turn in life.turns:
+                if turn.post:
+                    post = turn.post.turn
+                    passed = clocks.shown(life, turn.tick) - clocks.shown(post.life, post.tick)
+                    pair = clocks.clock(post.life), clocks.clock(life)
+                    bounding[pair] = min(bounding.get(pair, (passed, turn)), (passed, turn), key=lambda each: each[0])
+        turns = sorted((turn for _, turn in bounding.values()), key=lambda turn: clocks.at(turn) - clocks.at(turn.post.turn))[:MOST_TRIED]
+        return max(turns, key=lambda turn: Clocks(Matching(self.network, self.journals, [*self.doubted, turn]), self.most).fit.least)
+
+    def worst(self, clocks):
+        """The turn that took its datagram the farthest before that was posted."""
+        turns = [turn for life in self.matching.lives() for turn in life.turns if turn.post]
+        return min(turns, key=lambda turn: clocks.at(turn) - clocks.at(turn.post.turn))
 
     def unfit_text(self, clocks):
         """Which datagram would go back in time the most, and that there is at least one the other way."""
-        turns = [turn for life in self.matching.lives() for turn in life.turns if turn.post]
-        turn = min(turns, key=lambda turn: clocks.at(turn) - clocks.at(turn.post.turn))
+        turn = self.worst(clocks)
         return f'the clocks fit no times within a drift of {self.most}: "{" ".join(turn.took().words[2:])}" would reach {self.turn_name(turn)}, ' \
             f'{clocks.at(turn.post.turn) - clocks.at(turn):.0f} us before it left {self.turn_name(turn.post.turn)}, or another one likewise'
 
@@ -114,6 +139,8 @@ class Story:
     def altered_text(self, turn, sender):
         """What a daemon took of a peer that never posted it."""
         what = f'{self.name(turn.life)} took "{" ".join(turn.took().words[2:])}" of {self.network.names[sender]} in turn {turn.number}'
+        if turn in self.doubted:
+            return f'{what}, which by its trace posted that to it at another time alone'
         nearest = self.matching.nearest(turn)
         return f'{what}, which by its trace never posted that to it' + (f'; it posted "{nearest}"' if nearest else '')
 
@@ -181,7 +208,11 @@ class Story:
         if turn.post:
             return f'take {turn.post.act.number}'
         place = f'{node}/{took.port}' if took.port else str(node)
-        return f'bytes {place} {self.node_word(node, took.words[1])} {octets_of(took.words[2:]).hex()}'
+        try:
+            octets = octets_of(took.words[2:])
+        except (ValueError, struct.error):
+            raise Unusable(f'{turn.place}: "{" ".join(took.words[2:])}" is no datagram') from None
+        return f'bytes {place} {self.node_word(node, took.words[1])} {octets.hex()}'
 
     def node_word(self, node, peer):
         """A peer of a daemon as the node's number that it is."""

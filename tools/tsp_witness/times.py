@@ -5,11 +5,14 @@ the difference of the two offsets; what fits all bounds is found by Bellman and 
 much room before each datagram as there can be. True time is that of the fastest clock, so no rate is above 0, and each
 tick has its time.
 """
+import math
 from collections import namedtuple
 
 MILLION = 1_000_000
 # How often rates are made better, where they don't fit at first.
 SWEEPS = 3
+# So many microseconds are lost where times become whole numbers, at most.
+ROUNDING = 2
 
 
 class Way(namedtuple('Way', 'left reached shown_there shown_here')):
@@ -133,9 +136,11 @@ def below(rates):
 def fit(bounds, most):
     """Rates up to this many parts in a million apart, and offsets, by which each datagram is taken after it was posted."""
     rates = [0] * bounds.count
-    if most and bounds.room(rates) < 0:
+    least = bounds.room(rates)
+    if most and least < 0:
         rates = below(guess_rates(bounds, most))
         for _ in range(SWEEPS):
-            rates = rates if bounds.room(rates) >= 0 else sweep(bounds, rates, most)
-    least = bounds.room(rates)
-    return Fit(rates, bounds.offsets(rates, least), least)
+            rates = rates if bounds.room(rates) >= ROUNDING else sweep(bounds, rates, most)
+        least = bounds.room(rates)
+    # (where all rates are equal whole offsets fit, if any do)
+    return Fit(rates, bounds.offsets(rates, least if any(rates) else math.floor(least)), least)

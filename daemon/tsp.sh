@@ -1,0 +1,9 @@
+#!/bin/sh
+# Runs the program, and says in one line more on standard error which word is wrong, or which address failed and why, where it ends with 1 or 5.
+[ ! -h "$0" ] || exec "$(readlink -f -- "$0")" "$@"
+case $0 in */*) here=${0%/*} ;; *) here=. ;; esac
+# shellcheck disable=SC2034  # for what is read next
+tools=$here/../share/tsp program=$here/../lib/tsp/tsp
+# shellcheck source=tools/tsp_run.sh
+. "$tools/tsp_run.sh"
+run "$@"

@@ -1,0 +1,74 @@
+"""What the trace of the daemon that leads tells of the hosts: their rates and their last corrections."""
+import os
+import subprocess
+from typing import Dict, NamedTuple, Optional
+
+from tsp_daemon import state, trace
+from tsp_daemon.rates import Rate
+from tsp_daemon.usage import NO_PROGRAM
+from tsp_texts import tool
+from tsp_texts.tool import Fault
+
+# The journal's last lines: some hours of a master's.
+JOURNAL = ['journalctl', '-u', 'tsp', '-o', 'cat', '-n', '20000', '--no-pager', '-q']
+# How many seconds the journal is waited for, and how many octets of a trace are read.
+PATIENCE, MOST = 5, 64 * 2**20
+
+
+class Traced(NamedTuple):
+    """A host's rate against the master, and its last correction in microseconds; `way` is `slew` or `step`."""
+    rate: Optional[Rate]
+    amount: Optional[int]
+    way: str
+
+
+def daemon_of_file(path) -> state.Daemon:
+    """The daemon whose trace a file has, or standard input where it is `-`."""
+    octets = tool.read(path, MOST, NO_PROGRAM)
+    if len(octets) > MOST:
+        raise Fault(f'{path}: it has more than {MOST >> 20} MiB', NO_PROGRAM)
+    daemon = daemon_of_octets(octets)
+    if daemon is None:
+        raise Fault(f'{path}: it isn\'t a daemon\'s trace', NO_PROGRAM)
+    return daemon
+
+
+def daemon_of_journal(own) -> Optional[state.Daemon]:
+    """The daemon of this machine's unit by its journal, where it has this name; None where there is none to be read."""
+    try:
+        ran = subprocess.run(JOURNAL, stdin=subprocess.DEVNULL, stdout=subprocess.PIPE, stderr=subprocess.DEVNULL, timeout=PATIENCE, check=False)
+    except (OSError, subprocess.TimeoutExpired):
+        return None
+    daemon = daemon_of_octets(ran.stdout)
+    return daemon if daemon and daemon.own_name == own else None
+
+
+def daemon_of_octets(octets) -> Optional[state.Daemon]:
+    """The daemon whose trace this is; None where it is none."""
+    daemon, lines = state.Daemon(), trace.Lines()
+    try:
+        for line in [*lines.cut(octets), *lines.last()]:
+            daemon.take(line)
+    except state.NoDaemon:
+        return None
+    return daemon if daemon.counts.lines else None
+
+
+def told_by(daemon) -> Dict[str, Traced]:
+    """What a daemon's trace told, by the names of hosts: of its slaves where it leads, and of itself. Nothing, where there is no daemon."""
+    found = {}
+    if daemon is None:
+        return found
+    for number, peer in daemon.peers.items():
+        if peer.told or peer.finder.rate:
+            told = peer.told
+            found[daemon.name(number)] = Traced(peer.finder.rate, told.amount if told and told.way == 'slew' else None, told.way if told else '')
+    if daemon.correction:
+        found[daemon.own_name] = Traced(daemon.finder.rate, daemon.correction.amount, daemon.correction.way)
+    return found
+
+
+def own_of(names):
+    """Which of these names is this machine's, as tsp-launch finds it; None where none is."""
+    own = os.environ.get('TSP_SELF') or os.uname().nodename
+    return next((name for name in (own, own.partition('.')[0]) if name in names), None)
