@@ -111,7 +111,7 @@ class Daemon:
             self.begin()
             self.names = dict(enumerate(names))
             return [Change(0, 0, 'start', {'name': names[0], 'peers': names[1:]})]
-        act = trace.act_of(line)
+        act = trace.line_of(line)
         if act is None:
             return []
         if act.node:
@@ -120,8 +120,9 @@ class Daemon:
         if act.tick < self.tick:
             self.begin()
         self.tick = act.tick
-        call = getattr(self, f'on_{act.word}', None)
-        return [Change(act.tick, act.port, kind, values) for kind, values in (call(act, *act.parts) if call else ())]
+        word, *said = act.text.split(' ')
+        call = getattr(self, f'on_{word}', None)
+        return [Change(act.tick, act.port, kind, values) for kind, values in (call(act, *said) if call else ())]
 
     def port(self, act):
         """The port of an act."""
@@ -154,18 +155,16 @@ class Daemon:
             return self.name(port.master)
         return (self.own_name or self.name(0)) if port.role == 'master' else None
 
-    def on_become(self, act, role, number):
+    def on_become(self, act, role, number=None):
         yield from self.become(act, role, None if number is None else int(number))
 
-    def on_took(self, act, who, message):
-        words = message.split(' ')
+    def on_took(self, act, who, *words):
         if who != '-' and words[0] not in NAMELESS and words[-1] != '%':
             self.said[int(who)] = words[-1]
-        self.took = act.turn, who, words[0]
+        self.took = act.number, who, words[0]
         return ()
 
-    def on_post(self, act, _, who, message):
-        words = message.split(' ')
+    def on_post(self, act, _, who, *words):
         if words[0] not in NAMELESS:
             self.said[0] = words[-1]
         if words[0] == 'slaveup' and who != '-':
@@ -176,8 +175,8 @@ class Daemon:
     @staticmethod
     def tell(act, peer, words):
         """A correction is sent to a slave, again where it has the same number. A clock that is set begins anew."""
-        word, number, amount = [*words, '', ''][:3]
-        if number == peer.number or not trace.VALUE.fullmatch(amount):
+        word, number, amount, _ = words
+        if number == peer.number:
             return
         peer.number = number
         if word == 'adjtime':
@@ -241,7 +240,7 @@ class Daemon:
 
     def on_correct(self, act, amount, way, shown):
         turn, who, word = self.took or (0, '-', '')
-        if turn == act.turn and word in CORRECTIONS and who != '-':
+        if turn == act.number and word in CORRECTIONS and who != '-':
             yield from self.must_be(act, 'follow', int(who))
             # (right after its correction it is with its master, as far as that could be measured there)
             if word == 'settime' or way == 'step':
