@@ -4,6 +4,6 @@
 case $0 in */*) here=${0%/*} ;; *) here=. ;; esac
 # shellcheck disable=SC2034  # for what is read next
 tools=$here/../share/tsp program=$here/../lib/tsp/tsp
-# shellcheck source=tools/tsp_run.sh
-. "$tools/tsp_run.sh"
+# shellcheck source=tools/tsp_explained.sh
+. "$tools/tsp_explained.sh"
 run "$@"

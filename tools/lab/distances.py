@@ -43,8 +43,8 @@ def history_of(story, drift):
     told = schedule.Schedule(network.strict, drift, nodes, events)
     acts = []
     for claim in story.claims:
-        node, port, tick, *words = claim.text.split(' ')
-        acts.append(trace.Act(len(acts), claim.event, int(node), int(port), int(tick), events[claim.event - 1].at, words))
+        node, port, tick, text = claim.text.split(' ', 3)
+        acts.append(trace.Act(len(acts), claim.event, int(node), int(port), int(tick), events[claim.event - 1].at, text))
     return history.History(told, acts)
 
 

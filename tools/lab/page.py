@@ -28,13 +28,13 @@ knows neither: {judged}.
 - **most**: the greatest part of what was promised that any two clocks came to, at any moment.
 
 **learned** are the same networks once more, for as long, whose daemons count with the rates that their traces of the first run gave, as after a restart. **rates** is
-by how many parts in a million the counters that differ most do so then.
+by how many parts in a million the counters that differ most do so then, and **simulated** how far clocks of nodes are apart whose rates are -1, 0 or 1.
 
 The simulations are runs of `tsp-sim` with as many nodes and as much drift, whose datagrams are on their way for the daemons' least error, and up to the jitter
 besides. Jitter, errors and distances are milliseconds.
 
-| hosts | drift | jitter | daemons: error | apart | promised | most | learned: error | apart | rates | simulated: error | apart | promised | most |
-|---|---|---|---|---|---|---|---|---|---|---|---|---|---|
+| hosts | drift | jitter | daemons: error | apart | promised | most | learned: error | apart | rates | simulated | simulated: error | apart | promised | most |
+|---|---|---|---|---|---|---|---|---|---|---|---|---|---|---|
 {rows}
 
 ![What was measured and what was promised](accuracy.svg)
@@ -61,7 +61,7 @@ def row(case):
     for kind in 'daemons', 'learned', 'simulated':
         told = case[kind]
         if kind == 'learned':
-            cells += [milliseconds(told['error']), milliseconds(told['apart']), f'{told["rates"]:.2f}'] if told else ['-'] * 3
+            cells += [milliseconds(told['error']), milliseconds(told['apart']), f'{told["rates"]:.2f}', milliseconds(told['simulated'])] if told else ['-'] * 4
         else:
             cells += [milliseconds(told['error']), milliseconds(told['apart']), milliseconds(told['promised']), f'{told["part"]:.0%}']
     return '| ' + ' | '.join(cells) + ' |'

@@ -62,7 +62,7 @@ def acts(text):
     """The acts of the node."""
     ran = subprocess.run([PROGRAM, 'replay'], input=text.encode(), stdout=subprocess.PIPE, stderr=subprocess.PIPE, check=False)
     wanted(ran.returncode == 0, f'replay ends with {ran.returncode}: {ran.stdout[-200:]}{ran.stderr}')
-    return list(filter(None, map(trace.act_of, ran.stdout.decode().splitlines())))
+    return list(filter(None, map(trace.line_of, ran.stdout.decode().splitlines())))
 
 
 def slewed(corrections, tick):
@@ -83,12 +83,13 @@ def formula():
         wall = DRAW.randint(0, 10 ** 15)
         page, corrections = tsp_clock.Page(target=wall), []
         for act in acts(schedule(wall)):
-            if act.word == 'post' and act.parts[2].startswith('reply'):
-                wanted(int(act.parts[2].split()[-1]) == page.target_at(act.tick), f'the target at {act.tick} isn\'t that of replay (seed {SEED})')
+            word, *said = act.text.split(' ')
+            if word == 'post' and said[2] == 'reply':
+                wanted(int(said[-1]) == page.target_at(act.tick), f'the target at {act.tick} isn\'t that of replay (seed {SEED})')
                 compared += 1
-            if act.word != 'correct':
+            if word != 'correct':
                 continue
-            moved, is_step, shown = int(act.parts[0]), act.parts[1] == 'step', int(act.parts[2])
+            moved, is_step, shown = int(said[0]), said[1] == 'step', int(said[2])
             before = page.shown_at(act.tick)
             wanted(is_step or shown == before, f'the clock shows {shown} at {act.tick}, and {before} by the page (seed {SEED})')
             page = after_correction(page, act.tick, moved, is_step, shown)

@@ -145,6 +145,12 @@ if in_system --install "$package"; then
     [ -x "$out/system$launch" ] || fail 'the package is not installed'
     echo 'a 192.0.2.1 master' >"$out/system/etc/tsp/hosts"
     ln -s /usr/lib/systemd/system/tsp.service "$out/system/etc/systemd/system/multi-user.target.wants"
+    for folder in tsp_texts tsp_daemon tsp_witness; do
+        for module in "$out/system/usr/share/tsp/$folder"/*.py; do
+            name=$(basename "$module" .py)
+            ls "$out/system/usr/share/tsp/$folder/__pycache__/$name".*.pyc >/dev/null || fail "$name is not compiled"
+        done
+    done
     install -d "$out/system/usr/share/tsp/__pycache__" "$out/system/usr/share/tsp/tsp_daemon/__pycache__" "$out/system/usr/share/tsp/tsp_texts/__pycache__" \
         "$out/system/usr/share/tsp/tsp_witness/__pycache__" "$out/system/etc/systemd/system/tsp.service.d"
     echo '[Service]' >"$out/system/etc/systemd/system/tsp.service.d/mine.conf"

@@ -78,6 +78,20 @@ tools/tsp-plot "$out/many.tsp" "$out/many.trace" >"$out/picture.svg" || fail 'tw
 [ "$(grep -c ' become follow 0$' "$out/many.trace")" -eq 23 ] || fail 'not all follow'
 [ "$(drawn "in each lane: its clock less its master.s, from -")" -eq 1 ] || fail 'it is not said what is in a lane'
 
+# What lies on one pixel of a crowded picture is drawn once: 12,000 octets from outside at one time, and 3 at another, are two triangles.
+{
+    printf 'tsp-schedule 1\ndrift 0\nnode a 0 0 m\nat 0 boot 0 0\n'
+    yes 'at 1000000 bytes 0 - 00' | head -n 12000
+    yes 'at 2000000 bytes 0 - 00' | head -n 3
+    echo end
+} >"$out/crowded.tsp"
+./tsp replay <"$out/crowded.tsp" >"$out/crowded.trace" || fail 'what comes from outside is not run'
+tools/tsp-plot --strangers "$out/crowded.tsp" "$out/crowded.trace" >"$out/picture.svg" || fail 'a crowded picture is not drawn'
+! has xmllint || xmllint --noout "$out/picture.svg" || fail 'a crowded picture isn.t XML'
+triangle='M[0-9]* [0-9]*l-3 -6h6z'
+[ "$(drawn "<path d=\"$triangle$triangle\" fill=\"#555\"><title>octets from outside</title></path>")" -eq 1 ] && [ "$(drawn 'octets from outside</title>')" -eq 1 ] ||
+    fail 'what lies on one pixel is drawn more than once'
+
 # A network that was witnessed: its clocks are decades from true time, which is subtracted and named, so that what they differ by is seen. What
 # strangers sent is drawn where that is asked for. No two texts in one line of the picture stand over each other.
 set -- --file tools/tests/witness/three.hosts

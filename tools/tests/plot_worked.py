@@ -74,7 +74,7 @@ class Bounds(unittest.TestCase):
         read.events.append(schedule.event_of(event))
         for line in lines:
             words = line.split()
-            acts.append(trace.Act(len(acts), 24, int(words[0]), 0, int(words[1]), read.events[-1].at, words[2:]))
+            acts.append(trace.Act(len(acts), 24, int(words[0]), 0, int(words[1]), read.events[-1].at, ' '.join(words[2:])))
         bound, = history.History(read, acts).bounds
         return bound
 
@@ -89,7 +89,7 @@ class Bounds(unittest.TestCase):
     def test_a_correction_of_the_master_before_the_follower_has_its_own(self):
         read, acts = run_of('round')
         at = next(place for place, act in enumerate(acts) if act.words[:2] == ['correct', '-250']) + 1
-        acts.insert(at, acts[at - 1]._replace(words=['correct', '5', 'slew', '638000000']))
+        acts.insert(at, acts[at - 1]._replace(text='correct 5 slew 638000000'))
         acts = [act._replace(place=place) for place, act in enumerate(acts)]
         self.assertEqual(history.History(read, acts).bounds, [])
 
@@ -191,7 +191,7 @@ class BestSample(unittest.TestCase):
         for line in self.LINES.split('\n'):
             if words := line.split():
                 event = int(words[0])
-                acts.append(trace.Act(len(acts), event, int(words[1]), 0, int(words[2]), events[event - 1].at, words[3:]))
+                acts.append(trace.Act(len(acts), event, int(words[1]), 0, int(words[2]), events[event - 1].at, ' '.join(words[3:])))
         run = history.History(read, acts)
         self.assertEqual([(sample.reading_at, sample.trip) for sample in run.samples], [(20, 40), (65, 10), (83, 10)])
         bound, = run.bounds

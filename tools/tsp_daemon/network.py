@@ -1,6 +1,5 @@
 """What is seen of a network's hosts, and what isn't well there."""
 import heapq
-from concurrent.futures import ThreadPoolExecutor
 from dataclasses import dataclass
 from typing import List, Optional
 
@@ -72,6 +71,7 @@ def first_lines(hosts: List[Host]) -> List[Host]:
 def ask_masters(asker: Asker, hosts: List[Host]) -> List[Seen]:
     """Asks all hosts for their master side by side, so that many silent ones take no longer than one."""
     seen = [Seen(host) for host in hosts]
+    from concurrent.futures import ThreadPoolExecutor
     with ThreadPoolExecutor(min(len(seen), MOST_AT_ONCE)) as pool:
         asking = [pool.submit(asker.master, each.host.address) for each in seen]
         try:

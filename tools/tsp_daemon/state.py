@@ -112,7 +112,7 @@ class Daemon:
             self.names = dict(enumerate(names))
             self.learning.begin(0)
             return [Change(0, 0, 'start', {'name': names[0], 'peers': names[1:]})]
-        act = trace.act_of(line)
+        act = trace.line_of(line)
         if act is None:
             applied = trace.applied_of(line)
             if applied is not None:
@@ -125,13 +125,14 @@ class Daemon:
             self.begin()
             self.learning.anew()
         self.tick = act.tick
-        call = getattr(self, f'on_{act.word}', None)
-        changes = [Change(act.tick, act.port, kind, values) for kind, values in (call(act, *act.parts) if call else ())]
+        word, *said = act.text.split(' ')
+        call = getattr(self, f'on_{word}', None)
+        changes = [Change(act.tick, act.port, kind, values) for kind, values in (call(act, *said) if call else ())]
         return changes + self.learned(act, changes) if changes else changes
 
     def learned(self, act, changes):
         """What is learned by changes, where it is another estimate than before."""
-        is_set = self.took is not None and self.took[0] == act.turn and self.took[2] == 'settime'
+        is_set = self.took is not None and self.took[0] == act.number and self.took[2] == 'settime'
         if not any([self.learning.change(change, is_set) for change in changes]):
             return []
         found = self.learning.found
@@ -168,18 +169,16 @@ class Daemon:
             return self.name(port.master)
         return (self.own_name or self.name(0)) if port.role == 'master' else None
 
-    def on_become(self, act, role, number):
+    def on_become(self, act, role, number=None):
         yield from self.become(act, role, None if number is None else int(number))
 
-    def on_took(self, act, who, message):
-        words = message.split(' ')
+    def on_took(self, act, who, *words):
         if who != '-' and words[0] not in NAMELESS and words[-1] != '%':
             self.said[int(who)] = words[-1]
-        self.took = act.turn, who, words[0]
+        self.took = act.number, who, words[0]
         return ()
 
-    def on_post(self, act, _, who, message):
-        words = message.split(' ')
+    def on_post(self, act, _, who, *words):
         if words[0] not in NAMELESS:
             self.said[0] = words[-1]
         if words[0] == 'slaveup' and who != '-':
@@ -190,8 +189,8 @@ class Daemon:
     @staticmethod
     def tell(act, peer, words):
         """A correction is sent to a slave, again where it has the same number. A clock that is set begins anew."""
-        word, number, amount = [*words, '', ''][:3]
-        if number == peer.number or not trace.VALUE.fullmatch(amount):
+        word, number, amount, _ = words
+        if number == peer.number:
             return
         peer.number = number
         if word == 'adjtime':
@@ -255,7 +254,7 @@ class Daemon:
 
     def on_correct(self, act, amount, way, shown):
         turn, who, word = self.took or (0, '-', '')
-        if turn == act.turn and word in CORRECTIONS and who != '-':
+        if turn == act.number and word in CORRECTIONS and who != '-':
             yield from self.must_be(act, 'follow', int(who))
             # (right after its correction it is with its master, as far as that could be measured there)
             if word == 'settime' or way == 'step':

@@ -1,17 +1,15 @@
 """What is wrong with a line that isn't in the grammar of a schedule: the field, counted from 1, and a hint."""
 import re
-from typing import Callable, NamedTuple
+from collections import namedtuple
 
 from tsp_texts import schedule
 
 WORD_BITS, NODE_BITS, PORT_BITS = 64, 32, 8
 
 
-class Field(NamedTuple):
+class Field(namedtuple('Field', 'name means hint')):
     """A word of a line: its name, what belongs there, and a call that gives a hint or None."""
-    name: str
-    means: str
-    hint: Callable
+    __slots__ = ()
 
 
 def literal(word):
@@ -110,6 +108,7 @@ EVENTS = {
 FIRST = [literal('tsp-schedule'), Field('VERSION', 'the version, 1 or 2', lambda given, _: None if given in ('1', '2') else '`1` belongs here, or `2` for strict elections')]
 STRICT = [literal('strict')]
 NO_STRICT = '`strict` stands behind `tsp-schedule 2`, where elections are strict'
+NO_NODE = 'a node\'s line belongs here: node NAME RATE WALL FLAG'
 DRIFT = [literal('drift'), number('P', 'the greatest drift in parts in a million', 0, schedule.MOST_DRIFT)]
 
 

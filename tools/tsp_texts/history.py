@@ -1,84 +1,54 @@
 """What a schedule and its trace tell together: clocks, roles, datagrams, measurements, rounds, and what a round promises."""
 import bisect
-from typing import NamedTuple, Optional
+from collections import namedtuple
 
 from tsp_texts import trace
 
 NUMBERED = ('adjtime', 'settime', 'election', 'conflict', 'quit')
 
 
-class Span(NamedTuple):
+class Span(namedtuple('Span', 'begin end value lasts', defaults=(False,))):
     """Something that lasts from one true time to another, or beyond the run: a node's clock, or a port's role."""
-    begin: int
-    end: int
-    value: object
-    lasts: bool = False
+    __slots__ = ()
 
 
-class Role(NamedTuple):
+class Role(namedtuple('Role', 'name master', defaults=(None,))):
     """A port's role; a follower's has the master that it follows."""
-    name: str
-    master: Optional[int] = None
+    __slots__ = ()
 
 
-class Beside(NamedTuple):
+class Beside(namedtuple('Beside', 'clock other')):
     """A follower's clock and its master's, as long as both are the same ones."""
-    clock: object
-    other: object
+    __slots__ = ()
 
     def offset(self, at):
         """The follower's target less its master's."""
         return self.clock.offset(at) - self.other.offset(at)
 
 
-class Sample(NamedTuple):
+class Sample(namedtuple('Sample', 'master peer reading_at low high err trip')):
     """A measurement: `reading_at` is the true time at which the peer read its clock, `low` to `high` what that clock
     then was by it, less true time."""
-    master: int
-    peer: int
-    reading_at: int
-    low: int
-    high: int
-    err: int
-    trip: int
+    __slots__ = ()
 
 
-class Group(NamedTuple):
+class Group(namedtuple('Group', 'master port at low high mean own')):
     """The group of a Close: what clocks it has, their mean and the master's own, less true time."""
-    master: int
-    port: int
-    at: int
-    low: int
-    high: int
-    mean: int
-    own: int
+    __slots__ = ()
 
 
-class Bound(NamedTuple):
+class Bound(namedtuple('Bound', 'clock master follower close correct err reading_at begin end drift lasts', defaults=(True,))):
     """What is promised of a follower that a round corrected: its clock is within `width_at` of the master's, which is `clock`.
     `close` and `correct` are the places of the round's Close and of the follower's Correct."""
-    clock: object
-    master: int
-    follower: int
-    close: int
-    correct: int
-    err: int
-    reading_at: int
-    begin: int
-    end: int
-    drift: int
-    lasts: bool = True
+    __slots__ = ()
 
     def width_at(self, at):
         return self.err + 2 * trace.width(self.drift, at - self.reading_at)
 
 
-class Chain(NamedTuple):
+class Chain(namedtuple('Chain', 'bounds begin end lasts')):
     """Bounds one below the other, the highest first: while all of them stand, the last one's follower is within `width_at` of the highest one's master."""
-    bounds: tuple
-    begin: int
-    end: int
-    lasts: bool
+    __slots__ = ()
 
     @property
     def follower(self):
@@ -185,14 +155,15 @@ class Walk:
     def act(self, act):
         if act.event != self.event:
             self.event, self.acted, self.closed = act.event, set(), {}
-        call = getattr(self, 'on_' + act.words[0], None)
+        words = act.text.split(' ')
+        call = getattr(self, 'on_' + words[0], None)
         if call:
-            call(act)
+            call(act, words)
 
     def port(self, act):
         return act.node, act.port
 
-    def on_ring(self, act):
+    def on_ring(self, act, _words):
         self.acted.add(self.port(act))
 
     on_late = on_took = on_ring
@@ -206,7 +177,7 @@ class Walk:
             self.promised.remove(each)
             self.of.bounds.append(each[1]._replace(end=act.at, lasts=False))
 
-    def on_boot(self, act):
+    def on_boot(self, act, _words):
         self.set_clock(act, trace.booted(self.of.schedule.nodes[act.node], act))
         self.moved[act.node] = act.place
         for port in [port for port in self.role if port[0] == act.node]:
@@ -218,14 +189,14 @@ class Walk:
             for key in [key for key in known if key[:2] == port]:
                 del known[key]
 
-    def on_become(self, act):
+    def on_become(self, act, words):
         port = self.port(act)
         if port in self.role:
             self.of.roles.setdefault(port, []).append(Span(self.role[port][1], act.at, self.role[port][0]))
-        self.role[port] = Role(act.words[1], int(act.words[2]) if act.words[1] == 'follow' else None), act.at
+        self.role[port] = Role(words[1], int(words[2]) if words[1] == 'follow' else None), act.at
         self.forget(port)
 
-    def on_correct(self, act):
+    def on_correct(self, act, _words):
         is_of_close = self.closed.get(self.port(act)) == act.place - 1
         self.set_clock(act, trace.corrected(self.clock[act.node], act))
         self.of.corrections.append(act)
@@ -243,18 +214,18 @@ class Walk:
         bound = Bound(self.clock[send.master], send.master, act.node, send.close, act.place, sample.err, sample.reading_at, act.at, self.of.last, self.of.drift)
         self.promised.append((send.master, bound))
 
-    def on_arm(self, act):
-        if act.words[1] == 'close':
+    def on_arm(self, act, words):
+        if words[1] == 'close':
             for key in [key for key in self.best if key[:2] == self.port(act)]:
                 del self.best[key]
 
-    def on_post(self, act):
-        post = trace.post_of(act)
-        number, kind = int(act.words[1]), post.message[0]
+    def on_post(self, act, words):
+        number, kind = int(words[1]), words[3]
+        post = trace.Post(act, None if words[2] == '-' else int(words[2]))
         self.of.posts[number] = post
         key = (*self.port(act), post.to)
         if kind == 'request':
-            self.asked[(*key, post.message[2])] = act.tick
+            self.asked[(*key, words[5])] = act.tick
         if kind not in NUMBERED:
             return
         if self.port(act) in self.acted:
@@ -265,13 +236,13 @@ class Walk:
         if key in self.open:
             self.sends[number] = self.open[key]
 
-    def on_acked(self, act):
-        self.open.pop((*self.port(act), int(act.words[1])), None)
+    def on_acked(self, act, words):
+        self.open.pop((*self.port(act), int(words[1])), None)
 
     on_gave = on_acked
 
-    def on_sample(self, act):
-        peer, counter, diff, err = int(act.words[1]), act.words[2], int(act.words[3]), int(act.words[4])
+    def on_sample(self, act, words):
+        peer, counter, diff, err = int(words[1]), words[2], int(words[3]), int(words[4])
         event = self.of.schedule.events[act.event - 1]
         at = self.of.posts[event.datagram].act.at if event.kind == 'take' else act.at
         asked = self.asked.get((*self.port(act), peer, counter))
@@ -282,9 +253,9 @@ class Walk:
         if key not in self.best or found.trip < self.best[key].trip:
             self.best[key] = found
 
-    def on_close(self, act):
+    def on_close(self, act, words):
         self.closed[self.port(act)] = act.place
-        _, low, width, mean = (int(word) for word in act.words[1:])
+        _, low, width, mean = (int(word) for word in words[1:])
         own = self.clock[act.node].offset(act.at)
         self.of.groups.append(Group(act.node, act.port, act.at, own + low, own + low + width, own + mean, own))
 

@@ -8,7 +8,7 @@ from tsp_texts.template import PAGE
 
 def line_of(act):
     """The line of the trace that an act is."""
-    return f'{act.event} {act.node} {act.port} {act.tick} {" ".join(act.words)}'
+    return f'{act.event} {act.node} {act.port} {act.tick} {act.text}'
 
 
 def items(picture):
@@ -23,7 +23,7 @@ def items(picture):
     took = {}
     for act in history.acts:
         event = history.schedule.events[act.event - 1]
-        if act.words[0] == 'took' and event.kind == 'take':
+        if act.text.startswith('took ') and event.kind == 'take':
             took.setdefault(event.datagram, []).append(act)
     for number, acts in took.items():
         post = history.posts[number]

@@ -162,7 +162,7 @@ class Trees(Panel):
 
     def broken(self):
         """What of the schedule breaks a premise of these promises, in words."""
-        posts = [act.event for act in self.history.acts if act.words[0] == 'post']
+        posts = [act.event for act in self.history.acts if act.text.startswith('post ')]
         found = [each for each in premises.of(self.history.schedule, posts) if each.name in NEEDED and each.line]
         return '; nothing is promised: ' + ' and '.join(f'{each.name} fails on line {each.line}' for each in found) if found else ''
 

@@ -1,4 +1,5 @@
 """A run as a picture in SVG: the clocks above, and below them a lane for each port with its role and its datagrams."""
+from bisect import bisect_left
 from datetime import datetime, timedelta, timezone
 
 from tsp_texts.panels import Clocks, Followers, Legend, Trees, colour_of
@@ -13,6 +14,8 @@ FEW, HIGH_LANE, LOW_LANE, STRIP = 8, 54, 46, 9
 # What lasts beyond the run is drawn so much further than its last event.
 BEYOND = 24
 LOST = '#c00'
+# In a picture of more lines than that, what lies on one pixel is drawn once.
+CROWDED = 10_000
 EPOCH = datetime(1970, 1, 1, tzinfo=timezone.utc)
 
 
@@ -20,7 +23,8 @@ class Picture:
     """The picture of a history. With `bounds` it has a part for what the promises bound."""
 
     def __init__(self, history, title, bounds=False, strangers=True):
-        self.history, self.title, self.drawing = history, title, Drawing()
+        self.history, self.title, self.is_crowded = history, title, len(history.acts) > CROWDED
+        self.drawing = Drawing(self.is_crowded)
         self.events = [event for event in history.schedule.events if strangers or event.kind != 'bytes' or event.peer is not None]
         self.left, self.right = LEFT, WIDTH - RIGHT
         self.ports = sorted(history.roles) or [(node, 0) for node in range(len(history.schedule.nodes))]
@@ -65,10 +69,12 @@ class Picture:
         """The times of events, as many as there is room for, and what they are."""
         bottom = self.height - 40
         free = LEFT - 40.0
-        for event in self.events:
-            x, label = self.x(event.at), f'{(event.at - self.origin) / 1e6:.12g}'
+        events = [event.at for event in self.events]
+        # (of events that stand nearer than a tenth of a pixel, the first is looked at)
+        for at in self.x.between(events[0], events[-1], .1) if events else ():
+            x, label = self.x(at), f'{(at - self.origin) / 1e6:.12g}'
             half = wide(label) / 2 + 4
-            if free <= x - half and x + half <= WIDTH:
+            if free <= x - half and x + half <= WIDTH and events[bisect_left(events, at)] == at:
                 free = x + half
                 self.behind.line(x, TOP, x, bottom, '#eee')
                 self.drawing.text(x, bottom + 14, label, ' text-anchor="middle"')
@@ -110,9 +116,9 @@ class Picture:
                 self.drawing.line(x, y, self.x(at), self.there(post), '#333', thin, title)
             if number not in self.history.takes or not self.has_lane(post.to):
                 self.lost(x, y, post, f'{title}: never taken')
-        for event in self.events:
-            if event.kind == 'bytes' and self.has_lane(event.node):
-                self.drawing.triangle(self.x(event.at), self.lane(event.node, event.port) - (10 if self.has_few else 5), 'octets from outside')
+        above = 10 if self.has_few else 5
+        self.drawing.triangles([(self.x(event.at), self.lane(event.node, event.port) - above) for event in self.events
+                                if event.kind == 'bytes' and self.has_lane(event.node)], 'octets from outside')
 
     def lost(self, x, y, post, title):
         down = post.to > post.act.node if not self.has_lane(post.to) else self.there(post) > y
@@ -124,8 +130,9 @@ class Picture:
         """The corrections, on the lane of the port that took them."""
         free = {}
         for act in self.history.corrections:
-            x, y, words = self.x(act.at), self.lane(act.node, act.port), f'{int(act.words[1]):+,}'
-            self.correction(x, y, act.words[2] == 'step', f'{act.words[2]} {act.words[1]} µs')
+            x, y, (_, amount, way, _) = self.x(act.at), self.lane(act.node, act.port), act.words
+            self.correction(x, y, way == 'step', f'{way} {amount} µs')
+            words = f'{int(amount):+,}'
             side = x > WIDTH - RIGHT - wide(words)
             begins = x - 5 - wide(words) if side else x + 5
             if self.has_few and free.get(y, 0) <= begins:

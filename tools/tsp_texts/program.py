@@ -1,14 +1,7 @@
 """The program that makes a trace of a schedule: where it is, and how it is run."""
 import os
-import shutil
-import subprocess
-import threading
 
 from tsp_texts.tool import Fault, reason, run_tool  # noqa: F401  (tools take run_tool from here as well)
-
-
-# The program warns of a status other than 0; its tools say themselves what came of a run.
-QUIET = {'stderr': subprocess.DEVNULL}
 
 
 def home():
@@ -33,13 +26,15 @@ def find(named=None, build=True):
         return named
     top = home()
     if top is None:
-        return installed() or shutil.which('tsp')
+        from shutil import which
+        return installed() or which('tsp')
     built = os.path.join(top, 'crates', 'tsp_cli', 'out', 'tsp_cli')
     return ready(os.path.join(top, 'tsp'), built) if build or os.path.exists(built) else None
 
 
 def ready(script, built):
     """The program that a script builds, which says how far that is; the script itself where it can't."""
+    import subprocess
     ended = subprocess.run([script, 'show'], stdin=subprocess.DEVNULL, check=False)
     return script if ended.returncode else built
 
@@ -56,8 +51,10 @@ class Run:
     """A run of `replay`, which is over when it is left."""
 
     def __init__(self, program, failed=1):
+        from subprocess import DEVNULL, PIPE, Popen
         try:
-            self.process = subprocess.Popen([program, 'replay'], stdin=subprocess.PIPE, stdout=subprocess.PIPE, **QUIET)
+            # (the program warns of a status other than 0; its tools say themselves what came of a run)
+            self.process = Popen([program, 'replay'], stdin=PIPE, stdout=PIPE, stderr=DEVNULL)
         except OSError as fault:
             raise Fault(reason(program, fault), failed) from fault
         self.input, self.output = self.process.stdin, self.process.stdout
@@ -85,6 +82,7 @@ class Replay(Run):
 
     def __enter__(self):
         # (what it writes is read while it reads, so neither waits for the other)
+        import threading
         self.feeder = threading.Thread(target=feed, args=(self.input, self.text), daemon=True)
         self.feeder.start()
         return self

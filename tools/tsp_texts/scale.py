@@ -4,6 +4,7 @@ Schedules sleep for minutes and then do much in a millisecond, so a gap between 
 logarithm; and values are drawn at the logarithm of their size, with their sign.
 """
 import bisect
+import itertools
 import math
 
 
@@ -23,10 +24,10 @@ class Times:
     """Places of true times between left and right."""
 
     def __init__(self, times, left, right):
-        self.times, self.left, self.right = sorted(set(times)) or [0], left, right
-        self.places = [0.0]
-        for before, after in zip(self.times, self.times[1:]):
-            self.places.append(self.places[-1] + math.log10(1 + (after - before) / 100))
+        # (sorted before they are made different: nearly all come in their order)
+        self.times, self.left, self.right = list(dict.fromkeys(sorted(times))) or [0], left, right
+        log = math.log10
+        self.places = [0.0, *itertools.accumulate([log(1 + (after - before) / 100) for before, after in zip(self.times, self.times[1:])])]
 
     def __call__(self, at):
         """The place of a true time; between two events it is even."""

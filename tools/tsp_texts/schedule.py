@@ -2,9 +2,8 @@
 
 Times and walls are microseconds. Lines are octets without their line feed.
 """
-import itertools
 import re
-from typing import NamedTuple, Optional
+from collections import namedtuple
 
 LONGEST_LINE = 1024
 MOST_OCTETS = 64 * 2**20
@@ -23,40 +22,26 @@ SIGNED = rb'(0|-?[1-9][0-9]*)'
 PEER = rb'(-|0|[1-9][0-9]*)'
 DRIFT = re.compile(rb'drift ' + NUMBER)
 NODE = re.compile(rb'node ([A-Za-z0-9._-]{1,255}) ' + SIGNED + b' ' + SIGNED + rb' ([ms])')
-BOOT = re.compile(rb'at ' + NUMBER + b' boot ' + NUMBER + b' ' + NUMBER)
-TURN = re.compile(rb'at ' + NUMBER + b' turn ' + NUMBER)
-TAKE = re.compile(rb'at ' + NUMBER + b' take ' + NUMBER)
-BYTES = re.compile(rb'at ' + NUMBER + b' bytes ' + NUMBER + rb'(?:/([1-9][0-9]*))? ' + PEER + rb' ((?:[0-9a-fA-F]{2}){1,300})')
+# (the last group that is there tells the kind of event)
+EVENT = re.compile(rb'at ' + NUMBER + rb' (?:turn ' + NUMBER + b'|take ' + NUMBER + b'|boot ' + NUMBER + b' ' + NUMBER + b'|bytes ' + NUMBER +
+                   rb'(?:/([1-9][0-9]*))? ' + PEER + rb' ([0-9a-fA-F]{2,600}))')
+TURN, TAKE, BOOT = 2, 3, 5
 NET = re.compile(rb'net((?: ' + NUMBER + rb')+)')
 
 
-class Node(NamedTuple):
+class Node(namedtuple('Node', 'name rate wall may')):
     """A node's line: its rate is in parts in a million, and its wall is that of true time 0."""
-    name: str
-    rate: int
-    wall: int
-    may: bool
+    __slots__ = ()
 
 
-class Event(NamedTuple):
+class Event(namedtuple('Event', 'kind at node datagram word peer port', defaults=(None, None, None, None, 0))):
     """An event; a take has the number of its datagram, any other the node that acts. `peer` and `port` are those of `bytes`."""
-    kind: str
-    at: int
-    node: Optional[int] = None
-    datagram: Optional[int] = None
-    word: Optional[int] = None
-    peer: Optional[int] = None
-    octets: Optional[bytes] = None
-    port: int = 0
+    __slots__ = ()
 
 
-class Schedule(NamedTuple):
+class Schedule(namedtuple('Schedule', 'strict drift nodes events nets', defaults=((),))):
     """A whole schedule. Events are numbered from 1, so the first stands at place 0."""
-    strict: bool
-    drift: int
-    nodes: list
-    events: list
-    nets: list = []
+    __slots__ = ()
 
     def ports(self, node):
         """The networks that a node's ports are on."""
@@ -111,34 +96,33 @@ def is_whole(nodes, nets):
 
 def event_of(line):
     """The event that a line states, or None."""
-    event = any_event_of(line) if is_short(line) else None
-    return event if event and event.at <= FARTHEST and fits(event) else None
+    found = EVENT.fullmatch(line) if len(line) <= LONGEST_LINE else None
+    if not found:
+        return None
+    at, kind = int(found[1]), found.lastindex
+    if at > FARTHEST:
+        return None
+    if kind == TURN:
+        node = int(found[2])
+        return Event('turn', at, node) if node < 2**32 else None
+    if kind == TAKE:
+        datagram = int(found[3])
+        return Event('take', at, None, datagram) if datagram < 2**64 else None
+    if kind == BOOT:
+        node, word = int(found[4]), int(found[5])
+        return Event('boot', at, node, None, word) if node < 2**32 and word < 2**64 else None
+    return octets_of(at, *found.groups()[5:])
 
 
-def any_event_of(line):
-    """The event that a line states, whatever the size of its numbers."""
-    if found := BOOT.fullmatch(line):
-        return Event('boot', int(found[1]), int(found[2]), word=int(found[3]))
-    if found := TURN.fullmatch(line):
-        return Event('turn', int(found[1]), int(found[2]))
-    if found := TAKE.fullmatch(line):
-        return Event('take', int(found[1]), datagram=int(found[2]))
-    if found := BYTES.fullmatch(line):
-        peer = None if found[4] == b'-' else int(found[4])
-        return Event('bytes', int(found[1]), int(found[2]), peer=peer, octets=bytes.fromhex(found[5].decode()), port=int(found[3] or 0))
-    return None
+def octets_of(at, node, port, peer, digits):
+    """The event of octets that come in at a time, or None."""
+    node, port, peer = int(node), int(port or 0), None if peer == b'-' else int(peer)
+    fits = node < 2**32 and port < 2**8 and (peer or 0) < 2**32 and len(digits) % 2 == 0
+    return Event('bytes', at, node, peer=peer, port=port) if fits else None
 
 
-def fits(event):
-    """Whether an event's numbers are within their types."""
-    small = [number for number in (event.node, event.peer) if number is not None]
-    large = [number for number in (event.word, event.datagram) if number is not None]
-    return all(number < 2**32 for number in small) and all(number < 2**64 for number in large) and event.port < 2**8
-
-
-def lines_of(text):
-    """The lines of a text, one after the other: each ends with a line feed, which the last may lack."""
-    begin = 0
+def lines_of(text, begin=0):
+    """The lines of a text from a place on, one after the other: each ends with a line feed, which the last may lack."""
     while begin < len(text):
         end = text.find(b'\n', begin)
         end = len(text) if end < 0 else end
@@ -148,4 +132,9 @@ def lines_of(text):
 
 def line_at(text, number):
     """A line of a text, counted from 1, or None where there are fewer."""
-    return next(itertools.islice(lines_of(text), number - 1, None), None)
+    begin = 0
+    for _ in range(number - 1):
+        begin = text.find(b'\n', begin) + 1
+        if not begin:
+            return None
+    return next(lines_of(text, begin), None)

@@ -1,10 +1,10 @@
 """What every tool does alike: how its words are read, what it says on standard error, and how it ends."""
 import argparse
+import gc
 import os
 import signal
 import stat
 import sys
-import tempfile
 
 VERSION = '0.1'
 # The status for wrong words, which all tools have in common.
@@ -103,6 +103,12 @@ def run_tool(main, failed=1):
         os.kill(os.getpid(), signal.SIGINT)
 
 
+def run_short(main, failed=1):
+    """The same for a tool that doesn't last: nearly all that it makes is needed until it ends, so nothing is looked through for what isn't."""
+    gc.disable()
+    run_tool(main, failed)
+
+
 def end(text, status):
     """Ends with a line on standard error, or none. What standard output couldn't take isn't tried again."""
     if text is not None:
@@ -140,6 +146,7 @@ def write(path, octets):
 
 def replace(path, octets):
     """Puts a new file in the place of the one at a path, or of none."""
+    import tempfile
     handle, beside = tempfile.mkstemp(dir=os.path.dirname(path), prefix='.' + os.path.basename(path)[:100])
     try:
         with os.fdopen(handle, 'wb') as out:

@@ -2,33 +2,30 @@
 
 All times are microseconds. `at` is true time, `tick` a node's own count.
 """
-from typing import NamedTuple, Optional
+from collections import namedtuple
 
 MILLION = 1_000_000
 SLEW = 200
 
 
-class Act(NamedTuple):
-    """A line of a trace: its place among the lines, and the true time of its event. `words` say what was done."""
-    place: int
-    event: int
-    node: int
-    port: int
-    tick: int
-    at: int
-    words: list
+class Act(namedtuple('Act', 'place event node port tick at text')):
+    """A line of a trace: its place among the lines, and the true time of its event. The text says what was done."""
+    __slots__ = ()
+
+    @property
+    def words(self):
+        """The words of the text, which aren't kept: a trace may have very many."""
+        return self.text.split(' ')
 
 
-class Post(NamedTuple):
+class Post(namedtuple('Post', 'act to')):
     """A datagram that was posted; `to` is None where it went to a stranger."""
-    act: Act
-    to: Optional[int]
-    message: list
+    __slots__ = ()
 
-
-def post_of(act):
-    """The post that an act is."""
-    return Post(act, None if act.words[2] == '-' else int(act.words[2]), act.words[3:])
+    @property
+    def message(self):
+        """The words of the message."""
+        return self.act.words[3:]
 
 
 def tick_at(node, at):
@@ -41,16 +38,13 @@ def width(drift, passed):
     return -(-drift * passed // MILLION) + 1
 
 
-class Clock(NamedTuple):
+class Clock(namedtuple('Clock', 'node base rest since')):
     """A node's clock from a boot or a correction on.
 
     `base` is what the target is before the node's tick, `rest` by how much the shown value was short of the target at
     `since`, a tick.
     """
-    node: object
-    base: int
-    rest: int
-    since: int
+    __slots__ = ()
 
     def offset(self, at):
         """The target less true time."""
@@ -73,5 +67,6 @@ def booted(node, act):
 
 def corrected(clock, act):
     """A clock after a correction, by what its act says."""
-    base = clock.base + int(act.words[1])
-    return Clock(clock.node, base, base + act.tick - int(act.words[3]), act.tick)
+    _, amount, _, shown = act.words
+    base = clock.base + int(amount)
+    return Clock(clock.node, base, base + act.tick - int(shown), act.tick)

@@ -1,9 +1,8 @@
 """Octets that a trace doesn't show: those of a message line, and some that have the fault that it names."""
 import struct
 
-KINDS = ('adjtime ack masterreq masterack settime masterup slaveup election accept refuse conflict resolve quit date datereq dateack '
-         'traceon traceoff msite msitereq test setdate setdatereq loop').split()
-TIMED = {'adjtime', 'settime', 'date', 'datereq', 'setdate', 'setdatereq'}
+from tsp_texts.grammar import KINDS, TIMED
+
 REQUEST, REPLY, VERSION = 128, 129, 1
 MILLION = 1_000_000
 LONGEST_SHORT_NAME = 63

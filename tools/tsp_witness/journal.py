@@ -1,7 +1,8 @@
 """Journals: the lines that a host's daemon wrote, life by life, as files or a journal have them."""
 import math
 
-from tsp_witness import Unusable, grammar
+from tsp_texts.grammar import LONGEST, place_of_peer
+from tsp_witness import Unusable, lines
 
 ELECT_MIN, ELECT_SPREAD = 300_000_000, 300_000_000
 TICKETS = 32768
@@ -21,7 +22,7 @@ class Lines:
 
     def part(self):
         """The next line, or as much of it as one may have."""
-        line = self.file.readline(grammar.LONGEST_START)
+        line = self.file.readline(lines.LONGEST_START)
         self.octets += len(line)
         return line
 
@@ -31,12 +32,12 @@ class Lines:
             rest = line
             while rest and not rest.endswith(b'\n') and self.octets <= 2 * MOST_OTHER:
                 rest = self.part()
-            yield line.decode('ascii', 'replace').rstrip('\r\n') if rest is line or not rest and len(line) < grammar.LONGEST_START else None
+            yield line.decode('ascii', 'replace').rstrip('\r\n') if rest is line or not rest and len(line) < lines.LONGEST_START else None
             line = self.part()
 
 
-class Act:
-    """A line of a daemon: its port and words, and whether the daemon wrote it, or it follows from the rules. `number` is that
+class Entry:
+    """An act of a daemon in its journal: its port and words, and whether the daemon wrote it, or it follows from the rules. `number` is that
     of its datagram in the schedule, where it is a post; `unseen` is how many posts before it the supervisor left out."""
     __slots__ = ('port', 'words', 'written', 'number', 'unseen')
 
@@ -72,7 +73,7 @@ class Life:
             for act in turn.acts:
                 if act.words[0] == 'correct':
                     moved += int(act.words[1])
-                self.base = grammar.told_base(act.words, turn.tick, moved, corrected)
+                self.base = lines.told_base(act.words, turn.tick, moved, corrected)
                 if self.base is not None:
                     return
                 corrected = corrected or act.words[0] == 'correct'
@@ -116,14 +117,14 @@ class Journal:
         """Reads a file, which begins another life."""
         self.begins, before = True, self.acts
         with open(path, 'rb') as file:
-            lines = Lines(file)
-            for number, line in enumerate(lines, 1):
+            told = Lines(file)
+            for number, line in enumerate(told, 1):
                 place = f'{path}:{number}'
                 if line is None:
                     self.note(f'{place}: this line is longer than any of a trace, and is passed over')
                 else:
                     self.line(line, place)
-                if self.acts == before and lines.octets > MOST_OTHER:
+                if self.acts == before and told.octets > MOST_OTHER:
                     raise Unusable(f'{path}: no line of a trace is in its first {MOST_OTHER >> 20} MiB')
 
     def note(self, text):
@@ -135,27 +136,27 @@ class Journal:
 
     def line(self, line, place):
         """One line: an act, what the launcher says at a start, or something else that is passed over."""
-        if len(line) > grammar.LONGEST + BEFORE:
-            if grammar.started(line):
-                self.check_peers(grammar.started(line), place)
+        if len(line) > LONGEST + BEFORE:
+            if lines.started(line):
+                self.check_peers(lines.started(line), place)
                 self.begins = True
             return
-        found = grammar.LINE.search(line)
-        if found and grammar.is_too_great(found[0]):
+        found = lines.line_of(line)
+        if (found or lines.ALMOST.search(line)) and lines.is_too_great(line):
             self.note(f'{place}: this line has a number beyond 64 bits, and is passed over')
         elif found:
-            self.act(int(found[1]), int(found[3]), Act(int(found[2]), found[4].split(' '), unseen=self.unseen), place)
+            self.act(found.number, found.tick, Entry(found.port, found.text.split(' '), unseen=self.unseen), place)
             self.unseen = 0
-        elif grammar.LEFT_OUT.search(line):
+        elif lines.LEFT_OUT.search(line):
             # (of each question there is the line that it was taken, and that of its answer)
-            self.unseen += int(grammar.LEFT_OUT.search(line)[1]) // 2
-        elif grammar.ALMOST.search(line):
+            self.unseen += int(lines.LEFT_OUT.search(line)[1]) // 2
+        elif lines.ALMOST.search(line):
             self.note(f'{place}: this line is cut or changed, and is passed over')
-        elif grammar.started(line):
-            self.check_peers(grammar.started(line), place)
+        elif lines.started(line):
+            self.check_peers(lines.started(line), place)
             self.begins, self.rate = True, 0
-        elif grammar.APPLIED.search(line):
-            self.rate = int(grammar.APPLIED.search(line)[1])
+        elif lines.APPLIED.search(line):
+            self.rate = int(lines.APPLIED.search(line)[1])
 
     def check_peers(self, found, place):
         """The launcher names the daemon's peers: they are those of the network."""
@@ -187,7 +188,7 @@ class Journal:
             raise Unusable(f'{place}: turn {turn.number} has two ticks, {turn.tick} and {tick}')
         if act.port >= len(self.network.ports_of(self.node)):
             raise Unusable(f'{place}: {name} has no port {act.port} by the hosts file')
-        peer = grammar.place_of_peer(act.words)
+        peer = place_of_peer(act.words)
         if peer is not None and int(act.words[peer]) not in peers:
             raise Unusable(f'{place}: {name} has no peer {act.words[peer]} by the hosts file, which gives it {len(peers) - 1}')
         if act.words[0] == 'took' and turn.took():

@@ -1,17 +1,16 @@
 """Which post a datagram was that a daemon took: by its octets, its sender, and what may have caused what."""
-from typing import NamedTuple
+from collections import namedtuple
 
-from tsp_witness.journal import TICKETS, Act, Turn
+from tsp_witness.journal import TICKETS, Entry, Turn
 
 REPLY_WORDS = 5
 # How long a datagram lives, in microseconds: an older post isn't looked for where there is another.
 LIFE = 30_000_000
 
 
-class Post(NamedTuple):
+class Post(namedtuple('Post', 'turn act')):
     """A datagram that a daemon posted to a peer."""
-    turn: Turn
-    act: Act
+    __slots__ = ()
 
 
 class Matching:
@@ -95,7 +94,7 @@ class Matching:
         """The turn in which a daemon that didn't trace yet took a request, and its reply."""
         peer = str(self.network.known_as[life.node][taker.life.node, port])
         turn = Turn(life, 0, tick)
-        turn.acts = [Act(port, ['took', peer, *request.act.words[3:]], False), Act(port, ['post', '0', peer, *words], False)]
+        turn.acts = [Entry(port, ['took', peer, *request.act.words[3:]], False), Entry(port, ['post', '0', peer, *words], False)]
         turn.post = request
         before = sum(other.number == 0 and other.tick <= tick for other in life.turns)
         life.turns.insert(before, turn)
@@ -113,11 +112,16 @@ class Matching:
 
     def choose(self, at, freedom):
         """Settles what is still open, by the times so far."""
+        # (the times of posts, which many datagrams may have in common)
+        known = {}
         for turn, posts in self.choices.items():
             here, spare = at(turn), freedom(posts[0].turn.life, turn.life)
-            before = [post for post in posts if at(post.turn) <= here]
+            if id(posts) not in known:
+                known[id(posts)] = [at(post.turn) for post in posts]
+            times = known[id(posts)]
+            before = [place for place, time in enumerate(times) if time <= here]
             # (times may be wrong by so much as two hosts leave free: the post that seems to come right behind may be the one)
-            behind = [post for post in posts if here < at(post.turn) <= here + spare]
-            last = max(before, key=lambda post: at(post.turn), default=None)
-            is_old = last is None or here - at(last.turn) > LIFE
-            turn.post = min(behind, key=lambda post: at(post.turn)) if is_old and behind else last or posts[0]
+            behind = [place for place, time in enumerate(times) if here < time <= here + spare]
+            last = max(before, key=times.__getitem__, default=None)
+            is_old = last is None or here - times[last] > LIFE
+            turn.post = posts[min(behind, key=times.__getitem__) if is_old and behind else last or 0]

@@ -1,6 +1,6 @@
 """The network that the traces are of: its hosts, their roles, and by which numbers they know each other."""
 import re
-from typing import NamedTuple
+from collections import namedtuple
 
 from tsp_texts import schedule, tool
 from tsp_witness import Unusable
@@ -12,10 +12,9 @@ MOST_OCTETS = 2 * 2**20
 FLAGS = {'master': 'm', 'slave': 's', 'strict': 'm'}
 
 
-class Peer(NamedTuple):
+class Peer(namedtuple('Peer', 'node port')):
     """Whom a daemon knows by a number: a node, on one of the daemon's ports."""
-    node: int
-    port: int
+    __slots__ = ()
 
 
 class Network:
@@ -26,12 +25,13 @@ class Network:
         self.strict = 'strict' in roles.values()
         self.number = {name: node for node, name in enumerate(names)}
         self.nets = [[self.number[name] for name in net] for net in nets]
+        self.ports = [[place for place, net in enumerate(self.nets) if node in net] for node in range(len(names))]
         self.peers = [self.peers_of(node) for node in range(len(names))]
         self.known_as = [{(peer.node, peer.port): number for number, peer in peers.items()} for peers in self.peers]
 
     def ports_of(self, node):
         """The networks of a node's ports, by their numbers."""
-        return [place for place, net in enumerate(self.nets) if node in net]
+        return self.ports[node]
 
     def peers_of(self, node):
         """A daemon's peers, which are numbered from 1 on over all its ports."""

@@ -3,13 +3,13 @@ import collections
 import heapq
 import itertools
 import struct
-from typing import NamedTuple
+from collections import namedtuple
 
-from tsp_texts import schedule
-from tsp_witness import Unusable, grammar
+from tsp_texts import grammar, schedule
+from tsp_witness import Unusable
 from tsp_witness.clocks import Clocks, Placing
 from tsp_witness.datagram import octets_of
-from tsp_witness.journal import Act, Turn
+from tsp_witness.journal import Entry, Turn
 from tsp_witness.matching import Matching
 
 MILLION = 1_000_000
@@ -18,12 +18,9 @@ QUIET = 80_000_000
 MOST_DOUBTED, MOST_TRIED = 3, 12
 
 
-class Claim(NamedTuple):
+class Claim(namedtuple('Claim', 'event text turn act')):
     """A line that is claimed: its event, the text behind the event's number, and the turn and act that it is of."""
-    event: int
-    text: str
-    turn: Turn
-    act: Act
+    __slots__ = ()
 
     def line(self):
         return f'{self.event} {self.text}'
@@ -161,8 +158,8 @@ class Story:
         for life in journal.lives:
             boot = Turn(life, 0, 0)
             for port in range(len(self.network.ports_of(life.node))):
-                boot.acts += [Act(port, ['boot'], False)] if port == 0 else []
-                boot.acts += [Act(port, ['become', 'starting'], False), Act(port, ['arm', 'quiet', str(QUIET)], False)]
+                boot.acts += [Entry(port, ['boot'], False)] if port == 0 else []
+                boot.acts += [Entry(port, ['become', 'starting'], False), Entry(port, ['arm', 'quiet', str(QUIET)], False)]
             yield boot
             yield from life.turns
 

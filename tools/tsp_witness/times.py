@@ -6,7 +6,7 @@ much room before each datagram as there can be. True time is that of the fastest
 tick has its time.
 """
 import math
-from typing import NamedTuple
+from collections import namedtuple
 
 MILLION = 1_000_000
 # How often rates are made better, where they don't fit at first.
@@ -15,19 +15,14 @@ SWEEPS = 3
 ROUNDING = 2
 
 
-class Way(NamedTuple):
+class Way(namedtuple('Way', 'left reached shown_there shown_here')):
     """A datagram's way: the clocks that it left and reached, and what they showed, in microseconds."""
-    left: int
-    reached: int
-    shown_there: int
-    shown_here: int
+    __slots__ = ()
 
 
-class Fit(NamedTuple):
+class Fit(namedtuple('Fit', 'rates offsets least')):
     """Rates and offsets by clock, and the least time that a datagram is on its way by them; below 0 they don't fit."""
-    rates: list
-    offsets: list
-    least: float
+    __slots__ = ()
 
 
 def lower_hull(points):

@@ -1,32 +1,31 @@
 """What the rules say of a story: whether each daemon's acts are those of its replay, and whether the whole keeps the promises."""
 import subprocess
-from typing import NamedTuple, Optional
+from collections import namedtuple
 
-from tsp_texts import program as programs
-from tsp_witness import Unusable, grammar
-from tsp_witness.journal import Act
+from tsp_texts import grammar
+from tsp_witness import Unusable
+from tsp_witness.journal import Entry
 
 AUDITED_EVENTS = AUDITED_LINES = 20_000
 AUDITED_NODES = 16
 
 
-class Difference(NamedTuple):
+class Difference(namedtuple('Difference', 'event claimed ruled')):
     """The first event whose acts differ: its number, what was claimed of it, and what the rules say."""
-    event: int
-    claimed: list
-    ruled: list
+    __slots__ = ()
 
 
-class Verdict(NamedTuple):
+class Verdict(namedtuple('Verdict', 'alike difference audit audited', defaults=(None,))):
     """How many of the daemons' lines are as the rules say, the first event at which they aren't, the answer of the audit, which is None
     where it wasn't asked, and of how many events it was asked where these aren't all."""
-    alike: int
-    difference: Optional[Difference]
-    audit: Optional[str]
-    audited: Optional[int] = None
+    __slots__ = ()
 
     def is_well(self):
         return self.difference is None and self.audit in (None, 'holds')
+
+    def explained(self, story):
+        """Lines for a reader about the first act that differs, where there is one."""
+        return explain(story, self.difference) if self.difference else ()
 
     def text(self):
         """The verdict in a line."""
@@ -40,7 +39,7 @@ class Verdict(NamedTuple):
 def run(program, command, text):
     """What the program writes for a text."""
     try:
-        ran = subprocess.run([program, command], input=text.encode('ascii'), stdout=subprocess.PIPE, check=False, **programs.QUIET)
+        ran = subprocess.run([program, command], input=text.encode('ascii'), stdout=subprocess.PIPE, stderr=subprocess.DEVNULL, check=False)
     except OSError as fault:
         raise Unusable(f'{program}: {fault.strerror}') from fault
     return ran.stdout.decode('ascii', 'replace').splitlines()
@@ -118,7 +117,7 @@ def unplaced(story, turn, words):
         words[place] = str(story.network.known_as[turn.life.node].get((int(words[place]), port), 0))
     if words[0] == 'arm':
         words[2] = str(int(words[2]) - story.placing.tick(turn.life, 0))
-    return Act(port, words, False)
+    return Entry(port, words, False)
 
 
 def explain(story, difference):
