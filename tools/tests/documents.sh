@@ -31,7 +31,7 @@ python3 tools/tests/proofs.py || fail 'docs/PROOFS.md names what is not there'
 [ "$count" -ge 4 ] || fail "only $count examples were tried"
 # The README is short, and no line of these pages is wide but in tables.
 [ "$(wc -l <README.md)" -le 100 ] || fail 'README.md has more than 100 lines'
-awk 'length > 160 { exit 1 }' README.md || fail 'a line of README.md has more than 160 columns'
+awk 'length > 120 { exit 1 }' README.md || fail 'a line of README.md has more than 120 columns'
 for document in docs/FORMATS.md docs/DECISIONS.md docs/PROOFS.md docs/PROMISES.md docs/LINES.md docs/WIRESHARK.md examples/README.md; do
     awk 'length > 160 && !/^\|/ { exit 1 }' "$document" || fail "a line of $document has more than 160 columns"
 done
