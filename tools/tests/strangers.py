@@ -128,7 +128,7 @@ def main():
     question = shortest('msite', '1', '')
     sizes = [[len(octets) for octets in answers(name)] for name in (SHORT, LONG)]
     wanted(sizes == [[76], [268]], f'a question for the master brings {sizes}')
-    rows = [row('MSITE, who is master', question, 'one of 76; of 268 where the master\'s name has more than 63 octets')]
+    rows = [row('MSITE, who is master', question, 'one of 76; of 268 if the master\'s name has more than 63 octets')]
     for what, octets, brings, each in (('TEST, stand for election', shortest('test', '1', ''), elections, '2n + 1'),
                                        ('SETDATE, the date', shortest('setdate', '1', '1', ''), dates, '4n - 1'),
                                        ('LOOP with a peer\'s address, at a gateway that isn\'t the only one', shortest('loop', '1', '10', 'x'), loops, '10(n - 1)')):
