@@ -13,7 +13,7 @@ stand_in() {
     cp "$1" "$out/stand/crates/tsp_cli/out/tsp_cli"
     mkdir -p "$out/stand/out"
     echo 'crates.txt crates/tsp_cli/out/tsp_cli' >"$out/stand/out/tsp_cli.folders"
-    (cd "$out/stand" && find crates.txt crates/tsp_cli/out/tsp_cli -printf '%p %s %C@ %T@\n') >"$out/stand/out/tsp_cli.listing"
+    (cd "$out/stand" && find crates.txt crates/tsp_cli/out/tsp_cli -printf '%p %s %C@\n') >"$out/stand/out/tsp_cli.listing"
 }
 
 # Wants this status, and this behind the program's line on standard error, or an empty standard error with status 0.

@@ -1,6 +1,6 @@
 """What tells from which sources a program was built.
 
-out/NAME.listing has the names, sizes and times of the sources and of the program, as `find` writes them: ./tsp compares it at each call.
+out/NAME.listing has the names, sizes and times of change of the sources and of the program, as `find` writes them: ./tsp compares it at each call.
 out/NAME.stamp has checksums of their texts, by which a copy of the repository, whose files have other times, is known to be the same.
 Both leave out the files of proofs: a changed proof changes neither the program nor what was proved of it.
 """
@@ -11,7 +11,7 @@ import subprocess
 from tsp_build import crates
 
 # (what ./tsp calls too)
-FORMAT = '%p %s %C@ %T@\\n'
+FORMAT = '%p %s %C@\\n'
 
 
 class Stamp:
