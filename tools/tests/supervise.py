@@ -79,7 +79,9 @@ class Supervised:
         environment.update(TSP_SPREAD='0', TSP_TRACE='on', TSP_CLOCK=self.path('clock'), **variables)
         command = [*before, LAUNCH, '-f', self.hosts, '-s', 'a', '--turns', str(turns), '-p', PROGRAM, '--supervise', *words]
         with open(self.out, 'wb') as out, open(self.err, 'wb') as err:
-            self.process = subprocess.Popen(command, stdout=stdout or out, stderr=stderr or err, env=environment)
+            # (a job in the background of a shell ignores interrupts, and so does what it starts)
+            self.process = subprocess.Popen(command, stdout=stdout or out, stderr=stderr or err, env=environment,
+                                            preexec_fn=lambda: signal.signal(signal.SIGINT, signal.SIG_DFL))
         self.link = socket.socket(socket.AF_INET, socket.SOCK_DGRAM)
         self.link.settimeout(0.2)
 
