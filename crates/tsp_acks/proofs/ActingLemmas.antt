@@ -1,16 +1,10 @@
 -- A step that has acted goes on acting, whatever it puts; one that has taken something has acted.
 use Rattle.std.specs.Prelude.{◌≡◌, ℕ, Bool, true, List, [], ◌∷◌, Option, Some, refl}
 use Rattle.std.proofs.lemmas.Option.{none-some}
-use Rattle.tsp_base.specs.declared.act.Act.{Act}
-use Rattle.tsp_base.specs.declared.act.Act.TheVariants.{Took, Ring, Late}
-use Rattle.tsp_base.specs.declared.act.Placed.{Placed}
-use Rattle.tsp_base.specs.declared.place.Port.{Port}
-use Rattle.tsp_base.specs.History.{Deed, Step, Seen, Begins, Acts, Here, Elsewhere}
-use Rattle.tsp_base.specs.Performs.{Performs}
-use Rattle.tsp_base.specs.PortFacts.{Received, acting, acting_after, taken, taken_after}
-use Rattle.tsp_base.specs.Rows.{Row, added}
+use Rattle.tsp_rules.specs.Values.{Act, Took, Ring, Late, Placed, Port}
+use Rattle.tsp_base.specs.Words.{Deed, Step, Seen, Begins, Acts, Here, Elsewhere, Performs, Received, acting, acting_after, taken, taken_after, Row, added}
 use Rattle.tsp_acks.specs.declared.station.Station.{Station}
-use Rattle.tsp_acks.specs.Stands.{Stands, StandsActing}
+use Rattle.tsp_acks.specs.Stands.{StationStands, StandsActing}
 
 acting_after-acts : (a : Act) (before : Bool) → before ≡ true → acting_after (Acts a) before ≡ true
 acting_after-acts (Took from taken) before e = refl
@@ -23,7 +17,7 @@ acting-added step x [] seen e = e
 acting-added step x (a ∷ rest) seen e = acting-added step x rest _ (acting_after-acts a (acting seen) e)
 
 -- a call in a step that has acted
-pub Performs_acting : {row : Row} {x : ℕ} {port : Port} {before after : Station} {old new : List Placed} → Performs Stands Stands row x port before after old new → Performs StandsActing StandsActing row x port before after old new
+pub Performs_acting : {row : Row} {x : ℕ} {port : Port} {before after : Station} {old new : List Placed} → Performs StationStands StationStands row x port before after old new → Performs StandsActing StandsActing row x port before after old new
 Performs_acting {row = row} {x = x} d = record {
   acts = λ past h. d.acts past h.stands;
   stands = λ past h. record { stands = d.stands past h.stands; acted = acting-added past.step x (row x past) past.seen h.acted };

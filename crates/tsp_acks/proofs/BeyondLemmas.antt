@@ -5,14 +5,9 @@ use Rattle.std.proofs.Common.{ap, arith, length-append}
 use Rattle.std.proofs.lemmas.Bool.{ltb-true, lt-ltb}
 use Rattle.std.proofs.lemmas.List.{length-map, get_or-map}
 use Rattle.std.proofs.lemmas.List.Kept.{AllPairs-from_increasing}
-use Rattle.tsp_base.specs.declared.act.Placed.{Placed}
-use Rattle.tsp_base.specs.declared.place.PeerId.{PeerId}
-use Rattle.tsp_base.specs.declared.place.Port.{Port}
-use Rattle.tsp_base.specs.History.{Past}
-use Rattle.tsp_base.specs.Performs.{Performs}
-use Rattle.tsp_base.specs.Rows.{Row, for_each}
+use Rattle.tsp_rules.specs.Values.{Placed, PeerId, Port}
+use Rattle.tsp_base.specs.Words.{Past, Performs, Row, for_each, IsAscending}
 use Rattle.tsp_base.proofs.PerformsLemmas.{Performs_then, Performs_nothing}
-use Rattle.tsp_base.specs.Peers.{IsAscending}
 use Rattle.tsp_sends.specs.Repeating.{IsAfter}
 
 -- whether a peer comes after this one

@@ -4,24 +4,13 @@ use Rattle.std.specs.List.{Contains}
 use Rattle.std.proofs.Common.{sym, ◌∙◌, ap, arith, eqb-true}
 use Rattle.std.proofs.Math.Bool.{and-false}
 use Rattle.std.proofs.lemmas.List.{length-map, get_or-map}
-use Rattle.tsp_base.specs.declared.act.Act.{Act}
-use Rattle.tsp_base.specs.declared.act.Act.TheVariants.{Boot, Post, Become, Acked, Gave as GaveAct}
-use Rattle.tsp_base.specs.declared.act.Placed.{Placed}
-use Rattle.tsp_base.specs.declared.datagram.Datagram.TheVariants.{Message}
-use Rattle.tsp_base.specs.declared.place.PeerId.{PeerId}
-use Rattle.tsp_base.specs.declared.place.Place.TheVariants.{Peer}
-use Rattle.tsp_base.specs.declared.place.Port.{Port}
-use Rattle.tsp_base.specs.History.{Deed, Acts, Step, Past, Seen, Here, Elsewhere}
-use Rattle.tsp_base.specs.Messages.{MessageValue}
-use Rattle.tsp_base.specs.Performs.{Performs}
-use Rattle.tsp_base.specs.PortFacts.{acting}
-use Rattle.tsp_base.specs.Rows.{grown, nothing, puts}
-use Rattle.tsp_base.specs.SendFacts.{again, begun, has_own_number, is_given_up, is_numbered, message_at, message_of, open_send, open_to, open_to_after, posts_of, Sending, sending_at, sending_of}
+use Rattle.tsp_rules.specs.Values.{Act, Boot, Post, Become, Acked, Gave, Placed, Message, PeerId, Peer, Port}
+use Rattle.tsp_base.specs.Words.{Deed, Acts, Step, Past, Seen, Here, Elsewhere, MessageValue, Performs, acting, grown, nothing, puts, again, begun, has_own_number, is_given_up, is_numbered, message_at, message_of, open_send, open_to, open_to_after, posts_of, Sending, sending_at, sending_of}
 use Rattle.tsp_base.proofs.PerformsLemmas.{Performs_else_part, Performs_nothing, Performs_reading, Performs_then_part}
 use Rattle.tsp_base.proofs.SendLemmas.{seen_act, open_send-gave, open_send-repeats}
 use Rattle.tsp_rules.specs.SendRows.{bare_send, is_send_due, is_spent, open_at, repeats, repeats_bare_send}
 use Rattle.tsp_sends.specs.declared.due.Due.{Due}
-use Rattle.tsp_sends.specs.declared.due.Due.TheVariants.{Again, Gave}
+use Rattle.tsp_sends.specs.declared.due.Due.TheVariants.{Again, Gave as GaveUp}
 use Rattle.tsp_sends.specs.declared.slot.Slot.{Slot}
 use Rattle.tsp_sends.specs.Slots.{peers_of, sending_to, SetsOnly}
 use Rattle.tsp_sends.specs.Repeating.{IsAfter, is_due_send, peer_of, repeated, RepeatsNext}
@@ -48,7 +37,7 @@ IsNumbered-after p (Acts (Acked q)) acts here keep is k = by_test (q.0 == p.0) w
   by_test : (b : Bool) → IsNumbered (message_at (if b then [] else keep))
   by_test true = tt
   by_test false = k
-IsNumbered-after p (Acts (GaveAct q)) acts here keep is k = by_test (q.0 == p.0) where
+IsNumbered-after p (Acts (Gave q)) acts here keep is k = by_test (q.0 == p.0) where
   by_test : (b : Bool) → IsNumbered (message_at (if b then [] else keep))
   by_test true = tt
   by_test false = k
@@ -72,7 +61,7 @@ open_send-numbered p seen s e = at_place (open_to p seen) (posts_of p seen) (IsN
   at_place (Elsewhere d ∷ before) n k e = of_message (message_of d.deed) d.tick n k e
 
 -- a send is given up
-pub StandsStill_gave : (p : PeerId) (x : ℕ) (past : Past) (before after : Station) → ChangesSends before after → after.begun ≡ before.begun → SetsOnly p None before.sends after.sends → StandsStill past before → StandsStill (grown x past (GaveAct p ∷ [])) after
+pub StandsStill_gave : (p : PeerId) (x : ℕ) (past : Past) (before after : Station) → ChangesSends before after → after.begun ≡ before.begun → SetsOnly p None before.sends after.sends → StandsStill past before → StandsStill (grown x past (Gave p ∷ [])) after
 StandsStill_gave p x past before after t count only h = record {
   stands = record {
     own = ap (λ i. i.own) t.me ∙ h.stands.own;
@@ -131,11 +120,11 @@ StandsStill_repeats p s x past before after is t count only h =
 -- what is put for a due send
 abbrev pub act_of : Due → Act
 act_of (Again p m) = Post (Peer p) (Message m)
-act_of (Gave p k) = GaveAct p
+act_of (GaveUp p k) = Gave p
 
 peer_of-repeated : (p : PeerId) (x : ℕ) (s : Sending) → peer_of (repeated p x s) ≡ p
 peer_of-repeated p x s = by_test (is_given_up s x) where
-  by_test : (b : Bool) → peer_of (if b then Gave p s.message.kind else Again p s.message) ≡ p
+  by_test : (b : Bool) → peer_of (if b then GaveUp p s.message.kind else Again p s.message) ≡ p
   by_test true = refl
   by_test false = refl
 
@@ -153,7 +142,7 @@ next_peer after x slots new due peers t slots_are =
 
 -- a due send is given up
 gives_row : (p : PeerId) (s : Sending) (x : ℕ) (port : Port) (before after : Station) (old new : List Placed) → sending_to before.sends p ≡ Some s → is_due_send x (Some s) ≡ true → is_given_up s x ≡ true → ChangesSends before after → after.begun ≡ before.begun
-    → SetsOnly p None before.sends after.sends → new ≡ old ++ record { port = port; act = GaveAct p } ∷ [] → Performs StandsStill StandsStill (bare_send p) x port before after old new
+    → SetsOnly p None before.sends after.sends → new ≡ old ++ record { port = port; act = Gave p } ∷ [] → Performs StandsStill StandsStill (bare_send p) x port before after old new
 unfolding bare_send repeats_bare_send puts
 gives_row p s x port before after old new is due spent t count only put =
     Performs_reading (open_at p) (repeats_bare_send p) (Some s) (λ past h. sym (h.stands.sends p) ∙ is)
@@ -169,7 +158,7 @@ unfolding bare_send repeats_bare_send repeats puts
 repeats_row p s x port before after old new is due fresh t count only put =
     Performs_reading (open_at p) (repeats_bare_send p) (Some s) (λ past h. sym (h.stands.sends p) ∙ is)
     (Performs_then_part (is_send_due s) nothing (λ past h. due)
-    (Performs_else_part (is_spent s) (puts (GaveAct p)) (λ past h. fresh)
+    (Performs_else_part (is_spent s) (puts (Gave p)) (λ past h. fresh)
     (record { acts = λ past h. put; stands = λ past h. StandsStill_repeats p s x past before after is t count only h })))
 
 -- the next due send is repeated as the row of its peer says
@@ -179,7 +168,7 @@ Performs_due last x port due before after old new t rest count put = rw is (by_t
   is : peer_of due ≡ t.0
   is = ap peer_of t.3 ∙ peer_of-repeated t.0 x t.1
 
-  by_test : (b : Bool) → is_given_up t.1 x ≡ b → due ≡ (if b then Gave t.0 t.1.message.kind else Again t.0 t.1.message)
+  by_test : (b : Bool) → is_given_up t.1 x ≡ b → due ≡ (if b then GaveUp t.0 t.1.message.kind else Again t.0 t.1.message)
       → SetsOnly t.0 (if b then None else Some (record t.1 { posts = t.1.posts + 1 })) before.sends after.sends → Performs StandsStill StandsStill (bare_send t.0) x port before after old new
   by_test true b e only = gives_row t.0 t.1 x port before after old new t.2.sending t.2.due b rest count only (put ∙ ap (λ d. old ++ record { port = port; act = act_of d } ∷ []) e)
   by_test false b e only = repeats_row t.0 t.1 x port before after old new t.2.sending t.2.due b rest count only (put ∙ ap (λ d. old ++ record { port = port; act = act_of d } ∷ []) e)

@@ -1,14 +1,8 @@
 -- How sends that end keep what a station stands for.
 use Rattle.std.specs.Prelude.{◌≡◌, ℕ, ◌==◌, Bool, true, false, ◌&&◌, if◌then◌else◌, List, [], ◌∷◌, ◌++◌, Option, Some, None, MatchBool, refl}
 use Rattle.std.proofs.Common.{sym, ◌∙◌, ap}
-use Rattle.tsp_base.specs.declared.act.Act.TheVariants.{Acked}
-use Rattle.tsp_base.specs.declared.act.Placed.{Placed}
-use Rattle.tsp_base.specs.declared.place.PeerId.{PeerId}
-use Rattle.tsp_base.specs.declared.place.Port.{Port}
-use Rattle.tsp_base.specs.History.{Past}
-use Rattle.tsp_base.specs.Performs.{Performs}
-use Rattle.tsp_base.specs.Rows.{nothing, puts}
-use Rattle.tsp_base.specs.SendFacts.{Sending, is_set_date_request}
+use Rattle.tsp_rules.specs.Values.{Acked, Placed, PeerId, Port}
+use Rattle.tsp_base.specs.Words.{Past, Performs, nothing, puts, Sending, is_set_date_request}
 use Rattle.tsp_base.proofs.SendLemmas.{open_send-acked}
 use Rattle.tsp_base.proofs.PerformsLemmas.{Performs_then_part, Performs_else_part, Performs_nothing}
 use Rattle.tsp_rules.specs.DateRows.{answers_date}
@@ -19,11 +13,11 @@ use Rattle.tsp_acks.specs.declared.ends.Answer.TheVariants.{Vote, Date, Ack}
 use Rattle.tsp_acks.specs.declared.station.Station.{Station}
 use Rattle.tsp_acks.specs.Changes.{ChangesSends}
 use Rattle.tsp_acks.specs.Openings.{is_of, answered_by, has_open}
-use Rattle.tsp_acks.specs.Stands.{Stands}
+use Rattle.tsp_acks.specs.Stands.{StationStands}
 
 -- the open send to a peer ends
 pub Performs_acked : (p : PeerId) {x : ℕ} {port : Port} {before after : Station} {old new : List Placed} → ChangesSends before after → after.begun ≡ before.begun → SetsOnly p None before.sends after.sends →
-    new ≡ old ++ record { port = port; act = Acked p } ∷ [] → Performs Stands Stands (puts (Acked p)) x port before after old new
+    new ≡ old ++ record { port = port; act = Acked p } ∷ [] → Performs StationStands StationStands (puts (Acked p)) x port before after old new
 unfolding puts
 Performs_acked p {x = x} {before = before} {after = after} same count only acts = record {
   acts = λ past s. acts;
@@ -57,21 +51,21 @@ answers_other-is number None = refl
 answers_other-is number (Some s) = refl
 
 -- whether the open send is one that an answer ends, as the station has it
-pub has_open-is : (a : Answer) (p : PeerId) (number x : ℕ) (past : Past) (s : Station) → Stands past s →
+pub has_open-is : (a : Answer) (p : PeerId) (number x : ℕ) (past : Past) (s : Station) → StationStands past s →
     has_open a p number x past ≡ (is_of (answered_by a) (kind_of (sending_to s.sends p)) && has_number number (sending_to s.sends p))
 has_open-is Vote p number x past s h = ap (answers_election number) (sym (h.sends p)) ∙ sym (answers_election-is number (sending_to s.sends p))
 has_open-is Date p number x past s h = ap (answers_date number) (sym (h.sends p)) ∙ sym (answers_date-is number (sending_to s.sends p))
 has_open-is Ack p number x past s h = ap (answers_other number) (sym (h.sends p)) ∙ sym (answers_other-is number (sending_to s.sends p))
 
 -- where the open send is of the right kind, its number decides, and else none is answered
-pub has_open-of : (a : Answer) (p : PeerId) (number x : ℕ) (past : Past) (s : Station) {b : Bool} → is_of (answered_by a) (kind_of (sending_to s.sends p)) ≡ b → Stands past s →
+pub has_open-of : (a : Answer) (p : PeerId) (number x : ℕ) (past : Past) (s : Station) {b : Bool} → is_of (answered_by a) (kind_of (sending_to s.sends p)) ≡ b → StationStands past s →
     has_open a p number x past ≡ (b && has_number number (sending_to s.sends p))
 has_open-of a p number x past s e h = has_open-is a p number x past s h ∙ ap (λ b. b && has_number number (sending_to s.sends p)) e
 
 -- an ACK ends the send that it names, or nothing
-pub Performs_acknowledges : (p : PeerId) (number : ℕ) {x : ℕ} {port : Port} {before after : Station} {old new : List Placed} (ends : Bool) → ((past : Past) → Stands past before → has_other p number x past ≡ ends) →
-    (ends ≡ true → Performs Stands Stands (puts (Acked p)) x port before after old new) → MatchBool ends (SetsOnly p None before.sends after.sends) (after ≡ before) → (ends ≡ false → new ≡ old) →
-    Performs Stands Stands (acknowledges p number) x port before after old new
+pub Performs_acknowledges : (p : PeerId) (number : ℕ) {x : ℕ} {port : Port} {before after : Station} {old new : List Placed} (ends : Bool) → ((past : Past) → StationStands past before → has_other p number x past ≡ ends) →
+    (ends ≡ true → Performs StationStands StationStands (puts (Acked p)) x port before after old new) → MatchBool ends (SetsOnly p None before.sends after.sends) (after ≡ before) → (ends ≡ false → new ≡ old) →
+    Performs StationStands StationStands (acknowledges p number) x port before after old new
 unfolding acknowledges
 Performs_acknowledges p number true t f s g = Performs_then_part (has_other p number) nothing t (f refl)
 Performs_acknowledges p number {before = before} {after = after} false t f s g = let same : after ≡ before = s in rw (same, g refl) (Performs_else_part (has_other p number) (puts (Acked p)) t Performs_nothing)

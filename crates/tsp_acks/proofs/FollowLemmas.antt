@@ -2,8 +2,7 @@
 use Rattle.std.specs.Prelude.{◌≡◌}
 use Rattle.std.specs.List.{Contains}
 use Rattle.std.proofs.Common.{sym, ◌∙◌, ap}
-use Rattle.tsp_base.specs.declared.place.PeerId.{PeerId}
-use Rattle.tsp_base.specs.declared.role.Role.TheVariants.{Follow}
+use Rattle.tsp_rules.specs.Values.{PeerId, Follow}
 use Rattle.tsp_acks.specs.declared.station.Station.{Station}
 use Rattle.tsp_acks.specs.Peers.{follows_among}
 use Rattle.tsp_acks.proofs.PeerLemmas.{Contains-among}

@@ -5,8 +5,8 @@ use Rattle.std.specs.List.Sorted.{IsBinarySearchResult, IsSearchInRange}
 use Rattle.std.specs.Ordering.{nat_cmp}
 use Rattle.std.proofs.Common.{sym, ap, arith, get_or, eq-eqb, eqb-true}
 use Rattle.std.proofs.lemmas.Bool.{false≢true, ne_eqb, or_right}
-use Rattle.tsp_base.specs.declared.place.PeerId.{PeerId}
-use Rattle.tsp_base.specs.Peers.{is_among, IsAscending}
+use Rattle.tsp_rules.specs.Values.{PeerId}
+use Rattle.tsp_base.specs.Words.{is_among, IsAscending}
 use Rattle.tsp_base.proofs.AscendingLemmas.{Rise-peers, Parts-absent, Parts-searched, equal_means}
 
 -- a peer at a place is among them, and one at no place isn't

@@ -1,12 +1,8 @@
 -- Plain messages.
 use Rattle.std.specs.Prelude.{◌≡◌, true, false, refl}
 use Rattle.std.proofs.lemmas.Bool.{false≢true}
-use Rattle.tsp_base.specs.declared.kind.Kind.{Kind}
-use Rattle.tsp_base.specs.declared.kind.Kind.TheVariants.{Ack, MasterReq, MasterAck, MasterUp, SlaveUp, Accept, Refuse, Resolve, DateAck}
-use Rattle.tsp_base.specs.declared.message.Body.TheVariants.{Nothing}
-use Rattle.tsp_base.specs.Kinds.{carries_time, carries_hops}
-use Rattle.tsp_base.specs.Messages.{body_fits}
-use Rattle.tsp_base.specs.SendFacts.{is_numbered}
+use Rattle.tsp_rules.specs.Values.{Kind, Accept, Ack, DateAck, MasterAck, MasterReq, MasterUp, Refuse, ResolveKind, SlaveUp, Nothing}
+use Rattle.tsp_base.specs.Words.{carries_time, carries_hops, body_fits, is_numbered}
 use Rattle.tsp_acks.specs.Posts.{is_plain}
 
 -- a plain message carries nothing
@@ -19,7 +15,7 @@ is_plain_fits MasterUp p = refl
 is_plain_fits SlaveUp p = refl
 is_plain_fits Accept p = refl
 is_plain_fits Refuse p = refl
-is_plain_fits Resolve p = refl
+is_plain_fits ResolveKind p = refl
 is_plain_fits DateAck p = refl
 is_plain_fits _ p = absurd (false≢true p)
 
@@ -32,6 +28,6 @@ is_plain_once MasterUp p = refl
 is_plain_once SlaveUp p = refl
 is_plain_once Accept p = refl
 is_plain_once Refuse p = refl
-is_plain_once Resolve p = refl
+is_plain_once ResolveKind p = refl
 is_plain_once DateAck p = refl
 is_plain_once _ p = absurd (false≢true p)

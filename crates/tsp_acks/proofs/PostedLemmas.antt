@@ -1,20 +1,11 @@
 -- A plain message that is posted once.
 use Rattle.std.specs.Prelude.{◌≡◌, ℕ, true, List, [], ◌∷◌, ◌++◌}
 use Rattle.std.proofs.Common.{◌∙◌, ap}
-use Rattle.tsp_base.specs.declared.act.Act.TheVariants.{Post}
-use Rattle.tsp_base.specs.declared.act.Placed.{Placed}
-use Rattle.tsp_base.specs.declared.datagram.Datagram.TheVariants.{Message}
-use Rattle.tsp_base.specs.declared.kind.Kind.{Kind}
-use Rattle.tsp_base.specs.declared.place.PeerId.{PeerId}
-use Rattle.tsp_base.specs.declared.place.Place.{Place}
-use Rattle.tsp_base.specs.declared.place.Place.TheVariants.{Peer}
-use Rattle.tsp_base.specs.declared.place.Port.{Port}
-use Rattle.tsp_base.specs.Messages.{MessageValue}
-use Rattle.tsp_base.specs.Performs.{Performs}
-use Rattle.tsp_base.specs.Rows.{bare, posts, posts_back}
+use Rattle.tsp_rules.specs.Values.{Post, Placed, Message, Kind, PeerId, Place, Peer, Port}
+use Rattle.tsp_base.specs.Words.{MessageValue, Performs, bare, posts, posts_back}
 use Rattle.tsp_acks.specs.declared.station.Station.{Station}
 use Rattle.tsp_acks.specs.Posts.{is_plain}
-use Rattle.tsp_acks.specs.Stands.{Stands}
+use Rattle.tsp_acks.specs.Stands.{StationStands}
 use Rattle.tsp_acks.proofs.PostLemmas.{is_plain_once}
 use Rattle.tsp_acks.proofs.StandsLemmas.{Stands_post}
 
@@ -24,7 +15,7 @@ named kind number is same = is ∙ ap (bare kind number) same
 
 -- it goes to where a datagram came from
 pub Performs_post_back : (to : Place) (kind : Kind) (number x : ℕ) (port : Port) (station : Station) {m : MessageValue} {old new : List Placed} → is_plain kind ≡ true → m ≡ bare kind number station.me.name →
-    new ≡ old ++ record { port = port; act = Post to (Message m) } ∷ [] → Performs Stands Stands (posts_back to kind number) x port station station old new
+    new ≡ old ++ record { port = port; act = Post to (Message m) } ∷ [] → Performs StationStands StationStands (posts_back to kind number) x port station station old new
 unfolding posts_back
 Performs_post_back to kind number x port station {old = old} plain is put = record {
   acts = λ past h. put ∙ ap (λ v. old ++ record { port = port; act = Post to (Message v) } ∷ []) (named kind number is h.name);
@@ -33,7 +24,7 @@ Performs_post_back to kind number x port station {old = old} plain is put = reco
 
 -- it goes to a peer
 pub Performs_post : (p : PeerId) (kind : Kind) (number x : ℕ) (port : Port) (station : Station) {m : MessageValue} {old new : List Placed} → is_plain kind ≡ true → m ≡ bare kind number station.me.name →
-    new ≡ old ++ record { port = port; act = Post (Peer p) (Message m) } ∷ [] → Performs Stands Stands (posts p kind number) x port station station old new
+    new ≡ old ++ record { port = port; act = Post (Peer p) (Message m) } ∷ [] → Performs StationStands StationStands (posts p kind number) x port station station old new
 unfolding posts
 Performs_post p kind number x port station {old = old} plain is put = record {
   acts = λ past h. put ∙ ap (λ v. old ++ record { port = port; act = Post (Peer p) (Message v) } ∷ []) (named kind number is h.name);

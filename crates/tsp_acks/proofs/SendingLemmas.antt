@@ -1,22 +1,8 @@
 -- How sends that begin keep what a station stands for.
 use Rattle.std.specs.Prelude.{◌≡◌, ℕ, ℤ, ◌+◌, ◌%◌, ◌==◌, Bool, true, false, ◌&&◌, if◌then◌else◌, List, [], ◌∷◌, ◌++◌, Some, refl}
 use Rattle.std.proofs.Common.{sym, ◌∙◌, ap, arith}
-use Rattle.tsp_base.specs.declared.act.Act.TheVariants.{Post}
-use Rattle.tsp_base.specs.declared.act.Placed.{Placed}
-use Rattle.tsp_base.specs.declared.datagram.Datagram.TheVariants.{Message}
-use Rattle.tsp_base.specs.declared.kind.Kind.{Kind}
-use Rattle.tsp_base.specs.declared.kind.Kind.TheVariants.{AdjTime, SetTime, Election, Conflict, Quit, SetDateReq}
-use Rattle.tsp_base.specs.declared.message.Body.TheVariants.{Nothing, Time}
-use Rattle.tsp_base.specs.declared.place.PeerId.{PeerId}
-use Rattle.tsp_base.specs.declared.place.Place.TheVariants.{Peer}
-use Rattle.tsp_base.specs.declared.place.Port.{Port}
-use Rattle.tsp_base.specs.History.{Past, plain}
-use Rattle.tsp_base.specs.Kinds.{carries_time, carries_hops}
-use Rattle.tsp_base.specs.Messages.{MessageValue, body_fits}
-use Rattle.tsp_base.specs.NodeFacts.{word}
-use Rattle.tsp_base.specs.Performs.{Performs}
-use Rattle.tsp_base.specs.Rows.{Row, bare, timed, for_each, grown, others, reading, posts, posts_time, post_of}
-use Rattle.tsp_base.specs.SendFacts.{has_own_number, is_correction, is_numbered, is_set_date_request, begun}
+use Rattle.tsp_rules.specs.Values.{Post, Placed, Message, Kind, AdjTime, Conflict, Election, QuitKind, SetDateReq, SetTime, Nothing, TimeBody, PeerId, Peer, Port}
+use Rattle.tsp_base.specs.Words.{Past, plain, carries_time, carries_hops, MessageValue, body_fits, word, Performs, Row, bare, timed, for_each, grown, others, reading, posts, posts_time, post_of, has_own_number, is_correction, is_numbered, is_set_date_request, begun}
 use Rattle.tsp_base.proofs.SendLemmas.{open_send-begins}
 use Rattle.tsp_base.proofs.PerformsLemmas.{Performs_each_more}
 use Rattle.tsp_base.proofs.RowLemmas.{others-more}
@@ -25,20 +11,20 @@ use Rattle.tsp_sends.specs.Slots.{SetsOnly}
 use Rattle.tsp_acks.specs.declared.station.Station.{Station}
 use Rattle.tsp_acks.specs.Changes.{ChangesSends}
 use Rattle.tsp_acks.specs.Openings.{is_bare_send}
-use Rattle.tsp_acks.specs.Stands.{Stands, StandsActing, own_number}
+use Rattle.tsp_acks.specs.Stands.{StationStands, StandsActing, own_number}
 
 -- what the kinds of a send are: which body fits, whether it is numbered, and whether by the port itself
 pub is_bare_send-fits : (k : Kind) → is_bare_send k ≡ true → body_fits k Nothing ≡ true
 unfolding body_fits carries_time carries_hops
 is_bare_send-fits Election e = refl
 is_bare_send-fits Conflict e = refl
-is_bare_send-fits Quit e = refl
+is_bare_send-fits QuitKind e = refl
 is_bare_send-fits _ e = let bad : ⊥ = cc in absurd bad
 
 pub is_bare_send-own : (k : Kind) → is_bare_send k ≡ true → (is_numbered k ≡ true) × (has_own_number k ≡ true)
 is_bare_send-own Election e = (refl, refl)
 is_bare_send-own Conflict e = (refl, refl)
-is_bare_send-own Quit e = (refl, refl)
+is_bare_send-own QuitKind e = (refl, refl)
 is_bare_send-own _ e = let bad : ⊥ = cc in absurd bad
 
 is_date-is : (k : Kind) → is_set_date_request k ≡ true → k ≡ SetDateReq
@@ -48,11 +34,11 @@ is_date-is _ e = let bad : ⊥ = cc in absurd bad
 pub is_date-own : (k : Kind) → is_set_date_request k ≡ true → (is_numbered k ≡ true) × (has_own_number k ≡ true)
 is_date-own k e = rw (is_date-is k e) (refl, refl)
 
-pub is_date-fits : (k : Kind) (t : ℤ) → is_set_date_request k ≡ true → body_fits k (Time t) ≡ true
+pub is_date-fits : (k : Kind) (t : ℤ) → is_set_date_request k ≡ true → body_fits k (TimeBody t) ≡ true
 unfolding body_fits carries_time
 is_date-fits k t e = rw (is_date-is k e) refl
 
-pub is_correction-fits : (k : Kind) (t : ℤ) → is_correction k ≡ true → body_fits k (Time t) ≡ true
+pub is_correction-fits : (k : Kind) (t : ℤ) → is_correction k ≡ true → body_fits k (TimeBody t) ≡ true
 unfolding body_fits carries_time
 is_correction-fits AdjTime t e = refl
 is_correction-fits SetTime t e = refl
@@ -70,7 +56,7 @@ turn-is : (w n : ℕ) → (w + n % 32768) % 32768 ≡ (w + n) % 32768
 turn-is w n = omega arith
 
 -- the station's next number is its past's
-number-is : (x : ℕ) (past : Past) (station : Station) → Stands past station → own_number station ≡ next_number x past
+number-is : (x : ℕ) (past : Past) (station : Station) → StationStands past station → own_number station ≡ next_number x past
 number-is x past station s = rw (s.word, s.begun) (ap (λ n. 32768 + n) (turn-is (word (plain past.seen)) (begun past.seen)))
 
 -- a message is posted, and the station has it as an open send that has just begun
@@ -109,7 +95,7 @@ StandsActing_opened {p = p} {m = m} {x = x} {before = before} {after = after} o 
 }
 
 -- a send begins by this post
-pub Performs_opened : {p : PeerId} {m : MessageValue} {x : ℕ} {port : Port} {before after : Station} {old new : List Placed} (row : Row) → ((past : Past) → Stands past before → row x past ≡ Post (Peer p) (Message m) ∷ []) →
+pub Performs_opened : {p : PeerId} {m : MessageValue} {x : ℕ} {port : Port} {before after : Station} {old new : List Placed} (row : Row) → ((past : Past) → StationStands past before → row x past ≡ Post (Peer p) (Message m) ∷ []) →
     Opened p m x port before after old new → Performs StandsActing StandsActing row x port before after old new
 Performs_opened row is o = record {
   acts = λ past h. rw (is past h.stands) o.acts;
@@ -117,20 +103,20 @@ Performs_opened row is o = record {
 }
 
 -- the posts by which sends begin, as the station has them
-pub begins-is : (kind : Kind) (p : PeerId) (x : ℕ) (past : Past) (station : Station) → Stands past station →
+pub begins-is : (kind : Kind) (p : PeerId) (x : ℕ) (past : Past) (station : Station) → StationStands past station →
     begins kind p x past ≡ Post (Peer p) (Message (bare kind (own_number station) station.me.name)) ∷ []
 unfolding begins reading posts
 begins-is kind p x past station s =
     ap (λ n. post_of kind n past.name p ∷ []) (sym (number-is x past station s)) ∙ ap (λ name. post_of kind (own_number station) name p ∷ []) (sym s.name)
 
-pub begins_timed-is : (kind : Kind) (p : PeerId) (t : ℤ) (x : ℕ) (past : Past) (station : Station) → Stands past station →
+pub begins_timed-is : (kind : Kind) (p : PeerId) (t : ℤ) (x : ℕ) (past : Past) (station : Station) → StationStands past station →
     begins_timed kind p t x past ≡ Post (Peer p) (Message (timed kind (own_number station) t station.me.name)) ∷ []
 unfolding begins_timed reading posts_time
 begins_timed-is kind p t x past station s =
     ap (λ n. Post (Peer p) (Message (timed kind n t past.name)) ∷ []) (sym (number-is x past station s))
     ∙ ap (λ name. Post (Peer p) (Message (timed kind (own_number station) t name)) ∷ []) (sym s.name)
 
-pub posts_time-is : (kind : Kind) (p : PeerId) (number : ℕ) (t : ℤ) (x : ℕ) (past : Past) (station : Station) → Stands past station →
+pub posts_time-is : (kind : Kind) (p : PeerId) (number : ℕ) (t : ℤ) (x : ℕ) (past : Past) (station : Station) → StationStands past station →
     posts_time p kind number t x past ≡ Post (Peer p) (Message (timed kind number t station.me.name)) ∷ []
 unfolding posts_time
 posts_time-is kind p number t x past station s = ap (λ name. Post (Peer p) (Message (timed kind number t name)) ∷ []) (sym s.name)

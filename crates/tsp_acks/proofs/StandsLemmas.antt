@@ -2,29 +2,17 @@
 use Rattle.std.specs.Prelude.{◌≡◌, ℕ, ◌%◌, Bool, true, false, List, [], ◌∷◌, map, refl}
 use Rattle.std.proofs.Common.{sym, ◌∙◌, ap}
 use Rattle.std.proofs.lemmas.Bool.{false≢true}
-use Rattle.tsp_base.specs.declared.act.Act.{Act}
-use Rattle.tsp_base.specs.declared.act.Act.TheVariants.{Took, Post, Join, Leave, Rival, Sample, Close, Correct, Trace}
-use Rattle.tsp_base.specs.declared.datagram.Datagram.TheVariants.{Message, Stamp as StampOf}
-use Rattle.tsp_base.specs.declared.kind.Kind.{Kind}
-use Rattle.tsp_base.specs.declared.kind.Kind.TheVariants.{Election, Conflict, Quit, SetDateReq}
-use Rattle.tsp_base.specs.declared.place.PeerId.{PeerId}
-use Rattle.tsp_base.specs.declared.place.Place.{Place}
-use Rattle.tsp_base.specs.declared.place.Place.TheVariants.{Peer, Stranger}
-use Rattle.tsp_base.specs.declared.stamp.Stamp.{Stamp}
-use Rattle.tsp_base.specs.History.{Step, Past, Seen}
-use Rattle.tsp_base.specs.Messages.{MessageValue}
-use Rattle.tsp_base.specs.Performs.{Keeps}
-use Rattle.tsp_base.specs.Rows.{bare, grown, post_of, puts}
-use Rattle.tsp_base.specs.SendFacts.{is_numbered, has_own_number, begun}
+use Rattle.tsp_rules.specs.Values.{Act, Took, Post, Close, Correct, Sample, Join, Leave, Rival, Trace, Message, Stamp, Kind, Conflict, Election, QuitKind, SetDateReq, PeerId, Place, Peer, Stranger, StampValue}
+use Rattle.tsp_base.specs.Words.{Step, Past, Seen, MessageValue, Keeps, bare, grown, post_of, puts, is_numbered, has_own_number, begun}
 use Rattle.tsp_base.proofs.SendLemmas.{seen_act, open_send-unnumbered}
 use Rattle.tsp_acks.specs.declared.station.Station.{Station}
-use Rattle.tsp_acks.specs.Stands.{Stands}
+use Rattle.tsp_acks.specs.Stands.{StationStands}
 
 -- a message that isn't numbered has no number of the port's own
 own-unnumbered : (k : Kind) → is_numbered k ≡ false → has_own_number k ≡ false
 own-unnumbered Election n = absurd (false≢true (sym n))
 own-unnumbered Conflict n = absurd (false≢true (sym n))
-own-unnumbered Quit n = absurd (false≢true (sym n))
+own-unnumbered QuitKind n = absurd (false≢true (sym n))
 own-unnumbered SetDateReq n = absurd (false≢true (sym n))
 own-unnumbered _ n = refl
 
@@ -32,7 +20,7 @@ begun-unnumbered : (step : Step) (x : ℕ) (to : Place) (m : MessageValue) (seen
 begun-unnumbered step x to m seen n = rw (own-unnumbered m.kind n) refl
 
 -- the post of a message that is no numbered send
-pub Stands_post : (to : Place) (m : MessageValue) (x : ℕ) (past : Past) (station : Station) → is_numbered m.kind ≡ false → Stands past station → Stands (grown x past (Post to (Message m) ∷ [])) station
+pub Stands_post : (to : Place) (m : MessageValue) (x : ℕ) (past : Past) (station : Station) → is_numbered m.kind ≡ false → StationStands past station → StationStands (grown x past (Post to (Message m) ∷ [])) station
 Stands_post to m x past station n s = record {
   own = s.own;
   name = s.name;
@@ -49,13 +37,13 @@ Stands_post to m x past station n s = record {
 }
 
 -- the post of a stamp
-pub Stands_stamp : (to : Place) (stamp : Stamp) (x : ℕ) (past : Past) (station : Station) → Stands past station → Stands (grown x past (Post to (StampOf stamp) ∷ [])) station
+pub Stands_stamp : (to : Place) (stamp : StampValue) (x : ℕ) (past : Past) (station : Station) → StationStands past station → StationStands (grown x past (Post to (Stamp stamp) ∷ [])) station
 Stands_stamp (Peer q) stamp x past station s = record { own = s.own; name = s.name; may = s.may; strict = s.strict; peers = s.peers; word = s.word; role = s.role; alarms = s.alarms; hold = s.hold; sends = s.sends; begun = s.begun; backers = s.backers }
 Stands_stamp Stranger stamp x past station s = record { own = s.own; name = s.name; may = s.may; strict = s.strict; peers = s.peers; word = s.word; role = s.role; alarms = s.alarms; hold = s.hold; sends = s.sends; begun = s.begun; backers = s.backers }
 
 -- posts of a message that is no numbered send
 pub Stands-posts : (kind : Kind) (number : ℕ) (name : List ℕ) (ps : List PeerId) (x : ℕ) (past : Past) (station : Station) →
-    is_numbered kind ≡ false → Stands past station → Stands (grown x past (map (post_of kind number name) ps)) station
+    is_numbered kind ≡ false → StationStands past station → StationStands (grown x past (map (post_of kind number name) ps)) station
 Stands-posts kind number name [] x past station n s = s
 Stands-posts kind number name (p ∷ ps) x past station n s =
     Stands-posts kind number name ps x (grown x past (post_of kind number name p ∷ [])) station n (Stands_post (Peer p) (bare kind number name) x past station n s)
@@ -72,7 +60,7 @@ is_idle (Correct amount stepped shown) = true
 is_idle (Trace on) = true
 is_idle _ = false
 
-pub Stands_idle : (a : Act) → is_idle a ≡ true → Keeps Stands (puts a)
+pub Stands_idle : (a : Act) → is_idle a ≡ true → Keeps StationStands (puts a)
 unfolding puts
 Stands_idle (Took from taken) i x past station s = record { own = s.own; name = s.name; may = s.may; strict = s.strict; peers = s.peers; word = s.word; role = s.role; alarms = s.alarms; hold = s.hold; sends = s.sends; begun = s.begun; backers = s.backers }
 Stands_idle (Join p) i x past station s = record { own = s.own; name = s.name; may = s.may; strict = s.strict; peers = s.peers; word = s.word; role = s.role; alarms = s.alarms; hold = s.hold; sends = s.sends; begun = s.begun; backers = s.backers }

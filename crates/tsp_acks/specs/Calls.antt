@@ -1,10 +1,7 @@
 -- What the contracts of calls say that act for a port: the names that they share, and how much room of the desk a call uses.
 use Rattle.std.specs.Prelude.{◌≡◌, ℕ, Bool, true, false, if◌then◌else◌, None, List, MatchBool}
-use Rattle.tsp_base.specs.declared.act.Act.TheVariants.{Acked}
-use Rattle.tsp_base.specs.declared.act.Placed.{Placed}
-use Rattle.tsp_base.specs.declared.place.PeerId.{PeerId}
-use Rattle.tsp_base.specs.declared.place.Port.{Port}
-use Rattle.tsp_base.specs.Rows.{Row, puts}
+use Rattle.tsp_rules.specs.Values.{Acked, Placed, PeerId, Port}
+use Rattle.tsp_base.specs.Words.{Row, puts}
 use Rattle.tsp_sends.specs.Slots.{SetsOnly}
 use Rattle.tsp_acks.specs.declared.station.Station.{Station}
 pub use Rattle.std.specs.List.{Contains}
@@ -13,7 +10,7 @@ pub use Rattle.tsp_base.specs.History.{Past}
 pub use Rattle.tsp_base.specs.Performs.{Performs}
 pub use Rattle.tsp_base.specs.PortFacts.{Received}
 pub use Rattle.tsp_acks.specs.Changes.{IsSamePort, ChangesSends}
-pub use Rattle.tsp_acks.specs.Stands.{Stands, StandsActing, StandsStill}
+pub use Rattle.tsp_acks.specs.Stands.{StationStands, StandsActing, StandsStill}
 
 -- a call puts at most n acts on this desk, and uses at most that much of its room
 abbrev pub UsesAtMost : {D : Type 0} → ℕ → (D → ℕ) → (D → List Placed) → D → D → Type 0
@@ -25,11 +22,11 @@ Uses n spare acts old new = PutsExactly n (spare old) (spare new) (acts old) (ac
 
 -- a call puts a row's acts on this desk for a station, which stands for the past before it and after it
 abbrev pub ActsBy : {D : Type 0} → Row → ℕ → Port → Station → Station → (D → List Placed) → D → D → Type 0
-ActsBy row x port before after acts old new = Performs Stands Stands row x port before after (acts old) (acts new)
+ActsBy row x port before after acts old new = Performs StationStands StationStands row x port before after (acts old) (acts new)
 
 -- a call says whether the open send to a peer passes a test, ends it if so, which it tells by an Acked, and else changes nothing
 pub record EndsWhere {D : Type 0} (passes : ℕ → Past → Bool) (p : PeerId) (port : Port) (before after : Station) (ended : Bool) (spare : D → ℕ) (acts : D → List Placed) (old new : D) : Type 0 where
-  pub test : (x : ℕ) (past : Past) → Stands past before → passes x past ≡ ended
+  pub test : (x : ℕ) (past : Past) → StationStands past before → passes x past ≡ ended
   pub row : ended ≡ true → (x : ℕ) → ActsBy (puts (Acked p)) x port before after acts old new
   pub sends : MatchBool ended (SetsOnly p None before.sends after.sends) (after ≡ before)
   pub same : ended ≡ false → acts new ≡ acts old

@@ -1,10 +1,7 @@
 -- Which call begins which kind of send, of which kind the open one is, and what answers it.
 use Rattle.std.specs.Prelude.{ℕ, Bool, true, false, Option, None, Some}
-use Rattle.tsp_base.specs.declared.kind.Kind.{Kind}
-use Rattle.tsp_base.specs.declared.kind.Kind.TheVariants.{Election, Conflict, Quit}
-use Rattle.tsp_base.specs.declared.place.PeerId.{PeerId}
-use Rattle.tsp_base.specs.History.{Past}
-use Rattle.tsp_base.specs.SendFacts.{is_set_date_request}
+use Rattle.tsp_rules.specs.Values.{Kind, Conflict, Election, QuitKind, PeerId}
+use Rattle.tsp_base.specs.Words.{Past, is_set_date_request}
 use Rattle.tsp_rules.specs.DateRows.{has_date}
 use Rattle.tsp_rules.specs.SendRows.{has_election, has_other, is_kind_election, ends_by_ack}
 use Rattle.tsp_acks.specs.declared.ends.Answer.{Answer}
@@ -14,7 +11,7 @@ use Rattle.tsp_acks.specs.declared.ends.Answer.TheVariants.{Vote, Date, Ack}
 abbrev pub is_bare_send : Kind → Bool
 is_bare_send Election = true
 is_bare_send Conflict = true
-is_bare_send Quit = true
+is_bare_send QuitKind = true
 is_bare_send _ = false
 
 -- whether a send is open and its kind passes this test

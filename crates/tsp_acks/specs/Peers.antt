@@ -1,9 +1,7 @@
 -- The peers of a port.
 use Rattle.std.specs.Prelude.{Bool, true, List}
-use Rattle.tsp_base.specs.declared.place.PeerId.{PeerId}
-use Rattle.tsp_base.specs.declared.role.Role.{Role}
-use Rattle.tsp_base.specs.declared.role.Role.TheVariants.{Follow}
-use Rattle.tsp_base.specs.Peers.{is_among}
+use Rattle.tsp_rules.specs.Values.{PeerId, Role, Follow}
+use Rattle.tsp_base.specs.Words.{is_among}
 
 -- whether a port of these peers may have this role: a master that it follows is one of them
 abbrev pub follows_among : Role → List PeerId → Bool

@@ -1,7 +1,6 @@
 -- The messages that a port posts once, and never repeats.
 use Rattle.std.specs.Prelude.{Bool, true, false}
-use Rattle.tsp_base.specs.declared.kind.Kind.{Kind}
-use Rattle.tsp_base.specs.declared.kind.Kind.TheVariants.{Ack, MasterReq, MasterAck, MasterUp, SlaveUp, Accept, Refuse, Resolve, DateAck}
+use Rattle.tsp_rules.specs.Values.{Kind, Accept, Ack, DateAck, MasterAck, MasterReq, MasterUp, Refuse, ResolveKind, SlaveUp}
 
 -- whether messages of this kind carry nothing but a number, and aren't numbered sends
 abbrev pub is_plain : Kind → Bool
@@ -12,6 +11,6 @@ is_plain MasterUp = true
 is_plain SlaveUp = true
 is_plain Accept = true
 is_plain Refuse = true
-is_plain Resolve = true
+is_plain ResolveKind = true
 is_plain DateAck = true
 is_plain _ = false

@@ -1,18 +1,13 @@
 -- Which pasts a station stands for.
 use Rattle.std.specs.Prelude.{◌≡◌, ℕ, ◌+◌, ◌%◌, min, true, false, None, List, length}
-use Rattle.tsp_base.specs.declared.place.PeerId.{PeerId}
-use Rattle.tsp_base.specs.declared.role.Role.TheVariants.{Starting}
-use Rattle.tsp_base.specs.Alarms.{none_armed}
-use Rattle.tsp_base.specs.History.{Past, plain}
-use Rattle.tsp_base.specs.NodeFacts.{word}
-use Rattle.tsp_base.specs.PortFacts.{role, armed, held, backers, acting}
-use Rattle.tsp_base.specs.SendFacts.{open_send, begun}
+use Rattle.tsp_rules.specs.Values.{PeerId, Starting}
+use Rattle.tsp_base.specs.Words.{none_armed, Past, plain, word, role, armed, held, backers, acting, open_send, begun}
 use Rattle.tsp_sends.specs.Slots.{sending_to}
 use Rattle.tsp_acks.specs.declared.me.Me.{Me}
 use Rattle.tsp_acks.specs.declared.station.Station.{Station}
 
 -- the station has exactly the facts of its port's past
-pub record Stands (past : Past) (station : Station) : Type 0 where
+pub record StationStands (past : Past) (station : Station) : Type 0 where
   pub own : station.me.own ≡ past.own
   pub name : station.me.name ≡ past.name
   pub may : station.me.may ≡ past.may
@@ -32,12 +27,12 @@ own_number station = 32768 + (station.me.word + station.begun) % 32768
 
 -- a station in a step in which an alarm was handled or a datagram taken: a numbered message that is posted now begins a send
 pub record StandsActing (past : Past) (station : Station) : Type 0 where
-  pub stands : Stands past station
+  pub stands : StationStands past station
   pub acted : acting past.seen ≡ true
 
 -- a station in a step in which neither has happened yet: a numbered message that is posted now repeats the open send
 pub record StandsStill (past : Past) (station : Station) : Type 0 where
-  pub stands : Stands past station
+  pub stands : StationStands past station
   pub still : acting past.seen ≡ false
 
 -- a past of the port with this setup
@@ -49,7 +44,7 @@ pub record IsPortOf (me : Me) (peers : List PeerId) (past : Past) : Type 0 where
   pub peers_are : peers ≡ past.peers
 
 -- the station of a node that has just booted at a tick
-pub record IsFresh (me : Me) (peers : List PeerId) (tick : ℕ) (station : Station) : Type 0 where
+pub record IsFreshStation (me : Me) (peers : List PeerId) (tick : ℕ) (station : Station) : Type 0 where
   pub me_is : station.me ≡ me
   pub role_is : station.role ≡ Starting
   pub hold_is : station.hold ≡ record { boot = tick; back = None; quit = None }

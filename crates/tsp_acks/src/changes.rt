@@ -21,13 +21,13 @@ use tsp_base::role::Role;
 
 #[tactic(auto, unfolding(tsp_base::specs::Rows::puts, tsp_base::specs::Rows::arms))]
 impl Station {
-    ghost use Rattle.tsp_acks.specs.Stands.{Stands};
+    ghost use Rattle.tsp_acks.specs.Stands.{StationStands};
 
     /// Arms an alarm for so many ticks from now.
     pub fn arm<D: Desk>(&mut self, alarm: Alarm, tick: u64, long: u64, port: Port, desk: &mut D)
         requires room { 1 ≤ D.spare desk.old }
         requires end { tick + long < 2 ^ 64 }
-        ensures row { Performs Stands Stands (arms alarm long) tick port self.old self.new
+        ensures row { Performs StationStands StationStands (arms alarm long) tick port self.old self.new
             (D.acts desk.old) (D.acts desk.new) }
         ensures station { self.new ≡ record self.old {
           alarms = with_deadline self.old.alarms alarm
@@ -43,7 +43,7 @@ impl Station {
     /// An alarm is handled in time, and thereby turned off.
     pub fn ring<D: Desk>(&mut self, alarm: Alarm, port: Port, desk: &mut D)
         requires room { 1 ≤ D.spare desk.old }
-        ensures row { (x : ℕ) → Performs Stands Stands (puts (Ring alarm)) x port self.old self.new
+        ensures row { (x : ℕ) → Performs StationStands StationStands (puts (Ring alarm)) x port self.old self.new
             (D.acts desk.old) (D.acts desk.new) }
         ensures station { self.new ≡ record self.old {
           alarms = with_deadline self.old.alarms alarm
@@ -58,7 +58,7 @@ impl Station {
     /// An alarm is handled too late, and thereby turned off.
     pub fn late<D: Desk>(&mut self, alarm: Alarm, port: Port, desk: &mut D)
         requires room { 1 ≤ D.spare desk.old }
-        ensures row { (x : ℕ) → Performs Stands Stands (puts (Late alarm)) x port self.old self.new
+        ensures row { (x : ℕ) → Performs StationStands StationStands (puts (Late alarm)) x port self.old self.new
             (D.acts desk.old) (D.acts desk.new) }
         ensures station { self.new ≡ record self.old {
           alarms = with_deadline self.old.alarms alarm
@@ -73,7 +73,7 @@ impl Station {
     /// Gives up a round: there will be no more probes, and no Close.
     pub fn abandon<D: Desk>(&mut self, port: Port, desk: &mut D)
         requires room { 1 ≤ D.spare desk.old }
-        ensures row { (x : ℕ) → Performs Stands Stands (puts Abandon) x port self.old self.new
+        ensures row { (x : ℕ) → Performs StationStands StationStands (puts Abandon) x port self.old self.new
             (D.acts desk.old) (D.acts desk.new) }
         ensures station { self.new ≡ record self.old
             { alarms = with_deadline (with_deadline self.old.alarms Probe None) Close None } }
@@ -89,7 +89,7 @@ impl Station {
     pub fn become_role<D: Desk>(&mut self, role: Role, port: Port, desk: &mut D)
         requires room { 1 ≤ D.spare desk.old }
         requires peer { follows_among role self.old.peers ≡ true }
-        ensures row { (x : ℕ) → Performs Stands Stands (puts (Become role)) x port self.old self.new
+        ensures row { (x : ℕ) → Performs StationStands StationStands (puts (Become role)) x port self.old self.new
             (D.acts desk.old) (D.acts desk.new) }
         ensures me { self.new.me ≡ self.old.me }
         ensures hold { self.new.hold ≡ self.old.hold }
@@ -111,7 +111,7 @@ impl Station {
     /// Backs a candidate.
     pub fn back<D: Desk>(&mut self, p: PeerId, tick: u64, port: Port, desk: &mut D)
         requires room { 1 ≤ D.spare desk.old }
-        ensures row { Performs Stands Stands (puts (Back p)) tick port self.old self.new
+        ensures row { Performs StationStands StationStands (puts (Back p)) tick port self.old self.new
             (D.acts desk.old) (D.acts desk.new) }
         ensures station { self.new ≡ record self.old { hold = record self.old.hold { back = Some (tick, p) } } }
         ensures room { Uses 1 D.spare D.acts desk.old desk.new }
@@ -123,7 +123,7 @@ impl Station {
     /// Counts a peer among those that back this candidature.
     pub fn count_backer<D: Desk>(&mut self, p: PeerId, port: Port, desk: &mut D)
         requires room { 1 ≤ D.spare desk.old }
-        ensures row { (x : ℕ) → Performs Stands Stands (puts (Backer p)) x port self.old self.new
+        ensures row { (x : ℕ) → Performs StationStands StationStands (puts (Backer p)) x port self.old self.new
             (D.acts desk.old) (D.acts desk.new) }
         ensures station { self.new ≡ record self.old {
           backers = min (self.old.backers + 1)
@@ -138,7 +138,7 @@ impl Station {
     /// Notes that a peer asked this port to stop leading.
     pub fn quit<D: Desk>(&mut self, p: PeerId, tick: u64, port: Port, desk: &mut D)
         requires room { 1 ≤ D.spare desk.old }
-        ensures row { Performs Stands Stands (puts (Quit p)) tick port self.old self.new
+        ensures row { Performs StationStands StationStands (puts (Quit p)) tick port self.old self.new
             (D.acts desk.old) (D.acts desk.new) }
         ensures station { self.new ≡ record self.old { hold = record self.old.hold { quit = Some tick } } }
         ensures room { Uses 1 D.spare D.acts desk.old desk.new }
@@ -159,7 +159,7 @@ impl Station {
     pub fn arm_elect<D: Desk>(&mut self, tick: u64, port: Port, desk: &mut D)
         requires room { 1 ≤ D.spare desk.old }
         requires tick { IsTick tick }
-        ensures row { Performs Stands Stands arms_elect tick port self.old self.new
+        ensures row { Performs StationStands StationStands arms_elect tick port self.old self.new
             (D.acts desk.old) (D.acts desk.new) }
         ensures station { self.new ≡ record self.old {
           alarms = with_deadline self.old.alarms Elect

@@ -39,7 +39,7 @@ impl Answer {
 }
 
 impl Station {
-    ghost use Rattle.tsp_acks.specs.Stands.{Stands};
+    ghost use Rattle.tsp_acks.specs.Stands.{StationStands};
 
     /// An ACCEPT or a REFUSE with this number came: ends the open ELECTION to the peer, where it has this
     /// number, and says whether it had.
@@ -55,7 +55,7 @@ impl Station {
     /// it had. An ELECTION or a SETDATEREQ isn't ended so: they have answers of their own.
     pub fn acknowledge<D: Desk>(&mut self, p: PeerId, number: u16, port: Port, desk: &mut D) -> bool
         requires room { 1 ≤ D.spare desk.old }
-        ensures test { (x : ℕ) (past : Past) → Stands past self.old
+        ensures test { (x : ℕ) (past : Past) → StationStands past self.old
             → has_other p number x past ≡ result }
         ensures row { (x : ℕ) → ActsBy (acknowledges p number) x port self.old self.new
             D.acts desk.old desk.new }

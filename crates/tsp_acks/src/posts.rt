@@ -13,14 +13,14 @@ use tsp_base::message::{Body, Message};
 use tsp_base::place::{PeerId, Place, Port};
 
 impl Station {
-    ghost use Rattle.tsp_acks.specs.Stands.{Stands};
+    ghost use Rattle.tsp_acks.specs.Stands.{StationStands};
 
     /// Posts a message with nothing but a number to where a datagram came from. The kind must not be one of a
     /// numbered send.
     pub fn post_back<D: Desk>(&self, to: Place, kind: Kind, number: u16, port: Port, desk: &mut D)
         requires room { 1 ≤ D.spare desk.old }
         requires plain { is_plain kind ≡ true }
-        ensures row { (x : ℕ) → Performs Stands Stands (posts_back to kind number) x port self.now
+        ensures row { (x : ℕ) → Performs StationStands StationStands (posts_back to kind number) x port self.now
             self.now (D.acts desk.old) (D.acts desk.new) }
         ensures room { Uses 1 D.spare D.acts desk.old desk.new }
     {
@@ -34,7 +34,7 @@ impl Station {
         requires plain { is_plain kind ≡ true }
         ensures acts { D.acts desk.new ≡ D.acts desk.old ++ placed port
             (post_of kind number self.now.me.name p ∷ []) }
-        ensures row { (x : ℕ) → Performs Stands Stands (posts p kind number) x port self.now
+        ensures row { (x : ℕ) → Performs StationStands StationStands (posts p kind number) x port self.now
             self.now (D.acts desk.old) (D.acts desk.new) }
         ensures room { Uses 1 D.spare D.acts desk.old desk.new }
     {
@@ -46,7 +46,7 @@ impl Station {
     pub fn post_to_others<D: Desk>(&self, kind: Kind, number: u16, port: Port, desk: &mut D)
         requires room { length self.now.peers ≤ D.spare desk.old }
         requires plain { is_plain kind ≡ true }
-        ensures row { (x : ℕ) → Performs Stands Stands (posts_to_others kind number) x port self.now
+        ensures row { (x : ℕ) → Performs StationStands StationStands (posts_to_others kind number) x port self.now
             self.now (D.acts desk.old) (D.acts desk.new) }
         ensures room { UsesAtMost (length self.now.peers) D.spare D.acts desk.old desk.new }
     {

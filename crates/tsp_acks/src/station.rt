@@ -45,14 +45,14 @@ pub struct Station {
 }
 
 impl Station {
-    ghost use Rattle.tsp_acks.specs.Stands.{Stands, IsFresh, IsPortOf};
+    ghost use Rattle.tsp_acks.specs.Stands.{StationStands, IsFreshStation, IsPortOf};
 
     /// The station of a node that boots at this tick. Fails only if out of memory.
     pub fn new(alloc: Global, me: Me, peers: &[PeerId], tick: u64) -> Result<Station, AllocError>
         requires { IsPeers peers.now }
-        ensures station { IfOk result (λ s. IsFresh me peers.now tick s) }
+        ensures station { IfOk result (λ s. IsFreshStation me peers.now tick s) }
         ensures stands { IfOk result (λ s. (past : Past) (wall : ℤ) → IsPortOf me peers.now past
-            → past.step.cause ≡ Booted me.word wall → Stands (grown tick past (Boot ∷ [])) s) }
+            → past.step.cause ≡ Booted me.word wall → StationStands (grown tick past (Boot ∷ [])) s) }
     {
         let sends = Sends::new(alloc, peers)?;
         let peers = Peers::new(alloc, peers)?;

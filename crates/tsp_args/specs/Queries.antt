@@ -1,7 +1,7 @@
 -- The questions to a daemon and their words.
 use Rattle.std.specs.Prelude.{ℕ, List, [], ◌∷◌, true, false, codes, negsuc, ◌≤ℤ◌, Bool}
 use Rattle.std.specs.Fmt.{signed_decimal}
-use Rattle.tsp_base.specs.Times.{IsMicros}
+use Rattle.tsp_base.specs.Words.{IsMicros}
 use Rattle.tsp_args.specs.declared.query.Query.{Query}
 use Rattle.tsp_args.specs.declared.query.Query.TheVariants.{Msite, ClockDiff, Trace, Election, Date}
 

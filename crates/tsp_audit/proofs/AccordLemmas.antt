@@ -5,15 +5,11 @@ use Rattle.std.proofs.lemmas.List.{get_or_default}
 use Rattle.tsp_promises.specs.Agreed.{Cast, ClocksAgree, MasterAgrees, PeersAgree, RightAfter, Unchanged, UnchangedBut}
 use Rattle.tsp_promises.specs.ClockAt.{clock_at}
 use Rattle.tsp_promises.specs.Fits.{node_of}
-use Rattle.tsp_base.specs.Headers.{HeaderValue}
-use Rattle.tsp_base.specs.History.{Acts, Begins, Deed, Line, dids, from_act, from_act_at, of}
-use Rattle.tsp_base.specs.NodeFacts.{all_corrects, lives, moved}
-use Rattle.tsp_base.specs.Places.{Within}
+use Rattle.tsp_base.specs.Words.{HeaderValue, Acts, Begins, Deed, Line, dids, from_act, from_act_at, of, all_corrects, lives, moved, Within, tick_at, width}
 use Rattle.tsp_promises.specs.Setting.{Setting}
-use Rattle.tsp_base.specs.Ticks.{tick_at, width}
 use Rattle.tsp_promises.proofs.EverywhereLemmas.{Everywhere-at}
 use Rattle.tsp_base.proofs.PlaceLemmas.{Within-all, Within-comparable, Within-length, Within-tail, Within-through}
-use Rattle.tsp_audit.specs.Agreeing.{AccordIs, AfterAs, AfterIs, AllAgree, BossAgrees, IsAt, LiveAs, LiveIs, MasterNear, NodeIs, Numbered, PairAgrees, PairNear, Stands, shown_by}
+use Rattle.tsp_audit.specs.Agreeing.{AccordIs, AfterAs, AfterIs, AllAgree, BossAgrees, IsAtPlace, LiveAs, LiveIs, MasterNear, NodeIs, Numbered, PairAgrees, PairNear, CastStands, shown_by}
 use Rattle.tsp_audit.specs.Settings.{HasClocks}
 use Rattle.tsp_audit.specs.declared.agreement_tracker.AgreementTracker.{AgreementTracker}
 use Rattle.tsp_audit.specs.declared.round_correction.RoundCorrection.{RoundCorrection}
@@ -84,7 +80,7 @@ clock-kept header setting n h s t has is =
 -- a node of a history has a state
 pub record Kept (states : List NodeState) (n : ℕ) (h : List Line) : Type 0 where
   pub state : NodeState
-  pub at : IsAt states n state
+  pub at : IsAtPlace states n state
   pub is : NodeIs n h state
 
 kept : (count : ℕ) (h : List Line) (a : AgreementTracker) (n : ℕ) → AccordIs count h a → n < count → Kept a.nodes.items n h
@@ -92,7 +88,7 @@ kept count h a n is lt =
     let below : n < length a.nodes.items = omega (arith, lt, is.many) in
     let none : NodeState = record { moved = pos 0; lives = 0; corrects = 0; after = None; cast = None } in
     let state : NodeState = get_or a.nodes.items n none in
-    let at : IsAt a.nodes.items n state = record { below = below; is = get_or_default a.nodes.items n state none below } in
+    let at : IsAtPlace a.nodes.items n state = record { below = below; is = get_or_default a.nodes.items n state none below } in
     record { state = state; at = at; is = is.nodes_are n state at }
 
 node-below : (count : ℕ) (l : Line) (s h : List Line) → Numbered count h → Within (l ∷ s) h → node_of l < count
@@ -128,7 +124,7 @@ peers-agree header setting count h a t has numbered is all = λ m close cpast c 
     (clock-kept header setting n h x.state t has x.is) (clock-kept header setting k h y.state t has y.is) o.err p.err (sym has.drift_is) o.at p.at near
 
 -- the master was left alone just where what is kept says so
-stands-so : (m : ℕ) (close : Line) (cpast h : List Line) (c : RoundCorrection) (b : NodeState) → c.close ≡ length cpast → c.lives ≡ lives (dids (of m (close ∷ cpast))) → c.corrects ≡ all_corrects (dids (of m (close ∷ cpast))) → NodeIs m h b → UnchangedBut m close cpast h → Stands c b
+stands-so : (m : ℕ) (close : Line) (cpast h : List Line) (c : RoundCorrection) (b : NodeState) → c.close ≡ length cpast → c.lives ≡ lives (dids (of m (close ∷ cpast))) → c.corrects ≡ all_corrects (dids (of m (close ∷ cpast))) → NodeIs m h b → UnchangedBut m close cpast h → CastStands c b
 stands-so m close cpast h c b close_is lives_is corrects_is is u = (
   lives_is ∙ (u.lives ∙ sym is.lives_is),
   elim u.corrects [
@@ -146,7 +142,7 @@ stands-so m close cpast h c b close_is lives_is corrects_is is u = (
       let past : y.apast ≡ cpast = cc in
       ap Some (y.index_is ∙ (ap (λ (t : List Line). length t) past ∙ sym close_is))
 
-stands-but : (m : ℕ) (close : Line) (cpast h : List Line) (c : RoundCorrection) (b : NodeState) → Within (close ∷ cpast) h → c.close ≡ length cpast → c.lives ≡ lives (dids (of m (close ∷ cpast))) → c.corrects ≡ all_corrects (dids (of m (close ∷ cpast))) → NodeIs m h b → Stands c b → UnchangedBut m close cpast h
+stands-but : (m : ℕ) (close : Line) (cpast h : List Line) (c : RoundCorrection) (b : NodeState) → Within (close ∷ cpast) h → c.close ≡ length cpast → c.lives ≡ lives (dids (of m (close ∷ cpast))) → c.corrects ≡ all_corrects (dids (of m (close ∷ cpast))) → NodeIs m h b → CastStands c b → UnchangedBut m close cpast h
 stands-but m close cpast h c b w close_is lives_is corrects_is is stands = record {
   lives = sym lives_is ∙ (stands.0 ∙ is.lives_is);
   corrects = elim stands.1 [
@@ -171,7 +167,7 @@ master-agrees header setting count h a t has numbered is all = λ m close cpast 
     let w : Within (cast.post ∷ cast.before) h = Within-through (cast.post ∷ cast.before) past h cast.acts.brings.place (Within-tail c past h u.within) in
     let below : m < count = subst (λ (i : ℕ). i < count) cast.node (node-below count cast.post cast.before h numbered w) in
     let b = kept count h a m is below in
-    let at : IsAt a.nodes.items o.live.master b.state = subst (λ (i : ℕ). IsAt a.nodes.items i b.state) (sym o.master) b.at in
+    let at : IsAtPlace a.nodes.items o.live.master b.state = subst (λ (i : ℕ). IsAtPlace a.nodes.items i b.state) (sym o.master) b.at in
     let near : MasterNear header t n x.state o.live b.state = (all n x.state x.at).master o.live b.state o.is at (stands-so m close cpast h o.live b.state o.close_is o.lives_is o.corrects_is b.is but) in
     let mine : shown_by header o.live.master b.state.moved t ≡ clock_at setting m h t = ap (λ (i : ℕ). shown_by header i b.state.moved t) o.master ∙ clock-kept header setting m h b.state t has b.is in
     close-move (shown_by header n x.state.moved t) (shown_by header o.live.master b.state.moved t) o.live.err header.drift t o.live.at (clock_at setting n h t) (clock_at setting m h t) e setting.drift r.did.step.at

@@ -5,25 +5,14 @@ use Rattle.std.proofs.Math.ListN.{get_or-append}
 use Rattle.std.proofs.Math.Seq.{get_or-append_seam}
 use Rattle.std.proofs.lemmas.Bool.{cases_lt}
 use Rattle.std.proofs.lemmas.List.{get_or_default, get_or-set_other, get_or-set_same, length-append, length-set}
-use Rattle.tsp_base.specs.declared.act.Act.{Act}
-use Rattle.tsp_base.specs.declared.act.Act.TheVariants.{Post}
-use Rattle.tsp_base.specs.declared.datagram.Datagram.TheVariants.{Message}
-use Rattle.tsp_base.specs.declared.kind.Kind.TheVariants.{AdjTime}
-use Rattle.tsp_base.specs.declared.place.PeerId.{PeerId}
-use Rattle.tsp_base.specs.declared.place.Place.TheVariants.{Peer}
-use Rattle.tsp_base.specs.declared.place.Port.{Port}
+use Rattle.tsp_rules.specs.Values.{Act, Post, Message, AdjTime, PeerId, Peer, Port}
+use Rattle.tsp_base.specs.Words.{HeaderValue, Acts, Here, Line, Seen, from_act, of, view, MessageValue, Within, acting, best}
 use Rattle.tsp_promises.specs.Agreed.{AgreedAt, RestsOnSample}
 use Rattle.tsp_promises.specs.Fits.{node_of}
-use Rattle.tsp_base.specs.Headers.{HeaderValue}
-use Rattle.tsp_base.specs.History.{Acts, Here, Line, Seen, from_act, of, view}
-use Rattle.tsp_base.specs.Messages.{MessageValue}
-use Rattle.tsp_base.specs.Places.{Within}
-use Rattle.tsp_base.specs.PortFacts.{acting}
-use Rattle.tsp_base.specs.RoundFacts.{best}
 use Rattle.tsp_promises.specs.Setting.{Setting}
 use Rattle.tsp_promises.specs.StepFacts.{closed}
 use Rattle.tsp_base.proofs.PlaceLemmas.{Within-length}
-use Rattle.tsp_audit.specs.Agreeing.{AccordIs, AllAgree, AllAre, AllBounded, AreBlank, FirstIs, IsAt, NodeIs, Numbered, TripsTell}
+use Rattle.tsp_audit.specs.Agreeing.{AccordIs, AllAgree, AllAre, AllBounded, AreBlank, FirstIs, IsAtPlace, NodeIs, Numbered, TripsTell}
 use Rattle.tsp_audit.specs.Resting.{RestsOn}
 use Rattle.tsp_audit.specs.Settings.{HasClocks}
 use Rattle.tsp_audit.specs.declared.agreement_tracker.AgreementTracker.{AgreementTracker}
@@ -38,7 +27,7 @@ use Rattle.tsp_history.specs.Rounds.{Bests, SeenAt, trip_at}
 -- one blank node more
 pub blank-more : (count : ℕ) (states : List NodeState) (s : NodeState) → AreBlank count states → ((n : ℕ) → NodeIs n [] s) → AreBlank (count + 1) (states ++ s ∷ [])
 blank-more count states s a blank = record { many = omega (arith, length-append states (s ∷ []), a.many); blank = each } where
-  each : (k : ℕ) (t : NodeState) → IsAt (states ++ s ∷ []) k t → (n : ℕ) → NodeIs n [] t
+  each : (k : ℕ) (t : NodeState) → IsAtPlace (states ++ s ∷ []) k t → (n : ℕ) → NodeIs n [] t
   each k t at = elim (cases_lt k (length states)) [
     | inl lt ↦ a.blank k t (record { below = lt; is = sym (get_or-append states (s ∷ []) t k lt) ∙ at.is })
     | inr le ↦
@@ -55,7 +44,7 @@ not-equal a b e same = true≢false (sym (subst (λ (k : ℕ). (a == k) ≡ true
 -- the line's node has changed, the others stay
 pub all-next : (h : List Line) (l : Line) (states : List NodeState) (s : NodeState) (i : ℕ) → AllAre h states → node_of l ≡ i → i < length states → NodeIs i (l ∷ h) s → AllAre (l ∷ h) (set states i s)
 all-next h l states s i a node lt is = λ n t at. by_node n t at (i == n) refl where
-  by_node : (n : ℕ) (t : NodeState) → IsAt (set states i s) n t → (b : Bool) → (i == n) ≡ b → NodeIs n (l ∷ h) t
+  by_node : (n : ℕ) (t : NodeState) → IsAtPlace (set states i s) n t → (b : Bool) → (i == n) ≡ b → NodeIs n (l ∷ h) t
   by_node n t at true e =
       let same : i ≡ n = eqb-true i n e in
       let here : s ≡ t = sym (get_or-set_same states i s t lt) ∙ (ap (λ (k : ℕ). get_or (set states i s) k t) same ∙ at.is) in
@@ -63,13 +52,13 @@ all-next h l states s i a node lt is = λ n t at. by_node n t at (i == n) refl w
   by_node n t at false e =
       let other : n ≡ i → ⊥ = not-equal i n e in
       let still : (node_of l == n) ≡ false = subst (λ (k : ℕ). (k == n) ≡ false) (sym node) e in
-      let old : IsAt states n t = record { below = omega (arith, at.below, length-set states i s); is = sym (get_or-set_other states i n s t other) ∙ at.is } in
+      let old : IsAtPlace states n t = record { below = omega (arith, at.below, length-set states i s); is = sym (get_or-set_other states i n s t other) ∙ at.is } in
       node-still n l h t (still-other n l h still) (a n t old)
 
 -- a line of another node changes nothing
 pub all-other : (h : List Line) (l : Line) (states : List NodeState) → AllAre h states → length states ≤ node_of l → AllAre (l ∷ h) states
 all-other h l states a far = λ n t at. node-still n l h t (still-other n l h (by_node n at (node_of l == n) refl)) (a n t at) where
-  by_node : (n : ℕ) {t : NodeState} → IsAt states n t → (b : Bool) → (node_of l == n) ≡ b → (node_of l == n) ≡ false
+  by_node : (n : ℕ) {t : NodeState} → IsAtPlace states n t → (b : Bool) → (node_of l == n) ≡ b → (node_of l == n) ≡ false
   by_node n at true e = let bad : ⊥ = omega (arith, eqb-true (node_of l) n e, at.below, far) in absurd bad
   by_node n at false e = e
 
@@ -137,10 +126,10 @@ all-bounded h states a = λ n s at. (a n s at).bounded
 
 -- the state at an index, read by whatever default
 -- what stands at an index is what stands there
-pub here-at : (states : List NodeState) (i : ℕ) (d : NodeState) → i < length states → IsAt states i (get_or states i d)
+pub here-at : (states : List NodeState) (i : ℕ) (d : NodeState) → i < length states → IsAtPlace states i (get_or states i d)
 here-at states i d lt = record { below = lt; is = get_or_default states i (get_or states i d) d lt }
 
-pub state-at : (states : List NodeState) (i k : ℕ) (d b : NodeState) → IsAt states k b → i ≡ k → get_or states i d ≡ b
+pub state-at : (states : List NodeState) (i k : ℕ) (d b : NodeState) → IsAtPlace states k b → i ≡ k → get_or states i d ≡ b
 state-at states i k d b at e = get_or_default states i d b (omega (arith, e, at.below)) ∙ (ap (λ (j : ℕ). get_or states j b) e ∙ at.is)
 
 pub kept-at : (h : List Line) (states : List NodeState) (i : ℕ) (s : NodeState) → AllAre h states → i < length states → get_or states i s ≡ s → NodeIs i h s

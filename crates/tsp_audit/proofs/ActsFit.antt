@@ -2,17 +2,12 @@
 use Rattle.std.specs.Prelude.{◌≡◌, ◌<◌, ℕ, ◌+◌, Bool, true, false, List, [], ◌∷◌, ◌++◌, length, map, Some, refl}
 use Rattle.std.proofs.Common.{ap, sym, subst, arith, true≢false}
 use Rattle.std.proofs.lemmas.Bool.{and_right, or_from, or_left, or_right}
-use Rattle.tsp_base.specs.declared.act.Act.{Act}
-use Rattle.tsp_base.specs.declared.act.Act.TheVariants.{Boot, Took, Post}
-use Rattle.tsp_base.specs.declared.act.Placed.{Placed}
-use Rattle.tsp_base.specs.declared.event.Event.{Event}
-use Rattle.tsp_base.specs.declared.place.Port.{Port}
-use Rattle.tsp_base.specs.Headers.{HeaderValue}
-use Rattle.tsp_base.specs.History.{Step}
+use Rattle.tsp_rules.specs.Values.{Act, Boot, Took, Post, Placed, Event, Port}
+use Rattle.tsp_base.specs.Words.{HeaderValue, Step}
 use Rattle.tsp_claims.specs.declared.claimed.Claimed.{Claimed}
 use Rattle.tsp_claims.specs.declared.tally.Tally.{Tally}
 use Rattle.tsp_claims.specs.ClaimedHistory.{step_at}
-use Rattle.tsp_claims.specs.Fitting.{ActFits, AllFit, FitsAfter, LineFitsIn, NumberFits, begins_with_boot, counted, is_took, lacks, wants_boot}
+use Rattle.tsp_claims.specs.Fitting.{ActMayStand, AllFit, FitsAfter, LineFitsIn, NumberFits, begins_with_boot, counted, is_took, lacks, wants_boot}
 use Rattle.tsp_rules.proofs.FewActs.{is_calm_act}
 use Rattle.tsp_audit.specs.AuditedRuns.{number_or_zero, traced}
 use Rattle.tsp_run.specs.Networks.{networks, ports_on}
@@ -63,9 +58,9 @@ module _ (header : HeaderValue) (posts : List Claimed) (up : ℕ → Bool) (port
   -- acts may stand next in their event, each on a port that is there, and then it lacks nothing
   abbrev pub ActsFit : Event → Tally → List Placed → Type 0
   ActsFit e t [] = lacks e t ≡ false
-  ActsFit e t (p ∷ rest) = (p.port.0 < ports) × ActFits header posts up e t p.port p.act × ActsFit e (counted t p.act) rest
+  ActsFit e t (p ∷ rest) = (p.port.0 < ports) × ActMayStand header posts up e t p.port p.act × ActsFit e (counted t p.act) rest
 
-  calm-fits : (strange : Bool) (e : Event) (t : Tally) (port : Port) (a : Act) → is_calm_act strange true a ≡ true → wants_boot e t ≡ false → ActFits header posts up e t port a
+  calm-fits : (strange : Bool) (e : Event) (t : Tally) (port : Port) (a : Act) → is_calm_act strange true a ≡ true → wants_boot e t ≡ false → ActMayStand header posts up e t port a
   calm-fits strange e t port Boot c w = absurd (true≢false (sym c))
   calm-fits strange e t port (Took from taken) c w = absurd (true≢false (sym c))
   calm-fits strange e t port _ c w = w

@@ -1,27 +1,16 @@
 -- Backing, line by line.
 use Rattle.std.specs.Prelude.{◌≡◌, ◌==◌, ◌||◌, ◌&&◌, ◌≤◌, ◌+◌, ℕ, Bool, true, false, if◌then◌else◌, List, [], ◌∷◌, Option, refl, MatchBool, None, Some}
 use Rattle.std.proofs.Common.{sym, ap, subst, inl, inr, ◌⊎◌, ◌∙◌, eq-eqb, eqb-true, true≢false}
-use Rattle.tsp_base.specs.declared.act.Act.{Act}
-use Rattle.tsp_base.specs.declared.act.Act.TheVariants.{Back, Become, Post}
-use Rattle.tsp_base.specs.declared.constants.TheConstants.{HOLD}
-use Rattle.tsp_base.specs.declared.datagram.Datagram.TheVariants.{Message}
-use Rattle.tsp_base.specs.declared.kind.Kind.{Kind}
-use Rattle.tsp_base.specs.declared.kind.Kind.TheVariants.{Accept, Election}
-use Rattle.tsp_base.specs.declared.place.PeerId.{PeerId}
-use Rattle.tsp_base.specs.declared.place.Place.{Place}
-use Rattle.tsp_base.specs.declared.place.Place.TheVariants.{Peer, Stranger}
-use Rattle.tsp_base.specs.declared.place.Port.{Port}
-use Rattle.tsp_base.specs.declared.role.Role.TheVariants.{Candidate}
+use Rattle.tsp_rules.specs.Values.{Act, Post, Become, Back, Message, Kind, Accept, Election, PeerId, Place, Peer, Stranger, Port, Candidate, HOLD}
+use Rattle.tsp_base.specs.Words.{Acts, Begins, Deed, Line, is_shared, of, seen_as, view, MessageValue}
 use Rattle.tsp_promises.specs.Everywhere.{Everywhere}
 use Rattle.tsp_promises.specs.Fits.{node_of}
-use Rattle.tsp_base.specs.History.{Acts, Begins, Deed, Line, is_shared, of, seen_as, view}
-use Rattle.tsp_base.specs.Messages.{MessageValue}
 use Rattle.tsp_promises.specs.OneBack.{BacksAt, HoldsAt, IsBacked, OneBack}
 use Rattle.tsp_promises.specs.StepFacts.{backed, is_unbacked, is_unbacked_after}
 use Rattle.tsp_promises.proofs.EverywhereLemmas.{Everywhere-at, Everywhere-from}
 use Rattle.tsp_base.proofs.ViewPlaces.{or-false, port-same}
 use Rattle.tsp_audit.specs.Backing.{Backs, Settled, deed_backs, is_stand, is_standing, post_backs}
-use Rattle.tsp_history.specs.Holding.{Apart}
+use Rattle.tsp_history.specs.Holding.{HoldsApart}
 use Rattle.tsp_rules.proofs.GuardFacts.{same_peer}
 
 kept : (b keep : Bool) → (if b then false else keep) ≡ true → keep ≡ true
@@ -67,13 +56,13 @@ neither false b r e f p q = cc
 
 -- a Back keeps the hold where each line before stands apart from it
 pub held-decides : (b : Bool) (l : Line) (world : List Line) (p : PeerId) → l.did.deed ≡ Acts (Back p) →
-    MatchBool b (Everywhere (λ other older. Apart (node_of l) l.port l.did.tick p other) world) (Everywhere (λ other older. Apart (node_of l) l.port l.did.tick p other) world → ⊥) →
+    MatchBool b (Everywhere (λ other older. HoldsApart (node_of l) l.port l.did.tick p other) world) (Everywhere (λ other older. HoldsApart (node_of l) l.port l.did.tick p other) world → ⊥) →
     MatchBool b (HoldsAt l world) (HoldsAt l world → ⊥)
 held-decides true l world p deed all = λ c q other older d w n t o.
     let same : p ≡ c = cc in
-    let apart : Apart (node_of l) l.port l.did.tick p other = Everywhere-at (λ other older. Apart (node_of l) l.port l.did.tick p other) other older world all w in
+    let apart : HoldsApart (node_of l) l.port l.did.tick p other = Everywhere-at (λ other older. HoldsApart (node_of l) l.port l.did.tick p other) other older world all w in
     subst (λ (k : PeerId). (q ≡ k) ⊎ (other.did.tick + HOLD ≤ l.did.tick)) same (apart q n t o)
-held-decides false l world p deed bad = λ f. bad (Everywhere-from (λ other older. Apart (node_of l) l.port l.did.tick p other) world (λ other older w c n t o. f p c other older deed w n t o))
+held-decides false l world p deed bad = λ f. bad (Everywhere-from (λ other older. HoldsApart (node_of l) l.port l.did.tick p other) world (λ other older w c n t o. f p c other older deed w n t o))
 
 pub backs-all : (h : List Line) → Everywhere HoldsAt h → Everywhere BacksAt h → Everywhere Backs h
 backs-all [] p q = tt

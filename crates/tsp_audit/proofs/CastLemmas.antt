@@ -1,21 +1,11 @@
 -- A Correct came of one round at most.
 use Rattle.std.specs.Prelude.{◌≡◌, ◌≤◌, ℕ, ℤ, List, ◌∷◌, refl, Some}
 use Rattle.std.proofs.Common.{sym, ap, subst, subst₂, ◌∙◌, arith, get_or, take}
-use Rattle.tsp_base.specs.declared.act.Act.TheVariants.{Post}
-use Rattle.tsp_base.specs.declared.datagram.Datagram.TheVariants.{Message}
-use Rattle.tsp_base.specs.declared.kind.Kind.TheVariants.{AdjTime}
-use Rattle.tsp_base.specs.declared.place.Place.TheVariants.{Peer}
-use Rattle.tsp_base.specs.declared.place.Port.{Port}
+use Rattle.tsp_rules.specs.Values.{Post, Message, AdjTime, Peer, Port}
+use Rattle.tsp_base.specs.Words.{Acts, Did, Here, Line, Seen, dids, of, view, MessageValue, all_corrects, lives, Within, Sampled, best, begun_to, peer_of, posted}
 use Rattle.tsp_promises.specs.Agreed.{Cast, ReadingOf}
 use Rattle.tsp_promises.specs.Fits.{node_of}
-use Rattle.tsp_base.specs.History.{Acts, Did, Here, Line, Seen, dids, of, view}
-use Rattle.tsp_base.specs.Messages.{MessageValue}
 use Rattle.tsp_promises.specs.Once.{ActsOn, OfSend}
-use Rattle.tsp_base.specs.NodeFacts.{all_corrects, lives}
-use Rattle.tsp_base.specs.Places.{Within}
-use Rattle.tsp_base.specs.RoundFacts.{Sampled, best}
-use Rattle.tsp_base.specs.SendFacts.{begun_to}
-use Rattle.tsp_base.specs.Takings.{peer_of, posted}
 use Rattle.tsp_base.proofs.PlaceLemmas.{Within-tail, Within-through}
 use Rattle.tsp_promises.proofs.Locating.{line_on}
 use Rattle.tsp_promises.proofs.SeenPlaces.{seen_same}

@@ -1,10 +1,8 @@
 -- Claimed posts that are those of a history.
 use Rattle.std.specs.Prelude.{◌≡◌, ℕ, zero, suc, List, [], ◌∷◌, ◌++◌, length, Option, None, Some, slice_get, refl}
 use Rattle.std.proofs.Common.{ap, ◌∙◌}
-use Rattle.tsp_base.specs.declared.act.Act.{Act}
-use Rattle.tsp_base.specs.declared.act.Act.TheVariants.{Post}
-use Rattle.tsp_base.specs.declared.act.Placed.{Placed}
-use Rattle.tsp_base.specs.History.{Step}
+use Rattle.tsp_rules.specs.Values.{Act, Post, Placed}
+use Rattle.tsp_base.specs.Words.{Step}
 use Rattle.tsp_claims.specs.declared.claimed.Claimed.{Claimed}
 use Rattle.tsp_claims.specs.ClaimedHistory.{claims_post, goes_by, posts_in, reaches}
 use Rattle.tsp_run.specs.declared.posted.Posted.{Posted}

@@ -13,13 +13,8 @@ use Rattle.tsp_audit.specs.Notes.{NotesStand}
 use Rattle.tsp_audit.specs.Parts.{Acting, Agreeing, AllKeep, Backing, Leading, Measuring}
 use Rattle.tsp_audit.specs.Settings.{HasClocks, Timely}
 use Rattle.tsp_audit.specs.Verdicts.{AllHold, AuditStands, Audits, FailsFirst, IsFound, IsVerdict}
-use Rattle.tsp_base.specs.declared.act.Placed.{Placed}
-use Rattle.tsp_base.specs.declared.event.Event.{Event}
-use Rattle.tsp_base.specs.declared.event.Event.TheVariants.{Boot, Turn, Take, Bytes}
-use Rattle.tsp_base.specs.Headers.{HeaderValue}
-use Rattle.tsp_base.specs.History.{Acts, Begins, Line, Step}
-use Rattle.tsp_base.specs.Joins.{first_port, joined, line_of}
-use Rattle.tsp_base.specs.Places.{Within}
+use Rattle.tsp_rules.specs.Values.{Placed, Event, BootAt, Turn, Take, Bytes, Line2}
+use Rattle.tsp_base.specs.Words.{HeaderValue, Acts, Begins, Line, Step, first_port, joined, line_of, Within}
 use Rattle.tsp_promises.specs.Setting.{Setting}
 use Rattle.tsp_audit.proofs.JoinLemmas.{OfStep, grown-all, made}
 use Rattle.tsp_audit.proofs.NumberedLemmas.{AllName, numbered-claims}
@@ -32,7 +27,6 @@ use Rattle.tsp_claims.specs.ClaimedHistory.{Claim, claimed, events_of, joins_act
 use Rattle.tsp_claims.specs.Listed.{booted}
 use Rattle.tsp_claims.specs.Fitting.{acts_of}
 use Rattle.tsp_claims.specs.Stands.{ClaimsStand, TakesIn}
-use Rattle.tsp_base.specs.declared.trace.Line2.{Line2}
 use Rattle.tsp_run.specs.declared.address.Address.{Address}
 use Rattle.tsp_run.specs.Run.{event_at, step_tick}
 
@@ -53,7 +47,7 @@ taken-time at k None soon = tt
 taken-time at k (Some a) soon = soon
 
 step-time : (header : HeaderValue) (posts : List Claimed) (up : ℕ → Bool) (e : Event) → event_at e ≤ 1000000000000000 → InTime (step_at header posts up e)
-step-time header posts up (Boot at node word) soon = soon
+step-time header posts up (BootAt at node word) soon = soon
 step-time header posts up (Turn at node) soon = soon
 step-time header posts up (Take at k) soon = taken-time at k (taker header posts up k) soon
 step-time header posts up (Bytes at node port from octets) soon = soon

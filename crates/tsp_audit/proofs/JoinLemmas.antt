@@ -1,11 +1,8 @@
 -- What holds of each line of a history that a step's acts join.
 use Rattle.std.specs.Prelude.{ℕ, Bool, true, false, if◌then◌else◌, Option, None, Some, List, [], ◌∷◌}
-use Rattle.tsp_base.specs.declared.act.Placed.{Placed}
-use Rattle.tsp_base.specs.declared.place.Port.{Port}
+use Rattle.tsp_rules.specs.Values.{Placed, Port}
+use Rattle.tsp_base.specs.Words.{HeaderValue, Acts, Begins, Deed, Line, Step, first_port, joined, line_of}
 use Rattle.tsp_promises.specs.Everywhere.{Everywhere}
-use Rattle.tsp_base.specs.Headers.{HeaderValue}
-use Rattle.tsp_base.specs.History.{Acts, Begins, Deed, Line, Step}
-use Rattle.tsp_base.specs.Joins.{first_port, joined, line_of}
 use Rattle.tsp_claims.specs.ClaimedHistory.{joins_acts}
 use Rattle.tsp_run.specs.Run.{step_tick}
 

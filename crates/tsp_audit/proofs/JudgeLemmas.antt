@@ -4,17 +4,15 @@ use Rattle.std.proofs.Common.{sym, ap, subst, ◌∙◌, arith, inl, inr, take}
 use Rattle.std.proofs.lemmas.List.{length-take}
 use Rattle.tsp_audit.specs.declared.premises.Premises.{Premises}
 use Rattle.tsp_audit.specs.Agreeing.{Numbered}
-use Rattle.tsp_audit.specs.Judged.{FailsNow, Judges}
+use Rattle.tsp_audit.specs.Judged.{FailsNow, JudgesParts}
 use Rattle.tsp_audit.specs.Looking.{Grown}
-use Rattle.tsp_audit.specs.Parts.{Acting, ActsOnce, Agreeing, AllKeep, Backing, Keeps, Leading, Measuring, Part, part_number}
+use Rattle.tsp_audit.specs.Parts.{Acting, ActsOnce, Agreeing, AllKeep, Backing, PartHolds, Leading, Measuring, Part, part_number}
 use Rattle.tsp_audit.specs.Settings.{HasClocks, Timely}
 use Rattle.tsp_history.proofs.NoteLemmas.{length-history}
 use Rattle.tsp_audit.proofs.Prefixes.{history-within}
-use Rattle.tsp_base.specs.Headers.{HeaderValue}
-use Rattle.tsp_base.specs.History.{Line}
+use Rattle.tsp_base.specs.Words.{HeaderValue, Line, Within}
 use Rattle.tsp_promises.specs.OneBack.{OneBack}
 use Rattle.tsp_promises.specs.OnlyMaster.{OnlyMaster}
-use Rattle.tsp_base.specs.Places.{Within}
 use Rattle.tsp_promises.specs.Setting.{Setting}
 use Rattle.tsp_base.proofs.PlaceLemmas.{Within-comparable, Within-length}
 use Rattle.tsp_history.specs.declared.line.HistoryLine.{HistoryLine}
@@ -29,8 +27,8 @@ refuted true P e m = let bad : ⊥ = cc in absurd bad
 refuted false P e m = m
 
 -- the parts below a number hold where each of them does
-below : (premises : Premises) (setting : Setting) (h : List Line) (number : ℕ) → (12 < number → OneBack h) → (13 < number → OnlyMaster h) → (14 < number → ActsOnce premises setting h) → (15 < number → Keeps premises setting Measuring h) →
-    (16 < number → Keeps premises setting Agreeing h) → (q : Part) → part_number q < number → Keeps premises setting q h
+below : (premises : Premises) (setting : Setting) (h : List Line) (number : ℕ) → (12 < number → OneBack h) → (13 < number → OnlyMaster h) → (14 < number → ActsOnce premises setting h) → (15 < number → PartHolds premises setting Measuring h) →
+    (16 < number → PartHolds premises setting Agreeing h) → (q : Part) → part_number q < number → PartHolds premises setting q h
 below premises setting h number back lead act measure agree Backing lt = back lt
 below premises setting h number back lead act measure agree Leading lt = lead lt
 below premises setting h number back lead act measure agree Acting lt = act lt
@@ -61,7 +59,7 @@ fails-acting premises setting h back lead bad = record {
   lesser = below premises setting h 14 (λ lt. back) (λ lt. lead) (λ lt. absurd (omega (arith, lt))) (λ lt. absurd (omega (arith, lt))) (λ lt. absurd (omega (arith, lt)));
 }
 
-pub fails-measuring : (premises : Premises) (setting : Setting) (h : List Line) → OneBack h → OnlyMaster h → ActsOnce premises setting h → (Keeps premises setting Measuring h → ⊥) → FailsNow premises setting h 15
+pub fails-measuring : (premises : Premises) (setting : Setting) (h : List Line) → OneBack h → OnlyMaster h → ActsOnce premises setting h → (PartHolds premises setting Measuring h → ⊥) → FailsNow premises setting h 15
 fails-measuring premises setting h back lead act bad = record {
   part = Measuring;
   number_is = refl;
@@ -69,7 +67,7 @@ fails-measuring premises setting h back lead act bad = record {
   lesser = below premises setting h 15 (λ lt. back) (λ lt. lead) (λ lt. act) (λ lt. absurd (omega (arith, lt))) (λ lt. absurd (omega (arith, lt)));
 }
 
-pub fails-agreeing : (premises : Premises) (setting : Setting) (h : List Line) → OneBack h → OnlyMaster h → ActsOnce premises setting h → Keeps premises setting Measuring h → (Keeps premises setting Agreeing h → ⊥) → FailsNow premises setting h 16
+pub fails-agreeing : (premises : Premises) (setting : Setting) (h : List Line) → OneBack h → OnlyMaster h → ActsOnce premises setting h → PartHolds premises setting Measuring h → (PartHolds premises setting Agreeing h → ⊥) → FailsNow premises setting h 16
 fails-agreeing premises setting h back lead act measure bad = record {
   part = Agreeing;
   number_is = refl;
@@ -77,7 +75,7 @@ fails-agreeing premises setting h back lead act measure bad = record {
   lesser = below premises setting h 16 (λ lt. back) (λ lt. lead) (λ lt. act) (λ lt. measure) (λ lt. absurd (omega (arith, lt)));
 }
 
-pub all-keep : (premises : Premises) (setting : Setting) (h : List Line) → OneBack h → OnlyMaster h → ActsOnce premises setting h → Keeps premises setting Measuring h → Keeps premises setting Agreeing h → AllKeep premises setting h
+pub all-keep : (premises : Premises) (setting : Setting) (h : List Line) → OneBack h → OnlyMaster h → ActsOnce premises setting h → PartHolds premises setting Measuring h → PartHolds premises setting Agreeing h → AllKeep premises setting h
 all-keep premises setting h back lead act measure agree Backing = back
 all-keep premises setting h back lead act measure agree Leading = lead
 all-keep premises setting h back lead act measure agree Acting = act
@@ -106,11 +104,11 @@ prefix-is ns h from w long =
 
 -- what is judged of noted lines is judged of the history that they are
 pub looked : (premises : Premises) (header told : HeaderValue) (ns : List HistoryLine) (count : ℕ) (w h : List Line) (from : ℕ) (N : List Line → Type 0) (R : Type 0) (r : Option ℕ) → told ≡ header → history_of ns ≡ w → Grown count h w from → R →
-    ((setting : Setting) → HasClocks told setting → Timely (history_of ns) → Numbered count (history_of ns) → R → N (history_of (take from ns)) → AllKeep premises setting (history_of (take from ns)) → Judges premises setting (history_of ns) r) →
-    N h → (setting : Setting) → HasClocks header setting → AllKeep premises setting h → Judges premises setting w r
+    ((setting : Setting) → HasClocks told setting → Timely (history_of ns) → Numbered count (history_of ns) → R → N (history_of (take from ns)) → AllKeep premises setting (history_of (take from ns)) → JudgesParts premises setting (history_of ns) r) →
+    N h → (setting : Setting) → HasClocks header setting → AllKeep premises setting h → JudgesParts premises setting w r
 looked premises header told ns count w h from N R r same is grown room f a setting has keeps =
     let first : history_of (take from ns) ≡ h = prefix-is ns h from (subst (λ (x : List Line). Within h x) (sym is) grown.within) grown.long in
-    subst (λ (x : List Line). Judges premises setting x r) is
+    subst (λ (x : List Line). JudgesParts premises setting x r) is
     (f setting (subst (λ (x : HeaderValue). HasClocks x setting) (sym same) has) (subst (λ (x : List Line). Timely x) (sym is) grown.timely) (subst (λ (x : List Line). Numbered count x) (sym is) grown.numbered) room
     (subst N (sym first) a) (subst (λ (x : List Line). AllKeep premises setting x) (sym first) keeps))
 

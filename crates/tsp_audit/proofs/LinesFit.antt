@@ -2,23 +2,12 @@
 use Rattle.std.specs.Prelude.{◌≡◌, ◌<◌, ℕ, ◌+◌, Bool, true, false, not, List, [], ◌∷◌, length, map, Option, None, Some, slice_get, refl}
 use Rattle.std.proofs.Common.{ap, sym, subst, arith, inl, inr}
 use Rattle.std.proofs.lemmas.Bool.{and_right, not_from_true}
-use Rattle.tsp_base.specs.declared.act.Act.TheVariants.{Boot, Took}
-use Rattle.tsp_base.specs.declared.act.Placed.{Placed}
-use Rattle.tsp_base.specs.declared.datagram.Taken.{Taken}
-use Rattle.tsp_base.specs.declared.datagram.Taken.TheVariants.{Good}
-use Rattle.tsp_base.specs.declared.event.Event.{Event}
-use Rattle.tsp_base.specs.declared.event.Event.TheVariants.{Boot as BootAt, Turn, Take, Bytes}
-use Rattle.tsp_base.specs.declared.place.Place.{Place}
-use Rattle.tsp_base.specs.declared.place.Place.TheVariants.{Peer}
-use Rattle.tsp_base.specs.declared.place.Port.{Port}
-use Rattle.tsp_base.specs.Headers.{HeaderValue, is_whole}
-use Rattle.tsp_base.specs.History.{Handed, Step, Turned}
-use Rattle.tsp_base.specs.Joins.{first_port}
-use Rattle.tsp_base.specs.Takings.{peer_of}
+use Rattle.tsp_rules.specs.Values.{Boot, Took, Placed, Taken, Good, Event, BootAt, Turn, Take, Bytes, Place, Peer, Port}
+use Rattle.tsp_base.specs.Words.{HeaderValue, is_whole, Handed, Step, Turned, first_port, peer_of}
 use Rattle.tsp_claims.specs.declared.claimed.Claimed.{Claimed}
 use Rattle.tsp_claims.specs.declared.tally.Tally.{Tally}
 use Rattle.tsp_claims.specs.ClaimedHistory.{Claim, events_of, posts_of, step_at, taker, takes_step}
-use Rattle.tsp_claims.specs.Fitting.{AllFit, Fit, FitsAfter, IsPosted, TakesPost, TookFits, counted, lacks, untold, wants_boot}
+use Rattle.tsp_claims.specs.Fitting.{AllFit, Fit, FitsAfter, IsPosted, TakesClaimedPost, TakingFits, counted, lacks, untold, wants_boot}
 use Rattle.tsp_claims.specs.Listed.{booted}
 use Rattle.tsp_codec.specs.Taken.{taken_of}
 use Rattle.tsp_audit.specs.AuditedRuns.{RunsFitClaims, claims_of, last_lines, traced}
@@ -40,10 +29,10 @@ use Rattle.tsp_audit.proofs.RunClaims.{AreOf, takes-at, told_are}
 use Rattle.tsp_audit.proofs.ClaimedEvents.{length-claims}
 
 -- what was taken is what was posted
-takes-post : (o : Option Claimed) (p : Posted) (a : Address) (t : Option Address) (taken : Taken) → SamePost o (Some p) → t ≡ Some a → taken ≡ Good p.datagram → TakesPost o t a.port (Peer (peer_of p.from)) taken
+takes-post : (o : Option Claimed) (p : Posted) (a : Address) (t : Option Address) (taken : Taken) → SamePost o (Some p) → t ≡ Some a → taken ≡ Good p.datagram → TakesClaimedPost o t a.port (Peer (peer_of p.from)) taken
 takes-post None p a t taken s is e = absurd s
 takes-post (Some c) p a t taken s is e =
-    subst (λ u. TakesPost (Some c) u a.port (Peer (peer_of p.from)) taken) (sym is)
+    subst (λ u. TakesClaimedPost (Some c) u a.port (Peer (peer_of p.from)) taken) (sym is)
     (refl, ap (λ n. Peer (peer_of n)) (sym s.node), subst (λ d. IsPosted d taken) (sym s.act) e)
 
 module _ {header : HeaderValue} (whole : is_whole header ≡ true) (before : List Event) (accepted : Accepted header before) where
@@ -73,7 +62,7 @@ module _ {header : HeaderValue} (whole : is_whole header ≡ true) (before : Lis
 
   -- acts that take once fit
   once-fits : (e : Event) (step : Step) (q : Port) (from : Place) (t : Taken) (few : ℕ) (acts : List Placed) → TakesOnce from t q (ports_in header step) few acts → q.0 < ports_in header step → wants_boot e untold ≡ false →
-      ((u : Tally) → u.took ≡ true → lacks e u ≡ false) → TookFits header cs ups e q from t → ActsFit header cs ups (ports_in header step) e untold acts
+      ((u : Tally) → u.took ≡ true → lacks e u ≡ false) → TakingFits header cs ups e q from t → ActsFit header cs ups (ports_in header step) e untold acts
   once-fits e step q from t few acts once has w needs f =
       let n = ports_in header step in
       let u = tallied untold once.before in

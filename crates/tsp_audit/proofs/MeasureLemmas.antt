@@ -1,27 +1,18 @@
 -- Measurements: what a step reads of a peer's clock, and the exchange that a Sample ends.
 use Rattle.std.specs.Prelude.{◌≡◌, ◌+◌, ℕ, ℤ, ◌-ℤ◌, Bool, true, false, List, ◌∷◌, MatchBool}
 use Rattle.std.proofs.Common.{sym, ap, subst, subst₂, ◌∙◌, get_or, take}
-use Rattle.tsp_base.specs.declared.act.Act.TheVariants.{Sample}
-use Rattle.tsp_base.specs.declared.datagram.Datagram.TheVariants.{Stamp}
-use Rattle.tsp_base.specs.declared.place.PeerId.{PeerId}
-use Rattle.tsp_base.specs.declared.place.Place.TheVariants.{Peer}
-use Rattle.tsp_base.specs.declared.stamp.Stamp.TheVariants.{Reply}
+use Rattle.tsp_rules.specs.Values.{Sample, Stamp, PeerId, Peer, Reply}
+use Rattle.tsp_base.specs.Words.{HeaderValue, Acts, Did, Here, Line, Seen, dids, of, plain, view, target, exchange, is_going, half_up, peer_of, posted}
 use Rattle.tsp_promises.specs.ClockAt.{clock, clock_at}
 use Rattle.tsp_promises.specs.Everywhere.{Everywhere}
 use Rattle.tsp_promises.specs.Fits.{node_of}
-use Rattle.tsp_base.specs.Headers.{HeaderValue}
-use Rattle.tsp_base.specs.History.{Acts, Did, Here, Line, Seen, dids, of, plain, view}
 use Rattle.tsp_promises.specs.Measured.{MeasuredAt, ReadBy, TripAt, TripOf}
-use Rattle.tsp_base.specs.NodeFacts.{target}
-use Rattle.tsp_base.specs.RoundFacts.{exchange, is_going}
-use Rattle.tsp_base.specs.Samples.{half_up}
 use Rattle.tsp_promises.specs.Setting.{Setting}
-use Rattle.tsp_base.specs.Takings.{peer_of, posted}
 use Rattle.tsp_promises.proofs.EverywhereLemmas.{Everywhere-at, Everywhere-from}
 use Rattle.tsp_base.proofs.Views.{plain_view}
 use Rattle.tsp_promises.proofs.SendPlaces.{post_unique, same-number}
 use Rattle.tsp_audit.specs.Acting.{CameAt, IsUnposted}
-use Rattle.tsp_audit.specs.Measuring.{IsNear, MeasuresAt, Replies, RepliesAt, RepliesTo}
+use Rattle.tsp_audit.specs.Measuring.{IsWithinError, MeasuresAt, Replies, RepliesAt, RepliesTo}
 use Rattle.tsp_audit.specs.Parts.{MeasuresWell}
 use Rattle.tsp_audit.specs.Settings.{HasClocks, clock_in}
 use Rattle.tsp_history.proofs.HistoryLemmas.{history-more}
@@ -65,7 +56,7 @@ read-replies setting l h p diff err r = record { place = r.place; takes = r.take
 
 -- a reply that was taken is a reading where the clocks stand as the Sample says
 read-from : (setting : Setting) (l : Line) (h : List Line) (p : PeerId) (diff err : ℤ) (post : Line) (older : List Line) → Replies l h p post older →
-    IsNear diff err (clock setting p.0 (post ∷ older)) (clock setting (node_of l) (post ∷ older)) → ReadBy setting l h p diff err
+    IsWithinError diff err (clock setting p.0 (post ∷ older)) (clock setting (node_of l) (post ∷ older)) → ReadBy setting l h p diff err
 read-from setting l h p diff err post older r near = record { post = post; older = older; place = r.place; takes = r.takes; from = r.posts.from; reply = r.posts.reply; deed = r.posts.deed; near = near }
 
 pub read-none : (setting : Setting) (l : Line) (h : List Line) (p : PeerId) (diff err : ℤ) → ((post : Line) (older : List Line) → Replies l h p post older → ⊥) → ReadBy setting l h p diff err → ⊥
@@ -73,20 +64,20 @@ read-none setting l h p diff err bad r = bad r.post r.older (read-replies settin
 
 pub read-decides : (header : HeaderValue) (setting : Setting) (ns : List HistoryLine) (l : Line) (p : PeerId) (i : ℕ) (noted : HistoryLine) (b : Bool) (diff err ahead own : ℤ) → HasClocks header setting → RepliesAt ns l p i → get_or ns i noted ≡ noted →
     ahead ≡ clock_in header p.0 (history_of (take (i + 1) ns)) noted.at → own ≡ clock_in header (node_of l) (history_of (take (i + 1) ns)) noted.at →
-    MatchBool b (IsNear diff err ahead own) (IsNear diff err ahead own → ⊥) → MatchBool b (ReadBy setting l (history_of ns) p diff err) (ReadBy setting l (history_of ns) p diff err → ⊥)
+    MatchBool b (IsWithinError diff err ahead own) (IsWithinError diff err ahead own → ⊥) → MatchBool b (ReadBy setting l (history_of ns) p diff err) (ReadBy setting l (history_of ns) p diff err → ⊥)
 read-decides header setting ns l p i noted b diff err ahead own has at is ahead_is own_is m = by_case b m where
   then_is : (n : ℕ) (z : ℤ) → z ≡ clock_in header n (history_of (take (i + 1) ns)) noted.at → z ≡ clock setting n (line_of noted ∷ history_of (take i ns))
   then_is n z e = e ∙ (clock-set header setting n (history_of (take (i + 1) ns)) noted.at has ∙ ap (λ (h : List Line). clock_at setting n h noted.at) (history-more ns i noted at.below is))
 
-  by_case : (b : Bool) → MatchBool b (IsNear diff err ahead own) (IsNear diff err ahead own → ⊥) → MatchBool b (ReadBy setting l (history_of ns) p diff err) (ReadBy setting l (history_of ns) p diff err → ⊥)
+  by_case : (b : Bool) → MatchBool b (IsWithinError diff err ahead own) (IsWithinError diff err ahead own → ⊥) → MatchBool b (ReadBy setting l (history_of ns) p diff err) (ReadBy setting l (history_of ns) p diff err → ⊥)
   by_case true near =
       read-from setting l (history_of ns) p diff err (line_of noted) (history_of (take i ns)) (at.replies noted is)
-      (subst₂ (λ (a o : ℤ). IsNear diff err a o) (then_is p.0 ahead ahead_is) (then_is (node_of l) own own_is) near)
+      (subst₂ (λ (a o : ℤ). IsWithinError diff err a o) (then_is p.0 ahead ahead_is) (then_is (node_of l) own own_is) near)
   by_case false far = λ r.
       let place : r.post ∷ r.older ≡ line_of noted ∷ history_of (take i ns) = replies-one l (history_of ns) p r.post (line_of noted) r.older (history_of (take i ns)) (read-replies setting l (history_of ns) p diff err r) (at.replies noted is) in
-      let near : IsNear diff err (clock setting p.0 (line_of noted ∷ history_of (take i ns))) (clock setting (node_of l) (line_of noted ∷ history_of (take i ns))) =
-      subst (λ (h : List Line). IsNear diff err (clock setting p.0 h) (clock setting (node_of l) h)) place r.near in
-      far (subst₂ (λ (a o : ℤ). IsNear diff err a o) (sym (then_is p.0 ahead ahead_is)) (sym (then_is (node_of l) own own_is)) near)
+      let near : IsWithinError diff err (clock setting p.0 (line_of noted ∷ history_of (take i ns))) (clock setting (node_of l) (line_of noted ∷ history_of (take i ns))) =
+      subst (λ (h : List Line). IsWithinError diff err (clock setting p.0 h) (clock setting (node_of l) h)) place r.near in
+      far (subst₂ (λ (a o : ℤ). IsWithinError diff err a o) (sym (then_is p.0 ahead ahead_is)) (sym (then_is (node_of l) own own_is)) near)
 
 pub measured-line : (setting : Setting) (l : Line) (h : List Line) (p : PeerId) (counter : ℕ) (diff err : ℤ) (number : ℕ) (b : Bool) → l.did.deed ≡ Acts (Sample p counter diff err number) →
     MatchBool b (ReadBy setting l h p diff err) (ReadBy setting l h p diff err → ⊥) → MatchBool b (MeasuredAt setting l h) (MeasuredAt setting l h → ⊥)

@@ -4,8 +4,8 @@ use Rattle.std.proofs.Common.{ap, refl, ◌∙◌, arith, rules, subst, subst₂
 use Rattle.std.proofs.lemmas.Bool.{cases_lt}
 use Rattle.std.proofs.lemmas.Int.{ints}
 use Rattle.tsp_audit.proofs.AccordSteps.{state-at}
-use Rattle.tsp_base.specs.Headers.{HeaderValue}
-use Rattle.tsp_audit.specs.Agreeing.{AgreesBack, AllAgree, BossAgrees, IsAt, MasterNear, NodeAgrees, PairAgrees, PairNear, Stands, shown_by}
+use Rattle.tsp_base.specs.Words.{HeaderValue}
+use Rattle.tsp_audit.specs.Agreeing.{AgreesBack, AllAgree, BossAgrees, IsAtPlace, MasterNear, NodeAgrees, PairAgrees, PairNear, CastStands, shown_by}
 use Rattle.tsp_audit.specs.declared.round_correction.NodeState.{NodeState}
 use Rattle.tsp_audit.specs.declared.round_correction.RoundCorrection.{RoundCorrection}
 
@@ -33,15 +33,15 @@ pub pair-told : (header : HeaderValue) (t n k : ℕ) (a b : NodeState) (c d : Ro
 pair-told header t n k a b c d true ac bd masters closes near = λ e f ae bf ms cs. subst₂ (λ (x y : RoundCorrection). PairNear header t n a x k b y) (some-same a.cast c e ac ae) (some-same b.cast d f bd bf) near
 pair-told header t n k a b c d false ac bd masters closes far = λ agrees. far (agrees c d ac bd masters closes)
 
-same-state : (states : List NodeState) (k : ℕ) (b f : NodeState) → IsAt states k b → IsAt states k f → b ≡ f
+same-state : (states : List NodeState) (k : ℕ) (b f : NodeState) → IsAtPlace states k b → IsAtPlace states k f → b ≡ f
 same-state states k b f bat fat = sym bat.is ∙ state-at states k k b f fat refl
 
 -- a node agrees with its master exactly where they are near, if that was left alone
-pub boss-told : (header : HeaderValue) (t n : ℕ) (a : NodeState) (states : List NodeState) (c : RoundCorrection) (b : NodeState) (r : Bool) → a.cast ≡ Some c → IsAt states c.master b → Stands c b →
+pub boss-told : (header : HeaderValue) (t n : ℕ) (a : NodeState) (states : List NodeState) (c : RoundCorrection) (b : NodeState) (r : Bool) → a.cast ≡ Some c → IsAtPlace states c.master b → CastStands c b →
     MatchBool r (MasterNear header t n a c b) (MasterNear header t n a c b → ⊥) → MatchBool r (BossAgrees header t n a states) (BossAgrees header t n a states → ⊥)
 boss-told header t n a states c b true ac bat st near = λ e f ae fat left.
     (let ce : c ≡ e = some-same a.cast c e ac ae in
-    let bf : b ≡ f = same-state states c.master b f bat (subst (λ (x : RoundCorrection). IsAt states x.master f) (sym ce) fat) in
+    let bf : b ≡ f = same-state states c.master b f bat (subst (λ (x : RoundCorrection). IsAtPlace states x.master f) (sym ce) fat) in
     subst₂ (λ (x : RoundCorrection) (y : NodeState). MasterNear header t n a x y) ce bf near)
 boss-told header t n a states c b false ac bat st far = λ agrees. far (agrees c b ac bat st)
 
@@ -54,9 +54,9 @@ pair-turned header t n k a b f c d bc ad masters closes =
     near-turned (shown_by header n a.moved t) (shown_by header k b.moved t) _ _ (f d c ad bc (sym masters) (sym closes)) (omega (arith, ints))
 
 -- nodes of which each agrees with those up to itself all agree
-pub all-back : (header : HeaderValue) (t : ℕ) (states : List NodeState) → ((n : ℕ) (a : NodeState) → n < length states → IsAt states n a → AgreesBack header t n a states) → AllAgree header t states
+pub all-back : (header : HeaderValue) (t : ℕ) (states : List NodeState) → ((n : ℕ) (a : NodeState) → n < length states → IsAtPlace states n a → AgreesBack header t n a states) → AllAgree header t states
 all-back header t states back n a at = record { pairs = pairs; master = (back n a at.below at).master } where
-  pairs : (k : ℕ) (b : NodeState) → IsAt states k b → PairAgrees header t n a k b
+  pairs : (k : ℕ) (b : NodeState) → IsAtPlace states k b → PairAgrees header t n a k b
   pairs k b kat = by_case (cases_lt n k) where
     by_case : (n < k) ⊎ (k ≤ n) → PairAgrees header t n a k b
     by_case (inl lt) = pair-turned header t k n b a ((back k b kat.below kat).pairs n a (omega arith) at)
@@ -66,7 +66,7 @@ pub back-all : (header : HeaderValue) (t n : ℕ) (a : NodeState) (states : List
 back-all header t n a states agrees = record { pairs = λ k b le at. agrees.pairs k b at; master = agrees.master }
 
 -- a node that agrees with the others agrees exactly where it does with its master
-pub agrees-then : (header : HeaderValue) (t n : ℕ) (a : NodeState) (states : List NodeState) (r : Bool) → ((k : ℕ) (b : NodeState) → k ≤ n → IsAt states k b → PairAgrees header t n a k b) →
+pub agrees-then : (header : HeaderValue) (t n : ℕ) (a : NodeState) (states : List NodeState) (r : Bool) → ((k : ℕ) (b : NodeState) → k ≤ n → IsAtPlace states k b → PairAgrees header t n a k b) →
     MatchBool r (BossAgrees header t n a states) (BossAgrees header t n a states → ⊥) → MatchBool r (AgreesBack header t n a states) (AgreesBack header t n a states → ⊥)
 agrees-then header t n a states true pairs master = record { pairs = pairs; master = master }
 agrees-then header t n a states false pairs differs = λ agrees. differs agrees.master

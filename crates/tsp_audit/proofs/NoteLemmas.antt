@@ -2,8 +2,8 @@
 use Rattle.std.specs.Prelude.{◌≤◌, ℕ}
 use Rattle.std.proofs.Common.{arith}
 use Rattle.tsp_audit.specs.declared.notes.Notes.{Notes}
-use Rattle.tsp_audit.specs.Notes.{HasRoom}
+use Rattle.tsp_audit.specs.Notes.{HasLineRoom}
 
 -- room for more is room for less
-pub room-less : (few many : ℕ) (n : Notes) → few ≤ many → HasRoom many n → HasRoom few n
+pub room-less : (few many : ℕ) (n : Notes) → few ≤ many → HasLineRoom many n → HasLineRoom few n
 room-less few many n le room = record { acted = omega (arith, le, room.acted); trips = omega (arith, le, room.trips) }

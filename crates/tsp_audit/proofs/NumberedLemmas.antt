@@ -2,13 +2,11 @@
 use Rattle.std.specs.Prelude.{◌≡◌, ◌||◌, ◌<◌, ℕ, Bool, true, false, if◌then◌else◌, Option, None, Some, List, [], ◌∷◌, refl}
 use Rattle.std.proofs.Common.{subst, eqb-true}
 use Rattle.tsp_audit.specs.Agreeing.{Numbered}
-use Rattle.tsp_base.specs.declared.event.Event.{Event}
-use Rattle.tsp_base.specs.declared.event.Event.TheVariants.{Boot, Turn, Take, Bytes}
+use Rattle.tsp_rules.specs.Values.{Event, BootAt, Turn, Take, Bytes}
+use Rattle.tsp_base.specs.Words.{HeaderValue, Step}
 use Rattle.tsp_audit.proofs.JoinLemmas.{OfStep, grown-all, made}
 use Rattle.tsp_promises.specs.Everywhere.{Everywhere}
 use Rattle.tsp_promises.specs.Fits.{node_of}
-use Rattle.tsp_base.specs.Headers.{HeaderValue}
-use Rattle.tsp_base.specs.History.{Step}
 use Rattle.tsp_claims.specs.declared.claimed.Claimed.{Claimed}
 use Rattle.tsp_claims.specs.ClaimedHistory.{Claim, awake, claimed, events_of, makes_step, posts_of, reaches, step_at, step_of, takes_step}
 use Rattle.tsp_claims.specs.Listed.{NamesNode, booted, boots}
@@ -25,7 +23,7 @@ either true c e f = let bad : ⊥ = cc in absurd bad
 either false c e f = e
 
 boots-below : (count : ℕ) (e : Event) (n : ℕ) → NamesNode count e → boots e n ≡ true → n < count
-boots-below count (Boot at node word) n named e = subst (λ (k : ℕ). k < count) (eqb-true node n e) named
+boots-below count (BootAt at node word) n named e = subst (λ (k : ℕ). k < count) (eqb-true node n e) named
 boots-below count (Turn at node) n named e = let bad : ⊥ = cc in absurd bad
 boots-below count (Take at k) n named e = let bad : ⊥ = cc in absurd bad
 boots-below count (Bytes at node port from octets) n named e = let bad : ⊥ = cc in absurd bad
@@ -50,7 +48,7 @@ taken-below count at k up below (Some a) = by_up (up a.node) refl where
   by_up false e = tt
 
 step-below : (count : ℕ) (header : HeaderValue) (posts : List Claimed) (up : ℕ → Bool) (e : Event) → ((n : ℕ) → up n ≡ true → n < count) → NamesNode count e → Below count (step_at header posts up e)
-step-below count header posts up (Boot at node word) below named = named
+step-below count header posts up (BootAt at node word) below named = named
 step-below count header posts up (Turn at node) below named = named
 step-below count header posts up (Take at k) below named = taken-below count at k up below (reaches (networks header) (slice_get posts k))
 step-below count header posts up (Bytes at node port from octets) below named = named

@@ -3,8 +3,7 @@ use Rattle.std.specs.Prelude.{◌≡◌, ◌<◌, ◌+◌, ℕ, List, [], ◌∷
 use Rattle.std.proofs.Common.{sym, ap, subst, ◌∙◌, take, drop, get_or}
 use Rattle.std.proofs.lemmas.List.{take-append-drop}
 use Rattle.tsp_promises.specs.Everywhere.{Everywhere}
-use Rattle.tsp_base.specs.History.{Line}
-use Rattle.tsp_base.specs.Places.{Within}
+use Rattle.tsp_base.specs.Words.{Line, Within}
 use Rattle.tsp_promises.proofs.EverywhereLemmas.{Everywhere-at}
 use Rattle.tsp_base.proofs.PlaceLemmas.{Within-all, Within-tail}
 use Rattle.tsp_history.specs.declared.line.HistoryLine.{HistoryLine}

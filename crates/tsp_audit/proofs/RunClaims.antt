@@ -1,16 +1,8 @@
 -- What is told of a run, where it is claimed, makes the run, posts what it posts, and boots whom it boots.
 use Rattle.std.specs.Prelude.{◌≡◌, ℕ, ◌+◌, ◌==◌, Bool, true, false, ◌||◌, if◌then◌else◌, List, [], ◌∷◌, ◌++◌, length, Option, None, Some, slice_get, refl}
 use Rattle.std.proofs.Common.{ap, ◌∙◌, sym, subst, inl, inr, eqb-true, append-nil}
-use Rattle.tsp_base.specs.declared.act.Act.TheVariants.{Boot}
-use Rattle.tsp_base.specs.declared.act.Placed.{Placed}
-use Rattle.tsp_base.specs.declared.event.Event.{Event}
-use Rattle.tsp_base.specs.declared.event.Event.TheVariants.{Boot as BootAt, Turn, Take, Bytes}
-use Rattle.tsp_base.specs.declared.place.Place.TheVariants.{Peer}
-use Rattle.tsp_base.specs.Headers.{HeaderValue, IsHeader}
-use Rattle.tsp_base.specs.History.{Acts, Begins, Handed, Line, Step, Turned, dids, of}
-use Rattle.tsp_base.specs.Joins.{first_port, line_of, stepped}
-use Rattle.tsp_base.specs.NodeFacts.{up}
-use Rattle.tsp_base.specs.Takings.{peer_of}
+use Rattle.tsp_rules.specs.Values.{Boot, Placed, Event, BootAt, Turn, Take, Bytes, Peer}
+use Rattle.tsp_base.specs.Words.{HeaderValue, IsHeader, Acts, Begins, Handed, Line, Step, Turned, dids, of, first_port, line_of, stepped, up, peer_of}
 use Rattle.tsp_claims.specs.declared.claimed.Claimed.{Claimed}
 use Rattle.tsp_claims.specs.ClaimedHistory.{Claim, awake, claimed, events_of, joins_acts, makes_step, posts_by, posts_of, reaches as claim_reaches, step_of, taker, takes_step}
 use Rattle.tsp_claims.specs.Fitting.{acts_of}

@@ -2,14 +2,10 @@
 use Rattle.std.specs.Prelude.{◌≡◌, ◌<◌, ◌≤◌, ◌+◌, ℕ, ℤ, pos, List, [], ◌∷◌, length, MatchOption, Option, None, Some}
 use Rattle.std.proofs.Common.{sym, ap, subst, ◌∙◌, arith, get_or, take}
 use Rattle.std.proofs.lemmas.List.{length-take}
-use Rattle.tsp_base.specs.declared.place.Port.{Port}
+use Rattle.tsp_rules.specs.Values.{Port}
+use Rattle.tsp_base.specs.Words.{Came, Line, dids, of, view, all_corrects, lives, Within, Sampled, best, peer_of, posted}
 use Rattle.tsp_promises.specs.Fits.{node_of}
-use Rattle.tsp_base.specs.History.{Came, Line, dids, of, view}
-use Rattle.tsp_base.specs.NodeFacts.{all_corrects, lives}
-use Rattle.tsp_base.specs.Places.{Within}
-use Rattle.tsp_base.specs.RoundFacts.{Sampled, best}
 use Rattle.tsp_promises.specs.StepFacts.{closed}
-use Rattle.tsp_base.specs.Takings.{peer_of, posted}
 use Rattle.tsp_base.proofs.PlaceLemmas.{Within-through}
 use Rattle.tsp_promises.proofs.SendPlaces.{posted-mono, posted-post}
 use Rattle.tsp_audit.proofs.CastLemmas.{begun-cast, begun-none, lines-one}

@@ -1,18 +1,10 @@
 -- Sends by the numbers of the datagrams with which they begin.
 use Rattle.std.specs.Prelude.{◌≡◌, ℕ, List, ◌∷◌, refl}
 use Rattle.std.proofs.Common.{sym, ap, subst, subst₂, ◌∙◌}
-use Rattle.tsp_base.specs.declared.act.Act.TheVariants.{Post}
-use Rattle.tsp_base.specs.declared.datagram.Datagram.TheVariants.{Message}
-use Rattle.tsp_base.specs.declared.place.PeerId.{PeerId}
-use Rattle.tsp_base.specs.declared.place.Place.TheVariants.{Peer}
-use Rattle.tsp_base.specs.declared.place.Port.{Port}
+use Rattle.tsp_rules.specs.Values.{Post, Message, PeerId, Peer, Port}
+use Rattle.tsp_base.specs.Words.{Acts, Did, Here, Line, Seen, dids, of, view, MessageValue, Within, begun_to, peer_of, posted}
 use Rattle.tsp_promises.specs.Fits.{node_of}
-use Rattle.tsp_base.specs.History.{Acts, Did, Here, Line, Seen, dids, of, view}
-use Rattle.tsp_base.specs.Messages.{MessageValue}
 use Rattle.tsp_promises.specs.Once.{Brings, OfSend}
-use Rattle.tsp_base.specs.Places.{Within}
-use Rattle.tsp_base.specs.SendFacts.{begun_to}
-use Rattle.tsp_base.specs.Takings.{peer_of, posted}
 use Rattle.tsp_base.proofs.PlaceLemmas.{Within-through}
 use Rattle.tsp_promises.proofs.Locating.{line_on, locate, view-line}
 use Rattle.tsp_promises.proofs.SeenPlaces.{seen_same}

@@ -2,12 +2,10 @@
 use Rattle.std.specs.Prelude.{◌≡◌, ◌==◌, ◌<◌, ◌≤◌, ◌+◌, ◌^◌, ℕ, ℤ, pos, Bool, false, MatchOption, Option, None, Some, List, [], ◌∷◌, refl}
 use Rattle.std.proofs.Common.{sym, ap, subst, ◌∙◌, arith, inl, inr}
 use Rattle.std.proofs.lemmas.Int.{ints}
-use Rattle.tsp_base.specs.declared.act.Act.TheVariants.{Boot, Correct}
+use Rattle.tsp_rules.specs.Values.{Boot, Correct}
+use Rattle.tsp_base.specs.Words.{Acts, Deed, Did, Line, dids, from_act, of, all_corrects, all_corrects_after, lives, lives_after, moved, moved_after, Within}
 use Rattle.tsp_promises.specs.Agreed.{Cast}
 use Rattle.tsp_promises.specs.Fits.{node_of}
-use Rattle.tsp_base.specs.History.{Acts, Deed, Did, Line, dids, from_act, of}
-use Rattle.tsp_base.specs.NodeFacts.{all_corrects, all_corrects_after, lives, lives_after, moved, moved_after}
-use Rattle.tsp_base.specs.Places.{Within}
 use Rattle.tsp_base.proofs.PlaceLemmas.{Within-all, Within-comparable}
 use Rattle.tsp_base.proofs.ViewPlaces.{Within-dids}
 use Rattle.tsp_promises.proofs.HistoryPlaces.{Within-of, of-other, of-own}

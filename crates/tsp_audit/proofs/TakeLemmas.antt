@@ -2,38 +2,24 @@
 use Rattle.std.specs.Prelude.{◌≡◌, ◌<◌, ◌≤◌, ◌+◌, ℕ, ℤ, pos, ◌+ℤ◌, Bool, true, false, MatchBool, MatchOption, Option, None, List, [], ◌∷◌, length, refl, is_some, Some}
 use Rattle.std.proofs.Common.{sym, ap, subst, subst₂, ◌∙◌, arith, get_or, take}
 use Rattle.std.proofs.lemmas.List.{get_or_default}
-use Rattle.tsp_base.specs.declared.act.Act.TheVariants.{Correct, Post}
-use Rattle.tsp_base.specs.declared.datagram.Datagram.{Datagram}
-use Rattle.tsp_base.specs.declared.datagram.Datagram.TheVariants.{Message}
-use Rattle.tsp_base.specs.declared.place.PeerId.{PeerId}
-use Rattle.tsp_base.specs.declared.place.Place.{Place}
-use Rattle.tsp_base.specs.declared.place.Place.TheVariants.{Peer}
+use Rattle.tsp_rules.specs.Values.{Post, Correct, Datagram, Message, PeerId, Place, Peer, Follow}
+use Rattle.tsp_base.specs.Words.{Acts, Came, Here, Line, Seen, dids, of, view, MessageValue, HeaderValue, moved, role, tick_at, Within, begun_to, is_correction, is_numbered, heard, peer_of, posted, time_in}
 use Rattle.tsp_promises.specs.Fits.{node_of}
-use Rattle.tsp_base.specs.History.{Acts, Came, Here, Line, Seen, dids, of, view}
-use Rattle.tsp_base.specs.Messages.{MessageValue}
-use Rattle.tsp_base.specs.declared.role.Role.TheVariants.{Follow}
-use Rattle.tsp_base.specs.Headers.{HeaderValue}
-use Rattle.tsp_base.specs.NodeFacts.{moved}
 use Rattle.tsp_promises.specs.Once.{Brings, Obeys, ObeysAt, SpacedAt}
-use Rattle.tsp_base.specs.PortFacts.{role}
-use Rattle.tsp_base.specs.Ticks.{tick_at}
 use Rattle.tsp_promises.specs.ClockAt.{clock_at}
-use Rattle.tsp_base.specs.Places.{Within}
-use Rattle.tsp_base.specs.SendFacts.{begun_to, is_correction, is_numbered}
 use Rattle.tsp_promises.specs.Setting.{Setting}
-use Rattle.tsp_base.specs.Takings.{heard, peer_of, posted, time_in}
 use Rattle.tsp_promises.specs.CorrectFits.{amount_of}
 use Rattle.tsp_promises.proofs.Locating.{view-line}
 use Rattle.tsp_promises.proofs.SendPlaces.{post_unique, posted-mono, posted-post, same-number}
 use Rattle.tsp_history.proofs.HistoryLemmas.{history-more}
 use Rattle.tsp_audit.proofs.SendPlaces.{brings-one}
-use Rattle.tsp_audit.specs.Acting.{ActsNow, BringsAt, CameAt, Corrects, IsNumbered, IsUnposted, Moves, PostsTo, TakesSend, deed_corrects}
+use Rattle.tsp_audit.specs.Acting.{ActsNow, BringsAt, CameAt, Corrects, IsNumbered, IsUnposted, PostsMove, PostsTo, TakesSend, deed_corrects}
 use Rattle.tsp_audit.specs.Settings.{HasClocks, clock_in}
 use Rattle.tsp_history.specs.declared.line.HistoryLine.{HistoryLine}
 use Rattle.tsp_history.specs.Histories.{deed_of, history_of, line_of}
 use Rattle.tsp_history.specs.Posts.{PostsAt}
 use Rattle.tsp_history.specs.Spacing.{Spaced}
-use Rattle.tsp_history.specs.PostedPlaces.{PostedAt, IsPlaceOf}
+use Rattle.tsp_history.specs.PostedPlaces.{PostedAt, IsPostAt}
 
 -- one line stands at an index
 pub same-noted : (ns : List HistoryLine) (i : ℕ) (a b : HistoryLine) → i < length ns → get_or ns i a ≡ a → get_or ns i b ≡ b → a ≡ b
@@ -144,7 +130,7 @@ takes-unbegun ns l i noted k b is none t =
 
 -- a follower's Correct obeys
 pub obeys-found : (setting : Setting) (ns : List HistoryLine) (l : Line) (amount : ℤ) (master : PeerId) (i : ℕ) (noted : HistoryLine) → BringsAt ns l i → get_or ns i noted ≡ noted → noted.node ≡ master.0 →
-    Moves (deed_of noted.act) amount (clock_at setting (node_of l) (history_of ns) l.did.step.at) → Obeys setting l (history_of ns) amount master
+    PostsMove (deed_of noted.act) amount (clock_at setting (node_of l) (history_of ns) l.did.step.at) → Obeys setting l (history_of ns) amount master
 obeys-found setting ns l amount master i noted b is node moves =
     let brings : Brings l (history_of ns) (line_of noted) (history_of (take i ns)) = b.brings noted is in
     let deeds : Acts (Post moves.to (Message moves.message)) ≡ Acts (Post (Peer (peer_of (node_of l))) (Message brings.message)) = sym moves.is ∙ brings.deed in
@@ -159,7 +145,7 @@ obeys-found setting ns l amount master i noted b is node moves =
     }
 
 pub obeys-not : (setting : Setting) (ns : List HistoryLine) (l : Line) (amount : ℤ) (master : PeerId) (i : ℕ) (noted : HistoryLine) → BringsAt ns l i → get_or ns i noted ≡ noted →
-    (noted.node ≡ master.0 → Moves (deed_of noted.act) amount (clock_at setting (node_of l) (history_of ns) l.did.step.at) → ⊥) → Obeys setting l (history_of ns) amount master → ⊥
+    (noted.node ≡ master.0 → PostsMove (deed_of noted.act) amount (clock_at setting (node_of l) (history_of ns) l.did.step.at) → ⊥) → Obeys setting l (history_of ns) amount master → ⊥
 obeys-not setting ns l amount master i noted b is bad o =
     let place : o.post ∷ o.older ≡ line_of noted ∷ history_of (take i ns) = brings-one l (history_of ns) o.post (line_of noted) o.older (history_of (take i ns)) o.brings (b.brings noted is) in
     let line : o.post ≡ line_of noted = cc in
@@ -177,15 +163,15 @@ pub clock-set : (header : HeaderValue) (setting : Setting) (n : ℕ) (h : List L
 clock-set header setting n h at has = subst₂ (λ (w r : ℤ). clock_in header n h at ≡ (w +ℤ moved (dids (of n h))) +ℤ pos (tick_at r at)) (sym (has.wall_is n)) (sym (has.rate_is n)) refl
 
 pub obeys-decides : (header : HeaderValue) (setting : Setting) (ns : List HistoryLine) (l : Line) (amount : ℤ) (master : PeerId) (i : ℕ) (noted : HistoryLine) (b : Bool) (t : ℤ) → HasClocks header setting → BringsAt ns l i → get_or ns i noted ≡ noted → noted.node ≡ master.0 →
-    t ≡ clock_in header (node_of l) (history_of ns) l.did.step.at → MatchBool b (Moves (deed_of noted.act) amount t) (Moves (deed_of noted.act) amount t → ⊥) →
+    t ≡ clock_in header (node_of l) (history_of ns) l.did.step.at → MatchBool b (PostsMove (deed_of noted.act) amount t) (PostsMove (deed_of noted.act) amount t → ⊥) →
     MatchBool b (Obeys setting l (history_of ns) amount master) (Obeys setting l (history_of ns) amount master → ⊥)
 obeys-decides header setting ns l amount master i noted b t has brings is node clock m = by_case b m where
   same : t ≡ clock_at setting (node_of l) (history_of ns) l.did.step.at
   same = clock ∙ clock-set header setting (node_of l) (history_of ns) l.did.step.at has
 
-  by_case : (b : Bool) → MatchBool b (Moves (deed_of noted.act) amount t) (Moves (deed_of noted.act) amount t → ⊥) → MatchBool b (Obeys setting l (history_of ns) amount master) (Obeys setting l (history_of ns) amount master → ⊥)
-  by_case true good = obeys-found setting ns l amount master i noted brings is node (subst (λ (z : ℤ). Moves (deed_of noted.act) amount z) same good)
-  by_case false bad = obeys-not setting ns l amount master i noted brings is (λ e moves. bad (subst (λ (z : ℤ). Moves (deed_of noted.act) amount z) (sym same) moves))
+  by_case : (b : Bool) → MatchBool b (PostsMove (deed_of noted.act) amount t) (PostsMove (deed_of noted.act) amount t → ⊥) → MatchBool b (Obeys setting l (history_of ns) amount master) (Obeys setting l (history_of ns) amount master → ⊥)
+  by_case true good = obeys-found setting ns l amount master i noted brings is node (subst (λ (z : ℤ). PostsMove (deed_of noted.act) amount z) same good)
+  by_case false bad = obeys-not setting ns l amount master i noted brings is (λ e moves. bad (subst (λ (z : ℤ). PostsMove (deed_of noted.act) amount z) (sym same) moves))
 
 pub obeys-line : (setting : Setting) (l : Line) (h : List Line) (amount : ℤ) (s : Bool) (y : ℤ) (master : PeerId) (b : Bool) → l.did.deed ≡ Acts (Correct amount s y) → role (view l.port (of (node_of l) h)) ≡ Follow master →
     MatchBool b (Obeys setting l h amount master) (Obeys setting l h amount master → ⊥) → MatchBool b (ObeysAt setting l h) (ObeysAt setting l h → ⊥)
@@ -203,7 +189,7 @@ spaced-decides true l h a s y deed good = λ other older c d t u x z here w n th
 spaced-decides false l h a s y deed bad = λ f. bad (λ other older d u z w n there lived. f other older a d s u y z deed w n there lived)
 
 pub takes-decide : (ns : List HistoryLine) (l : Line) (i : ℕ) (noted : HistoryLine) (r : Option ℕ) → BringsAt ns l i → get_or ns i noted ≡ noted → ActsNow l (history_of ns) → IsNumbered (deed_of noted.act) →
-    IsPlaceOf noted.node noted.port (history_of (take (i + 1) ns)) (begun_to (peer_of (node_of l)) (view noted.port (of noted.node (history_of (take (i + 1) ns))))) r →
+    IsPostAt noted.node noted.port (history_of (take (i + 1) ns)) (begun_to (peer_of (node_of l)) (view noted.port (of noted.node (history_of (take (i + 1) ns))))) r →
     MatchOption r ((s : ℕ) → TakesSend l (history_of ns) s → ⊥) (λ s. TakesSend l (history_of ns) s)
 takes-decide ns l i noted None b is acts numbered none = λ s t. takes-unbegun ns l i noted s b is none t
 takes-decide ns l i noted (Some k) b is acts numbered told = takes-found ns l i noted k acts.amount acts.stepped acts.shown b is acts.correct acts.took numbered told

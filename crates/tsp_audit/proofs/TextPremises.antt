@@ -4,11 +4,8 @@ use Rattle.std.specs.List.{list_any}
 use Rattle.std.proofs.Common.{ap, subst}
 use Rattle.std.proofs.lemmas.Bool.{and_parts, eqb-false, leb-true, not-true, or_parts}
 use Rattle.tsp_audit.specs.Premised.{boots_with, forges, in_life, is_honest, keeps_life, repeats_word, takes_early, words_differ}
-use Rattle.tsp_base.specs.declared.constants.TheConstants.{LIFE}
-use Rattle.tsp_base.specs.declared.event.Event.{Event}
-use Rattle.tsp_base.specs.declared.event.Event.TheVariants.{Boot, Turn, Take, Bytes}
-use Rattle.tsp_base.specs.declared.place.Place.TheVariants.{Peer, Stranger}
-use Rattle.tsp_base.specs.Headers.{HeaderValue}
+use Rattle.tsp_rules.specs.Values.{Event, BootAt, Turn, Take, Bytes, Peer, Stranger, LIFE}
+use Rattle.tsp_base.specs.Words.{HeaderValue}
 use Rattle.tsp_claims.specs.declared.claimed.Claimed.{Claimed}
 use Rattle.tsp_claims.specs.ClaimedHistory.{posts_of}
 use Rattle.tsp_audit.specs.AuditedRuns.{claims_of}
@@ -21,7 +18,7 @@ use Rattle.tsp_audit.proofs.ClaimedPosts.{SamePost, get-ArePosts}
 use Rattle.tsp_audit.proofs.RunClaims.{told_are}
 
 is-sealed : (e : Event) → forges e ≡ false → IsSealed e
-is-sealed (Boot at node word) f = tt
+is-sealed (BootAt at node word) f = tt
 is-sealed (Turn at node) f = tt
 is-sealed (Take at k) f = tt
 is-sealed (Bytes at node port (Peer p) octets) f = let no : ⊥ = cc in no
@@ -34,7 +31,7 @@ sealed-text (e ∷ before) h =
     (is-sealed e (not-true (forges e) both.0), sealed-text before both.1)
 
 boots-otherwise : (w : ℕ) (e : Event) → boots_with w e ≡ false → BootsOtherwise w e
-boots-otherwise w (Boot at node word) f = λ same. eqb-false word w f same
+boots-otherwise w (BootAt at node word) f = λ same. eqb-false word w f same
 boots-otherwise w (Turn at node) f = tt
 boots-otherwise w (Take at k) f = tt
 boots-otherwise w (Bytes at node port from octets) f = tt
@@ -46,7 +43,7 @@ all-otherwise w (e ∷ before) f =
     (boots-otherwise w e parts.0, all-otherwise w before parts.1)
 
 is-apart : (e : Event) (before : List Event) → repeats_word e before ≡ false → IsApart e before
-is-apart (Boot at node word) before f = all-otherwise word before f
+is-apart (BootAt at node word) before f = all-otherwise word before f
 is-apart (Turn at node) before f = tt
 is-apart (Take at k) before f = tt
 is-apart (Bytes at node port from octets) before f = tt
@@ -63,7 +60,7 @@ early-post None q at same e = absurd same
 early-post (Some c) q at same e = subst (λ t. at ≤ t + LIFE) same.at (leb-true at (c.at + LIFE) e)
 
 is-prompt : (header : HeaderValue) (before : List Event) → Accepted header before → (e : Event) → takes_early (posts_of header (claims_of header before)) e ≡ true → IsPrompt header before e
-is-prompt header before a (Boot at node word) early = tt
+is-prompt header before a (BootAt at node word) early = tt
 is-prompt header before a (Turn at node) early = tt
 is-prompt header before a (Bytes at node port from octets) early = tt
 is-prompt header before a (Take at k) early = λ q there.

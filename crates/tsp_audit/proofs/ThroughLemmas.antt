@@ -15,9 +15,7 @@ use Rattle.tsp_audit.proofs.JudgeLemmas.{prefix-is}
 use Rattle.tsp_audit.proofs.NumberedLemmas.{AllName}
 use Rattle.tsp_promises.specs.Setting.{Setting}
 use Rattle.tsp_promises.proofs.EverywhereLemmas.{Everywhere-within}
-use Rattle.tsp_base.specs.Headers.{HeaderValue}
-use Rattle.tsp_base.specs.History.{Line}
-use Rattle.tsp_base.specs.Places.{Within}
+use Rattle.tsp_base.specs.Words.{HeaderValue, Line, Within}
 use Rattle.tsp_base.proofs.PlaceLemmas.{Within-all, Within-length, Within-through}
 use Rattle.tsp_claims.specs.ClaimedHistory.{Claim, claimed, events_of, posts_of, step_of}
 use Rattle.tsp_claims.specs.Listed.{NamesNode, booted}

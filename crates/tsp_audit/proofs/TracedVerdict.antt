@@ -8,9 +8,8 @@ use Rattle.tsp_audit.specs.declared.verdict.Verdict.TheVariants.{Holds, Fails}
 use Rattle.tsp_audit.specs.Parts.{Acting, Agreeing, AllKeep, Backing, Leading, Measuring}
 use Rattle.tsp_audit.specs.Premised.{forges, is_honest, keeps_life, premises_of, repeats_word, takes_early, words_differ}
 use Rattle.tsp_audit.specs.Verdicts.{AllHold, IsVerdict}
-use Rattle.tsp_base.specs.declared.event.Event.{Event}
-use Rattle.tsp_base.specs.Headers.{HeaderValue}
-use Rattle.tsp_base.specs.History.{Line}
+use Rattle.tsp_rules.specs.Values.{Event}
+use Rattle.tsp_base.specs.Words.{HeaderValue, Line}
 use Rattle.tsp_promises.specs.Premises.{Honest, Life, Words}
 use Rattle.tsp_promises.specs.Safe.{Safe}
 use Rattle.tsp_promises.specs.Setting.{Setting}

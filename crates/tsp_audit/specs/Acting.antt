@@ -3,20 +3,12 @@ use Rattle.std.specs.Prelude.{◌≡◌, ◌<◌, ◌≤◌, ℕ, ◌==◌, ℤ,
 use Rattle.std.specs.List.{list_any}
 use Rattle.tsp_audit.specs.declared.premises.Premises.{Premises}
 use Rattle.tsp_audit.specs.Parts.{AllKept}
-use Rattle.tsp_base.specs.declared.act.Act.TheVariants.{Correct, Post}
-use Rattle.tsp_base.specs.declared.datagram.Datagram.TheVariants.{Message}
-use Rattle.tsp_base.specs.declared.place.PeerId.{PeerId}
-use Rattle.tsp_base.specs.declared.place.Place.{Place}
-use Rattle.tsp_base.specs.declared.place.Place.TheVariants.{Peer}
+use Rattle.tsp_rules.specs.Values.{Post, Correct, Message, PeerId, Place, Peer}
+use Rattle.tsp_base.specs.Words.{Acts, Came, Deed, Did, Here, Line, Seen, dids, of, MessageValue, Within, is_correction, is_numbered, heard, peer_of, posted, time_in}
 use Rattle.tsp_promises.specs.CorrectFits.{amount_of}
 use Rattle.tsp_promises.specs.Fits.{node_of}
-use Rattle.tsp_base.specs.History.{Acts, Came, Deed, Did, Here, Line, Seen, dids, of}
-use Rattle.tsp_base.specs.Messages.{MessageValue}
 use Rattle.tsp_promises.specs.Once.{ActsOn, Brings, ConfirmedAt, ObeysAt, OfSend, OnceAt, SpacedAt}
-use Rattle.tsp_base.specs.Places.{Within}
-use Rattle.tsp_base.specs.SendFacts.{is_correction, is_numbered}
 use Rattle.tsp_promises.specs.Setting.{Setting}
-use Rattle.tsp_base.specs.Takings.{heard, peer_of, posted, time_in}
 use Rattle.tsp_history.specs.declared.line.HistoryLine.{HistoryLine}
 use Rattle.tsp_history.specs.Histories.{history_of, line_of}
 use Rattle.tsp_history.specs.Posts.{PostsAt}
@@ -50,7 +42,7 @@ pub record IsNumbered (deed : Deed) : Type 0 where
   pub numbered : is_numbered message.kind ≡ true
 
 -- a deed posts a correction that moves a clock with this target by this amount
-pub record Moves (deed : Deed) (amount target : ℤ) : Type 0 where
+pub record PostsMove (deed : Deed) (amount target : ℤ) : Type 0 where
   pub to : Place
   pub message : MessageValue
   pub is : deed ≡ Acts (Post to (Message message))

@@ -7,11 +7,7 @@ use Rattle.tsp_audit.specs.Changes.{IsQuiet}
 use Rattle.tsp_promises.specs.Agreed.{Cast, RightAfter, Unchanged}
 use Rattle.tsp_promises.specs.Everywhere.{Everywhere}
 use Rattle.tsp_promises.specs.Fits.{node_of}
-use Rattle.tsp_base.specs.Headers.{HeaderValue}
-use Rattle.tsp_base.specs.History.{Line, dids, from_act, of}
-use Rattle.tsp_base.specs.NodeFacts.{all_corrects, lives, moved}
-use Rattle.tsp_base.specs.Places.{Within}
-use Rattle.tsp_base.specs.Ticks.{tick_at, width}
+use Rattle.tsp_base.specs.Words.{HeaderValue, Line, dids, from_act, of, all_corrects, lives, moved, Within, tick_at, width}
 use Rattle.tsp_history.specs.Clocks.{IsSumOf}
 use Rattle.tsp_history.specs.declared.line.HistoryLine.{HistoryLine}
 use Rattle.tsp_history.specs.Histories.{deed_of}
@@ -90,13 +86,13 @@ pub record NodeIs (n : ℕ) (h : List Line) (s : NodeState) : Type 0 where
   pub cast_is : LiveIs n h s.cast
 
 -- this is the k-th of a list
-pub record IsAt (states : List NodeState) (k : ℕ) (s : NodeState) : Type 0 where
+pub record IsAtPlace (states : List NodeState) (k : ℕ) (s : NodeState) : Type 0 where
   pub below : k < length states
   pub is : get_or states k s ≡ s
 
 -- what is remembered of each node is what a history comes to
 abbrev pub AllAre : List Line → List NodeState → Type 0
-AllAre h states = (n : ℕ) (s : NodeState) → IsAt states n s → NodeIs n h s
+AllAre h states = (n : ℕ) (s : NodeState) → IsAtPlace states n s → NodeIs n h s
 
 -- a tracker of this many nodes stands for a history
 pub record AccordIs (count : ℕ) (h : List Line) (a : AgreementTracker) : Type 0 where
@@ -120,38 +116,38 @@ abbrev pub PairAgrees : HeaderValue → ℕ → ℕ → NodeState → ℕ → No
 PairAgrees header t n a k b = (c d : RoundCorrection) → a.cast ≡ Some c → b.cast ≡ Some d → c.master ≡ d.master → c.close ≡ d.close → PairNear header t n a c k b d
 
 -- since the Close of a cast its master has neither booted nor moved its clock, but by the Correct that is the next act
-abbrev pub Stands : RoundCorrection → NodeState → Type 0
-Stands c b = (c.lives ≡ b.lives) × ((c.corrects ≡ b.corrects) ⊎ (b.after ≡ Some c.close))
+abbrev pub CastStands : RoundCorrection → NodeState → Type 0
+CastStands c b = (c.lives ≡ b.lives) × ((c.corrects ≡ b.corrects) ⊎ (b.after ≡ Some c.close))
 
 -- a node that a Close corrected and its master differ by at most the error and drift
 abbrev pub MasterNear : HeaderValue → ℕ → ℕ → NodeState → RoundCorrection → NodeState → Type 0
 MasterNear header t n a c b = pos (nat_abs (shown_by header n a.moved t -ℤ shown_by header c.master b.moved t)) ≤ℤ (c.err +ℤ pos (2 * width header.drift (t - c.at)))
 
--- the same, where the master was left alone since its Close, as `Stands` says
+-- the same, where the master was left alone since its Close, as `CastStands` says
 abbrev pub BossAgrees : HeaderValue → ℕ → ℕ → NodeState → List NodeState → Type 0
-BossAgrees header t n a states = (c : RoundCorrection) (b : NodeState) → a.cast ≡ Some c → IsAt states c.master b → Stands c b → MasterNear header t n a c b
+BossAgrees header t n a states = (c : RoundCorrection) (b : NodeState) → a.cast ≡ Some c → IsAtPlace states c.master b → CastStands c b → MasterNear header t n a c b
 
 -- a node agrees with each that the same Close corrected, and with its master
 pub record NodeAgrees (header : HeaderValue) (t n : ℕ) (a : NodeState) (states : List NodeState) : Type 0 where
-  pub pairs : (k : ℕ) (b : NodeState) → IsAt states k b → PairAgrees header t n a k b
+  pub pairs : (k : ℕ) (b : NodeState) → IsAtPlace states k b → PairAgrees header t n a k b
   pub master : BossAgrees header t n a states
 
 -- a node agrees with each up to itself that the same Close corrected
 abbrev pub PairsAgree : HeaderValue → ℕ → ℕ → NodeState → List NodeState → Type 0
-PairsAgree header t n a states = (k : ℕ) (b : NodeState) → k ≤ n → IsAt states k b → PairAgrees header t n a k b
+PairsAgree header t n a states = (k : ℕ) (b : NodeState) → k ≤ n → IsAtPlace states k b → PairAgrees header t n a k b
 
 -- a node agrees with each up to itself that the same Close corrected, and with its master
 pub record AgreesBack (header : HeaderValue) (t n : ℕ) (a : NodeState) (states : List NodeState) : Type 0 where
-  pub pairs : (k : ℕ) (b : NodeState) → k ≤ n → IsAt states k b → PairAgrees header t n a k b
+  pub pairs : (k : ℕ) (b : NodeState) → k ≤ n → IsAtPlace states k b → PairAgrees header t n a k b
   pub master : BossAgrees header t n a states
 
 -- each of these nodes agrees with all
 abbrev pub AllAgree : HeaderValue → ℕ → List NodeState → Type 0
-AllAgree header t states = (n : ℕ) (a : NodeState) → IsAt states n a → NodeAgrees header t n a states
+AllAgree header t states = (n : ℕ) (a : NodeState) → IsAtPlace states n a → NodeAgrees header t n a states
 
 -- the corrections of each of these nodes come to no more than 2^32 - 1 signed amounts of 64 bits can
 abbrev pub AllBounded : List NodeState → Type 0
-AllBounded states = (n : ℕ) (a : NodeState) → IsAt states n a → IsSumOf 4294967295 a.moved
+AllBounded states = (n : ℕ) (a : NodeState) → IsAtPlace states n a → IsSumOf 4294967295 a.moved
 
 -- what was known at this time is known after the line: it is of the same time, and quiet
 pub record StaysKnown (known : Bool) (time : ℕ) (line : HistoryLine) : Type 0 where
@@ -162,4 +158,4 @@ pub record StaysKnown (known : Bool) (time : ℕ) (line : HistoryLine) : Type 0 
 -- this many nodes of which nothing is known
 pub record AreBlank (count : ℕ) (states : List NodeState) : Type 0 where
   pub many : length states ≡ count
-  pub blank : (k : ℕ) (s : NodeState) → IsAt states k s → (n : ℕ) → NodeIs n [] s
+  pub blank : (k : ℕ) (s : NodeState) → IsAtPlace states k s → (n : ℕ) → NodeIs n [] s

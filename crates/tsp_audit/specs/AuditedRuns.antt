@@ -4,9 +4,9 @@ use Rattle.tsp_audit.specs.declared.verdict.Verdict.{Verdict}
 use Rattle.tsp_audit.specs.declared.verdict.Verdict.TheVariants.{Holds}
 use Rattle.tsp_audit.specs.Premised.{premises_of}
 use Rattle.tsp_audit.specs.Verdicts.{IsVerdict}
-use Rattle.tsp_base.specs.declared.event.Event.{Event}
+use Rattle.tsp_rules.specs.Values.{Event, Line2}
+use Rattle.tsp_base.specs.Words.{HeaderValue, is_whole}
 use Rattle.tsp_promises.specs.Everywhere.{Everywhere}
-use Rattle.tsp_base.specs.Headers.{HeaderValue, is_whole}
 use Rattle.tsp_promises.specs.Setting.{Setting}
 use Rattle.tsp_claims.specs.ClaimedHistory.{Claim, claimed}
 use Rattle.tsp_claims.specs.Fitting.{Fit}
@@ -15,7 +15,6 @@ use Rattle.tsp_run.specs.declared.line.Line.{Line as ToldLine}
 use Rattle.tsp_run.specs.Ranges.{Accepted}
 use Rattle.tsp_run.specs.Run.{gained, run}
 use Rattle.tsp_run.specs.Setting.{SetBy}
-use Rattle.tsp_base.specs.declared.trace.Line2.{Line2}
 
 -- the number of a post, and 0 for any other act
 abbrev pub number_or_zero : Option ℕ → ℕ

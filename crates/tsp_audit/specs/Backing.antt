@@ -1,15 +1,7 @@
 -- Which candidates have backed themselves.
 use Rattle.std.specs.Prelude.{◌≡◌, ℕ, ◌==◌, Bool, true, false, not, List, Option, None, Some}
-use Rattle.tsp_base.specs.declared.act.Act.TheVariants.{Become, Post}
-use Rattle.tsp_base.specs.declared.datagram.Datagram.TheVariants.{Message}
-use Rattle.tsp_base.specs.declared.kind.Kind.{Kind}
-use Rattle.tsp_base.specs.declared.kind.Kind.TheVariants.{Accept, Election}
-use Rattle.tsp_base.specs.declared.place.PeerId.{PeerId}
-use Rattle.tsp_base.specs.declared.place.Place.{Place}
-use Rattle.tsp_base.specs.declared.place.Place.TheVariants.{Peer, Stranger}
-use Rattle.tsp_base.specs.declared.place.Port.{Port}
-use Rattle.tsp_base.specs.declared.role.Role.TheVariants.{Candidate}
-use Rattle.tsp_base.specs.History.{Acts, Deed, Line, of, view}
+use Rattle.tsp_rules.specs.Values.{Post, Become, Message, Kind, Accept, Election, PeerId, Place, Peer, Stranger, Port, Candidate}
+use Rattle.tsp_base.specs.Words.{Acts, Deed, Line, of, view}
 use Rattle.tsp_promises.specs.OneBack.{BacksAt, HoldsAt}
 use Rattle.tsp_promises.specs.StepFacts.{is_unbacked}
 

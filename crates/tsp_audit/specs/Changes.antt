@@ -1,8 +1,7 @@
 -- Deeds that move a clock, and those that don't.
 use Rattle.std.specs.Prelude.{◌≡◌, ℕ, ℤ, Bool}
-use Rattle.tsp_base.specs.declared.act.Act.TheVariants.{Correct}
-use Rattle.tsp_base.specs.History.{Acts, Deed}
-use Rattle.tsp_base.specs.NodeFacts.{all_corrects_after, lives_after}
+use Rattle.tsp_rules.specs.Values.{Correct}
+use Rattle.tsp_base.specs.Words.{Acts, Deed, all_corrects_after, lives_after}
 
 -- a deed corrects its node's clock
 pub record IsCorrect (deed : Deed) : Type 0 where

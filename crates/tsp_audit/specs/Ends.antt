@@ -1,7 +1,6 @@
 -- Where the lines of each event end in a claimed history, of which the newest claim is the first.
 use Rattle.std.specs.Prelude.{◌≡◌, ◌≤◌, ℕ, List, ◌∷◌, length, get_or}
-use Rattle.tsp_base.specs.Headers.{HeaderValue}
-use Rattle.tsp_base.specs.Places.{Within}
+use Rattle.tsp_base.specs.Words.{HeaderValue, Within}
 use Rattle.tsp_promises.specs.Everywhere.{Everywhere}
 use Rattle.tsp_claims.specs.ClaimedHistory.{Claim, claimed}
 use Rattle.tsp_claims.specs.Listed.{NamesNode}

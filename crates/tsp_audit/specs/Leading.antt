@@ -1,9 +1,7 @@
 -- Where a line asks that its port leads.
 use Rattle.std.specs.Prelude.{Bool, true, false, List, [], ◌∷◌}
-use Rattle.tsp_base.specs.declared.act.Act.TheVariants.{Post, Close, Correct}
-use Rattle.tsp_base.specs.declared.datagram.Datagram.TheVariants.{Message}
-use Rattle.tsp_base.specs.History.{Deed, Acts, Line, from_act}
-use Rattle.tsp_base.specs.SendFacts.{is_correction}
+use Rattle.tsp_rules.specs.Values.{Post, Close, Correct, Message}
+use Rattle.tsp_base.specs.Words.{Deed, Acts, Line, from_act, is_correction}
 
 abbrev pub is_close : Deed → Bool
 is_close (Acts (Close count lo size mean)) = true

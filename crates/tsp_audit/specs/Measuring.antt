@@ -1,17 +1,10 @@
 -- What a Sample is measured by.
 use Rattle.std.specs.Prelude.{◌≡◌, ◌<◌, ℕ, ℤ, pos, ◌-ℤ◌, ◌≤ℤ◌, nat_abs, List, ◌∷◌, length, get_or, take}
-use Rattle.tsp_base.specs.declared.act.Act.TheVariants.{Post}
-use Rattle.tsp_base.specs.declared.datagram.Datagram.TheVariants.{Stamp}
-use Rattle.tsp_base.specs.declared.place.PeerId.{PeerId}
-use Rattle.tsp_base.specs.declared.place.Place.TheVariants.{Peer}
-use Rattle.tsp_base.specs.declared.stamp.Stamp.TheVariants.{Reply}
+use Rattle.tsp_rules.specs.Values.{Post, Stamp, PeerId, Peer, Reply}
+use Rattle.tsp_base.specs.Words.{Acts, Came, Line, dids, Within, ReplyValue, peer_of, posted}
 use Rattle.tsp_promises.specs.Fits.{node_of}
-use Rattle.tsp_base.specs.History.{Acts, Came, Line, dids}
 use Rattle.tsp_promises.specs.Measured.{MeasuredAt, TripAt}
-use Rattle.tsp_base.specs.Places.{Within}
 use Rattle.tsp_promises.specs.Setting.{Setting}
-use Rattle.tsp_base.specs.Stamps.{ReplyValue}
-use Rattle.tsp_base.specs.Takings.{peer_of, posted}
 use Rattle.tsp_history.specs.declared.line.HistoryLine.{HistoryLine}
 use Rattle.tsp_history.specs.Histories.{history_of, line_of}
 
@@ -33,8 +26,8 @@ pub record RepliesAt (ns : List HistoryLine) (l : Line) (p : PeerId) (i : ℕ) :
   pub replies : (noted : HistoryLine) → get_or ns i noted ≡ noted → Replies l (history_of ns) p (line_of noted) (history_of (take i ns))
 
 -- one clock is ahead of another by diff, give or take err
-abbrev pub IsNear : ℤ → ℤ → ℤ → ℤ → Type 0
-IsNear diff err ahead own = pos (nat_abs (diff -ℤ (ahead -ℤ own))) ≤ℤ err
+abbrev pub IsWithinError : ℤ → ℤ → ℤ → ℤ → Type 0
+IsWithinError diff err ahead own = pos (nat_abs (diff -ℤ (ahead -ℤ own))) ≤ℤ err
 
 -- what the promise about measurements asks of a line
 pub record MeasuresAt (setting : Setting) (l : Line) (h : List Line) : Type 0 where

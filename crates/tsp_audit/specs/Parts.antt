@@ -2,7 +2,7 @@
 use Rattle.std.specs.Prelude.{◌≡◌, true, ℕ, List}
 use Rattle.tsp_audit.specs.declared.premises.Premises.{Premises}
 use Rattle.tsp_promises.specs.Agreed.{Agreed}
-use Rattle.tsp_base.specs.History.{Line}
+use Rattle.tsp_base.specs.Words.{Line}
 use Rattle.tsp_promises.specs.Measured.{Measured, Trips}
 use Rattle.tsp_promises.specs.Once.{OnceConfirmed, OnceObeyed, OnceSpaced, OnceTaken}
 use Rattle.tsp_promises.specs.OneBack.{OneBack}
@@ -51,13 +51,13 @@ pub record MeasuresWell (setting : Setting) (h : List Line) : Type 0 where
   pub trips : Trips h
 
 -- what a part asks of a history, as far as the schedule keeps the premises that it needs
-abbrev pub Keeps : Premises → Setting → Part → List Line → Type 0
-Keeps premises setting Backing h = OneBack h
-Keeps premises setting Leading h = OnlyMaster h
-Keeps premises setting Acting h = ActsOnce premises setting h
-Keeps premises setting Measuring h = premises.honest ≡ true → premises.words ≡ true → MeasuresWell setting h
-Keeps premises setting Agreeing h = AllKept premises → Agreed setting h
+abbrev pub PartHolds : Premises → Setting → Part → List Line → Type 0
+PartHolds premises setting Backing h = OneBack h
+PartHolds premises setting Leading h = OnlyMaster h
+PartHolds premises setting Acting h = ActsOnce premises setting h
+PartHolds premises setting Measuring h = premises.honest ≡ true → premises.words ≡ true → MeasuresWell setting h
+PartHolds premises setting Agreeing h = AllKept premises → Agreed setting h
 
 -- all parts hold
 abbrev pub AllKeep : Premises → Setting → List Line → Type 0
-AllKeep premises setting h = (part : Part) → Keeps premises setting part h
+AllKeep premises setting h = (part : Part) → PartHolds premises setting part h

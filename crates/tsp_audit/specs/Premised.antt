@@ -3,11 +3,8 @@ use Rattle.std.specs.Prelude.{ℕ, ◌+◌, ◌==◌, Bool, true, false, not, �
 use Rattle.std.specs.Prelude.{nat_le}
 use Rattle.std.specs.List.{list_any}
 use Rattle.tsp_audit.specs.declared.premises.Premises.{Premises}
-use Rattle.tsp_base.specs.declared.constants.TheConstants.{LIFE}
-use Rattle.tsp_base.specs.declared.event.Event.{Event}
-use Rattle.tsp_base.specs.declared.event.Event.TheVariants.{Boot, Take, Bytes}
-use Rattle.tsp_base.specs.declared.place.Place.TheVariants.{Peer}
-use Rattle.tsp_base.specs.Headers.{HeaderValue}
+use Rattle.tsp_rules.specs.Values.{Event, BootAt, Take, Bytes, Peer, LIFE}
+use Rattle.tsp_base.specs.Words.{HeaderValue}
 use Rattle.tsp_claims.specs.declared.claimed.Claimed.{Claimed}
 use Rattle.tsp_claims.specs.ClaimedHistory.{Claim, events_of, posts_of}
 
@@ -39,12 +36,12 @@ keeps_life header (c ∷ before) = takes_early (posts_of header before) c.event 
 
 -- whether an event is a boot with this word
 abbrev pub boots_with : ℕ → Event → Bool
-boots_with w (Boot at node word) = word == w
+boots_with w (BootAt at node word) = word == w
 boots_with w _ = false
 
 -- whether an event is a boot with the word of a boot among these
 abbrev pub repeats_word : Event → List Event → Bool
-repeats_word (Boot at node word) events = list_any (boots_with word) events
+repeats_word (BootAt at node word) events = list_any (boots_with word) events
 repeats_word _ events = false
 
 -- the words of any two boots differ

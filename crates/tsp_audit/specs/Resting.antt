@@ -1,8 +1,7 @@
 -- What the last Close of a step had.
 use Rattle.std.specs.Prelude.{◌≡◌, true, List, ◌∷◌, is_some}
-use Rattle.tsp_base.specs.declared.place.PeerId.{PeerId}
-use Rattle.tsp_base.specs.History.{Did, Here, Seen}
-use Rattle.tsp_base.specs.RoundFacts.{best}
+use Rattle.tsp_rules.specs.Values.{PeerId}
+use Rattle.tsp_base.specs.Words.{Did, Here, Seen, best}
 use Rattle.tsp_promises.specs.StepFacts.{closed}
 
 -- the last Close of the step, if there is one, had a sample of p

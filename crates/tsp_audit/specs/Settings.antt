@@ -1,11 +1,8 @@
 -- What a verdict takes from a schedule's header.
 use Rattle.std.specs.Prelude.{◌≡◌, ℕ, ◌≤◌, ℤ, pos, ◌+ℤ◌, List}
 use Rattle.tsp_promises.specs.Everywhere.{Everywhere}
-use Rattle.tsp_base.specs.Headers.{HeaderValue}
-use Rattle.tsp_base.specs.History.{Line, dids, of}
-use Rattle.tsp_base.specs.NodeFacts.{moved}
+use Rattle.tsp_base.specs.Words.{HeaderValue, Line, dids, of, moved, tick_at}
 use Rattle.tsp_promises.specs.Setting.{Setting}
-use Rattle.tsp_base.specs.Ticks.{tick_at}
 use Rattle.tsp_run.specs.Setup.{node_line}
 
 -- a setting has the header's drift, rates and walls

@@ -2,9 +2,8 @@
 use Rattle.tsp_audit.specs.declared.small_event.Handed.{Handed}
 use Rattle.tsp_audit.specs.declared.small_event.Held.{Held}
 use Rattle.tsp_audit.specs.declared.small_event.Held.TheVariants.{Boxed, Plain}
-use Rattle.tsp_base.specs.declared.event.Event.{Event}
-use Rattle.tsp_base.specs.declared.event.Event.TheVariants.{Bytes}
-use Rattle.tsp_base.specs.Plains.{event_in}
+use Rattle.tsp_rules.specs.Values.{Event, Bytes}
+use Rattle.tsp_base.specs.Words.{event_in}
 
 -- the event that hands these octets to a node
 abbrev pub handing : Handed → Event

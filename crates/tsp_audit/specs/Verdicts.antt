@@ -12,10 +12,9 @@ use Rattle.tsp_audit.specs.Judged.{FailsNow}
 use Rattle.tsp_audit.specs.Notes.{NotesStand}
 use Rattle.tsp_audit.specs.Parts.{AllKeep}
 use Rattle.tsp_audit.specs.Settings.{HasClocks, Timely}
-use Rattle.tsp_base.specs.declared.event.Event.{Event}
+use Rattle.tsp_rules.specs.Values.{Event, Line2}
+use Rattle.tsp_base.specs.Words.{HeaderValue, Within}
 use Rattle.tsp_promises.specs.Everywhere.{Everywhere}
-use Rattle.tsp_base.specs.Headers.{HeaderValue}
-use Rattle.tsp_base.specs.Places.{Within}
 use Rattle.tsp_promises.specs.Setting.{Setting}
 use Rattle.tsp_claims.specs.declared.audit_fault.AuditFault.{AuditFault}
 use Rattle.tsp_claims.specs.declared.audit_fault.AuditFault.TheVariants.{History, OutOfMemory}
@@ -23,7 +22,6 @@ use Rattle.tsp_claims.specs.ClaimedHistory.{Claim, claimed}
 use Rattle.tsp_claims.specs.Fitting.{Fit, Misfit}
 use Rattle.tsp_claims.specs.Listed.{NamesNode}
 use Rattle.tsp_claims.specs.Stands.{ClaimsStand, claim_of}
-use Rattle.tsp_base.specs.declared.trace.Line2.{Line2}
 
 -- all parts hold up to each of these events, and before the first event
 abbrev pub AllHold : Premises → Setting → HeaderValue → List Claim → Type 0

@@ -9,7 +9,7 @@ ghost use Rattle.tsp_promises.specs.Setting.{Setting};
 ghost use Rattle.tsp_base.specs.Takings.{time_in};
 ghost use Rattle.tsp_audit.specs.Parts.{ActsOnce, AllKept};
 ghost use Rattle.tsp_audit.specs.Settings.{HasClocks, Timely};
-ghost use Rattle.tsp_audit.specs.Acting.{ActedIs, ActsAt, ActsNow, Corrects, IsNumbered, Moves};
+ghost use Rattle.tsp_audit.specs.Acting.{ActedIs, ActsAt, ActsNow, Corrects, IsNumbered, PostsMove};
 ghost use Rattle.tsp_audit.specs.Acting.{TakesAs, TakesSend, TakesWell, deed_corrects, is_unknown};
 ghost use Rattle.tsp_audit.specs.Acting.{with_send};
 ghost use Rattle.tsp_history.specs.Clocks.{IsSmall};
@@ -63,8 +63,8 @@ fn amount_of(kind: Kind, body: Body, target: i128) -> i128
 /// Whether a line posts a correction that moves a clock with this target by this amount, both in microseconds.
 fn moves(post: &HistoryLine, amount: i64, target: i128) -> bool
     requires { IsSmall target }
-    ensures { MatchBool result (Moves (deed_of post.now.act) amount target)
-        (Moves (deed_of post.now.act) amount target → ⊥) }
+    ensures { MatchBool result (PostsMove (deed_of post.now.act) amount target)
+        (PostsMove (deed_of post.now.act) amount target → ⊥) }
 {
     match post.act.brief() {
         Brief::PostMessage(_, kind, _, body) => {

@@ -2,7 +2,7 @@
 ghost use Rattle.std.specs.Prelude.{◌≡◌, ◌≤◌, ◌<◌, ◌+◌, ◌-◌, List, [], true, None, length, vec_len, vec_capacity, IfOk};
 ghost use Rattle.tsp_audit.specs.Ends.{AreDated, EndsAt};
 ghost use Rattle.tsp_audit.specs.Looking.{Finds, Grown};
-ghost use Rattle.tsp_audit.specs.Notes.{HasRoom, NotesStand};
+ghost use Rattle.tsp_audit.specs.Notes.{HasLineRoom, NotesStand};
 ghost use Rattle.tsp_base.specs.Headers.{HeaderValue, is_whole};
 ghost use Rattle.tsp_base.specs.History.{Line};
 ghost use Rattle.tsp_claims.specs.ClaimedHistory.{Claim, claimed};
@@ -30,7 +30,7 @@ fn find(
     ensures { (header : HeaderValue) (new : List Claim) (h : List Line)
         → ClaimsStand header new claims.now
         → Grown (length header.nodes) h (claimed header new) from
-        → HasRoom (length (claimed header new) - from) notes.old
+        → HasLineRoom (length (claimed header new) - from) notes.old
         → (failed ≡ None → NotesStand premises (length header.nodes) h notes.old)
         → Finds premises header new h failed notes.new result }
 {

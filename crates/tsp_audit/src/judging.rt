@@ -5,7 +5,7 @@ ghost use Rattle.tsp_promises.specs.Setting.{Setting};
 ghost use Rattle.tsp_history.specs.Histories.{history_of};
 ghost use Rattle.tsp_history.specs.Notes.{Told};
 ghost use Rattle.tsp_audit.specs.Agreeing.{AccordIs, Numbered};
-ghost use Rattle.tsp_audit.specs.Parts.{Agreeing, AllKept, Keeps};
+ghost use Rattle.tsp_audit.specs.Parts.{Agreeing, AllKept, PartHolds};
 ghost use Rattle.tsp_audit.specs.Settings.{HasClocks, Timely};
 
 use crate::acting::keeps_acting;
@@ -35,9 +35,9 @@ fn keeps_agreeing_if(
         → Timely (history_of lines.now) → Numbered count (history_of lines.now)
         → vec_len accord.old.trips + (length lines.now - from) ≤ vec_capacity accord.old.trips
         → (AllKept premises → AccordIs count (history_of (take from lines.now)) accord.old)
-        → Keeps premises setting Agreeing (history_of (take from lines.now))
-        → MatchBool result (Keeps premises setting Agreeing (history_of lines.now))
-        (Keeps premises setting Agreeing (history_of lines.now) → ⊥) }
+        → PartHolds premises setting Agreeing (history_of (take from lines.now))
+        → MatchBool result (PartHolds premises setting Agreeing (history_of lines.now))
+        (PartHolds premises setting Agreeing (history_of lines.now) → ⊥) }
     ensures accord { (count : ℕ) → AllKept premises → result ≡ true
         → vec_len accord.old.trips + (length lines.now - from) ≤ vec_capacity accord.old.trips
         → AccordIs count (history_of (take from lines.now)) accord.old
@@ -50,8 +50,8 @@ fn keeps_agreeing_if(
     }
 }
 
-ghost use Rattle.tsp_audit.specs.Judged.{Judges};
-ghost use Rattle.tsp_audit.specs.Notes.{HasRoom, NotesStand};
+ghost use Rattle.tsp_audit.specs.Judged.{JudgesParts};
+ghost use Rattle.tsp_audit.specs.Notes.{HasLineRoom, NotesStand};
 ghost use Rattle.tsp_audit.specs.Parts.{AllKeep};
 
 /// The number of the least part that fails of all lines, where all parts hold of those before
@@ -69,11 +69,11 @@ pub(crate) fn judge(
     requires told { Told lines.now }
     ensures judges { (setting : Setting) (count : ℕ) → HasClocks header.now setting
         → Timely (history_of lines.now) → Numbered count (history_of lines.now)
-        → HasRoom (length lines.now - from) notes.old
+        → HasLineRoom (length lines.now - from) notes.old
         → NotesStand premises count (history_of (take from lines.now)) notes.old
         → AllKeep premises setting (history_of (take from lines.now))
-        → Judges premises setting (history_of lines.now) result }
-    ensures notes { (count : ℕ) → result ≡ None → HasRoom (length lines.now - from) notes.old
+        → JudgesParts premises setting (history_of lines.now) result }
+    ensures notes { (count : ℕ) → result ≡ None → HasLineRoom (length lines.now - from) notes.old
         → NotesStand premises count (history_of (take from lines.now)) notes.old
         → NotesStand premises count (history_of lines.now) notes.new }
 {

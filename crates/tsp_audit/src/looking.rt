@@ -3,7 +3,7 @@ ghost use Rattle.std.specs.Prelude.{◌≡◌, ◌<◌, ◌+◌, ◌-◌, ◌∷
 ghost use Rattle.tsp_claims.specs.ClaimedHistory.{Claim, claimed};
 ghost use Rattle.tsp_history.specs.Notes.{Told};
 ghost use Rattle.tsp_audit.specs.Looking.{Grown, Looks};
-ghost use Rattle.tsp_audit.specs.Notes.{HasRoom, NotesStand};
+ghost use Rattle.tsp_audit.specs.Notes.{HasLineRoom, NotesStand};
 ghost use Rattle.tsp_base.specs.History.{Line};
 ghost use Rattle.tsp_history.specs.Histories.{history_of};
 
@@ -32,7 +32,7 @@ pub(crate) fn look(
     ensures { (new : List Claim) (h : List Line)
         → history_of lines.now ≡ claimed header.now new → event ≡ length new
         → Grown (length header.now.nodes) h (claimed header.now new) from
-        → HasRoom (length (claimed header.now new) - from) notes.old
+        → HasLineRoom (length (claimed header.now new) - from) notes.old
         → NotesStand premises (length header.now.nodes) h notes.old
         → Looks premises header.now new h notes.new result }
 {

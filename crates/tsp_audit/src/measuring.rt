@@ -4,8 +4,8 @@ ghost use Rattle.tsp_base.specs.History.{Line, of, view};
 ghost use Rattle.tsp_promises.specs.Measured.{MeasuredAt, ReadBy, TripAt, TripOf};
 ghost use Rattle.tsp_base.specs.Samples.{half_down, half_up};
 ghost use Rattle.tsp_promises.specs.Setting.{Setting};
-ghost use Rattle.tsp_audit.specs.Measuring.{IsNear, MeasuresAt, Replies, RepliesAt, RepliesTo};
-ghost use Rattle.tsp_audit.specs.Parts.{Keeps, Measuring, MeasuresWell};
+ghost use Rattle.tsp_audit.specs.Measuring.{IsWithinError, MeasuresAt, Replies, RepliesAt, RepliesTo};
+ghost use Rattle.tsp_audit.specs.Parts.{PartHolds, Measuring, MeasuresWell};
 ghost use Rattle.tsp_audit.specs.Settings.{HasClocks, Timely};
 ghost use Rattle.tsp_history.specs.Clocks.{IsSmall, IsTrip};
 ghost use Rattle.tsp_history.specs.Histories.{line_of, history_of};
@@ -69,7 +69,7 @@ fn gap(ahead: i128, own: i128) -> i128
 fn stands_ahead(diff: i64, err: i64, ahead: i128, own: i128) -> bool
     requires ahead { IsSmall ahead }
     requires own { IsSmall own }
-    ensures { MatchBool result (IsNear diff err ahead own) (IsNear diff err ahead own → ⊥) }
+    ensures { MatchBool result (IsWithinError diff err ahead own) (IsWithinError diff err ahead own → ⊥) }
 {
     is_near(i128::from(diff), gap(ahead, own), i128::from(err))
 }
@@ -234,9 +234,9 @@ pub(crate) fn keeps_measuring_if(
     requires few { length lines.now < 2 ^ 32 }
     requires told { Told lines.now }
     ensures { (setting : Setting) → HasClocks header.now setting → Timely (history_of lines.now)
-        → Keeps premises setting Measuring (history_of (take from lines.now))
-        → MatchBool result (Keeps premises setting Measuring (history_of lines.now))
-        (Keeps premises setting Measuring (history_of lines.now) → ⊥) }
+        → PartHolds premises setting Measuring (history_of (take from lines.now))
+        → MatchBool result (PartHolds premises setting Measuring (history_of lines.now))
+        (PartHolds premises setting Measuring (history_of lines.now) → ⊥) }
 {
     if premises.honest && premises.words {
         keeps_measuring(header, lines, from)

@@ -1,7 +1,7 @@
 //! Whether clocks that one round corrected agree.
 ghost use Rattle.std.specs.Prelude.{◌≡◌, ◌≤◌, ◌<◌, ◌≤ℤ◌, ◌-ℤ◌, pos, nat_abs, ℕ, length, Some};
 ghost use Rattle.tsp_audit.specs.Agreeing.{AgreesBack, AllAgree, AllBounded, BossAgrees, MasterNear};
-ghost use Rattle.tsp_audit.specs.Agreeing.{PairAgrees, PairNear, PairsAgree, Stands};
+ghost use Rattle.tsp_audit.specs.Agreeing.{PairAgrees, PairNear, PairsAgree, CastStands};
 ghost use Rattle.tsp_audit.specs.Standings.{IsWhether, OfNode, OfPair, StandsAs};
 ghost use Rattle.tsp_audit.specs.declared.round_correction.NodeState.{NodeState as NodeValue};
 ghost use Rattle.tsp_audit.specs.declared.round_correction.RoundCorrection.{RoundCorrection as CorrectionValue};
@@ -86,7 +86,7 @@ fn pairs_agree(node: usize, a: &NodeState, states: &[NodeState], stand: &[Standi
 /// Whether the master of a cast, a Correct that its Close sent, has neither booted nor corrected
 /// its clock since that Close, but for a Correct that is the next act.
 fn stands(c: &RoundCorrection, b: &NodeState) -> bool
-    ensures { IsWhether result (Stands c.now b.now) }
+    ensures { IsWhether result (CastStands c.now b.now) }
 {
     if c.lives != b.lives {
         return false;

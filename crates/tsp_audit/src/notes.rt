@@ -16,7 +16,7 @@ pub(crate) struct Notes {
 }
 
 impl Notes {
-    ghost use Rattle.tsp_audit.specs.Notes.{HasRoom, NotesStand};
+    ghost use Rattle.tsp_audit.specs.Notes.{HasLineRoom, NotesStand};
 
     /// Nothing is noted of so many nodes. Fails only if out of memory.
     pub(crate) fn new(alloc: Global, count: usize) -> Result<Notes, AllocError>
@@ -35,7 +35,7 @@ impl Notes {
 
     /// Makes room for so many lines more. Fails only if out of memory; either way the notes stand for what they did.
     pub(crate) fn make_room(&mut self, lines: usize) -> Result<(), AllocError>
-        ensures room { OnOk result (HasRoom lines self.new) }
+        ensures room { OnOk result (HasLineRoom lines self.new) }
         ensures stand { (premises : Premises) (count : ℕ) (h : List Line)
             → NotesStand premises count h self.old → NotesStand premises count h self.new }
     {

@@ -7,11 +7,8 @@ use Rattle.std.proofs.Math.Seq.{drop-append_seam, get_or-append_seam, take-appen
 use Rattle.tsp_audit.specs.Ends.{EndsAt}
 use Rattle.tsp_base.specs.declared.act.Placed.{Placed}
 use Rattle.tsp_base.specs.declared.event.Event.{Event}
-use Rattle.tsp_base.specs.declared.event.Event.TheVariants.{Boot, Turn, Take, Bytes}
-use Rattle.tsp_base.specs.Headers.{HeaderValue}
-use Rattle.tsp_base.specs.History.{Acts, Begins, Line, Step}
-use Rattle.tsp_base.specs.Joins.{first_port, joined, line_of}
-use Rattle.tsp_base.specs.Places.{Within}
+use Rattle.tsp_base.specs.declared.event.Event.TheVariants.{Boot as BootAt, Turn, Take, Bytes}
+use Rattle.tsp_base.specs.Words.{HeaderValue, Acts, Begins, Line, Step, first_port, joined, line_of, Within}
 use Rattle.tsp_base.proofs.PlaceLemmas.{Within-length}
 use Rattle.tsp_audit_command.specs.Sound.{acts_in, claims_by, claims_on, first_end, placed_by}
 use Rattle.tsp_claims.specs.declared.claimed.Claimed.{Claimed}
@@ -67,7 +64,7 @@ unfit-none header posts up number e t (Some step) l is f = let bad : ⊥ = cc in
 -- an event of which lines fit makes a step, unless there are none
 no-step : (header : HeaderValue) (before : List Claim) (e : Event) (lines : List Line2) → Fit header before e lines → step_of header (posts_of header before) (booted (events_of before)) e (acts_of lines) ≡ None → acts_of lines ≡ []
 no-step header before e [] fit none = refl
-no-step header before (Boot at node word) (l ∷ rest) fit none = let bad : ⊥ = cc in absurd bad
+no-step header before (BootAt at node word) (l ∷ rest) fit none = let bad : ⊥ = cc in absurd bad
 no-step header before (Turn at node) (l ∷ rest) fit none = let bad : ⊥ = cc in absurd bad
 no-step header before (Take at k) (l ∷ rest) fit none =
     absurd (unfit-none header (posts_of header before) (booted (events_of before)) (length before + 1) (Take at k) untold (step_at header (posts_of header before) (booted (events_of before)) (Take at k)) l none fit.0)

@@ -9,15 +9,13 @@ use Rattle.tsp_audit.specs.Premised.{premises_of}
 use Rattle.tsp_audit.specs.Settings.{HasClocks}
 use Rattle.tsp_audit.specs.Verdicts.{AllHold, FailsFirst, IsFound}
 use Rattle.tsp_base.specs.declared.event.Event.{Event}
-use Rattle.tsp_base.specs.Headers.{HeaderValue, IsHeader}
-use Rattle.tsp_base.specs.History.{Line}
-use Rattle.tsp_base.specs.Places.{Within}
+use Rattle.tsp_base.specs.Words.{HeaderValue, IsHeader, Line, Within}
 use Rattle.tsp_promises.specs.Setting.{Setting}
 use Rattle.tsp_base.proofs.PlaceLemmas.{Within-comparable}
-use Rattle.tsp_audit_command.specs.ClaimReaders.{ClaimingValue, FitsAt, FitsHere, MisfitsAt, Tells, and_then, comes_to, lines_told, most_lines, pass_first, pass_one, passes, passes_all, tallied, told_more, unclaimed}
+use Rattle.tsp_audit_command.specs.ClaimReaders.{ClaimingValue, FitsAt, FitsHere, MisfitsAt, IsOneLine, and_then, comes_to, lines_told, most_lines, pass_first, pass_one, passes, passes_all, tallied, told_more, unclaimed}
 use Rattle.tsp_audit_command.specs.Listings.{most_nodes, refused}
 use Rattle.tsp_audit_command.specs.Meaning.{auditing}
-use Rattle.tsp_audit_command.specs.Readings.{Claimed, Ends, GoesOn, Judges, Lacks, Limits, Reaches, Reading, Refuses, Scheduling, nodes_at, reading_of}
+use Rattle.tsp_audit_command.specs.Readings.{Claimed, MayEnd, ReadsOn, GivesVerdict, IsWanting, PassesLimit, ReachesReading, Reading, RefusesLine, Scheduling, nodes_at, reading_of}
 use Rattle.tsp_audit_command.specs.Texts.{verdict_text}
 use Rattle.tsp_audit_command.proofs.PassLemmas.{none-some, some-one}
 use Rattle.tsp_audit_command.proofs.Reverses.{reverse-more}
@@ -41,20 +39,20 @@ reading-unended (Running header events) p is = cc
 reading-unended (Ended header events) p is = let bad : ⊥ = cc in absurd bad
 
 -- lines that bring the reading somewhere in the schedule bring the schedule there
-scheduled : (lines : List (List ℕ)) (p : Progress) → Reaches lines (Scheduling p) → ReachesBy refused lines p
+scheduled : (lines : List (List ℕ)) (p : Progress) → ReachesReading lines (Scheduling p) → ReachesBy refused lines p
 scheduled [] p is = cc
 scheduled (line ∷ before) p (Scheduling q, r, g) = (q, scheduled before q r, subst (λ x. GoesOnBy refused q line x) (reading-unended g.0 p (sym g.3)) g.1)
 scheduled (line ∷ before) p (Claimed c, r, g) = let is = g.5 in let bad : ⊥ = cc in absurd bad
 
 -- a line of the schedule brings it to one place
-one-schedule : (before : List (List ℕ)) (line : List ℕ) (p q r : Progress) → Reaches before (Scheduling p) → GoesOnBy refused p line q → GoesOnBy refused p line r → q ≡ r
+one-schedule : (before : List (List ℕ)) (line : List ℕ) (p q r : Progress) → ReachesReading before (Scheduling p) → GoesOnBy refused p line q → GoesOnBy refused p line r → q ≡ r
 one-schedule before line p q r reaches g h = ReachesBy-one refused (line ∷ before) q r (p, scheduled before p reaches, g) (p, scheduled before p reaches, h)
 
 -- two readings of a claimed line are one, and so are the places to which they come
-same-here : (c : ClaimingValue) (line : List ℕ) (l k : Line2) (here there : ClaimingValue) → Tells line l → Tells line k → comes_to c l.event ≡ Some here → comes_to c k.event ≡ Some there → there ≡ here
+same-here : (c : ClaimingValue) (line : List ℕ) (l k : Line2) (here there : ClaimingValue) → IsOneLine line l → IsOneLine line k → comes_to c l.event ≡ Some here → comes_to c k.event ≡ Some there → there ≡ here
 same-here c line l k here there t u p q = some-one there here (sym q ∙ (ap (λ (x : Line2). comes_to c x.event) (t.1 k u.0) ∙ p))
 
-GoesOn-one : (before : List (List ℕ)) (at : Reading) (line : List ℕ) (r s : Reading) → Reaches before at → GoesOn at line r → GoesOn at line s → r ≡ s
+GoesOn-one : (before : List (List ℕ)) (at : Reading) (line : List ℕ) (r s : Reading) → ReachesReading before at → ReadsOn at line r → ReadsOn at line s → r ≡ s
 GoesOn-one before (Scheduling p) line r s reaches g h = g.3 ∙ (ap (λ q. reading_of q) (one-schedule before line p g.0 h.0 reaches g.1 h.1) ∙ sym h.3)
 GoesOn-one before (Claimed c) line r s reaches g h =
     let same = g.2.1 h.0 h.2.0 in
@@ -62,17 +60,17 @@ GoesOn-one before (Claimed c) line r s reaches g h =
     g.5 ∙ (ap (λ v. Claimed (told_more v g.0)) (sym here) ∙ (ap (λ (k : Line2). Claimed (told_more h.1 k)) (sym same) ∙ sym h.5))
 
 -- lines bring the reading to one place
-pub Reaches-one : (lines : List (List ℕ)) (r s : Reading) → Reaches lines r → Reaches lines s → r ≡ s
+pub Reaches-one : (lines : List (List ℕ)) (r s : Reading) → ReachesReading lines r → ReachesReading lines s → r ≡ s
 Reaches-one [] r s p q = p ∙ sym q
-Reaches-one (line ∷ before) r s p q = GoesOn-one before p.0 line r s p.1 p.2 (subst (λ x. GoesOn x line s) (sym (Reaches-one before p.0 q.0 p.1 q.1)) q.2)
+Reaches-one (line ∷ before) r s p q = GoesOn-one before p.0 line r s p.1 p.2 (subst (λ x. ReadsOn x line s) (sym (Reaches-one before p.0 q.0 p.1 q.1)) q.2)
 
 -- a claimed line that fits doesn't misfit
-fits-misfits : (c : ClaimingValue) (line : List ℕ) (l k : Line2) (here : ClaimingValue) → Tells line l → Tells line k → FitsAt c l here → MisfitsAt c k → ⊥
+fits-misfits : (c : ClaimingValue) (line : List ℕ) (l k : Line2) (here : ClaimingValue) → IsOneLine line l → IsOneLine line k → FitsAt c l here → MisfitsAt c k → ⊥
 fits-misfits c line l k here t u f (inl none) = none-some (comes_to c k.event) here none (ap (λ (x : Line2). comes_to c x.event) (t.1 k u.0) ∙ f.0)
 fits-misfits c line l k here t u f (inr (there, at, unfit)) =
     unfit (subst (λ v. FitsHere v k) (sym (same-here c line l k here there t u f.0 at)) (subst (λ (x : Line2). FitsHere here x) (sym (t.1 k u.0)) f.1))
 
-not_refused : (before : List (List ℕ)) (at : Reading) (line cause : List ℕ) (r : Reading) → GoesOn at line r → Refuses at line cause → ⊥
+not_refused : (before : List (List ℕ)) (at : Reading) (line cause : List ℕ) (r : Reading) → ReadsOn at line r → RefusesLine at line cause → ⊥
 not_refused before (Scheduling p) line cause r g f = GoesOn-not_refused refused p line cause g.0 g.1 f
 not_refused before (Claimed c) line cause r g (inl f) = f.0 g.0 g.2.0
 not_refused before (Claimed c) line cause r g (inr (k, tells, misfits, is)) = fits-misfits c line g.0 k g.1 g.2 tells g.3 misfits
@@ -83,29 +81,29 @@ too-many n most few many = omega (arith, few, many)
 no-room : (n most : ℕ) → n < most → most ≤ n → ⊥
 no-room n most few many = omega (arith, few, many)
 
-not_limited : (before : List (List ℕ)) (at : Reading) (line : List ℕ) (r : Reading) → Reaches before at → GoesOn at line r → Limits at line → ⊥
+not_limited : (before : List (List ℕ)) (at : Reading) (line : List ℕ) (r : Reading) → ReachesReading before at → ReadsOn at line r → PassesLimit at line → ⊥
 not_limited before (Scheduling p) line r reaches g (inl f) = GoesOn-not_limited refused p line g.0 g.1 f
 not_limited before (Scheduling p) line r reaches g (inr (q, h, many)) = too-many (nodes_at q) most_nodes (subst (λ x. nodes_at x ≤ most_nodes) (one-schedule before line p g.0 q reaches g.1 h) g.2) many
 not_limited before (Claimed c) line r reaches g (k, there, tells, fits, full) = no-room (lines_told there) most_lines (subst (λ v. lines_told v < most_lines) (sym (same-here c line g.0 k g.1 there g.2 tells g.3.0 fits.0)) g.4) full
 
-one_cause : (at : Reading) (line cause other : List ℕ) → Refuses at line cause → Refuses at line other → cause ≡ other
+one_cause : (at : Reading) (line cause other : List ℕ) → RefusesLine at line cause → RefusesLine at line other → cause ≡ other
 one_cause (Scheduling p) line cause other f g = Refuses-one refused p line cause other f g
 one_cause (Claimed c) line cause other (inl f) (inl g) = f.1 ∙ sym g.1
 one_cause (Claimed c) line cause other (inl f) (inr g) = absurd (f.0 g.0 g.1.0)
 one_cause (Claimed c) line cause other (inr f) (inl g) = absurd (g.0 f.0 f.1.0)
 one_cause (Claimed c) line cause other (inr f) (inr g) = f.3 ∙ sym g.3
 
-refused_within : (at : Reading) (line cause : List ℕ) → Refuses at line cause → Limits at line → ⊥
+refused_within : (at : Reading) (line cause : List ℕ) → RefusesLine at line cause → PassesLimit at line → ⊥
 refused_within (Scheduling p) line cause f (inl g) = Refuses-within refused p line cause f g
 refused_within (Scheduling p) line cause f (inr (q, g, many)) = GoesOn-not_refused refused p line cause q g f
 refused_within (Claimed c) line cause (inl f) (k, there, tells, fits, full) = f.0 k tells.0
 refused_within (Claimed c) line cause (inr f) (k, there, tells, fits, full) = fits-misfits c line k f.0 there tells f.1 fits f.2
 
-one_lack : (at : Reading) (cause other : List ℕ) → Lacks at cause → Lacks at other → cause ≡ other
+one_lack : (at : Reading) (cause other : List ℕ) → IsWanting at cause → IsWanting at other → cause ≡ other
 one_lack (Scheduling p) cause other f g = Lacks-one p cause other f g
 one_lack (Claimed c) cause other f g = f.1 ∙ sym g.1
 
-ended_whole : (at : Reading) (more cause : List ℕ) → Ends at more → Lacks at cause → ⊥
+ended_whole : (at : Reading) (more cause : List ℕ) → MayEnd at more → IsWanting at cause → ⊥
 ended_whole (Scheduling p) more cause e f = e
 ended_whole (Claimed c) more cause e f = none-some (passes_all c) e.0 f.0 e.2
 
@@ -136,7 +134,7 @@ passes-header zero c d is = ap (λ (x : ClaimingValue). x.header) (sym (some-one
 passes-header (suc n) c d is = then-header (pass_one c) c.header (λ x. passes n x) d is (λ x h. first-header c.header c.passed c.told c.ahead x h) (λ x h. passes-header n x d h)
 
 -- the header behind which lines are claimed keeps its ranges
-claimed-header : (lines : List (List ℕ)) (c : ClaimingValue) → Reaches lines (Claimed c) → IsHeader c.header
+claimed-header : (lines : List (List ℕ)) (c : ClaimingValue) → ReachesReading lines (Claimed c) → IsHeader c.header
 claimed-header [] c is = let bad : ⊥ = cc in absurd bad
 claimed-header (line ∷ before) c (Scheduling p, r, g) = reading-claimed g.0 c (sym g.3) (Reaches-header refused (line ∷ before) g.0 (p, scheduled before p r, g.1))
 claimed-header (line ∷ before) c (Claimed d, r, g) =
@@ -185,17 +183,17 @@ module _ (premises : Premises) (setting : Setting) (header : HeaderValue) (claim
   ]
 
 -- the output of the input's end is one
-one_end : (lines : List (List ℕ)) (at : Reading) (more other : List ℕ) → Reaches lines at → Ends at more → Ends at other → more ≡ other
+one_end : (lines : List (List ℕ)) (at : Reading) (more other : List ℕ) → ReachesReading lines at → MayEnd at more → MayEnd at other → more ≡ other
 one_end lines (Scheduling p) more other reaches e f = absurd e
 one_end lines (Claimed c) more other reaches (all, found, passes_e, judges, is) (every, against, passes_f, judged, was) =
     let same : every ≡ all = some-one every all (sym passes_f ∙ passes_e) in
     let clocks = clocks-of all.header (subst (λ k. IsHeader k) (sym (passes-header (length c.ahead) c all passes_e)) (claimed-header lines c reaches)) in
-    let other_found = subst (λ (v : ClaimingValue). Judges v.header v.passed against) same judged in
+    let other_found = subst (λ (v : ClaimingValue). GivesVerdict v.header v.passed against) same judged in
     is ∙ (ap (λ o. verdict_text o) (found-one (premises_of all.header all.passed) clocks.0 all.header all.passed found against (judges clocks.0 clocks.1) (other_found clocks.0 clocks.1)) ∙ sym was)
 
 -- what was accepted last, and after what
-last-line : (lines : List (List ℕ)) (line : List ℕ) (r : Reading) → Reaches (reverse (lines ++ line ∷ [])) r → (q : Reading) × Reaches (reverse lines) q × GoesOn q line r
-last-line lines line r reaches = subst (λ ls. Reaches ls r) (reverse-more lines line) reaches
+last-line : (lines : List (List ℕ)) (line : List ℕ) (r : Reading) → ReachesReading (reverse (lines ++ line ∷ [])) r → (q : Reading) × ReachesReading (reverse lines) q × ReadsOn q line r
+last-line lines line r reaches = subst (λ ls. ReachesReading ls r) (reverse-more lines line) reaches
 
 pub IsDefinite-auditing : IsDefinite auditing
 IsDefinite-auditing = record {
@@ -203,13 +201,13 @@ IsDefinite-auditing = record {
   before = λ lines line text a. let l = last-line lines line a.0 a.1 in ((λ full. full), ([], [], (l.0, l.1, refl), a.2));
   not_refused = λ lines line text cause a (q, s, f).
       let l = last-line lines line a.0 a.1 in
-      not_refused (reverse lines) q line cause a.0 (subst (λ x. GoesOn x line a.0) (Reaches-one (reverse lines) l.0 q l.1 s) l.2) f;
+      not_refused (reverse lines) q line cause a.0 (subst (λ x. ReadsOn x line a.0) (Reaches-one (reverse lines) l.0 q l.1 s) l.2) f;
   not_limited = λ lines line text a (q, s, f).
       let l = last-line lines line a.0 a.1 in
-      not_limited (reverse lines) q line a.0 s (subst (λ x. GoesOn x line a.0) (Reaches-one (reverse lines) l.0 q l.1 s) l.2) f;
-  one_cause = λ lines line cause other (p, r, e) (q, s, f). one_cause q line cause other (subst (λ x. Refuses x line cause) (Reaches-one (reverse lines) p q r s) e) f;
-  refused_within = λ lines line cause (p, r, e) (q, s, f). refused_within q line cause (subst (λ x. Refuses x line cause) (Reaches-one (reverse lines) p q r s) e) f;
-  one_end = λ lines more other (p, r, e) (q, s, f). one_end (reverse lines) q more other s (subst (λ x. Ends x more) (Reaches-one (reverse lines) p q r s) e) f;
-  one_lack = λ lines cause other (p, r, e) (q, s, f). one_lack q cause other (subst (λ x. Lacks x cause) (Reaches-one (reverse lines) p q r s) e) f;
-  ended_whole = λ lines more cause (p, r, e) (q, s, f). ended_whole q more cause (subst (λ x. Ends x more) (Reaches-one (reverse lines) p q r s) e) f;
+      not_limited (reverse lines) q line a.0 s (subst (λ x. ReadsOn x line a.0) (Reaches-one (reverse lines) l.0 q l.1 s) l.2) f;
+  one_cause = λ lines line cause other (p, r, e) (q, s, f). one_cause q line cause other (subst (λ x. RefusesLine x line cause) (Reaches-one (reverse lines) p q r s) e) f;
+  refused_within = λ lines line cause (p, r, e) (q, s, f). refused_within q line cause (subst (λ x. RefusesLine x line cause) (Reaches-one (reverse lines) p q r s) e) f;
+  one_end = λ lines more other (p, r, e) (q, s, f). one_end (reverse lines) q more other s (subst (λ x. MayEnd x more) (Reaches-one (reverse lines) p q r s) e) f;
+  one_lack = λ lines cause other (p, r, e) (q, s, f). one_lack q cause other (subst (λ x. IsWanting x cause) (Reaches-one (reverse lines) p q r s) e) f;
+  ended_whole = λ lines more cause (p, r, e) (q, s, f). ended_whole q more cause (subst (λ x. MayEnd x more) (Reaches-one (reverse lines) p q r s) e) f;
 }

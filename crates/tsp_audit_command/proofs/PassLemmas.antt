@@ -2,7 +2,7 @@
 use Rattle.std.specs.Prelude.{◌≡◌, ℕ, suc, false, List, [], ◌∷◌, Option, None, Some}
 use Rattle.std.proofs.Common.{◌∙◌, ap, sym, refl}
 use Rattle.tsp_base.specs.declared.event.Event.{Event}
-use Rattle.tsp_base.specs.Headers.{HeaderValue}
+use Rattle.tsp_base.specs.Words.{HeaderValue}
 use Rattle.tsp_audit_command.specs.ClaimReaders.{ClaimingValue, and_then, pass_first, pass_one, passes, tallied}
 use Rattle.tsp_audit_command.specs.Stands.{Unpassed}
 use Rattle.tsp_claims.specs.ClaimedHistory.{Claim}

@@ -8,7 +8,7 @@ use Rattle.tsp_audit.specs.declared.premises.Premises.{Premises}
 use Rattle.tsp_audit.specs.Ends.{AreDated, EndsAt}
 use Rattle.tsp_audit.specs.Premised.{kept_with, premises_of}
 use Rattle.tsp_base.specs.declared.event.Event.{Event}
-use Rattle.tsp_base.specs.Headers.{HeaderValue}
+use Rattle.tsp_base.specs.Words.{HeaderValue}
 use Rattle.tsp_audit_command.specs.ClaimReaders.{ClaimingValue, FitsFirst, most_lines, pass_first, tallied}
 use Rattle.tsp_audit_command.specs.Listings.{AreListed, IsAudited, IsListed}
 use Rattle.tsp_audit_command.specs.Sound.{FitAtHand, Sound, claims_by, claims_on, first_end}

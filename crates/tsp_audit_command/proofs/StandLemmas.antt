@@ -7,8 +7,8 @@ use Rattle.tsp_audit_command.specs.declared.listing.Listing.{Listing}
 use Rattle.tsp_audit_command.specs.ClaimReaders.{ClaimingValue, comes_to, passes_all, told_more}
 use Rattle.tsp_audit_command.specs.Listings.{most_nodes, refused}
 use Rattle.tsp_audit_command.specs.Meaning.{auditing}
-use Rattle.tsp_audit_command.specs.Readings.{Claimed, Lacks, Reaches, Reading, Refuses, Scheduling, nodes_at, reading_of}
-use Rattle.tsp_audit_command.specs.Stands.{Advances, ClaimAdvances, Halts, HaltsBehind, HaltsConcluding, HeldStands, ListingStands, Stands, Unpassed}
+use Rattle.tsp_audit_command.specs.Readings.{Claimed, IsWanting, ReachesReading, Reading, RefusesLine, Scheduling, nodes_at, reading_of}
+use Rattle.tsp_audit_command.specs.Stands.{AdvancesReading, ClaimAdvances, HaltsReading, HaltsBehind, HaltsConcluding, EventStands, ListingStands, ReadingStands, Unpassed}
 use Rattle.tsp_audit_command.proofs.PassLemmas.{some-one}
 use Rattle.tsp_audit_command.proofs.Reverses.{reverse-more}
 use Rattle.tsp_audit_command.proofs.TraceLengths.{SpellsTrace-long}
@@ -23,12 +23,12 @@ use Rattle.tsp_lines.proofs.Outputs.{Hands-nil}
 use Rattle.tsp_base.specs.declared.trace.Line2.{Line2}
 
 -- a long line is no trace's
-pub Refuses-long : (r : Reading) (held : AuditInput) (c : ClaimingValue) (line cause : List ℕ) → held ≡ ClaimsOf c → HeldStands r held → 1024 < length line → cause ≡ codes "line" → Refuses r line cause
-Refuses-long (Scheduling p) held c line cause is stands long cause_is = let bad : ⊥ = subst (λ h. HeldStands (Scheduling p) h) is stands in absurd bad
+pub Refuses-long : (r : Reading) (held : AuditInput) (c : ClaimingValue) (line cause : List ℕ) → held ≡ ClaimsOf c → EventStands r held → 1024 < length line → cause ≡ codes "line" → RefusesLine r line cause
+Refuses-long (Scheduling p) held c line cause is stands long cause_is = let bad : ⊥ = subst (λ h. EventStands (Scheduling p) h) is stands in absurd bad
 Refuses-long (Claimed v) held c line cause is stands long cause_is = inl (SpellsTrace-long line long, cause_is)
 
 -- a line of the schedule that it took, and which brings no node too many
-pub Advances-scheduled : (p : Progress) (line : List ℕ) (stage : Stage Listing) (a : AdvancesBy refused ListingStands p line stage) (next : AuditInput) → nodes_at a.to ≤ most_nodes → HeldStands (reading_of a.to) next → Advances (Scheduling p) line next
+pub Advances-scheduled : (p : Progress) (line : List ℕ) (stage : Stage Listing) (a : AdvancesBy refused ListingStands p line stage) (next : AuditInput) → nodes_at a.to ≤ most_nodes → EventStands (reading_of a.to) next → AdvancesReading (Scheduling p) line next
 Advances-scheduled p line stage a next few stands = record {
   to = reading_of a.to;
   goes = (a.to, a.goes, few, refl);
@@ -37,21 +37,21 @@ Advances-scheduled p line stage a next few stands = record {
 }
 
 -- a line of the schedule's, of an event
-Advances-event : (p : Progress) (line : List ℕ) (stage : Stage Listing) → AdvancesByEvent refused ListingStands p line stage → nodes_at p ≤ most_nodes → Advances (Scheduling p) line (Schedule stage)
+Advances-event : (p : Progress) (line : List ℕ) (stage : Stage Listing) → AdvancesByEvent refused ListingStands p line stage → nodes_at p ≤ most_nodes → AdvancesReading (Scheduling p) line (Schedule stage)
 Advances-event p line stage (header, events, e, is, a, to) few =
     Advances-scheduled p line stage a (Schedule stage) (subst (λ q. nodes_at q ≤ most_nodes) (sym to) (subst (λ q. nodes_at q ≤ most_nodes) is few))
-    (subst (λ q. HeldStands (reading_of q) (Schedule stage)) (sym to) (subst (λ q. StageStands ListingStands q stage) to a.stands_for))
+    (subst (λ q. EventStands (reading_of q) (Schedule stage)) (sym to) (subst (λ q. StageStands ListingStands q stage) to a.stands_for))
 
 -- a line of the schedule's that was tried: it is that of an event, or nothing has changed
-pub Tries-scheduled : (r : Reading) (held : AuditInput) (old new : Stage Listing) (line : List ℕ) (count : ℕ) (done : Bool) → held ≡ Schedule old → HeldStands r held → ((p : Progress) → StageStands ListingStands p old → count ≡ nodes_at p) → count ≤ most_nodes →
-    ((p : Progress) → StageStands ListingStands p old → MatchBool done (AdvancesByEvent refused ListingStands p line new) (StageStands ListingStands p new)) → MatchBool done (Advances r line (Schedule new)) (HeldStands r (Schedule new))
+pub Tries-scheduled : (r : Reading) (held : AuditInput) (old new : Stage Listing) (line : List ℕ) (count : ℕ) (done : Bool) → held ≡ Schedule old → EventStands r held → ((p : Progress) → StageStands ListingStands p old → count ≡ nodes_at p) → count ≤ most_nodes →
+    ((p : Progress) → StageStands ListingStands p old → MatchBool done (AdvancesByEvent refused ListingStands p line new) (StageStands ListingStands p new)) → MatchBool done (AdvancesReading r line (Schedule new)) (EventStands r (Schedule new))
 Tries-scheduled (Scheduling p) held old new line count done is stands counts few tries =
-    let s : StageStands ListingStands p old = subst (λ h. HeldStands (Scheduling p) h) is stands in
+    let s : StageStands ListingStands p old = subst (λ h. EventStands (Scheduling p) h) is stands in
     MatchBool-map done (tries p s) (λ a. Advances-event p line new a (subst (λ n. n ≤ most_nodes) (counts p s) few)) (λ t. t)
-Tries-scheduled (Claimed v) held old new line count done is stands counts few tries = let bad : ⊥ = subst (λ h. HeldStands (Claimed v) h) is stands in absurd bad
+Tries-scheduled (Claimed v) held old new line count done is stands counts few tries = let bad : ⊥ = subst (λ h. EventStands (Claimed v) h) is stands in absurd bad
 
 -- one that brings a node too many
-pub Halts-behind : (p : Progress) (line : List ℕ) (stage : Stage Listing) (a : AdvancesBy refused ListingStands p line stage) (stop : Stop) → HaltsBehind a.to stop → Halts (Scheduling p) line stop
+pub Halts-behind : (p : Progress) (line : List ℕ) (stage : Stage Listing) (a : AdvancesBy refused ListingStands p line stage) (stop : Stop) → HaltsBehind a.to stop → HaltsReading (Scheduling p) line stop
 Halts-behind p line stage a (Bad cause) h = absurd h
 Halts-behind p line stage a Limit h = inr (a.to, a.goes, h)
 Halts-behind p line stage a WriteFault h = h
@@ -62,7 +62,7 @@ comes-same : (c : ClaimingValue) (l k : Line2) (here there : ClaimingValue) → 
 comes-same c l k here there same p q = some-one there here (sym q ∙ (ap (λ (x : Line2). comes_to c x.event) same ∙ p))
 
 -- a claimed line
-pub Advances-claimed : (c : ClaimingValue) (line : List ℕ) (next : ClaimingValue) → ClaimAdvances c line next → Advances (Claimed c) line (ClaimsOf next)
+pub Advances-claimed : (c : ClaimingValue) (line : List ℕ) (next : ClaimingValue) → ClaimAdvances c line next → AdvancesReading (Claimed c) line (ClaimsOf next)
 Advances-claimed c line next (l, tells, (here, fits, room, is)) = record {
   to = Claimed next;
   goes = (l, here, tells, fits, room, ap (λ v. Claimed v) is);
@@ -72,14 +72,14 @@ Advances-claimed c line next (l, tells, (here, fits, room, is)) = record {
       g.5 ∙ (ap (λ (k : Line2). Claimed (told_more g.1 k)) same ∙ (ap (λ v. Claimed (told_more v l)) (comes-same c l g.0 here g.1 same fits.0 g.3.0) ∙ ap (λ v. Claimed v) (sym is)));
 }
 
-pub Advances-held : (r : Reading) (held : AuditInput) (c next : ClaimingValue) (line : List ℕ) → held ≡ ClaimsOf c → HeldStands r held → ClaimAdvances c line next → Advances r line (ClaimsOf next)
-Advances-held (Scheduling p) held c next line is stands a = let bad : ⊥ = subst (λ h. HeldStands (Scheduling p) h) is stands in absurd bad
-Advances-held (Claimed v) held c next line is stands a = let same : c ≡ v = subst (λ h. HeldStands (Claimed v) h) is stands in subst (λ x. Advances (Claimed x) line (ClaimsOf next)) same (Advances-claimed c line next a)
+pub Advances-held : (r : Reading) (held : AuditInput) (c next : ClaimingValue) (line : List ℕ) → held ≡ ClaimsOf c → EventStands r held → ClaimAdvances c line next → AdvancesReading r line (ClaimsOf next)
+Advances-held (Scheduling p) held c next line is stands a = let bad : ⊥ = subst (λ h. EventStands (Scheduling p) h) is stands in absurd bad
+Advances-held (Claimed v) held c next line is stands a = let same : c ≡ v = subst (λ h. EventStands (Claimed v) h) is stands in subst (λ x. AdvancesReading (Claimed x) line (ClaimsOf next)) same (Advances-claimed c line next a)
 
 -- a claimed line that isn't accepted
-pub Halts-held : (r : Reading) (held : AuditInput) (c : ClaimingValue) (line : List ℕ) (stop : Stop) → held ≡ ClaimsOf c → HeldStands r held → Halts (Claimed c) line stop → Halts r line stop
-Halts-held (Scheduling p) held c line stop is stands h = let bad : ⊥ = subst (λ x. HeldStands (Scheduling p) x) is stands in absurd bad
-Halts-held (Claimed v) held c line stop is stands h = let same : c ≡ v = subst (λ x. HeldStands (Claimed v) x) is stands in subst (λ x. Halts (Claimed x) line stop) same h
+pub Halts-held : (r : Reading) (held : AuditInput) (c : ClaimingValue) (line : List ℕ) (stop : Stop) → held ≡ ClaimsOf c → EventStands r held → HaltsReading (Claimed c) line stop → HaltsReading r line stop
+Halts-held (Scheduling p) held c line stop is stands h = let bad : ⊥ = subst (λ x. EventStands (Scheduling p) x) is stands in absurd bad
+Halts-held (Claimed v) held c line stop is stands h = let same : c ≡ v = subst (λ x. EventStands (Claimed v) x) is stands in subst (λ x. HaltsReading (Claimed x) line stop) same h
 
 -- events that are left can't be passed
 pub Halts-concluding : (c : ClaimingValue) (written : Option (List ℕ)) (held : List ℕ) (stop : Stop) → Unpassed (passes_all c) stop → HaltsConcluding c written held written held stop
@@ -89,27 +89,27 @@ Halts-concluding c written held WriteFault u = absurd u
 Halts-concluding c written held OutOfMemory u = Hands-nil written held
 
 -- an accepted line
-pub Goes-advances : (lines : List (List ℕ)) (text line : List ℕ) (r : Reading) (next : AuditInput) (written : Option (List ℕ)) (held : List ℕ) → Reaches (reverse lines) r → text ≡ [] → ((q : Reading) → Reaches (reverse lines) q → Advances q line next) →
-    Goes auditing (Stands next) lines text line written held written held
+pub Goes-advances : (lines : List (List ℕ)) (text line : List ℕ) (r : Reading) (next : AuditInput) (written : Option (List ℕ)) (held : List ℕ) → ReachesReading (reverse lines) r → text ≡ [] → ((q : Reading) → ReachesReading (reverse lines) q → AdvancesReading q line next) →
+    Goes auditing (ReadingStands next) lines text line written held written held
 Goes-advances lines text line r next written held reaches text_is advances =
     let a = advances r reaches in (
       [],
       Hands-nil written held,
-      (a.to, subst (λ ls. Reaches ls a.to) (sym (reverse-more lines line)) (r, reaches, a.goes), append-nil text ∙ text_is),
-      λ q goes. one q (subst (λ ls. Reaches ls q) (reverse-more lines line) goes),
+      (a.to, subst (λ ls. ReachesReading ls a.to) (sym (reverse-more lines line)) (r, reaches, a.goes), append-nil text ∙ text_is),
+      λ q goes. one q (subst (λ ls. ReachesReading ls q) (reverse-more lines line) goes),
     )
   where
-    one : (q : Reading) → Reaches (line ∷ reverse lines) q → HeldStands q next
-    one q h = let b = advances h.0 h.1 in subst (λ x. HeldStands x next) (sym (b.only q h.2)) b.stands_for
+    one : (q : Reading) → ReachesReading (line ∷ reverse lines) q → EventStands q next
+    one q h = let b = advances h.0 h.1 in subst (λ x. EventStands x next) (sym (b.only q h.2)) b.stands_for
 
 -- a line that was tried
-pub Tried-advances : (lines : List (List ℕ)) (text line : List ℕ) (r : Reading) (next : AuditInput) (done : Bool) (written : Option (List ℕ)) (held : List ℕ) → Reaches (reverse lines) r → text ≡ [] →
-    ((q : Reading) → Reaches (reverse lines) q → MatchBool done (Advances q line next) (HeldStands q next)) → Tried auditing (Stands next) lines text line written held written held done
+pub Tried-advances : (lines : List (List ℕ)) (text line : List ℕ) (r : Reading) (next : AuditInput) (done : Bool) (written : Option (List ℕ)) (held : List ℕ) → ReachesReading (reverse lines) r → text ≡ [] →
+    ((q : Reading) → ReachesReading (reverse lines) q → MatchBool done (AdvancesReading q line next) (EventStands q next)) → Tried auditing (ReadingStands next) lines text line written held written held done
 Tried-advances lines text line r next true written held reaches text_is tries = Goes-advances lines text line r next written held reaches text_is tries
 Tried-advances lines text line r next false written held reaches text_is tries = (tries, refl, refl)
 
 -- a line that isn't accepted
-pub StopsAt-halts : (lines : List (List ℕ)) (text line : List ℕ) (r : Reading) (written : Option (List ℕ)) (held : List ℕ) (stop : Stop) → Reaches (reverse lines) r → Halts r line stop → StopsAt auditing lines text line written held written held stop
+pub StopsAt-halts : (lines : List (List ℕ)) (text line : List ℕ) (r : Reading) (written : Option (List ℕ)) (held : List ℕ) (stop : Stop) → ReachesReading (reverse lines) r → HaltsReading r line stop → StopsAt auditing lines text line written held written held stop
 StopsAt-halts lines text line r written held (Bad cause) reaches h = (Hands-nil written held, (r, reaches, h))
 StopsAt-halts lines text line r written held Limit reaches h = (Hands-nil written held, (r, reaches, h))
 StopsAt-halts lines text line r written held WriteFault reaches h = absurd h
@@ -124,13 +124,13 @@ reading-open (Running header events) p is e = let same : p ≡ Running header ev
 reading-open (Ended header events) p is e = let bad : ⊥ = cc in bad
 
 -- a schedule whose last line wasn't read hasn't ended
-pub Reaches-open : (lines : List (List ℕ)) (p : Progress) → Reaches lines (Scheduling p) → IsEnded p → ⊥
+pub Reaches-open : (lines : List (List ℕ)) (p : Progress) → ReachesReading lines (Scheduling p) → IsEnded p → ⊥
 Reaches-open [] p is e = let same : p ≡ Untitled = cc in subst (λ x. IsEnded x) same e
 Reaches-open (line ∷ before) p (Scheduling q, r, g) e = reading-open g.0 p (sym g.3) e
 Reaches-open (line ∷ before) p (Claimed c, r, g) e = let is = g.5 in let bad : ⊥ = cc in bad
 
 -- the input ends within the schedule
-pub Ends-schedule : (lines : List (List ℕ)) (r : Reading) (held : AuditInput) (stage : Stage Listing) (cause : List ℕ) → held ≡ Schedule stage → Reaches (reverse lines) r → HeldStands r held →
-    ((p : Progress) → StageStands ListingStands p stage → ¬ IsEnded p → Lacks (Scheduling p) cause) → Lacks r cause
-Ends-schedule lines (Scheduling p) held stage cause is reaches stands lacks = lacks p (subst (λ h. HeldStands (Scheduling p) h) is stands) (λ e. Reaches-open (reverse lines) p reaches e)
-Ends-schedule lines (Claimed c) held stage cause is reaches stands lacks = let bad : ⊥ = subst (λ h. HeldStands (Claimed c) h) is stands in absurd bad
+pub Ends-schedule : (lines : List (List ℕ)) (r : Reading) (held : AuditInput) (stage : Stage Listing) (cause : List ℕ) → held ≡ Schedule stage → ReachesReading (reverse lines) r → EventStands r held →
+    ((p : Progress) → StageStands ListingStands p stage → ¬ IsEnded p → IsWanting (Scheduling p) cause) → IsWanting r cause
+Ends-schedule lines (Scheduling p) held stage cause is reaches stands lacks = lacks p (subst (λ h. EventStands (Scheduling p) h) is stands) (λ e. Reaches-open (reverse lines) p reaches e)
+Ends-schedule lines (Claimed c) held stage cause is reaches stands lacks = let bad : ⊥ = subst (λ h. EventStands (Claimed c) h) is stands in absurd bad

@@ -4,9 +4,9 @@ use Rattle.std.specs.Prelude.{ℤ, pos, negsuc, decimal, codes}
 use Rattle.std.specs.Int.{w64}
 use Rattle.std.specs.Int.RustNames.{FitsSigned}
 use Rattle.std.specs.Fmt.{signed_decimal}
-use Rattle.tsp_base.specs.Alarms.{alarm_word}
+use Rattle.tsp_base.specs.Words.{alarm_word}
 use Rattle.tsp_base.specs.declared.act.Act.{Act}
-use Rattle.tsp_base.specs.declared.act.Act.TheVariants.{Boot, Took, Post, Become, Back, Backer, Quit, Arm, Ring, Late, Join, Leave, Rival, Acked, Gave, Sample, Close as CloseAct, Correct, Abandon, Trace}
+use Rattle.tsp_base.specs.declared.act.Act.TheVariants.{Boot, Took, Post, Become, Back, Backer, Quit, Arm, Ring, Late, Join, Leave, Rival, Acked, Gave, Sample, Close, Correct, Abandon, Trace}
 use Rattle.tsp_base.specs.declared.alarm.Alarm.{Alarm}
 use Rattle.tsp_base.specs.declared.alarm.Alarm.TheVariants.{Quiet}
 use Rattle.tsp_base.specs.declared.datagram.DecodeFault.{DecodeFault}
@@ -80,7 +80,7 @@ sample_length p counter diff err ticket hp hc hd he ht = omega (
   number_length ticket (omega (arith, ht)),
 )
 
-close_length : (count : ℕ) (lo width mean : ℤ) → count < 2 ^ 32 → FitsSigned w64 lo → FitsSigned w64 width → FitsSigned w64 mean → length (act_text 0 (CloseAct count lo width mean)) ≤ 865
+close_length : (count : ℕ) (lo width mean : ℤ) → count < 2 ^ 32 → FitsSigned w64 lo → FitsSigned w64 width → FitsSigned w64 mean → length (act_text 0 (Close count lo width mean)) ≤ 865
 close_length count lo width mean hc hl hw hm = omega (
   arith,
   length-append ((((((codes "close " ++ decimal count) ++ space) ++ signed_decimal lo) ++ space) ++ signed_decimal width) ++ space) (signed_decimal mean),
@@ -148,7 +148,7 @@ act_length number (Rival p) h n = omega (arith, length-append (codes "rival ") (
 act_length number (Acked p) h n = omega (arith, length-append (codes "acked ") (decimal p.0), peer_length p h)
 act_length number (Gave p) h n = omega (arith, length-append (codes "gave ") (decimal p.0), peer_length p h)
 act_length number (Sample p counter diff err ticket) h n = sample_length p counter diff err ticket h.0 h.1 h.2 h.3 h.4
-act_length number (CloseAct count lo width mean) h n = close_length count lo width mean h.0 h.1 h.2 h.3
+act_length number (Close count lo width mean) h n = close_length count lo width mean h.0 h.1 h.2 h.3
 act_length number (Correct amount stepped shown) h n = correct_length amount stepped shown h.0 h.1
 act_length number Abandon h n = omega arith
 act_length number (Trace true) h n = omega arith

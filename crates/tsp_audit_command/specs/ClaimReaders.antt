@@ -2,7 +2,7 @@
 -- passed once all its lines were read and it lacks nothing; the first one that isn't passed is the event at hand.
 use Rattle.std.specs.Prelude.{◌≡◌, ◌⊎◌, ℕ, zero, suc, ◌+◌, ◌-◌, if◌then◌else◌, List, [], ◌∷◌, ◌++◌, length, reverse, Option, None, Some}
 use Rattle.tsp_base.specs.declared.event.Event.{Event}
-use Rattle.tsp_base.specs.Headers.{HeaderValue}
+use Rattle.tsp_base.specs.Words.{HeaderValue}
 use Rattle.tsp_claims.specs.declared.tally.Tally.{Tally}
 use Rattle.tsp_claims.specs.ClaimedHistory.{Claim, lines_in}
 use Rattle.tsp_claims.specs.Fitting.{FitsNext, counted, lacks, untold}
@@ -26,8 +26,8 @@ pub record ClaimingValue : Type 0 where
   pub ahead : List Event
 
 -- octets are the trace's line with these values, and with no others
-abbrev pub Tells : List ℕ → Line2 → Type 0
-Tells line l = SpellsTrace line l × ((other : Line2) → SpellsTrace line other → other ≡ l)
+abbrev pub IsOneLine : List ℕ → Line2 → Type 0
+IsOneLine line l = SpellsTrace line l × ((other : Line2) → SpellsTrace line other → other ≡ l)
 
 -- where the claims begin: of none of these events, which are given newest first, anything is claimed yet
 abbrev pub unclaimed : HeaderValue → List Event → ClaimingValue

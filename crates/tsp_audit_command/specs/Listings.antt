@@ -4,10 +4,10 @@ use Rattle.std.specs.Prelude.{◌≡◌, ℕ, ◌≤◌, nat_le, if◌then◌els
 use Rattle.std.specs.Coded.{Unit-prop, le_prop}
 use Rattle.std.specs.List.{All}
 use Rattle.tsp_base.specs.declared.event.Event.{Event}
-use Rattle.tsp_base.specs.declared.event.Event.TheVariants.{Boot, Turn, Take, Bytes}
+use Rattle.tsp_base.specs.declared.event.Event.TheVariants.{Boot as BootAt, Turn, Take, Bytes}
 use Rattle.tsp_base.specs.declared.event.EventFault.{EventFault}
 use Rattle.tsp_base.specs.declared.event.EventFault.TheVariants.{Limit}
-use Rattle.tsp_base.specs.Headers.{HeaderValue, is_whole}
+use Rattle.tsp_base.specs.Words.{HeaderValue, is_whole}
 use Rattle.tsp_claims.specs.Listed.{NamesNode, booted}
 use Rattle.tsp_run.specs.Refusals.{down, first_of, no_node, scene, time_back}
 use Rattle.tsp_run.specs.Run.{event_at, last_at}
@@ -22,7 +22,7 @@ most_events = 20000
 
 -- the node that must have booted before an event: that of a turn or of octets; none for a boot and for a take
 abbrev pub wants_up : Event → Option ℕ
-wants_up (Boot at node word) = None
+wants_up (BootAt at node word) = None
 wants_up (Turn at node) = Some node
 wants_up (Take at datagram) = None
 wants_up (Bytes at node port from octets) = Some node
@@ -56,7 +56,7 @@ abbrev pub AreListed : ℕ → List Event → Type 0
 AreListed nodes events = (length events ≤ most_events) × All (IsListed nodes) events
 
 NamesNode-prop : (nodes : ℕ) (e : Event) → IsProp (NamesNode nodes e)
-NamesNode-prop nodes (Boot at node word) = le_prop
+NamesNode-prop nodes (BootAt at node word) = le_prop
 NamesNode-prop nodes (Turn at node) = le_prop
 NamesNode-prop nodes (Take at datagram) = Unit-prop
 NamesNode-prop nodes (Bytes at node port from octets) = le_prop

@@ -5,9 +5,9 @@ use Rattle.tsp_audit.specs.declared.verdict.Failure.{Failure}
 use Rattle.tsp_audit.specs.Premised.{premises_of}
 use Rattle.tsp_audit.specs.Settings.{HasClocks}
 use Rattle.tsp_audit.specs.Verdicts.{IsFound}
-use Rattle.tsp_base.specs.Headers.{HeaderValue}
+use Rattle.tsp_base.specs.Words.{HeaderValue}
 use Rattle.tsp_promises.specs.Setting.{Setting}
-use Rattle.tsp_audit_command.specs.ClaimReaders.{ClaimingValue, FitsAt, MisfitsAt, Tells, lines_told, most_lines, passes_all, told_more, unclaimed}
+use Rattle.tsp_audit_command.specs.ClaimReaders.{ClaimingValue, FitsAt, MisfitsAt, IsOneLine, lines_told, most_lines, passes_all, told_more, unclaimed}
 use Rattle.tsp_audit_command.specs.Listings.{most_nodes, refused}
 use Rattle.tsp_audit_command.specs.Texts.{verdict_text}
 use Rattle.tsp_claims.specs.ClaimedHistory.{Claim}
@@ -42,39 +42,39 @@ nodes_at (Ended header events) = length header.nodes
 
 -- a line may follow, and this is how far it brings the reading: a line that the schedule goes on by, with at most 16
 -- nodes, or a claimed line that fits, after fewer than 20,000
-abbrev pub GoesOn : Reading → List ℕ → Reading → Type 0
-GoesOn (Scheduling p) line next = (q : Progress) × GoesOnBy refused p line q × (nodes_at q ≤ most_nodes) × (next ≡ reading_of q)
-GoesOn (Claimed c) line next = (l : Line2) × (here : ClaimingValue) × Tells line l × FitsAt c l here × (lines_told here < most_lines) × (next ≡ Claimed (told_more here l))
+abbrev pub ReadsOn : Reading → List ℕ → Reading → Type 0
+ReadsOn (Scheduling p) line next = (q : Progress) × GoesOnBy refused p line q × (nodes_at q ≤ most_nodes) × (next ≡ reading_of q)
+ReadsOn (Claimed c) line next = (l : Line2) × (here : ClaimingValue) × IsOneLine line l × FitsAt c l here × (lines_told here < most_lines) × (next ≡ Claimed (told_more here l))
 
 -- these lines, which are given newest first, bring the reading so far
-abbrev pub Reaches : List (List ℕ) → Reading → Type 0
-Reaches [] r = r ≡ Scheduling Untitled
-Reaches (line ∷ before) r = (q : Reading) × Reaches before q × GoesOn q line r
+abbrev pub ReachesReading : List (List ℕ) → Reading → Type 0
+ReachesReading [] r = r ≡ Scheduling Untitled
+ReachesReading (line ∷ before) r = (q : Reading) × ReachesReading before q × ReadsOn q line r
 
 -- a line may not follow, for this cause: in the schedule for that of the schedule; after it for `line` where it is no
 -- line of a trace, and for `history` where it is one that doesn't fit
-abbrev pub Refuses : Reading → List ℕ → List ℕ → Type 0
-Refuses (Scheduling p) line cause = RefusesBy refused p line cause
-Refuses (Claimed c) line cause = (((l : Line2) → SpellsTrace line l → ⊥) × (cause ≡ codes "line")) ⊎ ((l : Line2) × Tells line l × MisfitsAt c l × (cause ≡ codes "history"))
+abbrev pub RefusesLine : Reading → List ℕ → List ℕ → Type 0
+RefusesLine (Scheduling p) line cause = RefusesBy refused p line cause
+RefusesLine (Claimed c) line cause = (((l : Line2) → SpellsTrace line l → ⊥) × (cause ≡ codes "line")) ⊎ ((l : Line2) × IsOneLine line l × MisfitsAt c l × (cause ≡ codes "history"))
 
 -- a line may not follow only since it passes a limit: its event is one more than 20,000; or it is the line of a 17th
 -- node, which the header would take; or it is a claimed line that fits, after 20,000
-abbrev pub Limits : Reading → List ℕ → Type 0
-Limits (Scheduling p) line = LimitsBy refused p line ⊎ ((q : Progress) × GoesOnBy refused p line q × (most_nodes < nodes_at q))
-Limits (Claimed c) line = (l : Line2) × (here : ClaimingValue) × Tells line l × FitsAt c l here × (most_lines ≤ lines_told here)
+abbrev pub PassesLimit : Reading → List ℕ → Type 0
+PassesLimit (Scheduling p) line = LimitsBy refused p line ⊎ ((q : Progress) × GoesOnBy refused p line q × (most_nodes < nodes_at q))
+PassesLimit (Claimed c) line = (l : Line2) × (here : ClaimingValue) × IsOneLine line l × FitsAt c l here × (most_lines ≤ lines_told here)
 
 -- this is found of these claims: the first failure, or none, under the premises that all these events keep, with the
 -- clocks of the header
-abbrev pub Judges : HeaderValue → List Claim → Option Failure → Type 0
-Judges header claims found = (setting : Setting) → HasClocks header setting → IsFound (premises_of header claims) setting header claims found
+abbrev pub GivesVerdict : HeaderValue → List Claim → Option Failure → Type 0
+GivesVerdict header claims found = (setting : Setting) → HasClocks header setting → IsFound (premises_of header claims) setting header claims found
 
 -- the input may end, and these octets are its last output: the verdict on all events, which can all be passed
-abbrev pub Ends : Reading → List ℕ → Type 0
-Ends (Scheduling p) more = ⊥
-Ends (Claimed c) more = (all : ClaimingValue) × (found : Option Failure) × (passes_all c ≡ Some all) × Judges all.header all.passed found × (more ≡ verdict_text found)
+abbrev pub MayEnd : Reading → List ℕ → Type 0
+MayEnd (Scheduling p) more = ⊥
+MayEnd (Claimed c) more = (all : ClaimingValue) × (found : Option Failure) × (passes_all c ≡ Some all) × GivesVerdict all.header all.passed found × (more ≡ verdict_text found)
 
 -- the input may not end yet, for this cause: the schedule has not ended; or, for `history`, one of the events that are
 -- left lacks something
-abbrev pub Lacks : Reading → List ℕ → Type 0
-Lacks (Scheduling p) cause = LacksBy p cause
-Lacks (Claimed c) cause = (passes_all c ≡ None) × (cause ≡ codes "history")
+abbrev pub IsWanting : Reading → List ℕ → Type 0
+IsWanting (Scheduling p) cause = LacksBy p cause
+IsWanting (Claimed c) cause = (passes_all c ≡ None) × (cause ≡ codes "history")

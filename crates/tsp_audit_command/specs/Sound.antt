@@ -6,8 +6,7 @@ use Rattle.tsp_audit.specs.Premised.{premises_of}
 use Rattle.tsp_base.specs.declared.act.Placed.{Placed}
 use Rattle.tsp_base.specs.declared.event.Event.{Event}
 use Rattle.tsp_base.specs.declared.place.Port.{Port}
-use Rattle.tsp_base.specs.Headers.{HeaderValue}
-use Rattle.tsp_base.specs.History.{Acts, Begins, Deed, Line}
+use Rattle.tsp_base.specs.Words.{HeaderValue, Acts, Begins, Deed, Line}
 use Rattle.tsp_audit_command.specs.ClaimReaders.{most_lines, tallied}
 use Rattle.tsp_audit_command.specs.Listings.{AreListed, IsAudited}
 use Rattle.tsp_claims.specs.declared.claims.Claims.{Claims}

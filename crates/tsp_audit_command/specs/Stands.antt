@@ -1,13 +1,13 @@
 -- What the values that the treatment of an audit holds stand for, and what each of its calls makes of them.
 use Rattle.std.specs.Prelude.{◌≡◌, ℕ, ◌<◌, ◌≤◌, List, [], length, reverse, Option, None, codes}
 use Rattle.tsp_base.specs.declared.event.Event.{Event}
-use Rattle.tsp_base.specs.Headers.{HeaderValue}
+use Rattle.tsp_base.specs.Words.{HeaderValue}
 use Rattle.tsp_audit_command.specs.declared.check.AuditInput.{AuditInput}
 use Rattle.tsp_audit_command.specs.declared.check.AuditInput.TheVariants.{Schedule, Claims as ClaimsOf}
 use Rattle.tsp_audit_command.specs.declared.listing.Listing.{Listing}
-use Rattle.tsp_audit_command.specs.ClaimReaders.{ClaimingValue, FitsAt, FitsHere, MisfitsAt, Tells, lines_told, most_lines, told_more}
+use Rattle.tsp_audit_command.specs.ClaimReaders.{ClaimingValue, FitsAt, FitsHere, MisfitsAt, IsOneLine, lines_told, most_lines, told_more}
 use Rattle.tsp_audit_command.specs.Listings.{most_nodes}
-use Rattle.tsp_audit_command.specs.Readings.{Claimed, Ends, GoesOn, Lacks, Limits, Reaches, Reading, Refuses, Scheduling, nodes_at}
+use Rattle.tsp_audit_command.specs.Readings.{Claimed, MayEnd, ReadsOn, IsWanting, PassesLimit, ReachesReading, Reading, RefusesLine, Scheduling, nodes_at}
 use Rattle.tsp_claims.specs.Listed.{booted, up_in}
 use Rattle.tsp_schedule.specs.declared.stage.Stage.{Stage}
 use Rattle.tsp_schedule.specs.declared.stage.Stage.TheVariants.{Untitled as AtUntitled, Titled as AtTitled, Drifted as AtDrifted, Heading as AtHeading, Running as AtRunning}
@@ -27,28 +27,28 @@ pub record ListingStands (header : HeaderValue) (events : List Event) (listing :
   pub up_is : up_in listing.up.items ≡ booted events
 
 -- what is held stands for a reading that has come so far
-abbrev pub HeldStands : Reading → AuditInput → Type 0
-HeldStands (Scheduling p) (Schedule stage) = StageStands ListingStands p stage
-HeldStands (Claimed c) (ClaimsOf claiming) = claiming ≡ c
-HeldStands _ _ = ⊥
+abbrev pub EventStands : Reading → AuditInput → Type 0
+EventStands (Scheduling p) (Schedule stage) = StageStands ListingStands p stage
+EventStands (Claimed c) (ClaimsOf claiming) = claiming ≡ c
+EventStands _ _ = ⊥
 
 -- what is held stands for these lines, whichever way they are read
-abbrev pub Stands : AuditInput → List (List ℕ) → Type 0
-Stands held lines = (r : Reading) → Reaches (reverse lines) r → HeldStands r held
+abbrev pub ReadingStands : AuditInput → List (List ℕ) → Type 0
+ReadingStands held lines = (r : Reading) → ReachesReading (reverse lines) r → EventStands r held
 
 -- a line was accepted: it brings the reading to one place, and to no other, and what is held stands for that
-pub record Advances (r : Reading) (line : List ℕ) (next : AuditInput) : Type 0 where
+pub record AdvancesReading (r : Reading) (line : List ℕ) (next : AuditInput) : Type 0 where
   pub to : Reading
-  pub goes : GoesOn r line to
-  pub stands_for : HeldStands to next
-  pub only : (other : Reading) → GoesOn r line other → other ≡ to
+  pub goes : ReadsOn r line to
+  pub stands_for : EventStands to next
+  pub only : (other : Reading) → ReadsOn r line other → other ≡ to
 
 -- a line was not accepted, for this reason: it may not follow, it passes a limit, or there was no memory
-abbrev pub Halts : Reading → List ℕ → Stop → Type 0
-Halts r line (Bad cause) = Refuses r line cause
-Halts r line Limit = Limits r line
-Halts r line WriteFault = ⊥
-Halts r line OutOfMemory = Unit {0}
+abbrev pub HaltsReading : Reading → List ℕ → Stop → Type 0
+HaltsReading r line (Bad cause) = RefusesLine r line cause
+HaltsReading r line Limit = PassesLimit r line
+HaltsReading r line WriteFault = ⊥
+HaltsReading r line OutOfMemory = Unit {0}
 
 -- events were not passed, for this reason: they can't be (`history`), or there was no memory
 abbrev pub Unpassed : Option ClaimingValue → Stop → Type 0
@@ -58,8 +58,8 @@ Unpassed next WriteFault = ⊥
 Unpassed next OutOfMemory = Unit {0}
 
 -- a line was added to those of the event at hand
-abbrev pub Adds : ClaimingValue → Line2 → ClaimingValue → Type 0
-Adds c l now = FitsHere c l × (lines_told c < most_lines) × (now ≡ told_more c l)
+abbrev pub AddsLine : ClaimingValue → Line2 → ClaimingValue → Type 0
+AddsLine c l now = FitsHere c l × (lines_told c < most_lines) × (now ≡ told_more c l)
 
 -- a line was not added: it doesn't fit (`history`), it fits after 20,000 lines (a limit), or there was no memory
 abbrev pub HaltsAdding : ClaimingValue → Line2 → Stop → Type 0
@@ -81,7 +81,7 @@ HaltsTelling c l OutOfMemory = Unit {0}
 
 -- a claimed line was read, and added to those of its event
 abbrev pub ClaimAdvances : ClaimingValue → List ℕ → ClaimingValue → Type 0
-ClaimAdvances c line now = (l : Line2) × Tells line l × TellsMore c l now
+ClaimAdvances c line now = (l : Line2) × IsOneLine line l × TellsMore c l now
 
 -- nothing is held after a line of the schedule: its header has more than 16 nodes, or there was no memory
 abbrev pub HaltsBehind : Progress → Stop → Type 0
@@ -100,11 +100,11 @@ HasNodes (AtRunning run) count = count ≡ length run.course.header.nodes
 
 -- exactly the verdict was put into the output, and the input may end
 abbrev pub Concludes : ClaimingValue → Option (List ℕ) → List ℕ → Option (List ℕ) → List ℕ → Type 0
-Concludes c written held now keeps = (more : List ℕ) × Hands written held now keeps more × Ends (Claimed c) more
+Concludes c written held now keeps = (more : List ℕ) × Hands written held now keeps more × MayEnd (Claimed c) more
 
 -- nothing was put into the output: an event that is left lacks something, a write failed, or there was no memory
 abbrev pub HaltsConcluding : ClaimingValue → Option (List ℕ) → List ℕ → Option (List ℕ) → List ℕ → Stop → Type 0
-HaltsConcluding c written held now keeps (Bad cause) = Hands written held now keeps [] × Lacks (Claimed c) cause
+HaltsConcluding c written held now keeps (Bad cause) = Hands written held now keeps [] × IsWanting (Claimed c) cause
 HaltsConcluding c written held now keeps Limit = ⊥
 HaltsConcluding c written held now keeps WriteFault = Hands written held now keeps []
 HaltsConcluding c written held now keeps OutOfMemory = Hands written held now keeps []

@@ -1,9 +1,9 @@
 //! The audit of a claimed history as a treatment of lines.
 ghost use Rattle.std.specs.Prelude.{◌≡◌, ◌≢◌, ◌≤◌, ◌<◌, ℕ, List, length, take, MatchBool, MatchResult, Err};
 ghost use Rattle.tsp_audit_command.specs.Listings.{most_nodes};
-ghost use Rattle.tsp_audit_command.specs.Readings.{Lacks, Reading, Refuses, Scheduling, nodes_at, reading_of};
-ghost use Rattle.tsp_audit_command.specs.Stands.{Advances, Concludes, Halts, HaltsBehind};
-ghost use Rattle.tsp_audit_command.specs.Stands.{HaltsConcluding, HasNodes, HeldStands};
+ghost use Rattle.tsp_audit_command.specs.Readings.{IsWanting, Reading, RefusesLine, Scheduling, nodes_at, reading_of};
+ghost use Rattle.tsp_audit_command.specs.Stands.{AdvancesReading, Concludes, HaltsReading, HaltsBehind};
+ghost use Rattle.tsp_audit_command.specs.Stands.{HaltsConcluding, HasNodes, EventStands};
 ghost use Rattle.tsp_audit_command.specs.Stands.{ListingStands};
 ghost use Rattle.tsp_schedule.specs.Schedules.{IsEnded, Progress};
 ghost use Rattle.tsp_schedule.specs.Stages.{RunStands, StageStands};
@@ -50,7 +50,7 @@ fn node_count(stage: &Stage<Listing>) -> usize
 /// Why the input may not end within the schedule: `header` where the header lacks a line, else `no-end`.
 fn missing(stage: &Stage<Listing>) -> Cause
     ensures { (p : Progress) → StageStands ListingStands p stage.now → ¬ IsEnded p
-        → Lacks (Scheduling p) result }
+        → IsWanting (Scheduling p) result }
 {
     match stage.lacks() {
         Some(cause) => cause,
@@ -95,8 +95,8 @@ impl AuditInput {
     /// follow the lines before it. `Limit` where it could but for a limit: it has node 17, event 20,001 or claimed line
     /// 20,001. Else fails only if out of memory. After a fault no further line must be read.
     fn advance(&mut self, alloc: Global, line: &[u8]) -> Result<(), Stop>
-        ensures next { (r : Reading) → HeldStands r self.old
-            → MatchResult result (λ _. Advances r line.now self.new) (Halts r line.now) }
+        ensures next { (r : Reading) → EventStands r self.old
+            → MatchResult result (λ _. AdvancesReading r line.now self.new) (HaltsReading r line.now) }
         ensures kind { result ≢ Err Stop.WriteFault }
     {
         if let AuditInput::Claims(claiming) = self {
@@ -108,8 +108,8 @@ impl AuditInput {
     /// The same within the schedule. Only here is there room for what is held next, since each call clears that room.
     #[inline(never)]
     fn go_on(&mut self, alloc: Global, line: &[u8]) -> Result<(), Stop>
-        ensures next { (r : Reading) → HeldStands r self.old
-            → MatchResult result (λ _. Advances r line.now self.new) (Halts r line.now) }
+        ensures next { (r : Reading) → EventStands r self.old
+            → MatchResult result (λ _. AdvancesReading r line.now self.new) (HaltsReading r line.now) }
         ensures kind { result ≢ Err Stop.WriteFault }
     {
         match mem::replace(self, AuditInput::new()).next(alloc, line) {
@@ -124,8 +124,8 @@ impl AuditInput {
     /// Reads a line as `advance` does, if it is that of a turn, a take or octets within the schedule, and nothing refuses
     /// it. False for any other line, and then nothing has changed.
     fn try_advance(&mut self, line: &[u8]) -> bool
-        ensures { (r : Reading) → HeldStands r self.old
-            → MatchBool result (Advances r line.now self.new) (HeldStands r self.new) }
+        ensures { (r : Reading) → EventStands r self.old
+            → MatchBool result (AdvancesReading r line.now self.new) (EventStands r self.new) }
     {
         let AuditInput::Schedule(stage) = self else {
             return false;
@@ -138,8 +138,8 @@ impl AuditInput {
 
     /// What the lines come to with this one more; fails as `advance` does.
     fn next(self, alloc: Global, line: &[u8]) -> Result<AuditInput, Stop>
-        ensures next { (r : Reading) → HeldStands r self
-            → MatchResult result (Advances r line.now) (Halts r line.now) }
+        ensures next { (r : Reading) → EventStands r self
+            → MatchResult result (AdvancesReading r line.now) (HaltsReading r line.now) }
         ensures kind { result ≢ Err Stop.WriteFault }
     {
         match self {
@@ -154,8 +154,8 @@ impl AuditInput {
     /// Reads a line of the schedule, up to `end`; fails as `next` does.
     fn schedule(alloc: Global, mut stage: Stage<Listing>, line: &[u8]) -> Result<AuditInput, Stop>
         ensures next { (p : Progress) → StageStands ListingStands p stage
-            → MatchResult result (Advances (Scheduling p) line.now)
-            (Halts (Scheduling p) line.now) }
+            → MatchResult result (AdvancesReading (Scheduling p) line.now)
+            (HaltsReading (Scheduling p) line.now) }
         ensures kind { result ≢ Err Stop.WriteFault }
     {
         match stage.advance(alloc, line) {
@@ -169,7 +169,7 @@ impl AuditInput {
     fn behind(alloc: Global, stage: Stage<Listing>) -> Result<AuditInput, Stop>
         ensures next { (p : Progress) → StageStands ListingStands p stage
             → MatchResult result (λ next. (nodes_at p ≤ most_nodes)
-            × HeldStands (reading_of p) next) (HaltsBehind p) }
+            × EventStands (reading_of p) next) (HaltsBehind p) }
         ensures kind { result ≢ Err Stop.WriteFault }
     {
         if node_count(&stage) > MOST_NODES {
@@ -189,7 +189,7 @@ impl AuditInput {
     fn behind_header(alloc: Global, run: Run<Listing>) -> Result<AuditInput, Stop>
         requires { length run.course.header.nodes ≤ most_nodes }
         ensures next { (p : Progress) → RunStands ListingStands p run
-            → MatchResult result (HeldStands (reading_of p)) (λ stop. stop ≡ Stop.OutOfMemory) }
+            → MatchResult result (EventStands (reading_of p)) (λ stop. stop ≡ Stop.OutOfMemory) }
         ensures kind { result ≢ Err Stop.WriteFault }
     {
         if !run.over {
@@ -205,8 +205,8 @@ impl AuditInput {
     /// The cause for which a line of more than 1,024 octets is refused; `start` is its first 8 octets. In the schedule
     /// it is that of a replay, after the schedule `line`.
     fn refuse_long(&self, start: &[u8]) -> Cause
-        ensures { (r : Reading) → HeldStands r self.now → (line : List ℕ) → 1024 < length line
-            → start.now ≡ take 8 line → Refuses r line result }
+        ensures { (r : Reading) → EventStands r self.now → (line : List ℕ) → 1024 < length line
+            → start.now ≡ take 8 line → RefusesLine r line result }
     {
         match self {
             AuditInput::Schedule(stage) => stage.refuse_long(start),
@@ -238,11 +238,11 @@ impl Check {
 
 impl Treatment for Check {
     ghost use Rattle.tsp_audit_command.specs.Meaning.{auditing};
-    ghost use Rattle.tsp_audit_command.specs.Stands.{Stands};
+    ghost use Rattle.tsp_audit_command.specs.Stands.{ReadingStands};
 
     ghost meaning = { auditing };
 
-    ghost stands = { λ c lines. Stands c.held lines };
+    ghost stands = { λ c lines. ReadingStands c.held lines };
 
     fn is_full(&self) -> bool {
         false

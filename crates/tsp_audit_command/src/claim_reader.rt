@@ -70,7 +70,7 @@ impl ClaimReader {
     ghost use Rattle.tsp_audit_command.specs.ClaimReaders.{FitsHere, lines_told, pass_one, passes, passes_all};
     ghost use Rattle.tsp_audit_command.specs.Listings.{AreListed, IsAudited};
     ghost use Rattle.tsp_audit_command.specs.Readings.{Claimed};
-    ghost use Rattle.tsp_audit_command.specs.Stands.{Adds, ClaimAdvances, Halts, HaltsAdding};
+    ghost use Rattle.tsp_audit_command.specs.Stands.{AddsLine, ClaimAdvances, HaltsReading, HaltsAdding};
     ghost use Rattle.tsp_audit_command.specs.Stands.{HaltsTelling, TellsMore, Unpassed};
 
     /// Before the first claimed line of these events, which come oldest first. Fails only if out of memory, and then
@@ -170,10 +170,10 @@ impl ClaimReader {
         self.claims.told() + self.pending.lines().len() as u64
     }
 
-    /// Adds a line to those of the event at hand. `Bad` with `history` where it doesn't fit as the next one; `Limit`
+    /// AddsLine a line to those of the event at hand. `Bad` with `history` where it doesn't fit as the next one; `Limit`
     /// where it does, but 20,000 lines are claimed already; else fails only if out of memory.
     fn add(&mut self, line: Line2) -> Result<(), Stop>
-        ensures { MatchResult result (λ _. Adds self.old line self.new)
+        ensures { MatchResult result (λ _. AddsLine self.old line self.new)
             (HaltsAdding self.old line) }
     {
         if !self.fits(&line) {
@@ -208,7 +208,7 @@ impl ClaimReader {
     /// Reads a claimed line, without its line feed. `Bad` with `line` where it is no line of a trace; else as `tell`.
     pub(crate) fn line(&mut self, line: &[u8]) -> Result<(), Stop>
         ensures { MatchResult result (λ _. ClaimAdvances self.old line.now self.new)
-            (Halts (Claimed self.old) line.now) }
+            (HaltsReading (Claimed self.old) line.now) }
     {
         match act_of(line) {
             Ok(read) => self.tell(read),

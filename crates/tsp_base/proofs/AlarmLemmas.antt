@@ -4,8 +4,8 @@ use Rattle.std.proofs.Common.{refl, inl, inr, arith, ap, sym, subst, ◌∙◌}
 use Rattle.std.proofs.lemmas.Bool.{cases_lt}
 use Rattle.std.proofs.lemmas.List.{drop_all}
 use Rattle.tsp_base.specs.declared.alarm.Alarm.{Alarm}
-use Rattle.tsp_base.specs.declared.alarm.Alarm.TheVariants.{Quiet, Search, Elect, Window, Probe, Close, Resolve, Round}
-use Rattle.tsp_base.specs.Alarms.{Deadlines, deadline, deadlines_in, earlier, least_deadline}
+use Rattle.tsp_base.specs.declared.alarm.Alarm.TheVariants.{Quiet, Search, Elect, Window, Probe, Close as CloseAlarm, Resolve as ResolveAlarm, Round}
+use Rattle.tsp_base.specs.Words.{Deadlines, deadline, deadlines_in, earlier, least_deadline}
 
 -- the earlier of two is one of them
 pub earlier_is_one : (a b : Option ℕ) → (earlier a b ≡ a) ⊎ (earlier a b ≡ b)
@@ -26,7 +26,7 @@ pub least_deadline_armed : (d : Deadlines) → (a : Alarm) × (least_deadline d 
 least_deadline_armed d =
     one (earlier (earlier d.quiet d.search) (earlier d.elect d.window)) (earlier (earlier d.probe d.close) (earlier d.resolve d.round))
     (two d.quiet d.search d.elect d.window Quiet Search Elect Window refl refl refl refl)
-    (two d.probe d.close d.resolve d.round Probe Close Resolve Round refl refl refl refl) where
+    (two d.probe d.close d.resolve d.round Probe CloseAlarm ResolveAlarm Round refl refl refl refl) where
       one : (x y : Option ℕ) → (a : Alarm) × (x ≡ deadline d a) → (a : Alarm) × (y ≡ deadline d a) → (a : Alarm) × (earlier x y ≡ deadline d a)
       one x y p q = elim (earlier_is_one x y) [ inl e ↦ (p.0, e ∙ p.1) | inr e ↦ (q.0, e ∙ q.1) ]
 
@@ -71,8 +71,8 @@ none_later d a t e = is_by t (least_deadline d) (pick a e) where
   pick Elect e = by_left t (early d) (late d) (by_right t (earlier d.quiet d.search) (earlier d.elect d.window) (by_left t d.elect d.window (by_some t d.elect e)))
   pick Window e = by_left t (early d) (late d) (by_right t (earlier d.quiet d.search) (earlier d.elect d.window) (by_right t d.elect d.window (by_some t d.window e)))
   pick Probe e = by_right t (early d) (late d) (by_left t (earlier d.probe d.close) (earlier d.resolve d.round) (by_left t d.probe d.close (by_some t d.probe e)))
-  pick Close e = by_right t (early d) (late d) (by_left t (earlier d.probe d.close) (earlier d.resolve d.round) (by_right t d.probe d.close (by_some t d.close e)))
-  pick Resolve e = by_right t (early d) (late d) (by_right t (earlier d.probe d.close) (earlier d.resolve d.round) (by_left t d.resolve d.round (by_some t d.resolve e)))
+  pick CloseAlarm e = by_right t (early d) (late d) (by_left t (earlier d.probe d.close) (earlier d.resolve d.round) (by_right t d.probe d.close (by_some t d.close e)))
+  pick ResolveAlarm e = by_right t (early d) (late d) (by_right t (earlier d.probe d.close) (earlier d.resolve d.round) (by_left t d.resolve d.round (by_some t d.resolve e)))
   pick Round e = by_right t (early d) (late d) (by_right t (earlier d.probe d.close) (earlier d.resolve d.round) (by_right t d.resolve d.round (by_some t d.round e)))
 
 -- what holds of each list of eight

@@ -8,7 +8,7 @@ use Rattle.std.proofs.lemmas.Bool.Decides.{nat_tests}
 use Rattle.std.proofs.lemmas.List.{length-map, get_or-map}
 use Rattle.std.proofs.lemmas.List.Kept.{AllPairs-from_increasing}
 use Rattle.tsp_base.specs.declared.place.PeerId.{PeerId}
-use Rattle.tsp_base.specs.Peers.{IsAscending}
+use Rattle.tsp_base.specs.Words.{IsAscending}
 
 -- of two places the later one has the greater number
 pub record Rise {A : Type 0} (number : A → ℕ) (xs : List A) : Type 0 where

@@ -2,7 +2,7 @@
 use Rattle.std.specs.Prelude.{◌≡◌, ℕ, ◌+◌, ◌≤◌, List, [], ◌∷◌, ◌++◌, length}
 use Rattle.std.proofs.Common.{sym, ◌∙◌, ap, arith, length-append, add-zero}
 use Rattle.tsp_base.specs.declared.act.Placed.{Placed}
-use Rattle.tsp_base.specs.Frames.{PutsAtMost, PutsExactly}
+use Rattle.tsp_base.specs.Words.{PutsAtMost, PutsExactly}
 
 -- nothing is put
 pub PutsExactly_none : {room : ℕ} {old : List Placed} → PutsExactly 0 room room old old

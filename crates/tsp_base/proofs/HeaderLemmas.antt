@@ -12,7 +12,7 @@ use Rattle.std.proofs.Math.Bool.{and-false}
 use Rattle.std.specs.Prelude.{count_by}
 use Rattle.std.specs.List.{All, list_any, list_all}
 use Rattle.tsp_base.specs.declared.header.NodeLine.{NodeLine}
-use Rattle.tsp_base.specs.Headers.{HeaderValue, IsHeader, Keeps, IsNet, Joins, has_member, nets_with, all_joined}
+use Rattle.tsp_base.specs.Words.{HeaderValue, IsHeader, KeepsDrift, IsNet, Joins, has_member, nets_with, all_joined}
 
 All-one : {X : Type 0} (P : X → Type 0) (x : X) → P x → All P (x ∷ [])
 All-one P x h = λ k d lt. let zero_is : k ≡ 0 = omega (arith, lt) in subst (λ i. P (slice_index_or (x ∷ []) i d)) (let e : 0 ≡ k = omega (arith, lt) in e) h
@@ -21,18 +21,18 @@ All-none : {X : Type 0} (P : X → Type 0) → All P []
 All-none P = λ k d lt. absurd (omega arith)
 
 -- a header without networks has room for one node more
-pub IsHeader-more : (h : HeaderValue) (line : NodeLine) → IsHeader h → h.nets ≡ [] → length h.nodes < 64 → Keeps h.drift line → IsHeader (record h { nodes = h.nodes ++ line ∷ [] })
+pub IsHeader-more : (h : HeaderValue) (line : NodeLine) → IsHeader h → h.nets ≡ [] → length h.nodes < 64 → KeepsDrift h.drift line → IsHeader (record h { nodes = h.nodes ++ line ∷ [] })
 IsHeader-more h line valid none few keeps = record {
   small = valid.small;
   few = (let e : length (h.nodes ++ line ∷ []) ≡ length h.nodes + 1 = length-append h.nodes (line ∷ []) in omega (arith, e, few));
-  kept = All-append (Keeps h.drift) h.nodes (line ∷ []) valid.kept (All-one (Keeps h.drift) line keeps);
+  kept = All-append (KeepsDrift h.drift) h.nodes (line ∷ []) valid.kept (All-one (KeepsDrift h.drift) line keeps);
   few_nets = valid.few_nets;
   nets_are = rw none (All-none _);
   few_ports = valid.few_ports;
 }
 
 -- and so does one node more, or none
-pub IsHeader-maybe : (b : Bool) (h : HeaderValue) (line : NodeLine) → IsHeader h → h.nets ≡ [] → length h.nodes < 64 → Keeps h.drift line → IsHeader (record h { nodes = (if b then h.nodes ++ line ∷ [] else h.nodes) })
+pub IsHeader-maybe : (b : Bool) (h : HeaderValue) (line : NodeLine) → IsHeader h → h.nets ≡ [] → length h.nodes < 64 → KeepsDrift h.drift line → IsHeader (record h { nodes = (if b then h.nodes ++ line ∷ [] else h.nodes) })
 IsHeader-maybe true h line valid none few keeps = IsHeader-more h line valid none few keeps
 IsHeader-maybe false h line valid none few keeps = valid
 

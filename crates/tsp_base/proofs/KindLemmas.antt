@@ -4,8 +4,8 @@ use Rattle.std.proofs.lemmas.Bool.Decides.{nat_tests}
 use denote.Enum.Declared.{tag_of}
 use Rattle.tsp_base.specs.contracts.kind.Kind.{the_type}
 use Rattle.tsp_base.specs.declared.kind.Kind.{Kind}
-use Rattle.tsp_base.specs.declared.kind.Kind.TheVariants.{AdjTime, Ack, MasterReq, MasterAck, SetTime, MasterUp, SlaveUp, Election, Accept, Refuse, Conflict, Resolve, Quit, Date, DateReq, DateAck, TraceOn, TraceOff, Msite, MsiteReq, Test, SetDate, SetDateReq, Loop}
-use Rattle.tsp_base.specs.Kinds.{kind_number, kind_of, kinds}
+use Rattle.tsp_base.specs.declared.kind.Kind.TheVariants.{AdjTime, Ack, MasterReq, MasterAck, SetTime, MasterUp, SlaveUp, Election, Accept, Refuse, Conflict, Resolve as ResolveKind, Quit as QuitKind, Date, DateReq, DateAck, TraceOn, TraceOff, Msite, MsiteReq, Test, SetDate, SetDateReq, Loop as LoopKind}
+use Rattle.tsp_base.specs.Words.{kind_number, kind_of, kinds}
 
 pub number_of_tag : (k : Kind) → tag_of the_type k + 1 ≡ kind_number k
 unfolding kind_number
@@ -20,8 +20,8 @@ number_of_tag Election = refl
 number_of_tag Accept = refl
 number_of_tag Refuse = refl
 number_of_tag Conflict = refl
-number_of_tag Resolve = refl
-number_of_tag Quit = refl
+number_of_tag ResolveKind = refl
+number_of_tag QuitKind = refl
 number_of_tag Date = refl
 number_of_tag DateReq = refl
 number_of_tag DateAck = refl
@@ -32,7 +32,7 @@ number_of_tag MsiteReq = refl
 number_of_tag Test = refl
 number_of_tag SetDate = refl
 number_of_tag SetDateReq = refl
-number_of_tag Loop = refl
+number_of_tag LoopKind = refl
 
 pub kind_of-kind_number : (k : Kind) → kind_of (kind_number k) ≡ Some k
 unfolding kind_number kind_of
@@ -47,8 +47,8 @@ kind_of-kind_number Election = refl
 kind_of-kind_number Accept = refl
 kind_of-kind_number Refuse = refl
 kind_of-kind_number Conflict = refl
-kind_of-kind_number Resolve = refl
-kind_of-kind_number Quit = refl
+kind_of-kind_number ResolveKind = refl
+kind_of-kind_number QuitKind = refl
 kind_of-kind_number Date = refl
 kind_of-kind_number DateReq = refl
 kind_of-kind_number DateAck = refl
@@ -59,7 +59,7 @@ kind_of-kind_number MsiteReq = refl
 kind_of-kind_number Test = refl
 kind_of-kind_number SetDate = refl
 kind_of-kind_number SetDateReq = refl
-kind_of-kind_number Loop = refl
+kind_of-kind_number LoopKind = refl
 
 pub at_place : (k d : Kind) → slice_index_or kinds (kind_number k - 1) d ≡ k
 unfolding kind_number
@@ -74,8 +74,8 @@ at_place Election d = refl
 at_place Accept d = refl
 at_place Refuse d = refl
 at_place Conflict d = refl
-at_place Resolve d = refl
-at_place Quit d = refl
+at_place ResolveKind d = refl
+at_place QuitKind d = refl
 at_place Date d = refl
 at_place DateReq d = refl
 at_place DateAck d = refl
@@ -86,7 +86,7 @@ at_place MsiteReq d = refl
 at_place Test d = refl
 at_place SetDate d = refl
 at_place SetDateReq d = refl
-at_place Loop d = refl
+at_place LoopKind d = refl
 
 pub place_in_range : (k : Kind) → kind_number k - 1 < 24
 unfolding kind_number
@@ -101,8 +101,8 @@ place_in_range Election = lit< tt
 place_in_range Accept = lit< tt
 place_in_range Refuse = lit< tt
 place_in_range Conflict = lit< tt
-place_in_range Resolve = lit< tt
-place_in_range Quit = lit< tt
+place_in_range ResolveKind = lit< tt
+place_in_range QuitKind = lit< tt
 place_in_range Date = lit< tt
 place_in_range DateReq = lit< tt
 place_in_range DateAck = lit< tt
@@ -113,7 +113,7 @@ place_in_range MsiteReq = lit< tt
 place_in_range Test = lit< tt
 place_in_range SetDate = lit< tt
 place_in_range SetDateReq = lit< tt
-place_in_range Loop = lit< tt
+place_in_range LoopKind = lit< tt
 
 -- the kinds of a list have the numbers from n on
 abbrev pub AreNumbered : List Kind → ℕ → Type 0
@@ -131,7 +131,7 @@ in_place (x ∷ xs) n (suc i) d a h = let r = in_place xs (n + 1) i d a.1 (omega
 
 pub kind_number-kind_of : (n : ℕ) (k : Kind) → kind_of n ≡ Some k → kind_number k ≡ n
 unfolding kind_of
-kind_number-kind_of n k e = grind (arith, in_place kinds 1 (n - 1) Loop numbered)
+kind_number-kind_of n k e = grind (arith, in_place kinds 1 (n - 1) LoopKind numbered)
 
 same_item : (ks : List Kind) (i : ℕ) (d e : Kind) → i < length ks → slice_index_or ks i d ≡ slice_index_or ks i e
 same_item [] i d e h = absurd (omega arith)
@@ -140,4 +140,4 @@ same_item (x ∷ xs) (suc i) d e h = same_item xs i d e (omega arith)
 
 pub kind_of-here : (n : ℕ) (d : Kind) → 1 ≤ n → n ≤ 24 → Some (slice_index_or kinds (n - 1) d) ≡ kind_of n
 unfolding kind_of
-kind_of-here n d low high = let e = same_item kinds (n - 1) d Loop (omega arith) in grind (arith, nat_tests)
+kind_of-here n d low high = let e = same_item kinds (n - 1) d LoopKind (omega arith) in grind (arith, nat_tests)

@@ -4,9 +4,7 @@ use Rattle.std.proofs.Common.{sym, ◌∙◌, ap, append_assoc, append-nil}
 use Rattle.std.proofs.lemmas.List.{map-append}
 use Rattle.tsp_base.specs.declared.act.Placed.{Placed}
 use Rattle.tsp_base.specs.declared.place.Port.{Port}
-use Rattle.tsp_base.specs.History.{Past}
-use Rattle.tsp_base.specs.Performs.{Performs, Keeps}
-use Rattle.tsp_base.specs.Rows.{Row, grown, placed, nothing, ◌followed_by◌, either_by, reading, for_each}
+use Rattle.tsp_base.specs.Words.{Past, Performs, Keeps, Row, grown, placed, nothing, ◌followed_by◌, either_by, reading, for_each}
 use Rattle.tsp_base.proofs.RowLemmas.{added_append, for_each-more}
 
 -- one call after another

@@ -1,7 +1,7 @@
 -- Order of places.
 use Rattle.std.specs.Prelude.{◌≤◌, List, [], ◌∷◌, length, refl}
 use Rattle.std.proofs.Common.{sym, arith, subst, ◌⊎◌, inl, inr}
-use Rattle.tsp_base.specs.Places.{Within}
+use Rattle.tsp_base.specs.Words.{Within}
 
 -- the whole list is a place of itself
 pub Within-all : {A : Type 0} (h : List A) → Within h h

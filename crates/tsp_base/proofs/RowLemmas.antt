@@ -4,8 +4,7 @@ use Rattle.std.proofs.Common.{sym, ◌∙◌, ap, append_assoc, append-nil, eq-e
 use Rattle.std.proofs.lemmas.Bool.{ne_eqb}
 use Rattle.tsp_base.specs.declared.act.Act.{Act}
 use Rattle.tsp_base.specs.declared.place.PeerId.{PeerId}
-use Rattle.tsp_base.specs.History.{Step, Seen, Here, Acts, Past}
-use Rattle.tsp_base.specs.Rows.{Row, added, grown, nothing, ◌followed_by◌, for_each, others}
+use Rattle.tsp_base.specs.Words.{Step, Seen, Here, Acts, Past, Row, added, grown, nothing, ◌followed_by◌, for_each, others}
 
 -- the past grows by one list of acts after another
 pub added_append : (step : Step) (x : ℕ) (xs ys : List Act) (seen : List Seen) → added step x (xs ++ ys) seen ≡ added step x ys (added step x xs seen)

@@ -7,10 +7,7 @@ use Rattle.tsp_base.specs.declared.datagram.Datagram.TheVariants.{Message}
 use Rattle.tsp_base.specs.declared.place.PeerId.{PeerId}
 use Rattle.tsp_base.specs.declared.place.Place.{Place}
 use Rattle.tsp_base.specs.declared.place.Place.TheVariants.{Peer, Stranger}
-use Rattle.tsp_base.specs.History.{Step, Acts, Seen, Here, did_of}
-use Rattle.tsp_base.specs.Messages.{MessageValue}
-use Rattle.tsp_base.specs.PortFacts.{acting}
-use Rattle.tsp_base.specs.SendFacts.{again, corrects_in, message_of, sending_of, is_numbered, is_correction, open_send, sending_at, open_to, posts_of, last_post, last_number, number_of, message_at, last_to, is_acknowledged, corrects_by}
+use Rattle.tsp_base.specs.Words.{Step, Acts, Seen, Here, did_of, MessageValue, acting, again, corrects_in, message_of, sending_of, is_numbered, is_correction, open_send, sending_at, open_to, posts_of, last_post, last_number, number_of, message_at, last_to, is_acknowledged, corrects_by}
 
 -- an act here, in this step and at this tick
 abbrev pub seen_act : Step → ℕ → Act → Seen

@@ -2,8 +2,7 @@
 use Rattle.std.specs.Prelude.{◌≡◌, ℕ, ◌+◌, ◌-◌, ◌*◌, ◌≤◌, ℤ, pos, negsuc, nat_abs}
 use Rattle.std.proofs.Common.{arith, subst, mul-le-mul_left}
 use Rattle.std.proofs.lemmas.Int.{ints}
-use Rattle.tsp_base.specs.NodeFacts.{eased}
-use Rattle.tsp_base.specs.Ticks.{tick_at, width}
+use Rattle.tsp_base.specs.Words.{eased, tick_at, width}
 
 -- nothing is slewed by 0
 pub eased_none : (r : ℤ) → eased r 0 ≡ r

@@ -2,8 +2,7 @@
 use Rattle.std.specs.Prelude.{◌≡◌, ◌==◌, ◌||◌, Bool, true, false, List, [], ◌∷◌, refl}
 use Rattle.std.proofs.Common.{sym, ap, subst, subst₂, inl, inr, eqb-true, eq-eqb}
 use Rattle.tsp_base.specs.declared.place.Port.{Port}
-use Rattle.tsp_base.specs.History.{Did, Line, Seen, Here, is_shared, seen_as, view, dids}
-use Rattle.tsp_base.specs.Places.{Within}
+use Rattle.tsp_base.specs.Words.{Did, Line, Seen, Here, is_shared, seen_as, view, dids, Within}
 use Rattle.tsp_base.proofs.PlaceLemmas.{Within-none}
 
 -- a place of the node's lines is a place of what a port sees

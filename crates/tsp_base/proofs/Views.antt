@@ -1,6 +1,6 @@
 use Rattle.std.specs.Prelude.{◌≡◌, ◌==◌, ◌||◌, Bool, true, false, List, [], ◌∷◌, refl}
 use Rattle.tsp_base.specs.declared.place.Port.{Port}
-use Rattle.tsp_base.specs.History.{Did, Line, is_shared, seen_as, view, did_of, plain, dids}
+use Rattle.tsp_base.specs.Words.{Did, Line, is_shared, seen_as, view, did_of, plain, dids}
 
 did_of-seen_as : (b : Bool) (d : Did) → did_of (seen_as b d) ≡ d
 did_of-seen_as true d = refl

@@ -16,7 +16,7 @@ pub record HeaderValue : Type 0 where
   pub nets : List (List ℕ)
 
 -- a node whose name is valid, whose rate is at most the drift in magnitude, and whose wall clock is in range
-pub record Keeps (drift : ℕ) (line : NodeLine) : Type 0 where
+pub record KeepsDrift (drift : ℕ) (line : NodeLine) : Type 0 where
   pub name : IsName line.name
   pub rate : nat_abs line.rate ≤ drift
   pub wall : nat_abs line.wall ≤ 1000000000000000
@@ -39,14 +39,14 @@ nets_with n nets = count_by (has_member n) nets
 pub record IsHeader (header : HeaderValue) : Type 0 where
   pub small : header.drift ≤ 1000
   pub few : length header.nodes ≤ 64
-  pub kept : All (Keeps header.drift) header.nodes
+  pub kept : All (KeepsDrift header.drift) header.nodes
   pub few_nets : length header.nets ≤ 64
   pub nets_are : All (IsNet (length header.nodes)) header.nets
   pub few_ports : (n : ℕ) → nets_with n header.nets ≤ 4
 
 -- what adding a node to a header answers, and the header after it
 abbrev pub Pushes : HeaderValue → NodeLine → Result Unit HeaderFault → HeaderValue → Type 0
-Pushes old line (Ok _) new = (length old.nodes < 64) × Keeps old.drift line × (new ≡ record old { nodes = old.nodes ++ line ∷ [] })
+Pushes old line (Ok _) new = (length old.nodes < 64) × KeepsDrift old.drift line × (new ≡ record old { nodes = old.nodes ++ line ∷ [] })
 Pushes old line (Err Full) new = (64 ≤ length old.nodes) × (new ≡ old)
 Pushes old line (Err Rate) new = (length old.nodes < 64) × (old.drift < nat_abs line.rate) × (new ≡ old)
 Pushes old line (Err Wall) new = (length old.nodes < 64) × (nat_abs line.rate ≤ old.drift) × (1000000000000000 < nat_abs line.wall) × (new ≡ old)

@@ -24,3 +24,4 @@ pub mod Stamps
 pub mod Takings
 pub mod Ticks
 pub mod Times
+pub mod Words

@@ -1,7 +1,7 @@
 //! The header of a schedule: the nodes, their clocks and their networks.
 ghost use Rattle.std.specs.Prelude.{◌≡◌, ◌≤◌, ◌<◌, ◌↔◌, length, [], ◌∷◌, ◌++◌, IsTrue, nat_lt};
 ghost use Rattle.std.specs.List.{list_any, list_all};
-ghost use Rattle.tsp_base.specs.Headers.{IsHeader, Pushes, Keeps, AddsNet, IsNet, Joins, nets_with};
+ghost use Rattle.tsp_base.specs.Headers.{IsHeader, Pushes, KeepsDrift, AddsNet, IsNet, Joins, nets_with};
 ghost use Rattle.tsp_base.specs.Headers.{has_member, all_joined, is_whole};
 
 use crate::constants::SCHEDULE_END;

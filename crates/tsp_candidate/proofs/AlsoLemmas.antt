@@ -1,10 +1,7 @@
 -- What a candidate's answers leave as it is: what is remembered, the clock, and what was taken.
 use Rattle.std.specs.Prelude.{ℕ, refl}
-use Rattle.tsp_base.specs.declared.act.Act.TheVariants.{Become, Backer, Acked}
-use Rattle.tsp_base.specs.declared.place.PeerId.{PeerId}
-use Rattle.tsp_base.specs.declared.role.Role.TheVariants.{Loose}
-use Rattle.tsp_base.specs.Performs.{Keeps}
-use Rattle.tsp_base.specs.Rows.{nothing, puts, ◌followed_by◌}
+use Rattle.tsp_rules.specs.Values.{Become, Backer, Acked, PeerId, Loose}
+use Rattle.tsp_base.specs.Words.{Keeps, nothing, puts, ◌followed_by◌}
 use Rattle.tsp_rules.specs.CandidateRows.{accepted_by, refused_by, yields}
 use Rattle.tsp_rules.specs.CommonRows.{arms_elect}
 use Rattle.tsp_rules.specs.SendRows.{has_election}

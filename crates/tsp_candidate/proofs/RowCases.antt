@@ -1,10 +1,8 @@
 -- A candidate's row by kinds, in the kinds that share one.
 use Rattle.std.specs.Prelude.{◌≡◌, ◌⊎◌, refl}
 use Rattle.std.proofs.Common.{inl, inr}
-use Rattle.tsp_base.specs.declared.kind.Kind.{Kind}
-use Rattle.tsp_base.specs.declared.kind.Kind.TheVariants.{MasterAck, MasterUp}
-use Rattle.tsp_base.specs.declared.place.PeerId.{PeerId}
-use Rattle.tsp_base.specs.Messages.{MessageValue}
+use Rattle.tsp_rules.specs.Values.{Kind, MasterAck, MasterUp, PeerId}
+use Rattle.tsp_base.specs.Words.{MessageValue}
 use Rattle.tsp_rules.specs.CandidateRows.{candidate_takes_kind}
 use Rattle.tsp_rules.specs.CommonRows.{follow_row}
 

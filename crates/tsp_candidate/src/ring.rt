@@ -2,7 +2,7 @@
 ghost use Rattle.std.specs.Prelude.{◌≡◌, ℕ, ◌+◌, ◌≤◌, length};
 ghost use Rattle.tsp_base.specs.Rows.{either_by};
 ghost use Rattle.tsp_rules.specs.CandidateRows.{has_won, lead_row, window_rings, yields};
-ghost use Rattle.tsp_acks.specs.Calls.{ActsBy, IsTick, Past, Uses, UsesAtMost, IsSamePort, Stands};
+ghost use Rattle.tsp_acks.specs.Calls.{ActsBy, IsTick, Past, Uses, UsesAtMost, IsSamePort, StationStands};
 
 use tsp_acks::station::Station;
 use tsp_base::alarm::Alarm;
@@ -53,7 +53,7 @@ fn lead_or_give_way<D: Desk>(station: &mut Station, tick: u64, port: Port, desk:
 /// Whether the election is won: where elections are strict, more than half of the peers back the candidate,
 /// itself counted; else it is enough that nobody has refused.
 fn has_won(station: &Station) -> bool
-    ensures { (x : ℕ) (past : Past) → Stands past station.now → has_won x past ≡ result }
+    ensures { (x : ℕ) (past : Past) → StationStands past station.now → has_won x past ≡ result }
 {
     !station.me.strict || station.peers().len() < 2 * station.backers as usize + 2
 }

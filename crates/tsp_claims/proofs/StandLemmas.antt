@@ -5,8 +5,7 @@ use Rattle.std.proofs.lemmas.List.{length-map}
 use Rattle.std.proofs.Math.Path.{fun_ext}
 use Rattle.tsp_base.specs.declared.event.Event.{Event}
 use Rattle.tsp_base.specs.declared.act.Placed.{Placed}
-use Rattle.tsp_base.specs.Headers.{HeaderValue}
-use Rattle.tsp_base.specs.History.{Step}
+use Rattle.tsp_base.specs.Words.{HeaderValue, Step}
 use Rattle.tsp_claims.specs.declared.claimed.Claimed.{Claimed}
 use Rattle.tsp_claims.specs.declared.claims.Claims.{Claims}
 use Rattle.tsp_claims.specs.declared.taking_in.HeldStep.{HeldStep}
@@ -14,7 +13,7 @@ use Rattle.tsp_claims.specs.ClaimedHistory.{Claim, events_of, joins_acts, lines_
 use Rattle.tsp_claims.specs.Fitting.{acts_of}
 use Rattle.tsp_claims.specs.Listed.{boots, booted, up_in}
 use Rattle.tsp_claims.specs.Stands.{ClaimsStand, claim_of}
-use Rattle.tsp_claims.specs.TakingIn.{HoldsStep, Joins, Stays}
+use Rattle.tsp_claims.specs.TakingIn.{HoldsStep, JoinsEvent, StaysSame}
 use Rattle.tsp_history.specs.Histories.{history_of}
 use Rattle.tsp_base.specs.declared.trace.Line2.{Line2}
 
@@ -28,7 +27,7 @@ of-fields header claims c s P h =
     (subst (λ k. P k c.posts.items (up_in c.up.items) (c.events + 1)) s.header_is h)))
 
 -- claims that stay as they were stand for what they stood for
-pub ClaimsStand-stays : (header : HeaderValue) (claims : List Claim) (old new : Claims) → Stays old new → ClaimsStand header claims old → ClaimsStand header claims new
+pub ClaimsStand-stays : (header : HeaderValue) (claims : List Claim) (old new : Claims) → StaysSame old new → ClaimsStand header claims old → ClaimsStand header claims new
 ClaimsStand-stays header claims old new k s = record {
   header_is = k.header_is ∙ s.header_is;
   count = k.events_are ∙ s.count;
@@ -48,7 +47,7 @@ pub none-up : (count : ℕ) → up_in (replicate count false) ≡ booted []
 none-up count = fun_ext (λ n. up_in-none count n)
 
 -- claims that were joined by the step of an event stand for it too
-pub ClaimsStand-taken : (header : HeaderValue) (claims : List Claim) (e : Event) (lines : List Line2) (held : HeldStep) (old mid new : Claims) → Stays old mid → Joins e held (length lines) mid new →
+pub ClaimsStand-taken : (header : HeaderValue) (claims : List Claim) (e : Event) (lines : List Line2) (held : HeldStep) (old mid new : Claims) → StaysSame old mid → JoinsEvent e held (length lines) mid new →
     HoldsStep old.header (old.events + 1) (step_of old.header old.posts.items (up_in old.up.items) e (acts_of lines)) (acts_of lines) held → ClaimsStand header claims old → ClaimsStand header (claim_of e lines ∷ claims) new
 ClaimsStand-taken header claims e lines held old mid new stays joins holds stood =
     let acts : List Placed = acts_of lines in

@@ -2,9 +2,7 @@
 use Rattle.std.specs.Prelude.{◌≡◌, ℕ, ◌+◌, ◌<◌, List, [], ◌∷◌, ◌++◌, length, drop, get_or, Option, None, Some}
 use Rattle.std.proofs.Common.{◌∙◌, ap, sym, refl}
 use Rattle.std.proofs.lemmas.List.{drop_more}
-use Rattle.tsp_base.specs.Headers.{HeaderValue}
-use Rattle.tsp_base.specs.History.{Acts, Line, Step}
-use Rattle.tsp_base.specs.Joins.{joined, line_of as line_in}
+use Rattle.tsp_base.specs.Words.{HeaderValue, Acts, Line, Step, joined, line_of as line_in}
 use Rattle.tsp_claims.specs.declared.acting.Acting.{Acting}
 use Rattle.tsp_claims.specs.Fitting.{acts_of}
 use Rattle.tsp_claims.specs.Steps.{ActsIn, step_by}

@@ -6,10 +6,7 @@ use Rattle.tsp_base.specs.declared.act.Placed.{Placed}
 use Rattle.tsp_base.specs.declared.event.Event.{Event}
 use Rattle.tsp_base.specs.declared.event.Event.TheVariants.{Boot as BootAt, Turn, Take, Bytes}
 use Rattle.tsp_base.specs.declared.place.Port.{Port}
-use Rattle.tsp_base.specs.Headers.{HeaderValue}
-use Rattle.tsp_base.specs.History.{Turned, Came, Handed, Step, Line, of, dids}
-use Rattle.tsp_base.specs.Joins.{stepped}
-use Rattle.tsp_base.specs.NodeFacts.{moved}
+use Rattle.tsp_base.specs.Words.{HeaderValue, Turned, Came, Handed, Step, Line, of, dids, stepped, moved}
 use Rattle.tsp_claims.specs.declared.claimed.Claimed.{Claimed}
 use Rattle.tsp_claims.specs.Listed.{booted}
 use Rattle.tsp_run.specs.declared.address.Address.{Address}

@@ -10,9 +10,7 @@ use Rattle.tsp_base.specs.declared.event.Event.TheVariants.{Boot as BootAt, Turn
 use Rattle.tsp_base.specs.declared.place.Place.{Place}
 use Rattle.tsp_base.specs.declared.place.Place.TheVariants.{Peer}
 use Rattle.tsp_base.specs.declared.place.Port.{Port}
-use Rattle.tsp_base.specs.Headers.{HeaderValue}
-use Rattle.tsp_base.specs.History.{Step}
-use Rattle.tsp_base.specs.Takings.{peer_of}
+use Rattle.tsp_base.specs.Words.{HeaderValue, Step, peer_of}
 use Rattle.tsp_claims.specs.declared.claimed.Claimed.{Claimed}
 use Rattle.tsp_claims.specs.declared.tally.Tally.{Tally}
 use Rattle.tsp_claims.specs.ClaimedHistory.{Claim, events_of, posts_of, step_at, taker}
@@ -46,16 +44,16 @@ IsPosted (Post to datagram) taken = taken ≡ Good datagram
 IsPosted _ taken = ⊥
 
 -- what was taken on a port, as from somebody, is this claimed post at this address
-abbrev pub TakesPost : Option Claimed → Option Address → Port → Place → Taken → Type 0
-TakesPost (Some post) (Some a) port from taken = (port ≡ a.port) × (from ≡ Peer (peer_of post.node)) × IsPosted post.placed.act taken
-TakesPost _ _ port from taken = ⊥
+abbrev pub TakesClaimedPost : Option Claimed → Option Address → Port → Place → Taken → Type 0
+TakesClaimedPost (Some post) (Some a) port from taken = (port ≡ a.port) × (from ≡ Peer (peer_of post.node)) × IsPosted post.placed.act taken
+TakesClaimedPost _ _ port from taken = ⊥
 
 -- what was taken on a port, as from somebody, is what the event brings: octets on its port from its sender, or the datagram that it takes
-abbrev pub TookFits : HeaderValue → List Claimed → (ℕ → Bool) → Event → Port → Place → Taken → Type 0
-TookFits header posts up (BootAt at node word) port from taken = ⊥
-TookFits header posts up (Turn at node) port from taken = ⊥
-TookFits header posts up (Take at k) port from taken = TakesPost (slice_get posts k) (taker header posts up k) port from taken
-TookFits header posts up (Bytes at node on_port sender octets) port from taken = (port ≡ on_port) × (from ≡ sender)
+abbrev pub TakingFits : HeaderValue → List Claimed → (ℕ → Bool) → Event → Port → Place → Taken → Type 0
+TakingFits header posts up (BootAt at node word) port from taken = ⊥
+TakingFits header posts up (Turn at node) port from taken = ⊥
+TakingFits header posts up (Take at k) port from taken = TakesClaimedPost (slice_get posts k) (taker header posts up k) port from taken
+TakingFits header posts up (Bytes at node on_port sender octets) port from taken = (port ≡ on_port) × (from ≡ sender)
 
 -- whether an event is a boot
 abbrev pub begins_with_boot : Event → Bool
@@ -67,24 +65,24 @@ abbrev pub wants_boot : Event → Tally → Bool
 wants_boot e t = begins_with_boot e && not t.begun
 
 -- an act may stand next in its event on a port: a Boot exactly where the event wants one, and on port 0; a Took as the first one, of what the event brings
-abbrev pub ActFits : HeaderValue → List Claimed → (ℕ → Bool) → Event → Tally → Port → Act → Type 0
-ActFits header posts up e t port Boot = (wants_boot e t ≡ true) × (port.0 ≡ 0)
-ActFits header posts up e t port (Took from taken) = (wants_boot e t ≡ false) × (t.took ≡ false) × TookFits header posts up e port from taken
-ActFits header posts up e t port _ = wants_boot e t ≡ false
+abbrev pub ActMayStand : HeaderValue → List Claimed → (ℕ → Bool) → Event → Tally → Port → Act → Type 0
+ActMayStand header posts up e t port Boot = (wants_boot e t ≡ true) × (port.0 ≡ 0)
+ActMayStand header posts up e t port (Took from taken) = (wants_boot e t ≡ false) × (t.took ≡ false) × TakingFits header posts up e port from taken
+ActMayStand header posts up e t port _ = wants_boot e t ≡ false
 
 -- a line fits as the next one of the event with this number, in this step, behind those that were counted
-pub record LineFits (header : HeaderValue) (posts : List Claimed) (up : ℕ → Bool) (number : ℕ) (e : Event) (t : Tally) (step : Step) (l : Line2) : Type 0 where
+pub record LineMayStand (header : HeaderValue) (posts : List Claimed) (up : ℕ → Bool) (number : ℕ) (e : Event) (t : Tally) (step : Step) (l : Line2) : Type 0 where
   pub event : l.event ≡ number
   pub node : l.node ≡ step.node
   pub tick : l.tick ≡ step_tick header step
   pub port : l.placed.port.0 < length (ports_on step.node (networks header))
   pub number_fits : NumberFits (length posts + t.posts) l.placed.act l.number
-  pub act : ActFits header posts up e t l.placed.port l.placed.act
+  pub act : ActMayStand header posts up e t l.placed.port l.placed.act
 
 -- the same, where the event lets somebody act; where it doesn't no line fits
 abbrev pub LineFitsIn : HeaderValue → List Claimed → (ℕ → Bool) → ℕ → Event → Tally → Option Step → Line2 → Type 0
 LineFitsIn header posts up number e t None l = ⊥
-LineFitsIn header posts up number e t (Some step) l = LineFits header posts up number e t step l
+LineFitsIn header posts up number e t (Some step) l = LineMayStand header posts up number e t step l
 
 -- a line fits as the next one of the event with this number, behind those that were counted, after these claimed posts, where these nodes are up
 abbrev pub FitsAfter : HeaderValue → List Claimed → (ℕ → Bool) → ℕ → Event → Tally → Line2 → Type 0

@@ -1,11 +1,11 @@
 -- What listed events decide, of which the newest is the first.
 use Rattle.std.specs.Prelude.{◌≡◌, ℕ, ◌==◌, ◌<◌, Bool, false, ◌||◌, List, [], ◌∷◌, length, Option, None, Some, slice_get}
 use Rattle.tsp_base.specs.declared.event.Event.{Event}
-use Rattle.tsp_base.specs.declared.event.Event.TheVariants.{Boot, Turn, Take, Bytes}
+use Rattle.tsp_base.specs.declared.event.Event.TheVariants.{Boot as BootAt, Turn, Take, Bytes}
 
 -- whether an event boots node n
 abbrev pub boots : Event → ℕ → Bool
-boots (Boot at node word) n = node == n
+boots (BootAt at node word) n = node == n
 boots _ n = false
 
 -- whether one of these events boots node n
@@ -23,7 +23,7 @@ up_in ups n = is_up (slice_get ups n)
 
 -- the node that an event names is below this number; a take names none
 abbrev pub NamesNode : ℕ → Event → Type 0
-NamesNode nodes (Boot at node word) = node < nodes
+NamesNode nodes (BootAt at node word) = node < nodes
 NamesNode nodes (Turn at node) = node < nodes
 NamesNode nodes (Take at k) = Unit {0}
 NamesNode nodes (Bytes at node port from octets) = node < nodes

@@ -3,7 +3,7 @@ use Rattle.std.specs.Prelude.{◌≡◌, List, ◌∷◌, length}
 use Rattle.std.specs.declared.result.Result.{Result}
 use Rattle.std.specs.declared.result.Result.TheVariants.{Ok, Err}
 use Rattle.tsp_base.specs.declared.event.Event.{Event}
-use Rattle.tsp_base.specs.Headers.{HeaderValue}
+use Rattle.tsp_base.specs.Words.{HeaderValue}
 use Rattle.tsp_claims.specs.declared.audit_fault.AuditFault.{AuditFault}
 use Rattle.tsp_claims.specs.declared.audit_fault.AuditFault.TheVariants.{History, OutOfMemory}
 use Rattle.tsp_claims.specs.declared.claims.Claims.{Claims}

@@ -1,7 +1,6 @@
 -- Steps in which nodes act, as values.
 use Rattle.std.specs.Prelude.{◌≡◌, ◌<◌, length, Option, None, Some}
-use Rattle.tsp_base.specs.Headers.{HeaderValue}
-use Rattle.tsp_base.specs.History.{Step}
+use Rattle.tsp_base.specs.Words.{HeaderValue, Step}
 use Rattle.tsp_claims.specs.declared.acting.Acting.{Acting}
 use Rattle.tsp_history.specs.Histories.{cause_of}
 use Rattle.tsp_run.specs.Run.{step_tick}

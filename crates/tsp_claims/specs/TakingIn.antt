@@ -2,8 +2,7 @@
 use Rattle.std.specs.Prelude.{◌≡◌, ℕ, ◌+◌, ◌≤◌, List, ◌++◌, length, Option, vec_len, vec_capacity}
 use Rattle.tsp_base.specs.declared.event.Event.{Event}
 use Rattle.tsp_base.specs.declared.act.Placed.{Placed}
-use Rattle.tsp_base.specs.Headers.{HeaderValue}
-use Rattle.tsp_base.specs.History.{Line, Step}
+use Rattle.tsp_base.specs.Words.{HeaderValue, Line, Step}
 use Rattle.tsp_claims.specs.declared.claims.Claims.{Claims}
 use Rattle.tsp_claims.specs.declared.taking_in.HeldStep.{HeldStep}
 use Rattle.tsp_claims.specs.ClaimedHistory.{joins_acts, posts_by}
@@ -11,12 +10,12 @@ use Rattle.tsp_claims.specs.Listed.{Wakes}
 use Rattle.tsp_history.specs.Histories.{history_of, noted_after}
 
 -- there is room for a mark and so many lines, and for as many posts
-pub record HasRoom (count : ℕ) (c : Claims) : Type 0 where
+pub record HasEventRoom (count : ℕ) (c : Claims) : Type 0 where
   pub lines : count + 1 ≤ c.lines.room
   pub posts : vec_len c.posts + count ≤ vec_capacity c.posts
 
 -- all that the claims hold is as it was
-pub record Stays (old new : Claims) : Type 0 where
+pub record StaysSame (old new : Claims) : Type 0 where
   pub header_is : new.header ≡ old.header
   pub up_is : new.up ≡ old.up
   pub lines_are : new.lines.lines ≡ old.lines.lines
@@ -32,7 +31,7 @@ pub record HoldsStep (header : HeaderValue) (event : ℕ) (step : Option Step) (
   pub few : vec_len held.posts ≤ length acts
 
 -- an event was counted with so many lines, a step was appended, and the event's node woke
-pub record Joins (e : Event) (held : HeldStep) (count : ℕ) (old new : Claims) : Type 0 where
+pub record JoinsEvent (e : Event) (held : HeldStep) (count : ℕ) (old new : Claims) : Type 0 where
   pub header_is : new.header ≡ old.header
   pub history : history_of new.lines.lines ≡ noted_after (history_of old.lines.lines) held.lines.items
   pub posts_are : new.posts.items ≡ old.posts.items ++ held.posts.items

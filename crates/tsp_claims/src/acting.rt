@@ -1,6 +1,6 @@
 //! Who acts at an event, and what it takes.
 ghost use Rattle.std.specs.Prelude.{◌≡◌, ◌≤◌, ◌<◌, ◌^◌, true, length, vec_len, slice_get, IfSome};
-ghost use Rattle.tsp_base.specs.Headers.{Keeps};
+ghost use Rattle.tsp_base.specs.Headers.{KeepsDrift};
 ghost use Rattle.tsp_base.specs.Ticks.{tick_at};
 ghost use Rattle.tsp_run.specs.Networks.{networks, ports_on};
 ghost use Rattle.tsp_run.specs.Run.{boot_step, event_at};
@@ -53,7 +53,7 @@ impl Claims {
     pub(crate) fn line(&self, node: u32) -> &NodeLine
         requires node { node < length self.now.header.nodes }
         ensures line { result.now ≡ node_line self.now.header node }
-        ensures kept { Keeps 1000 result.now }
+        ensures kept { KeepsDrift 1000 result.now }
     {
         &self.header.nodes()[node as usize]
     }

@@ -1,8 +1,8 @@
 //! Whether claimed lines fit.
 ghost use Rattle.std.specs.Prelude.{◌≡◌, ◌≤◌, ◌<◌, ◌+◌, ◌↔◌, ◌^◌, IsTrue, length, slice_get, MatchOption};
 ghost use Rattle.tsp_claims.specs.ClaimedHistory.{step_at, taker};
-ghost use Rattle.tsp_claims.specs.Fitting.{ActFits, AllFit, FitsAfter, LineFits, Misfits};
-ghost use Rattle.tsp_claims.specs.Fitting.{TakesPost, TookFits, begins_with_boot, untold};
+ghost use Rattle.tsp_claims.specs.Fitting.{ActMayStand, AllFit, FitsAfter, LineMayStand, Misfits};
+ghost use Rattle.tsp_claims.specs.Fitting.{TakesClaimedPost, TakingFits, begins_with_boot, untold};
 ghost use Rattle.tsp_claims.specs.Listed.{up_in};
 ghost use Rattle.tsp_claims.specs.Steps.{ActsIn, step_by};
 ghost use Rattle.tsp_run.specs.Run.{step_tick};
@@ -31,7 +31,7 @@ impl Claims {
     /// Whether what was taken on a port, as from somebody, is the claimed post with this number,
     /// which reaches that port.
     fn takes_post(&self, k: u64, port: Port, from: Place, taken: &Taken) -> bool
-        ensures { IsTrue result ↔ TakesPost (slice_get self.now.posts.items k)
+        ensures { IsTrue result ↔ TakesClaimedPost (slice_get self.now.posts.items k)
             (taker self.now.header self.now.posts.items (up_in self.now.up.items) k) port from
             taken.now }
     {
@@ -47,7 +47,7 @@ impl Claims {
 
     /// Whether what was taken on a port, as from somebody, is what an event brings.
     fn took_fits(&self, e: &Event, port: Port, from: Place, taken: &Taken) -> bool
-        ensures { IsTrue result ↔ TookFits self.now.header self.now.posts.items
+        ensures { IsTrue result ↔ TakingFits self.now.header self.now.posts.items
             (up_in self.now.up.items) e.now port from taken.now }
     {
         match e {
@@ -64,7 +64,7 @@ impl Claims {
 
     /// Whether an act may stand next in an event.
     fn act_fits(&self, e: &Event, tally: Tally, placed: &Placed) -> bool
-        ensures { IsTrue result ↔ ActFits self.now.header self.now.posts.items
+        ensures { IsTrue result ↔ ActMayStand self.now.header self.now.posts.items
             (up_in self.now.up.items) e.now tally placed.now.port placed.now.act }
     {
         let wants_boot = begins_with_boot(e) && !tally.begun;
@@ -81,7 +81,7 @@ impl Claims {
     fn fits_at(&self, e: &Event, step: Acting, tally: Tally, line: &Line2) -> bool
         requires events { self.now.events < 20000 }
         requires tick { step.tick ≡ step_tick self.now.header (step_by step) }
-        ensures { IsTrue result ↔ LineFits self.now.header self.now.posts.items
+        ensures { IsTrue result ↔ LineMayStand self.now.header self.now.posts.items
             (up_in self.now.up.items) (self.now.events + 1) e.now tally (step_by step) line.now }
     {
         line.event == self.events + 1

@@ -9,7 +9,7 @@ ghost use Rattle.tsp_claims.specs.Fitting.{acts_of};
 ghost use Rattle.tsp_claims.specs.Listed.{NamesNode, up_in};
 ghost use Rattle.tsp_claims.specs.Stands.{ClaimsStand, claim_of};
 ghost use Rattle.tsp_claims.specs.Steps.{ActsIn, step_by};
-ghost use Rattle.tsp_claims.specs.TakingIn.{HasRoom, HoldsStep, Joins, Stays};
+ghost use Rattle.tsp_claims.specs.TakingIn.{HasEventRoom, HoldsStep, JoinsEvent, StaysSame};
 ghost use Rattle.tsp_history.specs.Histories.{deed_of, line_of, noted_after};
 
 use crate::acting::Acting;
@@ -151,8 +151,8 @@ impl Claims {
     /// are what they were.
     fn make_room(&mut self, count: usize) -> Result<(), AllocError>
         requires { count ≤ 20000 }
-        ensures room { OnOk result (HasRoom count self.new) }
-        ensures same { Stays self.old self.new }
+        ensures room { OnOk result (HasEventRoom count self.new) }
+        ensures same { StaysSame self.old self.new }
     {
         self.lines.make_room(count + 1)?;
         self.posts.reserve(count)?;
@@ -164,9 +164,9 @@ impl Claims {
         requires node { NamesNode (length self.old.header.nodes) e.now }
         requires events { self.old.events < 20000 }
         requires lines { self.old.told + count ≤ 20000 }
-        requires room { HasRoom count self.old }
+        requires room { HasEventRoom count self.old }
         requires few { (vec_len held.lines ≤ count + 1) × (vec_len held.posts ≤ count) }
-        ensures { Joins e.now held count self.old self.new }
+        ensures { JoinsEvent e.now held count self.old self.new }
     {
         self.events += 1;
         self.told += count as u64;
@@ -192,7 +192,7 @@ impl Claims {
         ensures taken { OnOk result ((header : HeaderValue) (claims : List Claim)
             → ClaimsStand header claims self.old
             → ClaimsStand header (claim_of e.now acts.now ∷ claims) self.new) }
-        ensures refused { OnErr result (Stays self.old self.new) }
+        ensures refused { OnErr result (StaysSame self.old self.new) }
     {
         let held = step_of(*self.posts.allocator(), self.events + 1, e, step, acts)?;
         self.make_room(acts.len())?;

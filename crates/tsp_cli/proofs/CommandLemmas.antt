@@ -15,7 +15,7 @@ use Rattle.tsp_query.specs.Outside.{Observed, Knows}
 use Rattle.tsp_rules.specs.Guards.{is_clock_value}
 use Rattle.tsp_storm.specs.declared.run.StormEnd.{StormEnd}
 use Rattle.tsp_storm.specs.declared.run.StormEnd.TheVariants.{Done as Summed, Limit as Full, WriteFault as Unsaid, OutOfMemory as Unmade}
-use Rattle.tsp_storm.specs.Answers.{IsAnswer, Agrees, HasRoom, StormsAs}
+use Rattle.tsp_storm.specs.Answers.{IsStormAnswer, AgreesWithAnswer, HasEventRoom, StormsAs}
 use Rattle.tsp_daemon.specs.declared.exit.DaemonExit.{DaemonExit}
 use Rattle.tsp_daemon.specs.declared.exit.DaemonExit.TheVariants.{Done as AllTurns, BadWall, LinkFault as NotHeard, WriteFault as NotShown, OutOfMemory as Unserved}
 use Rattle.tsp_daemon.specs.Serving.{ServesAs}
@@ -188,8 +188,8 @@ storm_ends e h = elim h [ inl s ↦ inl (ap (λ (x : StormEnd). status_of_storm 
 
 -- from how a storm ends, to how the program does
 pub RunsStorm-ended : (s : StormWords) (written now : Option (List ℕ)) (writes writes_now : ℕ) (end : StormEnd) (status : Status) → status ≡ status_of_storm end
-    → StormsAs s written now end → ((e : StormEnd) (text : List ℕ) → IsAnswer s e text → Agrees e text written now end)
-    → (HasRoom s → ¬ Rose writes writes_now → (end ≡ Summed) ⊎ (end ≡ Unmade)) → RunsStorm s written now writes writes_now status
+    → StormsAs s written now end → ((e : StormEnd) (text : List ℕ) → IsStormAnswer s e text → AgreesWithAnswer e text written now end)
+    → (HasEventRoom s → ¬ Rose writes writes_now → (end ≡ Summed) ⊎ (end ≡ Unmade)) → RunsStorm s written now writes writes_now status
 RunsStorm-ended s written now writes writes_now end status e storms answers complete = record {
   end = end;
   status_is = e;

@@ -3,9 +3,8 @@ use Rattle.std.specs.Prelude.{◌≡◌, ℕ, ◌==◌, Bool, true, false, if◌
 use Rattle.std.proofs.Common.{sym, ap, ◌∙◌, inl, inr, subst, append-nil}
 use Rattle.std.proofs.lemmas.List.Elements.{All-cons, All-nil}
 use Rattle.hex.proofs.HexLemmas.{decode_of-ok}
-use Rattle.tsp_base.specs.declared.event.Event.{Event}
-use Rattle.tsp_base.specs.declared.event.Event.TheVariants.{Boot, Turn, Take, Bytes}
-use Rattle.tsp_base.specs.Headers.{HeaderValue}
+use Rattle.tsp_rules.specs.Values.{Event, BootAt, Turn, Take, Bytes}
+use Rattle.tsp_base.specs.Words.{HeaderValue}
 use Rattle.tsp_io.specs.Streams.{Grows}
 use Rattle.tsp_script.specs.declared.event_line.EventItem.TheVariants.{Event as EventOf}
 use Rattle.tsp_script.specs.Schedules.{SpellsEvent}
@@ -39,7 +38,7 @@ KeepsValid (Ended header events) = Valid header events × All IsInRange events
 
 -- what an event's line spells is in its range
 spelled_range : (line : List ℕ) (e : Event) → SpellsEvent line (EventOf e) → IsInRange e
-spelled_range line (Boot at node word) s = s.0.2
+spelled_range line (BootAt at node word) s = s.0.2
 spelled_range line (Turn at node) s = tt
 spelled_range line (Take at datagram) s = tt
 spelled_range line (Bytes at node port from octets) s = (decode_of-ok s.1.0 octets s.1.1).3

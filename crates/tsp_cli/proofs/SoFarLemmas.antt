@@ -2,8 +2,8 @@
 use Rattle.std.specs.Prelude.{◌≡◌, ℕ, ◌+◌, ◌≤◌, List, [], ◌++◌, length, reverse, Option, None, Some, All, refl}
 use Rattle.std.proofs.Common.{arith, sym, ap, ◌∙◌, inl, inr, subst, append-nil, append_assoc, length-append}
 use Rattle.std.proofs.lemmas.List.Elements.{All-nil}
-use Rattle.tsp_base.specs.declared.event.Event.{Event}
-use Rattle.tsp_base.specs.Headers.{HeaderValue, IsHeader}
+use Rattle.tsp_rules.specs.Values.{Event}
+use Rattle.tsp_base.specs.Words.{HeaderValue, IsHeader}
 use Rattle.tsp_io.specs.Streams.{Gives, Grows}
 use Rattle.tsp_lines.specs.declared.limits.TheConstants.{MOST_INPUT}
 use Rattle.tsp_lines.specs.Lines.{Begins, HasLines, HasNext, IsInput, IsPast, NoFeed, close, closed}

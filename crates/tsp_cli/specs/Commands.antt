@@ -16,7 +16,7 @@ use Rattle.tsp_lines.specs.Gatherings.{ComesGathered, IsGathered}
 use Rattle.tsp_query.specs.Outside.{Observed, observed}
 use Rattle.tsp_rules.specs.Guards.{is_clock_value}
 use Rattle.tsp_storm.specs.declared.run.StormEnd.{StormEnd}
-use Rattle.tsp_storm.specs.Answers.{IsAnswer, Agrees, HasRoom, StormsAs}
+use Rattle.tsp_storm.specs.Answers.{IsStormAnswer, AgreesWithAnswer, HasEventRoom, StormsAs}
 use Rattle.tsp_daemon.specs.declared.exit.DaemonExit.{DaemonExit}
 use Rattle.tsp_daemon.specs.Serving.{ServesIfTold}
 use Rattle.tsp_args.specs.Commands.{words_of, IsCommand}
@@ -89,9 +89,9 @@ pub record RunsStorm (s : StormWords) (written now : Option (List ℕ)) (writes 
   -- of one
   pub storms : StormsAs s written now end
   -- the end and the text are the answer to the words, unless a write failed or memory ran out
-  pub answers : (e : StormEnd) (text : List ℕ) → IsAnswer s e text → Agrees e text written now end
+  pub answers : (e : StormEnd) (text : List ℕ) → IsStormAnswer s e text → AgreesWithAnswer e text written now end
   -- if there is room for each event and no write failed: the status is Ok, or OutOfMemory
-  pub complete : HasRoom s → ¬ Rose writes writes_now → (status ≡ Ok) ⊎ (status ≡ OutOfMemory)
+  pub complete : HasEventRoom s → ¬ Rose writes writes_now → (status ≡ Ok) ⊎ (status ≡ OutOfMemory)
 
 -- what comes of an audit, which judges the trace that is claimed for a schedule. The last numbers are the counts of
 -- failed reads and of failed writes, each before and after

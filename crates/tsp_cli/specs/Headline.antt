@@ -1,7 +1,7 @@
 -- What a replay that ends with status 0 has read and written, and what any other has, up to where it ended.
 use Rattle.std.specs.Prelude.{◌≡◌, ◌⊎◌, ◌<◌, ◌+◌, ℕ, List, [], ◌++◌, length, reverse, Option, All}
-use Rattle.tsp_base.specs.declared.event.Event.{Event}
-use Rattle.tsp_base.specs.Headers.{HeaderValue}
+use Rattle.tsp_rules.specs.Values.{Event}
+use Rattle.tsp_base.specs.Words.{HeaderValue}
 use Rattle.tsp_promises.specs.Setting.{Setting}
 use Rattle.tsp_io.specs.Streams.{Grows}
 use Rattle.tsp_lines.specs.declared.limits.TheConstants.{MOST_INPUT}

@@ -12,7 +12,7 @@ use Rattle.tsp_lines.specs.declared.treat.Outcome.TheVariants.{Ok as Done, Bad a
 use Rattle.tsp_lines.specs.Answers.{IsAnswer, Agrees}
 use Rattle.tsp_lines.specs.Meanings.{Meaning}
 use Rattle.tsp_lines.specs.Outcomes.{Comes, KeepsUp}
-use Rattle.tsp_query.specs.Outside.{Says as SaysAs}
+use Rattle.tsp_query.specs.Outside.{WritesBeginning as SaysAs}
 use Rattle.tsp_icmp_command.specs.Meaning.{AreExchangeLines, averaging}
 use Rattle.tsp_replay.specs.Meaning.{IsScheduleText, replaying}
 

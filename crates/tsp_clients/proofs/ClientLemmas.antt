@@ -2,26 +2,13 @@
 use Rattle.std.specs.Prelude.{◌≡◌, ◌≢◌, ℕ, ◌&&◌, Bool, true, false, List, [], ◌∷◌, ◌++◌, refl}
 use Rattle.std.proofs.Common.{◌∙◌, ap, sym}
 use Rattle.std.proofs.lemmas.Bool.{false≢true}
-use Rattle.tsp_base.specs.declared.act.Act.{Act}
-use Rattle.tsp_base.specs.declared.act.Act.TheVariants.{Boot, Post, Trace}
-use Rattle.tsp_base.specs.declared.act.Placed.{Placed}
-use Rattle.tsp_base.specs.declared.datagram.Datagram.TheVariants.{Message}
-use Rattle.tsp_base.specs.declared.kind.Kind.TheVariants.{Ack}
-use Rattle.tsp_base.specs.declared.place.PeerId.{PeerId}
-use Rattle.tsp_base.specs.declared.place.Place.{Place}
-use Rattle.tsp_base.specs.declared.place.Port.{Port}
-use Rattle.tsp_base.specs.declared.role.Role.{Role}
-use Rattle.tsp_base.specs.declared.role.Role.TheVariants.{Starting, Follow, Master}
-use Rattle.tsp_base.specs.History.{Past}
-use Rattle.tsp_base.specs.Hold.{may_stand}
-use Rattle.tsp_base.specs.Performs.{Performs, Keeps}
-use Rattle.tsp_base.specs.PortFacts.{kept_name, held}
-use Rattle.tsp_base.specs.Rows.{Row, bare, grown, posts_back, puts}
+use Rattle.tsp_rules.specs.Values.{Act, Boot, Post, Trace, Placed, Message, Ack, PeerId, Place, Port, Role, Starting, Follow, Master}
+use Rattle.tsp_base.specs.Words.{Past, may_stand, Performs, Keeps, kept_name, held, Row, bare, grown, posts_back, puts}
 use Rattle.tsp_rules.specs.CommonRows.{is_idle, master_name, master_name_in, may_be_asked}
 use Rattle.tsp_rules.specs.Guards.{is_starting_role}
 use Rattle.tsp_rules.proofs.Emits.{Sort, Taking, Asking, Correcting, Numbering, Posting, Leading, Following, Changing, Backing, Counting, Rounding, Alarming, Tabling, Rivalling, Acking, Giving, Sampling, Closing, Moving, Emits, Emits_posts_back, Emits_puts, Keeps_by, is_in, sort_of}
 use Rattle.tsp_acks.specs.declared.station.Station.{Station}
-use Rattle.tsp_acks.specs.Stands.{Stands}
+use Rattle.tsp_acks.specs.Stands.{StationStands}
 use Rattle.tsp_acks.proofs.StandsLemmas.{Stands_idle, Stands_post}
 use Rattle.tsp_slave.specs.Lasts.{LastValue}
 use Rattle.tsp_slave.proofs.BesideLemmas.{Remembers_by}
@@ -76,7 +63,7 @@ unfolding puts
 Performs_turned on {x = x} station was put = record { acts = λ past h. put; stands = λ past h. record { station = Stands_idle (Trace on) refl x past station h.station; trace = refl } }
 
 -- and the answer leaves it so
-pub Performs_traced : (from : Place) (number : ℕ) {x : ℕ} {port : Port} {station : Station} (on : Bool) {old new : List Placed} → Performs Stands Stands (posts_back from Ack number) x port station station old new →
+pub Performs_traced : (from : Place) (number : ℕ) {x : ℕ} {port : Port} {station : Station} (on : Bool) {old new : List Placed} → Performs StationStands StationStands (posts_back from Ack number) x port station station old new →
     Performs TracingStands TracingStands (posts_back from Ack number) x port (record { station = station; on = on }) (record { station = station; on = on }) old new
 Performs_traced from number {x = x} on d = record {
   acts = λ past h. d.acts past h.station;
@@ -84,7 +71,7 @@ Performs_traced from number {x = x} on d = record {
 }
 
 -- whether the port stands for election when it is asked to, as the station has it
-pub may_be_asked-is : (x : ℕ) (past : Past) (s : Station) → Stands past s → may_be_asked x past ≡ (is_idle s.role && (s.me.may && may_stand s.hold x s.me.own))
+pub may_be_asked-is : (x : ℕ) (past : Past) (s : Station) → StationStands past s → may_be_asked x past ≡ (is_idle s.role && (s.me.may && may_stand s.hold x s.me.own))
 may_be_asked-is x past s h =
     ap (λ r. is_idle r && (past.may && may_stand (held past.seen) x past.own)) (sym h.role) ∙ ap (λ may. is_idle s.role && (may && may_stand (held past.seen) x past.own)) (sym h.may)
     ∙ ap (λ hold. is_idle s.role && (s.me.may && may_stand hold x past.own)) (sym h.hold) ∙ ap (λ own. is_idle s.role && (s.me.may && may_stand s.hold x own)) (sym h.own)

@@ -1,9 +1,8 @@
 -- Which pasts the states of these calls stand for.
 use Rattle.std.specs.Prelude.{◌≡◌, Bool}
-use Rattle.tsp_base.specs.History.{Past, plain}
-use Rattle.tsp_base.specs.NodeFacts.{tracing}
+use Rattle.tsp_base.specs.Words.{Past, plain, tracing}
 use Rattle.tsp_acks.specs.declared.station.Station.{Station}
-use Rattle.tsp_acks.specs.Stands.{Stands}
+use Rattle.tsp_acks.specs.Stands.{StationStands}
 use Rattle.tsp_slave.specs.Lasts.{LastValue, Remembers}
 
 -- the node's flag says whether its trace is on
@@ -17,7 +16,7 @@ pub record NamingState : Type 0 where
 
 -- both are what the past comes to
 pub record NamingStands (past : Past) (state : NamingState) : Type 0 where
-  pub station : Stands past state.station
+  pub station : StationStands past state.station
   pub last : Remembers past state.last
 
 -- a port's station, and its node's flag
@@ -27,5 +26,5 @@ pub record TracingState : Type 0 where
 
 -- both are what the past comes to
 pub record TracingStands (past : Past) (state : TracingState) : Type 0 where
-  pub station : Stands past state.station
+  pub station : StationStands past state.station
   pub trace : TraceStands past state.on

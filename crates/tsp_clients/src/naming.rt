@@ -3,7 +3,7 @@ ghost use Rattle.std.specs.Prelude.{◌≡◌, ℕ, ◌≤◌};
 ghost use Rattle.tsp_base.specs.Frames.{PutsAtMost, PutsExactly};
 ghost use Rattle.tsp_base.specs.Performs.{Performs};
 ghost use Rattle.tsp_rules.specs.CommonRows.{master_name_in, names_master, says_master};
-ghost use Rattle.tsp_acks.specs.Stands.{Stands};
+ghost use Rattle.tsp_acks.specs.Stands.{StationStands};
 ghost use Rattle.tsp_clients.specs.ClientStands.{NamingStands};
 
 use tsp_acks::station::Station;
@@ -54,7 +54,7 @@ fn known_master(station: &Station, last: &Last) -> Name
 /// Answers an MSITEREQ by an ACK where the port is master; else it does nothing. It puts at most one act.
 pub fn say_master<D: Desk>(station: &Station, from: Place, number: u16, port: Port, desk: &mut D)
     requires room { 1 ≤ D.spare desk.old }
-    ensures row { (x : ℕ) → Performs Stands Stands (says_master from number) x port station.now
+    ensures row { (x : ℕ) → Performs StationStands StationStands (says_master from number) x port station.now
         station.now (D.acts desk.old) (D.acts desk.new) }
     ensures room { PutsAtMost 1 (D.spare desk.old) (D.spare desk.new) (D.acts desk.old)
         (D.acts desk.new) }

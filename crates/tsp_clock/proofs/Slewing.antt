@@ -1,7 +1,7 @@
 -- Lemmas on a rest that is slewed away.
 use Rattle.std.proofs.Common.{◌≡◌, ℕ, ◌+◌, ◌-◌, ◌*◌, ◌/◌, ◌≤◌, ℤ, pos, negsuc, ◌+ℤ◌, ◌-ℤ◌, ◌≤ℤ◌, nat_abs, arith}
 use Rattle.std.proofs.lemmas.Int.{ints}
-use Rattle.tsp_base.specs.NodeFacts.{eased}
+use Rattle.tsp_base.specs.Words.{eased}
 
 -- more slewing changes a rest by no more than itself
 pub eased_more : (r : ℤ) (n m : ℕ) → n ≤ m → eased r m ≤ℤ (eased r n +ℤ pos (m - n))

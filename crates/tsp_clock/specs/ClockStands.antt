@@ -1,7 +1,6 @@
 -- Which pasts a clock stands for.
 use Rattle.std.specs.Prelude.{◌≡◌, ◌+ℤ◌}
-use Rattle.tsp_base.specs.History.{Past, plain}
-use Rattle.tsp_base.specs.NodeFacts.{base, moved, rest, last_correct, ticket}
+use Rattle.tsp_base.specs.Words.{Past, plain, base, moved, rest, last_correct, ticket}
 use Rattle.tsp_clock.specs.Clocks.{ClockValue}
 
 -- the clock is the one that the boot and the corrections in its node's past give

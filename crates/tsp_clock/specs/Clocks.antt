@@ -1,7 +1,7 @@
 -- A corrected clock.
 use Rattle.std.specs.Prelude.{ℕ, ◌+◌, ◌-◌, ◌/◌, ◌%◌, ◌^◌, ◌≤◌, ◌<◌, ℤ, pos, negsuc, ◌+ℤ◌, ◌-ℤ◌, ◌<ℤ◌, ◌≤ℤ◌, if◌then◌else◌}
-use Rattle.tsp_base.specs.declared.constants.TheConstants.{SLEW}
-use Rattle.tsp_base.specs.NodeFacts.{eased}
+use Rattle.tsp_rules.specs.Values.{SLEW}
+use Rattle.tsp_base.specs.Words.{eased}
 use Rattle.tsp_rules.specs.ClockRows.{is_step}
 
 -- how far the target is ahead of the ticks, what was still to be slewed right after the last correction,

@@ -2,8 +2,7 @@
 use Rattle.std.proofs.Common.{rules, ◌≡◌, ◌≢◌, ℕ, ◌<◌, ◌≤◌, List, length, drop, refl, arith, Some, None, true, inl, inr, ◌⊎◌}
 use Rattle.std.proofs.lemmas.Grind.{common_steps}
 use Rattle.std.specs.Prelude.{Contains, ℤ}
-use Rattle.tsp_base.specs.Kinds.{kind_of, carries_time}
-use Rattle.tsp_base.specs.Stamps.{IsReply}
+use Rattle.tsp_base.specs.Words.{kind_of, carries_time, IsReply}
 use Rattle.tsp_base.specs.declared.kind.Kind.{Kind}
 use Rattle.tsp_base.specs.declared.datagram.DecodeFault.TheVariants.{Short, Long, Version, Kind as BadKind, StampLength, NoEnd, NameTooLong, Reserved, Time}
 use Rattle.tsp_codec.specs.Numbers.{octet_at, be16_at, be64_at}

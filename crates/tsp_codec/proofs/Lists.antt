@@ -2,7 +2,7 @@
 use Rattle.std.proofs.Common.{◌≡◌, ℕ, ◌<◌, ◌≤◌, ◌-◌, List, [], ◌∷◌, ◌++◌, zero, suc, length, take, slice_index_or, refl, ap, arith}
 use Rattle.std.proofs.lemmas.Grind.{common_steps}
 use Rattle.std.specs.Prelude.{Contains}
-use Rattle.tsp_base.specs.Names.{IsName}
+use Rattle.tsp_base.specs.Words.{IsName}
 
 -- a list is split at a zero of its front
 pub split_at_nul : (xs : List ℕ) (n end : ℕ) → end < length (take n xs) → slice_index_or (take n xs) end 0 ≡ 0 → (rest : List ℕ) × (xs ≡ take end (take n xs) ++ 0 ∷ rest)

@@ -2,18 +2,16 @@
 use Rattle.std.proofs.Common.{rules, ◌≡◌, ℕ, List, ap, sym, ◌∙◌, arith, Some, None, true, false, inl, inr}
 use Rattle.std.specs.Prelude.{Contains}
 use Rattle.std.proofs.lemmas.Bool.{both_ways}
-use Rattle.tsp_base.specs.Kinds.{carries_time}
-use Rattle.tsp_base.specs.Messages.{MessageValue}
+use Rattle.tsp_base.specs.Words.{carries_time, MessageValue, ReplyValue}
 use Rattle.tsp_base.specs.declared.kind.Kind.{Kind}
 use Rattle.tsp_base.specs.declared.message.Body.{Body}
 use Rattle.tsp_base.specs.declared.message.Body.TheVariants.{Nothing, Time as TimeBody, Hops}
 use Rattle.tsp_base.specs.declared.stamp.Stamp.TheVariants.{Request, Reply}
 use Rattle.tsp_base.specs.declared.datagram.Datagram.{Datagram}
-use Rattle.tsp_base.specs.declared.datagram.Datagram.TheVariants.{Message, Stamp as StampOf}
+use Rattle.tsp_base.specs.declared.datagram.Datagram.TheVariants.{Message, Stamp}
 use Rattle.tsp_base.specs.declared.datagram.DecodeFault.{DecodeFault}
 use Rattle.tsp_base.specs.declared.datagram.DecodeFault.TheVariants.{Short, Long, Version, Kind as BadKind, StampLength, NoEnd, NameTooLong, Reserved, Time}
 use Rattle.tsp_codec.specs.Spelling.{IsTime, Spells, SpellsBody, SpellsMessage, SpellsRequest, SpellsReply}
-use Rattle.tsp_base.specs.Stamps.{ReplyValue}
 use Rattle.tsp_codec.specs.Faults.{name_room, HasStampType, HasKind, HasTimedKind, Applies, IsFault}
 use Rattle.tsp_codec.proofs.Lists.{Contains-take}
 use Rattle.tsp_codec.proofs.OneDatagram.{HasStampType-kind, kind_of-stamp, kind_of-one, type-one}
@@ -58,5 +56,5 @@ Applies-reply o r = search (HasKind-stamp, HasTimedKind-stamp, type-one, rules)
 
 pub Spells-no_fault : (o : List ℕ) (d : Datagram) (f : DecodeFault) → Spells o d → IsFault o f → ⊥
 Spells-no_fault o (Message m) f p q = Applies-message o m f p q.applies
-Spells-no_fault o (StampOf (Request w c)) f p q = Applies-request o w c f p q.applies
-Spells-no_fault o (StampOf (Reply r)) f p q = Applies-reply o r f p q.applies
+Spells-no_fault o (Stamp (Request w c)) f p q = Applies-request o w c f p q.applies
+Spells-no_fault o (Stamp (Reply r)) f p q = Applies-reply o r f p q.applies

@@ -2,16 +2,14 @@
 use Rattle.std.proofs.Common.{◌≡◌, ℕ, List, refl, ap, sym, ◌∙◌, arith, Some, None, subst, inl, inr}
 use Rattle.std.specs.Prelude.{ℤ}
 use Rattle.std.proofs.lemmas.Bool.{both_ways}
-use Rattle.tsp_base.specs.Kinds.{kind_of}
-use Rattle.tsp_base.specs.Messages.{MessageValue}
-use Rattle.tsp_base.specs.Stamps.{ReplyValue}
+use Rattle.tsp_base.specs.Words.{kind_of, MessageValue, ReplyValue}
 use Rattle.std.specs.declared.option.Option.{Option}
 use Rattle.tsp_base.specs.declared.kind.Kind.{Kind}
 use Rattle.tsp_base.specs.declared.message.Body.{Body}
 use Rattle.tsp_base.specs.declared.message.Body.TheVariants.{Nothing, Time as TimeBody, Hops}
 use Rattle.tsp_base.specs.declared.stamp.Stamp.TheVariants.{Request, Reply}
 use Rattle.tsp_base.specs.declared.datagram.Datagram.{Datagram}
-use Rattle.tsp_base.specs.declared.datagram.Datagram.TheVariants.{Message, Stamp as StampOf}
+use Rattle.tsp_base.specs.declared.datagram.Datagram.TheVariants.{Message, Stamp}
 use Rattle.tsp_codec.specs.Numbers.{octet_at}
 use Rattle.tsp_codec.specs.Spelling.{Spells, SpellsBody, SpellsMessage}
 use Rattle.tsp_codec.specs.Faults.{HasStampType}
@@ -85,14 +83,14 @@ reply_parts r s a b c d =
 
 pub Spells-one : (o : List ℕ) (d e : Datagram) → Spells o d → Spells o e → d ≡ e
 Spells-one o (Message m) (Message n) p q = ap Message (SpellsMessage-one o m n p q)
-Spells-one o (Message m) (StampOf (Request w k)) p q = absurd (HasStampType-kind o m.kind p.kind (inl q.head.first))
-Spells-one o (Message m) (StampOf (Reply r)) p q = absurd (HasStampType-kind o m.kind p.kind (inr q.head.first))
-Spells-one o (StampOf (Request w k)) (Message n) p q = absurd (HasStampType-kind o n.kind q.kind (inl p.head.first))
-Spells-one o (StampOf (Reply r)) (Message n) p q = absurd (HasStampType-kind o n.kind q.kind (inr p.head.first))
-Spells-one o (StampOf (Request w k)) (StampOf (Request x l)) p q =
+Spells-one o (Message m) (Stamp (Request w k)) p q = absurd (HasStampType-kind o m.kind p.kind (inl q.head.first))
+Spells-one o (Message m) (Stamp (Reply r)) p q = absurd (HasStampType-kind o m.kind p.kind (inr q.head.first))
+Spells-one o (Stamp (Request w k)) (Message n) p q = absurd (HasStampType-kind o n.kind q.kind (inl p.head.first))
+Spells-one o (Stamp (Reply r)) (Message n) p q = absurd (HasStampType-kind o n.kind q.kind (inr p.head.first))
+Spells-one o (Stamp (Request w k)) (Stamp (Request x l)) p q =
     let a : w ≡ x = p.word_read ∙ sym q.word_read in
     let b : k ≡ l = p.counter_read ∙ sym q.counter_read in cc
-Spells-one o (StampOf (Request w k)) (StampOf (Reply r)) p q = absurd (type-one _ p.head.first q.head.first)
-Spells-one o (StampOf (Reply r)) (StampOf (Request x l)) p q = absurd (type-one _ q.head.first p.head.first)
-Spells-one o (StampOf (Reply r)) (StampOf (Reply s)) p q =
-    ap (λ z. StampOf (Reply z)) (reply_parts r s (p.ticket ∙ sym q.ticket) (p.word ∙ sym q.word) (p.counter ∙ sym q.counter) (p.reading ∙ sym q.reading))
+Spells-one o (Stamp (Request w k)) (Stamp (Reply r)) p q = absurd (type-one _ p.head.first q.head.first)
+Spells-one o (Stamp (Reply r)) (Stamp (Request x l)) p q = absurd (type-one _ q.head.first p.head.first)
+Spells-one o (Stamp (Reply r)) (Stamp (Reply s)) p q =
+    ap (λ z. Stamp (Reply z)) (reply_parts r s (p.ticket ∙ sym q.ticket) (p.word ∙ sym q.word) (p.counter ∙ sym q.counter) (p.reading ∙ sym q.reading))

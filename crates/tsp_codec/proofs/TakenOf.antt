@@ -5,7 +5,7 @@ use Rattle.std.proofs.lemmas.Float.{T_from_true}
 use Rattle.std.proofs.lemmas.Grind.{common_steps}
 use Rattle.std.proofs.lemmas.List.{append_assoc, take-append-drop}
 use Rattle.std.specs.Prelude.{Contains, ℤ, T, if◌then◌else◌, option_map, ◌==◌, nat_lt, Option}
-use Rattle.tsp_base.specs.Kinds.{kind_of, carries_time, carries_hops}
+use Rattle.tsp_base.specs.Words.{kind_of, carries_time, carries_hops}
 use Rattle.tsp_base.specs.declared.kind.Kind.{Kind}
 use Rattle.tsp_base.specs.declared.message.Body.{Body}
 use Rattle.tsp_base.specs.declared.message.Body.TheVariants.{Nothing, Time as TimeBody, Hops}

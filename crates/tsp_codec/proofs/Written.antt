@@ -9,19 +9,15 @@ use Rattle.std.proofs.lemmas.Int.{ints, to_z-of_z}
 use Rattle.std.proofs.Math.Facts.{Fits-of_z}
 use Rattle.std.specs.Prelude.{ℤ, pos, negsuc, ◌+ℤ◌, ◌*ℤ◌, ◌≤ℤ◌}
 use Rattle.std.specs.Int.{cast_signed, cast_unsigned, int_div_euclid, int_rem_euclid}
-use Rattle.tsp_base.specs.Times.{IsMicros}
+use Rattle.tsp_base.specs.Words.{IsMicros, carries_time, carries_hops, IsName, MessageValue, body_fits, ReplyValue, IsReply}
 use mir.Val.{SFits, Fits}
-use Rattle.tsp_base.specs.Kinds.{carries_time, carries_hops}
-use Rattle.tsp_base.specs.Names.{IsName}
-use Rattle.tsp_base.specs.Messages.{MessageValue, body_fits}
 use Rattle.tsp_base.proofs.KindLemmas.{kind_of-kind_number}
 use Rattle.tsp_base.specs.declared.kind.Kind.{Kind}
-use Rattle.tsp_base.specs.declared.kind.Kind.TheVariants.{AdjTime, Ack, MasterReq, MasterAck, SetTime, MasterUp, SlaveUp, Election, Accept, Refuse, Conflict, Resolve, Quit, Date, DateReq, DateAck, TraceOn, TraceOff, Msite, MsiteReq, Test, SetDate, SetDateReq, Loop}
+use Rattle.tsp_base.specs.declared.kind.Kind.TheVariants.{AdjTime, Ack, MasterReq, MasterAck, SetTime, MasterUp, SlaveUp, Election, Accept, Refuse, Conflict, Resolve as ResolveKind, Quit as QuitKind, Date, DateReq, DateAck, TraceOn, TraceOff, Msite, MsiteReq, Test, SetDate, SetDateReq, Loop as LoopKind}
 use Rattle.tsp_base.specs.declared.message.Body.{Body}
 use Rattle.tsp_base.specs.declared.message.Body.TheVariants.{Nothing, Time as TimeBody, Hops}
 use Rattle.tsp_base.specs.declared.datagram.Datagram.{Datagram}
-use Rattle.tsp_base.specs.declared.datagram.Datagram.TheVariants.{Message, Stamp as StampOf}
-use Rattle.tsp_base.specs.Stamps.{ReplyValue, IsReply}
+use Rattle.tsp_base.specs.declared.datagram.Datagram.TheVariants.{Message, Stamp}
 use Rattle.tsp_base.specs.declared.stamp.Stamp.TheVariants.{Request, Reply}
 use Rattle.tsp_codec.specs.Spelling.{Spells, SpellsMessage, SpellsName, SpellsRequest, SpellsReply}
 use Rattle.tsp_codec.specs.Canon.{IsWritable, IsWritableBody, message_octets, stamp_octets, name_octets, room_for, canon, written_size}
@@ -40,8 +36,8 @@ carries_time-hops Election e = cc
 carries_time-hops Accept e = cc
 carries_time-hops Refuse e = cc
 carries_time-hops Conflict e = cc
-carries_time-hops Resolve e = cc
-carries_time-hops Quit e = cc
+carries_time-hops ResolveKind e = cc
+carries_time-hops QuitKind e = cc
 carries_time-hops Date e = cc
 carries_time-hops DateReq e = cc
 carries_time-hops DateAck e = cc
@@ -52,7 +48,7 @@ carries_time-hops MsiteReq e = cc
 carries_time-hops Test e = cc
 carries_time-hops SetDate e = cc
 carries_time-hops SetDateReq e = cc
-carries_time-hops Loop e = refl
+carries_time-hops LoopKind e = refl
 
 body_fits-hops : (k : Kind) (h : ℕ) → body_fits k (Hops h) ≡ true → carries_hops k ≡ true
 unfolding body_fits
@@ -193,8 +189,8 @@ SpellsReply-octets r w c p =
 
 pub Spells-canon : (d : Datagram) → IsWritable d → Spells (canon d) d
 Spells-canon (Message m) w = SpellsMessage-octets m.kind m.number m.body m.name w.0 w.1 w.2 w.3
-Spells-canon (StampOf (Request a b)) w = SpellsRequest-octets a b w.0 w.1
-Spells-canon (StampOf (Reply r)) w = SpellsReply-octets r w.0 w.1 w.2
+Spells-canon (Stamp (Request a b)) w = SpellsRequest-octets a b w.0 w.1
+Spells-canon (Stamp (Reply r)) w = SpellsReply-octets r w.0 w.1 w.2
 
 length-message_octets : (k : Kind) (n : ℕ) (b : Body) (name : List ℕ) → IsName name → length (message_octets (message k n b name)) ≡ 12 + room_for (length name)
 length-message_octets k n Nothing name p = let z = length-name_octets name p in omega arith
@@ -203,5 +199,5 @@ length-message_octets k n (TimeBody t) name p = let z = length-name_octets name 
 
 pub length-canon : (d : Datagram) → IsWritable d → length (canon d) ≡ written_size d
 length-canon (Message m) w = length-message_octets m.kind m.number m.body m.name w.2
-length-canon (StampOf (Request a b)) w = refl
-length-canon (StampOf (Reply r)) w = refl
+length-canon (Stamp (Request a b)) w = refl
+length-canon (Stamp (Reply r)) w = refl

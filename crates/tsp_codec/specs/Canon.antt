@@ -1,17 +1,13 @@
 -- The octets that are written for a datagram.
 use Rattle.std.specs.Prelude.{◌≡◌, ℕ, ◌+◌, ◌-◌, ◌^◌, ◌<◌, nat_le, if◌then◌else◌, ℤ, pos, List, [], ◌∷◌, ◌++◌, length, replicate, true}
 use Rattle.std.specs.Int.{w16, w32, w64, to_be_bytes, cast_unsigned, int_div_euclid, int_rem_euclid}
-use Rattle.tsp_base.specs.Kinds.{kind_number}
-use Rattle.tsp_base.specs.Messages.{MessageValue, body_fits}
-use Rattle.tsp_base.specs.Names.{IsName}
-use Rattle.tsp_base.specs.Times.{IsMicros}
-use Rattle.tsp_base.specs.Stamps.{IsReply}
+use Rattle.tsp_base.specs.Words.{kind_number, MessageValue, body_fits, IsName, IsMicros, IsReply}
 use Rattle.tsp_base.specs.declared.message.Body.{Body}
 use Rattle.tsp_base.specs.declared.message.Body.TheVariants.{Nothing, Time as TimeBody, Hops}
-use Rattle.tsp_base.specs.declared.stamp.Stamp.{Stamp}
+use Rattle.tsp_base.specs.declared.stamp.Stamp.{Stamp as StampValue}
 use Rattle.tsp_base.specs.declared.stamp.Stamp.TheVariants.{Request, Reply}
 use Rattle.tsp_base.specs.declared.datagram.Datagram.{Datagram}
-use Rattle.tsp_base.specs.declared.datagram.Datagram.TheVariants.{Message, Stamp as StampOf}
+use Rattle.tsp_base.specs.declared.datagram.Datagram.TheVariants.{Message, Stamp}
 
 -- four octets in two's complement
 abbrev pub int_octets : ℤ → List ℕ
@@ -40,19 +36,19 @@ abbrev pub message_octets : MessageValue → List ℕ
 message_octets m = (((kind_number m.kind ∷ 1 ∷ []) ++ to_be_bytes w16 m.number) ++ body_octets m.body) ++ name_octets m.name
 
 -- the 28 octets of a stamp
-abbrev pub stamp_octets : Stamp → List ℕ
+abbrev pub stamp_octets : StampValue → List ℕ
 stamp_octets (Request word counter) = (((128 ∷ 1 ∷ 0 ∷ 0 ∷ []) ++ to_be_bytes w64 word) ++ to_be_bytes w64 counter) ++ replicate 8 0
 stamp_octets (Reply r) = ((((129 ∷ 1 ∷ []) ++ to_be_bytes w16 r.ticket) ++ to_be_bytes w64 r.word) ++ to_be_bytes w64 r.counter) ++ to_be_bytes w64 (cast_unsigned w64 r.reading)
 
 -- the octets that are written for a datagram
 abbrev pub canon : Datagram → List ℕ
 canon (Message message) = message_octets message
-canon (StampOf stamp) = stamp_octets stamp
+canon (Stamp stamp) = stamp_octets stamp
 
 -- how many octets are written
 abbrev pub written_size : Datagram → ℕ
 written_size (Message message) = 12 + room_for (length message.name)
-written_size (StampOf stamp) = 28
+written_size (Stamp stamp) = 28
 
 -- a body whose number is in its range
 abbrev pub IsWritableBody : Body → Type 0
@@ -63,5 +59,5 @@ IsWritableBody (TimeBody t) = IsMicros t
 -- the parts of a datagram are in their ranges: so they are in each datagram that the program can hold
 abbrev pub IsWritable : Datagram → Type 0
 IsWritable (Message m) = (m.number < 2 ^ 16) × (body_fits m.kind m.body ≡ true) × IsName m.name × IsWritableBody m.body
-IsWritable (StampOf (Request word counter)) = (word < 2 ^ 64) × (counter < 2 ^ 64)
-IsWritable (StampOf (Reply r)) = (r.word < 2 ^ 64) × (r.counter < 2 ^ 64) × IsReply r.ticket r.reading
+IsWritable (Stamp (Request word counter)) = (word < 2 ^ 64) × (counter < 2 ^ 64)
+IsWritable (Stamp (Reply r)) = (r.word < 2 ^ 64) × (r.counter < 2 ^ 64) × IsReply r.ticket r.reading

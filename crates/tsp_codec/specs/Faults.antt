@@ -1,6 +1,6 @@
 -- Why octets aren't a valid datagram: the faults, and the first of them.
 use Rattle.std.specs.Prelude.{◌≡◌, ◌≢◌, ℕ, ◌<◌, ◌≤◌, List, length, take, drop, true, None, Some, IsSome, Contains, ◌⊎◌, ℤ, pos, negsuc, ◌<ℤ◌}
-use Rattle.tsp_base.specs.Kinds.{kind_of, carries_time}
+use Rattle.tsp_base.specs.Words.{kind_of, carries_time}
 use Rattle.tsp_base.specs.declared.kind.Kind.{Kind}
 use Rattle.tsp_base.specs.declared.datagram.DecodeFault.{DecodeFault}
 use Rattle.tsp_base.specs.declared.datagram.DecodeFault.TheVariants.{Short, Long, Version, Kind as BadKind, StampLength, NoEnd, NameTooLong, Reserved, Time}

@@ -1,18 +1,14 @@
 -- What octets spell: the layout of the datagrams (TSP specification, message format).
 use Rattle.std.specs.Prelude.{◌≡◌, ℕ, ◌≤◌, ℤ, pos, negsuc, ◌+ℤ◌, ◌*ℤ◌, ◌≤ℤ◌, List, ◌∷◌, ◌++◌, length, drop, true, false, Some}
 use Rattle.std.specs.Int.{w32, w64, cast_signed}
-use Rattle.tsp_base.specs.Kinds.{kind_of, carries_time, carries_hops}
-use Rattle.tsp_base.specs.Messages.{MessageValue}
-use Rattle.tsp_base.specs.Names.{IsName}
-use Rattle.tsp_base.specs.Times.{IsMicros}
-use Rattle.tsp_base.specs.Stamps.{IsReply, ReplyValue}
+use Rattle.tsp_base.specs.Words.{kind_of, carries_time, carries_hops, MessageValue, IsName, IsMicros, IsReply, ReplyValue}
 use Rattle.tsp_base.specs.declared.kind.Kind.{Kind}
 use Rattle.tsp_base.specs.declared.message.Body.{Body}
 use Rattle.tsp_base.specs.declared.message.Body.TheVariants.{Nothing, Time as TimeBody, Hops}
-use Rattle.tsp_base.specs.declared.stamp.Stamp.{Stamp}
+use Rattle.tsp_base.specs.declared.stamp.Stamp.{Stamp as StampValue}
 use Rattle.tsp_base.specs.declared.stamp.Stamp.TheVariants.{Request, Reply}
 use Rattle.tsp_base.specs.declared.datagram.Datagram.{Datagram}
-use Rattle.tsp_base.specs.declared.datagram.Datagram.TheVariants.{Message, Stamp as StampOf}
+use Rattle.tsp_base.specs.declared.datagram.Datagram.TheVariants.{Message, Stamp}
 use Rattle.tsp_codec.specs.Numbers.{octet_at, be16_at, be32_at, be64_at}
 
 -- the seconds of a time, in two's complement
@@ -85,11 +81,11 @@ pub record SpellsReply (octets : List ℕ) (reply : ReplyValue) : Type 0 where
   pub valid : IsReply reply.ticket reply.reading
 
 -- the octets of a stamp
-abbrev pub SpellsStamp : List ℕ → Stamp → Type 0
+abbrev pub SpellsStamp : List ℕ → StampValue → Type 0
 SpellsStamp octets (Request word counter) = SpellsRequest octets word counter
 SpellsStamp octets (Reply reply) = SpellsReply octets reply
 
 -- the octets of a datagram
 abbrev pub Spells : List ℕ → Datagram → Type 0
 Spells octets (Message message) = SpellsMessage octets message
-Spells octets (StampOf stamp) = SpellsStamp octets stamp
+Spells octets (Stamp stamp) = SpellsStamp octets stamp

@@ -1,6 +1,6 @@
 -- What a reader makes of octets, as a computation.
 use Rattle.std.specs.Prelude.{ℕ, ℤ, pos, negsuc, List, [], ◌∷◌, length, Bool, ◌&&◌, ◌==◌, nat_lt, int_le, int_lt, if◌then◌else◌, Option, None, Some, option_map}
-use Rattle.tsp_base.specs.Kinds.{kind_of, carries_time, carries_hops}
+use Rattle.tsp_base.specs.Words.{kind_of, carries_time, carries_hops}
 use Rattle.tsp_base.specs.declared.kind.Kind.{Kind}
 use Rattle.tsp_base.specs.declared.message.Body.{Body}
 use Rattle.tsp_base.specs.declared.message.Body.TheVariants.{Nothing, Time as TimeBody, Hops}

@@ -7,13 +7,11 @@ use Rattle.std.proofs.lemmas.Fmt.{decimal_is_IsNumeral}
 use Rattle.std.proofs.lemmas.Int.{ints}
 use Rattle.hex.specs.Hex.{encode_lower, encode_with, hex_digit_value, lower_digits, IsBytes}
 use Rattle.hex.proofs.HexLemmas.{IsDigits-lower_digits}
-use Rattle.tsp_base.specs.Kinds.{kind_word}
-use Rattle.tsp_base.specs.Messages.{MessageValue}
-use Rattle.tsp_base.specs.Stamps.{ReplyValue, IsReply}
+use Rattle.tsp_base.specs.Words.{kind_word, MessageValue, ReplyValue, IsReply}
 use Rattle.tsp_base.specs.declared.kind.Kind.{Kind}
 use Rattle.tsp_base.specs.declared.kind.Kind.TheVariants.{AdjTime}
 use Rattle.tsp_base.specs.declared.message.Body.{Body}
-use Rattle.tsp_base.specs.declared.message.Body.TheVariants.{Nothing, Time, Hops}
+use Rattle.tsp_base.specs.declared.message.Body.TheVariants.{Nothing, Time as TimeBody, Hops}
 use Rattle.tsp_base.specs.declared.stamp.Stamp.TheVariants.{Request, Reply}
 use Rattle.tsp_base.specs.declared.datagram.Datagram.{Datagram}
 use Rattle.tsp_base.specs.declared.datagram.Datagram.TheVariants.{Message, Stamp}
@@ -82,7 +80,7 @@ name (c ∷ cs) b = octets (c ∷ cs) b
 
 body : (b : Body) → IsBody b → NoFeed (body_text b)
 body Nothing h = word [] refl
-body (Time t) h = NoFeed-append (signed_decimal t) space (time t (h.low, h.high)) blank
+body (TimeBody t) h = NoFeed-append (signed_decimal t) space (time t (h.low, h.high)) blank
 body (Hops n) h = NoFeed-append (decimal n) space (number n (omega (arith, h))) blank
 
 message : (m : MessageValue) → IsMessage m → NoFeed (message_text (Message m))

@@ -1,10 +1,10 @@
 -- What octets spell is in its ranges.
 use Rattle.std.proofs.Common.{◌≡◌, ℕ, ◌+◌, ◌^◌, ◌<◌, List, [], ◌∷◌, ◌++◌, zero, suc, true, drop, refl, sym, arith}
 use Rattle.hex.specs.Hex.{IsBytes}
-use Rattle.tsp_base.specs.Messages.{body_fits}
+use Rattle.tsp_base.specs.Words.{body_fits}
 use Rattle.tsp_base.specs.declared.kind.Kind.{Kind}
 use Rattle.tsp_base.specs.declared.message.Body.{Body}
-use Rattle.tsp_base.specs.declared.message.Body.TheVariants.{Nothing, Time, Hops}
+use Rattle.tsp_base.specs.declared.message.Body.TheVariants.{Nothing, Time as TimeBody, Hops}
 use Rattle.tsp_base.specs.declared.stamp.Stamp.TheVariants.{Request, Reply}
 use Rattle.tsp_base.specs.declared.datagram.Datagram.{Datagram}
 use Rattle.tsp_base.specs.declared.datagram.Datagram.TheVariants.{Message, Stamp}
@@ -30,12 +30,12 @@ IsBytes-front (x ∷ o) rest h (suc i) = IsBytes-front o rest (λ j. h (suc j)) 
 
 body_fits-spelled : (o : List ℕ) (k : Kind) (b : Body) → SpellsBody o k b → body_fits k b ≡ true
 unfolding body_fits
-body_fits-spelled o k (Time t) h = h.0
+body_fits-spelled o k (TimeBody t) h = h.0
 body_fits-spelled o k (Hops n) h = h.1
 body_fits-spelled o k Nothing h = rw (h.0, h.1) refl
 
 IsBody-spelled : (o : List ℕ) (k : Kind) (b : Body) → IsBytes o → SpellsBody o k b → IsBody b
-IsBody-spelled o k (Time t) w h = rw h.2 h.1.value
+IsBody-spelled o k (TimeBody t) w h = rw h.2 h.1.value
 IsBody-spelled o k (Hops n) w h = rw h.2 (w 4)
 IsBody-spelled o k Nothing w h = tt
 

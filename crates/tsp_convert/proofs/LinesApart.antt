@@ -7,12 +7,10 @@ use Rattle.std.specs.Int.RustNames.{FitsSigned}
 use Rattle.std.proofs.lemmas.Fmt.{decimal_injective, signed_decimal_injective}
 use Rattle.std.proofs.lemmas.Int.{ints}
 use lib.Signed.{mag}
-use Rattle.tsp_base.specs.Kinds.{kind_word}
-use Rattle.tsp_base.specs.Messages.{MessageValue, body_fits}
-use Rattle.tsp_base.specs.Stamps.{ReplyValue, IsReply}
+use Rattle.tsp_base.specs.Words.{kind_word, MessageValue, body_fits, ReplyValue, IsReply}
 use Rattle.tsp_base.specs.declared.kind.Kind.{Kind}
 use Rattle.tsp_base.specs.declared.message.Body.{Body}
-use Rattle.tsp_base.specs.declared.message.Body.TheVariants.{Nothing, Time, Hops}
+use Rattle.tsp_base.specs.declared.message.Body.TheVariants.{Nothing, Time as TimeBody, Hops}
 use Rattle.tsp_base.specs.declared.stamp.Stamp.TheVariants.{Request, Reply}
 use Rattle.tsp_base.specs.declared.datagram.Datagram.{Datagram}
 use Rattle.tsp_base.specs.declared.datagram.Datagram.TheVariants.{Message, Stamp}
@@ -46,15 +44,15 @@ spaced w r = append_assoc w space r
 bodies_apart : (k : Kind) (b c : Body) (r s : List ℕ) → IsBody b → IsBody c → body_fits k b ≡ true → body_fits k c ≡ true → body_text b ++ r ≡ body_text c ++ s → (b ≡ c) × (r ≡ s)
 unfolding body_fits
 bodies_apart k Nothing Nothing r s h i f g e = (refl, e)
-bodies_apart k Nothing (Time u) r s h i f g e = absurd (time_body k Nothing g f)
+bodies_apart k Nothing (TimeBody u) r s h i f g e = absurd (time_body k Nothing g f)
 bodies_apart k Nothing (Hops n) r s h i f g e = absurd (hops_body k Nothing g f)
-bodies_apart k (Time t) Nothing r s h i f g e = absurd (time_body k Nothing f g)
-bodies_apart k (Time t) (Time u) r s h i f g e =
+bodies_apart k (TimeBody t) Nothing r s h i f g e = absurd (time_body k Nothing f g)
+bodies_apart k (TimeBody t) (TimeBody u) r s h i f g e =
     let p = times_apart t u r s (h.low, h.high) (i.low, i.high) (sym (spaced (signed_decimal t) r) ∙ e ∙ spaced (signed_decimal u) s) in
-    (ap Time p.0, p.1)
-bodies_apart k (Time t) (Hops n) r s h i f g e = absurd (time_body k (Hops n) f g)
+    (ap TimeBody p.0, p.1)
+bodies_apart k (TimeBody t) (Hops n) r s h i f g e = absurd (time_body k (Hops n) f g)
 bodies_apart k (Hops m) Nothing r s h i f g e = absurd (hops_body k Nothing f g)
-bodies_apart k (Hops m) (Time u) r s h i f g e = absurd (hops_body k (Time u) f g)
+bodies_apart k (Hops m) (TimeBody u) r s h i f g e = absurd (hops_body k (TimeBody u) f g)
 bodies_apart k (Hops m) (Hops n) r s h i f g e =
     let p = numbers_apart m n r s (omega (arith, h)) (omega (arith, i)) (sym (spaced (decimal m) r) ∙ e ∙ spaced (decimal n) s) in
     (ap Hops p.0, p.1)

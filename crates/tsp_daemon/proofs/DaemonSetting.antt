@@ -4,9 +4,8 @@ use Rattle.std.specs.List.{range_with_len}
 use Rattle.std.proofs.Common.{ap, arith, eq-eqb}
 use Rattle.std.proofs.lemmas.Int.{ints}
 use Rattle.tsp_args.specs.declared.serve.ServeWords.{ServeWords}
-use Rattle.tsp_base.specs.declared.place.PeerId.{PeerId}
-use Rattle.tsp_base.specs.declared.place.Port.{Port}
-use Rattle.tsp_base.specs.Peers.{is_among}
+use Rattle.tsp_rules.specs.Values.{PeerId, Port}
+use Rattle.tsp_base.specs.Words.{is_among}
 use Rattle.tsp_io.specs.declared.addr.Addr.{Addr}
 use Rattle.tsp_promises.specs.Setting.{Alone, Named, Network, Setting}
 use Rattle.tsp_rules.specs.NodeRows.{PortSetup, no_port}

@@ -2,7 +2,7 @@
 use Rattle.std.specs.Prelude.{◌≡◌, ℕ, ◌+◌, ◌<◌, List, ◌++◌, length, take, drop, Option}
 use Rattle.std.proofs.Common.{ap, sym, ◌∙◌, append_assoc, arith, get_or, length-append, length-drop, take-append-drop}
 use Rattle.std.proofs.lemmas.List.{drop_more}
-use Rattle.tsp_base.specs.declared.act.Placed.{Placed}
+use Rattle.tsp_rules.specs.Values.{Placed}
 use Rattle.tsp_io.specs.Streams.{Grows}
 use Rattle.tsp_lines.proofs.Outputs.{Grows-trans}
 use Rattle.tsp_daemon.specs.declared.end.ServeEnd.{ServeEnd}

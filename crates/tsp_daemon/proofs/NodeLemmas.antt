@@ -5,9 +5,9 @@ use Rattle.std.proofs.lemmas.List.{drop_more, get_or-map, length-map}
 use Rattle.std.proofs.lemmas.Option.{get_or_from_slice_get, slice_get_within}
 use Rattle.std.proofs.lemmas.List.FromFn.{length-map-range_with_len, get_or-map-range_with_len}
 use Rattle.std.specs.List.{range_with_len}
-use Rattle.tsp_base.specs.declared.place.PeerId.{PeerId}
+use Rattle.tsp_rules.specs.Values.{PeerId}
 use Rattle.tsp_node.specs.Configs.{IsPortSetup}
-use Rattle.tsp_gateway.specs.GateConfigs.{ArePorts, peers_of_ports}
+use Rattle.tsp_gateway.specs.GateConfigs.{AreGatePorts, peers_of_ports}
 use Rattle.tsp_gateway.specs.Rooms.{room_of_ports}
 use Rattle.tsp_io.specs.declared.addr.Addr.{Addr}
 use Rattle.tsp_rules.specs.NodeRows.{PortSetup}
@@ -48,7 +48,7 @@ IsPortSetup-setup_of done count few = record {
 }
 
 -- a daemon with at most 999 peers can have its ports
-pub ArePorts-setups_from : (done : ℕ) (ports : List (List Addr)) → length (all_peers ports) ≤ 999 → ArePorts (setups_from done ports)
+pub ArePorts-setups_from : (done : ℕ) (ports : List (List Addr)) → length (all_peers ports) ≤ 999 → AreGatePorts (setups_from done ports)
 ArePorts-setups_from done [] few = tt
 ArePorts-setups_from done (peers ∷ ports) few =
     let both = length-append peers (all_peers ports) in (

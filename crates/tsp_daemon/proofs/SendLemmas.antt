@@ -3,7 +3,7 @@ use Rattle.std.specs.Prelude.{◌≡◌, ℕ, ◌+◌, ◌<◌, List, ◌++◌, 
 use Rattle.std.specs.Option.{option_map}
 use Rattle.std.proofs.Common.{ap, ◌∙◌, append_assoc, get_or, drop}
 use Rattle.std.proofs.lemmas.List.{drop_more}
-use Rattle.tsp_base.specs.declared.act.Placed.{Placed}
+use Rattle.tsp_rules.specs.Values.{Placed}
 use Rattle.tsp_io.specs.Links.{Tried}
 use Rattle.tsp_daemon.specs.Ends.{TriesAll}
 use Rattle.tsp_daemon.specs.Posts.{send_of, sends_of}

@@ -14,7 +14,7 @@ use Rattle.tsp_gateway.specs.GatewayStands.{GatewayStands}
 use Rattle.tsp_io.specs.Clocks.{TakesReading}
 use Rattle.tsp_io.specs.Links.{Arrival, Tried}
 use Rattle.tsp_query.specs.Clocks.{reading}
-use Rattle.tsp_query.specs.Ends.{Outside, Tells}
+use Rattle.tsp_query.specs.Ends.{Outside, KnowsExactly}
 use Rattle.tsp_query.specs.Outside.{Observed}
 use Rattle.tsp_rules.specs.Guards.{is_clock_value}
 use Rattle.tsp_args.specs.Serves.{IsServe}
@@ -26,7 +26,7 @@ use Rattle.tsp_daemon.specs.Serving.{served_of, first_session, IsServed}
 
 -- what is told once the tick counter was read
 pub Tells_read : (o : Outside) (arrivals : Option (List Arrival)) (tried : Option (List Tried)) (calls : Option ℕ) (readings between now_readings : Option (List ℕ)) (last tick now_last : ℕ)
-    → TakesReading readings between last tick → now_readings ≡ between → now_last ≡ tick → Tells o arrivals tried calls readings last → Tells (read_once o) arrivals tried calls now_readings now_last × (tick ≡ (read_once o).last)
+    → TakesReading readings between last tick → now_readings ≡ between → now_last ≡ tick → KnowsExactly o arrivals tried calls readings last → KnowsExactly (read_once o) arrivals tried calls now_readings now_last × (tick ≡ (read_once o).last)
 Tells_read o arrivals tried calls readings between now_readings last tick now_last takes same is k =
     let taken = reading_taken o.readings readings between last tick k.readings_are takes in
     let read = taken.1 ∙ ap (λ n. reading n o.readings 0) k.last_is in (
@@ -54,7 +54,7 @@ serves_few turns i s arrivals tried calls readings last written OutOfMemory h = 
 
 -- a node that has booted at these readings serves the first session
 pub IsServed_serves : (s : ServeWords) (o : Outside) (wall wall' : ℤ) (word word' tick : ℕ) (written : List ℕ) (node : Gateway) (arrivals : Option (List Arrival)) (tried : Option (List Tried)) (calls : Option ℕ) (readings : Option (List ℕ)) (last : ℕ) (before : Option (List ℕ)) (old : Option (List ℕ)) (now : Observed) (end : ServeEnd) (served : DaemonExit)
-    → tick ≡ (read_once o).last → wall' ≡ wall → word' ≡ word → is_clock_value wall' ≡ true → GatewayStands (first_past s tick wall' word') node → Tells (read_once o) arrivals tried calls readings last → before ≡ Some written → served ≡ served_of end
+    → tick ≡ (read_once o).last → wall' ≡ wall → word' ≡ word → is_clock_value wall' ≡ true → GatewayStands (first_past s tick wall' word') node → KnowsExactly (read_once o) arrivals tried calls readings last → before ≡ Some written → served ≡ served_of end
     → IsServe s → ((x : Session) → IsAt x node (record { turns = 0; posts = 0 }) arrivals tried calls readings last before → Serves s.turns x now.arrivals now.tried now.calls now.readings now.last now.written old now.waits end)
     → IsServed s o wall word written old now served
 IsServed_serves s o wall wall' word word' tick written node arrivals tried calls readings last before old now end served t w v within stands tells b is words serves =

@@ -2,10 +2,8 @@
 use Rattle.std.specs.Prelude.{◌≡◌, ◌<◌, ◌≤◌, ◌+◌, ◌||◌, ℕ, suc, Bool, List, [], ◌∷◌, ◌++◌, length, take, Option, Some, refl}
 use Rattle.std.specs.Option.{option_map}
 use Rattle.std.proofs.Common.{ap, sym, subst, ◌∙◌, arith, inl, inr}
-use Rattle.tsp_base.specs.declared.act.Placed.{Placed}
-use Rattle.tsp_base.specs.declared.place.Place.TheVariants.{Peer, Stranger}
-use Rattle.tsp_base.specs.History.{dids}
-use Rattle.tsp_base.specs.NodeFacts.{tracing}
+use Rattle.tsp_rules.specs.Values.{Placed, Peer, Stranger}
+use Rattle.tsp_base.specs.Words.{dids, tracing}
 use Rattle.tsp_codec.specs.Taken.{taken_of}
 use Rattle.tsp_gateway.specs.declared.gateway.Gateway.{Gateway}
 use Rattle.tsp_gateway.specs.GatewayStands.{GatewayStands, GatewayBegun}
@@ -14,14 +12,14 @@ use Rattle.tsp_gateway.proofs.PortOfLemmas.{setups-stand}
 use Rattle.tsp_gateway.proofs.StepLemmas.{GatewayBegun_in_step}
 use Rattle.tsp_io.specs.Clocks.{TakesReading}
 use Rattle.tsp_io.specs.Counts.{one_more}
-use Rattle.tsp_io.specs.Links.{Arrival, Tried, Receives, TakesDatagram, TakesNothing}
+use Rattle.tsp_io.specs.Links.{Arrival, Tried, ReceivesOne, TakesDatagram, TakesNothing}
 use Rattle.tsp_io.specs.Streams.{Grows}
 use Rattle.tsp_io.specs.declared.link.Recv.{Recv}
 use Rattle.tsp_io.specs.declared.link.Recv.TheVariants.{Datagram, Nothing, Failed}
 use Rattle.tsp_query.proofs.AskLemmas.{reading_taken}
 use Rattle.tsp_query.specs.Arrivals.{next_arrival, rest_of}
 use Rattle.tsp_query.specs.Clocks.{reading}
-use Rattle.tsp_query.specs.Ends.{Outside, Tells}
+use Rattle.tsp_query.specs.Ends.{Outside, KnowsExactly}
 use Rattle.tsp_rules.specs.GateRows.{NodeGiven, NodeTurn, GotOn, answers_all}
 use Rattle.tsp_rules.specs.NodePerforms.{PerformsAll}
 use Rattle.tsp_rules.specs.NodeRows.{NodePast, PortSetup, spread}
@@ -34,7 +32,7 @@ use Rattle.tsp_daemon.specs.Sessions.{Session, port_from, given_of, unheard, wai
 use Rattle.tsp_daemon.proofs.StrangerLemmas.{is_strange_on, known_any, known_steps}
 
 -- a told arrival is the next, and the node is given it
-received_is : (ports : List PortSetup) (arriving : List Arrival) (arrivals rest : Option (List Arrival)) (stranger now : Bool) (r : Recv) (buf : List ℕ) → arrivals ≡ Some arriving → (r ≡ Failed → ⊥) → Receives arrivals rest stranger now r buf →
+received_is : (ports : List PortSetup) (arriving : List Arrival) (arrivals rest : Option (List Arrival)) (stranger now : Bool) (r : Recv) (buf : List ℕ) → arrivals ≡ Some arriving → (r ≡ Failed → ⊥) → ReceivesOne arrivals rest stranger now r buf →
     (rest ≡ Some (rest_of arriving)) × (given_by ports r buf ≡ given_of ports (next_arrival arriving))
 received_is ports arriving arrivals rest stranger now (Datagram from count) buf is ok got = by_datagram (subst (λ a. TakesDatagram a rest from (take count buf)) is got.1) where
   by_datagram : TakesDatagram (Some arriving) rest from (take count buf) → (rest ≡ Some (rest_of arriving)) × (given_by ports (Datagram from count) buf ≡ given_of ports (next_arrival arriving))
@@ -47,12 +45,12 @@ received_is ports arriving arrivals rest stranger now Failed buf is ok got = abs
 
 -- what a turn has read and heard when its node steps
 pub record Waits (ports : List PortSetup) (o : Outside) (r : Recv) (buf : List ℕ) (tick : ℕ) (arrivals : Option (List Arrival)) (tried : Option (List Tried)) (calls : Option ℕ) (readings : Option (List ℕ)) (last : ℕ) : Type 0 where
-  pub tells : Tells (waited o) arrivals tried calls readings last
+  pub tells : KnowsExactly (waited o) arrivals tried calls readings last
   pub given_is : given_by ports r buf ≡ given_of ports (next_arrival o.arrivals)
   pub tick_is : tick ≡ (waited o).last
 
 pub waits_is : (ports : List PortSetup) (o : Outside) (arrivals now_arrivals : Option (List Arrival)) (tried now_tried : Option (List Tried)) (calls now_calls : Option ℕ) (readings between now_readings : Option (List ℕ)) (last first last_between tick now_last : ℕ) (stranger now : Bool) (r : Recv) (buf : List ℕ) →
-    Tells o arrivals tried calls readings last → TakesReading readings between last first → last_between ≡ first → Receives arrivals now_arrivals stranger now r buf → (r ≡ Failed → ⊥) → now_tried ≡ tried → now_calls ≡ option_map one_more calls →
+    KnowsExactly o arrivals tried calls readings last → TakesReading readings between last first → last_between ≡ first → ReceivesOne arrivals now_arrivals stranger now r buf → (r ≡ Failed → ⊥) → now_tried ≡ tried → now_calls ≡ option_map one_more calls →
     TakesReading between now_readings last_between tick → now_last ≡ tick → Waits ports o r buf tick now_arrivals now_tried now_calls now_readings now_last
 waits_is ports o arrivals now_arrivals tried now_tried calls now_calls readings between now_readings last first last_between tick now_last stranger now r buf t one one_is got ok same counted two two_is =
     let a = reading_taken o.readings readings between last first t.readings_are one in
@@ -74,11 +72,11 @@ waits_is ports o arrivals now_arrivals tried now_tried calls now_calls readings 
 
 -- a receive failed
 pub unheard_is : (o : Outside) (arrivals now_arrivals : Option (List Arrival)) (tried now_tried : Option (List Tried)) (calls now_calls : Option ℕ) (readings between : Option (List ℕ)) (last first last_between : ℕ) (stranger now : Bool) (r : Recv) (buf : List ℕ) →
-    Tells o arrivals tried calls readings last → TakesReading readings between last first → last_between ≡ first → Receives arrivals now_arrivals stranger now r buf → r ≡ Failed → now_tried ≡ tried → now_calls ≡ option_map one_more calls →
-    Tells (unheard o) now_arrivals now_tried now_calls between last_between
+    KnowsExactly o arrivals tried calls readings last → TakesReading readings between last first → last_between ≡ first → ReceivesOne arrivals now_arrivals stranger now r buf → r ≡ Failed → now_tried ≡ tried → now_calls ≡ option_map one_more calls →
+    KnowsExactly (unheard o) now_arrivals now_tried now_calls between last_between
 unheard_is o arrivals now_arrivals tried now_tried calls now_calls readings between last first last_between stranger now r buf t one one_is got failed same counted =
     let a = reading_taken o.readings readings between last first t.readings_are one in
-    let none = subst (λ s. Receives arrivals now_arrivals stranger now s buf) failed got in
+    let none = subst (λ s. ReceivesOne arrivals now_arrivals stranger now s buf) failed got in
     record {
       arrivals_are = none.0 ∙ t.arrivals_are;
       tried_are = same ∙ t.tried_are;
@@ -164,13 +162,13 @@ lives_on node next g tick acts l row = record {
 }
 
 -- what may go to a stranger where one is answered
-known_by : (ports : List PortSetup) (r : Recv) (buf : List ℕ) (arrivals rest : Option (List Arrival)) (stranger now : Bool) (acts : List Placed) → Receives arrivals rest stranger now r buf → AreKnown (is_strange_on (given_by ports r buf)) acts → AreKnown now acts
+known_by : (ports : List PortSetup) (r : Recv) (buf : List ℕ) (arrivals rest : Option (List Arrival)) (stranger now : Bool) (acts : List Placed) → ReceivesOne arrivals rest stranger now r buf → AreKnown (is_strange_on (given_by ports r buf)) acts → AreKnown now acts
 known_by ports (Datagram Stranger count) buf arrivals rest stranger now acts got k = subst (λ b. AreKnown b acts) (sym got.2) k
 known_by ports (Datagram (Peer p) count) buf arrivals rest stranger now acts got k = subst (λ b. AreKnown b acts) (sym got.2) k
 known_by ports Nothing buf arrivals rest stranger now acts got k = known_any now acts k
 known_by ports Failed buf arrivals rest stranger now acts got k = known_any now acts k
 
-pub acts_known : (arrivals rest : Option (List Arrival)) (stranger now : Bool) (r : Recv) (buf : List ℕ) (tick : ℕ) (node next : Gateway) (acts : List Placed) → Receives arrivals rest stranger now r buf → Lives node →
+pub acts_known : (arrivals rest : Option (List Arrival)) (stranger now : Bool) (r : Recv) (buf : List ℕ) (tick : ℕ) (node next : Gateway) (acts : List Placed) → ReceivesOne arrivals rest stranger now r buf → Lives node →
     PerformsAll GatewayBegun GatewayStands (answers_all (given_by (setups_in node) r buf)) tick node next [] acts → AreKnown now acts
 acts_known arrivals rest stranger now r buf tick node next acts got l row =
     let given = given_by (setups_in node) r buf in

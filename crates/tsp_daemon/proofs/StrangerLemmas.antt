@@ -2,25 +2,8 @@
 use Rattle.std.specs.Prelude.{ℕ, ◌+◌, ◌*◌, Bool, true, false, if◌then◌else◌, List, [], ◌∷◌, ◌++◌, length, map, All, refl}
 use Rattle.std.proofs.Common.{subst, sym, arith}
 use Rattle.std.proofs.lemmas.List.Elements.{All-nil, All-cons, All-append, All-map, All-weaker}
-use Rattle.tsp_base.specs.declared.act.Act.{Act}
-use Rattle.tsp_base.specs.declared.act.Act.TheVariants.{Abandon, Become, Post, Took}
-use Rattle.tsp_base.specs.declared.act.Placed.{Placed}
-use Rattle.tsp_base.specs.declared.alarm.Alarm.{Alarm}
-use Rattle.tsp_base.specs.declared.alarm.Alarm.TheVariants.{Probe, Close, Round}
-use Rattle.tsp_base.specs.declared.alarm.TheConstants.Alarm.{ALL}
-use Rattle.tsp_base.specs.declared.datagram.Datagram.TheVariants.{Message, Stamp}
-use Rattle.tsp_base.specs.declared.datagram.Taken.{Taken}
-use Rattle.tsp_base.specs.declared.datagram.Taken.TheVariants.{Good, Bad}
-use Rattle.tsp_base.specs.declared.kind.Kind.{Kind}
-use Rattle.tsp_base.specs.declared.kind.Kind.TheVariants.{Loop as LoopKind}
-use Rattle.tsp_base.specs.declared.place.Place.{Place}
-use Rattle.tsp_base.specs.declared.place.Place.TheVariants.{Peer, Stranger}
-use Rattle.tsp_base.specs.declared.place.Port.{Port}
-use Rattle.tsp_base.specs.declared.role.Role.TheVariants.{Loose}
-use Rattle.tsp_base.specs.History.{Past, view}
-use Rattle.tsp_base.specs.Messages.{MessageValue}
-use Rattle.tsp_base.specs.RoundFacts.{is_going}
-use Rattle.tsp_base.specs.Rows.{Row, nothing, others, placed, puts}
+use Rattle.tsp_rules.specs.Values.{Act, Took, Post, Become, Abandon, Placed, Alarm, Round, Probe, CloseAlarm, Message, Stamp, Taken, Good, Bad, Kind, LoopKind, Place, Peer, Stranger, Port, Loose, ALL}
+use Rattle.tsp_base.specs.Words.{Past, view, MessageValue, is_going, Row, nothing, others, placed, puts}
 use Rattle.tsp_rules.specs.Strangers.{is_stranger, IsKnown}
 use Rattle.tsp_rules.proofs.CalmAlarms.{calm_rings}
 use Rattle.tsp_rules.proofs.CalmRows.{calm_due_sends, calm-elect}
@@ -172,12 +155,12 @@ module _ (strange : Bool) where
 
   known-closes : (q : Port) (own : Bool) → Known strange (closes_on q own)
   unfolding closes_on
-  known-closes q own = record { run = λ x past. (known-stirring q (other_ports q past) (rings own false Close) (known-rings own false Close)).run x past }
+  known-closes q own = record { run = λ x past. (known-stirring q (other_ports q past) (rings own false CloseAlarm) (known-rings own false CloseAlarm)).run x past }
 
   known-alarm : (q : Port) (a : Alarm) → Known strange (alarm_on q a)
   unfolding alarm_on begins_round_on
   known-alarm q Probe = known-probes q
-  known-alarm q Close = known-reading (leads_clock q) (closes_on q) (known-closes q)
+  known-alarm q CloseAlarm = known-reading (leads_clock q) (closes_on q) (known-closes q)
   known-alarm q Round = known-reading (waits q) _ (λ wait. known-on q _ (known-rings true wait Round))
   known-alarm q a = known-on q _ (known-rings true false a)
 

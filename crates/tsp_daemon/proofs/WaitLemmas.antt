@@ -5,9 +5,9 @@ use Rattle.tsp_gateway.specs.declared.gateway.Gateway.{Gateway}
 use Rattle.tsp_gateway.specs.Dues.{IsNodeDue}
 use Rattle.tsp_gateway.specs.GatewayStands.{GatewayStands}
 use Rattle.tsp_io.specs.Clocks.{TakesReading}
-use Rattle.tsp_io.specs.Links.{Arrival, Notes, Tried}
+use Rattle.tsp_io.specs.Links.{Arrival, NotesReceive, Tried}
 use Rattle.tsp_query.specs.Clocks.{reading}
-use Rattle.tsp_query.specs.Ends.{Outside, Tells}
+use Rattle.tsp_query.specs.Ends.{Outside, KnowsExactly}
 use Rattle.tsp_rules.specs.NodeRows.{NodePast}
 use Rattle.tsp_daemon.specs.declared.end.ServeEnd.{ServeEnd}
 use Rattle.tsp_daemon.specs.declared.end.ServeEnd.TheVariants.{Done, LinkFault, WriteFault, OutOfMemory}
@@ -18,12 +18,12 @@ use Rattle.tsp_query.proofs.AskLemmas.{reading_taken}
 
 -- the first reading of a turn
 pub first_reading : (o : Outside) (arrivals : Option (List Arrival)) (tried : Option (List Tried)) (calls : Option ℕ) (readings between : Option (List ℕ)) (last first : ℕ) →
-    Tells o arrivals tried calls readings last → TakesReading readings between last first → first ≡ (read_once o).last
+    KnowsExactly o arrivals tried calls readings last → TakesReading readings between last first → first ≡ (read_once o).last
 first_reading o arrivals tried calls readings between last first t takes = (reading_taken o.readings readings between last first t.readings_are takes).1 ∙ ap (λ n. reading n o.readings 0) t.last_is
 
 -- a receive that waits until the node is due
 pub wait_noted : (s : Session) (node : Gateway) (due first wait : ℕ) (waits now : Option (List ℕ)) → GatewayStands s.past node → ((past : NodePast) → GatewayStands past node → IsNodeDue past due) →
-    first ≡ (read_once s.outside).last → wait ≡ wait_until due first → Notes waits now wait → NotesWait s waits now
+    first ≡ (read_once s.outside).last → wait ≡ wait_until due first → NotesReceive waits now wait → NotesWait s waits now
 wait_noted s node due first wait waits now stands due_is first_is is n = (wait, record { due = due; due_is = due_is s.past stands; is = is ∙ ap (λ x. wait_until due x) first_is }, n)
 
 -- one receive more

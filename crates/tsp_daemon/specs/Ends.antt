@@ -9,7 +9,7 @@ use Rattle.tsp_io.specs.Streams.{Grows}
 use Rattle.tsp_io.specs.declared.link.Link.{Ghosts as LinkOf}
 use Rattle.tsp_io.specs.declared.link.Recv.{Recv}
 use Rattle.tsp_io.specs.declared.link.Recv.TheVariants.{Datagram}
-use Rattle.tsp_query.specs.Ends.{Outside, Tells}
+use Rattle.tsp_query.specs.Ends.{Outside, KnowsExactly}
 use Rattle.tsp_rules.specs.GateRows.{NodeGiven, NodeTurn, GotOn}
 use Rattle.tsp_rules.specs.NodeRows.{NodePast, PortSetup}
 use Rattle.tsp_daemon.specs.declared.counters.Counters.{Counters}
@@ -73,7 +73,7 @@ pub record IsAt (s : Session) (node : Gateway) (course : Counters) (arrivals : O
   pub stands : GatewayStands s.past node
   pub turns_is : course.turns ≡ s.turns
   pub posts_is : course.posts ≡ s.posts
-  pub tells : Tells s.outside arrivals tried calls readings last
+  pub tells : KnowsExactly s.outside arrivals tried calls readings last
   pub written_is : written ≡ Some s.written
 
 -- the outside in a turn after the first of its sends were tried: it has waited, and taken what came
@@ -84,12 +84,12 @@ tried_some part s = record (waited s.outside) { tried = s.outside.tried ++ part 
 -- places: before the turn did anything; at a send, after those before it were tried; or within a line
 abbrev pub EndsTurn : Session → Option (List Arrival) → Option (List Tried) → Option ℕ → Option (List ℕ) → ℕ → Option (List ℕ) → ServeEnd → Type 0
 EndsTurn s arrivals tried calls readings last written Done = ⊥
-EndsTurn s arrivals tried calls readings last written LinkFault = Tells (unheard s.outside) arrivals tried calls readings last × (written ≡ Some s.written)
-EndsTurn s arrivals tried calls readings last written WriteFault = Tells (turned s).outside arrivals tried calls readings last × CutsShort (shown s) (Some s.written) written
+EndsTurn s arrivals tried calls readings last written LinkFault = KnowsExactly (unheard s.outside) arrivals tried calls readings last × (written ≡ Some s.written)
+EndsTurn s arrivals tried calls readings last written WriteFault = KnowsExactly (turned s).outside arrivals tried calls readings last × CutsShort (shown s) (Some s.written) written
 EndsTurn s arrivals tried calls readings last written OutOfMemory =
-    (Tells s.outside arrivals tried calls readings last × (written ≡ Some s.written))
-    ⊎ ((part : List Tried) × (rest : List Tried) × (0 < length rest) × (sends_of (acts_in s) ≡ part ++ rest) × Tells (tried_some part s) arrivals tried calls readings last × (written ≡ Some s.written))
-    ⊎ (Tells (turned s).outside arrivals tried calls readings last × CutsShort (shown s) (Some s.written) written)
+    (KnowsExactly s.outside arrivals tried calls readings last × (written ≡ Some s.written))
+    ⊎ ((part : List Tried) × (rest : List Tried) × (0 < length rest) × (sends_of (acts_in s) ≡ part ++ rest) × KnowsExactly (tried_some part s) arrivals tried calls readings last × (written ≡ Some s.written))
+    ⊎ (KnowsExactly (turned s).outside arrivals tried calls readings last × CutsShort (shown s) (Some s.written) written)
 
 -- how many receives a session makes that ends so after i turns: one for each turn, and one for the turn that ended it,
 -- unless it ran out of memory before the receive
@@ -100,7 +100,7 @@ IsReceived i received end = received ≡ i + 1
 
 -- a session of so many turns ends so after i of them: all were taken, or the next one ended it
 abbrev pub ServesUntil : ℕ → ℕ → Session → Option (List Arrival) → Option (List Tried) → Option ℕ → Option (List ℕ) → ℕ → Option (List ℕ) → ServeEnd → Type 0
-ServesUntil turns i s arrivals tried calls readings last written Done = (i ≡ turns) × Tells (after_turns i s).outside arrivals tried calls readings last × (written ≡ Some (after_turns i s).written)
+ServesUntil turns i s arrivals tried calls readings last written Done = (i ≡ turns) × KnowsExactly (after_turns i s).outside arrivals tried calls readings last × (written ≡ Some (after_turns i s).written)
 ServesUntil turns i s arrivals tried calls readings last written end = (i < turns) × EndsTurn (after_turns i s) arrivals tried calls readings last written end
 
 -- after how many turns a session of so many ends, and how; the ticks of its steps never fell; and how many receives it

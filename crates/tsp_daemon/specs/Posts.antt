@@ -1,8 +1,6 @@
 -- The datagrams that acts send, and the lines that show acts.
 use Rattle.std.specs.Prelude.{ℕ, ◌+◌, Bool, if◌then◌else◌, List, [], ◌∷◌, ◌++◌, length, All}
-use Rattle.tsp_base.specs.declared.act.Act.{Act}
-use Rattle.tsp_base.specs.declared.act.Act.TheVariants.{Post}
-use Rattle.tsp_base.specs.declared.act.Placed.{Placed}
+use Rattle.tsp_rules.specs.Values.{Act, Post, Placed}
 use Rattle.tsp_codec.specs.Canon.{canon}
 use Rattle.tsp_rules.specs.Strangers.{IsKnown}
 use Rattle.tsp_io.specs.Links.{Tried}

@@ -2,14 +2,14 @@
 use Rattle.std.specs.Prelude.{◌≡◌, ◌⊎◌, ℕ, ℤ, true, false, List, ◌∷◌, Option, Some, codes}
 use Rattle.tsp_daemon.specs.declared.end.ServeEnd.{ServeEnd}
 use Rattle.tsp_daemon.specs.declared.end.ServeEnd.TheVariants.{Done as AllTurns, LinkFault as Faulty, WriteFault as Unwritten, OutOfMemory as Refused}
-use Rattle.tsp_io.specs.Links.{Binding, Notes}
+use Rattle.tsp_io.specs.Links.{Binding, NotesReceive}
 use Rattle.tsp_promises.specs.Setting.{Setting}
 use Rattle.tsp_args.specs.Ports.{all_peers}
 use Rattle.tsp_daemon.specs.Ends.{IsReceived, ServesUntil}
 use Rattle.tsp_daemon.specs.Kept.{HistoryKept, SetByWords}
 use Rattle.tsp_daemon.specs.Sessions.{Session, after_turns, read_once}
-use Rattle.tsp_query.specs.Ends.{Outside, Tells}
-use Rattle.tsp_query.specs.Outside.{Observed, Knows, bound, Says}
+use Rattle.tsp_query.specs.Ends.{Outside, KnowsExactly}
+use Rattle.tsp_query.specs.Outside.{Observed, Knows, bound, WritesBeginning}
 use Rattle.tsp_rules.specs.Guards.{is_clock_value}
 use Rattle.tsp_args.specs.declared.serve.ServeWords.{ServeWords}
 use Rattle.tsp_daemon.specs.declared.exit.DaemonExit.{DaemonExit}
@@ -46,7 +46,7 @@ serving_binding s = record { local = s.local; peers = s.local ∷ all_peers s.po
 -- the daemon ran out of memory at this state of the outside: nothing was sent, awaited or written since
 pub record IsRefused (o : Outside) (written : List ℕ) (waits : Option (List ℕ)) (now : Observed) (served : DaemonExit) : Type 0 where
   pub cause : served ≡ OutOfMemory
-  pub tells : Tells o now.arrivals now.tried now.calls now.readings now.last
+  pub tells : KnowsExactly o now.arrivals now.tried now.calls now.readings now.last
   pub written_is : now.written ≡ Some written
   pub unwaited : now.waits ≡ waits
 
@@ -54,8 +54,8 @@ pub record IsRefused (o : Outside) (written : List ℕ) (waits : Option (List �
 -- wall` was written, or its beginning
 pub record HasBadWall (o : Outside) (wall : ℤ) (written : List ℕ) (waits : Option (List ℕ)) (now : Observed) (served : DaemonExit) : Type 0 where
   pub out : is_clock_value wall ≡ false
-  pub tells : Tells (read_once o) now.arrivals now.tried now.calls now.readings now.last
-  pub says : Says bad_wall BadWall WriteFault OutOfMemory (Some written) now.written served
+  pub tells : KnowsExactly (read_once o) now.arrivals now.tried now.calls now.readings now.last
+  pub says : WritesBeginning bad_wall BadWall WriteFault OutOfMemory (Some written) now.written served
   pub unwaited : now.waits ≡ waits
 
 -- the wall clock is in its range, and the daemon ends as its session does
@@ -83,22 +83,22 @@ abbrev pub BoundServesIfTold : ServeWords → Observed → Observed → DaemonEx
 BoundServesIfTold s before now served = (o : Outside) (wall : ℤ) (word : ℕ) (written : List ℕ) → Knows o wall word written before → BoundServes s o wall word written before.waits now served
 
 -- the bind failed: no tick was read, and nothing was sent or written
-pub record IsUnbound (o : Outside) (written : List ℕ) (waits : Option (List ℕ)) (now : Observed) (served : DaemonExit) : Type 0 where
+pub record ServesNothing (o : Outside) (written : List ℕ) (waits : Option (List ℕ)) (now : Observed) (served : DaemonExit) : Type 0 where
   pub cause : served ≡ LinkFault
-  pub tells : Tells (bound o) now.arrivals now.tried now.calls now.readings now.last
+  pub tells : KnowsExactly (bound o) now.arrivals now.tried now.calls now.readings now.last
   pub written_is : now.written ≡ Some written
   pub unwaited : now.waits ≡ waits
 
 -- the link wasn't bound: there was no memory for the addresses or for the bind, or the bind failed
 abbrev pub ServesUnbound : Outside → List ℕ → Option (List ℕ) → Observed → DaemonExit → Type 0
-ServesUnbound o written waits now served = IsRefused o written waits now served ⊎ IsRefused (bound o) written waits now served ⊎ IsUnbound o written waits now served
+ServesUnbound o written waits now served = IsRefused o written waits now served ⊎ IsRefused (bound o) written waits now served ⊎ ServesNothing o written waits now served
 
 -- what comes of a daemon. Its link is bound to its own address and its peers; after that the wall clock is read, right
 -- after the first tick
 abbrev pub ServesAs : ServeWords → Outside → ℤ → ℕ → List ℕ → Observed → Observed → DaemonExit → Type 0
 ServesAs s o wall word written before now served =
     ((now.binds ≡ before.binds) × (now.left_at_wall ≡ before.left_at_wall) × ServesUnbound o written before.waits now served)
-    ⊎ (Notes before.binds now.binds (serving_binding s) × (now.left_at_wall ≡ Some (Some (read_once o).readings)) × BoundServes s (bound o) wall word written before.waits now served)
+    ⊎ (NotesReceive before.binds now.binds (serving_binding s) × (now.left_at_wall ≡ Some (Some (read_once o).readings)) × BoundServes s (bound o) wall word written before.waits now served)
 
 -- the same, if all of the outside is told at its beginning
 abbrev pub ServesIfTold : ServeWords → Observed → Observed → DaemonExit → Type 0

@@ -1,12 +1,7 @@
 -- A session of the daemon: what its node does turn after turn, what it sends, and what it shows.
 use Rattle.std.specs.Prelude.{ℕ, zero, suc, ◌+◌, ◌≤◌, ◌||◌, List, ◌++◌, length, take, None, Some}
-use Rattle.tsp_base.specs.declared.act.Placed.{Placed}
-use Rattle.tsp_base.specs.declared.place.Place.{Place}
-use Rattle.tsp_base.specs.declared.place.Place.TheVariants.{Peer, Stranger}
-use Rattle.tsp_base.specs.declared.place.Port.{Port}
-use Rattle.tsp_base.specs.History.{Cause, Handed, Turned, dids}
-use Rattle.tsp_base.specs.Joins.{first_port}
-use Rattle.tsp_base.specs.NodeFacts.{tracing}
+use Rattle.tsp_rules.specs.Values.{Placed, Place, Peer, Stranger, Port}
+use Rattle.tsp_base.specs.Words.{Cause, Handed, Turned, dids, first_port, tracing}
 use Rattle.tsp_codec.specs.Taken.{taken_of}
 use Rattle.tsp_gateway.specs.PortOf.{port_of}
 use Rattle.tsp_io.specs.Counts.{one_more}

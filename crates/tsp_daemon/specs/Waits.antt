@@ -1,7 +1,7 @@
 -- How long a daemon waits for a datagram.
 use Rattle.std.specs.Prelude.{◌≡◌, ◌⊎◌, ℕ, zero, suc, ◌-◌, min, max, List, [], ◌∷◌, ◌++◌, Option, None, Some}
 use Rattle.tsp_gateway.specs.Dues.{IsNodeDue}
-use Rattle.tsp_io.specs.Links.{Notes}
+use Rattle.tsp_io.specs.Links.{NotesReceive}
 use Rattle.tsp_daemon.specs.declared.end.ServeEnd.{ServeEnd}
 use Rattle.tsp_daemon.specs.declared.end.ServeEnd.TheVariants.{OutOfMemory}
 use Rattle.tsp_daemon.specs.Sessions.{Session, after_turns, read_once}
@@ -29,7 +29,7 @@ NotesWaits s n (Some before) (Some now) = (more : List ℕ) × (now ≡ before +
 
 -- one receive more was noted, with the wait that its turn says
 abbrev pub NotesWait : Session → Option (List ℕ) → Option (List ℕ) → Type 0
-NotesWait s waits now = (wait : ℕ) × IsWait s wait × Notes waits now wait
+NotesWait s waits now = (wait : ℕ) × IsWait s wait × NotesReceive waits now wait
 
 -- what a turn notes that ends the session so: one receive, or none if it ran out of memory before that
 abbrev pub NotesTurn : Session → Option (List ℕ) → Option (List ℕ) → ServeEnd → Type 0

@@ -1,7 +1,7 @@
 //! The daemon as a command.
 ghost use Rattle.std.specs.Prelude.{◌≡◌, ◌≢◌, ◌≤◌, false, IfSome};
 ghost use Rattle.tsp_query.specs.Faults.{Counts};
-ghost use Rattle.tsp_query.specs.Outside.{observed, Says};
+ghost use Rattle.tsp_query.specs.Outside.{observed, WritesBeginning};
 ghost use Rattle.tsp_query.specs.Told.{ReadsWall};
 ghost use Rattle.tsp_rules.specs.Guards.{is_clock_value};
 ghost use Rattle.tsp_args.specs.Serves.{IsServe};
@@ -19,7 +19,7 @@ use tsp_lines::output::{Unwritten, write_all};
 
 /// Writes the line `bad wall`.
 fn say_bad_wall<K: Sink>(sink: &mut K) -> DaemonExit
-    ensures says { Says bad_wall DaemonExit.BadWall DaemonExit.WriteFault DaemonExit.OutOfMemory
+    ensures says { WritesBeginning bad_wall DaemonExit.BadWall DaemonExit.WriteFault DaemonExit.OutOfMemory
         (K.written sink.old) (K.written sink.new) result }
     ensures write { Counts (K.faults sink.old) (K.faults sink.new)
         (result ≡ DaemonExit.WriteFault) }

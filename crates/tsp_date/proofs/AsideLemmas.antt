@@ -1,19 +1,8 @@
 -- What the rows of roles, clients and rounds leave alone: a port's dates, in a step that has taken no date that is passed on.
 use Rattle.std.specs.Prelude.{Bool, false, if◌then◌else◌, refl, true, ℕ, ℤ, ◌==◌, ◌≡◌}
 use Rattle.tsp_base.proofs.PerformsLemmas.{Keeps_either, Keeps_nothing, Keeps_reading, Keeps_then}
-use Rattle.tsp_base.specs.Messages.{MessageValue}
-use Rattle.tsp_base.specs.Performs.{Keeps}
-use Rattle.tsp_base.specs.Rows.{Row, arms, nothing, posts, posts_to_others, puts, ◌followed_by◌}
-use Rattle.tsp_base.specs.Takings.{time_in}
-use Rattle.tsp_base.specs.declared.act.Act.TheVariants.{Acked, Back, Backer, Become, Join, Quit, Rival}
-use Rattle.tsp_base.specs.declared.alarm.Alarm.{Alarm}
-use Rattle.tsp_base.specs.declared.alarm.Alarm.TheVariants.{Elect, Resolve as ResolveAlarm, Search}
-use Rattle.tsp_base.specs.declared.constants.TheConstants.{WINDOW}
-use Rattle.tsp_base.specs.declared.kind.Kind.{Kind}
-use Rattle.tsp_base.specs.declared.kind.Kind.TheVariants.{Accept, Ack, AdjTime, Conflict, Election, MasterAck, MasterReq, MasterUp, Quit as QuitKind, Refuse, Resolve, SetTime, SlaveUp}
-use Rattle.tsp_base.specs.declared.place.PeerId.{PeerId}
-use Rattle.tsp_base.specs.declared.role.Role.{Role}
-use Rattle.tsp_base.specs.declared.role.Role.TheVariants.{Follow, Loose}
+use Rattle.tsp_rules.specs.Values.{Become, Back, Backer, Acked, Join, Rival, Quit, Alarm, Elect, Search, ResolveAlarm, Kind, Accept, Ack, AdjTime, Conflict, Election, MasterAck, MasterReq, MasterUp, QuitKind, Refuse, ResolveKind, SetTime, SlaveUp, PeerId, Role, Loose, Follow, WINDOW}
+use Rattle.tsp_base.specs.Words.{MessageValue, Keeps, Row, arms, nothing, posts, posts_to_others, puts, ◌followed_by◌, time_in}
 use Rattle.tsp_date.proofs.KeepLemmas.{DatesAside, DatesAside_act, DatesAside_begins, DatesAside_by, aside_sorts}
 use Rattle.tsp_rules.proofs.Emits.{Emits_adjusts, Emits_arms, Emits_posts, Emits_posts_to_others, Emits_sets, Moving, is_in, sort_of_alarm, sort_of_kind}
 use Rattle.tsp_rules.proofs.EmitsSends.{emits_settime_begins}

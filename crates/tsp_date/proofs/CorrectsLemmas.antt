@@ -1,16 +1,7 @@
 -- Which rows of dates correct the clock.
 use Rattle.std.proofs.Common.{◌≡◌, ℕ, ℤ, Bool, true, false, if◌then◌else◌, refl}
-use Rattle.tsp_base.specs.declared.act.Act.TheVariants.{Acked}
-use Rattle.tsp_base.specs.declared.kind.Kind.{Kind}
-use Rattle.tsp_base.specs.declared.kind.Kind.TheVariants.{Ack, SetDateReq}
-use Rattle.tsp_base.specs.declared.place.PeerId.{PeerId}
-use Rattle.tsp_base.specs.declared.place.Place.{Place}
-use Rattle.tsp_base.specs.declared.place.Place.TheVariants.{Peer, Stranger}
-use Rattle.tsp_base.specs.declared.role.Role.{Role}
-use Rattle.tsp_base.specs.declared.role.Role.TheVariants.{Follow}
-use Rattle.tsp_base.specs.History.{Past}
-use Rattle.tsp_base.specs.Messages.{MessageValue}
-use Rattle.tsp_base.specs.Rows.{◌followed_by◌, either_by, nothing, posts, posts_back, puts}
+use Rattle.tsp_rules.specs.Values.{Acked, Kind, Ack, SetDateReq, PeerId, Place, Peer, Stranger, Role, Follow}
+use Rattle.tsp_base.specs.Words.{Past, MessageValue, ◌followed_by◌, either_by, nothing, posts, posts_back, puts}
 use Rattle.tsp_rules.specs.Answers.{from_peer}
 use Rattle.tsp_rules.specs.ClockRows.{sets}
 use Rattle.tsp_rules.specs.DateRows.{date_acked, date_acked_in, has_date, may_date, may_pass_on, new_date, passes_on, sets_date_where}

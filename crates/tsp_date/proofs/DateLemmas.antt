@@ -2,25 +2,8 @@
 use Rattle.std.proofs.Common.{◌≡◌, ℕ, ℤ, ◌==◌, ◌&&◌, not, Bool, true, false, if◌then◌else◌, List, [], ◌∷◌, ◌++◌, Option, Some, None, refl, sym, ◌∙◌, ap}
 use Rattle.std.specs.Prelude.{MatchBool}
 use Rattle.std.proofs.lemmas.Bool.{false≢true, ne_eqb, and_parts}
-use Rattle.tsp_base.specs.declared.act.Act.TheVariants.{Acked, Correct, Leave}
-use Rattle.tsp_base.specs.declared.act.Placed.{Placed}
-use Rattle.tsp_base.specs.declared.datagram.Datagram.TheVariants.{Message}
-use Rattle.tsp_base.specs.declared.datagram.Taken.TheVariants.{Good}
-use Rattle.tsp_base.specs.declared.kind.Kind.{Kind}
-use Rattle.tsp_base.specs.declared.kind.Kind.TheVariants.{AdjTime, SetTime, SetDateReq}
-use Rattle.tsp_base.specs.declared.place.PeerId.{PeerId}
-use Rattle.tsp_base.specs.declared.place.Place.{Place}
-use Rattle.tsp_base.specs.declared.place.Place.TheVariants.{Peer, Stranger}
-use Rattle.tsp_base.specs.declared.place.Port.{Port}
-use Rattle.tsp_base.specs.declared.role.Role.{Role}
-use Rattle.tsp_base.specs.declared.role.Role.TheVariants.{Follow}
-use Rattle.tsp_base.specs.History.{Past}
-use Rattle.tsp_base.specs.Messages.{MessageValue}
-use Rattle.tsp_base.specs.Peers.{is_among}
-use Rattle.tsp_base.specs.Performs.{Keeps, Performs}
-use Rattle.tsp_base.specs.PortFacts.{Received, acting, said, said_by, taken}
-use Rattle.tsp_base.specs.Rows.{Row, either_by, for_each, grown, nothing, posts_time, puts, reading}
-use Rattle.tsp_base.specs.SendFacts.{Sending, correcting_of, corrects_in, dating_of, is_correction, is_set_date_request, last_asked, last_date, open_send, sets_date}
+use Rattle.tsp_rules.specs.Values.{Correct, Acked, Leave, Placed, Message, Good, Kind, AdjTime, SetDateReq, SetTime, PeerId, Place, Peer, Stranger, Port, Role, Follow}
+use Rattle.tsp_base.specs.Words.{Past, MessageValue, is_among, Keeps, Performs, Received, acting, said, said_by, taken, Row, either_by, for_each, grown, nothing, posts_time, puts, reading, Sending, correcting_of, corrects_in, dating_of, is_correction, is_set_date_request, last_asked, last_date, open_send, sets_date}
 use Rattle.tsp_base.proofs.PerformsLemmas.{Keeps_each, Keeps_reading, Performs_else_part, Performs_nothing, Performs_then_part}
 use Rattle.tsp_rules.specs.Answers.{from_peer}
 use Rattle.tsp_rules.specs.ClockRows.{sets}
@@ -29,7 +12,7 @@ use Rattle.tsp_rules.specs.SendRows.{begins_timed, next_number}
 use Rattle.tsp_rules.specs.Guards.{is_heard, is_starting_role, table_at}
 use Rattle.tsp_rules.proofs.Emits.{Sort, Acking, Numbering, Posting, Tabling, Emits, Emits_each, Emits_more, Emits_posts_time, Emits_puts, Emits_reading, Keeps_by}
 use Rattle.tsp_acks.specs.declared.station.Station.{Station}
-use Rattle.tsp_acks.specs.Stands.{Stands, StandsActing}
+use Rattle.tsp_acks.specs.Stands.{StationStands, StandsActing}
 use Rattle.tsp_acks.proofs.ActingLemmas.{taken-acts}
 use Rattle.tsp_acks.proofs.StandsLemmas.{Stands_idle}
 use Rattle.tsp_clock.specs.Clocks.{ClockValue}
@@ -59,12 +42,12 @@ also-kept : (s : DateState) (row : Row) → Emits beside_sorts row → (x : ℕ)
 also-kept s row e x past h = AlsoStands_by row e x past (also_of s) (record { last = h.last; clock = h.clock; took = h.took })
 
 -- what stands beside the station, and the station
-stands-with : {past : Past} (s : DateState) → DatesStand past s.dates → MasterStands past s.master → Stands past s.station → AlsoStands past (also_of s) → DateStands past s
+stands-with : {past : Past} (s : DateState) → DatesStand past s.dates → MasterStands past s.master → StationStands past s.station → AlsoStands past (also_of s) → DateStands past s
 stands-with s dates master station also = record { dates = dates; master = master; station = station; last = also.last; clock = also.clock; took = also.took }
 
 -- a call of the station that the rest doesn't feel
 pub Performs_posting : (s : DateState) {row : Row} {x : ℕ} {port : Port} {before after : Station} {old new : List Placed} → Emits (Posting ∷ []) row →
-    Performs Stands Stands row x port before after old new → Performs DateStands DateStands row x port (record s { station = before }) (record s { station = after }) old new
+    Performs StationStands StationStands row x port before after old new → Performs DateStands DateStands row x port (record s { station = before }) (record s { station = after }) old new
 Performs_posting s {row = row} {x = x} {before = before} {after = after} e d = record {
   acts = λ past h. d.acts past h.station;
   stands = λ past h. stands-with (record s { station = after })
@@ -182,8 +165,8 @@ abbrev acking : List Sort
 acking = Acking ∷ []
 
 -- the master has set the date that was passed on
-Performs_ends : (s : DateState) (p : PeerId) (number : ℕ) {x : ℕ} {port : Port} {before after : Station} {old new : List Placed} → ((past : Past) → Stands past before → has_date p number x past ≡ true) →
-    Performs Stands Stands (puts (Acked p)) x port before after old new → Performs DateStands DateStands (puts (Acked p)) x port (record s { station = before }) (record s { station = after }) old new
+Performs_ends : (s : DateState) (p : PeerId) (number : ℕ) {x : ℕ} {port : Port} {before after : Station} {old new : List Placed} → ((past : Past) → StationStands past before → has_date p number x past ≡ true) →
+    Performs StationStands StationStands (puts (Acked p)) x port before after old new → Performs DateStands DateStands (puts (Acked p)) x port (record s { station = before }) (record s { station = after }) old new
 Performs_ends s p number {x = x} {before = before} {after = after} test d =
     let emits : Emits (Acking ∷ []) (puts (Acked p)) = Emits_puts (Acked p) refl in
     record {
@@ -196,8 +179,8 @@ Performs_ends s p number {x = x} {before = before} {after = after} test d =
     }
 
 -- an answer ends the date that it names, or nothing
-pub Performs_ended : (s : DateState) (p : PeerId) (number : ℕ) {x : ℕ} {port : Port} {before after : Station} (ended : Bool) (Ends : Type 0) {old new : List Placed} → ((past : Past) → Stands past before → has_date p number x past ≡ ended) →
-    (ended ≡ true → Performs Stands Stands (puts (Acked p)) x port before after old new) → (ended ≡ false → new ≡ old) → MatchBool ended Ends (after ≡ before) →
+pub Performs_ended : (s : DateState) (p : PeerId) (number : ℕ) {x : ℕ} {port : Port} {before after : Station} (ended : Bool) (Ends : Type 0) {old new : List Placed} → ((past : Past) → StationStands past before → has_date p number x past ≡ ended) →
+    (ended ≡ true → Performs StationStands StationStands (puts (Acked p)) x port before after old new) → (ended ≡ false → new ≡ old) → MatchBool ended Ends (after ≡ before) →
     Performs DateStands DateStands (either_by (has_date p number) (puts (Acked p)) nothing) x port (record s { station = before }) (record s { station = after }) old new
 Performs_ended s p number true Ends test row same sends = Performs_then_part (has_date p number) nothing (λ past h. test past h.station) (Performs_ends s p number test (row refl))
 Performs_ended s p number false Ends test row same sends = rw (same refl, sends) (Performs_else_part (has_date p number) (puts (Acked p)) (λ past h. test past h.station) Performs_nothing)
@@ -208,9 +191,9 @@ date_acked_in-other m p (Follow q) n = absurd (n q refl)
 date_acked_in-other m p _ n = refl
 
 -- every slave leaves
-leaves-keep : Keeps Stands leaves_all
+leaves-keep : Keeps StationStands leaves_all
 unfolding leaves leaves_all
-leaves-keep = Keeps_reading Stands table_at (for_each leaves) (λ ps. Keeps_each Stands leaves ps (λ p. Stands_idle (Leave p) refl))
+leaves-keep = Keeps_reading StationStands table_at (for_each leaves) (λ ps. Keeps_each StationStands leaves ps (λ p. Stands_idle (Leave p) refl))
 
 abbrev tabling : List Sort
 tabling = Tabling ∷ []
@@ -243,7 +226,7 @@ pub changes-others : (f : Entry → Entry) (p : PeerId) (old new : List Entry) �
 changes-others f p old new change q n = let apart : (p.0 == q.0) ≡ false = ne_eqb p.0 q.0 (λ e. n (sym e)) in change q ∙ ap (λ b. if b then f (entry_of old q) else entry_of old q) apart
 
 -- who is heard, as the station has it
-pub heard-is : (p : PeerId) (x : ℕ) (past : Past) (station : Station) → Stands past station → is_heard p x past ≡ (is_among p station.peers && not (is_starting_role station.role))
+pub heard-is : (p : PeerId) (x : ℕ) (past : Past) (station : Station) → StationStands past station → is_heard p x past ≡ (is_among p station.peers && not (is_starting_role station.role))
 heard-is p x past station s = rw (s.peers, s.role) refl
 
 -- what only a peer may say that is heard

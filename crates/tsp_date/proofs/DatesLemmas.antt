@@ -3,9 +3,8 @@ use Rattle.std.proofs.Common.{◌≡◌, ℕ, zero, suc, ◌+◌, ◌<◌, ◌==
 use Rattle.std.specs.Prelude.{position}
 use Rattle.std.specs.List.{position_or_len}
 use Rattle.std.proofs.lemmas.Bool.{ltb-true, lt-ltb, false≢true}
-use Rattle.tsp_base.specs.declared.place.PeerId.{PeerId}
-use Rattle.tsp_base.specs.Peers.{is_among}
-use Rattle.tsp_base.specs.SendFacts.{Dating}
+use Rattle.tsp_rules.specs.Values.{PeerId}
+use Rattle.tsp_base.specs.Words.{is_among, Dating}
 use Rattle.tsp_date.specs.declared.dates.Dated.{Dated}
 use Rattle.tsp_date.specs.Dates.{dating_in, idle, last_in, peers_of}
 

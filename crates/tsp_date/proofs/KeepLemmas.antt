@@ -1,20 +1,8 @@
 -- What leaves a port's dates alone.
 use Rattle.std.proofs.Common.{◌≡◌, ℕ, ℤ, ◌==◌, ◌&&◌, Bool, true, false, if◌then◌else◌, List, [], ◌∷◌, Option, Some, None, refl, sym, ◌∙◌}
 use Rattle.std.proofs.lemmas.Bool.{false≢true, and_left}
-use Rattle.tsp_base.specs.declared.act.Act.{Act}
-use Rattle.tsp_base.specs.declared.act.Act.TheVariants.{Boot, Correct, Post, Took}
-use Rattle.tsp_base.specs.declared.datagram.Datagram.TheVariants.{Message}
-use Rattle.tsp_base.specs.declared.kind.Kind.{Kind}
-use Rattle.tsp_base.specs.declared.kind.Kind.TheVariants.{SetDateReq}
-use Rattle.tsp_base.specs.declared.place.PeerId.{PeerId}
-use Rattle.tsp_base.specs.declared.place.Place.{Place}
-use Rattle.tsp_base.specs.declared.place.Place.TheVariants.{Peer}
-use Rattle.tsp_base.specs.History.{Past, Seen}
-use Rattle.tsp_base.specs.Messages.{MessageValue}
-use Rattle.tsp_base.specs.Performs.{Keeps}
-use Rattle.tsp_base.specs.PortFacts.{Said, acting, said, taken}
-use Rattle.tsp_base.specs.Rows.{Row, bare, for_each, grown, posts, puts}
-use Rattle.tsp_base.specs.SendFacts.{Dating, dating_of, is_date_request, is_set_date_request, last_asked, last_date}
+use Rattle.tsp_rules.specs.Values.{Act, Boot, Took, Post, Correct, Message, Kind, SetDateReq, PeerId, Place, Peer}
+use Rattle.tsp_base.specs.Words.{Past, Seen, MessageValue, Keeps, Said, acting, said, taken, Row, bare, for_each, grown, posts, puts, Dating, dating_of, is_date_request, is_set_date_request, last_asked, last_date}
 use Rattle.tsp_base.proofs.PerformsLemmas.{Keeps_each, Keeps_reading}
 use Rattle.tsp_rules.specs.SendRows.{begins, begins_to_others, next_number, others_at}
 use Rattle.tsp_rules.proofs.Emits.{Sort, Taking, Asking, Correcting, Posting, Leading, Following, Changing, Backing, Counting, Rounding, Alarming, Tabling, Rivalling, Acking, Giving, Sampling, Closing, Moving, Tracing, is_in, sort_of, sort_of_kind, Emits, Keeps_by}

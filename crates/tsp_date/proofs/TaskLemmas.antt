@@ -1,27 +1,13 @@
 -- The rows of dates, as tasks.
 use Rattle.std.proofs.Common.{◌≡◌, ◌≢◌, ℕ, Bool, true, false, List, refl, sym, ap}
 use Rattle.std.proofs.lemmas.Bool.{false≢true}
-use Rattle.tsp_base.specs.declared.act.Placed.{Placed}
-use Rattle.tsp_base.specs.declared.kind.Kind.{Kind}
-use Rattle.tsp_base.specs.declared.kind.Kind.TheVariants.{Date, DateAck, DateReq, SetDate, SetDateReq}
-use Rattle.tsp_base.specs.declared.place.PeerId.{PeerId}
-use Rattle.tsp_base.specs.declared.place.Place.{Place}
-use Rattle.tsp_base.specs.declared.place.Place.TheVariants.{Peer, Stranger}
-use Rattle.tsp_base.specs.declared.place.Port.{Port}
-use Rattle.tsp_base.specs.declared.role.Role.{Role}
-use Rattle.tsp_base.specs.declared.role.Role.TheVariants.{Follow, Master}
-use Rattle.tsp_base.specs.History.{Past}
-use Rattle.tsp_base.specs.Messages.{MessageValue}
-use Rattle.tsp_base.specs.Performs.{Performs}
-use Rattle.tsp_base.specs.PortFacts.{role}
-use Rattle.tsp_base.specs.Rows.{either_by, reading}
-use Rattle.tsp_base.specs.SendFacts.{is_date_request, sets_date}
-use Rattle.tsp_base.specs.Takings.{time_in}
+use Rattle.tsp_rules.specs.Values.{Placed, Kind, Date, DateAck, DateReq, SetDate, SetDateReq, PeerId, Place, Peer, Stranger, Port, Role, Follow, Master}
+use Rattle.tsp_base.specs.Words.{Past, MessageValue, Performs, role, either_by, reading, is_date_request, sets_date, time_in}
 use Rattle.tsp_base.proofs.PerformsLemmas.{Performs_same}
 use Rattle.tsp_rules.specs.Answers.{from_peer, handles_kind}
 use Rattle.tsp_rules.specs.DateRows.{date_acked, date_in, date_of, date_request_in, date_request_of, is_dated, is_last, sets_in_charge}
 use Rattle.tsp_rules.specs.Guards.{is_heard}
-use Rattle.tsp_acks.specs.Stands.{Stands}
+use Rattle.tsp_acks.specs.Stands.{StationStands}
 use Rattle.tsp_date.specs.declared.task.Task.{Task}
 use Rattle.tsp_date.specs.declared.task.Task.TheVariants.{AnswerAgain, Nothing, Set}
 use Rattle.tsp_date.specs.Dates.{DatesValue, last_in}
@@ -100,6 +86,6 @@ request-other charge m p _ x past n = refl
 
 -- the acts of the message's task are what it calls for
 pub Performs_task : (t : Task) (charge : Bool) (from : Place) (m : MessageValue) {x : ℕ} {port : Port} {before after : DateState} {old new : List Placed} →
-    ((past : Past) → Stands past before.station → DatesStand past before.dates → handles_kind charge from m m.kind x past ≡ task_row t from m x past) →
+    ((past : Past) → StationStands past before.station → DatesStand past before.dates → handles_kind charge from m m.kind x past ≡ task_row t from m x past) →
     Performs DateStands DateStands (task_row t from m) x port before after old new → Performs DateStands DateStands (handles_kind charge from m m.kind) x port before after old new
 Performs_task t charge from m e d = Performs_same (handles_kind charge from m m.kind) (λ past h. sym (e past h.station h.dates)) d

@@ -1,13 +1,9 @@
 -- What a port's dates stand for, and what stands beside them while a step handles what it took.
 use Rattle.std.specs.Prelude.{◌≡◌, ℕ, Bool, true, false, Option, None, Some}
-use Rattle.tsp_base.specs.declared.kind.Kind.{Kind}
-use Rattle.tsp_base.specs.declared.kind.Kind.TheVariants.{DateAck}
-use Rattle.tsp_base.specs.declared.place.PeerId.{PeerId}
-use Rattle.tsp_base.specs.History.{Past}
-use Rattle.tsp_base.specs.PortFacts.{Received, taken}
-use Rattle.tsp_base.specs.SendFacts.{last_asked, last_date, sets_date}
+use Rattle.tsp_rules.specs.Values.{Kind, DateAck, PeerId}
+use Rattle.tsp_base.specs.Words.{Past, Received, taken, last_asked, last_date, sets_date}
 use Rattle.tsp_acks.specs.declared.station.Station.{Station}
-use Rattle.tsp_acks.specs.Stands.{Stands}
+use Rattle.tsp_acks.specs.Stands.{StationStands}
 use Rattle.tsp_clock.specs.Clocks.{ClockValue}
 use Rattle.tsp_clock.specs.ClockStands.{ClockStands}
 use Rattle.tsp_slave.specs.Lasts.{LastValue, Remembers}
@@ -38,7 +34,7 @@ date_state dates master station last clock took = record { dates = dates; master
 pub record DateStands (past : Past) (s : DateState) : Type 0 where
   pub dates : DatesStand past s.dates
   pub master : MasterStands past s.master
-  pub station : Stands past s.station
+  pub station : StationStands past s.station
   pub last : Remembers past s.last
   pub clock : ClockStands past s.clock
   pub took : taken past.seen ≡ s.took

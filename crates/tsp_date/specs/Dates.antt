@@ -1,7 +1,7 @@
 -- What a port remembers of dates.
 use Rattle.std.specs.Prelude.{ℕ, ◌==◌, if◌then◌else◌, List, [], ◌∷◌, map, Option, None, Some}
-use Rattle.tsp_base.specs.declared.place.PeerId.{PeerId}
-use Rattle.tsp_base.specs.SendFacts.{Dating}
+use Rattle.tsp_rules.specs.Values.{PeerId}
+use Rattle.tsp_base.specs.Words.{Dating}
 use Rattle.tsp_date.specs.declared.dates.Date.{Date}
 use Rattle.tsp_date.specs.declared.dates.Dated.{Dated}
 

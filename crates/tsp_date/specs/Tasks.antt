@@ -1,9 +1,6 @@
 -- What a port does with a message that sets a date or passes one on.
-use Rattle.tsp_base.specs.declared.kind.Kind.TheVariants.{DateAck}
-use Rattle.tsp_base.specs.declared.place.Place.{Place}
-use Rattle.tsp_base.specs.Messages.{MessageValue}
-use Rattle.tsp_base.specs.Rows.{Row, nothing, posts}
-use Rattle.tsp_base.specs.Takings.{time_in}
+use Rattle.tsp_rules.specs.Values.{DateAck, Place}
+use Rattle.tsp_base.specs.Words.{MessageValue, Row, nothing, posts, time_in}
 use Rattle.tsp_rules.specs.DateRows.{passes_on, sets_date_where}
 use Rattle.tsp_date.specs.declared.task.Task.{Task}
 use Rattle.tsp_date.specs.declared.task.Task.TheVariants.{Nothing, PassOn, AnswerAgain, Set}

@@ -4,7 +4,7 @@ ghost use Rattle.tsp_base.specs.SendFacts.{sets_date};
 ghost use Rattle.tsp_base.specs.Takings.{time_in};
 ghost use Rattle.tsp_rules.specs.Answers.{from_peer};
 ghost use Rattle.tsp_rules.specs.DateRows.{date_acked, may_pass_on, passes_on};
-ghost use Rattle.tsp_acks.specs.Calls.{Contains, IsTick, Past, Received, Performs, UsesAtMost, IsSamePort, Stands};
+ghost use Rattle.tsp_acks.specs.Calls.{Contains, IsTick, Past, Received, Performs, UsesAtMost, IsSamePort, StationStands};
 ghost use Rattle.tsp_date.specs.Dates.{peers_of};
 ghost use Rattle.tsp_date.specs.DateStands.{DatesStand, DateState, DateStands};
 
@@ -55,7 +55,7 @@ pub(crate) fn pass_on<D: Desk>(
 /// Whether the port may pass a date on: it began no other for `REUSE` ticks, and no numbered send to its master
 /// is open.
 fn may_pass_on(station: &Station, dates: &Dates, master: PeerId, tick: u64) -> bool
-    ensures { (past : Past) → Stands past station.now → DatesStand past dates.now
+    ensures { (past : Past) → StationStands past station.now → DatesStand past dates.now
         → may_pass_on master tick past ≡ result }
 {
     dates.is_rested(tick) && station.sends.kind(master).is_none()

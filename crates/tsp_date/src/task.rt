@@ -10,7 +10,7 @@ ghost use Rattle.tsp_base.specs.SendFacts.{is_date_request, sets_date};
 ghost use Rattle.tsp_base.specs.Takings.{time_in};
 ghost use Rattle.tsp_rules.specs.Answers.{handles_kind};
 ghost use Rattle.tsp_rules.specs.DateRows.{date_in, date_request_in};
-ghost use Rattle.tsp_acks.specs.Calls.{Past, Stands};
+ghost use Rattle.tsp_acks.specs.Calls.{Past, StationStands};
 ghost use Rattle.tsp_date.specs.declared.task.Task.TheVariants.{PassOn, Set};
 ghost use Rattle.tsp_date.specs.DateStands.{DatesStand};
 ghost use Rattle.tsp_date.specs.Tasks.{task_row};
@@ -47,7 +47,7 @@ pub(crate) fn task_of(
     charge: bool,
 ) -> Task
     requires kind { sets_date m.now.kind ≡ true }
-    ensures row { (past : Past) → Stands past station.now → DatesStand past dates.now
+    ensures row { (past : Past) → StationStands past station.now → DatesStand past dates.now
         → handles_kind charge from m.now m.now.kind tick past ≡ task_row result from m.now tick
         past }
     ensures follows { (q : PeerId) → result ≡ PassOn q → station.now.role ≡ Follow q }

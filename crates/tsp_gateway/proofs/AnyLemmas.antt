@@ -2,11 +2,11 @@
 use Rattle.std.specs.Prelude.{◌≡◌, ◌≢◌, ℕ, ◌<◌, ◌≤◌, ◌+◌, ◌==◌, nat_lt, ◌||◌, not, Bool, true, false, if◌then◌else◌, List, [], ◌∷◌, length, filter, refl}
 use Rattle.std.proofs.Common.{sym, subst, ap, arith, eq-eqb, eqb-true, get_or, true≢false, ◌∙◌}
 use Rattle.std.proofs.lemmas.Bool.{lt-ltb, ltb-true, ne_eqb, not-true}
-use Rattle.tsp_base.specs.declared.place.Port.{Port}
+use Rattle.tsp_rules.specs.Values.{Port}
 use Rattle.tsp_rules.specs.GateRows.{any_port, ports_from}
 use Rattle.tsp_rules.specs.NodeRows.{NodePast, PortSetup, on_port}
 use Rattle.tsp_acks.specs.declared.station.Station.{Station}
-use Rattle.tsp_acks.specs.Stands.{Stands}
+use Rattle.tsp_acks.specs.Stands.{StationStands}
 use Rattle.tsp_node.specs.declared.part.Part.{Part}
 use Rattle.tsp_gateway.specs.declared.gateway.Gateway.{Gateway}
 use Rattle.tsp_gateway.specs.declared.leading.Asked.{Asked}
@@ -16,8 +16,8 @@ use Rattle.tsp_gateway.specs.Rooms.{ports_in}
 use Rattle.tsp_gateway.proofs.LiftLemmas.{part_there}
 
 -- the station of a port stands
-pub station_there : (past : NodePast) (g : Gateway) (q : ℕ) (part : Part) (station : Station) → q < length (ports_in g) → part ≡ get_or g.ports.items q part → station ≡ part.station → GatewayStands past g → Stands (on_port (port_at q) past) station
-station_there past g q part station lt is same h = subst (λ (s : Station). Stands (on_port (port_at q) past) s) (sym same) (h.ports q part (part_there g q part lt is)).station
+pub station_there : (past : NodePast) (g : Gateway) (q : ℕ) (part : Part) (station : Station) → q < length (ports_in g) → part ≡ get_or g.ports.items q part → station ≡ part.station → GatewayStands past g → StationStands (on_port (port_at q) past) station
+station_there past g q part station lt is same h = subst (λ (s : Station). StationStands (on_port (port_at q) past) s) (sym same) (h.ports q part (part_there g q part lt is)).station
 
 module _ (test keep : Port → Bool) where
   any-none : (i : ℕ) (setups : List PortSetup) → ((k : ℕ) → keep (port_at k) ≡ true → i ≤ k → k < i + length setups → test (port_at k) ≡ false) → any_port test (filter keep (ports_from i setups)) ≡ false

@@ -2,16 +2,12 @@
 use Rattle.std.specs.Prelude.{◌≡◌, ℕ, ◌+ℤ◌, ◌||◌, Bool, true, false, List, [], ◌∷◌, Option, None, Some, refl}
 use Rattle.std.proofs.Common.{sym, subst, true≢false}
 use Rattle.std.proofs.lemmas.Bool.{or_parts}
-use Rattle.tsp_base.specs.declared.act.Act.{Act}
-use Rattle.tsp_base.specs.declared.act.Act.TheVariants.{Boot, Correct}
-use Rattle.tsp_base.specs.History.{Did, Past, plain}
-use Rattle.tsp_base.specs.NodeFacts.{base, correct_tick, last_correct, moved, rest, ticket}
-use Rattle.tsp_base.specs.PortFacts.{acting, kept_name, taken}
-use Rattle.tsp_base.specs.SendFacts.{Correcting, last_taken}
+use Rattle.tsp_rules.specs.Values.{Act, Boot, Correct}
+use Rattle.tsp_base.specs.Words.{Did, Past, plain, base, correct_tick, last_correct, moved, rest, ticket, acting, kept_name, taken, Correcting, last_taken}
 use Rattle.tsp_rules.specs.RoundRows.{corrects, is_correct}
 use Rattle.tsp_rules.proofs.NodeRowLemmas.{Bootless}
 use Rattle.tsp_rules.proofs.Asides.{all_aside, aside}
-use Rattle.tsp_acks.specs.Stands.{Stands}
+use Rattle.tsp_acks.specs.Stands.{StationStands}
 use Rattle.tsp_clock.specs.Clocks.{ClockValue}
 use Rattle.tsp_clock.specs.ClockStands.{ClockStands}
 use Rattle.tsp_date.specs.DateStands.{DatesStand}
@@ -23,7 +19,7 @@ use Rattle.tsp_gateway.specs.Untold.{told}
 
 -- all that a port stands for but the clock, and which correction it remembers
 record StandsAside (past : Past) (v : PortValue) : Type 0 where
-  pub station : Stands past v.station
+  pub station : StationStands past v.station
   pub name_is : v.last.name ≡ kept_name past.seen
   pub master : MasterStands past v.master
   pub resolve : ResolveStands past v.resolve

@@ -2,12 +2,8 @@
 use Rattle.std.specs.Prelude.{◌≡◌, ◌⊎◌, ℕ, zero, suc, ◌<◌, ◌==◌, ℤ, true, false, List, [], ◌∷◌, ◌++◌, length, map, Some, slice_get, slice_index_or, refl}
 use Rattle.std.proofs.Common.{sym, subst, ap, arith, inl, inr, ◌∙◌}
 use Rattle.std.proofs.lemmas.Bool.{or_right}
-use Rattle.tsp_base.specs.declared.act.Act.TheVariants.{Boot}
-use Rattle.tsp_base.specs.declared.place.PeerId.{PeerId}
-use Rattle.tsp_base.specs.declared.place.Port.{Port}
-use Rattle.tsp_base.specs.History.{Acts, Booted, Past, seen_as, view}
-use Rattle.tsp_base.specs.Joins.{first_port, line_of}
-use Rattle.tsp_base.specs.Rows.{grown}
+use Rattle.tsp_rules.specs.Values.{Boot, PeerId, Port}
+use Rattle.tsp_base.specs.Words.{Acts, Booted, Past, seen_as, view, first_port, line_of, grown}
 use Rattle.tsp_rules.specs.NodeRows.{NodePast, PortSetup, no_port, on_port, spread}
 use Rattle.tsp_acks.specs.Stands.{IsPortOf}
 use Rattle.tsp_clock.specs.ClockStands.{ClockStands}
@@ -15,12 +11,12 @@ use Rattle.tsp_node.specs.declared.part.Part.{Part}
 use Rattle.tsp_node.specs.Configs.{IsPortSetup}
 use Rattle.tsp_node.specs.NodeStands.{PortStands, port_with}
 use Rattle.tsp_gateway.specs.declared.gateway.Gateway.{Gateway}
-use Rattle.tsp_gateway.specs.GateConfigs.{ArePorts, GateConfigValue, UnbootedNode, peers_of_ports}
+use Rattle.tsp_gateway.specs.GateConfigs.{AreGatePorts, GateConfigValue, UnbootedNode, peers_of_ports}
 use Rattle.tsp_gateway.specs.GatewayStands.{GatewayStands, port_at}
 use Rattle.tsp_gateway.specs.PartsFresh.{AreFresh, me_on}
 
 -- a port among those that a node can have
-pub port_in_place : (ports : List PortSetup) (q : ℕ) → ArePorts ports → q < length ports → IsPortSetup (slice_index_or ports q no_port)
+pub port_in_place : (ports : List PortSetup) (q : ℕ) → AreGatePorts ports → q < length ports → IsPortSetup (slice_index_or ports q no_port)
 port_in_place [] q h lt = let bad : ⊥ = omega (arith, lt) in absurd bad
 port_in_place (s ∷ later) zero h lt = h.0
 port_in_place (s ∷ later) (suc q) h lt = port_in_place later q h.1 (omega (arith, lt))
@@ -71,6 +67,6 @@ pub booted_peers : (c : GateConfigValue) (word x : ℕ) (parts : List Part) → 
 booted_peers c word x parts fresh = same-peers parts c.ports fresh.many (λ q part is. (fresh.each q part is).0)
 
 -- ports each of which a node can have
-pub each_port : (ports : List PortSetup) → ((q : ℕ) → q < length ports → IsPortSetup (slice_index_or ports q no_port)) → ArePorts ports
+pub each_port : (ports : List PortSetup) → ((q : ℕ) → q < length ports → IsPortSetup (slice_index_or ports q no_port)) → AreGatePorts ports
 each_port [] each = tt
 each_port (s ∷ later) each = (each 0 (omega arith), each_port later (λ q lt. each (suc q) (omega (arith, lt))))

@@ -1,13 +1,12 @@
 -- The earliest of several ports' deadlines.
 use Rattle.std.specs.Prelude.{◌≡◌, ◌⊎◌, ℕ, zero, suc, min, List, [], ◌∷◌, ◌++◌, length, Option, None, Some, slice_get}
 use Rattle.std.proofs.Common.{refl, sym, ◌∙◌, ap, inl, inr, arith}
-use Rattle.tsp_base.specs.Alarms.{earlier, least_deadline}
-use Rattle.tsp_base.specs.History.{Past}
+use Rattle.tsp_base.specs.Words.{earlier, least_deadline, Past}
 use Rattle.tsp_rules.specs.NodeRows.{NodePast, on_port}
 use Rattle.tsp_sends.specs.Slots.{sending_to}
 use Rattle.tsp_sends.specs.Repeating.{IsEarliest}
 use Rattle.tsp_acks.specs.declared.station.Station.{Station}
-use Rattle.tsp_acks.specs.Stands.{Stands}
+use Rattle.tsp_acks.specs.Stands.{StationStands}
 use Rattle.tsp_node.specs.declared.part.Part.{Part}
 use Rattle.tsp_node.specs.Dues.{IsPartDue}
 use Rattle.tsp_node.specs.NodeStands.{due_of}
@@ -42,7 +41,7 @@ get-append (o ∷ rest) d x zero e = inl e
 get-append (o ∷ rest) d x (suc q) e = elim (get-append rest d x q e) [ inl h ↦ inl h | inr h ↦ inr (ap suc h.0, h.1) ]
 
 -- a port's deadline by what the node keeps of it is that of its past
-IsPortDue-of : (past : Past) (station : Station) (due : Option ℕ) (sends : Option ℕ) → Stands past station → IsEarliest (sending_to station.sends) sends → due ≡ earlier (least_deadline station.alarms) sends → IsPortDue past.seen due
+IsPortDue-of : (past : Past) (station : Station) (due : Option ℕ) (sends : Option ℕ) → StationStands past station → IsEarliest (sending_to station.sends) sends → due ≡ earlier (least_deadline station.alarms) sends → IsPortDue past.seen due
 IsPortDue-of past station due sends s first e = record {
   sends = sends;
   first = IsEarliest-open past station sends s first;

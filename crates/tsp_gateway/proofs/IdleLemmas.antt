@@ -2,16 +2,8 @@
 use Rattle.std.specs.Prelude.{◌≡◌, ◌<◌, ◌+◌, ℕ, not, Bool, true, false, length, List, [], ◌∷◌, Option, None, Some, slice_get, refl}
 use Rattle.std.proofs.Common.{append-nil, arith, leb-false, sym, true≢false, ◌∙◌}
 use Rattle.std.proofs.lemmas.Bool.{lt-leb}
-use Rattle.tsp_base.specs.declared.act.Placed.{Placed}
-use Rattle.tsp_base.specs.declared.alarm.Alarm.{Alarm}
-use Rattle.tsp_base.specs.declared.alarm.Alarm.TheVariants.{Close, Probe, Round}
-use Rattle.tsp_base.specs.declared.alarm.TheConstants.Alarm.{ALL}
-use Rattle.tsp_base.specs.declared.place.PeerId.{PeerId}
-use Rattle.tsp_base.specs.declared.place.Port.{Port}
-use Rattle.tsp_base.specs.Alarms.{least_deadline}
-use Rattle.tsp_base.specs.History.{Past}
-use Rattle.tsp_base.specs.Rows.{either_by, for_each, nothing, reading, ◌followed_by◌}
-use Rattle.tsp_base.specs.SendFacts.{Sending, deadline_of, open_send}
+use Rattle.tsp_rules.specs.Values.{Placed, Alarm, Round, Probe, CloseAlarm, PeerId, Port, ALL}
+use Rattle.tsp_base.specs.Words.{least_deadline, Past, either_by, for_each, nothing, reading, ◌followed_by◌, Sending, deadline_of, open_send}
 use Rattle.tsp_rules.specs.Answers.{rings}
 use Rattle.tsp_rules.specs.GateRows.{alarm_on, alarms_on, begins_round_on, closes_on, each_on, loops_after, probes_on, turns_on}
 use Rattle.tsp_rules.specs.Guards.{is_due, is_over}
@@ -53,7 +45,7 @@ no_sends (p ∷ rest) x past e = rw (no_send p x past (e p)) (no_sends rest x pa
 no_alarm : (q : Port) (alarm : Alarm) (x : ℕ) (past : NodePast) → is_due alarm x (on_port q past) ≡ false → alarm_on q alarm x past ≡ []
 unfolding alarm_on probes_on closes_on begins_round_on loops_after rings on reading_all stirring either_by nothing ◌and_then◌
 no_alarm q Probe x past e = rw e refl
-no_alarm q Close x past e = rw e refl
+no_alarm q CloseAlarm x past e = rw e refl
 no_alarm q Round x past e = rw e refl
 no_alarm q _ x past e = rw e refl
 

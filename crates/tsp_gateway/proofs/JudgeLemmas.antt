@@ -1,10 +1,8 @@
 -- What a node makes of a LOOP.
 use Rattle.std.specs.Prelude.{◌≡◌, ℕ, ◌&&◌, nat_le, nat_lt, Bool, true, false, if◌then◌else◌, List, length, refl}
 use Rattle.std.proofs.Common.{sym, ap}
-use Rattle.tsp_base.specs.declared.constants.TheConstants.{HOPS}
-use Rattle.tsp_base.specs.declared.place.Port.{Port}
-use Rattle.tsp_base.specs.declared.act.Placed.{Placed}
-use Rattle.tsp_base.specs.Messages.{MessageValue}
+use Rattle.tsp_rules.specs.Values.{Placed, Port, HOPS}
+use Rattle.tsp_base.specs.Words.{MessageValue}
 use Rattle.tsp_rules.specs.GateRows.{Forward, GiveUp, LoopStep, PassOver, hops_in, judge, judges, one_hop_less, same_name, takes_loop_step}
 use Rattle.tsp_rules.specs.NodePerforms.{PerformsAll}
 use Rattle.tsp_rules.specs.NodeRows.{NodePast}

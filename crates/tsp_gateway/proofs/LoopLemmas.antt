@@ -1,8 +1,7 @@
 -- Calls for a node's ports, one after the other.
 use Rattle.std.specs.Prelude.{◌≡◌, ℕ, zero, suc, ◌+◌, ◌-◌, ◌<◌, ◌≤◌, Bool, true, false, if◌then◌else◌, List, [], ◌∷◌, filter, length, refl}
 use Rattle.std.proofs.Common.{sym, subst, ap, append-nil, arith, ◌∙◌}
-use Rattle.tsp_base.specs.declared.act.Placed.{Placed}
-use Rattle.tsp_base.specs.declared.place.Port.{Port}
+use Rattle.tsp_rules.specs.Values.{Placed, Port}
 use Rattle.tsp_rules.specs.GateRows.{ports_from}
 use Rattle.tsp_rules.specs.NodePerforms.{PerformsAll}
 use Rattle.tsp_rules.specs.NodeRows.{NodePast, NodeRow, PortSetup, for_ports, nothing_at_all, reading_all}

@@ -1,17 +1,8 @@
 -- LOOPs are posted, which changes nothing of a port.
 use Rattle.std.specs.Prelude.{◌≡◌, ℕ, true, false, List, [], ◌∷◌, ◌++◌, map, Some, slice_get, refl}
 use Rattle.std.proofs.Common.{sym, subst, ap, ◌∙◌}
-use Rattle.tsp_base.specs.declared.act.Placed.{Placed}
-use Rattle.tsp_base.specs.declared.kind.Kind.TheVariants.{Loop as LoopKind}
-use Rattle.tsp_base.specs.declared.constants.TheConstants.{HOPS}
-use Rattle.tsp_base.specs.declared.message.Body.TheVariants.{Hops}
-use Rattle.tsp_base.specs.declared.place.PeerId.{PeerId}
-use Rattle.tsp_base.specs.declared.place.Place.TheVariants.{Peer}
-use Rattle.tsp_base.specs.declared.place.Port.{Port}
-use Rattle.tsp_base.specs.History.{Past}
-use Rattle.tsp_base.specs.Messages.{MessageValue}
-use Rattle.tsp_base.specs.Rows.{Row, grown, others, placed, puts}
-use Rattle.tsp_base.specs.SendFacts.{is_numbered}
+use Rattle.tsp_rules.specs.Values.{Placed, LoopKind, Hops, PeerId, Peer, Port, HOPS}
+use Rattle.tsp_base.specs.Words.{Past, MessageValue, Row, grown, others, placed, puts, is_numbered}
 use Rattle.tsp_rules.specs.GateRows.{loop_to, repost, reposts, sends_loops}
 use Rattle.tsp_rules.specs.NodePerforms.{PerformsAll}
 use Rattle.tsp_rules.specs.NodeRows.{on, on_port}

@@ -1,7 +1,7 @@
 -- The room of a step over ports.
 use Rattle.std.specs.Prelude.{◌≡◌, ℕ, zero, suc, ◌+◌, ◌*◌, ◌<◌, ◌≤◌, List, [], ◌∷◌, length, refl}
 use Rattle.std.proofs.Common.{ap, arith, ◌∙◌}
-use Rattle.tsp_base.specs.declared.place.PeerId.{PeerId}
+use Rattle.tsp_rules.specs.Values.{PeerId}
 use Rattle.tsp_gateway.specs.Rooms.{all_peers, peers_at, room_of_ports, turn_room, turns_room}
 
 -- the peers of the ports below k, and what their turns may put

@@ -2,10 +2,7 @@
 use Rattle.std.specs.Prelude.{◌≡◌, ℕ, ◌==◌, true, ◌∷◌, refl}
 use Rattle.std.proofs.Common.{sym, subst, ap}
 use Rattle.std.proofs.lemmas.Bool.{or_right}
-use Rattle.tsp_base.specs.History.{Begins, Past, Step, seen_as, view}
-use Rattle.tsp_base.specs.Joins.{first_port, line_of}
-use Rattle.tsp_base.specs.PortFacts.{acting, taken}
-use Rattle.tsp_base.specs.Rows.{in_step}
+use Rattle.tsp_base.specs.Words.{Begins, Past, Step, seen_as, view, first_port, line_of, acting, taken, in_step}
 use Rattle.tsp_rules.specs.NodeRows.{NodePast, in_node_step, on_port}
 use Rattle.tsp_clock.specs.Clocks.{ClockValue}
 use Rattle.tsp_master.proofs.TurnLemmas.{MasterStands_in_step, MasterStands_step}

@@ -3,17 +3,8 @@ use Rattle.std.specs.Prelude.{◌≡◌, ℕ, ◌<◌, ◌+◌, ◌==◌, ◌||�
 use Rattle.std.proofs.Common.{sym, subst, ap, append-nil, arith, ◌∙◌}
 use Rattle.std.proofs.Math.ListN.{set}
 use Rattle.std.proofs.lemmas.Bool.{and_right}
-use Rattle.tsp_base.specs.declared.act.Act.{Act}
-use Rattle.tsp_base.specs.declared.act.Act.TheVariants.{Abandon, Late, Ring}
-use Rattle.tsp_base.specs.declared.act.Placed.{Placed}
-use Rattle.tsp_base.specs.declared.alarm.Alarm.TheVariants.{Probe}
-use Rattle.tsp_base.specs.declared.place.Port.{Port}
-use Rattle.tsp_base.specs.History.{Acts, Did, Past, Seen, is_shared, seen_as, view}
-use Rattle.tsp_base.specs.Joins.{line_of}
-use Rattle.tsp_base.specs.Performs.{Performs}
-use Rattle.tsp_base.specs.PortFacts.{acting, taken}
-use Rattle.tsp_base.specs.RoundFacts.{is_going}
-use Rattle.tsp_base.specs.Rows.{Row, either_by, nothing, puts, ◌followed_by◌}
+use Rattle.tsp_rules.specs.Values.{Act, Ring, Late, Abandon, Placed, Probe, Port}
+use Rattle.tsp_base.specs.Words.{Acts, Did, Past, Seen, is_shared, seen_as, view, line_of, Performs, acting, taken, is_going, Row, either_by, nothing, puts, ◌followed_by◌}
 use Rattle.tsp_rules.specs.Answers.{alarm_rings, rings}
 use Rattle.tsp_rules.specs.GateRows.{ends_probes, has_rung, is_last_probe, loops_after, probes_on, sends_loops}
 use Rattle.tsp_rules.specs.NodePerforms.{PerformsAll}

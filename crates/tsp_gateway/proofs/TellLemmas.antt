@@ -2,7 +2,7 @@
 use Rattle.std.specs.Prelude.{◌≡◌, ◌≢◌, ℕ, zero, suc, ◌+◌, ◌<◌, ◌≤◌, ◌==◌, Bool, true, false, List, [], ◌∷◌, length, map, None, Some, slice_get, refl}
 use Rattle.std.proofs.Common.{sym, subst, ap, arith, inl, inr, eq-eqb, eqb-true, true≢false, ◌∙◌}
 use Rattle.std.proofs.Math.ListN.{set, length-set}
-use Rattle.tsp_base.specs.declared.place.PeerId.{PeerId}
+use Rattle.tsp_rules.specs.Values.{PeerId}
 use Rattle.tsp_rules.specs.NodeRows.{NodePast, on_port}
 use Rattle.tsp_clock.specs.Clocks.{ClockValue}
 use Rattle.tsp_node.specs.declared.part.Part.{Part}

@@ -3,16 +3,8 @@ use Rattle.std.specs.Prelude.{◌≡◌, ◌≢◌, ℕ, ◌<◌, ◌≤◌, ◌
 use Rattle.std.proofs.Common.{sym, subst, ap, arith, eqb-true, true≢false, ◌∙◌}
 use Rattle.std.proofs.Math.ListN.{set}
 use Rattle.std.proofs.lemmas.Bool.{and_parts}
-use Rattle.tsp_base.specs.declared.act.Act.{Act}
-use Rattle.tsp_base.specs.declared.act.Act.TheVariants.{Correct}
-use Rattle.tsp_base.specs.declared.act.Placed.{Placed}
-use Rattle.tsp_base.specs.declared.alarm.Alarm.{Alarm}
-use Rattle.tsp_base.specs.declared.alarm.Alarm.TheVariants.{Close, Probe, Round}
-use Rattle.tsp_base.specs.declared.place.Port.{Port}
-use Rattle.tsp_base.specs.History.{Past, view}
-use Rattle.tsp_base.specs.Performs.{Performs}
-use Rattle.tsp_base.specs.PortFacts.{acting, taken}
-use Rattle.tsp_base.specs.Rows.{Row, grown, placed}
+use Rattle.tsp_rules.specs.Values.{Act, Correct, Placed, Alarm, Round, Probe, CloseAlarm, Port}
+use Rattle.tsp_base.specs.Words.{Past, view, Performs, acting, taken, Row, grown, placed}
 use Rattle.tsp_base.proofs.ViewPlaces.{port-same}
 use Rattle.tsp_rules.specs.Answers.{rings}
 use Rattle.tsp_rules.specs.GateRows.{alarm_on}
@@ -51,16 +43,16 @@ pub rings_still : (own wait : Bool) (alarm : Alarm) → moves_by alarm ≡ false
 rings_still own wait alarm still x past = calm_corrects (rings own wait alarm x past) ((calm_rings {strange = false} {moving = false} own wait alarm (λ e. sym still ∙ e)).calm x past)
 
 -- an alarm that is none of a round is its port's alone
-pub alarm_alone : (q : Port) (alarm : Alarm) → alarm ≢ Probe → alarm ≢ Close → alarm ≢ Round → on q (rings true false alarm) ≡ alarm_on q alarm
+pub alarm_alone : (q : Port) (alarm : Alarm) → alarm ≢ Probe → alarm ≢ CloseAlarm → alarm ≢ Round → on q (rings true false alarm) ≡ alarm_on q alarm
 unfolding alarm_on
 alarm_alone q Probe p c r = absurd (p refl)
-alarm_alone q Close p c r = absurd (c refl)
+alarm_alone q CloseAlarm p c r = absurd (c refl)
 alarm_alone q Round p c r = absurd (r refl)
 alarm_alone q _ p c r = refl
 
 -- only a Close moves the clock
-pub moves_not : (alarm : Alarm) → alarm ≢ Close → moves_by alarm ≡ false
-moves_not Close c = absurd (c refl)
+pub moves_not : (alarm : Alarm) → alarm ≢ CloseAlarm → moves_by alarm ≡ false
+moves_not CloseAlarm c = absurd (c refl)
 moves_not _ c = refl
 
 -- acts of a port that take nothing keep what no port has taken, and what later ports have done

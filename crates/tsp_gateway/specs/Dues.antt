@@ -1,9 +1,6 @@
 -- When a gateway needs its next step, and whether a port has probed.
 use Rattle.std.specs.Prelude.{◌≡◌, ℕ, false, List, [], ◌∷◌, length, Option, None, Some, slice_get}
-use Rattle.tsp_base.specs.Alarms.{earlier, least_deadline}
-use Rattle.tsp_base.specs.History.{Seen, view}
-use Rattle.tsp_base.specs.PortFacts.{armed}
-use Rattle.tsp_base.specs.SendFacts.{open_send}
+use Rattle.tsp_base.specs.Words.{earlier, least_deadline, Seen, view, armed, open_send}
 use Rattle.tsp_rules.specs.Guards.{is_over}
 use Rattle.tsp_rules.specs.NodeRows.{NodePast}
 use Rattle.tsp_sends.specs.Repeating.{IsEarliest}

@@ -1,7 +1,7 @@
 -- The configuration of a gateway, and the pasts of a node with it.
 use Rattle.std.specs.Prelude.{◌≡◌, ℕ, ℤ, Bool, true, false, List, [], ◌∷◌, map}
-use Rattle.tsp_base.specs.declared.place.PeerId.{PeerId}
-use Rattle.tsp_base.specs.History.{Booted}
+use Rattle.tsp_rules.specs.Values.{PeerId}
+use Rattle.tsp_base.specs.Words.{Booted}
 use Rattle.tsp_rules.specs.NodeRows.{NodePast, PortSetup}
 use Rattle.tsp_rules.specs.Guards.{is_clock_value}
 use Rattle.tsp_node.specs.declared.fault.BootFault.{BootFault}
@@ -16,9 +16,9 @@ pub record GateConfigValue : Type 0 where
   pub ports : List PortSetup
 
 -- each of these ports is allowed
-abbrev pub ArePorts : List PortSetup → Type 0
-ArePorts [] = Unit {0}
-ArePorts (s ∷ rest) = IsPortSetup s × ArePorts rest
+abbrev pub AreGatePorts : List PortSetup → Type 0
+AreGatePorts [] = Unit {0}
+AreGatePorts (s ∷ rest) = IsPortSetup s × AreGatePorts rest
 
 -- a past of a node with this configuration
 pub record IsOfNode (c : GateConfigValue) (past : NodePast) : Type 0 where
@@ -34,9 +34,9 @@ pub record UnbootedNode (c : GateConfigValue) (word : ℕ) (wall : ℤ) (past : 
 
 -- why a node with this configuration doesn't boot at this wall clock
 abbrev pub GateBootsNot : GateConfigValue → ℤ → BootFault → Type 0
-GateBootsNot c wall Peers = ArePorts c.ports → ⊥
-GateBootsNot c wall Range = ArePorts c.ports × (is_clock_value wall ≡ false)
-GateBootsNot c wall OutOfMemory = ArePorts c.ports × (is_clock_value wall ≡ true)
+GateBootsNot c wall Peers = AreGatePorts c.ports → ⊥
+GateBootsNot c wall Range = AreGatePorts c.ports × (is_clock_value wall ≡ false)
+GateBootsNot c wall OutOfMemory = AreGatePorts c.ports × (is_clock_value wall ≡ true)
 
 -- the peers of each of these ports
 abbrev pub peers_of_ports : List PortSetup → List (List PeerId)

@@ -1,8 +1,6 @@
 -- The input of a gateway's step, as the rules have it.
 use Rattle.std.specs.Prelude.{ℕ, ◌<◌}
-use Rattle.tsp_base.specs.declared.datagram.Datagram.TheVariants.{Message}
-use Rattle.tsp_base.specs.declared.datagram.Taken.{Taken}
-use Rattle.tsp_base.specs.declared.datagram.Taken.TheVariants.{Good}
+use Rattle.tsp_rules.specs.Values.{Message, Taken, Good}
 use Rattle.tsp_base.specs.declared.input.Input.{Input}
 use Rattle.tsp_base.specs.declared.input.Input.TheVariants.{Turn, Bytes}
 use Rattle.tsp_codec.specs.Taken.{taken_of}

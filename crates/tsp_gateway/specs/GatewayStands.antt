@@ -1,10 +1,7 @@
 -- Which pasts a gateway stands for.
 use Rattle.std.specs.Prelude.{◌≡◌, ℕ, ◌≤◌, false, List, length, None, Some, slice_get}
-use Rattle.tsp_base.specs.declared.place.Port.{Port}
-use Rattle.tsp_base.specs.Frames.{IsTick}
-use Rattle.tsp_base.specs.History.{dids, view}
-use Rattle.tsp_base.specs.NodeFacts.{tracing}
-use Rattle.tsp_base.specs.PortFacts.{acting, taken}
+use Rattle.tsp_rules.specs.Values.{Port}
+use Rattle.tsp_base.specs.Words.{IsTick, dids, view, tracing, acting, taken}
 use Rattle.tsp_rules.specs.NodeRows.{NodePast, on_port}
 use Rattle.tsp_clock.specs.Clocks.{ClockValue}
 use Rattle.tsp_node.specs.declared.part.Part.{Part}

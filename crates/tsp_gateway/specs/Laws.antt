@@ -1,6 +1,6 @@
 -- What is proved of gateways.
 use Rattle.std.specs.Prelude.{ℕ}
-use Rattle.tsp_base.specs.History.{Step}
+use Rattle.tsp_base.specs.Words.{Step}
 use Rattle.tsp_rules.specs.NodeRows.{NodePast, in_node_step}
 use Rattle.tsp_gateway.specs.declared.gateway.Gateway.{Gateway}
 use Rattle.tsp_gateway.specs.GatewayStands.{GatewayBegun, GatewayStands}

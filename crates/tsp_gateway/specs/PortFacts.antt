@@ -1,6 +1,6 @@
 -- Questions of one port about the others.
 use Rattle.std.specs.Prelude.{Bool}
-use Rattle.tsp_base.specs.declared.place.Port.{Port}
+use Rattle.tsp_rules.specs.Values.{Port}
 use Rattle.tsp_rules.specs.GateRows.{any_port, follows_on, goes_on, leads_on, lower_ports, other_ports}
 use Rattle.tsp_rules.specs.NodeRows.{NodePast}
 use Rattle.tsp_gateway.specs.declared.leading.Asked.{Asked}

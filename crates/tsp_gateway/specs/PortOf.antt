@@ -1,9 +1,7 @@
 -- Which port a peer is on.
 use Rattle.std.specs.Prelude.{ℕ, ◌+◌, ◌==◌, ◌&&◌, not, Bool, if◌then◌else◌, List, [], ◌∷◌, map}
-use Rattle.tsp_base.specs.declared.place.PeerId.{PeerId}
-use Rattle.tsp_base.specs.declared.place.Port.{Port}
-use Rattle.tsp_base.specs.Joins.{first_port}
-use Rattle.tsp_base.specs.Peers.{is_among}
+use Rattle.tsp_rules.specs.Values.{PeerId, Port}
+use Rattle.tsp_base.specs.Words.{first_port, is_among}
 use Rattle.tsp_rules.specs.NodeRows.{PortSetup}
 use Rattle.tsp_node.specs.declared.part.Part.{Part}
 use Rattle.tsp_gateway.specs.declared.gateway.Gateway.{Gateway}

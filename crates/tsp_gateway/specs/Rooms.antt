@@ -1,9 +1,6 @@
 -- How much room a gateway's step takes.
 use Rattle.std.specs.Prelude.{ℕ, ◌+◌, ◌*◌, List, [], ◌∷◌, length, map, slice_index_or}
-use Rattle.tsp_base.specs.declared.alarm.Alarm.{Alarm}
-use Rattle.tsp_base.specs.declared.alarm.Alarm.TheVariants.{Probe}
-use Rattle.tsp_base.specs.declared.alarm.TheConstants.Alarm.{ALL}
-use Rattle.tsp_base.specs.declared.place.PeerId.{PeerId}
+use Rattle.tsp_rules.specs.Values.{Alarm, Probe, PeerId, ALL}
 use Rattle.tsp_rules.specs.Rooms.{room_for}
 use Rattle.tsp_node.specs.declared.part.Part.{Part}
 use Rattle.tsp_gateway.specs.declared.gateway.Gateway.{Gateway}

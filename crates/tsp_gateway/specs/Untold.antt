@@ -1,8 +1,7 @@
 -- A node one of whose ports has corrected its clock, before the other ports have noted it.
 use Rattle.std.specs.Prelude.{◌≡◌, ◌≢◌, ◌==◌, ℕ, Bool, true, false, not, List, length, None, Some, slice_get}
-use Rattle.tsp_base.specs.declared.place.Port.{Port}
-use Rattle.tsp_base.specs.History.{dids}
-use Rattle.tsp_base.specs.NodeFacts.{tracing}
+use Rattle.tsp_rules.specs.Values.{Port}
+use Rattle.tsp_base.specs.Words.{dids, tracing}
 use Rattle.tsp_rules.specs.GateRows.{other_ports, ports_from}
 use Rattle.tsp_rules.specs.NodeRows.{NodePast, on_port}
 use Rattle.tsp_clock.specs.Clocks.{ClockValue}

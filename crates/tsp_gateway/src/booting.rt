@@ -8,7 +8,7 @@ ghost use Rattle.tsp_rules.specs.GateRows.{all_ports, boots_on};
 ghost use Rattle.tsp_rules.specs.NodePerforms.{PerformsAll};
 ghost use Rattle.tsp_rules.specs.NodeRows.{NodePast, for_ports, reading_all, spread};
 ghost use Rattle.tsp_rules.specs.Guards.{is_clock_value};
-ghost use Rattle.tsp_gateway.specs.GateConfigs.{ArePorts, GateBootsNot, UnbootedNode, peers_of_ports};
+ghost use Rattle.tsp_gateway.specs.GateConfigs.{AreGatePorts, GateBootsNot, UnbootedNode, peers_of_ports};
 ghost use Rattle.tsp_gateway.specs.GatewayStands.{GatewayStands, clock_at, port_at};
 ghost use Rattle.tsp_gateway.specs.PartsFresh.{AreFresh};
 ghost use Rattle.tsp_gateway.specs.Rooms.{ports_in};
@@ -27,7 +27,7 @@ fn parts_of(
     tick: u64,
     word: u64,
 ) -> Result<Vec<Part>, AllocError>
-    requires { ArePorts config.now.ports }
+    requires { AreGatePorts config.now.ports }
     ensures fresh { IfOk result (λ parts. AreFresh config.now word tick parts.items) }
     ensures memory { IfOk result (λ parts. vec_capacity parts ≡ 4) }
 {
@@ -53,7 +53,7 @@ impl Gateway {
         ensures stands { IfOk result (λ g. (past : NodePast)
             → UnbootedNode config.now word wall past tt
             → GatewayStands (spread tick past (record { port = first_port; act = Boot } ∷ [])) g) }
-        ensures ok { IfOk result (λ g. ArePorts config.now.ports × (is_clock_value wall ≡ true)
+        ensures ok { IfOk result (λ g. AreGatePorts config.now.ports × (is_clock_value wall ≡ true)
             × (ports_in g ≡ peers_of_ports config.now.ports) × (clock_at g ≡ tick)) }
         ensures err { IfErr result (λ fault. GateBootsNot config.now wall fault) }
     {

@@ -3,7 +3,7 @@ ghost use Rattle.std.specs.Prelude.{◌≡◌, ◌<◌, ◌≤◌, ◌↔◌, tr
 ghost use Rattle.std.specs.Prelude.{slice_index_or, IfOk, OnOk, OnErr, IfErr};
 ghost use Rattle.tsp_rules.specs.NodeRows.{PortSetup};
 ghost use Rattle.tsp_node.specs.Configs.{IsPortSetup};
-ghost use Rattle.tsp_gateway.specs.GateConfigs.{ArePorts};
+ghost use Rattle.tsp_gateway.specs.GateConfigs.{AreGatePorts};
 ghost use Rattle.tsp_gateway.specs.declared.fault.PortFault.TheVariants.{Full};
 
 use crate::fault::PortFault;
@@ -121,7 +121,7 @@ impl GateConfig {
     /// Whether these ports are allowed: on each at most 1,000 peers, strictly ascending, the own
     /// number among them.
     pub(crate) fn are_ports(&self) -> bool
-        ensures value { (result ≡ true) ↔ ArePorts self.now.ports }
+        ensures value { (result ≡ true) ↔ AreGatePorts self.now.ports }
         ensures few { length self.now.ports ≤ 4 }
     {
         for q in 0..self.ports.len() {

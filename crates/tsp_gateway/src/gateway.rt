@@ -4,7 +4,7 @@ ghost use Rattle.tsp_base.specs.Frames.{IsTick, PutsAtMost};
 ghost use Rattle.tsp_rules.specs.GateRows.{boots_all};
 ghost use Rattle.tsp_rules.specs.NodePerforms.{PerformsAll};
 ghost use Rattle.tsp_rules.specs.Guards.{is_clock_value};
-ghost use Rattle.tsp_gateway.specs.GateConfigs.{ArePorts, GateBootsNot, UnbootedNode, peers_of_ports};
+ghost use Rattle.tsp_gateway.specs.GateConfigs.{AreGatePorts, GateBootsNot, UnbootedNode, peers_of_ports};
 
 use crate::config::GateConfig;
 use std::alloc::Global;
@@ -67,7 +67,7 @@ impl Gateway {
         requires tick { IsTick tick }
         ensures row { IfOk result (λ g. PerformsAll (UnbootedNode config.now word wall)
             GatewayStands boots_all tick tt g (D.acts desk.old) (D.acts desk.new)) }
-        ensures ok { IfOk result (λ g. ArePorts config.now.ports × (is_clock_value wall ≡ true)
+        ensures ok { IfOk result (λ g. AreGatePorts config.now.ports × (is_clock_value wall ≡ true)
             × (ports_in g ≡ peers_of_ports config.now.ports) × (clock_at g ≡ tick)) }
         ensures err { IfErr result (λ fault. GateBootsNot config.now wall fault) }
         ensures refused { OnErr result (D.acts desk.new ≡ D.acts desk.old) }

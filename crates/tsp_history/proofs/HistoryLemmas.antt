@@ -8,12 +8,11 @@ use Rattle.tsp_base.specs.declared.place.PeerId.{PeerId}
 use Rattle.tsp_base.specs.declared.place.Port.{Port}
 use Rattle.tsp_promises.specs.Fits.{node_of}
 use Rattle.tsp_promises.specs.Everywhere.{Everywhere}
-use Rattle.tsp_base.specs.History.{Acts, Line}
-use Rattle.tsp_base.specs.Places.{Within}
+use Rattle.tsp_base.specs.Words.{Acts, Line, Within}
 use Rattle.tsp_base.proofs.PlaceLemmas.{Within-all}
 use Rattle.tsp_history.specs.declared.line.HistoryLine.{HistoryLine}
 use Rattle.tsp_history.specs.Histories.{line_of, noted_after, history_of}
-use Rattle.tsp_history.specs.Holding.{Apart}
+use Rattle.tsp_history.specs.Holding.{HoldsApart}
 
 -- what holds at every place of a longer history holds at every place of a shorter one
 pub Everywhere-before : (P : Line → List Line → Type 0) (h : List Line) (ns : List HistoryLine) → Everywhere P (noted_after h ns) → Everywhere P h
@@ -21,7 +20,7 @@ Everywhere-before P h [] e = e
 Everywhere-before P h (n ∷ rest) e = (Everywhere-before P (line_of n ∷ h) rest e).1
 
 -- a Back for another candidate that is too near isn't apart
-not_apart : (n : ℕ) (q : Port) (x : ℕ) (p c : PeerId) (l : Line) → node_of l ≡ n → l.port ≡ q → l.did.deed ≡ Acts (Back c) → (c ≡ p → ⊥) → x < l.did.tick + HOLD → Apart n q x p l → ⊥
+not_apart : (n : ℕ) (q : Port) (x : ℕ) (p c : PeerId) (l : Line) → node_of l ≡ n → l.port ≡ q → l.did.deed ≡ Acts (Back c) → (c ≡ p → ⊥) → x < l.did.tick + HOLD → HoldsApart n q x p l → ⊥
 not_apart n q x p c l node port deed other near apart = by_case (apart c node port deed) where
   by_case : (c ≡ p) ⊎ (l.did.tick + HOLD ≤ x) → ⊥
   by_case (inl e) = other e
@@ -52,6 +51,6 @@ Within-noted ns i n below is = within [] ns i below is where
 
 -- a Back for another candidate is apart exactly where it is far enough before
 pub apart-told : (b : Bool) (n : ℕ) (q : Port) (x : ℕ) (p c : PeerId) (l : Line) → node_of l ≡ n → l.port ≡ q → l.did.deed ≡ Acts (Back c) → (c ≡ p → ⊥) → MatchBool b (l.did.tick + HOLD ≤ x) (x < l.did.tick + HOLD) →
-    MatchBool b (Apart n q x p l) (Apart n q x p l → ⊥)
+    MatchBool b (HoldsApart n q x p l) (HoldsApart n q x p l → ⊥)
 apart-told true n q x p c l node port deed other far = λ d _ _ _. inr far
 apart-told false n q x p c l node port deed other near = not_apart n q x p c l node port deed other near

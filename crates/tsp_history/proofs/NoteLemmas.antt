@@ -7,10 +7,8 @@ use Rattle.std.proofs.lemmas.List.{get_or_default, get_or-take, length-append, l
 use Rattle.std.proofs.Math.ListN.{get_or-append}
 use Rattle.std.proofs.Math.Seq.{get_or-append_seam}
 use Rattle.tsp_base.specs.declared.place.Port.{Port}
-use Rattle.tsp_base.specs.History.{Line, of, dids}
-use Rattle.tsp_base.specs.Takings.{posted}
+use Rattle.tsp_base.specs.Words.{Line, of, dids, posted, all_corrects, boot_tick, lives, moved, wall}
 use Rattle.tsp_base.proofs.ViewPlaces.{port-same}
-use Rattle.tsp_base.specs.NodeFacts.{all_corrects, boot_tick, lives, moved, wall}
 use Rattle.tsp_history.specs.declared.line.HistoryLine.{HistoryLine}
 use Rattle.tsp_history.specs.declared.notes.NodeNote.{NodeNote}
 use Rattle.tsp_history.specs.declared.notes.PortNote.{PortNote}

@@ -7,9 +7,7 @@ use Rattle.tsp_base.specs.declared.place.PeerId.{PeerId}
 use Rattle.tsp_base.specs.declared.place.Place.{Place}
 use Rattle.tsp_base.specs.declared.place.Port.{Port}
 use Rattle.tsp_promises.specs.Fits.{node_of}
-use Rattle.tsp_base.specs.History.{Acts, Did, Line, Seen, Here, of, view, dids}
-use Rattle.tsp_base.specs.NodeFacts.{boot_after, boot_tick, moved, moved_after, target, wall, wall_after}
-use Rattle.tsp_base.specs.RoundFacts.{Sampled, best, best_after, better, exchange, target_there}
+use Rattle.tsp_base.specs.Words.{Acts, Did, Line, Seen, Here, of, view, dids, boot_after, boot_tick, moved, moved_after, target, wall, wall_after, Sampled, best, best_after, better, exchange, target_there}
 use Rattle.tsp_base.proofs.ViewPlaces.{port-same}
 use Rattle.tsp_base.proofs.Views.{plain_view}
 use Rattle.tsp_history.specs.declared.line.HistoryLine.{HistoryLine}

@@ -3,8 +3,7 @@ use Rattle.std.specs.Prelude.{◌≡◌, ◌==◌, ◌||◌, ◌<◌, ◌+◌, �
 use Rattle.std.proofs.Common.{◌∙◌, ap, arith, sym, subst}
 use Rattle.tsp_base.specs.declared.place.Port.{Port}
 use Rattle.tsp_promises.specs.Fits.{node_of}
-use Rattle.tsp_base.specs.History.{Line, Here, Seen, dids, of, view, seen_as, is_shared}
-use Rattle.tsp_base.specs.Takings.{posted, posted_after}
+use Rattle.tsp_base.specs.Words.{Line, Here, Seen, dids, of, view, seen_as, is_shared, posted, posted_after}
 use Rattle.tsp_base.proofs.ViewPlaces.{sees-own}
 use Rattle.tsp_history.specs.declared.line.HistoryLine.{HistoryLine}
 use Rattle.tsp_history.specs.Changes.{BeginsOn}

@@ -8,9 +8,7 @@ use Rattle.tsp_base.specs.declared.constants.TheConstants.{GAP}
 use Rattle.tsp_promises.specs.Fits.{node_of}
 use Rattle.tsp_promises.proofs.HistoryPlaces.{of-other}
 use Rattle.tsp_promises.proofs.SteadyProof.{lives-more}
-use Rattle.tsp_base.specs.History.{Acts, Line, of, dids}
-use Rattle.tsp_base.specs.NodeFacts.{lives, lives_after}
-use Rattle.tsp_base.specs.Places.{Within}
+use Rattle.tsp_base.specs.Words.{Acts, Line, of, dids, lives, lives_after, Within}
 use Rattle.tsp_base.proofs.PlaceLemmas.{Within-tail}
 use Rattle.tsp_history.specs.declared.brief.Brief.{Brief}
 use Rattle.tsp_history.specs.declared.brief.Brief.TheVariants.{Boot as BriefBoot, Correct as BriefCorrect}

@@ -1,7 +1,7 @@
 -- What a line does to a place that is sought.
 use Rattle.std.specs.Prelude.{◌≡◌, ℕ, Bool, if◌then◌else◌, List, [], ◌∷◌, Option, None, Some}
 use Rattle.tsp_base.specs.declared.place.Port.{Port}
-use Rattle.tsp_base.specs.History.{Did, Seen, Here}
+use Rattle.tsp_base.specs.Words.{Did, Seen, Here}
 use Rattle.tsp_history.specs.declared.change.Change.{Change}
 use Rattle.tsp_history.specs.declared.change.Change.TheVariants.{Keeps, Ends, Begins}
 use Rattle.tsp_history.specs.declared.line.HistoryLine.{HistoryLine}

@@ -1,7 +1,6 @@
 -- What is known of a node's clock.
 use Rattle.std.specs.Prelude.{◌≡◌, ℕ, ◌*◌, ◌^◌, ℤ, pos, neg_ℤ, ◌≤ℤ◌, List}
-use Rattle.tsp_base.specs.History.{Line, of, dids}
-use Rattle.tsp_base.specs.NodeFacts.{wall, boot_tick, moved}
+use Rattle.tsp_base.specs.Words.{Line, of, dids, wall, boot_tick, moved}
 use Rattle.tsp_history.specs.declared.clocks.Clock.{Clock}
 
 -- no greater in magnitude than a sum of this many signed 64-bit amounts can be
@@ -17,7 +16,7 @@ abbrev pub IsTrip : ℤ → Type 0
 IsTrip z = (neg_ℤ (pos (2 ^ 101)) ≤ℤ z) × (z ≤ℤ pos (2 ^ 101))
 
 -- the wall clock and the tick of the boot, and the amounts of the corrections since, are those of node n
-pub record Keeps (n : ℕ) (before : List Line) (c : Clock) : Type 0 where
+pub record KeepsClock (n : ℕ) (before : List Line) (c : Clock) : Type 0 where
   pub wall_is : c.wall ≡ wall (dids (of n before))
   pub boot_is : c.boot_tick ≡ boot_tick (dids (of n before))
   pub moved_is : c.moved ≡ moved (dids (of n before))

@@ -7,8 +7,7 @@ use Rattle.tsp_base.specs.declared.datagram.Datagram.TheVariants.{Message, Stamp
 use Rattle.tsp_base.specs.declared.datagram.Taken.TheVariants.{Good, Bad}
 use Rattle.tsp_base.specs.declared.kind.Kind.{Kind}
 use Rattle.tsp_base.specs.declared.message.Body.{Body}
-use Rattle.tsp_base.specs.Messages.{MessageValue, body_fits}
-use Rattle.tsp_base.specs.Names.{IsName}
+use Rattle.tsp_base.specs.Words.{MessageValue, body_fits, IsName}
 use Rattle.tsp_history.specs.declared.brief.Brief.{Brief}
 use Rattle.tsp_history.specs.declared.brief.Brief.TheVariants as briefs
 
@@ -50,10 +49,10 @@ IsBrief (briefs.PostMessage to kind number body) name = (body_fits kind body ≡
 IsBrief _ name = Unit {0}
 
 -- the act neither took nor posted
-abbrev pub IsSilent : Act → Type 0
-IsSilent (acts.Took from taken) = ⊥
-IsSilent (acts.Post to datagram) = ⊥
-IsSilent _ = Unit {0}
+abbrev pub IsSilentAct : Act → Type 0
+IsSilentAct (acts.Took from taken) = ⊥
+IsSilentAct (acts.Post to datagram) = ⊥
+IsSilentAct _ = Unit {0}
 
 -- the datagram that is posted, if one is
 abbrev pub datagram_in : Option Act → Option Datagram

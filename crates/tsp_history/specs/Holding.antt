@@ -5,8 +5,8 @@ use Rattle.tsp_base.specs.declared.constants.TheConstants.{HOLD}
 use Rattle.tsp_base.specs.declared.place.PeerId.{PeerId}
 use Rattle.tsp_base.specs.declared.place.Port.{Port}
 use Rattle.tsp_promises.specs.Fits.{node_of}
-use Rattle.tsp_base.specs.History.{Acts, Line}
+use Rattle.tsp_base.specs.Words.{Acts, Line}
 
 -- an earlier line is no Back of this port for another candidate, or stands HOLD ticks before
-abbrev pub Apart : ℕ → Port → ℕ → PeerId → Line → Type 0
-Apart n q x p other = (c : PeerId) → node_of other ≡ n → other.port ≡ q → other.did.deed ≡ Acts (Back c) → (c ≡ p) ⊎ (other.did.tick + HOLD ≤ x)
+abbrev pub HoldsApart : ℕ → Port → ℕ → PeerId → Line → Type 0
+HoldsApart n q x p other = (c : PeerId) → node_of other ≡ n → other.port ≡ q → other.did.deed ≡ Acts (Back c) → (c ≡ p) ⊎ (other.did.tick + HOLD ≤ x)

@@ -2,22 +2,18 @@
 use Rattle.std.specs.Prelude.{◌≡◌, ◌<◌, ◌≤◌, ℕ, ◌+◌, Bool, true, false, List, ◌∷◌, length, get_or, take, Option}
 use Rattle.tsp_base.specs.declared.place.Port.{Port}
 use Rattle.tsp_promises.specs.Fits.{node_of}
-use Rattle.tsp_base.specs.History.{Line, of, view, dids}
-use Rattle.tsp_base.specs.NodeFacts.{all_corrects, lives}
-use Rattle.tsp_base.specs.PortFacts.{role}
-use Rattle.tsp_base.specs.RoundFacts.{is_going}
-use Rattle.tsp_base.specs.Takings.{posted}
+use Rattle.tsp_base.specs.Words.{Line, of, view, dids, all_corrects, lives, role, is_going, posted}
 use Rattle.tsp_history.specs.declared.counts.Counts.{Counts}
 use Rattle.tsp_history.specs.declared.line.HistoryLine.{HistoryLine}
 use Rattle.tsp_history.specs.declared.notes.NodeNote.{NodeNote}
 use Rattle.tsp_history.specs.declared.notes.Note.{Note}
 use Rattle.tsp_history.specs.declared.notes.PortNote.{PortNote}
-use Rattle.tsp_history.specs.Clocks.{IsSumOf, Keeps}
+use Rattle.tsp_history.specs.Clocks.{IsSumOf, KeepsClock}
 use Rattle.tsp_history.specs.Histories.{line_of, history_of}
 use Rattle.tsp_history.specs.Spacing.{SpacedBy}
 
 -- the boots and the corrections of node n are counted
-pub record Counted (n : ℕ) (h : List Line) (c : Counts) : Type 0 where
+pub record AreCounted (n : ℕ) (h : List Line) (c : Counts) : Type 0 where
   pub lives_is : c.lives ≡ lives (dids (of n h))
   pub corrects_is : c.corrects ≡ all_corrects (dids (of n h))
   pub few_lives : c.lives ≤ length h
@@ -25,9 +21,9 @@ pub record Counted (n : ℕ) (h : List Line) (c : Counts) : Type 0 where
 
 -- this is what a history comes to of node n
 pub record NodeKnown (n : ℕ) (h : List Line) (m : NodeNote) : Type 0 where
-  pub clock : Keeps n h m.clock
+  pub clock : KeepsClock n h m.clock
   pub small : IsSumOf (length h) m.clock.moved
-  pub counts : Counted n h m.counts
+  pub counts : AreCounted n h m.counts
   pub spaced : SpacedBy n h m.latest
 
 -- this is what a history comes to of port q of node n

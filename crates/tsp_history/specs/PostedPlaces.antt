@@ -5,9 +5,7 @@ use Rattle.tsp_base.specs.declared.datagram.Datagram.{Datagram}
 use Rattle.tsp_base.specs.declared.place.Place.{Place}
 use Rattle.tsp_base.specs.declared.place.Port.{Port}
 use Rattle.tsp_promises.specs.Fits.{node_of}
-use Rattle.tsp_base.specs.History.{Acts, Line, Seen, Here, of, dids, view}
-use Rattle.tsp_base.specs.Places.{Within}
-use Rattle.tsp_base.specs.Takings.{posted}
+use Rattle.tsp_base.specs.Words.{Acts, Line, Seen, Here, of, dids, view, Within, posted}
 
 -- a place of what port q of node n sees is that of its post of datagram k
 pub record PostedAt (n : ℕ) (q : Port) (h : List Line) (seen : List Seen) (k : ℕ) : Type 0 where
@@ -23,6 +21,6 @@ pub record PostedAt (n : ℕ) (q : Port) (h : List Line) (seen : List Seen) (k :
   pub number : posted (dids before) ≡ k
 
 -- the number of the datagram that is posted at a place; None means that there is no such place
-abbrev pub IsPlaceOf : ℕ → Port → List Line → List Seen → Option ℕ → Type 0
-IsPlaceOf n q h seen None = seen ≡ []
-IsPlaceOf n q h seen (Some k) = PostedAt n q h seen k
+abbrev pub IsPostAt : ℕ → Port → List Line → List Seen → Option ℕ → Type 0
+IsPostAt n q h seen None = seen ≡ []
+IsPostAt n q h seen (Some k) = PostedAt n q h seen k

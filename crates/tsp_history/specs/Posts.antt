@@ -3,9 +3,7 @@ use Rattle.std.specs.Prelude.{◌≡◌, ◌<◌, ℕ, List, ◌∷◌, length, 
 use Rattle.tsp_base.specs.declared.act.Act.TheVariants.{Post}
 use Rattle.tsp_base.specs.declared.datagram.Datagram.{Datagram}
 use Rattle.tsp_base.specs.declared.place.Place.{Place}
-use Rattle.tsp_base.specs.History.{dids}
-use Rattle.tsp_base.specs.Places.{Within}
-use Rattle.tsp_base.specs.Takings.{posted}
+use Rattle.tsp_base.specs.Words.{dids, Within, posted}
 use Rattle.tsp_history.specs.declared.line.HistoryLine.{HistoryLine}
 use Rattle.tsp_history.specs.Histories.{line_of, history_of}
 

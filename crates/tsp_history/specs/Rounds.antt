@@ -2,13 +2,10 @@
 use Rattle.std.specs.Prelude.{◌≡◌, ◌<◌, ◌≤◌, ℕ, ℤ, pos, ◌-ℤ◌, int_lt, if◌then◌else◌, List, [], ◌∷◌, length, get_or, take, Option, None, Some}
 use Rattle.tsp_base.specs.declared.act.Act.{Act}
 use Rattle.tsp_base.specs.declared.act.Act.TheVariants.{Arm, Become, Boot, Sample}
-use Rattle.tsp_base.specs.declared.alarm.Alarm.TheVariants.{Close}
+use Rattle.tsp_base.specs.declared.alarm.Alarm.TheVariants.{Close as CloseAlarm}
 use Rattle.tsp_base.specs.declared.place.Port.{Port}
 use Rattle.tsp_promises.specs.Fits.{node_of}
-use Rattle.tsp_base.specs.History.{Deed, Acts, Did, Line, Seen, Here, of, plain, view}
-use Rattle.tsp_base.specs.NodeFacts.{target}
-use Rattle.tsp_base.specs.Places.{Within}
-use Rattle.tsp_base.specs.RoundFacts.{Sampled, exchange, target_there}
+use Rattle.tsp_base.specs.Words.{Deed, Acts, Did, Line, Seen, Here, of, plain, view, target, Within, Sampled, exchange, target_there}
 use Rattle.tsp_history.specs.declared.line.HistoryLine.{HistoryLine}
 use Rattle.tsp_history.specs.declared.rounds.Best.{Best}
 use Rattle.tsp_history.specs.Histories.{line_of, history_of}
@@ -81,7 +78,7 @@ Bests ns n q sample (Some b) = BestAt ns n q sample b
 abbrev pub ForgetsBy : Port → Port → Option Act → Type 0
 ForgetsBy q p (Some Boot) = Unit {0}
 ForgetsBy q p (Some (Become role)) = p ≡ q
-ForgetsBy q p (Some (Arm Close tick)) = p ≡ q
+ForgetsBy q p (Some (Arm CloseAlarm tick)) = p ≡ q
 ForgetsBy q p _ = ⊥
 
 -- after this line nothing is left of the samples of port q of node n

@@ -3,9 +3,7 @@ use Rattle.std.specs.Prelude.{◌≡◌, ◌<◌, ◌≤◌, ℕ, ◌+◌, if◌
 use Rattle.tsp_base.specs.declared.act.Act.TheVariants.{Correct}
 use Rattle.tsp_base.specs.declared.constants.TheConstants.{GAP}
 use Rattle.tsp_promises.specs.Fits.{node_of}
-use Rattle.tsp_base.specs.History.{Acts, Line, of, dids}
-use Rattle.tsp_base.specs.NodeFacts.{lives}
-use Rattle.tsp_base.specs.Places.{Within}
+use Rattle.tsp_base.specs.Words.{Acts, Line, of, dids, lives, Within}
 
 -- each Correct of node n in its present life lies GAP ticks or more before tick x
 abbrev pub Spaced : ℕ → ℕ → List Line → Type 0

@@ -3,7 +3,7 @@ ghost use Rattle.std.specs.Prelude.{◌≡◌, ◌<◌, ◌≤◌, ◌+◌, ◌^
 ghost use Rattle.std.specs.Prelude.{List, ◌∷◌, length, MatchBool};
 ghost use Rattle.tsp_base.specs.History.{Line, of, dids};
 ghost use Rattle.tsp_base.specs.NodeFacts.{moved, target};
-ghost use Rattle.tsp_history.specs.Clocks.{IsSmall, IsSumOf, Keeps};
+ghost use Rattle.tsp_history.specs.Clocks.{IsSmall, IsSumOf, KeepsClock};
 ghost use Rattle.tsp_history.specs.Histories.{line_of, history_of};
 ghost use Rattle.tsp_history.specs.Notes.{Told};
 ghost use Rattle.tsp_history.specs.Spacing.{later_of, Spaced, SpacedBy};
@@ -28,7 +28,7 @@ pub struct Clock {
 impl Clock {
     /// The clock of a node that hasn't booted.
     pub(crate) fn new() -> Clock
-        ensures keeps { (node : ℕ) → Keeps node [] result }
+        ensures keeps { (node : ℕ) → KeepsClock node [] result }
         ensures bounded { IsSumOf 0 result.moved }
     {
         Clock {
@@ -100,8 +100,8 @@ pub fn is_spaced(lines: &[HistoryLine], node: u32, tick: u64) -> bool
 /// What is seen of a clock after a line.
 pub(crate) fn clock_after(line: &HistoryLine, node: u32, keep: Clock) -> Clock
     requires { IsSumOf 4294967295 keep.moved }
-    ensures keeps { (before : List Line) → Keeps node before keep
-        → Keeps node (line_of line.now ∷ before) result }
+    ensures keeps { (before : List Line) → KeepsClock node before keep
+        → KeepsClock node (line_of line.now ∷ before) result }
     ensures bounded { (count : ℕ) → IsSumOf count keep.moved → IsSumOf (count + 1) result.moved }
 {
     if line.node != node {

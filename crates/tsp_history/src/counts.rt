@@ -3,7 +3,7 @@ ghost use Rattle.std.specs.Prelude.{◌≡◌, ◌≤◌, ◌<◌, ◌^◌, ℕ,
 ghost use Rattle.tsp_base.specs.History.{Line, dids, of};
 ghost use Rattle.tsp_base.specs.NodeFacts.{all_corrects, lives};
 ghost use Rattle.tsp_history.specs.Histories.{line_of, history_of};
-ghost use Rattle.tsp_history.specs.Notes.{Counted, Told};
+ghost use Rattle.tsp_history.specs.Notes.{AreCounted, Told};
 
 use crate::brief::Brief;
 use crate::line::HistoryLine;
@@ -21,7 +21,7 @@ pub struct Counts {
 impl Counts {
     /// The counts of a node that hasn't booted.
     pub(crate) fn new() -> Counts
-        ensures { (node : ℕ) → Counted node [] result }
+        ensures { (node : ℕ) → AreCounted node [] result }
     {
         Counts {
             lives: 0,
@@ -34,8 +34,8 @@ impl Counts {
 pub(crate) fn counts_after(line: &HistoryLine, node: u32, keep: Counts) -> Counts
     requires lives { keep.lives < 2 ^ 32 }
     requires corrects { keep.corrects < 2 ^ 32 }
-    ensures { (before : List Line) → Counted node before keep
-        → Counted node (line_of line.now ∷ before) result }
+    ensures { (before : List Line) → AreCounted node before keep
+        → AreCounted node (line_of line.now ∷ before) result }
 {
     if line.node != node {
         return keep;

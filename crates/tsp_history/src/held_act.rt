@@ -2,7 +2,7 @@
 ghost use Rattle.std.specs.Prelude.{◌≡◌, List, ℕ, [], true, is_none, None, Some, IfOk};
 ghost use Rattle.tsp_base.specs.Messages.{body_fits};
 ghost use Rattle.tsp_base.specs.Names.{IsName};
-ghost use Rattle.tsp_history.specs.HeldActs.{IsBrief, IsSilent, act_of, datagram_in, message_of};
+ghost use Rattle.tsp_history.specs.HeldActs.{IsBrief, IsSilentAct, act_of, datagram_in, message_of};
 
 use crate::brief::Brief;
 use std::alloc::{AllocError, Global};
@@ -35,7 +35,7 @@ impl Model for HeldAct {
 
 /// An act that neither took nor posted, as it is held; at another one this says nothing.
 fn silent(act: &Act) -> Brief
-    ensures act { IsSilent act.now → act_of result [] ≡ Some act.now }
+    ensures act { IsSilentAct act.now → act_of result [] ≡ Some act.now }
     ensures whole { IsBrief result [] }
 {
     match act {

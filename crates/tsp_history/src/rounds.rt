@@ -6,7 +6,7 @@ ghost use Rattle.tsp_base.specs.RoundFacts.{best, exchange, is_going};
 ghost use Rattle.tsp_base.specs.NodeFacts.{target};
 ghost use Rattle.tsp_promises.specs.StepFacts.{closed};
 ghost use Rattle.tsp_history.specs.Changes.{BeginsOn, place_by};
-ghost use Rattle.tsp_history.specs.Clocks.{IsSmall, IsSumOf, IsTrip, Keeps};
+ghost use Rattle.tsp_history.specs.Clocks.{IsSmall, IsSumOf, IsTrip, KeepsClock};
 ghost use Rattle.tsp_history.specs.Histories.{line_of, history_of};
 ghost use Rattle.tsp_history.specs.Notes.{Told};
 ghost use Rattle.tsp_history.specs.Posts.{IsPost};
@@ -173,7 +173,7 @@ pub fn asked_at(
 /// The target of a line's node after it, in microseconds.
 fn target_of(line: &HistoryLine) -> i128
     requires { IsSumOf 4294967295 line.now.note.node.clock.moved }
-    ensures target { (before : List Line) → Keeps line.now.node before line.now.note.node.clock
+    ensures target { (before : List Line) → KeepsClock line.now.node before line.now.note.node.clock
         → result ≡ target (dids (of line.now.node before)) line.now.tick }
     ensures small { IsSmall result }
 {

@@ -4,7 +4,7 @@ ghost use Rattle.tsp_base.specs.History.{Line, of, view};
 ghost use Rattle.tsp_base.specs.PortFacts.{role};
 ghost use Rattle.tsp_promises.specs.Everywhere.{Everywhere};
 ghost use Rattle.tsp_history.specs.Histories.{line_of, history_of};
-ghost use Rattle.tsp_history.specs.Holding.{Apart};
+ghost use Rattle.tsp_history.specs.Holding.{HoldsApart};
 ghost use Rattle.tsp_history.specs.Notes.{Told};
 
 use crate::brief::Brief;
@@ -41,8 +41,8 @@ pub fn role_at(lines: &[HistoryLine], node: u32, port: Port) -> Role
 /// Whether a line is no Back of the port for another candidate than p, or lies `HOLD`, 60,000,000
 /// ticks, or more before this tick.
 fn is_apart(line: &HistoryLine, node: u32, port: Port, tick: u64, p: PeerId) -> bool
-    ensures { MatchBool result (Apart node port tick p (line_of line.now))
-        (Apart node port tick p (line_of line.now) → ⊥) }
+    ensures { MatchBool result (HoldsApart node port tick p (line_of line.now))
+        (HoldsApart node port tick p (line_of line.now) → ⊥) }
 {
     if line.node != node || line.port != port {
         return true;
@@ -56,8 +56,8 @@ fn is_apart(line: &HistoryLine, node: u32, port: Port, tick: u64, p: PeerId) -> 
 /// Whether a Back of p at this tick keeps the hold: each Back of the port for another candidate lies
 /// `HOLD` ticks or more before it, whatever boots came between.
 pub fn is_held(lines: &[HistoryLine], node: u32, port: Port, tick: u64, p: PeerId) -> bool
-    ensures { MatchBool result (Everywhere (λ other older. Apart node port tick p other)
-        (history_of lines.now)) (Everywhere (λ other older. Apart node port tick p other)
+    ensures { MatchBool result (Everywhere (λ other older. HoldsApart node port tick p other)
+        (history_of lines.now)) (Everywhere (λ other older. HoldsApart node port tick p other)
         (history_of lines.now) → ⊥) }
 {
     for line in lines {

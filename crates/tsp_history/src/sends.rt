@@ -6,7 +6,7 @@ ghost use Rattle.tsp_base.specs.SendFacts.{begun_to, open_to};
 ghost use Rattle.tsp_history.specs.Changes.{BeginsOn, place_by};
 ghost use Rattle.tsp_history.specs.Histories.{line_of, history_of};
 ghost use Rattle.tsp_history.specs.Notes.{Told};
-ghost use Rattle.tsp_history.specs.PostedPlaces.{IsPlaceOf};
+ghost use Rattle.tsp_history.specs.PostedPlaces.{IsPostAt};
 ghost use Rattle.tsp_history.specs.Posts.{IsPost};
 
 use crate::brief::Brief;
@@ -64,9 +64,9 @@ fn send_change(line: &HistoryLine, node: u32, port: Port, p: PeerId, is_open: bo
 /// boot; with `is_open`, only the send that is open.
 fn send_to(lines: &[HistoryLine], node: u32, port: Port, p: PeerId, is_open: bool) -> Option<u64>
     requires told { Told lines.now }
-    ensures begun { is_open ≡ false → IsPlaceOf node port (history_of lines.now)
+    ensures begun { is_open ≡ false → IsPostAt node port (history_of lines.now)
         (begun_to p (view port (of node (history_of lines.now)))) result }
-    ensures opened { is_open ≡ true → IsPlaceOf node port (history_of lines.now)
+    ensures opened { is_open ≡ true → IsPostAt node port (history_of lines.now)
         (open_to p (view port (of node (history_of lines.now)))) result }
 {
     let mut left = lines.len();
@@ -89,7 +89,7 @@ fn send_to(lines: &[HistoryLine], node: u32, port: Port, p: PeerId, is_open: boo
 /// The number of the datagram with which the last send of a node's port to a peer began since the boot.
 pub fn begun_to(lines: &[HistoryLine], node: u32, port: Port, p: PeerId) -> Option<u64>
     requires told { Told lines.now }
-    ensures { IsPlaceOf node port (history_of lines.now)
+    ensures { IsPostAt node port (history_of lines.now)
         (begun_to p (view port (of node (history_of lines.now)))) result }
 {
     send_to(lines, node, port, p, false)
@@ -98,7 +98,7 @@ pub fn begun_to(lines: &[HistoryLine], node: u32, port: Port, p: PeerId) -> Opti
 /// The number of the datagram with which the open send of a node's port to a peer began, if one is open.
 pub fn open_to(lines: &[HistoryLine], node: u32, port: Port, p: PeerId) -> Option<u64>
     requires told { Told lines.now }
-    ensures { IsPlaceOf node port (history_of lines.now)
+    ensures { IsPostAt node port (history_of lines.now)
         (open_to p (view port (of node (history_of lines.now)))) result }
 {
     send_to(lines, node, port, p, true)

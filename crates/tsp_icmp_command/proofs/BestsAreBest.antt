@@ -4,7 +4,7 @@ use Rattle.std.specs.Prelude.{if◌then◌else◌, not, ◌&&◌}
 use Rattle.std.specs.List.{All, filter, fold}
 use Rattle.std.specs.Cmp.Lexicographic.{same_text}
 use Rattle.std.proofs.lemmas.List.Elements.{All-nil, All-cons, All-head, All-tail, All-filter, filter_passes}
-use Rattle.tsp_icmp_command.specs.Bests.{BestValue, is_same_clock, better, bests, IsBestOf}
+use Rattle.tsp_icmp_command.specs.Bests.{BestValue, is_same_clock, better, bests, IsBestDifference}
 use Rattle.tsp_icmp_command.proofs.BestLemmas.{equal, name-better, name-fold}
 
 abbrev Greater : BestValue → BestValue → Type 0
@@ -19,7 +19,7 @@ least-head x r xs [] later e first same = let h : x ≡ r = cc in omega (arith, 
 least-head x r xs (y ∷ ys) later e first same = let h : x ≡ y = cc in let g = All-head (Greater r) y ys first (rw h at same) in omega (arith, ap (λ (b : BestValue). b.trip) h, g)
 
 -- a difference of greater trip in front
-in_front : (m r : BestValue) (ms : List BestValue) → IsBestOf ms r → Greater r m → IsBestOf (m ∷ ms) r
+in_front : (m r : BestValue) (ms : List BestValue) → IsBestDifference ms r → Greater r m → IsBestDifference (m ∷ ms) r
 in_front m r ms h g = record {
   earlier = m ∷ h.earlier;
   later = h.later;
@@ -30,7 +30,7 @@ in_front m r ms h g = record {
 
 -- a difference of no lesser trip behind the first
 behind_first : (m x r : BestValue) (xs earlier later : List BestValue) → m ∷ xs ≡ earlier ++ r ∷ later → All (Greater r) earlier → All (AtLeast r) later → is_same_clock r m ≡ true
-    → (is_same_clock r x ≡ true → m.trip ≤ x.trip) → IsBestOf (m ∷ x ∷ xs) r
+    → (is_same_clock r x ≡ true → m.trip ≤ x.trip) → IsBestDifference (m ∷ x ∷ xs) r
 behind_first m x r xs [] later e first least same h =
     let p : m ≡ r = cc in
     let q : xs ≡ later = cc in
@@ -55,7 +55,7 @@ behind_first m x r xs (y ∷ ys) later e first least same h =
     }
 
 -- a later difference takes the place of the earlier one, or not
-step : (s t : Bool) (m x r : BestValue) (xs : List BestValue) → is_same_clock m x ≡ s → nat_lt x.trip m.trip ≡ t → r.name ≡ m.name → IsBestOf ((if s && t then x else m) ∷ xs) r → IsBestOf (m ∷ x ∷ xs) r
+step : (s t : Bool) (m x r : BestValue) (xs : List BestValue) → is_same_clock m x ≡ s → nat_lt x.trip m.trip ≡ t → r.name ≡ m.name → IsBestDifference ((if s && t then x else m) ∷ xs) r → IsBestDifference (m ∷ x ∷ xs) r
 step true true m x r xs es et n h =
     let named : r.name ≡ x.name = n ∙ same_text m.name x.name (sym es) in
     let k = least-head x r xs h.earlier h.later h.whole h.first (equal r.name x.name named) in
@@ -69,21 +69,21 @@ step false t m x r xs es et n h =
       differ : (b : Bool) → b ≡ true → b ≡ false → ⊥
       differ b p q = cc
 
-fold-is_best : (m : BestValue) (ms : List BestValue) → IsBestOf (m ∷ ms) (fold better m ms)
+fold-is_best : (m : BestValue) (ms : List BestValue) → IsBestDifference (m ∷ ms) (fold better m ms)
 fold-is_best m [] = record { earlier = []; later = []; whole = refl; first = All-nil (Greater m); least = All-nil (AtLeast m) }
 fold-is_best m (x ∷ xs) = step (is_same_clock m x) (nat_lt x.trip m.trip) m x (fold better (better m x) xs) xs refl refl (name-fold (better m x) xs ∙ name-better m x) (fold-is_best (better m x) xs)
 
 -- another clock's best stays so
-of_other : (m b : BestValue) (ms : List BestValue) → IsBestOf ms b → not (is_same_clock m b) ≡ true → IsBestOf (m ∷ ms) b
+of_other : (m b : BestValue) (ms : List BestValue) → IsBestDifference ms b → not (is_same_clock m b) ≡ true → IsBestDifference (m ∷ ms) b
 of_other m b ms h o = in_front m b ms h (λ s. absurd (no (is_same_clock m b) (equal m.name b.name (sym (same_text b.name m.name (sym s)))) o)) where
   no : (t : Bool) → t ≡ true → not t ≡ true → ⊥
   no true p q = cc
   no false p q = cc
 
-pub bests-are_best : (ms : List BestValue) → All (IsBestOf ms) (bests ms)
-bests-are_best [] = All-nil (IsBestOf [])
+pub bests-are_best : (ms : List BestValue) → All (IsBestDifference ms) (bests ms)
+bests-are_best [] = All-nil (IsBestDifference [])
 bests-are_best (m ∷ ms) =
     let p = λ (b : BestValue). not (is_same_clock m b) in
-    let known = All-filter p (IsBestOf ms) (bests ms) (bests-are_best ms) in
+    let known = All-filter p (IsBestDifference ms) (bests ms) (bests-are_best ms) in
     let others = filter_passes p (bests ms) in
-    All-cons (IsBestOf (m ∷ ms)) (fold better m ms) (filter p (bests ms)) (fold-is_best m ms) (λ k d h. of_other m _ ms (known k d h) (others k d h))
+    All-cons (IsBestDifference (m ∷ ms)) (fold better m ms) (filter p (bests ms)) (fold-is_best m ms) (λ k d h. of_other m _ ms (known k d h) (others k d h))

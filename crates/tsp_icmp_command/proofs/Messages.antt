@@ -7,7 +7,7 @@ use Rattle.hex.proofs.HexLemmas.{decode_of-ok, decode_of-same}
 use Rattle.tsp_icmp.specs.declared.timestamp.Timestamp.{Timestamp}
 use Rattle.tsp_icmp.specs.declared.timestamp.IcmpFault.{IcmpFault}
 use Rattle.tsp_icmp.proofs.Octets.{icmp_octets-injective, icmp_octets-no_fault, IsFault-one}
-use Rattle.tsp_icmp_command.specs.Records.{Says, SaysInHex}
+use Rattle.tsp_icmp_command.specs.Records.{SaysRecord, SaysInHex}
 use Rattle.tsp_script.proofs.Outcomes.{true_or_false}
 
 -- a word of hexadecimal has no space
@@ -20,7 +20,7 @@ pub no_space-message : (word : List ℕ) (message : Result Timestamp IcmpFault) 
 no_space-message word message s = no_space-hex word s.0 s.2
 
 -- octets are one thing
-Says-one : (octets : List ℕ) (a b : Result Timestamp IcmpFault) → Says octets a → Says octets b → a ≡ b
+Says-one : (octets : List ℕ) (a b : Result Timestamp IcmpFault) → SaysRecord octets a → SaysRecord octets b → a ≡ b
 Says-one octets (Ok t) (Ok u) p q = ap Ok (icmp_octets-injective t u p.0 q.0 (sym p.1 ∙ q.1))
 Says-one octets (Ok t) (Err f) p q = absurd (icmp_octets-no_fault t f (rw p.1 at q))
 Says-one octets (Err f) (Ok t) p q = absurd (icmp_octets-no_fault t f (rw q.1 at p))

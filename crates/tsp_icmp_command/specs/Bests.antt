@@ -32,7 +32,7 @@ bests [] = []
 bests (first ∷ later) = fold better first later ∷ filter (λ b. not (is_same_clock first b)) (bests later)
 
 -- the clock's earlier differences took a longer round trip, and its later ones one at least as long
-pub record IsBestOf (all : List BestValue) (b : BestValue) : Type 0 where
+pub record IsBestDifference (all : List BestValue) (b : BestValue) : Type 0 where
   pub earlier : List BestValue
   pub later : List BestValue
   pub whole : all ≡ earlier ++ b ∷ later

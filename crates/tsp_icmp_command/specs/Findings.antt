@@ -29,11 +29,11 @@ finding_of e =
     else apart_or_late (difference_of e.request.originate e.reply.receive e.arrival) (unsigned_abs (trip_of e.request.originate e.arrival)))
 
 -- a difference is at most three quarters of a day, ahead or behind
-abbrev pub IsNear : Finding → Type 0
-IsNear (Apart a) = IsAtMost (pos 64800000) a.diff
-IsNear Unlike = Unit {0}
-IsNear NoTime = Unit {0}
-IsNear Late = Unit {0}
+abbrev pub IsNearDay : Finding → Type 0
+IsNearDay (Apart a) = IsAtMost (pos 64800000) a.diff
+IsNearDay Unlike = Unit {0}
+IsNearDay NoTime = Unit {0}
+IsNearDay Late = Unit {0}
 
 -- the words of a finding
 abbrev pub finding_text : Finding → List ℕ

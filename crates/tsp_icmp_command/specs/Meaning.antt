@@ -13,8 +13,8 @@ abbrev pub exchange_line : Exchange → List ℕ
 exchange_line e = line_of e.name (finding_of e)
 
 -- the tally stands for these lines: it is the one after them
-abbrev pub Stands : TallyValue → List (List ℕ) → Type 0
-Stands t lines = (exchanges : List Exchange) × AllZip IsExchange lines exchanges × (t.bests ≡ bests (differences exchanges)) × (t.left ≡ 1000 - length lines)
+abbrev pub TallyStands : TallyValue → List (List ℕ) → Type 0
+TallyStands t lines = (exchanges : List Exchange) × AllZip IsExchange lines exchanges × (t.bests ≡ bests (differences exchanges)) × (t.left ≡ 1000 - length lines)
 
 -- what lines mean: each is an exchange, of which there are at most 1,000, and gives a line; the end gives the group and its corrections
 abbrev pub averaging : Meaning

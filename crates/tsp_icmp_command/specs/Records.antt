@@ -12,13 +12,13 @@ use Rattle.tsp_icmp_command.specs.declared.record.Record.{Record}
 use Rattle.tsp_icmp_command.specs.declared.exchange.Exchange.{Exchange}
 
 -- octets are this Timestamp message, or have this first fault
-abbrev pub Says : List ℕ → Result Timestamp IcmpFault → Type 0
-Says octets (Ok t) = IsTimestamp t × (octets ≡ icmp_octets t)
-Says octets (Err fault) = IsFault octets fault
+abbrev pub SaysRecord : List ℕ → Result Timestamp IcmpFault → Type 0
+SaysRecord octets (Ok t) = IsTimestamp t × (octets ≡ icmp_octets t)
+SaysRecord octets (Err fault) = IsFault octets fault
 
 -- a word is at least one octet in hexadecimal, with letters in either case, and the octets are this message or have this fault
 abbrev pub SaysInHex : List ℕ → Result Timestamp IcmpFault → Type 0
-SaysInHex word message = (octets : List ℕ) × (0 < length octets) × (decode_of word ≡ Ok octets) × Says octets message
+SaysInHex word message = (octets : List ℕ) × (0 < length octets) × (decode_of word ≡ Ok octets) × SaysRecord octets message
 
 -- a line's four words: a name, two words of hexadecimal, and a time of the day in milliseconds
 pub record IsRecord (line : List ℕ) (r : Record) : Type 0 where

@@ -1,6 +1,6 @@
 //! The averaging of exchanges as a treatment of lines.
 ghost use Rattle.std.specs.Prelude.{◌≡◌};
-ghost use Rattle.tsp_icmp_command.specs.Findings.{IsNear};
+ghost use Rattle.tsp_icmp_command.specs.Findings.{IsNearDay};
 ghost use Rattle.tsp_icmp_command.specs.Bests.{difference_in};
 
 use crate::best::Best;
@@ -39,7 +39,7 @@ impl Averaging {
 
 /// The difference that a finding gives, if it gives one.
 fn difference_in(name: Name, finding: Finding) -> Option<Best>
-    requires { IsNear finding }
+    requires { IsNearDay finding }
     ensures { result ≡ difference_in name finding }
 {
     match finding {
@@ -91,11 +91,11 @@ impl Averaging {
 }
 
 impl Treatment for Averaging {
-    ghost use Rattle.tsp_icmp_command.specs.Meaning.{averaging, Stands};
+    ghost use Rattle.tsp_icmp_command.specs.Meaning.{averaging, TallyStands};
 
     ghost meaning = { averaging };
 
-    ghost stands = { λ a lines. Stands a.tally lines };
+    ghost stands = { λ a lines. TallyStands a.tally lines };
 
     fn is_full(&self) -> bool {
         self.tally.is_full()

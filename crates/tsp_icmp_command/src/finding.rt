@@ -2,7 +2,7 @@
 ghost use Rattle.std.specs.Prelude.{◌≡◌, ◌≤◌, ◌<◌, ◌+◌, ◌++◌};
 ghost use Rattle.arrayvec.specs.ArrayVec.{array_vec_len};
 ghost use Rattle.tsp_lines.specs.Lines.{close};
-ghost use Rattle.tsp_icmp_command.specs.Findings.{is_answer, finding_of, IsNear, finding_text, line_of};
+ghost use Rattle.tsp_icmp_command.specs.Findings.{is_answer, finding_of, IsNearDay, finding_text, line_of};
 
 use crate::apart::Apart;
 use crate::exchange::Exchange;
@@ -35,7 +35,7 @@ fn is_answer(request: &Timestamp, reply: &Timestamp) -> bool
 pub(crate) fn finding_of(exchange: &Exchange) -> Finding
     requires { exchange.now.arrival < 86400000 }
     ensures value { result ≡ finding_of exchange.now }
-    ensures near { IsNear result }
+    ensures near { IsNearDay result }
 {
     let (originate, receive) = (exchange.request.originate, exchange.reply.receive);
     if !is_answer(&exchange.request, &exchange.reply) {

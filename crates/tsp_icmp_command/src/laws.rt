@@ -2,7 +2,7 @@
 ghost use Rattle.std.specs.Prelude.{◌≡◌, ℕ, List};
 ghost use Rattle.std.specs.List.{All};
 ghost use Rattle.tsp_lines.specs.Definite.{IsDefinite};
-ghost use Rattle.tsp_icmp_command.specs.Bests.{BestValue, IsBestOf, bests};
+ghost use Rattle.tsp_icmp_command.specs.Bests.{BestValue, IsBestDifference, bests};
 ghost use Rattle.tsp_icmp_command.specs.Meaning.{averaging};
 ghost use Rattle.tsp_icmp_command.specs.Records.{IsExchange, RefusesRecord};
 ghost use Rattle.tsp_icmp_command.specs.declared.exchange.Exchange.{Exchange};
@@ -25,5 +25,5 @@ pub fn definite_averaging()
 
 /// Each clock counts in the group by its difference with the shortest round trip, the first of them.
 pub fn first_of_least_trip()
-    ensures { (differences : List BestValue) → All (IsBestOf differences) (bests differences) }
+    ensures { (differences : List BestValue) → All (IsBestDifference differences) (bests differences) }
 {}

@@ -16,9 +16,9 @@ pub record IsFirst (peers : List Addr) (addr : Addr) (number : ℕ) : Type 0 whe
 
 -- who has this address among the peers with these: the peer with the lowest number that does, or a stranger where none
 -- does
-abbrev pub IsPlaceOf : List Addr → Addr → Place → Type 0
-IsPlaceOf peers addr (Peer p) = IsFirst peers addr p.0
-IsPlaceOf peers addr Stranger = ¬ Contains peers addr
+abbrev pub IsAddressPlace : List Addr → Addr → Place → Type 0
+IsAddressPlace peers addr (Peer p) = IsFirst peers addr p.0
+IsAddressPlace peers addr Stranger = ¬ Contains peers addr
 
 -- an address of the standard library's; None if it isn't an IPv4 one
 abbrev pub addr_of : SocketAddr → Option Addr
@@ -27,7 +27,7 @@ addr_of (V6 a) = None
 
 -- whose a datagram is that comes from this address: one from no IPv4 address is a stranger's
 abbrev pub ComesFrom : List Addr → Option Addr → Place → Type 0
-ComesFrom peers from place = MatchOption from (place ≡ Stranger) (λ addr. IsPlaceOf peers addr place)
+ComesFrom peers from place = MatchOption from (place ≡ Stranger) (λ addr. IsAddressPlace peers addr place)
 
 -- where a datagram goes: to the peer's own address, if there is such a peer, or to that of the last that came
 abbrev pub addr_at : List Addr → Option Addr → Place → Option Addr

@@ -43,30 +43,30 @@ TakesNothing (Some (a ∷ after)) rest = (a ≡ None) × (rest ≡ Some after)
 
 -- what a receive answers, and what it makes of the arrivals and of whether the last datagram was a stranger's. A
 -- receive that fails takes nothing
-abbrev pub Receives : Option (List Arrival) → Option (List Arrival) → Bool → Bool → Recv → List ℕ → Type 0
-Receives left rest stranger now_stranger (Datagram from count) buf = (count ≤ 512) × TakesDatagram left rest from (take count buf) × (now_stranger ≡ is_stranger from)
-Receives left rest stranger now_stranger Nothing buf = TakesNothing left rest × (now_stranger ≡ stranger)
-Receives left rest stranger now_stranger Failed buf = (rest ≡ left) × (now_stranger ≡ stranger)
+abbrev pub ReceivesOne : Option (List Arrival) → Option (List Arrival) → Bool → Bool → Recv → List ℕ → Type 0
+ReceivesOne left rest stranger now_stranger (Datagram from count) buf = (count ≤ 512) × TakesDatagram left rest from (take count buf) × (now_stranger ≡ is_stranger from)
+ReceivesOne left rest stranger now_stranger Nothing buf = TakesNothing left rest × (now_stranger ≡ stranger)
+ReceivesOne left rest stranger now_stranger Failed buf = (rest ≡ left) × (now_stranger ≡ stranger)
 
 -- one send more was tried. If the sends weren't told, they aren't told afterwards either
-abbrev pub Adds : Option (List Tried) → Option (List Tried) → Tried → Type 0
-Adds tried more t = more ≡ option_map (λ ts. ts ++ t ∷ []) tried
+abbrev pub AddsSend : Option (List Tried) → Option (List Tried) → Tried → Type 0
+AddsSend tried more t = more ≡ option_map (λ ts. ts ++ t ∷ []) tried
 
 -- what a send does to the list of tried sends: a datagram that was lost was tried, one for which there was no memory
 -- wasn't
 abbrev pub Sends : Option (List Tried) → Option (List Tried) → Sent → Tried → Type 0
-Sends tried more Went t = Adds tried more t
-Sends tried more Lost t = Adds tried more t
+Sends tried more Went t = AddsSend tried more t
+Sends tried more Lost t = AddsSend tried more t
 Sends tried more OutOfMemory t = more ≡ tried
 
 -- one call more is noted. Calls that weren't told aren't told afterwards either; those that were told aren't any more
 -- if there was no memory to note this one
-abbrev pub Notes : {A : Type 0} → Option (List A) → Option (List A) → A → Type 0
-Notes noted None x = Unit {0}
-Notes None (Some now) x = ⊥
-Notes (Some before) (Some now) x = now ≡ before ++ x ∷ []
+abbrev pub NotesReceive : {A : Type 0} → Option (List A) → Option (List A) → A → Type 0
+NotesReceive noted None x = Unit {0}
+NotesReceive None (Some now) x = ⊥
+NotesReceive (Some before) (Some now) x = now ≡ before ++ x ∷ []
 
 -- a bind that succeeds is noted; after any other answer what was noted is unchanged
 abbrev pub NotesBind : Option (List Binding) → Option (List Binding) → Bound → Binding → Type 0
-NotesBind noted now Made b = Notes noted now b
+NotesBind noted now Made b = NotesReceive noted now b
 NotesBind noted now _ b = now ≡ noted

@@ -1,7 +1,7 @@
 //! Who has which address.
 ghost use Rattle.std.specs.Prelude.{◌≡◌, [], ◌∷◌, ◌++◌, length, List, slice_get, IfOk, OnOk, nat_eq};
 ghost use Rattle.std.specs.HashMap.{get};
-ghost use Rattle.tsp_io.specs.Directories.{AreNumbers, FitsKey, IsPlaceOf, key_of};
+ghost use Rattle.tsp_io.specs.Directories.{AreNumbers, FitsKey, IsAddressPlace, key_of};
 ghost use Rattle.tsp_io.specs.declared.addr.Addr.{Addr};
 
 use crate::addr::Addr;
@@ -54,7 +54,7 @@ impl Directory {
 
     /// Who has this address: the peer with the lowest number that does, or else a stranger.
     pub(crate) fn place_of(&self, addr: Addr) -> Place
-        ensures { IsPlaceOf self.now addr result }
+        ensures { IsAddressPlace self.now addr result }
     {
         match self.numbers.get(&key_of(addr)) {
             Some(number) => Place::Peer(PeerId(*number)),

@@ -2,7 +2,7 @@
 ghost use Rattle.std.specs.Prelude.{◌≡◌, ◌≢◌, ℕ, ◌≤◌, true, length, List, Bool, Option};
 ghost use Rattle.std.specs.Option.{option_map};
 ghost use Rattle.tsp_io.specs.Counts.{Rose, one_more};
-ghost use Rattle.tsp_io.specs.Links.{Arrival, Binding, Tried, Notes, NotesBind, Receives, Sends};
+ghost use Rattle.tsp_io.specs.Links.{Arrival, Binding, Tried, NotesReceive, NotesBind, ReceivesOne, Sends};
 
 use crate::addr::Addr;
 use tsp_base::place::Place;
@@ -92,9 +92,9 @@ pub trait Link {
     /// unchanged.
     fn recv(&mut self, buf: &mut [u8], wait: u64) -> Recv
         requires { length buf.old ≡ 512 }
-        ensures receives { Receives (arrivals self.old) (arrivals self.new) (stranger self.old)
+        ensures receives { ReceivesOne (arrivals self.old) (arrivals self.new) (stranger self.old)
             (stranger self.new) result buf.new }
-        ensures waits { Notes (waits self.old) (waits self.new) wait }
+        ensures waits { NotesReceive (waits self.old) (waits self.new) wait }
         ensures same { (tried self.new ≡ tried self.old) × (binds self.new ≡ binds self.old) }
         ensures counted { calls self.new ≡ option_map one_more (calls self.old) }
         ensures later { (faults self.old ≤ faults self.new)

@@ -4,7 +4,7 @@ ghost use Rattle.std.specs.Prelude.{length, drop, None, Some, false, IfOk, IsTru
 ghost use Rattle.std.specs.Prelude.{vec_len, min, take};
 ghost use Rattle.tsp_io.specs.Counts.{Rose};
 ghost use Rattle.tsp_io.specs.FailingCalls.{FailsNext, CountsCall};
-ghost use Rattle.tsp_io.specs.Streams.{Reads, Writes};
+ghost use Rattle.tsp_io.specs.Streams.{ReadsSome, Writes};
 
 use crate::failing::Failing;
 use crate::sink::{Sink, Wrote};
@@ -78,7 +78,7 @@ impl Source for MemorySource {
 
     fn read(&mut self, buf: &mut [u8]) -> Got
         requires { 0 < length buf.old }
-        ensures reads { Reads (Some (drop self.old.at self.old.octets.items))
+        ensures reads { ReadsSome (Some (drop self.old.at self.old.octets.items))
             (Some (drop self.new.at self.new.octets.items)) self.old.ended self.new.ended result
             buf.new }
         ensures later { self.old.faults ≤ self.new.faults }

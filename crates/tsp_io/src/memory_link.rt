@@ -4,7 +4,7 @@ ghost use Rattle.std.specs.Prelude.{IfOk, MatchResult, false, true, slice_get};
 ghost use Rattle.std.specs.Option.{option_map};
 ghost use Rattle.tsp_io.specs.Counts.{Rose, one_more};
 ghost use Rattle.tsp_io.specs.FailingCalls.{FailsNext, CountsCall};
-ghost use Rattle.tsp_io.specs.Links.{is_stranger, Notes, NotesBind, Receives, Sends};
+ghost use Rattle.tsp_io.specs.Links.{is_stranger, NotesReceive, NotesBind, ReceivesOne, Sends};
 
 use crate::addr::Addr;
 use crate::arrivals::{Arrivals, Coming};
@@ -149,9 +149,9 @@ impl Link for MemoryLink {
 
     fn recv(&mut self, buf: &mut [u8], wait: u64) -> Recv
         requires { length buf.old ≡ 512 }
-        ensures receives { Receives (Some self.old.arrivals) (Some self.new.arrivals)
+        ensures receives { ReceivesOne (Some self.old.arrivals) (Some self.new.arrivals)
             self.old.stranger self.new.stranger result buf.new }
-        ensures waits { Notes self.old.waits self.new.waits wait }
+        ensures waits { NotesReceive self.old.waits self.new.waits wait }
         ensures same { (self.new.tried ≡ self.old.tried) × (self.new.binds ≡ self.old.binds) }
         ensures counted { (self.new.calls ≡ one_more self.old.calls)
             × CountsCall self.old.failing self.new.failing }

@@ -1,7 +1,7 @@
 //! What a link in memory notes of its binds and receives.
 ghost use Rattle.std.specs.Prelude.{◌≡◌, ℕ, List, [], Option, Some, map};
 ghost use Rattle.std.specs.Option.{option_map};
-ghost use Rattle.tsp_io.specs.Links.{Binding, Notes};
+ghost use Rattle.tsp_io.specs.Links.{Binding, NotesReceive};
 ghost use Rattle.tsp_io.specs.MemoryLinks.{binding_of};
 
 use crate::addr::Addr;
@@ -33,7 +33,7 @@ impl NotedWaits {
 
     /// Adds a receive that was to wait so long.
     pub(crate) fn note(&mut self, wait: u64)
-        ensures { Notes self.old self.new wait }
+        ensures { NotesReceive self.old self.new wait }
     {
         if let Some(waits) = &mut self.waits {
             if waits.push(wait).is_err() {
@@ -88,7 +88,7 @@ impl NotedBinds {
 
     /// Adds a bind.
     pub(crate) fn note(&mut self, local: Addr, peers: &[Addr])
-        ensures { Notes self.old self.new (record { local = local; peers = peers.now }) }
+        ensures { NotesReceive self.old self.new (record { local = local; peers = peers.now }) }
     {
         let Ok(peers) = Vec::from_slice(self.alloc, peers) else {
             self.binds = None;

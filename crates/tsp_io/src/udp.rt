@@ -1,7 +1,7 @@
 //! A link over a UDP socket.
 ghost use Rattle.std.specs.Prelude.{◌≡◌, ◌≢◌, ◌≤◌, false, true, [], length, None};
 ghost use Rattle.tsp_io.specs.Counts.{Rose};
-ghost use Rattle.tsp_io.specs.Links.{is_stranger, NotesBind, Receives, Sends};
+ghost use Rattle.tsp_io.specs.Links.{is_stranger, NotesBind, ReceivesOne, Sends};
 ghost use Rattle.tsp_io.specs.Directories.{addr_at, ComesFrom};
 ghost use Rattle.tsp_io.specs.UdpLinks.{binds_of, discarded_by, GoesTo, IsAwaited, IsBoundTo, TakesFrom};
 
@@ -150,7 +150,7 @@ impl<R: Net + Clock> Link for UdpLink<R> {
     #[inline(always)]
     fn recv(&mut self, buf: &mut [u8], wait: u64) -> Recv
         requires { length buf.old ≡ 512 }
-        ensures receives { Receives None None self.old.stranger self.new.stranger result buf.new }
+        ensures receives { ReceivesOne None None self.old.stranger self.new.stranger result buf.new }
         ensures same { binds_of self.new.again self.new.socket self.new.directory
             ≡ binds_of self.old.again self.old.socket self.old.directory }
         ensures later { (self.old.faults ≤ self.new.faults)

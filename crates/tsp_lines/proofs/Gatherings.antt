@@ -2,7 +2,7 @@
 use Rattle.std.proofs.Common.{◌≡◌, ℕ, ◌<◌, ◌≤◌, ◌+◌, refl, None, Some, Err, inl, inr, List, [], ◌++◌, sym, ap, ◌∙◌, append-nil, subst, length, length-append, arith}
 use Rattle.std.specs.Prelude.{Bool, false}
 use Rattle.std.specs.declared.option.Option.{Option}
-use Rattle.tsp_io.specs.Streams.{Gives, IsEndWhere, Reads}
+use Rattle.tsp_io.specs.Streams.{Gives, IsEndWhere, ReadsSome}
 use Rattle.tsp_io.specs.declared.source.Got.TheVariants.{Got as Gave}
 use Rattle.tsp_lines.specs.Lines.{IsOver}
 use Rattle.tsp_lines.specs.Gatherings.{Adds, Gathers, ReadsWhole}
@@ -17,7 +17,7 @@ over_behind left None g h = tt
 over_behind None (Some x) g h = absurd (cc)
 over_behind (Some xs) (Some x) g h = let same : xs ≡ x = cc in sym same ∙ h.0 refl
 
-pub Adds-end : (most : ℕ) (left rest : Option (List ℕ)) (was ended : Bool) (count : ℕ) (buf octets : List ℕ) → Reads left rest was ended (Gave count) buf → count ≡ 0 → Adds most left rest ended octets octets End
+pub Adds-end : (most : ℕ) (left rest : Option (List ℕ)) (was ended : Bool) (count : ℕ) (buf octets : List ℕ) → ReadsSome left rest was ended (Gave count) buf → count ≡ 0 → Adds most left rest ended octets octets End
 Adds-end most left rest was ended count buf octets r e = let q = rw e at r in (q.3, over_behind left rest q.1 q.2, q.1, refl)
 
 -- the input's end was met

@@ -1,8 +1,7 @@
 -- What a node does with a LOOP, by the rules.
 use Rattle.std.specs.Prelude.{ℕ, nat_le, nat_lt, Bool, ◌&&◌, if◌then◌else◌}
-use Rattle.tsp_base.specs.declared.constants.TheConstants.{HOPS}
-use Rattle.tsp_base.specs.declared.place.Port.{Port}
-use Rattle.tsp_base.specs.Messages.{MessageValue}
+use Rattle.tsp_rules.specs.Values.{Port, HOPS}
+use Rattle.tsp_base.specs.Words.{MessageValue}
 use Rattle.tsp_rules.specs.GateRows.{LoopStep, PassOver, GiveUp, Forward, hops_in}
 use Rattle.tsp_loop.specs.declared.step.LoopStep.{LoopStep as Step}
 use Rattle.tsp_loop.specs.declared.step.LoopStep.TheVariants.{PassOver as Passes, GiveUp as Gives, Forward as Forwards}

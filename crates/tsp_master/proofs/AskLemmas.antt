@@ -3,28 +3,14 @@ use Rattle.std.proofs.Common.{◌≡◌, ℕ, suc, ◌+◌, ◌%◌, ◌^◌, �
 use Rattle.std.specs.List.{filter}
 use Rattle.std.proofs.Math.Seq.{take-suc}
 use Rattle.std.proofs.lemmas.List.{get_or_default}
-use Rattle.tsp_base.specs.declared.act.Act.{Act}
-use Rattle.tsp_base.specs.declared.act.Act.TheVariants.{Post}
-use Rattle.tsp_base.specs.declared.act.Placed.{Placed}
-use Rattle.tsp_base.specs.declared.datagram.Datagram.TheVariants.{Stamp}
-use Rattle.tsp_base.specs.declared.place.PeerId.{PeerId}
-use Rattle.tsp_base.specs.declared.place.Place.TheVariants.{Peer}
-use Rattle.tsp_base.specs.declared.place.Port.{Port}
-use Rattle.tsp_base.specs.declared.stamp.Stamp.TheVariants.{Request}
-use Rattle.tsp_base.specs.History.{Past, Seen, plain}
-use Rattle.tsp_base.specs.NodeFacts.{target, word}
-use Rattle.tsp_base.specs.Performs.{Performs}
-use Rattle.tsp_base.specs.PortFacts.{in_table}
-use Rattle.tsp_base.specs.RoundFacts.{asked, is_measured, is_starting}
-use Rattle.tsp_base.specs.Rows.{grown, placed}
-use Rattle.tsp_base.specs.SendFacts.{is_acknowledged, last_number, last_post}
+use Rattle.tsp_rules.specs.Values.{Act, Post, Placed, Stamp, PeerId, Peer, Port, Request}
+use Rattle.tsp_base.specs.Words.{Past, Seen, plain, target, word, Performs, in_table, asked, is_measured, is_starting, grown, placed, is_acknowledged, last_number, last_post, IsAscending}
 use Rattle.tsp_base.proofs.SendLemmas.{seen_act}
 use Rattle.tsp_rules.specs.RoundRows.{asks, measured_at}
 use Rattle.tsp_rules.specs.Guards.{table_at}
 use Rattle.tsp_acks.specs.declared.station.Station.{Station}
-use Rattle.tsp_base.specs.Peers.{IsAscending}
 use Rattle.tsp_base.proofs.AscendingLemmas.{Rise-peers}
-use Rattle.tsp_acks.specs.Stands.{Stands}
+use Rattle.tsp_acks.specs.Stands.{StationStands}
 use Rattle.tsp_acks.proofs.StandsLemmas.{Stands_stamp}
 use Rattle.tsp_clock.specs.Clocks.{ClockValue, target_of}
 use Rattle.tsp_clock.specs.ClockStands.{ClockStands}
@@ -62,12 +48,12 @@ filter-same test other same [] = refl
 filter-same test other same (p ∷ ps) = ap (λ b. cond b (p ∷ filter test ps) (filter test ps)) (same p) ∙ ap (λ qs. cond (other p) (p ∷ qs) qs) (filter-same test other same ps)
 
 -- what a post of a request is, as the station and the master have it
-asks-is : (p : PeerId) (x : ℕ) (past : Past) (m : Master) (st : Station) → Stands past st → MasterStands past m → asks p x past ≡ Post (Peer p) (Stamp (Request st.me.word m.rounds.asked)) ∷ []
+asks-is : (p : PeerId) (x : ℕ) (past : Past) (m : Master) (st : Station) → StationStands past st → MasterStands past m → asks p x past ≡ Post (Peer p) (Stamp (Request st.me.word m.rounds.asked)) ∷ []
 unfolding asks
 asks-is p x past m st s h = ap (λ w. Post (Peer p) (Stamp (Request w (asked past.seen % 2 ^ 64))) ∷ []) (sym s.word) ∙ ap (λ k. Post (Peer p) (Stamp (Request st.me.word k)) ∷ []) (sym h.asked_is)
 
 -- the request that was begun, as the past has its word and the target
-starts-is : (p : PeerId) (x : ℕ) (past : Past) (st : Station) (clock : ClockValue) (old new : RoundsValue) → Stands past st → ClockStands past clock → Starts p st.me.word (target_of clock x) old new → Starts p (word (plain past.seen)) (target (plain past.seen) x) old new
+starts-is : (p : PeerId) (x : ℕ) (past : Past) (st : Station) (clock : ClockValue) (old new : RoundsValue) → StationStands past st → ClockStands past clock → Starts p st.me.word (target_of clock x) old new → Starts p (word (plain past.seen)) (target (plain past.seen) x) old new
 starts-is p x past st clock old new s k starts =
     subst (λ t. Starts p (word (plain past.seen)) t old new) (sym (target-is x past clock k)) (subst (λ w. Starts p w (target_of clock x) old new) s.word starts)
 

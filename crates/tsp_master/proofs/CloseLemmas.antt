@@ -3,12 +3,8 @@ use Rattle.std.proofs.Common.{◌≡◌, ℕ, ◌+◌, ◌<◌, ◌≤◌, ◌&&
 use Rattle.std.specs.Option.{option_map}
 use Rattle.std.proofs.lemmas.List.{get_or_default, map-append}
 use Rattle.std.proofs.lemmas.Bool.{false≢true, le-leb}
-use Rattle.tsp_base.specs.declared.act.Act.{Act}
-use Rattle.tsp_base.specs.declared.act.Act.TheVariants.{Leave, Correct}
-use Rattle.tsp_base.specs.declared.act.Placed.{Placed}
-use Rattle.tsp_base.specs.declared.place.Port.{Port}
-use Rattle.tsp_base.specs.Performs.{Performs}
-use Rattle.tsp_base.specs.PortFacts.{armed}
+use Rattle.tsp_rules.specs.Values.{Act, Correct, Leave, Placed, PeerId, Port}
+use Rattle.tsp_base.specs.Words.{Performs, armed, Past, either_by, for_each, grown, nothing, puts, ◌followed_by◌, Estimate, Sampled, best, estimate_of, is_going, IsAscending}
 use Rattle.tsp_group.specs.declared.group.Group.{Group}
 use Rattle.tsp_rules.specs.ClockRows.{adjusts, can_adjust, is_step}
 use Rattle.tsp_rules.specs.SendRows.{begins_adjtime, begins_settime}
@@ -20,13 +16,8 @@ use Rattle.tsp_acks.specs.declared.station.Station.{Station}
 use Rattle.tsp_acks.proofs.StandsLemmas.{Stands_idle}
 use Rattle.tsp_clock.specs.Clocks.{ClockValue}
 use Rattle.tsp_clock.specs.ClockStands.{ClockStands}
-use Rattle.tsp_base.specs.declared.place.PeerId.{PeerId}
-use Rattle.tsp_base.specs.History.{Past}
-use Rattle.tsp_base.specs.Rows.{either_by, for_each, grown, nothing, puts, ◌followed_by◌}
-use Rattle.tsp_base.specs.RoundFacts.{Estimate, Sampled, best, estimate_of, is_going}
 use Rattle.tsp_rules.specs.RoundRows.{Standing, abandons, closes_with, corrects, corrects_by, corrects_peer, diff_before, is_correct, mean_by, moves, estimates, is_near, near_diffs, round_at, standing}
 use Rattle.tsp_measure.specs.declared.sample.TimedSample.{TimedSample}
-use Rattle.tsp_base.specs.Peers.{IsAscending}
 use Rattle.tsp_base.proofs.AscendingLemmas.{Rise-peers}
 use Rattle.tsp_measure.specs.declared.entry.Entry.{Entry}
 use Rattle.tsp_measure.specs.Rounds.{RoundsValue, estimate_in, timed_of}

@@ -1,22 +1,14 @@
 -- Calls of a station and of a clock, beside a master.
 use Rattle.std.proofs.Common.{◌≡◌, ℕ, Bool, true, List, [], ◌∷◌, ◌++◌, refl, sym, ◌∙◌, ap}
 use Rattle.std.proofs.lemmas.Bool.{false≢true}
-use Rattle.tsp_base.specs.declared.act.Act.{Act}
-use Rattle.tsp_base.specs.declared.act.Act.TheVariants.{Boot, Correct}
-use Rattle.tsp_base.specs.declared.act.Placed.{Placed}
-use Rattle.tsp_base.specs.declared.alarm.Alarm.{Alarm}
-use Rattle.tsp_base.specs.declared.place.Port.{Port}
-use Rattle.tsp_base.specs.Alarms.{deadline}
-use Rattle.tsp_base.specs.History.{Past}
-use Rattle.tsp_base.specs.Performs.{Performs, Keeps}
-use Rattle.tsp_base.specs.PortFacts.{acting}
+use Rattle.tsp_rules.specs.Values.{Act, Boot, Correct, Placed, Alarm, Port}
+use Rattle.tsp_base.specs.Words.{deadline, Past, Performs, Keeps, acting, Row, grown, puts}
 use Rattle.tsp_base.proofs.SendLemmas.{seen_act}
-use Rattle.tsp_base.specs.Rows.{Row, grown, puts}
 use Rattle.tsp_rules.specs.Guards.{is_in_time, is_met}
 use Rattle.tsp_rules.proofs.Emits.{Sort, Taking, Asking, Correcting, Numbering, Posting, Leading, Following, Changing, Backing, Counting, Rounding, Alarming, Tabling, Rivalling, Acking, Giving, Sampling, Closing, Tracing, is_in, sort_of, Emits, Emits_more, Keeps_by}
 use Rattle.tsp_rules.proofs.EmitsStill.{still_sorts}
 use Rattle.tsp_acks.specs.declared.station.Station.{Station}
-use Rattle.tsp_acks.specs.Stands.{Stands, StandsActing}
+use Rattle.tsp_acks.specs.Stands.{StationStands, StandsActing}
 use Rattle.tsp_acks.proofs.ActingLemmas.{Performs_acting}
 use Rattle.tsp_acks.proofs.StandsLemmas.{Stands_idle, is_idle}
 use Rattle.tsp_clock.specs.Clocks.{ClockValue}
@@ -32,7 +24,7 @@ unfolding puts
 Performs_idle a i {x = x} {station = station} put = Performs_acting (record { acts = λ past s. put; stands = λ past s. Stands_idle a i x past station s })
 
 -- whether an alarm is in time, as the station has it
-pub in_time-is : (alarm : Alarm) (x : ℕ) (past : Past) (st : Station) {b : Bool} → Stands past st → is_met (deadline st.alarms alarm) x ≡ b → is_in_time alarm x past ≡ b
+pub in_time-is : (alarm : Alarm) (x : ℕ) (past : Past) (st : Station) {b : Bool} → StationStands past st → is_met (deadline st.alarms alarm) x ≡ b → is_in_time alarm x past ≡ b
 in_time-is alarm x past st h e = ap (λ d. is_met (deadline d alarm) x) (sym h.alarms) ∙ e
 
 pub ClockStands_still : (a : Act) → is_in (sort_of a) still_sorts ≡ true → Keeps ClockStands (puts a)
@@ -76,7 +68,7 @@ pub Performs_rung : {Q : Past → LeadState → Type 0} (a : Act) {x : ℕ} {por
     is_in (sort_of a) still_sorts ≡ true → ((past : Past) → acting (seen_act past.step x a ∷ past.seen) ≡ true) →
     ((past : Past) → RingStands past (record { master = old; station = before; clock = clock }) → MasterStands (grown x past (a ∷ [])) new) →
     ((past : Past) → RingStands past (record { master = old; station = before; clock = clock }) → LeadStands (grown x past (a ∷ [])) (record { master = new; station = after; clock = clock }) → Q (grown x past (a ∷ [])) (record { master = new; station = after; clock = clock })) →
-    Performs Stands Stands (puts a) x port before after earlier later → Performs RingStands Q (puts a) x port (record { master = old; station = before; clock = clock }) (record { master = new; station = after; clock = clock }) earlier later
+    Performs StationStands StationStands (puts a) x port before after earlier later → Performs RingStands Q (puts a) x port (record { master = old; station = before; clock = clock }) (record { master = new; station = after; clock = clock }) earlier later
 unfolding puts
 Performs_rung a {x = x} old new clock e acts k to d = record {
   acts = λ past h. d.acts past h.station;

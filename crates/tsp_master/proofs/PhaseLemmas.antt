@@ -2,27 +2,19 @@
 use Rattle.std.proofs.Common.{◌≡◌, ℕ, ◌+◌, ◌*◌, ◌<◌, ◌≤◌, nat_lt, true, false, [], ◌∷◌, Option, Some, None, refl, sym, ◌∙◌, ap, arith}
 use Rattle.std.proofs.lemmas.Bool.{false≢true, leb-true}
 use Rattle.std.proofs.lemmas.Bool.Decides.{nat_tests}
-use Rattle.tsp_base.specs.declared.act.Act.{Act}
-use Rattle.tsp_base.specs.declared.act.Act.TheVariants.{Post, Become, Arm, Ring, Late}
-use Rattle.tsp_base.specs.declared.alarm.Alarm.TheVariants.{Probe, Close}
-use Rattle.tsp_base.specs.declared.constants.TheConstants.{CLOSE, PROBE}
-use Rattle.tsp_base.specs.declared.role.Role.TheVariants.{Follow, Master as MasterRole}
-use Rattle.tsp_base.specs.History.{Past}
-use Rattle.tsp_base.specs.Performs.{Keeps}
-use Rattle.tsp_base.specs.PortFacts.{armed}
-use Rattle.tsp_base.specs.RoundFacts.{is_going, is_starting, probes}
-use Rattle.tsp_base.specs.Rows.{arms, grown, puts, ◌followed_by◌}
+use Rattle.tsp_rules.specs.Values.{Act, Post, Become, Arm, Ring, Late, Probe, CloseAlarm, Follow, Master, CLOSE, PROBE}
+use Rattle.tsp_base.specs.Words.{Past, Keeps, armed, is_going, is_starting, probes, arms, grown, puts, ◌followed_by◌}
 use Rattle.tsp_rules.specs.Guards.{is_met, is_over}
 use Rattle.tsp_rules.proofs.Emits.{Posting, is_in, sort_of}
 use Rattle.tsp_measure.specs.Measures.{Measured, best_of}
 use Rattle.tsp_measure.specs.Rounds.{IsNothing, pending_at}
 use Rattle.tsp_measure.specs.Slaves.{ChangesAll, peers_of, unmeasures}
-use Rattle.tsp_master.specs.declared.master.Master.{Master}
+use Rattle.tsp_master.specs.declared.master.Master.{Master as MasterStruct}
 use Rattle.tsp_master.specs.MasterStands.{MasterStands, IsProbing}
 
 -- a round begins
-pub MasterStands_begins_round : (x : ℕ) (past : Past) (old new : Master) → ChangesAll unmeasures old.slaves new.slaves → peers_of new.slaves ≡ peers_of old.slaves → IsNothing new.rounds → new.rounds.asked ≡ old.rounds.asked → new.rounds.probes ≡ 0 → MasterStands past old →
-    MasterStands (grown x past ((arms Probe PROBE followed_by arms Close CLOSE) x past)) new
+pub MasterStands_begins_round : (x : ℕ) (past : Past) (old new : MasterStruct) → ChangesAll unmeasures old.slaves new.slaves → peers_of new.slaves ≡ peers_of old.slaves → IsNothing new.rounds → new.rounds.asked ≡ old.rounds.asked → new.rounds.probes ≡ 0 → MasterStands past old →
+    MasterStands (grown x past ((arms Probe PROBE followed_by arms CloseAlarm CLOSE) x past)) new
 unfolding arms ◌followed_by◌
 MasterStands_begins_round x past old new change ps none asked_is zero h = record {
   peers = ps ∙ h.peers;
@@ -41,7 +33,7 @@ MasterStands_begins_round x past old new change ps none asked_is zero h = record
 }
 
 -- a further probe is put off
-pub MasterStands_arms_probe : (x : ℕ) (past : Past) (m : Master) → is_going past.seen ≡ true → probes past.seen < 3 → ((close : ℕ) → (armed past.seen).close ≡ Some close → x + 8000000 ≤ close + 2000000 * probes past.seen) → MasterStands past m →
+pub MasterStands_arms_probe : (x : ℕ) (past : Past) (m : MasterStruct) → is_going past.seen ≡ true → probes past.seen < 3 → ((close : ℕ) → (armed past.seen).close ≡ Some close → x + 8000000 ≤ close + 2000000 * probes past.seen) → MasterStands past m →
     MasterStands (grown x past (arms Probe PROBE x past)) m
 unfolding arms
 MasterStands_arms_probe x past m goes more early h = record {
@@ -84,33 +76,33 @@ Begins past state = is_starting past.seen ≡ true
 pub goes_posting : (a : Act) → is_in (sort_of a) (Posting ∷ []) ≡ true → Keeps Goes (puts a)
 unfolding puts
 goes_posting (Post to d) e x past s h = h
-goes_posting (Become MasterRole) e x past s h = absurd (false≢true e)
+goes_posting (Become Master) e x past s h = absurd (false≢true e)
 goes_posting (Become (Follow p)) e x past s h = absurd (false≢true e)
 goes_posting (Become _) e x past s h = absurd (false≢true e)
 goes_posting (Arm Probe at) e x past s h = absurd (false≢true e)
-goes_posting (Arm Close at) e x past s h = absurd (false≢true e)
+goes_posting (Arm CloseAlarm at) e x past s h = absurd (false≢true e)
 goes_posting (Arm _ at) e x past s h = absurd (false≢true e)
 goes_posting (Ring Probe) e x past s h = absurd (false≢true e)
-goes_posting (Ring Close) e x past s h = absurd (false≢true e)
+goes_posting (Ring CloseAlarm) e x past s h = absurd (false≢true e)
 goes_posting (Ring _) e x past s h = absurd (false≢true e)
 goes_posting (Late Probe) e x past s h = absurd (false≢true e)
-goes_posting (Late Close) e x past s h = absurd (false≢true e)
+goes_posting (Late CloseAlarm) e x past s h = absurd (false≢true e)
 goes_posting (Late _) e x past s h = absurd (false≢true e)
 goes_posting _ e x past s h = absurd (false≢true e)
 
 pub begins_posting : (a : Act) → is_in (sort_of a) (Posting ∷ []) ≡ true → Keeps Begins (puts a)
 unfolding puts
 begins_posting (Post to d) e x past s h = h
-begins_posting (Become MasterRole) e x past s h = absurd (false≢true e)
+begins_posting (Become Master) e x past s h = absurd (false≢true e)
 begins_posting (Become (Follow p)) e x past s h = absurd (false≢true e)
 begins_posting (Become _) e x past s h = absurd (false≢true e)
 begins_posting (Arm Probe at) e x past s h = absurd (false≢true e)
-begins_posting (Arm Close at) e x past s h = absurd (false≢true e)
+begins_posting (Arm CloseAlarm at) e x past s h = absurd (false≢true e)
 begins_posting (Arm _ at) e x past s h = absurd (false≢true e)
 begins_posting (Ring Probe) e x past s h = absurd (false≢true e)
-begins_posting (Ring Close) e x past s h = absurd (false≢true e)
+begins_posting (Ring CloseAlarm) e x past s h = absurd (false≢true e)
 begins_posting (Ring _) e x past s h = absurd (false≢true e)
 begins_posting (Late Probe) e x past s h = absurd (false≢true e)
-begins_posting (Late Close) e x past s h = absurd (false≢true e)
+begins_posting (Late CloseAlarm) e x past s h = absurd (false≢true e)
 begins_posting (Late _) e x past s h = absurd (false≢true e)
 begins_posting _ e x past s h = absurd (false≢true e)

@@ -3,15 +3,8 @@ use Rattle.std.proofs.Common.{◌≡◌, ℕ, ◌==◌, ◌&&◌, Bool, true, fa
 use Rattle.std.specs.List.{All}
 use Rattle.std.proofs.lemmas.List.Elements.{All-head, All-tail}
 use Rattle.std.proofs.lemmas.Bool.{and_parts}
-use Rattle.tsp_base.specs.declared.act.Act.TheVariants.{Sample as SampleAct}
-use Rattle.tsp_base.specs.declared.act.Placed.{Placed}
-use Rattle.tsp_base.specs.declared.place.PeerId.{PeerId}
-use Rattle.tsp_base.specs.declared.place.Port.{Port}
-use Rattle.tsp_base.specs.History.{Past}
-use Rattle.tsp_base.specs.Performs.{Performs}
-use Rattle.tsp_base.specs.RoundFacts.{is_going}
-use Rattle.tsp_base.specs.Rows.{nothing, puts, reading}
-use Rattle.tsp_base.specs.Stamps.{ReplyValue}
+use Rattle.tsp_rules.specs.Values.{Sample, Placed, PeerId, Port}
+use Rattle.tsp_base.specs.Words.{Past, Performs, is_going, nothing, puts, reading, ReplyValue}
 use Rattle.tsp_base.proofs.PerformsLemmas.{Performs_nothing, Performs_reading, Performs_to}
 use Rattle.tsp_rules.specs.RoundRows.{request_at, sample_of, samples, samples_request}
 use Rattle.tsp_rules.specs.Guards.{target_at}
@@ -19,7 +12,7 @@ use Rattle.tsp_rules.proofs.Emits.{Emits_puts}
 use Rattle.tsp_acks.specs.declared.station.Station.{Station}
 use Rattle.tsp_clock.specs.Clocks.{ClockValue, target_of}
 use Rattle.tsp_measure.specs.declared.exchange.Exchange.{Exchange}
-use Rattle.tsp_measure.specs.declared.sample.Sample.{Sample}
+use Rattle.tsp_measure.specs.declared.sample.Sample.{Sample as SampleStruct}
 use Rattle.tsp_measure.specs.Measures.{IsAnswered, asks}
 use Rattle.tsp_measure.specs.Rounds.{RoundsValue, AreApart, measured_with, pending_at, request_of}
 use Rattle.tsp_measure.proofs.Counters.{asks-counter, pending_at-found}
@@ -52,21 +45,21 @@ Performs_missed p r old new station clock none ss asked_is probes_is same =
     (rw (missed p r (measured_with old.rounds p).pending none)
     (Performs_to (λ past h. record { master = MasterStands_unasked past old new ss asked_is probes_is same h.stands.master; station = h.stands.station; acted = h.stands.acted; clock = h.stands.clock }) (Performs_nothing {p = GoingStands} {state = (record { master = old; station = station; clock = clock })})))
 
-pub Performs_sample : (p : PeerId) (r : ReplyValue) (d : ℤ) (answer : Sample) {x : ℕ} {port : Port} (old new : Master) (station : Station) (clock : ClockValue) {earlier later : List Placed} → d ≡ target_of clock x → AreApart (measured_with old.rounds p).pending →
+pub Performs_sample : (p : PeerId) (r : ReplyValue) (d : ℤ) (answer : SampleStruct) {x : ℕ} {port : Port} (old new : Master) (station : Station) (clock : ClockValue) {earlier later : List Placed} → d ≡ target_of clock x → AreApart (measured_with old.rounds p).pending →
     IsAnswered r.word r.counter r.ticket r.reading d (measured_with old.rounds p) (measured_with new.rounds p) answer → ((q : PeerId) → (q.0 ≡ p.0 → ⊥) → measured_with new.rounds q ≡ measured_with old.rounds q) →
-    new.rounds.asked ≡ old.rounds.asked → new.rounds.probes ≡ old.rounds.probes → new.slaves ≡ old.slaves → later ≡ earlier ++ record { port = port; act = SampleAct p answer.counter answer.diff answer.err answer.ticket } ∷ [] →
+    new.rounds.asked ≡ old.rounds.asked → new.rounds.probes ≡ old.rounds.probes → new.slaves ≡ old.slaves → later ≡ earlier ++ record { port = port; act = Sample p answer.counter answer.diff answer.err answer.ticket } ∷ [] →
     Performs GoingStands LeadStands (samples p r) x port (record { master = old; station = station; clock = clock }) (record { master = new; station = station; clock = clock }) earlier later
 unfolding samples samples_request puts
 Performs_sample p r d answer {x = x} {port = port} old new station clock {earlier = earlier} d_is apart i others asked_is probes_is ss put =
     let was : AreApart (i.before ++ i.exchange ∷ i.after) = rw i.was_pending at apart in
     let found : pending_at r.counter (measured_with old.rounds p).pending ≡ Some (request_of i.exchange) = ap (pending_at r.counter) i.was_pending ∙ ap (λ n. pending_at n (i.before ++ i.exchange ∷ i.after)) (sym (asks-counter r.word r.counter i.exchange i.asked)) ∙ pending_at-found i.before i.exchange i.after was in
     let same : (i.exchange.word == r.word) ≡ true = (and_parts _ _ i.asked).0 in
-    let act_is : SampleAct p answer.counter answer.diff answer.err answer.ticket ≡ sample_of p r i.exchange.a d = ap (λ (t : Sample). SampleAct p t.counter t.diff t.err t.ticket) i.told in
+    let act_is : Sample p answer.counter answer.diff answer.err answer.ticket ≡ sample_of p r i.exchange.a d = ap (λ (t : SampleStruct). Sample p t.counter t.diff t.err t.ticket) i.told in
     Performs_reading (request_at p r.counter) (samples_request p r) (Some (request_of i.exchange)) (λ past h. (h.stands.master.going h.goes).requests p r.counter ∙ found)
     (rw same (Performs_reading target_at (λ t. puts (sample_of p r i.exchange.a t)) d (λ past h. target-is x past clock h.stands.clock ∙ sym d_is)
-    (rw (← act_is) (Performs_lead_by old new clock (Emits_puts (SampleAct p answer.counter answer.diff answer.err answer.ticket) refl) (λ past h. h.stands)
+    (rw (← act_is) (Performs_lead_by old new clock (Emits_puts (Sample p answer.counter answer.diff answer.err answer.ticket) refl) (λ past h. h.stands)
     (λ past h. MasterStands_samples p r.word r.counter r.ticket r.reading d answer x past old new h.goes (d_is ∙ sym (target-is x past clock h.stands.clock)) apart i others asked_is probes_is ss h.stands.master)
-    (λ past h k. k) (Performs_idle (SampleAct p answer.counter answer.diff answer.err answer.ticket) refl put)))))
+    (λ past h k. k) (Performs_idle (Sample p answer.counter answer.diff answer.err answer.ticket) refl put)))))
 
 -- where no round goes on, a reply is passed over
 pub Performs_idle_reply : (p : PeerId) (r : ReplyValue) {x : ℕ} {port : Port} (state : LeadState) {acts : List Placed} → ((past : Past) → LeadStands past state → is_going past.seen ≡ false) →

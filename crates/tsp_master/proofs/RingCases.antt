@@ -1,16 +1,14 @@
 -- Alarms that aren't a master's.
 use Rattle.std.proofs.Common.{◌≡◌, ◌≢◌, ℕ, Bool, false, refl}
-use Rattle.tsp_base.specs.declared.alarm.Alarm.{Alarm}
-use Rattle.tsp_base.specs.declared.alarm.Alarm.TheVariants.{Probe, Close, Round}
-use Rattle.tsp_base.specs.History.{Past}
-use Rattle.tsp_base.specs.Rows.{nothing}
+use Rattle.tsp_rules.specs.Values.{Alarm, Round, Probe, CloseAlarm}
+use Rattle.tsp_base.specs.Words.{Past, nothing}
 use Rattle.tsp_rules.specs.RoundRows.{corrects}
 use Rattle.tsp_master.specs.MasterAlarms.{master_rings}
 
-pub master_rings-other : (own : Bool) (a : Alarm) → a ≢ Probe → a ≢ Close → a ≢ Round → master_rings own a ≡ nothing
+pub master_rings-other : (own : Bool) (a : Alarm) → a ≢ Probe → a ≢ CloseAlarm → a ≢ Round → master_rings own a ≡ nothing
 unfolding master_rings
 master_rings-other own Probe p q r = absurd (p refl)
-master_rings-other own Close p q r = absurd (q refl)
+master_rings-other own CloseAlarm p q r = absurd (q refl)
 master_rings-other own Round p q r = absurd (r refl)
 master_rings-other own _ p q r = refl
 

@@ -1,8 +1,8 @@
 -- The room of calls that put at most a number of acts, one after the other.
 use Rattle.std.specs.Prelude.{◌≡◌, ℕ, suc, ◌+◌, ◌*◌, Bool, true, false, if◌then◌else◌, List, [], ◌∷◌, ◌++◌}
 use Rattle.std.proofs.Common.{arith}
-use Rattle.tsp_base.specs.declared.act.Placed.{Placed}
-use Rattle.tsp_base.specs.Frames.{PutsAtMost, PutsExactly}
+use Rattle.tsp_rules.specs.Values.{Placed}
+use Rattle.tsp_base.specs.Words.{PutsAtMost, PutsExactly}
 use Rattle.tsp_base.proofs.FrameLemmas.{PutsExactly_put}
 
 -- one act

@@ -1,18 +1,8 @@
 -- What the acts of a round make of what a master stands for.
 use Rattle.std.proofs.Common.{◌≡◌, ℕ, ◌+◌, ◌%◌, ◌^◌, ◌==◌, ◌&&◌, Bool, true, false, if◌then◌else◌, List, [], ◌∷◌, Some, None, eqb-true, eq-eqb, inl, inr, refl, sym, ◌∙◌, ap, subst, arith}
 use Rattle.std.proofs.lemmas.Bool.{false≢true}
-use Rattle.tsp_base.specs.declared.act.Act.TheVariants.{Boot, Post, Arm, Ring, Late, Abandon}
-use Rattle.tsp_base.specs.declared.alarm.Alarm.TheVariants.{Probe, Close}
-use Rattle.tsp_base.specs.declared.datagram.Datagram.TheVariants.{Stamp}
-use Rattle.tsp_base.specs.declared.place.PeerId.{PeerId}
-use Rattle.tsp_base.specs.declared.place.Place.TheVariants.{Peer}
-use Rattle.tsp_base.specs.declared.stamp.Stamp.TheVariants.{Request}
-use Rattle.tsp_base.specs.History.{Acts, Deed, Elsewhere, Here, Past, Seen, plain}
-use Rattle.tsp_base.specs.Places.{Within}
-use Rattle.tsp_base.specs.NodeFacts.{target, word}
-use Rattle.tsp_base.specs.PortFacts.{armed}
-use Rattle.tsp_base.specs.RoundFacts.{asked, exchange, is_going, request_at_place, request_open, started, started_after}
-use Rattle.tsp_base.specs.Rows.{grown}
+use Rattle.tsp_rules.specs.Values.{Boot, Post, Arm, Ring, Late, Abandon, Probe, CloseAlarm, Stamp, PeerId, Peer, Request}
+use Rattle.tsp_base.specs.Words.{Acts, Deed, Elsewhere, Here, Past, Seen, plain, Within, target, word, armed, asked, exchange, is_going, request_at_place, request_open, started, started_after, grown}
 use Rattle.tsp_base.proofs.SendLemmas.{seen_act}
 use Rattle.tsp_measure.specs.declared.exchange.Exchange.{Exchange}
 use Rattle.tsp_measure.specs.Measures.{Measured, best_of}
@@ -24,10 +14,10 @@ use Rattle.tsp_master.specs.MasterStands.{MasterStands}
 use Rattle.tsp_master.proofs.MasterLemmas.{EmptyAfter, EntriesAfter}
 
 -- a round ends
-pub MasterStands_ring_close : (x : ℕ) (past : Past) (m : Master) → (armed past.seen).probe ≡ None → MasterStands past m → MasterStands (grown x past (Ring Close ∷ [])) m
+pub MasterStands_ring_close : (x : ℕ) (past : Past) (m : Master) → (armed past.seen).probe ≡ None → MasterStands past m → MasterStands (grown x past (Ring CloseAlarm ∷ [])) m
 MasterStands_ring_close x past m none h = record { peers = h.peers; entries = h.entries; asked_is = h.asked_is; going = λ g. absurd (false≢true g); idle = λ g p c. refl; probing = λ at e. let bad : ⊥ = cc in absurd bad; empty = h.empty }
 
-pub MasterStands_late_close : (x : ℕ) (past : Past) (m : Master) → (armed past.seen).probe ≡ None → MasterStands past m → MasterStands (grown x past (Late Close ∷ [])) m
+pub MasterStands_late_close : (x : ℕ) (past : Past) (m : Master) → (armed past.seen).probe ≡ None → MasterStands past m → MasterStands (grown x past (Late CloseAlarm ∷ [])) m
 MasterStands_late_close x past m none h = record { peers = h.peers; entries = h.entries; asked_is = h.asked_is; going = λ g. absurd (false≢true g); idle = λ g p c. refl; probing = λ at e. let bad : ⊥ = cc in absurd bad; empty = h.empty }
 
 pub MasterStands_abandon : (x : ℕ) (past : Past) (m : Master) → MasterStands past m → MasterStands (grown x past (Abandon ∷ [])) m
@@ -75,7 +65,7 @@ Within-started [] = refl
 Within-started (Here d ∷ before) = by_deed d.deed (Within-started before) where
   by_deed : (deed : Deed) → Within (started before) before → Within (started_after deed (Here d ∷ before) (started before)) (Here d ∷ before)
   by_deed (Acts Boot) w = Within-nil (Here d ∷ before)
-  by_deed (Acts (Arm Close at)) w = inl refl
+  by_deed (Acts (Arm CloseAlarm at)) w = inl refl
   by_deed (Acts (Arm _ at)) w = inr w
   by_deed _ w = inr w
 Within-started (Elsewhere d ∷ before) = inr (Within-started before)

@@ -2,15 +2,10 @@
 use Rattle.std.proofs.Common.{◌≡◌, ℕ, ◌==◌, ◌&&◌, Bool, true, false, if◌then◌else◌, List, [], ◌∷◌, ◌++◌, Option, Some, None, ℤ, ◌-ℤ◌, int_lt, eqb-true, eq-eqb, refl, sym, ◌∙◌, ap, subst}
 use Rattle.std.specs.List.{fold}
 use Rattle.std.specs.Option.{option_map}
-use Rattle.tsp_base.specs.declared.act.Act.TheVariants.{Sample as SampleAct}
-use Rattle.tsp_base.specs.declared.place.PeerId.{PeerId}
-use Rattle.tsp_base.specs.History.{Past, Seen, plain}
-use Rattle.tsp_base.specs.Places.{Within}
-use Rattle.tsp_base.specs.NodeFacts.{target}
-use Rattle.tsp_base.specs.RoundFacts.{OpenRequest, Sampled, best, better, exchange, is_going, request_at_place, request_open, started, target_there, word_asked}
-use Rattle.tsp_base.specs.Rows.{grown}
+use Rattle.tsp_rules.specs.Values.{Sample, PeerId}
+use Rattle.tsp_base.specs.Words.{Past, Seen, plain, Within, target, OpenRequest, Sampled, best, better, exchange, is_going, request_at_place, request_open, started, target_there, word_asked, grown}
 use Rattle.tsp_base.proofs.SendLemmas.{seen_act}
-use Rattle.tsp_measure.specs.declared.sample.Sample.{Sample}
+use Rattle.tsp_measure.specs.declared.sample.Sample.{Sample as SampleStruct}
 use Rattle.tsp_measure.specs.declared.sample.TimedSample.{TimedSample}
 use Rattle.tsp_measure.specs.Measures.{Measured, IsAnswered, best_of, timed_sample, better as better_timed}
 use Rattle.tsp_measure.specs.Rounds.{AreApart, measured_with, pending_at, request_of, timed_of}
@@ -21,7 +16,7 @@ use Rattle.tsp_master.specs.MasterStands.{IsOfRound, MasterStands}
 
 -- an open request is answered
 request_open-sampled : (p q : PeerId) (k c : ℕ) (diff err : ℤ) (ticket : ℕ) (past : Past) (x : ℕ) →
-    request_open q c (seen_act past.step x (SampleAct p k diff err ticket) ∷ past.seen) ≡ (if (p.0 == q.0) && (k == c) then None else request_open q c past.seen)
+    request_open q c (seen_act past.step x (Sample p k diff err ticket) ∷ past.seen) ≡ (if (p.0 == q.0) && (k == c) then None else request_open q c past.seen)
 request_open-sampled p q k c diff err ticket past x = by_test ((p.0 == q.0) && (k == c)) where
   by_test : (b : Bool) → request_at_place (if b then [] else exchange q c past.seen) ≡ (if b then None else request_open q c past.seen)
   by_test true = refl
@@ -46,7 +41,7 @@ better-timed (Some early) late = by_test (int_lt late.trip early.trip) where
   by_test false = refl
 
 opened-sampled : (p q : PeerId) (k c : ℕ) (diff err : ℤ) (ticket : ℕ) (past : Past) (x : ℕ) (post : Seen) (older : List Seen) → ((t : Seen) (rest : List Seen) → exchange q c past.seen ≡ t ∷ rest → Within (started past.seen) rest) →
-    exchange q c (seen_act past.step x (SampleAct p k diff err ticket) ∷ past.seen) ≡ post ∷ older → Within (started past.seen) older
+    exchange q c (seen_act past.step x (Sample p k diff err ticket) ∷ past.seen) ≡ post ∷ older → Within (started past.seen) older
 opened-sampled p q k c diff err ticket past x post older opened e = by_test ((p.0 == q.0) && (k == c)) e where
   by_test : (b : Bool) → (if b then [] else exchange q c past.seen) ≡ post ∷ older → Within (started past.seen) older
   by_test true f = let bad : ⊥ = cc in absurd bad
@@ -65,10 +60,10 @@ of_better {start = start} {q = q} (Some early) late t known fresh e = by_test (i
   by_test false f = let same : early ≡ t = cc in subst (λ u. IsOfRound q u start) same (known early refl)
 
 -- an exchange of a going round is answered
-pub MasterStands_samples : (p : PeerId) (w c ticket : ℕ) (s d : ℤ) (answer : Sample) (x : ℕ) (past : Past) (old new : Master) → is_going past.seen ≡ true → d ≡ target (plain past.seen) x → AreApart (measured_with old.rounds p).pending →
+pub MasterStands_samples : (p : PeerId) (w c ticket : ℕ) (s d : ℤ) (answer : SampleStruct) (x : ℕ) (past : Past) (old new : Master) → is_going past.seen ≡ true → d ≡ target (plain past.seen) x → AreApart (measured_with old.rounds p).pending →
     IsAnswered w c ticket s d (measured_with old.rounds p) (measured_with new.rounds p) answer → ((q : PeerId) → (q.0 ≡ p.0 → ⊥) → measured_with new.rounds q ≡ measured_with old.rounds q) →
     new.rounds.asked ≡ old.rounds.asked → new.rounds.probes ≡ old.rounds.probes → new.slaves ≡ old.slaves → MasterStands past old →
-    MasterStands (grown x past (SampleAct p answer.counter answer.diff answer.err answer.ticket ∷ [])) new
+    MasterStands (grown x past (Sample p answer.counter answer.diff answer.err answer.ticket ∷ [])) new
 MasterStands_samples p w c ticket s d answer x past old new goes d_is apart i others asked_is probes_is ss h = record {
   peers = ap peers_of ss ∙ h.peers;
   entries = λ q. ap (λ es. entry_of es q) ss ∙ h.entries q;
@@ -91,7 +86,7 @@ MasterStands_samples p w c ticket s d answer x past old new goes d_is apart i ot
   told = i.told
 
   counter_is : answer.counter ≡ c
-  counter_is = ap (λ (t : Sample). t.counter) i.told
+  counter_is = ap (λ (t : SampleStruct). t.counter) i.told
 
   was : AreApart (i.before ++ i.exchange ∷ i.after)
   was = subst AreApart i.was_pending apart
@@ -110,10 +105,10 @@ MasterStands_samples p w c ticket s d answer x past old new goes d_is apart i ot
       ∙ ap (pending_at k) (sym i.is_pending) ∙ ap (λ (t : PeerId). pending_at k (measured_with new.rounds t).pending) it
   by_peer q k false e r = r ∙ ap (λ (m : Measured). pending_at k m.pending) (sym (others q (other q e)))
 
-  by_place : (q : PeerId) (t : Sampled) (place : List Seen) → exchange q t.counter past.seen ≡ place → t.place ≡ seen_act past.step x (SampleAct p answer.counter answer.diff answer.err answer.ticket) ∷ past.seen → (place ≡ [] → ⊥) →
+  by_place : (q : PeerId) (t : Sampled) (place : List Seen) → exchange q t.counter past.seen ≡ place → t.place ≡ seen_act past.step x (Sample p answer.counter answer.diff answer.err answer.ticket) ∷ past.seen → (place ≡ [] → ⊥) →
       ((post : Seen) (older : List Seen) → exchange q t.counter past.seen ≡ post ∷ older → Within (started past.seen) older) → IsOfRound q t (started past.seen)
   by_place q t [] e is n opened = absurd (n refl)
-  by_place q t (post ∷ older) e is n opened = record { taken = seen_act past.step x (SampleAct p answer.counter answer.diff answer.err answer.ticket); before = past.seen; place_is = is; post = post; older = older; exchange_is = e; since = opened post older e }
+  by_place q t (post ∷ older) e is n opened = record { taken = seen_act past.step x (Sample p answer.counter answer.diff answer.err answer.ticket); before = past.seen; place_is = is; post = post; older = older; exchange_is = e; since = opened post older e }
 
   -- the sample that comes
   late : PeerId → Sampled
@@ -123,7 +118,7 @@ MasterStands_samples p w c ticket s d answer x past old new goes d_is apart i ot
     err = answer.err;
     ticket = answer.ticket;
     trip = target (plain past.seen) x -ℤ target_there (exchange q answer.counter past.seen);
-    place = seen_act past.step x (SampleAct p answer.counter answer.diff answer.err answer.ticket) ∷ past.seen;
+    place = seen_act past.step x (Sample p answer.counter answer.diff answer.err answer.ticket) ∷ past.seen;
   }
 
   by_recent : (q : PeerId) (t : Sampled) (b : Bool) → (p.0 == q.0) ≡ b → ((u : Sampled) → best q past.seen ≡ Some u → IsOfRound q u (started past.seen)) → ((post : Seen) (older : List Seen) → exchange p c past.seen ≡ post ∷ older → Within (started past.seen) older) →

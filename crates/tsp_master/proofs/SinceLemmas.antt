@@ -1,10 +1,7 @@
 -- Samples of a going round are of exchanges that began after the last Correct.
 use Rattle.std.proofs.Common.{◌≡◌, true, List, [], ◌∷◌, Some, inl, inr, ap}
-use Rattle.tsp_base.specs.declared.place.PeerId.{PeerId}
-use Rattle.tsp_base.specs.History.{Past, Seen, plain}
-use Rattle.tsp_base.specs.NodeFacts.{correct_place}
-use Rattle.tsp_base.specs.Places.{Within}
-use Rattle.tsp_base.specs.RoundFacts.{Sampled, best, is_going, started}
+use Rattle.tsp_rules.specs.Values.{PeerId}
+use Rattle.tsp_base.specs.Words.{Past, Seen, plain, correct_place, Within, Sampled, best, is_going, started}
 use Rattle.tsp_base.proofs.PlaceLemmas.{Within-through}
 use Rattle.tsp_master.specs.declared.master.Master.{Master}
 use Rattle.tsp_master.specs.MasterStands.{IsLeftAlone, IsSinceCorrect, MasterStands}

@@ -1,12 +1,7 @@
 -- Rows of a master's alarms that don't correct the clock.
 use Rattle.std.proofs.Common.{◌≡◌, ℕ, false, refl}
-use Rattle.tsp_base.specs.declared.act.Act.TheVariants.{Ring, Late, Abandon}
-use Rattle.tsp_base.specs.declared.alarm.Alarm.TheVariants.{Probe, Close, Round}
-use Rattle.tsp_base.specs.declared.constants.TheConstants.{CLOSE, PROBE, ROUND}
-use Rattle.tsp_base.specs.declared.kind.Kind.TheVariants.{MasterUp}
-use Rattle.tsp_base.specs.declared.place.PeerId.{PeerId}
-use Rattle.tsp_base.specs.History.{Past}
-use Rattle.tsp_base.specs.Rows.{arms, for_each, nothing, posts_to_others, puts, reading}
+use Rattle.tsp_rules.specs.Values.{Ring, Late, Abandon, Round, Probe, CloseAlarm, MasterUp, PeerId, CLOSE, PROBE, ROUND}
+use Rattle.tsp_base.specs.Words.{Past, arms, for_each, nothing, posts_to_others, puts, reading}
 use Rattle.tsp_rules.specs.RoundRows.{abandons, arms_next, asks, asks_measured, asks_slaves, begins_or_waits, corrects, has_more, measured_at, probe_rings, round_begins, round_rings}
 use Rattle.tsp_rules.specs.Guards.{is_in_time, table_at}
 use Rattle.tsp_rules.proofs.Emits.{Emits, Emits_arms, Emits_each, Emits_either, Emits_nothing, Emits_posts_to_others, Emits_puts, Emits_reading, Emits_then}
@@ -25,7 +20,7 @@ probe-still = Emits_either (is_in_time Probe) _ _
 round-still : Emits still_sorts (round_rings false)
 unfolding round_rings begins_or_waits round_begins asks_slaves
 round-still = Emits_either (is_in_time Round) _ _
-    (Emits_then (puts (Ring Round)) _ (Emits_puts (Ring Round) refl) (Emits_then (arms Round ROUND) _ (Emits_arms Round ROUND refl) (Emits_then (arms Probe PROBE) _ (Emits_arms Probe PROBE refl) (Emits_then (arms Close CLOSE) _ (Emits_arms Close CLOSE refl)
+    (Emits_then (puts (Ring Round)) _ (Emits_puts (Ring Round) refl) (Emits_then (arms Round ROUND) _ (Emits_arms Round ROUND refl) (Emits_then (arms Probe PROBE) _ (Emits_arms Probe PROBE refl) (Emits_then (arms CloseAlarm CLOSE) _ (Emits_arms CloseAlarm CLOSE refl)
     (Emits_then (posts_to_others MasterUp 0) _ (Emits_posts_to_others MasterUp 0 refl) (Emits_reading table_at (for_each asks) (λ ps. Emits_each asks ps asks-still)))))))
     (Emits_then (puts (Late Round)) (arms Round ROUND) (Emits_puts (Late Round) refl) (Emits_arms Round ROUND refl))
 

@@ -3,24 +3,8 @@ use Rattle.std.proofs.Common.{◌≡◌, ℕ, ◌==◌, ◌&&◌, ◌||◌, not,
 use Rattle.std.specs.List.{All, filter}
 use Rattle.std.proofs.lemmas.Bool.{false≢true, and_right, and_left}
 use Rattle.std.proofs.lemmas.List.Elements.{All-head, All-tail}
-use Rattle.tsp_base.specs.declared.act.Act.{Act}
-use Rattle.tsp_base.specs.declared.act.Act.TheVariants.{Boot, Post, Become, Arm, Ring, Late, Join, Leave, Acked, Sample, Abandon}
-use Rattle.tsp_base.specs.declared.alarm.Alarm.TheVariants.{Probe, Close}
-use Rattle.tsp_base.specs.declared.datagram.Datagram.TheVariants.{Message, Stamp}
-use Rattle.tsp_base.specs.declared.kind.Kind.{Kind}
-use Rattle.tsp_base.specs.declared.kind.Kind.TheVariants.{AdjTime, SetTime}
-use Rattle.tsp_base.specs.declared.place.PeerId.{PeerId}
-use Rattle.tsp_base.specs.declared.place.Place.{Place}
-use Rattle.tsp_base.specs.declared.place.Place.TheVariants.{Peer, Stranger}
-use Rattle.tsp_base.specs.declared.role.Role.TheVariants.{Follow, Master as MasterRole}
-use Rattle.tsp_base.specs.declared.stamp.Stamp.TheVariants.{Request, Reply}
-use Rattle.tsp_base.specs.History.{Past}
-use Rattle.tsp_base.specs.Messages.{MessageValue}
-use Rattle.tsp_base.specs.Performs.{Keeps}
-use Rattle.tsp_base.specs.PortFacts.{acting, in_table}
-use Rattle.tsp_base.specs.RoundFacts.{is_measured}
-use Rattle.tsp_base.specs.Rows.{grown, puts}
-use Rattle.tsp_base.specs.SendFacts.{corrects_in, is_correction, is_acknowledged, last_number, last_post, open_send}
+use Rattle.tsp_rules.specs.Values.{Act, Boot, Post, Become, Arm, Ring, Late, Abandon, Sample, Acked, Join, Leave, Probe, CloseAlarm, Message, Stamp, Kind, AdjTime, SetTime, PeerId, Place, Peer, Stranger, Follow, Master, Request, Reply}
+use Rattle.tsp_base.specs.Words.{Past, MessageValue, Keeps, acting, in_table, is_measured, grown, puts, corrects_in, is_correction, is_acknowledged, last_number, last_post, open_send, IsPeers}
 use Rattle.tsp_base.proofs.SendLemmas.{seen_act, last_post-posts, last_post-other, last_number-begins, last_number-other, is_acknowledged-begins, is_acknowledged-other, is_acknowledged-acked}
 use Rattle.tsp_rules.specs.DateRows.{all_settled, are_settled, is_settled}
 use Rattle.tsp_rules.specs.SendRows.{may_correct, may_set}
@@ -29,10 +13,9 @@ use Rattle.tsp_rules.proofs.Emits.{Sort, Taking, Numbering, Posting, Backing, Co
 use Rattle.tsp_clock.specs.Clocks.{ClockValue, target_of}
 use Rattle.tsp_clock.specs.ClockStands.{ClockStands}
 use Rattle.tsp_measure.specs.declared.entry.Entry.{Entry}
-use Rattle.tsp_base.specs.Peers.{IsPeers}
 use Rattle.tsp_measure.specs.Slaves.{entry_of, peers_of, Changes, joins, leaves, begins_at, acks, acks_where, may_correct_by, is_settled_by, are_settled_by}
 use Rattle.tsp_measure.proofs.Entries.{Rising-peers, entry_of-at}
-use Rattle.tsp_master.specs.declared.master.Master.{Master}
+use Rattle.tsp_master.specs.declared.master.Master.{Master as MasterStruct}
 use Rattle.tsp_master.specs.MasterStands.{MasterStands, entry_at}
 use Rattle.tsp_master.proofs.MasterLemmas.{EntriesAfter, MasterStands_aside, is_aside}
 
@@ -41,7 +24,7 @@ abbrev ChangesAt : PeerId → (Entry → Entry) → Past → ℕ → Act → Typ
 ChangesAt p f past x a = (q : PeerId) → entry_at q (seen_act past.step x a ∷ past.seen) ≡ (if p.0 == q.0 then f (entry_at q past.seen) else entry_at q past.seen)
 
 -- the table changes as the past does
-pub EntriesAfter_changed : (p : PeerId) (f : Entry → Entry) (past : Past) (x : ℕ) (a : Act) (old new : Master) →
+pub EntriesAfter_changed : (p : PeerId) (f : Entry → Entry) (past : Past) (x : ℕ) (a : Act) (old new : MasterStruct) →
     ((q : PeerId) → entry_at q (seen_act past.step x a ∷ past.seen) ≡ (if p.0 == q.0 then f (entry_at q past.seen) else entry_at q past.seen)) →
     Changes p f old.slaves new.slaves → ((q : PeerId) → entry_of old.slaves q ≡ entry_at q past.seen) → EntriesAfter past x a new
 EntriesAfter_changed p f past x a old new after change h q = change q ∙ ap (λ e. if p.0 == q.0 then f e else e) (h q) ∙ sym (after q)
@@ -112,20 +95,20 @@ kind-quiet _ e = refl
 
 aside-quiet : (a : Act) → is_in (sort_of a) quiet_sorts ≡ true → is_aside a ≡ true
 aside-quiet Boot e = absurd (false≢true e)
-aside-quiet (Become MasterRole) e = absurd (false≢true e)
+aside-quiet (Become Master) e = absurd (false≢true e)
 aside-quiet (Become (Follow p)) e = absurd (false≢true e)
 aside-quiet (Become _) e = absurd (false≢true e)
 aside-quiet (Post to (Stamp (Request word counter))) e = absurd (false≢true e)
 aside-quiet (Post to (Stamp (Reply r))) e = refl
 aside-quiet (Post to (Message m)) e = refl
 aside-quiet (Arm Probe at) e = absurd (false≢true e)
-aside-quiet (Arm Close at) e = absurd (false≢true e)
+aside-quiet (Arm CloseAlarm at) e = absurd (false≢true e)
 aside-quiet (Arm _ at) e = refl
 aside-quiet (Ring Probe) e = absurd (false≢true e)
-aside-quiet (Ring Close) e = absurd (false≢true e)
+aside-quiet (Ring CloseAlarm) e = absurd (false≢true e)
 aside-quiet (Ring _) e = refl
 aside-quiet (Late Probe) e = absurd (false≢true e)
-aside-quiet (Late Close) e = absurd (false≢true e)
+aside-quiet (Late CloseAlarm) e = absurd (false≢true e)
 aside-quiet (Late _) e = refl
 aside-quiet Abandon e = absurd (false≢true e)
 aside-quiet (Sample p counter diff err ticket) e = absurd (false≢true e)
@@ -133,7 +116,7 @@ aside-quiet _ e = refl
 
 entry-quiet : (a : Act) → is_in (sort_of a) quiet_sorts ≡ true → (past : Past) (x : ℕ) (q : PeerId) → entry_at q (seen_act past.step x a ∷ past.seen) ≡ entry_at q past.seen
 entry-quiet Boot e past x q = absurd (false≢true e)
-entry-quiet (Become MasterRole) e past x q = absurd (false≢true e)
+entry-quiet (Become Master) e past x q = absurd (false≢true e)
 entry-quiet (Become (Follow p)) e past x q = absurd (false≢true e)
 entry-quiet (Become _) e past x q = absurd (false≢true e)
 entry-quiet (Post (Peer p) (Stamp (Request word counter))) e past x q = absurd (false≢true e)
@@ -144,7 +127,7 @@ entry-quiet (Post to (Message m)) e past x q = message-quiet to m past x q (kind
 entry-quiet (Join p) e past x q = absurd (false≢true e)
 entry-quiet (Leave p) e past x q = absurd (false≢true e)
 entry-quiet (Acked p) e past x q = absurd (false≢true e)
-entry-quiet (Arm Close at) e past x q = absurd (false≢true e)
+entry-quiet (Arm CloseAlarm at) e past x q = absurd (false≢true e)
 entry-quiet (Arm _ at) e past x q = refl
 entry-quiet _ e past x q = refl
 
@@ -159,7 +142,7 @@ abbrev pub MakesNone : (Entry → Entry) → Type 0
 MakesNone f = (e : Entry) → e.joined ≡ false → e.measured ≡ false → ((f e).joined ≡ false) × ((f e).measured ≡ false)
 
 -- an act about one peer, and the same change of the table
-pub MasterStands_changed : (p : PeerId) (f : Entry → Entry) (a : Act) (x : ℕ) (past : Past) (old new : Master) → is_aside a ≡ true → MakesNone f →
+pub MasterStands_changed : (p : PeerId) (f : Entry → Entry) (a : Act) (x : ℕ) (past : Past) (old new : MasterStruct) → is_aside a ≡ true → MakesNone f →
     ((q : PeerId) → entry_at q (seen_act past.step x a ∷ past.seen) ≡ (if p.0 == q.0 then f (entry_at q past.seen) else entry_at q past.seen)) →
     Changes p f old.slaves new.slaves → peers_of new.slaves ≡ peers_of old.slaves → new.rounds ≡ old.rounds → MasterStands past old → MasterStands (grown x past (a ∷ [])) new
 MasterStands_changed p f a x past old new aside none after change ps rs h =
@@ -171,13 +154,13 @@ MasterStands_changed p f a x past old new aside none after change ps rs h =
       by_test false q k e = e
 
 -- a correction begins, and the table has it
-pub MasterStands_begins : (p : PeerId) (m : MessageValue) (x : ℕ) (past : Past) (old new : Master) → is_correction m.kind ≡ true → acting past.seen ≡ true → Changes p (begins_at x m.number) old.slaves new.slaves → peers_of new.slaves ≡ peers_of old.slaves → new.rounds ≡ old.rounds →
+pub MasterStands_begins : (p : PeerId) (m : MessageValue) (x : ℕ) (past : Past) (old new : MasterStruct) → is_correction m.kind ≡ true → acting past.seen ≡ true → Changes p (begins_at x m.number) old.slaves new.slaves → peers_of new.slaves ≡ peers_of old.slaves → new.rounds ≡ old.rounds →
     MasterStands past old → MasterStands (grown x past (Post (Peer p) (Message m) ∷ [])) new
 MasterStands_begins p m x past old new corrects acts change ps rs h =
     MasterStands_changed p (begins_at x m.number) (Post (Peer p) (Message m)) x past old new refl (λ e j k. (j, k)) (begins-after p m past x corrects acts) change ps rs h
 
 -- whether a correction may begin, as the entry has it
-pub may_correct-is : (p : PeerId) (number x : ℕ) (past : Past) (m : Master) (e : Entry) → MasterStands past m → e ≡ entry_of m.slaves p → may_correct p number x past ≡ may_correct_by e number x
+pub may_correct-is : (p : PeerId) (number x : ℕ) (past : Past) (m : MasterStruct) (e : Entry) → MasterStands past m → e ≡ entry_of m.slaves p → may_correct p number x past ≡ may_correct_by e number x
 may_correct-is p number x past m e h is = ap (λ k. may_correct_by k number x) (sym (is ∙ h.entries p))
 
 -- the clock's target, as the clock has it
@@ -185,7 +168,7 @@ pub target-is : (x : ℕ) (past : Past) (clock : ClockValue) → ClockStands pas
 target-is x past clock h = ap (λ o. o +ℤ pos x) (sym h.offset_is)
 
 -- whether the clock's target may be set
-pub may_set-is : (p : PeerId) (number x : ℕ) (past : Past) (m : Master) (e : Entry) (clock : ClockValue) (a b : Bool) → MasterStands past m → ClockStands past clock → e ≡ entry_of m.slaves p →
+pub may_set-is : (p : PeerId) (number x : ℕ) (past : Past) (m : MasterStruct) (e : Entry) (clock : ClockValue) (a b : Bool) → MasterStands past m → ClockStands past clock → e ≡ entry_of m.slaves p →
     may_correct_by e number x ≡ a → is_clock_value (target_of clock x) ≡ b → may_set p number x past ≡ (a && b)
 may_set-is p number x past m e clock a b h k is f g =
     ap (λ t. t && is_in_range x past) (may_correct-is p number x past m e h is ∙ f) ∙ ap (λ t. a && t) (ap is_clock_value (target-is x past clock k) ∙ g)
@@ -206,13 +189,13 @@ settled-all x past (e ∷ es) h =
       by_test false j k rest = rw (j, rest) refl
 
 -- whether all slaves are settled, as the table has it
-pub settled-is : (x : ℕ) (past : Past) (m : Master) → IsPeers (peers_of m.slaves) → MasterStands past m → all_settled x past ≡ are_settled_by x m.slaves
+pub settled-is : (x : ℕ) (past : Past) (m : MasterStruct) → IsPeers (peers_of m.slaves) → MasterStands past m → all_settled x past ≡ are_settled_by x m.slaves
 settled-is x past m up h =
     ap (λ ps. are_settled (filter (λ (p : PeerId). in_table p past.seen) ps) x past) (sym h.peers)
     ∙ settled-all x past m.slaves (λ k d l. sym (entry_of-at m.slaves k d (get_or m.slaves k d).peer (Rising-peers m.slaves up) l refl) ∙ h.entries (get_or m.slaves k d).peer)
 
 -- the same table and rounds stand for the same past
-pub MasterStands_same : (past : Past) (old new : Master) → peers_of new.slaves ≡ peers_of old.slaves → new.rounds ≡ old.rounds → ((q : PeerId) → entry_of new.slaves q ≡ entry_of old.slaves q) → MasterStands past old → MasterStands past new
+pub MasterStands_same : (past : Past) (old new : MasterStruct) → peers_of new.slaves ≡ peers_of old.slaves → new.rounds ≡ old.rounds → ((q : PeerId) → entry_of new.slaves q ≡ entry_of old.slaves q) → MasterStands past old → MasterStands past new
 MasterStands_same past old new ps rs es h = record {
   peers = ps ∙ h.peers;
   entries = λ q. es q ∙ h.entries q;

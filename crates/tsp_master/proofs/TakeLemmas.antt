@@ -1,14 +1,7 @@
 -- Rows for messages, as a master's station and table have what they read.
 use Rattle.std.proofs.Common.{◌≡◌, ◌≢◌, ℕ, ◌==◌, ◌&&◌, not, nat_lt, Bool, true, false, if◌then◌else◌, [], ◌∷◌, Option, Some, None, ◌⊎◌, inl, inr, refl, sym, ◌∙◌, ap}
-use Rattle.tsp_base.specs.declared.act.Act.TheVariants.{Join, Acked}
-use Rattle.tsp_base.specs.declared.kind.Kind.{Kind}
-use Rattle.tsp_base.specs.declared.kind.Kind.TheVariants.{MasterReq, MasterAck, SlaveUp, Election, Quit, Resolve}
-use Rattle.tsp_base.specs.declared.place.PeerId.{PeerId}
-use Rattle.tsp_base.specs.declared.role.Role.TheVariants.{Master as MasterRole}
-use Rattle.tsp_base.specs.History.{Past}
-use Rattle.tsp_base.specs.Messages.{MessageValue}
-use Rattle.tsp_base.specs.Rows.{grown, nothing, puts, either_by, posts}
-use Rattle.tsp_base.specs.SendFacts.{Sending, corrects_in, is_correction, open_send}
+use Rattle.tsp_rules.specs.Values.{Acked, Join, Kind, Election, MasterAck, MasterReq, QuitKind, ResolveKind, SlaveUp, PeerId, Master}
+use Rattle.tsp_base.specs.Words.{Past, MessageValue, grown, nothing, puts, either_by, posts, Sending, corrects_in, is_correction, open_send}
 use Rattle.tsp_rules.specs.MasterRows.{may_join, sends_away}
 use Rattle.tsp_rules.specs.SendRows.{acknowledges, begins, has_other, has_quit, is_kind_quit, is_quit}
 use Rattle.tsp_rules.proofs.Emits.{Emits, Emits_nothing, Emits_either}
@@ -16,24 +9,24 @@ use Rattle.tsp_rules.proofs.EmitsSlave.{emits_begins}
 use Rattle.tsp_sends.specs.Slots.{kind_of, sending_to}
 use Rattle.tsp_acks.specs.declared.station.Station.{Station}
 use Rattle.tsp_acks.specs.Openings.{is_of}
-use Rattle.tsp_acks.specs.Stands.{Stands}
+use Rattle.tsp_acks.specs.Stands.{StationStands}
 use Rattle.tsp_measure.specs.declared.entry.Entry.{Entry}
 use Rattle.tsp_measure.specs.Slaves.{entry_of, peers_of, Changes, acks_where, joins}
-use Rattle.tsp_master.specs.declared.master.Master.{Master}
+use Rattle.tsp_master.specs.declared.master.Master.{Master as MasterStruct}
 use Rattle.tsp_master.specs.MasterStands.{MasterStands}
 use Rattle.tsp_master.specs.MasterTakes.{master_takes_kind_here}
 use Rattle.tsp_master.proofs.MasterLemmas.{MasterStands_aside}
 use Rattle.tsp_master.proofs.TableLemmas.{EntriesAfter_changed, MasterStands_changed, MasterStands_same, acked-after, joins-after, quiet_sorts}
 
-pub master_takes_kind_here-ask : (p : PeerId) (m : MessageValue) (k : Kind) → (k ≡ MasterReq) ⊎ (k ≡ Resolve) → master_takes_kind_here p m k ≡ posts p MasterAck m.number
+pub master_takes_kind_here-ask : (p : PeerId) (m : MessageValue) (k : Kind) → (k ≡ MasterReq) ⊎ (k ≡ ResolveKind) → master_takes_kind_here p m k ≡ posts p MasterAck m.number
 unfolding master_takes_kind_here
 master_takes_kind_here-ask p m k (inl e) = rw e refl
 master_takes_kind_here-ask p m k (inr e) = rw e refl
 
-pub master_takes_kind_here-other : (p : PeerId) (m : MessageValue) (k : Kind) → k ≢ MasterReq → k ≢ Resolve → k ≢ SlaveUp → k ≢ Election → master_takes_kind_here p m k ≡ nothing
+pub master_takes_kind_here-other : (p : PeerId) (m : MessageValue) (k : Kind) → k ≢ MasterReq → k ≢ ResolveKind → k ≢ SlaveUp → k ≢ Election → master_takes_kind_here p m k ≡ nothing
 unfolding master_takes_kind_here
 master_takes_kind_here-other p m MasterReq a b d e = absurd (a refl)
-master_takes_kind_here-other p m Resolve a b d e = absurd (b refl)
+master_takes_kind_here-other p m ResolveKind a b d e = absurd (b refl)
 master_takes_kind_here-other p m SlaveUp a b d e = absurd (d refl)
 master_takes_kind_here-other p m Election a b d e = absurd (e refl)
 master_takes_kind_here-other p m _ a b d e = refl
@@ -43,7 +36,7 @@ quit-of None = refl
 quit-of (Some s) = refl
 
 -- whether a QUIT is open, as the station has it
-pub has_quit-is : (p : PeerId) (x : ℕ) (past : Past) (st : Station) → Stands past st → has_quit p x past ≡ is_of is_kind_quit (kind_of (sending_to st.sends p))
+pub has_quit-is : (p : PeerId) (x : ℕ) (past : Past) (st : Station) → StationStands past st → has_quit p x past ≡ is_of is_kind_quit (kind_of (sending_to st.sends p))
 has_quit-is p x past st h = ap is_quit (sym (h.sends p)) ∙ sym (quit-of (sending_to st.sends p))
 
 corrects-of : (s : Option Sending) → is_of is_correction (kind_of s) ≡ corrects_in s
@@ -51,17 +44,17 @@ corrects-of None = refl
 corrects-of (Some s) = refl
 
 -- whether a peer may join, as the table has it
-pub may_join-is : (p : PeerId) (number x : ℕ) (past : Past) (m : Master) → MasterStands past m → may_join p number x past ≡ (nat_lt number 32768 && not (entry_of m.slaves p).joined)
+pub may_join-is : (p : PeerId) (number x : ℕ) (past : Past) (m : MasterStruct) → MasterStands past m → may_join p number x past ≡ (nat_lt number 32768 && not (entry_of m.slaves p).joined)
 may_join-is p number x past m h = ap (λ (e : Entry). nat_lt number 32768 && not e.joined) (sym (h.entries p))
 
 -- a peer joins a master's slaves
-pub MasterStands_joins : (p : PeerId) (x : ℕ) (past : Past) (old new : Master) (st : Station) → Stands past st → st.role ≡ MasterRole → Changes p joins old.slaves new.slaves → peers_of new.slaves ≡ peers_of old.slaves → new.rounds ≡ old.rounds →
+pub MasterStands_joins : (p : PeerId) (x : ℕ) (past : Past) (old new : MasterStruct) (st : Station) → StationStands past st → st.role ≡ Master → Changes p joins old.slaves new.slaves → peers_of new.slaves ≡ peers_of old.slaves → new.rounds ≡ old.rounds →
     MasterStands past old → MasterStands (grown x past (Join p ∷ [])) new
 MasterStands_joins p x past old new st s leads change ps rs h =
     MasterStands_aside (Join p) x past old new refl ps rs (EntriesAfter_changed p joins past x (Join p) old new (joins-after p past x) change h.entries) (λ other q. absurd (other (sym s.role ∙ leads))) h
 
 -- an ACK ends the send that it names, or nothing
-pub MasterStands_acknowledges : (p : PeerId) (number x : ℕ) (past : Past) (old new : Master) (st : Station) (ended : Bool) → Stands past st → has_other p number x past ≡ ended →
+pub MasterStands_acknowledges : (p : PeerId) (number x : ℕ) (past : Past) (old new : MasterStruct) (st : Station) (ended : Bool) → StationStands past st → has_other p number x past ≡ ended →
     Changes p (acks_where (ended && is_of is_correction (kind_of (sending_to st.sends p)))) old.slaves new.slaves → peers_of new.slaves ≡ peers_of old.slaves → new.rounds ≡ old.rounds →
     MasterStands past old → MasterStands (grown x past (acknowledges p number x past)) new
 unfolding acknowledges either_by puts nothing
@@ -79,4 +72,4 @@ MasterStands_acknowledges p number x past old new st false s test change ps rs h
 
 pub emits_away : (p : PeerId) → Emits quiet_sorts (sends_away p)
 unfolding sends_away
-emits_away p = Emits_either (has_quit p) nothing (begins Quit p) Emits_nothing (emits_begins Quit p refl)
+emits_away p = Emits_either (has_quit p) nothing (begins QuitKind p) Emits_nothing (emits_begins QuitKind p refl)

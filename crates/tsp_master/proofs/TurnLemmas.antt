@@ -2,27 +2,14 @@
 use Rattle.std.specs.Prelude.{◌≡◌, ◌≢◌, ◌==◌, ℕ, zero, ℤ, Bool, true, false, not, ◌||◌, ◌&&◌, if◌then◌else◌, List, [], ◌∷◌, ◌⊎◌, refl}
 use Rattle.std.proofs.Common.{sym, ◌∙◌, ap, inl, inr, true≢false}
 use Rattle.std.proofs.lemmas.Bool.{false≢true, or_parts, or_cases}
-use Rattle.tsp_base.specs.declared.act.Act.{Act}
-use Rattle.tsp_base.specs.declared.act.Act.TheVariants.{Boot, Post, Become, Arm, Ring, Late, Acked, Correct}
-use Rattle.tsp_base.specs.declared.alarm.Alarm.TheVariants.{Probe, Close}
-use Rattle.tsp_base.specs.declared.datagram.Datagram.TheVariants.{Message, Stamp}
-use Rattle.tsp_base.specs.declared.kind.Kind.{Kind}
-use Rattle.tsp_base.specs.declared.kind.Kind.TheVariants.{AdjTime, SetTime, Election, Conflict, Quit as QuitKind, SetDateReq}
-use Rattle.tsp_base.specs.declared.place.PeerId.{PeerId}
-use Rattle.tsp_base.specs.declared.role.Role.{Role}
-use Rattle.tsp_base.specs.declared.role.Role.TheVariants.{Starting, Master as MasterRole}
-use Rattle.tsp_base.specs.declared.stamp.Stamp.TheVariants.{Request}
-use Rattle.tsp_base.specs.History.{Acts, Did, Elsewhere, Here, Past, Seen, Step, Turned}
-use Rattle.tsp_base.specs.PortFacts.{in_table, role}
-use Rattle.tsp_base.specs.RoundFacts.{is_measured}
-use Rattle.tsp_base.specs.SendFacts.{corrects_in, open_send}
-use Rattle.tsp_base.specs.Rows.{Row, added, grown, in_step, puts}
+use Rattle.tsp_rules.specs.Values.{Act, Boot, Post, Become, Arm, Ring, Late, Correct, Acked, Probe, CloseAlarm, Message, Stamp, Kind, AdjTime, Conflict, Election, QuitKind, SetDateReq, SetTime, PeerId, Role, Starting, Master, Request}
+use Rattle.tsp_base.specs.Words.{Acts, Did, Elsewhere, Here, Past, Seen, Step, Turned, in_table, role, is_measured, corrects_in, open_send, Row, added, grown, in_step, puts}
 use Rattle.tsp_rules.specs.Guards.{is_master}
 use Rattle.tsp_rules.proofs.Emits.{Sort, Taking, Numbering, Posting, Leading, Following, Changing, Backing, Counting, Alarming, Rivalling, Giving, Closing, Moving, Tracing, AllOf, is_in, sort_of, sort_of_kind, Emits, Emits_more}
 use Rattle.tsp_rules.proofs.EmitsTables.{changes, is_change}
 use Rattle.tsp_measure.specs.declared.entry.Entry.{Entry}
 use Rattle.tsp_measure.specs.Slaves.{acks_where, entry_of, leaves}
-use Rattle.tsp_master.specs.declared.master.Master.{Master}
+use Rattle.tsp_master.specs.declared.master.Master.{Master as MasterStruct}
 use Rattle.tsp_master.specs.Clearing.{Cleared, Clears}
 use Rattle.tsp_master.specs.MasterStands.{MasterStands, entry_at}
 use Rattle.tsp_master.proofs.MasterLemmas.{MasterStands_aside}
@@ -36,7 +23,7 @@ turning_sorts = Taking ∷ Numbering ∷ Posting ∷ Leading ∷ Following ∷ C
 abbrev pub parting_sorts : List Sort
 parting_sorts = Taking ∷ Numbering ∷ Posting ∷ Following ∷ Changing ∷ Backing ∷ Counting ∷ Alarming ∷ Rivalling ∷ Giving ∷ Closing ∷ Moving ∷ Tracing ∷ []
 
-pub MasterStands_become : (r : Role) (x : ℕ) (past : Past) (old new : Master) → Cleared old new → MasterStands past old → MasterStands (grown x past (Become r ∷ [])) new
+pub MasterStands_become : (r : Role) (x : ℕ) (past : Past) (old new : MasterStruct) → Cleared old new → MasterStands past old → MasterStands (grown x past (Become r ∷ [])) new
 MasterStands_become r x past old new c h = record {
   peers = c.peers ∙ h.peers;
   entries = λ p. c.slaves p ∙ ap leaves (h.entries p);
@@ -47,7 +34,7 @@ MasterStands_become r x past old new c h = record {
   empty = λ other p. (refl, refl);
 }
 
-pub MasterStands_correct : (amount shown : ℤ) (stepped : Bool) (x : ℕ) (past : Past) (m : Master) → MasterStands past m → MasterStands (grown x past (Correct amount stepped shown ∷ [])) m
+pub MasterStands_correct : (amount shown : ℤ) (stepped : Bool) (x : ℕ) (past : Past) (m : MasterStruct) → MasterStands past m → MasterStands (grown x past (Correct amount stepped shown ∷ [])) m
 MasterStands_correct amount shown stepped x past m h = MasterStands_aside (Correct amount stepped shown) x past m m refl refl refl h.entries h.empty h
 
 quiet-kind : (k : Kind) → is_in (sort_of_kind k) turning_sorts ≡ true → is_in (sort_of_kind k) quiet_sorts ≡ true
@@ -59,33 +46,33 @@ quiet-kind QuitKind e = refl
 quiet-kind SetDateReq e = refl
 quiet-kind _ e = refl
 
-MasterStands_act : (a : Act) → is_in (sort_of a) turning_sorts ≡ true → (x : ℕ) (past : Past) (m c : Master) → (is_change a ≡ true → Cleared m c) → MasterStands past m → MasterStands (grown x past (a ∷ [])) (if is_change a then c else m)
+MasterStands_act : (a : Act) → is_in (sort_of a) turning_sorts ≡ true → (x : ℕ) (past : Past) (m c : MasterStruct) → (is_change a ≡ true → Cleared m c) → MasterStands past m → MasterStands (grown x past (a ∷ [])) (if is_change a then c else m)
 unfolding puts
 MasterStands_act (Become r) e x past m c k h = MasterStands_become r x past m c (k refl) h
 MasterStands_act (Correct amount stepped shown) e x past m c k h = MasterStands_correct amount shown stepped x past m h
 MasterStands_act (Post to (Message t)) e x past m c k h = MasterStands_quiet (Post to (Message t)) (quiet-kind t.kind e) x past m h
 MasterStands_act (Post to (Stamp (Request word counter))) e x past m c k h = absurd (false≢true e)
 MasterStands_act (Arm Probe at) e x past m c k h = absurd (false≢true e)
-MasterStands_act (Arm Close at) e x past m c k h = absurd (false≢true e)
+MasterStands_act (Arm CloseAlarm at) e x past m c k h = absurd (false≢true e)
 MasterStands_act (Ring Probe) e x past m c k h = absurd (false≢true e)
-MasterStands_act (Ring Close) e x past m c k h = absurd (false≢true e)
+MasterStands_act (Ring CloseAlarm) e x past m c k h = absurd (false≢true e)
 MasterStands_act (Late Probe) e x past m c k h = absurd (false≢true e)
-MasterStands_act (Late Close) e x past m c k h = absurd (false≢true e)
+MasterStands_act (Late CloseAlarm) e x past m c k h = absurd (false≢true e)
 MasterStands_act a e x past m c k h = MasterStands_quiet a e x past m h
 
 -- what was cleared is cleared
-Cleared_twice : (old new : Master) → Cleared old new → Cleared new new
+Cleared_twice : (old new : MasterStruct) → Cleared old new → Cleared new new
 Cleared_twice old new c = record { slaves = λ q. c.slaves q ∙ ap leaves (sym (c.slaves q)); peers = refl; rounds = refl }
 
 -- one act after the other
-pub MasterStands_turns : (acts : List Act) → AllOf turning_sorts acts → (x : ℕ) (past : Past) (m c : Master) → (changes acts ≡ true → Cleared m c) → MasterStands past m → MasterStands (grown x past acts) (if changes acts then c else m)
+pub MasterStands_turns : (acts : List Act) → AllOf turning_sorts acts → (x : ℕ) (past : Past) (m c : MasterStruct) → (changes acts ≡ true → Cleared m c) → MasterStands past m → MasterStands (grown x past acts) (if changes acts then c else m)
 MasterStands_turns [] e x past m c k h = h
 MasterStands_turns (a ∷ rest) e x past m c k h = by_change (is_change a) refl (λ u v w. MasterStands_turns rest e.1 x (grown x past (a ∷ [])) u c v w) where
   either : (b : Bool) → MasterStands (grown x (grown x past (a ∷ [])) rest) (if b then c else c) → MasterStands (grown x past (a ∷ rest)) c
   either true h = h
   either false h = h
 
-  by_change : (b : Bool) → is_change a ≡ b → ((u : Master) → (changes rest ≡ true → Cleared u c) → MasterStands (grown x past (a ∷ [])) u → MasterStands (grown x (grown x past (a ∷ [])) rest) (if changes rest then c else u)) →
+  by_change : (b : Bool) → is_change a ≡ b → ((u : MasterStruct) → (changes rest ≡ true → Cleared u c) → MasterStands (grown x past (a ∷ [])) u → MasterStands (grown x (grown x past (a ∷ [])) rest) (if changes rest then c else u)) →
       MasterStands (grown x past (a ∷ rest)) (if b || changes rest then c else m)
   by_change true f next =
       let cleared : Cleared m c = k (ap (λ t. t || changes rest) f) in
@@ -106,8 +93,8 @@ role-stays [] e k step x seen = refl
 role-stays (a ∷ rest) e k step x seen = let n = or_parts (is_change a) (changes rest) k in role-stays rest e.1 n.1 step x _ ∙ role-same a e.0 n.0 step x seen
 
 -- by such acts no port becomes a master
-parting : (a : Act) → is_in (sort_of a) parting_sorts ≡ true → (step : Step) (x : ℕ) (seen : List Seen) → (is_change a ≡ true) ⊎ (role seen ≢ MasterRole) → role (Here (record { step = step; tick = x; deed = Acts a }) ∷ seen) ≢ MasterRole
-parting (Become MasterRole) e step x seen k = absurd (false≢true e)
+parting : (a : Act) → is_in (sort_of a) parting_sorts ≡ true → (step : Step) (x : ℕ) (seen : List Seen) → (is_change a ≡ true) ⊎ (role seen ≢ Master) → role (Here (record { step = step; tick = x; deed = Acts a }) ∷ seen) ≢ Master
+parting (Become Master) e step x seen k = absurd (false≢true e)
 parting (Become r) e step x seen k = λ f. let bad : ⊥ = cc in bad
 parting Boot e step x seen k = absurd (false≢true e)
 parting _ e step x seen (inl k) = absurd (false≢true k)
@@ -117,7 +104,7 @@ parting _ e step x seen (inr n) = n
 more : (acts : List Act) → AllOf parting_sorts acts → AllOf turning_sorts acts
 more acts e = (Emits_more parting_sorts {all = turning_sorts} {row = λ x past. acts} refl (record { only = λ x past. e })).only zero (record { own = record { 0 = 0 }; name = []; may = false; strict = false; port = record { 0 = 0 }; peers = []; step = record { at = 0; node = 0; cause = Turned }; seen = [] })
 
-role-parts : (acts : List Act) → AllOf parting_sorts acts → (step : Step) (x : ℕ) (seen : List Seen) → (changes acts ≡ true) ⊎ (role seen ≢ MasterRole) → role (added step x acts seen) ≢ MasterRole
+role-parts : (acts : List Act) → AllOf parting_sorts acts → (step : Step) (x : ℕ) (seen : List Seen) → (changes acts ≡ true) ⊎ (role seen ≢ Master) → role (added step x acts seen) ≢ Master
 role-parts [] e step x seen (inl k) = absurd (false≢true k)
 role-parts [] e step x seen (inr n) = n
 role-parts (a ∷ rest) e step x seen (inr n) = role-parts rest e.1 step x _ (inr (parting a e.0 step x seen (inr n)))
@@ -125,18 +112,18 @@ role-parts (a ∷ rest) e step x seen (inl k) = by_one (or_cases (is_change a) (
   after : List Seen
   after = Here (record { step = step; tick = x; deed = Acts a }) ∷ seen
 
-  by_one : (is_change a ≡ true) ⊎ (changes rest ≡ true) → ((changes rest ≡ true) ⊎ (role after ≢ MasterRole) → role (added step x rest after) ≢ MasterRole) → role (added step x (a ∷ rest) seen) ≢ MasterRole
+  by_one : (is_change a ≡ true) ⊎ (changes rest ≡ true) → ((changes rest ≡ true) ⊎ (role after ≢ Master) → role (added step x rest after) ≢ Master) → role (added step x (a ∷ rest) seen) ≢ Master
   by_one (inl c) next = next (inr (parting a e.0 step x seen (inl c)))
   by_one (inr c) next = next (inl c)
 
 -- the role is no longer a master's where it changed
-is_master-true : (r : Role) → is_master r ≡ true → r ≡ MasterRole
-is_master-true MasterRole e = refl
+is_master-true : (r : Role) → is_master r ≡ true → r ≡ Master
+is_master-true Master e = refl
 is_master-true Starting e = absurd (false≢true e)
 is_master-true _ e = absurd (false≢true e)
 
-is_master-false : (r : Role) → is_master r ≡ false → r ≢ MasterRole
-is_master-false MasterRole e = absurd (true≢false e)
+is_master-false : (r : Role) → is_master r ≡ false → r ≢ Master
+is_master-false Master e = absurd (true≢false e)
 is_master-false Starting e = λ f. let bad : ⊥ = cc in bad
 is_master-false _ e = λ f. let bad : ⊥ = cc in bad
 
@@ -153,7 +140,7 @@ changes_parted acts e step x seen before after was is led = by_change (changes a
   by_change false false t a = absurd (is_master-false after a (sym is ∙ role-stays acts all t step x seen ∙ was ∙ is_master-true before led))
 
 -- a port that doesn't lead has no slaves to forget
-Cleared_idle : (past : Past) (m : Master) → role past.seen ≢ MasterRole → MasterStands past m → Cleared m m
+Cleared_idle : (past : Past) (m : MasterStruct) → role past.seen ≢ Master → MasterStands past m → Cleared m m
 Cleared_idle past m other h = record {
   slaves = λ q. let e = h.empty other q in h.entries q ∙ same q (in_table q past.seen) (is_measured q past.seen) e.0 e.1 ∙ ap leaves (sym (h.entries q));
   peers = refl;
@@ -163,7 +150,7 @@ Cleared_idle past m other h = record {
   same q j m e f = rw (e, f) refl
 
 -- a row of a port's other parts, where the slaves are forgotten if the port led and leads no more
-pub MasterStands_parted : (row : Row) → Emits parting_sorts row → (x : ℕ) (past : Past) (m k : Master) (before after : Role) → role past.seen ≡ before → role (grown x past (row x past)).seen ≡ after →
+pub MasterStands_parted : (row : Row) → Emits parting_sorts row → (x : ℕ) (past : Past) (m k : MasterStruct) (before after : Role) → role past.seen ≡ before → role (grown x past (row x past)).seen ≡ after →
     Clears (is_master before && not (is_master after)) m k → MasterStands past m → MasterStands (grown x past (row x past)) k
 MasterStands_parted row e x past m k before after was is clears h = by_roles (is_master before) (is_master after) refl refl clears where
   acts : List Act
@@ -190,18 +177,18 @@ MasterStands_parted row e x past m k before after was is clears h = by_roles (is
     by_change false s = s
 
 -- the same at a port that doesn't lead before
-pub MasterStands_idle : (row : Row) → Emits parting_sorts row → (x : ℕ) (past : Past) (m : Master) → role past.seen ≢ MasterRole → MasterStands past m → MasterStands (grown x past (row x past)) m
+pub MasterStands_idle : (row : Row) → Emits parting_sorts row → (x : ℕ) (past : Past) (m : MasterStruct) → role past.seen ≢ Master → MasterStands past m → MasterStands (grown x past (row x past)) m
 MasterStands_idle row e x past m other h = by_change (changes (row x past)) (MasterStands_turns (row x past) ((Emits_more parting_sorts {all = turning_sorts} refl e).only x past) x past m m (λ t. Cleared_idle past m other h) h) where
   by_change : (t : Bool) → MasterStands (grown x past (row x past)) (if t then m else m) → MasterStands (grown x past (row x past)) m
   by_change true s = s
   by_change false s = s
 
 -- a row in which the role changes for certain
-pub MasterStands_changing : (row : Row) → Emits turning_sorts row → (x : ℕ) (past : Past) (m k : Master) → changes (row x past) ≡ true → Cleared m k → MasterStands past m → MasterStands (grown x past (row x past)) k
+pub MasterStands_changing : (row : Row) → Emits turning_sorts row → (x : ℕ) (past : Past) (m k : MasterStruct) → changes (row x past) ≡ true → Cleared m k → MasterStands past m → MasterStands (grown x past (row x past)) k
 MasterStands_changing row e x past m k t c h = rw t at (MasterStands_turns (row x past) (e.only x past) x past m k (λ g. c) h)
 
 -- a correction on another port
-pub MasterStands_elsewhere : (did : Did) (past : Past) (m : Master) → MasterStands past m → MasterStands (record past { seen = Elsewhere did ∷ past.seen }) m
+pub MasterStands_elsewhere : (did : Did) (past : Past) (m : MasterStruct) → MasterStands past m → MasterStands (record past { seen = Elsewhere did ∷ past.seen }) m
 MasterStands_elsewhere did past m h = record {
   peers = h.peers;
   entries = h.entries;
@@ -213,10 +200,10 @@ MasterStands_elsewhere did past m h = record {
 }
 
 -- it doesn't matter in which step a port is, and a step that begins changes nothing
-pub MasterStands_step : (step : Step) (past : Past) (m : Master) → MasterStands past m → MasterStands (record past { step = step }) m
+pub MasterStands_step : (step : Step) (past : Past) (m : MasterStruct) → MasterStands past m → MasterStands (record past { step = step }) m
 MasterStands_step step past m h = record { peers = h.peers; entries = h.entries; asked_is = h.asked_is; going = h.going; idle = h.idle; probing = h.probing; empty = h.empty }
 
-pub MasterStands_in_step : (step : Step) (x : ℕ) (past : Past) (m : Master) → MasterStands past m → MasterStands (in_step step x past) m
+pub MasterStands_in_step : (step : Step) (x : ℕ) (past : Past) (m : MasterStruct) → MasterStands past m → MasterStands (in_step step x past) m
 MasterStands_in_step step x past m h = record {
   peers = h.peers;
   entries = h.entries;
@@ -228,7 +215,7 @@ MasterStands_in_step step x past m h = record {
 }
 
 -- the answer to a send that doesn't correct
-pub MasterStands_unheld : (p : PeerId) (x : ℕ) (past : Past) (m : Master) → corrects_in (open_send p past.seen) ≡ false → MasterStands past m → MasterStands (grown x past (Acked p ∷ [])) m
+pub MasterStands_unheld : (p : PeerId) (x : ℕ) (past : Past) (m : MasterStruct) → corrects_in (open_send p past.seen) ≡ false → MasterStands past m → MasterStands (grown x past (Acked p ∷ [])) m
 MasterStands_unheld p x past m none h =
     MasterStands_changed p (acks_where (corrects_in (open_send p past.seen))) (Acked p) x past m m refl (rw none (λ e j k. (j, k))) (acked-after p past x) (rw none (λ q. either (p.0 == q.0) (entry_of m.slaves q))) refl refl h where
       either : (b : Bool) (e : Entry) → e ≡ (if b then e else e)

@@ -2,8 +2,8 @@
 use Rattle.std.specs.Prelude.{List, map, Option}
 use Rattle.std.specs.List.{filter}
 use Rattle.std.specs.Option.{option_map}
-use Rattle.tsp_base.specs.declared.place.PeerId.{PeerId}
-use Rattle.tsp_base.specs.RoundFacts.{Estimate}
+use Rattle.tsp_rules.specs.Values.{PeerId}
+use Rattle.tsp_base.specs.Words.{Estimate}
 use Rattle.tsp_measure.specs.declared.sample.TimedSample.{TimedSample}
 use Rattle.tsp_measure.specs.Measures.{best_of}
 use Rattle.tsp_rules.specs.RoundRows.{Standing}

@@ -1,6 +1,6 @@
 -- What the contracts of a master's calls share.
 use Rattle.std.specs.Prelude.{◌≡◌, ◌≤◌, ℕ, length}
-use Rattle.tsp_base.specs.declared.place.PeerId.{PeerId}
+use Rattle.tsp_rules.specs.Values.{PeerId}
 use Rattle.tsp_acks.specs.Calls.{Contains, IsTick}
 use Rattle.tsp_measure.specs.Slaves.{entry_of, peers_of}
 use Rattle.tsp_master.specs.declared.master.Master.{Master}

@@ -1,13 +1,12 @@
 -- What a master does at its alarms.
 use Rattle.std.specs.Prelude.{Bool, false}
-use Rattle.tsp_base.specs.declared.alarm.Alarm.{Alarm}
-use Rattle.tsp_base.specs.declared.alarm.Alarm.TheVariants.{Probe, Close, Round}
-use Rattle.tsp_base.specs.Rows.{Row, nothing}
+use Rattle.tsp_rules.specs.Values.{Alarm, Round, Probe, CloseAlarm}
+use Rattle.tsp_base.specs.Words.{Row, nothing}
 use Rattle.tsp_rules.specs.RoundRows.{close_rings, probe_rings, round_rings}
 
 -- the alarms of its rounds; a close moves the clock where the port leads it
 unfoldable pub master_rings : Bool → Alarm → Row
 master_rings own Probe = probe_rings
-master_rings own Close = close_rings own
+master_rings own CloseAlarm = close_rings own
 master_rings own Round = round_rings false
 master_rings own _ = nothing

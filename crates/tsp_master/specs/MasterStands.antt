@@ -1,23 +1,17 @@
 -- What a master's table, its rounds and its last corrections stand for.
 use Rattle.std.specs.Prelude.{◌∷◌, ◌≡◌, ◌≢◌, ℕ, ◌+◌, ◌*◌, ◌%◌, ◌^◌, ◌<◌, ◌≤◌, true, false, List, None, Some}
 use Rattle.std.specs.Option.{option_map}
-use Rattle.tsp_base.specs.declared.place.PeerId.{PeerId}
-use Rattle.tsp_base.specs.declared.role.Role.TheVariants.{Master as MasterRole}
-use Rattle.tsp_base.specs.History.{Past, Seen, plain}
-use Rattle.tsp_base.specs.NodeFacts.{correct_place}
-use Rattle.tsp_base.specs.Places.{Within}
-use Rattle.tsp_base.specs.PortFacts.{role, acting, armed, in_table}
-use Rattle.tsp_base.specs.RoundFacts.{Sampled, asked, best, exchange, is_going, is_measured, is_starting, probes, request_open, started}
-use Rattle.tsp_base.specs.SendFacts.{is_acknowledged, last_number, last_post}
+use Rattle.tsp_rules.specs.Values.{PeerId, Master}
+use Rattle.tsp_base.specs.Words.{Past, Seen, plain, correct_place, Within, role, acting, armed, in_table, Sampled, asked, best, exchange, is_going, is_measured, is_starting, probes, request_open, started, is_acknowledged, last_number, last_post}
 use Rattle.tsp_acks.specs.declared.station.Station.{Station}
-use Rattle.tsp_acks.specs.Stands.{Stands}
+use Rattle.tsp_acks.specs.Stands.{StationStands}
 use Rattle.tsp_clock.specs.Clocks.{ClockValue}
 use Rattle.tsp_clock.specs.ClockStands.{ClockStands}
 use Rattle.tsp_measure.specs.Measures.{best_of}
 use Rattle.tsp_measure.specs.declared.entry.Entry.{Entry}
 use Rattle.tsp_measure.specs.Rounds.{RoundsValue, measured_with, pending_at, timed_of}
 use Rattle.tsp_measure.specs.Slaves.{entry_of, peers_of}
-use Rattle.tsp_master.specs.declared.master.Master.{Master}
+use Rattle.tsp_master.specs.declared.master.Master.{Master as MasterStruct}
 
 -- what the past comes to with a peer
 abbrev pub entry_at : PeerId → List Seen → Entry
@@ -47,35 +41,35 @@ abbrev pub IsProbing : ℕ → List Seen → Type 0
 IsProbing at seen = (is_going seen ≡ true) × (probes seen < 3) × ((close : ℕ) → (armed seen).close ≡ Some close → at + 7000000 ≤ close + 2000000 * probes seen)
 
 -- the master is what its port's past comes to, whatever the role: of the exchanges while a round goes on
-pub record MasterStands (past : Past) (master : Master) : Type 0 where
+pub record MasterStands (past : Past) (master : MasterStruct) : Type 0 where
   pub peers : peers_of master.slaves ≡ past.peers
   pub entries : (p : PeerId) → entry_of master.slaves p ≡ entry_at p past.seen
   pub asked_is : master.rounds.asked ≡ asked past.seen % 2 ^ 64
   pub going : is_going past.seen ≡ true → RoundStands past.seen master.rounds
   pub idle : is_going past.seen ≡ false → (p : PeerId) (c : ℕ) → request_open p c past.seen ≡ None
   pub probing : (at : ℕ) → (armed past.seen).probe ≡ Some at → IsProbing at past.seen
-  pub empty : role past.seen ≢ MasterRole → (p : PeerId) → (in_table p past.seen ≡ false) × (is_measured p past.seen ≡ false)
+  pub empty : role past.seen ≢ Master → (p : PeerId) → (in_table p past.seen ≡ false) × (is_measured p past.seen ≡ false)
 
 -- a master, its station and the clock
 pub record LeadState : Type 0 where
-  pub master : Master
+  pub master : MasterStruct
   pub station : Station
   pub clock : ClockValue
 
 -- these three
-abbrev pub lead_of : Master → Station → ClockValue → LeadState
+abbrev pub lead_of : MasterStruct → Station → ClockValue → LeadState
 lead_of master station clock = record { master = master; station = station; clock = clock }
 
 -- each of the three is what the past comes to, whether the step has acted or not
 pub record RingStands (past : Past) (lead : LeadState) : Type 0 where
   pub master : MasterStands past lead.master
-  pub station : Stands past lead.station
+  pub station : StationStands past lead.station
   pub clock : ClockStands past lead.clock
 
 -- the same, in a step that has acted
 pub record LeadStands (past : Past) (lead : LeadState) : Type 0 where
   pub master : MasterStands past lead.master
-  pub station : Stands past lead.station
+  pub station : StationStands past lead.station
   pub acted : acting past.seen ≡ true
   pub clock : ClockStands past lead.clock
 
@@ -98,13 +92,13 @@ pub record StartsStands (past : Past) (lead : LeadState) : Type 0 where
 
 -- a master and its station, whatever the port's role
 pub record OwnState : Type 0 where
-  pub master : Master
+  pub master : MasterStruct
   pub station : Station
 
 -- both are what the past comes to
 pub record OwnStands (past : Past) (own : OwnState) : Type 0 where
   pub master : MasterStands past own.master
-  pub station : Stands past own.station
+  pub station : StationStands past own.station
 
 -- a sample is of an exchange whose request stands after the last Correct of the node
 pub record IsSinceCorrect (p : PeerId) (s : Sampled) (seen : List Seen) : Type 0 where

@@ -8,7 +8,7 @@ ghost use Rattle.tsp_base.specs.declared.role.Role.{Role};
 ghost use Rattle.tsp_base.specs.Rows.{grown};
 ghost use Rattle.tsp_rules.specs.DateRows.{all_settled};
 ghost use Rattle.tsp_base.specs.Peers.{IsPeers};
-ghost use Rattle.tsp_acks.specs.Calls.{Contains, Past, IsSamePort, Stands};
+ghost use Rattle.tsp_acks.specs.Calls.{Contains, Past, IsSamePort, StationStands};
 ghost use Rattle.tsp_measure.specs.Slaves.{peers_of, entry_of, Changes, ChangesAll, leaves, posts_at};
 
 use std::alloc::{AllocError, Global};
@@ -91,7 +91,7 @@ impl Master {
     /// Ends the going round, if there is one: it probes no more, and has no close. The answer is whether there
     /// was one.
     pub fn abandon(&mut self, station: &mut Station) -> bool
-        ensures going { (past : Past) → Stands past station.old → is_going past.seen ≡ result }
+        ensures going { (past : Past) → StationStands past station.old → is_going past.seen ≡ result }
         ensures stands { result ≡ true → (x : ℕ) (past : Past)
             → OwnStands past (record { master = self.old; station = station.old })
             → OwnStands (grown x past (Abandon ∷ []))

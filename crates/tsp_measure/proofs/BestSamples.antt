@@ -6,7 +6,7 @@ use Rattle.std.proofs.Math.Seq.{get_or-append_seam}
 use Rattle.std.proofs.lemmas.List.Elements.{All-push, All-weaker, All-nil, All-get_or}
 use Rattle.std.specs.Prelude.{int_lt}
 use Rattle.std.specs.List.{fold}
-use Rattle.tsp_measure.specs.Measures.{IsFirstOfLeastTrip, IsBestOf, better, best_of}
+use Rattle.tsp_measure.specs.Measures.{IsFirstOfLeastTrip, IsBestSample, better, best_of}
 use Rattle.tsp_measure.specs.declared.sample.TimedSample.{TimedSample}
 
 lesser : (x y : ℤ) → int_lt x y ≡ true → x <ℤ y
@@ -50,17 +50,17 @@ only_best xs x e = record {
   first = λ k less. absurd (let n : length xs ≡ 0 = ap length e in omega arith);
 }
 
-better_by : (xs : List TimedSample) (x early : TimedSample) (i : ℕ) (t : Bool) → int_lt x.trip early.trip ≡ t → IsFirstOfLeastTrip xs early i → IsBestOf (xs ++ x ∷ []) (cond t (Some x) (Some early))
+better_by : (xs : List TimedSample) (x early : TimedSample) (i : ℕ) (t : Bool) → int_lt x.trip early.trip ≡ t → IsFirstOfLeastTrip xs early i → IsBestSample (xs ++ x ∷ []) (cond t (Some x) (Some early))
 better_by xs x early i true e h = (length xs, later_best xs x early i h (lesser x.trip early.trip e))
 better_by xs x early i false e h = (i, earlier_best xs x early i h (not_lesser x.trip early.trip e))
 
-better_is_best : (xs : List TimedSample) (x : TimedSample) (r : Option TimedSample) → IsBestOf xs r → IsBestOf (xs ++ x ∷ []) (better r x)
+better_is_best : (xs : List TimedSample) (x : TimedSample) (r : Option TimedSample) → IsBestSample xs r → IsBestSample (xs ++ x ∷ []) (better r x)
 better_is_best xs x None h = (length xs, only_best xs x h)
 better_is_best xs x (Some early) h = better_by xs x early h.0 (int_lt x.trip early.trip) refl h.1
 
-best_from : (ys xs : List TimedSample) (r : Option TimedSample) → IsBestOf xs r → IsBestOf (xs ++ ys) (fold better r ys)
+best_from : (ys xs : List TimedSample) (r : Option TimedSample) → IsBestSample xs r → IsBestSample (xs ++ ys) (fold better r ys)
 best_from [] xs r h = rw (append-nil xs) h
-best_from (y ∷ ys) xs r h = subst (λ (zs : List TimedSample). IsBestOf zs (fold better (better r y) ys)) (append_assoc xs (y ∷ []) ys) (best_from ys (xs ++ y ∷ []) (better r y) (better_is_best xs y r h))
+best_from (y ∷ ys) xs r h = subst (λ (zs : List TimedSample). IsBestSample zs (fold better (better r y) ys)) (append_assoc xs (y ∷ []) ys) (best_from ys (xs ++ y ∷ []) (better r y) (better_is_best xs y r h))
 
-pub best_of-IsBestOf : (xs : List TimedSample) → IsBestOf xs (best_of xs)
+pub best_of-IsBestOf : (xs : List TimedSample) → IsBestSample xs (best_of xs)
 best_of-IsBestOf xs = best_from xs [] None refl

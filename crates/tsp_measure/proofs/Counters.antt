@@ -8,7 +8,7 @@ use Rattle.tsp_measure.specs.declared.exchange.Exchange.{Exchange}
 use Rattle.tsp_measure.specs.declared.sample.TimedSample.{TimedSample}
 use Rattle.tsp_measure.specs.declared.sample.Reply.{Reply}
 use Rattle.tsp_measure.specs.declared.sample.Reply.TheVariants.{NotStarted, Sample as SampleOf}
-use Rattle.tsp_measure.specs.Measures.{Measured, begun, nothing_measured, IsNewCounter, Replies, timed_sample, asks}
+use Rattle.tsp_measure.specs.Measures.{Measured, begun, nothing_measured, IsNewCounter, TakesReply, timed_sample, asks}
 use Rattle.tsp_measure.specs.Peers.{MeasuredPeers, with_peer}
 use Rattle.tsp_measure.specs.Rounds.{RoundsValue, measured_with, request_of, pending_at, IsFrom, AreApart, IsCounted, IsRounds, IsNothing, Starts}
 
@@ -223,7 +223,7 @@ IsRounds-starts p word a old new s h few c =
 pub asks-counter : (word counter : ℕ) (e : Exchange) → asks word counter e ≡ true → e.counter ≡ counter
 asks-counter word counter e h = eqb-true e.counter counter ((and_parts (e.word == word) (e.counter == counter) h).1)
 
-IsAsked-replies : (first total most : ℕ) (word counter ticket : ℕ) (s d : ℤ) (old new : Measured) (r : Reply) → Replies word counter ticket s d old new r → IsAsked first total most old → IsAsked first total most new
+IsAsked-replies : (first total most : ℕ) (word counter ticket : ℕ) (s d : ℤ) (old new : Measured) (r : Reply) → TakesReply word counter ticket s d old new r → IsAsked first total most old → IsAsked first total most new
 IsAsked-replies first total most word counter ticket s d old new NotStarted r h = subst (IsAsked first total most) (sym r.1) h
 IsAsked-replies first total most word counter ticket s d old new (SampleOf sample) i h =
     let open_was : All (λ (e : Exchange). IsFrom first total e.counter) (i.before ++ i.exchange ∷ i.after) = rw (← i.was_pending) h.pending in
@@ -242,7 +242,7 @@ IsAsked-replies first total most word counter ticket s d old new (SampleOf sampl
 
 -- an exchange was answered, or none
 pub IsRounds-replies : (p : PeerId) (word counter ticket : ℕ) (s d : ℤ) (old new : RoundsValue) (r : Reply) → new.asked ≡ old.asked → new.probes ≡ old.probes →
-    Replies word counter ticket s d (measured_with old p) (measured_with new p) r → ((q : PeerId) → (q.0 ≡ p.0 → ⊥) → measured_with new q ≡ measured_with old q) → IsRounds old → IsRounds new
+    TakesReply word counter ticket s d (measured_with old p) (measured_with new p) r → ((q : PeerId) → (q.0 ≡ p.0 → ⊥) → measured_with new q ≡ measured_with old q) → IsRounds old → IsRounds new
 IsRounds-replies p word counter ticket s d old new r asked probes replies others h =
     IsRounds-by new h.counted.first h.counted.total (rw probes h.three) h.counted.ordered (rw probes h.counted.few) (asked ∙ h.counted.asked_is)
     (rw probes (IsAsked-others p old new h.counted.first h.counted.total (old.probes + 1) others (IsAsked-of old h)

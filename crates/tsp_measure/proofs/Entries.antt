@@ -7,12 +7,12 @@ use Rattle.std.proofs.lemmas.Bool.{ne_eqb}
 use Rattle.std.proofs.Math.Seq.{take-suc, take-append_seam}
 use Rattle.std.proofs.lemmas.List.{length-map, length-take-le, get_or-map, get_or_at, set_at, take_all, drop_more, map-append}
 use Rattle.tsp_base.specs.declared.place.PeerId.{PeerId}
-use Rattle.tsp_base.specs.Peers.{IsPeers}
+use Rattle.tsp_base.specs.Words.{IsPeers}
 use Rattle.tsp_base.proofs.AscendingLemmas.{Rise, Rise-of, Rise-rest, Parts-absent, Parts-searched, equal_means}
 use Rattle.tsp_measure.specs.declared.entry.Change.{Change}
 use Rattle.tsp_measure.specs.declared.entry.Change.TheVariants.{Join, Measure, Post, Begin, Acknowledge}
 use Rattle.tsp_measure.specs.declared.entry.Entry.{Entry}
-use Rattle.tsp_measure.specs.Slaves.{idle_entry, peers_of, entry_of, changed_by, Changes, ChangesAll, IsPlaceOf}
+use Rattle.tsp_measure.specs.Slaves.{idle_entry, peers_of, entry_of, changed_by, Changes, ChangesAll, IsEntryPlace}
 
 -- the peers' numbers rise along the entries
 abbrev pub Rising : List Entry → Type 0
@@ -52,7 +52,7 @@ entry_of-set (x ∷ es) (suc i) d p new q r h e f =
       by_test false g n = refl
 
 -- the entry that was found, changed, is put back
-pub Changes-put : (f : Entry → Entry) (es new : List Entry) (p : PeerId) (i : ℕ) (x : Entry) → IsPeers (peers_of es) → IsPlaceOf p es (Ok i) → x ≡ get_or es i x → (f x).peer ≡ x.peer → new ≡ set es i (f x) → Changes p f es new
+pub Changes-put : (f : Entry → Entry) (es new : List Entry) (p : PeerId) (i : ℕ) (x : Entry) → IsPeers (peers_of es) → IsEntryPlace p es (Ok i) → x ≡ get_or es i x → (f x).peer ≡ x.peer → new ≡ set es i (f x) → Changes p f es new
 Changes-put f es new p i x up place is same put q = rw put (
     let r = Rising-peers es up in
     let here : (get_or es i x).peer.0 ≡ p.0 = place.1 x in
@@ -64,7 +64,7 @@ Changes-put f es new p i x up place is same put q = rw put (
       by_test false e k = refl
 
 -- a change that leaves a peer without an entry alone
-pub Changes-absent : (f : Entry → Entry) (es : List Entry) (p : PeerId) (i : ℕ) → IsPlaceOf p es (Err i) → f (idle_entry p) ≡ idle_entry p → Changes p f es es
+pub Changes-absent : (f : Entry → Entry) (es : List Entry) (p : PeerId) (i : ℕ) → IsEntryPlace p es (Err i) → f (idle_entry p) ≡ idle_entry p → Changes p f es es
 Changes-absent f es p i place same q = by_test (p.0 == q.0) refl where
   by_test : (b : Bool) → (p.0 == q.0) ≡ b → entry_of es q ≡ (if b then f (entry_of es q) else entry_of es q)
   by_test true e =
@@ -80,14 +80,14 @@ peers_of-set (x ∷ es) zero d new e = ap (λ p. p ∷ peers_of es) (e (omega ar
 peers_of-set (x ∷ es) (suc i) d new e = ap (λ ps. x.peer ∷ ps) (peers_of-set es i d new (λ h. e (omega arith)))
 
 -- what a binary search by the peers' numbers finds
-pub IsPlaceOf-searched : (es : List Entry) (p : PeerId) (r : Result ℕ ℕ) → Rising es → IsSearchInRange r (length es) → IsBinarySearchResult (λ (e : Entry). nat_cmp e.peer.0 p.0) es r → IsPlaceOf p es r
+pub IsPlaceOf-searched : (es : List Entry) (p : PeerId) (r : Result ℕ ℕ) → Rising es → IsSearchInRange r (length es) → IsBinarySearchResult (λ (e : Entry). nat_cmp e.peer.0 p.0) es r → IsEntryPlace p es r
 IsPlaceOf-searched es p (Ok i) rise bound found = (bound, λ d. equal_means (get_or es i d).peer.0 p.0 (found d))
 IsPlaceOf-searched es p (Err i) rise bound found =
     let number = λ (e : Entry). e.peer.0 in
     Parts-absent number p.0 es i (Parts-searched number p.0 es i rise bound found)
 
 -- a search finds the entry of a peer that has one
-pub always_found : (es : List Entry) (p : PeerId) (i : ℕ) → Contains (peers_of es) p → IsPlaceOf p es (Err i) → ⊥
+pub always_found : (es : List Entry) (p : PeerId) (i : ℕ) → Contains (peers_of es) p → IsEntryPlace p es (Err i) → ⊥
 always_found es p i c place =
     let inside : c.0 < length es = omega (arith, c.1, length-map es (λ (e : Entry). e.peer)) in
     let here : (get_or es c.0 (idle_entry p)).peer ≡ p = sym (get_or-map (λ (e : Entry). e.peer) es c.0 (idle_entry p) p inside) ∙ c.2 in

@@ -2,7 +2,7 @@
 use Rattle.std.proofs.Common.{◌≡◌, refl, zero, suc, ℤ, pos, negsuc, ◌+ℤ◌, ◌-ℤ◌, ◌≤ℤ◌, arith}
 use Rattle.std.proofs.lemmas.Int.{ints}
 use Rattle.std.specs.Int.{int_div_euclid}
-use Rattle.tsp_base.specs.Samples.{half_down, half_up}
+use Rattle.tsp_base.specs.Words.{half_down, half_up}
 
 pub div_euclid_half : (z : ℤ) → int_div_euclid z (pos 2) ≡ half_down z
 div_euclid_half (pos n) = refl

@@ -2,7 +2,7 @@
 use Rattle.std.proofs.Common.{◌≡◌, ℤ, ◌-ℤ◌, arith, FitsSigned, to_z, of_z}
 use Rattle.std.proofs.lemmas.Int.{ints}
 use Rattle.std.specs.Int.{w64}
-use Rattle.tsp_base.specs.Samples.{half_down}
+use Rattle.tsp_base.specs.Words.{half_down}
 use Rattle.tsp_measure.specs.Measures.{IsReading, IsStamp}
 use Rattle.tsp_measure.proofs.Halves.{half_down-low, half_down-high}
 

@@ -1,7 +1,7 @@
 -- What is measured with one peer.
 use Rattle.std.specs.Prelude.{◌≡◌, ℕ, ◌+◌, ◌<◌, ◌==◌, ◌&&◌, Bool, true, false, if◌then◌else◌, ℤ, pos, negsuc, ◌-ℤ◌, ◌≤ℤ◌, ◌<ℤ◌, int_lt, Option, None, Some, MatchOption, List, [], ◌∷◌, ◌++◌, length, slice_index_or}
 use Rattle.std.specs.List.{All, fold}
-use Rattle.tsp_base.specs.Samples.{sample_diff, sample_err}
+use Rattle.tsp_base.specs.Words.{sample_diff, sample_err}
 use Rattle.tsp_measure.specs.declared.exchange.Exchange.{Exchange}
 use Rattle.tsp_measure.specs.declared.sample.Reply.{Reply}
 use Rattle.tsp_measure.specs.declared.sample.Reply.TheVariants.{NotStarted, Sample as SampleOf}
@@ -56,9 +56,9 @@ pub record IsAnswered (word counter : ℕ) (ticket : ℕ) (s d : ℤ) (old new :
   pub told : answer ≡ (timed_sample exchange.a s d ticket counter).sample
 
 -- what a reply changes, and what it was
-abbrev pub Replies : ℕ → ℕ → ℕ → ℤ → ℤ → Measured → Measured → Reply → Type 0
-Replies word counter ticket s d old new NotStarted = All (λ e. asks word counter e ≡ false) old.pending × (new ≡ old)
-Replies word counter ticket s d old new (SampleOf sample) = IsAnswered word counter ticket s d old new sample
+abbrev pub TakesReply : ℕ → ℕ → ℕ → ℤ → ℤ → Measured → Measured → Reply → Type 0
+TakesReply word counter ticket s d old new NotStarted = All (λ e. asks word counter e ≡ false) old.pending × (new ≡ old)
+TakesReply word counter ticket s d old new (SampleOf sample) = IsAnswered word counter ticket s d old new sample
 
 -- of two samples the one with the shorter round trip, and the earlier where they are equal
 abbrev pub better : Option TimedSample → TimedSample → Option TimedSample
@@ -81,5 +81,5 @@ abbrev pub AllReadings : List Exchange → Type 0
 AllReadings pending = All (λ (e : Exchange). IsReading e.a) pending
 
 -- a sample is the best of these, or none where there are none
-abbrev pub IsBestOf : List TimedSample → Option TimedSample → Type 0
-IsBestOf samples best = MatchOption best (samples ≡ []) (λ (b : TimedSample). (i : ℕ) × IsFirstOfLeastTrip samples b i)
+abbrev pub IsBestSample : List TimedSample → Option TimedSample → Type 0
+IsBestSample samples best = MatchOption best (samples ≡ []) (λ (b : TimedSample). (i : ℕ) × IsFirstOfLeastTrip samples b i)

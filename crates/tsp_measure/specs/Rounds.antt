@@ -2,7 +2,7 @@
 use Rattle.std.specs.Prelude.{◌≡◌, ℕ, ◌+◌, ◌*◌, ◌%◌, ◌^◌, ◌<◌, ◌≤◌, ◌==◌, ℤ, if◌then◌else◌, List, [], ◌∷◌, ◌++◌, Option, None, Some}
 use Rattle.std.specs.List.{All}
 use Rattle.tsp_base.specs.declared.place.PeerId.{PeerId}
-use Rattle.tsp_base.specs.RoundFacts.{Estimate, OpenRequest, Sampled}
+use Rattle.tsp_base.specs.Words.{Estimate, OpenRequest, Sampled}
 use Rattle.tsp_measure.specs.declared.exchange.Exchange.{Exchange}
 use Rattle.tsp_measure.specs.declared.sample.Sample.{Sample}
 use Rattle.tsp_measure.specs.declared.sample.TimedSample.{TimedSample}

@@ -3,7 +3,7 @@ use Rattle.std.specs.Prelude.{◌≡◌, ◌≢◌, ℕ, ◌+◌, ◌%◌, ◌<�
 use Rattle.std.specs.List.{list_all}
 use Rattle.tsp_base.specs.declared.constants.TheConstants.{REUSE}
 use Rattle.tsp_base.specs.declared.place.PeerId.{PeerId}
-use Rattle.tsp_base.specs.Hold.{is_past}
+use Rattle.tsp_base.specs.Words.{is_past}
 use Rattle.tsp_measure.specs.declared.entry.Change.{Change}
 use Rattle.tsp_measure.specs.declared.entry.Change.TheVariants.{Join, Measure, Post, Begin, Acknowledge}
 use Rattle.tsp_measure.specs.declared.entry.Entry.{Entry}
@@ -82,6 +82,6 @@ abbrev pub are_settled_by : ℕ → List Entry → Bool
 are_settled_by x es = list_all (λ (e : Entry). not e.joined || is_settled_by e x) es
 
 -- where a peer's entry is, or where it would be
-abbrev pub IsPlaceOf : PeerId → List Entry → Result ℕ ℕ → Type 0
-IsPlaceOf p es (Ok i) = (i < length es) × ((d : Entry) → (slice_index_or es i d).peer.0 ≡ p.0)
-IsPlaceOf p es (Err i) = (k : ℕ) (d : Entry) → k < length es → (slice_index_or es k d).peer.0 ≢ p.0
+abbrev pub IsEntryPlace : PeerId → List Entry → Result ℕ ℕ → Type 0
+IsEntryPlace p es (Ok i) = (i < length es) × ((d : Entry) → (slice_index_or es i d).peer.0 ≡ p.0)
+IsEntryPlace p es (Err i) = (k : ℕ) (d : Entry) → k < length es → (slice_index_or es k d).peer.0 ≢ p.0

@@ -4,7 +4,7 @@ ghost use Rattle.std.specs.Box.{boxed_slice_items};
 ghost use Rattle.std.specs.List.{Contains};
 ghost use Rattle.std.specs.List.Sorted.{IsStrictlyIncreasing};
 ghost use Rattle.std.specs.Option.{option_map};
-ghost use Rattle.tsp_measure.specs.Measures.{IsReading, IsStamp, IsNewCounter, IsBestOf, Replies};
+ghost use Rattle.tsp_measure.specs.Measures.{IsReading, IsStamp, IsNewCounter, IsBestSample, TakesReply};
 ghost use Rattle.tsp_measure.specs.Measures.{nothing_measured, begun, best_of};
 ghost use Rattle.tsp_base.specs.Peers.{IsAscending};
 ghost use Rattle.tsp_measure.specs.Peers.{with_peer};
@@ -158,7 +158,7 @@ impl Exchanges {
         requires s { IsStamp s }
         requires d { IsReading d }
         ensures peers { self.new.peers ≡ self.old.peers }
-        ensures replies { Replies word counter ticket s d (with_peer self.old peer.0)
+        ensures replies { TakesReply word counter ticket s d (with_peer self.old peer.0)
             (with_peer self.new peer.0) result }
         ensures others { (q : ℕ) → q ≢ peer.0 → with_peer self.new q ≡ with_peer self.old q }
     {
@@ -172,7 +172,7 @@ impl Exchanges {
     pub fn best(&self, peer: PeerId) -> Option<Sample>
         ensures value { result ≡ option_map (λ t. t.sample)
             (best_of (with_peer self.now peer.0).samples) }
-        ensures first { IsBestOf (with_peer self.now peer.0).samples
+        ensures first { IsBestSample (with_peer self.now peer.0).samples
             (best_of (with_peer self.now peer.0).samples) }
     {
         match self.measured_place(peer) {

@@ -2,7 +2,7 @@
 ghost use Rattle.std.specs.Prelude.{◌≡◌, ◌<◌, [], ◌∷◌, ◌++◌, true, false, length, MatchOption};
 ghost use Rattle.std.specs.List.{All, HoldsAt};
 ghost use Rattle.std.specs.Option.{option_map};
-ghost use Rattle.tsp_measure.specs.Measures.{IsReading, IsStamp, nothing_measured, begun, asks, Replies, best_of};
+ghost use Rattle.tsp_measure.specs.Measures.{IsReading, IsStamp, nothing_measured, begun, asks, TakesReply, best_of};
 
 use crate::exchange::Exchange;
 use crate::sample::{Reply, Sample, TimedSample};
@@ -61,7 +61,7 @@ impl PeerExchanges {
     pub(crate) fn reply(&mut self, word: u64, counter: u64, ticket: u16, s: i64, d: i64) -> Reply
         requires s { IsStamp s }
         requires d { IsReading d }
-        ensures { Replies word counter ticket s d self.old self.new result }
+        ensures { TakesReply word counter ticket s d self.old self.new result }
     {
         match place_of(self.pending.as_slice(), word, counter) {
             None => Reply::NotStarted,

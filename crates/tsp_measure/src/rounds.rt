@@ -3,7 +3,7 @@ ghost use Rattle.std.specs.Prelude.{◌≡◌, ℕ, ◌+◌, ◌*◌, ◌≤◌,
 ghost use Rattle.std.specs.List.{Contains};
 ghost use Rattle.std.specs.Option.{option_map};
 ghost use Rattle.tsp_base.specs.declared.place.PeerId.{PeerId};
-ghost use Rattle.tsp_measure.specs.Measures.{IsReading, Replies, begun, best_of};
+ghost use Rattle.tsp_measure.specs.Measures.{IsReading, TakesReply, begun, best_of};
 ghost use Rattle.tsp_base.specs.Peers.{IsAscending};
 ghost use Rattle.tsp_measure.specs.Peers.{with_peer};
 ghost use Rattle.tsp_measure.specs.Rounds.{RoundsValue, measured_with, IsCounted, IsNothing, AreApart, Starts};
@@ -116,7 +116,7 @@ impl Rounds {
         ensures probes { self.new.probes ≡ self.old.probes }
         ensures peers { self.new.exchanges.peers ≡ self.old.exchanges.peers }
         ensures apart { AreApart (measured_with self.old peer).pending }
-        ensures replies { Replies reply.now.word reply.now.counter reply.now.ticket
+        ensures replies { TakesReply reply.now.word reply.now.counter reply.now.ticket
             reply.now.reading target (measured_with self.old peer) (measured_with self.new peer)
             result }
         ensures others { (q : PeerId) → (q.0 ≡ peer.0 → ⊥)

@@ -5,7 +5,7 @@ ghost use Rattle.tsp_base.specs.declared.place.PeerId.{PeerId};
 ghost use Rattle.tsp_base.specs.Peers.{IsPeers};
 ghost use Rattle.tsp_measure.specs.declared.entry.Entry.{Entry};
 ghost use Rattle.tsp_measure.specs.Slaves.{peers_of, idle_entry, entry_of, Changes, ChangesAll};
-ghost use Rattle.tsp_measure.specs.Slaves.{changed_by, leaves, unmeasures, are_settled_by, IsPlaceOf};
+ghost use Rattle.tsp_measure.specs.Slaves.{changed_by, leaves, unmeasures, are_settled_by, IsEntryPlace};
 
 use crate::entry::{Change, Entry};
 use std::alloc::{AllocError, Global};
@@ -36,7 +36,7 @@ impl Model for Slaves {
 /// The place of a peer's entry; where the peer has none, `Err` with the place where it would be.
 fn place_of(entries: &[Entry], peer: PeerId) -> Result<usize, usize>
     requires { IsPeers (peers_of entries.now) }
-    ensures { IsPlaceOf peer entries.now result }
+    ensures { IsEntryPlace peer entries.now result }
 {
     entries.binary_search_by_key(&peer.0, |entry| entry.peer.0)
 }

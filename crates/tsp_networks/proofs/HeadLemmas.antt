@@ -3,8 +3,7 @@ use Rattle.std.specs.Prelude.{◌≡◌, ℕ, ◌≤◌, ◌+◌, ◌-◌, List,
 use Rattle.std.proofs.Common.{ap, ◌∙◌, arith, length-drop}
 use Rattle.std.proofs.lemmas.List.{drop-append-le, take-append-le, map_push}
 use Rattle.std.proofs.lemmas.List.Elements.{All-head, All-tail}
-use Rattle.tsp_base.specs.declared.datagram.Datagram.{Datagram}
-use Rattle.tsp_base.specs.declared.place.Place.{Place}
+use Rattle.tsp_rules.specs.Values.{Datagram, Place}
 use Rattle.tsp_networks.specs.declared.head.Head.{Head}
 use Rattle.tsp_networks.specs.declared.head.Route.{Route}
 use Rattle.tsp_networks.specs.declared.way.Way.{Way}

@@ -4,8 +4,8 @@ use Rattle.std.proofs.Common.{sym, ap, ◌∙◌, arith, subst, inl, inr, length
 use Rattle.std.proofs.lemmas.Bool.{cases_lt, ne_eqb, and_parts, or_right}
 use Rattle.std.specs.List.{list_any}
 use Rattle.std.specs.List.Sorted.{IsStrictlyIncreasing}
-use Rattle.tsp_base.specs.declared.place.PeerId.{PeerId}
-use Rattle.tsp_base.specs.Headers.{HeaderValue, all_joined, has_member, is_whole}
+use Rattle.tsp_rules.specs.Values.{PeerId}
+use Rattle.tsp_base.specs.Words.{HeaderValue, all_joined, has_member, is_whole}
 use Rattle.tsp_rules.specs.NodeRows.{PortSetup}
 use Rattle.tsp_run.specs.Networks.{networks, networks_among, numbers_below, peers_on, port_on, ports_on, room}
 

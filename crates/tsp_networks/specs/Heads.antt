@@ -1,16 +1,8 @@
 -- How posts are stored: the octets of all names in one list, and in another all else.
 use Rattle.std.specs.Prelude.{◌≡◌, ℕ, ◌+◌, ◌*◌, ◌≤◌, Bool, true, false, List, [], length, slice_range, All, vec_len, vec_capacity}
 use Rattle.std.specs.Global.{Vec}
-use Rattle.tsp_base.specs.declared.datagram.Datagram.{Datagram}
-use Rattle.tsp_base.specs.declared.datagram.Datagram.TheVariants.{Message, Stamp}
-use Rattle.tsp_base.specs.declared.stamp.Stamp.TheVariants.{Request, Reply}
-use Rattle.tsp_base.specs.Stamps.{IsReply}
-use Rattle.tsp_base.specs.declared.kind.Kind.{Kind}
-use Rattle.tsp_base.specs.declared.message.Body.{Body}
-use Rattle.tsp_base.specs.Messages.{body_fits}
-use Rattle.tsp_base.specs.declared.place.Place.{Place}
-use Rattle.tsp_base.specs.declared.place.Place.TheVariants.{Peer, Stranger}
-use Rattle.tsp_base.specs.Names.{IsName}
+use Rattle.tsp_rules.specs.Values.{Datagram, Message, Stamp, Kind, Body, Place, Peer, Stranger, Request, Reply}
+use Rattle.tsp_base.specs.Words.{IsReply, body_fits, IsName}
 use Rattle.tsp_run.specs.declared.posted.Posted.{Posted}
 use Rattle.tsp_networks.specs.declared.head.Head.{Head}
 use Rattle.tsp_networks.specs.declared.head.Route.{Route}

@@ -1,6 +1,6 @@
 -- Posted datagrams as their readers see them.
 use Rattle.std.specs.Prelude.{ℕ, List}
-use Rattle.tsp_base.specs.declared.datagram.Datagram.{Datagram}
+use Rattle.tsp_rules.specs.Values.{Datagram}
 use Rattle.tsp_run.specs.declared.posted.Posted.{Posted}
 use Rattle.tsp_networks.specs.declared.way.Way.{Way}
 

@@ -1,6 +1,6 @@
 -- The acts on a sheet of lines, and its room.
 use Rattle.std.specs.Prelude.{ℕ, List, map}
-use Rattle.tsp_base.specs.declared.act.Placed.{Placed}
+use Rattle.tsp_rules.specs.Values.{Placed}
 use Rattle.tsp_run.specs.declared.line.Line.{Line}
 use Rattle.tsp_networks.specs.declared.sheet.Sheet.{Sheet}
 

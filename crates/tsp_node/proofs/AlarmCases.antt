@@ -2,17 +2,8 @@
 use Rattle.std.specs.Prelude.{◌≡◌, ◌≢◌, ℕ, Bool, true, false, List, [], ◌∷◌, refl}
 use Rattle.std.proofs.Common.{sym, ◌∙◌, ap}
 use Rattle.std.proofs.lemmas.Bool.{false≢true}
-use Rattle.tsp_base.specs.declared.act.Act.TheVariants.{Late, Ring}
-use Rattle.tsp_base.specs.declared.act.Placed.{Placed}
-use Rattle.tsp_base.specs.declared.alarm.Alarm.{Alarm}
-use Rattle.tsp_base.specs.declared.alarm.Alarm.TheVariants.{Close, Elect, Probe, Quiet, Resolve, Round, Search, Window}
-use Rattle.tsp_base.specs.declared.constants.TheConstants.{ROUND, WAIT}
-use Rattle.tsp_base.specs.declared.kind.Kind.TheVariants.{Quit}
-use Rattle.tsp_base.specs.declared.place.Port.{Port}
-use Rattle.tsp_base.specs.Alarms.{deadline}
-use Rattle.tsp_base.specs.History.{Past}
-use Rattle.tsp_base.specs.Performs.{Keeps, Performs}
-use Rattle.tsp_base.specs.Rows.{Row, arms, either_by, for_each, nothing, puts}
+use Rattle.tsp_rules.specs.Values.{Ring, Late, Placed, Alarm, Quiet, Window, Elect, Search, Round, Probe, CloseAlarm, ResolveAlarm, QuitKind, Port, ROUND, WAIT}
+use Rattle.tsp_base.specs.Words.{deadline, Past, Keeps, Performs, Row, arms, either_by, for_each, nothing, puts}
 use Rattle.tsp_base.proofs.PerformsLemmas.{Performs_nothing, Performs_same}
 use Rattle.tsp_rules.specs.Answers.{alarm_rings, rings}
 use Rattle.tsp_rules.specs.CandidateRows.{window_rings}
@@ -64,11 +55,11 @@ pub corrects_now_due : (x : ℕ) (own wait : Bool) (alarm : Alarm) (before : Por
 corrects_now_due x own wait alarm before e b k past h = k past h ∙ ap corrects (sym (now_due own wait alarm x past (due_is alarm x past before h ∙ e)))
 
 -- an alarm that is no candidate's and no master's
-pub of_slave : (wait : Bool) (alarm : Alarm) → is_of_master wait alarm ≡ false → alarm ≢ Round → alarm ≢ Window → alarm ≢ Resolve → is_of_slave alarm ≡ true
+pub of_slave : (wait : Bool) (alarm : Alarm) → is_of_master wait alarm ≡ false → alarm ≢ Round → alarm ≢ Window → alarm ≢ ResolveAlarm → is_of_slave alarm ≡ true
 of_slave wait Window e r w s = absurd (w refl)
 of_slave wait Probe e r w s = absurd (false≢true (sym e))
-of_slave wait Close e r w s = absurd (false≢true (sym e))
-of_slave wait Resolve e r w s = absurd (s refl)
+of_slave wait CloseAlarm e r w s = absurd (false≢true (sym e))
+of_slave wait ResolveAlarm e r w s = absurd (s refl)
 of_slave wait Round e r w s = absurd (r refl)
 of_slave wait _ e r w s = refl
 
@@ -86,7 +77,7 @@ waits false e = absurd (false≢true (sym e))
 pub master_rings-is : (own wait : Bool) (alarm : Alarm) → is_of_master wait alarm ≡ true → master_rings own alarm ≡ alarm_rings own wait alarm
 unfolding master_rings alarm_rings
 master_rings-is own wait Probe e = refl
-master_rings-is own wait Close e = refl
+master_rings-is own wait CloseAlarm e = refl
 master_rings-is own false Round e = refl
 master_rings-is own true Round e = absurd (false≢true e)
 master_rings-is own wait _ e = absurd (false≢true e)
@@ -135,9 +126,9 @@ corrects_wait x past = sym (corrects-none (round_rings true x past) ((Emits_more
 -- the end of a resolution
 pub emits_resolve : Emits (Numbering ∷ Alarming ∷ []) resolve_rings
 unfolding resolve_rings quits_rivals
-emits_resolve = Emits_either (is_in_time Resolve) _ _
-    (Emits_then (puts (Ring Resolve)) _ (Emits_puts (Ring Resolve) refl) (Emits_reading rivals_at (for_each (begins Quit)) (λ ps. Emits_each (begins Quit) ps (λ p. emits_begins Quit p refl))))
-    (Emits_puts (Late Resolve) refl)
+emits_resolve = Emits_either (is_in_time ResolveAlarm) _ _
+    (Emits_then (puts (Ring ResolveAlarm)) _ (Emits_puts (Ring ResolveAlarm) refl) (Emits_reading rivals_at (for_each (begins QuitKind)) (λ ps. Emits_each (begins QuitKind) ps (λ p. emits_begins QuitKind p refl))))
+    (Emits_puts (Late ResolveAlarm) refl)
 
 corrects_resolve : (x : ℕ) (past : Past) → false ≡ corrects (resolve_rings x past)
 corrects_resolve x past = sym (corrects-none (resolve_rings x past) ((Emits_more (Numbering ∷ Alarming ∷ []) {all = still_sorts} refl emits_resolve).only x past))
@@ -147,8 +138,8 @@ pub corrects_beside : (own wait : Bool) (alarm : Alarm) → is_of_master wait al
 unfolding alarm_rings
 corrects_beside own wait Window e x past = corrects_window x past
 corrects_beside own wait Probe e x past = absurd (false≢true (sym e))
-corrects_beside own wait Close e x past = absurd (false≢true (sym e))
-corrects_beside own wait Resolve e x past = corrects_resolve x past
+corrects_beside own wait CloseAlarm e x past = absurd (false≢true (sym e))
+corrects_beside own wait ResolveAlarm e x past = corrects_resolve x past
 corrects_beside own true Round e x past = corrects_wait x past
 corrects_beside own false Round e x past = absurd (false≢true (sym e))
 corrects_beside own wait a e x past = corrects_alarm own wait a refl x past

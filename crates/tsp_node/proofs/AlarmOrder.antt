@@ -3,12 +3,8 @@ use Rattle.std.proofs.Common.{◌≡◌, ◌+◌, ◌<◌, ◌++◌, ◌∷◌, 
 use Rattle.std.proofs.Math.Seq.{take-suc}
 use Rattle.std.proofs.lemmas.Bool.{false≢true, and_parts}
 use Rattle.std.specs.Prelude.{◌&&◌, ◌||◌, if◌then◌else◌, is_some, not, slice_index_or}
-use Rattle.tsp_base.specs.declared.alarm.Alarm.{Alarm}
-use Rattle.tsp_base.specs.declared.alarm.Alarm.TheVariants.{Close, Probe, Quiet}
-use Rattle.tsp_base.specs.declared.alarm.TheConstants.Alarm.{ALL}
-use Rattle.tsp_base.specs.Alarms.{deadline, none_armed, with_deadline}
-use Rattle.tsp_base.specs.History.{Past}
-use Rattle.tsp_base.specs.Rows.{for_each, nothing, grown, ◌followed_by◌}
+use Rattle.tsp_rules.specs.Values.{Alarm, Quiet, Probe, CloseAlarm, ALL}
+use Rattle.tsp_base.specs.Words.{deadline, none_armed, with_deadline, Past, for_each, nothing, grown, ◌followed_by◌}
 use Rattle.tsp_rules.specs.Answers.{due_alarms, rings_alone, rings_each}
 use Rattle.tsp_rules.specs.GateRows.{is_probe}
 use Rattle.tsp_rules.proofs.CalmAlarms.{moves_by}
@@ -58,7 +54,7 @@ a-probe Probe e = refl
 a-probe _ e = absurd (false≢true e)
 
 -- what comes right before a Close of these alarms
-close-after : (alarms : List Alarm) (i : ℕ) (probed : Bool) → are_probed probed alarms ≡ true → slice_index_or alarms (suc i) Quiet ≡ Close → slice_index_or alarms i Quiet ≡ Probe
+close-after : (alarms : List Alarm) (i : ℕ) (probed : Bool) → are_probed probed alarms ≡ true → slice_index_or alarms (suc i) Quiet ≡ CloseAlarm → slice_index_or alarms i Quiet ≡ Probe
 close-after [] i probed e is = let bad : ⊥ = cc in absurd bad
 close-after (a ∷ []) zero probed e is = let bad : ⊥ = cc in absurd bad
 close-after (a ∷ b ∷ rest) zero probed e is =
@@ -67,5 +63,5 @@ close-after (a ∷ b ∷ rest) zero probed e is =
 close-after (a ∷ rest) (suc i) probed e is = close-after rest i (is_probe a) (and_parts (not (moves_by a) || probed) (are_probed (is_probe a) rest) e).1 is
 
 -- the Close comes right after the Probe
-pub close_after_probe : (i : ℕ) → slice_index_or ALL (i + 1) Quiet ≡ Close → slice_index_or ALL i Quiet ≡ Probe
+pub close_after_probe : (i : ℕ) → slice_index_or ALL (i + 1) Quiet ≡ CloseAlarm → slice_index_or ALL i Quiet ≡ Probe
 close_after_probe i e = let one : i + 1 ≡ suc i = omega arith in close-after ALL i false refl (ap (λ k. slice_index_or ALL k Quiet) (sym one) ∙ e)

@@ -4,8 +4,8 @@ use Rattle.std.specs.List.{IsAllAdjacentAnswer, list_any}
 use Rattle.std.proofs.Common.{sym, ◌∙◌, ap, arith}
 use Rattle.std.proofs.lemmas.Bool.{false≢true, ltb-true, lt-ltb}
 use Rattle.std.proofs.lemmas.List.{get_or-map, length-map}
-use Rattle.tsp_base.specs.declared.place.PeerId.{PeerId}
-use Rattle.tsp_base.specs.Peers.{is_among, IsAscending}
+use Rattle.tsp_rules.specs.Values.{PeerId}
+use Rattle.tsp_base.specs.Words.{is_among, IsAscending}
 
 -- whether each peer was found to be below the next is whether they are ascending
 pub IsAscending-answer : (ps : List PeerId) (b : Bool) → IsAllAdjacentAnswer (λ p q b. b ≡ nat_lt p.0 q.0) ps b → (b ≡ true) ↔ IsAscending ps

@@ -1,16 +1,7 @@
 -- Rows of a port's other parts leave its dates alone.
 use Rattle.std.specs.Prelude.{ℕ, refl}
-use Rattle.tsp_base.specs.declared.act.Act.TheVariants.{Become, Join, Ring}
-use Rattle.tsp_base.specs.declared.alarm.Alarm.TheVariants.{Elect, Resolve, Window}
-use Rattle.tsp_base.specs.declared.constants.TheConstants.{WINDOW}
-use Rattle.tsp_base.specs.declared.kind.Kind.{Kind}
-use Rattle.tsp_base.specs.declared.kind.Kind.TheVariants.{Ack, Election, MasterAck, MasterReq, Quit, Resolve as ResolveKind, SlaveUp}
-use Rattle.tsp_base.specs.declared.place.PeerId.{PeerId}
-use Rattle.tsp_base.specs.declared.place.Place.{Place}
-use Rattle.tsp_base.specs.declared.role.Role.TheVariants.{Candidate}
-use Rattle.tsp_base.specs.Messages.{MessageValue}
-use Rattle.tsp_base.specs.Performs.{Keeps}
-use Rattle.tsp_base.specs.Rows.{Row, arms, for_each, nothing, posts_back, puts, ◌followed_by◌}
+use Rattle.tsp_rules.specs.Values.{Become, Ring, Join, Window, Elect, ResolveAlarm, Kind, Ack, Election, MasterAck, MasterReq, QuitKind, ResolveKind, SlaveUp, PeerId, Place, Candidate, WINDOW}
+use Rattle.tsp_base.specs.Words.{MessageValue, Keeps, Row, arms, for_each, nothing, posts_back, puts, ◌followed_by◌}
 use Rattle.tsp_base.proofs.PerformsLemmas.{Keeps_each, Keeps_either, Keeps_nothing, Keeps_reading, Keeps_then}
 use Rattle.tsp_rules.specs.CommonRows.{is_awake, may_be_asked, tests, backs_own, searches, candidature_row}
 use Rattle.tsp_rules.specs.MasterRows.{joins, may_join, sends_away}
@@ -45,8 +36,8 @@ elect-keeps = Keeps_either DatesStand (is_in_time Elect) _ _
 -- the end of a resolution
 pub DatesStand_resolve : Keeps DatesStand resolve_rings
 unfolding resolve_rings quits_rivals
-DatesStand_resolve = Keeps_either DatesStand (is_in_time Resolve) _ _
-    (Keeps_then DatesStand (puts (Ring Resolve)) _ (DatesStand_act (Ring Resolve) refl) (Keeps_reading DatesStand rivals_at (for_each (begins Quit)) (λ ps. Keeps_each DatesStand (begins Quit) ps (λ p. DatesStand_begins Quit p refl))))
+DatesStand_resolve = Keeps_either DatesStand (is_in_time ResolveAlarm) _ _
+    (Keeps_then DatesStand (puts (Ring ResolveAlarm)) _ (DatesStand_act (Ring ResolveAlarm) refl) (Keeps_reading DatesStand rivals_at (for_each (begins QuitKind)) (λ ps. Keeps_each DatesStand (begins QuitKind) ps (λ p. DatesStand_begins QuitKind p refl))))
     (DatesStand_act _ refl)
 
 aside : (row : Row) → Emits plain_sorts row → Keeps DatesAside row
@@ -60,7 +51,7 @@ DatesStand_master p m = by_kind m.kind where
   by_kind MasterReq = DatesStand_by _ (Emits_posts p MasterAck m.number refl)
   by_kind ResolveKind = DatesStand_by _ (Emits_posts p MasterAck m.number refl)
   by_kind SlaveUp = DatesStand_by _ (Emits_either (may_join p m.number) _ nothing (Emits_then (puts (Join p)) (begins_settime p m.number) (Emits_puts (Join p) refl) (emits_settime_begins p m.number refl)) Emits_nothing)
-  by_kind Election = Keeps_either DatesStand (has_quit p) nothing (begins Quit p) (Keeps_nothing DatesStand) (DatesStand_begins Quit p refl)
+  by_kind Election = Keeps_either DatesStand (has_quit p) nothing (begins QuitKind p) (Keeps_nothing DatesStand) (DatesStand_begins QuitKind p refl)
   by_kind _ = Keeps_nothing DatesStand
 
 -- a client's test

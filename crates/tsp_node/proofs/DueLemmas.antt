@@ -2,20 +2,17 @@
 use Rattle.std.specs.Prelude.{◌≡◌, ◌<◌, ℕ, ◌||◌, min, not, nat_le, Bool, true, false, Option, None, Some, refl}
 use Rattle.std.proofs.Common.{ap, arith, sym, ◌∙◌}
 use Rattle.std.proofs.lemmas.Bool.{false≢true, le-leb, leb-false, leb-true, lt-leb}
-use Rattle.tsp_base.specs.declared.alarm.Alarm.{Alarm}
-use Rattle.tsp_base.specs.declared.alarm.Alarm.TheVariants.{Quiet}
-use Rattle.tsp_base.specs.Alarms.{Deadlines, deadline, earlier, least_deadline}
+use Rattle.tsp_rules.specs.Values.{Alarm, Quiet}
+use Rattle.tsp_base.specs.Words.{Deadlines, deadline, earlier, least_deadline, Past, open_send}
 use Rattle.tsp_base.proofs.AlarmLemmas.{least_deadline_armed}
 use Rattle.tsp_rules.specs.Guards.{is_over}
-use Rattle.tsp_base.specs.History.{Past}
-use Rattle.tsp_base.specs.SendFacts.{open_send}
 use Rattle.tsp_sends.specs.Slots.{sending_to}
 use Rattle.tsp_sends.specs.Repeating.{IsEarliest}
 use Rattle.tsp_acks.specs.declared.station.Station.{Station}
-use Rattle.tsp_acks.specs.Stands.{Stands}
+use Rattle.tsp_acks.specs.Stands.{StationStands}
 
 -- the earliest deadline in a station's slots is that of its past
-pub IsEarliest-open : (past : Past) (station : Station) (o : Option ℕ) → Stands past station → IsEarliest (sending_to station.sends) o → IsEarliest (λ p. open_send p past.seen) o
+pub IsEarliest-open : (past : Past) (station : Station) (o : Option ℕ) → StationStands past station → IsEarliest (sending_to station.sends) o → IsEarliest (λ p. open_send p past.seen) o
 IsEarliest-open past station None s e = λ p. sym (s.sends p) ∙ e p
 IsEarliest-open past station (Some t) s e = record {
   of = (e.of.0, e.of.1, sym (s.sends e.of.0) ∙ e.of.2, e.of.3);

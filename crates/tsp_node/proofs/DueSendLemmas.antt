@@ -2,31 +2,19 @@
 use Rattle.std.specs.Prelude.{◌≡◌, ℕ, Bool, true, false, if◌then◌else◌, List, [], ◌∷◌, Option, None, Some, refl}
 use Rattle.std.proofs.Common.{sym, ◌∙◌, ap}
 use Rattle.std.proofs.lemmas.Bool.{and_right}
-use Rattle.tsp_base.specs.declared.act.Act.TheVariants.{Gave as GaveAct, Leave, Post}
-use Rattle.tsp_base.specs.declared.act.Placed.{Placed}
-use Rattle.tsp_base.specs.declared.datagram.Datagram.TheVariants.{Message}
-use Rattle.tsp_base.specs.declared.kind.Kind.{Kind}
-use Rattle.tsp_base.specs.declared.kind.Kind.TheVariants.{AdjTime, Conflict, Election, Quit, SetDateReq, SetTime}
-use Rattle.tsp_base.specs.declared.place.PeerId.{PeerId}
-use Rattle.tsp_base.specs.declared.place.Place.TheVariants.{Peer}
-use Rattle.tsp_base.specs.declared.place.Port.{Port}
-use Rattle.tsp_base.specs.History.{Past}
-use Rattle.tsp_base.specs.Messages.{MessageValue}
-use Rattle.tsp_base.specs.Performs.{Performs, Keeps}
-use Rattle.tsp_base.specs.PortFacts.{acting, taken}
-use Rattle.tsp_base.specs.Rows.{Row, either_by, grown, nothing, puts, reading, ◌followed_by◌}
-use Rattle.tsp_base.specs.SendFacts.{Sending, is_correction, is_given_up, is_set_date_request}
+use Rattle.tsp_rules.specs.Values.{Post, Gave, Leave, Placed, Message, Kind, AdjTime, Conflict, Election, QuitKind, SetDateReq, SetTime, PeerId, Peer, Port}
+use Rattle.tsp_base.specs.Words.{Past, MessageValue, Performs, Keeps, acting, taken, Row, either_by, grown, nothing, puts, reading, ◌followed_by◌, Sending, is_correction, is_given_up, is_set_date_request}
 use Rattle.tsp_base.proofs.PerformsLemmas.{Keeps_either, Keeps_nothing, Performs_else_part, Performs_nothing, Performs_reading, Performs_same, Performs_then, Performs_then_part}
 use Rattle.tsp_rules.specs.SendRows.{bare_send, due_send, gives_up, is_send_due, is_spent, leaves_after, open_at, repeats, repeats_bare_send, repeats_send}
 use Rattle.tsp_rules.specs.Guards.{is_slave_at}
 use Rattle.tsp_rules.proofs.Emits.{Emits, Emits_puts, is_in, sort_of_kind}
 use Rattle.tsp_sends.specs.declared.due.Due.{Due}
-use Rattle.tsp_sends.specs.declared.due.Due.TheVariants.{Again, Gave}
+use Rattle.tsp_sends.specs.declared.due.Due.TheVariants.{Again, Gave as GaveUp}
 use Rattle.tsp_sends.specs.declared.slot.Slot.{Slot}
 use Rattle.tsp_sends.specs.Slots.{sending_to}
 use Rattle.tsp_sends.specs.Repeating.{RepeatsNext, is_due_send, peer_of}
 use Rattle.tsp_acks.specs.declared.station.Station.{Station}
-use Rattle.tsp_acks.specs.Stands.{Stands, StandsStill}
+use Rattle.tsp_acks.specs.Stands.{StationStands, StandsStill}
 use Rattle.tsp_acks.proofs.StandsLemmas.{Stands_idle}
 use Rattle.tsp_clock.specs.ClockStands.{ClockStands}
 use Rattle.tsp_slave.specs.Lasts.{Remembers}
@@ -42,7 +30,7 @@ use Rattle.tsp_node.specs.NodeStands.{PortBegun, PortValue}
 
 -- what stands beside a master when a step begins
 record Rest (past : Past) (v : PortValue) : Type 0 where
-  pub station : Stands past v.station
+  pub station : StationStands past v.station
   pub last : Remembers past v.last
   pub resolve : ResolveStands past v.resolve
   pub dates : DatesStand past v.dates
@@ -84,9 +72,9 @@ record IsAgain (x : ℕ) (slots : List Slot) (q : PeerId) (m : MessageValue) : T
   pub fresh : is_given_up s x ≡ false
   pub message : s.message ≡ m
 
-given_of : (after : Option PeerId) (x : ℕ) (slots new : List Slot) (q : PeerId) (k : Kind) → RepeatsNext after x slots new (Some (Gave q k)) → IsGiven x slots q k
+given_of : (after : Option PeerId) (x : ℕ) (slots new : List Slot) (q : PeerId) (k : Kind) → RepeatsNext after x slots new (Some (GaveUp q k)) → IsGiven x slots q k
 given_of after x slots new q k t = by_test (is_given_up t.1 x) refl t.3 where
-  by_test : (b : Bool) → is_given_up t.1 x ≡ b → Gave q k ≡ (if b then Gave t.0 t.1.message.kind else Again t.0 t.1.message) → IsGiven x slots q k
+  by_test : (b : Bool) → is_given_up t.1 x ≡ b → GaveUp q k ≡ (if b then GaveUp t.0 t.1.message.kind else Again t.0 t.1.message) → IsGiven x slots q k
   by_test true e f =
       let same : q ≡ t.0 = cc in
       let kind : k ≡ t.1.message.kind = cc in
@@ -95,7 +83,7 @@ given_of after x slots new q k t = by_test (is_given_up t.1 x) refl t.3 where
 
 again_of : (after : Option PeerId) (x : ℕ) (slots new : List Slot) (q : PeerId) (m : MessageValue) → RepeatsNext after x slots new (Some (Again q m)) → IsAgain x slots q m
 again_of after x slots new q m t = by_test (is_given_up t.1 x) refl t.3 where
-  by_test : (b : Bool) → is_given_up t.1 x ≡ b → Again q m ≡ (if b then Gave t.0 t.1.message.kind else Again t.0 t.1.message) → IsAgain x slots q m
+  by_test : (b : Bool) → is_given_up t.1 x ≡ b → Again q m ≡ (if b then GaveUp t.0 t.1.message.kind else Again t.0 t.1.message) → IsAgain x slots q m
   by_test true e f = let bad : ⊥ = cc in absurd bad
   by_test false e f =
       let same : q ≡ t.0 = cc in
@@ -103,7 +91,7 @@ again_of after x slots new q m t = by_test (is_given_up t.1 x) refl t.3 where
       record { s = t.1; sending = ap (sending_to slots) same ∙ t.2.sending; due = t.2.due; fresh = e; message = sym message }
 
 -- the row of a due send without the table, in both cases
-bare_gives : (q : PeerId) (s : Sending) (x : ℕ) (past : Past) → open_at q x past ≡ Some s → is_send_due s x past ≡ true → is_spent s x past ≡ true → bare_send q x past ≡ puts (GaveAct q) x past
+bare_gives : (q : PeerId) (s : Sending) (x : ℕ) (past : Past) → open_at q x past ≡ Some s → is_send_due s x past ≡ true → is_spent s x past ≡ true → bare_send q x past ≡ puts (Gave q) x past
 unfolding bare_send repeats_bare_send reading either_by
 bare_gives q s x past o d g = rw (o, d, g) refl
 
@@ -116,7 +104,7 @@ posts-beside AdjTime = refl
 posts-beside SetTime = refl
 posts-beside Election = refl
 posts-beside Conflict = refl
-posts-beside Quit = refl
+posts-beside QuitKind = refl
 posts-beside SetDateReq = refl
 posts-beside _ = refl
 
@@ -131,8 +119,8 @@ Performs_fields d = record {
 }
 
 -- a send is given up
-gave_first : {x : ℕ} {port : Port} (q : PeerId) (before : PortValue) (station : Station) {old new : List Placed} → Performs StandsStill StandsStill (puts (GaveAct q)) x port before.station station old new →
-    Performs PortBegun PortBegun (puts (GaveAct q)) x port before (record before { station = station }) old new
+gave_first : {x : ℕ} {port : Port} (q : PeerId) (before : PortValue) (station : Station) {old new : List Placed} → Performs StandsStill StandsStill (puts (Gave q)) x port before.station station old new →
+    Performs PortBegun PortBegun (puts (Gave q)) x port before (record before { station = station }) old new
 unfolding puts
 gave_first {x = x} q before station d = record {
   acts = λ past h. d.acts past (record { stands = h.stands.station; still = h.still });
@@ -142,7 +130,7 @@ gave_first {x = x} q before station d = record {
         stands = record {
           station = s.stands;
           last = record { tick_is = h.stands.last.tick_is; taken_is = h.stands.last.taken_is; name_is = h.stands.last.name_is };
-          master = MasterStands_quiet (GaveAct q) refl x past before.master h.stands.master;
+          master = MasterStands_quiet (Gave q) refl x past before.master h.stands.master;
           resolve = record { many = h.stands.resolve.many; rivals = h.stands.resolve.rivals; empty = h.stands.resolve.empty };
           dates = record { peers = h.stands.dates.peers; last = h.stands.dates.last; asked = h.stands.dates.asked };
           clock = record { offset_is = h.stands.clock.offset_is; rest_is = h.stands.clock.rest_is; at_is = h.stands.clock.at_is; ticket_is = h.stands.clock.ticket_is };
@@ -164,7 +152,7 @@ leaves_next {x = x} q k before master d = record {
 
 -- what becomes of a due send that is given up
 due_gives : {x : ℕ} {port : Port} (q : PeerId) (s : Sending) (k : Kind) {before after : PortValue} {old new : List Placed} → sending_to before.station.sends q ≡ Some s → is_due_send x (Some s) ≡ true → is_given_up s x ≡ true → s.message.kind ≡ k →
-    Performs PortBegun PortBegun (puts (GaveAct q) followed_by leaves_after q k) x port before after old new → Performs PortBegun PortBegun (due_send q) x port before after old new
+    Performs PortBegun PortBegun (puts (Gave q) followed_by leaves_after q k) x port before after old new → Performs PortBegun PortBegun (due_send q) x port before after old new
 unfolding due_send repeats_send gives_up
 due_gives q s k is due spent kind d =
     Performs_reading (open_at q) (repeats_send q) (Some s) (λ past h. sym (h.stands.station.sends q) ∙ is)
@@ -178,12 +166,12 @@ due_repeats q s is due fresh d =
     (Performs_then_part (is_send_due s) nothing (λ past h. due) (Performs_else_part (is_spent s) (gives_up q s.message.kind) (λ past h. fresh) d))
 
 -- a send is given up, and a slave that didn't acknowledge a correction leaves
-pub Performs_gave : {x : ℕ} {port : Port} {before after : PortValue} {old mid new : List Placed} (last : Option PeerId) (q : PeerId) (k : Kind) → RepeatsNext last x before.station.sends after.station.sends (Some (Gave q k)) →
+pub Performs_gave : {x : ℕ} {port : Port} {before after : PortValue} {old mid new : List Placed} (last : Option PeerId) (q : PeerId) (k : Kind) → RepeatsNext last x before.station.sends after.station.sends (Some (GaveUp q k)) →
     after.last ≡ before.last → after.resolve ≡ before.resolve → after.dates ≡ before.dates → after.clock ≡ before.clock → Performs StandsStill StandsStill (bare_send q) x port before.station after.station old mid →
     Performs MasterStands MasterStands (leaves_after q k) x port before.master after.master mid new → Performs PortBegun PortBegun (due_send q) x port before after old new
 Performs_gave {x = x} {port = port} {before = before} {after = after} {old = old} {mid = mid} {new = new} last q k t e u v f bare leave =
     let g = given_of last x before.station.sends after.station.sends q k t in
-    let gave = Performs_same (puts (GaveAct q)) (λ past h. bare_gives q g.s x past (sym (h.stands.sends q) ∙ g.sending) g.due g.spent) bare in
+    let gave = Performs_same (puts (Gave q)) (λ past h. bare_gives q g.s x past (sym (h.stands.sends q) ∙ g.sending) g.due g.spent) bare in
     let whole = Performs_then (gave_first q before after.station gave) (leaves_next q k (record before { station = after.station }) after.master leave) in
     Performs_fields (due_gives q g.s k g.sending g.due g.spent g.kind (rw (e, u, v, f) whole))
 
@@ -212,7 +200,7 @@ pub Performs_noted : {x : ℕ} {port : Port} {before after : PortValue} {old mid
     after.last ≡ before.last → after.resolve ≡ before.resolve → after.dates ≡ before.dates → after.clock ≡ before.clock → Performs StandsStill StandsStill (bare_send (peer_of due)) x port before.station after.station old mid →
     IsNoted due x port before.master after.master mid new → Performs PortBegun PortBegun (due_send (peer_of due)) x port before after old new
 Performs_noted last (Again q m) t e u v f bare noted = Performs_again last q m t e u v f (rw noted.0 bare) noted.1
-Performs_noted last (Gave q k) t e u v f bare noted = Performs_gave last q k t e u v f bare noted
+Performs_noted last (GaveUp q k) t e u v f bare noted = Performs_gave last q k t e u v f bare noted
 
 -- nothing is done for a send that isn't due
 pub Performs_waits : {x : ℕ} {port : Port} {state : PortValue} {old : List Placed} (q : PeerId) → is_due_send x (sending_to state.station.sends q) ≡ false → Performs PortBegun PortBegun (due_send q) x port state state old old
@@ -231,6 +219,6 @@ MasterStands_posted q m x past master e h = MasterStands_quiet (Post (Peer q) (M
   by_kind SetTime e = let bad : ⊥ = cc in absurd bad
   by_kind Election e = refl
   by_kind Conflict e = refl
-  by_kind Quit e = refl
+  by_kind QuitKind e = refl
   by_kind SetDateReq e = refl
   by_kind _ e = refl

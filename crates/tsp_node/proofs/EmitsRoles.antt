@@ -1,17 +1,7 @@
 -- What ports that don't lead put for alarms and messages, but for what ends their sends: nothing of a round, a correction or the slave table.
 use Rattle.std.specs.Prelude.{◌≡◌, ◌≢◌, ℕ, ℤ, ◌==◌, Bool, true, false, if◌then◌else◌, List, [], ◌∷◌, refl}
-use Rattle.tsp_base.specs.declared.act.Act.TheVariants.{Acked, Back, Backer, Become, Late, Quit as QuitAct, Ring}
-use Rattle.tsp_base.specs.declared.alarm.Alarm.TheVariants.{Elect, Quiet, Round, Search, Window}
-use Rattle.tsp_base.specs.declared.constants.TheConstants.{QUIET, ROUND, WINDOW}
-use Rattle.tsp_base.specs.declared.kind.Kind.{Kind}
-use Rattle.tsp_base.specs.declared.kind.Kind.TheVariants.{Accept, Ack, AdjTime, Conflict, Election, MasterAck, MasterReq, MasterUp, Quit, Refuse, SetTime, SlaveUp}
-use Rattle.tsp_base.specs.declared.place.PeerId.{PeerId}
-use Rattle.tsp_base.specs.declared.role.Role.{Role}
-use Rattle.tsp_base.specs.declared.role.Role.TheVariants.{Candidate, Follow, Loose, Master, Starting}
-use Rattle.tsp_base.specs.History.{Past}
-use Rattle.tsp_base.specs.Messages.{MessageValue}
-use Rattle.tsp_base.specs.Rows.{Row, arms, either_by, for_each, grown, nothing, posts, posts_to_others, puts, reading, ◌followed_by◌}
-use Rattle.tsp_base.specs.Takings.{time_in}
+use Rattle.tsp_rules.specs.Values.{Become, Ring, Late, Back, Backer, Acked, Quit, Quiet, Window, Elect, Search, Round, Kind, Accept, Ack, AdjTime, Conflict, Election, MasterAck, MasterReq, MasterUp, QuitKind, Refuse, SetTime, SlaveUp, PeerId, Role, Starting, Loose, Follow, Candidate, Master, QUIET, ROUND, WINDOW}
+use Rattle.tsp_base.specs.Words.{Past, MessageValue, Row, arms, either_by, for_each, grown, nothing, posts, posts_to_others, puts, reading, ◌followed_by◌, time_in}
 use Rattle.tsp_rules.specs.CandidateRows.{accepted_by, candidate_takes, candidate_takes_kind, has_won, lead_row, refused_by, window_rings, yields}
 use Rattle.tsp_rules.specs.ClockRows.{adjusts, sets}
 use Rattle.tsp_rules.specs.CommonRows.{arms_elect, backs_own, follow_row, follows_unless, own_at, quits, searches, candidature_row, tells_ticket}
@@ -172,7 +162,7 @@ unless p _ = following p
 -- a QUIT, whatever the role
 pub emits_quits : (p : PeerId) (number : ℕ) → Emits calm_sorts (quits p number)
 unfolding quits
-emits_quits p number = Emits_then (puts (QuitAct p)) _ (Emits_puts (QuitAct p) refl) (Emits_then (posts p Ack number) _ (Emits_posts p Ack number refl) (Emits_reading role_at (follows_unless p) (unless p)))
+emits_quits p number = Emits_then (puts (Quit p)) _ (Emits_puts (Quit p) refl) (Emits_then (posts p Ack number) _ (Emits_posts p Ack number refl) (Emits_reading role_at (follows_unless p) (unless p)))
 
 slave-kind : (p : PeerId) (m : MessageValue) (k : Kind) → k ≢ Ack → Emits role_sorts (slave_takes_kind p m k)
 unfolding slave_takes_kind
@@ -181,7 +171,7 @@ slave-kind p m MasterAck n = Emits_reading role_at (masterack_in p) (finding p)
 slave-kind p m Election n = Emits_more calm_sorts refl (election p m.number)
 slave-kind p m AdjTime n = Emits_reading role_at (from_master p (adjtime_of p m.number (time_in m.body))) (λ r. Emits_more plain_sorts refl (of-master p (adjtime_of p m.number (time_in m.body)) r (adjtime p m.number (time_in m.body))))
 slave-kind p m SetTime n = Emits_reading role_at (from_master p (settime_of p m.number (time_in m.body))) (λ r. Emits_more plain_sorts refl (of-master p (settime_of p m.number (time_in m.body)) r (settime p m.number (time_in m.body))))
-slave-kind p m Quit n = Emits_more calm_sorts refl (emits_quits p m.number)
+slave-kind p m QuitKind n = Emits_more calm_sorts refl (emits_quits p m.number)
 slave-kind p m Ack n = absurd (n refl)
 slave-kind p m _ n = Emits_nothing
 
@@ -202,7 +192,7 @@ emits_candidate p m MasterAck a b c = following p
 emits_candidate p m Election a b c = Emits_posts p Refuse m.number refl
 emits_candidate p m Accept a b c = absurd (b refl)
 emits_candidate p m Refuse a b c = absurd (c refl)
-emits_candidate p m Quit a b c = emits_quits p m.number
+emits_candidate p m QuitKind a b c = emits_quits p m.number
 emits_candidate p m Ack a b c = absurd (a refl)
 emits_candidate p m _ a b c = Emits_nothing
 

@@ -1,17 +1,7 @@
 -- Rows of a master and of clients, by the sorts of acts that they put.
 use Rattle.std.specs.Prelude.{ℕ, ◌==◌, Bool, List, [], ◌∷◌, Option, None, Some, refl}
-use Rattle.tsp_base.specs.declared.act.Act.TheVariants.{Abandon, Join, Post, Rival, Trace}
-use Rattle.tsp_base.specs.declared.alarm.Alarm.TheVariants.{Resolve as ResolveAlarm}
-use Rattle.tsp_base.specs.declared.constants.TheConstants.{WINDOW}
-use Rattle.tsp_base.specs.declared.datagram.Datagram.TheVariants.{Message}
-use Rattle.tsp_base.specs.declared.kind.Kind.{Kind}
-use Rattle.tsp_base.specs.declared.kind.Kind.TheVariants.{Ack, Election, MasterAck, MasterReq, Quit, Resolve, SlaveUp}
-use Rattle.tsp_base.specs.declared.place.PeerId.{PeerId}
-use Rattle.tsp_base.specs.declared.place.Place.{Place}
-use Rattle.tsp_base.specs.Messages.{MessageValue}
-use Rattle.tsp_base.specs.RoundFacts.{OpenRequest}
-use Rattle.tsp_base.specs.Rows.{arms, bare, nothing, posts, posts_back, posts_to_others, puts, ◌followed_by◌}
-use Rattle.tsp_base.specs.Stamps.{ReplyValue}
+use Rattle.tsp_rules.specs.Values.{Post, Abandon, Join, Rival, Trace, ResolveAlarm, Message, Kind, Ack, Election, MasterAck, MasterReq, QuitKind, ResolveKind, SlaveUp, PeerId, Place, WINDOW}
+use Rattle.tsp_base.specs.Words.{MessageValue, OpenRequest, arms, bare, nothing, posts, posts_back, posts_to_others, puts, ◌followed_by◌, ReplyValue}
 use Rattle.tsp_rules.specs.CommonRows.{is_awake, master_name, may_be_asked, names_master, says_master, candidature_row, tests, traces}
 use Rattle.tsp_rules.specs.MasterRows.{joins, may_join, sends_away}
 use Rattle.tsp_rules.specs.ResolveRows.{finds_rival, is_new_rival, resolves}
@@ -36,9 +26,9 @@ own_sorts = Posting ∷ Tabling ∷ Correcting ∷ Numbering ∷ []
 kind-emits : (p : PeerId) (m : MessageValue) (k : Kind) → Emits own_sorts (master_takes_kind_here p m k)
 unfolding master_takes_kind_here joins sends_away
 kind-emits p m MasterReq = Emits_posts p MasterAck m.number refl
-kind-emits p m Resolve = Emits_posts p MasterAck m.number refl
+kind-emits p m ResolveKind = Emits_posts p MasterAck m.number refl
 kind-emits p m SlaveUp = Emits_either (may_join p m.number) _ nothing (Emits_then (puts (Join p)) (begins_settime p m.number) (Emits_puts (Join p) refl) (emits_settime_begins p m.number refl)) Emits_nothing
-kind-emits p m Election = Emits_either (has_quit p) nothing (begins Quit p) Emits_nothing (emits_begins Quit p refl)
+kind-emits p m Election = Emits_either (has_quit p) nothing (begins QuitKind p) Emits_nothing (emits_begins QuitKind p refl)
 kind-emits p m _ = Emits_nothing
 
 -- a master's own messages
@@ -53,7 +43,7 @@ emits_master_still p m = Emits_more own_sorts refl (kind-emits p m m.kind)
 -- what it does about other masters
 pub emits_resolves : Emits (Posting ∷ Alarming ∷ []) resolves
 unfolding resolves
-emits_resolves = Emits_either (is_armed ResolveAlarm) nothing _ Emits_nothing (Emits_then (arms ResolveAlarm WINDOW) (posts_to_others Resolve 0) (Emits_arms ResolveAlarm WINDOW refl) (Emits_posts_to_others Resolve 0 refl))
+emits_resolves = Emits_either (is_armed ResolveAlarm) nothing _ Emits_nothing (Emits_then (arms ResolveAlarm WINDOW) (posts_to_others ResolveKind 0) (Emits_arms ResolveAlarm WINDOW refl) (Emits_posts_to_others ResolveKind 0 refl))
 
 pub emits_conflict : (p : PeerId) (number : ℕ) → Emits (Posting ∷ Alarming ∷ []) (posts p Ack number followed_by resolves)
 emits_conflict p number = Emits_then (posts p Ack number) resolves (Emits_posts p Ack number refl) emits_resolves

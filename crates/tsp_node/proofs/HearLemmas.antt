@@ -3,24 +3,8 @@ use Rattle.std.specs.Prelude.{◌≡◌, ◌≢◌, ℕ, ◌==◌, ◌&&◌, not
 use Rattle.std.specs.List.{Contains}
 use Rattle.std.proofs.Common.{◌∙◌, ap, subst, sym}
 use Rattle.std.proofs.lemmas.Bool.{false≢true}
-use Rattle.tsp_base.specs.declared.act.Act.TheVariants.{Acked, Backer}
-use Rattle.tsp_base.specs.declared.act.Placed.{Placed}
-use Rattle.tsp_base.specs.declared.kind.Kind.{Kind}
-use Rattle.tsp_base.specs.declared.kind.Kind.TheVariants.{Accept, Ack, AdjTime, Conflict, Date, DateAck, DateReq, Election, Loop, MasterAck, MasterReq, MasterUp, Msite, MsiteReq, Quit, Refuse, Resolve as ResolveKind, SetDate, SetDateReq, SetTime, SlaveUp, Test, TraceOff, TraceOn}
-use Rattle.tsp_base.specs.declared.place.PeerId.{PeerId}
-use Rattle.tsp_base.specs.declared.place.Place.{Place}
-use Rattle.tsp_base.specs.declared.place.Place.TheVariants.{Peer, Stranger}
-use Rattle.tsp_base.specs.declared.place.Port.{Port}
-use Rattle.tsp_base.specs.declared.role.Role.{Role}
-use Rattle.tsp_base.specs.declared.role.Role.TheVariants.{Candidate, Follow, Loose, Master, Starting}
-use Rattle.tsp_base.specs.History.{Past}
-use Rattle.tsp_base.specs.Messages.{MessageValue}
-use Rattle.tsp_base.specs.Peers.{is_among}
-use Rattle.tsp_base.specs.Performs.{Performs}
-use Rattle.tsp_base.specs.PortFacts.{Received, role}
-use Rattle.tsp_base.specs.Rows.{Row, either_by, grown, nothing, placed, posts, puts, reading, ◌followed_by◌}
-use Rattle.tsp_base.specs.SendFacts.{Sending, corrects_in, is_correction, is_date_request, open_send}
-use Rattle.tsp_base.specs.Stamps.{ReplyValue}
+use Rattle.tsp_rules.specs.Values.{Backer, Acked, Placed, Kind, Accept, Ack, AdjTime, Conflict, Date, DateAck, DateReq, Election, LoopKind, MasterAck, MasterReq, MasterUp, Msite, MsiteReq, QuitKind, Refuse, ResolveKind, SetDate, SetDateReq, SetTime, SlaveUp, Test, TraceOff, TraceOn, PeerId, Place, Peer, Stranger, Port, Role, Starting, Loose, Follow, Candidate, Master}
+use Rattle.tsp_base.specs.Words.{Past, MessageValue, is_among, Performs, Received, role, Row, either_by, grown, nothing, placed, posts, puts, reading, ◌followed_by◌, Sending, corrects_in, is_correction, is_date_request, open_send, ReplyValue}
 use Rattle.tsp_base.proofs.PerformsLemmas.{Performs_else_part, Performs_reading, Performs_then_part}
 use Rattle.tsp_rules.specs.Answers.{from_peer, is_left, peer_says, replies_in, says_in, handles_kind}
 use Rattle.tsp_rules.specs.CommonRows.{names_master, quits, says_master, tests, traces}
@@ -33,7 +17,7 @@ use Rattle.tsp_rules.specs.SlaveRows.{slave_takes, slave_takes_kind}
 use Rattle.tsp_rules.specs.Guards.{is_follow, is_heard, is_master, is_starting_role, role_at}
 use Rattle.tsp_rules.proofs.Emits.{Emits_more}
 use Rattle.tsp_acks.specs.declared.station.Station.{Station}
-use Rattle.tsp_acks.specs.Stands.{Stands}
+use Rattle.tsp_acks.specs.Stands.{StationStands}
 use Rattle.tsp_acks.proofs.PeerLemmas.{Contains-among}
 use Rattle.tsp_master.specs.declared.master.Master.{Master as MasterValue}
 use Rattle.tsp_master.specs.MasterStands.{MasterStands}
@@ -56,10 +40,10 @@ abbrev pub leaves_by : Bool → Kind → Role → Bool
 leaves_by steer kind r = not steer && (is_correction kind && is_follow r)
 
 -- the row's tests, as the station has them
-is_left-at : (steer : Bool) (kind : Kind) (x : ℕ) (past : Past) (station : Station) → Stands past station → is_left steer kind x past ≡ leaves_by steer kind station.role
+is_left-at : (steer : Bool) (kind : Kind) (x : ℕ) (past : Past) (station : Station) → StationStands past station → is_left steer kind x past ≡ leaves_by steer kind station.role
 is_left-at steer kind x past station s = ap (leaves_by steer kind) (sym s.role)
 
-is_heard-at : (p : PeerId) (x : ℕ) (past : Past) (station : Station) → Stands past station → is_heard p x past ≡ hears_by station p
+is_heard-at : (p : PeerId) (x : ℕ) (past : Past) (station : Station) → StationStands past station → is_heard p x past ≡ hears_by station p
 is_heard-at p x past station s = rw (s.peers, s.role) refl
 
 -- a correction that is left is passed over
@@ -172,10 +156,10 @@ says_slave p m Loose s c l = refl
 says_slave p m (Follow q) s c l = refl
 
 -- a master's rows that are its own
-pub master_takes-other : (p : PeerId) (m : MessageValue) (k : Kind) → k ≢ Ack → k ≢ Quit → k ≢ MasterUp → k ≢ Conflict → k ≢ MasterAck → master_takes_kind p m k ≡ master_takes_kind_here p m k
+pub master_takes-other : (p : PeerId) (m : MessageValue) (k : Kind) → k ≢ Ack → k ≢ QuitKind → k ≢ MasterUp → k ≢ Conflict → k ≢ MasterAck → master_takes_kind p m k ≡ master_takes_kind_here p m k
 unfolding master_takes_kind master_takes_kind_here
 master_takes-other p m Ack a q u c t = absurd (a refl)
-master_takes-other p m Quit a q u c t = absurd (q refl)
+master_takes-other p m QuitKind a q u c t = absurd (q refl)
 master_takes-other p m MasterUp a q u c t = absurd (u refl)
 master_takes-other p m Conflict a q u c t = absurd (c refl)
 master_takes-other p m MasterAck a q u c t = absurd (t refl)
@@ -257,7 +241,7 @@ Performs_role p m is r e d = rw e d
 -- Who answers a message, as the rows have it
 pub audience_node : (charge : Bool) (from : Place) (m : MessageValue) (k : Kind) → audience_of k ≡ OfNode → handles_kind charge from m k ≡ nothing
 unfolding handles_kind
-audience_node charge from m Loop e = refl
+audience_node charge from m LoopKind e = refl
 audience_node charge from m Msite e = let bad : ⊥ = cc in absurd bad
 audience_node charge from m MsiteReq e = let bad : ⊥ = cc in absurd bad
 audience_node charge from m TraceOn e = let bad : ⊥ = cc in absurd bad
@@ -283,7 +267,7 @@ audience_roles charge from m SetDate e = let bad : ⊥ = cc in absurd bad
 audience_roles charge from m DateReq e = let bad : ⊥ = cc in absurd bad
 audience_roles charge from m SetDateReq e = let bad : ⊥ = cc in absurd bad
 audience_roles charge from m DateAck e = let bad : ⊥ = cc in absurd bad
-audience_roles charge from m Loop e = let bad : ⊥ = cc in absurd bad
+audience_roles charge from m LoopKind e = let bad : ⊥ = cc in absurd bad
 audience_roles charge from m Ack e = let bad : ⊥ = cc in absurd bad
 audience_roles charge from m _ e = refl
 
@@ -300,7 +284,7 @@ audience_sends SetDate e = let bad : ⊥ = cc in absurd bad
 audience_sends DateReq e = let bad : ⊥ = cc in absurd bad
 audience_sends SetDateReq e = let bad : ⊥ = cc in absurd bad
 audience_sends DateAck e = let bad : ⊥ = cc in absurd bad
-audience_sends Loop e = let bad : ⊥ = cc in absurd bad
+audience_sends LoopKind e = let bad : ⊥ = cc in absurd bad
 audience_sends _ e = let bad : ⊥ = cc in absurd bad
 
 pub handles_ack : (charge : Bool) (from : Place) (m : MessageValue) → m.kind ≡ Ack → handles_kind charge from m m.kind ≡ from_peer from (peer_says m)
@@ -329,12 +313,12 @@ audience_test SetDate e a b c d = let bad : ⊥ = cc in absurd bad
 audience_test DateReq e a b c d = let bad : ⊥ = cc in absurd bad
 audience_test SetDateReq e a b c d = let bad : ⊥ = cc in absurd bad
 audience_test DateAck e a b c d = let bad : ⊥ = cc in absurd bad
-audience_test Loop e a b c d = let bad : ⊥ = cc in absurd bad
+audience_test LoopKind e a b c d = let bad : ⊥ = cc in absurd bad
 audience_test Ack e a b c d = let bad : ⊥ = cc in absurd bad
 audience_test _ e a b c d = let bad : ⊥ = cc in absurd bad
 
 -- a master's rows, and the clients', by the kind
-pub master_quit : (p : PeerId) (m : MessageValue) → m.kind ≡ Quit → master_takes p m ≡ quits p m.number
+pub master_quit : (p : PeerId) (m : MessageValue) → m.kind ≡ QuitKind → master_takes p m ≡ quits p m.number
 unfolding master_takes master_takes_kind
 master_quit p m e = rw e refl
 

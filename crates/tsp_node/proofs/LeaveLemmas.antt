@@ -1,15 +1,7 @@
 -- How a slave leaves whose correction is given up.
 use Rattle.std.specs.Prelude.{◌≡◌, ℕ, true, false, List, [], ◌∷◌, ◌++◌}
-use Rattle.tsp_base.specs.declared.act.Act.TheVariants.{Leave}
-use Rattle.tsp_base.specs.declared.act.Placed.{Placed}
-use Rattle.tsp_base.specs.declared.kind.Kind.{Kind}
-use Rattle.tsp_base.specs.declared.place.PeerId.{PeerId}
-use Rattle.tsp_base.specs.declared.place.Port.{Port}
-use Rattle.tsp_base.specs.History.{Past}
-use Rattle.tsp_base.specs.Performs.{Performs}
-use Rattle.tsp_base.specs.PortFacts.{in_table}
-use Rattle.tsp_base.specs.Rows.{grown, nothing, puts}
-use Rattle.tsp_base.specs.SendFacts.{is_correction}
+use Rattle.tsp_rules.specs.Values.{Leave, Placed, Kind, PeerId, Port}
+use Rattle.tsp_base.specs.Words.{Past, Performs, in_table, grown, nothing, puts, is_correction}
 use Rattle.tsp_base.proofs.PerformsLemmas.{Performs_else_part, Performs_nothing, Performs_then_part}
 use Rattle.tsp_rules.specs.SendRows.{leaves_after}
 use Rattle.tsp_rules.specs.Guards.{is_slave_at}

@@ -2,26 +2,13 @@
 use Rattle.std.specs.Prelude.{◌≡◌, ℕ, ◌&&◌, not, Bool, true, false, List, [], ◌∷◌, ◌++◌, Option, None, Some, refl}
 use Rattle.std.proofs.Common.{append-nil, sym, ◌∙◌, ap}
 use Rattle.std.proofs.lemmas.Bool.{false≢true}
-use Rattle.tsp_base.specs.declared.act.Act.{Act}
-use Rattle.tsp_base.specs.declared.act.Act.TheVariants.{Abandon, Post, Took}
-use Rattle.tsp_base.specs.declared.act.Placed.{Placed}
-use Rattle.tsp_base.specs.declared.datagram.Datagram.TheVariants.{Stamp as StampOf}
-use Rattle.tsp_base.specs.declared.datagram.Taken.{Taken}
-use Rattle.tsp_base.specs.declared.place.Place.{Place}
-use Rattle.tsp_base.specs.declared.place.Port.{Port}
-use Rattle.tsp_base.specs.declared.role.Role.{Role}
-use Rattle.tsp_base.specs.declared.role.Role.TheVariants.{Master as MasterRole}
-use Rattle.tsp_base.specs.declared.stamp.Stamp.TheVariants.{Reply}
-use Rattle.tsp_base.specs.History.{Past}
-use Rattle.tsp_base.specs.Performs.{Performs, Keeps}
-use Rattle.tsp_base.specs.PortFacts.{Received, role, said, taken}
-use Rattle.tsp_base.specs.Rows.{Row, nothing, puts, grown}
-use Rattle.tsp_base.specs.Stamps.{ReplyValue}
+use Rattle.tsp_rules.specs.Values.{Act, Took, Post, Abandon, Placed, Stamp, Taken, Place, Port, Role, Master, Reply}
+use Rattle.tsp_base.specs.Words.{Past, Performs, Keeps, Received, role, said, taken, Row, nothing, puts, grown, ReplyValue}
 use Rattle.tsp_base.proofs.PerformsLemmas.{Performs_from, Performs_nothing}
 use Rattle.tsp_rules.specs.Guards.{is_master}
 use Rattle.tsp_rules.proofs.Emits.{Sort, Booting, Asking, Correcting, Numbering, Posting, Leading, Following, Changing, Backing, Counting, Rounding, Alarming, Tabling, Rivalling, Acking, Giving, Sampling, Closing, Moving, Tracing, Emits, Emits_more, Keeps_by, is_in, sort_of}
 use Rattle.tsp_acks.specs.declared.station.Station.{Station}
-use Rattle.tsp_acks.specs.Stands.{Stands, StandsActing}
+use Rattle.tsp_acks.specs.Stands.{StationStands, StandsActing}
 use Rattle.tsp_clients.specs.ClientStands.{NamingStands, TraceStands, TracingStands}
 use Rattle.tsp_clients.proofs.ClientLemmas.{TraceStands_by}
 use Rattle.tsp_acks.proofs.StandsLemmas.{Stands_idle, Stands_stamp}
@@ -31,7 +18,7 @@ use Rattle.tsp_clock.specs.ClockStands.{ClockStands}
 use Rattle.tsp_slave.specs.Lasts.{LastValue, Remembers}
 use Rattle.tsp_slave.specs.SlaveStands.{SlaveStands}
 use Rattle.tsp_slave.proofs.BesideLemmas.{beside_sorts, ClockStands_by, Remembers_by}
-use Rattle.tsp_master.specs.declared.master.Master.{Master}
+use Rattle.tsp_master.specs.declared.master.Master.{Master as MasterStruct}
 use Rattle.tsp_master.specs.Clearing.{Clears}
 use Rattle.tsp_master.specs.MasterStands.{MasterStands, LeadStands, OwnStands}
 use Rattle.tsp_master.proofs.TableLemmas.{MasterStands_quiet, quiet_sorts}
@@ -52,9 +39,9 @@ use Rattle.tsp_node.proofs.RivalKeeps.{ResolveStands_parted}
 
 -- a call that changes nothing but the station, the master and the rivals
 pub Performs_station : {row : Row} {x : ℕ} {port : Port} {before after : PortValue} {old new : List Placed} → after.last ≡ before.last → after.clock ≡ before.clock → after.dates ≡ before.dates → Emits beside_sorts row → Keeps DatesStand row →
-    ((past : Past) → PortStands past before → Stands (grown x past (row x past)) after.station → MasterStands (grown x past (row x past)) after.master) →
-    ((past : Past) → PortStands past before → Stands (grown x past (row x past)) after.station → ResolveStands (grown x past (row x past)) after.resolve) →
-    Performs Stands Stands row x port before.station after.station old new → Performs PortStands PortStands row x port before after old new
+    ((past : Past) → PortStands past before → StationStands (grown x past (row x past)) after.station → MasterStands (grown x past (row x past)) after.master) →
+    ((past : Past) → PortStands past before → StationStands (grown x past (row x past)) after.station → ResolveStands (grown x past (row x past)) after.resolve) →
+    Performs StationStands StationStands row x port before.station after.station old new → Performs PortStands PortStands row x port before after old new
 Performs_station {row = row} {x = x} {before = before} e f g k keep master resolve d = record {
   acts = λ past h. d.acts past h.station;
   stands = λ past h.
@@ -71,12 +58,12 @@ Performs_station {row = row} {x = x} {before = before} e f g k keep master resol
 
 -- the slaves are forgotten where a port led and leads no more, and so are the rivals
 pub slaves_part : (row : Row) → Emits role_sorts row → (x : ℕ) (past : Past) (before after : PortValue) → Clears (is_master before.station.role && not (is_master after.station.role)) before.master after.master →
-    PortStands past before → Stands (grown x past (row x past)) after.station → MasterStands (grown x past (row x past)) after.master
+    PortStands past before → StationStands (grown x past (row x past)) after.station → MasterStands (grown x past (row x past)) after.master
 slaves_part row e x past before after clears h s =
     MasterStands_parted row (Emits_more role_sorts refl e) x past before.master after.master before.station.role after.station.role (sym h.station.role) (sym s.role) clears h.master
 
 pub rivals_part : (row : Row) → Emits role_sorts row → (x : ℕ) (past : Past) (before after : PortValue) → Unmarks (is_master before.station.role && not (is_master after.station.role)) before.resolve after.resolve →
-    PortStands past before → Stands (grown x past (row x past)) after.station → ResolveStands (grown x past (row x past)) after.resolve
+    PortStands past before → StationStands (grown x past (row x past)) after.station → ResolveStands (grown x past (row x past)) after.resolve
 rivals_part row e x past before after unmarks h s =
     ResolveStands_parted row e x past before.resolve after.resolve before.station.role after.station.role (sym h.station.role) (sym s.role) unmarks h.resolve
 
@@ -162,8 +149,8 @@ dates_aside row x past state keep none h = (keep x past state.dates (record { st
 
 -- what changes but a port's station, what it remembers and the clock, by what was taken
 pub Performs_heard : {r : Received} {row : Row} {x : ℕ} {port : Port} {before after : PortValue} {old new : List Placed} → after.dates ≡ before.dates → Keeps DatesAside row → passes_date (said (Some r)) ≡ false →
-    ((past : Past) → PortStands past before → Stands (grown x past (row x past)) after.station → MasterStands (grown x past (row x past)) after.master) →
-    ((past : Past) → PortStands past before → Stands (grown x past (row x past)) after.station → ResolveStands (grown x past (row x past)) after.resolve) →
+    ((past : Past) → PortStands past before → StationStands (grown x past (row x past)) after.station → MasterStands (grown x past (row x past)) after.master) →
+    ((past : Past) → PortStands past before → StationStands (grown x past (row x past)) after.station → ResolveStands (grown x past (row x past)) after.resolve) →
     ((took : Option Received) → took ≡ Some r → Performs SlaveStands SlaveStands row x port (record { station = before.station; last = before.last; clock = before.clock; took = took }) (record { station = after.station; last = after.last; clock = after.clock; took = took }) old new) →
     Performs (PortTook r) PortStands row x port before after old new
 Performs_heard {r = r} {row = row} {x = x} {before = before} same keep none master resolve d = record {
@@ -223,12 +210,12 @@ pub Performs_pass : {r : Received} {x : ℕ} {port : Port} {state : PortValue} {
 Performs_pass = Performs_took Performs_nothing
 
 -- the answer to a stamp request is posted
-pub PortStands_stamp : (to : Place) (r : ReplyValue) (x : ℕ) (past : Past) (state : PortValue) → PortStands past state → PortStands (grown x past (Post to (StampOf (Reply r)) ∷ [])) state
+pub PortStands_stamp : (to : Place) (r : ReplyValue) (x : ℕ) (past : Past) (state : PortValue) → PortStands past state → PortStands (grown x past (Post to (Stamp (Reply r)) ∷ [])) state
 unfolding puts
 PortStands_stamp to r x past state h = record {
   station = Stands_stamp to (Reply r) x past state.station h.station;
   last = record { tick_is = h.last.tick_is; taken_is = h.last.taken_is; name_is = h.last.name_is };
-  master = MasterStands_quiet (Post to (StampOf (Reply r))) refl x past state.master h.master;
+  master = MasterStands_quiet (Post to (Stamp (Reply r))) refl x past state.master h.master;
   resolve = record { many = h.resolve.many; rivals = h.resolve.rivals; empty = h.resolve.empty };
   dates = record { peers = h.dates.peers; last = h.dates.last; asked = h.dates.asked };
   clock = record { offset_is = h.clock.offset_is; rest_is = h.clock.rest_is; at_is = h.clock.at_is; ticket_is = h.clock.ticket_is };
@@ -241,8 +228,8 @@ unfolding puts
 Performs_put a put stands = record { acts = λ past h. put; stands = λ past h. stands past h }
 
 -- a round is given up
-pub abandoned : (x : ℕ) (past : Past) {last : LastValue} {clock : ClockValue} {resolve : Resolve} {dates : DatesValue} {station : Station} {master : Master} → Remembers past last → ClockStands past clock → ResolveStands past resolve → DatesStand past dates →
-    Stands (grown x past (Abandon ∷ [])) station → MasterStands (grown x past (Abandon ∷ [])) master →
+pub abandoned : (x : ℕ) (past : Past) {last : LastValue} {clock : ClockValue} {resolve : Resolve} {dates : DatesValue} {station : Station} {master : MasterStruct} → Remembers past last → ClockStands past clock → ResolveStands past resolve → DatesStand past dates →
+    StationStands (grown x past (Abandon ∷ [])) station → MasterStands (grown x past (Abandon ∷ [])) master →
     PortStands (grown x past (Abandon ∷ [])) (record { station = station; last = last; master = master; resolve = resolve; dates = dates; clock = clock })
 abandoned x past l k r d s m = record {
   station = s;
@@ -263,7 +250,7 @@ same_part {old = old} l k r d s m = record {
 }
 
 -- the role of a port that doesn't lead
-pub no_lead : {past : Past} (state : PortValue) (r : Role) → (r ≡ MasterRole → ⊥) → state.station.role ≡ r → PortStands past state → role past.seen ≡ MasterRole → ⊥
+pub no_lead : {past : Past} (state : PortValue) (r : Role) → (r ≡ Master → ⊥) → state.station.role ≡ r → PortStands past state → role past.seen ≡ Master → ⊥
 no_lead state r n e h f = n (sym e ∙ h.station.role ∙ f)
 
 -- an answer ends a send
@@ -323,8 +310,8 @@ Performs_turned_by {row = row} {x = x} {before = before} l m u v f k d = record 
 
 -- a call of a station in a step that has acted, and what it makes of the master and the rivals
 pub Performs_acting_by : {r : Received} {row : Row} {x : ℕ} {port : Port} {before after : PortValue} {old new : List Placed} → after.last ≡ before.last → after.clock ≡ before.clock → after.dates ≡ before.dates → Emits beside_sorts row → Keeps DatesStand row →
-    ((past : Past) → PortStands past before → Stands (grown x past (row x past)) after.station → MasterStands (grown x past (row x past)) after.master) →
-    ((past : Past) → PortStands past before → Stands (grown x past (row x past)) after.station → ResolveStands (grown x past (row x past)) after.resolve) →
+    ((past : Past) → PortStands past before → StationStands (grown x past (row x past)) after.station → MasterStands (grown x past (row x past)) after.master) →
+    ((past : Past) → PortStands past before → StationStands (grown x past (row x past)) after.station → ResolveStands (grown x past (row x past)) after.resolve) →
     Performs StandsActing StandsActing row x port before.station after.station old new → Performs (PortTook r) PortStands row x port before after old new
 Performs_acting_by {r = r} {row = row} {x = x} {before = before} e f g k keep master resolve d = record {
   acts = λ past h. d.acts past (record { stands = h.stands.station; acted = taken-acts past.seen r h.took });

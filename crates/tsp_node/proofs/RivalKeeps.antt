@@ -1,12 +1,8 @@
 -- Rows of a port's other parts leave its rivals alone, but for a change of the role.
 use Rattle.std.specs.Prelude.{◌≡◌, ◌≢◌, ℕ, Bool, true, false, not, ◌&&◌, List, ◌∷◌, refl}
 use Rattle.std.proofs.Common.{sym, ◌∙◌, ap, true≢false}
-use Rattle.tsp_base.specs.declared.act.Act.{Act}
-use Rattle.tsp_base.specs.declared.role.Role.{Role}
-use Rattle.tsp_base.specs.declared.role.Role.TheVariants.{Master, Starting}
-use Rattle.tsp_base.specs.History.{Did, Elsewhere, Past, Step}
-use Rattle.tsp_base.specs.PortFacts.{role}
-use Rattle.tsp_base.specs.Rows.{Row, grown, in_step}
+use Rattle.tsp_rules.specs.Values.{Act, Role, Starting, Master}
+use Rattle.tsp_base.specs.Words.{Did, Elsewhere, Past, Step, role, Row, grown, in_step}
 use Rattle.tsp_rules.specs.Guards.{is_master}
 use Rattle.tsp_rules.proofs.Emits.{AllOf, Emits, Emits_more}
 use Rattle.tsp_rules.proofs.EmitsTables.{changes}

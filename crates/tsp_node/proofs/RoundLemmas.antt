@@ -2,18 +2,8 @@
 use Rattle.std.specs.Prelude.{◌≡◌, ℕ, ◌||◌, Bool, true, false, if◌then◌else◌, List, [], ◌∷◌, None, Some, refl}
 use Rattle.std.proofs.Common.{sym, ap}
 use Rattle.std.proofs.lemmas.Bool.{false≢true}
-use Rattle.tsp_base.specs.declared.act.Act.{Act}
-use Rattle.tsp_base.specs.declared.act.Act.TheVariants.{Become, Boot, Correct, Took}
-use Rattle.tsp_base.specs.declared.act.Placed.{Placed}
-use Rattle.tsp_base.specs.declared.alarm.Alarm.{Alarm}
-use Rattle.tsp_base.specs.declared.alarm.Alarm.TheVariants.{Close, Probe, Round}
-use Rattle.tsp_base.specs.declared.place.Port.{Port}
-use Rattle.tsp_base.specs.declared.role.Role.TheVariants.{Follow}
-use Rattle.tsp_base.specs.History.{Past}
-use Rattle.tsp_base.specs.Performs.{Performs}
-use Rattle.tsp_base.specs.PortFacts.{said, taken}
-use Rattle.tsp_base.specs.Rows.{grown}
-use Rattle.tsp_base.specs.SendFacts.{correcting_of}
+use Rattle.tsp_rules.specs.Values.{Act, Boot, Took, Become, Correct, Placed, Alarm, Round, Probe, CloseAlarm, Port, Follow}
+use Rattle.tsp_base.specs.Words.{Past, Performs, said, taken, grown, correcting_of}
 use Rattle.tsp_rules.specs.RoundRows.{corrects, is_correct}
 use Rattle.tsp_rules.proofs.Emits.{AllOf, Emits, Emits_more, Emits_nothing, is_in, sort_of}
 use Rattle.tsp_rules.proofs.EmitsRounds.{emits_close_rings, emits_probe_rings, emits_round_rings, round_sorts}
@@ -57,7 +47,7 @@ remembers-acts (a ∷ rest) e x past last none h = by_act (is_correct a) refl (r
 emits_master : (own : Bool) (alarm : Alarm) → Emits round_sorts (master_rings own alarm)
 unfolding master_rings
 emits_master own Probe = emits_probe_rings
-emits_master own Close = emits_close_rings own
+emits_master own CloseAlarm = emits_close_rings own
 emits_master own Round = emits_round_rings false
 emits_master own _ = Emits_nothing
 

@@ -1,19 +1,8 @@
 -- What a port takes that never corrects its clock, and what stands where something was taken.
 use Rattle.std.specs.Prelude.{◌≡◌, Bool, true, false, [], ◌∷◌, Some, refl}
 use Rattle.std.proofs.Common.{◌∙◌, ap}
-use Rattle.tsp_base.specs.declared.datagram.Datagram.TheVariants.{Message as MessageOf}
-use Rattle.tsp_base.specs.declared.datagram.Taken.TheVariants.{Good}
-use Rattle.tsp_base.specs.declared.kind.Kind.{Kind}
-use Rattle.tsp_base.specs.declared.kind.Kind.TheVariants.{Ack, Date, DateAck, DateReq, Loop, Msite, MsiteReq, SetDate, SetDateReq, Test, TraceOff, TraceOn}
-use Rattle.tsp_base.specs.declared.place.PeerId.{PeerId}
-use Rattle.tsp_base.specs.declared.place.Place.{Place}
-use Rattle.tsp_base.specs.declared.place.Place.TheVariants.{Peer}
-use Rattle.tsp_base.specs.declared.role.Role.{Role}
-use Rattle.tsp_base.specs.declared.role.Role.TheVariants.{Starting}
-use Rattle.tsp_base.specs.History.{Past}
-use Rattle.tsp_base.specs.Messages.{MessageValue}
-use Rattle.tsp_base.specs.PortFacts.{Received, taken}
-use Rattle.tsp_base.specs.Rows.{reading}
+use Rattle.tsp_rules.specs.Values.{Message, Good, Kind, Ack, Date, DateAck, DateReq, LoopKind, Msite, MsiteReq, SetDate, SetDateReq, Test, TraceOff, TraceOn, PeerId, Place, Peer, Role, Starting}
+use Rattle.tsp_base.specs.Words.{Past, MessageValue, Received, taken, reading}
 use Rattle.tsp_rules.specs.Answers.{from_peer, handles_kind, peer_says, says_in}
 use Rattle.tsp_rules.specs.Guards.{role_at}
 use Rattle.tsp_rules.proofs.Emits.{Acking, Emits, Emits_nothing, Emits_reading}
@@ -40,7 +29,7 @@ emits_clients charge from m SetDate e = let bad : ⊥ = cc in absurd bad
 emits_clients charge from m DateReq e = let bad : ⊥ = cc in absurd bad
 emits_clients charge from m SetDateReq e = let bad : ⊥ = cc in absurd bad
 emits_clients charge from m DateAck e = let bad : ⊥ = cc in absurd bad
-emits_clients charge from m Loop e = let bad : ⊥ = cc in absurd bad
+emits_clients charge from m LoopKind e = let bad : ⊥ = cc in absurd bad
 emits_clients charge from m Ack e = let bad : ⊥ = cc in absurd bad
 emits_clients charge from m _ e = let bad : ⊥ = cc in absurd bad
 
@@ -63,5 +52,5 @@ pub took_dates : (r : Received) (past : Past) (v : PortValue) → PortTook r pas
 took_dates r past v h = record { dates = h.stands.dates; master = h.stands.master; station = h.stands.station; last = h.stands.last; clock = h.stands.clock; took = refl }
 
 -- who sent the message that was taken
-pub took_of : (from : Place) (p : PeerId) (m : MessageValue) (past : Past) (v : PortValue) → from ≡ Peer p → PortTook (record { from = from; taken = Good (MessageOf m) }) past v → IsMessage p m (taken past.seen)
-took_of from p m past v is h = h.took ∙ ap (λ f. Some (record { from = f; taken = Good (MessageOf m) })) is
+pub took_of : (from : Place) (p : PeerId) (m : MessageValue) (past : Past) (v : PortValue) → from ≡ Peer p → PortTook (record { from = from; taken = Good (Message m) }) past v → IsMessage p m (taken past.seen)
+took_of from p m past v is h = h.took ∙ ap (λ f. Some (record { from = f; taken = Good (Message m) })) is

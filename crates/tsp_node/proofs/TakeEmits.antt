@@ -1,22 +1,7 @@
 -- Which sorts of acts put what a port does with what it takes, and its alarms.
 use Rattle.std.specs.Prelude.{◌≡◌, ℕ, Bool, true, false, List, [], ◌∷◌, refl}
-use Rattle.tsp_base.specs.declared.act.Act.TheVariants.{Took}
-use Rattle.tsp_base.specs.declared.alarm.Alarm.{Alarm}
-use Rattle.tsp_base.specs.declared.alarm.Alarm.TheVariants.{Close, Probe, Resolve, Round, Window}
-use Rattle.tsp_base.specs.declared.datagram.Datagram.TheVariants.{Message, Stamp}
-use Rattle.tsp_base.specs.declared.datagram.Taken.{Taken}
-use Rattle.tsp_base.specs.declared.datagram.Taken.TheVariants.{Bad, Good}
-use Rattle.tsp_base.specs.declared.kind.Kind.{Kind}
-use Rattle.tsp_base.specs.declared.kind.Kind.TheVariants.{Ack, Date, DateAck, DateReq, Loop, Msite, MsiteReq, SetDate, SetDateReq, Test, TraceOff, TraceOn}
-use Rattle.tsp_base.specs.declared.place.PeerId.{PeerId}
-use Rattle.tsp_base.specs.declared.place.Place.{Place}
-use Rattle.tsp_base.specs.declared.place.Place.TheVariants.{Peer, Stranger}
-use Rattle.tsp_base.specs.declared.role.Role.{Role}
-use Rattle.tsp_base.specs.declared.role.Role.TheVariants.{Candidate, Follow, Loose, Master, Starting}
-use Rattle.tsp_base.specs.declared.stamp.Stamp.TheVariants.{Reply, Request}
-use Rattle.tsp_base.specs.Messages.{MessageValue}
-use Rattle.tsp_base.specs.Rows.{Row, nothing, puts, reading}
-use Rattle.tsp_base.specs.Stamps.{ReplyValue}
+use Rattle.tsp_rules.specs.Values.{Took, Alarm, Window, Round, Probe, CloseAlarm, ResolveAlarm, Message, Stamp, Taken, Good, Bad, Kind, Ack, Date, DateAck, DateReq, LoopKind, Msite, MsiteReq, SetDate, SetDateReq, Test, TraceOff, TraceOn, PeerId, Place, Peer, Stranger, Role, Starting, Loose, Follow, Candidate, Master, Request, Reply}
+use Rattle.tsp_base.specs.Words.{MessageValue, Row, nothing, puts, reading, ReplyValue}
 use Rattle.tsp_rules.specs.Answers.{alarm_rings, from_peer, is_left, peer_replies, peer_says, replies_in, rings, says_in, takes, handles, handles_kind}
 use Rattle.tsp_rules.specs.CommonRows.{posts_reply, replies}
 use Rattle.tsp_rules.specs.DateRows.{date_acked, date_request_of}
@@ -44,8 +29,8 @@ alarm-emits : (own wait : Bool) (alarm : Alarm) → Emits silent_trace (alarm_ri
 unfolding alarm_rings
 alarm-emits own wait Window = Emits_more window_sorts refl emits_window
 alarm-emits own wait Probe = Emits_more round_sorts refl emits_probe_rings
-alarm-emits own wait Close = Emits_more round_sorts refl (emits_close_rings own)
-alarm-emits own wait Resolve = Emits_more resolve_sorts refl emits_resolve_rings
+alarm-emits own wait CloseAlarm = Emits_more round_sorts refl (emits_close_rings own)
+alarm-emits own wait ResolveAlarm = Emits_more resolve_sorts refl emits_resolve_rings
 alarm-emits own wait Round = Emits_more round_sorts refl (emits_round_rings wait)
 alarm-emits own wait a = Emits_more silent_sorts refl (slave_alarm own wait a refl).silent
 
@@ -100,7 +85,7 @@ emits_dates charge from m MsiteReq e = let bad : ⊥ = cc in absurd bad
 emits_dates charge from m TraceOn e = let bad : ⊥ = cc in absurd bad
 emits_dates charge from m TraceOff e = let bad : ⊥ = cc in absurd bad
 emits_dates charge from m Test e = let bad : ⊥ = cc in absurd bad
-emits_dates charge from m Loop e = let bad : ⊥ = cc in absurd bad
+emits_dates charge from m LoopKind e = let bad : ⊥ = cc in absurd bad
 emits_dates charge from m Ack e = let bad : ⊥ = cc in absurd bad
 emits_dates charge from m _ e = let bad : ⊥ = cc in absurd bad
 
@@ -117,7 +102,7 @@ kind-emits charge from m SetDate = Emits_more date_sorts refl (emits_dates charg
 kind-emits charge from m DateReq = Emits_more date_sorts refl (emits_dates charge from m DateReq refl)
 kind-emits charge from m SetDateReq = Emits_more date_sorts refl (emits_dates charge from m SetDateReq refl)
 kind-emits charge from m DateAck = Emits_more date_sorts refl (emits_dates charge from m DateAck refl)
-kind-emits charge from m Loop = Emits_nothing
+kind-emits charge from m LoopKind = Emits_nothing
 kind-emits charge from m _ = Emits_more silent_trace refl (emits_says from m)
 
 handles-emits : (steer charge : Bool) (from : Place) (t : Taken) → Emits bootless (handles steer charge from t)

@@ -1,11 +1,8 @@
 -- What is taken, and a round that it upsets.
 use Rattle.std.specs.Prelude.{◌≡◌, ℕ, true, false, List, refl}
 use Rattle.std.proofs.Common.{append-nil, sym}
-use Rattle.tsp_base.specs.declared.act.Placed.{Placed}
-use Rattle.tsp_base.specs.declared.place.Port.{Port}
-use Rattle.tsp_base.specs.History.{Past}
-use Rattle.tsp_base.specs.Performs.{Performs}
-use Rattle.tsp_base.specs.Rows.{Row, ◌followed_by◌}
+use Rattle.tsp_rules.specs.Values.{Placed, Port}
+use Rattle.tsp_base.specs.Words.{Past, Performs, Row, ◌followed_by◌}
 use Rattle.tsp_base.proofs.PerformsLemmas.{Performs_same, Performs_then}
 use Rattle.tsp_rules.specs.RoundRows.{abandons_going, corrects, upsetting}
 

@@ -1,11 +1,7 @@
 -- Who handles a message of a kind, and whom a port heeds.
 use Rattle.std.specs.Prelude.{◌&&◌, not, Bool, if◌then◌else◌, Option, None, Some}
-use Rattle.tsp_base.specs.declared.kind.Kind.{Kind}
-use Rattle.tsp_base.specs.declared.kind.Kind.TheVariants.{Ack, Date, DateAck, DateReq, Loop, Msite, MsiteReq, SetDate, SetDateReq, Test, TraceOff, TraceOn}
-use Rattle.tsp_base.specs.declared.place.PeerId.{PeerId}
-use Rattle.tsp_base.specs.declared.place.Place.{Place}
-use Rattle.tsp_base.specs.declared.place.Place.TheVariants.{Peer, Stranger}
-use Rattle.tsp_base.specs.Peers.{is_among}
+use Rattle.tsp_rules.specs.Values.{Kind, Ack, Date, DateAck, DateReq, LoopKind, Msite, MsiteReq, SetDate, SetDateReq, Test, TraceOff, TraceOn, PeerId, Place, Peer, Stranger}
+use Rattle.tsp_base.specs.Words.{is_among}
 use Rattle.tsp_rules.specs.Guards.{is_starting_role}
 use Rattle.tsp_acks.specs.declared.station.Station.{Station}
 use Rattle.tsp_node.specs.declared.audience.Audience.{Audience}
@@ -23,7 +19,7 @@ audience_of SetDate = OfDates
 audience_of DateReq = OfDates
 audience_of SetDateReq = OfDates
 audience_of DateAck = OfDates
-audience_of Loop = OfNode
+audience_of LoopKind = OfNode
 audience_of Ack = OfSends
 audience_of _ = OfRoles
 

@@ -1,8 +1,7 @@
 -- The configuration of a node, and the pasts of a node with it.
 use Rattle.std.specs.Prelude.{◌≡◌, ℕ, ℤ, Bool, true, false, List}
-use Rattle.tsp_base.specs.declared.place.PeerId.{PeerId}
-use Rattle.tsp_base.specs.History.{Past}
-use Rattle.tsp_base.specs.Peers.{is_among, IsPeers}
+use Rattle.tsp_rules.specs.Values.{PeerId}
+use Rattle.tsp_base.specs.Words.{Past, is_among, IsPeers}
 use Rattle.tsp_rules.specs.NodeRows.{PortSetup}
 use Rattle.tsp_rules.specs.Guards.{is_clock_value}
 use Rattle.tsp_node.specs.declared.fault.BootFault.{BootFault}

@@ -1,16 +1,8 @@
 -- When a port needs its next step, and what a master notes of its due sends.
 use Rattle.std.specs.Prelude.{◌≡◌, ℕ, false, List, [], ◌∷◌, Option}
-use Rattle.tsp_base.specs.declared.act.Act.TheVariants.{Post}
-use Rattle.tsp_base.specs.declared.act.Placed.{Placed}
-use Rattle.tsp_base.specs.declared.datagram.Datagram.TheVariants.{Message}
-use Rattle.tsp_base.specs.declared.place.Place.TheVariants.{Peer}
-use Rattle.tsp_base.specs.declared.place.Port.{Port}
-use Rattle.tsp_base.specs.History.{Past}
-use Rattle.tsp_base.specs.Performs.{Performs}
-use Rattle.tsp_base.specs.PortFacts.{acting}
-use Rattle.tsp_base.specs.Rows.{grown}
+use Rattle.tsp_rules.specs.Values.{Post, Placed, Message, Peer, Port}
+use Rattle.tsp_base.specs.Words.{Past, Performs, acting, grown, earlier, least_deadline}
 use Rattle.tsp_rules.specs.SendRows.{leaves_after}
-use Rattle.tsp_base.specs.Alarms.{earlier, least_deadline}
 use Rattle.tsp_sends.specs.Slots.{sending_to}
 use Rattle.tsp_sends.specs.Repeating.{IsEarliest}
 use Rattle.tsp_sends.specs.declared.due.Due.{Due}

@@ -1,11 +1,9 @@
 -- Which pasts a node and its parts stand for.
 use Rattle.std.specs.Prelude.{◌≡◌, ℕ, ◌-◌, ◌^◌, ℤ, Bool, false, List, ◌∷◌, Option, None, Some}
-use Rattle.tsp_base.specs.declared.act.Act.TheVariants.{Correct}
-use Rattle.tsp_base.specs.declared.place.PeerId.{PeerId}
-use Rattle.tsp_base.specs.History.{Acts, Booted, Elsewhere, Past, Step}
-use Rattle.tsp_base.specs.PortFacts.{Received, acting, taken}
+use Rattle.tsp_rules.specs.Values.{Correct, PeerId}
+use Rattle.tsp_base.specs.Words.{Acts, Booted, Elsewhere, Past, Step, Received, acting, taken}
 use Rattle.tsp_acks.specs.declared.station.Station.{Station}
-use Rattle.tsp_acks.specs.Stands.{Stands}
+use Rattle.tsp_acks.specs.Stands.{StationStands}
 use Rattle.tsp_clients.specs.ClientStands.{TraceStands}
 use Rattle.tsp_clock.specs.Clocks.{ClockValue}
 use Rattle.tsp_clock.specs.ClockStands.{ClockStands}
@@ -31,7 +29,7 @@ pub record PortValue : Type 0 where
 
 -- the state has exactly the facts of the port's past
 pub record PortStands (past : Past) (v : PortValue) : Type 0 where
-  pub station : Stands past v.station
+  pub station : StationStands past v.station
   pub last : Remembers past v.last
   pub master : MasterStands past v.master
   pub resolve : ResolveStands past v.resolve

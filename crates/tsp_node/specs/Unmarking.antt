@@ -1,6 +1,6 @@
 -- How a master forgets its rivals.
 use Rattle.std.specs.Prelude.{◌≡◌, Bool, true, false, List, [], length}
-use Rattle.tsp_base.specs.declared.place.PeerId.{PeerId}
+use Rattle.tsp_rules.specs.Values.{PeerId}
 use Rattle.tsp_resolve.specs.declared.resolve.Resolve.{Resolve}
 use Rattle.tsp_resolve.specs.Marked.{marked}
 

@@ -3,7 +3,7 @@ ghost use Rattle.std.specs.Prelude.{◌≡◌, Bool, ◌+◌, ◌≤◌, true, l
 ghost use Rattle.tsp_base.specs.Frames.{IsTick, PutsAtMost};
 ghost use Rattle.tsp_base.specs.Performs.{Performs};
 ghost use Rattle.tsp_acks.specs.Changes.{IsSamePort};
-ghost use Rattle.tsp_acks.specs.Stands.{Stands};
+ghost use Rattle.tsp_acks.specs.Stands.{StationStands};
 ghost use Rattle.tsp_node.specs.RoleAlarms.{is_of_master, is_of_slave};
 
 use tsp_acks::station::Station;
@@ -37,7 +37,7 @@ pub(crate) fn ring_slave<D: Desk>(
     requires alarm { is_of_slave alarm ≡ true }
     requires tick { IsTick tick }
     requires room { length station.old.peers + 4 ≤ D.spare desk.old }
-    ensures row { (own wait : Bool) → Performs Stands Stands (alarm_rings own wait alarm) tick port
+    ensures row { (own wait : Bool) → Performs StationStands StationStands (alarm_rings own wait alarm) tick port
         station.old station.new (D.acts desk.old) (D.acts desk.new) }
     ensures room { PutsAtMost (length station.old.peers + 4) (D.spare desk.old) (D.spare desk.new)
         (D.acts desk.old) (D.acts desk.new) }
@@ -54,7 +54,7 @@ ghost use Rattle.tsp_rules.specs.SlaveRows.{elect_rings};
 fn ring_elect<D: Desk>(station: &mut Station, tick: u64, port: Port, desk: &mut D)
     requires tick { IsTick tick }
     requires room { length station.old.peers + 4 ≤ D.spare desk.old }
-    ensures row { Performs Stands Stands elect_rings tick port station.old station.new
+    ensures row { Performs StationStands StationStands elect_rings tick port station.old station.new
         (D.acts desk.old) (D.acts desk.new) }
     ensures room { PutsAtMost (length station.old.peers + 4) (D.spare desk.old) (D.spare desk.new)
         (D.acts desk.old) (D.acts desk.new) }
@@ -73,7 +73,7 @@ ghost use Rattle.tsp_rules.specs.RoundRows.{round_rings};
 pub(crate) fn wait_round<D: Desk>(station: &mut Station, tick: u64, port: Port, desk: &mut D)
     requires tick { IsTick tick }
     requires room { 2 ≤ D.spare desk.old }
-    ensures row { Performs Stands Stands (round_rings true) tick port station.old station.new
+    ensures row { Performs StationStands StationStands (round_rings true) tick port station.old station.new
         (D.acts desk.old) (D.acts desk.new) }
     ensures room { PutsAtMost 2 (D.spare desk.old) (D.spare desk.new) (D.acts desk.old)
         (D.acts desk.new) }

@@ -2,14 +2,8 @@
 use Rattle.std.specs.Prelude.{◌≡◌, ◌==◌, ◌&&◌, cond, Bool, true, false, List, [], ◌∷◌, refl}
 use Rattle.std.proofs.Common.{sym, ap, inl, inr, true≢false, ◌∙◌}
 use Rattle.std.proofs.lemmas.Bool.{and_parts}
-use Rattle.tsp_base.specs.declared.act.Act.TheVariants.{Boot, Post, Become, Acked, Gave}
-use Rattle.tsp_base.specs.declared.datagram.Datagram.TheVariants.{Message}
-use Rattle.tsp_base.specs.declared.place.PeerId.{PeerId}
-use Rattle.tsp_base.specs.declared.place.Place.TheVariants.{Peer}
-use Rattle.tsp_base.specs.History.{Acts, Deed, Did, Seen, Here, Elsewhere}
-use Rattle.tsp_base.specs.Places.{Within}
-use Rattle.tsp_base.specs.PortFacts.{acting}
-use Rattle.tsp_base.specs.SendFacts.{is_correction, is_numbered, open_to, open_to_after, last_to, last_to_after, is_acknowledged, is_acknowledged_after, corrects_by, message_at, message_of}
+use Rattle.tsp_rules.specs.Values.{Boot, Post, Become, Acked, Gave, Message, PeerId, Peer}
+use Rattle.tsp_base.specs.Words.{Acts, Deed, Did, Seen, Here, Elsewhere, Within, acting, is_correction, is_numbered, open_to, open_to_after, last_to, last_to_after, is_acknowledged, is_acknowledged_after, corrects_by, message_at, message_of}
 use Rattle.tsp_promises.proofs.SendProof.{numbered}
 use Rattle.tsp_rules.proofs.GuardFacts.{same_peer}
 

@@ -1,20 +1,14 @@
 -- Clocks corrected in one round agree.
 use Rattle.std.specs.Prelude.{◌≡◌, ◌≤◌, ◌≤ℤ◌, ◌⊎◌, ℕ, ◌-◌, ◌*◌, ℤ, pos, ◌+ℤ◌, ◌-ℤ◌, nat_abs, true, List, ◌∷◌, is_some, refl}
 use Rattle.std.proofs.Common.{sym, ap, arith, subst, inl, inr, ◌∙◌}
-use Rattle.tsp_base.specs.declared.place.PeerId.{PeerId}
-use Rattle.tsp_base.specs.declared.kind.Kind.TheVariants.{AdjTime}
+use Rattle.tsp_rules.specs.Values.{AdjTime, PeerId}
+use Rattle.tsp_base.specs.Words.{Did, Line, Seen, Here, of, dids, view, moved, time_of, MessageValue, Within, best, tick_at, width}
 use Rattle.tsp_promises.specs.Agreed.{Agreed, AgreedAt, ClocksAgree, MasterAgrees, PeersAgree, RestsOnSample, StayAgreed, Unchanged}
 use Rattle.tsp_promises.specs.ClockAt.{clock_at}
 use Rattle.tsp_promises.specs.CorrectionFits.{AnswersSlaveUp, AtClose}
 use Rattle.tsp_promises.specs.Fits.{Fits, node_of}
-use Rattle.tsp_base.specs.History.{Did, Line, Seen, Here, of, dids, view}
-use Rattle.tsp_base.specs.NodeFacts.{moved, time_of}
-use Rattle.tsp_base.specs.Messages.{MessageValue}
-use Rattle.tsp_base.specs.Places.{Within}
-use Rattle.tsp_base.specs.RoundFacts.{best}
 use Rattle.tsp_promises.specs.StepFacts.{closed}
 use Rattle.tsp_promises.specs.Setting.{Setting}
-use Rattle.tsp_base.specs.Ticks.{tick_at, width}
 use Rattle.tsp_promises.proofs.EverywhereLemmas.{Everywhere-from}
 use Rattle.tsp_base.proofs.PlaceLemmas.{Within-through, Within-tail}
 use Rattle.tsp_promises.proofs.AgreedSums.{sums, triangle, moved-by}

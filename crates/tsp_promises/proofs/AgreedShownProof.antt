@@ -7,13 +7,10 @@ use Rattle.tsp_promises.specs.AgreedShown.{AgreedShown, HasMet, ShownWithin, Acr
 use Rattle.tsp_promises.specs.Chained.{Hop, Hops, IsChain, last_hop, node_at}
 use Rattle.tsp_promises.specs.ClockAt.{clock_at}
 use Rattle.tsp_promises.specs.Fits.{Alive, Fits, node_of}
-use Rattle.tsp_base.specs.History.{Line, of, dids}
-use Rattle.tsp_base.specs.NodeFacts.{time_of, up}
-use Rattle.tsp_base.specs.Places.{Within}
+use Rattle.tsp_base.specs.Words.{Line, of, dids, time_of, up, Within, tick_at}
 use Rattle.tsp_promises.specs.Setting.{Setting}
 use Rattle.tsp_promises.specs.ShownAt.{left_at, shown_at}
 use Rattle.tsp_promises.specs.Steady.{shown_width}
-use Rattle.tsp_base.specs.Ticks.{tick_at}
 use Rattle.tsp_base.proofs.PlaceLemmas.{Within-through, Within-tail}
 use Rattle.tsp_promises.proofs.AgreedProof.{agreed_master, agreed_peers}
 use Rattle.tsp_promises.proofs.ChainedProof.{chained_at}

@@ -2,19 +2,8 @@
 use Rattle.std.specs.Prelude.{◌≡◌, ◌≤◌, ℕ, ◌+◌, Bool, true, false, refl}
 use Rattle.std.proofs.Common.{sym, subst, inl, inr, arith, ◌∙◌, true≢false}
 use Rattle.std.proofs.lemmas.Bool.{and_parts}
-use Rattle.tsp_base.specs.declared.act.Act.TheVariants.{Become, Ring, Late}
-use Rattle.tsp_base.specs.declared.alarm.Alarm.{Alarm}
-use Rattle.tsp_base.specs.declared.alarm.Alarm.TheVariants.{Quiet, Search, Elect, Resolve}
-use Rattle.tsp_base.specs.declared.constants.TheConstants.{QUIET}
-use Rattle.tsp_base.specs.declared.kind.Kind.TheVariants.{Quit}
-use Rattle.tsp_base.specs.declared.role.Role.{Role}
-use Rattle.tsp_base.specs.declared.role.Role.TheVariants.{Starting, Loose, Master}
-use Rattle.tsp_base.specs.History.{Past, plain}
-use Rattle.tsp_base.specs.Hold.{may_stand}
-use Rattle.tsp_base.specs.Leads.{Leads}
-use Rattle.tsp_base.specs.NodeFacts.{boot_tick}
-use Rattle.tsp_base.specs.PortFacts.{role, held, armed}
-use Rattle.tsp_base.specs.Rows.{nothing, puts, ◌followed_by◌, either_by, for_each}
+use Rattle.tsp_rules.specs.Values.{Become, Ring, Late, Alarm, Quiet, Elect, Search, ResolveAlarm, QuitKind, Role, Starting, Loose, Master, QUIET}
+use Rattle.tsp_base.specs.Words.{Past, plain, may_stand, Leads, boot_tick, role, held, armed, nothing, puts, ◌followed_by◌, either_by, for_each}
 use Rattle.tsp_base.proofs.LeadsLemmas.{Leads_then, Leads_either, Leads_reading, Leads_nothing, Leads_puts, Leads_each, Leads_from, Leads_to}
 use Rattle.tsp_rules.specs.Answers.{alarm_rings, rings}
 use Rattle.tsp_rules.specs.CommonRows.{arms_elect, searches, candidature_row}
@@ -67,7 +56,7 @@ elect_rested x past h =
       | inr r ↦ r
     ]
 
-resolve_rested : (x : ℕ) (past : Past) → Due Resolve x past → boot_tick (plain past.seen) + QUIET ≤ x
+resolve_rested : (x : ℕ) (past : Past) → Due ResolveAlarm x past → boot_tick (plain past.seen) + QUIET ≤ x
 resolve_rested x past h =
     let due = due_is (armed past.seen).resolve x h.1 in
     elim h.0.knows.quiet.rested [
@@ -128,12 +117,12 @@ elect_leads own wait = rings_lead own wait Elect
     arms_elect_during)))
     (stays Elect)
 
-pub resolve_leads : (own wait : Bool) → Leads Open (rings own wait Resolve) Open
+pub resolve_leads : (own wait : Bool) → Leads Open (rings own wait ResolveAlarm) Open
 unfolding alarm_rings resolve_rings quits_rivals
-resolve_leads own wait = rings_lead own wait Resolve
-    (Leads_to to_open (Leads_either (is_in_time Resolve) (puts (Ring Resolve) followed_by quits_rivals) (puts (Late Resolve))
-    (Leads_then {Q = Free Untaken} (puts (Ring Resolve)) quits_rivals
-    (Leads_puts (Ring Resolve) (λ x past h. ring_resolve (resolve_rested x past h.0) h.0.0))
-    (Leads_reading rivals_at (for_each (begins Quit)) (λ ps. Leads_from (λ x past h. h.0) (Leads_each (begins Quit) ps begins_quit))))
-    (Leads_puts (Late Resolve) (λ x past h. late_resolve (resolve_rested x past h.0) h.0.0))))
-    (stays Resolve)
+resolve_leads own wait = rings_lead own wait ResolveAlarm
+    (Leads_to to_open (Leads_either (is_in_time ResolveAlarm) (puts (Ring ResolveAlarm) followed_by quits_rivals) (puts (Late ResolveAlarm))
+    (Leads_then {Q = Free Untaken} (puts (Ring ResolveAlarm)) quits_rivals
+    (Leads_puts (Ring ResolveAlarm) (λ x past h. ring_resolve (resolve_rested x past h.0) h.0.0))
+    (Leads_reading rivals_at (for_each (begins QuitKind)) (λ ps. Leads_from (λ x past h. h.0) (Leads_each (begins QuitKind) ps begins_quit))))
+    (Leads_puts (Late ResolveAlarm) (λ x past h. late_resolve (resolve_rested x past h.0) h.0.0))))
+    (stays ResolveAlarm)

@@ -2,12 +2,8 @@
 use Rattle.std.specs.Prelude.{◌≡◌, ℕ, ◌&&◌, ◌||◌, not, Bool, true, false, List, [], ◌∷◌, refl}
 use Rattle.std.proofs.Common.{sym, true≢false}
 use Rattle.std.proofs.lemmas.Bool.{and_parts}
-use Rattle.tsp_base.specs.declared.alarm.Alarm.{Alarm}
-use Rattle.tsp_base.specs.declared.alarm.Alarm.TheVariants.{Quiet, Search, Elect, Window, Probe, Close, Resolve, Round}
-use Rattle.tsp_base.specs.declared.alarm.TheConstants.Alarm.{ALL}
-use Rattle.tsp_base.specs.History.{Past}
-use Rattle.tsp_base.specs.Leads.{Leads}
-use Rattle.tsp_base.specs.Rows.{nothing}
+use Rattle.tsp_rules.specs.Values.{Alarm, Quiet, Window, Elect, Search, Round, Probe, CloseAlarm, ResolveAlarm, ALL}
+use Rattle.tsp_base.specs.Words.{Past, Leads, nothing}
 use Rattle.tsp_base.proofs.LeadsLemmas.{Leads_then, Leads_nothing, Leads_from, Leads_to}
 use Rattle.tsp_rules.specs.Answers.{alarm_rings, rings, rings_alone, rings_each, due_alarms}
 use Rattle.tsp_rules.specs.GateRows.{is_probe}
@@ -28,8 +24,8 @@ alarm-sound own wait Search = search_sound
 alarm-sound own wait Elect = elect_sound
 alarm-sound own wait Window = window_sound
 alarm-sound own wait Probe = probe_sound
-alarm-sound own wait Close = close_sound own
-alarm-sound own wait Resolve = resolve_sound
+alarm-sound own wait CloseAlarm = close_sound own
+alarm-sound own wait ResolveAlarm = resolve_sound
 alarm-sound own wait Round = round_sound wait
 
 -- what is known of a port around an alarm: a Close needs to know that the port has probed, which a Probe leaves behind
@@ -43,8 +39,8 @@ alarm_leads own wait Search = search_leads own wait
 alarm_leads own wait Elect = elect_leads own wait
 alarm_leads own wait Window = window_leads own wait
 alarm_leads own wait Probe = probe_leads own wait
-alarm_leads own wait Close = close_leads own wait
-alarm_leads own wait Resolve = resolve_leads own wait
+alarm_leads own wait CloseAlarm = close_leads own wait
+alarm_leads own wait ResolveAlarm = resolve_leads own wait
 alarm_leads own wait Round = round_leads own wait
 
 -- an alarm, whether it is due or not

@@ -2,30 +2,8 @@
 use Rattle.std.specs.Prelude.{◌≡◌, ℕ, ◌==◌, nat_lt, ◌&&◌, ◌||◌, not, Bool, true, false, if◌then◌else◌, List, [], ◌∷◌, ◌++◌, length, filter, Option, None, Some, is_some, refl}
 use Rattle.std.proofs.Common.{sym, subst, ap, ◌∙◌, arith, inl, inr, true≢false, append-nil}
 use Rattle.std.proofs.lemmas.Bool.{and_right}
-use Rattle.tsp_base.specs.declared.act.Act.{Act}
-use Rattle.tsp_base.specs.declared.act.Act.TheVariants.{Abandon, Become, Boot, Took}
-use Rattle.tsp_base.specs.declared.act.Placed.{Placed}
-use Rattle.tsp_base.specs.declared.alarm.Alarm.{Alarm}
-use Rattle.tsp_base.specs.declared.alarm.Alarm.TheVariants.{Quiet, Probe, Close, Round}
-use Rattle.tsp_base.specs.declared.alarm.TheConstants.Alarm.{ALL}
-use Rattle.tsp_base.specs.declared.constants.TheConstants.{QUIET}
-use Rattle.tsp_base.specs.declared.datagram.Datagram.TheVariants.{Message, Stamp}
-use Rattle.tsp_base.specs.declared.datagram.Taken.{Taken}
-use Rattle.tsp_base.specs.declared.datagram.Taken.TheVariants.{Good, Bad}
-use Rattle.tsp_base.specs.declared.kind.Kind.{Kind}
-use Rattle.tsp_base.specs.declared.kind.Kind.TheVariants.{Loop as LoopKind}
-use Rattle.tsp_base.specs.declared.place.Place.{Place}
-use Rattle.tsp_base.specs.declared.place.Port.{Port}
-use Rattle.tsp_base.specs.declared.role.Role.{Role}
-use Rattle.tsp_base.specs.declared.role.Role.TheVariants.{Master, Starting}
-use Rattle.tsp_base.specs.History.{Past, view}
-use Rattle.tsp_base.specs.Joins.{first_port}
-use Rattle.tsp_base.specs.Leads.{Leads}
-use Rattle.tsp_base.specs.Messages.{MessageValue}
-use Rattle.tsp_base.specs.PortFacts.{armed, role}
-use Rattle.tsp_base.specs.RoundFacts.{is_going}
-use Rattle.tsp_base.specs.Rows.{Row, grown, arms, placed, nothing, puts, ◌followed_by◌, either_by}
-use Rattle.tsp_base.specs.SendFacts.{is_correction, sets_date}
+use Rattle.tsp_rules.specs.Values.{Act, Boot, Took, Become, Abandon, Placed, Alarm, Quiet, Round, Probe, CloseAlarm, Message, Stamp, Taken, Good, Bad, Kind, LoopKind, Place, Port, Role, Starting, Master, ALL, QUIET}
+use Rattle.tsp_base.specs.Words.{Past, view, first_port, Leads, MessageValue, armed, role, is_going, Row, grown, arms, placed, nothing, puts, ◌followed_by◌, either_by, is_correction, sets_date}
 use Rattle.tsp_base.proofs.LeadsLemmas.{Leads_from, Leads_then}
 use Rattle.tsp_base.proofs.RowLemmas.{then_assoc}
 use Rattle.tsp_rules.specs.Answers.{answers, due_alarms, input_row, rings, rings_alone, rings_each, alarm_rings, takes, handles, handles_kind, is_left}
@@ -134,25 +112,25 @@ same-probe = record {
 }
 
 -- a round goes on only at a master
-leads-round : (x : ℕ) (past : Past) → Open x past → is_due Close x past ≡ true → role past.seen ≡ Master
+leads-round : (x : ℕ) (past : Past) → Open x past → is_due CloseAlarm x past ≡ true → role past.seen ≡ Master
 leads-round x past h due = by_close (armed past.seen).close refl due where
   by_close : (o : Option ℕ) → (armed past.seen).close ≡ o → is_over o x ≡ true → role past.seen ≡ Master
   by_close None e over = absurd (true≢false (sym over))
   by_close (Some at) e over = (h.knows.round.closes refl at e).leads
 
-closes-alone : (x : ℕ) (past : Past) (own : Bool) → Open x past → own ≡ not (is_follow (role past.seen)) → rings own false Close x past ≡ rings true false Close x past
+closes-alone : (x : ℕ) (past : Past) (own : Bool) → Open x past → own ≡ not (is_follow (role past.seen)) → rings own false CloseAlarm x past ≡ rings true false CloseAlarm x past
 unfolding rings either_by alarm_rings
-closes-alone x past own h e = by_due (is_due Close x past) refl where
-  by_due : (b : Bool) → is_due Close x past ≡ b → (if b then close_rings own x past else nothing x past) ≡ (if b then close_rings true x past else nothing x past)
+closes-alone x past own h e = by_due (is_due CloseAlarm x past) refl where
+  by_due : (b : Bool) → is_due CloseAlarm x past ≡ b → (if b then close_rings own x past else nothing x past) ≡ (if b then close_rings true x past else nothing x past)
   by_due true due = ap (λ own. close_rings own x past) (e ∙ ap (λ (r : Role). not (is_follow r)) (leads-round x past h due))
   by_due false due = refl
 
-same-close : Same Open (alarm_on first_port Close) (rings true false Close)
+same-close : Same Open (alarm_on first_port CloseAlarm) (rings true false CloseAlarm)
 unfolding alarm_on reading_all closes_on stirring on
 same-close = record {
   run = λ x past s one c.
       let own = leads_clock first_port x past in
-      let acts = rings own false Close x (alone past) in
+      let acts = rings own false CloseAlarm x (alone past) in
       let mid = spread x past (placed first_port acts) in
       ap (λ ports. placed first_port acts ++ (if corrects acts then for_ports abandons_on ports x mid else [])) (none-other past s one)
       ∙ ap (λ ps. placed first_port acts ++ ps) (given-up-none (corrects acts) x mid)
@@ -171,7 +149,7 @@ same-round = record {
 same-alarm : (a : Alarm) → Same (Around (moves_by a)) (alarm_on first_port a) (rings_alone a)
 unfolding alarm_on rings_alone
 same-alarm Probe = same-probe
-same-alarm Close = same-from (alarm_on first_port Close) (rings true false Close) (around_open true) same-close
+same-alarm CloseAlarm = same-from (alarm_on first_port CloseAlarm) (rings true false CloseAlarm) (around_open true) same-close
 same-alarm Round = same-round
 same-alarm a = same-on (rings true false a)
 

@@ -2,28 +2,10 @@
 use Rattle.std.specs.Prelude.{◌≡◌, ℕ, not, Bool, true, false, List, [], ◌∷◌, refl}
 use Rattle.std.proofs.Common.{sym, subst, inl, inr, ap, true≢false, eq-eqb, ◌∙◌}
 use Rattle.std.proofs.lemmas.Bool.{and_parts, not-true}
-use Rattle.tsp_base.specs.declared.act.Act.TheVariants.{Took}
-use Rattle.tsp_base.specs.declared.datagram.Datagram.TheVariants.{Message, Stamp}
-use Rattle.tsp_base.specs.declared.datagram.Taken.{Taken}
-use Rattle.tsp_base.specs.declared.datagram.Taken.TheVariants.{Good, Bad}
-use Rattle.tsp_base.specs.declared.kind.Kind.{Kind}
-use Rattle.tsp_base.specs.declared.kind.Kind.TheVariants.{Quit as QuitKind, Date, DateReq, DateAck, SetDate, SetDateReq, Loop, TraceOn, TraceOff, Msite, MsiteReq, Test}
-use Rattle.tsp_base.specs.declared.place.PeerId.{PeerId}
-use Rattle.tsp_base.specs.declared.place.Place.{Place}
-use Rattle.tsp_base.specs.declared.place.Place.TheVariants.{Peer, Stranger}
-use Rattle.tsp_base.specs.declared.role.Role.{Role}
-use Rattle.tsp_base.specs.declared.role.Role.TheVariants.{Starting, Loose, Follow, Candidate, Master}
-use Rattle.tsp_base.specs.declared.stamp.Stamp.TheVariants.{Request, Reply}
+use Rattle.tsp_rules.specs.Values.{Took, Message, Stamp, Taken, Good, Bad, Kind, Date, DateAck, DateReq, LoopKind, Msite, MsiteReq, QuitKind, SetDate, SetDateReq, Test, TraceOff, TraceOn, PeerId, Place, Peer, Stranger, Role, Starting, Loose, Follow, Candidate, Master, Request, Reply}
+use Rattle.tsp_base.specs.Words.{Seen, Past, Leads, MessageValue, is_among, role, Row, grown, nothing, puts, ◌followed_by◌, is_date_request, sets_date, ReplyValue}
 use Rattle.tsp_promises.specs.AckFits.{Answers}
 use Rattle.tsp_promises.specs.DeedFits.{asks_name, is_answered_early}
-use Rattle.tsp_base.specs.History.{Seen, Past}
-use Rattle.tsp_base.specs.Leads.{Leads}
-use Rattle.tsp_base.specs.Messages.{MessageValue}
-use Rattle.tsp_base.specs.Peers.{is_among}
-use Rattle.tsp_base.specs.PortFacts.{role}
-use Rattle.tsp_base.specs.Rows.{Row, grown, nothing, puts, ◌followed_by◌}
-use Rattle.tsp_base.specs.SendFacts.{is_date_request, sets_date}
-use Rattle.tsp_base.specs.Stamps.{ReplyValue}
 use Rattle.tsp_base.proofs.LeadsLemmas.{Leads_then, Leads_reading, Leads_nothing, Leads_from}
 use Rattle.tsp_rules.specs.Answers.{due_alarms, says_in, peer_says, replies_in, peer_replies, from_peer, handles_kind, is_left, handles, takes, Given, Turn, Got, input_row, answers}
 use Rattle.tsp_rules.specs.CandidateRows.{candidate_takes}
@@ -120,7 +102,7 @@ module _ {from : Place} {m : MessageValue} where
   handles_kind_upsets charge DateReq e = from_peer_upsets from (Good (Message m)) (date_request_of charge m) (λ p i. date_request_upsets charge (ap is_date_request e))
   handles_kind_upsets charge SetDateReq e = from_peer_upsets from (Good (Message m)) (date_request_of charge m) (λ p i. date_request_upsets charge (ap is_date_request e))
   handles_kind_upsets charge DateAck e = from_peer_upsets from (Good (Message m)) (date_acked m) (λ p i. upsets_of (date_acked_leads e))
-  handles_kind_upsets charge Loop e = upsets_of (passes_over (λ x past h. h.just))
+  handles_kind_upsets charge LoopKind e = upsets_of (passes_over (λ x past h. h.just))
   handles_kind_upsets charge _ e = from_peer_upsets from (Good (Message m)) (peer_says m) (λ p i. upsets_of peer_says_leads)
 
 -- whether what was taken may set the date

@@ -2,26 +2,15 @@
 use Rattle.std.specs.Prelude.{◌≡◌, ◌==◌, ◌||◌, ◌≤◌, ℕ, ◌+◌, Bool, true, false, if◌then◌else◌, List, [], ◌∷◌, Option, None, Some, is_some, refl}
 use Rattle.std.proofs.Common.{sym, ap, arith, subst, eq-eqb, true≢false, ◌∙◌}
 use Rattle.std.proofs.Math.Bool.{or-false as or-none, or-true}
-use Rattle.tsp_base.specs.declared.act.Act.{Act}
-use Rattle.tsp_base.specs.declared.act.Act.TheVariants.{Post, Quit, Took}
-use Rattle.tsp_base.specs.declared.datagram.Datagram.TheVariants.{Message}
-use Rattle.tsp_base.specs.declared.datagram.Taken.{Taken}
-use Rattle.tsp_base.specs.declared.datagram.Taken.TheVariants.{Good}
-use Rattle.tsp_base.specs.declared.place.PeerId.{PeerId}
-use Rattle.tsp_base.specs.declared.place.Place.{Place}
-use Rattle.tsp_base.specs.declared.place.Place.TheVariants.{Peer, Stranger}
-use Rattle.tsp_base.specs.declared.place.Port.{Port}
+use Rattle.tsp_rules.specs.Values.{Act, Took, Post, Quit, Message, Taken, Good, PeerId, Place, Peer, Stranger, Port}
+use Rattle.tsp_base.specs.Words.{Acts, Begins, Deed, Did, Line, Seen, Here, Step, dids, is_shared, of, seen_as, view, Received, taken, taken_after, Setup, heard}
 use Rattle.tsp_promises.specs.Answered.{Acknowledged, Answered, AnswersAt, Heeded, HeedsQuit, OneForOneAt, QuitsAt, StrangersAt, TakesOneAt, from_strangers, from_strangers_after, has_answered, has_answered_after, has_quit, has_quit_after, to_strangers, to_strangers_after}
 use Rattle.tsp_promises.specs.DeedFits.{DeedFits}
 use Rattle.tsp_promises.specs.Fits.{Finished, Fits, SameStep, node_of}
-use Rattle.tsp_base.specs.History.{Acts, Begins, Deed, Did, Line, Seen, Here, Step, dids, is_shared, of, seen_as, view}
 use Rattle.tsp_promises.specs.OwnFits.{OwnFits, OwnLineFits}
-use Rattle.tsp_base.specs.PortFacts.{Received, taken, taken_after}
 use Rattle.tsp_promises.specs.QuitFits.{QuitFits}
 use Rattle.tsp_promises.specs.Setting.{Setting, setup_of}
-use Rattle.tsp_base.specs.Setup.{Setup}
 use Rattle.tsp_promises.specs.StepFacts.{is_answered, is_answered_after, unacknowledged, unheeded}
-use Rattle.tsp_base.specs.Takings.{heard}
 use Rattle.tsp_base.proofs.ViewPlaces.{or-false, port-same, sees-own}
 use Rattle.tsp_base.proofs.Views.{plain_view}
 use Rattle.tsp_promises.proofs.EverywhereLemmas.{Everywhere-from}

@@ -1,17 +1,10 @@
 -- How many requests a port has posted.
 use Rattle.std.specs.Prelude.{◌≡◌, ◌==◌, ◌||◌, Bool, true, false, ℕ, ◌≤◌, List, [], ◌∷◌, refl}
 use Rattle.std.proofs.Common.{sym, arith, subst, inl, inr}
-use Rattle.tsp_base.specs.declared.act.Act.TheVariants.{Boot, Post}
-use Rattle.tsp_base.specs.declared.datagram.Datagram.TheVariants.{Stamp}
-use Rattle.tsp_base.specs.declared.place.Port.{Port}
-use Rattle.tsp_base.specs.declared.stamp.Stamp.TheVariants.{Request}
+use Rattle.tsp_rules.specs.Values.{Boot, Post, Stamp, Port, Request}
+use Rattle.tsp_base.specs.Words.{Deed, Acts, Did, Line, Seen, dids, of, view, seen_as, is_shared, lives, lives_after, Within, asked, asked_after, posted, posted_after}
 use Rattle.tsp_promises.specs.Fits.{node_of}
-use Rattle.tsp_base.specs.History.{Deed, Acts, Did, Line, Seen, dids, of, view, seen_as, is_shared}
-use Rattle.tsp_base.specs.NodeFacts.{lives, lives_after}
-use Rattle.tsp_base.specs.Places.{Within}
-use Rattle.tsp_base.specs.RoundFacts.{asked, asked_after}
 use Rattle.tsp_promises.specs.Setting.{Setting}
-use Rattle.tsp_base.specs.Takings.{posted, posted_after}
 use Rattle.tsp_promises.specs.OwnFits.{OwnFits}
 use Rattle.tsp_promises.proofs.HeldProof.{still-lives}
 

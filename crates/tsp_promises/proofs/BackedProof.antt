@@ -1,12 +1,9 @@
 -- Whom a step has backed, and where.
 use Rattle.std.specs.Prelude.{◌≡◌, ◌==◌, ◌||◌, Bool, true, false, List, [], ◌∷◌, Some, refl}
 use Rattle.std.proofs.Common.{sym, ap, inl, inr, true≢false, ◌∙◌}
-use Rattle.tsp_base.specs.declared.act.Act.TheVariants.{Back}
-use Rattle.tsp_base.specs.declared.place.PeerId.{PeerId}
-use Rattle.tsp_base.specs.declared.place.Port.{Port}
+use Rattle.tsp_rules.specs.Values.{Back, PeerId, Port}
+use Rattle.tsp_base.specs.Words.{Step, Deed, Begins, Acts, Did, Line, dids, view, seen_as, is_shared, Within}
 use Rattle.tsp_promises.specs.Fits.{SameStep}
-use Rattle.tsp_base.specs.History.{Step, Deed, Begins, Acts, Did, Line, dids, view, seen_as, is_shared}
-use Rattle.tsp_base.specs.Places.{Within}
 use Rattle.tsp_promises.specs.Setting.{Setting}
 use Rattle.tsp_promises.specs.StepFacts.{backed, backed_after}
 use Rattle.std.proofs.Math.Bool.{or-true}

@@ -1,13 +1,8 @@
 -- How a master that took a QUIT comes to follow its sender.
 use Rattle.std.specs.Prelude.{◌≡◌, true, List, [], ◌∷◌, refl}
 use Rattle.std.proofs.Common.{sym, ap, inl, inr, ◌∙◌}
-use Rattle.tsp_base.specs.declared.act.Act.TheVariants.{Boot, Become, Quit}
-use Rattle.tsp_base.specs.declared.place.PeerId.{PeerId}
-use Rattle.tsp_base.specs.declared.role.Role.{Role}
-use Rattle.tsp_base.specs.declared.role.Role.TheVariants.{Follow}
-use Rattle.tsp_base.specs.History.{Begins, Acts, Deed, Did, Seen, Here, Elsewhere}
-use Rattle.tsp_base.specs.Peers.{is_among}
-use Rattle.tsp_base.specs.PortFacts.{role, role_after}
+use Rattle.tsp_rules.specs.Values.{Boot, Become, Quit, PeerId, Role, Follow}
+use Rattle.tsp_base.specs.Words.{Begins, Acts, Deed, Did, Seen, Here, Elsewhere, is_among, role, role_after}
 use Rattle.tsp_promises.specs.StepFacts.{owes, owes_after}
 use Rattle.tsp_promises.specs.Became.{Became, BecomesAfter}
 

@@ -1,12 +1,8 @@
 -- The best sample of a peer stands in the last round.
 use Rattle.std.specs.Prelude.{◌≡◌, ◌==◌, cond, int_lt, Bool, true, false, ◌⊎◌, List, [], ◌∷◌, Option, Some, None, refl}
 use Rattle.std.proofs.Common.{sym, ap, subst, inl, inr, ◌∙◌}
-use Rattle.tsp_base.specs.declared.act.Act.TheVariants.{Boot, Become, Arm, Sample}
-use Rattle.tsp_base.specs.declared.alarm.Alarm.TheVariants.{Close}
-use Rattle.tsp_base.specs.declared.place.PeerId.{PeerId}
-use Rattle.tsp_base.specs.History.{Deed, Acts, Did, Seen, Here, Elsewhere}
-use Rattle.tsp_base.specs.Places.{Within}
-use Rattle.tsp_base.specs.RoundFacts.{Sampled, best, best_after, better, started, started_after}
+use Rattle.tsp_rules.specs.Values.{Boot, Become, Arm, Sample, CloseAlarm, PeerId}
+use Rattle.tsp_base.specs.Words.{Deed, Acts, Did, Seen, Here, Elsewhere, Within, Sampled, best, best_after, better, started, started_after}
 use Rattle.tsp_rules.proofs.GuardFacts.{same_peer}
 
 -- a sample stands at its place, in the last round
@@ -49,7 +45,7 @@ best-sample p q d before keep s late is at h true b e = elim (better-is keep lat
 best-deed : (p : PeerId) (d : Did) (before : List Seen) (s : Sampled) (deed : Deed) → deed ≡ d.deed → (best p before ≡ Some s → BestAt p s before) → best_after p deed (Here d ∷ before) before (best p before) ≡ Some s → BestAt p s (Here d ∷ before)
 best-deed p d before s (Acts Boot) is h e = let bad : ⊥ = cc in absurd bad
 best-deed p d before s (Acts (Become r)) is h e = let bad : ⊥ = cc in absurd bad
-best-deed p d before s (Acts (Arm Close at)) is h e = let bad : ⊥ = cc in absurd bad
+best-deed p d before s (Acts (Arm CloseAlarm at)) is h e = let bad : ⊥ = cc in absurd bad
 best-deed p d before s (Acts (Sample q counter diff err ticket)) is h e = best-sample p q d before (best p before) s _ is refl h (q.0 == p.0) refl e
 best-deed p d before s deed is h e = best-before p s d before (ap (λ k. started_after k (Here d ∷ before) (started before)) (sym is)) (h e)
 

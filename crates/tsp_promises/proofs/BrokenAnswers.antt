@@ -1,25 +1,10 @@
 -- Small histories that break the promise of answers.
 use Rattle.std.specs.Prelude.{◌≡◌, ◌≤◌, false, ℕ, pos, List, [], ◌∷◌, Option, None, Some, refl}
 use Rattle.std.proofs.Common.{sym, ap, arith, subst, true≢false, ◌∙◌}
-use Rattle.tsp_base.specs.declared.act.Act.TheVariants.{Become, Post, Quit, Took}
-use Rattle.tsp_base.specs.declared.datagram.Datagram.{Datagram}
-use Rattle.tsp_base.specs.declared.datagram.Datagram.TheVariants.{Message, Stamp}
-use Rattle.tsp_base.specs.declared.datagram.Taken.{Taken}
-use Rattle.tsp_base.specs.declared.datagram.Taken.TheVariants.{Good}
-use Rattle.tsp_base.specs.declared.kind.Kind.TheVariants.{Ack, Quit as QuitKind, Test}
-use Rattle.tsp_base.specs.declared.message.Body.TheVariants.{Nothing}
-use Rattle.tsp_base.specs.declared.place.PeerId.{PeerId}
-use Rattle.tsp_base.specs.declared.place.Place.{Place}
-use Rattle.tsp_base.specs.declared.place.Place.TheVariants.{Peer, Stranger}
-use Rattle.tsp_base.specs.declared.role.Role.TheVariants.{Loose}
-use Rattle.tsp_base.specs.declared.stamp.Stamp.TheVariants.{Reply, Request}
+use Rattle.tsp_rules.specs.Values.{Took, Post, Become, Quit, Datagram, Message, Stamp, Taken, Good, Ack, QuitKind, Test, Nothing, PeerId, Place, Peer, Stranger, Loose, Request, Reply}
+use Rattle.tsp_base.specs.Words.{Handed, Turned, Line, dids, MessageValue, Received, ReplyValue, heard, peer_of}
 use Rattle.tsp_promises.specs.Answered.{Answered, AnswersAsked, AnswersWith}
 use Rattle.tsp_promises.specs.Broken.{AnswersBreak, Breaks}
-use Rattle.tsp_base.specs.History.{Handed, Turned, Line, dids}
-use Rattle.tsp_base.specs.Messages.{MessageValue}
-use Rattle.tsp_base.specs.PortFacts.{Received}
-use Rattle.tsp_base.specs.Stamps.{ReplyValue}
-use Rattle.tsp_base.specs.Takings.{heard, peer_of}
 use Rattle.tsp_promises.proofs.Histories.{begins, does, msg, still}
 use Rattle.tsp_promises.proofs.StepChecks.{port0}
 

@@ -2,23 +2,15 @@
 use Rattle.std.specs.Prelude.{◌≡◌, ◌≤ℤ◌, false, true, pos, negsuc, List, [], ◌∷◌, refl}
 use Rattle.std.proofs.Common.{arith, inl, inr}
 use Rattle.std.proofs.lemmas.Int.{ints}
-use Rattle.tsp_base.specs.declared.act.Act.TheVariants.{Correct, Post, Ring, Sample, Took}
-use Rattle.tsp_base.specs.declared.alarm.Alarm.TheVariants.{Close as AlarmClose}
-use Rattle.tsp_base.specs.declared.datagram.Datagram.TheVariants.{Message, Stamp}
-use Rattle.tsp_base.specs.declared.datagram.Taken.TheVariants.{Good}
-use Rattle.tsp_base.specs.declared.kind.Kind.TheVariants.{AdjTime, SetTime}
-use Rattle.tsp_base.specs.declared.message.Body.TheVariants.{Time}
-use Rattle.tsp_base.specs.declared.place.Place.TheVariants.{Peer}
-use Rattle.tsp_base.specs.declared.stamp.Stamp.TheVariants.{Reply}
+use Rattle.tsp_rules.specs.Values.{Took, Post, Ring, Correct, Sample, CloseAlarm, Message, Stamp, Good, AdjTime, SetTime, TimeBody, Peer, Reply}
+use Rattle.tsp_base.specs.Words.{Came, Turned, Line, of, view, peer_of}
 use Rattle.tsp_promises.specs.Agreed.{Cast}
 use Rattle.tsp_promises.specs.Broken.{AllBreak, Breaks, ChainsBreak}
 use Rattle.tsp_promises.specs.Chained.{Chained, Hop, Hops}
 use Rattle.tsp_promises.specs.ErrsBounded.{ErrsBounded}
 use Rattle.tsp_promises.specs.FirstSet.{FirstSet, FirstSetSoon, SetBy}
-use Rattle.tsp_base.specs.History.{Came, Turned, Line, of, view}
 use Rattle.tsp_promises.specs.Throughout.{Throughout}
 use Rattle.tsp_promises.specs.OneError.{OneError}
-use Rattle.tsp_base.specs.Takings.{peer_of}
 use Rattle.tsp_promises.proofs.BrokenAnswers.{answers_break}
 use Rattle.tsp_promises.proofs.BrokenClocks.{clocks_break, left_alone, relays_wrong, stray, strays, wrong}
 use Rattle.tsp_promises.proofs.BrokenEstimates.{ended_near, estimates_apart, master_near}
@@ -99,14 +91,14 @@ abbrev long17 : List Line
 long17 = does 400000801 0 (Came 8) (Sample (peer_of 1) 0 (negsuc 100) (pos 5000000) 10) ∷ (does 400000801 0 (Came 8) (Took (Peer (peer_of 1)) (Good (Stamp (Reply reply1)))) ∷ (begins 400000801 0 (Came 8) ∷ w16))
 
 abbrev long19 : List Line
-long19 = does 408000000 0 Turned (Post (Peer (peer_of 1)) (Message (msg AdjTime 10 (Time (pos 17))))) ∷ (closing ∷ (does 408000000 0 Turned (Ring AlarmClose) ∷ (begins 408000000 0 Turned ∷ long17)))
+long19 = does 408000000 0 Turned (Post (Peer (peer_of 1)) (Message (msg AdjTime 10 (TimeBody (pos 17))))) ∷ (closing ∷ (does 408000000 0 Turned (Ring CloseAlarm) ∷ (begins 408000000 0 Turned ∷ long17)))
 
 abbrev long20 : List Line
-long20 = does 408000400 1 (Came 10) (Took (Peer (peer_of 0)) (Good (Message (msg AdjTime 10 (Time (pos 17)))))) ∷ (begins 408000400 1 (Came 10) ∷ long19)
+long20 = does 408000400 1 (Came 10) (Took (Peer (peer_of 0)) (Good (Message (msg AdjTime 10 (TimeBody (pos 17)))))) ∷ (begins 408000400 1 (Came 10) ∷ long19)
 
 long-cast : Cast 0 closing (skip 2 long19) first long20 sounds (skip 1 w15) (pos 5000000)
 long-cast =
-    cast-by 0 closing (skip 2 long19) first long20 sounds (skip 1 w15) (does 408000000 0 Turned (Post (Peer (peer_of 1)) (Message (msg AdjTime 10 (Time (pos 17)))))) (skip 1 long19) (msg AdjTime 10 (Time (pos 17))) (pos 17) false (pos 408000399)
+    cast-by 0 closing (skip 2 long19) first long20 sounds (skip 1 w15) (does 408000000 0 Turned (Post (Peer (peer_of 1)) (Message (msg AdjTime 10 (TimeBody (pos 17)))))) (skip 1 long19) (msg AdjTime 10 (TimeBody (pos 17))) (pos 17) false (pos 408000399)
     (record { counter = 0; diff = negsuc 100; err = pos 5000000; ticket = 10; trip = pos 801; place = view port0 (of 0 long17) })
     (record { correct = refl; place = skipped 2 long20; cause = refl; deed = refl; took = refl; node = refl; kind = refl; numbered = refl; is = refl })
     (record { closes = skipped 3 long20; node = refl; port = refl; is = refl; best_is = refl })
@@ -117,11 +109,11 @@ errs_bounded = record { world = first ∷ long20; broken = λ h. (let k : pos 50
 
 -- another Correct before the one that takes the ADJTIME
 abbrev between : List Line
-between = does 408000400 1 (Came 10) (Took (Peer (peer_of 0)) (Good (Message (msg AdjTime 10 (Time (pos 17)))))) ∷ (begins 408000400 1 (Came 10) ∷ (does 408000300 1 Turned (Correct (pos 5) false (pos 0)) ∷ w19))
+between = does 408000400 1 (Came 10) (Took (Peer (peer_of 0)) (Good (Message (msg AdjTime 10 (TimeBody (pos 17)))))) ∷ (begins 408000400 1 (Came 10) ∷ (does 408000300 1 Turned (Correct (pos 5) false (pos 0)) ∷ w19))
 
 abbrev between-cast : Cast 0 closing (skip 4 w19) first between sounds (skip 1 w15) (pos 401)
 between-cast =
-    cast-by 0 closing (skip 4 w19) first between sounds (skip 1 w15) (does 408000000 0 Turned (Post (Peer (peer_of 1)) (Message (msg AdjTime 10 (Time (pos 17)))))) (skip 2 w19) (msg AdjTime 10 (Time (pos 17))) (pos 17) false (pos 408000399)
+    cast-by 0 closing (skip 4 w19) first between sounds (skip 1 w15) (does 408000000 0 Turned (Post (Peer (peer_of 1)) (Message (msg AdjTime 10 (TimeBody (pos 17)))))) (skip 2 w19) (msg AdjTime 10 (TimeBody (pos 17))) (pos 17) false (pos 408000399)
     (record { counter = 0; diff = negsuc 100; err = pos 401; ticket = 10; trip = pos 801; place = view port0 (of 0 w17) })
     (record { correct = refl; place = skipped 4 between; cause = refl; deed = refl; took = refl; node = refl; kind = refl; numbered = refl; is = refl })
     (record { closes = skipped 6 between; node = refl; port = refl; is = refl; best_is = refl })
@@ -137,7 +129,7 @@ one_error = record {
 
 -- another Correct before the one that takes the SETTIME
 abbrev late : List Line
-late = does 305000002 1 (Came 2) (Took (Peer (peer_of 0)) (Good (Message (msg SetTime 9 (Time (pos 305000001)))))) ∷ (begins 305000002 1 (Came 2) ∷ (does 305000001 1 Turned (Correct (pos 5) false (pos 0)) ∷ w8))
+late = does 305000002 1 (Came 2) (Took (Peer (peer_of 0)) (Good (Message (msg SetTime 9 (TimeBody (pos 305000001)))))) ∷ (begins 305000002 1 (Came 2) ∷ (does 305000001 1 Turned (Correct (pos 5) false (pos 0)) ∷ w8))
 
 answered_late : Breaks OneError
 answered_late = record {

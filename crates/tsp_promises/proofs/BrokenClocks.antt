@@ -2,24 +2,13 @@
 use Rattle.std.specs.Prelude.{◌≡◌, ◌≤ℤ◌, Bool, false, ℕ, pos, negsuc, ◌-ℤ◌, nat_abs, List, [], ◌∷◌, refl}
 use Rattle.std.proofs.Common.{sym, ap, arith, subst, inl, inr, true≢false, ◌∙◌}
 use Rattle.std.proofs.lemmas.Int.{ints}
-use Rattle.tsp_base.specs.declared.act.Act.TheVariants.{Arm, Boot, Took, Post, Ring, Sample, Close, Correct}
-use Rattle.tsp_base.specs.declared.alarm.Alarm.TheVariants.{Close as AlarmClose}
-use Rattle.tsp_base.specs.declared.datagram.Datagram.TheVariants.{Message, Stamp}
-use Rattle.tsp_base.specs.declared.datagram.Taken.TheVariants.{Good}
-use Rattle.tsp_base.specs.declared.kind.Kind.TheVariants.{AdjTime}
-use Rattle.tsp_base.specs.declared.message.Body.TheVariants.{Time}
-use Rattle.tsp_base.specs.declared.place.PeerId.{PeerId}
-use Rattle.tsp_base.specs.declared.place.Place.TheVariants.{Peer}
-use Rattle.tsp_base.specs.declared.stamp.Stamp.TheVariants.{Request, Reply}
+use Rattle.tsp_rules.specs.Values.{Boot, Took, Post, Arm, Ring, Close, Correct, Sample, CloseAlarm, Message, Stamp, Good, AdjTime, TimeBody, PeerId, Peer, Request, Reply}
+use Rattle.tsp_base.specs.Words.{Booted, Came, Turned, Did, Line, Seen, Here, of, view, MessageValue, Within, peer_of}
 use Rattle.tsp_promises.specs.Agreed.{Agreed, Cast, MasterAgrees, StayAgreed, UnchangedBut}
 use Rattle.tsp_promises.specs.ClockAt.{clock}
 use Rattle.tsp_promises.specs.Fits.{node_of}
-use Rattle.tsp_base.specs.History.{Booted, Came, Turned, Did, Line, Seen, Here, of, view}
 use Rattle.tsp_promises.specs.Measured.{Measured, Trips}
-use Rattle.tsp_base.specs.Messages.{MessageValue}
-use Rattle.tsp_base.specs.Places.{Within}
 use Rattle.tsp_promises.specs.Relayed.{Relayed}
-use Rattle.tsp_base.specs.Takings.{peer_of}
 use Rattle.tsp_promises.specs.Broken.{Breaks, ClocksBreak}
 use Rattle.tsp_promises.proofs.CastBy.{cast-by}
 use Rattle.tsp_promises.proofs.Histories.{begins, does, line, msg, skip, skipped, step_at, still}
@@ -72,14 +61,14 @@ unasked : Breaks Trips
 unasked = record { world = samples ∷ []; broken = λ h. (let t = h.0 (peer_of 1) 0 (pos 100) (pos 0) 0 refl in none-there t.request t.older t.exchange_is) }
 
 abbrev outlives : List Line
-outlives = does 15 0 (Booted 3 (pos 15)) Boot ∷ (does 10 0 Turned (Post (Peer (peer_of 1)) (Stamp (Request 0 0))) ∷ (does 10 0 Turned (Arm AlarmClose 30) ∷ []))
+outlives = does 15 0 (Booted 3 (pos 15)) Boot ∷ (does 10 0 Turned (Post (Peer (peer_of 1)) (Stamp (Request 0 0))) ∷ (does 10 0 Turned (Arm CloseAlarm 30) ∷ []))
 
 outlived : Breaks Trips
 outlived = record { world = samples ∷ outlives; broken = λ h. (let t = h.0 (peer_of 1) 0 (pos 100) (pos 0) 0 refl in none-there t.request t.older t.exchange_is) }
 
 -- an ADJTIME of a second to a clock that is 101 behind and a round whose mean is 84 behind
 abbrev misleads : MessageValue
-misleads = msg AdjTime 10 (Time (pos 1000000))
+misleads = msg AdjTime 10 (TimeBody (pos 1000000))
 
 abbrev a1 : List Line
 a1 = does 408000000 0 Turned (Post (Peer (peer_of 1)) (Message misleads)) ∷ (does 408000000 0 Turned (Correct (negsuc 83) false (pos 408000000)) ∷ skip 3 w19)
@@ -149,12 +138,12 @@ stay_agreed : Breaks (StayAgreed (still false))
 stay_agreed = record { world = stray false; broken = λ h. far-apart (h.0 408000500 (omega arith)).master }
 
 abbrev shuts : List Line
-shuts = does 10 0 Turned (Close 1 (pos 0) (pos 0) (pos 0)) ∷ (does 10 0 Turned (Ring AlarmClose) ∷ [])
+shuts = does 10 0 Turned (Close 1 (pos 0) (pos 0) (pos 0)) ∷ (does 10 0 Turned (Ring CloseAlarm) ∷ [])
 
 unsampled : Breaks (Agreed (still false))
 unsampled = record {
-  world = does 10 0 Turned (Post (Peer (peer_of 1)) (Message (msg AdjTime 5 (Time (pos 1))))) ∷ shuts;
-  broken = λ h. true≢false (sym (h.0.rests (peer_of 1) (msg AdjTime 5 (Time (pos 1))) (does 10 0 Turned (Close 1 (pos 0) (pos 0) (pos 0))).did (view port0 (of 0 (skip 1 shuts))) refl refl refl refl));
+  world = does 10 0 Turned (Post (Peer (peer_of 1)) (Message (msg AdjTime 5 (TimeBody (pos 1))))) ∷ shuts;
+  broken = λ h. true≢false (sym (h.0.rests (peer_of 1) (msg AdjTime 5 (TimeBody (pos 1))) (does 10 0 Turned (Close 1 (pos 0) (pos 0) (pos 0))).did (view port0 (of 0 (skip 1 shuts))) refl refl refl refl));
 }
 
 abbrev pub relays_wrong : Line

@@ -2,23 +2,14 @@
 use Rattle.std.specs.Prelude.{◌≡◌, false, true, ℤ, pos, List, [], ◌∷◌, refl}
 use Rattle.std.proofs.Common.{arith}
 use Rattle.std.proofs.lemmas.Int.{ints}
-use Rattle.tsp_base.specs.declared.act.Act.TheVariants.{Acked, Become, Correct, Post, Ring, Took}
-use Rattle.tsp_base.specs.declared.alarm.Alarm.TheVariants.{Round}
-use Rattle.tsp_base.specs.declared.datagram.Datagram.TheVariants.{Message}
-use Rattle.tsp_base.specs.declared.datagram.Taken.TheVariants.{Good}
-use Rattle.tsp_base.specs.declared.kind.Kind.TheVariants.{Date, SetDateReq}
-use Rattle.tsp_base.specs.declared.message.Body.TheVariants.{Time}
-use Rattle.tsp_base.specs.declared.place.Place.TheVariants.{Peer, Stranger}
-use Rattle.tsp_base.specs.declared.role.Role.TheVariants.{Master}
+use Rattle.tsp_rules.specs.Values.{Took, Post, Become, Ring, Correct, Acked, Round, Message, Good, Date, SetDateReq, TimeBody, Peer, Stranger, Master}
+use Rattle.tsp_base.specs.Words.{Handed, Turned, Line, MessageValue, peer_of}
 use Rattle.tsp_promises.specs.Broken.{Breaks}
 use Rattle.tsp_promises.specs.Dated.{DateConfirmedAt, SetsAt}
 use Rattle.tsp_promises.specs.DatesBroken.{DatesBreak}
 use Rattle.tsp_promises.specs.Everywhere.{Everywhere}
 use Rattle.tsp_promises.specs.Fits.{node_of}
-use Rattle.tsp_base.specs.History.{Handed, Turned, Line}
-use Rattle.tsp_base.specs.Messages.{MessageValue}
 use Rattle.tsp_promises.specs.Premises.{Few, Honest, Life}
-use Rattle.tsp_base.specs.Takings.{peer_of}
 use Rattle.tsp_promises.proofs.BrokenRoles.{starting}
 use Rattle.tsp_promises.proofs.EverywhereLemmas.{Everywhere-at}
 use Rattle.tsp_promises.proofs.Histories.{begins, does, msg, still}
@@ -26,7 +17,7 @@ use Rattle.tsp_promises.proofs.PremiseChecks.{few-by, honest-by, life-by}
 
 -- a stranger's date
 abbrev date : MessageValue
-date = msg Date 5 (Time (pos 500))
+date = msg Date 5 (TimeBody (pos 500))
 
 -- a step that takes it after these lines, and moves the clock by this
 abbrev set-after : ℤ → List Line → List Line
@@ -42,7 +33,7 @@ sets = record {
 }
 
 abbrev sent : List Line
-sent = does 10 0 Turned (Post (Peer (peer_of 1)) (Message (msg SetDateReq 32775 (Time (pos 1))))) ∷ (does 10 0 Turned (Ring Round) ∷ [])
+sent = does 10 0 Turned (Post (Peer (peer_of 1)) (Message (msg SetDateReq 32775 (TimeBody (pos 1))))) ∷ (does 10 0 Turned (Ring Round) ∷ [])
 
 abbrev acked : List Line
 acked = does 20 0 Turned (Acked (peer_of 1)) ∷ sent
@@ -51,7 +42,7 @@ confirmed : Breaks (λ (world : List Line). Honest world → Life world → Few 
 confirmed = record {
   world = acked;
   broken = λ h.
-      let a = (h (honest-by acked refl) (life-by acked refl) (few-by acked refl)).0 (peer_of 1) (does 10 0 Turned (Post (Peer (peer_of 1)) (Message (msg SetDateReq 32775 (Time (pos 1)))))).did _ (msg SetDateReq 32775 (Time (pos 1))) refl refl refl refl in
+      let a = (h (honest-by acked refl) (life-by acked refl) (few-by acked refl)).0 (peer_of 1) (does 10 0 Turned (Post (Peer (peer_of 1)) (Message (msg SetDateReq 32775 (TimeBody (pos 1)))))).did _ (msg SetDateReq 32775 (TimeBody (pos 1))) refl refl refl refl in
       let own = Everywhere-at (λ (l : Line) (before : List Line). node_of l ≡ 0) a.correct a.past sent (refl, (refl, tt)) a.place in
       omega (arith, own, a.node);
 }

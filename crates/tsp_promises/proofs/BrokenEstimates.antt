@@ -2,16 +2,10 @@
 use Rattle.std.specs.Prelude.{◌≤ℤ◌, false, pos, negsuc, List, ◌∷◌, refl}
 use Rattle.std.proofs.Common.{arith, inl, inr}
 use Rattle.std.proofs.lemmas.Int.{ints}
-use Rattle.tsp_base.specs.declared.act.Act.TheVariants.{Correct, Ring, Sample, Took}
-use Rattle.tsp_base.specs.declared.alarm.Alarm.TheVariants.{Close as AlarmClose}
-use Rattle.tsp_base.specs.declared.datagram.Datagram.TheVariants.{Stamp}
-use Rattle.tsp_base.specs.declared.datagram.Taken.TheVariants.{Good}
-use Rattle.tsp_base.specs.declared.place.Place.TheVariants.{Peer}
-use Rattle.tsp_base.specs.declared.stamp.Stamp.TheVariants.{Reply}
+use Rattle.tsp_rules.specs.Values.{Took, Ring, Correct, Sample, CloseAlarm, Stamp, Good, Peer, Reply}
+use Rattle.tsp_base.specs.Words.{Came, Turned, Line, peer_of}
 use Rattle.tsp_promises.specs.Broken.{Breaks}
 use Rattle.tsp_promises.specs.Estimates.{Estimate, EstimatesHold}
-use Rattle.tsp_base.specs.History.{Came, Turned, Line}
-use Rattle.tsp_base.specs.Takings.{peer_of}
 use Rattle.tsp_promises.proofs.Histories.{begins, does, skip, skipped, still}
 use Rattle.tsp_promises.proofs.WitnessCasts.{answers, closing, sounds}
 use Rattle.tsp_promises.proofs.WitnessEstimates.{adjusts, begins-at, estimate1, sample1, sample2}
@@ -25,7 +19,7 @@ abbrev far18 : List Line
 far18 = does 400000900 0 (Came 9) (Sample (peer_of 2) 1 (negsuc 150) (pos 450) 12) ∷ (does 400000900 0 (Came 9) (Took (Peer (peer_of 2)) (Good (Stamp (Reply reply2)))) ∷ (begins 400000900 0 (Came 9) ∷ far17))
 
 abbrev far19 : List Line
-far19 = does 408000000 0 Turned (Ring AlarmClose) ∷ (begins 408000000 0 Turned ∷ far18)
+far19 = does 408000000 0 Turned (Ring CloseAlarm) ∷ (begins 408000000 0 Turned ∷ far18)
 
 far-one : Estimate 0 1 closing far19 (sample1 (pos 9000000) far17) sounds (skip 1 w15) far19
 far-one = record {

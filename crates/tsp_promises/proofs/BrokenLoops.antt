@@ -1,20 +1,14 @@
 -- Small histories that break the promise of LOOPs.
 use Rattle.std.specs.Prelude.{◌≡◌, false, true, ℕ, List, [], ◌∷◌, is_some, refl}
 use Rattle.std.proofs.Common.{sym, ap, arith, subst, true≢false, ◌∙◌}
-use Rattle.tsp_base.specs.declared.act.Act.TheVariants.{Become, Post}
-use Rattle.tsp_base.specs.declared.datagram.Datagram.TheVariants.{Message}
-use Rattle.tsp_base.specs.declared.message.Body.TheVariants.{Hops}
-use Rattle.tsp_base.specs.declared.place.Place.TheVariants.{Peer}
-use Rattle.tsp_base.specs.declared.role.Role.TheVariants.{Loose, Master}
+use Rattle.tsp_rules.specs.Values.{Post, Become, Message, Hops, Peer, Loose, Master}
+use Rattle.tsp_base.specs.Words.{Acts, Turned, Line, dids, of, MessageValue, heard, peer_of}
 use Rattle.tsp_promises.specs.Broken.{Breaks}
 use Rattle.tsp_promises.specs.Fits.{node_of}
-use Rattle.tsp_base.specs.History.{Acts, Turned, Line, dids, of}
 use Rattle.tsp_promises.specs.Everywhere.{Everywhere}
 use Rattle.tsp_promises.specs.Looped.{ChainAt, GivesUpAt, HopsAt, IsChain, LoopPost}
 use Rattle.tsp_promises.specs.LoopsBroken.{LoopsBreak}
-use Rattle.tsp_base.specs.Messages.{MessageValue}
 use Rattle.tsp_promises.specs.Premises.{Honest, NamesApart}
-use Rattle.tsp_base.specs.Takings.{heard, peer_of}
 use Rattle.tsp_promises.proofs.Histories.{does, still}
 use Rattle.tsp_promises.proofs.PremiseChecks.{honest-by}
 use Rattle.tsp_promises.proofs.SendProof.{one-message}

@@ -2,10 +2,10 @@
 use Rattle.std.specs.Prelude.{◌≡◌, ◌≤◌, ◌≤ℤ◌, false, true, ℤ, pos, negsuc, List, [], ◌∷◌, refl}
 use Rattle.std.proofs.Common.{arith, inl, sym, true≢false}
 use Rattle.std.proofs.lemmas.Int.{ints}
-use Rattle.tsp_base.specs.declared.act.Act.TheVariants.{Boot, Correct}
+use Rattle.tsp_rules.specs.Values.{Boot, Correct}
+use Rattle.tsp_base.specs.Words.{Booted, Turned, Line}
 use Rattle.tsp_promises.specs.AgreedShown.{AgreedShown, ShownNear, Waited}
 use Rattle.tsp_promises.specs.Broken.{Breaks, ReadingsBreak}
-use Rattle.tsp_base.specs.History.{Booted, Turned, Line}
 use Rattle.tsp_promises.specs.Shows.{Shows}
 use Rattle.tsp_promises.specs.Steady.{Steady}
 use Rattle.tsp_promises.proofs.BrokenClocks.{left_alone, stray, strays}

@@ -1,27 +1,13 @@
 -- Small histories that break the promises of roles.
 use Rattle.std.specs.Prelude.{◌≡◌, ◌≤◌, ◌<◌, ℕ, true, false, ◌+◌, pos, List, [], ◌∷◌, Option, Some, None, refl}
 use Rattle.std.proofs.Common.{ap, arith, inl, inr, sym, true≢false}
-use Rattle.tsp_base.specs.declared.act.Act.TheVariants.{Boot, Took, Post, Become, Back, Quit, Ring, Close, Correct}
-use Rattle.tsp_base.specs.declared.alarm.Alarm.TheVariants.{Resolve}
-use Rattle.tsp_base.specs.declared.constants.TheConstants.{ELECT_MIN}
-use Rattle.tsp_base.specs.declared.datagram.Datagram.TheVariants.{Message, Stamp}
-use Rattle.tsp_base.specs.declared.datagram.Taken.TheVariants.{Good}
-use Rattle.tsp_base.specs.declared.kind.Kind.TheVariants.{Ack, AdjTime, Accept, Election, MasterReq, Msite, Quit as QuitKind}
-use Rattle.tsp_base.specs.declared.message.Body.TheVariants.{Nothing, Time}
-use Rattle.tsp_base.specs.declared.place.PeerId.{PeerId}
-use Rattle.tsp_base.specs.declared.place.Place.TheVariants.{Peer, Stranger}
-use Rattle.tsp_base.specs.declared.role.Role.TheVariants.{Candidate, Starting, Follow, Master}
-use Rattle.tsp_base.specs.declared.stamp.Stamp.TheVariants.{Reply}
-use Rattle.tsp_base.specs.History.{Booted, Came, Handed, Turned, Line, of, view}
-use Rattle.tsp_base.specs.Messages.{MessageValue}
-use Rattle.tsp_base.specs.PortFacts.{Received, message_in}
-use Rattle.tsp_base.specs.Stamps.{ReplyValue}
+use Rattle.tsp_rules.specs.Values.{Boot, Took, Post, Become, Ring, Back, Close, Correct, Quit, ResolveAlarm, Message, Stamp, Good, Accept, Ack, AdjTime, Election, MasterReq, Msite, QuitKind, Nothing, TimeBody, PeerId, Peer, Stranger, Starting, Follow, Candidate, Master, Reply, ELECT_MIN}
+use Rattle.tsp_base.specs.Words.{Booted, Came, Handed, Turned, Line, of, view, MessageValue, Received, message_in, ReplyValue, peer_of}
 use Rattle.tsp_promises.specs.OneBack.{OneBack}
 use Rattle.tsp_promises.specs.OneWinner.{OneWinner}
 use Rattle.tsp_promises.specs.OnlyMaster.{OnlyMaster}
 use Rattle.tsp_promises.specs.Resolved.{StaysQuiet, StopsLeading, TakesQuit, Yields, YieldsTaken}
 use Rattle.tsp_promises.specs.Silent.{Silent}
-use Rattle.tsp_base.specs.Takings.{peer_of}
 use Rattle.tsp_promises.specs.Broken.{Breaks, RolesBreak}
 use Rattle.tsp_promises.proofs.Histories.{begins, does, line, msg, step_at, still}
 use Rattle.tsp_promises.proofs.StepChecks.{port0, port1}
@@ -71,8 +57,8 @@ starting e = cc
 
 corrects : Breaks OnlyMaster
 corrects = record {
-  world = does 10 0 Turned (Post (Peer (peer_of 1)) (Message (msg AdjTime 5 (Time (pos 1))))) ∷ [];
-  broken = λ h. starting (h.0.posts (Peer (peer_of 1)) (msg AdjTime 5 (Time (pos 1))) refl refl);
+  world = does 10 0 Turned (Post (Peer (peer_of 1)) (Message (msg AdjTime 5 (TimeBody (pos 1))))) ∷ [];
+  broken = λ h. starting (h.0.posts (Peer (peer_of 1)) (msg AdjTime 5 (TimeBody (pos 1))) refl refl);
 }
 
 follows : (p : PeerId) → Follow p ≡ Master → ⊥
@@ -143,7 +129,7 @@ quiet = record {
 }
 
 abbrev ring : Line
-ring = does 10 0 Turned (Ring Resolve)
+ring = does 10 0 Turned (Ring ResolveAlarm)
 
 abbrev quit : Line
 quit = does 10 0 Turned (Post (Peer (peer_of 1)) (Message (msg QuitKind 32768 Nothing)))
@@ -179,7 +165,7 @@ stops = record { world = leads_on ∷ told; broken = λ h. h.ends ring leads_on 
 
 stops_later : Breaks StopsLeading
 stops_later = record {
-  world = does 30 0 Turned (Ring Resolve) ∷ (begins 30 0 Turned ∷ (leads_on ∷ told));
+  world = does 30 0 Turned (Ring ResolveAlarm) ∷ (begins 30 0 Turned ∷ (leads_on ∷ told));
   broken = λ h. h.marks.1.0 refl ring leads_on leads_on leader told told (inr (inr (inr (inl refl)))) refl (inl refl) takes (inl refl) takes refl refl;
 }
 

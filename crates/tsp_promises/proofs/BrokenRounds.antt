@@ -2,21 +2,13 @@
 use Rattle.std.specs.Prelude.{◌≡◌, ◌≤◌, ◌≤ℤ◌, true, ℕ, false, pos, negsuc, List, [], ◌∷◌, refl}
 use Rattle.std.proofs.Common.{arith, inl, true≢false}
 use Rattle.std.proofs.lemmas.Int.{ints}
-use Rattle.tsp_base.specs.declared.act.Act.TheVariants.{Close, Correct, Post, Sample, Took}
-use Rattle.tsp_base.specs.declared.datagram.Datagram.TheVariants.{Message, Stamp}
-use Rattle.tsp_base.specs.declared.datagram.Taken.TheVariants.{Good}
-use Rattle.tsp_base.specs.declared.kind.Kind.TheVariants.{AdjTime}
-use Rattle.tsp_base.specs.declared.message.Body.TheVariants.{Time}
-use Rattle.tsp_base.specs.declared.place.Place.TheVariants.{Peer}
-use Rattle.tsp_base.specs.declared.stamp.Stamp.TheVariants.{Reply}
+use Rattle.tsp_rules.specs.Values.{Took, Post, Close, Correct, Sample, Message, Stamp, Good, AdjTime, TimeBody, Peer, Reply}
+use Rattle.tsp_base.specs.Words.{Came, Turned, Line, MessageValue, peer_of}
 use Rattle.tsp_promises.specs.Agreed.{Cast}
 use Rattle.tsp_promises.specs.Broken.{Breaks, RoundsBreak}
 use Rattle.tsp_promises.specs.Estimates.{Estimate, Moves}
-use Rattle.tsp_base.specs.History.{Came, Turned, Line}
-use Rattle.tsp_base.specs.Messages.{MessageValue}
 use Rattle.tsp_promises.specs.Moderate.{Moderate, ModerateClocks, PeerCorrects}
 use Rattle.tsp_promises.specs.Seldom.{Seldom}
-use Rattle.tsp_base.specs.Takings.{peer_of}
 use Rattle.tsp_promises.proofs.CastBy.{cast-by}
 use Rattle.tsp_promises.proofs.CastProof.{taking_of}
 use Rattle.tsp_promises.proofs.Histories.{begins, does, msg, skip, skipped, still}
@@ -101,7 +93,7 @@ peer_stepped = record {
 
 -- what the peer lacks to that mean
 abbrev drags : MessageValue
-drags = msg AdjTime 10 (Time (pos 300101))
+drags = msg AdjTime 10 (TimeBody (pos 300101))
 
 abbrev posts : Line
 posts = does 408000000 0 Turned (Post (Peer (peer_of 1)) (Message drags))

@@ -1,22 +1,10 @@
 -- Small histories that break the promises of sends.
 use Rattle.std.specs.Prelude.{◌≡◌, ◌≤◌, false, true, ℕ, ◌+◌, pos, List, [], ◌∷◌, is_some, refl}
 use Rattle.std.proofs.Common.{ap, arith, inl, inr}
-use Rattle.tsp_base.specs.declared.act.Act.TheVariants.{Boot, Took, Post, Become, Ring, Acked, Correct}
-use Rattle.tsp_base.specs.declared.alarm.Alarm.TheVariants.{Elect, Round}
-use Rattle.tsp_base.specs.declared.constants.TheConstants.{GAP}
-use Rattle.tsp_base.specs.declared.datagram.Datagram.TheVariants.{Message}
-use Rattle.tsp_base.specs.declared.datagram.Taken.TheVariants.{Good}
-use Rattle.tsp_base.specs.declared.kind.Kind.TheVariants.{AdjTime, Election, SetTime, SetDateReq}
-use Rattle.tsp_base.specs.declared.message.Body.TheVariants.{Nothing, Time}
-use Rattle.tsp_base.specs.declared.place.Place.TheVariants.{Peer}
-use Rattle.tsp_base.specs.declared.role.Role.TheVariants.{Follow}
+use Rattle.tsp_rules.specs.Values.{Boot, Took, Post, Become, Ring, Correct, Acked, Elect, Round, Message, Good, AdjTime, Election, SetDateReq, SetTime, Nothing, TimeBody, Peer, Follow, GAP}
+use Rattle.tsp_base.specs.Words.{Acts, Booted, Came, Handed, Turned, Line, dids, of, plain, view, MessageValue, tick_of, Within, heard, peer_of, posted}
 use Rattle.tsp_promises.specs.Fits.{node_of}
-use Rattle.tsp_base.specs.History.{Acts, Booted, Came, Handed, Turned, Line, dids, of, plain, view}
-use Rattle.tsp_base.specs.Messages.{MessageValue}
-use Rattle.tsp_base.specs.NodeFacts.{tick_of}
 use Rattle.tsp_promises.specs.Once.{ActsOn, OfSend, OnceConfirmed, OnceCorrected, OnceObeyed, OnceSpaced, OnceSpacedOverLives, OnceTaken}
-use Rattle.tsp_base.specs.Places.{Within}
-use Rattle.tsp_base.specs.Takings.{heard, peer_of, posted}
 use Rattle.tsp_promises.proofs.EverywhereLemmas.{Everywhere-at}
 use Rattle.tsp_promises.specs.Broken.{Breaks, SendsBreak}
 use Rattle.tsp_promises.specs.Thrice.{Thrice}
@@ -48,7 +36,7 @@ abbrev acts : (l : Line) (world : List Line) (post : Line) (older : List Line) (
 acts l world post older m correct place cause deed took = record { amount = pos 1; stepped = false; shown = pos 0; correct = correct; brings = record { place = place; cause = cause; message = m; deed = deed }; took = took }
 
 abbrev adjusts : MessageValue
-adjusts = msg AdjTime 5 (Time (pos 1))
+adjusts = msg AdjTime 5 (TimeBody (pos 1))
 
 abbrev ring : List Line
 ring = does 10 1 Turned (Ring Round) ∷ []
@@ -109,7 +97,7 @@ elsewhere : Breaks OnceCorrected
 elsewhere = record { world = aside ∷ twice; broken = λ h. h.0 adj (moves 20 0) adj ring once ring adj.did (view port0 (of 1 ring)) beside refl (inr (inl refl)) first begins-here begins-here }
 
 abbrev dates : MessageValue
-dates = msg SetDateReq 32775 (Time (pos 1))
+dates = msg SetDateReq 32775 (TimeBody (pos 1))
 
 abbrev date : Line
 date = does 10 1 Turned (Post (Peer (peer_of 0)) (Message dates))
@@ -118,7 +106,7 @@ abbrev dated_once : List Line
 dated_once = does 20 0 (Came 0) (Took (Peer (peer_of 1)) (Good (Message dates))) ∷ (date ∷ ring)
 
 abbrev forged : List Line
-forged = does 25 0 Handed (Correct (pos 1) false (pos 0)) ∷ (does 25 0 Handed (Took (Peer (peer_of 1)) (Good (Message (msg SetDateReq 100 (Time (pos 1)))))) ∷ (moves 20 0 ∷ dated_once))
+forged = does 25 0 Handed (Correct (pos 1) false (pos 0)) ∷ (does 25 0 Handed (Took (Peer (peer_of 1)) (Good (Message (msg SetDateReq 100 (TimeBody (pos 1)))))) ∷ (moves 20 0 ∷ dated_once))
 
 abbrev dated_twice : List Line
 dated_twice = does 30 0 (Came 0) (Took (Peer (peer_of 1)) (Good (Message dates))) ∷ forged
@@ -136,13 +124,13 @@ dated : Breaks OnceTaken
 dated = record { world = moves 30 0 ∷ dated_twice; broken = λ h. h.0 date (moves 20 0) date ring dated_once ring date.did (view port0 (of 1 ring)) dates-twice refl (inr (inr (inr (inl refl)))) dates-once date-begins date-begins }
 
 abbrev sent : List Line
-sent = does 10 0 Turned (Post (Peer (peer_of 1)) (Message (msg SetTime 5 (Time (pos 1))))) ∷ (does 10 0 Turned (Ring Round) ∷ [])
+sent = does 10 0 Turned (Post (Peer (peer_of 1)) (Message (msg SetTime 5 (TimeBody (pos 1))))) ∷ (does 10 0 Turned (Ring Round) ∷ [])
 
 confirmed : Breaks OnceConfirmed
 confirmed = record {
   world = does 20 0 Turned (Acked (peer_of 1)) ∷ sent;
   broken = λ h.
-      let a = h.0 (peer_of 1) (does 10 0 Turned (Post (Peer (peer_of 1)) (Message (msg SetTime 5 (Time (pos 1)))))).did _ (msg SetTime 5 (Time (pos 1))) refl refl refl refl in
+      let a = h.0 (peer_of 1) (does 10 0 Turned (Post (Peer (peer_of 1)) (Message (msg SetTime 5 (TimeBody (pos 1)))))).did _ (msg SetTime 5 (TimeBody (pos 1))) refl refl refl refl in
       let own = Everywhere-at (λ (l : Line) (before : List Line). node_of l ≡ 0) a.correct a.past sent (refl, (refl, tt)) a.place in
       omega (arith, own, a.node);
 }

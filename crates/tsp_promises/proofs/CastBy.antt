@@ -1,18 +1,10 @@
 -- What shows a Cast in a small history.
 use Rattle.std.specs.Prelude.{◌≡◌, true, ℕ, ℤ, Bool, List, ◌∷◌, Some, is_some, refl}
-use Rattle.tsp_base.specs.declared.act.Act.TheVariants.{Correct, Post}
-use Rattle.tsp_base.specs.declared.datagram.Datagram.TheVariants.{Message}
-use Rattle.tsp_base.specs.declared.kind.Kind.TheVariants.{AdjTime}
-use Rattle.tsp_base.specs.declared.place.Place.TheVariants.{Peer}
+use Rattle.tsp_rules.specs.Values.{Post, Correct, Message, AdjTime, Peer}
+use Rattle.tsp_base.specs.Words.{Came, Acts, Line, Here, of, dids, view, MessageValue, Within, Sampled, best, begun_to, is_numbered, heard, peer_of, posted}
 use Rattle.tsp_promises.specs.Agreed.{Cast, ReadingOf}
 use Rattle.tsp_promises.specs.Fits.{node_of}
-use Rattle.tsp_base.specs.History.{Came, Acts, Line, Here, of, dids, view}
-use Rattle.tsp_base.specs.Messages.{MessageValue}
-use Rattle.tsp_base.specs.Places.{Within}
-use Rattle.tsp_base.specs.RoundFacts.{Sampled, best}
-use Rattle.tsp_base.specs.SendFacts.{begun_to, is_numbered}
 use Rattle.tsp_promises.specs.StepFacts.{closed}
-use Rattle.tsp_base.specs.Takings.{heard, peer_of, posted}
 
 -- the post that a Correct takes is the first of its send
 pub record FirstTaken (m : ℕ) (c : Line) (past : List Line) (post : Line) (before : List Line) (message : MessageValue) (amount : ℤ) (stepped : Bool) (shown : ℤ) : Type 0 where

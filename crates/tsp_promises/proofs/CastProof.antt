@@ -1,23 +1,15 @@
 -- What is known of a Correct that takes an ADJTIME of a Close.
 use Rattle.std.specs.Prelude.{◌≡◌, ◌≤ℤ◌, ◌⊎◌, Bool, ℕ, ℤ, pos, ◌-ℤ◌, nat_abs, true, List, ◌∷◌, refl}
 use Rattle.std.proofs.Common.{sym, ap, subst, inl, ◌∙◌}
-use Rattle.tsp_base.specs.declared.act.Act.TheVariants.{Close, Correct}
-use Rattle.tsp_base.specs.declared.kind.Kind.{Kind}
-use Rattle.tsp_base.specs.declared.kind.Kind.TheVariants.{AdjTime}
-use Rattle.tsp_base.specs.declared.place.Port.{Port}
+use Rattle.tsp_rules.specs.Values.{Close, Correct, Kind, AdjTime, Port}
+use Rattle.tsp_base.specs.Words.{Acts, Did, Line, Here, of, dids, view, plain, moved, target, MessageValue, Within, is_correction, Undisturbed, time_in}
 use Rattle.tsp_promises.specs.Agreed.{Cast}
 use Rattle.tsp_promises.specs.ClockAt.{clock}
 use Rattle.tsp_promises.specs.CorrectFits.{amount_of}
 use Rattle.tsp_promises.specs.CorrectionFits.{FollowedBy}
 use Rattle.tsp_promises.specs.Fits.{Fits, node_of}
-use Rattle.tsp_base.specs.History.{Acts, Did, Line, Here, of, dids, view, plain}
-use Rattle.tsp_base.specs.NodeFacts.{moved, target}
-use Rattle.tsp_base.specs.Messages.{MessageValue}
 use Rattle.tsp_promises.specs.OneError.{FromReading, Taking}
-use Rattle.tsp_base.specs.Places.{Within}
-use Rattle.tsp_base.specs.SendFacts.{is_correction}
 use Rattle.tsp_promises.specs.Setting.{Setting}
-use Rattle.tsp_base.specs.Takings.{Undisturbed, time_in}
 use Rattle.tsp_base.proofs.PlaceLemmas.{Within-through, Within-tail}
 use Rattle.tsp_promises.proofs.Given.{Given}
 use Rattle.tsp_promises.proofs.Locating.{line_on}

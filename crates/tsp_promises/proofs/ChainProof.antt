@@ -1,25 +1,14 @@
 -- LOOPs come along chains, in one name.
 use Rattle.std.specs.Prelude.{◌≡◌, ◌≢◌, ℕ, ◌+◌, ◌<◌, ◌≤◌, List, [], ◌∷◌, length, is_some, refl}
 use Rattle.std.proofs.Common.{sym, ap, subst, subst₂, arith, inl, inr, ◌∙◌}
-use Rattle.tsp_base.specs.declared.act.Act.TheVariants.{Become, Post}
-use Rattle.tsp_base.specs.declared.constants.TheConstants.{HOPS}
-use Rattle.tsp_base.specs.declared.datagram.Datagram.TheVariants.{Message}
-use Rattle.tsp_base.specs.declared.kind.Kind.TheVariants.{Loop as LoopKind}
-use Rattle.tsp_base.specs.declared.message.Body.TheVariants.{Hops}
-use Rattle.tsp_base.specs.declared.place.PeerId.{PeerId}
-use Rattle.tsp_base.specs.declared.place.Place.{Place}
-use Rattle.tsp_base.specs.declared.place.Place.TheVariants.{Peer, Stranger}
-use Rattle.tsp_base.specs.declared.role.Role.TheVariants.{Loose}
+use Rattle.tsp_rules.specs.Values.{Post, Become, Message, LoopKind, Hops, PeerId, Place, Peer, Stranger, Loose, HOPS}
+use Rattle.tsp_base.specs.Words.{Acts, Line, of, view, MessageValue, Within, heard, peer_of}
 use Rattle.tsp_promises.specs.DeedFits.{MessageFits, StrangerFits}
 use Rattle.tsp_promises.specs.Fits.{Fits, LineFits, node_of}
-use Rattle.tsp_base.specs.History.{Acts, Line, of, view}
 use Rattle.tsp_promises.specs.HoldFits.{YieldFits}
 use Rattle.tsp_promises.specs.LoopFits.{LoopFits}
-use Rattle.tsp_base.specs.Messages.{MessageValue}
-use Rattle.tsp_base.specs.Places.{Within}
 use Rattle.tsp_promises.specs.Premises.{Honest, HonestAt, NamesApartAt}
 use Rattle.tsp_promises.specs.Setting.{Setting, setup_of}
-use Rattle.tsp_base.specs.Takings.{heard, peer_of}
 use Rattle.tsp_promises.proofs.EverywhereLemmas.{Everywhere-at, Everywhere-from, Everywhere-within}
 use Rattle.tsp_base.proofs.PlaceLemmas.{Within-none, Within-tail, Within-through}
 use Rattle.tsp_base.proofs.Views.{plain_view}

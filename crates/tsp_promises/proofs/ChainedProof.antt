@@ -4,11 +4,8 @@ use Rattle.std.proofs.Common.{arith, subst, sym, inl, inr}
 use Rattle.std.proofs.lemmas.Int.{ints}
 use Rattle.tsp_promises.specs.Agreed.{Cast, Unchanged, UnchangedBut}
 use Rattle.tsp_promises.specs.ClockAt.{clock_at}
-use Rattle.tsp_base.specs.History.{Line, of, dids}
-use Rattle.tsp_base.specs.NodeFacts.{time_of}
-use Rattle.tsp_base.specs.Places.{Within}
+use Rattle.tsp_base.specs.Words.{Line, of, dids, time_of, Within, width}
 use Rattle.tsp_promises.specs.Setting.{Setting}
-use Rattle.tsp_base.specs.Ticks.{width}
 use Rattle.tsp_promises.proofs.EverywhereLemmas.{Everywhere-from}
 use Rattle.tsp_base.proofs.PlaceLemmas.{Within-through, Within-tail}
 use Rattle.tsp_promises.proofs.AgreedProof.{agreed_master, agreed_peers}

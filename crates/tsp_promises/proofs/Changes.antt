@@ -1,25 +1,12 @@
 -- What changes of the role, backings and takings make of what is known of a port.
 use Rattle.std.specs.Prelude.{◌≡◌, ◌≢◌, ◌≤◌, ℕ, ◌+◌, ◌==◌, Bool, true, false, if◌then◌else◌, List, [], ◌∷◌, Option, None, Some, refl}
 use Rattle.std.proofs.Common.{sym, ap, inl, inr, ◌∙◌, eq-eqb, true≢false}
-use Rattle.tsp_base.specs.declared.act.Act.TheVariants.{Took, Post, Become, Back, Quit}
-use Rattle.tsp_base.specs.declared.constants.TheConstants.{QUIET, ELECT_MIN}
-use Rattle.tsp_base.specs.declared.datagram.Datagram.TheVariants.{Message}
-use Rattle.tsp_base.specs.declared.datagram.Taken.{Taken}
-use Rattle.tsp_base.specs.declared.place.PeerId.{PeerId}
-use Rattle.tsp_base.specs.declared.place.Place.{Place}
-use Rattle.tsp_base.specs.declared.place.Place.TheVariants.{Peer}
-use Rattle.tsp_base.specs.declared.role.Role.{Role}
-use Rattle.tsp_base.specs.declared.role.Role.TheVariants.{Loose, Follow, Candidate, Master}
+use Rattle.tsp_rules.specs.Values.{Took, Post, Become, Back, Quit, Message, Taken, PeerId, Place, Peer, Role, Loose, Follow, Candidate, Master, ELECT_MIN, QUIET}
+use Rattle.tsp_base.specs.Words.{Did, Acts, Seen, Here, Past, plain, MessageValue, boot_tick, Received, Said, role, held, armed, acting, said, taken, grown, heard}
 use Rattle.tsp_promises.specs.DeedFits.{MessageFits}
 use Rattle.tsp_promises.specs.HoldFits.{BackFits, LeadFits, YieldFits}
 use Rattle.tsp_promises.specs.QuitFits.{QuitFits}
-use Rattle.tsp_base.specs.History.{Did, Acts, Seen, Here, Past, plain}
-use Rattle.tsp_base.specs.Messages.{MessageValue}
-use Rattle.tsp_base.specs.NodeFacts.{boot_tick}
-use Rattle.tsp_base.specs.PortFacts.{Received, Said, role, held, armed, acting, said, taken}
-use Rattle.tsp_base.specs.Rows.{grown}
 use Rattle.tsp_promises.specs.StepFacts.{acked_by, is_ack, is_answered, is_unbacked, owes, owes_after, unacknowledged}
-use Rattle.tsp_base.specs.Takings.{heard}
 use Rattle.tsp_promises.specs.PortFits.{PortFits, setup_in}
 use Rattle.tsp_promises.proofs.Known.{TimesOf, KnowsOf, During, Open}
 use Rattle.tsp_promises.proofs.Leaves.{then_seen, made, none-some, nil-cons}

@@ -2,13 +2,10 @@
 use Rattle.std.specs.Prelude.{◌≡◌, ◌==◌, Bool, true, false, ℕ, pos, ◌-ℤ◌, List, [], ◌∷◌, refl}
 use Rattle.std.proofs.Common.{sym, ap, arith, subst, eqb-true, true≢false, ◌∙◌}
 use Rattle.std.proofs.lemmas.Int.{ints}
-use Rattle.tsp_base.specs.declared.act.Act.TheVariants.{Boot, Post}
-use Rattle.tsp_base.specs.declared.datagram.Datagram.{Datagram}
-use Rattle.tsp_base.specs.declared.place.Place.{Place}
+use Rattle.tsp_rules.specs.Values.{Boot, Post, Datagram, Place}
+use Rattle.tsp_base.specs.Words.{Deed, Begins, Acts, Did, Line, of, dids, base, boot_after, boot_tick, moved, target, up, up_after, wall, wall_after}
 use Rattle.tsp_promises.specs.ClockAt.{clock, clock_at}
 use Rattle.tsp_promises.specs.Fits.{Fits, LineFits, Alive, node_of}
-use Rattle.tsp_base.specs.History.{Deed, Begins, Acts, Did, Line, of, dids}
-use Rattle.tsp_base.specs.NodeFacts.{base, boot_after, boot_tick, moved, target, up, up_after, wall, wall_after}
 use Rattle.tsp_promises.specs.Setting.{Setting}
 use Rattle.tsp_promises.proofs.HistoryPlaces.{of-own}
 

@@ -2,7 +2,7 @@
 use Rattle.std.specs.Prelude.{◌≡◌, ℕ, ◌+◌, ◌-◌, ◌*◌, ◌≤◌}
 use Rattle.std.proofs.Common.{arith, subst}
 use Rattle.tsp_promises.specs.Setting.{Setting}
-use Rattle.tsp_base.specs.Ticks.{tick_at, width}
+use Rattle.tsp_base.specs.Words.{tick_at, width}
 use Rattle.tsp_base.proofs.TickLemmas.{Near, tick_at-near, tick_at-width}
 
 -- ticks of one node, at two times

@@ -1,22 +1,12 @@
 -- The close of a round keeps what is known of a port.
 use Rattle.std.specs.Prelude.{◌≡◌, ◌≤◌, ℕ, ◌+◌, ℤ, pos, Bool, true, false, List, [], ◌∷◌, map, Option, None, Some, is_some, refl}
 use Rattle.std.proofs.Common.{sym, subst, inl, inr, ap, arith, ◌∙◌}
-use Rattle.tsp_base.specs.declared.act.Act.TheVariants.{Ring, Late, Close as CloseAct, Correct, Abandon}
-use Rattle.tsp_base.specs.declared.alarm.Alarm.TheVariants.{Close}
-use Rattle.tsp_base.specs.declared.constants.TheConstants.{CLOSE, SLACK, GAP, QUIET, SPAN}
-use Rattle.tsp_base.specs.declared.place.PeerId.{PeerId}
-use Rattle.tsp_base.specs.declared.role.Role.TheVariants.{Master}
+use Rattle.tsp_rules.specs.Values.{Ring, Late, Abandon, Close, Correct, CloseAlarm, PeerId, Master, CLOSE, GAP, QUIET, SLACK, SPAN}
+use Rattle.tsp_base.specs.Words.{Did, Acts, Seen, Here, Past, plain, Leads, boot_tick, last_correct, shown, role, armed, is_going, started, grown, nothing, puts, ◌followed_by◌, reading, for_each, Undisturbed, heard}
 use Rattle.tsp_promises.specs.CorrectFits.{ByRound, is_stepped}
-use Rattle.tsp_base.specs.History.{Did, Acts, Seen, Here, Past, plain}
-use Rattle.tsp_base.specs.Leads.{Leads}
-use Rattle.tsp_base.specs.NodeFacts.{boot_tick, last_correct, shown}
-use Rattle.tsp_base.specs.PortFacts.{role, armed}
-use Rattle.tsp_base.specs.RoundFacts.{is_going, started}
-use Rattle.tsp_base.specs.Rows.{grown, nothing, puts, ◌followed_by◌, reading, for_each}
 use Rattle.tsp_promises.specs.PortFits.{setup_in}
 use Rattle.tsp_promises.specs.RoundFits.{measured_peers}
 use Rattle.tsp_promises.specs.StepFacts.{closed, closed_after}
-use Rattle.tsp_base.specs.Takings.{Undisturbed, heard}
 use Rattle.tsp_base.proofs.LeadsLemmas.{Leads_then, Leads_either, Leads_reading, Leads_nothing, Leads_puts, Leads_to}
 use Rattle.tsp_group.specs.Groups.{group_of, mean_of}
 use Rattle.tsp_group.specs.declared.group.Group.{Group}
@@ -52,7 +42,7 @@ record Closing (round : List Standing) (x : ℕ) (past : Past) : Type 0 where
   pub ring : Did
   pub rung : List Seen
   pub newest : past.seen ≡ Here ring ∷ rung
-  pub rings_close : ring.deed ≡ Acts (Ring Close)
+  pub rings_close : ring.deed ≡ Acts (Ring CloseAlarm)
   pub going : is_going rung ≡ true
 
 -- after the Close itself: it is the newest act
@@ -66,7 +56,7 @@ record Closed (mean : ℤ) (round : List Standing) (x : ℕ) (past : Past) : Typ
   pub count : ℕ
   pub lo : ℤ
   pub size : ℤ
-  pub deed : close.deed ≡ Acts (CloseAct count lo size mean)
+  pub deed : close.deed ≡ Acts (Close count lo size mean)
   pub step_is : close.step ≡ past.step
   pub start : Did
   pub idle : List Seen
@@ -94,7 +84,7 @@ corrects_round mean round = record {
 }
 
 -- a Close is the last one of its step when it is done
-closes_here : (d : Did) (before : List Seen) (count : ℕ) (lo size mean : ℤ) → d.deed ≡ Acts (CloseAct count lo size mean) → closed (Here d ∷ before) ≡ Here d ∷ before
+closes_here : (d : Did) (before : List Seen) (count : ℕ) (lo size mean : ℤ) → d.deed ≡ Acts (Close count lo size mean) → closed (Here d ∷ before) ≡ Here d ∷ before
 closes_here d before count lo size mean e = ap (λ t. closed_after t (Here d ∷ before) (closed before)) e
 
 -- the own clock's correction comes right after the Close
@@ -226,14 +216,14 @@ unprobed x past at h goes over (Some next) is =
     absurd bad
 
 abbrev pub ClosesDue : ℕ → Past → Type 0
-ClosesDue x past = Probed x past × (is_due Close x past ≡ true)
+ClosesDue x past = Probed x past × (is_due CloseAlarm x past ≡ true)
 
 close_rested : (x : ℕ) (past : Past) → ClosesDue x past → boot_tick (plain past.seen) + QUIET ≤ x
 close_rested x past h =
     let due = due_is (armed past.seen).close x h.1 in
     master_rested x past h.0.open_port (h.0.open_port.knows.round.closes refl due.at due.is).leads
 
-closing : (x : ℕ) (past : Past) (round : List Standing) → ClosesDue x past → is_in_time Close x past ≡ true → round_at x past ≡ round → Closing round x (grown x past (Ring Close ∷ []))
+closing : (x : ℕ) (past : Past) (round : List Standing) → ClosesDue x past → is_in_time CloseAlarm x past ≡ true → round_at x past ≡ round → Closing round x (grown x past (Ring CloseAlarm ∷ []))
 closing x past round h timely is =
     let due = due_is (armed past.seen).close x h.1 in
     let met = met_is (armed past.seen).close x due.at due.is timely in
@@ -254,21 +244,21 @@ closing x past round h timely is =
       peers = measured_at x past;
       round_is = sym is;
       peers_are = refl;
-      ring = now x past (Ring Close);
+      ring = now x past (Ring CloseAlarm);
       rung = past.seen;
       newest = refl;
       rings_close = refl;
       going = ap is_some due.is;
     }
 
-pub close_leads : (own wait : Bool) → Leads Probed (rings own wait Close) Open
+pub close_leads : (own wait : Bool) → Leads Probed (rings own wait CloseAlarm) Open
 unfolding alarm_rings close_rings closes abandons
-close_leads own wait = rings_lead own wait Close
-    (Leads_either (is_in_time Close) (reading round_at (closes own)) (puts (Late Close) followed_by puts Abandon)
-    (Leads_reading round_at (closes own) (λ round. Leads_then {Q = Closing round} (puts (Ring Close)) (closes_with own (group_of SPAN (estimates round)) round)
-    (Leads_puts (Ring Close) (λ x past h. closing x past round h.0.0 h.0.1 h.1))
+close_leads own wait = rings_lead own wait CloseAlarm
+    (Leads_either (is_in_time CloseAlarm) (reading round_at (closes own)) (puts (Late CloseAlarm) followed_by puts Abandon)
+    (Leads_reading round_at (closes own) (λ round. Leads_then {Q = Closing round} (puts (Ring CloseAlarm)) (closes_with own (group_of SPAN (estimates round)) round)
+    (Leads_puts (Ring CloseAlarm) (λ x past h. closing x past round h.0.0 h.0.1 h.1))
     (closes_with_lead own (group_of SPAN (estimates round)) round refl)))
-    (Leads_then {Q = Free Untaken} (puts (Late Close)) (puts Abandon)
-    (Leads_puts (Late Close) (λ x past h. let due = due_is (armed past.seen).close x h.0.1 in late_close (unprobed x past due.at h.0.0 due.is due.over _ refl) (close_rested x past h.0) h.0.0.open_port))
+    (Leads_then {Q = Free Untaken} (puts (Late CloseAlarm)) (puts Abandon)
+    (Leads_puts (Late CloseAlarm) (λ x past h. let due = due_is (armed past.seen).close x h.0.1 in late_close (unprobed x past due.at h.0.0 due.is due.over _ refl) (close_rested x past h.0) h.0.0.open_port))
     (Leads_puts Abandon (λ x past h. open_of (abandon h)))))
     (λ x past h e. h.open_port)

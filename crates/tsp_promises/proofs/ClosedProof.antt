@@ -1,9 +1,8 @@
 -- The last Close of a step stands at its place.
 use Rattle.std.specs.Prelude.{◌≡◌, List, [], ◌∷◌}
 use Rattle.std.proofs.Common.{sym, inl, inr}
-use Rattle.tsp_base.specs.declared.act.Act.TheVariants.{Close}
-use Rattle.tsp_base.specs.History.{Begins, Acts, Deed, Did, Seen, Here, Elsewhere}
-use Rattle.tsp_base.specs.Places.{Within}
+use Rattle.tsp_rules.specs.Values.{Close}
+use Rattle.tsp_base.specs.Words.{Begins, Acts, Deed, Did, Seen, Here, Elsewhere, Within}
 use Rattle.tsp_promises.specs.StepFacts.{closed, closed_after}
 use Rattle.tsp_promises.proofs.Leaves.{nil-cons}
 

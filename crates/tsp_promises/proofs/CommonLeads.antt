@@ -1,24 +1,10 @@
 -- The rows that several roles share keep what is known of a port.
 use Rattle.std.specs.Prelude.{◌≡◌, ◌≤◌, ℕ, ◌+◌, Bool, true, false, List, [], ◌∷◌, Option, None, Some, refl}
 use Rattle.std.proofs.Common.{sym, subst, ap, arith, ◌∙◌, true≢false}
-use Rattle.tsp_base.specs.declared.act.Act.TheVariants.{Post, Become, Back, Arm}
-use Rattle.tsp_base.specs.declared.datagram.Datagram.TheVariants.{Message}
-use Rattle.tsp_base.specs.declared.alarm.Alarm.TheVariants.{Search, Elect, Window}
-use Rattle.tsp_base.specs.declared.constants.TheConstants.{ELECT_MIN, WINDOW}
-use Rattle.tsp_base.specs.declared.kind.Kind.{Kind}
-use Rattle.tsp_base.specs.declared.kind.Kind.TheVariants.{MasterReq, SlaveUp, Election, Conflict, Quit as QuitKind}
-use Rattle.tsp_base.specs.declared.place.PeerId.{PeerId}
-use Rattle.tsp_base.specs.declared.place.Place.TheVariants.{Peer}
-use Rattle.tsp_base.specs.declared.role.Role.{Role}
-use Rattle.tsp_base.specs.declared.role.Role.TheVariants.{Follow, Candidate}
+use Rattle.tsp_rules.specs.Values.{Post, Become, Arm, Back, Window, Elect, Search, Message, Kind, Conflict, Election, MasterReq, QuitKind, SlaveUp, PeerId, Peer, Role, Follow, Candidate, ELECT_MIN, WINDOW}
+use Rattle.tsp_base.specs.Words.{Did, Seen, Here, Past, plain, Leads, boot_tick, ticket, MessageValue, Received, role, held, armed, stood, backers, grown, puts, ◌followed_by◌, for_each, arms, bare, post_of, posts, posts_to_others}
 use Rattle.tsp_promises.specs.DeedFits.{MessageFits, NumberedFits}
 use Rattle.tsp_promises.specs.HoldFits.{BackFits}
-use Rattle.tsp_base.specs.History.{Did, Seen, Here, Past, plain}
-use Rattle.tsp_base.specs.Leads.{Leads}
-use Rattle.tsp_base.specs.NodeFacts.{boot_tick, ticket}
-use Rattle.tsp_base.specs.Messages.{MessageValue}
-use Rattle.tsp_base.specs.PortFacts.{Received, role, held, armed, stood, backers}
-use Rattle.tsp_base.specs.Rows.{grown, puts, ◌followed_by◌, for_each, arms, bare, post_of, posts, posts_to_others}
 use Rattle.tsp_base.proofs.LeadsLemmas.{Leads_then, Leads_reading, Leads_puts, Leads_each, Leads_from, Leads_to}
 use Rattle.tsp_rules.specs.CommonRows.{arms_elect, searches, tells_ticket, follow_row, backs_own, own_at, candidature_row}
 use Rattle.tsp_rules.specs.SendRows.{next_number, begins, others_at, begins_to_others, is_kind_election}

@@ -1,30 +1,15 @@
 -- A date that was passed on and acknowledged was set.
 use Rattle.std.specs.Prelude.{◌≡◌, ◌+◌, ◌*◌, ◌%◌, ◌<◌, ◌≤◌, true, ℕ, List, ◌∷◌, refl}
 use Rattle.std.proofs.Common.{sym, ap, arith, subst, subst₂, inl, inr, ◌⊎◌, ◌∙◌}
-use Rattle.tsp_base.specs.declared.act.Act.TheVariants.{Acked, Correct, Post}
-use Rattle.tsp_base.specs.declared.constants.TheConstants.{LIFE, QUIET}
-use Rattle.tsp_base.specs.declared.datagram.Datagram.TheVariants.{Message}
-use Rattle.tsp_base.specs.declared.datagram.Taken.TheVariants.{Good}
-use Rattle.tsp_base.specs.declared.kind.Kind.{Kind}
-use Rattle.tsp_base.specs.declared.kind.Kind.TheVariants.{Date, DateAck, SetDate, SetDateReq}
-use Rattle.tsp_base.specs.declared.place.PeerId.{PeerId}
-use Rattle.tsp_base.specs.declared.place.Place.TheVariants.{Peer}
-use Rattle.tsp_base.specs.declared.place.Port.{Port}
+use Rattle.tsp_rules.specs.Values.{Post, Correct, Acked, Message, Good, Kind, Date, DateAck, SetDate, SetDateReq, PeerId, Peer, Port, LIFE, QUIET}
+use Rattle.tsp_base.specs.Words.{Acts, Did, Line, Seen, Here, of, dids, view, MessageValue, boot_tick, lives, word, Within, acting, begun, begun_to, has_own_number, is_date_request, is_numbered, open_to, Receives, peer_of, tick_at}
 use Rattle.tsp_promises.specs.AckFits.{Acknowledges}
 use Rattle.tsp_promises.specs.DateFits.{AnswersClient, AnswersPassedOn, DateAckFits}
 use Rattle.tsp_promises.specs.DeedFits.{MessageFits}
 use Rattle.tsp_promises.specs.Fits.{Fits, LineFits, node_of}
-use Rattle.tsp_base.specs.History.{Acts, Did, Line, Seen, Here, of, dids, view}
-use Rattle.tsp_base.specs.Messages.{MessageValue}
-use Rattle.tsp_base.specs.NodeFacts.{boot_tick, lives, word}
 use Rattle.tsp_promises.specs.Once.{Acted}
-use Rattle.tsp_base.specs.Places.{Within}
-use Rattle.tsp_base.specs.PortFacts.{acting}
 use Rattle.tsp_promises.specs.Premises.{Few, FewAt, Honest, HonestAt, Life, TakenWithinAt}
-use Rattle.tsp_base.specs.SendFacts.{begun, begun_to, has_own_number, is_date_request, is_numbered, open_to}
 use Rattle.tsp_promises.specs.Setting.{Setting, setup_of}
-use Rattle.tsp_base.specs.Takings.{Receives, peer_of}
-use Rattle.tsp_base.specs.Ticks.{tick_at}
 use Rattle.tsp_promises.proofs.EverywhereLemmas.{Everywhere-at, Everywhere-within}
 use Rattle.tsp_base.proofs.PlaceLemmas.{Within-comparable, Within-tail, Within-through}
 use Rattle.tsp_base.proofs.Views.{plain_view}

@@ -1,28 +1,13 @@
 -- An acknowledged correction was taken.
 use Rattle.std.specs.Prelude.{◌≡◌, Bool, true, ℕ, ◌+◌, ◌<◌, ◌≤◌, ℤ, List, [], ◌∷◌, Some, is_some, refl}
 use Rattle.std.proofs.Common.{sym, ap, arith, subst, subst₂, inl, inr, ◌∙◌}
-use Rattle.tsp_base.specs.declared.act.Act.TheVariants.{Post, Correct, Acked}
-use Rattle.tsp_base.specs.declared.constants.TheConstants.{LIFE}
-use Rattle.tsp_base.specs.declared.datagram.Datagram.TheVariants.{Message}
-use Rattle.tsp_base.specs.declared.datagram.Taken.TheVariants.{Good}
-use Rattle.tsp_base.specs.declared.kind.Kind.{Kind}
-use Rattle.tsp_base.specs.declared.kind.Kind.TheVariants.{AdjTime, Ack, SetTime, Conflict, Date, Quit, Msite, MsiteReq, SetDate, Test, TraceOn, TraceOff}
-use Rattle.tsp_base.specs.declared.place.PeerId.{PeerId}
-use Rattle.tsp_base.specs.declared.place.Place.TheVariants.{Peer}
-use Rattle.tsp_base.specs.declared.place.Port.{Port}
+use Rattle.tsp_rules.specs.Values.{Post, Correct, Acked, Message, Good, Kind, Ack, AdjTime, Conflict, Date, Msite, MsiteReq, QuitKind, SetDate, SetTime, Test, TraceOff, TraceOn, PeerId, Peer, Port, LIFE}
+use Rattle.tsp_base.specs.Words.{Came, Acts, Did, Line, Seen, Here, of, dids, view, MessageValue, all_corrects, corrects, lives, ticket, word, Within, acting, begun_to, is_correction, last_taken, open_to, Setup, Receives, heard, peer_of, posted}
 use Rattle.tsp_promises.specs.AckFits.{Acknowledges, AckFits, Answers}
 use Rattle.tsp_promises.specs.DeedFits.{MessageFits}
 use Rattle.tsp_promises.specs.Fits.{Fits, node_of}
-use Rattle.tsp_base.specs.History.{Came, Acts, Did, Line, Seen, Here, of, dids, view}
-use Rattle.tsp_base.specs.Messages.{MessageValue}
-use Rattle.tsp_base.specs.NodeFacts.{all_corrects, corrects, lives, ticket, word}
 use Rattle.tsp_promises.specs.Once.{Acted, Brings, ConfirmedAt, OnceConfirmed}
-use Rattle.tsp_base.specs.Places.{Within}
-use Rattle.tsp_base.specs.PortFacts.{acting}
-use Rattle.tsp_base.specs.SendFacts.{begun_to, is_correction, last_taken, open_to}
 use Rattle.tsp_promises.specs.Setting.{Setting, setup_of}
-use Rattle.tsp_base.specs.Setup.{Setup}
-use Rattle.tsp_base.specs.Takings.{Receives, heard, peer_of, posted}
 use Rattle.tsp_base.proofs.PlaceLemmas.{Within-all, Within-through, Within-tail, Within-comparable}
 use Rattle.tsp_base.proofs.Views.{plain_view}
 use Rattle.tsp_promises.specs.Since.{OneLife}
@@ -70,7 +55,7 @@ answers-one : (setup : Setup) (kind : Kind) (here : Did) (before seen : List See
 answers-one setup AdjTime here before seen k p m number f e small a = record { kind_is = refl; taken = a }
 answers-one setup SetTime here before seen k p m number f e small a = record { kind_is = refl; taken = a }
 answers-one setup Conflict here before seen k p m number f e small a = absurd (omega (arith, f.number))
-answers-one setup Quit here before seen k p m number f e small a = absurd (omega (arith, f.number))
+answers-one setup QuitKind here before seen k p m number f e small a = absurd (omega (arith, f.number))
 answers-one setup Msite here before seen k p m number f e small a = absurd f
 answers-one setup MsiteReq here before seen k p m number f e small a = absurd f
 answers-one setup Test here before seen k p m number f e small a = absurd f

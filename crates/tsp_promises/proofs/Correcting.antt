@@ -2,29 +2,12 @@
 use Rattle.std.specs.Prelude.{◌≡◌, ℕ, ◌+◌, ◌<◌, ◌≤◌, ℤ, Bool, true, false, List, ◌∷◌, Some, None, is_some, refl}
 use Rattle.std.proofs.Common.{sym, ap, arith, subst, subst₂, inl, inr, true≢false, ◌∙◌}
 use Rattle.std.proofs.lemmas.Bool.{cases_lt}
-use Rattle.tsp_base.specs.declared.act.Act.{Act}
-use Rattle.tsp_base.specs.declared.act.Act.TheVariants.{Correct, Post, Took}
-use Rattle.tsp_base.specs.declared.constants.TheConstants.{DATEHOLD, QUIET}
-use Rattle.tsp_base.specs.declared.datagram.Datagram.{Datagram}
-use Rattle.tsp_base.specs.declared.datagram.Datagram.TheVariants.{Message}
-use Rattle.tsp_base.specs.declared.datagram.Taken.TheVariants.{Good}
-use Rattle.tsp_base.specs.declared.kind.Kind.{Kind}
-use Rattle.tsp_base.specs.declared.kind.Kind.TheVariants.{AdjTime, SetTime}
-use Rattle.tsp_base.specs.declared.place.PeerId.{PeerId}
-use Rattle.tsp_base.specs.declared.place.Place.{Place}
-use Rattle.tsp_base.specs.declared.place.Place.TheVariants.{Peer}
-use Rattle.tsp_base.specs.declared.role.Role.TheVariants.{Follow}
+use Rattle.tsp_rules.specs.Values.{Act, Took, Post, Correct, Datagram, Message, Good, Kind, AdjTime, SetTime, PeerId, Place, Peer, Follow, DATEHOLD, QUIET}
+use Rattle.tsp_base.specs.Words.{Cause, Booted, Turned, Came, Handed, Acts, Did, Line, Seen, Here, Step, of, dids, plain, view, MessageValue, all_corrects, corrects, word, boot_tick, tick_of, ticket, target, Within, role, taken, Dating, is_correction, is_date_request, last_date, sets_date, Receives, TakesFrom, heard, peer_of, posted, time_in}
 use Rattle.tsp_promises.specs.CorrectFits.{WhyCorrect, ByRound, ByMaster, ByDate, TakesCorrection, amount_of}
 use Rattle.tsp_promises.specs.Fits.{Fits, SameStep, TookFits, node_of}
-use Rattle.tsp_base.specs.History.{Cause, Booted, Turned, Came, Handed, Acts, Did, Line, Seen, Here, Step, of, dids, plain, view}
-use Rattle.tsp_base.specs.Messages.{MessageValue}
-use Rattle.tsp_base.specs.NodeFacts.{all_corrects, corrects, word, boot_tick, tick_of, ticket, target}
 use Rattle.tsp_promises.specs.Once.{Brings}
-use Rattle.tsp_base.specs.Places.{Within}
-use Rattle.tsp_base.specs.PortFacts.{role, taken}
-use Rattle.tsp_base.specs.SendFacts.{Dating, is_correction, is_date_request, last_date, sets_date}
 use Rattle.tsp_promises.specs.Setting.{Setting, setup_of}
-use Rattle.tsp_base.specs.Takings.{Receives, TakesFrom, heard, peer_of, posted, time_in}
 use Rattle.tsp_base.proofs.PlaceLemmas.{Within-through, Within-tail}
 use Rattle.tsp_base.proofs.Views.{plain_view}
 use Rattle.tsp_promises.specs.Since.{Since}

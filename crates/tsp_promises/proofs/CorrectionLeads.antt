@@ -2,23 +2,10 @@
 use Rattle.std.specs.Prelude.{◌≡◌, ◌⊎◌, ◌≤◌, ◌<◌, ℕ, ◌+◌, ◌%◌, ◌==◌, ◌&&◌, ◌||◌, nat_lt, nat_le, cond, Bool, true, false, if◌then◌else◌, List, [], ◌∷◌, Option, None, Some, refl}
 use Rattle.std.proofs.Common.{sym, subst, inl, inr, ap, arith, true≢false, eqb-true, leb-false, ltb-false, ◌∙◌}
 use Rattle.std.proofs.lemmas.Bool.{and_parts, or_cases}
-use Rattle.tsp_base.specs.declared.act.Act.TheVariants.{Boot, Post, Become, Acked, Gave, Leave}
-use Rattle.tsp_base.specs.declared.constants.TheConstants.{LAST, REUSE, TRIES}
-use Rattle.tsp_base.specs.declared.datagram.Datagram.TheVariants.{Message}
-use Rattle.tsp_base.specs.declared.kind.Kind.{Kind}
-use Rattle.tsp_base.specs.declared.kind.Kind.TheVariants.{AdjTime, SetTime, Election, Conflict, Quit, SetDateReq}
-use Rattle.tsp_base.specs.declared.place.PeerId.{PeerId}
-use Rattle.tsp_base.specs.declared.place.Place.TheVariants.{Peer}
+use Rattle.tsp_rules.specs.Values.{Boot, Post, Become, Acked, Gave, Leave, Message, Kind, AdjTime, Conflict, Election, QuitKind, SetDateReq, SetTime, PeerId, Peer, LAST, REUSE, TRIES}
+use Rattle.tsp_base.specs.Words.{is_past, Deed, Acts, Did, Seen, Here, Elsewhere, Past, Leads, MessageValue, role, acting, nothing, puts, ◌followed_by◌, either_by, for_each, is_correction, is_numbered, Sending, open_send, open_to, open_to_after, posts_of, sending_at, message_at, message_of, corrects_by, last_to, last_to_after, last_number, number_of, last_post, is_acknowledged, is_acknowledged_after, Setup}
 use Rattle.tsp_promises.specs.CorrectionFits.{RepeatFits, Rests, Follows}
 use Rattle.tsp_promises.specs.DeedFits.{MessageFits}
-use Rattle.tsp_base.specs.Hold.{is_past}
-use Rattle.tsp_base.specs.History.{Deed, Acts, Did, Seen, Here, Elsewhere, Past}
-use Rattle.tsp_base.specs.Leads.{Leads}
-use Rattle.tsp_base.specs.Messages.{MessageValue}
-use Rattle.tsp_base.specs.PortFacts.{role, acting}
-use Rattle.tsp_base.specs.Rows.{nothing, puts, ◌followed_by◌, either_by, for_each}
-use Rattle.tsp_base.specs.SendFacts.{is_correction, is_numbered, Sending, open_send, open_to, open_to_after, posts_of, sending_at, message_at, message_of, corrects_by, last_to, last_to_after, last_number, number_of, last_post, is_acknowledged, is_acknowledged_after}
-use Rattle.tsp_base.specs.Setup.{Setup}
 use Rattle.tsp_promises.specs.StepFacts.{is_unbacked}
 use Rattle.tsp_base.proofs.LeadsLemmas.{Leads_then, Leads_either, Leads_reading, Leads_nothing, Leads_puts, Leads_each, Leads_from}
 use Rattle.tsp_rules.specs.SendRows.{may_correct, open_at, leaves_after, gives_up, repeats, repeats_send, due_send, peers_at, due_sends, is_send_due, is_spent}
@@ -148,7 +135,7 @@ fits_kind setup AdjTime p seen d first older m n f r u a again = record { leads 
 fits_kind setup SetTime p seen d first older m n f r u a again = record { leads = r ∙ f.leads; begins = λ b. absurd (true≢false (sym b ∙ a)); repeats = λ i. again }
 fits_kind setup Election p seen d first older m n f r u a again = record { numbered = record { number = f.numbered.number; next = λ b. absurd (true≢false (sym b ∙ a)); repeats = λ i. again }; backs = u }
 fits_kind setup Conflict p seen d first older m n f r u a again = record { number = f.number; next = λ b. absurd (true≢false (sym b ∙ a)); repeats = λ i. again }
-fits_kind setup Quit p seen d first older m n f r u a again = record { number = f.number; next = λ b. absurd (true≢false (sym b ∙ a)); repeats = λ i. again }
+fits_kind setup QuitKind p seen d first older m n f r u a again = record { number = f.number; next = λ b. absurd (true≢false (sym b ∙ a)); repeats = λ i. again }
 fits_kind setup SetDateReq p seen d first older m n f r u a again = record {
   numbered = record { number = f.numbered.number; next = λ b. absurd (true≢false (sym b ∙ a)); repeats = λ i. again };
   begins = λ b. absurd (true≢false (sym b ∙ a));

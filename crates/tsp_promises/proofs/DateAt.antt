@@ -2,16 +2,8 @@
 use Rattle.std.specs.Prelude.{◌≡◌, ◌==◌, ◌||◌, ◌&&◌, cond, Bool, true, false, ℤ, List, [], ◌∷◌, Option, None, Some, refl}
 use Rattle.std.proofs.Common.{sym, ap, subst, inl, inr}
 use Rattle.std.proofs.lemmas.Bool.{and_parts}
-use Rattle.tsp_base.specs.declared.act.Act.TheVariants.{Boot, Correct}
-use Rattle.tsp_base.specs.declared.datagram.Datagram.TheVariants.{Message}
-use Rattle.tsp_base.specs.declared.place.PeerId.{PeerId}
-use Rattle.tsp_base.specs.declared.place.Port.{Port}
-use Rattle.tsp_base.specs.History.{Acts, Deed, Did, Line, view, seen_as, is_shared}
-use Rattle.tsp_base.specs.Messages.{MessageValue}
-use Rattle.tsp_base.specs.Places.{Within}
-use Rattle.tsp_base.specs.PortFacts.{Said, said, taken}
-use Rattle.tsp_base.specs.SendFacts.{Dating, dating_of, is_date_request, last_date, last_date_after}
-use Rattle.tsp_base.specs.Takings.{Receives}
+use Rattle.tsp_rules.specs.Values.{Boot, Correct, Message, PeerId, Port}
+use Rattle.tsp_base.specs.Words.{Acts, Deed, Did, Line, view, seen_as, is_shared, MessageValue, Within, Said, said, taken, Dating, dating_of, is_date_request, last_date, last_date_after, Receives}
 use Rattle.tsp_base.proofs.ViewPlaces.{port-same, or-false}
 use Rattle.tsp_promises.proofs.KnownProof.{line-is}
 use Rattle.tsp_promises.proofs.LastTakenProof.{said_took}

@@ -2,31 +2,12 @@
 use Rattle.std.specs.Prelude.{◌≡◌, ◌⊎◌, ◌≤◌, ◌<◌, ℕ, ◌+◌, ◌==◌, ◌&&◌, nat_lt, ℤ, ◌-ℤ◌, Bool, true, false, if◌then◌else◌, List, [], ◌∷◌, Option, None, Some, refl}
 use Rattle.std.proofs.Common.{sym, subst, inl, inr, ap, arith, true≢false, eqb-true, eq-eqb, ltb-false, ltb-true, ◌∙◌}
 use Rattle.std.proofs.lemmas.Bool.{and_parts}
-use Rattle.tsp_base.specs.declared.act.Act.TheVariants.{Post, Acked, Leave, Correct}
-use Rattle.tsp_base.specs.declared.constants.TheConstants.{DATEHOLD, GAP, REUSE}
-use Rattle.tsp_base.specs.declared.datagram.Datagram.TheVariants.{Message}
-use Rattle.tsp_base.specs.declared.datagram.Taken.TheVariants.{Good}
-use Rattle.tsp_base.specs.declared.kind.Kind.{Kind}
-use Rattle.tsp_base.specs.declared.kind.Kind.TheVariants.{Ack, Date, DateAck, MasterUp, SetDate, SetDateReq, Msite}
-use Rattle.tsp_base.specs.declared.place.PeerId.{PeerId}
-use Rattle.tsp_base.specs.declared.place.Place.{Place}
-use Rattle.tsp_base.specs.declared.place.Place.TheVariants.{Peer, Stranger}
-use Rattle.tsp_base.specs.declared.role.Role.{Role}
-use Rattle.tsp_base.specs.declared.role.Role.TheVariants.{Follow, Master}
+use Rattle.tsp_rules.specs.Values.{Post, Correct, Acked, Leave, Message, Good, Kind, Ack, Date, DateAck, MasterUp, Msite, SetDate, SetDateReq, PeerId, Place, Peer, Stranger, Role, Follow, Master, DATEHOLD, GAP, REUSE}
+use Rattle.tsp_base.specs.Words.{Did, Seen, Here, Past, plain, is_past, Leads, MessageValue, correct_tick, target, Received, role, said, taken, grown, nothing, puts, ◌followed_by◌, for_each, bare, timed, posts, posts_back, posts_time, posts_to_others, Dating, dating_of, is_correction, is_date_request, is_set_date_request, last_asked, last_date, posts_of, sets_date, Setup, time_in}
 use Rattle.tsp_promises.specs.AckFits.{AckedFits, Answers}
 use Rattle.tsp_promises.specs.CorrectFits.{ByDate}
 use Rattle.tsp_promises.specs.DateFits.{DateAckFits}
 use Rattle.tsp_promises.specs.DeedFits.{PostFits, asks_name}
-use Rattle.tsp_base.specs.History.{Did, Seen, Here, Past, plain}
-use Rattle.tsp_base.specs.Hold.{is_past}
-use Rattle.tsp_base.specs.Leads.{Leads}
-use Rattle.tsp_base.specs.Messages.{MessageValue}
-use Rattle.tsp_base.specs.NodeFacts.{correct_tick, target}
-use Rattle.tsp_base.specs.PortFacts.{Received, role, said, taken}
-use Rattle.tsp_base.specs.Rows.{grown, nothing, puts, ◌followed_by◌, for_each, bare, timed, posts, posts_back, posts_time, posts_to_others}
-use Rattle.tsp_base.specs.SendFacts.{Dating, dating_of, is_correction, is_date_request, is_set_date_request, last_asked, last_date, posts_of, sets_date}
-use Rattle.tsp_base.specs.Setup.{Setup}
-use Rattle.tsp_base.specs.Takings.{time_in}
 use Rattle.tsp_base.proofs.LeadsLemmas.{Leads_then, Leads_either, Leads_reading, Leads_nothing, Leads_puts, Leads_each, Leads_from, Leads_to}
 use Rattle.tsp_rules.specs.ClockRows.{sets}
 use Rattle.tsp_rules.specs.DateRows.{may_pass_on, passes_on, all_settled, may_date, leaves, leaves_all, new_date, sets_date_where, date_in, date_of, is_last, is_dated, sets_in_charge, date_request_in, date_request_of, answers_date, has_date, date_acked_in, date_acked}

@@ -2,12 +2,8 @@
 use Rattle.std.specs.Prelude.{◌≡◌, ℕ, Bool, true, false, List, [], ◌∷◌, Option, None, refl}
 use Rattle.std.proofs.Common.{sym, subst, arith, true≢false}
 use Rattle.std.proofs.lemmas.Bool.{or_parts, and_parts}
-use Rattle.tsp_base.specs.declared.act.Act.{Act}
-use Rattle.tsp_base.specs.declared.act.Act.TheVariants.{Boot, Took, Post, Correct, Abandon}
-use Rattle.tsp_base.specs.declared.place.Place.TheVariants.{Stranger}
-use Rattle.tsp_base.specs.History.{Past}
-use Rattle.tsp_base.specs.PortFacts.{Received, armed}
-use Rattle.tsp_base.specs.Rows.{grown}
+use Rattle.tsp_rules.specs.Values.{Act, Boot, Took, Post, Abandon, Correct, Stranger}
+use Rattle.tsp_base.specs.Words.{Past, Received, armed, grown}
 use Rattle.tsp_rules.proofs.NodeRowLemmas.{Bootless}
 use Rattle.tsp_rules.specs.RoundRows.{is_correct, corrects}
 use Rattle.tsp_rules.proofs.Asides.{all_aside, aside}

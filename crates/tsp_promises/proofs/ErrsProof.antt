@@ -2,16 +2,12 @@
 use Rattle.std.specs.Prelude.{◌≡◌, ◌≤◌, ◌≤ℤ◌, ℕ, ◌+◌, ◌-◌, ◌/◌, ℤ, pos, ◌+ℤ◌, ◌-ℤ◌, List, ◌∷◌, refl}
 use Rattle.std.proofs.Common.{sym, ap, arith, subst, subst₂, inl, inr, ◌∙◌}
 use Rattle.std.proofs.lemmas.Int.{ints}
-use Rattle.tsp_base.specs.declared.place.Port.{Port}
+use Rattle.tsp_rules.specs.Values.{Port}
+use Rattle.tsp_base.specs.Words.{Did, Line, Here, of, dids, plain, view, all_corrects, boot_tick, moved, target, tick_of, wall, Within, half_up, peer_of}
 use Rattle.tsp_promises.specs.ErrsBounded.{ErrAt, ErrsBounded}
 use Rattle.tsp_promises.specs.Fits.{Fits, node_of}
-use Rattle.tsp_base.specs.History.{Did, Line, Here, of, dids, plain, view}
 use Rattle.tsp_promises.specs.MeasureFits.{SampleFits}
-use Rattle.tsp_base.specs.NodeFacts.{all_corrects, boot_tick, moved, target, tick_of, wall}
-use Rattle.tsp_base.specs.Places.{Within}
-use Rattle.tsp_base.specs.Samples.{half_up}
 use Rattle.tsp_promises.specs.Setting.{Setting}
-use Rattle.tsp_base.specs.Takings.{peer_of}
 use Rattle.tsp_base.proofs.PlaceLemmas.{Within-tail}
 use Rattle.tsp_base.proofs.Views.{plain_view}
 use Rattle.tsp_promises.specs.Since.{OneLife}

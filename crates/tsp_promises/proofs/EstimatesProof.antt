@@ -2,24 +2,16 @@
 use Rattle.std.specs.Prelude.{◌≡◌, ◌≤◌, ◌≤ℤ◌, ◌⊎◌, ℕ, ◌+◌, ◌-◌, ◌*◌, ℤ, pos, ◌+ℤ◌, ◌-ℤ◌, nat_abs, List, ◌∷◌, refl}
 use Rattle.std.proofs.Common.{sym, ap, arith, subst, subst₂, inl, inr, ◌∙◌}
 use Rattle.std.proofs.lemmas.Int.{ints}
-use Rattle.tsp_base.specs.declared.act.Act.TheVariants.{Close}
-use Rattle.tsp_base.specs.declared.kind.Kind.TheVariants.{AdjTime}
-use Rattle.tsp_base.specs.declared.place.PeerId.{PeerId}
+use Rattle.tsp_rules.specs.Values.{Close, AdjTime, PeerId}
+use Rattle.tsp_base.specs.Words.{Acts, Did, Here, Line, Seen, dids, of, view, MessageValue, lives, moved, time_of, Within, Sampled, Undisturbed, tick_at, width}
 use Rattle.tsp_promises.specs.Agreed.{Unchanged}
 use Rattle.tsp_promises.specs.ClockAt.{clock_at}
 use Rattle.tsp_promises.specs.CorrectionFits.{AnswersSlaveUp, AtClose, FollowedBy, FromClose}
 use Rattle.tsp_promises.specs.Estimates.{CloseBegins, EndedNear, Estimate, EstimatesHold, EstimatesNear, MasterNear, Moves, NearMean}
 use Rattle.tsp_promises.specs.Fits.{Fits, node_of}
-use Rattle.tsp_base.specs.History.{Acts, Did, Here, Line, Seen, dids, of, view}
-use Rattle.tsp_base.specs.Messages.{MessageValue}
-use Rattle.tsp_base.specs.NodeFacts.{lives, moved, time_of}
-use Rattle.tsp_base.specs.Places.{Within}
-use Rattle.tsp_base.specs.RoundFacts.{Sampled}
 use Rattle.tsp_promises.specs.RoundFits.{CloseFits}
 use Rattle.tsp_promises.specs.Setting.{Setting}
 use Rattle.tsp_promises.specs.StepFacts.{closed}
-use Rattle.tsp_base.specs.Takings.{Undisturbed}
-use Rattle.tsp_base.specs.Ticks.{tick_at, width}
 use Rattle.tsp_base.proofs.PlaceLemmas.{Within-through, Within-tail}
 use Rattle.tsp_promises.proofs.CastProof.{corrects-adj}
 use Rattle.tsp_promises.proofs.Clocks.{drift_apart}

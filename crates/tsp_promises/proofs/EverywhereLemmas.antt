@@ -1,7 +1,7 @@
 -- How a property of every place is used and proved.
 use Rattle.std.specs.Prelude.{◌≡◌, List, [], ◌∷◌, refl}
 use Rattle.std.proofs.Common.{sym, subst, subst₂, inl, inr}
-use Rattle.tsp_base.specs.Places.{Within}
+use Rattle.tsp_base.specs.Words.{Within}
 use Rattle.tsp_promises.specs.Everywhere.{Everywhere}
 use Rattle.tsp_base.proofs.PlaceLemmas.{Within-none}
 

@@ -2,19 +2,13 @@
 use Rattle.std.specs.Prelude.{◌≡◌, ◌≤◌, ◌≤ℤ◌, ℕ, ◌+◌, ◌-◌, ◌*◌, ℤ, pos, ◌+ℤ◌, ◌-ℤ◌, true, List, ◌∷◌, refl}
 use Rattle.std.proofs.Common.{sym, ap, arith, subst, subst₂, mul-le-mul_left, ◌∙◌}
 use Rattle.std.proofs.lemmas.Int.{ints}
-use Rattle.tsp_base.specs.declared.constants.TheConstants.{LAST, LIFE}
-use Rattle.tsp_base.specs.declared.datagram.Datagram.TheVariants.{Message}
-use Rattle.tsp_base.specs.declared.place.Place.TheVariants.{Peer}
+use Rattle.tsp_rules.specs.Values.{Message, Peer, LAST, LIFE}
+use Rattle.tsp_base.specs.Words.{Did, Line, of, dids, plain, view, moved, target, up, Within, Undisturbed, peer_of, time_in, tick_at, width}
 use Rattle.tsp_promises.specs.CorrectFits.{amount_of}
 use Rattle.tsp_promises.specs.FirstSet.{BehindAtOnce, BehindBy, FirstSet, FirstSetAt, FirstSetSoon, SetBy, behind}
 use Rattle.tsp_promises.specs.Fits.{Alive, Fits, node_of}
-use Rattle.tsp_base.specs.History.{Did, Line, of, dids, plain, view}
-use Rattle.tsp_base.specs.NodeFacts.{moved, target, up}
-use Rattle.tsp_base.specs.Places.{Within}
 use Rattle.tsp_promises.specs.Premises.{Life, TakenWithinAt}
 use Rattle.tsp_promises.specs.Setting.{Setting}
-use Rattle.tsp_base.specs.Takings.{Undisturbed, peer_of, time_in}
-use Rattle.tsp_base.specs.Ticks.{tick_at, width}
 use Rattle.tsp_base.proofs.PlaceLemmas.{Within-through, Within-tail}
 use Rattle.tsp_base.proofs.Views.{plain_view}
 use Rattle.tsp_promises.proofs.Clocks.{tick-mono, ticks_over}

@@ -1,20 +1,12 @@
 -- The induction over corrections to one peer.
 use Rattle.std.specs.Prelude.{◌≡◌, true, ℕ, ◌+◌, ◌%◌, ◌≤◌, ◌⊎◌, List, [], ◌∷◌, refl}
 use Rattle.std.proofs.Common.{sym, ap, arith, subst, subst₂, inl, inr, ◌∙◌}
-use Rattle.tsp_base.specs.declared.act.Act.TheVariants.{Acked}
-use Rattle.tsp_base.specs.declared.constants.TheConstants.{QUIET}
-use Rattle.tsp_base.specs.declared.place.Port.{Port}
+use Rattle.tsp_rules.specs.Values.{Acked, Port, QUIET}
+use Rattle.tsp_base.specs.Words.{Acts, Did, Line, Here, of, dids, view, plain, MessageValue, all_corrects, boot_tick, lives, tick_of, Within, acting, open_to, peer_of}
 use Rattle.tsp_promises.specs.CorrectionFits.{Follows}
 use Rattle.tsp_promises.specs.Fits.{Fits}
-use Rattle.tsp_base.specs.History.{Acts, Did, Line, Here, of, dids, view, plain}
-use Rattle.tsp_base.specs.Messages.{MessageValue}
-use Rattle.tsp_base.specs.NodeFacts.{all_corrects, boot_tick, lives, tick_of}
 use Rattle.tsp_promises.specs.Once.{ConfirmedAt, OnceConfirmed}
-use Rattle.tsp_base.specs.Places.{Within}
-use Rattle.tsp_base.specs.PortFacts.{acting}
-use Rattle.tsp_base.specs.SendFacts.{open_to}
 use Rattle.tsp_promises.specs.Setting.{Setting}
-use Rattle.tsp_base.specs.Takings.{peer_of}
 use Rattle.tsp_promises.proofs.EverywhereLemmas.{Everywhere-at}
 use Rattle.tsp_base.proofs.PlaceLemmas.{Within-none, Within-tail}
 use Rattle.tsp_base.proofs.Views.{plain_view}

@@ -1,11 +1,8 @@
 -- How rows over ports lead from what is known of each port to what is known then.
 use Rattle.std.specs.Prelude.{◌≡◌, ◌<◌, ℕ, ◌==◌, Bool, true, false, List, [], ◌∷◌, length, refl}
 use Rattle.std.proofs.Common.{sym, subst, true≢false, eq-eqb, ◌∙◌}
-use Rattle.tsp_base.specs.declared.act.Act.{Act}
-use Rattle.tsp_base.specs.declared.alarm.Alarm.{Alarm}
-use Rattle.tsp_base.specs.declared.place.Port.{Port}
-use Rattle.tsp_base.specs.History.{Past}
-use Rattle.tsp_base.specs.Rows.{grown, placed}
+use Rattle.tsp_rules.specs.Values.{Act, Alarm, Port}
+use Rattle.tsp_base.specs.Words.{Past, grown, placed}
 use Rattle.tsp_base.proofs.ViewPlaces.{port-same}
 use Rattle.tsp_rules.specs.GateRows.{alarm_on, each_on}
 use Rattle.tsp_rules.specs.NodeRows.{NodePast, NodeRow, nothing_at_all, on_port, spread, ◌and_then◌, reading_all}

@@ -1,19 +1,8 @@
 -- What a node answers over its ports keeps what is known of each.
 use Rattle.std.specs.Prelude.{◌≡◌, ◌<◌, ℕ, ◌+◌, ◌*◌, ◌==◌, Bool, true, false, if◌then◌else◌, List, ◌∷◌, length, refl}
 use Rattle.std.proofs.Common.{sym, subst, ap, arith, inl, inr, true≢false, ◌∙◌}
-use Rattle.tsp_base.specs.declared.act.Act.{Act}
-use Rattle.tsp_base.specs.declared.act.Act.TheVariants.{Took}
-use Rattle.tsp_base.specs.declared.datagram.Datagram.TheVariants.{Message, Stamp}
-use Rattle.tsp_base.specs.declared.datagram.Taken.{Taken}
-use Rattle.tsp_base.specs.declared.datagram.Taken.TheVariants.{Good, Bad}
-use Rattle.tsp_base.specs.declared.kind.Kind.{Kind}
-use Rattle.tsp_base.specs.declared.kind.Kind.TheVariants.{Loop as LoopKind}
-use Rattle.tsp_base.specs.declared.place.Place.{Place}
-use Rattle.tsp_base.specs.declared.place.Port.{Port}
-use Rattle.tsp_base.specs.History.{Past}
-use Rattle.tsp_base.specs.Messages.{MessageValue}
-use Rattle.tsp_base.specs.Rows.{grown}
-use Rattle.tsp_base.specs.SendFacts.{sets_date}
+use Rattle.tsp_rules.specs.Values.{Act, Took, Message, Stamp, Taken, Good, Bad, Kind, LoopKind, Place, Port}
+use Rattle.tsp_base.specs.Words.{Past, MessageValue, grown, sets_date}
 use Rattle.tsp_rules.specs.Answers.{handles, takes}
 use Rattle.tsp_rules.specs.GateRows.{ports_from, all_ports, other_ports, steers, in_charge, stirred_ports, takes_message, takes_kind, takes_on, NodeGiven, NodeTurn, GotOn, input_all, turns_on, answers_all}
 use Rattle.tsp_rules.specs.NodeRows.{NodePast, on_port, spread, nothing_at_all, on, reading_all, for_ports}

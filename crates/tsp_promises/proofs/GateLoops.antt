@@ -2,13 +2,8 @@
 use Rattle.std.specs.Prelude.{◌≡◌, ℕ, not, Bool, true, false, List, [], ◌∷◌, map, Option, None, Some, is_some, refl}
 use Rattle.std.proofs.Common.{sym, inl, ap, true≢false}
 use Rattle.std.proofs.lemmas.Bool.{and_parts}
-use Rattle.tsp_base.specs.declared.alarm.Alarm.TheVariants.{Probe, Close}
-use Rattle.tsp_base.specs.declared.place.PeerId.{PeerId}
-use Rattle.tsp_base.specs.declared.place.Port.{Port}
-use Rattle.tsp_base.specs.Alarms.{deadline}
-use Rattle.tsp_base.specs.History.{Past}
-use Rattle.tsp_base.specs.PortFacts.{Received, acting, armed}
-use Rattle.tsp_base.specs.Rows.{grown, others}
+use Rattle.tsp_rules.specs.Values.{Probe, CloseAlarm, PeerId, Port}
+use Rattle.tsp_base.specs.Words.{deadline, Past, Received, acting, armed, grown, others}
 use Rattle.tsp_rules.specs.GateRows.{loop_to, sends_loops, is_last_probe}
 use Rattle.tsp_promises.proofs.Known.{OpenIn, During}
 use Rattle.tsp_promises.proofs.PostLeaves.{post_message}
@@ -54,7 +49,7 @@ some-is (Some at) e = (at, refl)
 pub loops_kept : (q : Port) (x : ℕ) (past : Past) → past.port ≡ q → is_last_probe past ≡ true → Probed x past → Probed x (grown x past (sends_loops q x past))
 unfolding sends_loops
 loops_kept q x past port last h =
-    let both = and_parts (is_some (deadline (armed past.seen) Close)) (not (is_some (deadline (armed past.seen) Probe))) last in
+    let both = and_parts (is_some (deadline (armed past.seen) CloseAlarm)) (not (is_some (deadline (armed past.seen) Probe))) last in
     let goes = some-is (armed past.seen).close both.0 in
     (loops-list q (others past.own past.peers) x past (record { probed = h; port_is = port; until = goes.0; goes = goes.1 })).probed
 

@@ -1,13 +1,8 @@
 -- A port's row, and what it stirs, over all ports of a node.
 use Rattle.std.specs.Prelude.{◌≡◌, ◌<◌, ℕ, ◌==◌, ◌||◌, Bool, true, false, if◌then◌else◌, List, [], ◌∷◌, ◌++◌, length, None, refl}
 use Rattle.std.proofs.Common.{sym, subst, append-nil}
-use Rattle.tsp_base.specs.declared.act.Act.TheVariants.{Abandon}
-use Rattle.tsp_base.specs.declared.place.Port.{Port}
-use Rattle.tsp_base.specs.History.{Past, view}
-use Rattle.tsp_base.specs.Leads.{Leads}
-use Rattle.tsp_base.specs.PortFacts.{armed}
-use Rattle.tsp_base.specs.RoundFacts.{is_going}
-use Rattle.tsp_base.specs.Rows.{Row, grown, placed}
+use Rattle.tsp_rules.specs.Values.{Abandon, Port}
+use Rattle.tsp_base.specs.Words.{Past, view, Leads, armed, is_going, Row, grown, placed}
 use Rattle.tsp_base.proofs.ViewPlaces.{port-same}
 use Rattle.tsp_rules.specs.NodeRows.{NodePast, on_port, spread, nothing_at_all, on, ◌and_then◌, for_ports, abandons_on, stirring}
 use Rattle.tsp_rules.specs.RoundRows.{corrects}

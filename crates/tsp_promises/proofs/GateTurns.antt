@@ -2,14 +2,8 @@
 use Rattle.std.specs.Prelude.{◌≡◌, ◌≤◌, ℕ, ◌+◌, ◌==◌, ◌||◌, ◌&&◌, nat_lt, nat_le, Bool, true, false, if◌then◌else◌, List, [], ◌∷◌, length, refl}
 use Rattle.std.proofs.Common.{sym, subst, arith, eqb-true, ◌∙◌}
 use Rattle.std.proofs.lemmas.Bool.{lt-ltb, le-ltb, and_parts}
-use Rattle.tsp_base.specs.declared.act.Act.{Act}
-use Rattle.tsp_base.specs.declared.alarm.Alarm.{Alarm}
-use Rattle.tsp_base.specs.declared.alarm.Alarm.TheVariants.{Probe, Close, Round}
-use Rattle.tsp_base.specs.declared.alarm.TheConstants.Alarm.{ALL}
-use Rattle.tsp_base.specs.declared.place.Port.{Port}
-use Rattle.tsp_base.specs.History.{Past}
-use Rattle.tsp_base.specs.Leads.{Leads}
-use Rattle.tsp_base.specs.Rows.{grown}
+use Rattle.tsp_rules.specs.Values.{Act, Alarm, Round, Probe, CloseAlarm, Port, ALL}
+use Rattle.tsp_base.specs.Words.{Past, Leads, grown}
 use Rattle.tsp_rules.specs.Answers.{rings}
 use Rattle.tsp_rules.specs.GateRows.{ports_from, all_ports, other_ports, leads_clock, waits, has_rung, is_last_probe, ends_probes, sends_loops, loops_after, probes_on, closes_on, begins_round_on, is_probe, alarm_on, each_on, alarms_on, turns_on}
 use Rattle.tsp_rules.specs.NodeRows.{PortSetup, NodePast, on_port, spread, nothing_at_all, on, ◌and_then◌, reading_all, for_ports}
@@ -77,10 +71,10 @@ module _ (done : Port → Bool) where
   unfolding closes_on
   closes-lead q own = record {
     run = λ x past h.
-        let row = rings own false Close in
+        let row = rings own false CloseAlarm in
         let acts = row x (on_port q past) in
-        let calm = (calm_rings {strange = false} {moving = true} own false Close (λ e. refl)).calm x (on_port q past) in
-        let opened : Open x (grown x (on_port q past) acts) = (alarm_leads own false Close).run x (on_port q past) (own_of q x past h) in
+        let calm = (calm_rings {strange = false} {moving = true} own false CloseAlarm (λ e. refl)).calm x (on_port q past) in
+        let opened : Open x (grown x (on_port q past) acts) = (alarm_leads own false CloseAlarm).run x (on_port q past) (own_of q x past h) in
         let mine : With q q false x (grown x (on_port q past) acts) = subst (λ b. Standing (b || done q) false x (grown x (on_port q past) acts)) (sym (same_port q)) opened in
         let all = stirring_all (With q) (λ r. standing-family ((q.0 == r.0) || done r)) q (other_ports q past) row x past (λ r. Pick (q.0 == r.0) Probed (Rest r false)) (calm_bootless false true acts calm) (other_ranged q past) h.all
         (λ e. mine)
@@ -102,7 +96,7 @@ module _ (done : Port → Bool) where
   alarm-on-leads : (q : Port) (a : Alarm) → LeadsAll (AtPort q (Around (moves_by a)) (λ r. Rest r false)) (alarm_on q a) (AtPort q (Around (is_probe a)) (λ r. Rest r false))
   unfolding alarm_on begins_round_on
   alarm-on-leads q Probe = probes-lead q
-  alarm-on-leads q Close = All_reading (leads_clock q) (closes_on q) (closes-lead q)
+  alarm-on-leads q CloseAlarm = All_reading (leads_clock q) (closes_on q) (closes-lead q)
   alarm-on-leads q Round = All_reading (waits q) (begins_round_on q) (λ wait. alarm-leads q wait Round refl (alarm_leads true wait Round))
   alarm-on-leads q a = alarm-leads q false a refl (alarm_leads true false a)
 

@@ -1,9 +1,8 @@
 -- What a schedule gives: a history that fits, and what the promises ask of it.
 use Rattle.std.specs.Prelude.{List}
-use Rattle.tsp_base.specs.declared.constants.TheConstants.{LIFE}
+use Rattle.tsp_rules.specs.Values.{LIFE}
+use Rattle.tsp_base.specs.Words.{Line, Within}
 use Rattle.tsp_promises.specs.Fits.{Fits}
-use Rattle.tsp_base.specs.History.{Line}
-use Rattle.tsp_base.specs.Places.{Within}
 use Rattle.tsp_promises.specs.Premises.{Honest, HonestAt, Life, TakenWithinAt}
 use Rattle.tsp_promises.specs.Setting.{Setting}
 use Rattle.tsp_promises.proofs.EverywhereLemmas.{Everywhere-within}

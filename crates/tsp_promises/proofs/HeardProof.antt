@@ -1,11 +1,8 @@
 -- What a port's step has taken the node's step has taken.
 use Rattle.std.specs.Prelude.{◌≡◌, ◌==◌, ◌||◌, Bool, true, false, List, [], ◌∷◌, Option, Some, is_some, refl}
 use Rattle.std.proofs.Common.{sym, true≢false, ◌∙◌}
-use Rattle.tsp_base.specs.declared.act.Act.TheVariants.{Took}
-use Rattle.tsp_base.specs.declared.place.Port.{Port}
-use Rattle.tsp_base.specs.History.{Begins, Acts, Deed, Line, dids, view, seen_as, is_shared}
-use Rattle.tsp_base.specs.PortFacts.{Received, taken, taken_after}
-use Rattle.tsp_base.specs.Takings.{heard}
+use Rattle.tsp_rules.specs.Values.{Took, Port}
+use Rattle.tsp_base.specs.Words.{Begins, Acts, Deed, Line, dids, view, seen_as, is_shared, Received, taken, taken_after, heard}
 use Rattle.std.proofs.Math.Bool.{or-true}
 
 heard-here : (deed : Deed) (t h : Option Received) (r : Received) → (t ≡ Some r → is_some h ≡ true) → taken_after deed t ≡ Some r → is_some (taken_after deed h) ≡ true

@@ -2,26 +2,8 @@
 use Rattle.std.specs.Prelude.{◌≡◌, ◌<◌, ℕ, ◌==◌, ◌&&◌, not, Bool, true, false, if◌then◌else◌, List, [], ◌∷◌, ◌++◌, length, map, Option, None, Some, refl}
 use Rattle.std.proofs.Common.{sym, ap, subst, true≢false, append-nil, ◌∙◌}
 use Rattle.std.proofs.lemmas.Bool.{and_parts}
-use Rattle.tsp_base.specs.declared.act.Act.{Act}
-use Rattle.tsp_base.specs.declared.act.Act.TheVariants.{Boot, Quit, Took}
-use Rattle.tsp_base.specs.declared.datagram.Datagram.TheVariants.{Message, Stamp}
-use Rattle.tsp_base.specs.declared.datagram.Taken.{Taken}
-use Rattle.tsp_base.specs.declared.datagram.Taken.TheVariants.{Good, Bad}
-use Rattle.tsp_base.specs.declared.kind.Kind.{Kind}
-use Rattle.tsp_base.specs.declared.kind.Kind.TheVariants.{Quit as QuitKind, Loop as LoopKind}
-use Rattle.tsp_base.specs.declared.place.PeerId.{PeerId}
-use Rattle.tsp_base.specs.declared.place.Place.{Place}
-use Rattle.tsp_base.specs.declared.place.Place.TheVariants.{Peer, Stranger}
-use Rattle.tsp_base.specs.declared.place.Port.{Port}
-use Rattle.tsp_base.specs.declared.role.Role.{Role}
-use Rattle.tsp_base.specs.declared.role.Role.TheVariants.{Starting, Loose, Follow, Candidate, Master}
-use Rattle.tsp_base.specs.History.{Deed, Begins, Acts, Step, Seen, Here, Elsewhere, Past}
-use Rattle.tsp_base.specs.Leads.{Leads}
-use Rattle.tsp_base.specs.Messages.{MessageValue}
-use Rattle.tsp_base.specs.Peers.{is_among}
-use Rattle.tsp_base.specs.PortFacts.{Received, message_in, role, said_by, taken, taken_after}
-use Rattle.tsp_base.specs.Rows.{Row, added, grown, nothing, puts, ◌followed_by◌, either_by, reading, others, placed}
-use Rattle.tsp_base.specs.SendFacts.{is_correction}
+use Rattle.tsp_rules.specs.Values.{Act, Boot, Took, Quit, Message, Stamp, Taken, Good, Bad, Kind, LoopKind, QuitKind, PeerId, Place, Peer, Stranger, Port, Role, Starting, Loose, Follow, Candidate, Master}
+use Rattle.tsp_base.specs.Words.{Deed, Begins, Acts, Step, Seen, Here, Elsewhere, Past, Leads, MessageValue, is_among, Received, message_in, role, said_by, taken, taken_after, Row, added, grown, nothing, puts, ◌followed_by◌, either_by, reading, others, placed, is_correction}
 use Rattle.tsp_base.proofs.LeadsLemmas.{Leads_then, Leads_from}
 use Rattle.tsp_base.proofs.RowLemmas.{added_append}
 use Rattle.tsp_rules.specs.Answers.{due_alarms, says_in, peer_says, from_peer, handles_kind, handles, takes, Given, Turn, Got, input_row, answers}

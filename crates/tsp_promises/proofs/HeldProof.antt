@@ -1,18 +1,11 @@
 -- The last Back and the last Quit that a port has seen.
 use Rattle.std.specs.Prelude.{◌≡◌, ◌==◌, ◌||◌, ◌≤◌, ◌⊎◌, Bool, true, false, ℕ, ◌+◌, List, [], ◌∷◌, Some, refl}
 use Rattle.std.proofs.Common.{arith, subst, inl, inr, ◌∙◌}
-use Rattle.tsp_base.specs.declared.act.Act.TheVariants.{Boot, Back, Quit}
-use Rattle.tsp_base.specs.declared.constants.TheConstants.{HOLD}
-use Rattle.tsp_base.specs.declared.place.PeerId.{PeerId}
-use Rattle.tsp_base.specs.declared.place.Port.{Port}
+use Rattle.tsp_rules.specs.Values.{Boot, Back, Quit, PeerId, Port, HOLD}
+use Rattle.tsp_base.specs.Words.{Did, Deed, Acts, Line, Seen, Here, dids, view, is_shared, seen_as, lives, lives_after, tick_of, Within, held, Setup}
 use Rattle.tsp_promises.specs.DeedFits.{DeedFits}
 use Rattle.tsp_promises.specs.Fits.{Sees, node_of}
-use Rattle.tsp_base.specs.History.{Did, Deed, Acts, Line, Seen, Here, dids, view, is_shared, seen_as}
-use Rattle.tsp_base.specs.NodeFacts.{lives, lives_after, tick_of}
-use Rattle.tsp_base.specs.Places.{Within}
-use Rattle.tsp_base.specs.PortFacts.{held}
 use Rattle.tsp_promises.specs.Setting.{Setting, setup_of}
-use Rattle.tsp_base.specs.Setup.{Setup}
 use Rattle.tsp_base.proofs.PlaceLemmas.{Within-none}
 use Rattle.tsp_promises.specs.OwnFits.{OwnFits}
 use Rattle.tsp_promises.proofs.SinceProof.{since}

@@ -1,25 +1,11 @@
 -- Small histories, step by step, and what shows that they fit.
 use Rattle.std.specs.Prelude.{◌≡◌, ◌==◌, Bool, true, false, ℕ, zero, suc, pos, ◌+ℤ◌, if◌then◌else◌, List, [], ◌∷◌, None, refl}
 use Rattle.std.proofs.Common.{sym, ap, arith, subst, subst₂, inr, eq-eqb, ◌∙◌}
-use Rattle.tsp_base.specs.declared.act.Act.{Act}
-use Rattle.tsp_base.specs.declared.act.Act.TheVariants.{Boot, Post, Took}
-use Rattle.tsp_base.specs.declared.act.Placed.{Placed}
-use Rattle.tsp_base.specs.declared.datagram.Taken.{Taken}
-use Rattle.tsp_base.specs.declared.kind.Kind.{Kind}
-use Rattle.tsp_base.specs.declared.message.Body.{Body}
-use Rattle.tsp_base.specs.declared.place.PeerId.{PeerId}
-use Rattle.tsp_base.specs.declared.place.Place.{Place}
-use Rattle.tsp_base.specs.declared.place.Port.{Port}
+use Rattle.tsp_rules.specs.Values.{Act, Boot, Took, Post, Placed, Taken, Kind, Body, PeerId, Place, Port}
+use Rattle.tsp_base.specs.Words.{Cause, Booted, Step, Begins, Acts, Deed, Line, of, dids, plain, view, first_port, line_of, stepped, MessageValue, up, is_among, Within, heard, peer_of, posted}
 use Rattle.tsp_promises.specs.DeedFits.{ActFits, DeedFits}
 use Rattle.tsp_promises.specs.Fits.{Alive, Sees, TookFits}
-use Rattle.tsp_base.specs.History.{Cause, Booted, Step, Begins, Acts, Deed, Line, of, dids, plain, view}
-use Rattle.tsp_base.specs.Joins.{first_port, line_of, stepped}
-use Rattle.tsp_base.specs.Messages.{MessageValue}
-use Rattle.tsp_base.specs.NodeFacts.{up}
-use Rattle.tsp_base.specs.Peers.{is_among}
-use Rattle.tsp_base.specs.Places.{Within}
 use Rattle.tsp_promises.specs.Setting.{Network, Named, Alone, Setting, setup_of}
-use Rattle.tsp_base.specs.Takings.{heard, peer_of, posted}
 use Rattle.tsp_base.proofs.PlaceLemmas.{Within-all}
 use Rattle.tsp_base.proofs.ViewPlaces.{port-same, or-false}
 

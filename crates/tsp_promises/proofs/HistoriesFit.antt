@@ -2,24 +2,11 @@
 use Rattle.std.specs.Prelude.{◌≡◌, ◌==◌, ◌&&◌, cond, ◌≤◌, ◌<◌, nat_lt, nat_le, Bool, true, false, ℕ, zero, suc, ◌+◌, List, [], ◌∷◌, length, refl}
 use Rattle.std.proofs.Common.{sym, ap, arith, subst, inl, inr, eqb-true, ◌∙◌}
 use Rattle.std.proofs.lemmas.Bool.{ltb-true, leb-true, and_parts}
-use Rattle.tsp_base.specs.declared.act.Act.{Act}
-use Rattle.tsp_base.specs.declared.act.Act.TheVariants.{Post}
-use Rattle.tsp_base.specs.declared.act.Placed.{Placed}
-use Rattle.tsp_base.specs.declared.datagram.Datagram.{Datagram}
-use Rattle.tsp_base.specs.declared.datagram.Taken.{Taken}
-use Rattle.tsp_base.specs.declared.datagram.Taken.TheVariants.{Good}
-use Rattle.tsp_base.specs.declared.place.PeerId.{PeerId}
-use Rattle.tsp_base.specs.declared.place.Place.{Place}
-use Rattle.tsp_base.specs.declared.place.Place.TheVariants.{Peer}
-use Rattle.tsp_base.specs.declared.place.Port.{Port}
+use Rattle.tsp_rules.specs.Values.{Act, Post, Placed, Datagram, Taken, Good, PeerId, Place, Peer, Port}
+use Rattle.tsp_base.specs.Words.{Step, Begins, Acts, Deed, Line, of, dids, view, first_port, joined, line_of, time_of, Within, peer_of, posted, posted_after}
 use Rattle.tsp_promises.specs.Fits.{Finished, Fits, LineFits, Posted, node_of}
-use Rattle.tsp_base.specs.History.{Step, Begins, Acts, Deed, Line, of, dids, view}
-use Rattle.tsp_base.specs.Joins.{first_port, joined, line_of}
-use Rattle.tsp_base.specs.NodeFacts.{time_of}
-use Rattle.tsp_base.specs.Places.{Within}
 use Rattle.tsp_promises.specs.Setting.{setup_of}
 use Rattle.tsp_promises.specs.StepFacts.{StepEnds}
-use Rattle.tsp_base.specs.Takings.{peer_of, posted, posted_after}
 use Rattle.tsp_promises.proofs.Histories.{ActsOk, ActOk, alive-of, deeds-of, post_at, post_here, still, then_step, took-of}
 use Rattle.tsp_promises.proofs.StepChecks.{settled, settled-ends}
 

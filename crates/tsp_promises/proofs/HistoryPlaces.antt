@@ -2,8 +2,7 @@
 use Rattle.std.specs.Prelude.{◌≡◌, ℕ, ◌==◌, Bool, true, false, List, [], ◌∷◌, refl}
 use Rattle.std.proofs.Common.{sym, ap, subst, inl, inr, eqb-true, eq-eqb}
 use Rattle.tsp_promises.specs.Fits.{node_of}
-use Rattle.tsp_base.specs.History.{Line, of}
-use Rattle.tsp_base.specs.Places.{Within}
+use Rattle.tsp_base.specs.Words.{Line, of, Within}
 use Rattle.tsp_base.proofs.PlaceLemmas.{Within-all, Within-none, Within-strict, Within-comparable}
 
 of-more : (b : Bool) (n : ℕ) (l : Line) (s t : List Line) → (node_of l == n) ≡ b → Within (of n s) (of n t) → Within (of n s) (of n (l ∷ t))

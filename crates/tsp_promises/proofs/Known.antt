@@ -1,18 +1,8 @@
 -- What is known of a port between the acts of its steps.
 use Rattle.std.specs.Prelude.{◌≡◌, ◌⊎◌, ◌≤◌, ℕ, ◌+◌, ◌*◌, Bool, true, false, List, [], ◌∷◌, Option, None, Some}
-use Rattle.tsp_base.specs.declared.constants.TheConstants.{QUIET, ELECT_MIN, CLOSE, ROUND, WINDOW}
-use Rattle.tsp_base.specs.declared.place.PeerId.{PeerId}
-use Rattle.tsp_base.specs.declared.role.Role.{Role}
-use Rattle.tsp_base.specs.declared.role.Role.TheVariants.{Starting, Follow, Candidate, Master}
-use Rattle.tsp_base.specs.History.{Did, Seen, Here, Past, plain}
-use Rattle.tsp_base.specs.Messages.{MessageValue}
-use Rattle.tsp_base.specs.NodeFacts.{boot_tick, last_correct, all_corrects, lives, word}
-use Rattle.tsp_base.specs.Peers.{is_among}
-use Rattle.tsp_base.specs.PortFacts.{Received, role, held, armed, acting, taken, backers, stood}
-use Rattle.tsp_base.specs.RoundFacts.{started, exchange, word_asked, probes}
-use Rattle.tsp_base.specs.SendFacts.{open_to, message_at}
+use Rattle.tsp_rules.specs.Values.{PeerId, Role, Starting, Follow, Candidate, Master, CLOSE, ELECT_MIN, QUIET, ROUND, WINDOW}
+use Rattle.tsp_base.specs.Words.{Did, Seen, Here, Past, plain, MessageValue, boot_tick, last_correct, all_corrects, lives, word, is_among, Received, role, held, armed, acting, taken, backers, stood, started, exchange, word_asked, probes, open_to, message_at, heard}
 use Rattle.tsp_promises.specs.StepFacts.{is_unbacked, owes, unacknowledged, unheeded}
-use Rattle.tsp_base.specs.Takings.{heard}
 use Rattle.tsp_rules.specs.SendRows.{is_kind_election}
 use Rattle.tsp_promises.specs.PortFits.{PortFits, setup_in}
 

@@ -1,22 +1,11 @@
 -- What a step took from a peer is what that peer posted.
 use Rattle.std.specs.Prelude.{◌≡◌, ◌==◌, ◌||◌, Bool, true, false, ℕ, List, [], ◌∷◌, Some, refl}
 use Rattle.std.proofs.Common.{sym, ap, subst, subst₂, inl, inr, true≢false, ◌∙◌}
-use Rattle.tsp_base.specs.declared.act.Act.{Act}
-use Rattle.tsp_base.specs.declared.act.Act.TheVariants.{Took, Post}
-use Rattle.tsp_base.specs.declared.datagram.Datagram.{Datagram}
-use Rattle.tsp_base.specs.declared.datagram.Taken.{Taken}
-use Rattle.tsp_base.specs.declared.datagram.Taken.TheVariants.{Good}
-use Rattle.tsp_base.specs.declared.place.PeerId.{PeerId}
-use Rattle.tsp_base.specs.declared.place.Place.{Place}
-use Rattle.tsp_base.specs.declared.place.Place.TheVariants.{Peer}
-use Rattle.tsp_base.specs.declared.place.Port.{Port}
+use Rattle.tsp_rules.specs.Values.{Act, Took, Post, Datagram, Taken, Good, PeerId, Place, Peer, Port}
+use Rattle.tsp_base.specs.Words.{Cause, Booted, Turned, Came, Handed, Step, Deed, Begins, Acts, Did, Line, of, dids, view, seen_as, is_shared, Within, Received, taken, taken_after, Receives, peer_of, posted}
 use Rattle.tsp_promises.specs.Fits.{Fits, SameStep, TookFits, node_of}
-use Rattle.tsp_base.specs.History.{Cause, Booted, Turned, Came, Handed, Step, Deed, Begins, Acts, Did, Line, of, dids, view, seen_as, is_shared}
-use Rattle.tsp_base.specs.Places.{Within}
-use Rattle.tsp_base.specs.PortFacts.{Received, taken, taken_after}
 use Rattle.tsp_promises.specs.Premises.{Honest, HonestAt}
 use Rattle.tsp_promises.specs.Setting.{Setting}
-use Rattle.tsp_base.specs.Takings.{Receives, peer_of, posted}
 use Rattle.std.proofs.Math.Bool.{or-true}
 use Rattle.tsp_promises.proofs.EverywhereLemmas.{Everywhere-at}
 use Rattle.tsp_base.proofs.PlaceLemmas.{Within-through, Within-tail}

@@ -2,20 +2,10 @@
 use Rattle.std.specs.Prelude.{◌≡◌, ◌==◌, ◌||◌, ◌&&◌, ◌≤◌, cond, Bool, true, false, ℕ, ℤ, List, [], ◌∷◌, Option, None, Some, refl}
 use Rattle.std.proofs.Common.{sym, ap, arith, subst, inl, inr, eq-eqb, ◌∙◌}
 use Rattle.std.proofs.lemmas.Bool.{and_parts}
-use Rattle.tsp_base.specs.declared.act.Act.TheVariants.{Boot, Correct, Post}
-use Rattle.tsp_base.specs.declared.datagram.Datagram.TheVariants.{Message}
-use Rattle.tsp_base.specs.declared.place.PeerId.{PeerId}
-use Rattle.tsp_base.specs.declared.place.Place.TheVariants.{Peer}
-use Rattle.tsp_base.specs.declared.place.Port.{Port}
+use Rattle.tsp_rules.specs.Values.{Boot, Post, Correct, Message, PeerId, Peer, Port}
+use Rattle.tsp_base.specs.Words.{Acts, Deed, Did, Line, Seen, dids, view, seen_as, is_shared, MessageValue, lives, lives_after, Within, Said, said, taken, acting, Dating, dating_of, is_date_request, is_set_date_request, last_asked, last_asked_after, last_date, last_date_after, Receives}
 use Rattle.tsp_promises.specs.Fits.{Sees}
-use Rattle.tsp_base.specs.History.{Acts, Deed, Did, Line, Seen, dids, view, seen_as, is_shared}
-use Rattle.tsp_base.specs.Messages.{MessageValue}
-use Rattle.tsp_base.specs.NodeFacts.{lives, lives_after}
-use Rattle.tsp_base.specs.Places.{Within}
-use Rattle.tsp_base.specs.PortFacts.{Said, said, taken, acting}
-use Rattle.tsp_base.specs.SendFacts.{Dating, dating_of, is_date_request, is_set_date_request, last_asked, last_asked_after, last_date, last_date_after}
 use Rattle.tsp_promises.specs.Setting.{Setting}
-use Rattle.tsp_base.specs.Takings.{Receives}
 use Rattle.tsp_base.proofs.PlaceLemmas.{Within-none}
 use Rattle.tsp_base.proofs.ViewPlaces.{port-same, or-false, sees-own}
 use Rattle.tsp_promises.specs.OwnFits.{OwnFits}

@@ -1,17 +1,9 @@
 -- A post of a correction isn't later than the last one.
 use Rattle.std.specs.Prelude.{◌≡◌, ◌==◌, ◌&&◌, ◌||◌, cond, Bool, true, false, ℕ, ◌≤◌, List, [], ◌∷◌, Option, Some, refl}
 use Rattle.std.proofs.Common.{arith, subst, inl, inr, eq-eqb}
-use Rattle.tsp_base.specs.declared.act.Act.TheVariants.{Boot, Post}
-use Rattle.tsp_base.specs.declared.datagram.Datagram.TheVariants.{Message}
-use Rattle.tsp_base.specs.declared.place.PeerId.{PeerId}
-use Rattle.tsp_base.specs.declared.place.Place.TheVariants.{Peer}
-use Rattle.tsp_base.specs.declared.place.Port.{Port}
+use Rattle.tsp_rules.specs.Values.{Boot, Post, Message, PeerId, Peer, Port}
+use Rattle.tsp_base.specs.Words.{Acts, Deed, Did, Line, Seen, Here, dids, view, seen_as, is_shared, MessageValue, lives, lives_after, Within, is_correction, last_post, last_post_after}
 use Rattle.tsp_promises.specs.Fits.{Sees}
-use Rattle.tsp_base.specs.History.{Acts, Deed, Did, Line, Seen, Here, dids, view, seen_as, is_shared}
-use Rattle.tsp_base.specs.Messages.{MessageValue}
-use Rattle.tsp_base.specs.NodeFacts.{lives, lives_after}
-use Rattle.tsp_base.specs.Places.{Within}
-use Rattle.tsp_base.specs.SendFacts.{is_correction, last_post, last_post_after}
 use Rattle.tsp_promises.specs.Setting.{Setting}
 use Rattle.tsp_base.proofs.PlaceLemmas.{Within-none}
 use Rattle.tsp_promises.specs.OwnFits.{OwnFits}

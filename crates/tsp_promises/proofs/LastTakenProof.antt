@@ -1,21 +1,8 @@
 -- Where a port took the node's last correction.
 use Rattle.std.specs.Prelude.{◌≡◌, ◌==◌, ◌||◌, cond, Bool, true, false, ℕ, ℤ, List, [], ◌∷◌, Option, Some, None, refl}
 use Rattle.std.proofs.Common.{sym, ap, subst, subst₂, inl, inr, true≢false, ◌∙◌}
-use Rattle.tsp_base.specs.declared.act.Act.TheVariants.{Boot, Correct}
-use Rattle.tsp_base.specs.declared.datagram.Datagram.TheVariants.{Message, Stamp}
-use Rattle.tsp_base.specs.declared.datagram.Taken.{Taken}
-use Rattle.tsp_base.specs.declared.datagram.Taken.TheVariants.{Good, Bad}
-use Rattle.tsp_base.specs.declared.place.PeerId.{PeerId}
-use Rattle.tsp_base.specs.declared.place.Place.{Place}
-use Rattle.tsp_base.specs.declared.place.Place.TheVariants.{Peer, Stranger}
-use Rattle.tsp_base.specs.declared.place.Port.{Port}
-use Rattle.tsp_base.specs.History.{Acts, Deed, Did, Line, dids, view, seen_as, is_shared}
-use Rattle.tsp_base.specs.Messages.{MessageValue}
-use Rattle.tsp_base.specs.NodeFacts.{all_corrects, all_corrects_after, lives, lives_after}
-use Rattle.tsp_base.specs.Places.{Within}
-use Rattle.tsp_base.specs.PortFacts.{Received, Said, said, said_by, message_in, taken}
-use Rattle.tsp_base.specs.SendFacts.{Correcting, correcting_of, is_correction, last_taken, last_taken_after, last_taken_elsewhere}
-use Rattle.tsp_base.specs.Takings.{Receives}
+use Rattle.tsp_rules.specs.Values.{Boot, Correct, Message, Stamp, Taken, Good, Bad, PeerId, Place, Peer, Stranger, Port}
+use Rattle.tsp_base.specs.Words.{Acts, Deed, Did, Line, dids, view, seen_as, is_shared, MessageValue, all_corrects, all_corrects_after, lives, lives_after, Within, Received, Said, said, said_by, message_in, taken, Correcting, correcting_of, is_correction, last_taken, last_taken_after, last_taken_elsewhere, Receives}
 use Rattle.std.proofs.Math.Bool.{or-true}
 use Rattle.tsp_base.proofs.ViewPlaces.{port-same, or-false}
 use Rattle.tsp_promises.proofs.Locating.{line_on}

@@ -2,16 +2,8 @@
 use Rattle.std.specs.Prelude.{◌≡◌, ◌==◌, ◌&&◌, cond, Bool, true, false, ◌≤◌, ◌⊎◌, List, [], ◌∷◌, refl}
 use Rattle.std.proofs.Common.{sym, ap, arith, subst, inl, inr, eq-eqb, ◌∙◌}
 use Rattle.std.proofs.lemmas.Bool.{and_parts}
-use Rattle.tsp_base.specs.declared.act.Act.TheVariants.{Boot, Post}
-use Rattle.tsp_base.specs.declared.datagram.Datagram.TheVariants.{Message}
-use Rattle.tsp_base.specs.declared.place.PeerId.{PeerId}
-use Rattle.tsp_base.specs.declared.place.Place.TheVariants.{Peer}
-use Rattle.tsp_base.specs.History.{Acts, Deed, Did, Seen, Here, Elsewhere, plain, did_of}
-use Rattle.tsp_base.specs.Messages.{MessageValue}
-use Rattle.tsp_base.specs.NodeFacts.{lives}
-use Rattle.tsp_base.specs.Places.{Within}
-use Rattle.tsp_base.specs.PortFacts.{acting}
-use Rattle.tsp_base.specs.SendFacts.{begun_to, is_correction, last_to, last_to_after}
+use Rattle.tsp_rules.specs.Values.{Boot, Post, Message, PeerId, Peer}
+use Rattle.tsp_base.specs.Words.{Acts, Deed, Did, Seen, Here, Elsewhere, plain, did_of, MessageValue, lives, Within, acting, begun_to, is_correction, last_to, last_to_after}
 use Rattle.tsp_promises.proofs.SendProof.{BeginsSend, CorrectsTo, begun-begins, begun-here}
 use Rattle.tsp_promises.proofs.Leaves.{nil-cons}
 use Rattle.tsp_promises.proofs.SteadyProof.{lives-more}

@@ -1,15 +1,7 @@
 -- Rows of one act, and of one act for each peer, lead where the act leads.
 use Rattle.std.specs.Prelude.{ℕ, ◌+◌, ℤ, List, [], ◌∷◌, map}
-use Rattle.tsp_base.specs.declared.act.Act.TheVariants.{Arm, Post}
-use Rattle.tsp_base.specs.declared.alarm.Alarm.{Alarm}
-use Rattle.tsp_base.specs.declared.datagram.Datagram.TheVariants.{Message}
-use Rattle.tsp_base.specs.declared.kind.Kind.{Kind}
-use Rattle.tsp_base.specs.declared.place.PeerId.{PeerId}
-use Rattle.tsp_base.specs.declared.place.Place.{Place}
-use Rattle.tsp_base.specs.declared.place.Place.TheVariants.{Peer}
-use Rattle.tsp_base.specs.History.{Past}
-use Rattle.tsp_base.specs.Leads.{Leads}
-use Rattle.tsp_base.specs.Rows.{grown, arms, bare, timed, post_of, posts, posts_to_others, posts_back, posts_time, others}
+use Rattle.tsp_rules.specs.Values.{Post, Arm, Alarm, Message, Kind, PeerId, Place, Peer}
+use Rattle.tsp_base.specs.Words.{Past, Leads, grown, arms, bare, timed, post_of, posts, posts_to_others, posts_back, posts_time, others}
 
 module _ {P Q : ℕ → Past → Type 0} where
   pub Leads_arms : (alarm : Alarm) (long : ℕ) → ((x : ℕ) (past : Past) → P x past → Q x (grown x past (Arm alarm (x + long) ∷ []))) → Leads P (arms alarm long) Q

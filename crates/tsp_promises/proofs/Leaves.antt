@@ -1,12 +1,8 @@
 -- What single acts make of what is known of a port.
 use Rattle.std.specs.Prelude.{◌≡◌, ◌≤◌, ℕ, ◌+◌, ◌==◌, ◌&&◌, ◌||◌, ℤ, Bool, true, false, if◌then◌else◌, cond, List, [], ◌∷◌, Option, None, Some, refl}
 use Rattle.std.proofs.Common.{sym, ap, subst, arith, inr, ◌∙◌, true≢false}
-use Rattle.tsp_base.specs.declared.act.Act.{Act}
-use Rattle.tsp_base.specs.declared.act.Act.TheVariants.{Backer, Arm, Join, Leave, Rival, Acked, Gave, Sample, Close as CloseAct, Correct, Abandon, Trace}
-use Rattle.tsp_base.specs.declared.alarm.Alarm.TheVariants.{Search, Elect, Window, Probe, Close, Resolve, Round}
-use Rattle.tsp_base.specs.declared.constants.TheConstants.{QUIET, CLOSE, PROBE, ROUND}
-use Rattle.tsp_base.specs.declared.place.PeerId.{PeerId}
-use Rattle.tsp_base.specs.declared.role.Role.TheVariants.{Master}
+use Rattle.tsp_rules.specs.Values.{Act, Arm, Backer, Abandon, Close, Correct, Sample, Acked, Gave, Join, Leave, Rival, Trace, Window, Elect, Search, Round, Probe, CloseAlarm, ResolveAlarm, PeerId, Master, CLOSE, PROBE, QUIET, ROUND}
+use Rattle.tsp_base.specs.Words.{Did, Seen, Here, Past, plain, boot_tick, is_among, Received, role, armed, acting, taken, backers, held, stood, exchange, probes, started, grown, open_to, message_at, heard}
 use Rattle.tsp_rules.proofs.Asides.{now}
 use Rattle.tsp_promises.specs.AckFits.{AckedFits}
 use Rattle.tsp_promises.specs.CorrectFits.{CorrectFits}
@@ -14,15 +10,7 @@ use Rattle.tsp_promises.specs.DeedFits.{ActFits}
 use Rattle.tsp_promises.specs.HoldFits.{BackerFits}
 use Rattle.tsp_promises.specs.MeasureFits.{SampleFits}
 use Rattle.tsp_promises.specs.RoundFits.{CloseFits}
-use Rattle.tsp_base.specs.History.{Did, Seen, Here, Past, plain}
-use Rattle.tsp_base.specs.NodeFacts.{boot_tick}
-use Rattle.tsp_base.specs.Peers.{is_among}
-use Rattle.tsp_base.specs.PortFacts.{Received, role, armed, acting, taken, backers, held, stood}
-use Rattle.tsp_base.specs.RoundFacts.{exchange, probes, started}
-use Rattle.tsp_base.specs.Rows.{grown}
-use Rattle.tsp_base.specs.SendFacts.{open_to, message_at}
 use Rattle.tsp_promises.specs.StepFacts.{is_unbacked, owes, unacknowledged}
-use Rattle.tsp_base.specs.Takings.{heard}
 use Rattle.tsp_promises.specs.PortFits.{PortFits, setup_in}
 use Rattle.tsp_promises.proofs.Known.{Asked, Probing, Candidature, asks_vote, KnowsOf, During}
 use Rattle.tsp_rules.proofs.GuardFacts.{same_peer}
@@ -88,8 +76,8 @@ module _ {stirred awake owing acts : Bool} {follow : List PeerId} {T : Option Re
   pub trace : (on : Bool) → During stirred awake owing follow acts T x past → During stirred awake owing follow acts T x (grown x past (Trace on ∷ []))
   trace on h = made (Trace on) h.own tt h.fits h.knows h.rested h.backs h.owed h.paid h.acting_is h.took
 
-  pub close_act : (count : ℕ) (lo size mean : ℤ) → CloseFits (now x past (CloseAct count lo size mean)) past.seen → During stirred awake owing follow acts T x past → During stirred awake owing follow acts T x (grown x past (CloseAct count lo size mean ∷ []))
-  close_act count lo size mean f h = made (CloseAct count lo size mean) h.own f h.fits h.knows h.rested h.backs h.owed h.paid h.acting_is h.took
+  pub close_act : (count : ℕ) (lo size mean : ℤ) → CloseFits (now x past (Close count lo size mean)) past.seen → During stirred awake owing follow acts T x past → During stirred awake owing follow acts T x (grown x past (Close count lo size mean ∷ []))
+  close_act count lo size mean f h = made (Close count lo size mean) h.own f h.fits h.knows h.rested h.backs h.owed h.paid h.acting_is h.took
 
 -- acts of a port whose quiet time is over
 module _ {stirred owing acts : Bool} {follow : List PeerId} {T : Option Received → Option Received → Type 0} {x : ℕ} {past : Past} where
@@ -103,10 +91,10 @@ module _ {stirred owing acts : Bool} {follow : List PeerId} {T : Option Received
       let k = h.knows in
       made (Arm Elect at) h.own tt h.fits (record { times = k.times; quiet = record { rested = inr (h.rested refl); silent = k.quiet.silent }; vote = k.vote; round = k.round }) h.rested h.backs h.owed h.paid h.acting_is h.took
 
-  pub arm_resolve : (at : ℕ) → During stirred true owing follow acts T x past → During stirred true owing follow acts T x (grown x past (Arm Resolve at ∷ []))
+  pub arm_resolve : (at : ℕ) → During stirred true owing follow acts T x past → During stirred true owing follow acts T x (grown x past (Arm ResolveAlarm at ∷ []))
   arm_resolve at h =
       let k = h.knows in
-      made (Arm Resolve at) h.own tt h.fits (record { times = k.times; quiet = record { rested = inr (h.rested refl); silent = k.quiet.silent }; vote = k.vote; round = k.round }) h.rested h.backs h.owed h.paid h.acting_is h.took
+      made (Arm ResolveAlarm at) h.own tt h.fits (record { times = k.times; quiet = record { rested = inr (h.rested refl); silent = k.quiet.silent }; vote = k.vote; round = k.round }) h.rested h.backs h.owed h.paid h.acting_is h.took
 
   pub gave : (p : PeerId) → During stirred true owing follow acts T x past → During stirred true owing follow acts T x (grown x past (Gave p ∷ []))
   gave p h =
@@ -201,7 +189,7 @@ module _ {stirred awake owing acts : Bool} {follow : List PeerId} {T : Option Re
       h.rested h.backs h.owed h.paid h.acting_is h.took
 
   -- a round begins with its two alarms, ROUND after the last one; the next one is put off already
-  pub arm_round_alarms : role past.seen ≡ Master → ((start : Did) (idle : List Seen) → started past.seen ≡ Here start ∷ idle → start.tick + ROUND ≤ x) → (armed past.seen).round ≡ Some (x + ROUND) → During stirred awake owing follow acts T x past → During stirred awake owing follow acts T x (grown x past (Arm Probe (x + PROBE) ∷ Arm Close (x + CLOSE) ∷ []))
+  pub arm_round_alarms : role past.seen ≡ Master → ((start : Did) (idle : List Seen) → started past.seen ≡ Here start ∷ idle → start.tick + ROUND ≤ x) → (armed past.seen).round ≡ Some (x + ROUND) → During stirred awake owing follow acts T x past → During stirred awake owing follow acts T x (grown x past (Arm Probe (x + PROBE) ∷ Arm CloseAlarm (x + CLOSE) ∷ []))
   arm_round_alarms leads spaced put_off h =
       let k = h.knows in record {
         own = h.own;
@@ -211,8 +199,8 @@ module _ {stirred awake owing acts : Bool} {follow : List PeerId} {T : Option Re
             boot_le = k.times.boot_le;
             last_le = k.times.last_le;
             boot_is = k.times.boot_is;
-            start_le = λ start idle e. begins-now (now x past (Arm Close (x + CLOSE))) start _ idle e (omega arith);
-            next = λ n e start idle is. begins-then (now x past (Arm Close (x + CLOSE))) start _ idle n is (some-same (x + ROUND) n (sym put_off ∙ e));
+            start_le = λ start idle e. begins-now (now x past (Arm CloseAlarm (x + CLOSE))) start _ idle e (omega arith);
+            next = λ n e start idle is. begins-then (now x past (Arm CloseAlarm (x + CLOSE))) start _ idle n is (some-same (x + ROUND) n (sym put_off ∙ e));
           };
           quiet = k.quiet;
           vote = k.vote;
@@ -221,7 +209,7 @@ module _ {stirred awake owing acts : Bool} {follow : List PeerId} {T : Option Re
             probing = λ n e. let is = some-same (x + PROBE) n e in record { until = x + CLOSE; goes = refl; soon = omega (arith, is); few = omega arith };
             closes = λ calm n e. let is = some-same (x + CLOSE) n e in record {
               leads = leads;
-              start = now x past (Arm Close (x + CLOSE));
+              start = now x past (Arm CloseAlarm (x + CLOSE));
               idle = then_seen x past (Arm Probe (x + PROBE));
               start_is = refl;
               at_is = sym is;

@@ -1,12 +1,10 @@
 -- Where a deed stands in the history that a port sees.
 use Rattle.std.specs.Prelude.{◌≡◌, ◌==◌, ◌||◌, ℕ, true, false, List, ◌∷◌, refl}
 use Rattle.std.proofs.Common.{ap, ◌∙◌}
-use Rattle.tsp_base.specs.declared.place.Port.{Port}
+use Rattle.tsp_rules.specs.Values.{Port}
+use Rattle.tsp_base.specs.Words.{Did, Line, Seen, Here, of, view, is_shared, Within, tick_at}
 use Rattle.tsp_promises.specs.Fits.{Fits, LineFits, node_of}
-use Rattle.tsp_base.specs.History.{Did, Line, Seen, Here, of, view, is_shared}
-use Rattle.tsp_base.specs.Places.{Within}
 use Rattle.tsp_promises.specs.Setting.{Setting}
-use Rattle.tsp_base.specs.Ticks.{tick_at}
 use Rattle.tsp_promises.proofs.EverywhereLemmas.{Everywhere-at}
 use Rattle.tsp_base.proofs.ViewPlaces.{on_port, sees-own, Within-view}
 use Rattle.tsp_promises.proofs.HistoryPlaces.{lift, own_in, of-own}

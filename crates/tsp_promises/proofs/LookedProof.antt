@@ -2,9 +2,7 @@
 use Rattle.std.specs.Prelude.{◌≡◌, ℕ, ◌+◌, ◌-◌, ◌*◌, ◌/◌, ◌≤◌, ℤ, pos, negsuc, ◌-ℤ◌, ◌+ℤ◌, ◌≤ℤ◌, nat_abs, List}
 use Rattle.std.proofs.Common.{arith, subst, mul-le-mul_left}
 use Rattle.std.proofs.lemmas.Int.{ints}
-use Rattle.tsp_base.specs.History.{Line, of, dids}
-use Rattle.tsp_base.specs.NodeFacts.{moved}
-use Rattle.tsp_base.specs.Ticks.{tick_at, width}
+use Rattle.tsp_base.specs.Words.{Line, of, dids, moved, tick_at, width}
 use Rattle.tsp_promises.specs.Fits.{Fits}
 use Rattle.tsp_promises.specs.Looked.{Look, ticks_since, width_by_ticks, IsAhead, Looked}
 use Rattle.tsp_promises.specs.Setting.{Setting}

@@ -2,25 +2,10 @@
 use Rattle.std.specs.Prelude.{◌≡◌, ◌≢◌, ◌≤◌, ◌<◌, ℕ, ◌+◌, ◌-◌, ◌==◌, ◌&&◌, nat_le, nat_lt, Bool, true, false, if◌then◌else◌, List, [], ◌∷◌, map, length, Option, Some, refl}
 use Rattle.std.proofs.Common.{sym, subst, inr, ap, arith, true≢false, eqb-true, eq-eqb, leb-true, ltb-true, ◌∙◌}
 use Rattle.std.proofs.lemmas.Bool.{and_parts, not-true}
-use Rattle.tsp_base.specs.declared.act.Act.TheVariants.{Took, Post, Become}
-use Rattle.tsp_base.specs.declared.datagram.Datagram.TheVariants.{Message}
-use Rattle.tsp_base.specs.declared.datagram.Taken.{Taken}
-use Rattle.tsp_base.specs.declared.datagram.Taken.TheVariants.{Good}
-use Rattle.tsp_base.specs.declared.kind.Kind.TheVariants.{Loop as LoopKind}
-use Rattle.tsp_base.specs.declared.message.Body.{Body}
-use Rattle.tsp_base.specs.declared.message.Body.TheVariants.{Nothing, Time, Hops}
-use Rattle.tsp_base.specs.declared.place.PeerId.{PeerId}
-use Rattle.tsp_base.specs.declared.place.Place.{Place}
-use Rattle.tsp_base.specs.declared.place.Place.TheVariants.{Peer, Stranger}
-use Rattle.tsp_base.specs.declared.place.Port.{Port}
-use Rattle.tsp_base.specs.declared.role.Role.TheVariants.{Starting, Loose}
-use Rattle.tsp_base.specs.History.{Past}
-use Rattle.tsp_base.specs.Leads.{Leads}
+use Rattle.tsp_rules.specs.Values.{Took, Post, Become, Message, Taken, Good, LoopKind, Body, Nothing, TimeBody, Hops, PeerId, Place, Peer, Stranger, Port, Starting, Loose}
+use Rattle.tsp_base.specs.Words.{Past, Leads, MessageValue, Received, role, grown, nothing, puts, ◌followed_by◌, others}
 use Rattle.tsp_promises.specs.LoopFits.{LoopFits}
 use Rattle.tsp_promises.specs.DeedFits.{MessageFits}
-use Rattle.tsp_base.specs.Messages.{MessageValue}
-use Rattle.tsp_base.specs.PortFacts.{Received, role}
-use Rattle.tsp_base.specs.Rows.{grown, nothing, puts, ◌followed_by◌, others}
 use Rattle.tsp_base.proofs.LeadsLemmas.{Leads_then, Leads_either, Leads_nothing, Leads_puts, Leads_from, Leads_to}
 use Rattle.tsp_rules.specs.CandidateRows.{yields}
 use Rattle.tsp_rules.specs.CommonRows.{arms_elect}
@@ -78,7 +63,7 @@ name-other a b e is = true≢false (sym (name-own a) ∙ ap (same_name a) is ∙
 -- hops
 hops-are : (b : Body) → nat_le 1 (hops_in b) ≡ true → b ≡ Hops ((hops_in b - 1) + 1)
 hops-are Nothing e = absurd (true≢false (sym e))
-hops-are (Time t) e = absurd (true≢false (sym e))
+hops-are (TimeBody t) e = absurd (true≢false (sym e))
 hops-are (Hops n) e = let some = leb-true 1 n e in ap Hops (omega (arith, some))
 
 -- a master gives up for its own LOOP that came back

@@ -2,18 +2,13 @@
 use Rattle.std.specs.Prelude.{◌≡◌, ◌==◌, ◌||◌, ◌⊎◌, Bool, true, false, ℕ, ◌+◌, ℤ, pos, ◌+ℤ◌, List, ◌∷◌, refl}
 use Rattle.std.proofs.Common.{sym, ap, arith, subst, subst₂, inl, inr, ◌∙◌}
 use Rattle.std.proofs.lemmas.Int.{ints}
-use Rattle.tsp_base.specs.declared.act.Act.TheVariants.{Close, Correct}
-use Rattle.tsp_base.specs.declared.place.Port.{Port}
+use Rattle.tsp_rules.specs.Values.{Close, Correct, Port}
+use Rattle.tsp_base.specs.Words.{Acts, Did, Line, Seen, Here, of, dids, view, plain, seen_as, is_shared, all_corrects, lives, moved, Within, Setup, Undisturbed}
 use Rattle.tsp_promises.specs.Agreed.{RightAfter, UnchangedBut}
 use Rattle.tsp_promises.specs.CorrectFits.{WhyCorrect, ByRound, ByMaster, ByDate}
 use Rattle.tsp_promises.specs.CorrectionFits.{FollowedBy}
 use Rattle.tsp_promises.specs.Fits.{Fits, node_of}
-use Rattle.tsp_base.specs.History.{Acts, Did, Line, Seen, Here, of, dids, view, plain, seen_as, is_shared}
-use Rattle.tsp_base.specs.NodeFacts.{all_corrects, lives, moved}
-use Rattle.tsp_base.specs.Places.{Within}
 use Rattle.tsp_promises.specs.Setting.{Setting, setup_of}
-use Rattle.tsp_base.specs.Setup.{Setup}
-use Rattle.tsp_base.specs.Takings.{Undisturbed}
 use Rattle.tsp_base.proofs.PlaceLemmas.{Within-through}
 use Rattle.tsp_base.proofs.Views.{plain_view}
 use Rattle.tsp_promises.proofs.HistoryPlaces.{of-own, Within-of}

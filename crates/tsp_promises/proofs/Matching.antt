@@ -2,17 +2,10 @@
 use Rattle.std.specs.Prelude.{◌≡◌, ℕ, ◌+◌, ◌<◌, ◌≤◌, List, ◌∷◌}
 use Rattle.std.proofs.Common.{ap, arith, subst, inl, inr, ◌∙◌}
 use Rattle.std.proofs.lemmas.Bool.{cases_lt}
-use Rattle.tsp_base.specs.declared.act.Act.TheVariants.{Post}
-use Rattle.tsp_base.specs.declared.constants.TheConstants.{QUIET}
-use Rattle.tsp_base.specs.declared.datagram.Datagram.{Datagram}
-use Rattle.tsp_base.specs.declared.place.Place.{Place}
+use Rattle.tsp_rules.specs.Values.{Post, Datagram, Place, QUIET}
+use Rattle.tsp_base.specs.Words.{Acts, Did, Line, of, dids, all_corrects, boot_tick, moved, tick_of, ticket, Within, Undisturbed, tick_at}
 use Rattle.tsp_promises.specs.Fits.{Fits, node_of}
-use Rattle.tsp_base.specs.History.{Acts, Did, Line, of, dids}
-use Rattle.tsp_base.specs.NodeFacts.{all_corrects, boot_tick, moved, tick_of, ticket}
-use Rattle.tsp_base.specs.Places.{Within}
 use Rattle.tsp_promises.specs.Setting.{Setting}
-use Rattle.tsp_base.specs.Takings.{Undisturbed}
-use Rattle.tsp_base.specs.Ticks.{tick_at}
 use Rattle.tsp_promises.specs.Since.{Since, OneLife}
 use Rattle.tsp_promises.proofs.Clocks.{near}
 use Rattle.tsp_promises.proofs.HistoryPlaces.{of-own, Within-of}

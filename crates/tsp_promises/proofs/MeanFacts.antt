@@ -4,8 +4,7 @@ use Rattle.std.specs.List.{All, fold}
 use Rattle.std.proofs.Common.{sym, subst, ap, arith}
 use Rattle.std.proofs.lemmas.Int.{ints}
 use Rattle.std.proofs.lemmas.List.Elements.{All-nil, All-cons, All-filter}
-use Rattle.tsp_base.specs.RoundFacts.{Estimate}
-use Rattle.tsp_base.specs.Times.{IsMicros}
+use Rattle.tsp_base.specs.Words.{Estimate, IsMicros}
 use Rattle.tsp_group.specs.Groups.{is_member, members, group_from, goes_before, better, no_group, try_lo, group_of, floor_div, mean_of}
 use Rattle.tsp_group.specs.Values.{IsNear}
 use Rattle.tsp_group.specs.declared.group.Group.{Group}

@@ -2,28 +2,14 @@
 use Rattle.std.specs.Prelude.{◌≡◌, true, ℤ, pos, ◌+ℤ◌, ◌-ℤ◌, ◌≤ℤ◌, nat_abs, ℕ, zero, suc, ◌+◌, ◌-◌, ◌/◌, ◌≤◌, ◌⊎◌, List, ◌∷◌, refl}
 use Rattle.std.proofs.Common.{sym, ap, arith, subst, subst₂, inl, inr, ◌∙◌}
 use Rattle.std.proofs.lemmas.Int.{ints}
-use Rattle.tsp_base.specs.declared.act.Act.TheVariants.{Post, Sample}
-use Rattle.tsp_base.specs.declared.constants.TheConstants.{LIFE}
-use Rattle.tsp_base.specs.declared.datagram.Datagram.{Datagram}
-use Rattle.tsp_base.specs.declared.datagram.Datagram.TheVariants.{Stamp}
-use Rattle.tsp_base.specs.declared.place.PeerId.{PeerId}
-use Rattle.tsp_base.specs.declared.place.Place.{Place}
-use Rattle.tsp_base.specs.declared.place.Place.TheVariants.{Peer}
-use Rattle.tsp_base.specs.declared.place.Port.{Port}
-use Rattle.tsp_base.specs.declared.stamp.Stamp.TheVariants.{Request, Reply}
+use Rattle.tsp_rules.specs.Values.{Post, Sample, Datagram, Stamp, PeerId, Place, Peer, Port, Request, Reply, LIFE}
+use Rattle.tsp_base.specs.Words.{Came, Acts, Did, Line, Seen, Here, of, dids, view, plain, all_corrects, base, boot_tick, lives, moved, target, up, word, wall, ticket, Within, half_down, half_up, sample_diff, sample_err, ReplyValue, Undisturbed, peer_of, posted, tick_at}
 use Rattle.tsp_promises.specs.ClockAt.{clock}
 use Rattle.tsp_promises.specs.Fits.{Fits, LineFits, Alive, node_of}
-use Rattle.tsp_base.specs.History.{Came, Acts, Did, Line, Seen, Here, of, dids, view, plain}
 use Rattle.tsp_promises.specs.Measured.{MeasuredAt, Measured}
 use Rattle.tsp_promises.specs.MeasureFits.{ReplyFits, SampleFits}
-use Rattle.tsp_base.specs.NodeFacts.{all_corrects, base, boot_tick, lives, moved, target, up, word, wall, ticket}
-use Rattle.tsp_base.specs.Places.{Within}
 use Rattle.tsp_promises.specs.Premises.{Honest, HonestAt, Life, OwnWords, OwnWordsAt, TakenWithinAt}
-use Rattle.tsp_base.specs.Samples.{half_down, half_up, sample_diff, sample_err}
 use Rattle.tsp_promises.specs.Setting.{Setting}
-use Rattle.tsp_base.specs.Stamps.{ReplyValue}
-use Rattle.tsp_base.specs.Takings.{Undisturbed, peer_of, posted}
-use Rattle.tsp_base.specs.Ticks.{tick_at}
 use Rattle.tsp_promises.proofs.EverywhereLemmas.{Everywhere-from, Everywhere-within}
 use Rattle.tsp_base.proofs.PlaceLemmas.{Within-through, Within-tail}
 use Rattle.tsp_base.proofs.Views.{plain_view}

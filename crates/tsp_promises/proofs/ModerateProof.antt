@@ -3,30 +3,18 @@ use Rattle.std.specs.Prelude.{◌≡◌, ◌==◌, ◌||◌, ◌≤◌, ◌<◌,
 use Rattle.std.proofs.Common.{sym, ap, arith, subst, inl, inr, ◌∙◌}
 use Rattle.std.proofs.lemmas.Bool.{ltb-true}
 use Rattle.std.proofs.lemmas.Int.{ints}
-use Rattle.tsp_base.specs.declared.act.Act.TheVariants.{Close, Correct}
-use Rattle.tsp_base.specs.declared.constants.TheConstants.{SPAN, SLEW, MAXADJ}
+use Rattle.tsp_rules.specs.Values.{Close, Correct, Message, Good, AdjTime, Place, MAXADJ, SLEW, SPAN}
+use Rattle.tsp_base.specs.Words.{Acts, Did, Line, Seen, of, dids, view, seen_as, is_shared, plain, MessageValue, Received, time_of, eased, last_correct, rest, rest_at, shown, target, Sampled, best, Setup, peer_of, time_in, heard, width}
 use Rattle.tsp_group.specs.Groups.{FollowsMajority, IsWithin, group_of, mean_of}
 use Rattle.tsp_group.proofs.LargestGroup.{group_of-IsLargest}
 use Rattle.tsp_group.proofs.Majority.{IsLargest-majority}
 use Rattle.tsp_promises.specs.ClockAt.{clock_at}
 use Rattle.tsp_promises.specs.CorrectFits.{CorrectFits, WhyCorrect, ByRound, ByMaster, ByDate, is_stepped, sets_time}
 use Rattle.tsp_promises.specs.Fits.{Fits, node_of}
-use Rattle.tsp_base.specs.History.{Acts, Did, Line, Seen, of, dids, view, seen_as, is_shared, plain}
-use Rattle.tsp_base.specs.Messages.{MessageValue}
-use Rattle.tsp_base.specs.PortFacts.{Received}
-use Rattle.tsp_base.specs.declared.datagram.Datagram.TheVariants.{Message}
-use Rattle.tsp_base.specs.declared.datagram.Taken.TheVariants.{Good}
-use Rattle.tsp_base.specs.declared.kind.Kind.TheVariants.{AdjTime}
-use Rattle.tsp_base.specs.declared.place.Place.{Place}
 use Rattle.tsp_promises.specs.Estimates.{Moves}
 use Rattle.tsp_promises.specs.Moderate.{AdjTimeNear, Agrees, MeanNear, Moderate, ModerateAt, ModerateClocks, OwnNear, PeerCorrects, PeerNear, WithMajority, estimates_of}
-use Rattle.tsp_base.specs.NodeFacts.{time_of, eased, last_correct, rest, rest_at, shown, target}
-use Rattle.tsp_base.specs.RoundFacts.{Sampled, best}
 use Rattle.tsp_promises.specs.RoundFits.{group_mean}
 use Rattle.tsp_promises.specs.Setting.{Setting, setup_of}
-use Rattle.tsp_base.specs.Setup.{Setup}
-use Rattle.tsp_base.specs.Takings.{peer_of, time_in, heard}
-use Rattle.tsp_base.specs.Ticks.{width}
 use Rattle.tsp_base.proofs.ViewPlaces.{or-false, port-same}
 use Rattle.tsp_promises.proofs.BestProof.{some-is}
 use Rattle.tsp_promises.proofs.CastProof.{amount-adj, corrects-adj}

@@ -2,16 +2,8 @@
 use Rattle.std.specs.Prelude.{◌≡◌, ◌≤◌, ◌<◌, ℕ, ◌+◌, ◌==◌, true, List, [], ◌∷◌, ◌++◌, length, refl}
 use Rattle.std.proofs.Common.{sym, subst, inl, ap, arith, true≢false, ◌∙◌}
 use Rattle.std.proofs.lemmas.Bool.{or_right}
-use Rattle.tsp_base.specs.declared.act.Act.TheVariants.{Boot, Become, Arm}
-use Rattle.tsp_base.specs.declared.alarm.Alarm.TheVariants.{Quiet}
-use Rattle.tsp_base.specs.declared.constants.TheConstants.{QUIET}
-use Rattle.tsp_base.specs.declared.place.Port.{Port}
-use Rattle.tsp_base.specs.declared.role.Role.TheVariants.{Starting}
-use Rattle.tsp_base.specs.History.{Step, Begins, Acts, Here, Past, plain, view, seen_as}
-use Rattle.tsp_base.specs.Joins.{first_port, line_of}
-use Rattle.tsp_base.specs.NodeFacts.{boot_tick}
-use Rattle.tsp_base.specs.PortFacts.{role}
-use Rattle.tsp_base.specs.Rows.{grown, in_step, puts, ◌followed_by◌, arms, placed}
+use Rattle.tsp_rules.specs.Values.{Boot, Become, Arm, Quiet, Port, Starting, QUIET}
+use Rattle.tsp_base.specs.Words.{Step, Begins, Acts, Here, Past, plain, view, seen_as, first_port, line_of, boot_tick, role, grown, in_step, puts, ◌followed_by◌, arms, placed}
 use Rattle.tsp_rules.specs.GateRows.{ports_from, boots_on, boots_all, NodeGiven, NodeTurn, GotOn, answers_all}
 use Rattle.tsp_rules.specs.NodeRows.{NodePast, port_setup, on_port, spread, in_node_step, nothing_at_all, on, ◌and_then◌, reading_all, for_ports}
 use Rattle.tsp_rules.proofs.NodeRowLemmas.{spread_append}

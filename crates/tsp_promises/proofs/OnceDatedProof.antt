@@ -1,29 +1,14 @@
 -- No two Corrects take posts of one date that is passed on, and so of no send.
 use Rattle.std.specs.Prelude.{◌≡◌, ◌≢◌, ◌==◌, ◌≤◌, Bool, true, false, ℕ, ◌+◌, ℤ, List, ◌∷◌, refl}
 use Rattle.std.proofs.Common.{sym, ap, arith, subst, subst₂, inl, inr, eq-eqb, eqb-true, true≢false, ◌∙◌}
-use Rattle.tsp_base.specs.declared.act.Act.TheVariants.{Correct, Post}
-use Rattle.tsp_base.specs.declared.constants.TheConstants.{LIFE, QUIET, REUSE}
-use Rattle.tsp_base.specs.declared.datagram.Datagram.TheVariants.{Message}
-use Rattle.tsp_base.specs.declared.kind.Kind.{Kind}
-use Rattle.tsp_base.specs.declared.kind.Kind.TheVariants.{Date, DateReq, SetDate, SetDateReq}
-use Rattle.tsp_base.specs.declared.place.PeerId.{PeerId}
-use Rattle.tsp_base.specs.declared.place.Place.TheVariants.{Peer}
-use Rattle.tsp_base.specs.declared.place.Port.{Port}
+use Rattle.tsp_rules.specs.Values.{Post, Correct, Message, Kind, Date, DateReq, SetDate, SetDateReq, PeerId, Peer, Port, LIFE, QUIET, REUSE}
+use Rattle.tsp_base.specs.Words.{Acts, Did, Line, Seen, Here, of, dids, view, is_shared, MessageValue, boot_tick, lives, Within, acting, is_correction, is_date_request, is_numbered, is_set_date_request, sets_date, Setup, Receives, peer_of, tick_at}
 use Rattle.tsp_promises.specs.DateFits.{PassOnFits}
 use Rattle.tsp_promises.specs.DeedFits.{MessageFits}
 use Rattle.tsp_promises.specs.Fits.{Fits, LineFits, node_of}
-use Rattle.tsp_base.specs.History.{Acts, Did, Line, Seen, Here, of, dids, view, is_shared}
-use Rattle.tsp_base.specs.Messages.{MessageValue}
-use Rattle.tsp_base.specs.NodeFacts.{boot_tick, lives}
 use Rattle.tsp_promises.specs.Once.{ActsOn, OfSend, OnceAt, OnceTaken}
-use Rattle.tsp_base.specs.Places.{Within}
-use Rattle.tsp_base.specs.PortFacts.{acting}
 use Rattle.tsp_promises.specs.Premises.{Honest, HonestAt, Life, TakenWithinAt}
-use Rattle.tsp_base.specs.SendFacts.{is_correction, is_date_request, is_numbered, is_set_date_request, sets_date}
 use Rattle.tsp_promises.specs.Setting.{Setting, setup_of}
-use Rattle.tsp_base.specs.Setup.{Setup}
-use Rattle.tsp_base.specs.Takings.{Receives, peer_of}
-use Rattle.tsp_base.specs.Ticks.{tick_at}
 use Rattle.tsp_promises.proofs.EverywhereLemmas.{Everywhere-from, Everywhere-within}
 use Rattle.tsp_base.proofs.PlaceLemmas.{Within-through, Within-tail, Within-comparable}
 use Rattle.tsp_base.proofs.ViewPlaces.{sees-own}

@@ -1,11 +1,9 @@
 -- Corrects of a node stand apart.
 use Rattle.std.specs.Prelude.{◌≡◌, ◌≤◌, ◌+◌, List, ◌∷◌, refl}
 use Rattle.std.proofs.Common.{arith, subst}
-use Rattle.tsp_base.specs.declared.act.Act.TheVariants.{Correct}
-use Rattle.tsp_base.specs.declared.constants.TheConstants.{GAP}
+use Rattle.tsp_rules.specs.Values.{Correct, GAP}
+use Rattle.tsp_base.specs.Words.{Acts, Line, of, dids, last_correct}
 use Rattle.tsp_promises.specs.Fits.{Fits, node_of}
-use Rattle.tsp_base.specs.History.{Acts, Line, of, dids}
-use Rattle.tsp_base.specs.NodeFacts.{last_correct}
 use Rattle.tsp_promises.specs.Once.{SpacedAt, SpacedOverLivesAt, OnceSpaced, OnceSpacedOverLives}
 use Rattle.tsp_promises.specs.Setting.{Setting}
 use Rattle.tsp_promises.proofs.EverywhereLemmas.{Everywhere-from}

@@ -1,23 +1,13 @@
 -- No two Corrects take posts of one correction.
 use Rattle.std.specs.Prelude.{◌≡◌, true, ℕ, ◌+◌, ◌≤◌, ℤ, List, ◌∷◌, refl}
 use Rattle.std.proofs.Common.{sym, ap, arith, subst, ◌∙◌}
-use Rattle.tsp_base.specs.declared.act.Act.TheVariants.{Post, Correct}
-use Rattle.tsp_base.specs.declared.constants.TheConstants.{LIFE, QUIET}
-use Rattle.tsp_base.specs.declared.datagram.Datagram.TheVariants.{Message}
-use Rattle.tsp_base.specs.declared.place.PeerId.{PeerId}
-use Rattle.tsp_base.specs.declared.place.Place.TheVariants.{Peer}
+use Rattle.tsp_rules.specs.Values.{Post, Correct, Message, PeerId, Peer, LIFE, QUIET}
+use Rattle.tsp_base.specs.Words.{Acts, Did, Line, Seen, Here, of, dids, view, MessageValue, boot_tick, ticket, Within, is_correction, is_numbered, peer_of, tick_at}
 use Rattle.tsp_promises.specs.CorrectFits.{CorrectFits}
 use Rattle.tsp_promises.specs.Fits.{Fits, node_of}
-use Rattle.tsp_base.specs.History.{Acts, Did, Line, Seen, Here, of, dids, view}
-use Rattle.tsp_base.specs.Messages.{MessageValue}
-use Rattle.tsp_base.specs.NodeFacts.{boot_tick, ticket}
 use Rattle.tsp_promises.specs.Once.{ActsOn, OfSend, OnceAt, OnceCorrected}
-use Rattle.tsp_base.specs.Places.{Within}
 use Rattle.tsp_promises.specs.Premises.{Life, TakenWithinAt}
-use Rattle.tsp_base.specs.SendFacts.{is_correction, is_numbered}
 use Rattle.tsp_promises.specs.Setting.{Setting, setup_of}
-use Rattle.tsp_base.specs.Takings.{peer_of}
-use Rattle.tsp_base.specs.Ticks.{tick_at}
 use Rattle.tsp_promises.proofs.EverywhereLemmas.{Everywhere-from, Everywhere-within}
 use Rattle.tsp_base.proofs.Views.{plain_view}
 use Rattle.tsp_promises.proofs.Clocks.{near}

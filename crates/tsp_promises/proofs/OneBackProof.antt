@@ -1,23 +1,13 @@
 -- No node backs two candidates within the hold.
 use Rattle.std.specs.Prelude.{◌≡◌, ◌≤◌, ◌+◌, false, List, ◌∷◌}
 use Rattle.std.proofs.Common.{arith, subst, inl, inr, ◌∙◌}
-use Rattle.tsp_base.specs.declared.act.Act.TheVariants.{Back, Post}
-use Rattle.tsp_base.specs.declared.constants.TheConstants.{QUIET}
-use Rattle.tsp_base.specs.declared.datagram.Datagram.TheVariants.{Message}
-use Rattle.tsp_base.specs.declared.kind.Kind.{Kind}
-use Rattle.tsp_base.specs.declared.kind.Kind.TheVariants.{Accept, Election}
-use Rattle.tsp_base.specs.declared.place.PeerId.{PeerId}
-use Rattle.tsp_base.specs.declared.place.Place.{Place}
-use Rattle.tsp_base.specs.declared.place.Place.TheVariants.{Peer, Stranger}
+use Rattle.tsp_rules.specs.Values.{Post, Back, Message, Kind, Accept, Election, PeerId, Place, Peer, Stranger, QUIET}
+use Rattle.tsp_base.specs.Words.{Acts, Did, Line, Seen, of, dids, view, is_shared, MessageValue, boot_tick, Setup}
 use Rattle.tsp_promises.specs.DeedFits.{MessageFits, PostFits, StrangerFits}
 use Rattle.tsp_promises.specs.Fits.{Fits, Finished, Sees, node_of}
-use Rattle.tsp_base.specs.History.{Acts, Did, Line, Seen, of, dids, view, is_shared}
 use Rattle.tsp_promises.specs.HoldFits.{AcceptFits}
-use Rattle.tsp_base.specs.Messages.{MessageValue}
-use Rattle.tsp_base.specs.NodeFacts.{boot_tick}
 use Rattle.tsp_promises.specs.OneBack.{HoldsAt, IsBacked, BacksAt, OneBack}
 use Rattle.tsp_promises.specs.Setting.{Setting, setup_of}
-use Rattle.tsp_base.specs.Setup.{Setup}
 use Rattle.tsp_promises.specs.StepFacts.{backed, is_unbacked}
 use Rattle.tsp_promises.proofs.EverywhereLemmas.{Everywhere-from}
 use Rattle.tsp_base.proofs.ViewPlaces.{sees-own}

@@ -1,22 +1,13 @@
 -- A clock is corrected only as it was measured.
 use Rattle.std.specs.Prelude.{◌≡◌, ◌⊎◌, ℕ, ◌+◌, ◌≤◌, List, ◌∷◌, Some, refl}
 use Rattle.std.proofs.Common.{sym, ap, arith, subst, inl, inr, ◌∙◌}
-use Rattle.tsp_base.specs.declared.act.Act.TheVariants.{Post}
-use Rattle.tsp_base.specs.declared.datagram.Datagram.TheVariants.{Message, Stamp}
-use Rattle.tsp_base.specs.declared.place.Place.TheVariants.{Peer}
-use Rattle.tsp_base.specs.declared.place.Port.{Port}
-use Rattle.tsp_base.specs.declared.stamp.Stamp.TheVariants.{Reply}
+use Rattle.tsp_rules.specs.Values.{Post, Message, Stamp, Peer, Port, Reply}
+use Rattle.tsp_base.specs.Words.{Acts, Did, Here, Line, of, dids, view, ticket, Within, Sampled, best, ReplyValue, Receives, Undisturbed, peer_of, posted}
 use Rattle.tsp_promises.specs.Agreed.{ReadingOf}
 use Rattle.tsp_promises.specs.CorrectionFits.{AnswersSlaveUp, AtClose}
 use Rattle.tsp_promises.specs.Fits.{node_of}
-use Rattle.tsp_base.specs.History.{Acts, Did, Here, Line, of, dids, view}
-use Rattle.tsp_base.specs.NodeFacts.{ticket}
 use Rattle.tsp_promises.specs.OneError.{FromSlaveUp, OneError, OneErrorAt, SourceReading, SourceSlaveUp, Taking}
-use Rattle.tsp_base.specs.Places.{Within}
-use Rattle.tsp_base.specs.RoundFacts.{Sampled, best}
 use Rattle.tsp_promises.specs.Setting.{Setting}
-use Rattle.tsp_base.specs.Stamps.{ReplyValue}
-use Rattle.tsp_base.specs.Takings.{Receives, Undisturbed, peer_of, posted}
 use Rattle.tsp_base.proofs.PlaceLemmas.{Within-all, Within-through, Within-tail}
 use Rattle.tsp_promises.proofs.BestProof.{best_at}
 use Rattle.tsp_promises.proofs.ClosedProof.{closed_at}

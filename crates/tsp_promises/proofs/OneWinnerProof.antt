@@ -2,23 +2,13 @@
 use Rattle.std.specs.Prelude.{◌≡◌, ◌≤◌, ◌<◌, ◌⊎◌, ℕ, ◌+◌, ◌*◌, true, false, List, ◌∷◌, length, Some, refl}
 use Rattle.std.proofs.Common.{sym, ap, arith, subst, inl, inr, ◌∙◌}
 use Rattle.std.proofs.lemmas.Bool.{cases_lt}
-use Rattle.tsp_base.specs.declared.act.Act.TheVariants.{Become, Back}
-use Rattle.tsp_base.specs.declared.constants.TheConstants.{ELECT_MIN}
-use Rattle.tsp_base.specs.declared.datagram.Datagram.TheVariants.{Message}
-use Rattle.tsp_base.specs.declared.place.PeerId.{PeerId}
-use Rattle.tsp_base.specs.declared.place.Port.{Port}
-use Rattle.tsp_base.specs.declared.role.Role.TheVariants.{Master}
+use Rattle.tsp_rules.specs.Values.{Become, Back, Message, PeerId, Port, Master, ELECT_MIN}
+use Rattle.tsp_base.specs.Words.{Acts, Did, Line, Seen, Here, of, dids, view, is_shared, boot_tick, lives, Within, backers, held, stood, Receives, peer_of, tick_at}
 use Rattle.tsp_promises.specs.Fits.{Fits, node_of}
-use Rattle.tsp_base.specs.History.{Acts, Did, Line, Seen, Here, of, dids, view, is_shared}
 use Rattle.tsp_promises.specs.HoldFits.{LeadFits}
-use Rattle.tsp_base.specs.NodeFacts.{boot_tick, lives}
-use Rattle.tsp_base.specs.Places.{Within}
 use Rattle.tsp_promises.specs.OneWinner.{OneWinner, WinsAt}
-use Rattle.tsp_base.specs.PortFacts.{backers, held, stood}
 use Rattle.tsp_promises.specs.Premises.{Few, Honest, Life}
 use Rattle.tsp_promises.specs.Setting.{Network, Setting, setup_of}
-use Rattle.tsp_base.specs.Takings.{Receives, peer_of}
-use Rattle.tsp_base.specs.Ticks.{tick_at}
 use Rattle.tsp_promises.proofs.EverywhereLemmas.{Everywhere-from}
 use Rattle.tsp_base.proofs.PlaceLemmas.{Within-all, Within-through, Within-tail, Within-comparable}
 use Rattle.tsp_base.proofs.Views.{plain_view}

@@ -1,26 +1,15 @@
 -- Only masters correct.
 use Rattle.std.specs.Prelude.{◌≡◌, ◌==◌, ◌||◌, ℕ, ℤ, Bool, true, false, List, ◌∷◌, refl}
 use Rattle.std.proofs.Common.{sym, ap, subst, true≢false}
-use Rattle.tsp_base.specs.declared.act.Act.TheVariants.{Post, Close, Correct}
-use Rattle.tsp_base.specs.declared.datagram.Datagram.TheVariants.{Message}
-use Rattle.tsp_base.specs.declared.kind.Kind.{Kind}
-use Rattle.tsp_base.specs.declared.kind.Kind.TheVariants.{Ack, AdjTime, DateAck, SetTime}
-use Rattle.tsp_base.specs.declared.place.PeerId.{PeerId}
-use Rattle.tsp_base.specs.declared.place.Place.{Place}
-use Rattle.tsp_base.specs.declared.place.Place.TheVariants.{Peer, Stranger}
-use Rattle.tsp_base.specs.declared.role.Role.TheVariants.{Master}
+use Rattle.tsp_rules.specs.Values.{Post, Close, Correct, Message, Kind, Ack, AdjTime, DateAck, SetTime, PeerId, Place, Peer, Stranger, Master}
+use Rattle.tsp_base.specs.Words.{Acts, Deed, Did, Line, Step, Seen, from_act, of, dids, view, seen_as, is_shared, MessageValue, role, is_correction, Setup}
 use Rattle.tsp_promises.specs.CorrectFits.{WhyCorrect, ByRound, ByMaster, ByDate}
 use Rattle.tsp_promises.specs.CorrectionFits.{CorrectionFits}
 use Rattle.tsp_promises.specs.DeedFits.{DeedFits, PostFits, MessageFits, StrangerFits}
 use Rattle.tsp_promises.specs.Fits.{Fits, LineFits, SameStep, node_of}
-use Rattle.tsp_base.specs.History.{Acts, Deed, Did, Line, Step, Seen, from_act, of, dids, view, seen_as, is_shared}
-use Rattle.tsp_base.specs.Messages.{MessageValue}
 use Rattle.tsp_promises.specs.OnlyMaster.{Leads, LeadsAt, OnlyMaster}
-use Rattle.tsp_base.specs.PortFacts.{role}
 use Rattle.tsp_promises.specs.RoundFits.{CloseFits}
-use Rattle.tsp_base.specs.SendFacts.{is_correction}
 use Rattle.tsp_promises.specs.Setting.{Setting, setup_of}
-use Rattle.tsp_base.specs.Setup.{Setup}
 use Rattle.tsp_promises.proofs.EverywhereLemmas.{Everywhere-from}
 use Rattle.tsp_promises.proofs.HistoryPlaces.{of-own}
 use Rattle.tsp_promises.proofs.OwnFitsProof.{fits_at}

@@ -3,11 +3,8 @@ use Rattle.std.specs.Prelude.{◌≡◌, ◌==◌, Bool, true, false, ℕ, ◌�
 use Rattle.std.proofs.Common.{sym, ap, ◌∙◌, arith, subst, inl, inr, eqb-true}
 use Rattle.tsp_promises.specs.DeedFits.{DeedFits}
 use Rattle.tsp_promises.specs.Fits.{Fits, LineFits, Alive, SameStep, node_of}
-use Rattle.tsp_base.specs.History.{Line, Deed, Begins, Acts, Step, of, dids, view}
-use Rattle.tsp_base.specs.NodeFacts.{time_of, tick_of, up}
-use Rattle.tsp_base.specs.Places.{Within}
+use Rattle.tsp_base.specs.Words.{Line, Deed, Begins, Acts, Step, of, dids, view, time_of, tick_of, up, Within, tick_at}
 use Rattle.tsp_promises.specs.Setting.{Setting, setup_of}
-use Rattle.tsp_base.specs.Ticks.{tick_at}
 use Rattle.tsp_promises.proofs.EverywhereLemmas.{Everywhere-within}
 use Rattle.tsp_promises.specs.OwnFits.{OwnFits, OwnLineFits}
 use Rattle.tsp_promises.proofs.Clocks.{tick-mono}

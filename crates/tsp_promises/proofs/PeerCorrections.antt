@@ -2,22 +2,10 @@
 use Rattle.std.specs.Prelude.{◌≡◌, ◌⊎◌, ◌≤◌, ℕ, ◌+◌, ℤ, pos, ◌-ℤ◌, Bool, true, false, if◌then◌else◌, List, [], ◌∷◌, map, Option, None, Some, refl}
 use Rattle.std.proofs.Common.{sym, inl, inr, ap, true≢false, ◌∙◌}
 use Rattle.std.proofs.lemmas.Bool.{and_parts}
-use Rattle.tsp_base.specs.declared.act.Act.TheVariants.{Post, Leave, Close as CloseAct}
-use Rattle.tsp_base.specs.declared.constants.TheConstants.{CLOSE, SLACK}
-use Rattle.tsp_base.specs.declared.datagram.Datagram.TheVariants.{Message}
-use Rattle.tsp_base.specs.declared.kind.Kind.TheVariants.{AdjTime, SetTime}
-use Rattle.tsp_base.specs.declared.place.PeerId.{PeerId}
-use Rattle.tsp_base.specs.declared.place.Place.TheVariants.{Peer}
-use Rattle.tsp_base.specs.declared.role.Role.TheVariants.{Master}
+use Rattle.tsp_rules.specs.Values.{Post, Close, Leave, Message, AdjTime, SetTime, PeerId, Peer, Master, CLOSE, SLACK}
+use Rattle.tsp_base.specs.Words.{Step, Did, Acts, Seen, Here, Past, plain, Leads, MessageValue, role, started, Sampled, best, Estimate, estimate_of, grown, nothing, reading, for_each, timed, posts_time, Undisturbed, time_in}
 use Rattle.tsp_promises.specs.CorrectionFits.{CorrectionFits, FollowedBy, SetsTarget}
-use Rattle.tsp_base.specs.History.{Step, Did, Acts, Seen, Here, Past, plain}
-use Rattle.tsp_base.specs.Leads.{Leads}
-use Rattle.tsp_base.specs.Messages.{MessageValue}
-use Rattle.tsp_base.specs.PortFacts.{role}
-use Rattle.tsp_base.specs.RoundFacts.{started, Sampled, best, Estimate, estimate_of}
-use Rattle.tsp_base.specs.Rows.{grown, nothing, reading, for_each, timed, posts_time}
 use Rattle.tsp_promises.specs.StepFacts.{closed}
-use Rattle.tsp_base.specs.Takings.{Undisturbed, time_in}
 use Rattle.tsp_base.proofs.LeadsLemmas.{Leads_then, Leads_either, Leads_reading, Leads_nothing, Leads_puts, Leads_from}
 use Rattle.tsp_rules.specs.RoundRows.{standing, is_near, corrects_by, corrects_peer}
 use Rattle.tsp_rules.specs.SendRows.{may_correct, begins_adjtime, may_set, begins_settime}
@@ -38,7 +26,7 @@ pub record CorrectingPeers (mean : ℤ) (close : Did) (before : List Seen) (x : 
   pub count : ℕ
   pub lo : ℤ
   pub size : ℤ
-  pub deed : close.deed ≡ Acts (CloseAct count lo size mean)
+  pub deed : close.deed ≡ Acts (Close count lo size mean)
   pub step_is : close.step ≡ past.step
   pub start : Did
   pub idle : List Seen

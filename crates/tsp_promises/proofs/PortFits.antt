@@ -4,9 +4,8 @@ use Rattle.std.proofs.Common.{subst, eqb-true}
 use Rattle.std.proofs.Math.Bool.{or-true}
 use Rattle.tsp_promises.specs.DeedFits.{DeedFits}
 use Rattle.tsp_promises.specs.Fits.{Fits, LineFits, Sees, node_of}
-use Rattle.tsp_base.specs.History.{Deed, Begins, Line, of, dids, view, is_shared, seen_as}
-use Rattle.tsp_base.specs.declared.place.Port.{Port}
-use Rattle.tsp_base.specs.NodeFacts.{tick_of}
+use Rattle.tsp_rules.specs.Values.{Port}
+use Rattle.tsp_base.specs.Words.{Deed, Begins, Line, of, dids, view, is_shared, seen_as, tick_of}
 use Rattle.tsp_promises.specs.Setting.{Setting, setup_of}
 use Rattle.tsp_base.proofs.ViewPlaces.{sees-own}
 use Rattle.tsp_promises.specs.OwnFits.{OwnFits}

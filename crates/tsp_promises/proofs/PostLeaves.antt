@@ -2,24 +2,9 @@
 use Rattle.std.specs.Prelude.{◌≡◌, ◌≤◌, ℕ, ◌+◌, ◌%◌, ◌^◌, ◌==◌, ◌&&◌, Bool, true, false, if◌then◌else◌, cond, List, [], ◌∷◌, Option, Some, refl}
 use Rattle.std.proofs.Common.{sym, subst, inl, inr, ap, ◌∙◌, true≢false}
 use Rattle.std.proofs.lemmas.Bool.{and_parts}
-use Rattle.tsp_base.specs.declared.act.Act.TheVariants.{Post}
-use Rattle.tsp_base.specs.declared.constants.TheConstants.{QUIET}
-use Rattle.tsp_base.specs.declared.datagram.Datagram.TheVariants.{Message, Stamp}
-use Rattle.tsp_base.specs.declared.kind.Kind.TheVariants.{Ack}
-use Rattle.tsp_base.specs.declared.place.PeerId.{PeerId}
-use Rattle.tsp_base.specs.declared.place.Place.{Place}
-use Rattle.tsp_base.specs.declared.place.Place.TheVariants.{Peer, Stranger}
-use Rattle.tsp_base.specs.declared.stamp.Stamp.TheVariants.{Request, Reply}
+use Rattle.tsp_rules.specs.Values.{Post, Message, Stamp, Ack, PeerId, Place, Peer, Stranger, Request, Reply, QUIET}
+use Rattle.tsp_base.specs.Words.{Acts, Did, Seen, Here, Past, plain, MessageValue, all_corrects, boot_tick, lives, word, is_among, Received, armed, acting, backers, asked, exchange, word_asked, grown, bare, is_numbered, message_at, open_to, ReplyValue}
 use Rattle.tsp_promises.specs.DeedFits.{PostFits, MessageFits, AskedEarly}
-use Rattle.tsp_base.specs.History.{Acts, Did, Seen, Here, Past, plain}
-use Rattle.tsp_base.specs.Messages.{MessageValue}
-use Rattle.tsp_base.specs.NodeFacts.{all_corrects, boot_tick, lives, word}
-use Rattle.tsp_base.specs.Peers.{is_among}
-use Rattle.tsp_base.specs.PortFacts.{Received, armed, acting, backers}
-use Rattle.tsp_base.specs.RoundFacts.{asked, exchange, word_asked}
-use Rattle.tsp_base.specs.Rows.{grown, bare}
-use Rattle.tsp_base.specs.SendFacts.{is_numbered, message_at, open_to}
-use Rattle.tsp_base.specs.Stamps.{ReplyValue}
 use Rattle.tsp_rules.specs.SendRows.{is_kind_election}
 use Rattle.tsp_promises.specs.PortFits.{setup_in}
 use Rattle.tsp_promises.specs.StepFacts.{acked_by}

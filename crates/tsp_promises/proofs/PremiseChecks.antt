@@ -2,17 +2,10 @@
 use Rattle.std.specs.Prelude.{◌≡◌, ◌==◌, ◌&&◌, ◌||◌, nat_le, nat_lt, cond, Bool, true, false, ℕ, ◌+◌, ℤ, List, [], ◌∷◌, refl}
 use Rattle.std.proofs.Common.{sym, arith, subst, subst₂, inl, inr, eqb-true, eq-eqb, true≢false}
 use Rattle.std.proofs.lemmas.Bool.{leb-true, ltb-true, or_left, or_right, and_parts}
-use Rattle.tsp_base.specs.declared.act.Act.TheVariants.{Boot, Post, Took}
-use Rattle.tsp_base.specs.declared.constants.TheConstants.{LIFE}
-use Rattle.tsp_base.specs.declared.datagram.Datagram.{Datagram}
-use Rattle.tsp_base.specs.declared.place.Place.{Place}
-use Rattle.tsp_base.specs.declared.place.Place.TheVariants.{Peer}
-use Rattle.tsp_base.specs.History.{Cause, Booted, Came, Handed, Acts, Deed, Line, dids, of, view}
+use Rattle.tsp_rules.specs.Values.{Boot, Took, Post, Datagram, Place, Peer, LIFE}
+use Rattle.tsp_base.specs.Words.{Cause, Booted, Came, Handed, Acts, Deed, Line, dids, of, view, Within, begun, posted}
 use Rattle.tsp_promises.specs.Fits.{Fits, node_of}
-use Rattle.tsp_base.specs.Places.{Within}
 use Rattle.tsp_promises.specs.Premises.{Few, Honest, Life, TakenWithinAt, Words, WordsAt}
-use Rattle.tsp_base.specs.SendFacts.{begun}
-use Rattle.tsp_base.specs.Takings.{posted}
 use Rattle.tsp_promises.specs.Kept.{Kept}
 use Rattle.tsp_promises.proofs.HistoriesFit.{all-finished, all_settled}
 use Rattle.tsp_promises.proofs.Histories.{still, post_at, post_here}

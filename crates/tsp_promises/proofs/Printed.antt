@@ -2,19 +2,8 @@
 use Rattle.std.specs.Prelude.{◌≡◌, ℕ, ◌-◌, ◌/◌, ℤ, pos, ◌+ℤ◌, ◌-ℤ◌, nat_lt, nat_abs, Bool, true, false, ◌||◌, if◌then◌else◌, List, ◌∷◌, Some, refl}
 use Rattle.std.proofs.Common.{sym, ap, arith, subst, ◌∙◌}
 use Rattle.std.proofs.lemmas.Int.{ints}
-use Rattle.tsp_base.specs.declared.act.Act.TheVariants.{Correct, Took}
-use Rattle.tsp_base.specs.declared.constants.TheConstants.{MAXADJ, SLEW}
-use Rattle.tsp_base.specs.declared.datagram.Datagram.TheVariants.{Message}
-use Rattle.tsp_base.specs.declared.datagram.Taken.TheVariants.{Good}
-use Rattle.tsp_base.specs.declared.kind.Kind.{Kind}
-use Rattle.tsp_base.specs.declared.kind.Kind.TheVariants.{SetTime}
-use Rattle.tsp_base.specs.declared.place.Place.{Place}
-use Rattle.tsp_base.specs.History.{Acts, Did, Here, Past, Seen, Step, plain}
-use Rattle.tsp_base.specs.Messages.{MessageValue}
-use Rattle.tsp_base.specs.NodeFacts.{base, eased, moved, rest, rest_at, shown, target}
-use Rattle.tsp_base.specs.PortFacts.{taken_after}
-use Rattle.tsp_base.specs.SendFacts.{sets_date}
-use Rattle.tsp_base.specs.Takings.{heard}
+use Rattle.tsp_rules.specs.Values.{Took, Correct, Message, Good, Kind, SetTime, Place, MAXADJ, SLEW}
+use Rattle.tsp_base.specs.Words.{Acts, Did, Here, Past, Seen, Step, plain, MessageValue, base, eased, moved, rest, rest_at, shown, target, taken_after, sets_date, heard}
 use Rattle.tsp_base.proofs.TickLemmas.{eased_none}
 use Rattle.tsp_promises.specs.CorrectFits.{is_stepped, sets_time}
 use Rattle.tsp_rules.specs.Guards.{target_at}

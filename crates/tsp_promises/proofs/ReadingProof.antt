@@ -1,21 +1,12 @@
 -- The reading of the sample that a Close used.
 use Rattle.std.specs.Prelude.{◌≡◌, ◌≤◌, ◌≤ℤ◌, ℕ, pos, ◌-ℤ◌, nat_abs, List, ◌∷◌, Some, refl}
 use Rattle.std.proofs.Common.{sym, ap, subst, subst₂, inl, ◌∙◌}
-use Rattle.tsp_base.specs.declared.act.Act.TheVariants.{Post, Sample}
-use Rattle.tsp_base.specs.declared.datagram.Datagram.{Datagram}
-use Rattle.tsp_base.specs.declared.place.PeerId.{PeerId}
-use Rattle.tsp_base.specs.declared.place.Place.{Place}
-use Rattle.tsp_base.specs.declared.place.Port.{Port}
+use Rattle.tsp_rules.specs.Values.{Post, Sample, Datagram, PeerId, Place, Port}
+use Rattle.tsp_base.specs.Words.{Came, Acts, Did, Line, Seen, Here, of, dids, view, plain, moved, ticket, Within, Sampled, best, started, ReplyValue, Undisturbed, peer_of, posted}
 use Rattle.tsp_promises.specs.ClockAt.{clock}
 use Rattle.tsp_promises.specs.Fits.{Fits, node_of}
-use Rattle.tsp_base.specs.History.{Came, Acts, Did, Line, Seen, Here, of, dids, view, plain}
-use Rattle.tsp_base.specs.NodeFacts.{moved, ticket}
-use Rattle.tsp_base.specs.Places.{Within}
 use Rattle.tsp_promises.specs.Premises.{Honest, Life}
-use Rattle.tsp_base.specs.RoundFacts.{Sampled, best, started}
 use Rattle.tsp_promises.specs.Setting.{Setting}
-use Rattle.tsp_base.specs.Stamps.{ReplyValue}
-use Rattle.tsp_base.specs.Takings.{Undisturbed, peer_of, posted}
 use Rattle.tsp_base.proofs.PlaceLemmas.{Within-tail}
 use Rattle.tsp_base.proofs.Views.{plain_view}
 use Rattle.tsp_promises.proofs.BestProof.{BestAt, best_at}

@@ -6,10 +6,9 @@ use Rattle.tsp_promises.specs.Agreed.{Cast}
 use Rattle.tsp_promises.specs.Chained.{ChainAgrees, Hop, Hops}
 use Rattle.tsp_promises.specs.ClockAt.{clock_at}
 use Rattle.tsp_promises.specs.Fits.{node_of}
-use Rattle.tsp_base.specs.History.{Line}
+use Rattle.tsp_base.specs.Words.{Line, width}
 use Rattle.tsp_promises.specs.Relayed.{RelayAgrees, Relayed}
 use Rattle.tsp_promises.specs.Setting.{Setting}
-use Rattle.tsp_base.specs.Ticks.{width}
 use Rattle.tsp_promises.proofs.ChainedProof.{chained_at}
 use Rattle.tsp_promises.proofs.EverywhereLemmas.{Everywhere-from}
 use Rattle.tsp_promises.proofs.Given.{Given, given_at}

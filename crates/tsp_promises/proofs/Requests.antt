@@ -1,21 +1,12 @@
 -- A request is named by its port and counter, in the life of its node.
 use Rattle.std.specs.Prelude.{◌≡◌, true, ℕ, ◌+◌, ◌%◌, ◌^◌, ◌<◌, ◌≤◌, ◌⊎◌, List, ◌∷◌, refl}
 use Rattle.std.proofs.Common.{sym, ap, arith, subst, inl, inr, ◌∙◌}
-use Rattle.tsp_base.specs.declared.act.Act.TheVariants.{Post}
-use Rattle.tsp_base.specs.declared.constants.TheConstants.{QUIET}
-use Rattle.tsp_base.specs.declared.datagram.Datagram.TheVariants.{Stamp}
-use Rattle.tsp_base.specs.declared.place.PeerId.{PeerId}
-use Rattle.tsp_base.specs.declared.place.Place.TheVariants.{Peer}
-use Rattle.tsp_base.specs.declared.stamp.Stamp.TheVariants.{Request}
+use Rattle.tsp_rules.specs.Values.{Post, Stamp, PeerId, Peer, Request, QUIET}
+use Rattle.tsp_base.specs.Words.{Acts, Line, of, dids, view, plain, boot_tick, lives, tick_of, up, word, Within, asked, tick_at}
 use Rattle.tsp_promises.specs.Fits.{Fits, LineFits, node_of}
-use Rattle.tsp_base.specs.History.{Acts, Line, of, dids, view, plain}
 use Rattle.tsp_promises.specs.MeasureFits.{RequestFits}
-use Rattle.tsp_base.specs.NodeFacts.{boot_tick, lives, tick_of, up, word}
-use Rattle.tsp_base.specs.Places.{Within}
 use Rattle.tsp_promises.specs.Premises.{OwnWords, OwnWordsAt}
-use Rattle.tsp_base.specs.RoundFacts.{asked}
 use Rattle.tsp_promises.specs.Setting.{Setting}
-use Rattle.tsp_base.specs.Ticks.{tick_at}
 use Rattle.tsp_promises.proofs.EverywhereLemmas.{Everywhere-within}
 use Rattle.tsp_base.proofs.PlaceLemmas.{Within-all, Within-tail, Within-comparable}
 use Rattle.tsp_base.proofs.Views.{plain_view}

@@ -1,23 +1,14 @@
 -- A rival that takes Quit stops being master.
 use Rattle.std.specs.Prelude.{◌≡◌, ◌≤◌, ◌⊎◌, ℕ, ◌+◌, ◌==◌, ◌&&◌, not, Bool, true, false, if◌then◌else◌, List, [], ◌∷◌, Option, None, Some, refl}
 use Rattle.std.proofs.Common.{arith, sym, ap, subst, inl, inr, eq-eqb, ◌∙◌}
-use Rattle.tsp_base.specs.declared.act.Act.TheVariants.{Become, Quit, Took}
-use Rattle.tsp_base.specs.declared.constants.TheConstants.{ELECT_MIN}
-use Rattle.tsp_base.specs.declared.place.PeerId.{PeerId}
-use Rattle.tsp_base.specs.declared.place.Port.{Port}
-use Rattle.tsp_base.specs.declared.role.Role.{Role}
-use Rattle.tsp_base.specs.declared.role.Role.TheVariants.{Master}
+use Rattle.tsp_rules.specs.Values.{Took, Become, Quit, PeerId, Port, Role, Master, ELECT_MIN}
+use Rattle.tsp_base.specs.Words.{Begins, Acts, Deed, Did, Line, Seen, Here, Elsewhere, of, dids, view, is_shared, boot_tick, is_among, message_in, role, role_after, said_by, Setup}
 use Rattle.tsp_promises.specs.DeedFits.{DeedFits}
 use Rattle.tsp_promises.specs.Fits.{Fits, Finished, Sees, node_of}
-use Rattle.tsp_base.specs.History.{Begins, Acts, Deed, Did, Line, Seen, Here, Elsewhere, of, dids, view, is_shared}
-use Rattle.tsp_base.specs.NodeFacts.{boot_tick}
-use Rattle.tsp_base.specs.Peers.{is_among}
-use Rattle.tsp_base.specs.PortFacts.{message_in, role, role_after, said_by}
 use Rattle.tsp_promises.specs.PortFits.{PortFits}
 use Rattle.tsp_promises.specs.QuitFits.{QuitFits}
 use Rattle.tsp_promises.specs.Resolved.{YieldsAt, Yields, YieldsTaken, YieldsTakenAt, QuietAt, StaysQuiet}
 use Rattle.tsp_promises.specs.Setting.{Setting, setup_of}
-use Rattle.tsp_base.specs.Setup.{Setup}
 use Rattle.tsp_promises.specs.StepFacts.{StepEnds, if_master, is_quit, owes, owes_after, quit_by, quits_master, quits_master_after, unheeded, unheeded_after, unless_starting}
 use Rattle.tsp_promises.proofs.EverywhereLemmas.{Everywhere-from}
 use Rattle.tsp_base.proofs.ViewPlaces.{sees-own}

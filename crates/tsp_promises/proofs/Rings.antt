@@ -1,21 +1,10 @@
 -- What alarms make of what is known of a port.
 use Rattle.std.specs.Prelude.{◌≡◌, ◌≢◌, ◌⊎◌, ◌≤◌, ℕ, ◌+◌, Bool, true, false, List, [], ◌∷◌, Option, None, refl}
 use Rattle.std.proofs.Common.{sym, inl, inr, ◌∙◌}
-use Rattle.tsp_base.specs.declared.act.Act.{Act}
-use Rattle.tsp_base.specs.declared.act.Act.TheVariants.{Ring, Late}
-use Rattle.tsp_base.specs.declared.alarm.Alarm.TheVariants.{Quiet, Search, Elect, Window, Probe, Close, Resolve, Round}
-use Rattle.tsp_base.specs.declared.constants.TheConstants.{QUIET}
-use Rattle.tsp_base.specs.declared.place.PeerId.{PeerId}
-use Rattle.tsp_base.specs.declared.role.Role.{Role}
-use Rattle.tsp_base.specs.declared.role.Role.TheVariants.{Starting}
+use Rattle.tsp_rules.specs.Values.{Act, Ring, Late, Quiet, Window, Elect, Search, Round, Probe, CloseAlarm, ResolveAlarm, PeerId, Role, Starting, QUIET}
+use Rattle.tsp_base.specs.Words.{Seen, Past, plain, boot_tick, Received, role, armed, acting, taken, grown, open_to, heard}
 use Rattle.tsp_promises.specs.DeedFits.{ActFits}
-use Rattle.tsp_base.specs.History.{Seen, Past, plain}
-use Rattle.tsp_base.specs.NodeFacts.{boot_tick}
-use Rattle.tsp_base.specs.PortFacts.{Received, role, armed, acting, taken}
-use Rattle.tsp_base.specs.Rows.{grown}
-use Rattle.tsp_base.specs.SendFacts.{open_to}
 use Rattle.tsp_promises.specs.StepFacts.{is_unbacked, owes, unacknowledged}
-use Rattle.tsp_base.specs.Takings.{heard}
 use Rattle.tsp_promises.specs.PortFits.{setup_in}
 use Rattle.tsp_promises.proofs.Known.{Sleeps, Quiets, KnowsOf, During, Open, OpenIn, Untaken, Free}
 use Rattle.tsp_promises.proofs.Leaves.{then_seen, made, none-some, nil-cons}
@@ -56,11 +45,11 @@ module _ {x : ℕ} {past : Past} where
   pub late_elect : boot_tick (plain past.seen) + QUIET ≤ x → Open x past → Free Untaken x (grown x past (Late Elect ∷ []))
   late_elect r h = let k = h.knows in rang (Late Elect) tt (record { times = k.times; quiet = awake_quiets r (armed past.seen).search None (armed past.seen).resolve h; vote = k.vote; round = k.round }) r h.backs h.owed h.paid refl h.took h
 
-  pub ring_resolve : boot_tick (plain past.seen) + QUIET ≤ x → Open x past → Free Untaken x (grown x past (Ring Resolve ∷ []))
-  ring_resolve r h = let k = h.knows in rang (Ring Resolve) tt (record { times = k.times; quiet = awake_quiets r (armed past.seen).search (armed past.seen).elect None h; vote = k.vote; round = k.round }) r h.backs h.owed h.paid refl h.took h
+  pub ring_resolve : boot_tick (plain past.seen) + QUIET ≤ x → Open x past → Free Untaken x (grown x past (Ring ResolveAlarm ∷ []))
+  ring_resolve r h = let k = h.knows in rang (Ring ResolveAlarm) tt (record { times = k.times; quiet = awake_quiets r (armed past.seen).search (armed past.seen).elect None h; vote = k.vote; round = k.round }) r h.backs h.owed h.paid refl h.took h
 
-  pub late_resolve : boot_tick (plain past.seen) + QUIET ≤ x → Open x past → Free Untaken x (grown x past (Late Resolve ∷ []))
-  late_resolve r h = let k = h.knows in rang (Late Resolve) tt (record { times = k.times; quiet = awake_quiets r (armed past.seen).search (armed past.seen).elect None h; vote = k.vote; round = k.round }) r h.backs h.owed h.paid refl h.took h
+  pub late_resolve : boot_tick (plain past.seen) + QUIET ≤ x → Open x past → Free Untaken x (grown x past (Late ResolveAlarm ∷ []))
+  late_resolve r h = let k = h.knows in rang (Late ResolveAlarm) tt (record { times = k.times; quiet = awake_quiets r (armed past.seen).search (armed past.seen).elect None h; vote = k.vote; round = k.round }) r h.backs h.owed h.paid refl h.took h
 
   pub ring_quiet : boot_tick (plain past.seen) + QUIET ≤ x → Open x past → Free Untaken x (grown x past (Ring Quiet ∷ []))
   ring_quiet r h = let k = h.knows in rang (Ring Quiet) tt (record { times = k.times; quiet = record { rested = inr r; silent = λ n e. none-some n e }; vote = k.vote; round = k.round }) r h.backs h.owed h.paid refl h.took h
@@ -83,8 +72,8 @@ module _ {x : ℕ} {past : Past} where
   pub late_probe : boot_tick (plain past.seen) + QUIET ≤ x → Open x past → Free Untaken x (grown x past (Late Probe ∷ []))
   late_probe r h = let k = h.knows in rang (Late Probe) tt (record { times = k.times; quiet = k.quiet; vote = k.vote; round = record { rounds = k.round.rounds; probing = λ n e. none-some n e; closes = k.round.closes; exchanges = k.round.exchanges } }) r h.backs h.owed h.paid refl h.took h
 
-  pub ring_close : (armed past.seen).probe ≡ None → boot_tick (plain past.seen) + QUIET ≤ x → Open x past → Free Untaken x (grown x past (Ring Close ∷ []))
-  ring_close unprobed r h = let k = h.knows in rang (Ring Close) tt (record { times = k.times; quiet = k.quiet; vote = k.vote; round = record { rounds = k.round.rounds; probing = λ n e. none-some n (sym unprobed ∙ e); closes = λ calm n e. none-some n e; exchanges = λ p i s older e. nil-cons s older e } }) r h.backs h.owed h.paid refl h.took h
+  pub ring_close : (armed past.seen).probe ≡ None → boot_tick (plain past.seen) + QUIET ≤ x → Open x past → Free Untaken x (grown x past (Ring CloseAlarm ∷ []))
+  ring_close unprobed r h = let k = h.knows in rang (Ring CloseAlarm) tt (record { times = k.times; quiet = k.quiet; vote = k.vote; round = record { rounds = k.round.rounds; probing = λ n e. none-some n (sym unprobed ∙ e); closes = λ calm n e. none-some n e; exchanges = λ p i s older e. nil-cons s older e } }) r h.backs h.owed h.paid refl h.took h
 
-  pub late_close : (armed past.seen).probe ≡ None → boot_tick (plain past.seen) + QUIET ≤ x → Open x past → Free Untaken x (grown x past (Late Close ∷ []))
-  late_close unprobed r h = let k = h.knows in rang (Late Close) tt (record { times = k.times; quiet = k.quiet; vote = k.vote; round = record { rounds = k.round.rounds; probing = λ n e. none-some n (sym unprobed ∙ e); closes = λ calm n e. none-some n e; exchanges = λ p i s older e. nil-cons s older e } }) r h.backs h.owed h.paid refl h.took h
+  pub late_close : (armed past.seen).probe ≡ None → boot_tick (plain past.seen) + QUIET ≤ x → Open x past → Free Untaken x (grown x past (Late CloseAlarm ∷ []))
+  late_close unprobed r h = let k = h.knows in rang (Late CloseAlarm) tt (record { times = k.times; quiet = k.quiet; vote = k.vote; round = record { rounds = k.round.rounds; probing = λ n e. none-some n (sym unprobed ∙ e); closes = λ calm n e. none-some n e; exchanges = λ p i s older e. nil-cons s older e } }) r h.backs h.owed h.paid refl h.took h

@@ -2,26 +2,10 @@
 use Rattle.std.specs.Prelude.{◌≡◌, ◌≢◌, ℕ, ◌+◌, ◌==◌, ◌||◌, ℤ, Bool, true, false, [], ◌∷◌, Option, refl}
 use Rattle.std.proofs.Common.{sym, subst, inl, true≢false, ◌∙◌}
 use Rattle.std.proofs.lemmas.Bool.{and_parts}
-use Rattle.tsp_base.specs.declared.act.Act.TheVariants.{Post, Join, Rival}
-use Rattle.tsp_base.specs.declared.alarm.Alarm.TheVariants.{Resolve as ResolveAlarm}
-use Rattle.tsp_base.specs.declared.constants.TheConstants.{WINDOW}
-use Rattle.tsp_base.specs.declared.datagram.Datagram.TheVariants.{Message}
-use Rattle.tsp_base.specs.declared.datagram.Taken.TheVariants.{Good}
-use Rattle.tsp_base.specs.declared.kind.Kind.{Kind}
-use Rattle.tsp_base.specs.declared.kind.Kind.TheVariants.{AdjTime, Ack, MasterReq, MasterAck, SetTime, MasterUp, SlaveUp, Election, Accept, Refuse, Conflict, Resolve, Quit}
-use Rattle.tsp_base.specs.declared.place.PeerId.{PeerId}
-use Rattle.tsp_base.specs.declared.place.Place.TheVariants.{Peer}
-use Rattle.tsp_base.specs.declared.role.Role.{Role}
-use Rattle.tsp_base.specs.declared.role.Role.TheVariants.{Candidate, Master}
+use Rattle.tsp_rules.specs.Values.{Post, Join, Rival, ResolveAlarm, Message, Good, Kind, Accept, Ack, AdjTime, Conflict, Election, MasterAck, MasterReq, MasterUp, QuitKind, Refuse, ResolveKind, SetTime, SlaveUp, PeerId, Peer, Role, Candidate, Master, WINDOW}
+use Rattle.tsp_base.specs.Words.{Past, Leads, MessageValue, is_among, Received, role, nothing, puts, ◌followed_by◌, either_by, reading, arms, bare, timed, posts, posts_to_others, posts_time, time_in}
 use Rattle.tsp_promises.specs.AckFits.{Answers}
 use Rattle.tsp_promises.specs.CorrectionFits.{CorrectionFits, SetsTarget}
-use Rattle.tsp_base.specs.History.{Past}
-use Rattle.tsp_base.specs.Leads.{Leads}
-use Rattle.tsp_base.specs.Messages.{MessageValue}
-use Rattle.tsp_base.specs.Peers.{is_among}
-use Rattle.tsp_base.specs.PortFacts.{Received, role}
-use Rattle.tsp_base.specs.Rows.{nothing, puts, ◌followed_by◌, either_by, reading, arms, bare, timed, posts, posts_to_others, posts_time}
-use Rattle.tsp_base.specs.Takings.{time_in}
 use Rattle.tsp_base.proofs.LeadsLemmas.{Leads_then, Leads_either, Leads_reading, Leads_nothing, Leads_puts, Leads_from, Leads_to}
 use Rattle.tsp_rules.specs.CandidateRows.{candidate_takes_kind}
 use Rattle.tsp_rules.specs.CommonRows.{quits}
@@ -55,14 +39,14 @@ module _ {p : PeerId} {m : MessageValue} where
   acknowledged k = Leads_from (λ x past h. h.0.just.free) (Leads_to (λ x past h. rests_of h) (acknowledges_lead k))
 
   -- by the kind of the message
-  pub slave_leads : (r : Role) → r ≢ Candidate → (m.kind ≡ Quit → Leads (HeardIn p m r) (quits p m.number) Rests) → (k : Kind) → m.kind ≡ k → Leads (HeardIn p m r) (slave_takes_kind p m k) Rests
+  pub slave_leads : (r : Role) → r ≢ Candidate → (m.kind ≡ QuitKind → Leads (HeardIn p m r) (quits p m.number) Rests) → (k : Kind) → m.kind ≡ k → Leads (HeardIn p m r) (slave_takes_kind p m k) Rests
   unfolding slave_takes_kind
   slave_leads r other quit MasterUp e = Leads_reading role_at (masterup_in p) (λ a. Leads_from (λ x past h. h.0.0) (masterup_leads a))
   slave_leads r other quit MasterAck e = Leads_reading role_at (masterack_in p) (λ a. Leads_from (λ x past h. h.0.0) (masterack_leads a))
   slave_leads r other quit Election e = election_leads p m e other
   slave_leads r other quit AdjTime e = Leads_reading role_at (from_master p (adjtime_of p m.number (time_in m.body))) (λ a. Leads_from (λ x past h. (h.0.0, h.1)) (from_master_leads (adjtime_of p m.number (time_in m.body)) (adjtime_leads e) a))
   slave_leads r other quit SetTime e = Leads_reading role_at (from_master p (settime_of p m.number (time_in m.body))) (λ a. Leads_from (λ x past h. (h.0.0, h.1)) (from_master_leads (settime_of p m.number (time_in m.body)) (settime_leads e) a))
-  slave_leads r other quit Quit e = quit e
+  slave_leads r other quit QuitKind e = quit e
   slave_leads r other quit Ack e = acknowledged e
   slave_leads r other quit _ e = idle_heard (λ x past h. h.0)
 
@@ -74,7 +58,7 @@ module _ {p : PeerId} {m : MessageValue} where
   candidate_leads Election e = Leads_posts p Refuse m.number (λ x past h. rests_of (post_message p (bare Refuse m.number past.name) refl tt h.0.just.free))
   candidate_leads Accept e = Leads_from (λ x past h. h.0) (accepted_lead e)
   candidate_leads Refuse e = refused_lead
-  candidate_leads Quit e = quits_lead Candidate [] (λ q i. let bad : ⊥ = cc in absurd bad) refl (λ q i. none-among q refl i) e
+  candidate_leads QuitKind e = quits_lead Candidate [] (λ q i. let bad : ⊥ = cc in absurd bad) refl (λ q i. none-among q refl i) e
   candidate_leads Ack e = acknowledged e
   candidate_leads _ e = idle_heard (λ x past h. h.0)
 
@@ -111,17 +95,17 @@ module _ {p : PeerId} {m : MessageValue} where
 
   pub sends_away_leads : Leads (Heard p (Good (Message m))) (sends_away p) Rests
   unfolding sends_away
-  sends_away_leads = Leads_either (has_quit p) nothing (begins Quit p)
+  sends_away_leads = Leads_either (has_quit p) nothing (begins QuitKind p)
       (idle_heard (λ x past h. h.0))
       (Leads_from (λ x past h. h.0.just.free) (Leads_to (λ x past h. rests_of h) (begins_quit p)))
 
   pub resolves_free : Leads (Free (Says p m)) resolves Rests
   unfolding resolves
-  resolves_free = Leads_either (is_armed ResolveAlarm) nothing (arms ResolveAlarm WINDOW followed_by posts_to_others Resolve 0)
+  resolves_free = Leads_either (is_armed ResolveAlarm) nothing (arms ResolveAlarm WINDOW followed_by posts_to_others ResolveKind 0)
       (Leads_from (λ x past h. rests_of h.0) Leads_nothing)
-      (Leads_then {Q = Free (Says p m)} (arms ResolveAlarm WINDOW) (posts_to_others Resolve 0)
+      (Leads_then {Q = Free (Says p m)} (arms ResolveAlarm WINDOW) (posts_to_others ResolveKind 0)
       (Leads_arms ResolveAlarm WINDOW (λ x past h. arm_resolve (x + WINDOW) h.0))
-      (Leads_to (λ x past h. rests_of h) (Leads_others Resolve 0 (λ x past q h. post_message q (bare Resolve 0 past.name) refl tt h))))
+      (Leads_to (λ x past h. rests_of h) (Leads_others ResolveKind 0 (λ x past q h. post_message q (bare ResolveKind 0 past.name) refl tt h))))
 
   pub finds_rival_leads : Leads (Heard p (Good (Message m))) (finds_rival p) Rests
   unfolding finds_rival
@@ -140,12 +124,12 @@ module _ {p : PeerId} {m : MessageValue} where
   pub master_leads : (k : Kind) → m.kind ≡ k → Leads (HeardIn p m Master) (master_takes_kind p m k) Rests
   unfolding master_takes_kind
   master_leads MasterReq e = Leads_from (λ x past h. h.0) answers_master
-  master_leads Resolve e = Leads_from (λ x past h. h.0) answers_master
+  master_leads ResolveKind e = Leads_from (λ x past h. h.0) answers_master
   master_leads SlaveUp e = joins_lead e
   master_leads Election e = Leads_from (λ x past h. h.0) sends_away_leads
   master_leads MasterUp e = Leads_from (λ x past h. h.0.just.free) resolves_free
   master_leads Conflict e = Leads_from (λ x past h. h.0) (conflict_leads e)
   master_leads MasterAck e = Leads_from (λ x past h. h.0) finds_rival_leads
-  master_leads Quit e = quits_lead Master (p ∷ []) (λ q i. let bad : ⊥ = cc in absurd bad) refl (λ q i. one-among q i) e
+  master_leads QuitKind e = quits_lead Master (p ∷ []) (λ q i. let bad : ⊥ = cc in absurd bad) refl (λ q i. one-among q i) e
   master_leads Ack e = acknowledged e
   master_leads _ e = idle_heard (λ x past h. h.0)

@@ -1,19 +1,8 @@
 -- A round's beginning and its probes keep what is known of a port.
 use Rattle.std.specs.Prelude.{◌≡◌, ◌≤◌, ◌<◌, ℕ, ◌+◌, ◌*◌, Bool, true, false, List, [], ◌∷◌, None, Some, refl}
 use Rattle.std.proofs.Common.{sym, subst, arith, ◌∙◌, leb-false, ltb-true}
-use Rattle.tsp_base.specs.declared.act.Act.TheVariants.{Arm, Ring, Late, Abandon}
-use Rattle.tsp_base.specs.declared.alarm.Alarm.{Alarm}
-use Rattle.tsp_base.specs.declared.alarm.Alarm.TheVariants.{Probe, Close, Round}
-use Rattle.tsp_base.specs.declared.constants.TheConstants.{QUIET, CLOSE, PROBE, ROUND, WAIT}
-use Rattle.tsp_base.specs.declared.kind.Kind.TheVariants.{MasterUp}
-use Rattle.tsp_base.specs.declared.place.PeerId.{PeerId}
-use Rattle.tsp_base.specs.declared.role.Role.TheVariants.{Master}
-use Rattle.tsp_base.specs.History.{Did, Seen, Here, Past, plain}
-use Rattle.tsp_base.specs.Leads.{Leads}
-use Rattle.tsp_base.specs.NodeFacts.{boot_tick}
-use Rattle.tsp_base.specs.PortFacts.{role, armed}
-use Rattle.tsp_base.specs.RoundFacts.{probes, started}
-use Rattle.tsp_base.specs.Rows.{Row, grown, nothing, puts, ◌followed_by◌, for_each, arms, bare, posts_to_others}
+use Rattle.tsp_rules.specs.Values.{Arm, Ring, Late, Abandon, Alarm, Round, Probe, CloseAlarm, MasterUp, PeerId, Master, CLOSE, PROBE, QUIET, ROUND, WAIT}
+use Rattle.tsp_base.specs.Words.{Did, Seen, Here, Past, plain, Leads, boot_tick, role, armed, probes, started, Row, grown, nothing, puts, ◌followed_by◌, for_each, arms, bare, posts_to_others}
 use Rattle.tsp_base.proofs.LeadsLemmas.{Leads_then, Leads_either, Leads_reading, Leads_nothing, Leads_puts, Leads_each, Leads_from, Leads_to}
 use Rattle.tsp_rules.specs.Answers.{alarm_rings, rings}
 use Rattle.tsp_rules.specs.RoundRows.{asks, asks_slaves, round_begins, begins_or_waits, round_rings, measured_at, asks_measured, has_more, arms_next, abandons, probe_rings}
@@ -81,9 +70,9 @@ arms_later long x past h = record {
 begins_or_waits_leads : (wait : Bool) → Leads Spaced (begins_or_waits wait) Open
 unfolding begins_or_waits round_begins asks_slaves
 begins_or_waits_leads true = Leads_to {Q = Spaced} (λ x past h. open_of h.free) (Leads_arms Round WAIT (λ x past h. arms_later WAIT x past h))
-begins_or_waits_leads false = Leads_then {Q = PutOff} (arms Round ROUND) (arms Probe PROBE followed_by (arms Close CLOSE followed_by (posts_to_others MasterUp 0 followed_by asks_slaves)))
+begins_or_waits_leads false = Leads_then {Q = PutOff} (arms Round ROUND) (arms Probe PROBE followed_by (arms CloseAlarm CLOSE followed_by (posts_to_others MasterUp 0 followed_by asks_slaves)))
     (Leads_arms Round ROUND (λ x past h. record { last = arms_later ROUND x past h; next = refl }))
-    (two_arms {Q = Begun} Probe Close PROBE CLOSE (posts_to_others MasterUp 0 followed_by asks_slaves)
+    (two_arms {Q = Begun} Probe CloseAlarm PROBE CLOSE (posts_to_others MasterUp 0 followed_by asks_slaves)
     (λ x past h. record { in_round = record { free = arm_round_alarms h.last.role_is h.last.spaced h.next h.last.free; goes = refl } })
     (Leads_then {Q = Begun} (posts_to_others MasterUp 0) asks_slaves
     (Leads_others MasterUp 0 (λ x past p h. record { in_round = record { free = post_message p (bare MasterUp 0 past.name) refl tt h.in_round.free; goes = h.in_round.goes } }))

@@ -2,15 +2,8 @@
 use Rattle.std.specs.Prelude.{◌≡◌, ◌==◌, ◌&&◌, cond, Bool, true, false, ℕ, ◌⊎◌, List, [], ◌∷◌, refl}
 use Rattle.std.proofs.Common.{sym, ap, subst, inl, inr, eqb-true, ◌∙◌}
 use Rattle.std.proofs.lemmas.Bool.{and_parts}
-use Rattle.tsp_base.specs.declared.act.Act.TheVariants.{Boot, Post, Become, Arm, Ring, Late, Sample, Abandon}
-use Rattle.tsp_base.specs.declared.alarm.Alarm.TheVariants.{Close}
-use Rattle.tsp_base.specs.declared.datagram.Datagram.TheVariants.{Stamp}
-use Rattle.tsp_base.specs.declared.place.PeerId.{PeerId}
-use Rattle.tsp_base.specs.declared.place.Place.TheVariants.{Peer}
-use Rattle.tsp_base.specs.declared.stamp.Stamp.TheVariants.{Request}
-use Rattle.tsp_base.specs.History.{Deed, Acts, Did, Seen, Here, Elsewhere}
-use Rattle.tsp_base.specs.Places.{Within}
-use Rattle.tsp_base.specs.RoundFacts.{started, started_after, exchange, exchange_after}
+use Rattle.tsp_rules.specs.Values.{Boot, Post, Become, Arm, Ring, Late, Abandon, Sample, CloseAlarm, Stamp, PeerId, Peer, Request}
+use Rattle.tsp_base.specs.Words.{Deed, Acts, Did, Seen, Here, Elsewhere, Within, started, started_after, exchange, exchange_after}
 use Rattle.tsp_rules.proofs.GuardFacts.{same_peer}
 use Rattle.tsp_promises.proofs.Leaves.{nil-cons}
 
@@ -18,12 +11,12 @@ use Rattle.tsp_promises.proofs.Leaves.{nil-cons}
 pub record StartedAt (start : Did) (idle seen : List Seen) : Type 0 where
   pub place : Within (Here start ∷ idle) seen
   pub at : ℕ
-  pub deed : start.deed ≡ Acts (Arm Close at)
+  pub deed : start.deed ≡ Acts (Arm CloseAlarm at)
 
 started-deed : (d : Did) (before : List Seen) (start : Did) (idle : List Seen) (deed : Deed) → deed ≡ d.deed → started_after deed (Here d ∷ before) (started before) ≡ Here start ∷ idle →
-    ((Here d ∷ before ≡ Here start ∷ idle) × ((at : ℕ) × (d.deed ≡ Acts (Arm Close at)))) ⊎ (started before ≡ Here start ∷ idle)
+    ((Here d ∷ before ≡ Here start ∷ idle) × ((at : ℕ) × (d.deed ≡ Acts (Arm CloseAlarm at)))) ⊎ (started before ≡ Here start ∷ idle)
 started-deed d before start idle (Acts Boot) is e = nil-cons (Here start) idle e
-started-deed d before start idle (Acts (Arm Close at)) is e = inl (e, (at, sym is))
+started-deed d before start idle (Acts (Arm CloseAlarm at)) is e = inl (e, (at, sym is))
 started-deed d before start idle _ is e = inr e
 
 pub started_at : (seen : List Seen) (start : Did) (idle : List Seen) → started seen ≡ Here start ∷ idle → StartedAt start idle seen
@@ -32,7 +25,7 @@ started_at (Elsewhere d ∷ before) start idle e = let o = started_at before sta
 started_at (Here d ∷ before) start idle e = elim (started-deed d before start idle d.deed refl e) [
   | inl h ↦
       let line : d ≡ start = (let k = h.0 in cc) in
-      record { place = inl (sym h.0); at = h.1.0; deed = subst (λ k. k.deed ≡ Acts (Arm Close h.1.0)) line h.1.1 }
+      record { place = inl (sym h.0); at = h.1.0; deed = subst (λ k. k.deed ≡ Acts (Arm CloseAlarm h.1.0)) line h.1.1 }
   | inr h ↦ let o = started_at before start idle h in record { place = inr o.place; at = o.at; deed = o.deed }
 ]
 
@@ -72,9 +65,9 @@ exchange-deed : (p : PeerId) (c : ℕ) (d : Did) (before : List Seen) (post : Di
     exchange_after p c deed (Here d ∷ before) (exchange p c before) ≡ Here post ∷ older → ExchangeAt p c post older (Here d ∷ before)
 exchange-deed p c d before post older (Acts Boot) is h e = nil-cons (Here post) older e
 exchange-deed p c d before post older (Acts (Become r)) is h e = nil-cons (Here post) older e
-exchange-deed p c d before post older (Acts (Arm Close at)) is h e = nil-cons (Here post) older e
-exchange-deed p c d before post older (Acts (Ring Close)) is h e = nil-cons (Here post) older e
-exchange-deed p c d before post older (Acts (Late Close)) is h e = nil-cons (Here post) older e
+exchange-deed p c d before post older (Acts (Arm CloseAlarm at)) is h e = nil-cons (Here post) older e
+exchange-deed p c d before post older (Acts (Ring CloseAlarm)) is h e = nil-cons (Here post) older e
+exchange-deed p c d before post older (Acts (Late CloseAlarm)) is h e = nil-cons (Here post) older e
 exchange-deed p c d before post older (Acts Abandon) is h e = nil-cons (Here post) older e
 exchange-deed p c d before post older (Acts (Post (Peer q) (Stamp (Request word counter)))) is h e = exchange-post p q c word counter d before post older (exchange p c before) is h _ refl e
 exchange-deed p c d before post older (Acts (Sample q counter diff err ticket)) is h e =

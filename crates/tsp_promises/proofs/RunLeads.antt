@@ -1,15 +1,8 @@
 -- Steps follow one another, and each deed of them fits.
 use Rattle.std.specs.Prelude.{◌≡◌, ◌≤◌, ℕ, ◌+◌, Bool, true, false, List, [], ◌∷◌, None, refl}
 use Rattle.std.proofs.Common.{sym, subst, inl, inr, ap, arith, true≢false, ◌∙◌}
-use Rattle.tsp_base.specs.declared.constants.TheConstants.{QUIET}
-use Rattle.tsp_base.specs.declared.place.PeerId.{PeerId}
-use Rattle.tsp_base.specs.declared.role.Role.TheVariants.{Follow}
-use Rattle.tsp_base.specs.History.{Step, Seen, Here, Past}
-use Rattle.tsp_base.specs.Leads.{Leads}
-use Rattle.tsp_base.specs.PortFacts.{role}
-use Rattle.tsp_base.specs.Rows.{in_step, puts, ◌followed_by◌, arms}
-use Rattle.tsp_base.specs.Peers.{is_among}
-use Rattle.tsp_base.specs.Setup.{Setup}
+use Rattle.tsp_rules.specs.Values.{PeerId, Follow, QUIET}
+use Rattle.tsp_base.specs.Words.{Step, Seen, Here, Past, Leads, role, in_step, puts, ◌followed_by◌, arms, is_among, Setup}
 use Rattle.tsp_promises.specs.StepFacts.{StepEnds, is_unbacked, owes, unacknowledged, unheeded}
 use Rattle.tsp_rules.specs.CommonRows.{boots}
 use Rattle.tsp_promises.specs.PortFits.{PortFits, setup_in}

@@ -1,9 +1,7 @@
 -- The runs of a node with one port are those of that port.
 use Rattle.std.specs.Prelude.{◌≡◌, ◌≤◌, ℕ, List, [], ◌∷◌, slice_index_or, refl}
 use Rattle.std.proofs.Common.{sym, subst, ap, ◌∙◌}
-use Rattle.tsp_base.specs.History.{Past, Step, view}
-use Rattle.tsp_base.specs.Joins.{first_port}
-use Rattle.tsp_base.specs.Rows.{grown, in_step}
+use Rattle.tsp_base.specs.Words.{Past, Step, view, first_port, grown, in_step}
 use Rattle.tsp_rules.specs.NodeRows.{NodePast, PortSetup, in_node_step, no_port, spread}
 use Rattle.tsp_rules.proofs.NodeRowLemmas.{on_own}
 use Rattle.tsp_promises.specs.NodeRuns.{NodeMakes, NodeBoots, NodeAnswers, NodeHappening, NodeOrdered, IsGivenOn, node_ran, node_row_of, node_tick}

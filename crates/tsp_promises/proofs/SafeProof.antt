@@ -1,7 +1,7 @@
 -- All promises together.
 use Rattle.std.specs.Prelude.{List}
 use Rattle.tsp_promises.specs.Fits.{Fits, Finished}
-use Rattle.tsp_base.specs.History.{Line}
+use Rattle.tsp_base.specs.Words.{Line}
 use Rattle.tsp_promises.specs.Safe.{Safe}
 use Rattle.tsp_promises.specs.Setting.{Setting}
 use Rattle.tsp_promises.proofs.AgreedProof.{agreed, stay_agreed}

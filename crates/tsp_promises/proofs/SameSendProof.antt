@@ -1,20 +1,11 @@
 -- A post with the open send's number, posted not long ago, is of the open send.
 use Rattle.std.specs.Prelude.{◌≡◌, true, ℕ, ◌+◌, ◌%◌, ◌<◌, ◌≤◌, List, ◌∷◌}
 use Rattle.std.proofs.Common.{sym, ap, arith, subst, subst₂, inl, inr}
-use Rattle.tsp_base.specs.declared.act.Act.TheVariants.{Post}
-use Rattle.tsp_base.specs.declared.datagram.Datagram.TheVariants.{Message}
-use Rattle.tsp_base.specs.declared.place.Place.TheVariants.{Peer}
-use Rattle.tsp_base.specs.declared.place.Port.{Port}
+use Rattle.tsp_rules.specs.Values.{Post, Message, Peer, Port}
+use Rattle.tsp_base.specs.Words.{Acts, Did, Line, Here, of, dids, view, MessageValue, all_corrects, Within, begun_to, is_correction, open_to, peer_of, tick_at}
 use Rattle.tsp_promises.specs.Fits.{Fits}
-use Rattle.tsp_base.specs.History.{Acts, Did, Line, Here, of, dids, view}
-use Rattle.tsp_base.specs.Messages.{MessageValue}
-use Rattle.tsp_base.specs.NodeFacts.{all_corrects}
 use Rattle.tsp_promises.specs.Once.{OnceConfirmed}
-use Rattle.tsp_base.specs.Places.{Within}
-use Rattle.tsp_base.specs.SendFacts.{begun_to, is_correction, open_to}
 use Rattle.tsp_promises.specs.Setting.{Setting}
-use Rattle.tsp_base.specs.Takings.{peer_of}
-use Rattle.tsp_base.specs.Ticks.{tick_at}
 use Rattle.tsp_base.proofs.PlaceLemmas.{Within-all, Within-through, Within-tail, Within-strict, Within-comparable}
 use Rattle.tsp_promises.proofs.Clocks.{near}
 use Rattle.tsp_promises.proofs.FreshProof.{before_later}

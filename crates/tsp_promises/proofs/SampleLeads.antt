@@ -1,18 +1,9 @@
 -- A reply to an open exchange keeps what is known of a port.
 use Rattle.std.specs.Prelude.{◌≡◌, ℕ, ◌==◌, ℤ, Bool, true, false, if◌then◌else◌, List, [], ◌∷◌, Option, None, Some, is_some, refl}
 use Rattle.std.proofs.Common.{sym, ap, eqb-true, ◌∙◌}
-use Rattle.tsp_base.specs.declared.datagram.Datagram.TheVariants.{Stamp}
-use Rattle.tsp_base.specs.declared.datagram.Taken.TheVariants.{Good}
-use Rattle.tsp_base.specs.declared.place.PeerId.{PeerId}
-use Rattle.tsp_base.specs.declared.stamp.Stamp.TheVariants.{Reply}
-use Rattle.tsp_base.specs.History.{Seen, Past, plain}
-use Rattle.tsp_base.specs.Leads.{Leads}
+use Rattle.tsp_rules.specs.Values.{Stamp, Good, PeerId, Reply}
+use Rattle.tsp_base.specs.Words.{Seen, Past, plain, Leads, target, OpenRequest, exchange, request_at_place, request_open, word_asked, target_there, nothing, puts, reading, sample_diff, sample_err, ReplyValue}
 use Rattle.tsp_promises.specs.MeasureFits.{SampleFits}
-use Rattle.tsp_base.specs.NodeFacts.{target}
-use Rattle.tsp_base.specs.RoundFacts.{OpenRequest, exchange, request_at_place, request_open, word_asked, target_there}
-use Rattle.tsp_base.specs.Rows.{nothing, puts, reading}
-use Rattle.tsp_base.specs.Samples.{sample_diff, sample_err}
-use Rattle.tsp_base.specs.Stamps.{ReplyValue}
 use Rattle.tsp_base.proofs.LeadsLemmas.{Leads_reading, Leads_nothing, Leads_puts, Leads_from}
 use Rattle.tsp_rules.specs.RoundRows.{request_at, sample_of, samples_request, samples}
 use Rattle.tsp_rules.specs.Guards.{target_at}

@@ -1,9 +1,8 @@
 -- Order and equality of places that a port sees.
 use Rattle.std.specs.Prelude.{◌≡◌, ℕ, List, [], ◌∷◌, length, refl}
 use Rattle.std.proofs.Common.{sym, ap, arith, subst, inl, inr, ◌∙◌}
-use Rattle.tsp_base.specs.declared.place.Port.{Port}
-use Rattle.tsp_base.specs.History.{Did, Line, Here, of, dids, view, plain}
-use Rattle.tsp_base.specs.Places.{Within}
+use Rattle.tsp_rules.specs.Values.{Port}
+use Rattle.tsp_base.specs.Words.{Did, Line, Here, of, dids, view, plain, Within}
 use Rattle.tsp_base.proofs.PlaceLemmas.{Within-all, Within-tail, Within-length, Within-strict, Within-comparable}
 use Rattle.tsp_base.proofs.Views.{plain_view}
 use Rattle.tsp_promises.proofs.HistoryPlaces.{own_in, own_same}

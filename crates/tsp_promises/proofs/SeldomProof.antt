@@ -1,22 +1,14 @@
 -- Rounds of a port stand apart.
 use Rattle.std.specs.Prelude.{◌≡◌, ◌==◌, ◌||◌, ◌⊎◌, ◌≤◌, ℕ, ◌+◌, ◌-◌, ℤ, Bool, true, false, List, [], ◌∷◌, Option, None, Some, is_some, refl}
 use Rattle.std.proofs.Common.{sym, ap, arith, subst, inl, inr, true≢false, ◌∙◌}
-use Rattle.tsp_base.specs.declared.act.Act.TheVariants.{Abandon, Arm, Become, Boot, Close, Late, Ring}
-use Rattle.tsp_base.specs.declared.alarm.Alarm.TheVariants.{Close as AlarmClose}
-use Rattle.tsp_base.specs.declared.constants.TheConstants.{CLOSE, ROUND, SLACK}
-use Rattle.tsp_base.specs.declared.place.Port.{Port}
+use Rattle.tsp_rules.specs.Values.{Boot, Become, Arm, Ring, Late, Abandon, Close, CloseAlarm, Port, CLOSE, ROUND, SLACK}
+use Rattle.tsp_base.specs.Words.{Acts, Deed, Did, Line, Seen, Here, of, dids, view, seen_as, is_shared, lives, lives_after, Within, armed, armed_after, is_going, started, started_after, Setup}
 use Rattle.tsp_promises.specs.DeedFits.{DeedFits}
 use Rattle.tsp_promises.specs.Fits.{Fits, Sees, node_of}
-use Rattle.tsp_base.specs.History.{Acts, Deed, Did, Line, Seen, Here, of, dids, view, seen_as, is_shared}
-use Rattle.tsp_base.specs.NodeFacts.{lives, lives_after}
 use Rattle.tsp_promises.specs.OwnFits.{OwnFits}
-use Rattle.tsp_base.specs.Places.{Within}
-use Rattle.tsp_base.specs.PortFacts.{armed, armed_after}
-use Rattle.tsp_base.specs.RoundFacts.{is_going, started, started_after}
 use Rattle.tsp_promises.specs.RoundFits.{CloseFits, StartFits}
 use Rattle.tsp_promises.specs.Seldom.{Seldom, SeldomAt}
 use Rattle.tsp_promises.specs.Setting.{Setting, setup_of}
-use Rattle.tsp_base.specs.Setup.{Setup}
 use Rattle.tsp_promises.proofs.EverywhereLemmas.{Everywhere-from}
 use Rattle.tsp_promises.proofs.HistoryPlaces.{of-own, own_in}
 use Rattle.tsp_promises.proofs.Locating.{fits_in, view-line}
@@ -41,10 +33,10 @@ begins-later first idle d before close at f (inr h) = let s = f.spaced h.0 h.1.0
 by-deed : (setup : Setup) (first : Did) (idle : List Seen) (d : Did) (before : List Seen) (deed : Deed) (n : ℕ) → DeedFits setup deed d before → lives_after deed n ≡ n → Ahead first idle (started before) (armed before).close →
     Ahead first idle (started_after deed (Here d ∷ before) (started before)) (armed_after deed (armed before)).close
 by-deed setup first idle d before (Acts Boot) n f e h = absurd (omega arith)
-by-deed setup first idle d before (Acts (Arm AlarmClose at)) n f e h = begins-later first idle d before (armed before).close at f h
+by-deed setup first idle d before (Acts (Arm CloseAlarm at)) n f e h = begins-later first idle d before (armed before).close at f h
 by-deed setup first idle d before (Acts (Become r)) n f e h = shut first idle (started before) (armed before).close h
-by-deed setup first idle d before (Acts (Ring AlarmClose)) n f e h = shut first idle (started before) (armed before).close h
-by-deed setup first idle d before (Acts (Late AlarmClose)) n f e h = shut first idle (started before) (armed before).close h
+by-deed setup first idle d before (Acts (Ring CloseAlarm)) n f e h = shut first idle (started before) (armed before).close h
+by-deed setup first idle d before (Acts (Late CloseAlarm)) n f e h = shut first idle (started before) (armed before).close h
 by-deed setup first idle d before (Acts Abandon) n f e h = shut first idle (started before) (armed before).close h
 by-deed setup first idle d before _ n f e h = h
 
@@ -81,7 +73,7 @@ rang q (l ∷ rest) past ring e = seen ((l.port.0 == q.0) || is_shared l.did.dee
   seen false k = let bad : ⊥ = cc in absurd bad
 
 -- the earlier Close isn't the Ring right before the later one
-before-ring : (first : Line) (older rest : List Line) (line : Line) (ring : Did) (count : ℕ) (lo size mean : ℤ) → first.did.deed ≡ Acts (Close count lo size mean) → line.did ≡ ring → ring.deed ≡ Acts (Ring AlarmClose) → Within (first ∷ older) (line ∷ rest) → Within (first ∷ older) rest
+before-ring : (first : Line) (older rest : List Line) (line : Line) (ring : Did) (count : ℕ) (lo size mean : ℤ) → first.did.deed ≡ Acts (Close count lo size mean) → line.did ≡ ring → ring.deed ≡ Acts (Ring CloseAlarm) → Within (first ∷ older) (line ∷ rest) → Within (first ∷ older) rest
 before-ring first older rest line ring count lo size mean deed is rings (inl e) =
     let same : first ≡ line = cc in
     let deeds = sym deed ∙ (ap (λ (z : Line). z.did.deed) same ∙ (ap (λ (z : Did). z.deed) is ∙ rings)) in
@@ -113,7 +105,7 @@ seldom_at setting l world f other older count n lo size mean low long middle dee
     let st : started (view q (other ∷ of m older)) ≡ Here co.start ∷ co.idle = ap started seen ∙ (rw was refl ∙ co.start_is) in
     let shut_is : (armed (view q (other ∷ of m older))).close ≡ None = ap (λ z. (armed z).close) seen ∙ (rw was refl ∙ (ap (λ z. (armed z).close) co.is ∙ rw co.rings refl)) in
     let lives_o : lives (dids (other ∷ of m older)) ≡ lives (dids (of m older)) = rw was refl in
-    let ring_deed : r.line.did.deed ≡ Acts (Ring AlarmClose) = ap (λ (z : Did). z.deed) r.did_is ∙ cf.rings in
+    let ring_deed : r.line.did.deed ≡ Acts (Ring CloseAlarm) = ap (λ (z : Did). z.deed) r.did_is ∙ cf.rings in
     let lives_r : lives (dids (r.line ∷ r.rest)) ≡ lives (dids r.rest) = rw ring_deed refl in
     let lives_is : lives (dids (other ∷ of m older)) ≡ lives (dids r.rest) = lives_o ∙ (life ∙ (ap (λ z. lives (dids z)) r.own_is ∙ lives_r)) in
     let ahead = along setting q co.start co.idle (other ∷ of m older) r.rest fits.1 in_rest lives_is st shut_is in

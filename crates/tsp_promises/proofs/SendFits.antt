@@ -2,16 +2,9 @@
 use Rattle.std.specs.Prelude.{◌≡◌, ◌==◌, ◌&&◌, cond, Bool, true, false, List, [], ◌∷◌, None, Some, refl}
 use Rattle.std.proofs.Common.{sym, subst, ap, ◌∙◌}
 use Rattle.std.proofs.lemmas.Bool.{and_parts}
-use Rattle.tsp_base.specs.declared.act.Act.TheVariants.{Boot, Post, Become, Acked, Gave}
-use Rattle.tsp_base.specs.declared.datagram.Datagram.TheVariants.{Message}
-use Rattle.tsp_base.specs.declared.place.PeerId.{PeerId}
-use Rattle.tsp_base.specs.declared.place.Place.TheVariants.{Peer}
+use Rattle.tsp_rules.specs.Values.{Boot, Post, Become, Acked, Gave, Message, PeerId, Peer}
+use Rattle.tsp_base.specs.Words.{Deed, Acts, Did, Seen, Here, Elsewhere, MessageValue, role, role_after, acting, is_numbered, Sending, open_send, sending_at, sending_of, open_to, open_to_after, posts_of, message_of, Setup}
 use Rattle.tsp_promises.specs.DeedFits.{DeedFits, MessageFits}
-use Rattle.tsp_base.specs.History.{Deed, Acts, Did, Seen, Here, Elsewhere}
-use Rattle.tsp_base.specs.Messages.{MessageValue}
-use Rattle.tsp_base.specs.PortFacts.{role, role_after, acting}
-use Rattle.tsp_base.specs.SendFacts.{is_numbered, Sending, open_send, sending_at, sending_of, open_to, open_to_after, posts_of, message_of}
-use Rattle.tsp_base.specs.Setup.{Setup}
 use Rattle.tsp_promises.specs.PortFits.{PortFits}
 use Rattle.tsp_promises.proofs.Leaves.{nil-cons, none-some, some-same}
 use Rattle.tsp_rules.proofs.GuardFacts.{same_peer}

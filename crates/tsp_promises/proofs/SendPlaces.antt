@@ -1,26 +1,12 @@
 -- Where the send of a post begins in the history, and what its posts have in common.
 use Rattle.std.specs.Prelude.{◌≡◌, ◌+◌, ◌*◌, ◌≤◌, true, false, ℕ, List, [], ◌∷◌, refl}
 use Rattle.std.proofs.Common.{sym, ap, arith, subst, subst₂, inl, inr, true≢false, ◌∙◌}
-use Rattle.tsp_base.specs.declared.act.Act.TheVariants.{Post}
-use Rattle.tsp_base.specs.declared.constants.TheConstants.{LAST}
-use Rattle.tsp_base.specs.declared.datagram.Datagram.{Datagram}
-use Rattle.tsp_base.specs.declared.datagram.Datagram.TheVariants.{Message}
-use Rattle.tsp_base.specs.declared.kind.Kind.{Kind}
-use Rattle.tsp_base.specs.declared.kind.Kind.TheVariants.{AdjTime, Conflict, Election, Quit, SetDateReq, SetTime}
-use Rattle.tsp_base.specs.declared.place.PeerId.{PeerId}
-use Rattle.tsp_base.specs.declared.place.Place.{Place}
-use Rattle.tsp_base.specs.declared.place.Place.TheVariants.{Peer}
+use Rattle.tsp_rules.specs.Values.{Post, Datagram, Message, Kind, AdjTime, Conflict, Election, QuitKind, SetDateReq, SetTime, PeerId, Place, Peer, LAST}
+use Rattle.tsp_base.specs.Words.{Acts, Came, Deed, Did, Line, Seen, Here, of, dids, view, is_shared, MessageValue, Within, acting, begun_to, is_correction, is_numbered, Setup, peer_of, posted, posted_after}
 use Rattle.tsp_promises.specs.CorrectionFits.{CorrectionFits, RepeatFits}
 use Rattle.tsp_promises.specs.DeedFits.{MessageFits}
 use Rattle.tsp_promises.specs.Fits.{Fits, LineFits, node_of}
-use Rattle.tsp_base.specs.History.{Acts, Came, Deed, Did, Line, Seen, Here, of, dids, view, is_shared}
-use Rattle.tsp_base.specs.Messages.{MessageValue}
-use Rattle.tsp_base.specs.Places.{Within}
-use Rattle.tsp_base.specs.PortFacts.{acting}
-use Rattle.tsp_base.specs.SendFacts.{begun_to, is_correction, is_numbered}
 use Rattle.tsp_promises.specs.Setting.{Setting, setup_of}
-use Rattle.tsp_base.specs.Setup.{Setup}
-use Rattle.tsp_base.specs.Takings.{peer_of, posted, posted_after}
 use Rattle.tsp_promises.proofs.Clocks.{near}
 use Rattle.tsp_promises.proofs.Locating.{line_on, locate, view-line, tick_in}
 use Rattle.tsp_promises.proofs.OnlyMasterProof.{correction_fits}
@@ -53,7 +39,7 @@ repeats-of setup AdjTime here seen p m n f = f.repeats
 repeats-of setup SetTime here seen p m n f = f.repeats
 repeats-of setup Election here seen p m n f = f.numbered.repeats
 repeats-of setup Conflict here seen p m n f = f.repeats
-repeats-of setup Quit here seen p m n f = f.repeats
+repeats-of setup QuitKind here seen p m n f = f.repeats
 repeats-of setup SetDateReq here seen p m n f = f.numbered.repeats
 repeats-of setup _ here seen p m n f = absurd (true≢false (sym n))
 

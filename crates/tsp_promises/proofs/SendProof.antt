@@ -2,21 +2,10 @@
 use Rattle.std.specs.Prelude.{◌≡◌, ◌==◌, ◌&&◌, cond, Bool, true, false, ℕ, ◌+◌, ◌≤◌, ◌⊎◌, List, [], ◌∷◌, refl}
 use Rattle.std.proofs.Common.{sym, ap, arith, subst, inl, inr, eq-eqb, true≢false, ◌∙◌}
 use Rattle.std.proofs.lemmas.Bool.{and_parts}
-use Rattle.tsp_base.specs.declared.act.Act.TheVariants.{Boot, Post, Become, Acked, Gave}
-use Rattle.tsp_base.specs.declared.constants.TheConstants.{LAST}
-use Rattle.tsp_base.specs.declared.datagram.Datagram.TheVariants.{Message}
-use Rattle.tsp_base.specs.declared.kind.Kind.{Kind}
-use Rattle.tsp_base.specs.declared.kind.Kind.TheVariants.{AdjTime, SetTime}
-use Rattle.tsp_base.specs.declared.place.PeerId.{PeerId}
-use Rattle.tsp_base.specs.declared.place.Place.TheVariants.{Peer}
+use Rattle.tsp_rules.specs.Values.{Boot, Post, Become, Acked, Gave, Message, Kind, AdjTime, SetTime, PeerId, Peer, LAST}
+use Rattle.tsp_base.specs.Words.{Acts, Deed, Did, Seen, Here, Elsewhere, MessageValue, Within, acting, begun_to, begun_to_after, is_correction, is_numbered, open_to, open_to_after, peer_of}
 use Rattle.tsp_promises.specs.CorrectionFits.{RepeatFits}
 use Rattle.tsp_promises.proofs.Leaves.{nil-cons}
-use Rattle.tsp_base.specs.History.{Acts, Deed, Did, Seen, Here, Elsewhere}
-use Rattle.tsp_base.specs.Messages.{MessageValue}
-use Rattle.tsp_base.specs.Places.{Within}
-use Rattle.tsp_base.specs.PortFacts.{acting}
-use Rattle.tsp_base.specs.SendFacts.{begun_to, begun_to_after, is_correction, is_numbered, open_to, open_to_after}
-use Rattle.tsp_base.specs.Takings.{peer_of}
 use Rattle.tsp_rules.proofs.GuardFacts.{same_peer}
 
 -- a numbered send of this message to p begins here

@@ -1,21 +1,12 @@
 -- A date is set at a master, to the time that was taken.
 use Rattle.std.specs.Prelude.{◌≡◌, ℤ, ◌-ℤ◌, Bool, true, List, ◌∷◌, Some, refl}
 use Rattle.std.proofs.Common.{sym, ap, subst, ◌∙◌}
-use Rattle.tsp_base.specs.declared.act.Act.TheVariants.{Correct}
-use Rattle.tsp_base.specs.declared.datagram.Datagram.TheVariants.{Message}
-use Rattle.tsp_base.specs.declared.datagram.Taken.TheVariants.{Good}
-use Rattle.tsp_base.specs.declared.place.Place.{Place}
-use Rattle.tsp_base.specs.declared.place.Place.TheVariants.{Peer}
+use Rattle.tsp_rules.specs.Values.{Correct, Message, Good, Place, Peer}
+use Rattle.tsp_base.specs.Words.{Acts, Line, of, plain, view, MessageValue, target, Received, message_in, is_correction, sets_date, heard, time_in}
 use Rattle.tsp_promises.specs.ClockAt.{clock_at}
 use Rattle.tsp_promises.specs.CorrectFits.{ByDate, ByMaster, ByRound, WhyCorrect}
 use Rattle.tsp_promises.specs.Fits.{Fits, node_of}
-use Rattle.tsp_base.specs.History.{Acts, Line, of, plain, view}
-use Rattle.tsp_base.specs.Messages.{MessageValue}
-use Rattle.tsp_base.specs.NodeFacts.{target}
-use Rattle.tsp_base.specs.PortFacts.{Received, message_in}
-use Rattle.tsp_base.specs.SendFacts.{is_correction, sets_date}
 use Rattle.tsp_promises.specs.Setting.{Setting, setup_of}
-use Rattle.tsp_base.specs.Takings.{heard, time_in}
 use Rattle.tsp_base.proofs.Views.{plain_view}
 use Rattle.tsp_promises.proofs.ClockProof.{target_is}
 use Rattle.tsp_promises.proofs.Correcting.{no-correction}

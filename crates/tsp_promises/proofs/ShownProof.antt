@@ -1,15 +1,12 @@
 -- What a booted node's clock shows.
 use Rattle.std.specs.Prelude.{◌≡◌, true, ℕ, ◌-ℤ◌, List, [], ◌∷◌, refl}
 use Rattle.std.proofs.Common.{sym, ap, subst, inl, inr}
-use Rattle.tsp_base.specs.declared.act.Act.TheVariants.{Boot}
+use Rattle.tsp_rules.specs.Values.{Boot}
+use Rattle.tsp_base.specs.Words.{Deed, Acts, Line, of, dids, rest_at, target, up, up_after, Within, tick_at}
 use Rattle.tsp_promises.specs.ClockAt.{clock_at}
 use Rattle.tsp_promises.specs.Fits.{Fits}
-use Rattle.tsp_base.specs.History.{Deed, Acts, Line, of, dids}
-use Rattle.tsp_base.specs.NodeFacts.{rest_at, target, up, up_after}
-use Rattle.tsp_base.specs.Places.{Within}
 use Rattle.tsp_promises.specs.Setting.{Setting}
 use Rattle.tsp_promises.specs.ShownAt.{left_at, shown_at}
-use Rattle.tsp_base.specs.Ticks.{tick_at}
 use Rattle.tsp_promises.proofs.ClockProof.{base_is}
 use Rattle.tsp_promises.proofs.HistoryPlaces.{Within-of}
 

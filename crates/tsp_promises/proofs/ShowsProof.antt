@@ -1,14 +1,12 @@
 -- A Correct prints what its clock shows.
 use Rattle.std.specs.Prelude.{◌≡◌, ◌≤◌, ℕ, ◌-◌, ◌/◌, ℤ, pos, ◌-ℤ◌, nat_abs, Bool, true, false, List, ◌∷◌, refl}
 use Rattle.std.proofs.Common.{sym, ap, arith, subst, subst₂, inl, ◌∙◌}
-use Rattle.tsp_base.specs.declared.act.Act.TheVariants.{Correct}
+use Rattle.tsp_rules.specs.Values.{Correct}
+use Rattle.tsp_base.specs.Words.{Acts, Did, Line, dids, of, last_correct, last_correct_after, shown, target, tick_of, heard}
 use Rattle.tsp_promises.specs.CorrectFits.{is_stepped}
 use Rattle.tsp_promises.specs.Fits.{Fits, node_of}
-use Rattle.tsp_base.specs.History.{Acts, Did, Line, dids, of}
-use Rattle.tsp_base.specs.NodeFacts.{last_correct, last_correct_after, shown, target, tick_of}
 use Rattle.tsp_promises.specs.Setting.{Setting}
 use Rattle.tsp_promises.specs.Shows.{PrintedApart, Prints, Shows, ShowsAt}
-use Rattle.tsp_base.specs.Takings.{heard}
 use Rattle.tsp_base.proofs.Views.{plain_view}
 use Rattle.tsp_promises.proofs.EverywhereLemmas.{Everywhere-from}
 use Rattle.tsp_promises.proofs.HistoryPlaces.{of-own, Within-of}

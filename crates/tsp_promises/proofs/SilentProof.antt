@@ -1,11 +1,9 @@
 -- A node is silent after its boot.
 use Rattle.std.specs.Prelude.{◌≤◌, ◌+◌, List, ◌∷◌}
 use Rattle.std.proofs.Common.{subst, inl, inr}
-use Rattle.tsp_base.specs.declared.act.Act.TheVariants.{Correct, Post}
-use Rattle.tsp_base.specs.declared.constants.TheConstants.{QUIET}
+use Rattle.tsp_rules.specs.Values.{Post, Correct, QUIET}
+use Rattle.tsp_base.specs.Words.{Acts, Line, of, boot_tick}
 use Rattle.tsp_promises.specs.Fits.{Fits, LineFits, node_of}
-use Rattle.tsp_base.specs.History.{Acts, Line, of}
-use Rattle.tsp_base.specs.NodeFacts.{boot_tick}
 use Rattle.tsp_promises.specs.Setting.{Setting}
 use Rattle.tsp_promises.specs.Silent.{Silent, SilentAt}
 use Rattle.tsp_base.proofs.Views.{plain_view}

@@ -2,15 +2,10 @@
 use Rattle.std.specs.Prelude.{ℕ, ◌+◌, ◌≤◌, List, [], ◌∷◌, refl}
 use Rattle.std.proofs.Common.{sym, arith, subst, inl, inr}
 use Rattle.std.proofs.lemmas.Bool.{cases_lt}
-use Rattle.tsp_base.specs.declared.act.Act.TheVariants.{Boot, Correct}
-use Rattle.tsp_base.specs.declared.constants.TheConstants.{GAP, QUIET}
-use Rattle.tsp_base.specs.declared.place.Port.{Port}
+use Rattle.tsp_rules.specs.Values.{Boot, Correct, Port, GAP, QUIET}
+use Rattle.tsp_base.specs.Words.{Did, Deed, Acts, Line, dids, view, is_shared, all_corrects, boot_tick, last_correct, last_correct_after, time_of, tick_of, Within, Setup}
 use Rattle.tsp_promises.specs.DeedFits.{DeedFits}
-use Rattle.tsp_base.specs.History.{Did, Deed, Acts, Line, dids, view, is_shared}
-use Rattle.tsp_base.specs.NodeFacts.{all_corrects, boot_tick, last_correct, last_correct_after, time_of, tick_of}
-use Rattle.tsp_base.specs.Places.{Within}
 use Rattle.tsp_promises.specs.Setting.{Setting, setup_of}
-use Rattle.tsp_base.specs.Setup.{Setup}
 use Rattle.tsp_promises.specs.Fits.{node_of}
 use Rattle.tsp_base.proofs.ViewPlaces.{sees-own}
 use Rattle.tsp_base.proofs.Views.{plain_view}

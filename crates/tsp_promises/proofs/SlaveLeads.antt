@@ -2,29 +2,11 @@
 use Rattle.std.specs.Prelude.{◌≡◌, ◌≢◌, ◌⊎◌, ◌≤◌, ℕ, ◌+◌, ◌==◌, ℤ, ◌-ℤ◌, Bool, true, false, ◌||◌, if◌then◌else◌, List, [], ◌∷◌, Option, None, Some, refl}
 use Rattle.std.proofs.Common.{sym, subst, inl, inr, ap, arith, true≢false, eqb-true, ◌∙◌}
 use Rattle.std.proofs.lemmas.Bool.{and_parts}
-use Rattle.tsp_base.specs.declared.act.Act.TheVariants.{Boot, Back, Correct, Post, Quit}
-use Rattle.tsp_base.specs.declared.alarm.Alarm.TheVariants.{Search}
-use Rattle.tsp_base.specs.declared.constants.TheConstants.{QUIET, GAP}
-use Rattle.tsp_base.specs.declared.datagram.Datagram.TheVariants.{Message}
-use Rattle.tsp_base.specs.declared.datagram.Taken.TheVariants.{Good}
-use Rattle.tsp_base.specs.declared.kind.Kind.{Kind}
-use Rattle.tsp_base.specs.declared.kind.Kind.TheVariants.{AdjTime, Ack, SetTime, Election, Accept, Refuse, Conflict, Quit as QuitKind}
-use Rattle.tsp_base.specs.declared.place.PeerId.{PeerId}
-use Rattle.tsp_base.specs.declared.place.Place.TheVariants.{Peer}
-use Rattle.tsp_base.specs.declared.role.Role.{Role}
-use Rattle.tsp_base.specs.declared.role.Role.TheVariants.{Loose, Follow, Candidate}
+use Rattle.tsp_rules.specs.Values.{Boot, Post, Back, Correct, Quit, Search, Message, Good, Kind, Accept, Ack, AdjTime, Conflict, Election, QuitKind, Refuse, SetTime, PeerId, Peer, Role, Loose, Follow, Candidate, GAP, QUIET}
+use Rattle.tsp_base.specs.Words.{Deed, Acts, Did, Seen, Past, plain, is_past, Leads, MessageValue, boot_tick, boot_after, ticket, target, last_correct, last_correct_after, correct_place, correct_place_after, correct_tick, shown, tick_in, Received, Said, role, said, held, armed, Row, grown, nothing, puts, ◌followed_by◌, reading, bare, posts, is_correction, Correcting, correcting_of, last_taken, time_in}
 use Rattle.tsp_promises.specs.AckFits.{Answers}
 use Rattle.tsp_promises.specs.CorrectFits.{ByMaster, amount_of, sets_time}
-use Rattle.tsp_base.specs.History.{Deed, Acts, Did, Seen, Past, plain}
-use Rattle.tsp_base.specs.Hold.{is_past}
-use Rattle.tsp_base.specs.Leads.{Leads}
-use Rattle.tsp_base.specs.Messages.{MessageValue}
-use Rattle.tsp_base.specs.NodeFacts.{boot_tick, boot_after, ticket, target, last_correct, last_correct_after, correct_place, correct_place_after, correct_tick, shown, tick_in}
-use Rattle.tsp_base.specs.PortFacts.{Received, Said, role, said, held, armed}
-use Rattle.tsp_base.specs.Rows.{Row, grown, nothing, puts, ◌followed_by◌, reading, bare, posts}
-use Rattle.tsp_base.specs.SendFacts.{is_correction, Correcting, correcting_of, last_taken}
 use Rattle.tsp_promises.specs.StepFacts.{backed, owes, owes_after}
-use Rattle.tsp_base.specs.Takings.{time_in}
 use Rattle.tsp_base.proofs.LeadsLemmas.{Leads_then, Leads_either, Leads_reading, Leads_nothing, Leads_puts, Leads_from, Leads_to}
 use Rattle.tsp_rules.specs.ClockRows.{adjusts, sets, can_adjust, is_step}
 use Rattle.tsp_rules.specs.CommonRows.{arms_elect, tells_ticket, follow_row, quits, follows_unless}

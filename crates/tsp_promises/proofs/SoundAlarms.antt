@@ -2,18 +2,8 @@
 use Rattle.std.specs.Prelude.{◌≡◌, ◌^◌, ◌-ℤ◌, ℤ, Bool, true, false, if◌then◌else◌, List, [], ◌∷◌, map, Option, None, Some, refl}
 use Rattle.std.proofs.Common.{subst, arith}
 use Rattle.std.proofs.Math.Nat.{mod-lt}
-use Rattle.tsp_base.specs.declared.act.Act.TheVariants.{Become, Ring, Late, Leave, Abandon}
-use Rattle.tsp_base.specs.declared.alarm.Alarm.TheVariants.{Quiet, Search, Elect, Window, Probe, Close, Resolve, Round}
-use Rattle.tsp_base.specs.declared.constants.TheConstants.{PROBE, CLOSE, ROUND, SPAN, WAIT}
-use Rattle.tsp_base.specs.declared.kind.Kind.TheVariants.{MasterUp, Quit}
-use Rattle.tsp_base.specs.declared.place.PeerId.{PeerId}
-use Rattle.tsp_base.specs.declared.role.Role.TheVariants.{Loose, Master}
-use Rattle.tsp_base.specs.History.{Seen}
-use Rattle.tsp_base.specs.Kinds.{carries_time, carries_hops}
-use Rattle.tsp_base.specs.Messages.{body_fits}
-use Rattle.tsp_base.specs.RoundFacts.{Estimate, asked}
-use Rattle.tsp_base.specs.Rows.{nothing, puts, ◌followed_by◌, either_by, reading, for_each, arms, posts_to_others}
-use Rattle.tsp_base.specs.Times.{IsMicros}
+use Rattle.tsp_rules.specs.Values.{Become, Ring, Late, Abandon, Leave, Quiet, Window, Elect, Search, Round, Probe, CloseAlarm, ResolveAlarm, MasterUp, QuitKind, PeerId, Loose, Master, CLOSE, PROBE, ROUND, SPAN, WAIT}
+use Rattle.tsp_base.specs.Words.{Seen, carries_time, carries_hops, body_fits, Estimate, asked, nothing, puts, ◌followed_by◌, either_by, reading, for_each, arms, posts_to_others, IsMicros}
 use Rattle.tsp_base.proofs.LeadsLemmas.{Leads_then, Leads_reading, Leads_nothing, Leads_each}
 use Rattle.tsp_group.specs.Groups.{group_of}
 use Rattle.tsp_rules.specs.CandidateRows.{lead_row, yields, has_won, window_rings}
@@ -59,10 +49,10 @@ window_sound = sound_either (is_in_time Window) (puts (Ring Window) followed_by 
 
 pub resolve_sound : Soundly resolve_rings
 unfolding resolve_rings quits_rivals body_fits carries_time carries_hops
-resolve_sound = sound_either (is_in_time Resolve) (puts (Ring Resolve) followed_by reading rivals_at (for_each (begins Quit))) (puts (Late Resolve))
-    (Leads_then (puts (Ring Resolve)) (reading rivals_at (for_each (begins Quit))) (sound_puts (Ring Resolve) (λ c n. refl) tt)
-    (sound_reading rivals_at (for_each (begins Quit)) (λ ps. Leads_each (begins Quit) ps (λ p. sound_begins Quit p refl))))
-    (sound_puts (Late Resolve) (λ c n. refl) tt)
+resolve_sound = sound_either (is_in_time ResolveAlarm) (puts (Ring ResolveAlarm) followed_by reading rivals_at (for_each (begins QuitKind))) (puts (Late ResolveAlarm))
+    (Leads_then (puts (Ring ResolveAlarm)) (reading rivals_at (for_each (begins QuitKind))) (sound_puts (Ring ResolveAlarm) (λ c n. refl) tt)
+    (sound_reading rivals_at (for_each (begins QuitKind)) (λ ps. Leads_each (begins QuitKind) ps (λ p. sound_begins QuitKind p refl))))
+    (sound_puts (Late ResolveAlarm) (λ c n. refl) tt)
 
 -- rounds
 asks-sound : (p : PeerId) → Soundly (asks p)
@@ -72,9 +62,9 @@ asks-sound p = record { run = λ x past h. sound_act x past _ (λ c n. refl) (h.
 begins-sound : (wait : Bool) → Soundly (begins_or_waits wait)
 unfolding begins_or_waits round_begins asks_slaves body_fits carries_time carries_hops
 begins-sound true = sound_arms Round WAIT
-begins-sound false = Leads_then (arms Round ROUND) (arms Probe PROBE followed_by (arms Close CLOSE followed_by (posts_to_others MasterUp 0 followed_by asks_slaves))) (sound_arms Round ROUND)
-    (Leads_then (arms Probe PROBE) (arms Close CLOSE followed_by (posts_to_others MasterUp 0 followed_by asks_slaves)) (sound_arms Probe PROBE)
-    (Leads_then (arms Close CLOSE) (posts_to_others MasterUp 0 followed_by asks_slaves) (sound_arms Close CLOSE)
+begins-sound false = Leads_then (arms Round ROUND) (arms Probe PROBE followed_by (arms CloseAlarm CLOSE followed_by (posts_to_others MasterUp 0 followed_by asks_slaves))) (sound_arms Round ROUND)
+    (Leads_then (arms Probe PROBE) (arms CloseAlarm CLOSE followed_by (posts_to_others MasterUp 0 followed_by asks_slaves)) (sound_arms Probe PROBE)
+    (Leads_then (arms CloseAlarm CLOSE) (posts_to_others MasterUp 0 followed_by asks_slaves) (sound_arms CloseAlarm CLOSE)
     (Leads_then (posts_to_others MasterUp 0) asks_slaves (sound_posts_to_others MasterUp 0 refl (omega arith))
     (sound_reading table_at (for_each asks) (λ ps. Leads_each asks ps asks-sound)))))
 
@@ -123,7 +113,7 @@ unfolding closes closes_with abandons
 closes-sound own round h =
     let g = group_of SPAN (estimates round) in
     let mean = mean_by own g in
-    Leads_then (puts (Ring Close)) (either_by (can_adjust mean) (puts (close_act own g) followed_by (moves own mean followed_by for_each (corrects_peer mean) round)) (puts Abandon)) (sound_puts (Ring Close) (λ c n. refl) tt)
+    Leads_then (puts (Ring CloseAlarm)) (either_by (can_adjust mean) (puts (close_act own g) followed_by (moves own mean followed_by for_each (corrects_peer mean) round)) (puts Abandon)) (sound_puts (Ring CloseAlarm) (λ c n. refl) tt)
     (sound_either (can_adjust mean) (puts (close_act own g) followed_by (moves own mean followed_by for_each (corrects_peer mean) round)) (puts Abandon)
     (Leads_then (puts (close_act own g)) (moves own mean followed_by for_each (corrects_peer mean) round) (sound_puts (close_act own g) (λ c n. refl) tt)
     (Leads_then (moves own mean) (for_each (corrects_peer mean) round) (moves-sound own mean) (peers-sound mean round (λ diff e. correction_time own SPAN round diff e) h)))
@@ -131,6 +121,6 @@ closes-sound own round h =
 
 pub close_sound : (own : Bool) → Soundly (close_rings own)
 unfolding close_rings abandons
-close_sound own = sound_either (is_in_time Close) (reading round_at (closes own)) (puts (Late Close) followed_by puts Abandon)
+close_sound own = sound_either (is_in_time CloseAlarm) (reading round_at (closes own)) (puts (Late CloseAlarm) followed_by puts Abandon)
     (record { run = λ x past h. (Leads_reading {P = λ y now. SoundAt y now × (AreSoundStandings (round_at y now))} {Q = SoundAt} round_at (closes own) (λ round. record { run = λ y now k. (closes-sound own round (subst AreSoundStandings k.1 k.0.1)).run y now k.0.0 })).run x past (h, standings-sound past.seen (measured_at x past) h.acts) })
-    (Leads_then (puts (Late Close)) (puts Abandon) (sound_puts (Late Close) (λ c n. refl) tt) (sound_puts Abandon (λ c n. refl) tt))
+    (Leads_then (puts (Late CloseAlarm)) (puts Abandon) (sound_puts (Late CloseAlarm) (λ c n. refl) tt) (sound_puts Abandon (λ c n. refl) tt))

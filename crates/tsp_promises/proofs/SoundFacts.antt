@@ -2,23 +2,8 @@
 use Rattle.std.specs.Prelude.{◌≡◌, ◌<◌, ℕ, ◌==◌, Bool, true, false, cond, int_lt, List, [], ◌∷◌, Option, None, Some}
 use Rattle.std.proofs.Common.{subst, arith, rules}
 use Rattle.std.proofs.lemmas.Int.{ints}
-use Rattle.tsp_base.specs.declared.act.Act.TheVariants.{Boot, Took, Post, Become, Arm, Acked, Gave, Sample}
-use Rattle.tsp_base.specs.declared.alarm.Alarm.TheVariants.{Close}
-use Rattle.tsp_base.specs.declared.datagram.Datagram.TheVariants.{Message, Stamp}
-use Rattle.tsp_base.specs.declared.datagram.Taken.{Taken}
-use Rattle.tsp_base.specs.declared.datagram.Taken.TheVariants.{Good, Bad}
-use Rattle.tsp_base.specs.declared.message.Body.{Body}
-use Rattle.tsp_base.specs.declared.message.Body.TheVariants.{Nothing, Time, Hops}
-use Rattle.tsp_base.specs.declared.place.PeerId.{PeerId}
-use Rattle.tsp_base.specs.declared.place.Place.TheVariants.{Peer}
-use Rattle.tsp_base.specs.declared.role.Role.TheVariants.{Follow}
-use Rattle.tsp_base.specs.History.{Deed, Begins, Acts, Did, Seen, Here, Elsewhere}
-use Rattle.tsp_base.specs.Names.{IsName}
-use Rattle.tsp_base.specs.PortFacts.{Received, acting, taken, taken_after, message_in, name_of, name_in, kept_name, kept_name_after}
-use Rattle.tsp_base.specs.RoundFacts.{Sampled, Estimate, best, best_after, better, estimate, estimate_of}
-use Rattle.tsp_base.specs.SendFacts.{Sending, open_send, open_to, open_to_after, posts_of, sending_at, sending_of, message_of}
-use Rattle.tsp_base.specs.Takings.{time_in}
-use Rattle.tsp_base.specs.Times.{IsMicros}
+use Rattle.tsp_rules.specs.Values.{Boot, Took, Post, Become, Arm, Sample, Acked, Gave, CloseAlarm, Message, Stamp, Taken, Good, Bad, Body, Nothing, TimeBody, Hops, PeerId, Peer, Follow}
+use Rattle.tsp_base.specs.Words.{Deed, Begins, Acts, Did, Seen, Here, Elsewhere, IsName, Received, acting, taken, taken_after, message_in, name_of, name_in, kept_name, kept_name_after, Sampled, Estimate, best, best_after, better, estimate, estimate_of, Sending, open_send, open_to, open_to_after, posts_of, sending_at, sending_of, message_of, time_in, IsMicros}
 use Rattle.tsp_promises.specs.Sound.{IsSound, IsSoundBody, IsSoundTaken, IsSoundDeed, AreSound}
 use Rattle.tsp_promises.proofs.Leaves.{none-some, some-same}
 
@@ -117,7 +102,7 @@ ticket-cond false here keep h k = k
 best-deed : (p : PeerId) (deed : Deed) (here before : List Seen) (keep : Option Sampled) → IsSoundDeed deed → HasTicket keep → HasTicket (best_after p deed here before keep)
 best-deed p (Acts Boot) here before keep s k = tt
 best-deed p (Acts (Become r)) here before keep s k = tt
-best-deed p (Acts (Arm Close at)) here before keep s k = tt
+best-deed p (Acts (Arm CloseAlarm at)) here before keep s k = tt
 best-deed p (Acts (Sample q counter diff err ticket)) here before keep s k = ticket-cond (q.0 == p.0) _ keep (better-sound keep _ k s) k
 best-deed p _ here before keep s k = k
 
@@ -142,4 +127,4 @@ estimate_sound p seen s = estimate-of (best p seen) (best_sound p seen s)
 pub time_sound : (b : Body) → IsSoundBody b → IsMicros (time_in b)
 time_sound Nothing h = record { low = omega (arith, ints); high = omega (arith, ints) }
 time_sound (Hops n) h = record { low = omega (arith, ints); high = omega (arith, ints) }
-time_sound (Time t) h = h
+time_sound (TimeBody t) h = h

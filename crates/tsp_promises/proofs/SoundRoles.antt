@@ -1,18 +1,8 @@
 -- What a port of each role does with a peer's message keeps it sound.
 use Rattle.std.specs.Prelude.{◌<◌, ◌^◌, ℕ, ◌==◌, ℤ, refl}
 use Rattle.std.proofs.Common.{arith}
-use Rattle.tsp_base.specs.declared.act.Act.TheVariants.{Become, Back, Backer, Join, Rival, Acked}
-use Rattle.tsp_base.specs.declared.alarm.Alarm.TheVariants.{Search, Resolve as ResolveAlarm}
-use Rattle.tsp_base.specs.declared.constants.TheConstants.{WINDOW}
-use Rattle.tsp_base.specs.declared.kind.Kind.{Kind}
-use Rattle.tsp_base.specs.declared.kind.Kind.TheVariants.{AdjTime, Ack, MasterReq, MasterAck, SetTime, MasterUp, SlaveUp, Election, Accept, Refuse, Conflict, Resolve, Quit}
-use Rattle.tsp_base.specs.declared.place.PeerId.{PeerId}
-use Rattle.tsp_base.specs.declared.role.Role.{Role}
-use Rattle.tsp_base.specs.declared.role.Role.TheVariants.{Starting, Loose, Follow, Candidate, Master}
-use Rattle.tsp_base.specs.Kinds.{carries_time, carries_hops}
-use Rattle.tsp_base.specs.Messages.{MessageValue, body_fits}
-use Rattle.tsp_base.specs.Rows.{Row, nothing, puts, ◌followed_by◌, arms, posts, posts_to_others}
-use Rattle.tsp_base.specs.Takings.{time_in}
+use Rattle.tsp_rules.specs.Values.{Become, Back, Backer, Acked, Join, Rival, Search, ResolveAlarm, Kind, Accept, Ack, AdjTime, Conflict, Election, MasterAck, MasterReq, MasterUp, QuitKind, Refuse, ResolveKind, SetTime, SlaveUp, PeerId, Role, Starting, Loose, Follow, Candidate, Master, WINDOW}
+use Rattle.tsp_base.specs.Words.{carries_time, carries_hops, MessageValue, body_fits, Row, nothing, puts, ◌followed_by◌, arms, posts, posts_to_others, time_in}
 use Rattle.tsp_base.proofs.LeadsLemmas.{Leads_then, Leads_nothing}
 use Rattle.tsp_rules.specs.Answers.{says_in, peer_says}
 use Rattle.tsp_rules.specs.CandidateRows.{yields, accepted_by, refused_by, candidate_takes_kind, candidate_takes}
@@ -89,7 +79,7 @@ sound_slave p m MasterAck few = sound_reading role_at (masterack_in p) (masterac
 sound_slave p m Election few = sound_election p m.number few
 sound_slave p m AdjTime few = sound_reading role_at (from_master p (adjtime_of p m.number (time_in m.body))) (sound_from_master p (adjtime_of p m.number (time_in m.body)) (sound_adjtime p m.number (time_in m.body) few))
 sound_slave p m SetTime few = sound_reading role_at (from_master p (settime_of p m.number (time_in m.body))) (sound_from_master p (settime_of p m.number (time_in m.body)) (sound_settime p m.number (time_in m.body) few))
-sound_slave p m Quit few = sound_quits p m.number few
+sound_slave p m QuitKind few = sound_quits p m.number few
 sound_slave p m Ack few = sound_acknowledges p m.number
 sound_slave p m _ few = Leads_nothing
 
@@ -113,7 +103,7 @@ sound_candidate p m MasterAck few = sound_follow p
 sound_candidate p m Election few = sound_posts p Refuse m.number refl few
 sound_candidate p m Accept few = accepted-sound p m.number
 sound_candidate p m Refuse few = refused-sound p m.number
-sound_candidate p m Quit few = sound_quits p m.number few
+sound_candidate p m QuitKind few = sound_quits p m.number few
 sound_candidate p m Ack few = sound_acknowledges p m.number
 sound_candidate p m _ few = Leads_nothing
 
@@ -124,12 +114,12 @@ joins-sound p number few = sound_either (may_join p number) (puts (Join p) follo
 
 away-sound : (p : PeerId) → Soundly (sends_away p)
 unfolding sends_away body_fits carries_time carries_hops
-away-sound p = sound_either (has_quit p) nothing (begins Quit p) Leads_nothing (sound_begins Quit p refl)
+away-sound p = sound_either (has_quit p) nothing (begins QuitKind p) Leads_nothing (sound_begins QuitKind p refl)
 
 resolves-sound : Soundly resolves
 unfolding resolves body_fits carries_time carries_hops
-resolves-sound = sound_either (is_armed ResolveAlarm) nothing (arms ResolveAlarm WINDOW followed_by posts_to_others Resolve 0) Leads_nothing
-    (Leads_then (arms ResolveAlarm WINDOW) (posts_to_others Resolve 0) (sound_arms ResolveAlarm WINDOW) (sound_posts_to_others Resolve 0 refl (omega arith)))
+resolves-sound = sound_either (is_armed ResolveAlarm) nothing (arms ResolveAlarm WINDOW followed_by posts_to_others ResolveKind 0) Leads_nothing
+    (Leads_then (arms ResolveAlarm WINDOW) (posts_to_others ResolveKind 0) (sound_arms ResolveAlarm WINDOW) (sound_posts_to_others ResolveKind 0 refl (omega arith)))
 
 rival-sound : (p : PeerId) → Soundly (finds_rival p)
 unfolding finds_rival
@@ -138,13 +128,13 @@ rival-sound p = sound_either (is_new_rival p) (puts (Rival p)) nothing (sound_pu
 pub sound_master : (p : PeerId) (m : MessageValue) (k : Kind) → m.number < 2 ^ 16 → Soundly (master_takes_kind p m k)
 unfolding master_takes_kind body_fits carries_time carries_hops
 sound_master p m MasterReq few = sound_posts p MasterAck m.number refl few
-sound_master p m Resolve few = sound_posts p MasterAck m.number refl few
+sound_master p m ResolveKind few = sound_posts p MasterAck m.number refl few
 sound_master p m SlaveUp few = joins-sound p m.number few
 sound_master p m Election few = away-sound p
 sound_master p m MasterUp few = resolves-sound
 sound_master p m Conflict few = Leads_then (posts p Ack m.number) resolves (sound_posts p Ack m.number refl few) resolves-sound
 sound_master p m MasterAck few = rival-sound p
-sound_master p m Quit few = sound_quits p m.number few
+sound_master p m QuitKind few = sound_quits p m.number few
 sound_master p m Ack few = sound_acknowledges p m.number
 sound_master p m _ few = Leads_nothing
 

@@ -4,30 +4,8 @@ use Rattle.std.proofs.Common.{sym, subst, arith}
 use Rattle.std.proofs.Math.Nat.{mod-lt}
 use Rattle.std.proofs.lemmas.Int.{ints}
 use Rattle.std.proofs.lemmas.Bool.{and_parts}
-use Rattle.tsp_base.specs.declared.act.Act.{Act}
-use Rattle.tsp_base.specs.declared.act.Act.TheVariants.{Post, Become, Back, Quit, Leave, Acked, Gave, Trace}
-use Rattle.tsp_base.specs.declared.alarm.Alarm.{Alarm}
-use Rattle.tsp_base.specs.declared.alarm.Alarm.TheVariants.{Search, Elect, Window}
-use Rattle.tsp_base.specs.declared.constants.TheConstants.{WINDOW}
-use Rattle.tsp_base.specs.declared.datagram.Datagram.TheVariants.{Message}
-use Rattle.tsp_base.specs.declared.kind.Kind.{Kind}
-use Rattle.tsp_base.specs.declared.kind.Kind.TheVariants.{AdjTime, SetTime, Ack, MasterReq, SlaveUp, Election, SetDateReq}
-use Rattle.tsp_base.specs.declared.message.Body.TheVariants.{Nothing, Time}
-use Rattle.tsp_base.specs.declared.place.PeerId.{PeerId}
-use Rattle.tsp_base.specs.declared.place.Place.{Place}
-use Rattle.tsp_base.specs.declared.place.Place.TheVariants.{Peer}
-use Rattle.tsp_base.specs.declared.role.Role.{Role}
-use Rattle.tsp_base.specs.declared.role.Role.TheVariants.{Follow, Candidate, Master}
-use Rattle.tsp_base.specs.History.{Acts, Cause, Past, plain}
-use Rattle.tsp_base.specs.Kinds.{carries_time, carries_hops}
-use Rattle.tsp_base.specs.Leads.{Leads}
-use Rattle.tsp_base.specs.Messages.{body_fits}
-use Rattle.tsp_base.specs.Names.{IsName}
-use Rattle.tsp_base.specs.NodeFacts.{word, word_after, corrects}
-use Rattle.tsp_base.specs.Rows.{Row, grown, nothing, puts, ◌followed_by◌, either_by, reading, for_each, arms, bare, timed, posts, posts_to_others, posts_back, posts_time}
-use Rattle.tsp_base.specs.SendFacts.{Sending, begun, is_correction}
-use Rattle.tsp_base.specs.Stamps.{IsReply}
-use Rattle.tsp_base.specs.Times.{IsMicros}
+use Rattle.tsp_rules.specs.Values.{Act, Post, Become, Back, Acked, Gave, Leave, Quit, Trace, Alarm, Window, Elect, Search, Message, Kind, Ack, AdjTime, Election, MasterReq, SetDateReq, SetTime, SlaveUp, Nothing, TimeBody, PeerId, Place, Peer, Role, Follow, Candidate, Master, WINDOW}
+use Rattle.tsp_base.specs.Words.{Acts, Cause, Past, plain, carries_time, carries_hops, Leads, body_fits, IsName, word, word_after, corrects, Row, grown, nothing, puts, ◌followed_by◌, either_by, reading, for_each, arms, bare, timed, posts, posts_to_others, posts_back, posts_time, Sending, begun, is_correction, IsReply, IsMicros}
 use Rattle.tsp_base.proofs.LeadsLemmas.{Leads_then, Leads_either, Leads_reading, Leads_nothing, Leads_puts, Leads_each, Leads_from}
 use Rattle.tsp_rules.specs.CommonRows.{arms_elect, searches, tells_ticket, follow_row, own_at, backs_own, candidature_row, follows_unless, quits, posts_reply, replies, master_name_in, master_name, names_master, says_master, traces, may_be_asked, is_awake, tests}
 use Rattle.tsp_rules.specs.SendRows.{next_number, begins, begins_timed, others_at, begins_to_others, may_correct, begins_adjtime, may_set, begins_settime, open_at, has_other, acknowledges, is_send_due, is_spent, leaves_after, gives_up, repeats, repeats_send, due_send, peers_at, due_sends}
@@ -78,10 +56,10 @@ pub sound_posts_to_others : (kind : Kind) (number : ℕ) → body_fits kind Noth
 sound_posts_to_others kind number carries few = Leads_others kind number (λ x past p h. sound_act x past _ (λ c n. refl) (bare_sound kind number past.name carries few h.name) h)
 
 -- a message with a time
-pub timed_sound : (kind : Kind) (number : ℕ) (time : ℤ) (name : List ℕ) → body_fits kind (Time time) ≡ true → number < 2 ^ 16 → IsMicros time → IsName name → IsSound (Message (timed kind number time name))
+pub timed_sound : (kind : Kind) (number : ℕ) (time : ℤ) (name : List ℕ) → body_fits kind (TimeBody time) ≡ true → number < 2 ^ 16 → IsMicros time → IsName name → IsSound (Message (timed kind number time name))
 timed_sound kind number time name carries few is named = (few, carries, named, is)
 
-pub sound_posts_time : (p : PeerId) (kind : Kind) (number : ℕ) (time : ℤ) → body_fits kind (Time time) ≡ true → number < 2 ^ 16 → IsMicros time → Soundly (posts_time p kind number time)
+pub sound_posts_time : (p : PeerId) (kind : Kind) (number : ℕ) (time : ℤ) → body_fits kind (TimeBody time) ≡ true → number < 2 ^ 16 → IsMicros time → Soundly (posts_time p kind number time)
 sound_posts_time p kind number time carries few is = Leads_posts_time p kind number time (λ x past h. sound_act x past _ (λ c n. refl) (timed_sound kind number time past.name carries few is h.name) h)
 
 -- the ticket is one

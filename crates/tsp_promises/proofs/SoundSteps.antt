@@ -2,27 +2,8 @@
 use Rattle.std.specs.Prelude.{◌<◌, ℕ, ◌==◌, Bool, true, false, if◌then◌else◌, List, [], ◌∷◌, ◌++◌, Option, None, Some, All, refl}
 use Rattle.std.proofs.Common.{subst, arith, append-nil, sym}
 use Rattle.std.proofs.lemmas.List.Elements.{All-nil, All-cons}
-use Rattle.tsp_base.specs.declared.act.Act.{Act}
-use Rattle.tsp_base.specs.declared.act.Act.TheVariants.{Took, Acked, Leave, Abandon}
-use Rattle.tsp_base.specs.declared.datagram.Datagram.TheVariants.{Message, Stamp}
-use Rattle.tsp_base.specs.declared.datagram.Taken.{Taken}
-use Rattle.tsp_base.specs.declared.datagram.Taken.TheVariants.{Good, Bad}
-use Rattle.tsp_base.specs.declared.kind.Kind.{Kind}
-use Rattle.tsp_base.specs.declared.kind.Kind.TheVariants.{Ack, MasterUp, SetDateReq, Date, DateReq, DateAck, SetDate, Loop, TraceOn, TraceOff, Msite, MsiteReq, Test}
-use Rattle.tsp_base.specs.declared.place.PeerId.{PeerId}
-use Rattle.tsp_base.specs.declared.place.Place.{Place}
-use Rattle.tsp_base.specs.declared.place.Place.TheVariants.{Peer, Stranger}
-use Rattle.tsp_base.specs.declared.role.Role.{Role}
-use Rattle.tsp_base.specs.declared.role.Role.TheVariants.{Follow, Master}
-use Rattle.tsp_base.specs.declared.stamp.Stamp.TheVariants.{Request, Reply}
-use Rattle.tsp_base.specs.History.{Step, Seen, Here, Acts, Past}
-use Rattle.tsp_base.specs.Kinds.{carries_time, carries_hops}
-use Rattle.tsp_base.specs.Messages.{MessageValue, body_fits}
-use Rattle.tsp_base.specs.NodeFacts.{word}
-use Rattle.tsp_base.specs.RoundFacts.{OpenRequest}
-use Rattle.tsp_base.specs.Rows.{Row, added, grown, nothing, puts, ◌followed_by◌, either_by, reading, for_each, posts, posts_back, posts_to_others}
-use Rattle.tsp_base.specs.Stamps.{ReplyValue}
-use Rattle.tsp_base.specs.Takings.{time_in}
+use Rattle.tsp_rules.specs.Values.{Act, Took, Abandon, Acked, Leave, Message, Stamp, Taken, Good, Bad, Kind, Ack, Date, DateAck, DateReq, LoopKind, MasterUp, Msite, MsiteReq, SetDate, SetDateReq, Test, TraceOff, TraceOn, PeerId, Place, Peer, Stranger, Role, Follow, Master, Request, Reply}
+use Rattle.tsp_base.specs.Words.{Step, Seen, Here, Acts, Past, carries_time, carries_hops, MessageValue, body_fits, word, OpenRequest, Row, added, grown, nothing, puts, ◌followed_by◌, either_by, reading, for_each, posts, posts_back, posts_to_others, ReplyValue, time_in}
 use Rattle.tsp_base.proofs.LeadsLemmas.{Leads_then, Leads_nothing, Leads_each}
 use Rattle.tsp_base.proofs.RowLemmas.{added_append}
 use Rattle.tsp_rules.specs.Answers.{due_alarms, peer_says, replies_in, peer_replies, from_peer, handles_kind, is_left, handles, takes, Turn, Got, input_row, answers}
@@ -111,7 +92,7 @@ sound_handles_kind charge from m SetDate s = date-sound m s charge from
 sound_handles_kind charge from m DateReq s = sound_from_peer from (date_request_of charge m) (date-request-sound m s charge)
 sound_handles_kind charge from m SetDateReq s = sound_from_peer from (date_request_of charge m) (date-request-sound m s charge)
 sound_handles_kind charge from m DateAck s = sound_from_peer from (date_acked m) (date-acked-sound m)
-sound_handles_kind charge from m Loop s = Leads_nothing
+sound_handles_kind charge from m LoopKind s = Leads_nothing
 sound_handles_kind charge from m _ s = sound_from_peer from (peer_says m) (λ p. sound_peer_says m p s.0)
 
 pub sound_handles : (steer charge : Bool) (from : Place) (t : Taken) → IsSoundTaken t → Soundly (handles steer charge from t)

@@ -2,14 +2,10 @@
 use Rattle.std.specs.Prelude.{◌≡◌, ◌==◌, Bool, true, false, ℕ, ◌+◌, ◌*◌, ◌<◌, ◌≤◌, List, [], ◌∷◌, refl}
 use Rattle.std.proofs.Common.{sym, arith, subst, inl, inr, eqb-true}
 use Rattle.std.proofs.lemmas.Bool.{cases_lt}
-use Rattle.tsp_base.specs.declared.act.Act.TheVariants.{Boot, Correct}
-use Rattle.tsp_base.specs.declared.constants.TheConstants.{GAP}
+use Rattle.tsp_rules.specs.Values.{Boot, Correct, GAP}
+use Rattle.tsp_base.specs.Words.{Deed, Acts, Did, Line, of, dids, all_corrects, last_correct, time_of, Within, tick_at}
 use Rattle.tsp_promises.specs.Fits.{Fits, node_of}
-use Rattle.tsp_base.specs.History.{Deed, Acts, Did, Line, of, dids}
-use Rattle.tsp_base.specs.NodeFacts.{all_corrects, last_correct, time_of}
-use Rattle.tsp_base.specs.Places.{Within}
 use Rattle.tsp_promises.specs.Setting.{Setting}
-use Rattle.tsp_base.specs.Ticks.{tick_at}
 use Rattle.tsp_promises.specs.OwnFits.{OwnFits}
 use Rattle.tsp_promises.proofs.Clocks.{tick-mono}
 use Rattle.tsp_promises.proofs.OwnFitsProof.{own_fits, place-time, tick_is}

@@ -1,24 +1,8 @@
 -- What corrects a clock and is no date is taken by a follower, which stays one.
 use Rattle.std.specs.Prelude.{◌≡◌, ◌⊎◌, ℕ, ◌==◌, ◌||◌, ◌&&◌, ℤ, Bool, true, false, if◌then◌else◌, List, [], ◌∷◌, ◌++◌, refl}
 use Rattle.std.proofs.Common.{sym, ap, inl, inr, true≢false}
-use Rattle.tsp_base.specs.declared.act.Act.{Act}
-use Rattle.tsp_base.specs.declared.act.Act.TheVariants.{Took}
-use Rattle.tsp_base.specs.declared.datagram.Datagram.TheVariants.{Message}
-use Rattle.tsp_base.specs.declared.datagram.Taken.{Taken}
-use Rattle.tsp_base.specs.declared.datagram.Taken.TheVariants.{Good}
-use Rattle.tsp_base.specs.declared.kind.Kind.{Kind}
-use Rattle.tsp_base.specs.declared.kind.Kind.TheVariants.{AdjTime, SetTime, Ack, MasterUp, MasterAck, Election, Quit as QuitKind, Date, SetDate, DateReq, SetDateReq, DateAck, TraceOn, TraceOff, Msite, MsiteReq, Test, Loop}
-use Rattle.tsp_base.specs.declared.place.PeerId.{PeerId}
-use Rattle.tsp_base.specs.declared.place.Place.{Place}
-use Rattle.tsp_base.specs.declared.place.Place.TheVariants.{Peer, Stranger}
-use Rattle.tsp_base.specs.declared.role.Role.{Role}
-use Rattle.tsp_base.specs.declared.role.Role.TheVariants.{Starting, Loose, Follow, Candidate, Master}
-use Rattle.tsp_base.specs.History.{Past}
-use Rattle.tsp_base.specs.Messages.{MessageValue}
-use Rattle.tsp_base.specs.PortFacts.{role}
-use Rattle.tsp_base.specs.Rows.{Row, grown, nothing, puts, ◌followed_by◌, either_by, reading, arms, posts, posts_back}
-use Rattle.tsp_base.specs.SendFacts.{sets_date}
-use Rattle.tsp_base.specs.Takings.{time_in}
+use Rattle.tsp_rules.specs.Values.{Act, Took, Message, Taken, Good, Kind, Ack, AdjTime, Date, DateAck, DateReq, Election, LoopKind, MasterAck, MasterUp, Msite, MsiteReq, QuitKind, SetDate, SetDateReq, SetTime, Test, TraceOff, TraceOn, PeerId, Place, Peer, Stranger, Role, Starting, Loose, Follow, Candidate, Master}
+use Rattle.tsp_base.specs.Words.{Past, MessageValue, role, Row, grown, nothing, puts, ◌followed_by◌, either_by, reading, arms, posts, posts_back, sets_date, time_in}
 use Rattle.tsp_rules.specs.Answers.{says_in, peer_says, from_peer, handles_kind, is_left, handles, takes}
 use Rattle.tsp_rules.specs.CandidateRows.{candidate_takes}
 use Rattle.tsp_rules.specs.ClockRows.{adjusts, sets}
@@ -171,7 +155,7 @@ steady-kind from m SetDate e = absurd (true≢false e)
 steady-kind from m DateReq e = absurd (true≢false e)
 steady-kind from m SetDateReq e = absurd (true≢false e)
 steady-kind from m DateAck e = steady-peer from _ (λ p. steady-still _ (still_calm false 0 1 _ (calm-date-acked m p)))
-steady-kind from m Loop e = steady-still nothing still-nothing
+steady-kind from m LoopKind e = steady-still nothing still-nothing
 steady-kind from m _ e = steady-peer from (peer_says m) (steady-says m)
 
 -- a message that sets no date is taken

@@ -2,16 +2,12 @@
 use Rattle.std.specs.Prelude.{◌≡◌, ◌==◌, ◌≤◌, ◌⊎◌, ℕ, ◌+◌, ◌-◌, ◌*◌, ◌/◌, ℤ, pos, negsuc, ◌+ℤ◌, ◌-ℤ◌, nat_abs, Bool, true, false, List, [], ◌∷◌, refl}
 use Rattle.std.proofs.Common.{arith, subst, sym, inl, inr, eqb-true, true≢false, ◌∙◌}
 use Rattle.std.proofs.lemmas.Int.{ints}
-use Rattle.tsp_base.specs.declared.act.Act.TheVariants.{Boot, Correct}
-use Rattle.tsp_base.specs.declared.constants.TheConstants.{SLEW}
+use Rattle.tsp_rules.specs.Values.{Boot, Correct, SLEW}
+use Rattle.tsp_base.specs.Words.{Deed, Begins, Acts, Did, Line, of, dids, boot_after, boot_tick, eased, last_correct, last_correct_after, lives, lives_after, moved, moved_after, rest, rest_after, shown, target, tick_of, time_of, wall, wall_after, Within, tick_at, width}
 use Rattle.tsp_promises.specs.Fits.{Fits, node_of}
-use Rattle.tsp_base.specs.History.{Deed, Begins, Acts, Did, Line, of, dids}
-use Rattle.tsp_base.specs.NodeFacts.{boot_after, boot_tick, eased, last_correct, last_correct_after, lives, lives_after, moved, moved_after, rest, rest_after, shown, target, tick_of, time_of, wall, wall_after}
-use Rattle.tsp_base.specs.Places.{Within}
 use Rattle.tsp_promises.specs.Setting.{Setting}
 use Rattle.tsp_promises.specs.ShownAt.{shown_at}
 use Rattle.tsp_promises.specs.Steady.{Advances, Meets, MeetsBy, NoneStepped, RunsOn, RunsOverTime, Steady, SteadyAt}
-use Rattle.tsp_base.specs.Ticks.{tick_at, width}
 use Rattle.tsp_promises.specs.OwnFits.{OwnFits}
 use Rattle.tsp_promises.proofs.Clocks.{tick-mono, ticks_over}
 use Rattle.tsp_promises.proofs.EverywhereLemmas.{Everywhere-from}

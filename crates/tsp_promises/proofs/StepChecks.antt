@@ -2,30 +2,17 @@
 use Rattle.std.specs.Prelude.{◌≡◌, ◌==◌, ◌||◌, ◌&&◌, nat_lt, cond, Bool, true, false, ℕ, zero, suc, if◌then◌else◌, List, [], ◌∷◌, Option, None, Some, is_some, refl}
 use Rattle.std.proofs.Common.{sym, ap, arith, subst, eqb-true, true≢false, ◌∙◌}
 use Rattle.std.proofs.lemmas.Bool.{ltb-true, and_parts}
-use Rattle.tsp_base.specs.declared.act.Act.TheVariants.{Abandon, Arm, Become, Boot, Correct, Late, Post, Ring, Sample}
-use Rattle.tsp_base.specs.declared.alarm.Alarm.TheVariants.{Close}
-use Rattle.tsp_base.specs.declared.datagram.Datagram.TheVariants.{Stamp}
-use Rattle.tsp_base.specs.declared.place.PeerId.{PeerId}
-use Rattle.tsp_base.specs.declared.place.Place.TheVariants.{Peer}
-use Rattle.tsp_base.specs.declared.place.Port.{Port}
-use Rattle.tsp_base.specs.declared.role.Role.{Role}
-use Rattle.tsp_base.specs.declared.role.Role.TheVariants.{Follow}
-use Rattle.tsp_base.specs.declared.stamp.Stamp.TheVariants.{Request}
-use Rattle.tsp_base.specs.History.{Begins, Acts, Deed, Did, Line, Seen, Here, Elsewhere, plain, view, seen_as, is_shared}
-use Rattle.tsp_base.specs.Peers.{is_among}
-use Rattle.tsp_base.specs.PortFacts.{role}
-use Rattle.tsp_base.specs.RoundFacts.{exchange, exchange_after}
-use Rattle.tsp_base.specs.Setup.{Setup}
+use Rattle.tsp_rules.specs.Values.{Boot, Post, Become, Arm, Ring, Late, Abandon, Correct, Sample, CloseAlarm, Stamp, PeerId, Peer, Port, Role, Follow, Request}
+use Rattle.tsp_base.specs.Words.{Begins, Acts, Deed, Did, Line, Seen, Here, Elsewhere, plain, view, seen_as, is_shared, is_among, role, exchange, exchange_after, Setup, Undisturbed}
 use Rattle.tsp_promises.specs.StepFacts.{StepEnds, is_unbacked, owes, unacknowledged, unheeded}
-use Rattle.tsp_base.specs.Takings.{Undisturbed}
 use Rattle.tsp_promises.proofs.Leaves.{none-among, nil-cons}
 use Rattle.tsp_rules.proofs.GuardFacts.{same_peer}
 
 abbrev asks_after : Deed → Bool → Bool
 asks_after (Acts Boot) keep = false
 asks_after (Acts (Become r)) keep = false
-asks_after (Acts (Arm Close at)) keep = false
-asks_after (Acts (Ring Close)) keep = false
+asks_after (Acts (Arm CloseAlarm at)) keep = false
+asks_after (Acts (Ring CloseAlarm)) keep = false
 asks_after (Acts (Post (Peer q) (Stamp (Request word counter)))) keep = true
 asks_after _ keep = keep
 
@@ -38,8 +25,8 @@ asks (Elsewhere d ∷ before) = asks before
 abbrev rests_after : Deed → Bool → Bool → Bool
 rests_after (Acts Boot) asking keep = true
 rests_after (Acts (Become r)) asking keep = true
-rests_after (Acts (Arm Close at)) asking keep = true
-rests_after (Acts (Ring Close)) asking keep = true
+rests_after (Acts (Arm CloseAlarm at)) asking keep = true
+rests_after (Acts (Ring CloseAlarm)) asking keep = true
 rests_after (Acts (Correct amount stepped shown)) asking keep = if asking then false else keep
 rests_after _ asking keep = keep
 
@@ -61,9 +48,9 @@ if-none false keep e = e
 none-deed : (p : PeerId) (c : ℕ) (deed : Deed) (here before : List Seen) → (asks before ≡ false → exchange p c before ≡ []) → asks_after deed (asks before) ≡ false → exchange_after p c deed here (exchange p c before) ≡ []
 none-deed p c (Acts Boot) here before h e = refl
 none-deed p c (Acts (Become r)) here before h e = refl
-none-deed p c (Acts (Arm Close at)) here before h e = refl
-none-deed p c (Acts (Ring Close)) here before h e = refl
-none-deed p c (Acts (Late Close)) here before h e = refl
+none-deed p c (Acts (Arm CloseAlarm at)) here before h e = refl
+none-deed p c (Acts (Ring CloseAlarm)) here before h e = refl
+none-deed p c (Acts (Late CloseAlarm)) here before h e = refl
 none-deed p c (Acts Abandon) here before h e = refl
 none-deed p c (Acts (Post (Peer q) (Stamp (Request word counter)))) here before h e = absurd (true≢false e)
 none-deed p c (Acts (Sample q counter diff err ticket)) here before h e = if-none ((q.0 == p.0) && (counter == c)) (exchange p c before) (h e)
@@ -94,9 +81,9 @@ quiet-deed : (p : PeerId) (c : ℕ) (d : Did) (deed : Deed) (before : List Seen)
     exchange_after p c deed (Here d ∷ before) (exchange p c before) ≡ Here request ∷ older → Undisturbed (plain older) (plain (Here d ∷ before))
 quiet-deed p c d (Acts Boot) before is h r request older e = nil-cons (Here request) older e
 quiet-deed p c d (Acts (Become role)) before is h r request older e = nil-cons (Here request) older e
-quiet-deed p c d (Acts (Arm Close at)) before is h r request older e = nil-cons (Here request) older e
-quiet-deed p c d (Acts (Ring Close)) before is h r request older e = nil-cons (Here request) older e
-quiet-deed p c d (Acts (Late Close)) before is h r request older e = nil-cons (Here request) older e
+quiet-deed p c d (Acts (Arm CloseAlarm at)) before is h r request older e = nil-cons (Here request) older e
+quiet-deed p c d (Acts (Ring CloseAlarm)) before is h r request older e = nil-cons (Here request) older e
+quiet-deed p c d (Acts (Late CloseAlarm)) before is h r request older e = nil-cons (Here request) older e
 quiet-deed p c d (Acts Abandon) before is h r request older e = nil-cons (Here request) older e
 quiet-deed p c d (Acts (Correct amount stepped shown)) before is h r request older e = absurd (no-open p c before request older (asks before) (rests before) (none-open p c before) r e)
 quiet-deed p c d (Acts (Post (Peer q) (Stamp (Request word counter)))) before is h r request older e =

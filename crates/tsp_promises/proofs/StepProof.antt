@@ -1,16 +1,12 @@
 -- Lines of one step, and where steps have ended.
 use Rattle.std.specs.Prelude.{◌≡◌, ◌==◌, ◌≤◌, Bool, true, false, ℕ, List, [], ◌∷◌, refl}
 use Rattle.std.proofs.Common.{sym, ap, arith, subst, inl, inr, eqb-true, ◌∙◌}
-use Rattle.tsp_base.specs.declared.act.Act.{Act}
-use Rattle.tsp_base.specs.declared.place.Port.{Port}
+use Rattle.tsp_rules.specs.Values.{Act, Port}
+use Rattle.tsp_base.specs.Words.{Begins, Acts, Deed, Did, Line, Step, of, dids, view, time_of, Within, steps, steps_after}
 use Rattle.tsp_promises.specs.Everywhere.{Everywhere}
 use Rattle.tsp_promises.specs.Fits.{Finished, Fits, LineFits, SameStep, node_of}
-use Rattle.tsp_base.specs.History.{Begins, Acts, Deed, Did, Line, Step, of, dids, view}
-use Rattle.tsp_base.specs.NodeFacts.{time_of}
-use Rattle.tsp_base.specs.Places.{Within}
 use Rattle.tsp_promises.specs.Setting.{Setting, setup_of}
 use Rattle.tsp_promises.specs.StepFacts.{StepEnds}
-use Rattle.tsp_base.specs.Takings.{steps, steps_after}
 use Rattle.tsp_base.proofs.PlaceLemmas.{Within-comparable, Within-none}
 use Rattle.tsp_promises.specs.OwnFits.{OwnFits}
 use Rattle.tsp_promises.proofs.HistoryPlaces.{of-other}

@@ -1,13 +1,8 @@
 -- How a port that was stirred comes to rest: its round is given up, where one goes on.
 use Rattle.std.specs.Prelude.{◌≡◌, ℕ, Bool, true, false, if◌then◌else◌, List, [], ◌∷◌, ◌++◌, Option, None, Some, is_some, refl}
 use Rattle.std.proofs.Common.{sym, subst, inl, inr, true≢false, append-nil, ◌∙◌}
-use Rattle.tsp_base.specs.declared.act.Act.TheVariants.{Abandon}
-use Rattle.tsp_base.specs.declared.place.PeerId.{PeerId}
-use Rattle.tsp_base.specs.History.{Seen, Past}
-use Rattle.tsp_base.specs.Leads.{Leads}
-use Rattle.tsp_base.specs.PortFacts.{armed}
-use Rattle.tsp_base.specs.RoundFacts.{is_going}
-use Rattle.tsp_base.specs.Rows.{Row, grown, nothing, puts, either_by}
+use Rattle.tsp_rules.specs.Values.{Abandon, PeerId}
+use Rattle.tsp_base.specs.Words.{Seen, Past, Leads, armed, is_going, Row, grown, nothing, puts, either_by}
 use Rattle.tsp_base.proofs.RowLemmas.{added_append}
 use Rattle.tsp_rules.specs.RoundRows.{abandons, abandons_going, corrects, upsetting}
 use Rattle.tsp_promises.proofs.Known.{KnowsOf, Rests, RestsIn}

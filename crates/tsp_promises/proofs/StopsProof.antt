@@ -1,30 +1,14 @@
 -- Rivals that take the QUITs of one resolution lead no more.
 use Rattle.std.specs.Prelude.{◌≡◌, ◌==◌, ◌||◌, ◌≤◌, ◌<◌, Bool, true, false, ℕ, ◌+◌, List, [], ◌∷◌, refl}
 use Rattle.std.proofs.Common.{sym, ap, arith, subst, inl, inr, eq-eqb, ◌∙◌}
-use Rattle.tsp_base.specs.declared.act.Act.TheVariants.{Boot, Become, Post, Quit, Ring}
-use Rattle.tsp_base.specs.declared.alarm.Alarm.TheVariants.{Resolve}
-use Rattle.tsp_base.specs.declared.constants.TheConstants.{ELECT_MIN, LIFE}
-use Rattle.tsp_base.specs.declared.datagram.Datagram.TheVariants.{Message}
-use Rattle.tsp_base.specs.declared.place.PeerId.{PeerId}
-use Rattle.tsp_base.specs.declared.place.Place.TheVariants.{Peer}
-use Rattle.tsp_base.specs.declared.place.Port.{Port}
-use Rattle.tsp_base.specs.declared.role.Role.{Role}
-use Rattle.tsp_base.specs.declared.role.Role.TheVariants.{Follow, Master}
+use Rattle.tsp_rules.specs.Values.{Boot, Post, Become, Ring, Quit, ResolveAlarm, Message, PeerId, Peer, Port, Role, Follow, Master, ELECT_MIN, LIFE}
+use Rattle.tsp_base.specs.Words.{Step, Begins, Acts, Deed, Did, Line, Seen, Here, of, dids, view, plain, seen_as, is_shared, boot_tick, tick_of, time_of, is_among, Within, role, role_after, begun_to, peer_of, steps, MessageValue, tick_at}
 use Rattle.tsp_promises.specs.DeedFits.{DeedFits}
 use Rattle.tsp_promises.specs.Fits.{Fits, Finished, Sees, node_of}
-use Rattle.tsp_base.specs.History.{Step, Begins, Acts, Deed, Did, Line, Seen, Here, of, dids, view, plain, seen_as, is_shared}
-use Rattle.tsp_base.specs.NodeFacts.{boot_tick, tick_of, time_of}
-use Rattle.tsp_base.specs.Peers.{is_among}
-use Rattle.tsp_base.specs.Places.{Within}
-use Rattle.tsp_base.specs.PortFacts.{role, role_after}
 use Rattle.tsp_promises.specs.Premises.{Life, TakenWithinAt}
 use Rattle.tsp_promises.specs.Resolved.{StopsBy, StopsLeading, TakesQuit}
 use Rattle.tsp_promises.specs.Setting.{Setting, setup_of}
 use Rattle.tsp_promises.specs.StepFacts.{owes, owes_after}
-use Rattle.tsp_base.specs.SendFacts.{begun_to}
-use Rattle.tsp_base.specs.Takings.{peer_of, steps}
-use Rattle.tsp_base.specs.Messages.{MessageValue}
-use Rattle.tsp_base.specs.Ticks.{tick_at}
 use Rattle.tsp_promises.proofs.EverywhereLemmas.{Everywhere-from, Everywhere-within}
 use Rattle.tsp_base.proofs.PlaceLemmas.{Within-none, Within-tail, Within-through}
 use Rattle.tsp_base.proofs.ViewPlaces.{sees-own, Within-dids}
@@ -94,7 +78,7 @@ record Times (ring x : Line) : Type 0 where
   pub soon : x.did.step.at ≤ ring.did.step.at + 34004007
 
 -- the send of the QUIT begins in the alarm's step
-begins-then : (setting : Setting) (m : ℕ) (q : Port) (ring : Line) (past fw h : List Line) (first : Did) (p : PeerId) (message : MessageValue) → Fits setting h → Within (ring ∷ past) h → node_of ring ≡ m → ring.did.deed ≡ Acts (Ring Resolve) →
+begins-then : (setting : Setting) (m : ℕ) (q : Port) (ring : Line) (past fw h : List Line) (first : Did) (p : PeerId) (message : MessageValue) → Fits setting h → Within (ring ∷ past) h → node_of ring ≡ m → ring.did.deed ≡ Acts (Ring ResolveAlarm) →
     Within (line_on q first ∷ fw) h → first.step.node ≡ m → first.deed ≡ Acts (Post (Peer p) (Message message)) → steps (plain (view q (of m fw))) ≡ steps (dids (of m (ring ∷ past))) → first.step ≡ ring.did.step
 begins-then setting m q ring past fw h first p message f ring_in ring_node rings first_in first_node deed same =
     let own = own-stepped setting (of m h) (own_fits setting m h f) in
@@ -102,9 +86,9 @@ begins-then setting m q ring past fw h first p message f ring_in ring_node rings
     let b : Within (ring.did ∷ dids (of m past)) (dids (of m h)) = Within-dids (ring ∷ of m past) (of m h) (own_in m ring past h ring_node ring_in) in
     let count_a : steps (first ∷ dids (of m fw)) ≡ steps (plain (view q (of m fw))) = rw deed (ap steps (sym (plain_view q (of m fw)))) in
     let count_b : steps (dids (of m (ring ∷ past))) ≡ steps (ring.did ∷ dids (of m past)) = ap (λ z. steps (dids z)) (of-own m ring past ring_node) in
-    one_step first ring.did (dids (of m fw)) (dids (of m past)) (dids (of m h)) own a b (count_a ∙ (same ∙ count_b)) (Post (Peer p) (Message message)) (Ring Resolve) deed rings
+    one_step first ring.did (dids (of m fw)) (dids (of m past)) (dids (of m h)) own a b (count_a ∙ (same ∙ count_b)) (Post (Peer p) (Message message)) (Ring ResolveAlarm) deed rings
 
-takes-times : (setting : Setting) (ring x : Line) (rpast xpast h : List Line) → Fits setting h → Life h → Within (ring ∷ rpast) h → ring.did.deed ≡ Acts (Ring Resolve) → Within (x ∷ xpast) h → TakesQuit ring rpast x xpast → Times ring x
+takes-times : (setting : Setting) (ring x : Line) (rpast xpast h : List Line) → Fits setting h → Life h → Within (ring ∷ rpast) h → ring.did.deed ≡ Acts (Ring ResolveAlarm) → Within (x ∷ xpast) h → TakesQuit ring rpast x xpast → Times ring x
 takes-times setting ring x rpast xpast h f life ring_in rings x_in t =
     let m = node_of ring in
     let p = t.post in

@@ -1,28 +1,14 @@
 -- What goes to strangers answers what was taken from one.
 use Rattle.std.specs.Prelude.{◌≡◌, true, false, if◌then◌else◌, List, [], ◌∷◌, Option, None, Some, refl}
 use Rattle.std.proofs.Common.{sym, ap, subst, subst₂, inl, inr, true≢false, ◌∙◌}
-use Rattle.tsp_base.specs.declared.act.Act.TheVariants.{Post, Took}
-use Rattle.tsp_base.specs.declared.datagram.Datagram.{Datagram}
-use Rattle.tsp_base.specs.declared.datagram.Datagram.TheVariants.{Message, Stamp}
-use Rattle.tsp_base.specs.declared.kind.Kind.{Kind}
-use Rattle.tsp_base.specs.declared.kind.Kind.TheVariants.{Ack, DateAck}
-use Rattle.tsp_base.specs.declared.datagram.Taken.TheVariants.{Good}
-use Rattle.tsp_base.specs.declared.place.PeerId.{PeerId}
-use Rattle.tsp_base.specs.declared.place.Place.{Place}
-use Rattle.tsp_base.specs.declared.place.Place.TheVariants.{Peer, Stranger}
-use Rattle.tsp_base.specs.declared.stamp.Stamp.TheVariants.{Reply, Request}
+use Rattle.tsp_rules.specs.Values.{Took, Post, Datagram, Message, Stamp, Good, Kind, Ack, DateAck, PeerId, Place, Peer, Stranger, Request, Reply}
+use Rattle.tsp_base.specs.Words.{Begins, Acts, Deed, Did, Seen, Here, Elsewhere, MessageValue, Received, kept_name, message_in, role, taken, taken_after, Setup, ReplyValue, TakesFrom}
 use Rattle.tsp_promises.specs.AckFits.{AckFits}
 use Rattle.tsp_promises.specs.Answered.{AnswersWith, acknowledges, is_answer}
 use Rattle.tsp_promises.specs.DateFits.{DateAckFits}
 use Rattle.tsp_promises.specs.DeedFits.{DeedFits, MessageFits, NamedFits, PostFits, StrangerFits, answer_name, asks_name}
-use Rattle.tsp_base.specs.History.{Begins, Acts, Deed, Did, Seen, Here, Elsewhere}
-use Rattle.tsp_base.specs.Messages.{MessageValue}
-use Rattle.tsp_base.specs.PortFacts.{Received, kept_name, message_in, role, taken, taken_after}
-use Rattle.tsp_base.specs.Setup.{Setup}
-use Rattle.tsp_base.specs.Stamps.{ReplyValue}
 use Rattle.tsp_promises.specs.PortFits.{PortFits}
 use Rattle.tsp_promises.specs.StepFacts.{is_answered, is_answered_after}
-use Rattle.tsp_base.specs.Takings.{TakesFrom}
 use Rattle.tsp_rules.specs.CommonRows.{master_name_in}
 
 -- what is posted to a stranger, and what it answers

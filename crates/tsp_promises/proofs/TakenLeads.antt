@@ -2,33 +2,12 @@
 use Rattle.std.specs.Prelude.{◌≡◌, ◌≢◌, ℕ, ◌==◌, Bool, true, false, List, [], ◌∷◌, Option, None, Some, refl}
 use Rattle.std.proofs.Common.{sym, subst, ap, true≢false, eqb-true, ◌∙◌}
 use Rattle.std.proofs.lemmas.Bool.{and_parts, not-true}
-use Rattle.tsp_base.specs.declared.act.Act.TheVariants.{Post, Quit, Acked, Trace}
-use Rattle.tsp_base.specs.declared.datagram.Datagram.TheVariants.{Message, Stamp}
-use Rattle.tsp_base.specs.declared.datagram.Taken.{Taken}
-use Rattle.tsp_base.specs.declared.datagram.Taken.TheVariants.{Good}
-use Rattle.tsp_base.specs.declared.kind.Kind.{Kind}
-use Rattle.tsp_base.specs.declared.kind.Kind.TheVariants.{Ack, Election, Quit as QuitKind}
-use Rattle.tsp_base.specs.declared.place.PeerId.{PeerId}
-use Rattle.tsp_base.specs.declared.place.Place.{Place}
-use Rattle.tsp_base.specs.declared.place.Place.TheVariants.{Peer, Stranger}
-use Rattle.tsp_base.specs.declared.role.Role.{Role}
-use Rattle.tsp_base.specs.declared.role.Role.TheVariants.{Starting, Follow, Master}
-use Rattle.tsp_base.specs.declared.stamp.Stamp.TheVariants.{Request, Reply}
+use Rattle.tsp_rules.specs.Values.{Post, Acked, Quit, Trace, Message, Stamp, Taken, Good, Kind, Ack, Election, QuitKind, PeerId, Place, Peer, Stranger, Role, Starting, Follow, Master, Request, Reply}
+use Rattle.tsp_base.specs.Words.{Did, Acts, Seen, Here, Past, plain, may_stand, Leads, MessageValue, boot_tick, ticket, target, is_among, Received, Said, role, said, taken, held, grown, nothing, puts, ◌followed_by◌, either_by, reading, bare, posts, posts_back, is_correction, open_send, open_to, posts_of, sending_at, sending_of, message_of, Setup, peer_of}
 use Rattle.tsp_promises.specs.AckFits.{AckFits, AckedFits, Answers}
 use Rattle.tsp_promises.specs.DeedFits.{NamedFits, PostFits, asks_name, is_answered_early}
 use Rattle.tsp_promises.specs.QuitFits.{QuitFits}
-use Rattle.tsp_base.specs.History.{Did, Acts, Seen, Here, Past, plain}
-use Rattle.tsp_base.specs.Hold.{may_stand}
-use Rattle.tsp_base.specs.Leads.{Leads}
-use Rattle.tsp_base.specs.Messages.{MessageValue}
-use Rattle.tsp_base.specs.NodeFacts.{boot_tick, ticket, target}
-use Rattle.tsp_base.specs.Peers.{is_among}
-use Rattle.tsp_base.specs.PortFacts.{Received, Said, role, said, taken, held}
-use Rattle.tsp_base.specs.Rows.{grown, nothing, puts, ◌followed_by◌, either_by, reading, bare, posts, posts_back}
-use Rattle.tsp_base.specs.SendFacts.{is_correction, open_send, open_to, posts_of, sending_at, sending_of, message_of}
-use Rattle.tsp_base.specs.Setup.{Setup}
 use Rattle.tsp_promises.specs.StepFacts.{is_answered, owes, owes_after}
-use Rattle.tsp_base.specs.Takings.{peer_of}
 use Rattle.tsp_base.proofs.LeadsLemmas.{Leads_then, Leads_either, Leads_reading, Leads_nothing, Leads_puts, Leads_from, Leads_to}
 use Rattle.tsp_rules.specs.CommonRows.{quits, follows_unless, follow_row, posts_reply, replies, master_name, names_master, says_master, traces, tests, is_awake, is_idle, may_be_asked, candidature_row}
 use Rattle.tsp_rules.specs.SendRows.{has_other, answers_other, has_election, answers_election, is_kind_election, ends_by_ack, acknowledges}

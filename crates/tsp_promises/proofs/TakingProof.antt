@@ -1,25 +1,13 @@
 -- What is known of a Correct that takes a correction, and of the reading on which that rests.
 use Rattle.std.specs.Prelude.{◌≡◌, ◌≤◌, ◌⊎◌, ℕ, ◌+◌, ℤ, List, ◌∷◌, None, Some, refl}
 use Rattle.std.proofs.Common.{sym, ap, arith, subst, subst₂, inl, inr, ◌∙◌}
-use Rattle.tsp_base.specs.declared.constants.TheConstants.{CLOSE, LIFE, SLACK}
-use Rattle.tsp_base.specs.declared.datagram.Datagram.TheVariants.{Message}
-use Rattle.tsp_base.specs.declared.kind.Kind.TheVariants.{AdjTime}
-use Rattle.tsp_base.specs.declared.place.PeerId.{PeerId}
-use Rattle.tsp_base.specs.declared.place.Place.TheVariants.{Peer}
-use Rattle.tsp_base.specs.declared.place.Port.{Port}
+use Rattle.tsp_rules.specs.Values.{Message, AdjTime, PeerId, Peer, Port, CLOSE, LIFE, SLACK}
+use Rattle.tsp_base.specs.Words.{Did, Line, Seen, Here, of, dids, view, ticket, MessageValue, Within, taken, Sampled, best, started, peer_of, tick_at}
 use Rattle.tsp_promises.specs.CorrectionFits.{AnswersSlaveUp, AtClose, BeginFits, FromClose}
 use Rattle.tsp_promises.specs.Fits.{Fits, node_of}
-use Rattle.tsp_base.specs.History.{Did, Line, Seen, Here, of, dids, view}
-use Rattle.tsp_base.specs.NodeFacts.{ticket}
-use Rattle.tsp_base.specs.Messages.{MessageValue}
 use Rattle.tsp_promises.specs.OneError.{FromReading, Taking}
-use Rattle.tsp_base.specs.Places.{Within}
-use Rattle.tsp_base.specs.PortFacts.{taken}
-use Rattle.tsp_base.specs.RoundFacts.{Sampled, best, started}
 use Rattle.tsp_promises.specs.StepFacts.{closed}
 use Rattle.tsp_promises.specs.Setting.{Setting}
-use Rattle.tsp_base.specs.Takings.{peer_of}
-use Rattle.tsp_base.specs.Ticks.{tick_at}
 use Rattle.tsp_base.proofs.PlaceLemmas.{Within-through, Within-tail}
 use Rattle.tsp_promises.proofs.BestProof.{some-is}
 use Rattle.tsp_promises.proofs.Clocks.{near}

@@ -1,11 +1,8 @@
 -- What a SETTIME carries that a master sends a slave.
 use Rattle.std.specs.Prelude.{◌≡◌, ℕ, neg_ℤ, ◌<ℤ◌, true}
 use Rattle.std.proofs.Common.{sym, subst, ap, ◌∙◌}
-use Rattle.tsp_base.specs.declared.constants.TheConstants.{LIMIT}
-use Rattle.tsp_base.specs.History.{Did, Past, plain}
-use Rattle.tsp_base.specs.Messages.{MessageValue}
-use Rattle.tsp_base.specs.NodeFacts.{target}
-use Rattle.tsp_base.specs.Takings.{time_in}
+use Rattle.tsp_rules.specs.Values.{LIMIT}
+use Rattle.tsp_base.specs.Words.{Did, Past, plain, MessageValue, target, time_in}
 use Rattle.tsp_promises.specs.CorrectionFits.{SetsTarget}
 use Rattle.tsp_rules.specs.Guards.{is_in_range, target_at}
 use Rattle.tsp_rules.proofs.GuardFacts.{clock_low, clock_high}

@@ -1,17 +1,10 @@
 -- A numbered send has few posts.
 use Rattle.std.specs.Prelude.{◌≡◌, ◌≤◌, ◌⊎◌, ℕ, ◌+◌, ◌==◌, ◌&&◌, if◌then◌else◌, Bool, true, false, List, [], ◌∷◌, refl}
 use Rattle.std.proofs.Common.{sym, ap, arith, subst, inl, inr, eq-eqb, ◌∙◌}
-use Rattle.tsp_base.specs.declared.act.Act.TheVariants.{Boot, Post, Become, Acked, Gave}
-use Rattle.tsp_base.specs.declared.constants.TheConstants.{TRIES}
-use Rattle.tsp_base.specs.declared.datagram.Datagram.TheVariants.{Message}
-use Rattle.tsp_base.specs.declared.place.PeerId.{PeerId}
-use Rattle.tsp_base.specs.declared.place.Place.TheVariants.{Peer}
+use Rattle.tsp_rules.specs.Values.{Boot, Post, Become, Acked, Gave, Message, PeerId, Peer, TRIES}
+use Rattle.tsp_base.specs.Words.{Deed, Acts, Did, Line, Seen, Here, Elsewhere, of, view, MessageValue, acting, begun_to, is_numbered, open_to, open_to_after, posts_of, posts_of_after}
 use Rattle.tsp_promises.specs.CorrectionFits.{RepeatFits}
 use Rattle.tsp_promises.specs.Fits.{Fits, node_of}
-use Rattle.tsp_base.specs.History.{Deed, Acts, Did, Line, Seen, Here, Elsewhere, of, view}
-use Rattle.tsp_base.specs.Messages.{MessageValue}
-use Rattle.tsp_base.specs.PortFacts.{acting}
-use Rattle.tsp_base.specs.SendFacts.{begun_to, is_numbered, open_to, open_to_after, posts_of, posts_of_after}
 use Rattle.tsp_promises.specs.Setting.{Setting}
 use Rattle.tsp_promises.specs.Thrice.{Thrice, ThriceAt, sent, sent_after}
 use Rattle.tsp_promises.proofs.EverywhereLemmas.{Everywhere-from}

@@ -4,11 +4,9 @@ use Rattle.std.proofs.Common.{arith, sym, subst, subst₂, inl, ◌∙◌}
 use Rattle.std.proofs.lemmas.Int.{ints}
 use Rattle.tsp_promises.specs.ClockAt.{clock_at}
 use Rattle.tsp_promises.specs.Fits.{node_of}
-use Rattle.tsp_base.specs.History.{Line, of, dids}
-use Rattle.tsp_base.specs.NodeFacts.{moved, time_of}
+use Rattle.tsp_base.specs.Words.{Line, of, dids, moved, time_of, tick_at, width}
 use Rattle.tsp_promises.specs.Setting.{Setting}
 use Rattle.tsp_promises.specs.Throughout.{BoundAt, BoundsLast, PeersBound, Throughout, moved_since}
-use Rattle.tsp_base.specs.Ticks.{tick_at, width}
 use Rattle.tsp_promises.proofs.AgreedProof.{core}
 use Rattle.tsp_promises.proofs.AgreedSums.{triangle}
 use Rattle.tsp_promises.proofs.CastProof.{Met, whole}

@@ -1,7 +1,7 @@
 -- A Sample's err is half its round trip.
 use Rattle.std.specs.Prelude.{List, ◌∷◌}
 use Rattle.tsp_promises.specs.Fits.{Fits}
-use Rattle.tsp_base.specs.History.{Line}
+use Rattle.tsp_base.specs.Words.{Line}
 use Rattle.tsp_promises.specs.Measured.{TripAt, Trips}
 use Rattle.tsp_promises.specs.Setting.{Setting}
 use Rattle.tsp_promises.proofs.EverywhereLemmas.{Everywhere-from}

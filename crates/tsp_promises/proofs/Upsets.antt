@@ -1,10 +1,8 @@
 -- Rows after which a port rests, or is stirred since they corrected the clock.
 use Rattle.std.specs.Prelude.{◌≡◌, ◌⊎◌, ℕ, Bool, true, false, if◌then◌else◌, List, refl}
 use Rattle.std.proofs.Common.{sym, inl, inr, true≢false}
-use Rattle.tsp_base.specs.declared.act.Act.{Act}
-use Rattle.tsp_base.specs.History.{Past}
-use Rattle.tsp_base.specs.Leads.{Leads}
-use Rattle.tsp_base.specs.Rows.{Row, grown, either_by, reading}
+use Rattle.tsp_rules.specs.Values.{Act}
+use Rattle.tsp_base.specs.Words.{Past, Leads, Row, grown, either_by, reading}
 use Rattle.tsp_rules.specs.RoundRows.{corrects}
 use Rattle.tsp_promises.proofs.Known.{Rests, RestsIn}
 

@@ -2,22 +2,9 @@
 use Rattle.std.specs.Prelude.{◌≡◌, ◌==◌, ℕ, true, List, [], ◌∷◌, Option, None, Some, refl}
 use Rattle.std.proofs.Common.{sym, ap, true≢false, eqb-true, eq-eqb, ◌∙◌}
 use Rattle.std.proofs.lemmas.Bool.{and_parts}
-use Rattle.tsp_base.specs.declared.act.Act.TheVariants.{Post, Become, Backer, Acked}
-use Rattle.tsp_base.specs.declared.datagram.Datagram.TheVariants.{Message}
-use Rattle.tsp_base.specs.declared.datagram.Taken.TheVariants.{Good}
-use Rattle.tsp_base.specs.declared.kind.Kind.{Kind}
-use Rattle.tsp_base.specs.declared.kind.Kind.TheVariants.{Election, Accept}
-use Rattle.tsp_base.specs.declared.place.PeerId.{PeerId}
-use Rattle.tsp_base.specs.declared.place.Place.TheVariants.{Peer}
-use Rattle.tsp_base.specs.declared.role.Role.TheVariants.{Loose, Candidate}
+use Rattle.tsp_rules.specs.Values.{Post, Become, Backer, Acked, Message, Good, Kind, Accept, Election, PeerId, Peer, Loose, Candidate}
+use Rattle.tsp_base.specs.Words.{Acts, Did, Seen, Here, Past, Leads, MessageValue, role, grown, nothing, puts, ◌followed_by◌, Sending, open_send, open_to, message_at, Setup}
 use Rattle.tsp_promises.specs.HoldFits.{BackerFits}
-use Rattle.tsp_base.specs.History.{Acts, Did, Seen, Here, Past}
-use Rattle.tsp_base.specs.Leads.{Leads}
-use Rattle.tsp_base.specs.Messages.{MessageValue}
-use Rattle.tsp_base.specs.PortFacts.{role}
-use Rattle.tsp_base.specs.Rows.{grown, nothing, puts, ◌followed_by◌}
-use Rattle.tsp_base.specs.SendFacts.{Sending, open_send, open_to, message_at}
-use Rattle.tsp_base.specs.Setup.{Setup}
 use Rattle.tsp_base.proofs.LeadsLemmas.{Leads_then, Leads_either, Leads_puts, Leads_to}
 use Rattle.tsp_rules.specs.CandidateRows.{yields, accepted_by, refused_by}
 use Rattle.tsp_rules.specs.CommonRows.{arms_elect}

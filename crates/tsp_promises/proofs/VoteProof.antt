@@ -2,31 +2,17 @@
 use Rattle.std.specs.Prelude.{◌≡◌, ◌≤◌, ◌<◌, ℕ, ◌+◌, ◌%◌, true, false, List, ◌∷◌, Some, refl}
 use Rattle.std.proofs.Common.{sym, ap, arith, subst, subst₂, inl, inr, ◌∙◌}
 use Rattle.std.proofs.lemmas.Bool.{cases_lt}
-use Rattle.tsp_base.specs.declared.act.Act.TheVariants.{Post, Back, Backer}
-use Rattle.tsp_base.specs.declared.constants.TheConstants.{LIFE, LAST}
-use Rattle.tsp_base.specs.declared.datagram.Datagram.TheVariants.{Message}
-use Rattle.tsp_base.specs.declared.kind.Kind.TheVariants.{Election, Accept}
-use Rattle.tsp_base.specs.declared.place.PeerId.{PeerId}
-use Rattle.tsp_base.specs.declared.place.Place.TheVariants.{Peer}
-use Rattle.tsp_base.specs.declared.place.Port.{Port}
+use Rattle.tsp_rules.specs.Values.{Post, Back, Backer, Message, Accept, Election, PeerId, Peer, Port, LAST, LIFE}
+use Rattle.tsp_base.specs.Words.{Step, Acts, Did, Line, Seen, Here, of, dids, view, is_shared, MessageValue, boot_tick, lives, lives_after, time_of, word, Within, acting, stood, stood_after, begun, is_numbered, Receives, peer_of, tick_at, Setup}
 use Rattle.tsp_promises.specs.DeedFits.{MessageFits, ElectionFits}
 use Rattle.tsp_promises.specs.Fits.{Fits, SameStep, node_of}
-use Rattle.tsp_base.specs.History.{Step, Acts, Did, Line, Seen, Here, of, dids, view, is_shared}
-use Rattle.tsp_base.specs.Messages.{MessageValue}
-use Rattle.tsp_base.specs.NodeFacts.{boot_tick, lives, lives_after, time_of, word}
-use Rattle.tsp_base.specs.Places.{Within}
-use Rattle.tsp_base.specs.PortFacts.{acting, stood, stood_after}
 use Rattle.tsp_promises.specs.Premises.{Few, FewAt, Honest, HonestAt, Life, TakenWithinAt}
-use Rattle.tsp_base.specs.SendFacts.{begun, is_numbered}
 use Rattle.tsp_promises.specs.Setting.{Network, Setting, setup_of}
 use Rattle.tsp_promises.specs.StepFacts.{backed}
-use Rattle.tsp_base.specs.Takings.{Receives, peer_of}
-use Rattle.tsp_base.specs.Ticks.{tick_at}
 use Rattle.tsp_promises.proofs.EverywhereLemmas.{Everywhere-at, Everywhere-within}
 use Rattle.tsp_base.proofs.PlaceLemmas.{Within-all, Within-through, Within-tail}
 use Rattle.tsp_base.proofs.Views.{plain_view}
 use Rattle.tsp_promises.specs.HoldFits.{AcceptFits, BackerFits}
-use Rattle.tsp_base.specs.Setup.{Setup}
 use Rattle.tsp_promises.proofs.Elections.{AskFits, VoteFits, ElectFits, ElectsAt, Elects}
 use Rattle.tsp_promises.proofs.BackedProof.{back_at}
 use Rattle.tsp_promises.proofs.Clocks.{near}

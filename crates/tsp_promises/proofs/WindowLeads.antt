@@ -1,18 +1,9 @@
 -- The end of a candidature keeps what is known of a port.
 use Rattle.std.specs.Prelude.{◌≡◌, ◌≤◌, ◌<◌, ℕ, ◌+◌, ◌*◌, nat_lt, Bool, true, false, not, ◌||◌, List, [], ◌∷◌, length, Some, refl}
 use Rattle.std.proofs.Common.{sym, ap, arith, ◌∙◌, ltb-true, true≢false}
-use Rattle.tsp_base.specs.declared.act.Act.TheVariants.{Become, Ring, Late}
-use Rattle.tsp_base.specs.declared.alarm.Alarm.TheVariants.{Window, Round}
-use Rattle.tsp_base.specs.declared.constants.TheConstants.{ELECT_MIN, ROUND, SLACK, WINDOW}
-use Rattle.tsp_base.specs.declared.kind.Kind.TheVariants.{MasterUp}
-use Rattle.tsp_base.specs.declared.role.Role.TheVariants.{Loose, Candidate, Master}
+use Rattle.tsp_rules.specs.Values.{Become, Ring, Late, Window, Round, MasterUp, Loose, Candidate, Master, ELECT_MIN, ROUND, SLACK, WINDOW}
+use Rattle.tsp_base.specs.Words.{Did, Seen, Here, Past, plain, Leads, boot_tick, role, held, armed, backers, stood, grown, puts, ◌followed_by◌, either_by, arms, bare, posts_to_others, peer_of}
 use Rattle.tsp_promises.specs.HoldFits.{LeadFits}
-use Rattle.tsp_base.specs.History.{Did, Seen, Here, Past, plain}
-use Rattle.tsp_base.specs.Leads.{Leads}
-use Rattle.tsp_base.specs.NodeFacts.{boot_tick}
-use Rattle.tsp_base.specs.PortFacts.{role, held, armed, backers, stood}
-use Rattle.tsp_base.specs.Rows.{grown, puts, ◌followed_by◌, either_by, arms, bare, posts_to_others}
-use Rattle.tsp_base.specs.Takings.{peer_of}
 use Rattle.tsp_base.proofs.LeadsLemmas.{Leads_then, Leads_either, Leads_puts, Leads_from, Leads_to}
 use Rattle.tsp_rules.specs.Answers.{alarm_rings, rings}
 use Rattle.tsp_rules.specs.CandidateRows.{lead_row, yields, has_won, window_rings}

@@ -1,17 +1,10 @@
 -- Rivals meet, and then a stranger asks the one that leads for an election.
 use Rattle.std.specs.Prelude.{false, List, [], ◌∷◌, refl}
 use Rattle.std.proofs.Common.{arith, inl}
-use Rattle.tsp_base.specs.declared.act.Act.TheVariants.{Post, Quit, Took}
-use Rattle.tsp_base.specs.declared.act.Placed.{Placed}
-use Rattle.tsp_base.specs.declared.datagram.Datagram.TheVariants.{Message}
-use Rattle.tsp_base.specs.declared.datagram.Taken.TheVariants.{Good}
-use Rattle.tsp_base.specs.declared.kind.Kind.TheVariants.{Ack, Test}
-use Rattle.tsp_base.specs.declared.message.Body.TheVariants.{Nothing}
-use Rattle.tsp_base.specs.declared.place.Place.TheVariants.{Peer, Stranger}
+use Rattle.tsp_rules.specs.Values.{Took, Post, Quit, Placed, Message, Good, Ack, Test, Nothing, Peer, Stranger}
+use Rattle.tsp_base.specs.Words.{Came, Handed, Line, peer_of}
 use Rattle.tsp_promises.specs.AnsweredUse.{AnsweredUse}
 use Rattle.tsp_promises.specs.Fits.{Fits}
-use Rattle.tsp_base.specs.History.{Came, Handed, Line}
-use Rattle.tsp_base.specs.Takings.{peer_of}
 use Rattle.tsp_promises.proofs.Histories.{does, msg, named_msg, on, skip, skipped, step_at, still, then_step}
 use Rattle.tsp_promises.proofs.HistoriesFit.{all-finished, step-fits}
 use Rattle.tsp_promises.proofs.StepChecks.{port0}

@@ -1,16 +1,9 @@
 -- What is promised of ordinary use and of a relayed clock isn't empty.
 use Rattle.std.specs.Prelude.{false, ℤ, pos, negsuc, Bool, refl}
 use Rattle.std.proofs.Common.{ap, arith, inl, inr}
-use Rattle.tsp_base.specs.declared.act.Act.TheVariants.{Post, Sample, Close, Correct, Acked}
-use Rattle.tsp_base.specs.declared.datagram.Datagram.TheVariants.{Message, Stamp}
-use Rattle.tsp_base.specs.declared.kind.Kind.TheVariants.{AdjTime}
-use Rattle.tsp_base.specs.declared.message.Body.TheVariants.{Time}
-use Rattle.tsp_base.specs.declared.place.Place.TheVariants.{Peer}
-use Rattle.tsp_base.specs.declared.place.Port.{Port}
-use Rattle.tsp_base.specs.declared.stamp.Stamp.TheVariants.{Reply}
+use Rattle.tsp_rules.specs.Values.{Post, Close, Correct, Sample, Acked, Message, Stamp, AdjTime, TimeBody, Peer, Port, Reply}
+use Rattle.tsp_base.specs.Words.{Came, Turned, Line, of, view, peer_of}
 use Rattle.tsp_promises.specs.Agreed.{Cast}
-use Rattle.tsp_base.specs.History.{Came, Turned, Line, of, view}
-use Rattle.tsp_base.specs.Takings.{peer_of}
 use Rattle.tsp_promises.specs.OrdinaryUse.{Closes, Confirms, OrdinaryUse}
 use Rattle.tsp_promises.specs.Relays.{Relays}
 use Rattle.tsp_promises.proofs.CastBy.{cast-by}
@@ -38,7 +31,7 @@ answers = line (step_at 400000300 2 (Came 7)) port0 (Post (Peer (peer_of 0)) (St
 
 abbrev pub first-cast : Cast 0 closing (skip 4 w19) (first) (skip 2 w20) (sounds) (skip 1 w15) (pos 401)
 first-cast =
-    cast-by 0 closing (skip 4 w19) (first) (skip 2 w20) sounds (skip 1 w15) (line (step_at 408000000 0 Turned) port0 (Post (Peer (peer_of 1)) (Message (msg AdjTime 10 (Time (pos 17)))))) (skip 2 w19) (msg AdjTime 10 (Time (pos 17))) (pos 17) false (pos 408000399)
+    cast-by 0 closing (skip 4 w19) (first) (skip 2 w20) sounds (skip 1 w15) (line (step_at 408000000 0 Turned) port0 (Post (Peer (peer_of 1)) (Message (msg AdjTime 10 (TimeBody (pos 17)))))) (skip 2 w19) (msg AdjTime 10 (TimeBody (pos 17))) (pos 17) false (pos 408000399)
     (record { counter = 0; diff = negsuc 100; err = pos 401; ticket = 10; trip = pos 801; place = view port0 (of 0 w17) })
     (record { correct = refl; place = skipped 3 (skip 2 w20); cause = refl; deed = refl; took = refl; node = refl; kind = refl; numbered = refl; is = refl })
     (record { closes = skipped 5 (skip 2 w20); node = refl; port = refl; is = refl; best_is = refl })
@@ -46,14 +39,14 @@ first-cast =
 
 pub second-cast : (amount : ℤ) (stepped : Bool) (shown : ℤ) → Cast 0 closing (skip 4 w19) (line (step_at 408000500 2 (Came 11)) port0 (Correct amount stepped shown)) (skip 2 w21) (answers) (skip 1 w16) (pos 450)
 second-cast amount stepped shown =
-    cast-by 0 closing (skip 4 w19) (line (step_at 408000500 2 (Came 11)) port0 (Correct amount stepped shown)) (skip 2 w21) answers (skip 1 w16) (line (step_at 408000000 0 Turned) port0 (Post (Peer (peer_of 2)) (Message (msg AdjTime 12 (Time (pos 67)))))) (skip 1 w19) (msg AdjTime 12 (Time (pos 67))) amount stepped shown
+    cast-by 0 closing (skip 4 w19) (line (step_at 408000500 2 (Came 11)) port0 (Correct amount stepped shown)) (skip 2 w21) answers (skip 1 w16) (line (step_at 408000000 0 Turned) port0 (Post (Peer (peer_of 2)) (Message (msg AdjTime 12 (TimeBody (pos 67)))))) (skip 1 w19) (msg AdjTime 12 (TimeBody (pos 67))) amount stepped shown
     (record { counter = 1; diff = negsuc 150; err = pos 450; ticket = 12; trip = pos 900; place = view port0 (of 0 w18) })
     (record { correct = refl; place = skipped 6 (skip 2 w21); cause = refl; deed = refl; took = refl; node = refl; kind = refl; numbered = refl; is = refl })
     (record { closes = skipped 9 (skip 2 w21); node = refl; port = refl; is = refl; best_is = refl })
     (record { line = line (step_at 400000900 0 (Came 9)) port0 (Sample (peer_of 2) 1 (negsuc 150) (pos 450) 12); before = skip 1 w18; at = skipped 12 (skip 2 w21); node = refl; port = refl; is = refl; reads = skipped 5 (skip 1 w18); takes = refl; to = Peer (peer_of 0); datagram = Stamp (Reply reply2); deed = refl })
 
 confirms : Confirms w23
-confirms = record { line = line (step_at 408000800 0 (Came 13)) port0 (Acked (peer_of 2)); before = skip 1 w23; place = inl refl; peer = peer_of 2; deed = refl; first = _; older = _; is = refl; message = (msg AdjTime 12 (Time (pos 67))); posts = refl; kind = refl }
+confirms = record { line = line (step_at 408000800 0 (Came 13)) port0 (Acked (peer_of 2)); before = skip 1 w23; place = inl refl; peer = peer_of 2; deed = refl; first = _; older = _; is = refl; message = (msg AdjTime 12 (TimeBody (pos 67))); posts = refl; kind = refl }
 
 closes : Closes w23
 closes = record {
@@ -90,7 +83,7 @@ near-reading = line (step_at 400000299 1 (Came 6)) port0 (Post (Peer (peer_of 0)
 
 pub far-cast : (amount : ℤ) (stepped : Bool) (shown : ℤ) → Cast 1 far-close (skip 2 g25) (line (step_at 508000400 3 (Came 12)) port0 (Correct amount stepped shown)) (skip 2 g26) (far-reading) (skip 1 g23) (pos 401)
 far-cast amount stepped shown =
-    cast-by 1 far-close (skip 2 g25) (line (step_at 508000400 3 (Came 12)) port0 (Correct amount stepped shown)) (skip 2 g26) far-reading (skip 1 g23) (line (step_at 508000000 1 Turned) port1 (Post (Peer (peer_of 3)) (Message (msg AdjTime 12 (Time (pos 152)))))) (skip 1 g25) (msg AdjTime 12 (Time (pos 152))) amount stepped shown
+    cast-by 1 far-close (skip 2 g25) (line (step_at 508000400 3 (Came 12)) port0 (Correct amount stepped shown)) (skip 2 g26) far-reading (skip 1 g23) (line (step_at 508000000 1 Turned) port1 (Post (Peer (peer_of 3)) (Message (msg AdjTime 12 (TimeBody (pos 152)))))) (skip 1 g25) (msg AdjTime 12 (TimeBody (pos 152))) amount stepped shown
     (record { counter = 0; diff = negsuc 151; err = pos 401; ticket = 12; trip = pos 801; place = view port1 (of 1 g24) })
     (record { correct = refl; place = skipped 2 (skip 2 g26); cause = refl; deed = refl; took = refl; node = refl; kind = refl; numbered = refl; is = refl })
     (record { closes = skipped 3 (skip 2 g26); node = refl; port = refl; is = refl; best_is = refl })
@@ -98,7 +91,7 @@ far-cast amount stepped shown =
 
 pub near-cast : Cast 0 near-close (skip 3 g19) (near-correct) (skip 2 g20) (near-reading) (skip 1 g17) (pos 401)
 near-cast =
-    cast-by 0 near-close (skip 3 g19) (near-correct) (skip 2 g20) near-reading (skip 1 g17) (line (step_at 408000000 0 Turned) port0 (Post (Peer (peer_of 1)) (Message (msg AdjTime 10 (Time (pos 51)))))) (skip 1 g19) (msg AdjTime 10 (Time (pos 51))) (pos 51) false (pos 408000399)
+    cast-by 0 near-close (skip 3 g19) (near-correct) (skip 2 g20) near-reading (skip 1 g17) (line (step_at 408000000 0 Turned) port0 (Post (Peer (peer_of 1)) (Message (msg AdjTime 10 (TimeBody (pos 51)))))) (skip 1 g19) (msg AdjTime 10 (TimeBody (pos 51))) (pos 51) false (pos 408000399)
     (record { counter = 0; diff = negsuc 101; err = pos 401; ticket = 10; trip = pos 801; place = view port0 (of 0 g18) })
     (record { correct = refl; place = skipped 2 (skip 2 g20); cause = refl; deed = refl; took = refl; node = refl; kind = refl; numbered = refl; is = refl })
     (record { closes = skipped 4 (skip 2 g20); node = refl; port = refl; is = refl; best_is = refl })

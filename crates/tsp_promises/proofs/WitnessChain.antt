@@ -1,17 +1,11 @@
 -- What is promised of chains isn't empty.
 use Rattle.std.specs.Prelude.{false, pos, negsuc, [], ◌∷◌, refl}
 use Rattle.std.proofs.Common.{arith, inr}
-use Rattle.tsp_base.specs.declared.act.Act.TheVariants.{Post, Sample, Close, Correct}
-use Rattle.tsp_base.specs.declared.datagram.Datagram.TheVariants.{Message, Stamp}
-use Rattle.tsp_base.specs.declared.kind.Kind.TheVariants.{AdjTime}
-use Rattle.tsp_base.specs.declared.message.Body.TheVariants.{Time}
-use Rattle.tsp_base.specs.declared.place.Place.TheVariants.{Peer}
-use Rattle.tsp_base.specs.declared.stamp.Stamp.TheVariants.{Reply}
+use Rattle.tsp_rules.specs.Values.{Post, Close, Correct, Sample, Message, Stamp, AdjTime, TimeBody, Peer, Reply}
+use Rattle.tsp_base.specs.Words.{Came, Turned, Line, of, view, peer_of}
 use Rattle.tsp_promises.specs.Agreed.{Cast}
 use Rattle.tsp_promises.specs.Chained.{Hop, Hops, IsChain}
 use Rattle.tsp_promises.specs.ChainUse.{ChainUse}
-use Rattle.tsp_base.specs.History.{Came, Turned, Line, of, view}
-use Rattle.tsp_base.specs.Takings.{peer_of}
 use Rattle.tsp_promises.proofs.CastBy.{cast-by}
 use Rattle.tsp_promises.proofs.Histories.{line, msg, skip, skipped, step_at, still}
 use Rattle.tsp_promises.proofs.PremiseChecks.{kept-by}
@@ -32,7 +26,7 @@ last-reading = line (step_at 1000000300 2 (Came 17)) port1 (Post (Peer (peer_of 
 
 last-cast : Cast 3 last-close (skip 2 r11) last-correct (skip 2 r12) last-reading (skip 1 r9) (pos 401)
 last-cast =
-    cast-by 3 last-close (skip 2 r11) last-correct (skip 2 r12) last-reading (skip 1 r9) (line (step_at 1008000000 3 Turned) port1 (Post (Peer (peer_of 2)) (Message (msg AdjTime 14 (Time (pos 101)))))) (skip 1 r11) (msg AdjTime 14 (Time (pos 101))) (pos 101) false (pos 1008000549)
+    cast-by 3 last-close (skip 2 r11) last-correct (skip 2 r12) last-reading (skip 1 r9) (line (step_at 1008000000 3 Turned) port1 (Post (Peer (peer_of 2)) (Message (msg AdjTime 14 (TimeBody (pos 101)))))) (skip 1 r11) (msg AdjTime 14 (TimeBody (pos 101))) (pos 101) false (pos 1008000549)
     (record { counter = 0; diff = negsuc 100; err = pos 401; ticket = 14; trip = pos 801; place = view port1 (of 3 r10) })
     (record { correct = refl; place = skipped 2 (skip 2 r12); cause = refl; deed = refl; took = refl; node = refl; kind = refl; numbered = refl; is = refl })
     (record { closes = skipped 3 (skip 2 r12); node = refl; port = refl; is = refl; best_is = refl })

@@ -1,12 +1,8 @@
 -- A date that a follower passes on, that its master sets, and that is acknowledged.
 use Rattle.std.specs.Prelude.{false, true, pos, refl}
-use Rattle.tsp_base.specs.declared.act.Act.TheVariants.{Acked, Correct}
-use Rattle.tsp_base.specs.declared.kind.Kind.TheVariants.{SetDateReq}
-use Rattle.tsp_base.specs.declared.message.Body.TheVariants.{Time}
-use Rattle.tsp_base.specs.declared.place.Place.TheVariants.{Peer}
+use Rattle.tsp_rules.specs.Values.{Correct, Acked, SetDateReq, TimeBody, Peer}
+use Rattle.tsp_base.specs.Words.{Came, peer_of}
 use Rattle.tsp_promises.specs.DatedUse.{DatedUse}
-use Rattle.tsp_base.specs.History.{Came}
-use Rattle.tsp_base.specs.Takings.{peer_of}
 use Rattle.tsp_promises.proofs.Histories.{does, msg, skip, skipped, still}
 use Rattle.tsp_promises.proofs.PremiseChecks.{few-by, kept-by}
 use Rattle.tsp_promises.proofs.WitnessDates.{d8, d9, dates}
@@ -25,7 +21,7 @@ dated_use = record {
   shown = pos 600000000;
   corrects = refl;
   from = Peer (peer_of 1);
-  message = msg SetDateReq 32777 (Time (pos 600000000));
+  message = msg SetDateReq 32777 (TimeBody (pos 600000000));
   took = refl;
   sets = refl;
   acked = does 310000002 1 (Came 2) (Acked (peer_of 0));
@@ -37,7 +33,7 @@ dated_use = record {
   first = _;
   older = _;
   is_open = refl;
-  date = msg SetDateReq 32777 (Time (pos 600000000));
+  date = msg SetDateReq 32777 (TimeBody (pos 600000000));
   posts = refl;
   kind = refl;
   same = refl;

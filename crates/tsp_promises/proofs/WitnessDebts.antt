@@ -1,34 +1,15 @@
 -- What the deeds of small histories owe, as far as it doesn't compute.
 use Rattle.std.specs.Prelude.{◌≡◌, ◌≢◌, ◌≤◌, ◌<◌, ◌⊎◌, ◌<ℤ◌, ◌-ℤ◌, neg_ℤ, Bool, true, false, ℕ, ◌+◌, ◌%◌, ℤ, pos, List, [], ◌∷◌, Option, Some, None}
 use Rattle.std.proofs.Common.{sym, ap, arith, subst, inl, inr, true≢false, ◌∙◌}
-use Rattle.tsp_base.specs.declared.act.Act.TheVariants.{Close, Post, Ring, Took}
-use Rattle.tsp_base.specs.declared.alarm.Alarm.TheVariants.{Close as AlarmClose}
-use Rattle.tsp_base.specs.declared.constants.TheConstants.{CLOSE, GAP, LIMIT, QUIET, ROUND, SLACK}
-use Rattle.tsp_base.specs.declared.datagram.Datagram.TheVariants.{Message, Stamp}
-use Rattle.tsp_base.specs.declared.datagram.Taken.TheVariants.{Good}
-use Rattle.tsp_base.specs.declared.kind.Kind.{Kind}
-use Rattle.tsp_base.specs.declared.kind.Kind.TheVariants.{Ack, AdjTime, DateAck, SetTime, SetDateReq, SlaveUp}
-use Rattle.tsp_base.specs.declared.place.PeerId.{PeerId}
-use Rattle.tsp_base.specs.declared.place.Place.TheVariants.{Peer, Stranger}
-use Rattle.tsp_base.specs.declared.role.Role.TheVariants.{Follow, Master}
-use Rattle.tsp_base.specs.declared.stamp.Stamp.TheVariants.{Reply}
+use Rattle.tsp_rules.specs.Values.{Took, Post, Ring, Close, CloseAlarm, Message, Stamp, Good, Kind, Ack, AdjTime, DateAck, SetDateReq, SetTime, SlaveUp, PeerId, Peer, Stranger, Follow, Master, Reply, CLOSE, GAP, LIMIT, QUIET, ROUND, SLACK}
+use Rattle.tsp_base.specs.Words.{Acts, Did, Seen, Here, plain, MessageValue, boot_tick, last_correct, shown, target, ticket, word, Received, acting, role, taken, Sampled, best, exchange, is_going, started, sample_diff, sample_err, Dating, is_acknowledged, is_correction, is_set_date_request, last_date, last_post, last_to, open_to, ReplyValue, Setup, Receives, Undisturbed, heard, time_in}
 use Rattle.tsp_promises.specs.AckFits.{AckedFits, EndsFits}
 use Rattle.tsp_promises.specs.CorrectFits.{CorrectFits, ByMaster, amount_of, is_stepped}
 use Rattle.tsp_promises.specs.CorrectionFits.{CorrectionFits, FollowedBy}
 use Rattle.tsp_promises.specs.DeedFits.{asks_name}
-use Rattle.tsp_base.specs.History.{Acts, Did, Seen, Here, plain}
 use Rattle.tsp_promises.specs.MeasureFits.{SampleFits}
-use Rattle.tsp_base.specs.Messages.{MessageValue}
-use Rattle.tsp_base.specs.NodeFacts.{boot_tick, last_correct, shown, target, ticket, word}
-use Rattle.tsp_base.specs.PortFacts.{Received, acting, role, taken}
-use Rattle.tsp_base.specs.RoundFacts.{Sampled, best, exchange, is_going, started}
-use Rattle.tsp_base.specs.Samples.{sample_diff, sample_err}
-use Rattle.tsp_base.specs.SendFacts.{Dating, is_acknowledged, is_correction, is_set_date_request, last_date, last_post, last_to, open_to}
-use Rattle.tsp_base.specs.Stamps.{ReplyValue}
-use Rattle.tsp_base.specs.Setup.{Setup}
 use Rattle.tsp_promises.specs.RoundFits.{CloseFits, StartFits}
 use Rattle.tsp_promises.specs.StepFacts.{closed}
-use Rattle.tsp_base.specs.Takings.{Receives, Undisturbed, heard, time_in}
 use Rattle.tsp_promises.proofs.SendProof.{one-message}
 use Rattle.tsp_promises.proofs.StrangerFacts.{same_message}
 use Rattle.tsp_promises.proofs.Leaves.{nil-cons}
@@ -144,7 +125,7 @@ next-round {here = here} {last = last} {rest = rest} is long = record { spaced =
   began start idle e = let same : last ≡ start = cc in subst (λ (z : Did). z.tick + ROUND ≤ here.tick) same long
 
 -- a Close at its time
-pub closes-by : {here ring start : Did} {before past idle : List Seen} → role before ≡ Master → before ≡ Here ring ∷ past → ring.deed ≡ Acts (Ring AlarmClose) → is_going past ≡ true → started before ≡ Here start ∷ idle →
+pub closes-by : {here ring start : Did} {before past idle : List Seen} → role before ≡ Master → before ≡ Here ring ∷ past → ring.deed ≡ Acts (Ring CloseAlarm) → is_going past ≡ true → started before ≡ Here start ∷ idle →
     start.tick + CLOSE ≤ here.tick → here.tick ≤ start.tick + (CLOSE + SLACK) → Undisturbed (plain idle) (plain before) → CloseFits here before
 closes-by leads is rings going start_is over soon undisturbed = record {
   leads = leads;

@@ -1,20 +1,11 @@
 -- What is promised of estimates isn't empty.
 use Rattle.std.specs.Prelude.{◌≡◌, true, false, ℤ, pos, negsuc, List, ◌∷◌, refl}
 use Rattle.std.proofs.Common.{arith, inr}
-use Rattle.tsp_base.specs.declared.act.Act.TheVariants.{Correct, Post, Sample}
-use Rattle.tsp_base.specs.declared.datagram.Datagram.TheVariants.{Message, Stamp}
-use Rattle.tsp_base.specs.declared.kind.Kind.TheVariants.{AdjTime}
-use Rattle.tsp_base.specs.declared.message.Body.TheVariants.{Time}
-use Rattle.tsp_base.specs.declared.place.Place.TheVariants.{Peer}
-use Rattle.tsp_base.specs.declared.stamp.Stamp.TheVariants.{Reply}
+use Rattle.tsp_rules.specs.Values.{Post, Correct, Sample, Message, Stamp, AdjTime, TimeBody, Peer, Reply}
+use Rattle.tsp_base.specs.Words.{Came, Turned, Here, Line, dids, of, view, Within, Sampled, acting, Undisturbed, peer_of}
 use Rattle.tsp_promises.specs.Estimates.{CloseBegins, Estimate}
 use Rattle.tsp_promises.specs.EstimatesUse.{EstimatesUse}
-use Rattle.tsp_base.specs.History.{Came, Turned, Here, Line, dids, of, view}
-use Rattle.tsp_base.specs.Places.{Within}
-use Rattle.tsp_base.specs.RoundFacts.{Sampled}
-use Rattle.tsp_base.specs.PortFacts.{acting}
 use Rattle.tsp_promises.specs.StepFacts.{closed}
-use Rattle.tsp_base.specs.Takings.{Undisturbed, peer_of}
 use Rattle.tsp_promises.proofs.Histories.{does, msg, skip, skipped, still}
 use Rattle.tsp_promises.proofs.PremiseChecks.{kept-by}
 use Rattle.tsp_promises.proofs.StepChecks.{port0}
@@ -24,7 +15,7 @@ use Rattle.tsp_promises.proofs.WitnessUse.{reply1, reply2, w15, w16, w17, w18, w
 
 -- the round's first ADJTIME
 abbrev pub adjusts : Line
-adjusts = does 408000000 0 Turned (Post (Peer (peer_of 1)) (Message (msg AdjTime 10 (Time (pos 17)))))
+adjusts = does 408000000 0 Turned (Post (Peer (peer_of 1)) (Message (msg AdjTime 10 (TimeBody (pos 17)))))
 
 -- it begins at the round's Close, whatever stands before that and between
 abbrev pub begins-at : (cpast fw : List Line) → Within (closing ∷ cpast) fw → acting (view port0 (of 0 fw)) ≡ true → closed (view port0 (of 0 fw)) ≡ Here closing.did ∷ view port0 (of 0 cpast) → CloseBegins 0 closing cpast (negsuc 83) adjusts fw
@@ -38,7 +29,7 @@ begins-at cpast fw closes acts close_is = record {
   first_node = refl;
   port = refl;
   peer = peer_of 1;
-  message = msg AdjTime 10 (Time (pos 17));
+  message = msg AdjTime 10 (TimeBody (pos 17));
   posts = refl;
   kind = refl;
   begins = acts;

@@ -1,13 +1,9 @@
 -- How small histories begin: three nodes boot, and one of them is elected.
 use Rattle.std.specs.Prelude.{false, pos, List, [], ◌∷◌, refl}
 use Rattle.std.proofs.Common.{sym, arith, true≢false}
-use Rattle.tsp_base.specs.declared.act.Act.TheVariants.{Boot, Become, Back, Ring}
-use Rattle.tsp_base.specs.declared.act.Placed.{Placed}
-use Rattle.tsp_base.specs.declared.alarm.Alarm.TheVariants.{Elect, Window}
-use Rattle.tsp_base.specs.declared.role.Role.TheVariants.{Candidate, Master}
+use Rattle.tsp_rules.specs.Values.{Boot, Become, Ring, Back, Placed, Window, Elect, Candidate, Master}
+use Rattle.tsp_base.specs.Words.{Booted, Turned, Line, peer_of}
 use Rattle.tsp_promises.specs.Fits.{Fits}
-use Rattle.tsp_base.specs.History.{Booted, Turned, Line}
-use Rattle.tsp_base.specs.Takings.{peer_of}
 use Rattle.tsp_promises.proofs.Histories.{on, step_at, still, then_step}
 use Rattle.tsp_promises.proofs.HistoriesFit.{step-fits}
 use Rattle.tsp_promises.proofs.StepChecks.{port0}

@@ -1,17 +1,9 @@
 -- A reply of an earlier life: a master asks, boots, and takes the answer.
 use Rattle.std.specs.Prelude.{◌≡◌, false, pos, List, [], ◌∷◌, refl}
 use Rattle.std.proofs.Common.{arith, inl}
-use Rattle.tsp_base.specs.declared.act.Act.TheVariants.{Boot, Took, Post, Arm, Ring}
-use Rattle.tsp_base.specs.declared.act.Placed.{Placed}
-use Rattle.tsp_base.specs.declared.alarm.Alarm.TheVariants.{Close as AlarmClose, Round}
-use Rattle.tsp_base.specs.declared.datagram.Datagram.TheVariants.{Stamp}
-use Rattle.tsp_base.specs.declared.datagram.Taken.TheVariants.{Good}
-use Rattle.tsp_base.specs.declared.place.Place.TheVariants.{Peer}
-use Rattle.tsp_base.specs.declared.stamp.Stamp.TheVariants.{Request, Reply}
+use Rattle.tsp_rules.specs.Values.{Boot, Took, Post, Arm, Ring, Placed, Round, CloseAlarm, Stamp, Good, Peer, Request, Reply}
+use Rattle.tsp_base.specs.Words.{Booted, Came, Turned, Did, Line, Seen, Here, ReplyValue, peer_of}
 use Rattle.tsp_promises.specs.Fits.{Fits}
-use Rattle.tsp_base.specs.History.{Booted, Came, Turned, Did, Line, Seen, Here}
-use Rattle.tsp_base.specs.Stamps.{ReplyValue}
-use Rattle.tsp_base.specs.Takings.{peer_of}
 use Rattle.tsp_promises.proofs.Histories.{line, on, skip, skipped, step_at, still, then_step}
 use Rattle.tsp_promises.proofs.HistoriesFit.{came, step-fits}
 use Rattle.tsp_promises.proofs.PremiseChecks.{kept-by}
@@ -24,7 +16,7 @@ abbrev pub answer : ReplyValue
 answer = record { ticket = 9; word = 7; counter = 0; reading = pos 400000300 }
 
 abbrev pub ab6 : List Placed
-ab6 = on port0 (Ring Round) ∷ (on port0 (Arm AlarmClose 408000000) ∷ (on port0 (Post (Peer (peer_of 1)) (Stamp (Request 7 0))) ∷ []))
+ab6 = on port0 (Ring Round) ∷ (on port0 (Arm CloseAlarm 408000000) ∷ (on port0 (Post (Peer (peer_of 1)) (Stamp (Request 7 0))) ∷ []))
 
 abbrev pub b6 : List Line
 b6 = then_step (step_at 400000000 0 Turned) ab6 w5

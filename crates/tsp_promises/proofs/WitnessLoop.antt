@@ -1,22 +1,12 @@
 -- A LOOP that comes back: node 1 leads on both of its ports, node 2 passes its LOOP on to the network that it shares with node 3, and that one back.
 use Rattle.std.specs.Prelude.{◌≡◌, ◌≢◌, ◌<◌, false, Bool, ℕ, pos, List, [], ◌∷◌, refl}
 use Rattle.std.proofs.Common.{sym, arith, inl, inr, true≢false}
-use Rattle.tsp_base.specs.declared.act.Act.TheVariants.{Boot, Took, Post, Become, Back, Ring}
-use Rattle.tsp_base.specs.declared.act.Placed.{Placed}
-use Rattle.tsp_base.specs.declared.alarm.Alarm.TheVariants.{Elect, Window}
-use Rattle.tsp_base.specs.declared.datagram.Datagram.TheVariants.{Message}
-use Rattle.tsp_base.specs.declared.datagram.Taken.TheVariants.{Good}
-use Rattle.tsp_base.specs.declared.kind.Kind.TheVariants.{Loop}
-use Rattle.tsp_base.specs.declared.message.Body.TheVariants.{Hops}
-use Rattle.tsp_base.specs.declared.place.Place.TheVariants.{Peer}
-use Rattle.tsp_base.specs.declared.role.Role.TheVariants.{Candidate, Loose, Master}
+use Rattle.tsp_rules.specs.Values.{Boot, Took, Post, Become, Ring, Back, Placed, Window, Elect, Message, Good, LoopKind, Hops, Peer, Loose, Candidate, Master}
+use Rattle.tsp_base.specs.Words.{Booted, Came, Turned, Line, MessageValue, peer_of}
 use Rattle.tsp_promises.specs.Fits.{Fits, node_of}
-use Rattle.tsp_base.specs.History.{Booted, Came, Turned, Line}
 use Rattle.tsp_promises.specs.Looped.{GivesUp, LoopPost}
 use Rattle.tsp_promises.specs.LoopUse.{LoopUse}
-use Rattle.tsp_base.specs.Messages.{MessageValue}
 use Rattle.tsp_promises.specs.Premises.{NamesApart}
-use Rattle.tsp_base.specs.Takings.{peer_of}
 use Rattle.tsp_promises.proofs.Histories.{does, line, on, skip, skipped, step_at, still, then_step}
 use Rattle.tsp_promises.proofs.HistoriesFit.{came, step-fits}
 use Rattle.tsp_promises.proofs.PremiseChecks.{kept-by}
@@ -25,7 +15,7 @@ use Rattle.tsp_promises.proofs.WitnessDebts.{none-some, not-same}
 
 -- a LOOP of node 1 from its port 0, with so many hops
 abbrev pub loop_with : ℕ → MessageValue
-loop_with hops = record { kind = Loop; number = 0; body = Hops hops; name = 1 ∷ [] }
+loop_with hops = record { kind = LoopKind; number = 0; body = Hops hops; name = 1 ∷ [] }
 
 names-differ : (x y : ℕ) → x < y → y ∷ [] ≢ x ∷ []
 names-differ x y l e = let same : y ≡ x = cc in not-same x y l (sym same)

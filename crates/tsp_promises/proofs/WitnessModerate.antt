@@ -4,29 +4,17 @@ use Rattle.std.specs.List.{Contains, count_by}
 use Rattle.std.proofs.Common.{arith, inl, inr}
 use Rattle.std.proofs.lemmas.Bool.{leb-true}
 use Rattle.std.proofs.lemmas.Int.{ints}
-use Rattle.tsp_base.specs.declared.act.Act.TheVariants.{Took, Post, Ring, Sample, Close, Correct, Acked}
-use Rattle.tsp_base.specs.declared.act.Placed.{Placed}
-use Rattle.tsp_base.specs.declared.alarm.Alarm.TheVariants.{Close as AlarmClose}
-use Rattle.tsp_base.specs.declared.constants.TheConstants.{SPAN}
-use Rattle.tsp_base.specs.declared.datagram.Datagram.TheVariants.{Message, Stamp}
-use Rattle.tsp_base.specs.declared.datagram.Taken.TheVariants.{Good}
-use Rattle.tsp_base.specs.declared.kind.Kind.TheVariants.{AdjTime, Ack, SetTime}
-use Rattle.tsp_base.specs.declared.message.Body.TheVariants.{Nothing, Time}
-use Rattle.tsp_base.specs.declared.place.Place.TheVariants.{Peer}
-use Rattle.tsp_base.specs.declared.stamp.Stamp.TheVariants.{Request, Reply}
+use Rattle.tsp_rules.specs.Values.{Took, Post, Ring, Close, Correct, Sample, Acked, Placed, CloseAlarm, Message, Stamp, Good, Ack, AdjTime, SetTime, Nothing, TimeBody, Peer, Request, Reply, SPAN}
+use Rattle.tsp_base.specs.Words.{Came, Turned, Line, of, view, Sampled, ReplyValue, peer_of}
 use Rattle.tsp_group.specs.Groups.{Agree, better, goes_before, group_from}
 use Rattle.tsp_promises.specs.Agreed.{Cast}
 use Rattle.tsp_promises.specs.CorrectFits.{ByRound}
 use Rattle.tsp_promises.specs.Estimates.{CloseBegins, Moves}
 use Rattle.tsp_promises.specs.Fits.{Fits}
-use Rattle.tsp_base.specs.History.{Came, Turned, Line, of, view}
 use Rattle.tsp_promises.specs.Moderate.{Agrees, Majority, PeerAgrees, estimates_of}
 use Rattle.tsp_promises.specs.ModerateUse.{ModerateUse}
-use Rattle.tsp_base.specs.RoundFacts.{Sampled}
 use Rattle.tsp_promises.specs.RoundFits.{group_mean}
 use Rattle.tsp_promises.specs.Setting.{setup_of}
-use Rattle.tsp_base.specs.Stamps.{ReplyValue}
-use Rattle.tsp_base.specs.Takings.{peer_of}
 use Rattle.tsp_promises.proofs.CastBy.{cast-by}
 use Rattle.tsp_promises.proofs.CastProof.{taking_of}
 use Rattle.tsp_promises.proofs.Histories.{line, msg, on, skip, skipped, step_at, still, then_step}
@@ -69,7 +57,7 @@ fn3 : Fits (still false) n3
 fn3 = step-fits false (step_at 402000001 0 (Came 9)) an3 n2 fn2 refl ((refl, (refl, came refl refl refl refl refl)), ((refl, samples-by late refl (record { corrects = refl; lives = refl }) refl refl refl refl refl refl refl refl), tt))
 
 abbrev pub an4 : List Placed
-an4 = on port0 (Ring AlarmClose) ∷ (on port0 (Close 2 (negsuc 100) (pos 101) (negsuc 50)) ∷ (on port0 (Correct (negsuc 50) false (pos 408000000)) ∷ (on port0 (Post (Peer (peer_of 1)) (Message (msg AdjTime 10 (Time (pos 50))))) ∷ (on port0 (Post (Peer (peer_of 2)) (Message (msg AdjTime 12 (Time (negsuc 1000049))))) ∷ []))))
+an4 = on port0 (Ring CloseAlarm) ∷ (on port0 (Close 2 (negsuc 100) (pos 101) (negsuc 50)) ∷ (on port0 (Correct (negsuc 50) false (pos 408000000)) ∷ (on port0 (Post (Peer (peer_of 1)) (Message (msg AdjTime 10 (TimeBody (pos 50))))) ∷ (on port0 (Post (Peer (peer_of 2)) (Message (msg AdjTime 12 (TimeBody (negsuc 1000049))))) ∷ []))))
 
 abbrev pub n4 : List Line
 n4 = then_step (step_at 408000000 0 Turned) an4 n3
@@ -87,30 +75,30 @@ fn4 = step-fits false (step_at 408000000 0 Turned) an4 n3 fn3 refl (
     (
       (refl, record { gap = omega arith; rested = omega arith; why = ByRound (record { close = _; past = _; is = refl; count = 2; lo = negsuc 100; size = pos 101; deed = refl; untaken = refl; mean_is = mean4 }); flag = refl; prints = refl }),
       (
-        (refl, record { rested = inl (omega arith); fits = adjusts-by (negsuc 50) (msg SetTime 9 (Time (pos 305000001))) (omega arith) refl refl refl refl refl refl refl (omega arith) (record { corrects = refl; lives = refl }) refl refl refl (inr (record { next = _; place = inl refl; stepped = false; shown = pos 408000000; deed = refl })) refl refl refl refl refl }),
-        ((refl, record { rested = inl (omega arith); fits = adjusts-by (negsuc 50) (msg SetTime 11 (Time (pos 305000004))) (omega arith) refl refl refl refl refl refl refl (omega arith) (record { corrects = refl; lives = refl }) refl refl refl (inr (record { next = _; place = inr (inl refl); stepped = false; shown = pos 408000000; deed = refl })) refl refl refl refl refl }), tt),
+        (refl, record { rested = inl (omega arith); fits = adjusts-by (negsuc 50) (msg SetTime 9 (TimeBody (pos 305000001))) (omega arith) refl refl refl refl refl refl refl (omega arith) (record { corrects = refl; lives = refl }) refl refl refl (inr (record { next = _; place = inl refl; stepped = false; shown = pos 408000000; deed = refl })) refl refl refl refl refl }),
+        ((refl, record { rested = inl (omega arith); fits = adjusts-by (negsuc 50) (msg SetTime 11 (TimeBody (pos 305000004))) (omega arith) refl refl refl refl refl refl refl (omega arith) (record { corrects = refl; lives = refl }) refl refl refl (inr (record { next = _; place = inr (inl refl); stepped = false; shown = pos 408000000; deed = refl })) refl refl refl refl refl }), tt),
       ),
     ),
   ),
 )
 
 abbrev pub an5 : List Placed
-an5 = on port0 (Took (Peer (peer_of 0)) (Good (Message (msg AdjTime 10 (Time (pos 50)))))) ∷ (on port0 (Correct (pos 50) false (pos 408000399)) ∷ (on port0 (Post (Peer (peer_of 0)) (Message (msg Ack 10 Nothing))) ∷ []))
+an5 = on port0 (Took (Peer (peer_of 0)) (Good (Message (msg AdjTime 10 (TimeBody (pos 50)))))) ∷ (on port0 (Correct (pos 50) false (pos 408000399)) ∷ (on port0 (Post (Peer (peer_of 0)) (Message (msg Ack 10 Nothing))) ∷ []))
 
 abbrev pub n5 : List Line
 n5 = then_step (step_at 408000400 1 (Came 10)) an5 n4
 
 fn5 : Fits (still false) n5
-fn5 = step-fits false (step_at 408000400 1 (Came 10)) an5 n4 fn4 refl ((refl, (refl, came refl refl refl refl refl)), ((refl, corrects-by (peer_of 0) (msg AdjTime 10 (Time (pos 50))) (omega arith) (omega arith) refl refl refl refl refl refl refl refl), ((refl, record { rested = inl (omega arith); fits = record { message = (msg AdjTime 10 (Time (pos 50))); took = refl; number_is = refl; answers = refl } }), tt)))
+fn5 = step-fits false (step_at 408000400 1 (Came 10)) an5 n4 fn4 refl ((refl, (refl, came refl refl refl refl refl)), ((refl, corrects-by (peer_of 0) (msg AdjTime 10 (TimeBody (pos 50))) (omega arith) (omega arith) refl refl refl refl refl refl refl refl), ((refl, record { rested = inl (omega arith); fits = record { message = (msg AdjTime 10 (TimeBody (pos 50))); took = refl; number_is = refl; answers = refl } }), tt)))
 
 abbrev pub an6 : List Placed
-an6 = on port0 (Took (Peer (peer_of 0)) (Good (Message (msg AdjTime 12 (Time (negsuc 1000049)))))) ∷ (on port0 (Correct (negsuc 1000049) false (pos 408000499)) ∷ (on port0 (Post (Peer (peer_of 0)) (Message (msg Ack 12 Nothing))) ∷ []))
+an6 = on port0 (Took (Peer (peer_of 0)) (Good (Message (msg AdjTime 12 (TimeBody (negsuc 1000049)))))) ∷ (on port0 (Correct (negsuc 1000049) false (pos 408000499)) ∷ (on port0 (Post (Peer (peer_of 0)) (Message (msg Ack 12 Nothing))) ∷ []))
 
 abbrev pub n6 : List Line
 n6 = then_step (step_at 408000500 2 (Came 11)) an6 n5
 
 fn6 : Fits (still false) n6
-fn6 = step-fits false (step_at 408000500 2 (Came 11)) an6 n5 fn5 refl ((refl, (refl, came refl refl refl refl refl)), ((refl, corrects-by (peer_of 0) (msg AdjTime 12 (Time (negsuc 1000049))) (omega arith) (omega arith) refl refl refl refl refl refl refl refl), ((refl, record { rested = inl (omega arith); fits = record { message = (msg AdjTime 12 (Time (negsuc 1000049))); took = refl; number_is = refl; answers = refl } }), tt)))
+fn6 = step-fits false (step_at 408000500 2 (Came 11)) an6 n5 fn5 refl ((refl, (refl, came refl refl refl refl refl)), ((refl, corrects-by (peer_of 0) (msg AdjTime 12 (TimeBody (negsuc 1000049))) (omega arith) (omega arith) refl refl refl refl refl refl refl refl), ((refl, record { rested = inl (omega arith); fits = record { message = (msg AdjTime 12 (TimeBody (negsuc 1000049))); took = refl; number_is = refl; answers = refl } }), tt)))
 
 abbrev pub an7 : List Placed
 an7 = on port0 (Took (Peer (peer_of 1)) (Good (Message (msg Ack 10 Nothing)))) ∷ (on port0 (Acked (peer_of 1)) ∷ [])
@@ -119,7 +107,7 @@ abbrev pub n7 : List Line
 n7 = then_step (step_at 408000700 0 (Came 12)) an7 n6
 
 fn7 : Fits (still false) n7
-fn7 = step-fits false (step_at 408000700 0 (Came 12)) an7 n6 fn6 refl ((refl, (refl, came refl refl refl refl refl)), ((refl, acked-fits _ (msg AdjTime 10 (Time (pos 50))) (msg Ack 10 Nothing) (peer_of 1) _ _ refl refl refl refl refl refl), tt))
+fn7 = step-fits false (step_at 408000700 0 (Came 12)) an7 n6 fn6 refl ((refl, (refl, came refl refl refl refl refl)), ((refl, acked-fits _ (msg AdjTime 10 (TimeBody (pos 50))) (msg Ack 10 Nothing) (peer_of 1) _ _ refl refl refl refl refl refl), tt))
 
 abbrev pub an8 : List Placed
 an8 = on port0 (Took (Peer (peer_of 2)) (Good (Message (msg Ack 12 Nothing)))) ∷ (on port0 (Acked (peer_of 2)) ∷ [])
@@ -128,7 +116,7 @@ abbrev pub n8 : List Line
 n8 = then_step (step_at 408000800 0 (Came 13)) an8 n7
 
 fn8 : Fits (still false) n8
-fn8 = step-fits false (step_at 408000800 0 (Came 13)) an8 n7 fn7 refl ((refl, (refl, came refl refl refl refl refl)), ((refl, acked-fits _ (msg AdjTime 12 (Time (negsuc 1000049))) (msg Ack 12 Nothing) (peer_of 2) _ _ refl refl refl refl refl refl), tt))
+fn8 = step-fits false (step_at 408000800 0 (Came 13)) an8 n7 fn7 refl ((refl, (refl, came refl refl refl refl refl)), ((refl, acked-fits _ (msg AdjTime 12 (TimeBody (negsuc 1000049))) (msg Ack 12 Nothing) (peer_of 2) _ _ refl refl refl refl refl refl), tt))
 
 -- its Close, with this mean
 abbrev pub shut-by : ℤ → Line
@@ -144,7 +132,7 @@ abbrev pub moves-near : Line
 moves-near = line (step_at 408000400 1 (Came 10)) port0 (Correct (pos 50) false (pos 408000399))
 
 abbrev pub tells-near : Line
-tells-near = line (step_at 408000000 0 Turned) port0 (Post (Peer (peer_of 1)) (Message (msg AdjTime 10 (Time (pos 50)))))
+tells-near = line (step_at 408000000 0 Turned) port0 (Post (Peer (peer_of 1)) (Message (msg AdjTime 10 (TimeBody (pos 50)))))
 
 abbrev pub near-sample : Sampled
 near-sample = record { counter = 0; diff = negsuc 100; err = pos 401; ticket = 10; trip = pos 801; place = view port0 (of 0 n1) }
@@ -165,7 +153,7 @@ small-agrees mean value among small = record { test = is_small; majority = two-o
 
 abbrev pub near-cast : (stepped : Bool) (shown : ℤ) → Cast 0 shuts (skip 4 n4) (line (step_at 408000400 1 (Came 10)) port0 (Correct (pos 50) stepped shown)) (skip 2 n5) sounds (skip 1 w15) (pos 401)
 near-cast stepped shown =
-    cast-by 0 shuts (skip 4 n4) (line (step_at 408000400 1 (Came 10)) port0 (Correct (pos 50) stepped shown)) (skip 2 n5) sounds (skip 1 w15) tells-near (skip 2 n4) (msg AdjTime 10 (Time (pos 50))) (pos 50) stepped shown
+    cast-by 0 shuts (skip 4 n4) (line (step_at 408000400 1 (Came 10)) port0 (Correct (pos 50) stepped shown)) (skip 2 n5) sounds (skip 1 w15) tells-near (skip 2 n4) (msg AdjTime 10 (TimeBody (pos 50))) (pos 50) stepped shown
     near-sample
     (record { correct = refl; place = skipped 3 (skip 2 n5); cause = refl; deed = refl; took = refl; node = refl; kind = refl; numbered = refl; is = refl })
     (record { closes = skipped 5 (skip 2 n5); node = refl; port = refl; is = refl; best_is = refl })
@@ -189,7 +177,7 @@ begins-near = record {
   first_node = refl;
   port = refl;
   peer = peer_of 1;
-  message = msg AdjTime 10 (Time (pos 50));
+  message = msg AdjTime 10 (TimeBody (pos 50));
   posts = refl;
   kind = refl;
   begins = refl;

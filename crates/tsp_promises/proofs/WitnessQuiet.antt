@@ -1,18 +1,10 @@
 -- A node answers a stranger in its quiet time.
 use Rattle.std.specs.Prelude.{false, pos, List, [], ◌∷◌, refl}
 use Rattle.std.proofs.Common.{arith, inl, inr}
-use Rattle.tsp_base.specs.declared.act.Act.TheVariants.{Boot, Took, Post}
-use Rattle.tsp_base.specs.declared.act.Placed.{Placed}
-use Rattle.tsp_base.specs.declared.datagram.Datagram.TheVariants.{Message, Stamp}
-use Rattle.tsp_base.specs.declared.datagram.Taken.TheVariants.{Good}
-use Rattle.tsp_base.specs.declared.kind.Kind.TheVariants.{Ack, Msite}
-use Rattle.tsp_base.specs.declared.message.Body.TheVariants.{Nothing}
-use Rattle.tsp_base.specs.declared.place.Place.TheVariants.{Stranger}
-use Rattle.tsp_base.specs.declared.stamp.Stamp.TheVariants.{Request, Reply}
+use Rattle.tsp_rules.specs.Values.{Boot, Took, Post, Placed, Message, Stamp, Good, Ack, Msite, Nothing, Stranger, Request, Reply}
+use Rattle.tsp_base.specs.Words.{Booted, Handed, Line, ReplyValue}
 use Rattle.tsp_promises.specs.Fits.{Fits}
-use Rattle.tsp_base.specs.History.{Booted, Handed, Line}
 use Rattle.tsp_promises.specs.QuietUse.{QuietUse}
-use Rattle.tsp_base.specs.Stamps.{ReplyValue}
 use Rattle.tsp_promises.proofs.Histories.{does, msg, on, skip, skipped, step_at, still, then_step}
 use Rattle.tsp_promises.proofs.HistoriesFit.{step-fits}
 use Rattle.tsp_promises.proofs.PremiseChecks.{kept-by}

@@ -1,21 +1,9 @@
 -- A history of rivals: an election, two backings a hold apart, a resolution, and a second election.
 use Rattle.std.specs.Prelude.{◌≡◌, ◌≤◌, false, ◌+◌, pos, List, [], ◌∷◌, refl}
 use Rattle.std.proofs.Common.{sym, ap, arith, subst, inl, inr, true≢false}
-use Rattle.tsp_base.specs.declared.act.Act.TheVariants.{Boot, Took, Post, Become, Back, Ring, Acked, Quit}
-use Rattle.tsp_base.specs.declared.act.Placed.{Placed}
-use Rattle.tsp_base.specs.declared.alarm.Alarm.TheVariants.{Elect, Resolve, Window}
-use Rattle.tsp_base.specs.declared.constants.TheConstants.{ELECT_MIN, HOLD}
-use Rattle.tsp_base.specs.declared.datagram.Datagram.TheVariants.{Message}
-use Rattle.tsp_base.specs.declared.datagram.Taken.TheVariants.{Good}
-use Rattle.tsp_base.specs.declared.kind.Kind.TheVariants.{Accept, Ack, Election, Quit as QuitKind}
-use Rattle.tsp_base.specs.declared.message.Body.TheVariants.{Nothing}
-use Rattle.tsp_base.specs.declared.place.PeerId.{PeerId}
-use Rattle.tsp_base.specs.declared.place.Place.TheVariants.{Peer}
-use Rattle.tsp_base.specs.declared.role.Role.TheVariants.{Candidate, Follow, Master}
+use Rattle.tsp_rules.specs.Values.{Boot, Took, Post, Become, Ring, Back, Acked, Quit, Placed, Window, Elect, ResolveAlarm, Message, Good, Accept, Ack, Election, QuitKind, Nothing, PeerId, Peer, Follow, Candidate, Master, ELECT_MIN, HOLD}
+use Rattle.tsp_base.specs.Words.{Booted, Came, Turned, Begins, Line, of, view, first_port, line_of, peer_of}
 use Rattle.tsp_promises.specs.Fits.{Fits}
-use Rattle.tsp_base.specs.History.{Booted, Came, Turned, Begins, Line, of, view}
-use Rattle.tsp_base.specs.Joins.{first_port, line_of}
-use Rattle.tsp_base.specs.Takings.{peer_of}
 use Rattle.tsp_promises.proofs.Histories.{line, msg, on, skip, skipped, step_at, still, then_step}
 use Rattle.tsp_promises.proofs.HistoriesFit.{all-finished, came, step-fits}
 use Rattle.tsp_promises.proofs.PremiseChecks.{life-by}
@@ -87,7 +75,7 @@ f7 : Fits (still false) r7
 f7 = step-fits false (step_at 365000001 1 Turned) ar7 r6 f6 refl ((refl, tt), ((refl, record { rested = omega arith; quiet = λ x e. none-some x e; stands = refl; start = _; idle = _; start_is = refl; soon = omega arith; backs = refl; wins = λ e. absurd (true≢false (sym e)) }), tt))
 
 abbrev pub ar8 : List Placed
-ar8 = on port0 (Ring Resolve) ∷ (on port0 (Post (Peer (peer_of 1)) (Message (msg QuitKind 32776 Nothing))) ∷ [])
+ar8 = on port0 (Ring ResolveAlarm) ∷ (on port0 (Post (Peer (peer_of 1)) (Message (msg QuitKind 32776 Nothing))) ∷ [])
 
 abbrev pub r8 : List Line
 r8 = then_step (step_at 400000000 0 Turned) ar8 r7
@@ -142,7 +130,7 @@ rivals_meet = record {
   fits = f12;
   finished = all-finished false r12 refl;
   life = life-by r12 refl;
-  ring = line (step_at 400000000 0 Turned) port0 (Ring Resolve);
+  ring = line (step_at 400000000 0 Turned) port0 (Ring ResolveAlarm);
   past = skip 2 r8;
   ring_in = skipped 16 r12;
   rings = refl;

@@ -2,21 +2,11 @@
 use Rattle.std.specs.Prelude.{◌≢◌, false, pos, negsuc, List, [], ◌∷◌, refl, ◌≡◌}
 use Rattle.std.proofs.Common.{arith, inl, inr}
 use Rattle.std.proofs.lemmas.Int.{ints}
-use Rattle.tsp_base.specs.declared.act.Act.TheVariants.{Took, Post, Arm, Ring, Sample, Close, Correct, Acked}
-use Rattle.tsp_base.specs.declared.act.Placed.{Placed}
-use Rattle.tsp_base.specs.declared.alarm.Alarm.TheVariants.{Close as AlarmClose, Round}
-use Rattle.tsp_base.specs.declared.datagram.Datagram.TheVariants.{Message, Stamp}
-use Rattle.tsp_base.specs.declared.datagram.Taken.TheVariants.{Good}
-use Rattle.tsp_base.specs.declared.kind.Kind.TheVariants.{AdjTime, Ack}
-use Rattle.tsp_base.specs.declared.message.Body.TheVariants.{Nothing, Time}
-use Rattle.tsp_base.specs.declared.place.Place.TheVariants.{Peer}
-use Rattle.tsp_base.specs.declared.stamp.Stamp.TheVariants.{Request, Reply}
+use Rattle.tsp_rules.specs.Values.{Took, Post, Arm, Ring, Close, Correct, Sample, Acked, Placed, Round, CloseAlarm, Message, Stamp, Good, Ack, AdjTime, Nothing, TimeBody, Peer, Request, Reply}
+use Rattle.tsp_base.specs.Words.{Came, Turned, Line, of, view, ReplyValue, peer_of}
 use Rattle.tsp_promises.specs.CorrectFits.{ByRound}
 use Rattle.tsp_promises.specs.Fits.{Fits}
-use Rattle.tsp_base.specs.History.{Came, Turned, Line, of, view}
 use Rattle.tsp_promises.specs.RoundsUse.{RoundsUse}
-use Rattle.tsp_base.specs.Stamps.{ReplyValue}
-use Rattle.tsp_base.specs.Takings.{peer_of}
 use Rattle.tsp_group.specs.Groups.{better, goes_before, group_from}
 use Rattle.tsp_promises.specs.RoundFits.{group_mean}
 use Rattle.tsp_promises.specs.Setting.{setup_of}
@@ -32,7 +22,7 @@ abbrev next : ReplyValue
 next = record { ticket = 11; word = 7; counter = 2; reading = pos 1000000296 }
 
 abbrev pub ay1 : List Placed
-ay1 = on port0 (Ring Round) ∷ (on port0 (Arm AlarmClose 1008000000) ∷ (on port0 (Post (Peer (peer_of 1)) (Stamp (Request 7 2))) ∷ []))
+ay1 = on port0 (Ring Round) ∷ (on port0 (Arm CloseAlarm 1008000000) ∷ (on port0 (Post (Peer (peer_of 1)) (Stamp (Request 7 2))) ∷ []))
 
 abbrev pub y1 : List Line
 y1 = then_step (step_at 1000000000 0 Turned) ay1 w23
@@ -59,7 +49,7 @@ fy3 : Fits (still false) y3
 fy3 = step-fits false (step_at 1000000801 0 (Came 15)) ay3 y2 fy2 refl ((refl, (refl, came refl refl refl refl refl)), ((refl, samples-by next refl (record { corrects = refl; lives = refl }) refl refl refl refl refl refl refl refl), tt))
 
 abbrev pub ay4 : List Placed
-ay4 = on port0 (Ring AlarmClose) ∷ (on port0 (Close 2 (negsuc 19) (pos 20) (negsuc 9)) ∷ (on port0 (Correct (negsuc 9) false (pos 1007999916)) ∷ (on port0 (Post (Peer (peer_of 1)) (Message (msg AdjTime 11 (Time (pos 10))))) ∷ [])))
+ay4 = on port0 (Ring CloseAlarm) ∷ (on port0 (Close 2 (negsuc 19) (pos 20) (negsuc 9)) ∷ (on port0 (Correct (negsuc 9) false (pos 1007999916)) ∷ (on port0 (Post (Peer (peer_of 1)) (Message (msg AdjTime 11 (TimeBody (pos 10))))) ∷ [])))
 
 abbrev pub y4 : List Line
 y4 = then_step (step_at 1008000000 0 Turned) ay4 y3
@@ -70,16 +60,16 @@ unfolding group_from goes_before better
 mean4 = refl
 
 fy4 : Fits (still false) y4
-fy4 = step-fits false (step_at 1008000000 0 Turned) ay4 y3 fy3 refl ((refl, tt), ((refl, closes-by refl refl refl refl refl (omega arith) (omega arith) (record { corrects = refl; lives = refl })), ((refl, record { gap = omega arith; rested = omega arith; why = ByRound (record { close = _; past = _; is = refl; count = 2; lo = negsuc 19; size = pos 20; deed = refl; untaken = refl; mean_is = mean4 }); flag = refl; prints = refl }), ((refl, record { rested = inl (omega arith); fits = adjusts-by (negsuc 9) (msg AdjTime 10 (Time (pos 17))) (omega arith) refl refl refl refl refl refl refl (omega arith) (record { corrects = refl; lives = refl }) refl refl refl (inr (record { next = _; place = inl refl; stepped = false; shown = pos 1007999916; deed = refl })) refl refl refl refl refl }), tt))))
+fy4 = step-fits false (step_at 1008000000 0 Turned) ay4 y3 fy3 refl ((refl, tt), ((refl, closes-by refl refl refl refl refl (omega arith) (omega arith) (record { corrects = refl; lives = refl })), ((refl, record { gap = omega arith; rested = omega arith; why = ByRound (record { close = _; past = _; is = refl; count = 2; lo = negsuc 19; size = pos 20; deed = refl; untaken = refl; mean_is = mean4 }); flag = refl; prints = refl }), ((refl, record { rested = inl (omega arith); fits = adjusts-by (negsuc 9) (msg AdjTime 10 (TimeBody (pos 17))) (omega arith) refl refl refl refl refl refl refl (omega arith) (record { corrects = refl; lives = refl }) refl refl refl (inr (record { next = _; place = inl refl; stepped = false; shown = pos 1007999916; deed = refl })) refl refl refl refl refl }), tt))))
 
 abbrev pub ay5 : List Placed
-ay5 = on port0 (Took (Peer (peer_of 0)) (Good (Message (msg AdjTime 11 (Time (pos 10)))))) ∷ (on port0 (Correct (pos 10) false (pos 1008000416)) ∷ (on port0 (Post (Peer (peer_of 0)) (Message (msg Ack 11 Nothing))) ∷ []))
+ay5 = on port0 (Took (Peer (peer_of 0)) (Good (Message (msg AdjTime 11 (TimeBody (pos 10)))))) ∷ (on port0 (Correct (pos 10) false (pos 1008000416)) ∷ (on port0 (Post (Peer (peer_of 0)) (Message (msg Ack 11 Nothing))) ∷ []))
 
 abbrev pub y5 : List Line
 y5 = then_step (step_at 1008000400 1 (Came 16)) ay5 y4
 
 fy5 : Fits (still false) y5
-fy5 = step-fits false (step_at 1008000400 1 (Came 16)) ay5 y4 fy4 refl ((refl, (refl, came refl refl refl refl refl)), ((refl, corrects-by (peer_of 0) (msg AdjTime 11 (Time (pos 10))) (omega arith) (omega arith) refl refl refl refl refl refl refl refl), ((refl, record { rested = inl (omega arith); fits = record { message = (msg AdjTime 11 (Time (pos 10))); took = refl; number_is = refl; answers = refl } }), tt)))
+fy5 = step-fits false (step_at 1008000400 1 (Came 16)) ay5 y4 fy4 refl ((refl, (refl, came refl refl refl refl refl)), ((refl, corrects-by (peer_of 0) (msg AdjTime 11 (TimeBody (pos 10))) (omega arith) (omega arith) refl refl refl refl refl refl refl refl), ((refl, record { rested = inl (omega arith); fits = record { message = (msg AdjTime 11 (TimeBody (pos 10))); took = refl; number_is = refl; answers = refl } }), tt)))
 
 abbrev pub ay6 : List Placed
 ay6 = on port0 (Took (Peer (peer_of 1)) (Good (Message (msg Ack 11 Nothing)))) ∷ (on port0 (Acked (peer_of 1)) ∷ [])
@@ -88,7 +78,7 @@ abbrev pub y6 : List Line
 y6 = then_step (step_at 1008000700 0 (Came 17)) ay6 y5
 
 fy6 : Fits (still false) y6
-fy6 = step-fits false (step_at 1008000700 0 (Came 17)) ay6 y5 fy5 refl ((refl, (refl, came refl refl refl refl refl)), ((refl, acked-fits _ (msg AdjTime 11 (Time (pos 10))) (msg Ack 11 Nothing) (peer_of 1) _ _ refl refl refl refl refl refl), tt))
+fy6 = step-fits false (step_at 1008000700 0 (Came 17)) ay6 y5 fy5 refl ((refl, (refl, came refl refl refl refl refl)), ((refl, acked-fits _ (msg AdjTime 11 (TimeBody (pos 10))) (msg Ack 11 Nothing) (peer_of 1) _ _ refl refl refl refl refl refl), tt))
 
 ten-off : negsuc 9 ≢ pos 0
 ten-off e = omega (arith, ints)

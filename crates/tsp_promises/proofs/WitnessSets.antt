@@ -1,20 +1,14 @@
 -- The SETTIME of ordinary use: the Correct that takes it, and the SLAVEUP that it answers.
 use Rattle.std.specs.Prelude.{◌≡◌, Bool, true, ℤ, pos, List, ◌∷◌, is_some, refl}
-use Rattle.tsp_base.specs.declared.act.Act.TheVariants.{Correct, Post}
-use Rattle.tsp_base.specs.declared.datagram.Datagram.TheVariants.{Message}
-use Rattle.tsp_base.specs.declared.kind.Kind.TheVariants.{SetTime, SlaveUp}
-use Rattle.tsp_base.specs.declared.message.Body.TheVariants.{Nothing, Time}
-use Rattle.tsp_base.specs.declared.place.Place.TheVariants.{Peer}
-use Rattle.tsp_base.specs.History.{Came, Turned, Line, dids, of, view}
+use Rattle.tsp_rules.specs.Values.{Post, Correct, Message, SetTime, SlaveUp, Nothing, TimeBody, Peer}
+use Rattle.tsp_base.specs.Words.{Came, Turned, Line, dids, of, view, Within, heard, peer_of}
 use Rattle.tsp_promises.specs.OneError.{FromSlaveUp, Taking}
-use Rattle.tsp_base.specs.Places.{Within}
-use Rattle.tsp_base.specs.Takings.{heard, peer_of}
 use Rattle.tsp_promises.proofs.Histories.{does, msg, skip}
 use Rattle.tsp_promises.proofs.StepChecks.{port0}
 use Rattle.tsp_promises.proofs.WitnessUse.{w6, w8}
 
 abbrev pub settime : Line
-settime = does 305000001 0 (Came 0) (Post (Peer (peer_of 1)) (Message (msg SetTime 9 (Time (pos 305000001)))))
+settime = does 305000001 0 (Came 0) (Post (Peer (peer_of 1)) (Message (msg SetTime 9 (TimeBody (pos 305000001)))))
 
 abbrev pub slaveup : Line
 slaveup = does 305000000 1 Turned (Post (Peer (peer_of 0)) (Message (msg SlaveUp 9 Nothing)))
@@ -27,12 +21,12 @@ abbrev pub set-taking : (amount : ℤ) (stepped : Bool) (shown : ℤ) (past : Li
 set-taking amount stepped shown past place took = record {
   post = settime;
   before = skip 1 w8;
-  acts = record { amount = amount; stepped = stepped; shown = shown; correct = refl; brings = record { place = place; cause = refl; message = msg SetTime 9 (Time (pos 305000001)); deed = refl }; took = took };
+  acts = record { amount = amount; stepped = stepped; shown = shown; correct = refl; brings = record { place = place; cause = refl; message = msg SetTime 9 (TimeBody (pos 305000001)); deed = refl }; took = took };
   kind = refl;
   node = refl;
   first = settime.did;
   begun = view port0 (of 0 (skip 1 w8));
-  of_send = record { message = msg SetTime 9 (Time (pos 305000001)); deed = refl; numbered = refl; is = refl };
+  of_send = record { message = msg SetTime 9 (TimeBody (pos 305000001)); deed = refl; numbered = refl; is = refl };
 }
 
 abbrev pub set-source : (amount : ℤ) (stepped : Bool) (shown : ℤ) (past : List Line) (place : Within (settime ∷ skip 1 w8) past) (took : is_some (heard (dids (of 1 past))) ≡ true) → Within (slaveup ∷ skip 1 w6) past →

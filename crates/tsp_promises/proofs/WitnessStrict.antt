@@ -1,20 +1,9 @@
 -- Strict elections: a node wins with the vote of a second one, and later the second wins with the vote of a third.
 use Rattle.std.specs.Prelude.{◌≤◌, true, ◌+◌, pos, List, [], ◌∷◌, refl}
 use Rattle.std.proofs.Common.{sym, ap, arith, subst, inl, inr, true≢false}
-use Rattle.tsp_base.specs.declared.act.Act.TheVariants.{Boot, Took, Post, Become, Back, Ring, Acked, Backer}
-use Rattle.tsp_base.specs.declared.act.Placed.{Placed}
-use Rattle.tsp_base.specs.declared.alarm.Alarm.TheVariants.{Elect, Window}
-use Rattle.tsp_base.specs.declared.constants.TheConstants.{HOLD}
-use Rattle.tsp_base.specs.declared.datagram.Datagram.TheVariants.{Message}
-use Rattle.tsp_base.specs.declared.datagram.Taken.TheVariants.{Good}
-use Rattle.tsp_base.specs.declared.kind.Kind.TheVariants.{Accept, Election}
-use Rattle.tsp_base.specs.declared.message.Body.TheVariants.{Nothing}
-use Rattle.tsp_base.specs.declared.place.PeerId.{PeerId}
-use Rattle.tsp_base.specs.declared.place.Place.TheVariants.{Peer}
-use Rattle.tsp_base.specs.declared.role.Role.TheVariants.{Candidate, Master}
+use Rattle.tsp_rules.specs.Values.{Boot, Took, Post, Become, Ring, Back, Backer, Acked, Placed, Window, Elect, Message, Good, Accept, Election, Nothing, PeerId, Peer, Candidate, Master, HOLD}
+use Rattle.tsp_base.specs.Words.{Booted, Came, Turned, Line, peer_of}
 use Rattle.tsp_promises.specs.Fits.{Fits}
-use Rattle.tsp_base.specs.History.{Booted, Came, Turned, Line}
-use Rattle.tsp_base.specs.Takings.{peer_of}
 use Rattle.tsp_promises.proofs.Histories.{does, msg, on, skip, skipped, step_at, still, then_step}
 use Rattle.tsp_promises.proofs.HistoriesFit.{came, step-fits}
 use Rattle.tsp_promises.proofs.PremiseChecks.{few-by, kept-by}

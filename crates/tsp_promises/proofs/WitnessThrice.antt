@@ -1,18 +1,9 @@
 -- A candidate asks a peer three times for its vote.
 use Rattle.std.specs.Prelude.{false, List, [], ◌∷◌, refl}
 use Rattle.std.proofs.Common.{sym, arith, inl, true≢false}
-use Rattle.tsp_base.specs.declared.act.Act.TheVariants.{Become, Back, Post, Ring}
-use Rattle.tsp_base.specs.declared.act.Placed.{Placed}
-use Rattle.tsp_base.specs.declared.alarm.Alarm.TheVariants.{Elect}
-use Rattle.tsp_base.specs.declared.datagram.Datagram.TheVariants.{Message}
-use Rattle.tsp_base.specs.declared.kind.Kind.TheVariants.{Election}
-use Rattle.tsp_base.specs.declared.message.Body.TheVariants.{Nothing}
-use Rattle.tsp_base.specs.declared.place.Place.TheVariants.{Peer}
-use Rattle.tsp_base.specs.declared.role.Role.TheVariants.{Candidate}
+use Rattle.tsp_rules.specs.Values.{Post, Become, Ring, Back, Placed, Elect, Message, Election, Nothing, Peer, Candidate}
+use Rattle.tsp_base.specs.Words.{Turned, Line, MessageValue, peer_of}
 use Rattle.tsp_promises.specs.Fits.{Fits}
-use Rattle.tsp_base.specs.History.{Turned, Line}
-use Rattle.tsp_base.specs.Messages.{MessageValue}
-use Rattle.tsp_base.specs.Takings.{peer_of}
 use Rattle.tsp_promises.specs.ThriceUse.{ThriceUse}
 use Rattle.tsp_promises.proofs.Histories.{does, msg, on, skip, step_at, still, then_step}
 use Rattle.tsp_promises.proofs.HistoriesFit.{step-fits}

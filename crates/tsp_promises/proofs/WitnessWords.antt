@@ -2,23 +2,13 @@
 use Rattle.std.specs.Prelude.{◌≡◌, ◌≤ℤ◌, ◌-ℤ◌, nat_abs, false, pos, negsuc, List, [], ◌∷◌, refl}
 use Rattle.std.proofs.Common.{sym, arith, subst, inl, true≢false}
 use Rattle.std.proofs.lemmas.Int.{ints}
-use Rattle.tsp_base.specs.declared.act.Act.TheVariants.{Boot, Took, Post, Become, Back, Arm, Ring, Sample, Close, Correct}
-use Rattle.tsp_base.specs.declared.act.Placed.{Placed}
-use Rattle.tsp_base.specs.declared.alarm.Alarm.TheVariants.{Close as AlarmClose, Elect, Round, Window}
-use Rattle.tsp_base.specs.declared.datagram.Datagram.TheVariants.{Message, Stamp}
-use Rattle.tsp_base.specs.declared.datagram.Taken.TheVariants.{Good}
-use Rattle.tsp_base.specs.declared.kind.Kind.TheVariants.{AdjTime}
-use Rattle.tsp_base.specs.declared.message.Body.TheVariants.{Time}
-use Rattle.tsp_base.specs.declared.place.Place.TheVariants.{Peer}
-use Rattle.tsp_base.specs.declared.role.Role.TheVariants.{Candidate, Master}
-use Rattle.tsp_base.specs.declared.stamp.Stamp.TheVariants.{Request, Reply}
+use Rattle.tsp_rules.specs.Values.{Boot, Took, Post, Become, Arm, Ring, Back, Close, Correct, Sample, Placed, Window, Elect, Round, CloseAlarm, Message, Stamp, Good, AdjTime, TimeBody, Peer, Candidate, Master, Request, Reply}
+use Rattle.tsp_base.specs.Words.{Booted, Came, Turned, Line, dids, of, view, peer_of, posted}
 use Rattle.tsp_promises.specs.Fits.{Fits}
 use Rattle.tsp_promises.specs.Agreed.{Cast}
 use Rattle.tsp_promises.specs.ClockAt.{clock}
 use Rattle.tsp_promises.specs.Measured.{Measured}
 use Rattle.tsp_promises.specs.SameWords.{MeasuresWrongly, SameWords}
-use Rattle.tsp_base.specs.History.{Booted, Came, Turned, Line, dids, of, view}
-use Rattle.tsp_base.specs.Takings.{peer_of, posted}
 use Rattle.tsp_promises.proofs.Histories.{line, msg, on, skip, skipped, step_at, still, then_step}
 use Rattle.tsp_promises.proofs.HistoriesFit.{all-finished, came, step-fits}
 use Rattle.tsp_promises.proofs.StepChecks.{port0}
@@ -47,7 +37,7 @@ tells = line (step_at 1000000299 1 (Came 17)) port0 (Post (Peer (peer_of 0)) (St
 
 second-cast : Cast 0 shuts (skip 3 v11) corrects (skip 2 v12) tells (skip 1 v9) (pos 401)
 second-cast =
-    cast-by 0 shuts (skip 3 v11) corrects (skip 2 v12) tells (skip 1 v9) (line (step_at 1008000000 0 Turned) port0 (Post (Peer (peer_of 1)) (Message (msg AdjTime 12 (Time (pos 51)))))) (skip 1 v11) (msg AdjTime 12 (Time (pos 51))) (pos 51) false (pos 1008000399)
+    cast-by 0 shuts (skip 3 v11) corrects (skip 2 v12) tells (skip 1 v9) (line (step_at 1008000000 0 Turned) port0 (Post (Peer (peer_of 1)) (Message (msg AdjTime 12 (TimeBody (pos 51)))))) (skip 1 v11) (msg AdjTime 12 (TimeBody (pos 51))) (pos 51) false (pos 1008000399)
     (record { counter = 0; diff = negsuc 101; err = pos 401; ticket = 12; trip = pos 801; place = view port0 (of 0 v10) })
     (record { correct = refl; place = skipped 2 (skip 2 v12); cause = refl; deed = refl; took = refl; node = refl; kind = refl; numbered = refl; is = refl })
     (record { closes = skipped 4 (skip 2 v12); node = refl; port = refl; is = refl; best_is = refl })
@@ -96,7 +86,7 @@ fx3 : Fits (still false) x3
 fx3 = step-fits false (step_at 905000000 0 Turned) ax3 x2 fx2 refl ((refl, tt), ((refl, record { rested = omega arith; quiet = λ x e. none-some x e; stands = refl; start = _; idle = _; start_is = refl; soon = omega arith; backs = refl; wins = λ e. absurd (true≢false (sym e)) }), tt))
 
 abbrev pub ax4 : List Placed
-ax4 = on port0 (Ring Round) ∷ (on port0 (Arm AlarmClose 1008000000) ∷ (on port0 (Post (Peer (peer_of 1)) (Stamp (Request 7 0))) ∷ []))
+ax4 = on port0 (Ring Round) ∷ (on port0 (Arm CloseAlarm 1008000000) ∷ (on port0 (Post (Peer (peer_of 1)) (Stamp (Request 7 0))) ∷ []))
 
 abbrev pub x4 : List Line
 x4 = then_step (step_at 1000000000 0 Turned) ax4 x3

@@ -1,11 +1,9 @@
 -- A boot gives the node another word.
 use Rattle.std.specs.Prelude.{◌≡◌, ◌≢◌, ◌==◌, Bool, true, false, ℕ, ◌<◌, ℤ, pos, ◌+ℤ◌, List, [], ◌∷◌, refl}
 use Rattle.std.proofs.Common.{sym, ap, arith, subst, subst₂, inl, inr, eqb-true, true≢false, ◌∙◌}
-use Rattle.tsp_base.specs.declared.act.Act.TheVariants.{Boot}
+use Rattle.tsp_rules.specs.Values.{Boot}
+use Rattle.tsp_base.specs.Words.{Booted, Deed, Begins, Acts, Line, of, dids, lives, lives_after, up, up_after, word, word_after, Within}
 use Rattle.tsp_promises.specs.Fits.{Fits, LineFits, Alive, node_of}
-use Rattle.tsp_base.specs.History.{Booted, Deed, Begins, Acts, Line, of, dids}
-use Rattle.tsp_base.specs.NodeFacts.{lives, lives_after, up, up_after, word, word_after}
-use Rattle.tsp_base.specs.Places.{Within}
 use Rattle.tsp_promises.specs.Premises.{OwnWords, OwnWordsAt, Words, WordsAt}
 use Rattle.tsp_promises.specs.Setting.{Setting}
 use Rattle.tsp_promises.proofs.EverywhereLemmas.{Everywhere-at, Everywhere-from}

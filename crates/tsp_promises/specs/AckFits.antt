@@ -1,16 +1,7 @@
 -- What acknowledgments owe to their port's past: those that are posted and those that are taken.
 use Rattle.std.specs.Prelude.{◌≡◌, ℕ, true, List, ◌∷◌, Some}
-use Rattle.tsp_base.specs.declared.act.Act.TheVariants.{Post}
-use Rattle.tsp_base.specs.declared.datagram.Datagram.TheVariants.{Message}
-use Rattle.tsp_base.specs.declared.kind.Kind.{Kind}
-use Rattle.tsp_base.specs.declared.kind.Kind.TheVariants.{AdjTime, SetTime, Ack, Conflict, Quit, Date, DateAck, SetDate, SetDateReq, Msite, MsiteReq, Test, TraceOn, TraceOff}
-use Rattle.tsp_base.specs.declared.place.PeerId.{PeerId}
-use Rattle.tsp_base.specs.declared.place.Place.{Place}
-use Rattle.tsp_base.specs.declared.place.Place.TheVariants.{Peer, Stranger}
-use Rattle.tsp_base.specs.History.{Did, Acts, Seen, Here}
-use Rattle.tsp_base.specs.Messages.{MessageValue}
-use Rattle.tsp_base.specs.SendFacts.{is_correction, open_to, last_taken}
-use Rattle.tsp_base.specs.Takings.{Receives, TakesFrom}
+use Rattle.tsp_rules.specs.Values.{Post, Message, Kind, Ack, AdjTime, Conflict, Date, DateAck, Msite, MsiteReq, QuitKind, SetDate, SetDateReq, SetTime, Test, TraceOff, TraceOn, PeerId, Place, Peer, Stranger}
+use Rattle.tsp_base.specs.Words.{Did, Acts, Seen, Here, MessageValue, is_correction, open_to, last_taken, Receives, TakesFrom}
 
 -- the node's last Correct took the correction with this number, from that peer and on this port; a stranger's is never
 -- taken
@@ -25,7 +16,7 @@ abbrev pub Answers : Kind → Place → List Seen → ℕ → Type 0
 Answers AdjTime to before number = TookLast to before number
 Answers SetTime to before number = TookLast to before number
 Answers Conflict to before number = Unit {0}
-Answers Quit to before number = Unit {0}
+Answers QuitKind to before number = Unit {0}
 Answers Date to before number = Unit {0}
 Answers SetDate to before number = Unit {0}
 Answers Msite to before number = Unit {0}

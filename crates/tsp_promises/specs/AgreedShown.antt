@@ -5,12 +5,10 @@ use Rattle.tsp_promises.specs.Chained.{Hop, Hops, IsChain, bound, hop_bound, las
 use Rattle.tsp_promises.specs.ClockAt.{clock_at}
 use Rattle.tsp_promises.specs.Everywhere.{Everywhere}
 use Rattle.tsp_promises.specs.Fits.{node_of}
-use Rattle.tsp_base.specs.History.{Line, of, dids}
-use Rattle.tsp_base.specs.NodeFacts.{last_correct, rest, up}
+use Rattle.tsp_base.specs.Words.{Line, of, dids, last_correct, rest, up, tick_at, width}
 use Rattle.tsp_promises.specs.Setting.{Setting}
 use Rattle.tsp_promises.specs.ShownAt.{left_at, shown_at}
 use Rattle.tsp_promises.specs.Steady.{ReadTimes, Unstepped, shown_width}
-use Rattle.tsp_base.specs.Ticks.{tick_at, width}
 
 -- the shown values of k and l differ by at most b and what is still to be slewed on each; so by at most b, once both
 -- show their targets

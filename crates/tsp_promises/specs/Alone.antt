@@ -1,8 +1,6 @@
 -- A node with one port, and that port alone.
 use Rattle.std.specs.Prelude.{◌≡◌, ℕ, List, [], ◌∷◌}
-use Rattle.tsp_base.specs.History.{Step}
-use Rattle.tsp_base.specs.Joins.{first_port}
-use Rattle.tsp_base.specs.Rows.{placed}
+use Rattle.tsp_base.specs.Words.{Step, first_port, placed}
 use Rattle.tsp_promises.specs.NodeRuns.{NodeMakes, NodeBoots, NodeAnswers, NodeHappening, NodeOrdered, node_ran}
 use Rattle.tsp_promises.specs.Runs.{Makes, Boots, Answers, Happening, ran}
 use Rattle.tsp_rules.specs.Answers.{Given, Turn, Got, answers}

@@ -1,25 +1,12 @@
 -- The promise that what is asked is answered, and that a stranger gets at most one answer for one datagram.
 use Rattle.std.specs.Prelude.{◌≡◌, ◌≤◌, ◌⊎◌, ℕ, ◌+◌, Bool, true, false, List, [], ◌∷◌, None}
-use Rattle.tsp_base.specs.declared.act.Act.TheVariants.{Post, Quit, Took}
-use Rattle.tsp_base.specs.declared.datagram.Datagram.{Datagram}
-use Rattle.tsp_base.specs.declared.datagram.Datagram.TheVariants.{Message, Stamp}
-use Rattle.tsp_base.specs.declared.datagram.Taken.{Taken}
-use Rattle.tsp_base.specs.declared.datagram.Taken.TheVariants.{Good}
-use Rattle.tsp_base.specs.declared.kind.Kind.{Kind}
-use Rattle.tsp_base.specs.declared.kind.Kind.TheVariants.{Ack, DateAck, Quit as QuitKind}
-use Rattle.tsp_base.specs.declared.place.PeerId.{PeerId}
-use Rattle.tsp_base.specs.declared.place.Place.{Place}
-use Rattle.tsp_base.specs.declared.place.Place.TheVariants.{Peer, Stranger}
-use Rattle.tsp_base.specs.declared.place.Port.{Port}
-use Rattle.tsp_base.specs.declared.stamp.Stamp.TheVariants.{Reply, Request}
+use Rattle.tsp_rules.specs.Values.{Took, Post, Quit, Datagram, Message, Stamp, Taken, Good, Kind, Ack, DateAck, QuitKind, PeerId, Place, Peer, Stranger, Port, Request, Reply}
+use Rattle.tsp_base.specs.Words.{Acts, Begins, Deed, Did, Line, dids, of, view, MessageValue, TakesFrom, heard}
 use Rattle.tsp_promises.specs.DeedFits.{answer_name}
 use Rattle.tsp_promises.specs.Everywhere.{Everywhere}
 use Rattle.tsp_promises.specs.Fits.{node_of}
-use Rattle.tsp_base.specs.History.{Acts, Begins, Deed, Did, Line, dids, of, view}
-use Rattle.tsp_base.specs.Messages.{MessageValue}
 use Rattle.tsp_promises.specs.Setting.{Setting, setup_of}
 use Rattle.tsp_promises.specs.StepFacts.{unacknowledged, unheeded}
-use Rattle.tsp_base.specs.Takings.{TakesFrom, heard}
 
 -- a step takes one datagram at most, on whatever port
 abbrev pub TakesOneAt : Line → List Line → Type 0

@@ -1,13 +1,9 @@
 -- A QUIT and a stranger: the promise of answers isn't empty.
 use Rattle.std.specs.Prelude.{◌≡◌, true, List, ◌∷◌}
-use Rattle.tsp_base.specs.declared.act.Act.TheVariants.{Post, Quit}
-use Rattle.tsp_base.specs.declared.datagram.Datagram.{Datagram}
-use Rattle.tsp_base.specs.declared.place.PeerId.{PeerId}
-use Rattle.tsp_base.specs.declared.place.Place.TheVariants.{Peer, Stranger}
+use Rattle.tsp_rules.specs.Values.{Post, Quit, Datagram, PeerId, Peer, Stranger}
+use Rattle.tsp_base.specs.Words.{Acts, Line, Within}
 use Rattle.tsp_promises.specs.Answered.{is_answer}
 use Rattle.tsp_promises.specs.Fits.{Finished, Fits}
-use Rattle.tsp_base.specs.History.{Acts, Line}
-use Rattle.tsp_base.specs.Places.{Within}
 use Rattle.tsp_promises.specs.Setting.{Setting}
 
 -- a history that fits, in which a port heeds a QUIT and answers it, and a stranger is answered

@@ -1,12 +1,7 @@
 -- How a master that took a QUIT comes to follow its sender.
 use Rattle.std.specs.Prelude.{◌≡◌, true, List, ◌∷◌}
-use Rattle.tsp_base.specs.declared.act.Act.TheVariants.{Become}
-use Rattle.tsp_base.specs.declared.place.PeerId.{PeerId}
-use Rattle.tsp_base.specs.declared.role.Role.TheVariants.{Follow}
-use Rattle.tsp_base.specs.History.{Acts, Did, Seen, Here}
-use Rattle.tsp_base.specs.Peers.{is_among}
-use Rattle.tsp_base.specs.Places.{Within}
-use Rattle.tsp_base.specs.PortFacts.{role}
+use Rattle.tsp_rules.specs.Values.{Become, PeerId, Follow}
+use Rattle.tsp_base.specs.Words.{Acts, Did, Seen, Here, is_among, Within, role}
 use Rattle.tsp_promises.specs.StepFacts.{owes}
 
 -- in this step the port became a follower of p, after it took the QUIT of p as a master

@@ -1,9 +1,7 @@
 -- The clock of a node at a place of the history.
 use Rattle.std.specs.Prelude.{ℕ, ℤ, pos, ◌+ℤ◌, List}
-use Rattle.tsp_base.specs.History.{Line, of, dids}
-use Rattle.tsp_base.specs.NodeFacts.{moved, time_of}
+use Rattle.tsp_base.specs.Words.{Line, of, dids, moved, time_of, tick_at}
 use Rattle.tsp_promises.specs.Setting.{Setting}
-use Rattle.tsp_base.specs.Ticks.{tick_at}
 
 -- the clock of node n at a true time, in microseconds, when the history is h: its wall clock at tick 0, its tick then,
 -- and the sum of the amounts of its Corrects since its last boot

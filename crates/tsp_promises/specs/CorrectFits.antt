@@ -1,22 +1,7 @@
 -- What a Correct owes to its port's past.
 use Rattle.std.specs.Prelude.{◌≡◌, ◌≤◌, ℕ, ◌+◌, nat_lt, nat_abs, ℤ, ◌-ℤ◌, Bool, true, false, ◌||◌, List, ◌∷◌, Option, None, Some}
-use Rattle.tsp_base.specs.declared.act.Act.TheVariants.{Took, Close}
-use Rattle.tsp_base.specs.declared.constants.TheConstants.{DATEHOLD, GAP, MAXADJ, QUIET}
-use Rattle.tsp_base.specs.declared.datagram.Datagram.TheVariants.{Message}
-use Rattle.tsp_base.specs.declared.datagram.Taken.TheVariants.{Good}
-use Rattle.tsp_base.specs.declared.kind.Kind.{Kind}
-use Rattle.tsp_base.specs.declared.kind.Kind.TheVariants.{SetTime}
-use Rattle.tsp_base.specs.declared.place.PeerId.{PeerId}
-use Rattle.tsp_base.specs.declared.place.Place.{Place}
-use Rattle.tsp_base.specs.declared.place.Place.TheVariants.{Peer}
-use Rattle.tsp_base.specs.declared.role.Role.TheVariants.{Follow, Master}
-use Rattle.tsp_base.specs.History.{Did, Acts, Seen, Here, plain}
-use Rattle.tsp_base.specs.Messages.{MessageValue}
-use Rattle.tsp_base.specs.NodeFacts.{last_correct, boot_tick, shown, ticket, target}
-use Rattle.tsp_base.specs.PortFacts.{Received, message_in, role}
-use Rattle.tsp_base.specs.SendFacts.{Dating, is_correction, is_date_request, last_date, sets_date}
-use Rattle.tsp_base.specs.Setup.{Setup}
-use Rattle.tsp_base.specs.Takings.{heard, time_in}
+use Rattle.tsp_rules.specs.Values.{Took, Close, Message, Good, Kind, SetTime, PeerId, Place, Peer, Follow, Master, DATEHOLD, GAP, MAXADJ, QUIET}
+use Rattle.tsp_base.specs.Words.{Did, Acts, Seen, Here, plain, MessageValue, last_correct, boot_tick, shown, ticket, target, Received, message_in, role, Dating, is_correction, is_date_request, last_date, sets_date, Setup, heard, time_in}
 use Rattle.tsp_promises.specs.RoundFits.{group_mean}
 
 -- by how many microseconds a correction moves a clock with this target: an ADJTIME carries the amount, a SETTIME the

@@ -1,21 +1,8 @@
 -- What the post of a correction, an ADJTIME or a SETTIME, owes to its port's past.
 use Rattle.std.specs.Prelude.{◌≡◌, ◌≤◌, ◌<◌, ◌⊎◌, ℕ, ◌+◌, ◌%◌, ℤ, pos, neg_ℤ, ◌-ℤ◌, ◌<ℤ◌, Bool, true, false, List, ◌∷◌, None, Some}
-use Rattle.tsp_base.specs.declared.act.Act.TheVariants.{Post, Close, Correct}
-use Rattle.tsp_base.specs.declared.constants.TheConstants.{CLOSE, LAST, LIMIT, QUIET, REUSE, SLACK, TRIES}
-use Rattle.tsp_base.specs.declared.datagram.Datagram.TheVariants.{Message}
-use Rattle.tsp_base.specs.declared.kind.Kind.TheVariants.{AdjTime, SetTime, SlaveUp}
-use Rattle.tsp_base.specs.declared.place.PeerId.{PeerId}
-use Rattle.tsp_base.specs.declared.place.Place.TheVariants.{Peer}
-use Rattle.tsp_base.specs.declared.role.Role.TheVariants.{Master}
-use Rattle.tsp_base.specs.History.{Did, Acts, Seen, Here, plain}
-use Rattle.tsp_base.specs.Messages.{MessageValue}
-use Rattle.tsp_base.specs.NodeFacts.{boot_tick, target}
-use Rattle.tsp_base.specs.Places.{Within}
-use Rattle.tsp_base.specs.PortFacts.{role, acting, taken}
-use Rattle.tsp_base.specs.RoundFacts.{Sampled, best, started}
-use Rattle.tsp_base.specs.SendFacts.{open_to, posts_of, last_to, last_post, is_acknowledged}
+use Rattle.tsp_rules.specs.Values.{Post, Close, Correct, Message, AdjTime, SetTime, SlaveUp, PeerId, Peer, Master, CLOSE, LAST, LIMIT, QUIET, REUSE, SLACK, TRIES}
+use Rattle.tsp_base.specs.Words.{Did, Acts, Seen, Here, plain, MessageValue, boot_tick, target, Within, role, acting, taken, Sampled, best, started, open_to, posts_of, last_to, last_post, is_acknowledged, Receives, Undisturbed, time_in}
 use Rattle.tsp_promises.specs.StepFacts.{closed}
-use Rattle.tsp_base.specs.Takings.{Receives, Undisturbed, time_in}
 
 -- a repeat posts the message of the open send again, at most LAST ticks after its first post, and that was posted fewer
 -- than TRIES times so far

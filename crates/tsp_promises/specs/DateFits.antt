@@ -1,16 +1,7 @@
 -- What the posts of dates owe to their port's past: those that are passed on, and their answers.
 use Rattle.std.specs.Prelude.{◌≡◌, ◌≤◌, ◌<◌, ◌⊎◌, ℕ, ◌+◌, true, List, Some}
-use Rattle.tsp_base.specs.declared.constants.TheConstants.{DATEHOLD, QUIET, REUSE}
-use Rattle.tsp_base.specs.declared.datagram.Datagram.TheVariants.{Message}
-use Rattle.tsp_base.specs.declared.kind.Kind.TheVariants.{Date, SetDate}
-use Rattle.tsp_base.specs.declared.place.PeerId.{PeerId}
-use Rattle.tsp_base.specs.declared.place.Place.{Place}
-use Rattle.tsp_base.specs.declared.place.Place.TheVariants.{Peer, Stranger}
-use Rattle.tsp_base.specs.History.{Did, Seen, plain}
-use Rattle.tsp_base.specs.Messages.{MessageValue}
-use Rattle.tsp_base.specs.NodeFacts.{boot_tick}
-use Rattle.tsp_base.specs.SendFacts.{Dating, is_date_request, last_asked, last_date}
-use Rattle.tsp_base.specs.Takings.{Receives, TakesFrom}
+use Rattle.tsp_rules.specs.Values.{Message, Date, SetDate, PeerId, Place, Peer, Stranger, DATEHOLD, QUIET, REUSE}
+use Rattle.tsp_base.specs.Words.{Did, Seen, plain, MessageValue, boot_tick, Dating, is_date_request, last_asked, last_date, Receives, TakesFrom}
 
 -- a date begins to be passed on at least QUIET ticks after the boot, and at least REUSE ticks after the port last began
 -- to pass one on

@@ -1,11 +1,9 @@
 -- Dates that are passed on: the promise that no send is taken twice isn't empty for them.
 use Rattle.std.specs.Prelude.{◌≡◌, ◌<◌, List, ◌∷◌}
-use Rattle.tsp_base.specs.declared.kind.Kind.TheVariants.{SetDateReq}
+use Rattle.tsp_rules.specs.Values.{SetDateReq}
+use Rattle.tsp_base.specs.Words.{Line, dids, of, lives, Within}
 use Rattle.tsp_promises.specs.Fits.{Fits, Finished, node_of}
-use Rattle.tsp_base.specs.History.{Line, dids, of}
-use Rattle.tsp_base.specs.NodeFacts.{lives}
 use Rattle.tsp_promises.specs.Once.{ActsOn, OnceTaken}
-use Rattle.tsp_base.specs.Places.{Within}
 use Rattle.tsp_promises.specs.Premises.{Life, Words}
 use Rattle.tsp_promises.specs.Setting.{Setting}
 use Rattle.tsp_promises.specs.Kept.{Kept}

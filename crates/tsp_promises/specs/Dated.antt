@@ -1,24 +1,13 @@
 -- The promise of the network's date: only a master sets it, and a date that is acknowledged was set.
 use Rattle.std.specs.Prelude.{◌≡◌, ℤ, ◌-ℤ◌, Bool, true, List, ◌∷◌, Some}
-use Rattle.tsp_base.specs.declared.act.Act.TheVariants.{Acked, Correct, Post}
-use Rattle.tsp_base.specs.declared.datagram.Datagram.TheVariants.{Message}
-use Rattle.tsp_base.specs.declared.datagram.Taken.TheVariants.{Good}
-use Rattle.tsp_base.specs.declared.kind.Kind.TheVariants.{SetDateReq}
-use Rattle.tsp_base.specs.declared.place.PeerId.{PeerId}
-use Rattle.tsp_base.specs.declared.place.Place.{Place}
-use Rattle.tsp_base.specs.declared.place.Place.TheVariants.{Peer}
-use Rattle.tsp_base.specs.declared.role.Role.TheVariants.{Master}
+use Rattle.tsp_rules.specs.Values.{Post, Correct, Acked, Message, Good, SetDateReq, PeerId, Place, Peer, Master}
+use Rattle.tsp_base.specs.Words.{Acts, Did, Here, Line, Seen, dids, of, view, MessageValue, role, open_to, sets_date, heard, time_in}
 use Rattle.tsp_promises.specs.ClockAt.{clock_at}
 use Rattle.tsp_promises.specs.Everywhere.{Everywhere}
 use Rattle.tsp_promises.specs.Fits.{node_of}
-use Rattle.tsp_base.specs.History.{Acts, Did, Here, Line, Seen, dids, of, view}
-use Rattle.tsp_base.specs.Messages.{MessageValue}
 use Rattle.tsp_promises.specs.Once.{Acted}
-use Rattle.tsp_base.specs.PortFacts.{role}
 use Rattle.tsp_promises.specs.Premises.{Few, Honest, Life}
-use Rattle.tsp_base.specs.SendFacts.{open_to, sets_date}
 use Rattle.tsp_promises.specs.Setting.{Setting}
-use Rattle.tsp_base.specs.Takings.{heard, time_in}
 
 -- a Correct of this amount at a master, which sets the clock to the time in a message
 pub record SetsClock (setting : Setting) (l : Line) (world : List Line) (amount : ℤ) (m : MessageValue) : Type 0 where

@@ -1,21 +1,11 @@
 -- A date that is set and acknowledged: the promise of the network's date isn't empty.
 use Rattle.std.specs.Prelude.{◌≡◌, ℤ, Bool, true, List, ◌∷◌, Some}
-use Rattle.tsp_base.specs.declared.act.Act.TheVariants.{Acked, Correct, Post}
-use Rattle.tsp_base.specs.declared.datagram.Datagram.TheVariants.{Message}
-use Rattle.tsp_base.specs.declared.datagram.Taken.TheVariants.{Good}
-use Rattle.tsp_base.specs.declared.kind.Kind.TheVariants.{SetDateReq}
-use Rattle.tsp_base.specs.declared.place.PeerId.{PeerId}
-use Rattle.tsp_base.specs.declared.place.Place.{Place}
-use Rattle.tsp_base.specs.declared.place.Place.TheVariants.{Peer}
+use Rattle.tsp_rules.specs.Values.{Post, Correct, Acked, Message, Good, SetDateReq, PeerId, Place, Peer}
+use Rattle.tsp_base.specs.Words.{Acts, Did, Here, Line, Seen, dids, of, view, MessageValue, Within, open_to, sets_date, heard}
 use Rattle.tsp_promises.specs.Fits.{node_of}
-use Rattle.tsp_base.specs.History.{Acts, Did, Here, Line, Seen, dids, of, view}
 use Rattle.tsp_promises.specs.Kept.{Kept}
-use Rattle.tsp_base.specs.Messages.{MessageValue}
-use Rattle.tsp_base.specs.Places.{Within}
 use Rattle.tsp_promises.specs.Premises.{Few}
-use Rattle.tsp_base.specs.SendFacts.{open_to, sets_date}
 use Rattle.tsp_promises.specs.Setting.{Setting}
-use Rattle.tsp_base.specs.Takings.{heard}
 
 -- a history that fits and keeps the premises (Kept and Few), in which a clock is set to a date, and the one who passed
 -- that date on notes that it was acknowledged

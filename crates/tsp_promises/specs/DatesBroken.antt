@@ -1,6 +1,6 @@
 -- That the promise of the network's date says something: each part is broken by a small history.
 use Rattle.std.specs.Prelude.{List}
-use Rattle.tsp_base.specs.History.{Line}
+use Rattle.tsp_base.specs.Words.{Line}
 use Rattle.tsp_promises.specs.Broken.{Breaks}
 use Rattle.tsp_promises.specs.Dated.{DateConfirmedAt, SetsAt}
 use Rattle.tsp_promises.specs.Everywhere.{Everywhere}

@@ -1,35 +1,18 @@
 -- What each deed owes to its port's past, and to what the port is set up with.
 use Rattle.std.specs.Prelude.{◌≡◌, ℕ, ◌≤◌, ◌⊎◌, ◌+◌, ◌%◌, Bool, true, false, if◌then◌else◌, List, None}
-use Rattle.tsp_base.specs.declared.act.Act.{Act}
-use Rattle.tsp_base.specs.declared.act.Act.TheVariants.{Took, Post, Become, Back, Backer, Arm, Quit as QuitAct, Sample, Acked, Close, Correct}
-use Rattle.tsp_base.specs.declared.alarm.Alarm.TheVariants.{Close as AlarmClose}
-use Rattle.tsp_base.specs.declared.constants.TheConstants.{QUIET}
-use Rattle.tsp_base.specs.declared.datagram.Datagram.{Datagram}
-use Rattle.tsp_base.specs.declared.datagram.Datagram.TheVariants.{Message, Stamp}
-use Rattle.tsp_base.specs.declared.kind.Kind.{Kind}
-use Rattle.tsp_base.specs.declared.kind.Kind.TheVariants.{AdjTime, Ack, MasterReq, MasterAck, SetTime, MasterUp, SlaveUp, Election, Accept, Refuse, Conflict, Resolve, Quit, Date, DateReq, DateAck, TraceOn, TraceOff, Msite, MsiteReq, Test, SetDate, SetDateReq, Loop}
-use Rattle.tsp_base.specs.declared.place.PeerId.{PeerId}
-use Rattle.tsp_base.specs.declared.place.Place.{Place}
-use Rattle.tsp_base.specs.declared.place.Place.TheVariants.{Peer, Stranger}
-use Rattle.tsp_base.specs.declared.stamp.Stamp.TheVariants.{Request, Reply}
+use Rattle.tsp_rules.specs.Values.{Act, Took, Post, Become, Arm, Back, Backer, Close, Correct, Sample, Acked, Quit, CloseAlarm, Datagram, Message, Stamp, Kind, Accept, Ack, AdjTime, Conflict, Date, DateAck, DateReq, Election, LoopKind, MasterAck, MasterReq, MasterUp, Msite, MsiteReq, QuitKind, Refuse, ResolveKind, SetDate, SetDateReq, SetTime, SlaveUp, Test, TraceOff, TraceOn, PeerId, Place, Peer, Stranger, Request, Reply, QUIET}
+use Rattle.tsp_base.specs.Words.{Deed, Begins, Acts, Did, Seen, plain, MessageValue, boot_tick, ticket, word, acting, kept_name, role, taken, begun, Setup, TakesFrom, heard}
 use Rattle.tsp_promises.specs.AckFits.{AckFits, AckedFits}
 use Rattle.tsp_promises.specs.CorrectFits.{CorrectFits}
 use Rattle.tsp_promises.specs.CorrectionFits.{CorrectionFits, RepeatFits}
 use Rattle.tsp_promises.specs.DateFits.{DateAckFits, PassOnFits}
-use Rattle.tsp_base.specs.History.{Deed, Begins, Acts, Did, Seen, plain}
 use Rattle.tsp_promises.specs.HoldFits.{AcceptFits, BackFits, BackerFits, BecomeFits}
 use Rattle.tsp_promises.specs.LoopFits.{LoopFits}
 use Rattle.tsp_promises.specs.MeasureFits.{RequestFits, ReplyFits, SampleFits}
 use Rattle.tsp_promises.specs.QuitFits.{QuitFits}
-use Rattle.tsp_base.specs.Messages.{MessageValue}
-use Rattle.tsp_base.specs.NodeFacts.{boot_tick, ticket, word}
-use Rattle.tsp_base.specs.PortFacts.{acting, kept_name, role, taken}
 use Rattle.tsp_promises.specs.RoundFits.{CloseFits, StartFits}
-use Rattle.tsp_base.specs.SendFacts.{begun}
 use Rattle.tsp_rules.specs.CommonRows.{master_name_in}
-use Rattle.tsp_base.specs.Setup.{Setup}
 use Rattle.tsp_promises.specs.StepFacts.{StepEnds, is_answered, is_unbacked}
-use Rattle.tsp_base.specs.Takings.{TakesFrom, heard}
 
 -- what the post of a numbered message owes that is no correction: it begins a send with the port's own next number,
 -- from 32,768 to 65,535, where no ticket is, or it repeats the open send
@@ -57,15 +40,15 @@ MessageFits setup SlaveUp here before p m = m.number ≡ ticket (plain before)
 MessageFits setup Accept here before p m = AcceptFits before p m.number
 MessageFits setup Election here before p m = ElectionFits here before p m
 MessageFits setup Conflict here before p m = NumberedFits here before p m
-MessageFits setup Quit here before p m = NumberedFits here before p m
+MessageFits setup QuitKind here before p m = NumberedFits here before p m
 MessageFits setup SetDateReq here before p m = DateRequestFits here before p m
 MessageFits setup DateAck here before p m = DateAckFits (Peer p) here before m.number
-MessageFits setup Loop here before p m = LoopFits setup before m
+MessageFits setup LoopKind here before p m = LoopFits setup before m
 MessageFits setup MasterReq here before p m = Unit {0}
 MessageFits setup MasterAck here before p m = Unit {0}
 MessageFits setup MasterUp here before p m = Unit {0}
 MessageFits setup Refuse here before p m = Unit {0}
-MessageFits setup Resolve here before p m = Unit {0}
+MessageFits setup ResolveKind here before p m = Unit {0}
 MessageFits setup TraceOn here before p m = ⊥
 MessageFits setup TraceOff here before p m = ⊥
 MessageFits setup Msite here before p m = ⊥
@@ -137,8 +120,8 @@ ActFits setup (Took from taken) here before = heard (plain before) ≡ None
 ActFits setup (Become r) here before = BecomeFits setup r here before
 ActFits setup (Back p) here before = BackFits here before p
 ActFits setup (Backer p) here before = BackerFits setup here before p
-ActFits setup (Arm AlarmClose at) here before = StartFits here before
-ActFits setup (QuitAct p) here before = QuitFits before p
+ActFits setup (Arm CloseAlarm at) here before = StartFits here before
+ActFits setup (Quit p) here before = QuitFits before p
 ActFits setup (Sample p counter diff err number) here before = SampleFits here before p counter diff err number
 ActFits setup (Close count lo size mean) here before = CloseFits here before
 ActFits setup (Correct amount stepped shown) here before = CorrectFits setup here before amount stepped shown

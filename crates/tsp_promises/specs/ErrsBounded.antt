@@ -2,7 +2,7 @@
 use Rattle.std.specs.Prelude.{◌≤ℤ◌, ℕ, ℤ, pos, List}
 use Rattle.tsp_promises.specs.Agreed.{Cast}
 use Rattle.tsp_promises.specs.Everywhere.{Everywhere}
-use Rattle.tsp_base.specs.History.{Line}
+use Rattle.tsp_base.specs.Words.{Line}
 
 -- an exchange is within its round, which closes at most CLOSE and SLACK ticks (9 s) after it began, and the error is
 -- half of the exchange

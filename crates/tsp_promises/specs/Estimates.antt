@@ -1,23 +1,13 @@
 -- What the estimates of a round say of the clocks.
 use Rattle.std.specs.Prelude.{◌≡◌, ◌≤◌, ◌≤ℤ◌, ℕ, ◌+◌, ◌-◌, ◌*◌, ℤ, pos, ◌+ℤ◌, ◌-ℤ◌, nat_abs, Bool, true, List, ◌∷◌, Some}
-use Rattle.tsp_base.specs.declared.act.Act.TheVariants.{Close, Correct, Post}
-use Rattle.tsp_base.specs.declared.datagram.Datagram.TheVariants.{Message}
-use Rattle.tsp_base.specs.declared.kind.Kind.TheVariants.{AdjTime}
-use Rattle.tsp_base.specs.declared.place.PeerId.{PeerId}
-use Rattle.tsp_base.specs.declared.place.Place.TheVariants.{Peer}
+use Rattle.tsp_rules.specs.Values.{Post, Close, Correct, Message, AdjTime, PeerId, Peer}
+use Rattle.tsp_base.specs.Words.{Acts, Here, Line, dids, of, view, MessageValue, Within, acting, Sampled, best, Undisturbed, peer_of, width}
 use Rattle.tsp_promises.specs.Agreed.{ReadingOf, Unchanged, UnchangedBut}
 use Rattle.tsp_promises.specs.ClockAt.{clock_at}
 use Rattle.tsp_promises.specs.Everywhere.{Everywhere}
 use Rattle.tsp_promises.specs.Fits.{node_of}
-use Rattle.tsp_base.specs.History.{Acts, Here, Line, dids, of, view}
-use Rattle.tsp_base.specs.Messages.{MessageValue}
-use Rattle.tsp_base.specs.Places.{Within}
-use Rattle.tsp_base.specs.PortFacts.{acting}
-use Rattle.tsp_base.specs.RoundFacts.{Sampled, best}
 use Rattle.tsp_promises.specs.Setting.{Setting}
 use Rattle.tsp_promises.specs.StepFacts.{closed}
-use Rattle.tsp_base.specs.Takings.{Undisturbed, peer_of}
-use Rattle.tsp_base.specs.Ticks.{width}
 
 -- this Close of m, with this mean, begins the ADJTIME that is posted at f
 pub record CloseBegins (m : ℕ) (close : Line) (cpast : List Line) (mean : ℤ) (f : Line) (fw : List Line) : Type 0 where

@@ -2,10 +2,8 @@
 use Rattle.std.specs.Prelude.{◌≢◌, ℕ, ℤ, List, ◌∷◌}
 use Rattle.tsp_promises.specs.Agreed.{UnchangedBut}
 use Rattle.tsp_promises.specs.Estimates.{CloseBegins, Estimate}
-use Rattle.tsp_base.specs.History.{Line}
+use Rattle.tsp_base.specs.Words.{Line, Within, Sampled}
 use Rattle.tsp_promises.specs.Kept.{Kept}
-use Rattle.tsp_base.specs.Places.{Within}
-use Rattle.tsp_base.specs.RoundFacts.{Sampled}
 use Rattle.tsp_promises.specs.Setting.{Setting}
 
 -- a history that fits and keeps the premises (Kept), in which a round has estimates of two nodes, which are left alone

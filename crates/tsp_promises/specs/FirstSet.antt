@@ -1,16 +1,13 @@
 -- The promise of how far a clock is behind its master's after a SETTIME.
 use Rattle.std.specs.Prelude.{◌≡◌, ◌≤◌, ◌≤ℤ◌, ℕ, ◌+◌, ◌-◌, ℤ, pos, ◌-ℤ◌, List, ◌∷◌}
-use Rattle.tsp_base.specs.declared.constants.TheConstants.{LAST, LIFE}
-use Rattle.tsp_base.specs.declared.kind.Kind.TheVariants.{SetTime}
+use Rattle.tsp_rules.specs.Values.{SetTime, LAST, LIFE}
+use Rattle.tsp_base.specs.Words.{Line, of, dids, plain, Undisturbed, width}
 use Rattle.tsp_promises.specs.Agreed.{Unchanged}
 use Rattle.tsp_promises.specs.ClockAt.{clock_at}
 use Rattle.tsp_promises.specs.Everywhere.{Everywhere}
 use Rattle.tsp_promises.specs.Fits.{node_of}
-use Rattle.tsp_base.specs.History.{Line, of, dids, plain}
 use Rattle.tsp_promises.specs.OneError.{Taking}
 use Rattle.tsp_promises.specs.Setting.{Setting}
-use Rattle.tsp_base.specs.Takings.{Undisturbed}
-use Rattle.tsp_base.specs.Ticks.{width}
 
 -- the Correct c takes a post of a SETTIME of m. Up to the history h c's node neither booted nor corrected its clock
 -- after c, nor m after the SETTIME's send began

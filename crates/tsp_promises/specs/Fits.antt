@@ -1,21 +1,11 @@
 -- Histories that fit: each line has what a schedule gives it, and does what it owes to the lines before it.
 use Rattle.std.specs.Prelude.{◌≡◌, ◌≤◌, ◌<◌, ℕ, ◌^◌, ◌==◌, ◌||◌, pos, ◌+ℤ◌, Bool, true, List, [], ◌∷◌}
-use Rattle.tsp_base.specs.declared.act.Act.TheVariants.{Boot, Took, Post}
-use Rattle.tsp_base.specs.declared.datagram.Datagram.{Datagram}
-use Rattle.tsp_base.specs.declared.datagram.Taken.{Taken}
-use Rattle.tsp_base.specs.declared.datagram.Taken.TheVariants.{Good}
-use Rattle.tsp_base.specs.declared.place.Place.{Place}
-use Rattle.tsp_base.specs.declared.place.Place.TheVariants.{Peer}
-use Rattle.tsp_base.specs.declared.place.Port.{Port}
+use Rattle.tsp_rules.specs.Values.{Boot, Took, Post, Datagram, Taken, Good, Place, Peer, Port}
+use Rattle.tsp_base.specs.Words.{Cause, Booted, Turned, Came, Handed, Step, Deed, Begins, Acts, Did, Line, of, dids, view, is_shared, time_of, up, Within, peer_of, posted, tick_at}
 use Rattle.tsp_promises.specs.DeedFits.{DeedFits}
 use Rattle.tsp_promises.specs.Everywhere.{Everywhere}
-use Rattle.tsp_base.specs.History.{Cause, Booted, Turned, Came, Handed, Step, Deed, Begins, Acts, Did, Line, of, dids, view, is_shared}
-use Rattle.tsp_base.specs.NodeFacts.{time_of, up}
-use Rattle.tsp_base.specs.Places.{Within}
 use Rattle.tsp_promises.specs.Setting.{Setting, setup_of}
 use Rattle.tsp_promises.specs.StepFacts.{StepEnds}
-use Rattle.tsp_base.specs.Takings.{peer_of, posted}
-use Rattle.tsp_base.specs.Ticks.{tick_at}
 
 -- the node of a line
 abbrev pub node_of : Line → ℕ

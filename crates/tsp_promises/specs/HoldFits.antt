@@ -1,22 +1,8 @@
 -- What backings, votes and changes of the role owe to their port's past.
 use Rattle.std.specs.Prelude.{◌≡◌, ◌≢◌, ◌≤◌, ◌<◌, ◌⊎◌, ℕ, ◌+◌, ◌*◌, true, false, List, ◌∷◌, length, Some}
-use Rattle.tsp_base.specs.declared.act.Act.TheVariants.{Post, Acked}
-use Rattle.tsp_base.specs.declared.constants.TheConstants.{ELECT_MIN, HOLD, QUIET, SLACK, WINDOW}
-use Rattle.tsp_base.specs.declared.datagram.Datagram.TheVariants.{Message}
-use Rattle.tsp_base.specs.declared.kind.Kind.TheVariants.{Accept, Election, Loop as LoopKind}
-use Rattle.tsp_base.specs.declared.place.PeerId.{PeerId}
-use Rattle.tsp_base.specs.declared.place.Place.TheVariants.{Peer}
-use Rattle.tsp_base.specs.declared.role.Role.{Role}
-use Rattle.tsp_base.specs.declared.role.Role.TheVariants.{Candidate, Loose, Master}
-use Rattle.tsp_base.specs.History.{Acts, Did, Seen, Here, plain}
-use Rattle.tsp_base.specs.Messages.{MessageValue}
-use Rattle.tsp_base.specs.NodeFacts.{boot_tick}
-use Rattle.tsp_base.specs.Peers.{is_among}
-use Rattle.tsp_base.specs.PortFacts.{role, held, backers, stood}
-use Rattle.tsp_base.specs.SendFacts.{open_to}
-use Rattle.tsp_base.specs.Setup.{Setup}
+use Rattle.tsp_rules.specs.Values.{Post, Acked, Message, Accept, Election, LoopKind, PeerId, Peer, Role, Loose, Candidate, Master, ELECT_MIN, HOLD, QUIET, SLACK, WINDOW}
+use Rattle.tsp_base.specs.Words.{Acts, Did, Seen, Here, plain, MessageValue, boot_tick, is_among, role, held, backers, stood, open_to, Setup, Receives, peer_of}
 use Rattle.tsp_promises.specs.StepFacts.{backed}
-use Rattle.tsp_base.specs.Takings.{Receives, peer_of}
 
 -- a Back comes at least QUIET ticks after the boot, and at least HOLD ticks after the last Back, unless that was of the
 -- same candidate

@@ -1,7 +1,7 @@
 -- A history that fits, and keeps the premises that most promises ask.
 use Rattle.std.specs.Prelude.{List}
 use Rattle.tsp_promises.specs.Fits.{Fits, Finished}
-use Rattle.tsp_base.specs.History.{Line}
+use Rattle.tsp_base.specs.Words.{Line}
 use Rattle.tsp_promises.specs.Premises.{Honest, Life, Words}
 use Rattle.tsp_promises.specs.Setting.{Setting}
 

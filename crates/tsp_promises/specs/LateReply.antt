@@ -1,19 +1,11 @@
 -- A reply to a request of an earlier life: it ends no open exchange, so no Sample may come of it.
 use Rattle.std.specs.Prelude.{◌≡◌, ◌<◌, ℤ, List, ◌∷◌}
-use Rattle.tsp_base.specs.declared.act.Act.TheVariants.{Post, Took}
-use Rattle.tsp_base.specs.declared.datagram.Datagram.TheVariants.{Stamp}
-use Rattle.tsp_base.specs.declared.datagram.Taken.TheVariants.{Good}
-use Rattle.tsp_base.specs.declared.place.PeerId.{PeerId}
-use Rattle.tsp_base.specs.declared.place.Place.TheVariants.{Peer}
-use Rattle.tsp_base.specs.declared.stamp.Stamp.TheVariants.{Request, Reply}
+use Rattle.tsp_rules.specs.Values.{Took, Post, Stamp, Good, PeerId, Peer, Request, Reply}
+use Rattle.tsp_base.specs.Words.{Acts, Line, of, dids, view, lives, Within, ReplyValue}
 use Rattle.tsp_promises.specs.Fits.{node_of}
-use Rattle.tsp_base.specs.History.{Acts, Line, of, dids, view}
 use Rattle.tsp_promises.specs.Measured.{TripOf}
-use Rattle.tsp_base.specs.NodeFacts.{lives}
-use Rattle.tsp_base.specs.Places.{Within}
 use Rattle.tsp_promises.specs.Setting.{Setting}
 use Rattle.tsp_promises.specs.Kept.{Kept}
-use Rattle.tsp_base.specs.Stamps.{ReplyValue}
 
 -- a history that fits and keeps the premises (Kept), in which a node takes the reply to a request that it posted in an
 -- earlier life; a Sample right after would end no exchange

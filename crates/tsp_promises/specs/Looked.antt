@@ -1,9 +1,6 @@
 -- The promise behind the interval that programs read: where a master's clock may be, some time after a look at it.
 use Rattle.std.specs.Prelude.{◌≡◌, ℕ, ◌+◌, ◌-◌, ◌*◌, ◌≤◌, ℤ, pos, ◌-ℤ◌, ◌+ℤ◌, ◌≤ℤ◌, List, []}
-use Rattle.tsp_base.specs.History.{Line, of, dids}
-use Rattle.tsp_base.specs.NodeFacts.{lives}
-use Rattle.tsp_base.specs.Places.{Within}
-use Rattle.tsp_base.specs.Ticks.{tick_at, width}
+use Rattle.tsp_base.specs.Words.{Line, of, dids, lives, Within, tick_at, width}
 use Rattle.tsp_promises.specs.Agreed.{Unchanged}
 use Rattle.tsp_promises.specs.ClockAt.{clock_at}
 use Rattle.tsp_promises.specs.Fits.{Fits}

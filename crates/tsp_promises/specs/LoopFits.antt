@@ -1,16 +1,7 @@
 -- What the post of a LOOP owes to its port's past.
 use Rattle.std.specs.Prelude.{◌≡◌, ◌≢◌, ◌≤◌, ◌⊎◌, ℕ, ◌+◌, List, Some}
-use Rattle.tsp_base.specs.declared.constants.TheConstants.{HOPS}
-use Rattle.tsp_base.specs.declared.datagram.Datagram.TheVariants.{Message}
-use Rattle.tsp_base.specs.declared.datagram.Taken.TheVariants.{Good}
-use Rattle.tsp_base.specs.declared.kind.Kind.TheVariants.{Loop as LoopKind}
-use Rattle.tsp_base.specs.declared.message.Body.TheVariants.{Hops}
-use Rattle.tsp_base.specs.declared.place.PeerId.{PeerId}
-use Rattle.tsp_base.specs.declared.place.Place.TheVariants.{Peer}
-use Rattle.tsp_base.specs.History.{Seen, plain}
-use Rattle.tsp_base.specs.Messages.{MessageValue}
-use Rattle.tsp_base.specs.Setup.{Setup}
-use Rattle.tsp_base.specs.Takings.{heard}
+use Rattle.tsp_rules.specs.Values.{Message, Good, LoopKind, Hops, PeerId, Peer, HOPS}
+use Rattle.tsp_base.specs.Words.{Seen, plain, MessageValue, Setup, heard}
 
 -- a LOOP sets out with the node's own name, the number of its port, and HOPS hops
 pub record SetsOut (setup : Setup) (m : MessageValue) : Type 0 where

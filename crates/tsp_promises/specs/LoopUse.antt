@@ -1,14 +1,10 @@
 -- A LOOP that comes back: the promise of LOOPs isn't empty.
 use Rattle.std.specs.Prelude.{◌≡◌, ◌<◌, List, ◌∷◌, length}
-use Rattle.tsp_base.specs.declared.act.Act.TheVariants.{Become}
-use Rattle.tsp_base.specs.declared.place.Port.{Port}
-use Rattle.tsp_base.specs.declared.role.Role.TheVariants.{Loose, Master}
+use Rattle.tsp_rules.specs.Values.{Become, Port, Loose, Master}
+use Rattle.tsp_base.specs.Words.{Acts, Line, of, view, Within, role}
 use Rattle.tsp_promises.specs.Fits.{node_of}
-use Rattle.tsp_base.specs.History.{Acts, Line, of, view}
 use Rattle.tsp_promises.specs.Kept.{Kept}
 use Rattle.tsp_promises.specs.Looped.{GivesUp}
-use Rattle.tsp_base.specs.Places.{Within}
-use Rattle.tsp_base.specs.PortFacts.{role}
 use Rattle.tsp_promises.specs.Premises.{NamesApart}
 use Rattle.tsp_promises.specs.Setting.{Setting}
 

@@ -1,24 +1,12 @@
 -- The promise of LOOPs: each comes along a chain of posts, and a master gives up only for its own.
 use Rattle.std.specs.Prelude.{◌≡◌, ◌≢◌, ℕ, ◌+◌, ◌<◌, ◌≤◌, true, List, [], ◌∷◌, length, is_some}
-use Rattle.tsp_base.specs.declared.act.Act.TheVariants.{Become, Post}
-use Rattle.tsp_base.specs.declared.constants.TheConstants.{HOPS}
-use Rattle.tsp_base.specs.declared.datagram.Datagram.TheVariants.{Message}
-use Rattle.tsp_base.specs.declared.kind.Kind.TheVariants.{Loop as LoopKind}
-use Rattle.tsp_base.specs.declared.message.Body.TheVariants.{Hops}
-use Rattle.tsp_base.specs.declared.place.PeerId.{PeerId}
-use Rattle.tsp_base.specs.declared.place.Place.{Place}
-use Rattle.tsp_base.specs.declared.place.Place.TheVariants.{Peer}
-use Rattle.tsp_base.specs.declared.place.Port.{Port}
-use Rattle.tsp_base.specs.declared.role.Role.TheVariants.{Loose, Master}
+use Rattle.tsp_rules.specs.Values.{Post, Become, Message, LoopKind, Hops, PeerId, Place, Peer, Port, Loose, Master, HOPS}
+use Rattle.tsp_base.specs.Words.{Acts, Line, dids, of, view, MessageValue, role, heard}
 use Rattle.tsp_promises.specs.Everywhere.{Everywhere}
 use Rattle.tsp_promises.specs.Fits.{node_of}
-use Rattle.tsp_base.specs.History.{Acts, Line, dids, of, view}
-use Rattle.tsp_base.specs.Messages.{MessageValue}
 use Rattle.tsp_promises.specs.Once.{Brings}
-use Rattle.tsp_base.specs.PortFacts.{role}
 use Rattle.tsp_promises.specs.Premises.{Honest, NamesApart}
 use Rattle.tsp_promises.specs.Setting.{Setting}
-use Rattle.tsp_base.specs.Takings.{heard}
 
 -- the post of a LOOP to a peer, and what stands before it
 pub record LoopPost : Type 0 where

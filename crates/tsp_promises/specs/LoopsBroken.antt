@@ -1,6 +1,6 @@
 -- That the promise of LOOPs says something: each part is broken by a small history.
 use Rattle.std.specs.Prelude.{List}
-use Rattle.tsp_base.specs.History.{Line}
+use Rattle.tsp_base.specs.Words.{Line}
 use Rattle.tsp_promises.specs.Broken.{Breaks}
 use Rattle.tsp_promises.specs.Everywhere.{Everywhere}
 use Rattle.tsp_promises.specs.Looped.{ChainAt, GivesUpAt, HopsAt}

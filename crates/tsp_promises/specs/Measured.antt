@@ -1,21 +1,11 @@
 -- The promise that a measurement errs by at most half its round trip.
 use Rattle.std.specs.Prelude.{◌≡◌, ℕ, ℤ, pos, ◌-ℤ◌, ◌≤ℤ◌, nat_abs, true, List, ◌∷◌}
-use Rattle.tsp_base.specs.declared.act.Act.TheVariants.{Post, Sample}
-use Rattle.tsp_base.specs.declared.datagram.Datagram.TheVariants.{Stamp}
-use Rattle.tsp_base.specs.declared.place.PeerId.{PeerId}
-use Rattle.tsp_base.specs.declared.place.Place.TheVariants.{Peer}
-use Rattle.tsp_base.specs.declared.stamp.Stamp.TheVariants.{Reply}
+use Rattle.tsp_rules.specs.Values.{Post, Sample, Stamp, PeerId, Peer, Reply}
+use Rattle.tsp_base.specs.Words.{Came, Acts, Did, Line, Seen, Here, of, dids, plain, view, target, Within, exchange, is_going, half_up, ReplyValue, peer_of, posted}
 use Rattle.tsp_promises.specs.ClockAt.{clock}
 use Rattle.tsp_promises.specs.Everywhere.{Everywhere}
 use Rattle.tsp_promises.specs.Fits.{node_of}
-use Rattle.tsp_base.specs.History.{Came, Acts, Did, Line, Seen, Here, of, dids, plain, view}
-use Rattle.tsp_base.specs.NodeFacts.{target}
-use Rattle.tsp_base.specs.Places.{Within}
-use Rattle.tsp_base.specs.RoundFacts.{exchange, is_going}
-use Rattle.tsp_base.specs.Samples.{half_up}
 use Rattle.tsp_promises.specs.Setting.{Setting}
-use Rattle.tsp_base.specs.Stamps.{ReplyValue}
-use Rattle.tsp_base.specs.Takings.{peer_of, posted}
 
 -- the reading of a Sample of p: its step takes a reply that p posted to this node, and when that was posted p's clock
 -- was ahead of this node's by diff, give or take err, both in microseconds

@@ -1,26 +1,18 @@
 -- The promise that a minority of a round's estimates, whatever it says, moves no clock of the majority by much.
 use Rattle.std.specs.Prelude.{◌≡◌, ◌≤◌, ◌<◌, ◌≤ℤ◌, ℕ, ◌+◌, ◌-◌, ◌*◌, ℤ, pos, ◌+ℤ◌, ◌-ℤ◌, nat_abs, Bool, true, false, List, ◌∷◌, length, Some}
 use Rattle.std.specs.List.{Contains, count_by}
-use Rattle.tsp_base.specs.declared.constants.TheConstants.{SLEW, SPAN}
-use Rattle.tsp_base.specs.declared.kind.Kind.TheVariants.{AdjTime}
-use Rattle.tsp_base.specs.declared.place.PeerId.{PeerId}
-use Rattle.tsp_base.specs.declared.place.Port.{Port}
+use Rattle.tsp_rules.specs.Values.{AdjTime, PeerId, Port, SLEW, SPAN}
+use Rattle.tsp_base.specs.Words.{Here, Line, dids, of, view, rest_at, shown, target, Within, Sampled, best, peer_of, time_in, width}
 use Rattle.tsp_group.specs.Groups.{Agree}
 use Rattle.tsp_promises.specs.Agreed.{Unchanged}
 use Rattle.tsp_promises.specs.ClockAt.{clock_at}
 use Rattle.tsp_promises.specs.Estimates.{CloseBegins, Estimate, Moves}
 use Rattle.tsp_promises.specs.Everywhere.{Everywhere}
 use Rattle.tsp_promises.specs.Fits.{node_of}
-use Rattle.tsp_base.specs.History.{Here, Line, dids, of, view}
-use Rattle.tsp_base.specs.NodeFacts.{rest_at, shown, target}
 use Rattle.tsp_promises.specs.OneError.{Taking}
-use Rattle.tsp_base.specs.Places.{Within}
-use Rattle.tsp_base.specs.RoundFacts.{Sampled, best}
 use Rattle.tsp_promises.specs.RoundFits.{estimates_at}
 use Rattle.tsp_promises.specs.Setting.{Setting, setup_of}
 use Rattle.tsp_promises.specs.StepFacts.{closed}
-use Rattle.tsp_base.specs.Takings.{peer_of, time_in}
-use Rattle.tsp_base.specs.Ticks.{width}
 
 -- the estimates that port q of m has after this history, in microseconds: 0 for its own clock, and the diff of the best
 -- sample of each measured peer, where its magnitude is less than FAR

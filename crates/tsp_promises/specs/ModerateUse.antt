@@ -1,18 +1,14 @@
 -- A round with a minority: what is promised of it isn't empty.
 use Rattle.std.specs.Prelude.{◌≡◌, ◌≤◌, ◌≤ℤ◌, ℕ, ℤ, pos, nat_abs, Bool, List, ◌∷◌, Some}
 use Rattle.std.specs.List.{Contains}
-use Rattle.tsp_base.specs.declared.act.Act.TheVariants.{Correct}
+use Rattle.tsp_rules.specs.Values.{Correct}
+use Rattle.tsp_base.specs.Words.{Acts, Line, dids, of, view, rest_at, Within, Sampled, best, peer_of}
 use Rattle.tsp_promises.specs.Agreed.{Unchanged}
 use Rattle.tsp_promises.specs.Estimates.{CloseBegins, Estimate, Moves}
 use Rattle.tsp_promises.specs.Fits.{node_of}
-use Rattle.tsp_base.specs.History.{Acts, Line, dids, of, view}
 use Rattle.tsp_promises.specs.Kept.{Kept}
 use Rattle.tsp_promises.specs.Moderate.{Agrees, PeerAgrees, PeerCorrects, estimates_of}
-use Rattle.tsp_base.specs.NodeFacts.{rest_at}
-use Rattle.tsp_base.specs.Places.{Within}
-use Rattle.tsp_base.specs.RoundFacts.{Sampled, best}
 use Rattle.tsp_promises.specs.Setting.{Setting}
-use Rattle.tsp_base.specs.Takings.{peer_of}
 
 -- a history that fits and keeps the premises (Kept), in which a master and a peer agree in a round, and another peer's
 -- clock seems about a second off: the first two are moved little, the last by about a second

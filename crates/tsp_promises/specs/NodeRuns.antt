@@ -1,7 +1,7 @@
 -- A node that runs by the rules, over all its ports.
 use Rattle.std.specs.Prelude.{◌≡◌, ◌≤◌, ◌<◌, ℕ, List, [], ◌∷◌, length}
-use Rattle.tsp_base.specs.declared.place.Port.{Port}
-use Rattle.tsp_base.specs.History.{Step, view}
+use Rattle.tsp_rules.specs.Values.{Port}
+use Rattle.tsp_base.specs.Words.{Step, view}
 use Rattle.tsp_promises.specs.StepFacts.{StepEnds}
 use Rattle.tsp_rules.specs.GateRows.{NodeGiven, NodeTurn, GotOn, answers_all, boots_all}
 use Rattle.tsp_rules.specs.NodeRows.{NodePast, NodeRow, port_setup, on_port, spread, in_node_step}

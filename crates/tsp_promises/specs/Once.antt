@@ -1,24 +1,12 @@
 -- The promise that each correction acts at most once.
 use Rattle.std.specs.Prelude.{◌≡◌, ◌≤◌, ℕ, ◌+◌, ℤ, Bool, true, List, ◌∷◌, is_some}
-use Rattle.tsp_base.specs.declared.act.Act.TheVariants.{Post, Correct, Acked}
-use Rattle.tsp_base.specs.declared.constants.TheConstants.{GAP}
-use Rattle.tsp_base.specs.declared.datagram.Datagram.TheVariants.{Message}
-use Rattle.tsp_base.specs.declared.kind.Kind.{Kind}
-use Rattle.tsp_base.specs.declared.place.PeerId.{PeerId}
-use Rattle.tsp_base.specs.declared.place.Place.TheVariants.{Peer}
-use Rattle.tsp_base.specs.declared.role.Role.TheVariants.{Follow}
+use Rattle.tsp_rules.specs.Values.{Post, Correct, Acked, Message, Kind, PeerId, Peer, Follow, GAP}
+use Rattle.tsp_base.specs.Words.{Came, Acts, Did, Seen, Here, Line, of, dids, view, MessageValue, lives, Within, role, begun_to, is_correction, is_numbered, open_to, heard, peer_of, posted, time_in}
 use Rattle.tsp_promises.specs.ClockAt.{clock_at}
 use Rattle.tsp_promises.specs.CorrectFits.{amount_of}
 use Rattle.tsp_promises.specs.Everywhere.{Everywhere}
 use Rattle.tsp_promises.specs.Fits.{node_of}
-use Rattle.tsp_base.specs.History.{Came, Acts, Did, Seen, Here, Line, of, dids, view}
-use Rattle.tsp_base.specs.Messages.{MessageValue}
-use Rattle.tsp_base.specs.NodeFacts.{lives}
-use Rattle.tsp_base.specs.Places.{Within}
-use Rattle.tsp_base.specs.PortFacts.{role}
-use Rattle.tsp_base.specs.SendFacts.{begun_to, is_correction, is_numbered, open_to}
 use Rattle.tsp_promises.specs.Setting.{Setting}
-use Rattle.tsp_base.specs.Takings.{heard, peer_of, posted, time_in}
 
 -- the step of this line is the coming of the message that is posted at that place, to the line's node
 pub record Brings (l : Line) (world : List Line) (post : Line) (older : List Line) : Type 0 where

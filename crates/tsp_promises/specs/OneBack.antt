@@ -1,18 +1,9 @@
 -- The promise that no node backs two candidates within HOLD ticks.
 use Rattle.std.specs.Prelude.{◌≡◌, ◌≤◌, ◌⊎◌, ℕ, ◌+◌, false, List, ◌∷◌, Option, Some}
-use Rattle.tsp_base.specs.declared.act.Act.TheVariants.{Post, Back}
-use Rattle.tsp_base.specs.declared.constants.TheConstants.{HOLD}
-use Rattle.tsp_base.specs.declared.datagram.Datagram.TheVariants.{Message}
-use Rattle.tsp_base.specs.declared.kind.Kind.TheVariants.{Election, Accept}
-use Rattle.tsp_base.specs.declared.place.PeerId.{PeerId}
-use Rattle.tsp_base.specs.declared.place.Place.{Place}
-use Rattle.tsp_base.specs.declared.place.Place.TheVariants.{Peer, Stranger}
-use Rattle.tsp_base.specs.declared.place.Port.{Port}
+use Rattle.tsp_rules.specs.Values.{Post, Back, Message, Accept, Election, PeerId, Place, Peer, Stranger, Port, HOLD}
+use Rattle.tsp_base.specs.Words.{Begins, Acts, Line, of, view, MessageValue, Within}
 use Rattle.tsp_promises.specs.Everywhere.{Everywhere}
 use Rattle.tsp_promises.specs.Fits.{node_of}
-use Rattle.tsp_base.specs.History.{Begins, Acts, Line, of, view}
-use Rattle.tsp_base.specs.Messages.{MessageValue}
-use Rattle.tsp_base.specs.Places.{Within}
 use Rattle.tsp_promises.specs.StepFacts.{backed, is_unbacked}
 
 -- of two Backs of a node on one port for different candidates, the later comes at least HOLD ticks (60 s) after the

@@ -1,24 +1,12 @@
 -- The promise that no error of a clock is corrected twice.
 use Rattle.std.specs.Prelude.{◌≡◌, ◌⊎◌, ℕ, true, List, ◌∷◌, None, Some}
-use Rattle.tsp_base.specs.declared.act.Act.TheVariants.{Post}
-use Rattle.tsp_base.specs.declared.datagram.Datagram.{Datagram}
-use Rattle.tsp_base.specs.declared.datagram.Datagram.TheVariants.{Message, Stamp}
-use Rattle.tsp_base.specs.declared.kind.Kind.TheVariants.{AdjTime, SlaveUp}
-use Rattle.tsp_base.specs.declared.place.Place.{Place}
-use Rattle.tsp_base.specs.declared.stamp.Stamp.TheVariants.{Reply}
+use Rattle.tsp_rules.specs.Values.{Post, Datagram, Message, Stamp, AdjTime, SlaveUp, Place, Reply}
+use Rattle.tsp_base.specs.Words.{Came, Acts, Did, Line, Seen, Here, of, dids, view, MessageValue, Within, taken, Sampled, best, is_correction, ReplyValue, Receives, Undisturbed, peer_of, posted}
 use Rattle.tsp_promises.specs.Agreed.{ReadingOf}
 use Rattle.tsp_promises.specs.Everywhere.{Everywhere}
 use Rattle.tsp_promises.specs.Fits.{node_of}
-use Rattle.tsp_base.specs.History.{Came, Acts, Did, Line, Seen, Here, of, dids, view}
-use Rattle.tsp_base.specs.Messages.{MessageValue}
 use Rattle.tsp_promises.specs.Once.{ActsOn, OfSend}
-use Rattle.tsp_base.specs.Places.{Within}
-use Rattle.tsp_base.specs.PortFacts.{taken}
-use Rattle.tsp_base.specs.RoundFacts.{Sampled, best}
-use Rattle.tsp_base.specs.SendFacts.{is_correction}
-use Rattle.tsp_base.specs.Stamps.{ReplyValue}
 use Rattle.tsp_promises.specs.StepFacts.{closed}
-use Rattle.tsp_base.specs.Takings.{Receives, Undisturbed, peer_of, posted}
 
 -- the Correct c takes a post of a correction of m, an ADJTIME or a SETTIME, whose send begins at this place
 pub record Taking (m : ℕ) (c : Line) (past : List Line) : Type 0 where

@@ -1,15 +1,9 @@
 -- The promise that only masters correct.
 use Rattle.std.specs.Prelude.{◌≡◌, ℕ, ℤ, Bool, true, List, ◌∷◌}
-use Rattle.tsp_base.specs.declared.act.Act.TheVariants.{Post, Close, Correct}
-use Rattle.tsp_base.specs.declared.datagram.Datagram.TheVariants.{Message}
-use Rattle.tsp_base.specs.declared.place.Place.{Place}
-use Rattle.tsp_base.specs.declared.role.Role.TheVariants.{Master}
+use Rattle.tsp_rules.specs.Values.{Post, Close, Correct, Message, Place, Master}
+use Rattle.tsp_base.specs.Words.{Acts, Line, from_act, of, view, MessageValue, role, is_correction}
 use Rattle.tsp_promises.specs.Everywhere.{Everywhere}
 use Rattle.tsp_promises.specs.Fits.{node_of}
-use Rattle.tsp_base.specs.History.{Acts, Line, from_act, of, view}
-use Rattle.tsp_base.specs.Messages.{MessageValue}
-use Rattle.tsp_base.specs.PortFacts.{role}
-use Rattle.tsp_base.specs.SendFacts.{is_correction}
 
 -- the port's role just before the line is Master
 abbrev pub Leads : Line → List Line → Type 0

@@ -1,15 +1,9 @@
 -- Ordinary use: the promises aren't empty.
 use Rattle.std.specs.Prelude.{◌≡◌, ◌≢◌, ℕ, ℤ, true, List, ◌∷◌}
-use Rattle.tsp_base.specs.declared.act.Act.TheVariants.{Post, Acked}
-use Rattle.tsp_base.specs.declared.datagram.Datagram.TheVariants.{Message}
-use Rattle.tsp_base.specs.declared.place.PeerId.{PeerId}
-use Rattle.tsp_base.specs.declared.place.Place.TheVariants.{Peer}
+use Rattle.tsp_rules.specs.Values.{Post, Acked, Message, PeerId, Peer}
+use Rattle.tsp_base.specs.Words.{Acts, Did, Seen, Here, Line, of, view, MessageValue, Within, is_correction, open_to}
 use Rattle.tsp_promises.specs.Agreed.{Cast, Unchanged, UnchangedBut}
 use Rattle.tsp_promises.specs.Fits.{node_of}
-use Rattle.tsp_base.specs.History.{Acts, Did, Seen, Here, Line, of, view}
-use Rattle.tsp_base.specs.Messages.{MessageValue}
-use Rattle.tsp_base.specs.Places.{Within}
-use Rattle.tsp_base.specs.SendFacts.{is_correction, open_to}
 use Rattle.tsp_promises.specs.Setting.{Setting}
 use Rattle.tsp_promises.specs.Kept.{Kept}
 

@@ -1,8 +1,7 @@
 -- A port's past in which each deed has done what it owes.
 use Rattle.std.specs.Prelude.{List, [], ◌∷◌}
 use Rattle.tsp_promises.specs.DeedFits.{DeedFits}
-use Rattle.tsp_base.specs.History.{Past, Seen, Here, Elsewhere}
-use Rattle.tsp_base.specs.Setup.{Setup}
+use Rattle.tsp_base.specs.Words.{Past, Seen, Here, Elsewhere, Setup}
 
 -- what a port is set up with, as its past has it
 abbrev pub setup_in : Past → Setup

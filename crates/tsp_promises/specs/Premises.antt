@@ -1,19 +1,10 @@
 -- What the promises ask of a schedule.
 use Rattle.std.specs.Prelude.{◌≡◌, ◌≢◌, ◌≤◌, ◌<◌, ℕ, ◌+◌, ℤ, List, ◌∷◌}
-use Rattle.tsp_base.specs.declared.act.Act.TheVariants.{Boot, Took, Post}
-use Rattle.tsp_base.specs.declared.constants.TheConstants.{LIFE}
-use Rattle.tsp_base.specs.declared.datagram.Datagram.{Datagram}
-use Rattle.tsp_base.specs.declared.datagram.Taken.{Taken}
-use Rattle.tsp_base.specs.declared.place.PeerId.{PeerId}
-use Rattle.tsp_base.specs.declared.place.Place.{Place}
-use Rattle.tsp_base.specs.declared.place.Place.TheVariants.{Peer}
+use Rattle.tsp_rules.specs.Values.{Boot, Took, Post, Datagram, Taken, PeerId, Place, Peer, LIFE}
+use Rattle.tsp_base.specs.Words.{Booted, Came, Handed, Acts, Line, of, dids, view, Within, begun, posted}
 use Rattle.tsp_promises.specs.Everywhere.{Everywhere}
 use Rattle.tsp_promises.specs.Fits.{node_of}
-use Rattle.tsp_base.specs.History.{Booted, Came, Handed, Acts, Line, of, dids, view}
-use Rattle.tsp_base.specs.Places.{Within}
-use Rattle.tsp_base.specs.SendFacts.{begun}
 use Rattle.tsp_promises.specs.Setting.{Setting}
-use Rattle.tsp_base.specs.Takings.{posted}
 
 -- octets that are handed to a node from outside don't seem to come from a peer
 abbrev pub HonestAt : Line → List Line → Type 0

@@ -1,10 +1,8 @@
 -- Printed values: the promise of what a Correct prints isn't empty.
 use Rattle.std.specs.Prelude.{◌≡◌, ◌≢◌, ◌≤◌, ℤ, pos, nat_abs, true, false, List, ◌∷◌}
-use Rattle.tsp_base.specs.declared.act.Act.TheVariants.{Correct}
-use Rattle.tsp_base.specs.declared.constants.TheConstants.{MAXADJ}
+use Rattle.tsp_rules.specs.Values.{Correct, MAXADJ}
+use Rattle.tsp_base.specs.Words.{Acts, Line, Within}
 use Rattle.tsp_promises.specs.Fits.{node_of}
-use Rattle.tsp_base.specs.History.{Acts, Line}
-use Rattle.tsp_base.specs.Places.{Within}
 use Rattle.tsp_promises.specs.Kept.{Kept}
 use Rattle.tsp_promises.specs.Setting.{Setting}
 use Rattle.tsp_promises.specs.Steady.{Unstepped}

@@ -1,18 +1,10 @@
 -- Early answers: the promise that a node is silent after its boot isn't empty.
 use Rattle.std.specs.Prelude.{◌≡◌, ◌<◌, ◌+◌, List, ◌∷◌}
-use Rattle.tsp_base.specs.declared.act.Act.TheVariants.{Post}
-use Rattle.tsp_base.specs.declared.constants.TheConstants.{QUIET}
-use Rattle.tsp_base.specs.declared.datagram.Datagram.TheVariants.{Message, Stamp}
-use Rattle.tsp_base.specs.declared.place.Place.{Place}
-use Rattle.tsp_base.specs.declared.stamp.Stamp.TheVariants.{Reply}
+use Rattle.tsp_rules.specs.Values.{Post, Message, Stamp, Place, Reply, QUIET}
+use Rattle.tsp_base.specs.Words.{Acts, Line, dids, of, MessageValue, boot_tick, Within, ReplyValue}
 use Rattle.tsp_promises.specs.Fits.{node_of}
-use Rattle.tsp_base.specs.History.{Acts, Line, dids, of}
-use Rattle.tsp_base.specs.Messages.{MessageValue}
-use Rattle.tsp_base.specs.NodeFacts.{boot_tick}
-use Rattle.tsp_base.specs.Places.{Within}
 use Rattle.tsp_promises.specs.Kept.{Kept}
 use Rattle.tsp_promises.specs.Setting.{Setting}
-use Rattle.tsp_base.specs.Stamps.{ReplyValue}
 
 -- a history that fits and keeps the premises (Kept), in which a node replies to a stamp request and acknowledges a
 -- message in its quiet time, the first QUIET ticks after its boot

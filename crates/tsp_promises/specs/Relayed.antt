@@ -4,10 +4,8 @@ use Rattle.tsp_promises.specs.Agreed.{Cast, Unchanged, UnchangedBut}
 use Rattle.tsp_promises.specs.ClockAt.{clock_at}
 use Rattle.tsp_promises.specs.Everywhere.{Everywhere}
 use Rattle.tsp_promises.specs.Fits.{node_of}
-use Rattle.tsp_base.specs.History.{Line}
-use Rattle.tsp_base.specs.Places.{Within}
+use Rattle.tsp_base.specs.Words.{Line, Within, width}
 use Rattle.tsp_promises.specs.Setting.{Setting}
-use Rattle.tsp_base.specs.Ticks.{width}
 
 -- after the history h, at true time t: the Correct c of a node k takes an ADJTIME of a Close of g, and the Correct d of
 -- g, before that Close, one of a Close of m. As long as k, g and m are left alone since, m but for the Correct right

@@ -1,26 +1,13 @@
 -- The promise that a master that takes a QUIT stops being master.
 use Rattle.std.specs.Prelude.{◌≡◌, ◌≢◌, ◌≤◌, ℕ, ◌+◌, true, List, ◌∷◌, Some}
-use Rattle.tsp_base.specs.declared.act.Act.TheVariants.{Become, Post, Quit, Ring}
-use Rattle.tsp_base.specs.declared.alarm.Alarm.TheVariants.{Resolve}
-use Rattle.tsp_base.specs.declared.constants.TheConstants.{ELECT_MIN}
-use Rattle.tsp_base.specs.declared.datagram.Datagram.TheVariants.{Message}
-use Rattle.tsp_base.specs.declared.kind.Kind.TheVariants.{Quit as QuitKind}
-use Rattle.tsp_base.specs.declared.place.PeerId.{PeerId}
-use Rattle.tsp_base.specs.declared.place.Place.TheVariants.{Peer}
-use Rattle.tsp_base.specs.declared.place.Port.{Port}
-use Rattle.tsp_base.specs.declared.role.Role.TheVariants.{Follow, Master}
+use Rattle.tsp_rules.specs.Values.{Post, Become, Ring, Quit, ResolveAlarm, Message, QuitKind, PeerId, Peer, Port, Follow, Master, ELECT_MIN}
+use Rattle.tsp_base.specs.Words.{Came, Begins, Acts, Did, Line, Seen, of, dids, plain, view, MessageValue, is_among, Within, role, peer_of, posted, steps}
 use Rattle.tsp_promises.specs.Everywhere.{Everywhere}
 use Rattle.tsp_promises.specs.Fits.{node_of}
-use Rattle.tsp_base.specs.History.{Came, Begins, Acts, Did, Line, Seen, of, dids, plain, view}
-use Rattle.tsp_base.specs.Messages.{MessageValue}
 use Rattle.tsp_promises.specs.Once.{OfSend}
-use Rattle.tsp_base.specs.Peers.{is_among}
-use Rattle.tsp_base.specs.Places.{Within}
-use Rattle.tsp_base.specs.PortFacts.{role}
 use Rattle.tsp_promises.specs.Premises.{Life}
 use Rattle.tsp_promises.specs.Setting.{Setting, setup_of}
 use Rattle.tsp_promises.specs.StepFacts.{owes, quits_master}
-use Rattle.tsp_base.specs.Takings.{peer_of, posted, steps}
 
 -- at the end of a step the port follows each peer of which it put a Quit in that step as a master
 abbrev pub YieldsAt : List Seen → Type 0
@@ -70,7 +57,7 @@ pub record TakesQuit (ring : Line) (past : List Line) (x : Line) (xpast : List L
 -- at the end of a step in which the rival y takes a QUIT of this alarm: no rival x that has taken one is a master on
 -- the port on which it took it
 abbrev pub StopsBy : List Line → Type 0
-StopsBy h = (ring x y : Line) (past xpast ypast : List Line) → Within (ring ∷ past) h → ring.did.deed ≡ Acts (Ring Resolve) → Within (x ∷ xpast) h → TakesQuit ring past x xpast →
+StopsBy h = (ring x y : Line) (past xpast ypast : List Line) → Within (ring ∷ past) h → ring.did.deed ≡ Acts (Ring ResolveAlarm) → Within (x ∷ xpast) h → TakesQuit ring past x xpast →
     Within (y ∷ ypast) h → TakesQuit ring past y ypast → steps (dids (y ∷ ypast)) ≡ steps (dids h) → role (view x.port (of (node_of x) h)) ≢ Master
 
 -- StopsBy holds at the end of each step: before each mark, and at the end of the history

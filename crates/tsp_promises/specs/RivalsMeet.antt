@@ -1,17 +1,12 @@
 -- Rivals: the promises of backings and of resolutions aren't empty.
 use Rattle.std.specs.Prelude.{◌≡◌, ◌≢◌, List, ◌∷◌, Some}
-use Rattle.tsp_base.specs.declared.act.Act.TheVariants.{Back, Become, Ring}
-use Rattle.tsp_base.specs.declared.alarm.Alarm.TheVariants.{Resolve}
-use Rattle.tsp_base.specs.declared.place.PeerId.{PeerId}
-use Rattle.tsp_base.specs.declared.role.Role.TheVariants.{Master}
+use Rattle.tsp_rules.specs.Values.{Become, Ring, Back, ResolveAlarm, PeerId, Master}
+use Rattle.tsp_base.specs.Words.{Begins, Acts, Line, dids, of, view, Within, peer_of, steps}
 use Rattle.tsp_promises.specs.Fits.{Fits, Finished, node_of}
-use Rattle.tsp_base.specs.History.{Begins, Acts, Line, dids, of, view}
-use Rattle.tsp_base.specs.Places.{Within}
 use Rattle.tsp_promises.specs.Premises.{Life}
 use Rattle.tsp_promises.specs.Resolved.{TakesQuit}
 use Rattle.tsp_promises.specs.Setting.{Setting, setup_of}
 use Rattle.tsp_promises.specs.StepFacts.{quits_master}
-use Rattle.tsp_base.specs.Takings.{peer_of, steps}
 
 -- a history that fits and in which no datagram outlives LIFE: a rival takes the QUIT of a resolution, as a master, its step ends and
 -- another begins, the rival leads again later, and a node backs two candidates
@@ -24,7 +19,7 @@ pub record RivalsMeet : Type 0 where
   pub ring : Line
   pub past : List Line
   pub ring_in : Within (ring ∷ past) world
-  pub rings : ring.did.deed ≡ Acts (Ring Resolve)
+  pub rings : ring.did.deed ≡ Acts (Ring ResolveAlarm)
   pub rival : Line
   pub rpast : List Line
   pub rival_in : Within (rival ∷ rpast) world

@@ -1,15 +1,7 @@
 -- What the beginning and the end of a round owe to their port's past.
 use Rattle.std.specs.Prelude.{◌≡◌, ◌≤◌, ◌+◌, ℤ, true, List, ◌∷◌, map, filter}
-use Rattle.tsp_base.specs.declared.act.Act.TheVariants.{Ring}
-use Rattle.tsp_base.specs.declared.alarm.Alarm.TheVariants.{Close}
-use Rattle.tsp_base.specs.declared.constants.TheConstants.{CLOSE, ROUND, SLACK, SPAN}
-use Rattle.tsp_base.specs.declared.place.PeerId.{PeerId}
-use Rattle.tsp_base.specs.declared.role.Role.TheVariants.{Master}
-use Rattle.tsp_base.specs.History.{Acts, Did, Seen, Here, plain}
-use Rattle.tsp_base.specs.PortFacts.{role}
-use Rattle.tsp_base.specs.RoundFacts.{is_going, is_measured, started}
-use Rattle.tsp_base.specs.Setup.{Setup}
-use Rattle.tsp_base.specs.Takings.{Undisturbed}
+use Rattle.tsp_rules.specs.Values.{Ring, CloseAlarm, PeerId, Master, CLOSE, ROUND, SLACK, SPAN}
+use Rattle.tsp_base.specs.Words.{Acts, Did, Seen, Here, plain, role, is_going, is_measured, started, Setup, Undisturbed}
 use Rattle.tsp_group.specs.Groups.{group_of, mean_of}
 use Rattle.tsp_rules.specs.RoundRows.{estimates, standing}
 
@@ -37,7 +29,7 @@ pub record CloseFits (here : Did) (before : List Seen) : Type 0 where
   pub ring : Did
   pub past : List Seen
   pub is : before ≡ Here ring ∷ past
-  pub rings : ring.deed ≡ Acts (Ring Close)
+  pub rings : ring.deed ≡ Acts (Ring CloseAlarm)
   pub going : is_going past ≡ true
   pub start : Did
   pub idle : List Seen

@@ -1,11 +1,9 @@
 -- Two rounds: the promises that a round's bound outlasts later Corrects, and that rounds are apart, aren't empty.
 use Rattle.std.specs.Prelude.{◌≡◌, ◌≢◌, ℕ, ℤ, pos, ◌-ℤ◌, List, ◌∷◌}
-use Rattle.tsp_base.specs.declared.act.Act.TheVariants.{Close}
+use Rattle.tsp_rules.specs.Values.{Close}
+use Rattle.tsp_base.specs.Words.{Acts, Line, dids, of, lives, Within}
 use Rattle.tsp_promises.specs.Fits.{node_of}
-use Rattle.tsp_base.specs.History.{Acts, Line, dids, of}
 use Rattle.tsp_promises.specs.Kept.{Kept}
-use Rattle.tsp_base.specs.NodeFacts.{lives}
-use Rattle.tsp_base.specs.Places.{Within}
 use Rattle.tsp_promises.specs.Setting.{Setting}
 use Rattle.tsp_promises.specs.Throughout.{SinceClose, SinceCorrect, moved_since}
 

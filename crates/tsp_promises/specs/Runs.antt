@@ -1,7 +1,6 @@
 -- A port that runs by the rules of tsp_rules.
 use Rattle.std.specs.Prelude.{◌≡◌, ◌≤◌, ℕ, List, [], ◌∷◌}
-use Rattle.tsp_base.specs.History.{Step, Past}
-use Rattle.tsp_base.specs.Rows.{Row, grown, in_step}
+use Rattle.tsp_base.specs.Words.{Step, Past, Row, grown, in_step}
 use Rattle.tsp_promises.specs.StepFacts.{StepEnds}
 use Rattle.tsp_rules.specs.Answers.{Given, answers}
 use Rattle.tsp_rules.specs.CommonRows.{boots}

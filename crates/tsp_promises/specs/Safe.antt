@@ -7,7 +7,7 @@ use Rattle.tsp_promises.specs.Chained.{Chained}
 use Rattle.tsp_promises.specs.ErrsBounded.{ErrsBounded}
 use Rattle.tsp_promises.specs.Estimates.{EstimatesHold}
 use Rattle.tsp_promises.specs.FirstSet.{FirstSet, FirstSetSoon}
-use Rattle.tsp_base.specs.History.{Line}
+use Rattle.tsp_base.specs.Words.{Line}
 use Rattle.tsp_promises.specs.Measured.{Measured, Trips}
 use Rattle.tsp_promises.specs.Moderate.{Moderate, ModerateClocks}
 use Rattle.tsp_promises.specs.Once.{OnceConfirmed, OnceCorrected, OnceObeyed, OnceSpaced, OnceSpacedOverLives, OnceTaken}

@@ -1,11 +1,10 @@
 -- Boots with the same word: which promises hold all the same, and which one needs words that differ.
 use Rattle.std.specs.Prelude.{◌≡◌, ℕ, ℤ, List, ◌∷◌}
-use Rattle.tsp_base.specs.declared.act.Act.TheVariants.{Boot}
+use Rattle.tsp_rules.specs.Values.{Boot}
+use Rattle.tsp_base.specs.Words.{Booted, Acts, Line, Within}
 use Rattle.tsp_promises.specs.Agreed.{Cast}
 use Rattle.tsp_promises.specs.Fits.{Fits, Finished, node_of}
-use Rattle.tsp_base.specs.History.{Booted, Acts, Line}
 use Rattle.tsp_promises.specs.Measured.{Measured}
-use Rattle.tsp_base.specs.Places.{Within}
 use Rattle.tsp_promises.specs.Premises.{Honest, Life}
 use Rattle.tsp_promises.specs.Setting.{Setting}
 

@@ -1,12 +1,9 @@
 -- The promise that the rounds of a port close at least 239 s of its node's ticks apart.
 use Rattle.std.specs.Prelude.{◌≡◌, ◌≤◌, ℕ, ◌+◌, ◌-◌, ℤ, List, ◌∷◌}
-use Rattle.tsp_base.specs.declared.act.Act.TheVariants.{Close}
-use Rattle.tsp_base.specs.declared.constants.TheConstants.{ROUND, SLACK}
+use Rattle.tsp_rules.specs.Values.{Close, ROUND, SLACK}
+use Rattle.tsp_base.specs.Words.{Acts, Line, of, dids, lives, Within}
 use Rattle.tsp_promises.specs.Everywhere.{Everywhere}
 use Rattle.tsp_promises.specs.Fits.{node_of}
-use Rattle.tsp_base.specs.History.{Acts, Line, of, dids}
-use Rattle.tsp_base.specs.NodeFacts.{lives}
-use Rattle.tsp_base.specs.Places.{Within}
 
 -- a Close comes at least ROUND less SLACK ticks (239 s) after each earlier one on its port, in one life of its node
 abbrev pub SeldomAt : Line → List Line → Type 0

@@ -1,10 +1,9 @@
 -- Corrections and where they come from: the promises of first settings and of single corrections aren't empty.
 use Rattle.std.specs.Prelude.{◌≡◌, ℕ, List, ◌∷◌}
-use Rattle.tsp_base.specs.declared.kind.Kind.TheVariants.{AdjTime}
+use Rattle.tsp_rules.specs.Values.{AdjTime}
+use Rattle.tsp_base.specs.Words.{Line, Within}
 use Rattle.tsp_promises.specs.FirstSet.{SetBy}
-use Rattle.tsp_base.specs.History.{Line}
 use Rattle.tsp_promises.specs.OneError.{FromReading, FromSlaveUp, Taking}
-use Rattle.tsp_base.specs.Places.{Within}
 use Rattle.tsp_promises.specs.Kept.{Kept}
 use Rattle.tsp_promises.specs.Setting.{Setting}
 

@@ -1,10 +1,7 @@
 -- What is around the nodes of a history: their clocks, names and networks.
 use Rattle.std.specs.Prelude.{◌≡◌, ◌≤◌, ℕ, ℤ, Bool, true, List, nat_abs}
-use Rattle.tsp_base.specs.declared.place.PeerId.{PeerId}
-use Rattle.tsp_base.specs.declared.place.Port.{Port}
-use Rattle.tsp_base.specs.Peers.{is_among}
-use Rattle.tsp_base.specs.Setup.{Setup}
-use Rattle.tsp_base.specs.Takings.{peer_of}
+use Rattle.tsp_rules.specs.Values.{PeerId, Port}
+use Rattle.tsp_base.specs.Words.{is_among, Setup, peer_of}
 
 -- a network: one of the schedule's header, or, for a port that its node doesn't have, one with nobody else on it
 pub data Network : Type 0 where

@@ -1,9 +1,7 @@
 -- What a node's clock shows at a place of the history.
 use Rattle.std.specs.Prelude.{ℕ, ℤ, List}
-use Rattle.tsp_base.specs.History.{Line, of, dids}
-use Rattle.tsp_base.specs.NodeFacts.{rest_at, shown}
+use Rattle.tsp_base.specs.Words.{Line, of, dids, rest_at, shown, tick_at}
 use Rattle.tsp_promises.specs.Setting.{Setting}
-use Rattle.tsp_base.specs.Ticks.{tick_at}
 
 -- the value that node n shows at a true time, when the history is h
 abbrev pub shown_at : Setting → ℕ → List Line → ℕ → ℤ

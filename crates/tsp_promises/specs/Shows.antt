@@ -1,14 +1,11 @@
 -- The promise that a Correct prints what its clock shows, and says whether it is stepped.
 use Rattle.std.specs.Prelude.{◌≡◌, ◌≤◌, ◌-◌, ◌/◌, ℤ, pos, ◌-ℤ◌, nat_abs, Bool, true, false, List, ◌∷◌}
-use Rattle.tsp_base.specs.declared.act.Act.TheVariants.{Correct}
+use Rattle.tsp_rules.specs.Values.{Correct}
+use Rattle.tsp_base.specs.Words.{Acts, Line, dids, of, shown, target, Within, heard}
 use Rattle.tsp_promises.specs.CorrectFits.{is_stepped}
 use Rattle.tsp_promises.specs.Everywhere.{Everywhere}
 use Rattle.tsp_promises.specs.Fits.{node_of}
-use Rattle.tsp_base.specs.History.{Acts, Line, dids, of}
-use Rattle.tsp_base.specs.NodeFacts.{shown, target}
-use Rattle.tsp_base.specs.Places.{Within}
 use Rattle.tsp_promises.specs.Steady.{Unstepped}
-use Rattle.tsp_base.specs.Takings.{heard}
 
 -- what a Correct of this amount prints
 pub record Prints (l : Line) (world : List Line) (amount : ℤ) (stepped : Bool) (printed : ℤ) : Type 0 where

@@ -1,14 +1,10 @@
 -- The promise that a node is silent after its boot.
 use Rattle.std.specs.Prelude.{◌≡◌, ◌≤◌, ◌⊎◌, ◌+◌, ℤ, Bool, List}
-use Rattle.tsp_base.specs.declared.act.Act.TheVariants.{Correct, Post}
-use Rattle.tsp_base.specs.declared.constants.TheConstants.{QUIET}
-use Rattle.tsp_base.specs.declared.datagram.Datagram.{Datagram}
-use Rattle.tsp_base.specs.declared.place.Place.{Place}
+use Rattle.tsp_rules.specs.Values.{Post, Correct, Datagram, Place, QUIET}
+use Rattle.tsp_base.specs.Words.{Acts, Line, dids, of, view, boot_tick}
 use Rattle.tsp_promises.specs.DeedFits.{AnswersEarly}
 use Rattle.tsp_promises.specs.Everywhere.{Everywhere}
 use Rattle.tsp_promises.specs.Fits.{node_of}
-use Rattle.tsp_base.specs.History.{Acts, Line, dids, of, view}
-use Rattle.tsp_base.specs.NodeFacts.{boot_tick}
 
 -- for QUIET ticks (80 s) after a boot a node posts nothing but the answer to what its step took on that port: to the
 -- sender of a stamp request the reply with its word and counter, and to that of an MSITE, TRACEON or TRACEOFF the ACK of

@@ -1,8 +1,7 @@
 -- What a node's deeds up to one place say of its deeds up to a later one.
 use Rattle.std.specs.Prelude.{◌≡◌, ◌+◌, ◌*◌, ◌<◌, ◌≤◌, ◌⊎◌, List}
-use Rattle.tsp_base.specs.declared.constants.TheConstants.{GAP}
-use Rattle.tsp_base.specs.History.{Did}
-use Rattle.tsp_base.specs.NodeFacts.{all_corrects, corrects, word, wall, boot_tick, last_correct, time_of, tick_of, moved, lives}
+use Rattle.tsp_rules.specs.Values.{GAP}
+use Rattle.tsp_base.specs.Words.{Did, all_corrects, corrects, word, wall, boot_tick, last_correct, time_of, tick_of, moved, lives}
 
 -- the node doesn't boot after s, up to t
 pub record OneLife (s t : List Did) : Type 0 where

@@ -1,28 +1,14 @@
 -- Datagrams whose parts are in their ranges, and ports that take and post nothing else.
 use Rattle.std.specs.Prelude.{◌≡◌, ◌<◌, ◌^◌, ℕ, true, List, [], ◌∷◌}
-use Rattle.tsp_base.specs.declared.act.Act.{Act}
-use Rattle.tsp_base.specs.declared.act.Act.TheVariants.{Took, Post, Sample}
-use Rattle.tsp_base.specs.declared.datagram.Datagram.{Datagram}
-use Rattle.tsp_base.specs.declared.datagram.Datagram.TheVariants.{Message, Stamp}
-use Rattle.tsp_base.specs.declared.datagram.Taken.{Taken}
-use Rattle.tsp_base.specs.declared.datagram.Taken.TheVariants.{Good, Bad}
-use Rattle.tsp_base.specs.declared.message.Body.{Body}
-use Rattle.tsp_base.specs.declared.message.Body.TheVariants.{Nothing, Time, Hops}
-use Rattle.tsp_base.specs.declared.stamp.Stamp.TheVariants.{Request, Reply}
-use Rattle.tsp_base.specs.History.{Deed, Begins, Acts, Seen, Here, Elsewhere, Past, plain}
-use Rattle.tsp_base.specs.Messages.{body_fits}
-use Rattle.tsp_base.specs.Names.{IsName}
-use Rattle.tsp_base.specs.NodeFacts.{word}
-use Rattle.tsp_base.specs.Stamps.{IsReply}
-use Rattle.tsp_base.specs.Times.{IsMicros}
+use Rattle.tsp_rules.specs.Values.{Act, Took, Post, Sample, Datagram, Message, Stamp, Taken, Good, Bad, Body, Nothing, TimeBody, Hops, Request, Reply}
+use Rattle.tsp_base.specs.Words.{Deed, Begins, Acts, Seen, Here, Elsewhere, Past, plain, body_fits, IsName, word, IsReply, IsMicros, grown}
 use Rattle.tsp_rules.specs.Answers.{Given, Turn, Got, answers}
-use Rattle.tsp_base.specs.Rows.{grown}
 
 -- a body's number is in its range: hops are less than 256, and a time is from -LIMIT to LIMIT - 1
 abbrev pub IsSoundBody : Body → Type 0
 IsSoundBody Nothing = Unit {0}
 IsSoundBody (Hops h) = h < 2 ^ 8
-IsSoundBody (Time t) = IsMicros t
+IsSoundBody (TimeBody t) = IsMicros t
 
 -- the parts of a datagram are in their ranges, as they are in one that was read from octets
 abbrev pub IsSound : Datagram → Type 0

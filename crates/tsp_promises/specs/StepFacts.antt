@@ -1,20 +1,7 @@
 -- Facts of the step that a port is in.
 use Rattle.std.specs.Prelude.{◌≡◌, ℕ, ◌==◌, Bool, true, false, not, ◌&&◌, if◌then◌else◌, List, [], ◌∷◌, Option, None, Some}
-use Rattle.tsp_base.specs.declared.act.Act.TheVariants.{Become, Back, Close, Post, Quit, Took}
-use Rattle.tsp_base.specs.declared.datagram.Datagram.TheVariants.{Message}
-use Rattle.tsp_base.specs.declared.kind.Kind.{Kind}
-use Rattle.tsp_base.specs.declared.kind.Kind.TheVariants.{Ack, Quit as QuitKind}
-use Rattle.tsp_base.specs.declared.place.PeerId.{PeerId}
-use Rattle.tsp_base.specs.declared.place.Place.TheVariants.{Peer, Stranger}
-use Rattle.tsp_base.specs.declared.role.Role.{Role}
-use Rattle.tsp_base.specs.declared.role.Role.TheVariants.{Candidate, Follow, Master, Starting}
-use Rattle.tsp_base.specs.History.{Did, Deed, Begins, Acts, Seen, Here, Elsewhere, plain}
-use Rattle.tsp_base.specs.Messages.{MessageValue}
-use Rattle.tsp_base.specs.Peers.{is_among}
-use Rattle.tsp_base.specs.PortFacts.{Received, Said, message_in, role, said, said_by, taken}
-use Rattle.tsp_base.specs.RoundFacts.{exchange}
-use Rattle.tsp_base.specs.Setup.{Setup}
-use Rattle.tsp_base.specs.Takings.{Undisturbed}
+use Rattle.tsp_rules.specs.Values.{Took, Post, Become, Back, Close, Quit, Message, Kind, Ack, QuitKind, PeerId, Peer, Stranger, Role, Starting, Follow, Candidate, Master}
+use Rattle.tsp_base.specs.Words.{Did, Deed, Begins, Acts, Seen, Here, Elsewhere, plain, MessageValue, is_among, Received, Said, message_in, role, said, said_by, taken, exchange, Setup, Undisturbed}
 
 abbrev pub backed_after : Deed → Option PeerId → Option PeerId
 backed_after Begins keep = None

@@ -1,10 +1,8 @@
 -- Strict elections: the promise that one candidate wins isn't empty.
 use Rattle.std.specs.Prelude.{◌≡◌, ◌≢◌, true, List, ◌∷◌}
-use Rattle.tsp_base.specs.declared.act.Act.TheVariants.{Become}
-use Rattle.tsp_base.specs.declared.role.Role.TheVariants.{Master}
+use Rattle.tsp_rules.specs.Values.{Become, Master}
+use Rattle.tsp_base.specs.Words.{Acts, Line, Within}
 use Rattle.tsp_promises.specs.Fits.{node_of}
-use Rattle.tsp_base.specs.History.{Acts, Line}
-use Rattle.tsp_base.specs.Places.{Within}
 use Rattle.tsp_promises.specs.Premises.{Few}
 use Rattle.tsp_promises.specs.Setting.{Setting}
 use Rattle.tsp_promises.specs.Kept.{Kept}

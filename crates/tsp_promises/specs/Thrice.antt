@@ -1,17 +1,9 @@
 -- The promise that a numbered send has few posts, all of them soon after its beginning.
 use Rattle.std.specs.Prelude.{◌≡◌, ◌≤◌, ℕ, ◌+◌, ◌==◌, Bool, true, ◌&&◌, if◌then◌else◌, List, [], ◌∷◌}
-use Rattle.tsp_base.specs.declared.act.Act.TheVariants.{Post}
-use Rattle.tsp_base.specs.declared.constants.TheConstants.{LAST, TRIES}
-use Rattle.tsp_base.specs.declared.datagram.Datagram.TheVariants.{Message}
-use Rattle.tsp_base.specs.declared.place.PeerId.{PeerId}
-use Rattle.tsp_base.specs.declared.place.Place.TheVariants.{Peer}
+use Rattle.tsp_rules.specs.Values.{Post, Message, PeerId, Peer, LAST, TRIES}
+use Rattle.tsp_base.specs.Words.{Deed, Acts, Line, Seen, Here, Elsewhere, of, view, MessageValue, Within, acting, begun_to, is_numbered}
 use Rattle.tsp_promises.specs.Everywhere.{Everywhere}
 use Rattle.tsp_promises.specs.Fits.{node_of}
-use Rattle.tsp_base.specs.History.{Deed, Acts, Line, Seen, Here, Elsewhere, of, view}
-use Rattle.tsp_base.specs.Messages.{MessageValue}
-use Rattle.tsp_base.specs.Places.{Within}
-use Rattle.tsp_base.specs.PortFacts.{acting}
-use Rattle.tsp_base.specs.SendFacts.{begun_to, is_numbered}
 
 abbrev pub sent_after : PeerId → Deed → Bool → ℕ → ℕ
 sent_after p (Acts (Post (Peer q) (Message m))) begins n = if (q.0 == p.0) && is_numbered m.kind then (if begins then 1 else n + 1) else n

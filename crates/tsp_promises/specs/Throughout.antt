@@ -1,15 +1,12 @@
 -- The promise that a round's bound outlasts later Corrects, if those are taken back, until either node boots.
 use Rattle.std.specs.Prelude.{◌≡◌, ◌≤◌, ◌≤ℤ◌, ℕ, ◌+◌, ◌-◌, ◌*◌, ℤ, pos, ◌+ℤ◌, ◌-ℤ◌, nat_abs, List, ◌∷◌}
-use Rattle.tsp_base.specs.declared.act.Act.TheVariants.{Close}
+use Rattle.tsp_rules.specs.Values.{Close}
+use Rattle.tsp_base.specs.Words.{Acts, Line, of, dids, lives, moved, Within, width}
 use Rattle.tsp_promises.specs.Agreed.{Cast}
 use Rattle.tsp_promises.specs.ClockAt.{clock_at}
 use Rattle.tsp_promises.specs.Everywhere.{Everywhere}
 use Rattle.tsp_promises.specs.Fits.{node_of}
-use Rattle.tsp_base.specs.History.{Acts, Line, of, dids}
-use Rattle.tsp_base.specs.NodeFacts.{lives, moved}
-use Rattle.tsp_base.specs.Places.{Within}
 use Rattle.tsp_promises.specs.Setting.{Setting}
-use Rattle.tsp_base.specs.Ticks.{width}
 
 -- by how much the Corrects of node n have moved its clock since the place s, in one life
 abbrev pub moved_since : ℕ → List Line → List Line → ℤ

@@ -3,10 +3,10 @@ use Rattle.std.proofs.Common.{◌≡◌, ℕ, ◌<◌, ◌≤◌, ◌+◌, ◌-�
 use Rattle.std.proofs.lemmas.List.Elements.{All-nil, All-push}
 use Rattle.tsp_base.specs.declared.datagram.Datagram.{Datagram}
 use Rattle.tsp_io.specs.Clocks.{TakesReading}
-use Rattle.tsp_io.specs.Links.{Arrival, Tried, Notes}
+use Rattle.tsp_io.specs.Links.{Arrival, Tried, NotesReceive}
 use Rattle.tsp_query.specs.Arrivals.{answer_in, next_arrival, rest_of, or_later, asked_from}
 use Rattle.tsp_query.specs.Clocks.{reading}
-use Rattle.tsp_query.specs.Ends.{Outside, Tells, heard, heard_times, receives, Listens, sent, Asks, WaitsSeconds}
+use Rattle.tsp_query.specs.Ends.{Outside, KnowsExactly, heard, heard_times, receives, Listens, sent, Asks, WaitsSeconds}
 use Rattle.tsp_query.specs.declared.ask.AskEnd.{AskEnd}
 use Rattle.tsp_query.specs.declared.ask.AskEnd.TheVariants.{Answer, NoAnswer, LinkFault, OutOfMemory}
 use Rattle.tsp_query.specs.declared.question.Question.{Question}
@@ -89,7 +89,7 @@ no-wait None = tt
 no-wait (Some ws) = ([], sym (append-nil ws), All-nil (λ wait. wait ≡ 1000000))
 
 -- one receive more
-pub one-wait : (waits between now : Option (List ℕ)) → WaitsSeconds waits between → Notes between now 1000000 → WaitsSeconds waits now
+pub one-wait : (waits between now : Option (List ℕ)) → WaitsSeconds waits between → NotesReceive between now 1000000 → WaitsSeconds waits now
 one-wait waits between None w n = tt
 one-wait waits None (Some now) w n = absurd n
 one-wait None (Some between) (Some now) w n = absurd w
@@ -97,8 +97,8 @@ one-wait (Some before) (Some between) (Some now) w n = (w.0 ++ 1000000 ∷ [], n
 
 -- what is told after all eight waits
 pub tells-all : (n : ℕ) (o : Outside) (arrivals : Option (List Arrival)) (tried : Option (List Tried)) (calls : Option ℕ) (readings : Option (List ℕ)) (last : ℕ) → n ≡ 8 →
-    Tells (heard_times n o) arrivals tried calls readings last → Tells (heard_times 8 o) arrivals tried calls readings last
-tells-all n o arrivals tried calls readings last e t = subst (λ k. Tells (heard_times k o) arrivals tried calls readings last) e t
+    KnowsExactly (heard_times n o) arrivals tried calls readings last → KnowsExactly (heard_times 8 o) arrivals tried calls readings last
+tells-all n o arrivals tried calls readings last e t = subst (λ k. KnowsExactly (heard_times k o) arrivals tried calls readings last) e t
 
 -- what is said of a value that is there
 pub of_some : {A : Type 0} (P : A → Type 0) (r : Option A) (v : A) → IfSome r P → r ≡ Some v → P v

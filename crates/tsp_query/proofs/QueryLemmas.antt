@@ -1,21 +1,20 @@
 -- Laws of the queries.
 use Rattle.std.proofs.Common.{◌≡◌, ◌≤◌, ◌∙◌, ap, sym, ℕ, ℤ, ◌%◌, List, subst, Option, Some, refl, Bool, true, false, arith}
 use Rattle.std.specs.Prelude.{codes}
-use Rattle.tsp_base.specs.Kinds.{carries_time, carries_hops}
-use Rattle.tsp_base.specs.Messages.{MessageValue, body_fits}
+use Rattle.tsp_base.specs.Words.{carries_time, carries_hops, MessageValue, body_fits}
 use Rattle.tsp_base.specs.declared.datagram.Datagram.{Datagram}
 use Rattle.tsp_base.specs.declared.datagram.Datagram.TheVariants.{Message}
 use Rattle.tsp_base.specs.declared.kind.Kind.{Kind}
 use Rattle.tsp_base.specs.declared.kind.Kind.TheVariants.{Msite, SetDate, Test}
 use Rattle.tsp_base.specs.declared.message.Body.{Body}
-use Rattle.tsp_base.specs.declared.message.Body.TheVariants.{Nothing, Time}
+use Rattle.tsp_base.specs.declared.message.Body.TheVariants.{Nothing, Time as TimeBody}
 use Rattle.tsp_io.specs.Links.{Arrival, Tried}
 use Rattle.tsp_io.specs.declared.link.Link.{Ghosts as LinkOf}
 use Rattle.tsp_io.specs.declared.ticker.Ticker.{Ghosts as TickerOf}
 use Rattle.tsp_query.proofs.FaultLemmas.{LinkCounts-from}
 use Rattle.tsp_query.specs.Arrivals.{rest_of}
 use Rattle.tsp_query.specs.Clocks.{reading}
-use Rattle.tsp_query.specs.Ends.{Outside, Tells, Asks, WaitsSeconds}
+use Rattle.tsp_query.specs.Ends.{Outside, KnowsExactly, Asks, WaitsSeconds}
 use Rattle.tsp_query.specs.Faults.{LinkCounts}
 use Rattle.tsp_query.specs.Queries.{read_twice, trace_kind, message_with, question_of, stamp, diff_in, end_of, QueryEnds, master_in, heard_in, date_in}
 use Rattle.tsp_query.specs.declared.ask.AskEnd.{AskEnd}
@@ -40,7 +39,7 @@ unfolding body_fits carries_time carries_hops
 fits-trace true = refl
 fits-trace false = refl
 
-pub fits-date : (time : ℤ) → body_fits SetDate (Time time) ≡ true
+pub fits-date : (time : ℤ) → body_fits SetDate (TimeBody time) ≡ true
 unfolding body_fits carries_time
 fits-date time = refl
 
@@ -79,7 +78,7 @@ ends-date request q o arrivals tried calls readings last sends sends_now OutOfMe
 
 -- what is told once the tick counter was read twice
 pub tells-twice : (o : Outside) (arrivals : Option (List Arrival)) (tried : Option (List Tried)) (calls : Option ℕ) (readings now : Option (List ℕ)) (last sent : ℕ) (later : ℕ)
-    → Tells o arrivals tried calls readings last → sent ≡ reading last o.readings 1 → now ≡ Some (rest_of (rest_of o.readings)) → later ≡ sent → Tells (read_twice o) arrivals tried calls now later
+    → KnowsExactly o arrivals tried calls readings last → sent ≡ reading last o.readings 1 → now ≡ Some (rest_of (rest_of o.readings)) → later ≡ sent → KnowsExactly (read_twice o) arrivals tried calls now later
 tells-twice o arrivals tried calls readings now last sent later t s r l = record {
   arrivals_are = t.arrivals_are;
   tried_are = t.tried_are;

@@ -1,7 +1,7 @@
 -- Laws of the sample of a daemon's clock.
 use Rattle.std.proofs.Common.{◌≡◌, ℕ, ◌≤◌, ◌-◌, ◌/◌, zero, suc, refl, ap, ◌∙◌, ℤ, pos, ◌-ℤ◌, ◌+ℤ◌, arith}
 use Rattle.std.proofs.lemmas.Int.{ints}
-use Rattle.tsp_base.specs.Samples.{half_down, half_up, sample_diff, sample_err}
+use Rattle.tsp_base.specs.Words.{half_down, half_up, sample_diff, sample_err}
 use Rattle.tsp_query.specs.Clocks.{own_clock}
 use Rattle.tsp_query.specs.declared.query.QueryEnd.TheVariants.{Diff}
 

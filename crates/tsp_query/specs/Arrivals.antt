@@ -1,7 +1,7 @@
 -- Which datagrams answer a question, and the first answer among the arrivals.
 use Rattle.std.specs.Prelude.{ℕ, Bool, true, false, ◌&&◌, ◌==◌, if◌then◌else◌, List, [], ◌∷◌, take, Option, Some, None, zero, suc, ◌+◌}
 use Rattle.tsp_base.specs.declared.datagram.Datagram.{Datagram}
-use Rattle.tsp_base.specs.declared.datagram.Datagram.TheVariants.{Message, Stamp as StampOf}
+use Rattle.tsp_base.specs.declared.datagram.Datagram.TheVariants.{Message, Stamp}
 use Rattle.tsp_base.specs.declared.datagram.Taken.{Taken}
 use Rattle.tsp_base.specs.declared.datagram.Taken.TheVariants.{Good, Bad}
 use Rattle.tsp_base.specs.declared.kind.Kind.{Kind}
@@ -29,12 +29,12 @@ is_date_answer _ = false
 -- with its word and counter 0
 abbrev pub answers : Question → Datagram → Bool
 answers (OfNumber number) (Message m) = is_ack m.kind && (m.number == number)
-answers (OfNumber number) (StampOf s) = false
+answers (OfNumber number) (Stamp s) = false
 answers (OfDate number) (Message m) = is_date_answer m.kind && (m.number == number)
-answers (OfDate number) (StampOf s) = false
+answers (OfDate number) (Stamp s) = false
 answers (OfWord word) (Message m) = false
-answers (OfWord word) (StampOf (Request w c)) = false
-answers (OfWord word) (StampOf (Reply r)) = (r.word == word) && (r.counter == 0)
+answers (OfWord word) (Stamp (Request w c)) = false
+answers (OfWord word) (Stamp (Reply r)) = (r.word == word) && (r.counter == 0)
 
 -- the datagram that was read, if it is an answer
 abbrev pub answer_of : Question → Taken → Option Datagram

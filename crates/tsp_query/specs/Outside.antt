@@ -6,7 +6,7 @@ use Rattle.tsp_io.specs.Streams.{Grows}
 use Rattle.tsp_io.specs.declared.link.Link.{Ghosts as LinkOf}
 use Rattle.tsp_io.specs.declared.sink.Sink.{Ghosts as SinkOf}
 use Rattle.tsp_io.specs.declared.ticker.Ticker.{Ghosts as TickerOf}
-use Rattle.tsp_query.specs.Ends.{Outside, Tells}
+use Rattle.tsp_query.specs.Ends.{Outside, KnowsExactly}
 
 -- what they hold, each part None if it isn't told
 pub record Observed : Type 0 where
@@ -41,7 +41,7 @@ observed sinks links tickers sink link ticker = record {
 -- all of it is told: of the link and the ticker this outside, this wall clock (microseconds since 1970), this word, and
 -- these octets written
 pub record Knows (o : Outside) (wall : ℤ) (word : ℕ) (written : List ℕ) (t : Observed) : Type 0 where
-  pub tells : Tells o t.arrivals t.tried t.calls t.readings t.last
+  pub tells : KnowsExactly o t.arrivals t.tried t.calls t.readings t.last
   pub wall_is : t.wall ≡ Some wall
   pub word_is : t.word ≡ Some word
   pub written_is : t.written ≡ Some written
@@ -56,5 +56,5 @@ IsCutShort text written now = (part : List ℕ) × (rest : List ℕ) × (0 < len
 
 -- a command was to write a text and then end as `meant`: it did so, or a write failed or it ran out of memory, and then
 -- only the beginning of the text was written
-abbrev pub Says : {E : Type 0} → List ℕ → E → E → E → Option (List ℕ) → Option (List ℕ) → E → Type 0
-Says text meant fault memory written now end = ((end ≡ meant) × Grows written now text) ⊎ (((end ≡ fault) ⊎ (end ≡ memory)) × IsCutShort text written now)
+abbrev pub WritesBeginning : {E : Type 0} → List ℕ → E → E → E → Option (List ℕ) → Option (List ℕ) → E → Type 0
+WritesBeginning text meant fault memory written now end = ((end ≡ meant) × Grows written now text) ⊎ (((end ≡ fault) ⊎ (end ≡ memory)) × IsCutShort text written now)

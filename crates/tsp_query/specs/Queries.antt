@@ -1,19 +1,19 @@
 -- The questions to a daemon, and how each ends.
 use Rattle.std.specs.Prelude.{◌≡◌, ℕ, ℤ, pos, ◌%◌, Bool, true, false, List, [], Option, Some, codes}
-use Rattle.tsp_base.specs.Samples.{sample_diff, sample_err}
+use Rattle.tsp_base.specs.Words.{sample_diff, sample_err}
 use Rattle.tsp_base.specs.declared.datagram.Datagram.{Datagram}
-use Rattle.tsp_base.specs.declared.datagram.Datagram.TheVariants.{Message, Stamp as StampOf}
+use Rattle.tsp_base.specs.declared.datagram.Datagram.TheVariants.{Message, Stamp}
 use Rattle.tsp_base.specs.declared.kind.Kind.{Kind}
 use Rattle.tsp_base.specs.declared.kind.Kind.TheVariants.{TraceOn, TraceOff, SetDate, DateAck}
 use Rattle.tsp_base.specs.declared.message.Body.{Body}
-use Rattle.tsp_base.specs.declared.message.Body.TheVariants.{Nothing, Time}
+use Rattle.tsp_base.specs.declared.message.Body.TheVariants.{Nothing, Time as TimeBody}
 use Rattle.tsp_base.specs.declared.stamp.Stamp.TheVariants.{Request, Reply}
 use Rattle.tsp_io.specs.Links.{Arrival, Tried}
 use Rattle.tsp_io.specs.declared.link.Link.{Ghosts as LinkOf}
 use Rattle.tsp_io.specs.declared.ticker.Ticker.{Ghosts as TickerOf}
 use Rattle.tsp_query.specs.Arrivals.{rest_of}
 use Rattle.tsp_query.specs.Clocks.{reading, own_clock}
-use Rattle.tsp_query.specs.Ends.{Outside, Tells, Asks}
+use Rattle.tsp_query.specs.Ends.{Outside, KnowsExactly, Asks}
 use Rattle.tsp_query.specs.Told.{HoldsOf}
 use Rattle.tsp_query.specs.declared.ask.AskEnd.{AskEnd}
 use Rattle.tsp_query.specs.declared.ask.AskEnd.TheVariants.{Answer, NoAnswer as Unanswered, LinkFault as Faulty, OutOfMemory as Refused}
@@ -41,7 +41,7 @@ message kind word = message_with kind Nothing word
 
 -- the message that sets the date to this time, in microseconds since 1970
 abbrev pub date_message : ℤ → ℕ → Datagram
-date_message time word = message_with SetDate (Time time) word
+date_message time word = message_with SetDate (TimeBody time) word
 
 -- what the answer to a message with this number must repeat; the flag is whether the message sets the date
 abbrev pub question_of : Bool → ℕ → Question
@@ -50,7 +50,7 @@ question_of false number = OfNumber number
 
 -- the stamp request that asks, with counter 0
 abbrev pub stamp : ℕ → Datagram
-stamp word = StampOf (Request word 0)
+stamp word = Stamp (Request word 0)
 
 -- the end of a question, if its answer is read by this function
 abbrev pub end_of : (Datagram → ℕ → QueryEnd) → AskEnd → QueryEnd
@@ -77,13 +77,13 @@ by_date word = OfDate (word % 65536)
 -- the outside and the word are told
 abbrev pub EndsByWord : {L T : Type 0} → LinkOf L → TickerOf T → (ℕ → Datagram) → (ℕ → Question) → (Datagram → ℕ → QueryEnd) → L → T → L → T → QueryEnd → Type 0
 EndsByWord links tickers request question answer link ticker link_now ticker_now end =
-    (o : Outside) (word : ℕ) → HoldsOf links tickers (Tells o) link ticker → tickers.word_is ticker ≡ Some word
+    (o : Outside) (word : ℕ) → HoldsOf links tickers (KnowsExactly o) link ticker → tickers.word_is ticker ≡ Some word
     → HoldsOf links tickers (QueryEnds (request word) (question word) answer o) link_now ticker_now (links.send_faults link) (links.send_faults link_now) end
 
 -- the name in an answer
 abbrev pub name_in : Datagram → List ℕ
 name_in (Message m) = m.name
-name_in (StampOf s) = []
+name_in (Stamp s) = []
 
 -- the answer to who is master: the name in it
 abbrev pub master_in : Datagram → ℕ → QueryEnd
@@ -101,7 +101,7 @@ is_date_ack _ = false
 -- whether a datagram says that the date was set: a DATEACK does; an ACK says that it is passed on
 abbrev pub says_set : Datagram → Bool
 says_set (Message m) = is_date_ack m.kind
-says_set (StampOf s) = false
+says_set (Stamp s) = false
 
 -- the answer to a date: whether it was set, or is passed on
 abbrev pub date_in : Datagram → ℕ → QueryEnd
@@ -109,14 +109,14 @@ date_in d tick = Date (says_set d)
 
 -- the datagram is a stamp reply
 abbrev pub IsReplied : Datagram → Type 0
-IsReplied (StampOf (Reply r)) = Unit {0}
-IsReplied (StampOf (Request w c)) = ⊥
+IsReplied (Stamp (Reply r)) = Unit {0}
+IsReplied (Stamp (Request w c)) = ⊥
 IsReplied (Message m) = ⊥
 
 -- the reading of a reply: the daemon's clock, in microseconds since 1970
 abbrev pub reading_in : Datagram → ℤ
-reading_in (StampOf (Reply r)) = r.reading
-reading_in (StampOf (Request w c)) = pos 0
+reading_in (Stamp (Reply r)) = r.reading
+reading_in (Stamp (Request w c)) = pos 0
 reading_in (Message m) = pos 0
 
 -- the answer to how far the daemon's clock is ahead, and by how much that may be wrong: the sample of a request that

@@ -2,9 +2,9 @@
 //! receives.
 ghost use Rattle.std.specs.Prelude.{◌≡◌, ◌≢◌, None, true, IfSome, if◌then◌else◌};
 ghost use Rattle.tsp_codec.specs.Taken.{taken_of};
-ghost use Rattle.tsp_io.specs.Links.{Notes};
+ghost use Rattle.tsp_io.specs.Links.{NotesReceive};
 ghost use Rattle.tsp_query.specs.Arrivals.{answers, answer_of, is_daemon};
-ghost use Rattle.tsp_query.specs.Ends.{Outside, Tells, Hears, HearsWell, Listens, WaitsSeconds};
+ghost use Rattle.tsp_query.specs.Ends.{Outside, KnowsExactly, Hears, HearsWell, Listens, WaitsSeconds};
 ghost use Rattle.tsp_query.specs.Ends.{Asks, AsksWell};
 ghost use Rattle.tsp_query.specs.Faults.{Counts, LinkCounts};
 ghost use Rattle.tsp_query.specs.Told.{HoldsOf, KeepsOn};
@@ -48,9 +48,9 @@ pub(crate) enum Heard {
 
 /// Waits a second at most for a datagram, and reads the tick right after the wait.
 fn hear<L: Link, T: Ticker>(link: &mut L, ticker: &mut T, question: Question) -> Heard
-    ensures hears { (o : Outside) → HoldsOf L.Link T.Ticker (Tells o) link.old ticker.old
+    ensures hears { (o : Outside) → HoldsOf L.Link T.Ticker (KnowsExactly o) link.old ticker.old
         → HoldsOf L.Link T.Ticker (Hears question o) link.new ticker.new result }
-    ensures waits { Notes (L.waits link.old) (L.waits link.new) 1000000 }
+    ensures waits { NotesReceive (L.waits link.old) (L.waits link.new) 1000000 }
     ensures keeps { KeepsOn L.Link T.Ticker link.old ticker.old link.new ticker.new }
     ensures well { HearsWell question (T.last ticker.old) result }
     ensures faults { Counts (L.faults link.old) (L.faults link.new) (result ≡ Heard.Failed) }
@@ -88,7 +88,7 @@ fn answer_from(question: Question, from: Place, octets: &[u8]) -> Option<Datagra
 
 /// Receives at most eight times, until an answer comes or a receive fails.
 fn listen<L: Link, T: Ticker>(link: &mut L, ticker: &mut T, question: Question) -> AskEnd
-    ensures listens { (o : Outside) → HoldsOf L.Link T.Ticker (Tells o) link.old ticker.old
+    ensures listens { (o : Outside) → HoldsOf L.Link T.Ticker (KnowsExactly o) link.old ticker.old
         → HoldsOf L.Link T.Ticker (Listens question o) link.new ticker.new result }
     ensures waits { WaitsSeconds (L.waits link.old) (L.waits link.new) }
     ensures keeps { KeepsOn L.Link T.Ticker link.old ticker.old link.new ticker.new }
@@ -115,7 +115,7 @@ pub(crate) fn ask<L: Link, T: Ticker>(
     request: &Datagram,
     question: Question,
 ) -> AskEnd
-    ensures asks { (o : Outside) → HoldsOf L.Link T.Ticker (Tells o) link.old ticker.old
+    ensures asks { (o : Outside) → HoldsOf L.Link T.Ticker (KnowsExactly o) link.old ticker.old
         → HoldsOf L.Link T.Ticker (Asks request.now question o) link.new ticker.new
         (L.send_faults link.old) (L.send_faults link.new) result }
     ensures waits { WaitsSeconds (L.waits link.old) (L.waits link.new) }

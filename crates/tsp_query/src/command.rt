@@ -1,7 +1,7 @@
 //! A question as a command.
 ghost use Rattle.std.specs.Prelude.{◌≡◌, ◌≤◌, ℕ, ℤ, Some};
-ghost use Rattle.tsp_query.specs.Ends.{Outside, Tells};
-ghost use Rattle.tsp_query.specs.Outside.{observed, Says};
+ghost use Rattle.tsp_query.specs.Ends.{Outside, KnowsExactly};
+ghost use Rattle.tsp_query.specs.Outside.{observed, WritesBeginning};
 ghost use Rattle.tsp_query.specs.Asks.{asking_of, QueryComes, AsksIfTold};
 ghost use Rattle.tsp_query.specs.Faults.{Counts, LinkCounts};
 ghost use Rattle.tsp_query.specs.Lines.{end_line};
@@ -26,7 +26,7 @@ const ANYWHERE: Addr = Addr {
 /// Asks the question, over a link that is bound to the daemon.
 fn ask_bound<L: Link, T: Ticker>(query: &Query, link: &mut L, ticker: &mut T) -> QueryEnd
     ensures comes { (o : Outside) (wall : ℤ) (word : ℕ)
-        → HoldsOf L.Link T.Ticker (Tells o) link.old ticker.old → T.wall_is ticker.old ≡ Some wall
+        → HoldsOf L.Link T.Ticker (KnowsExactly o) link.old ticker.old → T.wall_is ticker.old ≡ Some wall
         → T.word_is ticker.old ≡ Some word
         → HoldsOf L.Link T.Ticker (QueryComes query.now wall word o) link.new ticker.new
         (L.send_faults link.old) (L.send_faults link.new) result }
@@ -44,7 +44,7 @@ fn ask_bound<L: Link, T: Ticker>(query: &Query, link: &mut L, ticker: &mut T) ->
 
 /// Writes the line that says how a question ended.
 fn tell<K: Sink>(query: &Query, end: &QueryEnd, sink: &mut K) -> QueryExit
-    ensures says { Says (end_line query.now end.now) (asking_of end.now) QueryExit.WriteFault
+    ensures says { WritesBeginning (end_line query.now end.now) (asking_of end.now) QueryExit.WriteFault
         QueryExit.OutOfMemory (K.written sink.old) (K.written sink.new) result }
     ensures write { Counts (K.faults sink.old) (K.faults sink.new)
         (result ≡ QueryExit.WriteFault) }

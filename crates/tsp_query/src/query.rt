@@ -7,7 +7,7 @@ ghost use Rattle.tsp_base.specs.declared.message.Body.{Body};
 ghost use Rattle.tsp_io.specs.Clocks.{IsWall};
 ghost use Rattle.tsp_query.specs.Arrivals.{rest_of};
 ghost use Rattle.tsp_query.specs.Clocks.{reading};
-ghost use Rattle.tsp_query.specs.Ends.{Outside, Tells, Asks};
+ghost use Rattle.tsp_query.specs.Ends.{Outside, KnowsExactly, Asks};
 ghost use Rattle.tsp_query.specs.Faults.{LinkCounts};
 ghost use Rattle.tsp_query.specs.Queries.{read_twice, message, message_with, date_message};
 ghost use Rattle.tsp_query.specs.Queries.{question_of, stamp, QueryEnds, end_of, trace_kind};
@@ -120,7 +120,7 @@ fn ask_by_message<L: Link, T: Ticker>(
 ) -> AskEnd
     requires { body_fits kind body ≡ true }
     ensures asks { (o : Outside) (word : ℕ)
-        → HoldsOf L.Link T.Ticker (Tells o) link.old ticker.old → T.word_is ticker.old ≡ Some word
+        → HoldsOf L.Link T.Ticker (KnowsExactly o) link.old ticker.old → T.word_is ticker.old ≡ Some word
         → HoldsOf L.Link T.Ticker (Asks (message_with kind body word)
         (question_of dates (word % 65536)) (read_twice o)) link.new ticker.new
         (L.send_faults link.old) (L.send_faults link.new) result }
@@ -261,7 +261,7 @@ fn sample(start: &Start, reply: &Datagram, came: u64) -> QueryEnd
 /// Asks how far the daemon's clock is ahead of this machine's, by a stamp request with counter 0.
 pub fn clockdiff<L: Link, T: Ticker>(link: &mut L, ticker: &mut T) -> QueryEnd
     ensures asks { (o : Outside) (word : ℕ) (wall : ℤ)
-        → HoldsOf L.Link T.Ticker (Tells o) link.old ticker.old → T.word_is ticker.old ≡ Some word
+        → HoldsOf L.Link T.Ticker (KnowsExactly o) link.old ticker.old → T.word_is ticker.old ≡ Some word
         → T.wall_is ticker.old ≡ Some wall
         → HoldsOf L.Link T.Ticker (QueryEnds (stamp word) (Question.OfWord word)
         (diff_in wall (reading o.last o.readings 0) (reading o.last o.readings 1)) o) link.new

@@ -2,7 +2,7 @@
 use Rattle.std.proofs.Common.{◌≡◌, ℕ, ◌≤◌, inl, inr, List, [], ◌∷◌, ◌++◌, sym, ap, ◌∙◌, subst, length, append-nil}
 use Rattle.std.specs.Prelude.{reverse, ◌==◌, Bool, true, false, if◌then◌else◌, refl}
 use Rattle.tsp_base.specs.declared.event.Event.{Event}
-use Rattle.tsp_base.specs.Headers.{HeaderValue}
+use Rattle.tsp_base.specs.Words.{HeaderValue}
 use Rattle.tsp_schedule.proofs.Definites.{Lacks-not_ended, Lacks-one, Refuses-one, Refuses-within}
 use Rattle.tsp_schedule.proofs.OneReading.{Reaches-one, GoesOn-not_refused, GoesOn-not_limited}
 use Rattle.tsp_schedule.specs.Schedules.{Progress, Untitled, Titled, Drifted, Heading, Running, Ended, Lacks, IsEnded, new_header}

@@ -2,7 +2,7 @@
 use Rattle.std.proofs.Common.{◌≡◌, ℕ, List}
 use Rattle.std.specs.Prelude.{reverse}
 use Rattle.tsp_base.specs.declared.event.Event.{Event}
-use Rattle.tsp_base.specs.Headers.{HeaderValue}
+use Rattle.tsp_base.specs.Words.{HeaderValue}
 use Rattle.tsp_schedule.proofs.OneReading.{Reaches-one}
 use Rattle.tsp_schedule.specs.Schedules.{Ended}
 use Rattle.tsp_lines.proofs.OneCut.{AreLines-one}

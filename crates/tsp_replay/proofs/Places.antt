@@ -1,7 +1,7 @@
 -- The places of a schedule whose events meet a world.
 use Rattle.std.specs.Prelude.{ℕ, List}
 use Rattle.tsp_base.specs.declared.event.Event.{Event}
-use Rattle.tsp_base.specs.Headers.{HeaderValue}
+use Rattle.tsp_base.specs.Words.{HeaderValue}
 use Rattle.tsp_schedule.specs.declared.stage.Stage.{Stage}
 use Rattle.tsp_schedule.specs.Schedules.{Progress, RunsOn as RunsOnBy, GoesOn as GoesOnBy}
 use Rattle.tsp_schedule.specs.Stages.{Advances as AdvancesBy, Halts as HaltsBy, StageStands as StageStandsBy}

@@ -2,7 +2,7 @@
 use Rattle.std.proofs.Common.{ℕ, List}
 use Rattle.std.specs.Prelude.{reverse}
 use Rattle.tsp_base.specs.declared.event.Event.{Event}
-use Rattle.tsp_base.specs.Headers.{HeaderValue, IsHeader}
+use Rattle.tsp_base.specs.Words.{HeaderValue, IsHeader}
 use Rattle.tsp_schedule.proofs.ReadHeaders.{Reaches-header}
 use Rattle.tsp_schedule.specs.Schedules.{Ended}
 use Rattle.tsp_replay.specs.Meaning.{IsSchedule}

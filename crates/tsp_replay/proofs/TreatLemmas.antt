@@ -12,7 +12,7 @@ use Rattle.tsp_schedule.specs.Schedules.{Progress}
 use Rattle.tsp_replay.specs.Schedules.{Reaches}
 use Rattle.tsp_replay.specs.declared.replayed.Replayed.{Replayed}
 use Rattle.tsp_replay.proofs.Places.{StageStands, Advances, Halts}
-use Rattle.tsp_replay.specs.Stages.{Stands, told_at, Untold}
+use Rattle.tsp_replay.specs.Stages.{ReplayStands, told_at, HandsBeginning}
 use Rattle.tsp_replay.specs.Traces.{lines_text, written_at}
 use Rattle.tsp_replay.proofs.TraceLemmas.{reverse-more, written_at-more}
 
@@ -23,14 +23,14 @@ accepted lines text line p next reaches text_is a = (
   ap (λ t. t ++ lines_text (told_at next)) text_is ∙ sym (written_at-more p line a.to next a.goes a.stands_for),
 )
 
-stands_more : (lines : List (List ℕ)) (line : List ℕ) (next : Stage Replayed) → ((q : Progress) → Reaches (reverse lines) q → Advances q line next) → Stands next (lines ++ line ∷ [])
+stands_more : (lines : List (List ℕ)) (line : List ℕ) (next : Stage Replayed) → ((q : Progress) → Reaches (reverse lines) q → Advances q line next) → ReplayStands next (lines ++ line ∷ [])
 stands_more lines line next advances r reaches = one (subst (λ ls. Reaches ls r) (reverse-more lines line) reaches) where
   one : Reaches (line ∷ reverse lines) r → StageStands r next
   one h = let a = advances h.0 h.1 in subst (λ q. StageStands q next) (sym (a.only r h.2)) a.stands_for
 
 -- an accepted line whose output was handed over
 pub Goes-advances : (lines : List (List ℕ)) (text line : List ℕ) (p : Progress) (next : Stage Replayed) (written now : Option (List ℕ)) (held keeps : List ℕ) → Reaches (reverse lines) p → text ≡ written_at p →
-    ((q : Progress) → Reaches (reverse lines) q → Advances q line next) → Hands written held now keeps (lines_text (told_at next)) → Goes replaying (Stands next) lines text line written held now keeps
+    ((q : Progress) → Reaches (reverse lines) q → Advances q line next) → Hands written held now keeps (lines_text (told_at next)) → Goes replaying (ReplayStands next) lines text line written held now keeps
 Goes-advances lines text line p next written now held keeps reaches text_is advances hands = (
   lines_text (told_at next),
   hands,
@@ -40,7 +40,7 @@ Goes-advances lines text line p next written now held keeps reaches text_is adva
 
 -- an accepted line whose output was not handed over whole
 pub StopsAt-untold : (lines : List (List ℕ)) (text line : List ℕ) (p : Progress) (next : Stage Replayed) (written now : Option (List ℕ)) (held keeps : List ℕ) (stop : Stop) → Reaches (reverse lines) p → text ≡ written_at p →
-    Advances p line next → Untold (lines_text (told_at next)) written held now keeps stop → StopsAt replaying lines text line written held now keeps stop
+    Advances p line next → HandsBeginning (lines_text (told_at next)) written held now keeps stop → StopsAt replaying lines text line written held now keeps stop
 StopsAt-untold lines text line p next written now held keeps (Bad cause) reaches text_is a h = absurd h
 StopsAt-untold lines text line p next written now held keeps Limit reaches text_is a h = absurd h
 StopsAt-untold lines text line p next written now held keeps WriteFault reaches text_is a h =

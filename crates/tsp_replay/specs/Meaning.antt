@@ -1,7 +1,7 @@
 -- What lines mean to the replay of a schedule.
 use Rattle.std.specs.Prelude.{◌≡◌, ℕ, List, [], reverse, All}
 use Rattle.tsp_base.specs.declared.event.Event.{Event}
-use Rattle.tsp_base.specs.Headers.{HeaderValue}
+use Rattle.tsp_base.specs.Words.{HeaderValue}
 use Rattle.tsp_lines.specs.Lines.{NoFeed, AreLines}
 use Rattle.tsp_lines.specs.Meanings.{Meaning}
 use Rattle.tsp_schedule.specs.Schedules.{Progress, Ended, Lacks, IsEnded}

@@ -2,7 +2,7 @@
 use Rattle.std.specs.Prelude.{ℕ, List, Option}
 use Rattle.tsp_base.specs.declared.event.Event.{Event}
 use Rattle.tsp_base.specs.declared.event.EventFault.{EventFault}
-use Rattle.tsp_base.specs.Headers.{HeaderValue}
+use Rattle.tsp_base.specs.Words.{HeaderValue}
 use Rattle.tsp_schedule.specs.Schedules.{Progress, Reaches as ReachesBy, Refuses as RefusesBy, Limits as LimitsBy}
 use Rattle.tsp_run.specs.Refusals.{scene, refusal}
 

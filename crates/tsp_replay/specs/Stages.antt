@@ -1,11 +1,11 @@
 -- What a stage of the replay stands for, and the lines that it gives.
 use Rattle.std.specs.Prelude.{◌≡◌, ℕ, if◌then◌else◌, List, [], ◌++◌, Option}
 use Rattle.tsp_base.specs.declared.event.Event.{Event}
-use Rattle.tsp_base.specs.Headers.{HeaderValue}
+use Rattle.tsp_base.specs.Words.{HeaderValue}
 use Rattle.tsp_schedule.specs.declared.run.Run.{Run}
 use Rattle.tsp_schedule.specs.declared.stage.Stage.{Stage}
 use Rattle.tsp_schedule.specs.declared.stage.Stage.TheVariants.{Untitled as AtUntitled, Titled as AtTitled, Drifted as AtDrifted, Heading as AtHeading, Running as AtRunning}
-use Rattle.tsp_schedule.specs.Stages.{Stands as StandsBy}
+use Rattle.tsp_schedule.specs.Stages.{StageHolds as StandsBy}
 use Rattle.tsp_lines.specs.Outputs.{Hands}
 use Rattle.tsp_lines.specs.declared.treatment.Stop.{Stop}
 use Rattle.tsp_lines.specs.declared.treatment.Stop.TheVariants.{Bad, Limit, WriteFault, OutOfMemory}
@@ -19,8 +19,8 @@ abbrev pub stands : HeaderValue → List Event → Replayed → Type 0
 stands header events replayed = WorldStands header events replayed.world
 
 -- the stage stands for these lines, however they are read
-abbrev pub Stands : Stage Replayed → List (List ℕ) → Type 0
-Stands stage lines = StandsBy refused stands stage lines
+abbrev pub ReplayStands : Stage Replayed → List (List ℕ) → Type 0
+ReplayStands stage lines = StandsBy refused stands stage lines
 
 -- the lines of the last event's acts; none where the last line was read
 abbrev pub told_by : Run Replayed → List Line
@@ -34,8 +34,8 @@ told_at (AtHeading header) = []
 told_at (AtRunning run) = told_by run
 
 -- only the beginning of an output was handed over
-abbrev pub Untold : List ℕ → Option (List ℕ) → List ℕ → Option (List ℕ) → List ℕ → Stop → Type 0
-Untold all written held now keeps (Bad cause) = ⊥
-Untold all written held now keeps Limit = ⊥
-Untold all written held now keeps WriteFault = (part : List ℕ) × (rest : List ℕ) × (all ≡ part ++ rest) × Hands written held now keeps part
-Untold all written held now keeps OutOfMemory = (part : List ℕ) × (rest : List ℕ) × (all ≡ part ++ rest) × Hands written held now keeps part
+abbrev pub HandsBeginning : List ℕ → Option (List ℕ) → List ℕ → Option (List ℕ) → List ℕ → Stop → Type 0
+HandsBeginning all written held now keeps (Bad cause) = ⊥
+HandsBeginning all written held now keeps Limit = ⊥
+HandsBeginning all written held now keeps WriteFault = (part : List ℕ) × (rest : List ℕ) × (all ≡ part ++ rest) × Hands written held now keeps part
+HandsBeginning all written held now keeps OutOfMemory = (part : List ℕ) × (rest : List ℕ) × (all ≡ part ++ rest) × Hands written held now keeps part

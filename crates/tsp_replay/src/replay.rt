@@ -35,11 +35,11 @@ impl Replay {
 
 impl Treatment for Replay {
     ghost use Rattle.tsp_replay.specs.Meaning.{replaying};
-    ghost use Rattle.tsp_replay.specs.Stages.{Stands};
+    ghost use Rattle.tsp_replay.specs.Stages.{ReplayStands};
 
     ghost meaning = { replaying };
 
-    ghost stands = { λ r lines. Stands r.stage lines };
+    ghost stands = { λ r lines. ReplayStands r.stage lines };
 
     fn is_full(&self) -> bool {
         false

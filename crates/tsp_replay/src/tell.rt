@@ -2,7 +2,7 @@
 ghost use Rattle.std.specs.Prelude.{◌≡◌, ◌≢◌, ◌≤◌, ◌<◌, ◌++◌, ℕ, List, [], length, OnOk, OnErr, MatchResult};
 ghost use Rattle.tsp_io.specs.Counts.{Rose};
 ghost use Rattle.tsp_lines.specs.Outputs.{Hands};
-ghost use Rattle.tsp_replay.specs.Stages.{told_at, told_by, Untold};
+ghost use Rattle.tsp_replay.specs.Stages.{told_at, told_by, HandsBeginning};
 ghost use Rattle.tsp_replay.specs.Traces.{lines_text, number_in};
 
 use crate::replayed::Replayed;
@@ -44,7 +44,7 @@ pub(crate) fn tell_stage<K: Sink>(
 ) -> Result<(), Stop>
     ensures tells { MatchResult result (λ _. Hands (K.written sink.old) output.old
         (K.written sink.new) output.new (lines_text (told_at stage.now)))
-        (Untold (lines_text (told_at stage.now)) (K.written sink.old) output.old
+        (HandsBeginning (lines_text (told_at stage.now)) (K.written sink.old) output.old
         (K.written sink.new) output.new) }
     ensures later { K.faults sink.old ≤ K.faults sink.new }
     ensures cause { result ≡ Err Stop.WriteFault → Rose (K.faults sink.old) (K.faults sink.new)

@@ -5,8 +5,8 @@ use Rattle.std.specs.List.Sorted.{IsBinarySearchResult, IsSearchInRange}
 use Rattle.std.specs.Ordering.{nat_cmp}
 use Rattle.std.proofs.Common.{◌∙◌, ap, sym, arith, eq-eqb, get_or}
 use Rattle.std.proofs.lemmas.Bool.{false≢true, ne_eqb}
-use Rattle.tsp_base.specs.declared.place.PeerId.{PeerId}
-use Rattle.tsp_base.specs.Peers.{is_among, IsPeers}
+use Rattle.tsp_rules.specs.Values.{PeerId}
+use Rattle.tsp_base.specs.Words.{is_among, IsPeers}
 use Rattle.tsp_base.proofs.AscendingLemmas.{Rise, Rise-rest, equal_means}
 use Rattle.tsp_acks.proofs.PeerLemmas.{among-Contains, is_among-searched}
 use Rattle.tsp_resolve.specs.Marked.{marked}

@@ -3,28 +3,15 @@ use Rattle.std.specs.Prelude.{◌≡◌, ◌≢◌, ℕ, ◌==◌, ◌||◌, ◌
 use Rattle.std.proofs.Common.{◌∙◌, ap, sym, subst, eqb-true}
 use Rattle.std.proofs.lemmas.Bool.{false≢true, or_parts, not-false}
 use Rattle.std.proofs.lemmas.List.Elements.{filter_agree}
-use Rattle.tsp_base.specs.declared.act.Act.{Act}
-use Rattle.tsp_base.specs.declared.act.Act.TheVariants.{Boot, Become, Ring, Rival}
-use Rattle.tsp_base.specs.declared.act.Placed.{Placed}
-use Rattle.tsp_base.specs.declared.alarm.Alarm.{Alarm}
-use Rattle.tsp_base.specs.declared.alarm.Alarm.TheVariants.{Resolve as ResolveAlarm}
-use Rattle.tsp_base.specs.declared.place.PeerId.{PeerId}
-use Rattle.tsp_base.specs.declared.place.Port.{Port}
-use Rattle.tsp_base.specs.declared.role.Role.{Role}
-use Rattle.tsp_base.specs.declared.role.Role.TheVariants.{Master}
-use Rattle.tsp_base.specs.Alarms.{deadline}
-use Rattle.tsp_base.specs.History.{Step, Acts, Seen, Here, Past}
-use Rattle.tsp_base.specs.Peers.{is_among, IsPeers}
-use Rattle.tsp_base.specs.Performs.{Performs, Keeps}
-use Rattle.tsp_base.specs.PortFacts.{is_rival, is_rival_after, role, role_after}
-use Rattle.tsp_base.specs.Rows.{Row, added, grown, nothing, puts}
+use Rattle.tsp_rules.specs.Values.{Act, Boot, Become, Ring, Rival, Placed, Alarm, ResolveAlarm, PeerId, Port, Role, Master}
+use Rattle.tsp_base.specs.Words.{deadline, Step, Acts, Seen, Here, Past, is_among, IsPeers, Performs, Keeps, is_rival, is_rival_after, role, role_after, Row, added, grown, nothing, puts}
 use Rattle.tsp_base.proofs.PerformsLemmas.{Performs_else_part, Performs_nothing, Performs_then_part, Performs_to}
 use Rattle.tsp_rules.specs.ResolveRows.{finds_rival, is_new_rival}
 use Rattle.tsp_rules.specs.Guards.{rivals_at}
 use Rattle.tsp_rules.proofs.Emits.{Sort, Taking, Asking, Correcting, Numbering, Posting, Leading, Following, Changing, Backing, Counting, Rounding, Alarming, Tabling, Acking, Giving, Sampling, Closing, Moving, Tracing, AllOf, Emits, Keeps_by, is_in, sort_of}
 use Rattle.tsp_rules.proofs.EmitsTables.{changes, is_change}
 use Rattle.tsp_acks.specs.declared.station.Station.{Station}
-use Rattle.tsp_acks.specs.Stands.{Stands, StandsActing}
+use Rattle.tsp_acks.specs.Stands.{StationStands, StandsActing}
 use Rattle.tsp_acks.proofs.StandsLemmas.{Stands_idle}
 use Rattle.tsp_resolve.specs.declared.resolve.Resolve.{Resolve}
 use Rattle.tsp_resolve.specs.Marked.{marked}
@@ -118,7 +105,7 @@ ResolveStands_same x past acts r e c h =
     }
 
 -- a call on the station that leaves the marks right
-pub Performs_resolving : {row : Row} {x : ℕ} {port : Port} {before after : Station} (r : Resolve) {old new : List Placed} → Emits unchanging row → Performs Stands Stands row x port before after old new →
+pub Performs_resolving : {row : Row} {x : ℕ} {port : Port} {before after : Station} (r : Resolve) {old new : List Placed} → Emits unchanging row → Performs StationStands StationStands row x port before after old new →
     Performs ResolvingStands ResolvingStands row x port (record { resolve = r; station = before }) (record { resolve = r; station = after }) old new
 Performs_resolving {row = row} {x = x} r e d = record {
   acts = λ past h. d.acts past h.station;
@@ -138,7 +125,7 @@ Performs_resolving_acting {row = row} {x = x} {before = before} r e d = record {
   acting_at past h = record { stands = h.station; acted = h.acted }
 
 -- an alarm rings, and the step has acted
-pub Performs_rung : (alarm : Alarm) {x : ℕ} {port : Port} {before after : Station} (r : Resolve) {old new : List Placed} → Emits unchanging (puts (Ring alarm)) → Performs Stands Stands (puts (Ring alarm)) x port before after old new →
+pub Performs_rung : (alarm : Alarm) {x : ℕ} {port : Port} {before after : Station} (r : Resolve) {old new : List Placed} → Emits unchanging (puts (Ring alarm)) → Performs StationStands StationStands (puts (Ring alarm)) x port before after old new →
     Performs ResolvingStands ResolvingActs (puts (Ring alarm)) x port (record { resolve = r; station = before }) (record { resolve = r; station = after }) old new
 unfolding puts
 Performs_rung alarm {x = x} r e d = record {
@@ -172,7 +159,7 @@ ResolveStands_again p past old new m was found h = record { many = m ∙ h.many;
   by_test q true e = sym was ∙ ap (λ n. is_among (record { 0 = n }) (marked past.peers old.marks)) (eqb-true p.0 q.0 e)
   by_test q false e = refl
 
-is_new-is : (p : PeerId) (x : ℕ) (past : Past) (r : Resolve) (station : Station) (peers : List PeerId) → peers ≡ past.peers → Stands past station → ResolveStands past r →
+is_new-is : (p : PeerId) (x : ℕ) (past : Past) (r : Resolve) (station : Station) (peers : List PeerId) → peers ≡ past.peers → StationStands past station → ResolveStands past r →
     is_new_rival p x past ≡ (is_some (deadline station.alarms ResolveAlarm) && not (is_among p (marked peers r.marks)))
 is_new-is p x past r station peers same s h =
     ap (λ a. is_some (deadline a ResolveAlarm) && not (is_rival p past.seen)) (sym s.alarms) ∙ ap (λ b. is_some (deadline station.alarms ResolveAlarm) && not b) (sym (h.rivals p))

@@ -1,6 +1,6 @@
 -- Marks of a port's peers.
 use Rattle.std.specs.Prelude.{Bool, if◌then◌else◌, List, [], ◌∷◌}
-use Rattle.tsp_base.specs.declared.place.PeerId.{PeerId}
+use Rattle.tsp_rules.specs.Values.{PeerId}
 
 -- the peers whose mark is set; the marks are in the order of the peers
 abbrev pub marked : List PeerId → List Bool → List PeerId

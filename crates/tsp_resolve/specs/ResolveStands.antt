@@ -1,12 +1,9 @@
 -- Which pasts a port's marks of rivals stand for.
 use Rattle.std.specs.Prelude.{◌≡◌, ◌≢◌, true, false, length}
-use Rattle.tsp_base.specs.declared.place.PeerId.{PeerId}
-use Rattle.tsp_base.specs.declared.role.Role.TheVariants.{Master}
-use Rattle.tsp_base.specs.History.{Past}
-use Rattle.tsp_base.specs.Peers.{is_among}
-use Rattle.tsp_base.specs.PortFacts.{acting, is_rival, role}
+use Rattle.tsp_rules.specs.Values.{PeerId, Master}
+use Rattle.tsp_base.specs.Words.{Past, is_among, acting, is_rival, role}
 use Rattle.tsp_acks.specs.declared.station.Station.{Station}
-use Rattle.tsp_acks.specs.Stands.{Stands}
+use Rattle.tsp_acks.specs.Stands.{StationStands}
 use Rattle.tsp_resolve.specs.declared.resolve.Resolve.{Resolve}
 use Rattle.tsp_resolve.specs.Marked.{marked}
 
@@ -28,10 +25,10 @@ resolving resolve station = record { resolve = resolve; station = station }
 -- both are what the past comes to
 pub record ResolvingStands (past : Past) (state : ResolvingState) : Type 0 where
   pub resolve : ResolveStands past state.resolve
-  pub station : Stands past state.station
+  pub station : StationStands past state.station
 
 -- the same in a step in which an alarm was handled or a datagram taken
 pub record ResolvingActs (past : Past) (state : ResolvingState) : Type 0 where
   pub resolve : ResolveStands past state.resolve
-  pub station : Stands past state.station
+  pub station : StationStands past state.station
   pub acted : acting past.seen ≡ true

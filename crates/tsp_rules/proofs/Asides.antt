@@ -1,10 +1,8 @@
 -- A port's past after acts of its node on another port.
 use Rattle.std.specs.Prelude.{◌≡◌, ℕ, ◌==◌, false, List, ◌∷◌}
 use Rattle.std.proofs.Common.{ap}
-use Rattle.tsp_base.specs.declared.act.Act.{Act}
-use Rattle.tsp_base.specs.declared.place.Port.{Port}
-use Rattle.tsp_base.specs.History.{Did, Acts, Elsewhere, Past}
-use Rattle.tsp_base.specs.Rows.{placed}
+use Rattle.tsp_rules.specs.Values.{Act, Port}
+use Rattle.tsp_base.specs.Words.{Did, Acts, Elsewhere, Past, placed}
 use Rattle.tsp_rules.specs.NodeRows.{NodePast, on_port, spread}
 use Rattle.tsp_rules.proofs.NodeRowLemmas.{passed, Bootless, view_other}
 

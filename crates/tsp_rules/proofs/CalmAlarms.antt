@@ -1,17 +1,8 @@
 -- How many acts the alarms put.
 use Rattle.std.specs.Prelude.{◌≡◌, ◌≤◌, ℕ, suc, ◌+◌, ◌*◌, ℤ, Bool, true, false, if◌then◌else◌, List, [], ◌∷◌, ◌++◌, length, map, refl}
 use Rattle.std.proofs.Common.{sym, subst, ap, arith, length-append}
-use Rattle.tsp_base.specs.declared.act.Act.TheVariants.{Become, Ring, Late, Abandon}
-use Rattle.tsp_base.specs.declared.alarm.Alarm.{Alarm}
-use Rattle.tsp_base.specs.declared.alarm.Alarm.TheVariants.{Quiet as QuietAlarm, Search, Elect, Window, Probe, Close, Resolve as ResolveAlarm, Round}
-use Rattle.tsp_base.specs.declared.constants.TheConstants.{ROUND, PROBE, CLOSE, SPAN, WAIT}
-use Rattle.tsp_base.specs.declared.kind.Kind.TheVariants.{MasterUp, Quit as QuitKind}
-use Rattle.tsp_base.specs.declared.place.PeerId.{PeerId}
-use Rattle.tsp_base.specs.declared.role.Role.TheVariants.{Loose, Master}
-use Rattle.tsp_base.specs.History.{Past}
-use Rattle.tsp_base.specs.PortFacts.{in_table, is_rival}
-use Rattle.tsp_base.specs.RoundFacts.{is_measured}
-use Rattle.tsp_base.specs.Rows.{grown, nothing, puts, ◌followed_by◌, either_by, reading, for_each, arms, posts_to_others}
+use Rattle.tsp_rules.specs.Values.{Become, Ring, Late, Abandon, Alarm, Quiet, Window, Elect, Search, Round, Probe, CloseAlarm, ResolveAlarm, MasterUp, QuitKind, PeerId, Loose, Master, CLOSE, PROBE, ROUND, SPAN, WAIT}
+use Rattle.tsp_base.specs.Words.{Past, in_table, is_rival, is_measured, grown, nothing, puts, ◌followed_by◌, either_by, reading, for_each, arms, posts_to_others}
 use Rattle.tsp_group.specs.Groups.{group_of}
 use Rattle.tsp_group.specs.declared.group.Group.{Group}
 use Rattle.tsp_rules.specs.Answers.{alarm_rings, rings, rings_alone, due_alarms}
@@ -39,14 +30,14 @@ round_few x past =
 
 -- whether an alarm may move the clock
 abbrev pub moves_by : Alarm → Bool
-moves_by Close = true
+moves_by CloseAlarm = true
 moves_by _ = false
 
 module _ {strange moving : Bool} where
   -- the alarms
   pub calm_quiet : Calm strange moving 1 3 quiet_rings
   unfolding quiet_rings
-  calm_quiet = sum 0 1 1 2 1 3 (puts (Ring QuietAlarm)) (puts (Become Loose) followed_by searches) (calm_puts (Ring QuietAlarm) refl)
+  calm_quiet = sum 0 1 1 2 1 3 (puts (Ring Quiet)) (puts (Become Loose) followed_by searches) (calm_puts (Ring Quiet) refl)
       (sum 0 1 1 1 1 2 (puts (Become Loose)) searches (calm_puts (Become Loose) refl) calm-searches (omega arith) (omega arith)) (omega arith) (omega arith)
 
   pub calm_search : Calm strange moving 0 2 search_rings
@@ -147,15 +138,15 @@ module _ {strange : Bool} where
   calm-closes own = record {
     few = λ x past.
         let round = round_at x past in
-        let some = close-few own (group_of SPAN (estimates round)) round x (grown x past (Ring Close ∷ [])) (round_few x past) in
+        let some = close-few own (group_of SPAN (estimates round)) round x (grown x past (Ring CloseAlarm ∷ [])) (round_few x past) in
         omega (arith, some);
-    calm = λ x past. close-calm strange own (group_of SPAN (estimates (round_at x past))) (round_at x past) x (grown x past (Ring Close ∷ []));
+    calm = λ x past. close-calm strange own (group_of SPAN (estimates (round_at x past))) (round_at x past) x (grown x past (Ring CloseAlarm ∷ []));
   }
 
   pub calm_close : (own : Bool) → Calm strange true 1 3 (close_rings own)
   unfolding close_rings abandons
-  calm_close own = calm_either 1 3 (is_in_time Close) (reading round_at (closes own)) (puts (Late Close) followed_by puts Abandon) (calm-closes own)
-      (sum 0 1 0 1 1 3 (puts (Late Close)) (puts Abandon) (calm_puts (Late Close) refl) (calm_puts Abandon refl) (omega arith) (omega arith))
+  calm_close own = calm_either 1 3 (is_in_time CloseAlarm) (reading round_at (closes own)) (puts (Late CloseAlarm) followed_by puts Abandon) (calm-closes own)
+      (sum 0 1 0 1 1 3 (puts (Late CloseAlarm)) (puts Abandon) (calm_puts (Late CloseAlarm) refl) (calm_puts Abandon refl) (omega arith) (omega arith))
 
 module _ {strange moving : Bool} where
   pub calm_resolve : Calm strange moving 1 1 resolve_rings
@@ -168,9 +159,9 @@ module _ {strange moving : Bool} where
   calm-round-begins : Calm strange moving 2 3 round_begins
   unfolding round_begins
   calm-round-begins =
-      sum 0 1 2 2 2 3 (arms Round ROUND) (arms Probe PROBE followed_by (arms Close CLOSE followed_by (posts_to_others MasterUp 0 followed_by asks_slaves))) (calm_arms Round ROUND)
-      (sum 0 1 2 1 2 2 (arms Probe PROBE) (arms Close CLOSE followed_by (posts_to_others MasterUp 0 followed_by asks_slaves)) (calm_arms Probe PROBE)
-      (sum 0 1 2 0 2 1 (arms Close CLOSE) (posts_to_others MasterUp 0 followed_by asks_slaves) (calm_arms Close CLOSE)
+      sum 0 1 2 2 2 3 (arms Round ROUND) (arms Probe PROBE followed_by (arms CloseAlarm CLOSE followed_by (posts_to_others MasterUp 0 followed_by asks_slaves))) (calm_arms Round ROUND)
+      (sum 0 1 2 1 2 2 (arms Probe PROBE) (arms CloseAlarm CLOSE followed_by (posts_to_others MasterUp 0 followed_by asks_slaves)) (calm_arms Probe PROBE)
+      (sum 0 1 2 0 2 1 (arms CloseAlarm CLOSE) (posts_to_others MasterUp 0 followed_by asks_slaves) (calm_arms CloseAlarm CLOSE)
       (calm_then 1 0 1 0 (posts_to_others MasterUp 0) asks_slaves (calm_posts_to_others MasterUp 0) calm-asks-slaves) (omega arith) (omega arith)) (omega arith) (omega arith)) (omega arith) (omega arith)
 
   calm-begins-or-waits : (wait : Bool) → Calm strange moving 2 3 (begins_or_waits wait)
@@ -187,12 +178,12 @@ module _ {strange moving : Bool} where
   -- only a close moves the clock
   pub calm-alarm : (own wait : Bool) (a : Alarm) → (moves_by a ≡ true → moving ≡ true) → Calm strange moving 2 4 (alarm_rings own wait a)
   unfolding alarm_rings
-  calm-alarm own wait QuietAlarm may = calm_more 1 3 2 4 quiet_rings (omega arith) (omega arith) calm_quiet
+  calm-alarm own wait Quiet may = calm_more 1 3 2 4 quiet_rings (omega arith) (omega arith) calm_quiet
   calm-alarm own wait Search may = calm_more 0 2 2 4 search_rings (omega arith) (omega arith) calm_search
   calm-alarm own wait Elect may = calm_more 1 4 2 4 elect_rings (omega arith) (omega arith) calm_elect
   calm-alarm own wait Window may = calm_more 1 3 2 4 window_rings (omega arith) (omega arith) calm_window
   calm-alarm own wait Probe may = calm_more 1 2 2 4 probe_rings (omega arith) (omega arith) calm_probe
-  calm-alarm own wait Close may = subst (λ b. Calm strange b 2 4 (close_rings own)) (sym (may refl)) (calm_more 1 3 2 4 (close_rings own) (omega arith) (omega arith) (calm_close own))
+  calm-alarm own wait CloseAlarm may = subst (λ b. Calm strange b 2 4 (close_rings own)) (sym (may refl)) (calm_more 1 3 2 4 (close_rings own) (omega arith) (omega arith) (calm_close own))
   calm-alarm own wait ResolveAlarm may = calm_more 1 1 2 4 resolve_rings (omega arith) (omega arith) calm_resolve
   calm-alarm own wait Round may = calm_round wait
 
@@ -208,6 +199,6 @@ module _ {strange : Bool} where
   pub calm_due_alarms : Calm strange true 16 32 due_alarms
   unfolding due_alarms
   calm_due_alarms =
-      calm_then 2 4 14 28 (rings_alone QuietAlarm) _ (calm_alone QuietAlarm) (calm_then 2 4 12 24 (rings_alone Search) _ (calm_alone Search) (calm_then 2 4 10 20 (rings_alone Elect) _ (calm_alone Elect)
-      (calm_then 2 4 8 16 (rings_alone Window) _ (calm_alone Window) (calm_then 2 4 6 12 (rings_alone Probe) _ (calm_alone Probe) (calm_then 2 4 4 8 (rings_alone Close) _ (calm_alone Close)
+      calm_then 2 4 14 28 (rings_alone Quiet) _ (calm_alone Quiet) (calm_then 2 4 12 24 (rings_alone Search) _ (calm_alone Search) (calm_then 2 4 10 20 (rings_alone Elect) _ (calm_alone Elect)
+      (calm_then 2 4 8 16 (rings_alone Window) _ (calm_alone Window) (calm_then 2 4 6 12 (rings_alone Probe) _ (calm_alone Probe) (calm_then 2 4 4 8 (rings_alone CloseAlarm) _ (calm_alone CloseAlarm)
       (calm_then 2 4 2 4 (rings_alone ResolveAlarm) (rings_alone Round) (calm_alone ResolveAlarm) (calm_alone Round)))))))

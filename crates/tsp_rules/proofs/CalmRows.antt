@@ -1,19 +1,8 @@
 -- How many acts the rows put that are of no one role: shared rows, sends and corrections.
 use Rattle.std.specs.Prelude.{◌≤◌, ℕ, ◌+◌, ◌==◌, not, ℤ, ◌-ℤ◌, Bool, true, false, if◌then◌else◌, Option, None, Some, refl}
 use Rattle.std.proofs.Common.{arith}
-use Rattle.tsp_base.specs.declared.act.Act.TheVariants.{Post, Become, Back, Quit, Leave, Gave}
-use Rattle.tsp_base.specs.declared.alarm.Alarm.TheVariants.{Search, Elect, Window}
-use Rattle.tsp_base.specs.declared.constants.TheConstants.{WINDOW}
-use Rattle.tsp_base.specs.declared.datagram.Datagram.TheVariants.{Message}
-use Rattle.tsp_base.specs.declared.kind.Kind.{Kind}
-use Rattle.tsp_base.specs.declared.kind.Kind.TheVariants.{AdjTime, Ack, MasterReq, SetTime, SlaveUp, Election}
-use Rattle.tsp_base.specs.declared.place.PeerId.{PeerId}
-use Rattle.tsp_base.specs.declared.place.Place.TheVariants.{Peer}
-use Rattle.tsp_base.specs.declared.role.Role.{Role}
-use Rattle.tsp_base.specs.declared.role.Role.TheVariants.{Follow, Candidate}
-use Rattle.tsp_base.specs.RoundFacts.{Estimate}
-use Rattle.tsp_base.specs.Rows.{Row, nothing, puts, ◌followed_by◌, either_by, reading, arms, posts, posts_to_others, posts_time}
-use Rattle.tsp_base.specs.SendFacts.{is_correction, Sending}
+use Rattle.tsp_rules.specs.Values.{Post, Become, Back, Gave, Leave, Quit, Window, Elect, Search, Message, Kind, Ack, AdjTime, Election, MasterReq, SetTime, SlaveUp, PeerId, Peer, Role, Follow, Candidate, WINDOW}
+use Rattle.tsp_base.specs.Words.{Estimate, Row, nothing, puts, ◌followed_by◌, either_by, reading, arms, posts, posts_to_others, posts_time, is_correction, Sending}
 use Rattle.tsp_rules.specs.ClockRows.{adjusts, sets}
 use Rattle.tsp_rules.specs.CommonRows.{arms_elect, searches, tells_ticket, follow_row, own_at, backs_own, candidature_row, follows_unless, quits}
 use Rattle.tsp_rules.specs.RoundRows.{Standing, is_near, corrects_by, corrects_peer}

@@ -3,26 +3,8 @@ use Rattle.std.specs.Prelude.{◌≡◌, ◌≤◌, ℕ, ◌+◌, ◌*◌, ◌==
 use Rattle.std.proofs.Common.{sym, subst, ap, arith, true≢false, append_assoc, append-nil, length-append, ◌∙◌}
 use Rattle.std.proofs.lemmas.List.Elements.{All-nil, All-cons, All-append}
 use Rattle.std.proofs.lemmas.Bool.{and_parts}
-use Rattle.tsp_base.specs.declared.act.Act.{Act}
-use Rattle.tsp_base.specs.declared.act.Act.TheVariants.{Took, Post, Acked, Leave, Abandon, Trace}
-use Rattle.tsp_base.specs.declared.datagram.Datagram.TheVariants.{Message, Stamp}
-use Rattle.tsp_base.specs.declared.datagram.Taken.{Taken}
-use Rattle.tsp_base.specs.declared.datagram.Taken.TheVariants.{Good, Bad}
-use Rattle.tsp_base.specs.declared.kind.Kind.{Kind}
-use Rattle.tsp_base.specs.declared.kind.Kind.TheVariants.{Ack, MasterUp, TraceOn, TraceOff, Msite, MsiteReq, Test, Date, DateReq, DateAck, SetDate, SetDateReq, Loop}
-use Rattle.tsp_base.specs.declared.place.PeerId.{PeerId}
-use Rattle.tsp_base.specs.declared.place.Place.{Place}
-use Rattle.tsp_base.specs.declared.place.Place.TheVariants.{Peer, Stranger}
-use Rattle.tsp_base.specs.declared.role.Role.{Role}
-use Rattle.tsp_base.specs.declared.role.Role.TheVariants.{Starting, Loose, Follow, Candidate, Master}
-use Rattle.tsp_base.specs.declared.stamp.Stamp.TheVariants.{Request, Reply}
-use Rattle.tsp_base.specs.History.{Past}
-use Rattle.tsp_base.specs.Messages.{MessageValue}
-use Rattle.tsp_base.specs.PortFacts.{in_table}
-use Rattle.tsp_base.specs.RoundFacts.{OpenRequest}
-use Rattle.tsp_base.specs.Rows.{Row, grown, nothing, puts, ◌followed_by◌, either_by, reading, bare, posts, posts_to_others, posts_back, posts_time}
-use Rattle.tsp_base.specs.Stamps.{ReplyValue}
-use Rattle.tsp_base.specs.Takings.{time_in}
+use Rattle.tsp_rules.specs.Values.{Act, Took, Post, Abandon, Acked, Leave, Trace, Message, Stamp, Taken, Good, Bad, Kind, Ack, Date, DateAck, DateReq, LoopKind, MasterUp, Msite, MsiteReq, SetDate, SetDateReq, Test, TraceOff, TraceOn, PeerId, Place, Peer, Stranger, Role, Starting, Loose, Follow, Candidate, Master, Request, Reply}
+use Rattle.tsp_base.specs.Words.{Past, MessageValue, in_table, OpenRequest, Row, grown, nothing, puts, ◌followed_by◌, either_by, reading, bare, posts, posts_to_others, posts_back, posts_time, ReplyValue, time_in}
 use Rattle.tsp_rules.specs.Answers.{due_alarms, says_in, peer_says, replies_in, peer_replies, from_peer, handles_kind, is_left, handles, takes, Turn, Got, input_row, answers}
 use Rattle.tsp_rules.specs.CandidateRows.{candidate_takes}
 use Rattle.tsp_rules.specs.CommonRows.{candidature_row, posts_reply, replies, master_name, names_master, says_master, traces, may_be_asked, is_awake, tests}
@@ -165,7 +147,7 @@ calm_handles_kind charge from m SetDate = calm-date charge from m
 calm_handles_kind charge from m DateReq = calm_from_peer from (date_request_of charge m) (calm-date-request charge m)
 calm_handles_kind charge from m SetDateReq = calm_from_peer from (date_request_of charge m) (calm-date-request charge m)
 calm_handles_kind charge from m DateAck = calm_from_peer from (date_acked m) (λ p. two 0 1 _ (omega arith) (omega arith) (calm-date-acked m p))
-calm_handles_kind charge from m Loop = none 2 5
+calm_handles_kind charge from m LoopKind = none 2 5
 calm_handles_kind charge from m _ = calm_from_peer from (peer_says m) (λ p. two 1 5 _ (omega arith) (omega arith) (calm_peer_says m p))
 
 -- whether what was taken is a message

@@ -1,17 +1,8 @@
 -- How many acts a port of each role puts that takes a peer's message.
 use Rattle.std.specs.Prelude.{◌≤◌, ℕ, ◌+◌, ◌==◌, ℤ, Bool, true, false, if◌then◌else◌, refl}
 use Rattle.std.proofs.Common.{arith}
-use Rattle.tsp_base.specs.declared.act.Act.TheVariants.{Back, Quit, Acked, Backer, Join, Rival}
-use Rattle.tsp_base.specs.declared.alarm.Alarm.TheVariants.{Search, Resolve as ResolveAlarm}
-use Rattle.tsp_base.specs.declared.constants.TheConstants.{WINDOW}
-use Rattle.tsp_base.specs.declared.kind.Kind.{Kind}
-use Rattle.tsp_base.specs.declared.kind.Kind.TheVariants.{AdjTime, Ack, MasterReq, MasterAck, SetTime, MasterUp, SlaveUp, Election, Accept, Refuse, Conflict, Quit as QuitKind, Resolve, Quit}
-use Rattle.tsp_base.specs.declared.place.PeerId.{PeerId}
-use Rattle.tsp_base.specs.declared.role.Role.{Role}
-use Rattle.tsp_base.specs.declared.role.Role.TheVariants.{Loose, Follow}
-use Rattle.tsp_base.specs.Messages.{MessageValue}
-use Rattle.tsp_base.specs.Rows.{Row, nothing, puts, ◌followed_by◌, arms, posts, posts_to_others}
-use Rattle.tsp_base.specs.Takings.{time_in}
+use Rattle.tsp_rules.specs.Values.{Back, Backer, Acked, Join, Rival, Quit, Search, ResolveAlarm, Kind, Accept, Ack, AdjTime, Conflict, Election, MasterAck, MasterReq, MasterUp, QuitKind, Refuse, ResolveKind, SetTime, SlaveUp, PeerId, Role, Loose, Follow, WINDOW}
+use Rattle.tsp_base.specs.Words.{MessageValue, Row, nothing, puts, ◌followed_by◌, arms, posts, posts_to_others, time_in}
 use Rattle.tsp_rules.specs.CandidateRows.{yields, accepted_by, refused_by, candidate_takes_kind}
 use Rattle.tsp_rules.specs.ClockRows.{adjusts, sets}
 use Rattle.tsp_rules.specs.CommonRows.{arms_elect, tells_ticket, follow_row}
@@ -119,7 +110,7 @@ module _ {strange moving : Bool} where
   calm_candidate p m Election = five 1 _ (omega arith) (calm_posts p Refuse m.number)
   calm_candidate p m Accept = five 2 _ (omega arith) (calm-accepted p m.number)
   calm_candidate p m Refuse = five 3 _ (omega arith) (calm-refused p m.number)
-  calm_candidate p m Quit = five 5 _ (omega arith) (calm-quits p m.number)
+  calm_candidate p m QuitKind = five 5 _ (omega arith) (calm-quits p m.number)
   calm_candidate p m Ack = five 1 _ (omega arith) (calm-ends p m.number)
   calm_candidate p m _ = none 1 5
 
@@ -130,12 +121,12 @@ module _ {strange moving : Bool} where
 
   pub calm-away : (p : PeerId) → Calm strange moving 0 1 (sends_away p)
   unfolding sends_away
-  calm-away p = calm_either 0 1 (has_quit p) nothing (begins Quit p) (none 0 1) (calm-begins Quit p)
+  calm-away p = calm_either 0 1 (has_quit p) nothing (begins QuitKind p) (none 0 1) (calm-begins QuitKind p)
 
   pub calm-resolves : Calm strange moving 1 1 resolves
   unfolding resolves
-  calm-resolves = calm_either 1 1 (is_armed ResolveAlarm) nothing (arms ResolveAlarm WINDOW followed_by posts_to_others Resolve 0) (none 1 1)
-      (calm_more (0 + 1) (1 + 0) 1 1 (arms ResolveAlarm WINDOW followed_by posts_to_others Resolve 0) (omega arith) (omega arith) (calm_then 0 1 1 0 (arms ResolveAlarm WINDOW) (posts_to_others Resolve 0) (calm_arms ResolveAlarm WINDOW) (calm_posts_to_others Resolve 0)))
+  calm-resolves = calm_either 1 1 (is_armed ResolveAlarm) nothing (arms ResolveAlarm WINDOW followed_by posts_to_others ResolveKind 0) (none 1 1)
+      (calm_more (0 + 1) (1 + 0) 1 1 (arms ResolveAlarm WINDOW followed_by posts_to_others ResolveKind 0) (omega arith) (omega arith) (calm_then 0 1 1 0 (arms ResolveAlarm WINDOW) (posts_to_others ResolveKind 0) (calm_arms ResolveAlarm WINDOW) (calm_posts_to_others ResolveKind 0)))
 
   pub calm-rival : (p : PeerId) → Calm strange moving 0 1 (finds_rival p)
   unfolding finds_rival
@@ -144,12 +135,12 @@ module _ {strange moving : Bool} where
   pub calm_master : (p : PeerId) (m : MessageValue) (k : Kind) → Calm strange moving 1 5 (master_takes_kind p m k)
   unfolding master_takes_kind
   calm_master p m MasterReq = five 1 _ (omega arith) (calm_posts p MasterAck m.number)
-  calm_master p m Resolve = five 1 _ (omega arith) (calm_posts p MasterAck m.number)
+  calm_master p m ResolveKind = five 1 _ (omega arith) (calm_posts p MasterAck m.number)
   calm_master p m SlaveUp = five 2 _ (omega arith) (calm-joins p m.number)
   calm_master p m Election = five 1 _ (omega arith) (calm-away p)
   calm_master p m MasterUp = calm_more 1 1 1 5 resolves (omega arith) (omega arith) calm-resolves
   calm_master p m Conflict = calm_more (0 + 1) (1 + 1) 1 5 (posts p Ack m.number followed_by resolves) (omega arith) (omega arith) (calm_then 0 1 1 1 (posts p Ack m.number) resolves (calm_posts p Ack m.number) calm-resolves)
   calm_master p m MasterAck = five 1 _ (omega arith) (calm-rival p)
-  calm_master p m Quit = five 5 _ (omega arith) (calm-quits p m.number)
+  calm_master p m QuitKind = five 5 _ (omega arith) (calm-quits p m.number)
   calm_master p m Ack = five 1 _ (omega arith) (calm-ends p m.number)
   calm_master p m _ = none 1 5

@@ -2,22 +2,8 @@
 use Rattle.std.specs.Prelude.{◌≡◌, ℕ, ◌==◌, ◌||◌, ◌&&◌, Bool, true, false, if◌then◌else◌, ℤ, List, [], ◌∷◌, ◌++◌, map, refl}
 use Rattle.std.proofs.Common.{sym, ap, true≢false, eqb-true, ◌∙◌}
 use Rattle.std.proofs.lemmas.Bool.{and_parts}
-use Rattle.tsp_base.specs.declared.act.Act.{Act}
-use Rattle.tsp_base.specs.declared.act.Act.TheVariants.{Boot, Took, Post, Become, Back, Backer, Quit, Arm, Ring, Late, Join, Leave, Rival, Acked, Gave, Sample, Close as CloseAct, Correct, Abandon, Trace}
-use Rattle.tsp_base.specs.declared.alarm.Alarm.{Alarm}
-use Rattle.tsp_base.specs.declared.alarm.Alarm.TheVariants.{Probe, Close}
-use Rattle.tsp_base.specs.declared.datagram.Datagram.{Datagram}
-use Rattle.tsp_base.specs.declared.datagram.Datagram.TheVariants.{Message, Stamp}
-use Rattle.tsp_base.specs.declared.kind.Kind.{Kind}
-use Rattle.tsp_base.specs.declared.kind.Kind.TheVariants.{AdjTime, SetTime, Election, Conflict, Quit as QuitKind, SetDateReq}
-use Rattle.tsp_base.specs.declared.place.PeerId.{PeerId}
-use Rattle.tsp_base.specs.declared.place.Place.{Place}
-use Rattle.tsp_base.specs.declared.role.Role.{Role}
-use Rattle.tsp_base.specs.declared.role.Role.TheVariants.{Follow, Master}
-use Rattle.tsp_base.specs.declared.stamp.Stamp.TheVariants.{Request, Reply}
-use Rattle.tsp_base.specs.History.{Past}
-use Rattle.tsp_base.specs.Performs.{Keeps}
-use Rattle.tsp_base.specs.Rows.{Row, grown, nothing, puts, ◌followed_by◌, either_by, reading, for_each, arms, posts, posts_to_others, posts_back, posts_time, post_of, others}
+use Rattle.tsp_rules.specs.Values.{Act, Boot, Took, Post, Become, Arm, Ring, Late, Back, Backer, Abandon, Close, Correct, Sample, Acked, Gave, Join, Leave, Rival, Quit, Trace, Alarm, Probe, CloseAlarm, Datagram, Message, Stamp, Kind, AdjTime, Conflict, Election, QuitKind, SetDateReq, SetTime, PeerId, Place, Role, Follow, Master, Request, Reply}
+use Rattle.tsp_base.specs.Words.{Past, Keeps, Row, grown, nothing, puts, ◌followed_by◌, either_by, reading, for_each, arms, posts, posts_to_others, posts_back, posts_time, post_of, others}
 use Rattle.tsp_rules.specs.ClockRows.{adjusts, sets}
 
 -- acts that facts tell apart
@@ -46,7 +32,7 @@ pub data Sort : Type 0 where
   -- Acked, and Gave
   Acking : Sort
   Giving : Sort
-  -- Sample, Close, Correct, and Trace
+  -- Sample, CloseAlarm, Correct, and Trace
   Sampling : Sort
   Closing : Sort
   Moving : Sort
@@ -90,7 +76,7 @@ sort_of_kind _ = Posting
 
 abbrev pub sort_of_alarm : Alarm → Sort
 sort_of_alarm Probe = Rounding
-sort_of_alarm Close = Rounding
+sort_of_alarm CloseAlarm = Rounding
 sort_of_alarm _ = Alarming
 
 abbrev pub sort_of_post : Datagram → Sort
@@ -121,7 +107,7 @@ sort_of (Rival p) = Rivalling
 sort_of (Acked p) = Acking
 sort_of (Gave p) = Giving
 sort_of (Sample p counter diff err ticket) = Sampling
-sort_of (CloseAct count lo width mean) = Closing
+sort_of (Close count lo width mean) = Closing
 sort_of (Correct amount stepped shown) = Moving
 sort_of (Trace on) = Tracing
 

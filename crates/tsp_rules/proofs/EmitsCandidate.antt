@@ -1,14 +1,7 @@
 -- Which sorts of acts the rows of a candidate put.
 use Rattle.std.specs.Prelude.{ℕ, List, ◌∷◌, refl}
-use Rattle.tsp_base.specs.declared.act.Act.TheVariants.{Become, Backer, Ring, Late, Acked}
-use Rattle.tsp_base.specs.declared.alarm.Alarm.TheVariants.{Window, Round}
-use Rattle.tsp_base.specs.declared.constants.TheConstants.{ROUND}
-use Rattle.tsp_base.specs.declared.kind.Kind.{Kind}
-use Rattle.tsp_base.specs.declared.kind.Kind.TheVariants.{Ack, MasterAck, MasterUp, Election, Accept, Refuse, Quit as QuitKind}
-use Rattle.tsp_base.specs.declared.place.PeerId.{PeerId}
-use Rattle.tsp_base.specs.declared.role.Role.TheVariants.{Loose, Master}
-use Rattle.tsp_base.specs.Messages.{MessageValue}
-use Rattle.tsp_base.specs.Rows.{nothing, puts, arms, posts_to_others}
+use Rattle.tsp_rules.specs.Values.{Become, Ring, Late, Backer, Acked, Window, Round, Kind, Accept, Ack, Election, MasterAck, MasterUp, QuitKind, Refuse, PeerId, Loose, Master, ROUND}
+use Rattle.tsp_base.specs.Words.{MessageValue, nothing, puts, arms, posts_to_others}
 use Rattle.tsp_rules.specs.CandidateRows.{lead_row, yields, has_won, window_rings, accepted_by, refused_by, candidate_takes_kind, candidate_takes}
 use Rattle.tsp_rules.specs.CommonRows.{arms_elect}
 use Rattle.tsp_rules.specs.SendRows.{has_election}

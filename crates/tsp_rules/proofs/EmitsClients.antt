@@ -1,16 +1,7 @@
 -- Which sorts of acts the answers to clients put, and dates.
 use Rattle.std.specs.Prelude.{ℕ, Bool, true, false, ℤ, List, [], ◌∷◌, refl}
-use Rattle.tsp_base.specs.declared.act.Act.TheVariants.{Post, Leave, Acked, Trace}
-use Rattle.tsp_base.specs.declared.datagram.Datagram.TheVariants.{Message}
-use Rattle.tsp_base.specs.declared.kind.Kind.TheVariants.{Ack, MasterUp, DateAck, SetDateReq}
-use Rattle.tsp_base.specs.declared.place.PeerId.{PeerId}
-use Rattle.tsp_base.specs.declared.place.Place.{Place}
-use Rattle.tsp_base.specs.declared.place.Place.TheVariants.{Peer}
-use Rattle.tsp_base.specs.declared.role.Role.{Role}
-use Rattle.tsp_base.specs.declared.role.Role.TheVariants.{Follow, Master}
-use Rattle.tsp_base.specs.Messages.{MessageValue}
-use Rattle.tsp_base.specs.Rows.{nothing, puts, reading, for_each, bare, posts, posts_to_others, posts_back, posts_time}
-use Rattle.tsp_base.specs.Takings.{time_in}
+use Rattle.tsp_rules.specs.Values.{Post, Acked, Leave, Trace, Message, Ack, DateAck, MasterUp, SetDateReq, PeerId, Place, Peer, Role, Follow, Master}
+use Rattle.tsp_base.specs.Words.{MessageValue, nothing, puts, reading, for_each, bare, posts, posts_to_others, posts_back, posts_time, time_in}
 use Rattle.tsp_rules.specs.ClockRows.{sets}
 use Rattle.tsp_rules.specs.CommonRows.{candidature_row, master_name, names_master, says_master, traces, may_be_asked, is_awake, tests}
 use Rattle.tsp_rules.specs.DateRows.{may_pass_on, passes_on, may_date, leaves, leaves_all, new_date, sets_date_where, date_in, date_of, is_dated, sets_in_charge, date_request_in, date_request_of, has_date, date_acked_in, date_acked}

@@ -1,13 +1,7 @@
 -- Which sorts of acts a master puts for messages, with resolutions.
 use Rattle.std.specs.Prelude.{ℕ, List, ◌∷◌, refl}
-use Rattle.tsp_base.specs.declared.act.Act.TheVariants.{Join, Rival, Ring, Late}
-use Rattle.tsp_base.specs.declared.alarm.Alarm.TheVariants.{Resolve as ResolveAlarm}
-use Rattle.tsp_base.specs.declared.constants.TheConstants.{WINDOW}
-use Rattle.tsp_base.specs.declared.kind.Kind.{Kind}
-use Rattle.tsp_base.specs.declared.kind.Kind.TheVariants.{Ack, MasterReq, MasterAck, MasterUp, SlaveUp, Election, Conflict, Resolve, Quit as QuitKind}
-use Rattle.tsp_base.specs.declared.place.PeerId.{PeerId}
-use Rattle.tsp_base.specs.Messages.{MessageValue}
-use Rattle.tsp_base.specs.Rows.{nothing, puts, for_each, arms, posts, posts_to_others}
+use Rattle.tsp_rules.specs.Values.{Ring, Late, Join, Rival, ResolveAlarm, Kind, Ack, Conflict, Election, MasterAck, MasterReq, MasterUp, QuitKind, ResolveKind, SlaveUp, PeerId, WINDOW}
+use Rattle.tsp_base.specs.Words.{MessageValue, nothing, puts, for_each, arms, posts, posts_to_others}
 use Rattle.tsp_rules.specs.MasterRows.{may_join, joins, sends_away, master_takes_kind, master_takes}
 use Rattle.tsp_rules.specs.ResolveRows.{resolves, is_new_rival, finds_rival, quits_rivals, resolve_rings}
 use Rattle.tsp_rules.specs.SendRows.{begins, has_quit, begins_settime}
@@ -34,7 +28,7 @@ resolve_sorts = Rivalling ∷ slave_sorts
 
 pub emits_resolves : Emits resolve_sorts resolves
 unfolding resolves
-emits_resolves = Emits_either (is_armed ResolveAlarm) nothing _ Emits_nothing (Emits_then (arms ResolveAlarm WINDOW) (posts_to_others Resolve 0) (Emits_arms ResolveAlarm WINDOW refl) (Emits_posts_to_others Resolve 0 refl))
+emits_resolves = Emits_either (is_armed ResolveAlarm) nothing _ Emits_nothing (Emits_then (arms ResolveAlarm WINDOW) (posts_to_others ResolveKind 0) (Emits_arms ResolveAlarm WINDOW refl) (Emits_posts_to_others ResolveKind 0 refl))
 
 pub emits_finds_rival : (p : PeerId) → Emits resolve_sorts (finds_rival p)
 unfolding finds_rival
@@ -51,7 +45,7 @@ emits_resolve_rings = Emits_either (is_in_time ResolveAlarm) _ (puts (Late Resol
 master-kind : (p : PeerId) (m : MessageValue) (k : Kind) → Emits master_sorts (master_takes_kind p m k)
 unfolding master_takes_kind
 master-kind p m MasterReq = Emits_posts p MasterAck m.number refl
-master-kind p m Resolve = Emits_posts p MasterAck m.number refl
+master-kind p m ResolveKind = Emits_posts p MasterAck m.number refl
 master-kind p m SlaveUp = joins-emits p m.number
 master-kind p m Election = away-emits p
 master-kind p m MasterUp = Emits_more resolve_sorts refl emits_resolves

@@ -1,13 +1,7 @@
 -- Which sorts of acts rounds put.
 use Rattle.std.specs.Prelude.{◌==◌, ◌-ℤ◌, Bool, true, false, ℤ, List, [], ◌∷◌, Option, None, Some, refl}
-use Rattle.tsp_base.specs.declared.act.Act.TheVariants.{Leave, Ring, Late, Abandon}
-use Rattle.tsp_base.specs.declared.alarm.Alarm.TheVariants.{Probe, Close, Round}
-use Rattle.tsp_base.specs.declared.constants.TheConstants.{ROUND, PROBE, CLOSE, SPAN, WAIT}
-use Rattle.tsp_base.specs.declared.kind.Kind.TheVariants.{MasterUp}
-use Rattle.tsp_base.specs.declared.place.PeerId.{PeerId}
-use Rattle.tsp_base.specs.RoundFacts.{Estimate, OpenRequest}
-use Rattle.tsp_base.specs.Rows.{nothing, puts, reading, for_each, arms, posts_to_others}
-use Rattle.tsp_base.specs.Stamps.{ReplyValue}
+use Rattle.tsp_rules.specs.Values.{Ring, Late, Abandon, Leave, Round, Probe, CloseAlarm, MasterUp, PeerId, CLOSE, PROBE, ROUND, SPAN, WAIT}
+use Rattle.tsp_base.specs.Words.{Estimate, OpenRequest, nothing, puts, reading, for_each, arms, posts_to_others, ReplyValue}
 use Rattle.tsp_group.specs.Groups.{group_of}
 use Rattle.tsp_group.specs.declared.group.Group.{Group}
 use Rattle.tsp_rules.specs.ClockRows.{can_adjust}
@@ -27,7 +21,7 @@ asks-emits p = record { only = λ x past. (refl, tt) }
 
 round-begins : Emits round_sorts round_begins
 unfolding round_begins asks_slaves
-round-begins = Emits_then (arms Round ROUND) _ (Emits_arms Round ROUND refl) (Emits_then (arms Probe PROBE) _ (Emits_arms Probe PROBE refl) (Emits_then (arms Close CLOSE) _ (Emits_arms Close CLOSE refl)
+round-begins = Emits_then (arms Round ROUND) _ (Emits_arms Round ROUND refl) (Emits_then (arms Probe PROBE) _ (Emits_arms Probe PROBE refl) (Emits_then (arms CloseAlarm CLOSE) _ (Emits_arms CloseAlarm CLOSE refl)
     (Emits_then (posts_to_others MasterUp 0) _ (Emits_posts_to_others MasterUp 0 refl) (Emits_reading table_at (for_each asks) (λ ps. Emits_each asks ps asks-emits)))))
 
 begins-waits : (wait : Bool) → Emits round_sorts (begins_or_waits wait)
@@ -80,8 +74,8 @@ with-emits own g round = Emits_either (can_adjust (mean_by own g)) _ abandons
 
 pub emits_closes : (own : Bool) (round : List Standing) → Emits round_sorts (closes own round)
 unfolding closes
-emits_closes own round = Emits_then (puts (Ring Close)) _ (Emits_puts (Ring Close) refl) (with-emits own (group_of SPAN (estimates round)) round)
+emits_closes own round = Emits_then (puts (Ring CloseAlarm)) _ (Emits_puts (Ring CloseAlarm) refl) (with-emits own (group_of SPAN (estimates round)) round)
 
 pub emits_close_rings : (own : Bool) → Emits round_sorts (close_rings own)
 unfolding close_rings
-emits_close_rings own = Emits_either (is_in_time Close) (reading round_at (closes own)) _ (Emits_reading round_at (closes own) (emits_closes own)) (Emits_then (puts (Late Close)) abandons (Emits_puts (Late Close) refl) abandons-emits)
+emits_close_rings own = Emits_either (is_in_time CloseAlarm) (reading round_at (closes own)) _ (Emits_reading round_at (closes own) (emits_closes own)) (Emits_then (puts (Late CloseAlarm)) abandons (Emits_puts (Late CloseAlarm) refl) abandons-emits)

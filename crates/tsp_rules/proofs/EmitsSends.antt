@@ -1,14 +1,7 @@
 -- Which sorts of acts sends put: those that begin, and those that are due.
 use Rattle.std.specs.Prelude.{◌≡◌, ℕ, true, ℤ, List, [], ◌∷◌, Option, None, Some, refl}
-use Rattle.tsp_base.specs.declared.act.Act.TheVariants.{Post, Leave, Gave}
-use Rattle.tsp_base.specs.declared.datagram.Datagram.TheVariants.{Message}
-use Rattle.tsp_base.specs.declared.kind.Kind.{Kind}
-use Rattle.tsp_base.specs.declared.kind.Kind.TheVariants.{AdjTime, SetTime, Election, Conflict, Quit as QuitKind, SetDateReq}
-use Rattle.tsp_base.specs.declared.place.PeerId.{PeerId}
-use Rattle.tsp_base.specs.declared.place.Place.TheVariants.{Peer}
-use Rattle.tsp_base.specs.Messages.{MessageValue}
-use Rattle.tsp_base.specs.Rows.{nothing, puts, for_each, posts_time}
-use Rattle.tsp_base.specs.SendFacts.{Sending, is_correction}
+use Rattle.tsp_rules.specs.Values.{Post, Gave, Leave, Message, Kind, AdjTime, Conflict, Election, QuitKind, SetDateReq, SetTime, PeerId, Peer}
+use Rattle.tsp_base.specs.Words.{MessageValue, nothing, puts, for_each, posts_time, Sending, is_correction}
 use Rattle.tsp_rules.specs.SendRows.{may_correct, begins_adjtime, may_set, begins_settime, open_at, is_send_due, is_spent, repeats, leaves_after, gives_up, repeats_send, due_send, peers_at, due_sends}
 use Rattle.tsp_rules.specs.Guards.{target_at, is_slave_at}
 use Rattle.tsp_rules.proofs.Emits.{Sort, Correcting, Numbering, Posting, Tabling, Giving, is_in, sort_of_kind, Emits, Emits_nothing, Emits_puts, Emits_then, Emits_either, Emits_reading, Emits_each, Emits_posts_time, Emits_if}

@@ -1,18 +1,8 @@
 -- Which sorts of acts the rows of a port put that is Starting, Loose or follows.
 use Rattle.std.specs.Prelude.{◌≡◌, ℕ, ◌==◌, Bool, true, false, if◌then◌else◌, ℤ, List, [], ◌∷◌, refl}
 use Rattle.std.proofs.Common.{true≢false}
-use Rattle.tsp_base.specs.declared.act.Act.TheVariants.{Become, Back, Quit, Ring, Late, Acked}
-use Rattle.tsp_base.specs.declared.alarm.Alarm.TheVariants.{Quiet, Search, Elect, Window}
-use Rattle.tsp_base.specs.declared.constants.TheConstants.{WINDOW}
-use Rattle.tsp_base.specs.declared.kind.Kind.{Kind}
-use Rattle.tsp_base.specs.declared.kind.Kind.TheVariants.{AdjTime, SetTime, Ack, MasterReq, MasterAck, MasterUp, SlaveUp, Election, Accept, Refuse, Conflict, Quit as QuitKind}
-use Rattle.tsp_base.specs.declared.place.PeerId.{PeerId}
-use Rattle.tsp_base.specs.declared.role.Role.{Role}
-use Rattle.tsp_base.specs.declared.role.Role.TheVariants.{Loose, Follow, Candidate}
-use Rattle.tsp_base.specs.Messages.{MessageValue}
-use Rattle.tsp_base.specs.SendFacts.{is_correction}
-use Rattle.tsp_base.specs.Rows.{Row, nothing, puts, ◌followed_by◌, either_by, reading, for_each, arms, posts, posts_to_others}
-use Rattle.tsp_base.specs.Takings.{time_in}
+use Rattle.tsp_rules.specs.Values.{Become, Ring, Late, Back, Acked, Quit, Quiet, Window, Elect, Search, Kind, Accept, Ack, AdjTime, Conflict, Election, MasterAck, MasterReq, MasterUp, QuitKind, Refuse, SetTime, SlaveUp, PeerId, Role, Loose, Follow, Candidate, WINDOW}
+use Rattle.tsp_base.specs.Words.{MessageValue, is_correction, Row, nothing, puts, ◌followed_by◌, either_by, reading, for_each, arms, posts, posts_to_others, time_in}
 use Rattle.tsp_rules.specs.ClockRows.{adjusts, sets}
 use Rattle.tsp_rules.specs.CommonRows.{arms_elect, searches, tells_ticket, follow_row, own_at, backs_own, candidature_row, follows_unless, quits}
 use Rattle.tsp_rules.specs.SendRows.{next_number, begins, others_at, begins_to_others, is_free, has_other, acknowledges}

@@ -2,10 +2,8 @@
 use Rattle.std.specs.Prelude.{◌≡◌, ◌||◌, ℕ, true, false, List, [], ◌∷◌, refl}
 use Rattle.std.proofs.Common.{ap, ◌∙◌}
 use Rattle.std.proofs.lemmas.Bool.{false≢true}
-use Rattle.tsp_base.specs.declared.act.Act.{Act}
-use Rattle.tsp_base.specs.declared.act.Act.TheVariants.{Correct}
-use Rattle.tsp_base.specs.History.{Past}
-use Rattle.tsp_base.specs.Rows.{Row}
+use Rattle.tsp_rules.specs.Values.{Act, Correct}
+use Rattle.tsp_base.specs.Words.{Past, Row}
 use Rattle.tsp_rules.specs.RoundRows.{corrects, is_correct}
 use Rattle.tsp_rules.proofs.Emits.{Sort, Acking, Alarming, Asking, Backing, Changing, Closing, Correcting, Counting, Following, Giving, Leading, Numbering, Posting, Rivalling, Rounding, Sampling, Tabling, Taking, Tracing, AllOf, Emits, is_in, sort_of}
 

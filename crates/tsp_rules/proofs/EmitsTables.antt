@@ -1,7 +1,6 @@
 -- Acts of a slave's sorts leave the slave table and the measured peers alone, or empty them where the role changes.
 use Rattle.std.specs.Prelude.{◌||◌, Bool, true, false, List, [], ◌∷◌}
-use Rattle.tsp_base.specs.declared.act.Act.{Act}
-use Rattle.tsp_base.specs.declared.act.Act.TheVariants.{Become}
+use Rattle.tsp_rules.specs.Values.{Act, Become}
 
 -- whether the role changes in these acts
 abbrev pub is_change : Act → Bool

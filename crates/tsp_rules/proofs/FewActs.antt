@@ -2,17 +2,8 @@
 use Rattle.std.specs.Prelude.{◌≡◌, ◌≤◌, ℕ, suc, ◌+◌, ◌*◌, ◌&&◌, ◌==◌, not, ℤ, Bool, true, false, if◌then◌else◌, List, [], ◌∷◌, ◌++◌, length, map, filter, refl}
 use Rattle.std.proofs.Common.{sym, ap, arith, true≢false, length-append}
 use Rattle.std.proofs.lemmas.Bool.{and_from}
-use Rattle.tsp_base.specs.declared.act.Act.{Act}
-use Rattle.tsp_base.specs.declared.act.Act.TheVariants.{Boot, Took, Post, Correct}
-use Rattle.tsp_base.specs.declared.datagram.Datagram.{Datagram}
-use Rattle.tsp_base.specs.declared.datagram.Datagram.TheVariants.{Message}
-use Rattle.tsp_base.specs.declared.alarm.Alarm.{Alarm}
-use Rattle.tsp_base.specs.declared.kind.Kind.{Kind}
-use Rattle.tsp_base.specs.declared.place.PeerId.{PeerId}
-use Rattle.tsp_base.specs.declared.place.Place.{Place}
-use Rattle.tsp_base.specs.declared.place.Place.TheVariants.{Peer, Stranger}
-use Rattle.tsp_base.specs.History.{Past}
-use Rattle.tsp_base.specs.Rows.{Row, grown, nothing, puts, ◌followed_by◌, either_by, reading, for_each, arms, others, bare, post_of, posts, posts_to_others, posts_back, posts_time}
+use Rattle.tsp_rules.specs.Values.{Act, Boot, Took, Post, Correct, Alarm, Datagram, Message, Kind, PeerId, Place, Peer, Stranger}
+use Rattle.tsp_base.specs.Words.{Past, Row, grown, nothing, puts, ◌followed_by◌, either_by, reading, for_each, arms, others, bare, post_of, posts, posts_to_others, posts_back, posts_time}
 use Rattle.tsp_rules.specs.Strangers.{is_stranger}
 
 -- an act that is neither a boot nor a taking, nor a post to a stranger where none may be answered, nor a correction where the clock may not be moved

@@ -3,12 +3,8 @@ use Rattle.std.specs.Prelude.{◌≡◌, ◌≢◌, ◌⊎◌, ◌≤◌, ℕ, �
 use Rattle.std.proofs.Common.{sym, subst, inl, inr, arith, true≢false, eqb-true, ap, ◌∙◌}
 use Rattle.std.proofs.lemmas.Bool.{leb-true, and_parts, or_cases}
 use Rattle.std.proofs.lemmas.Int.{ints}
-use Rattle.tsp_base.specs.declared.constants.TheConstants.{HOLD, ELECT_MIN, LIMIT, SLACK}
-use Rattle.tsp_base.specs.declared.place.PeerId.{PeerId}
-use Rattle.tsp_base.specs.declared.role.Role.{Role}
-use Rattle.tsp_base.specs.declared.role.Role.TheVariants.{Starting, Master}
-use Rattle.tsp_base.specs.Hold.{Held, is_past, may_back, may_back_after, may_stand}
-use Rattle.tsp_base.specs.Takings.{peer_of}
+use Rattle.tsp_rules.specs.Values.{PeerId, Role, Starting, Master, ELECT_MIN, HOLD, LIMIT, SLACK}
+use Rattle.tsp_base.specs.Words.{Held, is_past, may_back, may_back_after, may_stand, peer_of}
 use Rattle.tsp_rules.specs.Guards.{is_clock_value, is_over, is_met, is_starting_role, is_master}
 
 pub same_peer : (q p : PeerId) → (q.0 == p.0) ≡ true → q ≡ p

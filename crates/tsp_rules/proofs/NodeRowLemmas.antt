@@ -2,13 +2,8 @@
 use Rattle.std.specs.Prelude.{◌≡◌, ◌≢◌, ℕ, ◌==◌, true, false, ◌||◌, List, [], ◌∷◌, ◌++◌, refl}
 use Rattle.std.proofs.Common.{sym, ap, subst, eq-eqb, ◌∙◌}
 use Rattle.std.proofs.lemmas.List.{append_assoc}
-use Rattle.tsp_base.specs.declared.act.Act.{Act}
-use Rattle.tsp_base.specs.declared.act.Act.TheVariants.{Boot}
-use Rattle.tsp_base.specs.declared.act.Placed.{Placed}
-use Rattle.tsp_base.specs.declared.place.Port.{Port}
-use Rattle.tsp_base.specs.History.{Step, Acts, Line, Seen, Elsewhere, view, seen_as, is_shared}
-use Rattle.tsp_base.specs.Joins.{joined, line_of}
-use Rattle.tsp_base.specs.Rows.{added, grown, placed}
+use Rattle.tsp_rules.specs.Values.{Act, Boot, Placed, Port}
+use Rattle.tsp_base.specs.Words.{Step, Acts, Line, Seen, Elsewhere, view, seen_as, is_shared, joined, line_of, added, grown, placed}
 use Rattle.tsp_rules.specs.NodePerforms.{PerformsAll}
 use Rattle.tsp_rules.specs.NodeRows.{NodePast, NodeRow, on_port, spread, ◌and_then◌}
 

@@ -1,12 +1,7 @@
 -- What rows that are written by cases do in the cases that are left.
 use Rattle.std.specs.Prelude.{◌≡◌, ◌≢◌, false, refl}
-use Rattle.tsp_base.specs.declared.kind.Kind.{Kind}
-use Rattle.tsp_base.specs.declared.kind.Kind.TheVariants.{AdjTime, Ack, MasterAck, SetTime, MasterUp, Election, Accept, Refuse, Quit}
-use Rattle.tsp_base.specs.declared.place.PeerId.{PeerId}
-use Rattle.tsp_base.specs.declared.role.Role.{Role}
-use Rattle.tsp_base.specs.declared.role.Role.TheVariants.{Loose, Follow, Master}
-use Rattle.tsp_base.specs.Messages.{MessageValue}
-use Rattle.tsp_base.specs.Rows.{Row, nothing}
+use Rattle.tsp_rules.specs.Values.{Kind, Accept, Ack, AdjTime, Election, MasterAck, MasterUp, QuitKind, Refuse, SetTime, PeerId, Role, Loose, Follow, Master}
+use Rattle.tsp_base.specs.Words.{MessageValue, Row, nothing}
 use Rattle.tsp_rules.specs.CandidateRows.{candidate_takes_kind}
 use Rattle.tsp_rules.specs.CommonRows.{follow_row, follows_unless}
 use Rattle.tsp_rules.specs.SlaveRows.{masterup_in, masterack_in, from_master, slave_takes_kind}
@@ -43,25 +38,25 @@ follows_unless-other p (Follow q) f = absurd (f q refl)
 follows_unless-other p _ f = refl
 
 pub slave_takes_kind-other : (p : PeerId) (m : MessageValue) (k : Kind) →
-    k ≢ MasterUp → k ≢ MasterAck → k ≢ Election → k ≢ AdjTime → k ≢ SetTime → k ≢ Quit → k ≢ Ack → slave_takes_kind p m k ≡ nothing
+    k ≢ MasterUp → k ≢ MasterAck → k ≢ Election → k ≢ AdjTime → k ≢ SetTime → k ≢ QuitKind → k ≢ Ack → slave_takes_kind p m k ≡ nothing
 unfolding slave_takes_kind
 slave_takes_kind-other p m MasterUp a b c d e f g = absurd (a refl)
 slave_takes_kind-other p m MasterAck a b c d e f g = absurd (b refl)
 slave_takes_kind-other p m Election a b c d e f g = absurd (c refl)
 slave_takes_kind-other p m AdjTime a b c d e f g = absurd (d refl)
 slave_takes_kind-other p m SetTime a b c d e f g = absurd (e refl)
-slave_takes_kind-other p m Quit a b c d e f g = absurd (f refl)
+slave_takes_kind-other p m QuitKind a b c d e f g = absurd (f refl)
 slave_takes_kind-other p m Ack a b c d e f g = absurd (g refl)
 slave_takes_kind-other p m _ a b c d e f g = refl
 
 pub candidate_takes_kind-other : (p : PeerId) (m : MessageValue) (k : Kind) →
-    k ≢ MasterUp → k ≢ MasterAck → k ≢ Election → k ≢ Accept → k ≢ Refuse → k ≢ Quit → k ≢ Ack → candidate_takes_kind p m k ≡ nothing
+    k ≢ MasterUp → k ≢ MasterAck → k ≢ Election → k ≢ Accept → k ≢ Refuse → k ≢ QuitKind → k ≢ Ack → candidate_takes_kind p m k ≡ nothing
 unfolding candidate_takes_kind
 candidate_takes_kind-other p m MasterUp a b c d e f g = absurd (a refl)
 candidate_takes_kind-other p m MasterAck a b c d e f g = absurd (b refl)
 candidate_takes_kind-other p m Election a b c d e f g = absurd (c refl)
 candidate_takes_kind-other p m Accept a b c d e f g = absurd (d refl)
 candidate_takes_kind-other p m Refuse a b c d e f g = absurd (e refl)
-candidate_takes_kind-other p m Quit a b c d e f g = absurd (f refl)
+candidate_takes_kind-other p m QuitKind a b c d e f g = absurd (f refl)
 candidate_takes_kind-other p m Ack a b c d e f g = absurd (g refl)
 candidate_takes_kind-other p m _ a b c d e f g = refl

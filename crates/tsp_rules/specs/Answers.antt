@@ -1,25 +1,7 @@
 -- What a port does in a step: its due sends, its due alarms, and then its input.
 use Rattle.std.specs.Prelude.{ℕ, Bool, true, false, not, ◌&&◌, List, [], ◌∷◌}
-use Rattle.tsp_base.specs.declared.act.Act.TheVariants.{Took}
-use Rattle.tsp_base.specs.declared.alarm.Alarm.{Alarm}
-use Rattle.tsp_base.specs.declared.alarm.TheConstants.Alarm.{ALL}
-use Rattle.tsp_base.specs.declared.alarm.Alarm.TheVariants.{Quiet, Search, Elect, Window, Probe, Close, Resolve, Round}
-use Rattle.tsp_base.specs.declared.datagram.Datagram.TheVariants.{Message, Stamp}
-use Rattle.tsp_base.specs.declared.datagram.Taken.{Taken}
-use Rattle.tsp_base.specs.declared.datagram.Taken.TheVariants.{Good, Bad}
-use Rattle.tsp_base.specs.declared.kind.Kind.{Kind}
-use Rattle.tsp_base.specs.declared.kind.Kind.TheVariants.{Date, DateReq, DateAck, TraceOn, TraceOff, Msite, MsiteReq, Test, SetDate, SetDateReq, Loop}
-use Rattle.tsp_base.specs.declared.place.PeerId.{PeerId}
-use Rattle.tsp_base.specs.declared.place.Place.{Place}
-use Rattle.tsp_base.specs.declared.place.Place.TheVariants.{Peer, Stranger}
-use Rattle.tsp_base.specs.declared.role.Role.{Role}
-use Rattle.tsp_base.specs.declared.role.Role.TheVariants.{Starting, Loose, Follow, Candidate, Master}
-use Rattle.tsp_base.specs.declared.stamp.Stamp.TheVariants.{Request, Reply}
-use Rattle.tsp_base.specs.History.{Past}
-use Rattle.tsp_base.specs.Messages.{MessageValue}
-use Rattle.tsp_base.specs.Rows.{Row, nothing, puts, ◌followed_by◌, either_by, reading}
-use Rattle.tsp_base.specs.SendFacts.{is_correction}
-use Rattle.tsp_base.specs.Stamps.{ReplyValue}
+use Rattle.tsp_rules.specs.Values.{Took, Alarm, Quiet, Window, Elect, Search, Round, Probe, CloseAlarm, ResolveAlarm, Message, Stamp, Taken, Good, Bad, Kind, Date, DateAck, DateReq, LoopKind, Msite, MsiteReq, SetDate, SetDateReq, Test, TraceOff, TraceOn, PeerId, Place, Peer, Stranger, Role, Starting, Loose, Follow, Candidate, Master, Request, Reply, ALL}
+use Rattle.tsp_base.specs.Words.{Past, MessageValue, Row, nothing, puts, ◌followed_by◌, either_by, reading, is_correction, ReplyValue}
 use Rattle.tsp_rules.specs.CandidateRows.{window_rings, candidate_takes}
 use Rattle.tsp_rules.specs.CommonRows.{replies, names_master, says_master, traces, tests}
 use Rattle.tsp_rules.specs.DateRows.{date_acked, date_of, date_request_of}
@@ -37,8 +19,8 @@ alarm_rings own wait Search = search_rings
 alarm_rings own wait Elect = elect_rings
 alarm_rings own wait Window = window_rings
 alarm_rings own wait Probe = probe_rings
-alarm_rings own wait Close = close_rings own
-alarm_rings own wait Resolve = resolve_rings
+alarm_rings own wait CloseAlarm = close_rings own
+alarm_rings own wait ResolveAlarm = resolve_rings
 alarm_rings own wait Round = round_rings wait
 
 -- an alarm, where it is due when its turn comes
@@ -94,7 +76,7 @@ handles_kind charge from m SetDate = date_of charge from m
 handles_kind charge from m DateReq = from_peer from (date_request_of charge m)
 handles_kind charge from m SetDateReq = from_peer from (date_request_of charge m)
 handles_kind charge from m DateAck = from_peer from (date_acked m)
-handles_kind charge from m Loop = nothing
+handles_kind charge from m LoopKind = nothing
 handles_kind charge from m _ = from_peer from (peer_says m)
 
 -- whether a follower ignores a correction, since another port of its node steers the clock

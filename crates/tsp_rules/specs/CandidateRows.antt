@@ -1,16 +1,7 @@
 -- What a candidate does: a port that stands for election.
 use Rattle.std.specs.Prelude.{ℕ, ◌+◌, ◌*◌, nat_lt, Bool, not, ◌||◌, length}
-use Rattle.tsp_base.specs.declared.act.Act.TheVariants.{Become, Backer, Ring, Late, Acked}
-use Rattle.tsp_base.specs.declared.alarm.Alarm.TheVariants.{Window, Round}
-use Rattle.tsp_base.specs.declared.constants.TheConstants.{ROUND}
-use Rattle.tsp_base.specs.declared.kind.Kind.{Kind}
-use Rattle.tsp_base.specs.declared.kind.Kind.TheVariants.{Ack, MasterAck, MasterUp, Election, Accept, Refuse, Quit}
-use Rattle.tsp_base.specs.declared.place.PeerId.{PeerId}
-use Rattle.tsp_base.specs.declared.role.Role.TheVariants.{Loose, Master}
-use Rattle.tsp_base.specs.History.{Past}
-use Rattle.tsp_base.specs.Messages.{MessageValue}
-use Rattle.tsp_base.specs.PortFacts.{backers}
-use Rattle.tsp_base.specs.Rows.{Row, nothing, puts, ◌followed_by◌, either_by, arms, posts, posts_to_others}
+use Rattle.tsp_rules.specs.Values.{Become, Ring, Late, Backer, Acked, Window, Round, Kind, Accept, Ack, Election, MasterAck, MasterUp, QuitKind, Refuse, PeerId, Loose, Master, ROUND}
+use Rattle.tsp_base.specs.Words.{Past, MessageValue, backers, Row, nothing, puts, ◌followed_by◌, either_by, arms, posts, posts_to_others}
 use Rattle.tsp_rules.specs.CommonRows.{arms_elect, follow_row, quits}
 use Rattle.tsp_rules.specs.SendRows.{has_election, acknowledges}
 use Rattle.tsp_rules.specs.Guards.{is_in_time}
@@ -46,7 +37,7 @@ candidate_takes_kind p m MasterAck = follow_row p
 candidate_takes_kind p m Election = posts p Refuse m.number
 candidate_takes_kind p m Accept = accepted_by p m.number
 candidate_takes_kind p m Refuse = refused_by p m.number
-candidate_takes_kind p m Quit = quits p m.number
+candidate_takes_kind p m QuitKind = quits p m.number
 candidate_takes_kind p m Ack = acknowledges p m.number
 candidate_takes_kind p m _ = nothing
 

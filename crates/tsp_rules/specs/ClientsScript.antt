@@ -1,28 +1,20 @@
 -- How anybody's questions are answered: in the quiet time, by a follower, and by a master.
 use Rattle.std.specs.Prelude.{pos, true, false, List, [], ◌∷◌}
-use Rattle.tsp_base.specs.declared.act.Act.TheVariants.{Boot, Post, Become, Back, Arm, Ring, Gave, Trace}
-use Rattle.tsp_base.specs.declared.alarm.Alarm.TheVariants.{Quiet as QuietAlarm, Search, Elect, Window, Round}
-use Rattle.tsp_base.specs.declared.datagram.Datagram.TheVariants.{Message, Stamp}
-use Rattle.tsp_base.specs.declared.kind.Kind.TheVariants.{Ack, MasterReq, MasterAck, MasterUp, SlaveUp, Election, TraceOn, TraceOff, Msite, MsiteReq, Test, SetDate, SetDateReq}
-use Rattle.tsp_base.specs.declared.place.Place.TheVariants.{Peer, Stranger}
-use Rattle.tsp_base.specs.declared.role.Role.TheVariants.{Starting, Loose, Follow, Candidate, Master}
-use Rattle.tsp_base.specs.declared.stamp.Stamp.TheVariants.{Request, Reply}
-use Rattle.tsp_base.specs.History.{Past}
-use Rattle.tsp_base.specs.Rows.{bare, timed}
-use Rattle.tsp_base.specs.Takings.{peer_of as peer}
+use Rattle.tsp_rules.specs.Values.{Boot, Post, Become, Arm, Ring, Back, Gave, Trace, Quiet, Window, Elect, Search, Round, Message, Stamp, Ack, Election, MasterAck, MasterReq, MasterUp, Msite, MsiteReq, SetDate, SetDateReq, SlaveUp, Test, TraceOff, TraceOn, Peer, Stranger, Starting, Loose, Follow, Candidate, Master, Request, Reply}
+use Rattle.tsp_base.specs.Words.{Past, bare, timed, peer_of as peer}
 use Rattle.tsp_rules.specs.Scripts.{Event, a_name, b_name, x_name, fresh, boots_at, turn_at, hands, Answered}
 
 -- node a, asked by strangers and by its peer
 abbrev pub clients_a : List Event
 clients_a =
-    boots_at 0 0 0 (pos 0) (Boot ∷ Become Starting ∷ Arm QuietAlarm 80000000 ∷ []) ∷
+    boots_at 0 0 0 (pos 0) (Boot ∷ Become Starting ∷ Arm Quiet 80000000 ∷ []) ∷
     hands 0 10 Stranger (Stamp (Request 5 0)) (Post Stranger (Stamp (Reply (record { ticket = 0; word = 5; counter = 0; reading = (pos 10) }))) ∷ []) ∷
     hands 0 20 Stranger (Message (bare Msite 3 x_name)) (Post Stranger (Message (bare Ack 3 [])) ∷ []) ∷
     hands 0 30 Stranger (Message (bare TraceOn 2 x_name)) (Trace true ∷ Post Stranger (Message (bare Ack 2 a_name)) ∷ []) ∷
     hands 0 40 Stranger (Message (bare Test 4 x_name)) [] ∷
     hands 0 50 Stranger (Message (bare MsiteReq 6 x_name)) [] ∷
     hands 0 60 (Peer (peer 1)) (Message (bare MasterUp 0 b_name)) [] ∷
-    turn_at 0 80000000 (Ring QuietAlarm ∷ Become Loose ∷ Arm Search 85000000 ∷ Post (Peer (peer 1)) (Message (bare MasterReq 0 a_name)) ∷ []) ∷
+    turn_at 0 80000000 (Ring Quiet ∷ Become Loose ∷ Arm Search 85000000 ∷ Post (Peer (peer 1)) (Message (bare MasterReq 0 a_name)) ∷ []) ∷
     hands 0 80000010 (Peer (peer 1)) (Message (bare TraceOff 7 b_name)) (Trace false ∷ Post (Peer (peer 1)) (Message (bare Ack 7 a_name)) ∷ []) ∷
     hands 0 81000000 (Peer (peer 1)) (Message (bare MasterAck 0 b_name)) (Become (Follow (peer 1)) ∷ Arm Elect 381000000 ∷ Post (Peer (peer 1)) (Message (bare SlaveUp 0 a_name)) ∷ []) ∷
     hands 0 82000000 Stranger (Message (bare Msite 8 x_name)) (Post Stranger (Message (bare Ack 8 b_name)) ∷ []) ∷

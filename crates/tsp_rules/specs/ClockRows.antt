@@ -1,10 +1,7 @@
 -- How a clock is corrected.
 use Rattle.std.specs.Prelude.{ℕ, nat_lt, nat_abs, ℤ, ◌+ℤ◌, ◌-ℤ◌, Bool, true, if◌then◌else◌, [], ◌∷◌}
-use Rattle.tsp_base.specs.declared.act.Act.TheVariants.{Correct}
-use Rattle.tsp_base.specs.declared.constants.TheConstants.{MAXADJ}
-use Rattle.tsp_base.specs.History.{Past, plain}
-use Rattle.tsp_base.specs.NodeFacts.{shown}
-use Rattle.tsp_base.specs.Rows.{Row}
+use Rattle.tsp_rules.specs.Values.{Correct, MAXADJ}
+use Rattle.tsp_base.specs.Words.{Past, plain, shown, Row}
 use Rattle.tsp_rules.specs.Guards.{target_at, is_clock_value}
 
 -- whether an amount is stepped, not slewed

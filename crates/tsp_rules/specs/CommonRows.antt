@@ -1,18 +1,7 @@
 -- What ports of several roles do.
 use Rattle.std.specs.Prelude.{ℕ, Bool, true, false, ◌&&◌, not, List, [], ◌∷◌}
-use Rattle.tsp_base.specs.declared.act.Act.TheVariants.{Become, Back, Quit, Post, Trace, Boot}
-use Rattle.tsp_base.specs.declared.alarm.Alarm.TheVariants.{Quiet, Search, Elect, Window}
-use Rattle.tsp_base.specs.declared.constants.TheConstants.{QUIET, WINDOW}
-use Rattle.tsp_base.specs.declared.datagram.Datagram.TheVariants.{Message, Stamp}
-use Rattle.tsp_base.specs.declared.kind.Kind.TheVariants.{Ack, MasterReq, SlaveUp, Election}
-use Rattle.tsp_base.specs.declared.place.PeerId.{PeerId}
-use Rattle.tsp_base.specs.declared.place.Place.{Place}
-use Rattle.tsp_base.specs.declared.role.Role.{Role}
-use Rattle.tsp_base.specs.declared.role.Role.TheVariants.{Starting, Loose, Follow, Candidate, Master}
-use Rattle.tsp_base.specs.declared.stamp.Stamp.TheVariants.{Reply}
-use Rattle.tsp_base.specs.History.{Past}
-use Rattle.tsp_base.specs.Rows.{Row, nothing, puts, ◌followed_by◌, either_by, reading, arms, bare, posts, posts_to_others, posts_back}
-use Rattle.tsp_base.specs.PortFacts.{role, kept_name}
+use Rattle.tsp_rules.specs.Values.{Boot, Post, Become, Back, Quit, Trace, Quiet, Window, Elect, Search, Message, Stamp, Ack, Election, MasterReq, SlaveUp, PeerId, Place, Role, Starting, Loose, Follow, Candidate, Master, Reply, QUIET, WINDOW}
+use Rattle.tsp_base.specs.Words.{Past, Row, nothing, puts, ◌followed_by◌, either_by, reading, arms, bare, posts, posts_to_others, posts_back, role, kept_name}
 use Rattle.tsp_rules.specs.SendRows.{begins_to_others}
 use Rattle.tsp_rules.specs.Guards.{delay_at, ticket_at, target_at, is_in_range, may_stand_at, is_master_at, is_starting_role, role_at}
 

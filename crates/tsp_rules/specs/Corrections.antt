@@ -1,15 +1,7 @@
 -- A follower that is corrected, and its clock as it slews.
 use Rattle.std.specs.Prelude.{pos, false, List, [], ◌∷◌, take}
-use Rattle.tsp_base.specs.declared.act.Act.TheVariants.{Boot, Took, Post, Become, Arm, Ring, Correct}
-use Rattle.tsp_base.specs.declared.alarm.Alarm.TheVariants.{Quiet, Search, Elect}
-use Rattle.tsp_base.specs.declared.datagram.Datagram.TheVariants.{Message}
-use Rattle.tsp_base.specs.declared.datagram.Taken.TheVariants.{Good}
-use Rattle.tsp_base.specs.declared.kind.Kind.TheVariants.{AdjTime, Ack, MasterReq, MasterUp, SlaveUp}
-use Rattle.tsp_base.specs.declared.place.Place.TheVariants.{Peer}
-use Rattle.tsp_base.specs.declared.role.Role.TheVariants.{Starting, Loose, Follow}
-use Rattle.tsp_base.specs.History.{Booted, Turned, Handed, Past}
-use Rattle.tsp_base.specs.Rows.{bare, timed}
-use Rattle.tsp_base.specs.Takings.{peer_of as peer}
+use Rattle.tsp_rules.specs.Values.{Boot, Took, Post, Become, Arm, Ring, Correct, Quiet, Elect, Search, Message, Good, Ack, AdjTime, MasterReq, MasterUp, SlaveUp, Peer, Starting, Loose, Follow}
+use Rattle.tsp_base.specs.Words.{Booted, Turned, Handed, Past, bare, timed, peer_of as peer}
 use Rattle.tsp_rules.specs.Answers.{Turn, Got, answers}
 use Rattle.tsp_rules.specs.CommonRows.{boots}
 use Rattle.tsp_rules.specs.Scripts.{Event, step, a_name, b_name, fresh, after, Answered, Is}

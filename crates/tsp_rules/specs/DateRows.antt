@@ -1,20 +1,7 @@
 -- How the network's date is set: a follower passes it on to its master, and a master sets it.
 use Rattle.std.specs.Prelude.{ℕ, ◌+◌, ◌==◌, nat_lt, ℤ, Bool, true, false, ◌&&◌, ◌||◌, List, [], ◌∷◌, Option, None, Some}
-use Rattle.tsp_base.specs.declared.act.Act.TheVariants.{Acked, Leave}
-use Rattle.tsp_base.specs.declared.constants.TheConstants.{DATEHOLD, GAP, REUSE}
-use Rattle.tsp_base.specs.declared.kind.Kind.TheVariants.{Ack, DateAck, MasterUp, SetDateReq}
-use Rattle.tsp_base.specs.declared.place.PeerId.{PeerId}
-use Rattle.tsp_base.specs.declared.place.Place.{Place}
-use Rattle.tsp_base.specs.declared.place.Place.TheVariants.{Peer}
-use Rattle.tsp_base.specs.declared.role.Role.{Role}
-use Rattle.tsp_base.specs.declared.role.Role.TheVariants.{Follow, Master}
-use Rattle.tsp_base.specs.History.{Past, plain}
-use Rattle.tsp_base.specs.Hold.{is_past}
-use Rattle.tsp_base.specs.Messages.{MessageValue}
-use Rattle.tsp_base.specs.NodeFacts.{correct_tick}
-use Rattle.tsp_base.specs.Rows.{Row, nothing, puts, ◌followed_by◌, either_by, reading, for_each, posts, posts_back, posts_to_others}
-use Rattle.tsp_base.specs.SendFacts.{Dating, Sending, is_acknowledged, is_set_date_request, last_asked, last_date, last_post}
-use Rattle.tsp_base.specs.Takings.{time_in}
+use Rattle.tsp_rules.specs.Values.{Acked, Leave, Ack, DateAck, MasterUp, SetDateReq, PeerId, Place, Peer, Role, Follow, Master, DATEHOLD, GAP, REUSE}
+use Rattle.tsp_base.specs.Words.{Past, plain, is_past, MessageValue, correct_tick, Row, nothing, puts, ◌followed_by◌, either_by, reading, for_each, posts, posts_back, posts_to_others, Dating, Sending, is_acknowledged, is_set_date_request, last_asked, last_date, last_post, time_in}
 use Rattle.tsp_rules.specs.ClockRows.{sets}
 use Rattle.tsp_rules.specs.SendRows.{begins_timed, is_free, open_at}
 use Rattle.tsp_rules.specs.Guards.{is_clock_value, role_at, table_at}

@@ -1,12 +1,7 @@
 -- A client sets the date through a follower, and it is set once.
 use Rattle.std.specs.Prelude.{pos, negsuc, true, List, [], ◌∷◌, ◌++◌}
-use Rattle.tsp_base.specs.declared.act.Act.TheVariants.{Post, Arm, Join, Leave, Acked, Correct}
-use Rattle.tsp_base.specs.declared.alarm.Alarm.TheVariants.{Elect}
-use Rattle.tsp_base.specs.declared.datagram.Datagram.TheVariants.{Message}
-use Rattle.tsp_base.specs.declared.kind.Kind.TheVariants.{Ack, SetTime, MasterUp, SlaveUp, DateAck, SetDate, SetDateReq}
-use Rattle.tsp_base.specs.declared.place.Place.TheVariants.{Peer, Stranger}
-use Rattle.tsp_base.specs.Rows.{bare, timed}
-use Rattle.tsp_base.specs.Takings.{peer_of as peer}
+use Rattle.tsp_rules.specs.Values.{Post, Arm, Correct, Acked, Join, Leave, Elect, Message, Ack, DateAck, MasterUp, SetDate, SetDateReq, SetTime, SlaveUp, Peer, Stranger}
+use Rattle.tsp_base.specs.Words.{bare, timed, peer_of as peer}
 use Rattle.tsp_rules.specs.OrdinaryUse.{ordinary_use_a, fresh_a, ordinary_use_b, fresh_b}
 use Rattle.tsp_rules.specs.Scripts.{Event, a_name, b_name, x_name, hands, Answered}
 

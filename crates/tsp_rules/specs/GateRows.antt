@@ -1,31 +1,7 @@
 -- What a node does in a step, over all its ports: port by port the due sends and due alarms, and then the input.
 use Rattle.std.specs.Prelude.{ℕ, ◌+◌, ◌-◌, ◌==◌, nat_le, nat_lt, Bool, true, false, not, ◌&&◌, ◌||◌, if◌then◌else◌, List, [], ◌∷◌, filter, length, map, is_some}
-use Rattle.tsp_base.specs.declared.act.Act.{Act}
-use Rattle.tsp_base.specs.declared.act.Act.TheVariants.{Become, Boot, Post, Ring, Took}
-use Rattle.tsp_base.specs.declared.alarm.Alarm.{Alarm}
-use Rattle.tsp_base.specs.declared.alarm.TheConstants.Alarm.{ALL}
-use Rattle.tsp_base.specs.declared.alarm.Alarm.TheVariants.{Quiet, Probe, Close, Round}
-use Rattle.tsp_base.specs.declared.constants.TheConstants.{HOPS, QUIET}
-use Rattle.tsp_base.specs.declared.datagram.Datagram.TheVariants.{Message}
-use Rattle.tsp_base.specs.declared.datagram.Taken.{Taken}
-use Rattle.tsp_base.specs.declared.datagram.Taken.TheVariants.{Good}
-use Rattle.tsp_base.specs.declared.kind.Kind.{Kind}
-use Rattle.tsp_base.specs.declared.kind.Kind.TheVariants.{Loop as LoopKind}
-use Rattle.tsp_base.specs.declared.message.Body.{Body}
-use Rattle.tsp_base.specs.declared.message.Body.TheVariants.{Hops}
-use Rattle.tsp_base.specs.declared.place.PeerId.{PeerId}
-use Rattle.tsp_base.specs.declared.place.Place.{Place}
-use Rattle.tsp_base.specs.declared.place.Place.TheVariants.{Peer, Stranger}
-use Rattle.tsp_base.specs.declared.place.Port.{Port}
-use Rattle.tsp_base.specs.declared.role.Role.TheVariants.{Starting}
-use Rattle.tsp_base.specs.Alarms.{deadline}
-use Rattle.tsp_base.specs.History.{Past, view}
-use Rattle.tsp_base.specs.Joins.{first_port}
-use Rattle.tsp_base.specs.Messages.{MessageValue}
-use Rattle.tsp_base.specs.PortFacts.{armed, role}
-use Rattle.tsp_base.specs.RoundFacts.{is_going}
-use Rattle.tsp_base.specs.Rows.{◌followed_by◌, arms, Row, nothing, puts, either_by, others}
-use Rattle.tsp_base.specs.SendFacts.{sets_date}
+use Rattle.tsp_rules.specs.Values.{Act, Boot, Took, Post, Become, Ring, Alarm, Quiet, Round, Probe, CloseAlarm, Message, Taken, Good, Kind, LoopKind, Body, Hops, PeerId, Place, Peer, Stranger, Port, Starting, ALL, HOPS, QUIET}
+use Rattle.tsp_base.specs.Words.{deadline, Past, view, first_port, MessageValue, armed, role, is_going, ◌followed_by◌, arms, Row, nothing, puts, either_by, others, sets_date}
 use Rattle.tsp_rules.specs.Answers.{rings, takes}
 use Rattle.tsp_rules.specs.CandidateRows.{yields}
 use Rattle.tsp_rules.specs.NodeRows.{NodePast, NodeRow, PortSetup, nothing_at_all, on, on_port, ◌and_then◌, reading_all, for_ports, stirring}
@@ -99,7 +75,7 @@ has_rung (Ring alarm ∷ rest) = is_probe alarm
 has_rung _ = false
 
 abbrev pub is_last_probe : Past → Bool
-is_last_probe past = is_some (deadline (armed past.seen) Close) && not (is_some (deadline (armed past.seen) Probe))
+is_last_probe past = is_some (deadline (armed past.seen) CloseAlarm) && not (is_some (deadline (armed past.seen) Probe))
 
 -- whether these acts are those of a round's last Probe, at a node of several ports
 abbrev pub ends_probes : List Act → Past → List PortSetup → Bool
@@ -114,7 +90,7 @@ unfoldable pub probes_on : Port → NodeRow
 probes_on q x past = (on q (rings true false Probe) and_then loops_after q (rings true false Probe x (on_port q past))) x past
 
 unfoldable pub closes_on : Port → Bool → NodeRow
-closes_on q own x past = stirring q (other_ports q past) (rings own false Close) x past
+closes_on q own x past = stirring q (other_ports q past) (rings own false CloseAlarm) x past
 
 unfoldable pub begins_round_on : Port → Bool → NodeRow
 begins_round_on q wait = on q (rings true wait Round)
@@ -122,7 +98,7 @@ begins_round_on q wait = on q (rings true wait Round)
 -- an alarm of a port, where it is due when its turn comes
 unfoldable pub alarm_on : Port → Alarm → NodeRow
 alarm_on q Probe = probes_on q
-alarm_on q Close = reading_all (leads_clock q) (closes_on q)
+alarm_on q CloseAlarm = reading_all (leads_clock q) (closes_on q)
 alarm_on q Round = reading_all (waits q) (begins_round_on q)
 alarm_on q alarm = on q (rings true false alarm)
 

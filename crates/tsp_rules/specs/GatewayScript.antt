@@ -1,19 +1,7 @@
 -- A node with two ports: it follows on both and is corrected on one, and it passes LOOPs on.
 use Rattle.std.specs.Prelude.{◌≡◌, ℕ, pos, false, List, [], ◌∷◌, ◌++◌, codes}
-use Rattle.tsp_base.specs.declared.act.Act.{Act}
-use Rattle.tsp_base.specs.declared.act.Act.TheVariants.{Boot, Took, Post, Become, Arm, Ring, Correct}
-use Rattle.tsp_base.specs.declared.act.Placed.{Placed}
-use Rattle.tsp_base.specs.declared.alarm.Alarm.TheVariants.{Quiet, Search, Elect}
-use Rattle.tsp_base.specs.declared.datagram.Datagram.TheVariants.{Message}
-use Rattle.tsp_base.specs.declared.datagram.Taken.TheVariants.{Good}
-use Rattle.tsp_base.specs.declared.kind.Kind.TheVariants.{AdjTime, Ack, MasterReq, MasterUp, SlaveUp, Loop as LoopKind}
-use Rattle.tsp_base.specs.declared.message.Body.TheVariants.{Hops}
-use Rattle.tsp_base.specs.declared.place.Place.TheVariants.{Peer}
-use Rattle.tsp_base.specs.declared.role.Role.TheVariants.{Starting, Loose, Follow}
-use Rattle.tsp_base.specs.History.{Booted, Turned, Handed, Step}
-use Rattle.tsp_base.specs.Messages.{MessageValue}
-use Rattle.tsp_base.specs.Rows.{bare, timed, placed}
-use Rattle.tsp_base.specs.Takings.{peer_of as peer}
+use Rattle.tsp_rules.specs.Values.{Act, Boot, Took, Post, Become, Arm, Ring, Correct, Placed, Quiet, Elect, Search, Message, Good, Ack, AdjTime, LoopKind, MasterReq, MasterUp, SlaveUp, Hops, Peer, Starting, Loose, Follow}
+use Rattle.tsp_base.specs.Words.{Booted, Turned, Handed, Step, MessageValue, bare, timed, placed, peer_of as peer}
 use Rattle.tsp_rules.specs.GateRows.{GotOn, NodeTurn, answers_all, boots_all}
 use Rattle.tsp_rules.specs.NodeRows.{NodePast, NodeRow, in_node_step, spread}
 use Rattle.tsp_rules.specs.Scripts.{step, a_name, b_name}

@@ -1,19 +1,7 @@
 -- What rows ask of a past at a tick.
 use Rattle.std.specs.Prelude.{ℕ, ◌+◌, ◌%◌, ◌==◌, nat_le, ℤ, neg_ℤ, int_lt, Bool, true, false, not, ◌&&◌, List, filter, Option, None, Some, is_some}
-use Rattle.tsp_base.specs.declared.alarm.Alarm.{Alarm}
-use Rattle.tsp_base.specs.declared.constants.TheConstants.{LIMIT, SLACK, ELECT_MIN, ELECT_SPREAD}
-use Rattle.tsp_base.specs.declared.place.PeerId.{PeerId}
-use Rattle.tsp_base.specs.declared.place.Place.{Place}
-use Rattle.tsp_base.specs.declared.place.Place.TheVariants.{Peer, Stranger}
-use Rattle.tsp_base.specs.declared.role.Role.{Role}
-use Rattle.tsp_base.specs.declared.role.Role.TheVariants.{Starting, Follow, Master}
-use Rattle.tsp_base.specs.Alarms.{deadline}
-use Rattle.tsp_base.specs.History.{Past, plain}
-use Rattle.tsp_base.specs.Hold.{may_back, may_stand}
-use Rattle.tsp_base.specs.NodeFacts.{word, ticket, target}
-use Rattle.tsp_base.specs.Peers.{is_among}
-use Rattle.tsp_base.specs.PortFacts.{role, armed, held, in_table, is_rival}
-use Rattle.tsp_base.specs.RoundFacts.{is_going}
+use Rattle.tsp_rules.specs.Values.{Alarm, PeerId, Place, Peer, Stranger, Role, Starting, Follow, Master, ELECT_MIN, ELECT_SPREAD, LIMIT, SLACK}
+use Rattle.tsp_base.specs.Words.{deadline, Past, plain, may_back, may_stand, word, ticket, target, is_among, role, armed, held, in_table, is_rival, is_going}
 
 -- the role
 abbrev pub role_at : ℕ → Past → Role

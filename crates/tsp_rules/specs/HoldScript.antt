@@ -1,17 +1,7 @@
 -- A node that is asked to back two candidates, and boots again.
 use Rattle.std.specs.Prelude.{◌≡◌, pos, false, List, [], ◌∷◌, take, Some, None}
-use Rattle.tsp_base.specs.declared.act.Act.TheVariants.{Boot, Took, Post, Become, Back, Arm, Ring}
-use Rattle.tsp_base.specs.declared.alarm.Alarm.TheVariants.{Quiet, Search, Elect}
-use Rattle.tsp_base.specs.declared.datagram.Datagram.TheVariants.{Message}
-use Rattle.tsp_base.specs.declared.datagram.Taken.TheVariants.{Good}
-use Rattle.tsp_base.specs.declared.kind.Kind.TheVariants.{MasterReq, Election, Accept, Refuse}
-use Rattle.tsp_base.specs.declared.place.Place.TheVariants.{Peer}
-use Rattle.tsp_base.specs.declared.role.Role.TheVariants.{Starting, Loose}
-use Rattle.tsp_base.specs.History.{Booted, Turned, Handed, Past}
-use Rattle.tsp_base.specs.PortFacts.{held}
-use Rattle.tsp_base.specs.Rows.{bare}
-use Rattle.tsp_base.specs.SendFacts.{open_send}
-use Rattle.tsp_base.specs.Takings.{peer_of as peer}
+use Rattle.tsp_rules.specs.Values.{Boot, Took, Post, Become, Arm, Ring, Back, Quiet, Elect, Search, Message, Good, Accept, Election, MasterReq, Refuse, Peer, Starting, Loose}
+use Rattle.tsp_base.specs.Words.{Booted, Turned, Handed, Past, held, bare, open_send, peer_of as peer}
 use Rattle.tsp_rules.specs.Answers.{Turn, Got, answers}
 use Rattle.tsp_rules.specs.CommonRows.{boots}
 use Rattle.tsp_rules.specs.Scripts.{Event, step, a_name, b_name, c_name, fresh, after, Answered, Is}

@@ -1,10 +1,7 @@
 -- A round that is closed at the last tick that is in time, and one that is closed too late.
 use Rattle.std.specs.Prelude.{pos, true, false, List, [], ◌∷◌, ◌++◌, take}
-use Rattle.tsp_base.specs.declared.act.Act.TheVariants.{Boot, Become, Back, Arm, Ring, Late, Close, Correct, Abandon}
-use Rattle.tsp_base.specs.declared.alarm.Alarm.TheVariants.{Quiet, Search, Elect, Window, Probe, Round, Close as CloseAlarm}
-use Rattle.tsp_base.specs.declared.role.Role.TheVariants.{Starting, Loose, Candidate, Master}
-use Rattle.tsp_base.specs.History.{Booted, Turned, Past}
-use Rattle.tsp_base.specs.Takings.{peer_of as peer}
+use Rattle.tsp_rules.specs.Values.{Boot, Become, Arm, Ring, Late, Back, Abandon, Close, Correct, Quiet, Window, Elect, Search, Round, Probe, CloseAlarm, Starting, Loose, Candidate, Master}
+use Rattle.tsp_base.specs.Words.{Booted, Turned, Past, peer_of as peer}
 use Rattle.tsp_rules.specs.Answers.{Turn, answers}
 use Rattle.tsp_rules.specs.CommonRows.{boots}
 use Rattle.tsp_rules.specs.Scripts.{Event, step, a_name, fresh, after, Answered, Is}

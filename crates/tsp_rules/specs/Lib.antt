@@ -27,3 +27,4 @@ pub mod SendRows
 pub mod SlaveRows
 pub mod Strangers
 pub mod StrictScript
+pub mod Values

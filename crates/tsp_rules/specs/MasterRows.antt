@@ -1,12 +1,7 @@
 -- What a master does with the messages of its peers.
 use Rattle.std.specs.Prelude.{ℕ, nat_lt, Bool, not, ◌&&◌}
-use Rattle.tsp_base.specs.declared.act.Act.TheVariants.{Join}
-use Rattle.tsp_base.specs.declared.kind.Kind.{Kind}
-use Rattle.tsp_base.specs.declared.kind.Kind.TheVariants.{Ack, MasterReq, MasterAck, MasterUp, SlaveUp, Election, Conflict, Resolve, Quit}
-use Rattle.tsp_base.specs.declared.place.PeerId.{PeerId}
-use Rattle.tsp_base.specs.History.{Past}
-use Rattle.tsp_base.specs.Messages.{MessageValue}
-use Rattle.tsp_base.specs.Rows.{Row, nothing, puts, ◌followed_by◌, either_by, posts}
+use Rattle.tsp_rules.specs.Values.{Join, Kind, Ack, Conflict, Election, MasterAck, MasterReq, MasterUp, QuitKind, ResolveKind, SlaveUp, PeerId}
+use Rattle.tsp_base.specs.Words.{Past, MessageValue, Row, nothing, puts, ◌followed_by◌, either_by, posts}
 use Rattle.tsp_rules.specs.CommonRows.{quits}
 use Rattle.tsp_rules.specs.ResolveRows.{resolves, finds_rival}
 use Rattle.tsp_rules.specs.SendRows.{begins, begins_settime, has_quit, acknowledges}
@@ -22,18 +17,18 @@ joins p number = either_by (may_join p number) (puts (Join p) followed_by begins
 
 -- a candidate is sent a QUIT, unless one to it is open already
 unfoldable pub sends_away : PeerId → Row
-sends_away p = either_by (has_quit p) nothing (begins Quit p)
+sends_away p = either_by (has_quit p) nothing (begins QuitKind p)
 
 -- what a master does with this kind of message of a peer
 unfoldable pub master_takes_kind : PeerId → MessageValue → Kind → Row
 master_takes_kind p m MasterReq = posts p MasterAck m.number
-master_takes_kind p m Resolve = posts p MasterAck m.number
+master_takes_kind p m ResolveKind = posts p MasterAck m.number
 master_takes_kind p m SlaveUp = joins p m.number
 master_takes_kind p m Election = sends_away p
 master_takes_kind p m MasterUp = resolves
 master_takes_kind p m Conflict = posts p Ack m.number followed_by resolves
 master_takes_kind p m MasterAck = finds_rival p
-master_takes_kind p m Quit = quits p m.number
+master_takes_kind p m QuitKind = quits p m.number
 master_takes_kind p m Ack = acknowledges p m.number
 master_takes_kind p m _ = nothing
 

@@ -1,6 +1,6 @@
 -- The contract of a call that puts acts of all ports of a node and changes its state (`Performs` of tsp_base says it of one port).
 use Rattle.std.specs.Prelude.{◌≡◌, ℕ, List, ◌++◌}
-use Rattle.tsp_base.specs.declared.act.Placed.{Placed}
+use Rattle.tsp_rules.specs.Values.{Placed}
 use Rattle.tsp_rules.specs.NodeRows.{NodePast, NodeRow, spread}
 
 -- for every past of the node that the state before the call stood for, the row's acts were put, and the state after it stands for the past with these acts

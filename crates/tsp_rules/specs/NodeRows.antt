@@ -1,13 +1,7 @@
 -- Rows of a node over all its ports.
 use Rattle.std.specs.Prelude.{ℕ, Bool, if◌then◌else◌, List, [], ◌∷◌, ◌++◌, slice_index_or}
-use Rattle.tsp_base.specs.declared.act.Act.TheVariants.{Abandon}
-use Rattle.tsp_base.specs.declared.act.Placed.{Placed}
-use Rattle.tsp_base.specs.declared.place.PeerId.{PeerId}
-use Rattle.tsp_base.specs.declared.place.Port.{Port}
-use Rattle.tsp_base.specs.History.{Begins, Step, Line, Past, view}
-use Rattle.tsp_base.specs.Joins.{first_port, joined, line_of}
-use Rattle.tsp_base.specs.RoundFacts.{is_going}
-use Rattle.tsp_base.specs.Rows.{Row, placed}
+use Rattle.tsp_rules.specs.Values.{Abandon, Placed, PeerId, Port}
+use Rattle.tsp_base.specs.Words.{Begins, Step, Line, Past, view, first_port, joined, line_of, is_going, Row, placed}
 use Rattle.tsp_rules.specs.RoundRows.{corrects}
 
 -- how a port is set up: the node's number on its network, and all peers there

@@ -1,21 +1,14 @@
 -- Two masters, of which one sends the other away, and what else the winner hears.
 use Rattle.std.specs.Prelude.{pos, true, List, [], ◌∷◌, ◌++◌}
-use Rattle.tsp_base.specs.declared.act.Act.TheVariants.{Boot, Post, Become, Back, Quit, Arm, Ring, Late, Join, Leave, Rival, Acked, Gave}
-use Rattle.tsp_base.specs.declared.alarm.Alarm.TheVariants.{Quiet as QuietAlarm, Search, Elect, Window, Resolve as ResolveAlarm, Round}
-use Rattle.tsp_base.specs.declared.datagram.Datagram.TheVariants.{Message}
-use Rattle.tsp_base.specs.declared.kind.Kind.TheVariants.{Ack, MasterReq, MasterAck, SetTime, MasterUp, SlaveUp, Election, Conflict, Resolve as ResolveKind, Quit as QuitKind}
-use Rattle.tsp_base.specs.declared.place.Place.TheVariants.{Peer}
-use Rattle.tsp_base.specs.declared.role.Role.TheVariants.{Starting, Loose, Follow, Candidate, Master}
-use Rattle.tsp_base.specs.History.{Past}
-use Rattle.tsp_base.specs.Rows.{bare, timed}
-use Rattle.tsp_base.specs.Takings.{peer_of as peer}
+use Rattle.tsp_rules.specs.Values.{Boot, Post, Become, Arm, Ring, Late, Back, Acked, Gave, Join, Leave, Rival, Quit, Quiet, Window, Elect, Search, Round, ResolveAlarm, Message, Ack, Conflict, Election, MasterAck, MasterReq, MasterUp, QuitKind, ResolveKind, SetTime, SlaveUp, Peer, Starting, Loose, Follow, Candidate, Master}
+use Rattle.tsp_base.specs.Words.{Past, bare, timed, peer_of as peer}
 use Rattle.tsp_rules.specs.Scripts.{Event, a_name, b_name, fresh, boots_at, turn_at, hands, Answered}
 
 -- node a: it finds node b to be its rival, sends it away, and gets it as a slave
 abbrev pub resolution_a : List Event
 resolution_a =
-    boots_at 0 0 0 (pos 0) (Boot ∷ Become Starting ∷ Arm QuietAlarm 80000000 ∷ []) ∷
-    turn_at 0 80000000 (Ring QuietAlarm ∷ Become Loose ∷ Arm Search 85000000 ∷ Post (Peer (peer 1)) (Message (bare MasterReq 0 a_name)) ∷ []) ∷
+    boots_at 0 0 0 (pos 0) (Boot ∷ Become Starting ∷ Arm Quiet 80000000 ∷ []) ∷
+    turn_at 0 80000000 (Ring Quiet ∷ Become Loose ∷ Arm Search 85000000 ∷ Post (Peer (peer 1)) (Message (bare MasterReq 0 a_name)) ∷ []) ∷
     turn_at 0 85000000 (Ring Search ∷ Arm Elect 385000000 ∷ []) ∷
     turn_at 0 385000000 (Ring Elect ∷ Become Candidate ∷ Back (peer 0) ∷ Arm Window 390000000 ∷ Post (Peer (peer 1)) (Message (bare Election 32768 a_name)) ∷ []) ∷
     turn_at 0 390000000 (Gave (peer 1) ∷ Ring Window ∷ Become Master ∷ Arm Round 630000000 ∷ Post (Peer (peer 1)) (Message (bare MasterUp 0 a_name)) ∷ []) ∷
@@ -48,8 +41,8 @@ left_a =
 -- node b: it is sent away and follows
 abbrev pub resolution_b : List Event
 resolution_b =
-    boots_at 1 0 1 (pos 0) (Boot ∷ Become Starting ∷ Arm QuietAlarm 80000000 ∷ []) ∷
-    turn_at 1 80000000 (Ring QuietAlarm ∷ Become Loose ∷ Arm Search 85000000 ∷ Post (Peer (peer 0)) (Message (bare MasterReq 0 b_name)) ∷ []) ∷
+    boots_at 1 0 1 (pos 0) (Boot ∷ Become Starting ∷ Arm Quiet 80000000 ∷ []) ∷
+    turn_at 1 80000000 (Ring Quiet ∷ Become Loose ∷ Arm Search 85000000 ∷ Post (Peer (peer 0)) (Message (bare MasterReq 0 b_name)) ∷ []) ∷
     turn_at 1 85000001 (Ring Search ∷ Arm Elect 385000002 ∷ []) ∷
     turn_at 1 385000002 (Ring Elect ∷ Become Candidate ∷ Back (peer 1) ∷ Arm Window 390000002 ∷ Post (Peer (peer 0)) (Message (bare Election 32769 b_name)) ∷ []) ∷
     turn_at 1 390000002 (Gave (peer 0) ∷ Ring Window ∷ Become Master ∷ Arm Round 630000002 ∷ Post (Peer (peer 0)) (Message (bare MasterUp 0 b_name)) ∷ []) ∷

@@ -1,18 +1,13 @@
 -- How a master finds its rivals and sends them away.
 use Rattle.std.specs.Prelude.{ℕ, Bool, not, ◌&&◌}
-use Rattle.tsp_base.specs.declared.act.Act.TheVariants.{Rival, Ring, Late}
-use Rattle.tsp_base.specs.declared.alarm.Alarm.TheVariants.{Resolve as ResolveAlarm}
-use Rattle.tsp_base.specs.declared.constants.TheConstants.{WINDOW}
-use Rattle.tsp_base.specs.declared.kind.Kind.TheVariants.{Resolve, Quit}
-use Rattle.tsp_base.specs.declared.place.PeerId.{PeerId}
-use Rattle.tsp_base.specs.History.{Past}
-use Rattle.tsp_base.specs.Rows.{Row, nothing, puts, ◌followed_by◌, either_by, reading, for_each, arms, posts_to_others}
+use Rattle.tsp_rules.specs.Values.{Ring, Late, Rival, ResolveAlarm, QuitKind, ResolveKind, PeerId, WINDOW}
+use Rattle.tsp_base.specs.Words.{Past, Row, nothing, puts, ◌followed_by◌, either_by, reading, for_each, arms, posts_to_others}
 use Rattle.tsp_rules.specs.SendRows.{begins}
 use Rattle.tsp_rules.specs.Guards.{is_in_time, is_armed, is_rival_at, rivals_at}
 
 -- a master asks all peers who else is master, unless it is asking already
 unfoldable pub resolves : Row
-resolves = either_by (is_armed ResolveAlarm) nothing (arms ResolveAlarm WINDOW followed_by posts_to_others Resolve 0)
+resolves = either_by (is_armed ResolveAlarm) nothing (arms ResolveAlarm WINDOW followed_by posts_to_others ResolveKind 0)
 
 abbrev pub is_new_rival : PeerId → ℕ → Past → Bool
 is_new_rival p x past = is_armed ResolveAlarm x past && not (is_rival_at p x past)
@@ -23,7 +18,7 @@ finds_rival p = either_by (is_new_rival p) (puts (Rival p)) nothing
 
 -- a QUIT begins to each rival, ascending
 unfoldable pub quits_rivals : Row
-quits_rivals = reading rivals_at (for_each (begins Quit))
+quits_rivals = reading rivals_at (for_each (begins QuitKind))
 
 -- the time for answers is over
 unfoldable pub resolve_rings : Row

@@ -1,17 +1,7 @@
 -- Two masters, of which one sends the other away.
 use Rattle.std.specs.Prelude.{◌≡◌, pos, true, List, [], ◌∷◌, take, Some, None}
-use Rattle.tsp_base.specs.declared.act.Act.TheVariants.{Boot, Took, Post, Become, Back, Quit, Arm, Ring, Rival, Acked, Gave}
-use Rattle.tsp_base.specs.declared.alarm.Alarm.TheVariants.{Quiet, Search, Elect, Window, Round, Resolve as ResolveAlarm}
-use Rattle.tsp_base.specs.declared.datagram.Datagram.TheVariants.{Message}
-use Rattle.tsp_base.specs.declared.datagram.Taken.TheVariants.{Good}
-use Rattle.tsp_base.specs.declared.kind.Kind.TheVariants.{Ack, MasterReq, MasterAck, MasterUp, SlaveUp, Election, Test, Quit as QuitKind, Resolve as ResolveKind}
-use Rattle.tsp_base.specs.declared.place.Place.TheVariants.{Peer, Stranger}
-use Rattle.tsp_base.specs.declared.role.Role.TheVariants.{Starting, Loose, Follow, Candidate, Master}
-use Rattle.tsp_base.specs.History.{Booted, Turned, Handed, Past}
-use Rattle.tsp_base.specs.PortFacts.{is_rival}
-use Rattle.tsp_base.specs.Rows.{bare}
-use Rattle.tsp_base.specs.SendFacts.{open_send}
-use Rattle.tsp_base.specs.Takings.{peer_of as peer}
+use Rattle.tsp_rules.specs.Values.{Boot, Took, Post, Become, Arm, Ring, Back, Acked, Gave, Rival, Quit, Quiet, Window, Elect, Search, Round, ResolveAlarm, Message, Good, Ack, Election, MasterAck, MasterReq, MasterUp, QuitKind, ResolveKind, SlaveUp, Test, Peer, Stranger, Starting, Loose, Follow, Candidate, Master}
+use Rattle.tsp_base.specs.Words.{Booted, Turned, Handed, Past, is_rival, bare, open_send, peer_of as peer}
 use Rattle.tsp_rules.specs.Answers.{Turn, Got, answers}
 use Rattle.tsp_rules.specs.CommonRows.{boots}
 use Rattle.tsp_rules.specs.Scripts.{Event, step, a_name, b_name, fresh, after, Answered, Is}

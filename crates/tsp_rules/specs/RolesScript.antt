@@ -1,21 +1,14 @@
 -- A follower that hears of another master, a candidate that is refused or meets a master, and alarms that come late.
 use Rattle.std.specs.Prelude.{pos, true, List, [], ◌∷◌, ◌++◌, take}
-use Rattle.tsp_base.specs.declared.act.Act.TheVariants.{Boot, Post, Become, Back, Quit, Arm, Ring, Late, Acked, Gave}
-use Rattle.tsp_base.specs.declared.alarm.Alarm.TheVariants.{Quiet as QuietAlarm, Search, Elect, Window}
-use Rattle.tsp_base.specs.declared.datagram.Datagram.TheVariants.{Message}
-use Rattle.tsp_base.specs.declared.kind.Kind.TheVariants.{Ack, MasterReq, MasterAck, MasterUp, SlaveUp, Election, Refuse, Conflict, Quit as QuitKind}
-use Rattle.tsp_base.specs.declared.place.Place.TheVariants.{Peer}
-use Rattle.tsp_base.specs.declared.role.Role.TheVariants.{Starting, Loose, Follow, Candidate}
-use Rattle.tsp_base.specs.History.{Past}
-use Rattle.tsp_base.specs.Rows.{bare}
-use Rattle.tsp_base.specs.Takings.{peer_of as peer}
+use Rattle.tsp_rules.specs.Values.{Boot, Post, Become, Arm, Ring, Late, Back, Acked, Gave, Quit, Quiet, Window, Elect, Search, Message, Ack, Conflict, Election, MasterAck, MasterReq, MasterUp, QuitKind, Refuse, SlaveUp, Peer, Starting, Loose, Follow, Candidate}
+use Rattle.tsp_base.specs.Words.{Past, bare, peer_of as peer}
 use Rattle.tsp_rules.specs.Scripts.{Event, a_name, b_name, c_name, fresh, boots_at, turn_at, hands, hands_late, Answered}
 
 -- node a: two masters, an election that is lost, and a master whose QUIT it takes
 abbrev pub conflict_a : List Event
 conflict_a =
-    boots_at 0 0 0 (pos 0) (Boot ∷ Become Starting ∷ Arm QuietAlarm 80000000 ∷ []) ∷
-    turn_at 0 80000000 (Ring QuietAlarm ∷ Become Loose ∷ Arm Search 85000000 ∷ Post (Peer (peer 1)) (Message (bare MasterReq 0 a_name)) ∷ Post (Peer (peer 2)) (Message (bare MasterReq 0 a_name)) ∷ []) ∷
+    boots_at 0 0 0 (pos 0) (Boot ∷ Become Starting ∷ Arm Quiet 80000000 ∷ []) ∷
+    turn_at 0 80000000 (Ring Quiet ∷ Become Loose ∷ Arm Search 85000000 ∷ Post (Peer (peer 1)) (Message (bare MasterReq 0 a_name)) ∷ Post (Peer (peer 2)) (Message (bare MasterReq 0 a_name)) ∷ []) ∷
     hands 0 81000000 (Peer (peer 1)) (Message (bare MasterUp 0 b_name)) (Become (Follow (peer 1)) ∷ Arm Elect 381000000 ∷ Post (Peer (peer 1)) (Message (bare SlaveUp 0 a_name)) ∷ []) ∷
     hands 0 82000000 (Peer (peer 2)) (Message (bare MasterUp 0 c_name)) (Post (Peer (peer 1)) (Message (bare Conflict 32768 a_name)) ∷ []) ∷
     hands 0 82500000 (Peer (peer 2)) (Message (bare MasterAck 0 c_name)) [] ∷
@@ -36,8 +29,8 @@ conflict_a =
 -- node a: its search and its window come late
 abbrev pub late_a : List Event
 late_a =
-    boots_at 0 0 0 (pos 0) (Boot ∷ Become Starting ∷ Arm QuietAlarm 80000000 ∷ []) ∷
-    turn_at 0 80000000 (Ring QuietAlarm ∷ Become Loose ∷ Arm Search 85000000 ∷ Post (Peer (peer 1)) (Message (bare MasterReq 0 a_name)) ∷ Post (Peer (peer 2)) (Message (bare MasterReq 0 a_name)) ∷ []) ∷
+    boots_at 0 0 0 (pos 0) (Boot ∷ Become Starting ∷ Arm Quiet 80000000 ∷ []) ∷
+    turn_at 0 80000000 (Ring Quiet ∷ Become Loose ∷ Arm Search 85000000 ∷ Post (Peer (peer 1)) (Message (bare MasterReq 0 a_name)) ∷ Post (Peer (peer 2)) (Message (bare MasterReq 0 a_name)) ∷ []) ∷
     turn_at 0 86000001 (Late Search ∷ Arm Elect 386000001 ∷ []) ∷
     turn_at 0 386000001 (Ring Elect ∷ Become Candidate ∷ Back (peer 0) ∷ Arm Window 391000001 ∷ Post (Peer (peer 1)) (Message (bare Election 32768 a_name)) ∷ Post (Peer (peer 2)) (Message (bare Election 32769 a_name)) ∷ []) ∷
     turn_at 0 392000002 (Gave (peer 1) ∷ Gave (peer 2) ∷ Late Window ∷ Become Loose ∷ Arm Elect 692000002 ∷ []) ∷

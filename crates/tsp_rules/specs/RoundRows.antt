@@ -1,23 +1,10 @@
 -- A master's rounds: what it asks, what it learns, and how it closes.
 use Rattle.std.specs.Prelude.{ℕ, ◌%◌, ◌^◌, ◌==◌, nat_lt, nat_abs, ℤ, pos, ◌-ℤ◌, int_lt, Bool, true, false, ◌||◌, if◌then◌else◌, List, [], ◌∷◌, ◌++◌, map, filter, Option, None, Some}
-use Rattle.tsp_base.specs.declared.act.Act.{Act}
-use Rattle.tsp_base.specs.declared.act.Act.TheVariants.{Post, Ring, Late, Leave, Sample, Close as CloseAct, Correct, Abandon}
-use Rattle.tsp_base.specs.declared.alarm.Alarm.TheVariants.{Probe, Close, Round}
-use Rattle.tsp_base.specs.declared.constants.TheConstants.{FAR, SPAN, ROUND, PROBE, CLOSE, WAIT}
-use Rattle.tsp_base.specs.declared.datagram.Datagram.TheVariants.{Stamp}
-use Rattle.tsp_base.specs.declared.kind.Kind.TheVariants.{MasterUp}
-use Rattle.tsp_base.specs.declared.place.PeerId.{PeerId}
-use Rattle.tsp_base.specs.declared.place.Place.TheVariants.{Peer}
-use Rattle.tsp_base.specs.declared.stamp.Stamp.TheVariants.{Request}
-use Rattle.tsp_base.specs.History.{Past, Seen, plain}
-use Rattle.tsp_base.specs.NodeFacts.{word}
-use Rattle.tsp_base.specs.RoundFacts.{Estimate, OpenRequest, asked, estimate, is_measured, probes, request_open}
-use Rattle.tsp_base.specs.Rows.{Row, grown, nothing, puts, ◌followed_by◌, either_by, reading, for_each, arms, posts_to_others}
-use Rattle.tsp_base.specs.Stamps.{ReplyValue}
+use Rattle.tsp_rules.specs.Values.{Act, Post, Ring, Late, Abandon, Close, Correct, Sample, Leave, Round, Probe, CloseAlarm, Stamp, MasterUp, PeerId, Peer, Request, CLOSE, FAR, PROBE, ROUND, SPAN, WAIT}
+use Rattle.tsp_base.specs.Words.{Past, Seen, plain, word, Estimate, OpenRequest, asked, estimate, is_measured, probes, request_open, Row, grown, nothing, puts, ◌followed_by◌, either_by, reading, for_each, arms, posts_to_others, ReplyValue, sample_diff, sample_err}
 use Rattle.tsp_rules.specs.ClockRows.{can_adjust, adjusts}
 use Rattle.tsp_group.specs.Groups.{group_of, mean_of}
 use Rattle.tsp_group.specs.declared.group.Group.{Group}
-use Rattle.tsp_base.specs.Samples.{sample_diff, sample_err}
 use Rattle.tsp_rules.specs.SendRows.{begins_adjtime, begins_settime}
 use Rattle.tsp_rules.specs.Guards.{is_going_at, is_in_time, target_at, table_at}
 
@@ -31,7 +18,7 @@ asks_slaves = reading table_at (for_each asks)
 
 -- a round begins, and the alarm of the next one is armed
 unfoldable pub round_begins : Row
-round_begins = arms Round ROUND followed_by (arms Probe PROBE followed_by (arms Close CLOSE followed_by (posts_to_others MasterUp 0 followed_by asks_slaves)))
+round_begins = arms Round ROUND followed_by (arms Probe PROBE followed_by (arms CloseAlarm CLOSE followed_by (posts_to_others MasterUp 0 followed_by asks_slaves)))
 
 -- a round begins, unless it has to wait for that of another port of the node
 unfoldable pub begins_or_waits : Bool → Row
@@ -122,7 +109,7 @@ mean_by false g = pos 0
 
 -- the group's act, with that mean
 abbrev pub close_act : Bool → Group → Act
-close_act own g = CloseAct g.count g.lo g.width (mean_by own g)
+close_act own g = Close g.count g.lo g.width (mean_by own g)
 
 -- the own clock is moved, where this port leads it
 unfoldable pub moves : Bool → ℤ → Row
@@ -136,11 +123,11 @@ closes_with own g round = either_by (can_adjust (mean_by own g))
     abandons
 
 unfoldable pub closes : Bool → List Standing → Row
-closes own round = puts (Ring Close) followed_by closes_with own (group_of SPAN (estimates round)) round
+closes own round = puts (Ring CloseAlarm) followed_by closes_with own (group_of SPAN (estimates round)) round
 
 -- a round's Close: the result of the round is taken before the first act
 unfoldable pub close_rings : Bool → Row
-close_rings own = either_by (is_in_time Close) (reading round_at (closes own)) (puts (Late Close) followed_by abandons)
+close_rings own = either_by (is_in_time CloseAlarm) (reading round_at (closes own)) (puts (Late CloseAlarm) followed_by abandons)
 
 -- the round is given up, where one goes on
 unfoldable pub abandons_going : Row

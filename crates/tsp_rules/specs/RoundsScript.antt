@@ -1,15 +1,7 @@
 -- Rounds that end otherwise: with a repeated reply, too late, with a clock too far away, without a sample, and at the edge of a clock's range.
 use Rattle.std.specs.Prelude.{pos, true, false, List, [], ◌∷◌, ◌++◌, take}
-use Rattle.tsp_base.specs.declared.act.Act.TheVariants.{Boot, Post, Become, Back, Arm, Ring, Late, Join, Leave, Acked, Gave, Sample, Close, Correct, Abandon}
-use Rattle.tsp_base.specs.declared.alarm.Alarm.TheVariants.{Quiet as QuietAlarm, Search, Elect, Window, Probe, Close as CloseAlarm, Round}
-use Rattle.tsp_base.specs.declared.datagram.Datagram.TheVariants.{Message, Stamp}
-use Rattle.tsp_base.specs.declared.kind.Kind.TheVariants.{AdjTime, Ack, MasterReq, SetTime, MasterUp, SlaveUp, Election}
-use Rattle.tsp_base.specs.declared.place.Place.TheVariants.{Peer}
-use Rattle.tsp_base.specs.declared.role.Role.TheVariants.{Starting, Loose, Candidate, Master}
-use Rattle.tsp_base.specs.declared.stamp.Stamp.TheVariants.{Request, Reply}
-use Rattle.tsp_base.specs.History.{Past}
-use Rattle.tsp_base.specs.Rows.{bare, timed}
-use Rattle.tsp_base.specs.Takings.{peer_of as peer}
+use Rattle.tsp_rules.specs.Values.{Boot, Post, Become, Arm, Ring, Late, Back, Abandon, Close, Correct, Sample, Acked, Gave, Join, Leave, Quiet, Window, Elect, Search, Round, Probe, CloseAlarm, Message, Stamp, Ack, AdjTime, Election, MasterReq, MasterUp, SetTime, SlaveUp, Peer, Starting, Loose, Candidate, Master, Request, Reply}
+use Rattle.tsp_base.specs.Words.{Past, bare, timed, peer_of as peer}
 use Rattle.tsp_rules.specs.OrdinaryUse.{ordinary_use_a, fresh_a, ordinary_use_b, fresh_b}
 use Rattle.tsp_rules.specs.Scripts.{Event, a_name, b_name, fresh, boots_at, turn_at, hands, Answered}
 
@@ -48,8 +40,8 @@ silent_a =
 -- a node whose clock would leave its range by the mean gives the round up
 abbrev pub edge_a : List Event
 edge_a =
-    boots_at 0 0 0 (pos 2147483009999950) (Boot ∷ Become Starting ∷ Arm QuietAlarm 80000000 ∷ []) ∷
-    turn_at 0 80000000 (Ring QuietAlarm ∷ Become Loose ∷ Arm Search 85000000 ∷ Post (Peer (peer 1)) (Message (bare MasterReq 0 a_name)) ∷ []) ∷
+    boots_at 0 0 0 (pos 2147483009999950) (Boot ∷ Become Starting ∷ Arm Quiet 80000000 ∷ []) ∷
+    turn_at 0 80000000 (Ring Quiet ∷ Become Loose ∷ Arm Search 85000000 ∷ Post (Peer (peer 1)) (Message (bare MasterReq 0 a_name)) ∷ []) ∷
     turn_at 0 85000000 (Ring Search ∷ Arm Elect 385000000 ∷ []) ∷
     turn_at 0 385000000 (Ring Elect ∷ Become Candidate ∷ Back (peer 0) ∷ Arm Window 390000000 ∷ Post (Peer (peer 1)) (Message (bare Election 32768 a_name)) ∷ []) ∷
     turn_at 0 390000000 (Gave (peer 1) ∷ Ring Window ∷ Become Master ∷ Arm Round 630000000 ∷ Post (Peer (peer 1)) (Message (bare MasterUp 0 a_name)) ∷ []) ∷

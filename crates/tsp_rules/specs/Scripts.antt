@@ -1,17 +1,7 @@
 -- Runs of one node, written out: its inputs, and the acts that are claimed of it.
 use Rattle.std.specs.Prelude.{◌≡◌, ℕ, ℤ, Bool, false, List, [], ◌∷◌, ◌++◌, codes}
-use Rattle.tsp_base.specs.declared.act.Act.{Act}
-use Rattle.tsp_base.specs.declared.act.Act.TheVariants.{Took}
-use Rattle.tsp_base.specs.declared.datagram.Datagram.{Datagram}
-use Rattle.tsp_base.specs.declared.datagram.Taken.TheVariants.{Good}
-use Rattle.tsp_base.specs.declared.place.PeerId.{PeerId}
-use Rattle.tsp_base.specs.declared.place.Place.{Place}
-use Rattle.tsp_base.specs.declared.role.Role.{Role}
-use Rattle.tsp_base.specs.History.{Cause, Booted, Turned, Handed, Step, Past, plain}
-use Rattle.tsp_base.specs.NodeFacts.{ticket, target, shown}
-use Rattle.tsp_base.specs.PortFacts.{role}
-use Rattle.tsp_base.specs.Rows.{Row, grown, in_step}
-use Rattle.tsp_base.specs.Takings.{peer_of}
+use Rattle.tsp_rules.specs.Values.{Act, Took, Datagram, Good, PeerId, Place, Role}
+use Rattle.tsp_base.specs.Words.{Cause, Booted, Turned, Handed, Step, Past, plain, ticket, target, shown, role, Row, grown, in_step, peer_of}
 use Rattle.tsp_rules.specs.Answers.{Turn, Got, answers}
 use Rattle.tsp_rules.specs.CommonRows.{boots}
 

@@ -1,18 +1,7 @@
 -- How numbered sends begin, are repeated and end.
 use Rattle.std.specs.Prelude.{ℕ, ◌+◌, ◌%◌, ◌==◌, nat_le, ℤ, Bool, true, false, not, ◌&&◌, ◌||◌, if◌then◌else◌, List, Option, None, Some, is_some}
-use Rattle.tsp_base.specs.declared.act.Act.TheVariants.{Post, Acked, Gave, Leave}
-use Rattle.tsp_base.specs.declared.constants.TheConstants.{REUSE}
-use Rattle.tsp_base.specs.declared.datagram.Datagram.TheVariants.{Message}
-use Rattle.tsp_base.specs.declared.kind.Kind.{Kind}
-use Rattle.tsp_base.specs.declared.kind.Kind.TheVariants.{AdjTime, SetTime, Election, Quit, SetDateReq}
-use Rattle.tsp_base.specs.declared.place.PeerId.{PeerId}
-use Rattle.tsp_base.specs.declared.place.Place.TheVariants.{Peer}
-use Rattle.tsp_base.specs.History.{Past, plain}
-use Rattle.tsp_base.specs.Hold.{is_past}
-use Rattle.tsp_base.specs.Messages.{MessageValue}
-use Rattle.tsp_base.specs.NodeFacts.{word}
-use Rattle.tsp_base.specs.Rows.{Row, nothing, puts, ◌followed_by◌, either_by, reading, for_each, others, posts, posts_time}
-use Rattle.tsp_base.specs.SendFacts.{is_correction, Sending, deadline_of, is_given_up, open_send, begun, last_post, is_acknowledged, last_number}
+use Rattle.tsp_rules.specs.Values.{Post, Acked, Gave, Leave, Message, Kind, AdjTime, Election, QuitKind, SetDateReq, SetTime, PeerId, Peer, REUSE}
+use Rattle.tsp_base.specs.Words.{Past, plain, is_past, MessageValue, word, Row, nothing, puts, ◌followed_by◌, either_by, reading, for_each, others, posts, posts_time, is_correction, Sending, deadline_of, is_given_up, open_send, begun, last_post, is_acknowledged, last_number}
 use Rattle.tsp_rules.specs.Guards.{target_at, is_in_range, is_slave_at}
 
 -- the port's next own number: 32768, plus the word and the number of such sends so far, modulo 32768
@@ -63,7 +52,7 @@ is_kind_election Election = true
 is_kind_election _ = false
 
 abbrev pub is_kind_quit : Kind → Bool
-is_kind_quit Quit = true
+is_kind_quit QuitKind = true
 is_kind_quit _ = false
 
 abbrev pub answers_election : ℕ → Option Sending → Bool

@@ -1,21 +1,7 @@
 -- What a slave does: a port that is Loose or follows a master; and how the quiet time ends.
 use Rattle.std.specs.Prelude.{ℕ, ◌==◌, ℤ, Bool, false, ◌&&◌, if◌then◌else◌, Option, None, Some}
-use Rattle.tsp_base.specs.declared.act.Act.TheVariants.{Become, Back, Ring, Late}
-use Rattle.tsp_base.specs.declared.alarm.Alarm.{Alarm}
-use Rattle.tsp_base.specs.declared.alarm.Alarm.TheVariants.{Quiet, Search, Elect}
-use Rattle.tsp_base.specs.declared.constants.TheConstants.{GAP}
-use Rattle.tsp_base.specs.declared.kind.Kind.{Kind}
-use Rattle.tsp_base.specs.declared.kind.Kind.TheVariants.{AdjTime, Ack, MasterAck, SetTime, MasterUp, Election, Accept, Refuse, Conflict, Quit}
-use Rattle.tsp_base.specs.declared.place.PeerId.{PeerId}
-use Rattle.tsp_base.specs.declared.role.Role.{Role}
-use Rattle.tsp_base.specs.declared.role.Role.TheVariants.{Loose, Follow}
-use Rattle.tsp_base.specs.History.{Past, plain}
-use Rattle.tsp_base.specs.Hold.{is_past}
-use Rattle.tsp_base.specs.Messages.{MessageValue}
-use Rattle.tsp_base.specs.NodeFacts.{ticket, correct_tick}
-use Rattle.tsp_base.specs.Rows.{Row, nothing, puts, ◌followed_by◌, either_by, reading, posts}
-use Rattle.tsp_base.specs.SendFacts.{Correcting, last_taken}
-use Rattle.tsp_base.specs.Takings.{time_in}
+use Rattle.tsp_rules.specs.Values.{Become, Ring, Late, Back, Alarm, Quiet, Elect, Search, Kind, Accept, Ack, AdjTime, Conflict, Election, MasterAck, MasterUp, QuitKind, Refuse, SetTime, PeerId, Role, Loose, Follow, GAP}
+use Rattle.tsp_base.specs.Words.{Past, plain, is_past, MessageValue, ticket, correct_tick, Row, nothing, puts, ◌followed_by◌, either_by, reading, posts, Correcting, last_taken, time_in}
 use Rattle.tsp_rules.specs.ClockRows.{can_adjust, adjusts, sets}
 use Rattle.tsp_rules.specs.CommonRows.{arms_elect, searches, tells_ticket, follow_row, candidature_row, quits}
 use Rattle.tsp_rules.specs.SendRows.{begins, is_free, acknowledges}
@@ -108,7 +94,7 @@ slave_takes_kind p m MasterAck = reading role_at (masterack_in p)
 slave_takes_kind p m Election = election_of p m.number
 slave_takes_kind p m AdjTime = reading role_at (from_master p (adjtime_of p m.number (time_in m.body)))
 slave_takes_kind p m SetTime = reading role_at (from_master p (settime_of p m.number (time_in m.body)))
-slave_takes_kind p m Quit = quits p m.number
+slave_takes_kind p m QuitKind = quits p m.number
 slave_takes_kind p m Ack = acknowledges p m.number
 slave_takes_kind p m _ = nothing
 

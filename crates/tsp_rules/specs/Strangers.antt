@@ -1,10 +1,7 @@
 -- Posts to strangers: a stranger gets answers and nothing else.
 use Rattle.std.specs.Prelude.{◌≡◌, ℕ, Bool, true, false, All}
-use Rattle.tsp_base.specs.declared.act.Act.{Act}
-use Rattle.tsp_base.specs.declared.act.Act.TheVariants.{Post}
-use Rattle.tsp_base.specs.declared.place.Place.{Place}
-use Rattle.tsp_base.specs.declared.place.Place.TheVariants.{Peer, Stranger}
-use Rattle.tsp_base.specs.History.{Past}
+use Rattle.tsp_rules.specs.Values.{Act, Post, Place, Peer, Stranger}
+use Rattle.tsp_base.specs.Words.{Past}
 use Rattle.tsp_rules.specs.Answers.{Given, Turn, Got, answers}
 
 -- whether a sender or an addressee isn't among the peers

@@ -1,9 +1,7 @@
 -- Strict elections: a majority wins, and half of the peers doesn't.
 use Rattle.std.specs.Prelude.{true, List, [], ◌∷◌, ◌++◌, take}
-use Rattle.tsp_base.specs.declared.act.Act.TheVariants.{Become, Arm, Ring, Gave}
-use Rattle.tsp_base.specs.declared.alarm.Alarm.TheVariants.{Elect, Window}
-use Rattle.tsp_base.specs.declared.role.Role.TheVariants.{Loose}
-use Rattle.tsp_base.specs.Takings.{peer_of as peer}
+use Rattle.tsp_rules.specs.Values.{Become, Arm, Ring, Gave, Window, Elect, Loose}
+use Rattle.tsp_base.specs.Words.{peer_of as peer}
 use Rattle.tsp_rules.specs.LateClose.{late_close_in_time, fresh_alone}
 use Rattle.tsp_rules.specs.OrdinaryUse.{ordinary_use_a, fresh_a}
 use Rattle.tsp_rules.specs.RivalsScript.{rivals_a, fresh_rival}

@@ -2,12 +2,8 @@
 use Rattle.std.specs.Prelude.{◌≡◌, ◌≤◌, ◌<◌, ℕ, ◌+◌, nat_le, if◌then◌else◌, List, length, refl}
 use Rattle.std.proofs.Common.{ap, ◌∙◌}
 use Rattle.std.proofs.lemmas.Bool.{le-leb, lt-leb}
-use Rattle.tsp_base.specs.declared.datagram.Datagram.{Datagram}
-use Rattle.tsp_base.specs.declared.datagram.Datagram.TheVariants.{Message, Stamp}
-use Rattle.tsp_base.specs.declared.stamp.Stamp.TheVariants.{Request, Reply}
-use Rattle.tsp_base.specs.History.{Line, Seen, of, view}
-use Rattle.tsp_base.specs.Messages.{MessageValue}
-use Rattle.tsp_base.specs.Setup.{Setup}
+use Rattle.tsp_rules.specs.Values.{Datagram, Message, Stamp, Request, Reply}
+use Rattle.tsp_base.specs.Words.{Line, Seen, of, view, MessageValue, Setup}
 use Rattle.tsp_codec.specs.Canon.{written_size}
 use Rattle.tsp_promises.specs.Answered.{AnswersWith, StrangersAt}
 use Rattle.tsp_promises.specs.DeedFits.{answer_name}

@@ -1,16 +1,9 @@
 -- What a node that is up puts in a step fits.
 use Rattle.std.specs.Prelude.{◌≡◌, ℕ, ◌≤◌, ◌<◌, pos, ◌+ℤ◌, Bool, true, false, List, [], ◌∷◌, ◌++◌, length, refl}
 use Rattle.std.proofs.Common.{sym, subst, arith, true≢false}
-use Rattle.tsp_base.specs.Joins.{first_port, line_of}
-use Rattle.tsp_base.specs.Rows.{puts}
-use Rattle.tsp_base.specs.declared.act.Act.{Act}
-use Rattle.tsp_base.specs.declared.act.Act.TheVariants.{Boot, Took}
-use Rattle.tsp_base.specs.declared.act.Placed.{Placed}
-use Rattle.tsp_base.specs.declared.datagram.Taken.{Taken}
-use Rattle.tsp_base.specs.declared.place.Place.{Place}
-use Rattle.tsp_base.specs.declared.place.Port.{Port}
+use Rattle.tsp_rules.specs.Values.{Act, Boot, Took, Placed, Taken, Place, Port}
+use Rattle.tsp_base.specs.Words.{first_port, line_of, puts, Booted, Step, Acts, Line}
 use Rattle.tsp_promises.specs.Fits.{TookFits}
-use Rattle.tsp_base.specs.History.{Booted, Step, Acts, Line}
 use Rattle.tsp_promises.specs.Setting.{Setting}
 use Rattle.tsp_rules.specs.GateRows.{NodeTurn, GotOn, all_ports, answers_all, boots_all, boots_on}
 use Rattle.tsp_rules.specs.NodeRows.{NodePast, on, ◌and_then◌, reading_all, for_ports, spread}

@@ -1,12 +1,8 @@
 -- A node that has booted is up.
 use Rattle.std.specs.Prelude.{◌≡◌, ℕ, true, List, [], ◌∷◌, refl}
 use Rattle.std.proofs.Common.{sym, subst}
-use Rattle.tsp_base.specs.declared.act.Act.TheVariants.{Boot}
-use Rattle.tsp_base.specs.declared.act.Placed.{Placed}
-use Rattle.tsp_base.specs.History.{dids}
-use Rattle.tsp_base.specs.Joins.{first_port}
-use Rattle.tsp_base.specs.NodeFacts.{up}
-use Rattle.tsp_base.specs.Rows.{puts}
+use Rattle.tsp_rules.specs.Values.{Boot, Placed}
+use Rattle.tsp_base.specs.Words.{dids, first_port, up, puts}
 use Rattle.tsp_rules.specs.GateRows.{all_ports, boots_all, boots_on}
 use Rattle.tsp_rules.specs.NodeRows.{NodePast, on, ◌and_then◌, reading_all, for_ports, spread}
 use Rattle.tsp_rules.proofs.NodeRowLemmas.{spread_append}

@@ -2,27 +2,8 @@
 use Rattle.std.specs.Prelude.{◌≡◌, ◌≤◌, ◌<◌, ℕ, suc, ◌+◌, ◌*◌, ◌==◌, not, Bool, true, false, if◌then◌else◌, List, [], ◌∷◌, ◌++◌, length, map, filter, refl}
 use Rattle.std.proofs.Common.{sym, ap, subst, arith, ◌∙◌, append-nil, append_assoc, length-append}
 use Rattle.std.proofs.lemmas.Bool.{and_parts}
-use Rattle.tsp_base.specs.declared.act.Act.{Act}
-use Rattle.tsp_base.specs.declared.act.Act.TheVariants.{Took, Become, Abandon}
-use Rattle.tsp_base.specs.declared.act.Placed.{Placed}
-use Rattle.tsp_base.specs.declared.alarm.Alarm.{Alarm}
-use Rattle.tsp_base.specs.declared.alarm.Alarm.TheVariants.{Quiet, Probe, Close, Round}
-use Rattle.tsp_base.specs.declared.alarm.TheConstants.Alarm.{ALL}
-use Rattle.tsp_base.specs.declared.datagram.Datagram.TheVariants.{Message, Stamp}
-use Rattle.tsp_base.specs.declared.datagram.Taken.{Taken}
-use Rattle.tsp_base.specs.declared.datagram.Taken.TheVariants.{Good, Bad}
-use Rattle.tsp_base.specs.declared.kind.Kind.{Kind}
-use Rattle.tsp_base.specs.declared.kind.Kind.TheVariants.{Loop as LoopKind}
-use Rattle.tsp_base.specs.declared.place.PeerId.{PeerId}
-use Rattle.tsp_base.specs.declared.place.Place.{Place}
-use Rattle.tsp_base.specs.declared.place.Port.{Port}
-use Rattle.tsp_base.specs.declared.constants.TheConstants.{QUIET}
-use Rattle.tsp_base.specs.declared.role.Role.TheVariants.{Starting}
-use Rattle.tsp_base.specs.History.{Past, view}
-use Rattle.tsp_base.specs.Messages.{MessageValue}
-use Rattle.tsp_base.specs.RoundFacts.{is_going}
-use Rattle.tsp_base.specs.Rows.{Row, nothing, puts, arms, ◌followed_by◌, others, placed}
-use Rattle.tsp_base.specs.SendFacts.{sets_date}
+use Rattle.tsp_rules.specs.Values.{Act, Took, Become, Abandon, Placed, Alarm, Quiet, Round, Probe, CloseAlarm, Message, Stamp, Taken, Good, Bad, Kind, LoopKind, PeerId, Place, Port, Starting, ALL, QUIET}
+use Rattle.tsp_base.specs.Words.{Past, view, MessageValue, is_going, Row, nothing, puts, arms, ◌followed_by◌, others, placed, sets_date}
 use Rattle.tsp_rules.specs.Answers.{rings, handles, takes}
 use Rattle.tsp_rules.specs.CandidateRows.{yields}
 use Rattle.tsp_rules.specs.GateRows.{ports_from, all_ports, other_ports, leads_clock, waits, loop_to, sends_loops, ends_probes, loops_after, probes_on, closes_on, begins_round_on, alarm_on, each_on, alarms_on, turns_on, LoopStep, PassOver, GiveUp, Forward, judge, repost, reposts, is_awake_on, reposts_on, loosens_master, forwards, takes_loop_step, hears_on, judges, heeds_loop, takes_loop, stirred_ports, takes_message, takes_kind, takes_on, steers, in_charge, NodeTurn, GotOn, input_all, answers_all, boots_on}
@@ -218,9 +199,9 @@ module _ {strange : Bool} {n peers : ℕ} (four : n ≤ 4) where
   unfolding closes_on stirring on
   calm-closes q own has = record {
     run = λ x past s.
-        let acts = rings own false Close x (on_port q past) in
+        let acts = rings own false CloseAlarm x (on_port q past) in
         let first = placed q acts in
-        let calm : Calm strange true 2 4 (rings own false Close) = calm_rings own false Close (λ e. refl) in
+        let calm : Calm strange true 2 4 (rings own false CloseAlarm) = calm_rings own false CloseAlarm (λ e. refl) in
         append-calm first (if corrects acts then for_ports abandons_on (other_ports q past) x (spread x past first) else [])
         (placed-calm n (2 * peers + 4) q acts has (calm.calm x (on_port q past)) (on-few 2 4 (length (port_setup q past).peers) peers (length acts) (calm.few x (on_port q past)) (s.few q)))
         (calm_after (corrects acts) (other_ports q past) x (spread x past first) (others-ranged n peers q past s) (other-few n peers q past four s) (small_spread n peers x past first s));
@@ -229,7 +210,7 @@ module _ {strange : Bool} {n peers : ℕ} (four : n ≤ 4) where
   calm-alarm : (q : Port) (a : Alarm) → q.0 < n → CalmAll strange n peers (3 * peers + 8) (alarm_on q a)
   unfolding alarm_on begins_round_on
   calm-alarm q Probe has = calm-all-more (probes_on q) (omega arith) (calm-probes q has)
-  calm-alarm q Close has = calm-all-more (reading_all (leads_clock q) (closes_on q)) (omega arith) (calm-reading (leads_clock q) (closes_on q) (λ own. calm-closes q own has))
+  calm-alarm q CloseAlarm has = calm-all-more (reading_all (leads_clock q) (closes_on q)) (omega arith) (calm-reading (leads_clock q) (closes_on q) (λ own. calm-closes q own has))
   calm-alarm q Round has = calm-all-more (reading_all (waits q) (begins_round_on q)) (omega arith) (calm-reading (waits q) (begins_round_on q) (λ wait. calm-on {k = 2} {c = 4} q (rings true wait Round) has (calm_rings true wait Round (λ e. refl))))
   calm-alarm q a has = calm-all-more (on q (rings true false a)) (omega arith) (calm-on {k = 2} {c = 4} q (rings true false a) has (calm_rings true false a (λ e. refl)))
 

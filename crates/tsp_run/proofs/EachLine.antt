@@ -1,14 +1,9 @@
 -- A property of every line of a step, whatever it does, is one of every line after it.
 use Rattle.std.specs.Prelude.{◌≡◌, ℕ, ℤ, List, [], ◌∷◌, refl}
 use Rattle.std.proofs.Common.{inl, inr, subst, sym}
-use Rattle.tsp_base.specs.declared.act.Placed.{Placed}
-use Rattle.tsp_base.specs.declared.event.Event.{Event}
-use Rattle.tsp_base.specs.declared.event.Event.TheVariants.{Boot, Turn, Take, Bytes}
-use Rattle.tsp_base.specs.declared.place.Port.{Port}
+use Rattle.tsp_rules.specs.Values.{Placed, Event, BootAt, Turn, Take, Bytes, Port}
+use Rattle.tsp_base.specs.Words.{HeaderValue, Acts, Begins, Booted, Came, Cause, Deed, Handed, Line, Step, Turned, first_port, joined, line_of, stepped}
 use Rattle.tsp_promises.specs.Everywhere.{Everywhere}
-use Rattle.tsp_base.specs.Headers.{HeaderValue}
-use Rattle.tsp_base.specs.History.{Acts, Begins, Booted, Came, Cause, Deed, Handed, Line, Step, Turned}
-use Rattle.tsp_base.specs.Joins.{first_port, joined, line_of, stepped}
 use Rattle.tsp_codec.specs.Taken.{taken_of}
 use Rattle.tsp_rules.specs.GateRows.{GotOn, NodeTurn, answers_all, boots_all}
 use Rattle.tsp_rules.specs.NodeRows.{NodeRow}
@@ -28,7 +23,7 @@ each-stepped P step x acts h all e = each-joined P step x acts (line_of step x f
 
 -- the cause of a step that an event makes
 abbrev pub IsCause : Event → Cause → Type 0
-IsCause (Boot at node word) cause = (wall : ℤ) × (cause ≡ Booted word wall)
+IsCause (BootAt at node word) cause = (wall : ℤ) × (cause ≡ Booted word wall)
 IsCause (Turn at node) cause = cause ≡ Turned
 IsCause (Take at k) cause = cause ≡ Came k
 IsCause (Bytes at node port from octets) cause = cause ≡ Handed
@@ -39,7 +34,7 @@ module _ (P : Line → List Line → Type 0) (header : HeaderValue) (before : Li
 
   -- a property of every line with an event's cause holds everywhere after it, if it did before
   pub each_event : (event : Event) → ((step : Step) (x : ℕ) → IsCause event step.cause → AllLines P step x) → Everywhere P (run header (event ∷ before))
-  each_event (Boot at node word) all =
+  each_event (BootAt at node word) all =
       let step = boot_step header at node word in
       subst (λ h. Everywhere P (stepped h.step h.tick h.acts (run header before))) (sym (steps-are header (run header before) boots_all step)) (by-row boots_all step (all step _ (_, refl)))
   each_event (Turn at node) all =

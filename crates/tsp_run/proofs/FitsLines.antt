@@ -1,26 +1,12 @@
 -- The lines of one step fit the history before it.
 use Rattle.std.specs.Prelude.{◌≡◌, ◌⊎◌, ℕ, ◌+◌, ◌<◌, ◌≤◌, ◌^◌, ◌==◌, ◌||◌, Bool, true, false, if◌then◌else◌, List, [], ◌∷◌, length, None, refl}
 use Rattle.std.proofs.Common.{sym, ap, subst, inl, inr, arith, eq-eqb, eqb-true, true≢false}
-use Rattle.tsp_base.specs.Joins.{first_port, joined, line_of}
-use Rattle.tsp_base.specs.declared.act.Act.{Act}
-use Rattle.tsp_base.specs.declared.act.Placed.{Placed}
-use Rattle.tsp_base.specs.declared.act.Act.TheVariants.{Boot, Took, Post}
-use Rattle.tsp_base.specs.declared.datagram.Taken.{Taken}
-use Rattle.tsp_base.specs.declared.place.Place.{Place}
-use Rattle.tsp_base.specs.declared.place.PeerId.{PeerId}
-use Rattle.tsp_base.specs.declared.place.Port.{Port}
+use Rattle.tsp_rules.specs.Values.{Act, Boot, Took, Post, Placed, Taken, PeerId, Place, Port}
+use Rattle.tsp_base.specs.Words.{first_port, joined, line_of, Cause, Booted, Turned, Came, Handed, Step, Deed, Begins, Acts, Did, Line, Seen, Here, of, view, seen_as, is_shared, dids, time_of, up, up_after, Within, role, taken, Setup, exchange, exchange_after, posted, posted_after, tick_at}
 use Rattle.tsp_promises.specs.DeedFits.{ActFits}
 use Rattle.tsp_promises.specs.Fits.{Alive, TookFits, LineFits, Fits}
-use Rattle.tsp_base.specs.History.{Cause, Booted, Turned, Came, Handed, Step, Deed, Begins, Acts, Did, Line, Seen, Here, of, view, seen_as, is_shared, dids}
-use Rattle.tsp_base.specs.NodeFacts.{time_of, up, up_after}
-use Rattle.tsp_base.specs.Places.{Within}
-use Rattle.tsp_base.specs.PortFacts.{role, taken}
 use Rattle.tsp_promises.specs.Setting.{Setting, setup_of}
-use Rattle.tsp_base.specs.Setup.{Setup}
-use Rattle.tsp_base.specs.RoundFacts.{exchange, exchange_after}
 use Rattle.tsp_promises.specs.StepFacts.{StepEnds, is_unbacked, is_unbacked_after, owes, owes_after, unacknowledged, unacknowledged_after, unheeded, unheeded_after}
-use Rattle.tsp_base.specs.Takings.{posted, posted_after}
-use Rattle.tsp_base.specs.Ticks.{tick_at}
 use Rattle.std.proofs.lemmas.Bool.{cases_lt, or_right}
 use Rattle.tsp_promises.proofs.Leaves.{none-among}
 use Rattle.tsp_base.proofs.PlaceLemmas.{Within-through}

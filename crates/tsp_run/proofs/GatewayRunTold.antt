@@ -1,6 +1,6 @@
 -- The rules give what is told of the run on two networks.
 use Rattle.std.specs.Prelude.{refl}
-use Rattle.tsp_base.specs.Rows.{nothing, puts, ◌followed_by◌, either_by, reading, for_each, arms, posts, posts_to_others, posts_back, posts_time}
+use Rattle.tsp_base.specs.Words.{nothing, puts, ◌followed_by◌, either_by, reading, for_each, arms, posts, posts_to_others, posts_back, posts_time, carries_hops, carries_time, kind_of}
 use Rattle.tsp_rules.specs.Answers.{alarm_rings, rings, rings_alone, due_alarms, says_in, peer_says, replies_in, peer_replies, from_peer, handles_kind, handles, takes, input_row, answers}
 use Rattle.tsp_rules.specs.CandidateRows.{lead_row, yields, window_rings, accepted_by, refused_by, candidate_takes_kind, candidate_takes}
 use Rattle.tsp_rules.specs.ClockRows.{adjusts, sets}
@@ -16,7 +16,6 @@ use Rattle.tsp_rules.specs.NodeRows.{nothing_at_all, on, ◌and_then◌, reading
 use Rattle.tsp_rules.specs.GateRows.{sends_loops, loops_after, probes_on, closes_on, begins_round_on, alarm_on, alarms_on, turns_on, reposts, reposts_on, loosens_master, forwards, takes_loop_step, judges, heeds_loop, takes_loop, takes_message, takes_kind, takes_on, input_all, answers_all, boots_on, boots_all}
 use Rattle.tsp_run.specs.GatewayRun.{JoinsTwoNetworks}
 use Rattle.tsp_codec.specs.Taken.{taken_of}
-use Rattle.tsp_base.specs.Kinds.{carries_hops, carries_time, kind_of}
 use Rattle.tsp_run.specs.Run.{steps}
 
 pub joins-two-networks : JoinsTwoNetworks

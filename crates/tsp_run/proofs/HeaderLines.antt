@@ -3,9 +3,8 @@ use Rattle.std.specs.Prelude.{ℕ, ◌≤◌, length, nat_abs}
 use Rattle.std.proofs.Common.{sym, subst, arith, inl, inr}
 use Rattle.std.proofs.lemmas.Bool.{cases_lt}
 use Rattle.std.proofs.lemmas.List.{get_or_past}
-use Rattle.tsp_base.specs.declared.header.NodeLine.{NodeLine}
-use Rattle.tsp_base.specs.Headers.{HeaderValue, IsHeader}
-use Rattle.tsp_base.specs.Names.{IsName}
+use Rattle.tsp_rules.specs.Values.{NodeLine}
+use Rattle.tsp_base.specs.Words.{HeaderValue, IsHeader, IsName}
 use Rattle.tsp_promises.proofs.SoundFacts.{no_name}
 use Rattle.tsp_run.specs.Setup.{node_line, nobody}
 

@@ -1,12 +1,8 @@
 -- Where the names of a header's nodes differ, so do those of the nodes of its runs.
 use Rattle.std.specs.Prelude.{◌≡◌, ◌<◌, ℕ, ◌==◌, Bool, true, false, if◌then◌else◌, List, [], ◌∷◌, length, None, Some, slice_get, refl}
 use Rattle.std.proofs.Common.{ap, ◌∙◌, sym, subst, inl, inr, eqb-true, true≢false}
-use Rattle.tsp_base.specs.declared.event.Event.{Event}
-use Rattle.tsp_base.specs.declared.event.Event.TheVariants.{Boot, Turn, Take, Bytes}
-use Rattle.tsp_base.specs.Headers.{HeaderValue}
-use Rattle.tsp_base.specs.History.{Handed, Line, Step, Turned, dids, of}
-use Rattle.tsp_base.specs.Joins.{stepped}
-use Rattle.tsp_base.specs.NodeFacts.{up}
+use Rattle.tsp_rules.specs.Values.{Event, BootAt, Turn, Take, Bytes}
+use Rattle.tsp_base.specs.Words.{HeaderValue, Handed, Line, Step, Turned, dids, of, stepped, up}
 use Rattle.tsp_codec.specs.Taken.{taken_of}
 use Rattle.tsp_promises.specs.Everywhere.{Everywhere}
 use Rattle.tsp_promises.specs.Fits.{node_of}
@@ -43,10 +39,10 @@ module _ (header : HeaderValue) (before : List Event) (below : Everywhere (IsBel
   by-row row step known = each-stepped (IsBelow (length header.nodes)) step (step_tick header step) (acts_by header (run header before) row step) (run header before) (λ port deed h. known) below
 
   below-event : (e : Event) → refusal (scene header before) e ≡ None → Everywhere (IsBelow (length header.nodes)) (run header (e ∷ before))
-  below-event (Boot at node word) none =
+  below-event (BootAt at node word) none =
       let step = boot_step header at node word in
       subst (λ h. Everywhere (IsBelow (length header.nodes)) (stepped h.step h.tick h.acts (run header before))) (sym (steps-are header (run header before) boots_all step))
-      (by-row boots_all step (allowed (scene header before) (Boot at node word) none).node)
+      (by-row boots_all step (allowed (scene header before) (BootAt at node word) none).node)
   below-event (Turn at node) none =
       let step : Step = record { at = at; node = node; cause = Turned } in
       let row = answers_all NodeTurn in

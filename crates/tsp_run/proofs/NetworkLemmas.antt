@@ -3,14 +3,10 @@ use Rattle.std.specs.Prelude.{◌≡◌, ℕ, zero, suc, ◌+◌, ◌<◌, ◌�
 use Rattle.std.proofs.Common.{sym, ap, subst, arith, ◌∙◌, eqb-true, eq-eqb}
 use Rattle.std.proofs.lemmas.Bool.{ne_eqb}
 use Rattle.std.proofs.lemmas.List.Sums.{sum_by-append}
-use Rattle.tsp_base.specs.declared.place.Place.{Place}
-use Rattle.tsp_base.specs.declared.place.Place.TheVariants.{Peer, Stranger}
-use Rattle.tsp_base.specs.declared.place.Port.{Port}
-use Rattle.tsp_base.specs.Headers.{HeaderValue, IsHeader, has_member, nets_with}
-use Rattle.tsp_base.specs.Peers.{is_among}
+use Rattle.tsp_rules.specs.Values.{Place, Peer, Stranger, Port}
+use Rattle.tsp_base.specs.Words.{HeaderValue, IsHeader, has_member, nets_with, is_among, peer_of}
 use Rattle.tsp_promises.specs.Setting.{Alone}
 use Rattle.tsp_promises.proofs.Histories.{alone}
-use Rattle.tsp_base.specs.Takings.{peer_of}
 use Rattle.tsp_rules.specs.NodeRows.{PortSetup, no_port}
 use Rattle.tsp_run.specs.declared.address.Address.{Address}
 use Rattle.tsp_run.specs.Networks.{numbers_below, networks, networks_among, peers_on, port_on, ports_on, network_from, network_at, port_from, port_at, address_at, address_of, room}

@@ -1,16 +1,9 @@
 -- Where a run is honest, or its words differ, its text is so.
 use Rattle.std.specs.Prelude.{◌≡◌, ◌≢◌, ℕ, ℤ, List, [], ◌∷◌, ◌++◌, Option, None, Some, refl}
 use Rattle.std.proofs.Common.{sym, subst, inl, inr}
-use Rattle.tsp_base.specs.declared.act.Act.TheVariants.{Boot, Took}
-use Rattle.tsp_base.specs.declared.act.Placed.{Placed}
-use Rattle.tsp_base.specs.declared.event.Event.{Event}
-use Rattle.tsp_base.specs.declared.event.Event.TheVariants.{Boot as BootAt, Turn, Take, Bytes}
-use Rattle.tsp_base.specs.declared.place.Place.TheVariants.{Peer, Stranger}
+use Rattle.tsp_rules.specs.Values.{Boot, Took, Placed, Event, BootAt, Turn, Take, Bytes, Peer, Stranger}
+use Rattle.tsp_base.specs.Words.{HeaderValue, IsHeader, Acts, Begins, Booted, Handed, Line, Step, first_port, joined, line_of, stepped, Within}
 use Rattle.tsp_promises.specs.Everywhere.{Everywhere}
-use Rattle.tsp_base.specs.Headers.{HeaderValue, IsHeader}
-use Rattle.tsp_base.specs.History.{Acts, Begins, Booted, Handed, Line, Step}
-use Rattle.tsp_base.specs.Joins.{first_port, joined, line_of, stepped}
-use Rattle.tsp_base.specs.Places.{Within}
 use Rattle.tsp_base.proofs.PlaceLemmas.{Within-all}
 use Rattle.tsp_codec.specs.Taken.{taken_of}
 use Rattle.tsp_promises.specs.Premises.{Honest, HonestAt, Words, WordsAt}

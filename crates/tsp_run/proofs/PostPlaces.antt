@@ -1,11 +1,8 @@
 -- Where the datagrams that a history posted stand in it.
 use Rattle.std.specs.Prelude.{◌≡◌, ◌⊎◌, ℕ, zero, suc, ◌+◌, List, [], ◌∷◌, ◌++◌, length, Some, slice_get, refl}
 use Rattle.std.proofs.Common.{sym, ap, subst, inl, inr, arith, ◌∙◌, append-nil, length-append}
-use Rattle.tsp_base.specs.declared.act.Act.TheVariants.{Post}
-use Rattle.tsp_base.specs.declared.place.Port.{Port}
-use Rattle.tsp_base.specs.History.{Deed, Begins, Acts, Step, Line, dids}
-use Rattle.tsp_base.specs.Places.{Within}
-use Rattle.tsp_base.specs.Takings.{posted, posted_after}
+use Rattle.tsp_rules.specs.Values.{Post, Port}
+use Rattle.tsp_base.specs.Words.{Deed, Begins, Acts, Step, Line, dids, Within, posted, posted_after}
 use Rattle.tsp_run.specs.declared.posted.Posted.{Posted}
 use Rattle.tsp_run.specs.Run.{posts, posted_in}
 use Rattle.tsp_run.proofs.NetworkLemmas.{some_same}

@@ -1,20 +1,9 @@
 -- Where each take comes early enough, no datagram of the run lives too long.
 use Rattle.std.specs.Prelude.{◌≡◌, ◌≤◌, ℕ, zero, suc, ◌+◌, List, [], ◌∷◌, ◌++◌, length, Some, slice_get, refl}
 use Rattle.std.proofs.Common.{ap, ◌∙◌, sym, subst, inl, inr}
-use Rattle.tsp_base.specs.declared.act.Act.TheVariants.{Post}
-use Rattle.tsp_base.specs.declared.act.Placed.{Placed}
-use Rattle.tsp_base.specs.declared.constants.TheConstants.{LIFE}
-use Rattle.tsp_base.specs.declared.datagram.Datagram.{Datagram}
-use Rattle.tsp_base.specs.declared.event.Event.{Event}
-use Rattle.tsp_base.specs.declared.event.Event.TheVariants.{Boot as BootAt, Turn, Take, Bytes}
-use Rattle.tsp_base.specs.declared.place.Place.{Place}
-use Rattle.tsp_base.specs.declared.place.Port.{Port}
-use Rattle.tsp_base.specs.Headers.{HeaderValue}
-use Rattle.tsp_base.specs.History.{Acts, Begins, Came, Deed, Line, Step, dids}
-use Rattle.tsp_base.specs.Joins.{first_port, joined, line_of, stepped}
-use Rattle.tsp_base.specs.Places.{Within}
+use Rattle.tsp_rules.specs.Values.{Post, Placed, Datagram, Event, BootAt, Turn, Take, Bytes, Place, Port, LIFE}
+use Rattle.tsp_base.specs.Words.{HeaderValue, Acts, Begins, Came, Deed, Line, Step, dids, first_port, joined, line_of, stepped, Within, posted}
 use Rattle.tsp_promises.specs.Premises.{Life, TakenWithinAt}
-use Rattle.tsp_base.specs.Takings.{posted}
 use Rattle.tsp_base.proofs.PlaceLemmas.{Within-none}
 use Rattle.tsp_run.specs.declared.posted.Posted.{Posted}
 use Rattle.tsp_run.specs.Premised.{IsPrompt, Prompt}

@@ -2,12 +2,9 @@
 use Rattle.std.specs.Prelude.{◌≡◌, ℕ, ◌+◌, ◌<◌, nat_lt, nat_le, ◌||◌, Bool, true, false, if◌then◌else◌, List, length, Option, None, Some, slice_get, refl}
 use Rattle.std.proofs.Common.{ap, ◌∙◌, subst}
 use Rattle.std.proofs.lemmas.Bool.{ltb-true, ltb-false, leb-false, or_parts}
-use Rattle.tsp_base.specs.declared.event.Event.{Event}
-use Rattle.tsp_base.specs.declared.event.Event.TheVariants.{Boot, Turn, Take, Bytes}
+use Rattle.tsp_rules.specs.Values.{Event, BootAt, Turn, Take, Bytes, Place, Port}
 use Rattle.tsp_base.specs.declared.event.EventFault.{EventFault}
 use Rattle.tsp_base.specs.declared.event.EventFault.TheVariants.{TimeBack, NoNode, NotUp, Limit}
-use Rattle.tsp_base.specs.declared.place.Place.{Place}
-use Rattle.tsp_base.specs.declared.place.Port.{Port}
 use Rattle.tsp_run.specs.declared.posted.Posted.{Posted}
 use Rattle.tsp_run.specs.Refusals.{Scene, Allowed, Names, refusal, first_of, time_back, unknown, no_node, no_datagram, down, not_up, limit, lacks_port, port_count, is_crowded, room_at, node_in, actor, most_events, most_posts}
 use Rattle.tsp_run.specs.declared.address.Address.{Address}
@@ -55,7 +52,7 @@ handed-port s at node port from octets u =
 
 -- what an event names is there
 names : (s : Scene) (e : Event) → no_node s e ≡ None → Names s e
-names s (Boot at node word) u = known s.nodes node u
+names s (BootAt at node word) u = known s.nodes node u
 names s (Turn at node) u = known s.nodes node u
 names s (Take at k) u = tt
 names s (Bytes at node port from octets) u = (known s.nodes node (first_of-none (unknown s.nodes node) _ u).0, handed-port s at node port from octets u)
@@ -92,19 +89,19 @@ down-alike s t a None = refl
 down-alike s t a (Some n) = rw a.up refl
 
 actor-alike : (s t : Scene) → Alike s t → (e : Event) → actor s e ≡ actor t e
-actor-alike s t a (Boot at node word) = refl
+actor-alike s t a (BootAt at node word) = refl
 actor-alike s t a (Turn at node) = refl
 actor-alike s t a (Take at k) = rw (a.networks, a.posts) refl
 actor-alike s t a (Bytes at node port from octets) = refl
 
 not_up-alike : (s t : Scene) → Alike s t → (e : Event) → not_up s e ≡ not_up t e
-not_up-alike s t a (Boot at node word) = refl
+not_up-alike s t a (BootAt at node word) = refl
 not_up-alike s t a (Turn at node) = down-alike s t a (Some node)
 not_up-alike s t a (Take at k) = down-alike s t a (node_in (goes_to s.networks (slice_get s.posts k))) ∙ ap (λ o. down t.up o) (actor-alike s t a (Take at k))
 not_up-alike s t a (Bytes at node port from octets) = down-alike s t a (Some node)
 
 no_node-alike : (s t : Scene) → Alike s t → (e : Event) → no_node s e ≡ no_node t e
-no_node-alike s t a (Boot at node word) = rw a.nodes refl
+no_node-alike s t a (BootAt at node word) = rw a.nodes refl
 no_node-alike s t a (Turn at node) = rw a.nodes refl
 no_node-alike s t a (Take at k) = refl
 no_node-alike s t a (Bytes at node port from octets) = rw (a.nodes, a.networks) refl

@@ -2,20 +2,10 @@
 use Rattle.std.specs.Prelude.{◌≡◌, ℕ, ◌+◌, ◌<◌, ◌≤◌, ◌^◌, ◌==◌, pos, ◌+ℤ◌, Bool, true, false, List, [], ◌∷◌, length, Option, None, Some, slice_get, All, refl}
 use Rattle.std.proofs.Common.{sym, ap, subst, inr, arith, ◌∙◌, eq-eqb, eqb-true}
 use Rattle.std.proofs.lemmas.List.Elements.{All-head, All-tail}
-use Rattle.tsp_base.specs.Joins.{first_port, joined, line_of, stepped}
-use Rattle.tsp_base.specs.declared.act.Act.TheVariants.{Took, Post}
-use Rattle.tsp_base.specs.declared.act.Placed.{Placed}
-use Rattle.tsp_base.specs.declared.event.Event.{Event}
-use Rattle.tsp_base.specs.declared.event.Event.TheVariants.{Boot as BootAt, Turn, Take, Bytes}
-use Rattle.tsp_base.specs.declared.place.Place.TheVariants.{Peer}
-use Rattle.tsp_base.specs.declared.place.Port.{Port}
+use Rattle.tsp_rules.specs.Values.{Took, Post, Placed, Event, BootAt, Turn, Take, Bytes, Peer, Port}
+use Rattle.tsp_base.specs.Words.{first_port, joined, line_of, stepped, HeaderValue, IsHeader, Booted, Turned, Came, Handed, Step, Begins, Acts, Line, of, view, dids, time_of, up, posted, peer_of, tick_at}
 use Rattle.tsp_promises.specs.Fits.{Fits, TookFits}
-use Rattle.tsp_base.specs.Headers.{HeaderValue, IsHeader}
-use Rattle.tsp_base.specs.History.{Booted, Turned, Came, Handed, Step, Begins, Acts, Line, of, view, dids}
-use Rattle.tsp_base.specs.NodeFacts.{time_of, up}
 use Rattle.tsp_promises.specs.Setting.{Alone, Named, Setting, setup_of}
-use Rattle.tsp_base.specs.Takings.{posted, peer_of}
-use Rattle.tsp_base.specs.Ticks.{tick_at}
 use Rattle.tsp_base.proofs.PlaceLemmas.{Within-all}
 use Rattle.tsp_codec.specs.Canon.{canon}
 use Rattle.tsp_codec.specs.Taken.{taken_of}

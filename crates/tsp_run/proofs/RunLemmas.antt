@@ -1,12 +1,8 @@
 -- What a step adds to a history: what its node and the others have then, and what was posted.
 use Rattle.std.specs.Prelude.{◌≡◌, ℕ, ◌==◌, Bool, true, false, List, [], ◌∷◌, ◌++◌}
 use Rattle.std.proofs.Common.{refl, sym, ap, ◌∙◌, append_assoc, append-nil}
-use Rattle.tsp_base.specs.Joins.{first_port, joined, line_of, stepped}
-use Rattle.tsp_base.specs.declared.act.Act.TheVariants.{Boot}
-use Rattle.tsp_base.specs.declared.act.Placed.{Placed}
-use Rattle.tsp_base.specs.declared.place.Port.{Port}
-use Rattle.tsp_base.specs.History.{Step, Deed, Begins, Acts, Line, of, dids}
-use Rattle.tsp_base.specs.NodeFacts.{up, up_after}
+use Rattle.tsp_rules.specs.Values.{Boot, Placed, Port}
+use Rattle.tsp_base.specs.Words.{first_port, joined, line_of, stepped, Step, Deed, Begins, Acts, Line, of, dids, up, up_after}
 use Rattle.tsp_run.specs.Run.{posts, posts_from, posted_by}
 
 one-own : (n : ℕ) (step : Step) (x : ℕ) (port : Port) (deed : Deed) (h : List Line) → (step.node == n) ≡ true → of n (line_of step x port deed ∷ h) ≡ line_of step x port deed ∷ of n h

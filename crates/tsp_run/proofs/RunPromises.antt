@@ -1,11 +1,8 @@
 -- The history of every schedule keeps the promises.
 use Rattle.std.specs.Prelude.{◌≡◌, ℕ, List, ◌∷◌, Some, slice_get}
-use Rattle.tsp_base.specs.declared.constants.TheConstants.{LIFE}
-use Rattle.tsp_base.specs.declared.datagram.Taken.TheVariants.{Good}
-use Rattle.tsp_base.specs.declared.event.Event.{Event}
+use Rattle.tsp_rules.specs.Values.{Good, Event, LIFE}
+use Rattle.tsp_base.specs.Words.{HeaderValue, Line}
 use Rattle.tsp_promises.specs.Fits.{Fits}
-use Rattle.tsp_base.specs.Headers.{HeaderValue}
-use Rattle.tsp_base.specs.History.{Line}
 use Rattle.tsp_promises.specs.Premises.{FewAt, HonestAt, TakenWithinAt}
 use Rattle.tsp_promises.specs.Setting.{Setting}
 use Rattle.tsp_promises.proofs.EverywhereLemmas.{Everywhere-from, Everywhere-within}

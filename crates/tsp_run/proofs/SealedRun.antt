@@ -2,19 +2,8 @@
 use Rattle.std.specs.Prelude.{◌≡◌, ◌≢◌, ℕ, Bool, true, List, [], ◌∷◌, ◌++◌, None, Some, refl}
 use Rattle.std.proofs.Common.{sym, subst, true≢false}
 use Rattle.std.proofs.lemmas.List.Elements.{All-tail}
-use Rattle.tsp_base.specs.declared.act.Act.{Act}
-use Rattle.tsp_base.specs.declared.act.Act.TheVariants.{Took}
-use Rattle.tsp_base.specs.declared.act.Placed.{Placed}
-use Rattle.tsp_base.specs.declared.datagram.Taken.{Taken}
-use Rattle.tsp_base.specs.declared.event.Event.{Event}
-use Rattle.tsp_base.specs.declared.event.Event.TheVariants.{Boot as BootAt, Turn, Take, Bytes}
-use Rattle.tsp_base.specs.declared.place.PeerId.{PeerId}
-use Rattle.tsp_base.specs.declared.place.Place.{Place}
-use Rattle.tsp_base.specs.declared.place.Place.TheVariants.{Peer, Stranger}
-use Rattle.tsp_base.specs.declared.place.Port.{Port}
-use Rattle.tsp_base.specs.Headers.{HeaderValue, IsHeader}
-use Rattle.tsp_base.specs.History.{Acts, Handed, Line, Step}
-use Rattle.tsp_base.specs.Joins.{joined, line_of, stepped}
+use Rattle.tsp_rules.specs.Values.{Act, Took, Placed, Taken, Event, BootAt, Turn, Take, Bytes, PeerId, Place, Peer, Stranger, Port}
+use Rattle.tsp_base.specs.Words.{HeaderValue, IsHeader, Acts, Handed, Line, Step, joined, line_of, stepped}
 use Rattle.tsp_promises.specs.Premises.{Honest, HonestAt}
 use Rattle.tsp_codec.specs.Taken.{taken_of}
 use Rattle.tsp_rules.proofs.FewActs.{is_calm_act}

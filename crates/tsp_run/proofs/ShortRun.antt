@@ -2,25 +2,14 @@
 use Rattle.std.specs.Prelude.{◌≡◌, ◌<◌, ◌≤◌, nat_le, ℕ, ◌+◌, ◌==◌, ◌&&◌, ◌||◌, Bool, true, false, if◌then◌else◌, List, [], ◌∷◌, length, refl}
 use Rattle.std.proofs.Common.{arith, length-append, subst, sym, true≢false}
 use Rattle.std.proofs.lemmas.Bool.{le-leb}
-use Rattle.tsp_base.specs.declared.kind.Kind.{Kind}
-use Rattle.tsp_base.specs.declared.kind.Kind.TheVariants.{Ack, Conflict, DateAck, Election, Quit, SetDateReq}
-use Rattle.tsp_base.specs.declared.place.PeerId.{PeerId}
-use Rattle.tsp_base.specs.declared.place.Place.{Place}
-use Rattle.tsp_base.specs.declared.place.Place.TheVariants.{Peer, Stranger}
-use Rattle.tsp_base.specs.Messages.{MessageValue}
-use Rattle.tsp_base.specs.Setup.{Setup}
+use Rattle.tsp_rules.specs.Values.{Boot, Post, Message, Stamp, Kind, Ack, Conflict, DateAck, Election, QuitKind, SetDateReq, PeerId, Place, Peer, Stranger, Port}
+use Rattle.tsp_base.specs.Words.{MessageValue, Setup, Acts, Begins, Deed, Did, Line, Seen, Here, Elsewhere, is_shared, of, seen_as, view, acting, begun, begun_after, has_own_number}
 use Rattle.tsp_promises.specs.DeedFits.{DeedFits, MessageFits, PostFits, StrangerFits}
 use Rattle.tsp_promises.specs.Everywhere.{Everywhere}
 use Rattle.tsp_promises.specs.PortFits.{PortFits}
 use Rattle.tsp_promises.specs.Setting.{Setting, setup_of}
 use Rattle.tsp_promises.proofs.PortFits.{port_fits}
 use Rattle.tsp_run.specs.Premised.{own_posts, own_posts_after}
-use Rattle.tsp_base.specs.declared.act.Act.TheVariants.{Boot, Post}
-use Rattle.tsp_base.specs.declared.datagram.Datagram.TheVariants.{Message, Stamp}
-use Rattle.tsp_base.specs.declared.place.Port.{Port}
-use Rattle.tsp_base.specs.History.{Acts, Begins, Deed, Did, Line, Seen, Here, Elsewhere, is_shared, of, seen_as, view}
-use Rattle.tsp_base.specs.PortFacts.{acting}
-use Rattle.tsp_base.specs.SendFacts.{begun, begun_after, has_own_number}
 use Rattle.tsp_promises.specs.Fits.{Fits, node_of}
 use Rattle.tsp_promises.specs.Premises.{Few}
 use Rattle.tsp_run.specs.Run.{posted_in, posts}
@@ -64,7 +53,7 @@ short-few (l ∷ before) s =
 own-number : (setup : Setup) (k : Kind) (here : Did) (before : List Seen) (p : PeerId) (m : MessageValue) → has_own_number k ≡ true → MessageFits setup k here before p m → 32768 ≤ m.number
 own-number setup Election here before p m own f = f.numbered.number
 own-number setup Conflict here before p m own f = f.number
-own-number setup Quit here before p m own f = f.number
+own-number setup QuitKind here before p m own f = f.number
 own-number setup SetDateReq here before p m own f = f.numbered.number
 own-number setup _ here before p m own f = absurd (true≢false (sym own))
 

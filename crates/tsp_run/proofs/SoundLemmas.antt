@@ -1,18 +1,8 @@
 -- What a run posts and takes has its parts in their ranges, so a reader takes from its octets what was posted.
 use Rattle.std.specs.Prelude.{◌≡◌, ℕ, ◌+◌, ◌<◌, ◌^◌, ◌==◌, Bool, true, false, if◌then◌else◌, List, [], ◌∷◌, refl}
 use Rattle.std.proofs.Common.{sym, subst, inl, inr, arith, eq-eqb}
-use Rattle.tsp_base.specs.declared.datagram.Datagram.{Datagram}
-use Rattle.tsp_base.specs.declared.datagram.Datagram.TheVariants.{Message, Stamp as StampOf}
-use Rattle.tsp_base.specs.declared.datagram.Taken.{Taken}
-use Rattle.tsp_base.specs.declared.datagram.Taken.TheVariants.{Good, Bad}
-use Rattle.tsp_base.specs.declared.kind.Kind.{Kind}
-use Rattle.tsp_base.specs.declared.message.Body.{Body}
-use Rattle.tsp_base.specs.declared.message.Body.TheVariants.{Nothing, Hops, Time}
-use Rattle.tsp_base.specs.declared.stamp.Stamp.TheVariants.{Request, Reply}
-use Rattle.tsp_base.specs.History.{Line, of}
-use Rattle.tsp_base.specs.Messages.{body_fits}
-use Rattle.tsp_base.specs.NodeFacts.{word}
-use Rattle.tsp_base.specs.Places.{Within}
+use Rattle.tsp_rules.specs.Values.{Datagram, Message, Stamp, Taken, Good, Bad, Kind, Body, Nothing, TimeBody, Hops, Request, Reply}
+use Rattle.tsp_base.specs.Words.{Line, of, body_fits, word, Within}
 use Rattle.tsp_codec.specs.Canon.{canon, IsWritable, IsWritableBody}
 use Rattle.tsp_codec.specs.Faults.{Reads}
 use Rattle.tsp_codec.specs.Numbers.{octet_at, be16_at, be64_at}
@@ -25,13 +15,13 @@ use Rattle.tsp_run.proofs.SoundPorts.{AreSoundLines}
 body_writable : (b : Body) → IsSoundBody b → IsWritableBody b
 body_writable Nothing s = s
 body_writable (Hops h) s = s
-body_writable (Time t) s = s
+body_writable (TimeBody t) s = s
 
 -- what is sound can be written, and is read as it was
 sound_writable : (d : Datagram) → IsSound d → IsWritable d
 sound_writable (Message m) s = (s.0, s.1, s.2, body_writable m.body s.3)
-sound_writable (StampOf (Request word counter)) s = s
-sound_writable (StampOf (Reply r)) s = s
+sound_writable (Stamp (Request word counter)) s = s
+sound_writable (Stamp (Reply r)) s = s
 
 pub sound_read : (d : Datagram) → IsSound d → taken_of (canon d) ≡ Good d
 sound_read d s = taken_of-canon d (sound_writable d s)
@@ -52,13 +42,13 @@ body_sound : (o : List ℕ) (k : Kind) (b : Body) → AreOctets o → SpellsBody
 unfolding body_fits
 body_sound o k Nothing h s = (rw (s.0, s.1) refl, tt)
 body_sound o k (Hops n) h s = (s.1, (let few = h 4 in let is = s.2 in omega (arith, few, is)))
-body_sound o k (Time t) h s = (s.0, rw s.2 s.1.value)
+body_sound o k (TimeBody t) h s = (s.0, rw s.2 s.1.value)
 
 spelled_sound : (o : List ℕ) (d : Datagram) → AreOctets o → Spells o d → IsSound d
 spelled_sound o (Message m) h s = let b = body_sound o m.kind m.body h s.body in ((let few = be16_small o 2 h in let is = s.number in omega (arith, few, is)), b.0, s.name.0, b.1)
-spelled_sound o (StampOf (Request word counter)) h s =
+spelled_sound o (Stamp (Request word counter)) h s =
     ((let few = be64_small o 4 h in let is = s.word_read in omega (arith, few, is)), (let few = be64_small o 12 h in let is = s.counter_read in omega (arith, few, is)))
-spelled_sound o (StampOf (Reply r)) h s =
+spelled_sound o (Stamp (Reply r)) h s =
     ((let few = be64_small o 4 h in let is = s.word in omega (arith, few, is)), (let few = be64_small o 12 h in let is = s.counter in omega (arith, few, is)), s.valid)
 
 taken_sound : (o : List ℕ) (t : Taken) → AreOctets o → Reads o t → IsSoundTaken t

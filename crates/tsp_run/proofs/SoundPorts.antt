@@ -2,33 +2,8 @@
 use Rattle.std.specs.Prelude.{◌≡◌, ◌<◌, ◌≤◌, ◌^◌, ℕ, ◌-◌, ◌==◌, ◌||◌, ◌&&◌, nat_le, nat_lt, ℤ, Bool, true, false, if◌then◌else◌, List, [], ◌∷◌, ◌++◌, length, map, All, refl}
 use Rattle.std.proofs.Common.{sym, subst, arith, append-nil}
 use Rattle.std.proofs.lemmas.List.Elements.{All-head, All-tail}
-use Rattle.tsp_base.specs.declared.act.Act.{Act}
-use Rattle.tsp_base.specs.declared.act.Act.TheVariants.{Boot, Took, Become, Abandon}
-use Rattle.tsp_base.specs.declared.act.Placed.{Placed}
-use Rattle.tsp_base.specs.declared.alarm.Alarm.{Alarm}
-use Rattle.tsp_base.specs.declared.alarm.Alarm.TheVariants.{Quiet, Probe, Close, Round}
-use Rattle.tsp_base.specs.declared.alarm.TheConstants.Alarm.{ALL}
-use Rattle.tsp_base.specs.declared.constants.TheConstants.{HOPS, QUIET}
-use Rattle.tsp_base.specs.declared.datagram.Datagram.TheVariants.{Message, Stamp}
-use Rattle.tsp_base.specs.declared.datagram.Taken.{Taken}
-use Rattle.tsp_base.specs.declared.datagram.Taken.TheVariants.{Good, Bad}
-use Rattle.tsp_base.specs.declared.kind.Kind.{Kind}
-use Rattle.tsp_base.specs.declared.kind.Kind.TheVariants.{Loop as LoopKind}
-use Rattle.tsp_base.specs.declared.message.Body.{Body}
-use Rattle.tsp_base.specs.declared.message.Body.TheVariants.{Nothing, Hops, Time}
-use Rattle.tsp_base.specs.declared.place.PeerId.{PeerId}
-use Rattle.tsp_base.specs.declared.place.Place.{Place}
-use Rattle.tsp_base.specs.declared.place.Port.{Port}
-use Rattle.tsp_base.specs.declared.role.Role.TheVariants.{Starting}
-use Rattle.tsp_base.specs.History.{Booted, Step, Acts, Line, Past, dids, is_shared, plain, seen_as, view}
-use Rattle.tsp_base.specs.Joins.{first_port, joined, line_of}
-use Rattle.tsp_base.specs.Kinds.{carries_time, carries_hops}
-use Rattle.tsp_base.specs.Messages.{MessageValue, body_fits}
-use Rattle.tsp_base.specs.Names.{IsName}
-use Rattle.tsp_base.specs.NodeFacts.{word, word_after}
-use Rattle.tsp_base.specs.RoundFacts.{is_going}
-use Rattle.tsp_base.specs.Rows.{Row, arms, grown, nothing, puts, ◌followed_by◌, others, placed}
-use Rattle.tsp_base.specs.SendFacts.{sets_date}
+use Rattle.tsp_rules.specs.Values.{Act, Boot, Took, Become, Abandon, Placed, Alarm, Quiet, Round, Probe, CloseAlarm, Message, Stamp, Taken, Good, Bad, Kind, LoopKind, Body, Nothing, TimeBody, Hops, PeerId, Place, Port, Starting, ALL, HOPS, QUIET}
+use Rattle.tsp_base.specs.Words.{Booted, Step, Acts, Line, Past, dids, is_shared, plain, seen_as, view, first_port, joined, line_of, carries_time, carries_hops, MessageValue, body_fits, IsName, word, word_after, is_going, Row, arms, grown, nothing, puts, ◌followed_by◌, others, placed, sets_date}
 use Rattle.tsp_base.proofs.LeadsLemmas.{Leads_then, Leads_nothing}
 use Rattle.tsp_base.proofs.Views.{plain_view}
 use Rattle.tsp_rules.specs.Answers.{rings, takes}
@@ -159,12 +134,12 @@ sound-probes q few = record {
 
 sound-closes : (q : Port) (own : Bool) → SoundlyAll (closes_on q own)
 unfolding closes_on
-sound-closes q own = record { run = λ x past s. sound-stirring q (other_ports q past) (length past.ports) x (rings own false Close) past (other_ranged q past) (sound_rings own false Close) s }
+sound-closes q own = record { run = λ x past s. sound-stirring q (other_ports q past) (length past.ports) x (rings own false CloseAlarm) past (other_ranged q past) (sound_rings own false CloseAlarm) s }
 
 sound-alarm : (q : Port) (a : Alarm) → q.0 < 4 → SoundlyAll (alarm_on q a)
 unfolding alarm_on begins_round_on
 sound-alarm q Probe few = sound-probes q few
-sound-alarm q Close few = All_reading (leads_clock q) (closes_on q) (λ own. sound-closes q own)
+sound-alarm q CloseAlarm few = All_reading (leads_clock q) (closes_on q) (λ own. sound-closes q own)
 sound-alarm q Round few = All_reading (waits q) (begins_round_on q) (λ wait. sound-on q (rings true wait Round) (sound_rings true wait Round))
 sound-alarm q a few = sound-on q (rings true false a) (sound_rings true false a)
 
@@ -183,7 +158,7 @@ sound-all-turns = record {
 hops-sound : (b : Body) → IsSoundBody b → hops_in b < 2 ^ 8
 hops-sound Nothing s = omega arith
 hops-sound (Hops h) s = s
-hops-sound (Time t) s = omega arith
+hops-sound (TimeBody t) s = omega arith
 
 less-sound : (m : MessageValue) → m.kind ≡ LoopKind → IsSound (Message m) → IsSound (Message (one_hop_less m))
 unfolding body_fits carries_time carries_hops

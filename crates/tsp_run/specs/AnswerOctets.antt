@@ -1,12 +1,7 @@
 -- The promise of how many octets strangers are sent for an answer.
 use Rattle.std.specs.Prelude.{◌≡◌, ◌≤◌, ◌<◌, List, length}
-use Rattle.tsp_base.specs.declared.act.Act.TheVariants.{Post}
-use Rattle.tsp_base.specs.declared.datagram.Datagram.{Datagram}
-use Rattle.tsp_base.specs.declared.datagram.Datagram.TheVariants.{Message, Stamp}
-use Rattle.tsp_base.specs.declared.place.Place.TheVariants.{Stranger}
-use Rattle.tsp_base.specs.History.{Acts, Line, Seen, of, view}
-use Rattle.tsp_base.specs.Setup.{Setup}
-use Rattle.tsp_base.specs.Takings.{TakesFrom}
+use Rattle.tsp_rules.specs.Values.{Post, Datagram, Message, Stamp, Stranger}
+use Rattle.tsp_base.specs.Words.{Acts, Line, Seen, of, view, Setup, TakesFrom}
 use Rattle.tsp_codec.specs.Canon.{written_size}
 use Rattle.tsp_promises.specs.DeedFits.{answer_name}
 use Rattle.tsp_promises.specs.Everywhere.{Everywhere}

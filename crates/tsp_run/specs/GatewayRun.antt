@@ -1,21 +1,8 @@
 -- A run on two networks, written out: a node joins both, follows a master on each, and is corrected on one.
 use Rattle.std.specs.Prelude.{◌≡◌, ℕ, pos, false, List, [], ◌∷◌, codes, Option, None, Some}
-use Rattle.tsp_base.specs.declared.act.Act.{Act}
-use Rattle.tsp_base.specs.declared.act.Act.TheVariants.{Boot, Took, Post, Become, Arm, Ring, Correct}
-use Rattle.tsp_base.specs.declared.alarm.Alarm.TheVariants.{Quiet, Search, Elect}
-use Rattle.tsp_base.specs.declared.datagram.Datagram.TheVariants.{Message}
-use Rattle.tsp_base.specs.declared.datagram.Taken.TheVariants.{Good}
-use Rattle.tsp_base.specs.declared.event.Event.{Event}
-use Rattle.tsp_base.specs.declared.event.Event.TheVariants.{Boot as BootAt, Turn, Bytes}
+use Rattle.tsp_rules.specs.Values.{Act, Boot, Took, Post, Become, Arm, Ring, Correct, Quiet, Elect, Search, Message, Good, Event, BootAt, Turn, Bytes, NodeLine, Ack, AdjTime, MasterReq, MasterUp, SlaveUp, Peer, Starting, Loose, Follow}
+use Rattle.tsp_base.specs.Words.{HeaderValue, MessageValue, bare, timed, peer_of as peer}
 use Rattle.tsp_base.specs.declared.event.EventFault.TheVariants.{NoNode}
-use Rattle.tsp_base.specs.declared.header.NodeLine.{NodeLine}
-use Rattle.tsp_base.specs.declared.kind.Kind.TheVariants.{AdjTime, Ack, MasterReq, MasterUp, SlaveUp}
-use Rattle.tsp_base.specs.declared.place.Place.TheVariants.{Peer}
-use Rattle.tsp_base.specs.declared.role.Role.TheVariants.{Starting, Loose, Follow}
-use Rattle.tsp_base.specs.Headers.{HeaderValue}
-use Rattle.tsp_base.specs.Messages.{MessageValue}
-use Rattle.tsp_base.specs.Rows.{bare, timed}
-use Rattle.tsp_base.specs.Takings.{peer_of as peer}
 use Rattle.tsp_run.specs.declared.line.Line.{Line}
 use Rattle.tsp_run.specs.Refusals.{refusal, scene, Valid}
 use Rattle.tsp_run.specs.Run.{told}

@@ -1,11 +1,7 @@
 -- The networks of a schedule: who is on them, and by which of its ports a node is.
 use Rattle.std.specs.Prelude.{ℕ, zero, suc, ◌+◌, ◌==◌, if◌then◌else◌, List, [], ◌∷◌, ◌++◌, length, map, Option, None, Some}
-use Rattle.tsp_base.specs.declared.place.PeerId.{PeerId}
-use Rattle.tsp_base.specs.declared.place.Place.{Place}
-use Rattle.tsp_base.specs.declared.place.Place.TheVariants.{Peer, Stranger}
-use Rattle.tsp_base.specs.declared.place.Port.{Port}
-use Rattle.tsp_base.specs.Headers.{HeaderValue, has_member}
-use Rattle.tsp_base.specs.Takings.{peer_of}
+use Rattle.tsp_rules.specs.Values.{PeerId, Place, Peer, Stranger, Port}
+use Rattle.tsp_base.specs.Words.{HeaderValue, has_member, peer_of}
 use Rattle.tsp_rules.specs.NodeRows.{PortSetup}
 use Rattle.tsp_rules.specs.Rooms.{room_for}
 use Rattle.tsp_run.specs.declared.address.Address.{Address}

@@ -1,14 +1,8 @@
 -- The premises of the promises, as statements about the text of a schedule, its header and its events, newest first; and,
 -- where they ask what was posted, about its trace too.
 use Rattle.std.specs.Prelude.{◌≡◌, ◌≢◌, ◌<◌, ◌≤◌, nat_le, ℕ, ◌+◌, if◌then◌else◌, List, [], ◌∷◌, length, Some, slice_get}
-use Rattle.tsp_base.specs.declared.act.Act.TheVariants.{Boot as BootAct, Post}
-use Rattle.tsp_base.specs.declared.constants.TheConstants.{LIFE}
-use Rattle.tsp_base.specs.declared.datagram.Datagram.TheVariants.{Message}
-use Rattle.tsp_base.specs.declared.event.Event.{Event}
-use Rattle.tsp_base.specs.declared.event.Event.TheVariants.{Boot, Take, Bytes}
-use Rattle.tsp_base.specs.declared.place.Place.TheVariants.{Peer}
-use Rattle.tsp_base.specs.Headers.{HeaderValue}
-use Rattle.tsp_base.specs.History.{Acts, Deed, Line, Seen, Here, Elsewhere, of, view}
+use Rattle.tsp_rules.specs.Values.{Boot, Post, Message, Event, BootAt, Take, Bytes, Peer, LIFE}
+use Rattle.tsp_base.specs.Words.{HeaderValue, Acts, Deed, Line, Seen, Here, Elsewhere, of, view}
 use Rattle.tsp_promises.specs.Everywhere.{Everywhere}
 use Rattle.tsp_promises.specs.Fits.{node_of}
 use Rattle.tsp_promises.specs.Premises.{Few, Honest, Life, NamesApart, OwnWords, Words}
@@ -41,7 +35,7 @@ Prompt header (e ∷ before) = IsPrompt header before e × Prompt header before
 
 -- an event isn't a boot with this word
 abbrev pub BootsOtherwise : ℕ → Event → Type 0
-BootsOtherwise w (Boot at node word) = word ≢ w
+BootsOtherwise w (BootAt at node word) = word ≢ w
 BootsOtherwise w _ = Unit {0}
 
 -- none of these events is a boot with this word
@@ -51,7 +45,7 @@ AllBootOtherwise w (e ∷ before) = BootsOtherwise w e × AllBootOtherwise w bef
 
 -- a boot has another word than each boot before it
 abbrev pub IsApart : Event → List Event → Type 0
-IsApart (Boot at node word) before = AllBootOtherwise word before
+IsApart (BootAt at node word) before = AllBootOtherwise word before
 IsApart _ before = Unit {0}
 
 -- no two `boot` events have the same word
@@ -64,7 +58,7 @@ abbrev pub Short : HeaderValue → List Event → Type 0
 Short header events = length (posts (run header events)) < 32768
 
 abbrev pub own_posts_after : Deed → ℕ → ℕ
-own_posts_after (Acts BootAct) n = 0
+own_posts_after (Acts Boot) n = 0
 own_posts_after (Acts (Post to (Message m))) n = if nat_le 32768 m.number then n + 1 else n
 own_posts_after _ n = n
 

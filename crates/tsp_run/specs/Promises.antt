@@ -1,6 +1,6 @@
 -- What is promised of a run's history.
 use Rattle.std.specs.Prelude.{◌≡◌, true, List}
-use Rattle.tsp_base.specs.History.{Line}
+use Rattle.tsp_base.specs.Words.{Line}
 use Rattle.tsp_promises.specs.OneWinner.{OneWinner}
 use Rattle.tsp_promises.specs.Premises.{Few, Honest, Life}
 use Rattle.tsp_promises.specs.Safe.{Safe}

@@ -1,14 +1,13 @@
 -- The ranges of the values of events, and which events are accepted.
 use Rattle.std.specs.Prelude.{ℕ, ◌<◌, ◌^◌, List, All}
-use Rattle.tsp_base.specs.declared.event.Event.{Event}
-use Rattle.tsp_base.specs.declared.event.Event.TheVariants.{Boot, Bytes}
-use Rattle.tsp_base.specs.Headers.{HeaderValue, IsHeader}
+use Rattle.tsp_rules.specs.Values.{Event, BootAt, Bytes}
+use Rattle.tsp_base.specs.Words.{HeaderValue, IsHeader}
 use Rattle.tsp_codec.specs.Numbers.{octet_at}
 use Rattle.tsp_run.specs.Refusals.{Valid}
 
 -- a boot's word is less than 2^64, and octets are less than 256
 abbrev pub IsInRange : Event → Type 0
-IsInRange (Boot at node word) = word < 2 ^ 64
+IsInRange (BootAt at node word) = word < 2 ^ 64
 IsInRange (Bytes at node port from octets) = (i : ℕ) → octet_at octets i < 256
 IsInRange _ = Unit {0}
 

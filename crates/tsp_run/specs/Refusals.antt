@@ -1,15 +1,9 @@
 -- When an event is refused after the events before it, and why: the first cause that applies.
 use Rattle.std.specs.Prelude.{◌≡◌, ◌⊎◌, ℕ, ◌+◌, ◌<◌, ◌≤◌, nat_lt, nat_le, ◌||◌, Bool, false, if◌then◌else◌, List, [], ◌∷◌, length, Option, None, Some, slice_get}
-use Rattle.tsp_base.specs.declared.event.Event.{Event}
-use Rattle.tsp_base.specs.declared.event.Event.TheVariants.{Boot, Turn, Take, Bytes}
+use Rattle.tsp_rules.specs.Values.{Event, BootAt, Turn, Take, Bytes, Place, Peer, Stranger, Port}
+use Rattle.tsp_base.specs.Words.{HeaderValue, of, dids, up}
 use Rattle.tsp_base.specs.declared.event.EventFault.{EventFault}
 use Rattle.tsp_base.specs.declared.event.EventFault.TheVariants.{TimeBack, NoNode, NoDatagram, NotUp, Limit, OutOfMemory}
-use Rattle.tsp_base.specs.declared.place.Place.{Place}
-use Rattle.tsp_base.specs.declared.place.Port.{Port}
-use Rattle.tsp_base.specs.declared.place.Place.TheVariants.{Peer, Stranger}
-use Rattle.tsp_base.specs.Headers.{HeaderValue}
-use Rattle.tsp_base.specs.History.{of, dids}
-use Rattle.tsp_base.specs.NodeFacts.{up}
 use Rattle.tsp_run.specs.declared.posted.Posted.{Posted}
 use Rattle.tsp_run.specs.declared.address.Address.{Address}
 use Rattle.tsp_run.specs.Networks.{networks, ports_on, room}
@@ -49,7 +43,7 @@ node_in (Some a) = Some a.node
 
 -- the node that would act at an event: none at the `take` of a datagram that reaches no node
 abbrev pub actor : Scene → Event → Option ℕ
-actor s (Boot at node word) = Some node
+actor s (BootAt at node word) = Some node
 actor s (Turn at node) = Some node
 actor s (Take at datagram) = node_in (goes_to s.networks (slice_get s.posts datagram))
 actor s (Bytes at node port from octets) = Some node
@@ -82,7 +76,7 @@ lacks_port s n port = if nat_lt port.0 (port_count n s.networks) then None else 
 
 -- a node that doesn't exist is named: the node of the event, its port, or the node that the octets seem to come from
 abbrev pub no_node : Scene → Event → Option EventFault
-no_node s (Boot at node word) = unknown s.nodes node
+no_node s (BootAt at node word) = unknown s.nodes node
 no_node s (Turn at node) = unknown s.nodes node
 no_node s (Take at datagram) = None
 no_node s (Bytes at node port from octets) = first_of (unknown s.nodes node) (first_of (lacks_port s node port) (unknown_place s.nodes from))
@@ -102,7 +96,7 @@ down up (Some n) = down_at (up n) n
 
 -- the node that would act hasn't booted; any node may boot
 abbrev pub not_up : Scene → Event → Option EventFault
-not_up s (Boot at node word) = None
+not_up s (BootAt at node word) = None
 not_up s e = down s.up (actor s e)
 
 -- how many acts the node that would act may put, if there is one
@@ -135,7 +129,7 @@ IsRefusal cause fault = (cause ≡ Some fault) ⊎ ((cause ≡ None) × (fault �
 
 -- what an event names exists: its node, and the port on which octets come
 abbrev pub Names : Scene → Event → Type 0
-Names s (Boot at node word) = node < s.nodes
+Names s (BootAt at node word) = node < s.nodes
 Names s (Turn at node) = node < s.nodes
 Names s (Take at datagram) = Unit {0}
 Names s (Bytes at node port from octets) = (node < s.nodes) × (port.0 < length (ports_on node s.networks))

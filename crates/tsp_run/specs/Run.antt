@@ -1,17 +1,7 @@
 -- The run of a schedule: its history, and its trace. Lists of events and of lines have the newest first.
 use Rattle.std.specs.Prelude.{ℕ, ◌+◌, pos, ◌+ℤ◌, List, [], ◌∷◌, ◌++◌, length, Option, None, Some, slice_get}
-use Rattle.tsp_base.specs.declared.act.Act.{Act}
-use Rattle.tsp_base.specs.declared.act.Act.TheVariants.{Post}
-use Rattle.tsp_base.specs.declared.act.Placed.{Placed}
-use Rattle.tsp_base.specs.declared.event.Event.{Event}
-use Rattle.tsp_base.specs.declared.event.Event.TheVariants.{Boot as BootAt, Turn, Take, Bytes}
-use Rattle.tsp_base.specs.declared.place.Place.TheVariants.{Peer}
-use Rattle.tsp_base.specs.declared.place.Port.{Port}
-use Rattle.tsp_base.specs.Headers.{HeaderValue}
-use Rattle.tsp_base.specs.History.{Booted, Turned, Came as TakesPost, Handed, Step, Deed, Begins, Acts, Line}
-use Rattle.tsp_base.specs.Joins.{stepped}
-use Rattle.tsp_base.specs.Takings.{peer_of}
-use Rattle.tsp_base.specs.Ticks.{tick_at}
+use Rattle.tsp_rules.specs.Values.{Act, Post, Placed, Event, BootAt, Turn, Take, Bytes, Peer, Port}
+use Rattle.tsp_base.specs.Words.{HeaderValue, Booted, Turned, Came as TakesPost, Handed, Step, Deed, Begins, Acts, Line, stepped, peer_of, tick_at}
 use Rattle.tsp_codec.specs.Canon.{canon}
 use Rattle.tsp_codec.specs.Taken.{taken_of}
 use Rattle.tsp_rules.specs.GateRows.{NodeTurn, GotOn, answers_all, boots_all}

@@ -1,12 +1,9 @@
 -- The setting of a schedule's run: what the promises need to know of its header.
 use Rattle.std.specs.Prelude.{◌≡◌, ℕ, List, [], ◌∷◌, Option, None, Some, slice_index_or}
-use Rattle.tsp_base.specs.declared.event.Event.{Event}
-use Rattle.tsp_base.specs.declared.place.PeerId.{PeerId}
-use Rattle.tsp_base.specs.declared.place.Port.{Port}
+use Rattle.tsp_rules.specs.Values.{Event, PeerId, Port}
+use Rattle.tsp_base.specs.Words.{HeaderValue, IsHeader, peer_of}
 use Rattle.tsp_promises.specs.Fits.{Fits, Finished}
-use Rattle.tsp_base.specs.Headers.{HeaderValue, IsHeader}
 use Rattle.tsp_promises.specs.Setting.{Alone, Named, Network, Setting}
-use Rattle.tsp_base.specs.Takings.{peer_of}
 use Rattle.tsp_run.specs.Promises.{Promises}
 use Rattle.tsp_run.specs.Ranges.{Accepted}
 use Rattle.tsp_run.specs.Run.{run}

@@ -6,12 +6,12 @@ use Rattle.std.specs.List.{All}
 use Rattle.std.proofs.lemmas.Fmt.{length-decimal-le}
 use Rattle.std.proofs.lemmas.List.Elements.{All-head, All-tail}
 use Rattle.tsp_base.specs.declared.event.Event.{Event}
-use Rattle.tsp_base.specs.declared.event.Event.TheVariants.{Boot, Turn, Take, Bytes}
+use Rattle.tsp_base.specs.declared.event.Event.TheVariants.{Boot as BootAt, Turn, Take, Bytes}
 use Rattle.tsp_base.specs.declared.header.NodeLine.{NodeLine}
 use Rattle.tsp_base.specs.declared.place.Place.{Place}
 use Rattle.tsp_base.specs.declared.place.Port.{Port}
 use Rattle.tsp_base.specs.declared.place.Place.TheVariants.{Peer, Stranger}
-use Rattle.tsp_base.specs.Headers.{HeaderValue}
+use Rattle.tsp_base.specs.Words.{HeaderValue}
 use Rattle.tsp_script.specs.Texts.{space}
 use Rattle.tsp_script.specs.Traces.{place_text}
 use Rattle.tsp_script.specs.declared.event_line.EventItem.{EventItem}
@@ -44,7 +44,7 @@ port_length : (port : Port) → port.0 < 2 ^ 8 → length (port_text port) ≤ 2
 port_length port h = port_length_by port (port.0 == 0) h
 
 event_length : (e : Event) (hex : List ℕ) → IsEvent e → IsHexOf hex e → length (event_text e hex) ≤ 1024
-event_length (Boot at node word) hex i h = omega (
+event_length (BootAt at node word) hex i h = omega (
   arith,
   number_length at (omega (arith, i.0)),
   number_length node (omega (arith, i.1)),

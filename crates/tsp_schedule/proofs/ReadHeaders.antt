@@ -4,7 +4,7 @@ use Rattle.std.specs.Prelude.{◌==◌, Bool, true, false, if◌then◌else◌}
 use Rattle.std.proofs.lemmas.List.Elements.{All-push}
 use Rattle.tsp_base.specs.declared.event.Event.{Event}
 use Rattle.tsp_base.specs.declared.header.NodeLine.{NodeLine}
-use Rattle.tsp_base.specs.Headers.{HeaderValue, IsHeader, Keeps}
+use Rattle.tsp_base.specs.Words.{HeaderValue, IsHeader, KeepsDrift}
 use Rattle.tsp_base.proofs.HeaderLemmas.{IsHeader-joined}
 use Rattle.tsp_schedule.specs.Schedules.{Progress, Untitled, Titled, Drifted, Heading, Running, Ended, Takes, TakesNet, new_header, RunsOn, GoesOn, Reaches}
 use Rattle.tsp_schedule.specs.Refusing.{Refusing}
@@ -32,7 +32,7 @@ one_node : (header : HeaderValue) (node : NodeLine) → IsHeader header → Take
 one_node header node h t = record {
   small = h.small;
   few = omega (arith, t.few, length-append header.nodes (node ∷ []));
-  kept = All-push (Keeps header.drift) header.nodes node h.kept t.kept;
+  kept = All-push (KeepsDrift header.drift) header.nodes node h.kept t.kept;
   few_nets = h.few_nets;
   nets_are = λ k d below. let none : length header.nets ≡ 0 = ap length t.unjoined in absurd (omega (arith, below, none));
   few_ports = h.few_ports;

@@ -4,7 +4,7 @@ use Rattle.tsp_base.specs.declared.event.Event.{Event}
 use Rattle.tsp_base.specs.declared.event.EventFault.{EventFault}
 use Rattle.tsp_base.specs.declared.event.EventFault.TheVariants.{TimeBack, NoNode, NoDatagram, NotUp, Limit, OutOfMemory}
 use Rattle.tsp_base.specs.declared.header.NodeLine.{NodeLine}
-use Rattle.tsp_base.specs.Headers.{HeaderValue, Joins, Keeps, is_whole}
+use Rattle.tsp_base.specs.Words.{HeaderValue, Joins, KeepsDrift, is_whole}
 use Rattle.tsp_script.specs.declared.event_line.EventItem.{EventItem}
 use Rattle.tsp_script.specs.declared.event_line.EventItem.TheVariants.{Event as EventOf, End}
 use Rattle.tsp_script.specs.declared.head_line.HeadItem.{HeadItem}
@@ -31,7 +31,7 @@ pub data Progress : Type 0 where
 pub record Takes (header : HeaderValue) (node : NodeLine) : Type 0 where
   pub unjoined : header.nets ≡ []
   pub few : length header.nodes < 64
-  pub kept : Keeps header.drift node
+  pub kept : KeepsDrift header.drift node
 
 -- a network may be added to the header
 pub record TakesNet (header : HeaderValue) (members : List ℕ) : Type 0 where

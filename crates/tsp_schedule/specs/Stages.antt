@@ -5,7 +5,7 @@ use Rattle.tsp_base.specs.declared.event.Event.{Event}
 use Rattle.tsp_base.specs.declared.event.EventFault.{EventFault}
 use Rattle.tsp_base.specs.declared.event.EventFault.TheVariants.{TimeBack, NoNode, NoDatagram, NotUp, Limit as NoRoom, OutOfMemory as NoMemory}
 use Rattle.tsp_base.specs.declared.header.NodeLine.{NodeLine}
-use Rattle.tsp_base.specs.Headers.{HeaderValue}
+use Rattle.tsp_base.specs.Words.{HeaderValue}
 use Rattle.tsp_schedule.specs.declared.run.Run.{Run}
 use Rattle.tsp_schedule.specs.declared.stage.Stage.{Stage}
 use Rattle.tsp_schedule.specs.declared.stage.Stage.TheVariants.{Untitled as AtUntitled, Titled as AtTitled, Drifted as AtDrifted, Heading as AtHeading, Running as AtRunning}
@@ -52,8 +52,8 @@ Halts refused p line WriteFault = ⊥
 Halts refused p line OutOfMemory = Unit {0}
 
 -- the stage stands for these lines, however they are read
-abbrev pub Stands : {C : Type 0} → Refusing → (HeaderValue → List Event → C → Type 0) → Stage C → List (List ℕ) → Type 0
-Stands refused stands stage lines = (p : Progress) → Reaches refused (reverse lines) p → StageStands stands p stage
+abbrev pub StageHolds : {C : Type 0} → Refusing → (HeaderValue → List Event → C → Type 0) → Stage C → List (List ℕ) → Type 0
+StageHolds refused stands stage lines = (p : Progress) → Reaches refused (reverse lines) p → StageStands stands p stage
 
 -- the first line after the header was refused: the header isn't complete, or for a cause of any later line
 abbrev pub HaltsFirst : Refusing → HeaderValue → List ℕ → Stop → Type 0

@@ -2,10 +2,10 @@
 use Rattle.std.proofs.Common.{◌≡◌, ℕ, List, ◌++◌, refl, sym, ◌∙◌, ap, arith, false, slice_index_or, append_assoc}
 use Rattle.std.specs.Prelude.{ℤ, codes}
 use Rattle.std.proofs.lemmas.List.{append_cancel_left}
-use Rattle.tsp_base.specs.Kinds.{kind_word}
-use Rattle.tsp_base.specs.declared.act.Act.TheVariants.{Sample, Close as CloseAct}
+use Rattle.tsp_base.specs.Words.{kind_word}
+use Rattle.tsp_base.specs.declared.act.Act.TheVariants.{Sample, Close}
 use Rattle.tsp_base.specs.declared.datagram.Datagram.{Datagram}
-use Rattle.tsp_base.specs.declared.datagram.Datagram.TheVariants.{Message, Stamp as StampOf}
+use Rattle.tsp_base.specs.declared.datagram.Datagram.TheVariants.{Message, Stamp}
 use Rattle.tsp_base.specs.declared.datagram.DecodeFault.{DecodeFault}
 use Rattle.tsp_base.specs.declared.datagram.Taken.{Taken}
 use Rattle.tsp_base.specs.declared.datagram.Taken.TheVariants.{Good, Bad}
@@ -38,8 +38,8 @@ reply_not_refused word a b = cc
 -- no datagram's line begins with `refused`
 pub not_refused : (text : List ℕ) (d : Datagram) → text ≡ message_text d → first_word text ≡ codes "refused" → ⊥
 not_refused text (Message m) t w = kind_word-not_refused m.kind (sym (cut_front text (kind_word m.kind) (message_rest m) (no_space-kind_word m.kind) (t ∙ simp append_assoc)).0 ∙ w)
-not_refused text (StampOf (Request word counter)) t w = request_not_refused (first_word text) (cut_front text (codes "request") (request_rest word counter) (no_space-spaceless (codes "request") refl) (t ∙ simp append_assoc)).0 w
-not_refused text (StampOf (Reply r)) t w = reply_not_refused (first_word text) (cut_front text (codes "reply") (reply_rest r) (no_space-spaceless (codes "reply") refl) (t ∙ simp append_assoc)).0 w
+not_refused text (Stamp (Request word counter)) t w = request_not_refused (first_word text) (cut_front text (codes "request") (request_rest word counter) (no_space-spaceless (codes "request") refl) (t ∙ simp append_assoc)).0 w
+not_refused text (Stamp (Reply r)) t w = reply_not_refused (first_word text) (cut_front text (codes "reply") (reply_rest r) (no_space-spaceless (codes "reply") refl) (t ∙ simp append_assoc)).0 w
 
 -- behind `refused` stands a fault
 pub refused_case : (Holds : Taken → Type 0) (text rest : List ℕ) (t : Taken) → text ≡ taken_text t → text ≡ codes "refused " ++ rest → ((f : DecodeFault) → rest ≡ fault_word f → Holds (Bad f)) → Holds t
@@ -51,5 +51,5 @@ pub sample_of_parts : (n counter : ℕ) (diff err : ℤ) (ticket : ℕ) (p : Pee
     → Sample (record { 0 = n }) counter diff err ticket ≡ Sample p other near wide drawn
 sample_of_parts n counter diff err ticket p other near wide drawn a b x y z = rw (a, b, x, y, z) refl
 
-pub close_of_parts : (count : ℕ) (lo width mean : ℤ) (other : ℕ) (least wide middle : ℤ) → count ≡ other → lo ≡ least → width ≡ wide → mean ≡ middle → CloseAct count lo width mean ≡ CloseAct other least wide middle
+pub close_of_parts : (count : ℕ) (lo width mean : ℤ) (other : ℕ) (least wide middle : ℤ) → count ≡ other → lo ≡ least → width ≡ wide → mean ≡ middle → Close count lo width mean ≡ Close other least wide middle
 close_of_parts count lo width mean other least wide middle a b x y = rw (a, b, x, y) refl

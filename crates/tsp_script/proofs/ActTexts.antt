@@ -2,7 +2,7 @@
 use Rattle.std.proofs.Common.{◌≡◌, ◌≢◌, ℕ, List, ◌∷◌, ◌++◌, refl, ◌∙◌, ap, sym, subst, Bool, true, false, append_assoc, Some}
 use Rattle.std.specs.Prelude.{decimal, codes}
 use Rattle.std.specs.Fmt.{signed_decimal}
-use Rattle.tsp_base.specs.Alarms.{alarm_word}
+use Rattle.tsp_base.specs.Words.{alarm_word}
 use Rattle.tsp_base.specs.declared.act.Act.{Act}
 use Rattle.tsp_base.specs.declared.act.Act.TheVariants.{Boot, Took, Post, Become, Back, Backer, Quit, Arm, Ring, Late, Join, Leave, Rival, Acked, Gave, Sample, Close, Correct, Abandon, Trace}
 use Rattle.tsp_base.specs.declared.trace.Line2.{Line2}

@@ -1,19 +1,18 @@
 -- Laws of the bodies of messages.
 use Rattle.std.proofs.Common.{◌≡◌, ℕ, List, ◌++◌, true, false, Bool, refl}
 use Rattle.std.specs.Prelude.{not, ◌&&◌}
-use Rattle.tsp_base.specs.Kinds.{carries_time, carries_hops}
-use Rattle.tsp_base.specs.Messages.{body_fits}
+use Rattle.tsp_base.specs.Words.{carries_time, carries_hops, body_fits}
 use Rattle.tsp_base.specs.declared.kind.Kind.{Kind}
-use Rattle.tsp_base.specs.declared.kind.Kind.TheVariants.{Loop}
+use Rattle.tsp_base.specs.declared.kind.Kind.TheVariants.{Loop as LoopKind}
 use Rattle.tsp_base.specs.declared.message.Body.{Body}
-use Rattle.tsp_base.specs.declared.message.Body.TheVariants.{Nothing, Time, Hops}
+use Rattle.tsp_base.specs.declared.message.Body.TheVariants.{Nothing, Time as TimeBody, Hops}
 use Rattle.tsp_script.specs.Texts.{IsTimeBody, IsHopsBody, body_text}
 use Rattle.tsp_script.proofs.Outcomes.{true_or_false}
 
 -- no kind carries both a time and hops
 not_both : (k : Kind) → carries_time k ≡ true → carries_hops k ≡ true → ⊥
 unfolding carries_time carries_hops
-not_both Loop p q = cc
+not_both LoopKind p q = cc
 not_both _ p q = cc
 
 neither_time : (a b : Bool) → not a && not b ≡ true → a ≡ true → ⊥
@@ -28,32 +27,32 @@ neither_hops false false p q = cc
 pub time_body : (k : Kind) (b : Body) → carries_time k ≡ true → body_fits k b ≡ true → IsTimeBody b
 unfolding body_fits
 time_body k Nothing h f = absurd (neither_time (carries_time k) (carries_hops k) f h)
-time_body k (Time t) h f = tt
+time_body k (TimeBody t) h f = tt
 time_body k (Hops n) h f = absurd (not_both k h f)
 
 pub hops_body : (k : Kind) (b : Body) → carries_hops k ≡ true → body_fits k b ≡ true → IsHopsBody b
 unfolding body_fits
 hops_body k Nothing h f = absurd (neither_hops (carries_time k) (carries_hops k) f h)
-hops_body k (Time t) h f = absurd (not_both k f h)
+hops_body k (TimeBody t) h f = absurd (not_both k f h)
 hops_body k (Hops n) h f = tt
 
 pub no_body : (k : Kind) (b : Body) (line rest : List ℕ) → carries_time k ≡ false → carries_hops k ≡ false → body_fits k b ≡ true → line ≡ body_text b ++ rest → (Nothing ≡ b) × (line ≡ rest)
 unfolding body_fits
 no_body k Nothing line rest g h f e = (refl, e)
-no_body k (Time t) line rest g h f e = absurd (true_or_false (carries_time k) f g)
+no_body k (TimeBody t) line rest g h f e = absurd (true_or_false (carries_time k) f g)
 no_body k (Hops n) line rest g h f e = absurd (true_or_false (carries_hops k) f h)
 
 -- the body of a kind
 pub time_fits : (k : Kind) (b : Body) → carries_time k ≡ true → IsTimeBody b → body_fits k b ≡ true
 unfolding body_fits
 time_fits k Nothing h b = elim b [ ]
-time_fits k (Time t) h b = h
+time_fits k (TimeBody t) h b = h
 time_fits k (Hops n) h b = elim b [ ]
 
 pub hops_fit : (k : Kind) (b : Body) → carries_hops k ≡ true → IsHopsBody b → body_fits k b ≡ true
 unfolding body_fits
 hops_fit k Nothing h b = elim b [ ]
-hops_fit k (Time t) h b = elim b [ ]
+hops_fit k (TimeBody t) h b = elim b [ ]
 hops_fit k (Hops n) h b = h
 
 pub nothing_fits : (k : Kind) → carries_time k ≡ false → carries_hops k ≡ false → body_fits k Nothing ≡ true

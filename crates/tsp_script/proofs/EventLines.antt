@@ -6,12 +6,12 @@ use Rattle.std.proofs.lemmas.Fmt.{decimal_is_IsNumeral}
 use Rattle.hex.specs.Hex.{decode_of}
 use Rattle.hex.proofs.HexLemmas.{decode_of-ok}
 use Rattle.tsp_base.specs.declared.event.Event.{Event}
-use Rattle.tsp_base.specs.declared.event.Event.TheVariants.{Boot, Turn, Take, Bytes}
+use Rattle.tsp_base.specs.declared.event.Event.TheVariants.{Boot as BootAt, Turn, Take, Bytes}
 use Rattle.tsp_base.specs.declared.place.Place.{Place}
 use Rattle.tsp_base.specs.declared.place.Port.{Port}
 use Rattle.tsp_base.specs.declared.place.Place.TheVariants.{Peer, Stranger}
 use Rattle.tsp_base.specs.declared.plain.Plain.TheVariants.{Turn as PlainTurn, Take as PlainTake}
-use Rattle.tsp_base.specs.Plains.{event_in}
+use Rattle.tsp_base.specs.Words.{event_in}
 use Rattle.tsp_base.specs.declared.plain.Plain.{Plain}
 use Rattle.tsp_script.specs.Plains.{IsTurnOrTake}
 use Rattle.tsp_script.specs.declared.event_line.EventItem.{EventItem}
@@ -40,25 +40,25 @@ short_hex hex octets e h = omega (arith, (decode_of-ok hex octets e).2)
 
 -- the time, the word and what follows it in an event's line
 abbrev pub at_of : Event → ℕ
-at_of (Boot at node word) = at
+at_of (BootAt at node word) = at
 at_of (Turn at node) = at
 at_of (Take at datagram) = at
 at_of (Bytes at node port from octets) = at
 
 abbrev pub verb_of : Event → List ℕ
-verb_of (Boot at node word) = codes "boot"
+verb_of (BootAt at node word) = codes "boot"
 verb_of (Turn at node) = codes "turn"
 verb_of (Take at datagram) = codes "take"
 verb_of (Bytes at node port from octets) = codes "bytes"
 
 abbrev pub rest_of : Event → List ℕ → List ℕ
-rest_of (Boot at node word) hex = decimal node ++ 32 ∷ decimal word
+rest_of (BootAt at node word) hex = decimal node ++ 32 ∷ decimal word
 rest_of (Turn at node) hex = decimal node
 rest_of (Take at datagram) hex = decimal datagram
 rest_of (Bytes at node port from octets) hex = (decimal node ++ port_text port) ++ 32 ∷ (place_text from ++ 32 ∷ hex)
 
 pub event_parts : (e : Event) (hex : List ℕ) → event_text e hex ≡ codes "at" ++ 32 ∷ (decimal (at_of e) ++ 32 ∷ (verb_of e ++ 32 ∷ rest_of e hex))
-event_parts (Boot at node word) hex = simp append_assoc
+event_parts (BootAt at node word) hex = simp append_assoc
 event_parts (Turn at node) hex = simp append_assoc
 event_parts (Take at datagram) hex = simp append_assoc
 event_parts (Bytes at node port from octets) hex = simp append_assoc
@@ -68,13 +68,13 @@ after_at e line hex l =
     (cut_front line (codes "at") (decimal (at_of e) ++ 32 ∷ (verb_of e ++ 32 ∷ rest_of e hex)) (no_space-spaceless (codes "at") refl) (l ∙ event_parts e hex)).1
 
 pub IsTrueTime-at_of : (e : Event) → IsEvent e → IsTrueTime (at_of e)
-IsTrueTime-at_of (Boot at node word) h = h.0
+IsTrueTime-at_of (BootAt at node word) h = h.0
 IsTrueTime-at_of (Turn at node) h = h.0
 IsTrueTime-at_of (Take at datagram) h = h.0
 IsTrueTime-at_of (Bytes at node port from octets) h = h.0
 
 pub no_space-verb_of : (e : Event) → ¬ Contains (verb_of e) 32
-no_space-verb_of (Boot at node word) = no_space-spaceless (codes "boot") refl
+no_space-verb_of (BootAt at node word) = no_space-spaceless (codes "boot") refl
 no_space-verb_of (Turn at node) = no_space-spaceless (codes "turn") refl
 no_space-verb_of (Take at datagram) = no_space-spaceless (codes "take") refl
 no_space-verb_of (Bytes at node port from octets) = no_space-spaceless (codes "bytes") refl
@@ -82,11 +82,11 @@ no_space-verb_of (Bytes at node port from octets) = no_space-spaceless (codes "b
 -- a line of no event of any kind, and not the last, is no item's
 pub no_item : (line : List ℕ) (item : EventItem) → SpellsEvent line item
     → ((at node : ℕ) (port : Port) (from : Place) (octets : List ℕ) → SpellsEvent line (EventOf (Bytes at node port from octets)) → ⊥)
-    → ((at node word : ℕ) → SpellsEvent line (EventOf (Boot at node word)) → ⊥)
+    → ((at node word : ℕ) → SpellsEvent line (EventOf (BootAt at node word)) → ⊥)
     → ((plain : Plain) → IsTurnOrTake plain → SpellsEvent line (EventOf (event_in plain)) → ⊥)
     → (line ≡ codes "end" → ⊥) → ⊥
 no_item line (EventOf (Bytes at node port from octets)) s bytes boot plain end = bytes at node port from octets s
-no_item line (EventOf (Boot at node word)) s bytes boot plain end = boot at node word s
+no_item line (EventOf (BootAt at node word)) s bytes boot plain end = boot at node word s
 no_item line (EventOf (Turn at node)) s bytes boot plain end = plain (PlainTurn at node) tt s
 no_item line (EventOf (Take at datagram)) s bytes boot plain end = plain (PlainTake at datagram) tt s
 no_item line End s bytes boot plain end = end s

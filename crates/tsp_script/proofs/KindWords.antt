@@ -1,7 +1,7 @@
 -- Laws of the words of kinds.
 use Rattle.std.proofs.Common.{◌≡◌, ℕ, List, [], ◌∷◌, zero, suc, refl, arith, true, false, Bool, Some}
 use Rattle.std.specs.Prelude.{Contains, codes, ◌==◌, ◌&&◌, not}
-use Rattle.tsp_base.specs.Kinds.{kinds, kind_word}
+use Rattle.tsp_base.specs.Words.{kinds, kind_word}
 use Rattle.tsp_base.specs.declared.kind.Kind.{Kind}
 use Rattle.tsp_base.specs.declared.kind.Kind.TheVariants.{AdjTime}
 use Rattle.tsp_script.proofs.WordTables.{same_word, first_with, one_word}

@@ -4,14 +4,11 @@ use Rattle.std.specs.Prelude.{ℤ, pos, negsuc, ◌≤ℤ◌, ◌<ℤ◌, decima
 use Rattle.std.specs.Fmt.{signed_decimal}
 use Rattle.std.proofs.lemmas.Int.{ints}
 use Rattle.hex.specs.Hex.{encode_lower, encode_with}
-use Rattle.tsp_base.specs.Kinds.{kind_word}
-use Rattle.tsp_base.specs.Names.{IsName}
-use Rattle.tsp_base.specs.Messages.{MessageValue}
-use Rattle.tsp_base.specs.Stamps.{ReplyValue, IsReply}
+use Rattle.tsp_base.specs.Words.{kind_word, IsName, MessageValue, ReplyValue, IsReply}
 use Rattle.tsp_base.specs.declared.kind.Kind.{Kind}
 use Rattle.tsp_base.specs.declared.kind.Kind.TheVariants.{AdjTime}
 use Rattle.tsp_base.specs.declared.message.Body.{Body}
-use Rattle.tsp_base.specs.declared.message.Body.TheVariants.{Nothing, Time, Hops}
+use Rattle.tsp_base.specs.declared.message.Body.TheVariants.{Nothing, Time as TimeBody, Hops}
 use Rattle.tsp_base.specs.declared.stamp.Stamp.TheVariants.{Request, Reply}
 use Rattle.tsp_base.specs.declared.datagram.Datagram.{Datagram}
 use Rattle.tsp_base.specs.declared.datagram.Datagram.TheVariants.{Message, Stamp}
@@ -44,7 +41,7 @@ time_length (negsuc n) low high = signed_length (negsuc n) (omega (arith, ints, 
 
 body_length : (b : Body) → IsBody b → length (body_text b) ≤ 21
 body_length Nothing h = omega arith
-body_length (Time t) h = omega (arith, length-append (signed_decimal t) space, time_length t h.low h.high)
+body_length (TimeBody t) h = omega (arith, length-append (signed_decimal t) space, time_length t h.low h.high)
 body_length (Hops n) h = omega (arith, length-append (decimal n) space, number_length n (omega (arith, h)))
 
 message_length : (m : MessageValue) → IsMessage m → length (message_line m) ≤ 818

@@ -3,14 +3,11 @@ use Rattle.std.proofs.Common.{◌≡◌, ℕ, ◌<◌, ◌^◌, List, ◌∷◌,
 use Rattle.std.specs.Prelude.{IfSome, decimal, codes}
 use Rattle.std.specs.Fmt.{signed_decimal}
 use Rattle.hex.specs.Hex.{IsBytes}
-use Rattle.tsp_base.specs.Kinds.{kind_word}
-use Rattle.tsp_base.specs.Names.{IsName}
-use Rattle.tsp_base.specs.Messages.{MessageValue, body_fits}
-use Rattle.tsp_base.specs.Stamps.{ReplyValue, IsReply}
+use Rattle.tsp_base.specs.Words.{kind_word, IsName, MessageValue, body_fits, ReplyValue, IsReply}
 use Rattle.tsp_base.specs.declared.kind.Kind.{Kind}
 use Rattle.tsp_base.specs.declared.message.Body.{Body}
 use Rattle.tsp_base.specs.declared.datagram.Datagram.{Datagram}
-use Rattle.tsp_base.specs.declared.datagram.Datagram.TheVariants.{Message, Stamp as StampOf}
+use Rattle.tsp_base.specs.declared.datagram.Datagram.TheVariants.{Message, Stamp}
 use Rattle.tsp_base.specs.declared.stamp.Stamp.TheVariants.{Request, Reply}
 use Rattle.tsp_script.specs.Ranges.{IsBody, IsMessage, IsDatagram}
 use Rattle.tsp_script.specs.Texts.{body_text, name_text, message_line, reply_text, stamp_text, message_text}
@@ -45,19 +42,19 @@ not_both word p q = cc
 
 -- a line that begins with `request` is a request's
 pub request_reads : (line : List ℕ) (d : Datagram) (result : Option Datagram) → IsDatagram d → line ≡ message_text d → first_word line ≡ codes "request"
-    → ((word counter : ℕ) → word < 2 ^ 64 → counter < 2 ^ 64 → after_word line ≡ request_rest word counter → result ≡ Some (StampOf (Request word counter)))
+    → ((word counter : ℕ) → word < 2 ^ 64 → counter < 2 ^ 64 → after_word line ≡ request_rest word counter → result ≡ Some (Stamp (Request word counter)))
     → result ≡ Some d
 request_reads line (Message m) result h e w reads = absurd (kind_word-not_request m.kind (sym (message_splits line m e).0 ∙ w))
-request_reads line (StampOf (Request word counter)) result h e w reads = reads word counter h.0 h.1 (request_splits line word counter e).1
-request_reads line (StampOf (Reply r)) result h e w reads = absurd (not_both (first_word line) w (reply_splits line r e).0)
+request_reads line (Stamp (Request word counter)) result h e w reads = reads word counter h.0 h.1 (request_splits line word counter e).1
+request_reads line (Stamp (Reply r)) result h e w reads = absurd (not_both (first_word line) w (reply_splits line r e).0)
 
 -- a line that begins with `reply` is a reply's
 pub reply_reads : (line : List ℕ) (d : Datagram) (result : Option Datagram) → IsDatagram d → line ≡ message_text d → first_word line ≡ codes "reply"
-    → ((r : ReplyValue) → r.word < 2 ^ 64 → r.counter < 2 ^ 64 → IsReply r.ticket r.reading → after_word line ≡ reply_rest r → result ≡ Some (StampOf (Reply r)))
+    → ((r : ReplyValue) → r.word < 2 ^ 64 → r.counter < 2 ^ 64 → IsReply r.ticket r.reading → after_word line ≡ reply_rest r → result ≡ Some (Stamp (Reply r)))
     → result ≡ Some d
 reply_reads line (Message m) result h e w reads = absurd (kind_word-not_reply m.kind (sym (message_splits line m e).0 ∙ w))
-reply_reads line (StampOf (Request word counter)) result h e w reads = absurd (not_both (first_word line) (request_splits line word counter e).0 w)
-reply_reads line (StampOf (Reply r)) result h e w reads = reads r h.0 h.1 h.2 (reply_splits line r e).1
+reply_reads line (Stamp (Request word counter)) result h e w reads = absurd (not_both (first_word line) (request_splits line word counter e).0 w)
+reply_reads line (Stamp (Reply r)) result h e w reads = reads r h.0 h.1 h.2 (reply_splits line r e).1
 
 -- every other line is a message's
 pub message_reads : (line : List ℕ) (d : Datagram) (result : Option Datagram) → IsDatagram d → line ≡ message_text d
@@ -65,8 +62,8 @@ pub message_reads : (line : List ℕ) (d : Datagram) (result : Option Datagram) 
     → ((m : MessageValue) → IsMessage m → first_word line ≡ kind_word m.kind → after_word line ≡ message_rest m → result ≡ Some (Message m))
     → result ≡ Some d
 message_reads line (Message m) result h e p q reads = let s = message_splits line m e in reads m h s.0 s.1
-message_reads line (StampOf (Request word counter)) result h e p q reads = absurd (p (request_splits line word counter e).0)
-message_reads line (StampOf (Reply r)) result h e p q reads = absurd (q (reply_splits line r e).0)
+message_reads line (Stamp (Request word counter)) result h e p q reads = absurd (p (request_splits line word counter e).0)
+message_reads line (Stamp (Reply r)) result h e p q reads = absurd (q (reply_splits line r e).0)
 
 -- a message of equal parts
 pub message_of_parts : (kind : Kind) (number : ℕ) (body : Body) (name : List ℕ) (m made : MessageValue) → kind ≡ m.kind → number ≡ m.number → body ≡ m.body → name ≡ m.name
@@ -92,14 +89,14 @@ some_behind line front rest e = omega (arith, ap length e, length-append front (
 
 -- what was read as the parts of a request, of a reply or of a message
 pub request_found : (line rest : List ℕ) (word counter : ℕ) → word < 2 ^ 64 → counter < 2 ^ 64 → line ≡ decimal word ++ 32 ∷ rest → rest ≡ decimal counter
-    → IsRestOf (codes "request") line (StampOf (Request word counter))
+    → IsRestOf (codes "request") line (Stamp (Request word counter))
 request_found line rest word counter h k f e =
     let l : line ≡ request_rest word counter = f ∙ rw e refl in
     ((h, k), some_behind line (decimal word) (decimal counter) l, rw l (sym (request_form word counter)))
 
 pub reply_found : (line a b rest : List ℕ) (r : ReplyValue) → r.word < 2 ^ 64 → r.counter < 2 ^ 64 → IsReply r.ticket r.reading
     → line ≡ decimal r.ticket ++ 32 ∷ a → a ≡ decimal r.word ++ 32 ∷ b → b ≡ decimal r.counter ++ 32 ∷ rest → rest ≡ signed_decimal r.reading
-    → IsRestOf (codes "reply") line (StampOf (Reply r))
+    → IsRestOf (codes "reply") line (Stamp (Reply r))
 reply_found line a b rest r h k v f g i e =
     let l : line ≡ reply_rest r = f ∙ rw (g, i, e) refl in
     ((h, k, v), some_behind line _ a f, rw l (sym (reply_form r)))

@@ -8,7 +8,7 @@ use Rattle.std.proofs.lemmas.List.{flat_map_more}
 use Rattle.hex.specs.Hex.{encode_lower, encode_with, decode_sized, IsBytes}
 use Rattle.hex.specs.declared.error.FromHexError.{FromHexError}
 use Rattle.hex.proofs.HexLemmas.{decode_sized-encode_lower}
-use Rattle.tsp_base.specs.Names.{IsName, NameGives}
+use Rattle.tsp_base.specs.Words.{IsName, NameGives}
 use Rattle.tsp_base.specs.declared.name.NameFault.{NameFault}
 use Rattle.tsp_base.specs.declared.name.NameFault.TheVariants.{TooLong, HasNul}
 use Rattle.tsp_script.specs.Texts.{is_plain, escaped, name_text}

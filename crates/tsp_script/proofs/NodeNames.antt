@@ -1,7 +1,7 @@
 -- The name of a node of a generated schedule.
 use Rattle.std.proofs.Common.{◌≡◌, ℕ, ◌<◌, ◌^◌, List, ◌∷◌, zero, suc, Err, subst, arith}
 use Rattle.std.specs.Prelude.{Contains, decimal}
-use Rattle.tsp_base.specs.Names.{NameGives}
+use Rattle.tsp_base.specs.Words.{NameGives}
 use Rattle.tsp_base.specs.declared.name.NameFault.{NameFault}
 use Rattle.tsp_base.specs.declared.name.NameFault.TheVariants.{TooLong, HasNul}
 use Rattle.tsp_script.proofs.Cuts.{no_nul-decimal}

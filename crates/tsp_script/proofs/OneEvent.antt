@@ -4,7 +4,7 @@ use Rattle.std.specs.Prelude.{decimal, codes}
 use Rattle.std.proofs.lemmas.Fmt.{decimal_is_IsNumeral, decimal_injective}
 use Rattle.hex.proofs.HexLemmas.{decode_of-same}
 use Rattle.tsp_base.specs.declared.event.Event.{Event}
-use Rattle.tsp_base.specs.declared.event.Event.TheVariants.{Boot, Turn, Take, Bytes}
+use Rattle.tsp_base.specs.declared.event.Event.TheVariants.{Boot as BootAt, Turn, Take, Bytes}
 use Rattle.tsp_base.specs.declared.place.Place.{Place}
 use Rattle.tsp_base.specs.declared.place.Place.TheVariants.{Peer, Stranger}
 use Rattle.tsp_script.specs.declared.event_line.EventItem.{EventItem}
@@ -28,7 +28,7 @@ words_differ v w e n = n (ap (λ l. slice_index_or l 1 0) e)
 
 -- what follows the word is one event's
 rests_apart : (e f : Event) (hex other : List ℕ) → IsEvent e → IsEvent f → IsHexOf hex e → IsHexOf other f → at_of e ≡ at_of f → verb_of e ≡ verb_of f → rest_of e hex ≡ rest_of f other → e ≡ f
-rests_apart (Boot at node word) (Boot t n w) hex other h k x y a v r =
+rests_apart (BootAt at node word) (BootAt t n w) hex other h k x y a v r =
     let p = numbers_apart node n (decimal word) (decimal w) (omega (arith, h.1)) (omega (arith, k.1)) r in
     let q = decimal_injective word w h.2 k.2 p.1 in
     rw (a, p.0, q) refl
@@ -45,16 +45,16 @@ rests_apart (Bytes at node port from octets) (Bytes t n q place handed) hex othe
     let o = decode_of-same hex octets handed x (rw w.1 y) in
     let s = place_text-injective from place h.3 k.3 w.0 in
     rw (a, p.0, p.1, s, o) refl
-rests_apart (Boot at node word) (Turn t n) hex other h k x y a v r = absurd (words_differ (codes "boot") (codes "turn") v (omega arith))
-rests_apart (Boot at node word) (Take t d) hex other h k x y a v r = absurd (words_differ (codes "boot") (codes "take") v (omega arith))
-rests_apart (Boot at node word) (Bytes t n q place handed) hex other h k x y a v r = absurd (words_differ (codes "boot") (codes "bytes") v (omega arith))
-rests_apart (Turn at node) (Boot t n w) hex other h k x y a v r = absurd (words_differ (codes "turn") (codes "boot") v (omega arith))
+rests_apart (BootAt at node word) (Turn t n) hex other h k x y a v r = absurd (words_differ (codes "boot") (codes "turn") v (omega arith))
+rests_apart (BootAt at node word) (Take t d) hex other h k x y a v r = absurd (words_differ (codes "boot") (codes "take") v (omega arith))
+rests_apart (BootAt at node word) (Bytes t n q place handed) hex other h k x y a v r = absurd (words_differ (codes "boot") (codes "bytes") v (omega arith))
+rests_apart (Turn at node) (BootAt t n w) hex other h k x y a v r = absurd (words_differ (codes "turn") (codes "boot") v (omega arith))
 rests_apart (Turn at node) (Take t d) hex other h k x y a v r = absurd (words_differ (codes "turn") (codes "take") v (omega arith))
 rests_apart (Turn at node) (Bytes t n q place handed) hex other h k x y a v r = absurd (words_differ (codes "turn") (codes "bytes") v (omega arith))
-rests_apart (Take at datagram) (Boot t n w) hex other h k x y a v r = absurd (words_differ (codes "take") (codes "boot") v (omega arith))
+rests_apart (Take at datagram) (BootAt t n w) hex other h k x y a v r = absurd (words_differ (codes "take") (codes "boot") v (omega arith))
 rests_apart (Take at datagram) (Turn t n) hex other h k x y a v r = absurd (words_differ (codes "take") (codes "turn") v (omega arith))
 rests_apart (Take at datagram) (Bytes t n q place handed) hex other h k x y a v r = absurd (words_differ (codes "take") (codes "bytes") v (omega arith))
-rests_apart (Bytes at node port from octets) (Boot t n w) hex other h k x y a v r = absurd (words_differ (codes "bytes") (codes "boot") v (omega arith))
+rests_apart (Bytes at node port from octets) (BootAt t n w) hex other h k x y a v r = absurd (words_differ (codes "bytes") (codes "boot") v (omega arith))
 rests_apart (Bytes at node port from octets) (Turn t n) hex other h k x y a v r = absurd (words_differ (codes "bytes") (codes "turn") v (omega arith))
 rests_apart (Bytes at node port from octets) (Take t d) hex other h k x y a v r = absurd (words_differ (codes "bytes") (codes "take") v (omega arith))
 
@@ -67,7 +67,7 @@ events_apart line e f (h, (hex, x, l)) (k, (other, y, m)) =
 
 -- an event's line isn't the last
 event_text-end : (e : Event) (hex : List ℕ) → event_text e hex ≡ codes "end" → ⊥
-event_text-end (Boot at node word) hex e = words_differ (event_text (Boot at node word) hex) (codes "end") e (omega arith)
+event_text-end (BootAt at node word) hex e = words_differ (event_text (BootAt at node word) hex) (codes "end") e (omega arith)
 event_text-end (Turn at node) hex e = words_differ (event_text (Turn at node) hex) (codes "end") e (omega arith)
 event_text-end (Take at datagram) hex e = words_differ (event_text (Take at datagram) hex) (codes "end") e (omega arith)
 event_text-end (Bytes at node port from octets) hex e = words_differ (event_text (Bytes at node port from octets) hex) (codes "end") e (omega arith)

@@ -5,7 +5,7 @@ use Rattle.std.specs.Prelude.{decimal, codes, Contains}
 use Rattle.tsp_script.specs.declared.event_line.EventItem.TheVariants.{Event as EventOf}
 use Rattle.tsp_base.specs.declared.plain.Plain.{Plain}
 use Rattle.tsp_base.specs.declared.plain.Plain.TheVariants.{Boot, Turn, Take}
-use Rattle.tsp_base.specs.Plains.{event_in}
+use Rattle.tsp_base.specs.Words.{event_in}
 use Rattle.tsp_script.specs.Schedules.{SpellsEvent, IsEvent}
 use Rattle.tsp_script.proofs.Apart.{words_apart}
 use Rattle.tsp_script.proofs.Cuts.{before_mark-alone, cut_front, no_space-decimal}

@@ -1,7 +1,7 @@
 -- Tables of words: those of alarms, of faults and of acts. Each word is in its table once.
 use Rattle.std.proofs.Common.{◌≡◌, ℕ, suc, ◌<◌, ◌≤◌, List, [], ◌∷◌, length, refl, ap, sym, ◌∙◌, true, false, Bool, Option, Some, None, slice_index_or, arith}
 use Rattle.std.specs.Prelude.{◌==◌, ◌&&◌, if◌then◌else◌}
-use Rattle.tsp_base.specs.Alarms.{alarm_word}
+use Rattle.tsp_base.specs.Words.{alarm_word}
 use Rattle.tsp_base.specs.declared.alarm.Alarm.{Alarm}
 use Rattle.tsp_base.specs.declared.alarm.Alarm.TheVariants.{Quiet}
 use Rattle.tsp_base.specs.declared.alarm.TheConstants.Alarm.{ALL}

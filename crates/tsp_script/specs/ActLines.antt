@@ -7,20 +7,20 @@ use Rattle.std.specs.declared.result.Result.TheVariants.{Ok, Err}
 use Rattle.tsp_base.specs.declared.act.Act.{Act}
 use Rattle.tsp_base.specs.declared.act.Act.TheVariants.{Boot, Took, Post, Become, Back, Backer, Quit, Arm, Ring, Late, Join, Leave, Rival, Acked, Gave, Sample, Close, Correct, Abandon, Trace}
 use Rattle.tsp_base.specs.declared.datagram.Taken.{Taken}
-use Rattle.tsp_base.specs.declared.datagram.Taken.TheVariants.{Good, Bad as Refused}
+use Rattle.tsp_base.specs.declared.datagram.Taken.TheVariants.{Good, Bad}
 use Rattle.tsp_base.specs.declared.role.Role.{Role}
 use Rattle.tsp_base.specs.declared.role.Role.TheVariants.{Starting, Loose, Follow, Candidate, Master}
 use Rattle.tsp_script.specs.Ranges.{IsDatagram}
 use Rattle.tsp_script.specs.Schedules.{IsPlace}
 use Rattle.tsp_script.specs.Traces.{trace_text}
 use Rattle.tsp_script.specs.declared.line_fault.LineFault.{LineFault}
-use Rattle.tsp_script.specs.declared.line_fault.LineFault.TheVariants.{Bad}
+use Rattle.tsp_script.specs.declared.line_fault.LineFault.TheVariants.{Bad as BadLine}
 use Rattle.tsp_base.specs.declared.trace.Line2.{Line2}
 
 -- what was taken is a datagram in its range, or a fault
 abbrev pub IsTaken : Taken → Type 0
 IsTaken (Good d) = IsDatagram d
-IsTaken (Refused f) = Unit {0}
+IsTaken (Bad f) = Unit {0}
 
 -- a master has a peer's number in its range
 abbrev pub IsRole : Role → Type 0
@@ -78,4 +78,4 @@ SpellsTrace line l = IsLine2 l × (line ≡ trace_text l.event l.node l.tick l.n
 -- what reading a line of a trace gives: its values, or `Bad` where no values are written so
 abbrev pub ReadsTrace : List ℕ → Result Line2 LineFault → Type 0
 ReadsTrace line (Ok l) = SpellsTrace line l
-ReadsTrace line (Err Bad) = (l : Line2) → SpellsTrace line l → ⊥
+ReadsTrace line (Err BadLine) = (l : Line2) → SpellsTrace line l → ⊥

@@ -1,16 +1,13 @@
 -- The ranges of the parts of a datagram, which each datagram of the program is in.
 use Rattle.std.specs.Prelude.{◌≡◌, ◌^◌, ◌<◌, true}
 use Rattle.hex.specs.Hex.{IsBytes}
-use Rattle.tsp_base.specs.Messages.{MessageValue, body_fits}
-use Rattle.tsp_base.specs.Names.{IsName}
-use Rattle.tsp_base.specs.Stamps.{IsReply}
-use Rattle.tsp_base.specs.Times.{IsMicros}
+use Rattle.tsp_base.specs.Words.{MessageValue, body_fits, IsName, IsReply, IsMicros}
 use Rattle.tsp_base.specs.declared.message.Body.{Body}
 use Rattle.tsp_base.specs.declared.message.Body.TheVariants.{Nothing, Time as TimeBody, Hops}
-use Rattle.tsp_base.specs.declared.stamp.Stamp.{Stamp}
+use Rattle.tsp_base.specs.declared.stamp.Stamp.{Stamp as StampValue}
 use Rattle.tsp_base.specs.declared.stamp.Stamp.TheVariants.{Request, Reply}
 use Rattle.tsp_base.specs.declared.datagram.Datagram.{Datagram}
-use Rattle.tsp_base.specs.declared.datagram.Datagram.TheVariants.{Message, Stamp as StampOf}
+use Rattle.tsp_base.specs.declared.datagram.Datagram.TheVariants.{Message, Stamp}
 
 -- a time or a hop count in its range
 abbrev pub IsBody : Body → Type 0
@@ -27,11 +24,11 @@ pub record IsMessage (m : MessageValue) : Type 0 where
   pub octets : IsBytes m.name
 
 -- a stamp whose parts are in their ranges
-abbrev pub IsStamp : Stamp → Type 0
+abbrev pub IsStamp : StampValue → Type 0
 IsStamp (Request word counter) = (word < 2 ^ 64) × (counter < 2 ^ 64)
 IsStamp (Reply r) = (r.word < 2 ^ 64) × (r.counter < 2 ^ 64) × IsReply r.ticket r.reading
 
 -- a datagram whose parts are in their ranges
 abbrev pub IsDatagram : Datagram → Type 0
 IsDatagram (Message m) = IsMessage m
-IsDatagram (StampOf s) = IsStamp s
+IsDatagram (Stamp s) = IsStamp s

@@ -6,9 +6,9 @@ use Rattle.std.specs.Fmt.{signed_decimal}
 use Rattle.std.specs.declared.result.Result.{Result}
 use Rattle.std.specs.declared.result.Result.TheVariants.{Ok, Err}
 use Rattle.hex.specs.Hex.{decode_of}
-use Rattle.tsp_base.specs.Names.{IsName}
+use Rattle.tsp_base.specs.Words.{IsName}
 use Rattle.tsp_base.specs.declared.event.Event.{Event}
-use Rattle.tsp_base.specs.declared.event.Event.TheVariants.{Boot, Turn, Take, Bytes}
+use Rattle.tsp_base.specs.declared.event.Event.TheVariants.{Boot as BootAt, Turn, Take, Bytes}
 use Rattle.tsp_base.specs.declared.header.NodeLine.{NodeLine}
 use Rattle.tsp_base.specs.declared.place.Place.{Place}
 use Rattle.tsp_base.specs.declared.place.Port.{Port}
@@ -28,7 +28,7 @@ port_text port = if port.0 == 0 then [] else 47 ∷ decimal port.0
 
 -- the line of an event, in which `hex` is the hexadecimal of the octets of a `bytes`
 abbrev pub event_text : Event → List ℕ → List ℕ
-event_text (Boot at node word) hex = codes "at " ++ decimal at ++ codes " boot " ++ decimal node ++ space ++ decimal word
+event_text (BootAt at node word) hex = codes "at " ++ decimal at ++ codes " boot " ++ decimal node ++ space ++ decimal word
 event_text (Turn at node) hex = codes "at " ++ decimal at ++ codes " turn " ++ decimal node
 event_text (Take at datagram) hex = codes "at " ++ decimal at ++ codes " take " ++ decimal datagram
 event_text (Bytes at node port from octets) hex = codes "at " ++ decimal at ++ codes " bytes " ++ decimal node ++ port_text port ++ space ++ place_text from ++ space ++ hex
@@ -49,7 +49,7 @@ IsTrueTime at = at ≤ 1000000000000000
 
 -- an event whose numbers are in their ranges, and whose octets, if it has them, are 1 to 300
 abbrev pub IsEvent : Event → Type 0
-IsEvent (Boot at node word) = IsTrueTime at × (node < 2 ^ 32) × (word < 2 ^ 64)
+IsEvent (BootAt at node word) = IsTrueTime at × (node < 2 ^ 32) × (word < 2 ^ 64)
 IsEvent (Turn at node) = IsTrueTime at × (node < 2 ^ 32)
 IsEvent (Take at datagram) = IsTrueTime at × (datagram < 2 ^ 64)
 IsEvent (Bytes at node port from octets) = IsTrueTime at × (node < 2 ^ 32) × (port.0 < 2 ^ 8) × IsPlace from × (1 ≤ length octets) × (length octets ≤ 300)

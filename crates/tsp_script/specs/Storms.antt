@@ -1,15 +1,14 @@
 -- The generator of schedules: what it draws from a number.
 use Rattle.std.specs.Prelude.{ℕ, ◌+◌, ◌-◌, ◌*◌, ◌/◌, ◌%◌, ◌^◌, ◌≤◌, ◌<◌, nat_lt, nat_le, ◌==◌, min, true, if◌then◌else◌, pos, ◌-ℤ◌, List, ◌∷◌, decimal, Option, None, Some}
 use Rattle.tsp_base.specs.declared.event.Event.{Event}
-use Rattle.tsp_base.specs.declared.event.Event.TheVariants.{Boot, Turn, Take, Bytes}
+use Rattle.tsp_base.specs.declared.event.Event.TheVariants.{Boot as BootAt, Turn, Take, Bytes}
 use Rattle.tsp_base.specs.declared.header.NodeLine.{NodeLine}
 use Rattle.tsp_base.specs.declared.place.Place.TheVariants.{Stranger}
 use Rattle.tsp_base.specs.declared.stamp.Stamp.TheVariants.{Request}
-use Rattle.tsp_base.specs.declared.datagram.Datagram.TheVariants.{Stamp as StampOf}
-use Rattle.tsp_base.specs.Joins.{first_port}
+use Rattle.tsp_base.specs.declared.datagram.Datagram.TheVariants.{Stamp}
+use Rattle.tsp_base.specs.Words.{first_port, event_in}
 use Rattle.tsp_codec.specs.Canon.{canon}
 use Rattle.tsp_script.specs.Schedules.{IsEvent, IsTrueTime}
-use Rattle.tsp_base.specs.Plains.{event_in}
 use Rattle.tsp_script.specs.declared.storm.Choice.{Choice}
 use Rattle.tsp_script.specs.declared.storm.Choice.TheVariants.{Plain, Request as Asked, Ask as Asks}
 use Rattle.tsp_script.specs.declared.storm.Draw.{Draw}
@@ -54,7 +53,7 @@ gave at v = record v { given = v.given + 1; at = at; asked = None }
 
 -- a boot of the next node at time 0, with the state as its word
 abbrev pub boots_next : StormValue → Event × StormValue
-boots_next v = (Boot 0 v.given (moved v).state, gave 0 (moved v))
+boots_next v = (BootAt 0 v.given (moved v).state, gave 0 (moved v))
 
 -- a turn of a node that is drawn
 abbrev pub turns_one : ℕ → StormValue → Event × StormValue
@@ -62,7 +61,7 @@ turns_one at v = (Turn at (drawn v.nodes (moved v)), gave at (moved v))
 
 -- a stranger's request for a clock, with this word
 abbrev pub request_octets : ℕ → List ℕ
-request_octets word = canon (StampOf (Request word 0))
+request_octets word = canon (Stamp (Request word 0))
 
 -- a stranger's request with this word at a node
 abbrev pub request_event : ℕ → ℕ → ℕ → Event

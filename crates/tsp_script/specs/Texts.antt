@@ -4,15 +4,13 @@ use Rattle.std.specs.Fmt.{signed_decimal}
 use Rattle.std.specs.declared.result.Result.{Result}
 use Rattle.std.specs.declared.result.Result.TheVariants.{Ok, Err}
 use Rattle.hex.specs.Hex.{encode_lower}
-use Rattle.tsp_base.specs.Kinds.{kind_word}
-use Rattle.tsp_base.specs.Messages.{MessageValue}
-use Rattle.tsp_base.specs.Stamps.{ReplyValue}
+use Rattle.tsp_base.specs.Words.{kind_word, MessageValue, ReplyValue}
 use Rattle.tsp_base.specs.declared.message.Body.{Body}
 use Rattle.tsp_base.specs.declared.message.Body.TheVariants.{Nothing, Time as TimeBody, Hops}
-use Rattle.tsp_base.specs.declared.stamp.Stamp.{Stamp}
+use Rattle.tsp_base.specs.declared.stamp.Stamp.{Stamp as StampValue}
 use Rattle.tsp_base.specs.declared.stamp.Stamp.TheVariants.{Request, Reply}
 use Rattle.tsp_base.specs.declared.datagram.Datagram.{Datagram}
-use Rattle.tsp_base.specs.declared.datagram.Datagram.TheVariants.{Message, Stamp as StampOf}
+use Rattle.tsp_base.specs.declared.datagram.Datagram.TheVariants.{Message, Stamp}
 use Rattle.tsp_script.specs.Ranges.{IsDatagram}
 use Rattle.tsp_script.specs.declared.line_fault.LineFault.{LineFault}
 use Rattle.tsp_script.specs.declared.line_fault.LineFault.TheVariants.{Bad}
@@ -49,14 +47,14 @@ abbrev pub reply_text : ReplyValue → List ℕ
 reply_text r = codes "reply " ++ decimal r.ticket ++ space ++ decimal r.word ++ space ++ decimal r.counter ++ space ++ signed_decimal r.reading
 
 -- the line of a stamp
-abbrev pub stamp_text : Stamp → List ℕ
+abbrev pub stamp_text : StampValue → List ℕ
 stamp_text (Request word counter) = codes "request " ++ decimal word ++ space ++ decimal counter
 stamp_text (Reply r) = reply_text r
 
 -- the line of a datagram
 abbrev pub message_text : Datagram → List ℕ
 message_text (Message m) = message_line m
-message_text (StampOf s) = stamp_text s
+message_text (Stamp s) = stamp_text s
 
 -- what reading a line gives: the datagram that is written so, or `Bad` where none is
 abbrev pub ReadsMessage : List ℕ → Result Datagram LineFault → Type 0

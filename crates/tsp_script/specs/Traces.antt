@@ -2,9 +2,9 @@
 use Rattle.std.specs.Prelude.{ℕ, List, ◌++◌, Bool, true, false, decimal, codes}
 use Rattle.std.specs.Fmt.{signed_decimal}
 use Rattle.tsp_script.specs.Texts.{space, message_text}
-use Rattle.tsp_base.specs.Alarms.{alarm_word}
+use Rattle.tsp_base.specs.Words.{alarm_word}
 use Rattle.tsp_base.specs.declared.act.Act.{Act}
-use Rattle.tsp_base.specs.declared.act.Act.TheVariants.{Boot, Took, Post, Become, Back, Backer, Quit, Arm, Ring, Late, Join, Leave, Rival, Acked, Gave, Sample, Close as CloseAct, Correct, Abandon, Trace}
+use Rattle.tsp_base.specs.declared.act.Act.TheVariants.{Boot, Took, Post, Become, Back, Backer, Quit, Arm, Ring, Late, Join, Leave, Rival, Acked, Gave, Sample, Close, Correct, Abandon, Trace}
 use Rattle.tsp_base.specs.declared.act.Placed.{Placed}
 use Rattle.tsp_base.specs.declared.datagram.DecodeFault.{DecodeFault}
 use Rattle.tsp_base.specs.declared.datagram.DecodeFault.TheVariants.{Short, Long, Version, Kind, StampLength, NoEnd, NameTooLong, Reserved, Time}
@@ -53,7 +53,7 @@ way_word false = codes " slew "
 -- an act that has microseconds
 abbrev pub is_measured : Act → Bool
 is_measured (Sample p counter diff err ticket) = true
-is_measured (CloseAct count lo width mean) = true
+is_measured (Close count lo width mean) = true
 is_measured (Correct amount stepped shown) = true
 is_measured _ = false
 
@@ -75,7 +75,7 @@ act_text number (Rival p) = codes "rival " ++ decimal p.0
 act_text number (Acked p) = codes "acked " ++ decimal p.0
 act_text number (Gave p) = codes "gave " ++ decimal p.0
 act_text number (Sample p counter diff err ticket) = codes "sample " ++ decimal p.0 ++ space ++ decimal counter ++ space ++ signed_decimal diff ++ space ++ signed_decimal err ++ space ++ decimal ticket
-act_text number (CloseAct count lo width mean) = codes "close " ++ decimal count ++ space ++ signed_decimal lo ++ space ++ signed_decimal width ++ space ++ signed_decimal mean
+act_text number (Close count lo width mean) = codes "close " ++ decimal count ++ space ++ signed_decimal lo ++ space ++ signed_decimal width ++ space ++ signed_decimal mean
 act_text number (Correct amount stepped shown) = codes "correct " ++ signed_decimal amount ++ way_word stepped ++ signed_decimal shown
 act_text number Abandon = codes "abandon"
 act_text number (Trace true) = codes "trace on"

@@ -1,7 +1,7 @@
 -- The words that begin an act's text, and what follows them.
 use Rattle.std.specs.Prelude.{◌≡◌, ℕ, Option, None, Some, List, [], ◌∷◌, ◌++◌, Bool, true, false, decimal, codes}
 use Rattle.std.specs.Fmt.{signed_decimal}
-use Rattle.tsp_base.specs.Alarms.{alarm_word}
+use Rattle.tsp_base.specs.Words.{alarm_word}
 use Rattle.tsp_base.specs.declared.act.Act.{Act}
 use Rattle.tsp_base.specs.declared.act.Act.TheVariants.{Boot, Took, Post, Become, Back, Backer, Quit, Arm, Ring, Late, Join, Leave, Rival, Acked, Gave, Sample, Close, Correct, Abandon, Trace}
 use Rattle.tsp_base.specs.declared.place.PeerId.{PeerId}

@@ -2,7 +2,7 @@
 use Rattle.std.proofs.Common.{◌≡◌, ℕ, ◌+◌, ◌-◌, ◌≤◌, ◌<◌, List, [], ◌∷◌, ◌++◌, length, map, take, drop, Option, None, Some, get_or, set, length-set, length-append, length-drop, append_assoc, refl, sym, ◌∙◌, ap, arith}
 use Rattle.std.proofs.lemmas.List.{length-map, length_push, map-append, map_push, take-append-drop, take_more, drop_more, get_or-map, get_or_append_left, get_or-append_right, set-append_left, get_or_read}
 use Rattle.tsp_base.specs.declared.place.PeerId.{PeerId}
-use Rattle.tsp_base.specs.SendFacts.{Sending}
+use Rattle.tsp_base.specs.Words.{Sending}
 use Rattle.tsp_sends.specs.declared.slot.Slot.{Slot}
 use Rattle.tsp_sends.specs.Held.{slots_of, AreHeld}
 use Rattle.tsp_sends.specs.Slots.{peers_of, empty_slot, kind_of}

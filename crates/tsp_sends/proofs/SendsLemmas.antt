@@ -4,11 +4,10 @@ use Rattle.std.specs.Option.{option_map, option_and_then}
 use Rattle.std.proofs.lemmas.Bool.{cases_lt, cases_eq}
 use Rattle.std.proofs.lemmas.List.{length-map, get_or-map, get_or_default, map-set}
 use Rattle.tsp_base.specs.declared.place.PeerId.{PeerId}
-use Rattle.tsp_base.specs.SendFacts.{Sending, deadline_of}
+use Rattle.tsp_base.specs.Words.{Sending, deadline_of, IsAscending}
 use Rattle.tsp_sends.specs.declared.due.Due.{Due}
 use Rattle.tsp_sends.specs.declared.slot.Slot.{Slot}
 use Rattle.tsp_sends.specs.Deadlines.{is_due, deadline_at, IsFirstDue, IsFirstDueAt, IsLeast}
-use Rattle.tsp_base.specs.Peers.{IsAscending}
 use Rattle.tsp_sends.specs.Slots.{peers_of, empty_slot, sending_to, deadline_in, SetsOnly, IsSends}
 use Rattle.tsp_sends.specs.Repeating.{IsAfter, is_due_send, repeated, kept, RepeatsNext, IsEarliest, IsPlaceOf, IsFirstAfter}
 use Rattle.tsp_sends.proofs.SlotLemmas.{Rising, Rising-ascending, sending_to-at, sending_to-found, SetsOnly-set, peers_of-set}

@@ -2,10 +2,9 @@
 use Rattle.std.proofs.Common.{◌≡◌, ◌≢◌, ℕ, zero, suc, ◌-◌, ◌<◌, ◌==◌, Bool, true, false, if◌then◌else◌, List, [], ◌∷◌, length, None, Some, get_or, set, eqb-true, eq-eqb, refl, sym, ◌∙◌, ap, arith}
 use Rattle.std.proofs.lemmas.Bool.{ne_eqb}
 use Rattle.tsp_base.specs.declared.place.PeerId.{PeerId}
-use Rattle.tsp_base.specs.SendFacts.{Sending}
+use Rattle.tsp_base.specs.Words.{Sending, IsAscending}
 use Rattle.tsp_base.proofs.AscendingLemmas.{Rise, Rise-of, Rise-rest}
 use Rattle.tsp_sends.specs.declared.slot.Slot.{Slot}
-use Rattle.tsp_base.specs.Peers.{IsAscending}
 use Rattle.tsp_sends.specs.Slots.{peers_of, sending_to, SetsOnly}
 
 -- the peers' numbers rise along the slots

@@ -5,7 +5,7 @@ use Rattle.std.proofs.lemmas.Nat.{pow_pos, pow-add}
 use Rattle.std.proofs.lemmas.Bool.Decides.{nat_tests}
 use Rattle.std.proofs.lemmas.Bool.{cases_lt, cases_eq}
 use Rattle.std.proofs.lemmas.List.{get_or_past, drop-set-lt}
-use Rattle.tsp_base.specs.Alarms.{earlier}
+use Rattle.tsp_base.specs.Words.{earlier}
 use Rattle.tsp_sends.specs.Deadlines.{is_due, deadline_at, IsFirstDueAt}
 use Rattle.tsp_sends.specs.Trees.{HoldsEarlier}
 

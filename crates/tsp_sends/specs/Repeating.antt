@@ -2,7 +2,7 @@
 use Rattle.std.specs.Prelude.{◌≡◌, ℕ, ◌+◌, ◌<◌, ◌≤◌, Bool, true, false, if◌then◌else◌, List, length, Option, None, Some, Result, Ok, Err, slice_index_or}
 use Rattle.std.specs.Option.{option_map}
 use Rattle.tsp_base.specs.declared.place.PeerId.{PeerId}
-use Rattle.tsp_base.specs.SendFacts.{Sending, deadline_of, is_given_up}
+use Rattle.tsp_base.specs.Words.{Sending, deadline_of, is_given_up}
 use Rattle.tsp_sends.specs.declared.due.Due.{Due}
 use Rattle.tsp_sends.specs.declared.due.Due.TheVariants.{Again, Gave}
 use Rattle.tsp_sends.specs.declared.slot.Slot.{Slot}

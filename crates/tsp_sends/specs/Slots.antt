@@ -3,8 +3,7 @@ use Rattle.std.specs.Prelude.{◌≡◌, ℕ, ◌==◌, Bool, false, if◌then�
 use Rattle.std.specs.Option.{option_map}
 use Rattle.tsp_base.specs.declared.kind.Kind.{Kind}
 use Rattle.tsp_base.specs.declared.place.PeerId.{PeerId}
-use Rattle.tsp_base.specs.Peers.{IsAscending}
-use Rattle.tsp_base.specs.SendFacts.{Sending, deadline_of}
+use Rattle.tsp_base.specs.Words.{IsAscending, Sending, deadline_of}
 use Rattle.tsp_sends.specs.declared.slot.Slot.{Slot}
 
 -- the peers that have a slot

@@ -1,6 +1,6 @@
 -- A complete binary tree of deadlines: node 1 is the root, and nodes 2 * i and 2 * i + 1 are the children of node i.
 use Rattle.std.specs.Prelude.{◌≡◌, ◌≢◌, ℕ, ◌+◌, ◌*◌, ◌^◌, ◌≤◌, ◌<◌, List, length, Option, None}
-use Rattle.tsp_base.specs.Alarms.{earlier}
+use Rattle.tsp_base.specs.Words.{earlier}
 use Rattle.tsp_sends.specs.Deadlines.{deadline_at}
 
 -- the nodes, and how often one was read

@@ -1,17 +1,11 @@
 -- Rows that neither boot, take, follow nor correct leave alone what stands beside a station: what is remembered of corrections, the clock, and what was taken.
 use Rattle.std.specs.Prelude.{◌≡◌, ℕ, true, List, [], ◌∷◌, Option}
 use Rattle.std.proofs.Common.{sym, true≢false}
-use Rattle.tsp_base.specs.declared.act.Act.{Act}
-use Rattle.tsp_base.specs.declared.act.Act.TheVariants.{Boot, Took, Become, Correct}
-use Rattle.tsp_base.specs.declared.act.Placed.{Placed}
-use Rattle.tsp_base.specs.declared.place.Port.{Port}
-use Rattle.tsp_base.specs.declared.role.Role.TheVariants.{Follow}
-use Rattle.tsp_base.specs.Performs.{Performs, Keeps}
-use Rattle.tsp_base.specs.PortFacts.{Received}
-use Rattle.tsp_base.specs.Rows.{Row, puts}
+use Rattle.tsp_rules.specs.Values.{Act, Boot, Took, Become, Correct, Placed, Port, Follow}
+use Rattle.tsp_base.specs.Words.{Performs, Keeps, Received, Row, puts}
 use Rattle.tsp_rules.proofs.Emits.{Sort, Asking, Correcting, Numbering, Posting, Leading, Changing, Backing, Counting, Rounding, Alarming, Tabling, Rivalling, Acking, Giving, Sampling, Closing, Tracing, is_in, sort_of, Emits, Keeps_by}
 use Rattle.tsp_acks.specs.declared.station.Station.{Station}
-use Rattle.tsp_acks.specs.Stands.{Stands}
+use Rattle.tsp_acks.specs.Stands.{StationStands}
 use Rattle.tsp_clock.specs.Clocks.{ClockValue}
 use Rattle.tsp_clock.specs.ClockStands.{ClockStands}
 use Rattle.tsp_slave.specs.Lasts.{LastValue, Remembers}
@@ -54,7 +48,7 @@ AlsoStands_by row e x past state h = record {
 }
 
 -- a call of the station that leaves alone what stands beside it
-pub Performs_station : {row : Row} {x : ℕ} {port : Port} {before after : Station} {last : LastValue} {clock : ClockValue} {took : Option Received} {old new : List Placed} → Keeps AlsoStands row → Performs Stands Stands row x port before after old new →
+pub Performs_station : {row : Row} {x : ℕ} {port : Port} {before after : Station} {last : LastValue} {clock : ClockValue} {took : Option Received} {old new : List Placed} → Keeps AlsoStands row → Performs StationStands StationStands row x port before after old new →
     Performs SlaveStands SlaveStands row x port (record { station = before; last = last; clock = clock; took = took }) (record { station = after; last = last; clock = clock; took = took }) old new
 Performs_station {row = row} {x = x} {last = last} {clock = clock} {took = took} k d = record {
   acts = λ past h. d.acts past h.station;

@@ -1,10 +1,7 @@
 -- Corrections of both kinds have one rule.
 use Rattle.std.specs.Prelude.{◌≡◌, ℕ, ◌==◌, ◌&&◌, Bool, refl}
-use Rattle.tsp_base.specs.declared.constants.TheConstants.{GAP}
-use Rattle.tsp_base.specs.declared.place.PeerId.{PeerId}
-use Rattle.tsp_base.specs.History.{Past}
-use Rattle.tsp_base.specs.Hold.{is_past}
-use Rattle.tsp_base.specs.Rows.{either_by, ◌followed_by◌}
+use Rattle.tsp_rules.specs.Values.{PeerId, GAP}
+use Rattle.tsp_base.specs.Words.{Past, is_past, either_by, ◌followed_by◌}
 use Rattle.tsp_rules.specs.SlaveRows.{acks_repeat, adjtime_of, confirms, settime_of, takes_amount, takes_value}
 use Rattle.tsp_clock.specs.Clocks.{ClockValue}
 use Rattle.tsp_clock.specs.ClockStands.{ClockStands}

@@ -1,8 +1,8 @@
 -- The room of calls that put acts, one after the other.
 use Rattle.std.specs.Prelude.{◌≡◌, ℕ, ◌+◌, Bool, true, false, if◌then◌else◌, List}
 use Rattle.std.proofs.Common.{arith}
-use Rattle.tsp_base.specs.declared.act.Placed.{Placed}
-use Rattle.tsp_base.specs.Frames.{PutsAtMost, PutsExactly}
+use Rattle.tsp_rules.specs.Values.{Placed}
+use Rattle.tsp_base.specs.Words.{PutsAtMost, PutsExactly}
 
 -- fewer than are allowed
 pub at_most : (n k : ℕ) {room left : ℕ} {old new : List Placed} → PutsExactly n room left old new → PutsAtMost (n + k) room left old new

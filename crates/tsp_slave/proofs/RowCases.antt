@@ -2,26 +2,15 @@
 use Rattle.std.specs.Prelude.{◌≡◌, ◌≢◌, ◌⊎◌, ◌==◌, ◌&&◌, not, ℕ, Bool, true, false, if◌then◌else◌, [], Option, None, Some, is_some, refl}
 use Rattle.std.proofs.Common.{◌∙◌, ap, sym, inl, inr}
 use Rattle.std.proofs.lemmas.Bool.{false≢true}
-use Rattle.tsp_base.specs.declared.alarm.Alarm.{Alarm}
-use Rattle.tsp_base.specs.declared.alarm.Alarm.TheVariants.{Quiet, Search, Elect}
-use Rattle.tsp_base.specs.declared.kind.Kind.{Kind}
-use Rattle.tsp_base.specs.declared.kind.Kind.TheVariants.{AdjTime, SetTime}
-use Rattle.tsp_base.specs.declared.place.PeerId.{PeerId}
-use Rattle.tsp_base.specs.declared.role.Role.TheVariants.{Loose, Follow}
-use Rattle.tsp_base.specs.Alarms.{deadline}
-use Rattle.tsp_base.specs.History.{Past}
-use Rattle.tsp_base.specs.Hold.{may_stand}
-use Rattle.tsp_base.specs.Messages.{MessageValue}
-use Rattle.tsp_base.specs.PortFacts.{Received, held, role, said}
-use Rattle.tsp_base.specs.Rows.{Row, nothing, reading, either_by, ◌followed_by◌}
-use Rattle.tsp_base.specs.SendFacts.{Sending, correcting_of, is_correction}
+use Rattle.tsp_rules.specs.Values.{Alarm, Quiet, Elect, Search, Kind, AdjTime, SetTime, PeerId, Loose, Follow}
+use Rattle.tsp_base.specs.Words.{deadline, Past, may_stand, MessageValue, Received, held, role, said, Row, nothing, reading, either_by, ◌followed_by◌, Sending, correcting_of, is_correction}
 use Rattle.tsp_rules.specs.SendRows.{is_free}
 use Rattle.tsp_rules.specs.CommonRows.{arms_elect, tells_ticket}
 use Rattle.tsp_rules.specs.SlaveRows.{from_master, masterack_in, masterup_in, reports_conflict, slave_takes_kind}
 use Rattle.tsp_rules.specs.Guards.{is_armed, is_met, may_stand_at, role_at}
 use Rattle.tsp_sends.specs.Slots.{kind_of, sending_to}
 use Rattle.tsp_acks.specs.declared.station.Station.{Station}
-use Rattle.tsp_acks.specs.Stands.{Stands}
+use Rattle.tsp_acks.specs.Stands.{StationStands}
 use Rattle.tsp_slave.specs.ClockChanges.{change_in, correction_of}
 use Rattle.tsp_slave.specs.SlaveStands.{IsCorrection, IsMessage}
 use Rattle.tsp_slave.specs.SlaveAlarms.{slave_rings, is_to_be_candidate}
@@ -38,7 +27,7 @@ pub stays_in_time : (x : ℕ) (s : Station) → is_met (deadline s.alarms Elect)
 stays_in_time x s met stays = rw met at stays
 
 -- whether the node may stand, as the station has it
-pub may_stand-is : (x : ℕ) (past : Past) (s : Station) → Stands past s → (s.me.may && may_stand s.hold x s.me.own) ≡ may_stand_at x past
+pub may_stand-is : (x : ℕ) (past : Past) (s : Station) → StationStands past s → (s.me.may && may_stand s.hold x s.me.own) ≡ may_stand_at x past
 may_stand-is x past s h =
     ap (λ may. may && may_stand s.hold x s.me.own) h.may ∙ ap (λ held. past.may && may_stand held x s.me.own) h.hold
     ∙ ap (λ own. past.may && may_stand (held past.seen) x own) h.own
@@ -69,7 +58,7 @@ is_some-kind None = refl
 is_some-kind (Some s) = refl
 
 -- whether no send to a peer is open, as the station has it
-pub is_free-is : (p : PeerId) (x : ℕ) (past : Past) (s : Station) → Stands past s → is_free p x past ≡ not (is_some (kind_of (sending_to s.sends p)))
+pub is_free-is : (p : PeerId) (x : ℕ) (past : Past) (s : Station) → StationStands past s → is_free p x past ≡ not (is_some (kind_of (sending_to s.sends p)))
 is_free-is p x past s h = ap (λ o. not (is_some o)) (sym (h.sends p)) ∙ ap not (sym (is_some-kind (sending_to s.sends p)))
 
 -- a MASTERACK at a port that is Loose does what a MASTERUP does where the port searches

@@ -2,19 +2,8 @@
 use Rattle.std.specs.Prelude.{◌≡◌, ℕ, ℤ, Bool, true, false, Option, Some, List, [], ◌∷◌, refl}
 use Rattle.std.proofs.Common.{sym, ◌∙◌, ap}
 use Rattle.std.proofs.lemmas.Bool.{false≢true}
-use Rattle.tsp_base.specs.declared.act.Act.{Act}
-use Rattle.tsp_base.specs.declared.act.Act.TheVariants.{Become, Back, Correct}
-use Rattle.tsp_base.specs.declared.act.Placed.{Placed}
-use Rattle.tsp_base.specs.declared.kind.Kind.{Kind}
-use Rattle.tsp_base.specs.declared.kind.Kind.TheVariants.{Ack, Accept, Refuse, Conflict}
-use Rattle.tsp_base.specs.declared.place.PeerId.{PeerId}
-use Rattle.tsp_base.specs.declared.place.Port.{Port}
-use Rattle.tsp_base.specs.declared.role.Role.TheVariants.{Follow}
-use Rattle.tsp_base.specs.History.{Past}
-use Rattle.tsp_base.specs.Performs.{Performs, Keeps}
-use Rattle.tsp_base.specs.PortFacts.{Received, said, name_in}
-use Rattle.tsp_base.specs.Rows.{Row, grown, nothing, puts, ◌followed_by◌, posts}
-use Rattle.tsp_base.specs.SendFacts.{Correcting, correcting_of}
+use Rattle.tsp_rules.specs.Values.{Act, Become, Back, Correct, Placed, Kind, Accept, Ack, Conflict, Refuse, PeerId, Port, Follow}
+use Rattle.tsp_base.specs.Words.{Past, Performs, Keeps, Received, said, name_in, Row, grown, nothing, puts, ◌followed_by◌, posts, Correcting, correcting_of}
 use Rattle.tsp_base.proofs.PerformsLemmas.{Keeps_then, Keeps_either}
 use Rattle.tsp_rules.specs.ClockRows.{adjusts, sets}
 use Rattle.tsp_rules.specs.CommonRows.{arms_elect}
@@ -24,7 +13,7 @@ use Rattle.tsp_rules.specs.Guards.{may_back_at}
 use Rattle.tsp_rules.proofs.Emits.{Emits_either, Emits_more, Emits_nothing, Emits_posts, Emits_puts, is_in, sort_of_kind}
 use Rattle.tsp_rules.proofs.EmitsSlave.{silent_sorts, silent_acks, silent_elect, emits_begins}
 use Rattle.tsp_acks.specs.declared.station.Station.{Station}
-use Rattle.tsp_acks.specs.Stands.{Stands, StandsActing}
+use Rattle.tsp_acks.specs.Stands.{StationStands, StandsActing}
 use Rattle.tsp_acks.proofs.ActingLemmas.{taken-acts}
 use Rattle.tsp_acks.proofs.StandsLemmas.{Stands_idle}
 use Rattle.tsp_clock.specs.Clocks.{ClockValue}
@@ -81,7 +70,7 @@ Performs_since_taken {row = row} {x = x} {before = before} last clock took r e k
 
 -- a port that begins to follow keeps the name that was taken
 pub follow_becomes : (p : PeerId) {x : ℕ} {port : Port} {before after : Station} (first last : LastValue) (clock : ClockValue) (took : Option Received) {old new : List Placed} →
-    last ≡ record first { name = name_in took } → Performs Stands Stands (puts (Become (Follow p))) x port before after old new →
+    last ≡ record first { name = name_in took } → Performs StationStands StationStands (puts (Become (Follow p))) x port before after old new →
     Performs SlaveStands SlaveStands (puts (Become (Follow p))) x port (record { station = before; last = first; clock = clock; took = took }) (record { station = after; last = last; clock = clock; took = took }) old new
 unfolding puts
 follow_becomes p first last clock took e d = record {

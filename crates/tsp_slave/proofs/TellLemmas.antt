@@ -2,12 +2,8 @@
 use Rattle.std.specs.Prelude.{◌≡◌, ℕ, Bool, true, false, List, [], ◌∷◌, ◌++◌, map, refl}
 use Rattle.std.proofs.Common.{◌∙◌, ap, append-nil, sym}
 use Rattle.std.proofs.lemmas.List.{append_cancel_left}
-use Rattle.tsp_base.specs.declared.act.Act.{Act}
-use Rattle.tsp_base.specs.declared.act.Placed.{Placed}
-use Rattle.tsp_base.specs.declared.place.Port.{Port}
-use Rattle.tsp_base.specs.History.{Past}
-use Rattle.tsp_base.specs.Performs.{Performs}
-use Rattle.tsp_base.specs.Rows.{Row, placed, ◌followed_by◌}
+use Rattle.tsp_rules.specs.Values.{Act, Placed, Port}
+use Rattle.tsp_base.specs.Words.{Past, Performs, Row, placed, ◌followed_by◌}
 use Rattle.tsp_rules.specs.ClockRows.{adjusts, sets}
 use Rattle.tsp_rules.specs.RoundRows.{corrects}
 use Rattle.tsp_rules.proofs.Emits.{Emits}

@@ -1,11 +1,7 @@
 -- What a correction asks of the clock, whether it moves the clock or sets it.
 use Rattle.std.specs.Prelude.{ℕ, ℤ, ◌+ℤ◌, Bool}
-use Rattle.tsp_base.specs.declared.kind.Kind.{Kind}
-use Rattle.tsp_base.specs.declared.kind.Kind.TheVariants.{SetTime}
-use Rattle.tsp_base.specs.declared.place.PeerId.{PeerId}
-use Rattle.tsp_base.specs.Messages.{MessageValue}
-use Rattle.tsp_base.specs.Rows.{Row}
-use Rattle.tsp_base.specs.Takings.{time_in}
+use Rattle.tsp_rules.specs.Values.{Kind, SetTime, PeerId}
+use Rattle.tsp_base.specs.Words.{MessageValue, Row, time_in}
 use Rattle.tsp_rules.specs.ClockRows.{adjusts, sets}
 use Rattle.tsp_rules.specs.SlaveRows.{adjtime_of, settime_of}
 use Rattle.tsp_rules.specs.Guards.{is_clock_value}

@@ -1,9 +1,7 @@
 -- Whether a call has corrected the clock.
 use Rattle.std.specs.Prelude.{◌≡◌, Bool, List, ◌++◌}
-use Rattle.tsp_base.specs.declared.act.Act.{Act}
-use Rattle.tsp_base.specs.declared.act.Placed.{Placed}
-use Rattle.tsp_base.specs.declared.place.Port.{Port}
-use Rattle.tsp_base.specs.Rows.{placed}
+use Rattle.tsp_rules.specs.Values.{Act, Placed, Port}
+use Rattle.tsp_base.specs.Words.{placed}
 use Rattle.tsp_rules.specs.RoundRows.{corrects}
 
 -- this says whether one of the acts that a call has put on the desk corrects the clock

@@ -1,9 +1,6 @@
 -- What a follower remembers.
 use Rattle.std.specs.Prelude.{◌≡◌, ℕ, List, Option, None, Some}
-use Rattle.tsp_base.specs.History.{Past, plain}
-use Rattle.tsp_base.specs.NodeFacts.{correct_tick}
-use Rattle.tsp_base.specs.PortFacts.{kept_name}
-use Rattle.tsp_base.specs.SendFacts.{Correcting, last_taken}
+use Rattle.tsp_base.specs.Words.{Past, plain, correct_tick, kept_name, Correcting, last_taken}
 use Rattle.tsp_slave.specs.declared.last.Correction.{Correction}
 
 -- the tick of the node's last correction since the boot, what it took if it took one on this port, and the name of the master followed last

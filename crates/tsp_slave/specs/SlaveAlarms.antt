@@ -1,10 +1,7 @@
 -- What a port that is Starting, Loose or follows does at its alarms.
 use Rattle.std.specs.Prelude.{ℕ, ◌&&◌, Bool}
-use Rattle.tsp_base.specs.declared.alarm.Alarm.{Alarm}
-use Rattle.tsp_base.specs.declared.alarm.Alarm.TheVariants.{Quiet, Search, Elect}
-use Rattle.tsp_base.specs.Alarms.{deadline}
-use Rattle.tsp_base.specs.Hold.{may_stand}
-use Rattle.tsp_base.specs.Rows.{Row, nothing}
+use Rattle.tsp_rules.specs.Values.{Alarm, Quiet, Elect, Search}
+use Rattle.tsp_base.specs.Words.{deadline, may_stand, Row, nothing}
 use Rattle.tsp_rules.specs.SlaveRows.{quiet_rings, search_rings, elect_rings}
 use Rattle.tsp_rules.specs.Guards.{is_met}
 use Rattle.tsp_acks.specs.declared.station.Station.{Station}

@@ -1,19 +1,9 @@
 -- What a port's station, what it remembers and its node's clock stand for, while a step handles what it took.
 use Rattle.std.specs.Prelude.{◌≡◌, ℕ, List, Option, Some}
-use Rattle.tsp_base.specs.declared.act.Placed.{Placed}
-use Rattle.tsp_base.specs.declared.datagram.Datagram.TheVariants.{Message}
-use Rattle.tsp_base.specs.declared.datagram.Taken.TheVariants.{Good}
-use Rattle.tsp_base.specs.declared.place.PeerId.{PeerId}
-use Rattle.tsp_base.specs.declared.place.Place.TheVariants.{Peer}
-use Rattle.tsp_base.specs.declared.place.Port.{Port}
-use Rattle.tsp_base.specs.History.{Past}
-use Rattle.tsp_base.specs.Messages.{MessageValue}
-use Rattle.tsp_base.specs.Performs.{Performs}
-use Rattle.tsp_base.specs.PortFacts.{Received, name_in, said, taken}
-use Rattle.tsp_base.specs.Rows.{Row}
-use Rattle.tsp_base.specs.SendFacts.{Correcting, correcting_of}
+use Rattle.tsp_rules.specs.Values.{Placed, Message, Good, PeerId, Peer, Port}
+use Rattle.tsp_base.specs.Words.{Past, MessageValue, Performs, Received, name_in, said, taken, Row, Correcting, correcting_of}
 use Rattle.tsp_acks.specs.declared.station.Station.{Station}
-use Rattle.tsp_acks.specs.Stands.{Stands}
+use Rattle.tsp_acks.specs.Stands.{StationStands}
 use Rattle.tsp_clock.specs.Clocks.{ClockValue}
 use Rattle.tsp_clock.specs.ClockStands.{ClockStands}
 use Rattle.tsp_slave.specs.Lasts.{LastValue, Remembers}
@@ -59,7 +49,7 @@ slave station last clock took = record { station = station; last = last; clock =
 
 -- each of these is what the past comes to
 pub record SlaveStands (past : Past) (state : SlaveState) : Type 0 where
-  pub station : Stands past state.station
+  pub station : StationStands past state.station
   pub last : Remembers past state.last
   pub clock : ClockStands past state.clock
   pub took : Took past state.took

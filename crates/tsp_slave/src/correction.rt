@@ -5,7 +5,7 @@ ghost use Rattle.tsp_base.specs.Hold.{is_past};
 ghost use Rattle.tsp_base.specs.Rows.{Row, reading};
 ghost use Rattle.tsp_rules.specs.Guards.{role_at};
 ghost use Rattle.tsp_rules.specs.SlaveRows.{confirms, acks_repeat, from_master};
-ghost use Rattle.tsp_acks.specs.Calls.{ActsBy, IsSamePort, IsTick, Past, Performs, Received, Stands, Uses, UsesAtMost};
+ghost use Rattle.tsp_acks.specs.Calls.{ActsBy, IsSamePort, IsTick, Past, Performs, Received, StationStands, Uses, UsesAtMost};
 ghost use Rattle.tsp_clock.specs.Clocks.{ClockValue};
 ghost use Rattle.tsp_slave.specs.ClockChanges.{change_in, fits, correction_of};
 ghost use Rattle.tsp_slave.specs.Corrections.{TellsCorrection};
@@ -71,7 +71,7 @@ pub(crate) fn take_correction<D: Desk>(
 /// Whether the port follows this peer, so that it takes its corrections.
 #[inline(always)]
 fn follows(station: &Station, from: PeerId) -> bool
-    ensures { (row : Row) (x : ℕ) (past : Past) → Stands past station.now
+    ensures { (row : Row) (x : ℕ) (past : Past) → StationStands past station.now
         → reading role_at (from_master from row) x past ≡ (if result then row x past else []) }
 {
     match station.role {

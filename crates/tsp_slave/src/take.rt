@@ -4,7 +4,7 @@ ghost use Rattle.tsp_base.specs.Rows.{reading};
 ghost use Rattle.tsp_base.specs.SendFacts.{is_correction};
 ghost use Rattle.tsp_rules.specs.SlaveRows.{masterack_in, masterup_in, slave_takes};
 ghost use Rattle.tsp_rules.specs.Guards.{role_at};
-ghost use Rattle.tsp_acks.specs.Calls.{Contains, IsTick, Past, Received, Stands, UsesAtMost, IsSamePort};
+ghost use Rattle.tsp_acks.specs.Calls.{Contains, IsTick, Past, Received, StationStands, UsesAtMost, IsSamePort};
 ghost use Rattle.tsp_slave.specs.Corrections.{TellsCorrection};
 ghost use Rattle.tsp_slave.specs.SlaveStands.{ActsOn, IsMessage, SlaveStands, slave};
 
@@ -166,7 +166,7 @@ fn hear_master<D: Desk>(
 /// master than this one. Else it tells nothing.
 #[inline(always)]
 fn heeds_masterack(station: &Station, from: PeerId) -> bool
-    ensures { (x : ℕ) (past : Past) → Stands past station.now
+    ensures { (x : ℕ) (past : Past) → StationStands past station.now
         → reading role_at (masterack_in from) x past
         ≡ (if result then reading role_at (masterup_in from) x past else []) }
 {

@@ -3,8 +3,7 @@ use Rattle.std.specs.Prelude.{◌≡◌, ◌≢◌, ℕ, zero, suc, ◌+◌, ◌
 use Rattle.std.proofs.Common.{sym, ap, ◌∙◌, subst, arith, inl, inr}
 use Rattle.std.proofs.lemmas.Bool.{and_parts, not-true, eqb-false, cases_lt}
 use Rattle.std.proofs.lemmas.Nat.{mod_below}
-use Rattle.tsp_base.specs.declared.event.Event.{Event}
-use Rattle.tsp_base.specs.declared.event.Event.TheVariants.{Boot, Turn, Take, Bytes}
+use Rattle.tsp_rules.specs.Values.{Event, BootAt, Turn, Take, Bytes}
 use Rattle.tsp_run.specs.Premised.{AllBootOtherwise}
 use Rattle.tsp_script.specs.Storms.{StormValue, moved}
 
@@ -59,13 +58,13 @@ moved-low v = omega arith
 -- boots whose words are successive states, of which the last is this one modulo 128
 abbrev pub Follow : ℕ → List Event → Type 0
 Follow x [] = Unit {0}
-Follow x (Boot at node word ∷ before) = (y : ℕ) × (word % 128 ≡ x) × (x ≡ next_low y) × Follow y before
+Follow x (BootAt at node word ∷ before) = (y : ℕ) × (word % 128 ≡ x) × (x ≡ next_low y) × Follow y before
 Follow x (_ ∷ before) = ⊥
 
 -- a word that comes soon after them is none of theirs
 pub boot-otherwise : (k x word : ℕ) (events : List Event) → word % 128 ≡ low_after (suc k) x → k + length events ≤ 64 → Follow x events → AllBootOtherwise word events
 boot-otherwise k x word [] is few f = tt
-boot-otherwise k x word (Boot at node w ∷ before) is few f = (
+boot-otherwise k x word (BootAt at node w ∷ before) is few f = (
   (λ (e : w ≡ word). not-again k x (subst (λ z. z < 128) f.1 (mod_below w 128 (omega arith))) (omega (arith, few)) (sym is ∙ ap (λ z. z % 128) (sym e) ∙ f.1)),
   boot-otherwise (suc k) f.0 word before (is ∙ ap (λ z. low_after (suc k) z) f.2) (omega (arith, few)) f.3,
 )

@@ -3,12 +3,8 @@ use Rattle.std.specs.Prelude.{◌≡◌, ℕ, ◌+◌, ◌/◌, ◌^◌, ◌<◌
 use Rattle.std.proofs.Common.{sym, ap, ◌∙◌, subst, arith}
 use Rattle.std.proofs.lemmas.Bool.{eqb-false, ltb-true, ltb-false}
 use Rattle.std.proofs.lemmas.Nat.{mod_below}
-use Rattle.tsp_base.specs.declared.event.Event.{Event}
-use Rattle.tsp_base.specs.declared.event.Event.TheVariants.{Boot, Turn, Take, Bytes}
-use Rattle.tsp_base.specs.declared.place.Place.TheVariants.{Stranger}
-use Rattle.tsp_base.specs.Headers.{HeaderValue}
-use Rattle.tsp_base.specs.Joins.{first_port}
-use Rattle.tsp_base.specs.Plains.{event_in}
+use Rattle.tsp_rules.specs.Values.{Event, BootAt, Turn, Take, Bytes, Stranger}
+use Rattle.tsp_base.specs.Words.{HeaderValue, first_port, event_in}
 use Rattle.tsp_script.specs.declared.storm.Choice.{Choice}
 use Rattle.tsp_script.specs.declared.storm.Choice.TheVariants.{Plain, Request, Ask as Asked}
 use Rattle.tsp_script.specs.declared.storm.Draw.{Draw}
@@ -20,7 +16,7 @@ use Rattle.tsp_run.specs.Run.{event_at, posted_time}
 
 -- an event that comes next: a boot of the next node at time 0, or, once all have booted, something at a node of the schedule, no earlier than what came before
 abbrev pub IsNext : ℕ → StormValue → Event → Type 0
-IsNext posted v (Boot at node word) = (at ≡ 0) × (node ≡ v.given) × (v.given < v.nodes)
+IsNext posted v (BootAt at node word) = (at ≡ 0) × (node ≡ v.given) × (v.given < v.nodes)
 IsNext posted v (Turn at node) = (v.nodes ≤ v.given) × (v.at ≤ at) × (node < v.nodes)
 IsNext posted v (Take at k) = (v.nodes ≤ v.given) × (v.at ≤ at) × (k < posted)
 IsNext posted v (Bytes at node port from octets) = (v.nodes ≤ v.given) × (v.at ≤ at) × (node < v.nodes) × (port ≡ first_port) × (from ≡ Stranger)

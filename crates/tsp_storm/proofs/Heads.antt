@@ -5,8 +5,8 @@ use Rattle.std.proofs.lemmas.Int.{ints}
 use Rattle.std.proofs.lemmas.Nat.{mod_below}
 use Rattle.tsp_base.specs.declared.header.HeaderFault.{HeaderFault}
 use Rattle.tsp_base.specs.declared.header.HeaderFault.TheVariants.{Full, Rate, Wall, Nets, Net, OutOfMemory}
-use Rattle.tsp_base.specs.declared.header.NodeLine.{NodeLine}
-use Rattle.tsp_base.specs.Headers.{HeaderValue, Pushes}
+use Rattle.tsp_rules.specs.Values.{NodeLine}
+use Rattle.tsp_base.specs.Words.{HeaderValue, Pushes}
 use Rattle.tsp_storm.specs.Schedules.{after_lines, lines_of}
 use Rattle.tsp_script.specs.Storms.{StormValue, moved, drawn, storm_line}
 

@@ -2,14 +2,10 @@
 use Rattle.std.specs.Prelude.{◌≡◌, ℕ, zero, suc, ◌+◌, ◌<◌, ◌≤◌, Bool, true, false, if◌then◌else◌, List, [], ◌∷◌, length, nat_le, ◌||◌, Option, None, Some, slice_get, slice_index_or, refl}
 use Rattle.std.proofs.Common.{sym, ap, ◌∙◌, subst, arith, inl, inr, length-append}
 use Rattle.std.proofs.lemmas.Bool.{lt-ltb, le-ltb, cases_lt}
-use Rattle.tsp_base.specs.declared.event.Event.{Event}
-use Rattle.tsp_base.specs.declared.event.Event.TheVariants.{Boot, Turn, Take, Bytes}
+use Rattle.tsp_rules.specs.Values.{Event, BootAt, Turn, Take, Bytes}
+use Rattle.tsp_base.specs.Words.{HeaderValue, has_member, is_whole, of, dids, first_port, up}
 use Rattle.tsp_base.specs.declared.event.EventFault.{EventFault}
 use Rattle.tsp_base.specs.declared.event.EventFault.TheVariants.{Limit}
-use Rattle.tsp_base.specs.Headers.{HeaderValue, has_member, is_whole}
-use Rattle.tsp_base.specs.History.{of, dids}
-use Rattle.tsp_base.specs.Joins.{first_port}
-use Rattle.tsp_base.specs.NodeFacts.{up}
 use Rattle.tsp_script.specs.Storms.{StormValue, storm_line}
 use Rattle.tsp_storm.specs.Schedules.{after_lines, lines_of, header_of, generator_of, posted_in, next_event, made, events_of}
 use Rattle.tsp_storm.proofs.Draws.{IsNext, Moves, next_moves}
@@ -68,8 +64,8 @@ IsMade-begins s is = let a = after_is s.nodes (generator_of s) in record {
 }
 
 -- before all nodes are up the next event is the boot of the next
-pub next-boots : (posted : ℕ) (v : StormValue) (e : Event) → IsNext posted v e → v.given < v.nodes → (word : ℕ) × (e ≡ Boot 0 v.given word)
-next-boots posted v (Boot at node word) n lt = (word, let same : at ≡ 0 = n.0 in let node_is : node ≡ v.given = n.1 in cc)
+pub next-boots : (posted : ℕ) (v : StormValue) (e : Event) → IsNext posted v e → v.given < v.nodes → (word : ℕ) × (e ≡ BootAt 0 v.given word)
+next-boots posted v (BootAt at node word) n lt = (word, let same : at ≡ 0 = n.0 in let node_is : node ≡ v.given = n.1 in cc)
 next-boots posted v (Turn at node) n lt = absurd (let ge = n.0 in omega (arith, ge, lt))
 next-boots posted v (Take at k) n lt = absurd (let ge = n.0 in omega (arith, ge, lt))
 next-boots posted v (Bytes at node port from octets) n lt = absurd (let ge = n.0 in omega (arith, ge, lt))
@@ -93,7 +89,7 @@ IsMade-next header events v i =
         | inr after ↦ (
             let same : v.given ≡ k = (let a = m.given in omega (arith, a, here, after)) in
             let boot = next-boots (posted_in header events) v e m.next (let b = m.nodes in omega (arith, b, same, few)) in
-            let is : e ≡ Boot 0 k boot.0 = boot.1 ∙ ap (λ n. Boot 0 n boot.0) same in
+            let is : e ≡ BootAt 0 k boot.0 = boot.1 ∙ ap (λ n. BootAt 0 n boot.0) same in
             subst (λ x. up (dids (of k (run header (x ∷ events)))) ≡ true) (sym is) (up-booted header events 0 k boot.0))
       ];
     }
@@ -114,7 +110,7 @@ no_time_back at last le = rw (le-ltb at last le) refl
 
 -- a next event is in time
 in_time : (header : HeaderValue) (events : List Event) (v : StormValue) (e : Event) → IsMade header events v → IsNext (posted_in header events) v e → last_at events ≤ event_at e
-in_time header events v (Boot at node word) i n = let l = i.last in let s = i.start (let lt = n.2 in omega (arith, lt)) in omega (arith, l, s)
+in_time header events v (BootAt at node word) i n = let l = i.last in let s = i.start (let lt = n.2 in omega (arith, lt)) in omega (arith, l, s)
 in_time header events v (Turn at node) i n = let l = i.last in let later = n.1 in omega (arith, l, later)
 in_time header events v (Take at k) i n = let l = i.last in let later = n.1 in omega (arith, l, later)
 in_time header events v (Bytes at node port from octets) i n = let l = i.last in let later = n.1 in omega (arith, l, later)
@@ -132,7 +128,7 @@ first_port_known header events node none lt = rw (lt-ltb 0 (length (ports_on nod
 
 -- its node is one of the schedule's, and its port is one of the node's
 node_known : (header : HeaderValue) (events : List Event) (v : StormValue) (e : Event) → IsMade header events v → IsNext (posted_in header events) v e → no_node (scene header events) e ≡ None
-node_known header events v (Boot at node word) i n = known_here (length header.nodes) node (let same = n.1 in let lt = n.2 in let nodes = i.nodes in omega (arith, same, lt, nodes))
+node_known header events v (BootAt at node word) i n = known_here (length header.nodes) node (let same = n.1 in let lt = n.2 in let nodes = i.nodes in omega (arith, same, lt, nodes))
 node_known header events v (Turn at node) i n = known_here (length header.nodes) node (let lt = n.2 in let nodes = i.nodes in omega (arith, lt, nodes))
 node_known header events v (Take at k) i n = refl
 node_known header events v (Bytes at node port from octets) i n =
@@ -141,7 +137,7 @@ node_known header events v (Bytes at node port from octets) i n =
 
 -- what it takes was posted
 datagram_known : (header : HeaderValue) (events : List Event) (v : StormValue) (e : Event) → IsNext (posted_in header events) v e → no_datagram (posted_in header events) e ≡ None
-datagram_known header events v (Boot at node word) n = refl
+datagram_known header events v (BootAt at node word) n = refl
 datagram_known header events v (Turn at node) n = refl
 datagram_known header events v (Take at k) n = rw (lt-ltb k (posted_in header events) n.2) refl
 datagram_known header events v (Bytes at node port from octets) n = refl
@@ -164,7 +160,7 @@ takers_up header events v k i booted (Some a) is =
 
 -- who acts is up
 node_up : (header : HeaderValue) (events : List Event) (v : StormValue) (e : Event) → IsMade header events v → IsNext (posted_in header events) v e → not_up (scene header events) e ≡ None
-node_up header events v (Boot at node word) i n = refl
+node_up header events v (BootAt at node word) i n = refl
 node_up header events v (Turn at node) i n = all_up header events v node i n.0 n.2
 node_up header events v (Take at k) i n = takers_up header events v k i n.0 (goes_to (networks header) (slice_get (posts (run header events)) k)) refl
 node_up header events v (Bytes at node port from octets) i n = all_up header events v node i n.0 n.2

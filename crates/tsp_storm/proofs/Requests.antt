@@ -3,9 +3,7 @@ use Rattle.std.specs.Prelude.{◌≡◌, ℕ, zero, suc, ◌<◌, ◌^◌, List,
 use Rattle.std.specs.Int.{w64, to_be_bytes}
 use Rattle.std.proofs.Common.{arith}
 use Rattle.std.proofs.lemmas.Nat.{mod_below}
-use Rattle.tsp_base.specs.declared.datagram.Datagram.TheVariants.{Stamp}
-use Rattle.tsp_base.specs.declared.datagram.Taken.TheVariants.{Good}
-use Rattle.tsp_base.specs.declared.stamp.Stamp.TheVariants.{Request}
+use Rattle.tsp_rules.specs.Values.{Stamp, Good, Request}
 use Rattle.tsp_codec.specs.Numbers.{octet_at}
 use Rattle.tsp_codec.specs.Taken.{taken_of}
 use Rattle.tsp_codec.proofs.TakenOf.{taken_of-canon}

@@ -3,14 +3,14 @@ use Rattle.std.specs.Prelude.{◌≡◌, ◌≢◌, ℕ, suc, ◌+◌, ◌<◌, 
 use Rattle.std.proofs.Common.{sym, ap, ◌∙◌, subst, arith, inl, inr}
 use Rattle.std.specs.declared.result.Result.{Result}
 use Rattle.std.specs.declared.result.Result.TheVariants.{Ok, Err}
-use Rattle.tsp_base.specs.declared.event.Event.{Event}
+use Rattle.tsp_rules.specs.Values.{Event}
 use Rattle.tsp_base.specs.declared.event.EventFault.{EventFault}
 use Rattle.tsp_base.specs.declared.event.EventFault.TheVariants.{TimeBack, NoNode, NoDatagram, NotUp, Limit, OutOfMemory}
 use Rattle.tsp_script.specs.Storms.{StormValue}
 use Rattle.tsp_storm.specs.declared.making.Making.{Making}
 use Rattle.tsp_storm.specs.declared.making.Stopped.{Stopped}
 use Rattle.tsp_storm.specs.Answers.{StopsAfter, refused_after}
-use Rattle.tsp_storm.specs.Makings.{MakingStands, StopsFor}
+use Rattle.tsp_storm.specs.Makings.{MakingStands, StopsMaking}
 use Rattle.tsp_storm.specs.Schedules.{header_of, events_of, made, posted_in, next_event, event_after}
 use Rattle.tsp_storm.proofs.Draws.{Moves, next_moves}
 use Rattle.tsp_storm.proofs.Mades.{IsMade, made_is, OnlyLimit, only_limit}
@@ -83,8 +83,8 @@ on_step s m e w world (Ok u) P st is f new = f (stepped s m e w world st is new)
 on_step s m e w world (Err x) P st is f new = new
 
 -- why no event happened is why no step did
-pub stops_step : (s : StormWords) (m : Making) (r : Result (Unit {0}) Stopped) → MakingStands s m → IfErr r (λ stop. StopsFor s m.world.events stop) → IfErr r (λ stop. StopsFor s m.storm.given stop)
-stops_step s m r st stops = subst (λ n. IfErr r (λ stop. StopsFor s n stop)) (sym (count_now s m st)) stops
+pub stops_step : (s : StormWords) (m : Making) (r : Result (Unit {0}) Stopped) → MakingStands s m → IfErr r (λ stop. StopsMaking s m.world.events stop) → IfErr r (λ stop. StopsMaking s m.storm.given stop)
+stops_step s m r st stops = subst (λ n. IfErr r (λ stop. StopsMaking s n stop)) (sym (count_now s m st)) stops
 
 limit_is : (n : ℕ) (cause : Option EventFault) (a b : ℕ) → OnlyLimit n cause → IsRefusal cause (Limit a b) → (a ≡ n) × (cause ≡ Some (Limit a b))
 limit_is n cause a b only (inl e) = (subst (λ c. OnlyLimit n c) e only, e)

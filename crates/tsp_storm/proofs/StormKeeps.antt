@@ -7,10 +7,9 @@ use Rattle.std.proofs.lemmas.List.{get_or_append_left, get_or-append-add}
 use Rattle.std.proofs.lemmas.List.Elements.{All-push, All-nil}
 use Rattle.tsp_args.specs.Storms.{IsStorm}
 use Rattle.tsp_args.specs.declared.storm.StormWords.{StormWords}
-use Rattle.tsp_base.specs.declared.header.NodeLine.{NodeLine}
+use Rattle.tsp_rules.specs.Values.{NodeLine}
+use Rattle.tsp_base.specs.Words.{IsHeader, KeepsDrift, IsName}
 use Rattle.tsp_base.specs.declared.name.NameFault.TheVariants.{TooLong, HasNul}
-use Rattle.tsp_base.specs.Headers.{IsHeader, Keeps}
-use Rattle.tsp_base.specs.Names.{IsName}
 use Rattle.tsp_run.specs.Premised.{NamesDiffer}
 use Rattle.tsp_run.specs.Ranges.{Accepted}
 use Rattle.tsp_run.specs.Setup.{nobody}
@@ -49,11 +48,11 @@ named-is k small =
 line-name : (k : ℕ) (v : StormValue) → v.named ≡ 0 → (storm_line (after_lines k v)).name ≡ named k
 line-name k v none = ap named (let a = (after_is k v).named in omega (arith, a, none))
 
-lines-keep : (n : ℕ) (v : StormValue) → v.named ≡ 0 → n ≤ 64 → All (Keeps 100) (lines_of n v)
-lines-keep zero v none few = All-nil (Keeps 100)
+lines-keep : (n : ℕ) (v : StormValue) → v.named ≡ 0 → n ≤ 64 → All (KeepsDrift 100) (lines_of n v)
+lines-keep zero v none few = All-nil (KeepsDrift 100)
 lines-keep (suc n) v none few =
     let u = after_lines n v in
-    All-push (Keeps 100) (lines_of n v) (storm_line u) (lines-keep n v none (omega (arith, few)))
+    All-push (KeepsDrift 100) (lines_of n v) (storm_line u) (lines-keep n v none (omega (arith, few)))
     (record { name = subst (λ x. IsName x) (sym (line-name n v none)) (named-is n (omega (arith, few))); rate = rate_near u; wall = (let near = wall_near u in omega (arith, near)) })
 
 -- and stands in its place

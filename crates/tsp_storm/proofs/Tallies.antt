@@ -2,15 +2,15 @@
 use Rattle.std.specs.Prelude.{◌≡◌, ℕ, suc, ◌+◌, List, ◌++◌, length, if◌then◌else◌, Bool, refl}
 use Rattle.std.proofs.Common.{sym, ap, ◌∙◌, subst}
 use Rattle.std.proofs.lemmas.List.Sums.{sum_by-append}
-use Rattle.tsp_base.specs.declared.act.Act.{Act}
+use Rattle.tsp_rules.specs.Values.{Act}
 use Rattle.tsp_storm.specs.declared.counts.Counts.{Counts}
 use Rattle.tsp_storm.specs.declared.making.Making.{Making}
 use Rattle.tsp_storm.specs.declared.making.Stopped.{Stopped}
 use Rattle.tsp_storm.specs.declared.making.Stopped.TheVariants.{Limit, OutOfMemory}
-use Rattle.tsp_storm.specs.Answers.{SumsUp, Halts}
-use Rattle.tsp_storm.specs.Makings.{MakingStands, StopsFor}
+use Rattle.tsp_storm.specs.Answers.{SumsUp, HaltsStorm}
+use Rattle.tsp_storm.specs.Makings.{MakingStands, StopsMaking}
 use Rattle.tsp_storm.specs.Schedules.{header_of, events_of, posted_in}
-use Rattle.tsp_storm.specs.Summaries.{acts_like, is_took, is_correct, is_mastership, Counted, summary_text}
+use Rattle.tsp_storm.specs.Summaries.{acts_like, is_took, is_correct, is_mastership, CountsLines, summary_text}
 use Rattle.tsp_storm.proofs.Steps.{made_now}
 use Rattle.tsp_storm.proofs.StormKeeps.{storm-kept}
 use Rattle.tsp_args.specs.declared.storm.StormWords.{StormWords}
@@ -28,8 +28,8 @@ one_more is_such s n old new lines is was now =
     ∙ sym (like_append is_such (told (header_of s) (events_of s n)) (gained (header_of s) (events_of s (suc n))))
 
 -- the counts after one event more
-pub counted_more : (s : StormWords) (n : ℕ) (old new : Counts) (lines : List Line) → Counted (told (header_of s) (events_of s n)) old → lines ≡ gained (header_of s) (events_of s (suc n)) →
-    new.took ≡ old.took + acts_like is_took lines → new.corrects ≡ old.corrects + acts_like is_correct lines → new.masters ≡ old.masters + acts_like is_mastership lines → Counted (told (header_of s) (events_of s (suc n))) new
+pub counted_more : (s : StormWords) (n : ℕ) (old new : Counts) (lines : List Line) → CountsLines (told (header_of s) (events_of s n)) old → lines ≡ gained (header_of s) (events_of s (suc n)) →
+    new.took ≡ old.took + acts_like is_took lines → new.corrects ≡ old.corrects + acts_like is_correct lines → new.masters ≡ old.masters + acts_like is_mastership lines → CountsLines (told (header_of s) (events_of s (suc n))) new
 counted_more s n old new lines c is took corrects masters = record {
   took = one_more is_took s n old.took new.took lines is c.took took;
   corrects = one_more is_correct s n old.corrects new.corrects lines is c.corrects corrects;
@@ -40,7 +40,7 @@ summary_same : (events other posted sent took taken corrects corrected masters m
 summary_same events other posted sent took taken corrects corrected masters mastered a b c d e = rw (a, b, c, d, e) refl
 
 -- a whole schedule was counted
-pub sums_up : (s : StormWords) (m : Making) (posted : ℕ) (counts : Counts) → MakingStands s m → m.storm.given ≡ s.events → posted ≡ length m.world.sent.items → Counted (told (header_of s) (events_of s s.events)) counts →
+pub sums_up : (s : StormWords) (m : Making) (posted : ℕ) (counts : Counts) → MakingStands s m → m.storm.given ≡ s.events → posted ≡ length m.world.sent.items → CountsLines (told (header_of s) (events_of s s.events)) counts →
     SumsUp s (record { events = s.events; posted = posted; counts = counts })
 sums_up s m posted counts st all sent c = (
   subst (λ n. Valid (header_of s) (events_of s n)) all st.world.valid,
@@ -52,6 +52,6 @@ sums_up s m posted counts st all sent c = (
 )
 
 -- where a step stops, the schedule stops
-pub halts : (s : StormWords) (n : ℕ) (stop : Stopped) → StopsFor s n stop → Halts s stop
+pub halts : (s : StormWords) (n : ℕ) (stop : Stopped) → StopsMaking s n stop → HaltsStorm s stop
 halts s n (Limit number) h = (n, h.1, h.0)
 halts s n OutOfMemory h = tt

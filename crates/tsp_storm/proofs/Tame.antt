@@ -5,10 +5,8 @@ use Rattle.std.proofs.Common.{sym, ap, ◌∙◌, subst, arith}
 use Rattle.std.proofs.lemmas.Bool.{leb-true}
 use Rattle.std.proofs.lemmas.List.Elements.{All-cons, All-nil}
 use Rattle.std.proofs.lemmas.Nat.{mod_below}
-use Rattle.tsp_base.specs.declared.event.Event.{Event}
-use Rattle.tsp_base.specs.declared.event.Event.TheVariants.{Boot, Turn, Take, Bytes}
-use Rattle.tsp_base.specs.declared.constants.TheConstants.{LIFE}
-use Rattle.tsp_base.specs.Headers.{HeaderValue}
+use Rattle.tsp_rules.specs.Values.{Event, BootAt, Turn, Take, Bytes, LIFE}
+use Rattle.tsp_base.specs.Words.{HeaderValue}
 use Rattle.tsp_run.specs.declared.posted.Posted.{Posted}
 use Rattle.tsp_run.specs.Premised.{Apart, IsSealed, Prompt, Sealed}
 use Rattle.tsp_run.specs.Ranges.{IsInRange}
@@ -22,7 +20,7 @@ use Rattle.tsp_storm.proofs.Draws.{Moves}
 
 -- what an event is besides the next: a boot's word is the state, a take is recent, and octets are a request's
 abbrev Adds : HeaderValue → List Event → StormValue → Event → StormValue → Type 0
-Adds header events v (Boot at node word) w = (word ≡ (moved v).state) × (w.state ≡ (moved v).state)
+Adds header events v (BootAt at node word) w = (word ≡ (moved v).state) × (w.state ≡ (moved v).state)
 Adds header events v (Turn at node) w = Unit {0}
 Adds header events v (Take at k) w = at ≤ time_in header events k + 20000000
 Adds header events v (Bytes at node port from octets) w = (word : ℕ) × (octets ≡ request_octets word)
@@ -112,11 +110,11 @@ tame-none header v = record { ranges = All-nil IsInRange; sealed = tt; prompt = 
 
 module _ (header : HeaderValue) (events : List Event) (v w : StormValue) (t : Tame header events v) where
   tame-event : (e : Event) → v.nodes ≤ 64 → v.given ≡ length events → Moves (posted_in header events) v e w → Adds header events v e w → Tame header (e ∷ events) w
-  tame-event (Boot at node word) few count m a =
+  tame-event (BootAt at node word) few count m a =
       let low : word % 128 ≡ next_low (v.state % 128) = ap (λ z. z % 128) a.0 ∙ moved-low v in
       let booting : v.given < v.nodes = m.next.2 in
       record {
-        ranges = All-cons IsInRange (Boot at node word) events (subst (λ z. z < 2 ^ 64) (sym a.0) (mod_below _ (2 ^ 64) (omega arith))) t.ranges;
+        ranges = All-cons IsInRange (BootAt at node word) events (subst (λ z. z < 2 ^ 64) (sym a.0) (mod_below _ (2 ^ 64) (omega arith))) t.ranges;
         sealed = (tt, t.sealed);
         prompt = (tt, t.prompt);
         apart = (boot-otherwise 0 (v.state % 128) word events low (omega (arith, few, count, booting)) (t.follow (omega (arith, booting))), t.apart);

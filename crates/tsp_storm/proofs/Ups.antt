@@ -1,13 +1,8 @@
 -- A node that has booted stays up.
 use Rattle.std.specs.Prelude.{◌≡◌, ℕ, ◌==◌, Bool, true, false, List, ◌∷◌, Option, None, Some, refl}
 use Rattle.std.proofs.Common.{ap, ◌∙◌, eq-eqb}
-use Rattle.tsp_base.specs.declared.act.Placed.{Placed}
-use Rattle.tsp_base.specs.declared.event.Event.{Event}
-use Rattle.tsp_base.specs.declared.event.Event.TheVariants.{Boot as BootAt}
-use Rattle.tsp_base.specs.Headers.{HeaderValue}
-use Rattle.tsp_base.specs.History.{Step, Begins, Line, of, dids}
-use Rattle.tsp_base.specs.Joins.{first_port, line_of, stepped}
-use Rattle.tsp_base.specs.NodeFacts.{up}
+use Rattle.tsp_rules.specs.Values.{Placed, Event, BootAt}
+use Rattle.tsp_base.specs.Words.{HeaderValue, Step, Begins, Line, of, dids, first_port, line_of, stepped, up}
 use Rattle.tsp_rules.specs.GateRows.{boots_all}
 use Rattle.tsp_rules.specs.NodeRows.{in_node_step}
 use Rattle.tsp_run.specs.Run.{Happening, happening, joins, run, steps, step_tick, boot_step}

@@ -1,8 +1,8 @@
 -- What the run of a storm's schedule keeps.
 use Rattle.std.specs.Prelude.{ℕ, List}
 use Rattle.tsp_args.specs.declared.storm.StormWords.{StormWords}
-use Rattle.tsp_base.specs.declared.event.Event.{Event}
-use Rattle.tsp_base.specs.Headers.{HeaderValue}
+use Rattle.tsp_rules.specs.Values.{Event}
+use Rattle.tsp_base.specs.Words.{HeaderValue}
 use Rattle.tsp_promises.specs.Premises.{Few, Honest, Life, NamesApart, Words}
 use Rattle.tsp_promises.specs.Setting.{Setting}
 use Rattle.tsp_run.specs.Premised.{Short}

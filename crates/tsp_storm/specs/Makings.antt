@@ -16,6 +16,6 @@ pub record MakingStands (s : StormWords) (m : Making) : Type 0 where
   pub world : WorldStands (header_of s) (events_of s m.storm.given) m.world
 
 -- why the event after so many wasn't made
-abbrev pub StopsFor : StormWords → ℕ → Stopped → Type 0
-StopsFor s n (Limit number) = (number ≡ n + 1) × StopsAfter s n
-StopsFor s n OutOfMemory = Unit {0}
+abbrev pub StopsMaking : StormWords → ℕ → Stopped → Type 0
+StopsMaking s n (Limit number) = (number ≡ n + 1) × StopsAfter s n
+StopsMaking s n OutOfMemory = Unit {0}

@@ -1,8 +1,7 @@
 -- The schedule that comes of a number: a header, and events, of which some take a datagram that the run of those before them posted.
 use Rattle.std.specs.Prelude.{ℕ, zero, suc, false, List, [], ◌∷◌, ◌++◌, length, None, slice_get, unwrap_or}
-use Rattle.tsp_base.specs.declared.event.Event.{Event}
-use Rattle.tsp_base.specs.declared.header.NodeLine.{NodeLine}
-use Rattle.tsp_base.specs.Headers.{HeaderValue}
+use Rattle.tsp_rules.specs.Values.{Event, NodeLine}
+use Rattle.tsp_base.specs.Words.{HeaderValue}
 use Rattle.tsp_script.specs.declared.storm.Draw.{Draw}
 use Rattle.tsp_script.specs.declared.storm.Draw.TheVariants.{Event as Gives, Ask}
 use Rattle.tsp_script.specs.Storms.{StormValue, storm_begins, storm_line, storm_named, storm_next, storm_take}

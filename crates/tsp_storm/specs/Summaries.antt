@@ -1,10 +1,7 @@
 -- What is said of a schedule's run in one line.
 use Rattle.std.specs.Prelude.{◌≡◌, ℕ, Bool, true, false, List, [], ◌∷◌, ◌++◌, length, count_by, codes, decimal}
-use Rattle.tsp_base.specs.declared.act.Act.{Act}
-use Rattle.tsp_base.specs.declared.act.Act.TheVariants.{Took, Correct, Become}
-use Rattle.tsp_base.specs.declared.event.Event.{Event}
-use Rattle.tsp_base.specs.declared.role.Role.TheVariants.{Master}
-use Rattle.tsp_base.specs.Headers.{HeaderValue}
+use Rattle.tsp_rules.specs.Values.{Act, Took, Become, Correct, Event, Master}
+use Rattle.tsp_base.specs.Words.{HeaderValue}
 use Rattle.tsp_storm.specs.declared.counts.Counts.{Counts}
 use Rattle.tsp_storm.specs.Schedules.{posted_in}
 use Rattle.tsp_run.specs.declared.line.Line.{Line}
@@ -30,7 +27,7 @@ abbrev pub acts_like : (Act → Bool) → List Line → ℕ
 acts_like is_such lines = count_by (λ l. is_such l.placed.act) lines
 
 -- these are the numbers of datagrams taken, of corrections and of masterships in these lines
-pub record Counted (lines : List Line) (c : Counts) : Type 0 where
+pub record CountsLines (lines : List Line) (c : Counts) : Type 0 where
   pub took : c.took ≡ acts_like is_took lines
   pub corrects : c.corrects ≡ acts_like is_correct lines
   pub masters : c.masters ≡ acts_like is_mastership lines

@@ -1,6 +1,6 @@
 //! What is counted of a run.
 ghost use Rattle.std.specs.Prelude.{◌≡◌, ◌+◌, ◌<◌, ◌^◌, ◌≤◌, [], length, if◌then◌else◌};
-ghost use Rattle.tsp_storm.specs.Summaries.{acts_like, is_took, is_correct, is_mastership, Counted};
+ghost use Rattle.tsp_storm.specs.Summaries.{acts_like, is_took, is_correct, is_mastership, CountsLines};
 
 use tsp_base::act::Act;
 use tsp_base::role::Role;
@@ -22,7 +22,7 @@ pub struct Counts {
 impl Counts {
     /// Of a run of no events.
     pub fn new() -> Counts
-        ensures counted { Counted [] result }
+        ensures counted { CountsLines [] result }
     {
         Counts {
             took: 0,

@@ -8,7 +8,7 @@ ghost use Rattle.tsp_run.specs.Run.{event_at};
 ghost use Rattle.tsp_script.specs.declared.storm.Draw.{Draw};
 ghost use Rattle.tsp_base.specs.Plains.{event_in};
 ghost use Rattle.tsp_script.specs.Storms.{storm_take, draw_of, as_event, IsChoice, request_event};
-ghost use Rattle.tsp_storm.specs.Makings.{MakingStands, StopsFor};
+ghost use Rattle.tsp_storm.specs.Makings.{MakingStands, StopsMaking};
 ghost use Rattle.tsp_storm.specs.Schedules.{header_of, events_of, event_after, next_event};
 ghost use Rattle.tsp_args.specs.Storms.{IsStorm};
 ghost use Rattle.tsp_world.specs.WorldStands.{WorldStands, Occurs, Declines};
@@ -123,7 +123,7 @@ fn happen(world: &mut World, words: &StormWords, choice: &Choice) -> Result<(), 
     requires range { IsChoice (length world.old.sent.items) choice.now }
     ensures stands { OnOk result (WorldStands (header_of words.now) (events_of words.now
         (world.old.events + 1)) world.new) }
-    ensures stops { IfErr result (λ stop. StopsFor words.now world.old.events stop) }
+    ensures stops { IfErr result (λ stop. StopsMaking words.now world.old.events stop) }
 {
     match occur(world, choice) {
         Ok(()) => Ok(()),
@@ -160,7 +160,7 @@ impl Making {
         ensures given { OnOk result (self.new.storm.given ≡ self.old.storm.given + 1) }
         ensures event { OnOk result (WorldStands (header_of words.now) (event_after words.now
             self.old.storm.given ∷ events_of words.now self.old.storm.given) self.new.world) }
-        ensures stops { IfErr result (λ stop. StopsFor words.now self.old.storm.given stop) }
+        ensures stops { IfErr result (λ stop. StopsMaking words.now self.old.storm.given stop) }
     {
         let world = &mut self.world;
         let choice = draw(&mut self.storm, world);

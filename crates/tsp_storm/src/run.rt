@@ -2,7 +2,7 @@
 ghost use Rattle.std.specs.Prelude.{◌≡◌, ◌≢◌, ◌≤◌, ◌<◌, ◌⊎◌, List, ℕ, length, MatchResult};
 ghost use Rattle.tsp_io.specs.Counts.{Rose};
 ghost use Rattle.tsp_io.specs.Streams.{Grows};
-ghost use Rattle.tsp_storm.specs.Answers.{StormsAs, IsAnswer, Agrees, HasRoom, IsPart, SumsUp, Halts, Says};
+ghost use Rattle.tsp_storm.specs.Answers.{StormsAs, IsStormAnswer, AgreesWithAnswer, HasEventRoom, IsTextPart, SumsUp, HaltsStorm, SaysText};
 ghost use Rattle.tsp_storm.specs.declared.run.StormEnd.{StormEnd};
 ghost use Rattle.tsp_args.specs.Storms.{IsStorm};
 
@@ -31,7 +31,7 @@ pub enum StormEnd {
 /// Runs a whole schedule, and counts.
 fn run(alloc: Global, words: &StormWords) -> Result<Summary, Stopped>
     requires { IsStorm words.now }
-    ensures { MatchResult result (SumsUp words.now) (Halts words.now) }
+    ensures { MatchResult result (SumsUp words.now) (HaltsStorm words.now) }
 {
     let Ok(mut making) = Making::begin(alloc, words) else {
         return Err(Stopped::OutOfMemory);
@@ -52,7 +52,7 @@ fn run(alloc: Global, words: &StormWords) -> Result<Summary, Stopped>
 
 /// Writes a text, and then answers with this end; with another one where not all of it was written.
 fn say<K: Sink>(sink: &mut K, text: &[u8], end: StormEnd) -> StormEnd
-    ensures says { Says text.now end (K.written sink.old) (K.written sink.new) result }
+    ensures says { SaysText text.now end (K.written sink.old) (K.written sink.new) result }
     ensures later { K.faults sink.old ≤ K.faults sink.new }
     ensures write { result ≡ StormEnd.WriteFault → (end ≡ StormEnd.WriteFault)
         ⊎ Rose (K.faults sink.old) (K.faults sink.new) }
@@ -80,9 +80,9 @@ fn say<K: Sink>(sink: &mut K, text: &[u8], end: StormEnd) -> StormEnd
 pub fn storm<K: Sink>(alloc: Global, words: &StormWords, sink: &mut K) -> StormEnd
     requires { IsStorm words.now }
     ensures ends { StormsAs words.now (K.written sink.old) (K.written sink.new) result }
-    ensures answers { (end : StormEnd) (text : List ℕ) → IsAnswer words.now end text
-        → Agrees end text (K.written sink.old) (K.written sink.new) result }
-    ensures complete { HasRoom words.now → ¬ Rose (K.faults sink.old) (K.faults sink.new)
+    ensures answers { (end : StormEnd) (text : List ℕ) → IsStormAnswer words.now end text
+        → AgreesWithAnswer end text (K.written sink.old) (K.written sink.new) result }
+    ensures complete { HasEventRoom words.now → ¬ Rose (K.faults sink.old) (K.faults sink.new)
         → (result ≡ StormEnd.Done) ⊎ (result ≡ StormEnd.OutOfMemory) }
     ensures later { K.faults sink.old ≤ K.faults sink.new }
     ensures write { result ≡ StormEnd.WriteFault → Rose (K.faults sink.old) (K.faults sink.new) }

@@ -3,10 +3,10 @@ use Rattle.std.specs.Prelude.{◌≡◌, ℕ, ◌≤◌, List, ◌∷◌, Option
 use Rattle.std.proofs.Common.{sym, ◌∙◌, subst, inl, inr, rules}
 use Rattle.std.specs.declared.result.Result.{Result}
 use Rattle.std.specs.declared.result.Result.TheVariants.{Ok, Err}
-use Rattle.tsp_base.specs.declared.event.Event.{Event}
+use Rattle.tsp_rules.specs.Values.{Event}
+use Rattle.tsp_base.specs.Words.{HeaderValue}
 use Rattle.tsp_base.specs.declared.event.EventFault.{EventFault}
 use Rattle.tsp_base.specs.declared.event.EventFault.TheVariants.{OutOfMemory}
-use Rattle.tsp_base.specs.Headers.{HeaderValue}
 use Rattle.tsp_run.specs.Refusals.{Allowed, actor, scene, refusal}
 use Rattle.tsp_run.specs.Run.{event_at}
 use Rattle.tsp_run.proofs.RefusalLemmas.{allowed, refusal-alike}

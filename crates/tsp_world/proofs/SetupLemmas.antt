@@ -7,12 +7,11 @@ use Rattle.std.proofs.lemmas.List.Elements.{All-head, All-tail}
 use Rattle.std.specs.List.Sorted.{IsStrictlyIncreasing}
 use Rattle.std.proofs.Math.ListN.{get_or-append}
 use Rattle.std.proofs.Math.Seq.{get_or-append_seam}
-use Rattle.tsp_base.specs.Headers.{HeaderValue, IsHeader, IsNet, has_member}
-use Rattle.tsp_base.specs.Takings.{peer_of}
+use Rattle.tsp_base.specs.Words.{HeaderValue, IsHeader, IsNet, has_member, peer_of}
 use Rattle.tsp_base.proofs.HeaderLemmas.{length-net}
 use Rattle.tsp_gateway.specs.declared.gateway.Gateway.{Gateway}
 use Rattle.tsp_node.specs.Configs.{IsPortSetup}
-use Rattle.tsp_gateway.specs.GateConfigs.{ArePorts, GateConfigValue, peers_of_ports}
+use Rattle.tsp_gateway.specs.GateConfigs.{AreGatePorts, GateConfigValue, peers_of_ports}
 use Rattle.tsp_gateway.specs.Rooms.{ports_in, room_of_ports}
 use Rattle.tsp_networks.proofs.MemberLemmas.{ascending-below, length-below, numbers-peers}
 use Rattle.tsp_rules.specs.NodeRows.{PortSetup}
@@ -38,19 +37,19 @@ can-have n net few ascending m = record {
   own = is_among-peers n net ∙ m;
 }
 
-are-ports : (n : ℕ) (nets : List (List ℕ)) → All (λ net. (length net ≤ 64) × IsStrictlyIncreasing net) nets → ArePorts (ports_on n nets)
+are-ports : (n : ℕ) (nets : List (List ℕ)) → All (λ net. (length net ≤ 64) × IsStrictlyIncreasing net) nets → AreGatePorts (ports_on n nets)
 are-ports n [] all = tt
 are-ports n (net ∷ rest) all = by_member (has_member n net) refl (are-ports n rest (All-tail (λ net. (length net ≤ 64) × IsStrictlyIncreasing net) net rest all)) where
-  by_member : (b : Bool) → has_member n net ≡ b → ArePorts (ports_on n rest) → ArePorts (if b then port_on n net ∷ ports_on n rest else ports_on n rest)
+  by_member : (b : Bool) → has_member n net ≡ b → AreGatePorts (ports_on n rest) → AreGatePorts (if b then port_on n net ∷ ports_on n rest else ports_on n rest)
   by_member true m more = let here = All-head (λ net. (length net ≤ 64) × IsStrictlyIncreasing net) net rest all in (can-have n net here.0 here.1 m, more)
   by_member false m more = more
 
 -- a node can have the ports of its networks
-pub can_boot : (header : HeaderValue) → IsHeader header → (n : ℕ) → ArePorts (ports_on n (networks header))
+pub can_boot : (header : HeaderValue) → IsHeader header → (n : ℕ) → AreGatePorts (ports_on n (networks header))
 can_boot header is n = by_nets header.nets is.nets_are where
-  by_nets : (nets : List (List ℕ)) → All (IsNet (length header.nodes)) nets → ArePorts (ports_on n (networks_among (length header.nodes) nets))
+  by_nets : (nets : List (List ℕ)) → All (IsNet (length header.nodes)) nets → AreGatePorts (ports_on n (networks_among (length header.nodes) nets))
   by_nets [] all = by_member (has_member n (numbers_below (length header.nodes))) refl where
-    by_member : (b : Bool) → has_member n (numbers_below (length header.nodes)) ≡ b → ArePorts (if b then port_on n (numbers_below (length header.nodes)) ∷ [] else [])
+    by_member : (b : Bool) → has_member n (numbers_below (length header.nodes)) ≡ b → AreGatePorts (if b then port_on n (numbers_below (length header.nodes)) ∷ [] else [])
     by_member true m = (can-have n (numbers_below (length header.nodes)) (let len = length-below (length header.nodes) in let few = is.few in omega (arith, len, few)) (ascending-below (length header.nodes)) m, tt)
     by_member false m = tt
   by_nets (net ∷ rest) all = are-ports n (net ∷ rest) (λ k d lt. let one = all k d lt in ((let le = length-net (length header.nodes) _ one in let few = is.few in omega (arith, le, few)), one.ascending))

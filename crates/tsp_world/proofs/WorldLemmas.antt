@@ -5,11 +5,8 @@ use Rattle.std.proofs.lemmas.Bool.{ne_eqb, cases_lt}
 use Rattle.std.proofs.lemmas.List.Elements.{All-cons}
 use Rattle.std.proofs.lemmas.Option.{slice_get-get_or}
 use Rattle.std.proofs.Math.ListN.{set}
-use Rattle.tsp_base.specs.declared.act.Placed.{Placed}
-use Rattle.tsp_base.specs.declared.event.Event.{Event}
-use Rattle.tsp_base.specs.Headers.{HeaderValue, IsHeader}
-use Rattle.tsp_base.specs.History.{Step, Line, of, dids}
-use Rattle.tsp_base.specs.NodeFacts.{up}
+use Rattle.tsp_rules.specs.Values.{Placed, Event}
+use Rattle.tsp_base.specs.Words.{HeaderValue, IsHeader, Step, Line, of, dids, up}
 use Rattle.tsp_rules.specs.NodePerforms.{PerformsAll}
 use Rattle.tsp_rules.specs.NodeRows.{NodePast, NodeRow, in_node_step, spread}
 use Rattle.tsp_gateway.specs.declared.gateway.Gateway.{Gateway}

@@ -1,8 +1,7 @@
 -- What is true of a world's nodes and their configurations, so that each can boot and act.
 use Rattle.std.specs.Prelude.{◌≡◌, ℕ, ◌≤◌, ◌<◌, true, List, [], ◌∷◌, length, Option, None, Some, slice_get}
-use Rattle.tsp_base.specs.declared.place.Port.{Port}
-use Rattle.tsp_base.specs.Headers.{HeaderValue, IsHeader, is_whole}
-use Rattle.tsp_base.specs.Ticks.{tick_at}
+use Rattle.tsp_rules.specs.Values.{Port}
+use Rattle.tsp_base.specs.Words.{HeaderValue, IsHeader, is_whole, tick_at}
 use Rattle.tsp_gateway.specs.declared.gateway.Gateway.{Gateway}
 use Rattle.tsp_gateway.specs.GateConfigs.{GateConfigValue, peers_of_ports}
 use Rattle.tsp_gateway.specs.GatewayStands.{clock_at}

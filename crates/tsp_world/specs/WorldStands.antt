@@ -1,11 +1,8 @@
 -- Which schedules a world stands for: its header, and the events that it accepted.
 use Rattle.std.specs.Prelude.{◌≡◌, ℕ, ◌+◌, ◌≤◌, Bool, true, false, List, [], ◌∷◌, ◌++◌, ◌<◌, length, Option, None, Some, is_some, slice_get, All, vec_len}
-use Rattle.tsp_base.specs.declared.act.Placed.{Placed}
-use Rattle.tsp_base.specs.declared.event.Event.{Event}
+use Rattle.tsp_rules.specs.Values.{Placed, Event}
+use Rattle.tsp_base.specs.Words.{HeaderValue, Cause, Line, of, dids, up}
 use Rattle.tsp_base.specs.declared.event.EventFault.{EventFault}
-use Rattle.tsp_base.specs.Headers.{HeaderValue}
-use Rattle.tsp_base.specs.History.{Cause, Line, of, dids}
-use Rattle.tsp_base.specs.NodeFacts.{up}
 use Rattle.tsp_gateway.specs.declared.gateway.Gateway.{Gateway}
 use Rattle.tsp_gateway.specs.GatewayStands.{GatewayBegun, GatewayStands}
 use Rattle.tsp_rules.specs.NodeRows.{NodePast, NodeRow}

@@ -4,7 +4,7 @@ ghost use Rattle.std.specs.Prelude.{slice_get, Some, OnOk, OnErr};
 ghost use Rattle.tsp_base.specs.declared.event.Event.{Event};
 ghost use Rattle.tsp_base.specs.declared.datagram.Taken.{Taken};
 ghost use Rattle.tsp_base.specs.declared.place.Place.{Place};
-ghost use Rattle.tsp_base.specs.Headers.{Keeps};
+ghost use Rattle.tsp_base.specs.Headers.{KeepsDrift};
 ghost use Rattle.tsp_base.specs.Ticks.{tick_at};
 ghost use Rattle.tsp_rules.specs.GateRows.{GotOn, answers_all};
 ghost use Rattle.tsp_rules.specs.Guards.{is_clock_value};
@@ -30,7 +30,7 @@ use tsp_run::address::Address;
 
 /// The wall clock of a node at a tick, in microseconds.
 fn wall_at(line: &NodeLine, tick: u64) -> i64
-    requires line { Keeps 1000 line.now }
+    requires line { KeepsDrift 1000 line.now }
     requires tick { tick ≤ 2 ^ 50 }
     ensures wall { result ≡ line.now.wall +ℤ pos tick }
     ensures range { is_clock_value result ≡ true }
@@ -43,7 +43,7 @@ impl World {
     fn line(&self, node: u32) -> &NodeLine
         requires node { node < vec_len self.now.nodes }
         ensures line { result.now ≡ node_line self.now.header node }
-        ensures kept { Keeps 1000 result.now }
+        ensures kept { KeepsDrift 1000 result.now }
     {
         &self.header.nodes()[node as usize]
     }

@@ -1,7 +1,6 @@
 use Rattle.std.proofs.Common.{◌≡◌, ◌∙◌, ap, sym, true, false, rules}
-use Rattle.tsp_base.specs.declared.act.Act.TheVariants.{Acked}
-use Rattle.tsp_base.specs.History.{Acts, of, view}
-use Rattle.tsp_base.specs.SendFacts.{open_to}
+use Rattle.tsp_rules.specs.Values.{Acked}
+use Rattle.tsp_base.specs.Words.{Acts, of, view, open_to}
 use Rattle.tsp_history.specs.Histories.{deed_of, history_of, line_of}
 use Rattle.tsp_history.specs.PostedPlaces.{PostedAt}
 use Rattle.tsp_audit.specs.Acting.{is_in}

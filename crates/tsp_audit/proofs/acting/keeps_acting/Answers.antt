@@ -1,7 +1,7 @@
 use Rattle.std.proofs.Common.{◌≡◌, ◌<◌, ◌≤◌, ℕ, Bool, rules, arith, sym, subst, subst₂, List, length, take, get_or, MatchBool, vec_len, vec_capacity}
 use Rattle.std.proofs.lemmas.List.{take_all}
 use Rattle.tsp_promises.specs.Everywhere.{Everywhere}
-use Rattle.tsp_base.specs.History.{Line}
+use Rattle.tsp_base.specs.Words.{Line}
 use Rattle.tsp_history.specs.declared.line.HistoryLine.{HistoryLine}
 use Rattle.tsp_history.specs.Histories.{line_of, history_of}
 use Rattle.tsp_audit.specs.Acting.{ActedIs, ActsAt, TakesAs}

@@ -1,7 +1,7 @@
 use Rattle.std.proofs.Common.{◌≡◌, ◌∙◌, ℤ, ap, sym, rules, subst, to_z, of_z, MatchBool}
 use Rattle.std.specs.Int.{w64}
-use Rattle.tsp_base.specs.declared.act.Act.TheVariants.{Correct}
-use Rattle.tsp_base.specs.History.{Acts}
+use Rattle.tsp_rules.specs.Values.{Correct}
+use Rattle.tsp_base.specs.Words.{Acts}
 use Rattle.tsp_promises.specs.Once.{Obeys}
 use Rattle.tsp_history.specs.Histories.{deed_of, history_of, line_of}
 use Rattle.tsp_audit.proofs.TakeLemmas.{obeys-line}

@@ -1,6 +1,6 @@
 use Rattle.std.proofs.Common.{◌≡◌, ap}
-use Rattle.tsp_base.specs.declared.act.Act.TheVariants.{Correct}
-use Rattle.tsp_base.specs.History.{Acts}
+use Rattle.tsp_rules.specs.Values.{Correct}
+use Rattle.tsp_base.specs.Words.{Acts}
 use Rattle.tsp_history.specs.Histories.{deed_of, history_of, line_of}
 use Rattle.tsp_audit.proofs.TakeLemmas.{spaced-decides}
 use Rattle.tsp_audit.proofs.acting.spaces.Goals as goal

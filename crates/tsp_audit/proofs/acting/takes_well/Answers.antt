@@ -1,6 +1,6 @@
 use Rattle.std.proofs.Common.{◌∙◌, Bool, sym, subst, MatchBool}
 use Rattle.tsp_promises.specs.Once.{OnceAt}
-use Rattle.tsp_base.specs.SendFacts.{is_numbered}
+use Rattle.tsp_base.specs.Words.{is_numbered}
 use Rattle.tsp_history.specs.Histories.{history_of, line_of}
 use Rattle.tsp_audit.proofs.ActLemmas.{once-decides, takes-well}
 use Rattle.tsp_audit.proofs.acting.takes_well.Goals as goal

@@ -1,6 +1,6 @@
 -- What the lines so far come to, and those that are left.
 use Rattle.std.proofs.Common.{◌≡◌, List, [], drop}
-use Rattle.tsp_base.specs.History.{Line, of, view}
+use Rattle.tsp_base.specs.Words.{Line, of, view}
 use Rattle.tsp_promises.specs.StepFacts.{backed}
 use Rattle.tsp_history.specs.Histories.{noted_after}
 use Rattle.tsp_audit.proofs.backing.backed_at.Given as goal

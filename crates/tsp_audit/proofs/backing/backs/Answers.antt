@@ -1,5 +1,5 @@
 use Rattle.std.proofs.Common.{◌≡◌, ap, sym, ◌∙◌, List}
-use Rattle.tsp_base.specs.History.{Acts, Deed, Line, of, view}
+use Rattle.tsp_base.specs.Words.{Acts, Deed, Line, of, view}
 use Rattle.tsp_promises.specs.StepFacts.{backed, is_unbacked}
 use Rattle.tsp_history.specs.declared.line.HistoryLine.{HistoryLine}
 use Rattle.tsp_history.specs.Histories.{deed_of, line_of, history_of}

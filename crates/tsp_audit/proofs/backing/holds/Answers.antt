@@ -1,6 +1,6 @@
 use Rattle.std.proofs.Common.{◌≡◌, ap}
-use Rattle.tsp_base.specs.declared.act.Act.TheVariants.{Back}
-use Rattle.tsp_base.specs.History.{Acts}
+use Rattle.tsp_rules.specs.Values.{Back}
+use Rattle.tsp_base.specs.Words.{Acts}
 use Rattle.tsp_history.specs.Histories.{deed_of, line_of, history_of}
 use Rattle.tsp_audit.proofs.BackLemmas.{held-decides}
 use Rattle.tsp_audit.proofs.backing.holds.Goals as goal

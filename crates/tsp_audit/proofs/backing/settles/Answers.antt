@@ -1,6 +1,6 @@
 use Rattle.std.proofs.Common.{◌≡◌, ◌<◌, ◌+◌, ℕ, true, false, rules, arith, sym, ◌∙◌, subst, subst₂, inl, inr, List, ◌∷◌, length, take, get_or}
-use Rattle.tsp_base.specs.declared.place.Port.{Port}
-use Rattle.tsp_base.specs.History.{Line, of, view}
+use Rattle.tsp_rules.specs.Values.{Port}
+use Rattle.tsp_base.specs.Words.{Line, of, view}
 use Rattle.tsp_promises.specs.StepFacts.{is_unbacked}
 use Rattle.tsp_history.specs.declared.line.HistoryLine.{HistoryLine}
 use Rattle.tsp_history.specs.Histories.{line_of, history_of}

@@ -1,7 +1,7 @@
 -- A candidate that was unbacked so far has backed itself at the end.
 use Rattle.std.proofs.Common.{◌≡◌, ℕ, true, false, take}
-use Rattle.tsp_base.specs.declared.place.Port.{Port}
-use Rattle.tsp_base.specs.History.{of, view}
+use Rattle.tsp_rules.specs.Values.{Port}
+use Rattle.tsp_base.specs.Words.{of, view}
 use Rattle.tsp_promises.specs.StepFacts.{is_unbacked}
 use Rattle.tsp_audit.specs.Backing.{Settled, concerns}
 use Rattle.tsp_history.specs.Histories.{history_of}

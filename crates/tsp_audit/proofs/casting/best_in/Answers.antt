@@ -1,7 +1,6 @@
 use Rattle.std.proofs.Common.{◌≡◌, ◌<◌, ◌∙◌, sym, subst, refl, rules, arith, length, get_or, take, to_z, of_z}
 use Rattle.std.specs.Int.{w128}
-use Rattle.tsp_base.specs.History.{of, view}
-use Rattle.tsp_base.specs.RoundFacts.{best}
+use Rattle.tsp_base.specs.Words.{of, view, best}
 use Rattle.tsp_history.specs.Histories.{line_of, history_of}
 use Rattle.tsp_history.specs.Rounds.{Bests, trip_at}
 use Rattle.tsp_history.proofs.RoundLemmas.{line-at}

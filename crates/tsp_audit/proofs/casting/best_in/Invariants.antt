@@ -1,7 +1,6 @@
 -- The best sample after the lines so far.
 use Rattle.std.proofs.Common.{take}
-use Rattle.tsp_base.specs.History.{of, view}
-use Rattle.tsp_base.specs.RoundFacts.{best}
+use Rattle.tsp_base.specs.Words.{of, view, best}
 use Rattle.tsp_history.specs.Histories.{history_of}
 use Rattle.tsp_history.specs.Rounds.{Bests}
 use Rattle.tsp_audit.specs.Agreeing.{TripsTell}

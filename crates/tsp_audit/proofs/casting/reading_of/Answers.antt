@@ -1,5 +1,5 @@
 use Rattle.std.proofs.Common.{◌≡◌, rules, get_or}
-use Rattle.tsp_base.specs.History.{Came}
+use Rattle.tsp_base.specs.Words.{Came}
 use Rattle.tsp_history.specs.declared.line.HistoryLine.{HistoryLine}
 use Rattle.tsp_history.specs.Histories.{line_of}
 use Rattle.tsp_history.specs.Posts.{PostsAt}

@@ -1,9 +1,7 @@
 use Rattle.std.proofs.Common.{◌≡◌, rules, arith, get_or, take, to_z, of_z, refl, None}
 use Rattle.std.proofs.lemmas.List.{length-take-le}
 use Rattle.std.specs.Int.{w64}
-use Rattle.tsp_base.specs.History.{of, view}
-use Rattle.tsp_base.specs.RoundFacts.{best}
-use Rattle.tsp_base.specs.Takings.{peer_of}
+use Rattle.tsp_base.specs.Words.{of, view, best, peer_of}
 use Rattle.tsp_history.specs.declared.line.HistoryLine.{HistoryLine}
 use Rattle.tsp_history.specs.Histories.{history_of}
 use Rattle.tsp_history.specs.Rounds.{BestAt}

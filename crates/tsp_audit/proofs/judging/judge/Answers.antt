@@ -1,6 +1,6 @@
 use Rattle.std.proofs.Common.{List}
-use Rattle.tsp_audit.specs.Parts.{Acting, ActsOnce, Agreeing, Backing, Keeps, Leading, Measuring}
-use Rattle.tsp_base.specs.History.{Line}
+use Rattle.tsp_audit.specs.Parts.{Acting, ActsOnce, Agreeing, Backing, PartHolds, Leading, Measuring}
+use Rattle.tsp_base.specs.Words.{Line}
 use Rattle.tsp_promises.specs.OneBack.{OneBack}
 use Rattle.tsp_promises.specs.OnlyMaster.{OnlyMaster}
 use Rattle.tsp_history.specs.Histories.{history_of}
@@ -31,7 +31,7 @@ returns-then-not-keeps_measuring_if-clause-judges c setting count has timely num
     fails-measuring c.args.premises setting h (decided c.keeps_backing.result (OneBack h) c.if-not-keeps_backing.false (c.keeps_backing.ensures (old Backing)))
     (decided c.keeps_leading.result (OnlyMaster h) c.if-not-keeps_leading.false (c.keeps_leading.ensures (old Leading)))
     (decided c.keeps_acting.result (ActsOnce c.args.premises setting h) c.if-not-keeps_acting.false (c.keeps_acting.ensures.keeps setting has timely room.acted notes.acted (old Acting)))
-    (refuted c.keeps_measuring_if.result (Keeps c.args.premises setting Measuring h) c.if-not-keeps_measuring_if.true (c.keeps_measuring_if.ensures setting has timely (old Measuring)))
+    (refuted c.keeps_measuring_if.result (PartHolds c.args.premises setting Measuring h) c.if-not-keeps_measuring_if.true (c.keeps_measuring_if.ensures setting has timely (old Measuring)))
 
 pub returns-then-not-keeps_agreeing_if-clause-judges : goal.returns-then-not-keeps_agreeing_if-clause-judges
 returns-then-not-keeps_agreeing_if-clause-judges c setting count has timely numbered room notes old =
@@ -39,8 +39,8 @@ returns-then-not-keeps_agreeing_if-clause-judges c setting count has timely numb
     fails-agreeing c.args.premises setting h (decided c.keeps_backing.result (OneBack h) c.if-not-keeps_backing.false (c.keeps_backing.ensures (old Backing)))
     (decided c.keeps_leading.result (OnlyMaster h) c.if-not-keeps_leading.false (c.keeps_leading.ensures (old Leading)))
     (decided c.keeps_acting.result (ActsOnce c.args.premises setting h) c.if-not-keeps_acting.false (c.keeps_acting.ensures.keeps setting has timely room.acted notes.acted (old Acting)))
-    (decided c.keeps_measuring_if.result (Keeps c.args.premises setting Measuring h) c.if-not-keeps_measuring_if.false (c.keeps_measuring_if.ensures setting has timely (old Measuring)))
-    (refuted c.keeps_agreeing_if.result (Keeps c.args.premises setting Agreeing h) c.if-not-keeps_agreeing_if.true (c.keeps_agreeing_if.ensures.keeps setting count has timely numbered room.trips notes.accord (old Agreeing)))
+    (decided c.keeps_measuring_if.result (PartHolds c.args.premises setting Measuring h) c.if-not-keeps_measuring_if.false (c.keeps_measuring_if.ensures setting has timely (old Measuring)))
+    (refuted c.keeps_agreeing_if.result (PartHolds c.args.premises setting Agreeing h) c.if-not-keeps_agreeing_if.true (c.keeps_agreeing_if.ensures.keeps setting count has timely numbered room.trips notes.accord (old Agreeing)))
 
 pub returns-clause-judges : goal.returns-clause-judges
 returns-clause-judges c setting count has timely numbered room notes old =
@@ -48,8 +48,8 @@ returns-clause-judges c setting count has timely numbered room notes old =
     all-keep c.args.premises setting h (decided c.keeps_backing.result (OneBack h) c.if-not-keeps_backing.false (c.keeps_backing.ensures (old Backing)))
     (decided c.keeps_leading.result (OnlyMaster h) c.if-not-keeps_leading.false (c.keeps_leading.ensures (old Leading)))
     (decided c.keeps_acting.result (ActsOnce c.args.premises setting h) c.if-not-keeps_acting.false (c.keeps_acting.ensures.keeps setting has timely room.acted notes.acted (old Acting)))
-    (decided c.keeps_measuring_if.result (Keeps c.args.premises setting Measuring h) c.if-not-keeps_measuring_if.false (c.keeps_measuring_if.ensures setting has timely (old Measuring)))
-    (decided c.keeps_agreeing_if.result (Keeps c.args.premises setting Agreeing h) c.if-not-keeps_agreeing_if.false (c.keeps_agreeing_if.ensures.keeps setting count has timely numbered room.trips notes.accord (old Agreeing)))
+    (decided c.keeps_measuring_if.result (PartHolds c.args.premises setting Measuring h) c.if-not-keeps_measuring_if.false (c.keeps_measuring_if.ensures setting has timely (old Measuring)))
+    (decided c.keeps_agreeing_if.result (PartHolds c.args.premises setting Agreeing h) c.if-not-keeps_agreeing_if.false (c.keeps_agreeing_if.ensures.keeps setting count has timely numbered room.trips notes.accord (old Agreeing)))
 
 pub returns-clause-notes : goal.returns-clause-notes
 returns-clause-notes c count told room notes = record {

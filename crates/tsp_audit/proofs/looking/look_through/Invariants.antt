@@ -3,7 +3,7 @@ use Rattle.std.proofs.Common.{List, [], length}
 use Rattle.tsp_audit.specs.Ends.{AreDated, EndsAt}
 use Rattle.tsp_audit.specs.Notes.{NotesStand}
 use Rattle.tsp_audit.proofs.ThroughLemmas.{Reached}
-use Rattle.tsp_base.specs.Headers.{HeaderValue}
+use Rattle.tsp_base.specs.Words.{HeaderValue}
 use Rattle.tsp_claims.specs.ClaimedHistory.{Claim}
 use Rattle.tsp_claims.specs.Stands.{ClaimsStand}
 use Rattle.tsp_audit.proofs.looking.look_through.Given as goal

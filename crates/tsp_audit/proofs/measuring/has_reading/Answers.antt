@@ -2,7 +2,7 @@ use Rattle.std.proofs.Common.{◌≡◌, ◌≤◌, ℤ, rules, get_or, subst₂
 use Rattle.std.specs.Int.{w64, w128}
 use Rattle.tsp_history.specs.declared.line.HistoryLine.{HistoryLine}
 use Rattle.tsp_history.specs.Histories.{history_of, line_of}
-use Rattle.tsp_audit.specs.Measuring.{IsNear, RepliesAt}
+use Rattle.tsp_audit.specs.Measuring.{IsWithinError, RepliesAt}
 use Rattle.tsp_audit.proofs.MeasureLemmas.{read-decides, read-none}
 use Rattle.tsp_audit.proofs.Prefixes.{at-line}
 use Rattle.tsp_history.proofs.NoteLemmas.{told_take}
@@ -21,11 +21,11 @@ returns-in-Some c setting has timely =
     let err : to_z w64 (of_z w64 c.args.err) ≡ c.args.err = search rules in
     let ahead : to_z w128 (of_z w128 c.clock_at-ahead.result) ≡ c.clock_at-ahead.result = search rules in
     let own : to_z w128 (of_z w128 c.clock_at-own.result) ≡ c.clock_at-own.result = search rules in
-    let clocks : MatchBool c.stands_ahead.result (IsNear (to_z w64 (of_z w64 c.args.diff)) (to_z w64 (of_z w64 c.args.err)) c.clock_at-ahead.result c.clock_at-own.result)
-    (IsNear (to_z w64 (of_z w64 c.args.diff)) (to_z w64 (of_z w64 c.args.err)) c.clock_at-ahead.result c.clock_at-own.result → ⊥) =
-    subst₂ (λ (a o : ℤ). MatchBool c.stands_ahead.result (IsNear (to_z w64 (of_z w64 c.args.diff)) (to_z w64 (of_z w64 c.args.err)) a o) (IsNear (to_z w64 (of_z w64 c.args.diff)) (to_z w64 (of_z w64 c.args.err)) a o → ⊥)) ahead own c.stands_ahead.ensures in
-    let near : MatchBool c.stands_ahead.result (IsNear c.args.diff c.args.err c.clock_at-ahead.result c.clock_at-own.result) (IsNear c.args.diff c.args.err c.clock_at-ahead.result c.clock_at-own.result → ⊥) =
-    subst₂ (λ (d e : ℤ). MatchBool c.stands_ahead.result (IsNear d e c.clock_at-ahead.result c.clock_at-own.result) (IsNear d e c.clock_at-ahead.result c.clock_at-own.result → ⊥)) diff err clocks in
+    let clocks : MatchBool c.stands_ahead.result (IsWithinError (to_z w64 (of_z w64 c.args.diff)) (to_z w64 (of_z w64 c.args.err)) c.clock_at-ahead.result c.clock_at-own.result)
+    (IsWithinError (to_z w64 (of_z w64 c.args.diff)) (to_z w64 (of_z w64 c.args.err)) c.clock_at-ahead.result c.clock_at-own.result → ⊥) =
+    subst₂ (λ (a o : ℤ). MatchBool c.stands_ahead.result (IsWithinError (to_z w64 (of_z w64 c.args.diff)) (to_z w64 (of_z w64 c.args.err)) a o) (IsWithinError (to_z w64 (of_z w64 c.args.diff)) (to_z w64 (of_z w64 c.args.err)) a o → ⊥)) ahead own c.stands_ahead.ensures in
+    let near : MatchBool c.stands_ahead.result (IsWithinError c.args.diff c.args.err c.clock_at-ahead.result c.clock_at-own.result) (IsWithinError c.args.diff c.args.err c.clock_at-ahead.result c.clock_at-own.result → ⊥) =
+    subst₂ (λ (d e : ℤ). MatchBool c.stands_ahead.result (IsWithinError d e c.clock_at-ahead.result c.clock_at-own.result) (IsWithinError d e c.clock_at-ahead.result c.clock_at-own.result → ⊥)) diff err clocks in
     read-decides c.args.header.now setting c.args.lines.now (line_of c.args.line.now) c.args.peer c.in-Some.index noted c.stands_ahead.result c.args.diff c.args.err c.clock_at-ahead.result c.clock_at-own.result has at here
     (c.clock_at-ahead.ensures.clock soon) (c.clock_at-own.ensures.clock soon) near
 

@@ -1,6 +1,6 @@
 use Rattle.std.proofs.Common.{◌≡◌, ◌∙◌, ◌-ℤ◌, ℤ, ap, rules, subst₂, to_z, of_z, MatchBool}
 use Rattle.std.specs.Int.{w64, w128}
-use Rattle.tsp_base.specs.Samples.{half_up}
+use Rattle.tsp_base.specs.Words.{half_up}
 use Rattle.tsp_audit.proofs.measuring.is_half.Goals as goal
 
 pub returns : goal.returns

@@ -1,7 +1,7 @@
 use Rattle.std.proofs.Common.{◌≡◌, ℤ, ap, rules, subst, to_z, of_z, MatchBool}
 use Rattle.std.specs.Int.{w64}
-use Rattle.tsp_base.specs.declared.act.Act.TheVariants.{Sample}
-use Rattle.tsp_base.specs.History.{Acts, of, view}
+use Rattle.tsp_rules.specs.Values.{Sample}
+use Rattle.tsp_base.specs.Words.{Acts, of, view}
 use Rattle.tsp_promises.specs.Measured.{TripOf}
 use Rattle.tsp_history.specs.Histories.{deed_of, history_of, line_of}
 use Rattle.tsp_audit.proofs.MeasureLemmas.{trip-line}

@@ -1,6 +1,6 @@
 use Rattle.std.proofs.Common.{◌≡◌, ℕ, pos, subst₂, arith, inl, inr, get_or, None}
 use Rattle.std.proofs.lemmas.Bool.{cases_lt}
-use Rattle.tsp_audit.specs.Agreeing.{AgreesBack, IsAt}
+use Rattle.tsp_audit.specs.Agreeing.{AgreesBack, IsAtPlace}
 use Rattle.tsp_audit.specs.declared.round_correction.NodeState.{NodeState}
 use Rattle.tsp_audit.proofs.AccordSteps.{here-at, state-at}
 use Rattle.tsp_audit.proofs.NearLemmas.{all-back, back-all}
@@ -14,7 +14,7 @@ loop-n-preserved c soon all n a lt at =
       | inr le ↦
           let e : c.loop-n.n ≡ n = omega (arith, lt, le) in
           let here : get_or c.args.states.now c.loop-n.n none ≡ a = state-at c.args.states.now c.loop-n.n n none a at e in
-          let kat : IsAt c.args.states.now c.loop-n.n (get_or c.args.states.now c.loop-n.n none) = here-at c.args.states.now c.loop-n.n none (omega (arith, e, at.below)) in
+          let kat : IsAtPlace c.args.states.now c.loop-n.n (get_or c.args.states.now c.loop-n.n none) = here-at c.args.states.now c.loop-n.n none (omega (arith, e, at.below)) in
           subst₂ (λ (j : ℕ) (s : NodeState). AgreesBack c.args.header.now c.args.at j s c.args.states.now) e here (c.if-not-node_agrees.ensures c.args.header.now c.args.at (c.standings-stand.ensures soon) kat all)
     ]
 
@@ -24,5 +24,5 @@ returns c soon all = all-back c.args.header.now c.args.at c.args.states.now (λ 
 pub returns-then-not-node_agrees : goal.returns-then-not-node_agrees
 returns-then-not-node_agrees c soon all agrees =
     let none : NodeState = record { moved = pos 0; lives = 0; corrects = 0; after = None; cast = None } in
-    let kat : IsAt c.args.states.now c.loop-n.n (get_or c.args.states.now c.loop-n.n none) = here-at c.args.states.now c.loop-n.n none (omega arith) in
+    let kat : IsAtPlace c.args.states.now c.loop-n.n (get_or c.args.states.now c.loop-n.n none) = here-at c.args.states.now c.loop-n.n none (omega arith) in
     c.if-not-node_agrees.ensures c.args.header.now c.args.at (c.standings-stand.ensures soon) kat all (back-all c.args.header.now c.args.at c.loop-n.n (get_or c.args.states.now c.loop-n.n none) c.args.states.now (agrees c.loop-n.n (get_or c.args.states.now c.loop-n.n none) kat))

@@ -3,7 +3,7 @@ use Rattle.std.specs.Int.{w128}
 use Rattle.tsp_audit.specs.Agreeing.{shown_by}
 use Rattle.tsp_audit.specs.Standings.{reach_at}
 use Rattle.tsp_audit.proofs.NearLemmas.{span-told}
-use Rattle.tsp_base.specs.Ticks.{width}
+use Rattle.tsp_base.specs.Words.{width}
 use Rattle.tsp_audit.proofs.nearness.master_near.Goals as goal
 
 pub returns : goal.returns

@@ -1,6 +1,6 @@
 use Rattle.std.proofs.Common.{rules, ◌≡◌, ◌<◌, length, ℕ, pos, sym, subst, subst₂, arith, inl, inr, get_or, None}
 use Rattle.std.proofs.lemmas.Bool.{cases_lt}
-use Rattle.tsp_audit.specs.Agreeing.{IsAt, PairAgrees}
+use Rattle.tsp_audit.specs.Agreeing.{IsAtPlace, PairAgrees}
 use Rattle.tsp_audit.specs.Standings.{StandsAs}
 use Rattle.tsp_audit.specs.declared.round_correction.NodeState.{NodeState}
 use Rattle.tsp_audit.specs.declared.shown.Standing.{Standing}
@@ -36,7 +36,7 @@ returns-then-not-pair_agrees c header at all is sums agrees =
     let own-is : get_or c.args.stand.now c.args.node own ≡ own = search rules in
     let other-is : get_or c.args.stand.now c.loop-k.k other ≡ other = search rules in
     let lt : c.loop-k.k < length c.args.states.now = omega (arith, is.below) in
-    let kat : IsAt c.args.states.now c.loop-k.k (get_or c.args.states.now c.loop-k.k none) = here-at c.args.states.now c.loop-k.k none lt in
+    let kat : IsAtPlace c.args.states.now c.loop-k.k (get_or c.args.states.now c.loop-k.k none) = here-at c.args.states.now c.loop-k.k none lt in
     let mine : StandsAs header at c.args.node c.args.a.now own = subst (λ (u : Standing). StandsAs header at c.args.node c.args.a.now u) own-is (all c.args.node c.args.a.now own is (omega (arith, is.below, c.requires.many))) in
     let theirs : StandsAs header at c.loop-k.k (get_or c.args.states.now c.loop-k.k none) other =
     subst (λ (u : Standing). StandsAs header at c.loop-k.k (get_or c.args.states.now c.loop-k.k none) u) other-is (all c.loop-k.k _ other kat (omega (arith, lt, c.requires.many))) in

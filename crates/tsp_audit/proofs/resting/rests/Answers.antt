@@ -1,12 +1,6 @@
 use Rattle.std.proofs.Common.{◌≡◌, ap, rules, subst, true}
-use Rattle.tsp_base.specs.declared.act.Act.TheVariants.{Post}
-use Rattle.tsp_base.specs.declared.datagram.Datagram.TheVariants.{Message}
-use Rattle.tsp_base.specs.declared.kind.Kind.TheVariants.{AdjTime}
-use Rattle.tsp_base.specs.declared.place.Place.{Place}
-use Rattle.tsp_base.specs.declared.place.Place.TheVariants.{Peer}
-use Rattle.tsp_base.specs.History.{Acts, of, view}
-use Rattle.tsp_base.specs.PortFacts.{acting}
-use Rattle.tsp_base.specs.Messages.{MessageValue}
+use Rattle.tsp_rules.specs.Values.{Post, Message, AdjTime, Place, Peer}
+use Rattle.tsp_base.specs.Words.{Acts, of, view, acting, MessageValue}
 use Rattle.tsp_history.specs.HeldActs.{message_of}
 use Rattle.tsp_history.specs.Histories.{deed_of, history_of, line_of}
 use Rattle.tsp_audit.proofs.AccordSteps.{rests-told}

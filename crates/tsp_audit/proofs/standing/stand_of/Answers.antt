@@ -2,7 +2,7 @@
 use Rattle.std.proofs.Common.{◌≡◌, ◌∙◌, ◌+ℤ◌, ◌-ℤ◌, ap, subst, sym, rules, to_z, of_z, ℤ}
 use Rattle.std.specs.Int.{w64, w128}
 use Rattle.tsp_audit.proofs.NearLemmas.{sums-same}
-use Rattle.tsp_base.specs.Ticks.{tick_at}
+use Rattle.tsp_base.specs.Words.{tick_at}
 use Rattle.tsp_history.specs.Clocks.{IsSumOf}
 use Rattle.tsp_run.specs.Setup.{node_line}
 use Rattle.tsp_audit.proofs.standing.stand_of.Goals as goal

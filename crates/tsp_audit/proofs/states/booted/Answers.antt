@@ -1,6 +1,5 @@
 use Rattle.std.proofs.Common.{◌≡◌, ◌∷◌, ap, ◌∙◌, refl, List}
-use Rattle.tsp_base.specs.History.{Line, dids, of}
-use Rattle.tsp_base.specs.NodeFacts.{lives}
+use Rattle.tsp_base.specs.Words.{Line, dids, of, lives}
 use Rattle.tsp_history.specs.Histories.{line_of}
 use Rattle.tsp_audit.proofs.StateLemmas.{node-boot}
 use Rattle.tsp_audit.proofs.states.booted.Goals as goal

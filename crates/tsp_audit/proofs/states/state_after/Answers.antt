@@ -1,8 +1,7 @@
 use Rattle.std.proofs.Common.{◌≡◌, ◌∷◌, ap, subst, sym, ◌∙◌, refl, rules, List, ℕ, to_z, of_z, ℤ}
 use Rattle.std.specs.Int.{w128}
-use Rattle.tsp_base.specs.declared.act.Act.TheVariants.{Boot}
-use Rattle.tsp_base.specs.History.{Acts, Line, dids, of}
-use Rattle.tsp_base.specs.NodeFacts.{all_corrects, all_corrects_after, lives_after, moved}
+use Rattle.tsp_rules.specs.Values.{Boot}
+use Rattle.tsp_base.specs.Words.{Acts, Line, dids, of, all_corrects, all_corrects_after, lives_after, moved}
 use Rattle.tsp_history.specs.Clocks.{IsSumOf}
 use Rattle.tsp_history.specs.Histories.{deed_of, history_of, line_of}
 use Rattle.tsp_audit.specs.Changes.{IsCorrect}

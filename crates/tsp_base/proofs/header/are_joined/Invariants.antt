@@ -1,5 +1,5 @@
 use Rattle.std.proofs.Common.{◌≡◌, true}
-use Rattle.tsp_base.specs.Headers.{all_joined}
+use Rattle.tsp_base.specs.Words.{all_joined}
 use Rattle.tsp_base.proofs.header.are_joined.Given as goal
 
 abbrev pub invariant-loop-node : goal.invariant-loop-node

@@ -1,7 +1,7 @@
 -- A REFUSE that answers an open ELECTION ends it, and the candidature.
 use Rattle.std.proofs.Common.{◌∙◌}
 use Rattle.std.proofs.lemmas.Bool.{MatchBool-at_false}
-use Rattle.tsp_base.specs.Rows.{nothing}
+use Rattle.tsp_base.specs.Words.{nothing}
 use Rattle.tsp_base.proofs.PerformsLemmas.{Performs_then, Performs_then_part}
 use Rattle.tsp_rules.specs.CandidateRows.{refused_by}
 use Rattle.tsp_rules.specs.SendRows.{has_election}

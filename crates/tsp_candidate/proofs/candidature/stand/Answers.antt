@@ -1,7 +1,7 @@
 -- The role, the backing, the alarm, and then the sends.
 use Rattle.std.proofs.Common.{sym}
-use Rattle.tsp_base.specs.declared.act.Act.TheVariants.{Back}
-use Rattle.tsp_base.specs.Rows.{puts}
+use Rattle.tsp_rules.specs.Values.{Back}
+use Rattle.tsp_base.specs.Words.{puts}
 use Rattle.tsp_base.proofs.PerformsLemmas.{Performs_then, Performs_reading}
 use Rattle.tsp_rules.specs.CommonRows.{candidature_row, backs_own, own_at}
 use Rattle.tsp_acks.proofs.ActingLemmas.{Performs_acting}

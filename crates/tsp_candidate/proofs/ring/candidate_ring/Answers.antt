@@ -1,7 +1,6 @@
 -- In time it leads or gives way, late it gives way.
-use Rattle.tsp_base.specs.declared.act.Act.TheVariants.{Ring, Late}
-use Rattle.tsp_base.specs.declared.alarm.Alarm.TheVariants.{Window}
-use Rattle.tsp_base.specs.Rows.{puts, either_by, ◌followed_by◌}
+use Rattle.tsp_rules.specs.Values.{Ring, Late, Window}
+use Rattle.tsp_base.specs.Words.{puts, either_by, ◌followed_by◌}
 use Rattle.tsp_base.proofs.PerformsLemmas.{Performs_then, Performs_then_part, Performs_else_part}
 use Rattle.tsp_rules.specs.CandidateRows.{has_won, lead_row, window_rings, yields}
 use Rattle.tsp_rules.specs.Guards.{is_in_time}

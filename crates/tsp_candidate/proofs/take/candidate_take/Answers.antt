@@ -1,8 +1,7 @@
 -- Each kind has its row.
 use Rattle.std.proofs.Common.{◌≡◌, refl, sym, ◌∙◌, ap}
-use Rattle.tsp_base.specs.declared.kind.Kind.TheVariants.{Ack, Election, Accept, Refuse, Quit}
-use Rattle.tsp_base.specs.PortFacts.{name_in}
-use Rattle.tsp_base.specs.Rows.{nothing}
+use Rattle.tsp_rules.specs.Values.{Accept, Ack, Election, QuitKind, Refuse}
+use Rattle.tsp_base.specs.Words.{name_in, nothing}
 use Rattle.tsp_base.proofs.PerformsLemmas.{Performs_nothing}
 use Rattle.tsp_rules.specs.CommonRows.{follow_row}
 use Rattle.tsp_rules.specs.CandidateRows.{candidate_takes, candidate_takes_kind}
@@ -48,7 +47,7 @@ returns-in-Refuse-clause-row g c took e =
 pub returns-in-Quit-clause-row : goal.returns-in-Quit-clause-row
 unfolding candidate_takes candidate_takes_kind
 returns-in-Quit-clause-row g c took e =
-    let k : c.args.m.now.kind ≡ Quit = sym c.kind.ensures ∙ c.in-Quit.is in
+    let k : c.args.m.now.kind ≡ QuitKind = sym c.kind.ensures ∙ c.in-Quit.is in
     rw k (c.take_quit.ensures.row took (ap name_in e))
 
 pub returns-in-Ack-clause-row : goal.returns-in-Ack-clause-row

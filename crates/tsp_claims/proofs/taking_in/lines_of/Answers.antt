@@ -1,7 +1,6 @@
 -- The mark is noted, and then one line more.
 use Rattle.std.proofs.Common.{◌+◌, ◌++◌, ◌∷◌, [], ◌∙◌, ap, arith, drop, sym}
-use Rattle.tsp_base.specs.History.{Line}
-use Rattle.tsp_base.specs.Joins.{joined, first_port, line_of as line_in}
+use Rattle.tsp_base.specs.Words.{Line, joined, first_port, line_of as line_in}
 use Rattle.tsp_claims.specs.Fitting.{acts_of}
 use Rattle.tsp_claims.specs.Steps.{step_by}
 use Rattle.tsp_claims.proofs.StepLemmas.{note-next}

@@ -1,7 +1,6 @@
 -- What was noted, and what is still to be noted.
 use Rattle.std.proofs.Common.{◌≡◌, ◌+◌, List, drop, vec_len}
-use Rattle.tsp_base.specs.History.{Line}
-use Rattle.tsp_base.specs.Joins.{joined, stepped}
+use Rattle.tsp_base.specs.Words.{Line, joined, stepped}
 use Rattle.tsp_claims.specs.Fitting.{acts_of}
 use Rattle.tsp_claims.specs.Steps.{step_by}
 use Rattle.tsp_history.specs.Histories.{noted_after}

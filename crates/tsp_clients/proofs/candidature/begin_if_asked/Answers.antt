@@ -1,6 +1,6 @@
 -- The row's test is the code's.
 use Rattle.std.proofs.Common.{◌∙◌, sym}
-use Rattle.tsp_base.specs.Rows.{nothing}
+use Rattle.tsp_base.specs.Words.{nothing}
 use Rattle.tsp_base.proofs.PerformsLemmas.{Performs_then_part, Performs_else_part, Performs_nothing}
 use Rattle.tsp_rules.specs.CommonRows.{may_be_asked, candidature_row}
 use Rattle.tsp_clients.proofs.ClientLemmas.{may_be_asked-is}

@@ -1,8 +1,8 @@
 -- Nobody is answered in the quiet time; after it the ACK comes first.
 use Rattle.std.specs.Prelude.{not}
 use Rattle.std.proofs.Common.{◌∙◌, ap, sym}
-use Rattle.tsp_base.specs.declared.kind.Kind.TheVariants.{Ack}
-use Rattle.tsp_base.specs.Rows.{either_by, ◌followed_by◌, nothing, posts_back}
+use Rattle.tsp_rules.specs.Values.{Ack}
+use Rattle.tsp_base.specs.Words.{either_by, ◌followed_by◌, nothing, posts_back}
 use Rattle.tsp_base.proofs.PerformsLemmas.{Performs_then, Performs_then_part, Performs_else_part, Performs_nothing}
 use Rattle.tsp_rules.specs.CommonRows.{is_awake, may_be_asked, candidature_row, tests}
 use Rattle.tsp_rules.specs.Guards.{is_starting_role}

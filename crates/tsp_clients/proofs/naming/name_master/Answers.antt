@@ -1,9 +1,7 @@
 -- The name is the one that the port knows.
 use Rattle.std.proofs.Common.{◌∙◌, refl, sym}
-use Rattle.tsp_base.specs.declared.act.Act.TheVariants.{Post}
-use Rattle.tsp_base.specs.declared.datagram.Datagram.TheVariants.{Message}
-use Rattle.tsp_base.specs.declared.kind.Kind.TheVariants.{Ack}
-use Rattle.tsp_base.specs.Rows.{bare, puts}
+use Rattle.tsp_rules.specs.Values.{Post, Message, Ack}
+use Rattle.tsp_base.specs.Words.{bare, puts}
 use Rattle.tsp_base.proofs.PerformsLemmas.{Performs_reading}
 use Rattle.tsp_rules.specs.CommonRows.{master_name, names_master}
 use Rattle.tsp_acks.proofs.PostLemmas.{is_plain_fits}

@@ -1,7 +1,7 @@
 -- A master says so, and nobody else.
 use Rattle.std.proofs.Common.{◌∙◌, ap, sym}
-use Rattle.tsp_base.specs.declared.kind.Kind.TheVariants.{Ack}
-use Rattle.tsp_base.specs.Rows.{nothing, posts_back}
+use Rattle.tsp_rules.specs.Values.{Ack}
+use Rattle.tsp_base.specs.Words.{nothing, posts_back}
 use Rattle.tsp_base.proofs.PerformsLemmas.{Performs_then_part, Performs_else_part, Performs_nothing}
 use Rattle.tsp_rules.specs.CommonRows.{says_master}
 use Rattle.tsp_rules.specs.Guards.{is_master, is_master_at}

@@ -1,5 +1,5 @@
 use Rattle.std.proofs.Common.{◌-◌, ◌/◌, nat_abs}
-use Rattle.tsp_base.specs.NodeFacts.{eased}
+use Rattle.tsp_base.specs.Words.{eased}
 use Rattle.tsp_clock.specs.Clocks.{target_of}
 use Rattle.tsp_clock.proofs.Slewing.{eased_more, eased_whole, slewed_between, slewed_whole, rises_by, none_left}
 use Rattle.tsp_clock.proofs.laws.shown_follows_target.Goals as goal

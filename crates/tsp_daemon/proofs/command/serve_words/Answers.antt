@@ -1,7 +1,7 @@
 use Rattle.std.proofs.Common.{◌≡◌, inl, inr, refl, rules, subst, List, ◌∷◌}
 use Rattle.tsp_args.specs.Ports.{all_peers}
 use Rattle.tsp_io.specs.declared.addr.Addr.{Addr}
-use Rattle.tsp_io.specs.Links.{Notes}
+use Rattle.tsp_io.specs.Links.{NotesReceive}
 use Rattle.tsp_query.specs.Outside.{bound}
 use Rattle.tsp_query.proofs.FaultLemmas.{Counts-from, Counts-same}
 use Rattle.tsp_query.proofs.OutsideLemmas.{NotesBind_failed, NotesBind_made, NotesBind_refused, Notes_same, Tells_bound}
@@ -12,7 +12,7 @@ returns-in-Bound-clause-serves g c = λ o wall word written k.
     let tells = Tells_bound o _ _ _ _ _ _ _ _ c.bind.ensures.same.0 c.bind.ensures.same.1 c.bind.ensures.counted k.tells in
     let peers : c.as_slice.result.now ≡ c.args.words.now.local ∷ all_peers c.args.words.now.ports = search rules in
     let made = NotesBind_made _ _ _ _ c.in-Bound.is c.bind.ensures.binds in
-    let noted = subst (λ (ps : List Addr). Notes (g.L.Link.binds c.args.link.now) (g.L.Link.binds c.bind.new.self) (record { local = c.args.words.now.local; peers = ps })) peers made in
+    let noted = subst (λ (ps : List Addr). NotesReceive (g.L.Link.binds c.args.link.now) (g.L.Link.binds c.bind.new.self) (record { local = c.args.words.now.local; peers = ps })) peers made in
     inr (
       Notes_same _ _ _ _ c.serve_bound.ensures.same noted,
       c.serve_bound.ensures.walled o.readings k.tells.readings_are,

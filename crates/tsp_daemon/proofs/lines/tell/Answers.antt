@@ -1,5 +1,5 @@
 use Rattle.std.proofs.Common.{rules, arith, ◌≡◌, ◌∙◌, ◌++◌, ◌+◌, ap, sym, append_assoc, get_or, length, drop}
-use Rattle.tsp_base.specs.declared.act.Placed.{Placed}
+use Rattle.tsp_rules.specs.Values.{Placed}
 use Rattle.tsp_lines.proofs.Outputs.{Grows-trans}
 use Rattle.tsp_daemon.specs.Posts.{line_of, lines_of, send_of}
 use Rattle.tsp_daemon.proofs.LineLemmas.{lines_here, tells_until}

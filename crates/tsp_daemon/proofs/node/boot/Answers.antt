@@ -1,11 +1,11 @@
 use Rattle.std.proofs.Common.{◌∙◌, ap, arith, length, sym, subst}
-use Rattle.tsp_gateway.specs.GateConfigs.{ArePorts, GateConfigValue, peers_of_ports}
+use Rattle.tsp_gateway.specs.GateConfigs.{AreGatePorts, GateConfigValue, peers_of_ports}
 use Rattle.tsp_daemon.proofs.NodeLemmas.{ArePorts-setups_from, length-setups_from, room_is}
 use Rattle.tsp_daemon.proofs.node.boot.Goals as goal
 
 pub unreachable-requires : goal.unreachable-requires
 unreachable-requires c =
-    let ports : ArePorts c.in-Ok.config.ports = subst (λ (v : GateConfigValue). ArePorts v.ports) (sym c.in-Ok.ensures) (ArePorts-setups_from 0 c.args.words.now.ports c.requires.serve.ports.one.few) in
+    let ports : AreGatePorts c.in-Ok.config.ports = subst (λ (v : GateConfigValue). AreGatePorts v.ports) (sym c.in-Ok.ensures) (ArePorts-setups_from 0 c.args.words.now.ports c.requires.serve.ports.one.few) in
     (rw c.in-Err-Peers.field-0-is at c.in-Err-Peers.ensures.err) ports
 
 pub boot-requires-clause-ports : goal.boot-requires-clause-ports

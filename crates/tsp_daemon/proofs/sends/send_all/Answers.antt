@@ -1,5 +1,5 @@
 use Rattle.std.proofs.Common.{rules, arith, ◌≡◌, ◌∙◌, ◌++◌, ap, sym, append_assoc, get_or}
-use Rattle.tsp_base.specs.declared.act.Placed.{Placed}
+use Rattle.tsp_rules.specs.Values.{Placed}
 use Rattle.tsp_daemon.specs.Posts.{send_of}
 use Rattle.tsp_daemon.proofs.SendLemmas.{TriesAll-trans, sends_here}
 use Rattle.tsp_daemon.proofs.sends.send_all.Goals as goal

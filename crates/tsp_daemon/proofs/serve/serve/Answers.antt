@@ -1,5 +1,5 @@
 use Rattle.std.proofs.Common.{◌≡◌, ◌∙◌, ◌+◌, ap, arith, refl, List}
-use Rattle.tsp_base.specs.declared.place.PeerId.{PeerId}
+use Rattle.tsp_rules.specs.Values.{PeerId}
 use Rattle.tsp_gateway.specs.Rooms.{ports_in, room_of_ports}
 use Rattle.tsp_query.proofs.FaultLemmas.{Counts-from, Counts-same}
 use Rattle.tsp_daemon.specs.declared.end.ServeEnd.TheVariants.{LinkFault, WriteFault}

@@ -1,5 +1,5 @@
 use Rattle.std.proofs.Common.{◌≡◌, ◌∙◌, ◌+◌, List, [], ap, inl, sym, subst, refl}
-use Rattle.tsp_base.specs.declared.act.Placed.{Placed}
+use Rattle.tsp_rules.specs.Values.{Placed}
 use Rattle.tsp_daemon.specs.declared.end.ServeEnd.TheVariants.{LinkFault}
 use Rattle.tsp_io.specs.declared.link.Recv.TheVariants.{Failed}
 use Rattle.tsp_query.proofs.FaultLemmas.{Counts-same}

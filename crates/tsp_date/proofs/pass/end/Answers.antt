@@ -1,6 +1,6 @@
 -- Only a follower has passed a date on.
 use Rattle.std.proofs.Common.{sym, ◌∙◌}
-use Rattle.tsp_base.specs.declared.role.Role.TheVariants.{Follow}
+use Rattle.tsp_rules.specs.Values.{Follow}
 use Rattle.tsp_base.proofs.PerformsLemmas.{Performs_nothing, Performs_reading}
 use Rattle.tsp_rules.specs.DateRows.{date_acked, date_acked_in}
 use Rattle.tsp_rules.specs.Guards.{role_at}

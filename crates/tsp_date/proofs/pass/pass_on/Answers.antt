@@ -1,8 +1,7 @@
 -- The client is answered, and then the date begins to be passed on.
 use Rattle.std.proofs.Common.{◌≡◌, refl, ◌∙◌}
-use Rattle.tsp_base.specs.declared.kind.Kind.TheVariants.{Ack, SetDateReq}
-use Rattle.tsp_base.specs.Rows.{◌followed_by◌, nothing, posts_back}
-use Rattle.tsp_base.specs.Takings.{time_in}
+use Rattle.tsp_rules.specs.Values.{Ack, SetDateReq}
+use Rattle.tsp_base.specs.Words.{◌followed_by◌, nothing, posts_back, time_in}
 use Rattle.tsp_base.proofs.PerformsLemmas.{Performs_else_part, Performs_nothing, Performs_then, Performs_then_part}
 use Rattle.tsp_rules.specs.DateRows.{may_pass_on, passes_on}
 use Rattle.tsp_rules.specs.SendRows.{begins_timed}

@@ -1,6 +1,6 @@
 -- The sender is answered, the slaves leave, and the others hear of it.
 use Rattle.std.proofs.Common.{refl, length}
-use Rattle.tsp_base.specs.declared.kind.Kind.TheVariants.{DateAck, MasterUp}
+use Rattle.tsp_rules.specs.Values.{DateAck, MasterUp}
 use Rattle.tsp_base.proofs.PerformsLemmas.{Performs_then}
 use Rattle.tsp_rules.proofs.Emits.{Emits_posts_back, Emits_posts_to_others}
 use Rattle.tsp_date.proofs.DateLemmas.{Performs_leaves, Performs_posting}

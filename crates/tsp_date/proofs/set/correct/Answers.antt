@@ -1,6 +1,6 @@
 -- The clock is set, and the date is noted.
 use Rattle.std.proofs.Common.{◌≡◌, to_z, of_z, w64, to_z-of_z, SFits, rules}
-use Rattle.tsp_base.specs.Takings.{time_in}
+use Rattle.tsp_base.specs.Words.{time_in}
 use Rattle.tsp_date.proofs.DateLemmas.{Performs_dated}
 use Rattle.tsp_master.proofs.RoomLemmas.{once}
 use Rattle.tsp_date.proofs.set.correct.Goals as goal

@@ -1,9 +1,7 @@
 -- The slaves among the peers so far have left.
 use Rattle.std.proofs.Common.{◌≡◌, ℕ, ◌<◌, ◌≤◌, length, take, get_or}
-use Rattle.tsp_base.specs.declared.place.PeerId.{PeerId}
-use Rattle.tsp_base.specs.Frames.{PutsAtMost}
-use Rattle.tsp_base.specs.Performs.{Performs}
-use Rattle.tsp_base.specs.Rows.{for_each}
+use Rattle.tsp_rules.specs.Values.{PeerId}
+use Rattle.tsp_base.specs.Words.{PutsAtMost, Performs, for_each}
 use Rattle.tsp_rules.specs.DateRows.{leaves}
 use Rattle.tsp_measure.specs.Slaves.{entry_of, peers_of}
 use Rattle.tsp_master.specs.MasterStands.{MasterStands}

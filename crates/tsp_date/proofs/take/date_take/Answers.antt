@@ -1,8 +1,7 @@
 -- Each message has its row.
 use Rattle.std.proofs.Common.{◌≡◌, true, refl, sym, ◌∙◌, ap, arith}
-use Rattle.tsp_base.specs.declared.kind.Kind.TheVariants.{DateAck}
-use Rattle.tsp_base.specs.Rows.{nothing}
-use Rattle.tsp_base.specs.Takings.{time_in}
+use Rattle.tsp_rules.specs.Values.{DateAck}
+use Rattle.tsp_base.specs.Words.{nothing, time_in}
 use Rattle.tsp_base.proofs.PerformsLemmas.{Performs_else_part, Performs_nothing, Performs_then, Performs_then_part}
 use Rattle.tsp_rules.specs.DateRows.{may_date, new_date, sets_date_where}
 use Rattle.tsp_rules.specs.RoundRows.{corrects}

@@ -1,6 +1,6 @@
 -- A client's date, and one that a peer passes on.
 use Rattle.std.proofs.Common.{◌≡◌, true, false, sym, ◌∙◌, ap}
-use Rattle.tsp_base.specs.SendFacts.{is_date_request}
+use Rattle.tsp_base.specs.Words.{is_date_request}
 use Rattle.tsp_rules.specs.Answers.{from_peer}
 use Rattle.tsp_rules.specs.DateRows.{date_of, date_request_of}
 use Rattle.tsp_rules.specs.Guards.{is_heard}

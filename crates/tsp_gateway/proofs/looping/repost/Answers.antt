@@ -3,11 +3,8 @@ use Rattle.std.specs.Prelude.{◌≡◌, ◌+◌, ◌++◌, ◌∷◌, [], suc, 
 use Rattle.std.proofs.Common.{ap, append-nil, append_assoc, arith, get_or, sym, ◌∙◌}
 use Rattle.std.proofs.Math.Seq.{take-suc}
 use Rattle.std.proofs.lemmas.List.{length-append, map-append, take_all}
-use Rattle.tsp_base.specs.declared.act.Placed.{Placed}
-use Rattle.tsp_base.specs.declared.place.PeerId.{PeerId}
-use Rattle.tsp_base.specs.declared.place.Port.{Port}
-use Rattle.tsp_base.specs.Messages.{MessageValue}
-use Rattle.tsp_base.specs.Rows.{others, placed}
+use Rattle.tsp_rules.specs.Values.{Placed, PeerId, Port}
+use Rattle.tsp_base.specs.Words.{MessageValue, others, placed}
 use Rattle.tsp_base.proofs.RowLemmas.{others-more, others-own}
 use Rattle.tsp_rules.specs.GateRows.{repost}
 use Rattle.tsp_gateway.proofs.looping.repost.Goals as goal

@@ -1,7 +1,6 @@
 -- The other peers so far were posted to.
 use Rattle.std.specs.Prelude.{◌≡◌, ◌++◌, map, take}
-use Rattle.tsp_base.specs.Frames.{PutsAtMost}
-use Rattle.tsp_base.specs.Rows.{others, placed}
+use Rattle.tsp_base.specs.Words.{PutsAtMost, others, placed}
 use Rattle.tsp_rules.specs.GateRows.{repost}
 use Rattle.tsp_gateway.proofs.looping.repost.Given as goal
 

@@ -1,7 +1,6 @@
 -- The lines that were looked at tell nothing of it.
 use Rattle.std.proofs.Common.{◌≡◌, ◌≤◌, length, take, is_some}
-use Rattle.tsp_base.specs.History.{dids, of}
-use Rattle.tsp_base.specs.Takings.{heard}
+use Rattle.tsp_base.specs.Words.{dids, of, heard}
 use Rattle.tsp_history.specs.Histories.{history_of}
 use Rattle.tsp_history.proofs.posts.has_taken.Given as goal
 

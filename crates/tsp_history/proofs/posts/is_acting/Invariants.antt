@@ -1,7 +1,6 @@
 -- The lines that were looked at tell nothing of it.
 use Rattle.std.proofs.Common.{◌≡◌, ◌≤◌, length, take}
-use Rattle.tsp_base.specs.History.{of, view}
-use Rattle.tsp_base.specs.PortFacts.{acting}
+use Rattle.tsp_base.specs.Words.{of, view, acting}
 use Rattle.tsp_history.specs.Histories.{history_of}
 use Rattle.tsp_history.proofs.posts.is_acting.Given as goal
 

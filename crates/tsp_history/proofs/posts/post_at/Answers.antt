@@ -1,6 +1,5 @@
 use Rattle.std.proofs.Common.{◌≡◌, ◌<◌, ◌+◌, ◌-◌, ◌∷◌, ap, subst, arith, rules, length, take, get_or, List, MatchBool}
-use Rattle.tsp_base.specs.History.{Line, dids}
-use Rattle.tsp_base.specs.Takings.{posted, posted_after}
+use Rattle.tsp_base.specs.Words.{Line, dids, posted, posted_after}
 use Rattle.tsp_history.specs.Histories.{deed_of, history_of, line_of}
 use Rattle.tsp_history.specs.Posts.{IsPost}
 use Rattle.tsp_history.proofs.HistoryLemmas.{Within-noted}

@@ -1,7 +1,6 @@
 -- The datagram that is looked for was posted before the lines that were looked at.
 use Rattle.std.proofs.Common.{◌<◌, ◌≤◌, length, take}
-use Rattle.tsp_base.specs.History.{dids}
-use Rattle.tsp_base.specs.Takings.{posted}
+use Rattle.tsp_base.specs.Words.{dids, posted}
 use Rattle.tsp_history.specs.Histories.{history_of}
 use Rattle.tsp_history.proofs.posts.post_at.Given as goal
 

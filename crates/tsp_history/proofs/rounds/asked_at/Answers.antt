@@ -1,7 +1,6 @@
 use Rattle.std.proofs.Common.{◌≡◌, ◌<◌, ◌∙◌, ◌-◌, ◌∷◌, arith, rules, length, take, get_or, refl, sym, subst, to_z, of_z}
 use Rattle.std.specs.Int.{w128}
-use Rattle.tsp_base.specs.History.{of, view}
-use Rattle.tsp_base.specs.RoundFacts.{exchange}
+use Rattle.tsp_base.specs.Words.{of, view, exchange}
 use Rattle.tsp_history.specs.Histories.{history_of, line_of}
 use Rattle.tsp_history.specs.Posts.{IsPost}
 use Rattle.tsp_history.specs.Rounds.{AskedAt}

@@ -1,7 +1,6 @@
 -- The lines that were looked at leave the place as it was.
 use Rattle.std.proofs.Common.{◌≡◌, ◌≤◌, length, take}
-use Rattle.tsp_base.specs.History.{of, view}
-use Rattle.tsp_base.specs.RoundFacts.{exchange}
+use Rattle.tsp_base.specs.Words.{of, view, exchange}
 use Rattle.tsp_history.specs.Histories.{history_of}
 use Rattle.tsp_history.proofs.rounds.asked_at.Given as goal
 

@@ -1,8 +1,7 @@
 use Rattle.std.proofs.Common.{◌≡◌, ap, ◌∷◌, sym, ◌∙◌, rules, subst, to_z, of_z}
 use Rattle.std.specs.Int.{w64, w128}
 use Rattle.tsp_base.specs.declared.act.Act.TheVariants.{Sample}
-use Rattle.tsp_base.specs.History.{Acts, of, view}
-use Rattle.tsp_base.specs.RoundFacts.{best}
+use Rattle.tsp_base.specs.Words.{Acts, of, view, best}
 use Rattle.tsp_history.specs.Histories.{line_of, deed_of}
 use Rattle.tsp_history.specs.Rounds.{BestAt}
 use Rattle.tsp_history.proofs.RoundLemmas.{best-here, better-same}

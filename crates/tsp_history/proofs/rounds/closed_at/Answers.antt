@@ -1,5 +1,5 @@
 use Rattle.std.proofs.Common.{◌≡◌, ◌<◌, ◌∙◌, ◌-◌, arith, rules, length, take, get_or, refl}
-use Rattle.tsp_base.specs.History.{of, view}
+use Rattle.tsp_base.specs.Words.{of, view}
 use Rattle.tsp_promises.specs.StepFacts.{closed}
 use Rattle.tsp_history.specs.Histories.{history_of}
 use Rattle.tsp_history.proofs.NoteLemmas.{begins-port, newest-is}

@@ -1,6 +1,5 @@
 use Rattle.std.proofs.Common.{◌≡◌, ◌<◌, ◌∙◌, ◌-◌, ap, arith, rules, length, take, get_or}
-use Rattle.tsp_base.specs.History.{of, view}
-use Rattle.tsp_base.specs.RoundFacts.{best}
+use Rattle.tsp_base.specs.Words.{of, view, best}
 use Rattle.tsp_history.specs.Histories.{history_of}
 use Rattle.tsp_history.proofs.NoteLemmas.{first-lines}
 use Rattle.tsp_history.proofs.rounds.samples_from.Goals as goal

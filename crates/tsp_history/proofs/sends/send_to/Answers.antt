@@ -1,7 +1,5 @@
 use Rattle.std.proofs.Common.{◌≡◌, ◌<◌, ◌∙◌, ◌-◌, ◌∷◌, true, false, if◌then◌else◌, ap, arith, rules, length, take, get_or, refl, sym}
-use Rattle.tsp_base.specs.History.{Here, of, view}
-use Rattle.tsp_base.specs.PortFacts.{acting}
-use Rattle.tsp_base.specs.SendFacts.{begun_to, open_to}
+use Rattle.tsp_base.specs.Words.{Here, of, view, acting, begun_to, open_to}
 use Rattle.tsp_history.specs.Histories.{history_of, line_of}
 use Rattle.tsp_history.proofs.NoteLemmas.{newest-is}
 use Rattle.tsp_history.proofs.SendLemmas.{sent-here}

@@ -1,7 +1,6 @@
 -- The lines that were looked at leave the place as it was.
 use Rattle.std.proofs.Common.{◌≡◌, ◌≤◌, true, false, length, take}
-use Rattle.tsp_base.specs.History.{of, view}
-use Rattle.tsp_base.specs.SendFacts.{begun_to, open_to}
+use Rattle.tsp_base.specs.Words.{of, view, begun_to, open_to}
 use Rattle.tsp_history.specs.Histories.{history_of}
 use Rattle.tsp_history.proofs.sends.send_to.Given as goal
 

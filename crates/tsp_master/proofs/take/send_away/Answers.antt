@@ -1,7 +1,7 @@
 -- The row's test is the station's.
 use Rattle.std.proofs.Common.{sym, ◌∙◌, ap}
-use Rattle.tsp_base.specs.declared.kind.Kind.TheVariants.{Quit}
-use Rattle.tsp_base.specs.Rows.{nothing}
+use Rattle.tsp_rules.specs.Values.{QuitKind}
+use Rattle.tsp_base.specs.Words.{nothing}
 use Rattle.tsp_base.proofs.PerformsLemmas.{Performs_then_part, Performs_else_part, Performs_nothing}
 use Rattle.tsp_rules.specs.MasterRows.{sends_away}
 use Rattle.tsp_rules.specs.SendRows.{begins, has_quit, is_kind_quit}
@@ -18,7 +18,7 @@ returns-then-not-is_quit-clause-row g c =
 pub returns-else-not-is_quit-clause-row : goal.returns-else-not-is_quit-clause-row
 unfolding sends_away
 returns-else-not-is_quit-clause-row g c =
-    Performs_then_part (has_quit c.args.peer) (begins Quit c.args.peer) (λ past h. has_quit-is c.args.peer c.args.tick past c.args.station.now h.stands ∙ ap (is_of is_kind_quit) (sym c.kind.ensures) ∙ sym c.is_quit.ensures ∙ c.if-not-is_quit.false) Performs_nothing
+    Performs_then_part (has_quit c.args.peer) (begins QuitKind c.args.peer) (λ past h. has_quit-is c.args.peer c.args.tick past c.args.station.now h.stands ∙ ap (is_of is_kind_quit) (sym c.kind.ensures) ∙ sym c.is_quit.ensures ∙ c.if-not-is_quit.false) Performs_nothing
 
 pub returns-then-not-is_quit-clause-room : goal.returns-then-not-is_quit-clause-room
 returns-then-not-is_quit-clause-room g c = once 0 0 c.begin.ensures.room

@@ -2,10 +2,8 @@
 use Rattle.std.specs.Prelude.{slice_index_or}
 use Rattle.std.proofs.Common.{◌≡◌, ◌∙◌, ℕ, arith, false, inl, inr, subst, sym}
 use Rattle.std.proofs.lemmas.Bool.{cases_lt}
-use Rattle.tsp_base.specs.declared.alarm.Alarm.{Alarm}
-use Rattle.tsp_base.specs.declared.alarm.Alarm.TheVariants.{Quiet}
-use Rattle.tsp_base.specs.declared.alarm.TheConstants.Alarm.{ALL}
-use Rattle.tsp_base.specs.Alarms.{deadline}
+use Rattle.tsp_rules.specs.Values.{Alarm, Quiet, ALL}
+use Rattle.tsp_base.specs.Words.{deadline}
 use Rattle.tsp_rules.specs.Guards.{is_over}
 use Rattle.tsp_node.proofs.AlarmOrder.{at_place, has_place, place}
 use Rattle.tsp_node.proofs.DueLemmas.{none_over, over-at}

@@ -1,8 +1,7 @@
 -- A reply where the target is a clock's value, else nothing.
 use Rattle.std.proofs.Common.{◌≡◌, refl, ◌∙◌}
-use Rattle.tsp_base.specs.declared.stamp.Stamp.TheVariants.{Reply}
-use Rattle.tsp_base.specs.History.{plain}
-use Rattle.tsp_base.specs.NodeFacts.{ticket, target}
+use Rattle.tsp_rules.specs.Values.{Reply}
+use Rattle.tsp_base.specs.Words.{plain, ticket, target}
 use Rattle.tsp_base.proofs.PerformsLemmas.{Performs_nothing, Performs_then_part, Performs_else_part}
 use Rattle.tsp_rules.specs.CommonRows.{replies, posts_reply}
 use Rattle.tsp_rules.specs.Guards.{is_in_range}

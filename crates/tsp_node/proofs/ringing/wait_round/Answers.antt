@@ -1,10 +1,7 @@
 -- In time the round waits; late the next one is put off.
 use Rattle.std.proofs.Common.{true, ap, sym, ◌∙◌}
-use Rattle.tsp_base.specs.declared.act.Act.TheVariants.{Late, Ring}
-use Rattle.tsp_base.specs.declared.alarm.Alarm.TheVariants.{Round}
-use Rattle.tsp_base.specs.declared.constants.TheConstants.{ROUND}
-use Rattle.tsp_base.specs.Alarms.{Deadlines}
-use Rattle.tsp_base.specs.Rows.{arms, puts, ◌followed_by◌}
+use Rattle.tsp_rules.specs.Values.{Ring, Late, Round, ROUND}
+use Rattle.tsp_base.specs.Words.{Deadlines, arms, puts, ◌followed_by◌}
 use Rattle.tsp_base.proofs.PerformsLemmas.{Performs_else_part, Performs_then, Performs_then_part}
 use Rattle.tsp_rules.specs.RoundRows.{begins_or_waits, round_rings}
 use Rattle.tsp_rules.specs.Guards.{is_in_time, is_met}

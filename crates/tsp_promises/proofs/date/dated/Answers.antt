@@ -2,7 +2,7 @@
 use Rattle.std.specs.Prelude.{◌∷◌}
 use Rattle.tsp_promises.proofs.EverywhereLemmas.{Everywhere-from, Everywhere-within}
 use Rattle.tsp_promises.specs.Premises.{FewAt, HonestAt, TakenWithinAt}
-use Rattle.tsp_base.specs.declared.constants.TheConstants.{LIFE}
+use Rattle.tsp_rules.specs.Values.{LIFE}
 use Rattle.tsp_promises.proofs.OwnFitsProof.{fits_at}
 use Rattle.tsp_promises.specs.Dated.{DateConfirmedAt, SetsAt}
 use Rattle.tsp_promises.proofs.ConfirmedDate.{date_confirmed}

@@ -1,7 +1,7 @@
 -- A binary search finds a peer that is there.
 use Rattle.std.proofs.Common.{rules}
 use Rattle.std.proofs.lemmas.List.Sorted.{answers_always}
-use Rattle.tsp_base.specs.declared.place.PeerId.{PeerId}
+use Rattle.tsp_rules.specs.Values.{PeerId}
 use Rattle.tsp_resolve.proofs.MarkedLemmas.{always_searched}
 use Rattle.tsp_resolve.proofs.resolve.place_of.Goals as goal
 

@@ -2,7 +2,7 @@
 use Rattle.std.proofs.Common.{◌≡◌, ℕ, ◌<◌, slice_index_or}
 use Rattle.tsp_base.specs.declared.alarm.Alarm.{Alarm}
 use Rattle.tsp_base.specs.declared.alarm.TheConstants.Alarm.{ALL}
-use Rattle.tsp_base.specs.Alarms.{alarm_word}
+use Rattle.tsp_base.specs.Words.{alarm_word}
 use Rattle.tsp_script.proofs.act_words.alarm_of.Given as goal
 
 abbrev pub invariant-loop-alarm : goal.invariant-loop-alarm

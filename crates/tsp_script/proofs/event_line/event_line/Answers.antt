@@ -3,7 +3,7 @@ use Rattle.tsp_script.proofs.OneEvent.{SpellsEvent-one}
 use Rattle.tsp_script.proofs.EventLines.{no_item}
 use Rattle.tsp_script.proofs.Outcomes.{none_not_some}
 use Rattle.tsp_script.specs.declared.event_line.EventItem.TheVariants.{Event as EventOf}
-use Rattle.tsp_base.specs.Plains.{event_in}
+use Rattle.tsp_base.specs.Words.{event_in}
 use Rattle.tsp_script.proofs.event_line.event_line.Goals as goal
 
 pub returns-in-Some-clause-one : goal.returns-in-Some-clause-one

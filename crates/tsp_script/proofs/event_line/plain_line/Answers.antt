@@ -1,6 +1,6 @@
 use Rattle.std.proofs.Common.{◌∷◌, ◌++◌, ap, Some}
 use Rattle.tsp_base.specs.declared.plain.Plain.TheVariants.{Turn, Take}
-use Rattle.tsp_base.specs.Plains.{event_in}
+use Rattle.tsp_base.specs.Words.{event_in}
 use Rattle.tsp_script.proofs.EventLines.{at_of, verb_of, rest_of, IsTrueTime-at_of}
 use Rattle.tsp_script.proofs.Outcomes.{none_or_some, some_once}
 use Rattle.tsp_script.proofs.PlainLines.{plain_front, turn_read, take_read}

@@ -1,5 +1,5 @@
 use Rattle.std.proofs.Common.{◌≡◌, ◌∙◌, ap, sym, arith, ◌++◌, Some, true}
-use Rattle.tsp_base.specs.Messages.{MessageValue, body_fits}
+use Rattle.tsp_base.specs.Words.{MessageValue, body_fits}
 use Rattle.tsp_base.specs.declared.datagram.Datagram.TheVariants.{Message}
 use Rattle.tsp_script.specs.Texts.{body_text, name_text}
 use Rattle.tsp_script.proofs.KindWords.{kind_word-injective}

@@ -4,7 +4,7 @@ use Rattle.std.specs.Int.{w64}
 use Rattle.std.specs.Int.RustNames.{FitsSigned}
 use Rattle.std.proofs.lemmas.Int.{to_z-of_z}
 use mir.Val.{to_z, of_z}
-use Rattle.tsp_base.specs.Stamps.{ReplyValue}
+use Rattle.tsp_base.specs.Words.{ReplyValue}
 use Rattle.tsp_script.proofs.MessageLines.{reply_found}
 use Rattle.tsp_script.proofs.Outcomes.{if_some-then}
 use Rattle.tsp_script.proofs.message_reader.read_reply.Goals as goal

@@ -1,5 +1,5 @@
 use Rattle.std.proofs.Common.{arith, ◌≡◌, ◌+◌, ◌*◌, ◌/◌, ◌^◌, ◌≤◌, ◌<◌, length, refl, ◌∙◌, length-set}
-use Rattle.tsp_base.specs.Alarms.{earlier}
+use Rattle.tsp_base.specs.Words.{earlier}
 use Rattle.tsp_sends.specs.Deadlines.{deadline_at}
 use Rattle.tsp_sends.proofs.TreeLemmas.{HoldsEarlier-set, HoldsEarlier-any, leaves_kept, half_below, at_root}
 use Rattle.tsp_sends.proofs.tree.set_leaf.Goals as goal

@@ -1,8 +1,8 @@
 -- A send is open exactly where the station has its kind.
 use Rattle.std.specs.Prelude.{not, is_some}
 use Rattle.std.proofs.Common.{◌∙◌, ap, sym}
-use Rattle.tsp_base.specs.declared.kind.Kind.TheVariants.{Conflict}
-use Rattle.tsp_base.specs.Rows.{nothing}
+use Rattle.tsp_rules.specs.Values.{Conflict}
+use Rattle.tsp_base.specs.Words.{nothing}
 use Rattle.tsp_base.proofs.PerformsLemmas.{Performs_then_part, Performs_else_part, Performs_nothing}
 use Rattle.tsp_rules.specs.SendRows.{begins, is_free}
 use Rattle.tsp_rules.specs.SlaveRows.{reports_conflict}

@@ -1,7 +1,7 @@
 -- The row's test is the code's.
 use Rattle.std.specs.Prelude.{refl}
-use Rattle.tsp_base.specs.declared.kind.Kind.TheVariants.{Ack}
-use Rattle.tsp_base.specs.Rows.{nothing, posts}
+use Rattle.tsp_rules.specs.Values.{Ack}
+use Rattle.tsp_base.specs.Words.{nothing, posts}
 use Rattle.tsp_base.proofs.PerformsLemmas.{Performs_then_part, Performs_else_part, Performs_nothing}
 use Rattle.tsp_rules.specs.SlaveRows.{acks_repeat, is_repeated}
 use Rattle.tsp_slave.proofs.BesideLemmas.{Performs_station}

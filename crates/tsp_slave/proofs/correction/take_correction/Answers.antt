@@ -1,8 +1,6 @@
 -- Of the master that is followed the next correction acts, and any other may be a repeat.
 use Rattle.std.proofs.Common.{◌≡◌, if◌then◌else◌, [], Some, true, refl, sym, ◌∙◌, ap}
-use Rattle.tsp_base.specs.PortFacts.{said}
-use Rattle.tsp_base.specs.Rows.{nothing, reading, ◌followed_by◌}
-use Rattle.tsp_base.specs.SendFacts.{correcting_of}
+use Rattle.tsp_base.specs.Words.{said, nothing, reading, ◌followed_by◌, correcting_of}
 use Rattle.tsp_base.proofs.PerformsLemmas.{Performs_nothing, Performs_same, Performs_then, Performs_then_part, Performs_else_part}
 use Rattle.tsp_rules.specs.Guards.{role_at}
 use Rattle.tsp_rules.specs.SlaveRows.{acks_repeat, confirms, from_master}

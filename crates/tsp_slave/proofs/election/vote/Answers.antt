@@ -1,7 +1,6 @@
 -- The row's test is the code's.
-use Rattle.tsp_base.specs.declared.act.Act.TheVariants.{Back}
-use Rattle.tsp_base.specs.declared.kind.Kind.TheVariants.{Accept, Refuse}
-use Rattle.tsp_base.specs.Rows.{puts, ◌followed_by◌, posts}
+use Rattle.tsp_rules.specs.Values.{Back, Accept, Refuse}
+use Rattle.tsp_base.specs.Words.{puts, ◌followed_by◌, posts}
 use Rattle.tsp_base.proofs.PerformsLemmas.{Performs_then, Performs_then_part, Performs_else_part}
 use Rattle.tsp_rules.specs.CommonRows.{arms_elect}
 use Rattle.tsp_rules.specs.SlaveRows.{election_of}

@@ -1,7 +1,7 @@
 -- The number is the clock's ticket.
 use Rattle.std.specs.Prelude.{refl}
-use Rattle.tsp_base.specs.declared.kind.Kind.TheVariants.{SlaveUp}
-use Rattle.tsp_base.specs.Rows.{posts}
+use Rattle.tsp_rules.specs.Values.{SlaveUp}
+use Rattle.tsp_base.specs.Words.{posts}
 use Rattle.tsp_base.proofs.PerformsLemmas.{Performs_reading}
 use Rattle.tsp_rules.specs.CommonRows.{tells_ticket}
 use Rattle.tsp_rules.specs.Guards.{ticket_at}

@@ -1,8 +1,7 @@
 -- The QUIT, its answer, and then whom the port follows, by cases of the role.
 use Rattle.std.proofs.Common.{◌≡◌, refl, sym, ◌∙◌}
-use Rattle.tsp_base.specs.declared.act.Act.TheVariants.{Quit}
-use Rattle.tsp_base.specs.declared.kind.Kind.TheVariants.{Ack}
-use Rattle.tsp_base.specs.Rows.{puts}
+use Rattle.tsp_rules.specs.Values.{Quit, Ack}
+use Rattle.tsp_base.specs.Words.{puts}
 use Rattle.tsp_base.proofs.PerformsLemmas.{Performs_nothing, Performs_reading, Performs_then}
 use Rattle.tsp_rules.specs.CommonRows.{follows_unless, quits}
 use Rattle.tsp_rules.specs.Guards.{role_at}

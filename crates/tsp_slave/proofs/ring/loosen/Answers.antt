@@ -1,8 +1,7 @@
 -- A follower becomes Loose, any other role stays.
 use Rattle.std.proofs.Common.{refl}
-use Rattle.tsp_base.specs.declared.role.Role.TheVariants.{Loose}
-use Rattle.tsp_base.specs.declared.act.Act.TheVariants.{Become}
-use Rattle.tsp_base.specs.Rows.{puts, nothing}
+use Rattle.tsp_rules.specs.Values.{Become, Loose}
+use Rattle.tsp_base.specs.Words.{puts, nothing}
 use Rattle.tsp_base.proofs.PerformsLemmas.{Performs_then_part, Performs_else_part, Performs_nothing}
 use Rattle.tsp_rules.specs.SlaveRows.{loosens}
 use Rattle.tsp_rules.specs.Guards.{follows_at}

@@ -1,10 +1,8 @@
 -- In time it searches, since it doesn't stand; late it waits again.
 use Rattle.std.specs.Prelude.{◌≡◌, ◌&&◌, false}
 use Rattle.std.proofs.Common.{sym, ◌∙◌, length, refl}
-use Rattle.tsp_base.specs.declared.act.Act.TheVariants.{Ring, Late}
-use Rattle.tsp_base.specs.declared.alarm.Alarm.TheVariants.{Elect}
-use Rattle.tsp_base.specs.Hold.{may_stand}
-use Rattle.tsp_base.specs.Rows.{puts, either_by, ◌followed_by◌}
+use Rattle.tsp_rules.specs.Values.{Ring, Late, Elect}
+use Rattle.tsp_base.specs.Words.{may_stand, puts, either_by, ◌followed_by◌}
 use Rattle.tsp_base.proofs.PerformsLemmas.{Performs_then, Performs_then_part, Performs_else_part}
 use Rattle.tsp_rules.specs.CommonRows.{arms_elect, searches, candidature_row}
 use Rattle.tsp_rules.specs.SlaveRows.{elect_rings, loosens}

@@ -1,6 +1,6 @@
 -- The row's test is the code's.
-use Rattle.tsp_base.specs.declared.act.Act.TheVariants.{Ring, Late}
-use Rattle.tsp_base.specs.Rows.{puts}
+use Rattle.tsp_rules.specs.Values.{Ring, Late}
+use Rattle.tsp_base.specs.Words.{puts}
 use Rattle.tsp_base.proofs.PerformsLemmas.{Performs_then_part, Performs_else_part}
 use Rattle.tsp_rules.specs.SlaveRows.{rings_or_late}
 use Rattle.tsp_rules.specs.Guards.{is_in_time}

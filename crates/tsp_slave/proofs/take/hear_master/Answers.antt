@@ -1,8 +1,8 @@
 -- The row is by cases of the role.
 use Rattle.std.proofs.Common.{◌≡◌, ◌==◌, true, false, eq-eqb, ap, sym, ◌∙◌}
 use Rattle.std.proofs.lemmas.Bool.{ne_eqb}
-use Rattle.tsp_base.specs.declared.role.Role.TheVariants.{Loose, Follow}
-use Rattle.tsp_base.specs.PortFacts.{name_in}
+use Rattle.tsp_rules.specs.Values.{Loose, Follow}
+use Rattle.tsp_base.specs.Words.{name_in}
 use Rattle.tsp_base.proofs.PerformsLemmas.{Performs_then, Performs_reading, Performs_nothing}
 use Rattle.tsp_rules.specs.SlaveRows.{masterup_in}
 use Rattle.tsp_rules.specs.Guards.{role_at}

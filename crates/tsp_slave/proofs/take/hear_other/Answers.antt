@@ -1,9 +1,7 @@
 -- Each kind has its row.
 use Rattle.std.proofs.Common.{◌≡◌, if◌then◌else◌, [], false, true≢false, sym, ◌∙◌, ap}
-use Rattle.tsp_base.specs.declared.kind.Kind.TheVariants.{Ack, MasterAck, MasterUp, Election, Quit}
-use Rattle.tsp_base.specs.PortFacts.{name_in}
-use Rattle.tsp_base.specs.SendFacts.{is_correction}
-use Rattle.tsp_base.specs.Rows.{nothing, reading}
+use Rattle.tsp_rules.specs.Values.{Ack, Election, MasterAck, MasterUp, QuitKind}
+use Rattle.tsp_base.specs.Words.{name_in, is_correction, nothing, reading}
 use Rattle.tsp_base.proofs.PerformsLemmas.{Performs_nothing, Performs_same}
 use Rattle.tsp_rules.specs.SlaveRows.{masterack_in, masterup_in, slave_takes, slave_takes_kind}
 use Rattle.tsp_rules.specs.Guards.{role_at}
@@ -48,7 +46,7 @@ pub returns-in-Quit-clause-row : goal.returns-in-Quit-clause-row
 unfolding slave_takes slave_takes_kind
 returns-in-Quit-clause-row g c took e =
     let m = c.args.m.now in
-    let k : m.kind ≡ Quit = sym c.kind.ensures ∙ c.in-Quit.is in
+    let k : m.kind ≡ QuitKind = sym c.kind.ensures ∙ c.in-Quit.is in
     rw k (c.take_quit.ensures.row took (ap name_in e))
 
 pub returns-in-Ack-clause-row : goal.returns-in-Ack-clause-row

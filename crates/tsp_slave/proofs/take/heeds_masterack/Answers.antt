@@ -1,6 +1,6 @@
 -- By cases of the role.
 use Rattle.std.proofs.Common.{sym, ◌∙◌, ap}
-use Rattle.tsp_base.specs.Rows.{nothing, reading}
+use Rattle.tsp_base.specs.Words.{nothing, reading}
 use Rattle.tsp_rules.specs.SlaveRows.{masterack_in}
 use Rattle.tsp_rules.proofs.RowsOther.{masterack_in-other}
 use Rattle.tsp_slave.proofs.RowCases.{masterack_in-Loose, masterack_in-Follow}

@@ -1,7 +1,7 @@
 -- A correction, or another message.
 use Rattle.std.proofs.Common.{◌≡◌, ◌⊎◌, sym, ◌∙◌, ap, false, refl}
-use Rattle.tsp_base.specs.declared.kind.Kind.TheVariants.{AdjTime, SetTime}
-use Rattle.tsp_base.specs.SendFacts.{is_correction}
+use Rattle.tsp_rules.specs.Values.{AdjTime, SetTime}
+use Rattle.tsp_base.specs.Words.{is_correction}
 use Rattle.tsp_rules.proofs.Emits.{Emits_more}
 use Rattle.tsp_rules.proofs.EmitsSlave.{emits_slave_other, slave_sorts}
 use Rattle.tsp_rules.specs.SlaveRows.{slave_takes}

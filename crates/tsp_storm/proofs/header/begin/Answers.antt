@@ -1,6 +1,6 @@
 -- Each line joins the header, as long as there is memory.
 use Rattle.std.proofs.Common.{◌≡◌, ◌∙◌, ap, arith, length, subst, add-one, ◌<◌, ◌≤◌, ℕ, [], false, Err}
-use Rattle.tsp_base.specs.Headers.{HeaderValue, Pushes}
+use Rattle.tsp_base.specs.Words.{HeaderValue, Pushes}
 use Rattle.tsp_script.specs.Storms.{StormValue, storm_named}
 use Rattle.tsp_storm.specs.Schedules.{after_lines, lines_of, generator_of}
 use Rattle.tsp_storm.proofs.Heads.{joins_header, header_more}

@@ -1,9 +1,9 @@
 -- A chosen event is the one that its choice gives.
 use Rattle.std.proofs.Common.{◌≡◌, ◌∙◌, ℕ, ap, sym, subst}
 use Rattle.std.specs.Prelude.{MatchResult}
-use Rattle.tsp_base.specs.declared.event.Event.{Event}
+use Rattle.tsp_rules.specs.Values.{Event}
+use Rattle.tsp_base.specs.Words.{event_in}
 use Rattle.tsp_script.specs.declared.storm.Draw.TheVariants.{Event as Gives, Ask}
-use Rattle.tsp_base.specs.Plains.{event_in}
 use Rattle.tsp_script.specs.Storms.{draw_of, request_event}
 use Rattle.tsp_world.specs.WorldStands.{Occurs, Declines}
 use Rattle.tsp_storm.proofs.making.occur.Goals as goal

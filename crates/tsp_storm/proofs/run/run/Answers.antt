@@ -1,7 +1,7 @@
 -- Each event more adds its acts, and the whole schedule its summary.
 use Rattle.std.proofs.Common.{◌≡◌, ℕ, ◌∙◌, ◌+◌, ap, arith, subst, add-one, suc}
 use Rattle.tsp_storm.specs.Schedules.{header_of, events_of}
-use Rattle.tsp_storm.specs.Summaries.{Counted}
+use Rattle.tsp_storm.specs.Summaries.{CountsLines}
 use Rattle.tsp_storm.proofs.Tallies.{counted_more, sums_up}
 use Rattle.tsp_storm.proofs.run.run.Goals as goal
 use Rattle.tsp_run.specs.Run.{told, gained}
@@ -27,4 +27,4 @@ pub returns : goal.returns
 returns c =
     let s = c.args.words.now in
     let all : c.loop.counter ≡ s.events = (let low = c.loop-test.false in let high = c.loop.auto.counter-end in omega (arith, low, high)) in
-    sums_up s c.loop.making c.posted.result c.loop.counts c.loop.invariant.stands (c.loop.invariant.given ∙ all) c.posted.ensures (subst (λ n. Counted (told (header_of s) (events_of s n)) c.loop.counts) all c.loop.invariant.counted)
+    sums_up s c.loop.making c.posted.result c.loop.counts c.loop.invariant.stands (c.loop.invariant.given ∙ all) c.posted.ensures (subst (λ n. CountsLines (told (header_of s) (events_of s n)) c.loop.counts) all c.loop.invariant.counted)

@@ -2,7 +2,7 @@
 use Rattle.std.proofs.Common.{◌≡◌, ◌≤◌, ◌*◌, ◌^◌}
 use Rattle.tsp_storm.specs.Makings.{MakingStands}
 use Rattle.tsp_storm.specs.Schedules.{header_of, events_of}
-use Rattle.tsp_storm.specs.Summaries.{Counted}
+use Rattle.tsp_storm.specs.Summaries.{CountsLines}
 use Rattle.tsp_run.specs.Run.{told}
 use Rattle.tsp_storm.proofs.run.run.Given as goal
 
@@ -10,7 +10,7 @@ abbrev pub invariant-loop : goal.invariant-loop
 invariant-loop l = record {
   stands : MakingStands l.words l.making;
   given : l.making.storm.given ≡ l.counter;
-  counted : Counted (told (header_of l.words) (events_of l.words l.counter)) l.counts;
+  counted : CountsLines (told (header_of l.words) (events_of l.words l.counter)) l.counts;
   few_took : l.counts.took ≤ l.counter * 2 ^ 64;
   few_corrects : l.counts.corrects ≤ l.counter * 2 ^ 64;
   few_masters : l.counts.masters ≤ l.counter * 2 ^ 64;

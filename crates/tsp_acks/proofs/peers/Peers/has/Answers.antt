@@ -1,8 +1,8 @@
 -- The peers ascend, so a binary search finds whoever is among them.
 use Rattle.std.proofs.Common.{◌≡◌, rules, ◌∙◌, ap}
 use Rattle.std.proofs.lemmas.List.Sorted.{answers_always}
-use Rattle.tsp_base.specs.declared.place.PeerId.{PeerId}
-use Rattle.tsp_base.specs.Peers.{is_among, IsAscending}
+use Rattle.tsp_rules.specs.Values.{PeerId}
+use Rattle.tsp_base.specs.Words.{is_among, IsAscending}
 use Rattle.tsp_acks.proofs.PeerLemmas.{is_among-searched}
 use Rattle.tsp_acks.proofs.peers.Peers.has.Goals as goal
 

@@ -1,6 +1,6 @@
 -- The delay is that of the past's word.
-use Rattle.tsp_base.specs.declared.alarm.Alarm.TheVariants.{Elect}
-use Rattle.tsp_base.specs.Rows.{arms}
+use Rattle.tsp_rules.specs.Values.{Elect}
+use Rattle.tsp_base.specs.Words.{arms}
 use Rattle.tsp_base.proofs.PerformsLemmas.{Performs_reading}
 use Rattle.tsp_rules.specs.CommonRows.{arms_elect}
 use Rattle.tsp_rules.specs.Guards.{delay_at}

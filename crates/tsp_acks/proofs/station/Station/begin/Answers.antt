@@ -2,7 +2,7 @@
 use Rattle.std.specs.Prelude.{◌+◌, ◌%◌}
 use Rattle.std.proofs.Common.{◌∙◌, ap}
 use Rattle.tsp_rules.specs.SendRows.{begins}
-use Rattle.tsp_base.specs.SendFacts.{has_own_number, is_numbered}
+use Rattle.tsp_base.specs.Words.{has_own_number, is_numbered}
 use Rattle.tsp_acks.proofs.SendingLemmas.{begins-is, is_bare_send-fits, is_bare_send-own, Performs_opened}
 use Rattle.tsp_acks.proofs.station.Station.begin.Goals as goal
 

@@ -1,7 +1,6 @@
 -- A correction begins a send.
 use Rattle.std.proofs.Common.{◌∙◌, ap}
-use Rattle.tsp_base.specs.Rows.{posts_time}
-use Rattle.tsp_base.specs.SendFacts.{has_own_number, is_numbered}
+use Rattle.tsp_base.specs.Words.{posts_time, has_own_number, is_numbered}
 use Rattle.tsp_acks.proofs.SendingLemmas.{is_correction-fits, is_correction-other, posts_time-is, Performs_opened}
 use Rattle.tsp_acks.proofs.station.Station.begin_correction.Goals as goal
 

@@ -3,9 +3,8 @@ use Rattle.std.specs.Prelude.{◌≡◌, suc, ◌+◌, ◌∷◌, [], ◌++◌, 
 use Rattle.std.proofs.Common.{sym, ◌∙◌, ap, subst, arith}
 use Rattle.std.proofs.Math.Seq.{take-suc}
 use Rattle.std.proofs.lemmas.List.{take_all}
-use Rattle.tsp_base.specs.declared.place.PeerId.{PeerId}
-use Rattle.tsp_base.specs.Performs.{Performs}
-use Rattle.tsp_base.specs.Rows.{for_each, others}
+use Rattle.tsp_rules.specs.Values.{PeerId}
+use Rattle.tsp_base.specs.Words.{Performs, for_each, others}
 use Rattle.tsp_base.proofs.PerformsLemmas.{Performs_nothing, Performs_reading}
 use Rattle.tsp_base.proofs.RowLemmas.{others-own}
 use Rattle.tsp_rules.specs.SendRows.{begins, begins_to_others, others_at}

@@ -1,8 +1,6 @@
 -- A send to each of the peers so far but the own one has begun.
 use Rattle.std.specs.Prelude.{take}
-use Rattle.tsp_base.specs.Frames.{PutsAtMost}
-use Rattle.tsp_base.specs.Performs.{Performs}
-use Rattle.tsp_base.specs.Rows.{for_each, others}
+use Rattle.tsp_base.specs.Words.{PutsAtMost, Performs, for_each, others}
 use Rattle.tsp_rules.specs.SendRows.{begins}
 use Rattle.tsp_acks.specs.Changes.{ChangesSends}
 use Rattle.tsp_acks.specs.Stands.{StandsActing}

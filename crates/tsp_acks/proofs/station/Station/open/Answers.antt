@@ -1,8 +1,6 @@
 -- A copy of the message is posted, and the message itself is kept.
 use Rattle.std.proofs.Common.{[], ◌∷◌, ◌++◌, ◌∙◌, ap, refl}
-use Rattle.tsp_base.specs.declared.act.Act.TheVariants.{Post}
-use Rattle.tsp_base.specs.declared.datagram.Datagram.TheVariants.{Message}
-use Rattle.tsp_base.specs.declared.place.Place.TheVariants.{Peer}
+use Rattle.tsp_rules.specs.Values.{Post, Message, Peer}
 use Rattle.tsp_base.proofs.FrameLemmas.{PutsExactly_put}
 use Rattle.tsp_acks.proofs.station.Station.open.Goals as goal
 

@@ -1,8 +1,6 @@
 -- One post, which changes nothing of the station.
 use Rattle.std.proofs.Common.{[], ◌∷◌, ◌++◌, ◌∙◌, ap}
-use Rattle.tsp_base.specs.declared.act.Act.TheVariants.{Post}
-use Rattle.tsp_base.specs.declared.datagram.Datagram.TheVariants.{Message}
-use Rattle.tsp_base.specs.declared.place.Place.TheVariants.{Peer}
+use Rattle.tsp_rules.specs.Values.{Post, Message, Peer}
 use Rattle.tsp_base.proofs.FrameLemmas.{PutsExactly_put}
 use Rattle.tsp_acks.proofs.PostLemmas.{is_plain_fits}
 use Rattle.tsp_acks.proofs.PostedLemmas.{named, Performs_post}

@@ -1,7 +1,6 @@
 -- The peers so far but the own one were posted to.
 use Rattle.std.specs.Prelude.{◌≡◌, ◌++◌, map, take}
-use Rattle.tsp_base.specs.Frames.{PutsAtMost}
-use Rattle.tsp_base.specs.Rows.{post_of, others, placed}
+use Rattle.tsp_base.specs.Words.{PutsAtMost, post_of, others, placed}
 use Rattle.tsp_acks.proofs.station.Station.post_to_others.Given as goal
 
 abbrev pub invariant-loop-p : goal.invariant-loop-p

@@ -2,11 +2,10 @@ use Rattle.std.proofs.Common.{◌≡◌, ◌<◌, ◌≤◌, ◌+◌, ◌∷◌,
 use Rattle.std.proofs.lemmas.List.{take_all}
 use Rattle.tsp_promises.specs.Agreed.{Agreed, AgreedAt}
 use Rattle.tsp_promises.specs.Fits.{node_of}
-use Rattle.tsp_base.specs.History.{Line}
+use Rattle.tsp_base.specs.Words.{Line, HeaderValue}
 use Rattle.tsp_promises.proofs.EverywhereLemmas.{Everywhere-within}
 use Rattle.tsp_history.specs.declared.line.HistoryLine.{HistoryLine}
 use Rattle.tsp_history.specs.Histories.{line_of, history_of}
-use Rattle.tsp_base.specs.Headers.{HeaderValue}
 use Rattle.tsp_audit.specs.declared.round_correction.NodeState.{NodeState}
 use Rattle.tsp_audit.specs.Agreeing.{AccordIs, AllAgree, AllBounded, Numbered}
 use Rattle.tsp_audit.proofs.Prefixes.{at-line, one-more}

@@ -1,6 +1,6 @@
 use Rattle.std.proofs.Common.{◌≡◌, ◌+◌, ◌∷◌, ◌++◌, ◌∙◌, [], ℤ, List, rules, arith, sym, ap, subst, get_or, take, to_z, of_z}
 use Rattle.std.specs.Int.{w128}
-use Rattle.tsp_base.specs.History.{Line}
+use Rattle.tsp_base.specs.Words.{Line}
 use Rattle.tsp_audit.specs.Agreeing.{AccordIs, TripsTell}
 use Rattle.tsp_audit.specs.declared.agreement_tracker.AgreementTracker.{AgreementTracker}
 use Rattle.tsp_audit.proofs.AccordSteps.{accord-next}

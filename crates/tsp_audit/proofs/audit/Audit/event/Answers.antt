@@ -2,12 +2,12 @@ use Rattle.std.proofs.Common.{◌≡◌, ◌≤◌, ◌+◌, ◌-◌, ◌∙◌,
 use Rattle.tsp_audit.specs.declared.premises.Premises.{Premises}
 use Rattle.tsp_audit.specs.declared.verdict.Verdict.{Verdict}
 use Rattle.tsp_audit.specs.Looking.{Finds, Grown}
-use Rattle.tsp_audit.specs.Notes.{HasRoom, NotesStand}
+use Rattle.tsp_audit.specs.Notes.{HasLineRoom, NotesStand}
 use Rattle.tsp_audit.specs.Verdicts.{IsVerdict}
 use Rattle.tsp_audit.proofs.EventLemmas.{acts-length, audit-refused, audit-with, found-more, grown-claims, longer-claims, notes-later, verdict-is}
 use Rattle.tsp_audit.proofs.NoteLemmas.{room-less}
-use Rattle.tsp_base.specs.Headers.{HeaderValue}
-use Rattle.tsp_base.specs.History.{Line}
+use Rattle.tsp_rules.specs.Values.{Line2}
+use Rattle.tsp_base.specs.Words.{HeaderValue, Line}
 use Rattle.tsp_claims.specs.ClaimedHistory.{Claim, claimed}
 use Rattle.tsp_claims.specs.Fitting.{Fit, acts_of}
 use Rattle.tsp_claims.specs.Listed.{NamesNode}
@@ -15,7 +15,6 @@ use Rattle.tsp_claims.specs.Stands.{ClaimsStand, claim_of}
 use Rattle.tsp_history.specs.declared.line.HistoryLine.{HistoryLine}
 use Rattle.tsp_history.specs.Histories.{history_of}
 use Rattle.tsp_history.proofs.NoteLemmas.{length-history}
-use Rattle.tsp_base.specs.declared.trace.Line2.{Line2}
 use Rattle.tsp_audit.proofs.audit.Audit.event.Goals as goal
 
 pub returns-in-Some : goal.returns-in-Some
@@ -48,11 +47,11 @@ returns-in-Ok c premises header claims stands =
     let names : NamesNode count c.args.e.now = subst (λ (k : HeaderValue). NamesNode (length k.nodes) c.args.e.now) stands.claims_stand.header_is c.requires.node in
     let g : Grown count h (claimed header (claim ∷ claims)) (length h) = grown-claims header claims claim c.requires.time stands.timely (names, stands.named) in
     let grown : Grown count h (claimed header (claim ∷ claims)) (length ns) = record { within = g.within; long = begins; timely = g.timely; numbered = g.numbered } in
-    let spare : HasRoom (length acts + 1) c.make_room.new.self = search rules in
+    let spare : HasLineRoom (length acts + 1) c.make_room.new.self = search rules in
     let many : length (acts_of acts) ≡ length acts = acts-length acts in
     let longer : length (claimed header (claim ∷ claims)) ≤ length h + (length (acts_of acts) + 1) = longer-claims header claims claim in
     let less : length (claimed header (claim ∷ claims)) - length ns ≤ length acts + 1 = omega (arith, many, longer, begins) in
-    let room : HasRoom (length (claimed header (claim ∷ claims)) - length ns) c.make_room.new.self = room-less (length (claimed header (claim ∷ claims)) - length ns) (length acts + 1) c.make_room.new.self less spare in
+    let room : HasLineRoom (length (claimed header (claim ∷ claims)) - length ns) c.make_room.new.self = room-less (length (claimed header (claim ∷ claims)) - length ns) (length acts + 1) c.make_room.new.self less spare in
     let finds : Finds premises header (claim ∷ claims) h c.args.self.now.failed c.find-self.new.notes c.find-self.result =
     subst (λ (p : Premises). Finds p header (claim ∷ claims) h c.args.self.now.failed c.find-self.new.notes c.find-self.result) stands.premises_are
     (c.find-self.ensures header (claim ∷ claims) h taken.1 grown room (λ none. c.make_room.ensures.stand c.args.self.now.premises count h (subst (λ (p : Premises). NotesStand p count h c.args.self.now.notes) (sym stands.premises_are) (stands.notes none)))) in (

@@ -1,7 +1,7 @@
 use Rattle.std.proofs.Common.{◌≡◌, List, [], length, refl, subst}
 use Rattle.tsp_audit.specs.Notes.{NotesStand}
 use Rattle.tsp_audit.proofs.EventLemmas.{holds-none}
-use Rattle.tsp_base.specs.declared.header.NodeLine.{NodeLine}
+use Rattle.tsp_rules.specs.Values.{NodeLine}
 use Rattle.tsp_audit.proofs.audit.Audit.new.Goals as goal
 
 pub returns-in-Ok : goal.returns-in-Ok

@@ -3,8 +3,8 @@ use Rattle.std.proofs.Common.{◌≡◌, ◌∙◌, List, [], ap, length, refl, 
 use Rattle.tsp_audit.specs.Notes.{NotesStand}
 use Rattle.tsp_audit.specs.Verdicts.{Looked}
 use Rattle.tsp_audit.proofs.ThroughLemmas.{dated-named, dated-timely}
-use Rattle.tsp_base.specs.declared.header.NodeLine.{NodeLine}
-use Rattle.tsp_base.specs.Headers.{HeaderValue}
+use Rattle.tsp_rules.specs.Values.{NodeLine}
+use Rattle.tsp_base.specs.Words.{HeaderValue}
 use Rattle.tsp_audit.proofs.audit.Audit.of.Goals as goal
 
 pub returns : goal.returns

@@ -4,7 +4,7 @@ use Rattle.std.specs.Prelude.{List}
 use Rattle.tsp_audit.specs.Ends.{EndsAt}
 use Rattle.tsp_audit.specs.Verdicts.{AuditStands}
 use Rattle.tsp_audit_command.specs.ClaimReaders.{ClaimingValue}
-use Rattle.tsp_audit_command.specs.Readings.{Judges}
+use Rattle.tsp_audit_command.specs.Readings.{GivesVerdict}
 use Rattle.tsp_audit_command.specs.Sound.{claims_on}
 use Rattle.tsp_claims.specs.ClaimedHistory.{Claim}
 use Rattle.tsp_audit_command.proofs.claim_reader.ClaimReader.judge.Goals as goal
@@ -16,5 +16,5 @@ returns c =
     let passed : List Claim = claims_on i.events.items i.ends.items i.claims in
     let ends : EndsAt i.claims.header passed c.as_slice.result.now = subst (λ (t : List ℕ). EndsAt i.claims.header passed t) (sym c.as_slice.ensures.value) s.ends_at in
     let audit : AuditStands i.premises i.claims.header passed c.in_ok-audit.audit = c.in_ok-audit.ensures i.claims.header passed s.stand s.dated ends in
-    let found : Judges i.claims.header passed c.failure.result = c.failure.ensures _ i.claims.header passed (subst (λ p. AuditStands p i.claims.header passed c.in_ok-audit.audit) s.premises_are audit) in
-    subst (λ (v : ClaimingValue). Judges v.header v.passed c.failure.result) c.self.view_is found
+    let found : GivesVerdict i.claims.header passed c.failure.result = c.failure.ensures _ i.claims.header passed (subst (λ p. AuditStands p i.claims.header passed c.in_ok-audit.audit) s.premises_are audit) in
+    subst (λ (v : ClaimingValue). GivesVerdict v.header v.passed c.failure.result) c.self.view_is found

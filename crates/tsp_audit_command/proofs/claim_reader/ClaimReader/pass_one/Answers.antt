@@ -4,7 +4,7 @@ use Rattle.std.specs.Prelude.{List, ℕ, length, take, reverse, [], ◌∷◌, �
 use Rattle.std.specs.List.{slice_get}
 use Rattle.std.proofs.lemmas.Option.{slice_get_within}
 use Rattle.tsp_audit.specs.Premised.{kept_with}
-use Rattle.tsp_base.specs.History.{Line}
+use Rattle.tsp_base.specs.Words.{Line}
 use Rattle.tsp_audit_command.specs.ClaimReaders.{pass_one}
 use Rattle.tsp_audit_command.specs.Sound.{Sound, claims_on}
 use Rattle.tsp_claims.specs.ClaimedHistory.{claimed, posts_of}

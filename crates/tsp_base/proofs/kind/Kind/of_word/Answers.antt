@@ -1,5 +1,5 @@
 use Rattle.std.proofs.Common.{◌-◌, ◌∙◌, sym, ap, arith}
-use Rattle.tsp_base.specs.Kinds.{kind_word, kind_number}
+use Rattle.tsp_base.specs.Words.{kind_word, kind_number}
 use Rattle.tsp_base.proofs.KindLemmas.{at_place, place_in_range}
 use Rattle.tsp_base.proofs.kind.Kind.of_word.Goals as goal
 

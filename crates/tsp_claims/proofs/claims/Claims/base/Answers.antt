@@ -2,9 +2,7 @@
 use Rattle.std.proofs.Common.{◌≡◌, ◌∙◌, ◌+ℤ◌, ap, rules, to_z, of_z, ℤ}
 use Rattle.std.specs.Int.{w64, w128}
 use Rattle.tsp_base.specs.declared.header.NodeLine.{NodeLine}
-use Rattle.tsp_base.specs.Headers.{HeaderValue}
-use Rattle.tsp_base.specs.History.{dids, of}
-use Rattle.tsp_base.specs.NodeFacts.{moved}
+use Rattle.tsp_base.specs.Words.{HeaderValue, dids, of, moved}
 use Rattle.tsp_claims.specs.ClaimedHistory.{claimed}
 use Rattle.tsp_claims.proofs.claims.Claims.base.Goals as goal
 use Rattle.tsp_history.specs.Histories.{history_of}

@@ -1,6 +1,6 @@
 -- The step that the values are, if there is one.
 use Rattle.std.proofs.Common.{◌+◌, ◌↔◌, Option, false, None, IsTrue, sym, subst, rules}
-use Rattle.tsp_base.specs.History.{Step}
+use Rattle.tsp_base.specs.Words.{Step}
 use Rattle.tsp_claims.specs.ClaimedHistory.{step_at}
 use Rattle.tsp_claims.specs.Fitting.{LineFitsIn}
 use Rattle.tsp_claims.specs.Listed.{up_in}

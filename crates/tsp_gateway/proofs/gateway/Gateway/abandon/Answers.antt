@@ -1,8 +1,7 @@
 -- What the port does is what the node does.
 use Rattle.std.proofs.Common.{◌≡◌, [], true, false, Bool, if◌then◌else◌, ◌∷◌, refl, arith}
-use Rattle.tsp_base.specs.declared.act.Act.TheVariants.{Abandon}
-use Rattle.tsp_base.specs.declared.place.Port.{Port}
-use Rattle.tsp_base.specs.Rows.{either_by, nothing, placed, puts}
+use Rattle.tsp_rules.specs.Values.{Abandon, Port}
+use Rattle.tsp_base.specs.Words.{either_by, nothing, placed, puts}
 use Rattle.tsp_rules.specs.NodeRows.{abandons_on, on}
 use Rattle.tsp_rules.specs.RoundRows.{abandons, abandons_going}
 use Rattle.tsp_rules.proofs.Emits.{Emits_more, Rounding}

@@ -1,7 +1,7 @@
 -- What is left to perform are the rows of the ports that are still to come.
 use Rattle.std.specs.Prelude.{◌≡◌, ℕ, List, length}
-use Rattle.tsp_base.specs.declared.act.Placed.{Placed}
-use Rattle.tsp_base.specs.Frames.{PutsAtMost}
+use Rattle.tsp_rules.specs.Values.{Placed}
+use Rattle.tsp_base.specs.Words.{PutsAtMost}
 use Rattle.tsp_rules.specs.NodePerforms.{PerformsAll}
 use Rattle.tsp_rules.specs.NodeRows.{abandons_on, for_ports}
 use Rattle.tsp_gateway.specs.declared.gateway.Gateway.{Gateway}

@@ -1,10 +1,7 @@
 -- What the port does is what the node does.
 use Rattle.std.proofs.Common.{refl, arith}
-use Rattle.tsp_base.specs.declared.act.Act.TheVariants.{Become}
-use Rattle.tsp_base.specs.declared.alarm.Alarm.TheVariants.{Quiet}
-use Rattle.tsp_base.specs.declared.constants.TheConstants.{QUIET}
-use Rattle.tsp_base.specs.declared.role.Role.TheVariants.{Starting}
-use Rattle.tsp_base.specs.Rows.{arms, puts}
+use Rattle.tsp_rules.specs.Values.{Become, Quiet, Starting, QUIET}
+use Rattle.tsp_base.specs.Words.{arms, puts}
 use Rattle.tsp_rules.specs.GateRows.{boots_on}
 use Rattle.tsp_rules.proofs.Emits.{Emits_arms, Emits_puts, Emits_then}
 use Rattle.tsp_gateway.proofs.LiftLemmas.{All_here, part_there}

@@ -1,7 +1,7 @@
 -- What is left to perform are the rows of the ports that are still to come.
 use Rattle.std.specs.Prelude.{◌≡◌, ◌*◌, List, length, true}
-use Rattle.tsp_base.specs.declared.act.Placed.{Placed}
-use Rattle.tsp_base.specs.Frames.{PutsAtMost}
+use Rattle.tsp_rules.specs.Values.{Placed}
+use Rattle.tsp_base.specs.Words.{PutsAtMost}
 use Rattle.tsp_rules.specs.GateRows.{boots_on}
 use Rattle.tsp_rules.specs.NodePerforms.{PerformsAll}
 use Rattle.tsp_rules.specs.NodeRows.{for_ports}

@@ -1,7 +1,7 @@
 -- The boot, and then how a life begins on each port.
 use Rattle.std.proofs.Common.{◌≡◌, ◌∙◌, ap, arith, length, of_z, to_z, to_z-of_z, w64}
 use Rattle.std.proofs.lemmas.List.{length-append, length-map}
-use Rattle.tsp_base.specs.Rows.{puts}
+use Rattle.tsp_base.specs.Words.{puts}
 use Rattle.tsp_rules.specs.GateRows.{boots_all}
 use Rattle.tsp_rules.specs.NodeRows.{on}
 use Rattle.tsp_rules.proofs.NodeRowLemmas.{All_then}

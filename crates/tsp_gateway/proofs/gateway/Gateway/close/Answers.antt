@@ -1,6 +1,6 @@
 -- What the port does, and what it stirs where it has corrected.
 use Rattle.std.proofs.Common.{ap, length, ◌∙◌, false, refl, sym, arith}
-use Rattle.tsp_base.specs.declared.alarm.Alarm.TheVariants.{Close}
+use Rattle.tsp_rules.specs.Values.{CloseAlarm}
 use Rattle.tsp_rules.specs.Answers.{rings}
 use Rattle.tsp_rules.specs.GateRows.{alarm_on, closes_on, leads_clock}
 use Rattle.tsp_rules.specs.NodeRows.{on_port}
@@ -21,7 +21,7 @@ returns-then-ring-clause-row g c =
     let own = c.leads_clock-own.result in
     let there = part_there c.args.self.now q c.index_mut.result.now c.requires.port c.index_mut.ensures.value in
     All_reading (leads_clock (port_at q)) (closes_on (port_at q)) own (λ past h. sym (c.leads_clock-own.ensures c.args.tick past h.stands))
-    (All_upset c.ring.new.self (rings own false Close) (emits_rings own false Close) (λ past w. sym (c.ring.ensures.corrects (on_port (port_at q) past) (untaken_there _ q past c.args.self.now c.index_mut.result.now there w)) ∙ c.if-ring.true)
+    (All_upset c.ring.new.self (rings own false CloseAlarm) (emits_rings own false CloseAlarm) (λ past w. sym (c.ring.ensures.corrects (on_port (port_at q) past) (untaken_there _ q past c.args.self.now c.index_mut.result.now there w)) ∙ c.if-ring.true)
     there refl refl (rw c.port_at.ensures at c.ring.ensures.row) (c.upset.ensures.row c.args.tick))
 
 pub returns-else-ring-clause-row : goal.returns-else-ring-clause-row
@@ -31,7 +31,7 @@ returns-else-ring-clause-row g c =
     let own = c.leads_clock-own.result in
     let there = part_there c.args.self.now q c.index_mut.result.now c.requires.port c.index_mut.ensures.value in
     All_reading (leads_clock (port_at q)) (closes_on (port_at q)) own (λ past h. sym (c.leads_clock-own.ensures c.args.tick past h.stands))
-    (All_calm c.ring.new.self (rings own false Close) (emits_rings own false Close) (λ past w. sym (c.ring.ensures.corrects (on_port (port_at q) past) (untaken_there _ q past c.args.self.now c.index_mut.result.now there w)) ∙ c.if-ring.false)
+    (All_calm c.ring.new.self (rings own false CloseAlarm) (emits_rings own false CloseAlarm) (λ past w. sym (c.ring.ensures.corrects (on_port (port_at q) past) (untaken_there _ q past c.args.self.now c.index_mut.result.now there w)) ∙ c.if-ring.false)
     there refl refl (rw c.port_at.ensures at c.ring.ensures.row))
 
 pub ring-requires-clause-room : goal.ring-requires-clause-room

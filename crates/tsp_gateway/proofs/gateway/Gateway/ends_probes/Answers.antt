@@ -1,7 +1,7 @@
 -- The station says it.
 use Rattle.std.proofs.Common.{◌≡◌, ◌∙◌, ap, false, length, rules, sym, true, vec_len}
 use Rattle.std.specs.Prelude.{◌&&◌, is_some, nat_le, not}
-use Rattle.tsp_base.specs.Alarms.{Deadlines}
+use Rattle.tsp_base.specs.Words.{Deadlines}
 use Rattle.tsp_rules.specs.GateRows.{is_last_probe}
 use Rattle.tsp_rules.specs.NodeRows.{on_port}
 use Rattle.tsp_gateway.specs.GatewayStands.{port_at}

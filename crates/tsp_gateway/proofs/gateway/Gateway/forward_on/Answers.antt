@@ -1,7 +1,7 @@
 -- A post to each other peer, where the port is awake.
 use Rattle.std.proofs.Common.{◌≡◌, ◌∙◌, ap, arith, false, refl, sym, true}
 use Rattle.std.specs.Prelude.{not}
-use Rattle.tsp_base.specs.declared.role.Role.{Role}
+use Rattle.tsp_rules.specs.Values.{Role}
 use Rattle.tsp_rules.specs.GateRows.{is_awake_on, reposts, reposts_on}
 use Rattle.tsp_rules.specs.Guards.{is_starting_role}
 use Rattle.tsp_gateway.specs.GatewayStands.{port_at}

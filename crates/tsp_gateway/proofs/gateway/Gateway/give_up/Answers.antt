@@ -1,9 +1,7 @@
 -- What the port does is what the node does.
 use Rattle.std.proofs.Common.{refl, arith}
-use Rattle.tsp_base.specs.declared.act.Act.TheVariants.{Become}
-use Rattle.tsp_base.specs.declared.alarm.Alarm.TheVariants.{Elect}
-use Rattle.tsp_base.specs.declared.role.Role.TheVariants.{Loose}
-use Rattle.tsp_base.specs.Rows.{arms, nothing, puts}
+use Rattle.tsp_rules.specs.Values.{Become, Elect, Loose}
+use Rattle.tsp_base.specs.Words.{arms, nothing, puts}
 use Rattle.tsp_rules.specs.CandidateRows.{yields}
 use Rattle.tsp_rules.specs.CommonRows.{arms_elect}
 use Rattle.tsp_rules.specs.GateRows.{loosens_master}

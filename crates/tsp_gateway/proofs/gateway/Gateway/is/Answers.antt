@@ -1,7 +1,7 @@
 -- The station says it.
 use Rattle.std.proofs.Common.{ap, ◌∙◌}
 use Rattle.std.specs.Option.{is_some}
-use Rattle.tsp_base.specs.Alarms.{Deadlines}
+use Rattle.tsp_base.specs.Words.{Deadlines}
 use Rattle.tsp_rules.specs.Guards.{is_follow, is_master}
 use Rattle.tsp_gateway.proofs.AnyLemmas.{station_there}
 use Rattle.tsp_gateway.proofs.gateway.Gateway.is.Goals as goal

@@ -1,8 +1,8 @@
 -- What was taken leaves all ports as they are.
 use Rattle.std.proofs.Common.{ap, arith, length, refl, ◌∙◌}
 use Rattle.std.proofs.lemmas.List.{length-append}
-use Rattle.tsp_base.specs.declared.act.Act.TheVariants.{Took}
-use Rattle.tsp_base.specs.Rows.{puts}
+use Rattle.tsp_rules.specs.Values.{Took}
+use Rattle.tsp_base.specs.Words.{puts}
 use Rattle.tsp_rules.proofs.Emits.{Emits_puts}
 use Rattle.tsp_node.specs.NodeStands.{TakeStands, port_with}
 use Rattle.tsp_node.proofs.NodeLemmas.{PortTook_took, Performs_put}

@@ -1,6 +1,6 @@
 -- The place is one of the node's ports.
 use Rattle.std.proofs.Common.{ap, arith}
-use Rattle.tsp_base.specs.declared.place.Port.{Port}
+use Rattle.tsp_rules.specs.Values.{Port}
 use Rattle.tsp_gateway.proofs.PlaceLemmas.{places}
 use Rattle.tsp_gateway.proofs.gateway.Gateway.place_of.Goals as goal
 

@@ -1,6 +1,6 @@
 -- The Probe, and the LOOPs after the last one.
 use Rattle.std.proofs.Common.{◌+◌, ◌∙◌, arith, false, refl, sym, true, ap}
-use Rattle.tsp_base.specs.declared.alarm.Alarm.TheVariants.{Probe}
+use Rattle.tsp_rules.specs.Values.{Probe}
 use Rattle.tsp_rules.specs.Answers.{rings}
 use Rattle.tsp_rules.specs.GateRows.{alarm_on}
 use Rattle.tsp_rules.specs.NodeRows.{on, spread}

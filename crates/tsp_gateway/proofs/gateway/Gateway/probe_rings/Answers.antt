@@ -1,7 +1,7 @@
 -- The station says it.
 use Rattle.std.proofs.Common.{◌≡◌, ◌∙◌, ap, false, sym, true}
-use Rattle.tsp_base.specs.declared.alarm.Alarm.TheVariants.{Probe}
-use Rattle.tsp_base.specs.Alarms.{Deadlines}
+use Rattle.tsp_rules.specs.Values.{Probe}
+use Rattle.tsp_base.specs.Words.{Deadlines}
 use Rattle.tsp_rules.specs.NodeRows.{on_port}
 use Rattle.tsp_rules.specs.Guards.{is_due, is_met, is_over}
 use Rattle.tsp_gateway.specs.GatewayStands.{port_at}

@@ -1,6 +1,6 @@
 -- Each alarm has its call.
 use Rattle.std.proofs.Common.{◌≡◌, ◌∙◌, arith, sym}
-use Rattle.tsp_base.specs.declared.alarm.Alarm.TheVariants.{Close, Probe, Round}
+use Rattle.tsp_rules.specs.Values.{Round, Probe, CloseAlarm}
 use Rattle.tsp_rules.specs.GateRows.{alarm_on, begins_round_on, waits}
 use Rattle.tsp_gateway.specs.GatewayStands.{port_at}
 use Rattle.tsp_gateway.specs.Rooms.{peers_at, ports_in}
@@ -55,7 +55,7 @@ pub returns-in-Close-clause-row : goal.returns-in-Close-clause-row
 returns-in-Close-clause-row g c = rw c.in-Close.is c.close.ensures.row
 
 pub returns-in-Close-clause-over : goal.returns-in-Close-clause-over
-returns-in-Close-clause-over g c = λ e. let same : Close ≡ Probe = sym c.in-Close.is ∙ e in let bad : ⊥ = cc in absurd bad
+returns-in-Close-clause-over g c = λ e. let same : CloseAlarm ≡ Probe = sym c.in-Close.is ∙ e in let bad : ⊥ = cc in absurd bad
 
 pub returns-in-Close-clause-ports : goal.returns-in-Close-clause-ports
 returns-in-Close-clause-ports g c = c.close.ensures.ports
@@ -96,7 +96,7 @@ returns-in_default g c =
     }
 
 pub ring-requires-clause-alarm : goal.ring-requires-clause-alarm
-ring-requires-clause-alarm g c = λ e. let same : Round ≡ Close = sym c.in-Round.is ∙ e in let bad : ⊥ = cc in bad
+ring-requires-clause-alarm g c = λ e. let same : Round ≡ CloseAlarm = sym c.in-Round.is ∙ e in let bad : ⊥ = cc in bad
 
 pub returns-in-Round-clause-over : goal.returns-in-Round-clause-over
 returns-in-Round-clause-over g c = c.ring.ensures.over

@@ -1,8 +1,7 @@
 -- One alarm after the other.
 use Rattle.std.proofs.Common.{◌≡◌, ◌+◌, ◌≤◌, arith, refl, ◌∙◌, ap, drop, take, []}
 use Rattle.std.specs.Prelude.{slice_index_or}
-use Rattle.tsp_base.specs.declared.alarm.Alarm.TheVariants.{Quiet}
-use Rattle.tsp_base.specs.declared.alarm.TheConstants.Alarm.{ALL}
+use Rattle.tsp_rules.specs.Values.{Quiet, ALL}
 use Rattle.tsp_rules.specs.GateRows.{alarms_on}
 use Rattle.tsp_rules.proofs.NodeRowLemmas.{All_then}
 use Rattle.tsp_node.proofs.AlarmOrder.{close_after_probe}

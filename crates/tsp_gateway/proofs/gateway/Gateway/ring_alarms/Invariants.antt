@@ -1,10 +1,8 @@
 -- What is left to perform are the alarms that are still to come; the Close comes right after the Probe.
 use Rattle.std.proofs.Common.{◌≡◌, ◌+◌, ◌≤◌, List, drop, take}
 use Rattle.std.specs.Prelude.{slice_index_or}
-use Rattle.tsp_base.specs.declared.act.Placed.{Placed}
-use Rattle.tsp_base.specs.declared.alarm.Alarm.TheVariants.{Close, Quiet}
-use Rattle.tsp_base.specs.declared.alarm.TheConstants.Alarm.{ALL}
-use Rattle.tsp_base.specs.Frames.{PutsAtMost}
+use Rattle.tsp_rules.specs.Values.{Placed, Quiet, CloseAlarm, ALL}
+use Rattle.tsp_base.specs.Words.{PutsAtMost}
 use Rattle.tsp_rules.specs.NodePerforms.{PerformsAll}
 use Rattle.tsp_gateway.specs.declared.gateway.Gateway.{Gateway}
 use Rattle.tsp_gateway.specs.Dues.{HasProbed}
@@ -17,7 +15,7 @@ abbrev pub invariant-loop-alarm : goal.invariant-loop-alarm
 invariant-loop-alarm g l = record {
   row : (last : Gateway) (new : List Placed) → PerformsAll (GatewayTurning (l.q + 1)) (GatewayTurning (l.q + 1)) (all_on (port_at l.q) (drop l.alarm-index ALL)) l.tick l.self last (g.D.Desk.acts l.desk) new →
       PerformsAll (GatewayTurning (l.q + 1)) (GatewayTurning (l.q + 1)) (all_on (port_at l.q) ALL) l.tick l.initial.self last (g.D.Desk.acts l.initial.desk) new;
-  probe : slice_index_or ALL l.alarm-index Quiet ≡ Close → HasProbed l.q l.tick l.self;
+  probe : slice_index_or ALL l.alarm-index Quiet ≡ CloseAlarm → HasProbed l.q l.tick l.self;
   ports : ports_in l.self ≡ ports_in l.initial.self;
   clock : clock_at l.self ≤ l.tick;
   room : PutsAtMost (alarms_room (take l.alarm-index ALL) (peers_at l.q (ports_in l.initial.self))) (g.D.Desk.spare l.initial.desk) (g.D.Desk.spare l.desk) (g.D.Desk.acts l.initial.desk) (g.D.Desk.acts l.desk);

@@ -1,9 +1,7 @@
 -- A post to each other peer.
 use Rattle.std.proofs.Common.{◌≡◌, ◌∙◌, ap, arith, refl}
-use Rattle.tsp_base.specs.declared.kind.Kind.TheVariants.{Loop}
-use Rattle.tsp_base.specs.Kinds.{carries_hops, carries_time}
-use Rattle.tsp_base.specs.Messages.{MessageValue, body_fits}
-use Rattle.tsp_base.specs.Rows.{others}
+use Rattle.tsp_rules.specs.Values.{LoopKind}
+use Rattle.tsp_base.specs.Words.{carries_hops, carries_time, MessageValue, body_fits, others}
 use Rattle.tsp_rules.specs.GateRows.{sends_loops}
 use Rattle.tsp_acks.specs.declared.station.Station.{Station}
 use Rattle.tsp_gateway.specs.GatewayStands.{port_at}
@@ -21,7 +19,7 @@ unfolding sends_loops
 returns-clause-row g c x =
     let q = c.args.q in
     let there = part_there c.args.self.now q c.index.result.now c.requires.port c.index.ensures in
-    let kind : c.new-message.result.kind ≡ Loop = ap (λ (m : MessageValue). m.kind) c.new-message.ensures in
+    let kind : c.new-message.result.kind ≡ LoopKind = ap (λ (m : MessageValue). m.kind) c.new-message.ensures in
     let name = c.copy-name.ensures in
     All_posted q (sends_loops (port_at q)) c.new-message.result kind (emits_loops (port_at q) refl) there (rw (c.port_at.ensures, c.station-station.ensures) at c.repost.ensures.acts)
     (λ past h.

@@ -1,8 +1,6 @@
 -- A LOOP, which is noted and judged where its sender is heard; another message, or what is none.
 use Rattle.std.proofs.Common.{◌≡◌, ◌∙◌, ap, arith, false, rules, sym, true}
-use Rattle.tsp_base.specs.declared.datagram.Datagram.TheVariants.{Message}
-use Rattle.tsp_base.specs.declared.datagram.Taken.TheVariants.{Good}
-use Rattle.tsp_base.specs.declared.kind.Kind.TheVariants.{Loop}
+use Rattle.tsp_rules.specs.Values.{Message, Good, LoopKind}
 use Rattle.tsp_rules.specs.GateRows.{hears_on, heeds_loop, takes_kind, takes_loop, takes_on}
 use Rattle.tsp_rules.specs.NodeRows.{nothing_at_all}
 use Rattle.tsp_rules.proofs.NodeRowLemmas.{All_then}
@@ -18,7 +16,7 @@ returns-then-hears-clause-row g c =
     let q = port_at c.args.q in
     let m = c.in-Good-Message.m in
     let is : c.args.taken.now ≡ Good (Message m) = search rules in
-    let kind : m.kind ≡ Loop = sym c.kind.ensures ∙ c.in-Loop.is in
+    let kind : m.kind ≡ LoopKind = sym c.kind.ensures ∙ c.in-Loop.is in
     All_row (loop_on q c.args.from m ∙ ap (takes_kind q c.args.from m) (sym kind) ∙ message_taken_on q c.args.from m ∙ ap (takes_on q c.args.from) (sym is))
     (All_then (rw is at c.note.ensures.row) (All_reading (hears_on c.args.from q) (heeds_loop q m) true (λ past h. sym (c.hears.ensures c.args.tick past h) ∙ c.if-hears.true) c.judge_loop.ensures.row))
 
@@ -28,7 +26,7 @@ returns-else-hears-clause-row g c =
     let q = port_at c.args.q in
     let m = c.in-Good-Message.m in
     let is : c.args.taken.now ≡ Good (Message m) = search rules in
-    let kind : m.kind ≡ Loop = sym c.kind.ensures ∙ c.in-Loop.is in
+    let kind : m.kind ≡ LoopKind = sym c.kind.ensures ∙ c.in-Loop.is in
     All_row (loop_on q c.args.from m ∙ ap (takes_kind q c.args.from m) (sym kind) ∙ message_taken_on q c.args.from m ∙ ap (takes_on q c.args.from) (sym is))
     (All_then (rw is at c.note.ensures.row) (All_reading (hears_on c.args.from q) (heeds_loop q m) false (λ past h. sym (c.hears.ensures c.args.tick past h) ∙ c.if-hears.false) All_nothing))
 

@@ -1,6 +1,6 @@
 -- What the station ends is noted in the table.
 use Rattle.std.proofs.Common.{◌≡◌, ◌∙◌, ap}
-use Rattle.tsp_base.specs.SendFacts.{is_correction}
+use Rattle.tsp_base.specs.Words.{is_correction}
 use Rattle.tsp_sends.specs.Slots.{kind_of, sending_to}
 use Rattle.tsp_acks.specs.Openings.{is_of}
 use Rattle.tsp_master.proofs.TakeLemmas.{MasterStands_acknowledges}

@@ -1,9 +1,8 @@
 -- The row's test is the count of probes.
 use Rattle.std.proofs.Common.{arith, refl}
 use Rattle.std.proofs.lemmas.Bool.{lt-ltb}
-use Rattle.tsp_base.specs.declared.alarm.Alarm.TheVariants.{Probe}
-use Rattle.tsp_base.specs.declared.constants.TheConstants.{PROBE}
-use Rattle.tsp_base.specs.Rows.{arms, nothing}
+use Rattle.tsp_rules.specs.Values.{Probe, PROBE}
+use Rattle.tsp_base.specs.Words.{arms, nothing}
 use Rattle.tsp_base.proofs.PerformsLemmas.{Performs_else_part, Performs_nothing, Performs_then_part, Performs_to}
 use Rattle.tsp_rules.specs.RoundRows.{arms_next, has_more}
 use Rattle.tsp_rules.proofs.Emits.{Emits_arms}

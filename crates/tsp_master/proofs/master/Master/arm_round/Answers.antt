@@ -1,8 +1,7 @@
 -- The two alarms, and what they make of the master.
 use Rattle.std.proofs.Common.{refl}
-use Rattle.tsp_base.specs.declared.alarm.Alarm.TheVariants.{Probe, Close}
-use Rattle.tsp_base.specs.declared.constants.TheConstants.{CLOSE, PROBE}
-use Rattle.tsp_base.specs.Rows.{arms, ◌followed_by◌}
+use Rattle.tsp_rules.specs.Values.{Probe, CloseAlarm, CLOSE, PROBE}
+use Rattle.tsp_base.specs.Words.{arms, ◌followed_by◌}
 use Rattle.tsp_base.proofs.PerformsLemmas.{Performs_then}
 use Rattle.tsp_rules.proofs.Emits.{Emits_arms, Emits_then}
 use Rattle.tsp_acks.proofs.ActingLemmas.{Performs_acting}
@@ -14,7 +13,7 @@ use Rattle.tsp_master.proofs.master.Master.arm_round.Goals as goal
 pub returns-clause-row : goal.returns-clause-row
 unfolding arms ◌followed_by◌
 returns-clause-row g c clock =
-    Performs_lead_by _ _ clock (Emits_then (arms Probe PROBE) (arms Close CLOSE) (Emits_arms Probe PROBE refl) (Emits_arms Close CLOSE refl)) (λ past h. h)
+    Performs_lead_by _ _ clock (Emits_then (arms Probe PROBE) (arms CloseAlarm CLOSE) (Emits_arms Probe PROBE refl) (Emits_arms CloseAlarm CLOSE refl)) (λ past h. h)
     (λ past h. MasterStands_begins_round c.args.tick past _ _ c.unmeasure_all.ensures.entries c.unmeasure_all.ensures.peers c.begin.ensures.nothing c.begin.ensures.asked c.begin.ensures.probes h.master)
     (λ past h k. record { stands = k; goes = refl; starts = refl })
     (Performs_then (Performs_acting c.arm.ensures.row) (Performs_acting c.arm-2.ensures.row))

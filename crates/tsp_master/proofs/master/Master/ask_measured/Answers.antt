@@ -2,13 +2,12 @@
 use Rattle.std.specs.Prelude.{◌≡◌, ◌+◌, ◌*◌, ◌<◌, ◌∷◌, [], ◌++◌, length, take, true, false}
 use Rattle.std.proofs.Common.{get_or, refl, ◌∙◌, ap, arith, subst, ◌≤◌}
 use Rattle.std.proofs.lemmas.List.{take_all}
-use Rattle.tsp_base.specs.declared.place.PeerId.{PeerId}
-use Rattle.tsp_base.specs.Rows.{for_each}
+use Rattle.tsp_rules.specs.Values.{PeerId}
+use Rattle.tsp_base.specs.Words.{for_each, IsPeers}
 use Rattle.tsp_base.proofs.PerformsLemmas.{Performs_each_more, Performs_nothing, Performs_reading}
 use Rattle.tsp_base.proofs.FrameLemmas.{PutsAtMost_up}
 use Rattle.tsp_rules.specs.RoundRows.{asks, asks_measured, measured_at}
 use Rattle.tsp_measure.specs.declared.entry.Entry.{Entry}
-use Rattle.tsp_base.specs.Peers.{IsPeers}
 use Rattle.tsp_measure.specs.Slaves.{entry_of, peers_of}
 use Rattle.tsp_measure.proofs.Counters.{IsCounted-more}
 use Rattle.tsp_master.specs.Closing.{measured_of}

@@ -2,14 +2,13 @@
 use Rattle.std.specs.Prelude.{◌≡◌, ◌+◌, ◌*◌, ◌<◌, ◌∷◌, [], ◌++◌, length, take, true, false}
 use Rattle.std.proofs.Common.{get_or, refl, sym, ◌∙◌, ap, arith, subst, ◌≤◌}
 use Rattle.std.proofs.lemmas.List.{take_all}
-use Rattle.tsp_base.specs.declared.place.PeerId.{PeerId}
-use Rattle.tsp_base.specs.Rows.{for_each}
+use Rattle.tsp_rules.specs.Values.{PeerId}
+use Rattle.tsp_base.specs.Words.{for_each, IsPeers}
 use Rattle.tsp_base.proofs.PerformsLemmas.{Performs_each_more, Performs_nothing, Performs_reading}
 use Rattle.tsp_base.proofs.FrameLemmas.{PutsAtMost_up}
 use Rattle.tsp_rules.specs.RoundRows.{asks, asks_slaves}
 use Rattle.tsp_rules.specs.Guards.{table_at}
 use Rattle.tsp_measure.specs.declared.entry.Entry.{Entry}
-use Rattle.tsp_base.specs.Peers.{IsPeers}
 use Rattle.tsp_measure.specs.Slaves.{Changes, entry_of, measures, peers_of}
 use Rattle.tsp_measure.proofs.Counters.{IsCounted-more}
 use Rattle.tsp_master.proofs.AskLemmas.{Performs_starts, filter-more, filter-past, joined-is, joined-kept, joined_of, later-few, take-more}

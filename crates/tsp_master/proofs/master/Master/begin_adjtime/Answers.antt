@@ -1,7 +1,7 @@
 -- The row's test is the entry's, and the table changes as the past does.
 use Rattle.std.proofs.Common.{sym, ◌∙◌, refl}
-use Rattle.tsp_base.specs.declared.kind.Kind.TheVariants.{AdjTime}
-use Rattle.tsp_base.specs.Rows.{nothing, posts_time, timed}
+use Rattle.tsp_rules.specs.Values.{AdjTime}
+use Rattle.tsp_base.specs.Words.{nothing, posts_time, timed}
 use Rattle.tsp_base.proofs.PerformsLemmas.{Performs_then_part, Performs_else_part, Performs_nothing}
 use Rattle.tsp_rules.specs.SendRows.{begins_adjtime, may_correct}
 use Rattle.tsp_rules.proofs.Emits.{Emits_posts_time}

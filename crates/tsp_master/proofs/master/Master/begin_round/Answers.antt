@@ -1,9 +1,7 @@
 -- The alarms, the posts, and then the requests.
 use Rattle.std.proofs.Common.{[], ◌∷◌, refl}
-use Rattle.tsp_base.specs.declared.alarm.Alarm.TheVariants.{Probe, Close, Round}
-use Rattle.tsp_base.specs.declared.constants.TheConstants.{CLOSE, PROBE, ROUND}
-use Rattle.tsp_base.specs.declared.kind.Kind.TheVariants.{MasterUp}
-use Rattle.tsp_base.specs.Rows.{arms, posts_to_others, ◌followed_by◌}
+use Rattle.tsp_rules.specs.Values.{Round, Probe, CloseAlarm, MasterUp, CLOSE, PROBE, ROUND}
+use Rattle.tsp_base.specs.Words.{arms, posts_to_others, ◌followed_by◌}
 use Rattle.tsp_base.proofs.PerformsLemmas.{Performs_same, Performs_then, Performs_to}
 use Rattle.tsp_rules.specs.RoundRows.{asks_slaves, round_begins}
 use Rattle.tsp_rules.proofs.Emits.{Posting, Emits_arms, Emits_posts_to_others, Keeps_by}
@@ -21,8 +19,8 @@ returns-clause-row g c =
     let x = c.args.at.tick in
     let says = posts_to_others MasterUp 0 in
     Performs_then (Performs_quiet _ c.args.clock.now (Emits_arms Round ROUND refl) (Performs_acting c.arm.ensures.row))
-    (Performs_same (arms Probe PROBE followed_by (arms Close CLOSE followed_by (says followed_by asks_slaves)))
-    (λ past h. then_assoc (arms Probe PROBE) (arms Close CLOSE) (says followed_by asks_slaves) x past)
+    (Performs_same (arms Probe PROBE followed_by (arms CloseAlarm CLOSE followed_by (says followed_by asks_slaves)))
+    (λ past h. then_assoc (arms Probe PROBE) (arms CloseAlarm CLOSE) (says followed_by asks_slaves) x past)
     (Performs_then (c.arm_round.ensures.row c.args.clock.now)
     (Performs_then
     (Performs_lead_by {P = StartsStands} {Q = StartsStands} c.arm_round.new.self c.arm_round.new.self c.args.clock.now (Emits_posts_to_others MasterUp 0 refl) (λ past h. h.stands)

@@ -1,7 +1,7 @@
 -- The row's tests are the entry's and the clock's, and the table changes as the past does.
 use Rattle.std.proofs.Common.{true, false, sym, ◌∙◌, refl}
-use Rattle.tsp_base.specs.declared.kind.Kind.TheVariants.{SetTime}
-use Rattle.tsp_base.specs.Rows.{nothing, posts_time, reading, timed}
+use Rattle.tsp_rules.specs.Values.{SetTime}
+use Rattle.tsp_base.specs.Words.{nothing, posts_time, reading, timed}
 use Rattle.tsp_base.proofs.PerformsLemmas.{Performs_then_part, Performs_else_part, Performs_nothing, Performs_reading}
 use Rattle.tsp_rules.specs.SendRows.{begins_settime, may_set}
 use Rattle.tsp_rules.specs.Guards.{target_at}

@@ -1,9 +1,7 @@
 -- The measured peers so far were corrected.
 use Rattle.std.proofs.Common.{◌≡◌, ℕ, ◌≤◌, ◌<◌, length, take, get_or}
-use Rattle.tsp_base.specs.declared.place.PeerId.{PeerId}
-use Rattle.tsp_base.specs.Frames.{PutsAtMost}
-use Rattle.tsp_base.specs.Performs.{Performs}
-use Rattle.tsp_base.specs.Rows.{for_each}
+use Rattle.tsp_rules.specs.Values.{PeerId}
+use Rattle.tsp_base.specs.Words.{PutsAtMost, Performs, for_each}
 use Rattle.tsp_rules.specs.RoundRows.{corrects_peer}
 use Rattle.tsp_acks.specs.Changes.{IsSamePort}
 use Rattle.tsp_measure.specs.Slaves.{entry_of, peers_of}

@@ -1,8 +1,8 @@
 -- A near difference is adjusted, a far one set, and who never answered leaves.
 use Rattle.std.proofs.Common.{◌≡◌, ◌-ℤ◌, Some, None, true, false, refl, sym, ◌∙◌, ap, w64, to_z, of_z, to_z-of_z, SFits, rules}
 use Rattle.std.specs.Option.{option_map}
-use Rattle.tsp_base.specs.declared.act.Act.TheVariants.{Leave}
-use Rattle.tsp_base.specs.Rows.{puts}
+use Rattle.tsp_rules.specs.Values.{Leave}
+use Rattle.tsp_base.specs.Words.{puts}
 use Rattle.tsp_rules.specs.RoundRows.{corrects_by, corrects_peer, is_near}
 use Rattle.tsp_rules.proofs.Emits.{Emits_puts}
 use Rattle.tsp_measure.specs.Measures.{best_of}

@@ -1,6 +1,6 @@
 -- The estimate of one measured peer more is listed.
 use Rattle.std.proofs.Common.{◌≡◌, ◌+◌, ◌<◌, ◌∷◌, [], ◌++◌, length, take, get_or, true, false, length-append, sym, ◌∙◌, ap, arith}
-use Rattle.tsp_base.specs.declared.place.PeerId.{PeerId}
+use Rattle.tsp_rules.specs.Values.{PeerId}
 use Rattle.tsp_rules.specs.RoundRows.{diff_before, estimates}
 use Rattle.tsp_measure.specs.declared.entry.Entry.{Entry}
 use Rattle.tsp_measure.specs.Slaves.{entry_of, peers_of}

@@ -1,7 +1,7 @@
 -- The row's test is the table's; the peer joins, and then it is sent the time.
 use Rattle.std.proofs.Common.{sym, ◌∙◌, refl}
-use Rattle.tsp_base.specs.declared.act.Act.TheVariants.{Join}
-use Rattle.tsp_base.specs.Rows.{nothing, puts, ◌followed_by◌}
+use Rattle.tsp_rules.specs.Values.{Join}
+use Rattle.tsp_base.specs.Words.{nothing, puts, ◌followed_by◌}
 use Rattle.tsp_base.proofs.PerformsLemmas.{Performs_then, Performs_then_part, Performs_else_part, Performs_nothing}
 use Rattle.tsp_base.proofs.FrameLemmas.{PutsExactly_put}
 use Rattle.tsp_rules.specs.MasterRows.{joins, may_join}

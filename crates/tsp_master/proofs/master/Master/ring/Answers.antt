@@ -1,6 +1,6 @@
 -- Each alarm has its row.
 use Rattle.std.proofs.Common.{sym, ◌∙◌, ap, length, refl}
-use Rattle.tsp_base.specs.Alarms.{Deadlines}
+use Rattle.tsp_base.specs.Words.{Deadlines}
 use Rattle.tsp_base.proofs.PerformsLemmas.{Performs_nothing, Performs_to}
 use Rattle.tsp_rules.specs.Guards.{is_over}
 use Rattle.tsp_measure.specs.Slaves.{peers_of}

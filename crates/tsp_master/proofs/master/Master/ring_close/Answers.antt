@@ -1,7 +1,7 @@
 -- Late the round is given up. In time the alarm rings, and then the group, the test, and one act after the other.
 use Rattle.std.proofs.Common.{◌≡◌, ◌+ℤ◌, refl, sym, ◌∙◌, ap, length, w64, to_z, of_z, to_z-of_z, SFits, rules}
-use Rattle.tsp_base.specs.declared.act.Act.TheVariants.{Close as CloseAct}
-use Rattle.tsp_base.specs.Rows.{for_each, puts, ◌followed_by◌}
+use Rattle.tsp_rules.specs.Values.{Close}
+use Rattle.tsp_base.specs.Words.{for_each, puts, ◌followed_by◌}
 use Rattle.tsp_base.proofs.PerformsLemmas.{Performs_else_part, Performs_then, Performs_then_part}
 use Rattle.tsp_base.proofs.FrameLemmas.{PutsExactly_put}
 use Rattle.tsp_rules.specs.ClockRows.{can_adjust}
@@ -76,7 +76,7 @@ returns-clause-row g c =
     (c.ring.ensures.row x)
     (Performs_then_part (can_adjust (mean_by own k)) abandons
     (λ past h. ap (λ z. can_adjust z x past) (sym is) ∙ can_adjust-is mean x past c.args.clock.now h.clock (sym test ∙ c.if-not-can_adjust.false))
-    (rw (← is) (Performs_then (Performs_quiet _ c.args.clock.now (Emits_puts (CloseAct k.count k.lo k.width mean) refl) (Performs_idle (CloseAct k.count k.lo k.width mean) refl put))
+    (rw (← is) (Performs_then (Performs_quiet _ c.args.clock.now (Emits_puts (Close k.count k.lo k.width mean) refl) (Performs_idle (Close k.count k.lo k.width mean) refl put))
     (Performs_then (moved c.group-group.new.self c.ring.new.self) (each_same mean c.group-group.ensures.slaves c.group-group.ensures.rounds each)))))
 
 pub returns-clause-corrects : goal.returns-clause-corrects

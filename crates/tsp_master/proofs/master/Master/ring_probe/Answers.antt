@@ -1,9 +1,7 @@
 -- In time the measured peers are asked again; late the round is given up.
 use Rattle.std.proofs.Common.{refl, sym, ◌∙◌, ap, length}
-use Rattle.tsp_base.specs.declared.act.Act.TheVariants.{Ring, Late}
-use Rattle.tsp_base.specs.declared.alarm.Alarm.TheVariants.{Probe}
-use Rattle.tsp_base.specs.Alarms.{Deadlines}
-use Rattle.tsp_base.specs.Rows.{puts, ◌followed_by◌}
+use Rattle.tsp_rules.specs.Values.{Ring, Late, Probe}
+use Rattle.tsp_base.specs.Words.{Deadlines, puts, ◌followed_by◌}
 use Rattle.tsp_base.proofs.PerformsLemmas.{Performs_else_part, Performs_then, Performs_then_part}
 use Rattle.tsp_rules.specs.RoundRows.{abandons, arms_next, asks_measured, probe_rings}
 use Rattle.tsp_rules.specs.Guards.{is_in_time}

@@ -1,9 +1,7 @@
 -- In time a round begins; the next one is put off in any case.
 use Rattle.std.proofs.Common.{false, refl, sym, ◌∙◌, length, ◌*◌}
-use Rattle.tsp_base.specs.declared.act.Act.TheVariants.{Ring, Late}
-use Rattle.tsp_base.specs.declared.alarm.Alarm.TheVariants.{Round}
-use Rattle.tsp_base.specs.declared.constants.TheConstants.{ROUND}
-use Rattle.tsp_base.specs.Rows.{arms, puts, ◌followed_by◌}
+use Rattle.tsp_rules.specs.Values.{Ring, Late, Round, ROUND}
+use Rattle.tsp_base.specs.Words.{arms, puts, ◌followed_by◌}
 use Rattle.tsp_base.proofs.PerformsLemmas.{Performs_else_part, Performs_then, Performs_then_part}
 use Rattle.tsp_rules.specs.RoundRows.{begins_or_waits, round_rings}
 use Rattle.tsp_rules.specs.Guards.{is_in_time}

@@ -1,7 +1,7 @@
 -- Each kind has its row.
 use Rattle.std.proofs.Common.{◌≡◌, sym, ◌∙◌, ap, refl, le-add_right}
-use Rattle.tsp_base.specs.declared.kind.Kind.TheVariants.{MasterAck, SlaveUp, Election}
-use Rattle.tsp_base.specs.Rows.{nothing, posts}
+use Rattle.tsp_rules.specs.Values.{Election, MasterAck, SlaveUp}
+use Rattle.tsp_base.specs.Words.{nothing, posts}
 use Rattle.tsp_base.proofs.PerformsLemmas.{Performs_nothing}
 use Rattle.tsp_base.proofs.FrameLemmas.{PutsAtMost_up}
 use Rattle.tsp_rules.proofs.Emits.{Emits_posts}

@@ -1,6 +1,6 @@
 -- An idle entry for each peer.
 use Rattle.std.proofs.Common.{subst, sym}
-use Rattle.tsp_base.specs.Peers.{IsPeers}
+use Rattle.tsp_base.specs.Words.{IsPeers}
 use Rattle.tsp_measure.proofs.Entries.{peers_of-idle, entry_of-idle}
 use Rattle.tsp_measure.proofs.slaves.Slaves.new.Goals as goal
 

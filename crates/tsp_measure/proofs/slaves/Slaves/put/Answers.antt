@@ -1,7 +1,7 @@
 -- An entry of the same peer is put in its place.
 use Rattle.std.proofs.Common.{◌≡◌, set, subst, sym}
 use Rattle.std.specs.Box.{boxed_slice_items}
-use Rattle.tsp_base.specs.Peers.{IsPeers}
+use Rattle.tsp_base.specs.Words.{IsPeers}
 use Rattle.tsp_measure.specs.Slaves.{peers_of}
 use Rattle.tsp_measure.proofs.Entries.{peers_of-set}
 use Rattle.tsp_measure.proofs.slaves.Slaves.put.Goals as goal

@@ -2,7 +2,7 @@
 use Rattle.std.proofs.Common.{◌≡◌, length, map, refl, ap, ◌∙◌, arith, subst, sym}
 use Rattle.std.proofs.lemmas.List.{length-map}
 use Rattle.std.specs.Box.{boxed_slice_items, boxed_slice_len}
-use Rattle.tsp_base.specs.Peers.{IsPeers}
+use Rattle.tsp_base.specs.Words.{IsPeers}
 use Rattle.tsp_measure.specs.Slaves.{unmeasures}
 use Rattle.tsp_measure.proofs.Entries.{ChangesAll-map, peers_of-map, written}
 use Rattle.tsp_measure.proofs.slaves.Slaves.unmeasure_all.Goals as goal

@@ -1,11 +1,8 @@
 -- The boot, and then how its life begins.
 use Rattle.std.proofs.Common.{◌≡◌, ◌∙◌, ap, arith, length, refl, w64, to_z, of_z, to_z-of_z}
 use Rattle.std.proofs.lemmas.List.{length-append}
-use Rattle.tsp_base.specs.declared.act.Act.TheVariants.{Become, Boot}
-use Rattle.tsp_base.specs.declared.alarm.Alarm.TheVariants.{Quiet}
-use Rattle.tsp_base.specs.declared.constants.TheConstants.{QUIET}
-use Rattle.tsp_base.specs.declared.role.Role.TheVariants.{Starting}
-use Rattle.tsp_base.specs.Rows.{arms, puts, ◌followed_by◌}
+use Rattle.tsp_rules.specs.Values.{Boot, Become, Quiet, Starting, QUIET}
+use Rattle.tsp_base.specs.Words.{arms, puts, ◌followed_by◌}
 use Rattle.tsp_base.proofs.PerformsLemmas.{Performs_then}
 use Rattle.tsp_rules.specs.CommonRows.{boots}
 use Rattle.tsp_rules.proofs.Emits.{Emits, Emits_arms, Emits_puts, Emits_then}

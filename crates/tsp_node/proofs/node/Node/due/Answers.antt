@@ -1,7 +1,6 @@
 -- The earliest of what the station has is the earliest of what its past has.
 use Rattle.std.proofs.Common.{◌≡◌, ◌∙◌, ap, sym}
-use Rattle.tsp_base.specs.Alarms.{earlier, least_deadline}
-use Rattle.tsp_base.specs.PortFacts.{armed}
+use Rattle.tsp_base.specs.Words.{earlier, least_deadline, armed}
 use Rattle.tsp_node.specs.NodeStands.{due_of}
 use Rattle.tsp_node.proofs.DueLemmas.{IsEarliest-open}
 use Rattle.tsp_node.proofs.node.Node.due.Goals as goal

@@ -2,9 +2,8 @@
 use Rattle.std.proofs.Common.{◌≡◌, ◌+◌, ◌*◌, arith, refl, ◌∙◌, ap, length, take}
 use Rattle.std.proofs.lemmas.List.{take_all}
 use Rattle.std.specs.Prelude.{slice_index_or}
-use Rattle.tsp_base.specs.declared.alarm.Alarm.TheVariants.{Quiet}
-use Rattle.tsp_base.specs.declared.alarm.TheConstants.Alarm.{ALL}
-use Rattle.tsp_base.specs.Rows.{for_each}
+use Rattle.tsp_rules.specs.Values.{Quiet, ALL}
+use Rattle.tsp_base.specs.Words.{for_each}
 use Rattle.tsp_base.proofs.PerformsLemmas.{Performs_each_more, Performs_nothing, Performs_same}
 use Rattle.tsp_rules.specs.Answers.{due_alarms, rings_alone}
 use Rattle.tsp_node.specs.NodeStands.{peers_in}

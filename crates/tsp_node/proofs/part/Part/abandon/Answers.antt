@@ -1,6 +1,6 @@
 -- A round that goes on is given up.
 use Rattle.std.proofs.Common.{refl, ◌∙◌}
-use Rattle.tsp_base.specs.Rows.{nothing, puts}
+use Rattle.tsp_base.specs.Words.{nothing, puts}
 use Rattle.tsp_base.proofs.PerformsLemmas.{Performs_else_part, Performs_then_part}
 use Rattle.tsp_rules.specs.RoundRows.{abandons, abandons_going}
 use Rattle.tsp_rules.specs.Guards.{is_going_at}

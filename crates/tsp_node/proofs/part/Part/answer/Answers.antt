@@ -1,8 +1,6 @@
 -- Each question has its row.
 use Rattle.std.proofs.Common.{◌≡◌, ◌∷◌, [], true, false, refl, sym, ◌∙◌}
-use Rattle.tsp_base.specs.declared.kind.Kind.TheVariants.{Msite, MsiteReq, Test, TraceOff, TraceOn}
-use Rattle.tsp_base.specs.declared.datagram.Datagram.TheVariants.{Message as MessageOf}
-use Rattle.tsp_base.specs.declared.datagram.Taken.TheVariants.{Good}
+use Rattle.tsp_rules.specs.Values.{Message, Good, Msite, MsiteReq, Test, TraceOff, TraceOn}
 use Rattle.tsp_rules.specs.CommonRows.{says_master}
 use Rattle.tsp_rules.proofs.Emits.{Emits_more, Keeps_by, Posting}
 use Rattle.tsp_date.proofs.KeepLemmas.{DatesStand_by}
@@ -54,5 +52,5 @@ returns-in_default-clause-row g c charge clock =
     let m = c.args.m.now in
     let other = c.in_default in
     let kind : m.kind ≡ Test = audience_test m.kind c.requires.audience (λ e. other.not-Msite (c.kind.ensures ∙ e)) (λ e. other.not-MsiteReq (c.kind.ensures ∙ e)) (λ e. other.not-TraceOn (c.kind.ensures ∙ e)) (λ e. other.not-TraceOff (c.kind.ensures ∙ e)) in
-    let row = rw c.number-number.ensures at (c.test.ensures.row (record { from = c.args.from; taken = Good (MessageOf m) }) clock) in
+    let row = rw c.number-number.ensures at (c.test.ensures.row (record { from = c.args.from; taken = Good (Message m) }) clock) in
     rw (handles_test charge c.args.from m kind) (took_beside c.args.tracing.now (Emits_more role_sorts refl (emits_tests_here c.args.from m.number)) row)

@@ -1,10 +1,7 @@
 -- The role, and then the alarm; the slaves are forgotten.
 use Rattle.std.proofs.Common.{refl, ◌∙◌, ap}
-use Rattle.tsp_base.specs.declared.act.Act.TheVariants.{Become}
-use Rattle.tsp_base.specs.declared.alarm.Alarm.TheVariants.{Quiet}
-use Rattle.tsp_base.specs.declared.constants.TheConstants.{QUIET}
-use Rattle.tsp_base.specs.declared.role.Role.TheVariants.{Starting}
-use Rattle.tsp_base.specs.Rows.{arms, puts, ◌followed_by◌}
+use Rattle.tsp_rules.specs.Values.{Become, Quiet, Starting, QUIET}
+use Rattle.tsp_base.specs.Words.{arms, puts, ◌followed_by◌}
 use Rattle.tsp_base.proofs.PerformsLemmas.{Performs_then}
 use Rattle.tsp_rules.proofs.Emits.{Emits, Emits_arms, Emits_puts, Emits_then}
 use Rattle.tsp_slave.proofs.BesideLemmas.{beside_sorts}

@@ -1,6 +1,6 @@
 -- Whose it is, and what it is.
 use Rattle.std.proofs.Common.{◌∙◌, [], ◌∷◌, refl, arith}
-use Rattle.tsp_base.specs.Rows.{nothing}
+use Rattle.tsp_base.specs.Words.{nothing}
 use Rattle.tsp_base.proofs.PerformsLemmas.{Performs_else_part, Performs_then_part}
 use Rattle.tsp_rules.specs.Answers.{handles}
 use Rattle.tsp_rules.specs.Guards.{is_own}

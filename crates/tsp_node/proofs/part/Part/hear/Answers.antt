@@ -1,6 +1,6 @@
 -- Who handles it. Only what is for the roles can be left.
 use Rattle.std.proofs.Common.{◌≡◌, ◌∙◌, [], ◌∷◌, ap, refl, sym, arith}
-use Rattle.tsp_base.specs.Rows.{nothing}
+use Rattle.tsp_base.specs.Words.{nothing}
 use Rattle.tsp_rules.specs.Answers.{is_left}
 use Rattle.tsp_rules.proofs.Emits.{Acking, Emits_either, Emits_more, Emits_nothing}
 use Rattle.tsp_rules.proofs.EmitsClients.{client_sorts, date_sorts}

@@ -1,6 +1,6 @@
 -- Whoever is heard has its send ended, in every role alike.
 use Rattle.std.proofs.Common.{◌≡◌, refl, sym}
-use Rattle.tsp_base.specs.declared.kind.Kind.TheVariants.{Ack}
+use Rattle.tsp_rules.specs.Values.{Ack}
 use Rattle.tsp_rules.specs.Answers.{peer_says, says_in}
 use Rattle.tsp_node.proofs.EmitsRoles.{acking}
 use Rattle.tsp_node.proofs.HearLemmas.{audience_sends, heard_peer, heard_role, Performs_by_role, Performs_heard_by, Performs_unheard, says_ack}

@@ -1,7 +1,7 @@
 -- A QUIT ends its leading, other masters are asked or marked, and all else is the master's own.
 use Rattle.std.proofs.Common.{◌≡◌, ◌∷◌, [], refl, sym, ◌∙◌, arith}
-use Rattle.tsp_base.specs.declared.kind.Kind.TheVariants.{Ack, Conflict, MasterAck, MasterUp, Quit}
-use Rattle.tsp_base.specs.Rows.{posts, ◌followed_by◌}
+use Rattle.tsp_rules.specs.Values.{Ack, Conflict, MasterAck, MasterUp, QuitKind}
+use Rattle.tsp_base.specs.Words.{posts, ◌followed_by◌}
 use Rattle.tsp_base.proofs.PerformsLemmas.{Performs_then}
 use Rattle.tsp_rules.specs.MasterRows.{master_takes}
 use Rattle.tsp_rules.specs.ResolveRows.{finds_rival, resolves}
@@ -18,7 +18,7 @@ use Rattle.tsp_node.proofs.part.Part.hear_as_master.Goals as goal
 
 pub returns-in-Quit-clause-row : goal.returns-in-Quit-clause-row
 returns-in-Quit-clause-row g c =
-    let quit : c.args.m.now.kind ≡ Quit = sym c.kind.ensures ∙ c.in-Quit.is in
+    let quit : c.args.m.now.kind ≡ QuitKind = sym c.kind.ensures ∙ c.in-Quit.is in
     rw (master_quit c.args.p c.args.m.now quit) c.take_quit.ensures.row
 
 pub returns-in-MasterUp-clause-row : goal.returns-in-MasterUp-clause-row

@@ -1,6 +1,6 @@
 -- A date is handled, and a correction noted.
 use Rattle.std.proofs.Common.{true, false, refl, sym}
-use Rattle.tsp_base.specs.PortFacts.{taken}
+use Rattle.tsp_base.specs.Words.{taken}
 use Rattle.tsp_acks.proofs.FollowLemmas.{followed-Contains}
 use Rattle.tsp_slave.proofs.TellLemmas.{tells_row}
 use Rattle.tsp_node.proofs.StillTakes.{took_dates}

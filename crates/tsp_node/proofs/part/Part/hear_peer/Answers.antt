@@ -1,8 +1,7 @@
 -- Who is heard is handled by the role.
 use Rattle.std.proofs.Common.{◌≡◌, ◌∷◌, ◌∙◌, true, false, refl, sym, ap, arith}
-use Rattle.tsp_base.specs.declared.role.Role.TheVariants.{Candidate, Master}
-use Rattle.tsp_base.specs.PortFacts.{taken}
-use Rattle.tsp_base.specs.Rows.{nothing}
+use Rattle.tsp_rules.specs.Values.{Candidate, Master}
+use Rattle.tsp_base.specs.Words.{taken, nothing}
 use Rattle.tsp_rules.specs.Answers.{from_peer, is_left, peer_says, says_in}
 use Rattle.tsp_rules.specs.CandidateRows.{candidate_takes}
 use Rattle.tsp_rules.specs.SlaveRows.{slave_takes}

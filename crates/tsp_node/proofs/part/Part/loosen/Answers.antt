@@ -1,10 +1,8 @@
 -- The port follows nobody any more where it led, and its slaves and rivals are forgotten.
 use Rattle.std.proofs.Common.{◌≡◌, ◌∷◌, [], ◌&&◌, not, true, ap, refl, sym, ◌∙◌}
-use Rattle.tsp_base.specs.declared.act.Act.TheVariants.{Become}
-use Rattle.tsp_base.specs.declared.alarm.Alarm.TheVariants.{Elect}
-use Rattle.tsp_base.specs.declared.role.Role.TheVariants.{Loose}
+use Rattle.tsp_rules.specs.Values.{Become, Elect, Loose}
+use Rattle.tsp_base.specs.Words.{arms, nothing, puts}
 use Rattle.tsp_base.proofs.PerformsLemmas.{Performs_else_part, Performs_then, Performs_then_part}
-use Rattle.tsp_base.specs.Rows.{arms, nothing, puts}
 use Rattle.tsp_rules.specs.CandidateRows.{yields}
 use Rattle.tsp_rules.specs.CommonRows.{arms_elect}
 use Rattle.tsp_rules.specs.GateRows.{loosens_master}

@@ -1,6 +1,6 @@
 -- An alarm that is due rings; any other does nothing.
 use Rattle.std.proofs.Common.{◌≡◌, ◌∙◌, arith, sym, true, false}
-use Rattle.tsp_base.specs.Alarms.{deadline}
+use Rattle.tsp_base.specs.Words.{deadline}
 use Rattle.tsp_rules.specs.Guards.{is_over}
 use Rattle.tsp_node.specs.NodeStands.{port_with}
 use Rattle.tsp_node.proofs.AlarmCases.{Performs_not_due, Performs_now_due, corrects_not_due, corrects_now_due}

@@ -1,6 +1,6 @@
 -- Each alarm has its row.
 use Rattle.std.proofs.Common.{◌≡◌, ◌∷◌, [], true, false, refl}
-use Rattle.tsp_base.specs.declared.alarm.Alarm.TheVariants.{Round}
+use Rattle.tsp_rules.specs.Values.{Round}
 use Rattle.tsp_rules.specs.Answers.{alarm_rings}
 use Rattle.tsp_rules.specs.RoundRows.{round_rings}
 use Rattle.tsp_rules.proofs.Emits.{Alarming, Emits_more, Keeps_by, Numbering}

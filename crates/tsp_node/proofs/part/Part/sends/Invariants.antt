@@ -1,9 +1,7 @@
 -- What is left to perform are the rows of the peers after the last one whose send was repeated; each round leaves one peer less.
 use Rattle.std.specs.Prelude.{◌≡◌, ◌+◌, ◌*◌, ◌≤◌, length, List}
-use Rattle.tsp_base.specs.declared.act.Placed.{Placed}
-use Rattle.tsp_base.specs.Frames.{PutsAtMost}
-use Rattle.tsp_base.specs.Performs.{Performs}
-use Rattle.tsp_base.specs.Rows.{for_each}
+use Rattle.tsp_rules.specs.Values.{Placed}
+use Rattle.tsp_base.specs.Words.{PutsAtMost, Performs, for_each}
 use Rattle.tsp_rules.specs.SendRows.{due_send}
 use Rattle.tsp_acks.proofs.BeyondLemmas.{beyond}
 use Rattle.tsp_clock.specs.Clocks.{ClockValue}

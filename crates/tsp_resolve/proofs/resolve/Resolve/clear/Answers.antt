@@ -2,7 +2,7 @@
 use Rattle.std.specs.Prelude.{length, refl}
 use Rattle.std.proofs.Common.{◌∙◌, ap, [], ◌∷◌}
 use Rattle.std.proofs.lemmas.List.{length-replicate}
-use Rattle.tsp_base.specs.declared.act.Act.TheVariants.{Become}
+use Rattle.tsp_rules.specs.Values.{Become}
 use Rattle.tsp_resolve.specs.Marked.{marked}
 use Rattle.tsp_resolve.proofs.MarkedLemmas.{marked-none}
 use Rattle.tsp_resolve.proofs.ResolveLemmas.{ResolveStands_changed, become-rivalless}

@@ -1,8 +1,8 @@
 -- A peer's mark is that of its place.
 use Rattle.std.specs.Prelude.{not}
 use Rattle.std.proofs.Common.{◌∙◌, ap, sym}
-use Rattle.tsp_base.specs.declared.place.PeerId.{PeerId}
-use Rattle.tsp_base.specs.Peers.{is_among}
+use Rattle.tsp_rules.specs.Values.{PeerId}
+use Rattle.tsp_base.specs.Words.{is_among}
 use Rattle.tsp_resolve.specs.Marked.{marked}
 use Rattle.tsp_base.proofs.AscendingLemmas.{Rise-peers}
 use Rattle.tsp_resolve.proofs.MarkedLemmas.{marked-at, marked-set}

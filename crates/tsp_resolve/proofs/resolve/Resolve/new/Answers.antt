@@ -1,7 +1,7 @@
 -- No mark is set, and a boot forgets all rivals.
 use Rattle.std.proofs.Common.{◌∙◌, ap, false, length, refl, sym}
 use Rattle.std.proofs.lemmas.List.{length-replicate}
-use Rattle.tsp_base.specs.Peers.{is_among}
+use Rattle.tsp_base.specs.Words.{is_among}
 use Rattle.tsp_resolve.specs.Marked.{marked}
 use Rattle.tsp_resolve.proofs.MarkedLemmas.{marked-none}
 use Rattle.tsp_resolve.proofs.resolve.Resolve.new.Goals as goal

@@ -2,9 +2,8 @@
 use Rattle.std.specs.Prelude.{◌≡◌, suc, ◌+◌, ◌<◌, ◌∷◌, [], ◌++◌, if◌then◌else◌, true, false, length, take, slice_index_or, refl}
 use Rattle.std.proofs.Common.{sym, ◌∙◌, ap, append-nil, arith, get_or}
 use Rattle.std.proofs.lemmas.List.{get_or_default, take_all}
-use Rattle.tsp_base.specs.declared.kind.Kind.TheVariants.{Quit}
-use Rattle.tsp_base.specs.declared.place.PeerId.{PeerId}
-use Rattle.tsp_base.specs.Rows.{for_each}
+use Rattle.tsp_rules.specs.Values.{QuitKind, PeerId}
+use Rattle.tsp_base.specs.Words.{for_each}
 use Rattle.tsp_base.proofs.PerformsLemmas.{Performs_each_more, Performs_nothing, Performs_reading}
 use Rattle.tsp_rules.specs.ResolveRows.{quits_rivals}
 use Rattle.tsp_rules.specs.SendRows.{begins}
@@ -41,7 +40,7 @@ loop-place-preserved g c =
           let set : get_or marks n false ≡ true = sym c.at.ensures ∙ w.if-at.true in
           let grown : marked (take (n + 1) ps) marks ≡ marked (take n ps) marks ++ p ∷ [] = more ∙ ap (λ b. marked (take n ps) marks ++ (if b then p ∷ [] else [])) set in
           record {
-            row = rw (w.station-is, w.desk-is, grown) (Performs_each_more (begins Quit) (marked (take n ps) marks) p inv.row (Performs_resolving_acting c.args.self.now (emits_begins Quit p refl) w.begin.ensures.row));
+            row = rw (w.station-is, w.desk-is, grown) (Performs_each_more (begins QuitKind) (marked (take n ps) marks) p inv.row (Performs_resolving_acting c.args.self.now (emits_begins QuitKind p refl) w.begin.ensures.row));
             same = rw w.station-is (record { me = w.begin.ensures.rest.me ∙ inv.same.me; peers = w.begin.ensures.rest.peers ∙ inv.same.peers });
             room = rw w.desk-is (record { spare = omega (arith, inv.room.spare, w.begin.ensures.room.spare); few = omega (arith, inv.room.few, w.begin.ensures.room.count) });
           }
@@ -61,5 +60,5 @@ returns-clause-row g c =
     let ps = c.args.station.now.peers in
     let n = c.loop-place.place in
     let all : take n ps ≡ ps = take_all n ps (omega (arith, c.loop-place-test.false, ap length c.peers-place-end.ensures.value)) in
-    Performs_reading rivals_at (for_each (begins Quit)) (marked ps c.args.self.now.marks) (λ past h. rivals-marked c.args.tick past c.args.self.now ps c.peers-place-end.ensures.valid h.station.peers h.resolve)
+    Performs_reading rivals_at (for_each (begins QuitKind)) (marked ps c.args.self.now.marks) (λ past h. rivals-marked c.args.tick past c.args.self.now ps c.peers-place-end.ensures.valid h.station.peers h.resolve)
     (rw all at c.loop-place.invariant.row)

@@ -1,10 +1,8 @@
 -- In time a QUIT begins to each rival.
 use Rattle.std.specs.Prelude.{refl}
 use Rattle.std.proofs.Common.{◌∙◌, ap, sym}
-use Rattle.tsp_base.specs.declared.act.Act.TheVariants.{Ring, Late}
-use Rattle.tsp_base.specs.declared.alarm.Alarm.TheVariants.{Resolve as ResolveAlarm}
-use Rattle.tsp_base.specs.Alarms.{deadline}
-use Rattle.tsp_base.specs.Rows.{puts, ◌followed_by◌}
+use Rattle.tsp_rules.specs.Values.{Ring, Late, ResolveAlarm}
+use Rattle.tsp_base.specs.Words.{deadline, puts, ◌followed_by◌}
 use Rattle.tsp_base.proofs.PerformsLemmas.{Performs_then, Performs_then_part, Performs_else_part, Performs_to}
 use Rattle.tsp_rules.specs.ResolveRows.{quits_rivals, resolve_rings}
 use Rattle.tsp_rules.specs.Guards.{is_in_time, is_met}

@@ -1,7 +1,6 @@
 use Rattle.std.proofs.Common.{refl}
 use Rattle.std.proofs.lemmas.List.Elements.{Contains-get_or}
-use Rattle.tsp_base.specs.Kinds.{carries_time, carries_hops}
-use Rattle.tsp_base.specs.Messages.{body_fits}
+use Rattle.tsp_base.specs.Words.{carries_time, carries_hops, body_fits}
 use Rattle.tsp_role_tests.proofs.tests.sends.begin.Goals as goal
 
 pub new-message-requires : goal.new-message-requires

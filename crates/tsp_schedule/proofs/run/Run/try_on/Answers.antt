@@ -2,7 +2,7 @@
 use Rattle.std.proofs.Common.{◌∙◌}
 use Rattle.tsp_schedule.proofs.StageLemmas.{MatchBool-map, Advances-by_event}
 use Rattle.tsp_schedule.specs.declared.stage.Stage.TheVariants.{Running}
-use Rattle.tsp_base.specs.Plains.{event_in}
+use Rattle.tsp_base.specs.Words.{event_in}
 use Rattle.tsp_schedule.proofs.run.Run.try_on.Goals as goal
 
 pub returns-in-Some : goal.returns-in-Some

@@ -1,6 +1,6 @@
 -- A schedule without events stands for itself.
 use Rattle.std.proofs.Common.{◌∙◌, ap, arith, length, subst, []}
-use Rattle.tsp_base.specs.Headers.{HeaderValue}
+use Rattle.tsp_base.specs.Words.{HeaderValue}
 use Rattle.tsp_script.specs.Storms.{StormValue}
 use Rattle.tsp_storm.specs.Schedules.{generator_of}
 use Rattle.tsp_storm.proofs.Mades.{length-lines_of, made_is, whole_alone}

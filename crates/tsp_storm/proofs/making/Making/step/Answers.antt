@@ -1,6 +1,6 @@
 -- A step is the schedule's next event, and only a limit refuses it.
 use Rattle.std.proofs.Common.{◌∙◌, ap}
-use Rattle.tsp_base.specs.declared.event.Event.{Event}
+use Rattle.tsp_rules.specs.Values.{Event}
 use Rattle.tsp_script.specs.declared.storm.Draw.TheVariants.{Event as Gives}
 use Rattle.tsp_storm.specs.Schedules.{header_of, events_of, next_event}
 use Rattle.tsp_storm.proofs.Draws.{given-next}

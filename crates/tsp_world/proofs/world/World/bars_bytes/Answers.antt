@@ -1,11 +1,8 @@
 -- The first cause is that of the time, then that of what is absent, then that of the step.
 use Rattle.std.proofs.Common.{◌≡◌, ◌≤◌, ◌∙◌, ℕ, Option, None, Some, ap, sym, length}
 use Rattle.std.proofs.lemmas.Bool.{le-ltb}
-use Rattle.tsp_base.specs.declared.event.Event.{Event}
-use Rattle.tsp_base.specs.declared.event.Event.TheVariants.{Bytes}
+use Rattle.tsp_rules.specs.Values.{Event, Bytes, Place, Port}
 use Rattle.tsp_base.specs.declared.event.EventFault.{EventFault}
-use Rattle.tsp_base.specs.declared.place.Place.{Place}
-use Rattle.tsp_base.specs.declared.place.Port.{Port}
 use Rattle.tsp_run.specs.Refusals.{Scene, actor, down_at, first_of, limit, no_datagram, lacks_port, not_up, room_at, time_back, unknown, unknown_place}
 use Rattle.tsp_world.specs.WorldStands.{scene_of, up_at}
 use Rattle.tsp_world.proofs.world.World.bars_bytes.Goals as goal

@@ -1,8 +1,7 @@
 -- Octets are refused, or taken after room was made for it, or memory lacks.
 use Rattle.std.proofs.Common.{◌≡◌, ◌∙◌, ap, refl, rules, [], Some, vec_len, length}
-use Rattle.tsp_base.specs.declared.event.Event.{Event}
-use Rattle.tsp_base.specs.declared.event.Event.TheVariants.{Bytes}
-use Rattle.tsp_base.specs.History.{Handed}
+use Rattle.tsp_rules.specs.Values.{Event, Bytes}
+use Rattle.tsp_base.specs.Words.{Handed}
 use Rattle.tsp_rules.specs.GateRows.{GotOn, answers_all}
 use Rattle.tsp_run.specs.Refusals.{scene}
 use Rattle.tsp_run.specs.Run.{run, steps}

@@ -1,8 +1,8 @@
 -- The node is one of the header's.
 use Rattle.std.proofs.Common.{◌≡◌, ◌<◌, ◌∙◌, ap, subst, sym, arith, get_or, length}
 use Rattle.std.proofs.lemmas.Option.{slice_get-get_or}
-use Rattle.tsp_base.specs.declared.header.NodeLine.{NodeLine}
-use Rattle.tsp_base.specs.Headers.{Keeps}
+use Rattle.tsp_rules.specs.Values.{NodeLine}
+use Rattle.tsp_base.specs.Words.{KeepsDrift}
 use Rattle.tsp_run.specs.Setup.{nobody}
 use Rattle.tsp_run.proofs.NetworkLemmas.{some_same}
 use Rattle.tsp_world.proofs.world.World.line.Goals as goal
@@ -22,5 +22,5 @@ returns-clause-line c =
 pub returns-clause-kept : goal.returns-clause-kept
 returns-clause-kept c =
     let header = c.nodes.ensures.valid in
-    let kept = subst (λ (l : NodeLine). Keeps c.args.self.now.header.drift l) (sym (found c)) (header.kept c.args.node c.index-nodes-node.result (within c)) in
+    let kept = subst (λ (l : NodeLine). KeepsDrift c.args.self.now.header.drift l) (sym (found c)) (header.kept c.args.node c.index-nodes-node.result (within c)) in
     record { name = kept.name; rate = (let rate = kept.rate in let small = header.small in omega (arith, rate, small)); wall = kept.wall }

@@ -1,13 +1,12 @@
 -- The node's timers are looked at by its row.
 use Rattle.std.proofs.Common.{◌≡◌, ◌∙◌, ap, refl, subst, arith, Some, rules, vec_len, length, slice_get}
 use Rattle.std.proofs.Math.ListN.{set}
-use Rattle.tsp_base.specs.Ticks.{tick_at}
+use Rattle.tsp_rules.specs.Values.{Turn}
+use Rattle.tsp_base.specs.Words.{tick_at, Turned}
 use Rattle.tsp_rules.specs.GateRows.{NodeTurn, answers_all}
 use Rattle.tsp_rules.specs.NodePerforms.{PerformsAll}
 use Rattle.tsp_run.specs.Networks.{networks, ports_on}
 use Rattle.tsp_run.specs.Setup.{node_line}
-use Rattle.tsp_base.specs.declared.event.Event.TheVariants.{Turn}
-use Rattle.tsp_base.specs.History.{Turned}
 use Rattle.tsp_run.specs.Refusals.{scene}
 use Rattle.tsp_run.proofs.RefusalLemmas.{refusal-none, up-down}
 use Rattle.tsp_world.specs.NodesReady.{PlaceReady}

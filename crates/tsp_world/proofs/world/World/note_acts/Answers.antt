@@ -1,7 +1,7 @@
 -- The lines on the desk are told, and all else stays but the count of events.
 use Rattle.std.proofs.Common.{◌≡◌, ◌∙◌, ◌+◌, ◌++◌, List, refl, ap, arith, drop, length, map}
 use Rattle.std.proofs.lemmas.List.{take_at}
-use Rattle.tsp_base.specs.declared.act.Placed.{Placed}
+use Rattle.tsp_rules.specs.Values.{Placed}
 use Rattle.tsp_run.specs.Run.{posts_from, told_from}
 use Rattle.tsp_networks.specs.Sheets.{acts_on, placed_in}
 use Rattle.tsp_world.proofs.world.World.note_acts.Goals as goal

@@ -1,7 +1,7 @@
 -- The node takes what was read, by its row.
 use Rattle.std.proofs.Common.{◌≡◌, ◌∙◌, ap, subst, arith, Some, rules, vec_len, length, slice_get}
 use Rattle.std.proofs.Math.ListN.{set}
-use Rattle.tsp_base.specs.Ticks.{tick_at}
+use Rattle.tsp_base.specs.Words.{tick_at}
 use Rattle.tsp_rules.specs.GateRows.{GotOn, answers_all}
 use Rattle.tsp_rules.specs.NodePerforms.{PerformsAll}
 use Rattle.tsp_run.specs.Networks.{networks, ports_on}

@@ -1,9 +1,9 @@
 -- The node boots by its row, and takes its place. It is set up so that only memory can be wanting.
 use Rattle.std.proofs.Common.{◌≡◌, ◌<◌, ◌∙◌, ap, refl, subst, sym, arith, Some, rules, vec_len, length, pos, ◌+ℤ◌, SFits, w64, to_z, of_z, to_z-of_z, inl, inr, ◌++◌, get_or}
 use Rattle.std.proofs.Math.ListN.{set}
-use Rattle.tsp_base.specs.declared.event.Event.TheVariants.{Boot}
-use Rattle.tsp_base.specs.Ticks.{tick_at}
-use Rattle.tsp_gateway.specs.GateConfigs.{ArePorts, GateBootsNot, GateConfigValue, UnbootedNode, peers_of_ports}
+use Rattle.tsp_rules.specs.Values.{BootAt}
+use Rattle.tsp_base.specs.Words.{tick_at}
+use Rattle.tsp_gateway.specs.GateConfigs.{AreGatePorts, GateBootsNot, GateConfigValue, UnbootedNode, peers_of_ports}
 use Rattle.tsp_gateway.specs.GatewayStands.{GatewayStands}
 use Rattle.tsp_rules.specs.GateRows.{boots_all}
 use Rattle.tsp_rules.specs.NodePerforms.{PerformsAll}
@@ -66,8 +66,8 @@ pub unreachable-requires : goal.unreachable-requires
 unreachable-requires c =
     let world = c.args.self.now in
     let at = (goal.at.unreachable-requires c).After-index-config in
-    let not : ArePorts c.index-config.result.now.ports → ⊥ = subst (λ f. GateBootsNot c.index-config.result.now (to_z w64 (of_z w64 c.wall_at-wall.result)) f) c.in-Err-Peers.field-0-is c.in-Err-Peers.ensures.err in
-    not (subst ArePorts (sym (ports_are at)) (can_boot world.header world.ready.header_is c.args.node))
+    let not : AreGatePorts c.index-config.result.now.ports → ⊥ = subst (λ f. GateBootsNot c.index-config.result.now (to_z w64 (of_z w64 c.wall_at-wall.result)) f) c.in-Err-Peers.field-0-is c.in-Err-Peers.ensures.err in
+    not (subst AreGatePorts (sym (ports_are at)) (can_boot world.header world.ready.header_is c.args.node))
 
 pub invariant_of-self-clause-ready : goal.invariant_of-self-clause-ready
 invariant_of-self-clause-ready c =
@@ -117,7 +117,7 @@ returns-in-Ok-clause-happens c header events w none =
     (subst (λ z. PerformsAll (UnbootedNode config c.args.word z) GatewayStands boots_all c.tick-tick.result tt node (acts_on world.desk) acts) wall_back
     (subst (λ v. PerformsAll (UnbootedNode v c.args.word (to_z w64 (of_z w64 c.wall_at-wall.result))) GatewayStands boots_all c.tick-tick.result tt node (acts_on world.desk) acts) config_is c.in-Ok.ensures.row)) in
     let begun : UnbootedNode config c.args.word (line.wall +ℤ pos x) past tt = record { cause = refl; of = record { name = refl; may = refl; strict = refl; ports = refl } } in
-    WorldStands-acted header events (Boot c.args.at c.args.node c.args.word) boots_all step world c.note.new.self nodes acts
+    WorldStands-acted header events (BootAt c.args.at c.args.node c.args.word) boots_all step world c.note.new.self nodes acts
     w (search rules) none refl refl (in_header header events world len w c.args.node c.requires.node) (search rules)
     (booted.acts past begun ∙ ap (λ ps. ps ++ boots_all x past) c.requires.ready.idle)
     (subst (λ t. Notes c.args.at c.args.node t world.header nodes world.events world.sent.items acts c.note.new.self) tick_is c.note.ensures)

@@ -1,5 +1,5 @@
 -- A take is refused, or it happens after room was made for it, or memory lacks.
-use Rattle.tsp_base.specs.declared.event.Event.TheVariants.{Take}
+use Rattle.tsp_rules.specs.Values.{Take}
 use Rattle.tsp_world.proofs.Occurrences.{declined, lacks_memory, occurred}
 use Rattle.tsp_world.proofs.world.World.take_at.Goals as goal
 

@@ -1,5 +1,5 @@
 -- A turn is refused, or it happens after room was made for it, or memory lacks.
-use Rattle.tsp_base.specs.declared.event.Event.TheVariants.{Turn}
+use Rattle.tsp_rules.specs.Values.{Turn}
 use Rattle.std.proofs.Common.{refl}
 use Rattle.tsp_world.proofs.Occurrences.{can_step, declined, lacks_memory, occurred}
 use Rattle.tsp_world.proofs.world.World.turn.Goals as goal
