@@ -67,6 +67,12 @@ def is_there(pid):
         return False
 
 
+def let_through():
+    """Lets signals through that a shell's job in the background ignores, or a command under nohup, and with it what they start."""
+    for number in (signal.SIGINT, signal.SIGHUP):
+        signal.signal(number, signal.SIG_DFL)
+
+
 class Supervised:
     """A daemon under tsp-launch, at an address; its lines go to files, unless streams are named."""
 
@@ -79,9 +85,7 @@ class Supervised:
         environment.update(TSP_SPREAD='0', TSP_TRACE='on', TSP_CLOCK=self.path('clock'), **variables)
         command = [*before, LAUNCH, '-f', self.hosts, '-s', 'a', '--turns', str(turns), '-p', PROGRAM, '--supervise', *words]
         with open(self.out, 'wb') as out, open(self.err, 'wb') as err:
-            # (a job in the background of a shell ignores interrupts, and so does what it starts)
-            self.process = subprocess.Popen(command, stdout=stdout or out, stderr=stderr or err, env=environment,
-                                            preexec_fn=lambda: signal.signal(signal.SIGINT, signal.SIG_DFL))
+            self.process = subprocess.Popen(command, stdout=stdout or out, stderr=stderr or err, env=environment, preexec_fn=let_through)
         self.link = socket.socket(socket.AF_INET, socket.SOCK_DGRAM)
         self.link.settimeout(0.2)
 
