@@ -24,24 +24,24 @@ abbrev IsNumbered : Option MessageValue → Type 0
 IsNumbered None = Unit {0}
 IsNumbered (Some m) = is_numbered m.kind ≡ true
 
-IsNumbered-after : (p : PeerId) (deed : Deed) (acts : Bool) (here keep : List Seen) → message_at here ≡ message_of deed → IsNumbered (message_at keep) → IsNumbered (message_at (open_to_after p deed acts here keep))
-IsNumbered-after p (Acts Boot) acts here keep is k = tt
-IsNumbered-after p (Acts (Become r)) acts here keep is k = tt
-IsNumbered-after p (Acts (Post (Peer q) (Message m))) acts here keep is k = by_test (q.0 == p.0) acts (is_numbered m.kind) refl where
-  by_test : (b acts n : Bool) → is_numbered m.kind ≡ n → IsNumbered (message_at (if b && (n && acts) then here else keep))
+IsNumbered-after : (p : PeerId) (deed : Deed) (acts : Bool) (here was : List Seen) → message_at here ≡ message_of deed → IsNumbered (message_at was) → IsNumbered (message_at (open_to_after p deed acts here was))
+IsNumbered-after p (Acts Boot) acts here was is k = tt
+IsNumbered-after p (Acts (Become r)) acts here was is k = tt
+IsNumbered-after p (Acts (Post (Peer q) (Message m))) acts here was is k = by_test (q.0 == p.0) acts (is_numbered m.kind) refl where
+  by_test : (b acts n : Bool) → is_numbered m.kind ≡ n → IsNumbered (message_at (if b && (n && acts) then here else was))
   by_test true true true e = rw is e
   by_test true false true e = k
   by_test true acts false e = k
   by_test false acts n e = k
-IsNumbered-after p (Acts (Acked q)) acts here keep is k = by_test (q.0 == p.0) where
-  by_test : (b : Bool) → IsNumbered (message_at (if b then [] else keep))
+IsNumbered-after p (Acts (Acked q)) acts here was is k = by_test (q.0 == p.0) where
+  by_test : (b : Bool) → IsNumbered (message_at (if b then [] else was))
   by_test true = tt
   by_test false = k
-IsNumbered-after p (Acts (Gave q)) acts here keep is k = by_test (q.0 == p.0) where
-  by_test : (b : Bool) → IsNumbered (message_at (if b then [] else keep))
+IsNumbered-after p (Acts (Gave q)) acts here was is k = by_test (q.0 == p.0) where
+  by_test : (b : Bool) → IsNumbered (message_at (if b then [] else was))
   by_test true = tt
   by_test false = k
-IsNumbered-after p _ acts here keep is k = k
+IsNumbered-after p _ acts here was is k = k
 
 IsNumbered-place : (p : PeerId) (seen : List Seen) → IsNumbered (message_at (open_to p seen))
 IsNumbered-place p [] = tt
@@ -85,11 +85,11 @@ begun-repeats : (step : Step) (x : ℕ) (p : PeerId) (m : MessageValue) (seen : 
 begun-repeats step x p m seen still = rw (still, and-false (has_own_number m.kind)) refl
 
 -- the open send to p has one post more
-again-only : (p q : PeerId) (s : Sending) (keep : Option Sending) (b : Bool) → (p.0 == q.0) ≡ b → (p ≡ q → keep ≡ Some s) → (if b then Some (record s { posts = s.posts + 1 }) else keep) ≡ (if b then again keep else keep)
-again-only p q s keep true e k =
+again-only : (p q : PeerId) (s : Sending) (was : Option Sending) (b : Bool) → (p.0 == q.0) ≡ b → (p ≡ q → was ≡ Some s) → (if b then Some (record s { posts = s.posts + 1 }) else was) ≡ (if b then again was else was)
+again-only p q s was true e k =
     let same : p ≡ q = ap (λ n. record { 0 = n }) (eqb-true p.0 q.0 e) in
     sym (ap again (k same))
-again-only p q s keep false e k = refl
+again-only p q s was false e k = refl
 
 -- a send is posted again
 pub StandsStill_repeats : (p : PeerId) (s : Sending) (x : ℕ) (past : Past) (before after : Station) → sending_to before.sends p ≡ Some s → ChangesSends before after → after.begun ≡ before.begun

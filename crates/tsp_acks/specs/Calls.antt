@@ -5,20 +5,12 @@ use Rattle.tsp_base.specs.Words.{Row, puts}
 use Rattle.tsp_sends.specs.Slots.{SetsOnly}
 use Rattle.tsp_acks.specs.declared.station.Station.{Station}
 pub use Rattle.std.specs.List.{Contains}
-pub use Rattle.tsp_base.specs.Frames.{IsTick, PutsAtMost, PutsExactly}
+pub use Rattle.tsp_base.specs.Frames.{IsTick, PutsAtMost, PutsExactly, Uses, UsesAtMost}
 pub use Rattle.tsp_base.specs.History.{Past}
 pub use Rattle.tsp_base.specs.Performs.{Performs}
 pub use Rattle.tsp_base.specs.PortFacts.{Received}
 pub use Rattle.tsp_acks.specs.Changes.{IsSamePort, ChangesSends}
 pub use Rattle.tsp_acks.specs.Stands.{StationStands, StandsActing, StandsStill}
-
--- a call puts at most n acts on this desk, and uses at most that much of its room
-abbrev pub UsesAtMost : {D : Type 0} → ℕ → (D → ℕ) → (D → List Placed) → D → D → Type 0
-UsesAtMost n spare acts old new = PutsAtMost n (spare old) (spare new) (acts old) (acts new)
-
--- a call puts exactly n acts on this desk, and uses that much of its room
-abbrev pub Uses : {D : Type 0} → ℕ → (D → ℕ) → (D → List Placed) → D → D → Type 0
-Uses n spare acts old new = PutsExactly n (spare old) (spare new) (acts old) (acts new)
 
 -- a call puts a row's acts on this desk for a station, which stands for the past before it and after it
 abbrev pub ActsBy : {D : Type 0} → Row → ℕ → Port → Station → Station → (D → List Placed) → D → D → Type 0

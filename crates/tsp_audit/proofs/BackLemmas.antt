@@ -13,15 +13,15 @@ use Rattle.tsp_audit.specs.Backing.{Backs, Settled, deed_backs, is_stand, is_sta
 use Rattle.tsp_history.specs.Holding.{HoldsApart}
 use Rattle.tsp_rules.proofs.GuardFacts.{same_peer}
 
-kept : (b keep : Bool) → (if b then false else keep) ≡ true → keep ≡ true
-kept true keep e = let bad : ⊥ = cc in absurd bad
-kept false keep e = e
+kept : (b was : Bool) → (if b then false else was) ≡ true → was ≡ true
+kept true was e = let bad : ⊥ = cc in absurd bad
+kept false was e = e
 
-standing : (deed : Deed) (own : ℕ) (keep : Bool) → is_unbacked_after deed own keep ≡ true → (keep ≡ true) ⊎ (is_standing deed ≡ true)
-standing Begins own keep e = inl (let bad : ⊥ = cc in absurd bad)
-standing (Acts (Become Candidate)) own keep e = inr refl
-standing (Acts (Back p)) own keep e = inl (kept (p.0 == own) keep e)
-standing _ own keep e = inl e
+standing : (deed : Deed) (own : ℕ) (was : Bool) → is_unbacked_after deed own was ≡ true → (was ≡ true) ⊎ (is_standing deed ≡ true)
+standing Begins own was e = inl (let bad : ⊥ = cc in absurd bad)
+standing (Acts (Become Candidate)) own was e = inr refl
+standing (Acts (Back p)) own was e = inl (kept (p.0 == own) was e)
+standing _ own was e = inl e
 
 own-deed : (deed : Deed) → is_standing deed ≡ true → is_shared deed ≡ false
 own-deed (Acts (Become Candidate)) e = refl

@@ -5,11 +5,11 @@ use Rattle.tsp_audit.specs.declared.premises.Premises.{Premises}
 use Rattle.tsp_audit.specs.declared.verdict.Failure.{Failure}
 use Rattle.std.specs.declared.result.Result.TheVariants.{Err}
 use Rattle.tsp_audit.specs.declared.audit.Audit.{Audit}
-use Rattle.tsp_audit.specs.declared.notes.Notes.{Notes}
+use Rattle.tsp_audit.specs.declared.remembered.Remembered.{Remembered}
 use Rattle.tsp_audit.specs.Agreeing.{Numbered}
 use Rattle.tsp_audit.specs.Looking.{Finds, Grown}
 use Rattle.tsp_audit.specs.Named.{named}
-use Rattle.tsp_audit.specs.Notes.{NotesStand}
+use Rattle.tsp_audit.specs.Remembered.{RememberedStands}
 use Rattle.tsp_audit.specs.Parts.{Acting, Agreeing, AllKeep, Backing, Leading, Measuring}
 use Rattle.tsp_audit.specs.Settings.{HasClocks, Timely}
 use Rattle.tsp_audit.specs.Verdicts.{AllHold, AuditStands, Audits, FailsFirst, IsFound, IsVerdict}
@@ -80,7 +80,7 @@ pub longer-claims : (header : HeaderValue) (claims : List Claim) (c : Claim) →
 longer-claims header claims c = longer-by header (step_of header (posts_of header claims) (booted (events_of claims)) c.event c.acts) c.acts (claimed header claims)
 
 -- the failure that was found before, or that the newest event brings, is the first
-pub found-more : (premises : Premises) (header : HeaderValue) (claim : Claim) (claims : List Claim) (before found : Option Failure) (notes : Notes) →
+pub found-more : (premises : Premises) (header : HeaderValue) (claim : Claim) (claims : List Claim) (before found : Option Failure) (notes : Remembered) →
     ((setting : Setting) → HasClocks header setting → IsFound premises setting header claims before) → Finds premises header (claim ∷ claims) (claimed header claims) before notes found →
     (setting : Setting) → HasClocks header setting → IsFound premises setting header (claim ∷ claims) found
 found-more premises header claim claims (Some f) found notes old same setting has =
@@ -103,8 +103,8 @@ found-more premises header claim claims None (Some f) notes old looks setting ha
   earlier = old setting has;
 }
 
-pub notes-later : (premises : Premises) (header : HeaderValue) (claim : Claim) (claims : List Claim) (before found : Option Failure) (notes : Notes) → Finds premises header (claim ∷ claims) (claimed header claims) before notes found → found ≡ None →
-    NotesStand premises (length header.nodes) (claimed header (claim ∷ claims)) notes
+pub notes-later : (premises : Premises) (header : HeaderValue) (claim : Claim) (claims : List Claim) (before found : Option Failure) (notes : Remembered) → Finds premises header (claim ∷ claims) (claimed header claims) before notes found → found ≡ None →
+    RememberedStands premises (length header.nodes) (claimed header (claim ∷ claims)) notes
 notes-later premises header claim claims (Some f) found notes same none = let bad : ⊥ = cc in absurd bad
 notes-later premises header claim claims None None notes looks none = looks.0
 notes-later premises header claim claims None (Some f) notes looks none = let bad : ⊥ = cc in absurd bad
@@ -129,20 +129,20 @@ pub holds-none : (premises : Premises) (setting : Setting) (header : HeaderValue
 holds-none premises setting header older w = subst (λ (c : List Claim). AllKeep premises setting (claimed header c)) (sym w) (keeps-none premises setting)
 
 -- an audit after a call that changes nothing but where things are kept
-pub audit-with : (premises : Premises) (header : HeaderValue) (claims : List Claim) (old : Audit) (c : Claims) (n : Notes) → AuditStands premises header claims old → ClaimsStand header claims c →
-    (NotesStand premises (length header.nodes) (claimed header claims) old.notes → NotesStand premises (length header.nodes) (claimed header claims) n) →
+pub audit-with : (premises : Premises) (header : HeaderValue) (claims : List Claim) (old : Audit) (c : Claims) (n : Remembered) → AuditStands premises header claims old → ClaimsStand header claims c →
+    (RememberedStands premises (length header.nodes) (claimed header claims) old.notes → RememberedStands premises (length header.nodes) (claimed header claims) n) →
     AuditStands premises header claims (record { claims = c; premises = old.premises; notes = n; failed = old.failed })
-audit-with premises header claims old c n stands claims_stand keep = record {
+audit-with premises header claims old c n stands claims_stand was = record {
   claims_stand = claims_stand;
   premises_are = stands.premises_are;
   timely = stands.timely;
   found = stands.found;
   named = stands.named;
-  notes = λ none. keep (stands.notes none);
+  notes = λ none. was (stands.notes none);
 }
 
-pub audit-refused : (premises : Premises) (header : HeaderValue) (claims : List Claim) (e : Event) (lines : List Line2) (fault : AuditFault) (old : Audit) (c : Claims) (n : Notes) → AuditStands premises header claims old → TakesIn header claims e lines (Err fault) c →
-    (NotesStand premises (length header.nodes) (claimed header claims) old.notes → NotesStand premises (length header.nodes) (claimed header claims) n) →
+pub audit-refused : (premises : Premises) (header : HeaderValue) (claims : List Claim) (e : Event) (lines : List Line2) (fault : AuditFault) (old : Audit) (c : Claims) (n : Remembered) → AuditStands premises header claims old → TakesIn header claims e lines (Err fault) c →
+    (RememberedStands premises (length header.nodes) (claimed header claims) old.notes → RememberedStands premises (length header.nodes) (claimed header claims) n) →
     Audits premises header claims e lines (Err fault) (record { claims = c; premises = old.premises; notes = n; failed = old.failed })
-audit-refused premises header claims e lines (History i) old c n stands refused keep = (refused.0, audit-with premises header claims old c n stands refused.1 keep)
-audit-refused premises header claims e lines OutOfMemory old c n stands refused keep = (refused.0, audit-with premises header claims old c n stands refused.1 keep)
+audit-refused premises header claims e lines (History i) old c n stands refused was = (refused.0, audit-with premises header claims old c n stands refused.1 was)
+audit-refused premises header claims e lines OutOfMemory old c n stands refused was = (refused.0, audit-with premises header claims old c n stands refused.1 was)

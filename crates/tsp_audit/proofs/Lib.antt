@@ -1,9 +1,9 @@
-pub mod AccordLemmas
-pub mod AccordSteps
+pub mod AgreementLemmas
+pub mod AgreementSteps
 pub mod ActLemmas
 mod ActsFit
 pub mod BackLemmas
-pub mod CastLemmas
+pub mod FromRoundLemmas
 mod ClaimedEvents
 mod ClaimedPosts
 pub mod EventLemmas

@@ -3,9 +3,9 @@ use Rattle.std.specs.Prelude.{◌≡◌, ◌+◌, ◌*◌, ◌≤ℤ◌, ◌<◌
 use Rattle.std.proofs.Common.{ap, refl, ◌∙◌, arith, rules, subst, subst₂, sym, ◌⊎◌, inl, inr}
 use Rattle.std.proofs.lemmas.Bool.{cases_lt}
 use Rattle.std.proofs.lemmas.Int.{ints}
-use Rattle.tsp_audit.proofs.AccordSteps.{state-at}
+use Rattle.tsp_audit.proofs.AgreementSteps.{state-at}
 use Rattle.tsp_base.specs.Words.{HeaderValue}
-use Rattle.tsp_audit.specs.Agreeing.{AgreesBack, AllAgree, BossAgrees, IsAtPlace, MasterNear, NodeAgrees, PairAgrees, PairNear, CastStands, shown_by}
+use Rattle.tsp_audit.specs.Agreeing.{AgreesBack, AllAgree, BossAgrees, IsAtPlace, MasterNear, NodeAgrees, PairAgrees, PairNear, FromRoundStands, shown_by}
 use Rattle.tsp_audit.specs.declared.round_correction.NodeState.{NodeState}
 use Rattle.tsp_audit.specs.declared.round_correction.RoundCorrection.{RoundCorrection}
 
@@ -28,19 +28,19 @@ some-same : (o : Option RoundCorrection) (c d : RoundCorrection) → o ≡ Some 
 some-same o c d is was = search (rules, is, was)
 
 -- two nodes that one Close corrected agree exactly where they are near
-pub pair-told : (header : HeaderValue) (t n k : ℕ) (a b : NodeState) (c d : RoundCorrection) (r : Bool) → a.cast ≡ Some c → b.cast ≡ Some d → c.master ≡ d.master → c.close ≡ d.close →
+pub pair-told : (header : HeaderValue) (t n k : ℕ) (a b : NodeState) (c d : RoundCorrection) (r : Bool) → a.from_round ≡ Some c → b.from_round ≡ Some d → c.master ≡ d.master → c.close ≡ d.close →
     MatchBool r (PairNear header t n a c k b d) (PairNear header t n a c k b d → ⊥) → MatchBool r (PairAgrees header t n a k b) (PairAgrees header t n a k b → ⊥)
-pair-told header t n k a b c d true ac bd masters closes near = λ e f ae bf ms cs. subst₂ (λ (x y : RoundCorrection). PairNear header t n a x k b y) (some-same a.cast c e ac ae) (some-same b.cast d f bd bf) near
+pair-told header t n k a b c d true ac bd masters closes near = λ e f ae bf ms cs. subst₂ (λ (x y : RoundCorrection). PairNear header t n a x k b y) (some-same a.from_round c e ac ae) (some-same b.from_round d f bd bf) near
 pair-told header t n k a b c d false ac bd masters closes far = λ agrees. far (agrees c d ac bd masters closes)
 
 same-state : (states : List NodeState) (k : ℕ) (b f : NodeState) → IsAtPlace states k b → IsAtPlace states k f → b ≡ f
 same-state states k b f bat fat = sym bat.is ∙ state-at states k k b f fat refl
 
 -- a node agrees with its master exactly where they are near, if that was left alone
-pub boss-told : (header : HeaderValue) (t n : ℕ) (a : NodeState) (states : List NodeState) (c : RoundCorrection) (b : NodeState) (r : Bool) → a.cast ≡ Some c → IsAtPlace states c.master b → CastStands c b →
+pub boss-told : (header : HeaderValue) (t n : ℕ) (a : NodeState) (states : List NodeState) (c : RoundCorrection) (b : NodeState) (r : Bool) → a.from_round ≡ Some c → IsAtPlace states c.master b → FromRoundStands c b →
     MatchBool r (MasterNear header t n a c b) (MasterNear header t n a c b → ⊥) → MatchBool r (BossAgrees header t n a states) (BossAgrees header t n a states → ⊥)
 boss-told header t n a states c b true ac bat st near = λ e f ae fat left.
-    (let ce : c ≡ e = some-same a.cast c e ac ae in
+    (let ce : c ≡ e = some-same a.from_round c e ac ae in
     let bf : b ≡ f = same-state states c.master b f bat (subst (λ (x : RoundCorrection). IsAtPlace states x.master f) (sym ce) fat) in
     subst₂ (λ (x : RoundCorrection) (y : NodeState). MasterNear header t n a x y) ce bf near)
 boss-told header t n a states c b false ac bat st far = λ agrees. far (agrees c b ac bat st)

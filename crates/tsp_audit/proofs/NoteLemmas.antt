@@ -1,9 +1,9 @@
 -- What an audit notes stands for a history.
 use Rattle.std.specs.Prelude.{◌≤◌, ℕ}
 use Rattle.std.proofs.Common.{arith}
-use Rattle.tsp_audit.specs.declared.notes.Notes.{Notes}
-use Rattle.tsp_audit.specs.Notes.{HasLineRoom}
+use Rattle.tsp_audit.specs.declared.remembered.Remembered.{Remembered}
+use Rattle.tsp_audit.specs.Remembered.{HasLineRoom}
 
 -- room for more is room for less
-pub room-less : (few many : ℕ) (n : Notes) → few ≤ many → HasLineRoom many n → HasLineRoom few n
+pub room-less : (few many : ℕ) (n : Remembered) → few ≤ many → HasLineRoom many n → HasLineRoom few n
 room-less few many n le room = record { acted = omega (arith, le, room.acted); trips = omega (arith, le, room.trips) }

@@ -28,9 +28,9 @@ boots-below count (Turn at node) n named e = let bad : ⊥ = cc in absurd bad
 boots-below count (Take at k) n named e = let bad : ⊥ = cc in absurd bad
 boots-below count (Bytes at node port from octets) n named e = let bad : ⊥ = cc in absurd bad
 
-booted-more : (count : ℕ) (e : Event) (n : ℕ) (keep b : Bool) → NamesNode count e → (keep ≡ true → n < count) → boots e n ≡ b → (boots e n || keep) ≡ true → n < count
-booted-more count e n keep true named rest f or = boots-below count e n named f
-booted-more count e n keep false named rest f or = rest (either (boots e n) keep or f)
+booted-more : (count : ℕ) (e : Event) (n : ℕ) (was b : Bool) → NamesNode count e → (was ≡ true → n < count) → boots e n ≡ b → (boots e n || was) ≡ true → n < count
+booted-more count e n was true named rest f or = boots-below count e n named f
+booted-more count e n was false named rest f or = rest (either (boots e n) was or f)
 
 booted-below : (count : ℕ) (claims : List Claim) → AllName count claims → (n : ℕ) → booted (events_of claims) n ≡ true → n < count
 booted-below count [] named n e = let bad : ⊥ = cc in absurd bad

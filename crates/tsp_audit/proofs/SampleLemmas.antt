@@ -8,13 +8,13 @@ use Rattle.tsp_promises.specs.Fits.{node_of}
 use Rattle.tsp_promises.specs.StepFacts.{closed}
 use Rattle.tsp_base.proofs.PlaceLemmas.{Within-through}
 use Rattle.tsp_promises.proofs.SendPlaces.{posted-mono, posted-post}
-use Rattle.tsp_audit.proofs.CastLemmas.{begun-cast, begun-none, lines-one}
+use Rattle.tsp_audit.proofs.FromRoundLemmas.{begun-from_round, begun-none, lines-one}
 use Rattle.tsp_history.proofs.NoteLemmas.{length-noted}
 use Rattle.tsp_audit.proofs.Prefixes.{history-within}
 use Rattle.tsp_history.proofs.HistoryLemmas.{Within-noted, history-more}
 use Rattle.tsp_audit.proofs.TakeLemmas.{same-noted}
-use Rattle.tsp_audit.specs.Agreeing.{CastAs, IsNoCast, TripsTell}
-use Rattle.tsp_audit.specs.Casting.{BegunAt, HasNoRound, RoundAs, Rounds, TakesNone, TakesThen}
+use Rattle.tsp_audit.specs.Agreeing.{FromRoundAs, IsFromNoRound, TripsTell}
+use Rattle.tsp_audit.specs.FromRounds.{BegunAt, HasNoRound, RoundAs, Rounds, TakesNone, TakesThen}
 use Rattle.tsp_audit.specs.declared.round_correction.RoundCorrection.{RoundCorrection}
 use Rattle.tsp_history.specs.declared.line.HistoryLine.{HistoryLine}
 use Rattle.tsp_history.specs.declared.rounds.Best.{Best}
@@ -123,11 +123,11 @@ round-found ns n q k i b noted c s best_is is t master_is close_is err_is lives_
     }
 
 -- what a Correct came of, by the first post of the send that it takes
-pub cast-told : (ns : List HistoryLine) (l : Line) (i : ℕ) (noted : HistoryLine) (o : Option RoundCorrection) → BegunAt ns l i → get_or ns i noted ≡ noted → MatchOption o (HasNoRound noted.node noted.port (node_of l) (history_of (take i ns))) (λ c. RoundAs noted.node noted.port (node_of l) (history_of (take i ns)) c) →
-    MatchOption o (IsNoCast l (history_of ns)) (λ c. CastAs l (history_of ns) c)
-cast-told ns l i noted None x is none =
+pub from_round-told : (ns : List HistoryLine) (l : Line) (i : ℕ) (noted : HistoryLine) (o : Option RoundCorrection) → BegunAt ns l i → get_or ns i noted ≡ noted → MatchOption o (HasNoRound noted.node noted.port (node_of l) (history_of (take i ns))) (λ c. RoundAs noted.node noted.port (node_of l) (history_of (take i ns)) c) →
+    MatchOption o (IsFromNoRound l (history_of ns)) (λ c. FromRoundAs l (history_of ns) c)
+from_round-told ns l i noted None x is none =
     let same : noted ≡ x.noted = same-noted ns i noted x.noted x.at.below is x.at.noted_is in
     begun-none ns l i x (subst (λ (m : HistoryLine). HasNoRound m.node m.port (node_of l) (history_of (take i ns))) same none)
-cast-told ns l i noted (Some c) x is r =
+from_round-told ns l i noted (Some c) x is r =
     let same : noted ≡ x.noted = same-noted ns i noted x.noted x.at.below is x.at.noted_is in
-    begun-cast ns l i c x (subst (λ (m : HistoryLine). RoundAs m.node m.port (node_of l) (history_of (take i ns)) c) same r)
+    begun-from_round ns l i c x (subst (λ (m : HistoryLine). RoundAs m.node m.port (node_of l) (history_of (take i ns)) c) same r)

@@ -4,13 +4,13 @@ use Rattle.std.proofs.Common.{sym, ap, subst, ◌∙◌, arith, inl, inr}
 use Rattle.std.proofs.lemmas.Int.{ints}
 use Rattle.tsp_rules.specs.Values.{Boot, Correct}
 use Rattle.tsp_base.specs.Words.{Acts, Deed, Did, Line, dids, from_act, of, all_corrects, all_corrects_after, lives, lives_after, moved, moved_after, Within}
-use Rattle.tsp_promises.specs.Agreed.{Cast}
+use Rattle.tsp_promises.specs.Agreed.{FromRound}
 use Rattle.tsp_promises.specs.Fits.{node_of}
 use Rattle.tsp_base.proofs.PlaceLemmas.{Within-all, Within-comparable}
 use Rattle.tsp_base.proofs.ViewPlaces.{Within-dids}
 use Rattle.tsp_promises.proofs.HistoryPlaces.{Within-of, of-other, of-own}
-use Rattle.tsp_audit.specs.Agreeing.{AfterIs, CastAs, FirstIs, IsNoCast, LiveIs, NodeIs}
-use Rattle.tsp_audit.specs.Changes.{IsCorrect, IsQuiet}
+use Rattle.tsp_audit.specs.Agreeing.{AfterIs, FromRoundAs, FirstIs, IsFromNoRound, LiveIs, NodeIs}
+use Rattle.tsp_audit.specs.Changes.{IsCorrect, LeavesState}
 use Rattle.tsp_audit.specs.declared.round_correction.RoundCorrection.{RoundCorrection}
 use Rattle.tsp_audit.specs.declared.round_correction.NodeState.{NodeState}
 use Rattle.tsp_history.specs.Clocks.{IsSumOf}
@@ -74,9 +74,9 @@ not-now n l c h past a s y node deed e still =
     omega (arith, counts, still)
 
 live-still : (n : ℕ) (l : Line) (h : List Line) (o : Option RoundCorrection) → Still n l h → LiveIs n h o → LiveIs n (l ∷ h) o
-live-still n l h None st none = λ c past node u m close cpast r older e cast. elim u.within [
-  | inl same ↦ not-now n l c h past cast.acts.amount cast.acts.stepped cast.acts.shown node cast.acts.correct same st.corrects_is
-  | inr w ↦ none c past node (record { within = w; since = record { corrects = u.since.corrects ∙ st.corrects_is; lives = u.since.lives ∙ st.lives_is } }) m close cpast r older e cast
+live-still n l h None st none = λ c past node u m close cpast r older e from_round. elim u.within [
+  | inl same ↦ not-now n l c h past from_round.acts.amount from_round.acts.stepped from_round.acts.shown node from_round.acts.correct same st.corrects_is
+  | inr w ↦ none c past node (record { within = w; since = record { corrects = u.since.corrects ∙ st.corrects_is; lives = u.since.lives ∙ st.lives_is } }) m close cpast r older e from_round
 ]
 live-still n l h (Some k) st a = record {
   correct = a.correct;
@@ -105,17 +105,17 @@ node-still n l h s st a = record {
   lives_is = a.lives_is ∙ sym st.lives_is;
   corrects_is = a.corrects_is ∙ sym st.corrects_is;
   after_is = after-still n l h s.after st.corrects_is a.after_is;
-  cast_is = live-still n l h s.cast st a.cast_is;
+  correction_is = live-still n l h s.from_round st a.correction_is;
 }
 
 -- a Boot forgets what was corrected
-pub node-boot : (n : ℕ) (l : Line) (h : List Line) (s t : NodeState) → node_of l ≡ n → l.did.deed ≡ Acts Boot → NodeIs n h s → t.moved ≡ pos 0 → t.lives ≡ lives (dids (of n (l ∷ h))) → t.corrects ≡ s.corrects → t.after ≡ s.after → t.cast ≡ None → NodeIs n (l ∷ h) t
-node-boot n l h s t node deed a moved_is lives_is corrects_is after_is cast_is =
+pub node-boot : (n : ℕ) (l : Line) (h : List Line) (s t : NodeState) → node_of l ≡ n → l.did.deed ≡ Acts Boot → NodeIs n h s → t.moved ≡ pos 0 → t.lives ≡ lives (dids (of n (l ∷ h))) → t.corrects ≡ s.corrects → t.after ≡ s.after → t.from_round ≡ None → NodeIs n (l ∷ h) t
+node-boot n l h s t node deed a moved_is lives_is corrects_is after_is correction_is =
     let own : of n (l ∷ h) ≡ l ∷ of n h = of-own n l h node in
     let still : all_corrects (dids (of n (l ∷ h))) ≡ all_corrects (dids (of n h)) = ap (λ (k : List Line). all_corrects (dids k)) own ∙ ap (λ (d : Deed). all_corrects_after d (all_corrects (dids (of n h)))) deed in
     let more : lives (dids (of n (l ∷ h))) ≡ lives (dids (of n h)) + 1 = ap (λ (k : List Line). lives (dids k)) own ∙ ap (λ (d : Deed). lives_after d (lives (dids (of n h)))) deed in
-    let none : LiveIs n (l ∷ h) None = λ c past same u m close cpast r older e cast. elim u.within [
-      | inl now ↦ not-now n l c h past cast.acts.amount cast.acts.stepped cast.acts.shown same cast.acts.correct now still
+    let none : LiveIs n (l ∷ h) None = λ c past same u m close cpast r older e from_round. elim u.within [
+      | inl now ↦ not-now n l c h past from_round.acts.amount from_round.acts.stepped from_round.acts.shown same from_round.acts.correct now still
       | inr w ↦ omega (arith, lives-mono n (c ∷ past) h w, more, u.since.lives)
     ] in
     record {
@@ -124,15 +124,15 @@ node-boot n l h s t node deed a moved_is lives_is corrects_is after_is cast_is =
       lives_is = lives_is;
       corrects_is = corrects_is ∙ (a.corrects_is ∙ sym still);
       after_is = subst (λ (o : Option ℕ). AfterIs n (l ∷ h) o) (sym after_is) (after-still n l h s.after still a.after_is);
-      cast_is = subst (λ (o : Option RoundCorrection). LiveIs n (l ∷ h) o) (sym cast_is) none;
+      correction_is = subst (λ (o : Option RoundCorrection). LiveIs n (l ∷ h) o) (sym correction_is) none;
     }
 
-live-correct : (n : ℕ) (l : Line) (h : List Line) (o : Option RoundCorrection) (a : ℤ) (s : Bool) (y : ℤ) → node_of l ≡ n → l.did.deed ≡ Acts (Correct a s y) → MatchOption o (IsNoCast l h) (λ c. CastAs l h c) → LiveIs n (l ∷ h) o
-live-correct n l h None a s y node deed none = λ c past same u m close cpast r older e cast. elim u.within [
+live-correct : (n : ℕ) (l : Line) (h : List Line) (o : Option RoundCorrection) (a : ℤ) (s : Bool) (y : ℤ) → node_of l ≡ n → l.did.deed ≡ Acts (Correct a s y) → MatchOption o (IsFromNoRound l h) (λ c. FromRoundAs l h c) → LiveIs n (l ∷ h) o
+live-correct n l h None a s y node deed none = λ c past same u m close cpast r older e from_round. elim u.within [
   | inl now ↦
       let line : c ≡ l = cc in
       let rest : past ≡ h = cc in
-      none m close cpast r older e (subst (λ (p : List Line). Cast m close cpast l p r older e) rest (subst (λ (k : Line). Cast m close cpast k past r older e) line cast))
+      none m close cpast r older e (subst (λ (p : List Line). FromRound m close cpast l p r older e) rest (subst (λ (k : Line). FromRound m close cpast k past r older e) line from_round))
   | inr w ↦ omega (arith, corrects-mono n (c ∷ past) h w, correct-counts n l h a s y node deed, u.since.corrects)
 ]
 live-correct n l h (Some k) a s y node deed is = record { correct = l; past = h; is = is; node = node; unchanged = record { within = Within-all (l ∷ h); since = record { corrects = refl; lives = refl } } }
@@ -153,9 +153,9 @@ after-correct n l h (Some k) a s y node deed b = record {
 }
 
 -- after a Correct
-pub node-correct : (n : ℕ) (l : Line) (h : List Line) (s t : NodeState) → node_of l ≡ n → IsCorrect l.did.deed → NodeIs n h s → FirstIs (from_act h) t.after → MatchOption t.cast (IsNoCast l h) (λ c. CastAs l h c) →
+pub node-correct : (n : ℕ) (l : Line) (h : List Line) (s t : NodeState) → node_of l ≡ n → IsCorrect l.did.deed → NodeIs n h s → FirstIs (from_act h) t.after → MatchOption t.from_round (IsFromNoRound l h) (λ c. FromRoundAs l h c) →
     t.moved ≡ moved (dids (of n (l ∷ h))) → IsSumOf 4294967295 t.moved → t.lives ≡ s.lives → t.corrects ≡ all_corrects (dids (of n (l ∷ h))) → NodeIs n (l ∷ h) t
-node-correct n l h s t node is a first cast moved_is bounded lives_is corrects_is =
+node-correct n l h s t node is a first from_round moved_is bounded lives_is corrects_is =
     let own : of n (l ∷ h) ≡ l ∷ of n h = of-own n l h node in
     let still : lives (dids (of n (l ∷ h))) ≡ lives (dids (of n h)) = ap (λ (k : List Line). lives (dids k)) own ∙ ap (λ (d : Deed). lives_after d (lives (dids (of n h)))) is.is in
     record {
@@ -164,7 +164,7 @@ node-correct n l h s t node is a first cast moved_is bounded lives_is corrects_i
       lives_is = lives_is ∙ (a.lives_is ∙ sym still);
       corrects_is = corrects_is;
       after_is = after-correct n l h t.after is.amount is.stepped is.shown node is.is first;
-      cast_is = live-correct n l h t.cast is.amount is.stepped is.shown node is.is cast;
+      correction_is = live-correct n l h t.from_round is.amount is.stepped is.shown node is.is from_round;
     }
 
 -- as many amounts as there can be lines
@@ -172,9 +172,9 @@ pub sum-more : (count : ℕ) (z : ℤ) → count < 2 ^ 32 → IsSumOf count z �
 sum-more count z few sum = (omega (arith, ints, few, sum.0), omega (arith, ints, few, sum.1))
 
 -- a Boot isn't quiet
-pub boot-loud : (deed : Deed) → deed ≡ Acts Boot → IsQuiet deed → ⊥
+pub boot-loud : (deed : Deed) → deed ≡ Acts Boot → LeavesState deed → ⊥
 boot-loud deed is quiet = let k : 1 ≡ 0 = subst (λ d. lives_after d 0 ≡ 0) is (quiet.lives 0) in omega (arith, k)
 
 -- nor is a Correct
-pub correct-loud : (deed : Deed) → IsCorrect deed → IsQuiet deed → ⊥
+pub correct-loud : (deed : Deed) → IsCorrect deed → LeavesState deed → ⊥
 correct-loud deed c quiet = let k : 1 ≡ 0 = subst (λ d. all_corrects_after d 0 ≡ 0) c.is (quiet.corrects 0) in omega (arith, k)

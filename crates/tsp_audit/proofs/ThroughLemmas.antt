@@ -2,12 +2,12 @@
 use Rattle.std.specs.Prelude.{◌≡◌, ◌<◌, ◌≤◌, ◌+◌, ℕ, List, [], ◌∷◌, length, refl, None, Some, take}
 use Rattle.std.proofs.Common.{sym, ap, subst, arith, inl, inr, ◌⊎◌}
 use Rattle.std.proofs.lemmas.Bool.{cases_lt}
-use Rattle.tsp_audit.specs.declared.notes.Notes.{Notes}
+use Rattle.tsp_audit.specs.declared.remembered.Remembered.{Remembered}
 use Rattle.tsp_audit.specs.declared.premises.Premises.{Premises}
 use Rattle.tsp_audit.specs.declared.verdict.Failure.{Failure}
 use Rattle.tsp_audit.specs.Ends.{AreDated}
 use Rattle.tsp_audit.specs.Looking.{Grown, Looks}
-use Rattle.tsp_audit.specs.Notes.{NotesStand}
+use Rattle.tsp_audit.specs.Remembered.{RememberedStands}
 use Rattle.tsp_audit.specs.Settings.{HasClocks, Timely}
 use Rattle.tsp_audit.specs.Verdicts.{AllHold, IsFound, Looked}
 use Rattle.tsp_audit.proofs.EventLemmas.{found-more, grown-claims, holds-none, joins-within}
@@ -79,19 +79,19 @@ none-place [] = refl
 none-place (c ∷ t) = inr (none-place t)
 
 -- so many events were looked at, up to so many lines, and nothing fails of them
-pub record Reached (premises : Premises) (header : HeaderValue) (told : List Claim) (i from : ℕ) (notes : Notes) : Type 0 where
+pub record Reached (premises : Premises) (header : HeaderValue) (told : List Claim) (i from : ℕ) (notes : Remembered) : Type 0 where
   pub before : List Claim
   pub place : Within before told
   pub count : length before ≡ i
   pub from_is : from ≡ length (claimed header before)
   pub holds : (setting : Setting) → HasClocks header setting → AllHold premises setting header before
-  pub notes_are : NotesStand premises (length header.nodes) (claimed header before) notes
+  pub notes_are : RememberedStands premises (length header.nodes) (claimed header before) notes
 
-pub reached-none : (premises : Premises) (header : HeaderValue) (told : List Claim) (notes : Notes) → NotesStand premises (length header.nodes) [] notes → Reached premises header told 0 0 notes
+pub reached-none : (premises : Premises) (header : HeaderValue) (told : List Claim) (notes : Remembered) → RememberedStands premises (length header.nodes) [] notes → Reached premises header told 0 0 notes
 reached-none premises header told notes stand = record { before = []; place = none-place told; count = refl; from_is = refl; holds = λ setting has. holds-none premises setting header; notes_are = stand }
 
 -- nothing fails of the next event either
-pub reached-next : (premises : Premises) (header : HeaderValue) (told : List Claim) (i from end : ℕ) (old new : Notes) → (r : Reached premises header told i from old) → (n : Next told r.before) → end ≡ length (claimed header (n.claim ∷ r.before)) →
+pub reached-next : (premises : Premises) (header : HeaderValue) (told : List Claim) (i from end : ℕ) (old new : Remembered) → (r : Reached premises header told i from old) → (n : Next told r.before) → end ≡ length (claimed header (n.claim ∷ r.before)) →
     Looks premises header (n.claim ∷ r.before) (claimed header r.before) new None → Reached premises header told (i + 1) end new
 reached-next premises header told i from end old new r n end_is looks = record {
   before = n.claim ∷ r.before;
@@ -108,7 +108,7 @@ found-through premises setting header told upto f w first =
     record { claim = first.claim; before = first.before; place = Within-through (first.claim ∷ first.before) upto told first.place w; event_is = first.event_is; fails = first.fails; earlier = first.earlier }
 
 -- something fails of the next event
-pub reached-failure : (premises : Premises) (header : HeaderValue) (told : List Claim) (i from : ℕ) (old new : Notes) (f : Failure) → (r : Reached premises header told i from old) → (n : Next told r.before) →
+pub reached-failure : (premises : Premises) (header : HeaderValue) (told : List Claim) (i from : ℕ) (old new : Remembered) (f : Failure) → (r : Reached premises header told i from old) → (n : Next told r.before) →
     Looks premises header (n.claim ∷ r.before) (claimed header r.before) new (Some f) → Looked premises header told new (Some f)
 reached-failure premises header told i from old new f r n looks = record {
   found_is = λ setting has. found-through premises setting header told (n.claim ∷ r.before) f n.place (found-more premises header n.claim r.before None (Some f) new r.holds looks setting has);
@@ -116,10 +116,10 @@ reached-failure premises header told i from old new f r n looks = record {
 }
 
 -- all events were looked at
-pub reached-all : (premises : Premises) (header : HeaderValue) (told : List Claim) (i from : ℕ) (notes : Notes) → length told ≤ i → Reached premises header told i from notes → Looked premises header told notes None
+pub reached-all : (premises : Premises) (header : HeaderValue) (told : List Claim) (i from : ℕ) (notes : Remembered) → length told ≤ i → Reached premises header told i from notes → Looked premises header told notes None
 reached-all premises header told i from notes past r =
     let whole : r.before ≡ told = whole-place told r.before r.place (let many = r.count in omega (arith, past, many)) in
     record {
       found_is = λ setting has. subst (λ (s : List Claim). AllHold premises setting header s) whole (r.holds setting has);
-      notes_are = λ none. subst (λ (s : List Claim). NotesStand premises (length header.nodes) (claimed header s) notes) whole r.notes_are;
+      notes_are = λ none. subst (λ (s : List Claim). RememberedStands premises (length header.nodes) (claimed header s) notes) whole r.notes_are;
     }

@@ -3,8 +3,8 @@ use Rattle.std.specs.Prelude.{◌≡◌, ◌<◌, ◌≤◌, ◌≤ℤ◌, ◌�
 use Rattle.tsp_audit.specs.declared.round_correction.RoundCorrection.{RoundCorrection}
 use Rattle.tsp_audit.specs.declared.round_correction.NodeState.{NodeState}
 use Rattle.tsp_audit.specs.declared.agreement_tracker.AgreementTracker.{AgreementTracker}
-use Rattle.tsp_audit.specs.Changes.{IsQuiet}
-use Rattle.tsp_promises.specs.Agreed.{Cast, RightAfter, Unchanged}
+use Rattle.tsp_audit.specs.Changes.{LeavesState}
+use Rattle.tsp_promises.specs.Agreed.{FromRound, RightAfter, Unchanged}
 use Rattle.tsp_promises.specs.Everywhere.{Everywhere}
 use Rattle.tsp_promises.specs.Fits.{node_of}
 use Rattle.tsp_base.specs.Words.{HeaderValue, Line, dids, from_act, of, all_corrects, lives, moved, Within, tick_at, width}
@@ -22,34 +22,34 @@ Numbered count = Everywhere (λ l before. node_of l < count)
 abbrev pub TripsTell : List Line → List ℤ → Type 0
 TripsTell h trips = (l : Line) (before : List Line) → Within (l ∷ before) h → get_or trips (length before) (pos 0) ≡ trip_at l before
 
--- a Correct is a cast, one that a master's Close sent, and these are its values
-pub record CastAs (l : Line) (h : List Line) (c : RoundCorrection) : Type 0 where
+-- a Correct comes from a round: a Close of a master sent it, and these are its values
+pub record FromRoundAs (l : Line) (h : List Line) (c : RoundCorrection) : Type 0 where
   pub close : Line
   pub cpast : List Line
   pub reading : Line
   pub older : List Line
-  pub cast : Cast c.master close cpast l h reading older c.err
+  pub from_round : FromRound c.master close cpast l h reading older c.err
   pub at_is : c.at ≡ reading.did.step.at
   pub close_is : c.close ≡ length cpast
   pub lives_is : c.lives ≡ lives (dids (of c.master (close ∷ cpast)))
   pub corrects_is : c.corrects ≡ all_corrects (dids (of c.master (close ∷ cpast)))
 
--- a line is no cast
-abbrev pub IsNoCast : Line → List Line → Type 0
-IsNoCast l h = (m : ℕ) (close : Line) (cpast : List Line) (r : Line) (older : List Line) (err : ℤ) → Cast m close cpast l h r older err → ⊥
+-- a line is no Correct from a round
+abbrev pub IsFromNoRound : Line → List Line → Type 0
+IsFromNoRound l h = (m : ℕ) (close : Line) (cpast : List Line) (r : Line) (older : List Line) (err : ℤ) → FromRound m close cpast l h r older err → ⊥
 
--- a Correct of node n is this cast, and n has neither booted nor corrected its clock since
+-- a Correct of node n comes from this round, and n has neither booted nor corrected its clock since
 pub record LiveAs (n : ℕ) (h : List Line) (c : RoundCorrection) : Type 0 where
   pub correct : Line
   pub past : List Line
-  pub is : CastAs correct past c
+  pub is : FromRoundAs correct past c
   pub node : node_of correct ≡ n
   pub unchanged : Unchanged n (correct ∷ past) h
 
--- a Correct of node n is this cast, and n has neither booted nor corrected its clock since; none where there is no
+-- a Correct of node n comes from this round, and n has neither booted nor corrected its clock since; none where there is no
 -- such
 abbrev pub LiveIs : ℕ → List Line → Option RoundCorrection → Type 0
-LiveIs n h None = (correct : Line) (past : List Line) → node_of correct ≡ n → Unchanged n (correct ∷ past) h → IsNoCast correct past
+LiveIs n h None = (correct : Line) (past : List Line) → node_of correct ≡ n → Unchanged n (correct ∷ past) h → IsFromNoRound correct past
 LiveIs n h (Some c) = LiveAs n h c
 
 -- the line at this index is the act right before node n's last Correct
@@ -83,7 +83,7 @@ pub record NodeIs (n : ℕ) (h : List Line) (s : NodeState) : Type 0 where
   pub lives_is : s.lives ≡ lives (dids (of n h))
   pub corrects_is : s.corrects ≡ all_corrects (dids (of n h))
   pub after_is : AfterIs n h s.after
-  pub cast_is : LiveIs n h s.cast
+  pub correction_is : LiveIs n h s.from_round
 
 -- this is the k-th of a list
 pub record IsAtPlace (states : List NodeState) (k : ℕ) (s : NodeState) : Type 0 where
@@ -95,7 +95,7 @@ abbrev pub AllAre : List Line → List NodeState → Type 0
 AllAre h states = (n : ℕ) (s : NodeState) → IsAtPlace states n s → NodeIs n h s
 
 -- a tracker of this many nodes stands for a history
-pub record AccordIs (count : ℕ) (h : List Line) (a : AgreementTracker) : Type 0 where
+pub record AgreementIs (count : ℕ) (h : List Line) (a : AgreementTracker) : Type 0 where
   pub few : count ≤ 16
   pub many : length a.nodes.items ≡ count
   pub lines : length a.trips.items ≡ length h
@@ -113,19 +113,19 @@ PairNear header t n a c k b d = pos (nat_abs (shown_by header n a.moved t -ℤ s
 
 -- the same, where one Close corrected both
 abbrev pub PairAgrees : HeaderValue → ℕ → ℕ → NodeState → ℕ → NodeState → Type 0
-PairAgrees header t n a k b = (c d : RoundCorrection) → a.cast ≡ Some c → b.cast ≡ Some d → c.master ≡ d.master → c.close ≡ d.close → PairNear header t n a c k b d
+PairAgrees header t n a k b = (c d : RoundCorrection) → a.from_round ≡ Some c → b.from_round ≡ Some d → c.master ≡ d.master → c.close ≡ d.close → PairNear header t n a c k b d
 
--- since the Close of a cast its master has neither booted nor moved its clock, but by the Correct that is the next act
-abbrev pub CastStands : RoundCorrection → NodeState → Type 0
-CastStands c b = (c.lives ≡ b.lives) × ((c.corrects ≡ b.corrects) ⊎ (b.after ≡ Some c.close))
+-- since the Close of a round its master has neither booted nor moved its clock, but by the Correct that is the next act
+abbrev pub FromRoundStands : RoundCorrection → NodeState → Type 0
+FromRoundStands c b = (c.lives ≡ b.lives) × ((c.corrects ≡ b.corrects) ⊎ (b.after ≡ Some c.close))
 
 -- a node that a Close corrected and its master differ by at most the error and drift
 abbrev pub MasterNear : HeaderValue → ℕ → ℕ → NodeState → RoundCorrection → NodeState → Type 0
 MasterNear header t n a c b = pos (nat_abs (shown_by header n a.moved t -ℤ shown_by header c.master b.moved t)) ≤ℤ (c.err +ℤ pos (2 * width header.drift (t - c.at)))
 
--- the same, where the master was left alone since its Close, as `CastStands` says
+-- the same, where the master was left alone since its Close, as `FromRoundStands` says
 abbrev pub BossAgrees : HeaderValue → ℕ → ℕ → NodeState → List NodeState → Type 0
-BossAgrees header t n a states = (c : RoundCorrection) (b : NodeState) → a.cast ≡ Some c → IsAtPlace states c.master b → CastStands c b → MasterNear header t n a c b
+BossAgrees header t n a states = (c : RoundCorrection) (b : NodeState) → a.from_round ≡ Some c → IsAtPlace states c.master b → FromRoundStands c b → MasterNear header t n a c b
 
 -- a node agrees with each that the same Close corrected, and with its master
 pub record NodeAgrees (header : HeaderValue) (t n : ℕ) (a : NodeState) (states : List NodeState) : Type 0 where
@@ -153,7 +153,7 @@ AllBounded states = (n : ℕ) (a : NodeState) → IsAtPlace states n a → IsSum
 pub record StaysKnown (known : Bool) (time : ℕ) (line : HistoryLine) : Type 0 where
   pub was : known ≡ true
   pub at : time ≡ line.at
-  pub quiet : IsQuiet (deed_of line.act)
+  pub quiet : LeavesState (deed_of line.act)
 
 -- this many nodes of which nothing is known
 pub record AreBlank (count : ℕ) (states : List NodeState) : Type 0 where

@@ -11,6 +11,6 @@ pub record IsCorrect (deed : Deed) : Type 0 where
   pub is : deed ≡ Acts (Correct amount stepped shown)
 
 -- a deed neither boots its node nor corrects its clock
-pub record IsQuiet (deed : Deed) : Type 0 where
+pub record LeavesState (deed : Deed) : Type 0 where
   pub lives : (n : ℕ) → lives_after deed n ≡ n
   pub corrects : (n : ℕ) → all_corrects_after deed n ≡ n

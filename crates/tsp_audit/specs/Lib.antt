@@ -2,7 +2,7 @@ pub mod Acting
 pub mod Agreeing
 pub mod AuditedRuns
 pub mod Backing
-pub mod Casting
+pub mod FromRounds
 pub mod Changes
 pub mod Ends
 pub mod Judged
@@ -10,7 +10,7 @@ pub mod Leading
 pub mod Looking
 pub mod Measuring
 pub mod Named
-pub mod Notes
+pub mod Remembered
 pub mod Parts
 pub mod Premised
 pub mod Resting

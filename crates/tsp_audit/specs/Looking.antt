@@ -2,10 +2,10 @@
 use Rattle.std.specs.Prelude.{◌≡◌, ℕ, List, length, Option, None, Some}
 use Rattle.tsp_audit.specs.declared.premises.Premises.{Premises}
 use Rattle.tsp_audit.specs.declared.verdict.Failure.{Failure}
-use Rattle.tsp_audit.specs.declared.notes.Notes.{Notes}
+use Rattle.tsp_audit.specs.declared.remembered.Remembered.{Remembered}
 use Rattle.tsp_audit.specs.Agreeing.{Numbered}
 use Rattle.tsp_audit.specs.Judged.{FailsNow}
-use Rattle.tsp_audit.specs.Notes.{NotesStand}
+use Rattle.tsp_audit.specs.Remembered.{RememberedStands}
 use Rattle.tsp_audit.specs.Parts.{AllKeep}
 use Rattle.tsp_audit.specs.Settings.{HasClocks, Timely}
 use Rattle.tsp_base.specs.Words.{HeaderValue, Line, Within}
@@ -21,11 +21,11 @@ pub record Grown (count : ℕ) (h new : List Line) (from : ℕ) : Type 0 where
   pub numbered : Numbered count new
 
 -- all parts hold after the newest event, where they held before it, and these are the notes then; or this part fails there
-abbrev pub Looks : Premises → HeaderValue → List Claim → List Line → Notes → Option Failure → Type 0
-Looks premises header new h notes None = NotesStand premises (length header.nodes) (claimed header new) notes × ((setting : Setting) → HasClocks header setting → AllKeep premises setting h → AllKeep premises setting (claimed header new))
+abbrev pub Looks : Premises → HeaderValue → List Claim → List Line → Remembered → Option Failure → Type 0
+Looks premises header new h notes None = RememberedStands premises (length header.nodes) (claimed header new) notes × ((setting : Setting) → HasClocks header setting → AllKeep premises setting h → AllKeep premises setting (claimed header new))
 Looks premises header new h notes (Some f) = (f.event ≡ length new) × ((setting : Setting) → HasClocks header setting → AllKeep premises setting h → FailsNow premises setting (claimed header new) f.part)
 
 -- an earlier failure stays; else this is found of the newest event
-abbrev pub Finds : Premises → HeaderValue → List Claim → List Line → Option Failure → Notes → Option Failure → Type 0
+abbrev pub Finds : Premises → HeaderValue → List Claim → List Line → Option Failure → Remembered → Option Failure → Type 0
 Finds premises header new h (Some f) notes found = found ≡ Some f
 Finds premises header new h None notes found = Looks premises header new h notes found

@@ -16,8 +16,8 @@ reach_at header t c = c.err +ℤ pos (2 * width header.drift (t - c.at))
 -- wrong, where a round corrected it
 pub record StandsAs (header : HeaderValue) (t n : ℕ) (a : NodeState) (s : Standing) : Type 0 where
   pub clock_is : IsSumOf 4294967295 a.moved → s.clock ≡ shown_by header n a.moved t
-  pub low_is : (c : RoundCorrection) → a.cast ≡ Some c → s.low ≡ s.clock -ℤ reach_at header t c
-  pub high_is : (c : RoundCorrection) → a.cast ≡ Some c → s.high ≡ s.clock +ℤ reach_at header t c
+  pub low_is : (c : RoundCorrection) → a.from_round ≡ Some c → s.low ≡ s.clock -ℤ reach_at header t c
+  pub high_is : (c : RoundCorrection) → a.from_round ≡ Some c → s.high ≡ s.clock +ℤ reach_at header t c
 
 -- the same of each node
 abbrev pub AllStand : HeaderValue → ℕ → List NodeState → List Standing → Type 0

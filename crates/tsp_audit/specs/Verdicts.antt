@@ -3,13 +3,13 @@ use Rattle.std.specs.Prelude.{◌≡◌, ℕ, ◌+◌, List, ◌∷◌, length, 
 use Rattle.std.specs.declared.result.Result.{Result}
 use Rattle.std.specs.declared.result.Result.TheVariants.{Ok, Err}
 use Rattle.tsp_audit.specs.declared.audit.Audit.{Audit}
-use Rattle.tsp_audit.specs.declared.notes.Notes.{Notes}
+use Rattle.tsp_audit.specs.declared.remembered.Remembered.{Remembered}
 use Rattle.tsp_audit.specs.declared.premises.Premises.{Premises}
 use Rattle.tsp_audit.specs.declared.verdict.Failure.{Failure}
 use Rattle.tsp_audit.specs.declared.verdict.Verdict.{Verdict}
 use Rattle.tsp_audit.specs.declared.verdict.Verdict.TheVariants.{Holds, Fails}
 use Rattle.tsp_audit.specs.Judged.{FailsNow}
-use Rattle.tsp_audit.specs.Notes.{NotesStand}
+use Rattle.tsp_audit.specs.Remembered.{RememberedStands}
 use Rattle.tsp_audit.specs.Parts.{AllKeep}
 use Rattle.tsp_audit.specs.Settings.{HasClocks, Timely}
 use Rattle.tsp_rules.specs.Values.{Event, Line2}
@@ -43,9 +43,9 @@ IsFound premises setting header claims (Some f) = FailsFirst premises setting he
 
 -- this is found of all events: no part fails up to any, and these are the notes of all lines then; or this part fails
 -- first
-pub record Looked (premises : Premises) (header : HeaderValue) (told : List Claim) (notes : Notes) (found : Option Failure) : Type 0 where
+pub record Looked (premises : Premises) (header : HeaderValue) (told : List Claim) (notes : Remembered) (found : Option Failure) : Type 0 where
   pub found_is : (setting : Setting) → HasClocks header setting → IsFound premises setting header told found
-  pub notes_are : found ≡ None → NotesStand premises (length header.nodes) (claimed header told) notes
+  pub notes_are : found ≡ None → RememberedStands premises (length header.nodes) (claimed header told) notes
 
 -- a verdict on these claims, under the premises that the whole schedule keeps
 abbrev pub IsVerdict : Premises → Setting → HeaderValue → List Claim → Verdict → Type 0
@@ -59,7 +59,7 @@ pub record AuditStands (premises : Premises) (header : HeaderValue) (claims : Li
   pub timely : Timely (claimed header claims)
   pub found : (setting : Setting) → HasClocks header setting → IsFound premises setting header claims a.failed
   pub named : Everywhere (λ c before. NamesNode (length header.nodes) c.event) claims
-  pub notes : a.failed ≡ None → NotesStand premises (length header.nodes) (claimed header claims) a.notes
+  pub notes : a.failed ≡ None → RememberedStands premises (length header.nodes) (claimed header claims) a.notes
 
 -- what a call does with an event and the lines that are claimed of it: they fit and are taken in, and this is the
 -- verdict; or the line at this index doesn't fit, or the event lacks something, or they fit and memory is refused, and

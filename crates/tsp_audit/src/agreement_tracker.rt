@@ -8,16 +8,16 @@ ghost use Rattle.tsp_promises.specs.Setting.{Setting};
 ghost use Rattle.tsp_history.specs.declared.line.HistoryLine.{HistoryLine as NotedValue};
 ghost use Rattle.tsp_history.specs.Histories.{deed_of, line_of, history_of};
 ghost use Rattle.tsp_history.specs.Notes.{Told};
-ghost use Rattle.tsp_audit.specs.Agreeing.{AccordIs, AllAgree, AllAre, AllBounded, AreBlank};
+ghost use Rattle.tsp_audit.specs.Agreeing.{AgreementIs, AllAgree, AllAre, AllBounded, AreBlank};
 ghost use Rattle.tsp_audit.specs.Agreeing.{FirstIs, Numbered, StaysKnown, TripsTell};
-ghost use Rattle.tsp_audit.specs.Changes.{IsQuiet};
+ghost use Rattle.tsp_audit.specs.Changes.{LeavesState};
 ghost use Rattle.tsp_audit.specs.Settings.{HasClocks, Timely};
 
 use crate::nearness::all_agree;
 use crate::resting::rests;
 use crate::round_correction::NodeState;
 use crate::standing::MOST_NODES;
-use crate::states::{blank, is_quiet, state_after};
+use crate::states::{blank, leaves_state, state_after};
 use std::alloc::{AllocError, Global};
 use tsp_base::header::Header;
 use tsp_history::brief::Brief;
@@ -65,7 +65,7 @@ fn note_node(
         → AllAre (history_of before.now) nodes.old.items
         → AllAre (line_of line.now ∷ history_of before.now) nodes.new.items }
     ensures many { length nodes.new.items ≡ length nodes.old.items }
-    ensures same { IsQuiet (deed_of line.now.act) → nodes.new.items ≡ nodes.old.items }
+    ensures same { LeavesState (deed_of line.now.act) → nodes.new.items ≡ nodes.old.items }
 {
     let node = line.node as usize;
     if node < nodes.len() {
@@ -86,13 +86,13 @@ fn note_trip(trips: &mut Vec<i128>, trip: i128)
     }
 }
 
-/// The index of the newest act after the line with this index, where `keep` is that before it.
-fn newest(line: &HistoryLine, index: usize, keep: Option<usize>) -> Option<usize>
-    ensures { (h : List Line) → index ≡ length h → FirstIs (from_act h) keep
+/// The index of the newest act after the line with this index, where `was` is that before it.
+fn newest(line: &HistoryLine, index: usize, was: Option<usize>) -> Option<usize>
+    ensures { (h : List Line) → index ≡ length h → FirstIs (from_act h) was
         → FirstIs (from_act (line_of line.now ∷ h)) result }
 {
     match line.act.brief() {
-        Brief::Mark => keep,
+        Brief::Mark => was,
         _ => Some(index),
     }
 }
@@ -108,7 +108,7 @@ fn stays_known(known: bool, time: u64, line: &HistoryLine) -> bool
     if line.at != time {
         return false;
     }
-    is_quiet(line)
+    leaves_state(line)
 }
 
 /// Whether all clocks are known to agree at the time of a line, where `agrees` holds of it: they
@@ -124,7 +124,7 @@ fn is_known(known: bool, line: &HistoryLine) -> bool
 
 impl AgreementTracker {
     ghost use Rattle.std.specs.Prelude.{ℕ, List};
-    ghost use Rattle.tsp_audit.specs.Agreeing.{AccordIs, Numbered};
+    ghost use Rattle.tsp_audit.specs.Agreeing.{AgreementIs, Numbered};
     ghost use Rattle.tsp_audit.specs.Settings.{HasClocks, Timely};
     ghost use Rattle.tsp_promises.specs.Agreed.{Agreed, AgreedAt};
     ghost use Rattle.tsp_base.specs.History.{Line};
@@ -136,7 +136,7 @@ impl AgreementTracker {
     /// Nothing has happened to so many nodes. Takes memory for them; fails only if out of memory.
     pub(crate) fn new(alloc: Global, count: usize) -> Result<AgreementTracker, AllocError>
         requires { count ≤ 16 }
-        ensures { IfOk result (λ accord. AccordIs count [] accord) }
+        ensures { IfOk result (λ agreement. AgreementIs count [] agreement) }
     {
         match blanks(alloc, count) {
             Ok(nodes) => Ok(AgreementTracker {
@@ -151,8 +151,8 @@ impl AgreementTracker {
     /// Makes room for so many lines more. Fails only if out of memory; either way the tracker stands for what it did.
     pub(crate) fn make_room(&mut self, count: usize) -> Result<(), AllocError>
         ensures room { OnOk result (vec_len self.new.trips + count ≤ vec_capacity self.new.trips) }
-        ensures accord { (nodes : ℕ) (h : List Line) → AccordIs nodes h self.old
-            → AccordIs nodes h self.new }
+        ensures agreement { (nodes : ℕ) (h : List Line) → AgreementIs nodes h self.old
+            → AgreementIs nodes h self.new }
     {
         self.trips.reserve(count)
     }
@@ -162,13 +162,13 @@ impl AgreementTracker {
         requires few { length lines.now < 2 ^ 32 }
         requires told { Told lines.now }
         requires below { index < length lines.now }
-        ensures accord { (count : ℕ) → vec_len self.old.trips < vec_capacity self.old.trips
-            → AccordIs count (history_of (take index lines.now)) self.old
-            → AccordIs count (history_of (take (index + 1) lines.now)) self.new }
+        ensures agreement { (count : ℕ) → vec_len self.old.trips < vec_capacity self.old.trips
+            → AgreementIs count (history_of (take index lines.now)) self.old
+            → AgreementIs count (history_of (take (index + 1) lines.now)) self.new }
         ensures len { vec_len self.new.trips ≤ vec_len self.old.trips + 1 }
         ensures capacity { vec_capacity self.new.trips ≡ vec_capacity self.old.trips }
         ensures same { (line : NotedValue) → get_or lines.now index line ≡ line
-            → IsQuiet (deed_of line.act) → self.new.nodes.items ≡ self.old.nodes.items }
+            → LeavesState (deed_of line.act) → self.new.nodes.items ≡ self.old.nodes.items }
     {
         let line = &lines[index];
         let before = &lines[..index];
@@ -219,7 +219,7 @@ impl AgreementTracker {
         ensures keeps { (setting : Setting) (count : ℕ) → HasClocks header.now setting
             → line.now.at ≤ 1000000000000000
             → Numbered count (line_of line.now ∷ history_of before.now)
-            → AccordIs count (line_of line.now ∷ history_of before.now) self.now
+            → AgreementIs count (line_of line.now ∷ history_of before.now) self.now
             → MatchBool result (AgreedAt setting (line_of line.now) (history_of before.now))
             (AgreedAt setting (line_of line.now) (history_of before.now) → ⊥) }
     {
@@ -250,14 +250,14 @@ impl AgreementTracker {
         ensures keeps { (setting : Setting) (count : ℕ) → HasClocks header.now setting
             → Timely (history_of lines.now) → Numbered count (history_of lines.now)
             → vec_len self.old.trips + (length lines.now - from) ≤ vec_capacity self.old.trips
-            → AccordIs count (history_of (take from lines.now)) self.old
+            → AgreementIs count (history_of (take from lines.now)) self.old
             → Agreed setting (history_of (take from lines.now))
             → MatchBool result (Agreed setting (history_of lines.now))
             (Agreed setting (history_of lines.now) → ⊥) }
-        ensures accord { (count : ℕ) → result ≡ true
+        ensures agreement { (count : ℕ) → result ≡ true
             → vec_len self.old.trips + (length lines.now - from) ≤ vec_capacity self.old.trips
-            → AccordIs count (history_of (take from lines.now)) self.old
-            → AccordIs count (history_of lines.now) self.new }
+            → AgreementIs count (history_of (take from lines.now)) self.old
+            → AgreementIs count (history_of lines.now) self.new }
     {
         let mut known = false;
         let mut time = 0;

@@ -2,14 +2,14 @@
 ghost use Rattle.std.specs.Prelude.{◌≡◌, ◌≤◌, ◌<◌, ◌+◌, ◌-◌, List, [], true, None, length, vec_len, vec_capacity, IfOk};
 ghost use Rattle.tsp_audit.specs.Ends.{AreDated, EndsAt};
 ghost use Rattle.tsp_audit.specs.Looking.{Finds, Grown};
-ghost use Rattle.tsp_audit.specs.Notes.{HasLineRoom, NotesStand};
+ghost use Rattle.tsp_audit.specs.Remembered.{HasLineRoom, RememberedStands};
 ghost use Rattle.tsp_base.specs.Headers.{HeaderValue, is_whole};
 ghost use Rattle.tsp_base.specs.History.{Line};
 ghost use Rattle.tsp_claims.specs.ClaimedHistory.{Claim, claimed};
 ghost use Rattle.tsp_claims.specs.Stands.{ClaimsStand};
 
 use crate::looking::{look, look_through};
-use crate::notes::Notes;
+use crate::remembered::Remembered;
 use crate::premises::Premises;
 use crate::verdict::{Failure, Verdict, verdict_of};
 use std::alloc::{AllocError, Global};
@@ -25,13 +25,13 @@ fn find(
     claims: &Claims,
     premises: Premises,
     from: usize,
-    notes: &mut Notes,
+    notes: &mut Remembered,
 ) -> Option<Failure>
     ensures { (header : HeaderValue) (new : List Claim) (h : List Line)
         → ClaimsStand header new claims.now
         → Grown (length header.nodes) h (claimed header new) from
         → HasLineRoom (length (claimed header new) - from) notes.old
-        → (failed ≡ None → NotesStand premises (length header.nodes) h notes.old)
+        → (failed ≡ None → RememberedStands premises (length header.nodes) h notes.old)
         → Finds premises header new h failed notes.new result }
 {
     match failed {
@@ -55,7 +55,7 @@ pub struct Audit {
     /// Which premises the whole schedule keeps.
     pub(crate) premises: Premises,
     /// What is noted of the claimed history, as long as nothing fails.
-    pub(crate) notes: Notes,
+    pub(crate) notes: Remembered,
     /// The first failure; from then on only whether lines fit is checked.
     pub(crate) failed: Option<Failure>,
 }
@@ -78,7 +78,7 @@ impl Audit {
         requires whole { is_whole header ≡ true }
         ensures { IfOk result (λ audit. AuditStands premises header [] audit) }
     {
-        let notes = Notes::new(alloc, header.nodes().len())?;
+        let notes = Remembered::new(alloc, header.nodes().len())?;
         match Claims::new(alloc, header) {
             Ok(claims) => Ok(Audit {
                 claims,
@@ -104,7 +104,7 @@ impl Audit {
             → AreDated (length header.nodes) told → EndsAt header told ends.now
             → IfOk result (λ audit. AuditStands premises header told audit) }
     {
-        let mut notes = Notes::new(alloc, claims.header().nodes().len())?;
+        let mut notes = Remembered::new(alloc, claims.header().nodes().len())?;
         let failed = look_through(&claims, ends, premises, &mut notes)?;
         Ok(Audit {
             claims,

@@ -13,18 +13,18 @@ use tsp_history::brief::Brief;
 use tsp_history::line::HistoryLine;
 use tsp_history::scans::is_held;
 
-/// Whom the step of a node's port has backed last after a line, where it was `keep` before.
-fn backed_after(line: &HistoryLine, node: u32, port: Port, keep: Option<PeerId>) -> Option<PeerId>
-    ensures { (before : List Line) → keep ≡ backed (view port (of node before))
+/// Whom the step of a node's port has backed last after a line, where it was `was` before.
+fn backed_after(line: &HistoryLine, node: u32, port: Port, was: Option<PeerId>) -> Option<PeerId>
+    ensures { (before : List Line) → was ≡ backed (view port (of node before))
         → result ≡ backed (view port (of node (line_of line.now ∷ before))) }
 {
     if line.node != node {
-        return keep;
+        return was;
     }
     match line.act.brief() {
         Brief::Mark => None,
-        Brief::Back(p) => { if line.port.0 == port.0 { Some(p) } else { keep } }
-        _ => keep,
+        Brief::Back(p) => { if line.port.0 == port.0 { Some(p) } else { was } }
+        _ => was,
     }
 }
 
@@ -39,25 +39,25 @@ fn backed_at(lines: &[HistoryLine], node: u32, port: Port) -> Option<PeerId>
     backed
 }
 
-/// Whether a node's port is an unbacked candidate after a line, where it was `keep` before.
-fn is_unbacked_after(line: &HistoryLine, node: u32, port: Port, keep: bool) -> bool
-    ensures { (before : List Line) → keep ≡ is_unbacked (view port (of node before))
+/// Whether a node's port is an unbacked candidate after a line, where it was `was` before.
+fn is_unbacked_after(line: &HistoryLine, node: u32, port: Port, was: bool) -> bool
+    ensures { (before : List Line) → was ≡ is_unbacked (view port (of node before))
         → result ≡ is_unbacked (view port (of node (line_of line.now ∷ before))) }
 {
     if line.node != node {
-        return keep;
+        return was;
     }
     match line.act.brief() {
         Brief::Mark => false,
-        Brief::Become(Role::Candidate) => { if line.port.0 == port.0 { true } else { keep } }
+        Brief::Become(Role::Candidate) => { if line.port.0 == port.0 { true } else { was } }
         Brief::Back(p) => {
             if line.port.0 == port.0 && p.0 == node {
                 false
             } else {
-                keep
+                was
             }
         }
-        _ => keep,
+        _ => was,
     }
 }
 

@@ -4,16 +4,16 @@ ghost use Rattle.std.specs.Prelude.{vec_capacity, None, MatchBool};
 ghost use Rattle.tsp_promises.specs.Setting.{Setting};
 ghost use Rattle.tsp_history.specs.Histories.{history_of};
 ghost use Rattle.tsp_history.specs.Notes.{Told};
-ghost use Rattle.tsp_audit.specs.Agreeing.{AccordIs, Numbered};
+ghost use Rattle.tsp_audit.specs.Agreeing.{AgreementIs, Numbered};
 ghost use Rattle.tsp_audit.specs.Parts.{Agreeing, AllKept, PartHolds};
 ghost use Rattle.tsp_audit.specs.Settings.{HasClocks, Timely};
 
-use crate::acting::keeps_acting;
+use crate::once::keeps_acting;
 use crate::agreement_tracker::AgreementTracker;
 use crate::backing::keeps_backing;
 use crate::leading::keeps_leading;
 use crate::measuring::keeps_measuring_if;
-use crate::notes::Notes;
+use crate::remembered::Remembered;
 use crate::premises::Premises;
 use tsp_base::header::Header;
 use tsp_history::line::HistoryLine;
@@ -26,32 +26,32 @@ fn keeps_agreeing_if(
     premises: Premises,
     lines: &[HistoryLine],
     from: usize,
-    accord: &mut AgreementTracker,
+    agreement: &mut AgreementTracker,
 ) -> bool
     requires from { from ≤ length lines.now }
     requires few { length lines.now < 2 ^ 32 }
     requires told { Told lines.now }
     ensures keeps { (setting : Setting) (count : ℕ) → HasClocks header.now setting
         → Timely (history_of lines.now) → Numbered count (history_of lines.now)
-        → vec_len accord.old.trips + (length lines.now - from) ≤ vec_capacity accord.old.trips
-        → (AllKept premises → AccordIs count (history_of (take from lines.now)) accord.old)
+        → vec_len agreement.old.trips + (length lines.now - from) ≤ vec_capacity agreement.old.trips
+        → (AllKept premises → AgreementIs count (history_of (take from lines.now)) agreement.old)
         → PartHolds premises setting Agreeing (history_of (take from lines.now))
         → MatchBool result (PartHolds premises setting Agreeing (history_of lines.now))
         (PartHolds premises setting Agreeing (history_of lines.now) → ⊥) }
-    ensures accord { (count : ℕ) → AllKept premises → result ≡ true
-        → vec_len accord.old.trips + (length lines.now - from) ≤ vec_capacity accord.old.trips
-        → AccordIs count (history_of (take from lines.now)) accord.old
-        → AccordIs count (history_of lines.now) accord.new }
+    ensures agreement { (count : ℕ) → AllKept premises → result ≡ true
+        → vec_len agreement.old.trips + (length lines.now - from) ≤ vec_capacity agreement.old.trips
+        → AgreementIs count (history_of (take from lines.now)) agreement.old
+        → AgreementIs count (history_of lines.now) agreement.new }
 {
     if premises.all_kept() {
-        accord.keeps_agreeing(header, lines, from)
+        agreement.keeps_agreeing(header, lines, from)
     } else {
         true
     }
 }
 
 ghost use Rattle.tsp_audit.specs.Judged.{JudgesParts};
-ghost use Rattle.tsp_audit.specs.Notes.{HasLineRoom, NotesStand};
+ghost use Rattle.tsp_audit.specs.Remembered.{HasLineRoom, RememberedStands};
 ghost use Rattle.tsp_audit.specs.Parts.{AllKeep};
 
 /// The number of the least part that fails of all lines, where all parts hold of those before
@@ -62,7 +62,7 @@ pub(crate) fn judge(
     premises: Premises,
     lines: &[HistoryLine],
     from: usize,
-    notes: &mut Notes,
+    notes: &mut Remembered,
 ) -> Option<u32>
     requires from { from ≤ length lines.now }
     requires few { length lines.now < 2 ^ 32 }
@@ -70,12 +70,12 @@ pub(crate) fn judge(
     ensures judges { (setting : Setting) (count : ℕ) → HasClocks header.now setting
         → Timely (history_of lines.now) → Numbered count (history_of lines.now)
         → HasLineRoom (length lines.now - from) notes.old
-        → NotesStand premises count (history_of (take from lines.now)) notes.old
+        → RememberedStands premises count (history_of (take from lines.now)) notes.old
         → AllKeep premises setting (history_of (take from lines.now))
         → JudgesParts premises setting (history_of lines.now) result }
     ensures notes { (count : ℕ) → result ≡ None → HasLineRoom (length lines.now - from) notes.old
-        → NotesStand premises count (history_of (take from lines.now)) notes.old
-        → NotesStand premises count (history_of lines.now) notes.new }
+        → RememberedStands premises count (history_of (take from lines.now)) notes.old
+        → RememberedStands premises count (history_of lines.now) notes.new }
 {
     if !keeps_backing(lines, from) {
         return Some(12);
@@ -89,7 +89,7 @@ pub(crate) fn judge(
     if !keeps_measuring_if(header, premises, lines, from) {
         return Some(15);
     }
-    if !keeps_agreeing_if(header, premises, lines, from, &mut notes.accord) {
+    if !keeps_agreeing_if(header, premises, lines, from, &mut notes.agreement) {
         return Some(16);
     }
     None

@@ -32,12 +32,12 @@
 //! [`laws`] has what an audit says of a run's own trace: that all parts hold.
 #![tactic(auto)]
 
-mod acting;
+mod once;
 mod agreement_tracker;
 pub mod audit;
 mod backing;
 mod brought;
-mod casting;
+mod from_round;
 mod clock;
 mod judging;
 pub mod laws;
@@ -45,7 +45,7 @@ mod leading;
 mod looking;
 mod measuring;
 mod nearness;
-mod notes;
+mod remembered;
 pub mod premised;
 pub mod premises;
 mod resting;

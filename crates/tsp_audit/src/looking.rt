@@ -3,12 +3,12 @@ ghost use Rattle.std.specs.Prelude.{◌≡◌, ◌<◌, ◌+◌, ◌-◌, ◌∷
 ghost use Rattle.tsp_claims.specs.ClaimedHistory.{Claim, claimed};
 ghost use Rattle.tsp_history.specs.Notes.{Told};
 ghost use Rattle.tsp_audit.specs.Looking.{Grown, Looks};
-ghost use Rattle.tsp_audit.specs.Notes.{HasLineRoom, NotesStand};
+ghost use Rattle.tsp_audit.specs.Remembered.{HasLineRoom, RememberedStands};
 ghost use Rattle.tsp_base.specs.History.{Line};
 ghost use Rattle.tsp_history.specs.Histories.{history_of};
 
 use crate::judging::judge;
-use crate::notes::Notes;
+use crate::remembered::Remembered;
 use crate::premises::Premises;
 use crate::verdict::Failure;
 use std::alloc::AllocError;
@@ -25,7 +25,7 @@ pub(crate) fn look(
     premises: Premises,
     from: usize,
     event: u64,
-    notes: &mut Notes,
+    notes: &mut Remembered,
 ) -> Option<Failure>
     requires few { length lines.now < 2 ^ 32 }
     requires told { Told lines.now }
@@ -33,7 +33,7 @@ pub(crate) fn look(
         → history_of lines.now ≡ claimed header.now new → event ≡ length new
         → Grown (length header.now.nodes) h (claimed header.now new) from
         → HasLineRoom (length (claimed header.now new) - from) notes.old
-        → NotesStand premises (length header.now.nodes) h notes.old
+        → RememberedStands premises (length header.now.nodes) h notes.old
         → Looks premises header.now new h notes.new result }
 {
     if lines.len() < from {
@@ -59,13 +59,13 @@ fn look_at(
     from: usize,
     end: usize,
     event: u64,
-    notes: &mut Notes,
+    notes: &mut Remembered,
 ) -> Result<Option<Failure>, AllocError>
     ensures { (header : HeaderValue) (told : List Claim) (c : Claim) (before : List Claim)
         → ClaimsStand header told claims.now → AreDated (length header.nodes) told
         → Within (c ∷ before) told → from ≡ length (claimed header before)
         → end ≡ length (claimed header (c ∷ before)) → event ≡ length before + 1
-        → NotesStand premises (length header.nodes) (claimed header before) notes.old
+        → RememberedStands premises (length header.nodes) (claimed header before) notes.old
         → IfOk result (λ found. Looks premises header (c ∷ before) (claimed header before) notes.new
         found) }
 {
@@ -86,11 +86,11 @@ pub(crate) fn look_through(
     claims: &Claims,
     ends: &[u32],
     premises: Premises,
-    notes: &mut Notes,
+    notes: &mut Remembered,
 ) -> Result<Option<Failure>, AllocError>
     ensures { (header : HeaderValue) (told : List Claim) → ClaimsStand header told claims.now
         → AreDated (length header.nodes) told → EndsAt header told ends.now
-        → NotesStand premises (length header.nodes) [] notes.old
+        → RememberedStands premises (length header.nodes) [] notes.old
         → IfOk result (λ found. Looked premises header told notes.new found) }
 {
     let mut from = 0;

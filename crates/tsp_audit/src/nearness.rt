@@ -1,7 +1,7 @@
 //! Whether clocks that one round corrected agree.
 ghost use Rattle.std.specs.Prelude.{◌≡◌, ◌≤◌, ◌<◌, ◌≤ℤ◌, ◌-ℤ◌, pos, nat_abs, ℕ, length, Some};
 ghost use Rattle.tsp_audit.specs.Agreeing.{AgreesBack, AllAgree, AllBounded, BossAgrees, MasterNear};
-ghost use Rattle.tsp_audit.specs.Agreeing.{PairAgrees, PairNear, PairsAgree, CastStands};
+ghost use Rattle.tsp_audit.specs.Agreeing.{PairAgrees, PairNear, PairsAgree, FromRoundStands};
 ghost use Rattle.tsp_audit.specs.Standings.{IsWhether, OfNode, OfPair, StandsAs};
 ghost use Rattle.tsp_audit.specs.declared.round_correction.NodeState.{NodeState as NodeValue};
 ghost use Rattle.tsp_audit.specs.declared.round_correction.RoundCorrection.{RoundCorrection as CorrectionValue};
@@ -43,7 +43,7 @@ fn is_met(low: i128, high: i128, other_low: i128, other_high: i128) -> bool
 
 /// Whether two nodes that one Close corrected, and whose clocks stand so, differ by at most their errors and drift.
 fn pair_near(own: &Standing, other: &Standing) -> bool
-    ensures { (a b : NodeValue) (c d : CorrectionValue) → a.cast ≡ Some c → b.cast ≡ Some d
+    ensures { (a b : NodeValue) (c d : CorrectionValue) → a.from_round ≡ Some c → b.from_round ≡ Some d
         → OfPair a own.now b other.now
         (λ header at first second. IsWhether result (PairNear header at first a c second b d)) }
 {
@@ -55,7 +55,7 @@ fn pair_agrees(a: &NodeState, own: &Standing, b: &NodeState, other: &Standing) -
     ensures { OfPair a.now own.now b.now other.now
         (λ header at first second. IsWhether result (PairAgrees header at first a.now second b.now)) }
 {
-    match (&a.cast, &b.cast) {
+    match (&a.from_round, &b.from_round) {
         (Some(c), Some(d)) => {
             if c.master == d.master && c.close == d.close {
                 pair_near(own, other)
@@ -83,10 +83,10 @@ fn pairs_agree(node: usize, a: &NodeState, states: &[NodeState], stand: &[Standi
     true
 }
 
-/// Whether the master of a cast, a Correct that its Close sent, has neither booted nor corrected
+/// Whether the master of a Correct from a round has neither booted nor corrected
 /// its clock since that Close, but for a Correct that is the next act.
 fn stands(c: &RoundCorrection, b: &NodeState) -> bool
-    ensures { IsWhether result (CastStands c.now b.now) }
+    ensures { IsWhether result (FromRoundStands c.now b.now) }
 {
     if c.lives != b.lives {
         return false;
@@ -102,7 +102,7 @@ fn stands(c: &RoundCorrection, b: &NodeState) -> bool
 
 /// Whether a node and its master, whose clocks stand so, differ by at most the error and drift.
 fn master_near(own: &Standing, other: &Standing) -> bool
-    ensures { (a b : NodeValue) (c : CorrectionValue) → a.cast ≡ Some c → (header : HeaderValue)
+    ensures { (a b : NodeValue) (c : CorrectionValue) → a.from_round ≡ Some c → (header : HeaderValue)
         (at node : ℕ) → StandsAs header at node a own.now → StandsAs header at c.master b other.now
         → IsSumOf 4294967295 a.moved → IsSumOf 4294967295 b.moved
         → IsWhether result (MasterNear header at node a c b) }
@@ -118,7 +118,7 @@ fn master_agrees(node: usize, a: &NodeState, states: &[NodeState], stand: &[Stan
     ensures { OfNode states.now stand.now node a.now
         (λ header at. IsWhether result (BossAgrees header at node a.now states.now)) }
 {
-    let Some(c) = &a.cast else {
+    let Some(c) = &a.from_round else {
         return true;
     };
     let master = c.master as usize;
@@ -140,7 +140,7 @@ fn node_agrees(node: usize, a: &NodeState, states: &[NodeState], stand: &[Standi
     ensures { OfNode states.now stand.now node a.now
         (λ header at. IsWhether result (AgreesBack header at node a.now states.now)) }
 {
-    if a.cast.is_none() {
+    if a.from_round.is_none() {
         return true;
     }
     pairs_agree(node, a, states, stand) && master_agrees(node, a, states, stand)

@@ -6,7 +6,7 @@ ghost use Rattle.tsp_promises.specs.Agreed.{RestsOnSample};
 ghost use Rattle.tsp_base.specs.History.{of, view};
 ghost use Rattle.tsp_history.specs.Histories.{line_of, history_of};
 
-use crate::casting::best_in;
+use crate::from_round::best_in;
 use tsp_base::kind::Kind;
 use tsp_base::place::{PeerId, Place, Port};
 use tsp_history::brief::Brief;

@@ -30,5 +30,5 @@ pub(crate) struct NodeState {
     /// The index of the act before its last correction, if there is one.
     pub(crate) after: Option<usize>,
     /// What its last correction came of, if that is a round and it hasn't booted since.
-    pub(crate) cast: Option<RoundCorrection>,
+    pub(crate) from_round: Option<RoundCorrection>,
 }

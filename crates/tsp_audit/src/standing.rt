@@ -40,12 +40,12 @@ fn reach(err: i64, drift: u64) -> i128
 /// By how much a node's clock may be wrong at a true time: the error of the reading by which a round
 /// corrected it, and twice its drift since; in microseconds, and 0 where no round has.
 fn reach_of(header: &Header, at: u64, a: &NodeState) -> i128
-    ensures reach { at ≤ 1000000000000000 → (c : CorrectionValue) → a.now.cast ≡ Some c
+    ensures reach { at ≤ 1000000000000000 → (c : CorrectionValue) → a.now.from_round ≡ Some c
         → result ≡ reach_at header.now at c }
     ensures low { neg_ℤ (pos (2 ^ 70)) ≤ℤ result }
     ensures high { result ≤ℤ pos (2 ^ 70) }
 {
-    match &a.cast {
+    match &a.from_round {
         Some(c) => reach(c.err, drifted(header.drift(), at, c.at)),
         None => 0,
     }

@@ -1,14 +1,14 @@
 //! How a line changes what is remembered of its node.
 ghost use Rattle.std.specs.Prelude.{◌≡◌, ◌≤◌, ◌<◌, ◌^◌, ℕ, ℤ, List, [], ◌∷◌, length, true, MatchBool};
 ghost use Rattle.tsp_audit.specs.Agreeing.{FirstIs, NodeIs, TripsTell};
-ghost use Rattle.tsp_audit.specs.Changes.{IsCorrect, IsQuiet};
+ghost use Rattle.tsp_audit.specs.Changes.{IsCorrect, LeavesState};
 ghost use Rattle.tsp_base.specs.declared.act.Act.TheVariants.{Boot};
 ghost use Rattle.tsp_base.specs.History.{Acts, Line, from_act};
 ghost use Rattle.tsp_base.specs.NodeFacts.{all_corrects_after, lives_after};
 ghost use Rattle.tsp_history.specs.Histories.{deed_of, line_of, history_of};
 ghost use Rattle.tsp_history.specs.Notes.{Told};
 
-use crate::casting::cast_at;
+use crate::from_round::correction_at;
 use crate::round_correction::NodeState;
 use tsp_history::brief::Brief;
 use tsp_history::clocks::moved_at;
@@ -24,7 +24,7 @@ pub(crate) fn blank() -> NodeState
         lives: 0,
         corrects: 0,
         after: None,
-        cast: None,
+        from_round: None,
     }
 }
 
@@ -45,8 +45,8 @@ fn is_correct(line: &HistoryLine) -> bool
 }
 
 /// Whether a line is neither a Boot nor a Correct, so that it changes nothing of what is remembered.
-pub(crate) fn is_quiet(line: &HistoryLine) -> bool
-    ensures { result ≡ true → IsQuiet (deed_of line.now.act) }
+pub(crate) fn leaves_state(line: &HistoryLine) -> bool
+    ensures { result ≡ true → LeavesState (deed_of line.now.act) }
 {
     if is_boot(line) {
         return false;
@@ -58,17 +58,17 @@ pub(crate) fn is_quiet(line: &HistoryLine) -> bool
 }
 
 /// What is remembered of a node after a Boot of it.
-fn booted(upto: &[HistoryLine], line: &HistoryLine, keep: NodeState) -> NodeState
+fn booted(upto: &[HistoryLine], line: &HistoryLine, was: NodeState) -> NodeState
     requires { Told upto.now }
     ensures { (before : List Line) → history_of upto.now ≡ line_of line.now ∷ before
-        → deed_of line.now.act ≡ Acts Boot → NodeIs line.now.node before keep
+        → deed_of line.now.act ≡ Acts Boot → NodeIs line.now.node before was
         → NodeIs line.now.node (line_of line.now ∷ before) result }
 {
     NodeState {
         moved: 0,
         lives: counts_at(upto, line.node).lives,
-        cast: None,
-        ..keep
+        from_round: None,
+        ..was
     }
 }
 
@@ -80,7 +80,7 @@ pub(crate) fn state_after(
     trips: &[i128],
     line: &HistoryLine,
     last: Option<usize>,
-    keep: NodeState,
+    was: NodeState,
 ) -> NodeState
     requires few { length upto.now < 2 ^ 32 }
     requires told { Told upto.now }
@@ -88,21 +88,21 @@ pub(crate) fn state_after(
     ensures is { history_of upto.now ≡ line_of line.now ∷ history_of before.now
         → TripsTell (history_of before.now) trips.now
         → FirstIs (from_act (history_of before.now)) last
-        → NodeIs line.now.node (history_of before.now) keep
+        → NodeIs line.now.node (history_of before.now) was
         → NodeIs line.now.node (line_of line.now ∷ history_of before.now) result }
-    ensures same { IsQuiet (deed_of line.now.act) → result ≡ keep }
+    ensures same { LeavesState (deed_of line.now.act) → result ≡ was }
 {
     if is_boot(line) {
-        return booted(upto, line, keep);
+        return booted(upto, line, was);
     }
     if is_correct(line) {
         return NodeState {
             moved: moved_at(upto, line.node),
-            lives: keep.lives,
+            lives: was.lives,
             corrects: counts_at(upto, line.node).corrects,
             after: last,
-            cast: cast_at(before, trips, line),
+            from_round: correction_at(before, trips, line),
         };
     }
-    keep
+    was
 }

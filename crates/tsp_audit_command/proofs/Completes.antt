@@ -1,7 +1,7 @@
 -- Where the whole input may be audited, nothing of it is refused.
 use Rattle.std.specs.Prelude.{◌≡◌, ◌⊎◌, ℕ, ◌≤◌, List, [], length, reverse, Option, Some}
 use Rattle.std.proofs.Common.{◌∙◌, subst, inl, inr, sym, refl}
-use Rattle.tsp_audit_command.specs.ClaimReaders.{ClaimingValue, passes_all}
+use Rattle.tsp_audit_command.specs.ClaimReaders.{ClaimReaderValue, passes_all}
 use Rattle.tsp_audit_command.specs.Meaning.{IsAuditText, auditing}
 use Rattle.tsp_audit_command.specs.Readings.{Claimed, IsWanting, ReachesReading, Reading, Scheduling}
 use Rattle.tsp_audit_command.proofs.Definites.{IsDefinite-auditing, Reaches-one}
@@ -21,11 +21,11 @@ silently = record {
   refuses = auditing.refuses;
   limits = auditing.limits;
   full = auditing.full;
-  ends = λ lines more. (c : ClaimingValue) × (all : ClaimingValue) × ReachesReading (reverse lines) (Claimed c) × (passes_all c ≡ Some all) × (more ≡ []);
+  ends = λ lines more. (c : ClaimReaderValue) × (all : ClaimReaderValue) × ReachesReading (reverse lines) (Claimed c) × (passes_all c ≡ Some all) × (more ≡ []);
   lacks = auditing.lacks;
 }
 
-ended_whole : (at : Reading) (c all : ClaimingValue) (cause : List ℕ) → Claimed c ≡ at → passes_all c ≡ Some all → IsWanting at cause → ⊥
+ended_whole : (at : Reading) (c all : ClaimReaderValue) (cause : List ℕ) → Claimed c ≡ at → passes_all c ≡ Some all → IsWanting at cause → ⊥
 ended_whole (Scheduling p) c all cause same passes f = let bad : ⊥ = cc in bad
 ended_whole (Claimed d) c all cause same passes f = let is : c ≡ d = cc in none-some (passes_all d) all f.0 (subst (λ v. passes_all v ≡ Some all) is passes)
 

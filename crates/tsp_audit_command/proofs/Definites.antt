@@ -12,7 +12,7 @@ use Rattle.tsp_base.specs.declared.event.Event.{Event}
 use Rattle.tsp_base.specs.Words.{HeaderValue, IsHeader, Line, Within}
 use Rattle.tsp_promises.specs.Setting.{Setting}
 use Rattle.tsp_base.proofs.PlaceLemmas.{Within-comparable}
-use Rattle.tsp_audit_command.specs.ClaimReaders.{ClaimingValue, FitsAt, FitsHere, MisfitsAt, IsOneLine, and_then, comes_to, lines_told, most_lines, pass_first, pass_one, passes, passes_all, tallied, told_more, unclaimed}
+use Rattle.tsp_audit_command.specs.ClaimReaders.{ClaimReaderValue, FitsAt, FitsHere, MisfitsAt, IsOneLine, and_then, comes_to, lines_told, most_lines, pass_first, pass_one, passes, passes_all, tallied, told_more, unclaimed}
 use Rattle.tsp_audit_command.specs.Listings.{most_nodes, refused}
 use Rattle.tsp_audit_command.specs.Meaning.{auditing}
 use Rattle.tsp_audit_command.specs.Readings.{Claimed, MayEnd, ReadsOn, GivesVerdict, IsWanting, PassesLimit, ReachesReading, Reading, RefusesLine, Scheduling, nodes_at, reading_of}
@@ -49,7 +49,7 @@ one-schedule : (before : List (List ℕ)) (line : List ℕ) (p q r : Progress) �
 one-schedule before line p q r reaches g h = ReachesBy-one refused (line ∷ before) q r (p, scheduled before p reaches, g) (p, scheduled before p reaches, h)
 
 -- two readings of a claimed line are one, and so are the places to which they come
-same-here : (c : ClaimingValue) (line : List ℕ) (l k : Line2) (here there : ClaimingValue) → IsOneLine line l → IsOneLine line k → comes_to c l.event ≡ Some here → comes_to c k.event ≡ Some there → there ≡ here
+same-here : (c : ClaimReaderValue) (line : List ℕ) (l k : Line2) (here there : ClaimReaderValue) → IsOneLine line l → IsOneLine line k → comes_to c l.event ≡ Some here → comes_to c k.event ≡ Some there → there ≡ here
 same-here c line l k here there t u p q = some-one there here (sym q ∙ (ap (λ (x : Line2). comes_to c x.event) (t.1 k u.0) ∙ p))
 
 GoesOn-one : (before : List (List ℕ)) (at : Reading) (line : List ℕ) (r s : Reading) → ReachesReading before at → ReadsOn at line r → ReadsOn at line s → r ≡ s
@@ -65,7 +65,7 @@ Reaches-one [] r s p q = p ∙ sym q
 Reaches-one (line ∷ before) r s p q = GoesOn-one before p.0 line r s p.1 p.2 (subst (λ x. ReadsOn x line s) (sym (Reaches-one before p.0 q.0 p.1 q.1)) q.2)
 
 -- a claimed line that fits doesn't misfit
-fits-misfits : (c : ClaimingValue) (line : List ℕ) (l k : Line2) (here : ClaimingValue) → IsOneLine line l → IsOneLine line k → FitsAt c l here → MisfitsAt c k → ⊥
+fits-misfits : (c : ClaimReaderValue) (line : List ℕ) (l k : Line2) (here : ClaimReaderValue) → IsOneLine line l → IsOneLine line k → FitsAt c l here → MisfitsAt c k → ⊥
 fits-misfits c line l k here t u f (inl none) = none-some (comes_to c k.event) here none (ap (λ (x : Line2). comes_to c x.event) (t.1 k u.0) ∙ f.0)
 fits-misfits c line l k here t u f (inr (there, at, unfit)) =
     unfit (subst (λ v. FitsHere v k) (sym (same-here c line l k here there t u f.0 at)) (subst (λ (x : Line2). FitsHere here x) (sym (t.1 k u.0)) f.1))
@@ -107,40 +107,40 @@ ended_whole : (at : Reading) (more cause : List ℕ) → MayEnd at more → IsWa
 ended_whole (Scheduling p) more cause e f = e
 ended_whole (Claimed c) more cause e f = none-some (passes_all c) e.0 f.0 e.2
 
-reading-claimed : (q : Progress) (c : ClaimingValue) → reading_of q ≡ Claimed c → KeepsHeader q → IsHeader c.header
+reading-claimed : (q : Progress) (c : ClaimReaderValue) → reading_of q ≡ Claimed c → KeepsHeader q → IsHeader c.header
 reading-claimed Untitled c is h = let bad : ⊥ = cc in absurd bad
 reading-claimed (Titled version) c is h = let bad : ⊥ = cc in absurd bad
 reading-claimed (Drifted drift) c is h = let bad : ⊥ = cc in absurd bad
 reading-claimed (Heading header) c is h = let bad : ⊥ = cc in absurd bad
 reading-claimed (Running header events) c is h = let bad : ⊥ = cc in absurd bad
-reading-claimed (Ended header events) c is h = let same : unclaimed header events ≡ c = cc in subst (λ (v : ClaimingValue). IsHeader v.header) same h
+reading-claimed (Ended header events) c is h = let same : unclaimed header events ≡ c = cc in subst (λ (v : ClaimReaderValue). IsHeader v.header) same h
 
-passed-header : (b : Bool) (v d : ClaimingValue) → (if b then None else Some v) ≡ Some d → d.header ≡ v.header
+passed-header : (b : Bool) (v d : ClaimReaderValue) → (if b then None else Some v) ≡ Some d → d.header ≡ v.header
 passed-header true v d is = let bad : ⊥ = cc in absurd bad
-passed-header false v d is = ap (λ (x : ClaimingValue). x.header) (sym (some-one v d is))
+passed-header false v d is = ap (λ (x : ClaimReaderValue). x.header) (sym (some-one v d is))
 
-first-header : (header : HeaderValue) (passed : List Claim) (told : List Line2) (ahead : List Event) (d : ClaimingValue) → pass_first header passed told ahead ≡ Some d → d.header ≡ header
+first-header : (header : HeaderValue) (passed : List Claim) (told : List Line2) (ahead : List Event) (d : ClaimReaderValue) → pass_first header passed told ahead ≡ Some d → d.header ≡ header
 first-header header passed told [] d is = let bad : ⊥ = cc in absurd bad
 first-header header passed told (e ∷ rest) d is = passed-header (lacks e (tallied untold told)) (record { header = header; passed = claim_of e told ∷ passed; told = []; ahead = rest }) d is
 
-then-header : (o : Option ClaimingValue) (header : HeaderValue) (next : ClaimingValue → Option ClaimingValue) (d : ClaimingValue) → and_then o next ≡ Some d → ((c : ClaimingValue) → o ≡ Some c → c.header ≡ header) →
-    ((c : ClaimingValue) → next c ≡ Some d → d.header ≡ c.header) → d.header ≡ header
+then-header : (o : Option ClaimReaderValue) (header : HeaderValue) (next : ClaimReaderValue → Option ClaimReaderValue) (d : ClaimReaderValue) → and_then o next ≡ Some d → ((c : ClaimReaderValue) → o ≡ Some c → c.header ≡ header) →
+    ((c : ClaimReaderValue) → next c ≡ Some d → d.header ≡ c.header) → d.header ≡ header
 then-header None header next d is first later = let bad : ⊥ = cc in absurd bad
 then-header (Some c) header next d is first later = later c is ∙ first c refl
 
 -- passing events keeps the header
-passes-header : (n : ℕ) (c d : ClaimingValue) → passes n c ≡ Some d → d.header ≡ c.header
-passes-header zero c d is = ap (λ (x : ClaimingValue). x.header) (sym (some-one c d is))
+passes-header : (n : ℕ) (c d : ClaimReaderValue) → passes n c ≡ Some d → d.header ≡ c.header
+passes-header zero c d is = ap (λ (x : ClaimReaderValue). x.header) (sym (some-one c d is))
 passes-header (suc n) c d is = then-header (pass_one c) c.header (λ x. passes n x) d is (λ x h. first-header c.header c.passed c.told c.ahead x h) (λ x h. passes-header n x d h)
 
 -- the header behind which lines are claimed keeps its ranges
-claimed-header : (lines : List (List ℕ)) (c : ClaimingValue) → ReachesReading lines (Claimed c) → IsHeader c.header
+claimed-header : (lines : List (List ℕ)) (c : ClaimReaderValue) → ReachesReading lines (Claimed c) → IsHeader c.header
 claimed-header [] c is = let bad : ⊥ = cc in absurd bad
 claimed-header (line ∷ before) c (Scheduling p, r, g) = reading-claimed g.0 c (sym g.3) (Reaches-header refused (line ∷ before) g.0 (p, scheduled before p r, g.1))
 claimed-header (line ∷ before) c (Claimed d, r, g) =
     let is = g.5 in
     let same : c ≡ told_more g.1 g.0 = cc in
-    subst (λ k. IsHeader k) (sym (ap (λ (x : ClaimingValue). x.header) same ∙ passes-header (g.0.event - (length d.passed + 1)) d g.1 g.3.0)) (claimed-header before d r)
+    subst (λ k. IsHeader k) (sym (ap (λ (x : ClaimReaderValue). x.header) same ∙ passes-header (g.0.event - (length d.passed + 1)) d g.1 g.3.0)) (claimed-header before d r)
 
 -- a header gives a setting its clocks
 clocks-of : (header : HeaderValue) → IsHeader header → (setting : Setting) × HasClocks header setting
@@ -188,7 +188,7 @@ one_end lines (Scheduling p) more other reaches e f = absurd e
 one_end lines (Claimed c) more other reaches (all, found, passes_e, judges, is) (every, against, passes_f, judged, was) =
     let same : every ≡ all = some-one every all (sym passes_f ∙ passes_e) in
     let clocks = clocks-of all.header (subst (λ k. IsHeader k) (sym (passes-header (length c.ahead) c all passes_e)) (claimed-header lines c reaches)) in
-    let other_found = subst (λ (v : ClaimingValue). GivesVerdict v.header v.passed against) same judged in
+    let other_found = subst (λ (v : ClaimReaderValue). GivesVerdict v.header v.passed against) same judged in
     is ∙ (ap (λ o. verdict_text o) (found-one (premises_of all.header all.passed) clocks.0 all.header all.passed found against (judges clocks.0 clocks.1) (other_found clocks.0 clocks.1)) ∙ sym was)
 
 -- what was accepted last, and after what

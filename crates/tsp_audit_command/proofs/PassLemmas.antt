@@ -3,7 +3,7 @@ use Rattle.std.specs.Prelude.{◌≡◌, ℕ, suc, false, List, [], ◌∷◌, O
 use Rattle.std.proofs.Common.{◌∙◌, ap, sym, refl}
 use Rattle.tsp_base.specs.declared.event.Event.{Event}
 use Rattle.tsp_base.specs.Words.{HeaderValue}
-use Rattle.tsp_audit_command.specs.ClaimReaders.{ClaimingValue, and_then, pass_first, pass_one, passes, tallied}
+use Rattle.tsp_audit_command.specs.ClaimReaders.{ClaimReaderValue, and_then, pass_first, pass_one, passes, tallied}
 use Rattle.tsp_audit_command.specs.Stands.{Unpassed}
 use Rattle.tsp_claims.specs.ClaimedHistory.{Claim}
 use Rattle.tsp_claims.specs.Fitting.{lacks, untold}
@@ -12,17 +12,17 @@ use Rattle.tsp_lines.specs.declared.treatment.Stop.{Stop}
 use Rattle.tsp_lines.specs.declared.treatment.Stop.TheVariants.{Bad, Limit, WriteFault, OutOfMemory}
 use Rattle.tsp_base.specs.declared.trace.Line2.{Line2}
 
-pub some-one : (a b : ClaimingValue) → Some a ≡ Some b → a ≡ b
+pub some-one : (a b : ClaimReaderValue) → Some a ≡ Some b → a ≡ b
 some-one a b p = cc
 
-pub none-some : (o : Option ClaimingValue) (a : ClaimingValue) → o ≡ None → o ≡ Some a → ⊥
+pub none-some : (o : Option ClaimReaderValue) (a : ClaimReaderValue) → o ≡ None → o ≡ Some a → ⊥
 none-some o a p q = let e = sym p ∙ q in let bad : ⊥ = cc in bad
 
 -- one event is passed of those that are left
-pub passes-next : (n : ℕ) (c d : ClaimingValue) → pass_one c ≡ Some d → passes (suc n) c ≡ passes n d
+pub passes-next : (n : ℕ) (c d : ClaimReaderValue) → pass_one c ≡ Some d → passes (suc n) c ≡ passes n d
 passes-next n c d p = ap (λ o. and_then o (λ x. passes n x)) p
 
-pub passes-none : (n : ℕ) (c : ClaimingValue) → pass_one c ≡ None → passes (suc n) c ≡ None
+pub passes-none : (n : ℕ) (c : ClaimReaderValue) → pass_one c ≡ None → passes (suc n) c ≡ None
 passes-none n c p = ap (λ o. and_then o (λ x. passes n x)) p
 
 -- an event that lacks nothing is passed
@@ -31,7 +31,7 @@ pub pass-whole : (header : HeaderValue) (passed : List Claim) (told : List Line2
 pass-whole header passed told e rest h = rw h refl
 
 -- where one event can't be passed, more can't
-pub Unpassed-more : (n : ℕ) (c : ClaimingValue) (all : Option ClaimingValue) (stop : Stop) → passes (suc n) c ≡ all → Unpassed (pass_one c) stop → Unpassed all stop
+pub Unpassed-more : (n : ℕ) (c : ClaimReaderValue) (all : Option ClaimReaderValue) (stop : Stop) → passes (suc n) c ≡ all → Unpassed (pass_one c) stop → Unpassed all stop
 Unpassed-more n c all (Bad cause) is u = (sym is ∙ passes-none n c u.0, u.1)
 Unpassed-more n c all Limit is u = u
 Unpassed-more n c all WriteFault is u = u

@@ -9,7 +9,7 @@ use Rattle.tsp_audit.specs.Ends.{AreDated, EndsAt}
 use Rattle.tsp_audit.specs.Premised.{kept_with, premises_of}
 use Rattle.tsp_base.specs.declared.event.Event.{Event}
 use Rattle.tsp_base.specs.Words.{HeaderValue}
-use Rattle.tsp_audit_command.specs.ClaimReaders.{ClaimingValue, FitsFirst, most_lines, pass_first, tallied}
+use Rattle.tsp_audit_command.specs.ClaimReaders.{ClaimReaderValue, FitsFirst, most_lines, pass_first, tallied}
 use Rattle.tsp_audit_command.specs.Listings.{AreListed, IsAudited, IsListed}
 use Rattle.tsp_audit_command.specs.Sound.{FitAtHand, Sound, claims_by, claims_on, first_end}
 use Rattle.tsp_history.specs.Histories.{history_of}
@@ -65,9 +65,9 @@ Sound-begun header events claims ends pending tally premises audited listed stan
     }
 
 pub view-begun : (header : HeaderValue) (events : List Event) (claims : Claims) (ends : List ℕ) (pending : List Line2) → ClaimsStand header [] claims → ends ≡ [] → pending ≡ [] →
-    ◌≡◌ {A = ClaimingValue} (record { header = claims.header; passed = claims_on events ends claims; told = pending; ahead = drop (length ends) events }) (record { header = header; passed = []; told = []; ahead = events })
+    ◌≡◌ {A = ClaimReaderValue} (record { header = claims.header; passed = claims_on events ends claims; told = pending; ahead = drop (length ends) events }) (record { header = header; passed = []; told = []; ahead = events })
 view-begun header events claims ends pending stand ends_are pending_is =
-    let value : HeaderValue → List Claim → List Line2 → List Event → ClaimingValue = λ h cs ls es. record { header = h; passed = cs; told = ls; ahead = es } in
+    let value : HeaderValue → List Claim → List Line2 → List Event → ClaimReaderValue = λ h cs ls es. record { header = h; passed = cs; told = ls; ahead = es } in
     ap (λ (h : HeaderValue). value h (claims_on events ends claims) pending (drop (length ends) events)) stand.header_is
     ∙ (ap (λ (t : List ℕ). value header (claims_on events t claims) pending (drop (length t) events)) ends_are ∙ ap (λ (ls : List Line2). value header [] ls events) pending_is)
 
@@ -133,7 +133,7 @@ module _ (header : HeaderValue) (events : List Event) (claims : Claims) (ends : 
         let rest = drop (length ends + 1) events in
         let claims_are : claims_on events more now ≡ (claim_of e pending ∷ passed) = claims-passed none now more n stand more_is in
         let long : length more ≡ length ends + 1 = ap (λ (t : List ℕ). length t) more_is ∙ length-append ends (n ∷ []) in
-        let value : HeaderValue → List Claim → List Line2 → List Event → ClaimingValue = λ h cs ls es. record { header = h; passed = cs; told = ls; ahead = es } in
+        let value : HeaderValue → List Claim → List Line2 → List Event → ClaimReaderValue = λ h cs ls es. record { header = h; passed = cs; told = ls; ahead = es } in
         ap (λ es. pass_first header passed pending es) ahead
         ∙ (pass-whole header passed pending e rest (subst (λ t. lacks e t ≡ false) s.tally_is none)
         ∙ ap (λ c. Some c) (ap (λ h. value h (claim_of e pending ∷ passed) [] rest) (sym stand.header_is) ∙ (ap (λ cs. value now.header cs [] rest) (sym claims_are)

@@ -4,7 +4,7 @@ use Rattle.std.proofs.Common.{◌∙◌, ap, subst, inl, inr, sym, refl, append-
 use Rattle.tsp_audit_command.specs.declared.check.AuditInput.{AuditInput}
 use Rattle.tsp_audit_command.specs.declared.check.AuditInput.TheVariants.{Schedule, Claims as ClaimsOf}
 use Rattle.tsp_audit_command.specs.declared.listing.Listing.{Listing}
-use Rattle.tsp_audit_command.specs.ClaimReaders.{ClaimingValue, comes_to, passes_all, told_more}
+use Rattle.tsp_audit_command.specs.ClaimReaders.{ClaimReaderValue, comes_to, passes_all, told_more}
 use Rattle.tsp_audit_command.specs.Listings.{most_nodes, refused}
 use Rattle.tsp_audit_command.specs.Meaning.{auditing}
 use Rattle.tsp_audit_command.specs.Readings.{Claimed, IsWanting, ReachesReading, Reading, RefusesLine, Scheduling, nodes_at, reading_of}
@@ -23,7 +23,7 @@ use Rattle.tsp_lines.proofs.Outputs.{Hands-nil}
 use Rattle.tsp_base.specs.declared.trace.Line2.{Line2}
 
 -- a long line is no trace's
-pub Refuses-long : (r : Reading) (held : AuditInput) (c : ClaimingValue) (line cause : List ℕ) → held ≡ ClaimsOf c → EventStands r held → 1024 < length line → cause ≡ codes "line" → RefusesLine r line cause
+pub Refuses-long : (r : Reading) (held : AuditInput) (c : ClaimReaderValue) (line cause : List ℕ) → held ≡ ClaimsOf c → EventStands r held → 1024 < length line → cause ≡ codes "line" → RefusesLine r line cause
 Refuses-long (Scheduling p) held c line cause is stands long cause_is = let bad : ⊥ = subst (λ h. EventStands (Scheduling p) h) is stands in absurd bad
 Refuses-long (Claimed v) held c line cause is stands long cause_is = inl (SpellsTrace-long line long, cause_is)
 
@@ -58,11 +58,11 @@ Halts-behind p line stage a WriteFault h = h
 Halts-behind p line stage a OutOfMemory h = h
 
 -- lines come to one place
-comes-same : (c : ClaimingValue) (l k : Line2) (here there : ClaimingValue) → k ≡ l → comes_to c l.event ≡ Some here → comes_to c k.event ≡ Some there → there ≡ here
+comes-same : (c : ClaimReaderValue) (l k : Line2) (here there : ClaimReaderValue) → k ≡ l → comes_to c l.event ≡ Some here → comes_to c k.event ≡ Some there → there ≡ here
 comes-same c l k here there same p q = some-one there here (sym q ∙ (ap (λ (x : Line2). comes_to c x.event) same ∙ p))
 
 -- a claimed line
-pub Advances-claimed : (c : ClaimingValue) (line : List ℕ) (next : ClaimingValue) → ClaimAdvances c line next → AdvancesReading (Claimed c) line (ClaimsOf next)
+pub Advances-claimed : (c : ClaimReaderValue) (line : List ℕ) (next : ClaimReaderValue) → ClaimAdvances c line next → AdvancesReading (Claimed c) line (ClaimsOf next)
 Advances-claimed c line next (l, tells, (here, fits, room, is)) = record {
   to = Claimed next;
   goes = (l, here, tells, fits, room, ap (λ v. Claimed v) is);
@@ -72,17 +72,17 @@ Advances-claimed c line next (l, tells, (here, fits, room, is)) = record {
       g.5 ∙ (ap (λ (k : Line2). Claimed (told_more g.1 k)) same ∙ (ap (λ v. Claimed (told_more v l)) (comes-same c l g.0 here g.1 same fits.0 g.3.0) ∙ ap (λ v. Claimed v) (sym is)));
 }
 
-pub Advances-held : (r : Reading) (held : AuditInput) (c next : ClaimingValue) (line : List ℕ) → held ≡ ClaimsOf c → EventStands r held → ClaimAdvances c line next → AdvancesReading r line (ClaimsOf next)
+pub Advances-held : (r : Reading) (held : AuditInput) (c next : ClaimReaderValue) (line : List ℕ) → held ≡ ClaimsOf c → EventStands r held → ClaimAdvances c line next → AdvancesReading r line (ClaimsOf next)
 Advances-held (Scheduling p) held c next line is stands a = let bad : ⊥ = subst (λ h. EventStands (Scheduling p) h) is stands in absurd bad
 Advances-held (Claimed v) held c next line is stands a = let same : c ≡ v = subst (λ h. EventStands (Claimed v) h) is stands in subst (λ x. AdvancesReading (Claimed x) line (ClaimsOf next)) same (Advances-claimed c line next a)
 
 -- a claimed line that isn't accepted
-pub Halts-held : (r : Reading) (held : AuditInput) (c : ClaimingValue) (line : List ℕ) (stop : Stop) → held ≡ ClaimsOf c → EventStands r held → HaltsReading (Claimed c) line stop → HaltsReading r line stop
+pub Halts-held : (r : Reading) (held : AuditInput) (c : ClaimReaderValue) (line : List ℕ) (stop : Stop) → held ≡ ClaimsOf c → EventStands r held → HaltsReading (Claimed c) line stop → HaltsReading r line stop
 Halts-held (Scheduling p) held c line stop is stands h = let bad : ⊥ = subst (λ x. EventStands (Scheduling p) x) is stands in absurd bad
 Halts-held (Claimed v) held c line stop is stands h = let same : c ≡ v = subst (λ x. EventStands (Claimed v) x) is stands in subst (λ x. HaltsReading (Claimed x) line stop) same h
 
 -- events that are left can't be passed
-pub Halts-concluding : (c : ClaimingValue) (written : Option (List ℕ)) (held : List ℕ) (stop : Stop) → Unpassed (passes_all c) stop → HaltsConcluding c written held written held stop
+pub Halts-concluding : (c : ClaimReaderValue) (written : Option (List ℕ)) (held : List ℕ) (stop : Stop) → Unpassed (passes_all c) stop → HaltsConcluding c written held written held stop
 Halts-concluding c written held (Bad cause) u = (Hands-nil written held, u)
 Halts-concluding c written held Limit u = u
 Halts-concluding c written held WriteFault u = absurd u

@@ -1,6 +1,6 @@
 -- What lines mean to the command that audits a claimed history.
 use Rattle.std.specs.Prelude.{◌≡◌, ℕ, List, [], reverse, All, Some}
-use Rattle.tsp_audit_command.specs.ClaimReaders.{ClaimingValue, passes_all}
+use Rattle.tsp_audit_command.specs.ClaimReaders.{ClaimReaderValue, passes_all}
 use Rattle.tsp_audit_command.specs.Readings.{Claimed, MayEnd, IsWanting, PassesLimit, ReachesReading, Reading, RefusesLine}
 use Rattle.tsp_lines.specs.Lines.{NoFeed, AreLines}
 use Rattle.tsp_lines.specs.Meanings.{Meaning}
@@ -8,7 +8,7 @@ use Rattle.tsp_lines.specs.Meanings.{Meaning}
 -- octets are the lines of a schedule of at most 16 nodes and 20,000 events, and after it at most 20,000 claimed lines,
 -- which all fit, and no event lacks anything
 abbrev pub IsAuditText : List ℕ → Type 0
-IsAuditText octets = (lines : List (List ℕ)) × (c : ClaimingValue) × (all : ClaimingValue) × All NoFeed lines × AreLines octets lines × ReachesReading (reverse lines) (Claimed c) × (passes_all c ≡ Some all)
+IsAuditText octets = (lines : List (List ℕ)) × (c : ClaimReaderValue) × (all : ClaimReaderValue) × All NoFeed lines × AreLines octets lines × ReachesReading (reverse lines) (Claimed c) × (passes_all c ≡ Some all)
 
 -- the meaning of an audit: lines are accepted as a schedule and what is claimed of it, without output; they may end
 -- after the schedule, where no event lacks anything, and then the output is the verdict

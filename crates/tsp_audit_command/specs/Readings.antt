@@ -7,7 +7,7 @@ use Rattle.tsp_audit.specs.Settings.{HasClocks}
 use Rattle.tsp_audit.specs.Verdicts.{IsFound}
 use Rattle.tsp_base.specs.Words.{HeaderValue}
 use Rattle.tsp_promises.specs.Setting.{Setting}
-use Rattle.tsp_audit_command.specs.ClaimReaders.{ClaimingValue, FitsAt, MisfitsAt, IsOneLine, lines_told, most_lines, passes_all, told_more, unclaimed}
+use Rattle.tsp_audit_command.specs.ClaimReaders.{ClaimReaderValue, FitsAt, MisfitsAt, IsOneLine, lines_told, most_lines, passes_all, told_more, unclaimed}
 use Rattle.tsp_audit_command.specs.Listings.{most_nodes, refused}
 use Rattle.tsp_audit_command.specs.Texts.{verdict_text}
 use Rattle.tsp_claims.specs.ClaimedHistory.{Claim}
@@ -20,7 +20,7 @@ pub data Reading : Type 0 where
   -- the schedule, up to some line before its last one, `end`
   Scheduling : (p : Progress) → Reading
   -- the whole schedule, and claimed lines after it, maybe none
-  Claimed : (c : ClaimingValue) → Reading
+  Claimed : (c : ClaimReaderValue) → Reading
 
 -- how far the lines of a schedule bring the reading: after its last one nothing is claimed yet
 abbrev pub reading_of : Progress → Reading
@@ -44,7 +44,7 @@ nodes_at (Ended header events) = length header.nodes
 -- nodes, or a claimed line that fits, after fewer than 20,000
 abbrev pub ReadsOn : Reading → List ℕ → Reading → Type 0
 ReadsOn (Scheduling p) line next = (q : Progress) × GoesOnBy refused p line q × (nodes_at q ≤ most_nodes) × (next ≡ reading_of q)
-ReadsOn (Claimed c) line next = (l : Line2) × (here : ClaimingValue) × IsOneLine line l × FitsAt c l here × (lines_told here < most_lines) × (next ≡ Claimed (told_more here l))
+ReadsOn (Claimed c) line next = (l : Line2) × (here : ClaimReaderValue) × IsOneLine line l × FitsAt c l here × (lines_told here < most_lines) × (next ≡ Claimed (told_more here l))
 
 -- these lines, which are given newest first, bring the reading so far
 abbrev pub ReachesReading : List (List ℕ) → Reading → Type 0
@@ -61,7 +61,7 @@ RefusesLine (Claimed c) line cause = (((l : Line2) → SpellsTrace line l → �
 -- node, which the header would take; or it is a claimed line that fits, after 20,000
 abbrev pub PassesLimit : Reading → List ℕ → Type 0
 PassesLimit (Scheduling p) line = LimitsBy refused p line ⊎ ((q : Progress) × GoesOnBy refused p line q × (most_nodes < nodes_at q))
-PassesLimit (Claimed c) line = (l : Line2) × (here : ClaimingValue) × IsOneLine line l × FitsAt c l here × (most_lines ≤ lines_told here)
+PassesLimit (Claimed c) line = (l : Line2) × (here : ClaimReaderValue) × IsOneLine line l × FitsAt c l here × (most_lines ≤ lines_told here)
 
 -- this is found of these claims: the first failure, or none, under the premises that all these events keep, with the
 -- clocks of the header
@@ -71,7 +71,7 @@ GivesVerdict header claims found = (setting : Setting) → HasClocks header sett
 -- the input may end, and these octets are its last output: the verdict on all events, which can all be passed
 abbrev pub MayEnd : Reading → List ℕ → Type 0
 MayEnd (Scheduling p) more = ⊥
-MayEnd (Claimed c) more = (all : ClaimingValue) × (found : Option Failure) × (passes_all c ≡ Some all) × GivesVerdict all.header all.passed found × (more ≡ verdict_text found)
+MayEnd (Claimed c) more = (all : ClaimReaderValue) × (found : Option Failure) × (passes_all c ≡ Some all) × GivesVerdict all.header all.passed found × (more ≡ verdict_text found)
 
 -- the input may not end yet, for this cause: the schedule has not ended; or, for `history`, one of the events that are
 -- left lacks something

@@ -5,7 +5,7 @@ use Rattle.tsp_base.specs.Words.{HeaderValue}
 use Rattle.tsp_audit_command.specs.declared.check.AuditInput.{AuditInput}
 use Rattle.tsp_audit_command.specs.declared.check.AuditInput.TheVariants.{Schedule, Claims as ClaimsOf}
 use Rattle.tsp_audit_command.specs.declared.listing.Listing.{Listing}
-use Rattle.tsp_audit_command.specs.ClaimReaders.{ClaimingValue, FitsAt, FitsHere, MisfitsAt, IsOneLine, lines_told, most_lines, told_more}
+use Rattle.tsp_audit_command.specs.ClaimReaders.{ClaimReaderValue, FitsAt, FitsHere, MisfitsAt, IsOneLine, lines_told, most_lines, told_more}
 use Rattle.tsp_audit_command.specs.Listings.{most_nodes}
 use Rattle.tsp_audit_command.specs.Readings.{Claimed, MayEnd, ReadsOn, IsWanting, PassesLimit, ReachesReading, Reading, RefusesLine, Scheduling, nodes_at}
 use Rattle.tsp_claims.specs.Listed.{booted, up_in}
@@ -51,36 +51,36 @@ HaltsReading r line WriteFault = ⊥
 HaltsReading r line OutOfMemory = Unit {0}
 
 -- events were not passed, for this reason: they can't be (`history`), or there was no memory
-abbrev pub Unpassed : Option ClaimingValue → Stop → Type 0
+abbrev pub Unpassed : Option ClaimReaderValue → Stop → Type 0
 Unpassed next (Bad cause) = (next ≡ None) × (cause ≡ codes "history")
 Unpassed next Limit = ⊥
 Unpassed next WriteFault = ⊥
 Unpassed next OutOfMemory = Unit {0}
 
 -- a line was added to those of the event at hand
-abbrev pub AddsLine : ClaimingValue → Line2 → ClaimingValue → Type 0
+abbrev pub AddsLine : ClaimReaderValue → Line2 → ClaimReaderValue → Type 0
 AddsLine c l now = FitsHere c l × (lines_told c < most_lines) × (now ≡ told_more c l)
 
 -- a line was not added: it doesn't fit (`history`), it fits after 20,000 lines (a limit), or there was no memory
-abbrev pub HaltsAdding : ClaimingValue → Line2 → Stop → Type 0
+abbrev pub HaltsAdding : ClaimReaderValue → Line2 → Stop → Type 0
 HaltsAdding c l (Bad cause) = (¬ FitsHere c l) × (cause ≡ codes "history")
 HaltsAdding c l Limit = FitsHere c l × (most_lines ≤ lines_told c)
 HaltsAdding c l WriteFault = ⊥
 HaltsAdding c l OutOfMemory = Unit {0}
 
 -- a line was added to those of its event, once the events before that were passed
-abbrev pub TellsMore : ClaimingValue → Line2 → ClaimingValue → Type 0
-TellsMore c l now = (here : ClaimingValue) × FitsAt c l here × (lines_told here < most_lines) × (now ≡ told_more here l)
+abbrev pub TellsMore : ClaimReaderValue → Line2 → ClaimReaderValue → Type 0
+TellsMore c l now = (here : ClaimReaderValue) × FitsAt c l here × (lines_told here < most_lines) × (now ≡ told_more here l)
 
 -- a line was not added to those of its event: as above, or an event before it couldn't be passed
-abbrev pub HaltsTelling : ClaimingValue → Line2 → Stop → Type 0
+abbrev pub HaltsTelling : ClaimReaderValue → Line2 → Stop → Type 0
 HaltsTelling c l (Bad cause) = MisfitsAt c l × (cause ≡ codes "history")
-HaltsTelling c l Limit = (here : ClaimingValue) × FitsAt c l here × (most_lines ≤ lines_told here)
+HaltsTelling c l Limit = (here : ClaimReaderValue) × FitsAt c l here × (most_lines ≤ lines_told here)
 HaltsTelling c l WriteFault = ⊥
 HaltsTelling c l OutOfMemory = Unit {0}
 
 -- a claimed line was read, and added to those of its event
-abbrev pub ClaimAdvances : ClaimingValue → List ℕ → ClaimingValue → Type 0
+abbrev pub ClaimAdvances : ClaimReaderValue → List ℕ → ClaimReaderValue → Type 0
 ClaimAdvances c line now = (l : Line2) × IsOneLine line l × TellsMore c l now
 
 -- nothing is held after a line of the schedule: its header has more than 16 nodes, or there was no memory
@@ -96,14 +96,14 @@ HasNodes AtUntitled count = Unit {0}
 HasNodes (AtTitled version) count = Unit {0}
 HasNodes (AtDrifted header) count = Unit {0}
 HasNodes (AtHeading header) count = Unit {0}
-HasNodes (AtRunning run) count = count ≡ length run.course.header.nodes
+HasNodes (AtRunning run) count = count ≡ length run.handler.header.nodes
 
 -- exactly the verdict was put into the output, and the input may end
-abbrev pub Concludes : ClaimingValue → Option (List ℕ) → List ℕ → Option (List ℕ) → List ℕ → Type 0
+abbrev pub Concludes : ClaimReaderValue → Option (List ℕ) → List ℕ → Option (List ℕ) → List ℕ → Type 0
 Concludes c written held now keeps = (more : List ℕ) × Hands written held now keeps more × MayEnd (Claimed c) more
 
 -- nothing was put into the output: an event that is left lacks something, a write failed, or there was no memory
-abbrev pub HaltsConcluding : ClaimingValue → Option (List ℕ) → List ℕ → Option (List ℕ) → List ℕ → Stop → Type 0
+abbrev pub HaltsConcluding : ClaimReaderValue → Option (List ℕ) → List ℕ → Option (List ℕ) → List ℕ → Stop → Type 0
 HaltsConcluding c written held now keeps (Bad cause) = Hands written held now keeps [] × IsWanting (Claimed c) cause
 HaltsConcluding c written held now keeps Limit = ⊥
 HaltsConcluding c written held now keeps WriteFault = Hands written held now keeps []

@@ -43,7 +43,7 @@ fn node_count(stage: &Stage<Listing>) -> usize
         Stage::Titled(_) => 0,
         Stage::Drifted(_) => 0,
         Stage::Heading(header) => header.nodes().len(),
-        Stage::Running(run) => run.course.header.nodes().len(),
+        Stage::Running(run) => run.handler.header.nodes().len(),
     }
 }
 
@@ -187,7 +187,7 @@ impl AuditInput {
     /// What is held after a line that comes after the header: an event, or `end`, with which the claims begin. Fails
     /// only if out of memory.
     fn behind_header(alloc: Global, run: Run<Listing>) -> Result<AuditInput, Stop>
-        requires { length run.course.header.nodes ≤ most_nodes }
+        requires { length run.handler.header.nodes ≤ most_nodes }
         ensures next { (p : Progress) → RunStands ListingStands p run
             → MatchResult result (EventStands (reading_of p)) (λ stop. stop ≡ Stop.OutOfMemory) }
         ensures kind { result ≢ Err Stop.WriteFault }
@@ -195,7 +195,7 @@ impl AuditInput {
         if !run.over {
             return Ok(AuditInput::Schedule(Stage::Running(run)));
         }
-        let listing = run.course;
+        let listing = run.handler;
         match ClaimReader::begin(alloc, listing.header, listing.events) {
             Ok(claiming) => Ok(AuditInput::Claims(claiming)),
             Err(_) => Err(Stop::OutOfMemory),

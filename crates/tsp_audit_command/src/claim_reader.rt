@@ -50,10 +50,10 @@ pub(crate) struct ClaimReader {
 
 impl Model for ClaimReader {
     ghost use Rattle.std.specs.Prelude.{[], length, drop};
-    ghost use Rattle.tsp_audit_command.specs.ClaimReaders.{ClaimingValue};
+    ghost use Rattle.tsp_audit_command.specs.ClaimReaders.{ClaimReaderValue};
     ghost use Rattle.tsp_audit_command.specs.Sound.{Sound, claims_on};
 
-    ghost Value = { ClaimingValue };
+    ghost Value = { ClaimReaderValue };
 
     ghost view = { λ c. record {
       header = c.claims.header;

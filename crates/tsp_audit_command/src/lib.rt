@@ -47,7 +47,7 @@
 mod check;
 mod claim_reader;
 mod event_lines;
-mod judging;
+mod verdict;
 pub mod laws;
 mod listing;
 mod refusing;

@@ -89,8 +89,8 @@ plain [] = []
 plain (s ∷ before) = did_of s ∷ plain before
 
 abbrev pub from_act_at : Deed → List Line → List Line → List Line
-from_act_at Begins here keep = keep
-from_act_at (Acts a) here keep = here
+from_act_at Begins here was = was
+from_act_at (Acts a) here was = here
 
 -- the lines from the newest act on: newer marks are left out
 abbrev pub from_act : List Line → List Line

@@ -15,8 +15,8 @@ tick_of [] = 0
 tick_of (d ∷ before) = d.tick
 
 abbrev pub up_after : Deed → Bool → Bool
-up_after (Acts Boot) keep = true
-up_after _ keep = keep
+up_after (Acts Boot) was = true
+up_after _ was = was
 
 -- whether the node has booted
 abbrev pub up : List Did → Bool
@@ -33,8 +33,8 @@ lives [] = 0
 lives (d ∷ before) = lives_after d.deed (lives before)
 
 abbrev pub word_after : Deed → Cause → ℕ → ℕ
-word_after (Acts Boot) (Booted word wall) keep = word
-word_after _ cause keep = keep
+word_after (Acts Boot) (Booted word wall) was = word
+word_after _ cause was = was
 
 -- the word of the last boot
 abbrev pub word : List Did → ℕ
@@ -42,8 +42,8 @@ word [] = 0
 word (d ∷ before) = word_after d.deed d.step.cause (word before)
 
 abbrev pub wall_after : Deed → Cause → ℤ → ℤ
-wall_after (Acts Boot) (Booted word wall) keep = wall
-wall_after _ cause keep = keep
+wall_after (Acts Boot) (Booted word wall) was = wall
+wall_after _ cause was = was
 
 -- the wall clock at the last boot
 abbrev pub wall : List Did → ℤ
@@ -52,8 +52,8 @@ wall (d ∷ before) = wall_after d.deed d.step.cause (wall before)
 
 -- a number that each boot sets anew
 abbrev pub boot_after : Deed → ℕ → ℕ → ℕ
-boot_after (Acts Boot) new keep = new
-boot_after _ new keep = keep
+boot_after (Acts Boot) new was = new
+boot_after _ new was = was
 
 -- the tick of the last boot
 abbrev pub boot_tick : List Did → ℕ
@@ -102,9 +102,9 @@ abbrev pub target : List Did → ℕ → ℤ
 target ds x = (base ds +ℤ moved ds) +ℤ pos x
 
 abbrev pub last_correct_after : Deed → ℕ → ℕ → ℕ
-last_correct_after (Acts Boot) x keep = x
-last_correct_after (Acts (Correct amount stepped shown)) x keep = x
-last_correct_after _ x keep = keep
+last_correct_after (Acts Boot) x was = x
+last_correct_after (Acts (Correct amount stepped shown)) x was = x
+last_correct_after _ x was = was
 
 -- the tick of the last correction since the boot, or of the boot where there was none
 abbrev pub last_correct : List Did → ℕ
@@ -112,9 +112,9 @@ last_correct [] = 0
 last_correct (d ∷ before) = last_correct_after d.deed d.tick (last_correct before)
 
 abbrev pub correct_place_after : Deed → List Did → List Did → List Did
-correct_place_after (Acts Boot) here keep = []
-correct_place_after (Acts (Correct amount stepped shown)) here keep = here
-correct_place_after _ here keep = keep
+correct_place_after (Acts Boot) here was = []
+correct_place_after (Acts (Correct amount stepped shown)) here was = here
+correct_place_after _ here was = was
 
 -- the place of the last correction since the boot: its line and the lines before it; empty where there was none
 abbrev pub correct_place : List Did → List Did
@@ -135,9 +135,9 @@ eased (pos m) n = pos (m - n)
 eased (negsuc m) n = neg_ℤ (pos (m + 1 - n))
 
 abbrev pub rest_after : Deed → ℤ → ℤ → ℤ
-rest_after (Acts Boot) left keep = pos 0
-rest_after (Acts (Correct amount stepped shown)) left keep = if stepped then pos 0 else left +ℤ amount
-rest_after _ left keep = keep
+rest_after (Acts Boot) left was = pos 0
+rest_after (Acts (Correct amount stepped shown)) left was = if stepped then pos 0 else left +ℤ amount
+rest_after _ left was = was
 
 -- what is still to be slewed right after the last correction: none after a step, else what was left before it and its amount
 abbrev pub rest : List Did → ℤ
@@ -153,9 +153,9 @@ abbrev pub shown : List Did → ℕ → ℤ
 shown ds x = target ds x -ℤ rest_at ds x
 
 abbrev pub tracing_after : Deed → Bool → Bool
-tracing_after (Acts Boot) keep = false
-tracing_after (Acts (Trace on)) keep = on
-tracing_after _ keep = keep
+tracing_after (Acts Boot) was = false
+tracing_after (Acts (Trace on)) was = on
+tracing_after _ was = was
 
 -- whether the trace is on: what the last Trace since the boot says, and off before any
 abbrev pub tracing : List Did → Bool

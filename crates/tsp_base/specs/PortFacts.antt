@@ -16,9 +16,9 @@ use Rattle.tsp_base.specs.Hold.{Held}
 use Rattle.tsp_base.specs.Messages.{MessageValue}
 
 abbrev pub role_after : Deed → Role → Role
-role_after (Acts Boot) keep = Starting
-role_after (Acts (Become r)) keep = r
-role_after _ keep = keep
+role_after (Acts Boot) was = Starting
+role_after (Acts (Become r)) was = r
+role_after _ was = was
 
 -- the role: that of the last Become
 abbrev pub role : List Seen → Role
@@ -32,9 +32,9 @@ pub record Received : Type 0 where
   pub taken : Taken
 
 abbrev pub taken_after : Deed → Option Received → Option Received
-taken_after Begins keep = None
-taken_after (Acts (Took from t)) keep = Some (record { from = from; taken = t })
-taken_after _ keep = keep
+taken_after Begins was = None
+taken_after (Acts (Took from t)) was = Some (record { from = from; taken = t })
+taken_after _ was = was
 
 -- what this step has taken so far
 abbrev pub taken : List Seen → Option Received
@@ -43,11 +43,11 @@ taken (Here d ∷ before) = taken_after d.deed (taken before)
 taken (Elsewhere d ∷ before) = taken before
 
 abbrev pub acting_after : Deed → Bool → Bool
-acting_after Begins keep = false
-acting_after (Acts (Took from t)) keep = true
-acting_after (Acts (Ring a)) keep = true
-acting_after (Acts (Late a)) keep = true
-acting_after _ keep = keep
+acting_after Begins was = false
+acting_after (Acts (Took from t)) was = true
+acting_after (Acts (Ring a)) was = true
+acting_after (Acts (Late a)) was = true
+acting_after _ was = was
 
 -- whether an alarm was handled or a datagram taken before in this step: what is posted from here on is no repeat
 abbrev pub acting : List Seen → Bool
@@ -84,9 +84,9 @@ said None = None
 said (Some r) = said_by r.from (message_in r.taken)
 
 abbrev pub kept_name_after : Deed → Option Received → List ℕ → List ℕ
-kept_name_after (Acts Boot) took keep = []
-kept_name_after (Acts (Become (Follow p))) took keep = name_in took
-kept_name_after _ took keep = keep
+kept_name_after (Acts Boot) took was = []
+kept_name_after (Acts (Become (Follow p))) took was = name_in took
+kept_name_after _ took was = was
 
 -- the name of the master that was followed last: that in the message taken in the step of the last Become(Follow)
 abbrev pub kept_name : List Seen → List ℕ
@@ -95,10 +95,10 @@ kept_name (Here d ∷ before) = kept_name_after d.deed (taken before) (kept_name
 kept_name (Elsewhere d ∷ before) = kept_name before
 
 abbrev pub held_after : Deed → ℕ → Held → Held
-held_after (Acts Boot) x keep = record { boot = x; back = None; quit = None }
-held_after (Acts (Back p)) x keep = record keep { back = Some (x, p) }
-held_after (Acts (Quit p)) x keep = record keep { quit = Some x }
-held_after _ x keep = keep
+held_after (Acts Boot) x was = record { boot = x; back = None; quit = None }
+held_after (Acts (Back p)) x was = record was { back = Some (x, p) }
+held_after (Acts (Quit p)) x was = record was { quit = Some x }
+held_after _ x was = was
 
 -- the tick of the boot, and the last Back and the last Quit since, each with its tick
 abbrev pub held : List Seen → Held
@@ -107,13 +107,13 @@ held (Here d ∷ before) = held_after d.deed d.tick (held before)
 held (Elsewhere d ∷ before) = held before
 
 abbrev pub armed_after : Deed → Deadlines → Deadlines
-armed_after (Acts Boot) keep = none_armed
-armed_after (Acts (Become r)) keep = none_armed
-armed_after (Acts (Arm a at)) keep = with_deadline keep a (Some at)
-armed_after (Acts (Ring a)) keep = with_deadline keep a None
-armed_after (Acts (Late a)) keep = with_deadline keep a None
-armed_after (Acts Abandon) keep = with_deadline (with_deadline keep Probe None) Close None
-armed_after _ keep = keep
+armed_after (Acts Boot) was = none_armed
+armed_after (Acts (Become r)) was = none_armed
+armed_after (Acts (Arm a at)) was = with_deadline was a (Some at)
+armed_after (Acts (Ring a)) was = with_deadline was a None
+armed_after (Acts (Late a)) was = with_deadline was a None
+armed_after (Acts Abandon) was = with_deadline (with_deadline was Probe None) Close None
+armed_after _ was = was
 
 -- what each alarm is armed for: the last Arm of it, unless a Ring or a Late of it or a Become came after; an Abandon turns Probe and Close off
 abbrev pub armed : List Seen → Deadlines
@@ -122,11 +122,11 @@ armed (Here d ∷ before) = armed_after d.deed (armed before)
 armed (Elsewhere d ∷ before) = armed before
 
 abbrev pub in_table_after : PeerId → Deed → Bool → Bool
-in_table_after p (Acts Boot) keep = false
-in_table_after p (Acts (Become r)) keep = false
-in_table_after p (Acts (Join q)) keep = if q.0 == p.0 then true else keep
-in_table_after p (Acts (Leave q)) keep = if q.0 == p.0 then false else keep
-in_table_after p _ keep = keep
+in_table_after p (Acts Boot) was = false
+in_table_after p (Acts (Become r)) was = false
+in_table_after p (Acts (Join q)) was = if q.0 == p.0 then true else was
+in_table_after p (Acts (Leave q)) was = if q.0 == p.0 then false else was
+in_table_after p _ was = was
 
 -- whether p is in the slave table: it joined since the last Become and didn't leave
 abbrev pub in_table : PeerId → List Seen → Bool
@@ -135,10 +135,10 @@ in_table p (Here d ∷ before) = in_table_after p d.deed (in_table p before)
 in_table p (Elsewhere d ∷ before) = in_table p before
 
 abbrev pub backers_after : Deed → List PeerId → List PeerId
-backers_after (Acts Boot) keep = []
-backers_after (Acts (Become r)) keep = []
-backers_after (Acts (Backer p)) keep = p ∷ keep
-backers_after _ keep = keep
+backers_after (Acts Boot) was = []
+backers_after (Acts (Become r)) was = []
+backers_after (Acts (Backer p)) was = p ∷ was
+backers_after _ was = was
 
 -- who has backed this candidature, the newest first
 abbrev pub backers : List Seen → List PeerId
@@ -147,9 +147,9 @@ backers (Here d ∷ before) = backers_after d.deed (backers before)
 backers (Elsewhere d ∷ before) = backers before
 
 abbrev pub stood_after : Deed → List Seen → List Seen → List Seen
-stood_after (Acts Boot) here keep = []
-stood_after (Acts (Become r)) here keep = here
-stood_after _ here keep = keep
+stood_after (Acts Boot) here was = []
+stood_after (Acts (Become r)) here was = here
+stood_after _ here was = was
 
 -- the place of the last change of the role since the boot; empty where there was none
 abbrev pub stood : List Seen → List Seen
@@ -158,10 +158,10 @@ stood (Here d ∷ before) = stood_after d.deed (Here d ∷ before) (stood before
 stood (Elsewhere d ∷ before) = stood before
 
 abbrev pub is_rival_after : PeerId → Deed → Bool → Bool
-is_rival_after p (Acts Boot) keep = false
-is_rival_after p (Acts (Become r)) keep = false
-is_rival_after p (Acts (Rival q)) keep = if q.0 == p.0 then true else keep
-is_rival_after p _ keep = keep
+is_rival_after p (Acts Boot) was = false
+is_rival_after p (Acts (Become r)) was = false
+is_rival_after p (Acts (Rival q)) was = if q.0 == p.0 then true else was
+is_rival_after p _ was = was
 
 -- whether p was found to be a rival since the last Become
 abbrev pub is_rival : PeerId → List Seen → Bool

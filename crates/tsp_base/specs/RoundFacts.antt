@@ -15,9 +15,9 @@ abbrev pub is_going : List Seen → Bool
 is_going seen = is_some (armed seen).close
 
 abbrev pub started_after : Deed → List Seen → List Seen → List Seen
-started_after (Acts Boot) here keep = []
-started_after (Acts (Arm Close at)) here keep = here
-started_after _ here keep = keep
+started_after (Acts Boot) here was = []
+started_after (Acts (Arm Close at)) here was = here
+started_after _ here was = was
 
 -- the place where the last round began, also after its end; empty where none began since the boot
 abbrev pub started : List Seen → List Seen
@@ -26,9 +26,9 @@ started (Here d ∷ before) = started_after d.deed (Here d ∷ before) (started 
 started (Elsewhere d ∷ before) = started before
 
 abbrev pub is_starting_after : Deed → Bool → Bool
-is_starting_after Begins keep = false
-is_starting_after (Acts (Arm Close at)) keep = true
-is_starting_after _ keep = keep
+is_starting_after Begins was = false
+is_starting_after (Acts (Arm Close at)) was = true
+is_starting_after _ was = was
 
 -- whether a round has begun in this step
 abbrev pub is_starting : List Seen → Bool
@@ -37,12 +37,12 @@ is_starting (Here d ∷ before) = is_starting_after d.deed (is_starting before)
 is_starting (Elsewhere d ∷ before) = is_starting before
 
 abbrev pub is_measured_after : PeerId → Deed → Bool → Bool → Bool
-is_measured_after p (Acts Boot) starts keep = false
-is_measured_after p (Acts (Become r)) starts keep = false
-is_measured_after p (Acts (Arm Close at)) starts keep = false
-is_measured_after p (Acts (Post (Peer q) (Stamp (Request word counter)))) starts keep = if (q.0 == p.0) && starts then true else keep
-is_measured_after p (Acts (Leave q)) starts keep = if q.0 == p.0 then false else keep
-is_measured_after p _ starts keep = keep
+is_measured_after p (Acts Boot) starts was = false
+is_measured_after p (Acts (Become r)) starts was = false
+is_measured_after p (Acts (Arm Close at)) starts was = false
+is_measured_after p (Acts (Post (Peer q) (Stamp (Request word counter)))) starts was = if (q.0 == p.0) && starts then true else was
+is_measured_after p (Acts (Leave q)) starts was = if q.0 == p.0 then false else was
+is_measured_after p _ starts was = was
 
 -- whether p is measured: it got a request in the step in which the round began, and didn't leave since
 abbrev pub is_measured : PeerId → List Seen → Bool
@@ -62,15 +62,15 @@ asked (Here d ∷ before) = asked_after d.deed (asked before)
 asked (Elsewhere d ∷ before) = asked before
 
 abbrev pub exchange_after : PeerId → ℕ → Deed → List Seen → List Seen → List Seen
-exchange_after p c (Acts Boot) here keep = []
-exchange_after p c (Acts (Become r)) here keep = []
-exchange_after p c (Acts (Arm Close at)) here keep = []
-exchange_after p c (Acts (Ring Close)) here keep = []
-exchange_after p c (Acts (Late Close)) here keep = []
-exchange_after p c (Acts Abandon) here keep = []
-exchange_after p c (Acts (Post (Peer q) (Stamp (Request word counter)))) here keep = if (q.0 == p.0) && (counter == c) then here else keep
-exchange_after p c (Acts (Sample q counter diff err ticket)) here keep = if (q.0 == p.0) && (counter == c) then [] else keep
-exchange_after p c _ here keep = keep
+exchange_after p c (Acts Boot) here was = []
+exchange_after p c (Acts (Become r)) here was = []
+exchange_after p c (Acts (Arm Close at)) here was = []
+exchange_after p c (Acts (Ring Close)) here was = []
+exchange_after p c (Acts (Late Close)) here was = []
+exchange_after p c (Acts Abandon) here was = []
+exchange_after p c (Acts (Post (Peer q) (Stamp (Request word counter)))) here was = if (q.0 == p.0) && (counter == c) then here else was
+exchange_after p c (Acts (Sample q counter diff err ticket)) here was = if (q.0 == p.0) && (counter == c) then [] else was
+exchange_after p c _ here was = was
 
 -- the open exchange with p under this counter: the place of its request, which was posted in the going round and isn't answered; empty where there is none
 abbrev pub exchange : PeerId → ℕ → List Seen → List Seen
@@ -120,14 +120,14 @@ better None late = late
 better (Some early) late = if int_lt late.trip early.trip then late else early
 
 abbrev pub best_after : PeerId → Deed → List Seen → List Seen → Option Sampled → Option Sampled
-best_after p (Acts Boot) here before keep = None
-best_after p (Acts (Become r)) here before keep = None
-best_after p (Acts (Arm Close at)) here before keep = None
-best_after p (Acts (Sample q counter diff err ticket)) here before keep =
+best_after p (Acts Boot) here before was = None
+best_after p (Acts (Become r)) here before was = None
+best_after p (Acts (Arm Close at)) here before was = None
+best_after p (Acts (Sample q counter diff err ticket)) here before was =
     if q.0 == p.0
-    then Some (better keep (record { counter = counter; diff = diff; err = err; ticket = ticket; trip = target_there here -ℤ target_there (exchange p counter before); place = here }))
-    else keep
-best_after p _ here before keep = keep
+    then Some (better was (record { counter = counter; diff = diff; err = err; ticket = ticket; trip = target_there here -ℤ target_there (exchange p counter before); place = here }))
+    else was
+best_after p _ here before was = was
 
 -- the best sample of p since the last round began: the first with the shortest round trip
 abbrev pub best : PeerId → List Seen → Option Sampled

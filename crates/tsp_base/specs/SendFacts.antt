@@ -53,12 +53,12 @@ is_set_date_request SetDateReq = true
 is_set_date_request _ = false
 
 abbrev pub open_to_after : PeerId → Deed → Bool → List Seen → List Seen → List Seen
-open_to_after p (Acts Boot) begins here keep = []
-open_to_after p (Acts (Become r)) begins here keep = []
-open_to_after p (Acts (Post (Peer q) (Message m))) begins here keep = if (q.0 == p.0) && (is_numbered m.kind && begins) then here else keep
-open_to_after p (Acts (Acked q)) begins here keep = if q.0 == p.0 then [] else keep
-open_to_after p (Acts (Gave q)) begins here keep = if q.0 == p.0 then [] else keep
-open_to_after p _ begins here keep = keep
+open_to_after p (Acts Boot) begins here was = []
+open_to_after p (Acts (Become r)) begins here was = []
+open_to_after p (Acts (Post (Peer q) (Message m))) begins here was = if (q.0 == p.0) && (is_numbered m.kind && begins) then here else was
+open_to_after p (Acts (Acked q)) begins here was = if q.0 == p.0 then [] else was
+open_to_after p (Acts (Gave q)) begins here was = if q.0 == p.0 then [] else was
+open_to_after p _ begins here was = was
 
 -- the open send to p: the place of its first post; empty where none is open
 abbrev pub open_to : PeerId → List Seen → List Seen
@@ -67,9 +67,9 @@ open_to p (Here d ∷ before) = open_to_after p d.deed (acting before) (Here d �
 open_to p (Elsewhere d ∷ before) = open_to p before
 
 abbrev pub begun_to_after : PeerId → Deed → Bool → List Seen → List Seen → List Seen
-begun_to_after p (Acts Boot) begins here keep = []
-begun_to_after p (Acts (Post (Peer q) (Message m))) begins here keep = if (q.0 == p.0) && (is_numbered m.kind && begins) then here else keep
-begun_to_after p _ begins here keep = keep
+begun_to_after p (Acts Boot) begins here was = []
+begun_to_after p (Acts (Post (Peer q) (Message m))) begins here was = if (q.0 == p.0) && (is_numbered m.kind && begins) then here else was
+begun_to_after p _ begins here was = was
 
 -- the last send that began to p since the boot, open or ended: the place of its first post; empty where none began. A numbered post to p belongs to this one
 abbrev pub begun_to : PeerId → List Seen → List Seen
@@ -149,9 +149,9 @@ begun (Here d ∷ before) = begun_after d.deed (acting before) (begun before)
 begun (Elsewhere d ∷ before) = begun before
 
 abbrev pub last_to_after : PeerId → Deed → Bool → List Seen → List Seen → List Seen
-last_to_after p (Acts Boot) begins here keep = []
-last_to_after p (Acts (Post (Peer q) (Message m))) begins here keep = if (q.0 == p.0) && (is_correction m.kind && begins) then here else keep
-last_to_after p _ begins here keep = keep
+last_to_after p (Acts Boot) begins here was = []
+last_to_after p (Acts (Post (Peer q) (Message m))) begins here was = if (q.0 == p.0) && (is_correction m.kind && begins) then here else was
+last_to_after p _ begins here was = was
 
 -- the last correction that began to p since the boot: the place of its first post; empty where there was none
 abbrev pub last_to : PeerId → List Seen → List Seen
@@ -168,9 +168,9 @@ abbrev pub last_number : PeerId → List Seen → ℕ
 last_number p seen = number_of (message_at (last_to p seen))
 
 abbrev pub last_post_after : PeerId → Deed → ℕ → Option ℕ → Option ℕ
-last_post_after p (Acts Boot) x keep = None
-last_post_after p (Acts (Post (Peer q) (Message m))) x keep = if (q.0 == p.0) && is_correction m.kind then Some x else keep
-last_post_after p _ x keep = keep
+last_post_after p (Acts Boot) x was = None
+last_post_after p (Acts (Post (Peer q) (Message m))) x was = if (q.0 == p.0) && is_correction m.kind then Some x else was
+last_post_after p _ x was = was
 
 -- the tick at which a correction was last posted to p since the boot, repeats included
 abbrev pub last_post : PeerId → List Seen → Option ℕ
@@ -184,10 +184,10 @@ corrects_by None = false
 corrects_by (Some m) = is_correction m.kind
 
 abbrev pub is_acknowledged_after : PeerId → Deed → Bool → Bool → Bool → Bool
-is_acknowledged_after p (Acts Boot) begins corrects keep = false
-is_acknowledged_after p (Acts (Post (Peer q) (Message m))) begins corrects keep = if (q.0 == p.0) && (is_correction m.kind && begins) then false else keep
-is_acknowledged_after p (Acts (Acked q)) begins corrects keep = if (q.0 == p.0) && corrects then true else keep
-is_acknowledged_after p _ begins corrects keep = keep
+is_acknowledged_after p (Acts Boot) begins corrects was = false
+is_acknowledged_after p (Acts (Post (Peer q) (Message m))) begins corrects was = if (q.0 == p.0) && (is_correction m.kind && begins) then false else was
+is_acknowledged_after p (Acts (Acked q)) begins corrects was = if (q.0 == p.0) && corrects then true else was
+is_acknowledged_after p _ begins corrects was = was
 
 -- whether the last correction that began to p was acknowledged: an Acked(p) came after its beginning while it was the open send
 abbrev pub is_acknowledged : PeerId → List Seen → Bool
@@ -206,13 +206,13 @@ correcting_of None = None
 correcting_of (Some s) = if is_correction s.message.kind then Some (record { from = s.from; number = s.message.number }) else None
 
 abbrev pub last_taken_after : Deed → Option Received → Option Correcting → Option Correcting
-last_taken_after (Acts Boot) took keep = None
-last_taken_after (Acts (Correct amount stepped shown)) took keep = correcting_of (said took)
-last_taken_after _ took keep = keep
+last_taken_after (Acts Boot) took was = None
+last_taken_after (Acts (Correct amount stepped shown)) took was = correcting_of (said took)
+last_taken_after _ took was = was
 
 abbrev pub last_taken_elsewhere : Deed → Option Correcting → Option Correcting
-last_taken_elsewhere (Acts (Correct amount stepped shown)) keep = None
-last_taken_elsewhere _ keep = keep
+last_taken_elsewhere (Acts (Correct amount stepped shown)) was = None
+last_taken_elsewhere _ was = was
 
 -- the correction that the node's last Correct took, where that is on this port and came after its step took something: a round's own Correct doesn't
 abbrev pub last_taken : List Seen → Option Correcting
@@ -226,13 +226,13 @@ pub record Dating : Type 0 where
   pub number : ℕ
 
 abbrev pub dating_of : PeerId → ℕ → Option Said → Option Dating → Option Dating
-dating_of p x None keep = keep
-dating_of p x (Some s) keep = if (s.from.0 == p.0) && is_date_request s.message.kind then Some (record { at = x; number = s.message.number }) else keep
+dating_of p x None was = was
+dating_of p x (Some s) was = if (s.from.0 == p.0) && is_date_request s.message.kind then Some (record { at = x; number = s.message.number }) else was
 
 abbrev pub last_date_after : PeerId → Deed → ℕ → Option Received → Option Dating → Option Dating
-last_date_after p (Acts Boot) x took keep = None
-last_date_after p (Acts (Correct amount stepped shown)) x took keep = dating_of p x (said took) keep
-last_date_after p _ x took keep = keep
+last_date_after p (Acts Boot) x took was = None
+last_date_after p (Acts (Correct amount stepped shown)) x took was = dating_of p x (said took) was
+last_date_after p _ x took was = was
 
 -- the last date of p since the boot: the last Correct on this port that came after a Took of a date that p passes on
 abbrev pub last_date : PeerId → List Seen → Option Dating
@@ -241,9 +241,9 @@ last_date p (Here d ∷ before) = last_date_after p d.deed d.tick (taken before)
 last_date p (Elsewhere d ∷ before) = last_date p before
 
 abbrev pub last_asked_after : Deed → Bool → ℕ → Option ℕ → Option ℕ
-last_asked_after (Acts Boot) begins x keep = None
-last_asked_after (Acts (Post to (Message m))) begins x keep = if is_set_date_request m.kind && begins then Some x else keep
-last_asked_after _ begins x keep = keep
+last_asked_after (Acts Boot) begins x was = None
+last_asked_after (Acts (Post to (Message m))) begins x was = if is_set_date_request m.kind && begins then Some x else was
+last_asked_after _ begins x was = was
 
 -- the tick at which this port last began to pass a date on, since the boot
 abbrev pub last_asked : List Seen → Option ℕ

@@ -1,7 +1,7 @@
 -- The words of this crate's definitions, from one place.
 pub use Rattle.tsp_base.specs.Alarms.{Deadlines, alarm_word, deadline, deadlines_in, earlier}
 pub use Rattle.tsp_base.specs.Alarms.{least_deadline, none_armed, with_deadline}
-pub use Rattle.tsp_base.specs.Frames.{IsTick, PutsAtMost, PutsExactly}
+pub use Rattle.tsp_base.specs.Frames.{IsTick, PutsAtMost, PutsExactly, Uses, UsesAtMost}
 pub use Rattle.tsp_base.specs.Headers.{HeaderValue, IsHeader, IsNet, Joins, KeepsDrift, Pushes}
 pub use Rattle.tsp_base.specs.Headers.{all_joined, has_member, is_whole, nets_with}
 pub use Rattle.tsp_base.specs.History.{Acts, Begins, Booted, Came, Cause, Deed, Did, Elsewhere}

@@ -1,6 +1,6 @@
 //! TEST: a client asks a port to stand for election.
 ghost use Rattle.std.specs.Prelude.{◌≡◌, ◌+◌, ◌≤◌, ◌&&◌, length};
-ghost use Rattle.tsp_base.specs.Frames.{IsTick, PutsAtMost};
+ghost use Rattle.tsp_base.specs.Frames.{IsTick, UsesAtMost};
 ghost use Rattle.tsp_base.specs.Hold.{may_stand};
 ghost use Rattle.tsp_base.specs.Performs.{Performs};
 ghost use Rattle.tsp_base.specs.Rows.{either_by, nothing};
@@ -29,8 +29,7 @@ pub fn take_test<D: Desk>(
     requires room { length station.old.peers + 4 ≤ D.spare desk.old }
     ensures row { Performs StandsActing StandsActing (tests from number) tick port station.old
         station.new (D.acts desk.old) (D.acts desk.new) }
-    ensures room { PutsAtMost (length station.old.peers + 4) (D.spare desk.old) (D.spare desk.new)
-        (D.acts desk.old) (D.acts desk.new) }
+    ensures room { UsesAtMost (length station.old.peers + 4) D.spare D.acts desk.old desk.new }
     ensures port { IsSamePort station.old station.new }
 {
     match station.role {
@@ -48,8 +47,7 @@ fn begin_if_asked<D: Desk>(station: &mut Station, tick: u64, port: Port, desk: &
     requires room { length station.old.peers + 3 ≤ D.spare desk.old }
     ensures row { Performs StandsActing StandsActing (either_by may_be_asked candidature_row
         nothing) tick port station.old station.new (D.acts desk.old) (D.acts desk.new) }
-    ensures room { PutsAtMost (length station.old.peers + 3) (D.spare desk.old) (D.spare desk.new)
-        (D.acts desk.old) (D.acts desk.new) }
+    ensures room { UsesAtMost (length station.old.peers + 3) D.spare D.acts desk.old desk.new }
     ensures port { IsSamePort station.old station.new }
 {
     if may_be_asked(station, tick) {

@@ -1,6 +1,6 @@
 //! MSITE and MSITEREQ: which master a port knows of, and whether it is one.
 ghost use Rattle.std.specs.Prelude.{◌≡◌, ℕ, ◌≤◌};
-ghost use Rattle.tsp_base.specs.Frames.{PutsAtMost, PutsExactly};
+ghost use Rattle.tsp_base.specs.Frames.{UsesAtMost, Uses};
 ghost use Rattle.tsp_base.specs.Performs.{Performs};
 ghost use Rattle.tsp_rules.specs.CommonRows.{master_name_in, names_master, says_master};
 ghost use Rattle.tsp_acks.specs.Stands.{StationStands};
@@ -31,8 +31,7 @@ pub fn name_master<D: Desk>(
     ensures row { (x : ℕ) → Performs NamingStands NamingStands (names_master from number) x port
         (record { station = station.now; last = last.now })
         (record { station = station.now; last = last.now }) (D.acts desk.old) (D.acts desk.new) }
-    ensures room { PutsExactly 1 (D.spare desk.old) (D.spare desk.new) (D.acts desk.old)
-        (D.acts desk.new) }
+    ensures room { Uses 1 D.spare D.acts desk.old desk.new }
 {
     let name = known_master(station, last);
     let message = Message::new(Kind::Ack, number, Body::Nothing, name);
@@ -56,8 +55,7 @@ pub fn say_master<D: Desk>(station: &Station, from: Place, number: u16, port: Po
     requires room { 1 ≤ D.spare desk.old }
     ensures row { (x : ℕ) → Performs StationStands StationStands (says_master from number) x port station.now
         station.now (D.acts desk.old) (D.acts desk.new) }
-    ensures room { PutsAtMost 1 (D.spare desk.old) (D.spare desk.new) (D.acts desk.old)
-        (D.acts desk.new) }
+    ensures room { UsesAtMost 1 D.spare D.acts desk.old desk.new }
 {
     match station.role {
         Role::Master => station.post_back(from, Kind::Ack, number, port, desk),

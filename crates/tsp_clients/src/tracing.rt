@@ -1,6 +1,6 @@
 //! TRACEON and TRACEOFF: a client turns a node's trace on and off.
 ghost use Rattle.std.specs.Prelude.{◌≡◌, ℕ, ◌≤◌};
-ghost use Rattle.tsp_base.specs.Frames.{PutsExactly};
+ghost use Rattle.tsp_base.specs.Frames.{Uses};
 ghost use Rattle.tsp_base.specs.Performs.{Performs};
 ghost use Rattle.tsp_rules.specs.CommonRows.{traces};
 ghost use Rattle.tsp_clients.specs.ClientStands.{TracingStands};
@@ -27,8 +27,7 @@ pub fn turn_trace<D: Desk>(
         (record { station = station.now; on = tracing.old })
         (record { station = station.now; on = tracing.new }) (D.acts desk.old) (D.acts desk.new) }
     ensures tracing { tracing.new ≡ on }
-    ensures room { PutsExactly 2 (D.spare desk.old) (D.spare desk.new) (D.acts desk.old)
-        (D.acts desk.new) }
+    ensures room { Uses 2 D.spare D.acts desk.old desk.new }
 {
     desk.put(port, Act::Trace(on));
     *tracing = on;

@@ -1,6 +1,6 @@
 //! Corrections as acts: each call puts a Correct on the desk and moves the clock.
 ghost use Rattle.std.specs.Prelude.{◌≡◌, ◌+◌, ◌≤◌, ◌+ℤ◌, ◌-ℤ◌, true};
-ghost use Rattle.tsp_base.specs.Frames.{IsTick, PutsExactly};
+ghost use Rattle.tsp_base.specs.Frames.{IsTick, Uses};
 ghost use Rattle.tsp_base.specs.Performs.{Performs};
 ghost use Rattle.tsp_rules.specs.ClockRows.{adjusts, sets, is_step};
 ghost use Rattle.tsp_rules.specs.Guards.{is_clock_value};
@@ -34,8 +34,7 @@ impl Clock {
         ensures row { Performs ClockStands ClockStands (adjusts amount) tick port self.old self.new
             (D.acts desk.old) (D.acts desk.new) }
         ensures clock { self.new ≡ adjusted self.old tick amount }
-        ensures room { PutsExactly 1 (D.spare desk.old) (D.spare desk.new) (D.acts desk.old)
-            (D.acts desk.new) }
+        ensures room { Uses 1 D.spare D.acts desk.old desk.new }
     {
         let stepped = self.adjust_in_range(tick, amount);
         let shown = self.shown(tick);
@@ -58,8 +57,7 @@ impl Clock {
         ensures row { Performs ClockStands ClockStands (sets value) tick port self.old self.new
             (D.acts desk.old) (D.acts desk.new) }
         ensures clock { self.new ≡ set_to self.old tick value }
-        ensures room { PutsExactly 1 (D.spare desk.old) (D.spare desk.new) (D.acts desk.old)
-            (D.acts desk.new) }
+        ensures room { Uses 1 D.spare D.acts desk.old desk.new }
     {
         let amount = self.set_in_range(tick, value);
         desk.put(

@@ -86,15 +86,15 @@ unheard_is o arrivals now_arrivals tried now_tried calls now_calls readings betw
     }
 
 -- what a turn's step has come to
-pub record Steps (s : Session) (next : Gateway) (course : Counters) (tick : ℕ) (acts : List Placed) (on : Bool) : Type 0 where
+pub record Steps (s : Session) (next : Gateway) (counters : Counters) (tick : ℕ) (acts : List Placed) (on : Bool) : Type 0 where
   pub stands : GatewayStands (past_after s) next
   pub acts_are : acts ≡ acts_in s
-  pub text_is : shown_lines on (course.turns + 1) tick course.posts acts ≡ shown s
+  pub text_is : shown_lines on (counters.turns + 1) tick counters.posts acts ≡ shown s
 
-pub steps_is : (s : Session) (node next : Gateway) (course : Counters) (r : Recv) (buf : List ℕ) (tick : ℕ) (acts : List Placed) (arrivals : Option (List Arrival)) (tried : Option (List Tried)) (calls : Option ℕ) (readings : Option (List ℕ)) (last : ℕ) (before after on : Bool) →
-    GatewayStands s.past node → course.turns ≡ s.turns → course.posts ≡ s.posts → Waits s.past.ports s.outside r buf tick arrivals tried calls readings last →
-    PerformsAll GatewayBegun GatewayStands (answers_all (given_by (setups_in node) r buf)) tick node next [] acts → before ≡ tracing (dids s.past.lines) → ((past : NodePast) → GatewayStands past next → after ≡ tracing (dids past.lines)) → on ≡ (before || after) → Steps s next course tick acts on
-steps_is s node next course r buf tick acts arrivals tried calls readings last before after on stands turns posts w row before_is after_is on_is =
+pub steps_is : (s : Session) (node next : Gateway) (counters : Counters) (r : Recv) (buf : List ℕ) (tick : ℕ) (acts : List Placed) (arrivals : Option (List Arrival)) (tried : Option (List Tried)) (calls : Option ℕ) (readings : Option (List ℕ)) (last : ℕ) (before after on : Bool) →
+    GatewayStands s.past node → counters.turns ≡ s.turns → counters.posts ≡ s.posts → Waits s.past.ports s.outside r buf tick arrivals tried calls readings last →
+    PerformsAll GatewayBegun GatewayStands (answers_all (given_by (setups_in node) r buf)) tick node next [] acts → before ≡ tracing (dids s.past.lines) → ((past : NodePast) → GatewayStands past next → after ≡ tracing (dids past.lines)) → on ≡ (before || after) → Steps s next counters tick acts on
+steps_is s node next counters r buf tick acts arrivals tried calls readings last before after on stands turns posts w row before_is after_is on_is =
     let begins = GatewayBegun_in_step (record { at = tick_of s; node = 0; cause = cause_of (given_in s) }) (tick_of s) s.past node stands in
     let set_up = subst (λ ports. PerformsAll GatewayBegun GatewayStands (answers_all (given_by ports r buf)) tick node next [] acts) (setups-stand s.past node stands) row in
     let given = subst (λ g. PerformsAll GatewayBegun GatewayStands (answers_all g) tick node next [] acts) w.given_is set_up in
@@ -105,20 +105,20 @@ steps_is s node next course r buf tick acts arrivals tried calls readings last b
       stands = stands_then;
       acts_are = are;
       text_is =
-          ap (λ b. shown_lines b (course.turns + 1) tick course.posts acts) (on_is ∙ ap (λ b. b || after) before_is ∙ ap (λ b. tracing (dids s.past.lines) || b) (after_is (past_after s) stands_then))
-          ∙ ap (λ n. shown_lines (tracing (dids s.past.lines) || tracing (dids (past_after s).lines)) (n + 1) tick course.posts acts) turns
-          ∙ ap (λ x. shown_lines (tracing (dids s.past.lines) || tracing (dids (past_after s).lines)) (s.turns + 1) x course.posts acts) w.tick_is
+          ap (λ b. shown_lines b (counters.turns + 1) tick counters.posts acts) (on_is ∙ ap (λ b. b || after) before_is ∙ ap (λ b. tracing (dids s.past.lines) || b) (after_is (past_after s) stands_then))
+          ∙ ap (λ n. shown_lines (tracing (dids s.past.lines) || tracing (dids (past_after s).lines)) (n + 1) tick counters.posts acts) turns
+          ∙ ap (λ x. shown_lines (tracing (dids s.past.lines) || tracing (dids (past_after s).lines)) (s.turns + 1) x counters.posts acts) w.tick_is
           ∙ ap (λ n. shown_lines (tracing (dids s.past.lines) || tracing (dids (past_after s).lines)) (s.turns + 1) (tick_of s) n acts) posts
           ∙ ap (λ ps. shown_lines (tracing (dids s.past.lines) || tracing (dids (past_after s).lines)) (s.turns + 1) (tick_of s) s.posts ps) are;
     }
 
 -- the session after a whole turn
-pub turned_is : (s : Session) (next : Gateway) (course : Counters) (r : Recv) (buf : List ℕ) (tick : ℕ) (acts : List Placed) (arrivals now_arrivals : Option (List Arrival)) (tried now_tried : Option (List Tried)) (calls now_calls : Option ℕ) (readings : Option (List ℕ)) (last : ℕ) (written now : Option (List ℕ)) (turns posts : ℕ) (on : Bool) →
-    course.turns ≡ s.turns → course.posts ≡ s.posts → written ≡ Some s.written → Waits s.past.ports s.outside r buf tick arrivals tried calls readings last → Steps s next course tick acts on → now_arrivals ≡ arrivals → now_calls ≡ calls →
-    TriesAll (sends_of acts) tried now_tried → Grows written now (shown_lines on (course.turns + 1) tick course.posts acts) →
-    turns ≡ course.turns + 1 → posts ≡ course.posts + length (sends_of acts) →
+pub turned_is : (s : Session) (next : Gateway) (counters : Counters) (r : Recv) (buf : List ℕ) (tick : ℕ) (acts : List Placed) (arrivals now_arrivals : Option (List Arrival)) (tried now_tried : Option (List Tried)) (calls now_calls : Option ℕ) (readings : Option (List ℕ)) (last : ℕ) (written now : Option (List ℕ)) (turns posts : ℕ) (on : Bool) →
+    counters.turns ≡ s.turns → counters.posts ≡ s.posts → written ≡ Some s.written → Waits s.past.ports s.outside r buf tick arrivals tried calls readings last → Steps s next counters tick acts on → now_arrivals ≡ arrivals → now_calls ≡ calls →
+    TriesAll (sends_of acts) tried now_tried → Grows written now (shown_lines on (counters.turns + 1) tick counters.posts acts) →
+    turns ≡ counters.turns + 1 → posts ≡ counters.posts + length (sends_of acts) →
     IsAt (turned s) next (record { turns = turns; posts = posts }) now_arrivals now_tried now_calls readings last now
-turned_is s next course r buf tick acts arrivals now_arrivals tried now_tried calls now_calls readings last written now turns posts on turns_is posts_is written_is w steps same counted tries grows turns_now posts_now = record {
+turned_is s next counters r buf tick acts arrivals now_arrivals tried now_tried calls now_calls readings last written now turns posts on turns_is posts_is written_is w steps same counted tries grows turns_now posts_now = record {
   stands = steps.stands;
   turns_is = turns_now ∙ ap (λ n. n + 1) turns_is;
   posts_is = posts_now ∙ ap (λ n. n + length (sends_of acts)) posts_is ∙ ap (λ ps. s.posts + length (sends_of ps)) steps.acts_are;
@@ -129,21 +129,21 @@ turned_is s next course r buf tick acts arrivals now_arrivals tried now_tried ca
     readings_are = w.tells.readings_are;
     last_is = w.tells.last_is;
   };
-  written_is = grows ∙ ap (option_map (λ xs. xs ++ shown_lines on (course.turns + 1) tick course.posts acts)) written_is ∙ ap (λ t. Some (s.written ++ t)) steps.text_is;
+  written_is = grows ∙ ap (option_map (λ xs. xs ++ shown_lines on (counters.turns + 1) tick counters.posts acts)) written_is ∙ ap (λ t. Some (s.written ++ t)) steps.text_is;
 }
 
 -- a turn was cut off when its sends or its lines were on their way
-pub ends_is : (s : Session) (next : Gateway) (course : Counters) (r : Recv) (buf : List ℕ) (tick : ℕ) (acts : List Placed) (arrivals now_arrivals : Option (List Arrival)) (tried now_tried : Option (List Tried)) (calls now_calls : Option ℕ) (readings : Option (List ℕ)) (last : ℕ) (written now : Option (List ℕ)) (on : Bool) (end : ServeEnd) →
-    written ≡ Some s.written → Waits s.past.ports s.outside r buf tick arrivals tried calls readings last → Steps s next course tick acts on → now_arrivals ≡ arrivals → now_calls ≡ calls →
-    FinishesUntil (sends_of acts) (shown_lines on (course.turns + 1) tick course.posts acts) tried now_tried written now end →
+pub ends_is : (s : Session) (next : Gateway) (counters : Counters) (r : Recv) (buf : List ℕ) (tick : ℕ) (acts : List Placed) (arrivals now_arrivals : Option (List Arrival)) (tried now_tried : Option (List Tried)) (calls now_calls : Option ℕ) (readings : Option (List ℕ)) (last : ℕ) (written now : Option (List ℕ)) (on : Bool) (end : ServeEnd) →
+    written ≡ Some s.written → Waits s.past.ports s.outside r buf tick arrivals tried calls readings last → Steps s next counters tick acts on → now_arrivals ≡ arrivals → now_calls ≡ calls →
+    FinishesUntil (sends_of acts) (shown_lines on (counters.turns + 1) tick counters.posts acts) tried now_tried written now end →
     EndsTurn s now_arrivals now_tried now_calls readings last now end
-ends_is s next course r buf tick acts arrivals now_arrivals tried now_tried calls now_calls readings last written now on end written_is w steps same counted f =
+ends_is s next counters r buf tick acts arrivals now_arrivals tried now_tried calls now_calls readings last written now on end written_is w steps same counted f =
     by_end end (subst (λ t. FinishesUntil (sends_of (acts_in s)) t (Some s.outside.tried) now_tried (Some s.written) now end) steps.text_is
     (subst (λ ps. FinishesUntil (sends_of ps) text (Some s.outside.tried) now_tried (Some s.written) now end) steps.acts_are
     (subst (λ z. FinishesUntil (sends_of acts) text (Some s.outside.tried) now_tried z now end) written_is
     (subst (λ z. FinishesUntil (sends_of acts) text z now_tried written now end) w.tells.tried_are f)))) where
       text : List ℕ
-      text = shown_lines on (course.turns + 1) tick course.posts acts
+      text = shown_lines on (counters.turns + 1) tick counters.posts acts
 
       by_end : (e : ServeEnd) → FinishesUntil (sends_of (acts_in s)) (shown s) (Some s.outside.tried) now_tried (Some s.written) now e → EndsTurn s now_arrivals now_tried now_calls readings last now e
       by_end Done h = h.1
@@ -184,14 +184,14 @@ serves_until turns i s arrivals tried calls readings last written WriteFault les
 serves_until turns i s arrivals tried calls readings last written OutOfMemory less h = (less, h)
 
 -- one turn more
-pub turns_more : (i : ℕ) (s : Session) (node : Gateway) (course : Counters) (arrivals : Option (List Arrival)) (tried : Option (List Tried)) (calls : Option ℕ) (readings : Option (List ℕ)) (last : ℕ) (written : Option (List ℕ)) →
-    IsAt (turned (after_turns i s)) node course arrivals tried calls readings last written → IsAt (after_turns (i + 1) s) node course arrivals tried calls readings last written
-turns_more i s node course arrivals tried calls readings last written h = let one : suc i ≡ i + 1 = omega arith in subst (λ n. IsAt (after_turns n s) node course arrivals tried calls readings last written) one h
+pub turns_more : (i : ℕ) (s : Session) (node : Gateway) (counters : Counters) (arrivals : Option (List Arrival)) (tried : Option (List Tried)) (calls : Option ℕ) (readings : Option (List ℕ)) (last : ℕ) (written : Option (List ℕ)) →
+    IsAt (turned (after_turns i s)) node counters arrivals tried calls readings last written → IsAt (after_turns (i + 1) s) node counters arrivals tried calls readings last written
+turns_more i s node counters arrivals tried calls readings last written h = let one : suc i ≡ i + 1 = omega arith in subst (λ n. IsAt (after_turns n s) node counters arrivals tried calls readings last written) one h
 
 -- whose tick didn't fall
-pub rises_more : (i : ℕ) (s : Session) (node next : Gateway) (course after : Counters) (arrivals now_arrivals : Option (List Arrival)) (tried now_tried : Option (List Tried)) (calls now_calls : Option ℕ) (readings now_readings : Option (List ℕ)) (last now_last : ℕ) (written now : Option (List ℕ)) →
-    Rises i s → IsAt (after_turns i s) node course arrivals tried calls readings last written → IsAt (turned (after_turns i s)) next after now_arrivals now_tried now_calls now_readings now_last now → last ≤ now_last → Rises (i + 1) s
-rises_more i s node next course after arrivals now_arrivals tried now_tried calls now_calls readings now_readings last now_last written now r old new later =
+pub rises_more : (i : ℕ) (s : Session) (node next : Gateway) (counters after : Counters) (arrivals now_arrivals : Option (List Arrival)) (tried now_tried : Option (List Tried)) (calls now_calls : Option ℕ) (readings now_readings : Option (List ℕ)) (last now_last : ℕ) (written now : Option (List ℕ)) →
+    Rises i s → IsAt (after_turns i s) node counters arrivals tried calls readings last written → IsAt (turned (after_turns i s)) next after now_arrivals now_tried now_calls now_readings now_last now → last ≤ now_last → Rises (i + 1) s
+rises_more i s node next counters after arrivals now_arrivals tried now_tried calls now_calls readings now_readings last now_last written now r old new later =
     let one : suc i ≡ i + 1 = omega arith in
     let before = old.tells.last_is in
     let then = new.tells.last_is in

@@ -69,10 +69,10 @@ pub record Lives (node : Gateway) : Type 0 where
   pub stands : GatewayStands past node
 
 -- the node, its counts, and what the link, the ticker and the sink hold are those of this session
-pub record IsAt (s : Session) (node : Gateway) (course : Counters) (arrivals : Option (List Arrival)) (tried : Option (List Tried)) (calls : Option ℕ) (readings : Option (List ℕ)) (last : ℕ) (written : Option (List ℕ)) : Type 0 where
+pub record IsAt (s : Session) (node : Gateway) (counters : Counters) (arrivals : Option (List Arrival)) (tried : Option (List Tried)) (calls : Option ℕ) (readings : Option (List ℕ)) (last : ℕ) (written : Option (List ℕ)) : Type 0 where
   pub stands : GatewayStands s.past node
-  pub turns_is : course.turns ≡ s.turns
-  pub posts_is : course.posts ≡ s.posts
+  pub turns_is : counters.turns ≡ s.turns
+  pub posts_is : counters.posts ≡ s.posts
   pub tells : KnowsExactly s.outside arrivals tried calls readings last
   pub written_is : written ≡ Some s.written
 

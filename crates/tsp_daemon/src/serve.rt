@@ -56,13 +56,13 @@ pub fn serve<K: Sink, L: Link, T: Ticker>(
     ensures sends { L.send_faults link.old ≤ L.send_faults link.new }
 {
     let mut pad = Pad::new(alloc);
-    let mut course = Counters { turns: 0, posts: 0 };
+    let mut counters = Counters { turns: 0, posts: 0 };
     let mut buf = [0; 512];
     for _ in 0..turns {
         if let Err(end) = turn(
             &mut gateway,
             &mut pad,
-            &mut course,
+            &mut counters,
             sink,
             link,
             ticker,

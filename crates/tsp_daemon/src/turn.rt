@@ -27,20 +27,20 @@ use tsp_io::ticker::Ticker;
 /// Fails if a write fails, or if out of memory.
 fn finish<K: Sink, L: Link>(
     shown: bool,
-    course: &Counters,
+    counters: &Counters,
     tick: u64,
     acts: &[Placed],
     sink: &mut K,
     link: &mut L,
 ) -> Result<(), ServeEnd>
     requires known { AreKnown (L.stranger link.old) acts.now }
-    requires few { course.now.posts + length acts.now < 2 ^ 64 }
-    requires turns { course.now.turns + 1 < 2 ^ 64 }
+    requires few { counters.now.posts + length acts.now < 2 ^ 64 }
+    requires turns { counters.now.turns + 1 < 2 ^ 64 }
     ensures ok { OnOk result (TriesAll (sends_of acts.now) (L.tried link.old) (L.tried link.new)
-        × Grows (K.written sink.old) (K.written sink.new) (shown_lines shown (course.now.turns + 1)
-        tick course.now.posts acts.now)) }
+        × Grows (K.written sink.old) (K.written sink.new) (shown_lines shown (counters.now.turns + 1)
+        tick counters.now.posts acts.now)) }
     ensures err { IfErr result (FinishesUntil (sends_of acts.now)
-        (shown_lines shown (course.now.turns + 1) tick course.now.posts acts.now) (L.tried link.old)
+        (shown_lines shown (counters.now.turns + 1) tick counters.now.posts acts.now) (L.tried link.old)
         (L.tried link.new) (K.written sink.old) (K.written sink.new)) }
     ensures only { OnlySends L.Link link.old link.new }
     ensures write { Counts (K.faults sink.old) (K.faults sink.new)
@@ -50,7 +50,7 @@ fn finish<K: Sink, L: Link>(
         return Err(ServeEnd::OutOfMemory);
     }
     if shown {
-        return tell(sink, course.turns + 1, tick, course.posts, acts);
+        return tell(sink, counters.turns + 1, tick, counters.posts, acts);
     }
     Ok(())
 }
@@ -61,7 +61,7 @@ fn finish<K: Sink, L: Link>(
 pub(crate) fn turn<K: Sink, L: Link, T: Ticker>(
     node: &mut Gateway,
     pad: &mut Pad,
-    course: &mut Counters,
+    counters: &mut Counters,
     sink: &mut K,
     link: &mut L,
     ticker: &mut T,
@@ -69,24 +69,24 @@ pub(crate) fn turn<K: Sink, L: Link, T: Ticker>(
 ) -> Result<(), ServeEnd>
     requires lives { Lives node.old }
     requires later { clock_at node.old ≤ T.last ticker.old }
-    requires few { course.old.posts + room_of_ports (ports_in node.old) < 2 ^ 64 }
-    requires turns { course.old.turns + 1 < 2 ^ 64 }
+    requires few { counters.old.posts + room_of_ports (ports_in node.old) < 2 ^ 64 }
+    requires turns { counters.old.turns + 1 < 2 ^ 64 }
     ensures turns { (s : Session)
-        → HoldsOf L.Link T.Ticker (IsAt s node.old course.old) link.old ticker.old
+        → HoldsOf L.Link T.Ticker (IsAt s node.old counters.old) link.old ticker.old
         (K.written sink.old)
-        → MatchResult result (λ _. HoldsOf L.Link T.Ticker (IsAt (turned s) node.new course.new)
+        → MatchResult result (λ _. HoldsOf L.Link T.Ticker (IsAt (turned s) node.new counters.new)
         link.new ticker.new (K.written sink.new)) (HoldsOf L.Link T.Ticker (EndsTurn s) link.new
         ticker.new (K.written sink.new)) }
     ensures waits { (s : Session)
-        → HoldsOf L.Link T.Ticker (IsAt s node.old course.old) link.old ticker.old
+        → HoldsOf L.Link T.Ticker (IsAt s node.old counters.old) link.old ticker.old
         (K.written sink.old)
         → MatchResult result (λ _. NotesWait s (L.waits link.old) (L.waits link.new))
         (NotesTurn s (L.waits link.old) (L.waits link.new)) }
     ensures keeps { KeepsOn L.Link T.Ticker link.old ticker.old link.new ticker.new }
     ensures lives { OnOk result (Lives node.new) }
     ensures clock { OnOk result (clock_at node.new ≤ T.last ticker.new) }
-    ensures counts { OnOk result ((course.new.turns ≡ course.old.turns + 1)
-        × (course.new.posts ≤ course.old.posts + room_of_ports (ports_in node.old))) }
+    ensures counts { OnOk result ((counters.new.turns ≡ counters.old.turns + 1)
+        × (counters.new.posts ≤ counters.old.posts + room_of_ports (ports_in node.old))) }
     ensures ports { OnOk result (ports_in node.new ≡ ports_in node.old) }
     ensures link { Counts (L.faults link.old) (L.faults link.new)
         (result ≡ Err ServeEnd.LinkFault) }
@@ -107,10 +107,10 @@ pub(crate) fn turn<K: Sink, L: Link, T: Ticker>(
     step(node, tick, received, buf, pad);
     let shown = is_shown(before, node.tracing());
     let acts = pad.acts();
-    if let Err(end) = finish(shown, course, tick, acts, sink, link) {
+    if let Err(end) = finish(shown, counters, tick, acts, sink, link) {
         return Err(end);
     }
-    course.turns += 1;
-    course.posts += posts_in(acts);
+    counters.turns += 1;
+    counters.posts += posts_in(acts);
     Ok(())
 }

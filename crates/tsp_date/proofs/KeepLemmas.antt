@@ -22,10 +22,10 @@ abbrev pub passes_date : Option Said → Bool
 passes_date None = false
 passes_date (Some s) = is_date_request s.message.kind
 
-pub dating-none : (o : Option Said) (p : PeerId) (x : ℕ) (keep : Option Dating) → passes_date o ≡ false → dating_of p x o keep ≡ keep
-dating-none None p x keep e = refl
-dating-none (Some s) p x keep e = rw e (by_test (s.from.0 == p.0)) where
-  by_test : (b : Bool) → (if b && false then Some (record { at = x; number = s.message.number }) else keep) ≡ keep
+pub dating-none : (o : Option Said) (p : PeerId) (x : ℕ) (was : Option Dating) → passes_date o ≡ false → dating_of p x o was ≡ was
+dating-none None p x was e = refl
+dating-none (Some s) p x was e = rw e (by_test (s.from.0 == p.0)) where
+  by_test : (b : Bool) → (if b && false then Some (record { at = x; number = s.message.number }) else was) ≡ was
   by_test true = refl
   by_test false = refl
 

@@ -2,7 +2,7 @@
 ghost use Rattle.std.specs.Prelude.{◌≡◌, ◌≤◌, ◌<◌, ◌*◌, ℤ, true, length, [], ◌∷◌, IfOk, IfErr, vec_capacity};
 ghost use Rattle.tsp_base.specs.declared.act.Act.TheVariants.{Boot};
 ghost use Rattle.tsp_base.specs.declared.place.PeerId.{PeerId};
-ghost use Rattle.tsp_base.specs.Frames.{IsTick, PutsAtMost};
+ghost use Rattle.tsp_base.specs.Frames.{IsTick, UsesAtMost};
 ghost use Rattle.tsp_base.specs.Joins.{first_port};
 ghost use Rattle.tsp_rules.specs.GateRows.{all_ports, boots_on};
 ghost use Rattle.tsp_rules.specs.NodePerforms.{PerformsAll};
@@ -82,8 +82,7 @@ impl Gateway {
             (D.acts desk.new) }
         ensures ports { ports_in self.new ≡ ports_in self.old }
         ensures clock { clock_at self.new ≡ clock_at self.old }
-        ensures room { PutsAtMost (2 * length (ports_in self.old)) (D.spare desk.old)
-            (D.spare desk.new) (D.acts desk.old) (D.acts desk.new) }
+        ensures room { UsesAtMost (2 * length (ports_in self.old)) D.spare D.acts desk.old desk.new }
     {
         for q in 0..self.ports.len() {
             self.begin(q, tick, desk);
@@ -99,8 +98,7 @@ impl Gateway {
             self.new (D.acts desk.old) (D.acts desk.new) }
         ensures ports { ports_in self.new ≡ ports_in self.old }
         ensures clock { clock_at self.new ≡ clock_at self.old }
-        ensures room { PutsAtMost 2 (D.spare desk.old) (D.spare desk.new) (D.acts desk.old)
-            (D.acts desk.new) }
+        ensures room { UsesAtMost 2 D.spare D.acts desk.old desk.new }
     {
         self.ports[q].begin(tick, port_at(q), desk);
     }

@@ -1,6 +1,6 @@
 //! What a correction of the clock by one port does to the others.
 ghost use Rattle.std.specs.Prelude.{◌≡◌, ◌≤◌, ◌<◌, ℕ, length};
-ghost use Rattle.tsp_base.specs.Frames.{PutsAtMost};
+ghost use Rattle.tsp_base.specs.Frames.{UsesAtMost};
 ghost use Rattle.tsp_rules.specs.NodePerforms.{PerformsAll};
 ghost use Rattle.tsp_rules.specs.NodeRows.{NodePast, abandons_on, for_ports, reading_all};
 ghost use Rattle.tsp_gateway.specs.GatewayStands.{GatewayStands, clock_at, port_at};
@@ -27,8 +27,7 @@ impl Gateway {
             (for_ports abandons_on)) x self.old self.new (D.acts desk.old) (D.acts desk.new) }
         ensures ports { ports_in self.new ≡ ports_in self.old }
         ensures clock { clock_at self.new ≡ clock_at self.old }
-        ensures room { PutsAtMost (length (ports_in self.old)) (D.spare desk.old) (D.spare desk.new)
-            (D.acts desk.old) (D.acts desk.new) }
+        ensures room { UsesAtMost (length (ports_in self.old)) D.spare D.acts desk.old desk.new }
     {
         self.tell(q, tick);
         self.abandon_each(q, whole, desk);
@@ -56,8 +55,7 @@ impl Gateway {
             (for_ports abandons_on)) x self.old self.new (D.acts desk.old) (D.acts desk.new) }
         ensures ports { ports_in self.new ≡ ports_in self.old }
         ensures clock { clock_at self.new ≡ clock_at self.old }
-        ensures room { PutsAtMost (length (ports_in self.old)) (D.spare desk.old) (D.spare desk.new)
-            (D.acts desk.old) (D.acts desk.new) }
+        ensures room { UsesAtMost (length (ports_in self.old)) D.spare D.acts desk.old desk.new }
     {
         for r in 0..self.ports.len() {
             if is_upset(whole, q, r) {
@@ -74,8 +72,7 @@ impl Gateway {
             self.old self.new (D.acts desk.old) (D.acts desk.new) }
         ensures ports { ports_in self.new ≡ ports_in self.old }
         ensures clock { clock_at self.new ≡ clock_at self.old }
-        ensures room { PutsAtMost 1 (D.spare desk.old) (D.spare desk.new) (D.acts desk.old)
-            (D.acts desk.new) }
+        ensures room { UsesAtMost 1 D.spare D.acts desk.old desk.new }
     {
         self.ports[r].abandon(port_at(r), desk);
     }

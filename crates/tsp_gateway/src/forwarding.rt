@@ -3,7 +3,7 @@ ghost use Rattle.std.specs.Prelude.{◌≡◌, ◌≤◌, ◌<◌, ◌+◌, ℕ,
 ghost use Rattle.tsp_base.specs.declared.kind.Kind.TheVariants.{Loop};
 ghost use Rattle.tsp_base.specs.declared.datagram.Datagram.TheVariants.{Message as MessageOf};
 ghost use Rattle.tsp_base.specs.declared.datagram.Taken.TheVariants.{Good};
-ghost use Rattle.tsp_base.specs.Frames.{IsTick, PutsAtMost};
+ghost use Rattle.tsp_base.specs.Frames.{IsTick, UsesAtMost};
 ghost use Rattle.tsp_rules.specs.GateRows.{forwards, hears_on, judges, loosens_master, reposts_on, takes_loop};
 ghost use Rattle.tsp_rules.specs.NodePerforms.{PerformsAll};
 ghost use Rattle.tsp_rules.specs.NodeRows.{NodePast, on};
@@ -51,8 +51,7 @@ impl Gateway {
             self.old self.new (D.acts desk.old) (D.acts desk.new) }
         ensures ports { ports_in self.new ≡ ports_in self.old }
         ensures clock { clock_at self.new ≡ clock_at self.old }
-        ensures room { PutsAtMost (all_peers (ports_in self.old) + 2) (D.spare desk.old)
-            (D.spare desk.new) (D.acts desk.old) (D.acts desk.new) }
+        ensures room { UsesAtMost (all_peers (ports_in self.old) + 2) D.spare D.acts desk.old desk.new }
     {
         let own = &self.ports[q].station().me.name;
         match judge(own, self.many(), port_at(q), m) {
@@ -78,8 +77,7 @@ impl Gateway {
             self.old self.new (D.acts desk.old) (D.acts desk.new) }
         ensures ports { ports_in self.new ≡ ports_in self.old }
         ensures clock { clock_at self.new ≡ clock_at self.old }
-        ensures room { PutsAtMost 2 (D.spare desk.old) (D.spare desk.new) (D.acts desk.old)
-            (D.acts desk.new) }
+        ensures room { UsesAtMost 2 D.spare D.acts desk.old desk.new }
     {
         self.ports[q].loosen(tick, port_at(q), desk);
     }
@@ -90,8 +88,7 @@ impl Gateway {
         requires room { all_peers (ports_in self.now) ≤ D.spare desk.old }
         ensures row { (x : ℕ) → PerformsAll GatewayStands GatewayStands (forwards (port_at q) m.now)
             x self.now self.now (D.acts desk.old) (D.acts desk.new) }
-        ensures room { PutsAtMost (all_peers (ports_in self.now)) (D.spare desk.old)
-            (D.spare desk.new) (D.acts desk.old) (D.acts desk.new) }
+        ensures room { UsesAtMost (all_peers (ports_in self.now)) D.spare D.acts desk.old desk.new }
     {
         for r in 0..self.ports.len() {
             if r != q {
@@ -108,8 +105,7 @@ impl Gateway {
         ensures row { (x : ℕ)
             → PerformsAll GatewayStands GatewayStands (reposts_on m.now (port_at r)) x self.now
             self.now (D.acts desk.old) (D.acts desk.new) }
-        ensures room { PutsAtMost (peers_at r (ports_in self.now)) (D.spare desk.old)
-            (D.spare desk.new) (D.acts desk.old) (D.acts desk.new) }
+        ensures room { UsesAtMost (peers_at r (ports_in self.now)) D.spare D.acts desk.old desk.new }
     {
         let station = self.ports[r].station();
         if is_awake(station.role) {

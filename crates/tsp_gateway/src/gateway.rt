@@ -1,6 +1,6 @@
 //! A node on several networks.
 ghost use Rattle.std.specs.Prelude.{◌≡◌, ◌≤◌, ◌*◌, true, length, [], ◌∷◌, IfOk, IfErr, OnErr, vec_len, vec_capacity};
-ghost use Rattle.tsp_base.specs.Frames.{IsTick, PutsAtMost};
+ghost use Rattle.tsp_base.specs.Frames.{IsTick, UsesAtMost};
 ghost use Rattle.tsp_rules.specs.GateRows.{boots_all};
 ghost use Rattle.tsp_rules.specs.NodePerforms.{PerformsAll};
 ghost use Rattle.tsp_rules.specs.Guards.{is_clock_value};
@@ -71,8 +71,7 @@ impl Gateway {
             × (ports_in g ≡ peers_of_ports config.now.ports) × (clock_at g ≡ tick)) }
         ensures err { IfErr result (λ fault. GateBootsNot config.now wall fault) }
         ensures refused { OnErr result (D.acts desk.new ≡ D.acts desk.old) }
-        ensures room { PutsAtMost (3 * length config.now.ports) (D.spare desk.old)
-            (D.spare desk.new) (D.acts desk.old) (D.acts desk.new) }
+        ensures room { UsesAtMost (3 * length config.now.ports) D.spare D.acts desk.old desk.new }
     {
         let mut gateway = Gateway::new(alloc, config, tick, wall, word)?;
         desk.put(FIRST, Act::Boot);

@@ -1,6 +1,6 @@
 //! The LOOPs that a gateway sends.
 ghost use Rattle.std.specs.Prelude.{◌≡◌, ◌≤◌, ◌<◌, ◌++◌, ℕ, length, map};
-ghost use Rattle.tsp_base.specs.Frames.{PutsAtMost};
+ghost use Rattle.tsp_base.specs.Frames.{UsesAtMost};
 ghost use Rattle.tsp_base.specs.Rows.{others, placed};
 ghost use Rattle.tsp_rules.specs.GateRows.{repost, sends_loops};
 ghost use Rattle.tsp_rules.specs.NodePerforms.{PerformsAll};
@@ -23,8 +23,7 @@ pub(crate) fn repost<D: Desk>(station: &Station, message: &Message, port: Port, 
     requires room { length station.now.peers ≤ D.spare desk.old }
     ensures acts { D.acts desk.new ≡ D.acts desk.old ++ placed port
         (map (repost message.now) (others station.now.me.own station.now.peers)) }
-    ensures room { PutsAtMost (length station.now.peers) (D.spare desk.old) (D.spare desk.new)
-        (D.acts desk.old) (D.acts desk.new) }
+    ensures room { UsesAtMost (length station.now.peers) D.spare D.acts desk.old desk.new }
 {
     for p in station.peers() {
         if p.0 != station.me.own.0 {
@@ -42,8 +41,7 @@ impl Gateway {
         ensures row { (x : ℕ)
             → PerformsAll GatewayStands GatewayStands (on (port_at q) (sends_loops (port_at q))) x
             self.now self.now (D.acts desk.old) (D.acts desk.new) }
-        ensures room { PutsAtMost (peers_at q (ports_in self.now)) (D.spare desk.old)
-            (D.spare desk.new) (D.acts desk.old) (D.acts desk.new) }
+        ensures room { UsesAtMost (peers_at q (ports_in self.now)) D.spare D.acts desk.old desk.new }
     {
         let station = self.ports[q].station();
         let name = station.me.name.copy();

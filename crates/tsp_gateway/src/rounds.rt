@@ -3,7 +3,7 @@ ghost use Rattle.std.specs.Prelude.{◌≡◌, ℕ, ◌≤◌, ◌<◌, ◌+◌,
 ghost use Rattle.std.specs.Prelude.{length, is_some};
 ghost use Rattle.tsp_base.specs.declared.alarm.Alarm.TheVariants.{Close, Probe};
 ghost use Rattle.tsp_base.specs.Alarms.{deadline};
-ghost use Rattle.tsp_base.specs.Frames.{IsTick, PutsAtMost};
+ghost use Rattle.tsp_base.specs.Frames.{IsTick, UsesAtMost};
 ghost use Rattle.tsp_rules.specs.GateRows.{alarm_on, is_last_probe};
 ghost use Rattle.tsp_rules.specs.NodePerforms.{PerformsAll};
 ghost use Rattle.tsp_rules.specs.NodeRows.{NodePast, on_port};
@@ -39,8 +39,7 @@ impl Gateway {
         ensures over { HasProbed q tick self.new }
         ensures ports { ports_in self.new ≡ ports_in self.old }
         ensures clock { clock_at self.new ≤ tick }
-        ensures room { PutsAtMost (3 * peers_at q (ports_in self.old) + 4) (D.spare desk.old)
-            (D.spare desk.new) (D.acts desk.old) (D.acts desk.new) }
+        ensures room { UsesAtMost (3 * peers_at q (ports_in self.old) + 4) D.spare D.acts desk.old desk.new }
     {
         let rung = self.probe_rings(q, tick);
         self.ring(q, Alarm::Probe, false, tick, desk);
@@ -82,8 +81,7 @@ impl Gateway {
             (D.acts desk.new) }
         ensures ports { ports_in self.new ≡ ports_in self.old }
         ensures clock { clock_at self.new ≤ tick }
-        ensures room { PutsAtMost (2 * peers_at q (ports_in self.old) + 8) (D.spare desk.old)
-            (D.spare desk.new) (D.acts desk.old) (D.acts desk.new) }
+        ensures room { UsesAtMost (2 * peers_at q (ports_in self.old) + 8) D.spare D.acts desk.old desk.new }
     {
         let own = self.leads_clock(q);
         let clock = &mut self.clock;

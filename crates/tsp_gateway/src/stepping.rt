@@ -1,6 +1,6 @@
 //! The steps of a node that has booted.
 ghost use Rattle.std.specs.Prelude.{◌≡◌, ◌≤◌, ◌<◌, length};
-ghost use Rattle.tsp_base.specs.Frames.{IsTick, PutsAtMost};
+ghost use Rattle.tsp_base.specs.Frames.{IsTick, UsesAtMost};
 ghost use Rattle.tsp_rules.specs.GateRows.{GotOn, NodeTurn, answers_all};
 ghost use Rattle.tsp_rules.specs.NodePerforms.{PerformsAll};
 ghost use Rattle.tsp_codec.specs.Taken.{taken_of};
@@ -28,8 +28,7 @@ impl Gateway {
             self.old self.new (D.acts desk.old) (D.acts desk.new) }
         ensures ports { ports_in self.new ≡ ports_in self.old }
         ensures clock { clock_at self.new ≤ tick }
-        ensures room { PutsAtMost (room_of_ports (ports_in self.old)) (D.spare desk.old)
-            (D.spare desk.new) (D.acts desk.old) (D.acts desk.new) }
+        ensures room { UsesAtMost (room_of_ports (ports_in self.old)) D.spare D.acts desk.old desk.new }
     {
         match input {
             Input::Turn => self.turn(tick, desk),
@@ -63,8 +62,7 @@ impl Gateway {
             (D.acts desk.old) (D.acts desk.new) }
         ensures ports { ports_in self.new ≡ ports_in self.old }
         ensures clock { clock_at self.new ≤ tick }
-        ensures room { PutsAtMost (room_of_ports (ports_in self.old)) (D.spare desk.old)
-            (D.spare desk.new) (D.acts desk.old) (D.acts desk.new) }
+        ensures room { UsesAtMost (room_of_ports (ports_in self.old)) D.spare D.acts desk.old desk.new }
     {
         let taken = read_any(octets);
         self.take(tick, port, from, &taken, desk);
@@ -80,8 +78,7 @@ impl Gateway {
             self.new (D.acts desk.old) (D.acts desk.new) }
         ensures ports { ports_in self.new ≡ ports_in self.old }
         ensures clock { clock_at self.new ≤ tick }
-        ensures room { PutsAtMost (room_of_ports (ports_in self.old)) (D.spare desk.old)
-            (D.spare desk.new) (D.acts desk.old) (D.acts desk.new) }
+        ensures room { UsesAtMost (room_of_ports (ports_in self.old)) D.spare D.acts desk.old desk.new }
     {
         self.turn_ports(tick, desk);
     }
@@ -98,8 +95,7 @@ impl Gateway {
             (D.acts desk.new) }
         ensures ports { ports_in self.new ≡ ports_in self.old }
         ensures clock { clock_at self.new ≤ tick }
-        ensures room { PutsAtMost (room_of_ports (ports_in self.old)) (D.spare desk.old)
-            (D.spare desk.new) (D.acts desk.old) (D.acts desk.new) }
+        ensures room { UsesAtMost (room_of_ports (ports_in self.old)) D.spare D.acts desk.old desk.new }
     {
         self.turn_ports(tick, desk);
         self.take_in(tick, port.0 as usize, from, taken, desk);

@@ -3,7 +3,7 @@ ghost use Rattle.std.specs.Prelude.{◌≡◌, ◌≢◌, ◌≤◌, ◌<◌, �
 ghost use Rattle.tsp_base.specs.declared.act.Act.TheVariants.{Took};
 ghost use Rattle.tsp_base.specs.declared.datagram.Datagram.TheVariants.{Message as MessageOf};
 ghost use Rattle.tsp_base.specs.declared.datagram.Taken.TheVariants.{Good};
-ghost use Rattle.tsp_base.specs.Frames.{PutsAtMost};
+ghost use Rattle.tsp_base.specs.Frames.{UsesAtMost};
 ghost use Rattle.tsp_rules.specs.GateRows.{takes_message, takes_on};
 ghost use Rattle.tsp_rules.specs.NodePerforms.{PerformsAll};
 ghost use Rattle.tsp_gateway.specs.GateInputs.{HoldsNoMessage};
@@ -41,9 +41,7 @@ impl Gateway {
             tick self.old self.new (D.acts desk.old) (D.acts desk.new) }
         ensures ports { ports_in self.new ≡ ports_in self.old }
         ensures clock { clock_at self.new ≤ tick }
-        ensures room { PutsAtMost
-            (2 * peers_at q (ports_in self.old) + all_peers (ports_in self.old) + 24)
-            (D.spare desk.old) (D.spare desk.new) (D.acts desk.old) (D.acts desk.new) }
+        ensures room { UsesAtMost (2 * peers_at q (ports_in self.old) + all_peers (ports_in self.old) + 24) D.spare D.acts desk.old desk.new }
     {
         match taken {
             Taken::Good(Datagram::Message(m)) => match m.kind() {
@@ -78,8 +76,7 @@ impl Gateway {
             tick self.old self.new (D.acts desk.old) (D.acts desk.new) }
         ensures ports { ports_in self.new ≡ ports_in self.old }
         ensures clock { clock_at self.new ≤ tick }
-        ensures room { PutsAtMost (2 * peers_at q (ports_in self.old) + 24) (D.spare desk.old)
-            (D.spare desk.new) (D.acts desk.old) (D.acts desk.new) }
+        ensures room { UsesAtMost (2 * peers_at q (ports_in self.old) + 24) D.spare D.acts desk.old desk.new }
     {
         let steer = self.steers(q);
         let charge = self.in_charge(q);
@@ -103,8 +100,7 @@ impl Gateway {
             (D.acts desk.new) }
         ensures ports { ports_in self.new ≡ ports_in self.old }
         ensures clock { clock_at self.new ≡ clock_at self.old }
-        ensures room { PutsAtMost 1 (D.spare desk.old) (D.spare desk.new) (D.acts desk.old)
-            (D.acts desk.new) }
+        ensures room { UsesAtMost 1 D.spare D.acts desk.old desk.new }
     {
         desk.put(port_at(q), Act::Took(from, taken.copy()));
     }
@@ -121,8 +117,7 @@ impl Gateway {
             (D.acts desk.old) (D.acts desk.new) }
         ensures ports { ports_in self.new ≡ ports_in self.old }
         ensures clock { clock_at self.new ≤ tick }
-        ensures room { PutsAtMost (2 * peers_at q (ports_in self.old) + 24) (D.spare desk.old)
-            (D.spare desk.new) (D.acts desk.old) (D.acts desk.new) }
+        ensures room { UsesAtMost (2 * peers_at q (ports_in self.old) + 24) D.spare D.acts desk.old desk.new }
     {
         // Only a message asks which port steers the clock, and which is in charge of the date.
         let steer = true;

@@ -2,7 +2,7 @@
 ghost use Rattle.std.specs.Prelude.{◌≡◌, ◌≢◌, ◌≤◌, ◌<◌, ◌+◌, ◌*◌, ℕ, Option, true, false, not, length, Some, slice_get};
 ghost use Rattle.tsp_base.specs.declared.alarm.Alarm.TheVariants.{Close, Probe};
 ghost use Rattle.tsp_base.specs.declared.alarm.TheConstants.Alarm.{ALL};
-ghost use Rattle.tsp_base.specs.Frames.{IsTick, PutsAtMost};
+ghost use Rattle.tsp_base.specs.Frames.{IsTick, UsesAtMost};
 ghost use Rattle.tsp_rules.specs.Answers.{rings};
 ghost use Rattle.tsp_rules.specs.GateRows.{alarm_on, alarms_on, all_ports, turns_on};
 ghost use Rattle.tsp_rules.specs.NodePerforms.{PerformsAll};
@@ -34,8 +34,7 @@ impl Gateway {
             (D.acts desk.new) }
         ensures ports { ports_in self.new ≡ ports_in self.old }
         ensures clock { clock_at self.new ≤ tick }
-        ensures room { PutsAtMost (turns_room (ports_in self.old)) (D.spare desk.old)
-            (D.spare desk.new) (D.acts desk.old) (D.acts desk.new) }
+        ensures room { UsesAtMost (turns_room (ports_in self.old)) D.spare D.acts desk.old desk.new }
     {
         for q in 0..self.ports.len() {
             if !self.is_idle(q, tick) {
@@ -55,8 +54,7 @@ impl Gateway {
             tick self.old self.new (D.acts desk.old) (D.acts desk.new) }
         ensures ports { ports_in self.new ≡ ports_in self.old }
         ensures clock { clock_at self.new ≤ tick }
-        ensures room { PutsAtMost (turn_room (peers_at q (ports_in self.old))) (D.spare desk.old)
-            (D.spare desk.new) (D.acts desk.old) (D.acts desk.new) }
+        ensures room { UsesAtMost (turn_room (peers_at q (ports_in self.old))) D.spare D.acts desk.old desk.new }
     {
         self.send(q, tick, desk);
         self.ring_alarms(q, tick, desk);
@@ -81,8 +79,7 @@ impl Gateway {
             (alarms_on (port_at q)) tick self.old self.new (D.acts desk.old) (D.acts desk.new) }
         ensures ports { ports_in self.new ≡ ports_in self.old }
         ensures clock { clock_at self.new ≤ tick }
-        ensures room { PutsAtMost (alarms_room ALL (peers_at q (ports_in self.old)))
-            (D.spare desk.old) (D.spare desk.new) (D.acts desk.old) (D.acts desk.new) }
+        ensures room { UsesAtMost (alarms_room ALL (peers_at q (ports_in self.old))) D.spare D.acts desk.old desk.new }
     {
         for alarm in &Alarm::ALL {
             self.ring_alarm(q, *alarm, tick, desk);
@@ -103,8 +100,7 @@ impl Gateway {
         ensures over { alarm ≡ Probe → HasProbed q tick self.new }
         ensures ports { ports_in self.new ≡ ports_in self.old }
         ensures clock { clock_at self.new ≤ tick }
-        ensures room { PutsAtMost (alarm_room alarm (peers_at q (ports_in self.old)))
-            (D.spare desk.old) (D.spare desk.new) (D.acts desk.old) (D.acts desk.new) }
+        ensures room { UsesAtMost (alarm_room alarm (peers_at q (ports_in self.old))) D.spare D.acts desk.old desk.new }
     {
         match alarm {
             Alarm::Probe => self.probe(q, tick, desk),
@@ -126,8 +122,7 @@ impl Gateway {
             (on (port_at q) due_sends) tick self.old self.new (D.acts desk.old) (D.acts desk.new) }
         ensures ports { ports_in self.new ≡ ports_in self.old }
         ensures clock { clock_at self.new ≡ clock_at self.old }
-        ensures room { PutsAtMost (2 * peers_at q (ports_in self.old)) (D.spare desk.old)
-            (D.spare desk.new) (D.acts desk.old) (D.acts desk.new) }
+        ensures room { UsesAtMost (2 * peers_at q (ports_in self.old)) D.spare D.acts desk.old desk.new }
     {
         self.ports[q].sends(tick, port_at(q), desk);
     }
@@ -153,8 +148,7 @@ impl Gateway {
         ensures over { alarm ≡ Probe → HasProbed q tick self.new }
         ensures ports { ports_in self.new ≡ ports_in self.old }
         ensures clock { clock_at self.new ≤ tick }
-        ensures room { PutsAtMost (2 * peers_at q (ports_in self.old) + 4) (D.spare desk.old)
-            (D.spare desk.new) (D.acts desk.old) (D.acts desk.new) }
+        ensures room { UsesAtMost (2 * peers_at q (ports_in self.old) + 4) D.spare D.acts desk.old desk.new }
     {
         let _ = self.ports[q].ring(&mut self.clock, alarm, true, wait, tick, port_at(q), desk);
     }

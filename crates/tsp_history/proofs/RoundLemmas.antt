@@ -63,7 +63,7 @@ tells-best : (ns : List HistoryLine) (n : ℕ) (q : Port) (o : Option Sampled) (
 tells-best ns n q o x b is told = record { sampled = x; is = is; diff_is = told.diff_is; err_is = told.err_is; trip_is = told.trip_is; place = told.place }
 
 -- the better of what was seen and a new sample
-better-told : (ns : List HistoryLine) (n : ℕ) (q : Port) (o : Option Sampled) (keep : Option Best) (late : Sampled) (new : Best) → Bests ns n q o keep → TellsOf ns n q late new → BestAt ns n q (Some (better o late)) (better_of keep new)
+better-told : (ns : List HistoryLine) (n : ℕ) (q : Port) (o : Option Sampled) (was : Option Best) (late : Sampled) (new : Best) → Bests ns n q o was → TellsOf ns n q late new → BestAt ns n q (Some (better o late)) (better_of was new)
 better-told ns n q o None late new none told = tells-best ns n q (Some (better o late)) late new (ap (λ k. Some (better k late)) none) told
 better-told ns n q o (Some b) late new is told =
     let early : TellsOf ns n q is.sampled b = record { diff_is = is.diff_is; err_is = is.err_is; trip_is = is.trip_is; place = is.place } in
@@ -75,11 +75,11 @@ peer-same : (p r : PeerId) → p.0 ≡ r.0 → p ≡ r
 peer-same p r e = ap (λ n. let o : PeerId = record { 0 = n } in o) e
 
 -- a sample is taken
-pub best-here : (ns : List HistoryLine) (n : ℕ) (q : Port) (p r : PeerId) (counter : ℕ) (diff err : ℤ) (ticket : ℕ) (noted : HistoryLine) (i : ℕ) (h : List Line) (keep : Option Best) (trip : ℤ) →
+pub best-here : (ns : List HistoryLine) (n : ℕ) (q : Port) (p r : PeerId) (counter : ℕ) (diff err : ℤ) (ticket : ℕ) (noted : HistoryLine) (i : ℕ) (h : List Line) (was : Option Best) (trip : ℤ) →
     LineAt ns i noted → h ≡ history_of (take i ns) → noted.node ≡ n → noted.port.0 ≡ q.0 → (line_of noted).did.deed ≡ Acts (Sample r counter diff err ticket) → r.0 ≡ p.0 → trip ≡ trip_at (line_of noted) h →
-    Bests ns n q (best p (view q (of n h))) keep → BestAt ns n q (best p (view q (of n (line_of noted ∷ h)))) (better_of keep (record { index = i; diff = diff; err = err; trip = trip }))
-best-here ns n q p r counter diff err ticket noted i h keep trip at past node port0 deed to trips best_is =
-    subst (λ o. BestAt ns n q o (better_of keep new)) (sym now) (better-told ns n q (best p s) keep late new best_is told)
+    Bests ns n q (best p (view q (of n h))) was → BestAt ns n q (best p (view q (of n (line_of noted ∷ h)))) (better_of was (record { index = i; diff = diff; err = err; trip = trip }))
+best-here ns n q p r counter diff err ticket noted i h was trip at past node port0 deed to trips best_is =
+    subst (λ o. BestAt ns n q o (better_of was new)) (sym now) (better-told ns n q (best p s) was late new best_is told)
   where
     l : Line
     l = line_of noted
@@ -125,5 +125,5 @@ trip-told l h p counter diff err ticket asked now deed told is =
     ∙ ap₂ (λ a b. a -ℤ b) (ap (λ ds. target ds l.did.tick) (plain_view l.port (of (node_of l) h)) ∙ sym is) (start-there (exchange p counter (view l.port (of (node_of l) h))) asked told)
 
 -- the better of two, where what the later one says is written otherwise
-pub better-same : (keep : Option Best) (i : ℕ) (d d' e e' t t' : ℤ) → d ≡ d' → e ≡ e' → t ≡ t' → better_of keep (record { index = i; diff = d; err = e; trip = t }) ≡ better_of keep (record { index = i; diff = d'; err = e'; trip = t' })
-better-same keep i d d' e e' t t' same-d same-e same-t = rw (same-d, same-e, same-t) refl
+pub better-same : (was : Option Best) (i : ℕ) (d d' e e' t t' : ℤ) → d ≡ d' → e ≡ e' → t ≡ t' → better_of was (record { index = i; diff = d; err = e; trip = t }) ≡ better_of was (record { index = i; diff = d'; err = e'; trip = t' })
+better-same was i d d' e e' t t' same-d same-e same-t = rw (same-d, same-e, same-t) refl

@@ -22,9 +22,9 @@ view-here n q l h node port =
     ap (view q) (of-own n l h node) ∙ ap (λ b. seen_as b l.did ∷ view q (of n h)) sees
 
 -- a send that a line of the port begins is told by the number of what it posts
-pub sent-here : (ns : List HistoryLine) (n : ℕ) (q : Port) (j : ℕ) (l : HistoryLine) (begins : Bool) (keep seen : List Seen) → j < length ns → get_or ns j l ≡ l → BeginsOn l n q → IsPost l → Told ns → begins ≡ true →
-    seen ≡ (if begins then Here (line_of l).did ∷ view q (of n (history_of (take j ns))) else keep) → PostedAt n q (history_of ns) seen (l.note.posted - 1)
-sent-here ns n q j l begins keep seen below is on post told acts place =
+pub sent-here : (ns : List HistoryLine) (n : ℕ) (q : Port) (j : ℕ) (l : HistoryLine) (begins : Bool) (was seen : List Seen) → j < length ns → get_or ns j l ≡ l → BeginsOn l n q → IsPost l → Told ns → begins ≡ true →
+    seen ≡ (if begins then Here (line_of l).did ∷ view q (of n (history_of (take j ns))) else was) → PostedAt n q (history_of ns) seen (l.note.posted - 1)
+sent-here ns n q j l begins was seen below is on post told acts place =
     let past : List Line = history_of (take j ns) in
     let one : posted (dids (line_of l ∷ past)) ≡ posted (dids past) + 1 = ap (λ a. posted_after (deed_of a) (posted (dids past))) post.act in
     let note : l.note.posted ≡ posted (dids (line_of l ∷ past)) = (told.at j l below is).posted_is in
@@ -34,7 +34,7 @@ sent-here ns n q j l begins keep seen below is on post told acts place =
       within = Within-noted ns j l below is;
       node = on.node;
       port = begins-port l n q on;
-      is = place ∙ ap (λ (b : Bool). if b then Here (line_of l).did ∷ view q (of n past) else keep) acts;
+      is = place ∙ ap (λ (b : Bool). if b then Here (line_of l).did ∷ view q (of n past) else was) acts;
       to = post.to;
       datagram = post.datagram;
       deed = ap deed_of post.act;

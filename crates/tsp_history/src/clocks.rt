@@ -69,18 +69,18 @@ fn later(early: Option<u64>, tick: u64) -> u64
     }
 }
 
-/// The greatest tick of a correction of a node's life after a line, where it was `keep` before.
-pub(crate) fn latest_after(line: &HistoryLine, node: u32, keep: Option<u64>) -> Option<u64>
-    ensures { (before : List Line) → SpacedBy node before keep
+/// The greatest tick of a correction of a node's life after a line, where it was `was` before.
+pub(crate) fn latest_after(line: &HistoryLine, node: u32, was: Option<u64>) -> Option<u64>
+    ensures { (before : List Line) → SpacedBy node before was
         → SpacedBy node (line_of line.now ∷ before) result }
 {
     if line.node != node {
-        return keep;
+        return was;
     }
     match line.act.brief() {
         Brief::Boot => None,
-        Brief::Correct(_, _, _) => Some(later(keep, line.tick)),
-        _ => keep,
+        Brief::Correct(_, _, _) => Some(later(was, line.tick)),
+        _ => was,
     }
 }
 
@@ -98,29 +98,29 @@ pub fn is_spaced(lines: &[HistoryLine], node: u32, tick: u64) -> bool
 }
 
 /// What is seen of a clock after a line.
-pub(crate) fn clock_after(line: &HistoryLine, node: u32, keep: Clock) -> Clock
-    requires { IsSumOf 4294967295 keep.moved }
-    ensures keeps { (before : List Line) → KeepsClock node before keep
+pub(crate) fn clock_after(line: &HistoryLine, node: u32, was: Clock) -> Clock
+    requires { IsSumOf 4294967295 was.moved }
+    ensures keeps { (before : List Line) → KeepsClock node before was
         → KeepsClock node (line_of line.now ∷ before) result }
-    ensures bounded { (count : ℕ) → IsSumOf count keep.moved → IsSumOf (count + 1) result.moved }
+    ensures bounded { (count : ℕ) → IsSumOf count was.moved → IsSumOf (count + 1) result.moved }
 {
     if line.node != node {
-        return keep;
+        return was;
     }
     match line.act.brief() {
         Brief::Boot => Clock {
             wall: match line.why {
                 Why::Booted(_, wall) => wall,
-                _ => keep.wall,
+                _ => was.wall,
             },
             boot_tick: line.tick,
             moved: 0,
         },
         Brief::Correct(amount, _, _) => Clock {
-            moved: keep.moved + i128::from(amount),
-            ..keep
+            moved: was.moved + i128::from(amount),
+            ..was
         },
-        _ => keep,
+        _ => was,
     }
 }
 

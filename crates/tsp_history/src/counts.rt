@@ -30,26 +30,26 @@ impl Counts {
     }
 }
 
-/// The counts of a node after a line, where they are `keep` before it.
-pub(crate) fn counts_after(line: &HistoryLine, node: u32, keep: Counts) -> Counts
-    requires lives { keep.lives < 2 ^ 32 }
-    requires corrects { keep.corrects < 2 ^ 32 }
-    ensures { (before : List Line) → AreCounted node before keep
+/// The counts of a node after a line, where they are `was` before it.
+pub(crate) fn counts_after(line: &HistoryLine, node: u32, was: Counts) -> Counts
+    requires lives { was.lives < 2 ^ 32 }
+    requires corrects { was.corrects < 2 ^ 32 }
+    ensures { (before : List Line) → AreCounted node before was
         → AreCounted node (line_of line.now ∷ before) result }
 {
     if line.node != node {
-        return keep;
+        return was;
     }
     match line.act.brief() {
         Brief::Boot => Counts {
-            lives: keep.lives + 1,
-            ..keep
+            lives: was.lives + 1,
+            ..was
         },
         Brief::Correct(_, _, _) => Counts {
-            corrects: keep.corrects + 1,
-            ..keep
+            corrects: was.corrects + 1,
+            ..was
         },
-        _ => keep,
+        _ => was,
     }
 }
 

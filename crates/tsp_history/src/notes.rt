@@ -89,28 +89,28 @@ impl Note {
 }
 
 /// What is known of a line's node after it, where this is known before.
-fn node_after(line: &HistoryLine, keep: NodeNote) -> NodeNote
-    requires moved { IsSumOf 4294967294 keep.clock.moved }
-    requires lives { keep.counts.lives < 2 ^ 32 }
-    requires corrects { keep.counts.corrects < 2 ^ 32 }
-    ensures { (before : List Line) → NodeKnown line.now.node before keep
+fn node_after(line: &HistoryLine, was: NodeNote) -> NodeNote
+    requires moved { IsSumOf 4294967294 was.clock.moved }
+    requires lives { was.counts.lives < 2 ^ 32 }
+    requires corrects { was.counts.corrects < 2 ^ 32 }
+    ensures { (before : List Line) → NodeKnown line.now.node before was
         → NodeKnown line.now.node (line_of line.now ∷ before) result }
 {
     NodeNote {
-        clock: clock_after(line, line.node, keep.clock),
-        counts: counts_after(line, line.node, keep.counts),
-        latest: latest_after(line, line.node, keep.latest),
+        clock: clock_after(line, line.node, was.clock),
+        counts: counts_after(line, line.node, was.counts),
+        latest: latest_after(line, line.node, was.latest),
     }
 }
 
 /// What is known of a line's port after it, where this is known before.
-fn port_after(line: &HistoryLine, keep: PortNote) -> PortNote
-    ensures { (before : List Line) → PortKnown line.now.node line.now.port before keep
+fn port_after(line: &HistoryLine, was: PortNote) -> PortNote
+    ensures { (before : List Line) → PortKnown line.now.node line.now.port before was
         → PortKnown line.now.node line.now.port (line_of line.now ∷ before) result }
 {
     PortNote {
-        role: role_after(line, line.node, line.port, keep.role),
-        is_going: is_going_after(line, line.node, line.port, keep.is_going),
+        role: role_after(line, line.node, line.port, was.role),
+        is_going: is_going_after(line, line.node, line.port, was.is_going),
     }
 }
 

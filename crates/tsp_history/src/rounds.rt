@@ -35,20 +35,20 @@ pub struct Best {
     pub trip: i128,
 }
 
-/// Whether a port's round goes on after a line, where `keep` says so before it.
-pub(crate) fn is_going_after(line: &HistoryLine, node: u32, port: Port, keep: bool) -> bool
-    ensures { (before : List Line) → keep ≡ is_going (view port (of node before))
+/// Whether a port's round goes on after a line, where `was` says so before it.
+pub(crate) fn is_going_after(line: &HistoryLine, node: u32, port: Port, was: bool) -> bool
+    ensures { (before : List Line) → was ≡ is_going (view port (of node before))
         → result ≡ is_going (view port (of node (line_of line.now ∷ before))) }
 {
     if line.node != node {
-        return keep;
+        return was;
     }
     match line.act.brief() {
         Brief::Boot => false,
         Brief::Become(_) | Brief::Ring(Alarm::Close) | Brief::Late(Alarm::Close) | Brief::Abandon =>
-            keep && line.port.0 != port.0,
-        Brief::Arm(Alarm::Close, _) => keep || line.port.0 == port.0,
-        _ => keep,
+            was && line.port.0 != port.0,
+        Brief::Arm(Alarm::Close, _) => was || line.port.0 == port.0,
+        _ => was,
     }
 }
 
@@ -209,7 +209,7 @@ pub fn trip_of(lines: &[HistoryLine], line: &HistoryLine) -> i128
     }
 }
 
-/// The best sample of a peer after the line with this index and round trip, where `keep` is that before it.
+/// The best sample of a peer after the line with this index and round trip, where `was` is that before it.
 pub fn best_after(
     line: &HistoryLine,
     index: usize,
@@ -217,20 +217,20 @@ pub fn best_after(
     node: u32,
     port: Port,
     p: PeerId,
-    keep: Option<Best>,
+    was: Option<Best>,
 ) -> Option<Best>
     ensures { (ns : List HistoryLine) (before : List Line) → LineAt ns index line.now
         → before ≡ history_of (take index ns) → trip ≡ trip_at (line_of line.now) before
-        → Bests ns node port (best p (view port (of node before))) keep
+        → Bests ns node port (best p (view port (of node before))) was
         → Bests ns node port (best p (view port (of node (line_of line.now ∷ before)))) result }
 {
     if line.node != node {
-        return keep;
+        return was;
     }
     let here = line.port.0 == port.0;
     match line.act.brief() {
         Brief::Boot => None,
-        Brief::Become(_) | Brief::Arm(Alarm::Close, _) => { if here { None } else { keep } }
+        Brief::Become(_) | Brief::Arm(Alarm::Close, _) => { if here { None } else { was } }
         Brief::Sample(peer, _, diff, err, _) => {
             if here && peer.0 == p.0 {
                 let late = Best {
@@ -239,12 +239,12 @@ pub fn best_after(
                     err,
                     trip,
                 };
-                Some(better(keep, late))
+                Some(better(was, late))
             } else {
-                keep
+                was
             }
         }
-        _ => keep,
+        _ => was,
     }
 }
 

@@ -15,18 +15,18 @@ use tsp_base::constants::HOLD;
 use tsp_base::place::{PeerId, Port};
 use tsp_base::role::Role;
 
-/// The role of a node's port after a line, where it was `keep` before.
-pub(crate) fn role_after(line: &HistoryLine, node: u32, port: Port, keep: Role) -> Role
-    ensures { (before : List Line) → keep ≡ role (view port (of node before))
+/// The role of a node's port after a line, where it was `was` before.
+pub(crate) fn role_after(line: &HistoryLine, node: u32, port: Port, was: Role) -> Role
+    ensures { (before : List Line) → was ≡ role (view port (of node before))
         → result ≡ role (view port (of node (line_of line.now ∷ before))) }
 {
     if line.node != node {
-        return keep;
+        return was;
     }
     match line.act.brief() {
         Brief::Boot => Role::Starting,
-        Brief::Become(role) => { if line.port.0 == port.0 { role } else { keep } }
-        _ => keep,
+        Brief::Become(role) => { if line.port.0 == port.0 { role } else { was } }
+        _ => was,
     }
 }
 

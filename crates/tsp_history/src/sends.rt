@@ -62,7 +62,7 @@ fn send_change(line: &HistoryLine, node: u32, port: Port, p: PeerId, is_open: bo
 
 /// The number of the datagram with which the last send of a node's port to a peer began since the
 /// boot; with `is_open`, only the send that is open.
-fn send_to(lines: &[HistoryLine], node: u32, port: Port, p: PeerId, is_open: bool) -> Option<u64>
+fn send_begun_to(lines: &[HistoryLine], node: u32, port: Port, p: PeerId, is_open: bool) -> Option<u64>
     requires told { Told lines.now }
     ensures begun { is_open ≡ false → IsPostAt node port (history_of lines.now)
         (begun_to p (view port (of node (history_of lines.now)))) result }
@@ -92,7 +92,7 @@ pub fn begun_to(lines: &[HistoryLine], node: u32, port: Port, p: PeerId) -> Opti
     ensures { IsPostAt node port (history_of lines.now)
         (begun_to p (view port (of node (history_of lines.now)))) result }
 {
-    send_to(lines, node, port, p, false)
+    send_begun_to(lines, node, port, p, false)
 }
 
 /// The number of the datagram with which the open send of a node's port to a peer began, if one is open.
@@ -101,5 +101,5 @@ pub fn open_to(lines: &[HistoryLine], node: u32, port: Port, p: PeerId) -> Optio
     ensures { IsPostAt node port (history_of lines.now)
         (open_to p (view port (of node (history_of lines.now)))) result }
 {
-    send_to(lines, node, port, p, true)
+    send_begun_to(lines, node, port, p, true)
 }

@@ -33,7 +33,7 @@ fold-push f z (u ∷ samples) t = fold-push f (f z u) samples t
 best_of-push : (samples : List TimedSample) (t : TimedSample) → best_of (samples ++ t ∷ []) ≡ better_timed (best_of samples) t
 best_of-push samples t = fold-push better_timed None samples t
 
-better-timed : (keep : Option Sampled) (late : Sampled) → Some (timed_of (better keep late)) ≡ better_timed (option_map timed_of keep) (timed_of late)
+better-timed : (was : Option Sampled) (late : Sampled) → Some (timed_of (better was late)) ≡ better_timed (option_map timed_of was) (timed_of late)
 better-timed None late = refl
 better-timed (Some early) late = by_test (int_lt late.trip early.trip) where
   by_test : (b : Bool) → Some (timed_of (if b then late else early)) ≡ (if b then Some (timed_of late) else Some (timed_of early))
@@ -52,7 +52,7 @@ none_open [] r e f = cc
 none_open (s ∷ before) r e f = cc
 
 -- the better of two samples is one of them
-of_better : {start : List Seen} {q : PeerId} (keep : Option Sampled) (late t : Sampled) → ((u : Sampled) → keep ≡ Some u → IsOfRound q u start) → IsOfRound q late start → Some (better keep late) ≡ Some t → IsOfRound q t start
+of_better : {start : List Seen} {q : PeerId} (was : Option Sampled) (late t : Sampled) → ((u : Sampled) → was ≡ Some u → IsOfRound q u start) → IsOfRound q late start → Some (better was late) ≡ Some t → IsOfRound q t start
 of_better {start = start} {q = q} None late t known fresh e = let same : late ≡ t = cc in subst (λ u. IsOfRound q u start) same fresh
 of_better {start = start} {q = q} (Some early) late t known fresh e = by_test (int_lt late.trip early.trip) e where
   by_test : (b : Bool) → Some (if b then late else early) ≡ Some t → IsOfRound q t start

@@ -42,7 +42,7 @@ pub Performs_station : {row : Row} {x : ℕ} {port : Port} {before after : PortV
     ((past : Past) → PortStands past before → StationStands (grown x past (row x past)) after.station → MasterStands (grown x past (row x past)) after.master) →
     ((past : Past) → PortStands past before → StationStands (grown x past (row x past)) after.station → ResolveStands (grown x past (row x past)) after.resolve) →
     Performs StationStands StationStands row x port before.station after.station old new → Performs PortStands PortStands row x port before after old new
-Performs_station {row = row} {x = x} {before = before} e f g k keep master resolve d = record {
+Performs_station {row = row} {x = x} {before = before} e f g k was master resolve d = record {
   acts = λ past h. d.acts past h.station;
   stands = λ past h.
       let s = d.stands past h.station in
@@ -51,7 +51,7 @@ Performs_station {row = row} {x = x} {before = before} e f g k keep master resol
         last = rw e (Remembers_by row k x past before.last h.last);
         master = master past h s;
         resolve = resolve past h s;
-        dates = rw g (keep x past before.dates h.dates);
+        dates = rw g (was x past before.dates h.dates);
         clock = rw f (ClockStands_by row k x past before.clock h.clock);
       };
 }
@@ -145,7 +145,7 @@ Performs_took d = Performs_from {p = PortStands} (λ past h. h.stands) d
 
 -- the dates are left alone by what passes none on
 pub dates_aside : {r : Received} (row : Row) (x : ℕ) (past : Past) (state : PortValue) → Keeps DatesAside row → passes_date (said (Some r)) ≡ false → PortTook r past state → DatesStand (grown x past (row x past)) state.dates
-dates_aside row x past state keep none h = (keep x past state.dates (record { stands = h.stands.dates; none = ap (λ t. passes_date (said t)) h.took ∙ none })).stands
+dates_aside row x past state was none h = (was x past state.dates (record { stands = h.stands.dates; none = ap (λ t. passes_date (said t)) h.took ∙ none })).stands
 
 -- what changes but a port's station, what it remembers and the clock, by what was taken
 pub Performs_heard : {r : Received} {row : Row} {x : ℕ} {port : Port} {before after : PortValue} {old new : List Placed} → after.dates ≡ before.dates → Keeps DatesAside row → passes_date (said (Some r)) ≡ false →
@@ -153,7 +153,7 @@ pub Performs_heard : {r : Received} {row : Row} {x : ℕ} {port : Port} {before 
     ((past : Past) → PortStands past before → StationStands (grown x past (row x past)) after.station → ResolveStands (grown x past (row x past)) after.resolve) →
     ((took : Option Received) → took ≡ Some r → Performs SlaveStands SlaveStands row x port (record { station = before.station; last = before.last; clock = before.clock; took = took }) (record { station = after.station; last = after.last; clock = after.clock; took = took }) old new) →
     Performs (PortTook r) PortStands row x port before after old new
-Performs_heard {r = r} {row = row} {x = x} {before = before} same keep none master resolve d = record {
+Performs_heard {r = r} {row = row} {x = x} {before = before} same was none master resolve d = record {
   acts = λ past h. (d (Some r) refl).acts past (record { station = h.stands.station; last = h.stands.last; clock = h.stands.clock; took = h.took });
   stands = λ past h.
       let s = (d (Some r) refl).stands past (record { station = h.stands.station; last = h.stands.last; clock = h.stands.clock; took = h.took }) in
@@ -162,7 +162,7 @@ Performs_heard {r = r} {row = row} {x = x} {before = before} same keep none mast
         last = s.last;
         master = master past h.stands s.station;
         resolve = resolve past h.stands s.station;
-        dates = rw same (dates_aside row x past before keep none h);
+        dates = rw same (dates_aside row x past before was none h);
         clock = s.clock;
       };
 }
@@ -171,7 +171,7 @@ Performs_heard {r = r} {row = row} {x = x} {before = before} same keep none mast
 pub Performs_led : {r : Received} {row : Row} {x : ℕ} {port : Port} {before after : PortValue} {old new : List Placed} → after.last ≡ before.last → after.resolve ≡ before.resolve → after.dates ≡ before.dates →
     Emits beside_sorts row → Emits unchanging row → Keeps DatesStand row →
     Performs LeadStands LeadStands row x port (record { master = before.master; station = before.station; clock = before.clock }) (record { master = after.master; station = after.station; clock = after.clock }) old new → Performs (PortTook r) PortStands row x port before after old new
-Performs_led {r = r} {row = row} {x = x} {before = before} e f g k u keep d = record {
+Performs_led {r = r} {row = row} {x = x} {before = before} e f g k u was d = record {
   acts = λ past h. d.acts past (lead past h);
   stands = λ past h.
       let s = d.stands past (lead past h) in
@@ -180,7 +180,7 @@ Performs_led {r = r} {row = row} {x = x} {before = before} e f g k u keep d = re
         last = rw e (Remembers_by row k x past before.last h.stands.last);
         master = s.master;
         resolve = rw f (ResolveStands_by row u x past before.resolve h.stands.resolve);
-        dates = rw g (keep x past before.dates h.stands.dates);
+        dates = rw g (was x past before.dates h.stands.dates);
         clock = s.clock;
       };
 } where
@@ -191,7 +191,7 @@ Performs_led {r = r} {row = row} {x = x} {before = before} e f g k u keep d = re
 pub Performs_resolved : {row : Row} {x : ℕ} {port : Port} {before after : PortValue} {old new : List Placed} → after.last ≡ before.last → after.master ≡ before.master → after.dates ≡ before.dates → after.clock ≡ before.clock →
     Emits beside_sorts row → Emits quiet_sorts row → Keeps DatesStand row →
     Performs ResolvingStands ResolvingStands row x port (record { resolve = before.resolve; station = before.station }) (record { resolve = after.resolve; station = after.station }) old new → Performs PortStands PortStands row x port before after old new
-Performs_resolved {row = row} {x = x} {before = before} e m g f k q keep d = record {
+Performs_resolved {row = row} {x = x} {before = before} e m g f k q was d = record {
   acts = λ past h. d.acts past (record { resolve = h.resolve; station = h.station });
   stands = λ past h.
       let s = d.stands past (record { resolve = h.resolve; station = h.station }) in
@@ -200,7 +200,7 @@ Performs_resolved {row = row} {x = x} {before = before} e m g f k q keep d = rec
         last = rw e (Remembers_by row k x past before.last h.last);
         master = rw m (Keeps_by quiet_sorts MasterStands row MasterStands_quiet q x past before.master h.master);
         resolve = s.resolve;
-        dates = rw g (keep x past before.dates h.dates);
+        dates = rw g (was x past before.dates h.dates);
         clock = rw f (ClockStands_by row k x past before.clock h.clock);
       };
 }
@@ -313,7 +313,7 @@ pub Performs_acting_by : {r : Received} {row : Row} {x : ℕ} {port : Port} {bef
     ((past : Past) → PortStands past before → StationStands (grown x past (row x past)) after.station → MasterStands (grown x past (row x past)) after.master) →
     ((past : Past) → PortStands past before → StationStands (grown x past (row x past)) after.station → ResolveStands (grown x past (row x past)) after.resolve) →
     Performs StandsActing StandsActing row x port before.station after.station old new → Performs (PortTook r) PortStands row x port before after old new
-Performs_acting_by {r = r} {row = row} {x = x} {before = before} e f g k keep master resolve d = record {
+Performs_acting_by {r = r} {row = row} {x = x} {before = before} e f g k was master resolve d = record {
   acts = λ past h. d.acts past (record { stands = h.stands.station; acted = taken-acts past.seen r h.took });
   stands = λ past h.
       let s = (d.stands past (record { stands = h.stands.station; acted = taken-acts past.seen r h.took })).stands in
@@ -322,7 +322,7 @@ Performs_acting_by {r = r} {row = row} {x = x} {before = before} e f g k keep ma
         last = rw e (Remembers_by row k x past before.last h.stands.last);
         master = master past h.stands s;
         resolve = resolve past h.stands s;
-        dates = rw g (keep x past before.dates h.stands.dates);
+        dates = rw g (was x past before.dates h.stands.dates);
         clock = rw f (ClockStands_by row k x past before.clock h.stands.clock);
       };
 }

@@ -2,7 +2,7 @@
 ghost use Rattle.std.specs.Prelude.{◌≡◌, Bool, ◌+◌, ◌*◌, ◌≤◌, true, false, length};
 ghost use Rattle.tsp_base.specs.declared.alarm.Alarm.TheVariants.{Probe, Close};
 ghost use Rattle.tsp_base.specs.Alarms.{deadline};
-ghost use Rattle.tsp_base.specs.Frames.{IsTick, PutsAtMost};
+ghost use Rattle.tsp_base.specs.Frames.{IsTick, UsesAtMost};
 ghost use Rattle.tsp_base.specs.Performs.{Performs};
 ghost use Rattle.tsp_rules.specs.Answers.{alarm_rings, rings};
 ghost use Rattle.tsp_rules.specs.Guards.{is_over};
@@ -48,8 +48,7 @@ impl Part {
         ensures over { alarm ≡ Probe → is_over self.new.station.alarms.probe tick ≡ false }
         ensures clock { clock.new.at ≤ tick }
         ensures peers { self.new.station.peers ≡ self.old.station.peers }
-        ensures room { PutsAtMost (2 * length self.old.station.peers + 4) (D.spare desk.old)
-            (D.spare desk.new) (D.acts desk.old) (D.acts desk.new) }
+        ensures room { UsesAtMost (2 * length self.old.station.peers + 4) D.spare D.acts desk.old desk.new }
     {
         if !self.station.is_due(alarm, tick) {
             return false;
@@ -85,8 +84,7 @@ impl Part {
         ensures over { alarm ≡ Probe → is_over self.new.station.alarms.probe terms.at.tick ≡ false }
         ensures clock { clock.new.at ≤ terms.at.tick }
         ensures peers { self.new.station.peers ≡ self.old.station.peers }
-        ensures room { PutsAtMost (2 * length self.old.station.peers + 4) (D.spare desk.old)
-            (D.spare desk.new) (D.acts desk.old) (D.acts desk.new) }
+        ensures room { UsesAtMost (2 * length self.old.station.peers + 4) D.spare D.acts desk.old desk.new }
     {
         let At { tick, port } = terms.at;
         if !is_of_master(alarm, terms.wait) {
@@ -123,8 +121,7 @@ impl Part {
             (port_with self.old clock) (port_with self.new clock) (D.acts desk.old)
             (D.acts desk.new) }
         ensures peers { self.new.station.peers ≡ self.old.station.peers }
-        ensures room { PutsAtMost (length self.old.station.peers + 4) (D.spare desk.old)
-            (D.spare desk.new) (D.acts desk.old) (D.acts desk.new) }
+        ensures room { UsesAtMost (length self.old.station.peers + 4) D.spare D.acts desk.old desk.new }
     {
         match alarm {
             Alarm::Round => wait_round(&mut self.station, tick, port, desk),
@@ -148,8 +145,7 @@ impl Part {
             → Performs PortUntaken PortUntaken window_rings tick port (port_with self.old clock)
             (port_with self.new clock) (D.acts desk.old) (D.acts desk.new) }
         ensures peers { self.new.station.peers ≡ self.old.station.peers }
-        ensures room { PutsAtMost (length self.old.station.peers + 3) (D.spare desk.old)
-            (D.spare desk.new) (D.acts desk.old) (D.acts desk.new) }
+        ensures room { UsesAtMost (length self.old.station.peers + 3) D.spare D.acts desk.old desk.new }
     {
         candidate_ring(&mut self.station, tick, port, desk);
         self.master.clear();

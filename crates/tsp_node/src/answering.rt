@@ -2,7 +2,7 @@
 ghost use Rattle.std.specs.Prelude.{◌≡◌, Bool, ◌+◌, ◌≤◌, length};
 ghost use Rattle.tsp_base.specs.declared.datagram.Datagram.TheVariants.{Message as MessageOf};
 ghost use Rattle.tsp_base.specs.declared.datagram.Taken.TheVariants.{Good};
-ghost use Rattle.tsp_base.specs.Frames.{IsTick, PutsAtMost};
+ghost use Rattle.tsp_base.specs.Frames.{IsTick, UsesAtMost};
 ghost use Rattle.tsp_base.specs.Performs.{Performs};
 ghost use Rattle.tsp_base.specs.PortFacts.{Received};
 ghost use Rattle.tsp_rules.specs.Answers.{handles_kind};
@@ -41,8 +41,7 @@ impl Part {
             (traced_with self.old clock tracing.old) (traced_with self.new clock tracing.new)
             (D.acts desk.old) (D.acts desk.new) }
         ensures peers { self.new.station.peers ≡ self.old.station.peers }
-        ensures room { PutsAtMost (length self.old.station.peers + 4) (D.spare desk.old)
-            (D.spare desk.new) (D.acts desk.old) (D.acts desk.new) }
+        ensures room { UsesAtMost (length self.old.station.peers + 4) D.spare D.acts desk.old desk.new }
     {
         let number = m.number();
         match m.kind() {
@@ -63,8 +62,7 @@ impl Part {
             (port_with self.old clock) (port_with self.new clock) (D.acts desk.old)
             (D.acts desk.new) }
         ensures peers { self.new.station.peers ≡ self.old.station.peers }
-        ensures room { PutsAtMost (length self.old.station.peers + 4) (D.spare desk.old)
-            (D.spare desk.new) (D.acts desk.old) (D.acts desk.new) }
+        ensures room { UsesAtMost (length self.old.station.peers + 4) D.spare D.acts desk.old desk.new }
     {
         let led = self.leads();
         take_test(&mut self.station, tick, from, number, port, desk);

@@ -3,7 +3,7 @@ ghost use Rattle.std.specs.Prelude.{◌≡◌, ℕ, ◌+◌, ◌*◌, ◌≤◌,
 ghost use Rattle.tsp_base.specs.declared.datagram.Datagram.TheVariants.{Message as MessageOf};
 ghost use Rattle.tsp_base.specs.declared.datagram.Taken.TheVariants.{Good};
 ghost use Rattle.tsp_base.specs.declared.stamp.Stamp.TheVariants.{Reply};
-ghost use Rattle.tsp_base.specs.Frames.{IsTick, PutsAtMost};
+ghost use Rattle.tsp_base.specs.Frames.{IsTick, UsesAtMost};
 ghost use Rattle.tsp_base.specs.History.{Past};
 ghost use Rattle.tsp_base.specs.Performs.{Performs};
 ghost use Rattle.tsp_base.specs.Rows.{either_by, nothing};
@@ -53,8 +53,7 @@ impl Part {
             → TellsCorrection result terms.at.port (D.acts desk.old) (D.acts desk.new) }
         ensures peers { self.new.station.peers ≡ self.old.station.peers }
         ensures clock { clock.new.at ≤ terms.at.tick }
-        ensures room { PutsAtMost (2 * length self.old.station.peers + 10) (D.spare desk.old)
-            (D.spare desk.new) (D.acts desk.old) (D.acts desk.new) }
+        ensures room { UsesAtMost (2 * length self.old.station.peers + 10) D.spare D.acts desk.old desk.new }
     {
         let At { tick, port } = terms.at;
         match audience_of(m.kind()) {
@@ -97,8 +96,7 @@ impl Part {
             → TellsCorrection result at.port (D.acts desk.old) (D.acts desk.new) }
         ensures peers { self.new.station.peers ≡ self.old.station.peers }
         ensures clock { clock.new.at ≤ at.tick }
-        ensures room { PutsAtMost (2 * length self.old.station.peers + 2) (D.spare desk.old)
-            (D.spare desk.new) (D.acts desk.old) (D.acts desk.new) }
+        ensures room { UsesAtMost (2 * length self.old.station.peers + 2) D.spare D.acts desk.old desk.new }
     {
         let At { tick, port } = at;
         let corrected = date_take(
@@ -129,8 +127,7 @@ impl Part {
             (port_with self.old clock) (port_with self.new clock) (D.acts desk.old)
             (D.acts desk.new) }
         ensures peers { self.new.station.peers ≡ self.old.station.peers }
-        ensures room { PutsAtMost 1 (D.spare desk.old) (D.spare desk.new) (D.acts desk.old)
-            (D.acts desk.new) }
+        ensures room { UsesAtMost 1 D.spare D.acts desk.old desk.new }
     {
         if let Some(p) = self.heard(from) {
             let station = &mut self.station;
@@ -157,8 +154,7 @@ impl Part {
             (port_with self.old clock.now) (port_with self.new clock.now) (D.acts desk.old)
             (D.acts desk.new) }
         ensures peers { self.new.station.peers ≡ self.old.station.peers }
-        ensures room { PutsAtMost 1 (D.spare desk.old) (D.spare desk.new) (D.acts desk.old)
-            (D.acts desk.new) }
+        ensures room { UsesAtMost 1 D.spare D.acts desk.old desk.new }
     {
         let Some(p) = self.heard(from) else {
             return;

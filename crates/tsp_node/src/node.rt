@@ -1,7 +1,7 @@
 //! A node with one port.
 ghost use Rattle.std.specs.Prelude.{◌≡◌, ◌≤◌, true, [], ◌∷◌, IfOk, IfErr, OnErr};
 ghost use Rattle.tsp_base.specs.declared.act.Act.TheVariants.{Boot};
-ghost use Rattle.tsp_base.specs.Frames.{IsTick, PutsAtMost};
+ghost use Rattle.tsp_base.specs.Frames.{IsTick, UsesAtMost};
 ghost use Rattle.tsp_base.specs.Performs.{Performs};
 ghost use Rattle.tsp_rules.specs.CommonRows.{boots};
 ghost use Rattle.tsp_rules.specs.Guards.{is_clock_value};
@@ -52,8 +52,7 @@ impl Node {
             × (peers_in node ≡ config.now.peers) × (clock_at node ≡ tick)) }
         ensures err { IfErr result (λ fault. BootsNot config.now wall fault) }
         ensures refused { OnErr result (D.acts desk.new ≡ D.acts desk.old) }
-        ensures room { PutsAtMost 3 (D.spare desk.old) (D.spare desk.new) (D.acts desk.old)
-            (D.acts desk.new) }
+        ensures room { UsesAtMost 3 D.spare D.acts desk.old desk.new }
     {
         let mut node = Node::new(alloc, config, tick, wall, word)?;
         desk.put(PORT, Act::Boot);

@@ -4,7 +4,7 @@ ghost use Rattle.tsp_base.specs.declared.act.Act.TheVariants.{Boot, Become};
 ghost use Rattle.tsp_base.specs.declared.alarm.Alarm.TheVariants.{Quiet};
 ghost use Rattle.tsp_base.specs.declared.constants.TheConstants.{QUIET};
 ghost use Rattle.tsp_base.specs.declared.role.Role.TheVariants.{Starting};
-ghost use Rattle.tsp_base.specs.Frames.{IsTick, PutsAtMost, PutsExactly};
+ghost use Rattle.tsp_base.specs.Frames.{IsTick, UsesAtMost, Uses};
 ghost use Rattle.tsp_base.specs.History.{Past, Booted, Step};
 ghost use Rattle.tsp_base.specs.Performs.{Performs};
 ghost use Rattle.tsp_base.specs.Rows.{grown, puts, arms, ◌followed_by◌};
@@ -100,8 +100,7 @@ impl Part {
             tick port (port_with self.old clock) (port_with self.new clock) (D.acts desk.old)
             (D.acts desk.new) }
         ensures peers { self.new.station.peers ≡ self.old.station.peers }
-        ensures room { PutsExactly 2 (D.spare desk.old) (D.spare desk.new) (D.acts desk.old)
-            (D.acts desk.new) }
+        ensures room { Uses 2 D.spare D.acts desk.old desk.new }
     {
         self.station.become_role(Role::Starting, port, desk);
         self.station.arm(Alarm::Quiet, tick, QUIET, port, desk);
@@ -136,8 +135,7 @@ impl Part {
             → Performs PortStands PortStands abandons_going x port (port_with self.old clock)
             (port_with self.new clock) (D.acts desk.old) (D.acts desk.new) }
         ensures peers { self.new.station.peers ≡ self.old.station.peers }
-        ensures room { PutsAtMost 1 (D.spare desk.old) (D.spare desk.new) (D.acts desk.old)
-            (D.acts desk.new) }
+        ensures room { UsesAtMost 1 D.spare D.acts desk.old desk.new }
     {
         if self.master.abandon(&mut self.station) {
             desk.put(port, Act::Abandon);
@@ -153,8 +151,7 @@ impl Part {
             (port_with self.old clock) (port_with self.new clock) (D.acts desk.old)
             (D.acts desk.new) }
         ensures peers { self.new.station.peers ≡ self.old.station.peers }
-        ensures room { PutsAtMost 2 (D.spare desk.old) (D.spare desk.new) (D.acts desk.old)
-            (D.acts desk.new) }
+        ensures room { UsesAtMost 2 D.spare D.acts desk.old desk.new }
     {
         if self.leads() {
             self.station.become_role(Role::Loose, port, desk);

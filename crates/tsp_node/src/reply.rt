@@ -1,6 +1,6 @@
 //! How a stamp request is answered.
 ghost use Rattle.std.specs.Prelude.{◌≡◌, ◌≤◌, true, false, IfSome, IfNone};
-ghost use Rattle.tsp_base.specs.Frames.{IsTick, PutsAtMost};
+ghost use Rattle.tsp_base.specs.Frames.{IsTick, UsesAtMost};
 ghost use Rattle.tsp_base.specs.Performs.{Performs};
 ghost use Rattle.tsp_rules.specs.CommonRows.{replies};
 ghost use Rattle.tsp_rules.specs.Guards.{is_clock_value};
@@ -31,8 +31,7 @@ pub(crate) fn reply<D: Desk>(
     ensures row { (part : Part) → Performs PortStands PortStands (replies from word counter) tick
         port (port_with part clock.now) (port_with part clock.now) (D.acts desk.old)
         (D.acts desk.new) }
-    ensures room { PutsAtMost 1 (D.spare desk.old) (D.spare desk.new) (D.acts desk.old)
-        (D.acts desk.new) }
+    ensures room { UsesAtMost 1 D.spare D.acts desk.old desk.new }
 {
     match stamp_at(clock, tick, word, counter) {
         Some(stamp) => desk.put(port, Act::Post(from, Datagram::Stamp(stamp))),

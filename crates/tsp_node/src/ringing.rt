@@ -1,6 +1,6 @@
 //! The alarms of a port that need only its station.
 ghost use Rattle.std.specs.Prelude.{◌≡◌, Bool, ◌+◌, ◌≤◌, true, length};
-ghost use Rattle.tsp_base.specs.Frames.{IsTick, PutsAtMost};
+ghost use Rattle.tsp_base.specs.Frames.{IsTick, UsesAtMost};
 ghost use Rattle.tsp_base.specs.Performs.{Performs};
 ghost use Rattle.tsp_acks.specs.Changes.{IsSamePort};
 ghost use Rattle.tsp_acks.specs.Stands.{StationStands};
@@ -39,8 +39,7 @@ pub(crate) fn ring_slave<D: Desk>(
     requires room { length station.old.peers + 4 ≤ D.spare desk.old }
     ensures row { (own wait : Bool) → Performs StationStands StationStands (alarm_rings own wait alarm) tick port
         station.old station.new (D.acts desk.old) (D.acts desk.new) }
-    ensures room { PutsAtMost (length station.old.peers + 4) (D.spare desk.old) (D.spare desk.new)
-        (D.acts desk.old) (D.acts desk.new) }
+    ensures room { UsesAtMost (length station.old.peers + 4) D.spare D.acts desk.old desk.new }
     ensures port { IsSamePort station.old station.new }
 {
     match alarm {
@@ -56,8 +55,7 @@ fn ring_elect<D: Desk>(station: &mut Station, tick: u64, port: Port, desk: &mut 
     requires room { length station.old.peers + 4 ≤ D.spare desk.old }
     ensures row { Performs StationStands StationStands elect_rings tick port station.old station.new
         (D.acts desk.old) (D.acts desk.new) }
-    ensures room { PutsAtMost (length station.old.peers + 4) (D.spare desk.old) (D.spare desk.new)
-        (D.acts desk.old) (D.acts desk.new) }
+    ensures room { UsesAtMost (length station.old.peers + 4) D.spare D.acts desk.old desk.new }
     ensures port { IsSamePort station.old station.new }
 {
     if becomes_candidate(station, tick) {
@@ -75,8 +73,7 @@ pub(crate) fn wait_round<D: Desk>(station: &mut Station, tick: u64, port: Port, 
     requires room { 2 ≤ D.spare desk.old }
     ensures row { Performs StationStands StationStands (round_rings true) tick port station.old station.new
         (D.acts desk.old) (D.acts desk.new) }
-    ensures room { PutsAtMost 2 (D.spare desk.old) (D.spare desk.new) (D.acts desk.old)
-        (D.acts desk.new) }
+    ensures room { UsesAtMost 2 D.spare D.acts desk.old desk.new }
     ensures port { IsSamePort station.old station.new }
 {
     if station.is_in_time(Alarm::Round, tick) {

@@ -3,7 +3,7 @@ ghost use Rattle.std.specs.Prelude.{◌≡◌, ◌+◌, ◌*◌, ◌≤◌, ◌&
 ghost use Rattle.tsp_base.specs.declared.datagram.Datagram.TheVariants.{Message as MessageOf};
 ghost use Rattle.tsp_base.specs.declared.datagram.Taken.TheVariants.{Good};
 ghost use Rattle.tsp_base.specs.declared.place.Place.TheVariants.{Peer};
-ghost use Rattle.tsp_base.specs.Frames.{IsTick, PutsAtMost};
+ghost use Rattle.tsp_base.specs.Frames.{IsTick, UsesAtMost};
 ghost use Rattle.tsp_base.specs.History.{Past};
 ghost use Rattle.tsp_base.specs.Performs.{Performs};
 ghost use Rattle.tsp_base.specs.Rows.{either_by, nothing};
@@ -57,8 +57,7 @@ impl Part {
             → TellsCorrection result terms.at.port (D.acts desk.old) (D.acts desk.new) }
         ensures peers { self.new.station.peers ≡ self.old.station.peers }
         ensures clock { clock.new.at ≤ terms.at.tick }
-        ensures room { PutsAtMost (2 * length self.old.station.peers + 5) (D.spare desk.old)
-            (D.spare desk.new) (D.acts desk.old) (D.acts desk.new) }
+        ensures room { UsesAtMost (2 * length self.old.station.peers + 5) D.spare D.acts desk.old desk.new }
     {
         let Some(p) = self.heard(from) else {
             return false;
@@ -108,8 +107,7 @@ impl Part {
             PortStands (master_takes p m.now) tick port (port_with self.old clock.now)
             (port_with self.new clock.now) (D.acts desk.old) (D.acts desk.new) }
         ensures peers { self.new.station.peers ≡ self.old.station.peers }
-        ensures room { PutsAtMost (2 * length self.old.station.peers + 5) (D.spare desk.old)
-            (D.spare desk.new) (D.acts desk.old) (D.acts desk.new) }
+        ensures room { UsesAtMost (2 * length self.old.station.peers + 5) D.spare D.acts desk.old desk.new }
     {
         match m.kind() {
             Kind::Quit => self.take_quit(clock, At { tick, port }, p, m, desk),
@@ -137,8 +135,7 @@ impl Part {
             PortStands (quits p m.now.number) at.tick at.port (port_with self.old clock.now)
             (port_with self.new clock.now) (D.acts desk.old) (D.acts desk.new) }
         ensures peers { self.new.station.peers ≡ self.old.station.peers }
-        ensures room { PutsAtMost 5 (D.spare desk.old) (D.spare desk.new) (D.acts desk.old)
-            (D.acts desk.new) }
+        ensures room { UsesAtMost 5 D.spare D.acts desk.old desk.new }
     {
         let station = &mut self.station;
         take_quit(station, &mut self.last, clock, at, p, m, desk);

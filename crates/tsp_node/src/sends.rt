@@ -4,7 +4,7 @@ ghost use Rattle.std.specs.List.{Contains};
 ghost use Rattle.tsp_base.specs.declared.act.Act.TheVariants.{Post};
 ghost use Rattle.tsp_base.specs.declared.datagram.Datagram.TheVariants.{Message};
 ghost use Rattle.tsp_base.specs.declared.place.Place.TheVariants.{Peer};
-ghost use Rattle.tsp_base.specs.Frames.{IsTick, PutsAtMost};
+ghost use Rattle.tsp_base.specs.Frames.{IsTick, UsesAtMost};
 ghost use Rattle.tsp_base.specs.History.{Past};
 ghost use Rattle.tsp_base.specs.Performs.{Performs};
 ghost use Rattle.tsp_base.specs.Rows.{grown};
@@ -35,8 +35,7 @@ impl Part {
             → Performs PortBegun PortBegun due_sends tick port (port_with self.old clock)
             (port_with self.new clock) (D.acts desk.old) (D.acts desk.new) }
         ensures peers { self.new.station.peers ≡ self.old.station.peers }
-        ensures room { PutsAtMost (2 * length self.old.station.peers) (D.spare desk.old)
-            (D.spare desk.new) (D.acts desk.old) (D.acts desk.new) }
+        ensures room { UsesAtMost (2 * length self.old.station.peers) D.spare D.acts desk.old desk.new }
     {
         let mut after = None;
         // Each peer has one open send at most, so this many rounds are enough.
@@ -68,8 +67,7 @@ impl Part {
             (D.acts desk.new)) }
         ensures same { IfNone result ((self.new ≡ self.old) × (desk.new ≡ desk.old)) }
         ensures peers { self.new.station.peers ≡ self.old.station.peers }
-        ensures room { PutsAtMost 2 (D.spare desk.old) (D.spare desk.new) (D.acts desk.old)
-            (D.acts desk.new) }
+        ensures room { UsesAtMost 2 D.spare D.acts desk.old desk.new }
     {
         let due = self.station.repeat_next(after, tick, port, desk)?;
         self.note_due(&due, tick, port, desk);
@@ -83,8 +81,7 @@ impl Part {
         ensures noted { IsNoted due.now tick port self.old.master self.new.master
             (D.acts desk.old) (D.acts desk.new) }
         ensures rest { IsMasterAlone self.old self.new }
-        ensures room { PutsAtMost 1 (D.spare desk.old) (D.spare desk.new) (D.acts desk.old)
-            (D.acts desk.new) }
+        ensures room { UsesAtMost 1 D.spare D.acts desk.old desk.new }
     {
         match due {
             Due::Again(p, message) => self.repeat(*p, message.kind(), tick),
@@ -111,8 +108,7 @@ impl Part {
         ensures row { (x : ℕ) → Performs MasterStands MasterStands (leaves_after peer kind) x port
             self.old.master self.new.master (D.acts desk.old) (D.acts desk.new) }
         ensures rest { IsMasterAlone self.old self.new }
-        ensures room { PutsAtMost 1 (D.spare desk.old) (D.spare desk.new) (D.acts desk.old)
-            (D.acts desk.new) }
+        ensures room { UsesAtMost 1 D.spare D.acts desk.old desk.new }
     {
         if !kind.is_correction() {
             return;

@@ -2,7 +2,7 @@
 ghost use Rattle.std.specs.Prelude.{◌≡◌, ◌+◌, ◌*◌, ◌≤◌, true, false, length};
 ghost use Rattle.tsp_base.specs.declared.alarm.Alarm.TheVariants.{Probe, Close};
 ghost use Rattle.tsp_base.specs.declared.alarm.TheConstants.Alarm.{ALL};
-ghost use Rattle.tsp_base.specs.Frames.{IsTick, PutsAtMost};
+ghost use Rattle.tsp_base.specs.Frames.{IsTick, UsesAtMost};
 ghost use Rattle.tsp_base.specs.Performs.{Performs};
 ghost use Rattle.tsp_rules.specs.Answers.{Turn, Got, answers, due_alarms, rings_alone, takes};
 ghost use Rattle.tsp_rules.specs.Guards.{is_over};
@@ -39,8 +39,7 @@ impl Node {
             self.old self.new (D.acts desk.old) (D.acts desk.new) }
         ensures peers { peers_in self.new ≡ peers_in self.old }
         ensures clock { clock_at self.new ≤ tick }
-        ensures room { PutsAtMost (room_for (length (peers_in self.old))) (D.spare desk.old)
-            (D.spare desk.new) (D.acts desk.old) (D.acts desk.new) }
+        ensures room { UsesAtMost (room_for (length (peers_in self.old))) D.spare D.acts desk.old desk.new }
     {
         match input {
             Input::Turn => self.turn(tick, desk),
@@ -57,8 +56,7 @@ impl Node {
             self.new (D.acts desk.old) (D.acts desk.new) }
         ensures peers { peers_in self.new ≡ peers_in self.old }
         ensures clock { clock_at self.new ≤ tick }
-        ensures room { PutsAtMost (room_for (length (peers_in self.old))) (D.spare desk.old)
-            (D.spare desk.new) (D.acts desk.old) (D.acts desk.new) }
+        ensures room { UsesAtMost (room_for (length (peers_in self.old))) D.spare D.acts desk.old desk.new }
     {
         self.part.sends(tick, PORT, desk);
         self.ring_alarms(tick, desk);
@@ -73,8 +71,7 @@ impl Node {
             (record { 0 = 0 }) self.old self.new (D.acts desk.old) (D.acts desk.new) }
         ensures peers { peers_in self.new ≡ peers_in self.old }
         ensures clock { clock_at self.new ≤ tick }
-        ensures room { PutsAtMost (room_for (length (peers_in self.old))) (D.spare desk.old)
-            (D.spare desk.new) (D.acts desk.old) (D.acts desk.new) }
+        ensures room { UsesAtMost (room_for (length (peers_in self.old))) D.spare D.acts desk.old desk.new }
     {
         self.part.sends(tick, PORT, desk);
         self.ring_alarms(tick, desk);
@@ -91,8 +88,7 @@ impl Node {
             tick (record { 0 = 0 }) self.old self.new (D.acts desk.old) (D.acts desk.new) }
         ensures peers { peers_in self.new ≡ peers_in self.old }
         ensures clock { clock_at self.new ≤ tick }
-        ensures room { PutsAtMost (2 * length (peers_in self.old) + 17) (D.spare desk.old)
-            (D.spare desk.new) (D.acts desk.old) (D.acts desk.new) }
+        ensures room { UsesAtMost (2 * length (peers_in self.old) + 17) D.spare D.acts desk.old desk.new }
     {
         // A node's only port steers the clock, and is in charge of the date.
         let steer = true;
@@ -116,8 +112,7 @@ impl Node {
             self.new (D.acts desk.old) (D.acts desk.new) }
         ensures peers { peers_in self.new ≡ peers_in self.old }
         ensures clock { clock_at self.new ≤ tick }
-        ensures room { PutsAtMost (length ALL * (2 * length (peers_in self.old) + 4))
-            (D.spare desk.old) (D.spare desk.new) (D.acts desk.old) (D.acts desk.new) }
+        ensures room { UsesAtMost (length ALL * (2 * length (peers_in self.old) + 4)) D.spare D.acts desk.old desk.new }
     {
         for alarm in &Alarm::ALL {
             self.ring(*alarm, tick, desk);
@@ -135,8 +130,7 @@ impl Node {
         ensures over { alarm ≡ Probe → is_over self.new.part.station.alarms.probe tick ≡ false }
         ensures peers { peers_in self.new ≡ peers_in self.old }
         ensures clock { clock_at self.new ≤ tick }
-        ensures room { PutsAtMost (2 * length (peers_in self.old) + 4) (D.spare desk.old)
-            (D.spare desk.new) (D.acts desk.old) (D.acts desk.new) }
+        ensures room { UsesAtMost (2 * length (peers_in self.old) + 4) D.spare D.acts desk.old desk.new }
     {
         // A node's only port moves the clock by its group's mean, and waits for no other port's round.
         let group_mean = true;

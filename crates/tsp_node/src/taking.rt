@@ -1,7 +1,7 @@
 //! What a port does with octets that it takes.
 ghost use Rattle.std.specs.Prelude.{◌≡◌, ℕ, ◌+◌, ◌*◌, ◌≤◌, ◌++◌, [], ◌∷◌, length};
 ghost use Rattle.tsp_base.specs.declared.act.Act.TheVariants.{Took};
-ghost use Rattle.tsp_base.specs.Frames.{IsTick, PutsAtMost};
+ghost use Rattle.tsp_base.specs.Frames.{IsTick, UsesAtMost};
 ghost use Rattle.tsp_base.specs.History.{Past};
 ghost use Rattle.tsp_rules.specs.RoundRows.{corrects};
 ghost use Rattle.tsp_rules.specs.Guards.{is_own};
@@ -50,8 +50,7 @@ impl Part {
             → result ≡ corrects (takes steer charge from taken.now tick past) }
         ensures peers { self.new.station.peers ≡ self.old.station.peers }
         ensures clock { clock.new.at ≤ tick }
-        ensures room { PutsAtMost (2 * length self.old.station.peers + 16) (D.spare desk.old)
-            (D.spare desk.new) (D.acts desk.old) (D.acts desk.new) }
+        ensures room { UsesAtMost (2 * length self.old.station.peers + 16) D.spare D.acts desk.old desk.new }
     {
         put_taken(from, taken, port, desk);
         let terms = TakeTerms {
@@ -86,8 +85,7 @@ impl Part {
             → TellsCorrection result terms.at.port (D.acts desk.old) (D.acts desk.new) }
         ensures peers { self.new.station.peers ≡ self.old.station.peers }
         ensures clock { clock.new.at ≤ terms.at.tick }
-        ensures room { PutsAtMost (2 * length self.old.station.peers + 10) (D.spare desk.old)
-            (D.spare desk.new) (D.acts desk.old) (D.acts desk.new) }
+        ensures room { UsesAtMost (2 * length self.old.station.peers + 10) D.spare D.acts desk.old desk.new }
     {
         if is_own(from, self.station.me.own) {
             return false;

@@ -17,7 +17,7 @@ use Rattle.tsp_promises.proofs.HistoryPlaces.{of-own}
 use Rattle.tsp_promises.proofs.MasterMoved.{master_moved, same-mean, unmoved}
 use Rattle.tsp_promises.proofs.OwnFitsProof.{place-time}
 use Rattle.tsp_promises.proofs.SendPlaces.{post_fits}
-use Rattle.tsp_promises.proofs.CastProof.{Met, corrects-adj, whole}
+use Rattle.tsp_promises.proofs.FromRoundProof.{Met, corrects-adj, whole}
 use Rattle.tsp_promises.proofs.Given.{Given, given_at}
 
 -- the clock of k against m's clock as its Close left it

@@ -2,7 +2,7 @@
 use Rattle.std.specs.Prelude.{◌≡◌, ◌≤◌, ◌≤ℤ◌, ℕ, ◌+◌, ◌-◌, ℤ, pos, ◌+ℤ◌, ◌-ℤ◌, nat_abs, true, List, [], ◌∷◌}
 use Rattle.std.proofs.Common.{sym, arith, subst, ◌∙◌}
 use Rattle.std.proofs.lemmas.Int.{ints}
-use Rattle.tsp_promises.specs.Agreed.{Cast, Unchanged}
+use Rattle.tsp_promises.specs.Agreed.{FromRound, Unchanged}
 use Rattle.tsp_promises.specs.AgreedShown.{AgreedShown, HasMet, ShownWithin, AcrossShown, DownShown, MasterShown, PeersShown, ShownAgree, ShownAsClocks, ShownNear, TreeShown, Waited, WaitedFor}
 use Rattle.tsp_promises.specs.Chained.{Hop, Hops, IsChain, last_hop, node_at}
 use Rattle.tsp_promises.specs.ClockAt.{clock_at}
@@ -41,14 +41,14 @@ shown-as-clocks setting h t f k l b ku lu near = record {
 }
 
 -- whoever was corrected has booted
-corrected-up : (setting : Setting) (m : ℕ) (close : Line) (cpast : List Line) (c : Line) (past : List Line) (r : Line) (older : List Line) (e : ℤ) (h : List Line) → Fits setting h → Cast m close cpast c past r older e → Unchanged (node_of c) (c ∷ past) h → up (dids (of (node_of c) h)) ≡ true
+corrected-up : (setting : Setting) (m : ℕ) (close : Line) (cpast : List Line) (c : Line) (past : List Line) (r : Line) (older : List Line) (e : ℤ) (h : List Line) → Fits setting h → FromRound m close cpast c past r older e → Unchanged (node_of c) (c ∷ past) h → up (dids (of (node_of c) h)) ≡ true
 corrected-up setting m close cpast c past r older e h f x u =
     let k = node_of c in
     let fc = fits_at setting (c ∷ past) h f u.within in
     stays_up k past h (Within-tail c past h u.within) (subst (λ z. Alive setting z c.did (up (dids (of k past)))) x.acts.correct fc.0.alive)
 
 -- and so has whoever corrected it
-master-up : (setting : Setting) (m : ℕ) (close : Line) (cpast : List Line) (c : Line) (past : List Line) (r : Line) (older : List Line) (e : ℤ) (h : List Line) → Fits setting h → Cast m close cpast c past r older e → Unchanged (node_of c) (c ∷ past) h → up (dids (of m h)) ≡ true
+master-up : (setting : Setting) (m : ℕ) (close : Line) (cpast : List Line) (c : Line) (past : List Line) (r : Line) (older : List Line) (e : ℤ) (h : List Line) → Fits setting h → FromRound m close cpast c past r older e → Unchanged (node_of c) (c ∷ past) h → up (dids (of m h)) ≡ true
 master-up setting m close cpast c past r older e h f x u =
     let b = x.acts.brings in
     let post_h : Within (x.post ∷ x.before) h = Within-through (x.post ∷ x.before) past h b.place (Within-tail c past h u.within) in
@@ -56,10 +56,10 @@ master-up setting m close cpast c past r older e h f x u =
     stays_up m x.before h (Within-tail x.post x.before h post_h) (subst (λ n. up (dids (of n x.before)) ≡ true) x.node posted)
 
 hop-up : (setting : Setting) (m : ℕ) (x : Hop) (h : List Line) → Fits setting h → Hops m x h → up (dids (of (node_at x) h)) ≡ true
-hop-up setting m x h f a = corrected-up setting m x.close x.cpast x.correct x.past x.reading x.older x.err h f a.cast a.unchanged
+hop-up setting m x h f a = corrected-up setting m x.close x.cpast x.correct x.past x.reading x.older x.err h f a.from_round a.unchanged
 
 hop-master : (setting : Setting) (m : ℕ) (x : Hop) (h : List Line) → Fits setting h → Hops m x h → up (dids (of m h)) ≡ true
-hop-master setting m x h f a = master-up setting m x.close x.cpast x.correct x.past x.reading x.older x.err h f a.cast a.unchanged
+hop-master setting m x h f a = master-up setting m x.close x.cpast x.correct x.past x.reading x.older x.err h f a.from_round a.unchanged
 
 last-up : (setting : Setting) (m : ℕ) (first : Hop) (rest : List Hop) (h : List Line) → Fits setting h → Hops m first h → IsChain first rest h → up (dids (of (node_at (last_hop first rest)) h)) ≡ true
 last-up setting m first [] h f a c = hop-up setting m first h f a

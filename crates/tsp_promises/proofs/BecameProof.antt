@@ -10,8 +10,8 @@ later : (s : Seen) (before : List Seen) (p : PeerId) → Became before p → Bec
 later s before p b = record { did = b.did; before = b.before; place = inr b.place; deed = b.deed; after = b.after }
 
 -- a QUIT to a follower changes nothing that is owed
-quit-owes : (r : Role) (q p : PeerId) (keep : List PeerId) → r ≡ Follow p → owes_after (Acts (Quit q)) r keep ≡ keep
-quit-owes r q p keep e = rw e refl
+quit-owes : (r : Role) (q p : PeerId) (was : List PeerId) → r ≡ Follow p → owes_after (Acts (Quit q)) r was ≡ was
+quit-owes r q p was e = rw e refl
 
 became-deed : (d : Did) (before : List Seen) (p : PeerId) (deed : Deed) → deed ≡ d.deed → (is_among p (owes before) ≡ true → role before ≡ Follow p → Became before p) →
     is_among p (owes_after deed (role before) (owes before)) ≡ true → role_after deed (role before) ≡ Follow p → Became (Here d ∷ before) p

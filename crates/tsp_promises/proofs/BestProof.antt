@@ -14,7 +14,7 @@ pub record BestAt (p : PeerId) (s : Sampled) (seen : List Seen) : Type 0 where
   pub deed : did.deed ≡ Acts (Sample p s.counter s.diff s.err s.ticket)
   pub round : started rest ≡ started seen
 
-better-is : (keep : Option Sampled) (late s : Sampled) → better keep late ≡ s → (late ≡ s) ⊎ (keep ≡ Some s)
+better-is : (was : Option Sampled) (late s : Sampled) → better was late ≡ s → (late ≡ s) ⊎ (was ≡ Some s)
 better-is None late s e = inl e
 better-is (Some early) late s e = choose (int_lt late.trip early.trip) e where
   choose : (b : Bool) → cond b late early ≡ s → (late ≡ s) ⊎ (Some early ≡ Some s)
@@ -27,10 +27,10 @@ best-before p s d before same b = record { did = b.did; rest = b.rest; is = b.is
 pub some-is : (a b : Sampled) → Some a ≡ Some b → a ≡ b
 some-is a b e = cc
 
-best-sample : (p q : PeerId) (d : Did) (before : List Seen) (keep : Option Sampled) (s late : Sampled) → Acts (Sample q late.counter late.diff late.err late.ticket) ≡ d.deed → late.place ≡ Here d ∷ before → (keep ≡ Some s → BestAt p s before) →
-    (b : Bool) → (q.0 == p.0) ≡ b → cond b (Some (better keep late)) keep ≡ Some s → BestAt p s (Here d ∷ before)
-best-sample p q d before keep s late is at h false b e = best-before p s d before (ap (λ k. started_after k (Here d ∷ before) (started before)) (sym is)) (h e)
-best-sample p q d before keep s late is at h true b e = elim (better-is keep late s (some-is (better keep late) s e)) [
+best-sample : (p q : PeerId) (d : Did) (before : List Seen) (was : Option Sampled) (s late : Sampled) → Acts (Sample q late.counter late.diff late.err late.ticket) ≡ d.deed → late.place ≡ Here d ∷ before → (was ≡ Some s → BestAt p s before) →
+    (b : Bool) → (q.0 == p.0) ≡ b → cond b (Some (better was late)) was ≡ Some s → BestAt p s (Here d ∷ before)
+best-sample p q d before was s late is at h false b e = best-before p s d before (ap (λ k. started_after k (Here d ∷ before) (started before)) (sym is)) (h e)
+best-sample p q d before was s late is at h true b e = elim (better-is was late s (some-is (better was late) s e)) [
   | inr k ↦ best-before p s d before (ap (λ k. started_after k (Here d ∷ before) (started before)) (sym is)) (h k)
   | inl k ↦ subst (λ (z : Sampled). BestAt p z (Here d ∷ before)) k (record {
     did = d;

@@ -4,7 +4,7 @@ use Rattle.std.proofs.Common.{arith, inl, inr}
 use Rattle.std.proofs.lemmas.Int.{ints}
 use Rattle.tsp_rules.specs.Values.{Took, Post, Ring, Correct, Sample, CloseAlarm, Message, Stamp, Good, AdjTime, SetTime, TimeBody, Peer, Reply}
 use Rattle.tsp_base.specs.Words.{Came, Turned, Line, of, view, peer_of}
-use Rattle.tsp_promises.specs.Agreed.{Cast}
+use Rattle.tsp_promises.specs.Agreed.{FromRound}
 use Rattle.tsp_promises.specs.Broken.{AllBreak, Breaks, ChainsBreak}
 use Rattle.tsp_promises.specs.Chained.{Chained, Hop, Hops}
 use Rattle.tsp_promises.specs.ErrsBounded.{ErrsBounded}
@@ -18,11 +18,11 @@ use Rattle.tsp_promises.proofs.BrokenReadings.{readings_break}
 use Rattle.tsp_promises.proofs.BrokenRoles.{roles_break}
 use Rattle.tsp_promises.proofs.BrokenRounds.{rounds_break}
 use Rattle.tsp_promises.proofs.BrokenSends.{sends_break}
-use Rattle.tsp_promises.proofs.CastBy.{cast-by}
-use Rattle.tsp_promises.proofs.CastProof.{reading_of, taking_of}
+use Rattle.tsp_promises.proofs.FromRoundBy.{from_round-by}
+use Rattle.tsp_promises.proofs.FromRoundProof.{reading_of, taking_of}
 use Rattle.tsp_promises.proofs.Histories.{begins, does, msg, skip, skipped, still}
 use Rattle.tsp_promises.proofs.StepChecks.{port0}
-use Rattle.tsp_promises.proofs.WitnessCasts.{answers, closing, far-cast, far-close, far-reading, first, first-cast, near-cast, near-close, near-correct, near-reading, second-cast, sounds}
+use Rattle.tsp_promises.proofs.WitnessFromRounds.{answers, closing, far-from_round, far-close, far-reading, first, first-from_round, near-from_round, near-close, near-correct, near-reading, second-from_round, sounds}
 use Rattle.tsp_promises.proofs.WitnessRelay.{g17, g19, g20, g23, g25, g26}
 use Rattle.tsp_promises.proofs.WitnessSets.{set-by, set-source, set-taking, slaveup}
 use Rattle.tsp_promises.proofs.WitnessUse.{reply1, w6, w8, w9, w15, w16, w17, w19, w20, w21}
@@ -37,8 +37,8 @@ down : Breaks (Chained (still false))
 down = record {
   world = wrong;
   broken = λ h.
-      let near : Hops 0 near-hop wrong = record { cast = near-cast; unchanged = record { within = skipped 21 wrong; since = record { corrects = refl; lives = refl } } } in
-      let far : Hops 1 wrong-hop wrong = record { cast = far-cast (pos 5000000) false (pos 0); unchanged = record { within = inl refl; since = record { corrects = refl; lives = refl } } } in
+      let near : Hops 0 near-hop wrong = record { from_round = near-from_round; unchanged = record { within = skipped 21 wrong; since = record { corrects = refl; lives = refl } } } in
+      let far : Hops 1 wrong-hop wrong = record { from_round = far-from_round (pos 5000000) false (pos 0); unchanged = record { within = inl refl; since = record { corrects = refl; lives = refl } } } in
       let k : pos 5000049 ≤ℤ pos 806 = (h.0 508000400 (omega arith)).down 0 near-hop (wrong-hop ∷ []) near (far, skipped 16 (skip 2 g25), tt)
       (record { lives = refl; corrects = inr (record { next = does 408000000 0 Turned (Correct (negsuc 50) false (pos 408000000)); before = skip 2 g19; is = refl; amount = negsuc 50; stepped = false; shown = pos 408000000; place = skipped 25 wrong; node = refl; deed = refl; corrects = refl }) }) in
       omega (arith, ints);
@@ -51,10 +51,10 @@ abbrev first-hop : Hop
 first-hop = record { close = closing; cpast = skip 4 w19; correct = first; past = skip 2 w20; reading = sounds; older = skip 1 w15; err = pos 401 }
 
 stray-hops : Hops 0 stray-hop (stray false)
-stray-hops = record { cast = second-cast (pos 5000000) false (pos 0); unchanged = record { within = inl refl; since = record { corrects = refl; lives = refl } } }
+stray-hops = record { from_round = second-from_round (pos 5000000) false (pos 0); unchanged = record { within = inl refl; since = record { corrects = refl; lives = refl } } }
 
 first-hops : Hops 0 first-hop (stray false)
-first-hops = record { cast = first-cast; unchanged = record { within = skipped 4 (stray false); since = record { corrects = refl; lives = refl } } }
+first-hops = record { from_round = first-from_round; unchanged = record { within = skipped 4 (stray false); since = record { corrects = refl; lives = refl } } }
 
 across : Breaks (Chained (still false))
 across = record {
@@ -73,7 +73,7 @@ throughout = record {
   world = stray false;
   broken = λ h.
       let k : pos 5000083 ≤ℤ pos 452 = ((h.0 408000500 (omega arith)).master 0 closing (skip 4 w19) (negsuc 83) (strays false) (skip 2 w21) answers (skip 1 w16) (pos 450)
-      (record { cast = second-cast (pos 5000000) false (pos 0); within = inl refl; count = 3; lo = negsuc 150; size = pos 151; deed = refl; one_life = refl; one_life_master = refl })).taken_back in
+      (record { from_round = second-from_round (pos 5000000) false (pos 0); within = inl refl; count = 3; lo = negsuc 150; size = pos 151; deed = refl; one_life = refl; one_life_master = refl })).taken_back in
       omega (arith, ints);
 }
 
@@ -82,7 +82,7 @@ throughout_peers = record {
   world = stray false;
   broken = λ h.
       let k : pos 4999983 ≤ℤ pos 855 = ((h.0 408000500 (omega arith)).peers 0 closing (skip 4 w19) (strays false) first (skip 2 w21) (skip 2 w20) answers sounds (skip 1 w16) (skip 1 w15) (pos 450) (pos 401)
-      (record { cast = second-cast (pos 5000000) false (pos 0); within = inl refl; one_life = refl }) (record { cast = first-cast; within = skipped 4 (stray false); one_life = refl })).taken_back in
+      (record { from_round = second-from_round (pos 5000000) false (pos 0); within = inl refl; one_life = refl }) (record { from_round = first-from_round; within = skipped 4 (stray false); one_life = refl })).taken_back in
       omega (arith, ints);
 }
 
@@ -96,24 +96,24 @@ long19 = does 408000000 0 Turned (Post (Peer (peer_of 1)) (Message (msg AdjTime 
 abbrev long20 : List Line
 long20 = does 408000400 1 (Came 10) (Took (Peer (peer_of 0)) (Good (Message (msg AdjTime 10 (TimeBody (pos 17)))))) ∷ (begins 408000400 1 (Came 10) ∷ long19)
 
-long-cast : Cast 0 closing (skip 2 long19) first long20 sounds (skip 1 w15) (pos 5000000)
-long-cast =
-    cast-by 0 closing (skip 2 long19) first long20 sounds (skip 1 w15) (does 408000000 0 Turned (Post (Peer (peer_of 1)) (Message (msg AdjTime 10 (TimeBody (pos 17)))))) (skip 1 long19) (msg AdjTime 10 (TimeBody (pos 17))) (pos 17) false (pos 408000399)
+long-from_round : FromRound 0 closing (skip 2 long19) first long20 sounds (skip 1 w15) (pos 5000000)
+long-from_round =
+    from_round-by 0 closing (skip 2 long19) first long20 sounds (skip 1 w15) (does 408000000 0 Turned (Post (Peer (peer_of 1)) (Message (msg AdjTime 10 (TimeBody (pos 17)))))) (skip 1 long19) (msg AdjTime 10 (TimeBody (pos 17))) (pos 17) false (pos 408000399)
     (record { counter = 0; diff = negsuc 100; err = pos 5000000; ticket = 10; trip = pos 801; place = view port0 (of 0 long17) })
     (record { correct = refl; place = skipped 2 long20; cause = refl; deed = refl; took = refl; node = refl; kind = refl; numbered = refl; is = refl })
     (record { closes = skipped 3 long20; node = refl; port = refl; is = refl; best_is = refl })
     (record { line = does 400000801 0 (Came 8) (Sample (peer_of 1) 0 (negsuc 100) (pos 5000000) 10); before = skip 1 long17; at = skipped 6 long20; node = refl; port = refl; is = refl; reads = skipped 5 (skip 1 long17); takes = refl; to = Peer (peer_of 0); datagram = Stamp (Reply reply1); deed = refl })
 
 errs_bounded : Breaks ErrsBounded
-errs_bounded = record { world = first ∷ long20; broken = λ h. (let k : pos 5000000 ≤ℤ pos 4500000 = h.0 0 closing (skip 2 long19) sounds (skip 1 w15) (pos 5000000) long-cast in omega (arith, ints)) }
+errs_bounded = record { world = first ∷ long20; broken = λ h. (let k : pos 5000000 ≤ℤ pos 4500000 = h.0 0 closing (skip 2 long19) sounds (skip 1 w15) (pos 5000000) long-from_round in omega (arith, ints)) }
 
 -- another Correct before the one that takes the ADJTIME
 abbrev between : List Line
 between = does 408000400 1 (Came 10) (Took (Peer (peer_of 0)) (Good (Message (msg AdjTime 10 (TimeBody (pos 17)))))) ∷ (begins 408000400 1 (Came 10) ∷ (does 408000300 1 Turned (Correct (pos 5) false (pos 0)) ∷ w19))
 
-abbrev between-cast : Cast 0 closing (skip 4 w19) first between sounds (skip 1 w15) (pos 401)
-between-cast =
-    cast-by 0 closing (skip 4 w19) first between sounds (skip 1 w15) (does 408000000 0 Turned (Post (Peer (peer_of 1)) (Message (msg AdjTime 10 (TimeBody (pos 17)))))) (skip 2 w19) (msg AdjTime 10 (TimeBody (pos 17))) (pos 17) false (pos 408000399)
+abbrev between-from_round : FromRound 0 closing (skip 4 w19) first between sounds (skip 1 w15) (pos 401)
+between-from_round =
+    from_round-by 0 closing (skip 4 w19) first between sounds (skip 1 w15) (does 408000000 0 Turned (Post (Peer (peer_of 1)) (Message (msg AdjTime 10 (TimeBody (pos 17)))))) (skip 2 w19) (msg AdjTime 10 (TimeBody (pos 17))) (pos 17) false (pos 408000399)
     (record { counter = 0; diff = negsuc 100; err = pos 401; ticket = 10; trip = pos 801; place = view port0 (of 0 w17) })
     (record { correct = refl; place = skipped 4 between; cause = refl; deed = refl; took = refl; node = refl; kind = refl; numbered = refl; is = refl })
     (record { closes = skipped 6 between; node = refl; port = refl; is = refl; best_is = refl })
@@ -123,7 +123,7 @@ one_error : Breaks OneError
 one_error = record {
   world = first ∷ between;
   broken = λ h.
-      let k : 1 ≡ 2 = (h.0.by_reading 0 (taking_of 0 closing (skip 4 w19) first between sounds (skip 1 w15) (pos 401) between-cast refl) closing (skip 4 w19) sounds (skip 1 w15) (reading_of 0 closing (skip 4 w19) first between sounds (skip 1 w15) (pos 401) between-cast refl)).corrects in
+      let k : 1 ≡ 2 = (h.0.by_reading 0 (taking_of 0 closing (skip 4 w19) first between sounds (skip 1 w15) (pos 401) between-from_round refl) closing (skip 4 w19) sounds (skip 1 w15) (reading_of 0 closing (skip 4 w19) first between sounds (skip 1 w15) (pos 401) between-from_round refl)).corrects in
       omega arith;
 }
 

@@ -4,16 +4,16 @@ use Rattle.std.proofs.Common.{sym, ap, arith, subst, inl, inr, true≢false, ◌
 use Rattle.std.proofs.lemmas.Int.{ints}
 use Rattle.tsp_rules.specs.Values.{Boot, Took, Post, Arm, Ring, Close, Correct, Sample, CloseAlarm, Message, Stamp, Good, AdjTime, TimeBody, PeerId, Peer, Request, Reply}
 use Rattle.tsp_base.specs.Words.{Booted, Came, Turned, Did, Line, Seen, Here, of, view, MessageValue, Within, peer_of}
-use Rattle.tsp_promises.specs.Agreed.{Agreed, Cast, MasterAgrees, StayAgreed, UnchangedBut}
+use Rattle.tsp_promises.specs.Agreed.{Agreed, FromRound, MasterAgrees, StayAgreed, UnchangedBut}
 use Rattle.tsp_promises.specs.ClockAt.{clock}
 use Rattle.tsp_promises.specs.Fits.{node_of}
 use Rattle.tsp_promises.specs.Measured.{Measured, Trips}
 use Rattle.tsp_promises.specs.Relayed.{Relayed}
 use Rattle.tsp_promises.specs.Broken.{Breaks, ClocksBreak}
-use Rattle.tsp_promises.proofs.CastBy.{cast-by}
+use Rattle.tsp_promises.proofs.FromRoundBy.{from_round-by}
 use Rattle.tsp_promises.proofs.Histories.{begins, does, line, msg, skip, skipped, step_at, still}
 use Rattle.tsp_promises.proofs.StepChecks.{port0}
-use Rattle.tsp_promises.proofs.WitnessCasts.{answers, closing, far-cast, far-close, far-reading, first, first-cast, near-cast, near-close, near-correct, near-reading, second-cast, sounds}
+use Rattle.tsp_promises.proofs.WitnessFromRounds.{answers, closing, far-from_round, far-close, far-reading, first, first-from_round, near-from_round, near-close, near-correct, near-reading, second-from_round, sounds}
 use Rattle.tsp_promises.proofs.WitnessRelay.{g17, g19, g20, g23, g25, g26}
 use Rattle.tsp_promises.proofs.WitnessUse.{reply1, w15, w16, w17, w19, w20, w21}
 
@@ -79,9 +79,9 @@ a2 = does 408000400 1 (Came 10) (Took (Peer (peer_of 0)) (Good (Message misleads
 abbrev obeys : Line
 obeys = does 408000400 1 (Came 10) (Correct (pos 1000000) false (pos 0))
 
-misled-cast : Cast 0 closing (skip 4 w19) obeys a2 sounds (skip 1 w15) (pos 401)
-misled-cast =
-    cast-by 0 closing (skip 4 w19) obeys a2 sounds (skip 1 w15) (does 408000000 0 Turned (Post (Peer (peer_of 1)) (Message misleads))) (skip 1 a1) misleads (pos 1000000) false (pos 0)
+misled-from_round : FromRound 0 closing (skip 4 w19) obeys a2 sounds (skip 1 w15) (pos 401)
+misled-from_round =
+    from_round-by 0 closing (skip 4 w19) obeys a2 sounds (skip 1 w15) (does 408000000 0 Turned (Post (Peer (peer_of 1)) (Message misleads))) (skip 1 a1) misleads (pos 1000000) false (pos 0)
     (record { counter = 0; diff = negsuc 100; err = pos 401; ticket = 10; trip = pos 801; place = view port0 (of 0 w17) })
     (record { correct = refl; place = skipped 2 a2; cause = refl; deed = refl; took = refl; node = refl; kind = refl; numbered = refl; is = refl })
     (record { closes = skipped 4 a2; node = refl; port = refl; is = refl; best_is = refl })
@@ -91,7 +91,7 @@ misled : Breaks (Agreed (still false))
 misled = record {
   world = obeys ∷ a2;
   broken = λ h.
-      let k : pos 1000083 ≤ℤ pos 403 = (h.0.clocks (Correct (pos 1000000) false (pos 0)) refl).master 0 closing (skip 4 w19) obeys a2 sounds (skip 1 w15) (pos 401) misled-cast
+      let k : pos 1000083 ≤ℤ pos 403 = (h.0.clocks (Correct (pos 1000000) false (pos 0)) refl).master 0 closing (skip 4 w19) obeys a2 sounds (skip 1 w15) (pos 401) misled-from_round
       (record { within = inl refl; since = record { corrects = refl; lives = refl } })
       (record { lives = refl; corrects = inr (record { next = does 408000000 0 Turned (Correct (negsuc 83) false (pos 408000000)); before = skip 3 w19; is = refl; amount = negsuc 83; stepped = false; shown = pos 408000000; place = skipped 4 (obeys ∷ a2); node = refl; deed = refl; corrects = refl }) }) in
       omega (arith, ints);
@@ -113,7 +113,7 @@ left_alone stepped = record {
 
 far-apart : MasterAgrees (still false) (stray false) 408000500 → ⊥
 far-apart m =
-    let k : pos 5000083 ≤ℤ pos 452 = m 0 closing (skip 4 w19) (strays false) (skip 2 w21) answers (skip 1 w16) (pos 450) (second-cast (pos 5000000) false (pos 0)) (record { within = inl refl; since = record { corrects = refl; lives = refl } }) (left_alone false) in
+    let k : pos 5000083 ≤ℤ pos 452 = m 0 closing (skip 4 w19) (strays false) (skip 2 w21) answers (skip 1 w16) (pos 450) (second-from_round (pos 5000000) false (pos 0)) (record { within = inl refl; since = record { corrects = refl; lives = refl } }) (left_alone false) in
     omega (arith, ints)
 
 agreed : Breaks (Agreed (still false))
@@ -124,7 +124,7 @@ peers = record {
   world = stray false;
   broken = λ h.
       let k : pos 4999983 ≤ℤ pos 855 = (h.0.clocks (Correct (pos 5000000) false (pos 0)) refl).peers 0 closing (skip 4 w19) (strays false) first (skip 2 w21) (skip 2 w20) answers sounds (skip 1 w16) (skip 1 w15) (pos 450) (pos 401)
-      (second-cast (pos 5000000) false (pos 0)) first-cast (record { within = inl refl; since = record { corrects = refl; lives = refl } }) (record { within = skipped 4 (stray false); since = record { corrects = refl; lives = refl } }) in
+      (second-from_round (pos 5000000) false (pos 0)) first-from_round (record { within = inl refl; since = record { corrects = refl; lives = refl } }) (record { within = skipped 4 (stray false); since = record { corrects = refl; lives = refl } }) in
       omega (arith, ints);
 }
 
@@ -157,7 +157,7 @@ relayed = record {
   world = wrong;
   broken = λ h.
       let k : pos 5000049 ≤ℤ pos 806 = h.0 508000400 (omega arith) 1 0 far-close near-close (skip 2 g25) (skip 3 g19) relays_wrong near-correct (skip 2 g26) (skip 2 g20) far-reading near-reading (skip 1 g23) (skip 1 g17) (pos 401) (pos 401)
-      (far-cast (pos 5000000) false (pos 0)) near-cast refl (skipped 16 (skip 2 g25)) (record { within = inl refl; since = record { corrects = refl; lives = refl } }) (record { within = skipped 21 wrong; since = record { corrects = refl; lives = refl } })
+      (far-from_round (pos 5000000) false (pos 0)) near-from_round refl (skipped 16 (skip 2 g25)) (record { within = inl refl; since = record { corrects = refl; lives = refl } }) (record { within = skipped 21 wrong; since = record { corrects = refl; lives = refl } })
       (record { lives = refl; corrects = inr (record { next = does 408000000 0 Turned (Correct (negsuc 50) false (pos 408000000)); before = skip 2 g19; is = refl; amount = negsuc 50; stepped = false; shown = pos 408000000; place = skipped 25 wrong; node = refl; deed = refl; corrects = refl }) }) in
       omega (arith, ints);
 }

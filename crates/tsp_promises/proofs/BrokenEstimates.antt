@@ -7,7 +7,7 @@ use Rattle.tsp_base.specs.Words.{Came, Turned, Line, peer_of}
 use Rattle.tsp_promises.specs.Broken.{Breaks}
 use Rattle.tsp_promises.specs.Estimates.{Estimate, EstimatesHold}
 use Rattle.tsp_promises.proofs.Histories.{begins, does, skip, skipped, still}
-use Rattle.tsp_promises.proofs.WitnessCasts.{answers, closing, sounds}
+use Rattle.tsp_promises.proofs.WitnessFromRounds.{answers, closing, sounds}
 use Rattle.tsp_promises.proofs.WitnessEstimates.{adjusts, begins-at, estimate1, sample1, sample2}
 use Rattle.tsp_promises.proofs.WitnessUse.{reply1, reply2, w15, w16, w17, w19}
 

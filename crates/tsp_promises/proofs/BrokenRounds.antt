@@ -4,16 +4,16 @@ use Rattle.std.proofs.Common.{arith, inl, true≢false}
 use Rattle.std.proofs.lemmas.Int.{ints}
 use Rattle.tsp_rules.specs.Values.{Took, Post, Close, Correct, Sample, Message, Stamp, Good, AdjTime, TimeBody, Peer, Reply}
 use Rattle.tsp_base.specs.Words.{Came, Turned, Line, MessageValue, peer_of}
-use Rattle.tsp_promises.specs.Agreed.{Cast}
+use Rattle.tsp_promises.specs.Agreed.{FromRound}
 use Rattle.tsp_promises.specs.Broken.{Breaks, RoundsBreak}
 use Rattle.tsp_promises.specs.Estimates.{Estimate, Moves}
 use Rattle.tsp_promises.specs.Moderate.{Moderate, ModerateClocks, PeerCorrects}
 use Rattle.tsp_promises.specs.Seldom.{Seldom}
-use Rattle.tsp_promises.proofs.CastBy.{cast-by}
-use Rattle.tsp_promises.proofs.CastProof.{taking_of}
+use Rattle.tsp_promises.proofs.FromRoundBy.{from_round-by}
+use Rattle.tsp_promises.proofs.FromRoundProof.{taking_of}
 use Rattle.tsp_promises.proofs.Histories.{begins, does, msg, skip, skipped, still}
-use Rattle.tsp_promises.proofs.WitnessCasts.{sounds}
-use Rattle.tsp_promises.proofs.WitnessModerate.{moves-little, moves-own, n1, n4, n5, near-agrees, near-cast, near-sample, own-agrees, shut-by, small-agrees}
+use Rattle.tsp_promises.proofs.WitnessFromRounds.{sounds}
+use Rattle.tsp_promises.proofs.WitnessModerate.{moves-little, moves-own, n1, n4, n5, near-agrees, near-from_round, near-sample, own-agrees, shut-by, small-agrees}
 use Rattle.tsp_promises.proofs.WitnessUse.{reply1, w15}
 
 -- a round that closes with a mean of 300 ms, where it and a peer agree within a millisecond
@@ -69,8 +69,8 @@ own_stepped = record {
 abbrev steps-near : Line
 steps-near = does 408000400 1 (Came 10) (Correct (pos 50) true (pos 0))
 
-abbrev stepped-cast : Cast 0 (shut-by (negsuc 50)) (skip 4 n4) steps-near (skip 2 n5) sounds (skip 1 w15) (pos 401)
-stepped-cast = near-cast true (pos 0)
+abbrev stepped-from_round : FromRound 0 (shut-by (negsuc 50)) (skip 4 n4) steps-near (skip 2 n5) sounds (skip 1 w15) (pos 401)
+stepped-from_round = near-from_round true (pos 0)
 
 peer_stepped : Breaks (Moderate (still false))
 peer_stepped = record {
@@ -83,7 +83,7 @@ peer_stepped = record {
     amount = negsuc 50;
     moves = moves-little;
     ends = skipped 4 (skip 2 n5);
-    taking = taking_of 0 (shut-by (negsuc 50)) (skip 4 n4) steps-near (skip 2 n5) sounds (skip 1 w15) (pos 401) stepped-cast refl;
+    taking = taking_of 0 (shut-by (negsuc 50)) (skip 4 n4) steps-near (skip 2 n5) sounds (skip 1 w15) (pos 401) stepped-from_round refl;
     kind = refl;
     close_is = refl;
     port = refl;
@@ -114,9 +114,9 @@ taken = does 408000400 1 (Came 10) (Took (Peer (peer_of 0)) (Good (Message drags
 abbrev obeys : Line
 obeys = does 408000400 1 (Came 10) (Correct (pos 300101) false (pos 0))
 
-abbrev dragged : Cast 0 shut (skip 4 n4) obeys taken sounds (skip 1 w15) (pos 401)
+abbrev dragged : FromRound 0 shut (skip 4 n4) obeys taken sounds (skip 1 w15) (pos 401)
 dragged =
-    cast-by 0 shut (skip 4 n4) obeys taken sounds (skip 1 w15) posts jumped drags (pos 300101) false (pos 0) near-sample
+    from_round-by 0 shut (skip 4 n4) obeys taken sounds (skip 1 w15) posts jumped drags (pos 300101) false (pos 0) near-sample
     (record { correct = refl; place = skipped 2 taken; cause = refl; deed = refl; took = refl; node = refl; kind = refl; numbered = refl; is = refl })
     (record { closes = skipped 4 taken; node = refl; port = refl; is = refl; best_is = refl })
     (record { line = does 400000801 0 (Came 8) (Sample (peer_of 1) 0 (negsuc 100) (pos 401) 10); before = skip 1 n1; at = skipped 13 taken; node = refl; port = refl; is = refl; reads = skipped 2 (skip 1 n1); takes = refl; to = Peer (peer_of 0); datagram = Stamp (Reply reply1); deed = refl })

@@ -2,7 +2,7 @@
 use Rattle.std.specs.Prelude.{◌≤◌, ◌≤ℤ◌, ℕ, ◌+◌, ◌-◌, ◌*◌, ℤ, pos, ◌+ℤ◌, ◌-ℤ◌, nat_abs, List, [], ◌∷◌}
 use Rattle.std.proofs.Common.{arith, subst, sym, inl, inr}
 use Rattle.std.proofs.lemmas.Int.{ints}
-use Rattle.tsp_promises.specs.Agreed.{Cast, Unchanged, UnchangedBut}
+use Rattle.tsp_promises.specs.Agreed.{FromRound, Unchanged, UnchangedBut}
 use Rattle.tsp_promises.specs.ClockAt.{clock_at}
 use Rattle.tsp_base.specs.Words.{Line, of, dids, time_of, Within, width}
 use Rattle.tsp_promises.specs.Setting.{Setting}
@@ -27,13 +27,13 @@ hop-off : (setting : Setting) (h : List Line) (t : ℕ) → Given setting h → 
 hop-off setting h t given by d x v hop d_in =
     let g = node_at d in
     let past_h : Within x.past h = Within-tail x.correct x.past h hop.unchanged.within in
-    let close_h : Within (x.close ∷ x.cpast) h = Within-through (x.close ∷ x.cpast) x.past h hop.cast.closes past_h in
+    let close_h : Within (x.close ∷ x.cpast) h = Within-through (x.close ∷ x.cpast) x.past h hop.from_round.closes past_h in
     let fc = fits_at setting (x.close ∷ x.cpast) h given.fits close_h in
     let one = since setting (of g (d.correct ∷ d.past)) (of g (x.close ∷ x.cpast)) (own_fits setting g (x.close ∷ x.cpast) fc) (Within-of g (d.correct ∷ d.past) (x.close ∷ x.cpast) (inr d_in)) in
     let two = since setting (of g (x.close ∷ x.cpast)) (of g h) (own_fits setting g h given.fits) (Within-of g (x.close ∷ x.cpast) h close_h) in
     let same = v.since in
     let but : UnchangedBut g x.close x.cpast h = record { lives = omega (arith, one.lives, two.lives, same.lives); corrects = inl (omega (arith, one.all, two.all, same.corrects)) } in
-    agreed_master setting h t given by g x.close x.cpast x.correct x.past x.reading x.older x.err hop.cast hop.unchanged but
+    agreed_master setting h t given by g x.close x.cpast x.correct x.past x.reading x.older x.err hop.from_round hop.unchanged but
 
 -- the last link's node is left alone
 last-kept : (m : ℕ) (first : Hop) (rest : List Hop) (h : List Line) → Hops m first h → IsChain first rest h → Unchanged (node_at (last_hop first rest)) ((last_hop first rest).correct ∷ (last_hop first rest).past) h
@@ -53,7 +53,7 @@ lower setting h t given by m first (x ∷ rest) a c =
 down : (setting : Setting) (h : List Line) (t : ℕ) → Given setting h → time_of (dids h) ≤ t → ChainAgrees setting h t
 down setting h t given by m first rest a c but =
     let one = lower setting h t given by m first rest a c in
-    let two = agreed_master setting h t given by m first.close first.cpast first.correct first.past first.reading first.older first.err a.cast a.unchanged but in
+    let two = agreed_master setting h t given by m first.close first.cpast first.correct first.past first.reading first.older first.err a.from_round a.unchanged but in
     let z : pos (nat_abs (clock_at setting (node_at (last_hop first rest)) h t -ℤ clock_at setting m h t)) ≤ℤ (hop_bound setting t first +ℤ bound setting t rest) =
     two-off (clock_at setting (node_at (last_hop first rest)) h t) (clock_at setting (node_at first) h t) (clock_at setting m h t) (hop_bound setting t first) (bound setting t rest) one two in
     omega (arith, ints, z)
@@ -65,9 +65,9 @@ across : (setting : Setting) (h : List Line) (t : ℕ) → Given setting h → t
 across setting h t given by m a b xs ys x y close cpast c d =
     let one = lower setting h t given by m a xs x c in
     let two = lower setting h t given by m b ys y d in
-    let cast_b : Cast m a.close a.cpast b.correct b.past b.reading b.older b.err =
-    subst (λ z. Cast m z a.cpast b.correct b.past b.reading b.older b.err) (sym close) (subst (λ z. Cast m b.close z b.correct b.past b.reading b.older b.err) (sym cpast) y.cast) in
-    let tops = agreed_peers setting h t given by m a.close a.cpast a.correct b.correct a.past b.past a.reading b.reading a.older b.older a.err b.err x.cast cast_b x.unchanged y.unchanged in
+    let cast_b : FromRound m a.close a.cpast b.correct b.past b.reading b.older b.err =
+    subst (λ z. FromRound m z a.cpast b.correct b.past b.reading b.older b.err) (sym close) (subst (λ z. FromRound m b.close z b.correct b.past b.reading b.older b.err) (sym cpast) y.from_round) in
+    let tops = agreed_peers setting h t given by m a.close a.cpast a.correct b.correct a.past b.past a.reading b.reading a.older b.older a.err b.err x.from_round cast_b x.unchanged y.unchanged in
     across-sum (clock_at setting (node_at (last_hop a xs)) h t) (clock_at setting (node_at a) h t) (clock_at setting (node_at b) h t) (clock_at setting (node_at (last_hop b ys)) h t)
     (bound setting t xs) (bound setting t ys) a.err b.err (2 * width setting.drift (t - a.reading.did.step.at)) (2 * width setting.drift (t - b.reading.did.step.at)) one tops two
 

@@ -38,9 +38,9 @@ last-post p q m d before is l true test e =
     record { last = d; older = before; is = e; message = m; deed = subst (λ t. d.deed ≡ Acts (Post (Peer t) (Message m))) same (sym is) }
 last-post p q m d before is l false test e = last-more p before (Here d ∷ before) e l
 
-if-true : (b : Bool) (keep : List Seen) → corrects_by (message_at (cond b [] keep)) ≡ true → corrects_by (message_at keep) ≡ true
-if-true true keep e = absurd (true≢false (sym e))
-if-true false keep e = e
+if-true : (b : Bool) (was : List Seen) → corrects_by (message_at (cond b [] was)) ≡ true → corrects_by (message_at was) ≡ true
+if-true true was e = absurd (true≢false (sym e))
+if-true false was e = e
 
 -- an open correction is the last one
 here-or-last : (p q : PeerId) (m : MessageValue) (d : Did) (before : List Seen) → Acts (Post (Peer q) (Message m)) ≡ d.deed → (corrects_by (message_at (open_to p before)) ≡ true → LastIs p before) →
@@ -81,9 +81,9 @@ acked-last p q d before k t true test e =
     last-more p before (Here d ∷ before) t (open-last p before one.1)
 acked-last p q d before k t false test e = last-more p before (Here d ∷ before) t (k e)
 
-if-false : (b keep : Bool) → cond b false keep ≡ true → keep ≡ true
-if-false true keep e = absurd (true≢false (sym e))
-if-false false keep e = e
+if-false : (b was : Bool) → cond b false was ≡ true → was ≡ true
+if-false true was e = absurd (true≢false (sym e))
+if-false false was e = e
 
 acknowledged-deed : (p : PeerId) (d : Did) (before : List Seen) → (is_acknowledged p before ≡ true → LastIs p before) → (deed : Deed) → deed ≡ d.deed →
     last_to p (Here d ∷ before) ≡ last_to_after p deed (acting before) (Here d ∷ before) (last_to p before) →

@@ -97,10 +97,10 @@ record Dated (from : Place) (m : MessageValue) (x : ℕ) (past : Past) : Type 0 
   pub answers : PostFits (setup_in past) from (Message (bare DateAck m.number past.name)) (now x past (Post from (Message (bare DateAck m.number past.name)))) past.seen
 
 -- the date of a peer is its last one once it is set
-dated-is : (p : PeerId) (m : MessageValue) (x : ℕ) (keep : Option Dating) (o : Option Received) → o ≡ Some (record { from = Peer p; taken = Good (Message m) }) → is_date_request m.kind ≡ true → dating_of p x (said o) keep ≡ Some (record { at = x; number = m.number })
-dated-is p m x keep o took request =
+dated-is : (p : PeerId) (m : MessageValue) (x : ℕ) (was : Option Dating) (o : Option Received) → o ≡ Some (record { from = Peer p; taken = Good (Message m) }) → is_date_request m.kind ≡ true → dating_of p x (said o) was ≡ Some (record { at = x; number = m.number })
+dated-is p m x was o took request =
     let same : (p.0 == p.0) ≡ true = eq-eqb p.0 p.0 refl in
-    ap (λ r. dating_of p x (said r) keep) took ∙ ap (λ b. if b && is_date_request m.kind then Some (record { at = x; number = m.number }) else keep) same ∙ ap (λ b. if b then Some (record { at = x; number = m.number }) else keep) request
+    ap (λ r. dating_of p x (said r) was) took ∙ ap (λ b. if b && is_date_request m.kind then Some (record { at = x; number = m.number }) else was) same ∙ ap (λ b. if b then Some (record { at = x; number = m.number }) else was) request
 
 -- who asked for a date: a client, from wherever, or a peer that passes it on
 pub data WhoDates (from : Place) (m : MessageValue) : Type 0 where

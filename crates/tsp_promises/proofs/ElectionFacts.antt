@@ -80,11 +80,11 @@ pub record OpenAt (f : Did) (o seen : List Seen) : Type 0 where
 kept-open : (f d : Did) (o before : List Seen) → boots_after d.deed (boots before) ≡ boots before → stood_after d.deed (Here d ∷ before) (stood before) ≡ stood before → OpenAt f o before → OpenAt f o (Here d ∷ before)
 kept-open f d o before same role h = record { place = inr h.place; life = h.life ∙ sym same; after = λ s i e. h.after s i (sym role ∙ e) }
 
-open-post : (f d : Did) (o before keep : List Seen) (b : Bool) → cond b (Here d ∷ before) keep ≡ Here f ∷ o → boots_after d.deed (boots before) ≡ boots before → stood_after d.deed (Here d ∷ before) (stood before) ≡ stood before → (keep ≡ Here f ∷ o → OpenAt f o before) → OpenAt f o (Here d ∷ before)
-open-post f d o before keep true e same role h =
+open-post : (f d : Did) (o before was : List Seen) (b : Bool) → cond b (Here d ∷ before) was ≡ Here f ∷ o → boots_after d.deed (boots before) ≡ boots before → stood_after d.deed (Here d ∷ before) (stood before) ≡ stood before → (was ≡ Here f ∷ o → OpenAt f o before) → OpenAt f o (Here d ∷ before)
+open-post f d o before was true e same role h =
     let rest : before ≡ o = cc in
     record { place = inl (sym e); life = ap boots (sym e); after = λ s i k. subst (λ w. Within (s ∷ i) w) rest (stood_at before s i (sym role ∙ k)).place }
-open-post f d o before keep false e same role h = kept-open f d o before same role (h e)
+open-post f d o before was false e same role h = kept-open f d o before same role (h e)
 
 open-deed : (p : PeerId) (f d : Did) (o before : List Seen) (deed : Deed) → deed ≡ d.deed → open_to_after p deed (acting before) (Here d ∷ before) (open_to p before) ≡ Here f ∷ o → (open_to p before ≡ Here f ∷ o → OpenAt f o before) → OpenAt f o (Here d ∷ before)
 open-deed p f d o before (Acts Boot) is e h = nil-cons (Here f) o e

@@ -12,7 +12,7 @@ use Rattle.tsp_base.proofs.PlaceLemmas.{Within-tail}
 use Rattle.tsp_base.proofs.Views.{plain_view}
 use Rattle.tsp_promises.specs.Since.{OneLife}
 use Rattle.tsp_promises.proofs.BestProof.{best_at}
-use Rattle.tsp_promises.proofs.CastProof.{cast_kind, taking_of}
+use Rattle.tsp_promises.proofs.FromRoundProof.{cast_kind, taking_of}
 use Rattle.tsp_promises.proofs.EverywhereLemmas.{Everywhere-from}
 use Rattle.tsp_promises.proofs.HistoryPlaces.{of-own, Within-of}
 use Rattle.tsp_promises.proofs.Locating.{fits_in, line_on, locate}

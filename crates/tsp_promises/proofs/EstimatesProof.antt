@@ -13,7 +13,7 @@ use Rattle.tsp_promises.specs.RoundFits.{CloseFits}
 use Rattle.tsp_promises.specs.Setting.{Setting}
 use Rattle.tsp_promises.specs.StepFacts.{closed}
 use Rattle.tsp_base.proofs.PlaceLemmas.{Within-through, Within-tail}
-use Rattle.tsp_promises.proofs.CastProof.{corrects-adj}
+use Rattle.tsp_promises.proofs.FromRoundProof.{corrects-adj}
 use Rattle.tsp_promises.proofs.Clocks.{drift_apart}
 use Rattle.tsp_promises.proofs.EverywhereLemmas.{Everywhere-from}
 use Rattle.tsp_promises.proofs.Given.{Given, given_at}

@@ -39,11 +39,11 @@ abbrev pub Heeds : ℕ → Past → Type 0
 Heeds x past = unheeded past.peers past.seen ≡ None
 
 -- calm acts leave nothing to heed
-calm-deed : (strange moving : Bool) (peers : List PeerId) (n : ℕ) (r : Role) (a : Act) (keep : Option PeerId) → is_calm_act strange moving a ≡ true → keep ≡ None → unheeded_after peers n (Acts a) r keep ≡ None
-calm-deed strange moving peers n r Boot keep c e = absurd (true≢false (sym c))
-calm-deed strange moving peers n r (Took from t) keep c e = absurd (true≢false (sym c))
-calm-deed strange moving peers n r (Quit p) keep c e = refl
-calm-deed strange moving peers n r _ keep c e = e
+calm-deed : (strange moving : Bool) (peers : List PeerId) (n : ℕ) (r : Role) (a : Act) (was : Option PeerId) → is_calm_act strange moving a ≡ true → was ≡ None → unheeded_after peers n (Acts a) r was ≡ None
+calm-deed strange moving peers n r Boot was c e = absurd (true≢false (sym c))
+calm-deed strange moving peers n r (Took from t) was c e = absurd (true≢false (sym c))
+calm-deed strange moving peers n r (Quit p) was c e = refl
+calm-deed strange moving peers n r _ was c e = e
 
 calm-heeds : (strange moving : Bool) (step : Step) (x : ℕ) (peers : List PeerId) (acts : List Act) (seen : List Seen) → is_calm strange moving acts ≡ true → unheeded peers seen ≡ None → unheeded peers (added step x acts seen) ≡ None
 calm-heeds strange moving step x peers [] seen c e = e
@@ -60,11 +60,11 @@ heeds-family : Family (λ stirred. Heeds)
 heeds-family = record { still = λ x past a e h. h; moved = λ x past a e h. h; weaken = λ x past h. h; abandons = λ x past h. h; shut = λ x past e h. h }
 
 -- nor is anything to be heeded where nothing was taken
-untaken-deed : (peers : List PeerId) (n : ℕ) (deed : Deed) (r : Role) (took : Option Received) (keep : Option PeerId) → (took ≡ None → keep ≡ None) → taken_after deed took ≡ None → unheeded_after peers n deed r keep ≡ None
-untaken-deed peers n Begins r took keep h e = refl
-untaken-deed peers n (Acts (Took from t)) r took keep h e = let bad : ⊥ = cc in absurd bad
-untaken-deed peers n (Acts (Quit p)) r took keep h e = refl
-untaken-deed peers n _ r took keep h e = h e
+untaken-deed : (peers : List PeerId) (n : ℕ) (deed : Deed) (r : Role) (took : Option Received) (was : Option PeerId) → (took ≡ None → was ≡ None) → taken_after deed took ≡ None → unheeded_after peers n deed r was ≡ None
+untaken-deed peers n Begins r took was h e = refl
+untaken-deed peers n (Acts (Took from t)) r took was h e = let bad : ⊥ = cc in absurd bad
+untaken-deed peers n (Acts (Quit p)) r took was h e = refl
+untaken-deed peers n _ r took was h e = h e
 
 pub untaken_heeds : (peers : List PeerId) (seen : List Seen) → taken seen ≡ None → unheeded peers seen ≡ None
 untaken_heeds peers [] e = refl

@@ -103,8 +103,8 @@ abbrev pub then_step : Step → List Placed → List Line → List Line
 then_step step acts history = stepped step step.at acts history
 
 abbrev pub post_here : ℕ → Deed → ℕ → List Line → List Line → List Line
-post_here k (Acts (Post to datagram)) n here keep = if n == k then here else keep
-post_here k _ n here keep = keep
+post_here k (Acts (Post to datagram)) n here was = if n == k then here else was
+post_here k _ n here was = was
 
 -- the place of the post number k
 abbrev pub post_at : ℕ → List Line → List Line

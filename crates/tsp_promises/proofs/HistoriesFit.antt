@@ -101,11 +101,11 @@ pub record Found (k : ℕ) (h : List Line) (post : Line) (older : List Line) : T
   pub place : Within (post ∷ older) h
   pub number : posted (dids older) ≡ k
 
-found-cond : (k n : ℕ) (l : Line) (t keep : List Line) (post : Line) (older : List Line) → n ≡ posted (dids t) → (b : Bool) → (n == k) ≡ b → cond b (l ∷ t) keep ≡ post ∷ older → (keep ≡ post ∷ older → Found k t post older) → Found k (l ∷ t) post older
-found-cond k n l t keep post older is true b e h =
+found-cond : (k n : ℕ) (l : Line) (t was : List Line) (post : Line) (older : List Line) → n ≡ posted (dids t) → (b : Bool) → (n == k) ≡ b → cond b (l ∷ t) was ≡ post ∷ older → (was ≡ post ∷ older → Found k t post older) → Found k (l ∷ t) post older
+found-cond k n l t was post older is true b e h =
     let rest : t ≡ older = cc in
     record { place = inl (sym e); number = ap (λ z. posted (dids z)) (sym rest) ∙ (sym is ∙ eqb-true n k b) }
-found-cond k n l t keep post older is false b e h = let o = h e in record { place = inr o.place; number = o.number }
+found-cond k n l t was post older is false b e h = let o = h e in record { place = inr o.place; number = o.number }
 
 pub post-found : (k : ℕ) (h : List Line) (post : Line) (older : List Line) → post_at k h ≡ post ∷ older → Found k h post older
 post-found k [] post older e = let bad : ⊥ = cc in absurd bad

@@ -130,13 +130,13 @@ pub record AskedLate (seen : List Seen) (tick : ℕ) : Type 0 where
   pub is : last_asked seen ≡ Some last
   pub by : tick ≤ last
 
-asked-deed : (deed : Deed) (begins : Bool) (x n tick last : ℕ) (keep : Option ℕ) → lives_after deed n ≡ n → tick ≤ x → keep ≡ Some last → tick ≤ last → (y : ℕ) × ((last_asked_after deed begins x keep ≡ Some y) × (tick ≤ y))
-asked-deed (Acts Boot) begins x n tick last keep v h e k = absurd (omega arith)
-asked-deed (Acts (Post to (Message m))) begins x n tick last keep v h e k = by-test (is_set_date_request m.kind && begins) where
-  by-test : (b : Bool) → (y : ℕ) × ((cond b (Some x) keep ≡ Some y) × (tick ≤ y))
+asked-deed : (deed : Deed) (begins : Bool) (x n tick last : ℕ) (was : Option ℕ) → lives_after deed n ≡ n → tick ≤ x → was ≡ Some last → tick ≤ last → (y : ℕ) × ((last_asked_after deed begins x was ≡ Some y) × (tick ≤ y))
+asked-deed (Acts Boot) begins x n tick last was v h e k = absurd (omega arith)
+asked-deed (Acts (Post to (Message m))) begins x n tick last was v h e k = by-test (is_set_date_request m.kind && begins) where
+  by-test : (b : Bool) → (y : ℕ) × ((cond b (Some x) was ≡ Some y) × (tick ≤ y))
   by-test true = (x, (refl, h))
   by-test false = (last, (e, k))
-asked-deed _ begins x n tick last keep v h e k = (last, (e, k))
+asked-deed _ begins x n tick last was v h e k = (last, (e, k))
 
 pub asked_late : (setting : Setting) (q : Port) (p : PeerId) (m : MessageValue) (x : Line) (rest t : List Line) → OwnFits setting t → x.did.deed ≡ Acts (Post (Peer p) (Message m)) → is_set_date_request m.kind ≡ true → acting (view q rest) ≡ true → Sees q x →
     Within (x ∷ rest) t → lives (dids (x ∷ rest)) ≡ lives (dids t) → AskedLate (view q t) x.did.tick

@@ -16,14 +16,14 @@ pub record LastPost (p : PeerId) (seen : List Seen) (tick : ℕ) : Type 0 where
   pub is : last_post p seen ≡ Some last
   pub by : tick ≤ last
 
-last-cond : (b : Bool) (x tick : ℕ) (keep : Option ℕ) (last : ℕ) → tick ≤ x → keep ≡ Some last → tick ≤ last → (y : ℕ) × ((cond b (Some x) keep ≡ Some y) × (tick ≤ y))
-last-cond true x tick keep last h e k = (x, (refl, h))
-last-cond false x tick keep last h e k = (last, (e, k))
+last-cond : (b : Bool) (x tick : ℕ) (was : Option ℕ) (last : ℕ) → tick ≤ x → was ≡ Some last → tick ≤ last → (y : ℕ) × ((cond b (Some x) was ≡ Some y) × (tick ≤ y))
+last-cond true x tick was last h e k = (x, (refl, h))
+last-cond false x tick was last h e k = (last, (e, k))
 
-post-deed : (p : PeerId) (deed : Deed) (x n tick : ℕ) (keep : Option ℕ) (last : ℕ) → lives_after deed n ≡ n → tick ≤ x → keep ≡ Some last → tick ≤ last → (y : ℕ) × ((last_post_after p deed x keep ≡ Some y) × (tick ≤ y))
-post-deed p (Acts Boot) x n tick keep last v h e k = absurd (omega arith)
-post-deed p (Acts (Post (Peer q) (Message m))) x n tick keep last v h e k = last-cond ((q.0 == p.0) && is_correction m.kind) x tick keep last h e k
-post-deed p _ x n tick keep last v h e k = (last, (e, k))
+post-deed : (p : PeerId) (deed : Deed) (x n tick : ℕ) (was : Option ℕ) (last : ℕ) → lives_after deed n ≡ n → tick ≤ x → was ≡ Some last → tick ≤ last → (y : ℕ) × ((last_post_after p deed x was ≡ Some y) × (tick ≤ y))
+post-deed p (Acts Boot) x n tick was last v h e k = absurd (omega arith)
+post-deed p (Acts (Post (Peer q) (Message m))) x n tick was last v h e k = last-cond ((q.0 == p.0) && is_correction m.kind) x tick was last h e k
+post-deed p _ x n tick was last v h e k = (last, (e, k))
 
 post-here : (p : PeerId) (m : MessageValue) (t : Did) (b : List Seen) → t.deed ≡ Acts (Post (Peer p) (Message m)) → is_correction m.kind ≡ true → last_post p (Here t ∷ b) ≡ Some t.tick
 post-here p m t b act kind =

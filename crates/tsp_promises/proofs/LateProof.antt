@@ -29,9 +29,9 @@ pub record LastHere (p : PeerId) (d : Did) (before : List Seen) (first : Did) (o
   pub message : MessageValue
   pub corrects : CorrectsTo p message first older
 
-last-post : (p q : PeerId) (m : MessageValue) (d : Did) (before : List Seen) (first : Did) (older keep : List Seen) → Acts (Post (Peer q) (Message m)) ≡ d.deed → (b : Bool) → ((q.0 == p.0) && (is_correction m.kind && acting before)) ≡ b →
-    cond b (Here d ∷ before) keep ≡ Here first ∷ older → LastHere p d before first older ⊎ (keep ≡ Here first ∷ older)
-last-post p q m d before first older keep is true e h =
+last-post : (p q : PeerId) (m : MessageValue) (d : Did) (before : List Seen) (first : Did) (older was : List Seen) → Acts (Post (Peer q) (Message m)) ≡ d.deed → (b : Bool) → ((q.0 == p.0) && (is_correction m.kind && acting before)) ≡ b →
+    cond b (Here d ∷ before) was ≡ Here first ∷ older → LastHere p d before first older ⊎ (was ≡ Here first ∷ older)
+last-post p q m d before first older was is true e h =
     let one = and_parts (q.0 == p.0) (is_correction m.kind && acting before) e in
     let two = and_parts (is_correction m.kind) (acting before) one.1 in
     let same : q ≡ p = same_peer q p one.0 in
@@ -47,7 +47,7 @@ last-post p q m d before first older keep is true e h =
         begins = subst (λ k. acting k ≡ true) rest two.1;
       };
     })
-last-post p q m d before first older keep is false e h = inr h
+last-post p q m d before first older was is false e h = inr h
 
 pub last-deed : (p : PeerId) (d : Did) (before : List Seen) (first : Did) (older : List Seen) (deed : Deed) → deed ≡ d.deed → last_to_after p deed (acting before) (Here d ∷ before) (last_to p before) ≡ Here first ∷ older →
     LastHere p d before first older ⊎ (last_to p before ≡ Here first ∷ older)

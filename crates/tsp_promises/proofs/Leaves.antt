@@ -32,19 +32,19 @@ pub some-same : {A : Type 0} (a b : A) → Some a ≡ Some b → a ≡ b
 some-same a b e = cc
 
 -- an exchange that is open after a sample was open before
-kept-asked : {B : Type 0} (b : Bool) (keep : List Seen) (s : Seen) (older : List Seen) → (keep ≡ s ∷ older → B) → (if b then [] else keep) ≡ s ∷ older → B
-kept-asked true keep s older old e = nil-cons s older e
-kept-asked false keep s older old e = old e
+kept-asked : {B : Type 0} (b : Bool) (was : List Seen) (s : Seen) (older : List Seen) → (was ≡ s ∷ older → B) → (if b then [] else was) ≡ s ∷ older → B
+kept-asked true was s older old e = nil-cons s older e
+kept-asked false was s older old e = old e
 
 -- a vote that is asked for after a send has ended was asked for before
-kept-vote : {B : Type 0} (b : Bool) (keep : List Seen) → (asks_vote (message_at keep) ≡ true → B) → asks_vote (message_at (cond b [] keep)) ≡ true → B
-kept-vote true keep old e = absurd (true≢false (sym e))
-kept-vote false keep old e = old e
+kept-vote : {B : Type 0} (b : Bool) (was : List Seen) → (asks_vote (message_at was) ≡ true → B) → asks_vote (message_at (cond b [] was)) ≡ true → B
+kept-vote true was old e = absurd (true≢false (sym e))
+kept-vote false was old e = old e
 
 -- a peer that is asked isn't the new backer, whose send has ended
-new-backer : (p q : PeerId) (keep : List Seen) (bs : List PeerId) → (q ≡ p → keep ≡ []) → asks_vote (message_at keep) ≡ true → is_among q bs ≡ false → (b : Bool) → (p.0 == q.0) ≡ b → (b || is_among q bs) ≡ false
-new-backer p q keep bs ended e old true same = absurd (true≢false (sym (subst (λ place. asks_vote (message_at place) ≡ true) (ended (sym (same_peer p q same))) e)))
-new-backer p q keep bs ended e old false same = old
+new-backer : (p q : PeerId) (was : List Seen) (bs : List PeerId) → (q ≡ p → was ≡ []) → asks_vote (message_at was) ≡ true → is_among q bs ≡ false → (b : Bool) → (p.0 == q.0) ≡ b → (b || is_among q bs) ≡ false
+new-backer p q was bs ended e old true same = absurd (true≢false (sym (subst (λ place. asks_vote (message_at place) ≡ true) (ended (sym (same_peer p q same))) e)))
+new-backer p q was bs ended e old false same = old
 
 -- an exchange of a port that is stirred now
 pub stir : {stirred : Bool} {close : Option ℕ} {nc nl nd nm w : ℕ} {s : Seen} {older : List Seen} → Asked stirred close nc nl w s older → Asked true close nd nm w s older

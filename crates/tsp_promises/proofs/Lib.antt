@@ -21,8 +21,8 @@ pub mod BrokenReadings
 pub mod BrokenRoles
 pub mod BrokenRounds
 pub mod BrokenSends
-pub mod CastBy
-pub mod CastProof
+pub mod FromRoundBy
+pub mod FromRoundProof
 pub mod ChainProof
 pub mod ChainedProof
 pub mod Changes
@@ -144,7 +144,7 @@ mod VoteProof
 pub mod WindowLeads
 pub mod WitnessAgain
 pub mod WitnessAnswered
-pub mod WitnessCasts
+pub mod WitnessFromRounds
 pub mod WitnessChain
 pub mod WitnessDated
 pub mod WitnessDates

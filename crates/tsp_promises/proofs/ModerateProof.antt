@@ -17,7 +17,7 @@ use Rattle.tsp_promises.specs.RoundFits.{group_mean}
 use Rattle.tsp_promises.specs.Setting.{Setting, setup_of}
 use Rattle.tsp_base.proofs.ViewPlaces.{or-false, port-same}
 use Rattle.tsp_promises.proofs.BestProof.{some-is}
-use Rattle.tsp_promises.proofs.CastProof.{amount-adj, corrects-adj}
+use Rattle.tsp_promises.proofs.FromRoundProof.{amount-adj, corrects-adj}
 use Rattle.tsp_promises.proofs.Correcting.{heard_as}
 use Rattle.tsp_promises.proofs.EstimatesProof.{at-close, ended_near}
 use Rattle.tsp_promises.proofs.EverywhereLemmas.{Everywhere-from}

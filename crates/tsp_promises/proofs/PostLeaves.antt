@@ -23,9 +23,9 @@ post-vote p q m d before bs deed new old true test e =
 post-vote p q m d before bs deed new old false test e = old e
 
 -- an exchange that is open after a request: the new one or an older one
-request-asked : (stirred : Bool) (d : Did) (seen : List Seen) (close : Option ℕ) (w at : ℕ) → close ≡ Some at → word_asked (Here d ∷ seen) ≡ w → (b : Bool) (keep : List Seen) (s : Seen) (older : List Seen) →
-    (keep ≡ s ∷ older → Asked stirred close (all_corrects (plain seen)) (lives (plain seen)) w s older) → (if b then Here d ∷ seen else keep) ≡ s ∷ older → Asked stirred close (all_corrects (plain seen)) (lives (plain seen)) w s older
-request-asked stirred d seen close w at goes is true keep s older old e =
+request-asked : (stirred : Bool) (d : Did) (seen : List Seen) (close : Option ℕ) (w at : ℕ) → close ≡ Some at → word_asked (Here d ∷ seen) ≡ w → (b : Bool) (was : List Seen) (s : Seen) (older : List Seen) →
+    (was ≡ s ∷ older → Asked stirred close (all_corrects (plain seen)) (lives (plain seen)) w s older) → (if b then Here d ∷ seen else was) ≡ s ∷ older → Asked stirred close (all_corrects (plain seen)) (lives (plain seen)) w s older
+request-asked stirred d seen close w at goes is true was s older old e =
     let same : Here d ≡ s = cc in
     let rest : seen ≡ older = cc in
     record {
@@ -37,12 +37,12 @@ request-asked stirred d seen close w at goes is true keep s older old e =
       corrects = λ calm. ap (λ z. all_corrects (plain z)) (sym rest);
       life = λ calm. ap (λ z. lives (plain z)) (sym rest);
     }
-request-asked stirred d seen close w at goes is false keep s older old e = old e
+request-asked stirred d seen close w at goes is false was s older old e = old e
 
 -- what begins no send opens none
-unsent : (b : Bool) (here keep : List Seen) → keep ≡ [] → cond (b && false) here keep ≡ []
-unsent true here keep e = e
-unsent false here keep e = e
+unsent : (b : Bool) (here was : List Seen) → was ≡ [] → cond (b && false) here was ≡ []
+unsent true here was e = e
+unsent false here was e = e
 
 -- what is known of a port whose quiet time is over, after a post
 pub post_knows : {stirred : Bool} (x : ℕ) (past : Past) (p : PeerId) (m : MessageValue) → ((q : PeerId) → is_kind_election m.kind ≡ true → acting past.seen ≡ true → is_among q (backers past.seen) ≡ false) → boot_tick (plain past.seen) + QUIET ≤ x → KnowsOf stirred x past.own past.seen →

@@ -2,7 +2,7 @@
 use Rattle.std.specs.Prelude.{◌≤◌, ◌≤ℤ◌, ℕ, ◌+◌, ◌-◌, ◌*◌, ℤ, pos, ◌+ℤ◌, ◌-ℤ◌, nat_abs, List, [], ◌∷◌}
 use Rattle.std.proofs.Common.{arith, subst, sym}
 use Rattle.std.proofs.lemmas.Int.{ints}
-use Rattle.tsp_promises.specs.Agreed.{Cast}
+use Rattle.tsp_promises.specs.Agreed.{FromRound}
 use Rattle.tsp_promises.specs.Chained.{ChainAgrees, Hop, Hops}
 use Rattle.tsp_promises.specs.ClockAt.{clock_at}
 use Rattle.tsp_promises.specs.Fits.{node_of}
@@ -23,8 +23,8 @@ relay_agrees : (setting : Setting) (h : List Line) (t : ℕ) → ChainAgrees set
 relay_agrees setting h t down g m close shut cpast spast c d past qast r q rolder qolder e f x y d_node d_in u v n =
     let first = hop shut spast d qast q qolder f in
     let second = hop close cpast c past r rolder e in
-    let one : Hops m first h = record { cast = y; unchanged = v } in
-    let two : Hops (node_of d) second h = record { cast = subst (λ k. Cast k close cpast c past r rolder e) (sym d_node) x; unchanged = u } in
+    let one : Hops m first h = record { from_round = y; unchanged = v } in
+    let two : Hops (node_of d) second h = record { from_round = subst (λ k. FromRound k close cpast c past r rolder e) (sym d_node) x; unchanged = u } in
     two-links (nat_abs (clock_at setting (node_of c) h t -ℤ clock_at setting m h t)) e f (2 * width setting.drift (t - q.did.step.at)) (2 * width setting.drift (t - r.did.step.at))
     (down m first (second ∷ []) one (two, d_in, tt) n)
 

@@ -36,9 +36,9 @@ pub record ExchangeAt (p : PeerId) (c : ℕ) (post : Did) (older seen : List See
   pub deed : post.deed ≡ Acts (Post (Peer p) (Stamp (Request word c)))
   pub after : (start : Did) (idle : List Seen) → started seen ≡ Here start ∷ idle → Within (Here start ∷ idle) older
 
-exchange-post : (p q : PeerId) (c word counter : ℕ) (d : Did) (before : List Seen) (post : Did) (older keep : List Seen) → Acts (Post (Peer q) (Stamp (Request word counter))) ≡ d.deed → (keep ≡ Here post ∷ older → ExchangeAt p c post older before) →
-    (b : Bool) → ((q.0 == p.0) && (counter == c)) ≡ b → cond b (Here d ∷ before) keep ≡ Here post ∷ older → ExchangeAt p c post older (Here d ∷ before)
-exchange-post p q c word counter d before post older keep is h true b e =
+exchange-post : (p q : PeerId) (c word counter : ℕ) (d : Did) (before : List Seen) (post : Did) (older was : List Seen) → Acts (Post (Peer q) (Stamp (Request word counter))) ≡ d.deed → (was ≡ Here post ∷ older → ExchangeAt p c post older before) →
+    (b : Bool) → ((q.0 == p.0) && (counter == c)) ≡ b → cond b (Here d ∷ before) was ≡ Here post ∷ older → ExchangeAt p c post older (Here d ∷ before)
+exchange-post p q c word counter d before post older was is h true b e =
     let one = and_parts (q.0 == p.0) (counter == c) b in
     let peer : q ≡ p = same_peer q p one.0 in
     let number : counter ≡ c = eqb-true counter c one.1 in
@@ -50,13 +50,13 @@ exchange-post p q c word counter d before post older keep is h true b e =
       deed = ap (λ (k : Did). k.deed) (sym deed) ∙ (sym is ∙ (ap (λ k. Acts (Post (Peer k) (Stamp (Request word counter)))) peer ∙ ap (λ k. Acts (Post (Peer p) (Stamp (Request word k)))) number));
       after = λ start idle s. subst (λ k. Within (Here start ∷ idle) k) rest (started_at before start idle (subst (λ k. started_after k (Here d ∷ before) (started before) ≡ Here start ∷ idle) (sym is) s)).place;
     }
-exchange-post p q c word counter d before post older keep is h false b e =
+exchange-post p q c word counter d before post older was is h false b e =
     let o = h e in
     record { place = inr o.place; word = o.word; deed = o.deed; after = λ start idle s. o.after start idle (subst (λ k. started_after k (Here d ∷ before) (started before) ≡ Here start ∷ idle) (sym is) s) }
 
-exchange-sample : (b : Bool) (keep : List Seen) (post : Did) (older : List Seen) → cond b [] keep ≡ Here post ∷ older → keep ≡ Here post ∷ older
-exchange-sample true keep post older e = nil-cons (Here post) older e
-exchange-sample false keep post older e = e
+exchange-sample : (b : Bool) (was : List Seen) (post : Did) (older : List Seen) → cond b [] was ≡ Here post ∷ older → was ≡ Here post ∷ older
+exchange-sample true was post older e = nil-cons (Here post) older e
+exchange-sample false was post older e = e
 
 later : (p : PeerId) (c : ℕ) (d : Did) (before : List Seen) (post : Did) (older : List Seen) → started (Here d ∷ before) ≡ started before → ExchangeAt p c post older before → ExchangeAt p c post older (Here d ∷ before)
 later p c d before post older s o = record { place = inr o.place; word = o.word; deed = o.deed; after = λ start idle e. o.after start idle (sym s ∙ e) }

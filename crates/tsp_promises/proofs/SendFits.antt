@@ -21,13 +21,13 @@ pub record Began (setup : Setup) (p : PeerId) (seen : List Seen) : Type 0 where
   pub role_is : role seen ≡ role older
 
 -- a place that an if gives
-if-nil : {B : Type 0} (b : Bool) (keep : List Seen) (s : Seen) (older : List Seen) → (keep ≡ s ∷ older → B) → cond b [] keep ≡ s ∷ older → B
-if-nil true keep s older k e = nil-cons s older e
-if-nil false keep s older k e = k e
+if-nil : {B : Type 0} (b : Bool) (was : List Seen) (s : Seen) (older : List Seen) → (was ≡ s ∷ older → B) → cond b [] was ≡ s ∷ older → B
+if-nil true was s older k e = nil-cons s older e
+if-nil false was s older k e = k e
 
-if-keep : (b : Bool) (keep : List Seen) (s : Seen) (older : List Seen) → cond b [] keep ≡ s ∷ older → cond b [] keep ≡ keep
-if-keep true keep s older e = nil-cons s older e
-if-keep false keep s older e = refl
+if-keep : (b : Bool) (was : List Seen) (s : Seen) (older : List Seen) → cond b [] was ≡ s ∷ older → cond b [] was ≡ was
+if-keep true was s older e = nil-cons s older e
+if-keep false was s older e = refl
 
 began-post : (setup : Setup) (p q : PeerId) (m : MessageValue) (d : Did) (before : List Seen) (s : Seen) (older : List Seen) → Acts (Post (Peer q) (Message m)) ≡ d.deed → DeedFits setup d.deed d before → (open_to p before ≡ s ∷ older → Began setup p before) →
     (b : Bool) → ((q.0 == p.0) && (is_numbered m.kind && acting before)) ≡ b → cond b (Here d ∷ before) (open_to p before) ≡ s ∷ older →

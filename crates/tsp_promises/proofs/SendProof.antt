@@ -39,9 +39,9 @@ number-same m n e = ap (λ (p : PeerId). p.0) e
 pub one-message : (j k : PeerId) (m n : MessageValue) → Acts (Post (Peer j) (Message m)) ≡ Acts (Post (Peer k) (Message n)) → m ≡ n
 one-message j k m n e = cc
 
-pub if-nil : (b : Bool) (keep : List Seen) (s : Seen) (older : List Seen) → cond b [] keep ≡ s ∷ older → keep ≡ s ∷ older
-if-nil true keep s older e = nil-cons s older e
-if-nil false keep s older e = e
+pub if-nil : (b : Bool) (was : List Seen) (s : Seen) (older : List Seen) → cond b [] was ≡ s ∷ older → was ≡ s ∷ older
+if-nil true was s older e = nil-cons s older e
+if-nil false was s older e = e
 
 -- the last send begins at the newest deed
 pub record BeginsHere (p : PeerId) (d : Did) (before : List Seen) (first : Did) (older : List Seen) : Type 0 where
@@ -50,9 +50,9 @@ pub record BeginsHere (p : PeerId) (d : Did) (before : List Seen) (first : Did) 
   pub message : MessageValue
   pub begins : BeginsSend p message first older
 
-begun-post : (p q : PeerId) (m : MessageValue) (d : Did) (before : List Seen) (first : Did) (older keep : List Seen) → Acts (Post (Peer q) (Message m)) ≡ d.deed → (b : Bool) → ((q.0 == p.0) && (is_numbered m.kind && acting before)) ≡ b →
-    cond b (Here d ∷ before) keep ≡ Here first ∷ older → BeginsHere p d before first older ⊎ (keep ≡ Here first ∷ older)
-begun-post p q m d before first older keep is true e h =
+begun-post : (p q : PeerId) (m : MessageValue) (d : Did) (before : List Seen) (first : Did) (older was : List Seen) → Acts (Post (Peer q) (Message m)) ≡ d.deed → (b : Bool) → ((q.0 == p.0) && (is_numbered m.kind && acting before)) ≡ b →
+    cond b (Here d ∷ before) was ≡ Here first ∷ older → BeginsHere p d before first older ⊎ (was ≡ Here first ∷ older)
+begun-post p q m d before first older was is true e h =
     let one = and_parts (q.0 == p.0) (is_numbered m.kind && acting before) e in
     let two = and_parts (is_numbered m.kind) (acting before) one.1 in
     let same : q ≡ p = same_peer q p one.0 in
@@ -68,7 +68,7 @@ begun-post p q m d before first older keep is true e h =
         begins = subst (λ k. acting k ≡ true) rest two.1;
       };
     })
-begun-post p q m d before first older keep is false e h = inr h
+begun-post p q m d before first older was is false e h = inr h
 
 begun-deed : (p : PeerId) (d : Did) (before : List Seen) (first : Did) (older : List Seen) (deed : Deed) → deed ≡ d.deed →
     begun_to_after p deed (acting before) (Here d ∷ before) (begun_to p before) ≡ Here first ∷ older → BeginsHere p d before first older ⊎ (begun_to p before ≡ Here first ∷ older)

@@ -12,10 +12,10 @@ abbrev pub IsSoundReceived : Option Received → Type 0
 IsSoundReceived None = Unit {0}
 IsSoundReceived (Some r) = IsSoundTaken r.taken
 
-taken-deed : (deed : Deed) (keep : Option Received) → IsSoundDeed deed → IsSoundReceived keep → IsSoundReceived (taken_after deed keep)
-taken-deed Begins keep s k = tt
-taken-deed (Acts (Took from t)) keep s k = s
-taken-deed _ keep s k = k
+taken-deed : (deed : Deed) (was : Option Received) → IsSoundDeed deed → IsSoundReceived was → IsSoundReceived (taken_after deed was)
+taken-deed Begins was s k = tt
+taken-deed (Acts (Took from t)) was s k = s
+taken-deed _ was s k = k
 
 pub taken_sound : (seen : List Seen) → AreSound seen → IsSoundReceived (taken seen)
 taken_sound [] s = tt
@@ -33,10 +33,10 @@ message_name (Some r) s = by_taken r.taken s where
   by_taken (Good (Stamp z)) s = no_name
   by_taken (Bad fault) s = no_name
 
-kept-deed : (deed : Deed) (took : Option Received) (keep : List ℕ) → IsSoundReceived took → IsName keep → IsName (kept_name_after deed took keep)
-kept-deed (Acts Boot) took keep s k = no_name
-kept-deed (Acts (Become (Follow p))) took keep s k = message_name took s
-kept-deed _ took keep s k = k
+kept-deed : (deed : Deed) (took : Option Received) (was : List ℕ) → IsSoundReceived took → IsName was → IsName (kept_name_after deed took was)
+kept-deed (Acts Boot) took was s k = no_name
+kept-deed (Acts (Become (Follow p))) took was s k = message_name took s
+kept-deed _ took was s k = k
 
 -- the name of the master is one
 pub kept_sound : (seen : List Seen) → AreSound seen → IsName (kept_name seen)
@@ -50,17 +50,17 @@ IsSoundHead [] = Unit {0}
 IsSoundHead (Here d ∷ before) = IsSoundDeed d.deed
 IsSoundHead (Elsewhere d ∷ before) = ⊥
 
-head-cond : (b : Bool) (here keep : List Seen) → IsSoundHead here → IsSoundHead keep → IsSoundHead (cond b here keep)
-head-cond true here keep h k = h
-head-cond false here keep h k = k
+head-cond : (b : Bool) (here was : List Seen) → IsSoundHead here → IsSoundHead was → IsSoundHead (cond b here was)
+head-cond true here was h k = h
+head-cond false here was h k = k
 
-open-deed : (p : PeerId) (d : Did) (before : List Seen) (deed : Deed) (begins : Bool) (keep : List Seen) → IsSoundDeed d.deed → IsSoundHead keep → IsSoundHead (open_to_after p deed begins (Here d ∷ before) keep)
-open-deed p d before (Acts Boot) begins keep s k = tt
-open-deed p d before (Acts (Become r)) begins keep s k = tt
-open-deed p d before (Acts (Post (Peer q) (Message m))) begins keep s k = head-cond _ (Here d ∷ before) keep s k
-open-deed p d before (Acts (Acked q)) begins keep s k = head-cond _ [] keep tt k
-open-deed p d before (Acts (Gave q)) begins keep s k = head-cond _ [] keep tt k
-open-deed p d before _ begins keep s k = k
+open-deed : (p : PeerId) (d : Did) (before : List Seen) (deed : Deed) (begins : Bool) (was : List Seen) → IsSoundDeed d.deed → IsSoundHead was → IsSoundHead (open_to_after p deed begins (Here d ∷ before) was)
+open-deed p d before (Acts Boot) begins was s k = tt
+open-deed p d before (Acts (Become r)) begins was s k = tt
+open-deed p d before (Acts (Post (Peer q) (Message m))) begins was s k = head-cond _ (Here d ∷ before) was s k
+open-deed p d before (Acts (Acked q)) begins was s k = head-cond _ [] was tt k
+open-deed p d before (Acts (Gave q)) begins was s k = head-cond _ [] was tt k
+open-deed p d before _ begins was s k = k
 
 open-head : (p : PeerId) (seen : List Seen) → AreSound seen → IsSoundHead (open_to p seen)
 open-head p [] s = tt
@@ -95,16 +95,16 @@ better-sound (Some early) late k h = by_case (int_lt late.trip early.trip) k h w
   by_case true k h = h
   by_case false k h = k
 
-ticket-cond : (b : Bool) (here keep : Option Sampled) → HasTicket here → HasTicket keep → HasTicket (cond b here keep)
-ticket-cond true here keep h k = h
-ticket-cond false here keep h k = k
+ticket-cond : (b : Bool) (here was : Option Sampled) → HasTicket here → HasTicket was → HasTicket (cond b here was)
+ticket-cond true here was h k = h
+ticket-cond false here was h k = k
 
-best-deed : (p : PeerId) (deed : Deed) (here before : List Seen) (keep : Option Sampled) → IsSoundDeed deed → HasTicket keep → HasTicket (best_after p deed here before keep)
-best-deed p (Acts Boot) here before keep s k = tt
-best-deed p (Acts (Become r)) here before keep s k = tt
-best-deed p (Acts (Arm CloseAlarm at)) here before keep s k = tt
-best-deed p (Acts (Sample q counter diff err ticket)) here before keep s k = ticket-cond (q.0 == p.0) _ keep (better-sound keep _ k s) k
-best-deed p _ here before keep s k = k
+best-deed : (p : PeerId) (deed : Deed) (here before : List Seen) (was : Option Sampled) → IsSoundDeed deed → HasTicket was → HasTicket (best_after p deed here before was)
+best-deed p (Acts Boot) here before was s k = tt
+best-deed p (Acts (Become r)) here before was s k = tt
+best-deed p (Acts (Arm CloseAlarm at)) here before was s k = tt
+best-deed p (Acts (Sample q counter diff err ticket)) here before was s k = ticket-cond (q.0 == p.0) _ was (better-sound was _ k s) k
+best-deed p _ here before was s k = k
 
 pub best_sound : (p : PeerId) (seen : List Seen) → AreSound seen → HasTicket (best p seen)
 best_sound p [] s = tt

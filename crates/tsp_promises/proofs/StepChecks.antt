@@ -9,12 +9,12 @@ use Rattle.tsp_promises.proofs.Leaves.{none-among, nil-cons}
 use Rattle.tsp_rules.proofs.GuardFacts.{same_peer}
 
 abbrev asks_after : Deed → Bool → Bool
-asks_after (Acts Boot) keep = false
-asks_after (Acts (Become r)) keep = false
-asks_after (Acts (Arm CloseAlarm at)) keep = false
-asks_after (Acts (Ring CloseAlarm)) keep = false
-asks_after (Acts (Post (Peer q) (Stamp (Request word counter)))) keep = true
-asks_after _ keep = keep
+asks_after (Acts Boot) was = false
+asks_after (Acts (Become r)) was = false
+asks_after (Acts (Arm CloseAlarm at)) was = false
+asks_after (Acts (Ring CloseAlarm)) was = false
+asks_after (Acts (Post (Peer q) (Stamp (Request word counter)))) was = true
+asks_after _ was = was
 
 -- whether an exchange may be open
 abbrev asks : List Seen → Bool
@@ -23,17 +23,17 @@ asks (Here d ∷ before) = asks_after d.deed (asks before)
 asks (Elsewhere d ∷ before) = asks before
 
 abbrev rests_after : Deed → Bool → Bool → Bool
-rests_after (Acts Boot) asking keep = true
-rests_after (Acts (Become r)) asking keep = true
-rests_after (Acts (Arm CloseAlarm at)) asking keep = true
-rests_after (Acts (Ring CloseAlarm)) asking keep = true
-rests_after (Acts (Correct amount stepped shown)) asking keep = if asking then false else keep
-rests_after _ asking keep = keep
+rests_after (Acts Boot) asking was = true
+rests_after (Acts (Become r)) asking was = true
+rests_after (Acts (Arm CloseAlarm at)) asking was = true
+rests_after (Acts (Ring CloseAlarm)) asking was = true
+rests_after (Acts (Correct amount stepped shown)) asking was = if asking then false else was
+rests_after _ asking was = was
 
 abbrev rests_elsewhere : Deed → Bool → Bool → Bool
-rests_elsewhere (Acts Boot) asking keep = false
-rests_elsewhere (Acts (Correct amount stepped shown)) asking keep = if asking then false else keep
-rests_elsewhere _ asking keep = keep
+rests_elsewhere (Acts Boot) asking was = false
+rests_elsewhere (Acts (Correct amount stepped shown)) asking was = if asking then false else was
+rests_elsewhere _ asking was = was
 
 -- whether the clock has rested since an exchange that may be open was begun
 abbrev rests : List Seen → Bool
@@ -41,9 +41,9 @@ rests [] = true
 rests (Here d ∷ before) = rests_after d.deed (asks before) (rests before)
 rests (Elsewhere d ∷ before) = rests_elsewhere d.deed (asks before) (rests before)
 
-if-none : (b : Bool) (keep : List Seen) → keep ≡ [] → cond b [] keep ≡ []
-if-none true keep e = refl
-if-none false keep e = e
+if-none : (b : Bool) (was : List Seen) → was ≡ [] → cond b [] was ≡ []
+if-none true was e = refl
+if-none false was e = e
 
 none-deed : (p : PeerId) (c : ℕ) (deed : Deed) (here before : List Seen) → (asks before ≡ false → exchange p c before ≡ []) → asks_after deed (asks before) ≡ false → exchange_after p c deed here (exchange p c before) ≡ []
 none-deed p c (Acts Boot) here before h e = refl
@@ -65,17 +65,17 @@ none-open p c (Here d ∷ before) e = none-deed p c d.deed (Here d ∷ before) b
 abbrev Quiet : PeerId → ℕ → List Seen → Type 0
 Quiet p c seen = (request : Did) (older : List Seen) → exchange p c seen ≡ Here request ∷ older → Undisturbed (plain older) (plain seen)
 
-no-open : (p : PeerId) (c : ℕ) (before : List Seen) (request : Did) (older : List Seen) (asking keep : Bool) → (asking ≡ false → exchange p c before ≡ []) → (if asking then false else keep) ≡ true → exchange p c before ≡ Here request ∷ older → ⊥
-no-open p c before request older true keep h e open_is = true≢false (sym e)
-no-open p c before request older false keep h e open_is = nil-cons (Here request) older (sym (h refl) ∙ open_is)
+no-open : (p : PeerId) (c : ℕ) (before : List Seen) (request : Did) (older : List Seen) (asking was : Bool) → (asking ≡ false → exchange p c before ≡ []) → (if asking then false else was) ≡ true → exchange p c before ≡ Here request ∷ older → ⊥
+no-open p c before request older true was h e open_is = true≢false (sym e)
+no-open p c before request older false was h e open_is = nil-cons (Here request) older (sym (h refl) ∙ open_is)
 
-quiet-post : (d : Did) (before : List Seen) (request : Did) (older keep : List Seen) (b : Bool) → (keep ≡ Here request ∷ older → Undisturbed (plain older) (plain before)) → cond b (Here d ∷ before) keep ≡ Here request ∷ older → Undisturbed (plain older) (plain before)
-quiet-post d before request older keep true h e = let same : before ≡ older = cc in subst (λ z. Undisturbed (plain z) (plain before)) same (record { corrects = refl; lives = refl })
-quiet-post d before request older keep false h e = h e
+quiet-post : (d : Did) (before : List Seen) (request : Did) (older was : List Seen) (b : Bool) → (was ≡ Here request ∷ older → Undisturbed (plain older) (plain before)) → cond b (Here d ∷ before) was ≡ Here request ∷ older → Undisturbed (plain older) (plain before)
+quiet-post d before request older was true h e = let same : before ≡ older = cc in subst (λ z. Undisturbed (plain z) (plain before)) same (record { corrects = refl; lives = refl })
+quiet-post d before request older was false h e = h e
 
-quiet-sample : (request : Did) (older keep : List Seen) (b : Bool) → cond b [] keep ≡ Here request ∷ older → keep ≡ Here request ∷ older
-quiet-sample request older keep true e = nil-cons (Here request) older e
-quiet-sample request older keep false e = e
+quiet-sample : (request : Did) (older was : List Seen) (b : Bool) → cond b [] was ≡ Here request ∷ older → was ≡ Here request ∷ older
+quiet-sample request older was true e = nil-cons (Here request) older e
+quiet-sample request older was false e = e
 
 quiet-deed : (p : PeerId) (c : ℕ) (d : Did) (deed : Deed) (before : List Seen) → deed ≡ d.deed → (rests before ≡ true → Quiet p c before) → rests_after deed (asks before) (rests before) ≡ true → (request : Did) (older : List Seen) →
     exchange_after p c deed (Here d ∷ before) (exchange p c before) ≡ Here request ∷ older → Undisturbed (plain older) (plain (Here d ∷ before))

@@ -18,20 +18,20 @@ abbrev Counted : List Seen → ℕ → ℕ → Type 0
 Counted place had posts = (place ≡ []) ⊎ (had ≡ posts)
 
 -- an end of the open send, or of another
-ended : (b : Bool) (keep : List Seen) (had posts : ℕ) → Counted keep had posts → Counted (if b then [] else keep) had (if b then 0 else posts)
-ended true keep had posts h = inl refl
-ended false keep had posts h = h
+ended : (b : Bool) (was : List Seen) (had posts : ℕ) → Counted was had posts → Counted (if b then [] else was) had (if b then 0 else posts)
+ended true was had posts h = inl refl
+ended false was had posts h = h
 
 -- a post of the send, its first one or a repeat, or of another
-posted : (mine numbered begins : Bool) (here keep : List Seen) (had posts : ℕ) → Counted keep had posts →
-    Counted (if mine && (numbered && begins) then here else keep) (if mine && numbered then (if begins then 1 else had + 1) else had) (if mine && numbered then (if begins then 1 else posts + 1) else posts)
-posted true true true here keep had posts h = inr refl
-posted true true false here keep had posts h = elim h [
+posted : (mine numbered begins : Bool) (here was : List Seen) (had posts : ℕ) → Counted was had posts →
+    Counted (if mine && (numbered && begins) then here else was) (if mine && numbered then (if begins then 1 else had + 1) else had) (if mine && numbered then (if begins then 1 else posts + 1) else posts)
+posted true true true here was had posts h = inr refl
+posted true true false here was had posts h = elim h [
   | inl e ↦ inl e
   | inr e ↦ inr (ap (λ n. n + 1) e)
 ]
-posted true false begins here keep had posts h = h
-posted false numbered begins here keep had posts h = h
+posted true false begins here was had posts h = h
+posted false numbered begins here was had posts h = h
 
 counted-deed : (p : PeerId) (d : Did) (before : List Seen) (deed : Deed) → Counted (open_to p before) (sent p before) (posts_of p before) →
     Counted (open_to_after p deed (acting before) (Here d ∷ before) (open_to p before)) (sent_after p deed (acting before) (sent p before)) (posts_of_after p deed (acting before) (posts_of p before))

@@ -9,7 +9,7 @@ use Rattle.tsp_promises.specs.Setting.{Setting}
 use Rattle.tsp_promises.specs.Throughout.{BoundAt, BoundsLast, PeersBound, Throughout, moved_since}
 use Rattle.tsp_promises.proofs.AgreedProof.{core}
 use Rattle.tsp_promises.proofs.AgreedSums.{triangle}
-use Rattle.tsp_promises.proofs.CastProof.{Met, whole}
+use Rattle.tsp_promises.proofs.FromRoundProof.{Met, whole}
 use Rattle.tsp_promises.proofs.EverywhereLemmas.{Everywhere-from}
 use Rattle.tsp_promises.proofs.Given.{Given, given_at}
 use Rattle.tsp_promises.proofs.MasterMoved.{same-mean}
@@ -27,7 +27,7 @@ bound_at : (setting : Setting) (h : List Line) (t : ℕ) → Given setting h →
 bound_at setting h t g by m close cpast mean c past r older err s =
     let k = node_of c in
     let gc = given_at setting (c ∷ past) h g s.within in
-    let w = whole setting m close cpast c past r older err gc s.cast in
+    let w = whole setting m close cpast c past r older err gc s.from_round in
     let is : w.mean ≡ mean = same-mean s.count w.count s.lo w.lo s.size w.size mean w.mean (sym s.deed ∙ w.deed) in
     let met = subst (λ z. Met setting m k cpast z c past r older err) is w.met in
     let o = place-time setting (c ∷ past) h g.fits s.within in
@@ -45,8 +45,8 @@ peers_bound setting h t g by m close cpast c d past qast r q rolder qolder e f x
     let l = node_of d in
     let gc = given_at setting (c ∷ past) h g x.within in
     let gd = given_at setting (d ∷ qast) h g y.within in
-    let one = whole setting m close cpast c past r rolder e gc x.cast in
-    let two = whole setting m close cpast d qast q qolder f gd y.cast in
+    let one = whole setting m close cpast c past r rolder e gc x.from_round in
+    let two = whole setting m close cpast d qast q qolder f gd y.from_round in
     let mean : two.mean ≡ one.mean = same-mean one.count two.count one.lo two.lo one.size two.size one.mean two.mean (sym one.deed ∙ two.deed) in
     let met = subst (λ z. Met setting m l cpast z d qast q qolder f) mean two.met in
     let o = place-time setting (c ∷ past) h g.fits x.within in

@@ -3,14 +3,14 @@ use Rattle.std.specs.Prelude.{false, pos, negsuc, [], ◌∷◌, refl}
 use Rattle.std.proofs.Common.{arith, inr}
 use Rattle.tsp_rules.specs.Values.{Post, Close, Correct, Sample, Message, Stamp, AdjTime, TimeBody, Peer, Reply}
 use Rattle.tsp_base.specs.Words.{Came, Turned, Line, of, view, peer_of}
-use Rattle.tsp_promises.specs.Agreed.{Cast}
+use Rattle.tsp_promises.specs.Agreed.{FromRound}
 use Rattle.tsp_promises.specs.Chained.{Hop, Hops, IsChain}
 use Rattle.tsp_promises.specs.ChainUse.{ChainUse}
-use Rattle.tsp_promises.proofs.CastBy.{cast-by}
+use Rattle.tsp_promises.proofs.FromRoundBy.{from_round-by}
 use Rattle.tsp_promises.proofs.Histories.{line, msg, skip, skipped, step_at, still}
 use Rattle.tsp_promises.proofs.PremiseChecks.{kept-by}
 use Rattle.tsp_promises.proofs.StepChecks.{port0, port1}
-use Rattle.tsp_promises.proofs.WitnessCasts.{far-cast, far-close, far-correct, far-reading, near-cast, near-close, near-correct, near-reading}
+use Rattle.tsp_promises.proofs.WitnessFromRounds.{far-from_round, far-close, far-correct, far-reading, near-from_round, near-close, near-correct, near-reading}
 use Rattle.tsp_promises.proofs.WitnessDebts.{not-same}
 use Rattle.tsp_promises.proofs.WitnessRelay.{g17, g19, g20, g23, g25, g26}
 use Rattle.tsp_promises.proofs.WitnessRow.{last, r9, r10, r11, r12, r13, fits}
@@ -24,9 +24,9 @@ last-correct = line (step_at 1008000400 2 (Came 19)) port1 (Correct (pos 101) fa
 abbrev last-reading : Line
 last-reading = line (step_at 1000000300 2 (Came 17)) port1 (Post (Peer (peer_of 3)) (Stamp (Reply last)))
 
-last-cast : Cast 3 last-close (skip 2 r11) last-correct (skip 2 r12) last-reading (skip 1 r9) (pos 401)
-last-cast =
-    cast-by 3 last-close (skip 2 r11) last-correct (skip 2 r12) last-reading (skip 1 r9) (line (step_at 1008000000 3 Turned) port1 (Post (Peer (peer_of 2)) (Message (msg AdjTime 14 (TimeBody (pos 101)))))) (skip 1 r11) (msg AdjTime 14 (TimeBody (pos 101))) (pos 101) false (pos 1008000549)
+last-from_round : FromRound 3 last-close (skip 2 r11) last-correct (skip 2 r12) last-reading (skip 1 r9) (pos 401)
+last-from_round =
+    from_round-by 3 last-close (skip 2 r11) last-correct (skip 2 r12) last-reading (skip 1 r9) (line (step_at 1008000000 3 Turned) port1 (Post (Peer (peer_of 2)) (Message (msg AdjTime 14 (TimeBody (pos 101)))))) (skip 1 r11) (msg AdjTime 14 (TimeBody (pos 101))) (pos 101) false (pos 1008000549)
     (record { counter = 0; diff = negsuc 100; err = pos 401; ticket = 14; trip = pos 801; place = view port1 (of 3 r10) })
     (record { correct = refl; place = skipped 2 (skip 2 r12); cause = refl; deed = refl; took = refl; node = refl; kind = refl; numbered = refl; is = refl })
     (record { closes = skipped 3 (skip 2 r12); node = refl; port = refl; is = refl; best_is = refl })
@@ -42,13 +42,13 @@ abbrev last-hop : Hop
 last-hop = record { close = last-close; cpast = skip 2 r11; correct = last-correct; past = skip 2 r12; reading = last-reading; older = skip 1 r9; err = pos 401 }
 
 near-hops : Hops 0 near-hop r13
-near-hops = record { cast = near-cast; unchanged = record { within = skipped 68 r13; since = record { corrects = refl; lives = refl } } }
+near-hops = record { from_round = near-from_round; unchanged = record { within = skipped 68 r13; since = record { corrects = refl; lives = refl } } }
 
 far-hops : Hops 1 far-hop r13
-far-hops = record { cast = far-cast (pos 152) false (pos 508000398); unchanged = record { within = skipped 47 r13; since = record { corrects = refl; lives = refl } } }
+far-hops = record { from_round = far-from_round (pos 152) false (pos 508000398); unchanged = record { within = skipped 47 r13; since = record { corrects = refl; lives = refl } } }
 
 last-hops : Hops 3 last-hop r13
-last-hops = record { cast = last-cast; unchanged = record { within = skipped 4 r13; since = record { corrects = refl; lives = refl } } }
+last-hops = record { from_round = last-from_round; unchanged = record { within = skipped 4 r13; since = record { corrects = refl; lives = refl } } }
 
 two : IsChain near-hop (far-hop ∷ []) r13
 two = (far-hops, skipped 16 (skip 2 g25), tt)

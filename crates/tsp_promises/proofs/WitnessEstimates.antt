@@ -9,7 +9,7 @@ use Rattle.tsp_promises.specs.StepFacts.{closed}
 use Rattle.tsp_promises.proofs.Histories.{does, msg, skip, skipped, still}
 use Rattle.tsp_promises.proofs.PremiseChecks.{kept-by}
 use Rattle.tsp_promises.proofs.StepChecks.{port0}
-use Rattle.tsp_promises.proofs.WitnessCasts.{answers, closing, sounds}
+use Rattle.tsp_promises.proofs.WitnessFromRounds.{answers, closing, sounds}
 use Rattle.tsp_promises.proofs.WitnessDebts.{not-same}
 use Rattle.tsp_promises.proofs.WitnessUse.{reply1, reply2, w15, w16, w17, w18, w19, w23, fits}
 

@@ -7,7 +7,7 @@ use Rattle.std.proofs.lemmas.Int.{ints}
 use Rattle.tsp_rules.specs.Values.{Took, Post, Ring, Close, Correct, Sample, Acked, Placed, CloseAlarm, Message, Stamp, Good, Ack, AdjTime, SetTime, Nothing, TimeBody, Peer, Request, Reply, SPAN}
 use Rattle.tsp_base.specs.Words.{Came, Turned, Line, of, view, Sampled, ReplyValue, peer_of}
 use Rattle.tsp_group.specs.Groups.{Agree, better, goes_before, group_from}
-use Rattle.tsp_promises.specs.Agreed.{Cast}
+use Rattle.tsp_promises.specs.Agreed.{FromRound}
 use Rattle.tsp_promises.specs.CorrectFits.{ByRound}
 use Rattle.tsp_promises.specs.Estimates.{CloseBegins, Moves}
 use Rattle.tsp_promises.specs.Fits.{Fits}
@@ -15,13 +15,13 @@ use Rattle.tsp_promises.specs.Moderate.{Agrees, Majority, PeerAgrees, estimates_
 use Rattle.tsp_promises.specs.ModerateUse.{ModerateUse}
 use Rattle.tsp_promises.specs.RoundFits.{group_mean}
 use Rattle.tsp_promises.specs.Setting.{setup_of}
-use Rattle.tsp_promises.proofs.CastBy.{cast-by}
-use Rattle.tsp_promises.proofs.CastProof.{taking_of}
+use Rattle.tsp_promises.proofs.FromRoundBy.{from_round-by}
+use Rattle.tsp_promises.proofs.FromRoundProof.{taking_of}
 use Rattle.tsp_promises.proofs.Histories.{line, msg, on, skip, skipped, step_at, still, then_step}
 use Rattle.tsp_promises.proofs.HistoriesFit.{came, step-fits}
 use Rattle.tsp_promises.proofs.PremiseChecks.{kept-by}
 use Rattle.tsp_promises.proofs.StepChecks.{port0}
-use Rattle.tsp_promises.proofs.WitnessCasts.{sounds}
+use Rattle.tsp_promises.proofs.WitnessFromRounds.{sounds}
 use Rattle.tsp_promises.proofs.WitnessDebts.{acked-fits, adjusts-by, closes-by, corrects-by, samples-by}
 use Rattle.tsp_promises.proofs.WitnessUse.{asked, reply1, w15}
 
@@ -151,9 +151,9 @@ two-of-three xs all two = record { more = omega (arith, all, two); agrees = smal
 pub small-agrees : (mean value : ℤ) → Contains (estimates_of (still false) 0 port0 (skip 4 n4)) value → is_small value ≡ true → Agrees (still false) 0 (shut-by mean) (skip 4 n4) value
 small-agrees mean value among small = record { test = is_small; majority = two-of-three (estimates_of (still false) 0 port0 (skip 4 n4)) refl refl; among = among; passes = small }
 
-abbrev pub near-cast : (stepped : Bool) (shown : ℤ) → Cast 0 shuts (skip 4 n4) (line (step_at 408000400 1 (Came 10)) port0 (Correct (pos 50) stepped shown)) (skip 2 n5) sounds (skip 1 w15) (pos 401)
-near-cast stepped shown =
-    cast-by 0 shuts (skip 4 n4) (line (step_at 408000400 1 (Came 10)) port0 (Correct (pos 50) stepped shown)) (skip 2 n5) sounds (skip 1 w15) tells-near (skip 2 n4) (msg AdjTime 10 (TimeBody (pos 50))) (pos 50) stepped shown
+abbrev pub near-from_round : (stepped : Bool) (shown : ℤ) → FromRound 0 shuts (skip 4 n4) (line (step_at 408000400 1 (Came 10)) port0 (Correct (pos 50) stepped shown)) (skip 2 n5) sounds (skip 1 w15) (pos 401)
+near-from_round stepped shown =
+    from_round-by 0 shuts (skip 4 n4) (line (step_at 408000400 1 (Came 10)) port0 (Correct (pos 50) stepped shown)) (skip 2 n5) sounds (skip 1 w15) tells-near (skip 2 n4) (msg AdjTime 10 (TimeBody (pos 50))) (pos 50) stepped shown
     near-sample
     (record { correct = refl; place = skipped 3 (skip 2 n5); cause = refl; deed = refl; took = refl; node = refl; kind = refl; numbered = refl; is = refl })
     (record { closes = skipped 5 (skip 2 n5); node = refl; port = refl; is = refl; best_is = refl })
@@ -227,7 +227,7 @@ moderate_use = record {
     amount = negsuc 50;
     moves = moves-little;
     ends = skipped 4 (skip 2 n5);
-    taking = taking_of 0 shuts (skip 4 n4) moves-near (skip 2 n5) sounds (skip 1 w15) (pos 401) (near-cast false (pos 408000399)) refl;
+    taking = taking_of 0 shuts (skip 4 n4) moves-near (skip 2 n5) sounds (skip 1 w15) (pos 401) (near-from_round false (pos 408000399)) refl;
     kind = refl;
     close_is = refl;
     port = refl;

@@ -5,11 +5,11 @@ use Rattle.std.proofs.lemmas.Int.{ints}
 use Rattle.tsp_promises.specs.PrintsUse.{PrintsUse}
 use Rattle.tsp_promises.specs.SetUse.{SetUse}
 use Rattle.tsp_promises.specs.ShownUse.{ShownUse}
-use Rattle.tsp_promises.proofs.CastProof.{reading_of, taking_of}
+use Rattle.tsp_promises.proofs.FromRoundProof.{reading_of, taking_of}
 use Rattle.tsp_promises.proofs.Histories.{skip, skipped, still}
 use Rattle.tsp_promises.proofs.PremiseChecks.{kept-by}
 use Rattle.tsp_promises.proofs.ReadingChecks.{read-by, read_at-by, unstepped-by}
-use Rattle.tsp_promises.proofs.WitnessCasts.{closing, first, first-cast, sounds}
+use Rattle.tsp_promises.proofs.WitnessFromRounds.{closing, first, first-from_round, sounds}
 use Rattle.tsp_promises.proofs.WitnessDebts.{not-same}
 use Rattle.tsp_promises.proofs.WitnessSets.{set-by, set-source, set-taking, slaveup}
 use Rattle.tsp_promises.proofs.WitnessUse.{w6, w9, w15, w19, w20, w23, fits}
@@ -97,11 +97,11 @@ set_use = record {
   later = first;
   before = skip 2 w20;
   later_in = skipped 11 w23;
-  taking = taking_of 0 closing (skip 4 w19) first (skip 2 w20) sounds (skip 1 w15) (pos 401) first-cast refl;
+  taking = taking_of 0 closing (skip 4 w19) first (skip 2 w20) sounds (skip 1 w15) (pos 401) first-from_round refl;
   adjusts = refl;
   close = closing;
   cpast = skip 4 w19;
   reading = sounds;
   rolder = skip 1 w15;
-  rests = reading_of 0 closing (skip 4 w19) first (skip 2 w20) sounds (skip 1 w15) (pos 401) first-cast refl;
+  rests = reading_of 0 closing (skip 4 w19) first (skip 2 w20) sounds (skip 1 w15) (pos 401) first-from_round refl;
 }

@@ -14,7 +14,7 @@ use Rattle.tsp_promises.proofs.Histories.{line, msg, on, skip, skipped, step_at,
 use Rattle.tsp_promises.proofs.HistoriesFit.{came, step-fits}
 use Rattle.tsp_promises.proofs.PremiseChecks.{kept-by}
 use Rattle.tsp_promises.proofs.StepChecks.{port0}
-use Rattle.tsp_promises.proofs.WitnessCasts.{answers, closing, first, first-cast, second, second-cast, sounds}
+use Rattle.tsp_promises.proofs.WitnessFromRounds.{answers, closing, first, first-from_round, second, second-from_round, sounds}
 use Rattle.tsp_promises.proofs.WitnessDebts.{acked-fits, adjusts-by, closes-by, corrects-by, next-round, not-same, samples-by}
 use Rattle.tsp_promises.proofs.WitnessUse.{w15, w16, w19, w20, w21, w23, fits}
 
@@ -101,13 +101,13 @@ rounds_use = record {
   reading = sounds;
   older = skip 1 w15;
   err = pos 401;
-  since = record { cast = first-cast; within = skipped 33 y6; count = 3; lo = negsuc 150; size = pos 151; deed = refl; one_life = refl; one_life_master = refl };
+  since = record { from_round = first-from_round; within = skipped 33 y6; count = 3; lo = negsuc 150; size = pos 151; deed = refl; one_life = refl; one_life_master = refl };
   other = second;
   qast = skip 2 w21;
   answer = answers;
   qolder = skip 1 w16;
   fault = pos 450;
-  other_since = record { cast = second-cast (pos 67) false (pos 408000499); within = skipped 29 y6; one_life = refl };
+  other_since = record { from_round = second-from_round (pos 67) false (pos 408000499); within = skipped 29 y6; one_life = refl };
   apart = not-same 1 2 (omega arith);
   again = line (step_at 1008000000 0 Turned) port0 (Close 2 (negsuc 19) (pos 20) (negsuc 9));
   gpast = skip 3 y4;

@@ -5,7 +5,7 @@ use Rattle.std.proofs.lemmas.Int.{ints}
 use Rattle.tsp_rules.specs.Values.{Boot, Took, Post, Become, Arm, Ring, Back, Close, Correct, Sample, Placed, Window, Elect, Round, CloseAlarm, Message, Stamp, Good, AdjTime, TimeBody, Peer, Candidate, Master, Request, Reply}
 use Rattle.tsp_base.specs.Words.{Booted, Came, Turned, Line, dids, of, view, peer_of, posted}
 use Rattle.tsp_promises.specs.Fits.{Fits}
-use Rattle.tsp_promises.specs.Agreed.{Cast}
+use Rattle.tsp_promises.specs.Agreed.{FromRound}
 use Rattle.tsp_promises.specs.ClockAt.{clock}
 use Rattle.tsp_promises.specs.Measured.{Measured}
 use Rattle.tsp_promises.specs.SameWords.{MeasuresWrongly, SameWords}
@@ -13,11 +13,11 @@ use Rattle.tsp_promises.proofs.Histories.{line, msg, on, skip, skipped, step_at,
 use Rattle.tsp_promises.proofs.HistoriesFit.{all-finished, came, step-fits}
 use Rattle.tsp_promises.proofs.StepChecks.{port0}
 use Rattle.tsp_promises.proofs.WitnessDebts.{first-round, none-some, samples-by}
-use Rattle.tsp_promises.proofs.CastBy.{cast-by}
+use Rattle.tsp_promises.proofs.FromRoundBy.{from_round-by}
 use Rattle.tsp_promises.proofs.PremiseChecks.{honest-by, life-by}
 use Rattle.tsp_promises.proofs.SendPlaces.{post_unique, same-number}
 use Rattle.tsp_promises.proofs.WitnessAgain.{again, again-fits, v1, v9, v10, v11, v12, v13}
-use Rattle.tsp_promises.proofs.WitnessCasts.{closing, first, first-cast, sounds}
+use Rattle.tsp_promises.proofs.WitnessFromRounds.{closing, first, first-from_round, sounds}
 use Rattle.tsp_promises.proofs.WitnessUse.{reply1, w15, w19, w20, asked as part}
 
 abbrev reboots : Line
@@ -35,9 +35,9 @@ corrects = line (step_at 1008000400 1 (Came 19)) port0 (Correct (pos 51) false (
 abbrev tells : Line
 tells = line (step_at 1000000299 1 (Came 17)) port0 (Post (Peer (peer_of 0)) (Stamp (Reply again)))
 
-second-cast : Cast 0 shuts (skip 3 v11) corrects (skip 2 v12) tells (skip 1 v9) (pos 401)
-second-cast =
-    cast-by 0 shuts (skip 3 v11) corrects (skip 2 v12) tells (skip 1 v9) (line (step_at 1008000000 0 Turned) port0 (Post (Peer (peer_of 1)) (Message (msg AdjTime 12 (TimeBody (pos 51)))))) (skip 1 v11) (msg AdjTime 12 (TimeBody (pos 51))) (pos 51) false (pos 1008000399)
+second-from_round : FromRound 0 shuts (skip 3 v11) corrects (skip 2 v12) tells (skip 1 v9) (pos 401)
+second-from_round =
+    from_round-by 0 shuts (skip 3 v11) corrects (skip 2 v12) tells (skip 1 v9) (line (step_at 1008000000 0 Turned) port0 (Post (Peer (peer_of 1)) (Message (msg AdjTime 12 (TimeBody (pos 51)))))) (skip 1 v11) (msg AdjTime 12 (TimeBody (pos 51))) (pos 51) false (pos 1008000399)
     (record { counter = 0; diff = negsuc 101; err = pos 401; ticket = 12; trip = pos 801; place = view port0 (of 0 v10) })
     (record { correct = refl; place = skipped 2 (skip 2 v12); cause = refl; deed = refl; took = refl; node = refl; kind = refl; numbered = refl; is = refl })
     (record { closes = skipped 4 (skip 2 v12); node = refl; port = refl; is = refl; best_is = refl })
@@ -53,8 +53,8 @@ same_words = record {
   honest = honest-by v13 refl;
   life = life-by v13 refl;
   repeats = record { again = reboots; past = skip 1 v1; again_in = skipped 42 v13; once = boots; older = skip 77 v1; once_in = skipped 75 (skip 1 v1); node = refl; boots = refl; booted = refl; word = 7; wall = pos 500000000; wall_once = pos 0; word_is = refl; word_once = refl };
-  before = record { close = closing; cpast = skip 4 w19; correct = first; past = skip 2 w20; correct_in = skipped 12 (skip 1 v1); reading = sounds; older = skip 1 w15; err = pos 401; cast = first-cast };
-  after = record { close = shuts; cpast = skip 3 v11; correct = corrects; past = skip 2 v12; correct_in = skipped 4 v13; reading = tells; older = skip 1 v9; err = pos 401; cast = second-cast };
+  before = record { close = closing; cpast = skip 4 w19; correct = first; past = skip 2 w20; correct_in = skipped 12 (skip 1 v1); reading = sounds; older = skip 1 w15; err = pos 401; from_round = first-from_round };
+  after = record { close = shuts; cpast = skip 3 v11; correct = corrects; past = skip 2 v12; correct_in = skipped 4 v13; reading = tells; older = skip 1 v9; err = pos 401; from_round = second-from_round };
   begins = skipped 32 (skip 3 v11);
 }
 

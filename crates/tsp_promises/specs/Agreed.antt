@@ -26,7 +26,7 @@ pub record ReadingOf (m : ℕ) (q : Port) (place : List Seen) (world : List Line
 -- this Close of m, the last one in its step and on its port, begins an ADJTIME to the node of the Correct c, and c
 -- takes a post of that send. r is the reading of the best sample that the Close had of that node, and err that sample's
 -- error in microseconds
-pub record Cast (m : ℕ) (close : Line) (cpast : List Line) (c : Line) (past : List Line) (r : Line) (older : List Line) (err : ℤ) : Type 0 where
+pub record FromRound (m : ℕ) (close : Line) (cpast : List Line) (c : Line) (past : List Line) (r : Line) (older : List Line) (err : ℤ) : Type 0 where
   pub post : Line
   pub before : List Line
   pub acts : ActsOn c past post before
@@ -74,13 +74,13 @@ pub record UnchangedBut (m : ℕ) (close : Line) (cpast h : List Line) : Type 0 
 -- clocks since, differ by at most their errors and drift. Drift is twice `width` of the time since each reading
 abbrev pub PeersAgree : Setting → List Line → ℕ → Type 0
 PeersAgree setting h t = (m : ℕ) (close : Line) (cpast : List Line) (c d : Line) (past qast : List Line) (r q : Line) (rolder qolder : List Line) (e f : ℤ) →
-    Cast m close cpast c past r rolder e → Cast m close cpast d qast q qolder f → Unchanged (node_of c) (c ∷ past) h → Unchanged (node_of d) (d ∷ qast) h →
+    FromRound m close cpast c past r rolder e → FromRound m close cpast d qast q qolder f → Unchanged (node_of c) (c ∷ past) h → Unchanged (node_of d) (d ∷ qast) h →
     pos (nat_abs (clock_at setting (node_of c) h t -ℤ clock_at setting (node_of d) h t)) ≤ℤ ((e +ℤ f) +ℤ pos (2 * width setting.drift (t - r.did.step.at) + 2 * width setting.drift (t - q.did.step.at)))
 
 -- the same of a node that a Close corrected and the master that closed: they differ by at most the error and drift
 abbrev pub MasterAgrees : Setting → List Line → ℕ → Type 0
 MasterAgrees setting h t = (m : ℕ) (close : Line) (cpast : List Line) (c : Line) (past : List Line) (r : Line) (rolder : List Line) (e : ℤ) →
-    Cast m close cpast c past r rolder e → Unchanged (node_of c) (c ∷ past) h → UnchangedBut m close cpast h →
+    FromRound m close cpast c past r rolder e → Unchanged (node_of c) (c ∷ past) h → UnchangedBut m close cpast h →
     pos (nat_abs (clock_at setting (node_of c) h t -ℤ clock_at setting m h t)) ≤ℤ (e +ℤ pos (2 * width setting.drift (t - r.did.step.at)))
 
 -- both, after the history h at true time t

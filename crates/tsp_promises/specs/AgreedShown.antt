@@ -1,6 +1,6 @@
 -- The promise that what clocks show agrees where the clocks do, and what a wait is good for.
 use Rattle.std.specs.Prelude.{◌≡◌, ◌≤◌, ◌≤ℤ◌, ℕ, ◌+◌, ◌-◌, ◌*◌, ℤ, pos, ◌+ℤ◌, ◌-ℤ◌, nat_abs, true, List, ◌∷◌}
-use Rattle.tsp_promises.specs.Agreed.{Cast, Unchanged, UnchangedBut}
+use Rattle.tsp_promises.specs.Agreed.{FromRound, Unchanged, UnchangedBut}
 use Rattle.tsp_promises.specs.Chained.{Hop, Hops, IsChain, bound, hop_bound, last_hop, node_at}
 use Rattle.tsp_promises.specs.ClockAt.{clock_at}
 use Rattle.tsp_promises.specs.Everywhere.{Everywhere}
@@ -32,13 +32,13 @@ ShownAsClocks setting h t = (k l : ℕ) (b : ℤ) → up (dids (of k h)) ≡ tru
 -- the shown values of two nodes that one Close corrected, as PeersAgree has it of their clocks
 abbrev pub PeersShown : Setting → List Line → ℕ → Type 0
 PeersShown setting h t = (m : ℕ) (close : Line) (cpast : List Line) (c d : Line) (past qast : List Line) (r q : Line) (rolder qolder : List Line) (e f : ℤ) →
-    Cast m close cpast c past r rolder e → Cast m close cpast d qast q qolder f → Unchanged (node_of c) (c ∷ past) h → Unchanged (node_of d) (d ∷ qast) h →
+    FromRound m close cpast c past r rolder e → FromRound m close cpast d qast q qolder f → Unchanged (node_of c) (c ∷ past) h → Unchanged (node_of d) (d ∷ qast) h →
     ShownWithin setting h t (node_of c) (node_of d) ((e +ℤ f) +ℤ pos (2 * width setting.drift (t - r.did.step.at) + 2 * width setting.drift (t - q.did.step.at)))
 
 -- the same of a node that a Close corrected and the master that closed
 abbrev pub MasterShown : Setting → List Line → ℕ → Type 0
 MasterShown setting h t = (m : ℕ) (close : Line) (cpast : List Line) (c : Line) (past : List Line) (r : Line) (rolder : List Line) (e : ℤ) →
-    Cast m close cpast c past r rolder e → Unchanged (node_of c) (c ∷ past) h → UnchangedBut m close cpast h →
+    FromRound m close cpast c past r rolder e → Unchanged (node_of c) (c ∷ past) h → UnchangedBut m close cpast h →
     ShownWithin setting h t (node_of c) m (e +ℤ pos (2 * width setting.drift (t - r.did.step.at)))
 
 -- the same of the last node of a chain and the master of its first Close (ChainAgrees)

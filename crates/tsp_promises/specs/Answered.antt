@@ -13,9 +13,9 @@ abbrev pub TakesOneAt : Line → List Line → Type 0
 TakesOneAt l world = (from : Place) (taken : Taken) → l.did.deed ≡ Acts (Took from taken) → heard (dids (of (node_of l) world)) ≡ None
 
 abbrev pub has_quit_after : Deed → Bool → Bool
-has_quit_after Begins keep = false
-has_quit_after (Acts (Quit p)) keep = true
-has_quit_after _ keep = keep
+has_quit_after Begins was = false
+has_quit_after (Acts (Quit p)) was = true
+has_quit_after _ was = was
 
 -- whether this step has a Quit, on whatever port
 abbrev pub has_quit : List Did → Bool
@@ -77,9 +77,9 @@ abbrev pub AnswersAt : Line → List Line → Type 0
 AnswersAt l world = (to : Place) (datagram : Datagram) → l.did.deed ≡ Acts (Post to datagram) → is_answer datagram ≡ true → AnswersAsked to l world datagram
 
 abbrev pub has_answered_after : Deed → Bool → Bool
-has_answered_after Begins keep = false
-has_answered_after (Acts (Post Stranger datagram)) keep = true
-has_answered_after _ keep = keep
+has_answered_after Begins was = false
+has_answered_after (Acts (Post Stranger datagram)) was = true
+has_answered_after _ was = was
 
 -- whether this step has posted something to a stranger, on whatever port
 abbrev pub has_answered : List Did → Bool

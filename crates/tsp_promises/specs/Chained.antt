@@ -1,6 +1,6 @@
 -- The promise that clocks along chains of corrected masters agree.
 use Rattle.std.specs.Prelude.{◌≡◌, ◌≤◌, ◌≤ℤ◌, ℕ, ◌-◌, ◌*◌, ℤ, pos, ◌+ℤ◌, ◌-ℤ◌, nat_abs, List, [], ◌∷◌}
-use Rattle.tsp_promises.specs.Agreed.{Cast, Unchanged, UnchangedBut}
+use Rattle.tsp_promises.specs.Agreed.{FromRound, Unchanged, UnchangedBut}
 use Rattle.tsp_promises.specs.ClockAt.{clock_at}
 use Rattle.tsp_promises.specs.Everywhere.{Everywhere}
 use Rattle.tsp_promises.specs.Fits.{node_of}
@@ -38,7 +38,7 @@ bound setting t (x ∷ rest) = bound setting t rest +ℤ hop_bound setting t x
 
 -- a Close of m corrects the link's node, which since then neither booted nor corrected its clock
 pub record Hops (m : ℕ) (x : Hop) (h : List Line) : Type 0 where
-  pub cast : Cast m x.close x.cpast x.correct x.past x.reading x.older x.err
+  pub from_round : FromRound m x.close x.cpast x.correct x.past x.reading x.older x.err
   pub unchanged : Unchanged (node_at x) (x.correct ∷ x.past) h
 
 -- further links: each rests on a Close of the node that the one before it corrects, after that Correct

@@ -2,7 +2,7 @@
 use Rattle.std.specs.Prelude.{◌≡◌, ◌≢◌, ℕ, ℤ, true, List, ◌∷◌}
 use Rattle.tsp_rules.specs.Values.{Post, Acked, Message, PeerId, Peer}
 use Rattle.tsp_base.specs.Words.{Acts, Did, Seen, Here, Line, of, view, MessageValue, Within, is_correction, open_to}
-use Rattle.tsp_promises.specs.Agreed.{Cast, Unchanged, UnchangedBut}
+use Rattle.tsp_promises.specs.Agreed.{FromRound, Unchanged, UnchangedBut}
 use Rattle.tsp_promises.specs.Fits.{node_of}
 use Rattle.tsp_promises.specs.Setting.{Setting}
 use Rattle.tsp_promises.specs.Kept.{Kept}
@@ -28,7 +28,7 @@ pub record Corrected (master : ℕ) (close : Line) (cpast world : List Line) : T
   pub reading : Line
   pub older : List Line
   pub err : ℤ
-  pub cast : Cast master close cpast correct past reading older err
+  pub from_round : FromRound master close cpast correct past reading older err
   pub unchanged : Unchanged (node_of correct) (correct ∷ past) world
 
 -- a Close that corrects two followers, after which its own node is left alone

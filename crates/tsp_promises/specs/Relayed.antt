@@ -1,6 +1,6 @@
 -- The promise that a clock that a corrected master corrects agrees with the first master's.
 use Rattle.std.specs.Prelude.{◌≡◌, ◌≤◌, ◌≤ℤ◌, ℕ, ◌+◌, ◌-◌, ◌*◌, ℤ, pos, ◌+ℤ◌, ◌-ℤ◌, nat_abs, List, ◌∷◌}
-use Rattle.tsp_promises.specs.Agreed.{Cast, Unchanged, UnchangedBut}
+use Rattle.tsp_promises.specs.Agreed.{FromRound, Unchanged, UnchangedBut}
 use Rattle.tsp_promises.specs.ClockAt.{clock_at}
 use Rattle.tsp_promises.specs.Everywhere.{Everywhere}
 use Rattle.tsp_promises.specs.Fits.{node_of}
@@ -12,7 +12,7 @@ use Rattle.tsp_promises.specs.Setting.{Setting}
 -- after its Close, the clocks of k and m differ by at most both errors and drift
 abbrev pub RelayAgrees : Setting → List Line → ℕ → Type 0
 RelayAgrees setting h t = (g m : ℕ) (close shut : Line) (cpast spast : List Line) (c d : Line) (past qast : List Line) (r q : Line) (rolder qolder : List Line) (e f : ℤ) →
-    Cast g close cpast c past r rolder e → Cast m shut spast d qast q qolder f → node_of d ≡ g → Within (d ∷ qast) cpast →
+    FromRound g close cpast c past r rolder e → FromRound m shut spast d qast q qolder f → node_of d ≡ g → Within (d ∷ qast) cpast →
     Unchanged (node_of c) (c ∷ past) h → Unchanged (node_of d) (d ∷ qast) h → UnchangedBut m shut spast h →
     pos (nat_abs (clock_at setting (node_of c) h t -ℤ clock_at setting m h t)) ≤ℤ ((f +ℤ e) +ℤ pos (2 * width setting.drift (t - q.did.step.at) + 2 * width setting.drift (t - r.did.step.at)))
 

@@ -1,6 +1,6 @@
 -- A relayed clock: the promises of gateways aren't empty.
 use Rattle.std.specs.Prelude.{◌≡◌, ◌≢◌, ℕ, ℤ, List, ◌∷◌}
-use Rattle.tsp_promises.specs.Agreed.{Cast, Unchanged, UnchangedBut}
+use Rattle.tsp_promises.specs.Agreed.{FromRound, Unchanged, UnchangedBut}
 use Rattle.tsp_promises.specs.Fits.{node_of}
 use Rattle.tsp_base.specs.Words.{Line, Within}
 use Rattle.tsp_promises.specs.Setting.{Setting}
@@ -28,8 +28,8 @@ pub record Relays : Type 0 where
   pub sounding : Line
   pub solder : List Line
   pub fault : ℤ
-  pub relayed : Cast gateway close cpast correct past reading older err
-  pub corrected : Cast master shut spast first fpast sounding solder fault
+  pub relayed : FromRound gateway close cpast correct past reading older err
+  pub corrected : FromRound master shut spast first fpast sounding solder fault
   pub node : node_of first ≡ gateway
   pub ports : first.port ≢ close.port
   pub before : Within (first ∷ fpast) cpast

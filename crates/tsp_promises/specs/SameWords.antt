@@ -2,7 +2,7 @@
 use Rattle.std.specs.Prelude.{◌≡◌, ℕ, ℤ, List, ◌∷◌}
 use Rattle.tsp_rules.specs.Values.{Boot}
 use Rattle.tsp_base.specs.Words.{Booted, Acts, Line, Within}
-use Rattle.tsp_promises.specs.Agreed.{Cast}
+use Rattle.tsp_promises.specs.Agreed.{FromRound}
 use Rattle.tsp_promises.specs.Fits.{Fits, Finished, node_of}
 use Rattle.tsp_promises.specs.Measured.{Measured}
 use Rattle.tsp_promises.specs.Premises.{Honest, Life}
@@ -35,7 +35,7 @@ pub record Round (m : ℕ) (world : List Line) : Type 0 where
   pub reading : Line
   pub older : List Line
   pub err : ℤ
-  pub cast : Cast m close cpast correct past reading older err
+  pub from_round : FromRound m close cpast correct past reading older err
 
 -- a history that fits, in which no peer's datagram is forged and none outlives LIFE: a master boots again with its old
 -- word, and in each of its two lives a round of it corrects a node

@@ -4,9 +4,9 @@ use Rattle.tsp_rules.specs.Values.{Took, Post, Become, Back, Close, Quit, Messag
 use Rattle.tsp_base.specs.Words.{Did, Deed, Begins, Acts, Seen, Here, Elsewhere, plain, MessageValue, is_among, Received, Said, message_in, role, said, said_by, taken, exchange, Setup, Undisturbed}
 
 abbrev pub backed_after : Deed → Option PeerId → Option PeerId
-backed_after Begins keep = None
-backed_after (Acts (Back p)) keep = Some p
-backed_after _ keep = keep
+backed_after Begins was = None
+backed_after (Acts (Back p)) was = Some p
+backed_after _ was = was
 
 -- the candidate that this step has backed last
 abbrev pub backed : List Seen → Option PeerId
@@ -15,10 +15,10 @@ backed (Here d ∷ before) = backed_after d.deed (backed before)
 backed (Elsewhere d ∷ before) = backed before
 
 abbrev pub is_unbacked_after : Deed → ℕ → Bool → Bool
-is_unbacked_after Begins own keep = false
-is_unbacked_after (Acts (Become Candidate)) own keep = true
-is_unbacked_after (Acts (Back p)) own keep = if p.0 == own then false else keep
-is_unbacked_after _ own keep = keep
+is_unbacked_after Begins own was = false
+is_unbacked_after (Acts (Become Candidate)) own was = true
+is_unbacked_after (Acts (Back p)) own was = if p.0 == own then false else was
+is_unbacked_after _ own was = was
 
 -- whether the port became a candidate in this step and hasn't yet backed itself
 abbrev pub is_unbacked : List Seen → Bool
@@ -27,9 +27,9 @@ is_unbacked (Here d ∷ before) = is_unbacked_after d.deed d.step.node (is_unbac
 is_unbacked (Elsewhere d ∷ before) = is_unbacked before
 
 abbrev pub closed_after : Deed → List Seen → List Seen → List Seen
-closed_after Begins here keep = []
-closed_after (Acts (Close count lo size mean)) here keep = here
-closed_after _ here keep = keep
+closed_after Begins here was = []
+closed_after (Acts (Close count lo size mean)) here was = here
+closed_after _ here was = was
 
 -- the place of the last Close of this step; empty if there is none
 abbrev pub closed : List Seen → List Seen
@@ -38,9 +38,9 @@ closed (Here d ∷ before) = closed_after d.deed (Here d ∷ before) (closed bef
 closed (Elsewhere d ∷ before) = closed before
 
 abbrev pub owes_after : Deed → Role → List PeerId → List PeerId
-owes_after Begins r keep = []
-owes_after (Acts (Quit p)) Master keep = p ∷ keep
-owes_after _ r keep = keep
+owes_after Begins r was = []
+owes_after (Acts (Quit p)) Master was = p ∷ was
+owes_after _ r was = was
 
 -- whom the port must follow at the step's end: each peer whose QUIT it heeded in this step, while it was a master
 abbrev pub owes : List Seen → List PeerId
@@ -62,10 +62,10 @@ unless_starting Starting p = None
 unless_starting _ p = p
 
 abbrev pub unheeded_after : List PeerId → ℕ → Deed → Role → Option PeerId → Option PeerId
-unheeded_after peers n Begins r keep = None
-unheeded_after peers n (Acts (Took from t)) r keep = unless_starting r (quit_by peers n (said_by from (message_in t)))
-unheeded_after peers n (Acts (Quit p)) r keep = None
-unheeded_after peers n _ r keep = keep
+unheeded_after peers n Begins r was = None
+unheeded_after peers n (Acts (Took from t)) r was = unless_starting r (quit_by peers n (said_by from (message_in t)))
+unheeded_after peers n (Acts (Quit p)) r was = None
+unheeded_after peers n _ r was = was
 
 -- the peer whose QUIT this step took on this port, of which these are the peers, as long as no Quit came after it. One
 -- that comes while the port is Starting, or from the node itself, isn't heeded
@@ -79,9 +79,9 @@ if_master Master p = p
 if_master _ p = None
 
 abbrev pub quits_master_after : List PeerId → ℕ → Deed → Role → Option PeerId → Option PeerId
-quits_master_after peers n Begins r keep = None
-quits_master_after peers n (Acts (Took from t)) r keep = if_master r (quit_by peers n (said_by from (message_in t)))
-quits_master_after peers n _ r keep = keep
+quits_master_after peers n Begins r was = None
+quits_master_after peers n (Acts (Took from t)) r was = if_master r (quit_by peers n (said_by from (message_in t)))
+quits_master_after peers n _ r was = was
 
 -- the peer whose QUIT this step took on this port, of which these are the peers, while the port was a master
 abbrev pub quits_master : List PeerId → List Seen → Option PeerId
@@ -99,10 +99,10 @@ acked_by q m None = None
 acked_by q m (Some s) = if (s.from.0 == q.0) && (is_ack m.kind && (m.number == s.message.number)) then None else Some s
 
 abbrev pub unacknowledged_after : Deed → Option Received → Option Said → Option Said
-unacknowledged_after Begins took keep = None
-unacknowledged_after (Acts (Quit p)) took keep = said took
-unacknowledged_after (Acts (Post (Peer q) (Message m))) took keep = acked_by q m keep
-unacknowledged_after _ took keep = keep
+unacknowledged_after Begins took was = None
+unacknowledged_after (Acts (Quit p)) took was = said took
+unacknowledged_after (Acts (Post (Peer q) (Message m))) took was = acked_by q m was
+unacknowledged_after _ took was = was
 
 -- the message for which this step has a Quit, as long as no ACK of its number was posted to its sender
 abbrev pub unacknowledged : List Seen → Option Said
@@ -111,9 +111,9 @@ unacknowledged (Here d ∷ before) = unacknowledged_after d.deed (taken before) 
 unacknowledged (Elsewhere d ∷ before) = unacknowledged before
 
 abbrev pub is_answered_after : Deed → Bool → Bool
-is_answered_after Begins keep = false
-is_answered_after (Acts (Post Stranger datagram)) keep = true
-is_answered_after _ keep = keep
+is_answered_after Begins was = false
+is_answered_after (Acts (Post Stranger datagram)) was = true
+is_answered_after _ was = was
 
 -- whether this step has posted something to a stranger, on this port
 abbrev pub is_answered : List Seen → Bool

@@ -2,7 +2,7 @@
 use Rattle.std.specs.Prelude.{◌≡◌, ◌≤◌, ◌≤ℤ◌, ℕ, ◌+◌, ◌-◌, ◌*◌, ℤ, pos, ◌+ℤ◌, ◌-ℤ◌, nat_abs, List, ◌∷◌}
 use Rattle.tsp_rules.specs.Values.{Close}
 use Rattle.tsp_base.specs.Words.{Acts, Line, of, dids, lives, moved, Within, width}
-use Rattle.tsp_promises.specs.Agreed.{Cast}
+use Rattle.tsp_promises.specs.Agreed.{FromRound}
 use Rattle.tsp_promises.specs.ClockAt.{clock_at}
 use Rattle.tsp_promises.specs.Everywhere.{Everywhere}
 use Rattle.tsp_promises.specs.Fits.{node_of}
@@ -14,7 +14,7 @@ moved_since n s h = moved (dids (of n h)) -ℤ moved (dids (of n s))
 
 -- the Correct c takes an ADJTIME of a Close of m with this mean; neither its node nor m booted since
 pub record SinceClose (m : ℕ) (close : Line) (cpast : List Line) (mean : ℤ) (c : Line) (past : List Line) (r : Line) (older : List Line) (err : ℤ) (h : List Line) : Type 0 where
-  pub cast : Cast m close cpast c past r older err
+  pub from_round : FromRound m close cpast c past r older err
   pub within : Within (c ∷ past) h
   pub count : ℕ
   pub lo : ℤ
@@ -37,7 +37,7 @@ BoundAt setting h t = (m : ℕ) (close : Line) (cpast : List Line) (mean : ℤ) 
 
 -- the Correct c takes an ADJTIME of a Close of m; its node didn't boot since
 pub record SinceCorrect (m : ℕ) (close : Line) (cpast : List Line) (c : Line) (past : List Line) (r : Line) (older : List Line) (err : ℤ) (h : List Line) : Type 0 where
-  pub cast : Cast m close cpast c past r older err
+  pub from_round : FromRound m close cpast c past r older err
   pub within : Within (c ∷ past) h
   pub one_life : lives (dids (of (node_of c) (c ∷ past))) ≡ lives (dids (of (node_of c) h))
 

@@ -48,14 +48,14 @@ running_told header events AtUntitled s = absurd s
 running_told header events (AtTitled read) s = absurd s
 running_told header events (AtDrifted held) s = absurd s
 running_told header events (AtHeading held) s = absurd s
-running_told header events (AtRunning run) s = ap (λ o. if o then [] else run.course.world.lines.items) s.0 ∙ s.1.lines
+running_told header events (AtRunning run) s = ap (λ o. if o then [] else run.handler.world.lines.items) s.0 ∙ s.1.lines
 
 ended_told : (header : HeaderValue) (events : List Event) (stage : Stage Replayed) → StageStands (Ended header events) stage → told_at stage ≡ []
 ended_told header events AtUntitled s = absurd s
 ended_told header events (AtTitled read) s = absurd s
 ended_told header events (AtDrifted held) s = absurd s
 ended_told header events (AtHeading held) s = absurd s
-ended_told header events (AtRunning run) s = ap (λ o. if o then [] else run.course.world.lines.items) s.0
+ended_told header events (AtRunning run) s = ap (λ o. if o then [] else run.handler.world.lines.items) s.0
 
 run_written : (header : HeaderValue) (events : List Event) (line : List ℕ) (to : Progress) (next : Stage Replayed) → RunsOn header events line to → StageStands to next → written_at to ≡ trace header events ++ lines_text (told_at next)
 run_written header events line to next (inl g) s =

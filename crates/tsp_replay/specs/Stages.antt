@@ -24,7 +24,7 @@ ReplayStands stage lines = StandsBy refused stands stage lines
 
 -- the lines of the last event's acts; none where the last line was read
 abbrev pub told_by : Run Replayed → List Line
-told_by run = if run.over then [] else run.course.world.lines.items
+told_by run = if run.over then [] else run.handler.world.lines.items
 
 abbrev pub told_at : Stage Replayed → List Line
 told_at AtUntitled = []

@@ -32,7 +32,7 @@ fn told_by(run: &Run<Replayed>) -> &[Line]
     if run.over {
         return &[];
     }
-    run.course.world.acts()
+    run.handler.world.acts()
 }
 
 /// Puts the lines of the last event's acts into `output`, each of which is made in `text`.

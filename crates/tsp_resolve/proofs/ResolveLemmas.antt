@@ -40,16 +40,16 @@ ResolveStands_act _ e x past r h = record { many = h.many; rivals = h.rivals; em
 pub ResolveStands_by : (row : Row) → Emits unchanging row → Keeps ResolveStands row
 ResolveStands_by row e = Keeps_by unchanging ResolveStands row ResolveStands_act e
 
-rival-deed : (p : PeerId) (a : Act) (keep : Bool) → is_in (sort_of a) rivalless ≡ true → is_rival_after p (Acts a) keep ≡ (if is_change a then false else keep)
-rival-deed p Boot keep e = absurd (false≢true e)
-rival-deed p (Rival q) keep e = absurd (false≢true e)
-rival-deed p (Become r) keep e = refl
-rival-deed p _ keep e = refl
+rival-deed : (p : PeerId) (a : Act) (was : Bool) → is_in (sort_of a) rivalless ≡ true → is_rival_after p (Acts a) was ≡ (if is_change a then false else was)
+rival-deed p Boot was e = absurd (false≢true e)
+rival-deed p (Rival q) was e = absurd (false≢true e)
+rival-deed p (Become r) was e = refl
+rival-deed p _ was e = refl
 
-or-change : (a b keep : Bool) → (if b then false else (if a then false else keep)) ≡ (if (a || b) then false else keep)
-or-change true true keep = refl
-or-change true false keep = refl
-or-change false b keep = refl
+or-change : (a b was : Bool) → (if b then false else (if a then false else was)) ≡ (if (a || b) then false else was)
+or-change true true was = refl
+or-change true false was = refl
+or-change false b was = refl
 
 -- acts of these sorts leave the rivals as they are, or there are none where the role changes
 pub rivals_after : (p : PeerId) (step : Step) (x : ℕ) (acts : List Act) (seen : List Seen) → AllOf rivalless acts → is_rival p (added step x acts seen) ≡ (if changes acts then false else is_rival p seen)
@@ -82,10 +82,10 @@ ResolveStands_idle x past acts r e other h =
     λ p. rivals_after p past.step x acts past.seen e ∙ ap (λ k. if changes acts then false else k) (h.empty other p) ∙ if-false (changes acts) in
     record { many = h.many; rivals = λ p. h.rivals p ∙ h.empty other p ∙ sym (after p); empty = λ still p. after p }
 
-role-deed : (a : Act) (keep : Role) → is_in (sort_of a) rivalless ≡ true → is_change a ≡ false → role_after (Acts a) keep ≡ keep
-role-deed Boot keep e c = absurd (false≢true e)
-role-deed (Become r) keep e c = absurd (false≢true (sym c))
-role-deed _ keep e c = refl
+role-deed : (a : Act) (was : Role) → is_in (sort_of a) rivalless ≡ true → is_change a ≡ false → role_after (Acts a) was ≡ was
+role-deed Boot was e c = absurd (false≢true e)
+role-deed (Become r) was e c = absurd (false≢true (sym c))
+role-deed _ was e c = refl
 
 -- without a change of it the role stays
 pub role_stays : (step : Step) (x : ℕ) (acts : List Act) (seen : List Seen) → AllOf rivalless acts → changes acts ≡ false → role (added step x acts seen) ≡ role seen

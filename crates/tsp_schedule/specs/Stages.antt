@@ -20,8 +20,8 @@ StageStands stands Untitled AtUntitled = Unit {0}
 StageStands stands (Titled version) (AtTitled read) = read ≡ version
 StageStands stands (Drifted drift) (AtDrifted held) = held ≡ new_header drift true
 StageStands stands (Heading header) (AtHeading held) = held ≡ header
-StageStands stands (Running header events) (AtRunning run) = (run.over ≡ false) × stands header events run.course
-StageStands stands (Ended header events) (AtRunning run) = (run.over ≡ true) × stands header events run.course
+StageStands stands (Running header events) (AtRunning run) = (run.over ≡ false) × stands header events run.handler
+StageStands stands (Ended header events) (AtRunning run) = (run.over ≡ true) × stands header events run.handler
 StageStands stands _ _ = ⊥
 
 -- the part after a header stands for this progress
@@ -95,20 +95,20 @@ StopsFor _ _ = ⊥
 
 -- a line after the header was read where the last line wasn't read yet: it was accepted, or refused
 abbrev pub ReadsOn : {C : Type 0} → Refusing → (HeaderValue → List Event → C → Type 0) → Run C → List ℕ → Run C → Result (Unit {0}) Stop → Type 0
-ReadsOn refused stands old line new result = (header : HeaderValue) (events : List Event) → stands header events old.course →
+ReadsOn refused stands old line new result = (header : HeaderValue) (events : List Event) → stands header events old.handler →
     MatchResult result (λ _. RunAdvances refused stands (Running header events) line new) (Halts refused (Running header events) line)
 
 -- an event was treated: it happened, or was refused
 abbrev pub Treats : {C : Type 0} → Refusing → (HeaderValue → List Event → C → Type 0) → Run C → Event → Run C → Result (Unit {0}) Stop → Type 0
-Treats refused stands old e new result = (header : HeaderValue) (events : List Event) → stands header events old.course →
-    MatchResult result (λ _. (refused header events e ≡ None) × stands header (e ∷ events) new.course) (HaltsEvent refused header events e)
+Treats refused stands old e new result = (header : HeaderValue) (events : List Event) → stands header events old.handler →
+    MatchResult result (λ _. (refused header events e ≡ None) × stands header (e ∷ events) new.handler) (HaltsEvent refused header events e)
 
 -- an event was tried: it happened, or nothing has changed
 abbrev pub TriesEvent : {C : Type 0} → Refusing → (HeaderValue → List Event → C → Type 0) → Run C → Event → Run C → Bool → Type 0
-TriesEvent refused stands old e new result = (header : HeaderValue) (events : List Event) → stands header events old.course →
-    MatchBool result ((refused header events e ≡ None) × stands header (e ∷ events) new.course) (stands header events new.course)
+TriesEvent refused stands old e new result = (header : HeaderValue) (events : List Event) → stands header events old.handler →
+    MatchBool result ((refused header events e ≡ None) × stands header (e ∷ events) new.handler) (stands header events new.handler)
 
 -- a line after the header was tried where the last line wasn't read yet: it was accepted, or nothing has changed
 abbrev pub TriesLine : {C : Type 0} → Refusing → (HeaderValue → List Event → C → Type 0) → Run C → List ℕ → Run C → Bool → Type 0
-TriesLine refused stands old line new result = (header : HeaderValue) (events : List Event) → stands header events old.course →
+TriesLine refused stands old line new result = (header : HeaderValue) (events : List Event) → stands header events old.handler →
     MatchBool result (AdvancesByEvent refused stands (Running header events) line (AtRunning new)) (RunStands stands (Running header events) new)

@@ -26,7 +26,7 @@ pub trait EventHandler: Drop {
     fn begin(alloc: Global, header: Header) -> Result<Self, AllocError>
         requires some { 1 ≤ length header.nodes }
         requires whole { is_whole header ≡ true }
-        ensures { IfOk result (λ course. stands header [] course) };
+        ensures { IfOk result (λ handler. stands header [] handler) };
 
     /// Lets an event happen, or refuses it: with the cause that `refused` gives, or if out of memory. A refused event
     /// changes nothing.

@@ -27,7 +27,7 @@ const PLAIN: usize = 45;
 #[derive(Drop)]
 pub struct Run<C> {
     /// The handler of the events.
-    pub course: C,
+    pub handler: C,
     /// Whether the last line, `end`, was read.
     pub over: bool,
 }
@@ -37,11 +37,11 @@ impl<C: EventHandler> Run<C> {
     pub(crate) fn begin(alloc: Global, header: Header) -> Result<Run<C>, AllocError>
         requires some { 1 ≤ length header.nodes }
         requires whole { is_whole header ≡ true }
-        ensures { IfOk result (λ run. C.stands header [] run.course × (run.over ≡ false)) }
+        ensures { IfOk result (λ run. C.stands header [] run.handler × (run.over ≡ false)) }
     {
         match C::begin(alloc, header) {
-            Ok(course) => Ok(Run {
-                course,
+            Ok(handler) => Ok(Run {
+                handler,
                 over: false,
             }),
             Err(fault) => Err(fault),
@@ -107,7 +107,7 @@ impl<C: EventHandler> Run<C> {
         ensures over { self.new.over ≡ self.old.over }
         ensures kind { result ≢ Err Stop.WriteFault }
     {
-        match self.course.event(e) {
+        match self.handler.event(e) {
             Ok(()) => Ok(()),
             Err(fault) => Err(stop_of(fault)),
         }
@@ -119,7 +119,7 @@ impl<C: EventHandler> Run<C> {
         ensures next { TriesEvent C.refused C.stands self.old (event_in plain.now) self.new result }
         ensures over { self.new.over ≡ self.old.over }
     {
-        match self.course.plain(plain) {
+        match self.handler.plain(plain) {
             Ok(()) => true,
             Err(_) => false,
         }
@@ -139,7 +139,7 @@ impl<C: EventHandler> Run<C> {
             from,
             count: _,
         } = handed;
-        match self.course.bytes(at, node, port, from, octets) {
+        match self.handler.bytes(at, node, port, from, octets) {
             Ok(()) => true,
             Err(_) => false,
         }

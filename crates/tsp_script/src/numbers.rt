@@ -11,7 +11,7 @@ ghost use Rattle.hex.specs.Hex.{decode_of, encode_lower};
 use crate::decimals::append_decimal;
 use crate::eights::eight_digits;
 use crate::hexes::value_of;
-use crate::words::{front_word, mark_at};
+use crate::words::{front_word, find_mark};
 use arrayvec::ArrayVec;
 use itoa::Buffer;
 use std::str;
@@ -319,7 +319,7 @@ fn front_by_mark(line: &[u8]) -> Option<(u64, &[u8])>
     ensures reads { (n : ℕ) (rest : List ℕ) → n < 2 ^ 64 → line.now ≡ decimal n ++ 32 ∷ rest
         → IsSomeAnd result (λ r. (r.0 ≡ n) × (r.1.now ≡ rest)) }
 {
-    let place = mark_at(line, b' ')?;
+    let place = find_mark(line, b' ')?;
     let (_, rest) = line.split_at(place + 1);
     let number = number_of(line.split_at(place).0)?;
     Some((number, rest))

@@ -4,7 +4,7 @@ ghost use Rattle.std.specs.Prelude.{MatchOption, slice_index_or, IfSome, IfNone,
 ghost use Rattle.tsp_script.specs.Words.{before_mark, after_mark, first_word, after_word};
 
 /// The place of the first octet of this value.
-pub(crate) fn mark_at(line: &[u8], mark: u8) -> Option<usize>
+pub(crate) fn find_mark(line: &[u8], mark: u8) -> Option<usize>
     ensures { MatchOption result (¬ Contains line.now mark) (λ i. (i < length line.now)
         × ¬ Contains (take i line.now) mark × (slice_index_or line.now i 0 ≡ mark)) }
 {
@@ -24,7 +24,7 @@ pub fn part(line: &[u8], mark: u8) -> (&[u8], &[u8])
     ensures front { result.0.now ≡ before_mark mark line.now }
     ensures rest { result.1.now ≡ after_mark mark line.now }
 {
-    match mark_at(line, mark) {
+    match find_mark(line, mark) {
         Some(i) => (line.split_at(i).0, line.split_at(i + 1).1),
         None => (line, &[]),
     }
@@ -44,7 +44,7 @@ pub(crate) fn front_word(line: &[u8]) -> Option<(&[u8], &[u8])>
         × (r.1.now ≡ after_word line.now) × (line.now ≡ r.0.now ++ 32 ∷ r.1.now)) }
     ensures none { IfNone result ((word rest : List ℕ) → line.now ≡ word ++ 32 ∷ rest → ⊥) }
 {
-    let place = mark_at(line, b' ')?;
+    let place = find_mark(line, b' ')?;
     Some((line.split_at(place).0, line.split_at(place + 1).1))
 }
 

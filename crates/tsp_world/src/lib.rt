@@ -19,7 +19,7 @@
 //! step's acts.
 #![tactic(auto)]
 
-mod acting;
+mod effects;
 mod events;
 mod refusing;
 mod setup;

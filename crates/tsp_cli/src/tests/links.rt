@@ -128,7 +128,7 @@ fn goes(alloc: Global, row: &Row, link: &mut MemoryLink) -> Result<bool, AllocEr
 }
 
 /// Whether the run comes to what the row says; the source, whose first read would fail, isn't read.
-fn is_right(alloc: Global, row: &Row) -> Result<bool, AllocError> {
+fn row_passes(alloc: Global, row: &Row) -> Result<bool, AllocError> {
     let mut link = MemoryLink::new(alloc, row.calls)?;
     goes(alloc, row, &mut link)
 }
@@ -239,6 +239,6 @@ const ROWS: &[Row] = &[
 #[test]
 fn runs_end(rt: HostRuntime) {
     for row in ROWS {
-        assert!(rt; is_right(rt.alloc(), row) == Ok(true), "{}", row.text);
+        assert!(rt; row_passes(rt.alloc(), row) == Ok(true), "{}", row.text);
     }
 }

@@ -153,7 +153,7 @@ fn goes(alloc: Global, link: &mut MemoryLink) -> Result<bool, AllocError> {
 }
 
 /// The same, with a link of its own.
-fn is_right(alloc: Global) -> Result<bool, AllocError> {
+fn row_passes(alloc: Global) -> Result<bool, AllocError> {
     let mut link = MemoryLink::new(alloc, &[])?;
     goes(alloc, &mut link)
 }
@@ -162,5 +162,5 @@ fn is_right(alloc: Global) -> Result<bool, AllocError> {
 /// number: the lowest port that follows steers the clock.
 #[test]
 fn two_networks_are_served(rt: HostRuntime) {
-    assert!(rt; is_right(rt.alloc()) == Ok(true));
+    assert!(rt; row_passes(rt.alloc()) == Ok(true));
 }

@@ -15,7 +15,7 @@ struct Open;
 impl EventHandler for Open {
     ghost refused = { λ header events e. None };
 
-    ghost stands = { λ header events course. Unit {0} };
+    ghost stands = { λ header events handler. Unit {0} };
 
     fn begin(_alloc: Global, _header: Header) -> Result<Open, AllocError> {
         Ok(Open)

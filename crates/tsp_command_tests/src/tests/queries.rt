@@ -105,7 +105,7 @@ fn arrive(row: &Row, link: &mut MemoryLink) -> Result<(), AllocError> {
 }
 
 /// Whether the question of a row, over a link whose calls fail as the row says, ends and sends as it is to.
-fn is_right(alloc: Global, row: &Row) -> Result<bool, AllocError> {
+fn row_passes(alloc: Global, row: &Row) -> Result<bool, AllocError> {
     let mut link = MemoryLink::new(alloc, row.1)?;
     arrive(row, &mut link)?;
     let mut ticker = MemoryTicker::new(alloc, &[0, 1_000_000, 1_000_801], 0, 2)?;
@@ -117,6 +117,6 @@ fn is_right(alloc: Global, row: &Row) -> Result<bool, AllocError> {
 #[test]
 fn questions_are_answered(rt: HostRuntime) {
     for row in ROWS {
-        assert!(rt; is_right(rt.alloc(), row) == Ok(true), "{}", row.0);
+        assert!(rt; row_passes(rt.alloc(), row) == Ok(true), "{}", row.0);
     }
 }

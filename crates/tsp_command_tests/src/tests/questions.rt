@@ -100,7 +100,7 @@ fn asks(alloc: Global, row: &Row, link: &mut MemoryLink) -> Result<bool, AllocEr
 }
 
 /// The same over a link whose calls fail as the row says, and whether it sends as it is to.
-fn is_right(alloc: Global, row: &Row) -> Result<bool, AllocError> {
+fn row_passes(alloc: Global, row: &Row) -> Result<bool, AllocError> {
     let mut link = MemoryLink::new(alloc, row.calls)?;
     if !row.comes.is_empty() {
         link.arrive(row.from, row.comes)?;
@@ -200,6 +200,6 @@ const ROWS: &[Row] = &[
 #[test]
 fn lines_say_what_came(rt: HostRuntime) {
     for row in ROWS {
-        assert!(rt; is_right(rt.alloc(), row) == Ok(true), "{}", row.text);
+        assert!(rt; row_passes(rt.alloc(), row) == Ok(true), "{}", row.text);
     }
 }

@@ -172,9 +172,9 @@ fn has_booted(node: &Node, acts: &[Placed]) -> bool {
 fn holds(node: &mut Node, pad: &mut Pad) -> Result<(Option<usize>, bool), Fail>
     requires { clock_at node.old ≤ 0 }
 {
-    let is_right = has_booted(node, pad.acts());
+    let row_passes = has_booted(node, pad.acts());
     let wrong = first_wrong(node, pad, &ROWS)?;
-    Ok((wrong, is_right && node.role() == Role::Loose))
+    Ok((wrong, row_passes && node.role() == Role::Loose))
 }
 
 /// The same of a new node.

@@ -1,6 +1,6 @@
 use Rattle.std.proofs.Common.{◌≡◌, ◌<◌, ◌≤◌, ◌∙◌, rules, arith, ap, refl, sym, set, length, get_or}
 use Rattle.std.proofs.lemmas.List.{set-get_or}
-use Rattle.tsp_audit.proofs.AccordSteps.{all-next, all-other, kept-at}
+use Rattle.tsp_audit.proofs.AgreementSteps.{all-next, all-other, kept-at}
 use Rattle.tsp_history.specs.Histories.{history_of, line_of}
 use Rattle.tsp_audit.proofs.agreement_tracker.note_node.Goals as goal
 

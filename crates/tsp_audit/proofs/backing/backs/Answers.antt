@@ -4,7 +4,7 @@ use Rattle.tsp_promises.specs.StepFacts.{backed, is_unbacked}
 use Rattle.tsp_history.specs.declared.line.HistoryLine.{HistoryLine}
 use Rattle.tsp_history.specs.Histories.{deed_of, line_of, history_of}
 use Rattle.tsp_audit.specs.Backing.{deed_backs}
-use Rattle.tsp_audit.proofs.AccordSteps.{act-some}
+use Rattle.tsp_audit.proofs.AgreementSteps.{act-some}
 use Rattle.tsp_audit.proofs.BackLemmas.{votes-decide}
 use Rattle.tsp_audit.proofs.backing.backs.Goals as goal
 

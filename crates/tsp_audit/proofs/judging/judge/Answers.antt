@@ -40,7 +40,7 @@ returns-then-not-keeps_agreeing_if-clause-judges c setting count has timely numb
     (decided c.keeps_leading.result (OnlyMaster h) c.if-not-keeps_leading.false (c.keeps_leading.ensures (old Leading)))
     (decided c.keeps_acting.result (ActsOnce c.args.premises setting h) c.if-not-keeps_acting.false (c.keeps_acting.ensures.keeps setting has timely room.acted notes.acted (old Acting)))
     (decided c.keeps_measuring_if.result (PartHolds c.args.premises setting Measuring h) c.if-not-keeps_measuring_if.false (c.keeps_measuring_if.ensures setting has timely (old Measuring)))
-    (refuted c.keeps_agreeing_if.result (PartHolds c.args.premises setting Agreeing h) c.if-not-keeps_agreeing_if.true (c.keeps_agreeing_if.ensures.keeps setting count has timely numbered room.trips notes.accord (old Agreeing)))
+    (refuted c.keeps_agreeing_if.result (PartHolds c.args.premises setting Agreeing h) c.if-not-keeps_agreeing_if.true (c.keeps_agreeing_if.ensures.keeps setting count has timely numbered room.trips notes.agreement (old Agreeing)))
 
 pub returns-clause-judges : goal.returns-clause-judges
 returns-clause-judges c setting count has timely numbered room notes old =
@@ -49,10 +49,10 @@ returns-clause-judges c setting count has timely numbered room notes old =
     (decided c.keeps_leading.result (OnlyMaster h) c.if-not-keeps_leading.false (c.keeps_leading.ensures (old Leading)))
     (decided c.keeps_acting.result (ActsOnce c.args.premises setting h) c.if-not-keeps_acting.false (c.keeps_acting.ensures.keeps setting has timely room.acted notes.acted (old Acting)))
     (decided c.keeps_measuring_if.result (PartHolds c.args.premises setting Measuring h) c.if-not-keeps_measuring_if.false (c.keeps_measuring_if.ensures setting has timely (old Measuring)))
-    (decided c.keeps_agreeing_if.result (PartHolds c.args.premises setting Agreeing h) c.if-not-keeps_agreeing_if.false (c.keeps_agreeing_if.ensures.keeps setting count has timely numbered room.trips notes.accord (old Agreeing)))
+    (decided c.keeps_agreeing_if.result (PartHolds c.args.premises setting Agreeing h) c.if-not-keeps_agreeing_if.false (c.keeps_agreeing_if.ensures.keeps setting count has timely numbered room.trips notes.agreement (old Agreeing)))
 
 pub returns-clause-notes : goal.returns-clause-notes
 returns-clause-notes c count told room notes = record {
   acted = c.keeps_acting.ensures.acted c.if-not-keeps_acting.false room.acted notes.acted;
-  accord = λ kept. c.keeps_agreeing_if.ensures.accord count kept c.if-not-keeps_agreeing_if.false room.trips (notes.accord kept);
+  agreement = λ kept. c.keeps_agreeing_if.ensures.agreement count kept c.if-not-keeps_agreeing_if.false room.trips (notes.agreement kept);
 }

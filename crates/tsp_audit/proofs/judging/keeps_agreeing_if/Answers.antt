@@ -11,10 +11,10 @@ returns-then-all_kept-clause-keeps c setting count has timely numbered room stan
     if-kept c.keeps_agreeing.result (AllKept c.args.premises) (Agreed setting (history_of c.args.lines.now)) (Agreed setting (history_of (take c.args.from c.args.lines.now))) kept
     (c.keeps_agreeing.ensures.keeps setting count has timely numbered room (stands kept)) old
 
-pub returns-then-all_kept-clause-accord : goal.returns-then-all_kept-clause-accord
-returns-then-all_kept-clause-accord c count kept told room stands = c.keeps_agreeing.ensures.accord count told room stands
+pub returns-then-all_kept-clause-agreement : goal.returns-then-all_kept-clause-agreement
+returns-then-all_kept-clause-agreement c count kept told room stands = c.keeps_agreeing.ensures.agreement count told room stands
 
-pub returns-else-all_kept-clause-accord : goal.returns-else-all_kept-clause-accord
-returns-else-all_kept-clause-accord c count kept told room stands =
+pub returns-else-all_kept-clause-agreement : goal.returns-else-all_kept-clause-agreement
+returns-else-all_kept-clause-agreement c count kept told room stands =
     let no : AllKept c.args.premises → ⊥ = search rules in
     absurd (no kept)

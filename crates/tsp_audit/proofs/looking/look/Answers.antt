@@ -5,7 +5,7 @@ use Rattle.tsp_history.specs.declared.line.HistoryLine.{HistoryLine}
 use Rattle.tsp_history.proofs.NoteLemmas.{length-history}
 use Rattle.tsp_claims.specs.ClaimedHistory.{claimed}
 use Rattle.tsp_audit.specs.Judged.{JudgesParts}
-use Rattle.tsp_audit.specs.Notes.{HasLineRoom, NotesStand}
+use Rattle.tsp_audit.specs.Remembered.{HasLineRoom, RememberedStands}
 use Rattle.tsp_audit.proofs.JudgeLemmas.{begins-within, looked, looked-notes}
 use Rattle.tsp_audit.proofs.looking.look.Goals as goal
 
@@ -23,11 +23,11 @@ returns-in-None c new h is event grown room notes =
     let count : ℕ = length header.nodes in
     let long : length (claimed header new) ≡ length ns = sym (ap (λ (x : List Line). length x) is) ∙ length-history ns in
     let spare : HasLineRoom (length ns - c.args.from) c.args.notes.now = subst (λ (k : ℕ). HasLineRoom (k - c.args.from) c.args.notes.now) long room in (
-      looked-notes ns count (claimed header new) h c.args.from (λ (x : List Line). NotesStand c.args.premises count x c.args.notes.now) (λ (x : List Line). NotesStand c.args.premises count x c.judge.new.notes) is grown
+      looked-notes ns count (claimed header new) h c.args.from (λ (x : List Line). RememberedStands c.args.premises count x c.args.notes.now) (λ (x : List Line). RememberedStands c.args.premises count x c.judge.new.notes) is grown
           (c.judge.ensures.notes count c.in-None.is spare) notes,
       (λ setting has keeps.
           subst (λ (r : Option ℕ). JudgesParts c.args.premises setting (claimed header new) r) c.in-None.is
-          (looked c.args.premises header header ns count (claimed header new) h c.args.from (λ (x : List Line). NotesStand c.args.premises count x c.args.notes.now) (HasLineRoom (length ns - c.args.from) c.args.notes.now) c.judge.result
+          (looked c.args.premises header header ns count (claimed header new) h c.args.from (λ (x : List Line). RememberedStands c.args.premises count x c.args.notes.now) (HasLineRoom (length ns - c.args.from) c.args.notes.now) c.judge.result
           refl is grown spare (λ setting. c.judge.ensures.judges setting count) notes setting has keeps)),
     )
 
@@ -41,6 +41,6 @@ returns-in-Some c new h is event grown room notes =
       event,
       (λ setting has keeps.
           subst (λ (r : Option ℕ). JudgesParts c.args.premises setting (claimed header new) r) c.in-Some.is
-          (looked c.args.premises header header ns count (claimed header new) h c.args.from (λ (x : List Line). NotesStand c.args.premises count x c.args.notes.now) (HasLineRoom (length ns - c.args.from) c.args.notes.now) c.judge.result
+          (looked c.args.premises header header ns count (claimed header new) h c.args.from (λ (x : List Line). RememberedStands c.args.premises count x c.args.notes.now) (HasLineRoom (length ns - c.args.from) c.args.notes.now) c.judge.result
           refl is grown spare (λ setting. c.judge.ensures.judges setting count) notes setting has keeps)),
     )

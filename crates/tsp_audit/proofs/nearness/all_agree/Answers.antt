@@ -2,13 +2,13 @@ use Rattle.std.proofs.Common.{◌≡◌, ℕ, pos, subst₂, arith, inl, inr, ge
 use Rattle.std.proofs.lemmas.Bool.{cases_lt}
 use Rattle.tsp_audit.specs.Agreeing.{AgreesBack, IsAtPlace}
 use Rattle.tsp_audit.specs.declared.round_correction.NodeState.{NodeState}
-use Rattle.tsp_audit.proofs.AccordSteps.{here-at, state-at}
+use Rattle.tsp_audit.proofs.AgreementSteps.{here-at, state-at}
 use Rattle.tsp_audit.proofs.NearLemmas.{all-back, back-all}
 use Rattle.tsp_audit.proofs.nearness.all_agree.Goals as goal
 
 pub loop-n-preserved : goal.loop-n-preserved
 loop-n-preserved c soon all n a lt at =
-    let none : NodeState = record { moved = pos 0; lives = 0; corrects = 0; after = None; cast = None } in
+    let none : NodeState = record { moved = pos 0; lives = 0; corrects = 0; after = None; from_round = None } in
     elim (cases_lt n c.loop-n.n) [
       | inl less ↦ c.loop-n.invariant soon all n a less at
       | inr le ↦
@@ -23,6 +23,6 @@ returns c soon all = all-back c.args.header.now c.args.at c.args.states.now (λ 
 
 pub returns-then-not-node_agrees : goal.returns-then-not-node_agrees
 returns-then-not-node_agrees c soon all agrees =
-    let none : NodeState = record { moved = pos 0; lives = 0; corrects = 0; after = None; cast = None } in
+    let none : NodeState = record { moved = pos 0; lives = 0; corrects = 0; after = None; from_round = None } in
     let kat : IsAtPlace c.args.states.now c.loop-n.n (get_or c.args.states.now c.loop-n.n none) = here-at c.args.states.now c.loop-n.n none (omega arith) in
     c.if-not-node_agrees.ensures c.args.header.now c.args.at (c.standings-stand.ensures soon) kat all (back-all c.args.header.now c.args.at c.loop-n.n (get_or c.args.states.now c.loop-n.n none) c.args.states.now (agrees c.loop-n.n (get_or c.args.states.now c.loop-n.n none) kat))

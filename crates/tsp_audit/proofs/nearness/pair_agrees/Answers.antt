@@ -6,8 +6,8 @@ pub returns-then-c-d-2 : goal.returns-then-c-d-2
 returns-then-c-d-2 c header at first second own other fsum ssum =
     let x = c.in-Some-Some.c in
     let y = c.in-Some-Some.d in
-    let ac : c.args.a.now.cast ≡ Some x = search rules in
-    let bd : c.args.b.now.cast ≡ Some y = search rules in
+    let ac : c.args.a.now.from_round ≡ Some x = search rules in
+    let bd : c.args.b.now.from_round ≡ Some y = search rules in
     let masters : x.master ≡ y.master = search rules in
     let closes : x.close ≡ y.close = search rules in
     pair-told header at first second c.args.a.now c.args.b.now x y c.pair_near.result ac bd masters closes (c.pair_near.ensures c.args.a.now c.args.b.now x y ac bd header at first second own other fsum ssum)

@@ -4,13 +4,13 @@ use Rattle.tsp_audit.specs.Agreeing.{IsAtPlace, PairAgrees}
 use Rattle.tsp_audit.specs.Standings.{StandsAs}
 use Rattle.tsp_audit.specs.declared.round_correction.NodeState.{NodeState}
 use Rattle.tsp_audit.specs.declared.shown.Standing.{Standing}
-use Rattle.tsp_audit.proofs.AccordSteps.{here-at, state-at}
+use Rattle.tsp_audit.proofs.AgreementSteps.{here-at, state-at}
 use Rattle.tsp_history.specs.Clocks.{IsSumOf}
 use Rattle.tsp_audit.proofs.nearness.pairs_agree.Goals as goal
 
 pub loop-k-preserved : goal.loop-k-preserved
 loop-k-preserved c header at all is sums k b lt le-node kat =
-    let none : NodeState = record { moved = pos 0; lives = 0; corrects = 0; after = None; cast = None } in
+    let none : NodeState = record { moved = pos 0; lives = 0; corrects = 0; after = None; from_round = None } in
     let own : Standing = c.index-stand-node.result in
     let other : Standing = c.index-stand-k.result in
     let own-is : get_or c.args.stand.now c.args.node own ≡ own = search rules in
@@ -30,7 +30,7 @@ loop-k-preserved c header at all is sums k b lt le-node kat =
 
 pub returns-then-not-pair_agrees : goal.returns-then-not-pair_agrees
 returns-then-not-pair_agrees c header at all is sums agrees =
-    let none : NodeState = record { moved = pos 0; lives = 0; corrects = 0; after = None; cast = None } in
+    let none : NodeState = record { moved = pos 0; lives = 0; corrects = 0; after = None; from_round = None } in
     let own : Standing = c.index-stand-node.result in
     let other : Standing = c.index-stand-k.result in
     let own-is : get_or c.args.stand.now c.args.node own ≡ own = search rules in

@@ -1,5 +1,5 @@
 use Rattle.std.proofs.Common.{◌≡◌, rules, is_some}
-use Rattle.tsp_audit.proofs.AccordSteps.{sample-told}
+use Rattle.tsp_audit.proofs.AgreementSteps.{sample-told}
 use Rattle.tsp_audit.proofs.SampleLemmas.{trips-before}
 use Rattle.tsp_audit.proofs.resting.has_sample.Goals as goal
 

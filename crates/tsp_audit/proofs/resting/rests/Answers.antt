@@ -3,7 +3,7 @@ use Rattle.tsp_rules.specs.Values.{Post, Message, AdjTime, Place, Peer}
 use Rattle.tsp_base.specs.Words.{Acts, of, view, acting, MessageValue}
 use Rattle.tsp_history.specs.HeldActs.{message_of}
 use Rattle.tsp_history.specs.Histories.{deed_of, history_of, line_of}
-use Rattle.tsp_audit.proofs.AccordSteps.{rests-told}
+use Rattle.tsp_audit.proofs.AgreementSteps.{rests-told}
 use Rattle.tsp_audit.proofs.resting.rests.Goals as goal
 
 pub returns-else-not-is_acting : goal.returns-else-not-is_acting

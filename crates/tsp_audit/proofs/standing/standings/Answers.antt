@@ -4,12 +4,12 @@ use Rattle.std.proofs.lemmas.List.{get_or-set_other, get_or-set_same, length-set
 use Rattle.tsp_audit.specs.Standings.{StandsAs}
 use Rattle.tsp_audit.specs.declared.round_correction.NodeState.{NodeState}
 use Rattle.tsp_audit.specs.declared.shown.Standing.{Standing}
-use Rattle.tsp_audit.proofs.AccordSteps.{state-at}
+use Rattle.tsp_audit.proofs.AgreementSteps.{state-at}
 use Rattle.tsp_audit.proofs.standing.standings.Goals as goal
 
 pub loop-node-preserved : goal.loop-node-preserved
 loop-node-preserved c soon k a s lt kat below =
-    let none : NodeState = record { moved = pos 0; lives = 0; corrects = 0; after = None; cast = None } in
+    let none : NodeState = record { moved = pos 0; lives = 0; corrects = 0; after = None; from_round = None } in
     let old : List Standing = c.loop-node.stand in
     let i : ℕ = c.loop-node.node in
     let short : k < length old = omega (arith, below, length-set old i c.stand_of.result) in

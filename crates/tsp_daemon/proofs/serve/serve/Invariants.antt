@@ -1,4 +1,4 @@
--- The node, the course and the outside are where so many turns have brought them.
+-- The node, the counters and the outside are where so many turns have brought them.
 use Rattle.std.proofs.Common.{◌≡◌, ◌≤◌, ◌*◌}
 use Rattle.tsp_gateway.specs.GatewayStands.{clock_at}
 use Rattle.tsp_gateway.specs.Rooms.{ports_in, room_of_ports}
@@ -9,18 +9,18 @@ use Rattle.tsp_daemon.proofs.serve.serve.Given as goal
 
 abbrev pub invariant-loop : goal.invariant-loop
 invariant-loop g l = record {
-  at : (s : Session) → IsAt s l.fn.gateway l.initial.course (g.L.Link.arrivals l.fn.link) (g.L.Link.tried l.fn.link) (g.L.Link.calls l.fn.link) (g.T.Ticker.readings l.fn.ticker) (g.T.Ticker.last l.fn.ticker) (g.K.Sink.written l.fn.sink) →
-      IsAt (after_turns l.counter s) l.gateway l.course (g.L.Link.arrivals l.link) (g.L.Link.tried l.link) (g.L.Link.calls l.link) (g.T.Ticker.readings l.ticker) (g.T.Ticker.last l.ticker) (g.K.Sink.written l.sink);
-  waits : (s : Session) → IsAt s l.fn.gateway l.initial.course (g.L.Link.arrivals l.fn.link) (g.L.Link.tried l.fn.link) (g.L.Link.calls l.fn.link) (g.T.Ticker.readings l.fn.ticker) (g.T.Ticker.last l.fn.ticker) (g.K.Sink.written l.fn.sink) →
+  at : (s : Session) → IsAt s l.fn.gateway l.initial.counters (g.L.Link.arrivals l.fn.link) (g.L.Link.tried l.fn.link) (g.L.Link.calls l.fn.link) (g.T.Ticker.readings l.fn.ticker) (g.T.Ticker.last l.fn.ticker) (g.K.Sink.written l.fn.sink) →
+      IsAt (after_turns l.counter s) l.gateway l.counters (g.L.Link.arrivals l.link) (g.L.Link.tried l.link) (g.L.Link.calls l.link) (g.T.Ticker.readings l.ticker) (g.T.Ticker.last l.ticker) (g.K.Sink.written l.sink);
+  waits : (s : Session) → IsAt s l.fn.gateway l.initial.counters (g.L.Link.arrivals l.fn.link) (g.L.Link.tried l.fn.link) (g.L.Link.calls l.fn.link) (g.T.Ticker.readings l.fn.ticker) (g.T.Ticker.last l.fn.ticker) (g.K.Sink.written l.fn.sink) →
       NotesWaits s l.counter (g.L.Link.waits l.fn.link) (g.L.Link.waits l.link);
-  rises : (s : Session) → IsAt s l.fn.gateway l.initial.course (g.L.Link.arrivals l.fn.link) (g.L.Link.tried l.fn.link) (g.L.Link.calls l.fn.link) (g.T.Ticker.readings l.fn.ticker) (g.T.Ticker.last l.fn.ticker) (g.K.Sink.written l.fn.sink) →
+  rises : (s : Session) → IsAt s l.fn.gateway l.initial.counters (g.L.Link.arrivals l.fn.link) (g.L.Link.tried l.fn.link) (g.L.Link.calls l.fn.link) (g.T.Ticker.readings l.fn.ticker) (g.T.Ticker.last l.fn.ticker) (g.K.Sink.written l.fn.sink) →
       Rises l.counter s;
   binds : g.L.Link.binds l.link ≡ g.L.Link.binds l.fn.link;
   walled : g.T.Ticker.left_at_wall l.ticker ≡ g.T.Ticker.left_at_wall l.fn.ticker;
   lives : Lives l.gateway;
   clock : clock_at l.gateway ≤ g.T.Ticker.last l.ticker;
-  turns : l.course.turns ≡ l.counter;
-  posts : l.course.posts ≤ l.counter * room_of_ports (ports_in l.fn.gateway);
+  turns : l.counters.turns ≡ l.counter;
+  posts : l.counters.posts ≤ l.counter * room_of_ports (ports_in l.fn.gateway);
   ports : ports_in l.gateway ≡ ports_in l.fn.gateway;
   faults : g.L.Link.faults l.link ≡ g.L.Link.faults l.fn.link;
   send_faults : g.L.Link.send_faults l.fn.link ≤ g.L.Link.send_faults l.link;

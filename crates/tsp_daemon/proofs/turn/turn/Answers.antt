@@ -24,18 +24,18 @@ returns-in-Err-clause-turns g c s at =
     let ok : c.recv-received.result ≡ Failed → ⊥ = c.in_default.not-Failed in
     let w = waits_is s.past.ports s.outside _ _ _ _ _ _ _ _ _ _ _ _ _ _ _ _ _ _ at.tells c.tick-first.ensures.takes c.tick-first.ensures.last c.recv-received.ensures.receives ok c.recv-received.ensures.same.0 c.recv-received.ensures.counted c.tick-tick.ensures.takes c.tick-tick.ensures.last in
     let row = subst (λ (ps : List Placed). PerformsAll GatewayBegun GatewayStands (answers_all (given_by (setups_in c.args.node.now) c.recv-received.result c.recv-received.new.buf)) c.tick-tick.result c.args.node.now c.step.new.node [] ps) (sym c.acts-acts.ensures) c.step.ensures.row in
-    let steps = steps_is s _ _ c.args.course.now _ _ _ _ _ _ _ _ _ _ _ _ at.stands at.turns_is at.posts_is w row (c.tracing-before.ensures.past s.past at.stands) c.tracing.ensures.past c.is_shown-shown.ensures in
-    ends_is s _ c.args.course.now _ _ _ _ _ _ _ _ _ _ _ _ _ _ _ c.in-Err.end at.written_is w steps c.finish.ensures.only.arrivals c.finish.ensures.only.calls c.in-Err.ensures.err
+    let steps = steps_is s _ _ c.args.counters.now _ _ _ _ _ _ _ _ _ _ _ _ at.stands at.turns_is at.posts_is w row (c.tracing-before.ensures.past s.past at.stands) c.tracing.ensures.past c.is_shown-shown.ensures in
+    ends_is s _ c.args.counters.now _ _ _ _ _ _ _ _ _ _ _ _ _ _ _ c.in-Err.end at.written_is w steps c.finish.ensures.only.arrivals c.finish.ensures.only.calls c.in-Err.ensures.err
 
 pub returns-clause-turns : goal.returns-clause-turns
 returns-clause-turns g c s at =
     let ok : c.recv-received.result ≡ Failed → ⊥ = c.in_default.not-Failed in
     let w = waits_is s.past.ports s.outside _ _ _ _ _ _ _ _ _ _ _ _ _ _ _ _ _ _ at.tells c.tick-first.ensures.takes c.tick-first.ensures.last c.recv-received.ensures.receives ok c.recv-received.ensures.same.0 c.recv-received.ensures.counted c.tick-tick.ensures.takes c.tick-tick.ensures.last in
     let row = subst (λ (ps : List Placed). PerformsAll GatewayBegun GatewayStands (answers_all (given_by (setups_in c.args.node.now) c.recv-received.result c.recv-received.new.buf)) c.tick-tick.result c.args.node.now c.step.new.node [] ps) (sym c.acts-acts.ensures) c.step.ensures.row in
-    let steps = steps_is s _ _ c.args.course.now _ _ _ _ _ _ _ _ _ _ _ _ at.stands at.turns_is at.posts_is w row (c.tracing-before.ensures.past s.past at.stands) c.tracing.ensures.past c.is_shown-shown.ensures in
+    let steps = steps_is s _ _ c.args.counters.now _ _ _ _ _ _ _ _ _ _ _ _ at.stands at.turns_is at.posts_is w row (c.tracing-before.ensures.past s.past at.stands) c.tracing.ensures.past c.is_shown-shown.ensures in
     let sent = c.in_default-finish.ensures.ok in
-    turned_is s _ c.args.course.now _ _ _ _ _ _ _ _ _ _ _ _ _ _ _ _ _ at.turns_is at.posts_is at.written_is w steps c.finish.ensures.only.arrivals c.finish.ensures.only.calls sent.0 sent.1 refl
-    (ap (λ n. c.args.course.now.posts + n) c.posts_in.ensures.count)
+    turned_is s _ c.args.counters.now _ _ _ _ _ _ _ _ _ _ _ _ _ _ _ _ _ at.turns_is at.posts_is at.written_is w steps c.finish.ensures.only.arrivals c.finish.ensures.only.calls sent.0 sent.1 refl
+    (ap (λ n. c.args.counters.now.posts + n) c.posts_in.ensures.count)
 
 pub returns-clause-lives : goal.returns-clause-lives
 returns-clause-lives g c = lives_on _ _ _ _ _ c.requires.lives c.step.ensures.row
@@ -125,7 +125,7 @@ pub returns-clause-clock : goal.returns-clause-clock
 returns-clause-clock g c = last_on _ _ _ c.step.ensures.clock c.tick-tick.ensures.last
 
 pub returns-clause-counts : goal.returns-clause-counts
-returns-clause-counts g c = (refl, posts_on c.args.course.now.posts _ _ _ _ c.posts_in.ensures.few c.step.ensures.few c.acts-acts.ensures)
+returns-clause-counts g c = (refl, posts_on c.args.counters.now.posts _ _ _ _ c.posts_in.ensures.few c.step.ensures.few c.acts-acts.ensures)
 
 pub returns-clause-ports : goal.returns-clause-ports
 returns-clause-ports g c = c.step.ensures.ports

@@ -10,7 +10,7 @@ returns-in-Boot c before s = spaced-new c.args.node (line_of c.args.line.now) be
 pub returns-in-Correct : goal.returns-in-Correct
 returns-in-Correct c before s =
     subst (λ t. SpacedBy c.args.node (line_of c.args.line.now ∷ before) (Some t)) (sym c.later.ensures)
-    (spaced-later c.args.node (line_of c.args.line.now) before c.args.keep _ _ _ c.if-line-node.false (ap deed_of c.in-Correct.ensures.act.1) s)
+    (spaced-later c.args.node (line_of c.args.line.now) before c.args.was _ _ _ c.if-line-node.false (ap deed_of c.in-Correct.ensures.act.1) s)
 
 pub returns-in_default : goal.returns-in_default
 returns-in_default c before s =

@@ -14,5 +14,5 @@ returns-then-peer-p c ns before at past trip best_is =
     let same-diff : to_z w64 (of_z w64 o.diff) ≡ o.diff = search rules in
     let same-err : to_z w64 (of_z w64 o.err) ≡ o.err = search rules in
     let same-trip : to_z w128 (of_z w128 c.args.trip) ≡ c.args.trip = search rules in
-    subst (λ b. BestAt ns c.args.node c.args.port (best c.args.p (view c.args.port (of c.args.node (line_of c.args.line.now ∷ before)))) b) (sym (c.better.ensures ∙ better-same c.args.keep c.args.index _ o.diff _ o.err _ c.args.trip same-diff same-err same-trip))
-    (best-here ns c.args.node c.args.port c.args.p o.peer o.field-1 o.diff o.err o.field-4 c.args.line.now c.args.index before c.args.keep c.args.trip at past c.if-line-node.false (search rules) deed c.if-peer-p.true trip best_is)
+    subst (λ b. BestAt ns c.args.node c.args.port (best c.args.p (view c.args.port (of c.args.node (line_of c.args.line.now ∷ before)))) b) (sym (c.better.ensures ∙ better-same c.args.was c.args.index _ o.diff _ o.err _ c.args.trip same-diff same-err same-trip))
+    (best-here ns c.args.node c.args.port c.args.p o.peer o.field-1 o.diff o.err o.field-4 c.args.line.now c.args.index before c.args.was c.args.trip at past c.if-line-node.false (search rules) deed c.if-peer-p.true trip best_is)

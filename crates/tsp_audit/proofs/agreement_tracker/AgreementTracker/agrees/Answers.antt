@@ -1,6 +1,6 @@
 use Rattle.std.proofs.Common.{◌≡◌, ℤ, List, rules, sym, subst, is_none, false}
 use Rattle.tsp_audit.specs.Agreeing.{AllBounded, TripsTell}
-use Rattle.tsp_audit.proofs.AccordSteps.{act-some, agrees-told, all-bounded, trips-less}
+use Rattle.tsp_audit.proofs.AgreementSteps.{act-some, agrees-told, all-bounded, trips-less}
 use Rattle.tsp_history.specs.Histories.{history_of, line_of}
 use Rattle.tsp_audit.proofs.agreement_tracker.AgreementTracker.agrees.Goals as goal
 

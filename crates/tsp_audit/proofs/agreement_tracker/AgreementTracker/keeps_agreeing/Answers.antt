@@ -7,7 +7,7 @@ use Rattle.tsp_promises.proofs.EverywhereLemmas.{Everywhere-within}
 use Rattle.tsp_history.specs.declared.line.HistoryLine.{HistoryLine}
 use Rattle.tsp_history.specs.Histories.{line_of, history_of}
 use Rattle.tsp_audit.specs.declared.round_correction.NodeState.{NodeState}
-use Rattle.tsp_audit.specs.Agreeing.{AccordIs, AllAgree, AllBounded, Numbered}
+use Rattle.tsp_audit.specs.Agreeing.{AgreementIs, AllAgree, AllBounded, Numbered}
 use Rattle.tsp_audit.proofs.Prefixes.{at-line, one-more}
 use Rattle.tsp_history.proofs.HistoryLemmas.{Within-noted, history-more}
 use Rattle.tsp_audit.proofs.agreement_tracker.AgreementTracker.keeps_agreeing.Goals as goal
@@ -41,7 +41,7 @@ returns-then-not-agrees-clause-keeps c setting count has timely numbered room a 
     let here : get_or lines i noted ≡ noted = search rules in
     let more : history_of (take (i + 1) lines) ≡ line_of noted ∷ history_of (take i lines) = history-more lines i noted lt here in
     let spare : vec_len c.loop-i.self.trips < vec_capacity c.loop-i.self.trips = omega (arith, c.loop-i.invariant.2 room, lt) in
-    let is : AccordIs count (line_of noted ∷ history_of (take i lines)) c.note.new.self = subst (λ (h : List Line). AccordIs count h c.note.new.self) more (c.note.ensures.accord count spare (c.loop-i.invariant.0 count room a)) in
+    let is : AgreementIs count (line_of noted ∷ history_of (take i lines)) c.note.new.self = subst (λ (h : List Line). AgreementIs count h c.note.new.self) more (c.note.ensures.agreement count spare (c.loop-i.invariant.0 count room a)) in
     let below : Numbered count (line_of noted ∷ history_of (take i lines)) = Everywhere-within (λ l before. node_of l < count) (line_of noted ∷ history_of (take i lines)) (history_of lines) numbered (Within-noted lines i noted lt here) in
     let soon : noted.at ≤ 1000000000000000 = at-line (λ l before. l.did.step.at ≤ 1000000000000000) lines i noted lt here timely in
     let bad : AgreedAt setting (line_of noted) (history_of (take i lines)) → ⊥ =
@@ -58,10 +58,10 @@ loop-i-preserved c =
     let more : history_of (take (i + 1) lines) ≡ line_of noted ∷ history_of (take i lines) = history-more lines i noted lt here in (
       (λ count room a.
           let spare : vec_len c.loop-i.self.trips < vec_capacity c.loop-i.self.trips = omega (arith, c.loop-i.invariant.2 room, lt) in
-          c.note.ensures.accord count spare (c.loop-i.invariant.0 count room a)),
+          c.note.ensures.agreement count spare (c.loop-i.invariant.0 count room a)),
       (λ setting count has timely numbered room a agreed.
           let spare : vec_len c.loop-i.self.trips < vec_capacity c.loop-i.self.trips = omega (arith, c.loop-i.invariant.2 room, lt) in
-          let is : AccordIs count (line_of noted ∷ history_of (take i lines)) c.note.new.self = subst (λ (h : List Line). AccordIs count h c.note.new.self) more (c.note.ensures.accord count spare (c.loop-i.invariant.0 count room a)) in
+          let is : AgreementIs count (line_of noted ∷ history_of (take i lines)) c.note.new.self = subst (λ (h : List Line). AgreementIs count h c.note.new.self) more (c.note.ensures.agreement count spare (c.loop-i.invariant.0 count room a)) in
           let below : Numbered count (line_of noted ∷ history_of (take i lines)) = Everywhere-within (λ l before. node_of l < count) (line_of noted ∷ history_of (take i lines)) (history_of lines) numbered (Within-noted lines i noted lt here) in
           let soon : noted.at ≤ 1000000000000000 = at-line (λ l before. l.did.step.at ≤ 1000000000000000) lines i noted lt here timely in
           let good : AgreedAt setting (line_of noted) (history_of (take i lines)) =
@@ -79,6 +79,6 @@ pub returns-clause-keeps : goal.returns-clause-keeps
 returns-clause-keeps c setting count has timely numbered room a agreed =
     subst (λ (ns : List HistoryLine). Agreed setting (history_of ns)) (take_all c.loop-i.i c.args.lines.now (omega arith)) (c.loop-i.invariant.1 setting count has timely numbered room a agreed)
 
-pub returns-clause-accord : goal.returns-clause-accord
-returns-clause-accord c count told room a =
-    subst (λ (ns : List HistoryLine). AccordIs count (history_of ns) c.loop-i.self) (take_all c.loop-i.i c.args.lines.now (omega arith)) (c.loop-i.invariant.0 count room a)
+pub returns-clause-agreement : goal.returns-clause-agreement
+returns-clause-agreement c count told room a =
+    subst (λ (ns : List HistoryLine). AgreementIs count (history_of ns) c.loop-i.self) (take_all c.loop-i.i c.args.lines.now (omega arith)) (c.loop-i.invariant.0 count room a)

@@ -1,20 +1,20 @@
 use Rattle.std.proofs.Common.{◌≡◌, ◌+◌, ◌∷◌, ◌++◌, ◌∙◌, [], ℤ, List, rules, arith, sym, ap, subst, get_or, take, to_z, of_z}
 use Rattle.std.specs.Int.{w128}
 use Rattle.tsp_base.specs.Words.{Line}
-use Rattle.tsp_audit.specs.Agreeing.{AccordIs, TripsTell}
+use Rattle.tsp_audit.specs.Agreeing.{AgreementIs, TripsTell}
 use Rattle.tsp_audit.specs.declared.agreement_tracker.AgreementTracker.{AgreementTracker}
-use Rattle.tsp_audit.proofs.AccordSteps.{accord-next}
+use Rattle.tsp_audit.proofs.AgreementSteps.{agreement-next}
 use Rattle.tsp_history.proofs.HistoryLemmas.{history-more}
 use Rattle.tsp_audit.proofs.SampleLemmas.{history-length}
 use Rattle.tsp_history.specs.declared.line.HistoryLine.{HistoryLine}
-use Rattle.tsp_audit.specs.Changes.{IsQuiet}
+use Rattle.tsp_audit.specs.Changes.{LeavesState}
 use Rattle.std.proofs.lemmas.List.{get_or_default}
 use Rattle.tsp_history.specs.Histories.{deed_of, history_of, line_of}
 use Rattle.tsp_history.proofs.NoteLemmas.{told_take}
 use Rattle.tsp_audit.proofs.agreement_tracker.AgreementTracker.note.Goals as goal
 
-pub returns-clause-accord : goal.returns-clause-accord
-returns-clause-accord c count spare is =
+pub returns-clause-agreement : goal.returns-clause-agreement
+returns-clause-agreement c count spare is =
     let lines = c.args.lines.now in
     let i = c.args.index in
     let noted : HistoryLine = c.index-lines-index.result in
@@ -28,7 +28,7 @@ returns-clause-accord c count spare is =
     let last = c.newest-self.ensures h (sym (history-length lines i (omega (arith, c.requires.below)))) is.last_is in
     let nodes = c.note_node.ensures.nodes more tell is.last_is is.nodes_are in
     let new : AgreementTracker = record { trips = c.note_trip.new.trips; last = c.newest-self.result; nodes = c.note_node.new.nodes } in
-    subst (λ (k : List Line). AccordIs count k new) (sym more) (accord-next count h (line_of noted) c.args.self.now new is trips last nodes c.note_node.ensures.many)
+    subst (λ (k : List Line). AgreementIs count k new) (sym more) (agreement-next count h (line_of noted) c.args.self.now new is trips last nodes c.note_node.ensures.many)
 
 pub trip_of-trip-requires-clause-told : goal.trip_of-trip-requires-clause-told
 trip_of-trip-requires-clause-told c = told_take c.args.lines.now c.args.index c.requires.told
@@ -46,4 +46,4 @@ returns-clause-same c line at quiet =
     let noted : HistoryLine = c.index-lines-index.result in
     let here : get_or lines i noted ≡ noted = search rules in
     let one : line ≡ noted = sym at ∙ (get_or_default lines i line noted c.requires.below ∙ here) in
-    c.note_node.ensures.same (subst (λ (l : HistoryLine). IsQuiet (deed_of l.act)) one quiet)
+    c.note_node.ensures.same (subst (λ (l : HistoryLine). LeavesState (deed_of l.act)) one quiet)

@@ -2,7 +2,7 @@ use Rattle.std.proofs.Common.{◌≡◌, ◌≤◌, ◌+◌, ◌-◌, ◌∙◌,
 use Rattle.tsp_audit.specs.declared.premises.Premises.{Premises}
 use Rattle.tsp_audit.specs.declared.verdict.Verdict.{Verdict}
 use Rattle.tsp_audit.specs.Looking.{Finds, Grown}
-use Rattle.tsp_audit.specs.Notes.{HasLineRoom, NotesStand}
+use Rattle.tsp_audit.specs.Remembered.{HasLineRoom, RememberedStands}
 use Rattle.tsp_audit.specs.Verdicts.{IsVerdict}
 use Rattle.tsp_audit.proofs.EventLemmas.{acts-length, audit-refused, audit-with, found-more, grown-claims, longer-claims, notes-later, verdict-is}
 use Rattle.tsp_audit.proofs.NoteLemmas.{room-less}
@@ -54,7 +54,7 @@ returns-in-Ok c premises header claims stands =
     let room : HasLineRoom (length (claimed header (claim ∷ claims)) - length ns) c.make_room.new.self = room-less (length (claimed header (claim ∷ claims)) - length ns) (length acts + 1) c.make_room.new.self less spare in
     let finds : Finds premises header (claim ∷ claims) h c.args.self.now.failed c.find-self.new.notes c.find-self.result =
     subst (λ (p : Premises). Finds p header (claim ∷ claims) h c.args.self.now.failed c.find-self.new.notes c.find-self.result) stands.premises_are
-    (c.find-self.ensures header (claim ∷ claims) h taken.1 grown room (λ none. c.make_room.ensures.stand c.args.self.now.premises count h (subst (λ (p : Premises). NotesStand p count h c.args.self.now.notes) (sym stands.premises_are) (stands.notes none)))) in (
+    (c.find-self.ensures header (claim ∷ claims) h taken.1 grown room (λ none. c.make_room.ensures.stand c.args.self.now.premises count h (subst (λ (p : Premises). RememberedStands p count h c.args.self.now.notes) (sym stands.premises_are) (stands.notes none)))) in (
       taken.0,
       record {
         claims_stand = taken.1;

@@ -3,7 +3,7 @@ use Rattle.std.proofs.Common.{subst, sym, ℕ}
 use Rattle.std.specs.Prelude.{List}
 use Rattle.tsp_audit.specs.Ends.{EndsAt}
 use Rattle.tsp_audit.specs.Verdicts.{AuditStands}
-use Rattle.tsp_audit_command.specs.ClaimReaders.{ClaimingValue}
+use Rattle.tsp_audit_command.specs.ClaimReaders.{ClaimReaderValue}
 use Rattle.tsp_audit_command.specs.Readings.{GivesVerdict}
 use Rattle.tsp_audit_command.specs.Sound.{claims_on}
 use Rattle.tsp_claims.specs.ClaimedHistory.{Claim}
@@ -17,4 +17,4 @@ returns c =
     let ends : EndsAt i.claims.header passed c.as_slice.result.now = subst (λ (t : List ℕ). EndsAt i.claims.header passed t) (sym c.as_slice.ensures.value) s.ends_at in
     let audit : AuditStands i.premises i.claims.header passed c.in_ok-audit.audit = c.in_ok-audit.ensures i.claims.header passed s.stand s.dated ends in
     let found : GivesVerdict i.claims.header passed c.failure.result = c.failure.ensures _ i.claims.header passed (subst (λ p. AuditStands p i.claims.header passed c.in_ok-audit.audit) s.premises_are audit) in
-    subst (λ (v : ClaimingValue). GivesVerdict v.header v.passed c.failure.result) c.self.view_is found
+    subst (λ (v : ClaimReaderValue). GivesVerdict v.header v.passed c.failure.result) c.self.view_is found

@@ -1,7 +1,7 @@
 -- As many events are left as are ahead.
 use Rattle.std.proofs.Common.{◌≡◌, ◌-◌, ◌∙◌, ap, sym, subst, length-drop, rules}
 use Rattle.std.specs.Prelude.{length, MatchResult, Some}
-use Rattle.tsp_audit_command.specs.ClaimReaders.{ClaimingValue, passes}
+use Rattle.tsp_audit_command.specs.ClaimReaders.{ClaimReaderValue, passes}
 use Rattle.tsp_audit_command.specs.Stands.{Unpassed}
 use Rattle.tsp_audit_command.proofs.claim_reader.ClaimReader.pass_all.Goals as goal
 
@@ -12,5 +12,5 @@ returns c =
     let all : c.len.result ≡ length i.events.items = search rules in
     let done : c.len-2.result ≡ length i.ends.items = search rules in
     let left : c.len.result - c.len-2.result ≡ length v.ahead =
-    ap (λ n. n - c.len-2.result) all ∙ (ap (λ n. length i.events.items - n) done ∙ (sym (length-drop (length i.ends.items) i.events.items) ∙ ap (λ (x : ClaimingValue). length x.ahead) c.self.view_is)) in
+    ap (λ n. n - c.len-2.result) all ∙ (ap (λ n. length i.events.items - n) done ∙ (sym (length-drop (length i.ends.items) i.events.items) ∙ ap (λ (x : ClaimReaderValue). length x.ahead) c.self.view_is)) in
     subst (λ n. MatchResult c.pass.result (λ _. passes n v ≡ Some c.pass.new.self) (Unpassed (passes n v))) left c.pass.ensures

@@ -1,6 +1,0 @@
-use Rattle.std.proofs.Common.{◌≡◌, take}
-use Rattle.std.specs.Prelude.{Contains}
-use Rattle.tsp_script.proofs.words.mark_at.Given as goal
-
-abbrev pub invariant-loop-octet : goal.invariant-loop-octet
-invariant-loop-octet l = (l.i ≡ l.octet-index) × ¬ Contains (take l.octet-index l.line) l.mark
