@@ -1,9 +1,11 @@
 #!/usr/bin/env python3
-"""Compares docs/PROOFS.md and docs/RELIABILITY.md with the crates: each crate has its row in the first, and what a row names in parentheses is there.
+"""Compares the front pages of the crates, docs/PROOFS.md and docs/RELIABILITY.md with the crates.
+
+Each crate has its row in docs/PROOFS.md, and what a front page names in parentheses under 'What is proved' is there.
 
 In `a`, `b` of `f`, `g` each of a and b is a clause of one of the calls f and g, or a call of the type f. A name alone is a clause, a
 call, a definition, a lemma or a file of the row's crate; a definition may be of another crate. Where a clause is a record, each fact of
-the record counts as a clause. In the second, the last three cells of a row
+the record counts as a clause. In docs/RELIABILITY.md, the last three cells of a row
 are crates, calls and clauses: each crate has one of the calls, each call is there, and each clause is one of them; 'the one' is a clause without a name.
 """
 import re
@@ -11,7 +13,8 @@ import sys
 from pathlib import Path
 
 ROOT = Path(__file__).resolve().parent.parent.parent
-ROW = re.compile(r"^\| ((?:`\w+`(?:, )?)+) \| (.*?) \| ")
+ROW = re.compile(r"^\| ((?:\[?`\w+`(?:\]\([^)]*\))?(?:, )?)+) \| ")
+PROVED = re.compile(r"^//! # What is proved\n((?://!.*\n)*?)(?=//! # |(?!//!))", re.M)
 GROUP = re.compile(r"\(([^()]*`[^()]*)\)")
 NAME = re.compile(r"`([^`]+)`")
 CALL = re.compile(r"^\s*(?:pub(?:\([a-z]+\))? )?(?:ghost )?fn (\w+)", re.M)
@@ -64,6 +67,16 @@ class Crate:
         return name in self.others or any(name in self.clauses.get(call, ()) for call in calls)
 
 
+def front_page(name):
+    """What the front page of a crate says is proved, in one line."""
+    for page in ("lib.rt", "main.rt"):
+        path = ROOT / "crates" / name / "src" / page
+        if path.exists():
+            proved = PROVED.search(path.read_text())
+            return " ".join(line[3:].strip() for line in proved.group(1).splitlines()) if proved else ""
+    return ""
+
+
 def missing(crate, group, defined):
     """The names of a group in parentheses that neither the crate has nor a definition."""
     before, of, after = group.partition("` of `")
@@ -109,22 +122,21 @@ def main():
         match = ROW.match(line)
         if match:
             for name in NAME.findall(match.group(1)):
-                rows.setdefault(name, []).append(match.group(2))
+                rows.setdefault(name, []).append(front_page(name))
     for name, crate in crates.items():
         if len(rows.get(name, ())) != 1:
             faults.append(f"{name} has {len(rows.get(name, ()))} rows")
             continue
         for group in GROUP.findall(rows[name][0]):
             count += len(NAME.findall(group))
-            faults += [f"the row of {name} names {word}, which isn't there" for word in missing(crate, group, defined)]
+            faults += [f"the front page of {name} names {word}, which isn't there" for word in missing(crate, group, defined)]
     faults += [f"{name} has a row and is no crate" for name in rows if name not in crates]
-    faults = [f"docs/PROOFS.md: {fault}" for fault in faults]
     others, answers = reliability(crates)
     faults += [f"docs/RELIABILITY.md: {fault}" for fault in others]
     for fault in faults:
         print(fault, file=sys.stderr)
     if not faults:
-        print(f"proofs: {count} names in the rows of {len(rows)} crates, and the clauses of {answers} rows of answers")
+        print(f"proofs: {count} names on the front pages of {len(rows)} crates, and the clauses of {answers} rows of answers")
     sys.exit(1 if faults else 0)
 
 

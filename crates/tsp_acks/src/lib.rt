@@ -22,6 +22,18 @@
 //! //    (`changes`) or is only posted (`posts`).
 //! station.acknowledge(from, number, port, desk);
 //! ```
+//!
+//! # What is proved
+//!
+//! In parentheses are the contracts, clauses and definitions that say it.
+//!
+//! - Each act that changes a port puts its row, and the state then represents the longer past (`row`, by
+//!   `Performs`): roles, alarms, backings, and numbered sends that begin, end, are repeated or given up
+//!   (`begin`, `begin_timed`, `begin_correction`, `acknowledge`, `answered`, `dated`, `repeat_next`).
+//!
+//! # What is only tested
+//!
+//! - One run of the acts, two of sends.
 #![tactic(auto)]
 
 pub mod begins;

@@ -9,6 +9,17 @@
 //! let words = ["clockdiff".to_string()];
 //! assert!(command_of(alloc, &words)?.is_none());
 //! ```
+//!
+//! # What is proved
+//!
+//! In parentheses are the contracts, clauses and definitions that say it.
+//!
+//! - Words are read exactly where they are a command's, as the one command whose words they are (`reads`,
+//!   `one` of `command_of`).
+//!
+//! # What is only tested
+//!
+//! - Words of each command, and words of none.
 #![tactic(auto)]
 
 pub mod addrs;

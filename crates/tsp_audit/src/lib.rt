@@ -30,6 +30,30 @@
 //! their lines fit. It needs to know how many lines of the history stand up to the end of each event.
 //!
 //! [`laws`] has what an audit says of a run's own trace: that all parts hold.
+//!
+//! # What is proved
+//!
+//! In parentheses are the contracts, clauses and definitions that say it.
+//!
+//! - An event and what is claimed of it are taken in with the verdict on all claims so far, or they misfit,
+//!   and then the audit represents what it did before (`Audit::event`).
+//! - Each of the five parts is decided in both directions (`keeps_backing`, `keeps_leading`, `keeps_acting`,
+//!   `keeps_measuring`), that clocks agree by a tracker which is carried on from event to event (`keeps` of
+//!   `keeps_agreeing`).
+//! - Which premises a schedule keeps is decided event by event (`keep_with`).
+//! - A valid schedule's own trace, audited with it, claims the run's history (`runs_are_claimed`) and fits
+//!   the schedule (`runs_fit_claims`), and the verdict on it is that all parts hold, and no other
+//!   (`runs_hold`).
+//!
+//! # What is only tested
+//!
+//! - A failure that stays.
+//! - Through the program a history for each clause of each part, but three that can't be the first to fail,
+//!   that breaks it alone, one that keeps it, and each premise broken.
+//!
+//! # What is neither proved nor tested
+//!
+//! - How fast it is.
 #![tactic(auto)]
 
 mod once;

@@ -42,6 +42,25 @@
 //!    schedule keeps: no datagram is forged, none is late, no two boots have one word. Some parts ask for them.
 //! 5. `judge` of the reader hands the history that it has to an `Audit` of `tsp_audit`, which judges it event by event,
 //!    and the verdict is written. Whether a line fits is asked once, when it is read.
+//!
+//! # What is proved
+//!
+//! In parentheses are the contracts, clauses and definitions that say it.
+//!
+//! - An audit's input is accepted and refused exactly as defined, line by line, nothing is written before it
+//!   was read to its end, and the answer is the one verdict on what is claimed, under the premises that the
+//!   whole schedule keeps (`comes`, `answers`, `gathered`, `unwritten` of `check`).
+//! - A schedule with lines that fit it isn't refused (`complete`).
+//! - At each place one thing at most may follow, and the verdict is one (`definite_audit`).
+//!
+//! # What is only tested
+//!
+//! - Rows of the refusals and verdicts.
+//! - Through the program every example's trace, changed fields and the limits.
+//!
+//! # What is neither proved nor tested
+//!
+//! - How fast it is.
 #![tactic(auto)]
 
 mod check;

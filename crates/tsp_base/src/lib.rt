@@ -30,6 +30,19 @@
 //!
 //! `specs/` has the language of all rules and promises: histories, and the facts of a node and of a
 //! port that are read off them.
+//!
+//! # What is proved
+//!
+//! In parentheses are the contracts, clauses and definitions that say it.
+//!
+//! - Values and tables by their definitions.
+//! - A header takes exactly the nodes and networks that fit (`push`, `net`), each constant has the value that
+//!   is written here (`constants_have_these_values`).
+//! - The hold (`may_back`, `may_stand`), the least deadline (`least_is_least`), ticks (`tick_at`, `width`).
+//!
+//! # What is only tested
+//!
+//! - Each value at its edges.
 #![tactic(auto)]
 
 pub mod act;

@@ -8,6 +8,17 @@
 //!    QUIT ends the candidature.
 //! 3. The Window alarm, five seconds later, goes to [`ring::candidate_ring`]: the port becomes master, or
 //!    follows nobody again. Where elections are strict, a majority of the peers must have backed it.
+//!
+//! # What is proved
+//!
+//! In parentheses are the contracts, clauses and definitions that say it.
+//!
+//! - Standing for election, the answers to it and the end of its window put exactly their rows (`row` of
+//!   `stand`, `candidate_take`, `candidate_ring`).
+//!
+//! # What is only tested
+//!
+//! - An election that is won, lost, and met too late, and a strict one with half and with more.
 #![tactic(auto)]
 
 mod answers;

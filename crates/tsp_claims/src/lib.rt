@@ -21,6 +21,23 @@
 //! A reader that gets one line at a time asks [`claims::Claims::fits`] of each, counts it in a
 //! [`tally::Tally`], and hands an event's lines to [`claims::Claims::add`] once they are all there:
 //! then none of them is asked again.
+//!
+//! # What is proved
+//!
+//! In parentheses are the contracts, clauses and definitions that say it.
+//!
+//! - An event and the lines that are claimed of it are taken in exactly if they fit their schedule.
+//! - A fault names the first line that doesn't, or that something lacks, and changes nothing (`event` of
+//!   `Claims`, by `TakesIn`).
+//! - Lines that are known to fit are taken in without a second look (`taken`, `refused` of `Claims::add`).
+//! - One line fits exactly where it is said to (`fits`), and an event lacks something exactly then (`lacks`
+//!   of `Tally`).
+//! - The claimed history, its posts and the base of each clock are as defined (`lines`, `post`, `posts`,
+//!   `base`).
+//!
+//! # What is only tested
+//!
+//! - Rows of lines that fit and that don't.
 #![tactic(auto)]
 
 mod acting;

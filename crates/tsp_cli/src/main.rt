@@ -2,6 +2,31 @@
 //! output, a UDP socket and the machine's clocks. `run` is where the proofs meet: its clauses `headline` and
 //! `so_far` (`specs/Headline.antt`, `docs/HEADLINE.md`) say what a replay has read and written, and its clause
 //! `does` (`specs/Commands.antt`) says so of each command.
+//!
+//! # What is proved
+//!
+//! In parentheses are the contracts, clauses and definitions that say it.
+//!
+//! - A replay with status 0 read a schedule of which no event is refused, and wrote exactly the trace of its
+//!   run, whose history keeps the promises, and the premises if its text does (`headline` of `run`).
+//! - A replay that ends otherwise wrote the beginning of such a trace and of one line after it, its status
+//!   says how much (`so_far` of `run`).
+//! - The status and the output of a command are the answer to its input, unless a counted fault comes or
+//!   memory runs out, and valid input of at most 64 MiB has the answer 0.
+//! - An audit, a daemon and a question end as theirs do (`does`, by `Does`, with `Runs`, `RunsAudit`,
+//!   `RunsDaemon` and `RunsQuery`).
+//! - Words are rejected if and only if they form no command (`usage`, `exact`).
+//! - What a command doesn't use is unchanged (`untouched`).
+//! - A fault of the link has its cause (`link`).
+//!
+//! # What is only tested
+//!
+//! - Worked schedules over memory, daemons and questions over a link in memory, the traces of `examples/`,
+//!   and one run of the program.
+//!
+//! # What is neither proved nor tested
+//!
+//! - `main`, the words that the system hands it, and which standard streams are open.
 #![tactic(auto)]
 
 mod help;

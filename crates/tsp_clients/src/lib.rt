@@ -9,6 +9,18 @@
 //!
 //! The caller has put the Took of the message before, and doesn't call for messages that seem to come
 //! from the port itself. Only a TEST may change the role.
+//!
+//! # What is proved
+//!
+//! In parentheses are the contracts, clauses and definitions that say it.
+//!
+//! - The answers to a question about the master, a TRACEON, a TRACEOFF and a TEST are exactly their rows, and
+//!   the node's flag says whether its trace is on (`row` of `name_master`, `say_master`, `turn_trace`,
+//!   `take_test`).
+//!
+//! # What is only tested
+//!
+//! - Each question, in roles that answer it otherwise.
 #![tactic(auto)]
 
 pub mod candidature;

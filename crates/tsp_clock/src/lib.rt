@@ -14,6 +14,19 @@
 //! assert_eq!((clock.target(40_000), clock.shown(40_000)), (1_040_400, 1_040_200));
 //! assert_eq!((clock.target(80_000), clock.shown(80_000)), (1_080_400, 1_080_400));
 //! ```
+//!
+//! # What is proved
+//!
+//! In parentheses are the contracts, clauses and definitions that say it.
+//!
+//! - Target, shown value, ticket and refusals by their definitions (`ok`, `err`, `shown`), and that a
+//!   correction puts its row's act (`row`).
+//! - Between corrections the shown value never falls, and it meets the target once all is slewed
+//!   (`shown_follows_target`).
+//!
+//! # What is only tested
+//!
+//! - Rows of corrections.
 #![tactic(auto)]
 
 pub mod clock;

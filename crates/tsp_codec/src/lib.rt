@@ -14,6 +14,20 @@
 //! assert!(matches!(decode(octets.as_slice()), Ok(Datagram::Message(_))));
 //! assert!(matches!(decode(b""), Err(DecodeFault::Short)));
 //! ```
+//!
+//! # What is proved
+//!
+//! In parentheses are the contracts, clauses and definitions that say it.
+//!
+//! - `decode` answers a datagram exactly if the octets spell it, and else their first fault (`spelled`,
+//!   `faulty`).
+//! - `read_stamp` answers a stamp exactly if `read` takes one.
+//! - `encode` gives the one written spelling, which reads back (`octets`, `read_back`).
+//! - Laws of the spelling (`laws.rt`).
+//!
+//! # What is only tested
+//!
+//! - Rows of octets for every type.
 #![tactic(auto)]
 
 mod decoding;

@@ -10,6 +10,15 @@
 //! assert!(matches!(show(alloc, &mut source, &mut sink), Outcome::Bad));
 //! assert_eq!(sink.written(), b"masterreq 7 alpha\nbad 2 short\n");
 //! ```
+//!
+//! # What is proved
+//!
+//! In parentheses are the contracts, clauses and definitions that say it.
+//!
+//! - `show` and `pack` accept exactly the lines that are a datagram's, with exactly its output (`comes`,
+//!   `answers`, `complete`).
+//! - `pack` gives back what `show` read, if that was the written spelling (`packs_what_was_shown`,
+//!   `answer_to_what_was_shown`).
 #![tactic(auto)]
 
 mod hand_over;

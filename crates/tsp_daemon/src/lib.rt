@@ -11,6 +11,34 @@
 //! `specs/Serving.antt` what comes before it, and when none begins. Contracts speak of a link, a
 //! ticker and a sink whose arrivals, readings and octets are known, as they are in tests; of the
 //! real ones they say which calls fail (`tsp_io`).
+//!
+//! # What is proved
+//!
+//! In parentheses are the contracts, clauses and definitions that say it.
+//!
+//! - A session sends and writes exactly what its node's rules give, turn by turn, if a turn has one arrival
+//!   or none and two readings of the tick.
+//! - If a fault or want of memory cut it off, how far it came (`serves` of `serve`).
+//! - Each fault has its cause (`link`, `write`).
+//! - Each receive waits until the node is due, for at least a thousandth of a second and at most one, and
+//!   there was one in each turn (`serves` of `serve`, `wait_until`).
+//! - What its node does in these turns keeps all that is promised without premises (`kept`, by
+//!   `HistoryKept`), and there is a setting (networks, rates, wall clocks) of which this speaks
+//!   (`each_daemon_is_set`).
+//! - A daemon as a command binds its own address and its words' peers, in their order, reads the wall clock
+//!   right after its first tick, and is the session of a node that boots at the first reading, with a port
+//!   for each of its networks, on which its own address is peer 0 and its words' peers come after it, unless
+//!   its bind fails or its wall clock is out of its range (`serves` of `serve_words`, by `ServesAs`).
+//! - `bad wall` comes only if the wall clock is out of its range (`wall`), and each fault has its cause
+//!   (`link`, `write`).
+//!
+//! # What is only tested
+//!
+//! - Answers, shown lines, failing calls, wall clocks at the edges of their range.
+//!
+//! # What is neither proved nor tested
+//!
+//! - That each line is one write.
 #![tactic(auto)]
 
 pub mod command;

@@ -7,6 +7,14 @@
 //!
 //! A port keeps [`dates::Dates`], made with its peers at its boot. Each of these messages goes to
 //! [`take::date_take`]. It says whether the clock was set; the caller then ends the rounds that go on.
+//!
+//! # What is proved
+//!
+//! In parentheses are the contracts, clauses and definitions that say it.
+//!
+//! - A message that sets the date, passes one on or says that one was set puts exactly its row (`row` of
+//!   `date_take`), and the call says whether the clock was corrected (`corrects`).
+//! - Every other row leaves what a port remembers of dates as it is (`DatesStand_by`, `DatesAside_by`).
 #![tactic(auto)]
 
 pub mod dates;

@@ -34,6 +34,20 @@
 //! After each of its rounds a port that leads posts LOOPs, and a gateway passes those of other nodes on to its
 //! other ports. Where one of a node's own comes back on a higher port, another gateway joins the same
 //! networks, and that port stops leading.
+//!
+//! # What is proved
+//!
+//! In parentheses are the contracts, clauses and definitions that say it.
+//!
+//! - A booted node of several ports represents the past that is its boot alone, and else says why it doesn't
+//!   boot (`row`, `err` of `Gateway::boot`).
+//! - A step puts exactly the acts of the table over ports, at most `room()`, and the node then represents the
+//!   longer past (`row`, `room` of `Gateway::step`, `turn`, `take`).
+//! - `due`, `tracing` and `port_of` are what its past says (`past`).
+//!
+//! # What is only tested
+//!
+//! - Through `replay`: the vectors of gateways and loops.
 #![tactic(auto)]
 
 mod booting;

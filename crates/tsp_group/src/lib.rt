@@ -15,6 +15,22 @@
 //! ```
 //!
 //! It takes one sort; then each value is looked at twice at most.
+//!
+//! # What is proved
+//!
+//! In parentheses are the contracts, clauses and definitions that say it.
+//!
+//! - The largest group and that there is only one such answer (`largest`, `only`), that its mean follows a
+//!   majority that agrees (`majority`), and at most twice as many looks as values once these are sorted
+//!   (`looks`).
+//!
+//! # What is only tested
+//!
+//! - The same answers as a plain program that tries every value.
+//!
+//! # What is neither proved nor tested
+//!
+//! - How fast it is.
 #![tactic(auto)]
 
 mod group;

@@ -10,6 +10,20 @@
 //! assert_eq!(trip(1000, 1020), 20);
 //! assert_eq!(difference(1000, 1015, 1020), Some((5, 11)));
 //! ```
+//!
+//! # What is proved
+//!
+//! In parentheses are the contracts, clauses and definitions that say it.
+//!
+//! - `icmp_decode` answers a message exactly if the octets are that message's, and else their first fault
+//!   (`reads`, `spelled`, `faulty`).
+//! - `icmp_encode` gives its octets (`octets`).
+//! - `difference` is right for clocks that are at most half a day apart (`dayside`).
+//!
+//! # What is only tested
+//!
+//! - Worked messages and differences.
+//! - If tshark is there, 300 random messages beside its fields.
 #![tactic(auto)]
 
 mod checksum;

@@ -12,6 +12,21 @@
 //! group 2 0 5000 2500
 //! correct alpha -2500
 //! ```
+//!
+//! # What is proved
+//!
+//! In parentheses are the contracts, clauses and definitions that say it.
+//!
+//! - `average` accepts exactly lines of exchanges, at most 1,000, with exactly its output (`comes`,
+//!   `answers`, `complete`).
+//!
+//! # What is only tested
+//!
+//! - Worked lines, and an output that two other programs gave.
+//!
+//! # What is neither proved nor tested
+//!
+//! - How fast it is.
 #![tactic(auto)]
 
 mod apart;

@@ -30,6 +30,41 @@
 //! assert!(matches!(link.recv(&mut buf, 1_000_000), Recv::Datagram(Place::Peer(_), 4)));
 //! assert!(matches!(link.recv(&mut buf, 1_000_000), Recv::Nothing));
 //! ```
+//!
+//! # What is proved
+//!
+//! In parentheses are the contracts, clauses and definitions that say it.
+//!
+//! - A read gives the next octets, a write takes some of those handed to it, a receive gives the next
+//!   arrival, cut to 512 octets, a send that was tried is on the list, as are what a link was bound to and
+//!   how long each receive was to wait (`binds`, `waits`), and a failure comes only with its count, which
+//!   stays if nothing failed (`reads`, `writes`, `receives`, `sends`, `cause`, `still`).
+//! - Tick counters don't fall (`low`, `takes`).
+//! - A machine's counter is as far as its rate says, by the reading that the machine gave, and the wall clock
+//!   and the word are one reading (`counts`, `read`, `kept` of `MachineTicker`).
+//! - A socket is asked for the address of the bind, and its number is none of a standard stream.
+//! - Its wait is less than a millisecond below the one that is asked for (`waits`), after a send that found
+//!   no room, no send waits before the next receive (`waits` and `full` of `send`), and takes nothing in a
+//!   receive that ended too late (`fresh`).
+//! - Whose a datagram is that a socket gets: that of the peer with the lowest number that has its address,
+//!   and a stranger's exactly if no peer has it, and a datagram for a peer goes to that peer's address
+//!   (`place_of` and `addr_of` of `Directory`, `came_from` and `addr_at` of `UdpLink`, and its `peers`,
+//!   `from`, `to`).
+//!
+//! # What is only tested
+//!
+//! - One run of each form.
+//! - Two sockets exchange a request and 600 octets, each once.
+//! - Of two peers with one address the lower one is the sender.
+//! - A closed port is no fault.
+//! - How long receives wait.
+//! - What came in a pause is thrown away.
+//! - A million times at rates of all sizes.
+//! - Through the program a link that takes nothing.
+//!
+//! # What is neither proved nor tested
+//!
+//! - What the operating system does.
 #![tactic(auto)]
 
 pub mod addr;

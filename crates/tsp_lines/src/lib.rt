@@ -17,6 +17,26 @@
 //!
 //! A [`reader::LineReader`] gives the lines, and an [`output::Output`] gathers what is to be written.
 //! `docs/LINES.md` says more.
+//!
+//! # What is proved
+//!
+//! In parentheses are the contracts, clauses and definitions that say it.
+//!
+//! - What each outcome says of input and output, for any treatment of lines (`comes`, `answers` of
+//!   `treat_all`).
+//! - No output is held back over a read (`keeps_up`).
+//! - An input has one answer (`one_answer`).
+//! - The same of an input that is first read whole, but that nothing is written before a read fault (`comes`,
+//!   `gathered`, `unwritten` of `treat_gathered`).
+//!
+//! # What is only tested
+//!
+//! - Each outcome but out of memory comes if it should.
+//! - Long lines are refused.
+//!
+//! # What is neither proved nor tested
+//!
+//! - How fast it is.
 #![tactic(auto)]
 
 mod buffer;

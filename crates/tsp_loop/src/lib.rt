@@ -11,6 +11,16 @@
 //!     LoopStep::Forward(next) => post_to_peers_of_other_ports(port, next), // with one hop less
 //! }
 //! ```
+//!
+//! # What is proved
+//!
+//! In parentheses are the contracts, clauses and definitions that say it.
+//!
+//! - A node's step for a LOOP is the rule's (`judge`).
+//!
+//! # What is only tested
+//!
+//! - Rows for its own LOOP, another's, and the edges of hops and ports.
 #![tactic(auto)]
 
 mod step;

@@ -20,6 +20,16 @@
 //!
 //! Ticks are microseconds of the node's own counter, from 0 to 2^61; differences, means and clock values are
 //! microseconds. Only `new` fails, and only if out of memory.
+//!
+//! # What is proved
+//!
+//! In parentheses are the contracts, clauses and definitions that say it.
+//!
+//! - A master that takes a message, a reply or an ACK, or whose alarm is due, puts exactly its rows (`row` of
+//!   `Master::take`, `reply`, `acknowledge`, `ring`), and says whether it corrected the clock (`corrects`).
+//! - The sample that a close rests on is of an exchange that began after the node's last correction
+//!   (`recent`).
+//! - The state represents the past still when a peer joins, leaves, is given up or is forgotten (`stands`).
 #![tactic(auto)]
 
 mod closing;

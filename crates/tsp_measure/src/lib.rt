@@ -20,6 +20,18 @@
 //! [`Rounds`] are a master's exchanges: they number the requests, and count how often the going round has
 //! probed. [`Slaves`] has an [`Entry`] for each peer: whether it is a slave, whether the round measures it, and
 //! its last correction. Neither posts anything nor knows the protocol's rows; that is `tsp_master`'s.
+//!
+//! # What is proved
+//!
+//! In parentheses are the contracts, clauses and definitions that say it.
+//!
+//! - The sample of each reply and the best sample (`replies`, `first`).
+//! - No two open requests of a master to one peer have one counter (`apart` of `Rounds::reply`), and what it
+//!   learns of one peer changes that entry of its table alone (`entries` of `Slaves::change` and `leave`).
+//!
+//! # What is only tested
+//!
+//! - Rows of samples.
 #![tactic(auto)]
 
 mod entry;

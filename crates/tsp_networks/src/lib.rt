@@ -18,6 +18,27 @@
 //!     arrives(address.node, address.port);
 //! }
 //! ```
+//!
+//! # What is proved
+//!
+//! In parentheses are the contracts, clauses and definitions that say it.
+//!
+//! - Which networks nodes are on, by how many ports, and where a datagram goes that a port posts
+//!   (`networks_of`, `port_count`, `address_of`).
+//! - That time goes back, that what an event names isn't there and that a node is down, each as the cause
+//!   that it is (`time_back`, `no_node`, `down_at`).
+//! - Posts are given back under their numbers as they were put, whatever their names (`items` of `push`,
+//!   `way`, `datagram`), as many as room was made for (`spare` of `push`, `room`, `kept` of `reserve`).
+//!
+//! # What is only tested
+//!
+//! - A node between two networks.
+//! - Rows of the causes.
+//! - Messages with an empty, a short and the longest name, and a stamp.
+//!
+//! # What is neither proved nor tested
+//!
+//! - How much memory posts take.
 #![tactic(auto)]
 
 ghost use Rattle.std.specs.Prelude.{◌≡◌, ◌≤◌, [], ◌∷◌, length, true, IfOk};

@@ -28,6 +28,21 @@
 //! A datagram's way: `Part::take` puts Took; `handle` ignores what seems to come from the port itself; `hear`
 //! sends a message by its kind to those who answer it: clients' questions, dates, open sends, or the port's role,
 //! for which `hear_peer` calls the role's crate (`tsp_slave`, `tsp_candidate`, `tsp_master`).
+//!
+//! # What is proved
+//!
+//! In parentheses are the contracts, clauses and definitions that say it.
+//!
+//! - A booted node represents the past that is its boot alone, and else says why it doesn't boot (`row`,
+//!   `err` of `Node::boot`).
+//! - A step puts exactly the acts of the table, at most `room()`, and the node then represents the longer
+//!   past (`row`, `room` of `Node::step`, `turn`, `take`).
+//! - `role`, `shown`, `due` and `tracing` are what its past says (`past`).
+//!
+//! # What is only tested
+//!
+//! - A node alone over a schedule: boot, turns, messages, `due`, `role` and `shown` (`alone` of
+//!   `tsp_role_tests`).
 #![tactic(auto)]
 
 mod alarms;

@@ -40,6 +40,23 @@
 //! whichever nodes there are and however many. [`alone`] says that a gateway, a node with several
 //! ports, runs as a node does if it has one port. Small histories show that each promise can be
 //! kept with all of its premises, and that each can be broken.
+//!
+//! # What is proved
+//!
+//! In parentheses are the contracts, clauses and definitions that say it.
+//!
+//! - A port that runs by the whole table does nothing that its past doesn't allow (`rules_fit`), nor does any
+//!   port of a node with several (`nodes_fit`).
+//! - What it posts has its parts in their ranges, if what it took has (`answers_are_sound`).
+//! - By the rules over several ports, a node with one port answers in each step what the rules of a node's
+//!   only port give (`answers_alone`), boots alike (`boots_alone`), and so runs as that port does, from
+//!   nothing on and through any steps (`runs_alone`).
+//! - A history that fits keeps every promise (`safe`, and a theorem for each).
+//! - The promises are neither empty nor always true (`ordinary_use`, `rivals_meet`, `dates_use`, `loops_use`,
+//!   `promises_can_be_broken`, `dates_can_be_broken`, `loops_can_be_broken`).
+//! - In a history that fits a master alone sets the date, and what is acknowledged was set (`dated`), LOOPs
+//!   come along chains of at most eleven posts, and a master gives up its lead for a LOOP only if that is its
+//!   own node's (`looped`).
 #![tactic(auto)]
 
 pub mod alone;

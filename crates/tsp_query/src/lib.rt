@@ -16,6 +16,24 @@
 //!     other => fail(other),
 //! }
 //! ```
+//!
+//! # What is proved
+//!
+//! In parentheses are the contracts, clauses and definitions that say it.
+//!
+//! - A query tries to send exactly its one datagram, takes the first answer among eight receives, each of
+//!   which waits a second, reads its ticks and its wall clock if the definition says, and ends with the first
+//!   call that fails (`asks`).
+//! - No sum leaves its type.
+//! - A question as a command binds `0.0.0.0:0` with the daemon's address as its one peer, is asked once the
+//!   link is bound, and exactly the line of what came of it is written (`asks` of `ask`, by `AsksAs`).
+//! - Each fault has its cause (`link`, `write`).
+//!
+//! # What is only tested
+//!
+//! - A query of each kind, failing calls, late and foreign answers.
+//! - A line of each kind, failing calls.
+//! - That a question's trip begins before its send.
 #![tactic(auto)]
 
 pub mod ask;

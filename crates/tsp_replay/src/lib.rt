@@ -13,6 +13,15 @@
 //!     b"1 0 0 0 boot\n1 0 0 0 become starting\n1 0 0 0 arm quiet 80000000\n"
 //! );
 //! ```
+//!
+//! # What is proved
+//!
+//! In parentheses are the contracts, clauses and definitions that say it.
+//!
+//! - Exactly which lines may follow which, each refusal's cause, and the trace (`comes`, `answers` of
+//!   `replay`).
+//! - The text of a schedule isn't refused (`complete`), and is that of one schedule alone
+//!   (`one_schedule_of_a_text`).
 #![tactic(auto)]
 
 pub mod laws;

@@ -15,6 +15,16 @@
 //!
 //! [`worked`] has twelve small runs, event by event, with the acts that the rules give, and
 //! [`strangers`] says that nothing is posted to a stranger unasked.
+//!
+//! # What is proved
+//!
+//! In parentheses are the contracts, clauses and definitions that say it.
+//!
+//! - The table of rows, over one port and over several, gives the acts of twelve worked scripts, which touch
+//!   each of its rows for messages and alarms (the laws of `worked`, such as `ordinary_use`, `hears_masters`,
+//!   `dates_once` and `joins_networks`).
+//! - The room that a step is given on a port is computed as defined (`room_for`).
+//! - A step posts to strangers only where it is given a stranger's datagram (`strangers_are_answered`).
 #![tactic(auto)]
 
 pub mod room;

@@ -14,6 +14,15 @@
 //! refused), `Setting` and `Promises` (what is promised of the history), and `Premised` (what the
 //! promises ask of the schedule's text). [`laws`] has the theorems: `runs_fit`,
 //! `runs_keep_promises` and `runs_keep_premises`.
+//!
+//! # What is proved
+//!
+//! In parentheses are the contracts, clauses and definitions that say it.
+//!
+//! - The history of every schedule, over its networks, fits and keeps the promises, in strict elections that
+//!   of one winner too, and those of dates and LOOPs (`runs_fit`, `runs_keep_promises`).
+//! - It keeps a premise if its text does (`runs_keep_premises`).
+//! - The worked run on two networks gives its acts (`joins_two_networks`).
 #![tactic(auto)]
 
 pub mod address;

@@ -15,6 +15,18 @@
 //! ```
 //!
 //! `tsp_replay` hands the events to a world; `tsp_audit_command` only lists them.
+//!
+//! # What is proved
+//!
+//! In parentheses are the contracts, clauses and definitions that say it.
+//!
+//! - Which line may follow which in a schedule, how far each brings the reading, and for what cause one is
+//!   refused, whatever its events are handed to (`next` of `Stage::advance`).
+//!
+//! # What is only tested
+//!
+//! - A schedule of one node, line by line.
+//! - Long lines.
 #![tactic(auto)]
 
 mod faults;

@@ -26,6 +26,19 @@
 //! An `Event` has room for 300 octets, so handing it on costs time. `Storm::choice` is `next` for callers to
 //! whom that matters: it gives an event without octets as a small [`Plain`](tsp_base::plain::Plain). So does
 //! [`event_line::plain_line`] with a turn's line or a take's.
+//!
+//! # What is proved
+//!
+//! In parentheses are the contracts, clauses and definitions that say it.
+//!
+//! - A line is read exactly where it is in the grammar, as the one value that it spells (`reads`, `one`).
+//! - Written texts are as defined, and a written message comes back (`comes_back`).
+//! - The generator of schedules gives what its draws come to (`line`, `next` of `Storm`), and only events in
+//!   their ranges (`range`).
+//!
+//! # What is only tested
+//!
+//! - Rows of lines.
 #![tactic(auto)]
 
 pub mod act_laws;

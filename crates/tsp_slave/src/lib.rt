@@ -15,6 +15,18 @@
 //!
 //! Ticks are microseconds of the node's own counter, from 0 to 2^61; clock values and amounts are
 //! microseconds. Calls put acts on the desk, for which the caller reserves the room. No call fails.
+//!
+//! # What is proved
+//!
+//! In parentheses are the contracts, clauses and definitions that say it.
+//!
+//! - Following, searching, being corrected, backing a candidate, reporting another master and taking a QUIT
+//!   or an ACK put exactly their rows (`row` of `slave_take`, `slave_ring`, `follow`, `take_quit`).
+//! - That a message corrected the clock is said exactly if it did (`corrects` of `slave_hear`).
+//!
+//! # What is only tested
+//!
+//! - A run of corrections, one of backings, one of a conflict and a QUIT.
 #![tactic(auto)]
 
 mod change;

@@ -11,6 +11,20 @@
 //! assert!(matches!(storm(alloc, &words, &mut sink), StormEnd::Done));
 //! assert_eq!(sink.written(), b"events 1 posted 0 took 0 corrects 0 masters 0\n");
 //! ```
+//!
+//! # What is proved
+//!
+//! In parentheses are the contracts, clauses and definitions that say it.
+//!
+//! - A storm writes the summary of the run of exactly the schedule that its number gives, or the number of
+//!   the event for which there is no room (`ends`, `answers` of `storm`), and ends well if there is room and
+//!   no write fails (`complete`).
+//! - The runs of such schedules keep the promises, and their premises except Few (`storms_keep_promises`).
+//!
+//! # What is only tested
+//!
+//! - Storms worked out in rows.
+//! - Others beside a plain program written by hand (`tools/test`).
 #![tactic(auto)]
 
 pub mod counts;

@@ -17,6 +17,18 @@
 //!
 //! What needs no node is in `tsp_networks`: who is on which network, the posted datagrams, and the lines of a
 //! step's acts.
+//!
+//! # What is proved
+//!
+//! In parentheses are the contracts, clauses and definitions that say it.
+//!
+//! - An event is refused for its first cause and else happens as defined, and a refusal changes nothing
+//!   (`fault`, `stands`, `kept` of `World::event`).
+//! - The history keeps the promises, and the premises if the text does (`promises`, `premises`).
+//!
+//! # What is only tested
+//!
+//! - Runs of two nodes, and of nodes on two networks.
 #![tactic(auto)]
 
 mod effects;
