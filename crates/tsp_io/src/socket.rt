@@ -1,4 +1,4 @@
-//! A UDP socket whose receives wait for a given time, and whose sends wait for room once at most.
+//! A UDP socket whose receives wait for a given time, and whose sends never wait.
 ghost use Rattle.std.specs.Prelude.{◌≡◌, ◌⊎◌, ◌≤◌, ◌<ℤ◌, length, false, true, None, Some, pos};
 ghost use Rattle.std.specs.Prelude.{IfOk, IfSome, IsTrue, OnErr, OnOk};
 ghost use Rattle.std.specs.Net.Udp.{udp_raw_fd};
@@ -21,9 +21,6 @@ const LAST_STREAM: i32 = 2;
 /// How long the program may have been away beyond a receive's wait, in microseconds, before what
 /// came meanwhile counts as old.
 const LONGEST_PAUSE: u64 = 1_000_000;
-
-/// How long a send waits for room at most, in microseconds; the system makes ticks of it.
-const SEND_WAIT: u64 = 1_000;
 
 /// How many datagrams one receive throws away at most.
 const MOST_DISCARDED: u32 = 100_000;
@@ -66,10 +63,8 @@ pub(crate) struct Socket {
     pub discarded: u64,
     /// The wait in microseconds that was last set; 0 if none was set, so that receives wait for ever.
     wait: u64,
-    /// Whether calls wait: a receive for a datagram, a send for room.
+    /// Whether calls wait: a receive for a datagram, a send for room. No send is tried while they do.
     waits: bool,
-    /// Whether a send found no room since the last receive that waited.
-    full: bool,
     /// When the last receive ended, or the bind; None if the machine's clock gave no reading.
     ended: Option<u64>,
     ghost no_stream: { pos 2 <ℤ udp_raw_fd udp },
@@ -88,13 +83,12 @@ impl Socket {
     /// The same, with the address as the system gets it.
     fn bind_to<R: Net + Clock>(rt: &R, local: SocketAddr) -> io::Result<Socket>
         ensures { IfOk result (λ s. (s.local ≡ local) × (s.discarded ≡ 0) × (s.to ≡ None)
-            × (s.wait ≡ 0) × (s.waits ≡ true) × (s.full ≡ false)) }
+            × (s.wait ≡ 0) × (s.waits ≡ true)) }
     {
         let udp = UdpSocket::bind(rt, local)?;
         if udp.as_raw_fd() <= LAST_STREAM {
             return Err(io::Error::from(ErrorKind::Other));
         }
-        udp.set_write_timeout(Some(Duration::from_micros(SEND_WAIT)))?;
         Ok(Socket {
             udp,
             local,
@@ -102,7 +96,6 @@ impl Socket {
             discarded: 0,
             wait: 0,
             waits: true,
-            full: false,
             ended: machine_micros(rt),
         })
     }
@@ -146,21 +139,16 @@ impl Socket {
         }
     }
 
-    /// The next datagram that comes within the wait that is set. If a send found no room, what is there
-    /// already is taken first, and the socket waits again once nothing is there.
+    /// The next datagram that comes within the wait that is set. After a send what is there already is
+    /// taken first, and calls wait again once nothing is there: so a socket that always has something
+    /// to take isn't told to wait and not to wait in turn.
     #[inline(always)]
     fn next(&mut self, buf: &mut [u8]) -> Result<Came, Untaken>
         requires { length buf.old ≡ 512 }
         ensures size { IfOk result (λ came. came.count ≤ 512) }
-        ensures same { self.new ≡ record self.old {
-          waits = self.new.waits;
-          full = self.new.full;
-        } }
+        ensures same { self.new ≡ record self.old { waits = self.new.waits } }
     {
-        if self.full || !self.waits {
-            if self.set_waits(false).is_err() {
-                return Err(Untaken::Fault);
-            }
+        if !self.waits {
             match self.take(buf) {
                 Err(Untaken::Empty) => {}
                 taken => return taken,
@@ -168,7 +156,6 @@ impl Socket {
             if self.set_waits(true).is_err() {
                 return Err(Untaken::Fault);
             }
-            self.full = false;
         }
         self.take(buf)
     }
@@ -232,7 +219,6 @@ impl Socket {
         ensures same { self.new ≡ record self.old {
           wait = self.new.wait;
           waits = self.new.waits;
-          full = self.new.full;
           discarded = self.new.discarded;
           ended = self.new.ended;
         } }
@@ -257,26 +243,21 @@ impl Socket {
         Ok(came)
     }
 
-    /// Sends a datagram, and says whether the system took all of it. Waits for room until a send found
-    /// none; then no send waits before the next receive that waits.
+    /// Sends a datagram, and says whether the system took all of it. A send that finds no room fails at
+    /// once.
     #[inline(always)]
     pub(crate) fn send(&mut self, octets: &[u8], to: Addr) -> bool
         ensures to { option_map addr_of self.new.to ≡ Some (Some to) }
-        ensures waits { IsTrue result → self.old.full ≡ true → self.new.waits ≡ false }
-        ensures full { self.old.full ≡ true → self.new.full ≡ true }
-        ensures same { (self.new.local ≡ self.old.local)
-            × (self.new.discarded ≡ self.old.discarded) × (self.new.ended ≡ self.old.ended) }
+        ensures waits { IsTrue result → self.new.waits ≡ false }
+        ensures same { self.new ≡ record self.old { to = self.new.to; waits = self.new.waits } }
     {
         self.to = Some(socket_addr(to));
-        if self.full && self.set_waits(false).is_err() {
+        if self.set_waits(false).is_err() {
             return false;
         }
         match self.udp.send_to(octets, socket_addr(to)) {
             Ok(count) => count == octets.len(),
-            Err(error) => {
-                self.full = self.full || is_full(error.kind());
-                false
-            }
+            Err(_) => false,
         }
     }
 }
@@ -306,11 +287,6 @@ fn settable(wait: u64) -> u64
     } else {
         wait - wait % 1_000
     }
-}
-
-/// Whether this error of a send says that there was no room.
-fn is_full(kind: ErrorKind) -> bool {
-    matches!(kind, ErrorKind::WouldBlock | ErrorKind::TimedOut)
 }
 
 /// What this error of a receive means.
