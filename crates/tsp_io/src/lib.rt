@@ -43,9 +43,9 @@
 //! - A machine's counter is as far as its rate says, by the reading that the machine gave, and the wall clock
 //!   and the word are one reading (`counts`, `read`, `kept` of `MachineTicker`).
 //! - A socket is asked for the address of the bind, and its number is none of a standard stream.
-//! - Its wait is less than a millisecond below the one that is asked for (`waits`), after a send that found
-//!   no room, no send waits before the next receive (`waits` and `full` of `send`), and takes nothing in a
-//!   receive that ended too late (`fresh`).
+//! - Its wait is less than a millisecond below the one that is asked for (`waits`).
+//! - No send is tried while it waits (`waits` of `send`).
+//! - It takes nothing in a receive that ended too late (`fresh`).
 //! - Whose a datagram is that a socket gets: that of the peer with the lowest number that has its address,
 //!   and a stranger's exactly if no peer has it, and a datagram for a peer goes to that peer's address
 //!   (`place_of` and `addr_of` of `Directory`, `came_from` and `addr_at` of `UdpLink`, and its `peers`,
