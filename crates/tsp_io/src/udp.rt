@@ -21,8 +21,7 @@ use tsp_base::place::Place;
 /// the like) answers `Nothing` and is no fault. So a peer whose port is closed doesn't end a daemon. The socket is
 /// one of IPv4: a sender with another address couldn't be answered.
 ///
-/// If the system has no room for a datagram, its send waits for a millisecond, which the kernel makes one to two of
-/// its ticks, and fails then. After that no send waits before the next receive.
+/// If the system has no room for a datagram, its send fails at once: sends never wait.
 ///
 /// If the program was away for more than a second, for instance because it was stopped, what came
 /// meanwhile is thrown away, and the receive answers `Nothing`: that is so if it ended more than a
