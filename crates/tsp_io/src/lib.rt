@@ -59,7 +59,7 @@
 //! - A closed port is no fault.
 //! - How long receives wait.
 //! - What came in a pause is thrown away.
-//! - A million times at rates of all sizes.
+//! - Ten million times at rates of all sizes.
 //! - Through the program a link that takes nothing.
 //!
 //! # What is neither proved nor tested
