@@ -14,7 +14,7 @@ class Truth:
         words = ['cc', '-std=c99', '-O2', '-Wall', '-I', os.path.dirname(HERE), '-o', path, os.path.join(HERE, 'truth.c')]
         if shutil.which('cc') is None or subprocess.run(words, check=False).returncode:
             raise OSError('there is no cc that makes the readers')
-        hosts = [f'{lab.page(daemon)},{start + daemon.ahead},{daemon.step[1]},{daemon.drift},{daemon.name}' for daemon in lab.daemons]
+        hosts = [f'{lab.page(daemon)},{start + daemon.ahead},{daemon.step[1]},{daemon.drift},{daemon.rate},{daemon.name}' for daemon in lab.daemons]
         self.process = subprocess.Popen([path, str(lab.begun), str(lab.rate), str(seconds // lab.rate + 60), *hosts], stdout=subprocess.PIPE)
 
     def end(self):
