@@ -6,7 +6,7 @@ import subprocess
 from lab import process
 from lab.hosts import Failed, Namespaces
 
-LAUNCH = os.path.join(os.path.dirname(os.path.dirname(os.path.realpath(__file__))), 'tsp-launch')
+LAUNCH = os.path.join(os.path.dirname(os.path.dirname(os.path.dirname(os.path.realpath(__file__)))), 'tools', 'tsp-launch')
 
 
 class Supervised(Namespaces):
