@@ -79,13 +79,16 @@ class Matched:
 def matched(chance, count, drift, seconds):
     """Hosts whose datagrams are on their way for a microsecond."""
     rates = [0] + [chance.randint(-drift, 0) for _ in range(count - 1)]
-    lives = [Life(node, 1_800_000_000_000_000 + chance.randint(-10**7, 10**7)) for node in range(count)]
+
+    def passes(node, time):
+        return time + time * rates[node] // times.MILLION
+    begun = [passes(node, chance.randrange(times.MILLION)) for node in range(count)]
+    lives = [Life(node, 1_800_000_000_000_000 + chance.randint(-10**7, 10**7) + first) for node, first in enumerate(begun)]
     for _ in range(100 * count):
-        left, reached = chance.sample(lives, 2)
-        at = chance.randrange(seconds * times.MILLION)
-        came = at + 1
-        ticks = [time + time * rates[life.node] // times.MILLION for time, life in ((at, left), (came, reached))]
-        Step(reached, ticks[1], Post(Step(left, ticks[0])))
+        left, reached = chance.sample(range(count), 2)
+        at = times.MILLION + chance.randrange(seconds * times.MILLION)
+        post = Post(Step(lives[left], passes(left, at) - begun[left]))
+        Step(lives[reached], passes(reached, at + 1) - begun[reached], post)
     return Matched(lives)
 
 
