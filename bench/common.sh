@@ -16,7 +16,7 @@ fail() {
 # Builds the plain program that does the same jobs.
 build_plain() {
     command -v rustc >/dev/null || fail 'there is no rustc, which builds the plain program'
-    rustc -O --edition 2024 -o "$work/plain" "$here/bench/plain.rs"
+    rustc -O --edition 2024 -o "$work/plain" "$here/bench/plain/main.rs"
 }
 
 # The instructions of a command, which reads standard input; its output is left in this file.

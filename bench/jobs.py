@@ -38,6 +38,6 @@ def program_of(words: list) -> str:
 
 
 def build(name: str, folder: pathlib.Path) -> str:
-    """Builds a plain program of this folder."""
-    subprocess.run(["rustc", "-O", "--edition", "2024", "-o", folder / name, HERE / f"{name}.rs"], check=True)
+    """Builds the plain program whose root is this file of `plain/`."""
+    subprocess.run(["rustc", "-O", "--edition", "2024", "-o", folder / name, HERE / "plain" / f"{name}.rs"], check=True)
     return str(folder / name)

@@ -40,13 +40,13 @@ Writer('$out/led').write(tsp_clock.Page(1, 0, $leads, 2, target=10 ** 15))"
 done
 mkdir "$out/pages"
 python3 tools/tests/clock.py "$program" "$out/reader" "$out/pages" "${TSP_MOMENTS:-30000}" "${TSP_SEED:-1}" >"$out/told" || fail 'the page is another one'
-# A short form of tools/read-cost; how much a read may cost is looked at on a machine that has nothing else to do.
-tools/read-cost --reads 500 --most 5 >"$out/cost" 2>"$out/said" || fail "$(cat "$out/cost" "$out/said")"
+# A short form of dev/read-cost; how much a read may cost is looked at on a machine that has nothing else to do.
+dev/read-cost --reads 500 --most 5 >"$out/cost" 2>"$out/said" || fail "$(cat "$out/cost" "$out/said")"
 grep -q '^slewing  python ' "$out/cost" || fail "$(cat "$out/cost")"
 for words in '--reads 0' a '--most x'; do
     status=0
     # shellcheck disable=SC2086  # words
-    tools/read-cost $words >"$out/text" 2>"$out/said" || status=$?
+    dev/read-cost $words >"$out/text" 2>"$out/said" || status=$?
     [ "$status" -eq 2 ] && [ "$(wc -l <"$out/said")" -eq 1 ] && [ ! -s "$out/text" ] || fail "'$words': status $status, $(cat "$out/said")"
 done
 echo "$check: $(cat "$out/told")$tried; a read in C takes $(sed -n 's/.*, *\([0-9.]*\) times as long/\1/p' "$out/cost" | head -n 1) times as long as clock_gettime"

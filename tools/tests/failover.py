@@ -8,8 +8,9 @@ import sys
 
 HERE = os.path.dirname(os.path.realpath(__file__))
 TOOLS = os.path.dirname(HERE)
+DEV = os.path.join(os.path.dirname(TOOLS), 'dev')
 sys.dont_write_bytecode = True
-sys.path.insert(0, TOOLS)
+sys.path[:0] = TOOLS, DEV
 from lab import preload  # noqa: E402
 from lab.hosts import Daemon, Loopback  # noqa: E402
 from lab.trial import Trial  # noqa: E402

@@ -4,25 +4,25 @@
 
 repository=$out/repository
 mkdir -p "$repository/tools" "$repository/docs"
-cp tools/gate-times tools/crate-paths "$repository/tools/"
+cp dev/gate-times dev/crate-paths "$repository/tools/"
 printf '%s\n' '# crates' 'low: arrayvec' 'left: low' 'right: low  # the other side' 'top: left right low' 'program staticlib: top left' >"$repository/crates.txt"
 
 # low 1, left and right 2 each, top 1 + 2 + 2 + 1, program 1 + 6 + 2.
-"$repository/tools/crate-paths" | awk '{ print $1, $2 }' >"$out/ways"
+"$repository/dev/crate-paths" | awk '{ print $1, $2 }' >"$out/ways"
 printf '%s\n' '1 low' '2 left' '2 right' '6 top' '9 program' | cmp -s - "$out/ways" || fail "the ways are $(cat "$out/ways")"
 
 # A crate below itself, and a file that isn't there.
 printf '%s\n' 'one: two' 'two: one' >"$out/circle"
 for row in "$out/circle:one stands below itself" "$out/none:there is no file $out/none"; do
     status=0
-    tools/crate-paths "${row%%:*}" >"$out/said" 2>"$out/told" || status=$?
+    dev/crate-paths "${row%%:*}" >"$out/said" 2>"$out/told" || status=$?
     [ "$status" -eq 2 ] && [ "$(cat "$out/told")" = "crate-paths: ${row#*:}" ] && [ ! -s "$out/said" ] || fail "status $status: $(cat "$out/said" "$out/told")"
 done
 
 # The page keeps the crates' figures that it has, and gets a row for the command, whose status is handed on.
 printf '%s\n' '| `low` | 60 | 7 | 30 | 97 |' '| `left` | 120 |  |  | 120 |' '| `right` | 30 |  |  | 30 |' '| `gone` | 9000 |  |  | 9000 |' >"$repository/docs/GATE.md"
 status=0
-"$repository/tools/gate-times" sh -c 'exit 3' || status=$?
+"$repository/dev/gate-times" sh -c 'exit 3' || status=$?
 [ "$status" -eq 3 ] || fail "a command with status 3 gives status $status"
 page=$repository/docs/GATE.md
 for line in '| `sh -c exit 3` | 0 | 0 | '"$(nproc)"' |' '| `low` | 60 | 7 | 30 | 97 | 1 |' '| `left` | 120 |  |  | 120 | 2 |' '| `program` |  |  |  | 0 | 9 |' \
@@ -33,13 +33,13 @@ done
 ! grep -q gone "$page" || fail 'the page has a crate that is gone'
 [ "$(grep '^1\. ' "$page" | head -n 2 | tr '\n' ' ')" = '1. `low` 1. `left` ' ] || fail 'the longest chain is another one'
 cp "$page" "$out/page"
-"$repository/tools/gate-times" sh -c 'exit 3' || :
+"$repository/dev/gate-times" sh -c 'exit 3' || :
 cmp -s "$page" "$out/page" || fail 'a second run of the same writes another page'
 # A process below may have words that aren't UTF-8.
 status=0
-"$repository/tools/gate-times" sh -c 'sh -c "sleep 1; exit 3" "$(printf "\377")"' 2>"$out/told" || status=$?
+"$repository/dev/gate-times" sh -c 'sh -c "sleep 1; exit 3" "$(printf "\377")"' 2>"$out/told" || status=$?
 [ "$status" -eq 3 ] && [ ! -s "$out/told" ] || fail "words that aren't UTF-8: status $status: $(cat "$out/told")"
 status=0
-"$repository/tools/gate-times" >"$out/said" 2>"$out/told" || status=$?
+"$repository/dev/gate-times" >"$out/said" 2>"$out/told" || status=$?
 [ "$status" -eq 1 ] && grep -q '^usage: ' "$out/told" || fail "without a command: status $status"
 echo "$check: ways down from crates, and the page of a command"

@@ -1,16 +1,16 @@
 #!/bin/sh
-# What programs read of two hosts' pages has the master's clock in its interval, in a short form of tools/intervals, in which time runs fast.
+# What programs read of two hosts' pages has the master's clock in its interval, in a short form of dev/intervals, in which time runs fast.
 . "$(dirname "$0")/common.sh"
 has cc && unshare -r -n -m -p -f --kill-child ip link >"$out/said" 2>&1 || { skip 'there is no cc, or there are no namespaces' 'the interval that programs read'; exit; }
 serving_program
 status=0
-tools/intervals --rate 40 --minutes 15 --hosts 2 --quiet "$program" >"$out/said" 2>"$out/told" || status=$?
+dev/intervals --rate 40 --minutes 15 --hosts 2 --quiet "$program" >"$out/said" 2>"$out/told" || status=$?
 [ "$status" -eq 0 ] || fail "$(cat "$out/said" "$out/told")"
 awk 'NR > 1 && ($2 < 10000 || $3 != 0 || $6 != 0) { exit 1 } END { exit NR != 3 }' "$out/said" || fail "$(cat "$out/said")"
 for words in '--hosts 1' '--rate 51' 'a b'; do
     status=0
     # shellcheck disable=SC2086  # words
-    tools/intervals $words >"$out/text" 2>"$out/told" || status=$?
+    dev/intervals $words >"$out/text" 2>"$out/told" || status=$?
     [ "$status" -eq 2 ] && [ "$(wc -l <"$out/told")" -eq 1 ] && [ ! -s "$out/text" ] || fail "'$words': status $status, $(cat "$out/told")"
 done
 echo "$check: $(awk 'NR > 1 { sum += $2 } END { print sum }' "$out/said") readings of two hosts, none outside"

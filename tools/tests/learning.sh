@@ -5,14 +5,14 @@ program=${TSP_PROGRAM:-crates/tsp_cli/out/tsp_cli}
 [ -n "${TSP_PROGRAM:-}" ] || ./tsp show </dev/null || fail "the program isn't there"
 
 # Days in small: after three restarts all counters are within 1 part in a million, and no restart made anything worse.
-tools/learning --days 6 --hosts 3,8 --kills 1 >"$out/table" || fail "$(cat "$out/table")"
+dev/learning --days 6 --hosts 3,8 --kills 1 >"$out/table" || fail "$(cat "$out/table")"
 [ "$(wc -l <"$out/table")" -eq 5 ] || fail "the table is $(cat "$out/table")"
 # (a network whose datagrams are late by up to 100 ms doesn't give so much, and that is seen)
-! tools/learning --days 5 --hosts 8 --jitter 100000 >"$out/table" 2>"$out/told" || fail 'rates of a poor network are said to be good'
+! dev/learning --days 5 --hosts 8 --jitter 100000 >"$out/table" 2>"$out/told" || fail 'rates of a poor network are said to be good'
 grep -qx "learning: after three restarts counters aren't within 1 part in a million, or a restart made something worse" "$out/told" || fail "$(cat "$out/told")"
 for words in '--days 4' '--hosts 1' '--kills 2' '--rates x' 'more'; do
     # shellcheck disable=SC2086  # words
-    ! tools/learning $words >"$out/said" 2>"$out/told" || fail "'$words' is accepted"
+    ! dev/learning $words >"$out/said" 2>"$out/told" || fail "'$words' is accepted"
     [ "$(wc -l <"$out/told")" -eq 1 ] && [ ! -s "$out/said" ] || fail "'$words': it says $(cat "$out/said" "$out/told")"
 done
 

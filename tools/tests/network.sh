@@ -7,15 +7,15 @@ serving_program
 # A run that fails keeps what it names.
 if has cc; then
     status=0
-    TMPDIR=$out tools/network "$(command -v false)" >"$out/said" 2>"$out/told" || status=$?
+    TMPDIR=$out dev/network "$(command -v false)" >"$out/said" 2>"$out/told" || status=$?
     kept=$(sed -n 's/^network: what was written is kept in //p' "$out/said")
     [ "$status" -eq 1 ] && [ -d "${kept:-none}" ] && [ -e "$(echo "$kept"/*.trace)" ] || fail "a run that fails keeps '$kept': $(cat "$out/said" "$out/told")"
 fi
 status=0
-tools/network "$program" || status=$?
+dev/network "$program" || status=$?
 if [ "$status" -eq 1 ]; then
     echo "$check: it failed, and is tried once more"
     status=0
-    tools/network "$program" || status=$?
+    dev/network "$program" || status=$?
 fi
 exit "$status"

@@ -14,8 +14,9 @@ import time
 
 HERE = os.path.dirname(os.path.realpath(__file__))
 TOOLS = os.path.dirname(HERE)
+DEV = os.path.join(os.path.dirname(TOOLS), 'dev')
 sys.dont_write_bytecode = True
-sys.path.insert(0, TOOLS)
+sys.path[:0] = TOOLS, DEV
 from lab import preload  # noqa: E402
 from tsp_daemon.loop import Loop  # noqa: E402
 from tsp_daemon.systemd import Systemd  # noqa: E402

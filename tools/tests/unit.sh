@@ -55,7 +55,17 @@ done
 if grep -q -e --root "$out/help"; then
     analyze verify --man=no --root="$root" tsp.service || :
     [ ! -s "$out/told" ] || fail "$(head -n 1 "$out/told")"
+    # The drop-in that closes the firewall around it.
+    install -d "$root/etc/systemd/system/tsp.service.d"
+    for host in alpha printer; do
+        tools/tsp-launch --firewall systemd -f daemon/hosts -s "$host" >"$root/etc/systemd/system/tsp.service.d/firewall.conf" || fail "there is no drop-in for $host"
+        analyze verify --man=no --root="$root" tsp.service || :
+        [ ! -s "$out/told" ] || fail "of the drop-in: $(head -n 1 "$out/told")"
+    done
     # (and it would say so if something were wrong)
+    sed -i 's/^IPAddressDeny=/IPAddressDenies=/' "$root/etc/systemd/system/tsp.service.d/firewall.conf"
+    analyze verify --man=no --root="$root" tsp.service || :
+    grep -q IPAddressDenies "$out/told" || fail 'systemd-analyze verify finds no fault of a drop-in where there is one'
     sed -i 's/^ProtectHome=/ProtectHouse=/' "$root/usr/lib/systemd/system/tsp.service"
     analyze verify --man=no --root="$root" tsp.service || :
     grep -q ProtectHouse "$out/told" || fail 'systemd-analyze verify finds no fault where there is one'

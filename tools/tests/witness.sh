@@ -1,6 +1,6 @@
 #!/bin/sh
 # tsp-witness puts traces of daemons together, which are then alike and hold, and finds what was changed in them, or is missing. These traces
-# are of daemons on networks of tools/network, but for `hand` and `repeated`, which were worked out by hand.
+# are of daemons on networks of dev/network, but for `hand` and `repeated`, which were worked out by hand.
 . "$(dirname "$0")/common.sh"
 ./tsp show </dev/null || fail "the program isn't there"
 export TSP_PROGRAM=crates/tsp_cli/out/tsp_cli
@@ -48,7 +48,7 @@ change() {
 }
 
 for worked in witness_times distances_worked; do
-    PYTHONPATH=tools python3 -B "tools/tests/$worked.py" 2>"$out/told" || fail "$(cat "$out/told")"
+    PYTHONPATH=tools:dev python3 -B "tools/tests/$worked.py" 2>"$out/told" || fail "$(cat "$out/told")"
 done
 
 # The daemons' own lines are all alike: in a run that was worked out by hand, in one whose SETTIME is repeated right behind its late take,

@@ -7,6 +7,8 @@ import heapq
 
 # What comes after the last proof: the program is compiled by two compilers, linked and tried.
 BUILD = 25.0
+# From one line to the next the end is put off by no greater part than this: a crate that takes long says little of the others.
+PUT_OFF = 0.1
 # The first crate is proved by several processors, since no other is ready.
 FIRST_JOBS = 2.5
 
@@ -33,7 +35,7 @@ class Forecast:
     def __init__(self, work, listed, processors, first):
         self.work, self.listed, self.first = dict(work), listed, first
         self.processors = max(1, processors)
-        self.ended, self.took, self.percent = {}, {}, 0
+        self.ended, self.took, self.percent, self.total = {}, {}, 0, None
 
     def expected(self):
         """The seconds of the whole run on a machine as docs/GATE.md has it."""
@@ -64,7 +66,12 @@ class Forecast:
             slower = (1 - share) * slower + share * spent / max(whole - rest, 1.0)
             rest = self.rest(begun, spent, slower)
         self.percent = max(self.percent, min(99, int(100 * (1 - rest / whole))))
-        return self.percent, max(slower * rest, 5.0)
+        # (before the second crate is proved little is known)
+        total = spent + slower * rest
+        if self.total is not None and len(self.took) > 2:
+            total = min(total, (1 + PUT_OFF) * self.total)
+        self.total = total
+        return self.percent, max(total - spent, 5.0)
 
     def by_crates(self):
         """How many times as long as docs/GATE.md says single crates took. Before the second one is proved that isn't known."""

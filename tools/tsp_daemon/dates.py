@@ -11,15 +11,10 @@ NEAR = 1_000_000
 APART = 1.1
 
 
-def machine_time():
-    """This machine's wall clock, in microseconds since 1970."""
-    return time.time_ns() // 1000
-
-
 def date_of(text, begun):
     """What gives the date that a text means, at the moment of the call: it was that date when the tool began."""
     ahead = 0 if text == 'now' else times.read(text) - begun
-    return lambda: machine_time() + ahead, ahead
+    return lambda: times.machine_time() + ahead, ahead
 
 
 def set_date(asker, leader, text, begun):

@@ -1,8 +1,9 @@
 """The hosts of a network, as tsp-launch reads them off the hosts file."""
+from __future__ import annotations
+
 import os
 import subprocess
-from dataclasses import dataclass
-from typing import List, Tuple
+from collections import namedtuple
 
 from tsp_daemon.usage import BAD_FILE
 from tsp_texts.tool import Fault
@@ -10,13 +11,9 @@ from tsp_texts.tool import Fault
 LAUNCH = os.path.join(os.path.dirname(os.path.dirname(os.path.realpath(__file__))), 'tsp-launch')
 
 
-@dataclass(frozen=True)
-class Host:
+class Host(namedtuple('Host', 'network name address may_be')):
     """A line of the hosts file: `may_be` is `master`, `slave` or `strict`."""
-    network: int
-    name: str
-    address: str
-    may_be: str
+    __slots__ = ()
 
 
 def launched(file, *words) -> str:
@@ -30,7 +27,7 @@ def launched(file, *words) -> str:
     return ran.stdout.decode('ascii')
 
 
-def listed(file) -> List[Host]:
+def listed(file) -> list[Host]:
     """The lines of the hosts file; a gateway has one in each of its networks."""
     hosts = []
     for line in launched(file, '--list').splitlines():
@@ -51,7 +48,7 @@ def pair_of(address):
     return host, int(port)
 
 
-def own(file) -> Tuple[str, str]:
+def own(file) -> tuple[str, str]:
     """The name of this machine's own daemon, and the address at which it is asked."""
     words = launched(file, '--print').split()
     return words[2], asked_at(words[1])

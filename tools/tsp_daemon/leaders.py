@@ -1,5 +1,6 @@
 """Who leads, as the hosts themselves say."""
-from typing import List
+from __future__ import annotations
+
 
 from tsp_daemon import network
 from tsp_daemon.hosts import Host
@@ -8,7 +9,7 @@ from tsp_daemon.usage import BAD_FILE, NOT_WELL
 from tsp_texts.tool import Fault
 
 
-def line_of(name, listed: List[Host]) -> Host:
+def line_of(name, listed: list[Host]) -> Host:
     """A host's first line of the hosts file."""
     for host in listed:
         if host.name == name:
@@ -16,13 +17,13 @@ def line_of(name, listed: List[Host]) -> Host:
     raise Fault(f'\'{name}\' is no host of the hosts file', BAD_FILE)
 
 
-def of_network(asker: Asker, listed: List[Host], number) -> List[Host]:
+def of_network(asker: Asker, listed: list[Host], number) -> list[Host]:
     """The hosts of a network that say that they lead."""
     hosts = network.first_lines([host for host in listed if host.network == number])
     return [each.host for each in network.ask_masters(asker, hosts) if each.role == 'master']
 
 
-def leader(asker: Asker, listed: List[Host]) -> Host:
+def leader(asker: Asker, listed: list[Host]) -> Host:
     """The host that leads the first network, whose clock the others follow."""
     found = of_network(asker, listed, 1)
     if not found:
@@ -32,7 +33,7 @@ def leader(asker: Asker, listed: List[Host]) -> Host:
     return found[0]
 
 
-def leader_over(asker: Asker, listed: List[Host], name, address) -> Host:
+def leader_over(asker: Asker, listed: list[Host], name, address) -> Host:
     """The host that a host of this address follows, itself or by gateways, or is; where that one doesn't lead, the leader of the first network. The
     name is None where only the address is known."""
     master = asker.master(address)

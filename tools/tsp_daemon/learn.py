@@ -3,11 +3,12 @@
 Rates are whole parts in 10^9, by which a counter is to be faster than the machine's. Corrections add up: what a clock was corrected by between two
 rounds, over the time between, is what its counter lacks, and only the errors of the first and the last measurement are in it.
 """
+from __future__ import annotations
+
 import itertools
 import os
 import re
-from statistics import median
-from typing import List, NamedTuple, Optional
+from collections import namedtuple
 
 from tsp_texts import tool
 
@@ -27,10 +28,16 @@ TIMES, PART = 3, 0.9
 LINE, LONGEST_FILE = re.compile('(-?[0-9]{1,7}) ([0-9]{1,18})'), 4096
 
 
-class Estimate(NamedTuple):
+class Estimate(namedtuple('Estimate', 'rate error')):
     """A rate, and by how much it may be wrong."""
-    rate: int
-    error: int
+    __slots__ = ()
+
+
+def median(values):
+    """The middle one of some values."""
+    # (this takes long to load, and few calls need it)
+    import statistics
+    return statistics.median(values)
 
 
 def fitted(points):
@@ -65,7 +72,7 @@ class Learning:
     """What is learned, and is to be kept: `kept` is the estimate that counts, `hours` are those of the last day, and `applied` is the rate with
     which the daemon counts."""
 
-    def __init__(self, applied=0, kept: Optional[Estimate] = None, hours: Optional[List[Estimate]] = None):
+    def __init__(self, applied=0, kept: Estimate | None = None, hours: list[Estimate] | None = None):
         self.applied, self.kept, self.hours = applied, kept, list(hours or ())
         self.begin(applied)
 

@@ -4,7 +4,7 @@ host of the file: network, line, name, address and role. A fault is a line on st
 """
 import os
 import sys
-from typing import NamedTuple
+from collections import namedtuple
 
 sys.dont_write_bytecode = True
 sys.path.insert(0, os.path.dirname(os.path.dirname(os.path.realpath(__file__))))
@@ -12,13 +12,9 @@ from tsp_daemon import sockets, usage  # noqa: E402
 from tsp_texts import tool  # noqa: E402
 
 
-class Line(NamedTuple):
+class Line(namedtuple('Line', 'network number name address role')):
     """A host's line in one network of the file."""
-    network: int
-    number: int
-    name: str
-    address: str
-    role: str
+    __slots__ = ()
 
     @property
     def ip(self):

@@ -1,6 +1,4 @@
 """Text for Prometheus, as the textfile collector of node_exporter reads it."""
-from dataclasses import dataclass, field
-from typing import Dict, List, Tuple
 
 
 def seconds(microseconds):
@@ -19,13 +17,11 @@ def quoted(text):
     return '"' + text.replace('\\', '\\\\').replace('"', '\\"').replace('\n', '\\n') + '"'
 
 
-@dataclass
 class Metric:
     """A metric: its name, what it tells, and its values by their labels."""
-    name: str
-    text: str
-    kind: str = 'gauge'
-    values: List[Tuple[Dict[str, str], object]] = field(default_factory=list)
+
+    def __init__(self, name, text, kind='gauge'):
+        self.name, self.text, self.kind, self.values = name, text, kind, []
 
     def add(self, value, **labels):
         """One value more."""

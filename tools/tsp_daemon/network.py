@@ -1,12 +1,12 @@
 """What is seen of a network's hosts, and what isn't well there."""
+from __future__ import annotations
+
 import heapq
-from dataclasses import dataclass
-from typing import List, Optional
+from collections import namedtuple
 
 from tsp_daemon.hosts import Host
 from tsp_daemon.questions import Asker, Reading
 from tsp_daemon.rates import MOST
-from tsp_daemon.traced import Traced
 
 WARNING, CRITICAL = 1, 2
 # How many names a line lists.
@@ -16,14 +16,11 @@ MOST_AT_ONCE = 256
 WITHIN = 50_000
 
 
-@dataclass
 class Seen:
     """A host, and what it answered: the master that it names (none is the empty text), and its clock. A trace may tell more of it."""
-    host: Host
-    reached: bool = False
-    master: str = ''
-    clock: Optional[Reading] = None
-    traced: Optional[Traced] = None
+
+    def __init__(self, host, reached=False, master='', clock=None, traced=None):
+        self.host, self.reached, self.master, self.clock, self.traced = host, reached, master, clock, traced
 
     @property
     def rate(self):
@@ -45,22 +42,17 @@ class Seen:
         return 'master' if self.master == self.host.name else 'slave'
 
 
-@dataclass(frozen=True)
-class Trouble:
+class Trouble(namedtuple('Trouble', 'level text')):
     """Something that isn't well."""
-    level: int
-    text: str
+    __slots__ = ()
 
 
-@dataclass(frozen=True)
-class Spread:
+class Spread(namedtuple('Spread', 'low high apart')):
     """The farthest pair of clocks: by how many microseconds they may be apart, their errors added."""
-    low: str
-    high: str
-    apart: int
+    __slots__ = ()
 
 
-def first_lines(hosts: List[Host]) -> List[Host]:
+def first_lines(hosts: list[Host]) -> list[Host]:
     """Each host once: a gateway answers for the first of its networks."""
     firsts = {}
     for host in hosts:
@@ -68,7 +60,7 @@ def first_lines(hosts: List[Host]) -> List[Host]:
     return list(firsts.values())
 
 
-def ask_masters(asker: Asker, hosts: List[Host]) -> List[Seen]:
+def ask_masters(asker: Asker, hosts: list[Host]) -> list[Seen]:
     """Asks all hosts for their master side by side, so that many silent ones take no longer than one."""
     seen = [Seen(host) for host in hosts]
     from concurrent.futures import ThreadPoolExecutor
@@ -85,7 +77,7 @@ def ask_masters(asker: Asker, hosts: List[Host]) -> List[Seen]:
     return seen
 
 
-def look(asker: Asker, hosts: List[Host]) -> List[Seen]:
+def look(asker: Asker, hosts: list[Host]) -> list[Seen]:
     """Asks all hosts for their master, and then those that answered for their clock, some times and one after the other, so that the asking
     itself doesn't make the measurements worse."""
     seen = ask_masters(asker, hosts)
@@ -95,7 +87,7 @@ def look(asker: Asker, hosts: List[Host]) -> List[Seen]:
     return seen
 
 
-def spread_of(seen: List[Seen]) -> Optional[Spread]:
+def spread_of(seen: list[Seen]) -> Spread | None:
     """The farthest pair, where two clocks were read."""
     read = [each for each in seen if each.clock]
     highest = heapq.nlargest(2, read, key=lambda each: each.clock.offset + each.clock.error)
@@ -117,7 +109,7 @@ def some_of(names):
 class Judge:
     """Says what isn't well: of hosts that are seen, by what is wanted of them."""
 
-    def __init__(self, hosts: List[Host], seen: List[Seen], within=WITHIN):
+    def __init__(self, hosts: list[Host], seen: list[Seen], within=WITHIN):
         self.hosts, self.seen, self.within = hosts, seen, within
         self.networks = sorted({host.network for host in hosts})
         self.by_name = {each.host.name: each for each in seen}
@@ -188,7 +180,7 @@ class Judge:
                 wrong = '' if error == '-' else f', give or take {error}'
                 yield Trouble(WARNING, f'{each.host.name}\'s clock is {value} parts in a million fast{wrong}, and beyond {MOST} rounds don\'t average it')
 
-    def troubles(self) -> List[Trouble]:
+    def troubles(self) -> list[Trouble]:
         """All that isn't well, the worst first."""
         found = [*self.silent(), *self.two_masters(), *self.strangers(), *self.no_master(), *self.apart(), *self.fast()]
         return sorted(found, key=lambda trouble: -trouble.level)

@@ -1,16 +1,13 @@
 """Questions to the own daemon, whose trace tells the tick at which it took each."""
-from typing import NamedTuple
+from collections import namedtuple
 
 # How many seconds the answer, and the line of the trace, are waited for.
 PATIENCE = 1
 
 
-class Exchange(NamedTuple):
+class Exchange(namedtuple('Exchange', 'sent got tick reading')):
     """Nanoseconds before and after a question, the tick at which the daemon took it, and what it answered."""
-    sent: int
-    got: int
-    tick: int
-    reading: int
+    __slots__ = ()
 
 
 class OwnDaemon:

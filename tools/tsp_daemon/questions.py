@@ -1,7 +1,8 @@
 """How a daemon is asked: `tsp` sends each question, and this reads its answers."""
+from __future__ import annotations
+
 import subprocess
-from dataclasses import dataclass
-from typing import List, Optional
+from collections import namedtuple
 
 from tsp_daemon.usage import NO_PROGRAM, number
 from tsp_texts import program as programs
@@ -20,19 +21,14 @@ def add_words(parser):
     parser.add_argument('-p', '--program')
 
 
-@dataclass(frozen=True)
-class Reading:
+class Reading(namedtuple('Reading', 'offset error')):
     """How far a daemon's clock is ahead of this machine's wall clock, give or take `error`: both in microseconds."""
-    offset: int
-    error: int
+    __slots__ = ()
 
 
-@dataclass(frozen=True)
-class Asker:
+class Asker(namedtuple('Asker', 'program seconds tries', defaults=(2.0, 2))):
     """Asks daemons by this program. A question waits so many seconds for its answer; in this time it is sent so many times."""
-    program: str
-    seconds: float = 2.0
-    tries: int = 2
+    __slots__ = ()
 
     @classmethod
     def of(cls, given):
@@ -42,14 +38,14 @@ class Asker:
             raise Fault('there is no program `tsp` in PATH; name one with --program', NO_PROGRAM)
         return cls(path, given.timeout, given.tries)
 
-    def master(self, address) -> Optional[str]:
+    def master(self, address) -> str | None:
         """The master that a daemon names: the empty text where it knows none, and None where it is silent."""
         answer = self.ask('msite', address)
         if answer is None or answer == ['no', 'master']:
             return None if answer is None else ''
         return self.value(answer, 'master', 'msite', address)[0]
 
-    def clock(self, address) -> Optional[Reading]:
+    def clock(self, address) -> Reading | None:
         """How far a daemon's clock is ahead, or None where it is silent."""
         answer = self.ask('clockdiff', address)
         if answer is None:
@@ -60,7 +56,7 @@ class Asker:
         except ValueError:
             raise self.strange(answer, 'clockdiff', address) from None
 
-    def best_clock(self, address) -> Optional[Reading]:
+    def best_clock(self, address) -> Reading | None:
         """The reading with the least error of some, or None where the daemon is silent. The first question that isn't answered is the last one."""
         best = None
         for _ in range(READINGS):
@@ -70,7 +66,7 @@ class Asker:
             best = min(best or reading, reading, key=lambda each: each.error)
         return best
 
-    def date(self, address, time) -> Optional[str]:
+    def date(self, address, time) -> str | None:
         """Sets the network's date: `set`, `forwarded`, or None where the daemon is silent."""
         answer = self.ask('date', address, str(time))
         return None if answer is None else self.value(answer, 'date', 'date', address)[0]
@@ -80,7 +76,7 @@ class Asker:
         answer = self.ask('election', address)
         return answer is not None and self.value(answer, 'election', 'election', address) == ['heard']
 
-    def value(self, answer, word, question, address, count=1) -> List[str]:
+    def value(self, answer, word, question, address, count=1) -> list[str]:
         """The words of an answer behind its first one."""
         if answer[0] != word or len(answer) != count + 1:
             raise self.strange(answer, question, address)
@@ -90,7 +86,7 @@ class Asker:
         """The fault of an answer that isn't one to its question."""
         return Fault(f'{self.program} {question} {address} answers \'{" ".join(answer)}\'', NO_PROGRAM)
 
-    def ask(self, *words) -> Optional[List[str]]:
+    def ask(self, *words) -> list[str] | None:
         """The words of the answer to a question, or None where nobody answers it."""
         for _ in range(self.tries):
             answer = self.ask_once(words)

@@ -1,6 +1,8 @@
 """How fast a clock is, by the offsets that are measured of it and the corrections that move it."""
+from __future__ import annotations
+
 import collections
-from typing import NamedTuple, Optional
+from collections import namedtuple
 
 MILLION = 1_000_000
 # A rate is that over so many measurements at most: of a master's rounds these are an hour.
@@ -9,11 +11,9 @@ WINDOW = 16
 MOST = 83
 
 
-class Rate(NamedTuple):
+class Rate(namedtuple('Rate', 'value error seconds')):
     """By how many parts in a million a clock is fast, how far that may be wrong (None where nobody knows), and over how many seconds."""
-    value: float
-    error: Optional[float]
-    seconds: float
+    __slots__ = ()
 
     @property
     def is_too_great(self):
@@ -40,7 +40,7 @@ class Finder:
         self.points.append((tick, offset - self.moved, error))
 
     @property
-    def rate(self) -> Optional[Rate]:
+    def rate(self) -> Rate | None:
         """The rate between the first measurement and the last one, where there are two."""
         if len(self.points) < 2 or self.points[0][0] >= self.points[-1][0]:
             return None

@@ -1,18 +1,16 @@
 """The network's time as tsp-now tells it: by the page of this machine, or by questions to a host and to its master."""
 import os
 import time
-from typing import NamedTuple, Optional
+from collections import namedtuple
 
 import tsp_clock
 from tsp_daemon import hosts, usage
 from tsp_texts.tool import Fault
 
 
-class Told(NamedTuple):
+class Told(namedtuple('Told', 'shown earliest latest')):
     """A time, and between which the master's clock lies then; None where nobody leads whom it belongs to. All are microseconds since 1970."""
-    shown: int
-    earliest: Optional[int]
-    latest: Optional[int]
+    __slots__ = ()
 
     @property
     def error(self):

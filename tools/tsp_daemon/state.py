@@ -1,6 +1,7 @@
 """A daemon's state, as its trace tells it line by line."""
-from dataclasses import dataclass, field
-from typing import Dict, List, Optional
+from __future__ import annotations
+
+from collections import namedtuple
 
 from tsp_daemon import learn, rates, trace
 
@@ -16,67 +17,48 @@ class NoDaemon(Exception):
     """The trace is one of several nodes, as `tsp replay` writes it."""
 
 
-@dataclass(frozen=True)
-class Change:
+class Change(namedtuple('Change', 'tick port kind values')):
     """Something that changed: what, when, and its values by name."""
-    tick: int
-    port: int
-    kind: str
-    values: Dict[str, object]
+    __slots__ = ()
 
 
-@dataclass(frozen=True)
-class Sample:
+class Sample(namedtuple('Sample', 'offset error tick')):
     """A measurement of a peer, as far as it counts."""
-    offset: int
-    error: int
-    tick: int
+    __slots__ = ()
 
 
-@dataclass(frozen=True)
-class Correction:
+class Correction(namedtuple('Correction', 'amount way shown tick')):
     """A correction: by so many microseconds, slewed or stepped. Right after it the clock showed `shown`."""
-    amount: int
-    way: str
-    shown: int
-    tick: int
+    __slots__ = ()
 
 
-@dataclass
 class Peer:
     """Another daemon, as this one's trace tells of it. `told` is the last correction that was sent to it, with its number; `shown` isn't known of it."""
-    port: int
-    is_slave: bool = False
-    sample: Optional[Sample] = None
-    is_measured: bool = False
-    told: Optional[Correction] = None
-    number: str = ''
-    finder: rates.Finder = field(default_factory=rates.Finder)
+
+    def __init__(self, port):
+        self.port, self.is_slave, self.sample, self.is_measured = port, False, None, False
+        self.told, self.number, self.finder = None, '', rates.Finder()
 
 
-@dataclass
 class Port:
     """A daemon on one of its networks. The role is empty while it isn't known; `alarms` have the tick at which each is due."""
-    role: str = ''
-    master: Optional[int] = None
-    alarms: Dict[str, int] = field(default_factory=dict)
-    rivals: List[int] = field(default_factory=list)
+
+    def __init__(self, role='', master=None):
+        self.role, self.master, self.alarms, self.rivals = role, master, {}, []
 
 
-@dataclass
 class Counts:
     """What was counted since the first line, over all starts of the daemon."""
-    lines: int = 0
-    corrections: int = 0
-    late: int = 0
-    unanswered: int = 0
+
+    def __init__(self):
+        self.lines = self.corrections = self.late = self.unanswered = 0
 
 
 class Daemon:
     """A daemon: its ports, its peers by their numbers, its last correction, what it was late with, when a QUIT came, and whom it voted for last
     and when; and what is learned of its counter."""
 
-    def __init__(self, learning: Optional[learn.Learning] = None):
+    def __init__(self, learning: learn.Learning | None = None):
         self.counts, self.learning = Counts(), learning or learn.Learning()
         self.names, self.said = {}, {}
         self.begin()
@@ -84,7 +66,7 @@ class Daemon:
     def begin(self):
         """Forgets all that a start of the daemon makes void."""
         self.tick, self.ports, self.peers = 0, {}, {}
-        self.correction: Optional[Correction] = None
+        self.correction: Correction | None = None
         self.late = self.quit = self.backed = None
         self.finder = rates.Finder()
         self.is_traced = True
@@ -104,7 +86,7 @@ class Daemon:
         """The daemon's own name, or the empty text."""
         return self.names.get(0) or self.said.get(0) or ''
 
-    def take(self, line) -> List[Change]:
+    def take(self, line) -> list[Change]:
         """Reads a line, and gives what it changed. NoDaemon is raised where it is no daemon's."""
         names = trace.names_of(line)
         if names:

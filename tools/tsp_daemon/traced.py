@@ -1,7 +1,9 @@
 """What the trace of the daemon that leads tells of the hosts: their rates and their last corrections."""
+from __future__ import annotations
+
 import os
 import subprocess
-from typing import Dict, NamedTuple, Optional
+from collections import namedtuple
 
 from tsp_daemon import state, trace
 from tsp_daemon.rates import Rate
@@ -15,11 +17,9 @@ JOURNAL = ['journalctl', '-u', 'tsp', '-o', 'cat', '-n', '20000', '--no-pager', 
 PATIENCE, MOST = 5, 64 * 2**20
 
 
-class Traced(NamedTuple):
+class Traced(namedtuple('Traced', 'rate amount way')):
     """A host's rate against the master, and its last correction in microseconds; `way` is `slew` or `step`."""
-    rate: Optional[Rate]
-    amount: Optional[int]
-    way: str
+    __slots__ = ()
 
 
 def daemon_of_file(path) -> state.Daemon:
@@ -33,7 +33,7 @@ def daemon_of_file(path) -> state.Daemon:
     return daemon
 
 
-def daemon_of_journal(own) -> Optional[state.Daemon]:
+def daemon_of_journal(own) -> state.Daemon | None:
     """The daemon of this machine's unit by its journal, where it has this name; None where there is none to be read."""
     try:
         ran = subprocess.run(JOURNAL, stdin=subprocess.DEVNULL, stdout=subprocess.PIPE, stderr=subprocess.DEVNULL, timeout=PATIENCE, check=False)
@@ -43,7 +43,7 @@ def daemon_of_journal(own) -> Optional[state.Daemon]:
     return daemon if daemon and daemon.own_name == own else None
 
 
-def daemon_of_octets(octets) -> Optional[state.Daemon]:
+def daemon_of_octets(octets) -> state.Daemon | None:
     """The daemon whose trace this is; None where it is none."""
     daemon, lines = state.Daemon(), trace.Lines()
     try:
@@ -54,7 +54,7 @@ def daemon_of_octets(octets) -> Optional[state.Daemon]:
     return daemon if daemon.counts.lines else None
 
 
-def told_by(daemon) -> Dict[str, Traced]:
+def told_by(daemon) -> dict[str, Traced]:
     """What a daemon's trace told, by the names of hosts: of its slaves where it leads, and of itself. Nothing, where there is no daemon."""
     found = {}
     if daemon is None:

@@ -3,6 +3,8 @@ from tsp_texts import schedule
 from tsp_witness import Unusable, times
 
 MILLION, BILLION = 10**6, 10**9
+# So often clocks are moved by whole microseconds, where what was found fits no more as whole numbers.
+TRIES = 40
 
 
 class Clocks:
@@ -69,27 +71,50 @@ class Placing:
     """Clocks as a schedule tells them: whole rates and walls, and whole times."""
 
     def __init__(self, clocks, count):
-        self.clocks, self.bases = clocks, {}
-        self.rates, self.walls = [0] * count, [0] * count
+        self.clocks, self.count = clocks, count
         fit, begun = clocks.fit, clocks.begun
         self.drift = -min(fit.rates)
         earliest = [max(first - schedule.FARTHEST, 0) * MILLION / (MILLION + rate) - offset for first, rate, offset in zip(begun, fit.rates, fit.offsets)]
         # (walls are as small as they may be, and a second less, so that times can be told in seconds)
         self.origin = (int(max(earliest)) // MILLION + 2) * MILLION
-        told = set()
-        for (node, life), number in clocks.number.items():
-            self.rates[node] = fit.rates[number]
+        # (by so many microseconds each clock begins later than it was found to)
+        self.later = [0] * len(begun)
+        self.place()
+        for _ in range(TRIES):
+            if not self.put_off():
+                break
+            self.place()
+
+    def place(self):
+        """Finds the walls of nodes and the bases of lives."""
+        self.bases, told = {}, set()
+        self.rates, self.walls = [0] * self.count, [0] * self.count
+        for (node, life), number in self.clocks.number.items():
+            self.rates[node] = self.clocks.fit.rates[number]
             if life is None:
                 told.add(node)
-                self.walls[node] = begun[number] - self.begins(node, number)
-        for life in clocks.matching.lives():
+                self.walls[node] = self.clocks.begun[number] - self.begins(node, number)
+        for life in self.clocks.matching.lives():
             self.bases[life] = self.base_of(life, told)
         if any(abs(wall) > schedule.FARTHEST for wall in self.walls):
             raise Unusable('the wall clocks are further apart, or later, than a schedule can tell')
 
+    def put_off(self):
+        """Lets clocks begin later by which something is taken before it was posted, as whole numbers have it; says whether there are any."""
+        early = {}
+        for life in self.clocks.matching.lives():
+            for turn in life.turns:
+                by = self.at(turn.post.turn) - self.at(turn) if turn.post else 0
+                if by > 0:
+                    number = self.clocks.clock(life)
+                    early[number] = max(by, early.get(number, 0))
+        for number, by in early.items():
+            self.later[number] += by
+        return bool(early)
+
     def begins(self, node, number):
         """The node's tick where a clock of it begins."""
-        at = self.origin + round(self.clocks.fit.offsets[number])
+        at = self.origin + round(self.clocks.fit.offsets[number]) + self.later[number]
         return at + at * self.rates[node] // MILLION
 
     def base_of(self, life, told):

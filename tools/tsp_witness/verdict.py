@@ -6,6 +6,8 @@ from tsp_texts import grammar
 from tsp_witness import Unusable
 from tsp_witness.journal import Entry
 
+# What `replay` and `audit` have room for.
+RULED_EVENTS = 200_000
 AUDITED_EVENTS = AUDITED_LINES = 20_000
 AUDITED_NODES = 16
 
@@ -15,9 +17,12 @@ class Difference(namedtuple('Difference', 'event claimed ruled')):
     __slots__ = ()
 
 
-class Verdict(namedtuple('Verdict', 'alike difference audit audited', defaults=(None,))):
+class Verdict(namedtuple('Verdict', 'alike difference audit audited ruled', defaults=(None, None))):
     """How many of the daemons' lines are as the rules say, the first event at which they aren't, the answer of the audit, which is None
-    where it wasn't asked, and of how many events it was asked where these aren't all."""
+    where it wasn't asked, and of how many events it was asked, and of how many the rules were, where these aren't all.
+
+    What is as the rules say keeps the promises, since that is proved of every run; so an audit of its beginning is a check beside the proof.
+    """
     __slots__ = ()
 
     def is_well(self):
@@ -32,7 +37,8 @@ class Verdict(namedtuple('Verdict', 'alike difference audit audited', defaults=(
         if self.audit is None:
             judged = f'not audited, as there are more than {AUDITED_NODES} hosts'
         else:
-            judged = self.audit + ('' if self.audited is None else f', so far as its first {self.audited} events go')
+            first = self.ruled if self.difference is None and self.audit == 'holds' else self.audited
+            judged = self.audit + ('' if first is None else f', so far as its first {first} events go')
         return f'{self.alike} acts alike, and then one that differs; the audit: {judged}' if self.difference else f'{self.alike} acts alike, {judged}'
 
 
@@ -56,11 +62,11 @@ def by_event(lines):
 
 def compare(program, story):
     """How many acts are alike, and where they first differ."""
-    ruled, alike = by_event(run(program, 'replay', story.schedule())), 0
+    ruled, alike = by_event(run(program, 'replay', story.schedule(RULED_EVENTS))), 0
     claims = {}
     for claim in story.claims:
         claims.setdefault(claim.event, []).append(claim)
-    for event in range(1, len(story.events) + 1):
+    for event in range(1, min(len(story.events), RULED_EVENTS) + 1):
         texts = [claim.text for claim in claims.get(event, [])]
         if texts != ruled.get(event, []):
             return alike, Difference(event, claims.get(event, []), ruled.get(event) or ruled.get(None, []))
@@ -81,11 +87,12 @@ def audited_events(story):
 def judge(program, story):
     """The verdict on a story."""
     alike, difference = compare(program, story)
+    ruled = RULED_EVENTS if len(story.events) > RULED_EVENTS else None
     if len(story.network.names) > AUDITED_NODES:
-        return Verdict(alike, difference, None)
+        return Verdict(alike, difference, None, None, ruled)
     count = audited_events(story)
     said = run(program, 'audit', story.schedule(count) + story.claimed(count))
-    return Verdict(alike, difference, said[-1] if said else 'says nothing', count)
+    return Verdict(alike, difference, said[-1] if said else 'says nothing', count, ruled)
 
 
 def missing_end(story, difference):

@@ -6,7 +6,7 @@ import subprocess
 
 from lab.hosts import Failed, PORT
 
-LUA = os.path.join(os.path.dirname(os.path.dirname(os.path.realpath(__file__))), 'tsp.lua')
+LUA = os.path.join(os.path.dirname(os.path.dirname(os.path.dirname(os.path.realpath(__file__)))), 'tools', 'tsp.lua')
 
 
 def frames(path):

@@ -1,7 +1,8 @@
 /* Reads the pages of a lab's hosts side by side, and compares what they give with what the lab knows: `truth FROM RATE SECONDS HOST..`
  *
- * HOST is PAGE,WALL,STEP,DRIFT,NAME: a page, what the host's wall clock showed when fast time began, in microseconds since 1970, by how many it is set
- * at some time, by how many parts in a million its clocks are fast, and the master's name in pages. Fast time is that of fastclock.c.
+ * HOST is PAGE,WALL,STEP,DRIFT,RATE,NAME: a page, what the host's wall clock showed when fast time began, in microseconds since 1970, by how many it is
+ * set at some time, by how many parts in a million its clocks are fast, by how many in 10^9 its daemon counts faster than they, and the master's name
+ * in pages. Fast time is that of fastclock.c.
  *
  * Each sample is judged a while after it was read, when all is known of the corrections before it. It writes a line for each host: its name, how many
  * readings it gave with an interval, how many of these had the master's clock outside, how many were between a correction of the master and the
@@ -21,6 +22,7 @@
 #define WIDEST 2000000
 #define THOUSAND 1000
 #define MILLION 1000000
+#define BILLION INT64_C(1000000000)
 
 /* A page from when it was seen: the life, and from which tick on its target counts. */
 typedef struct {
@@ -30,7 +32,7 @@ typedef struct {
 
 typedef struct {
     const char *path, *name;
-    int64_t wall, step, drift, first; /* when the daemon's tick was 0, in microseconds of its own clock, as the lab knows */
+    int64_t wall, step, drift, rate, first; /* when the daemon's tick was 0, in microseconds of its own clock, as the lab knows */
     tsp_clock clock;
     segment segments[KEPT];
     int count;
@@ -72,6 +74,21 @@ static int64_t machine_time(const host *h, int64_t own)
     return from + (int64_t)((double)(own - from) * MILLION / (MILLION + (double)h->drift) / (double)rate);
 }
 
+/* How far a daemon has counted when its own clock has moved on by so many microseconds; it rounds down. */
+static int64_t ticks_of(const host *h, int64_t passed)
+{
+    return passed + tsp_floor(passed % BILLION * h->rate, BILLION) + passed / BILLION * h->rate;
+}
+
+/* After how many microseconds of its own clock a daemon has counted so many. */
+static int64_t passed_at(const host *h, int64_t tick)
+{
+    int64_t passed = (int64_t)((long double)tick * BILLION / (BILLION + h->rate));
+    while (ticks_of(h, passed) < tick)
+        passed++;
+    return passed;
+}
+
 /* When a daemon's tick was 0, by the first page of its life: its wall clock was set before that, or wasn't; the page's anchor is much nearer to one. */
 static int64_t first_of(const host *h, const tsp_page *page)
 {
@@ -94,7 +111,7 @@ static void note(host *h, const tsp_page *page)
 /* A host's target at a moment, and when that was corrected last; 0 where it isn't known. */
 static int truth(const host *h, int64_t at, int64_t *target, int64_t *corrected)
 {
-    int64_t tick = tsp_floor(own_time(h, at), THOUSAND) - h->first;
+    int64_t tick = ticks_of(h, tsp_floor(own_time(h, at), THOUSAND) - h->first);
     int number;
     for (number = h->count - 1; number >= 0 && number > h->count - KEPT; number--) {
         const segment *s = &h->segments[number % KEPT];
@@ -102,7 +119,7 @@ static int truth(const host *h, int64_t at, int64_t *target, int64_t *corrected)
             return 0;
         if (s->tick <= tick) {
             *target = s->target + tick - s->tick;
-            *corrected = machine_time(h, (s->tick + h->first) * THOUSAND);
+            *corrected = machine_time(h, (passed_at(h, s->tick) + h->first) * THOUSAND);
             return 1;
         }
     }
@@ -214,6 +231,7 @@ int main(int count, char **words)
         h->wall = atoll(strtok(NULL, ","));
         h->step = atoll(strtok(NULL, ","));
         h->drift = atoll(strtok(NULL, ","));
+        h->rate = atoll(strtok(NULL, ","));
         h->name = strtok(NULL, ",");
         h->widths = calloc(WIDEST, sizeof *h->widths);
         if (h->widths == NULL)

@@ -4,6 +4,7 @@ import shutil
 import subprocess
 
 HERE = os.path.dirname(os.path.realpath(__file__))
+TOOLS = os.path.join(os.path.dirname(os.path.dirname(HERE)), 'tools')
 
 
 class Truth:
@@ -11,10 +12,10 @@ class Truth:
 
     def __init__(self, lab, start, seconds):
         path = os.path.join(lab.folder, 'truth')
-        words = ['cc', '-std=c99', '-O2', '-Wall', '-I', os.path.dirname(HERE), '-o', path, os.path.join(HERE, 'truth.c')]
+        words = ['cc', '-std=c99', '-O2', '-Wall', '-I', TOOLS, '-o', path, os.path.join(HERE, 'truth.c')]
         if shutil.which('cc') is None or subprocess.run(words, check=False).returncode:
             raise OSError('there is no cc that makes the readers')
-        hosts = [f'{lab.page(daemon)},{start + daemon.ahead},{daemon.step[1]},{daemon.drift},{daemon.name}' for daemon in lab.daemons]
+        hosts = [f'{lab.page(daemon)},{start + daemon.ahead},{daemon.step[1]},{daemon.drift},{daemon.rate},{daemon.name}' for daemon in lab.daemons]
         self.process = subprocess.Popen([path, str(lab.begun), str(lab.rate), str(seconds // lab.rate + 60), *hosts], stdout=subprocess.PIPE)
 
     def end(self):

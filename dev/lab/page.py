@@ -1,4 +1,4 @@
-"""The page of tools/accuracy: a table of what was measured, and a picture."""
+"""The page of dev/accuracy: a table of what was measured, and a picture."""
 import math
 import os
 
@@ -8,10 +8,10 @@ MARKS, LOWEST, HIGHEST = (0.01, 0.1, 1, 10, 100), 0.01, 200
 TEXT = '''# How well it keeps time
 
 How far two corrected clocks are from each other, measured, beside what is promised of them, and below that how narrow the interval is that programs read.
-`tools/accuracy` wrote this part and its picture:
+`dev/accuracy` wrote this part and its picture:
 
 ```
-tools/accuracy --minutes {minutes} --rate {rate} --seed {seed} --jobs {jobs}
+dev/accuracy --minutes {minutes} --rate {rate} --seed {seed} --jobs {jobs}
 ```
 
 Each case is a network of daemons in namespaces of one machine, without faults, {time}; {jobs} networks ran side by side. Two hosts may be

@@ -3,7 +3,7 @@ import os
 import subprocess
 import sys
 
-WITNESS = os.path.join(os.path.dirname(os.path.dirname(os.path.realpath(__file__))), 'tsp-witness')
+WITNESS = os.path.join(os.path.dirname(os.path.dirname(os.path.dirname(os.path.realpath(__file__)))), 'tools', 'tsp-witness')
 
 
 def witness(lab, *options):

@@ -1,5 +1,5 @@
 //! The jobs of `replay`, `storm` and `audit` by hand, over Rust's standard library alone: what the program is measured beside.
-//! Built by `rustc -O --edition 2024 bench/plain.rs`, and run with the words of the command. With `schedule` in the place of
+//! Built by `rustc -O --edition 2024 bench/plain/main.rs`, and run with the words of the command. With `schedule` in the place of
 //! `storm` it writes the schedule that a storm runs.
 
 mod audit;

@@ -1,4 +1,4 @@
-"""What tools/network, tools/fuzz, tools/accuracy and tools/fail-alloc have in common: networks of this machine's own, fast time, and memory that is refused."""
+"""What dev/network, dev/fuzz, dev/accuracy and dev/fail-alloc have in common: networks of this machine's own, fast time, and memory that is refused."""
 import signal
 import sys
 

@@ -1,4 +1,4 @@
-/* Refuses a program one of its requests for memory, for tools/fail-alloc. It is loaded before the C library by LD_PRELOAD.
+/* Refuses a program one of its requests for memory, for dev/fail-alloc. It is loaded before the C library by LD_PRELOAD.
  *
  *   FAIL_AT  which request is refused; they are counted from 1, from where the program's own code begins
  *   FAIL_FD  where an octet is written when that is done */

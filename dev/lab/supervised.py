@@ -6,7 +6,7 @@ import subprocess
 from lab import process
 from lab.hosts import Failed, Namespaces
 
-LAUNCH = os.path.join(os.path.dirname(os.path.dirname(os.path.realpath(__file__))), 'tsp-launch')
+LAUNCH = os.path.join(os.path.dirname(os.path.dirname(os.path.dirname(os.path.realpath(__file__)))), 'tools', 'tsp-launch')
 
 
 class Supervised(Namespaces):
@@ -34,7 +34,7 @@ class Supervised(Namespaces):
         path = os.path.join(self.folder, f'{daemon.name}-{self.starts}.trace')
         at, step = daemon.step
         environment = self.environment(daemon.ahead, drift=daemon.drift, at=at * 1000, step=step * 1000)
-        environment.update(TSP_CLOCK=self.page(daemon), TSP_DRIFT=str(self.drift), TSP_SPREAD='0', TSP_PROGRAM=self.held)
+        environment.update(TSP_CLOCK=self.page(daemon), TSP_DRIFT=str(self.drift), TSP_SPREAD='0', TSP_RATE=str(daemon.rate), TSP_PROGRAM=self.held)
         command = [*self.at(daemon.name), LAUNCH, '-f', self.hosts, '-s', daemon.name, '--supervise', '--trace']
         with open(path, 'wb') as trace:
             daemon.process = subprocess.Popen(command, stdout=trace, stderr=subprocess.STDOUT, env=environment)
