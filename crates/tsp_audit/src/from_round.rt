@@ -1,4 +1,4 @@
-//! What a Correct came of, if that is a round. A Correct comes from a round if a Close of a master sent it, as an ADJTIME.
+//! What a Correct came of, if that is a round: if a Close of a master sent it, as an ADJTIME.
 ghost use Rattle.std.specs.Prelude.{◌≡◌, ◌<◌, ◌^◌, pos, List, ◌∷◌, length, get_or, take, MatchBool, MatchOption};
 ghost use Rattle.tsp_audit.specs.Agreeing.{FromRoundAs, IsFromNoRound, TripsTell};
 ghost use Rattle.tsp_audit.specs.FromRounds.{BegunAt, HasNoRound, IsAdjusting, RoundAs, TakesNone, TakesThen};

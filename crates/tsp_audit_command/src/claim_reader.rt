@@ -170,7 +170,7 @@ impl ClaimReader {
         self.claims.told() + self.pending.lines().len() as u64
     }
 
-    /// AddsLine a line to those of the event at hand. `Bad` with `history` where it doesn't fit as the next one; `Limit`
+    /// Adds a line to those of the event at hand. `Bad` with `history` where it doesn't fit as the next one; `Limit`
     /// where it does, but 20,000 lines are claimed already; else fails only if out of memory.
     fn add(&mut self, line: Line2) -> Result<(), Stop>
         ensures { MatchResult result (λ _. AddsLine self.old line self.new)

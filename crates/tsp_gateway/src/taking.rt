@@ -41,7 +41,9 @@ impl Gateway {
             tick self.old self.new (D.acts desk.old) (D.acts desk.new) }
         ensures ports { ports_in self.new ≡ ports_in self.old }
         ensures clock { clock_at self.new ≤ tick }
-        ensures room { UsesAtMost (2 * peers_at q (ports_in self.old) + all_peers (ports_in self.old) + 24) D.spare D.acts desk.old desk.new }
+        ensures room { UsesAtMost
+            (2 * peers_at q (ports_in self.old) + all_peers (ports_in self.old) + 24)
+            D.spare D.acts desk.old desk.new }
     {
         match taken {
             Taken::Good(Datagram::Message(m)) => match m.kind() {

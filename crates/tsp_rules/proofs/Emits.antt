@@ -32,7 +32,7 @@ pub data Sort : Type 0 where
   -- Acked, and Gave
   Acking : Sort
   Giving : Sort
-  -- Sample, CloseAlarm, Correct, and Trace
+  -- Sample, Close, Correct, and Trace
   Sampling : Sort
   Closing : Sort
   Moving : Sort
