@@ -82,7 +82,8 @@ impl Gateway {
             (D.acts desk.new) }
         ensures ports { ports_in self.new ≡ ports_in self.old }
         ensures clock { clock_at self.new ≡ clock_at self.old }
-        ensures room { UsesAtMost (2 * length (ports_in self.old)) D.spare D.acts desk.old desk.new }
+        ensures room { UsesAtMost (2 * length (ports_in self.old))
+            D.spare D.acts desk.old desk.new }
     {
         for q in 0..self.ports.len() {
             self.begin(q, tick, desk);

@@ -51,7 +51,8 @@ impl Gateway {
             self.old self.new (D.acts desk.old) (D.acts desk.new) }
         ensures ports { ports_in self.new ≡ ports_in self.old }
         ensures clock { clock_at self.new ≡ clock_at self.old }
-        ensures room { UsesAtMost (all_peers (ports_in self.old) + 2) D.spare D.acts desk.old desk.new }
+        ensures room { UsesAtMost (all_peers (ports_in self.old) + 2)
+            D.spare D.acts desk.old desk.new }
     {
         let own = &self.ports[q].station().me.name;
         match judge(own, self.many(), port_at(q), m) {
@@ -105,7 +106,8 @@ impl Gateway {
         ensures row { (x : ℕ)
             → PerformsAll GatewayStands GatewayStands (reposts_on m.now (port_at r)) x self.now
             self.now (D.acts desk.old) (D.acts desk.new) }
-        ensures room { UsesAtMost (peers_at r (ports_in self.now)) D.spare D.acts desk.old desk.new }
+        ensures room { UsesAtMost (peers_at r (ports_in self.now))
+            D.spare D.acts desk.old desk.new }
     {
         let station = self.ports[r].station();
         if is_awake(station.role) {

@@ -41,7 +41,8 @@ impl Gateway {
         ensures row { (x : ℕ)
             → PerformsAll GatewayStands GatewayStands (on (port_at q) (sends_loops (port_at q))) x
             self.now self.now (D.acts desk.old) (D.acts desk.new) }
-        ensures room { UsesAtMost (peers_at q (ports_in self.now)) D.spare D.acts desk.old desk.new }
+        ensures room { UsesAtMost (peers_at q (ports_in self.now))
+            D.spare D.acts desk.old desk.new }
     {
         let station = self.ports[q].station();
         let name = station.me.name.copy();

@@ -39,7 +39,8 @@ impl Gateway {
         ensures over { HasProbed q tick self.new }
         ensures ports { ports_in self.new ≡ ports_in self.old }
         ensures clock { clock_at self.new ≤ tick }
-        ensures room { UsesAtMost (3 * peers_at q (ports_in self.old) + 4) D.spare D.acts desk.old desk.new }
+        ensures room { UsesAtMost (3 * peers_at q (ports_in self.old) + 4)
+            D.spare D.acts desk.old desk.new }
     {
         let rung = self.probe_rings(q, tick);
         self.ring(q, Alarm::Probe, false, tick, desk);
@@ -81,7 +82,8 @@ impl Gateway {
             (D.acts desk.new) }
         ensures ports { ports_in self.new ≡ ports_in self.old }
         ensures clock { clock_at self.new ≤ tick }
-        ensures room { UsesAtMost (2 * peers_at q (ports_in self.old) + 8) D.spare D.acts desk.old desk.new }
+        ensures room { UsesAtMost (2 * peers_at q (ports_in self.old) + 8)
+            D.spare D.acts desk.old desk.new }
     {
         let own = self.leads_clock(q);
         let clock = &mut self.clock;

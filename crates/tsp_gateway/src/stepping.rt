@@ -28,7 +28,8 @@ impl Gateway {
             self.old self.new (D.acts desk.old) (D.acts desk.new) }
         ensures ports { ports_in self.new ≡ ports_in self.old }
         ensures clock { clock_at self.new ≤ tick }
-        ensures room { UsesAtMost (room_of_ports (ports_in self.old)) D.spare D.acts desk.old desk.new }
+        ensures room { UsesAtMost (room_of_ports (ports_in self.old))
+            D.spare D.acts desk.old desk.new }
     {
         match input {
             Input::Turn => self.turn(tick, desk),
@@ -62,7 +63,8 @@ impl Gateway {
             (D.acts desk.old) (D.acts desk.new) }
         ensures ports { ports_in self.new ≡ ports_in self.old }
         ensures clock { clock_at self.new ≤ tick }
-        ensures room { UsesAtMost (room_of_ports (ports_in self.old)) D.spare D.acts desk.old desk.new }
+        ensures room { UsesAtMost (room_of_ports (ports_in self.old))
+            D.spare D.acts desk.old desk.new }
     {
         let taken = read_any(octets);
         self.take(tick, port, from, &taken, desk);
@@ -78,7 +80,8 @@ impl Gateway {
             self.new (D.acts desk.old) (D.acts desk.new) }
         ensures ports { ports_in self.new ≡ ports_in self.old }
         ensures clock { clock_at self.new ≤ tick }
-        ensures room { UsesAtMost (room_of_ports (ports_in self.old)) D.spare D.acts desk.old desk.new }
+        ensures room { UsesAtMost (room_of_ports (ports_in self.old))
+            D.spare D.acts desk.old desk.new }
     {
         self.turn_ports(tick, desk);
     }
@@ -95,7 +98,8 @@ impl Gateway {
             (D.acts desk.new) }
         ensures ports { ports_in self.new ≡ ports_in self.old }
         ensures clock { clock_at self.new ≤ tick }
-        ensures room { UsesAtMost (room_of_ports (ports_in self.old)) D.spare D.acts desk.old desk.new }
+        ensures room { UsesAtMost (room_of_ports (ports_in self.old))
+            D.spare D.acts desk.old desk.new }
     {
         self.turn_ports(tick, desk);
         self.take_in(tick, port.0 as usize, from, taken, desk);

@@ -78,7 +78,8 @@ impl Gateway {
             tick self.old self.new (D.acts desk.old) (D.acts desk.new) }
         ensures ports { ports_in self.new ≡ ports_in self.old }
         ensures clock { clock_at self.new ≤ tick }
-        ensures room { UsesAtMost (2 * peers_at q (ports_in self.old) + 24) D.spare D.acts desk.old desk.new }
+        ensures room { UsesAtMost (2 * peers_at q (ports_in self.old) + 24)
+            D.spare D.acts desk.old desk.new }
     {
         let steer = self.steers(q);
         let charge = self.in_charge(q);
@@ -119,7 +120,8 @@ impl Gateway {
             (D.acts desk.old) (D.acts desk.new) }
         ensures ports { ports_in self.new ≡ ports_in self.old }
         ensures clock { clock_at self.new ≤ tick }
-        ensures room { UsesAtMost (2 * peers_at q (ports_in self.old) + 24) D.spare D.acts desk.old desk.new }
+        ensures room { UsesAtMost (2 * peers_at q (ports_in self.old) + 24)
+            D.spare D.acts desk.old desk.new }
     {
         // Only a message asks which port steers the clock, and which is in charge of the date.
         let steer = true;

@@ -34,7 +34,8 @@ impl Gateway {
             (D.acts desk.new) }
         ensures ports { ports_in self.new ≡ ports_in self.old }
         ensures clock { clock_at self.new ≤ tick }
-        ensures room { UsesAtMost (turns_room (ports_in self.old)) D.spare D.acts desk.old desk.new }
+        ensures room { UsesAtMost (turns_room (ports_in self.old))
+            D.spare D.acts desk.old desk.new }
     {
         for q in 0..self.ports.len() {
             if !self.is_idle(q, tick) {
@@ -54,7 +55,8 @@ impl Gateway {
             tick self.old self.new (D.acts desk.old) (D.acts desk.new) }
         ensures ports { ports_in self.new ≡ ports_in self.old }
         ensures clock { clock_at self.new ≤ tick }
-        ensures room { UsesAtMost (turn_room (peers_at q (ports_in self.old))) D.spare D.acts desk.old desk.new }
+        ensures room { UsesAtMost (turn_room (peers_at q (ports_in self.old)))
+            D.spare D.acts desk.old desk.new }
     {
         self.send(q, tick, desk);
         self.ring_alarms(q, tick, desk);
@@ -79,7 +81,8 @@ impl Gateway {
             (alarms_on (port_at q)) tick self.old self.new (D.acts desk.old) (D.acts desk.new) }
         ensures ports { ports_in self.new ≡ ports_in self.old }
         ensures clock { clock_at self.new ≤ tick }
-        ensures room { UsesAtMost (alarms_room ALL (peers_at q (ports_in self.old))) D.spare D.acts desk.old desk.new }
+        ensures room { UsesAtMost (alarms_room ALL (peers_at q (ports_in self.old)))
+            D.spare D.acts desk.old desk.new }
     {
         for alarm in &Alarm::ALL {
             self.ring_alarm(q, *alarm, tick, desk);
@@ -100,7 +103,8 @@ impl Gateway {
         ensures over { alarm ≡ Probe → HasProbed q tick self.new }
         ensures ports { ports_in self.new ≡ ports_in self.old }
         ensures clock { clock_at self.new ≤ tick }
-        ensures room { UsesAtMost (alarm_room alarm (peers_at q (ports_in self.old))) D.spare D.acts desk.old desk.new }
+        ensures room { UsesAtMost (alarm_room alarm (peers_at q (ports_in self.old)))
+            D.spare D.acts desk.old desk.new }
     {
         match alarm {
             Alarm::Probe => self.probe(q, tick, desk),
@@ -122,7 +126,8 @@ impl Gateway {
             (on (port_at q) due_sends) tick self.old self.new (D.acts desk.old) (D.acts desk.new) }
         ensures ports { ports_in self.new ≡ ports_in self.old }
         ensures clock { clock_at self.new ≡ clock_at self.old }
-        ensures room { UsesAtMost (2 * peers_at q (ports_in self.old)) D.spare D.acts desk.old desk.new }
+        ensures room { UsesAtMost (2 * peers_at q (ports_in self.old))
+            D.spare D.acts desk.old desk.new }
     {
         self.ports[q].sends(tick, port_at(q), desk);
     }
@@ -148,7 +153,8 @@ impl Gateway {
         ensures over { alarm ≡ Probe → HasProbed q tick self.new }
         ensures ports { ports_in self.new ≡ ports_in self.old }
         ensures clock { clock_at self.new ≤ tick }
-        ensures room { UsesAtMost (2 * peers_at q (ports_in self.old) + 4) D.spare D.acts desk.old desk.new }
+        ensures room { UsesAtMost (2 * peers_at q (ports_in self.old) + 4)
+            D.spare D.acts desk.old desk.new }
     {
         let _ = self.ports[q].ring(&mut self.clock, alarm, true, wait, tick, port_at(q), desk);
     }

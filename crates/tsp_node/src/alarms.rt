@@ -48,7 +48,8 @@ impl Part {
         ensures over { alarm ≡ Probe → is_over self.new.station.alarms.probe tick ≡ false }
         ensures clock { clock.new.at ≤ tick }
         ensures peers { self.new.station.peers ≡ self.old.station.peers }
-        ensures room { UsesAtMost (2 * length self.old.station.peers + 4) D.spare D.acts desk.old desk.new }
+        ensures room { UsesAtMost (2 * length self.old.station.peers + 4)
+            D.spare D.acts desk.old desk.new }
     {
         if !self.station.is_due(alarm, tick) {
             return false;
@@ -84,7 +85,8 @@ impl Part {
         ensures over { alarm ≡ Probe → is_over self.new.station.alarms.probe terms.at.tick ≡ false }
         ensures clock { clock.new.at ≤ terms.at.tick }
         ensures peers { self.new.station.peers ≡ self.old.station.peers }
-        ensures room { UsesAtMost (2 * length self.old.station.peers + 4) D.spare D.acts desk.old desk.new }
+        ensures room { UsesAtMost (2 * length self.old.station.peers + 4)
+            D.spare D.acts desk.old desk.new }
     {
         let At { tick, port } = terms.at;
         if !is_of_master(alarm, terms.wait) {
@@ -121,7 +123,8 @@ impl Part {
             (port_with self.old clock) (port_with self.new clock) (D.acts desk.old)
             (D.acts desk.new) }
         ensures peers { self.new.station.peers ≡ self.old.station.peers }
-        ensures room { UsesAtMost (length self.old.station.peers + 4) D.spare D.acts desk.old desk.new }
+        ensures room { UsesAtMost (length self.old.station.peers + 4)
+            D.spare D.acts desk.old desk.new }
     {
         match alarm {
             Alarm::Round => wait_round(&mut self.station, tick, port, desk),
@@ -145,7 +148,8 @@ impl Part {
             → Performs PortUntaken PortUntaken window_rings tick port (port_with self.old clock)
             (port_with self.new clock) (D.acts desk.old) (D.acts desk.new) }
         ensures peers { self.new.station.peers ≡ self.old.station.peers }
-        ensures room { UsesAtMost (length self.old.station.peers + 3) D.spare D.acts desk.old desk.new }
+        ensures room { UsesAtMost (length self.old.station.peers + 3)
+            D.spare D.acts desk.old desk.new }
     {
         candidate_ring(&mut self.station, tick, port, desk);
         self.master.clear();

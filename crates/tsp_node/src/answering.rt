@@ -41,7 +41,8 @@ impl Part {
             (traced_with self.old clock tracing.old) (traced_with self.new clock tracing.new)
             (D.acts desk.old) (D.acts desk.new) }
         ensures peers { self.new.station.peers ≡ self.old.station.peers }
-        ensures room { UsesAtMost (length self.old.station.peers + 4) D.spare D.acts desk.old desk.new }
+        ensures room { UsesAtMost (length self.old.station.peers + 4)
+            D.spare D.acts desk.old desk.new }
     {
         let number = m.number();
         match m.kind() {
@@ -62,7 +63,8 @@ impl Part {
             (port_with self.old clock) (port_with self.new clock) (D.acts desk.old)
             (D.acts desk.new) }
         ensures peers { self.new.station.peers ≡ self.old.station.peers }
-        ensures room { UsesAtMost (length self.old.station.peers + 4) D.spare D.acts desk.old desk.new }
+        ensures room { UsesAtMost (length self.old.station.peers + 4)
+            D.spare D.acts desk.old desk.new }
     {
         let led = self.leads();
         take_test(&mut self.station, tick, from, number, port, desk);

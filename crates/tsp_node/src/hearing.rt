@@ -53,7 +53,8 @@ impl Part {
             → TellsCorrection result terms.at.port (D.acts desk.old) (D.acts desk.new) }
         ensures peers { self.new.station.peers ≡ self.old.station.peers }
         ensures clock { clock.new.at ≤ terms.at.tick }
-        ensures room { UsesAtMost (2 * length self.old.station.peers + 10) D.spare D.acts desk.old desk.new }
+        ensures room { UsesAtMost (2 * length self.old.station.peers + 10)
+            D.spare D.acts desk.old desk.new }
     {
         let At { tick, port } = terms.at;
         match audience_of(m.kind()) {
@@ -96,7 +97,8 @@ impl Part {
             → TellsCorrection result at.port (D.acts desk.old) (D.acts desk.new) }
         ensures peers { self.new.station.peers ≡ self.old.station.peers }
         ensures clock { clock.new.at ≤ at.tick }
-        ensures room { UsesAtMost (2 * length self.old.station.peers + 2) D.spare D.acts desk.old desk.new }
+        ensures room { UsesAtMost (2 * length self.old.station.peers + 2)
+            D.spare D.acts desk.old desk.new }
     {
         let At { tick, port } = at;
         let corrected = date_take(

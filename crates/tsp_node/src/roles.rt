@@ -57,7 +57,8 @@ impl Part {
             → TellsCorrection result terms.at.port (D.acts desk.old) (D.acts desk.new) }
         ensures peers { self.new.station.peers ≡ self.old.station.peers }
         ensures clock { clock.new.at ≤ terms.at.tick }
-        ensures room { UsesAtMost (2 * length self.old.station.peers + 5) D.spare D.acts desk.old desk.new }
+        ensures room { UsesAtMost (2 * length self.old.station.peers + 5)
+            D.spare D.acts desk.old desk.new }
     {
         let Some(p) = self.heard(from) else {
             return false;
@@ -107,7 +108,8 @@ impl Part {
             PortStands (master_takes p m.now) tick port (port_with self.old clock.now)
             (port_with self.new clock.now) (D.acts desk.old) (D.acts desk.new) }
         ensures peers { self.new.station.peers ≡ self.old.station.peers }
-        ensures room { UsesAtMost (2 * length self.old.station.peers + 5) D.spare D.acts desk.old desk.new }
+        ensures room { UsesAtMost (2 * length self.old.station.peers + 5)
+            D.spare D.acts desk.old desk.new }
     {
         match m.kind() {
             Kind::Quit => self.take_quit(clock, At { tick, port }, p, m, desk),

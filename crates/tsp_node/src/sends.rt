@@ -35,7 +35,8 @@ impl Part {
             → Performs PortBegun PortBegun due_sends tick port (port_with self.old clock)
             (port_with self.new clock) (D.acts desk.old) (D.acts desk.new) }
         ensures peers { self.new.station.peers ≡ self.old.station.peers }
-        ensures room { UsesAtMost (2 * length self.old.station.peers) D.spare D.acts desk.old desk.new }
+        ensures room { UsesAtMost (2 * length self.old.station.peers)
+            D.spare D.acts desk.old desk.new }
     {
         let mut after = None;
         // Each peer has one open send at most, so this many rounds are enough.

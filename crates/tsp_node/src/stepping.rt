@@ -39,7 +39,8 @@ impl Node {
             self.old self.new (D.acts desk.old) (D.acts desk.new) }
         ensures peers { peers_in self.new ≡ peers_in self.old }
         ensures clock { clock_at self.new ≤ tick }
-        ensures room { UsesAtMost (room_for (length (peers_in self.old))) D.spare D.acts desk.old desk.new }
+        ensures room { UsesAtMost (room_for (length (peers_in self.old)))
+            D.spare D.acts desk.old desk.new }
     {
         match input {
             Input::Turn => self.turn(tick, desk),
@@ -56,7 +57,8 @@ impl Node {
             self.new (D.acts desk.old) (D.acts desk.new) }
         ensures peers { peers_in self.new ≡ peers_in self.old }
         ensures clock { clock_at self.new ≤ tick }
-        ensures room { UsesAtMost (room_for (length (peers_in self.old))) D.spare D.acts desk.old desk.new }
+        ensures room { UsesAtMost (room_for (length (peers_in self.old)))
+            D.spare D.acts desk.old desk.new }
     {
         self.part.sends(tick, PORT, desk);
         self.ring_alarms(tick, desk);
@@ -71,7 +73,8 @@ impl Node {
             (record { 0 = 0 }) self.old self.new (D.acts desk.old) (D.acts desk.new) }
         ensures peers { peers_in self.new ≡ peers_in self.old }
         ensures clock { clock_at self.new ≤ tick }
-        ensures room { UsesAtMost (room_for (length (peers_in self.old))) D.spare D.acts desk.old desk.new }
+        ensures room { UsesAtMost (room_for (length (peers_in self.old)))
+            D.spare D.acts desk.old desk.new }
     {
         self.part.sends(tick, PORT, desk);
         self.ring_alarms(tick, desk);
@@ -88,7 +91,8 @@ impl Node {
             tick (record { 0 = 0 }) self.old self.new (D.acts desk.old) (D.acts desk.new) }
         ensures peers { peers_in self.new ≡ peers_in self.old }
         ensures clock { clock_at self.new ≤ tick }
-        ensures room { UsesAtMost (2 * length (peers_in self.old) + 17) D.spare D.acts desk.old desk.new }
+        ensures room { UsesAtMost (2 * length (peers_in self.old) + 17)
+            D.spare D.acts desk.old desk.new }
     {
         // A node's only port steers the clock, and is in charge of the date.
         let steer = true;
@@ -112,7 +116,8 @@ impl Node {
             self.new (D.acts desk.old) (D.acts desk.new) }
         ensures peers { peers_in self.new ≡ peers_in self.old }
         ensures clock { clock_at self.new ≤ tick }
-        ensures room { UsesAtMost (length ALL * (2 * length (peers_in self.old) + 4)) D.spare D.acts desk.old desk.new }
+        ensures room { UsesAtMost (length ALL * (2 * length (peers_in self.old) + 4))
+            D.spare D.acts desk.old desk.new }
     {
         for alarm in &Alarm::ALL {
             self.ring(*alarm, tick, desk);
@@ -130,7 +135,8 @@ impl Node {
         ensures over { alarm ≡ Probe → is_over self.new.part.station.alarms.probe tick ≡ false }
         ensures peers { peers_in self.new ≡ peers_in self.old }
         ensures clock { clock_at self.new ≤ tick }
-        ensures room { UsesAtMost (2 * length (peers_in self.old) + 4) D.spare D.acts desk.old desk.new }
+        ensures room { UsesAtMost (2 * length (peers_in self.old) + 4)
+            D.spare D.acts desk.old desk.new }
     {
         // A node's only port moves the clock by its group's mean, and waits for no other port's round.
         let group_mean = true;

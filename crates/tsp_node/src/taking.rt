@@ -50,7 +50,8 @@ impl Part {
             → result ≡ corrects (takes steer charge from taken.now tick past) }
         ensures peers { self.new.station.peers ≡ self.old.station.peers }
         ensures clock { clock.new.at ≤ tick }
-        ensures room { UsesAtMost (2 * length self.old.station.peers + 16) D.spare D.acts desk.old desk.new }
+        ensures room { UsesAtMost (2 * length self.old.station.peers + 16)
+            D.spare D.acts desk.old desk.new }
     {
         put_taken(from, taken, port, desk);
         let terms = TakeTerms {
@@ -85,7 +86,8 @@ impl Part {
             → TellsCorrection result terms.at.port (D.acts desk.old) (D.acts desk.new) }
         ensures peers { self.new.station.peers ≡ self.old.station.peers }
         ensures clock { clock.new.at ≤ terms.at.tick }
-        ensures room { UsesAtMost (2 * length self.old.station.peers + 10) D.spare D.acts desk.old desk.new }
+        ensures room { UsesAtMost (2 * length self.old.station.peers + 10)
+            D.spare D.acts desk.old desk.new }
     {
         if is_own(from, self.station.me.own) {
             return false;
