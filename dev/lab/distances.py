@@ -39,7 +39,7 @@ def history_of(story, drift):
     """The history of a story."""
     network, placing = story.network, story.placing
     nodes = [schedule.Node(name, rate, wall, flag == 'm') for name, rate, wall, flag in zip(network.names, placing.rates, placing.walls, network.flags)]
-    events = [schedule.any_event_of(event.encode('ascii')) for event in story.events]
+    events = [schedule.event_of(event.encode('ascii')) for event in story.events]
     told = schedule.Schedule(network.strict, drift, nodes, events)
     acts = []
     for claim in story.claims:

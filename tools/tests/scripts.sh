@@ -1,5 +1,5 @@
 #!/bin/sh
-# The scripts are sound by shellcheck, and the tools are Python that 3.8 reads.
+# The scripts are sound by shellcheck, and the tools are Python that 3.8 reads, and take of each other only what is there.
 . "$(dirname "$0")/common.sh"
 
 # The files outside of crates/ and bench/ that git has or would take, whose first line or name is as this pattern says.
@@ -23,4 +23,9 @@ fi
 while IFS= read -r file; do
     python3 -c 'import ast, sys; ast.parse(open(sys.argv[1], encoding="utf-8").read(), feature_version=(3, 8))' "$file" || fail "$file isn't read"
 done <"$out/python"
+{ cat "$out/python"; git ls-files -- 'bench' | while IFS= read -r file; do case $(head -n 1 "$file" | tr -d '\0') in '#!'*python3) printf '%s\n' "$file" ;; esac; done; } >"$out/all"
+# shellcheck disable=SC2046  # a file each
+python3 -B tools/tests/names.py $(cat "$out/all") 2>"$out/told" || fail "$(cat "$out/told")"
+echo 'from tsp_texts import schedule; schedule.no_such_name' >"$out/wrong.py"
+! python3 -B tools/tests/names.py "$out/wrong.py" 2>"$out/told" || fail 'a name that is not there is not found'
 echo "$check: $(wc -l <"$out/shell") of shell and $(wc -l <"$out/python") of Python"
