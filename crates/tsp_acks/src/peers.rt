@@ -5,6 +5,7 @@ ghost use Rattle.tsp_base.specs.Peers.{IsPeers, is_among};
 use std::alloc::{AllocError, Global};
 use std::boxed::BoxedSlice;
 use std::marker::Model;
+use tsp_base::peers::place_of;
 use tsp_base::place::PeerId;
 
 /// The peers of a port, its own number among them: at most 1,000, strictly ascending.
@@ -48,9 +49,6 @@ impl Peers {
     pub fn has(&self, p: PeerId) -> bool
         ensures { result ≡ is_among p self.now }
     {
-        self.items
-            .as_slice()
-            .binary_search_by_key(&p.0, |q| q.0)
-            .is_ok()
+        place_of(self.items.as_slice(), p).is_ok()
     }
 }

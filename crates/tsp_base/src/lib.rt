@@ -64,6 +64,7 @@ pub mod micros;
 pub mod name;
 pub mod octets;
 pub mod pad;
+pub mod peers;
 pub mod place;
 pub mod plain;
 pub mod role;

@@ -1,18 +1,19 @@
 -- The earliest of several ports' deadlines.
-use Rattle.std.specs.Prelude.{◌≡◌, ◌⊎◌, ℕ, zero, suc, min, List, [], ◌∷◌, ◌++◌, length, Option, None, Some, slice_get}
-use Rattle.std.proofs.Common.{refl, sym, ◌∙◌, ap, inl, inr, arith}
+use Rattle.std.specs.Prelude.{◌≡◌, ◌⊎◌, ℕ, zero, suc, ◌<◌, false, min, List, [], ◌∷◌, ◌++◌, length, Option, None, Some, slice_get}
+use Rattle.std.proofs.Common.{refl, sym, ◌∙◌, ap, subst, inl, inr, arith}
+use Rattle.std.proofs.lemmas.Bool.{lt-leb}
+use Rattle.std.proofs.lemmas.Option.{same_Some}
 use Rattle.tsp_base.specs.Words.{earlier, least_deadline, Past}
+use Rattle.tsp_rules.specs.Guards.{is_over}
 use Rattle.tsp_rules.specs.NodeRows.{NodePast, on_port}
 use Rattle.tsp_sends.specs.Slots.{sending_to}
 use Rattle.tsp_sends.specs.Repeating.{IsEarliest}
 use Rattle.tsp_acks.specs.declared.station.Station.{Station}
 use Rattle.tsp_acks.specs.Stands.{StationStands}
-use Rattle.tsp_node.specs.declared.part.Part.{Part}
-use Rattle.tsp_node.specs.Dues.{IsPartDue}
 use Rattle.tsp_node.specs.NodeStands.{due_of}
-use Rattle.tsp_node.proofs.DueLemmas.{IsEarliest-open}
+use Rattle.tsp_node.proofs.DueLemmas.{IsEarliest-open, neither_over}
 use Rattle.tsp_gateway.specs.declared.gateway.Gateway.{Gateway}
-use Rattle.tsp_gateway.specs.Dues.{IsNodeDue, IsPortDue, least_of}
+use Rattle.tsp_gateway.specs.Dues.{IsGatewayDue, IsNodeDue, IsPortDue, least_of}
 use Rattle.tsp_gateway.specs.GatewayStands.{GatewayStands, port_at}
 
 earlier_none : (a : Option ℕ) → earlier a None ≡ a
@@ -49,13 +50,22 @@ IsPortDue-of past station due sends s first e = record {
 }
 
 -- the earliest of all ports' deadlines is that of the node's past
-pub IsNodeDue-of : (past : NodePast) (g : Gateway) (dues : List (Option ℕ)) (at : ℕ) → GatewayStands past g → length dues ≡ length g.ports.items
-    → ((q : ℕ) (due : Option ℕ) → slice_get dues q ≡ Some due → (part : Part) × (slice_get g.ports.items q ≡ Some part) × IsPartDue part due) → at ≡ due_of (least_of dues) → IsNodeDue past at
-IsNodeDue-of past g dues at s many each e = record {
-  dues = dues;
-  many = many ∙ s.many;
+pub IsNodeDue-of : (past : NodePast) (g : Gateway) (at : ℕ) → GatewayStands past g → IsGatewayDue g at → IsNodeDue past at
+IsNodeDue-of past g at s d = record {
+  dues = d.dues;
+  many = d.many ∙ s.many;
   each = λ q due there.
-      let d = each q due there in
-      IsPortDue-of (on_port (port_at q) past) d.0.station due d.2.sends (s.ports q d.0 d.1).station d.2.first d.2.due_is;
-  at_is = e;
+      let one = d.each q due there in
+      IsPortDue-of (on_port (port_at q) past) one.0.station due one.2.sends (s.ports q one.0 one.1).station one.2.first one.2.due_is;
+  at_is = d.at_is;
 }
+
+-- no deadline has come before the earliest has
+pub none_over : (dues : List (Option ℕ)) (q x : ℕ) (due : Option ℕ) → slice_get dues q ≡ Some due → is_over (least_of dues) x ≡ false → is_over due x ≡ false
+none_over [] q x due is e = absurd (cc)
+none_over (o ∷ rest) zero x due is e = subst (λ d. is_over d x ≡ false) (same_Some o due is) (neither_over o (least_of rest) x e).0
+none_over (o ∷ rest) (suc q) x due is e = none_over rest q x due is (neither_over o (least_of rest) x e).1
+
+pub before-over : (due : Option ℕ) (x : ℕ) → x < due_of due → is_over due x ≡ false
+before-over None x lt = refl
+before-over (Some t) x lt = lt-leb t x lt

@@ -1,6 +1,6 @@
 -- A port with nothing due has nothing to do in its turn.
 use Rattle.std.specs.Prelude.{◌≡◌, ◌<◌, ◌+◌, ℕ, not, Bool, true, false, length, List, [], ◌∷◌, Option, None, Some, slice_get, refl}
-use Rattle.std.proofs.Common.{append-nil, arith, leb-false, sym, true≢false, ◌∙◌}
+use Rattle.std.proofs.Common.{ap, append-nil, arith, leb-false, sym, true≢false, ◌∙◌}
 use Rattle.std.proofs.lemmas.Bool.{lt-leb}
 use Rattle.tsp_rules.specs.Values.{Placed, Alarm, Round, Probe, CloseAlarm, PeerId, Port, ALL}
 use Rattle.tsp_base.specs.Words.{least_deadline, Past, either_by, for_each, nothing, reading, ◌followed_by◌, Sending, deadline_of, open_send}
@@ -11,12 +11,14 @@ use Rattle.tsp_rules.specs.NodePerforms.{PerformsAll}
 use Rattle.tsp_rules.specs.NodeRows.{NodePast, nothing_at_all, on, on_port, reading_all, stirring, ◌and_then◌}
 use Rattle.tsp_rules.specs.SendRows.{due_send, due_sends, repeats_send}
 use Rattle.tsp_sends.specs.Repeating.{IsEarliest, is_due_send}
+use Rattle.tsp_sends.specs.Slots.{sending_to}
 use Rattle.tsp_node.specs.declared.part.Part.{Part}
 use Rattle.tsp_node.specs.Dues.{IsPartDue}
 use Rattle.tsp_node.specs.NodeStands.{PortStands, port_with}
-use Rattle.tsp_node.proofs.DueLemmas.{IsEarliest-open, alarm_waits, neither_over}
+use Rattle.tsp_node.proofs.DueLemmas.{alarm_waits, neither_over}
 use Rattle.tsp_clock.specs.Clocks.{ClockValue}
 use Rattle.tsp_gateway.specs.declared.gateway.Gateway.{Gateway}
+use Rattle.tsp_gateway.specs.Dues.{Waits}
 use Rattle.tsp_gateway.specs.GatewayStands.{GatewayTurning, port_at}
 use Rattle.tsp_gateway.specs.Rooms.{ports_in}
 use Rattle.tsp_gateway.proofs.LiftLemmas.{part_of}
@@ -59,20 +61,24 @@ no_alarms_on : (q : Port) (x : ℕ) (past : NodePast) → ((alarm : Alarm) → i
 unfolding alarms_on
 no_alarms_on q x past e = no_alarms q ALL x past e
 
--- the turn of a port where the earliest deadline hasn't come
-no_turn : (q : Port) (x : ℕ) (past : NodePast) (part : Part) (clock : ClockValue) (due : Option ℕ) → PortStands (on_port q past) (port_with part clock) → IsPartDue part due → is_over due x ≡ false → turns_on q x past ≡ []
-unfolding turns_on on due_sends reading ◌and_then◌
-no_turn q x past part clock due h d e =
+-- where the earliest deadline of a port hasn't come, nothing of it is due
+pub Waits-before : (x : ℕ) (part : Part) (due : Option ℕ) → IsPartDue part due → is_over due x ≡ false → Waits x part
+Waits-before x part due d e =
     let both = neither_over (least_deadline part.station.alarms) d.sends x (rw d.due_is at e) in
-    let sends = send_waits (λ p. open_send p (on_port q past).seen) d.sends x (IsEarliest-open (on_port q past) part.station d.sends h.station d.first) both.1 in
-    let alarms = alarm_waits part.station.alarms x both.0 in
-    rw (no_sends (on_port q past).peers x (on_port q past) sends) (no_alarms_on q x past (λ alarm. rw (← h.station.alarms) (alarms alarm)))
+    record { alarms = alarm_waits part.station.alarms x both.0; sends = send_waits (sending_to part.station.sends) d.sends x d.first both.1 }
+
+-- the turn of a port of which nothing is due
+no_turn : (q : Port) (x : ℕ) (past : NodePast) (part : Part) (clock : ClockValue) → PortStands (on_port q past) (port_with part clock) → Waits x part → turns_on q x past ≡ []
+unfolding turns_on on due_sends reading ◌and_then◌
+no_turn q x past part clock h waits =
+    let sends : (p : PeerId) → is_due_send x (open_send p (on_port q past).seen) ≡ false = λ p. ap (is_due_send x) (sym (h.station.sends p)) ∙ waits.sends p in
+    rw (no_sends (on_port q past).peers x (on_port q past) sends) (no_alarms_on q x past (λ alarm. rw (← h.station.alarms) (waits.alarms alarm)))
 
 -- the node does nothing in it
-pub All_waits : {x q : ℕ} {g : Gateway} {old : List Placed} (part : Part) (due : Option ℕ) → slice_get g.ports.items q ≡ Some part → IsPartDue part due → is_over due x ≡ false → PerformsAll (GatewayTurning q) (GatewayTurning (q + 1)) (turns_on (port_at q)) x g g old old
-All_waits {x} {q} {g} {old} part due there d e = record {
-  acts = λ past w. rw (no_turn (port_at q) x past part g.clock due (w.stands.ports q part there) d e) (sym (append-nil old));
-  stands = λ past w. rw (no_turn (port_at q) x past part g.clock due (w.stands.ports q part there) d e) (record { stands = w.stands; turns = record { untaken = w.turns.untaken; still = λ r from. w.turns.still r (omega (arith, from)) } });
+pub All_waits : {x q : ℕ} {g : Gateway} {old : List Placed} (part : Part) → slice_get g.ports.items q ≡ Some part → Waits x part → PerformsAll (GatewayTurning q) (GatewayTurning (q + 1)) (turns_on (port_at q)) x g g old old
+All_waits {x} {q} {g} {old} part there waits = record {
+  acts = λ past w. rw (no_turn (port_at q) x past part g.clock (w.stands.ports q part there) waits) (sym (append-nil old));
+  stands = λ past w. rw (no_turn (port_at q) x past part g.clock (w.stands.ports q part there) waits) (record { stands = w.stands; turns = record { untaken = w.turns.untaken; still = λ r from. w.turns.still r (omega (arith, from)) } });
 }
 
 -- so where the port says that it is idle
@@ -81,7 +87,7 @@ pub idle_waits : (x q : ℕ) (g : Gateway) {old : List Placed} (idle : Bool) →
 idle_waits x q g idle lt e says =
     let part = part_of g q lt in
     let due = says part.0 part.1 in
-    All_waits part.0 due.0 part.1 due.1 (not_over (is_over due.0 x) (sym due.2 ∙ e)) where
+    All_waits part.0 part.1 (Waits-before x part.0 due.0 due.1 (not_over (is_over due.0 x) (sym due.2 ∙ e))) where
       not_over : (b : Bool) → not b ≡ true → b ≡ false
       not_over true e = absurd (true≢false (sym e))
       not_over false e = refl

@@ -9,6 +9,7 @@ pub mod LiftLemmas
 pub mod LoopLemmas
 pub mod PlaceLemmas
 pub mod PostLemmas
+pub mod RestLemmas
 pub mod RoomLemmas
 pub mod StirLemmas
 pub mod StepLemmas

@@ -1,10 +1,13 @@
 -- When a gateway needs its next step, and whether a port has probed.
-use Rattle.std.specs.Prelude.{◌≡◌, ℕ, false, List, [], ◌∷◌, length, Option, None, Some, slice_get}
-use Rattle.tsp_base.specs.Words.{earlier, least_deadline, Seen, view, armed, open_send}
+use Rattle.std.specs.Prelude.{◌≡◌, ◌<◌, ℕ, false, List, [], ◌∷◌, length, Option, None, Some, slice_get}
+use Rattle.tsp_rules.specs.Values.{Alarm, PeerId}
+use Rattle.tsp_base.specs.Words.{deadline, earlier, least_deadline, Seen, view, armed, open_send}
 use Rattle.tsp_rules.specs.Guards.{is_over}
 use Rattle.tsp_rules.specs.NodeRows.{NodePast}
-use Rattle.tsp_sends.specs.Repeating.{IsEarliest}
+use Rattle.tsp_sends.specs.Repeating.{IsEarliest, is_due_send}
+use Rattle.tsp_sends.specs.Slots.{sending_to}
 use Rattle.tsp_node.specs.declared.part.Part.{Part}
+use Rattle.tsp_node.specs.Dues.{IsPartDue}
 use Rattle.tsp_node.specs.NodeStands.{due_of}
 use Rattle.tsp_gateway.specs.declared.gateway.Gateway.{Gateway}
 use Rattle.tsp_gateway.specs.GatewayStands.{port_at}
@@ -26,6 +29,22 @@ pub record IsNodeDue (past : NodePast) (at : ℕ) : Type 0 where
   pub many : length dues ≡ length past.ports
   pub each : (q : ℕ) (due : Option ℕ) → slice_get dues q ≡ Some due → IsPortDue (view (port_at q) past.lines) due
   pub at_is : at ≡ due_of (least_of dues)
+
+-- the same from the states of the ports
+pub record IsGatewayDue (g : Gateway) (at : ℕ) : Type 0 where
+  pub dues : List (Option ℕ)
+  pub many : length dues ≡ length g.ports.items
+  pub each : (q : ℕ) (due : Option ℕ) → slice_get dues q ≡ Some due → (part : Part) × (slice_get g.ports.items q ≡ Some part) × IsPartDue part due
+  pub at_is : at ≡ due_of (least_of dues)
+
+-- no alarm and no open send of a port is due at this tick
+pub record Waits (x : ℕ) (part : Part) : Type 0 where
+  pub alarms : (alarm : Alarm) → is_over (deadline part.station.alarms alarm) x ≡ false
+  pub sends : (p : PeerId) → is_due_send x (sending_to part.station.sends p) ≡ false
+
+-- before this tick nothing of any port is due
+abbrev pub RestsUntil : ℕ → Gateway → Type 0
+RestsUntil due g = (x q : ℕ) (part : Part) → x < due → slice_get g.ports.items q ≡ Some part → Waits x part
 
 -- no Probe of port q is due any more at this tick
 abbrev pub HasProbed : ℕ → ℕ → Gateway → Type 0

@@ -1,7 +1,7 @@
 //! What a caller can read of a gateway.
 ghost use Rattle.std.specs.Prelude.{◌≡◌, ◌<◌, length};
 ghost use Rattle.tsp_rules.specs.NodeRows.{NodePast};
-ghost use Rattle.tsp_gateway.specs.Dues.{IsNodeDue};
+ghost use Rattle.tsp_gateway.specs.Dues.{IsGatewayDue, IsNodeDue};
 ghost use Rattle.tsp_gateway.specs.PortOf.{port_of};
 
 use crate::gateway::{FIRST, Gateway, port_at};
@@ -31,6 +31,13 @@ impl Gateway {
     /// alarm or an open send of any port, which may be in the past; `u64::MAX` where there is none.
     pub fn due(&self) -> u64
         ensures past { (past : NodePast) → GatewayStands past self.now → IsNodeDue past result }
+    {
+        self.deadline()
+    }
+
+    /// The same, from the states of the ports: a turn before this tick does nothing.
+    pub fn deadline(&self) -> u64
+        ensures { IsGatewayDue self.now result }
     {
         let mut due = None;
         for part in &self.ports {

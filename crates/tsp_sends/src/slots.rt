@@ -14,6 +14,7 @@ use std::alloc::{AllocError, Global};
 use std::boxed::BoxedSlice;
 use std::marker::Model;
 use tsp_base::kind::Kind;
+use tsp_base::peers::place_of;
 use tsp_base::place::PeerId;
 
 /// A slot for each peer, in the order of the peers.
@@ -61,7 +62,7 @@ impl Slots {
         requires { IsAscending (peers_of self.now) }
         ensures { IsPlaceOf peer self.now result }
     {
-        self.peers.as_slice().binary_search_by_key(&peer.0, |p| p.0)
+        place_of(self.peers.as_slice(), peer)
     }
 
     /// The place of the first slot whose peer comes after this one; without one, of the first slot.

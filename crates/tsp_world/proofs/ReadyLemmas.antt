@@ -1,5 +1,5 @@
 -- Nodes that can act still can later, and when one of them has acted or booted.
-use Rattle.std.specs.Prelude.{◌≡◌, ℕ, ◌<◌, ◌≤◌, List, length, Option, Some, slice_get, vec_len}
+use Rattle.std.specs.Prelude.{◌≡◌, ℕ, ◌<◌, ◌≤◌, List, length, Option, None, Some, slice_get, vec_len}
 use Rattle.std.proofs.Common.{sym, ap, ◌∙◌, subst, arith, inl, inr, get_or}
 use Rattle.std.proofs.lemmas.Option.{slice_get-get_or}
 use Rattle.std.proofs.Math.ListN.{set}
@@ -7,14 +7,17 @@ use Rattle.tsp_rules.specs.Values.{Port}
 use Rattle.tsp_base.specs.Words.{HeaderValue, IsHeader, tick_at}
 use Rattle.tsp_base.proofs.TickLemmas.{tick_at-near}
 use Rattle.tsp_gateway.specs.declared.gateway.Gateway.{Gateway}
+use Rattle.tsp_gateway.specs.Dues.{RestsUntil}
 use Rattle.tsp_gateway.specs.GateConfigs.{GateConfigValue}
 use Rattle.tsp_rules.specs.NodeRows.{PortSetup}
 use Rattle.tsp_run.specs.Networks.{networks, ports_on, room}
 use Rattle.tsp_run.specs.Setup.{node_line}
 use Rattle.tsp_run.proofs.HeaderLines.{rate-node_line}
+use Rattle.tsp_run.proofs.NetworkLemmas.{some_same}
 use Rattle.tsp_world.specs.declared.world.World.{World}
-use Rattle.tsp_world.specs.NodesReady.{NodesReady, PlaceReady, CanAct, CanTake}
+use Rattle.tsp_world.specs.NodesReady.{AreDues, NodesReady, PlaceReady, CanAct, CanTake}
 use Rattle.tsp_gateway.proofs.LiftLemmas.{set_cases}
+use Rattle.tsp_gateway.proofs.TellLemmas.{set_other}
 use Rattle.tsp_world.proofs.SetupLemmas.{many-ready, room-ready}
 
 -- a node's ticks don't fall
@@ -47,6 +50,22 @@ NodesReady-set {header} {one} {nodes} {t = t} i place r h = record {
     | inr kept ↦ r.places n other kept.1
   ];
 }
+
+-- once a node has acted or has booted, it isn't known when it needs its next step
+pub AreDues-acted : (dues : List (Option ℕ)) (nodes : List (Option Gateway)) (i : ℕ) (place : Option Gateway) → AreDues dues nodes → AreDues (set dues i None) (set nodes i place)
+AreDues-acted dues nodes i place are n due node is there = elim (set_cases dues i n None (Some due) is) [
+  | inl same ↦ (let bad : ⊥ = none_some same.1 in absurd bad)
+  | inr kept ↦ are n due node kept.1 (sym (set_other nodes i n place kept.0) ∙ there)
+] where
+  none_some : {A : Type 0} {x : A} → None ≡ Some x → ⊥
+  none_some e = cc
+
+-- it is known of a node that is looked at
+pub AreDues-known : (dues : List (Option ℕ)) (nodes : List (Option Gateway)) (i due : ℕ) → ((node : Gateway) → slice_get nodes i ≡ Some (Some node) → RestsUntil due node) → AreDues dues nodes → AreDues (set dues i (Some due)) nodes
+AreDues-known dues nodes i due rests are n t node is there = elim (set_cases dues i n (Some due) (Some t) is) [
+  | inl same ↦ subst (λ s. RestsUntil s node) (some_same same.1) (rests node (subst (λ k. slice_get nodes k ≡ Some (Some node)) (sym same.0) there))
+  | inr kept ↦ are n t node kept.1 there
+]
 
 -- a node with these ports can act where there is room for it
 pub CanAct-ready : (ports : List PortSetup) (x spare : ℕ) (place : Option Gateway) → PlaceReady ports x place → room ports ≤ spare → CanAct spare x place

@@ -1,12 +1,14 @@
 -- How a world stands for one event more.
 use Rattle.std.specs.Prelude.{◌≡◌, ◌≢◌, ℕ, ◌<◌, ◌≤◌, ◌==◌, Bool, true, false, List, [], ◌∷◌, ◌++◌, length, Option, None, Some, slice_get, vec_len}
-use Rattle.std.proofs.Common.{refl, sym, ap, ◌∙◌, arith, subst, inl, inr, eq-eqb, eqb-true, true≢false, length-set}
+use Rattle.std.proofs.Common.{refl, sym, ap, append-nil, ◌∙◌, arith, subst, inl, inr, eq-eqb, eqb-true, true≢false, length-set}
 use Rattle.std.proofs.lemmas.Bool.{ne_eqb, cases_lt}
 use Rattle.std.proofs.lemmas.List.Elements.{All-cons}
 use Rattle.std.proofs.lemmas.Option.{slice_get-get_or}
 use Rattle.std.proofs.Math.ListN.{set}
-use Rattle.tsp_rules.specs.Values.{Placed, Event}
-use Rattle.tsp_base.specs.Words.{HeaderValue, IsHeader, Step, Line, of, dids, up}
+use Rattle.std.specs.Global.{Vec}
+use Rattle.tsp_rules.specs.Values.{Placed, Event, Turn}
+use Rattle.tsp_base.specs.Words.{HeaderValue, IsHeader, Step, Line, Turned, of, dids, up, tick_at}
+use Rattle.tsp_rules.specs.GateRows.{NodeTurn, answers_all}
 use Rattle.tsp_rules.specs.NodePerforms.{PerformsAll}
 use Rattle.tsp_rules.specs.NodeRows.{NodePast, NodeRow, in_node_step, spread}
 use Rattle.tsp_gateway.specs.declared.gateway.Gateway.{Gateway}
@@ -16,14 +18,15 @@ use Rattle.tsp_run.specs.Networks.{networks}
 use Rattle.tsp_run.specs.Ranges.{Accepted, IsInRange}
 use Rattle.tsp_run.specs.Refusals.{scene, refusal}
 use Rattle.tsp_run.specs.Run.{run, joins, happening, steps, step_tick, event_at}
-use Rattle.tsp_run.specs.Setup.{past_of, rests}
-use Rattle.tsp_networks.specs.Sheets.{acts_on}
-use Rattle.tsp_world.specs.WorldStands.{WorldStands, PlaceStands, UpBegun, UpStands, Notes, up_at, is_node, scene_of}
+use Rattle.tsp_run.specs.Setup.{node_line, past_of, rests}
+use Rattle.tsp_networks.specs.Posts.{PostsValue}
+use Rattle.tsp_world.specs.WorldStands.{WorldStands, PlaceStands, UpBegun, UpStands, Happens, Idles, Notes, Passes, up_at, is_node, scene_of}
+use Rattle.tsp_gateway.proofs.RestLemmas.{turn_rests}
 use Rattle.tsp_gateway.proofs.StepLemmas.{GatewayStands_step, GatewayBegun_in_step}
 use Rattle.tsp_run.proofs.NetworkLemmas.{some_same}
-use Rattle.tsp_run.proofs.RefusalLemmas.{Alike}
+use Rattle.tsp_run.proofs.RefusalLemmas.{Alike, refusal-none, up-down}
 use Rattle.tsp_run.proofs.RunLemmas.{stepped_own, stepped_other, posts_stepped, up_joined}
-use Rattle.tsp_gateway.proofs.LiftLemmas.{set_cases}
+use Rattle.tsp_gateway.proofs.LiftLemmas.{set_cases, set_same}
 
 -- what the place of a node stands for after a step by this row
 pub PlaceStands-acted : (header : HeaderValue) (history : List Line) (row : NodeRow) (step : Step) (node : Gateway) →
@@ -113,12 +116,12 @@ PlaceStands-ended header history row step None h u = absurd h
 PlaceStands-ended header history row step (Some node) h u = PlaceStands-acted header history row step node h u
 
 -- a world whose node, which is up, has acted by a row
-pub WorldStands-handed : (header : HeaderValue) (events : List Event) (e : Event) (row : NodeRow) (step : Step) (old new : World) (before after : Option Gateway) (acts : List Placed) →
+pub WorldStands-handed : (header : HeaderValue) (events : List Event) (e : Event) (row : NodeRow) (step : Step) (old new : World) (before after : Option Gateway) (put acts : List Placed) →
     WorldStands header events old → IsInRange e → refusal (scene header events) e ≡ None → happening header (run header events) e ≡ Some (steps header (run header events) row step) →
-    event_at e ≡ step.at → step.node < length header.nodes → acts_on old.desk ≡ [] → up_at old.nodes.items step.node ≡ true → slice_get old.nodes.items step.node ≡ Some before →
-    PerformsAll UpBegun UpStands row (step_tick header step) before after (acts_on old.desk) acts →
+    event_at e ≡ step.at → step.node < length header.nodes → put ≡ [] → up_at old.nodes.items step.node ≡ true → slice_get old.nodes.items step.node ≡ Some before →
+    PerformsAll UpBegun UpStands row (step_tick header step) before after put acts →
     Notes step.at step.node (step_tick header step) old.header (set old.nodes.items step.node after) old.events old.sent.items acts new → WorldStands header (e ∷ events) new
-WorldStands-handed header events e row step old new before after acts w range none happens at inside idle is_up there did noted =
+WorldStands-handed header events e row step old new before after put acts w range none happens at inside idle is_up there did noted =
     let x : ℕ = step_tick header step in
     let past : NodePast = in_node_step step x (past_of header step (run header events)) in
     let found = up_place old.nodes.items step.node (slice_get old.nodes.items step.node) refl is_up in
@@ -162,3 +165,23 @@ in_header header events world len w n inside = subst (λ k. n < k) (len ∙ w.pl
 -- a world has accepted its events
 pub accepted : (header : HeaderValue) (events : List Event) (world : World) → WorldStands header events world → Accepted header events
 accepted header events world w = record { header_is = subst (λ h. IsHeader h) w.header_is world.ready.header_is; ranges = w.ranges; valid = w.valid }
+
+-- a node whose deadline hasn't come has looked at its timers, and has done nothing
+pub WorldStands-rested : (at n : ℕ) (world new : World) → vec_len world.nodes ≡ length world.nodes.items → n < vec_len world.nodes → Idles at n world → Passes at world new → Happens (Turn at n) world new
+WorldStands-rested at n world new len inside idles passes header events w none =
+    let found = up_place world.nodes.items n (slice_get world.nodes.items n) refl ((Alike-stands header events world len w).up n ∙ up-down (scene header events) n (refusal-none (scene header events) (Turn at n) none).up) in
+    let node = found.0 in
+    let there : slice_get world.nodes.items n ≡ Some (Some node) = found.1 in
+    let step : Step = record { at = at; node = n; cause = Turned } in
+    let waits = turn_rests node idles.0 (step_tick header step) (idles.1 node there) (subst (λ (h : HeaderValue). tick_at (node_line h n).rate at < idles.0) w.header_is idles.2) in
+    WorldStands-handed header events (Turn at n) (answers_all NodeTurn) step world new (Some node) (Some node) [] []
+    w tt none refl refl (in_header header events world len w n inside) refl (ap is_node there) there
+    (record { acts = λ past begun. waits.acts past begun; stands = λ past begun. waits.stands past begun })
+    (record {
+      header_is = passes.header;
+      nodes_are = ap (λ (v : Vec (Option Gateway)). v.items) passes.nodes ∙ sym (set_same world.nodes.items n (Some node) there);
+      events_are = passes.events;
+      last_is = passes.last;
+      sent_is = ap (λ (p : PostsValue). p.items) passes.sent ∙ sym (append-nil world.sent.items);
+      lines_are = passes.lines;
+    })

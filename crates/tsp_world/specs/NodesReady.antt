@@ -3,6 +3,7 @@ use Rattle.std.specs.Prelude.{◌≡◌, ℕ, ◌≤◌, ◌<◌, true, List, []
 use Rattle.tsp_rules.specs.Values.{Port}
 use Rattle.tsp_base.specs.Words.{HeaderValue, IsHeader, is_whole, tick_at}
 use Rattle.tsp_gateway.specs.declared.gateway.Gateway.{Gateway}
+use Rattle.tsp_gateway.specs.Dues.{RestsUntil}
 use Rattle.tsp_gateway.specs.GateConfigs.{GateConfigValue, peers_of_ports}
 use Rattle.tsp_gateway.specs.GatewayStands.{clock_at}
 use Rattle.tsp_gateway.specs.Rooms.{ports_in, room_of_ports}
@@ -38,6 +39,10 @@ pub record NodesReady (header : HeaderValue) (one : List (List ℕ)) (nodes : Li
   pub one_is : one ≡ numbers_below (length header.nodes) ∷ []
   pub configs_are : configs ≡ configs_below header (length header.nodes)
   pub places : PlacesReady header nodes last
+
+-- where a tick is known before which nothing of a node is due, that is so of the node as it stands
+abbrev pub AreDues : List (Option ℕ) → List (Option Gateway) → Type 0
+AreDues dues nodes = (n due : ℕ) (node : Gateway) → slice_get dues n ≡ Some (Some due) → slice_get nodes n ≡ Some (Some node) → RestsUntil due node
 
 -- how many acts a step of this node may put; 0 where no node acts
 abbrev pub wanted : HeaderValue → Option ℕ → ℕ

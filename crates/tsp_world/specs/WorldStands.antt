@@ -1,9 +1,10 @@
 -- Which schedules a world stands for: its header, and the events that it accepted.
 use Rattle.std.specs.Prelude.{◌≡◌, ℕ, ◌+◌, ◌≤◌, Bool, true, false, List, [], ◌∷◌, ◌++◌, ◌<◌, length, Option, None, Some, is_some, slice_get, All, vec_len}
 use Rattle.tsp_rules.specs.Values.{Placed, Event}
-use Rattle.tsp_base.specs.Words.{HeaderValue, Cause, Line, of, dids, up}
+use Rattle.tsp_base.specs.Words.{HeaderValue, Cause, Line, of, dids, up, tick_at}
 use Rattle.tsp_base.specs.declared.event.EventFault.{EventFault}
 use Rattle.tsp_gateway.specs.declared.gateway.Gateway.{Gateway}
+use Rattle.tsp_gateway.specs.Dues.{RestsUntil}
 use Rattle.tsp_gateway.specs.GatewayStands.{GatewayBegun, GatewayStands}
 use Rattle.tsp_rules.specs.NodeRows.{NodePast, NodeRow}
 use Rattle.tsp_run.specs.declared.posted.Posted.{Posted}
@@ -12,7 +13,7 @@ use Rattle.tsp_run.specs.Networks.{networks, ports_on, room}
 use Rattle.tsp_run.specs.Ranges.{IsInRange}
 use Rattle.tsp_run.specs.Refusals.{Scene, Valid, scene, refusal, IsRefusal}
 use Rattle.tsp_run.specs.Run.{run, posts, last_at, gained, event_at, happening, steps, posts_from, told_from}
-use Rattle.tsp_run.specs.Setup.{past_of, rests}
+use Rattle.tsp_run.specs.Setup.{node_line, past_of, rests}
 use Rattle.tsp_networks.specs.Sheets.{acts_on}
 
 -- a place of the world's nodes has a node that is up and stands for its past, or one that hasn't booted
@@ -89,6 +90,14 @@ abbrev pub HappensBy : NodeRow → ℕ → ℕ → World → World → Type 0
 HappensBy row at node old new =
     (cause : Cause) (header : HeaderValue) (events : List Event) (e : Event) → WorldStands header events old → event_at e ≡ at → IsInRange e → refusal (scene header events) e ≡ None → up_at old.nodes.items node ≡ true →
     happening header (run header events) e ≡ Some (steps header (run header events) row (record { at = at; node = node; cause = cause })) → WorldStands header (e ∷ events) new
+
+-- nothing of a node is due before this tick, if the node is up
+abbrev pub RestsFor : ℕ → ℕ → World → Type 0
+RestsFor n due world = (node : Gateway) → slice_get world.nodes.items n ≡ Some (Some node) → RestsUntil due node
+
+-- and that tick is later than a true time
+abbrev pub Idles : ℕ → ℕ → World → Type 0
+Idles at n world = (due : ℕ) × RestsFor n due world × (tick_at (node_line world.header n).rate at < due)
 
 -- the acts on the desk can be noted: there is room, and no limit is met
 pub record CanNote (world : World) : Type 0 where

@@ -14,7 +14,7 @@ ghost use Rattle.tsp_run.specs.Run.{goes_to};
 ghost use Rattle.tsp_run.specs.Setup.{node_line};
 ghost use Rattle.tsp_networks.specs.Sheets.{acts_on};
 ghost use Rattle.tsp_world.specs.WorldStands.{scene_of, IsReady, CanStep, CanNote, Notes, Passes};
-ghost use Rattle.tsp_world.specs.WorldStands.{Happens, HappensBy, Stays};
+ghost use Rattle.tsp_world.specs.WorldStands.{Happens, HappensBy, Idles, RestsFor, Stays};
 
 use crate::step;
 use crate::world::World;
@@ -72,6 +72,7 @@ impl World {
         match Gateway::boot(self.alloc, config, tick, wall, word, &mut self.desk) {
             Ok(booted) => {
                 self.last = at;
+                self.dues[node as usize] = None;
                 self.nodes[node as usize] = Some(booted);
                 self.note(node, tick);
                 Ok(())
@@ -80,6 +81,41 @@ impl World {
             Err(BootFault::Peers) => unreachable!(),
             Err(BootFault::Range) => unreachable!(),
         }
+    }
+
+    /// Whether a turn of a node that is up does nothing now, since nothing is due. When something is due is looked
+    /// up only where it isn't known since the node's last step.
+    #[inline(always)]
+    pub(crate) fn idles(&mut self, at: u64, node: u32) -> bool
+        requires node { node < vec_len self.old.nodes }
+        requires time { at ≤ 1000000000000000 }
+        ensures stands { Stays self.old self.new }
+        ensures same { scene_of self.new ≡ scene_of self.old }
+        ensures header { self.new.header ≡ self.old.header }
+        ensures idles { result ≡ true → Idles at node self.new }
+    {
+        let tick = self.tick(node, at);
+        match self.dues[node as usize] {
+            Some(due) => tick < due,
+            None => tick < self.due(node),
+        }
+    }
+
+    /// The tick before which a turn of a node does nothing, which is kept from now on; 0 where the node isn't up.
+    #[inline(never)]
+    fn due(&mut self, node: u32) -> u64
+        requires node { node < vec_len self.old.nodes }
+        ensures stands { Stays self.old self.new }
+        ensures same { scene_of self.new ≡ scene_of self.old }
+        ensures header { self.new.header ≡ self.old.header }
+        ensures due { RestsFor node result self.new }
+    {
+        let due = match &self.nodes[node as usize] {
+            Some(gateway) => gateway.deadline(),
+            None => 0,
+        };
+        self.dues[node as usize] = Some(due);
+        due
     }
 
     /// A node looks at its timers.
@@ -92,6 +128,7 @@ impl World {
     {
         let tick = self.tick(node, at);
         self.last = at;
+        self.dues[node as usize] = None;
         let place = &mut self.nodes[node as usize];
         step::turn(place, tick, &mut self.desk);
         self.note(node, tick);
@@ -127,6 +164,7 @@ impl World {
     {
         let tick = self.tick(node, at);
         self.last = at;
+        self.dues[node as usize] = None;
         let place = &mut self.nodes[node as usize];
         step::take(place, tick, port, from, taken, &mut self.desk);
         self.note(node, tick);

@@ -46,6 +46,10 @@ impl World {
         if let Some(fault) = self.bars_turn(at, node, wanted) {
             return Err(fault);
         }
+        if self.idles(at, node) {
+            self.pass(at);
+            return Ok(());
+        }
         if self.make_room(wanted).is_err() {
             return Err(EventFault::OutOfMemory);
         }

@@ -7,7 +7,7 @@ use std::alloc::{AllocError, Global};
 use tsp_base::header::{Header, NodeLine};
 use tsp_base::members::Members;
 use tsp_base::place::PeerId;
-use tsp_gateway::{GateConfig, Gateway};
+use tsp_gateway::GateConfig;
 use tsp_networks::peers_of;
 
 /// The configuration of each node of a header, in order, on these networks. Fails only if out of memory.
@@ -72,8 +72,8 @@ fn join(
     }
 }
 
-/// So many places, in none of which a node is up. Fails only if out of memory.
-pub(crate) fn places_of(alloc: Global, count: usize) -> Result<Vec<Option<Gateway>>, AllocError>
+/// So many places, in none of which anything stands. Fails only if out of memory.
+pub(crate) fn places_of<T: Drop>(alloc: Global, count: usize) -> Result<Vec<Option<T>>, AllocError>
     ensures places { IfOk result (λ v. v.items ≡ replicate count None) }
     ensures len { IfOk result (λ v. vec_len v ≡ count) }
 {

@@ -4,7 +4,7 @@ ghost use Rattle.std.specs.Prelude.{OnErr, MatchResult, slice_get, None};
 ghost use Rattle.tsp_base.specs.Headers.{is_whole};
 ghost use Rattle.tsp_run.specs.Networks.{networks};
 ghost use Rattle.tsp_networks.specs.Rooms.{AreRooms};
-ghost use Rattle.tsp_world.specs.NodesReady.{NodesReady};
+ghost use Rattle.tsp_world.specs.NodesReady.{AreDues, NodesReady};
 
 use crate::setup::{configs_of, places_of};
 use std::alloc::{AllocError, Global};
@@ -32,6 +32,8 @@ pub struct World {
     pub(crate) rooms: Vec<u64>,
     /// The nodes that are up, each in its place.
     pub(crate) nodes: Vec<Option<Gateway>>,
+    /// For each node the tick before which a turn of it does nothing, where that is known.
+    pub(crate) dues: Vec<Option<u64>>,
     /// The datagrams that were posted, each under its number.
     pub(crate) sent: Posts,
     /// The lines of the last event.
@@ -44,6 +46,8 @@ pub struct World {
     pub(crate) last: u64,
     ghost places: { vec_len nodes ≡ length header.nodes },
     ghost rooms_are: { AreRooms (networks header) rooms.items },
+    ghost due_places: { vec_len dues ≡ vec_len nodes },
+    ghost dues_are: { AreDues dues.items nodes.items },
     ghost few_events: { events ≤ 200000 },
     ghost few_posts: { length sent.items ≤ 1000000 },
     ghost ready: { NodesReady header one.items nodes.items configs.items last },
@@ -59,6 +63,7 @@ impl Drop for World {
             configs: _,
             rooms: _,
             nodes: _,
+            dues: _,
             sent: _,
             lines: _,
             desk: _,
@@ -91,6 +96,7 @@ impl World {
         let nets = networks_of(&header, one.as_slice());
         let rooms = rooms_of(alloc, header.nodes().len() as u32, nets)?;
         let nodes = places_of(alloc, header.nodes().len())?;
+        let dues = places_of(alloc, header.nodes().len())?;
         Ok(World {
             alloc,
             header,
@@ -98,6 +104,7 @@ impl World {
             configs,
             rooms,
             nodes,
+            dues,
             sent: Posts::new(alloc),
             lines: Vec::new(alloc),
             desk: Sheet::new(alloc),

@@ -1,8 +1,6 @@
--- A binary search by the peers' numbers.
-use Rattle.std.proofs.Common.{◌≡◌, sym, ap, ◌∙◌, rules}
-use Rattle.std.proofs.lemmas.List.Sorted.{answers_always}
+-- A search by the peers' numbers.
+use Rattle.std.proofs.Common.{◌≡◌, sym, ap, ◌∙◌}
 use Rattle.std.specs.Box.{boxed_slice_items}
-use Rattle.tsp_base.specs.declared.place.PeerId.{PeerId}
 use Rattle.tsp_sends.specs.Slots.{peers_of}
 use Rattle.tsp_sends.proofs.HeldLemmas.{peers_of-slots_of}
 use Rattle.tsp_sends.proofs.SearchLemmas.{IsPlaceOf-searched}
@@ -11,6 +9,6 @@ use Rattle.tsp_sends.proofs.slots.Slots.place_of.Goals as goal
 pub returns : goal.returns
 returns c =
     let peers : boxed_slice_items c.self.inside.peers ≡ peers_of c.args.self.now = sym (peers_of-slots_of (boxed_slice_items c.self.inside.peers) c.self.inside.held.items _ c.self.invariant) ∙ ap peers_of c.self.view_is in
-    let bound = rw (c.as_slice.ensures.value, peers) at c.binary_search_by_key.ensures.bound in
-    let position = rw (c.as_slice.ensures.value, peers) at (c.binary_search_by_key.ensures.position (λ (p : PeerId). p.0) (answers_always _ _ _ (λ f a r g h. search rules))) in
-    IsPlaceOf-searched c.args.self.now c.args.peer c.binary_search_by_key.result c.requires bound position
+    let bound = rw (c.as_slice.ensures.value, peers) at c.place_of.ensures.bound in
+    let position = rw (c.as_slice.ensures.value, peers) at c.place_of.ensures.position in
+    IsPlaceOf-searched c.args.self.now c.args.peer c.place_of.result c.requires bound position

@@ -12,7 +12,7 @@ use Rattle.tsp_run.proofs.RefusalLemmas.{refusal-none, up-down}
 use Rattle.tsp_world.specs.NodesReady.{PlaceReady}
 use Rattle.tsp_networks.specs.Sheets.{acts_on}
 use Rattle.tsp_world.specs.WorldStands.{Notes, UpBegun, UpStands}
-use Rattle.tsp_world.proofs.ReadyLemmas.{NodesReady-later, NodesReady-set, CanAct-ready, PlaceReady-acts, place_there}
+use Rattle.tsp_world.proofs.ReadyLemmas.{AreDues-acted, NodesReady-later, NodesReady-set, CanAct-ready, PlaceReady-acts, place_there}
 use Rattle.tsp_world.proofs.WorldLemmas.{WorldStands-handed, Alike-stands, in_header}
 use Rattle.tsp_world.proofs.world.World.look.Goals as goal
 use Rattle.tsp_world.proofs.world.World.look.Goals.{After-index_mut-place}
@@ -31,6 +31,9 @@ pub invariant_of-self-clause-ready : goal.invariant_of-self-clause-ready
 invariant_of-self-clause-ready c = NodesReady-set c.args.node c.turn.new.place (NodesReady-later c.requires.able.order c.args.self.now.ready)
     (subst (λ t. PlaceReady (ports_on c.args.node (networks c.args.self.now.header)) t c.turn.new.place) c.tick-tick.ensures.tick
     (c.turn.ensures.ready (ports_on c.args.node (networks c.args.self.now.header)) (ready (goal.at.invariant_of-self-clause-ready c).After-index_mut-place)))
+
+pub invariant_of-self-clause-dues_are : goal.invariant_of-self-clause-dues_are
+invariant_of-self-clause-dues_are c = AreDues-acted c.args.self.now.dues.items c.args.self.now.nodes.items c.args.node c.turn.new.place c.args.self.now.dues_are
 
 pub note-requires : goal.note-requires
 note-requires c =
@@ -52,7 +55,7 @@ returns c header events w none =
     let tick_is = c.tick-tick.ensures.tick ∙ ap (λ h. tick_at (node_line h c.args.node).rate c.args.at) w.header_is in
     let up = (Alike-stands header events world len w).up c.args.node ∙ up-down (scene header events) c.args.node (refusal-none (scene header events) (Turn c.args.at c.args.node) none).up in
     let acts = acts_on c.turn.new.desk in
-    WorldStands-handed header events (Turn c.args.at c.args.node) (answers_all NodeTurn) (record { at = c.args.at; node = c.args.node; cause = Turned }) world c.note.new.self c.index_mut-place.result.now c.turn.new.place acts
+    WorldStands-handed header events (Turn c.args.at c.args.node) (answers_all NodeTurn) (record { at = c.args.at; node = c.args.node; cause = Turned }) world c.note.new.self c.index_mut-place.result.now c.turn.new.place (acts_on world.desk) acts
     w tt none refl refl (in_header header events world len w c.args.node c.requires.node) c.requires.ready.idle up (there (goal.at.returns c).After-index_mut-place)
     (subst (λ t. PerformsAll UpBegun UpStands (answers_all NodeTurn) t c.index_mut-place.result.now c.turn.new.place (acts_on world.desk) acts) tick_is c.turn.ensures.row)
     (subst (λ t. Notes c.args.at c.args.node t world.header (set world.nodes.items c.args.node c.turn.new.place) world.events world.sent.items acts c.note.new.self) tick_is c.note.ensures)

@@ -22,6 +22,11 @@ invariant_of-result-clause-ready c = record {
 pub invariant_of-result-clause-rooms_are : goal.invariant_of-result-clause-rooms_are
 invariant_of-result-clause-rooms_are c = subst (λ nets. AreRooms nets c.in_ok-rooms.rooms.items) c.networks_of-nets.ensures.networks c.in_ok-rooms.ensures
 
+pub invariant_of-result-clause-dues_are : goal.invariant_of-result-clause-dues_are
+invariant_of-result-clause-dues_are c n due node is there =
+    let none = slice_get-replicate _ n None (Some due) (subst (λ ds. slice_get ds n ≡ Some (Some due)) c.in_ok-dues.ensures.places is) in
+    let bad : ⊥ = cc in absurd bad
+
 pub returns : goal.returns
 returns c = record {
   header_is = refl;

@@ -9,7 +9,7 @@ use Rattle.tsp_run.specs.Setup.{node_line}
 use Rattle.tsp_world.specs.NodesReady.{PlaceReady}
 use Rattle.tsp_networks.specs.Sheets.{acts_on}
 use Rattle.tsp_world.specs.WorldStands.{Notes, UpBegun, UpStands}
-use Rattle.tsp_world.proofs.ReadyLemmas.{NodesReady-later, NodesReady-set, CanTake-ready, PlaceReady-acts, place_there}
+use Rattle.tsp_world.proofs.ReadyLemmas.{AreDues-acted, NodesReady-later, NodesReady-set, CanTake-ready, PlaceReady-acts, place_there}
 use Rattle.tsp_world.proofs.WorldLemmas.{WorldStands-handed, in_header}
 use Rattle.tsp_world.proofs.world.World.receive.Goals as goal
 use Rattle.tsp_world.proofs.world.World.receive.Goals.{After-index_mut-place}
@@ -28,6 +28,9 @@ pub invariant_of-self-clause-ready : goal.invariant_of-self-clause-ready
 invariant_of-self-clause-ready c = NodesReady-set c.args.node c.take.new.place (NodesReady-later c.requires.able.order c.args.self.now.ready)
     (subst (λ t. PlaceReady (ports_on c.args.node (networks c.args.self.now.header)) t c.take.new.place) c.tick-tick.ensures.tick
     (c.take.ensures.ready (ports_on c.args.node (networks c.args.self.now.header)) (ready (goal.at.invariant_of-self-clause-ready c).After-index_mut-place)))
+
+pub invariant_of-self-clause-dues_are : goal.invariant_of-self-clause-dues_are
+invariant_of-self-clause-dues_are c = AreDues-acted c.args.self.now.dues.items c.args.self.now.nodes.items c.args.node c.take.new.place c.args.self.now.dues_are
 
 pub note-requires : goal.note-requires
 note-requires c =
@@ -49,7 +52,7 @@ returns c cause header events e w at range none up happens =
     let tick_is = c.tick-tick.ensures.tick ∙ ap (λ h. tick_at (node_line h c.args.node).rate c.args.at) w.header_is in
     let row = answers_all (GotOn c.args.port c.args.from c.args.taken.now) in
     let acts = acts_on c.take.new.desk in
-    WorldStands-handed header events e row (record { at = c.args.at; node = c.args.node; cause = cause }) world c.note.new.self c.index_mut-place.result.now c.take.new.place acts
+    WorldStands-handed header events e row (record { at = c.args.at; node = c.args.node; cause = cause }) world c.note.new.self c.index_mut-place.result.now c.take.new.place (acts_on world.desk) acts
     w range none happens at (in_header header events world len w c.args.node c.requires.node) c.requires.ready.idle up (there (goal.at.returns c).After-index_mut-place)
     (subst (λ t. PerformsAll UpBegun UpStands row t c.index_mut-place.result.now c.take.new.place (acts_on world.desk) acts) tick_is c.take.ensures.row)
     (subst (λ t. Notes c.args.at c.args.node t world.header (set world.nodes.items c.args.node c.take.new.place) world.events world.sent.items acts c.note.new.self) tick_is c.note.ensures)

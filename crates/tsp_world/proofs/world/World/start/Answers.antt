@@ -17,7 +17,7 @@ use Rattle.tsp_world.specs.NodesReady.{NodeReady}
 use Rattle.tsp_networks.specs.Sheets.{acts_on}
 use Rattle.tsp_world.specs.WorldStands.{Notes, PlaceStands}
 use Rattle.tsp_run.proofs.BootLemmas.{boots-up}
-use Rattle.tsp_world.proofs.ReadyLemmas.{NodesReady-later, NodesReady-set}
+use Rattle.tsp_world.proofs.ReadyLemmas.{AreDues-acted, NodesReady-later, NodesReady-set}
 use Rattle.tsp_gateway.proofs.LiftLemmas.{set_cases}
 use Rattle.tsp_networks.proofs.MemberLemmas.{room-many, some_port}
 use Rattle.tsp_world.proofs.SetupLemmas.{can_boot, get_or-configs_below, length-configs_below}
@@ -78,6 +78,9 @@ invariant_of-self-clause-ready c =
     let clock = ok.3 ∙ c.tick-tick.ensures.tick in
     let booted : NodeReady ports x c.in-Ok.booted = (ok.2 ∙ ap peers_of_ports (ports_are (goal.at.invariant_of-self-clause-ready c).After-index-config), omega (arith, clock)) in
     NodesReady-set c.args.node (Some c.in-Ok.booted) (NodesReady-later c.requires.able.order world.ready) (λ node is. subst (λ n. NodeReady ports x n) (some_same is) booted)
+
+pub invariant_of-self-clause-dues_are : goal.invariant_of-self-clause-dues_are
+invariant_of-self-clause-dues_are c = AreDues-acted c.args.self.now.dues.items c.args.self.now.nodes.items c.args.node (Some c.in-Ok.booted) c.args.self.now.dues_are
 
 pub note-requires : goal.note-requires
 note-requires c =

@@ -3,7 +3,7 @@ use Rattle.std.proofs.Common.{◌≡◌, ℕ, length, List, Option, Some, slice_
 use Rattle.tsp_node.specs.declared.part.Part.{Part}
 use Rattle.tsp_node.specs.Dues.{IsPartDue}
 use Rattle.tsp_gateway.specs.Dues.{least_of}
-use Rattle.tsp_gateway.proofs.gateway.Gateway.due.Given as goal
+use Rattle.tsp_gateway.proofs.gateway.Gateway.deadline.Given as goal
 
 abbrev pub invariant-loop-part : goal.invariant-loop-part
 invariant-loop-part l =
