@@ -127,6 +127,7 @@ pub mod SourceProof
 pub mod SpacedProof
 pub mod SteadyLemmas
 pub mod SteadyProof
+pub mod Stages
 pub mod StepChecks
 pub mod StepProof
 pub mod Stirring
