@@ -37,6 +37,7 @@ pub mod Correcting
 pub mod CorrectionLeads
 pub mod DateAt
 pub mod DateLeads
+pub mod Debts
 pub mod ElectionFacts
 mod Elections
 pub mod Elsewheres
@@ -149,7 +150,6 @@ pub mod WitnessFromRounds
 pub mod WitnessChain
 pub mod WitnessDated
 pub mod WitnessDates
-pub mod WitnessDebts
 pub mod WitnessEstimates
 pub mod WitnessLead
 pub mod WitnessLife

@@ -1,14 +1,14 @@
 -- Rivals meet, and then a stranger asks the one that leads for an election.
 use Rattle.std.specs.Prelude.{ℕ, ◌-◌, false, List, [], ◌∷◌, refl}
-use Rattle.std.proofs.Common.{arith, inl}
+use Rattle.std.proofs.Common.{inl}
 use Rattle.tsp_rules.specs.Values.{Post, Quit, Message, Ack, Test, Nothing, Peer, Stranger}
 use Rattle.tsp_base.specs.Words.{Came, Handed, Line, peer_of}
 use Rattle.tsp_promises.specs.AnsweredUse.{AnsweredUse}
 use Rattle.tsp_promises.specs.Fits.{Fits}
+use Rattle.tsp_promises.proofs.Debts.{debts}
 use Rattle.tsp_promises.proofs.Histories.{does, msg, named_msg, skip, skipped, still}
 use Rattle.tsp_promises.proofs.HistoriesFit.{all-finished}
 use Rattle.tsp_promises.proofs.Stages.{Stage, after, at, stages-fit, hands}
-use Rattle.tsp_promises.proofs.WitnessDebts.{asks-same}
 use Rattle.tsp_promises.proofs.WitnessRivals.{met, rivals}
 
 abbrev tested_steps : List Stage
@@ -21,8 +21,7 @@ abbrev pub tested : ℕ → List Line
 tested k = after (k - 12) tested_steps (rivals 12)
 
 pub tested-fits : Fits (still false) (tested 13)
-tested-fits = stages-fit false 1 tested_steps (rivals 12) met refl
-    (((refl, (refl, tt)), ((refl, record { rested = inl (omega arith); fits = (record { message = msg Test 5 Nothing; took = refl; number_is = refl; answers = tt }, (refl, λ asked took. rw (asks-same (msg Test 5 Nothing) asked _ refl took) refl)) }), tt)), tt)
+tested-fits = stages-fit false 1 tested_steps (rivals 12) met refl (search debts)
 
 pub answered_use : AnsweredUse
 answered_use = record {

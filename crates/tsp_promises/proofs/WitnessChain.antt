@@ -11,9 +11,9 @@ use Rattle.tsp_promises.proofs.Histories.{line, msg, skip, skipped, step_at, sti
 use Rattle.tsp_promises.proofs.PremiseChecks.{kept-by}
 use Rattle.tsp_promises.proofs.StepChecks.{port0, port1}
 use Rattle.tsp_promises.proofs.WitnessFromRounds.{far-from_round, far-close, far-correct, far-reading, near-from_round, near-close, near-correct, near-reading}
-use Rattle.tsp_promises.proofs.WitnessDebts.{not-same}
 use Rattle.tsp_promises.proofs.WitnessRelay.{relay}
 use Rattle.tsp_promises.proofs.WitnessRow.{last, fits, row}
+use Rattle.tsp_promises.proofs.Debts.{not-same}
 
 abbrev last-close : Line
 last-close = line (step_at 1008000000 3 Turned) port1 (Close 2 (negsuc 100) (pos 101) (pos 0))

@@ -1,19 +1,27 @@
 -- A date that is passed on: a client's, which a follower passes to its master; then a second one in the master's next life, or one with forged octets, after which the first is set again.
-use Rattle.std.specs.Prelude.{ℕ, ◌-◌, true, false, pos, negsuc, List, [], ◌∷◌, refl}
-use Rattle.std.proofs.Common.{sym, arith, inl, inr, true≢false}
-use Rattle.tsp_rules.specs.Values.{Took, Post, Become, Correct, Acked, Message, Good, Ack, Date, DateAck, SetDateReq, Nothing, TimeBody, Peer, Stranger, Follow, REUSE}
-use Rattle.tsp_base.specs.Words.{Came, Handed, Line, of, view, peer_of}
+use Rattle.std.specs.Prelude.{◌≡◌, ◌≢◌, ℕ, ◌-◌, Some, true, false, pos, negsuc, List, [], ◌∷◌, refl}
+use Rattle.std.proofs.Common.{sym, ap, arith, inl, inr, ◌∙◌}
+use Rattle.tsp_rules.specs.Values.{Took, Post, Become, Correct, Acked, Message, Good, Ack, Date, DateAck, SetDateReq, Nothing, TimeBody, PeerId, Peer, Stranger, Follow}
+use Rattle.tsp_base.specs.Words.{Came, Handed, Line, Seen, Dating, last_date, of, view, peer_of}
 use Rattle.tsp_promises.specs.CorrectFits.{ByDate}
 use Rattle.tsp_promises.specs.Fits.{Fits}
 use Rattle.tsp_promises.specs.Once.{ActsOn, OfSend}
+use Rattle.tsp_promises.specs.DateUse.{DateUse, ForgedDate}
+use Rattle.tsp_promises.proofs.Debts.{debts, none-some, not-same}
 use Rattle.tsp_promises.proofs.Histories.{begins, does, msg, named_msg, skip, skipped, still}
 use Rattle.tsp_promises.proofs.HistoriesFit.{all-finished, came}
 use Rattle.tsp_promises.proofs.PremiseChecks.{kept-by, life-by, words-by}
 use Rattle.tsp_promises.proofs.Stages.{Stage, after, at, stages-fit, skip-fits, boots, turns, takes, hands, stands, wins}
 use Rattle.tsp_promises.proofs.StepChecks.{port0}
-use Rattle.tsp_promises.proofs.WitnessDebts.{acked-date, asks-same, long-ago, none-some, not-same, other-date}
 use Rattle.tsp_promises.proofs.WitnessLead.{led, lead}
-use Rattle.tsp_promises.specs.DateUse.{DateUse, ForgedDate}
+
+-- a date of another number was set last
+other-date : {B : Type 0} (seen : List Seen) (q p : PeerId) (d last : Dating) (number : ℕ) → Peer q ≡ Peer p → last_date q seen ≡ Some last → last_date p seen ≡ Some d → d.number ≡ number → last.number ≢ number → B
+other-date seen q p d last number from is e same other =
+    let peer : q ≡ p = cc in
+    let both : Some last ≡ Some d = sym is ∙ (ap (λ z. last_date z seen) peer ∙ e) in
+    let one : last ≡ d = cc in
+    absurd (other (ap (λ (z : Dating). z.number) one ∙ same))
 
 abbrev passing_steps : List Stage
 passing_steps =
@@ -31,12 +39,12 @@ passing k = after (k - 5) passing_steps (lead 5)
 
 pub passing-fits : Fits (still false) (passing 11)
 passing-fits = stages-fit false 6 passing_steps (lead 5) led refl
-    (((refl, tt), tt),
-    (((refl, (refl, tt)), ((refl, record { rested = inl (omega arith); fits = (record { message = (msg Date 5 (TimeBody (pos 600000000))); took = refl; number_is = refl; answers = tt }, (refl, λ asked took. rw (asks-same (msg Date 5 (TimeBody (pos 600000000))) asked _ refl took) refl)) }), ((refl, record { rested = inl (omega arith); fits = record { numbered = record { number = omega arith; next = λ e. refl; repeats = λ e. absurd (true≢false e) }; begins = λ e. record { rested = omega arith; seldom = λ x e. none-some x e } } }), tt))),
+    (search debts, (search debts,
     (((refl, (refl, came refl refl refl refl refl)), ((refl, record { gap = omega arith; rested = omega arith; why = ByDate (record { from = Peer (peer_of 1); message = (msg SetDateReq 32777 (TimeBody (pos 600000000))); took = _; past = _; is = refl; deed = refl; kind = refl; leads = refl; amount_is = refl; again = λ p d f r l n. none-some d l }); flag = refl; prints = refl }), ((refl, record { rested = inl (omega arith); fits = inr (record { message = (msg SetDateReq 32777 (TimeBody (pos 600000000))); took = refl; kind = refl; number_is = refl; last = _; last_is = refl; same = refl; fresh = omega arith }) }), tt))),
-    (((refl, (refl, came refl refl refl refl refl)), ((refl, acked-date _ (msg SetDateReq 32777 (TimeBody (pos 600000000))) (msg DateAck 32777 Nothing) (peer_of 0) _ _ refl refl refl refl refl refl), tt)),
+    (search debts,
     (((refl, (refl, tt)), ((refl, record { gap = omega arith; rested = omega arith; why = ByDate (record { from = Peer (peer_of 1); message = (msg SetDateReq 100 (TimeBody (pos 500000000))); took = _; past = _; is = refl; deed = refl; kind = refl; leads = refl; amount_is = refl; again = λ p d f r l n. other-date (view port0 (of 0 (does 312000000 0 Handed (Took (Peer (peer_of 1)) (Good (Message (msg SetDateReq 100 (TimeBody (pos 500000000)))))) ∷ (begins 312000000 0 Handed ∷ (passing 9))))) (peer_of 1) p d (record { at = 310000001; number = 32777 }) 100 f refl l n (λ e. not-same 100 32777 (omega arith) (sym e)) }); flag = refl; prints = refl }), ((refl, record { rested = inl (omega arith); fits = inr (record { message = (msg SetDateReq 100 (TimeBody (pos 500000000))); took = refl; kind = refl; number_is = refl; last = _; last_is = refl; same = refl; fresh = omega arith }) }), tt))),
-    (((refl, (refl, came refl refl refl refl refl)), ((refl, record { gap = omega arith; rested = omega arith; why = ByDate (record { from = Peer (peer_of 1); message = (msg SetDateReq 32777 (TimeBody (pos 600000000))); took = _; past = _; is = refl; deed = refl; kind = refl; leads = refl; amount_is = refl; again = λ p d f r l n. other-date (view port0 (of 0 (does 314000000 0 (Came 1) (Took (Peer (peer_of 1)) (Good (Message (msg SetDateReq 32777 (TimeBody (pos 600000000)))))) ∷ (begins 314000000 0 (Came 1) ∷ (passing 10))))) (peer_of 1) p d (record { at = 312000000; number = 100 }) 32777 f refl l n (not-same 100 32777 (omega arith)) }); flag = refl; prints = refl }), ((refl, record { rested = inl (omega arith); fits = inr (record { message = (msg SetDateReq 32777 (TimeBody (pos 600000000))); took = refl; kind = refl; number_is = refl; last = _; last_is = refl; same = refl; fresh = omega arith }) }), tt))), tt))))))
+    (((refl, (refl, came refl refl refl refl refl)), ((refl, record { gap = omega arith; rested = omega arith; why = ByDate (record { from = Peer (peer_of 1); message = (msg SetDateReq 32777 (TimeBody (pos 600000000))); took = _; past = _; is = refl; deed = refl; kind = refl; leads = refl; amount_is = refl; again = λ p d f r l n. other-date (view port0 (of 0 (does 314000000 0 (Came 1) (Took (Peer (peer_of 1)) (Good (Message (msg SetDateReq 32777 (TimeBody (pos 600000000)))))) ∷ (begins 314000000 0 (Came 1) ∷ (passing 10))))) (peer_of 1) p d (record { at = 312000000; number = 100 }) 32777 f refl l n (not-same 100 32777 (omega arith)) }); flag = refl; prints = refl }), ((refl, record { rested = inl (omega arith); fits = inr (record { message = (msg SetDateReq 32777 (TimeBody (pos 600000000))); took = refl; kind = refl; number_is = refl; last = _; last_is = refl; same = refl; fresh = omega arith }) }), tt))),
+    tt))))))
 
 pub dates : Fits (still false) (passing 9)
 dates = skip-fits false 8 (passing 11) passing-fits
@@ -57,12 +65,9 @@ renewed k = after (k - 9) renewed_steps (passing 9)
 
 pub renewed-fits : Fits (still false) (renewed 15)
 renewed-fits = stages-fit false 6 renewed_steps (passing 9) dates refl
-    (((8, refl), tt),
-    (((refl, tt), ((refl, tt), ((refl, record { rested = omega arith; holds = λ x q e. none-some (x, q) e }), tt))),
-    (((refl, tt), ((refl, record { rested = omega arith; quiet = λ x e. none-some x e; stands = refl; start = _; idle = _; start_is = refl; soon = omega arith; backs = refl; wins = λ e. absurd (true≢false (sym e)) }), tt)),
-    (((refl, (refl, tt)), ((refl, record { rested = inl (omega arith); fits = (record { message = (msg Date 6 (TimeBody (pos 900000000))); took = refl; number_is = refl; answers = tt }, (refl, λ asked took. rw (asks-same (msg Date 6 (TimeBody (pos 900000000))) asked _ refl took) refl)) }), ((refl, record { rested = inl (omega arith); fits = record { numbered = record { number = omega arith; next = λ e. refl; repeats = λ e. absurd (true≢false e) }; begins = λ e. record { rested = omega arith; seldom = λ x e. long-ago 310000000 x REUSE 710000000 e (omega arith) } } }), tt))),
+    (search debts, (search debts, (search debts, (search debts,
     (((refl, (refl, came refl refl refl refl refl)), ((refl, record { gap = omega arith; rested = omega arith; why = ByDate (record { from = Peer (peer_of 1); message = (msg SetDateReq 32778 (TimeBody (pos 900000000))); took = _; past = _; is = refl; deed = refl; kind = refl; leads = refl; amount_is = refl; again = λ p d f r l n. none-some d l }); flag = refl; prints = refl }), ((refl, record { rested = inl (omega arith); fits = inr (record { message = (msg SetDateReq 32778 (TimeBody (pos 900000000))); took = refl; kind = refl; number_is = refl; last = _; last_is = refl; same = refl; fresh = omega arith }) }), tt))),
-    (((refl, (refl, came refl refl refl refl refl)), ((refl, acked-date _ (msg SetDateReq 32778 (TimeBody (pos 900000000))) (msg DateAck 32778 Nothing) (peer_of 0) _ _ refl refl refl refl refl refl), tt)), tt))))))
+    search debts)))))
 
 abbrev passes : Line
 passes = does 310000000 1 Handed (Post (Peer (peer_of 0)) (Message (msg SetDateReq 32777 (TimeBody (pos 600000000)))))

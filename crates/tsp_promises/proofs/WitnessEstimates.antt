@@ -10,8 +10,8 @@ use Rattle.tsp_promises.proofs.Histories.{does, msg, skip, skipped, still}
 use Rattle.tsp_promises.proofs.PremiseChecks.{kept-by}
 use Rattle.tsp_promises.proofs.StepChecks.{port0}
 use Rattle.tsp_promises.proofs.WitnessFromRounds.{answers, closing, sounds}
-use Rattle.tsp_promises.proofs.WitnessDebts.{not-same}
 use Rattle.tsp_promises.proofs.WitnessUse.{reply1, reply2, fits, usual}
+use Rattle.tsp_promises.proofs.Debts.{not-same}
 
 -- the round's first ADJTIME
 abbrev pub adjusts : Line

@@ -10,9 +10,9 @@ use Rattle.tsp_promises.proofs.FromRoundBy.{from_round-by}
 use Rattle.tsp_promises.proofs.Histories.{line, msg, skip, skipped, step_at, still}
 use Rattle.tsp_promises.proofs.PremiseChecks.{kept-by}
 use Rattle.tsp_promises.proofs.StepChecks.{port0, port1}
-use Rattle.tsp_promises.proofs.WitnessDebts.{not-same}
 use Rattle.tsp_promises.proofs.WitnessRelay.{near, distant, fits as relay-fits, relay}
 use Rattle.tsp_promises.proofs.WitnessUse.{reply1, reply2, fits, usual}
+use Rattle.tsp_promises.proofs.Debts.{not-same}
 
 abbrev pub closing : Line
 closing = line (step_at 408000000 0 Turned) port0 (Close 3 (negsuc 150) (pos 151) (negsuc 83))

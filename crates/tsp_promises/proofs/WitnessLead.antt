@@ -1,11 +1,10 @@
 -- How small histories begin: three nodes boot, and one of them is elected.
 use Rattle.std.specs.Prelude.{ℕ, false, List, [], ◌∷◌, refl}
-use Rattle.std.proofs.Common.{sym, arith, true≢false}
 use Rattle.tsp_base.specs.Words.{Line}
 use Rattle.tsp_promises.specs.Fits.{Fits}
+use Rattle.tsp_promises.proofs.Debts.{debts}
 use Rattle.tsp_promises.proofs.Histories.{still}
 use Rattle.tsp_promises.proofs.Stages.{Stage, after, at, stages-fit, skip-fits, boots, stands, wins}
-use Rattle.tsp_promises.proofs.WitnessDebts.{none-some}
 
 abbrev lead_steps : List Stage
 lead_steps =
@@ -21,12 +20,7 @@ abbrev pub lead : ℕ → List Line
 lead k = after k lead_steps []
 
 pub led : Fits (still false) (lead 5)
-led = stages-fit false 5 lead_steps [] tt refl
-    (((7, refl), tt),
-    (((9, refl), tt),
-    (((11, refl), tt),
-    (((refl, tt), ((refl, tt), ((refl, record { rested = omega arith; holds = λ x q e. none-some (x, q) e }), tt))),
-    (((refl, tt), ((refl, record { rested = omega arith; quiet = λ x e. none-some x e; stands = refl; start = _; idle = _; start_is = refl; soon = omega arith; backs = refl; wins = λ e. absurd (true≢false (sym e)) }), tt)), tt)))))
+led = stages-fit false 5 lead_steps [] tt refl (search debts)
 
 pub booted : Fits (still false) (lead 3)
 booted = skip-fits false 7 (lead 5) led

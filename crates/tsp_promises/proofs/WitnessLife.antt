@@ -4,12 +4,11 @@ use Rattle.std.proofs.Common.{arith, inl}
 use Rattle.tsp_rules.specs.Values.{Took, Post, Arm, Ring, Round, CloseAlarm, Stamp, Good, Peer, Request, Reply}
 use Rattle.tsp_base.specs.Words.{Came, Turned, Did, Line, Seen, Here, ReplyValue, peer_of}
 use Rattle.tsp_promises.specs.Fits.{Fits}
+use Rattle.tsp_promises.proofs.Debts.{debts}
 use Rattle.tsp_promises.proofs.Histories.{line, skip, skipped, step_at, still}
-use Rattle.tsp_promises.proofs.HistoriesFit.{came}
 use Rattle.tsp_promises.proofs.PremiseChecks.{kept-by}
 use Rattle.tsp_promises.proofs.Stages.{Stage, after, at, stages-fit, boots, turns, takes, replies}
 use Rattle.tsp_promises.proofs.StepChecks.{port0}
-use Rattle.tsp_promises.proofs.WitnessDebts.{first-round}
 use Rattle.tsp_promises.proofs.WitnessLead.{led, lead}
 use Rattle.tsp_promises.specs.LateReply.{LateReply}
 
@@ -29,11 +28,7 @@ abbrev pub reborn : ℕ → List Line
 reborn k = after (k - 5) reborn_steps (lead 5)
 
 pub reborn-fits : Fits (still false) (reborn 9)
-reborn-fits = stages-fit false 4 reborn_steps (lead 5) led refl
-    (((refl, tt), ((refl, first-round refl), ((refl, record { rested = inl (omega arith); fits = record { word_is = refl; counter_is = refl } }), tt))),
-    (((refl, (refl, came refl refl refl refl refl)), ((refl, record { rested = inl (omega arith); fits = record { took = refl; ticket_is = refl; reading_is = refl } }), tt)),
-    (((8, refl), tt),
-    (((refl, (refl, came refl refl refl refl refl)), tt), tt))))
+reborn-fits = stages-fit false 4 reborn_steps (lead 5) led refl (search debts)
 
 -- the exchange ended with the life
 pub late_reply : LateReply

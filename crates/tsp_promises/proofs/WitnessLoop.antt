@@ -1,18 +1,18 @@
 -- A LOOP that comes back: node 1 leads on both of its ports, node 2 passes its LOOP on to the network that it shares with node 3, and that one back.
 use Rattle.std.specs.Prelude.{◌≡◌, ◌≢◌, ◌<◌, false, Bool, ℕ, List, [], ◌∷◌, refl}
-use Rattle.std.proofs.Common.{sym, arith, inl, inr, true≢false}
+use Rattle.std.proofs.Common.{sym, arith, inl, inr}
 use Rattle.tsp_rules.specs.Values.{Took, Post, Become, Ring, Back, Window, Elect, Message, Good, LoopKind, Hops, Peer, Loose, Candidate, Master}
 use Rattle.tsp_base.specs.Words.{Came, Turned, Line, MessageValue, peer_of}
 use Rattle.tsp_promises.specs.Fits.{Fits, node_of}
 use Rattle.tsp_promises.specs.Looped.{GivesUp, LoopPost}
 use Rattle.tsp_promises.specs.LoopUse.{LoopUse}
 use Rattle.tsp_promises.specs.Premises.{NamesApart}
+use Rattle.tsp_promises.proofs.Debts.{debts, not-same}
 use Rattle.tsp_promises.proofs.Histories.{does, line, on, skip, skipped, step_at, still}
 use Rattle.tsp_promises.proofs.HistoriesFit.{came}
 use Rattle.tsp_promises.proofs.PremiseChecks.{kept-by}
 use Rattle.tsp_promises.proofs.Stages.{Stage, after, at, stages-fit, boots, turns, takes}
 use Rattle.tsp_promises.proofs.StepChecks.{port0, port1}
-use Rattle.tsp_promises.proofs.WitnessDebts.{none-some, not-same}
 
 -- a LOOP of node 1 from its port 0, with so many hops
 abbrev pub loop_with : ℕ → MessageValue
@@ -45,15 +45,11 @@ circle k = after k circle_steps []
 
 pub circle-fits : Fits (still false) (circle 9)
 circle-fits = stages-fit false 9 circle_steps [] tt refl
-    (((7, refl), tt),
-    (((9, refl), tt),
-    (((11, refl), tt),
-    (((refl, tt), ((refl, tt), ((refl, record { rested = omega arith; holds = λ x q e. none-some (x, q) e }), ((refl, tt), ((refl, tt), ((refl, record { rested = omega arith; holds = λ x q e. none-some (x, q) e }), tt)))))),
-    (((refl, tt), ((refl, record { rested = omega arith; quiet = λ x e. none-some x e; stands = refl; start = _; idle = _; start_is = refl; soon = omega arith; backs = refl; wins = λ e. absurd (true≢false (sym e)) }), ((refl, tt), ((refl, record { rested = omega arith; quiet = λ x e. none-some x e; stands = refl; start = _; idle = _; start_is = refl; soon = omega arith; backs = refl; wins = λ e. absurd (true≢false (sym e)) }), tt)))),
-    (((refl, record { rested = inl (omega arith); fits = inl (record { name = refl; number = refl; hops = refl }) }), tt),
+    (search debts, (search debts, (search debts, (search debts, (search debts, (search debts,
     (((refl, (refl, came refl refl refl refl refl)), ((refl, record { rested = inl (omega arith); fits = inr (record { from = peer_of 1; message = loop_with 10; took = refl; kind = refl; name = refl; number = refl; other = λ e. names-differ 1 2 (omega arith) (sym e); left = 9; came = refl; goes = refl; few = omega arith }) }), tt)),
     (((refl, (refl, came refl refl refl refl refl)), ((refl, record { rested = inl (omega arith); fits = inr (record { from = peer_of 2; message = loop_with 9; took = refl; kind = refl; name = refl; number = refl; other = λ e. names-differ 1 3 (omega arith) (sym e); left = 8; came = refl; goes = refl; few = omega arith }) }), tt)),
-    (((refl, (refl, came refl refl refl refl refl)), ((refl, λ leads. record { from = peer_of 3; message = loop_with 8; took = refl; kind = refl; name = refl; number = omega arith }), tt)), tt)))))))))
+    (((refl, (refl, came refl refl refl refl refl)), ((refl, λ leads. record { from = peer_of 3; message = loop_with 8; took = refl; kind = refl; name = refl; number = omega arith }), tt)),
+    tt)))))))))
 
 abbrev sets-out : LoopPost
 sets-out = record { post = does 310000000 1 Turned (Post (Peer (peer_of 2)) (Message (loop_with 10))); older = skip 1 (circle 6); to = peer_of 2; message = loop_with 10; deed = refl; kind = refl; hops = 10; hops_is = refl }

@@ -1,29 +1,25 @@
 -- A round in which the reply of one peer makes it seem a second off: it moves nobody else by much.
 use Rattle.std.specs.Prelude.{ℕ, ◌≡◌, nat_le, true, false, ℤ, pos, negsuc, nat_abs, Bool, List, [], ◌∷◌, length, refl}
 use Rattle.std.specs.List.{Contains, count_by}
-use Rattle.std.proofs.Common.{arith, inl, inr}
+use Rattle.std.proofs.Common.{arith, inl}
 use Rattle.std.proofs.lemmas.Bool.{leb-true}
 use Rattle.std.proofs.lemmas.Int.{ints}
-use Rattle.tsp_rules.specs.Values.{Post, Ring, Close, Correct, Sample, CloseAlarm, Message, Stamp, Ack, AdjTime, SetTime, Nothing, TimeBody, Peer, Reply, SPAN}
+use Rattle.tsp_rules.specs.Values.{Post, Ring, Close, Correct, Sample, CloseAlarm, Message, Stamp, AdjTime, TimeBody, Peer, Reply, SPAN}
 use Rattle.tsp_base.specs.Words.{Came, Turned, Line, of, view, Sampled, ReplyValue, peer_of}
 use Rattle.tsp_group.specs.Groups.{Agree, better, goes_before, group_from}
 use Rattle.tsp_promises.specs.Agreed.{FromRound}
-use Rattle.tsp_promises.specs.CorrectFits.{ByRound}
 use Rattle.tsp_promises.specs.Estimates.{CloseBegins, Moves}
 use Rattle.tsp_promises.specs.Fits.{Fits}
 use Rattle.tsp_promises.specs.Moderate.{Agrees, Majority, PeerAgrees, estimates_of}
 use Rattle.tsp_promises.specs.ModerateUse.{ModerateUse}
-use Rattle.tsp_promises.specs.RoundFits.{group_mean}
-use Rattle.tsp_promises.specs.Setting.{setup_of}
+use Rattle.tsp_promises.proofs.Debts.{debts}
 use Rattle.tsp_promises.proofs.FromRoundBy.{from_round-by}
 use Rattle.tsp_promises.proofs.FromRoundProof.{taking_of}
 use Rattle.tsp_promises.proofs.Histories.{line, msg, skip, skipped, step_at, still}
-use Rattle.tsp_promises.proofs.HistoriesFit.{came}
 use Rattle.tsp_promises.proofs.PremiseChecks.{kept-by}
 use Rattle.tsp_promises.proofs.Stages.{Stage, after, at, stages-fit, turns, obeys, acked, replies, samples}
 use Rattle.tsp_promises.proofs.StepChecks.{port0}
 use Rattle.tsp_promises.proofs.WitnessFromRounds.{sounds}
-use Rattle.tsp_promises.proofs.WitnessDebts.{acked-fits, adjusts-by, closes-by, corrects-by, samples-by}
 use Rattle.tsp_promises.proofs.WitnessUse.{asked, reply1, usual}
 
 -- the request took two seconds, the reply a microsecond
@@ -46,21 +42,9 @@ outlier_steps =
 abbrev pub outlier : ℕ → List Line
 outlier k = after k outlier_steps (usual 15)
 
--- the mean that its Close finds
-mean4 : negsuc 50 ≡ group_mean (setup_of (still false) 0 port0) (view port0 (of 0 (skip 4 (outlier 4))))
-unfolding group_from goes_before better
-mean4 = refl
-
 pub outlier-fits : Fits (still false) (outlier 8)
-outlier-fits = stages-fit false 8 outlier_steps (usual 15) asked refl
-    (((refl, (refl, came refl refl refl refl refl)), ((refl, samples-by reply1 refl (record { corrects = refl; lives = refl }) refl refl refl refl refl refl refl refl), tt)),
-    (((refl, (refl, came refl refl refl refl refl)), ((refl, record { rested = inl (omega arith); fits = record { took = refl; ticket_is = refl; reading_is = refl } }), tt)),
-    (((refl, (refl, came refl refl refl refl refl)), ((refl, samples-by late refl (record { corrects = refl; lives = refl }) refl refl refl refl refl refl refl refl), tt)),
-    (((refl, tt), ((refl, closes-by refl refl refl refl refl (omega arith) (omega arith) (record { corrects = refl; lives = refl })), ((refl, record { gap = omega arith; rested = omega arith; why = ByRound (record { close = _; past = _; is = refl; count = 2; lo = negsuc 100; size = pos 101; deed = refl; untaken = refl; mean_is = mean4 }); flag = refl; prints = refl }), ((refl, record { rested = inl (omega arith); fits = adjusts-by (negsuc 50) (msg SetTime 9 (TimeBody (pos 305000001))) (omega arith) refl refl refl refl refl refl refl (omega arith) (record { corrects = refl; lives = refl }) refl refl refl (inr (record { next = _; place = inl refl; stepped = false; shown = pos 408000000; deed = refl })) refl refl refl refl refl }), ((refl, record { rested = inl (omega arith); fits = adjusts-by (negsuc 50) (msg SetTime 11 (TimeBody (pos 305000004))) (omega arith) refl refl refl refl refl refl refl (omega arith) (record { corrects = refl; lives = refl }) refl refl refl (inr (record { next = _; place = inr (inl refl); stepped = false; shown = pos 408000000; deed = refl })) refl refl refl refl refl }), tt))))),
-    (((refl, (refl, came refl refl refl refl refl)), ((refl, corrects-by (peer_of 0) (msg AdjTime 10 (TimeBody (pos 50))) (omega arith) (omega arith) refl refl refl refl refl refl refl refl), ((refl, record { rested = inl (omega arith); fits = record { message = (msg AdjTime 10 (TimeBody (pos 50))); took = refl; number_is = refl; answers = refl } }), tt))),
-    (((refl, (refl, came refl refl refl refl refl)), ((refl, corrects-by (peer_of 0) (msg AdjTime 12 (TimeBody (negsuc 1000049))) (omega arith) (omega arith) refl refl refl refl refl refl refl refl), ((refl, record { rested = inl (omega arith); fits = record { message = (msg AdjTime 12 (TimeBody (negsuc 1000049))); took = refl; number_is = refl; answers = refl } }), tt))),
-    (((refl, (refl, came refl refl refl refl refl)), ((refl, acked-fits _ (msg AdjTime 10 (TimeBody (pos 50))) (msg Ack 10 Nothing) (peer_of 1) _ _ refl refl refl refl refl refl), tt)),
-    (((refl, (refl, came refl refl refl refl refl)), ((refl, acked-fits _ (msg AdjTime 12 (TimeBody (negsuc 1000049))) (msg Ack 12 Nothing) (peer_of 2) _ _ refl refl refl refl refl refl), tt)), tt))))))))
+unfolding group_from goes_before better
+outlier-fits = stages-fit false 8 outlier_steps (usual 15) asked refl (search debts)
 
 -- its Close, with this mean
 abbrev pub shut-by : ℤ → Line

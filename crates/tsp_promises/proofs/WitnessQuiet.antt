@@ -1,14 +1,14 @@
 -- A node answers a stranger in its quiet time.
 use Rattle.std.specs.Prelude.{ℕ, false, pos, List, [], ◌∷◌, refl}
-use Rattle.std.proofs.Common.{arith, inl, inr}
+use Rattle.std.proofs.Common.{arith, inl}
 use Rattle.tsp_rules.specs.Values.{Post, Message, Stamp, Ack, Msite, Nothing, Stranger, Request, Reply}
 use Rattle.tsp_base.specs.Words.{Handed, Line, ReplyValue}
 use Rattle.tsp_promises.specs.Fits.{Fits}
 use Rattle.tsp_promises.specs.QuietUse.{QuietUse}
+use Rattle.tsp_promises.proofs.Debts.{debts}
 use Rattle.tsp_promises.proofs.Histories.{does, msg, skip, skipped, still}
 use Rattle.tsp_promises.proofs.PremiseChecks.{kept-by}
 use Rattle.tsp_promises.proofs.Stages.{Stage, after, at, stages-fit, boots, hands}
-use Rattle.tsp_promises.proofs.WitnessDebts.{asks-same}
 
 abbrev early : ReplyValue
 early = record { ticket = 9; word = 5; counter = 0; reading = pos 1000000 }
@@ -25,10 +25,7 @@ abbrev pub early_on : ℕ → List Line
 early_on k = after k early_on_steps []
 
 pub early-fits : Fits (still false) (early_on 3)
-early-fits = stages-fit false 3 early_on_steps [] tt refl
-    (((9, refl), tt),
-    (((refl, (refl, tt)), ((refl, record { rested = inr refl; fits = (record { took = refl; ticket_is = refl; reading_is = refl }, refl) }), tt)),
-    (((refl, (refl, tt)), ((refl, record { rested = inr (refl, record { message = msg Msite 3 Nothing; took = refl; kind = refl; number_is = refl }); fits = (record { message = msg Msite 3 Nothing; took = refl; number_is = refl; answers = tt }, (refl, λ asked took. rw (asks-same (msg Msite 3 Nothing) asked _ refl took) refl)) }), tt)), tt)))
+early-fits = stages-fit false 3 early_on_steps [] tt refl (search debts)
 
 pub quiet_use : QuietUse
 quiet_use = record {

@@ -10,9 +10,9 @@ use Rattle.tsp_promises.proofs.Histories.{skip, skipped, still}
 use Rattle.tsp_promises.proofs.PremiseChecks.{kept-by}
 use Rattle.tsp_promises.proofs.ReadingChecks.{read-by, read_at-by, unstepped-by}
 use Rattle.tsp_promises.proofs.WitnessFromRounds.{closing, first, first-from_round, sounds}
-use Rattle.tsp_promises.proofs.WitnessDebts.{not-same}
 use Rattle.tsp_promises.proofs.WitnessSets.{set-by, set-source, set-taking, slaveup}
 use Rattle.tsp_promises.proofs.WitnessUse.{fits, usual}
+use Rattle.tsp_promises.proofs.Debts.{not-same}
 
 some-left : pos 17 ≢ pos 0
 some-left e = omega (arith, ints)

@@ -1,19 +1,12 @@
 -- A relayed clock: node 1 follows node 0 by one port and leads node 3 by another; a round of node 0 corrects it, and then a round of its own corrects node 3.
-use Rattle.std.specs.Prelude.{ℕ, true, false, pos, negsuc, List, [], ◌∷◌, refl, ◌≡◌}
-use Rattle.std.proofs.Common.{sym, arith, inl, inr, true≢false}
-use Rattle.std.proofs.lemmas.Int.{ints}
-use Rattle.tsp_rules.specs.Values.{Post, Arm, Ring, Close, Correct, Round, CloseAlarm, Message, Stamp, Ack, AdjTime, SetTime, SlaveUp, Nothing, TimeBody, Peer, Request}
-use Rattle.tsp_base.specs.Words.{Line, of, view, ReplyValue, peer_of}
-use Rattle.tsp_promises.specs.CorrectFits.{ByRound}
+use Rattle.std.specs.Prelude.{ℕ, true, false, pos, negsuc, List, [], ◌∷◌, refl}
+use Rattle.tsp_rules.specs.Values.{Post, Arm, Ring, Close, Correct, Round, CloseAlarm, Message, Stamp, AdjTime, SetTime, TimeBody, Peer, Request}
+use Rattle.tsp_base.specs.Words.{Line, ReplyValue, peer_of}
 use Rattle.tsp_promises.specs.Fits.{Fits}
 use Rattle.tsp_group.specs.Groups.{better, goes_before, group_from}
-use Rattle.tsp_promises.specs.RoundFits.{group_mean}
-use Rattle.tsp_promises.specs.Setting.{setup_of}
-use Rattle.tsp_promises.proofs.Histories.{msg, still, skip}
-use Rattle.tsp_promises.proofs.HistoriesFit.{came}
+use Rattle.tsp_promises.proofs.Debts.{debts}
+use Rattle.tsp_promises.proofs.Histories.{msg, still}
 use Rattle.tsp_promises.proofs.Stages.{Stage, after, at, stages-fit, boots, turns, stands, wins, follows, sets_up, obeys, acked, replies, samples}
-use Rattle.tsp_promises.proofs.StepChecks.{port0}
-use Rattle.tsp_promises.proofs.WitnessDebts.{acked-fits, adjusts-by, closes-by, corrects-by, first-round, none-some, samples-by, sets-up}
 
 abbrev pub near : ReplyValue
 near = record { ticket = 10; word = 7; counter = 0; reading = pos 400000298 }
@@ -56,37 +49,7 @@ relay_steps =
 abbrev pub relay : ℕ → List Line
 relay k = after k relay_steps []
 
--- the mean that its Close finds
-mean19 : negsuc 50 ≡ group_mean (setup_of (still false) 0 port0) (view port0 (of 0 (skip 3 (relay 19))))
-unfolding group_from goes_before better
-mean19 = refl
-
 pub fits : Fits (still false) (relay 27)
+unfolding group_from goes_before better
 fits = stages-fit false 27 relay_steps [] tt refl
-    (((7, refl), tt),
-    (((9, refl), tt),
-    (((11, refl), tt),
-    (((refl, tt), ((refl, tt), ((refl, record { rested = omega arith; holds = λ x q e. none-some (x, q) e }), tt))),
-    (((refl, tt), ((refl, tt), ((refl, record { rested = omega arith; holds = λ x q e. none-some (x, q) e }), tt))),
-    (((refl, tt), ((refl, record { rested = omega arith; quiet = λ x e. none-some x e; stands = refl; start = _; idle = _; start_is = refl; soon = omega arith; backs = refl; wins = λ e. absurd (true≢false (sym e)) }), tt)),
-    (((refl, tt), ((refl, record { rested = omega arith; quiet = λ x e. none-some x e; stands = refl; start = _; idle = _; start_is = refl; soon = omega arith; backs = refl; wins = λ e. absurd (true≢false (sym e)) }), tt)),
-    (((refl, tt), ((refl, record { rested = inl (omega arith); fits = refl }), tt)),
-    (((refl, tt), ((refl, record { rested = inl (omega arith); fits = refl }), tt)),
-    (((refl, (refl, came refl refl refl refl refl)), ((refl, record { rested = inl (omega arith); fits = sets-up (msg SlaveUp 9 Nothing) (omega arith) refl refl refl refl refl refl refl refl (omega (arith, ints)) (omega (arith, ints)) }), tt)),
-    (((refl, (refl, came refl refl refl refl refl)), ((refl, corrects-by (peer_of 0) (msg SetTime 9 (TimeBody (pos 305000001))) (omega arith) (omega arith) refl refl refl refl refl refl refl refl), ((refl, record { rested = inl (omega arith); fits = record { message = (msg SetTime 9 (TimeBody (pos 305000001))); took = refl; number_is = refl; answers = refl } }), tt))),
-    (((refl, (refl, came refl refl refl refl refl)), ((refl, acked-fits _ (msg SetTime 9 (TimeBody (pos 305000001))) (msg Ack 9 Nothing) (peer_of 1) _ _ refl refl refl refl refl refl), tt)),
-    (((refl, (refl, came refl refl refl refl refl)), ((refl, record { rested = inl (omega arith); fits = sets-up (msg SlaveUp 11 Nothing) (omega arith) refl refl refl refl refl refl refl refl (omega (arith, ints)) (omega (arith, ints)) }), tt)),
-    (((refl, (refl, came refl refl refl refl refl)), ((refl, corrects-by (peer_of 1) (msg SetTime 11 (TimeBody (pos 305000003))) (omega arith) (omega arith) refl refl refl refl refl refl refl refl), ((refl, record { rested = inl (omega arith); fits = record { message = (msg SetTime 11 (TimeBody (pos 305000003))); took = refl; number_is = refl; answers = refl } }), tt))),
-    (((refl, (refl, came refl refl refl refl refl)), ((refl, acked-fits _ (msg SetTime 11 (TimeBody (pos 305000003))) (msg Ack 11 Nothing) (peer_of 3) _ _ refl refl refl refl refl refl), tt)),
-    (((refl, tt), ((refl, first-round refl), ((refl, record { rested = inl (omega arith); fits = record { word_is = refl; counter_is = refl } }), tt))),
-    (((refl, (refl, came refl refl refl refl refl)), ((refl, record { rested = inl (omega arith); fits = record { took = refl; ticket_is = refl; reading_is = refl } }), tt)),
-    (((refl, (refl, came refl refl refl refl refl)), ((refl, samples-by near refl (record { corrects = refl; lives = refl }) refl refl refl refl refl refl refl refl), tt)),
-    (((refl, tt), ((refl, closes-by refl refl refl refl refl (omega arith) (omega arith) (record { corrects = refl; lives = refl })), ((refl, record { gap = omega arith; rested = omega arith; why = ByRound (record { close = _; past = _; is = refl; count = 2; lo = negsuc 101; size = pos 102; deed = refl; untaken = refl; mean_is = mean19 }); flag = refl; prints = refl }), ((refl, record { rested = inl (omega arith); fits = adjusts-by (negsuc 50) (msg SetTime 9 (TimeBody (pos 305000001))) (omega arith) refl refl refl refl refl refl refl (omega arith) (record { corrects = refl; lives = refl }) refl refl refl (inr (record { next = _; place = inl refl; stepped = false; shown = pos 408000000; deed = refl })) refl refl refl refl refl }), tt)))),
-    (((refl, (refl, came refl refl refl refl refl)), ((refl, corrects-by (peer_of 0) (msg AdjTime 10 (TimeBody (pos 51))) (omega arith) (omega arith) refl refl refl refl refl refl refl refl), ((refl, record { rested = inl (omega arith); fits = record { message = (msg AdjTime 10 (TimeBody (pos 51))); took = refl; number_is = refl; answers = refl } }), tt))),
-    (((refl, (refl, came refl refl refl refl refl)), ((refl, acked-fits _ (msg AdjTime 10 (TimeBody (pos 51))) (msg Ack 10 Nothing) (peer_of 1) _ _ refl refl refl refl refl refl), tt)),
-    (((refl, tt), ((refl, first-round refl), ((refl, record { rested = inl (omega arith); fits = record { word_is = refl; counter_is = refl } }), tt))),
-    (((refl, (refl, came refl refl refl refl refl)), ((refl, record { rested = inl (omega arith); fits = record { took = refl; ticket_is = refl; reading_is = refl } }), tt)),
-    (((refl, (refl, came refl refl refl refl refl)), ((refl, samples-by distant refl (record { corrects = refl; lives = refl }) refl refl refl refl refl refl refl refl), tt)),
-    (((refl, tt), ((refl, closes-by refl refl refl refl refl (omega arith) (omega arith) (record { corrects = refl; lives = refl })), ((refl, record { rested = inl (omega arith); fits = adjusts-by (pos 0) (msg SetTime 11 (TimeBody (pos 305000003))) (omega arith) refl refl refl refl refl refl refl (omega arith) (record { corrects = refl; lives = refl }) refl refl refl (inl refl) refl refl refl refl refl }), tt))),
-    (((refl, (refl, came refl refl refl refl refl)), ((refl, corrects-by (peer_of 1) (msg AdjTime 12 (TimeBody (pos 152))) (omega arith) (omega arith) refl refl refl refl refl refl refl refl), ((refl, record { rested = inl (omega arith); fits = record { message = (msg AdjTime 12 (TimeBody (pos 152))); took = refl; number_is = refl; answers = refl } }), tt))),
-    (((refl, (refl, came refl refl refl refl refl)), ((refl, acked-fits _ (msg AdjTime 12 (TimeBody (pos 152))) (msg Ack 12 Nothing) (peer_of 3) _ _ refl refl refl refl refl refl), tt)), tt)))))))))))))))))))))))))))
+    (search debts, (search debts, (search debts, (search debts, (search debts, (search debts, (search debts, (search debts, (search debts, (search debts, (search debts, (search debts, (search debts, (search debts, (search debts)))))))))))))))

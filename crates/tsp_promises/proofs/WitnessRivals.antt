@@ -1,15 +1,15 @@
 -- A history of rivals: an election, two backings a hold apart, a resolution, and a second election.
-use Rattle.std.specs.Prelude.{ℕ, ◌≡◌, ◌≤◌, false, ◌+◌, List, [], ◌∷◌, refl}
-use Rattle.std.proofs.Common.{sym, ap, arith, subst, inl, inr, true≢false}
-use Rattle.tsp_rules.specs.Values.{Post, Become, Ring, Back, Quit, Elect, ResolveAlarm, Message, Accept, Ack, Election, QuitKind, Nothing, PeerId, Peer, Follow, Candidate, Master, ELECT_MIN, HOLD}
+use Rattle.std.specs.Prelude.{ℕ, ◌≡◌, false, List, [], ◌∷◌, refl}
+use Rattle.std.proofs.Common.{ap, arith, inl}
+use Rattle.tsp_rules.specs.Values.{Post, Become, Ring, Back, Quit, Elect, ResolveAlarm, Message, Accept, Ack, Election, QuitKind, Nothing, PeerId, Peer, Follow, Candidate, Master}
 use Rattle.tsp_base.specs.Words.{Came, Turned, Begins, Line, of, view, first_port, line_of, peer_of}
 use Rattle.tsp_promises.specs.Fits.{Fits}
+use Rattle.tsp_promises.proofs.Debts.{debts}
 use Rattle.tsp_promises.proofs.Histories.{line, msg, skip, skipped, step_at, still}
-use Rattle.tsp_promises.proofs.HistoriesFit.{all-finished, came}
+use Rattle.tsp_promises.proofs.HistoriesFit.{all-finished}
 use Rattle.tsp_promises.proofs.PremiseChecks.{life-by}
 use Rattle.tsp_promises.proofs.Stages.{Stage, after, at, stages-fit, boots, turns, takes, stands, wins, acked}
 use Rattle.tsp_promises.proofs.StepChecks.{port0}
-use Rattle.tsp_promises.proofs.WitnessDebts.{acked-own, long-ago, none-some, same-tick}
 use Rattle.tsp_promises.specs.RivalsMeet.{RivalsMeet}
 
 abbrev rivals_steps : List Stage
@@ -33,19 +33,7 @@ abbrev pub rivals : ℕ → List Line
 rivals k = after k rivals_steps []
 
 pub met : Fits (still false) (rivals 12)
-met = stages-fit false 12 rivals_steps [] tt refl
-    (((7, refl), tt),
-    (((9, refl), tt),
-    (((refl, tt), ((refl, tt), ((refl, record { rested = omega arith; holds = λ x q e. none-some (x, q) e }), ((refl, record { rested = inl (omega arith); fits = record { numbered = record { number = omega arith; next = λ e. refl; repeats = λ e. absurd (true≢false e) }; backs = refl } }), tt)))),
-    (((refl, (refl, came refl refl refl refl refl)), ((refl, record { rested = omega arith; holds = λ x q e. none-some (x, q) e }), ((refl, record { rested = inl (omega arith); fits = record { backs = refl; message = (msg Election 32775 Nothing); took = refl; kind = refl; number_is = refl } }), tt))),
-    (((refl, tt), ((refl, record { rested = omega arith; quiet = λ x e. none-some x e; stands = refl; start = _; idle = _; start_is = refl; soon = omega arith; backs = refl; wins = λ e. absurd (true≢false (sym e)) }), tt)),
-    (((refl, tt), ((refl, tt), ((refl, record { rested = omega arith; holds = λ x q e. inr (subst (λ y. y + HOLD ≤ 360000001) (same-tick (300000001, peer_of 0) (x, q) e) (omega arith)) }), tt))),
-    (((refl, tt), ((refl, record { rested = omega arith; quiet = λ x e. none-some x e; stands = refl; start = _; idle = _; start_is = refl; soon = omega arith; backs = refl; wins = λ e. absurd (true≢false (sym e)) }), tt)),
-    (((refl, tt), ((refl, record { rested = inl (omega arith); fits = record { number = omega arith; next = λ e. refl; repeats = λ e. absurd (true≢false e) } }), tt)),
-    (((refl, (refl, came refl refl refl refl refl)), ((refl, record { message = msg QuitKind 32776 Nothing; took = _; past = _; is = refl; deed = refl; kind = refl }), ((refl, record { rested = inl (omega arith); fits = record { message = (msg QuitKind 32776 Nothing); took = refl; number_is = refl; answers = tt } }), ((refl, tt), tt)))),
-    (((refl, (refl, came refl refl refl refl refl)), ((refl, acked-own _ (msg QuitKind 32776 Nothing) (peer_of 1) _ _ refl refl refl refl), tt)),
-    (((refl, tt), ((refl, tt), ((refl, record { rested = omega arith; holds = λ x q e. inr (subst (λ y. y + HOLD ≤ 710000000) (same-tick (360000001, peer_of 1) (x, q) e) (omega arith)) }), tt))),
-    (((refl, tt), ((refl, record { rested = omega arith; quiet = λ x e. long-ago 400000001 x ELECT_MIN 715000000 e (omega arith); stands = refl; start = _; idle = _; start_is = refl; soon = omega arith; backs = refl; wins = λ e. absurd (true≢false (sym e)) }), tt)), tt))))))))))))
+met = stages-fit false 12 rivals_steps [] tt refl (search debts)
 
 -- rivals meet: (rivals 9) ends with Follow, ACK, Quit, Took and the mark, and (rivals 8) with QUIT, Ring and the mark
 pub rivals_meet : RivalsMeet

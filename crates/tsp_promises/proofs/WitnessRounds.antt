@@ -1,22 +1,18 @@
 -- After ordinary use another round of the same master.
-use Rattle.std.specs.Prelude.{ℕ, ◌≢◌, false, pos, negsuc, List, [], ◌∷◌, refl, ◌≡◌}
-use Rattle.std.proofs.Common.{arith, inl, inr}
+use Rattle.std.specs.Prelude.{ℕ, ◌≢◌, false, pos, negsuc, List, [], ◌∷◌, refl}
+use Rattle.std.proofs.Common.{arith}
 use Rattle.std.proofs.lemmas.Int.{ints}
-use Rattle.tsp_rules.specs.Values.{Post, Arm, Ring, Close, Correct, Round, CloseAlarm, Message, Stamp, Ack, AdjTime, Nothing, TimeBody, Peer, Request}
-use Rattle.tsp_base.specs.Words.{Turned, Line, of, view, ReplyValue, peer_of}
-use Rattle.tsp_promises.specs.CorrectFits.{ByRound}
+use Rattle.tsp_rules.specs.Values.{Post, Arm, Ring, Close, Correct, Round, CloseAlarm, Message, Stamp, AdjTime, TimeBody, Peer, Request}
+use Rattle.tsp_base.specs.Words.{Turned, Line, ReplyValue, peer_of}
 use Rattle.tsp_promises.specs.Fits.{Fits}
 use Rattle.tsp_promises.specs.RoundsUse.{RoundsUse}
 use Rattle.tsp_group.specs.Groups.{better, goes_before, group_from}
-use Rattle.tsp_promises.specs.RoundFits.{group_mean}
-use Rattle.tsp_promises.specs.Setting.{setup_of}
+use Rattle.tsp_promises.proofs.Debts.{debts, not-same}
 use Rattle.tsp_promises.proofs.Histories.{line, msg, skip, skipped, step_at, still}
-use Rattle.tsp_promises.proofs.HistoriesFit.{came}
 use Rattle.tsp_promises.proofs.PremiseChecks.{kept-by}
 use Rattle.tsp_promises.proofs.Stages.{Stage, after, at, stages-fit, turns, obeys, acked, replies, samples}
 use Rattle.tsp_promises.proofs.StepChecks.{port0}
 use Rattle.tsp_promises.proofs.WitnessFromRounds.{answers, closing, first, first-from_round, second, second-from_round, sounds}
-use Rattle.tsp_promises.proofs.WitnessDebts.{acked-fits, adjusts-by, closes-by, corrects-by, next-round, not-same, samples-by}
 use Rattle.tsp_promises.proofs.WitnessUse.{fits, usual}
 
 abbrev next : ReplyValue
@@ -36,19 +32,9 @@ twice_steps =
 abbrev pub twice : ℕ → List Line
 twice k = after k twice_steps (usual 23)
 
--- the mean that its Close finds
-mean4 : negsuc 9 ≡ group_mean (setup_of (still false) 0 port0) (view port0 (of 0 (skip 3 (twice 4))))
-unfolding group_from goes_before better
-mean4 = refl
-
 pub twice-fits : Fits (still false) (twice 6)
-twice-fits = stages-fit false 6 twice_steps (usual 23) fits refl
-    (((refl, tt), ((refl, next-round refl (omega arith)), ((refl, record { rested = inl (omega arith); fits = record { word_is = refl; counter_is = refl } }), tt))),
-    (((refl, (refl, came refl refl refl refl refl)), ((refl, record { rested = inl (omega arith); fits = record { took = refl; ticket_is = refl; reading_is = refl } }), tt)),
-    (((refl, (refl, came refl refl refl refl refl)), ((refl, samples-by next refl (record { corrects = refl; lives = refl }) refl refl refl refl refl refl refl refl), tt)),
-    (((refl, tt), ((refl, closes-by refl refl refl refl refl (omega arith) (omega arith) (record { corrects = refl; lives = refl })), ((refl, record { gap = omega arith; rested = omega arith; why = ByRound (record { close = _; past = _; is = refl; count = 2; lo = negsuc 19; size = pos 20; deed = refl; untaken = refl; mean_is = mean4 }); flag = refl; prints = refl }), ((refl, record { rested = inl (omega arith); fits = adjusts-by (negsuc 9) (msg AdjTime 10 (TimeBody (pos 17))) (omega arith) refl refl refl refl refl refl refl (omega arith) (record { corrects = refl; lives = refl }) refl refl refl (inr (record { next = _; place = inl refl; stepped = false; shown = pos 1007999916; deed = refl })) refl refl refl refl refl }), tt)))),
-    (((refl, (refl, came refl refl refl refl refl)), ((refl, corrects-by (peer_of 0) (msg AdjTime 11 (TimeBody (pos 10))) (omega arith) (omega arith) refl refl refl refl refl refl refl refl), ((refl, record { rested = inl (omega arith); fits = record { message = (msg AdjTime 11 (TimeBody (pos 10))); took = refl; number_is = refl; answers = refl } }), tt))),
-    (((refl, (refl, came refl refl refl refl refl)), ((refl, acked-fits _ (msg AdjTime 11 (TimeBody (pos 10))) (msg Ack 11 Nothing) (peer_of 1) _ _ refl refl refl refl refl refl), tt)), tt))))))
+unfolding group_from goes_before better
+twice-fits = stages-fit false 6 twice_steps (usual 23) fits refl (search debts)
 
 ten-off : negsuc 9 ≢ pos 0
 ten-off e = omega (arith, ints)

@@ -1,14 +1,11 @@
 -- A row of four nodes: the gateway's slave leads a network too, and corrects a last node.
 use Rattle.std.specs.Prelude.{ℕ, true, false, pos, negsuc, List, [], ◌∷◌, refl}
-use Rattle.std.proofs.Common.{sym, arith, inl, true≢false}
-use Rattle.std.proofs.lemmas.Int.{ints}
-use Rattle.tsp_rules.specs.Values.{Post, Arm, Ring, Close, Round, CloseAlarm, Message, Stamp, Ack, AdjTime, SetTime, SlaveUp, Nothing, TimeBody, Peer, Request}
+use Rattle.tsp_rules.specs.Values.{Post, Arm, Ring, Close, Round, CloseAlarm, Message, Stamp, AdjTime, SetTime, TimeBody, Peer, Request}
 use Rattle.tsp_base.specs.Words.{Line, ReplyValue, peer_of}
 use Rattle.tsp_promises.specs.Fits.{Fits}
+use Rattle.tsp_promises.proofs.Debts.{debts}
 use Rattle.tsp_promises.proofs.Histories.{msg, still}
-use Rattle.tsp_promises.proofs.HistoriesFit.{came}
 use Rattle.tsp_promises.proofs.Stages.{Stage, after, at, stages-fit, boots, turns, stands, wins, follows, sets_up, obeys, acked, replies, samples}
-use Rattle.tsp_promises.proofs.WitnessDebts.{acked-fits, adjusts-by, closes-by, corrects-by, first-round, none-some, samples-by, sets-up}
 use Rattle.tsp_promises.proofs.WitnessRelay.{fits as relay-fits, relay}
 
 abbrev pub last : ReplyValue
@@ -36,17 +33,4 @@ abbrev pub row : ℕ → List Line
 row k = after k row_steps (relay 27)
 
 pub fits : Fits (still false) (row 13)
-fits = stages-fit false 13 row_steps (relay 27) relay-fits refl
-    (((13, refl), tt),
-    (((refl, tt), ((refl, tt), ((refl, record { rested = omega arith; holds = λ x q e. none-some (x, q) e }), tt))),
-    (((refl, tt), ((refl, record { rested = omega arith; quiet = λ x e. none-some x e; stands = refl; start = _; idle = _; start_is = refl; soon = omega arith; backs = refl; wins = λ e. absurd (true≢false (sym e)) }), tt)),
-    (((refl, tt), ((refl, record { rested = inl (omega arith); fits = refl }), tt)),
-    (((refl, (refl, came refl refl refl refl refl)), ((refl, record { rested = inl (omega arith); fits = sets-up (msg SlaveUp 13 Nothing) (omega arith) refl refl refl refl refl refl refl refl (omega (arith, ints)) (omega (arith, ints)) }), tt)),
-    (((refl, (refl, came refl refl refl refl refl)), ((refl, corrects-by (peer_of 3) (msg SetTime 13 (TimeBody (pos 905000151))) (omega arith) (omega arith) refl refl refl refl refl refl refl refl), ((refl, record { rested = inl (omega arith); fits = record { message = (msg SetTime 13 (TimeBody (pos 905000151))); took = refl; number_is = refl; answers = refl } }), tt))),
-    (((refl, (refl, came refl refl refl refl refl)), ((refl, acked-fits _ (msg SetTime 13 (TimeBody (pos 905000151))) (msg Ack 13 Nothing) (peer_of 2) _ _ refl refl refl refl refl refl), tt)),
-    (((refl, tt), ((refl, first-round refl), ((refl, record { rested = inl (omega arith); fits = record { word_is = refl; counter_is = refl } }), tt))),
-    (((refl, (refl, came refl refl refl refl refl)), ((refl, record { rested = inl (omega arith); fits = record { took = refl; ticket_is = refl; reading_is = refl } }), tt)),
-    (((refl, (refl, came refl refl refl refl refl)), ((refl, samples-by last refl (record { corrects = refl; lives = refl }) refl refl refl refl refl refl refl refl), tt)),
-    (((refl, tt), ((refl, closes-by refl refl refl refl refl (omega arith) (omega arith) (record { corrects = refl; lives = refl })), ((refl, record { rested = inl (omega arith); fits = adjusts-by (pos 0) (msg SetTime 13 (TimeBody (pos 905000151))) (omega arith) refl refl refl refl refl refl refl (omega arith) (record { corrects = refl; lives = refl }) refl refl refl (inl refl) refl refl refl refl refl }), tt))),
-    (((refl, (refl, came refl refl refl refl refl)), ((refl, corrects-by (peer_of 3) (msg AdjTime 14 (TimeBody (pos 101))) (omega arith) (omega arith) refl refl refl refl refl refl refl refl), ((refl, record { rested = inl (omega arith); fits = record { message = (msg AdjTime 14 (TimeBody (pos 101))); took = refl; number_is = refl; answers = refl } }), tt))),
-    (((refl, (refl, came refl refl refl refl refl)), ((refl, acked-fits _ (msg AdjTime 14 (TimeBody (pos 101))) (msg Ack 14 Nothing) (peer_of 2) _ _ refl refl refl refl refl refl), tt)), tt)))))))))))))
+fits = stages-fit false 13 row_steps (relay 27) relay-fits refl (search debts)

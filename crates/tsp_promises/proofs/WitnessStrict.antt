@@ -1,15 +1,15 @@
 -- Strict elections: a node wins with the vote of a second one, and later the second wins with the vote of a third.
-use Rattle.std.specs.Prelude.{ℕ, ◌≤◌, true, ◌+◌, List, [], ◌∷◌, refl}
-use Rattle.std.proofs.Common.{sym, ap, arith, subst, inl, inr, true≢false}
-use Rattle.tsp_rules.specs.Values.{Post, Become, Ring, Back, Backer, Acked, Elect, Message, Accept, Election, Nothing, PeerId, Peer, Candidate, Master, HOLD}
+use Rattle.std.specs.Prelude.{ℕ, true, List, [], ◌∷◌, refl}
+use Rattle.std.proofs.Common.{sym, ap, arith, inl}
+use Rattle.tsp_rules.specs.Values.{Post, Become, Ring, Back, Backer, Acked, Elect, Message, Accept, Election, Nothing, PeerId, Peer, Candidate, Master}
 use Rattle.tsp_base.specs.Words.{Turned, Line, peer_of}
 use Rattle.tsp_promises.specs.Fits.{Fits}
+use Rattle.tsp_promises.specs.StrictElections.{StrictElections}
+use Rattle.tsp_promises.proofs.Debts.{debts, not-same}
 use Rattle.tsp_promises.proofs.Histories.{does, msg, skip, skipped, still}
 use Rattle.tsp_promises.proofs.HistoriesFit.{came}
 use Rattle.tsp_promises.proofs.PremiseChecks.{few-by, kept-by}
 use Rattle.tsp_promises.proofs.Stages.{Stage, after, at, stages-fit, boots, turns, takes, wins}
-use Rattle.tsp_promises.proofs.WitnessDebts.{acked-own, none-some, not-same, same-tick}
-use Rattle.tsp_promises.specs.StrictElections.{StrictElections}
 
 abbrev votes_steps : List Stage
 votes_steps =
@@ -32,17 +32,11 @@ votes k = after k votes_steps []
 
 pub votes-fit : Fits (still true) (votes 11)
 votes-fit = stages-fit true 11 votes_steps [] tt refl
-    (((7, refl), tt),
-    (((9, refl), tt),
-    (((11, refl), tt),
-    (((refl, tt), ((refl, tt), ((refl, record { rested = omega arith; holds = λ x q e. none-some (x, q) e }), ((refl, record { rested = inl (omega arith); fits = record { numbered = record { number = omega arith; next = λ e. refl; repeats = λ e. absurd (true≢false e) }; backs = refl } }), tt)))),
-    (((refl, (refl, came refl refl refl refl refl)), ((refl, record { rested = omega arith; holds = λ x q e. none-some (x, q) e }), ((refl, record { rested = inl (omega arith); fits = record { backs = refl; message = (msg Election 32775 Nothing); took = refl; kind = refl; number_is = refl } }), tt))),
-    (((refl, (refl, came refl refl refl refl refl)), ((refl, acked-own _ (msg Election 32775 Nothing) (peer_of 1) _ _ refl refl refl refl), ((refl, record { peer = refl; other = λ e. not-same 0 1 (omega arith) (ap (λ (p : PeerId). p.0) (sym e)); new = refl; answer = (msg Accept 32775 Nothing); took = refl; kind = refl; acked = _; past = _; is = refl; deed = refl; first = _; older = _; ends = refl; message = (msg Election 32775 Nothing); asks = refl; election = refl; number = refl }), tt))),
-    (((refl, tt), ((refl, record { rested = omega arith; quiet = λ x e. none-some x e; stands = refl; start = _; idle = _; start_is = refl; soon = omega arith; backs = refl; wins = λ e. omega arith }), tt)),
-    (((refl, tt), ((refl, tt), ((refl, record { rested = omega arith; holds = λ x q e. inr (subst (λ y. y + HOLD ≤ 365000000) (same-tick (300000001, peer_of 0) (x, q) e) (omega arith)) }), ((refl, record { rested = inl (omega arith); fits = record { numbered = record { number = omega arith; next = λ e. refl; repeats = λ e. absurd (true≢false e) }; backs = refl } }), tt)))),
-    (((refl, (refl, came refl refl refl refl refl)), ((refl, record { rested = omega arith; holds = λ x q e. none-some (x, q) e }), ((refl, record { rested = inl (omega arith); fits = record { backs = refl; message = (msg Election 32777 Nothing); took = refl; kind = refl; number_is = refl } }), tt))),
-    (((refl, (refl, came refl refl refl refl refl)), ((refl, acked-own _ (msg Election 32777 Nothing) (peer_of 2) _ _ refl refl refl refl), ((refl, record { peer = refl; other = λ e. not-same 1 2 (omega arith) (ap (λ (p : PeerId). p.0) (sym e)); new = refl; answer = (msg Accept 32777 Nothing); took = refl; kind = refl; acked = _; past = _; is = refl; deed = refl; first = _; older = _; ends = refl; message = (msg Election 32777 Nothing); asks = refl; election = refl; number = refl }), tt))),
-    (((refl, tt), ((refl, record { rested = omega arith; quiet = λ x e. none-some x e; stands = refl; start = _; idle = _; start_is = refl; soon = omega arith; backs = refl; wins = λ e. omega arith }), tt)), tt)))))))))))
+    (search debts, (search debts, (search debts, (search debts, (search debts,
+    (((refl, (refl, came refl refl refl refl refl)), ((refl, search debts), ((refl, record { peer = refl; other = λ e. not-same 0 1 (omega arith) (ap (λ (p : PeerId). p.0) (sym e)); new = refl; answer = (msg Accept 32775 Nothing); took = refl; kind = refl; acked = _; past = _; is = refl; deed = refl; first = _; older = _; ends = refl; message = (msg Election 32775 Nothing); asks = refl; election = refl; number = refl }), tt))),
+    (search debts, (search debts, (search debts,
+    (((refl, (refl, came refl refl refl refl refl)), ((refl, search debts), ((refl, record { peer = refl; other = λ e. not-same 1 2 (omega arith) (ap (λ (p : PeerId). p.0) (sym e)); new = refl; answer = (msg Accept 32777 Nothing); took = refl; kind = refl; acked = _; past = _; is = refl; deed = refl; first = _; older = _; ends = refl; message = (msg Election 32777 Nothing); asks = refl; election = refl; number = refl }), tt))),
+    search debts))))))))))
 
 -- two nodes win strict elections, 65 s apart
 pub strict_elections : StrictElections

@@ -1,14 +1,14 @@
 -- A candidate asks a peer three times for its vote.
 use Rattle.std.specs.Prelude.{ℕ, ◌-◌, false, List, [], ◌∷◌, refl}
-use Rattle.std.proofs.Common.{sym, arith, inl, true≢false}
+use Rattle.std.proofs.Common.{inl}
 use Rattle.tsp_rules.specs.Values.{Post, Become, Ring, Back, Elect, Message, Election, Nothing, Peer, Candidate}
 use Rattle.tsp_base.specs.Words.{Turned, Line, MessageValue, peer_of}
 use Rattle.tsp_promises.specs.Fits.{Fits}
 use Rattle.tsp_promises.specs.ThriceUse.{ThriceUse}
+use Rattle.tsp_promises.proofs.Debts.{debts}
 use Rattle.tsp_promises.proofs.Histories.{does, msg, skip, still}
 use Rattle.tsp_promises.proofs.PremiseChecks.{kept-by}
 use Rattle.tsp_promises.proofs.Stages.{Stage, after, at, stages-fit, turns}
-use Rattle.tsp_promises.proofs.WitnessDebts.{none-some}
 use Rattle.tsp_promises.proofs.WitnessLead.{booted, lead}
 
 abbrev asks : MessageValue
@@ -26,10 +26,7 @@ abbrev pub repeats : ℕ → List Line
 repeats k = after (k - 3) repeats_steps (lead 3)
 
 pub repeats-fit : Fits (still false) (repeats 6)
-repeats-fit = stages-fit false 3 repeats_steps (lead 3) booted refl
-    (((refl, tt), ((refl, tt), ((refl, record { rested = omega arith; holds = λ x q e. none-some (x, q) e }), ((refl, record { rested = inl (omega arith); fits = record { numbered = record { number = omega arith; next = λ e. refl; repeats = λ e. absurd (true≢false e) }; backs = refl } }), tt)))),
-    (((refl, record { rested = inl (omega arith); fits = record { numbered = record { number = omega arith; next = λ e. absurd (true≢false (sym e)); repeats = λ e. record { first = _; older = _; is = refl; same = refl; soon = omega arith; few = omega arith } }; backs = refl } }), tt),
-    (((refl, record { rested = inl (omega arith); fits = record { numbered = record { number = omega arith; next = λ e. absurd (true≢false (sym e)); repeats = λ e. record { first = _; older = _; is = refl; same = refl; soon = omega arith; few = omega arith } }; backs = refl } }), tt), tt)))
+repeats-fit = stages-fit false 3 repeats_steps (lead 3) booted refl (search debts)
 
 pub thrice_use : ThriceUse
 thrice_use = record {

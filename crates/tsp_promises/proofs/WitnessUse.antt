@@ -1,19 +1,12 @@
 -- A history of ordinary use: two nodes follow a third, are set by a SETTIME each and acknowledge it; then comes a whole round.
-use Rattle.std.specs.Prelude.{ℕ, ◌-◌, true, false, pos, negsuc, List, [], ◌∷◌, refl, ◌≡◌}
-use Rattle.std.proofs.Common.{arith, inl, inr}
-use Rattle.std.proofs.lemmas.Int.{ints}
-use Rattle.tsp_rules.specs.Values.{Post, Arm, Ring, Close, Correct, Round, CloseAlarm, Message, Stamp, Ack, AdjTime, SetTime, SlaveUp, Nothing, TimeBody, Peer, Request}
-use Rattle.tsp_base.specs.Words.{Line, of, view, ReplyValue, peer_of}
-use Rattle.tsp_promises.specs.CorrectFits.{ByRound}
+use Rattle.std.specs.Prelude.{ℕ, ◌-◌, true, false, pos, negsuc, List, [], ◌∷◌, refl}
+use Rattle.tsp_rules.specs.Values.{Post, Arm, Ring, Close, Correct, Round, CloseAlarm, Message, Stamp, AdjTime, SetTime, TimeBody, Peer, Request}
+use Rattle.tsp_base.specs.Words.{Line, ReplyValue, peer_of}
 use Rattle.tsp_promises.specs.Fits.{Fits}
 use Rattle.tsp_group.specs.Groups.{better, goes_before, group_from}
-use Rattle.tsp_promises.specs.RoundFits.{group_mean}
-use Rattle.tsp_promises.specs.Setting.{setup_of}
-use Rattle.tsp_promises.proofs.Histories.{msg, still, skip}
-use Rattle.tsp_promises.proofs.HistoriesFit.{came}
+use Rattle.tsp_promises.proofs.Debts.{debts}
+use Rattle.tsp_promises.proofs.Histories.{msg, still}
 use Rattle.tsp_promises.proofs.Stages.{Stage, after, at, stages-fit, skip-fits, turns, follows, sets_up, obeys, acked, replies, samples}
-use Rattle.tsp_promises.proofs.StepChecks.{port0}
-use Rattle.tsp_promises.proofs.WitnessDebts.{acked-fits, adjusts-by, closes-by, corrects-by, first-round, samples-by, sets-up}
 use Rattle.tsp_promises.proofs.WitnessLead.{led, lead}
 
 abbrev pub reply1 : ReplyValue
@@ -48,31 +41,9 @@ usual_steps =
 abbrev pub usual : ℕ → List Line
 usual k = after (k - 5) usual_steps (lead 5)
 
--- the mean that its Close finds
-mean19 : negsuc 83 ≡ group_mean (setup_of (still false) 0 port0) (view port0 (of 0 (skip 4 (usual 19))))
-unfolding group_from goes_before better
-mean19 = refl
-
 pub fits : Fits (still false) (usual 23)
-fits = stages-fit false 18 usual_steps (lead 5) led refl
-    (((refl, tt), ((refl, record { rested = inl (omega arith); fits = refl }), tt)),
-    (((refl, tt), ((refl, record { rested = inl (omega arith); fits = refl }), tt)),
-    (((refl, (refl, came refl refl refl refl refl)), ((refl, record { rested = inl (omega arith); fits = sets-up (msg SlaveUp 9 Nothing) (omega arith) refl refl refl refl refl refl refl refl (omega (arith, ints)) (omega (arith, ints)) }), tt)),
-    (((refl, (refl, came refl refl refl refl refl)), ((refl, corrects-by (peer_of 0) (msg SetTime 9 (TimeBody (pos 305000001))) (omega arith) (omega arith) refl refl refl refl refl refl refl refl), ((refl, record { rested = inl (omega arith); fits = record { message = (msg SetTime 9 (TimeBody (pos 305000001))); took = refl; number_is = refl; answers = refl } }), tt))),
-    (((refl, (refl, came refl refl refl refl refl)), ((refl, acked-fits _ (msg SetTime 9 (TimeBody (pos 305000001))) (msg Ack 9 Nothing) (peer_of 1) _ _ refl refl refl refl refl refl), tt)),
-    (((refl, (refl, came refl refl refl refl refl)), ((refl, record { rested = inl (omega arith); fits = sets-up (msg SlaveUp 11 Nothing) (omega arith) refl refl refl refl refl refl refl refl (omega (arith, ints)) (omega (arith, ints)) }), tt)),
-    (((refl, (refl, came refl refl refl refl refl)), ((refl, corrects-by (peer_of 0) (msg SetTime 11 (TimeBody (pos 305000004))) (omega arith) (omega arith) refl refl refl refl refl refl refl refl), ((refl, record { rested = inl (omega arith); fits = record { message = (msg SetTime 11 (TimeBody (pos 305000004))); took = refl; number_is = refl; answers = refl } }), tt))),
-    (((refl, (refl, came refl refl refl refl refl)), ((refl, acked-fits _ (msg SetTime 11 (TimeBody (pos 305000004))) (msg Ack 11 Nothing) (peer_of 2) _ _ refl refl refl refl refl refl), tt)),
-    (((refl, tt), ((refl, first-round refl), ((refl, record { rested = inl (omega arith); fits = record { word_is = refl; counter_is = refl } }), ((refl, record { rested = inl (omega arith); fits = record { word_is = refl; counter_is = refl } }), tt)))),
-    (((refl, (refl, came refl refl refl refl refl)), ((refl, record { rested = inl (omega arith); fits = record { took = refl; ticket_is = refl; reading_is = refl } }), tt)),
-    (((refl, (refl, came refl refl refl refl refl)), ((refl, record { rested = inl (omega arith); fits = record { took = refl; ticket_is = refl; reading_is = refl } }), tt)),
-    (((refl, (refl, came refl refl refl refl refl)), ((refl, samples-by reply1 refl (record { corrects = refl; lives = refl }) refl refl refl refl refl refl refl refl), tt)),
-    (((refl, (refl, came refl refl refl refl refl)), ((refl, samples-by reply2 refl (record { corrects = refl; lives = refl }) refl refl refl refl refl refl refl refl), tt)),
-    (((refl, tt), ((refl, closes-by refl refl refl refl refl (omega arith) (omega arith) (record { corrects = refl; lives = refl })), ((refl, record { gap = omega arith; rested = omega arith; why = ByRound (record { close = _; past = _; is = refl; count = 3; lo = negsuc 150; size = pos 151; deed = refl; untaken = refl; mean_is = mean19 }); flag = refl; prints = refl }), ((refl, record { rested = inl (omega arith); fits = adjusts-by (negsuc 83) (msg SetTime 9 (TimeBody (pos 305000001))) (omega arith) refl refl refl refl refl refl refl (omega arith) (record { corrects = refl; lives = refl }) refl refl refl (inr (record { next = _; place = inl refl; stepped = false; shown = pos 408000000; deed = refl })) refl refl refl refl refl }), ((refl, record { rested = inl (omega arith); fits = adjusts-by (negsuc 83) (msg SetTime 11 (TimeBody (pos 305000004))) (omega arith) refl refl refl refl refl refl refl (omega arith) (record { corrects = refl; lives = refl }) refl refl refl (inr (record { next = _; place = inr (inl refl); stepped = false; shown = pos 408000000; deed = refl })) refl refl refl refl refl }), tt))))),
-    (((refl, (refl, came refl refl refl refl refl)), ((refl, corrects-by (peer_of 0) (msg AdjTime 10 (TimeBody (pos 17))) (omega arith) (omega arith) refl refl refl refl refl refl refl refl), ((refl, record { rested = inl (omega arith); fits = record { message = (msg AdjTime 10 (TimeBody (pos 17))); took = refl; number_is = refl; answers = refl } }), tt))),
-    (((refl, (refl, came refl refl refl refl refl)), ((refl, corrects-by (peer_of 0) (msg AdjTime 12 (TimeBody (pos 67))) (omega arith) (omega arith) refl refl refl refl refl refl refl refl), ((refl, record { rested = inl (omega arith); fits = record { message = (msg AdjTime 12 (TimeBody (pos 67))); took = refl; number_is = refl; answers = refl } }), tt))),
-    (((refl, (refl, came refl refl refl refl refl)), ((refl, acked-fits _ (msg AdjTime 10 (TimeBody (pos 17))) (msg Ack 10 Nothing) (peer_of 1) _ _ refl refl refl refl refl refl), tt)),
-    (((refl, (refl, came refl refl refl refl refl)), ((refl, acked-fits _ (msg AdjTime 12 (TimeBody (pos 67))) (msg Ack 12 Nothing) (peer_of 2) _ _ refl refl refl refl refl refl), tt)), tt))))))))))))))))))
+unfolding group_from goes_before better
+fits = stages-fit false 18 usual_steps (lead 5) led refl (search debts)
 
 -- up to the first reply
 pub asked : Fits (still false) (usual 15)

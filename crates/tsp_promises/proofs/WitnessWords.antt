@@ -1,6 +1,6 @@
 -- Boots with one word: promises that hold all the same, and a measurement that goes wrong where datagrams live long.
 use Rattle.std.specs.Prelude.{ℕ, ◌≡◌, ◌≤ℤ◌, ◌-ℤ◌, nat_abs, false, pos, negsuc, List, [], ◌∷◌, refl}
-use Rattle.std.proofs.Common.{sym, arith, subst, inl, true≢false}
+use Rattle.std.proofs.Common.{sym, arith, subst}
 use Rattle.std.proofs.lemmas.Int.{ints}
 use Rattle.tsp_rules.specs.Values.{Boot, Post, Arm, Ring, Close, Correct, Sample, Round, CloseAlarm, Message, Stamp, AdjTime, TimeBody, Peer, Request, Reply}
 use Rattle.tsp_base.specs.Words.{Booted, Came, Turned, Line, dids, of, view, peer_of, posted}
@@ -9,10 +9,10 @@ use Rattle.tsp_promises.specs.Agreed.{FromRound}
 use Rattle.tsp_promises.specs.ClockAt.{clock}
 use Rattle.tsp_promises.specs.Measured.{Measured}
 use Rattle.tsp_promises.specs.SameWords.{MeasuresWrongly, SameWords}
+use Rattle.tsp_promises.proofs.Debts.{debts}
 use Rattle.tsp_promises.proofs.Histories.{line, msg, skip, skipped, step_at, still}
-use Rattle.tsp_promises.proofs.HistoriesFit.{all-finished, came}
+use Rattle.tsp_promises.proofs.HistoriesFit.{all-finished}
 use Rattle.tsp_promises.proofs.StepChecks.{port0}
-use Rattle.tsp_promises.proofs.WitnessDebts.{first-round, none-some, samples-by}
 use Rattle.tsp_promises.proofs.FromRoundBy.{from_round-by}
 use Rattle.tsp_promises.proofs.PremiseChecks.{honest-by, life-by}
 use Rattle.tsp_promises.proofs.SendPlaces.{post_unique, same-number}
@@ -73,12 +73,7 @@ abbrev pub reboot : ℕ → List Line
 reboot k = after k reboot_steps (usual 15)
 
 pub reboot-fits : Fits (still false) (reboot 5)
-reboot-fits = stages-fit false 5 reboot_steps (usual 15) part refl
-    (((7, refl), tt),
-    (((refl, tt), ((refl, tt), ((refl, record { rested = omega arith; holds = λ x q e. none-some (x, q) e }), tt))),
-    (((refl, tt), ((refl, record { rested = omega arith; quiet = λ x e. none-some x e; stands = refl; start = _; idle = _; start_is = refl; soon = omega arith; backs = refl; wins = λ e. absurd (true≢false (sym e)) }), tt)),
-    (((refl, tt), ((refl, first-round refl), ((refl, record { rested = inl (omega arith); fits = record { word_is = refl; counter_is = refl } }), tt))),
-    (((refl, (refl, came refl refl refl refl refl)), ((refl, samples-by reply1 refl (record { corrects = refl; lives = refl }) refl refl refl refl refl refl refl refl), tt)), tt)))))
+reboot-fits = stages-fit false 5 reboot_steps (usual 15) part refl (search debts)
 
 abbrev told : Line
 told = line (step_at 400000300 1 (Came 6)) port0 (Post (Peer (peer_of 0)) (Stamp (Reply reply1)))
