@@ -150,6 +150,7 @@ pub mod WitnessFromRounds
 pub mod WitnessChain
 pub mod WitnessDated
 pub mod WitnessDates
+pub mod WitnessEnded
 pub mod WitnessEstimates
 pub mod WitnessLead
 pub mod WitnessLife
