@@ -14,8 +14,8 @@ use Rattle.tsp_promises.proofs.FromRoundBy.{from_round-by}
 use Rattle.tsp_promises.proofs.Histories.{begins, does, line, msg, skip, skipped, step_at, still}
 use Rattle.tsp_promises.proofs.StepChecks.{port0}
 use Rattle.tsp_promises.proofs.WitnessFromRounds.{answers, closing, far-from_round, far-close, far-reading, first, first-from_round, near-from_round, near-close, near-correct, near-reading, second-from_round, sounds}
-use Rattle.tsp_promises.proofs.WitnessRelay.{g17, g19, g20, g23, g25, g26}
-use Rattle.tsp_promises.proofs.WitnessUse.{reply1, w15, w16, w17, w19, w20, w21}
+use Rattle.tsp_promises.proofs.WitnessRelay.{relay}
+use Rattle.tsp_promises.proofs.WitnessUse.{reply1, usual}
 
 abbrev reply : ℕ → Line
 reply n = does 10 n Turned (Post (Peer (peer_of 0)) (Stamp (Reply (record { ticket = 0; word = 0; counter = 0; reading = pos 10 }))))
@@ -71,7 +71,7 @@ abbrev misleads : MessageValue
 misleads = msg AdjTime 10 (TimeBody (pos 1000000))
 
 abbrev a1 : List Line
-a1 = does 408000000 0 Turned (Post (Peer (peer_of 1)) (Message misleads)) ∷ (does 408000000 0 Turned (Correct (negsuc 83) false (pos 408000000)) ∷ skip 3 w19)
+a1 = does 408000000 0 Turned (Post (Peer (peer_of 1)) (Message misleads)) ∷ (does 408000000 0 Turned (Correct (negsuc 83) false (pos 408000000)) ∷ skip 3 (usual 19))
 
 abbrev a2 : List Line
 a2 = does 408000400 1 (Came 10) (Took (Peer (peer_of 0)) (Good (Message misleads))) ∷ (begins 408000400 1 (Came 10) ∷ a1)
@@ -79,21 +79,21 @@ a2 = does 408000400 1 (Came 10) (Took (Peer (peer_of 0)) (Good (Message misleads
 abbrev obeys : Line
 obeys = does 408000400 1 (Came 10) (Correct (pos 1000000) false (pos 0))
 
-misled-from_round : FromRound 0 closing (skip 4 w19) obeys a2 sounds (skip 1 w15) (pos 401)
+misled-from_round : FromRound 0 closing (skip 4 (usual 19)) obeys a2 sounds (skip 1 (usual 15)) (pos 401)
 misled-from_round =
-    from_round-by 0 closing (skip 4 w19) obeys a2 sounds (skip 1 w15) (does 408000000 0 Turned (Post (Peer (peer_of 1)) (Message misleads))) (skip 1 a1) misleads (pos 1000000) false (pos 0)
-    (record { counter = 0; diff = negsuc 100; err = pos 401; ticket = 10; trip = pos 801; place = view port0 (of 0 w17) })
+    from_round-by 0 closing (skip 4 (usual 19)) obeys a2 sounds (skip 1 (usual 15)) (does 408000000 0 Turned (Post (Peer (peer_of 1)) (Message misleads))) (skip 1 a1) misleads (pos 1000000) false (pos 0)
+    (record { counter = 0; diff = negsuc 100; err = pos 401; ticket = 10; trip = pos 801; place = view port0 (of 0 (usual 17)) })
     (record { correct = refl; place = skipped 2 a2; cause = refl; deed = refl; took = refl; node = refl; kind = refl; numbered = refl; is = refl })
     (record { closes = skipped 4 a2; node = refl; port = refl; is = refl; best_is = refl })
-    (record { line = does 400000801 0 (Came 8) (Sample (peer_of 1) 0 (negsuc 100) (pos 401) 10); before = skip 1 w17; at = skipped 10 a2; node = refl; port = refl; is = refl; reads = skipped 5 (skip 1 w17); takes = refl; to = Peer (peer_of 0); datagram = Stamp (Reply reply1); deed = refl })
+    (record { line = does 400000801 0 (Came 8) (Sample (peer_of 1) 0 (negsuc 100) (pos 401) 10); before = skip 1 (usual 17); at = skipped 10 a2; node = refl; port = refl; is = refl; reads = skipped 5 (skip 1 (usual 17)); takes = refl; to = Peer (peer_of 0); datagram = Stamp (Reply reply1); deed = refl })
 
 misled : Breaks (Agreed (still false))
 misled = record {
   world = obeys ∷ a2;
   broken = λ h.
-      let k : pos 1000083 ≤ℤ pos 403 = (h.0.clocks (Correct (pos 1000000) false (pos 0)) refl).master 0 closing (skip 4 w19) obeys a2 sounds (skip 1 w15) (pos 401) misled-from_round
+      let k : pos 1000083 ≤ℤ pos 403 = (h.0.clocks (Correct (pos 1000000) false (pos 0)) refl).master 0 closing (skip 4 (usual 19)) obeys a2 sounds (skip 1 (usual 15)) (pos 401) misled-from_round
       (record { within = inl refl; since = record { corrects = refl; lives = refl } })
-      (record { lives = refl; corrects = inr (record { next = does 408000000 0 Turned (Correct (negsuc 83) false (pos 408000000)); before = skip 3 w19; is = refl; amount = negsuc 83; stepped = false; shown = pos 408000000; place = skipped 4 (obeys ∷ a2); node = refl; deed = refl; corrects = refl }) }) in
+      (record { lives = refl; corrects = inr (record { next = does 408000000 0 Turned (Correct (negsuc 83) false (pos 408000000)); before = skip 3 (usual 19); is = refl; amount = negsuc 83; stepped = false; shown = pos 408000000; place = skipped 4 (obeys ∷ a2); node = refl; deed = refl; corrects = refl }) }) in
       omega (arith, ints);
 }
 
@@ -102,18 +102,18 @@ abbrev pub strays : Bool → Line
 strays stepped = line (step_at 408000500 2 (Came 11)) port0 (Correct (pos 5000000) stepped (pos 0))
 
 abbrev pub stray : Bool → List Line
-stray stepped = strays stepped ∷ skip 2 w21
+stray stepped = strays stepped ∷ skip 2 (usual 21)
 
 -- the master made no Correct but the one right after its Close
-pub left_alone : (stepped : Bool) → UnchangedBut 0 closing (skip 4 w19) (stray stepped)
+pub left_alone : (stepped : Bool) → UnchangedBut 0 closing (skip 4 (usual 19)) (stray stepped)
 left_alone stepped = record {
   lives = refl;
-  corrects = inr (record { next = does 408000000 0 Turned (Correct (negsuc 83) false (pos 408000000)); before = skip 3 w19; is = refl; amount = negsuc 83; stepped = false; shown = pos 408000000; place = skipped 9 (stray stepped); node = refl; deed = refl; corrects = refl });
+  corrects = inr (record { next = does 408000000 0 Turned (Correct (negsuc 83) false (pos 408000000)); before = skip 3 (usual 19); is = refl; amount = negsuc 83; stepped = false; shown = pos 408000000; place = skipped 9 (stray stepped); node = refl; deed = refl; corrects = refl });
 }
 
 far-apart : MasterAgrees (still false) (stray false) 408000500 → ⊥
 far-apart m =
-    let k : pos 5000083 ≤ℤ pos 452 = m 0 closing (skip 4 w19) (strays false) (skip 2 w21) answers (skip 1 w16) (pos 450) (second-from_round (pos 5000000) false (pos 0)) (record { within = inl refl; since = record { corrects = refl; lives = refl } }) (left_alone false) in
+    let k : pos 5000083 ≤ℤ pos 452 = m 0 closing (skip 4 (usual 19)) (strays false) (skip 2 (usual 21)) answers (skip 1 (usual 16)) (pos 450) (second-from_round (pos 5000000) false (pos 0)) (record { within = inl refl; since = record { corrects = refl; lives = refl } }) (left_alone false) in
     omega (arith, ints)
 
 agreed : Breaks (Agreed (still false))
@@ -123,7 +123,7 @@ peers : Breaks (Agreed (still false))
 peers = record {
   world = stray false;
   broken = λ h.
-      let k : pos 4999983 ≤ℤ pos 855 = (h.0.clocks (Correct (pos 5000000) false (pos 0)) refl).peers 0 closing (skip 4 w19) (strays false) first (skip 2 w21) (skip 2 w20) answers sounds (skip 1 w16) (skip 1 w15) (pos 450) (pos 401)
+      let k : pos 4999983 ≤ℤ pos 855 = (h.0.clocks (Correct (pos 5000000) false (pos 0)) refl).peers 0 closing (skip 4 (usual 19)) (strays false) first (skip 2 (usual 21)) (skip 2 (usual 20)) answers sounds (skip 1 (usual 16)) (skip 1 (usual 15)) (pos 450) (pos 401)
       (second-from_round (pos 5000000) false (pos 0)) first-from_round (record { within = inl refl; since = record { corrects = refl; lives = refl } }) (record { within = skipped 4 (stray false); since = record { corrects = refl; lives = refl } }) in
       omega (arith, ints);
 }
@@ -150,15 +150,15 @@ abbrev pub relays_wrong : Line
 relays_wrong = line (step_at 508000400 3 (Came 12)) port0 (Correct (pos 5000000) false (pos 0))
 
 abbrev pub wrong : List Line
-wrong = relays_wrong ∷ skip 2 g26
+wrong = relays_wrong ∷ skip 2 (relay 26)
 
 relayed : Breaks (Relayed (still false))
 relayed = record {
   world = wrong;
   broken = λ h.
-      let k : pos 5000049 ≤ℤ pos 806 = h.0 508000400 (omega arith) 1 0 far-close near-close (skip 2 g25) (skip 3 g19) relays_wrong near-correct (skip 2 g26) (skip 2 g20) far-reading near-reading (skip 1 g23) (skip 1 g17) (pos 401) (pos 401)
-      (far-from_round (pos 5000000) false (pos 0)) near-from_round refl (skipped 16 (skip 2 g25)) (record { within = inl refl; since = record { corrects = refl; lives = refl } }) (record { within = skipped 21 wrong; since = record { corrects = refl; lives = refl } })
-      (record { lives = refl; corrects = inr (record { next = does 408000000 0 Turned (Correct (negsuc 50) false (pos 408000000)); before = skip 2 g19; is = refl; amount = negsuc 50; stepped = false; shown = pos 408000000; place = skipped 25 wrong; node = refl; deed = refl; corrects = refl }) }) in
+      let k : pos 5000049 ≤ℤ pos 806 = h.0 508000400 (omega arith) 1 0 far-close near-close (skip 2 (relay 25)) (skip 3 (relay 19)) relays_wrong near-correct (skip 2 (relay 26)) (skip 2 (relay 20)) far-reading near-reading (skip 1 (relay 23)) (skip 1 (relay 17)) (pos 401) (pos 401)
+      (far-from_round (pos 5000000) false (pos 0)) near-from_round refl (skipped 16 (skip 2 (relay 25))) (record { within = inl refl; since = record { corrects = refl; lives = refl } }) (record { within = skipped 21 wrong; since = record { corrects = refl; lives = refl } })
+      (record { lives = refl; corrects = inr (record { next = does 408000000 0 Turned (Correct (negsuc 50) false (pos 408000000)); before = skip 2 (relay 19); is = refl; amount = negsuc 50; stepped = false; shown = pos 408000000; place = skipped 25 wrong; node = refl; deed = refl; corrects = refl }) }) in
       omega (arith, ints);
 }
 

@@ -12,7 +12,7 @@ use Rattle.tsp_promises.proofs.BrokenClocks.{left_alone, stray, strays}
 use Rattle.tsp_promises.proofs.Histories.{does, skip, still}
 use Rattle.tsp_promises.proofs.ReadingChecks.{read-by, read_at-by, unstepped-by}
 use Rattle.tsp_promises.proofs.WitnessFromRounds.{answers, closing, second-from_round}
-use Rattle.tsp_promises.proofs.WitnessUse.{w16, w19, w21}
+use Rattle.tsp_promises.proofs.WitnessUse.{usual}
 
 -- a Correct that is slewed, and later ones of 0 at a late tick and back at the first
 abbrev again : ℤ → List Line
@@ -36,7 +36,7 @@ agreed_shown : Breaks (AgreedShown (still false))
 agreed_shown = record {
   world = stray true;
   broken = λ h.
-      let k : pos 5000001 ≤ℤ pos 534 = (h.0 408000500 (omega arith)).master 0 closing (skip 4 w19) (strays true) (skip 2 w21) answers (skip 1 w16) (pos 450) (second-from_round (pos 5000000) true (pos 0))
+      let k : pos 5000001 ≤ℤ pos 534 = (h.0 408000500 (omega arith)).master 0 closing (skip 4 (usual 19)) (strays true) (skip 2 (usual 21)) answers (skip 1 (usual 16)) (pos 450) (second-from_round (pos 5000000) true (pos 0))
       (record { within = inl refl; since = record { corrects = refl; lives = refl } }) (left_alone true) in
       omega (arith, ints);
 }

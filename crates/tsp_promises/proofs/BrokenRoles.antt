@@ -11,7 +11,7 @@ use Rattle.tsp_promises.specs.Silent.{Silent}
 use Rattle.tsp_promises.specs.Broken.{Breaks, RolesBreak}
 use Rattle.tsp_promises.proofs.Histories.{begins, does, line, msg, step_at, still}
 use Rattle.tsp_promises.proofs.StepChecks.{port0, port1}
-use Rattle.tsp_promises.proofs.WitnessDebts.{not-same}
+use Rattle.tsp_promises.proofs.Debts.{not-same}
 
 one-two : peer_of 1 ≡ peer_of 2 → ⊥
 one-two e = not-same 1 2 (omega arith) (ap (λ (p : PeerId). p.0) e)

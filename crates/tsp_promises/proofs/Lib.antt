@@ -37,6 +37,7 @@ pub mod Correcting
 pub mod CorrectionLeads
 pub mod DateAt
 pub mod DateLeads
+pub mod Debts
 pub mod ElectionFacts
 mod Elections
 pub mod Elsewheres
@@ -127,6 +128,7 @@ pub mod SourceProof
 pub mod SpacedProof
 pub mod SteadyLemmas
 pub mod SteadyProof
+pub mod Stages
 pub mod StepChecks
 pub mod StepProof
 pub mod Stirring
@@ -148,7 +150,7 @@ pub mod WitnessFromRounds
 pub mod WitnessChain
 pub mod WitnessDated
 pub mod WitnessDates
-pub mod WitnessDebts
+pub mod WitnessEnded
 pub mod WitnessEstimates
 pub mod WitnessLead
 pub mod WitnessLife

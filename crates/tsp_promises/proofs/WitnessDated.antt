@@ -5,17 +5,17 @@ use Rattle.tsp_base.specs.Words.{Came, peer_of}
 use Rattle.tsp_promises.specs.DatedUse.{DatedUse}
 use Rattle.tsp_promises.proofs.Histories.{does, msg, skip, skipped, still}
 use Rattle.tsp_promises.proofs.PremiseChecks.{few-by, kept-by}
-use Rattle.tsp_promises.proofs.WitnessDates.{d8, d9, dates}
+use Rattle.tsp_promises.proofs.WitnessDates.{dates, passing}
 
 pub dated_use : DatedUse
 dated_use = record {
   setting = still false;
-  world = d9;
-  kept = kept-by false d9 dates refl refl refl refl;
-  few = few-by d9 refl;
+  world = passing 9;
+  kept = kept-by false (passing 9) dates refl refl refl refl;
+  few = few-by (passing 9) refl;
   correct = does 310000001 0 (Came 1) (Correct (pos 289999999) true (pos 600000000));
-  past = skip 2 d8;
-  place = skipped 4 d9;
+  past = skip 2 (passing 8);
+  place = skipped 4 (passing 9);
   amount = pos 289999999;
   stepped = true;
   shown = pos 600000000;
@@ -25,9 +25,9 @@ dated_use = record {
   took = refl;
   sets = refl;
   acked = does 310000002 1 (Came 2) (Acked (peer_of 0));
-  before = skip 1 d9;
-  later = skipped 0 d9;
-  after = skipped 3 (skip 1 d9);
+  before = skip 1 (passing 9);
+  later = skipped 0 (passing 9);
+  after = skipped 3 (skip 1 (passing 9));
   peer = peer_of 0;
   ends = refl;
   first = _;

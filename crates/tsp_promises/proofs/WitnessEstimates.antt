@@ -10,8 +10,8 @@ use Rattle.tsp_promises.proofs.Histories.{does, msg, skip, skipped, still}
 use Rattle.tsp_promises.proofs.PremiseChecks.{kept-by}
 use Rattle.tsp_promises.proofs.StepChecks.{port0}
 use Rattle.tsp_promises.proofs.WitnessFromRounds.{answers, closing, sounds}
-use Rattle.tsp_promises.proofs.WitnessDebts.{not-same}
-use Rattle.tsp_promises.proofs.WitnessUse.{reply1, reply2, w15, w16, w17, w18, w19, w23, fits}
+use Rattle.tsp_promises.proofs.WitnessUse.{reply1, reply2, fits, usual}
+use Rattle.tsp_promises.proofs.Debts.{not-same}
 
 -- the round's first ADJTIME
 abbrev pub adjusts : Line
@@ -43,10 +43,10 @@ abbrev pub sample2 : List Line → Sampled
 sample2 at = record { counter = 1; diff = negsuc 150; err = pos 450; ticket = 12; trip = pos 900; place = view port0 (of 0 at) }
 
 -- its estimate of node 1
-pub estimate1 : (h : List Line) → Undisturbed (dids (of 1 (sounds ∷ skip 1 w15))) (dids (of 1 h)) → Estimate 0 1 closing (skip 4 w19) (sample1 (negsuc 100) w17) sounds (skip 1 w15) h
+pub estimate1 : (h : List Line) → Undisturbed (dids (of 1 (sounds ∷ skip 1 (usual 15)))) (dids (of 1 h)) → Estimate 0 1 closing (skip 4 (usual 19)) (sample1 (negsuc 100) (usual 17)) sounds (skip 1 (usual 15)) h
 estimate1 h left = record {
   best_is = refl;
-  reading = record { line = does 400000801 0 (Came 8) (Sample (peer_of 1) 0 (negsuc 100) (pos 401) 10); before = skip 1 w17; at = skipped 5 (skip 4 w19); node = refl; port = refl; is = refl; reads = skipped 5 (skip 1 w17); takes = refl; to = Peer (peer_of 0); datagram = Stamp (Reply reply1); deed = refl };
+  reading = record { line = does 400000801 0 (Came 8) (Sample (peer_of 1) 0 (negsuc 100) (pos 401) 10); before = skip 1 (usual 17); at = skipped 5 (skip 4 (usual 19)); node = refl; port = refl; is = refl; reads = skipped 5 (skip 1 (usual 17)); takes = refl; to = Peer (peer_of 0); datagram = Stamp (Reply reply1); deed = refl };
   unchanged = left;
 }
 
@@ -54,34 +54,34 @@ estimate1 h left = record {
 pub estimates_use : EstimatesUse
 estimates_use = record {
   setting = still false;
-  world = w23;
-  kept = kept-by false w23 fits refl refl refl refl;
+  world = usual 23;
+  kept = kept-by false (usual 23) fits refl refl refl refl;
   master = 0;
   one = 1;
   other = 2;
   apart = not-same 1 2 (omega arith);
   close = closing;
-  cpast = skip 4 w19;
+  cpast = skip 4 (usual 19);
   mean = negsuc 83;
   first = adjusts;
-  begun = skip 2 w19;
-  first_in = skipped 15 w23;
-  begins = begins-at (skip 4 w19) (skip 2 w19) (skipped 1 (skip 2 w19)) refl refl;
-  x = sample1 (negsuc 100) w17;
+  begun = skip 2 (usual 19);
+  first_in = skipped 15 (usual 23);
+  begins = begins-at (skip 4 (usual 19)) (skip 2 (usual 19)) (skipped 1 (skip 2 (usual 19))) refl refl;
+  x = sample1 (negsuc 100) (usual 17);
   reading = sounds;
-  older = skip 1 w15;
-  estimate = estimate1 (skip 4 w19) (record { corrects = refl; lives = refl });
-  y = sample2 w18;
+  older = skip 1 (usual 15);
+  estimate = estimate1 (skip 4 (usual 19)) (record { corrects = refl; lives = refl });
+  y = sample2 (usual 18);
   reading_other = answers;
-  older_other = skip 1 w16;
+  older_other = skip 1 (usual 16);
   estimate_other = record {
     best_is = refl;
-    reading = record { line = does 400000900 0 (Came 9) (Sample (peer_of 2) 1 (negsuc 150) (pos 450) 12); before = skip 1 w18; at = skipped 2 (skip 4 w19); node = refl; port = refl; is = refl; reads = skipped 5 (skip 1 w18); takes = refl; to = Peer (peer_of 0); datagram = Stamp (Reply reply2); deed = refl };
+    reading = record { line = does 400000900 0 (Came 9) (Sample (peer_of 2) 1 (negsuc 150) (pos 450) 12); before = skip 1 (usual 18); at = skipped 2 (skip 4 (usual 19)); node = refl; port = refl; is = refl; reads = skipped 5 (skip 1 (usual 18)); takes = refl; to = Peer (peer_of 0); datagram = Stamp (Reply reply2); deed = refl };
     unchanged = record { corrects = refl; lives = refl };
   };
-  here = w19;
-  here_in = skipped 14 w23;
-  first_here = skipped 1 w19;
-  still = estimate1 w19 (record { corrects = refl; lives = refl });
-  left_alone = record { lives = refl; corrects = inr (record { next = does 408000000 0 Turned (Correct (negsuc 83) false (pos 408000000)); before = skip 3 w19; is = refl; amount = negsuc 83; stepped = false; shown = pos 408000000; place = skipped 2 w19; node = refl; deed = refl; corrects = refl }) };
+  here = usual 19;
+  here_in = skipped 14 (usual 23);
+  first_here = skipped 1 (usual 19);
+  still = estimate1 (usual 19) (record { corrects = refl; lives = refl });
+  left_alone = record { lives = refl; corrects = inr (record { next = does 408000000 0 Turned (Correct (negsuc 83) false (pos 408000000)); before = skip 3 (usual 19); is = refl; amount = negsuc 83; stepped = false; shown = pos 408000000; place = skipped 2 (usual 19); node = refl; deed = refl; corrects = refl }) };
 }

@@ -7,7 +7,7 @@ use Rattle.tsp_promises.specs.Setting.{Setting}
 use Rattle.tsp_base.proofs.PlaceLemmas.{Within-all}
 use Rattle.tsp_promises.proofs.Histories.{in-own, members_of, net_of, nets-apart, skip, skipped, still}
 use Rattle.tsp_promises.proofs.PremiseChecks.{kept-by}
-use Rattle.tsp_promises.proofs.WitnessUse.{fits, w20, w23}
+use Rattle.tsp_promises.proofs.WitnessUse.{fits, usual}
 
 -- node 0 gains 100 parts in a million, and all others lose as much
 abbrev rate_of : ℕ → ℤ
@@ -69,16 +69,16 @@ looks_use = record {
 pub looks_need_rest : LooksNeedRest
 looks_need_rest = record {
   setting = still false;
-  world = w23;
-  kept = kept-by false w23 fits refl refl refl refl;
+  world = usual 23;
+  kept = kept-by false (usual 23) fits refl refl refl refl;
   k = 1;
   m = 0;
   read = 408000000;
   t = 409000000;
   later = omega arith;
-  before = skip 2 w20;
-  before_in = skipped 12 w23;
-  other = record { within = skipped 12 w23; since = record { corrects = refl; lives = refl } };
+  before = skip 2 (usual 20);
+  before_in = skipped 12 (usual 23);
+  other = record { within = skipped 12 (usual 23); since = record { corrects = refl; lives = refl } };
   same_life = refl;
   less = omega arith;
 }

@@ -1,122 +1,50 @@
 -- A round in which the reply of one peer makes it seem a second off: it moves nobody else by much.
-use Rattle.std.specs.Prelude.{◌≡◌, nat_le, true, false, ℤ, pos, negsuc, nat_abs, Bool, List, [], ◌∷◌, length, refl}
+use Rattle.std.specs.Prelude.{ℕ, ◌≡◌, nat_le, true, false, ℤ, pos, negsuc, nat_abs, Bool, List, [], ◌∷◌, length, refl}
 use Rattle.std.specs.List.{Contains, count_by}
-use Rattle.std.proofs.Common.{arith, inl, inr}
+use Rattle.std.proofs.Common.{arith, inl}
 use Rattle.std.proofs.lemmas.Bool.{leb-true}
 use Rattle.std.proofs.lemmas.Int.{ints}
-use Rattle.tsp_rules.specs.Values.{Took, Post, Ring, Close, Correct, Sample, Acked, Placed, CloseAlarm, Message, Stamp, Good, Ack, AdjTime, SetTime, Nothing, TimeBody, Peer, Request, Reply, SPAN}
+use Rattle.tsp_rules.specs.Values.{Post, Ring, Close, Correct, Sample, CloseAlarm, Message, Stamp, AdjTime, TimeBody, Peer, Reply, SPAN}
 use Rattle.tsp_base.specs.Words.{Came, Turned, Line, of, view, Sampled, ReplyValue, peer_of}
 use Rattle.tsp_group.specs.Groups.{Agree, better, goes_before, group_from}
 use Rattle.tsp_promises.specs.Agreed.{FromRound}
-use Rattle.tsp_promises.specs.CorrectFits.{ByRound}
 use Rattle.tsp_promises.specs.Estimates.{CloseBegins, Moves}
 use Rattle.tsp_promises.specs.Fits.{Fits}
 use Rattle.tsp_promises.specs.Moderate.{Agrees, Majority, PeerAgrees, estimates_of}
 use Rattle.tsp_promises.specs.ModerateUse.{ModerateUse}
-use Rattle.tsp_promises.specs.RoundFits.{group_mean}
-use Rattle.tsp_promises.specs.Setting.{setup_of}
+use Rattle.tsp_promises.proofs.Debts.{debts}
 use Rattle.tsp_promises.proofs.FromRoundBy.{from_round-by}
 use Rattle.tsp_promises.proofs.FromRoundProof.{taking_of}
-use Rattle.tsp_promises.proofs.Histories.{line, msg, on, skip, skipped, step_at, still, then_step}
-use Rattle.tsp_promises.proofs.HistoriesFit.{came, step-fits}
+use Rattle.tsp_promises.proofs.Histories.{line, msg, skip, skipped, step_at, still}
 use Rattle.tsp_promises.proofs.PremiseChecks.{kept-by}
+use Rattle.tsp_promises.proofs.Stages.{Stage, after, at, stages-fit, turns, obeys, acked, replies, samples}
 use Rattle.tsp_promises.proofs.StepChecks.{port0}
 use Rattle.tsp_promises.proofs.WitnessFromRounds.{sounds}
-use Rattle.tsp_promises.proofs.WitnessDebts.{acked-fits, adjusts-by, closes-by, corrects-by, samples-by}
-use Rattle.tsp_promises.proofs.WitnessUse.{asked, reply1, w15}
+use Rattle.tsp_promises.proofs.WitnessUse.{asked, reply1, usual}
 
 -- the request took two seconds, the reply a microsecond
 abbrev pub late : ReplyValue
 late = record { ticket = 12; word = 7; counter = 1; reading = pos 401999999 }
 
-abbrev pub an1 : List Placed
-an1 = on port0 (Took (Peer (peer_of 1)) (Good (Stamp (Reply reply1)))) ∷ (on port0 (Sample (peer_of 1) 0 (negsuc 100) (pos 401) 10) ∷ [])
+abbrev outlier_steps : List Stage
+outlier_steps =
+    samples (at 400000801 0 0) 8 1 reply1 (negsuc 100) (pos 401) ∷
+    replies (at 402000000 2 0) 7 0 late ∷
+    samples (at 402000001 0 0) 9 2 late (pos 999999) (pos 1000001) ∷
+    turns (at 408000000 0 0) (Ring CloseAlarm ∷ Close 2 (negsuc 100) (pos 101) (negsuc 50) ∷ Correct (negsuc 50) false (pos 408000000) ∷ Post (Peer (peer_of 1)) (Message (msg AdjTime 10 (TimeBody (pos 50)))) ∷ Post (Peer (peer_of 2)) (Message (msg AdjTime 12 (TimeBody (negsuc 1000049)))) ∷ []) ∷
+    obeys (at 408000400 1 0) 10 0 (msg AdjTime 10 (TimeBody (pos 50))) (pos 50) false (pos 408000399) ∷
+    obeys (at 408000500 2 0) 11 0 (msg AdjTime 12 (TimeBody (negsuc 1000049))) (negsuc 1000049) false (pos 408000499) ∷
+    acked (at 408000700 0 0) 12 1 10 ∷
+    acked (at 408000800 0 0) 13 2 12 ∷
+    []
 
-abbrev pub n1 : List Line
-n1 = then_step (step_at 400000801 0 (Came 8)) an1 w15
+-- the history after so many steps
+abbrev pub outlier : ℕ → List Line
+outlier k = after k outlier_steps (usual 15)
 
-fn1 : Fits (still false) n1
-fn1 = step-fits false (step_at 400000801 0 (Came 8)) an1 w15 asked refl ((refl, (refl, came refl refl refl refl refl)), ((refl, samples-by reply1 refl (record { corrects = refl; lives = refl }) refl refl refl refl refl refl refl refl), tt))
-
-abbrev pub an2 : List Placed
-an2 = on port0 (Took (Peer (peer_of 0)) (Good (Stamp (Request 7 1)))) ∷ (on port0 (Post (Peer (peer_of 0)) (Stamp (Reply late))) ∷ [])
-
-abbrev pub n2 : List Line
-n2 = then_step (step_at 402000000 2 (Came 7)) an2 n1
-
-fn2 : Fits (still false) n2
-fn2 = step-fits false (step_at 402000000 2 (Came 7)) an2 n1 fn1 refl ((refl, (refl, came refl refl refl refl refl)), ((refl, record { rested = inl (omega arith); fits = record { took = refl; ticket_is = refl; reading_is = refl } }), tt))
-
-abbrev pub an3 : List Placed
-an3 = on port0 (Took (Peer (peer_of 2)) (Good (Stamp (Reply late)))) ∷ (on port0 (Sample (peer_of 2) 1 (pos 999999) (pos 1000001) 12) ∷ [])
-
-abbrev pub n3 : List Line
-n3 = then_step (step_at 402000001 0 (Came 9)) an3 n2
-
-fn3 : Fits (still false) n3
-fn3 = step-fits false (step_at 402000001 0 (Came 9)) an3 n2 fn2 refl ((refl, (refl, came refl refl refl refl refl)), ((refl, samples-by late refl (record { corrects = refl; lives = refl }) refl refl refl refl refl refl refl refl), tt))
-
-abbrev pub an4 : List Placed
-an4 = on port0 (Ring CloseAlarm) ∷ (on port0 (Close 2 (negsuc 100) (pos 101) (negsuc 50)) ∷ (on port0 (Correct (negsuc 50) false (pos 408000000)) ∷ (on port0 (Post (Peer (peer_of 1)) (Message (msg AdjTime 10 (TimeBody (pos 50))))) ∷ (on port0 (Post (Peer (peer_of 2)) (Message (msg AdjTime 12 (TimeBody (negsuc 1000049))))) ∷ []))))
-
-abbrev pub n4 : List Line
-n4 = then_step (step_at 408000000 0 Turned) an4 n3
-
--- the mean that its Close finds
-mean4 : negsuc 50 ≡ group_mean (setup_of (still false) 0 port0) (view port0 (of 0 (skip 4 n4)))
+pub outlier-fits : Fits (still false) (outlier 8)
 unfolding group_from goes_before better
-mean4 = refl
-
-fn4 : Fits (still false) n4
-fn4 = step-fits false (step_at 408000000 0 Turned) an4 n3 fn3 refl (
-  (refl, tt),
-  (
-    (refl, closes-by refl refl refl refl refl (omega arith) (omega arith) (record { corrects = refl; lives = refl })),
-    (
-      (refl, record { gap = omega arith; rested = omega arith; why = ByRound (record { close = _; past = _; is = refl; count = 2; lo = negsuc 100; size = pos 101; deed = refl; untaken = refl; mean_is = mean4 }); flag = refl; prints = refl }),
-      (
-        (refl, record { rested = inl (omega arith); fits = adjusts-by (negsuc 50) (msg SetTime 9 (TimeBody (pos 305000001))) (omega arith) refl refl refl refl refl refl refl (omega arith) (record { corrects = refl; lives = refl }) refl refl refl (inr (record { next = _; place = inl refl; stepped = false; shown = pos 408000000; deed = refl })) refl refl refl refl refl }),
-        ((refl, record { rested = inl (omega arith); fits = adjusts-by (negsuc 50) (msg SetTime 11 (TimeBody (pos 305000004))) (omega arith) refl refl refl refl refl refl refl (omega arith) (record { corrects = refl; lives = refl }) refl refl refl (inr (record { next = _; place = inr (inl refl); stepped = false; shown = pos 408000000; deed = refl })) refl refl refl refl refl }), tt),
-      ),
-    ),
-  ),
-)
-
-abbrev pub an5 : List Placed
-an5 = on port0 (Took (Peer (peer_of 0)) (Good (Message (msg AdjTime 10 (TimeBody (pos 50)))))) ∷ (on port0 (Correct (pos 50) false (pos 408000399)) ∷ (on port0 (Post (Peer (peer_of 0)) (Message (msg Ack 10 Nothing))) ∷ []))
-
-abbrev pub n5 : List Line
-n5 = then_step (step_at 408000400 1 (Came 10)) an5 n4
-
-fn5 : Fits (still false) n5
-fn5 = step-fits false (step_at 408000400 1 (Came 10)) an5 n4 fn4 refl ((refl, (refl, came refl refl refl refl refl)), ((refl, corrects-by (peer_of 0) (msg AdjTime 10 (TimeBody (pos 50))) (omega arith) (omega arith) refl refl refl refl refl refl refl refl), ((refl, record { rested = inl (omega arith); fits = record { message = (msg AdjTime 10 (TimeBody (pos 50))); took = refl; number_is = refl; answers = refl } }), tt)))
-
-abbrev pub an6 : List Placed
-an6 = on port0 (Took (Peer (peer_of 0)) (Good (Message (msg AdjTime 12 (TimeBody (negsuc 1000049)))))) ∷ (on port0 (Correct (negsuc 1000049) false (pos 408000499)) ∷ (on port0 (Post (Peer (peer_of 0)) (Message (msg Ack 12 Nothing))) ∷ []))
-
-abbrev pub n6 : List Line
-n6 = then_step (step_at 408000500 2 (Came 11)) an6 n5
-
-fn6 : Fits (still false) n6
-fn6 = step-fits false (step_at 408000500 2 (Came 11)) an6 n5 fn5 refl ((refl, (refl, came refl refl refl refl refl)), ((refl, corrects-by (peer_of 0) (msg AdjTime 12 (TimeBody (negsuc 1000049))) (omega arith) (omega arith) refl refl refl refl refl refl refl refl), ((refl, record { rested = inl (omega arith); fits = record { message = (msg AdjTime 12 (TimeBody (negsuc 1000049))); took = refl; number_is = refl; answers = refl } }), tt)))
-
-abbrev pub an7 : List Placed
-an7 = on port0 (Took (Peer (peer_of 1)) (Good (Message (msg Ack 10 Nothing)))) ∷ (on port0 (Acked (peer_of 1)) ∷ [])
-
-abbrev pub n7 : List Line
-n7 = then_step (step_at 408000700 0 (Came 12)) an7 n6
-
-fn7 : Fits (still false) n7
-fn7 = step-fits false (step_at 408000700 0 (Came 12)) an7 n6 fn6 refl ((refl, (refl, came refl refl refl refl refl)), ((refl, acked-fits _ (msg AdjTime 10 (TimeBody (pos 50))) (msg Ack 10 Nothing) (peer_of 1) _ _ refl refl refl refl refl refl), tt))
-
-abbrev pub an8 : List Placed
-an8 = on port0 (Took (Peer (peer_of 2)) (Good (Message (msg Ack 12 Nothing)))) ∷ (on port0 (Acked (peer_of 2)) ∷ [])
-
-abbrev pub n8 : List Line
-n8 = then_step (step_at 408000800 0 (Came 13)) an8 n7
-
-fn8 : Fits (still false) n8
-fn8 = step-fits false (step_at 408000800 0 (Came 13)) an8 n7 fn7 refl ((refl, (refl, came refl refl refl refl refl)), ((refl, acked-fits _ (msg AdjTime 12 (TimeBody (negsuc 1000049))) (msg Ack 12 Nothing) (peer_of 2) _ _ refl refl refl refl refl refl), tt))
+outlier-fits = stages-fit false 8 outlier_steps (usual 15) asked refl (search debts)
 
 -- its Close, with this mean
 abbrev pub shut-by : ℤ → Line
@@ -135,7 +63,7 @@ abbrev pub tells-near : Line
 tells-near = line (step_at 408000000 0 Turned) port0 (Post (Peer (peer_of 1)) (Message (msg AdjTime 10 (TimeBody (pos 50)))))
 
 abbrev pub near-sample : Sampled
-near-sample = record { counter = 0; diff = negsuc 100; err = pos 401; ticket = 10; trip = pos 801; place = view port0 (of 0 n1) }
+near-sample = record { counter = 0; diff = negsuc 100; err = pos 401; ticket = 10; trip = pos 801; place = view port0 (of 0 (outlier 1)) }
 
 -- whether a value is within a millisecond
 abbrev pub is_small : ℤ → Bool
@@ -148,32 +76,32 @@ two-of-three : (xs : List ℤ) → length xs ≡ 3 → count_by is_small xs ≡ 
 two-of-three xs all two = record { more = omega (arith, all, two); agrees = small-agree xs }
 
 -- a small value of the round's estimates is one of the majority
-pub small-agrees : (mean value : ℤ) → Contains (estimates_of (still false) 0 port0 (skip 4 n4)) value → is_small value ≡ true → Agrees (still false) 0 (shut-by mean) (skip 4 n4) value
-small-agrees mean value among small = record { test = is_small; majority = two-of-three (estimates_of (still false) 0 port0 (skip 4 n4)) refl refl; among = among; passes = small }
+pub small-agrees : (mean value : ℤ) → Contains (estimates_of (still false) 0 port0 (skip 4 (outlier 4))) value → is_small value ≡ true → Agrees (still false) 0 (shut-by mean) (skip 4 (outlier 4)) value
+small-agrees mean value among small = record { test = is_small; majority = two-of-three (estimates_of (still false) 0 port0 (skip 4 (outlier 4))) refl refl; among = among; passes = small }
 
-abbrev pub near-from_round : (stepped : Bool) (shown : ℤ) → FromRound 0 shuts (skip 4 n4) (line (step_at 408000400 1 (Came 10)) port0 (Correct (pos 50) stepped shown)) (skip 2 n5) sounds (skip 1 w15) (pos 401)
+abbrev pub near-from_round : (stepped : Bool) (shown : ℤ) → FromRound 0 shuts (skip 4 (outlier 4)) (line (step_at 408000400 1 (Came 10)) port0 (Correct (pos 50) stepped shown)) (skip 2 (outlier 5)) sounds (skip 1 (usual 15)) (pos 401)
 near-from_round stepped shown =
-    from_round-by 0 shuts (skip 4 n4) (line (step_at 408000400 1 (Came 10)) port0 (Correct (pos 50) stepped shown)) (skip 2 n5) sounds (skip 1 w15) tells-near (skip 2 n4) (msg AdjTime 10 (TimeBody (pos 50))) (pos 50) stepped shown
+    from_round-by 0 shuts (skip 4 (outlier 4)) (line (step_at 408000400 1 (Came 10)) port0 (Correct (pos 50) stepped shown)) (skip 2 (outlier 5)) sounds (skip 1 (usual 15)) tells-near (skip 2 (outlier 4)) (msg AdjTime 10 (TimeBody (pos 50))) (pos 50) stepped shown
     near-sample
-    (record { correct = refl; place = skipped 3 (skip 2 n5); cause = refl; deed = refl; took = refl; node = refl; kind = refl; numbered = refl; is = refl })
-    (record { closes = skipped 5 (skip 2 n5); node = refl; port = refl; is = refl; best_is = refl })
-    (record { line = line (step_at 400000801 0 (Came 8)) port0 (Sample (peer_of 1) 0 (negsuc 100) (pos 401) 10); before = skip 1 n1; at = skipped 14 (skip 2 n5); node = refl; port = refl; is = refl; reads = skipped 2 (skip 1 n1); takes = refl; to = Peer (peer_of 0); datagram = Stamp (Reply reply1); deed = refl })
+    (record { correct = refl; place = skipped 3 (skip 2 (outlier 5)); cause = refl; deed = refl; took = refl; node = refl; kind = refl; numbered = refl; is = refl })
+    (record { closes = skipped 5 (skip 2 (outlier 5)); node = refl; port = refl; is = refl; best_is = refl })
+    (record { line = line (step_at 400000801 0 (Came 8)) port0 (Sample (peer_of 1) 0 (negsuc 100) (pos 401) 10); before = skip 1 (outlier 1); at = skipped 14 (skip 2 (outlier 5)); node = refl; port = refl; is = refl; reads = skipped 2 (skip 1 (outlier 1)); takes = refl; to = Peer (peer_of 0); datagram = Stamp (Reply reply1); deed = refl })
 
 -- the master's own estimate, and that of the peer
-pub own-agrees : (mean : ℤ) → Agrees (still false) 0 (shut-by mean) (skip 4 n4) (pos 0)
+pub own-agrees : (mean : ℤ) → Agrees (still false) 0 (shut-by mean) (skip 4 (outlier 4)) (pos 0)
 own-agrees mean = small-agrees mean (pos 0) (0, omega arith, refl) refl
 
-abbrev pub near-agrees : (mean : ℤ) → PeerAgrees (still false) 0 (peer_of 1) (shut-by mean) (skip 4 n4)
+abbrev pub near-agrees : (mean : ℤ) → PeerAgrees (still false) 0 (peer_of 1) (shut-by mean) (skip 4 (outlier 4))
 near-agrees mean = record { sample = near-sample; best_is = refl; agrees = small-agrees mean (negsuc 100) (1, omega arith, refl) refl }
 
-abbrev begins-near : CloseBegins 0 shuts (skip 4 n4) (negsuc 50) tells-near (skip 2 n4)
+abbrev begins-near : CloseBegins 0 shuts (skip 4 (outlier 4)) (negsuc 50) tells-near (skip 2 (outlier 4))
 begins-near = record {
   count = 2;
   lo = negsuc 100;
   size = pos 101;
   deed = refl;
   node = refl;
-  closes = skipped 1 (skip 2 n4);
+  closes = skipped 1 (skip 2 (outlier 4));
   first_node = refl;
   port = refl;
   peer = peer_of 1;
@@ -191,43 +119,43 @@ moves-little = record { count = 2; lo = negsuc 100; size = pos 101; mean = negsu
 pub moderate_use : ModerateUse
 moderate_use = record {
   setting = still false;
-  world = n8;
-  kept = kept-by false n8 fn8 refl refl refl refl;
+  world = outlier 8;
+  kept = kept-by false (outlier 8) outlier-fits refl refl refl refl;
   master = 0;
   near = 1;
   far = 2;
   close = shuts;
-  cpast = skip 4 n4;
+  cpast = skip 4 (outlier 4);
   correct = moves-own;
   amount = negsuc 50;
   moves = moves-little;
-  moved = skipped 16 n8;
+  moved = skipped 16 (outlier 8);
   own = own-agrees (negsuc 50);
   peer = near-agrees (negsuc 50);
-  sample = record { counter = 1; diff = pos 999999; err = pos 1000001; ticket = 12; trip = pos 2000001; place = view port0 (of 0 n3) };
+  sample = record { counter = 1; diff = pos 999999; err = pos 1000001; ticket = 12; trip = pos 2000001; place = view port0 (of 0 (outlier 3)) };
   best_is = refl;
   counted = (2, omega arith, refl);
   off = omega (arith, ints);
   first = tells-near;
-  begun = skip 2 n4;
+  begun = skip 2 (outlier 4);
   mean = negsuc 50;
-  first_in = skipped 15 n8;
+  first_in = skipped 15 (outlier 8);
   begins = begins-near;
   begins_near = refl;
   later = inl refl;
   taker = moves-near;
-  past = skip 2 n5;
-  taker_in = skipped 11 n8;
+  past = skip 2 (outlier 5);
+  taker_in = skipped 11 (outlier 8);
   taker_node = refl;
   taken = record {
     m = 0;
     close = shuts;
     c = moves-own;
-    cpast = skip 4 n4;
+    cpast = skip 4 (outlier 4);
     amount = negsuc 50;
     moves = moves-little;
-    ends = skipped 4 (skip 2 n5);
-    taking = taking_of 0 shuts (skip 4 n4) moves-near (skip 2 n5) sounds (skip 1 w15) (pos 401) (near-from_round false (pos 408000399)) refl;
+    ends = skipped 4 (skip 2 (outlier 5));
+    taking = taking_of 0 shuts (skip 4 (outlier 4)) moves-near (skip 2 (outlier 5)) sounds (skip 1 (usual 15)) (pos 401) (near-from_round false (pos 408000399)) refl;
     kind = refl;
     close_is = refl;
     port = refl;
@@ -236,22 +164,22 @@ moderate_use = record {
   of_round = refl;
   rested = refl;
   jump = line (step_at 408000500 2 (Came 11)) port0 (Correct (negsuc 1000049) false (pos 408000499));
-  before = skip 2 n6;
-  jump_in = skipped 7 n8;
+  before = skip 2 (outlier 6);
+  jump_in = skipped 7 (outlier 8);
   jump_node = refl;
   by = negsuc 1000049;
   stepped = false;
   shown = pos 408000499;
   jumps = refl;
   much = omega arith;
-  here = n4;
-  here_in = skipped 14 n8;
-  unchanged = record { within = skipped 2 n4; since = record { corrects = refl; lives = refl } };
+  here = outlier 4;
+  here_in = skipped 14 (outlier 8);
+  unchanged = record { within = skipped 2 (outlier 4); since = record { corrects = refl; lives = refl } };
   reading = sounds;
-  older = skip 1 w15;
+  older = skip 1 (usual 15);
   estimate = record {
     best_is = refl;
-    reading = record { line = line (step_at 400000801 0 (Came 8)) port0 (Sample (peer_of 1) 0 (negsuc 100) (pos 401) 10); before = skip 1 n1; at = skipped 8 (skip 4 n4); node = refl; port = refl; is = refl; reads = skipped 2 (skip 1 n1); takes = refl; to = Peer (peer_of 0); datagram = Stamp (Reply reply1); deed = refl };
+    reading = record { line = line (step_at 400000801 0 (Came 8)) port0 (Sample (peer_of 1) 0 (negsuc 100) (pos 401) 10); before = skip 1 (outlier 1); at = skipped 8 (skip 4 (outlier 4)); node = refl; port = refl; is = refl; reads = skipped 2 (skip 1 (outlier 1)); takes = refl; to = Peer (peer_of 0); datagram = Stamp (Reply reply1); deed = refl };
     unchanged = record { corrects = refl; lives = refl };
   };
 }

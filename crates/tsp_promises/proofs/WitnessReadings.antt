@@ -10,9 +10,9 @@ use Rattle.tsp_promises.proofs.Histories.{skip, skipped, still}
 use Rattle.tsp_promises.proofs.PremiseChecks.{kept-by}
 use Rattle.tsp_promises.proofs.ReadingChecks.{read-by, read_at-by, unstepped-by}
 use Rattle.tsp_promises.proofs.WitnessFromRounds.{closing, first, first-from_round, sounds}
-use Rattle.tsp_promises.proofs.WitnessDebts.{not-same}
 use Rattle.tsp_promises.proofs.WitnessSets.{set-by, set-source, set-taking, slaveup}
-use Rattle.tsp_promises.proofs.WitnessUse.{w6, w9, w15, w19, w20, w23, fits}
+use Rattle.tsp_promises.proofs.WitnessUse.{fits, usual}
+use Rattle.tsp_promises.proofs.Debts.{not-same}
 
 some-left : pos 17 ≢ pos 0
 some-left e = omega (arith, ints)
@@ -21,18 +21,18 @@ some-left e = omega (arith, ints)
 pub shown_use : ShownUse
 shown_use = record {
   setting = still false;
-  world = w23;
-  kept = kept-by false w23 fits refl refl refl refl;
+  world = usual 23;
+  kept = kept-by false (usual 23) fits refl refl refl refl;
   node = 1;
-  place = w19;
+  place = usual 19;
   early = 408000000;
   late = 408050400;
-  unstepped = unstepped-by 1 14 w23 refl refl;
-  read = read-by 1 14 w23 408000000 408050400 (omega arith) refl (omega arith) (omega arith);
+  unstepped = unstepped-by 1 14 (usual 23) refl refl;
+  read = read-by 1 14 (usual 23) 408000000 408050400 (omega arith) refl (omega arith) (omega arith);
   correct = first;
-  before = skip 2 w20;
-  correct_in = skipped 11 w23;
-  after = skipped 2 (skip 2 w20);
+  before = skip 2 (usual 20);
+  correct_in = skipped 11 (usual 23);
+  after = skipped 2 (skip 2 (usual 20));
   node_is = refl;
   amount = pos 17;
   value = pos 408000399;
@@ -44,7 +44,7 @@ shown_use = record {
   at = 408000300;
   wait = 100000;
   bound = pos 0;
-  reads = read_at-by 1 14 w23 408000300 408100300 (omega arith) refl (omega arith) (omega arith);
+  reads = read_at-by 1 14 (usual 23) 408000300 408100300 (omega arith) refl (omega arith) (omega arith);
   near = omega (arith, ints);
   enough = omega (arith, ints);
 }
@@ -53,55 +53,55 @@ shown_use = record {
 pub prints_use : PrintsUse
 prints_use = record {
   setting = still false;
-  world = w23;
-  kept = kept-by false w23 fits refl refl refl refl;
+  world = usual 23;
+  kept = kept-by false (usual 23) fits refl refl refl refl;
   set = set-by (negsuc 0) true (pos 305000001);
-  past = skip 2 w9;
-  set_in = skipped 51 w23;
+  past = skip 2 (usual 9);
+  set_in = skipped 51 (usual 23);
   back = negsuc 0;
   shown_then = pos 305000001;
   sets = refl;
   small = omega arith;
   correct = first;
-  before = skip 2 w20;
-  correct_in = skipped 11 w23;
-  after = skipped 39 (skip 2 w20);
+  before = skip 2 (usual 20);
+  correct_in = skipped 11 (usual 23);
+  after = skipped 39 (skip 2 (usual 20));
   node = refl;
   amount = pos 17;
   shown_now = pos 408000399;
   slews = refl;
   moves = some-left;
-  unstepped = unstepped-by 1 40 (skip 11 w23) refl refl;
+  unstepped = unstepped-by 1 40 (skip 11 (usual 23)) refl refl;
 }
 
 -- node 1 is set by the SETTIME that answers its SLAVEUP, and corrected by the round's ADJTIME
 pub set_use : SetUse
 set_use = record {
   setting = still false;
-  world = w23;
-  kept = kept-by false w23 fits refl refl refl refl;
+  world = usual 23;
+  kept = kept-by false (usual 23) fits refl refl refl refl;
   master = 0;
   correct = set-by (negsuc 0) true (pos 305000001);
-  past = skip 2 w9;
-  here = skip 37 w23;
-  here_in = skipped 37 w23;
+  past = skip 2 (usual 9);
+  here = skip 37 (usual 23);
+  here_in = skipped 37 (usual 23);
   set = record {
-    taking = set-taking (negsuc 0) true (pos 305000001) (skip 2 w9) (skipped 2 (skip 2 w9)) refl;
+    taking = set-taking (negsuc 0) true (pos 305000001) (skip 2 (usual 9)) (skipped 2 (skip 2 (usual 9))) refl;
     sets = refl;
-    unchanged = record { within = skipped 14 (skip 37 w23); since = record { corrects = refl; lives = refl } };
+    unchanged = record { within = skipped 14 (skip 37 (usual 23)); since = record { corrects = refl; lives = refl } };
     unchanged_master = record { corrects = refl; lives = refl };
   };
   slaveup = slaveup;
-  older = skip 1 w6;
-  answers = set-source (negsuc 0) true (pos 305000001) (skip 2 w9) (skipped 2 (skip 2 w9)) refl (skipped 8 (skip 2 w9));
+  older = skip 1 (usual 6);
+  answers = set-source (negsuc 0) true (pos 305000001) (skip 2 (usual 9)) (skipped 2 (skip 2 (usual 9))) refl (skipped 8 (skip 2 (usual 9)));
   later = first;
-  before = skip 2 w20;
-  later_in = skipped 11 w23;
-  taking = taking_of 0 closing (skip 4 w19) first (skip 2 w20) sounds (skip 1 w15) (pos 401) first-from_round refl;
+  before = skip 2 (usual 20);
+  later_in = skipped 11 (usual 23);
+  taking = taking_of 0 closing (skip 4 (usual 19)) first (skip 2 (usual 20)) sounds (skip 1 (usual 15)) (pos 401) first-from_round refl;
   adjusts = refl;
   close = closing;
-  cpast = skip 4 w19;
+  cpast = skip 4 (usual 19);
   reading = sounds;
-  rolder = skip 1 w15;
-  rests = reading_of 0 closing (skip 4 w19) first (skip 2 w20) sounds (skip 1 w15) (pos 401) first-from_round refl;
+  rolder = skip 1 (usual 15);
+  rests = reading_of 0 closing (skip 4 (usual 19)) first (skip 2 (usual 20)) sounds (skip 1 (usual 15)) (pos 401) first-from_round refl;
 }

@@ -1,7 +1,7 @@
 -- A round and its estimates: what is promised of them isn't empty.
-use Rattle.std.specs.Prelude.{◌≢◌, ℕ, ℤ, List, ◌∷◌}
+use Rattle.std.specs.Prelude.{◌≡◌, ◌≢◌, ℕ, ℤ, pos, List, ◌∷◌}
 use Rattle.tsp_promises.specs.Agreed.{UnchangedBut}
-use Rattle.tsp_promises.specs.Estimates.{CloseBegins, Estimate}
+use Rattle.tsp_promises.specs.Estimates.{CloseBegins, Estimate, Moves}
 use Rattle.tsp_base.specs.Words.{Line, Within, Sampled}
 use Rattle.tsp_promises.specs.Kept.{Kept}
 use Rattle.tsp_promises.specs.Setting.{Setting}
@@ -36,3 +36,24 @@ pub record EstimatesUse : Type 0 where
   pub first_here : Within (first ∷ begun) here
   pub still : Estimate master one close cpast x reading older here
   pub left_alone : UnchangedBut master close cpast here
+
+-- a history that fits and keeps the premises (Kept), in which a Correct ends a round that begins no ADJTIME: it is the
+-- last line, right after the Close. The round has an estimate of another node, which is left alone since its reading
+pub record EndedUse : Type 0 where
+  pub setting : Setting
+  pub world : List Line
+  pub kept : Kept setting world
+  pub master : ℕ
+  pub other : ℕ
+  pub apart : master ≢ other
+  pub close : Line
+  pub correct : Line
+  pub cpast : List Line
+  pub ends : world ≡ correct ∷ (close ∷ cpast)
+  pub amount : ℤ
+  pub moved : amount ≢ pos 0
+  pub moves : Moves master close correct amount
+  pub sample : Sampled
+  pub reading : Line
+  pub older : List Line
+  pub estimate : Estimate master other close cpast sample reading older world

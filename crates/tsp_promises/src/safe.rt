@@ -322,11 +322,13 @@ pub fn rounds_use()
     ensures { RoundsUse }
 {}
 
-ghost use Rattle.tsp_promises.specs.EstimatesUse.{EstimatesUse};
+ghost use Rattle.tsp_promises.specs.EstimatesUse.{EndedUse, EstimatesUse};
 /// Nor is what estimates say: a history that fits sees a round that estimates two nodes, which
-/// nobody corrects until after its Close.
+/// nobody corrects until after its Close. Another one sees a Correct end a round that begins no
+/// ADJTIME, for want of an ACK.
 pub fn estimates_use()
-    ensures { EstimatesUse }
+    ensures begins { EstimatesUse }
+    ensures ends { EndedUse }
 {}
 
 ghost use Rattle.tsp_promises.specs.ModerateUse.{ModerateUse};
