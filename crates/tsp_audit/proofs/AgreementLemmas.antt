@@ -1,6 +1,7 @@
 -- What is kept of all nodes tells whether their clocks agree.
 use Rattle.std.specs.Prelude.{◌≡◌, ◌<◌, ◌≤ℤ◌, ◌+◌, ◌-◌, ◌*◌, ℕ, ℤ, pos, ◌+ℤ◌, ◌-ℤ◌, nat_abs, Option, None, Some, List, [], ◌∷◌, length, refl}
 use Rattle.std.proofs.Common.{sym, ap, subst, subst₂, ◌∙◌, arith, inl, inr, get_or}
+use Rattle.std.proofs.lemmas.Int.{ints}
 use Rattle.std.proofs.lemmas.List.{get_or_default}
 use Rattle.tsp_promises.specs.Agreed.{FromRound, ClocksAgree, MasterAgrees, PeersAgree, RightAfter, Unchanged, UnchangedBut}
 use Rattle.tsp_promises.specs.ClockAt.{clock_at}
@@ -9,7 +10,7 @@ use Rattle.tsp_base.specs.Words.{HeaderValue, Acts, Begins, Deed, Line, dids, fr
 use Rattle.tsp_promises.specs.Setting.{Setting}
 use Rattle.tsp_promises.proofs.EverywhereLemmas.{Everywhere-at}
 use Rattle.tsp_base.proofs.PlaceLemmas.{Within-all, Within-comparable, Within-length, Within-tail, Within-through}
-use Rattle.tsp_audit.specs.Agreeing.{AgreementIs, AfterAs, AfterIs, AllAgree, BossAgrees, IsAtPlace, LiveAs, LiveIs, MasterNear, NodeIs, Numbered, PairAgrees, PairNear, FromRoundStands, shown_by}
+use Rattle.tsp_audit.specs.Agreeing.{AgreementIs, AfterAs, AfterIs, AllAgree, BossAgrees, IsAtPlace, LiveAs, LiveIs, MasterNear, NodeIs, Numbered, PairAgrees, PairNear, FromRoundStands, err_less, shown_by}
 use Rattle.tsp_audit.specs.Settings.{HasClocks}
 use Rattle.tsp_audit.specs.declared.agreement_tracker.AgreementTracker.{AgreementTracker}
 use Rattle.tsp_audit.specs.declared.round_correction.RoundCorrection.{RoundCorrection}
@@ -102,6 +103,10 @@ near-move : (u v e f : ℤ) (w t p q : ℕ) (x y g i : ℤ) (z r s : ℕ) → u 
 near-move u v e f w t p q x y g i z r s ux vy eg fi wz pr qs near =
     subst₂ (λ (a b : ℤ). Near a b g i z t r s) ux vy (subst₂ (λ (a b : ℤ). Near u v a b z t r s) eg fi (subst₂ (λ (a b : ℕ). Near u v e f z t a b) pr qs (subst (λ (a : ℕ). Near u v e f a t p q) wz near)))
 
+-- an error with nothing to spare
+err-whole : (c : RoundCorrection) → err_less 0 c ≡ c.err
+err-whole c = omega (arith, ints)
+
 -- by one error
 abbrev Close : ℤ → ℤ → ℤ → ℕ → ℕ → ℕ → Type 0
 Close u v e w t p = pos (nat_abs (u -ℤ v)) ≤ℤ (e +ℤ pos (2 * width w (t - p)))
@@ -111,7 +116,7 @@ close-move u v e w t p x y g z r ux vy eg wz pr near =
     subst₂ (λ (a b : ℤ). Close a b g z t r) ux vy (subst (λ (a : ℤ). Close u v a z t r) eg (subst (λ (a : ℕ). Close u v e z t a) pr (subst (λ (a : ℕ). Close u v e a t p) wz near)))
 
 -- peers
-peers-agree : (header : HeaderValue) (setting : Setting) (count : ℕ) (h : List Line) (a : AgreementTracker) (t : ℕ) → HasClocks header setting → Numbered count h → AgreementIs count h a → AllAgree header t a.nodes.items → PeersAgree setting h t
+peers-agree : (header : HeaderValue) (setting : Setting) (count : ℕ) (h : List Line) (a : AgreementTracker) (t : ℕ) → HasClocks header setting → Numbered count h → AgreementIs count h a → AllAgree header t 0 a.nodes.items → PeersAgree setting h t
 peers-agree header setting count h a t has numbered is all = λ m close cpast c d past qast r q rolder qolder e f one other cu du.
     let n : ℕ = node_of c in
     let k : ℕ = node_of d in
@@ -119,9 +124,9 @@ peers-agree header setting count h a t has numbered is all = λ m close cpast c 
     let y = kept count h a k is (node-below count d qast h numbered du.within) in
     let o = found n h x.state.from_round x.is.correction_is m close cpast c past r rolder e one refl cu in
     let p = found k h y.state.from_round y.is.correction_is m close cpast d qast q qolder f other refl du in
-    let near : PairNear header t n x.state o.live k y.state p.live = (all n x.state x.at).pairs k y.state y.at o.live p.live o.is p.is (o.master ∙ sym p.master) (o.close_is ∙ sym p.close_is) in
-    near-move (shown_by header n x.state.moved t) (shown_by header k y.state.moved t) o.live.err p.live.err header.drift t o.live.at p.live.at (clock_at setting n h t) (clock_at setting k h t) e f setting.drift r.did.step.at q.did.step.at
-    (clock-kept header setting n h x.state t has x.is) (clock-kept header setting k h y.state t has y.is) o.err p.err (sym has.drift_is) o.at p.at near
+    let near : PairNear header t 0 n x.state o.live k y.state p.live = (all n x.state x.at).pairs k y.state y.at o.live p.live o.is p.is (o.master ∙ sym p.master) (o.close_is ∙ sym p.close_is) in
+    near-move (shown_by header n x.state.moved t) (shown_by header k y.state.moved t) (err_less 0 o.live) (err_less 0 p.live) header.drift t o.live.at p.live.at (clock_at setting n h t) (clock_at setting k h t) e f setting.drift r.did.step.at q.did.step.at
+    (clock-kept header setting n h x.state t has x.is) (clock-kept header setting k h y.state t has y.is) (err-whole o.live ∙ o.err) (err-whole p.live ∙ p.err) (sym has.drift_is) o.at p.at near
 
 -- the master was left alone just where what is kept says so
 stands-so : (m : ℕ) (close : Line) (cpast h : List Line) (c : RoundCorrection) (b : NodeState) → c.close ≡ length cpast → c.lives ≡ lives (dids (of m (close ∷ cpast))) → c.corrects ≡ all_corrects (dids (of m (close ∷ cpast))) → NodeIs m h b → UnchangedBut m close cpast h → FromRoundStands c b
@@ -159,7 +164,7 @@ stands-but m close cpast h c b w close_is lives_is corrects_is is stands = recor
 }
 
 -- the master
-master-agrees : (header : HeaderValue) (setting : Setting) (count : ℕ) (h : List Line) (a : AgreementTracker) (t : ℕ) → HasClocks header setting → Numbered count h → AgreementIs count h a → AllAgree header t a.nodes.items → MasterAgrees setting h t
+master-agrees : (header : HeaderValue) (setting : Setting) (count : ℕ) (h : List Line) (a : AgreementTracker) (t : ℕ) → HasClocks header setting → Numbered count h → AgreementIs count h a → AllAgree header t 0 a.nodes.items → MasterAgrees setting h t
 master-agrees header setting count h a t has numbered is all = λ m close cpast c past r rolder e from_round u but.
     let n : ℕ = node_of c in
     let x = kept count h a n is (node-below count c past h numbered u.within) in
@@ -168,16 +173,16 @@ master-agrees header setting count h a t has numbered is all = λ m close cpast 
     let below : m < count = subst (λ (i : ℕ). i < count) from_round.node (node-below count from_round.post from_round.before h numbered w) in
     let b = kept count h a m is below in
     let at : IsAtPlace a.nodes.items o.live.master b.state = subst (λ (i : ℕ). IsAtPlace a.nodes.items i b.state) (sym o.master) b.at in
-    let near : MasterNear header t n x.state o.live b.state = (all n x.state x.at).master o.live b.state o.is at (stands-so m close cpast h o.live b.state o.close_is o.lives_is o.corrects_is b.is but) in
+    let near : MasterNear header t 0 n x.state o.live b.state = (all n x.state x.at).master o.live b.state o.is at (stands-so m close cpast h o.live b.state o.close_is o.lives_is o.corrects_is b.is but) in
     let mine : shown_by header o.live.master b.state.moved t ≡ clock_at setting m h t = ap (λ (i : ℕ). shown_by header i b.state.moved t) o.master ∙ clock-kept header setting m h b.state t has b.is in
-    close-move (shown_by header n x.state.moved t) (shown_by header o.live.master b.state.moved t) o.live.err header.drift t o.live.at (clock_at setting n h t) (clock_at setting m h t) e setting.drift r.did.step.at
-    (clock-kept header setting n h x.state t has x.is) mine o.err (sym has.drift_is) o.at near
+    close-move (shown_by header n x.state.moved t) (shown_by header o.live.master b.state.moved t) (err_less 0 o.live) header.drift t o.live.at (clock_at setting n h t) (clock_at setting m h t) e setting.drift r.did.step.at
+    (clock-kept header setting n h x.state t has x.is) mine (err-whole o.live ∙ o.err) (sym has.drift_is) o.at near
 
-pub clocks-agree : (header : HeaderValue) (setting : Setting) (count : ℕ) (h : List Line) (a : AgreementTracker) (t : ℕ) → HasClocks header setting → Numbered count h → AgreementIs count h a → AllAgree header t a.nodes.items → ClocksAgree setting h t
+pub clocks-agree : (header : HeaderValue) (setting : Setting) (count : ℕ) (h : List Line) (a : AgreementTracker) (t : ℕ) → HasClocks header setting → Numbered count h → AgreementIs count h a → AllAgree header t 0 a.nodes.items → ClocksAgree setting h t
 clocks-agree header setting count h a t has numbered is all = record { peers = peers-agree header setting count h a t has numbered is all; master = master-agrees header setting count h a t has numbered is all }
 
 -- and back
-pair-back : (header : HeaderValue) (setting : Setting) (h : List Line) (t n k : ℕ) (a b : NodeState) → HasClocks header setting → NodeIs n h a → NodeIs k h b → PeersAgree setting h t → PairAgrees header t n a k b
+pair-back : (header : HeaderValue) (setting : Setting) (h : List Line) (t n k : ℕ) (a b : NodeState) → HasClocks header setting → NodeIs n h a → NodeIs k h b → PeersAgree setting h t → PairAgrees header t 0 n a k b
 pair-back header setting h t n k a b has ai bi peers = λ c d ac bd masters closes.
     let x : LiveAs n h c = subst (λ (o : Option RoundCorrection). LiveIs n h o) ac ai.correction_is in
     let y : LiveAs k h d = subst (λ (o : Option RoundCorrection). LiveIs k h o) bd bi.correction_is in
@@ -191,10 +196,10 @@ pair-back header setting h t n k a b has ai bi peers = λ c d ac bd masters clos
     let near : Near (clock_at setting (node_of x.correct) h t) (clock_at setting (node_of y.correct) h t) c.err d.err setting.drift t x.is.reading.did.step.at y.is.reading.did.step.at =
     peers c.master x.is.close x.is.cpast x.correct y.correct x.past y.past x.is.reading y.is.reading x.is.older y.is.older c.err d.err x.is.from_round other
     (subst (λ (i : ℕ). Unchanged i (x.correct ∷ x.past) h) (sym x.node) x.unchanged) (subst (λ (i : ℕ). Unchanged i (y.correct ∷ y.past) h) (sym y.node) y.unchanged) in
-    near-move (clock_at setting (node_of x.correct) h t) (clock_at setting (node_of y.correct) h t) c.err d.err setting.drift t x.is.reading.did.step.at y.is.reading.did.step.at (shown_by header n a.moved t) (shown_by header k b.moved t) c.err d.err header.drift c.at d.at
-    (ap (λ (i : ℕ). clock_at setting i h t) x.node ∙ sym (clock-kept header setting n h a t has ai)) (ap (λ (i : ℕ). clock_at setting i h t) y.node ∙ sym (clock-kept header setting k h b t has bi)) refl refl has.drift_is (sym x.is.at_is) (sym y.is.at_is) near
+    near-move (clock_at setting (node_of x.correct) h t) (clock_at setting (node_of y.correct) h t) c.err d.err setting.drift t x.is.reading.did.step.at y.is.reading.did.step.at (shown_by header n a.moved t) (shown_by header k b.moved t) (err_less 0 c) (err_less 0 d) header.drift c.at d.at
+    (ap (λ (i : ℕ). clock_at setting i h t) x.node ∙ sym (clock-kept header setting n h a t has ai)) (ap (λ (i : ℕ). clock_at setting i h t) y.node ∙ sym (clock-kept header setting k h b t has bi)) (sym (err-whole c)) (sym (err-whole d)) has.drift_is (sym x.is.at_is) (sym y.is.at_is) near
 
-boss-back : (header : HeaderValue) (setting : Setting) (count : ℕ) (h : List Line) (s : AgreementTracker) (t n : ℕ) (a : NodeState) → HasClocks header setting → AgreementIs count h s → NodeIs n h a → MasterAgrees setting h t → BossAgrees header t n a s.nodes.items
+boss-back : (header : HeaderValue) (setting : Setting) (count : ℕ) (h : List Line) (s : AgreementTracker) (t n : ℕ) (a : NodeState) → HasClocks header setting → AgreementIs count h s → NodeIs n h a → MasterAgrees setting h t → BossAgrees header t 0 n a s.nodes.items
 boss-back header setting count h s t n a has is ai master = λ c b ac at stands.
     let x : LiveAs n h c = subst (λ (o : Option RoundCorrection). LiveIs n h o) ac ai.correction_is in
     let bi : NodeIs c.master h b = is.nodes_are c.master b at in
@@ -202,10 +207,10 @@ boss-back header setting count h s t n a has is ai master = λ c b ac at stands.
     let near : Close (clock_at setting (node_of x.correct) h t) (clock_at setting c.master h t) c.err setting.drift t x.is.reading.did.step.at =
     master c.master x.is.close x.is.cpast x.correct x.past x.is.reading x.is.older c.err x.is.from_round (subst (λ (i : ℕ). Unchanged i (x.correct ∷ x.past) h) (sym x.node) x.unchanged)
     (stands-but c.master x.is.close x.is.cpast h c b xw x.is.close_is x.is.lives_is x.is.corrects_is bi stands) in
-    close-move (clock_at setting (node_of x.correct) h t) (clock_at setting c.master h t) c.err setting.drift t x.is.reading.did.step.at (shown_by header n a.moved t) (shown_by header c.master b.moved t) c.err header.drift c.at
-    (ap (λ (i : ℕ). clock_at setting i h t) x.node ∙ sym (clock-kept header setting n h a t has ai)) (sym (clock-kept header setting c.master h b t has bi)) refl has.drift_is (sym x.is.at_is) near
+    close-move (clock_at setting (node_of x.correct) h t) (clock_at setting c.master h t) c.err setting.drift t x.is.reading.did.step.at (shown_by header n a.moved t) (shown_by header c.master b.moved t) (err_less 0 c) header.drift c.at
+    (ap (λ (i : ℕ). clock_at setting i h t) x.node ∙ sym (clock-kept header setting n h a t has ai)) (sym (clock-kept header setting c.master h b t has bi)) (sym (err-whole c)) has.drift_is (sym x.is.at_is) near
 
-pub clocks-back : (header : HeaderValue) (setting : Setting) (count : ℕ) (h : List Line) (s : AgreementTracker) (t : ℕ) → HasClocks header setting → AgreementIs count h s → ClocksAgree setting h t → AllAgree header t s.nodes.items
+pub clocks-back : (header : HeaderValue) (setting : Setting) (count : ℕ) (h : List Line) (s : AgreementTracker) (t : ℕ) → HasClocks header setting → AgreementIs count h s → ClocksAgree setting h t → AllAgree header t 0 s.nodes.items
 clocks-back header setting count h s t has is c = λ n a at. record {
   pairs = λ k b there. pair-back header setting h t n k a b has (is.nodes_are n a at) (is.nodes_are k b there) c.peers;
   master = boss-back header setting count h s t n a has is (is.nodes_are n a at) c.master;

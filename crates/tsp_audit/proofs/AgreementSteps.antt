@@ -12,7 +12,7 @@ use Rattle.tsp_promises.specs.Fits.{node_of}
 use Rattle.tsp_promises.specs.Setting.{Setting}
 use Rattle.tsp_promises.specs.StepFacts.{closed}
 use Rattle.tsp_base.proofs.PlaceLemmas.{Within-length}
-use Rattle.tsp_audit.specs.Agreeing.{AgreementIs, AllAgree, AllAre, AllBounded, AreBlank, FirstIs, IsAtPlace, NodeIs, Numbered, TripsTell}
+use Rattle.tsp_audit.specs.Agreeing.{AgreementIs, AllAgree, AllAre, AllBounded, AreBlank, FirstIs, IsAtPlace, NodeIs, Numbered}
 use Rattle.tsp_audit.specs.Resting.{RestsOn}
 use Rattle.tsp_audit.specs.Settings.{HasClocks}
 use Rattle.tsp_audit.specs.declared.agreement_tracker.AgreementTracker.{AgreementTracker}
@@ -22,7 +22,7 @@ use Rattle.tsp_audit.proofs.StateLemmas.{node-still, still-other}
 use Rattle.tsp_history.specs.declared.line.HistoryLine.{HistoryLine}
 use Rattle.tsp_history.specs.declared.rounds.Best.{Best}
 use Rattle.tsp_history.specs.Histories.{deed_of, history_of, line_of}
-use Rattle.tsp_history.specs.Rounds.{Bests, SeenAt, trip_at}
+use Rattle.tsp_history.specs.Rounds.{Bests, SeenAt, TripsTell, trip_at}
 
 -- one blank node more
 pub blank-more : (count : ℕ) (states : List NodeState) (s : NodeState) → AreBlank count states → ((n : ℕ) → NodeIs n [] s) → AreBlank (count + 1) (states ++ s ∷ [])
@@ -86,7 +86,7 @@ agreement-next count h l a b is trips last nodes many = record {
   nodes_are = nodes;
 }
 
-pub agreement-blank : (count : ℕ) (a : AgreementTracker) → count ≤ 16 → AreBlank count a.nodes.items → a.trips.items ≡ [] → a.last ≡ None → AgreementIs count [] a
+pub agreement-blank : (count : ℕ) (a : AgreementTracker) → count ≤ 64 → AreBlank count a.nodes.items → a.trips.items ≡ [] → a.last ≡ None → AgreementIs count [] a
 agreement-blank count a few blank trips last = record {
   few = few;
   many = blank.many;
@@ -117,7 +117,7 @@ sample-told ns n q p i (Some b) false s best_is e = let bad : ⊥ = cc in absurd
 
 -- the clocks after an act tell whether it keeps that clocks agree
 pub agrees-told : (header : HeaderValue) (setting : Setting) (count : ℕ) (l : Line) (h : List Line) (a : AgreementTracker) (act : Act) (b : Bool) → HasClocks header setting → Numbered count (l ∷ h) → AgreementIs count (l ∷ h) a → RestsOnSample l (view l.port (of (node_of l) h)) → l.did.deed ≡ Acts act →
-    MatchBool b (AllAgree header l.did.step.at a.nodes.items) (AllAgree header l.did.step.at a.nodes.items → ⊥) → MatchBool b (AgreedAt setting l h) (AgreedAt setting l h → ⊥)
+    MatchBool b (AllAgree header l.did.step.at 0 a.nodes.items) (AllAgree header l.did.step.at 0 a.nodes.items → ⊥) → MatchBool b (AgreedAt setting l h) (AgreedAt setting l h → ⊥)
 agrees-told header setting count l h a act true has numbered is rests deed good = record { rests = rests; clocks = λ d e. clocks-agree header setting count (l ∷ h) a l.did.step.at has numbered is good }
 agrees-told header setting count l h a act false has numbered is rests deed bad = λ c. bad (clocks-back header setting count (l ∷ h) a l.did.step.at has is (c.clocks act deed))
 

@@ -104,7 +104,7 @@ found-more premises header claim claims None (Some f) notes old looks setting ha
 }
 
 pub notes-later : (premises : Premises) (header : HeaderValue) (claim : Claim) (claims : List Claim) (before found : Option Failure) (notes : Remembered) → Finds premises header (claim ∷ claims) (claimed header claims) before notes found → found ≡ None →
-    RememberedStands premises (length header.nodes) (claimed header (claim ∷ claims)) notes
+    RememberedStands premises header (claimed header (claim ∷ claims)) notes
 notes-later premises header claim claims (Some f) found notes same none = let bad : ⊥ = cc in absurd bad
 notes-later premises header claim claims None None notes looks none = looks.0
 notes-later premises header claim claims None (Some f) notes looks none = let bad : ⊥ = cc in absurd bad
@@ -130,7 +130,7 @@ holds-none premises setting header older w = subst (λ (c : List Claim). AllKeep
 
 -- an audit after a call that changes nothing but where things are kept
 pub audit-with : (premises : Premises) (header : HeaderValue) (claims : List Claim) (old : Audit) (c : Claims) (n : Remembered) → AuditStands premises header claims old → ClaimsStand header claims c →
-    (RememberedStands premises (length header.nodes) (claimed header claims) old.notes → RememberedStands premises (length header.nodes) (claimed header claims) n) →
+    (RememberedStands premises header (claimed header claims) old.notes → RememberedStands premises header (claimed header claims) n) →
     AuditStands premises header claims (record { claims = c; premises = old.premises; notes = n; failed = old.failed })
 audit-with premises header claims old c n stands claims_stand was = record {
   claims_stand = claims_stand;
@@ -142,7 +142,7 @@ audit-with premises header claims old c n stands claims_stand was = record {
 }
 
 pub audit-refused : (premises : Premises) (header : HeaderValue) (claims : List Claim) (e : Event) (lines : List Line2) (fault : AuditFault) (old : Audit) (c : Claims) (n : Remembered) → AuditStands premises header claims old → TakesIn header claims e lines (Err fault) c →
-    (RememberedStands premises (length header.nodes) (claimed header claims) old.notes → RememberedStands premises (length header.nodes) (claimed header claims) n) →
+    (RememberedStands premises header (claimed header claims) old.notes → RememberedStands premises header (claimed header claims) n) →
     Audits premises header claims e lines (Err fault) (record { claims = c; premises = old.premises; notes = n; failed = old.failed })
 audit-refused premises header claims e lines (History i) old c n stands refused was = (refused.0, audit-with premises header claims old c n stands refused.1 was)
 audit-refused premises header claims e lines OutOfMemory old c n stands refused was = (refused.0, audit-with premises header claims old c n stands refused.1 was)

@@ -19,6 +19,7 @@ pub mod PremiseLemmas
 mod RunClaims
 pub mod SampleLemmas
 pub mod SendPlaces
+pub mod SettleLemmas
 pub mod StateLemmas
 pub mod TakeLemmas
 mod TextPremises

@@ -28,45 +28,45 @@ some-same : (o : Option RoundCorrection) (c d : RoundCorrection) → o ≡ Some 
 some-same o c d is was = search (rules, is, was)
 
 -- two nodes that one Close corrected agree exactly where they are near
-pub pair-told : (header : HeaderValue) (t n k : ℕ) (a b : NodeState) (c d : RoundCorrection) (r : Bool) → a.from_round ≡ Some c → b.from_round ≡ Some d → c.master ≡ d.master → c.close ≡ d.close →
-    MatchBool r (PairNear header t n a c k b d) (PairNear header t n a c k b d → ⊥) → MatchBool r (PairAgrees header t n a k b) (PairAgrees header t n a k b → ⊥)
-pair-told header t n k a b c d true ac bd masters closes near = λ e f ae bf ms cs. subst₂ (λ (x y : RoundCorrection). PairNear header t n a x k b y) (some-same a.from_round c e ac ae) (some-same b.from_round d f bd bf) near
-pair-told header t n k a b c d false ac bd masters closes far = λ agrees. far (agrees c d ac bd masters closes)
+pub pair-told : (header : HeaderValue) (t spare n k : ℕ) (a b : NodeState) (c d : RoundCorrection) (r : Bool) → a.from_round ≡ Some c → b.from_round ≡ Some d → c.master ≡ d.master → c.close ≡ d.close →
+    MatchBool r (PairNear header t spare n a c k b d) (PairNear header t spare n a c k b d → ⊥) → MatchBool r (PairAgrees header t spare n a k b) (PairAgrees header t spare n a k b → ⊥)
+pair-told header t spare n k a b c d true ac bd masters closes near = λ e f ae bf ms cs. subst₂ (λ (x y : RoundCorrection). PairNear header t spare n a x k b y) (some-same a.from_round c e ac ae) (some-same b.from_round d f bd bf) near
+pair-told header t spare n k a b c d false ac bd masters closes far = λ agrees. far (agrees c d ac bd masters closes)
 
 same-state : (states : List NodeState) (k : ℕ) (b f : NodeState) → IsAtPlace states k b → IsAtPlace states k f → b ≡ f
 same-state states k b f bat fat = sym bat.is ∙ state-at states k k b f fat refl
 
 -- a node agrees with its master exactly where they are near, if that was left alone
-pub boss-told : (header : HeaderValue) (t n : ℕ) (a : NodeState) (states : List NodeState) (c : RoundCorrection) (b : NodeState) (r : Bool) → a.from_round ≡ Some c → IsAtPlace states c.master b → FromRoundStands c b →
-    MatchBool r (MasterNear header t n a c b) (MasterNear header t n a c b → ⊥) → MatchBool r (BossAgrees header t n a states) (BossAgrees header t n a states → ⊥)
-boss-told header t n a states c b true ac bat st near = λ e f ae fat left.
+pub boss-told : (header : HeaderValue) (t spare n : ℕ) (a : NodeState) (states : List NodeState) (c : RoundCorrection) (b : NodeState) (r : Bool) → a.from_round ≡ Some c → IsAtPlace states c.master b → FromRoundStands c b →
+    MatchBool r (MasterNear header t spare n a c b) (MasterNear header t spare n a c b → ⊥) → MatchBool r (BossAgrees header t spare n a states) (BossAgrees header t spare n a states → ⊥)
+boss-told header t spare n a states c b true ac bat st near = λ e f ae fat left.
     (let ce : c ≡ e = some-same a.from_round c e ac ae in
     let bf : b ≡ f = same-state states c.master b f bat (subst (λ (x : RoundCorrection). IsAtPlace states x.master f) (sym ce) fat) in
-    subst₂ (λ (x : RoundCorrection) (y : NodeState). MasterNear header t n a x y) ce bf near)
-boss-told header t n a states c b false ac bat st far = λ agrees. far (agrees c b ac bat st)
+    subst₂ (λ (x : RoundCorrection) (y : NodeState). MasterNear header t spare n a x y) ce bf near)
+boss-told header t spare n a states c b false ac bat st far = λ agrees. far (agrees c b ac bat st)
 
 near-turned : (x y m w : ℤ) → pos (nat_abs (x -ℤ y)) ≤ℤ m → m ≡ w → pos (nat_abs (y -ℤ x)) ≤ℤ w
 near-turned x y m w near same = omega (arith, ints, near, same)
 
 -- what two nodes ask of each other is the same
-pub pair-turned : (header : HeaderValue) (t n k : ℕ) (a b : NodeState) → PairAgrees header t n a k b → PairAgrees header t k b n a
-pair-turned header t n k a b f c d bc ad masters closes =
+pub pair-turned : (header : HeaderValue) (t spare n k : ℕ) (a b : NodeState) → PairAgrees header t spare n a k b → PairAgrees header t spare k b n a
+pair-turned header t spare n k a b f c d bc ad masters closes =
     near-turned (shown_by header n a.moved t) (shown_by header k b.moved t) _ _ (f d c ad bc (sym masters) (sym closes)) (omega (arith, ints))
 
 -- nodes of which each agrees with those up to itself all agree
-pub all-back : (header : HeaderValue) (t : ℕ) (states : List NodeState) → ((n : ℕ) (a : NodeState) → n < length states → IsAtPlace states n a → AgreesBack header t n a states) → AllAgree header t states
-all-back header t states back n a at = record { pairs = pairs; master = (back n a at.below at).master } where
-  pairs : (k : ℕ) (b : NodeState) → IsAtPlace states k b → PairAgrees header t n a k b
+pub all-back : (header : HeaderValue) (t spare : ℕ) (states : List NodeState) → ((n : ℕ) (a : NodeState) → n < length states → IsAtPlace states n a → AgreesBack header t spare n a states) → AllAgree header t spare states
+all-back header t spare states back n a at = record { pairs = pairs; master = (back n a at.below at).master } where
+  pairs : (k : ℕ) (b : NodeState) → IsAtPlace states k b → PairAgrees header t spare n a k b
   pairs k b kat = by_case (cases_lt n k) where
-    by_case : (n < k) ⊎ (k ≤ n) → PairAgrees header t n a k b
-    by_case (inl lt) = pair-turned header t k n b a ((back k b kat.below kat).pairs n a (omega arith) at)
+    by_case : (n < k) ⊎ (k ≤ n) → PairAgrees header t spare n a k b
+    by_case (inl lt) = pair-turned header t spare k n b a ((back k b kat.below kat).pairs n a (omega arith) at)
     by_case (inr le) = (back n a at.below at).pairs k b le kat
 
-pub back-all : (header : HeaderValue) (t n : ℕ) (a : NodeState) (states : List NodeState) → NodeAgrees header t n a states → AgreesBack header t n a states
-back-all header t n a states agrees = record { pairs = λ k b le at. agrees.pairs k b at; master = agrees.master }
+pub back-all : (header : HeaderValue) (t spare n : ℕ) (a : NodeState) (states : List NodeState) → NodeAgrees header t spare n a states → AgreesBack header t spare n a states
+back-all header t spare n a states agrees = record { pairs = λ k b le at. agrees.pairs k b at; master = agrees.master }
 
 -- a node that agrees with the others agrees exactly where it does with its master
-pub agrees-then : (header : HeaderValue) (t n : ℕ) (a : NodeState) (states : List NodeState) (r : Bool) → ((k : ℕ) (b : NodeState) → k ≤ n → IsAtPlace states k b → PairAgrees header t n a k b) →
-    MatchBool r (BossAgrees header t n a states) (BossAgrees header t n a states → ⊥) → MatchBool r (AgreesBack header t n a states) (AgreesBack header t n a states → ⊥)
-agrees-then header t n a states true pairs master = record { pairs = pairs; master = master }
-agrees-then header t n a states false pairs differs = λ agrees. differs agrees.master
+pub agrees-then : (header : HeaderValue) (t spare n : ℕ) (a : NodeState) (states : List NodeState) (r : Bool) → ((k : ℕ) (b : NodeState) → k ≤ n → IsAtPlace states k b → PairAgrees header t spare n a k b) →
+    MatchBool r (BossAgrees header t spare n a states) (BossAgrees header t spare n a states → ⊥) → MatchBool r (AgreesBack header t spare n a states) (AgreesBack header t spare n a states → ⊥)
+agrees-then header t spare n a states true pairs master = record { pairs = pairs; master = master }
+agrees-then header t spare n a states false pairs differs = λ agrees. differs agrees.master

@@ -13,22 +13,18 @@ use Rattle.tsp_history.proofs.NoteLemmas.{length-noted}
 use Rattle.tsp_audit.proofs.Prefixes.{history-within}
 use Rattle.tsp_history.proofs.HistoryLemmas.{Within-noted, history-more}
 use Rattle.tsp_audit.proofs.TakeLemmas.{same-noted}
-use Rattle.tsp_audit.specs.Agreeing.{FromRoundAs, IsFromNoRound, TripsTell}
+use Rattle.tsp_audit.specs.Agreeing.{FromRoundAs, IsFromNoRound}
 use Rattle.tsp_audit.specs.FromRounds.{BegunAt, HasNoRound, RoundAs, Rounds, TakesNone, TakesThen}
 use Rattle.tsp_audit.specs.declared.round_correction.RoundCorrection.{RoundCorrection}
 use Rattle.tsp_history.specs.declared.line.HistoryLine.{HistoryLine}
 use Rattle.tsp_history.specs.declared.rounds.Best.{Best}
 use Rattle.tsp_history.specs.Histories.{deed_of, history_of, line_of}
 use Rattle.tsp_history.specs.Posts.{PostsAt}
-use Rattle.tsp_history.specs.Rounds.{BestAt, SeenAt, trip_at}
+use Rattle.tsp_history.specs.Rounds.{BestAt, SeenAt, TripsTell}
 
 -- the index of a line is how many stand before it
 pub history-length : (ns : List HistoryLine) (i : ℕ) → i ≤ length ns → length (history_of (take i ns)) ≡ i
 history-length ns i le = omega (arith, length-noted [] (take i ns), length-take i ns, le)
-
--- the round trip of a line by its index
-pub trip-here : (ns : List HistoryLine) (trips : List ℤ) (i : ℕ) (noted : HistoryLine) → TripsTell (history_of ns) trips → i < length ns → get_or ns i noted ≡ noted → get_or trips i (pos 0) ≡ trip_at (line_of noted) (history_of (take i ns))
-trip-here ns trips i noted tell lt is = subst (λ (k : ℕ). get_or trips k (pos 0) ≡ trip_at (line_of noted) (history_of (take i ns))) (history-length ns i (omega (arith, lt))) (tell (line_of noted) (history_of (take i ns)) (Within-noted ns i noted lt is))
 
 pub trips-before : (ns : List HistoryLine) (trips : List ℤ) (i : ℕ) → TripsTell (history_of ns) trips → TripsTell (history_of (take i ns)) trips
 trips-before ns trips i tell = λ l before w. tell l before (Within-through (l ∷ before) (history_of (take i ns)) (history_of ns) w (history-within ns i))

@@ -85,9 +85,9 @@ pub record Reached (premises : Premises) (header : HeaderValue) (told : List Cla
   pub count : length before ≡ i
   pub from_is : from ≡ length (claimed header before)
   pub holds : (setting : Setting) → HasClocks header setting → AllHold premises setting header before
-  pub notes_are : RememberedStands premises (length header.nodes) (claimed header before) notes
+  pub notes_are : RememberedStands premises header (claimed header before) notes
 
-pub reached-none : (premises : Premises) (header : HeaderValue) (told : List Claim) (notes : Remembered) → RememberedStands premises (length header.nodes) [] notes → Reached premises header told 0 0 notes
+pub reached-none : (premises : Premises) (header : HeaderValue) (told : List Claim) (notes : Remembered) → RememberedStands premises header [] notes → Reached premises header told 0 0 notes
 reached-none premises header told notes stand = record { before = []; place = none-place told; count = refl; from_is = refl; holds = λ setting has. holds-none premises setting header; notes_are = stand }
 
 -- nothing fails of the next event either
@@ -121,5 +121,5 @@ reached-all premises header told i from notes past r =
     let whole : r.before ≡ told = whole-place told r.before r.place (let many = r.count in omega (arith, past, many)) in
     record {
       found_is = λ setting has. subst (λ (s : List Claim). AllHold premises setting header s) whole (r.holds setting has);
-      notes_are = λ none. subst (λ (s : List Claim). RememberedStands premises (length header.nodes) (claimed header s) notes) whole r.notes_are;
+      notes_are = λ none. subst (λ (s : List Claim). RememberedStands premises header (claimed header s) notes) whole r.notes_are;
     }

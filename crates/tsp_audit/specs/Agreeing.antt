@@ -1,5 +1,5 @@
 -- What is remembered from line to line of clocks that one round corrected.
-use Rattle.std.specs.Prelude.{◌≡◌, ◌<◌, ◌≤◌, ◌≤ℤ◌, ◌⊎◌, ℕ, ◌+◌, ◌-◌, ◌*◌, ℤ, pos, ◌+ℤ◌, ◌-ℤ◌, nat_abs, Bool, true, List, [], ◌∷◌, length, get_or, Option, None, Some}
+use Rattle.std.specs.Prelude.{◌≡◌, ◌<◌, ◌≤◌, ◌≤ℤ◌, ◌⊎◌, ℕ, ◌+◌, ◌-◌, ◌*◌, ℤ, pos, ◌+ℤ◌, ◌-ℤ◌, nat_abs, List, [], ◌∷◌, length, get_or, Option, None, Some}
 use Rattle.tsp_audit.specs.declared.round_correction.RoundCorrection.{RoundCorrection}
 use Rattle.tsp_audit.specs.declared.round_correction.NodeState.{NodeState}
 use Rattle.tsp_audit.specs.declared.agreement_tracker.AgreementTracker.{AgreementTracker}
@@ -11,16 +11,12 @@ use Rattle.tsp_base.specs.Words.{HeaderValue, Line, dids, from_act, of, all_corr
 use Rattle.tsp_history.specs.Clocks.{IsSumOf}
 use Rattle.tsp_history.specs.declared.line.HistoryLine.{HistoryLine}
 use Rattle.tsp_history.specs.Histories.{deed_of}
-use Rattle.tsp_history.specs.Rounds.{trip_at}
+use Rattle.tsp_history.specs.Rounds.{TripsTell}
 use Rattle.tsp_run.specs.Setup.{node_line}
 
 -- each line's node is below this number
 abbrev pub Numbered : ℕ → List Line → Type 0
 Numbered count = Everywhere (λ l before. node_of l < count)
-
--- the round trip of each line stands at the index of that line
-abbrev pub TripsTell : List Line → List ℤ → Type 0
-TripsTell h trips = (l : Line) (before : List Line) → Within (l ∷ before) h → get_or trips (length before) (pos 0) ≡ trip_at l before
 
 -- a Correct comes from a round: a Close of a master sent it, and these are its values
 pub record FromRoundAs (l : Line) (h : List Line) (c : RoundCorrection) : Type 0 where
@@ -96,7 +92,7 @@ AllAre h states = (n : ℕ) (s : NodeState) → IsAtPlace states n s → NodeIs 
 
 -- a tracker of this many nodes stands for a history
 pub record AgreementIs (count : ℕ) (h : List Line) (a : AgreementTracker) : Type 0 where
-  pub few : count ≤ 16
+  pub few : count ≤ 64
   pub many : length a.nodes.items ≡ count
   pub lines : length a.trips.items ≡ length h
   pub trips_tell : TripsTell h a.trips.items
@@ -107,53 +103,75 @@ pub record AgreementIs (count : ℕ) (h : List Line) (a : AgreementTracker) : Ty
 abbrev pub shown_by : HeaderValue → ℕ → ℤ → ℕ → ℤ
 shown_by header n moved at = ((node_line header n).wall +ℤ moved) +ℤ pos (tick_at (node_line header n).rate at)
 
--- two nodes that one Close corrected differ by at most their errors and drift
-abbrev pub PairNear : HeaderValue → ℕ → ℕ → NodeState → RoundCorrection → ℕ → NodeState → RoundCorrection → Type 0
-PairNear header t n a c k b d = pos (nat_abs (shown_by header n a.moved t -ℤ shown_by header k b.moved t)) ≤ℤ ((c.err +ℤ d.err) +ℤ pos (2 * width header.drift (t - c.at) + 2 * width header.drift (t - d.at)))
+-- the error of a round's reading, less what is to spare
+abbrev pub err_less : ℕ → RoundCorrection → ℤ
+err_less spare c = c.err -ℤ pos spare
+
+-- two nodes that one Close corrected differ by at most their errors, each less what is to spare, and drift
+abbrev pub PairNear : HeaderValue → ℕ → ℕ → ℕ → NodeState → RoundCorrection → ℕ → NodeState → RoundCorrection → Type 0
+PairNear header t spare n a c k b d =
+    pos (nat_abs (shown_by header n a.moved t -ℤ shown_by header k b.moved t)) ≤ℤ ((err_less spare c +ℤ err_less spare d) +ℤ pos (2 * width header.drift (t - c.at) + 2 * width header.drift (t - d.at)))
 
 -- the same, where one Close corrected both
-abbrev pub PairAgrees : HeaderValue → ℕ → ℕ → NodeState → ℕ → NodeState → Type 0
-PairAgrees header t n a k b = (c d : RoundCorrection) → a.from_round ≡ Some c → b.from_round ≡ Some d → c.master ≡ d.master → c.close ≡ d.close → PairNear header t n a c k b d
+abbrev pub PairAgrees : HeaderValue → ℕ → ℕ → ℕ → NodeState → ℕ → NodeState → Type 0
+PairAgrees header t spare n a k b = (c d : RoundCorrection) → a.from_round ≡ Some c → b.from_round ≡ Some d → c.master ≡ d.master → c.close ≡ d.close → PairNear header t spare n a c k b d
 
 -- since the Close of a round its master has neither booted nor moved its clock, but by the Correct that is the next act
 abbrev pub FromRoundStands : RoundCorrection → NodeState → Type 0
 FromRoundStands c b = (c.lives ≡ b.lives) × ((c.corrects ≡ b.corrects) ⊎ (b.after ≡ Some c.close))
 
--- a node that a Close corrected and its master differ by at most the error and drift
-abbrev pub MasterNear : HeaderValue → ℕ → ℕ → NodeState → RoundCorrection → NodeState → Type 0
-MasterNear header t n a c b = pos (nat_abs (shown_by header n a.moved t -ℤ shown_by header c.master b.moved t)) ≤ℤ (c.err +ℤ pos (2 * width header.drift (t - c.at)))
+-- a node that a Close corrected and its master differ by at most the error, less what is to spare, and drift
+abbrev pub MasterNear : HeaderValue → ℕ → ℕ → ℕ → NodeState → RoundCorrection → NodeState → Type 0
+MasterNear header t spare n a c b = pos (nat_abs (shown_by header n a.moved t -ℤ shown_by header c.master b.moved t)) ≤ℤ (err_less spare c +ℤ pos (2 * width header.drift (t - c.at)))
 
 -- the same, where the master was left alone since its Close, as `FromRoundStands` says
-abbrev pub BossAgrees : HeaderValue → ℕ → ℕ → NodeState → List NodeState → Type 0
-BossAgrees header t n a states = (c : RoundCorrection) (b : NodeState) → a.from_round ≡ Some c → IsAtPlace states c.master b → FromRoundStands c b → MasterNear header t n a c b
+abbrev pub BossAgrees : HeaderValue → ℕ → ℕ → ℕ → NodeState → List NodeState → Type 0
+BossAgrees header t spare n a states = (c : RoundCorrection) (b : NodeState) → a.from_round ≡ Some c → IsAtPlace states c.master b → FromRoundStands c b → MasterNear header t spare n a c b
 
 -- a node agrees with each that the same Close corrected, and with its master
-pub record NodeAgrees (header : HeaderValue) (t n : ℕ) (a : NodeState) (states : List NodeState) : Type 0 where
-  pub pairs : (k : ℕ) (b : NodeState) → IsAtPlace states k b → PairAgrees header t n a k b
-  pub master : BossAgrees header t n a states
+pub record NodeAgrees (header : HeaderValue) (t spare n : ℕ) (a : NodeState) (states : List NodeState) : Type 0 where
+  pub pairs : (k : ℕ) (b : NodeState) → IsAtPlace states k b → PairAgrees header t spare n a k b
+  pub master : BossAgrees header t spare n a states
 
 -- a node agrees with each up to itself that the same Close corrected
-abbrev pub PairsAgree : HeaderValue → ℕ → ℕ → NodeState → List NodeState → Type 0
-PairsAgree header t n a states = (k : ℕ) (b : NodeState) → k ≤ n → IsAtPlace states k b → PairAgrees header t n a k b
+abbrev pub PairsAgree : HeaderValue → ℕ → ℕ → ℕ → NodeState → List NodeState → Type 0
+PairsAgree header t spare n a states = (k : ℕ) (b : NodeState) → k ≤ n → IsAtPlace states k b → PairAgrees header t spare n a k b
 
 -- a node agrees with each up to itself that the same Close corrected, and with its master
-pub record AgreesBack (header : HeaderValue) (t n : ℕ) (a : NodeState) (states : List NodeState) : Type 0 where
-  pub pairs : (k : ℕ) (b : NodeState) → k ≤ n → IsAtPlace states k b → PairAgrees header t n a k b
-  pub master : BossAgrees header t n a states
+pub record AgreesBack (header : HeaderValue) (t spare n : ℕ) (a : NodeState) (states : List NodeState) : Type 0 where
+  pub pairs : (k : ℕ) (b : NodeState) → k ≤ n → IsAtPlace states k b → PairAgrees header t spare n a k b
+  pub master : BossAgrees header t spare n a states
 
--- each of these nodes agrees with all
-abbrev pub AllAgree : HeaderValue → ℕ → List NodeState → Type 0
-AllAgree header t states = (n : ℕ) (a : NodeState) → IsAtPlace states n a → NodeAgrees header t n a states
+-- each of these nodes agrees with all, with so many microseconds of each error to spare
+abbrev pub AllAgree : HeaderValue → ℕ → ℕ → List NodeState → Type 0
+AllAgree header t spare states = (n : ℕ) (a : NodeState) → IsAtPlace states n a → NodeAgrees header t spare n a states
 
 -- the corrections of each of these nodes come to no more than 2^32 - 1 signed amounts of 64 bits can
 abbrev pub AllBounded : List NodeState → Type 0
 AllBounded states = (n : ℕ) (a : NodeState) → IsAtPlace states n a → IsSumOf 4294967295 a.moved
 
--- what was known at this time is known after the line: it is of the same time, and quiet
-pub record StaysKnown (known : Bool) (time : ℕ) (line : HistoryLine) : Type 0 where
-  pub was : known ≡ true
-  pub at : time ≡ line.at
-  pub quiet : LeavesState (deed_of line.act)
+-- the reading by which a round corrected a node, if one did, is no later than a true time
+abbrev pub IsPast : ℕ → NodeState → Type 0
+IsPast t a = (c : RoundCorrection) → a.from_round ≡ Some c → c.at ≤ t
+
+-- the same of each of these nodes
+abbrev pub AllPast : ℕ → List NodeState → Type 0
+AllPast t states = (n : ℕ) (a : NodeState) → IsAtPlace states n a → IsPast t a
+
+-- clocks agree with so much to spare that they do from then on, as long as none is moved
+pub record Settles (header : HeaderValue) (t : ℕ) (states : List NodeState) : Type 0 where
+  pub past : AllPast t states
+  pub agree : AllAgree header t 4 states
+
+-- the true time at which clocks were seen to settle, with none moved since; none where they weren't
+abbrev pub SettledAt : HeaderValue → Option ℕ → List NodeState → Type 0
+SettledAt header None states = Unit {0}
+SettledAt header (Some t) states = t ≤ 1000000000000000 → AllBounded states → Settles header t states
+
+-- what was settled before a line is so after it, or nothing is; a line that moves a clock leaves nothing settled
+abbrev pub StillSettled : HistoryLine → Option ℕ → Option ℕ → Type 0
+StillSettled line was None = Unit {0}
+StillSettled line was (Some t) = (was ≡ Some t) × LeavesState (deed_of line.act)
 
 -- this many nodes of which nothing is known
 pub record AreBlank (count : ℕ) (states : List NodeState) : Type 0 where

@@ -45,7 +45,7 @@ IsFound premises setting header claims (Some f) = FailsFirst premises setting he
 -- first
 pub record Looked (premises : Premises) (header : HeaderValue) (told : List Claim) (notes : Remembered) (found : Option Failure) : Type 0 where
   pub found_is : (setting : Setting) → HasClocks header setting → IsFound premises setting header told found
-  pub notes_are : found ≡ None → RememberedStands premises (length header.nodes) (claimed header told) notes
+  pub notes_are : found ≡ None → RememberedStands premises header (claimed header told) notes
 
 -- a verdict on these claims, under the premises that the whole schedule keeps
 abbrev pub IsVerdict : Premises → Setting → HeaderValue → List Claim → Verdict → Type 0
@@ -59,7 +59,7 @@ pub record AuditStands (premises : Premises) (header : HeaderValue) (claims : Li
   pub timely : Timely (claimed header claims)
   pub found : (setting : Setting) → HasClocks header setting → IsFound premises setting header claims a.failed
   pub named : Everywhere (λ c before. NamesNode (length header.nodes) c.event) claims
-  pub notes : a.failed ≡ None → RememberedStands premises (length header.nodes) (claimed header claims) a.notes
+  pub notes : a.failed ≡ None → RememberedStands premises header (claimed header claims) a.notes
 
 -- what a call does with an event and the lines that are claimed of it: they fit and are taken in, and this is the
 -- verdict; or the line at this index doesn't fit, or the event lacks something, or they fit and memory is refused, and

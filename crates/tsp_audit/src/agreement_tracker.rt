@@ -1,19 +1,20 @@
 //! Whether clocks that one round corrected agree, line by line.
-ghost use Rattle.std.specs.Prelude.{◌≡◌, ◌≤◌, ◌<◌, ◌⊎◌, ◌+◌, ◌-◌, ◌^◌, ℕ, [], ◌∷◌, ◌++◌, List, length};
-ghost use Rattle.std.specs.Prelude.{get_or, is_some, take, vec_len, vec_capacity, true, MatchBool, IfOk};
-ghost use Rattle.std.specs.Prelude.{OnOk};
+ghost use Rattle.std.specs.Prelude.{◌≡◌, ◌≤◌, ◌<◌, ◌+◌, ◌-◌, ◌^◌, ℕ, [], ◌∷◌, ◌++◌, List, length};
+ghost use Rattle.std.specs.Prelude.{get_or, take, vec_len, vec_capacity, true, MatchBool, IfOk};
+ghost use Rattle.std.specs.Prelude.{None, MatchOption, OnOk};
 ghost use Rattle.tsp_base.specs.History.{Line, from_act};
 ghost use Rattle.tsp_promises.specs.Agreed.{Agreed, AgreedAt};
 ghost use Rattle.tsp_promises.specs.Setting.{Setting};
 ghost use Rattle.tsp_history.specs.declared.line.HistoryLine.{HistoryLine as NotedValue};
 ghost use Rattle.tsp_history.specs.Histories.{deed_of, line_of, history_of};
 ghost use Rattle.tsp_history.specs.Notes.{Told};
+ghost use Rattle.tsp_history.specs.Rounds.{TripsTell};
 ghost use Rattle.tsp_audit.specs.Agreeing.{AgreementIs, AllAgree, AllAre, AllBounded, AreBlank};
-ghost use Rattle.tsp_audit.specs.Agreeing.{FirstIs, Numbered, StaysKnown, TripsTell};
+ghost use Rattle.tsp_audit.specs.Agreeing.{FirstIs, Numbered, SettledAt, StillSettled};
 ghost use Rattle.tsp_audit.specs.Changes.{LeavesState};
 ghost use Rattle.tsp_audit.specs.Settings.{HasClocks, Timely};
 
-use crate::nearness::all_agree;
+use crate::nearness::{all_agree, settles};
 use crate::resting::rests;
 use crate::round_correction::NodeState;
 use crate::standing::MOST_NODES;
@@ -33,6 +34,8 @@ pub(crate) struct AgreementTracker {
     pub(crate) last: Option<usize>,
     /// What is remembered of each node.
     pub(crate) nodes: Vec<NodeState>,
+    /// A true time, in microseconds, from which on all clocks are known to agree until one is moved.
+    pub(crate) settled: Option<u64>,
 }
 
 /// What is remembered of this many nodes before any line.
@@ -97,34 +100,27 @@ fn newest(line: &HistoryLine, index: usize, was: Option<usize>) -> Option<usize>
     }
 }
 
-/// Whether what was known of all clocks at a true time, in microseconds, is still known after this
-/// line: it is of the same true time and changes no clock.
-fn stays_known(known: bool, time: u64, line: &HistoryLine) -> bool
-    ensures { result ≡ true → StaysKnown known time line.now }
+/// The true time at which clocks were seen to settle, after a line, where `was` is that before it;
+/// none where the line moves a clock.
+fn settled_after(line: &HistoryLine, was: Option<u64>) -> Option<u64>
+    ensures { StillSettled line.now was result }
 {
-    if !known {
-        return false;
-    }
-    if line.at != time {
-        return false;
-    }
-    leaves_state(line)
+    if leaves_state(line) { was } else { None }
 }
 
-/// Whether all clocks are known to agree at the time of a line, where `agrees` holds of it: they
-/// were known to before, or it is an act, at which they do.
-fn is_known(known: bool, line: &HistoryLine) -> bool
-    ensures { result ≡ true → (known ≡ true) ⊎ (is_some line.now.act ≡ true) }
+/// Whether clocks that settled, if they did, are known to agree at a true time, in microseconds.
+fn is_known(settled: Option<u64>, at: u64) -> bool
+    ensures { result ≡ true → MatchOption settled ⊥ (λ t. t ≤ at) }
 {
-    if known {
-        return true;
+    match settled {
+        Some(time) => time <= at,
+        None => false,
     }
-    !line.act.is_mark()
 }
 
 impl AgreementTracker {
     ghost use Rattle.std.specs.Prelude.{ℕ, List};
-    ghost use Rattle.tsp_audit.specs.Agreeing.{AgreementIs, Numbered};
+    ghost use Rattle.tsp_audit.specs.Agreeing.{AgreementIs, Numbered, SettledAt};
     ghost use Rattle.tsp_audit.specs.Settings.{HasClocks, Timely};
     ghost use Rattle.tsp_promises.specs.Agreed.{Agreed, AgreedAt};
     ghost use Rattle.tsp_base.specs.History.{Line};
@@ -135,14 +131,16 @@ impl AgreementTracker {
 
     /// Nothing has happened to so many nodes. Takes memory for them; fails only if out of memory.
     pub(crate) fn new(alloc: Global, count: usize) -> Result<AgreementTracker, AllocError>
-        requires { count ≤ 16 }
-        ensures { IfOk result (λ agreement. AgreementIs count [] agreement) }
+        requires { count ≤ 64 }
+        ensures { IfOk result (λ agreement. AgreementIs count [] agreement
+            × (agreement.settled ≡ None)) }
     {
         match blanks(alloc, count) {
             Ok(nodes) => Ok(AgreementTracker {
                 trips: Vec::new(alloc),
                 last: None,
                 nodes,
+                settled: None,
             }),
             Err(refused) => Err(refused),
         }
@@ -153,6 +151,8 @@ impl AgreementTracker {
         ensures room { OnOk result (vec_len self.new.trips + count ≤ vec_capacity self.new.trips) }
         ensures agreement { (nodes : ℕ) (h : List Line) → AgreementIs nodes h self.old
             → AgreementIs nodes h self.new }
+        ensures settled { self.new.settled ≡ self.old.settled }
+        ensures nodes { self.new.nodes.items ≡ self.old.nodes.items }
     {
         self.trips.reserve(count)
     }
@@ -185,41 +185,51 @@ impl AgreementTracker {
         self.last = newest(line, index, self.last);
     }
 
-    /// Whether the clocks of all nodes agree at a true time, in microseconds; with `known`, they are known to.
-    fn agree_at(&self, header: &Header, at: u64, known: bool) -> bool
-        requires few { length self.now.nodes.items ≤ 16 }
-        requires known { known ≡ true → at ≤ 1000000000000000 → AllBounded self.now.nodes.items
-            → AllAgree header.now at self.now.nodes.items }
-        ensures { at ≤ 1000000000000000 → AllBounded self.now.nodes.items
-            → MatchBool result (AllAgree header.now at self.now.nodes.items)
-            (AllAgree header.now at self.now.nodes.items → ⊥) }
+    /// The true time at which clocks settled, if one is known, after it was seen whether they do at
+    /// this one, unless they did before.
+    fn settled_by(&self, header: &Header, at: u64, was: Option<u64>) -> Option<u64>
+        ensures { SettledAt header.now was self.now.nodes.items
+            → SettledAt header.now result self.now.nodes.items }
     {
-        if known {
+        if is_known(was, at) || self.nodes.len() > MOST_NODES {
+            return was;
+        }
+        if settles(header, at, self.nodes.as_slice()) {
+            Some(at)
+        } else {
+            was
+        }
+    }
+
+    /// Whether the clocks of all nodes agree at a true time, in microseconds, where they are known to
+    /// have settled at another, if they did.
+    fn agree_at(&self, header: &Header, at: u64, settled: Option<u64>) -> bool
+        requires few { length self.now.nodes.items ≤ 64 }
+        ensures { (setting : Setting) → HasClocks header.now setting → at ≤ 1000000000000000
+            → AllBounded self.now.nodes.items → SettledAt header.now settled self.now.nodes.items
+            → MatchBool result (AllAgree header.now at 0 self.now.nodes.items)
+            (AllAgree header.now at 0 self.now.nodes.items → ⊥) }
+    {
+        if is_known(settled, at) {
             return true;
         }
-        all_agree(header, at, self.nodes.as_slice())
+        all_agree(header, at, 0, self.nodes.as_slice())
     }
 
     /// Whether a line that was taken in keeps the promise that clocks agree, where these lines
-    /// stand before it. With `known`, all clocks are known to agree at its time. Where the answer
-    /// is yes and the line is an act, they do.
+    /// stand before it, and clocks are known to have settled at this time, if they did.
     fn agrees(
         &self,
         header: &Header,
         before: &[HistoryLine],
         line: &HistoryLine,
-        known: bool,
+        settled: Option<u64>,
     ) -> bool
-        requires known { known ≡ true → line.now.at ≤ 1000000000000000
-            → AllBounded self.now.nodes.items
-            → AllAgree header.now line.now.at self.now.nodes.items }
-        ensures agree { result ≡ true → is_some line.now.act ≡ true
-            → line.now.at ≤ 1000000000000000 → AllBounded self.now.nodes.items
-            → AllAgree header.now line.now.at self.now.nodes.items }
-        ensures keeps { (setting : Setting) (count : ℕ) → HasClocks header.now setting
+        ensures { (setting : Setting) (count : ℕ) → HasClocks header.now setting
             → line.now.at ≤ 1000000000000000
             → Numbered count (line_of line.now ∷ history_of before.now)
             → AgreementIs count (line_of line.now ∷ history_of before.now) self.now
+            → SettledAt header.now settled self.now.nodes.items
             → MatchBool result (AgreedAt setting (line_of line.now) (history_of before.now))
             (AgreedAt setting (line_of line.now) (history_of before.now) → ⊥) }
     {
@@ -232,7 +242,7 @@ impl AgreementTracker {
         if self.nodes.len() > MOST_NODES {
             return false;
         }
-        self.agree_at(header, line.at, known)
+        self.agree_at(header, line.at, settled)
     }
 
     /// Whether clocks agree in all lines, where they do in those before `from`, for which the
@@ -251,6 +261,7 @@ impl AgreementTracker {
             → Timely (history_of lines.now) → Numbered count (history_of lines.now)
             → vec_len self.old.trips + (length lines.now - from) ≤ vec_capacity self.old.trips
             → AgreementIs count (history_of (take from lines.now)) self.old
+            → SettledAt header.now self.old.settled self.old.nodes.items
             → Agreed setting (history_of (take from lines.now))
             → MatchBool result (Agreed setting (history_of lines.now))
             (Agreed setting (history_of lines.now) → ⊥) }
@@ -258,19 +269,19 @@ impl AgreementTracker {
             → vec_len self.old.trips + (length lines.now - from) ≤ vec_capacity self.old.trips
             → AgreementIs count (history_of (take from lines.now)) self.old
             → AgreementIs count (history_of lines.now) self.new }
+        ensures settled { result ≡ true → SettledAt header.now self.old.settled self.old.nodes.items
+            → SettledAt header.now self.new.settled self.new.nodes.items }
     {
-        let mut known = false;
-        let mut time = 0;
+        let mut settled = self.settled;
         for i in from..lines.len() {
             self.note(lines, i);
             let line = &lines[i];
-            known = stays_known(known, time, line);
-            if !self.agrees(header, &lines[..i], line, known) {
+            settled = self.settled_by(header, line.at, settled_after(line, settled));
+            if !self.agrees(header, &lines[..i], line, settled) {
                 return false;
             }
-            known = is_known(known, line);
-            time = line.at;
         }
+        self.settled = settled;
         true
     }
 }

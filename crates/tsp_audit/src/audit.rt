@@ -9,8 +9,8 @@ ghost use Rattle.tsp_claims.specs.ClaimedHistory.{Claim, claimed};
 ghost use Rattle.tsp_claims.specs.Stands.{ClaimsStand};
 
 use crate::looking::{look, look_through};
-use crate::remembered::Remembered;
 use crate::premises::Premises;
+use crate::remembered::Remembered;
 use crate::verdict::{Failure, Verdict, verdict_of};
 use std::alloc::{AllocError, Global};
 use tsp_base::event::Event;
@@ -31,7 +31,7 @@ fn find(
         → ClaimsStand header new claims.now
         → Grown (length header.nodes) h (claimed header new) from
         → HasLineRoom (length (claimed header new) - from) notes.old
-        → (failed ≡ None → RememberedStands premises (length header.nodes) h notes.old)
+        → (failed ≡ None → RememberedStands premises header h notes.old)
         → Finds premises header new h failed notes.new result }
 {
     match failed {

@@ -1,13 +1,12 @@
 //! What a Correct came of, if that is a round: if a Close of a master sent it, as an ADJTIME.
-ghost use Rattle.std.specs.Prelude.{◌≡◌, ◌<◌, ◌^◌, pos, List, ◌∷◌, length, get_or, take, MatchBool, MatchOption};
-ghost use Rattle.tsp_audit.specs.Agreeing.{FromRoundAs, IsFromNoRound, TripsTell};
+ghost use Rattle.std.specs.Prelude.{◌<◌, List, length, MatchBool, MatchOption};
+ghost use Rattle.tsp_audit.specs.Agreeing.{FromRoundAs, IsFromNoRound};
 ghost use Rattle.tsp_audit.specs.FromRounds.{BegunAt, HasNoRound, IsAdjusting, RoundAs, TakesNone, TakesThen};
 ghost use Rattle.tsp_base.specs.History.{Line, dids, of, view};
-ghost use Rattle.tsp_base.specs.RoundFacts.{best};
 ghost use Rattle.tsp_history.specs.Histories.{deed_of, line_of, history_of};
 ghost use Rattle.tsp_history.specs.Notes.{Told};
 ghost use Rattle.tsp_promises.specs.StepFacts.{closed};
-ghost use Rattle.tsp_history.specs.Rounds.{Bests, SeenAt};
+ghost use Rattle.tsp_history.specs.Rounds.{SeenAt, TripsTell};
 
 use crate::once::takes_send;
 use crate::round_correction::RoundCorrection;
@@ -17,41 +16,7 @@ use tsp_history::brief::Brief;
 use tsp_history::counts::counts_at;
 use tsp_history::line::{HistoryLine, Why};
 use tsp_history::posts::post_at;
-use tsp_history::rounds::{Best, best_after, closed_at, samples_from};
-
-/// The round trip at an index, in microseconds; 0 where there is none.
-fn trip_in(trips: &[i128], index: usize) -> i128
-    ensures { result ≡ get_or trips.now index (pos 0) }
-{
-    if index < trips.len() { trips[index] } else { 0 }
-}
-
-/// The best sample of a peer since the last round of a node's port began, if there is one, where
-/// the round trips of these lines stand at their indices.
-pub(crate) fn best_in(
-    lines: &[HistoryLine],
-    trips: &[i128],
-    node: u32,
-    port: Port,
-    p: PeerId,
-) -> Option<Best>
-    ensures { TripsTell (history_of lines.now) trips.now
-        → Bests lines.now node port (best p (view port (of node (history_of lines.now)))) result }
-{
-    let mut best = None;
-    for index in samples_from(lines, node, port)..lines.len() {
-        best = best_after(
-            &lines[index],
-            index,
-            trip_in(trips, index),
-            node,
-            port,
-            p,
-            best,
-        );
-    }
-    best
-}
+use tsp_history::rounds::{best_at, closed_at};
 
 /// The true time, in microseconds, at which something was posted, among these lines, that the step
 /// of a later line takes.
@@ -87,7 +52,7 @@ fn sampled_round(
         (λ c. RoundAs first.now.node first.now.port node (history_of lines.now) c) }
 {
     let past = &lines[..close];
-    let Some(best) = best_in(past, trips, first.node, first.port, PeerId(node)) else {
+    let Some(best) = best_at(past, trips, first.node, first.port, PeerId(node)) else {
         return None;
     };
     if best.index >= close {

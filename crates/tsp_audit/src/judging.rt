@@ -4,17 +4,17 @@ ghost use Rattle.std.specs.Prelude.{vec_capacity, None, MatchBool};
 ghost use Rattle.tsp_promises.specs.Setting.{Setting};
 ghost use Rattle.tsp_history.specs.Histories.{history_of};
 ghost use Rattle.tsp_history.specs.Notes.{Told};
-ghost use Rattle.tsp_audit.specs.Agreeing.{AgreementIs, Numbered};
+ghost use Rattle.tsp_audit.specs.Agreeing.{AgreementIs, Numbered, SettledAt};
 ghost use Rattle.tsp_audit.specs.Parts.{Agreeing, AllKept, PartHolds};
 ghost use Rattle.tsp_audit.specs.Settings.{HasClocks, Timely};
 
-use crate::once::keeps_acting;
 use crate::agreement_tracker::AgreementTracker;
 use crate::backing::keeps_backing;
 use crate::leading::keeps_leading;
 use crate::measuring::keeps_measuring_if;
-use crate::remembered::Remembered;
+use crate::once::keeps_acting;
 use crate::premises::Premises;
+use crate::remembered::Remembered;
 use tsp_base::header::Header;
 use tsp_history::line::HistoryLine;
 
@@ -35,6 +35,7 @@ fn keeps_agreeing_if(
         → Timely (history_of lines.now) → Numbered count (history_of lines.now)
         → vec_len agreement.old.trips + (length lines.now - from) ≤ vec_capacity agreement.old.trips
         → (AllKept premises → AgreementIs count (history_of (take from lines.now)) agreement.old)
+        → SettledAt header.now agreement.old.settled agreement.old.nodes.items
         → PartHolds premises setting Agreeing (history_of (take from lines.now))
         → MatchBool result (PartHolds premises setting Agreeing (history_of lines.now))
         (PartHolds premises setting Agreeing (history_of lines.now) → ⊥) }
@@ -42,6 +43,9 @@ fn keeps_agreeing_if(
         → vec_len agreement.old.trips + (length lines.now - from) ≤ vec_capacity agreement.old.trips
         → AgreementIs count (history_of (take from lines.now)) agreement.old
         → AgreementIs count (history_of lines.now) agreement.new }
+    ensures settled { result ≡ true
+        → SettledAt header.now agreement.old.settled agreement.old.nodes.items
+        → SettledAt header.now agreement.new.settled agreement.new.nodes.items }
 {
     if premises.all_kept() {
         agreement.keeps_agreeing(header, lines, from)
@@ -67,15 +71,16 @@ pub(crate) fn judge(
     requires from { from ≤ length lines.now }
     requires few { length lines.now < 2 ^ 32 }
     requires told { Told lines.now }
-    ensures judges { (setting : Setting) (count : ℕ) → HasClocks header.now setting
-        → Timely (history_of lines.now) → Numbered count (history_of lines.now)
+    ensures judges { (setting : Setting) → HasClocks header.now setting
+        → Timely (history_of lines.now)
+        → Numbered (length header.now.nodes) (history_of lines.now)
         → HasLineRoom (length lines.now - from) notes.old
-        → RememberedStands premises count (history_of (take from lines.now)) notes.old
+        → RememberedStands premises header.now (history_of (take from lines.now)) notes.old
         → AllKeep premises setting (history_of (take from lines.now))
         → JudgesParts premises setting (history_of lines.now) result }
-    ensures notes { (count : ℕ) → result ≡ None → HasLineRoom (length lines.now - from) notes.old
-        → RememberedStands premises count (history_of (take from lines.now)) notes.old
-        → RememberedStands premises count (history_of lines.now) notes.new }
+    ensures notes { result ≡ None → HasLineRoom (length lines.now - from) notes.old
+        → RememberedStands premises header.now (history_of (take from lines.now)) notes.old
+        → RememberedStands premises header.now (history_of lines.now) notes.new }
 {
     if !keeps_backing(lines, from) {
         return Some(12);

@@ -56,22 +56,22 @@
 //! - How fast it is.
 #![tactic(auto)]
 
-mod once;
 mod agreement_tracker;
 pub mod audit;
 mod backing;
 mod brought;
-mod from_round;
 mod clock;
+mod from_round;
 mod judging;
 pub mod laws;
 mod leading;
 mod looking;
 mod measuring;
 mod nearness;
-mod remembered;
+mod once;
 pub mod premised;
 pub mod premises;
+mod remembered;
 mod resting;
 mod round_correction;
 mod shown;

@@ -8,8 +8,8 @@ ghost use Rattle.tsp_base.specs.History.{Line};
 ghost use Rattle.tsp_history.specs.Histories.{history_of};
 
 use crate::judging::judge;
-use crate::remembered::Remembered;
 use crate::premises::Premises;
+use crate::remembered::Remembered;
 use crate::verdict::Failure;
 use std::alloc::AllocError;
 use tsp_base::header::Header;
@@ -33,7 +33,7 @@ pub(crate) fn look(
         → history_of lines.now ≡ claimed header.now new → event ≡ length new
         → Grown (length header.now.nodes) h (claimed header.now new) from
         → HasLineRoom (length (claimed header.now new) - from) notes.old
-        → RememberedStands premises (length header.now.nodes) h notes.old
+        → RememberedStands premises header.now h notes.old
         → Looks premises header.now new h notes.new result }
 {
     if lines.len() < from {
@@ -65,7 +65,7 @@ fn look_at(
         → ClaimsStand header told claims.now → AreDated (length header.nodes) told
         → Within (c ∷ before) told → from ≡ length (claimed header before)
         → end ≡ length (claimed header (c ∷ before)) → event ≡ length before + 1
-        → RememberedStands premises (length header.nodes) (claimed header before) notes.old
+        → RememberedStands premises header (claimed header before) notes.old
         → IfOk result (λ found. Looks premises header (c ∷ before) (claimed header before) notes.new
         found) }
 {
@@ -90,7 +90,7 @@ pub(crate) fn look_through(
 ) -> Result<Option<Failure>, AllocError>
     ensures { (header : HeaderValue) (told : List Claim) → ClaimsStand header told claims.now
         → AreDated (length header.nodes) told → EndsAt header told ends.now
-        → RememberedStands premises (length header.nodes) [] notes.old
+        → RememberedStands premises header [] notes.old
         → IfOk result (λ found. Looked premises header told notes.new found) }
 {
     let mut from = 0;

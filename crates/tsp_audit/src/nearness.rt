@@ -1,7 +1,7 @@
 //! Whether clocks that one round corrected agree.
-ghost use Rattle.std.specs.Prelude.{◌≡◌, ◌≤◌, ◌<◌, ◌≤ℤ◌, ◌-ℤ◌, pos, nat_abs, ℕ, length, Some};
-ghost use Rattle.tsp_audit.specs.Agreeing.{AgreesBack, AllAgree, AllBounded, BossAgrees, MasterNear};
-ghost use Rattle.tsp_audit.specs.Agreeing.{PairAgrees, PairNear, PairsAgree, FromRoundStands};
+ghost use Rattle.std.specs.Prelude.{◌≡◌, ◌≤◌, ◌<◌, ◌≤ℤ◌, ◌-ℤ◌, pos, nat_abs, ℕ, length, true, Some};
+ghost use Rattle.tsp_audit.specs.Agreeing.{AgreesBack, AllAgree, AllBounded, AllPast, BossAgrees};
+ghost use Rattle.tsp_audit.specs.Agreeing.{FromRoundStands, IsPast, MasterNear, PairAgrees, PairNear, PairsAgree, Settles};
 ghost use Rattle.tsp_audit.specs.Standings.{IsWhether, OfNode, OfPair, StandsAs};
 ghost use Rattle.tsp_audit.specs.declared.round_correction.NodeState.{NodeState as NodeValue};
 ghost use Rattle.tsp_audit.specs.declared.round_correction.RoundCorrection.{RoundCorrection as CorrectionValue};
@@ -45,7 +45,8 @@ fn is_met(low: i128, high: i128, other_low: i128, other_high: i128) -> bool
 fn pair_near(own: &Standing, other: &Standing) -> bool
     ensures { (a b : NodeValue) (c d : CorrectionValue) → a.from_round ≡ Some c → b.from_round ≡ Some d
         → OfPair a own.now b other.now
-        (λ header at first second. IsWhether result (PairNear header at first a c second b d)) }
+        (λ header at spare first second. IsWhether result
+        (PairNear header at spare first a c second b d)) }
 {
     is_met(own.low, own.high, other.low, other.high)
 }
@@ -53,7 +54,8 @@ fn pair_near(own: &Standing, other: &Standing) -> bool
 /// Whether two nodes differ by at most their errors and drift, where one Close corrected both; else true.
 fn pair_agrees(a: &NodeState, own: &Standing, b: &NodeState, other: &Standing) -> bool
     ensures { OfPair a.now own.now b.now other.now
-        (λ header at first second. IsWhether result (PairAgrees header at first a.now second b.now)) }
+        (λ header at spare first second. IsWhether result
+        (PairAgrees header at spare first a.now second b.now)) }
 {
     match (&a.from_round, &b.from_round) {
         (Some(c), Some(d)) => {
@@ -73,7 +75,7 @@ fn pairs_agree(node: usize, a: &NodeState, states: &[NodeState], stand: &[Standi
     requires node { node < length states.now }
     requires many { length states.now ≤ length stand.now }
     ensures { OfNode states.now stand.now node a.now
-        (λ header at. IsWhether result (PairsAgree header at node a.now states.now)) }
+        (λ header at spare. IsWhether result (PairsAgree header at spare node a.now states.now)) }
 {
     for k in 0..node + 1 {
         if !pair_agrees(a, &stand[node], &states[k], &stand[k]) {
@@ -103,9 +105,10 @@ fn stands(c: &RoundCorrection, b: &NodeState) -> bool
 /// Whether a node and its master, whose clocks stand so, differ by at most the error and drift.
 fn master_near(own: &Standing, other: &Standing) -> bool
     ensures { (a b : NodeValue) (c : CorrectionValue) → a.from_round ≡ Some c → (header : HeaderValue)
-        (at node : ℕ) → StandsAs header at node a own.now → StandsAs header at c.master b other.now
+        (at spare node : ℕ) → StandsAs header at spare node a own.now
+        → StandsAs header at spare c.master b other.now
         → IsSumOf 4294967295 a.moved → IsSumOf 4294967295 b.moved
-        → IsWhether result (MasterNear header at node a c b) }
+        → IsWhether result (MasterNear header at spare node a c b) }
 {
     is_met(own.low, own.high, other.clock, other.clock)
 }
@@ -116,7 +119,7 @@ fn master_agrees(node: usize, a: &NodeState, states: &[NodeState], stand: &[Stan
     requires node { node < length states.now }
     requires many { length states.now ≤ length stand.now }
     ensures { OfNode states.now stand.now node a.now
-        (λ header at. IsWhether result (BossAgrees header at node a.now states.now)) }
+        (λ header at spare. IsWhether result (BossAgrees header at spare node a.now states.now)) }
 {
     let Some(c) = &a.from_round else {
         return true;
@@ -138,7 +141,7 @@ fn node_agrees(node: usize, a: &NodeState, states: &[NodeState], stand: &[Standi
     requires node { node < length states.now }
     requires many { length states.now ≤ length stand.now }
     ensures { OfNode states.now stand.now node a.now
-        (λ header at. IsWhether result (AgreesBack header at node a.now states.now)) }
+        (λ header at spare. IsWhether result (AgreesBack header at spare node a.now states.now)) }
 {
     if a.from_round.is_none() {
         return true;
@@ -147,17 +150,53 @@ fn node_agrees(node: usize, a: &NodeState, states: &[NodeState], stand: &[Standi
 }
 
 /// Whether each of these nodes agrees with all that its Close corrected, and with its master, at a
-/// true time in microseconds.
-pub(crate) fn all_agree(header: &Header, at: u64, states: &[NodeState]) -> bool
-    requires { length states.now ≤ 16 }
+/// true time, even if each error is less by `spare`; times in microseconds.
+pub(crate) fn all_agree(header: &Header, at: u64, spare: u32, states: &[NodeState]) -> bool
+    requires { length states.now ≤ 64 }
     ensures { at ≤ 1000000000000000 → AllBounded states.now
-        → IsWhether result (AllAgree header.now at states.now) }
+        → IsWhether result (AllAgree header.now at spare states.now) }
 {
-    let stand = standings(header, at, states);
+    let stand = standings(header, at, spare, states);
     for n in 0..states.len() {
         if !node_agrees(n, &states[n], states, &stand[..]) {
             return false;
         }
     }
     true
+}
+
+/// Whether a round corrected a node by no reading that is later than a true time, in microseconds.
+fn is_past(at: u64, a: &NodeState) -> bool
+    ensures { result ≡ true → IsPast at a.now }
+{
+    match &a.from_round {
+        Some(c) => c.at <= at,
+        None => true,
+    }
+}
+
+/// The same of each of these nodes.
+fn all_past(at: u64, states: &[NodeState]) -> bool
+    ensures { result ≡ true → AllPast at states.now }
+{
+    for n in 0..states.len() {
+        if !is_past(at, &states[n]) {
+            return false;
+        }
+    }
+    true
+}
+
+/// By how much less each error may be where clocks settle, in microseconds: ticks and drifts are
+/// whole numbers, and so may bring clocks nearer to their bounds by as much.
+const SPARE: u32 = 4;
+
+/// Whether clocks agree at a true time, in microseconds, with so much to spare that they do from
+/// then on, as long as none is moved: their bounds grow no slower than they drift apart.
+pub(crate) fn settles(header: &Header, at: u64, states: &[NodeState]) -> bool
+    requires { length states.now ≤ 64 }
+    ensures { result ≡ true → at ≤ 1000000000000000 → AllBounded states.now
+        → Settles header.now at states.now }
+{
+    all_past(at, states) && all_agree(header, at, SPARE, states)
 }

@@ -1,6 +1,7 @@
 //! What an audit notes of a claimed history.
-ghost use Rattle.std.specs.Prelude.{◌≤◌, ℕ, [], List, IfOk, OnOk};
+ghost use Rattle.std.specs.Prelude.{◌≡◌, ◌≤◌, [], List, length, IfOk, OnOk};
 ghost use Rattle.tsp_audit.specs.declared.premises.Premises.{Premises};
+ghost use Rattle.tsp_base.specs.Headers.{HeaderValue};
 ghost use Rattle.tsp_base.specs.History.{Line};
 
 use crate::agreement_tracker::AgreementTracker;
@@ -20,9 +21,9 @@ impl Remembered {
 
     /// Nothing is noted of so many nodes. Fails only if out of memory.
     pub(crate) fn new(alloc: Global, count: usize) -> Result<Remembered, AllocError>
-        requires { count ≤ 16 }
-        ensures { IfOk result (λ notes. (premises : Premises)
-            → RememberedStands premises count [] notes) }
+        requires { count ≤ 64 }
+        ensures { IfOk result (λ notes. (premises : Premises) (header : HeaderValue)
+            → length header.nodes ≡ count → RememberedStands premises header [] notes) }
     {
         match AgreementTracker::new(alloc, count) {
             Ok(agreement) => Ok(Remembered {
@@ -36,8 +37,9 @@ impl Remembered {
     /// Makes room for so many lines more. Fails only if out of memory; either way the notes stand for what they did.
     pub(crate) fn make_room(&mut self, lines: usize) -> Result<(), AllocError>
         ensures room { OnOk result (HasLineRoom lines self.new) }
-        ensures stand { (premises : Premises) (count : ℕ) (h : List Line)
-            → RememberedStands premises count h self.old → RememberedStands premises count h self.new }
+        ensures stand { (premises : Premises) (header : HeaderValue) (h : List Line)
+            → RememberedStands premises header h self.old
+            → RememberedStands premises header h self.new }
     {
         match self.acted.reserve(lines) {
             Ok(()) => self.agreement.make_room(lines),

@@ -1,18 +1,17 @@
 //! Whether an ADJTIME rests on a sample.
 ghost use Rattle.std.specs.Prelude.{◌≡◌, true, is_some, MatchBool};
-ghost use Rattle.tsp_audit.specs.Agreeing.{TripsTell};
 ghost use Rattle.tsp_audit.specs.Resting.{RestsOn};
 ghost use Rattle.tsp_promises.specs.Agreed.{RestsOnSample};
 ghost use Rattle.tsp_base.specs.History.{of, view};
 ghost use Rattle.tsp_history.specs.Histories.{line_of, history_of};
+ghost use Rattle.tsp_history.specs.Rounds.{TripsTell};
 
-use crate::from_round::best_in;
 use tsp_base::kind::Kind;
 use tsp_base::place::{PeerId, Place, Port};
 use tsp_history::brief::Brief;
 use tsp_history::line::HistoryLine;
 use tsp_history::posts::is_acting;
-use tsp_history::rounds::closed_at;
+use tsp_history::rounds::{best_at, closed_at};
 
 /// Whether the last Close of a port's step, if there is one, had a sample of a peer.
 fn has_sample(lines: &[HistoryLine], trips: &[i128], node: u32, port: Port, p: PeerId) -> bool
@@ -24,7 +23,7 @@ fn has_sample(lines: &[HistoryLine], trips: &[i128], node: u32, port: Port, p: P
         None => true,
         Some(close) => {
             if close < lines.len() {
-                best_in(&lines[..close], trips, node, port, p).is_some()
+                best_at(&lines[..close], trips, node, port, p).is_some()
             } else {
                 true
             }

@@ -1,12 +1,13 @@
 //! How a line changes what is remembered of its node.
 ghost use Rattle.std.specs.Prelude.{◌≡◌, ◌≤◌, ◌<◌, ◌^◌, ℕ, ℤ, List, [], ◌∷◌, length, true, MatchBool};
-ghost use Rattle.tsp_audit.specs.Agreeing.{FirstIs, NodeIs, TripsTell};
+ghost use Rattle.tsp_audit.specs.Agreeing.{FirstIs, NodeIs};
 ghost use Rattle.tsp_audit.specs.Changes.{IsCorrect, LeavesState};
 ghost use Rattle.tsp_base.specs.declared.act.Act.TheVariants.{Boot};
 ghost use Rattle.tsp_base.specs.History.{Acts, Line, from_act};
 ghost use Rattle.tsp_base.specs.NodeFacts.{all_corrects_after, lives_after};
 ghost use Rattle.tsp_history.specs.Histories.{deed_of, line_of, history_of};
 ghost use Rattle.tsp_history.specs.Notes.{Told};
+ghost use Rattle.tsp_history.specs.Rounds.{TripsTell};
 
 use crate::from_round::correction_at;
 use crate::round_correction::NodeState;

@@ -1,6 +1,9 @@
 -- How exchanges and samples are told.
 use Rattle.std.specs.Prelude.{◌≡◌, ◌==◌, ◌<◌, ℕ, ℤ, pos, ◌-ℤ◌, ◌+ℤ◌, int_lt, Bool, true, false, if◌then◌else◌, List, ◌∷◌, length, get_or, take, Option, None, Some}
-use Rattle.std.proofs.Common.{◌∙◌, ap, ap₂, sym, subst, refl, eq-eqb}
+use Rattle.std.proofs.Common.{◌∙◌, ap, ap₂, arith, sym, subst, refl, eq-eqb}
+use Rattle.std.proofs.lemmas.Int.{ints}
+use Rattle.std.proofs.lemmas.List.{length-take-le}
+use Rattle.tsp_base.specs.declared.act.Act.{Act}
 use Rattle.tsp_base.specs.declared.act.Act.TheVariants.{Post, Sample}
 use Rattle.tsp_base.specs.declared.datagram.Datagram.{Datagram}
 use Rattle.tsp_base.specs.declared.place.PeerId.{PeerId}
@@ -14,8 +17,9 @@ use Rattle.tsp_history.specs.declared.line.HistoryLine.{HistoryLine}
 use Rattle.tsp_history.specs.declared.rounds.Best.{Best}
 use Rattle.tsp_history.specs.Histories.{deed_of, line_of, history_of}
 use Rattle.tsp_history.specs.Posts.{IsPost}
-use Rattle.tsp_history.specs.Rounds.{Asked, AskedAt, BestAt, Bests, better_of, LineAt, SeenAt, start_of, trip_after, trip_at}
+use Rattle.tsp_history.specs.Rounds.{Asked, AskedAt, BestAt, Bests, better_of, IsSampleOf, LineAt, SeenAt, TripsTell, sample_in, sampled_at, start_of, trip_after, trip_at}
 use Rattle.tsp_history.proofs.HistoryLemmas.{Within-noted}
+use Rattle.tsp_history.proofs.NoteLemmas.{length-history}
 use Rattle.tsp_history.proofs.SendLemmas.{view-here}
 use Rattle.tsp_history.proofs.SpacingLemmas.{of-own}
 
@@ -62,56 +66,90 @@ pick ns n q false x y u v a b = b
 tells-best : (ns : List HistoryLine) (n : ℕ) (q : Port) (o : Option Sampled) (x : Sampled) (b : Best) → o ≡ Some x → TellsOf ns n q x b → BestAt ns n q o b
 tells-best ns n q o x b is told = record { sampled = x; is = is; diff_is = told.diff_is; err_is = told.err_is; trip_is = told.trip_is; place = told.place }
 
+-- the better of two samples, if there are any, the earlier one first
+abbrev pub merged : Option Best → Option Best → Option Best
+merged None late = late
+merged (Some early) late = Some (better_of early late)
+
 -- the better of what was seen and a new sample
-better-told : (ns : List HistoryLine) (n : ℕ) (q : Port) (o : Option Sampled) (was : Option Best) (late : Sampled) (new : Best) → Bests ns n q o was → TellsOf ns n q late new → BestAt ns n q (Some (better o late)) (better_of was new)
+better-told : (ns : List HistoryLine) (n : ℕ) (q : Port) (o : Option Sampled) (was : Option Best) (late : Sampled) (new : Best) → Bests ns n q o was → TellsOf ns n q late new → Bests ns n q (Some (better o late)) (merged was (Some new))
 better-told ns n q o None late new none told = tells-best ns n q (Some (better o late)) late new (ap (λ k. Some (better k late)) none) told
 better-told ns n q o (Some b) late new is told =
     let early : TellsOf ns n q is.sampled b = record { diff_is = is.diff_is; err_is = is.err_is; trip_is = is.trip_is; place = is.place } in
     let one : Sampled = if int_lt new.trip b.trip then late else is.sampled in
     let same : better (Some is.sampled) late ≡ one = ap₂ (λ s t. let r : Sampled = if int_lt s t then late else is.sampled in r) told.trip_is is.trip_is in
-    tells-best ns n q (Some (better o late)) one (better_of (Some b) new) (ap (λ k. Some (better k late)) is.is ∙ ap (λ k. Some k) same) (pick ns n q (int_lt new.trip b.trip) late is.sampled new b told early)
+    tells-best ns n q (Some (better o late)) one (better_of b (Some new)) (ap (λ k. Some (better k late)) is.is ∙ ap (λ k. Some k) same) (pick ns n q (int_lt new.trip b.trip) late is.sampled new b told early)
 
 peer-same : (p r : PeerId) → p.0 ≡ r.0 → p ≡ r
 peer-same p r e = ap (λ n. let o : PeerId = record { 0 = n } in o) e
 
 -- a sample is taken
-pub best-here : (ns : List HistoryLine) (n : ℕ) (q : Port) (p r : PeerId) (counter : ℕ) (diff err : ℤ) (ticket : ℕ) (noted : HistoryLine) (i : ℕ) (h : List Line) (was : Option Best) (trip : ℤ) →
-    LineAt ns i noted → h ≡ history_of (take i ns) → noted.node ≡ n → noted.port.0 ≡ q.0 → (line_of noted).did.deed ≡ Acts (Sample r counter diff err ticket) → r.0 ≡ p.0 → trip ≡ trip_at (line_of noted) h →
-    Bests ns n q (best p (view q (of n h))) was → BestAt ns n q (best p (view q (of n (line_of noted ∷ h)))) (better_of was (record { index = i; diff = diff; err = err; trip = trip }))
-best-here ns n q p r counter diff err ticket noted i h was trip at past node port0 deed to trips best_is =
-    subst (λ o. BestAt ns n q o (better_of was new)) (sym now) (better-told ns n q (best p s) was late new best_is told)
+pub best-here : (ns : List HistoryLine) (n : ℕ) (q : Port) (p : PeerId) (noted : HistoryLine) (i : ℕ) (was : Option Best) (trip : ℤ) → LineAt ns i noted → IsSampleOf noted n q p → trip ≡ trip_at (line_of noted) (history_of (take i ns)) →
+    Bests ns n q (best p (view q (of n (history_of (take i ns))))) was → Bests ns n q (best p (view q (of n (line_of noted ∷ history_of (take i ns))))) (merged was (Some (sampled_at noted i trip)))
+best-here ns n q p noted i was trip at is trips best_is =
+    subst (λ (a : Option Act). Bests ns n q (best p (view q (of n (l ∷ h)))) (merged was (Some (sample_in a i trip)))) (sym is.act) (subst (λ o. Bests ns n q o (merged was (Some new))) (sym now) (better-told ns n q (best p s) was late new best_is told))
   where
     l : Line
     l = line_of noted
+
+    h : List Line
+    h = history_of (take i ns)
 
     s : List Seen
     s = view q (of n h)
 
     port : noted.port ≡ q
-    port = port-same noted.port q (eq-eqb noted.port.0 q.0 port0)
+    port = port-same noted.port q (eq-eqb noted.port.0 q.0 is.port)
 
-    own : l.did.deed ≡ Acts (Sample p counter diff err ticket)
-    own = deed ∙ ap (λ k. Acts (Sample k counter diff err ticket)) (peer-same r p to)
+    own : l.did.deed ≡ Acts (Sample p is.counter is.diff is.err is.ticket)
+    own = ap deed_of is.act ∙ ap (λ k. Acts (Sample k is.counter is.diff is.err is.ticket)) (peer-same is.peer p is.peer_is)
 
     late : Sampled
-    late = sample-at p counter diff err ticket l.did s
+    late = sample-at p is.counter is.diff is.err is.ticket l.did s
 
     new : Best
-    new = record { index = i; diff = diff; err = err; trip = trip }
+    new = record { index = i; diff = is.diff; err = is.err; trip = trip }
 
     now : best p (view q (of n (l ∷ h))) ≡ Some (better (best p s) late)
-    now = ap (best p) (view-here n q l h node port) ∙ best-sample p counter diff err ticket l.did s own
+    now = ap (best p) (view-here n q l h is.node port) ∙ best-sample p is.counter is.diff is.err is.ticket l.did s own
 
     measured : trip_at l h ≡ late.trip
-    measured = ap (λ a. trip_after a l.did (view noted.port (of noted.node h))) own ∙ ap₂ (λ k m. trip_after (Acts (Sample p counter diff err ticket)) l.did (view k (of m h))) port node
+    measured = ap (λ a. trip_after a l.did (view noted.port (of noted.node h))) own ∙ ap₂ (λ k m. trip_after (Acts (Sample p is.counter is.diff is.err is.ticket)) l.did (view k (of m h))) port is.node
 
     told : TellsOf ns n q late new
     told = record {
       diff_is = refl;
       err_is = refl;
       trip_is = sym (trips ∙ measured);
-      place = record { noted = noted; at = at; node = node; port = port; is = ap (λ k. Here l.did ∷ view q (of n k)) past };
+      place = record { noted = noted; at = at; node = is.node; port = port; is = refl };
     }
+
+-- the round trip of a line by its index
+pub trip-here : (ns : List HistoryLine) (trips : List ℤ) (i : ℕ) (noted : HistoryLine) → TripsTell (history_of ns) trips → i < length ns → get_or ns i noted ≡ noted → get_or trips i (pos 0) ≡ trip_at (line_of noted) (history_of (take i ns))
+trip-here ns trips i noted tell lt is =
+    subst (λ (k : ℕ). get_or trips k (pos 0) ≡ trip_at (line_of noted) (history_of (take i ns))) (omega (arith, length-history (take i ns), length-take-le i ns (omega (arith, lt)))) (tell (line_of noted) (history_of (take i ns)) (Within-noted ns i noted lt is))
+
+pub merged-none : (was : Option Best) → merged was None ≡ was
+merged-none None = refl
+merged-none (Some b) = refl
+
+less-chain : (a b c : ℤ) → int_lt a b ≡ true → int_lt b c ≡ true → int_lt a c ≡ true
+less-chain a b c one two = grind (arith, ints)
+
+less-none : (a b c : ℤ) → int_lt a b ≡ false → int_lt b c ≡ false → int_lt a c ≡ false
+less-none a b c one two = grind (arith, ints)
+
+-- of three samples, whichever two are compared first
+pub merged-more : (was : Option Best) (new : Best) (late : Option Best) → merged (merged was (Some new)) late ≡ merged was (Some (better_of new late))
+merged-more None new late = refl
+merged-more (Some e) new None = refl
+merged-more (Some e) new (Some l) = ap (λ b. Some b) (least (int_lt new.trip e.trip) (int_lt l.trip new.trip) (int_lt l.trip e.trip) refl refl refl) where
+  least : (b c d : Bool) → int_lt new.trip e.trip ≡ b → int_lt l.trip new.trip ≡ c → int_lt l.trip e.trip ≡ d →
+      (let one : Best = if b then new else e in if int_lt l.trip one.trip then l else one) ≡ (let two : Best = if c then l else new in if int_lt two.trip e.trip then two else e)
+  least true true d be ce de = rw (ce, less-chain l.trip new.trip e.trip ce be) refl
+  least true false d be ce de = rw (ce, be) refl
+  least false true d be ce de = rw de refl
+  least false false d be ce de = rw (be, less-none l.trip new.trip e.trip ce be) refl
 
 start-there : (seen : List Seen) (asked : Option ℤ) → Asked seen asked → target_there seen ≡ start_of asked
 start-there seen None none = ap target_there none
@@ -123,7 +161,3 @@ pub trip-told : (l : Line) (h : List Line) (p : PeerId) (counter : ℕ) (diff er
 trip-told l h p counter diff err ticket asked now deed told is =
     ap (λ a. trip_after a l.did (view l.port (of (node_of l) h))) deed
     ∙ ap₂ (λ a b. a -ℤ b) (ap (λ ds. target ds l.did.tick) (plain_view l.port (of (node_of l) h)) ∙ sym is) (start-there (exchange p counter (view l.port (of (node_of l) h))) asked told)
-
--- the better of two, where what the later one says is written otherwise
-pub better-same : (was : Option Best) (i : ℕ) (d d' e e' t t' : ℤ) → d ≡ d' → e ≡ e' → t ≡ t' → better_of was (record { index = i; diff = d; err = e; trip = t }) ≡ better_of was (record { index = i; diff = d'; err = e'; trip = t' })
-better-same was i d d' e e' t t' same-d same-e same-t = rw (same-d, same-e, same-t) refl

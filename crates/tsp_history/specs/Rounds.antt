@@ -1,8 +1,8 @@
 -- The exchanges and the samples of a port's round, among noted lines.
-use Rattle.std.specs.Prelude.{◌≡◌, ◌<◌, ◌≤◌, ℕ, ℤ, pos, ◌-ℤ◌, int_lt, if◌then◌else◌, List, [], ◌∷◌, length, get_or, take, Option, None, Some}
+use Rattle.std.specs.Prelude.{◌≡◌, ◌<◌, ℕ, ℤ, pos, ◌-ℤ◌, int_lt, if◌then◌else◌, List, [], ◌∷◌, length, get_or, take, Option, None, Some}
 use Rattle.tsp_base.specs.declared.act.Act.{Act}
-use Rattle.tsp_base.specs.declared.act.Act.TheVariants.{Arm, Become, Boot, Sample}
-use Rattle.tsp_base.specs.declared.alarm.Alarm.TheVariants.{Close as CloseAlarm}
+use Rattle.tsp_base.specs.declared.act.Act.TheVariants.{Sample}
+use Rattle.tsp_base.specs.declared.place.PeerId.{PeerId}
 use Rattle.tsp_base.specs.declared.place.Port.{Port}
 use Rattle.tsp_promises.specs.Fits.{node_of}
 use Rattle.tsp_base.specs.Words.{Deed, Acts, Did, Line, Seen, Here, of, plain, view, target, Within, Sampled, exchange, target_there}
@@ -65,26 +65,36 @@ pub record BestAt (ns : List HistoryLine) (n : ℕ) (q : Port) (sample : Option 
   pub place : SeenAt ns n q sampled.place b.index
 
 -- of two samples the one of the less round trip, and the earlier where they are equal
-abbrev pub better_of : Option Best → Best → Best
-better_of None late = late
-better_of (Some early) late = if int_lt late.trip early.trip then late else early
+abbrev pub better_of : Best → Option Best → Best
+better_of early None = early
+better_of early (Some late) = if int_lt late.trip early.trip then late else early
 
 -- the best sample, if there is one
 abbrev pub Bests : List HistoryLine → ℕ → Port → Option Sampled → Option Best → Type 0
 Bests ns n q sample None = sample ≡ None
 Bests ns n q sample (Some b) = BestAt ns n q sample b
 
--- an act of port p, or a life of its node, after which nothing is left of the samples of port q
-abbrev pub ForgetsBy : Port → Port → Option Act → Type 0
-ForgetsBy q p (Some Boot) = Unit {0}
-ForgetsBy q p (Some (Become role)) = p ≡ q
-ForgetsBy q p (Some (Arm CloseAlarm tick)) = p ≡ q
-ForgetsBy q p _ = ⊥
+-- the round trip of each line stands at the index of that line
+abbrev pub TripsTell : List Line → List ℤ → Type 0
+TripsTell h trips = (l : Line) (before : List Line) → Within (l ∷ before) h → get_or trips (length before) (pos 0) ≡ trip_at l before
 
--- after this line nothing is left of the samples of port q of node n
-abbrev pub Forgets : ℕ → Port → HistoryLine → Type 0
-Forgets n q l = (l.node ≡ n) × ForgetsBy q l.port l.act
+-- a line samples peer p on port q of node n
+pub record IsSampleOf (noted : HistoryLine) (n : ℕ) (q : Port) (p : PeerId) : Type 0 where
+  pub node : noted.node ≡ n
+  pub port : noted.port.0 ≡ q.0
+  pub peer : PeerId
+  pub counter : ℕ
+  pub diff : ℤ
+  pub err : ℤ
+  pub ticket : ℕ
+  pub act : noted.act ≡ Some (Sample peer counter diff err ticket)
+  pub peer_is : peer.0 ≡ p.0
 
--- none of these lines from this index on forgets the samples of port q of node n
-pub record KeepsFrom (n : ℕ) (q : Port) (ns : List HistoryLine) (from : ℕ) : Type 0 where
-  pub at : (i : ℕ) (l : HistoryLine) → from ≤ i → i < length ns → get_or ns i l ≡ l → Forgets n q l → ⊥
+-- what an act says as a sample, at this index and with this round trip
+abbrev pub sample_in : Option Act → ℕ → ℤ → Best
+sample_in (Some (Sample p counter diff err ticket)) i trip = record { index = i; diff = diff; err = err; trip = trip }
+sample_in _ i trip = record { index = i; diff = pos 0; err = pos 0; trip = trip }
+
+-- the same of a line
+abbrev pub sampled_at : HistoryLine → ℕ → ℤ → Best
+sampled_at noted i trip = sample_in noted.act i trip

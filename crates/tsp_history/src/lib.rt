@@ -31,7 +31,7 @@
 //!   and how far it was moved (`moved` and `bounded` of `moved_at`, `target` and `small` of `target_at`),
 //!   which line posts a datagram, whether a step has taken something, the send that began last and the one
 //!   that is open, whether a round goes on, the exchange that is open (`asked` of `asked_at`), the round trip
-//!   of a sample (`trip` of `trip_of`), the best sample (`best_after`, line by line) and the last Close of a
+//!   of a sample (`trip` of `trip_of`), the best sample of a round (`best_at`) and the last Close of a
 //!   step.
 //! - An act has one brief (`one_brief`).
 //! - And a history takes memory only if room is made (`room` of `History::new`, `push` and `append`, `full`

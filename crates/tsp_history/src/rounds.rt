@@ -1,6 +1,6 @@
 //! Facts of a port's round: its exchanges and its samples.
-ghost use Rattle.std.specs.Prelude.{◌≡◌, ◌<◌, ◌≤◌, ◌^◌, ◌-ℤ◌, pos, true, false, List, ℕ, ◌∷◌};
-ghost use Rattle.std.specs.Prelude.{None, length, take, IfSome};
+ghost use Rattle.std.specs.Prelude.{◌≡◌, ◌<◌, ◌≤◌, ◌^◌, ◌-ℤ◌, pos, true, List, ◌∷◌};
+ghost use Rattle.std.specs.Prelude.{None, length, get_or, IfSome};
 ghost use Rattle.tsp_base.specs.History.{Line, of, dids, view};
 ghost use Rattle.tsp_base.specs.RoundFacts.{best, exchange, is_going};
 ghost use Rattle.tsp_base.specs.NodeFacts.{target};
@@ -10,8 +10,8 @@ ghost use Rattle.tsp_history.specs.Clocks.{IsSmall, IsSumOf, IsTrip, KeepsClock}
 ghost use Rattle.tsp_history.specs.Histories.{line_of, history_of};
 ghost use Rattle.tsp_history.specs.Notes.{Told};
 ghost use Rattle.tsp_history.specs.Posts.{IsPost};
-ghost use Rattle.tsp_history.specs.Rounds.{Asked, Bests, better_of, Forgets, KeepsFrom};
-ghost use Rattle.tsp_history.specs.Rounds.{LineAt, SeenBy, start_of, trip_at};
+ghost use Rattle.tsp_history.specs.Rounds.{Asked, Bests, better_of, IsSampleOf, SeenBy, TripsTell};
+ghost use Rattle.tsp_history.specs.Rounds.{sampled_at, start_of, trip_at};
 
 use crate::brief::Brief;
 use crate::change::Change;
@@ -209,86 +209,97 @@ pub fn trip_of(lines: &[HistoryLine], line: &HistoryLine) -> i128
     }
 }
 
-/// The best sample of a peer after the line with this index and round trip, where `was` is that before it.
-pub fn best_after(
-    line: &HistoryLine,
-    index: usize,
-    trip: i128,
-    node: u32,
-    port: Port,
-    p: PeerId,
-    was: Option<Best>,
-) -> Option<Best>
-    ensures { (ns : List HistoryLine) (before : List Line) → LineAt ns index line.now
-        → before ≡ history_of (take index ns) → trip ≡ trip_at (line_of line.now) before
-        → Bests ns node port (best p (view port (of node before))) was
-        → Bests ns node port (best p (view port (of node (line_of line.now ∷ before)))) result }
+/// What a line does to the best sample of a peer: it keeps it, is one more, or leaves none, since a
+/// round begins, a role, or a life.
+fn sample_change(line: &HistoryLine, node: u32, port: Port, p: PeerId) -> Change
+    ensures keeps { result ≡ Change.Keeps → (before : List Line)
+        → best p (view port (of node (line_of line.now ∷ before)))
+        ≡ best p (view port (of node before)) }
+    ensures ends { result ≡ Change.Ends → (before : List Line)
+        → best p (view port (of node (line_of line.now ∷ before))) ≡ None }
+    ensures begins { result ≡ Change.Begins → IsSampleOf line.now node port p }
 {
     if line.node != node {
-        return was;
+        return Change::Keeps;
     }
     let here = line.port.0 == port.0;
     match line.act.brief() {
-        Brief::Boot => None,
-        Brief::Become(_) | Brief::Arm(Alarm::Close, _) => { if here { None } else { was } }
-        Brief::Sample(peer, _, diff, err, _) => {
+        Brief::Boot => Change::Ends,
+        Brief::Become(_) | Brief::Arm(Alarm::Close, _) => {
+            if here { Change::Ends } else { Change::Keeps }
+        }
+        Brief::Sample(peer, _, _, _, _) => {
             if here && peer.0 == p.0 {
-                let late = Best {
-                    index,
-                    diff,
-                    err,
-                    trip,
-                };
-                Some(better(was, late))
+                Change::Begins
             } else {
-                was
+                Change::Keeps
             }
         }
-        _ => was,
+        _ => Change::Keeps,
+    }
+}
+
+/// The sample at a line with this index and round trip.
+fn sample_at(line: &HistoryLine, index: usize, trip: i128) -> Best
+    ensures { result ≡ sampled_at line.now index trip }
+{
+    match line.act.brief() {
+        Brief::Sample(_, _, diff, err, _) => Best {
+            index,
+            diff,
+            err,
+            trip,
+        },
+        _ => Best {
+            index,
+            diff: 0,
+            err: 0,
+            trip,
+        },
     }
 }
 
 /// Of two samples the one of the less round trip, and the earlier where they are equal.
-fn better(early: Option<Best>, late: Best) -> Best
+fn better(early: Best, late: Option<Best>) -> Best
     ensures { result ≡ better_of early late }
 {
-    match early {
-        Some(early) if early.trip <= late.trip => early,
-        _ => late,
+    match late {
+        Some(late) if late.trip < early.trip => late,
+        _ => early,
     }
 }
 
-/// Whether a line forgets all samples of a node's port: a round begins, a role, or a life.
-fn forgets_samples(line: &HistoryLine, node: u32, port: Port) -> bool
-    ensures forgets { result ≡ true → (before : List Line) (p : PeerId)
-        → best p (view port (of node (line_of line.now ∷ before))) ≡ None }
-    ensures keeps { result ≡ false → Forgets node port line.now → ⊥ }
+/// The round trip at an index, in microseconds; 0 where there is none.
+fn trip_in(trips: &[i128], index: usize) -> i128
+    ensures { result ≡ get_or trips.now index (pos 0) }
 {
-    if line.node != node {
-        return false;
-    }
-    match line.act.brief() {
-        Brief::Boot => true,
-        Brief::Become(_) | Brief::Arm(Alarm::Close, _) => line.port.0 == port.0,
-        _ => false,
-    }
+    if index < trips.len() { trips[index] } else { 0 }
 }
 
-/// The index of the first line from which samples of a node's port count: the line after that at
-/// which its last round, its last role or its node's last life began, or 0.
-pub fn samples_from(lines: &[HistoryLine], node: u32, port: Port) -> usize
-    ensures few { result ≤ length lines.now }
-    ensures none { (p : PeerId)
-        → best p (view port (of node (history_of (take result lines.now)))) ≡ None }
-    ensures latest { KeepsFrom node port lines.now result }
+/// The best sample of a peer in a port's round, if there is one, where the round trips of these lines
+/// stand at their indices.
+pub fn best_at(
+    lines: &[HistoryLine],
+    trips: &[i128],
+    node: u32,
+    port: Port,
+    p: PeerId,
+) -> Option<Best>
+    ensures { TripsTell (history_of lines.now) trips.now
+        → Bests lines.now node port (best p (view port (of node (history_of lines.now)))) result }
 {
+    let mut best = None;
     let mut left = lines.len();
     while left > 0 {
-        let line = &lines[left - 1];
-        if forgets_samples(line, node, port) {
-            return left;
-        }
         left -= 1;
+        let line = &lines[left];
+        match sample_change(line, node, port, p) {
+            Change::Keeps => {}
+            Change::Ends => return best,
+            Change::Begins => {
+                best = Some(better(sample_at(line, left, trip_in(trips, left)), best));
+            }
+        }
     }
-    0
+    best
 }

@@ -62,7 +62,13 @@ fn send_change(line: &HistoryLine, node: u32, port: Port, p: PeerId, is_open: bo
 
 /// The number of the datagram with which the last send of a node's port to a peer began since the
 /// boot; with `is_open`, only the send that is open.
-fn send_begun_to(lines: &[HistoryLine], node: u32, port: Port, p: PeerId, is_open: bool) -> Option<u64>
+fn send_begun_to(
+    lines: &[HistoryLine],
+    node: u32,
+    port: Port,
+    p: PeerId,
+    is_open: bool,
+) -> Option<u64>
     requires told { Told lines.now }
     ensures begun { is_open ≡ false → IsPostAt node port (history_of lines.now)
         (begun_to p (view port (of node (history_of lines.now)))) result }

@@ -15,7 +15,7 @@ use tsp_history::history::History;
 use tsp_history::line::{HistoryLine, Why};
 use tsp_history::notes::Note;
 use tsp_history::posts::{has_taken, is_acting, post_at};
-use tsp_history::rounds::{Best, asked_at, best_after, closed_at, is_going, samples_from, trip_of};
+use tsp_history::rounds::{Best, asked_at, best_at, closed_at, is_going, trip_of};
 use tsp_history::scans::{is_held, role_at};
 use tsp_history::sends::{begun_to, open_to};
 use tsp_script::act_reader::act_of;
@@ -87,15 +87,6 @@ fn trips(alloc: Global, lines: &[HistoryLine]) -> Result<Vec<i128>, AllocError>
         trips.push(trip_of(&lines[..index], line))?;
     }
     Ok(trips)
-}
-
-/// The best sample of the peer, where these are the round trips of the lines.
-fn best_of(lines: &[HistoryLine], trips: &[i128]) -> Option<Best> {
-    let mut best = None;
-    for (index, (line, trip)) in lines.iter().zip(trips).enumerate() {
-        best = best_after(line, index, *trip, NODE, PORT, PEER, best);
-    }
-    best
 }
 
 /// A master that backed the peer.
@@ -196,15 +187,13 @@ fn has_round(history: &History) -> bool {
         && !is_going(lines, NODE, Port(0))
         && asked_at(first(history, 5), NODE, PORT, PEER, 1) == Some(1_040)
         && asked_at(lines, NODE, PORT, PEER, 1).is_none()
-        && samples_from(lines, NODE, PORT) == 2
-        && samples_from(lines, NODE, Port(0)) == 1
 }
 
 /// Whether the samples of `MEASURED` are told: their trips, and the best of them.
 fn has_samples(alloc: Global, history: &History) -> Result<bool, AllocError> {
     let lines = first(history, 8);
     let trips = trips(alloc, lines)?;
-    let best = best_of(lines, trips.as_slice());
+    let best = best_at(lines, trips.as_slice(), NODE, PORT, PEER);
     Ok(trips.as_slice() == [0, 0, 0, 24, 0, 10, 0, 10].as_slice() && is_best(best))
 }
 

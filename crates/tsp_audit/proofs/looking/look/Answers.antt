@@ -23,12 +23,12 @@ returns-in-None c new h is event grown room notes =
     let count : ℕ = length header.nodes in
     let long : length (claimed header new) ≡ length ns = sym (ap (λ (x : List Line). length x) is) ∙ length-history ns in
     let spare : HasLineRoom (length ns - c.args.from) c.args.notes.now = subst (λ (k : ℕ). HasLineRoom (k - c.args.from) c.args.notes.now) long room in (
-      looked-notes ns count (claimed header new) h c.args.from (λ (x : List Line). RememberedStands c.args.premises count x c.args.notes.now) (λ (x : List Line). RememberedStands c.args.premises count x c.judge.new.notes) is grown
-          (c.judge.ensures.notes count c.in-None.is spare) notes,
+      looked-notes ns count (claimed header new) h c.args.from (λ (x : List Line). RememberedStands c.args.premises header x c.args.notes.now) (λ (x : List Line). RememberedStands c.args.premises header x c.judge.new.notes) is grown
+          (c.judge.ensures.notes c.in-None.is spare) notes,
       (λ setting has keeps.
           subst (λ (r : Option ℕ). JudgesParts c.args.premises setting (claimed header new) r) c.in-None.is
-          (looked c.args.premises header header ns count (claimed header new) h c.args.from (λ (x : List Line). RememberedStands c.args.premises count x c.args.notes.now) (HasLineRoom (length ns - c.args.from) c.args.notes.now) c.judge.result
-          refl is grown spare (λ setting. c.judge.ensures.judges setting count) notes setting has keeps)),
+          (looked c.args.premises header header ns count (claimed header new) h c.args.from (λ (x : List Line). RememberedStands c.args.premises header x c.args.notes.now) (HasLineRoom (length ns - c.args.from) c.args.notes.now) c.judge.result
+          refl is grown spare (λ setting. c.judge.ensures.judges setting) notes setting has keeps)),
     )
 
 pub returns-in-Some : goal.returns-in-Some
@@ -41,6 +41,6 @@ returns-in-Some c new h is event grown room notes =
       event,
       (λ setting has keeps.
           subst (λ (r : Option ℕ). JudgesParts c.args.premises setting (claimed header new) r) c.in-Some.is
-          (looked c.args.premises header header ns count (claimed header new) h c.args.from (λ (x : List Line). RememberedStands c.args.premises count x c.args.notes.now) (HasLineRoom (length ns - c.args.from) c.args.notes.now) c.judge.result
-          refl is grown spare (λ setting. c.judge.ensures.judges setting count) notes setting has keeps)),
+          (looked c.args.premises header header ns count (claimed header new) h c.args.from (λ (x : List Line). RememberedStands c.args.premises header x c.args.notes.now) (HasLineRoom (length ns - c.args.from) c.args.notes.now) c.judge.result
+          refl is grown spare (λ setting. c.judge.ensures.judges setting) notes setting has keeps)),
     )

@@ -15,14 +15,14 @@ loop-n-preserved c soon all n a lt at =
           let e : c.loop-n.n ≡ n = omega (arith, lt, le) in
           let here : get_or c.args.states.now c.loop-n.n none ≡ a = state-at c.args.states.now c.loop-n.n n none a at e in
           let kat : IsAtPlace c.args.states.now c.loop-n.n (get_or c.args.states.now c.loop-n.n none) = here-at c.args.states.now c.loop-n.n none (omega (arith, e, at.below)) in
-          subst₂ (λ (j : ℕ) (s : NodeState). AgreesBack c.args.header.now c.args.at j s c.args.states.now) e here (c.if-not-node_agrees.ensures c.args.header.now c.args.at (c.standings-stand.ensures soon) kat all)
+          subst₂ (λ (j : ℕ) (s : NodeState). AgreesBack c.args.header.now c.args.at c.args.spare j s c.args.states.now) e here (c.if-not-node_agrees.ensures c.args.header.now c.args.at c.args.spare (c.standings-stand.ensures soon) kat all)
     ]
 
 pub returns : goal.returns
-returns c soon all = all-back c.args.header.now c.args.at c.args.states.now (λ n a lt at. c.loop-n.invariant soon all n a (omega arith) at)
+returns c soon all = all-back c.args.header.now c.args.at c.args.spare c.args.states.now (λ n a lt at. c.loop-n.invariant soon all n a (omega arith) at)
 
 pub returns-then-not-node_agrees : goal.returns-then-not-node_agrees
 returns-then-not-node_agrees c soon all agrees =
     let none : NodeState = record { moved = pos 0; lives = 0; corrects = 0; after = None; from_round = None } in
     let kat : IsAtPlace c.args.states.now c.loop-n.n (get_or c.args.states.now c.loop-n.n none) = here-at c.args.states.now c.loop-n.n none (omega arith) in
-    c.if-not-node_agrees.ensures c.args.header.now c.args.at (c.standings-stand.ensures soon) kat all (back-all c.args.header.now c.args.at c.loop-n.n (get_or c.args.states.now c.loop-n.n none) c.args.states.now (agrees c.loop-n.n (get_or c.args.states.now c.loop-n.n none) kat))
+    c.if-not-node_agrees.ensures c.args.header.now c.args.at c.args.spare (c.standings-stand.ensures soon) kat all (back-all c.args.header.now c.args.at c.args.spare c.loop-n.n (get_or c.args.states.now c.loop-n.n none) c.args.states.now (agrees c.loop-n.n (get_or c.args.states.now c.loop-n.n none) kat))

@@ -1,7 +1,8 @@
 use Rattle.std.proofs.Common.{◌≡◌, ◌+◌, ◌∷◌, ◌++◌, ◌∙◌, [], ℤ, List, rules, arith, sym, ap, subst, get_or, take, to_z, of_z}
 use Rattle.std.specs.Int.{w128}
 use Rattle.tsp_base.specs.Words.{Line}
-use Rattle.tsp_audit.specs.Agreeing.{AgreementIs, TripsTell}
+use Rattle.tsp_audit.specs.Agreeing.{AgreementIs}
+use Rattle.tsp_history.specs.Rounds.{TripsTell}
 use Rattle.tsp_audit.specs.declared.agreement_tracker.AgreementTracker.{AgreementTracker}
 use Rattle.tsp_audit.proofs.AgreementSteps.{agreement-next}
 use Rattle.tsp_history.proofs.HistoryLemmas.{history-more}
@@ -27,7 +28,7 @@ returns-clause-agreement c count spare is =
     let trips = c.note_trip.ensures.items spare ∙ ap (λ (z : ℤ). c.args.self.now.trips.items ++ z ∷ []) (same ∙ c.trip_of-trip.ensures.trip) in
     let last = c.newest-self.ensures h (sym (history-length lines i (omega (arith, c.requires.below)))) is.last_is in
     let nodes = c.note_node.ensures.nodes more tell is.last_is is.nodes_are in
-    let new : AgreementTracker = record { trips = c.note_trip.new.trips; last = c.newest-self.result; nodes = c.note_node.new.nodes } in
+    let new : AgreementTracker = record { trips = c.note_trip.new.trips; last = c.newest-self.result; nodes = c.note_node.new.nodes; settled = c.args.self.now.settled } in
     subst (λ (k : List Line). AgreementIs count k new) (sym more) (agreement-next count h (line_of noted) c.args.self.now new is trips last nodes c.note_node.ensures.many)
 
 pub trip_of-trip-requires-clause-told : goal.trip_of-trip-requires-clause-told

@@ -20,19 +20,19 @@ use Rattle.tsp_audit.proofs.audit.Audit.event.Goals as goal
 pub returns-in-Some : goal.returns-in-Some
 returns-in-Some c premises header claims stands = (
   c.in-Some.ensures header claims stands.claims_stand,
-  audit-with premises header claims c.args.self.now c.args.self.now.claims c.make_room.new.self stands stands.claims_stand (c.make_room.ensures.stand premises (length header.nodes) (claimed header claims)),
+  audit-with premises header claims c.args.self.now c.args.self.now.claims c.make_room.new.self stands stands.claims_stand (c.make_room.ensures.stand premises header (claimed header claims)),
 )
 
 pub returns-in-None : goal.returns-in-None
 returns-in-None c premises header claims stands = (
   c.in-None.ensures header claims stands.claims_stand,
-  audit-with premises header claims c.args.self.now c.args.self.now.claims c.make_room.new.self stands stands.claims_stand (c.make_room.ensures.stand premises (length header.nodes) (claimed header claims)),
+  audit-with premises header claims c.args.self.now c.args.self.now.claims c.make_room.new.self stands stands.claims_stand (c.make_room.ensures.stand premises header (claimed header claims)),
 )
 
 pub returns-in-Err : goal.returns-in-Err
 returns-in-Err c premises header claims stands =
     audit-refused premises header claims c.args.e.now c.args.acts.now c.in-Err.fault c.args.self.now c.event.new.self c.make_room.new.self stands (c.in-Err.ensures header claims stands.claims_stand)
-    (c.make_room.ensures.stand premises (length header.nodes) (claimed header claims))
+    (c.make_room.ensures.stand premises header (claimed header claims))
 
 pub returns-in-Ok : goal.returns-in-Ok
 returns-in-Ok c premises header claims stands =
@@ -54,7 +54,7 @@ returns-in-Ok c premises header claims stands =
     let room : HasLineRoom (length (claimed header (claim ∷ claims)) - length ns) c.make_room.new.self = room-less (length (claimed header (claim ∷ claims)) - length ns) (length acts + 1) c.make_room.new.self less spare in
     let finds : Finds premises header (claim ∷ claims) h c.args.self.now.failed c.find-self.new.notes c.find-self.result =
     subst (λ (p : Premises). Finds p header (claim ∷ claims) h c.args.self.now.failed c.find-self.new.notes c.find-self.result) stands.premises_are
-    (c.find-self.ensures header (claim ∷ claims) h taken.1 grown room (λ none. c.make_room.ensures.stand c.args.self.now.premises count h (subst (λ (p : Premises). RememberedStands p count h c.args.self.now.notes) (sym stands.premises_are) (stands.notes none)))) in (
+    (c.find-self.ensures header (claim ∷ claims) h taken.1 grown room (λ none. c.make_room.ensures.stand c.args.self.now.premises header h (subst (λ (p : Premises). RememberedStands p header h c.args.self.now.notes) (sym stands.premises_are) (stands.notes none)))) in (
       taken.0,
       record {
         claims_stand = taken.1;

@@ -1,5 +1,4 @@
-use Rattle.std.proofs.Common.{◌≡◌, List, [], length, refl, subst}
-use Rattle.tsp_audit.specs.Remembered.{RememberedStands}
+use Rattle.std.proofs.Common.{◌≡◌, List, ap, length, refl, sym}
 use Rattle.tsp_audit.proofs.EventLemmas.{holds-none}
 use Rattle.tsp_rules.specs.Values.{NodeLine}
 use Rattle.tsp_audit.proofs.audit.Audit.new.Goals as goal
@@ -13,5 +12,5 @@ returns-in-Ok c =
       timely = tt;
       found = λ setting has. holds-none c.args.premises setting c.args.header;
       named = tt;
-      notes = λ none. subst (λ (ns : List NodeLine). RememberedStands c.args.premises (length ns) [] c.in_ok-notes.notes) nodes (c.in_ok-notes.ensures c.args.premises);
+      notes = λ none. c.in_ok-notes.ensures c.args.premises c.args.header (ap (λ (ns : List NodeLine). length ns) (sym nodes));
     }

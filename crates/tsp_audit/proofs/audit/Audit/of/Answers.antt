@@ -1,5 +1,5 @@
 -- The audit stands for what was found of all events.
-use Rattle.std.proofs.Common.{◌≡◌, ◌∙◌, List, [], ap, length, refl, subst}
+use Rattle.std.proofs.Common.{◌≡◌, ◌∙◌, List, [], ap, length, refl, sym}
 use Rattle.tsp_audit.specs.Remembered.{RememberedStands}
 use Rattle.tsp_audit.specs.Verdicts.{Looked}
 use Rattle.tsp_audit.proofs.ThroughLemmas.{dated-named, dated-timely}
@@ -10,7 +10,7 @@ use Rattle.tsp_audit.proofs.audit.Audit.of.Goals as goal
 pub returns : goal.returns
 returns c header told stand dated ends =
     let nodes : c.nodes.result.now ≡ header.nodes = c.nodes.ensures.nodes ∙ ap (λ (h : HeaderValue). h.nodes) (c.header.ensures ∙ stand.header_is) in
-    let none : RememberedStands c.args.premises (length header.nodes) [] c.in_ok-notes.notes = subst (λ (ns : List NodeLine). RememberedStands c.args.premises (length ns) [] c.in_ok-notes.notes) nodes (c.in_ok-notes.ensures c.args.premises) in
+    let none : RememberedStands c.args.premises header [] c.in_ok-notes.notes = c.in_ok-notes.ensures c.args.premises header (ap (λ (ns : List NodeLine). length ns) (sym nodes)) in
     let first : Looked c.args.premises header told c.look_through.new.notes c.in_ok-failed.failed = c.in_ok-failed.ensures header told stand dated ends none in
     record {
       claims_stand = stand;
