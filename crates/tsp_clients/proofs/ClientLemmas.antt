@@ -6,7 +6,7 @@ use Rattle.tsp_rules.specs.Values.{Act, Boot, Post, Trace, Placed, Message, Ack,
 use Rattle.tsp_base.specs.Words.{Past, may_stand, Performs, Keeps, kept_name, held, Row, bare, grown, posts_back, puts}
 use Rattle.tsp_rules.specs.CommonRows.{is_idle, master_name, master_name_in, may_be_asked}
 use Rattle.tsp_rules.specs.Guards.{is_starting_role}
-use Rattle.tsp_rules.proofs.Emits.{Sort, Taking, Asking, Correcting, Numbering, Posting, Leading, Following, Changing, Backing, Counting, Rounding, Alarming, Tabling, Rivalling, Acking, Giving, Sampling, Closing, Moving, Emits, Emits_posts_back, Emits_puts, Keeps_by, is_in, sort_of}
+use Rattle.tsp_rules.proofs.Emits.{Sort, Taking, Asking, Correcting, Numbering, Passing, Posting, Leading, Following, Changing, Backing, Counting, Rounding, Alarming, Tabling, Rivalling, Acking, Giving, Sampling, Closing, Moving, Emits, Emits_posts_back, Emits_puts, Keeps_by, is_in, sort_of}
 use Rattle.tsp_acks.specs.declared.station.Station.{Station}
 use Rattle.tsp_acks.specs.Stands.{StationStands}
 use Rattle.tsp_acks.proofs.StandsLemmas.{Stands_idle, Stands_post}
@@ -16,7 +16,7 @@ use Rattle.tsp_clients.specs.ClientStands.{NamingStands, TraceStands, TracingSta
 
 -- all sorts of acts but Boot and Trace
 abbrev pub traceless : List Sort
-traceless = Taking ∷ Asking ∷ Correcting ∷ Numbering ∷ Posting ∷ Leading ∷ Following ∷ Changing ∷ Backing ∷ Counting ∷ Rounding ∷ Alarming ∷ Tabling ∷ Rivalling ∷ Acking ∷ Giving ∷ Sampling ∷ Closing ∷ Moving ∷ []
+traceless = Taking ∷ Asking ∷ Correcting ∷ Numbering ∷ Passing ∷ Posting ∷ Leading ∷ Following ∷ Changing ∷ Backing ∷ Counting ∷ Rounding ∷ Alarming ∷ Tabling ∷ Rivalling ∷ Acking ∷ Giving ∷ Sampling ∷ Closing ∷ Moving ∷ []
 
 TraceStands_act : (a : Act) → is_in (sort_of a) traceless ≡ true → Keeps TraceStands (puts a)
 unfolding puts

@@ -1,22 +1,20 @@
 -- A step of a node over its ports posts to a stranger only where it is given a stranger's datagram.
 use Rattle.std.specs.Prelude.{ℕ, ◌+◌, ◌*◌, Bool, true, false, if◌then◌else◌, List, [], ◌∷◌, ◌++◌, length, map, All, refl}
-use Rattle.std.proofs.Common.{subst, sym, arith}
+use Rattle.std.proofs.Common.{subst, sym}
 use Rattle.std.proofs.lemmas.List.Elements.{All-nil, All-cons, All-append, All-map, All-weaker}
-use Rattle.tsp_rules.specs.Values.{Act, Took, Post, Become, Abandon, Placed, Alarm, Round, Probe, CloseAlarm, Message, Stamp, Taken, Good, Bad, Kind, LoopKind, Place, Peer, Stranger, Port, Loose, ALL}
-use Rattle.tsp_base.specs.Words.{Past, view, MessageValue, is_going, Row, nothing, others, placed, puts}
+use Rattle.tsp_rules.specs.Values.{Act, Took, Post, Abandon, Placed, Message, Stamp, Taken, Good, Bad, Kind, LoopKind, Place, Peer, Stranger, Port}
+use Rattle.tsp_base.specs.Words.{Past, view, MessageValue, is_going, Row, placed, puts}
 use Rattle.tsp_rules.specs.Strangers.{is_stranger, IsKnown}
-use Rattle.tsp_rules.proofs.CalmAlarms.{calm_rings}
-use Rattle.tsp_rules.proofs.CalmRows.{calm_due_sends, calm-elect}
+use Rattle.tsp_rules.proofs.CalmBuilt.{calm_moving}
 use Rattle.tsp_rules.proofs.CalmSteps.{calm_handles, known_calm, taking, TakesFirst}
-use Rattle.tsp_rules.proofs.FewActs.{Calm, calm_either, calm_more, calm_nothing, calm_puts, calm_then}
-use Rattle.tsp_rules.specs.Answers.{rings, takes, handles}
-use Rattle.tsp_rules.specs.CandidateRows.{yields}
-use Rattle.tsp_rules.specs.CommonRows.{arms_elect}
-use Rattle.tsp_rules.specs.GateRows.{LoopStep, PassOver, GiveUp, Forward, NodeGiven, NodeTurn, GotOn, all_ports, alarm_on, alarms_on, each_on, answers_all, begins_round_on, closes_on, ends_probes, forwards, heeds_loop, hears_on, input_all, is_awake_on, judge, judges, leads_clock, in_charge, loop_to, loops_after, loosens_master, other_ports, probes_on, repost, reposts, reposts_on, sends_loops, steers, stirred_ports, takes_kind, takes_loop, takes_loop_step, takes_message, takes_on, turns_on, waits}
+use Rattle.tsp_rules.proofs.FewActs.{Calm}
+use Rattle.tsp_rules.specs.Answers.{takes, handles}
+use Rattle.tsp_rules.specs.GateRows.{LoopStep, PassOver, GiveUp, Forward, NodeGiven, NodeTurn, GotOn, all_ports, answers_all, input_all, judge, in_charge, steers, stirred_ports, takes_kind, takes_loop, takes_message, takes_on, turns_on}
 use Rattle.tsp_rules.specs.NodeRows.{NodePast, NodeRow, abandons_on, for_ports, nothing_at_all, on, on_port, ◌and_then◌, reading_all, spread, stirring}
 use Rattle.tsp_rules.specs.RoundRows.{corrects}
-use Rattle.tsp_rules.specs.SendRows.{due_sends}
-use Rattle.tsp_rules.specs.Guards.{is_master_at}
+use Rattle.tsp_rules.proofs.BuiltAll.{AnyPort, BuiltAll, EmptyAll, ForPorts, MoreAll, On, ReadingAll, StirringAll, ThenAll, WhereAll}
+use Rattle.tsp_rules.proofs.BuiltPorts.{OwesStep, built_all_turns, built_heeds}
+use Rattle.tsp_rules.proofs.CalmBuilt.{answers_owed}
 use Rattle.tsp_daemon.specs.Posts.{AreKnown}
 
 -- whether what a node is given comes from a stranger
@@ -61,10 +59,6 @@ module _ (strange : Bool) where
   unfolding ◌and_then◌
   known-then r s p q = record { run = λ x past. known-append (r x past) (s x (spread x past (r x past))) (p.run x past) (q.run x (spread x past (r x past))) }
 
-  known-reading : {A : Type 0} (fact : ℕ → NodePast → A) (rows : A → NodeRow) → ((a : A) → Known strange (rows a)) → Known strange (reading_all fact rows)
-  unfolding reading_all
-  known-reading fact rows k = record { run = λ x past. (k (fact x past)).run x past }
-
   known-ports : (r : Port → NodeRow) → ((q : Port) → Known strange (r q)) → (ports : List Port) → Known strange (for_ports r ports)
   unfolding for_ports
   known-ports r k [] = known-nothing
@@ -95,44 +89,24 @@ module _ (strange : Bool) where
   calm-known : (k c : ℕ) (row : Row) → Calm strange true k c row → (x : ℕ) (past : Past) → All (IsKnown strange) (row x past)
   calm-known k c row p x past = known_calm strange true (row x past) (p.calm x past)
 
-  known-rings : (own wait : Bool) (a : Alarm) (x : ℕ) (past : Past) → All (IsKnown strange) (rings own wait a x past)
-  known-rings own wait a = calm-known 2 4 (rings own wait a) (calm_rings own wait a (λ e. refl))
+  known-where : (test : NodePast → Bool) (row : NodeRow) → Known strange row → Known strange (λ x past. if test past then row x past else [])
+  known-where test row k = record { run = λ x past. elim (test past) as (λ b. AreKnown strange (if b then row x past else [])) [ true ↦ k.run x past | false ↦ known-none ] }
 
-  -- what a LOOP makes of a node
-  known-loops : (q : Port) (x : ℕ) (past : Past) → All (IsKnown strange) (sends_loops q x past)
-  unfolding sends_loops
-  known-loops q x past = posts-known strange (loop_to q past.name) (λ p. tt) (others past.own past.peers)
+  -- a row over ports posts to known ones, since the rows of its ports do
+  known-built : {has : Port → Type 0} {k c : ℕ} {row : NodeRow} → ((q : Port) → has q) → BuiltAll (answers_owed strange) has k c row → Known strange row
+  known-built all EmptyAll = known-nothing
+  known-built all (On {row = row} q is d) = known-on q row (calm-known _ _ row (calm_moving d))
+  known-built all (ThenAll d e) = known-then _ _ (known-built all d) (known-built all e)
+  known-built all (ReadingAll known fact holds d) = record { run = λ x past. (known-built all (d (fact x past) (holds x past))).run x past }
+  known-built all (WhereAll {row = row} test d) = known-where test row (known-built all d)
+  known-built all (ForPorts {ports = ports} {row = row} l d) = record { run = λ x past. (known-ports row (λ q. known-built all (d q (all q))) (ports past)).run x past }
+  known-built all (StirringAll {ports = ports} {row = row} q is l d) = record { run = λ x past. (known-stirring q (ports past) row (calm-known _ _ row (calm_moving d))).run x past }
+  known-built all (MoreAll d le) = known-built all d
 
-  known-reposts : (m : MessageValue) (x : ℕ) (past : Past) → All (IsKnown strange) (reposts m x past)
-  unfolding reposts
-  known-reposts m x past = posts-known strange (repost m) (λ p. tt) (others past.own past.peers)
-
-  known-reposts-on : (m : MessageValue) (q : Port) → Known strange (reposts_on m q)
-  unfolding reposts_on
-  known-reposts-on m q = record { run = λ x past. elim (is_awake_on past q) as (λ b. AreKnown strange (if b then on q (reposts m) x past else [])) [ true ↦ (known-on q (reposts m) (known-reposts m)).run x past | false ↦ known-none ] }
-
-  known-forwards : (q : Port) (m : MessageValue) → Known strange (forwards q m)
-  unfolding forwards
-  known-forwards q m = record { run = λ x past. (known-ports (reposts_on m) (known-reposts-on m) (other_ports q past)).run x past }
-
-  calm-yields : Calm strange true 0 2 yields
-  unfolding yields
-  calm-yields = calm_then 0 1 0 1 (puts (Become Loose)) arms_elect (calm_puts (Become Loose) refl) calm-elect
-
-  known-loosens : (x : ℕ) (past : Past) → All (IsKnown strange) (loosens_master x past)
-  unfolding loosens_master
-  known-loosens = calm-known 0 2 _ (calm_either 0 2 is_master_at yields nothing calm-yields (calm_more 0 0 0 2 nothing (omega arith) (omega arith) calm_nothing))
-
-  known-loop-step : (q : Port) (s : LoopStep) → Known strange (takes_loop_step q s)
-  unfolding takes_loop_step
-  known-loop-step q PassOver = known-nothing
-  known-loop-step q GiveUp = known-on q loosens_master known-loosens
-  known-loop-step q (Forward m) = known-forwards q m
-
-  known-heeds : (q : Port) (m : MessageValue) (b : Bool) → Known strange (heeds_loop q m b)
-  unfolding heeds_loop judges
-  known-heeds q m true = record { run = λ x past. (known-loop-step q (judge past.name (length past.ports) q m)).run x past }
-  known-heeds q m false = known-nothing
+  known-step : (step : LoopStep) → OwesStep (answers_owed strange) step
+  known-step PassOver = tt
+  known-step GiveUp = tt
+  known-step (Forward m) = tt
 
   known-took : (from : Place) (t : Taken) (x : ℕ) (past : Past) → All (IsKnown strange) (puts (Took from t) x past)
   unfolding puts
@@ -140,42 +114,7 @@ module _ (strange : Bool) where
 
   known-loop : (q : Port) (from : Place) (m : MessageValue) → Known strange (takes_loop q from m)
   unfolding takes_loop
-  known-loop q from m = known-then (on q (puts (Took from (Good (Message m))))) _ (known-on q _ (known-took from (Good (Message m)))) (known-reading (hears_on from q) (heeds_loop q m) (known-heeds q m))
-
-  -- the alarms
-  known-loops-after : (q : Port) (acts : List Act) → Known strange (loops_after q acts)
-  unfolding loops_after
-  known-loops-after q acts = record {
-    run = λ x past. elim (ends_probes acts (on_port q past) past.ports) as (λ b. AreKnown strange (if b then on q (sends_loops q) x past else [])) [ true ↦ (known-on q (sends_loops q) (known-loops q)).run x past | false ↦ known-none ];
-  }
-
-  known-probes : (q : Port) → Known strange (probes_on q)
-  unfolding probes_on
-  known-probes q = record { run = λ x past. (known-then (on q (rings true false Probe)) (loops_after q (rings true false Probe x (on_port q past))) (known-on q _ (known-rings true false Probe)) (known-loops-after q _)).run x past }
-
-  known-closes : (q : Port) (own : Bool) → Known strange (closes_on q own)
-  unfolding closes_on
-  known-closes q own = record { run = λ x past. (known-stirring q (other_ports q past) (rings own false CloseAlarm) (known-rings own false CloseAlarm)).run x past }
-
-  known-alarm : (q : Port) (a : Alarm) → Known strange (alarm_on q a)
-  unfolding alarm_on begins_round_on
-  known-alarm q Probe = known-probes q
-  known-alarm q CloseAlarm = known-reading (leads_clock q) (closes_on q) (known-closes q)
-  known-alarm q Round = known-reading (waits q) _ (λ wait. known-on q _ (known-rings true wait Round))
-  known-alarm q a = known-on q _ (known-rings true false a)
-
-  known-each : (q : Port) (alarms : List Alarm) → Known strange (each_on q alarms)
-  known-each q [] = known-nothing
-  known-each q (a ∷ []) = known-alarm q a
-  known-each q (a ∷ next ∷ rest) = known-then (alarm_on q a) (each_on q (next ∷ rest)) (known-alarm q a) (known-each q (next ∷ rest))
-
-  known-alarms : (q : Port) → Known strange (alarms_on q)
-  unfolding alarms_on
-  known-alarms q = known-each q ALL
-
-  known-turns : (q : Port) → Known strange (turns_on q)
-  unfolding turns_on
-  known-turns q = known-then (on q due_sends) (alarms_on q) (known-on q due_sends (calm-known 2 0 due_sends calm_due_sends)) (known-alarms q)
+  known-loop q from m = known-then (on q (puts (Took from (Good (Message m))))) _ (known-on q _ (known-took from (Good (Message m)))) (known-built {has = AnyPort} (λ r. tt) (built_heeds q from m tt (λ own ports. known-step (judge own ports q m))))
 
 -- what is taken
 known-takes : (steer charge : Bool) (from : Place) (t : Taken) (x : ℕ) (past : Past) → All (IsKnown (is_stranger from)) (takes steer charge from t x past)
@@ -207,4 +146,4 @@ known-input (GotOn q from t) = known-taken q from t
 -- a step answers a stranger, or posts to none
 pub known_steps : (g : NodeGiven) (x : ℕ) (past : NodePast) → AreKnown (is_strange_on g) (answers_all g x past)
 unfolding answers_all
-known_steps g = (known-then (is_strange_on g) (reading_all all_ports (for_ports turns_on)) (input_all g) (known-reading (is_strange_on g) all_ports (for_ports turns_on) (known-ports (is_strange_on g) turns_on (known-turns (is_strange_on g)))) (known-input g)).run
+known_steps g = (known-then (is_strange_on g) (reading_all all_ports (for_ports turns_on)) (input_all g) (known-built (is_strange_on g) {has = AnyPort} (λ q. tt) (built_all_turns (λ q is. tt))) (known-input g)).run

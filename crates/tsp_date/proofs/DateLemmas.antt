@@ -10,7 +10,7 @@ use Rattle.tsp_rules.specs.ClockRows.{sets}
 use Rattle.tsp_rules.specs.DateRows.{answers_date, date_acked_in, has_date, leaves, leaves_all}
 use Rattle.tsp_rules.specs.SendRows.{begins_timed, next_number}
 use Rattle.tsp_rules.specs.Guards.{is_heard, is_starting_role, table_at}
-use Rattle.tsp_rules.proofs.Emits.{Sort, Acking, Numbering, Posting, Tabling, Emits, Emits_each, Emits_more, Emits_posts_time, Emits_puts, Emits_reading, Keeps_by}
+use Rattle.tsp_rules.proofs.Emits.{Sort, Acking, Passing, Posting, Tabling, Emits, Emits_each, Emits_more, Emits_posts_time, Emits_puts, Emits_reading, Keeps_by}
 use Rattle.tsp_acks.specs.declared.station.Station.{Station}
 use Rattle.tsp_acks.specs.Stands.{StationStands, StandsActing}
 use Rattle.tsp_acks.proofs.ActingLemmas.{taken-acts}
@@ -58,10 +58,10 @@ Performs_posting s {row = row} {x = x} {before = before} {after = after} e d = r
 }
 
 -- a date begins to be passed on
-abbrev pub numbering : List Sort
-numbering = Numbering ∷ []
+abbrev pub passing : List Sort
+passing = Passing ∷ []
 
-pub begins-emits : (q : PeerId) (time : ℤ) → Emits (Numbering ∷ []) (begins_timed SetDateReq q time)
+pub begins-emits : (q : PeerId) (time : ℤ) → Emits passing (begins_timed SetDateReq q time)
 unfolding begins_timed
 begins-emits q time = Emits_reading next_number (λ n. posts_time q SetDateReq n time) (λ n. Emits_posts_time q SetDateReq n time refl)
 
@@ -85,9 +85,9 @@ Performs_asks s q time {x = x} {before = before} {after = after} dates asked r t
           let acts : acting past.seen ≡ true = taken-acts past.seen r (h.took ∙ t) in
           stands-with (record s { dates = asked; station = after })
           (DatesStand_asks q time x past dates asked e acts h.dates)
-          (Keeps_by quiet_sorts MasterStands row MasterStands_quiet (Emits_more numbering refl sorts) x past s.master h.master)
+          (Keeps_by quiet_sorts MasterStands row MasterStands_quiet (Emits_more passing refl sorts) x past s.master h.master)
           (d.stands past (record { stands = h.station; acted = acts })).stands
-          (also-kept (record s { dates = dates; station = before }) row (Emits_more numbering refl sorts) x past h);
+          (also-kept (record s { dates = dates; station = before }) row (Emits_more passing refl sorts) x past h);
     }
 
 -- messages of dates don't correct as a master's do

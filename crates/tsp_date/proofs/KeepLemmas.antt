@@ -1,11 +1,9 @@
 -- What leaves a port's dates alone.
 use Rattle.std.proofs.Common.{◌≡◌, ℕ, ℤ, ◌==◌, ◌&&◌, Bool, true, false, if◌then◌else◌, List, [], ◌∷◌, Option, Some, None, refl, sym, ◌∙◌}
 use Rattle.std.proofs.lemmas.Bool.{false≢true, and_left}
-use Rattle.tsp_rules.specs.Values.{Act, Boot, Took, Post, Correct, Message, Kind, SetDateReq, PeerId, Place, Peer}
-use Rattle.tsp_base.specs.Words.{Past, Seen, MessageValue, Keeps, Said, acting, said, taken, Row, bare, for_each, grown, posts, puts, Dating, dating_of, is_date_request, is_set_date_request, last_asked, last_date}
-use Rattle.tsp_base.proofs.PerformsLemmas.{Keeps_each, Keeps_reading}
-use Rattle.tsp_rules.specs.SendRows.{begins, begins_to_others, next_number, others_at}
-use Rattle.tsp_rules.proofs.Emits.{Sort, Taking, Asking, Correcting, Posting, Leading, Following, Changing, Backing, Counting, Rounding, Alarming, Tabling, Rivalling, Acking, Giving, Sampling, Closing, Moving, Tracing, is_in, sort_of, sort_of_kind, Emits, Keeps_by}
+use Rattle.tsp_rules.specs.Values.{Act, Boot, Took, Post, Correct, Message, Kind, SetDateReq, PeerId, Place}
+use Rattle.tsp_base.specs.Words.{Past, Seen, MessageValue, Keeps, Said, acting, said, taken, Row, grown, puts, Dating, dating_of, is_date_request, is_set_date_request, last_asked, last_date}
+use Rattle.tsp_rules.proofs.Emits.{Sort, Taking, Asking, Correcting, Numbering, Posting, Leading, Following, Changing, Backing, Counting, Rounding, Alarming, Tabling, Rivalling, Acking, Giving, Sampling, Closing, Moving, Tracing, is_in, sort_of, sort_of_kind, Emits, Keeps_by}
 use Rattle.tsp_date.specs.Dates.{DatesValue}
 use Rattle.tsp_date.specs.DateStands.{DatesStand}
 
@@ -34,9 +32,9 @@ pub DatesStand_correct : (amount : ℤ) (stepped : Bool) (shown : ℤ) (x : ℕ)
     DatesStand (grown x past (Correct amount stepped shown ∷ [])) d
 DatesStand_correct amount stepped shown x past d e h = record { peers = h.peers; last = λ p. h.last p ∙ sym (dating-none (said (taken past.seen)) p x (last_date p past.seen) e); asked = h.asked }
 
--- all sorts of acts but Boot, sends with the port's own numbers, and Correct
+-- all sorts of acts but Boot, sends that pass a date on, and Correct
 abbrev pub dates_sorts : List Sort
-dates_sorts = Taking ∷ Asking ∷ Correcting ∷ Posting ∷ Leading ∷ Following ∷ Changing ∷ Backing ∷ Counting ∷ Rounding ∷ Alarming ∷ Tabling ∷ Rivalling ∷ Acking ∷ Giving ∷ Sampling ∷ Closing ∷ Tracing ∷ []
+dates_sorts = Taking ∷ Asking ∷ Correcting ∷ Numbering ∷ Posting ∷ Leading ∷ Following ∷ Changing ∷ Backing ∷ Counting ∷ Rounding ∷ Alarming ∷ Tabling ∷ Rivalling ∷ Acking ∷ Giving ∷ Sampling ∷ Closing ∷ Tracing ∷ []
 
 kind-other : (k : Kind) → is_in (sort_of_kind k) dates_sorts ≡ true → is_set_date_request k ≡ false
 kind-other SetDateReq e = absurd (false≢true e)
@@ -53,23 +51,14 @@ DatesStand_act _ e x past d h = record { peers = h.peers; last = h.last; asked =
 pub DatesStand_by : (row : Row) → Emits dates_sorts row → Keeps DatesStand row
 DatesStand_by row e = Keeps_by dates_sorts DatesStand row DatesStand_act e
 
--- a send with an own number that passes no date on
-pub DatesStand_begins : (kind : Kind) (p : PeerId) → is_set_date_request kind ≡ false → Keeps DatesStand (begins kind p)
-unfolding begins posts
-DatesStand_begins kind p e = Keeps_reading DatesStand next_number (posts p kind) (λ number x past d h. DatesStand_post (Peer p) (bare kind number past.name) x past d (and_left (is_set_date_request kind) (acting past.seen) e) h)
-
-pub DatesStand_begins_to_others : (kind : Kind) → is_set_date_request kind ≡ false → Keeps DatesStand (begins_to_others kind)
-unfolding begins_to_others
-DatesStand_begins_to_others kind e = Keeps_reading DatesStand others_at (for_each (begins kind)) (λ ps. Keeps_each DatesStand (begins kind) ps (λ p. DatesStand_begins kind p e))
-
 -- the dates in a step that has taken no date that is passed on
 pub record DatesAside (past : Past) (dates : DatesValue) : Type 0 where
   pub stands : DatesStand past dates
   pub none : passes_date (said (taken past.seen)) ≡ false
 
--- all sorts of acts but Boot, Took, and sends with the port's own numbers
+-- all sorts of acts but Boot, Took, and sends that pass a date on
 abbrev pub aside_sorts : List Sort
-aside_sorts = Asking ∷ Correcting ∷ Posting ∷ Leading ∷ Following ∷ Changing ∷ Backing ∷ Counting ∷ Rounding ∷ Alarming ∷ Tabling ∷ Rivalling ∷ Acking ∷ Giving ∷ Sampling ∷ Closing ∷ Moving ∷ Tracing ∷ []
+aside_sorts = Asking ∷ Correcting ∷ Numbering ∷ Posting ∷ Leading ∷ Following ∷ Changing ∷ Backing ∷ Counting ∷ Rounding ∷ Alarming ∷ Tabling ∷ Rivalling ∷ Acking ∷ Giving ∷ Sampling ∷ Closing ∷ Moving ∷ Tracing ∷ []
 
 kind-aside : (k : Kind) → is_in (sort_of_kind k) aside_sorts ≡ true → is_set_date_request k ≡ false
 kind-aside SetDateReq e = absurd (false≢true e)
@@ -86,8 +75,3 @@ DatesAside_act _ e x past d h = record { stands = record { peers = h.stands.peer
 -- a row of such acts
 pub DatesAside_by : (row : Row) → Emits aside_sorts row → Keeps DatesAside row
 DatesAside_by row e = Keeps_by aside_sorts DatesAside row DatesAside_act e
-
--- a send with an own number that passes no date on
-pub DatesAside_begins : (kind : Kind) (p : PeerId) → is_set_date_request kind ≡ false → Keeps DatesAside (begins kind p)
-unfolding begins posts
-DatesAside_begins kind p e = Keeps_reading DatesAside next_number (posts p kind) (λ number x past d h. record { stands = DatesStand_post (Peer p) (bare kind number past.name) x past d (and_left (is_set_date_request kind) (acting past.seen) e) h.stands; none = h.none })

@@ -1,4 +1,3 @@
-pub mod AsideLemmas
 pub mod CorrectsLemmas
 pub mod DateLemmas
 pub mod DatesLemmas

@@ -11,7 +11,7 @@ use Rattle.tsp_base.proofs.Views.{plain_view}
 use Rattle.tsp_rules.specs.NodePerforms.{PerformsAll}
 use Rattle.tsp_rules.specs.NodeRows.{NodePast, NodeRow, abandons_on, for_ports, on, on_port, reading_all, spread, stirring, ◌and_then◌}
 use Rattle.tsp_rules.specs.RoundRows.{corrects}
-use Rattle.tsp_rules.proofs.Emits.{Sort, Acking, Alarming, AllOf, Asking, Backing, Changing, Closing, Correcting, Counting, Emits, Emits_more, Following, Giving, Leading, Numbering, Posting, Rivalling, Rounding, Sampling, Tabling, is_in, sort_of}
+use Rattle.tsp_rules.proofs.Emits.{Sort, Acking, Alarming, AllOf, Asking, Backing, Changing, Closing, Correcting, Counting, Emits, Emits_more, Following, Giving, Leading, Numbering, Passing, Posting, Rivalling, Rounding, Sampling, Tabling, is_in, sort_of}
 use Rattle.tsp_rules.proofs.EmitsStill.{row_corrects-none}
 use Rattle.tsp_rules.proofs.NodeRowLemmas.{All_then, Bootless, on_own}
 use Rattle.tsp_rules.proofs.Asides.{all_aside, on_other}
@@ -161,7 +161,7 @@ All_unstirred {x = x} q row whole still d =
 
 -- all sorts but Boot, Took, Trace and what moves the clock
 abbrev pub still_sorts : List Sort
-still_sorts = Asking ∷ Correcting ∷ Numbering ∷ Posting ∷ Leading ∷ Following ∷ Changing ∷ Backing ∷ Counting ∷ Rounding ∷ Alarming ∷ Tabling ∷ Rivalling ∷ Acking ∷ Giving ∷ Sampling ∷ Closing ∷ []
+still_sorts = Asking ∷ Correcting ∷ Numbering ∷ Passing ∷ Posting ∷ Leading ∷ Following ∷ Changing ∷ Backing ∷ Counting ∷ Rounding ∷ Alarming ∷ Tabling ∷ Rivalling ∷ Acking ∷ Giving ∷ Sampling ∷ Closing ∷ []
 
 -- rows of these sorts don't correct
 pub still_by : {row : Row} → Emits still_sorts row → (x : ℕ) (past : Past) → corrects (row x past) ≡ false

@@ -3,10 +3,10 @@ use Rattle.std.specs.Prelude.{◌≡◌, ℕ, true, false, List, [], ◌∷◌, 
 use Rattle.std.proofs.Common.{sym, subst, ap, ◌∙◌}
 use Rattle.tsp_rules.specs.Values.{Placed, LoopKind, Hops, PeerId, Peer, Port, HOPS}
 use Rattle.tsp_base.specs.Words.{Past, MessageValue, Row, grown, others, placed, puts, is_numbered}
-use Rattle.tsp_rules.specs.GateRows.{loop_to, repost, reposts, sends_loops}
+use Rattle.tsp_rules.specs.GateRows.{loop_to, repost}
 use Rattle.tsp_rules.specs.NodePerforms.{PerformsAll}
 use Rattle.tsp_rules.specs.NodeRows.{on, on_port}
-use Rattle.tsp_rules.proofs.Emits.{Sort, AllOf, Emits, Emits_puts, Posting, is_in, sort_of_kind}
+use Rattle.tsp_rules.proofs.Emits.{Sort, Emits, Emits_puts, Posting, is_in, sort_of_kind}
 use Rattle.tsp_acks.proofs.StandsLemmas.{Stands_post}
 use Rattle.tsp_clients.proofs.ClientLemmas.{TraceStands_by}
 use Rattle.tsp_date.proofs.KeepLemmas.{DatesStand_by}
@@ -45,22 +45,6 @@ one-post p m x past state k h =
 all-posts : (ps : List PeerId) (m : MessageValue) (x : ℕ) (past : Past) (state : TracedValue) → m.kind ≡ LoopKind → TakeStands past state → TakeStands (grown x past (map (repost m) ps)) state
 all-posts [] m x past state k h = h
 all-posts (p ∷ later) m x past state k h = all-posts later m x (grown x past (repost m p ∷ [])) state k (one-post p m x past state k h)
-
-reposts-sorts : (sorts : List Sort) (m : MessageValue) (ps : List PeerId) → is_in (sort_of_kind m.kind) sorts ≡ true → AllOf sorts (map (repost m) ps)
-reposts-sorts sorts m [] e = tt
-reposts-sorts sorts m (p ∷ later) e = (e, reposts-sorts sorts m later e)
-
--- the LOOPs of a node are posts
-pub emits_loops : {sorts : List Sort} (q : Port) → is_in Posting sorts ≡ true → Emits sorts (sends_loops q)
-unfolding sends_loops
-emits_loops {sorts} q e = record { only = λ x past. loops x past.name (others past.own past.peers) } where
-  loops : (x : ℕ) (name : List ℕ) (ps : List PeerId) → AllOf sorts (map (loop_to q name) ps)
-  loops x name [] = tt
-  loops x name (p ∷ later) = (e, loops x name later)
-
-pub emits_reposts : {sorts : List Sort} (m : MessageValue) → m.kind ≡ LoopKind → is_in Posting sorts ≡ true → Emits sorts (reposts m)
-unfolding reposts
-emits_reposts {sorts} m k e = record { only = λ x past. reposts-sorts sorts m (others past.own past.peers) (sort-loop m sorts k e) }
 
 -- a LOOP to each other peer of a port
 pub All_posted : {x : ℕ} {g : Gateway} {part : Part} {old new : List Placed} (q : ℕ) (row : Row) (m : MessageValue) → m.kind ≡ LoopKind → Emits still_sorts row → slice_get g.ports.items q ≡ Some part →

@@ -1,25 +1,25 @@
 -- What a node takes on one of its ports.
-use Rattle.std.specs.Prelude.{◌≡◌, ℕ, Bool, true, false, if◌then◌else◌, List, [], ◌∷◌, Some, slice_get, refl}
-use Rattle.std.proofs.lemmas.Bool.{false≢true}
+use Rattle.std.specs.Prelude.{◌≡◌, ℕ, Bool, true, false, if◌then◌else◌, List, Some, slice_get, refl}
 use Rattle.std.proofs.Math.ListN.{set}
-use Rattle.tsp_rules.specs.Values.{Act, Took, Correct, Placed, Message, Stamp, Taken, Good, Bad, Kind, LoopKind, PeerId, Place, Peer, Stranger, Port, Role, Master, Request, Reply}
-use Rattle.tsp_base.specs.Words.{Past, MessageValue, Performs, nothing, puts, sets_date, ReplyValue}
-use Rattle.tsp_rules.specs.Answers.{from_peer, peer_replies, replies_in, takes, handles}
-use Rattle.tsp_rules.specs.CommonRows.{posts_reply, replies}
+use Rattle.tsp_rules.specs.Values.{Took, Placed, Message, Stamp, Taken, Good, Bad, Kind, LoopKind, Place, Port}
+use Rattle.tsp_base.specs.Words.{Past, MessageValue, Performs, nothing, puts, sets_date}
+use Rattle.tsp_rules.specs.Answers.{takes, handles}
 use Rattle.tsp_rules.specs.GateRows.{in_charge, steers, stirred_ports, takes_kind, takes_loop, takes_message, takes_on}
 use Rattle.tsp_rules.specs.NodePerforms.{PerformsAll}
 use Rattle.tsp_rules.specs.NodeRows.{NodePast, abandons_on, for_ports, on, on_port, reading_all, stirring}
-use Rattle.tsp_rules.specs.RoundRows.{corrects, is_correct}
-use Rattle.tsp_rules.specs.Guards.{is_heard, is_in_range, is_own, role_at}
-use Rattle.tsp_rules.proofs.Emits.{Sort, AllOf, Emits, Emits_either, Emits_more, Emits_nothing, Emits_puts, Emits_reading, Emits_then, Posting, Sampling, Taking, is_in, sort_of}
+use Rattle.tsp_rules.specs.RoundRows.{corrects}
+use Rattle.tsp_rules.specs.Guards.{is_own}
+use Rattle.tsp_rules.proofs.Emits.{is_part, Emits, Emits_either, Emits_nothing, Emits_puts, Emits_then}
 use Rattle.tsp_node.specs.declared.part.Part.{Part}
 use Rattle.tsp_node.specs.NodeStands.{TakeStands, traced_with}
-use Rattle.tsp_node.proofs.EmitsRows.{emits_samples}
 use Rattle.tsp_node.proofs.TakeEmits.{emits_takes}
 use Rattle.tsp_gateway.specs.declared.gateway.Gateway.{Gateway}
 use Rattle.tsp_gateway.specs.GateInputs.{HoldsNoMessage}
 use Rattle.tsp_gateway.specs.GatewayStands.{GatewayStands, port_at}
 use Rattle.tsp_gateway.specs.Untold.{Untold, upset_ports}
+use Rattle.tsp_rules.proofs.BuiltAnswers.{built_handles, taken_sorts}
+use Rattle.tsp_rules.proofs.EmitsBuilt.{emits_built, nothing_taken}
+use Rattle.tsp_rules.proofs.EmitsStill.{row_corrects-none, still_sorts}
 use Rattle.tsp_gateway.proofs.LiftLemmas.{All_moved, All_on, All_same, All_stirred, All_unstirred, take_stands}
 
 -- the ports whose rounds a message may end
@@ -61,45 +61,19 @@ All_passed {x} {g} {h} {before} after q steer charge from m flags was is stays d
     (All_on {W = GatewayStands} {P = TakeStands} {Q = TakeStands} before after (emits_takes steer charge from (Good (Message m))) still is (λ past w. w) (λ past w. take_stands q past g before was w) (λ past t. t) d))
 
 -- what spells no message is taken
-abbrev other_sorts : List Sort
-other_sorts = Taking ∷ Posting ∷ Sampling ∷ []
+still-part : (t : Taken) → HoldsNoMessage t → is_part (taken_sorts t) still_sorts ≡ true
+still-part (Good (Message m)) none = absurd none
+still-part _ none = refl
 
-by-role : (p : PeerId) (r : ReplyValue) (role : Role) → Emits other_sorts (replies_in p r role)
-unfolding replies_in
-by-role p r Master = Emits_more (Sampling ∷ []) refl (emits_samples p r)
-by-role p r _ = Emits_nothing
-
-replies-emits : (from : Place) (r : ReplyValue) → Emits other_sorts (from_peer from (peer_replies r))
-unfolding from_peer peer_replies
-replies-emits (Peer p) r = Emits_either (is_heard p) _ nothing (Emits_reading role_at (replies_in p r) (by-role p r)) Emits_nothing
-replies-emits Stranger r = Emits_nothing
-
-request-emits : (from : Place) (word counter : ℕ) → Emits other_sorts (replies from word counter)
-unfolding replies posts_reply
-request-emits from word counter = Emits_either is_in_range (posts_reply from word counter) nothing (record { only = λ x past. (refl, tt) }) Emits_nothing
-
-handles-emits : (from : Place) (t : Taken) → HoldsNoMessage t → Emits other_sorts (handles true true from t)
-unfolding handles
-handles-emits from (Bad fault) none = Emits_nothing
-handles-emits from (Good (Message m)) none = absurd none
-handles-emits from (Good (Stamp (Request word counter))) none = request-emits from word counter
-handles-emits from (Good (Stamp (Reply r))) none = replies-emits from r
-
-other-emits : (from : Place) (t : Taken) → HoldsNoMessage t → Emits other_sorts (takes true true from t)
+other-emits : (from : Place) (t : Taken) → HoldsNoMessage t → Emits still_sorts (takes true true from t)
 unfolding takes
-other-emits from t none = Emits_then (puts (Took from t)) _ (Emits_puts (Took from t) refl) (Emits_either (is_own from) nothing (handles true true from t) Emits_nothing (handles-emits from t none))
-
-other-act : (a : Act) → is_in (sort_of a) other_sorts ≡ true → is_correct a ≡ false
-other-act (Correct amount stepped shown) e = absurd (false≢true e)
-other-act _ e = refl
-
-other-acts : (acts : List Act) → AllOf other_sorts acts → corrects acts ≡ false
-other-acts [] h = refl
-other-acts (a ∷ later) h = let here = other-act a h.0 in rw here (other-acts later h.1)
+other-emits from t none =
+    Emits_then (puts (Took from t)) _ (Emits_puts (Took from t) refl)
+    (Emits_either (is_own from) nothing (handles true true from t) Emits_nothing (emits_built (still-part t none) (built_handles true true from t tt (nothing_taken t))))
 
 -- it doesn't correct
 pub other_still : (from : Place) (t : Taken) → HoldsNoMessage t → (x : ℕ) (past : Past) → corrects (takes true true from t x past) ≡ false
-other_still from t none x past = other-acts (takes true true from t x past) ((other-emits from t none).only x past)
+other_still from t none = row_corrects-none (other-emits from t none)
 
 pub other_on : (q : Port) (from : Place) (t : Taken) → HoldsNoMessage t → on q (takes true true from t) ≡ takes_on q from t
 unfolding takes_on

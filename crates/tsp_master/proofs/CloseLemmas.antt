@@ -1,22 +1,20 @@
 -- What a close reads, and what it does to each measured peer.
-use Rattle.std.proofs.Common.{◌≡◌, ℕ, ◌+◌, ◌<◌, ◌≤◌, ◌&&◌, ◌||◌, nat_le, Bool, true, false, if◌then◌else◌, List, [], ◌∷◌, ◌++◌, length, map, get_or, Option, Some, None, ℤ, pos, ◌-ℤ◌, refl, ◌∙◌, ap, subst, arith}
+use Rattle.std.proofs.Common.{◌≡◌, ℕ, ◌+◌, ◌<◌, ◌≤◌, ◌&&◌, nat_le, Bool, true, false, if◌then◌else◌, List, [], ◌∷◌, ◌++◌, length, map, get_or, Option, Some, None, ℤ, pos, refl, ◌∙◌, ap, subst, arith}
 use Rattle.std.specs.Option.{option_map}
 use Rattle.std.proofs.lemmas.List.{get_or_default, map-append}
-use Rattle.std.proofs.lemmas.Bool.{false≢true, le-leb}
-use Rattle.tsp_rules.specs.Values.{Act, Correct, Leave, Placed, PeerId, Port}
+use Rattle.std.proofs.lemmas.Bool.{le-leb}
+use Rattle.tsp_rules.specs.Values.{Correct, Leave, Placed, PeerId, Port}
 use Rattle.tsp_base.specs.Words.{Performs, armed, Past, either_by, for_each, grown, nothing, puts, ◌followed_by◌, Estimate, Sampled, best, estimate_of, is_going, IsAscending}
 use Rattle.tsp_group.specs.declared.group.Group.{Group}
 use Rattle.tsp_rules.specs.ClockRows.{adjusts, can_adjust, is_step}
-use Rattle.tsp_rules.specs.SendRows.{begins_adjtime, begins_settime}
 use Rattle.tsp_rules.specs.Guards.{is_over}
-use Rattle.tsp_rules.proofs.Emits.{AllOf, Emits, Emits_each, Emits_if, Emits_puts, is_in, sort_of}
-use Rattle.tsp_rules.proofs.EmitsSends.{emits_adjtime_begins, emits_settime_begins}
+use Rattle.tsp_rules.proofs.Emits.{Emits, Emits_each}
 use Rattle.tsp_rules.proofs.EmitsStill.{corrects-none, still_sorts}
 use Rattle.tsp_acks.specs.declared.station.Station.{Station}
 use Rattle.tsp_acks.proofs.StandsLemmas.{Stands_idle}
 use Rattle.tsp_clock.specs.Clocks.{ClockValue}
 use Rattle.tsp_clock.specs.ClockStands.{ClockStands}
-use Rattle.tsp_rules.specs.RoundRows.{Standing, abandons, closes_with, corrects, corrects_by, corrects_peer, diff_before, is_correct, mean_by, moves, estimates, is_near, near_diffs, round_at, standing}
+use Rattle.tsp_rules.specs.RoundRows.{Standing, abandons, closes_with, corrects, corrects_peer, diff_before, mean_by, moves, estimates, is_near, near_diffs, round_at, standing}
 use Rattle.tsp_measure.specs.declared.sample.TimedSample.{TimedSample}
 use Rattle.tsp_base.proofs.AscendingLemmas.{Rise-peers}
 use Rattle.tsp_measure.specs.declared.entry.Entry.{Entry}
@@ -28,6 +26,8 @@ use Rattle.tsp_master.specs.MasterStands.{LeadStands, MasterStands}
 use Rattle.tsp_master.proofs.AskLemmas.{filter-more, filter-past, measured-is}
 use Rattle.tsp_master.proofs.MasterLemmas.{MasterStands_aside}
 use Rattle.tsp_master.proofs.PhaseLemmas.{over-low, over-some}
+use Rattle.tsp_rules.proofs.BuiltRounds.{built_corrects_by}
+use Rattle.tsp_rules.proofs.EmitsBuilt.{emits_built, nothing_measured}
 use Rattle.tsp_master.proofs.TableLemmas.{MasterStands_changed, leaves-after}
 
 -- one estimate more
@@ -138,14 +138,9 @@ no_probe x past m off due h = by_probe (armed past.seen).probe refl off where
       let bad : ⊥ = cc in
       absurd bad
 
-by-still : (mean : ℤ) (p : PeerId) (o : Option Estimate) → Emits still_sorts (corrects_by mean p o)
-unfolding corrects_by
-by-still mean p None = Emits_puts (Leave p) refl
-by-still mean p (Some b) = Emits_if (is_near b.diff) (begins_adjtime p b.ticket (mean -ℤ b.diff)) (begins_settime p b.ticket) (emits_adjtime_begins p b.ticket (mean -ℤ b.diff) refl) (emits_settime_begins p b.ticket refl)
-
 peer-still : (mean : ℤ) (s : Standing) → Emits still_sorts (corrects_peer mean s)
 unfolding corrects_peer
-peer-still mean s = by-still mean s.peer s.best
+peer-still mean s = emits_built refl (built_corrects_by mean s.peer s.best (nothing_measured mean s.best))
 
 -- a close corrects where the clock can be moved and the port leads it
 pub corrects-closes : (own : Bool) (g : Group) (round : List Standing) (x : ℕ) (past : Past) (can : Bool) → can_adjust (mean_by own g) x past ≡ can → corrects (closes_with own g round x past) ≡ (can && own)

@@ -5,7 +5,7 @@ use Rattle.tsp_rules.specs.Values.{Act, Boot, Correct, Placed, Alarm, Port}
 use Rattle.tsp_base.specs.Words.{deadline, Past, Performs, Keeps, acting, Row, grown, puts}
 use Rattle.tsp_base.proofs.SendLemmas.{seen_act}
 use Rattle.tsp_rules.specs.Guards.{is_in_time, is_met}
-use Rattle.tsp_rules.proofs.Emits.{Sort, Taking, Asking, Correcting, Numbering, Posting, Leading, Following, Changing, Backing, Counting, Rounding, Alarming, Tabling, Rivalling, Acking, Giving, Sampling, Closing, Tracing, is_in, sort_of, Emits, Emits_more, Keeps_by}
+use Rattle.tsp_rules.proofs.Emits.{is_in, sort_of, Emits, Emits_more, Keeps_by}
 use Rattle.tsp_rules.proofs.EmitsStill.{still_sorts}
 use Rattle.tsp_acks.specs.declared.station.Station.{Station}
 use Rattle.tsp_acks.specs.Stands.{StationStands, StandsActing}

@@ -9,7 +9,7 @@ use Rattle.tsp_base.proofs.SendLemmas.{seen_act, last_post-posts, last_post-othe
 use Rattle.tsp_rules.specs.DateRows.{all_settled, are_settled, is_settled}
 use Rattle.tsp_rules.specs.SendRows.{may_correct, may_set}
 use Rattle.tsp_rules.specs.Guards.{is_clock_value, is_in_range, target_at}
-use Rattle.tsp_rules.proofs.Emits.{Sort, Taking, Numbering, Posting, Backing, Counting, Alarming, Rivalling, Giving, Closing, Tracing, is_in, sort_of, sort_of_kind}
+use Rattle.tsp_rules.proofs.Emits.{Sort, Taking, Numbering, Passing, Posting, Backing, Counting, Alarming, Rivalling, Giving, Closing, Tracing, is_in, sort_of, sort_of_kind}
 use Rattle.tsp_clock.specs.Clocks.{ClockValue, target_of}
 use Rattle.tsp_clock.specs.ClockStands.{ClockStands}
 use Rattle.tsp_measure.specs.declared.entry.Entry.{Entry}
@@ -86,7 +86,7 @@ acked-after p past x q =
 
 -- acts that tell nothing of slaves, corrections and rounds
 abbrev pub quiet_sorts : List Sort
-quiet_sorts = Taking ∷ Numbering ∷ Posting ∷ Backing ∷ Counting ∷ Alarming ∷ Rivalling ∷ Giving ∷ Closing ∷ Tracing ∷ []
+quiet_sorts = Taking ∷ Numbering ∷ Passing ∷ Posting ∷ Backing ∷ Counting ∷ Alarming ∷ Rivalling ∷ Giving ∷ Closing ∷ Tracing ∷ []
 
 kind-quiet : (k : Kind) → is_in (sort_of_kind k) quiet_sorts ≡ true → is_correction k ≡ false
 kind-quiet AdjTime e = absurd (false≢true e)

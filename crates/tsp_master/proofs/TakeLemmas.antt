@@ -1,11 +1,10 @@
 -- Rows for messages, as a master's station and table have what they read.
 use Rattle.std.proofs.Common.{◌≡◌, ◌≢◌, ℕ, ◌==◌, ◌&&◌, not, nat_lt, Bool, true, false, if◌then◌else◌, [], ◌∷◌, Option, Some, None, ◌⊎◌, inl, inr, refl, sym, ◌∙◌, ap}
-use Rattle.tsp_rules.specs.Values.{Acked, Join, Kind, Election, MasterAck, MasterReq, QuitKind, ResolveKind, SlaveUp, PeerId, Master}
+use Rattle.tsp_rules.specs.Values.{Acked, Join, Kind, Election, MasterAck, MasterReq, ResolveKind, SlaveUp, PeerId, Master}
 use Rattle.tsp_base.specs.Words.{Past, MessageValue, grown, nothing, puts, either_by, posts, Sending, corrects_in, is_correction, open_send}
 use Rattle.tsp_rules.specs.MasterRows.{may_join, sends_away}
-use Rattle.tsp_rules.specs.SendRows.{acknowledges, begins, has_other, has_quit, is_kind_quit, is_quit}
-use Rattle.tsp_rules.proofs.Emits.{Emits, Emits_nothing, Emits_either}
-use Rattle.tsp_rules.proofs.EmitsSlave.{emits_begins}
+use Rattle.tsp_rules.specs.SendRows.{acknowledges, has_other, has_quit, is_kind_quit, is_quit}
+use Rattle.tsp_rules.proofs.Emits.{Emits}
 use Rattle.tsp_sends.specs.Slots.{kind_of, sending_to}
 use Rattle.tsp_acks.specs.declared.station.Station.{Station}
 use Rattle.tsp_acks.specs.Openings.{is_of}
@@ -16,6 +15,8 @@ use Rattle.tsp_master.specs.declared.master.Master.{Master as MasterStruct}
 use Rattle.tsp_master.specs.MasterStands.{MasterStands}
 use Rattle.tsp_master.specs.MasterTakes.{master_takes_kind_here}
 use Rattle.tsp_master.proofs.MasterLemmas.{MasterStands_aside}
+use Rattle.tsp_rules.proofs.BuiltMaster.{built_sends_away}
+use Rattle.tsp_rules.proofs.EmitsBuilt.{emits_built}
 use Rattle.tsp_master.proofs.TableLemmas.{EntriesAfter_changed, MasterStands_changed, MasterStands_same, acked-after, joins-after, quiet_sorts}
 
 pub master_takes_kind_here-ask : (p : PeerId) (m : MessageValue) (k : Kind) → (k ≡ MasterReq) ⊎ (k ≡ ResolveKind) → master_takes_kind_here p m k ≡ posts p MasterAck m.number
@@ -71,5 +72,4 @@ MasterStands_acknowledges p number x past old new st false s test change ps rs h
       either false e = refl
 
 pub emits_away : (p : PeerId) → Emits quiet_sorts (sends_away p)
-unfolding sends_away
-emits_away p = Emits_either (has_quit p) nothing (begins QuitKind p) Emits_nothing (emits_begins QuitKind p refl)
+emits_away p = emits_built refl (built_sends_away p)

@@ -5,7 +5,7 @@ use Rattle.std.proofs.lemmas.Bool.{false≢true, or_parts, or_cases}
 use Rattle.tsp_rules.specs.Values.{Act, Boot, Post, Become, Arm, Ring, Late, Correct, Acked, Probe, CloseAlarm, Message, Stamp, Kind, AdjTime, Conflict, Election, QuitKind, SetDateReq, SetTime, PeerId, Role, Starting, Master, Request}
 use Rattle.tsp_base.specs.Words.{Acts, Did, Elsewhere, Here, Past, Seen, Step, Turned, in_table, role, is_measured, corrects_in, open_send, Row, added, grown, in_step, puts}
 use Rattle.tsp_rules.specs.Guards.{is_master}
-use Rattle.tsp_rules.proofs.Emits.{Sort, Taking, Numbering, Posting, Leading, Following, Changing, Backing, Counting, Alarming, Rivalling, Giving, Closing, Moving, Tracing, AllOf, is_in, sort_of, sort_of_kind, Emits, Emits_more}
+use Rattle.tsp_rules.proofs.Emits.{Sort, Taking, Numbering, Passing, Posting, Leading, Following, Changing, Backing, Counting, Alarming, Rivalling, Giving, Closing, Moving, Tracing, AllOf, is_in, sort_of, sort_of_kind, Emits, Emits_more}
 use Rattle.tsp_rules.proofs.EmitsTables.{changes, is_change}
 use Rattle.tsp_measure.specs.declared.entry.Entry.{Entry}
 use Rattle.tsp_measure.specs.Slaves.{acks_where, entry_of, leaves}
@@ -17,11 +17,11 @@ use Rattle.tsp_master.proofs.TableLemmas.{quiet_sorts, MasterStands_changed, Mas
 
 -- acts of a port's other parts: none of a round, of a correction or of the table, and no answer to a send
 abbrev pub turning_sorts : List Sort
-turning_sorts = Taking ∷ Numbering ∷ Posting ∷ Leading ∷ Following ∷ Changing ∷ Backing ∷ Counting ∷ Alarming ∷ Rivalling ∷ Giving ∷ Closing ∷ Moving ∷ Tracing ∷ []
+turning_sorts = Taking ∷ Numbering ∷ Passing ∷ Posting ∷ Leading ∷ Following ∷ Changing ∷ Backing ∷ Counting ∷ Alarming ∷ Rivalling ∷ Giving ∷ Closing ∷ Moving ∷ Tracing ∷ []
 
 -- those by which no port becomes a master
 abbrev pub parting_sorts : List Sort
-parting_sorts = Taking ∷ Numbering ∷ Posting ∷ Following ∷ Changing ∷ Backing ∷ Counting ∷ Alarming ∷ Rivalling ∷ Giving ∷ Closing ∷ Moving ∷ Tracing ∷ []
+parting_sorts = Taking ∷ Numbering ∷ Passing ∷ Posting ∷ Following ∷ Changing ∷ Backing ∷ Counting ∷ Alarming ∷ Rivalling ∷ Giving ∷ Closing ∷ Moving ∷ Tracing ∷ []
 
 pub MasterStands_become : (r : Role) (x : ℕ) (past : Past) (old new : MasterStruct) → Cleared old new → MasterStands past old → MasterStands (grown x past (Become r ∷ [])) new
 MasterStands_become r x past old new c h = record {

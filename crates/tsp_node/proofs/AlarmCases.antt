@@ -2,28 +2,26 @@
 use Rattle.std.specs.Prelude.{◌≡◌, ◌≢◌, ℕ, Bool, true, false, List, [], ◌∷◌, refl}
 use Rattle.std.proofs.Common.{sym, ◌∙◌, ap}
 use Rattle.std.proofs.lemmas.Bool.{false≢true}
-use Rattle.tsp_rules.specs.Values.{Ring, Late, Placed, Alarm, Quiet, Window, Elect, Search, Round, Probe, CloseAlarm, ResolveAlarm, QuitKind, Port, ROUND, WAIT}
-use Rattle.tsp_base.specs.Words.{deadline, Past, Keeps, Performs, Row, arms, either_by, for_each, nothing, puts}
+use Rattle.tsp_rules.specs.Values.{Ring, Late, Placed, Alarm, Quiet, Window, Elect, Search, Round, Probe, CloseAlarm, ResolveAlarm, Port, ROUND, WAIT}
+use Rattle.tsp_base.specs.Words.{deadline, Past, Performs, arms, either_by, nothing, puts}
 use Rattle.tsp_base.proofs.PerformsLemmas.{Performs_nothing, Performs_same}
 use Rattle.tsp_rules.specs.Answers.{alarm_rings, rings}
 use Rattle.tsp_rules.specs.CandidateRows.{window_rings}
 use Rattle.tsp_rules.specs.RoundRows.{begins_or_waits, corrects, round_rings}
-use Rattle.tsp_rules.specs.ResolveRows.{quits_rivals, resolve_rings}
-use Rattle.tsp_rules.specs.SendRows.{begins}
-use Rattle.tsp_rules.specs.SlaveRows.{quiet_rings, search_rings}
-use Rattle.tsp_rules.specs.Guards.{is_due, is_in_time, is_over, rivals_at}
-use Rattle.tsp_rules.proofs.Emits.{Alarming, Emits, Emits_arms, Emits_each, Emits_either, Emits_more, Emits_puts, Emits_reading, Emits_then, Leading, Numbering}
-use Rattle.tsp_rules.proofs.EmitsCandidate.{silent_window}
-use Rattle.tsp_rules.proofs.EmitsSlave.{emits_begins, silent_elect_rings, silent_quiet, silent_search, silent_sorts}
-use Rattle.tsp_date.specs.DateStands.{DatesStand}
+use Rattle.tsp_rules.specs.ResolveRows.{resolve_rings}
+use Rattle.tsp_rules.specs.Guards.{is_due, is_in_time, is_over}
+use Rattle.tsp_rules.proofs.Emits.{Alarming, Emits, Emits_arms, Emits_either, Emits_more, Emits_puts, Emits_then}
 use Rattle.tsp_slave.specs.SlaveAlarms.{slave_rings}
 use Rattle.tsp_slave.proofs.BesideLemmas.{beside_sorts}
 use Rattle.tsp_master.specs.MasterAlarms.{master_rings}
 use Rattle.tsp_rules.proofs.EmitsStill.{corrects-none, still_sorts}
 use Rattle.tsp_node.specs.NodeStands.{PortUntaken, PortValue}
+use Rattle.tsp_rules.proofs.BuiltSlave.{built_elect_rings, built_quiet_rings, built_search_rings}
+use Rattle.tsp_rules.proofs.BuiltShared.{standing_sorts}
+use Rattle.tsp_rules.proofs.BuiltMaster.{built_resolve_rings}
+use Rattle.tsp_rules.proofs.BuiltCandidate.{built_window_rings}
+use Rattle.tsp_rules.proofs.EmitsBuilt.{emits_built}
 use Rattle.tsp_node.specs.RoleAlarms.{is_of_master, is_of_slave}
-use Rattle.tsp_node.proofs.DatesKeeps.{calm, elect-keeps}
-use Rattle.tsp_node.proofs.EmitsRoles.{calm_sorts, elect-rings, quiet-rings, role_sorts, search-rings}
 
 -- whether an alarm is due, as the station has it
 due_is : (alarm : Alarm) (x : ℕ) (past : Past) (state : PortValue) → PortUntaken past state → is_due alarm x past ≡ is_over (deadline state.station.alarms alarm) x
@@ -82,17 +80,12 @@ master_rings-is own false Round e = refl
 master_rings-is own true Round e = absurd (false≢true e)
 master_rings-is own wait _ e = absurd (false≢true e)
 
--- what an alarm of a port that is Starting, Loose or follows puts, and that it keeps the port's dates
-pub record Besides (row : Row) : Type 0 where
-  pub silent : Emits silent_sorts row
-  pub roles : Emits role_sorts row
-  pub dates : Keeps DatesStand row
-
-pub slave_alarm : (own wait : Bool) (alarm : Alarm) → is_of_slave alarm ≡ true → Besides (alarm_rings own wait alarm)
+-- what an alarm of a port that is Starting, Loose or follows puts
+pub slave_alarm : (own wait : Bool) (alarm : Alarm) → is_of_slave alarm ≡ true → Emits standing_sorts (alarm_rings own wait alarm)
 unfolding alarm_rings
-slave_alarm own wait Quiet e = record { silent = silent_quiet; roles = Emits_more calm_sorts refl quiet-rings; dates = calm quiet_rings quiet-rings }
-slave_alarm own wait Search e = record { silent = silent_search; roles = Emits_more calm_sorts refl search-rings; dates = calm search_rings search-rings }
-slave_alarm own wait Elect e = record { silent = silent_elect_rings; roles = elect-rings; dates = elect-keeps }
+slave_alarm own wait Quiet e = emits_built refl built_quiet_rings
+slave_alarm own wait Search e = emits_built refl built_search_rings
+slave_alarm own wait Elect e = emits_built refl built_elect_rings
 slave_alarm own wait _ e = absurd (false≢true e)
 
 -- one that the slave handles has the slave's row
@@ -104,17 +97,17 @@ slave_rings-is own wait Elect b e = absurd (e refl)
 slave_rings-is own wait _ b e = absurd (false≢true b)
 
 pub beside_alarm : (own wait : Bool) (alarm : Alarm) → is_of_slave alarm ≡ true → Emits beside_sorts (alarm_rings own wait alarm)
-beside_alarm own wait alarm e = Emits_more silent_sorts refl (slave_alarm own wait alarm e).silent
+beside_alarm own wait alarm e = Emits_more standing_sorts refl (slave_alarm own wait alarm e)
 
 -- the alarms of a port that is Starting, Loose or follows correct no clock, nor does a candidate's, nor a round that waits
 corrects_alarm : (own wait : Bool) (alarm : Alarm) → is_of_slave alarm ≡ true → (x : ℕ) (past : Past) → false ≡ corrects (alarm_rings own wait alarm x past)
-corrects_alarm own wait alarm e x past = sym (corrects-none (alarm_rings own wait alarm x past) ((Emits_more silent_sorts {all = still_sorts} refl (slave_alarm own wait alarm e).silent).only x past))
+corrects_alarm own wait alarm e x past = sym (corrects-none (alarm_rings own wait alarm x past) ((Emits_more standing_sorts {all = still_sorts} refl (slave_alarm own wait alarm e)).only x past))
 
 pub beside_window : Emits beside_sorts window_rings
-beside_window = Emits_more (Leading ∷ silent_sorts) refl silent_window
+beside_window = emits_built refl built_window_rings
 
 corrects_window : (x : ℕ) (past : Past) → false ≡ corrects (window_rings x past)
-corrects_window x past = sym (corrects-none (window_rings x past) ((Emits_more (Leading ∷ silent_sorts) {all = still_sorts} refl silent_window).only x past))
+corrects_window x past = sym (corrects-none (window_rings x past) ((emits_built {all = still_sorts} refl built_window_rings).only x past))
 
 pub emits_wait : Emits (Alarming ∷ []) (round_rings true)
 unfolding round_rings begins_or_waits
@@ -123,15 +116,8 @@ emits_wait = Emits_either (is_in_time Round) _ _ (Emits_then (puts (Ring Round))
 corrects_wait : (x : ℕ) (past : Past) → false ≡ corrects (round_rings true x past)
 corrects_wait x past = sym (corrects-none (round_rings true x past) ((Emits_more (Alarming ∷ []) {all = still_sorts} refl emits_wait).only x past))
 
--- the end of a resolution
-pub emits_resolve : Emits (Numbering ∷ Alarming ∷ []) resolve_rings
-unfolding resolve_rings quits_rivals
-emits_resolve = Emits_either (is_in_time ResolveAlarm) _ _
-    (Emits_then (puts (Ring ResolveAlarm)) _ (Emits_puts (Ring ResolveAlarm) refl) (Emits_reading rivals_at (for_each (begins QuitKind)) (λ ps. Emits_each (begins QuitKind) ps (λ p. emits_begins QuitKind p refl))))
-    (Emits_puts (Late ResolveAlarm) refl)
-
 corrects_resolve : (x : ℕ) (past : Past) → false ≡ corrects (resolve_rings x past)
-corrects_resolve x past = sym (corrects-none (resolve_rings x past) ((Emits_more (Numbering ∷ Alarming ∷ []) {all = still_sorts} refl emits_resolve).only x past))
+corrects_resolve x past = sym (corrects-none (resolve_rings x past) ((emits_built {all = still_sorts} refl built_resolve_rings).only x past))
 
 -- an alarm that isn't its master's corrects no clock
 pub corrects_beside : (own wait : Bool) (alarm : Alarm) → is_of_master wait alarm ≡ false → (x : ℕ) (past : Past) → false ≡ corrects (alarm_rings own wait alarm x past)

@@ -15,7 +15,6 @@ use Rattle.tsp_rules.specs.RoundRows.{samples}
 use Rattle.tsp_rules.specs.SendRows.{acknowledges, answers_election, has_election, is_kind_election}
 use Rattle.tsp_rules.specs.SlaveRows.{slave_takes, slave_takes_kind}
 use Rattle.tsp_rules.specs.Guards.{is_follow, is_heard, is_master, is_starting_role, role_at}
-use Rattle.tsp_rules.proofs.Emits.{Emits_more}
 use Rattle.tsp_acks.specs.declared.station.Station.{Station}
 use Rattle.tsp_acks.specs.Stands.{StationStands}
 use Rattle.tsp_acks.proofs.PeerLemmas.{Contains-among}
@@ -28,7 +27,8 @@ use Rattle.tsp_node.specs.declared.audience.Audience.{Audience}
 use Rattle.tsp_node.specs.declared.audience.Audience.TheVariants.{OfClients, OfNode, OfRoles, OfSends}
 use Rattle.tsp_node.specs.Audiences.{audience_of, heard_from, hears_by}
 use Rattle.tsp_node.specs.NodeStands.{PortStands, PortTook, PortValue}
-use Rattle.tsp_node.proofs.EmitsRoles.{calm_sorts, emits_candidate, yielding}
+use Rattle.tsp_rules.proofs.BuiltCandidate.{built_candidate_takes_kind, built_yields}
+use Rattle.tsp_rules.proofs.EmitsBuilt.{emits_built}
 use Rattle.tsp_node.proofs.NodeLemmas.{Performs_pass}
 
 pub is_stranger : (from : Place) → ((p : PeerId) → from ≡ Peer p → ⊥) → from ≡ Stranger
@@ -209,7 +209,7 @@ unfolding refused_by either_by puts nothing ◌followed_by◌
 refused_keeps p number x past m other h = by_test (has_election p number x past) refl where
   by_test : (b : Bool) → has_election p number x past ≡ b → MasterStands (grown x past (if b then Acked p ∷ yields x (grown x past (Acked p ∷ [])) else [])) m
   by_test true e =
-      MasterStands_idle yields (Emits_more calm_sorts refl yielding) x (grown x past (Acked p ∷ [])) m other (MasterStands_unheld p x past m (not-correcting number (open_send p past.seen) e) h)
+      MasterStands_idle yields (emits_built refl built_yields) x (grown x past (Acked p ∷ [])) m other (MasterStands_unheld p x past m (not-correcting number (open_send p past.seen) e) h)
   by_test false e = h
 
 -- what a candidate does leaves a master alone that doesn't lead
@@ -219,7 +219,8 @@ candidate_keeps p m n x past master other h = by_kind m.kind n where
   by_kind : (k : Kind) → k ≢ Ack → MasterStands (grown x past (candidate_takes_kind p m k x past)) master
   by_kind Accept n = accepted_keeps p m.number x past master h
   by_kind Refuse n = refused_keeps p m.number x past master other h
-  by_kind k n = MasterStands_idle (candidate_takes_kind p m k) (Emits_more calm_sorts refl (emits_candidate p m k n (λ e. let bad : ⊥ = cc in bad) (λ e. let bad : ⊥ = cc in bad))) x past master other h
+  by_kind Ack n = absurd (n refl)
+  by_kind k n = MasterStands_idle (candidate_takes_kind p m k) (emits_built refl (built_candidate_takes_kind p m k tt)) x past master other h
 
 -- a stamp reply, by whether the port leads
 pub replies_master : (p : PeerId) (reply : ReplyValue) (role : Role) → is_master role ≡ true → replies_in p reply role ≡ samples p reply

@@ -1,11 +1,9 @@
 pub mod AlarmCases
 pub mod AlarmOrder
 pub mod ConfigLemmas
-pub mod DatesKeeps
 pub mod DueLemmas
 pub mod DueSendLemmas
-pub mod EmitsRoles
-pub mod EmitsRows
+pub mod RoleChanges
 pub mod HearLemmas
 pub mod LeaveLemmas
 pub mod NodeLemmas

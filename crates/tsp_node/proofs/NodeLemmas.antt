@@ -6,7 +6,7 @@ use Rattle.tsp_rules.specs.Values.{Act, Took, Post, Abandon, Placed, Stamp, Take
 use Rattle.tsp_base.specs.Words.{Past, Performs, Keeps, Received, role, said, taken, Row, nothing, puts, grown, ReplyValue}
 use Rattle.tsp_base.proofs.PerformsLemmas.{Performs_from, Performs_nothing}
 use Rattle.tsp_rules.specs.Guards.{is_master}
-use Rattle.tsp_rules.proofs.Emits.{Sort, Booting, Asking, Correcting, Numbering, Posting, Leading, Following, Changing, Backing, Counting, Rounding, Alarming, Tabling, Rivalling, Acking, Giving, Sampling, Closing, Moving, Tracing, Emits, Emits_more, Keeps_by, is_in, sort_of}
+use Rattle.tsp_rules.proofs.Emits.{Sort, Booting, Asking, Correcting, Numbering, Passing, Posting, Leading, Following, Changing, Backing, Counting, Rounding, Alarming, Tabling, Rivalling, Acking, Giving, Sampling, Closing, Moving, Tracing, Emits, Emits_more, Keeps_by, is_in, sort_of}
 use Rattle.tsp_acks.specs.declared.station.Station.{Station}
 use Rattle.tsp_acks.specs.Stands.{StationStands, StandsActing}
 use Rattle.tsp_clients.specs.ClientStands.{NamingStands, TraceStands, TracingStands}
@@ -32,9 +32,8 @@ use Rattle.tsp_resolve.proofs.ResolveLemmas.{ResolveStands_by, unchanging}
 use Rattle.tsp_node.specs.declared.node.Node.{Node}
 use Rattle.tsp_node.specs.Unmarking.{Unmarks}
 use Rattle.tsp_node.specs.NodeStands.{PortBegun, PortStands, PortTook, PortUntaken, PortValue, NodeStands, NodeUntaken, Begun, TakeStands, TookStands, Traced, TracedValue, port_with, traced_of}
-use Rattle.tsp_node.proofs.EmitsRoles.{role_sorts}
-use Rattle.tsp_node.proofs.TakeEmits.{silent_trace}
-use Rattle.tsp_rules.proofs.EmitsClients.{date_sorts}
+use Rattle.tsp_node.proofs.TakeEmits.{role_sorts, silent_trace}
+use Rattle.tsp_rules.proofs.BuiltDates.{date_sorts}
 use Rattle.tsp_node.proofs.RivalKeeps.{ResolveStands_parted}
 
 -- a call that changes nothing but the station, the master and the rivals
@@ -69,7 +68,7 @@ rivals_part row e x past before after unmarks h s =
 
 -- all sorts but Took
 abbrev pub untaking_sorts : List Sort
-untaking_sorts = Booting ∷ Asking ∷ Correcting ∷ Numbering ∷ Posting ∷ Leading ∷ Following ∷ Changing ∷ Backing ∷ Counting ∷ Rounding ∷ Alarming ∷ Tabling ∷ Rivalling ∷ Acking ∷ Giving ∷ Sampling ∷ Closing ∷ Moving ∷ Tracing ∷ []
+untaking_sorts = Booting ∷ Asking ∷ Correcting ∷ Numbering ∷ Passing ∷ Posting ∷ Leading ∷ Following ∷ Changing ∷ Backing ∷ Counting ∷ Rounding ∷ Alarming ∷ Tabling ∷ Rivalling ∷ Acking ∷ Giving ∷ Sampling ∷ Closing ∷ Moving ∷ Tracing ∷ []
 
 abbrev pub IsUntaken : Past → Unit {0} → Type 0
 IsUntaken past state = taken past.seen ≡ None

@@ -11,7 +11,7 @@ use Rattle.tsp_resolve.specs.declared.resolve.Resolve.{Resolve}
 use Rattle.tsp_resolve.specs.ResolveStands.{ResolveStands}
 use Rattle.tsp_resolve.proofs.ResolveLemmas.{ResolveStands_changed, ResolveStands_idle, ResolveStands_same, rivalless}
 use Rattle.tsp_node.specs.Unmarking.{Unmarks}
-use Rattle.tsp_node.proofs.EmitsRoles.{role_sorts}
+use Rattle.tsp_node.proofs.TakeEmits.{role_sorts}
 
 not-master : (r : Role) → is_master r ≡ false → r ≢ Master
 not-master Master e = absurd (true≢false e)

@@ -6,7 +6,6 @@ use Rattle.tsp_rules.specs.Values.{Act, Boot, Took, Become, Correct, Placed, Ala
 use Rattle.tsp_base.specs.Words.{Past, Performs, said, taken, grown, correcting_of}
 use Rattle.tsp_rules.specs.RoundRows.{corrects, is_correct}
 use Rattle.tsp_rules.proofs.Emits.{AllOf, Emits, Emits_more, Emits_nothing, is_in, sort_of}
-use Rattle.tsp_rules.proofs.EmitsRounds.{emits_close_rings, emits_probe_rings, emits_round_rings, round_sorts}
 use Rattle.tsp_slave.specs.Lasts.{LastValue, Remembers}
 use Rattle.tsp_master.specs.MasterAlarms.{master_rings}
 use Rattle.tsp_master.specs.MasterStands.{RingStands}
@@ -14,6 +13,8 @@ use Rattle.tsp_date.specs.DateStands.{DatesStand}
 use Rattle.tsp_date.proofs.KeepLemmas.{DatesAside_by, passes_date}
 use Rattle.tsp_resolve.proofs.ResolveLemmas.{ResolveStands_by}
 use Rattle.tsp_node.specs.NodeStands.{PortUntaken, PortValue}
+use Rattle.tsp_rules.proofs.BuiltRounds.{built_close_rings, built_probe_rings, built_round_rings, round_sorts}
+use Rattle.tsp_rules.proofs.EmitsBuilt.{emits_built}
 use Rattle.tsp_node.proofs.NodeLemmas.{untaken_by, untaking_sorts}
 
 -- what is remembered after a correction that took no message
@@ -46,9 +47,9 @@ remembers-acts (a ∷ rest) e x past last none h = by_act (is_correct a) refl (r
 -- the alarms of rounds
 emits_master : (own : Bool) (alarm : Alarm) → Emits round_sorts (master_rings own alarm)
 unfolding master_rings
-emits_master own Probe = emits_probe_rings
-emits_master own CloseAlarm = emits_close_rings own
-emits_master own Round = emits_round_rings false
+emits_master own Probe = emits_built refl built_probe_rings
+emits_master own CloseAlarm = emits_built refl (built_close_rings own)
+emits_master own Round = emits_built refl (built_round_rings false)
 emits_master own _ = Emits_nothing
 
 -- rounds pass no date on

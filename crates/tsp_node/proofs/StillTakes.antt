@@ -1,42 +1,27 @@
 -- What a port takes that never corrects its clock, and what stands where something was taken.
-use Rattle.std.specs.Prelude.{◌≡◌, Bool, true, false, [], ◌∷◌, Some, refl}
+use Rattle.std.specs.Prelude.{◌≡◌, List, [], ◌∷◌, Some, refl}
 use Rattle.std.proofs.Common.{◌∙◌, ap}
-use Rattle.tsp_rules.specs.Values.{Message, Good, Kind, Ack, Date, DateAck, DateReq, LoopKind, Msite, MsiteReq, SetDate, SetDateReq, Test, TraceOff, TraceOn, PeerId, Place, Peer, Role, Starting}
-use Rattle.tsp_base.specs.Words.{Past, MessageValue, Received, taken, reading}
-use Rattle.tsp_rules.specs.Answers.{from_peer, handles_kind, peer_says, says_in}
-use Rattle.tsp_rules.specs.Guards.{role_at}
-use Rattle.tsp_rules.proofs.Emits.{Acking, Emits, Emits_nothing, Emits_reading}
-use Rattle.tsp_rules.proofs.EmitsClients.{client_sorts, emits_names_master, emits_says_master, emits_tests, emits_traces}
+use Rattle.tsp_rules.specs.Values.{Message, Good, Ack, PeerId, Place, Peer, Stranger, Role, Starting}
+use Rattle.tsp_base.specs.Words.{Past, MessageValue, Received, Row, nothing, taken, reading}
+use Rattle.tsp_rules.specs.Answers.{from_peer, peer_says, says_in}
+use Rattle.tsp_rules.specs.Guards.{is_heard, role_at}
+use Rattle.tsp_rules.proofs.Emits.{Sort, Acking, Emits, Emits_either, Emits_nothing, Emits_reading}
 use Rattle.tsp_slave.specs.SlaveStands.{IsMessage, SlaveStands, slave}
 use Rattle.tsp_date.specs.DateStands.{DateStands, date_state}
-use Rattle.tsp_node.specs.declared.audience.Audience.TheVariants.{OfClients}
-use Rattle.tsp_node.specs.Audiences.{audience_of}
 use Rattle.tsp_node.specs.NodeStands.{PortTook, PortValue}
-use Rattle.tsp_node.proofs.EmitsRoles.{acking}
+use Rattle.tsp_rules.proofs.BuiltShared.{built_acknowledges}
+use Rattle.tsp_rules.proofs.EmitsBuilt.{emits_built}
 use Rattle.tsp_node.proofs.HearLemmas.{says_ack}
-use Rattle.tsp_node.proofs.TakeEmits.{peer-emits}
 
--- what clients ask
-pub emits_clients : (charge : Bool) (from : Place) (m : MessageValue) (k : Kind) → audience_of k ≡ OfClients → Emits client_sorts (handles_kind charge from m k)
-unfolding handles_kind
-emits_clients charge from m Msite e = emits_names_master from m.number
-emits_clients charge from m MsiteReq e = emits_says_master from m.number
-emits_clients charge from m TraceOn e = emits_traces from m.number true
-emits_clients charge from m TraceOff e = emits_traces from m.number false
-emits_clients charge from m Test e = emits_tests from m.number
-emits_clients charge from m Date e = let bad : ⊥ = cc in absurd bad
-emits_clients charge from m SetDate e = let bad : ⊥ = cc in absurd bad
-emits_clients charge from m DateReq e = let bad : ⊥ = cc in absurd bad
-emits_clients charge from m SetDateReq e = let bad : ⊥ = cc in absurd bad
-emits_clients charge from m DateAck e = let bad : ⊥ = cc in absurd bad
-emits_clients charge from m LoopKind e = let bad : ⊥ = cc in absurd bad
-emits_clients charge from m Ack e = let bad : ⊥ = cc in absurd bad
-emits_clients charge from m _ e = let bad : ⊥ = cc in absurd bad
+peer-emits : {sorts : List Sort} (from : Place) (row : PeerId → Row) → ((p : PeerId) → Emits sorts (row p)) → Emits sorts (from_peer from row)
+unfolding from_peer
+peer-emits (Peer p) row k = Emits_either (is_heard p) (row p) nothing (k p) Emits_nothing
+peer-emits Stranger row k = Emits_nothing
 
 ack-in : (p : PeerId) (m : MessageValue) (r : Role) → m.kind ≡ Ack → Emits (Acking ∷ []) (says_in p m r)
 unfolding says_in
 ack-in p m Starting e = Emits_nothing
-ack-in p m r e = rw (says_ack p m r e refl) (acking p m.number)
+ack-in p m r e = rw (says_ack p m r e refl) (emits_built refl (built_acknowledges p m.number))
 
 -- an ACK
 pub emits_ack : (from : Place) (m : MessageValue) → m.kind ≡ Ack → Emits (Acking ∷ []) (from_peer from (peer_says m))

@@ -3,30 +3,19 @@ use Rattle.std.specs.Prelude.{◌≡◌, ℕ, ◌&&◌, ◌||◌, not, Bool, tru
 use Rattle.std.proofs.Common.{sym, true≢false}
 use Rattle.std.proofs.lemmas.Bool.{and_parts}
 use Rattle.tsp_rules.specs.Values.{Alarm, Quiet, Window, Elect, Search, Round, Probe, CloseAlarm, ResolveAlarm, ALL}
-use Rattle.tsp_base.specs.Words.{Past, Leads, nothing}
+use Rattle.tsp_base.specs.Words.{Past, Leads}
 use Rattle.tsp_base.proofs.LeadsLemmas.{Leads_then, Leads_nothing, Leads_from, Leads_to}
-use Rattle.tsp_rules.specs.Answers.{alarm_rings, rings, rings_alone, rings_each, due_alarms}
+use Rattle.tsp_rules.specs.Answers.{rings, rings_alone, rings_each, due_alarms}
 use Rattle.tsp_rules.specs.GateRows.{is_probe}
-use Rattle.tsp_rules.specs.Guards.{is_due}
 use Rattle.tsp_rules.proofs.CalmAlarms.{moves_by}
 use Rattle.tsp_promises.proofs.Known.{Open}
 use Rattle.tsp_promises.proofs.AlarmLeads.{quiet_leads, search_leads, elect_leads, resolve_leads}
 use Rattle.tsp_promises.proofs.WindowLeads.{window_leads}
 use Rattle.tsp_promises.proofs.RoundLeads.{Probed, probe_leads, round_leads}
 use Rattle.tsp_promises.proofs.CloseLeads.{close_leads}
-use Rattle.tsp_promises.proofs.SoundRows.{Soundly, sound_either}
-use Rattle.tsp_promises.proofs.SoundAlarms.{quiet_sound, search_sound, elect_sound, window_sound, probe_sound, close_sound, resolve_sound, round_sound}
-
-alarm-sound : (own wait : Bool) (a : Alarm) → Soundly (alarm_rings own wait a)
-unfolding alarm_rings
-alarm-sound own wait Quiet = quiet_sound
-alarm-sound own wait Search = search_sound
-alarm-sound own wait Elect = elect_sound
-alarm-sound own wait Window = window_sound
-alarm-sound own wait Probe = probe_sound
-alarm-sound own wait CloseAlarm = close_sound own
-alarm-sound own wait ResolveAlarm = resolve_sound
-alarm-sound own wait Round = round_sound wait
+use Rattle.tsp_promises.proofs.SoundBuilt.{sound_built}
+use Rattle.tsp_promises.proofs.SoundRows.{Soundly}
+use Rattle.tsp_rules.proofs.BuiltAnswers.{built_rings}
 
 -- what is known of a port around an alarm: a Close needs to know that the port has probed, which a Probe leaves behind
 abbrev pub Around : Bool → ℕ → Past → Type 0
@@ -45,8 +34,7 @@ alarm_leads own wait Round = round_leads own wait
 
 -- an alarm, whether it is due or not
 pub sound_rings : (own wait : Bool) (a : Alarm) → Soundly (rings own wait a)
-unfolding rings
-sound_rings own wait a = sound_either (is_due a) (alarm_rings own wait a) nothing (alarm-sound own wait a) Leads_nothing
+sound_rings own wait a = sound_built (built_rings own wait a)
 
 -- one alarm after the other
 sound-each : (alarms : List Alarm) → Soundly (rings_each alarms)

@@ -1,11 +1,10 @@
 -- How rows over ports lead from what is known of each port to what is known then.
-use Rattle.std.specs.Prelude.{◌≡◌, ◌<◌, ℕ, ◌==◌, Bool, true, false, List, [], ◌∷◌, length, refl}
+use Rattle.std.specs.Prelude.{◌≡◌, ◌<◌, ℕ, ◌==◌, Bool, true, false, List, length, refl}
 use Rattle.std.proofs.Common.{sym, subst, true≢false, eq-eqb, ◌∙◌}
-use Rattle.tsp_rules.specs.Values.{Act, Alarm, Port}
+use Rattle.tsp_rules.specs.Values.{Act, Port}
 use Rattle.tsp_base.specs.Words.{Past, grown, placed}
 use Rattle.tsp_base.proofs.ViewPlaces.{port-same}
-use Rattle.tsp_rules.specs.GateRows.{alarm_on, each_on}
-use Rattle.tsp_rules.specs.NodeRows.{NodePast, NodeRow, nothing_at_all, on_port, spread, ◌and_then◌, reading_all}
+use Rattle.tsp_rules.specs.NodeRows.{NodePast, NodeRow, on_port, spread, ◌and_then◌, reading_all}
 use Rattle.tsp_rules.proofs.NodeRowLemmas.{Bootless, on_own, spread_append}
 use Rattle.tsp_rules.proofs.Asides.{all_aside, on_other}
 
@@ -53,10 +52,3 @@ passes e h = record { yes = λ t. absurd (true≢false (sym t ∙ e)); no = λ f
 -- a port is itself
 pub same_port : (q : Port) → (q.0 == q.0) ≡ true
 same_port q = eq-eqb q.0 q.0 refl
-
--- alarms of a port, one after the other, each of which keeps what holds
-pub All_alarms : {P : ℕ → NodePast → Type 0} (q : Port) (alarms : List Alarm) → ((a : Alarm) → LeadsAll P (alarm_on q a) P) → LeadsAll P (each_on q alarms) P
-unfolding nothing_at_all
-All_alarms q [] k = record { run = λ x past h. h }
-All_alarms q (a ∷ []) k = k a
-All_alarms q (a ∷ next ∷ rest) k = All_after (alarm_on q a) (each_on q (next ∷ rest)) (k a) (All_alarms q (next ∷ rest) k)

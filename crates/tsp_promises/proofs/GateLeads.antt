@@ -16,10 +16,11 @@ use Rattle.tsp_rules.proofs.FewActs.{is_calm}
 use Rattle.tsp_rules.proofs.CalmSteps.{TakesFirst, taking, calm_handles, calm_stamps, is_message}
 use Rattle.tsp_promises.proofs.Elsewheres.{rests_family, rests_took, kept_aside, moved_aside, calm_bootless, calm_still}
 use Rattle.tsp_rules.proofs.Asides.{aside, all_aside}
-use Rattle.tsp_promises.proofs.PortLists.{listed, Ranged, ranged_from, listed_from, other_ranged, other_listed}
+use Rattle.tsp_promises.proofs.PortLists.{listed_ranged, listed, listed_from, other_listed}
 use Rattle.tsp_promises.proofs.GateFacts.{AllPorts, LeadsAll, All_after, Pick, picks, placed_all}
 use Rattle.tsp_promises.proofs.GateSteps.{stirring_all}
 use Rattle.tsp_promises.proofs.GateTurns.{turns_lead}
+use Rattle.tsp_rules.proofs.BuiltAll.{StirredPorts}
 use Rattle.tsp_promises.proofs.LoopLeads.{takes_loop_lead}
 
 -- acts that take first and are calm then, as another port sees them
@@ -35,12 +36,6 @@ taken-moved strange from t x past acts after is calm h =
     subst (λ z. RestsIn true x (all_aside x past z)) (sym is) (moved_aside rests_family strange x (aside x past (Took from t)) after calm (rests_took x past (Took from t) refl h))
 
 -- which rounds a message's correction ends
-pub stirred-ranged : (q : Port) (kind : Kind) (past : NodePast) → Ranged (length past.ports) (stirred_ports q kind past)
-stirred-ranged q kind past = by_case (sets_date kind) where
-  by_case : (b : Bool) → Ranged (length past.ports) (if b then ports_from 0 past.ports else other_ports q past)
-  by_case true = ranged_from (length past.ports) 0 past.ports (omega arith)
-  by_case false = other_ranged q past
-
 pub stirred-listed : (q r : Port) (kind : Kind) (past : NodePast) → (q.0 == r.0) ≡ false → r.0 < length past.ports → listed r (stirred_ports q kind past) ≡ true
 stirred-listed q r kind past n has = by_case (sets_date kind) where
   by_case : (b : Bool) → listed r (if b then ports_from 0 past.ports else other_ports q past) ≡ true
@@ -72,7 +67,7 @@ takes-message-lead q from m = record {
       let upset : Upset (sets_date m.kind) x here acts = (takes_upsets steer charge from t).run x here (h.1 q h.0) in
       let strange = is_stranger from in
       stirring_all (λ r. RestsIn) (λ r. rests_family) q (stirred_ports q m.kind past) (takes steer charge from t) x past (λ r. Open)
-      (taken-bootless strange true from t acts first.after first.is first.calm) (stirred-ranged q m.kind past) h.1
+      (taken-bootless strange true from t acts first.after first.is first.calm) (listed_ranged past (StirredPorts q m.kind)) h.1
       (λ e. own-still x here acts upset e)
       (λ e. own-moved x here acts (listed q (stirred_ports q m.kind past)) (stirred-own q m.kind past h.0) upset)
       (λ e r n has s. taken-kept strange from t x (on_port r past) acts first.after first.is (calm_still strange first.after first.calm (sym (ap corrects first.is) ∙ e)) (open_rests x (on_port r past) s))

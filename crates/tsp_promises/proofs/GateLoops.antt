@@ -10,7 +10,6 @@ use Rattle.tsp_promises.proofs.PostLeaves.{post_message}
 use Rattle.tsp_promises.proofs.Rings.{open_of, wake}
 use Rattle.tsp_promises.proofs.AlarmLeads.{master_rested}
 use Rattle.tsp_promises.proofs.RoundLeads.{Probed}
-use Rattle.tsp_rules.proofs.FewActs.{is_calm}
 
 -- a port in a step, whether it has acted or not
 pub during_open : {stirred : Bool} {T : Option Received → Option Received → Type 0} {x : ℕ} {past : Past} → OpenIn stirred T x past → During stirred false false [] (acting past.seen) T x past
@@ -52,11 +51,3 @@ loops_kept q x past port last h =
     let both = and_parts (is_some (deadline (armed past.seen) CloseAlarm)) (not (is_some (deadline (armed past.seen) Probe))) last in
     let goes = some-is (armed past.seen).close both.0 in
     (loops-list q (others past.own past.peers) x past (record { probed = h; port_is = port; until = goes.0; goes = goes.1 })).probed
-
-loops-calm : (strange moving : Bool) (q : Port) (name : List ℕ) (ps : List PeerId) → is_calm strange moving (map (loop_to q name) ps) ≡ true
-loops-calm strange moving q name [] = refl
-loops-calm strange moving q name (p ∷ ps) = loops-calm strange moving q name ps
-
-pub loops_calm : (strange moving : Bool) (q : Port) (x : ℕ) (past : Past) → is_calm strange moving (sends_loops q x past) ≡ true
-unfolding sends_loops
-loops_calm strange moving q x past = loops-calm strange moving q past.name (others past.own past.peers)

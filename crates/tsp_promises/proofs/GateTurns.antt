@@ -14,14 +14,15 @@ use Rattle.tsp_promises.proofs.Rings.{open_of}
 use Rattle.tsp_promises.proofs.CorrectionLeads.{due_sends_lead}
 use Rattle.tsp_promises.proofs.AlarmTable.{Around, after_turn, alarm_leads, are_probed, around_open, before_turn}
 use Rattle.tsp_promises.proofs.RoundLeads.{Probed}
-use Rattle.tsp_rules.proofs.CalmRows.{calm_due_sends}
-use Rattle.tsp_rules.proofs.CalmAlarms.{moves_by, calm_rings}
+use Rattle.tsp_rules.proofs.CalmAlarms.{calm_due_sends, moves_by, calm_rings}
 use Rattle.tsp_promises.proofs.Elsewheres.{Family, fresh_family, open_family, kept_aside, moved_aside, calm_bootless, calm_still}
 use Rattle.tsp_rules.proofs.Asides.{all_aside}
 use Rattle.tsp_promises.proofs.PortLists.{other_ranged, other_others, other_listed, unlisted}
 use Rattle.tsp_promises.proofs.GateFacts.{AllPorts, LeadsAll, All_after, All_reading, All_from, All_to, Pick, passes, same_port}
 use Rattle.tsp_promises.proofs.GateSteps.{AtPort, own_of, at_to, on_run, on_leads, stirring_all}
-use Rattle.tsp_promises.proofs.GateLoops.{loops_kept, loops_calm}
+use Rattle.tsp_rules.proofs.CalmBuilt.{calm_unmoving}
+use Rattle.tsp_rules.proofs.BuiltGate.{built_sends_loops}
+use Rattle.tsp_promises.proofs.GateLoops.{loops_kept}
 
 -- a port whose turn has been, or is still to come
 abbrev pub Standing : Bool → Bool → ℕ → Past → Type 0
@@ -50,7 +51,7 @@ module _ (done : Port → Bool) where
     by_case true e =
         let rung = and_parts (has_rung acts) (is_last_probe (on_port q past) && nat_le 2 (length past.ports)) e in
         let last = and_parts (is_last_probe (on_port q past)) (nat_le 2 (length past.ports)) rung.1 in
-        on_run Rest rest-family false q (sends_loops q) x past (loops_calm false false q x (on_port q past)) (loops_kept q x (on_port q past) refl last.0 (own_of q x past h)) h
+        on_run Rest rest-family false q (sends_loops q) x past ((calm_unmoving {strange = false} {moving = false} refl (built_sends_loops q tt)).calm x (on_port q past)) (loops_kept q x (on_port q past) refl last.0 (own_of q x past h)) h
     by_case false e = h
 
   probes-lead : (q : Port) → LeadsAll (AtPort q Open (λ r. Rest r false)) (probes_on q) (AtPort q Probed (λ r. Rest r false))

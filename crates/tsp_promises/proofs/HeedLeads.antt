@@ -19,7 +19,7 @@ use Rattle.tsp_rules.specs.SlaveRows.{slave_takes, slave_takes_kind}
 use Rattle.tsp_rules.specs.Strangers.{is_stranger}
 use Rattle.tsp_base.proofs.ViewPlaces.{port-same}
 use Rattle.tsp_rules.proofs.Asides.{on_other}
-use Rattle.tsp_rules.proofs.CalmSteps.{calm-abandons-going, calm_handles, taking}
+use Rattle.tsp_rules.proofs.CalmSteps.{calm_abandons_going, calm_handles, taking}
 use Rattle.tsp_rules.proofs.FewActs.{is_calm_act, is_calm}
 use Rattle.tsp_rules.proofs.NodeRowLemmas.{on_own, passed, spread_append}
 use Rattle.tsp_promises.specs.StepFacts.{is_quit, quit_by, unless_starting, unheeded, unheeded_after}
@@ -27,12 +27,14 @@ use Rattle.tsp_promises.proofs.AlarmTable.{due_alarms_lead}
 use Rattle.tsp_promises.proofs.CorrectionLeads.{due_sends_lead}
 use Rattle.tsp_promises.proofs.Elsewheres.{Family, calm_bootless}
 use Rattle.tsp_promises.proofs.GateFacts.{AllPorts, LeadsAll, All_after, Pick, placed_all}
-use Rattle.tsp_promises.proofs.GateLeads.{GivenOn, given_kept, stirred-listed, stirred-ranged, taken-bootless}
+use Rattle.tsp_promises.proofs.GateLeads.{GivenOn, given_kept, stirred-listed, taken-bootless}
 use Rattle.tsp_promises.proofs.GateSteps.{stirring_all}
 use Rattle.tsp_promises.proofs.GateTurns.{turns_lead}
 use Rattle.tsp_promises.proofs.Known.{Fresh, Open}
 use Rattle.tsp_promises.proofs.LoopLeads.{gives-up-calm, repost-calm}
 use Rattle.tsp_promises.proofs.Rings.{open_of}
+use Rattle.tsp_promises.proofs.PortLists.{listed_ranged}
+use Rattle.tsp_rules.proofs.BuiltAll.{StirredPorts}
 
 -- a port that has heeded what it took in this step
 abbrev pub Heeds : ℕ → Past → Type 0
@@ -185,7 +187,7 @@ upsetting-heeds row x past h = by_case (corrects (row x past)) where
   by_case false = subst (λ acts. Heeds x (grown x past acts)) (sym (append-nil (row x past))) h
   by_case true =
       let now = grown x past (row x past) in
-      rw added_append (calm-heeds false true past.step x past.peers (abandons_going x now) now.seen ((calm-abandons-going {strange = false} {moving = true}).calm x now) h)
+      rw added_append (calm-heeds false true past.step x past.peers (abandons_going x now) now.seen ((calm_abandons_going {strange = false} {moving = true}).calm x now) h)
 
 input-heeds : (g : Given) → Leads Open (input_row g) Heeds
 unfolding input_row nothing
@@ -213,7 +215,7 @@ message-heeds q from m = record {
       let first = (taking {moving = true} from t 2 5 (handles steer charge from t) (calm_handles steer charge from t)).run x here in
       let own = takes_heed steer charge from t x here (h.1 q h.0).own in
       stirring_all (λ r stirred. Heeds) (λ r. heeds-family) q (stirred_ports q m.kind past) (takes steer charge from t) x past (λ r. Open)
-      (taken-bootless (is_stranger from) true from t acts first.after first.is first.calm) (stirred-ranged q m.kind past) h.1
+      (taken-bootless (is_stranger from) true from t acts first.after first.is first.calm) (listed_ranged past (StirredPorts q m.kind)) h.1
       (λ e. own) (λ e. pick-both own)
       (λ e r n has s. aside-heeds past.step x (on_port r past).peers acts (on_port r past).seen (open-heeds x (on_port r past) s))
       (λ r n has s. aside-heeds past.step x (on_port r past).peers acts (on_port r past).seen (open-heeds x (on_port r past) s))

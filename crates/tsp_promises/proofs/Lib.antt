@@ -119,9 +119,8 @@ pub mod ShowsProof
 pub mod SilentProof
 pub mod SinceProof
 pub mod SlaveLeads
-pub mod SoundAlarms
+pub mod SoundBuilt
 pub mod SoundFacts
-pub mod SoundRoles
 pub mod SoundRows
 pub mod SoundSteps
 pub mod SourceProof

@@ -24,9 +24,9 @@ use Rattle.tsp_promises.proofs.Changes.{JustTook, Is, become_loose, take}
 use Rattle.tsp_rules.proofs.GuardFacts.{awake_is, master_is}
 use Rattle.tsp_promises.proofs.CommonLeads.{arms_elect_during}
 use Rattle.tsp_promises.proofs.TakenLeads.{rests_of, wake_role, master_awake}
-use Rattle.tsp_rules.proofs.FewActs.{is_calm, calm_either}
-use Rattle.tsp_rules.proofs.CalmRows.{none}
-use Rattle.tsp_rules.proofs.CalmAlarms.{calm-yields}
+use Rattle.tsp_rules.proofs.FewActs.{is_calm}
+use Rattle.tsp_rules.proofs.BuiltGate.{built_loosens_master}
+use Rattle.tsp_rules.proofs.CalmBuilt.{calm_unmoving}
 use Rattle.tsp_promises.proofs.Elsewheres.{open_family, rests_family, kept_aside, calm_bootless}
 use Rattle.tsp_promises.proofs.PortLists.{Ranged, Others, other_ranged, other_others}
 use Rattle.tsp_promises.proofs.GateFacts.{AllPorts, LeadsAll, Pick, picks, passes, placed_all, same_port}
@@ -83,8 +83,7 @@ gives-up-leads p m = Leads_either is_master_at (puts (Become Loose) followed_by 
     (Leads_from (λ x past h. rests_of h.0.just.free) Leads_nothing)
 
 pub gives-up-calm : (x : ℕ) (past : Past) → is_calm false false (loosens_master x past) ≡ true
-unfolding loosens_master
-gives-up-calm x past = (calm_either 0 2 is_master_at yields nothing (calm-yields {strange = false} {moving = false}) (none 0 2)).calm x past
+gives-up-calm x past = (calm_unmoving {strange = false} {moving = false} refl built_loosens_master).calm x past
 
 -- a LOOP that is passed on by a port
 record Passing (p : PeerId) (m : MessageValue) (x : ℕ) (past : Past) : Type 0 where

@@ -4,6 +4,8 @@ use Rattle.std.proofs.Common.{sym, subst, arith, true≢false, eqb-true, eq-eqb,
 use Rattle.tsp_rules.specs.Values.{Port}
 use Rattle.tsp_rules.specs.GateRows.{ports_from, other_ports}
 use Rattle.tsp_rules.specs.NodeRows.{PortSetup, NodePast}
+use Rattle.tsp_base.specs.Words.{sets_date}
+use Rattle.tsp_rules.proofs.BuiltAll.{EachPort, OtherPorts, PortsOf, StirredPorts}
 
 -- whether r is one of these
 abbrev pub listed : Port → List Port → Bool
@@ -79,6 +81,15 @@ listed-without q r (s ∷ rest) n h = by_case (λ k. listed-without q r rest n k
 pub other_ranged : (q : Port) (past : NodePast) → Ranged (length past.ports) (other_ports q past)
 unfolding without
 other_ranged q past = ranged-without (length past.ports) q (ports_from 0 past.ports) (ranged_from (length past.ports) 0 past.ports (omega arith))
+
+each_ranged : (past : NodePast) → Ranged (length past.ports) (ports_from 0 past.ports)
+each_ranged past = ranged_from (length past.ports) 0 past.ports (omega arith)
+
+-- so is each that a row goes through
+pub listed_ranged : {ports : NodePast → List Port} (past : NodePast) → PortsOf ports → Ranged (length past.ports) (ports past)
+listed_ranged past EachPort = each_ranged past
+listed_ranged past (OtherPorts q) = other_ranged q past
+listed_ranged past (StirredPorts q kind) = elim (sets_date kind) as (λ b. Ranged (length past.ports) (if b then ports_from 0 past.ports else other_ports q past)) [ true ↦ each_ranged past | false ↦ other_ranged q past ]
 
 pub other_others : (q : Port) (past : NodePast) → Others q (other_ports q past)
 unfolding without

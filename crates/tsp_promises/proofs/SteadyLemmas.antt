@@ -1,20 +1,27 @@
 -- What corrects a clock and is no date is taken by a follower, which stays one.
 use Rattle.std.specs.Prelude.{◌≡◌, ◌⊎◌, ℕ, ◌==◌, ◌||◌, ◌&&◌, ℤ, Bool, true, false, if◌then◌else◌, List, [], ◌∷◌, ◌++◌, refl}
 use Rattle.std.proofs.Common.{sym, ap, inl, inr, true≢false}
-use Rattle.tsp_rules.specs.Values.{Act, Took, Message, Taken, Good, Kind, Ack, AdjTime, Date, DateAck, DateReq, Election, LoopKind, MasterAck, MasterUp, Msite, MsiteReq, QuitKind, SetDate, SetDateReq, SetTime, Test, TraceOff, TraceOn, PeerId, Place, Peer, Stranger, Role, Starting, Loose, Follow, Candidate, Master}
-use Rattle.tsp_base.specs.Words.{Past, MessageValue, role, Row, grown, nothing, puts, ◌followed_by◌, either_by, reading, arms, posts, posts_back, sets_date, time_in}
+use Rattle.tsp_rules.specs.Values.{Act, Took, Message, Taken, Good, Kind, AdjTime, Date, DateAck, DateReq, LoopKind, Msite, MsiteReq, SetDate, SetDateReq, SetTime, Test, TraceOff, TraceOn, PeerId, Place, Peer, Stranger, Role, Starting, Loose, Follow, Candidate, Master}
+use Rattle.tsp_base.specs.Words.{Past, MessageValue, role, Row, grown, nothing, puts, ◌followed_by◌, either_by, reading, arms, posts, sets_date, time_in}
 use Rattle.tsp_rules.specs.Answers.{says_in, peer_says, from_peer, handles_kind, is_left, handles, takes}
 use Rattle.tsp_rules.specs.CandidateRows.{candidate_takes}
 use Rattle.tsp_rules.specs.ClockRows.{adjusts, sets}
-use Rattle.tsp_rules.specs.CommonRows.{arms_elect, names_master, says_master, traces, tests, is_awake, may_be_asked, candidature_row}
+use Rattle.tsp_rules.specs.CommonRows.{arms_elect}
 use Rattle.tsp_rules.specs.MasterRows.{master_takes}
 use Rattle.tsp_rules.specs.RoundRows.{corrects, is_correct}
-use Rattle.tsp_rules.specs.SlaveRows.{slave_takes, slave_takes_kind, from_master, adjtime_of, settime_of, takes_amount, takes_value, confirms, acks_repeat, is_repeated, masterup_in, masterack_in}
-use Rattle.tsp_rules.specs.Guards.{role_at, is_heard, is_own, is_follow, is_master_at}
-use Rattle.tsp_rules.proofs.FewActs.{Calm, is_calm_act, is_calm, calm_posts, calm_reading}
-use Rattle.tsp_rules.proofs.CalmRows.{calm-quits, calm-candidature}
-use Rattle.tsp_rules.proofs.CalmTaken.{calm-masterup, calm-masterack, calm-election, calm-ends, calm_candidate, calm_master}
-use Rattle.tsp_rules.proofs.CalmSteps.{calm-date-acked, calm_stamps, is_message}
+use Rattle.tsp_rules.specs.SlaveRows.{slave_takes, slave_takes_kind, from_master, adjtime_of, settime_of, takes_amount, takes_value, confirms, acks_repeat}
+use Rattle.tsp_rules.specs.Guards.{role_at, is_heard, is_own, is_follow}
+use Rattle.tsp_rules.proofs.FewActs.{Calm, is_calm_act, is_calm}
+use Rattle.tsp_rules.proofs.CalmSteps.{calm_stamps, is_message}
+use Rattle.tsp_rules.proofs.Emits.{Sort, Moving, is_in}
+use Rattle.tsp_rules.proofs.Renames.{unchanged}
+use Rattle.tsp_rules.proofs.Built.{Built}
+use Rattle.tsp_rules.proofs.BuiltCandidate.{built_candidate_takes}
+use Rattle.tsp_rules.proofs.BuiltDates.{built_date_acked}
+use Rattle.tsp_rules.proofs.BuiltMaster.{built_master_takes}
+use Rattle.tsp_rules.proofs.BuiltShared.{built_names_master, built_says_master, built_tests, built_traces}
+use Rattle.tsp_rules.proofs.BuiltSlave.{built_acks_repeat, built_slave_takes_kind}
+use Rattle.tsp_rules.proofs.CalmBuilt.{answers_owed, calm_unmoving}
 use Rattle.tsp_promises.proofs.Elsewheres.{calm-correct}
 
 -- acts that don't correct the clock
@@ -50,26 +57,8 @@ still-either : (test : ℕ → Past → Bool) (r s : Row) → Still r → Still 
 unfolding either_by
 still-either test r s p q = record { run = λ x past. elim (test x past) as (λ b. corrects (if b then r x past else s x past) ≡ false) [ true ↦ p.run x past | false ↦ q.run x past ] }
 
-still-back : (from : Place) (kind : Kind) (number : ℕ) → Still (posts_back from kind number)
-unfolding posts_back
-still-back from kind number = record { run = λ x past. refl }
-
-still-names : (from : Place) (number : ℕ) → Still (names_master from number)
-unfolding names_master reading puts
-still-names from number = record { run = λ x past. refl }
-
-still-traces : (from : Place) (number : ℕ) (on : Bool) → Still (traces from number on)
-unfolding traces ◌followed_by◌ puts posts_back
-still-traces from number on = record { run = λ x past. refl }
-
-still-says : (from : Place) (number : ℕ) → Still (says_master from number)
-unfolding says_master
-still-says from number = still-either is_master_at (posts_back from Ack number) nothing (still-back from Ack number) still-nothing
-
-still-tests : (from : Place) (number : ℕ) → Still (tests from number)
-unfolding tests
-still-tests from number = still-either is_awake (posts_back from Ack number followed_by either_by may_be_asked candidature_row nothing) nothing
-    (still-then (posts_back from Ack number) (either_by may_be_asked candidature_row nothing) (still-back from Ack number) (still-either may_be_asked candidature_row nothing (still_calm false 1 3 candidature_row calm-candidature) still-nothing)) still-nothing
+still-made : {sorts : List Sort} {k c : ℕ} {r r' : Row} → is_in Moving sorts ≡ false → Built unchanged (answers_owed true) sorts k c r r' → Still r
+still-made none d = still_calm true _ _ _ (calm_unmoving none d)
 
 -- acts after a past that don't correct the clock, or leave a follower a follower
 abbrev pub SteadyAfter : ℕ → Past → List Act → Type 0
@@ -97,14 +86,14 @@ abbrev Follows : ℕ → Past → Type 0
 Follows x past = is_follow (role past.seen) ≡ true
 
 steady-adjtime : (p : PeerId) (number : ℕ) (amount : ℤ) → Steady Follows (adjtime_of p number amount)
-unfolding adjtime_of confirms adjusts arms_elect acks_repeat ◌followed_by◌ reading arms posts
+unfolding adjtime_of confirms adjusts arms_elect ◌followed_by◌ reading arms posts
 steady-adjtime p number amount = steady-either (takes_amount number amount) (adjusts amount followed_by confirms p number) (acks_repeat p number)
-    (record { run = λ x past h. inr h }) (steady-still (acks_repeat p number) (still-either (is_repeated p number) (posts p Ack number) nothing (still_calm false 0 1 (posts p Ack number) (calm_posts p Ack number)) still-nothing))
+    (record { run = λ x past h. inr h }) (steady-still (acks_repeat p number) (still-made refl (built_acks_repeat p number tt)))
 
 steady-settime : (p : PeerId) (number : ℕ) (value : ℤ) → Steady Follows (settime_of p number value)
-unfolding settime_of confirms sets arms_elect acks_repeat ◌followed_by◌ reading arms posts
+unfolding settime_of confirms sets arms_elect ◌followed_by◌ reading arms posts
 steady-settime p number value = steady-either (takes_value number value) (sets value followed_by confirms p number) (acks_repeat p number)
-    (record { run = λ x past h. inr h }) (steady-still (acks_repeat p number) (still-either (is_repeated p number) (posts p Ack number) nothing (still_calm false 0 1 (posts p Ack number) (calm_posts p Ack number)) still-nothing))
+    (record { run = λ x past h. inr h }) (steady-still (acks_repeat p number) (still-made refl (built_acks_repeat p number tt)))
 
 steady-from : (p : PeerId) (row : Row) → Steady Follows row → (r : Role) → Steady (λ x past. Unit {0} × (role_at x past ≡ r)) (from_master p row r)
 unfolding from_master
@@ -116,22 +105,17 @@ steady-from p row k _ = steady-still nothing still-nothing
 
 steady-slave : (p : PeerId) (m : MessageValue) (k : Kind) → Steady Any (slave_takes_kind p m k)
 unfolding slave_takes_kind
-steady-slave p m MasterUp = steady-still _ (still_calm false 0 3 _ (calm_reading 0 3 role_at (masterup_in p) (calm-masterup p)))
-steady-slave p m MasterAck = steady-still _ (still_calm false 0 3 _ (calm_reading 0 3 role_at (masterack_in p) (calm-masterack p)))
-steady-slave p m Election = steady-still _ (still_calm false 0 3 _ (calm-election p m.number))
 steady-slave p m AdjTime = steady-role (from_master p (adjtime_of p m.number (time_in m.body))) (steady-from p (adjtime_of p m.number (time_in m.body)) (steady-adjtime p m.number (time_in m.body)))
 steady-slave p m SetTime = steady-role (from_master p (settime_of p m.number (time_in m.body))) (steady-from p (settime_of p m.number (time_in m.body)) (steady-settime p m.number (time_in m.body)))
-steady-slave p m QuitKind = steady-still _ (still_calm false 0 5 _ (calm-quits p m.number))
-steady-slave p m Ack = steady-still _ (still_calm false 0 1 _ (calm-ends p m.number))
-steady-slave p m _ = steady-still nothing still-nothing
+steady-slave p m k = steady-still _ (still-made refl (built_slave_takes_kind p m k tt))
 
 steady-in : (p : PeerId) (m : MessageValue) (r : Role) → Steady Any (says_in p m r)
 unfolding says_in slave_takes candidate_takes master_takes
 steady-in p m Starting = steady-still nothing still-nothing
 steady-in p m Loose = steady-slave p m m.kind
 steady-in p m (Follow q) = steady-slave p m m.kind
-steady-in p m Candidate = steady-still _ (still_calm false 1 5 _ (calm_candidate p m m.kind))
-steady-in p m Master = steady-still _ (still_calm false 1 5 _ (calm_master p m m.kind))
+steady-in p m Candidate = steady-still _ (still-made refl (built_candidate_takes p m tt))
+steady-in p m Master = steady-still _ (still-made refl (built_master_takes p m tt))
 
 steady-says : (m : MessageValue) (p : PeerId) → Steady Any (peer_says m p)
 unfolding peer_says
@@ -145,16 +129,16 @@ steady-peer Stranger row k = steady-still nothing still-nothing
 -- what is done with a message that sets no date
 steady-kind : (from : Place) (m : MessageValue) (k : Kind) → sets_date k ≡ false → Steady Any (handles_kind true from m k)
 unfolding handles_kind
-steady-kind from m Msite e = steady-still _ (still-names from m.number)
-steady-kind from m MsiteReq e = steady-still _ (still-says from m.number)
-steady-kind from m TraceOn e = steady-still _ (still-traces from m.number true)
-steady-kind from m TraceOff e = steady-still _ (still-traces from m.number false)
-steady-kind from m Test e = steady-still _ (still-tests from m.number)
+steady-kind from m Msite e = steady-still _ (still-made refl (built_names_master from m.number (λ e. refl) tt))
+steady-kind from m MsiteReq e = steady-still _ (still-made refl (built_says_master from m.number (λ e. refl) tt))
+steady-kind from m TraceOn e = steady-still _ (still-made refl (built_traces from m.number (λ e. refl) tt true))
+steady-kind from m TraceOff e = steady-still _ (still-made refl (built_traces from m.number (λ e. refl) tt false))
+steady-kind from m Test e = steady-still _ (still-made refl (built_tests from m.number (λ e. refl) tt))
 steady-kind from m Date e = absurd (true≢false e)
 steady-kind from m SetDate e = absurd (true≢false e)
 steady-kind from m DateReq e = absurd (true≢false e)
 steady-kind from m SetDateReq e = absurd (true≢false e)
-steady-kind from m DateAck e = steady-peer from _ (λ p. steady-still _ (still_calm false 0 1 _ (calm-date-acked m p)))
+steady-kind from m DateAck e = steady-peer from _ (λ p. steady-still _ (still-made refl (built_date_acked m p)))
 steady-kind from m LoopKind e = steady-still nothing still-nothing
 steady-kind from m _ e = steady-peer from (peer_says m) (steady-says m)
 

@@ -8,7 +8,7 @@ use Rattle.tsp_base.specs.Words.{deadline, Step, Acts, Seen, Here, Past, is_amon
 use Rattle.tsp_base.proofs.PerformsLemmas.{Performs_else_part, Performs_nothing, Performs_then_part, Performs_to}
 use Rattle.tsp_rules.specs.ResolveRows.{finds_rival, is_new_rival}
 use Rattle.tsp_rules.specs.Guards.{rivals_at}
-use Rattle.tsp_rules.proofs.Emits.{Sort, Taking, Asking, Correcting, Numbering, Posting, Leading, Following, Changing, Backing, Counting, Rounding, Alarming, Tabling, Acking, Giving, Sampling, Closing, Moving, Tracing, AllOf, Emits, Keeps_by, is_in, sort_of}
+use Rattle.tsp_rules.proofs.Emits.{Sort, Taking, Asking, Correcting, Numbering, Passing, Posting, Leading, Following, Changing, Backing, Counting, Rounding, Alarming, Tabling, Acking, Giving, Sampling, Closing, Moving, Tracing, AllOf, Emits, Keeps_by, is_in, sort_of}
 use Rattle.tsp_rules.proofs.EmitsTables.{changes, is_change}
 use Rattle.tsp_acks.specs.declared.station.Station.{Station}
 use Rattle.tsp_acks.specs.Stands.{StationStands, StandsActing}
@@ -21,11 +21,11 @@ use Rattle.tsp_resolve.proofs.MarkedLemmas.{marked-filter}
 
 -- all sorts of acts but Boot and Rival
 abbrev pub rivalless : List Sort
-rivalless = Taking ∷ Asking ∷ Correcting ∷ Numbering ∷ Posting ∷ Leading ∷ Following ∷ Changing ∷ Backing ∷ Counting ∷ Rounding ∷ Alarming ∷ Tabling ∷ Acking ∷ Giving ∷ Sampling ∷ Closing ∷ Moving ∷ Tracing ∷ []
+rivalless = Taking ∷ Asking ∷ Correcting ∷ Numbering ∷ Passing ∷ Posting ∷ Leading ∷ Following ∷ Changing ∷ Backing ∷ Counting ∷ Rounding ∷ Alarming ∷ Tabling ∷ Acking ∷ Giving ∷ Sampling ∷ Closing ∷ Moving ∷ Tracing ∷ []
 
 -- of these, all but changes of the role
 abbrev pub unchanging : List Sort
-unchanging = Taking ∷ Asking ∷ Correcting ∷ Numbering ∷ Posting ∷ Backing ∷ Counting ∷ Rounding ∷ Alarming ∷ Tabling ∷ Acking ∷ Giving ∷ Sampling ∷ Closing ∷ Moving ∷ Tracing ∷ []
+unchanging = Taking ∷ Asking ∷ Correcting ∷ Numbering ∷ Passing ∷ Posting ∷ Backing ∷ Counting ∷ Rounding ∷ Alarming ∷ Tabling ∷ Acking ∷ Giving ∷ Sampling ∷ Closing ∷ Moving ∷ Tracing ∷ []
 
 ResolveStands_act : (a : Act) → is_in (sort_of a) unchanging ≡ true → Keeps ResolveStands (puts a)
 unfolding puts

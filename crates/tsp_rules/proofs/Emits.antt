@@ -1,6 +1,6 @@
 -- Which sorts of acts a row puts, and what rows of such acts leave alone.
 use Rattle.std.specs.Prelude.{◌≡◌, ℕ, ◌==◌, ◌||◌, ◌&&◌, Bool, true, false, if◌then◌else◌, ℤ, List, [], ◌∷◌, ◌++◌, map, refl}
-use Rattle.std.proofs.Common.{sym, ap, true≢false, eqb-true, ◌∙◌}
+use Rattle.std.proofs.Common.{sym, ap, true≢false, eq-eqb, eqb-true, ◌∙◌}
 use Rattle.std.proofs.lemmas.Bool.{and_parts}
 use Rattle.tsp_rules.specs.Values.{Act, Boot, Took, Post, Become, Arm, Ring, Late, Back, Backer, Abandon, Close, Correct, Sample, Acked, Gave, Join, Leave, Rival, Quit, Trace, Alarm, Probe, CloseAlarm, Datagram, Message, Stamp, Kind, AdjTime, Conflict, Election, QuitKind, SetDateReq, SetTime, PeerId, Place, Role, Follow, Master, Request, Reply}
 use Rattle.tsp_base.specs.Words.{Past, Keeps, Row, grown, nothing, puts, ◌followed_by◌, either_by, reading, for_each, arms, posts, posts_to_others, posts_back, posts_time, post_of, others}
@@ -11,9 +11,10 @@ pub data Sort : Type 0 where
   -- Boot, and Took
   Booting : Sort
   Taking : Sort
-  -- posts: stamp requests, corrections, sends with an own number, and all others
+  -- posts: stamp requests, corrections, sends that pass a date on, others with an own number, and all others
   Asking : Sort
   Correcting : Sort
+  Passing : Sort
   Numbering : Sort
   Posting : Sort
   -- changes of the role: to master, to a follower, to another
@@ -60,6 +61,7 @@ code Sampling = 17
 code Closing = 18
 code Moving = 19
 code Tracing = 20
+code Passing = 21
 
 abbrev pub is_in : Sort → List Sort → Bool
 is_in s [] = false
@@ -71,7 +73,7 @@ sort_of_kind SetTime = Correcting
 sort_of_kind Election = Numbering
 sort_of_kind Conflict = Numbering
 sort_of_kind QuitKind = Numbering
-sort_of_kind SetDateReq = Numbering
+sort_of_kind SetDateReq = Passing
 sort_of_kind _ = Posting
 
 abbrev pub sort_of_alarm : Alarm → Sort
@@ -157,13 +159,14 @@ pub Emits_posts : {sorts : List Sort} (p : PeerId) (kind : Kind) (number : ℕ) 
 unfolding posts
 Emits_posts p kind number e = record { only = λ x past. (e, tt) }
 
-all-map : (sorts : List Sort) (kind : Kind) (number : ℕ) (name : List ℕ) (ps : List PeerId) → is_in (sort_of_kind kind) sorts ≡ true → AllOf sorts (map (post_of kind number name) ps)
-all-map sorts kind number name [] e = tt
-all-map sorts kind number name (p ∷ ps) e = (e, all-map sorts kind number name ps e)
+-- an act for each of some peers
+pub all_map : (sorts : List Sort) (f : PeerId → Act) → ((p : PeerId) → is_in (sort_of (f p)) sorts ≡ true) → (ps : List PeerId) → AllOf sorts (map f ps)
+all_map sorts f e [] = tt
+all_map sorts f e (p ∷ ps) = (e p, all_map sorts f e ps)
 
 pub Emits_posts_to_others : {sorts : List Sort} (kind : Kind) (number : ℕ) → is_in (sort_of_kind kind) sorts ≡ true → Emits sorts (posts_to_others kind number)
 unfolding posts_to_others
-Emits_posts_to_others {sorts} kind number e = record { only = λ x past. all-map sorts kind number past.name (others past.own past.peers) e }
+Emits_posts_to_others {sorts} kind number e = record { only = λ x past. all_map sorts (post_of kind number past.name) (λ p. e) (others past.own past.peers) }
 
 -- fewer sorts are among more
 abbrev pub is_part : List Sort → List Sort → Bool
@@ -195,13 +198,12 @@ pub Emits_sets : {sorts : List Sort} (value : ℤ) → is_in Moving sorts ≡ tr
 unfolding sets
 Emits_sets value e = record { only = λ x past. (e, tt) }
 
-pub Emits_if : {sorts : List Sort} (b : Bool) (r s : Row) → Emits sorts r → Emits sorts s → Emits sorts (if b then r else s)
-Emits_if true r s p q = p
-Emits_if false r s p q = q
-
 or-false : (a b : Bool) → (a || b) ≡ true → a ≡ false → b ≡ true
 or-false true b h e = absurd (true≢false e)
 or-false false b h e = h
+
+pub is_in-own : (s : Sort) → is_in s (s ∷ []) ≡ true
+is_in-own s = let same : (code s == code s) ≡ true = eq-eqb (code s) (code s) refl in rw same refl
 
 is_in-code : (s t : Sort) (all : List Sort) → code s ≡ code t → is_in t all ≡ true → is_in s all ≡ true
 is_in-code s t [] e h = h
@@ -212,7 +214,7 @@ is_in-code s t (u ∷ all) e h = by-head (code t == code u) refl (λ k. is_in-co
       let same : (code s == code u) ≡ false = ap (λ c. c == code u) e ∙ k in
       rw same (f (or-false (code t == code u) (is_in t all) h k))
 
-is_in-part : (s : Sort) (few all : List Sort) → is_part few all ≡ true → is_in s few ≡ true → is_in s all ≡ true
+pub is_in-part : (s : Sort) (few all : List Sort) → is_part few all ≡ true → is_in s few ≡ true → is_in s all ≡ true
 is_in-part s [] all p h = absurd (true≢false (sym h))
 is_in-part s (t ∷ few) all p h = by-head (code s == code t) refl (λ k. is_in-part s few all ((and_parts (is_in t all) (is_part few all) p).1) k) where
   by-head : (b : Bool) → (code s == code t) ≡ b → (is_in s few ≡ true → is_in s all ≡ true) → is_in s all ≡ true

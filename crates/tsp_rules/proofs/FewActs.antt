@@ -1,10 +1,9 @@
 -- How many acts the rows put at the most, that only a taking takes, and that only a stranger's datagram is answered to a stranger.
 use Rattle.std.specs.Prelude.{◌≡◌, ◌≤◌, ℕ, suc, ◌+◌, ◌*◌, ◌&&◌, ◌==◌, not, ℤ, Bool, true, false, if◌then◌else◌, List, [], ◌∷◌, ◌++◌, length, map, filter, refl}
-use Rattle.std.proofs.Common.{sym, ap, arith, true≢false, length-append}
+use Rattle.std.proofs.Common.{sym, subst, ap, arith, true≢false, length-append}
 use Rattle.std.proofs.lemmas.Bool.{and_from}
-use Rattle.tsp_rules.specs.Values.{Act, Boot, Took, Post, Correct, Alarm, Datagram, Message, Kind, PeerId, Place, Peer, Stranger}
-use Rattle.tsp_base.specs.Words.{Past, Row, grown, nothing, puts, ◌followed_by◌, either_by, reading, for_each, arms, others, bare, post_of, posts, posts_to_others, posts_back, posts_time}
-use Rattle.tsp_rules.specs.Strangers.{is_stranger}
+use Rattle.tsp_rules.specs.Values.{Act, Boot, Took, Post, Correct, Alarm, Kind, PeerId, Stranger}
+use Rattle.tsp_base.specs.Words.{Past, Row, grown, nothing, puts, ◌followed_by◌, either_by, reading, for_each, arms, others, post_of, posts, posts_to_others, posts_time}
 
 -- an act that is neither a boot nor a taking, nor a post to a stranger where none may be answered, nor a correction where the clock may not be moved
 abbrev pub is_calm_act : Bool → Bool → Act → Bool
@@ -37,23 +36,13 @@ filter_few test (p ∷ ps) = by_case (test p) (filter_few test ps) where
   by_case true le = omega (arith, le)
   by_case false le = omega (arith, le)
 
-map-calm : (strange moving : Bool) (kind : Kind) (number : ℕ) (name : List ℕ) (ps : List PeerId) → is_calm strange moving (map (post_of kind number name) ps) ≡ true
-map-calm strange moving kind number name [] = refl
-map-calm strange moving kind number name (p ∷ ps) = map-calm strange moving kind number name ps
+map-calm : (strange moving : Bool) (f : PeerId → Act) → ((p : PeerId) → is_calm_act strange moving (f p) ≡ true) → (ps : List PeerId) → is_calm strange moving (map f ps) ≡ true
+map-calm strange moving f e [] = refl
+map-calm strange moving f e (p ∷ ps) = and_from (is_calm_act strange moving (f p)) (is_calm strange moving (map f ps)) (e p) (map-calm strange moving f e ps)
 
-map-length : (kind : Kind) (number : ℕ) (name : List ℕ) (ps : List PeerId) → length (map (post_of kind number name) ps) ≡ length ps
-map-length kind number name [] = refl
-map-length kind number name (p ∷ ps) = ap (λ n. suc n) (map-length kind number name ps)
-
--- what goes back to wherever a datagram came from is calm
-pub calm_back : (moving : Bool) (from : Place) (datagram : Datagram) → is_calm (is_stranger from) moving (Post from datagram ∷ []) ≡ true
-calm_back moving (Peer p) datagram = refl
-calm_back moving Stranger datagram = refl
-
--- what is posted back to a stranger answers one
-pub calm_posts_back : (from : Place) (kind : Kind) (number : ℕ) → Calm (is_stranger from) true 0 1 (posts_back from kind number)
-unfolding posts_back
-calm_posts_back from kind number = record { few = λ x past. omega arith; calm = λ x past. calm_back true from (Message (bare kind number past.name)) }
+map-length : (f : PeerId → Act) (ps : List PeerId) → length (map f ps) ≡ length ps
+map-length f [] = refl
+map-length f (p ∷ ps) = ap (λ n. suc n) (map-length f ps)
 
 module _ {strange moving : Bool} where
   pub calm_nothing : Calm strange moving 0 0 nothing
@@ -98,6 +87,9 @@ module _ {strange moving : Bool} where
     mul-le : (j k n : ℕ) → j ≤ k → j * n ≤ k * n
     mul-le j k n le = grind (arith, le)
 
+  pub calm_none : (k c : ℕ) → Calm strange moving k c nothing
+  calm_none k c = calm_more 0 0 k c nothing (omega arith) (omega arith) calm_nothing
+
   pub calm_arms : (alarm : Alarm) (long : ℕ) → Calm strange moving 0 1 (arms alarm long)
   unfolding arms
   calm_arms alarm long = record { few = λ x past. omega arith; calm = λ x past. refl }
@@ -110,16 +102,21 @@ module _ {strange moving : Bool} where
   unfolding posts_time
   calm_posts_time p kind number time = record { few = λ x past. omega arith; calm = λ x past. refl }
 
+  -- an act for each other peer
+  pub calm_others : (row : Row) (f : Past → PeerId → Act) → ((x : ℕ) (past : Past) → row x past ≡ map (f past) (others past.own past.peers)) → ((past : Past) (p : PeerId) → is_calm_act strange moving (f past p) ≡ true) → Calm strange moving 1 0 row
+  calm_others row f is e = record {
+    few = λ x past.
+        let all = map-length (f past) (others past.own past.peers) in
+        let some = filter_few (λ p. not (p.0 == past.own.0)) past.peers in
+        let same : length (row x past) ≡ length (map (f past) (others past.own past.peers)) = ap length (is x past) in
+        let one : 1 * length past.peers ≡ length past.peers = grind arith in
+        omega (arith, all, some, same, one);
+    calm = λ x past. subst (λ acts. is_calm strange moving acts ≡ true) (sym (is x past)) (map-calm strange moving (f past) (e past) (others past.own past.peers));
+  }
+
   pub calm_posts_to_others : (kind : Kind) (number : ℕ) → Calm strange moving 1 0 (posts_to_others kind number)
   unfolding posts_to_others
-  calm_posts_to_others kind number = record {
-    few = λ x past.
-        let all = map-length kind number past.name (others past.own past.peers) in
-        let some = filter_few (λ p. not (p.0 == past.own.0)) past.peers in
-        let one : 1 * length past.peers ≡ length past.peers = grind arith in
-        omega (arith, all, some, one);
-    calm = λ x past. map-calm strange moving kind number past.name (others past.own past.peers);
-  }
+  calm_posts_to_others kind number = calm_others (posts_to_others kind number) (λ past. post_of kind number past.name) (λ x past. refl) (λ past p. refl)
 
   -- a row for each of some that are no more than the peers
   pub each_few : {A : Type 0} (c : ℕ) (r : A → Row) → ((a : A) → Calm strange moving 0 c (r a)) → (some : List A) (x : ℕ) (past : Past) → length (for_each r some x past) ≤ c * length some

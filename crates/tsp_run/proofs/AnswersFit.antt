@@ -10,7 +10,8 @@ use Rattle.tsp_rules.specs.NodeRows.{NodePast, on, ◌and_then◌, reading_all, 
 use Rattle.tsp_rules.proofs.FewActs.{is_calm_act}
 use Rattle.tsp_rules.specs.Strangers.{is_stranger}
 use Rattle.tsp_run.specs.Networks.{room}
-use Rattle.tsp_run.proofs.CalmPorts.{AreCalm, Small, calm_boots, calm_turn_all, small_spread, step_most, takes_once_on}
+use Rattle.tsp_run.proofs.CalmAll.{AreCalm, Small, small_spread}
+use Rattle.tsp_run.proofs.CalmPorts.{calm_boots, calm_turn_all, step_most, takes_once_on}
 use Rattle.tsp_run.proofs.FitsLines.{TakenOk, AllTaken, AllAlive, ActsOn}
 use Rattle.tsp_run.proofs.NetworkLemmas.{peers_few}
 

@@ -11,7 +11,7 @@ use Rattle.tsp_rules.specs.GateRows.{boots_all}
 use Rattle.tsp_run.specs.Premised.{AllBootOtherwise, Apart, BootsOtherwise, IsApart}
 use Rattle.tsp_run.specs.Ranges.{Accepted}
 use Rattle.tsp_run.specs.Run.{Happening, boot_step, joins, run, step_tick}
-use Rattle.tsp_run.proofs.CalmPorts.{AreCalm}
+use Rattle.tsp_run.proofs.CalmAll.{AreCalm}
 use Rattle.tsp_run.proofs.SealedRun.{accepted_before}
 use Rattle.tsp_run.proofs.EachLine.{IsCause, each_event}
 use Rattle.tsp_run.proofs.Happens.{boot_acts, steps-are}

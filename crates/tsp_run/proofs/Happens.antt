@@ -14,7 +14,8 @@ use Rattle.tsp_run.specs.Run.{Happening, arrives, arrives_at, goes_to, happening
 use Rattle.tsp_run.specs.Run.{posts}
 use Rattle.tsp_run.specs.Setup.{past_of}
 use Rattle.tsp_run.proofs.AnswersFit.{small_room}
-use Rattle.tsp_run.proofs.CalmPorts.{AreCalm, TakesOnce, calm_boots, calm_turn_all, small_spread, step_most, takes_once_on}
+use Rattle.tsp_run.proofs.CalmAll.{AreCalm, small_spread}
+use Rattle.tsp_run.proofs.CalmPorts.{TakesOnce, calm_boots, calm_turn_all, step_most, takes_once_on}
 use Rattle.tsp_run.proofs.NetworkLemmas.{few_ports, goes_there}
 use Rattle.tsp_run.proofs.RefusalLemmas.{goes-nowhere, goes_to-post}
 

@@ -2,6 +2,7 @@ mod AnswerOctetsProof
 pub mod AnswersFit
 pub mod ApartRun
 pub mod BootLemmas
+pub mod CalmAll
 pub mod CalmPorts
 pub mod EachLine
 pub mod FitsLines
@@ -22,4 +23,5 @@ pub mod SealedRun
 pub mod SettingLemmas
 pub mod ShortRun
 pub mod SoundLemmas
+pub mod SoundAll
 pub mod SoundPorts

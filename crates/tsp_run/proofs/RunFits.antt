@@ -37,7 +37,8 @@ use Rattle.tsp_run.proofs.PostPlaces.{length-posts, post_at}
 use Rattle.tsp_run.proofs.RefusalLemmas.{allowed, handed-port, refusal-none, up-down}
 use Rattle.tsp_run.proofs.RunLemmas.{stepped_own, stepped_other}
 use Rattle.tsp_run.proofs.SoundLemmas.{line_sound, octets_sound, sound_read}
-use Rattle.tsp_run.proofs.SoundPorts.{IsSoundInput, SoundNode, sound_answers_all, sound_begins, sound_boots_all}
+use Rattle.tsp_run.proofs.SoundAll.{SoundNode}
+use Rattle.tsp_run.proofs.SoundPorts.{IsSoundInput, sound_answers_all, sound_begins, sound_boots_all}
 
 -- what is known of a run: its lines fit and are on their nodes' ports, its time is that of its last event, each port of each node is at rest, and each node took and posted what has its parts in their ranges
 pub record Ran (header : HeaderValue) (setting : Setting) (t : ℕ) (h : List Line) : Type 0 where

@@ -13,7 +13,7 @@ use Rattle.tsp_run.specs.Premised.{IsSealed, Sealed}
 use Rattle.tsp_run.specs.Ranges.{Accepted, IsInRange}
 use Rattle.tsp_run.specs.Refusals.{refusal, scene}
 use Rattle.tsp_run.specs.Run.{Happening, joins, run, step_tick}
-use Rattle.tsp_run.proofs.CalmPorts.{AreCalm}
+use Rattle.tsp_run.proofs.CalmAll.{AreCalm}
 use Rattle.tsp_run.proofs.EachLine.{each_event}
 use Rattle.tsp_run.proofs.Happens.{acts_by, got_acts, steps-are}
 use Rattle.tsp_run.proofs.RefusalLemmas.{handed-port, refusal-none}

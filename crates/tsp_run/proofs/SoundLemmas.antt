@@ -10,7 +10,7 @@ use Rattle.tsp_codec.specs.Spelling.{Spells, SpellsBody}
 use Rattle.tsp_codec.specs.Taken.{taken_of}
 use Rattle.tsp_codec.proofs.TakenOf.{Reads-taken_of, taken_of-canon}
 use Rattle.tsp_promises.specs.Sound.{IsSound, IsSoundBody, IsSoundDeed, IsSoundTaken}
-use Rattle.tsp_run.proofs.SoundPorts.{AreSoundLines}
+use Rattle.tsp_run.proofs.SoundAll.{AreSoundLines}
 
 body_writable : (b : Body) → IsSoundBody b → IsWritableBody b
 body_writable Nothing s = s

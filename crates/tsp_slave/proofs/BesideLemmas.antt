@@ -3,7 +3,7 @@ use Rattle.std.specs.Prelude.{◌≡◌, ℕ, true, List, [], ◌∷◌, Option}
 use Rattle.std.proofs.Common.{sym, true≢false}
 use Rattle.tsp_rules.specs.Values.{Act, Boot, Took, Become, Correct, Placed, Port, Follow}
 use Rattle.tsp_base.specs.Words.{Performs, Keeps, Received, Row, puts}
-use Rattle.tsp_rules.proofs.Emits.{Sort, Asking, Correcting, Numbering, Posting, Leading, Changing, Backing, Counting, Rounding, Alarming, Tabling, Rivalling, Acking, Giving, Sampling, Closing, Tracing, is_in, sort_of, Emits, Keeps_by}
+use Rattle.tsp_rules.proofs.Emits.{Sort, Asking, Correcting, Numbering, Passing, Posting, Leading, Changing, Backing, Counting, Rounding, Alarming, Tabling, Rivalling, Acking, Giving, Sampling, Closing, Tracing, is_in, sort_of, Emits, Keeps_by}
 use Rattle.tsp_acks.specs.declared.station.Station.{Station}
 use Rattle.tsp_acks.specs.Stands.{StationStands}
 use Rattle.tsp_clock.specs.Clocks.{ClockValue}
@@ -13,7 +13,7 @@ use Rattle.tsp_slave.specs.SlaveStands.{AlsoStands, SlaveStands, Took as WasTake
 
 -- all sorts of acts but Boot, Took, to follow, and Correct
 abbrev pub beside_sorts : List Sort
-beside_sorts = Asking ∷ Correcting ∷ Numbering ∷ Posting ∷ Leading ∷ Changing ∷ Backing ∷ Counting ∷ Rounding ∷ Alarming ∷ Tabling ∷ Rivalling ∷ Acking ∷ Giving ∷ Sampling ∷ Closing ∷ Tracing ∷ []
+beside_sorts = Asking ∷ Correcting ∷ Numbering ∷ Passing ∷ Posting ∷ Leading ∷ Changing ∷ Backing ∷ Counting ∷ Rounding ∷ Alarming ∷ Tabling ∷ Rivalling ∷ Acking ∷ Giving ∷ Sampling ∷ Closing ∷ Tracing ∷ []
 
 Remembers_act : (a : Act) → is_in (sort_of a) beside_sorts ≡ true → Keeps Remembers (puts a)
 unfolding puts

@@ -2,16 +2,15 @@
 use Rattle.std.specs.Prelude.{◌≡◌, ℕ, ℤ, Bool, true, false, Option, Some, List, [], ◌∷◌, refl}
 use Rattle.std.proofs.Common.{sym, ◌∙◌, ap}
 use Rattle.std.proofs.lemmas.Bool.{false≢true}
-use Rattle.tsp_rules.specs.Values.{Act, Become, Back, Correct, Placed, Kind, Accept, Ack, Conflict, Refuse, PeerId, Port, Follow}
-use Rattle.tsp_base.specs.Words.{Past, Performs, Keeps, Received, said, name_in, Row, grown, nothing, puts, ◌followed_by◌, posts, Correcting, correcting_of}
+use Rattle.tsp_rules.specs.Values.{Act, Become, Back, Correct, Placed, Kind, Accept, Ack, Refuse, PeerId, Port, Follow}
+use Rattle.tsp_base.specs.Words.{Past, Performs, Keeps, Received, said, name_in, Row, grown, puts, ◌followed_by◌, posts, Correcting, correcting_of}
 use Rattle.tsp_base.proofs.PerformsLemmas.{Keeps_then, Keeps_either}
 use Rattle.tsp_rules.specs.ClockRows.{adjusts, sets}
 use Rattle.tsp_rules.specs.CommonRows.{arms_elect}
-use Rattle.tsp_rules.specs.SendRows.{acknowledges, begins, is_free}
+use Rattle.tsp_rules.specs.SendRows.{acknowledges}
 use Rattle.tsp_rules.specs.SlaveRows.{election_of, confirms, reports_conflict}
 use Rattle.tsp_rules.specs.Guards.{may_back_at}
-use Rattle.tsp_rules.proofs.Emits.{Emits_either, Emits_more, Emits_nothing, Emits_posts, Emits_puts, is_in, sort_of_kind}
-use Rattle.tsp_rules.proofs.EmitsSlave.{silent_sorts, silent_acks, silent_elect, emits_begins}
+use Rattle.tsp_rules.proofs.Emits.{Emits_posts, Emits_puts, is_in, sort_of_kind}
 use Rattle.tsp_acks.specs.declared.station.Station.{Station}
 use Rattle.tsp_acks.specs.Stands.{StationStands, StandsActing}
 use Rattle.tsp_acks.proofs.ActingLemmas.{taken-acts}
@@ -23,6 +22,9 @@ use Rattle.tsp_slave.specs.declared.change.Change.TheVariants.{By, To}
 use Rattle.tsp_slave.specs.ClockChanges.{changes_clock}
 use Rattle.tsp_slave.specs.Lasts.{LastValue}
 use Rattle.tsp_slave.specs.SlaveStands.{AlsoStands, SlaveStands}
+use Rattle.tsp_rules.proofs.BuiltSlave.{built_reports_conflict}
+use Rattle.tsp_rules.proofs.BuiltShared.{built_acknowledges, built_arms_elect}
+use Rattle.tsp_rules.proofs.EmitsBuilt.{emits_built}
 use Rattle.tsp_slave.proofs.BesideLemmas.{AlsoStands_by, beside_sorts}
 
 abbrev pub is_correct : Act → Bool
@@ -34,7 +36,7 @@ pub AlsoStands_posts : (p : PeerId) (kind : Kind) (number : ℕ) → is_in (sort
 AlsoStands_posts p kind number e = AlsoStands_by (posts p kind number) (Emits_posts p kind number e)
 
 pub AlsoStands_arms_elect : Keeps AlsoStands arms_elect
-AlsoStands_arms_elect = AlsoStands_by arms_elect (Emits_more silent_sorts refl silent_elect)
+AlsoStands_arms_elect = AlsoStands_by arms_elect (emits_built refl built_arms_elect)
 
 pub AlsoStands_confirms : (p : PeerId) (number : ℕ) → Keeps AlsoStands (confirms p number)
 unfolding confirms
@@ -49,11 +51,11 @@ AlsoStands_election_of p number =
     (AlsoStands_posts p Refuse number refl)
 
 pub AlsoStands_acknowledges : (p : PeerId) (number : ℕ) → Keeps AlsoStands (acknowledges p number)
-AlsoStands_acknowledges p number = AlsoStands_by (acknowledges p number) (Emits_more silent_sorts refl (silent_acks p number))
+AlsoStands_acknowledges p number = AlsoStands_by (acknowledges p number) (emits_built refl (built_acknowledges p number))
 
 pub AlsoStands_reports_conflict : (q : PeerId) → Keeps AlsoStands (reports_conflict q)
 unfolding reports_conflict
-AlsoStands_reports_conflict q = AlsoStands_by (reports_conflict q) (Emits_either (is_free q) (begins Conflict q) nothing (emits_begins Conflict q refl) Emits_nothing)
+AlsoStands_reports_conflict q = AlsoStands_by (reports_conflict q) (emits_built refl (built_reports_conflict q))
 
 -- a call on the station in a step that has acted, since it has taken something
 pub Performs_since_taken : {row : Row} {x : ℕ} {port : Port} {before after : Station} (last : LastValue) (clock : ClockValue) (took : Option Received) (r : Received) {old new : List Placed} → took ≡ Some r → Keeps AlsoStands row →

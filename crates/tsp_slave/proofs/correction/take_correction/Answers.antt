@@ -4,14 +4,14 @@ use Rattle.tsp_base.specs.Words.{said, nothing, reading, ◌followed_by◌, corr
 use Rattle.tsp_base.proofs.PerformsLemmas.{Performs_nothing, Performs_same, Performs_then, Performs_then_part, Performs_else_part}
 use Rattle.tsp_rules.specs.Guards.{role_at}
 use Rattle.tsp_rules.specs.SlaveRows.{acks_repeat, confirms, from_master}
-use Rattle.tsp_rules.proofs.Emits.{Emits_more}
-use Rattle.tsp_rules.proofs.EmitsSlave.{repeat-emits, slave_sorts}
 use Rattle.tsp_slave.specs.ClockChanges.{change_in, changes_clock, correction_of}
 use Rattle.tsp_slave.proofs.BesideLemmas.{Performs_station}
 use Rattle.tsp_slave.proofs.ChangeLemmas.{acts_at, acts_at-is, correction_of-is}
 use Rattle.tsp_slave.proofs.SlaveLemmas.{AlsoStands_confirms, Performs_changes}
 use Rattle.tsp_slave.proofs.RoomLemmas.{at_most, both, more_room}
 use Rattle.tsp_slave.proofs.TellLemmas.{corrects-change, tells_nothing, tells_row, tells_still}
+use Rattle.tsp_rules.proofs.BuiltSlave.{built_acks_repeat}
+use Rattle.tsp_rules.proofs.EmitsBuilt.{emits_built}
 use Rattle.tsp_slave.proofs.correction.take_correction.Goals as goal
 
 pub returns-then-not-follows-clause-row : goal.returns-then-not-follows-clause-row
@@ -52,7 +52,7 @@ returns-then-acts_now-clause-corrects g c past took s h =
 
 pub returns-else-acts_now-clause-corrects : goal.returns-else-acts_now-clause-corrects
 returns-else-acts_now-clause-corrects g c past took s h =
-    tells_still (Emits_more slave_sorts refl (repeat-emits c.args.from c.number-number.result)) (c.ack_repeat.ensures.row c.args.clock.now took) past h
+    tells_still (emits_built refl (built_acks_repeat c.args.from c.number-number.result tt)) (c.ack_repeat.ensures.row c.args.clock.now took) past h
 
 pub returns-else-acts_now-clause-row : goal.returns-else-acts_now-clause-row
 returns-else-acts_now-clause-row g c took s =

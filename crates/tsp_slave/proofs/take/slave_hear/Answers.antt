@@ -3,11 +3,12 @@ use Rattle.std.proofs.Common.{◌≡◌, ◌⊎◌, sym, ◌∙◌, ap, false, r
 use Rattle.tsp_rules.specs.Values.{AdjTime, SetTime}
 use Rattle.tsp_base.specs.Words.{is_correction}
 use Rattle.tsp_rules.proofs.Emits.{Emits_more}
-use Rattle.tsp_rules.proofs.EmitsSlave.{emits_slave_other, slave_sorts}
 use Rattle.tsp_rules.specs.SlaveRows.{slave_takes}
 use Rattle.tsp_slave.proofs.RowCases.{correction-kind, slave_takes_kind-correction, told_correction}
 use Rattle.tsp_slave.proofs.RoomLemmas.{more_room}
 use Rattle.tsp_slave.proofs.TellLemmas.{tells_still}
+use Rattle.tsp_rules.proofs.BuiltSlave.{built_slave_takes, slave_part_unmoved, unmoved_sorts}
+use Rattle.tsp_rules.proofs.EmitsBuilt.{emits_built}
 use Rattle.tsp_slave.proofs.take.slave_hear.Goals as goal
 
 pub returns-then-is_correction-clause-row : goal.returns-then-is_correction-clause-row
@@ -27,7 +28,7 @@ pub returns-else-is_correction-clause-corrects : goal.returns-else-is_correction
 returns-else-is_correction-clause-corrects g c past took e h =
     let m = c.args.m.now in
     let other : is_correction m.kind ≡ false = ap is_correction (sym c.kind.ensures) ∙ (sym c.is_correction.ensures ∙ c.if-is_correction.false) in
-    tells_still (Emits_more slave_sorts refl (emits_slave_other c.args.from m other)) (c.hear_other.ensures.row took e) past h
+    tells_still (Emits_more unmoved_sorts refl (emits_built (slave_part_unmoved m.kind other) (built_slave_takes c.args.from m tt))) (c.hear_other.ensures.row took e) past h
 
 pub hear_other-requires-clause-other : goal.hear_other-requires-clause-other
 hear_other-requires-clause-other g c = ap is_correction (sym c.kind.ensures) ∙ (sym c.is_correction.ensures ∙ c.if-is_correction.false)

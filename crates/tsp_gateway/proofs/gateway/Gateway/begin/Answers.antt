@@ -1,18 +1,17 @@
 -- What the port does is what the node does.
 use Rattle.std.proofs.Common.{refl, arith}
-use Rattle.tsp_rules.specs.Values.{Become, Quiet, Starting, QUIET}
-use Rattle.tsp_base.specs.Words.{arms, puts}
 use Rattle.tsp_rules.specs.GateRows.{boots_on}
-use Rattle.tsp_rules.proofs.Emits.{Emits_arms, Emits_puts, Emits_then}
 use Rattle.tsp_gateway.proofs.LiftLemmas.{All_here, part_there}
 use Rattle.tsp_gateway.proofs.PlaceLemmas.{places, ports_few, ports_set}
+use Rattle.tsp_rules.proofs.BuiltGate.{built_starts}
+use Rattle.tsp_rules.proofs.EmitsBuilt.{emits_built}
 use Rattle.tsp_gateway.proofs.gateway.Gateway.begin.Goals as goal
 
 pub returns-clause-row : goal.returns-clause-row
 unfolding boots_on
 returns-clause-row g c =
     let there = part_there c.args.self.now c.args.q c.index_mut.result.now c.requires.port c.index_mut.ensures.value in
-    All_here c.begin.new.self (Emits_then (puts (Become Starting)) (arms Quiet QUIET) (Emits_puts (Become Starting) refl) (Emits_arms Quiet QUIET refl)) there refl refl (rw c.port_at.ensures at (c.begin.ensures.row c.args.self.now.clock))
+    All_here c.begin.new.self (emits_built refl built_starts) there refl refl (rw c.port_at.ensures at (c.begin.ensures.row c.args.self.now.clock))
 
 pub returns-clause-ports : goal.returns-clause-ports
 returns-clause-ports g c = ports_set c.args.self.now.ports.items c.args.q c.index_mut.result.now c.begin.new.self (part_there c.args.self.now c.args.q c.index_mut.result.now c.requires.port c.index_mut.ensures.value) c.begin.ensures.peers

@@ -8,7 +8,9 @@ use Rattle.tsp_gateway.specs.GatewayStands.{port_at}
 use Rattle.tsp_gateway.proofs.AnyLemmas.{station_there}
 use Rattle.tsp_gateway.proofs.LiftLemmas.{All_nothing, All_same, part_there}
 use Rattle.tsp_gateway.proofs.PlaceLemmas.{places, ports_few, station_peers}
-use Rattle.tsp_gateway.proofs.PostLemmas.{All_posted, emits_reposts}
+use Rattle.tsp_gateway.proofs.PostLemmas.{All_posted}
+use Rattle.tsp_rules.proofs.BuiltGate.{built_reposts}
+use Rattle.tsp_rules.proofs.EmitsBuilt.{emits_built}
 use Rattle.tsp_gateway.proofs.gateway.Gateway.forward_on.Goals as goal
 
 pub returns-then-is_awake-clause-row : goal.returns-then-is_awake-clause-row
@@ -22,7 +24,7 @@ returns-then-is_awake-clause-row g c x =
     let s = station_there past c.args.self.now r c.index.result.now c.station-station.result.now c.requires.port c.index.ensures c.station-station.ensures h in
     let awake : is_awake_on past (port_at r) ≡ true = ap (λ (role : Role). not (is_starting_role role)) (sym s.role) ∙ sym c.is_awake.ensures ∙ c.if-is_awake.true in
     rw awake refl)
-    (All_posted r (reposts m) m c.requires.kind (emits_reposts m c.requires.kind refl) there (rw (c.port_at.ensures, c.station-station.ensures) at c.repost.ensures.acts)
+    (All_posted r (reposts m) m c.requires.kind (emits_built (rw c.requires.kind refl) (built_reposts m tt)) there (rw (c.port_at.ensures, c.station-station.ensures) at c.repost.ensures.acts)
     (λ past h. let s = h.port.station in rw (s.own, s.peers) refl))
 
 pub returns-else-is_awake-clause-row : goal.returns-else-is_awake-clause-row

@@ -1,24 +1,15 @@
 -- What the port does is what the node does.
 use Rattle.std.proofs.Common.{refl, arith}
-use Rattle.tsp_rules.specs.Values.{Become, Elect, Loose}
-use Rattle.tsp_base.specs.Words.{arms, nothing, puts}
-use Rattle.tsp_rules.specs.CandidateRows.{yields}
-use Rattle.tsp_rules.specs.CommonRows.{arms_elect}
-use Rattle.tsp_rules.specs.GateRows.{loosens_master}
-use Rattle.tsp_rules.specs.Guards.{delay_at, is_master_at}
-use Rattle.tsp_rules.proofs.Emits.{Emits, Emits_arms, Emits_either, Emits_nothing, Emits_puts, Emits_reading, Emits_then}
-use Rattle.tsp_gateway.proofs.LiftLemmas.{All_here, part_there, still_sorts}
+use Rattle.tsp_gateway.proofs.LiftLemmas.{All_here, part_there}
 use Rattle.tsp_gateway.proofs.PlaceLemmas.{places, ports_few, ports_set}
+use Rattle.tsp_rules.proofs.BuiltGate.{built_loosens_master}
+use Rattle.tsp_rules.proofs.EmitsBuilt.{emits_built}
 use Rattle.tsp_gateway.proofs.gateway.Gateway.give_up.Goals as goal
-
-emits-loosens : Emits still_sorts loosens_master
-unfolding loosens_master yields arms_elect
-emits-loosens = Emits_either is_master_at _ nothing (Emits_then (puts (Become Loose)) _ (Emits_puts (Become Loose) refl) (Emits_reading delay_at (arms Elect) (λ long. Emits_arms Elect long refl))) Emits_nothing
 
 pub returns-clause-row : goal.returns-clause-row
 returns-clause-row g c =
     let there = part_there c.args.self.now c.args.q c.index_mut.result.now c.requires.port c.index_mut.ensures.value in
-    All_here c.loosen.new.self emits-loosens there refl refl (rw c.port_at.ensures at (c.loosen.ensures.row c.args.self.now.clock))
+    All_here c.loosen.new.self (emits_built refl built_loosens_master) there refl refl (rw c.port_at.ensures at (c.loosen.ensures.row c.args.self.now.clock))
 
 pub returns-clause-ports : goal.returns-clause-ports
 returns-clause-ports g c = ports_set c.args.self.now.ports.items c.args.q c.index_mut.result.now c.loosen.new.self (part_there c.args.self.now c.args.q c.index_mut.result.now c.requires.port c.index_mut.ensures.value) c.loosen.ensures.peers

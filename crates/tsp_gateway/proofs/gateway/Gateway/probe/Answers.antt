@@ -7,10 +7,11 @@ use Rattle.tsp_rules.specs.NodeRows.{on, spread}
 use Rattle.tsp_gateway.specs.GatewayStands.{GatewayStands, port_at}
 use Rattle.tsp_gateway.specs.Rooms.{peers_at}
 use Rattle.tsp_gateway.proofs.LiftLemmas.{All_from}
-use Rattle.tsp_gateway.proofs.PostLemmas.{emits_loops}
 use Rattle.tsp_gateway.proofs.StirLemmas.{All_looped, All_loopless, no_loops, not_last}
 use Rattle.tsp_gateway.proofs.TurnLemmas.{All_turning}
 use Rattle.tsp_gateway.proofs.gateway.Gateway.probe.Goals as goal
+use Rattle.tsp_rules.proofs.BuiltGate.{built_sends_loops}
+use Rattle.tsp_rules.proofs.EmitsBuilt.{emits_built}
 use Rattle.tsp_gateway.proofs.gateway.Gateway.probe.Goals.{else-rung-via-then-rung+else-ends_probes, else-rung-via-else-rung}
 
 pub returns-then-ends_probes-clause-row : goal.returns-then-ends_probes-clause-row
@@ -18,7 +19,7 @@ unfolding alarm_on
 returns-then-ends_probes-clause-row g c =
     let q = c.args.q in
     All_looped q (q + 1) c.ring.ensures.row
-    (All_turning q (q + 1) (q + 1) (emits_loops (port_at q) refl) (omega arith) (omega arith) (All_from {p = GatewayStands} (λ past w. w.stands) (c.send_loops.ensures.row c.args.tick)))
+    (All_turning q (q + 1) (q + 1) (emits_built refl (built_sends_loops (port_at q) tt)) (omega arith) (omega arith) (All_from {p = GatewayStands} (λ past w. w.stands) (c.send_loops.ensures.row c.args.tick)))
     (λ past w. sym (c.probe_rings-rung.ensures past w.stands) ∙ c.if-rung.true) (λ past h. sym (c.ends_probes.ensures past h) ∙ c.if-ends_probes.true)
 
 pub returns-else-rung-clause-row : goal.returns-else-rung-clause-row

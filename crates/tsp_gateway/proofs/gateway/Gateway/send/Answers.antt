@@ -1,17 +1,17 @@
 -- What the port does is what the node does.
 use Rattle.std.proofs.Common.{refl, arith}
 use Rattle.tsp_rules.specs.SendRows.{due_sends}
-use Rattle.tsp_rules.proofs.Emits.{Emits_more}
-use Rattle.tsp_rules.proofs.EmitsSends.{emits_due_sends, send_sorts}
 use Rattle.tsp_gateway.proofs.LiftLemmas.{part_there, still_by}
 use Rattle.tsp_gateway.proofs.PlaceLemmas.{peers_there, places, ports_few, ports_set}
 use Rattle.tsp_gateway.proofs.TurnLemmas.{All_sent}
+use Rattle.tsp_rules.proofs.BuiltSends.{built_due_sends}
+use Rattle.tsp_rules.proofs.EmitsBuilt.{emits_built}
 use Rattle.tsp_gateway.proofs.gateway.Gateway.send.Goals as goal
 
 pub returns-clause-row : goal.returns-clause-row
 returns-clause-row g c =
     let there = part_there c.args.self.now c.args.q c.index_mut.result.now c.requires.port c.index_mut.ensures.value in
-    All_sent c.sends.new.self due_sends (Emits_more send_sorts refl emits_due_sends) (λ y past. still_by (Emits_more send_sorts refl emits_due_sends) y past) there refl refl (rw c.port_at.ensures at (c.sends.ensures.row c.args.self.now.clock))
+    All_sent c.sends.new.self due_sends (emits_built refl built_due_sends) (λ y past. still_by (emits_built refl built_due_sends) y past) there refl refl (rw c.port_at.ensures at (c.sends.ensures.row c.args.self.now.clock))
 
 pub sends-requires-clause-room : goal.sends-requires-clause-room
 sends-requires-clause-room g c = let many = peers_there c.args.self.now.ports.items c.args.q c.index_mut.result.now (part_there c.args.self.now c.args.q c.index_mut.result.now c.requires.port c.index_mut.ensures.value) in omega (arith, many, c.requires.room)

@@ -7,7 +7,9 @@ use Rattle.tsp_acks.specs.declared.station.Station.{Station}
 use Rattle.tsp_gateway.specs.GatewayStands.{port_at}
 use Rattle.tsp_gateway.proofs.LiftLemmas.{part_there}
 use Rattle.tsp_gateway.proofs.PlaceLemmas.{places, ports_few, station_peers}
-use Rattle.tsp_gateway.proofs.PostLemmas.{All_posted, emits_loops, loops_are}
+use Rattle.tsp_gateway.proofs.PostLemmas.{All_posted, loops_are}
+use Rattle.tsp_rules.proofs.BuiltGate.{built_sends_loops}
+use Rattle.tsp_rules.proofs.EmitsBuilt.{emits_built}
 use Rattle.tsp_gateway.proofs.gateway.Gateway.send_loops.Goals as goal
 
 pub new-message-requires : goal.new-message-requires
@@ -21,7 +23,7 @@ returns-clause-row g c x =
     let there = part_there c.args.self.now q c.index.result.now c.requires.port c.index.ensures in
     let kind : c.new-message.result.kind ≡ LoopKind = ap (λ (m : MessageValue). m.kind) c.new-message.ensures in
     let name = c.copy-name.ensures in
-    All_posted q (sends_loops (port_at q)) c.new-message.result kind (emits_loops (port_at q) refl) there (rw (c.port_at.ensures, c.station-station.ensures) at c.repost.ensures.acts)
+    All_posted q (sends_loops (port_at q)) c.new-message.result kind (emits_built refl (built_sends_loops (port_at q) tt)) there (rw (c.port_at.ensures, c.station-station.ensures) at c.repost.ensures.acts)
     (λ past h.
     let s = h.port.station in
     let one : c.copy-name.result ≡ past.name = name ∙ ap (λ (st : Station). st.me.name) c.station-station.ensures ∙ s.name in

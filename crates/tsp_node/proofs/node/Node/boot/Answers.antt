@@ -1,22 +1,20 @@
 -- The boot, and then how its life begins.
 use Rattle.std.proofs.Common.{◌≡◌, ◌∙◌, ap, arith, length, refl, w64, to_z, of_z, to_z-of_z}
 use Rattle.std.proofs.lemmas.List.{length-append}
-use Rattle.tsp_rules.specs.Values.{Boot, Become, Quiet, Starting, QUIET}
-use Rattle.tsp_base.specs.Words.{arms, puts, ◌followed_by◌}
+use Rattle.tsp_rules.specs.Values.{Boot}
 use Rattle.tsp_base.proofs.PerformsLemmas.{Performs_then}
 use Rattle.tsp_rules.specs.CommonRows.{boots}
-use Rattle.tsp_rules.proofs.Emits.{Emits, Emits_arms, Emits_puts, Emits_then}
 use Rattle.tsp_node.proofs.NodeLemmas.{node_stands, Performs_put}
-use Rattle.tsp_node.proofs.TakeEmits.{silent_trace}
+use Rattle.tsp_rules.proofs.BuiltGate.{built_starts}
+use Rattle.tsp_rules.proofs.EmitsBuilt.{emits_built}
 use Rattle.tsp_node.proofs.node.Node.boot.Goals as goal
 
 pub returns-clause-row : goal.returns-clause-row
 unfolding boots
 returns-clause-row g c =
     let back : to_z w64 (of_z w64 c.args.wall) ≡ c.args.wall = to_z-of_z c.ranges.wall in
-    let emits : Emits silent_trace (puts (Become Starting) followed_by arms Quiet QUIET) = Emits_then (puts (Become Starting)) (arms Quiet QUIET) (Emits_puts (Become Starting) refl) (Emits_arms Quiet QUIET refl) in
     Performs_then (Performs_put Boot c.put.ensures.acts (λ past h. c.in_ok-node.ensures.stands past (rw back h)))
-    (node_stands {before = c.in_ok-node.node} refl emits (c.begin.ensures.row c.in_ok-node.node.clock))
+    (node_stands {before = c.in_ok-node.node} refl (emits_built refl built_starts) (c.begin.ensures.row c.in_ok-node.node.clock))
 
 pub returns-clause-ok : goal.returns-clause-ok
 returns-clause-ok g c = let ok = c.in_ok-node.ensures.ok in let back : to_z w64 (of_z w64 c.args.wall) ≡ c.args.wall = to_z-of_z c.ranges.wall in (ok.0, rw (← back) ok.1, c.begin.ensures.peers ∙ ok.2, ok.3)

@@ -3,26 +3,23 @@ use Rattle.std.proofs.Common.{refl, ◌∙◌, ap}
 use Rattle.tsp_rules.specs.Values.{Become, Quiet, Starting, QUIET}
 use Rattle.tsp_base.specs.Words.{arms, puts, ◌followed_by◌}
 use Rattle.tsp_base.proofs.PerformsLemmas.{Performs_then}
-use Rattle.tsp_rules.proofs.Emits.{Emits, Emits_arms, Emits_puts, Emits_then}
-use Rattle.tsp_slave.proofs.BesideLemmas.{beside_sorts}
 use Rattle.tsp_master.proofs.TurnLemmas.{MasterStands_changing, turning_sorts}
 use Rattle.tsp_date.proofs.KeepLemmas.{DatesStand_by}
 use Rattle.tsp_resolve.proofs.ResolveLemmas.{ResolveStands_changed, rivalless}
 use Rattle.tsp_acks.specs.declared.station.Station.{Station}
-use Rattle.tsp_node.proofs.EmitsRoles.{begin_changes}
+use Rattle.tsp_node.proofs.RoleChanges.{begin_changes}
 use Rattle.tsp_node.proofs.NodeLemmas.{Performs_station}
 use Rattle.tsp_node.proofs.PartLemmas.{still_alike}
+use Rattle.tsp_rules.proofs.BuiltGate.{built_starts}
+use Rattle.tsp_rules.proofs.EmitsBuilt.{emits_built}
 use Rattle.tsp_node.proofs.part.Part.begin.Goals as goal
 
 pub returns-clause-row : goal.returns-clause-row
 returns-clause-row g c clock =
     let row = puts (Become Starting) followed_by arms Quiet QUIET in
-    let beside : Emits beside_sorts row = Emits_then (puts (Become Starting)) (arms Quiet QUIET) (Emits_puts (Become Starting) refl) (Emits_arms Quiet QUIET refl) in
-    let turning : Emits turning_sorts row = Emits_then (puts (Become Starting)) (arms Quiet QUIET) (Emits_puts (Become Starting) refl) (Emits_arms Quiet QUIET refl) in
-    let rivals : Emits rivalless row = Emits_then (puts (Become Starting)) (arms Quiet QUIET) (Emits_puts (Become Starting) refl) (Emits_arms Quiet QUIET refl) in
-    Performs_station refl refl refl beside (DatesStand_by row (Emits_then (puts (Become Starting)) (arms Quiet QUIET) (Emits_puts (Become Starting) refl) (Emits_arms Quiet QUIET refl)))
-    (λ past h s. MasterStands_changing row turning c.args.tick past c.args.self.now.master c.clear.new.self (begin_changes c.args.tick past) (record { slaves = c.clear.ensures.slaves; peers = c.clear.ensures.peers; rounds = c.clear.ensures.rounds }) h.master)
-    (λ past h s. ResolveStands_changed c.args.tick past (row c.args.tick past) c.args.self.now.resolve c.clear-2.new.self (rivals.only c.args.tick past) (begin_changes c.args.tick past) c.clear-2.ensures.many c.clear-2.ensures.none h.resolve)
+    Performs_station refl refl refl (emits_built refl built_starts) (DatesStand_by row (emits_built refl built_starts))
+    (λ past h s. MasterStands_changing row (emits_built {all = turning_sorts} refl built_starts) c.args.tick past c.args.self.now.master c.clear.new.self (begin_changes c.args.tick past) (record { slaves = c.clear.ensures.slaves; peers = c.clear.ensures.peers; rounds = c.clear.ensures.rounds }) h.master)
+    (λ past h s. ResolveStands_changed c.args.tick past (row c.args.tick past) c.args.self.now.resolve c.clear-2.new.self ((emits_built {all = rivalless} refl built_starts).only c.args.tick past) (begin_changes c.args.tick past) c.clear-2.ensures.many c.clear-2.ensures.none h.resolve)
     (Performs_then (c.become_role.ensures.row c.args.tick) c.arm.ensures.row)
 
 pub invariant_of-self : goal.invariant_of-self

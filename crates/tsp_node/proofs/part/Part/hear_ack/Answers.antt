@@ -2,10 +2,11 @@
 use Rattle.std.proofs.Common.{◌≡◌, refl, sym}
 use Rattle.tsp_rules.specs.Values.{Ack}
 use Rattle.tsp_rules.specs.Answers.{peer_says, says_in}
-use Rattle.tsp_node.proofs.EmitsRoles.{acking}
 use Rattle.tsp_node.proofs.HearLemmas.{audience_sends, heard_peer, heard_role, Performs_by_role, Performs_heard_by, Performs_unheard, says_ack}
 use Rattle.tsp_node.proofs.NodeLemmas.{Performs_acknowledged}
 use Rattle.tsp_node.proofs.PartLemmas.{still_alike}
+use Rattle.tsp_rules.proofs.BuiltShared.{built_acknowledges}
+use Rattle.tsp_rules.proofs.EmitsBuilt.{emits_built}
 use Rattle.tsp_node.proofs.part.Part.hear_ack.Goals as goal
 
 pub returns-in_default-clause-row : goal.returns-in_default-clause-row
@@ -24,7 +25,7 @@ returns-in-Some-clause-row g c took x clock =
     let ack : m.kind ≡ Ack = audience_sends m.kind c.requires.audience in
     let row = rw c.number.ensures at (c.acknowledge.ensures.row x) in
     let heard = sym c.in-Some.ensures in
-    Performs_heard_by from p (peer_says m) heard (Performs_by_role (says_in p m) (rw (says_ack p m st.role ack (heard_role st from p heard)) (Performs_acknowledged refl refl refl refl (acking p m.number) row)))
+    Performs_heard_by from p (peer_says m) heard (Performs_by_role (says_in p m) (rw (says_ack p m st.role ack (heard_role st from p heard)) (Performs_acknowledged refl refl refl refl (emits_built refl (built_acknowledges p m.number)) row)))
 
 pub invariant_of-self : goal.invariant_of-self
 invariant_of-self g c = still_alike c.args.self.now c.acknowledge.ensures.peers refl refl c.acknowledge.ensures.port.peers

@@ -1,19 +1,20 @@
 -- A QUIT ends its leading, other masters are asked or marked, and all else is the master's own.
-use Rattle.std.proofs.Common.{◌≡◌, ◌∷◌, [], refl, sym, ◌∙◌, arith}
+use Rattle.std.proofs.Common.{◌≡◌, refl, sym, ◌∙◌, arith}
 use Rattle.tsp_rules.specs.Values.{Ack, Conflict, MasterAck, MasterUp, QuitKind}
 use Rattle.tsp_base.specs.Words.{posts, ◌followed_by◌}
 use Rattle.tsp_base.proofs.PerformsLemmas.{Performs_then}
 use Rattle.tsp_rules.specs.MasterRows.{master_takes}
 use Rattle.tsp_rules.specs.ResolveRows.{finds_rival, resolves}
-use Rattle.tsp_rules.proofs.Emits.{Alarming, Emits_more, Emits_posts, Posting, Rivalling}
 use Rattle.tsp_date.proofs.KeepLemmas.{DatesStand_by}
 use Rattle.tsp_master.specs.MasterTakes.{master_takes_here}
 use Rattle.tsp_resolve.proofs.ResolveLemmas.{Performs_resolving}
-use Rattle.tsp_node.proofs.DatesKeeps.{DatesStand_master}
-use Rattle.tsp_node.proofs.EmitsRows.{emits_conflict, emits_finds, emits_master_still, emits_master_takes, emits_resolves}
 use Rattle.tsp_node.proofs.HearLemmas.{master_conflict, master_masterack, master_masterup, master_quit, master_takes-other, roles_other}
 use Rattle.tsp_node.proofs.NodeLemmas.{Performs_led, Performs_resolved, Performs_took}
 use Rattle.tsp_node.proofs.PartLemmas.{as_many, still_alike}
+use Rattle.tsp_rules.proofs.Emits.{Emits, Emits_more, Emits_posts}
+use Rattle.tsp_node.proofs.TakeEmits.{built_master_takes_here}
+use Rattle.tsp_rules.proofs.BuiltMaster.{built_conflict, built_finds_rival, built_resolves, question_sorts}
+use Rattle.tsp_rules.proofs.EmitsBuilt.{emits_built}
 use Rattle.tsp_node.proofs.part.Part.hear_as_master.Goals as goal
 
 pub returns-in-Quit-clause-row : goal.returns-in-Quit-clause-row
@@ -24,7 +25,7 @@ returns-in-Quit-clause-row g c =
 pub returns-in-MasterUp-clause-row : goal.returns-in-MasterUp-clause-row
 returns-in-MasterUp-clause-row g c =
     let up : c.args.m.now.kind ≡ MasterUp = sym c.kind.ensures ∙ c.in-MasterUp.is in
-    rw (master_masterup c.args.p c.args.m.now up) (Performs_took (Performs_resolved refl refl refl refl (Emits_more (Posting ∷ Alarming ∷ []) refl emits_resolves) (Emits_more (Posting ∷ Alarming ∷ []) refl emits_resolves) (DatesStand_by resolves (Emits_more (Posting ∷ Alarming ∷ []) refl emits_resolves)) c.start.ensures.row))
+    rw (master_masterup c.args.p c.args.m.now up) (Performs_took (Performs_resolved refl refl refl refl (emits_built refl built_resolves) (emits_built refl built_resolves) (DatesStand_by resolves (emits_built refl built_resolves)) c.start.ensures.row))
 
 pub returns-in-Conflict-clause-row : goal.returns-in-Conflict-clause-row
 returns-in-Conflict-clause-row g c =
@@ -32,15 +33,15 @@ returns-in-Conflict-clause-row g c =
     let m = c.args.m.now in
     let conflict : m.kind ≡ Conflict = sym c.kind.ensures ∙ c.in-Conflict.is in
     let post = rw c.number.ensures at (c.post.ensures.row c.args.tick) in
-    let emits = emits_conflict p m.number in
-    rw (master_conflict p m conflict) (Performs_took (Performs_resolved refl refl refl refl (Emits_more (Posting ∷ Alarming ∷ []) refl emits) (Emits_more (Posting ∷ Alarming ∷ []) refl emits) (DatesStand_by (posts p Ack m.number followed_by resolves) (Emits_more (Posting ∷ Alarming ∷ []) refl emits))
+    let emits : Emits question_sorts (posts p Ack m.number followed_by resolves) = emits_built refl (built_conflict p m.number tt) in
+    rw (master_conflict p m conflict) (Performs_took (Performs_resolved refl refl refl refl (Emits_more question_sorts refl emits) (Emits_more question_sorts refl emits) (DatesStand_by (posts p Ack m.number followed_by resolves) (Emits_more question_sorts refl emits))
     (Performs_then (Performs_resolving c.args.self.now.resolve (Emits_posts p Ack m.number refl) post) c.start-in-Conflict.ensures.row)))
 
 pub returns-in-MasterAck-clause-row : goal.returns-in-MasterAck-clause-row
 returns-in-MasterAck-clause-row g c =
     let p = c.args.p in
     let ack : c.args.m.now.kind ≡ MasterAck = sym c.kind.ensures ∙ c.in-MasterAck.is in
-    rw (master_masterack p c.args.m.now ack) (Performs_took (Performs_resolved refl refl refl refl (Emits_more (Rivalling ∷ []) refl (emits_finds p)) (Emits_more (Rivalling ∷ []) refl (emits_finds p)) (DatesStand_by (finds_rival p) (Emits_more (Rivalling ∷ []) refl (emits_finds p))) (c.rival.ensures.row c.args.tick)))
+    rw (master_masterack p c.args.m.now ack) (Performs_took (Performs_resolved refl refl refl refl (emits_built refl (built_finds_rival p)) (emits_built refl (built_finds_rival p)) (DatesStand_by (finds_rival p) (emits_built refl (built_finds_rival p))) (c.rival.ensures.row c.args.tick)))
 
 pub returns-in_default-clause-row : goal.returns-in_default-clause-row
 unfolding master_takes master_takes_here
@@ -50,7 +51,7 @@ returns-in_default-clause-row g c =
     let other = c.in_default in
     let take = c.take.ensures.row in
     rw (master_takes-other p m m.kind (roles_other m.kind c.requires.audience) (λ e. other.not-Quit (c.kind.ensures ∙ e)) (λ e. other.not-MasterUp (c.kind.ensures ∙ e)) (λ e. other.not-Conflict (c.kind.ensures ∙ e)) (λ e. other.not-MasterAck (c.kind.ensures ∙ e)))
-    (Performs_led refl refl refl (emits_master_takes p m) (emits_master_still p m) (DatesStand_master p m) take)
+    (Performs_led refl refl refl (emits_built refl (built_master_takes_here p m tt)) (emits_built refl (built_master_takes_here p m tt)) (DatesStand_by (master_takes_here p m) (emits_built refl (built_master_takes_here p m tt))) take)
 
 pub take_quit-requires : goal.take_quit-requires
 take_quit-requires g c = record { room = omega (arith, c.requires.room); tick = c.requires.tick; peer = c.requires.peer; role = c.requires.role; audience = c.requires.audience }

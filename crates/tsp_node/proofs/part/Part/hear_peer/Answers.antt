@@ -1,24 +1,25 @@
 -- Who is heard is handled by the role.
-use Rattle.std.proofs.Common.{◌≡◌, ◌∷◌, ◌∙◌, true, false, refl, sym, ap, arith}
+use Rattle.std.proofs.Common.{◌≡◌, ◌∙◌, true, false, refl, sym, ap, arith}
 use Rattle.tsp_rules.specs.Values.{Candidate, Master}
 use Rattle.tsp_base.specs.Words.{taken, nothing}
 use Rattle.tsp_rules.specs.Answers.{from_peer, is_left, peer_says, says_in}
 use Rattle.tsp_rules.specs.CandidateRows.{candidate_takes}
 use Rattle.tsp_rules.specs.SlaveRows.{slave_takes}
 use Rattle.tsp_rules.specs.Guards.{is_follow}
-use Rattle.tsp_rules.proofs.Emits.{Acking, Counting, Emits_more}
 use Rattle.tsp_date.proofs.KeepLemmas.{DatesAside_by}
-use Rattle.tsp_date.proofs.AsideLemmas.{DatesAside_slave_takes}
 use Rattle.tsp_master.proofs.TurnLemmas.{MasterStands_idle}
 use Rattle.tsp_resolve.proofs.ResolveLemmas.{ResolveStands_idle, rivalless}
 use Rattle.tsp_node.specs.NodeStands.{PortValue, port_with}
-use Rattle.tsp_node.proofs.EmitsRoles.{calm_sorts, emits_answers, emits_slave, role_sorts}
 use Rattle.tsp_node.proofs.HearLemmas.{candidate_keeps, heard_awake, heard_peer, is_from, is_hearing, leaves_by, leaves_none, Performs_by_role, Performs_either_way, Performs_heard_at, Performs_kept, Performs_left, Performs_role, Performs_unheard, roles_date, roles_other, says_slave}
-use Rattle.tsp_rules.proofs.EmitsMaster.{emits_master_takes, master_sorts}
 use Rattle.tsp_slave.proofs.TellLemmas.{tells_nothing, tells_still}
 use Rattle.tsp_node.proofs.StillTakes.{took_of, took_slave}
 use Rattle.tsp_node.proofs.NodeLemmas.{Performs_heard, Performs_pass, no_lead}
 use Rattle.tsp_node.proofs.PartLemmas.{still_alike}
+use Rattle.tsp_rules.proofs.Emits.{Emits, Emits_more}
+use Rattle.tsp_rules.proofs.BuiltSlave.{built_slave_takes, open_sorts, slave_part_open}
+use Rattle.tsp_rules.proofs.BuiltCandidate.{all_candidate_sorts, built_candidate_takes}
+use Rattle.tsp_rules.proofs.BuiltMaster.{built_master_takes}
+use Rattle.tsp_rules.proofs.EmitsBuilt.{emits_built}
 use Rattle.tsp_node.proofs.part.Part.hear_peer.Goals as goal
 
 pub returns-in_default-clause-row : goal.returns-in_default-clause-row
@@ -46,12 +47,12 @@ returns-in-Candidate-clause-row g c =
     let p = c.in-Some.p in
     let here = port_with c.args.self.now c.args.clock.now in
     let heard = sym c.in-Some.ensures in
-    let emits = emits_answers p m in
+    let emits : Emits all_candidate_sorts (candidate_takes p m) = emits_built refl (built_candidate_takes p m tt) in
     let after : PortValue = record here { station = c.candidate_take.new.station; last = c.candidate_take.new.last } in
     rw (is_from st from p heard) (Performs_kept {after = after} c.args.terms.steer m.kind (leaves_none c.args.terms.steer m.kind st.role (ap is_follow c.in-Candidate.is)) (Performs_heard_at {after = after} p (peer_says m) (is_hearing st from p heard)
-    (Performs_by_role {after = after} (says_in p m) (Performs_role {after = after} p m st.role Candidate c.in-Candidate.is (Performs_heard {after = after} refl (DatesAside_by (candidate_takes p m) (Emits_more (Acking ∷ Counting ∷ calm_sorts) refl emits)) (roles_date m.kind c.requires.audience)
+    (Performs_by_role {after = after} (says_in p m) (Performs_role {after = after} p m st.role Candidate c.in-Candidate.is (Performs_heard {after = after} refl (DatesAside_by (candidate_takes p m) (Emits_more all_candidate_sorts refl emits)) (roles_date m.kind c.requires.audience)
     (λ past h s. candidate_keeps p m (roles_other m.kind c.requires.audience) x past c.args.self.now.master (no_lead here Candidate (λ e. let bad : ⊥ = cc in bad) c.in-Candidate.is h) h.master)
-    (λ past h s. ResolveStands_idle x past (candidate_takes p m x past) c.args.self.now.resolve ((Emits_more (Acking ∷ Counting ∷ calm_sorts) {all = rivalless} refl emits).only x past) (no_lead here Candidate (λ e. let bad : ⊥ = cc in bad) c.in-Candidate.is h) h.resolve)
+    (λ past h s. ResolveStands_idle x past (candidate_takes p m x past) c.args.self.now.resolve ((Emits_more all_candidate_sorts {all = rivalless} refl emits).only x past) (no_lead here Candidate (λ e. let bad : ⊥ = cc in bad) c.in-Candidate.is h) h.resolve)
     c.candidate_take.ensures.row)))))
 
 pub returns-in-Master-clause-row : goal.returns-in-Master-clause-row
@@ -76,13 +77,13 @@ returns-else-leaves-clause-row g c =
     let p = c.in-Some.p in
     let heard = sym c.in-Some.ensures in
     let other = c.in_default-role in
-    let emits = emits_slave p m (roles_other m.kind c.requires.audience) in
+    let emits : Emits open_sorts (slave_takes p m) = emits_built (slave_part_open m.kind (roles_other m.kind c.requires.audience)) (built_slave_takes p m tt) in
     let after : PortValue = record (port_with c.args.self.now c.slave_hear.new.clock) { station = c.slave_hear.new.station; last = c.slave_hear.new.last } in
     let left : leaves_by c.args.terms.steer m.kind st.role ≡ false = ap (λ k. leaves_by c.args.terms.steer k st.role) (sym c.kind.ensures) ∙ (sym c.leaves.ensures ∙ c.if-leaves.false) in
     rw (is_from st from p heard) (Performs_kept {after = after} c.args.terms.steer m.kind left (Performs_heard_at {after = after} p (peer_says m) (is_hearing st from p heard)
-    (Performs_by_role {after = after} (says_in p m) (rw (says_slave p m st.role (heard_awake st from p heard) other.not-Candidate other.not-Master) (Performs_heard {after = after} refl (DatesAside_slave_takes p m) (roles_date m.kind c.requires.audience)
-    (λ past h s. MasterStands_idle (slave_takes p m) (Emits_more role_sorts refl emits) x past c.args.self.now.master (λ e. other.not-Master (h.station.role ∙ e)) h.master)
-    (λ past h s. ResolveStands_idle x past (slave_takes p m x past) c.args.self.now.resolve ((Emits_more role_sorts {all = rivalless} refl emits).only x past) (λ e. other.not-Master (h.station.role ∙ e)) h.resolve)
+    (Performs_by_role {after = after} (says_in p m) (rw (says_slave p m st.role (heard_awake st from p heard) other.not-Candidate other.not-Master) (Performs_heard {after = after} refl (DatesAside_by (slave_takes p m) (Emits_more open_sorts refl emits)) (roles_date m.kind c.requires.audience)
+    (λ past h s. MasterStands_idle (slave_takes p m) (Emits_more open_sorts refl emits) x past c.args.self.now.master (λ e. other.not-Master (h.station.role ∙ e)) h.master)
+    (λ past h s. ResolveStands_idle x past (slave_takes p m x past) c.args.self.now.resolve ((Emits_more open_sorts {all = rivalless} refl emits).only x past) (λ e. other.not-Master (h.station.role ∙ e)) h.resolve)
     c.slave_hear.ensures.row)))))
 
 pub returns-then-leaves-clause-row : goal.returns-then-leaves-clause-row
@@ -99,14 +100,14 @@ returns-in-Candidate-clause-corrects g c past h =
     let p = c.in-Some.p in
     let m = c.args.m.now in
     let from = is_from c.args.self.now.station c.args.from p (sym c.in-Some.ensures) in
-    tells_still (Emits_more (Acking ∷ Counting ∷ calm_sorts) refl (emits_answers p m)) (c.candidate_take.ensures.row (taken past.seen) (took_of c.args.from p m past _ from h)) past (took_slave _ past _ h)
+    tells_still (emits_built refl (built_candidate_takes p m tt)) (c.candidate_take.ensures.row (taken past.seen) (took_of c.args.from p m past _ from h)) past (took_slave _ past _ h)
 
 pub returns-in-Master-clause-corrects : goal.returns-in-Master-clause-corrects
 returns-in-Master-clause-corrects g c past h =
     let p = c.in-Some.p in
     let m = c.args.m.now in
     let from = is_from c.args.self.now.station c.args.from p (sym c.in-Some.ensures) in
-    tells_still (Emits_more master_sorts refl (emits_master_takes p m)) c.hear_as_master.ensures.row past (record { stands = h.stands; took = took_of c.args.from p m past _ from h })
+    tells_still (emits_built refl (built_master_takes p m tt)) c.hear_as_master.ensures.row past (record { stands = h.stands; took = took_of c.args.from p m past _ from h })
 
 pub returns-then-leaves-clause-corrects : goal.returns-then-leaves-clause-corrects
 returns-then-leaves-clause-corrects g c past h = tells_nothing c.args.terms.at.port _

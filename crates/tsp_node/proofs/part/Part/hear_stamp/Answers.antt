@@ -2,12 +2,13 @@
 use Rattle.std.proofs.Common.{◌∷◌, [], refl, sym, ◌∙◌}
 use Rattle.tsp_rules.specs.Answers.{peer_replies, replies_in}
 use Rattle.tsp_rules.specs.RoundRows.{samples}
-use Rattle.tsp_rules.proofs.Emits.{Emits_more, Sampling}
 use Rattle.tsp_date.proofs.KeepLemmas.{DatesStand_by}
-use Rattle.tsp_node.proofs.EmitsRows.{emits_samples}
 use Rattle.tsp_node.proofs.HearLemmas.{Performs_by_role, Performs_heard_by, Performs_unheard, replies_none, replies_master}
 use Rattle.tsp_node.proofs.NodeLemmas.{Performs_led, Performs_pass}
 use Rattle.tsp_node.proofs.PartLemmas.{still_alike}
+use Rattle.tsp_rules.proofs.Emits.{Emits, Emits_more, Sampling}
+use Rattle.tsp_rules.proofs.BuiltRounds.{built_samples}
+use Rattle.tsp_rules.proofs.EmitsBuilt.{emits_built}
 use Rattle.tsp_node.proofs.part.Part.hear_stamp.Goals as goal
 
 pub returns-in_default-clause-row : goal.returns-in_default-clause-row
@@ -18,7 +19,7 @@ unfolding peer_replies
 returns-then-leads-clause-row g c took r e =
     let p = c.in-Some.p in
     let reply = rw e at c.reply.ensures.row in
-    let emits = emits_samples p r in
+    let emits : Emits (Sampling ∷ []) (samples p r) = emits_built refl (built_samples p r tt) in
     Performs_heard_by c.args.from p (peer_replies r) (sym c.in-Some.ensures) (Performs_by_role (replies_in p r) (rw (replies_master p r c.args.self.now.station.role (sym c.leads.ensures ∙ c.if-leads.true))
     (Performs_led refl refl refl (Emits_more (Sampling ∷ []) refl emits) (Emits_more (Sampling ∷ []) refl emits) (DatesStand_by (samples p r) (Emits_more (Sampling ∷ []) refl emits)) reply)))
 

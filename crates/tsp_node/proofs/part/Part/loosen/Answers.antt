@@ -1,13 +1,10 @@
 -- The port follows nobody any more where it led, and its slaves and rivals are forgotten.
-use Rattle.std.proofs.Common.{◌≡◌, ◌∷◌, [], ◌&&◌, not, true, ap, refl, sym, ◌∙◌}
-use Rattle.tsp_rules.specs.Values.{Become, Elect, Loose}
-use Rattle.tsp_base.specs.Words.{arms, nothing, puts}
+use Rattle.std.proofs.Common.{◌≡◌, ◌&&◌, not, true, ap, refl, sym, ◌∙◌}
+use Rattle.tsp_base.specs.Words.{nothing}
 use Rattle.tsp_base.proofs.PerformsLemmas.{Performs_else_part, Performs_then, Performs_then_part}
 use Rattle.tsp_rules.specs.CandidateRows.{yields}
-use Rattle.tsp_rules.specs.CommonRows.{arms_elect}
 use Rattle.tsp_rules.specs.GateRows.{loosens_master}
-use Rattle.tsp_rules.specs.Guards.{delay_at, is_master, is_master_at}
-use Rattle.tsp_rules.proofs.Emits.{Alarming, Changing, Emits, Emits_arms, Emits_more, Emits_puts, Emits_reading, Emits_then}
+use Rattle.tsp_rules.specs.Guards.{is_master, is_master_at}
 use Rattle.tsp_date.proofs.KeepLemmas.{DatesStand_by}
 use Rattle.tsp_master.specs.Clearing.{Clears}
 use Rattle.tsp_node.specs.Unmarking.{Unmarks}
@@ -15,11 +12,9 @@ use Rattle.tsp_node.specs.NodeStands.{port_with}
 use Rattle.tsp_acks.specs.declared.station.Station.{Station}
 use Rattle.tsp_node.proofs.NodeLemmas.{Performs_station, rivals_part, same_part, slaves_part}
 use Rattle.tsp_node.proofs.PartLemmas.{still_alike}
+use Rattle.tsp_rules.proofs.BuiltCandidate.{built_yields}
+use Rattle.tsp_rules.proofs.EmitsBuilt.{emits_built}
 use Rattle.tsp_node.proofs.part.Part.loosen.Goals as goal
-
-changes_role : Emits (Changing ∷ Alarming ∷ []) yields
-unfolding yields arms_elect
-changes_role = Emits_then (puts (Become Loose)) _ (Emits_puts (Become Loose) refl) (Emits_reading delay_at (arms Elect) (λ long. Emits_arms Elect long refl))
 
 pub returns-then-leads-clause-row : goal.returns-then-leads-clause-row
 unfolding loosens_master yields
@@ -30,9 +25,9 @@ returns-then-leads-clause-row g c clock =
     let clears : Clears (is_master old.station.role && not (is_master new.station.role)) old.master new.master = rw (led, c.part_from.ensures.station) c.part_from.ensures.slaves in
     let unmarks : Unmarks (is_master old.station.role && not (is_master new.station.role)) old.resolve new.resolve = rw (led, c.part_from.ensures.station) c.part_from.ensures.rivals in
     Performs_then_part is_master_at nothing (λ past h. ap is_master (sym h.station.role) ∙ led)
-    (Performs_station {after = port_with new clock} c.part_from.ensures.last refl c.part_from.ensures.dates (Emits_more (Changing ∷ Alarming ∷ []) refl changes_role) (DatesStand_by yields (Emits_more (Changing ∷ Alarming ∷ []) refl changes_role))
-    (λ past h s. slaves_part yields (Emits_more (Changing ∷ Alarming ∷ []) refl changes_role) c.args.tick past (port_with old clock) (port_with new clock) clears h s)
-    (λ past h s. rivals_part yields (Emits_more (Changing ∷ Alarming ∷ []) refl changes_role) c.args.tick past (port_with old clock) (port_with new clock) unmarks h s)
+    (Performs_station {after = port_with new clock} c.part_from.ensures.last refl c.part_from.ensures.dates (emits_built refl built_yields) (DatesStand_by yields (emits_built refl built_yields))
+    (λ past h s. slaves_part yields (emits_built refl built_yields) c.args.tick past (port_with old clock) (port_with new clock) clears h s)
+    (λ past h s. rivals_part yields (emits_built refl built_yields) c.args.tick past (port_with old clock) (port_with new clock) unmarks h s)
     (rw (← c.part_from.ensures.station) at (Performs_then (c.become_role.ensures.row c.args.tick) c.arm_elect.ensures.row)))
 
 pub returns-else-leads-clause-row : goal.returns-else-leads-clause-row

@@ -3,18 +3,21 @@ use Rattle.std.proofs.Common.{◌≡◌, ◌∷◌, [], true, false, refl}
 use Rattle.tsp_rules.specs.Values.{Round}
 use Rattle.tsp_rules.specs.Answers.{alarm_rings}
 use Rattle.tsp_rules.specs.RoundRows.{round_rings}
-use Rattle.tsp_rules.proofs.Emits.{Alarming, Emits_more, Keeps_by, Numbering}
 use Rattle.tsp_date.proofs.KeepLemmas.{DatesStand_by}
 use Rattle.tsp_master.specs.MasterStands.{MasterStands}
 use Rattle.tsp_master.proofs.TableLemmas.{MasterStands_quiet, quiet_sorts}
 use Rattle.tsp_resolve.proofs.ResolveLemmas.{ResolveStands_by}
 use Rattle.tsp_node.specs.RoleAlarms.{is_of_master}
 use Rattle.tsp_node.specs.NodeStands.{port_with}
-use Rattle.tsp_node.proofs.AlarmCases.{beside_alarm, emits_resolve, emits_wait, of_slave, slave_alarm, waits}
-use Rattle.tsp_node.proofs.DatesKeeps.{DatesStand_resolve}
-use Rattle.tsp_node.proofs.EmitsRoles.{role_sorts}
 use Rattle.tsp_node.proofs.NodeLemmas.{Performs_resolved, Performs_station, Performs_untaken, rivals_part, slaves_part}
 use Rattle.tsp_node.proofs.PartLemmas.{as_many, still_alike}
+use Rattle.tsp_rules.specs.ResolveRows.{resolve_rings}
+use Rattle.tsp_node.proofs.AlarmCases.{beside_alarm, emits_wait, of_slave, slave_alarm, waits}
+use Rattle.tsp_rules.proofs.Emits.{Alarming, Emits, Emits_more, Keeps_by}
+use Rattle.tsp_node.proofs.TakeEmits.{role_sorts}
+use Rattle.tsp_rules.proofs.BuiltShared.{standing_sorts}
+use Rattle.tsp_rules.proofs.BuiltMaster.{built_resolve_rings}
+use Rattle.tsp_rules.proofs.EmitsBuilt.{emits_built}
 use Rattle.tsp_node.proofs.part.Part.ring_beside.Goals as goal
 
 pub returns-in-Round-clause-row : goal.returns-in-Round-clause-row
@@ -36,8 +39,8 @@ returns-in-Window-clause-row g c own clock = rw c.in-Window.is (c.ring_window.en
 pub returns-in-Resolve-clause-row : goal.returns-in-Resolve-clause-row
 unfolding alarm_rings
 returns-in-Resolve-clause-row g c own clock =
-    rw c.in-Resolve.is (Performs_untaken (Emits_more (Numbering ∷ Alarming ∷ []) refl emits_resolve)
-    (Performs_resolved refl refl refl refl (Emits_more (Numbering ∷ Alarming ∷ []) refl emits_resolve) (Emits_more (Numbering ∷ Alarming ∷ []) refl emits_resolve) DatesStand_resolve c.ring.ensures.row))
+    rw c.in-Resolve.is (Performs_untaken (emits_built refl built_resolve_rings)
+    (Performs_resolved refl refl refl refl (emits_built refl built_resolve_rings) (emits_built refl built_resolve_rings) (DatesStand_by resolve_rings (emits_built refl built_resolve_rings)) c.ring.ensures.row))
 
 pub ring_slave-requires-clause-alarm : goal.ring_slave-requires-clause-alarm
 ring_slave-requires-clause-alarm g c = of_slave c.args.wait c.args.alarm c.requires.alarm c.in_default.not-Round c.in_default.not-Window c.in_default.not-Resolve
@@ -49,9 +52,9 @@ returns-in_default-clause-row g c own clock =
     let alarm = c.args.alarm in
     let is = of_slave wait alarm c.requires.alarm c.in_default.not-Round c.in_default.not-Window c.in_default.not-Resolve in
     let row = rw (← c.part_from.ensures.station) at (c.ring_slave.ensures.row own wait) in
-    let emits = (slave_alarm own wait alarm is).roles in
+    let emits : Emits role_sorts (alarm_rings own wait alarm) = Emits_more standing_sorts refl (slave_alarm own wait alarm is) in
     Performs_untaken (Emits_more role_sorts refl emits)
-    (Performs_station {after = port_with c.part_from.new.self clock} c.part_from.ensures.last refl c.part_from.ensures.dates (beside_alarm own wait alarm is) (slave_alarm own wait alarm is).dates
+    (Performs_station {after = port_with c.part_from.new.self clock} c.part_from.ensures.last refl c.part_from.ensures.dates (beside_alarm own wait alarm is) (DatesStand_by (alarm_rings own wait alarm) (Emits_more standing_sorts refl (slave_alarm own wait alarm is)))
     (λ past h s. slaves_part (alarm_rings own wait alarm) emits c.args.tick past (port_with c.args.self.now clock) (port_with c.part_from.new.self clock) (rw (c.leads-led.ensures, ← c.part_from.ensures.station) at c.part_from.ensures.slaves) h s)
     (λ past h s. rivals_part (alarm_rings own wait alarm) emits c.args.tick past (port_with c.args.self.now clock) (port_with c.part_from.new.self clock) (rw (c.leads-led.ensures, ← c.part_from.ensures.station) at c.part_from.ensures.rivals) h s)
     row)

@@ -1,23 +1,24 @@
 -- What the station does; no slave and no rival is left.
-use Rattle.std.proofs.Common.{◌∷◌, refl}
+use Rattle.std.proofs.Common.{refl}
 use Rattle.tsp_rules.specs.CandidateRows.{window_rings}
-use Rattle.tsp_rules.proofs.Emits.{Emits_more, Leading}
 use Rattle.tsp_date.proofs.KeepLemmas.{DatesStand_by}
 use Rattle.tsp_master.proofs.TurnLemmas.{MasterStands_changing, turning_sorts}
 use Rattle.tsp_resolve.proofs.ResolveLemmas.{ResolveStands_changed, rivalless}
 use Rattle.tsp_node.proofs.AlarmCases.{beside_window}
-use Rattle.tsp_node.proofs.EmitsRoles.{calm_sorts, emits_window, window_changes}
 use Rattle.tsp_node.proofs.NodeLemmas.{Performs_station, Performs_untaken}
 use Rattle.tsp_node.proofs.PartLemmas.{still_alike}
+use Rattle.tsp_node.proofs.RoleChanges.{window_changes}
+use Rattle.tsp_rules.proofs.BuiltCandidate.{built_window_rings}
+use Rattle.tsp_rules.proofs.EmitsBuilt.{emits_built}
 use Rattle.tsp_node.proofs.part.Part.ring_window.Goals as goal
 
 pub returns-clause-row : goal.returns-clause-row
 returns-clause-row g c clock =
     let x = c.args.tick in
-    Performs_untaken (Emits_more (Leading ∷ calm_sorts) refl emits_window)
-    (Performs_station refl refl refl beside_window (DatesStand_by window_rings (Emits_more (Leading ∷ calm_sorts) refl emits_window))
-    (λ past h s. MasterStands_changing window_rings (Emits_more (Leading ∷ calm_sorts) {all = turning_sorts} refl emits_window) x past c.args.self.now.master c.clear.new.self (window_changes x past) (record { slaves = c.clear.ensures.slaves; peers = c.clear.ensures.peers; rounds = c.clear.ensures.rounds }) h.master)
-    (λ past h s. ResolveStands_changed x past (window_rings x past) c.args.self.now.resolve c.clear-2.new.self ((Emits_more (Leading ∷ calm_sorts) {all = rivalless} refl emits_window).only x past) (window_changes x past) c.clear-2.ensures.many c.clear-2.ensures.none h.resolve)
+    Performs_untaken (emits_built refl built_window_rings)
+    (Performs_station refl refl refl beside_window (DatesStand_by window_rings (emits_built refl built_window_rings))
+    (λ past h s. MasterStands_changing window_rings (emits_built {all = turning_sorts} refl built_window_rings) x past c.args.self.now.master c.clear.new.self (window_changes x past) (record { slaves = c.clear.ensures.slaves; peers = c.clear.ensures.peers; rounds = c.clear.ensures.rounds }) h.master)
+    (λ past h s. ResolveStands_changed x past (window_rings x past) c.args.self.now.resolve c.clear-2.new.self ((emits_built {all = rivalless} refl built_window_rings).only x past) (window_changes x past) c.clear-2.ensures.many c.clear-2.ensures.none h.resolve)
     c.candidate_ring.ensures.row)
 
 pub invariant_of-self : goal.invariant_of-self

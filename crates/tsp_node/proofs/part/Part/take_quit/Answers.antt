@@ -2,15 +2,16 @@
 use Rattle.std.proofs.Common.{◌≡◌, ◌&&◌, not, true, refl}
 use Rattle.tsp_rules.specs.CommonRows.{quits}
 use Rattle.tsp_rules.specs.Guards.{is_master}
-use Rattle.tsp_rules.proofs.Emits.{Emits_more}
 use Rattle.tsp_date.proofs.KeepLemmas.{DatesAside_by}
 use Rattle.tsp_master.specs.Clearing.{Clears}
 use Rattle.tsp_node.specs.Unmarking.{Unmarks}
 use Rattle.tsp_node.specs.NodeStands.{port_with}
-use Rattle.tsp_node.proofs.EmitsRoles.{calm_sorts, emits_quits}
 use Rattle.tsp_node.proofs.HearLemmas.{roles_date}
 use Rattle.tsp_node.proofs.NodeLemmas.{Performs_heard, rivals_part, slaves_part}
 use Rattle.tsp_node.proofs.PartLemmas.{still_alike}
+use Rattle.tsp_rules.proofs.Emits.{Emits, Emits_more}
+use Rattle.tsp_rules.proofs.BuiltShared.{built_quits, quit_sorts}
+use Rattle.tsp_rules.proofs.EmitsBuilt.{emits_built}
 use Rattle.tsp_node.proofs.part.Part.take_quit.Goals as goal
 
 pub returns-clause-row : goal.returns-clause-row
@@ -19,14 +20,14 @@ returns-clause-row g c =
     let p = c.args.p in
     let m = c.args.m.now in
     let new = c.part_from.new.self in
-    let emits = emits_quits p m.number in
+    let emits : Emits quit_sorts (quits p m.number) = emits_built refl (built_quits p m.number tt) in
     let led : is_master c.args.self.now.station.role ≡ true = rw c.requires.role refl in
     let clears : Clears (is_master c.args.self.now.station.role && not (is_master new.station.role)) c.args.self.now.master new.master = rw (led, c.part_from.ensures.station) c.part_from.ensures.slaves in
     let unmarks : Unmarks (is_master c.args.self.now.station.role && not (is_master new.station.role)) c.args.self.now.resolve new.resolve = rw (led, c.part_from.ensures.station) c.part_from.ensures.rivals in
     let row = rw (← c.part_from.ensures.station, ← c.part_from.ensures.last) at c.take_quit.ensures.row in
-    Performs_heard c.part_from.ensures.dates (DatesAside_by (quits p m.number) (Emits_more calm_sorts refl emits)) (roles_date m.kind c.requires.audience)
-    (λ past h s. slaves_part (quits p m.number) (Emits_more calm_sorts refl emits) x past (port_with c.args.self.now c.args.clock.now) (port_with new c.args.clock.now) clears h s)
-    (λ past h s. rivals_part (quits p m.number) (Emits_more calm_sorts refl emits) x past (port_with c.args.self.now c.args.clock.now) (port_with new c.args.clock.now) unmarks h s)
+    Performs_heard c.part_from.ensures.dates (DatesAside_by (quits p m.number) (Emits_more quit_sorts refl emits)) (roles_date m.kind c.requires.audience)
+    (λ past h s. slaves_part (quits p m.number) (Emits_more quit_sorts refl emits) x past (port_with c.args.self.now c.args.clock.now) (port_with new c.args.clock.now) clears h s)
+    (λ past h s. rivals_part (quits p m.number) (Emits_more quit_sorts refl emits) x past (port_with c.args.self.now c.args.clock.now) (port_with new c.args.clock.now) unmarks h s)
     (λ took is. row took (rw is refl))
 
 pub invariant_of-self : goal.invariant_of-self

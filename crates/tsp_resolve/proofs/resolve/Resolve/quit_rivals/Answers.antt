@@ -8,11 +8,13 @@ use Rattle.tsp_base.proofs.PerformsLemmas.{Performs_each_more, Performs_nothing,
 use Rattle.tsp_rules.specs.ResolveRows.{quits_rivals}
 use Rattle.tsp_rules.specs.SendRows.{begins}
 use Rattle.tsp_rules.specs.Guards.{rivals_at}
-use Rattle.tsp_rules.proofs.EmitsSlave.{emits_begins}
 use Rattle.tsp_resolve.specs.Marked.{marked}
 use Rattle.tsp_resolve.proofs.MarkedLemmas.{marked-more}
 use Rattle.tsp_resolve.proofs.ResolveLemmas.{Performs_resolving_acting, rivals-marked}
 use Rattle.tsp_resolve.proofs.resolve.Resolve.quit_rivals.Goals.{then-at, else-at}
+use Rattle.tsp_rules.proofs.BuiltShared.{built_begins}
+use Rattle.tsp_rules.proofs.EmitsBuilt.{emits_built}
+use Rattle.tsp_rules.proofs.Emits.{Numbering}
 use Rattle.tsp_resolve.proofs.resolve.Resolve.quit_rivals.Goals as goal
 
 pub bounds-peers-place : goal.bounds-peers-place
@@ -40,7 +42,7 @@ loop-place-preserved g c =
           let set : get_or marks n false ≡ true = sym c.at.ensures ∙ w.if-at.true in
           let grown : marked (take (n + 1) ps) marks ≡ marked (take n ps) marks ++ p ∷ [] = more ∙ ap (λ b. marked (take n ps) marks ++ (if b then p ∷ [] else [])) set in
           record {
-            row = rw (w.station-is, w.desk-is, grown) (Performs_each_more (begins QuitKind) (marked (take n ps) marks) p inv.row (Performs_resolving_acting c.args.self.now (emits_begins QuitKind p refl) w.begin.ensures.row));
+            row = rw (w.station-is, w.desk-is, grown) (Performs_each_more (begins QuitKind) (marked (take n ps) marks) p inv.row (Performs_resolving_acting c.args.self.now (emits_built {few = Numbering ∷ []} refl (built_begins QuitKind p refl refl)) w.begin.ensures.row));
             same = rw w.station-is (record { me = w.begin.ensures.rest.me ∙ inv.same.me; peers = w.begin.ensures.rest.peers ∙ inv.same.peers });
             room = rw w.desk-is (record { spare = omega (arith, inv.room.spare, w.begin.ensures.room.spare); few = omega (arith, inv.room.few, w.begin.ensures.room.count) });
           }

@@ -1,0 +1,174 @@
+-- What follows for each row from how it is made: it keeps a port sound.
+use Rattle.std.specs.Prelude.{◌≡◌, ◌<◌, ◌^◌, ℕ, ◌+◌, ℤ, ◌-ℤ◌, Bool, true, false, List, [], ◌∷◌, map, Option, None, Some, refl}
+use Rattle.std.proofs.Common.{sym, arith, true≢false}
+use Rattle.std.proofs.Math.Nat.{mod-lt}
+use Rattle.tsp_rules.specs.Values.{Act, Boot, Took, Post, Abandon, Sample, Ring, CloseAlarm, Message, Stamp, Taken, Good, Bad, Kind, Ack, AdjTime, Date, DateReq, LoopKind, SetDate, SetDateReq, SetTime, Nothing, TimeBody, PeerId, Port, Role, Follow, Master, Request, Reply, SPAN}
+use Rattle.tsp_base.specs.Words.{Acts, Cause, MessageValue, Past, grown, others, Seen, plain, body_fits, carries_hops, carries_time, Estimate, IsMicros, IsName, Row, Sending, begun, for_each, puts, reading, word, word_after}
+use Rattle.tsp_base.proofs.LeadsLemmas.{Leads_then, Leads_nothing, Leads_each}
+use Rattle.tsp_group.specs.Groups.{group_of}
+use Rattle.tsp_rules.specs.ClockRows.{can_adjust}
+use Rattle.tsp_rules.specs.CommonRows.{master_name_in}
+use Rattle.tsp_rules.specs.GateRows.{loop_to, repost, reposts, sends_loops}
+use Rattle.tsp_rules.specs.Guards.{role_at}
+use Rattle.tsp_rules.specs.RoundRows.{Standing, abandons, close_act, closes, closes_with, corrects_by, corrects_peer, estimates, is_near, mean_by, measured_at, moves, round_at, standing}
+use Rattle.tsp_rules.specs.SendRows.{open_at, repeats}
+use Rattle.tsp_rules.proofs.Emits.{Sort}
+use Rattle.tsp_rules.proofs.Renames.{unchanged}
+use Rattle.tsp_rules.proofs.RowCodes.{Value, ANumber, ATicket, ATime, AStamp, AName, ASend, AMessage, APlace, ATaken, Owed, Leaf, Puts, Takes, Arms, Posts, ToOthers, PostsBack, PostsTime, PostsReply, PostsName, Repeats, SettimeBegins, Loops, Reposts, Asks, Samples, Adjusts, Sets, Valued, TicketAt, NextNumber, MasterName, OpenAt, is_bare, is_plain, is_timed}
+use Rattle.tsp_rules.proofs.Built.{Built, Corrects, Empty, At, Then, Either, If, Reading, ReadingValue, Each, Closes, More, Wider}
+use Rattle.tsp_rules.proofs.BuiltAnswers.{Owes}
+use Rattle.tsp_promises.specs.Sound.{AreSound, IsSound, IsSoundAct, IsSoundTaken, SoundPast}
+use Rattle.tsp_promises.proofs.MeanFacts.{correction_time}
+use Rattle.tsp_promises.proofs.SoundFacts.{IsSoundEstimate, estimate_sound, kept_sound, no_name, open_sound, time_sound}
+use Rattle.tsp_promises.proofs.SoundRows.{Soundly, bare_sound, sound_act, sound_adjusts, sound_arms, sound_asks, sound_begins_settime, sound_either, sound_posts, sound_posts_back, sound_posts_time, sound_posts_to_others, sound_puts, sound_reading, sound_replies, sound_sets, ticket_small}
+
+-- the ranges of the values in acts
+abbrev pub InRange : Value → Type 0
+InRange (ANumber n) = n < 2 ^ 16
+InRange (ATicket n) = n < 32768
+InRange (ATime t) = IsMicros t
+InRange (AStamp word counter) = (word < 2 ^ 64) × (counter < 2 ^ 64)
+InRange (AName name) = IsName name
+InRange (ASend None) = Unit {0}
+InRange (ASend (Some s)) = IsSound (Message s.message)
+InRange (AMessage m) = IsSound (Message m)
+InRange (APlace from) = Unit {0}
+InRange (ATaken t) = IsSoundTaken t
+
+abbrev pub ranges_owed : Owed
+ranges_owed = record { of = InRange; zero = omega arith; near = λ p. tt }
+
+-- what is sound owes nothing more
+pub taken_ranges : (t : Taken) → IsSoundTaken t → Owes ranges_owed t
+taken_ranges (Bad fault) s = tt
+taken_ranges (Good (Message m)) s = (s.0, time_sound m.body s.3)
+taken_ranges (Good (Stamp (Request word counter))) s = s
+taken_ranges (Good (Stamp (Reply r))) s = s.2.small
+
+bare-fits : (k : Kind) → is_bare k ≡ true → body_fits k Nothing ≡ true
+unfolding body_fits carries_time carries_hops
+bare-fits AdjTime e = absurd (true≢false (sym e))
+bare-fits SetTime e = absurd (true≢false (sym e))
+bare-fits Date e = absurd (true≢false (sym e))
+bare-fits DateReq e = absurd (true≢false (sym e))
+bare-fits SetDate e = absurd (true≢false (sym e))
+bare-fits SetDateReq e = absurd (true≢false (sym e))
+bare-fits LoopKind e = absurd (true≢false (sym e))
+bare-fits _ e = refl
+
+timed-fits : (k : Kind) (t : ℤ) → is_timed k ≡ true → body_fits k (TimeBody t) ≡ true
+unfolding body_fits carries_time
+timed-fits AdjTime t e = refl
+timed-fits SetTime t e = refl
+timed-fits Date t e = refl
+timed-fits DateReq t e = refl
+timed-fits SetDate t e = refl
+timed-fits SetDateReq t e = refl
+timed-fits _ t e = absurd (true≢false (sym e))
+
+plain-stays : (a : Act) → is_plain a ≡ true → (c : Cause) (n : ℕ) → word_after (Acts a) c n ≡ n
+plain-stays Boot e c n = absurd (true≢false (sym e))
+plain-stays _ e c n = refl
+
+plain-sound : (a : Act) → is_plain a ≡ true → IsSoundAct a
+plain-sound (Took from t) e = absurd (true≢false (sym e))
+plain-sound (Post to datagram) e = absurd (true≢false (sym e))
+plain-sound (Sample p counter diff err ticket) e = absurd (true≢false (sym e))
+plain-sound _ e = tt
+
+loop-sound : (q : Port) (ps : List PeerId) (x : ℕ) (past : Past) → q.0 < 2 ^ 16 → SoundPast past → SoundPast (grown x past (map (loop_to q past.name) ps))
+unfolding body_fits carries_time carries_hops
+loop-sound q [] x past few s = s
+loop-sound q (p ∷ ps) x past few s = loop-sound q ps x (grown x past (loop_to q past.name p ∷ [])) few (sound_act x past (loop_to q past.name p) (λ c n. refl) (few, refl, s.name, omega arith) s)
+
+repost-sound : (m : MessageValue) (ps : List PeerId) (x : ℕ) (past : Past) → IsSound (Message m) → SoundPast past → SoundPast (grown x past (map (repost m) ps))
+repost-sound m [] x past sound s = s
+repost-sound m (p ∷ ps) x past sound s = repost-sound m ps x (grown x past (repost m p ∷ [])) sound (sound_act x past (repost m p) (λ c n. refl) sound s)
+
+leaf-sound : {few : List Sort} {k c : ℕ} {r r' : Row} → Leaf unchanged ranges_owed few k c r r' → Soundly r
+unfolding repeats sends_loops reposts
+leaf-sound (Puts a plain) = sound_puts a (plain-stays a plain) (plain-sound a plain)
+leaf-sound (Takes from t is) = sound_puts _ (λ c n. refl) is
+leaf-sound (Arms alarm long) = sound_arms alarm long
+leaf-sound (Posts p kind number is fits) = sound_posts p kind number (bare-fits kind fits) is
+leaf-sound (ToOthers kind fits) = sound_posts_to_others kind 0 (bare-fits kind fits) (omega arith)
+leaf-sound (PostsBack from kind number back is fits) = sound_posts_back from kind number (bare-fits kind fits) is
+leaf-sound (PostsTime p kind number time is timely fits) = sound_posts_time p kind number time (timed-fits kind time fits) is timely
+leaf-sound (PostsReply from word counter back is) = sound_replies from word counter is.0 is.1
+leaf-sound (PostsName from number name back is named) = sound_puts _ (λ c n. refl) (bare_sound Ack number name (bare-fits Ack refl) is named)
+leaf-sound (Repeats p s is) = sound_puts _ (λ c n. refl) is
+leaf-sound (SettimeBegins p number is) = sound_begins_settime p number is
+leaf-sound (Loops q is) = record { run = λ x past s. loop-sound q (others past.own past.peers) x past is s }
+leaf-sound (Reposts msg is) = record { run = λ x past s. repost-sound msg (others past.own past.peers) x past is s }
+leaf-sound (Asks p) = sound_asks p
+leaf-sound (Samples p r a d is) = sound_puts _ (λ c n. refl) is
+leaf-sound (Adjusts amount) = sound_adjusts amount
+leaf-sound (Sets value) = sound_sets value
+
+name-sound : (r : Role) (own kept : List ℕ) → IsName own → IsName kept → IsName (master_name_in r own kept)
+name-sound Master own kept a b = a
+name-sound (Follow q) own kept a b = b
+name-sound _ own kept a b = no_name
+
+send-sound : (p : PeerId) (past : Past) → SoundPast past → (s : Option Sending) → open_at p 0 past ≡ s → InRange (ASend s)
+send-sound p past h None e = tt
+send-sound p past h (Some s) e = open_sound p past.seen s h.acts e
+
+value-sound : {A : Type 0} {f : A → A} {value : A → Value} {fact fact' : ℕ → Past → A} → Valued unchanged A f value fact fact' → (x : ℕ) (past : Past) → SoundPast past → InRange (value (fact x past))
+value-sound TicketAt x past h = let small = ticket_small x past in omega (arith, small)
+value-sound NextNumber x past h = let small = mod-lt (word (plain past.seen) + begun past.seen) {m = 32768} (omega arith) in omega (arith, small)
+value-sound MasterName x past h = name-sound (role_at x past) past.name _ h.name (kept_sound past.seen h.acts)
+value-sound (OpenAt p) x past h = send-sound p past h (open_at p x past) refl
+
+reading-sound : {A : Type 0} {f : A → A} {value : A → Value} {fact fact' : ℕ → Past → A} (rows : A → Row) → Valued unchanged A f value fact fact' → ((a : A) → InRange (value a) → Soundly (rows a)) → Soundly (reading fact rows)
+unfolding reading
+reading-sound {fact = fact} rows f k = record { run = λ x past h. (k (fact x past) (value-sound f x past h)).run x past h }
+
+-- what a round has come to is sound
+abbrev AreSoundStandings : List Standing → Type 0
+AreSoundStandings [] = Unit {0}
+AreSoundStandings (s ∷ rest) = IsSoundEstimate s.best × AreSoundStandings rest
+
+standings-sound : (seen : List Seen) (ps : List PeerId) → AreSound seen → AreSoundStandings (map (standing seen) ps)
+standings-sound seen [] h = tt
+standings-sound seen (p ∷ ps) h = (estimate_sound p seen h, standings-sound seen ps h)
+
+correct-owed : (mean : ℤ) (best : Option Estimate) → ((diff : ℤ) → is_near diff ≡ true → IsMicros (mean -ℤ diff)) → IsSoundEstimate best → Corrects ranges_owed mean best
+correct-owed mean None time h = tt
+correct-owed mean (Some b) time h = (omega (arith, h), time b.diff)
+
+module _ (own : Bool) (moved : (mean : ℤ) → Soundly (moves own mean)) (corrected : (mean : ℤ) (p : PeerId) (best : Option Estimate) → Corrects ranges_owed mean best → Soundly (corrects_by mean p best)) where
+  each-sound : (mean : ℤ) (round : List Standing) → ((diff : ℤ) → is_near diff ≡ true → IsMicros (mean -ℤ diff)) → AreSoundStandings round → Soundly (for_each (corrects_peer mean) round)
+  unfolding for_each corrects_peer
+  each-sound mean [] time h = Leads_nothing
+  each-sound mean (s ∷ rest) time h = Leads_then (corrects_peer mean s) (for_each (corrects_peer mean) rest) (corrected mean s.peer s.best (correct-owed mean s.best time h.0)) (each-sound mean rest time h.1)
+
+  closes-with-sound : (round : List Standing) → AreSoundStandings round → Soundly (closes own round)
+  unfolding closes closes_with abandons
+  closes-with-sound round h =
+      let g = group_of SPAN (estimates round) in
+      let mean = mean_by own g in
+      Leads_then (puts (Ring CloseAlarm)) _ (sound_puts (Ring CloseAlarm) (λ c n. refl) tt)
+      (sound_either (can_adjust mean) _ (puts Abandon)
+      (Leads_then (puts (close_act own g)) _ (sound_puts (close_act own g) (λ c n. refl) tt)
+      (Leads_then (moves own mean) (for_each (corrects_peer mean) round) (moved mean) (each-sound mean round (λ diff e. correction_time own SPAN round diff e) h)))
+      (sound_puts Abandon (λ c n. refl) tt))
+
+  closes-sound : Soundly (reading round_at (closes own))
+  unfolding reading
+  closes-sound = record { run = λ x past h. (closes-with-sound (round_at x past) (standings-sound past.seen (measured_at x past) h.acts)).run x past h }
+
+-- a row keeps a port sound
+pub sound_built : {sorts : List Sort} {k c : ℕ} {r r' : Row} → Built unchanged ranges_owed sorts k c r r' → Soundly r
+sound_built Empty = Leads_nothing
+sound_built (At leaf e) = leaf-sound leaf
+sound_built (Then d e) = Leads_then _ _ (sound_built d) (sound_built e)
+sound_built (Either t d e) = sound_either _ _ _ (sound_built d) (sound_built e)
+sound_built (If true b' same d e) = sound_built (d refl)
+sound_built (If false b' same d e) = sound_built e
+sound_built (Reading rows f d) = sound_reading _ _ (λ a. sound_built (d a))
+sound_built (ReadingValue rows f d) = reading-sound _ f (λ a is. sound_built (d a is))
+sound_built (Each row l d) = sound_reading _ _ (λ ps. Leads_each _ ps (λ p. sound_built (d p)))
+sound_built (Closes own e moved corrected) = closes-sound own (λ mean. sound_built (moved mean)) (λ mean p best is. sound_built (corrected mean p best is))
+sound_built (More d le) = sound_built d
+sound_built (Wider e d) = sound_built d

@@ -1,0 +1,110 @@
+-- What follows for each row over ports from how it is made: it keeps a node sound.
+use Rattle.std.specs.Prelude.{◌<◌, ◌≤◌, ◌^◌, ℕ, ◌-◌, ◌==◌, ◌||◌, Bool, true, false, if◌then◌else◌, List, [], ◌∷◌, ◌++◌, length, All}
+use Rattle.std.proofs.Common.{sym, subst, arith, append-nil}
+use Rattle.std.proofs.lemmas.List.Elements.{All-head, All-tail}
+use Rattle.tsp_rules.specs.Values.{Act, Abandon, Placed, Port}
+use Rattle.tsp_base.specs.Words.{Step, Acts, Line, dids, is_shared, plain, seen_as, view, joined, line_of, IsName, word, is_going, Row, grown, placed}
+use Rattle.tsp_base.proofs.Views.{plain_view}
+use Rattle.tsp_rules.specs.NodeRows.{NodePast, NodeRow, on_port, spread, nothing_at_all, on, for_ports, abandons_on, stirring}
+use Rattle.tsp_rules.specs.RoundRows.{corrects}
+use Rattle.tsp_rules.proofs.NodeRowLemmas.{view_own, spread_append}
+use Rattle.tsp_promises.specs.Sound.{IsSoundAct, IsSoundDeed, AreSound, SoundPast}
+use Rattle.tsp_promises.proofs.GateFacts.{LeadsAll, All_after}
+use Rattle.tsp_promises.proofs.PortLists.{Ranged}
+use Rattle.tsp_promises.proofs.SoundBuilt.{sound_built}
+use Rattle.tsp_promises.proofs.SoundRows.{Soundly}
+use Rattle.tsp_promises.proofs.SoundSteps.{acts_sound}
+use Rattle.tsp_rules.proofs.BuiltAll.{BuiltAll, EmptyAll, ForPorts, MoreAll, On, PortsOf, ReadingAll, StirringAll, ThenAll, WhereAll}
+use Rattle.tsp_promises.proofs.SoundBuilt.{ranges_owed}
+use Rattle.tsp_promises.proofs.PortLists.{listed_ranged}
+
+-- each deed of a node is sound
+abbrev pub AreSoundLines : List Line → Type 0
+AreSoundLines [] = Unit {0}
+AreSoundLines (l ∷ before) = IsSoundDeed l.did.deed × AreSoundLines before
+
+-- a node whose name is one, which booted with a word of 64 bits, has at most four ports, and whose deeds are sound
+pub record SoundNode (past : NodePast) : Type 0 where
+  pub name : IsName past.name
+  pub word_fits : word (dids past.lines) < 2 ^ 64
+  pub ports : length past.ports ≤ 4
+  pub lines : AreSoundLines past.lines
+
+abbrev pub SoundAll : ℕ → NodePast → Type 0
+SoundAll x past = SoundNode past
+
+-- a row keeps a node sound
+abbrev pub SoundlyAll : NodeRow → Type 0
+SoundlyAll row = LeadsAll SoundAll row SoundAll
+
+view-sound : (q : Port) (lines : List Line) → AreSoundLines lines → AreSound (view q lines)
+view-sound q [] s = tt
+view-sound q (l ∷ before) s = by_case ((l.port.0 == q.0) || is_shared l.did.deed) (view-sound q before s.1) where
+  by_case : (b : Bool) → AreSound (view q before) → AreSound (seen_as b l.did ∷ view q before)
+  by_case true more = (s.0, more)
+  by_case false more = more
+
+-- so is each of its ports
+pub sound_port : (q : Port) (past : NodePast) → SoundNode past → SoundPast (on_port q past)
+sound_port q past s = record { name = s.name; word_fits = subst (λ d. word d < 2 ^ 64) (sym (plain_view q past.lines)) s.word_fits; acts = view-sound q past.lines s.lines }
+
+joined-sound : (step : Step) (x : ℕ) (q : Port) (acts : List Act) (lines : List Line) → All IsSoundAct acts → AreSoundLines lines → AreSoundLines (joined step x (placed q acts) lines)
+joined-sound step x q [] lines a s = s
+joined-sound step x q (a ∷ rest) lines k s = joined-sound step x q rest (line_of step x q (Acts a) ∷ lines) (All-tail IsSoundAct a rest k) (All-head IsSoundAct a rest k, s)
+
+sound-on : (q : Port) (row : Row) → Soundly row → SoundlyAll (on q row)
+unfolding on
+sound-on q row k = record {
+  run = λ x past s.
+      let acts : List Act = row x (on_port q past) in
+      let after : SoundPast (grown x (on_port q past) acts) = k.run x (on_port q past) (sound_port q past s) in
+      let lines = joined past.step x (placed q acts) past.lines in
+      record {
+        name = s.name;
+        word_fits = subst (λ d. word d < 2 ^ 64) (plain_view q lines) (subst (λ v. word (plain v) < 2 ^ 64) (sym (view_own q past.step x acts past.lines)) after.word_fits);
+        ports = s.ports;
+        lines = joined-sound past.step x q acts past.lines (acts_sound past.step x acts (view q past.lines) after.acts) s.lines;
+      };
+}
+
+sound-nothing : SoundlyAll nothing_at_all
+unfolding nothing_at_all
+sound-nothing = record { run = λ x past s. s }
+
+sound-list : (r : Port → NodeRow) (n : ℕ) (ports : List Port) → Ranged n ports → ((q : Port) → q.0 < n → SoundlyAll (r q)) → SoundlyAll (for_ports r ports)
+unfolding for_ports
+sound-list r n [] ranged k = sound-nothing
+sound-list r n (q ∷ rest) ranged k = All_after (r q) (for_ports r rest) (k q ranged.0) (sound-list r n rest ranged.1 k)
+
+sound-abandons : (q : Port) → SoundlyAll (abandons_on q)
+unfolding abandons_on
+sound-abandons q = record { run = λ x past s. by_case x past s (is_going (view q past.lines)) } where
+  by_case : (x : ℕ) (past : NodePast) → SoundNode past → (b : Bool) → SoundNode (spread x past (if b then record { port = q; act = Abandon } ∷ [] else []))
+  by_case x past s true = record { name = s.name; word_fits = s.word_fits; ports = s.ports; lines = (tt, s.lines) }
+  by_case x past s false = s
+
+sound-stirring : (q : Port) (ports : NodePast → List Port) (row : Row) → PortsOf ports → Soundly row → SoundlyAll (λ x past. stirring q (ports past) row x past)
+unfolding stirring on
+sound-stirring q ports row l k = record { run = λ x past s. by_case x past ((sound-on q row k).run x past s) (corrects (row x (on_port q past))) } where
+  by_case : (x : ℕ) (past : NodePast) → SoundNode (spread x past (placed q (row x (on_port q past)))) → (b : Bool) →
+      SoundNode (spread x past (placed q (row x (on_port q past)) ++ (if b then for_ports abandons_on (ports past) x (spread x past (placed q (row x (on_port q past)))) else [])))
+  by_case x past first true =
+      let acts : List Placed = placed q (row x (on_port q past)) in
+      subst (λ z. SoundNode z) (sym (spread_append x past acts (for_ports abandons_on (ports past) x (spread x past acts)))) ((sound-list abandons_on (length past.ports) (ports past) (listed_ranged past l) (λ r has. sound-abandons r)).run x (spread x past acts) first)
+  by_case x past first false = subst (λ acts. SoundNode (spread x past acts)) (sym (append-nil (placed q (row x (on_port q past))))) first
+
+sound-where : (test : NodePast → Bool) (row : NodeRow) → SoundlyAll row → SoundlyAll (λ x past. if test past then row x past else [])
+sound-where test row k = record { run = λ x past s. elim (test past) as (λ b. SoundNode (spread x past (if b then row x past else []))) [ true ↦ k.run x past s | false ↦ s ] }
+
+-- a row over ports keeps a node sound
+pub sound_all_built : {has : Port → Type 0} {k c : ℕ} {row : NodeRow} → ((q : Port) → q.0 < 4 → has q) → BuiltAll ranges_owed has k c row → SoundlyAll row
+sound_all_built few EmptyAll = sound-nothing
+sound_all_built few (On {row = row} q is d) = sound-on q row (sound_built d)
+sound_all_built few (ThenAll d e) = All_after _ _ (sound_all_built few d) (sound_all_built few e)
+sound_all_built few (ReadingAll known fact holds d) = record { run = λ x past s. (sound_all_built few (d (fact x past) (holds x past))).run x past s }
+sound_all_built few (WhereAll {row = row} test d) = sound-where test row (sound_all_built few d)
+sound_all_built few (ForPorts {ports = ports} {row = row} l d) = record {
+  run = λ x past s. (sound-list row (length past.ports) (ports past) (listed_ranged past l) (λ q lt. sound_all_built few (d q (few q (let most = s.ports in omega (arith, lt, most)))))).run x past s;
+}
+sound_all_built few (StirringAll {ports = ports} {row = row} q is l d) = sound-stirring q ports row l (sound_built d)
+sound_all_built few (MoreAll d le) = sound_all_built few d
