@@ -40,7 +40,7 @@ pub returns-in-MasterAck-clause-row : goal.returns-in-MasterAck-clause-row
 returns-in-MasterAck-clause-row g c =
     let p = c.args.p in
     let ack : c.args.m.now.kind ≡ MasterAck = sym c.kind.ensures ∙ c.in-MasterAck.is in
-    rw (master_masterack p c.args.m.now ack) (Performs_took (Performs_resolved refl refl refl refl (Emits_more (Rivalling ∷ []) refl (emits_finds p)) (Emits_more (Rivalling ∷ []) refl (emits_finds p)) (DatesStand_by (finds_rival p) (Emits_more (Rivalling ∷ []) refl (emits_finds p))) (c.rival.ensures.row c.args.tick)))
+    rw (master_masterack p c.args.m.now ack) (Performs_took (Performs_resolved refl refl refl refl (Emits_more (Rivalling ∷ []) refl (emits_finds p)) (Emits_more (Rivalling ∷ []) refl (emits_finds p)) (DatesStand_by (finds_rival p) (Emits_more (Rivalling ∷ []) refl (emits_finds p))) (c.rival.ensures.row c.requires.role c.args.tick)))
 
 pub returns-in_default-clause-row : goal.returns-in_default-clause-row
 unfolding master_takes master_takes_here
