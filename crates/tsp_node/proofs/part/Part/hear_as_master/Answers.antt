@@ -48,7 +48,7 @@ returns-in_default-clause-row g c =
     let p = c.args.p in
     let m = c.args.m.now in
     let other = c.in_default in
-    let take = c.take.ensures.row in
+    let take = c.take.ensures.row c.requires.role in
     rw (master_takes-other p m m.kind (roles_other m.kind c.requires.audience) (λ e. other.not-Quit (c.kind.ensures ∙ e)) (λ e. other.not-MasterUp (c.kind.ensures ∙ e)) (λ e. other.not-Conflict (c.kind.ensures ∙ e)) (λ e. other.not-MasterAck (c.kind.ensures ∙ e)))
     (Performs_led refl refl refl (emits_master_takes p m) (emits_master_still p m) (DatesStand_master p m) take)
 
