@@ -26,7 +26,8 @@ impl Master {
 
     /// Handles a message of another peer at a master: a MASTERREQ or a RESOLVE is answered by a MASTERACK, a
     /// SLAVEUP makes its sender a slave and sends it the time, and an ELECTION is answered by a QUIT. Other
-    /// messages are passed over here. In this step a datagram was taken. At most two acts.
+    /// messages are passed over here. In this step a datagram was taken. At most two acts. The row is a
+    /// master's; of another role nothing is said.
     pub fn take<D: Desk>(
         &mut self,
         station: &mut Station,
@@ -39,8 +40,8 @@ impl Master {
     )
         requires ready { MayServe from tick (lead_of self.old station.old clock.now) }
         requires room { 2 ≤ D.spare desk.old }
-        requires role { station.old.role ≡ MasterRole }
-        ensures row { Performs LeadStands LeadStands (master_takes_here from m.now) tick port
+        ensures row { station.old.role ≡ MasterRole
+            → Performs LeadStands LeadStands (master_takes_here from m.now) tick port
             (lead_of self.old station.old clock.now) (lead_of self.new station.new clock.now)
             (D.acts desk.old) (D.acts desk.new) }
         ensures room { UsesAtMost 2 D.spare D.acts desk.old desk.new }
@@ -70,8 +71,8 @@ impl Master {
     )
         requires ready { MayServe peer at.tick (lead_of self.old station.old clock.now) }
         requires room { 2 ≤ D.spare desk.old }
-        requires role { station.old.role ≡ MasterRole }
-        ensures row { Performs LeadStands LeadStands (joins peer m.now.number) at.tick at.port
+        ensures row { station.old.role ≡ MasterRole
+            → Performs LeadStands LeadStands (joins peer m.now.number) at.tick at.port
             (lead_of self.old station.old clock.now) (lead_of self.new station.new clock.now)
             (D.acts desk.old) (D.acts desk.new) }
         ensures room { UsesAtMost 2 D.spare D.acts desk.old desk.new }

@@ -198,43 +198,14 @@ next-round {here} {before} is long = record { spaced = λ start idle e. began st
 pub closes-at : {here : Did} {before : List Seen} → role before ≡ Master → before ≡ Here (did_in before) ∷ rest_of before → (did_in before).deed ≡ Acts (Ring CloseAlarm) → is_going (rest_of before) ≡ true →
     started before ≡ Here (did_in (started before)) ∷ rest_of (started before) → (did_in (started before)).tick + CLOSE ≤ here.tick → here.tick ≤ (did_in (started before)).tick + (CLOSE + SLACK) →
     Undisturbed (plain (rest_of (started before))) (plain before) → CloseFits here before
-closes-at {here} {before} leads is rings going start_is over soon undisturbed = record {
-  leads = leads;
-  ring = did_in before;
-  past = rest_of before;
-  is = is;
-  rings = rings;
-  going = going;
-  start = did_in (started before);
-  idle = rest_of (started before);
-  start_is = start_is;
-  over = over;
-  soon = soon;
-  undisturbed = undisturbed;
-}
+closes-at {here} {before} leads is rings going start_is over soon undisturbed = record { leads = leads; ring = did_in before; past = rest_of before; is = is; rings = rings; going = going; start = did_in (started before); idle = rest_of (started before); start_is = start_is; over = over; soon = soon; undisturbed = undisturbed }
 
 -- a Sample of the reply that the step took
 pub samples-at : {here : Did} {before : List Seen} {p : PeerId} {counter number : ℕ} {diff err : ℤ} → started before ≡ Here (did_in (started before)) ∷ rest_of (started before) → Undisturbed (plain (rest_of (started before))) (plain before) → is_going before ≡ true →
     exchange p counter before ≡ Here (did_in (exchange p counter before)) ∷ rest_of (exchange p counter before) → Receives before p (Stamp (Reply (reply_in (taken before)))) → (reply_in (taken before)).word ≡ word (plain before) → (reply_in (taken before)).counter ≡ counter →
     number ≡ (reply_in (taken before)).ticket → diff ≡ sample_diff (target (plain (rest_of (exchange p counter before))) (did_in (exchange p counter before)).tick) (reply_in (taken before)).reading (target (plain before) here.tick) →
     err ≡ sample_err (target (plain (rest_of (exchange p counter before))) (did_in (exchange p counter before)).tick) (target (plain before) here.tick) → SampleFits here before p counter diff err number
-samples-at {here} {before} {p} {counter} start_is undisturbed going exchange_is took word_is counter_is number diff err = record {
-  start = did_in (started before);
-  idle = rest_of (started before);
-  start_is = start_is;
-  undisturbed = undisturbed;
-  going = going;
-  post = did_in (exchange p counter before);
-  older = rest_of (exchange p counter before);
-  exchange_is = exchange_is;
-  reply = reply_in (taken before);
-  took = took;
-  word_is = word_is;
-  counter_is = counter_is;
-  number_is = number;
-  diff_is = diff;
-  err_is = err;
-}
+samples-at {here} {before} {p} {counter} start_is undisturbed going exchange_is took word_is counter_is number diff err = record { start = did_in (started before); idle = rest_of (started before); start_is = start_is; undisturbed = undisturbed; going = going; post = did_in (exchange p counter before); older = rest_of (exchange p counter before); exchange_is = exchange_is; reply = reply_in (taken before); took = took; word_is = word_is; counter_is = counter_is; number_is = number; diff_is = diff; err_is = err }
 
 -- the last Back was long ago, or of the same candidate
 pub holds-at : {now a x : ℕ} {b q p : PeerId} → ◌≡◌ {A = Option (ℕ × PeerId)} (Some (a, b)) (Some (x, q)) → (b ≡ p) ⊎ (a + HOLD ≤ now) → (q ≡ p) ⊎ (x + HOLD ≤ now)

@@ -1,8 +1,8 @@
 -- A round that a Correct ends without an ADJTIME: the ACK of the SETTIME before it doesn't come.
-use Rattle.std.specs.Prelude.{◌-◌, true, false, ℕ, ℤ, pos, negsuc, List, [], ◌∷◌, refl}
+use Rattle.std.specs.Prelude.{◌-◌, true, false, ℕ, pos, negsuc, List, [], ◌∷◌, refl}
 use Rattle.std.proofs.Common.{arith}
 use Rattle.std.proofs.lemmas.Int.{ints}
-use Rattle.tsp_rules.specs.Values.{Post, Arm, Ring, Close, Correct, Sample, Round, CloseAlarm, Message, Stamp, SetTime, TimeBody, Peer, Request, Reply}
+use Rattle.tsp_rules.specs.Values.{Post, Arm, Ring, Close, Correct, Sample, Round, CloseAlarm, Stamp, SetTime, TimeBody, Peer, Request, Reply}
 use Rattle.tsp_base.specs.Words.{Came, Line, Turned, of, peer_of, view}
 use Rattle.tsp_group.specs.Groups.{better, goes_before, group_from}
 use Rattle.tsp_promises.specs.EstimatesUse.{EndedUse}

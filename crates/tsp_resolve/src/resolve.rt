@@ -66,13 +66,13 @@ impl Resolve {
     }
 
     /// A peer answers that it is a master. While answers are waited for, it is noted as a rival, unless it is
-    /// one already. It puts at most one act.
+    /// one already. It puts at most one act. The row is a master's; of another role nothing is said.
     pub fn rival<D: Desk>(&mut self, station: &Station, from: PeerId, port: Port, desk: &mut D)
         requires room { 1 ≤ D.spare desk.old }
         requires many { length self.old.marks ≡ length station.now.peers }
         requires peer { Contains station.now.peers from }
-        requires role { station.now.role ≡ Master }
-        ensures row { (x : ℕ) → Performs ResolvingStands ResolvingStands (finds_rival from) x port
+        ensures row { station.now.role ≡ Master → (x : ℕ)
+            → Performs ResolvingStands ResolvingStands (finds_rival from) x port
             (resolving self.old station.now) (resolving self.new station.now)
             (D.acts desk.old) (D.acts desk.new) }
         ensures many { length self.new.marks ≡ length self.old.marks }

@@ -14,7 +14,7 @@ use Rattle.tsp_master.proofs.master.Master.take.Goals as goal
 
 pub returns-in-MasterReq-clause-row : goal.returns-in-MasterReq-clause-row
 unfolding master_takes_here
-returns-in-MasterReq-clause-row g c =
+returns-in-MasterReq-clause-row g c role =
     let m = c.args.m.now in
     let k : master_takes_kind_here c.args.from m m.kind ≡ posts c.args.from MasterAck m.number = ap (master_takes_kind_here c.args.from m) (sym c.kind.ensures) ∙ master_takes_kind_here-ask c.args.from m c.kind.result c.in-MasterReq.is in
     let n : c.number.result ≡ m.number = c.number.ensures in
@@ -23,19 +23,19 @@ returns-in-MasterReq-clause-row g c =
 
 pub returns-in-SlaveUp-clause-row : goal.returns-in-SlaveUp-clause-row
 unfolding master_takes_here master_takes_kind_here
-returns-in-SlaveUp-clause-row g c =
+returns-in-SlaveUp-clause-row g c role =
     let k : c.args.m.now.kind ≡ SlaveUp = sym c.kind.ensures ∙ c.in-SlaveUp.is in
-    rw k c.join.ensures.row
+    rw k (c.join.ensures.row role)
 
 pub returns-in-Election-clause-row : goal.returns-in-Election-clause-row
 unfolding master_takes_here master_takes_kind_here
-returns-in-Election-clause-row g c =
+returns-in-Election-clause-row g c role =
     let k : c.args.m.now.kind ≡ Election = sym c.kind.ensures ∙ c.in-Election.is in
     rw k (Performs_quiet _ c.args.clock.now (emits_away c.args.from) c.send_away.ensures.row)
 
 pub returns-in_default-clause-row : goal.returns-in_default-clause-row
 unfolding master_takes_here
-returns-in_default-clause-row g c =
+returns-in_default-clause-row g c role =
     let m = c.args.m.now in
     let o = c.in_default in
     let k : master_takes_kind_here c.args.from m m.kind ≡ nothing =

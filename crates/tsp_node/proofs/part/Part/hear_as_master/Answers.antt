@@ -41,7 +41,7 @@ pub returns-in-MasterAck-clause-row : goal.returns-in-MasterAck-clause-row
 returns-in-MasterAck-clause-row g c =
     let p = c.args.p in
     let ack : c.args.m.now.kind ≡ MasterAck = sym c.kind.ensures ∙ c.in-MasterAck.is in
-    rw (master_masterack p c.args.m.now ack) (Performs_took (Performs_resolved refl refl refl refl (emits_built refl (built_finds_rival p)) (emits_built refl (built_finds_rival p)) (DatesStand_by (finds_rival p) (emits_built refl (built_finds_rival p))) (c.rival.ensures.row c.args.tick)))
+    rw (master_masterack p c.args.m.now ack) (Performs_took (Performs_resolved refl refl refl refl (emits_built refl (built_finds_rival p)) (emits_built refl (built_finds_rival p)) (DatesStand_by (finds_rival p) (emits_built refl (built_finds_rival p))) (c.rival.ensures.row c.requires.role c.args.tick)))
 
 pub returns-in_default-clause-row : goal.returns-in_default-clause-row
 unfolding master_takes master_takes_here
@@ -49,7 +49,7 @@ returns-in_default-clause-row g c =
     let p = c.args.p in
     let m = c.args.m.now in
     let other = c.in_default in
-    let take = c.take.ensures.row in
+    let take = c.take.ensures.row c.requires.role in
     rw (master_takes-other p m m.kind (roles_other m.kind c.requires.audience) (λ e. other.not-Quit (c.kind.ensures ∙ e)) (λ e. other.not-MasterUp (c.kind.ensures ∙ e)) (λ e. other.not-Conflict (c.kind.ensures ∙ e)) (λ e. other.not-MasterAck (c.kind.ensures ∙ e)))
     (Performs_led refl refl refl (emits_built refl (built_master_takes_here p m tt)) (emits_built refl (built_master_takes_here p m tt)) (DatesStand_by (master_takes_here p m) (emits_built refl (built_master_takes_here p m tt))) take)
 
