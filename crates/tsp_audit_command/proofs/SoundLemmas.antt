@@ -42,9 +42,9 @@ FitAtHand-more header passed [] lines l h f = absurd f
 FitAtHand-more header passed (e ∷ rest) lines l h f = FitSoFar-more (FitsNext header passed) e untold lines l h f
 
 -- nothing is claimed yet
-pub Sound-begun : (header : HeaderValue) (events : List Event) (claims : Claims) (ends : List ℕ) (pending : List Line2) (tally : Tally) (premises : Premises) → IsAudited header → AreListed (length header.nodes) events → ClaimsStand header [] claims →
-    ends ≡ [] → pending ≡ [] → tally ≡ untold → premises ≡ premises_of header [] → Sound header events claims ends pending tally premises
-Sound-begun header events claims ends pending tally premises audited listed stand ends_are pending_is tally_is premises_are =
+pub Sound-begun : (header : HeaderValue) (events : List Event) (claims : Claims) (ends : List ℕ) (pending : List Line2) (premises : Premises) → IsAudited header → AreListed (length header.nodes) events → ClaimsStand header [] claims →
+    ends ≡ [] → pending ≡ [] → claims.tally ≡ untold → premises ≡ premises_of header [] → Sound header events claims ends pending premises
+Sound-begun header events claims ends pending premises audited listed stand ends_are pending_is tally_is premises_are =
     let none : claims_on events ends claims ≡ [] = ap (λ (t : List ℕ). claims_on events t claims) ends_are in
     let no_ends = ap (λ (t : List ℕ). length t) ends_are in
     let no_pending = ap (λ (t : List Line2). length t) pending_is in
@@ -71,7 +71,7 @@ view-begun header events claims ends pending stand ends_are pending_is =
     ap (λ (h : HeaderValue). value h (claims_on events ends claims) pending (drop (length ends) events)) stand.header_is
     ∙ (ap (λ (t : List ℕ). value header (claims_on events t claims) pending (drop (length t) events)) ends_are ∙ ap (λ (ls : List Line2). value header [] ls events) pending_is)
 
-module _ (header : HeaderValue) (events : List Event) (claims : Claims) (ends : List ℕ) (pending : List Line2) (tally : Tally) (premises : Premises) (s : Sound header events claims ends pending tally premises) where
+module _ (header : HeaderValue) (events : List Event) (claims : Claims) (ends : List ℕ) (pending : List Line2) (premises : Premises) (s : Sound header events claims ends pending premises) where
   -- as many events were taken in as were passed
   pub passed-count : claims.events ≡ length ends
   passed-count = s.stand.count ∙ sym s.ends_at.many
@@ -80,12 +80,12 @@ module _ (header : HeaderValue) (events : List Event) (claims : Claims) (ends : 
   few-passed l = let few = s.listed.0 in omega (arith, passed-count, few, l)
 
   -- lines claim few posts
-  pub few-posts : tally.posts < 2 ^ 32
+  pub few-posts : claims.tally.posts < 2 ^ 32
   few-posts = let many = tallied-posts untold pending in let is = ap (λ (t : Tally). t.posts) s.tally_is in let few = s.few_lines in omega (arith, many, is, few)
 
   module _ (e : Event) (at : slice_get events (length ends) ≡ Some e) where
     -- its lines fit, where it lacks nothing
-    pub at-fit : lacks e tally ≡ false → Fit header (claims_on events ends claims) e pending
+    pub at-fit : lacks e claims.tally ≡ false → Fit header (claims_on events ends claims) e pending
     at-fit none = AllFit-so-far (FitsNext header (claims_on events ends claims)) e untold pending
         (subst (λ es. FitAtHand header (claims_on events ends claims) es pending) (ahead-at events (length ends) e at) s.at_hand)
         (subst (λ t. lacks e t ≡ false) s.tally_is none)
@@ -94,13 +94,13 @@ module _ (header : HeaderValue) (events : List Event) (claims : Claims) (ends : 
     at-listed = subst (λ x. IsListed (length header.nodes) x) (get_or_from_slice_get events (length ends) e e at) (s.listed.1 (length ends) e (slice_get_within events (length ends) e at))
 
     -- it is passed
-    pub claims-passed : lacks e tally ≡ false → (now : Claims) (more : List ℕ) (n : ℕ) → ClaimsStand header (claim_of e pending ∷ claims_on events ends claims) now → more ≡ ends ++ n ∷ [] → claims_on events more now ≡ (claim_of e pending ∷ claims_on events ends claims)
+    pub claims-passed : lacks e claims.tally ≡ false → (now : Claims) (more : List ℕ) (n : ℕ) → ClaimsStand header (claim_of e pending ∷ claims_on events ends claims) now → more ≡ ends ++ n ∷ [] → claims_on events more now ≡ (claim_of e pending ∷ claims_on events ends claims)
     claims-passed none now more n stand more_is = claims_on-more header events claims now ends more e pending n at s.stand stand s.last_end (at-fit none) more_is
 
-    pub Sound-passed : lacks e tally ≡ false → (now : Claims) (more : List ℕ) (n : ℕ) (left : List Line2) (fresh : Tally) (kept : Premises) → ClaimsStand header (claim_of e pending ∷ claims_on events ends claims) now →
-        more ≡ ends ++ n ∷ [] → n ≡ length (claimed header (claim_of e pending ∷ claims_on events ends claims)) → left ≡ [] → fresh ≡ untold →
-        kept ≡ kept_with premises (reverse (take (length ends) events)) (posts_of header (claims_on events ends claims)) e → Sound header events now more left fresh kept
-    Sound-passed none now more n left fresh kept stand more_is n_is left_is fresh_is kept_is =
+    pub Sound-passed : lacks e claims.tally ≡ false → (now : Claims) (more : List ℕ) (n : ℕ) (left : List Line2) (kept : Premises) → ClaimsStand header (claim_of e pending ∷ claims_on events ends claims) now →
+        more ≡ ends ++ n ∷ [] → n ≡ length (claimed header (claim_of e pending ∷ claims_on events ends claims)) → left ≡ [] → now.tally ≡ untold →
+        kept ≡ kept_with premises (reverse (take (length ends) events)) (posts_of header (claims_on events ends claims)) e → Sound header events now more left kept
+    Sound-passed none now more n left kept stand more_is n_is left_is fresh_is kept_is =
         let passed = claims_on events ends claims in
         let claims_are : claims_on events more now ≡ (claim_of e pending ∷ passed) = claims-passed none now more n stand more_is in
         let within = slice_get_within events (length ends) e at in
@@ -125,7 +125,7 @@ module _ (header : HeaderValue) (events : List Event) (claims : Claims) (ends : 
         }
 
     -- and this is how far the lines have come
-    pub view-passed : lacks e tally ≡ false → (now : Claims) (more : List ℕ) (n : ℕ) (left : List Line2) → ClaimsStand header (claim_of e pending ∷ claims_on events ends claims) now → more ≡ ends ++ n ∷ [] → left ≡ [] →
+    pub view-passed : lacks e claims.tally ≡ false → (now : Claims) (more : List ℕ) (n : ℕ) (left : List Line2) → ClaimsStand header (claim_of e pending ∷ claims_on events ends claims) now → more ≡ ends ++ n ∷ [] → left ≡ [] →
         pass_first header (claims_on events ends claims) pending (drop (length ends) events) ≡ Some (record { header = now.header; passed = claims_on events more now; told = left; ahead = drop (length more) events })
     view-passed none now more n left stand more_is left_is =
         let passed = claims_on events ends claims in
@@ -139,32 +139,46 @@ module _ (header : HeaderValue) (events : List Event) (claims : Claims) (ends : 
         ∙ ap (λ c. Some c) (ap (λ h. value h (claim_of e pending ∷ passed) [] rest) (sym stand.header_is) ∙ (ap (λ cs. value now.header cs [] rest) (sym claims_are)
         ∙ (ap (λ ls. value now.header (claims_on events more now) ls rest) (sym left_is) ∙ ap (λ n. value now.header (claims_on events more now) left (drop n events)) (sym long)))))
 
+  -- claims that stand for the same hold the same
+  pub claims-same : (now : Claims) → ClaimsStand header (claims_on events ends claims) now → claims_on events ends now ≡ claims_on events ends claims
+  claims-same now stand =
+      let same : history_of now.lines.lines ≡ history_of claims.lines.lines = stand.history ∙ sym s.stand.history in
+      ap (λ h. claims_by (reverse (take (length ends) events)) (reverse ends) h) same
+
   -- a line is added
-  pub Sound-added : (l : Line2) (more : List Line2) (counting : Tally) → FitsFirst header (claims_on events ends claims) pending (drop (length ends) events) l → lines_in (claims_on events ends claims) + length pending < most_lines →
-      more ≡ pending ++ l ∷ [] → counting ≡ counted tally l.placed.act → Sound header events claims ends more counting premises
-  Sound-added l more counting fits room more_is counting_is =
+  pub Sound-added : (l : Line2) (more : List Line2) (now : Claims) → ClaimsStand header (claims_on events ends claims) now → FitsFirst header (claims_on events ends claims) pending (drop (length ends) events) l → lines_in (claims_on events ends claims) + length pending < most_lines →
+      more ≡ pending ++ l ∷ [] → now.tally ≡ counted claims.tally l.placed.act → Sound header events now ends more premises
+  Sound-added l more now stand fits room more_is counting_is =
       let long : length more ≡ length pending + 1 = ap (λ (t : List Line2). length t) more_is ∙ length-append pending (l ∷ []) in
-      let told_is = s.stand.told in
+      let told_is = stand.told in
+      let are : claims_on events ends now ≡ claims_on events ends claims = claims-same now stand in
       record {
         header_is = s.header_is;
         listed = s.listed;
         within = s.within;
-        stand = s.stand;
-        dated = s.dated;
-        ends_at = s.ends_at;
-        last_end = s.last_end;
-        events_are = s.events_are;
-        at_hand = subst (λ ls. FitAtHand header (claims_on events ends claims) (drop (length ends) events) ls) (sym more_is) (FitAtHand-more header (claims_on events ends claims) (drop (length ends) events) pending l s.at_hand fits);
+        stand = subst (λ (cs : List Claim). ClaimsStand header cs now) (sym are) stand;
+        dated = subst (λ (cs : List Claim). AreDated (length header.nodes) cs) (sym are) s.dated;
+        ends_at = subst (λ (cs : List Claim). EndsAt header cs ends) (sym are) s.ends_at;
+        last_end = s.last_end ∙ ap (λ (cs : List Claim). length (claimed header cs)) (sym are);
+        events_are = ap (λ (cs : List Claim). events_of cs) are ∙ s.events_are;
+        at_hand = subst (λ (cs : List Claim). FitAtHand header cs (drop (length ends) events) more) (sym are)
+        (subst (λ ls. FitAtHand header (claims_on events ends claims) (drop (length ends) events) ls) (sym more_is) (FitAtHand-more header (claims_on events ends claims) (drop (length ends) events) pending l s.at_hand fits));
         tally_is = counting_is ∙ (ap (λ t. counted t l.placed.act) s.tally_is ∙ (sym (tallied-more untold pending l) ∙ ap (λ ls. tallied untold ls) (sym more_is)));
-        premises_are = s.premises_are;
+        premises_are = s.premises_are ∙ ap (λ (cs : List Claim). premises_of header cs) (sym are);
         few_lines = omega (arith, long, told_is, room);
       }
 
-  -- claims that stand for the same hold the same
-  pub Sound-kept : (now : Claims) → ClaimsStand header (claims_on events ends claims) now → Sound header events now ends pending tally premises
-  Sound-kept now stand =
-      let same : history_of now.lines.lines ≡ history_of claims.lines.lines = stand.history ∙ sym s.stand.history in
-      let are : claims_on events ends now ≡ claims_on events ends claims = ap (λ h. claims_by (reverse (take (length ends) events)) (reverse ends) h) same in
+  -- and this is how far the lines have come
+  pub view-added : (l : Line2) (more : List Line2) (now : Claims) → ClaimsStand header (claims_on events ends claims) now → more ≡ pending ++ l ∷ [] →
+      ◌≡◌ {A = ClaimReaderValue} (record { header = now.header; passed = claims_on events ends now; told = more; ahead = drop (length ends) events }) (record { header = header; passed = claims_on events ends claims; told = pending ++ l ∷ []; ahead = drop (length ends) events })
+  view-added l more now stand more_is =
+      let value : HeaderValue → List Claim → List Line2 → ClaimReaderValue = λ h cs ls. record { header = h; passed = cs; told = ls; ahead = drop (length ends) events } in
+      ap (λ h. value h (claims_on events ends now) more) stand.header_is ∙ (ap (λ cs. value header cs more) (claims-same now stand) ∙ ap (λ ls. value header (claims_on events ends claims) ls) more_is)
+
+  -- and all that is known stays
+  pub Sound-kept : (now : Claims) → ClaimsStand header (claims_on events ends claims) now → now.tally ≡ claims.tally → Sound header events now ends pending premises
+  Sound-kept now stand tally_is =
+      let are : claims_on events ends now ≡ claims_on events ends claims = claims-same now stand in
       let told_is = stand.told in
       let told_was = s.stand.told in
       let lines = s.few_lines in
@@ -178,7 +192,7 @@ module _ (header : HeaderValue) (events : List Event) (claims : Claims) (ends : 
         last_end = s.last_end ∙ ap (λ (cs : List Claim). length (claimed header cs)) (sym are);
         events_are = ap (λ (cs : List Claim). events_of cs) are ∙ s.events_are;
         at_hand = subst (λ (cs : List Claim). FitAtHand header cs (drop (length ends) events) pending) (sym are) s.at_hand;
-        tally_is = s.tally_is;
+        tally_is = tally_is ∙ s.tally_is;
         premises_are = s.premises_are ∙ ap (λ (cs : List Claim). premises_of header cs) (sym are);
         few_lines = omega (arith, told_is, told_was, lines);
       }

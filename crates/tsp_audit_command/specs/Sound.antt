@@ -54,8 +54,8 @@ FitAtHand header passed [] lines = lines ≡ []
 FitAtHand header passed (e ∷ rest) lines = FitSoFar (FitsNext header passed) e untold lines
 
 -- what a reader of claimed lines holds: the first events were passed, and their lines end there in the history; the
--- next event is at hand with the pending lines, and the claims, the tally and the premises are what all that comes to
-pub record Sound (header : HeaderValue) (events : List Event) (claims : Claims) (ends : List ℕ) (pending : List Line2) (tally : Tally) (premises : Premises) : Type 0 where
+-- next event is at hand with the pending lines, and the claims and the premises are what all that comes to
+pub record Sound (header : HeaderValue) (events : List Event) (claims : Claims) (ends : List ℕ) (pending : List Line2) (premises : Premises) : Type 0 where
   pub header_is : IsAudited header
   pub listed : AreListed (length header.nodes) events
   pub within : length ends ≤ length events
@@ -65,6 +65,6 @@ pub record Sound (header : HeaderValue) (events : List Event) (claims : Claims) 
   pub last_end : first_end (reverse ends) ≡ length (claimed header (claims_on events ends claims))
   pub events_are : events_of (claims_on events ends claims) ≡ reverse (take (length ends) events)
   pub at_hand : FitAtHand header (claims_on events ends claims) (drop (length ends) events) pending
-  pub tally_is : tally ≡ tallied untold pending
+  pub tally_is : claims.tally ≡ tallied untold pending
   pub premises_are : premises ≡ premises_of header (claims_on events ends claims)
   pub few_lines : claims.told + length pending ≤ most_lines

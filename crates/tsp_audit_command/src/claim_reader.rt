@@ -2,7 +2,6 @@
 //! says what fits, lacks, passed and at hand mean.
 ghost use Rattle.std.specs.Prelude.{◌≡◌, ◌↔◌, [], Some, length, IsTrue, IfOk, MatchResult, codes};
 
-use crate::event_lines::EventLines;
 use std::alloc::{AllocError, Global};
 use std::marker::Model;
 use tsp_audit::premised::{all_kept, keep_with};
@@ -11,7 +10,6 @@ use tsp_audit::small_event::SmallEvent;
 use tsp_base::header::Header;
 use tsp_base::trace::Line2;
 use tsp_claims::claims::Claims;
-use tsp_claims::tally::Tally;
 use tsp_lines::cause::Cause;
 use tsp_lines::treatment::Stop;
 use tsp_script::act_reader::act_of;
@@ -40,10 +38,8 @@ pub(crate) struct ClaimReader {
     pub(crate) claims: Claims,
     /// For each event that was passed, the oldest first, how many lines of the history stand up to its end.
     pub(crate) ends: Vec<u32>,
-    /// The lines so far of the event at hand.
-    pub(crate) pending: EventLines,
-    /// What they come to: whether there are any, how many are posts, and whether one is a `took`.
-    pub(crate) tally: Tally,
+    /// The lines so far of the event at hand, which `claims` has counted.
+    pub(crate) pending: Vec<Line2>,
     /// Which premises the events that were passed keep.
     pub(crate) premises: Premises,
 }
@@ -58,12 +54,12 @@ impl Model for ClaimReader {
     ghost view = { λ c. record {
       header = c.claims.header;
       passed = claims_on c.events.items c.ends.items c.claims;
-      told = c.pending;
+      told = c.pending.items;
       ahead = drop (length c.ends.items) c.events.items;
     } };
 
-    ghost invariant = { λ c. Sound c.claims.header c.events.items c.claims c.ends.items c.pending
-        c.tally c.premises };
+    ghost invariant = { λ c. Sound c.claims.header c.events.items c.claims c.ends.items
+        c.pending.items c.premises };
 }
 
 impl ClaimReader {
@@ -95,8 +91,7 @@ impl ClaimReader {
             events,
             claims,
             ends: Vec::new(alloc),
-            pending: EventLines::new(alloc),
-            tally: Tally::new(),
+            pending: Vec::new(alloc),
             premises: all_kept(),
         })
     }
@@ -112,20 +107,19 @@ impl ClaimReader {
             Some(e) => e.event(),
             None => return Err(bad_history()),
         };
-        if self.tally.lacks(&e) {
+        if self.claims.lacks(&e) {
             return Err(bad_history());
         }
         if self.ends.reserve(1).is_err() {
             return Err(Stop::OutOfMemory);
         }
         let premises = keep_with(self.premises, &self.events[..at], self.claims.posts(), &e);
-        if self.claims.add(&e, self.pending.lines()).is_err() {
+        if self.claims.add(&e, self.pending.as_slice()).is_err() {
             return Err(Stop::OutOfMemory);
         }
         let end = self.claims.lines().len() as u32;
         self.ends.push_reserved(end);
         self.pending.clear();
-        self.tally = Tally::new();
         self.premises = premises;
         Ok(())
     }
@@ -158,7 +152,7 @@ impl ClaimReader {
         ensures { IsTrue result ↔ FitsHere self.now line.now }
     {
         match self.events.get(self.ends.len()) {
-            Some(e) => self.claims.fits(&e.event(), self.tally, line),
+            Some(e) => self.claims.fits(&e.event(), line),
             None => false,
         }
     }
@@ -167,7 +161,7 @@ impl ClaimReader {
     fn lines(&self) -> u64
         ensures { result ≡ lines_told self.now }
     {
-        self.claims.told() + self.pending.lines().len() as u64
+        self.claims.told() + self.pending.len() as u64
     }
 
     /// Adds a line to those of the event at hand. `Bad` with `history` where it doesn't fit as the next one; `Limit`
@@ -182,12 +176,11 @@ impl ClaimReader {
         if self.lines() >= MOST_LINES {
             return Err(Stop::Limit);
         }
-        let mut tally = self.tally;
-        tally.count(&line.placed.act);
-        if self.pending.push(line).is_err() {
+        if self.pending.reserve(1).is_err() {
             return Err(Stop::OutOfMemory);
         }
-        self.tally = tally;
+        self.claims.count(&line.placed.act);
+        self.pending.push_reserved(line);
         Ok(())
     }
 

@@ -65,7 +65,6 @@
 
 mod check;
 mod claim_reader;
-mod event_lines;
 mod verdict;
 pub mod laws;
 mod listing;

@@ -6,6 +6,7 @@ use Rattle.tsp_base.specs.Words.{HeaderValue, Line, Step}
 use Rattle.tsp_claims.specs.declared.claims.Claims.{Claims}
 use Rattle.tsp_claims.specs.declared.taking_in.HeldStep.{HeldStep}
 use Rattle.tsp_claims.specs.ClaimedHistory.{joins_acts, posts_by}
+use Rattle.tsp_claims.specs.Fitting.{untold}
 use Rattle.tsp_claims.specs.Listed.{Wakes}
 use Rattle.tsp_history.specs.Histories.{history_of, noted_after}
 
@@ -22,6 +23,7 @@ pub record StaysSame (old new : Claims) : Type 0 where
   pub posts_are : new.posts.items ≡ old.posts.items
   pub events_are : new.events ≡ old.events
   pub told_is : new.told ≡ old.told
+  pub tally_is : new.tally ≡ old.tally
 
 -- these lines and posts are the step of an event of this number, if there is one, and what its acts claim
 pub record HoldsStep (header : HeaderValue) (event : ℕ) (step : Option Step) (acts : List Placed) (held : HeldStep) : Type 0 where
@@ -37,4 +39,5 @@ pub record JoinsEvent (e : Event) (held : HeldStep) (count : ℕ) (old new : Cla
   pub posts_are : new.posts.items ≡ old.posts.items ++ held.posts.items
   pub events_are : new.events ≡ old.events + 1
   pub told_is : new.told ≡ old.told + count
+  pub tally_is : new.tally ≡ untold
   pub wakes : Wakes e old.up.items new.up.items

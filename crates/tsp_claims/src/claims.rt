@@ -1,5 +1,5 @@
 //! The lines that are claimed of a schedule's events, as far as they fit.
-ghost use Rattle.std.specs.Prelude.{◌≡◌, ◌≤◌, ◌<◌, ◌+◌, ◌↔◌, ◌∷◌, [], true, IsTrue, length};
+ghost use Rattle.std.specs.Prelude.{◌≡◌, ◌≤◌, ◌<◌, ◌+◌, ◌^◌, ◌↔◌, ◌∷◌, [], true, IsTrue, length};
 ghost use Rattle.std.specs.Prelude.{vec_len, slice_get, option_copied, IfOk, MatchOption};
 ghost use Rattle.tsp_base.specs.Headers.{is_whole};
 ghost use Rattle.tsp_run.specs.Networks.{numbers_below};
@@ -9,6 +9,7 @@ use crate::booted::none_booted;
 use crate::claimed::Claimed;
 use crate::tally::Tally;
 use std::alloc::{AllocError, Global};
+use tsp_base::act::Act;
 use tsp_base::event::Event;
 use tsp_base::header::Header;
 use tsp_base::members::Members;
@@ -35,6 +36,8 @@ pub struct Claims {
     pub(crate) events: u64,
     /// How many lines are claimed of the events that were taken in.
     pub(crate) told: u64,
+    /// What the lines come to that were counted of the next event.
+    pub(crate) tally: Tally,
     ghost places: { vec_len up ≡ length header.nodes },
     ghost one_is: { one.items ≡ numbers_below (length header.nodes) ∷ [] },
     ghost few_events: { events ≤ 20000 },
@@ -48,7 +51,7 @@ impl Claims {
     ghost use Rattle.tsp_history.specs.Histories.{history_of};
     ghost use Rattle.tsp_history.specs.Notes.{Told};
     ghost use Rattle.tsp_claims.specs.ClaimedHistory.{Claim, base_of, claimed, posts_of};
-    ghost use Rattle.tsp_claims.specs.Fitting.{Fit, FitsNext, Misfit};
+    ghost use Rattle.tsp_claims.specs.Fitting.{Fit, FitsNext, Misfit, counted, lacks, untold};
     ghost use Rattle.tsp_claims.specs.Listed.{NamesNode};
     ghost use Rattle.tsp_claims.specs.Stands.{ClaimsStand, TakesIn, claim_of};
     ghost use Rattle.std.specs.Prelude.{List, OnErr, OnOk, ℕ};
@@ -59,7 +62,8 @@ impl Claims {
         requires some { 1 ≤ length header.nodes }
         requires few { length header.nodes ≤ 16 }
         requires whole { is_whole header ≡ true }
-        ensures { IfOk result (λ claims. ClaimsStand header [] claims) }
+        ensures stand { IfOk result (λ claims. ClaimsStand header [] claims) }
+        ensures counted { IfOk result (λ claims. claims.tally ≡ untold) }
     {
         let one = all_nodes(alloc, header.nodes().len() as u32)?;
         let up = none_booted(alloc, header.nodes().len())?;
@@ -71,6 +75,7 @@ impl Claims {
             posts: Vec::new(alloc),
             events: 0,
             told: 0,
+            tally: Tally::new(),
         })
     }
 
@@ -113,8 +118,8 @@ impl Claims {
     }
 
     /// Takes in an event and lines that fit it: the caller must know that they do, they aren't
-    /// asked. The limits are those of `event`. Fails only if out of memory, and then the claims are
-    /// what they were.
+    /// asked. The limits are those of `event`. No line of the next event is counted then. Fails only
+    /// if out of memory, and then the claims are what they were.
     pub fn add(&mut self, e: &Event, acts: &[Line2]) -> Result<(), AllocError>
         requires time { event_at e.now ≤ 1000000000000000 }
         requires node { NamesNode (length self.old.header.nodes) e.now }
@@ -128,20 +133,39 @@ impl Claims {
         ensures refused { (header : HeaderValue) (claims : List Claim)
             → ClaimsStand header claims self.old
             → OnErr result (ClaimsStand header claims self.new) }
+        ensures counted { OnOk result (self.new.tally ≡ untold) }
+        ensures kept { OnErr result (self.new.tally ≡ self.old.tally) }
     {
         let step = self.acting(e);
         self.take_in(e, step, acts)
     }
 
-    /// Whether a line fits as the next one of an event, behind lines that were counted.
-    pub fn fits(&self, e: &Event, behind: Tally, line: &Line2) -> bool
+    /// Counts a line of the next event, with this act.
+    pub fn count(&mut self, act: &Act)
+        requires { self.old.tally.posts < 2 ^ 32 }
+        ensures counted { self.new.tally ≡ counted self.old.tally act.now }
+        ensures stand { (header : HeaderValue) (claims : List Claim)
+            → ClaimsStand header claims self.old → ClaimsStand header claims self.new }
+    {
+        self.tally.count(act);
+    }
+
+    /// Whether the next event, if it is this one, lacks what it needs with the lines that were counted.
+    pub fn lacks(&self, e: &Event) -> bool
+        ensures { result ≡ lacks e.now self.now.tally }
+    {
+        self.tally.lacks(e)
+    }
+
+    /// Whether a line fits as the next one of an event, behind the lines that were counted.
+    pub fn fits(&self, e: &Event, line: &Line2) -> bool
         requires time { event_at e.now ≤ 1000000000000000 }
         requires node { NamesNode (length self.now.header.nodes) e.now }
         requires events { self.now.events < 20000 }
         ensures { (header : HeaderValue) (claims : List Claim) → ClaimsStand header claims self.now
-            → IsTrue result ↔ FitsNext header claims e.now behind line.now }
+            → IsTrue result ↔ FitsNext header claims e.now self.now.tally line.now }
     {
-        self.fits_in(e, self.acting(e), behind, line)
+        self.fits_in(e, self.acting(e), self.tally, line)
     }
 
     /// What a node's clock shows more than its tick, in microseconds: its wall, and the amounts of

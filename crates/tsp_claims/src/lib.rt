@@ -18,8 +18,8 @@
 //!
 //! The index counts from 0. It is the number of lines where all fit, but the event lacks something.
 //!
-//! A reader that gets one line at a time asks [`claims::Claims::fits`] of each, counts it in a
-//! [`tally::Tally`], and hands an event's lines to [`claims::Claims::add`] once they are all there:
+//! A reader that gets one line at a time asks [`claims::Claims::fits`] of each, has it counted by
+//! [`claims::Claims::count`], and hands an event's lines to [`claims::Claims::add`] once they are all there:
 //! then none of them is asked again.
 //!
 //! # What is proved

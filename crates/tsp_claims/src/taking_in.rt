@@ -5,7 +5,7 @@ ghost use Rattle.tsp_base.specs.Headers.{HeaderValue};
 ghost use Rattle.tsp_base.specs.History.{Line, Step};
 ghost use Rattle.tsp_base.specs.Joins.{stepped, line_of as line_in};
 ghost use Rattle.tsp_claims.specs.ClaimedHistory.{Claim, claims_post, makes_step, posts_in, step_at};
-ghost use Rattle.tsp_claims.specs.Fitting.{acts_of};
+ghost use Rattle.tsp_claims.specs.Fitting.{acts_of, untold};
 ghost use Rattle.tsp_claims.specs.Listed.{NamesNode, up_in};
 ghost use Rattle.tsp_claims.specs.Stands.{ClaimsStand, claim_of};
 ghost use Rattle.tsp_claims.specs.Steps.{ActsIn, step_by};
@@ -17,6 +17,7 @@ use crate::booted::wake;
 use crate::claimed::Claimed;
 use crate::claims::Claims;
 use crate::held::HeldPlaced;
+use crate::tally::Tally;
 use std::alloc::{AllocError, Global};
 use tsp_base::act::{Act, Placed};
 use tsp_base::event::Event;
@@ -170,6 +171,7 @@ impl Claims {
     {
         self.events += 1;
         self.told += count as u64;
+        self.tally = Tally::new();
         self.lines.append(held.lines);
         let mut posts = held.posts;
         let _ = self.posts.append(&mut posts);
@@ -192,6 +194,7 @@ impl Claims {
         ensures taken { OnOk result ((header : HeaderValue) (claims : List Claim)
             → ClaimsStand header claims self.old
             → ClaimsStand header (claim_of e.now acts.now ∷ claims) self.new) }
+        ensures counted { OnOk result (self.new.tally ≡ untold) }
         ensures refused { OnErr result (StaysSame self.old self.new) }
     {
         let held = step_of(*self.posts.allocator(), self.events + 1, e, step, acts)?;

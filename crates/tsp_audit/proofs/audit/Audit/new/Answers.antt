@@ -7,7 +7,7 @@ pub returns-in-Ok : goal.returns-in-Ok
 returns-in-Ok c =
     let nodes : c.nodes.result.now ≡ c.args.header.nodes = c.nodes.ensures.nodes in
     record {
-      claims_stand = c.in-Ok.ensures;
+      claims_stand = c.in-Ok.ensures.stand;
       premises_are = refl;
       timely = tt;
       found = λ setting has. holds-none c.args.premises setting c.args.header;

@@ -8,7 +8,7 @@ use Rattle.tsp_base.specs.Words.{Line}
 use Rattle.tsp_audit_command.specs.ClaimReaders.{pass_one}
 use Rattle.tsp_audit_command.specs.Sound.{Sound, claims_on}
 use Rattle.tsp_claims.specs.ClaimedHistory.{claimed, posts_of}
-use Rattle.tsp_claims.specs.Fitting.{Fit, lacks}
+use Rattle.tsp_claims.specs.Fitting.{Fit, lacks, untold}
 use Rattle.tsp_claims.specs.Stands.{ClaimsStand, claim_of}
 use Rattle.tsp_audit_command.proofs.SoundLemmas.{Sound-kept, Sound-passed, at-fit, few-passed, got-at, view-passed}
 use Rattle.tsp_history.proofs.NoteLemmas.{length-history}
@@ -18,7 +18,7 @@ pub add-requires-clause-events : goal.add-requires-clause-events
 add-requires-clause-events c =
     let i = c.self.inside in
     let at : slice_get i.events.items (length i.ends.items) ≡ Some c.in-Some.e.now = got-at c.deref.result.now i.events.items c.len-at.result (length i.ends.items) c.in-Some.e.now c.deref.ensures.value (search rules) c.in-Some.ensures.lookup.3.0 c.in-Some.ensures.lookup.1 in
-    few-passed i.claims.header i.events.items i.claims i.ends.items i.pending i.tally i.premises c.self.invariant (slice_get_within i.events.items (length i.ends.items) c.in-Some.e.now at)
+    few-passed i.claims.header i.events.items i.claims i.ends.items i.pending.items i.premises c.self.invariant (slice_get_within i.events.items (length i.ends.items) c.in-Some.e.now at)
 
 pub add-requires-clause-fit : goal.add-requires-clause-fit
 add-requires-clause-fit c =
@@ -27,11 +27,12 @@ add-requires-clause-fit c =
     let passed = claims_on i.events.items i.ends.items i.claims in
     let read : slice_get i.events.items (length i.ends.items) ≡ Some c.in-Some.e.now = got-at c.deref.result.now i.events.items c.len-at.result (length i.ends.items) c.in-Some.e.now c.deref.ensures.value (search rules) c.in-Some.ensures.lookup.3.0 c.in-Some.ensures.lookup.1 in
     let at : slice_get i.events.items (length i.ends.items) ≡ Some e = subst (λ x. slice_get i.events.items (length i.ends.items) ≡ Some x) (sym c.event-e.ensures) read in
-    let none : lacks e i.tally ≡ false = sym c.lacks.ensures ∙ c.if-lacks.false in (
+    let none : lacks e i.claims.tally ≡ false = sym c.lacks.ensures ∙ c.if-lacks.false in
+    let slice : c.as_slice.result.now ≡ i.pending.items = search rules in (
       i.claims.header,
       passed,
       c.self.invariant.stand,
-      subst (λ ls. Fit i.claims.header passed e ls) (sym c.lines.ensures) (at-fit i.claims.header i.events.items i.claims i.ends.items i.pending i.tally i.premises c.self.invariant e at none),
+      subst (λ ls. Fit i.claims.header passed e ls) (sym slice) (at-fit i.claims.header i.events.items i.claims i.ends.items i.pending.items i.premises c.self.invariant e at none),
     )
 
 pub invariant_of-self-2 : goal.invariant_of-self-2
@@ -41,21 +42,24 @@ invariant_of-self-2 c =
     let passed = claims_on i.events.items i.ends.items i.claims in
     let read : slice_get i.events.items (length i.ends.items) ≡ Some c.in-Some.e.now = got-at c.deref.result.now i.events.items c.len-at.result (length i.ends.items) c.in-Some.e.now c.deref.ensures.value (search rules) c.in-Some.ensures.lookup.3.0 c.in-Some.ensures.lookup.1 in
     let at : slice_get i.events.items (length i.ends.items) ≡ Some e = subst (λ x. slice_get i.events.items (length i.ends.items) ≡ Some x) (sym c.event-e.ensures) read in
-    let none : lacks e i.tally ≡ false = sym c.lacks.ensures ∙ c.if-lacks.false in
-    let took : OnOk c.add.result (ClaimsStand i.claims.header (claim_of e c.lines.result.now ∷ passed) c.add.new.self) = c.add.ensures.taken i.claims.header passed c.self.invariant.stand in
-    let given : ClaimsStand i.claims.header (claim_of e c.lines.result.now ∷ passed) c.add.new.self = search rules in
-    let stand : ClaimsStand i.claims.header (claim_of e i.pending ∷ passed) c.add.new.self = subst (λ ls. ClaimsStand i.claims.header (claim_of e ls ∷ passed) c.add.new.self) c.lines.ensures given in
-    let more_is : c.push_reserved.new.self.items ≡ i.ends.items ++ (length c.lines-2.result.now) ∷ [] = search rules in
-    let n_is : length c.lines-2.result.now ≡ length (claimed i.claims.header (claim_of e i.pending ∷ passed)) =
-    sym (length-history c.lines-2.result.now) ∙ ap (λ (h : List Line). length h) (c.lines-2.ensures.lines i.claims.header (claim_of e i.pending ∷ passed) stand) in
+    let none : lacks e i.claims.tally ≡ false = sym c.lacks.ensures ∙ c.if-lacks.false in
+    let slice : c.as_slice.result.now ≡ i.pending.items = search rules in
+    let took : OnOk c.add.result (ClaimsStand i.claims.header (claim_of e c.as_slice.result.now ∷ passed) c.add.new.self) = c.add.ensures.taken i.claims.header passed c.self.invariant.stand in
+    let given : ClaimsStand i.claims.header (claim_of e c.as_slice.result.now ∷ passed) c.add.new.self = search rules in
+    let stand : ClaimsStand i.claims.header (claim_of e i.pending.items ∷ passed) c.add.new.self = subst (λ ls. ClaimsStand i.claims.header (claim_of e ls ∷ passed) c.add.new.self) slice given in
+    let more_is : c.push_reserved.new.self.items ≡ i.ends.items ++ (length c.lines.result.now) ∷ [] = search rules in
+    let n_is : length c.lines.result.now ≡ length (claimed i.claims.header (claim_of e i.pending.items ∷ passed)) =
+    sym (length-history c.lines.result.now) ∙ ap (λ (h : List Line). length h) (c.lines.ensures.lines i.claims.header (claim_of e i.pending.items ∷ passed) stand) in
     let kept_is : c.keep_with-premises.result ≡ kept_with i.premises (reverse (take (length i.ends.items) i.events.items)) (posts_of i.claims.header passed) e =
     (let k : c.keep_with-premises.result ≡ kept_with i.premises (reverse (take c.len-at.result c.deref-2.result.now)) c.posts.result.now e = c.keep_with-premises.ensures in
     let len : c.len-at.result ≡ length i.ends.items = search rules in
     k ∙ (ap (λ n. kept_with i.premises (reverse (take n c.deref-2.result.now)) c.posts.result.now e) len
     ∙ (ap (λ es. kept_with i.premises (reverse (take (length i.ends.items) es)) c.posts.result.now e) c.deref-2.ensures.value
     ∙ ap (λ ps. kept_with i.premises (reverse (take (length i.ends.items) i.events.items)) ps e) (c.posts.ensures i.claims.header passed c.self.invariant.stand)))) in
-    subst (λ h. Sound h i.events.items c.add.new.self c.push_reserved.new.self.items c.clear.new.self c.new-self-inside.result c.keep_with-premises.result) (sym stand.header_is)
-    (Sound-passed i.claims.header i.events.items i.claims i.ends.items i.pending i.tally i.premises c.self.invariant e at none c.add.new.self c.push_reserved.new.self.items (length c.lines-2.result.now) _ _ _ stand more_is n_is c.clear.ensures c.new-self-inside.ensures kept_is)
+    let empty : c.clear.new.self.items ≡ [] = search rules in
+    let fresh : c.add.new.self.tally ≡ untold = search rules in
+    subst (λ h. Sound h i.events.items c.add.new.self c.push_reserved.new.self.items c.clear.new.self.items c.keep_with-premises.result) (sym stand.header_is)
+    (Sound-passed i.claims.header i.events.items i.claims i.ends.items i.pending.items i.premises c.self.invariant e at none c.add.new.self c.push_reserved.new.self.items (length c.lines.result.now) _ _ stand more_is n_is empty fresh kept_is)
 
 pub returns : goal.returns
 returns c =
@@ -64,12 +68,14 @@ returns c =
     let passed = claims_on i.events.items i.ends.items i.claims in
     let read : slice_get i.events.items (length i.ends.items) ≡ Some c.in-Some.e.now = got-at c.deref.result.now i.events.items c.len-at.result (length i.ends.items) c.in-Some.e.now c.deref.ensures.value (search rules) c.in-Some.ensures.lookup.3.0 c.in-Some.ensures.lookup.1 in
     let at : slice_get i.events.items (length i.ends.items) ≡ Some e = subst (λ x. slice_get i.events.items (length i.ends.items) ≡ Some x) (sym c.event-e.ensures) read in
-    let none : lacks e i.tally ≡ false = sym c.lacks.ensures ∙ c.if-lacks.false in
-    let took : OnOk c.add.result (ClaimsStand i.claims.header (claim_of e c.lines.result.now ∷ passed) c.add.new.self) = c.add.ensures.taken i.claims.header passed c.self.invariant.stand in
-    let given : ClaimsStand i.claims.header (claim_of e c.lines.result.now ∷ passed) c.add.new.self = search rules in
-    let stand : ClaimsStand i.claims.header (claim_of e i.pending ∷ passed) c.add.new.self = subst (λ ls. ClaimsStand i.claims.header (claim_of e ls ∷ passed) c.add.new.self) c.lines.ensures given in
-    let more_is : c.push_reserved.new.self.items ≡ i.ends.items ++ (length c.lines-2.result.now) ∷ [] = search rules in
-    ap (λ v. pass_one v) (sym c.self.view_is) ∙ view-passed i.claims.header i.events.items i.claims i.ends.items i.pending i.tally i.premises c.self.invariant e at none c.add.new.self c.push_reserved.new.self.items (length c.lines-2.result.now) _ stand more_is c.clear.ensures
+    let none : lacks e i.claims.tally ≡ false = sym c.lacks.ensures ∙ c.if-lacks.false in
+    let slice : c.as_slice.result.now ≡ i.pending.items = search rules in
+    let took : OnOk c.add.result (ClaimsStand i.claims.header (claim_of e c.as_slice.result.now ∷ passed) c.add.new.self) = c.add.ensures.taken i.claims.header passed c.self.invariant.stand in
+    let given : ClaimsStand i.claims.header (claim_of e c.as_slice.result.now ∷ passed) c.add.new.self = search rules in
+    let stand : ClaimsStand i.claims.header (claim_of e i.pending.items ∷ passed) c.add.new.self = subst (λ ls. ClaimsStand i.claims.header (claim_of e ls ∷ passed) c.add.new.self) slice given in
+    let more_is : c.push_reserved.new.self.items ≡ i.ends.items ++ (length c.lines.result.now) ∷ [] = search rules in
+    let empty : c.clear.new.self.items ≡ [] = search rules in
+    ap (λ v. pass_one v) (sym c.self.view_is) ∙ view-passed i.claims.header i.events.items i.claims i.ends.items i.pending.items i.premises c.self.invariant e at none c.add.new.self c.push_reserved.new.self.items (length c.lines.result.now) _ stand more_is empty
 
 -- without memory the claims stand for what they did
 pub invariant_of-self-then-is_err-2 : goal.invariant_of-self-then-is_err-2
@@ -78,6 +84,7 @@ invariant_of-self-then-is_err-2 c =
     let refused : OnErr c.add.result (ClaimsStand i.claims.header (claims_on i.events.items i.ends.items i.claims) c.add.new.self) = c.add.ensures.refused i.claims.header (claims_on i.events.items i.ends.items i.claims) c.self.invariant.stand in
     let stand : ClaimsStand i.claims.header (claims_on i.events.items i.ends.items i.claims) c.add.new.self = search rules in
     let ends : c.reserve.new.self.items ≡ i.ends.items = search rules in
-    subst (λ (t : List ℕ). Sound c.add.new.self.header i.events.items c.add.new.self t i.pending i.tally i.premises) (sym ends)
-    (subst (λ h. Sound h i.events.items c.add.new.self i.ends.items i.pending i.tally i.premises) (sym stand.header_is)
-    (Sound-kept i.claims.header i.events.items i.claims i.ends.items i.pending i.tally i.premises c.self.invariant c.add.new.self stand))
+    let same : c.add.new.self.tally ≡ i.claims.tally = search rules in
+    subst (λ (t : List ℕ). Sound c.add.new.self.header i.events.items c.add.new.self t i.pending.items i.premises) (sym ends)
+    (subst (λ h. Sound h i.events.items c.add.new.self i.ends.items i.pending.items i.premises) (sym stand.header_is)
+    (Sound-kept i.claims.header i.events.items i.claims i.ends.items i.pending.items i.premises c.self.invariant c.add.new.self stand same))

@@ -3,8 +3,8 @@ use Rattle.std.proofs.Common.{ap, refl}
 use Rattle.tsp_claims.proofs.claims.Claims.new.Goals as goal
 use Rattle.tsp_history.specs.Histories.{history_of}
 
-pub returns : goal.returns
-returns c = record {
+pub returns-clause-stand : goal.returns-clause-stand
+returns-clause-stand c = record {
   header_is = refl;
   count = refl;
   told = refl;
