@@ -1,5 +1,5 @@
 -- What is held, and how far the lines have come.
-use Rattle.std.specs.Prelude.{◌≡◌, ℕ, ◌<◌, ◌≤◌, Bool, true, false, List, [], ◌∷◌, length, codes, reverse, MatchBool, Option, Some}
+use Rattle.std.specs.Prelude.{◌≡◌, ℕ, ◌<◌, ◌≤◌, Bool, true, false, List, [], ◌∷◌, length, codes, reverse, IfSome, MatchOption, Option, None, Some}
 use Rattle.std.proofs.Common.{◌∙◌, ap, subst, inl, inr, sym, refl, append-nil}
 use Rattle.tsp_audit_command.specs.declared.check.AuditInput.{AuditInput}
 use Rattle.tsp_audit_command.specs.declared.check.AuditInput.TheVariants.{Schedule, Claims as ClaimsOf}
@@ -15,7 +15,8 @@ use Rattle.tsp_audit_command.proofs.TraceLengths.{SpellsTrace-long}
 use Rattle.tsp_schedule.specs.declared.stage.Stage.{Stage}
 use Rattle.tsp_schedule.specs.Schedules.{Progress, Untitled, Titled, Drifted, Heading, Running, Ended, IsEnded}
 use Rattle.tsp_schedule.specs.Stages.{StageStands, Advances as AdvancesBy, AdvancesByEvent}
-use Rattle.tsp_schedule.proofs.StageLemmas.{MatchBool-map}
+use Rattle.tsp_schedule.proofs.StageLemmas.{MatchOption-map}
+use Rattle.tsp_lines.specs.Lines.{IsAhead, line_ahead}
 use Rattle.tsp_lines.specs.declared.treatment.Stop.{Stop}
 use Rattle.tsp_lines.specs.declared.treatment.Stop.TheVariants.{Bad, Limit, WriteFault, OutOfMemory}
 use Rattle.tsp_lines.specs.Meanings.{Goes, StopsAt, Tried}
@@ -42,13 +43,13 @@ Advances-event p line stage (header, events, e, is, a, to) few =
     Advances-scheduled p line stage a (Schedule stage) (subst (λ q. nodes_at q ≤ most_nodes) (sym to) (subst (λ q. nodes_at q ≤ most_nodes) is few))
     (subst (λ q. EventStands (reading_of q) (Schedule stage)) (sym to) (subst (λ q. StageStands ListingStands q stage) to a.stands_for))
 
--- a line of the schedule's that was tried: it is that of an event, or nothing has changed
-pub Tries-scheduled : (r : Reading) (held : AuditInput) (old new : Stage Listing) (line : List ℕ) (count : ℕ) (done : Bool) → held ≡ Schedule old → EventStands r held → ((p : Progress) → StageStands ListingStands p old → count ≡ nodes_at p) → count ≤ most_nodes →
-    ((p : Progress) → StageStands ListingStands p old → MatchBool done (AdvancesByEvent refused ListingStands p line new) (StageStands ListingStands p new)) → MatchBool done (AdvancesReading r line (Schedule new)) (EventStands r (Schedule new))
-Tries-scheduled (Scheduling p) held old new line count done is stands counts few tries =
+-- the first of some lines of the schedule's was tried: it is that of an event, or nothing has changed
+pub Tries-scheduled : (r : Reading) (held : AuditInput) (old new : Stage Listing) (text : List ℕ) (count : ℕ) (front : Option ℕ) → held ≡ Schedule old → EventStands r held → ((p : Progress) → StageStands ListingStands p old → count ≡ nodes_at p) → count ≤ most_nodes →
+    ((p : Progress) → StageStands ListingStands p old → MatchOption front (StageStands ListingStands p new) (λ n. AdvancesByEvent refused ListingStands p (line_ahead text n) new)) → MatchOption front (EventStands r (Schedule new)) (λ n. AdvancesReading r (line_ahead text n) (Schedule new))
+Tries-scheduled (Scheduling p) held old new text count front is stands counts few tries =
     let s : StageStands ListingStands p old = subst (λ h. EventStands (Scheduling p) h) is stands in
-    MatchBool-map done (tries p s) (λ a. Advances-event p line new a (subst (λ n. n ≤ most_nodes) (counts p s) few)) (λ t. t)
-Tries-scheduled (Claimed v) held old new line count done is stands counts few tries = let bad : ⊥ = subst (λ h. EventStands (Claimed v) h) is stands in absurd bad
+    MatchOption-map front (tries p s) (λ t. t) (λ n a. Advances-event p (line_ahead text n) new a (subst (λ k. k ≤ most_nodes) (counts p s) few))
+Tries-scheduled (Claimed v) held old new text count front is stands counts few tries = let bad : ⊥ = subst (λ h. EventStands (Claimed v) h) is stands in absurd bad
 
 -- one that brings a node too many
 pub Halts-behind : (p : Progress) (line : List ℕ) (stage : Stage Listing) (a : AdvancesBy refused ListingStands p line stage) (stop : Stop) → HaltsBehind a.to stop → HaltsReading (Scheduling p) line stop
@@ -102,11 +103,11 @@ Goes-advances lines text line r next written held reaches text_is advances =
     one : (q : Reading) → ReachesReading (line ∷ reverse lines) q → EventStands q next
     one q h = let b = advances h.0 h.1 in subst (λ x. EventStands x next) (sym (b.only q h.2)) b.stands_for
 
--- a line that was tried
-pub Tried-advances : (lines : List (List ℕ)) (text line : List ℕ) (r : Reading) (next : AuditInput) (done : Bool) (written : Option (List ℕ)) (held : List ℕ) → ReachesReading (reverse lines) r → text ≡ [] →
-    ((q : Reading) → ReachesReading (reverse lines) q → MatchBool done (AdvancesReading q line next) (EventStands q next)) → Tried auditing (ReadingStands next) lines text line written held written held done
-Tried-advances lines text line r next true written held reaches text_is tries = Goes-advances lines text line r next written held reaches text_is tries
-Tried-advances lines text line r next false written held reaches text_is tries = (tries, refl, refl)
+-- the first of some lines was tried
+pub Tried-advances : (lines : List (List ℕ)) (text octets : List ℕ) (r : Reading) (next : AuditInput) (front : Option ℕ) (written : Option (List ℕ)) (held : List ℕ) → ReachesReading (reverse lines) r → text ≡ [] → IfSome front (IsAhead octets) →
+    ((q : Reading) → ReachesReading (reverse lines) q → MatchOption front (EventStands q next) (λ count. AdvancesReading q (line_ahead octets count) next)) → Tried auditing (ReadingStands next) lines text octets written held written held front
+Tried-advances lines text octets r next (Some count) written held reaches text_is ahead tries = (line_ahead octets count, ahead, Goes-advances lines text (line_ahead octets count) r next written held reaches text_is tries)
+Tried-advances lines text octets r next None written held reaches text_is ahead tries = (tries, refl, refl)
 
 -- a line that isn't accepted
 pub StopsAt-halts : (lines : List (List ℕ)) (text line : List ℕ) (r : Reading) (written : Option (List ℕ)) (held : List ℕ) (stop : Stop) → ReachesReading (reverse lines) r → HaltsReading r line stop → StopsAt auditing lines text line written held written held stop

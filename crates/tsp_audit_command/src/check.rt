@@ -1,10 +1,12 @@
 //! The audit of a claimed history as a treatment of lines.
-ghost use Rattle.std.specs.Prelude.{◌≡◌, ◌≢◌, ◌≤◌, ◌<◌, ℕ, List, length, take, MatchBool, MatchResult, Err};
+ghost use Rattle.std.specs.Prelude.{◌≡◌, ◌≢◌, ◌≤◌, ◌<◌, ℕ, List, length, take};
+ghost use Rattle.std.specs.Prelude.{IfSome, MatchBool, MatchOption, MatchResult, Err};
 ghost use Rattle.tsp_audit_command.specs.Listings.{most_nodes};
 ghost use Rattle.tsp_audit_command.specs.Readings.{IsWanting, Reading, RefusesLine, Scheduling, nodes_at, reading_of};
 ghost use Rattle.tsp_audit_command.specs.Stands.{AdvancesReading, Concludes, HaltsReading, HaltsBehind};
 ghost use Rattle.tsp_audit_command.specs.Stands.{HaltsConcluding, HasNodes, EventStands};
 ghost use Rattle.tsp_audit_command.specs.Stands.{ListingStands};
+ghost use Rattle.tsp_lines.specs.Lines.{IsAhead, line_ahead};
 ghost use Rattle.tsp_schedule.specs.Schedules.{IsEnded, Progress};
 ghost use Rattle.tsp_schedule.specs.Stages.{RunStands, StageStands};
 ghost use Rattle.tsp_io.specs.Counts.{Rose};
@@ -121,19 +123,22 @@ impl AuditInput {
         }
     }
 
-    /// Reads a line as `advance` does, if it is that of a turn, a take or octets within the schedule, and nothing refuses
-    /// it. False for any other line, and then nothing has changed.
-    fn try_advance(&mut self, line: &[u8]) -> bool
-        ensures { (r : Reading) → EventStands r self.old
-            → MatchBool result (AdvancesReading r line.now self.new) (EventStands r self.new) }
+    /// Reads the first of some lines as `advance` does, if it is that of a turn, a take or octets within the schedule,
+    /// and nothing refuses it; gives how many octets it has with its line feed. None for any other, and then nothing
+    /// has changed.
+    fn try_front(&mut self, text: &[u8]) -> Option<usize>
+        ensures tries { (r : Reading) → EventStands r self.old
+            → MatchOption result (EventStands r self.new)
+            (λ count. AdvancesReading r (line_ahead text.now count) self.new) }
+        ensures front { IfSome result (IsAhead text.now) }
     {
         let AuditInput::Schedule(stage) = self else {
-            return false;
+            return None;
         };
         if node_count(stage) > MOST_NODES {
-            return false;
+            return None;
         }
-        stage.try_advance(line)
+        stage.try_front(text)
     }
 
     /// What the lines come to with this one more; fails as `advance` does.
@@ -248,13 +253,13 @@ impl Treatment for Check {
         false
     }
 
-    fn try_treat<K: Sink>(
+    fn try_front<K: Sink>(
         &mut self,
-        line: &[u8],
+        octets: &[u8],
         _output: &mut Output,
         _sink: &mut K,
-    ) -> Result<bool, Unwritten> {
-        Ok(self.held.try_advance(line))
+    ) -> Result<Option<usize>, Unwritten> {
+        Ok(self.held.try_front(octets))
     }
 
     fn treat<K: Sink>(

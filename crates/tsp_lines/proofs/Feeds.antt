@@ -7,7 +7,7 @@ use Rattle.std.proofs.Math.Seq.{take-length}
 use Rattle.std.proofs.lemmas.List.Elements.{Contains-append_left}
 use Rattle.std.proofs.lemmas.Grind.{common_steps, get_or_default_zero}
 use Rattle.memchr.specs.Find.{IsFirstByte, is_byte, Nowhere, Passes}
-use Rattle.tsp_lines.specs.Lines.{NoFeed, close}
+use Rattle.tsp_lines.specs.Lines.{NoFeed, close, IsFront}
 use Rattle.tsp_lines.specs.Readings.{ReaderValue}
 
 NoFeed-take : (hay : List ℕ) (n : ℕ) → n ≤ length hay → Nowhere (Passes (is_byte 10) hay) 0 n → NoFeed (take n hay)
@@ -58,6 +58,24 @@ taken_line v buf line start at end place got limit e w =
     subst {A = ReaderValue} (λ u. record { line = slice_range buf at (at + place); start = start; held = slice_range buf (at + place + 1) end; got = got; limit = limit } ≡ record u { line = take place u.held; held = drop (place + 1) u.held }) e
     (rw (held_line buf at end place within, held_rest buf at end place within) refl)
 
+-- a reader that uses some of what is held
+skipped : (buf : List ℕ) (at end count : ℕ) → count ≤ length (slice_range buf at end) → slice_range buf (at + count) end ≡ drop count (slice_range buf at end)
+skipped buf at end count h =
+    let m = end - at - count in
+    let below : count ≤ end - at = omega (arith, h, held_length buf at end) in
+    let e : count + m ≡ end - at = omega (arith, below) in
+    let f : end - (at + count) ≡ m = omega (arith, below) in
+    let g : drop (at + count) buf ≡ drop count (drop at buf) = sym (drop-drop count at buf) in
+    rw (f, g) (sym (drop-take count m (drop at buf)) ∙ ap (λ n. drop count (take n (drop at buf))) e)
+
+pub skipped_octets : (v : ReaderValue) (buf line start : List ℕ) (at end count got limit : ℕ)
+    → record { line = line; start = start; held = slice_range buf at end; got = got; limit = limit } ≡ v → count ≤ length v.held
+    → record { line = line; start = start; held = slice_range buf (at + count) end; got = got; limit = limit } ≡ record v { held = drop count v.held }
+skipped_octets v buf line start at end count got limit e w =
+    let within : count ≤ length (slice_range buf at end) = subst {A = ReaderValue} (λ u. count ≤ length u.held) (sym e) w in
+    subst {A = ReaderValue} (λ u. record { line = line; start = start; held = slice_range buf (at + count) end; got = got; limit = limit } ≡ record u { held = drop count u.held }) e
+    (rw (skipped buf at end count within) refl)
+
 -- the first octets of the first octets
 take-take : (xs : List ℕ) (n m : ℕ) → n ≤ m → take n (take m xs) ≡ take n xs
 take-take xs zero m h = refl
@@ -91,3 +109,9 @@ NoFeed-end xs h n = let r = split_end xs h in (r.0, r.1, λ c. n (rw r.2 (Contai
 
 pub some_held : (buf : List ℕ) (at end : ℕ) → at < end → end ≤ length buf → 0 < length (slice_range buf at end)
 some_held buf at end h k = grind (arith, common_steps)
+
+-- the first line of octets, of which this is the place of the line feed
+pub front_line : (octets line : List ℕ) (place : ℕ) → place < length octets → NoFeed (take place octets) → octets ≡ close (take place octets) ++ drop (place + 1) octets → line ≡ take place octets → IsFront octets (length line + 1) line
+front_line octets line place h n s e =
+    let l : length line ≡ place = ap length e ∙ length-take-le place octets (omega (arith, h)) in
+    (subst NoFeed (sym e) n, refl, s ∙ ap (λ x. close x ++ drop (place + 1) octets) (sym e) ∙ ap (λ k. close line ++ drop (k + 1) octets) (sym l))

@@ -1,13 +1,16 @@
 -- How source and sink are left.
-use Rattle.std.proofs.Common.{◌≡◌, ℕ, ◌∙◌, List, arith, refl, subst}
+use Rattle.std.proofs.Common.{◌≡◌, ◌≢◌, ℕ, ◌≤◌, ◌∙◌, List, Result, Ok, Err, arith, refl, sym, subst}
 use Rattle.tsp_io.specs.Counts.{Rose}
 use Rattle.tsp_io.specs.declared.sink.Sink.{Ghosts as SinkOf}
 use Rattle.tsp_io.specs.declared.source.Source.{Ghosts as SourceOf}
 use Rattle.tsp_lines.specs.Definite.{IsDefinite}
 use Rattle.tsp_lines.specs.Frames.{Accepts, Completes, Leaves, Treats}
 use Rattle.tsp_lines.specs.Meanings.{Meaning}
+use Rattle.tsp_lines.specs.Turns.{outcome_of}
+use Rattle.tsp_lines.specs.declared.output.Unwritten.{Unwritten}
+use Rattle.tsp_lines.specs.declared.output.Unwritten.TheVariants.{WriteFault as NotWritten, OutOfMemory as NoMemory}
 use Rattle.tsp_lines.specs.declared.treat.Outcome.{Outcome}
-use Rattle.tsp_lines.specs.declared.treat.Outcome.TheVariants.{OutOfMemory}
+use Rattle.tsp_lines.specs.declared.treat.Outcome.TheVariants.{Ok as Done, OutOfMemory, ReadFault, WriteFault}
 
 -- nothing was read or written
 pub Leaves-nothing : {S K : Type 0} (sources : SourceOf S) (sinks : SinkOf K) (source : S) (sink : K) → Leaves sources sinks source source sink sink OutOfMemory
@@ -39,4 +42,33 @@ Accepts-treated sources sinks m IsText limit source now sink last outcome defini
   keeps_up = t.keeps_up;
   leaves = t.leaves;
   complete = complete;
+}
+
+pub Ok-no_error : {A E : Type 0} (a : A) (e : E) → Ok a ≢ Err e
+Ok-no_error a e p = cc
+
+pub Err-one : {A E : Type 0} (r : Result A E) (d e : E) → r ≡ Err d → r ≡ Err e → d ≡ e
+Err-one r d e p q = cc
+
+fault_of : (fault : Unwritten) → outcome_of fault ≡ WriteFault → fault ≡ NotWritten
+fault_of NotWritten e = refl
+fault_of NoMemory e = absurd (cc)
+
+written_of : (fault : Unwritten) → fault ≡ NotWritten → outcome_of fault ≡ WriteFault
+written_of fault e = rw e refl
+
+neither : (fault : Unwritten) → (outcome_of fault ≢ ReadFault) × (outcome_of fault ≢ Done)
+neither NotWritten = (λ e. cc, λ e. cc)
+neither NoMemory = (λ e. cc, λ e. cc)
+
+-- output wasn't written, and the source is as it was before
+pub Leaves-unwritten : {S K : Type 0} (sources : SourceOf S) (sinks : SinkOf K) (source last : S) (sink before now : K) (fault : Unwritten) (o : Outcome) → o ≡ outcome_of fault
+    → sources.faults last ≡ sources.faults source → sinks.faults before ≡ sinks.faults sink → sinks.faults before ≤ sinks.faults now
+    → (fault ≡ NotWritten → Rose (sinks.faults before) (sinks.faults now)) → (fault ≢ NotWritten → sinks.faults now ≡ sinks.faults before) → Leaves sources sinks source last sink now o
+Leaves-unwritten sources sinks source last sink before now fault o is s k later cause still = record {
+  later = (omega (arith, s), omega (arith, k, later));
+  read = λ e. absurd ((neither fault).0 (sym is ∙ e));
+  write = λ e. rw k at (cause (fault_of fault (sym is ∙ e)));
+  still = (λ n. s, λ n. still (λ e. n (is ∙ written_of fault e)) ∙ k);
+  ended = λ e. absurd ((neither fault).1 (sym is ∙ e));
 }

@@ -1,5 +1,6 @@
 pub mod Outputs
 pub mod Feeds
+pub mod Fronts
 pub mod Turns
 pub mod Aheads
 pub mod Comes

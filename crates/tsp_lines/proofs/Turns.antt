@@ -1,20 +1,22 @@
 -- Laws of a turn of a treatment.
-use Rattle.std.proofs.Common.{◌≡◌, ℕ, ◌<◌, ◌≤◌, ◌+◌, inl, inr, List, [], ◌∷◌, ◌++◌, None, Some, refl, sym, ap, ◌∙◌, append-nil, append_assoc, subst, length, length-append, arith}
+use Rattle.std.proofs.Common.{◌≡◌, ℕ, ◌<◌, ◌≤◌, ◌+◌, inl, inr, List, [], ◌∷◌, ◌++◌, None, Some, refl, sym, ap, ◌∙◌, append-nil, append_assoc, subst, length, length-append, drop, arith}
 use Rattle.std.specs.Prelude.{All, MatchOption, ◌⊎◌}
 use Rattle.std.specs.declared.option.Option.{Option}
 use Rattle.std.proofs.lemmas.List.Elements.{All-push}
 use Rattle.tsp_io.specs.Streams.{Gives}
-use Rattle.tsp_lines.specs.Lines.{NoFeed, close, closed, Begins, IsOver, IsWhole, HasLines, HasNext, HasMore, IsPast}
-use Rattle.tsp_lines.specs.Meanings.{Meaning, Goes}
+use Rattle.tsp_lines.specs.Lines.{NoFeed, close, closed, IsFront, Begins, IsOver, IsWhole, HasLines, HasNext, HasMore, IsPast}
+use Rattle.tsp_lines.specs.Meanings.{Meaning, Goes, Breaks, BreaksOff}
 use Rattle.tsp_lines.specs.Outputs.{Hands}
 use Rattle.tsp_lines.specs.Outcomes.{Comes, limit_line}
 use Rattle.tsp_lines.specs.Readings.{ReaderValue, IsNext}
-use Rattle.tsp_lines.specs.Turns.{IsAt, Ends, line_sayings, end_sayings, only_limited}
+use Rattle.tsp_lines.specs.Turns.{IsAt, IsSaying, StandsOpen, Ends, line_sayings, end_sayings, only_limited, outcome_of}
 use Rattle.tsp_lines.specs.declared.next.Next.TheVariants.{Line, Last, Long, LongLast, Limit}
+use Rattle.tsp_lines.specs.declared.output.Unwritten.{Unwritten}
+use Rattle.tsp_lines.specs.declared.output.Unwritten.TheVariants.{WriteFault as NotWritten, OutOfMemory as NoMemory}
 use Rattle.tsp_lines.specs.declared.treat.Outcome.{Outcome}
 use Rattle.tsp_lines.specs.declared.treat.Outcome.TheVariants.{ReadFault, OutOfMemory}
 use Rattle.tsp_lines.proofs.Outputs.{Hands-trans, Grows-nil}
-use Rattle.tsp_lines.proofs.Says.{said}
+use Rattle.tsp_lines.proofs.Says.{said, Breaks-imp}
 use Rattle.tsp_lines.proofs.Aheads.{Ahead, Ahead-next, HasLines-got, HasNext-line, HasNext-last, HasMore-got, IsInput-got, IsPast-limit}
 use Rattle.tsp_lines.proofs.Comes.{Comes-Ends, Grows-handed, Place-line, Place-end, Place-limit, Place-any, no_sayings, closed-push}
 
@@ -42,6 +44,57 @@ After-next m Stands input left rest written now later old new held keeps number 
   handed = said written now later [] held keeps text a.handed h;
   counted = e ∙ a.counted;
 }
+
+-- the first line that was held was treated in its place
+pub IsAt-front : (m : Meaning) (Stands Comes-to : List (List ℕ) → Type 0) (input left written now later : Option (List ℕ)) (old new : ReaderValue) (held keeps : List ℕ) (number next : ℕ) (lines : List (List ℕ)) (text line : List ℕ) (count : ℕ)
+    → IsAt m Stands input left written now old held number lines text → IsFront old.held count line → new.held ≡ drop count old.held → new.got ≡ old.got → new.limit ≡ old.limit → old.got ≤ old.limit → next ≡ number + 1
+    → (t : Goes m Comes-to lines text line now held later keeps) → IsAt m Comes-to input left written later new keeps next (lines ++ line ∷ []) (text ++ t.0)
+IsAt-front m Stands Comes-to input left written now later old new held keeps number next lines text line count a f h g l w e t = record {
+  feedless = All-push NoFeed lines line a.feedless f.0;
+  accepted = t.2;
+  stands = t.3;
+  got = (a.got.0, a.got.1, a.got.2 ∙ ap (λ x. closed lines ++ x) (f.2 ∙ ap (λ x. close line ++ x) (sym h)) ∙ sym (append_assoc (closed lines) (close line) new.held) ∙ ap (λ x. x ++ new.held) (sym (closed-push lines line)), g ∙ a.got.3);
+  within = omega (arith, g, l, w);
+  handed = Hands-trans written now later [] held keeps text t.0 a.handed t.1;
+  counted = omega (arith, e, a.counted, length-append lines (line ∷ []));
+}
+
+-- another treatment stands where one stood, and what was written and is held is the same
+pub IsAt-same : (m : Meaning) (Stands Comes-to : List (List ℕ) → Type 0) (input left written now later : Option (List ℕ)) (r : ReaderValue) (held keeps : List ℕ) (number : ℕ) (lines : List (List ℕ)) (text : List ℕ)
+    → IsAt m Stands input left written now r held number lines text → Comes-to lines → later ≡ now → keeps ≡ held → IsAt m Comes-to input left written later r keeps number lines text
+IsAt-same m Stands Comes-to input left written now later r held keeps number lines text a s e f = record {
+  feedless = a.feedless;
+  accepted = a.accepted;
+  stands = s;
+  got = a.got;
+  within = a.within;
+  handed = rw (e, f) a.handed;
+  counted = a.counted;
+}
+
+pub IsAt-open : (m : Meaning) (Stands : List (List ℕ) → Type 0) (input left written now : Option (List ℕ)) (r : ReaderValue) (held : List ℕ) (number : ℕ) (lines : List (List ℕ)) (text : List ℕ)
+    → IsAt m Stands input left written now r held number lines text → ¬ m.full lines → IsAt m (StandsOpen m Stands) input left written now r held number lines text
+IsAt-open m Stands input left written now r held number lines text a n = IsAt-same m Stands (StandsOpen m Stands) input left written now now r held held number lines text a (a.stands, n) refl refl
+
+-- it ends at the first line that is held
+pub Comes-front : (m : Meaning) (Stands : List (List ℕ) → Type 0) (input left written now later : Option (List ℕ)) (old : ReaderValue) (held : List ℕ) (number : ℕ) (lines : List (List ℕ)) (text line : List ℕ) (count : ℕ) (o : Outcome)
+    → IsAt m Stands input left written now old held number lines text → ¬ m.full lines → IsFront old.held count line → old.got ≤ old.limit → Ends (line_sayings m lines text number line) now held later o → Comes m old.limit input left written later o
+Comes-front m Stands input left written now later old held number lines text line count o a room f w e =
+    let b : Ahead input left lines old old.held = record { octets = a.got.0; given = a.got.1; are = a.got.2; count = a.got.3 } in
+    let on = HasLines-got input left lines old old.held b old.limit a.within in
+    let next = HasNext-line input left lines old old.held b line (drop count old.held) f.0 f.2 (omega (arith, w)) in
+    Comes-Ends m old.limit input left lines text (line_sayings m lines text number line) written now later held o (Place-line m old.limit input lines text line number a.feedless a.accepted room on next a.counted) a.handed (λ v d. absurd d) e
+
+-- its output wasn't written whole
+pub Comes-broken : (m : Meaning) (Stands : List (List ℕ) → Type 0) (input left written now later : Option (List ℕ)) (old : ReaderValue) (held keeps : List ℕ) (number : ℕ) (lines : List (List ℕ)) (text : List ℕ) (fault : Unwritten)
+    → IsAt m Stands input left written now old held number lines text → ¬ m.full lines → old.got ≤ old.limit → BreaksOff m lines text old.held now held later keeps → (fault ≡ NotWritten → 0 < length keeps) → Comes m old.limit input left written later (outcome_of fault)
+Comes-broken m Stands input left written now later old held keeps number lines text fault a room w b some =
+    Comes-front m Stands input left written now later old held number lines text b.0 b.1 (outcome_of fault) a room b.2 w (ends fault some) where
+  broken : Breaks (IsSaying (line_sayings m lines text number b.0)) now held later keeps
+  broken = Breaks-imp (λ more. m.accepts (lines ++ b.0 ∷ []) (text ++ more)) (IsSaying (line_sayings m lines text number b.0)) (λ x y. inr (inr (inr y))) now later held keeps b.3
+  ends : (f : Unwritten) → (f ≡ NotWritten → 0 < length keeps) → Ends (line_sayings m lines text number b.0) now held later (outcome_of f)
+  ends NotWritten s = (keeps, s refl, broken)
+  ends NoMemory s = (keeps, broken)
 
 -- what was held wasn't written before a read
 pub Comes-unflushed : (m : Meaning) (Stands : List (List ℕ) → Type 0) (input left rest written now later : Option (List ℕ)) (old : ReaderValue) (held keeps : List ℕ) (number : ℕ) (lines : List (List ℕ)) (text : List ℕ) (o : Outcome)

@@ -1,5 +1,5 @@
 -- Lines of octets, and an input that is known or not. Only the octets within the limit count.
-use Rattle.std.specs.Prelude.{◌≡◌, ℕ, ◌<◌, ◌≤◌, ◌+◌, ◌⊎◌, List, [], ◌∷◌, ◌++◌, length, Contains, flat_map, IfSome}
+use Rattle.std.specs.Prelude.{◌≡◌, ℕ, ◌<◌, ◌≤◌, ◌+◌, ◌-◌, ◌⊎◌, List, [], ◌∷◌, ◌++◌, length, take, drop, Contains, flat_map, IfSome}
 use Rattle.std.specs.declared.option.Option.{Option}
 
 -- no octet is a line feed
@@ -9,6 +9,18 @@ NoFeed octets = ¬ Contains octets 10
 -- a line with its line feed
 abbrev pub close : List ℕ → List ℕ
 close line = line ++ 10 ∷ []
+
+-- octets begin with this line and its line feed, which are so many octets
+abbrev pub IsFront : List ℕ → ℕ → List ℕ → Type 0
+IsFront octets count line = NoFeed line × (count ≡ length line + 1) × (octets ≡ close line ++ drop count octets)
+
+-- the first line of octets, which has so many with its line feed
+abbrev pub line_ahead : List ℕ → ℕ → List ℕ
+line_ahead octets count = take (count - 1) octets
+
+-- the first line of octets has so many with its line feed
+abbrev pub IsAhead : List ℕ → ℕ → Type 0
+IsAhead octets count = IsFront octets count (line_ahead octets count)
 
 -- lines, each with its line feed
 abbrev pub closed : List (List ℕ) → List ℕ

@@ -1,6 +1,7 @@
 -- What lines mean to a command, and what the calls of its treatment answer.
-use Rattle.std.specs.Prelude.{◌≡◌, ℕ, ◌⊎◌, Bool, true, false, List, [], ◌∷◌, ◌++◌}
+use Rattle.std.specs.Prelude.{◌≡◌, ℕ, ◌⊎◌, List, [], ◌∷◌, ◌++◌, None, Some}
 use Rattle.std.specs.declared.option.Option.{Option}
+use Rattle.tsp_lines.specs.Lines.{IsFront}
 use Rattle.tsp_lines.specs.Outputs.{Hands}
 use Rattle.tsp_lines.specs.declared.output.Unwritten.{Unwritten}
 use Rattle.tsp_lines.specs.declared.output.Unwritten.TheVariants.{WriteFault as NotWritten, OutOfMemory as NoMemory}
@@ -35,10 +36,15 @@ Goes m Stands lines text line written held now keeps = (more : List ℕ) × Hand
 abbrev pub Breaks : (List ℕ → Type 0) → Option (List ℕ) → List ℕ → Option (List ℕ) → List ℕ → Type 0
 Breaks IsWhole written held now keeps = (part : List ℕ) × Hands written held now keeps part × ((part ≡ []) ⊎ ((rest : List ℕ) × IsWhole (part ++ rest)))
 
--- what came of a line that was tried: it went so, or nothing has changed and it is still to be treated
-abbrev pub Tried : Meaning → (List (List ℕ) → Type 0) → List (List ℕ) → List ℕ → List ℕ → Option (List ℕ) → List ℕ → Option (List ℕ) → List ℕ → Bool → Type 0
-Tried m Stands lines text line written held now keeps true = Goes m Stands lines text line written held now keeps
-Tried m Stands lines text line written held now keeps false = Stands lines × (now ≡ written) × (keeps ≡ held)
+-- what came of octets of which the first line was tried: it went so, with so many octets, or nothing has changed
+abbrev pub Tried : Meaning → (List (List ℕ) → Type 0) → List (List ℕ) → List ℕ → List ℕ → Option (List ℕ) → List ℕ → Option (List ℕ) → List ℕ → Option ℕ → Type 0
+Tried m Stands lines text octets written held now keeps (Some count) = (line : List ℕ) × IsFront octets count line × Goes m Stands lines text line written held now keeps
+Tried m Stands lines text octets written held now keeps None = Stands lines × (now ≡ written) × (keeps ≡ held)
+
+-- the first line of octets is accepted, and only a part of its output was handed over
+abbrev pub BreaksOff : Meaning → List (List ℕ) → List ℕ → List ℕ → Option (List ℕ) → List ℕ → Option (List ℕ) → List ℕ → Type 0
+BreaksOff m lines text octets written held now keeps =
+    (line : List ℕ) × (count : ℕ) × IsFront octets count line × Breaks (λ more. m.accepts (lines ++ line ∷ []) (text ++ more)) written held now keeps
 
 -- why a line isn't accepted, or its output not handed over
 abbrev pub StopsAt : Meaning → List (List ℕ) → List ℕ → List ℕ → Option (List ℕ) → List ℕ → Option (List ℕ) → List ℕ → Stop → Type 0

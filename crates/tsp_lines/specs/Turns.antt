@@ -1,12 +1,15 @@
 -- A treatment of lines under way: how far it is, and how it ends.
-use Rattle.std.specs.Prelude.{◌≡◌, ℕ, ◌<◌, ◌≤◌, ◌+◌, ◌⊎◌, List, [], ◌∷◌, ◌++◌, length, All}
+use Rattle.std.specs.Prelude.{◌≡◌, ℕ, ◌<◌, ◌≤◌, ◌+◌, ◌⊎◌, Bool, true, false, List, [], ◌∷◌, ◌++◌, length, All, Ok, Err}
 use Rattle.std.specs.declared.option.Option.{Option}
+use Rattle.std.specs.declared.result.Result.{Result}
 use Rattle.tsp_io.specs.Streams.{Gives}
 use Rattle.tsp_lines.specs.Lines.{NoFeed, closed}
 use Rattle.tsp_lines.specs.Meanings.{Meaning, Breaks}
 use Rattle.tsp_lines.specs.Outputs.{Hands}
-use Rattle.tsp_lines.specs.Outcomes.{bad_line, limit_line, KeepsUp}
+use Rattle.tsp_lines.specs.Outcomes.{bad_line, limit_line, Comes, KeepsUp}
 use Rattle.tsp_lines.specs.Readings.{ReaderValue}
+use Rattle.tsp_lines.specs.declared.output.Unwritten.{Unwritten}
+use Rattle.tsp_lines.specs.declared.output.Unwritten.TheVariants.{WriteFault as NotWritten, OutOfMemory as NoMemory}
 use Rattle.tsp_lines.specs.declared.treatment.Stop.{Stop}
 use Rattle.tsp_lines.specs.declared.treatment.Stop.TheVariants.{Bad as Refused, Limit as Limited, WriteFault as Unwrote, OutOfMemory as Unheld}
 use Rattle.tsp_lines.specs.declared.treat.Outcome.{Outcome}
@@ -87,6 +90,21 @@ pub record IsAt (m : Meaning) (Stands : List (List ℕ) → Type 0) (input left 
   pub within : reader.got ≤ reader.limit + length reader.held
   pub handed : Hands written [] now held text
   pub counted : number ≡ length lines + 1
+
+-- it stands for these lines, and another one is allowed
+abbrev pub StandsOpen : Meaning → (List (List ℕ) → Type 0) → List (List ℕ) → Type 0
+StandsOpen m Stands lines = Stands lines × (¬ m.full lines)
+
+-- how it ends where output isn't written
+abbrev pub outcome_of : Unwritten → Outcome
+outcome_of NotWritten = WriteFault
+outcome_of NoMemory = OutOfMemory
+
+-- what came of the first line that is held: the treatment is so far behind it, or so far in front of it and nothing has changed, or it ends
+abbrev pub TriesHeld : Meaning → (List (List ℕ) → Type 0) → Option (List ℕ) → Option (List ℕ) → Option (List ℕ) → Option (List ℕ) → ReaderValue → List ℕ → ℕ → List (List ℕ) → List ℕ → Result Bool Unwritten → Type 0
+TriesHeld m Stands input left written now reader held number lines text (Ok true) = (more : List (List ℕ)) × (longer : List ℕ) × IsAt m Stands input left written now reader held number more longer
+TriesHeld m Stands input left written now reader held number lines text (Ok false) = IsAt m (StandsOpen m Stands) input left written now reader held number lines text
+TriesHeld m Stands input left written now reader held number lines text (Err fault) = Comes m reader.limit input left written now (outcome_of fault)
 
 -- wherever the treatment is, output that kept up with input before a call keeps up with it after that: what is left of the input and what was written, each before and after
 abbrev pub StillKeepsUp : Meaning → (List (List ℕ) → Type 0) → ReaderValue → List ℕ → ℕ → Option (List ℕ) → Option (List ℕ) → Option (List ℕ) → Option (List ℕ) → Type 0

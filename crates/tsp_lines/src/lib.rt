@@ -45,7 +45,7 @@ mod gather;
 mod gathered;
 pub mod laws;
 pub mod limits;
-mod line_feed;
+pub mod line_feed;
 pub mod next;
 pub mod output;
 mod progress;

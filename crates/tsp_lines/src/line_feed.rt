@@ -1,7 +1,8 @@
 //! The first line feed.
-ghost use Rattle.std.specs.Prelude.{◌≡◌, map};
+ghost use Rattle.std.specs.Prelude.{◌≡◌, ◌+◌, map, length, IfSome};
 ghost use Rattle.std.specs.Simd.Lanes.{mask_l};
 ghost use Rattle.memchr.specs.Find.{IsFirstByte, is_byte};
+ghost use Rattle.tsp_lines.specs.Lines.{IsFront};
 
 use memchr::memchr;
 use std::simd::prelude::*;
@@ -26,4 +27,13 @@ pub(crate) fn first_feed(octets: &[u8]) -> Option<usize>
         }
     }
     memchr(b'\n', octets)
+}
+
+/// The first line of some octets, without its line feed; None where no line feed is among them.
+#[inline(always)]
+pub fn first_line(octets: &[u8]) -> Option<&[u8]>
+    ensures { IfSome result (λ line. IsFront octets.now (length line.now + 1) line.now) }
+{
+    let place = first_feed(octets)?;
+    Some(octets.split_at(place).0)
 }

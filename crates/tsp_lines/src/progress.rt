@@ -4,14 +4,15 @@ ghost use Rattle.std.specs.Prelude.{length, take, true, false, IfOk, IfErr, OnOk
 ghost use Rattle.std.specs.Prelude.{MatchOption, MatchResult};
 ghost use Rattle.std.specs.declared.option.Option.{Option};
 ghost use Rattle.tsp_io.specs.Counts.{Rose};
-ghost use Rattle.tsp_io.specs.Streams.{Gives};
+ghost use Rattle.tsp_io.specs.Streams.{Gives, Grows};
 ghost use Rattle.tsp_lines.specs.Lines.{NoFeed, IsOver};
 ghost use Rattle.tsp_lines.specs.Meanings.{Breaks, Goes};
 ghost use Rattle.tsp_lines.specs.Outputs.{Hands};
 ghost use Rattle.tsp_lines.specs.Outcomes.{Comes};
 ghost use Rattle.tsp_lines.specs.Readings.{IsNext, IsFill, is_over, meets_end};
 ghost use Rattle.tsp_lines.specs.Faults.{Counts};
-ghost use Rattle.tsp_lines.specs.Turns.{only_so, line_sayings, end_sayings, Ends, Stopped, IsAt, StillKeepsUp};
+ghost use Rattle.tsp_lines.specs.Turns.{only_so, line_sayings, end_sayings, Ends, Stopped};
+ghost use Rattle.tsp_lines.specs.Turns.{IsAt, StandsOpen, StillKeepsUp, TriesHeld};
 
 use crate::next::{Fill, Next};
 use crate::output::{Output, Unwritten};
@@ -76,6 +77,49 @@ impl Progress {
         }
     }
 
+    /// Treats the first line that is held, if it can be treated in its place; false where it can't, and then nothing has
+    /// changed.
+    #[inline(always)]
+    pub(crate) fn try_held<K: Sink, T: Treatment>(
+        &mut self,
+        sink: &mut K,
+        treatment: &mut T,
+    ) -> Result<bool, Unwritten>
+        requires counted { self.old.number + length self.old.reader.held ≤ self.old.reader.got + 1 }
+        requires limit { self.old.reader.limit < 2 ^ 63 }
+        ensures tries { (input left written : Option (List ℕ)) → (lines : List (List ℕ))
+            → (text : List ℕ) → IsAt T.meaning (StandsOpen T.meaning (T.stands treatment.old)) input
+            left written (K.written sink.old) self.old.reader self.old.output self.old.number lines
+            text → TriesHeld T.meaning (T.stands treatment.new) input left written
+            (K.written sink.new) self.new.reader self.new.output self.new.number lines text result }
+        ensures grew { (lines : List (List ℕ)) → (text : List ℕ)
+            → StandsOpen T.meaning (T.stands treatment.old) lines → T.meaning.accepts lines text
+            → (octets : List ℕ) × Grows (K.written sink.old) (K.written sink.new) octets }
+        ensures counted { self.new.number + length self.new.reader.held ≤ self.new.reader.got + 1 }
+        ensures smaller { result ≡ Ok true
+            → length self.new.reader.held < length self.old.reader.held }
+        ensures same { (self.new.reader.got ≡ self.old.reader.got)
+            × (self.new.reader.limit ≡ self.old.reader.limit) }
+        ensures left { result ≡ Ok false → length self.new.reader.held ≡ length self.old.reader.held }
+        ensures later { K.faults sink.old ≤ K.faults sink.new }
+        ensures cause { result ≡ Err Unwritten.WriteFault
+            → Rose (K.faults sink.old) (K.faults sink.new) }
+        ensures still { result ≢ Err Unwritten.WriteFault → K.faults sink.new ≡ K.faults sink.old }
+    {
+        if !self.reader.is_within() {
+            return Ok(false);
+        }
+        match treatment.try_front(self.reader.octets(), &mut self.output, sink) {
+            Ok(Some(count)) => {
+                self.reader.skip(count);
+                self.number += 1;
+                Ok(true)
+            }
+            Ok(None) => Ok(false),
+            Err(fault) => Err(fault),
+        }
+    }
+
     /// The next line. What is held is written before more of the input is read.
     #[inline(always)]
     fn next<S: Source, K: Sink>(&mut self, source: &mut S, sink: &mut K) -> Result<Next, Unwritten>
@@ -133,44 +177,8 @@ impl Progress {
     }
 
     /// Treats the line last read; None where it is accepted.
-    fn treat<K: Sink, T: Treatment>(&mut self, sink: &mut K, treatment: &mut T) -> Option<Outcome>
-        requires short { length self.old.reader.line ≤ 1024 }
-        requires feedless { NoFeed self.old.reader.line }
-        requires counted { self.old.number < 2 ^ 64 - 1 }
-        ensures treats { (lines : List (List ℕ)) → (text : List ℕ) → T.stands treatment.old lines
-            → T.meaning.accepts lines text → ¬ T.meaning.full lines
-            → MatchOption result (Goes T.meaning (T.stands treatment.new) lines text
-            self.old.reader.line (K.written sink.old) self.old.output (K.written sink.new)
-            self.new.output) (λ outcome. Ends (line_sayings T.meaning lines text self.old.number
-            self.old.reader.line) (K.written sink.old) self.old.output (K.written sink.new)
-            outcome) }
-        ensures number { result ≡ None → self.new.number ≡ self.old.number + 1 }
-        ensures same { self.new.reader ≡ self.old.reader }
-        ensures later { K.faults sink.old ≤ K.faults sink.new }
-        ensures cause { result ≡ Some Outcome.WriteFault
-            → Rose (K.faults sink.old) (K.faults sink.new) }
-        ensures still { MatchOption result (K.faults sink.new ≡ K.faults sink.old)
-            (λ outcome. outcome ≢ Outcome.WriteFault → K.faults sink.new ≡ K.faults sink.old) }
-        ensures kind { (result ≢ Some Outcome.ReadFault) × (result ≢ Some Outcome.Ok) }
-    {
-        match treatment.try_treat(self.reader.line(), &mut self.output, sink) {
-            Ok(true) => {
-                self.number += 1;
-                None
-            }
-            Ok(false) => self.treat_any(sink, treatment),
-            Err(Unwritten::WriteFault) => Some(Outcome::WriteFault),
-            Err(Unwritten::OutOfMemory) => Some(Outcome::OutOfMemory),
-        }
-    }
-
-    /// The same for a line of any kind. Only here is there room for a `Stop`, since each call clears that room.
     #[inline(never)]
-    fn treat_any<K: Sink, T: Treatment>(
-        &mut self,
-        sink: &mut K,
-        treatment: &mut T,
-    ) -> Option<Outcome>
+    fn treat<K: Sink, T: Treatment>(&mut self, sink: &mut K, treatment: &mut T) -> Option<Outcome>
         requires short { length self.old.reader.line ≤ 1024 }
         requires feedless { NoFeed self.old.reader.line }
         requires counted { self.old.number < 2 ^ 64 - 1 }
@@ -315,19 +323,17 @@ impl Progress {
         requires open { S.ended source.old ≡ false }
         requires counted { self.old.number + length self.old.reader.held ≤ self.old.reader.got + 1 }
         requires limit { self.old.reader.limit < 2 ^ 63 }
-        requires room { (lines : List (List ℕ)) → T.stands treatment.old lines
-            → ¬ T.meaning.full lines }
         ensures turns { (input : Option (List ℕ)) → (written : Option (List ℕ))
             → (lines : List (List ℕ)) → (text : List ℕ)
-            → IsAt T.meaning (T.stands treatment.old) input (S.left source.old) written
-            (K.written sink.old) self.old.reader self.old.output self.old.number lines text
+            → IsAt T.meaning (StandsOpen T.meaning (T.stands treatment.old)) input
+            (S.left source.old) written (K.written sink.old) self.old.reader self.old.output self.old.number lines text
             → MatchOption result ((more : List (List ℕ)) × (longer : List ℕ)
             × IsAt T.meaning (T.stands treatment.new) input (S.left source.new) written
             (K.written sink.new) self.new.reader self.new.output self.new.number more longer)
             (Comes T.meaning self.old.reader.limit input (S.left source.new) written
             (K.written sink.new)) }
-        ensures keeps_up { StillKeepsUp T.meaning (T.stands treatment.old) self.old.reader
-            self.old.output self.old.number (S.left source.old) (S.left source.new)
+        ensures keeps_up { StillKeepsUp T.meaning (StandsOpen T.meaning (T.stands treatment.old))
+            self.old.reader self.old.output self.old.number (S.left source.old) (S.left source.new)
             (K.written sink.old) (K.written sink.new) }
         ensures open { result ≡ None → S.ended source.new ≡ false }
         ensures counted { result ≡ None

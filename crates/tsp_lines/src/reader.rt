@@ -1,7 +1,7 @@
 //! A reader of lines.
 ghost use Rattle.std.specs.Prelude.{◌≡◌, ◌≢◌, ℕ, List, ◌≤◌, ◌<◌, ◌+◌, ◌-◌, ◌^◌, [], ◌++◌, length};
 ghost use Rattle.std.specs.Prelude.{take, drop, slice_range, true, false, if◌then◌else◌, IfOk};
-ghost use Rattle.std.specs.Prelude.{IfSome, MatchOption};
+ghost use Rattle.std.specs.Prelude.{IfSome, MatchBool, MatchOption};
 ghost use Rattle.tsp_io.specs.Streams.{Gives};
 ghost use Rattle.tsp_lines.specs.Lines.{NoFeed, close, IsOver};
 ghost use Rattle.tsp_lines.specs.Readings.{IsNext, ReadsNext, IsPassed, long_of, is_over, IsFill, meets_end};
@@ -99,6 +99,32 @@ impl LineReader {
         &self.buf[self.from..self.to]
     }
 
+    /// Whether no octet past the limit was read.
+    #[inline(always)]
+    pub fn is_within(&self) -> bool
+        ensures { MatchBool result (self.now.got ≤ self.now.limit) (self.now.limit < self.now.got) }
+    {
+        self.got <= self.limit
+    }
+
+    /// The octets that were read and not used yet.
+    #[inline(always)]
+    pub fn octets(&self) -> &[u8]
+        ensures { result.now ≡ self.now.held }
+    {
+        &self.buf[self.at..self.end]
+    }
+
+    /// Uses so many of these octets.
+    #[inline(always)]
+    pub fn skip(&mut self, count: usize)
+        requires within { count ≤ length self.old.held }
+        requires limit { self.old.got ≤ self.old.limit }
+        ensures { self.new ≡ record self.old { held = drop count self.old.held } }
+    {
+        self.at += count;
+    }
+
     /// The first 8 octets of the long line last given.
     pub fn start(&self) -> &[u8]
         ensures { result.now ≡ self.now.start }
@@ -131,7 +157,7 @@ impl LineReader {
             self.now.held)) }
         ensures within { IfSome result (λ place. place < length self.now.held) }
     {
-        first_feed(&self.buf[self.at..self.end])
+        first_feed(self.octets())
     }
 
     /// Takes the line that ends at this place of what is held.

@@ -1,8 +1,9 @@
 //! The treatment of a whole input.
 ghost use Rattle.std.specs.Prelude.{◌≡◌, ◌<◌, ◌^◌, [], false};
 ghost use Rattle.tsp_lines.specs.Frames.{Treats};
+ghost use Rattle.tsp_lines.specs.Turns.{outcome_of};
 
-use crate::output::Output;
+use crate::output::{Output, Unwritten};
 use crate::progress::Progress;
 use crate::reader::LineReader;
 use crate::treatment::Treatment;
@@ -25,6 +26,16 @@ pub enum Outcome {
     Limit,
     /// Out of memory.
     OutOfMemory,
+}
+
+/// How a treatment ends where output isn't written.
+fn outcome_of(fault: Unwritten) -> Outcome
+    ensures { result ≡ outcome_of fault }
+{
+    match fault {
+        Unwritten::WriteFault => Outcome::WriteFault,
+        Unwritten::OutOfMemory => Outcome::OutOfMemory,
+    }
 }
 
 /// Treats all lines of an input, each as soon as its line feed was read, and writes its output before more
@@ -56,6 +67,11 @@ pub fn treat_all<S: Source, K: Sink, T: Treatment>(
     loop {
         if treatment.is_full() {
             return progress.close(source, sink, treatment);
+        }
+        match progress.try_held(sink, treatment) {
+            Ok(true) => continue,
+            Ok(false) => {}
+            Err(fault) => return outcome_of(fault),
         }
         if let Some(outcome) = progress.turn(source, sink, treatment) {
             return outcome;

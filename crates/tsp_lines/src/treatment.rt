@@ -1,8 +1,9 @@
 //! What a command does with lines.
-ghost use Rattle.std.specs.Prelude.{◌≡◌, ◌≢◌, ℕ, ◌≤◌, ◌<◌, ◌++◌, ◌∷◌, [], length, take, List, MatchBool, MatchResult};
+ghost use Rattle.std.specs.Prelude.{◌≡◌, ◌≢◌, ℕ, ◌≤◌, ◌<◌, ◌++◌, ◌∷◌, [], length, take, List};
+ghost use Rattle.std.specs.Prelude.{IfOk, IfSome, MatchBool, MatchResult};
 ghost use Rattle.tsp_io.specs.Counts.{Rose};
 ghost use Rattle.tsp_lines.specs.Lines.{NoFeed};
-ghost use Rattle.tsp_lines.specs.Meanings.{Meaning, Breaks, Goes, Tried, StopsAt, Closes, StopsAtEnd, stop_of};
+ghost use Rattle.tsp_lines.specs.Meanings.{Meaning, BreaksOff, Goes, Tried, StopsAt, Closes, StopsAtEnd, stop_of};
 
 use crate::cause::Cause;
 use crate::output::{Output, Unwritten};
@@ -46,30 +47,32 @@ pub trait Treatment {
         ensures { (lines : List (List ℕ)) → stands self.now lines
             → MatchBool result (meaning.full lines) (¬ meaning.full lines) };
 
-    /// Treats a line as `treat` does, if it is of a frequent kind and nothing refuses it. With `Ok(false)` nothing
-    /// has changed, and the line comes to `treat`; with an error a part of its output was put, and no further call
-    /// follows. (What this gives is small. A `Stop` isn't, and each call that may give one clears and moves it.)
+    /// Treats the first line of some octets as `treat` does, if its line feed is among them, it is of a frequent kind
+    /// and nothing refuses it; gives how many octets it has with its line feed. With `Ok(None)` nothing has changed, and
+    /// the line comes to `treat`; with an error a part of its output was put, and no further call follows. (So no line
+    /// feed is searched, and what this gives is small: a `Stop` isn't, and each call that may give one clears and moves
+    /// it.)
     #[inline(always)]
-    fn try_treat<K: Sink>(
+    fn try_front<K: Sink>(
         &mut self,
-        line: &[u8],
+        octets: &[u8],
         output: &mut Output,
         sink: &mut K,
-    ) -> Result<bool, Unwritten>
-        requires short { length line.now ≤ 1024 }
-        requires feedless { NoFeed line.now }
+    ) -> Result<Option<usize>, Unwritten>
         ensures tries { (lines : List (List ℕ)) → (text : List ℕ) → stands self.old lines
             → meaning.accepts lines text → ¬ meaning.full lines
-            → MatchResult result (Tried meaning (stands self.new) lines text line.now
+            → MatchResult result (Tried meaning (stands self.new) lines text octets.now
             (K.written sink.old) output.old (K.written sink.new) output.new)
-            (λ _. Breaks (λ more. meaning.accepts (lines ++ line.now ∷ []) (text ++ more))
-            (K.written sink.old) output.old (K.written sink.new) output.new) }
+            (λ _. BreaksOff meaning lines text octets.now (K.written sink.old) output.old
+            (K.written sink.new) output.new) }
+        ensures within { IfOk result (λ front. IfSome front (λ count. (0 < count)
+            × (count ≤ length octets.now))) }
         ensures later { K.faults sink.old ≤ K.faults sink.new }
         ensures cause { result ≡ Err Unwritten.WriteFault
             → Rose (K.faults sink.old) (K.faults sink.new) × (0 < length output.new) }
         ensures still { result ≢ Err Unwritten.WriteFault → K.faults sink.new ≡ K.faults sink.old }
     {
-        Ok(false)
+        Ok(None)
     }
 
     /// Treats a line, which comes without its line feed: puts its output into `output`, or says why not.

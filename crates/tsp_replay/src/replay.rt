@@ -46,17 +46,17 @@ impl Treatment for Replay {
     }
 
     #[inline(always)]
-    fn try_treat<K: Sink>(
+    fn try_front<K: Sink>(
         &mut self,
-        line: &[u8],
+        octets: &[u8],
         output: &mut Output,
         sink: &mut K,
-    ) -> Result<bool, Unwritten> {
-        if !self.stage.try_advance(line) {
-            return Ok(false);
-        }
+    ) -> Result<Option<usize>, Unwritten> {
+        let Some(count) = self.stage.try_front(octets) else {
+            return Ok(None);
+        };
         match tell(told(&self.stage), &mut self.text, output, sink) {
-            Ok(()) => Ok(true),
+            Ok(()) => Ok(Some(count)),
             Err(fault) => Err(fault),
         }
     }

@@ -1,5 +1,5 @@
 -- How a stage goes on, and how it halts.
-use Rattle.std.specs.Prelude.{◌≡◌, ◌≢◌, ℕ, Bool, List, [], ◌∷◌, ◌++◌, Ok, Err, None, MatchBool, MatchResult, refl, true, false}
+use Rattle.std.specs.Prelude.{◌≡◌, ◌≢◌, ℕ, Bool, List, [], ◌∷◌, ◌++◌, Ok, Err, Option, None, Some, MatchBool, MatchOption, MatchResult, refl, true, false}
 use Rattle.std.proofs.Common.{sym, ap, ◌∙◌, inl, inr, subst}
 use Rattle.std.specs.declared.result.Result.{Result}
 use Rattle.tsp_base.specs.declared.event.Event.{Event}
@@ -7,6 +7,7 @@ use Rattle.tsp_base.specs.declared.event.EventFault.{EventFault}
 use Rattle.tsp_base.specs.declared.event.EventFault.TheVariants.{TimeBack, NoNode, NoDatagram, NotUp, Limit as NoRoom, OutOfMemory as NoMemory}
 use Rattle.tsp_base.specs.declared.header.NodeLine.{NodeLine}
 use Rattle.tsp_base.specs.Words.{HeaderValue}
+use Rattle.tsp_lines.specs.Lines.{line_ahead}
 use Rattle.tsp_lines.specs.declared.treatment.Stop.{Stop}
 use Rattle.tsp_lines.specs.declared.treatment.Stop.TheVariants.{Bad, Limit, WriteFault, OutOfMemory}
 use Rattle.tsp_script.specs.declared.event_line.EventItem.{EventItem}
@@ -20,7 +21,7 @@ use Rattle.tsp_schedule.specs.declared.run.Run.{Run}
 use Rattle.tsp_schedule.specs.declared.stage.Stage.{Stage}
 use Rattle.tsp_schedule.specs.declared.stage.Stage.TheVariants.{Titled as AtTitled, Drifted as AtDrifted, Heading as AtHeading, Running as AtRunning}
 use Rattle.tsp_schedule.specs.Schedules.{Progress, Untitled, Titled, Drifted, Heading, Running, Ended, GoesOn, RunsOn, Takes, TakesNet, IsComplete, next_place, new_header, IsCause, drifted}
-use Rattle.tsp_schedule.specs.Stages.{StageStands, RunStands, TriesLine, Advances, AdvancesByEvent, Halts, HaltsFirst, HaltsNode, HaltsNet, HaltsEvent, StopsFor}
+use Rattle.tsp_schedule.specs.Stages.{StageStands, RunStands, TriesFront, Advances, AdvancesByEvent, Halts, HaltsFirst, HaltsNode, HaltsNet, HaltsEvent, StopsFor}
 use Rattle.tsp_schedule.specs.Refusing.{Refusing}
 use Rattle.tsp_run.specs.Refusals.{IsRefusal}
 
@@ -31,6 +32,10 @@ MatchResult-map (Err b) h f g = g b h
 pub MatchBool-map : {P Q R S : Type 0} (b : Bool) → MatchBool b P Q → (P → R) → (Q → S) → MatchBool b R S
 MatchBool-map true h f g = f h
 MatchBool-map false h f g = g h
+
+pub MatchOption-map : {A P Q : Type 0} {R S : A → Type 0} (o : Option A) → MatchOption o P R → (P → Q) → ((a : A) → R a → S a) → MatchOption o Q S
+MatchOption-map None h f g = f h
+MatchOption-map (Some a) h f g = g a h
 
 bad_cause : (fault : EventFault) (cause : List ℕ) → StopsFor fault (Bad cause) → IsCause fault cause
 bad_cause (TimeBack a b) cause s = s
@@ -107,14 +112,15 @@ module _ {C : Type 0} (refused : Refusing) (stands : HeaderValue → List Event 
   Advances-by_event header events e line next spells none s =
       (header, events, e, refl, Advances-event header events e line next (Ok (EventOf e)) refl (λ item k. ap (λ i. Ok i) (SpellsEvent-one line (EventOf e) item spells k)) spells none s, refl)
 
-  -- a line that was tried where the last one wasn't read yet
-  pub Running-tried : (p : Progress) (old new : Run C) (line : List ℕ) (done : Bool) → RunStands stands p old → old.over ≡ false → TriesLine refused stands old line new done → MatchBool done (AdvancesByEvent refused stands p line (AtRunning new)) (RunStands stands p new)
-  Running-tried Untitled old new line done h over t = absurd h
-  Running-tried (Titled version) old new line done h over t = absurd h
-  Running-tried (Drifted drift) old new line done h over t = absurd h
-  Running-tried (Heading header) old new line done h over t = absurd h
-  Running-tried (Running header events) old new line done h over t = t header events h.1
-  Running-tried (Ended header events) old new line done h over t = let q = h.0 in let bad : ⊥ = cc in absurd bad
+  -- the first of some lines was tried where the last one wasn't read yet
+  pub Running-tried : (p : Progress) (old new : Run C) (text : List ℕ) (front : Option ℕ) → RunStands stands p old → old.over ≡ false → TriesFront refused stands old text new front
+      → MatchOption front (RunStands stands p new) (λ count. AdvancesByEvent refused stands p (line_ahead text count) (AtRunning new))
+  Running-tried Untitled old new text front h over t = absurd h
+  Running-tried (Titled version) old new text front h over t = absurd h
+  Running-tried (Drifted drift) old new text front h over t = absurd h
+  Running-tried (Heading header) old new text front h over t = absurd h
+  Running-tried (Running header events) old new text front h over t = t header events h.1
+  Running-tried (Ended header events) old new text front h over t = let q = h.0 in let bad : ⊥ = cc in absurd bad
 
   only_end : (header : HeaderValue) (events : List Event) (line : List ℕ) (r : Result EventItem LineFault) → r ≡ Ok End → ((item : EventItem) → SpellsEvent line item → r ≡ Ok item) →
       (other : Progress) → RunsOn refused header events line other → other ≡ Ended header events

@@ -1,5 +1,5 @@
 -- What a stage of the reading of a schedule stands for.
-use Rattle.std.specs.Prelude.{◌≡◌, ◌⊎◌, ℕ, Bool, true, false, List, [], ◌∷◌, reverse, None, Some, codes, MatchBool, MatchResult}
+use Rattle.std.specs.Prelude.{◌≡◌, ◌⊎◌, ℕ, Bool, true, false, List, [], ◌∷◌, reverse, None, Some, codes, Option, MatchBool, MatchOption, MatchResult}
 use Rattle.std.specs.declared.result.Result.{Result}
 use Rattle.tsp_base.specs.declared.event.Event.{Event}
 use Rattle.tsp_base.specs.declared.event.EventFault.{EventFault}
@@ -11,6 +11,7 @@ use Rattle.tsp_schedule.specs.declared.stage.Stage.{Stage}
 use Rattle.tsp_schedule.specs.declared.stage.Stage.TheVariants.{Untitled as AtUntitled, Titled as AtTitled, Drifted as AtDrifted, Heading as AtHeading, Running as AtRunning}
 use Rattle.tsp_schedule.specs.Refusing.{Refusing}
 use Rattle.tsp_schedule.specs.Schedules.{Progress, Untitled, Titled, Drifted, Heading, Running, Ended, GoesOn, Reaches, Refuses, RefusesRun, Limits, LimitsRun, Takes, TakesNet, IsComplete, IsCause, new_header}
+use Rattle.tsp_lines.specs.Lines.{line_ahead}
 use Rattle.tsp_lines.specs.declared.treatment.Stop.{Stop}
 use Rattle.tsp_lines.specs.declared.treatment.Stop.TheVariants.{Bad, Limit, WriteFault, OutOfMemory}
 
@@ -108,7 +109,7 @@ abbrev pub TriesEvent : {C : Type 0} → Refusing → (HeaderValue → List Even
 TriesEvent refused stands old e new result = (header : HeaderValue) (events : List Event) → stands header events old.handler →
     MatchBool result ((refused header events e ≡ None) × stands header (e ∷ events) new.handler) (stands header events new.handler)
 
--- a line after the header was tried where the last line wasn't read yet: it was accepted, or nothing has changed
-abbrev pub TriesLine : {C : Type 0} → Refusing → (HeaderValue → List Event → C → Type 0) → Run C → List ℕ → Run C → Bool → Type 0
-TriesLine refused stands old line new result = (header : HeaderValue) (events : List Event) → stands header events old.handler →
-    MatchBool result (AdvancesByEvent refused stands (Running header events) line (AtRunning new)) (RunStands stands (Running header events) new)
+-- the first of some lines after the header was tried where the last line wasn't read yet: it was accepted, and has so many octets with its line feed, or nothing has changed
+abbrev pub TriesFront : {C : Type 0} → Refusing → (HeaderValue → List Event → C → Type 0) → Run C → List ℕ → Run C → Option ℕ → Type 0
+TriesFront refused stands old text new result = (header : HeaderValue) (events : List Event) → stands header events old.handler →
+    MatchOption result (RunStands stands (Running header events) new) (λ count. AdvancesByEvent refused stands (Running header events) (line_ahead text count) (AtRunning new))

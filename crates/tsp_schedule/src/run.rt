@@ -1,11 +1,12 @@
 //! The part of a schedule after its header.
 ghost use Rattle.std.specs.Prelude.{◌≡◌, ◌≢◌, ◌≤◌, ◌<◌, ℕ, List, [], length, true, false};
-ghost use Rattle.std.specs.Prelude.{IfOk, MatchBool, MatchOption, MatchResult, None, Err};
+ghost use Rattle.std.specs.Prelude.{IfOk, IfSome, MatchBool, MatchOption, MatchResult, None, Err};
 ghost use Rattle.tsp_base.specs.Headers.{is_whole};
 ghost use Rattle.tsp_base.specs.declared.event.Event.{Event};
 ghost use Rattle.tsp_schedule.specs.Schedules.{IsEnded, Lacks, Progress, Refuses};
 ghost use Rattle.tsp_schedule.specs.Stages.{Halts, ReadsOn, RunAdvances, RunStands, Treats};
-ghost use Rattle.tsp_schedule.specs.Stages.{AdvancesByEvent, TriesEvent, TriesLine};
+ghost use Rattle.tsp_schedule.specs.Stages.{AdvancesByEvent, TriesEvent, TriesFront};
+ghost use Rattle.tsp_lines.specs.Lines.{IsAhead, line_ahead};
 ghost use Rattle.tsp_schedule.specs.declared.stage.Stage.{Stage};
 ghost use Rattle.tsp_base.specs.Plains.{event_in};
 ghost use Rattle.tsp_script.specs.Schedules.{IsEvent};
@@ -17,11 +18,9 @@ use tsp_base::event::Event;
 use tsp_base::header::Header;
 use tsp_base::plain::Plain;
 use tsp_lines::cause::Cause;
+use tsp_lines::line_feed::first_line;
 use tsp_lines::treatment::Stop;
-use tsp_script::event_line::{EventItem, HandedLine, event_line, handed_line, plain_line};
-
-/// The line of a turn or a take is at most so long; a longer one isn't tried as such.
-const PLAIN: usize = 45;
+use tsp_script::event_line::{EventItem, HandedLine, event_line, handed_line, plain_ahead};
 
 /// The state after the lines that follow a header.
 #[derive(Drop)]
@@ -145,46 +144,57 @@ impl<C: EventHandler> Run<C> {
         }
     }
 
-    /// Reads a line with octets, which are handed on from where they were read. False where the line is another, or
-    /// its event is refused, and then nothing has changed.
-    #[inline(never)]
-    fn try_bytes(&mut self, line: &[u8]) -> bool
-        requires { self.old.over ≡ false }
-        ensures { TriesLine C.refused C.stands self.old line.now self.new result }
-    {
-        let mut octets = [0; 512];
-        match handed_line(line, &mut octets) {
-            Some(handed) => self.try_octets(handed, &octets[..handed.count]),
-            None => false,
-        }
-    }
-
-    /// Reads a turn, a take or octets, where the last line wasn't read yet; false as with `try_bytes`.
-    fn try_on(&mut self, line: &[u8]) -> bool
-        requires { self.old.over ≡ false }
-        ensures { TriesLine C.refused C.stands self.old line.now self.new result }
-    {
-        // The most frequent events have no octets, and short lines, so that they are cheap to read.
-        if line.len() <= PLAIN {
-            if let Some(plain) = plain_line(line) {
-                return self.try_plain(&plain);
-            }
-        }
-        self.try_bytes(line)
-    }
-
-    /// Reads the line of a turn, a take or octets, if nothing refuses it. False for any other line, and then nothing
+    /// Reads the first of some lines where it is one with octets, which are handed on from where they were read; gives
+    /// how many octets it has with its line feed. None where it is another, or its event is refused, and then nothing
     /// has changed.
+    #[inline(never)]
+    fn try_bytes(&mut self, text: &[u8]) -> Option<usize>
+        requires { self.old.over ≡ false }
+        ensures tries { TriesFront C.refused C.stands self.old text.now self.new result }
+        ensures front { IfSome result (IsAhead text.now) }
+    {
+        let line = first_line(text)?;
+        let mut octets = [0; 512];
+        let handed = handed_line(line, &mut octets)?;
+        if self.try_octets(handed, &octets[..handed.count]) {
+            Some(line.len() + 1)
+        } else {
+            None
+        }
+    }
+
+    /// Reads the first of some lines where it is that of a turn, a take or octets, and the last line wasn't read yet;
+    /// None as with `try_bytes`.
     #[inline(always)]
-    pub(crate) fn try_advance(&mut self, line: &[u8]) -> bool
-        ensures { (p : Progress) → RunStands C.stands p self.old
-            → MatchBool result
-            (AdvancesByEvent C.refused C.stands p line.now (Stage.Running self.new))
-            (RunStands C.stands p self.new) }
+    fn try_on(&mut self, text: &[u8]) -> Option<usize>
+        requires { self.old.over ≡ false }
+        ensures tries { TriesFront C.refused C.stands self.old text.now self.new result }
+        ensures front { IfSome result (IsAhead text.now) }
+    {
+        // The most frequent events have no octets: their lines are read in place.
+        let Some((plain, count)) = plain_ahead(text) else {
+            return self.try_bytes(text);
+        };
+        if self.try_plain(&plain) {
+            Some(count)
+        } else {
+            None
+        }
+    }
+
+    /// Reads the first of some lines where it is that of a turn, a take or octets, and nothing refuses it; gives how
+    /// many octets it has with its line feed. None for any other, and then nothing has changed.
+    #[inline(always)]
+    pub(crate) fn try_front(&mut self, text: &[u8]) -> Option<usize>
+        ensures tries { (p : Progress) → RunStands C.stands p self.old
+            → MatchOption result (RunStands C.stands p self.new)
+            (λ count. AdvancesByEvent C.refused C.stands p (line_ahead text.now count)
+            (Stage.Running self.new)) }
+        ensures front { IfSome result (IsAhead text.now) }
     {
         if self.over {
-            return false;
+            return None;
         }
-        self.try_on(line)
+        self.try_on(text)
     }
 }

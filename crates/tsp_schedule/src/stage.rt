@@ -1,6 +1,7 @@
 //! How far the reading of a schedule is.
 ghost use Rattle.std.specs.Prelude.{◌≡◌, ◌≢◌, ◌<◌, ◌≤◌, ℕ, true, List, [], ◌∷◌, ◌++◌, length, take};
-ghost use Rattle.std.specs.Prelude.{MatchBool, MatchResult, MatchOption, Err, codes};
+ghost use Rattle.std.specs.Prelude.{IfSome, MatchBool, MatchResult, MatchOption, Err, codes};
+ghost use Rattle.tsp_lines.specs.Lines.{IsAhead, line_ahead};
 ghost use Rattle.tsp_schedule.specs.Schedules.{Progress, Untitled, Titled, Drifted, Heading};
 ghost use Rattle.tsp_schedule.specs.Schedules.{Running, Takes, TakesNet, IsComplete, next_place};
 ghost use Rattle.tsp_schedule.specs.Schedules.{drifted, new_header, Lacks, IsEnded, Refuses};
@@ -87,18 +88,20 @@ impl<C: EventHandler> Stage<C> {
         self.go_on(alloc, line)
     }
 
-    /// Reads the next line as `advance` does, if it is that of a turn, a take or octets after the first line behind
-    /// the header, and nothing refuses it. False for any other line, and then nothing has changed.
+    /// Reads the first of some lines as `advance` does, if it is that of a turn, a take or octets after the first line
+    /// behind the header, and nothing refuses it; gives how many octets it has with its line feed. None for any other,
+    /// and then nothing has changed.
     #[inline(always)]
-    pub fn try_advance(&mut self, line: &[u8]) -> bool
-        ensures { (p : Progress) → StageStands C.stands p self.old
-            → MatchBool result (AdvancesByEvent C.refused C.stands p line.now self.new)
-            (StageStands C.stands p self.new) }
+    pub fn try_front(&mut self, text: &[u8]) -> Option<usize>
+        ensures tries { (p : Progress) → StageStands C.stands p self.old
+            → MatchOption result (StageStands C.stands p self.new)
+            (λ count. AdvancesByEvent C.refused C.stands p (line_ahead text.now count) self.new) }
+        ensures front { IfSome result (IsAhead text.now) }
     {
         if let Stage::Running(run) = self {
-            return run.try_advance(line);
+            return run.try_front(text);
         }
-        false
+        None
     }
 
     /// Reads the next line of a header, or the first one after it. Only here is there room for another stage,

@@ -122,6 +122,9 @@ no_mark-digits m [] v a (k, h, e) = omega arith
 no_mark-digits m (c ∷ cs) v a (zero, h, e) = v (subst (λ (x : ℕ). AllDigits 10 (x ∷ [])) e (a.0, tt))
 no_mark-digits m (c ∷ cs) v a (suc k, h, e) = no_mark-digits m cs v a.1 (k, omega arith, e)
 
+pub no_feed-decimal : (n : ℕ) → n < 2 ^ 64 → ¬ Contains (decimal n) 10
+no_feed-decimal n h = no_mark-digits 10 (decimal n) (λ a. omega (arith, a.0)) (decimal_is_IsNumeral n h).0.1
+
 pub no_nul-decimal : (n : ℕ) → n < 2 ^ 64 → ¬ Contains (decimal n) 0
 no_nul-decimal n h = no_mark-digits 0 (decimal n) (λ a. omega (arith, a.0)) (decimal_is_IsNumeral n h).0.1
 

@@ -1,5 +1,5 @@
 -- Laws of the words of kinds.
-use Rattle.std.proofs.Common.{◌≡◌, ℕ, List, [], ◌∷◌, zero, suc, refl, arith, true, false, Bool, Some}
+use Rattle.std.proofs.Common.{◌≡◌, ℕ, List, [], ◌∷◌, zero, suc, refl, arith, true, false, Bool, Some, eq-eqb}
 use Rattle.std.specs.Prelude.{Contains, codes, ◌==◌, ◌&&◌, not}
 use Rattle.tsp_base.specs.Words.{kinds, kind_word}
 use Rattle.tsp_base.specs.declared.kind.Kind.{Kind}
@@ -15,10 +15,13 @@ first_kind _ = refl
 pub kind_word-injective : (k l : Kind) → kind_word k ≡ kind_word l → k ≡ l
 kind_word-injective k l e = one_word kind_word kinds k l (first_kind k) (first_kind l) e
 
--- whether a word has no space
+-- whether a word is without an octet of this value, and without a space
+abbrev without : ℕ → List ℕ → Bool
+without m [] = true
+without m (c ∷ cs) = not (c == m) && without m cs
+
 abbrev spaceless : List ℕ → Bool
-spaceless [] = true
-spaceless (c ∷ cs) = not (c == 32) && spaceless cs
+spaceless word = without 32 word
 
 spaceless-kind_word : (k : Kind) → spaceless (kind_word k) ≡ true
 unfolding kind_word
@@ -29,12 +32,16 @@ both : (a b : Bool) → a && b ≡ true → (a ≡ true) × (b ≡ true)
 both true b p = (refl, p)
 both false b p = absurd (cc)
 
+pub no_mark-without : (m : ℕ) (word : List ℕ) → without m word ≡ true → ¬ Contains word m
+no_mark-without m [] p (k, h, e) = omega arith
+no_mark-without m (c ∷ cs) p (zero, h, e) =
+    let q = (both (not (c == m)) (without m cs) p).0 in
+    let t = eq-eqb c m e in
+    let r = rw t at q in cc
+no_mark-without m (c ∷ cs) p (suc k, h, e) = no_mark-without m cs (both (not (c == m)) (without m cs) p).1 (k, omega arith, e)
+
 pub no_space-spaceless : (word : List ℕ) → spaceless word ≡ true → ¬ Contains word 32
-no_space-spaceless [] p (k, h, e) = omega arith
-no_space-spaceless (c ∷ cs) p (zero, h, e) =
-    let q = (both (not (c == 32)) (spaceless cs) p).0 in
-    let r = rw e at q in cc
-no_space-spaceless (c ∷ cs) p (suc k, h, e) = no_space-spaceless cs (both (not (c == 32)) (spaceless cs) p).1 (k, omega arith, e)
+no_space-spaceless word p = no_mark-without 32 word p
 
 pub no_space-kind_word : (k : Kind) → ¬ Contains (kind_word k) 32
 no_space-kind_word k = no_space-spaceless (kind_word k) (spaceless-kind_word k)

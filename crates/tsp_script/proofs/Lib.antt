@@ -5,6 +5,7 @@ pub mod Apart
 pub mod Bodies
 pub mod Cuts
 pub mod Digits
+pub mod FrontDigits
 pub mod EightDigits
 pub mod EventLines
 pub mod HeadLines

@@ -1,51 +1,154 @@
 -- Laws of the lines of turns and takes.
-use Rattle.std.proofs.Common.{◌≡◌, ◌∙◌, ◌<◌, ◌^◌, ℕ, List, ◌∷◌, ◌++◌, refl, sym, ap, length, Option, Some, arith}
-use Rattle.std.proofs.lemmas.List.{length-append}
-use Rattle.std.specs.Prelude.{decimal, codes, Contains}
+use Rattle.std.proofs.Common.{◌≡◌, ◌∙◌, ◌<◌, ◌^◌, ℕ, List, [], ◌∷◌, ◌++◌, refl, sym, ap, append_assoc, append-nil, arith, inl, inr, drop, length, length-append, subst, ◌+◌}
+use Rattle.std.specs.Prelude.{decimal, codes, Contains, Option, None, Some, IfNone}
+use Rattle.std.proofs.Math.Seq.{drop-append_seam}
+use Rattle.std.proofs.lemmas.List.{append_cancel_left}
+use Rattle.std.proofs.lemmas.List.Elements.{Contains-append_cases}
 use Rattle.tsp_script.specs.declared.event_line.EventItem.TheVariants.{Event as EventOf}
 use Rattle.tsp_base.specs.declared.plain.Plain.{Plain}
 use Rattle.tsp_base.specs.declared.plain.Plain.TheVariants.{Boot, Turn, Take}
 use Rattle.tsp_base.specs.Words.{event_in}
-use Rattle.tsp_script.specs.Schedules.{SpellsEvent, IsEvent}
-use Rattle.tsp_script.proofs.Apart.{words_apart}
-use Rattle.tsp_script.proofs.Cuts.{before_mark-alone, cut_front, no_space-decimal}
-use Rattle.tsp_script.proofs.EventLines.{at_of, verb_of, rest_of, event_parts, no_space-verb_of}
-use Rattle.tsp_script.proofs.KindWords.{no_space-spaceless}
+use Rattle.tsp_script.specs.Plains.{IsTurnOrTake}
+use Rattle.tsp_script.specs.Schedules.{SpellsEvent, IsEvent, IsHexOf, event_text}
+use Rattle.tsp_script.specs.Words.{NoDigit}
+use Rattle.tsp_script.proofs.Apart.{words_apart, numbers_apart}
+use Rattle.tsp_script.proofs.Cuts.{no_feed-decimal}
+use Rattle.tsp_script.proofs.EventLines.{at_of, verb_of, rest_of, no_space-verb_of, IsTrueTime-at_of}
+use Rattle.tsp_script.proofs.FrontDigits.{NoDigit-nil, front_one}
+use Rattle.tsp_script.proofs.KindWords.{no_space-spaceless, no_mark-without}
 use Rattle.tsp_script.proofs.OneEvent.{words_differ}
 
--- a line without a space begins with no number and a space
-pub no_front : (line rest : List ℕ) (n : ℕ) → n < 2 ^ 64 → ¬ Contains line 32 → line ≡ decimal n ++ 32 ∷ rest → ⊥
-no_front line rest n h none e =
-    let f = cut_front line (decimal n) rest (no_space-decimal n h) e in
-    let word : line ≡ decimal n = sym (before_mark-alone 32 line none) ∙ f.0 in
-    omega (arith, ap length word, ap length e, length-append (decimal n) (32 ∷ rest))
+-- what stands behind its time
+abbrev pub behind_time : Plain → List ℕ → List ℕ
+behind_time plain back = verb_of (event_in plain) ++ 32 ∷ (rest_of (event_in plain) [] ++ back)
 
--- a line of a turn or a take, from its front
-pub plain_front : (line : List ℕ) (plain : Plain) (s : SpellsEvent line (EventOf (event_in plain)))
-    → line ≡ codes "at " ++ (decimal (at_of (event_in plain)) ++ 32 ∷ (verb_of (event_in plain) ++ 32 ∷ rest_of (event_in plain) s.1.0))
-plain_front line plain s = s.1.2 ∙ event_parts (event_in plain) s.1.0
+pub plain_parts : (plain : Plain) (back : List ℕ) → IsTurnOrTake plain → event_text (event_in plain) [] ++ back ≡ codes "at " ++ (decimal (at_of (event_in plain)) ++ 32 ∷ behind_time plain back)
+plain_parts (Turn at node) back i = simp append_assoc
+plain_parts (Take at datagram) back i = simp append_assoc
+plain_parts (Boot at node word) back i = absurd i
 
--- the word of an event's line, and what follows it
-pub verb_is : (line rest hex word : List ℕ) (plain : Plain) → ¬ Contains word 32 → line ≡ word ++ 32 ∷ rest → line ≡ verb_of (event_in plain) ++ 32 ∷ rest_of (event_in plain) hex
-    → (verb_of (event_in plain) ≡ word) × (rest_of (event_in plain) hex ≡ rest)
-verb_is line rest hex word plain n e l = words_apart (verb_of (event_in plain)) word (rest_of (event_in plain) hex) rest (no_space-verb_of (event_in plain)) n (sym l ∙ e)
+-- the word of a plain event's line, and what follows it
+verb_is : (behind rest back word : List ℕ) (plain : Plain) → ¬ Contains word 32 → behind ≡ word ++ 32 ∷ rest → behind ≡ behind_time plain back
+    → (verb_of (event_in plain) ≡ word) × (rest_of (event_in plain) [] ++ back ≡ rest)
+verb_is behind rest back word plain n e l = words_apart (verb_of (event_in plain)) word (rest_of (event_in plain) [] ++ back) rest (no_space-verb_of (event_in plain)) n (sym l ∙ e)
 
-pub turn_read : (at : ℕ) (line rest hex : List ℕ) (plain : Plain) (r : Option Plain) → IsEvent (event_in plain) → at ≡ at_of (event_in plain) → line ≡ codes "turn " ++ rest
-    → line ≡ verb_of (event_in plain) ++ 32 ∷ rest_of (event_in plain) hex → ((node : ℕ) → node < 2 ^ 32 → rest ≡ decimal node → r ≡ Some (Turn at node)) → r ≡ Some plain
-turn_read at line rest hex (Turn t node) r h a e l f =
-    let v = verb_is line rest hex (codes "turn") (Turn t node) (no_space-spaceless (codes "turn") refl) e l in
-    f node h.1 (sym v.1) ∙ ap (λ k. Some (Turn k node)) a
-turn_read at line rest hex (Boot t node word) r h a e l f =
-    absurd (words_differ (codes "boot") (codes "turn") (verb_is line rest hex (codes "turn") (Boot t node word) (no_space-spaceless (codes "turn") refl) e l).0 (omega arith))
-turn_read at line rest hex (Take t datagram) r h a e l f =
-    absurd (words_differ (codes "take") (codes "turn") (verb_is line rest hex (codes "turn") (Take t datagram) (no_space-spaceless (codes "turn") refl) e l).0 (omega arith))
+-- where `turn` stands it is a turn, and where `take` stands a take
+pub turn_parts : (behind rest back : List ℕ) (plain : Plain) → IsTurnOrTake plain → behind ≡ codes "turn " ++ rest → behind ≡ behind_time plain back → (at : ℕ) × (node : ℕ) × (plain ≡ Turn at node) × (rest ≡ decimal node ++ back)
+turn_parts behind rest back (Turn at node) i e l = (at, node, refl, sym (verb_is behind rest back (codes "turn") (Turn at node) (no_space-spaceless (codes "turn") refl) e l).1)
+turn_parts behind rest back (Take at datagram) i e l =
+    absurd (words_differ (codes "take") (codes "turn") (verb_is behind rest back (codes "turn") (Take at datagram) (no_space-spaceless (codes "turn") refl) e l).0 (omega arith))
+turn_parts behind rest back (Boot at node word) i e l = absurd i
 
-pub take_read : (at : ℕ) (line rest hex : List ℕ) (plain : Plain) (r : Option Plain) → IsEvent (event_in plain) → at ≡ at_of (event_in plain) → line ≡ codes "take " ++ rest
-    → line ≡ verb_of (event_in plain) ++ 32 ∷ rest_of (event_in plain) hex → ((datagram : ℕ) → datagram < 2 ^ 64 → rest ≡ decimal datagram → r ≡ Some (Take at datagram)) → r ≡ Some plain
-take_read at line rest hex (Take t datagram) r h a e l f =
-    let v = verb_is line rest hex (codes "take") (Take t datagram) (no_space-spaceless (codes "take") refl) e l in
-    f datagram h.1 (sym v.1) ∙ ap (λ k. Some (Take k datagram)) a
-take_read at line rest hex (Boot t node word) r h a e l f =
-    absurd (words_differ (codes "boot") (codes "take") (verb_is line rest hex (codes "take") (Boot t node word) (no_space-spaceless (codes "take") refl) e l).0 (omega arith))
-take_read at line rest hex (Turn t node) r h a e l f =
-    absurd (words_differ (codes "turn") (codes "take") (verb_is line rest hex (codes "take") (Turn t node) (no_space-spaceless (codes "take") refl) e l).0 (omega arith))
+pub take_parts : (behind rest back : List ℕ) (plain : Plain) → IsTurnOrTake plain → behind ≡ codes "take " ++ rest → behind ≡ behind_time plain back → (at : ℕ) × (datagram : ℕ) × (plain ≡ Take at datagram) × (rest ≡ decimal datagram ++ back)
+take_parts behind rest back (Take at datagram) i e l = (at, datagram, refl, sym (verb_is behind rest back (codes "take") (Take at datagram) (no_space-spaceless (codes "take") refl) e l).1)
+take_parts behind rest back (Turn at node) i e l =
+    absurd (words_differ (codes "turn") (codes "take") (verb_is behind rest back (codes "take") (Turn at node) (no_space-spaceless (codes "take") refl) e l).0 (omega arith))
+take_parts behind rest back (Boot at node word) i e l = absurd i
+
+-- where neither stands it is neither
+pub no_plain : (behind back : List ℕ) (plain : Plain) → IsTurnOrTake plain → ((rest : List ℕ) → behind ≡ codes "turn " ++ rest → ⊥) → ((rest : List ℕ) → behind ≡ codes "take " ++ rest → ⊥) → behind ≡ behind_time plain back → ⊥
+no_plain behind back (Turn at node) i turn take l = turn (decimal node ++ back) l
+no_plain behind back (Take at datagram) i turn take l = take (decimal datagram ++ back) l
+no_plain behind back (Boot at node word) i turn take l = i
+
+same_rest : (p q : Plain) (r s : List ℕ) → IsTurnOrTake p → IsTurnOrTake q → IsEvent (event_in p) → IsEvent (event_in q) → NoDigit r → NoDigit s → at_of (event_in p) ≡ at_of (event_in q) → behind_time p r ≡ behind_time q s → (p ≡ q) × (r ≡ s)
+same_rest (Turn at node) q r s i j h k a b t e =
+    let f = turn_parts (behind_time (Turn at node) r) (decimal node ++ r) s q j refl e in
+    turn_same at node q r s i j h k a b t f
+  where
+    turn_same : (at node : ℕ) (q : Plain) (r s : List ℕ) → IsTurnOrTake (Turn at node) → IsTurnOrTake q → IsEvent (event_in (Turn at node)) → IsEvent (event_in q) → NoDigit r → NoDigit s → at ≡ at_of (event_in q) → (u : ℕ) × (n : ℕ) × (q ≡ Turn u n) × (decimal node ++ r ≡ decimal n ++ s) → (Turn at node ≡ q) × (r ≡ s)
+    turn_same at node (Turn u m) r s i j h k a b t (v, n, p, l) =
+        let same : m ≡ n = cc in
+        let o = front_one node m r s (omega (arith, h.1)) (omega (arith, k.1)) a b (l ∙ ap (λ x. decimal x ++ s) (sym same)) in
+        (rw (t, o.0) refl, o.1)
+    turn_same at node (Take u m) r s i j h k a b t (v, n, p, l) = let bad : ⊥ = cc in absurd bad
+    turn_same at node (Boot u m w) r s i j h k a b t f = absurd j
+same_rest (Take at datagram) q r s i j h k a b t e =
+    let f = take_parts (behind_time (Take at datagram) r) (decimal datagram ++ r) s q j refl e in
+    take_same at datagram q r s i j h k a b t f
+  where
+    take_same : (at datagram : ℕ) (q : Plain) (r s : List ℕ) → IsTurnOrTake (Take at datagram) → IsTurnOrTake q → IsEvent (event_in (Take at datagram)) → IsEvent (event_in q) → NoDigit r → NoDigit s → at ≡ at_of (event_in q) → (u : ℕ) × (n : ℕ) × (q ≡ Take u n) × (decimal datagram ++ r ≡ decimal n ++ s) → (Take at datagram ≡ q) × (r ≡ s)
+    take_same at datagram (Take u m) r s i j h k a b t (v, n, p, l) =
+        let same : m ≡ n = cc in
+        let o = front_one datagram m r s h.1 k.1 a b (l ∙ ap (λ x. decimal x ++ s) (sym same)) in
+        (rw (t, o.0) refl, o.1)
+    take_same at datagram (Turn u m) r s i j h k a b t (v, n, p, l) = let bad : ⊥ = cc in absurd bad
+    take_same at datagram (Boot u m w) r s i j h k a b t f = absurd j
+same_rest (Boot at node word) q r s i j h k a b t e = absurd i
+
+-- a text is one event's, in front of what begins with no digit
+pub plain_one : (p q : Plain) (octets r s : List ℕ) → IsTurnOrTake p → IsTurnOrTake q → IsEvent (event_in p) → IsEvent (event_in q) → NoDigit r → NoDigit s → octets ≡ event_text (event_in p) [] ++ r → octets ≡ event_text (event_in q) [] ++ s → (p ≡ q) × (r ≡ s)
+plain_one p q octets r s i j h k a b e f =
+    let l = append_cancel_left (codes "at ") _ _ (sym (e ∙ plain_parts p r i) ∙ (f ∙ plain_parts q s j)) in
+    let n = numbers_apart (at_of (event_in p)) (at_of (event_in q)) (behind_time p r) (behind_time q s) (omega (arith, IsTrueTime-at_of (event_in p) h)) (omega (arith, IsTrueTime-at_of (event_in q) k)) l in
+    same_rest p q r s i j h k a b n.0 n.1
+
+no_mark-both : (m : ℕ) (xs ys : List ℕ) → ¬ Contains xs m → ¬ Contains ys m → ¬ Contains (xs ++ ys) m
+no_mark-both m xs ys n k c = elim (Contains-append_cases xs ys m c) [ inl a ↦ n a | inr b ↦ k b ]
+
+no_feed-parts : (at n : ℕ) (verb : List ℕ) → at < 2 ^ 64 → n < 2 ^ 64 → ¬ Contains verb 10 → ¬ Contains (codes "at " ++ (decimal at ++ (verb ++ decimal n))) 10
+no_feed-parts at n verb h k v =
+    no_mark-both 10 (codes "at ") (decimal at ++ (verb ++ decimal n)) (no_mark-without 10 (codes "at ") refl)
+    (no_mark-both 10 (decimal at) (verb ++ decimal n) (no_feed-decimal at h) (no_mark-both 10 verb (decimal n) v (no_feed-decimal n k)))
+
+turn_text : (at node : ℕ) → event_text (event_in (Turn at node)) [] ≡ codes "at " ++ (decimal at ++ (codes " turn " ++ decimal node))
+turn_text at node = simp append_assoc
+
+take_text : (at datagram : ℕ) → event_text (event_in (Take at datagram)) [] ≡ codes "at " ++ (decimal at ++ (codes " take " ++ decimal datagram))
+take_text at datagram = simp append_assoc
+
+-- no line feed stands in the line of a turn or a take
+pub no_feed-plain : (plain : Plain) → IsTurnOrTake plain → IsEvent (event_in plain) → ¬ Contains (event_text (event_in plain) []) 10
+no_feed-plain (Turn at node) i h = subst (λ l. ¬ Contains l 10) (sym (turn_text at node)) (no_feed-parts at node (codes " turn ") (omega (arith, h.0)) (omega (arith, h.1)) (no_mark-without 10 (codes " turn ") refl))
+no_feed-plain (Take at datagram) i h = subst (λ l. ¬ Contains l 10) (sym (take_text at datagram)) (no_feed-parts at datagram (codes " take ") (omega (arith, h.0)) h.1 (no_mark-without 10 (codes " take ") refl))
+no_feed-plain (Boot at node word) i h = absurd i
+
+-- a line's octets in front of others, and how many they are
+pub octets_passed : (octets line rest : List ℕ) (count : ℕ) → octets ≡ line ++ 10 ∷ rest → count + length rest ≡ length octets → (count ≡ length line + 1) × (octets ≡ (line ++ 10 ∷ []) ++ drop count octets)
+octets_passed octets line rest count e c =
+    let n : count ≡ length (line ++ 10 ∷ []) = omega (arith, ap length e, c, length-append line (10 ∷ rest), length-append line (10 ∷ [])) in
+    let whole : octets ≡ (line ++ 10 ∷ []) ++ rest = e ∙ sym (append_assoc line (10 ∷ []) rest) in
+    (omega (arith, n, length-append line (10 ∷ [])), rw (n, whole) (ap (λ x. (line ++ 10 ∷ []) ++ x) (sym (drop-append_seam (line ++ 10 ∷ []) rest))))
+
+-- the numbers of a turn and of a take are in their ranges
+pub turn_node : (plain : Plain) (at node : ℕ) → plain ≡ Turn at node → IsEvent (event_in plain) → node < 2 ^ 32
+turn_node plain at node e h = (subst (λ p. IsEvent (event_in p)) e h).1
+
+pub take_datagram : (plain : Plain) (at datagram : ℕ) → plain ≡ Take at datagram → IsEvent (event_in plain) → datagram < 2 ^ 64
+take_datagram plain at datagram e h = (subst (λ p. IsEvent (event_in p)) e h).1
+
+-- octets that were read as a turn or as a take
+pub turn_written : (at node read : ℕ) (octets behind digits rest : List ℕ) → octets ≡ codes "at " ++ (decimal at ++ 32 ∷ behind) → behind ≡ codes "turn " ++ digits → digits ≡ decimal read ++ rest → node ≡ read
+    → octets ≡ event_text (event_in (Turn at node)) [] ++ rest
+turn_written at node read octets behind digits rest e f g s =
+    e ∙ ap (λ x. codes "at " ++ (decimal at ++ 32 ∷ x)) (f ∙ ap (λ x. codes "turn " ++ x) (g ∙ ap (λ n. decimal n ++ rest) (sym s))) ∙ sym (plain_parts (Turn at node) rest tt)
+
+pub take_written : (at datagram : ℕ) (octets behind digits rest : List ℕ) → octets ≡ codes "at " ++ (decimal at ++ 32 ∷ behind) → behind ≡ codes "take " ++ digits → digits ≡ decimal datagram ++ rest
+    → octets ≡ event_text (event_in (Take at datagram)) [] ++ rest
+take_written at datagram octets behind digits rest e f g =
+    e ∙ ap (λ x. codes "at " ++ (decimal at ++ 32 ∷ x)) (f ∙ ap (λ x. codes "take " ++ x) g) ∙ sym (plain_parts (Take at datagram) rest tt)
+
+-- the line of a turn or a take, as its text with nothing behind it, and back
+pub plain_spelled : (line : List ℕ) (plain : Plain) → IsTurnOrTake plain → SpellsEvent line (EventOf (event_in plain)) → line ≡ event_text (event_in plain) [] ++ []
+plain_spelled line (Turn at node) i s = s.1.2 ∙ sym (append-nil (event_text (event_in (Turn at node)) []))
+plain_spelled line (Take at datagram) i s = s.1.2 ∙ sym (append-nil (event_text (event_in (Take at datagram)) []))
+plain_spelled line (Boot at node word) i s = absurd i
+
+pub plain_spells : (plain : Plain) → IsTurnOrTake plain → IsEvent (event_in plain) → SpellsEvent (event_text (event_in plain) []) (EventOf (event_in plain))
+plain_spells (Turn at node) i h = (h, ([], refl, refl))
+plain_spells (Take at datagram) i h = (h, ([], refl, refl))
+plain_spells (Boot at node word) i h = absurd i
+
+pub plain_alone : (line rest : List ℕ) (plain : Plain) → IsTurnOrTake plain → line ≡ event_text (event_in plain) [] ++ rest → length rest ≡ 0 → (hex : List ℕ) × IsHexOf hex (event_in plain) × (line ≡ event_text (event_in plain) hex)
+plain_alone line [] (Turn at node) i e z = ([], refl, e ∙ append-nil (event_text (event_in (Turn at node)) []))
+plain_alone line [] (Take at datagram) i e z = ([], refl, e ∙ append-nil (event_text (event_in (Take at datagram)) []))
+plain_alone line [] (Boot at node word) i e z = absurd i
+plain_alone line (x ∷ xs) plain i e z = absurd (omega (arith, z))
+
+-- octets begin with no turn and no take
+abbrev pub NoPlain : List ℕ → Type 0
+NoPlain octets = (plain : Plain) (rest : List ℕ) → IsTurnOrTake plain → IsEvent (event_in plain) → NoDigit rest → octets ≡ event_text (event_in plain) [] ++ rest → ⊥
+
+pub none_plain : {T : Type 0} (octets : List ℕ) (r : Option T) → NoPlain octets → IfNone r (NoPlain octets)
+none_plain octets None n = n
+none_plain octets (Some t) n = tt

@@ -1,6 +1,6 @@
 //! The lines of a schedule after its header.
 ghost use Rattle.std.specs.Prelude.{◌≡◌, ℕ, ◌^◌, ◌<◌, ◌≤◌, ◌+◌, ◌++◌, ◌∷◌, List, [], length};
-ghost use Rattle.std.specs.Prelude.{decimal, codes, take, Ok, IfSome, IfNone, IsSomeAnd};
+ghost use Rattle.std.specs.Prelude.{decimal, codes, take, drop, Contains, Ok, IfSome, IfNone, IsSomeAnd};
 ghost use Rattle.hex.specs.Hex.{decode_of};
 ghost use Rattle.tsp_base.specs.declared.event.Event.{Event};
 ghost use Rattle.tsp_base.specs.declared.place.Place.{Place};
@@ -9,9 +9,11 @@ ghost use Rattle.tsp_script.specs.declared.event_line.EventItem.{EventItem};
 ghost use Rattle.tsp_base.specs.Plains.{event_in};
 ghost use Rattle.tsp_script.specs.Plains.{IsTurnOrTake};
 ghost use Rattle.tsp_base.specs.declared.plain.Plain.{Plain};
-ghost use Rattle.tsp_script.specs.Schedules.{port_text, IsPlace, SpellsEvent, ReadsEvent};
+ghost use Rattle.tsp_script.specs.Schedules.{event_text, port_text, IsEvent, IsPlace, SpellsEvent, ReadsEvent};
 ghost use Rattle.tsp_script.specs.Traces.{place_text};
+ghost use Rattle.tsp_script.specs.Words.{NoDigit};
 
+use crate::digit_reader::front_digits;
 use crate::head_line::after;
 use crate::line_fault::LineFault;
 use crate::numbers::{front_number, long_of, number_of, octets_in};
@@ -74,6 +76,7 @@ fn octets_handed(hex: &[u8], buffer: &mut [u8; 512]) -> Option<usize>
 }
 
 /// The time of an event's line, and what follows the space after it.
+#[inline(always)]
 fn front_time(line: &[u8]) -> Option<(u64, &[u8])>
     ensures found { IfSome result (λ r. (r.0 ≤ 1000000000000000)
         × (line.now ≡ codes "at " ++ (decimal r.0 ++ 32 ∷ r.1.now))) }
@@ -89,22 +92,49 @@ fn front_time(line: &[u8]) -> Option<(u64, &[u8])>
     Some((at, line))
 }
 
-/// The event of the most frequent lines, a turn or a take; None exactly where the line is neither's.
+/// The event of the most frequent lines, a turn or a take, with whose text some octets begin, and what follows it; None
+/// exactly where they begin with no such text, or with one that a digit follows.
 #[inline(always)]
+fn plain_front(octets: &[u8]) -> Option<(Plain, &[u8])>
+    ensures found { IfSome result (λ r. IsTurnOrTake r.0 × IsEvent (event_in r.0) × NoDigit r.1.now
+        × (octets.now ≡ event_text (event_in r.0) [] ++ r.1.now)) }
+    ensures none { IfNone result ((plain : Plain) (rest : List ℕ) → IsTurnOrTake plain
+        → IsEvent (event_in plain) → NoDigit rest
+        → octets.now ≡ event_text (event_in plain) [] ++ rest → ⊥) }
+{
+    let (at, rest) = front_time(octets)?;
+    if let Some(digits) = after(rest, b"turn ") {
+        let (node, rest) = front_digits(digits)?;
+        let node = long_of(node)?;
+        return Some((Plain::Turn { at, node }, rest));
+    }
+    let digits = after(rest, b"take ")?;
+    let (datagram, rest) = front_digits(digits)?;
+    Some((Plain::Take { at, datagram }, rest))
+}
+
+/// The event of a turn's or a take's line; None exactly where the line is neither's.
 pub fn plain_line(line: &[u8]) -> Option<Plain>
     ensures found { IfSome result (λ plain. IsTurnOrTake plain
         × SpellsEvent line.now (EventItem.Event (event_in plain))) }
     ensures reads { (plain : Plain) → IsTurnOrTake plain
         → SpellsEvent line.now (EventItem.Event (event_in plain)) → result ≡ Some plain }
 {
-    let (at, line) = front_time(line)?;
-    if let Some(rest) = after(line, b"turn ") {
-        let node = long_number(rest)?;
-        return Some(Plain::Turn { at, node });
-    }
-    let rest = after(line, b"take ")?;
-    let datagram = number_of(rest)?;
-    Some(Plain::Take { at, datagram })
+    let (plain, rest) = plain_front(line)?;
+    if rest.is_empty() { Some(plain) } else { None }
+}
+
+/// The event of a turn or a take whose line, with its line feed, stands at the front of some octets, and how many
+/// octets that is.
+#[inline(always)]
+pub fn plain_ahead(octets: &[u8]) -> Option<(Plain, usize)>
+    ensures { IfSome result (λ r. IsTurnOrTake r.0 × ((line : List ℕ) × (¬ Contains line 10)
+        × (r.1 ≡ length line + 1) × (octets.now ≡ (line ++ 10 ∷ []) ++ drop r.1 octets.now)
+        × SpellsEvent line (EventItem.Event (event_in r.0)))) }
+{
+    let (plain, rest) = plain_front(octets)?;
+    let rest = after(rest, b"\n")?;
+    Some((plain, octets.len() - rest.len()))
 }
 
 /// The port that a number names, from 1 on.

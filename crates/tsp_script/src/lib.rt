@@ -47,6 +47,7 @@ pub mod act_reader;
 mod act_words;
 pub mod acts;
 mod decimals;
+mod digit_reader;
 mod eights;
 pub mod event_line;
 pub mod head_line;

@@ -9,15 +9,13 @@ ghost use Rattle.tsp_script.specs.Texts.{space};
 ghost use Rattle.hex.specs.Hex.{decode_of, encode_lower};
 
 use crate::decimals::append_decimal;
-use crate::eights::eight_digits;
+use crate::digit_reader::front_digits;
+use crate::head_line::after;
 use crate::hexes::value_of;
-use crate::words::{front_word, find_mark};
+use crate::words::front_word;
 use arrayvec::ArrayVec;
 use itoa::Buffer;
 use std::str;
-
-/// So many digits behind a first one are read at a time at most: a number of 18 digits has 64 bits.
-const RUN: usize = 17;
 
 /// Writes octets as they are.
 #[inline(always)]
@@ -100,106 +98,8 @@ pub fn number_of(word: &[u8]) -> Option<u64>
     ensures found { IfSome result (λ n. word.now ≡ decimal n) }
     ensures reads { (n : ℕ) → n < 2 ^ 64 → word.now ≡ decimal n → result ≡ Some n }
 {
-    match by_digits(word) {
-        Some(number) => Some(number),
-        None => parsed(word),
-    }
-}
-
-/// The number of a decimal text, digit by digit. It gives None for more than 18 digits too, which may be a number.
-#[inline(always)]
-fn by_digits(word: &[u8]) -> Option<u64>
-    ensures { IfSome result (λ n. (n < 2 ^ 64) × (word.now ≡ decimal n)) }
-{
-    let (first, rest) = word.split_first()?;
-    if *first == b'0' {
-        return if rest.is_empty() { Some(0) } else { None };
-    }
-    if *first < b'0' || *first > b'9' {
-        return None;
-    }
-    more_digits((*first - b'0') as u64, rest)
-}
-
-/// The number whose digits are those of `front` and then these. It gives None for more than 18 digits too.
-#[inline(always)]
-fn more_digits(front: u64, digits: &[u8]) -> Option<u64>
-    requires { (0 < front) × (front < 10) }
-    ensures { IfSome result (λ n. (n < 2 ^ 64) × (decimal n ≡ decimal front ++ digits.now)) }
-{
-    let (number, count) = digits_on(front, digits);
-    if count == digits.len() {
-        Some(number)
-    } else {
-        None
-    }
-}
-
-/// The number whose digits are those of `front` and then the first of these, up to what is no digit, and how
-/// many of these they are, at most 17.
-#[inline(always)]
-fn digits_on(front: u64, digits: &[u8]) -> (u64, usize)
-    requires { (0 < front) × (front < 10) }
-    ensures number { decimal result.0 ≡ decimal front ++ take result.1 digits.now }
-    ensures count { result.1 ≤ length digits.now }
-{
-    let (start, from) = eight_on(front, digits);
-    let most = digits.len().min(RUN);
-    let mut number = start;
-    for place in from..most {
-        let digit = digits[place];
-        if digit < b'0' || digit > b'9' {
-            return (number, place);
-        }
-        number = number * 10 + (digit as u64 - 48);
-    }
-    (number, most)
-}
-
-/// The same, of the first eight of these or none.
-#[inline(always)]
-fn eight_on(front: u64, digits: &[u8]) -> (u64, usize)
-    requires { (0 < front) × (front < 10) }
-    ensures number { decimal result.0 ≡ decimal front ++ take result.1 digits.now }
-    ensures size { (0 < result.0) × (result.0 < 10 ^ (result.1 + 1)) }
-    ensures count { (result.1 ≤ length digits.now) × (result.1 ≤ 8) }
-{
-    if digits.len() < 8 {
-        return (front, 0);
-    }
-    match eight_digits(digits) {
-        Some(eight) => (front * 100_000_000 + eight, 8),
-        None => (front, 0),
-    }
-}
-
-/// The same as `number_of`, of a word of any length.
-#[cold]
-#[inline(never)]
-fn parsed(word: &[u8]) -> Option<u64>
-    ensures found { IfSome result (λ n. word.now ≡ decimal n) }
-    ensures reads { (n : ℕ) → n < 2 ^ 64 → word.now ≡ decimal n → result ≡ Some n }
-{
-    let Ok(text) = str::from_utf8(word) else {
-        return None;
-    };
-    let Ok(number) = text.parse::<u64>() else {
-        return None;
-    };
-    if is_text_of(word, number) {
-        Some(number)
-    } else {
-        None
-    }
-}
-
-/// Whether the word is the number's text.
-fn is_text_of(word: &[u8], number: u64) -> bool
-    ensures { MatchBool result (word.now ≡ decimal number) (word.now ≡ decimal number → ⊥) }
-{
-    let mut buffer = Buffer::new();
-    let digits = buffer.format(number).as_bytes();
-    if digits == word { true } else { false }
+    let (number, rest) = front_digits(word)?;
+    if rest.is_empty() { Some(number) } else { None }
 }
 
 /// The number of a decimal text, with a dash where it is negative; None exactly where no number of 64 bits is
@@ -277,51 +177,8 @@ pub(crate) fn front_number(line: &[u8]) -> Option<(u64, &[u8])>
     ensures reads { (n : ℕ) (rest : List ℕ) → n < 2 ^ 64 → line.now ≡ decimal n ++ 32 ∷ rest
         → IsSomeAnd result (λ r. (r.0 ≡ n) × (r.1.now ≡ rest)) }
 {
-    match front_by_digits(line) {
-        Some(front) => Some(front),
-        None => front_by_mark(line),
-    }
-}
-
-/// The same, digit by digit. It gives None for 0 and for more than 18 digits too, which may be a number.
-#[inline(always)]
-fn front_by_digits(line: &[u8]) -> Option<(u64, &[u8])>
-    ensures { IfSome result (λ r. (r.0 < 2 ^ 64) × (line.now ≡ decimal r.0 ++ 32 ∷ r.1.now)) }
-{
-    let (first, rest) = line.split_first()?;
-    if *first <= b'0' || *first > b'9' {
-        return None;
-    }
-    digits_to_space((*first - b'0') as u64, rest)
-}
-
-/// The number whose digits are those of `front` and then these up to the first space, and what follows the
-/// space. It gives None for more than 18 digits too.
-#[inline(always)]
-fn digits_to_space(front: u64, digits: &[u8]) -> Option<(u64, &[u8])>
-    requires { (0 < front) × (front < 10) }
-    ensures { IfSome result (λ r. (r.0 < 2 ^ 64)
-        × (decimal front ++ digits.now ≡ decimal r.0 ++ 32 ∷ r.1.now)) }
-{
-    let (number, count) = digits_on(front, digits);
-    if count == digits.len() || digits[count] != b' ' {
-        return None;
-    }
-    Some((number, digits.split_at(count + 1).1))
-}
-
-/// The same as `front_number`, of a number of any length.
-#[cold]
-#[inline(never)]
-fn front_by_mark(line: &[u8]) -> Option<(u64, &[u8])>
-    ensures found { IfSome result (λ r. (r.0 < 2 ^ 64)
-        × (line.now ≡ decimal r.0 ++ 32 ∷ r.1.now)) }
-    ensures reads { (n : ℕ) (rest : List ℕ) → n < 2 ^ 64 → line.now ≡ decimal n ++ 32 ∷ rest
-        → IsSomeAnd result (λ r. (r.0 ≡ n) × (r.1.now ≡ rest)) }
-{
-    let place = find_mark(line, b' ')?;
-    let (_, rest) = line.split_at(place + 1);
-    let number = number_of(line.split_at(place).0)?;
+    let (number, rest) = front_digits(line)?;
+    let rest = after(rest, b" ")?;
     Some((number, rest))
 }
 

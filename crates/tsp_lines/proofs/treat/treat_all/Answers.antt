@@ -1,10 +1,11 @@
-use Rattle.std.proofs.Common.{sym, ap, ◌∙◌, Some}
+use Rattle.std.proofs.Common.{sym, ap, ◌∙◌, subst, refl, Some, Ok, Err}
 use Rattle.tsp_lines.specs.Outcomes.{Comes}
+use Rattle.tsp_lines.specs.Turns.{TriesHeld}
 use Rattle.tsp_lines.specs.declared.treat.Outcome.TheVariants.{OutOfMemory}
-use Rattle.tsp_lines.proofs.KeepingUp.{KeepsUp-nothing}
-use Rattle.tsp_lines.proofs.Leaving.{Leaves-nothing, Leaves-since}
+use Rattle.tsp_lines.proofs.KeepingUp.{KeepsUp-grew, KeepsUp-nothing}
+use Rattle.tsp_lines.proofs.Leaving.{Err-one, Leaves-nothing, Leaves-since, Leaves-unwritten, Ok-no_error}
 use Rattle.tsp_lines.proofs.OneAnswer.{Comes-answers}
-use Rattle.tsp_lines.proofs.Turns.{Comes-nothing}
+use Rattle.tsp_lines.proofs.Turns.{Comes-nothing, IsAt-open}
 use Rattle.tsp_lines.proofs.treat.treat_all.Goals as goal
 
 pub returns-in_default : goal.returns-in_default
@@ -27,28 +28,66 @@ returns-then-is_full g c =
           (record { later = c.close.ensures.later; read = c.close.ensures.read; write = c.close.ensures.write; still = c.close.ensures.still; ended = c.close.ensures.ended });
     }
 
+pub returns-in-Err : goal.returns-in-Err
+returns-in-Err g c =
+    let i = c.loop-progress.invariant in
+    let m = g.T.Treatment.meaning in
+    let may = IsAt-open m (g.T.Treatment.stands c.loop-progress.treatment) _ _ _ _ c.loop-progress.progress.reader c.loop-progress.progress.output c.loop-progress.progress.number i.0.0 i.0.1 i.0.2 (c.if-is_full.ensures i.0.0 i.0.2.stands) in
+    let limit = c.try_held.ensures.same.1 ∙ i.4 in
+    let comes : Comes m c.args.limit (g.S.Source.left c.args.source.now) (g.S.Source.left c.loop-progress.source) (g.K.Sink.written c.args.sink.now) (g.K.Sink.written c.try_held.new.sink) c.outcome_of.result =
+    rw (c.outcome_of.ensures, sym limit) (c.in-Err.ensures.tries _ _ _ i.0.0 i.0.1 may) in record {
+      comes = comes;
+      answers = λ definite. Comes-answers m definite c.args.limit (g.S.Source.left c.args.source.now) (g.S.Source.left c.loop-progress.source) (g.K.Sink.written c.args.sink.now) (g.K.Sink.written c.try_held.new.sink) c.outcome_of.result comes;
+      keeps_up = KeepsUp-grew m c.args.limit _ _ _ _ (g.K.Sink.written c.try_held.new.sink) i.1 (c.try_held.ensures.grew i.0.0 i.0.1 may.stands may.accepted);
+      leaves = Leaves-unwritten g.S.Source g.K.Sink c.args.source.now c.loop-progress.source c.args.sink.now c.loop-progress.sink c.try_held.new.sink c.in-Err.fault c.outcome_of.result c.outcome_of.ensures i.5 i.6 c.in-Err.ensures.later (λ e. c.in-Err.ensures.cause (ap Err e)) (λ n. c.in-Err.ensures.still (λ e. n (Err-one _ c.in-Err.fault _ refl e)));
+    }
+
 pub returns-in-Some : goal.returns-in-Some
 returns-in-Some g c =
     let i = c.loop-progress.invariant in
     let e = c.in-Some.ensures in
-    let comes : Comes g.T.Treatment.meaning c.args.limit (g.S.Source.left c.args.source.now) (g.S.Source.left c.turn.new.source) (g.K.Sink.written c.args.sink.now) (g.K.Sink.written c.turn.new.sink) c.in-Some.outcome =
-    rw (sym i.4) (e.turns _ _ i.0.0 i.0.1 i.0.2) in record {
+    let m = g.T.Treatment.meaning in
+    let may = IsAt-open m (g.T.Treatment.stands c.loop-progress.treatment) _ _ _ _ c.loop-progress.progress.reader c.loop-progress.progress.output c.loop-progress.progress.number i.0.0 i.0.1 i.0.2 (c.if-is_full.ensures i.0.0 i.0.2.stands) in
+    let here = subst (λ done. TriesHeld m (g.T.Treatment.stands c.try_held.new.treatment) (g.S.Source.left c.args.source.now) (g.S.Source.left c.loop-progress.source) (g.K.Sink.written c.args.sink.now) (g.K.Sink.written c.try_held.new.sink) c.try_held.new.self.reader c.try_held.new.self.output c.try_held.new.self.number i.0.0 i.0.1 (Ok done)) c.in-Ok-false.field-0-test (c.in-Ok-false.ensures.tries _ _ _ i.0.0 i.0.1 may) in
+    let grew = KeepsUp-grew m c.args.limit _ _ _ _ (g.K.Sink.written c.try_held.new.sink) i.1 (c.try_held.ensures.grew i.0.0 i.0.1 may.stands may.accepted) in
+    let limit = c.try_held.ensures.same.1 ∙ i.4 in
+    let comes : Comes m c.args.limit (g.S.Source.left c.args.source.now) (g.S.Source.left c.turn.new.source) (g.K.Sink.written c.args.sink.now) (g.K.Sink.written c.turn.new.sink) c.in-Some.outcome =
+    rw (sym limit) (e.turns _ _ i.0.0 i.0.1 here) in record {
       comes = comes;
-      answers = λ definite. Comes-answers g.T.Treatment.meaning definite c.args.limit (g.S.Source.left c.args.source.now) (g.S.Source.left c.turn.new.source) (g.K.Sink.written c.args.sink.now) (g.K.Sink.written c.turn.new.sink) c.in-Some.outcome comes;
-      keeps_up = rw (sym i.4) (c.turn.ensures.keeps_up _ _ _ _ i.0.2 (rw i.4 i.1));
-      leaves = Leaves-since g.S.Source g.K.Sink c.args.source.now c.loop-progress.source c.turn.new.source c.args.sink.now c.loop-progress.sink c.turn.new.sink c.in-Some.outcome i.5 i.6
+      answers = λ definite. Comes-answers m definite c.args.limit (g.S.Source.left c.args.source.now) (g.S.Source.left c.turn.new.source) (g.K.Sink.written c.args.sink.now) (g.K.Sink.written c.turn.new.sink) c.in-Some.outcome comes;
+      keeps_up = rw (sym limit) (c.turn.ensures.keeps_up _ _ _ _ here (rw limit grew));
+      leaves = Leaves-since g.S.Source g.K.Sink c.args.source.now c.loop-progress.source c.turn.new.source c.args.sink.now c.try_held.new.sink c.turn.new.sink c.in-Some.outcome i.5 (c.in-Ok-false.ensures.still (Ok-no_error _ _) ∙ i.6)
           (record { later = e.later; read = λ o. e.read (ap Some o); write = λ o. e.write (ap Some o); still = e.still; ended = λ o. e.ended (ap Some o) });
     }
+
+pub loop-progress-preserved-in-Ok-true : goal.loop-progress-preserved-in-Ok-true
+loop-progress-preserved-in-Ok-true g c =
+    let i = c.loop-progress.invariant in
+    let m = g.T.Treatment.meaning in
+    let may = IsAt-open m (g.T.Treatment.stands c.loop-progress.treatment) _ _ _ _ c.loop-progress.progress.reader c.loop-progress.progress.output c.loop-progress.progress.number i.0.0 i.0.1 i.0.2 (c.if-is_full.ensures i.0.0 i.0.2.stands) in (
+      subst (λ done. TriesHeld m (g.T.Treatment.stands c.try_held.new.treatment) (g.S.Source.left c.args.source.now) (g.S.Source.left c.loop-progress.source) (g.K.Sink.written c.args.sink.now) (g.K.Sink.written c.try_held.new.sink) c.try_held.new.self.reader c.try_held.new.self.output c.try_held.new.self.number i.0.0 i.0.1 (Ok done)) c.in-Ok-true.field-0-test (c.in-Ok-true.ensures.tries _ _ _ i.0.0 i.0.1 may),
+      KeepsUp-grew m c.args.limit _ _ _ _ (g.K.Sink.written c.try_held.new.sink) i.1 (c.try_held.ensures.grew i.0.0 i.0.1 may.stands may.accepted),
+      i.2,
+      c.try_held.ensures.counted,
+      c.try_held.ensures.same.1 ∙ i.4,
+      i.5,
+      c.in-Ok-true.ensures.still (Ok-no_error _ _) ∙ i.6,
+    )
 
 pub loop-progress-preserved : goal.loop-progress-preserved
 loop-progress-preserved g c =
     let i = c.loop-progress.invariant in
-    let e = c.in_default-turn.ensures in (
-      e.turns _ _ i.0.0 i.0.1 i.0.2,
-      rw (sym i.4) (c.turn.ensures.keeps_up _ _ _ _ i.0.2 (rw i.4 i.1)),
+    let e = c.in_default-turn.ensures in
+    let m = g.T.Treatment.meaning in
+    let may = IsAt-open m (g.T.Treatment.stands c.loop-progress.treatment) _ _ _ _ c.loop-progress.progress.reader c.loop-progress.progress.output c.loop-progress.progress.number i.0.0 i.0.1 i.0.2 (c.if-is_full.ensures i.0.0 i.0.2.stands) in
+    let here = subst (λ done. TriesHeld m (g.T.Treatment.stands c.try_held.new.treatment) (g.S.Source.left c.args.source.now) (g.S.Source.left c.loop-progress.source) (g.K.Sink.written c.args.sink.now) (g.K.Sink.written c.try_held.new.sink) c.try_held.new.self.reader c.try_held.new.self.output c.try_held.new.self.number i.0.0 i.0.1 (Ok done)) c.in-Ok-false.field-0-test (c.in-Ok-false.ensures.tries _ _ _ i.0.0 i.0.1 may) in
+    let grew = KeepsUp-grew m c.args.limit _ _ _ _ (g.K.Sink.written c.try_held.new.sink) i.1 (c.try_held.ensures.grew i.0.0 i.0.1 may.stands may.accepted) in
+    let limit = c.try_held.ensures.same.1 ∙ i.4 in (
+      e.turns _ _ i.0.0 i.0.1 here,
+      rw (sym limit) (c.turn.ensures.keeps_up _ _ _ _ here (rw limit grew)),
       c.turn.ensures.open c.in_default-turn.is,
       c.turn.ensures.counted c.in_default-turn.is,
-      c.turn.ensures.limit ∙ i.4,
+      c.turn.ensures.limit ∙ limit,
       e.still.0 ∙ i.5,
-      e.still.1 ∙ i.6,
+      e.still.1 ∙ (c.in-Ok-false.ensures.still (Ok-no_error _ _) ∙ i.6),
     )

@@ -1,35 +1,26 @@
-use Rattle.std.proofs.Common.{◌∷◌, ◌++◌, ap, Some}
-use Rattle.tsp_base.specs.declared.plain.Plain.TheVariants.{Turn, Take}
+use Rattle.std.proofs.Common.{◌∙◌, ap, sym, Some, [], append-nil, refl, length, ◌<◌, rules, arith}
 use Rattle.tsp_base.specs.Words.{event_in}
-use Rattle.tsp_script.proofs.EventLines.{at_of, verb_of, rest_of, IsTrueTime-at_of}
-use Rattle.tsp_script.proofs.Outcomes.{none_or_some, some_once}
-use Rattle.tsp_script.proofs.PlainLines.{plain_front, turn_read, take_read}
+use Rattle.tsp_script.specs.Schedules.{event_text}
+use Rattle.tsp_script.proofs.FrontDigits.{NoDigit-nil}
+use Rattle.tsp_script.proofs.PlainLines.{plain_alone, plain_one, plain_spelled}
 use Rattle.tsp_script.proofs.event_line.plain_line.Goals as goal
 
-pub returns-in_err-at-clause-reads : goal.returns-in_err-at-clause-reads
-returns-in_err-at-clause-reads c = λ plain i s.
-    absurd (c.in_err-at.ensures.reads (at_of (event_in plain)) (verb_of (event_in plain) ++ 32 ∷ rest_of (event_in plain) s.1.0) (IsTrueTime-at_of (event_in plain) s.0) (plain_front c.args.line.now plain s))
+pub returns-in_err-plain-clause-reads : goal.returns-in_err-plain-clause-reads
+returns-in_err-plain-clause-reads c = λ plain i s. absurd (c.in_err-plain.ensures.none plain [] i s.0 NoDigit-nil (plain_spelled c.args.line.now plain i s))
 
-pub returns-in_err-node-clause-reads : goal.returns-in_err-node-clause-reads
-returns-in_err-node-clause-reads c = λ plain i s.
-    let a = c.in_ok-at.ensures.reads (at_of (event_in plain)) (verb_of (event_in plain) ++ 32 ∷ rest_of (event_in plain) s.1.0) (IsTrueTime-at_of (event_in plain) s.0) (plain_front c.args.line.now plain s) in
-    turn_read c.in_ok-at.at c.in_ok-at.line.now c.in-Some.rest.now s.1.0 plain _ s.0 a.0 c.in-Some.ensures a.1
-    (λ node h l. absurd (none_or_some _ _ c.in_err-node.was (c.long_number.ensures.reads node h l)))
+pub returns-then-is_empty-clause-found : goal.returns-then-is_empty-clause-found
+returns-then-is_empty-clause-found c =
+    let f = c.in_ok-plain.ensures.found in
+    (f.0, (f.1, plain_alone c.args.line.now c.in_ok-plain.rest.now c.in_ok-plain.plain f.0 f.3 (search rules)))
 
-pub returns-in-Some-clause-reads : goal.returns-in-Some-clause-reads
-returns-in-Some-clause-reads c = λ plain i s.
-    let a = c.in_ok-at.ensures.reads (at_of (event_in plain)) (verb_of (event_in plain) ++ 32 ∷ rest_of (event_in plain) s.1.0) (IsTrueTime-at_of (event_in plain) s.0) (plain_front c.args.line.now plain s) in
-    turn_read c.in_ok-at.at c.in_ok-at.line.now c.in-Some.rest.now s.1.0 plain _ s.0 a.0 c.in-Some.ensures a.1
-    (λ node h l. ap (λ k. Some (Turn c.in_ok-at.at k)) (some_once _ _ _ c.in_ok-node.was (c.long_number.ensures.reads node h l)))
+pub returns-then-is_empty-clause-reads : goal.returns-then-is_empty-clause-reads
+returns-then-is_empty-clause-reads c = λ plain i s.
+    let f = c.in_ok-plain.ensures.found in
+    ap Some (plain_one c.in_ok-plain.plain plain c.args.line.now c.in_ok-plain.rest.now [] f.0 i f.1 s.0 f.2 NoDigit-nil f.3 (plain_spelled c.args.line.now plain i s)).0
 
-pub returns-in_err-datagram-clause-reads : goal.returns-in_err-datagram-clause-reads
-returns-in_err-datagram-clause-reads c = λ plain i s.
-    let a = c.in_ok-at.ensures.reads (at_of (event_in plain)) (verb_of (event_in plain) ++ 32 ∷ rest_of (event_in plain) s.1.0) (IsTrueTime-at_of (event_in plain) s.0) (plain_front c.args.line.now plain s) in
-    take_read c.in_ok-at.at c.in_ok-at.line.now c.in_ok-rest.rest.now s.1.0 plain _ s.0 a.0 c.in_ok-rest.ensures a.1
-    (λ datagram h l. absurd (none_or_some _ _ c.in_err-datagram.was (c.number_of.ensures.reads datagram h l)))
-
-pub returns-clause-reads : goal.returns-clause-reads
-returns-clause-reads c = λ plain i s.
-    let a = c.in_ok-at.ensures.reads (at_of (event_in plain)) (verb_of (event_in plain) ++ 32 ∷ rest_of (event_in plain) s.1.0) (IsTrueTime-at_of (event_in plain) s.0) (plain_front c.args.line.now plain s) in
-    take_read c.in_ok-at.at c.in_ok-at.line.now c.in_ok-rest.rest.now s.1.0 plain _ s.0 a.0 c.in_ok-rest.ensures a.1
-    (λ datagram h l. ap (λ k. Some (Take c.in_ok-at.at k)) (some_once _ _ _ c.in_ok-datagram.was (c.number_of.ensures.reads datagram h l)))
+pub returns-else-is_empty-clause-reads : goal.returns-else-is_empty-clause-reads
+returns-else-is_empty-clause-reads c = λ plain i s.
+    let f = c.in_ok-plain.ensures.found in
+    let none = (plain_one c.in_ok-plain.plain plain c.args.line.now c.in_ok-plain.rest.now [] f.0 i f.1 s.0 f.2 NoDigit-nil f.3 (plain_spelled c.args.line.now plain i s)).1 in
+    let some : 0 < length c.in_ok-plain.rest.now = search rules in
+    absurd (omega (arith, some, ap length none))

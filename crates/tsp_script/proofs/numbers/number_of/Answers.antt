@@ -1,6 +1,22 @@
-use Rattle.std.proofs.Common.{◌∙◌, ap, sym, Some}
-use Rattle.std.proofs.lemmas.Fmt.{decimal_injective}
+use Rattle.std.proofs.Common.{◌∙◌, ap, sym, Some, [], append-nil, length, ◌<◌, rules, arith}
+use Rattle.std.specs.Prelude.{decimal}
+use Rattle.tsp_script.proofs.FrontDigits.{NoDigit-nil, front_alone, none_left}
 use Rattle.tsp_script.proofs.numbers.number_of.Goals as goal
 
-pub returns-in-Some-clause-reads : goal.returns-in-Some-clause-reads
-returns-in-Some-clause-reads c = λ n h e. ap Some (decimal_injective c.in-Some.number n c.in-Some.ensures.0 h (sym c.in-Some.ensures.1 ∙ e))
+pub returns-in_err-number-clause-reads : goal.returns-in_err-number-clause-reads
+returns-in_err-number-clause-reads c = λ n h e. absurd (c.in_err-number.ensures.none n [] h NoDigit-nil (e ∙ sym (append-nil (decimal n))))
+
+pub returns-then-is_empty-clause-found : goal.returns-then-is_empty-clause-found
+returns-then-is_empty-clause-found c = front_alone _ c.in_ok-number.rest.now _ c.in_ok-number.ensures.found.2 (search rules)
+
+pub returns-then-is_empty-clause-reads : goal.returns-then-is_empty-clause-reads
+returns-then-is_empty-clause-reads c = λ n h e.
+    let f = c.in_ok-number.ensures.found in
+    ap Some (none_left c.in_ok-number.number n c.in_ok-number.rest.now f.0 h f.1 (sym f.2 ∙ e)).0
+
+pub returns-else-is_empty-clause-reads : goal.returns-else-is_empty-clause-reads
+returns-else-is_empty-clause-reads c = λ n h e.
+    let f = c.in_ok-number.ensures.found in
+    let none = (none_left c.in_ok-number.number n c.in_ok-number.rest.now f.0 h f.1 (sym f.2 ∙ e)).1 in
+    let some : 0 < length c.in_ok-number.rest.now = search rules in
+    absurd (omega (arith, some, ap length none))

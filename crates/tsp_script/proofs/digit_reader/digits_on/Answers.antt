@@ -1,6 +1,6 @@
 use Rattle.std.proofs.Common.{arith}
 use Rattle.tsp_script.proofs.Digits.{digits-bound, digits-small, digits-more}
-use Rattle.tsp_script.proofs.numbers.digits_on.Goals as goal
+use Rattle.tsp_script.proofs.digit_reader.digits_on.Goals as goal
 
 pub overflow_mul-number : goal.overflow_mul-number
 overflow_mul-number c = let small = digits-small c.loop-place.number c.loop-place.place (omega arith) c.loop-place.invariant.1 in omega (arith, small)
