@@ -162,7 +162,7 @@ module _ (header : HeaderValue) (events : List Event) (claims : Claims) (ends : 
         last_end = s.last_end ∙ ap (λ (cs : List Claim). length (claimed header cs)) (sym are);
         events_are = ap (λ (cs : List Claim). events_of cs) are ∙ s.events_are;
         at_hand = subst (λ (cs : List Claim). FitAtHand header cs (drop (length ends) events) more) (sym are)
-        (subst (λ ls. FitAtHand header (claims_on events ends claims) (drop (length ends) events) ls) (sym more_is) (FitAtHand-more header (claims_on events ends claims) (drop (length ends) events) pending l s.at_hand fits));
+            (subst (λ ls. FitAtHand header (claims_on events ends claims) (drop (length ends) events) ls) (sym more_is) (FitAtHand-more header (claims_on events ends claims) (drop (length ends) events) pending l s.at_hand fits));
         tally_is = counting_is ∙ (ap (λ t. counted t l.placed.act) s.tally_is ∙ (sym (tallied-more untold pending l) ∙ ap (λ ls. tallied untold ls) (sym more_is)));
         premises_are = s.premises_are ∙ ap (λ (cs : List Claim). premises_of header cs) (sym are);
         few_lines = omega (arith, long, told_is, room);

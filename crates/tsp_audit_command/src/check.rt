@@ -93,7 +93,7 @@ impl AuditInput {
         AuditInput::Schedule(Stage::Untitled)
     }
 
-    /// Reads one line more; it comes without its line feed, in at most 1,024 octets. `Bad` with the cause where it can't
+    /// Reads one line more; it comes without its line feed, in at most 1,024 octets. `Bad` with the cause if it can't
     /// follow the lines before it. `Limit` where it could but for a limit: it has node 17, event 20,001 or claimed line
     /// 20,001. Else fails only if out of memory. After a fault no further line must be read.
     fn advance(&mut self, alloc: Global, line: &[u8]) -> Result<(), Stop>

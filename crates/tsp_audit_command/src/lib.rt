@@ -65,9 +65,9 @@
 
 mod check;
 mod claim_reader;
-mod verdict;
 pub mod laws;
 mod listing;
 mod refusing;
 pub mod run;
+mod verdict;
 mod verdict_text;

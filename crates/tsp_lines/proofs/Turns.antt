@@ -90,11 +90,12 @@ pub Comes-broken : (m : Meaning) (Stands : List (List ℕ) → Type 0) (input le
     → IsAt m Stands input left written now old held number lines text → ¬ m.full lines → old.got ≤ old.limit → BreaksOff m lines text old.held now held later keeps → (fault ≡ NotWritten → 0 < length keeps) → Comes m old.limit input left written later (outcome_of fault)
 Comes-broken m Stands input left written now later old held keeps number lines text fault a room w b some =
     Comes-front m Stands input left written now later old held number lines text b.0 b.1 (outcome_of fault) a room b.2 w (ends fault some) where
-  broken : Breaks (IsSaying (line_sayings m lines text number b.0)) now held later keeps
-  broken = Breaks-imp (λ more. m.accepts (lines ++ b.0 ∷ []) (text ++ more)) (IsSaying (line_sayings m lines text number b.0)) (λ x y. inr (inr (inr y))) now later held keeps b.3
-  ends : (f : Unwritten) → (f ≡ NotWritten → 0 < length keeps) → Ends (line_sayings m lines text number b.0) now held later (outcome_of f)
-  ends NotWritten s = (keeps, s refl, broken)
-  ends NoMemory s = (keeps, broken)
+      broken : Breaks (IsSaying (line_sayings m lines text number b.0)) now held later keeps
+      broken = Breaks-imp (λ more. m.accepts (lines ++ b.0 ∷ []) (text ++ more)) (IsSaying (line_sayings m lines text number b.0)) (λ x y. inr (inr (inr y))) now later held keeps b.3
+
+      ends : (f : Unwritten) → (f ≡ NotWritten → 0 < length keeps) → Ends (line_sayings m lines text number b.0) now held later (outcome_of f)
+      ends NotWritten s = (keeps, s refl, broken)
+      ends NoMemory s = (keeps, broken)
 
 -- what was held wasn't written before a read
 pub Comes-unflushed : (m : Meaning) (Stands : List (List ℕ) → Type 0) (input left rest written now later : Option (List ℕ)) (old : ReaderValue) (held keeps : List ℕ) (number : ℕ) (lines : List (List ℕ)) (text : List ℕ) (o : Outcome)

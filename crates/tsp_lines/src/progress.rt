@@ -77,7 +77,7 @@ impl Progress {
         }
     }
 
-    /// Treats the first line that is held, if it can be treated in its place; false where it can't, and then nothing has
+    /// Treats the first line that is held, if it can be treated in its place; false if it can't, and then nothing has
     /// changed.
     #[inline(always)]
     pub(crate) fn try_held<K: Sink, T: Treatment>(

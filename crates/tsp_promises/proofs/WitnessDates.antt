@@ -38,13 +38,25 @@ abbrev pub passing : ℕ → List Line
 passing k = after (k - 5) passing_steps (lead 5)
 
 pub passing-fits : Fits (still false) (passing 11)
-passing-fits = stages-fit false 6 passing_steps (lead 5) led refl
-    (search debts, (search debts,
-    (((refl, (refl, came refl refl refl refl refl)), ((refl, record { gap = omega arith; rested = omega arith; why = ByDate (record { from = Peer (peer_of 1); message = (msg SetDateReq 32777 (TimeBody (pos 600000000))); took = _; past = _; is = refl; deed = refl; kind = refl; leads = refl; amount_is = refl; again = λ p d f r l n. none-some d l }); flag = refl; prints = refl }), ((refl, record { rested = inl (omega arith); fits = inr (record { message = (msg SetDateReq 32777 (TimeBody (pos 600000000))); took = refl; kind = refl; number_is = refl; last = _; last_is = refl; same = refl; fresh = omega arith }) }), tt))),
-    (search debts,
-    (((refl, (refl, tt)), ((refl, record { gap = omega arith; rested = omega arith; why = ByDate (record { from = Peer (peer_of 1); message = (msg SetDateReq 100 (TimeBody (pos 500000000))); took = _; past = _; is = refl; deed = refl; kind = refl; leads = refl; amount_is = refl; again = λ p d f r l n. other-date (view port0 (of 0 (does 312000000 0 Handed (Took (Peer (peer_of 1)) (Good (Message (msg SetDateReq 100 (TimeBody (pos 500000000)))))) ∷ (begins 312000000 0 Handed ∷ (passing 9))))) (peer_of 1) p d (record { at = 310000001; number = 32777 }) 100 f refl l n (λ e. not-same 100 32777 (omega arith) (sym e)) }); flag = refl; prints = refl }), ((refl, record { rested = inl (omega arith); fits = inr (record { message = (msg SetDateReq 100 (TimeBody (pos 500000000))); took = refl; kind = refl; number_is = refl; last = _; last_is = refl; same = refl; fresh = omega arith }) }), tt))),
-    (((refl, (refl, came refl refl refl refl refl)), ((refl, record { gap = omega arith; rested = omega arith; why = ByDate (record { from = Peer (peer_of 1); message = (msg SetDateReq 32777 (TimeBody (pos 600000000))); took = _; past = _; is = refl; deed = refl; kind = refl; leads = refl; amount_is = refl; again = λ p d f r l n. other-date (view port0 (of 0 (does 314000000 0 (Came 1) (Took (Peer (peer_of 1)) (Good (Message (msg SetDateReq 32777 (TimeBody (pos 600000000)))))) ∷ (begins 314000000 0 (Came 1) ∷ (passing 10))))) (peer_of 1) p d (record { at = 312000000; number = 100 }) 32777 f refl l n (not-same 100 32777 (omega arith)) }); flag = refl; prints = refl }), ((refl, record { rested = inl (omega arith); fits = inr (record { message = (msg SetDateReq 32777 (TimeBody (pos 600000000))); took = refl; kind = refl; number_is = refl; last = _; last_is = refl; same = refl; fresh = omega arith }) }), tt))),
-    tt))))))
+passing-fits = stages-fit false 6 passing_steps (lead 5) led refl (
+  search debts,
+  (
+    search debts,
+    (
+      ((refl, (refl, came refl refl refl refl refl)), ((refl, record { gap = omega arith; rested = omega arith; why = ByDate (record { from = Peer (peer_of 1); message = (msg SetDateReq 32777 (TimeBody (pos 600000000))); took = _; past = _; is = refl; deed = refl; kind = refl; leads = refl; amount_is = refl; again = λ p d f r l n. none-some d l }); flag = refl; prints = refl }), ((refl, record { rested = inl (omega arith); fits = inr (record { message = (msg SetDateReq 32777 (TimeBody (pos 600000000))); took = refl; kind = refl; number_is = refl; last = _; last_is = refl; same = refl; fresh = omega arith }) }), tt))),
+      (
+        search debts,
+        (
+          ((refl, (refl, tt)), ((refl, record { gap = omega arith; rested = omega arith; why = ByDate (record { from = Peer (peer_of 1); message = (msg SetDateReq 100 (TimeBody (pos 500000000))); took = _; past = _; is = refl; deed = refl; kind = refl; leads = refl; amount_is = refl; again = λ p d f r l n. other-date (view port0 (of 0 (does 312000000 0 Handed (Took (Peer (peer_of 1)) (Good (Message (msg SetDateReq 100 (TimeBody (pos 500000000)))))) ∷ (begins 312000000 0 Handed ∷ (passing 9))))) (peer_of 1) p d (record { at = 310000001; number = 32777 }) 100 f refl l n (λ e. not-same 100 32777 (omega arith) (sym e)) }); flag = refl; prints = refl }), ((refl, record { rested = inl (omega arith); fits = inr (record { message = (msg SetDateReq 100 (TimeBody (pos 500000000))); took = refl; kind = refl; number_is = refl; last = _; last_is = refl; same = refl; fresh = omega arith }) }), tt))),
+          (
+            ((refl, (refl, came refl refl refl refl refl)), ((refl, record { gap = omega arith; rested = omega arith; why = ByDate (record { from = Peer (peer_of 1); message = (msg SetDateReq 32777 (TimeBody (pos 600000000))); took = _; past = _; is = refl; deed = refl; kind = refl; leads = refl; amount_is = refl; again = λ p d f r l n. other-date (view port0 (of 0 (does 314000000 0 (Came 1) (Took (Peer (peer_of 1)) (Good (Message (msg SetDateReq 32777 (TimeBody (pos 600000000)))))) ∷ (begins 314000000 0 (Came 1) ∷ (passing 10))))) (peer_of 1) p d (record { at = 312000000; number = 100 }) 32777 f refl l n (not-same 100 32777 (omega arith)) }); flag = refl; prints = refl }), ((refl, record { rested = inl (omega arith); fits = inr (record { message = (msg SetDateReq 32777 (TimeBody (pos 600000000))); took = refl; kind = refl; number_is = refl; last = _; last_is = refl; same = refl; fresh = omega arith }) }), tt))),
+            tt,
+          ),
+        ),
+      ),
+    ),
+  ),
+)
 
 pub dates : Fits (still false) (passing 9)
 dates = skip-fits false 8 (passing 11) passing-fits
@@ -64,10 +76,22 @@ abbrev pub renewed : ℕ → List Line
 renewed k = after (k - 9) renewed_steps (passing 9)
 
 pub renewed-fits : Fits (still false) (renewed 15)
-renewed-fits = stages-fit false 6 renewed_steps (passing 9) dates refl
-    (search debts, (search debts, (search debts, (search debts,
-    (((refl, (refl, came refl refl refl refl refl)), ((refl, record { gap = omega arith; rested = omega arith; why = ByDate (record { from = Peer (peer_of 1); message = (msg SetDateReq 32778 (TimeBody (pos 900000000))); took = _; past = _; is = refl; deed = refl; kind = refl; leads = refl; amount_is = refl; again = λ p d f r l n. none-some d l }); flag = refl; prints = refl }), ((refl, record { rested = inl (omega arith); fits = inr (record { message = (msg SetDateReq 32778 (TimeBody (pos 900000000))); took = refl; kind = refl; number_is = refl; last = _; last_is = refl; same = refl; fresh = omega arith }) }), tt))),
-    search debts)))))
+renewed-fits = stages-fit false 6 renewed_steps (passing 9) dates refl (
+  search debts,
+  (
+    search debts,
+    (
+      search debts,
+      (
+        search debts,
+        (
+          ((refl, (refl, came refl refl refl refl refl)), ((refl, record { gap = omega arith; rested = omega arith; why = ByDate (record { from = Peer (peer_of 1); message = (msg SetDateReq 32778 (TimeBody (pos 900000000))); took = _; past = _; is = refl; deed = refl; kind = refl; leads = refl; amount_is = refl; again = λ p d f r l n. none-some d l }); flag = refl; prints = refl }), ((refl, record { rested = inl (omega arith); fits = inr (record { message = (msg SetDateReq 32778 (TimeBody (pos 900000000))); took = refl; kind = refl; number_is = refl; last = _; last_is = refl; same = refl; fresh = omega arith }) }), tt))),
+          search debts,
+        ),
+      ),
+    ),
+  ),
+)
 
 abbrev passes : Line
 passes = does 310000000 1 Handed (Post (Peer (peer_of 0)) (Message (msg SetDateReq 32777 (TimeBody (pos 600000000)))))

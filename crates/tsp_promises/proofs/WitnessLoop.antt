@@ -44,12 +44,34 @@ abbrev pub circle : ℕ → List Line
 circle k = after k circle_steps []
 
 pub circle-fits : Fits (still false) (circle 9)
-circle-fits = stages-fit false 9 circle_steps [] tt refl
-    (search debts, (search debts, (search debts, (search debts, (search debts, (search debts,
-    (((refl, (refl, came refl refl refl refl refl)), ((refl, record { rested = inl (omega arith); fits = inr (record { from = peer_of 1; message = loop_with 10; took = refl; kind = refl; name = refl; number = refl; other = λ e. names-differ 1 2 (omega arith) (sym e); left = 9; came = refl; goes = refl; few = omega arith }) }), tt)),
-    (((refl, (refl, came refl refl refl refl refl)), ((refl, record { rested = inl (omega arith); fits = inr (record { from = peer_of 2; message = loop_with 9; took = refl; kind = refl; name = refl; number = refl; other = λ e. names-differ 1 3 (omega arith) (sym e); left = 8; came = refl; goes = refl; few = omega arith }) }), tt)),
-    (((refl, (refl, came refl refl refl refl refl)), ((refl, λ leads. record { from = peer_of 3; message = loop_with 8; took = refl; kind = refl; name = refl; number = omega arith }), tt)),
-    tt)))))))))
+circle-fits = stages-fit false 9 circle_steps [] tt refl (
+  search debts,
+  (
+    search debts,
+    (
+      search debts,
+      (
+        search debts,
+        (
+          search debts,
+          (
+            search debts,
+            (
+              ((refl, (refl, came refl refl refl refl refl)), ((refl, record { rested = inl (omega arith); fits = inr (record { from = peer_of 1; message = loop_with 10; took = refl; kind = refl; name = refl; number = refl; other = λ e. names-differ 1 2 (omega arith) (sym e); left = 9; came = refl; goes = refl; few = omega arith }) }), tt)),
+              (
+                ((refl, (refl, came refl refl refl refl refl)), ((refl, record { rested = inl (omega arith); fits = inr (record { from = peer_of 2; message = loop_with 9; took = refl; kind = refl; name = refl; number = refl; other = λ e. names-differ 1 3 (omega arith) (sym e); left = 8; came = refl; goes = refl; few = omega arith }) }), tt)),
+                (
+                  ((refl, (refl, came refl refl refl refl refl)), ((refl, λ leads. record { from = peer_of 3; message = loop_with 8; took = refl; kind = refl; name = refl; number = omega arith }), tt)),
+                  tt,
+                ),
+              ),
+            ),
+          ),
+        ),
+      ),
+    ),
+  ),
+)
 
 abbrev sets-out : LoopPost
 sets-out = record { post = does 310000000 1 Turned (Post (Peer (peer_of 2)) (Message (loop_with 10))); older = skip 1 (circle 6); to = peer_of 2; message = loop_with 10; deed = refl; kind = refl; hops = 10; hops_is = refl }

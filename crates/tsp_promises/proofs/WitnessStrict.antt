@@ -31,12 +31,37 @@ abbrev pub votes : ℕ → List Line
 votes k = after k votes_steps []
 
 pub votes-fit : Fits (still true) (votes 11)
-votes-fit = stages-fit true 11 votes_steps [] tt refl
-    (search debts, (search debts, (search debts, (search debts, (search debts,
-    (((refl, (refl, came refl refl refl refl refl)), ((refl, search debts), ((refl, record { peer = refl; other = λ e. not-same 0 1 (omega arith) (ap (λ (p : PeerId). p.0) (sym e)); new = refl; answer = (msg Accept 32775 Nothing); took = refl; kind = refl; acked = _; past = _; is = refl; deed = refl; first = _; older = _; ends = refl; message = (msg Election 32775 Nothing); asks = refl; election = refl; number = refl }), tt))),
-    (search debts, (search debts, (search debts,
-    (((refl, (refl, came refl refl refl refl refl)), ((refl, search debts), ((refl, record { peer = refl; other = λ e. not-same 1 2 (omega arith) (ap (λ (p : PeerId). p.0) (sym e)); new = refl; answer = (msg Accept 32777 Nothing); took = refl; kind = refl; acked = _; past = _; is = refl; deed = refl; first = _; older = _; ends = refl; message = (msg Election 32777 Nothing); asks = refl; election = refl; number = refl }), tt))),
-    search debts))))))))))
+votes-fit = stages-fit true 11 votes_steps [] tt refl (
+  search debts,
+  (
+    search debts,
+    (
+      search debts,
+      (
+        search debts,
+        (
+          search debts,
+          (
+            ((refl, (refl, came refl refl refl refl refl)), ((refl, search debts), ((refl, record { peer = refl; other = λ e. not-same 0 1 (omega arith) (ap (λ (p : PeerId). p.0) (sym e)); new = refl; answer = (msg Accept 32775 Nothing); took = refl; kind = refl; acked = _; past = _; is = refl; deed = refl; first = _; older = _; ends = refl; message = (msg Election 32775 Nothing); asks = refl; election = refl; number = refl }), tt))),
+            (
+              search debts,
+              (
+                search debts,
+                (
+                  search debts,
+                  (
+                    ((refl, (refl, came refl refl refl refl refl)), ((refl, search debts), ((refl, record { peer = refl; other = λ e. not-same 1 2 (omega arith) (ap (λ (p : PeerId). p.0) (sym e)); new = refl; answer = (msg Accept 32777 Nothing); took = refl; kind = refl; acked = _; past = _; is = refl; deed = refl; first = _; older = _; ends = refl; message = (msg Election 32777 Nothing); asks = refl; election = refl; number = refl }), tt))),
+                    search debts,
+                  ),
+                ),
+              ),
+            ),
+          ),
+        ),
+      ),
+    ),
+  ),
+)
 
 -- two nodes win strict elections, 65 s apart
 pub strict_elections : StrictElections

@@ -42,13 +42,13 @@ closes-emits : {sorts : List Sort} (own : Bool) → is_part (Rounding ∷ Closin
 unfolding closes closes_with corrects_peer abandons
 closes-emits own e moved corrected =
     Emits_reading round_at (closes own) (λ round.
-        let g = group_of SPAN (estimates round) in
-        let mean = mean_by own g in
-        Emits_then (puts (Ring CloseAlarm)) _ (Emits_more (Rounding ∷ Closing ∷ []) e (Emits_puts (Ring CloseAlarm) refl))
-        (Emits_either (can_adjust mean) _ (puts Abandon)
-        (Emits_then (puts (close_act own g)) _ (Emits_more (Rounding ∷ Closing ∷ []) e (Emits_puts (close_act own g) refl))
-        (Emits_then (moves own mean) _ (moved mean) (Emits_each (corrects_peer mean) round (λ s. corrected mean s.peer s.best))))
-        (Emits_more (Rounding ∷ Closing ∷ []) e (Emits_puts Abandon refl))))
+    let g = group_of SPAN (estimates round) in
+    let mean = mean_by own g in
+    Emits_then (puts (Ring CloseAlarm)) _ (Emits_more (Rounding ∷ Closing ∷ []) e (Emits_puts (Ring CloseAlarm) refl))
+    (Emits_either (can_adjust mean) _ (puts Abandon)
+    (Emits_then (puts (close_act own g)) _ (Emits_more (Rounding ∷ Closing ∷ []) e (Emits_puts (close_act own g) refl))
+    (Emits_then (moves own mean) _ (moved mean) (Emits_each (corrects_peer mean) round (λ s. corrected mean s.peer s.best))))
+    (Emits_more (Rounding ∷ Closing ∷ []) e (Emits_puts Abandon refl))))
 
 -- so nothing is owed for what is taken
 pub nothing_taken : (t : Taken) → Owes nothing_owed t

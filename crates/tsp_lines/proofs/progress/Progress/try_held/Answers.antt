@@ -14,12 +14,12 @@ returns-in-Ok-Some-clause-tries g c = λ input left written lines text at.
       lines ++ t.0 ∷ [],
       text ++ t.2.0,
       IsAt-front m _ _ input left written _ _ c.args.self.now.reader c.skip.new.self c.args.self.now.output _ c.args.self.now.number _ lines text t.0 c.in-Ok-Some.count at f
-      (ap (λ (r : ReaderValue). r.held) c.skip.ensures)
-      (ap (λ (r : ReaderValue). r.got) c.skip.ensures)
-      (ap (λ (r : ReaderValue). r.limit) c.skip.ensures)
-      (omega arith)
-      refl
-      t.2,
+          (ap (λ (r : ReaderValue). r.held) c.skip.ensures)
+          (ap (λ (r : ReaderValue). r.got) c.skip.ensures)
+          (ap (λ (r : ReaderValue). r.limit) c.skip.ensures)
+          (omega arith)
+          refl
+          t.2,
     )
 
 pub returns-in-Err-clause-tries : goal.returns-in-Err-clause-tries
