@@ -172,7 +172,7 @@ def main():
     signal.signal(signal.SIGINT, signal.default_int_handler)
     waiting_program(folder)
     unread, faulty = files_of(folder)
-    before, wrong, count = listing('tools'), 0, 0
+    before, wrong, count = listing('tools') | listing('dev'), 0, 0
     for name in sorted(os.listdir('tools')):
         if name.startswith('tsp-') and name not in {row['tool'] for row in rows}:
             print(f'{name} has no row', file=sys.stderr)
@@ -183,7 +183,7 @@ def main():
         except Wrong as fault:
             print(fault, file=sys.stderr)
             wrong += 1
-    left = {path for path in listing('tools') - before if '__pycache__' in path}
+    left = {path for path in (listing('tools') | listing('dev')) - before if '__pycache__' in path}
     if left:
         print(f'the tools leave {sorted(left)[:3]}', file=sys.stderr)
     print(f'{count} bad inputs of {len({row["tool"] for row in rows})} tools')
