@@ -3,8 +3,8 @@
 . "$(dirname "$0")/common.sh"
 
 repository=$out/repository
-mkdir -p "$repository/tools" "$repository/docs"
-cp dev/gate-times dev/crate-paths "$repository/tools/"
+mkdir -p "$repository/dev" "$repository/docs"
+cp dev/gate-times dev/crate-paths "$repository/dev/"
 printf '%s\n' '# crates' 'low: arrayvec' 'left: low' 'right: low  # the other side' 'top: left right low' 'program staticlib: top left' >"$repository/crates.txt"
 
 # low 1, left and right 2 each, top 1 + 2 + 2 + 1, program 1 + 6 + 2.
