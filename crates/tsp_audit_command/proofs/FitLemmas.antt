@@ -1,11 +1,11 @@
 -- How the lines of an event fit, one behind the other.
-use Rattle.std.specs.Prelude.{◌≡◌, ℕ, zero, suc, ◌+◌, ◌≤◌, false, List, [], ◌∷◌, ◌++◌, length}
+use Rattle.std.specs.Prelude.{◌≡◌, ◌+◌, ◌≤◌, false, List, [], ◌∷◌, ◌++◌, length}
 use Rattle.std.proofs.Common.{refl, arith}
 use Rattle.tsp_base.specs.declared.event.Event.{Event}
 use Rattle.tsp_audit_command.specs.ClaimReaders.{tallied}
 use Rattle.tsp_audit_command.specs.Sound.{FitSoFar}
 use Rattle.tsp_claims.specs.declared.tally.Tally.{Tally}
-use Rattle.tsp_claims.specs.Fitting.{AllFit, Misfits, counted, lacks}
+use Rattle.tsp_claims.specs.Fitting.{AllFit, counted, lacks}
 use Rattle.tsp_claims.proofs.FitLemmas.{posts_by-few}
 use Rattle.tsp_base.specs.declared.trace.Line2.{Line2}
 

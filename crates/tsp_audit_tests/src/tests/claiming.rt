@@ -128,15 +128,16 @@ pub(crate) fn counts(claims: &Claims) -> (u64, u64, usize) {
     (claims.events(), claims.told(), claims.lines().len())
 }
 
-/// Whether a line is allowed as the first of an event, and what the event with that line alone lacks.
+/// Whether a line is allowed as the next of an event, of which none was counted, and whether the event with that line
+/// alone lacks something.
 pub(crate) fn looks_at(claims: &Claims, event: &str, text: &str) -> Option<(bool, bool)> {
     let e = event_of(event.as_bytes())?;
     let line = act_of(text.as_bytes()).ok()?;
     if !is_claimable(claims, &e, 1) {
         return None;
     }
+    let fits = claims.fits(&e, &line);
     let mut tally = Tally::new();
-    let fits = claims.fits(&e, tally, &line);
     tally.count(&line.placed.act);
     Some((fits, tally.lacks(&e)))
 }
