@@ -89,7 +89,7 @@ def judged(cases):
     alike = sum(case['alike'] for case in cases)
     faulty = [name_of(case) for case in cases if case['faults']]
     told = f'{alike} acts are those of the rules'
-    return f'{told}, and each history keeps the promises' if not faulty else f'{told}, but not all of {"; ".join(faulty)}'
+    return f'{told}, and each history passes the audit' if not faulty else f'{told}, but not all of {"; ".join(faulty)}'
 
 
 def place(millis):
