@@ -23,8 +23,8 @@ All daemons' clocks are made from one clock of the machine, by rates and wall cl
 `tsp-witness`, which knows neither: {judged}.
 
 - **error**: the least error of a measurement, which is half of the shortest round trip.
-- **apart**: the greatest distance of two clocks that one round of their master corrected, the master's among them, while nothing else moved them. Of a
-  clock its target counts, which a question is told.
+- **apart**: the greatest distance of two clocks that one round of their master corrected, the master's among them, while nothing else moved them. A
+  clock's time here is its target, which questions are told.
 - **promised**: how far these two may be apart at that moment, by the promise: the errors of their measurements, and twice the drift since these.
 - **most**: the greatest share of the promised distance that any two clocks reached, at any moment.
 
