@@ -7,31 +7,32 @@ INTERVALS = '## The interval that programs read\n'
 MARKS, LOWEST, HIGHEST = (0.01, 0.1, 1, 10, 100), 0.01, 200
 TEXT = '''# How well it keeps time
 
-How far two corrected clocks are from each other, measured, beside what is promised of them, and below that how narrow the interval is that programs read.
-`dev/accuracy` wrote this part and its picture:
+How far apart corrected clocks were when measured, beside what is promised of them; and, further down, how narrow the interval is that programs read.
+This command wrote the first part and its picture:
 
 ```
 dev/accuracy --minutes {minutes} --rate {rate} --seed {seed} --jobs {jobs}
 ```
 
-Each case is a network of daemons in namespaces of one machine, without faults, {time}; {jobs} networks ran side by side. Two hosts may be
-master. Wall clocks are up to half a second off at first. Rates are drawn up to the drift, in parts in a million, and each datagram is late by up to the jitter.
-On top come the ways through the kernel and the bridge, and what a daemon waits for a processor of a busy machine: the least error of a measurement shows that.
+Each case is a network of daemons in namespaces of one machine, without faults, {time}; {jobs} networks ran side by side. Two hosts of each may be
+master. Wall clocks are up to half a second off at first. Each counter is too fast or too slow by up to the drift, in parts in a million, and each datagram is
+late by up to the jitter. On top come the time through the kernel and the bridge, and what a daemon waits for a processor of the busy machine: the least error
+of a measurement shows both.
 
-Times come from the clock that all daemons count by, whose rates and walls are known here. Each run was also replayed and audited by `tsp-witness`, which
-knows neither: {judged}.
+All daemons' clocks are made from one clock of the machine, by rates and wall clocks that are known here. Each run was also replayed and audited by
+`tsp-witness`, which knows neither: {judged}.
 
 - **error**: the least error of a measurement, which is half of the shortest round trip.
-- **apart**: the greatest distance of two clocks that one round of their master corrected, the master's among them, while nothing else moved them. A clock is
-  what a question is told, which is its target.
-- **promised**: what is promised of these two at that moment: their samples' errors, and the drift since these were taken, twice.
-- **most**: the greatest part of what was promised that any two clocks came to, at any moment.
+- **apart**: the greatest distance of two clocks that one round of their master corrected, the master's among them, while nothing else moved them. A
+  clock's time here is its target, which questions are told.
+- **promised**: how far these two may be apart at that moment, by the promise: the errors of their measurements, and twice the drift since these.
+- **most**: the greatest share of the promised distance that any two clocks reached, at any moment.
 
-**learned** are the same networks once more, for as long, whose daemons count with the rates that their traces of the first run gave, as after a restart. **rates** is
-by how many parts in a million the counters that differ most do so then, and **simulated** how far clocks of nodes are apart whose rates are -1, 0 or 1.
+**learned** are the same networks once more, for as long, whose daemons count with the rates that their traces of the first run gave, as after a restart.
+**rates** is then the greatest difference of two counters, in parts in a million, and **simulated** how far apart nodes' clocks are whose rates are -1, 0 or 1.
 
-The simulations are runs of `tsp-sim` with as many nodes and as much drift, whose datagrams are on their way for the daemons' least error, and up to the jitter
-besides. Jitter, errors and distances are milliseconds.
+The simulations are runs of `tsp-sim` with as many nodes and as much drift. In them a datagram takes the daemons' least error, and up to the jitter besides.
+Jitter, errors and distances are milliseconds.
 
 | hosts | drift | jitter | daemons: error | apart | promised | most | learned: error | apart | rates | simulated | simulated: error | apart | promised | most |
 |---|---|---|---|---|---|---|---|---|---|---|---|---|---|---|
@@ -41,8 +42,8 @@ besides. Jitter, errors and distances are milliseconds.
 
 {sums}
 
-Where nothing drifts, distances come from the ways of datagrams alone, and from what daemons on a busy machine wait for a processor; simulated nodes don't wait.
-Where clocks drift, they part from one round to the next, and that decides.
+Without drift, distances come only from how long datagrams take, and from what daemons on a busy machine wait for a processor; simulated nodes don't wait.
+With drift, clocks also part from one round to the next; with a drift of 100 this is most of the distance.
 '''
 
 
@@ -79,15 +80,16 @@ def sums(cases):
     corrections = {kind: sum(case[kind]['corrections'] for case in cases) for kind in ('daemons', 'simulated')}
     worst = {kind: max(case[kind]['part'] for case in cases) for kind in ('daemons', 'simulated')}
     return (f'In all {len(cases)} cases rounds moved followers {corrections["daemons"]} times among daemons, and {corrections["simulated"]} times in simulations. '
-            f'Two\nclocks came to {worst["daemons"]:.0%} of what was promised at the most among daemons, and to {worst["simulated"]:.0%} in simulations. '
-            f'The distances of daemons\nare those of simulated nodes times {", ".join(ratios(cases))}.')
+            f'Two\nclocks reached at most {worst["daemons"]:.0%} of the promised distance among daemons, and {worst["simulated"]:.0%} in simulations. '
+            f'The distances of daemons, divided\nby those of simulated nodes, are {", ".join(ratios(cases))}.')
 
 
 def judged(cases):
     """What the witness said of all runs."""
     alike = sum(case['alike'] for case in cases)
     faulty = [name_of(case) for case in cases if case['faults']]
-    return f'{alike} acts are alike, and each history holds' if not faulty else f'{alike} acts are alike, but not all of {"; ".join(faulty)}'
+    told = f'{alike} acts are those of the rules'
+    return f'{told}, and each history passes the audit' if not faulty else f'{told}, but not all of {"; ".join(faulty)}'
 
 
 def place(millis):
