@@ -30,6 +30,8 @@ All daemons' clocks are made from one clock of the machine, by rates and wall cl
 
 **learned** are the same networks once more, for as long, whose daemons count with the rates that their traces of the first run gave, as after a restart.
 **rates** is then the greatest difference of two counters, in parts in a million, and **simulated** how far apart nodes' clocks are whose rates are -1, 0 or 1.
+A schedule's rates are whole parts in a million, which learned ones aren't. So `tsp-witness` may find that clocks fit no schedule for all of the time, if they
+were measured well and differ by a fraction of a part; it says so.
 
 The simulations are runs of `tsp-sim` with as many nodes and as much drift. In them a datagram takes the daemons' least error, and up to the jitter besides.
 Jitter, errors and distances are milliseconds.
