@@ -1,28 +1,15 @@
 """How far the clocks of the example's round are apart, and how far they may be, as it was worked out by hand; and that the same is told of daemons'
 traces as of the schedule and the claims that they make."""
 import io
-import os
 import sys
 
 from lab import distances
+from stories import story_of
 from tsp_texts import claims, history, verdict
-from tsp_witness import journal, network
-from tsp_witness.story import Story
 
 # The follower's clock was read at 630,000,300 with an error of 401, and was corrected at 638,000,400: 802 is the drift of a ten-thousandth in
 # the 8,000,100 between, rounded up, and 1. The targets are then 250 and 150 below true time.
 WANTED = distances.Distance(100, 401 + 2 * 802)
-GIVEN = os.path.join(os.path.dirname(os.path.realpath(__file__)), 'witness')
-DRIFT = 100
-
-
-def story_of(name):
-    """The story of a folder of traces, each of which begins with its host's name."""
-    net = network.read(os.path.join(GIVEN, f'{name}.hosts'))
-    traces = {}
-    for file in sorted(os.listdir(os.path.join(GIVEN, name))):
-        traces.setdefault(net.number[file.partition('-')[0]], []).append(os.path.join(GIVEN, name, file))
-    return Story(net, {node: journal.read(net, node, paths) for node, paths in traces.items()}, DRIFT)
 
 
 def wants_alike(name):

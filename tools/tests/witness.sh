@@ -47,8 +47,8 @@ change() {
     ! cmp -s "$given/$1/$2.trace" "$out/changed/$2.trace" || fail "$3 changes nothing in $2"
 }
 
-for worked in witness_times distances_worked; do
-    PYTHONPATH=tools:dev python3 -B "tools/tests/$worked.py" 2>"$out/told" || fail "$(cat "$out/told")"
+for worked in witness_times distances_worked witness_long; do
+    PYTHONPATH=tools:dev python3 -B "tools/tests/$worked.py" "$TSP_PROGRAM" 2>"$out/told" || fail "$(cat "$out/told")"
 done
 
 # The daemons' own lines are all alike: in a run that was worked out by hand, in one whose SETTIME is repeated right behind its late take,
