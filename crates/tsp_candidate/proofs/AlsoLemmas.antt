@@ -9,7 +9,7 @@ use Rattle.tsp_rules.proofs.EmitsBuilt.{emits_built}
 use Rattle.tsp_slave.proofs.BesideLemmas.{AlsoStands_by}
 
 pub AlsoStands_accepted_by : (p : PeerId) (number : ℕ) → Keeps AlsoStands (accepted_by p number)
-AlsoStands_accepted_by p number = AlsoStands_by (accepted_by p number) (emits_built refl (built_accepted_by p number))
+AlsoStands_accepted_by p number = AlsoStands_by (accepted_by p number) (emits_built refl (built_accepted_by p number tt))
 
 pub AlsoStands_refused_by : (p : PeerId) (number : ℕ) → Keeps AlsoStands (refused_by p number)
-AlsoStands_refused_by p number = AlsoStands_by (refused_by p number) (emits_built refl (built_refused_by p number))
+AlsoStands_refused_by p number = AlsoStands_by (refused_by p number) (emits_built refl (built_refused_by p number tt))

@@ -179,7 +179,7 @@ module _ {s : ServeWords} {setting : Setting} {tick : ℕ} {wall : ℤ} (is : Is
         name = r.name;
         strict = r.strict;
         ports = r.ports;
-        fits = acts_fit ports setting step x h acts first_port Begins h (tick-is x) ok.on (inr (Within-all h)) (omega (arith, few, turns, most, room_few))
+        fits = acts_fit ports setting step x h acts first_port Begins h (tick-is x) ok.on (inr (Within-all h)) (omega (arith, few, turns, most, room_few, more))
             (subst (λ b. AllAlive setting step x b acts) (sym up_is) ok.alive) ok.taken
             (λ q has. subst (λ ls. PortFits (setup_of setting 0 q) (view q ls)) (sym (of-own (joined step x acts (mark ∷ h)) all_own))
             (subst (λ k. PortFits k (view q (joined step x acts (mark ∷ h)))) (set-up past q r.name r.strict r.ports has) (after q has).0.fits))

@@ -9,6 +9,7 @@ use Rattle.tsp_rules.specs.RoundRows.{corrects}
 use Rattle.tsp_rules.proofs.BuiltAnswers.{built_from_peer}
 use Rattle.tsp_rules.proofs.BuiltDates.{built_date_acked, built_passes_on}
 use Rattle.tsp_rules.proofs.EmitsBuilt.{emits_built}
+use Rattle.tsp_rules.proofs.Unchanged.{place_unchanged}
 use Rattle.tsp_rules.proofs.EmitsStill.{corrects-none, still_sorts}
 
 pub corrects-nothing : (x : ℕ) (past : Past) → corrects (nothing x past) ≡ false
@@ -25,7 +26,7 @@ corrects-sets from number time x past = by_test (may_date time x past) where
 
 -- one that is passed on doesn't
 pub corrects-passes : (from : Place) (q : PeerId) (number : ℕ) (time : ℤ) (x : ℕ) (past : Past) → corrects (passes_on from q number time x past) ≡ false
-corrects-passes from q number time x past = corrects-none (passes_on from q number time x past) ((emits_built {all = still_sorts} refl (built_passes_on number time tt tt from q tt)).only x past)
+corrects-passes from q number time x past = corrects-none (passes_on from q number time x past) ((emits_built {all = still_sorts} refl (built_passes_on number time tt tt from q (place_unchanged from) tt tt)).only x past)
 
 -- nor does one that is answered again
 pub corrects-posts : (p : PeerId) (kind : Kind) (number x : ℕ) (past : Past) → corrects (posts p kind number x past) ≡ false
@@ -34,4 +35,4 @@ corrects-posts p kind number x past = refl
 
 -- nor does the answer of a master
 pub corrects-end : (from : Place) (m : MessageValue) (x : ℕ) (past : Past) → corrects (from_peer from (date_acked m) x past) ≡ false
-corrects-end from m x past = corrects-none (from_peer from (date_acked m) x past) ((emits_built {all = still_sorts} refl (built_from_peer from _ _ (built_date_acked m))).only x past)
+corrects-end from m x past = corrects-none (from_peer from (date_acked m) x past) ((emits_built {all = still_sorts} refl (built_from_peer from _ _ (place_unchanged from) (built_date_acked m))).only x past)

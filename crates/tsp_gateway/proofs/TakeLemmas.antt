@@ -19,6 +19,7 @@ use Rattle.tsp_gateway.specs.GatewayStands.{GatewayStands, port_at}
 use Rattle.tsp_gateway.specs.Untold.{Untold, upset_ports}
 use Rattle.tsp_rules.proofs.BuiltAnswers.{built_handles, taken_sorts}
 use Rattle.tsp_rules.proofs.EmitsBuilt.{emits_built, nothing_taken}
+use Rattle.tsp_rules.proofs.Unchanged.{place_unchanged}
 use Rattle.tsp_rules.proofs.EmitsStill.{row_corrects-none, still_sorts}
 use Rattle.tsp_gateway.proofs.LiftLemmas.{All_moved, All_on, All_same, All_stirred, All_unstirred, take_stands}
 
@@ -69,7 +70,7 @@ other-emits : (from : Place) (t : Taken) → HoldsNoMessage t → Emits still_so
 unfolding takes
 other-emits from t none =
     Emits_then (puts (Took from t)) _ (Emits_puts (Took from t) refl)
-    (Emits_either (is_own from) nothing (handles true true from t) Emits_nothing (emits_built (still-part t none) (built_handles true true from t tt (nothing_taken t))))
+    (Emits_either (is_own from) nothing (handles true true from t) Emits_nothing (emits_built (still-part t none) (built_handles true true from t (place_unchanged from) tt (nothing_taken t))))
 
 -- it doesn't correct
 pub other_still : (from : Place) (t : Taken) → HoldsNoMessage t → (x : ℕ) (past : Past) → corrects (takes true true from t x past) ≡ false

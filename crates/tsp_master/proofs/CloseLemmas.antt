@@ -140,7 +140,7 @@ no_probe x past m off due h = by_probe (armed past.seen).probe refl off where
 
 peer-still : (mean : ℤ) (s : Standing) → Emits still_sorts (corrects_peer mean s)
 unfolding corrects_peer
-peer-still mean s = emits_built refl (built_corrects_by mean s.peer s.best (nothing_measured mean s.best))
+peer-still mean s = emits_built refl (built_corrects_by mean s.peer tt s.best (nothing_measured mean s.best))
 
 -- a close corrects where the clock can be moved and the port leads it
 pub corrects-closes : (own : Bool) (g : Group) (round : List Standing) (x : ℕ) (past : Past) (can : Bool) → can_adjust (mean_by own g) x past ≡ can → corrects (closes_with own g round x past) ≡ (can && own)

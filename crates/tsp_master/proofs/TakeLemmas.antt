@@ -72,4 +72,4 @@ MasterStands_acknowledges p number x past old new st false s test change ps rs h
       either false e = refl
 
 pub emits_away : (p : PeerId) → Emits quiet_sorts (sends_away p)
-emits_away p = emits_built refl (built_sends_away p)
+emits_away p = emits_built refl (built_sends_away p tt)

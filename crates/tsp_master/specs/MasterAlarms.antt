@@ -1,7 +1,8 @@
 -- What a master does at its alarms.
-use Rattle.std.specs.Prelude.{Bool, false}
+use Rattle.std.specs.Prelude.{◌≡◌, Bool, ℕ, false}
 use Rattle.tsp_rules.specs.Values.{Alarm, Round, Probe, CloseAlarm}
-use Rattle.tsp_base.specs.Words.{Row, nothing}
+use Rattle.tsp_base.specs.Words.{Deadlines, Row, nothing}
+use Rattle.tsp_rules.specs.Guards.{is_over}
 use Rattle.tsp_rules.specs.RoundRows.{close_rings, probe_rings, round_rings}
 
 -- the alarms of its rounds; a close moves the clock where the port leads it
@@ -10,3 +11,7 @@ master_rings own Probe = probe_rings
 master_rings own CloseAlarm = close_rings own
 master_rings own Round = round_rings false
 master_rings own _ = nothing
+
+-- a Close is handled after a Probe that is due
+abbrev pub IsInTurn : Alarm → Deadlines → ℕ → Type 0
+IsInTurn alarm alarms x = alarm ≡ CloseAlarm → is_over alarms.probe x ≡ false

@@ -26,10 +26,11 @@ use tsp_clock::clock::Clock;
 use tsp_group::correction;
 
 impl Master {
-    /// Handles a Close that is due, after its Probe was. Where it is at most `SLACK` ticks late the round closes
+    /// Handles a Close that is due. Where it is at most `SLACK` ticks late the round closes
     /// with the largest group: the own clock is moved by its mean where this port leads it (`own`), and then
     /// each measured peer is corrected; else the mean is 0. Where the clock would leave its range, or the alarm
-    /// is later than that, the round is given up. The answer is whether the clock was corrected.
+    /// is later than that, the round is given up. The answer is whether the clock was corrected. The row is that
+    /// of a Close whose Probe isn't due any more.
     pub(crate) fn ring_close<D: Desk>(
         &mut self,
         station: &mut Station,
@@ -41,13 +42,14 @@ impl Master {
         requires tick { IsTick at.tick }
         requires later { clock.old.at ≤ at.tick }
         requires due { is_over station.old.alarms.close at.tick ≡ true }
-        requires order { is_over station.old.alarms.probe at.tick ≡ false }
         requires room { peer_count self.old + 3 ≤ D.spare desk.old }
         requires same { peers_of self.old.slaves ≡ station.old.peers }
-        ensures row { Performs RingStands LeadStands (close_rings own) at.tick at.port
+        ensures row { is_over station.old.alarms.probe at.tick ≡ false
+            → Performs RingStands LeadStands (close_rings own) at.tick at.port
             (lead_of self.old station.old clock.old) (lead_of self.new station.new clock.new)
             (D.acts desk.old) (D.acts desk.new) }
-        ensures corrects { (past : Past) → RingStands past (lead_of self.old station.old clock.old)
+        ensures corrects { is_over station.old.alarms.probe at.tick ≡ false
+            → (past : Past) → RingStands past (lead_of self.old station.old clock.old)
             → result ≡ corrects (close_rings own at.tick past) }
         ensures room { UsesAtMost (peer_count self.old + 3) D.spare D.acts desk.old desk.new }
         ensures port { IsSamePort station.old station.new }

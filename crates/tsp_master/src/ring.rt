@@ -18,7 +18,7 @@ ghost use Rattle.tsp_clock.specs.Clocks.{ClockValue, target_of};
 ghost use Rattle.tsp_measure.specs.Rounds.{IsCounted, IsNothing, MayAsk, Starts, measured_with};
 ghost use Rattle.tsp_measure.specs.Slaves.{peers_of};
 ghost use Rattle.tsp_master.specs.Frames.{peer_count};
-ghost use Rattle.tsp_master.specs.MasterAlarms.{master_rings};
+ghost use Rattle.tsp_master.specs.MasterAlarms.{IsInTurn, master_rings};
 ghost use Rattle.tsp_master.specs.MasterStands.{IsLeftAlone, IsSinceCorrect};
 
 use crate::master::Master;
@@ -41,8 +41,8 @@ impl Master {
     /// Handles one alarm of a round that is due: a Probe asks the measured peers again, a Close closes the
     /// round, and a Round begins one. One that is more than `SLACK` ticks late gives the round up (Probe,
     /// Close) or puts it off (Round). Any other alarm does nothing here. Where this port doesn't lead the clock
-    /// (`group_mean` is false), a close uses the mean 0 and leaves the clock. Where both are due, the Probe is
-    /// handled before the Close. The answer is whether the clock was corrected. At most four acts, and two more
+    /// (`group_mean` is false), a close uses the mean 0 and leaves the clock. The row
+    /// is that of a Close only if no Probe is due. The answer is whether the clock was corrected. At most four acts, and two more
     /// for each peer.
     pub fn ring<D: Desk>(
         &mut self,
@@ -57,13 +57,14 @@ impl Master {
         requires tick { IsTick tick }
         requires later { clock.old.at ≤ tick }
         requires due { is_over (deadline station.old.alarms alarm) tick ≡ true }
-        requires order { alarm ≡ CloseAlarm → is_over station.old.alarms.probe tick ≡ false }
         requires room { 2 * peer_count self.old + 4 ≤ D.spare desk.old }
         requires same { peers_of self.old.slaves ≡ station.old.peers }
-        ensures row { Performs RingStands RingStands (master_rings group_mean alarm) tick port
+        ensures row { IsInTurn alarm station.old.alarms tick
+            → Performs RingStands RingStands (master_rings group_mean alarm) tick port
             (lead_of self.old station.old clock.old) (lead_of self.new station.new clock.new)
             (D.acts desk.old) (D.acts desk.new) }
-        ensures corrects { (past : Past) → RingStands past (lead_of self.old station.old clock.old)
+        ensures corrects { IsInTurn alarm station.old.alarms tick
+            → (past : Past) → RingStands past (lead_of self.old station.old clock.old)
             → result ≡ corrects (master_rings group_mean alarm tick past) }
         ensures recent { alarm ≡ CloseAlarm → (past : Past)
             → RingStands past (lead_of self.old station.old clock.old) → IsLeftAlone past.seen

@@ -104,10 +104,10 @@ corrects_alarm : (own wait : Bool) (alarm : Alarm) → is_of_slave alarm ≡ tru
 corrects_alarm own wait alarm e x past = sym (corrects-none (alarm_rings own wait alarm x past) ((Emits_more standing_sorts {all = still_sorts} refl (slave_alarm own wait alarm e)).only x past))
 
 pub beside_window : Emits beside_sorts window_rings
-beside_window = emits_built refl built_window_rings
+beside_window = emits_built refl (built_window_rings tt)
 
 corrects_window : (x : ℕ) (past : Past) → false ≡ corrects (window_rings x past)
-corrects_window x past = sym (corrects-none (window_rings x past) ((emits_built {all = still_sorts} refl built_window_rings).only x past))
+corrects_window x past = sym (corrects-none (window_rings x past) ((emits_built {all = still_sorts} refl (built_window_rings tt)).only x past))
 
 pub emits_wait : Emits (Alarming ∷ []) (round_rings true)
 unfolding round_rings begins_or_waits

@@ -220,7 +220,7 @@ candidate_keeps p m n x past master other h = by_kind m.kind n where
   by_kind Accept n = accepted_keeps p m.number x past master h
   by_kind Refuse n = refused_keeps p m.number x past master other h
   by_kind Ack n = absurd (n refl)
-  by_kind k n = MasterStands_idle (candidate_takes_kind p m k) (emits_built refl (built_candidate_takes_kind p m k tt)) x past master other h
+  by_kind k n = MasterStands_idle (candidate_takes_kind p m k) (emits_built refl (built_candidate_takes_kind p m k tt tt)) x past master other h
 
 -- a stamp reply, by whether the port leads
 pub replies_master : (p : PeerId) (reply : ReplyValue) (role : Role) → is_master role ≡ true → replies_in p reply role ≡ samples p reply

@@ -21,7 +21,7 @@ peer-emits Stranger row k = Emits_nothing
 ack-in : (p : PeerId) (m : MessageValue) (r : Role) → m.kind ≡ Ack → Emits (Acking ∷ []) (says_in p m r)
 unfolding says_in
 ack-in p m Starting e = Emits_nothing
-ack-in p m r e = rw (says_ack p m r e refl) (emits_built refl (built_acknowledges p m.number))
+ack-in p m r e = rw (says_ack p m r e refl) (emits_built refl (built_acknowledges p m.number tt))
 
 -- an ACK
 pub emits_ack : (from : Place) (m : MessageValue) → m.kind ≡ Ack → Emits (Acking ∷ []) (from_peer from (peer_says m))

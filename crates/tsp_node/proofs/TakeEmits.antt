@@ -6,7 +6,7 @@ use Rattle.tsp_base.specs.Words.{MessageValue, ReplyValue}
 use Rattle.tsp_rules.specs.Answers.{from_peer, handles_kind, peer_replies, peer_says, rings, takes}
 use Rattle.tsp_rules.specs.CommonRows.{replies}
 use Rattle.tsp_rules.proofs.Emits.{Sort, Acking, Alarming, Asking, Backing, Changing, Closing, Correcting, Counting, Following, Giving, Leading, Moving, Numbering, Passing, Posting, Rivalling, Rounding, Sampling, Tabling, Taking, Tracing, Emits, is_part}
-use Rattle.tsp_rules.proofs.Renames.{Renaming}
+use Rattle.tsp_rules.specs.Renames.{Naming}
 use Rattle.tsp_rules.proofs.RowCodes.{ANumber, Owed, Posts}
 use Rattle.tsp_rules.proofs.Built.{Built, At, Empty, More, Wider}
 use Rattle.tsp_rules.proofs.BuiltAnswers.{built_from_peer, built_handles_kind, built_peer_replies, built_peer_says, built_rings, built_takes, handled_sorts, ring_sorts, says_sorts}
@@ -14,6 +14,7 @@ use Rattle.tsp_rules.proofs.BuiltDates.{date_sorts}
 use Rattle.tsp_rules.proofs.BuiltMaster.{built_joins, built_sends_away}
 use Rattle.tsp_rules.proofs.BuiltShared.{built_replies, client_sorts}
 use Rattle.tsp_rules.proofs.EmitsBuilt.{emits_built, nothing_taken}
+use Rattle.tsp_rules.proofs.Unchanged.{comes_unchanged, place_unchanged}
 use Rattle.tsp_master.specs.MasterTakes.{master_takes_here, master_takes_kind_here}
 use Rattle.tsp_node.specs.declared.audience.Audience.{Audience}
 use Rattle.tsp_node.specs.declared.audience.Audience.TheVariants.{OfClients, OfDates}
@@ -43,30 +44,30 @@ emits_rings own wait alarm = emits_built (ring-part alarm) (built_rings own wait
 abbrev pub own_sorts : List Sort
 own_sorts = Posting ∷ Tabling ∷ Correcting ∷ Numbering ∷ []
 
-module _ {m : Renaming} {o : Owed} where
-  built-here : (p : PeerId) (msg : MessageValue) (k : Kind) → o.of (ANumber msg.number) → Built m o own_sorts 0 2 (master_takes_kind_here p msg k) (master_takes_kind_here (m.peer p) msg k)
+module _ {m : Naming} {o : Owed} where
+  built-here : (p : PeerId) (msg : MessageValue) (k : Kind) → m.known p → o.of (ANumber msg.number) → Built m o own_sorts 0 2 (master_takes_kind_here p msg k) (master_takes_kind_here (m.names.peer p) msg k)
   unfolding master_takes_kind_here
-  built-here p msg MasterReq is = More (At (Posts p MasterAck msg.number is refl) refl) refl
-  built-here p msg ResolveKind is = More (At (Posts p MasterAck msg.number is refl) refl) refl
-  built-here p msg SlaveUp is = Wider refl (built_joins p msg.number is)
-  built-here p msg Election is = More (Wider refl (built_sends_away p)) refl
-  built-here p msg _ is = Empty
+  built-here p msg MasterReq known is = More (At (Posts p MasterAck msg.number known is refl) refl) refl
+  built-here p msg ResolveKind known is = More (At (Posts p MasterAck msg.number known is refl) refl) refl
+  built-here p msg SlaveUp known is = Wider refl (built_joins p msg.number known is)
+  built-here p msg Election known is = More (Wider refl (built_sends_away p known)) refl
+  built-here p msg _ known is = Empty
 
-  pub built_master_takes_here : (p : PeerId) (msg : MessageValue) → o.of (ANumber msg.number) → Built m o own_sorts 0 2 (master_takes_here p msg) (master_takes_here (m.peer p) msg)
+  pub built_master_takes_here : (p : PeerId) (msg : MessageValue) → m.known p → o.of (ANumber msg.number) → Built m o own_sorts 0 2 (master_takes_here p msg) (master_takes_here (m.names.peer p) msg)
   unfolding master_takes_here
-  built_master_takes_here p msg is = built-here p msg msg.kind is
+  built_master_takes_here p msg known is = built-here p msg msg.kind known is
 
 -- what a peer says to the role
 pub emits_says : (from : Place) (m : MessageValue) → Emits silent_trace (from_peer from (peer_says m))
-emits_says from m = emits_built refl (built_from_peer from _ _ (λ p. built_peer_says m p tt))
+emits_says from m = emits_built refl (built_from_peer from _ _ (place_unchanged from) (λ p known. built_peer_says m p known tt))
 
 -- a stamp reply
 pub emits_replies_in : (from : Place) (r : ReplyValue) → Emits (Sampling ∷ []) (from_peer from (peer_replies r))
-emits_replies_in from r = emits_built refl (built_from_peer from _ _ (λ p. built_peer_replies r p tt))
+emits_replies_in from r = emits_built refl (built_from_peer from _ _ (place_unchanged from) (λ p known. built_peer_replies r p known tt))
 
 -- the answer to a stamp request
 pub emits_reply : (from : Place) (word counter : ℕ) → Emits (Posting ∷ []) (replies from word counter)
-emits_reply from word counter = emits_built refl (built_replies from word counter tt tt)
+emits_reply from word counter = emits_built refl (built_replies from word counter (place_unchanged from) tt tt)
 
 -- what a message brings about, by who handles it
 abbrev sorts_of : Audience → List Sort
@@ -90,7 +91,7 @@ sorts-are Ack = refl
 sorts-are _ = refl
 
 emits-heard : (charge : Bool) (from : Place) (m : MessageValue) (k : Kind) (who : Audience) → audience_of k ≡ who → is_part (sorts_of who) (sorts_of who) ≡ true → Emits (sorts_of who) (handles_kind charge from m k)
-emits-heard charge from m k who e all = emits_built (subst (λ s. is_part s (sorts_of who) ≡ true) (sym (sorts-are k ∙ ap sorts_of e)) all) (built_handles_kind charge from m tt tt tt k)
+emits-heard charge from m k who e all = emits_built (subst (λ s. is_part s (sorts_of who) ≡ true) (sym (sorts-are k ∙ ap sorts_of e)) all) (built_handles_kind charge from m (place_unchanged from) tt tt tt k)
 
 -- dates
 pub emits_dates : (charge : Bool) (from : Place) (m : MessageValue) (k : Kind) → audience_of k ≡ OfDates → Emits date_sorts (handles_kind charge from m k)
@@ -102,4 +103,4 @@ emits_clients charge from m k e = emits-heard charge from m k OfClients e refl
 
 -- all that a port does with what it takes
 pub emits_takes : (steer charge : Bool) (from : Place) (t : Taken) → Emits bootless (takes steer charge from t)
-emits_takes steer charge from t = emits_built refl (built_takes steer charge from t tt tt (nothing_taken t))
+emits_takes steer charge from t = emits_built refl (built_takes steer charge from t (comes_unchanged from) tt tt (nothing_taken t))

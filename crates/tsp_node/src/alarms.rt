@@ -1,11 +1,12 @@
 //! What a port does at its alarms.
 ghost use Rattle.std.specs.Prelude.{◌≡◌, Bool, ◌+◌, ◌*◌, ◌≤◌, true, false, length};
-ghost use Rattle.tsp_base.specs.declared.alarm.Alarm.TheVariants.{Probe, Close};
+ghost use Rattle.tsp_base.specs.declared.alarm.Alarm.TheVariants.{Probe};
 ghost use Rattle.tsp_base.specs.Alarms.{deadline};
 ghost use Rattle.tsp_base.specs.Frames.{IsTick, UsesAtMost};
 ghost use Rattle.tsp_base.specs.Performs.{Performs};
 ghost use Rattle.tsp_rules.specs.Answers.{alarm_rings, rings};
 ghost use Rattle.tsp_rules.specs.Guards.{is_over};
+ghost use Rattle.tsp_master.specs.MasterAlarms.{IsInTurn};
 
 use crate::part::Part;
 use crate::ringing::{is_of_master, ring_slave, wait_round};
@@ -25,7 +26,7 @@ impl Part {
     /// Handles one alarm where it is due, and says whether that corrected the clock. `group_mean` says
     /// whether a Close moves the node's clock by the group's mean; where it is false, the Close uses the mean
     /// 0 and doesn't move the clock. `wait` says whether a Round that is in time is put off for `WAIT`
-    /// ticks. The caller handles a due Probe before the Close.
+    /// ticks. The row is that of a Close only if no Probe is due.
     pub fn ring<D: Desk>(
         &mut self,
         clock: &mut Clock,
@@ -36,14 +37,15 @@ impl Part {
         port: Port,
         desk: &mut D,
     ) -> bool
-        requires order { alarm ≡ Close → is_over self.old.station.alarms.probe tick ≡ false }
         requires tick { IsTick tick }
         requires later { clock.old.at ≤ tick }
         requires room { 2 * length self.old.station.peers + 16 ≤ D.spare desk.old }
-        ensures row { Performs PortUntaken PortUntaken (rings group_mean wait alarm) tick port
+        ensures row { IsInTurn alarm self.old.station.alarms tick
+            → Performs PortUntaken PortUntaken (rings group_mean wait alarm) tick port
             (port_with self.old clock.old) (port_with self.new clock.new) (D.acts desk.old)
             (D.acts desk.new) }
-        ensures corrects { (past : Past) → PortUntaken past (port_with self.old clock.old)
+        ensures corrects { IsInTurn alarm self.old.station.alarms tick
+            → (past : Past) → PortUntaken past (port_with self.old clock.old)
             → result ≡ corrects (rings group_mean wait alarm tick past) }
         ensures over { alarm ≡ Probe → is_over self.new.station.alarms.probe tick ≡ false }
         ensures clock { clock.new.at ≤ tick }
@@ -73,14 +75,14 @@ impl Part {
         requires tick { IsTick terms.at.tick }
         requires later { clock.old.at ≤ terms.at.tick }
         requires due { is_over (deadline self.old.station.alarms alarm) terms.at.tick ≡ true }
-        requires order { alarm ≡ Close
-            → is_over self.old.station.alarms.probe terms.at.tick ≡ false }
         requires room { 2 * length self.old.station.peers + 4 ≤ D.spare desk.old }
-        ensures row { Performs PortUntaken PortUntaken
+        ensures row { IsInTurn alarm self.old.station.alarms terms.at.tick
+            → Performs PortUntaken PortUntaken
             (alarm_rings terms.group_mean terms.wait alarm) terms.at.tick terms.at.port
             (port_with self.old clock.old) (port_with self.new clock.new) (D.acts desk.old)
             (D.acts desk.new) }
-        ensures corrects { (past : Past) → PortUntaken past (port_with self.old clock.old)
+        ensures corrects { IsInTurn alarm self.old.station.alarms terms.at.tick
+            → (past : Past) → PortUntaken past (port_with self.old clock.old)
             → result ≡ corrects (alarm_rings terms.group_mean terms.wait alarm terms.at.tick past) }
         ensures over { alarm ≡ Probe → is_over self.new.station.alarms.probe terms.at.tick ≡ false }
         ensures clock { clock.new.at ≤ terms.at.tick }

@@ -1,6 +1,6 @@
 //! The steps of a node that has booted.
 ghost use Rattle.std.specs.Prelude.{◌≡◌, ◌+◌, ◌*◌, ◌≤◌, true, false, length};
-ghost use Rattle.tsp_base.specs.declared.alarm.Alarm.TheVariants.{Probe, Close};
+ghost use Rattle.tsp_base.specs.declared.alarm.Alarm.TheVariants.{Probe};
 ghost use Rattle.tsp_base.specs.declared.alarm.TheConstants.Alarm.{ALL};
 ghost use Rattle.tsp_base.specs.Frames.{IsTick, UsesAtMost};
 ghost use Rattle.tsp_base.specs.Performs.{Performs};
@@ -8,6 +8,7 @@ ghost use Rattle.tsp_rules.specs.Answers.{Turn, Got, answers, due_alarms, rings_
 ghost use Rattle.tsp_rules.specs.Guards.{is_over};
 ghost use Rattle.tsp_rules.specs.Rooms.{room_for};
 ghost use Rattle.tsp_rules.specs.RoundRows.{upsetting};
+ghost use Rattle.tsp_master.specs.MasterAlarms.{IsInTurn};
 ghost use Rattle.tsp_node.specs.Inputs.{given};
 
 use crate::node::{Node, PORT};
@@ -128,7 +129,7 @@ impl Node {
     fn ring<D: Desk>(&mut self, alarm: Alarm, tick: u64, desk: &mut D)
         requires tick { IsTick tick }
         requires later { clock_at self.old ≤ tick }
-        requires order { alarm ≡ Close → is_over self.old.part.station.alarms.probe tick ≡ false }
+        requires turn { IsInTurn alarm self.old.part.station.alarms tick }
         requires room { 2 * length (peers_in self.old) + 16 ≤ D.spare desk.old }
         ensures row { Performs NodeUntaken NodeUntaken (rings_alone alarm) tick (record { 0 = 0 })
             self.old self.new (D.acts desk.old) (D.acts desk.new) }

@@ -11,7 +11,7 @@ use Rattle.tsp_promises.proofs.StepChecks.{port0}
 abbrev asked : List Line
 asked = does 10 0 Handed (Took Stranger (Good (Stamp (Request 5 0)))) ∷ []
 
-abbrev reply : ReplyValue
+abbrev pub reply : ReplyValue
 reply = record { ticket = 0; word = 5; counter = 0; reading = pos 10 }
 
 abbrev replied : List Line
@@ -37,7 +37,7 @@ unacknowledged = record { world = does 10 0 Handed (Quit (peer_of 1)) ∷ quits;
 replies_twice : Breaks (Answered (still false))
 replies_twice = record { world = does 10 0 Handed (Post Stranger (Stamp (Reply reply))) ∷ replied; broken = λ h. true≢false (h.strangers.0 (Stamp (Reply reply)) refl).first }
 
-abbrev tested : List Line
+abbrev pub tested : List Line
 tested = does 10 0 Handed (Took Stranger (Good (Message (msg Test 5 Nothing)))) ∷ []
 
 abbrev datagram-in : Taken → Option Datagram
@@ -53,7 +53,8 @@ same-from p o d e x y =
     let both : Some d ≡ Some e = ap datagram-taken (sym x ∙ y) in
     cc
 
-same-datagram : (o : Option Received) (d e : Datagram) → o ≡ Some (record { from = Stranger; taken = Good d }) → o ≡ Some (record { from = Stranger; taken = Good e }) → e ≡ d
+-- one datagram is taken
+pub same-datagram : (o : Option Received) (d e : Datagram) → o ≡ Some (record { from = Stranger; taken = Good d }) → o ≡ Some (record { from = Stranger; taken = Good e }) → e ≡ d
 same-datagram o d e x y =
     let both : Some d ≡ Some e = ap datagram-taken (sym x ∙ y) in
     cc

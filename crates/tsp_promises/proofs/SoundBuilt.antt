@@ -3,7 +3,7 @@ use Rattle.std.specs.Prelude.{◌≡◌, ◌<◌, ◌^◌, ℕ, ◌+◌, ℤ, �
 use Rattle.std.proofs.Common.{sym, arith, true≢false}
 use Rattle.std.proofs.Math.Nat.{mod-lt}
 use Rattle.tsp_rules.specs.Values.{Act, Boot, Took, Post, Abandon, Sample, Ring, CloseAlarm, Message, Stamp, Taken, Good, Bad, Kind, Ack, AdjTime, Date, DateReq, LoopKind, SetDate, SetDateReq, SetTime, Nothing, TimeBody, PeerId, Port, Role, Follow, Master, Request, Reply, SPAN}
-use Rattle.tsp_base.specs.Words.{Acts, Cause, MessageValue, Past, grown, others, Seen, plain, body_fits, carries_hops, carries_time, Estimate, IsMicros, IsName, Row, Sending, begun, for_each, puts, reading, word, word_after}
+use Rattle.tsp_base.specs.Words.{Acts, Cause, MessageValue, Past, grown, others, Seen, plain, body_fits, carries_hops, carries_time, Estimate, IsMicros, IsName, Row, Sending, begun, for_each, nothing, puts, reading, word, word_after}
 use Rattle.tsp_base.proofs.LeadsLemmas.{Leads_then, Leads_nothing, Leads_each}
 use Rattle.tsp_group.specs.Groups.{group_of}
 use Rattle.tsp_rules.specs.ClockRows.{can_adjust}
@@ -13,9 +13,9 @@ use Rattle.tsp_rules.specs.Guards.{role_at}
 use Rattle.tsp_rules.specs.RoundRows.{Standing, abandons, close_act, closes, closes_with, corrects_by, corrects_peer, estimates, is_near, mean_by, measured_at, moves, round_at, standing}
 use Rattle.tsp_rules.specs.SendRows.{open_at, repeats}
 use Rattle.tsp_rules.proofs.Emits.{Sort}
-use Rattle.tsp_rules.proofs.Renames.{unchanged}
-use Rattle.tsp_rules.proofs.RowCodes.{Value, ANumber, ATicket, ATime, AStamp, AName, ASend, AMessage, APlace, ATaken, Owed, Leaf, Puts, Takes, Arms, Posts, ToOthers, PostsBack, PostsTime, PostsReply, PostsName, Repeats, SettimeBegins, Loops, Reposts, Asks, Samples, Adjusts, Sets, Valued, TicketAt, NextNumber, MasterName, OpenAt, is_bare, is_plain, is_timed}
-use Rattle.tsp_rules.proofs.Built.{Built, Corrects, Empty, At, Then, Either, If, Reading, ReadingValue, Each, Closes, More, Wider}
+use Rattle.tsp_rules.proofs.Unchanged.{no_unchanged, told_unchanged, unchanged, yes_unchanged}
+use Rattle.tsp_rules.proofs.RowCodes.{Value, ANumber, ATicket, ATime, AStamp, AName, ASend, AMessage, APlace, ATaken, Owed, Leaf, Puts, Takes, Arms, Posts, ToOthers, PostsBack, PostsTime, PostsReply, PostsName, Repeats, SettimeBegins, Loops, Reposts, Asks, Samples, Adjusts, Sets, Valued, TicketAt, NextNumber, MasterName, is_bare, is_plain, is_timed}
+use Rattle.tsp_rules.proofs.Built.{Built, Corrects, Empty, At, Then, Either, If, Reading, ReadingValue, Each, EachSend, Closes, More, Wider}
 use Rattle.tsp_rules.proofs.BuiltAnswers.{Owes}
 use Rattle.tsp_promises.specs.Sound.{AreSound, IsSound, IsSoundAct, IsSoundTaken, SoundPast}
 use Rattle.tsp_promises.proofs.MeanFacts.{correction_time}
@@ -87,21 +87,21 @@ repost-sound m (p ∷ ps) x past sound s = repost-sound m ps x (grown x past (re
 
 leaf-sound : {few : List Sort} {k c : ℕ} {r r' : Row} → Leaf unchanged ranges_owed few k c r r' → Soundly r
 unfolding repeats sends_loops reposts
-leaf-sound (Puts a plain) = sound_puts a (plain-stays a plain) (plain-sound a plain)
+leaf-sound (Puts a plain knows) = sound_puts a (plain-stays a plain) (plain-sound a plain)
 leaf-sound (Takes from t is) = sound_puts _ (λ c n. refl) is
-leaf-sound (Arms alarm long) = sound_arms alarm long
-leaf-sound (Posts p kind number is fits) = sound_posts p kind number (bare-fits kind fits) is
+leaf-sound (Arms alarm long wakes) = sound_arms alarm long
+leaf-sound (Posts p kind number known is fits) = sound_posts p kind number (bare-fits kind fits) is
 leaf-sound (ToOthers kind fits) = sound_posts_to_others kind 0 (bare-fits kind fits) (omega arith)
-leaf-sound (PostsBack from kind number back is fits) = sound_posts_back from kind number (bare-fits kind fits) is
-leaf-sound (PostsTime p kind number time is timely fits) = sound_posts_time p kind number time (timed-fits kind time fits) is timely
-leaf-sound (PostsReply from word counter back is) = sound_replies from word counter is.0 is.1
-leaf-sound (PostsName from number name back is named) = sound_puts _ (λ c n. refl) (bare_sound Ack number name (bare-fits Ack refl) is named)
-leaf-sound (Repeats p s is) = sound_puts _ (λ c n. refl) is
-leaf-sound (SettimeBegins p number is) = sound_begins_settime p number is
+leaf-sound (PostsBack from kind number place back is fits) = sound_posts_back from kind number (bare-fits kind fits) is
+leaf-sound (PostsTime p kind number time known is timely fits) = sound_posts_time p kind number time (timed-fits kind time fits) is timely
+leaf-sound (PostsReply from word counter place back is) = sound_replies from word counter is.0 is.1
+leaf-sound (PostsName from number name place back is named) = sound_puts _ (λ c n. refl) (bare_sound Ack number name (bare-fits Ack refl) is named)
+leaf-sound (Repeats p s known is) = sound_puts _ (λ c n. refl) is
+leaf-sound (SettimeBegins p number known is) = sound_begins_settime p number is
 leaf-sound (Loops q is) = record { run = λ x past s. loop-sound q (others past.own past.peers) x past is s }
 leaf-sound (Reposts msg is) = record { run = λ x past s. repost-sound msg (others past.own past.peers) x past is s }
-leaf-sound (Asks p) = sound_asks p
-leaf-sound (Samples p r a d is) = sound_puts _ (λ c n. refl) is
+leaf-sound (Asks p known) = sound_asks p
+leaf-sound (Samples p r a d known is) = sound_puts _ (λ c n. refl) is
 leaf-sound (Adjusts amount) = sound_adjusts amount
 leaf-sound (Sets value) = sound_sets value
 
@@ -118,11 +118,18 @@ value-sound : {A : Type 0} {f : A → A} {value : A → Value} {fact fact' : ℕ
 value-sound TicketAt x past h = let small = ticket_small x past in omega (arith, small)
 value-sound NextNumber x past h = let small = mod-lt (word (plain past.seen) + begun past.seen) {m = 32768} (omega arith) in omega (arith, small)
 value-sound MasterName x past h = name-sound (role_at x past) past.name _ h.name (kept_sound past.seen h.acts)
-value-sound (OpenAt p) x past h = send-sound p past h (open_at p x past) refl
 
 reading-sound : {A : Type 0} {f : A → A} {value : A → Value} {fact fact' : ℕ → Past → A} (rows : A → Row) → Valued unchanged A f value fact fact' → ((a : A) → InRange (value a) → Soundly (rows a)) → Soundly (reading fact rows)
 unfolding reading
 reading-sound {fact = fact} rows f k = record { run = λ x past h. (k (fact x past) (value-sound f x past h)).run x past h }
+
+-- a row about a peer's open send, which does nothing if there is none
+open-row : (p : PeerId) (row : Option Sending → Row) → row None ≡ nothing → ((s : Sending) → InRange (ASend (Some s)) → Soundly (row (Some s))) → Soundly (reading (open_at p) row)
+unfolding reading
+open-row p row none d = record { run = λ x past h. (by_send (open_at p x past) (send-sound p past h (open_at p x past) refl)).run x past h } where
+  by_send : (q : Option Sending) → InRange (ASend q) → Soundly (row q)
+  by_send None is = rw none Leads_nothing
+  by_send (Some s) is = d s is
 
 -- what a round has come to is sound
 abbrev AreSoundStandings : List Standing → Type 0
@@ -163,12 +170,13 @@ pub sound_built : {sorts : List Sort} {k c : ℕ} {r r' : Row} → Built unchang
 sound_built Empty = Leads_nothing
 sound_built (At leaf e) = leaf-sound leaf
 sound_built (Then d e) = Leads_then _ _ (sound_built d) (sound_built e)
-sound_built (Either t d e) = sound_either _ _ _ (sound_built d) (sound_built e)
+sound_built (Either t d e) = sound_either _ _ _ (sound_built (d (yes_unchanged t))) (sound_built (e (no_unchanged t)))
 sound_built (If true b' same d e) = sound_built (d refl)
 sound_built (If false b' same d e) = sound_built e
-sound_built (Reading rows f d) = sound_reading _ _ (λ a. sound_built (d a))
+sound_built (Reading rows f d) = sound_reading _ _ (λ a. sound_built (d a (told_unchanged f a)))
 sound_built (ReadingValue rows f d) = reading-sound _ f (λ a is. sound_built (d a is))
-sound_built (Each row l d) = sound_reading _ _ (λ ps. Leads_each _ ps (λ p. sound_built (d p)))
-sound_built (Closes own e moved corrected) = closes-sound own (λ mean. sound_built (moved mean)) (λ mean p best is. sound_built (corrected mean p best is))
+sound_built (Each row l d) = sound_reading _ _ (λ ps. Leads_each _ ps (λ p. sound_built (d p tt)))
+sound_built (EachSend row row' none none' d) = sound_reading _ _ (λ ps. Leads_each _ ps (λ p. open-row p (row p) (none p) (λ s is. sound_built (d p tt s is))))
+sound_built (Closes own e moved corrected) = closes-sound own (λ mean. sound_built (moved mean)) (λ mean p best is. sound_built (corrected mean p tt best is))
 sound_built (More d le) = sound_built d
 sound_built (Wider e d) = sound_built d

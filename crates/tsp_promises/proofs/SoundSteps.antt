@@ -12,13 +12,14 @@ use Rattle.tsp_rules.specs.SendRows.{due_sends}
 use Rattle.tsp_promises.specs.Sound.{IsSoundTaken, IsSoundAct, AreSound, SoundPast, AnswersAreSound}
 use Rattle.tsp_promises.proofs.SoundRows.{Soundly}
 use Rattle.tsp_promises.proofs.SoundBuilt.{sound_built, taken_ranges}
+use Rattle.tsp_rules.proofs.Unchanged.{comes_unchanged}
 use Rattle.tsp_rules.proofs.BuiltAnswers.{built_takes}
 use Rattle.tsp_rules.proofs.BuiltRounds.{built_abandons_going}
 use Rattle.tsp_rules.proofs.BuiltSends.{built_due_sends}
 use Rattle.tsp_promises.proofs.AlarmTable.{sound_alarms}
 
 pub sound_takes : (steer charge : Bool) (from : Place) (t : Taken) → IsSoundTaken t → Soundly (takes steer charge from t)
-sound_takes steer charge from t s = sound_built (built_takes steer charge from t s tt (taken_ranges t s))
+sound_takes steer charge from t s = sound_built (built_takes steer charge from t (comes_unchanged from) s tt (taken_ranges t s))
 
 pub sound_due_sends : Soundly due_sends
 sound_due_sends = sound_built built_due_sends

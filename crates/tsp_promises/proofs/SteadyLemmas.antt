@@ -14,7 +14,7 @@ use Rattle.tsp_rules.specs.Guards.{role_at, is_heard, is_own, is_follow}
 use Rattle.tsp_rules.proofs.FewActs.{Calm, is_calm_act, is_calm}
 use Rattle.tsp_rules.proofs.CalmSteps.{calm_stamps, is_message}
 use Rattle.tsp_rules.proofs.Emits.{Sort, Moving, is_in}
-use Rattle.tsp_rules.proofs.Renames.{unchanged}
+use Rattle.tsp_rules.proofs.Unchanged.{place_unchanged, unchanged}
 use Rattle.tsp_rules.proofs.Built.{Built}
 use Rattle.tsp_rules.proofs.BuiltCandidate.{built_candidate_takes}
 use Rattle.tsp_rules.proofs.BuiltDates.{built_date_acked}
@@ -88,12 +88,12 @@ Follows x past = is_follow (role past.seen) ≡ true
 steady-adjtime : (p : PeerId) (number : ℕ) (amount : ℤ) → Steady Follows (adjtime_of p number amount)
 unfolding adjtime_of confirms adjusts arms_elect ◌followed_by◌ reading arms posts
 steady-adjtime p number amount = steady-either (takes_amount number amount) (adjusts amount followed_by confirms p number) (acks_repeat p number)
-    (record { run = λ x past h. inr h }) (steady-still (acks_repeat p number) (still-made refl (built_acks_repeat p number tt)))
+    (record { run = λ x past h. inr h }) (steady-still (acks_repeat p number) (still-made refl (built_acks_repeat p number tt tt)))
 
 steady-settime : (p : PeerId) (number : ℕ) (value : ℤ) → Steady Follows (settime_of p number value)
 unfolding settime_of confirms sets arms_elect ◌followed_by◌ reading arms posts
 steady-settime p number value = steady-either (takes_value number value) (sets value followed_by confirms p number) (acks_repeat p number)
-    (record { run = λ x past h. inr h }) (steady-still (acks_repeat p number) (still-made refl (built_acks_repeat p number tt)))
+    (record { run = λ x past h. inr h }) (steady-still (acks_repeat p number) (still-made refl (built_acks_repeat p number tt tt)))
 
 steady-from : (p : PeerId) (row : Row) → Steady Follows row → (r : Role) → Steady (λ x past. Unit {0} × (role_at x past ≡ r)) (from_master p row r)
 unfolding from_master
@@ -107,15 +107,15 @@ steady-slave : (p : PeerId) (m : MessageValue) (k : Kind) → Steady Any (slave_
 unfolding slave_takes_kind
 steady-slave p m AdjTime = steady-role (from_master p (adjtime_of p m.number (time_in m.body))) (steady-from p (adjtime_of p m.number (time_in m.body)) (steady-adjtime p m.number (time_in m.body)))
 steady-slave p m SetTime = steady-role (from_master p (settime_of p m.number (time_in m.body))) (steady-from p (settime_of p m.number (time_in m.body)) (steady-settime p m.number (time_in m.body)))
-steady-slave p m k = steady-still _ (still-made refl (built_slave_takes_kind p m k tt))
+steady-slave p m k = steady-still _ (still-made refl (built_slave_takes_kind p m k tt tt))
 
 steady-in : (p : PeerId) (m : MessageValue) (r : Role) → Steady Any (says_in p m r)
 unfolding says_in slave_takes candidate_takes master_takes
 steady-in p m Starting = steady-still nothing still-nothing
 steady-in p m Loose = steady-slave p m m.kind
 steady-in p m (Follow q) = steady-slave p m m.kind
-steady-in p m Candidate = steady-still _ (still-made refl (built_candidate_takes p m tt))
-steady-in p m Master = steady-still _ (still-made refl (built_master_takes p m tt))
+steady-in p m Candidate = steady-still _ (still-made refl (built_candidate_takes p m tt tt))
+steady-in p m Master = steady-still _ (still-made refl (built_master_takes p m tt tt))
 
 steady-says : (m : MessageValue) (p : PeerId) → Steady Any (peer_says m p)
 unfolding peer_says
@@ -129,16 +129,16 @@ steady-peer Stranger row k = steady-still nothing still-nothing
 -- what is done with a message that sets no date
 steady-kind : (from : Place) (m : MessageValue) (k : Kind) → sets_date k ≡ false → Steady Any (handles_kind true from m k)
 unfolding handles_kind
-steady-kind from m Msite e = steady-still _ (still-made refl (built_names_master from m.number (λ e. refl) tt))
-steady-kind from m MsiteReq e = steady-still _ (still-made refl (built_says_master from m.number (λ e. refl) tt))
-steady-kind from m TraceOn e = steady-still _ (still-made refl (built_traces from m.number (λ e. refl) tt true))
-steady-kind from m TraceOff e = steady-still _ (still-made refl (built_traces from m.number (λ e. refl) tt false))
-steady-kind from m Test e = steady-still _ (still-made refl (built_tests from m.number (λ e. refl) tt))
+steady-kind from m Msite e = steady-still _ (still-made refl (built_names_master from m.number (place_unchanged from) (λ e. refl) tt))
+steady-kind from m MsiteReq e = steady-still _ (still-made refl (built_says_master from m.number (place_unchanged from) (λ e. refl) tt))
+steady-kind from m TraceOn e = steady-still _ (still-made refl (built_traces from m.number (place_unchanged from) (λ e. refl) tt true))
+steady-kind from m TraceOff e = steady-still _ (still-made refl (built_traces from m.number (place_unchanged from) (λ e. refl) tt false))
+steady-kind from m Test e = steady-still _ (still-made refl (built_tests from m.number (place_unchanged from) (λ e. refl) tt))
 steady-kind from m Date e = absurd (true≢false e)
 steady-kind from m SetDate e = absurd (true≢false e)
 steady-kind from m DateReq e = absurd (true≢false e)
 steady-kind from m SetDateReq e = absurd (true≢false e)
-steady-kind from m DateAck e = steady-peer from _ (λ p. steady-still _ (still-made refl (built_date_acked m p)))
+steady-kind from m DateAck e = steady-peer from _ (λ p. steady-still _ (still-made refl (built_date_acked m p tt)))
 steady-kind from m LoopKind e = steady-still nothing still-nothing
 steady-kind from m _ e = steady-peer from (peer_says m) (steady-says m)
 

@@ -1,4 +1,5 @@
--- The promise that a minority of a round's estimates, whatever it says, moves no clock of the majority by much.
+-- The promise of a round that a Correct ends: whatever a minority of its estimates says, that Correct, and those that take
+-- the ADJTIMEs of the round, move no clock of the majority by much.
 use Rattle.std.specs.Prelude.{◌≡◌, ◌≤◌, ◌<◌, ◌≤ℤ◌, ℕ, ◌+◌, ◌-◌, ◌*◌, ℤ, pos, ◌+ℤ◌, ◌-ℤ◌, nat_abs, Bool, true, false, List, ◌∷◌, length, Some}
 use Rattle.std.specs.List.{Contains, count_by}
 use Rattle.tsp_rules.specs.Values.{AdjTime, PeerId, Port, SLEW, SPAN}
@@ -55,12 +56,12 @@ pub record Little (amount : ℤ) (stepped : Bool) : Type 0 where
 abbrev pub OwnNear : Setting → Line → List Line → Type 0
 OwnNear setting l world = (m : ℕ) (close : Line) (cpast : List Line) (amount : ℤ) → world ≡ (close ∷ cpast) → (v : Moves m close l amount) → Agrees setting m close cpast (pos 0) → Little amount v.stepped
 
--- an ADJTIME that the round begins to a peer of the majority carries at most twice SPAN
+-- an ADJTIME that the round begins to a peer of the majority carries at most twice SPAN, if a Correct has ended the round
 abbrev pub AdjTimeNear : Setting → Line → List Line → Type 0
 AdjTimeNear setting l world = (m : ℕ) (close c : Line) (cpast : List Line) (mean amount : ℤ) (begins : CloseBegins m close cpast mean l world) → Within (c ∷ (close ∷ cpast)) world → Moves m close c amount →
     PeerAgrees setting m begins.peer close cpast → nat_abs (time_in begins.message.body) ≤ 2 * SPAN
 
--- the Correct of a peer of the majority that takes the ADJTIME which the round begins to it
+-- the Correct of a peer of the majority that takes the ADJTIME which the round begins to it, if a Correct ended the round
 pub record PeerCorrects (setting : Setting) (l : Line) (world : List Line) : Type 0 where
   pub m : ℕ
   pub close : Line
@@ -88,7 +89,8 @@ pub record ModerateAt (setting : Setting) (l : Line) (world : List Line) : Type 
   pub adjtime : AdjTimeNear setting l world
   pub peer : (p : PeerCorrects setting l world) → PeerNear setting l world p
 
--- who agrees with more than half of a round's estimates is moved by at most twice SPAN
+-- at each line: if a Correct ends a round, whoever agrees with more than half of its estimates is moved by at most twice
+-- SPAN, by that Correct or by the one that takes an ADJTIME of the round
 abbrev pub Moderate : Setting → List Line → Type 0
 Moderate setting = Everywhere (ModerateAt setting)
 

@@ -1,4 +1,5 @@
--- All promises of a history, each under the premises that it needs.
+-- Most promises of a history, each under the premises that it needs: all but OneWinner, Dated, Looped and Looked, which
+-- have files of their own here, and that of the octets of answers, which tsp_run has.
 use Rattle.std.specs.Prelude.{◌⊎◌, List}
 use Rattle.tsp_promises.specs.Agreed.{Agreed, StayAgreed}
 use Rattle.tsp_promises.specs.AgreedShown.{AgreedShown, ShownNear, Waited}
@@ -25,7 +26,7 @@ use Rattle.tsp_promises.specs.Steady.{Meets, Steady}
 use Rattle.tsp_promises.specs.Thrice.{Thrice}
 use Rattle.tsp_promises.specs.Throughout.{Throughout}
 
--- all promises, each under its premises. Those that ask nothing hold whatever is delivered. The others ask that no
+-- these promises, each under its premises. Those that ask nothing hold whatever is delivered. The others ask that no
 -- peer's datagram is forged (Honest), that no datagram lives longer than LIFE (Life), or both; for a measurement, words
 -- that differ at any two boots of one node do in place of Life (OwnWords)
 pub record Safe (setting : Setting) (world : List Line) : Type 0 where

@@ -14,7 +14,7 @@ ghost use Rattle.tsp_promises.specs.Resolved.{StaysQuiet, StopsLeading, Yields, 
 ghost use Rattle.tsp_promises.specs.Setting.{Setting};
 ghost use Rattle.tsp_promises.specs.Steady.{Meets, Steady};
 ghost use Rattle.tsp_promises.specs.Safe.{Safe};
-/// All promises of a history that ends with a step, each under the premises that it needs.
+/// The promises of `Safe`, of a history that ends with a step, each under the premises that it needs.
 pub fn safe()
     ensures { (setting : Setting) (world : List Line) → Fits setting world → Finished setting world
         → Safe setting world }
@@ -140,13 +140,13 @@ pub fn errs_bounded()
 {}
 
 ghost use Rattle.tsp_promises.specs.Moderate.{Moderate, ModerateClocks};
-/// A minority of a round's estimates, whatever it says, moves no clock of the majority by much.
-/// Where more than half of the estimates are within 20 ms of one another, the mean differs by at
-/// most 40 ms from each of them. So a master among them slews its clock by at most that, and so
-/// does each peer among them that takes the round's ADJTIME. What such a peer shows meets its clock
-/// within 8 s of its ticks, if nothing was left to slew before. If no peer's datagram is forged and
-/// none outlives `LIFE`, the master's clock then agrees with theirs, within 40 ms, the error and
-/// drift.
+/// In a round that a Correct ends, a minority of the estimates, whatever it says, moves no clock of
+/// the majority by much. If more than half of the estimates are within 20 ms of one another, the
+/// mean and the Correct differ by at most 40 ms from each of them. So a master among them slews its
+/// clock by at most that, and so does each peer among them that takes the round's ADJTIME. What such
+/// a peer shows meets its clock within 8 s of its ticks, if nothing was left to slew before. If no
+/// peer's datagram is forged and none outlives `LIFE`, the master's clock then agrees with theirs,
+/// within 40 ms, the error and drift.
 pub fn moderate()
     ensures moves { (setting : Setting) (world : List Line) → Fits setting world
         → Moderate setting world }

@@ -5,7 +5,7 @@ use Rattle.tsp_base.specs.Words.{Row}
 use Rattle.tsp_rules.specs.GateRows.{other_ports, ports_from, stirred_ports}
 use Rattle.tsp_rules.specs.NodeRows.{NodePast, NodeRow, nothing_at_all, on, ◌and_then◌, for_ports, stirring}
 use Rattle.tsp_rules.proofs.Emits.{Sort}
-use Rattle.tsp_rules.proofs.Renames.{unchanged}
+use Rattle.tsp_rules.proofs.Unchanged.{unchanged}
 use Rattle.tsp_rules.proofs.RowCodes.{Owed}
 use Rattle.tsp_rules.proofs.Built.{Built}
 

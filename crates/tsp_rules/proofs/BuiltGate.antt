@@ -5,19 +5,19 @@ use Rattle.tsp_rules.specs.Values.{Become, Quiet, Port, Starting, QUIET}
 use Rattle.tsp_base.specs.Words.{MessageValue, arms, puts, ◌followed_by◌}
 use Rattle.tsp_rules.specs.GateRows.{loosens_master, reposts, sends_loops}
 use Rattle.tsp_rules.proofs.Emits.{Posting, is_in-own, sort_of_kind}
-use Rattle.tsp_rules.proofs.Renames.{Renaming}
+use Rattle.tsp_rules.specs.Renames.{Naming}
 use Rattle.tsp_rules.proofs.RowCodes.{AMessage, ANumber, Arms, IsMaster, Loops, Owed, Puts, Reposts}
-use Rattle.tsp_rules.proofs.Built.{At, Built, Either, Empty, Then}
+use Rattle.tsp_rules.proofs.Built.{At, Built, Empty, Then, whichever}
 use Rattle.tsp_rules.proofs.BuiltCandidate.{built_yields, yield_sorts}
 
-module _ {m : Renaming} {o : Owed} where
+module _ {m : Naming} {o : Owed} where
   pub built_loosens_master : Built m o yield_sorts 0 2 loosens_master loosens_master
   unfolding loosens_master
-  built_loosens_master = Either IsMaster built_yields Empty
+  built_loosens_master = whichever IsMaster built_yields Empty
 
   -- a life begins
   pub built_starts : Built m o yield_sorts 0 2 (puts (Become Starting) followed_by arms Quiet QUIET) (puts (Become Starting) followed_by arms Quiet QUIET)
-  built_starts = Then (At (Puts (Become Starting) refl) refl) (At (Arms Quiet QUIET) refl)
+  built_starts = Then (At (Puts (Become Starting) refl tt) refl) (At (Arms Quiet QUIET tt) refl)
 
   pub built_sends_loops : (q : Port) → o.of (ANumber q.0) → Built m o (Posting ∷ []) 1 0 (sends_loops q) (sends_loops q)
   built_sends_loops q is = At (Loops q is) refl

@@ -5,15 +5,12 @@ use Rattle.tsp_base.specs.Words.{MessageValue}
 use Rattle.tsp_rules.specs.Answers.{rings, takes}
 use Rattle.tsp_rules.specs.GateRows.{alarm_on, alarms_on, all_ports, begins_round_on, boots_on, closes_on, ends_probes, forwards, heeds_loop, hears_on, in_charge, is_awake_on, judge, judges, leads_clock, LoopStep, PassOver, GiveUp, Forward, loops_after, probes_on, reposts_on, steers, takes_kind, takes_loop, takes_loop_step, takes_message, takes_on, turns_on, waits, stirred_ports}
 use Rattle.tsp_rules.specs.NodeRows.{on_port, for_ports, reading_all, stirring}
-use Rattle.tsp_rules.proofs.RowCodes.{AMessage, ANumber, APlace, ATaken, Owed}
+use Rattle.tsp_rules.proofs.RowCodes.{AMessage, ANumber, APlace, ATaken, Any, Owed}
 use Rattle.tsp_rules.proofs.BuiltAll.{BuiltAll, EachPort, EmptyAll, ForPorts, MoreAll, On, OtherPorts, ReadingAll, StirredPorts, StirringAll, ThenAll, WhereAll}
+use Rattle.tsp_rules.proofs.Unchanged.{comes_unchanged}
 use Rattle.tsp_rules.proofs.BuiltAnswers.{Owes, built_rings, built_takes, built_took}
 use Rattle.tsp_rules.proofs.BuiltGate.{built_loosens_master, built_reposts, built_sends_loops, built_starts}
 use Rattle.tsp_rules.proofs.BuiltSends.{built_due_sends}
-
--- nothing is known of a fact
-abbrev Any : {A : Type 0} → A → Type 0
-Any a = Unit {0}
 
 -- what is owed for a LOOP, if it is passed on
 abbrev pub OwesStep : Owed → LoopStep → Type 0
@@ -79,10 +76,10 @@ module _ {o : Owed} {has : Port → Type 0} where
     unfolding takes_kind takes_loop takes_message
     built-kind m LoopKind taken owes loop = MoreAll (ThenAll (On q is (built_took from (Good (Message m)) taken)) (built_heeds q from m is (loop refl))) refl
     built-kind m _ taken owes loop = MoreAll (ReadingAll {A = Bool × Bool} {rows = λ f x past. stirring q (stirred_ports q m.kind past) (takes f.0 f.1 from (Good (Message m))) x past} Any (λ x past. (steers q x past, in_charge q x past)) (λ x past. tt) (λ f known.
-        StirringAll q is (StirredPorts q m.kind) (built_takes f.0 f.1 from (Good (Message m)) taken back owes))) refl
+        StirringAll q is (StirredPorts q m.kind) (built_takes f.0 f.1 from (Good (Message m)) (comes_unchanged from) taken back owes))) refl
 
     pub built_takes_on : (t : Taken) → o.of (ATaken t) → Owes o t → ((m : MessageValue) → t ≡ Good (Message m) → m.kind ≡ LoopKind → (own : List ℕ) (ports : ℕ) → OwesStep o (judge own ports q m)) → BuiltAll o has 4 10 (takes_on q from t)
     unfolding takes_on
     built_takes_on (Good (Message m)) taken owes loop = built-kind m m.kind taken owes (loop m refl)
-    built_takes_on (Good (Stamp z)) taken owes loop = MoreAll (On q is (built_takes true true from (Good (Stamp z)) taken back owes)) refl
-    built_takes_on (Bad fault) taken owes loop = MoreAll (On q is (built_takes true true from (Bad fault) taken back owes)) refl
+    built_takes_on (Good (Stamp z)) taken owes loop = MoreAll (On q is (built_takes true true from (Good (Stamp z)) (comes_unchanged from) taken back owes)) refl
+    built_takes_on (Bad fault) taken owes loop = MoreAll (On q is (built_takes true true from (Bad fault) (comes_unchanged from) taken back owes)) refl

@@ -3,7 +3,7 @@ use Rattle.std.specs.Prelude.{◌≡◌, ◌≤◌, ℕ, suc, ◌+◌, ◌*◌, 
 use Rattle.std.proofs.Common.{sym, ap, arith, true≢false, length-append, ◌∙◌}
 use Rattle.std.proofs.lemmas.Bool.{leb-true, and_parts, and_from}
 use Rattle.tsp_rules.specs.Values.{Act, Boot, Took, Post, Abandon, Correct, Ring, CloseAlarm, Datagram, Message, Ack, PeerId, Place, Peer, Stranger, SPAN}
-use Rattle.tsp_base.specs.Words.{Past, Estimate, in_table, is_measured, is_rival, Row, bare, for_each, grown, nothing, posts_back, puts, reading, either_by, ◌followed_by◌}
+use Rattle.tsp_base.specs.Words.{Past, Estimate, in_table, is_measured, is_rival, Row, Sending, bare, for_each, grown, nothing, posts_back, puts, reading, either_by, ◌followed_by◌}
 use Rattle.tsp_group.specs.Groups.{group_of}
 use Rattle.tsp_group.specs.declared.group.Group.{Group}
 use Rattle.tsp_rules.specs.ClockRows.{adjusts, can_adjust, sets}
@@ -15,9 +15,9 @@ use Rattle.tsp_rules.specs.SendRows.{begins_settime, repeats}
 use Rattle.tsp_rules.specs.Strangers.{is_stranger}
 use Rattle.tsp_rules.proofs.Emits.{Sort, Moving, is_in, is_in-part}
 use Rattle.tsp_rules.proofs.FewActs.{is_calm_act, is_calm, Calm, calm_append, calm_none, calm_puts, calm_then, calm_either, calm_reading, calm_more, calm_arms, calm_posts, calm_posts_time, calm_posts_to_others, calm_others, calm_each, each_few, each_calm, filter_few}
-use Rattle.tsp_rules.proofs.Renames.{unchanged}
-use Rattle.tsp_rules.proofs.RowCodes.{Value, APlace, ATaken, Owed, Leaf, Puts, Takes, Arms, Posts, ToOthers, PostsBack, PostsTime, PostsReply, PostsName, Repeats, SettimeBegins, Loops, Reposts, Asks, Samples, Adjusts, Sets, Valued, TicketAt, NextNumber, MasterName, OpenAt, Listed, Others, All, Rivals, Table, Measured, is_plain}
-use Rattle.tsp_rules.proofs.Built.{Built, Corrects, Empty, At, Then, Either, If, Reading, ReadingValue, Each, Closes, More, Wider}
+use Rattle.tsp_rules.proofs.Unchanged.{no_unchanged, told_unchanged, unchanged, yes_unchanged}
+use Rattle.tsp_rules.proofs.RowCodes.{Value, APlace, ATaken, Owed, Leaf, Puts, Takes, Arms, Posts, ToOthers, PostsBack, PostsTime, PostsReply, PostsName, Repeats, SettimeBegins, Loops, Reposts, Asks, Samples, Adjusts, Sets, Valued, TicketAt, NextNumber, MasterName, Listed, Others, Rivals, Table, Measured, is_plain}
+use Rattle.tsp_rules.proofs.Built.{Built, Corrects, Empty, At, Then, Either, If, Reading, ReadingValue, Each, EachSend, Closes, More, Wider}
 
 -- an answer goes back to a stranger only where that is allowed, and nothing is taken
 abbrev pub Backs : Bool → Value → Type 0
@@ -41,7 +41,6 @@ back-calm strange moving Stranger datagram back = back refl
 
 few-listed : {fact fact' : ℕ → Past → List PeerId} → Listed unchanged fact fact' → (x : ℕ) (past : Past) → length (fact x past) ≤ length past.peers
 few-listed Others x past = filter_few (λ p. not (p.0 == past.own.0)) past.peers
-few-listed All x past = omega arith
 few-listed Rivals x past = filter_few (λ p. is_rival p past.seen) past.peers
 few-listed Table x past = filter_few (λ p. in_table p past.seen) past.peers
 few-listed Measured x past = filter_few (λ p. is_measured p past.seen) past.peers
@@ -60,21 +59,21 @@ round_few x past =
 module _ (strange moving : Bool) where
   leaf-calm : {few : List Sort} {k c : ℕ} {r r' : Row} → (is_in Moving few ≡ true → moving ≡ true) → Leaf unchanged (answers_owed strange) few k c r r' → Calm strange moving k c r
   unfolding replies posts_reply repeats posts_back asks begins_settime adjusts sets sends_loops reposts
-  leaf-calm may (Puts a plain) = calm_puts a (plain-calm strange moving a plain)
+  leaf-calm may (Puts a plain knows) = calm_puts a (plain-calm strange moving a plain)
   leaf-calm may (Takes from t is) = absurd is
-  leaf-calm may (Arms alarm long) = calm_arms alarm long
-  leaf-calm may (Posts p kind number is fits) = calm_posts p kind number
+  leaf-calm may (Arms alarm long wakes) = calm_arms alarm long
+  leaf-calm may (Posts p kind number known is fits) = calm_posts p kind number
   leaf-calm may (ToOthers kind fits) = calm_posts_to_others kind 0
-  leaf-calm may (PostsBack from kind number back is fits) = record { few = λ x past. omega arith; calm = λ x past. and_from _ true (back-calm strange moving from (Message (bare kind number past.name)) back) refl }
-  leaf-calm may (PostsTime p kind number time is timely fits) = calm_posts_time p kind number time
-  leaf-calm may (PostsReply from word counter back is) = calm_either 0 1 is_in_range (posts_reply from word counter) nothing (record { few = λ x past. omega arith; calm = λ x past. and_from _ true (back-calm strange moving from _ back) refl }) (calm_none 0 1)
-  leaf-calm may (PostsName from number name back is named) = calm_puts _ (back-calm strange moving from (Message (bare Ack number name)) back)
-  leaf-calm may (Repeats p s is) = calm_puts _ refl
-  leaf-calm may (SettimeBegins p number is) = calm_either 0 1 _ _ nothing (calm_reading 0 1 _ _ (λ t. calm_posts_time p _ number t)) (calm_none 0 1)
+  leaf-calm may (PostsBack from kind number place back is fits) = record { few = λ x past. omega arith; calm = λ x past. and_from _ true (back-calm strange moving from (Message (bare kind number past.name)) back) refl }
+  leaf-calm may (PostsTime p kind number time known is timely fits) = calm_posts_time p kind number time
+  leaf-calm may (PostsReply from word counter place back is) = calm_either 0 1 is_in_range (posts_reply from word counter) nothing (record { few = λ x past. omega arith; calm = λ x past. and_from _ true (back-calm strange moving from _ back) refl }) (calm_none 0 1)
+  leaf-calm may (PostsName from number name place back is named) = calm_puts _ (back-calm strange moving from (Message (bare Ack number name)) back)
+  leaf-calm may (Repeats p s known is) = calm_puts _ refl
+  leaf-calm may (SettimeBegins p number known is) = calm_either 0 1 _ _ nothing (calm_reading 0 1 _ _ (λ t. calm_posts_time p _ number t)) (calm_none 0 1)
   leaf-calm may (Loops q is) = calm_others (sends_loops q) (λ past. loop_to q past.name) (λ x past. refl) (λ past p. refl)
   leaf-calm may (Reposts msg is) = calm_others (reposts msg) (λ past. repost msg) (λ x past. refl) (λ past p. refl)
-  leaf-calm may (Asks p) = record { few = λ x past. omega arith; calm = λ x past. refl }
-  leaf-calm may (Samples p r a d is) = calm_puts _ refl
+  leaf-calm may (Asks p known) = record { few = λ x past. omega arith; calm = λ x past. refl }
+  leaf-calm may (Samples p r a d known is) = calm_puts _ refl
   leaf-calm may (Adjusts amount) = record { few = λ x past. omega arith; calm = λ x past. and_from moving true (may refl) refl }
   leaf-calm may (Sets value) = record { few = λ x past. omega arith; calm = λ x past. and_from moving true (may refl) refl }
 
@@ -82,11 +81,15 @@ module _ (strange moving : Bool) where
   value-calm TicketAt n = tt
   value-calm NextNumber n = tt
   value-calm MasterName name = tt
-  value-calm (OpenAt p) s = tt
 
   correct-calm : (mean : ℤ) (best : Option Estimate) → Corrects (answers_owed strange) mean best
   correct-calm mean None = tt
   correct-calm mean (Some b) = (tt, λ e. tt)
+
+  -- a row about a peer's open send, which does nothing if there is none
+  open-calm : {c : ℕ} (row : Option Sending → Row) → row None ≡ nothing → ((s : Sending) → Calm strange moving 0 c (row (Some s))) → (q : Option Sending) → Calm strange moving 0 c (row q)
+  open-calm row none d None = rw none (calm_none _ _)
+  open-calm row none d (Some s) = d s
 
   -- a close: few acts, since the round has no more standings than there are peers
   module _ (own : Bool) (moved : (mean : ℤ) → Calm strange moving 0 1 (moves own mean)) (corrected : (mean : ℤ) (p : PeerId) (best : Option Estimate) → Calm strange moving 0 1 (corrects_by mean p best)) where
@@ -140,13 +143,14 @@ module _ (strange moving : Bool) where
   calm-made may Empty = calm_none _ _
   calm-made {sorts} may (At {few = few} leaf e) = leaf-calm (λ h. may (is_in-part Moving few sorts e h)) leaf
   calm-made may (Then d e) = calm_then _ _ _ _ _ _ (calm-made may d) (calm-made may e)
-  calm-made may (Either t d e) = calm_either _ _ _ _ _ (calm-made may d) (calm-made may e)
+  calm-made may (Either t d e) = calm_either _ _ _ _ _ (calm-made may (d (yes_unchanged t))) (calm-made may (e (no_unchanged t)))
   calm-made may (If true b' same d e) = calm-made may (d refl)
   calm-made may (If false b' same d e) = calm-made may e
-  calm-made may (Reading rows f d) = calm_reading _ _ _ _ (λ a. calm-made may (d a))
+  calm-made may (Reading rows f d) = calm_reading _ _ _ _ (λ a. calm-made may (d a (told_unchanged f a)))
   calm-made may (ReadingValue rows f d) = calm_reading _ _ _ _ (λ a. calm-made may (d a (value-calm f a)))
-  calm-made may (Each row l d) = calm_each _ _ _ (few-listed l) (λ p. calm-made may (d p))
-  calm-made may (Closes own e moved corrected) = closes-calm own (λ mean. calm-made may (moved mean)) (λ mean p best. calm-made may (corrected mean p best (correct-calm mean best)))
+  calm-made may (Each row l d) = calm_each _ _ _ (few-listed l) (λ p. calm-made may (d p tt))
+  calm-made may (EachSend row row' none none' d) = calm_each _ _ _ (λ x past. omega arith) (λ p. calm_reading _ _ _ _ (open-calm (row p) (none p) (λ s. calm-made may (d p tt s tt))))
+  calm-made may (Closes own e moved corrected) = closes-calm own (λ mean. calm-made may (moved mean)) (λ mean p best. calm-made may (corrected mean p tt best (correct-calm mean best)))
   calm-made may (More d le) = let both = and_parts _ _ le in calm_more _ _ _ _ _ (leb-true _ _ both.0) (leb-true _ _ both.1) (calm-made may d)
   calm-made {sorts} may (Wider {few = few} e d) = calm-made (λ h. may (is_in-part Moving few sorts e h)) d
 

@@ -15,6 +15,7 @@ use Rattle.tsp_rules.proofs.Emits.{Moving, is_in}
 use Rattle.tsp_rules.proofs.BuiltAnswers.{Owes, built_handles, taken_sorts}
 use Rattle.tsp_rules.proofs.BuiltRounds.{built_abandons_going}
 use Rattle.tsp_rules.proofs.CalmAlarms.{calm_due_alarms, calm_due_sends}
+use Rattle.tsp_rules.proofs.Unchanged.{place_unchanged}
 use Rattle.tsp_rules.proofs.CalmBuilt.{answers_owed, calm_moving, calm_unmoving}
 
 -- whether what was taken is a message
@@ -29,7 +30,7 @@ calm-owed strange (Good (Stamp (Request word counter))) = tt
 calm-owed strange (Good (Stamp (Reply r))) = tt
 
 pub calm_handles : (steer charge : Bool) (from : Place) (t : Taken) → Calm (is_stranger from) true 2 5 (handles steer charge from t)
-calm_handles steer charge from t = calm_moving (built_handles steer charge from t (λ e. e) (calm-owed (is_stranger from) t))
+calm_handles steer charge from t = calm_moving (built_handles steer charge from t (place_unchanged from) (λ e. e) (calm-owed (is_stranger from) t))
 
 unmoving-stamps : (t : Taken) → is_message t ≡ false → is_in Moving (taken_sorts t) ≡ false
 unmoving-stamps (Good (Message m)) e = absurd (true≢false e)
@@ -37,7 +38,7 @@ unmoving-stamps _ e = refl
 
 -- stamps, and octets that are no datagram, never move the clock
 pub calm_stamps : (steer charge : Bool) (from : Place) (t : Taken) → is_message t ≡ false → Calm (is_stranger from) false 2 5 (handles steer charge from t)
-calm_stamps steer charge from t e = calm_unmoving (unmoving-stamps t e) (built_handles steer charge from t (λ e. e) (calm-owed (is_stranger from) t))
+calm_stamps steer charge from t e = calm_unmoving (unmoving-stamps t e) (built_handles steer charge from t (place_unchanged from) (λ e. e) (calm-owed (is_stranger from) t))
 
 pub calm_abandons_going : {strange moving : Bool} → Calm strange moving 0 1 abandons_going
 calm_abandons_going = calm_unmoving refl built_abandons_going

@@ -1,7 +1,7 @@
 -- What follows for each row from how it is made: which sorts of acts it puts.
 use Rattle.std.specs.Prelude.{◌≡◌, ℕ, ℤ, Bool, true, false, List, [], ◌∷◌, Option, None, Some, refl}
 use Rattle.tsp_rules.specs.Values.{Abandon, Ring, CloseAlarm, Message, Stamp, Taken, Good, Bad, PeerId, Request, Reply, SPAN}
-use Rattle.tsp_base.specs.Words.{Estimate, Row, nothing, others, puts, reading}
+use Rattle.tsp_base.specs.Words.{Estimate, Row, Sending, nothing, others, puts, reading}
 use Rattle.tsp_group.specs.Groups.{group_of}
 use Rattle.tsp_rules.specs.ClockRows.{can_adjust}
 use Rattle.tsp_rules.specs.CommonRows.{posts_reply, replies}
@@ -9,10 +9,10 @@ use Rattle.tsp_rules.specs.GateRows.{loop_to, repost, reposts, sends_loops}
 use Rattle.tsp_rules.specs.RoundRows.{abandons, asks, close_act, closes, closes_with, corrects_by, corrects_peer, estimates, mean_by, moves, round_at}
 use Rattle.tsp_rules.specs.SendRows.{begins_settime, repeats}
 use Rattle.tsp_rules.proofs.Emits.{Sort, Posting, all_map, Closing, Rounding, is_in-own, is_part, sort_of, sort_of_alarm, sort_of_kind, Emits, Emits_nothing, Emits_puts, Emits_then, Emits_either, Emits_reading, Emits_each, Emits_arms, Emits_posts, Emits_posts_to_others, Emits_posts_back, Emits_posts_time, Emits_adjusts, Emits_sets, Emits_more}
-use Rattle.tsp_rules.proofs.Renames.{unchanged}
+use Rattle.tsp_rules.proofs.Unchanged.{no_unchanged, told_unchanged, unchanged, yes_unchanged}
 use Rattle.tsp_rules.proofs.RowCodes.{Owed, Leaf, Puts, Takes, Arms, Posts, ToOthers, PostsBack, PostsTime, PostsReply, PostsName, Repeats, SettimeBegins, Loops, Reposts, Asks, Samples, Adjusts, Sets}
 use Rattle.tsp_rules.proofs.BuiltAnswers.{Owes}
-use Rattle.tsp_rules.proofs.Built.{Built, Corrects, Empty, At, Then, Either, If, Reading, ReadingValue, Each, Closes, More, Wider}
+use Rattle.tsp_rules.proofs.Built.{Built, Corrects, Empty, At, Then, Either, If, Reading, ReadingValue, Each, EachSend, Closes, More, Wider}
 
 -- nothing is asked of values
 abbrev pub nothing_owed : Owed
@@ -20,21 +20,21 @@ nothing_owed = record { of = λ v. Unit {0}; zero = tt; near = λ p. tt }
 
 leaf-emits : {few : List Sort} {k c : ℕ} {r r' : Row} → Leaf unchanged nothing_owed few k c r r' → Emits few r
 unfolding replies posts_reply repeats asks begins_settime sends_loops reposts
-leaf-emits (Puts a plain) = Emits_puts a (is_in-own (sort_of a))
+leaf-emits (Puts a plain knows) = Emits_puts a (is_in-own (sort_of a))
 leaf-emits (Takes from t is) = Emits_puts _ refl
-leaf-emits (Arms alarm long) = Emits_arms alarm long (is_in-own (sort_of_alarm alarm))
-leaf-emits (Posts p kind number is fits) = Emits_posts p kind number (is_in-own (sort_of_kind kind))
+leaf-emits (Arms alarm long wakes) = Emits_arms alarm long (is_in-own (sort_of_alarm alarm))
+leaf-emits (Posts p kind number known is fits) = Emits_posts p kind number (is_in-own (sort_of_kind kind))
 leaf-emits (ToOthers kind fits) = Emits_posts_to_others kind 0 (is_in-own (sort_of_kind kind))
-leaf-emits (PostsBack from kind number back is fits) = Emits_posts_back from kind number (is_in-own (sort_of_kind kind))
-leaf-emits (PostsTime p kind number time is timely fits) = Emits_posts_time p kind number time (is_in-own (sort_of_kind kind))
-leaf-emits (PostsReply from word counter back is) = Emits_either _ _ nothing (record { only = λ x past. (refl, tt) }) Emits_nothing
-leaf-emits (PostsName from number name back is named) = Emits_puts _ refl
-leaf-emits (Repeats p s is) = Emits_puts _ (is_in-own (sort_of_kind s.message.kind))
-leaf-emits (SettimeBegins p number is) = Emits_either _ _ nothing (Emits_reading _ _ (λ t. Emits_posts_time p _ number t refl)) Emits_nothing
+leaf-emits (PostsBack from kind number place back is fits) = Emits_posts_back from kind number (is_in-own (sort_of_kind kind))
+leaf-emits (PostsTime p kind number time known is timely fits) = Emits_posts_time p kind number time (is_in-own (sort_of_kind kind))
+leaf-emits (PostsReply from word counter place back is) = Emits_either _ _ nothing (record { only = λ x past. (refl, tt) }) Emits_nothing
+leaf-emits (PostsName from number name place back is named) = Emits_puts _ refl
+leaf-emits (Repeats p s known is) = Emits_puts _ (is_in-own (sort_of_kind s.message.kind))
+leaf-emits (SettimeBegins p number known is) = Emits_either _ _ nothing (Emits_reading _ _ (λ t. Emits_posts_time p _ number t refl)) Emits_nothing
 leaf-emits (Loops q is) = record { only = λ x past. all_map (Posting ∷ []) (loop_to q past.name) (λ p. refl) (others past.own past.peers) }
 leaf-emits (Reposts msg is) = record { only = λ x past. all_map (sort_of_kind msg.kind ∷ []) (repost msg) (λ p. is_in-own (sort_of_kind msg.kind)) (others past.own past.peers) }
-leaf-emits (Asks p) = record { only = λ x past. (refl, tt) }
-leaf-emits (Samples p r a d is) = Emits_puts _ refl
+leaf-emits (Asks p known) = record { only = λ x past. (refl, tt) }
+leaf-emits (Samples p r a d known is) = Emits_puts _ refl
 leaf-emits (Adjusts amount) = Emits_adjusts amount refl
 leaf-emits (Sets value) = Emits_sets value refl
 
@@ -49,6 +49,11 @@ closes-emits own e moved corrected =
     (Emits_then (puts (close_act own g)) _ (Emits_more (Rounding ∷ Closing ∷ []) e (Emits_puts (close_act own g) refl))
     (Emits_then (moves own mean) _ (moved mean) (Emits_each (corrects_peer mean) round (λ s. corrected mean s.peer s.best))))
     (Emits_more (Rounding ∷ Closing ∷ []) e (Emits_puts Abandon refl))))
+
+-- a row about a peer's open send, which does nothing if there is none
+open-emits : {sorts : List Sort} (row : Option Sending → Row) → row None ≡ nothing → ((s : Sending) → Emits sorts (row (Some s))) → (q : Option Sending) → Emits sorts (row q)
+open-emits row none d None = rw none Emits_nothing
+open-emits row none d (Some s) = d s
 
 -- so nothing is owed for what is taken
 pub nothing_taken : (t : Taken) → Owes nothing_owed t
@@ -66,13 +71,14 @@ emits-made : {sorts : List Sort} {k c : ℕ} {r r' : Row} → Built unchanged no
 emits-made Empty = Emits_nothing
 emits-made (At leaf e) = Emits_more _ e (leaf-emits leaf)
 emits-made (Then d e) = Emits_then _ _ (emits-made d) (emits-made e)
-emits-made (Either t d e) = Emits_either _ _ _ (emits-made d) (emits-made e)
+emits-made (Either t d e) = Emits_either _ _ _ (emits-made (d (yes_unchanged t))) (emits-made (e (no_unchanged t)))
 emits-made (If true b' same d e) = emits-made (d refl)
 emits-made (If false b' same d e) = emits-made e
-emits-made (Reading rows f d) = Emits_reading _ _ (λ a. emits-made (d a))
+emits-made (Reading rows f d) = Emits_reading _ _ (λ a. emits-made (d a (told_unchanged f a)))
 emits-made (ReadingValue rows f d) = Emits_reading _ _ (λ a. emits-made (d a tt))
-emits-made (Each row l d) = Emits_reading _ _ (λ ps. Emits_each _ ps (λ p. emits-made (d p)))
-emits-made (Closes own e moved corrected) = closes-emits own e (λ mean. emits-made (moved mean)) (λ mean p best. emits-made (corrected mean p best (nothing_measured mean best)))
+emits-made (Each row l d) = Emits_reading _ _ (λ ps. Emits_each _ ps (λ p. emits-made (d p tt)))
+emits-made (EachSend row row' none none' d) = Emits_reading _ _ (λ ps. Emits_each _ ps (λ p. Emits_reading _ _ (open-emits (row p) (none p) (λ s. emits-made (d p tt s tt)))))
+emits-made (Closes own e moved corrected) = closes-emits own e (λ mean. emits-made (moved mean)) (λ mean p best. emits-made (corrected mean p tt best (nothing_measured mean best)))
 emits-made (More d le) = emits-made d
 emits-made (Wider e d) = Emits_more _ e (emits-made d)
 

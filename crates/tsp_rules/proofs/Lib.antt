@@ -24,7 +24,6 @@ pub mod FewActs
 mod GatewayScriptAnswered
 pub mod GuardFacts
 pub mod NodeRowLemmas
-pub mod Renames
 mod ResolutionScriptAnswered
 mod RolesScriptAnswered
 mod RoundsScriptAnswered
@@ -32,3 +31,4 @@ pub mod RowCodes
 pub mod RowsOther
 pub mod ScriptsAnswered
 mod StrictScriptAnswered
+pub mod Unchanged

@@ -15,6 +15,7 @@ pub mod MasterRows
 pub mod NodePerforms
 pub mod NodeRows
 pub mod OrdinaryUse
+pub mod Renames
 pub mod ResolutionScript
 pub mod ResolveRows
 pub mod RivalsScript

@@ -9,12 +9,12 @@ use Rattle.tsp_promises.proofs.EverywhereLemmas.{Everywhere-at}
 use Rattle.tsp_rules.proofs.FewActs.{is_calm_act}
 use Rattle.tsp_rules.specs.GateRows.{boots_all}
 use Rattle.tsp_run.specs.Premised.{AllBootOtherwise, Apart, BootsOtherwise, IsApart}
-use Rattle.tsp_run.specs.Ranges.{Accepted}
+use Rattle.tsp_run.specs.Possible.{Possible}
 use Rattle.tsp_run.specs.Run.{Happening, boot_step, joins, run, step_tick}
 use Rattle.tsp_run.proofs.CalmAll.{AreCalm}
-use Rattle.tsp_run.proofs.SealedRun.{accepted_before}
 use Rattle.tsp_run.proofs.EachLine.{IsCause, each_event}
 use Rattle.tsp_run.proofs.Happens.{boot_acts, steps-are}
+use Rattle.tsp_run.proofs.PossibleRun.{possible_before}
 
 -- a line is of no boot with this word
 abbrev pub OtherWord : ℕ → Line → List Line → Type 0
@@ -77,6 +77,6 @@ module _ {header : HeaderValue} (is : IsHeader header) (before : List Event) (wo
   words-event (Bytes at node port from octets) f = each_event WordsAt header before words (Bytes at node port from octets) (λ step x c port deed h other older v w y z within own boot is that. let no : ⊥ = cc in absurd no)
 
 -- so it is with each run
-pub apart-words : (header : HeaderValue) (events : List Event) → Accepted header events → Apart events → Words (run header events)
-apart-words header [] a d = tt
-apart-words header (e ∷ before) a d = words-event a.header_is before (apart-words header before (accepted_before header e before a) d.1) e d.0
+pub apart-words : (header : HeaderValue) (events : List Event) → Possible header events → Apart events → Words (run header events)
+apart-words header [] p d = tt
+apart-words header (e ∷ before) p d = words-event p.header_is before (apart-words header before (possible_before header e before p) d.1) e d.0

@@ -9,7 +9,8 @@ use Rattle.tsp_promises.specs.Setting.{Setting, setup_of}
 use Rattle.tsp_promises.specs.StepFacts.{StepEnds, is_unbacked, is_unbacked_after, owes, owes_after, unacknowledged, unacknowledged_after, unheeded, unheeded_after}
 use Rattle.std.proofs.lemmas.Bool.{cases_lt, or_right}
 use Rattle.tsp_promises.proofs.Leaves.{none-among}
-use Rattle.tsp_base.proofs.PlaceLemmas.{Within-through}
+use Rattle.tsp_promises.proofs.SendPlaces.{posted-mono}
+use Rattle.tsp_base.proofs.PlaceLemmas.{Within-all, Within-through}
 use Rattle.tsp_base.proofs.ViewPlaces.{port-same, sees-own}
 use Rattle.tsp_run.specs.Networks.{ports_on}
 use Rattle.tsp_promises.specs.PortFits.{PortFits}
@@ -167,9 +168,18 @@ pub posted_more : (d : Deed) (n : ℕ) → posted_after d n ≤ n + 1
 posted_more (Acts (Post to datagram)) n = omega arith
 posted_more _ n = omega arith
 
+-- what was posted stays posted
+pub posted-joined : (step : Step) (x : ℕ) (acts : List Placed) (h : List Line) → posted (dids h) ≤ posted (dids (joined step x acts h))
+posted-joined step x [] h = omega arith
+posted-joined step x (p ∷ rest) h =
+    let l = line_of step x p.port (Acts p.act) in
+    let one = posted-mono h (l ∷ h) (inr (Within-all h)) in
+    let more = posted-joined step x rest (l ∷ h) in
+    omega (arith, one, more)
+
 -- all acts of a step
 pub acts_fit : (ports : ℕ) (setting : Setting) (step : Step) (x : ℕ) (history : List Line) (acts : List Placed) (port : Port) (d : Deed) (before : List Line) → x ≡ tick_at (setting.rate step.node) step.at →
-    ActsOn ports acts → Within history (line_of step x port d ∷ before) → posted (dids (line_of step x port d ∷ before)) + length acts < 2 ^ 64 →
+    ActsOn ports acts → Within history (line_of step x port d ∷ before) → posted (dids (joined step x acts (line_of step x port d ∷ before))) < 2 ^ 64 →
     AllAlive setting step x (up (dids (of step.node (line_of step x port d ∷ before)))) acts → AllTaken setting step x history acts →
     ((q : Port) → q.0 < ports → PortFits (setup_of setting step.node q) (view q (of step.node (joined step x acts (line_of step x port d ∷ before))))) → Fits setting (line_of step x port d ∷ before) →
     Fits setting (joined step x acts (line_of step x port d ∷ before))
@@ -179,10 +189,9 @@ acts_fit ports setting step x history (p ∷ rest) port d before tick on w few a
     let up_is : up (dids (of step.node (line_of step x p.port (Acts p.act) ∷ h))) ≡ up_after (Acts p.act) (up (dids (of step.node h))) = ap (λ l. up (dids l)) (one_line step x p.port (Acts p.act) h) in
     let own = λ (e : is_shared (Acts p.act) ≡ false).
     owes_here (setup_of setting step.node p.port) step x p h (fits_before (setup_of setting step.node p.port) p.port step x rest (line_of step x p.port (Acts p.act) ∷ h) (fits p.port (on.0 e))) in
-    let line = act_line setting step x history port d before p tick w (omega (arith, few)) alive.0 took.0 own in
-    let more = posted_more (Acts p.act) (posted (dids h)) in
-    acts_fit ports setting step x history rest p.port (Acts p.act) h tick on.1 (inr w)
-    (omega (arith, few, more))
+    let kept = posted-joined step x (p ∷ rest) h in
+    let line = act_line setting step x history port d before p tick w (omega (arith, few, kept)) alive.0 took.0 own in
+    acts_fit ports setting step x history rest p.port (Acts p.act) h tick on.1 (inr w) few
     (subst (λ b. AllAlive setting step x b rest) (sym up_is) alive.1) took.1 fits
     (line, f)
 

@@ -1,6 +1,6 @@
 -- What the events of a schedule make happen.
-use Rattle.std.specs.Prelude.{◌≡◌, ◌⊎◌, ◌≤◌, ◌<◌, ℕ, false, List, [], ◌∷◌, length, Option, None, Some, slice_get, refl}
-use Rattle.std.proofs.Common.{ap, ◌∙◌, inl, inr}
+use Rattle.std.specs.Prelude.{◌≡◌, ◌⊎◌, ◌≤◌, ◌<◌, ℕ, ◌+◌, false, List, [], ◌∷◌, length, Option, None, Some, slice_get, refl}
+use Rattle.std.proofs.Common.{ap, arith, ◌∙◌, inl, inr}
 use Rattle.tsp_rules.specs.Values.{Boot, Placed, Taken, Take, Place, Peer, Port}
 use Rattle.tsp_base.specs.Words.{HeaderValue, IsHeader, Came, Line, Step, first_port, puts, peer_of}
 use Rattle.tsp_codec.specs.Canon.{canon}
@@ -14,8 +14,8 @@ use Rattle.tsp_run.specs.Run.{Happening, arrives, arrives_at, goes_to, happening
 use Rattle.tsp_run.specs.Run.{posts}
 use Rattle.tsp_run.specs.Setup.{past_of}
 use Rattle.tsp_run.proofs.AnswersFit.{small_room}
-use Rattle.tsp_run.proofs.CalmAll.{AreCalm, small_spread}
-use Rattle.tsp_run.proofs.CalmPorts.{TakesOnce, calm_boots, calm_turn_all, step_most, takes_once_on}
+use Rattle.tsp_run.proofs.CalmAll.{AreCalm, CalmActs, small_spread}
+use Rattle.tsp_run.proofs.CalmPorts.{TakesOnce, calm_boots, calm_turn_all, step_most, takes_once_on, turns_most}
 use Rattle.tsp_run.proofs.NetworkLemmas.{few_ports, goes_there}
 use Rattle.tsp_run.proofs.RefusalLemmas.{goes-nowhere, goes_to-post}
 
@@ -31,11 +31,12 @@ pub steps-are : (header : HeaderValue) (history : List Line) (row : NodeRow) (st
 unfolding steps
 steps-are header history row step = refl
 
--- a boot's acts: the Boot, and what is neither a boot nor a taking
+-- a boot's acts: the Boot, and a few that are neither boots nor takings
 pub record Boots (ports : ℕ) (acts : List Placed) : Type 0 where
   pub rest : List Placed
   pub is : acts ≡ record { port = first_port; act = Boot } ∷ rest
   pub calm : AreCalm false ports rest
+  pub few : length rest ≤ 8
 
 -- how many ports the node of a step has
 abbrev pub ports_in : HeaderValue → Step → ℕ
@@ -52,22 +53,34 @@ module _ {header : HeaderValue} (is : IsHeader header) (history : List Line) (st
       let past : NodePast = in_node_step step x (past_of header step history) in
       let boot : List Placed = record { port = first_port; act = Boot } ∷ [] in
       let rest = reading_all all_ports (for_ports boots_on) x (spread x past boot) in
-      record {
-        rest = rest;
-        is = refl;
-        calm = ((calm_boots {strange = false} {n = length past.ports} {peers = room past.ports} four).run x (spread x past boot) (small_spread (length past.ports) (room past.ports) x past boot (small_room past))).calm;
-      }
+      let c = (calm_boots {strange = false} {n = length past.ports} {peers = room past.ports} four).run x (spread x past boot) (small_spread (length past.ports) (room past.ports) x past boot (small_room past)) in
+      record { rest = rest; is = refl; calm = c.calm; few = c.few }
 
-  -- a turn's acts are neither boots nor takings
-  pub turn_acts : AreCalm false (ports_in header step) (acts_by header history (answers_all NodeTurn) step)
-  turn_acts =
+  -- a turn's acts are few, and neither boots nor takings
+  turn-calm : CalmActs false (ports_in header step) (turns_most (room (ports_on step.node (networks header)))) (acts_by header history (answers_all NodeTurn) step)
+  turn-calm =
       let x : ℕ = step_tick header step in
       let past : NodePast = in_node_step step x (past_of header step history) in
-      ((calm_turn_all {strange = false} (length past.ports) (room past.ports) four).run x past (small_room past)).calm
+      (calm_turn_all {strange = false} (length past.ports) (room past.ports) four).run x past (small_room past)
 
-  -- how many acts a taking has at the most
+  pub turn_acts : AreCalm false (ports_in header step) (acts_by header history (answers_all NodeTurn) step)
+  turn_acts = turn-calm.calm
+
+  -- how many acts a step has at the most
   abbrev pub most : ℕ
   most = step_most (room (ports_on step.node (networks header)))
+
+  -- a boot's acts are no more
+  pub boot_few : length (acts_by header history boots_all step) ≤ most
+  boot_few =
+      let b = boot_acts in
+      let few = b.few in
+      let same : length (acts_by header history boots_all step) ≡ length b.rest + 1 = ap (λ l. length l) b.is ∙ omega arith in
+      omega (arith, few, same)
+
+  -- nor are a turn's
+  pub turn_few : length (acts_by header history (answers_all NodeTurn) step) ≤ most
+  turn_few = let few = turn-calm.few in omega (arith, few)
 
   -- a datagram is taken once
   pub got_acts : (q : Port) (from : Place) (t : Taken) → q.0 < ports_in header step → TakesOnce from t q (ports_in header step) most (acts_by header history (answers_all (GotOn q from t)) step)

@@ -2,6 +2,7 @@ mod AnswerOctetsProof
 pub mod AnswersFit
 pub mod ApartRun
 pub mod BootLemmas
+mod BrokenOctets
 pub mod CalmAll
 pub mod CalmPorts
 pub mod EachLine
@@ -12,6 +13,7 @@ pub mod HeaderLines
 mod NamesRun
 pub mod NetworkLemmas
 mod OnlyThen
+pub mod PossibleRun
 pub mod PostPlaces
 pub mod PromptRun
 pub mod RefusalLemmas

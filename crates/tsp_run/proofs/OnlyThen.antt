@@ -4,17 +4,16 @@ use Rattle.std.proofs.Common.{sym, subst, inl, inr}
 use Rattle.tsp_rules.specs.Values.{Boot, Took, Placed, Event, BootAt, Turn, Take, Bytes, Peer, Stranger}
 use Rattle.tsp_base.specs.Words.{HeaderValue, IsHeader, Acts, Begins, Booted, Handed, Line, Step, first_port, joined, line_of, stepped, Within}
 use Rattle.tsp_promises.specs.Everywhere.{Everywhere}
-use Rattle.tsp_base.proofs.PlaceLemmas.{Within-all}
 use Rattle.tsp_codec.specs.Taken.{taken_of}
 use Rattle.tsp_promises.specs.Premises.{Honest, HonestAt, Words, WordsAt}
 use Rattle.tsp_rules.specs.GateRows.{GotOn, answers_all, boots_all}
 use Rattle.tsp_run.specs.Premised.{AllBootOtherwise, Apart, BootsOtherwise, IsApart, IsSealed, Sealed}
-use Rattle.tsp_run.specs.Ranges.{Accepted}
-use Rattle.tsp_run.specs.Refusals.{refusal, scene}
+use Rattle.tsp_run.specs.Possible.{Possible}
+use Rattle.tsp_run.specs.Refusals.{impossible, scene}
 use Rattle.tsp_run.specs.Run.{Happening, boot_step, happening, joins, run, step_tick}
 use Rattle.tsp_run.proofs.Happens.{acts_by, boot_acts, got_acts, steps-are}
-use Rattle.tsp_run.proofs.RefusalLemmas.{handed-port, refusal-none}
-use Rattle.tsp_run.proofs.SealedRun.{accepted_before}
+use Rattle.tsp_run.proofs.PossibleRun.{possible_before}
+use Rattle.tsp_run.proofs.RefusalLemmas.{can_happen}
 
 -- what holds everywhere after a step held before it
 before-joined : (P : Line → List Line → Type 0) (step : Step) (x : ℕ) (acts : List Placed) (h : List Line) → Everywhere P (joined step x acts h) → Everywhere P h
@@ -43,11 +42,11 @@ through-joins : (o : Option Happening) (h whole : List Line) → ((s : List Line
 through-joins o h whole k s w = k s (in-joins s o h w)
 
 module _ {header : HeaderValue} (is : IsHeader header) (before : List Event) where
-  sealed-event : (e : Event) → refusal (scene header before) e ≡ None → Honest (run header (e ∷ before)) → IsSealed e
+  sealed-event : (e : Event) → impossible (scene header before) e ≡ None → Honest (run header (e ∷ before)) → IsSealed e
   sealed-event (Bytes at node port (Peer p) octets) none honest =
       let step : Step = record { at = at; node = node; cause = Handed } in
       let h = run header before in
-      let has = handed-port (scene header before) at node port (Peer p) octets (refusal-none (scene header before) (Bytes at node port (Peer p) octets) none).node in
+      let has = (can_happen (scene header before) (Bytes at node port (Peer p) octets) none).node.1 in
       let once = got_acts is h step port (Peer p) (taken_of octets) has in
       let row = answers_all (GotOn port (Peer p) (taken_of octets)) in
       let all : Honest (stepped step (step_tick header step) (acts_by header h row step) h) = subst (λ (k : Happening). Honest (joins (Some k) h)) (steps-are header h row step) honest in
@@ -59,9 +58,9 @@ module _ {header : HeaderValue} (is : IsHeader header) (before : List Event) whe
   sealed-event (Turn at node) none honest = tt
   sealed-event (Take at k) none honest = tt
 
-pub honest-sealed : (header : HeaderValue) (events : List Event) → Accepted header events → Honest (run header events) → Sealed events
-honest-sealed header [] a h = tt
-honest-sealed header (e ∷ before) a h = (sealed-event a.header_is before e a.valid.0 h, honest-sealed header before (accepted_before header e before a) (before-joins HonestAt (happening header (run header before) e) (run header before) h))
+pub honest-sealed : (header : HeaderValue) (events : List Event) → Possible header events → Honest (run header events) → Sealed events
+honest-sealed header [] p h = tt
+honest-sealed header (e ∷ before) p h = (sealed-event p.header_is before e p.happens.0 h, honest-sealed header before (possible_before header e before p) (before-joins HonestAt (happening header (run header before) e) (run header before) h))
 
 -- a boot of a history, with this word
 record BootIn (word : ℕ) (h : List Line) : Type 0 where
@@ -113,6 +112,6 @@ module _ {header : HeaderValue} (is : IsHeader header) (before : List Event) whe
   apart-event (Take at k) words = tt
   apart-event (Bytes at node port from octets) words = tt
 
-pub words-apart : (header : HeaderValue) (events : List Event) → Accepted header events → Words (run header events) → Apart events
-words-apart header [] a w = tt
-words-apart header (e ∷ before) a w = (apart-event a.header_is before e w, words-apart header before (accepted_before header e before a) (before-joins WordsAt (happening header (run header before) e) (run header before) w))
+pub words-apart : (header : HeaderValue) (events : List Event) → Possible header events → Words (run header events) → Apart events
+words-apart header [] p w = tt
+words-apart header (e ∷ before) p w = (apart-event p.header_is before e w, words-apart header before (possible_before header e before p) (before-joins WordsAt (happening header (run header before) e) (run header before) w))

@@ -1,12 +1,12 @@
--- What is known where nothing refuses an event, and where two scenes refuse alike.
-use Rattle.std.specs.Prelude.{◌≡◌, ℕ, ◌+◌, ◌<◌, nat_lt, nat_le, ◌||◌, Bool, true, false, if◌then◌else◌, List, length, Option, None, Some, slice_get, refl}
+-- What is known if an event can happen, if nothing refuses it, and if two scenes refuse alike.
+use Rattle.std.specs.Prelude.{◌≡◌, ℕ, ◌+◌, ◌<◌, ◌≤◌, nat_lt, nat_le, ◌||◌, Bool, true, false, if◌then◌else◌, List, length, Option, None, Some, slice_get, refl}
 use Rattle.std.proofs.Common.{ap, ◌∙◌, subst}
 use Rattle.std.proofs.lemmas.Bool.{ltb-true, ltb-false, leb-false, or_parts}
 use Rattle.tsp_rules.specs.Values.{Event, BootAt, Turn, Take, Bytes, Place, Port}
 use Rattle.tsp_base.specs.declared.event.EventFault.{EventFault}
 use Rattle.tsp_base.specs.declared.event.EventFault.TheVariants.{TimeBack, NoNode, NotUp, Limit}
 use Rattle.tsp_run.specs.declared.posted.Posted.{Posted}
-use Rattle.tsp_run.specs.Refusals.{Scene, Allowed, Names, refusal, first_of, time_back, unknown, no_node, no_datagram, down, not_up, limit, lacks_port, port_count, is_crowded, room_at, node_in, actor, most_events, most_posts}
+use Rattle.tsp_run.specs.Refusals.{Scene, Allowed, Names, refusal, first_of, time_back, unknown, no_node, no_datagram, down, not_up, limit, impossible, lacks_port, port_count, is_crowded, room_at, node_in, actor, most_events, most_posts}
 use Rattle.tsp_run.specs.declared.address.Address.{Address}
 use Rattle.tsp_run.specs.Networks.{address_of, ports_on, room}
 use Rattle.tsp_run.specs.Run.{event_at, goes_to, arrives, arrives_at}
@@ -60,19 +60,42 @@ names s (Bytes at node port from octets) u = (known s.nodes node (first_of-none 
 room_at-is : (nets : List (List ℕ)) (o : Option ℕ) (n : ℕ) → o ≡ Some n → room_at nets o ≡ Some (room (ports_on n nets))
 room_at-is nets o n e = rw e refl
 
+-- what is so if an event can happen
+pub record CanHappen (s : Scene) (e : Event) : Type 0 where
+  pub time : s.last ≤ event_at e
+  pub node : Names s e
+  pub up : not_up s e ≡ None
+
+-- an event that isn't impossible can happen
+pub can_happen : (s : Scene) (e : Event) → impossible s e ≡ None → CanHappen s e
+can_happen s e h =
+    let a = first_of-none (time_back (event_at e) s.last) (first_of (no_node s e) (first_of (no_datagram (length s.posts) e) (not_up s e))) h in
+    let b = first_of-none (no_node s e) (first_of (no_datagram (length s.posts) e) (not_up s e)) a.1 in
+    let c = first_of-none (no_datagram (length s.posts) e) (not_up s e) b.1 in
+    record {
+      time = ltb-false (event_at e) s.last (if-none (nat_lt (event_at e) s.last) (TimeBack (event_at e) s.last) a.0);
+      node = names s e b.0;
+      up = c.1;
+    }
+
+-- an event that isn't refused isn't impossible
+pub allowed-possible : (s : Scene) (e : Event) → refusal s e ≡ None → impossible s e ≡ None
+allowed-possible s e h = let p = refusal-none s e h in rw (p.time, p.node, p.datagram, p.up) refl
+
 -- where nothing refuses an event, its facts hold
 pub allowed : (s : Scene) (e : Event) → refusal s e ≡ None → Allowed s e
 allowed s e h =
     let p = refusal-none s e h in
+    let can = can_happen s e (allowed-possible s e h) in
     let wanted = room_at s.networks (actor s e) in
     let full = if-none (nat_le most_events s.events || is_crowded (length s.posts) wanted) (Limit s.events (length s.posts)) p.limit in
     let both = or_parts (nat_le most_events s.events) (is_crowded (length s.posts) wanted) full in
     record {
-      time = ltb-false (event_at e) s.last (if-none (nat_lt (event_at e) s.last) (TimeBack (event_at e) s.last) p.time);
+      time = can.time;
       events = leb-false most_events s.events both.0;
       posts = λ n is. ltb-false most_posts (length s.posts + room (ports_on n s.networks)) (subst (λ o. is_crowded (length s.posts) o ≡ false) (room_at-is s.networks (actor s e) n is) both.1);
-      node = names s e p.node;
-      up = p.up;
+      node = can.node;
+      up = can.up;
     }
 
 -- two scenes with the same numbers and posts, in which the same nodes are up

@@ -1,7 +1,7 @@
--- The history of every schedule fits.
-use Rattle.std.specs.Prelude.{◌≡◌, ℕ, ◌+◌, ◌<◌, ◌≤◌, ◌^◌, ◌==◌, pos, ◌+ℤ◌, Bool, true, false, List, [], ◌∷◌, length, Option, None, Some, slice_get, All, refl}
+-- The history of every possible schedule fits, and so does that of every accepted one.
+use Rattle.std.specs.Prelude.{◌≡◌, ℕ, ◌+◌, ◌<◌, ◌≤◌, ◌^◌, ◌==◌, pos, ◌+ℤ◌, Bool, true, false, List, [], ◌∷◌, length, Option, None, Some, slice_get, refl}
 use Rattle.std.proofs.Common.{sym, ap, subst, inr, arith, ◌∙◌, eq-eqb, eqb-true}
-use Rattle.std.proofs.lemmas.List.Elements.{All-head, All-tail}
+use Rattle.std.proofs.lemmas.List.Elements.{All-head}
 use Rattle.tsp_rules.specs.Values.{Took, Post, Placed, Event, BootAt, Turn, Take, Bytes, Peer, Port}
 use Rattle.tsp_base.specs.Words.{first_port, joined, line_of, stepped, HeaderValue, IsHeader, Booted, Turned, Came, Handed, Step, Begins, Acts, Line, of, view, dids, time_of, up, posted, peer_of, tick_at}
 use Rattle.tsp_promises.specs.Fits.{Fits, TookFits}
@@ -23,18 +23,19 @@ use Rattle.tsp_promises.proofs.Clocks.{tick-mono}
 use Rattle.tsp_run.specs.declared.address.Address.{Address}
 use Rattle.tsp_run.specs.declared.posted.Posted.{Posted}
 use Rattle.tsp_run.specs.Networks.{networks, network_from, ports_on, address_of, room}
+use Rattle.tsp_run.specs.Possible.{Possible}
 use Rattle.tsp_run.specs.Ranges.{IsInRange}
-use Rattle.tsp_run.specs.Refusals.{Valid, scene, refusal, actor, down, node_in}
-use Rattle.tsp_run.specs.Run.{run, joins, happening, steps, step_tick, boot_step, event_at, last_at, posts, reaches, arrives, arrives_at, goes_to}
-use Rattle.tsp_run.specs.Setting.{SetBy, RunsFit, named_or}
+use Rattle.tsp_run.specs.Refusals.{scene, down, node_in}
+use Rattle.tsp_run.specs.Run.{run, joins, steps, step_tick, boot_step, event_at, last_at, posts, reaches, arrives, arrives_at, goes_to}
+use Rattle.tsp_run.specs.Setting.{PossibleRunsFit, SetBy, RunsFit, named_or}
 use Rattle.tsp_run.specs.Setup.{node_line, past_of, rests}
 use Rattle.tsp_run.proofs.AnswersFit.{StepOk, turn_ok, got_ok, boot_ok}
-use Rattle.tsp_run.proofs.CalmPorts.{step_most}
-use Rattle.tsp_run.proofs.FitsLines.{ActsOn, AllAlive, ArePlaced, acts_fit, all_end, mark_line, of_placed}
+use Rattle.tsp_run.proofs.FitsLines.{ActsOn, AllAlive, ArePlaced, acts_fit, all_end, mark_line, of_placed, posted-joined}
 use Rattle.tsp_run.proofs.HeaderLines.{name-node_line}
 use Rattle.tsp_run.proofs.NetworkLemmas.{few_ports, goes_there, set_up}
+use Rattle.tsp_run.proofs.PossibleRun.{accepted-possible, possible_before}
 use Rattle.tsp_run.proofs.PostPlaces.{length-posts, post_at}
-use Rattle.tsp_run.proofs.RefusalLemmas.{allowed, handed-port, refusal-none, up-down}
+use Rattle.tsp_run.proofs.RefusalLemmas.{CanHappen, can_happen, up-down}
 use Rattle.tsp_run.proofs.RunLemmas.{stepped_own, stepped_other}
 use Rattle.tsp_run.proofs.SoundLemmas.{line_sound, octets_sound, sound_read}
 use Rattle.tsp_run.proofs.SoundAll.{SoundNode}
@@ -105,7 +106,7 @@ own_is : (header : HeaderValue) (step : Step) (h : List Line) (q : Port) → q.0
 own_is header step h q has = ap (λ (k : PortSetup). k.own.0) (set_up step.node q.0 0 0 (networks header) has).setup
 
 -- a step by a row that keeps what is known of each port
-by_row : (header : HeaderValue) (setting : Setting) (t : ℕ) (h : List Line) (step : Step) (row : NodeRow) → SetBy header setting → Ran header setting t h → t ≤ step.at → posted (dids h) + step_most (room (ports_on step.node (networks header))) < 2 ^ 64 →
+by_row : (header : HeaderValue) (setting : Setting) (t : ℕ) (h : List Line) (step : Step) (row : NodeRow) → SetBy header setting → Ran header setting t h → t ≤ step.at → posted (dids (joins (Some (steps header h row step)) h)) < 2 ^ 64 →
     (AllPorts (λ r. Fresh) (step_tick header step) (in_node_step step (step_tick header step) (past_of header step h)) →
     AllPorts (λ r. Ended) (step_tick header step) (spread (step_tick header step) (in_node_step step (step_tick header step) (past_of header step h)) (row (step_tick header step) (in_node_step step (step_tick header step) (past_of header step h))))) →
     (SoundNode (in_node_step step (step_tick header step) (past_of header step h)) → SoundNode (spread (step_tick header step) (in_node_step step (step_tick header step) (past_of header step h)) (row (step_tick header step) (in_node_step step (step_tick header step) (past_of header step h))))) →
@@ -126,12 +127,13 @@ by_row header setting t h step row set r later few leads soundly ok =
     (subst (λ k. Ended k (on_port q (past_of header (rests step.node) h))) (sym tick_is)
     (ended_later (tick_at (setting.rate step.node) t) (tick_at (setting.rate step.node) step.at) (on_port q (past_of header (rests step.node) h)) (tick-mono setting step.node t step.at later) (r.nodes step.node q has))) in
     let after : AllPorts (λ r. Ended) x (spread x past acts) = leads (begins_all step x x base (omega arith) (λ q has. own_is header step h q has) rested) in
-    let line = mark_line ports setting step x h tick_is (of_placed nets step.node h r.placed) (let b = r.time in omega (arith, b, later)) (omega (arith, few)) (λ q has. subst (λ s. StepEnds s (view q (of step.node h))) (setup_is header setting step h q set has) (ends_of (rested q has))) in
+    let kept : posted (dids h) ≤ posted (dids (joined step x acts (mark ∷ h))) = posted-joined step x acts (mark ∷ h) in
+    let all : posted (dids (joined step x acts (mark ∷ h))) < 2 ^ 64 = few in
+    let line = mark_line ports setting step x h tick_is (of_placed nets step.node h r.placed) (let b = r.time in omega (arith, b, later)) (omega (arith, all, kept)) (λ q has. subst (λ s. StepEnds s (view q (of step.node h))) (setup_is header setting step h q set has) (ends_of (rested q has))) in
     let own : (step.node == step.node) ≡ true = eq-eqb step.node step.node refl in
     let up_is : up (dids (of step.node (mark ∷ h))) ≡ up (dids (of step.node h)) = rw own refl in
-    let most = ok.few in
     record {
-      fits = acts_fit ports setting step x h acts first_port Begins h tick_is ok.on (inr (Within-all h)) (omega (arith, few, most))
+      fits = acts_fit ports setting step x h acts first_port Begins h tick_is ok.on (inr (Within-all h)) all
           (subst (λ b. AllAlive setting step x b acts) (sym up_is) ok.alive) ok.taken
           (λ q has. subst (λ l. PortFits (setup_of setting step.node q) (view q l)) (sym (stepped_own step.node step x acts h own)) (subst (λ k. PortFits k (view q (joined step x acts (mark ∷ of step.node h)))) (setup_is header setting step h q set has) (after q has).0.fits))
           (line, r.fits);
@@ -141,26 +143,18 @@ by_row header setting t h step row set r later few leads soundly ok =
       sound = λ n. sound_after header h step x acts r.sound (soundly (sound_begins step x base (let s = r.sound step.node in record { name = s.name; word_fits = s.word_fits; ports = s.ports; lines = s.lines }))) n (step.node == n) refl;
     }
 
--- the posts leave room
-few_posts : (header : HeaderValue) (before : List Event) (e : Event) (n : ℕ) → refusal (scene header before) e ≡ None → actor (scene header before) e ≡ Some n → posted (dids (run header before)) + step_most (room (ports_on n (networks header))) < 2 ^ 64
-few_posts header before e n none acts =
-    let a = allowed (scene header before) e none in
-    let some = a.posts n acts in
-    let same = length-posts (run header before) in
-    omega (arith, some, same)
-
 up_seen : (header : HeaderValue) (before : List Event) (n : ℕ) → down (scene header before).up (Some n) ≡ None → up (dids (of n (run header before))) ≡ true
 up_seen header before n e = up-down (scene header before) n e
 
 module _ {header : HeaderValue} {setting : Setting} (is : IsHeader header) (set : SetBy header setting) where
-  by_answers : (before : List Event) (e : Event) (step : Step) (g : NodeGiven) → Ran header setting (last_at before) (run header before) → refusal (scene header before) e ≡ None → actor (scene header before) e ≡ Some step.node →
+  by_answers : (before : List Event) (step : Step) (g : NodeGiven) → Ran header setting (last_at before) (run header before) → posted (dids (joins (Some (steps header (run header before) (answers_all g) step)) (run header before))) < 2 ^ 64 →
       (scene header before).last ≤ step.at → up (dids (of step.node (run header before))) ≡ true → GivenOn g (past_of header step (run header before)) → IsSoundInput g →
       StepOk (length (ports_on step.node (networks header))) (room (ports_on step.node (networks header))) setting step (step_tick header step) (run header before) true (answers_all g (step_tick header step) (in_node_step step (step_tick header step) (past_of header step (run header before)))) →
       Ran header setting step.at (joins (Some (steps header (run header before) (answers_all g) step)) (run header before))
-  by_answers before e step g r none acts later is_up given sound ok =
+  by_answers before step g r few later is_up given sound ok =
       let x : ℕ = step_tick header step in
       let past : NodePast = in_node_step step x (past_of header step (run header before)) in
-      by_row header setting (last_at before) (run header before) step (answers_all g) set r later (few_posts header before e step.node none acts)
+      by_row header setting (last_at before) (run header before) step (answers_all g) set r later few
       (λ fresh. (answers_all_end g).run x past (given-in g given, fresh)) ((sound_answers_all g sound).run x past)
       (subst (λ b. StepOk (length (ports_on step.node (networks header))) (room (ports_on step.node (networks header))) setting step x (run header before) b (answers_all g x past)) (sym is_up) ok)
     where
@@ -196,68 +190,72 @@ module _ {header : HeaderValue} {setting : Setting} (is : IsHeader header) (set 
   four : (n : ℕ) → length (ports_on n (networks header)) ≤ 4
   four n = few_ports header is n
 
-  nobody-acts : (before : List Event) (at k : ℕ) → Ran header setting (last_at before) (run header before) → refusal (scene header before) (Take at k) ≡ None → Ran header setting at (run header before)
-  nobody-acts before at k r none = record {
+  nobody-acts : (before : List Event) (at k : ℕ) → Ran header setting (last_at before) (run header before) → CanHappen (scene header before) (Take at k) → Ran header setting at (run header before)
+  nobody-acts before at k r can = record {
     fits = r.fits;
     placed = r.placed;
-    time = (let b = r.time in let c = (allowed (scene header before) (Take at k) none).time in omega (arith, b, c));
-    nodes = λ n q has. ended_later (tick_at (setting.rate n) (last_at before)) (tick_at (setting.rate n) at) (on_port q (past_of header (rests n) (run header before))) (tick-mono setting n (last_at before) at (allowed (scene header before) (Take at k) none).time) (r.nodes n q has);
+    time = (let b = r.time in let c = can.time in omega (arith, b, c));
+    nodes = λ n q has. ended_later (tick_at (setting.rate n) (last_at before)) (tick_at (setting.rate n) at) (on_port q (past_of header (rests n) (run header before))) (tick-mono setting n (last_at before) at can.time) (r.nodes n q has);
     sound = r.sound;
   }
 
-  taken_step : (before : List Event) (at k : ℕ) (o : Option Posted) → Ran header setting (last_at before) (run header before) → refusal (scene header before) (Take at k) ≡ None → slice_get (posts (run header before)) k ≡ o →
-      Ran header setting at (joins (reaches header (run header before) at k (arrives (networks header) o)) (run header before))
-  taken_step before at k None r none there = nobody-acts before at k r none
-  taken_step before at k (Some p) r none there = arrived (address_of (networks header) p.from p.port p.to) refl where
-    arrived : (o : Option Address) → address_of (networks header) p.from p.port p.to ≡ o → Ran header setting at (joins (reaches header (run header before) at k (arrives_at p o)) (run header before))
-    arrived None e = nobody-acts before at k r none
-    arrived (Some a) e =
-        let allow = allowed (scene header before) (Take at k) none in
+  taken_step : (before : List Event) (at k : ℕ) (o : Option Posted) → Ran header setting (last_at before) (run header before) → CanHappen (scene header before) (Take at k) → slice_get (posts (run header before)) k ≡ o →
+      posted (dids (joins (reaches header (run header before) at k (arrives (networks header) o)) (run header before))) < 2 ^ 64 → Ran header setting at (joins (reaches header (run header before) at k (arrives (networks header) o)) (run header before))
+  taken_step before at k None r can there few = nobody-acts before at k r can
+  taken_step before at k (Some p) r can there few = arrived (address_of (networks header) p.from p.port p.to) refl few where
+    arrived : (o : Option Address) → address_of (networks header) p.from p.port p.to ≡ o → posted (dids (joins (reaches header (run header before) at k (arrives_at p o)) (run header before))) < 2 ^ 64 →
+        Ran header setting at (joins (reaches header (run header before) at k (arrives_at p o)) (run header before))
+    arrived None e few = nobody-acts before at k r can
+    arrived (Some a) e few =
         let sound = post_sound before (last_at before) k p r there in
         let step : Step = record { at = at; node = a.node; cause = Came k } in
         let goes : node_in (goes_to (networks header) (slice_get (posts (run header before)) k)) ≡ Some a.node = ap (λ q. node_in (goes_to (networks header) q)) there ∙ ap (λ q. node_in q) e in
-        let is_up : up (dids (of a.node (run header before))) ≡ true = up_seen header before a.node (ap (λ q. down (scene header before).up q) (sym goes) ∙ allow.up) in
+        let is_up : up (dids (of a.node (run header before))) ≡ true = up_seen header before a.node (ap (λ q. down (scene header before).up q) (sym goes) ∙ can.up) in
         let has = (goes_there (networks header) p.from p.port p.to a e).has in
-        by_answers before (Take at k) step (GotOn a.port (Peer (peer_of p.from)) (taken_of (canon p.datagram))) r none goes allow.time is_up has
+        by_answers before step (GotOn a.port (Peer (peer_of p.from)) (taken_of (canon p.datagram))) r few can.time is_up has
         (rw (sound_read p.datagram sound) sound)
         (got_ok setting step (step_tick header step) (run header before) (in_node_step step (step_tick header step) (past_of header step (run header before))) a.port (Peer (peer_of p.from)) (taken_of (canon p.datagram)) (four a.node) has (came before at k p a sound there e))
 
-  event_ran : (before : List Event) (e : Event) → Ran header setting (last_at before) (run header before) → IsInRange e → refusal (scene header before) e ≡ None → Ran header setting (event_at e) (joins (happening header (run header before) e) (run header before))
-  event_ran before (BootAt at node word) r range none =
-      let allow = allowed (scene header before) (BootAt at node word) none in
+  event_ran : (before : List Event) (e : Event) → Ran header setting (last_at before) (run header before) → IsInRange e → CanHappen (scene header before) e → posted (dids (run header (e ∷ before))) < 2 ^ 64 → Ran header setting (event_at e) (run header (e ∷ before))
+  event_ran before (BootAt at node word) r range can few =
       let step : Step = boot_step header at node word in
       let x : ℕ = step_tick header step in
       let past : NodePast = in_node_step step x (past_of header step (run header before)) in
-      by_row header setting (last_at before) (run header before) step boots_all set r allow.time (few_posts header before (BootAt at node word) node none refl)
+      by_row header setting (last_at before) (run header before) step boots_all set r can.time few
       (boots_all_lead.run x past) (sound_boots_all x past word _ refl range)
       (boot_ok setting step x (run header before) (up (dids (of node (run header before)))) past word (four node) (ap (λ w. Booted word (w +ℤ pos (tick_at (node_line header node).rate at))) (sym (set.wall_is node))))
-  event_ran before (Turn at node) r range none =
-      let allow = allowed (scene header before) (Turn at node) none in
+  event_ran before (Turn at node) r range can few =
       let step : Step = record { at = at; node = node; cause = Turned } in
-      by_answers before (Turn at node) step NodeTurn r none refl allow.time (up_seen header before node allow.up) tt tt (turn_ok setting step (step_tick header step) (run header before) (in_node_step step (step_tick header step) (past_of header step (run header before))) (four node))
-  event_ran before (Take at k) r range none = taken_step before at k (slice_get (posts (run header before)) k) r none refl
-  event_ran before (Bytes at node port from octets) r range none =
-      let allow = allowed (scene header before) (Bytes at node port from octets) none in
+      by_answers before step NodeTurn r few can.time (up_seen header before node can.up) tt tt (turn_ok setting step (step_tick header step) (run header before) (in_node_step step (step_tick header step) (past_of header step (run header before))) (four node))
+  event_ran before (Take at k) r range can few = taken_step before at k (slice_get (posts (run header before)) k) r can refl few
+  event_ran before (Bytes at node port from octets) r range can few =
       let step : Step = record { at = at; node = node; cause = Handed } in
-      let has = handed-port (scene header before) at node port from octets (refusal-none (scene header before) (Bytes at node port from octets) none).node in
-      by_answers before (Bytes at node port from octets) step (GotOn port from (taken_of octets)) r none refl allow.time (up_seen header before node allow.up) has (octets_sound octets range)
+      let has = can.node.1 in
+      by_answers before step (GotOn port from (taken_of octets)) r few can.time (up_seen header before node can.up) has (octets_sound octets range)
       (got_ok setting step (step_tick header step) (run header before) (in_node_step step (step_tick header step) (past_of header step (run header before))) port from (taken_of octets) (four node) has tt)
 
-  pub ran : (events : List Event) → All IsInRange events → Valid header events → Ran header setting (last_at events) (run header events)
-  ran [] ranges v = record {
+  pub ran : (events : List Event) → Possible header events → Ran header setting (last_at events) (run header events)
+  ran [] p = record {
     fits = tt;
     placed = tt;
     time = omega arith;
     nodes = λ n q has. nothing-done (tick_at (setting.rate n) 0) (on_port q (past_of header (rests n) []));
     sound = λ n. record { name = name-node_line header is n; word_fits = omega arith; ports = four n; lines = tt };
   }
-  ran (e ∷ before) ranges v = event_ran before e (ran before (All-tail IsInRange e before ranges) v.1) (All-head IsInRange e before ranges) v.0
+  ran (e ∷ before) p =
+      let few = p.few in
+      let same = length-posts (run header (e ∷ before)) in
+      event_ran before e (ran before (possible_before header e before p)) (All-head IsInRange e before p.ranges) (can_happen (scene header before) e p.happens.0) (omega (arith, few, same))
 
--- the history of every schedule fits, and ends where a step ends
-pub runs-fit : RunsFit
-runs-fit header setting events set s =
-    let r = ran s.header_is set events s.ranges s.valid in (
+-- the history of every possible schedule fits, and ends where a step ends
+pub possible-runs-fit : PossibleRunsFit
+possible-runs-fit header setting events set p =
+    let r = ran p.header_is set events p in (
       r.fits,
       λ n q. all_end (setup_of setting n q) (length (ports_on n (networks header))) q (of n (run header events)) (of_placed (networks header) n (run header events) r.placed)
           (λ has. subst (λ k. StepEnds k (view q (of n (run header events)))) (setup_is header setting (rests n) (run header events) q set has) (ends_of (r.nodes n q has))),
     )
+
+-- so does that of every accepted one
+pub runs-fit : RunsFit
+runs-fit header setting events set a = possible-runs-fit header setting events set (accepted-possible header events a)

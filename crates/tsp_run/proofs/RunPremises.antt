@@ -1,25 +1,30 @@
--- The premises of the promises hold of a run where they hold of its text.
-use Rattle.tsp_run.specs.Premised.{RunsKeepPremises}
+-- The premises of the promises hold of a possible schedule's run if they hold of its text.
+use Rattle.tsp_run.specs.Premised.{PossibleRunsKeepPremises, RunsKeepPremises}
 use Rattle.tsp_run.specs.Run.{run}
 use Rattle.tsp_run.proofs.ApartRun.{apart-words}
 use Rattle.tsp_run.proofs.NamesRun.{names-apart}
 use Rattle.tsp_run.proofs.PromptRun.{prompt-life}
 use Rattle.tsp_run.proofs.SealedRun.{sealed-honest}
 use Rattle.tsp_run.proofs.OnlyThen.{honest-sealed, words-apart}
-use Rattle.tsp_run.proofs.RunFits.{runs-fit}
+use Rattle.tsp_run.proofs.PossibleRun.{accepted-possible}
+use Rattle.tsp_run.proofs.RunFits.{possible-runs-fit}
 use Rattle.tsp_run.proofs.SettingLemmas.{each-is-set}
 use Rattle.tsp_run.proofs.ShortRun.{own-few, short-few}
 use Rattle.tsp_promises.proofs.WordsProof.{own_words}
 
-pub runs-keep-premises : RunsKeepPremises
-runs-keep-premises header events a = record {
-  honest = λ s. sealed-honest header events a s;
-  only_honest = λ h. honest-sealed header events a h;
-  life = λ p. prompt-life header events p;
-  words = λ w. apart-words header events a w;
-  only_words = λ w. words-apart header events a w;
-  own_words = λ w. own_words (run header events) (apart-words header events a w);
+pub possible-runs-keep-premises : PossibleRunsKeepPremises
+possible-runs-keep-premises header events p = record {
+  honest = λ s. sealed-honest header events p s;
+  only_honest = λ h. honest-sealed header events p h;
+  life = λ early. prompt-life header events early;
+  words = λ w. apart-words header events p w;
+  only_words = λ w. words-apart header events p w;
+  own_words = λ w. own_words (run header events) (apart-words header events p w);
   few = λ s. short-few (run header events) s;
-  few_own = λ s. let set = each-is-set header a.header_is in own-few set.0 (run header events) (runs-fit header set.0 events set.1 a).0 s;
-  names = λ setting set differ. names-apart header setting events set a differ;
+  few_own = λ s. let set = each-is-set header p.header_is in own-few set.0 (run header events) (possible-runs-fit header set.0 events set.1 p).0 s;
+  names = λ setting set differ. names-apart header setting events set p differ;
 }
+
+-- so do they of an accepted one's
+pub runs-keep-premises : RunsKeepPremises
+runs-keep-premises header events a = possible-runs-keep-premises header events (accepted-possible header events a)

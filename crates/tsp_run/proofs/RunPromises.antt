@@ -1,4 +1,4 @@
--- The history of every schedule keeps the promises.
+-- The history of every possible schedule keeps the promises, and so does that of every accepted one.
 use Rattle.std.specs.Prelude.{◌≡◌, ℕ, List, ◌∷◌, Some, slice_get}
 use Rattle.tsp_rules.specs.Values.{Good, Event, LIFE}
 use Rattle.tsp_base.specs.Words.{HeaderValue, Line}
@@ -18,9 +18,10 @@ use Rattle.tsp_promises.proofs.SafeProof.{safe}
 use Rattle.tsp_run.specs.declared.posted.Posted.{Posted}
 use Rattle.tsp_run.specs.Ranges.{Accepted}
 use Rattle.tsp_run.specs.Run.{last_at, posts, run}
-use Rattle.tsp_run.specs.Setting.{RunsKeepPromises}
+use Rattle.tsp_run.specs.Setting.{PossibleRunsKeepPromises, RunsKeepPromises}
 use Rattle.tsp_run.proofs.AnswerOctetsProof.{answer_octets}
-use Rattle.tsp_run.proofs.RunFits.{post_sound, ran, runs-fit}
+use Rattle.tsp_run.proofs.PossibleRun.{accepted-possible}
+use Rattle.tsp_run.proofs.RunFits.{possible-runs-fit, post_sound, ran}
 use Rattle.tsp_run.proofs.SettingLemmas.{each-is-set}
 use Rattle.tsp_run.proofs.SoundLemmas.{sound_read}
 
@@ -31,9 +32,9 @@ dated setting world f = record {
       date_confirmed setting l s (fits_at setting (l ∷ s) world f w) (Everywhere-within HonestAt (l ∷ s) world honest w) (Everywhere-within (TakenWithinAt LIFE) (l ∷ s) world life w) (Everywhere-within FewAt (l ∷ s) world few w));
 }
 
-pub runs-keep-promises : RunsKeepPromises
-runs-keep-promises header setting events set s =
-    let f = runs-fit header setting events set s in
+pub possible-runs-keep-promises : PossibleRunsKeepPromises
+possible-runs-keep-promises header setting events set p =
+    let f = possible-runs-fit header setting events set p in
     let all = safe setting (run header events) f.0 f.1 in
     record {
       safe = all;
@@ -43,8 +44,11 @@ runs-keep-promises header setting events set s =
       answer_octets = answer_octets setting (run header events) all.answered.strangers;
     }
 
+pub runs-keep-promises : RunsKeepPromises
+runs-keep-promises header setting events set a = possible-runs-keep-promises header setting events set (accepted-possible header events a)
+
 -- what the posts of a schedule's run carry is read as it was posted
 pub posted-read : (header : HeaderValue) (events : List Event) → Accepted header events → (k : ℕ) (p : Posted) → slice_get (posts (run header events)) k ≡ Some p → taken_of (canon p.datagram) ≡ Good p.datagram
 posted-read header events s k p there =
     let set = each-is-set header s.header_is in
-    sound_read p.datagram (post_sound s.header_is set.1 events (last_at events) k p (ran s.header_is set.1 events s.ranges s.valid) there)
+    sound_read p.datagram (post_sound s.header_is set.1 events (last_at events) k p (ran s.header_is set.1 events (accepted-possible header events s)) there)

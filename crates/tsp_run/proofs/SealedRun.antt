@@ -10,13 +10,15 @@ use Rattle.tsp_rules.proofs.FewActs.{is_calm_act}
 use Rattle.tsp_rules.specs.Strangers.{is_stranger}
 use Rattle.tsp_rules.specs.GateRows.{GotOn, answers_all}
 use Rattle.tsp_run.specs.Premised.{IsSealed, Sealed}
+use Rattle.tsp_run.specs.Possible.{Possible}
 use Rattle.tsp_run.specs.Ranges.{Accepted, IsInRange}
-use Rattle.tsp_run.specs.Refusals.{refusal, scene}
+use Rattle.tsp_run.specs.Refusals.{impossible, scene}
 use Rattle.tsp_run.specs.Run.{Happening, joins, run, step_tick}
 use Rattle.tsp_run.proofs.CalmAll.{AreCalm}
 use Rattle.tsp_run.proofs.EachLine.{each_event}
 use Rattle.tsp_run.proofs.Happens.{acts_by, got_acts, steps-are}
-use Rattle.tsp_run.proofs.RefusalLemmas.{handed-port, refusal-none}
+use Rattle.tsp_run.proofs.PossibleRun.{possible_before}
+use Rattle.tsp_run.proofs.RefusalLemmas.{can_happen}
 
 -- what was accepted before the last event
 pub accepted_before : (header : HeaderValue) (e : Event) (before : List Event) → Accepted header (e ∷ before) → Accepted header before
@@ -59,13 +61,13 @@ unforged at node port (Peer p) octets e = absurd e
 unforged at node port Stranger octets e = refl
 
 module _ {header : HeaderValue} (is : IsHeader header) (before : List Event) (honest : Honest (run header before)) where
-  honest-event : (e : Event) → refusal (scene header before) e ≡ None → IsSealed e → Honest (run header (e ∷ before))
+  honest-event : (e : Event) → impossible (scene header before) e ≡ None → IsSealed e → Honest (run header (e ∷ before))
   honest-event (BootAt at node word) none f = each_event HonestAt header before honest (BootAt at node word) (λ step x c port deed h handed. let is = c.1 in let no : ⊥ = cc in absurd no)
   honest-event (Turn at node) none f = each_event HonestAt header before honest (Turn at node) (λ step x c port deed h handed. let no : ⊥ = cc in absurd no)
   honest-event (Take at k) none f = each_event HonestAt header before honest (Take at k) (λ step x c port deed h handed. let no : ⊥ = cc in absurd no)
   honest-event (Bytes at node port from octets) none f =
       let step : Step = record { at = at; node = node; cause = Handed } in
-      let has = handed-port (scene header before) at node port from octets (refusal-none (scene header before) (Bytes at node port from octets) none).node in
+      let has = (can_happen (scene header before) (Bytes at node port from octets) none).node.1 in
       let once = got_acts is (run header before) step port from (taken_of octets) has in
       let strange = unforged at node port from octets f in
       let rest : TakeNone (record { port = port; act = Took from (taken_of octets) } ∷ once.after) = ((λ p t. stranger-takes from (taken_of octets) p t strange), take-none-all _ _ once.after once.calm_after) in
@@ -74,6 +76,6 @@ module _ {header : HeaderValue} (is : IsHeader header) (before : List Event) (ho
       (subst TakeNone (sym once.is) (take-none _ _ once.before _ once.calm_before rest)) honest)
 
 -- so is each run
-pub sealed-honest : (header : HeaderValue) (events : List Event) → Accepted header events → Sealed events → Honest (run header events)
-sealed-honest header [] a h = tt
-sealed-honest header (e ∷ before) a h = honest-event a.header_is before (sealed-honest header before (accepted_before header e before a) h.1) e a.valid.0 h.0
+pub sealed-honest : (header : HeaderValue) (events : List Event) → Possible header events → Sealed events → Honest (run header events)
+sealed-honest header [] p h = tt
+sealed-honest header (e ∷ before) p h = honest-event p.header_is before (sealed-honest header before (possible_before header e before p) h.1) e p.happens.0 h.0

@@ -18,7 +18,7 @@ body_writable (Hops h) s = s
 body_writable (TimeBody t) s = s
 
 -- what is sound can be written, and is read as it was
-sound_writable : (d : Datagram) → IsSound d → IsWritable d
+pub sound_writable : (d : Datagram) → IsSound d → IsWritable d
 sound_writable (Message m) s = (s.0, s.1, s.2, body_writable m.body s.3)
 sound_writable (Stamp (Request word counter)) s = s
 sound_writable (Stamp (Reply r)) s = s

@@ -1,6 +1,8 @@
 pub mod AnswerOctets
+pub mod AnswerOctetsBroken
 pub mod GatewayRun
 pub mod Networks
+pub mod Possible
 pub mod Premised
 pub mod Promises
 pub mod Ranges

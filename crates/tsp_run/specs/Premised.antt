@@ -8,6 +8,7 @@ use Rattle.tsp_promises.specs.Fits.{node_of}
 use Rattle.tsp_promises.specs.Premises.{Few, Honest, Life, NamesApart, OwnWords, Words}
 use Rattle.tsp_promises.specs.Setting.{Setting}
 use Rattle.tsp_run.specs.declared.posted.Posted.{Posted}
+use Rattle.tsp_run.specs.Possible.{Possible}
 use Rattle.tsp_run.specs.Ranges.{Accepted}
 use Rattle.tsp_run.specs.Run.{posts, run}
 use Rattle.tsp_run.specs.Setting.{SetBy}
@@ -90,6 +91,10 @@ pub record KeptByText (header : HeaderValue) (events : List Event) : Type 0 wher
   pub few_own : OwnShort header events → Few (run header events)
   pub names : (setting : Setting) → SetBy header setting → NamesDiffer header → NamesApart setting (run header events)
 
--- the same of every schedule
+-- the same of every accepted schedule
 abbrev pub RunsKeepPremises : Type 0
 RunsKeepPremises = (header : HeaderValue) (events : List Event) → Accepted header events → KeptByText header events
+
+-- the same of every possible schedule
+abbrev pub PossibleRunsKeepPremises : Type 0
+PossibleRunsKeepPremises = (header : HeaderValue) (events : List Event) → Possible header events → KeptByText header events

@@ -118,6 +118,11 @@ abbrev pub refusal : Scene → Event → Option EventFault
 refusal s e =
     first_of (time_back (event_at e) s.last) (first_of (no_node s e) (first_of (no_datagram (length s.posts) e) (first_of (not_up s e) (limit s.events (length s.posts) (room_at s.networks (actor s e))))))
 
+-- why an event can't happen, if it can't: the first cause of time, node, datagram and not booted. The limits of a replay
+-- are no such cause
+abbrev pub impossible : Scene → Event → Option EventFault
+impossible s e = first_of (time_back (event_at e) s.last) (first_of (no_node s e) (first_of (no_datagram (length s.posts) e) (not_up s e)))
+
 -- none of these events is refused after those before it
 abbrev pub Valid : HeaderValue → List Event → Type 0
 Valid header [] = Unit {0}

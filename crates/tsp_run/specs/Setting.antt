@@ -4,6 +4,7 @@ use Rattle.tsp_rules.specs.Values.{Event, PeerId, Port}
 use Rattle.tsp_base.specs.Words.{HeaderValue, IsHeader, peer_of}
 use Rattle.tsp_promises.specs.Fits.{Fits, Finished}
 use Rattle.tsp_promises.specs.Setting.{Alone, Named, Network, Setting}
+use Rattle.tsp_run.specs.Possible.{Possible}
 use Rattle.tsp_run.specs.Promises.{Promises}
 use Rattle.tsp_run.specs.Ranges.{Accepted}
 use Rattle.tsp_run.specs.Run.{run}
@@ -42,6 +43,14 @@ RunsFit = (header : HeaderValue) (setting : Setting) (events : List Event) → S
 -- the history of every accepted schedule keeps the promises
 abbrev pub RunsKeepPromises : Type 0
 RunsKeepPromises = (header : HeaderValue) (setting : Setting) (events : List Event) → SetBy header setting → Accepted header events → Promises setting (run header events)
+
+-- the history of every possible schedule fits, and ends where a step ends
+abbrev pub PossibleRunsFit : Type 0
+PossibleRunsFit = (header : HeaderValue) (setting : Setting) (events : List Event) → SetBy header setting → Possible header events → Fits setting (run header events) × Finished setting (run header events)
+
+-- the history of every possible schedule keeps the promises
+abbrev pub PossibleRunsKeepPromises : Type 0
+PossibleRunsKeepPromises = (header : HeaderValue) (setting : Setting) (events : List Event) → SetBy header setting → Possible header events → Promises setting (run header events)
 
 -- every header has a setting
 abbrev pub EachIsSet : Type 0

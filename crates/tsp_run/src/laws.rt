@@ -1,6 +1,9 @@
 //! Theorems about every schedule. Nothing here runs.
-ghost use Rattle.tsp_run.specs.Premised.{RunsKeepPremises};
-ghost use Rattle.tsp_run.specs.Setting.{EachIsSet, RunsFit, RunsKeepPromises};
+ghost use Rattle.tsp_run.specs.AnswerOctetsBroken.{AnswerOctetsBreak};
+ghost use Rattle.tsp_run.specs.Possible.{AcceptedIsPossible};
+ghost use Rattle.tsp_run.specs.Premised.{PossibleRunsKeepPremises, RunsKeepPremises};
+ghost use Rattle.tsp_run.specs.Setting.{EachIsSet, PossibleRunsFit, PossibleRunsKeepPromises};
+ghost use Rattle.tsp_run.specs.Setting.{RunsFit, RunsKeepPromises};
 ghost use Rattle.tsp_run.specs.GatewayRun.{JoinsTwoNetworks};
 
 /// The history of every accepted schedule fits, whatever octets its events bring: each line is one
@@ -15,10 +18,39 @@ pub fn runs_keep_promises()
     ensures { RunsKeepPromises }
 {}
 
+/// The promise of the octets of answers says something: small histories break it.
+pub fn answer_octets_can_be_broken()
+    ensures { AnswerOctetsBreak }
+{}
+
 /// A premise of the promises holds of a run if its counterpart holds of the text of its schedule,
 /// so a reader can check it there.
 pub fn runs_keep_premises()
     ensures { RunsKeepPremises }
+{}
+
+/// The history of every possible schedule fits: of every one whose events can happen, however many
+/// they are, and whose run posts fewer than 2^64 datagrams. A replay's limits aren't asked for.
+pub fn possible_runs_fit()
+    ensures { PossibleRunsFit }
+{}
+
+/// The history of every possible schedule keeps the promises, each under the premises that it
+/// needs.
+pub fn possible_runs_keep_promises()
+    ensures { PossibleRunsKeepPromises }
+{}
+
+/// A premise of the promises holds of a possible schedule's run if its counterpart holds of the
+/// schedule's text.
+pub fn possible_runs_keep_premises()
+    ensures { PossibleRunsKeepPremises }
+{}
+
+/// Every accepted schedule is possible: what isn't refused can happen, and within a replay's limits
+/// fewer than 2^64 datagrams are posted.
+pub fn accepted_is_possible()
+    ensures { AcceptedIsPossible }
 {}
 
 /// Every header has a setting, so `runs_fit` and `runs_keep_promises` say something of each.

@@ -11,9 +11,10 @@
 //!
 //! Read `specs/` in this order: `Networks` (who is on which network), `Setup` (a node's past in a
 //! history), `Run` (events to a history, and the lines of its trace), `Refusals` (why an event is
-//! refused), `Setting` and `Promises` (what is promised of the history), and `Premised` (what the
-//! promises ask of the schedule's text). [`laws`] has the theorems: `runs_fit`,
-//! `runs_keep_promises` and `runs_keep_premises`.
+//! refused), `Possible` (which events can happen, however many they are), `Setting` and `Promises`
+//! (what is promised of the history), and `Premised` (what the promises ask of the schedule's
+//! text). [`laws`] has the theorems: `runs_fit`, `runs_keep_promises` and `runs_keep_premises`, and
+//! the same of possible schedules.
 //!
 //! # What is proved
 //!
@@ -21,7 +22,12 @@
 //!
 //! - The history of every schedule, over its networks, fits and keeps the promises, in strict elections that
 //!   of one winner too, and those of dates and LOOPs (`runs_fit`, `runs_keep_promises`).
+//! - The promise of the octets of answers isn't always true (`answer_octets_can_be_broken`).
 //! - It keeps a premise if its text does (`runs_keep_premises`).
+//! - The same is so without the limits of a replay, however many events there are, if each can
+//!   happen and fewer than 2^64 datagrams are posted (`possible_runs_fit`,
+//!   `possible_runs_keep_promises`, `possible_runs_keep_premises`). Every accepted schedule is such
+//!   a one (`accepted_is_possible`).
 //! - The worked run on two networks gives its acts (`joins_two_networks`).
 #![tactic(auto)]
 

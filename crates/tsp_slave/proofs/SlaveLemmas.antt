@@ -51,11 +51,11 @@ AlsoStands_election_of p number =
     (AlsoStands_posts p Refuse number refl)
 
 pub AlsoStands_acknowledges : (p : PeerId) (number : ℕ) → Keeps AlsoStands (acknowledges p number)
-AlsoStands_acknowledges p number = AlsoStands_by (acknowledges p number) (emits_built refl (built_acknowledges p number))
+AlsoStands_acknowledges p number = AlsoStands_by (acknowledges p number) (emits_built refl (built_acknowledges p number tt))
 
 pub AlsoStands_reports_conflict : (q : PeerId) → Keeps AlsoStands (reports_conflict q)
 unfolding reports_conflict
-AlsoStands_reports_conflict q = AlsoStands_by (reports_conflict q) (emits_built refl (built_reports_conflict q))
+AlsoStands_reports_conflict q = AlsoStands_by (reports_conflict q) (emits_built refl (built_reports_conflict q tt))
 
 -- a call on the station in a step that has acted, since it has taken something
 pub Performs_since_taken : {row : Row} {x : ℕ} {port : Port} {before after : Station} (last : LastValue) (clock : ClockValue) (took : Option Received) (r : Received) {old new : List Placed} → took ≡ Some r → Keeps AlsoStands row →

@@ -52,7 +52,7 @@ returns-then-acts_now-clause-corrects g c past took s h =
 
 pub returns-else-acts_now-clause-corrects : goal.returns-else-acts_now-clause-corrects
 returns-else-acts_now-clause-corrects g c past took s h =
-    tells_still (emits_built refl (built_acks_repeat c.args.from c.number-number.result tt)) (c.ack_repeat.ensures.row c.args.clock.now took) past h
+    tells_still (emits_built refl (built_acks_repeat c.args.from c.number-number.result tt tt)) (c.ack_repeat.ensures.row c.args.clock.now took) past h
 
 pub returns-else-acts_now-clause-row : goal.returns-else-acts_now-clause-row
 returns-else-acts_now-clause-row g c took s =

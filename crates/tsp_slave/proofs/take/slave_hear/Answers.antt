@@ -28,7 +28,7 @@ pub returns-else-is_correction-clause-corrects : goal.returns-else-is_correction
 returns-else-is_correction-clause-corrects g c past took e h =
     let m = c.args.m.now in
     let other : is_correction m.kind ≡ false = ap is_correction (sym c.kind.ensures) ∙ (sym c.is_correction.ensures ∙ c.if-is_correction.false) in
-    tells_still (Emits_more unmoved_sorts refl (emits_built (slave_part_unmoved m.kind other) (built_slave_takes c.args.from m tt))) (c.hear_other.ensures.row took e) past h
+    tells_still (Emits_more unmoved_sorts refl (emits_built (slave_part_unmoved m.kind other) (built_slave_takes c.args.from m tt tt))) (c.hear_other.ensures.row took e) past h
 
 pub hear_other-requires-clause-other : goal.hear_other-requires-clause-other
 hear_other-requires-clause-other g c = ap is_correction (sym c.kind.ensures) ∙ (sym c.is_correction.ensures ∙ c.if-is_correction.false)

@@ -4,6 +4,7 @@ use Rattle.tsp_rules.specs.Values.{CloseAlarm}
 use Rattle.tsp_rules.specs.Answers.{rings}
 use Rattle.tsp_rules.specs.GateRows.{alarm_on, closes_on, leads_clock}
 use Rattle.tsp_rules.specs.NodeRows.{on_port}
+use Rattle.tsp_master.specs.MasterAlarms.{IsInTurn}
 use Rattle.tsp_node.proofs.TakeEmits.{emits_rings}
 use Rattle.tsp_gateway.specs.GatewayStands.{port_at}
 use Rattle.tsp_gateway.proofs.LiftLemmas.{All_reading, part_there}
@@ -11,18 +12,16 @@ use Rattle.tsp_gateway.proofs.PlaceLemmas.{peers_there, places, ports_few, ports
 use Rattle.tsp_gateway.proofs.StirLemmas.{All_calm, All_upset, untaken_there}
 use Rattle.tsp_gateway.proofs.gateway.Gateway.close.Goals as goal
 
-pub ring-requires-clause-order : goal.ring-requires-clause-order
-ring-requires-clause-order g c e = c.requires.order c.index_mut.result.now (part_there c.args.self.now c.args.q c.index_mut.result.now c.requires.port c.index_mut.ensures.value)
-
 pub returns-then-ring-clause-row : goal.returns-then-ring-clause-row
 unfolding alarm_on closes_on
 returns-then-ring-clause-row g c =
     let q = c.args.q in
     let own = c.leads_clock-own.result in
     let there = part_there c.args.self.now q c.index_mut.result.now c.requires.port c.index_mut.ensures.value in
+    let turn : IsInTurn CloseAlarm c.index_mut.result.now.station.alarms c.args.tick = λ e. c.requires.order c.index_mut.result.now there in
     All_reading (leads_clock (port_at q)) (closes_on (port_at q)) own (λ past h. sym (c.leads_clock-own.ensures c.args.tick past h.stands))
-    (All_upset c.ring.new.self (rings own false CloseAlarm) (emits_rings own false CloseAlarm) (λ past w. sym (c.ring.ensures.corrects (on_port (port_at q) past) (untaken_there _ q past c.args.self.now c.index_mut.result.now there w)) ∙ c.if-ring.true)
-    there refl refl (rw c.port_at.ensures at c.ring.ensures.row) (c.upset.ensures.row c.args.tick))
+    (All_upset c.ring.new.self (rings own false CloseAlarm) (emits_rings own false CloseAlarm) (λ past w. sym (c.ring.ensures.corrects turn (on_port (port_at q) past) (untaken_there _ q past c.args.self.now c.index_mut.result.now there w)) ∙ c.if-ring.true)
+    there refl refl (rw c.port_at.ensures at (c.ring.ensures.row turn)) (c.upset.ensures.row c.args.tick))
 
 pub returns-else-ring-clause-row : goal.returns-else-ring-clause-row
 unfolding alarm_on closes_on
@@ -30,9 +29,10 @@ returns-else-ring-clause-row g c =
     let q = c.args.q in
     let own = c.leads_clock-own.result in
     let there = part_there c.args.self.now q c.index_mut.result.now c.requires.port c.index_mut.ensures.value in
+    let turn : IsInTurn CloseAlarm c.index_mut.result.now.station.alarms c.args.tick = λ e. c.requires.order c.index_mut.result.now there in
     All_reading (leads_clock (port_at q)) (closes_on (port_at q)) own (λ past h. sym (c.leads_clock-own.ensures c.args.tick past h.stands))
-    (All_calm c.ring.new.self (rings own false CloseAlarm) (emits_rings own false CloseAlarm) (λ past w. sym (c.ring.ensures.corrects (on_port (port_at q) past) (untaken_there _ q past c.args.self.now c.index_mut.result.now there w)) ∙ c.if-ring.false)
-    there refl refl (rw c.port_at.ensures at c.ring.ensures.row))
+    (All_calm c.ring.new.self (rings own false CloseAlarm) (emits_rings own false CloseAlarm) (λ past w. sym (c.ring.ensures.corrects turn (on_port (port_at q) past) (untaken_there _ q past c.args.self.now c.index_mut.result.now there w)) ∙ c.if-ring.false)
+    there refl refl (rw c.port_at.ensures at (c.ring.ensures.row turn)))
 
 pub ring-requires-clause-room : goal.ring-requires-clause-room
 ring-requires-clause-room g c = let many = peers_there c.args.self.now.ports.items c.args.q c.index_mut.result.now (part_there c.args.self.now c.args.q c.index_mut.result.now c.requires.port c.index_mut.ensures.value) in omega (arith, many, c.requires.room)

@@ -13,7 +13,7 @@ pub returns-clause-row : goal.returns-clause-row
 returns-clause-row g c =
     let there = part_there c.args.self.now c.args.q c.index_mut.result.now c.requires.port c.index_mut.ensures.value in
     let row = rings true c.args.wait c.args.alarm in
-    All_rung c.ring.new.self row (emits_rings true c.args.wait c.args.alarm) (rings_still true c.args.wait c.args.alarm (moves_not c.args.alarm c.requires.alarm)) there refl refl (rw c.port_at.ensures at c.ring.ensures.row)
+    All_rung c.ring.new.self row (emits_rings true c.args.wait c.args.alarm) (rings_still true c.args.wait c.args.alarm (moves_not c.args.alarm c.requires.alarm)) there refl refl (rw c.port_at.ensures at (c.ring.ensures.row (λ e. absurd (c.requires.alarm e))))
 
 pub returns-clause-over : goal.returns-clause-over
 returns-clause-over g c e part is = subst (λ (p : Part). is_over p.station.alarms.probe c.args.tick ≡ false) (set_there c.args.self.now.ports.items c.args.q c.ring.new.self part is) (c.ring.ensures.over e)
@@ -38,9 +38,6 @@ ring-requires-clause-tick g c = c.requires.tick
 
 pub ring-requires-clause-later : goal.ring-requires-clause-later
 ring-requires-clause-later g c = c.requires.later
-
-pub ring-requires-clause-order : goal.ring-requires-clause-order
-ring-requires-clause-order g c e = absurd (c.requires.alarm e)
 
 pub returns-clause-room : goal.returns-clause-room
 returns-clause-room g c =

@@ -15,33 +15,33 @@ use Rattle.tsp_master.proofs.master.Master.ring.Goals as goal
 
 pub returns-in-Probe-clause-row : goal.returns-in-Probe-clause-row
 unfolding master_rings
-returns-in-Probe-clause-row g c = rw c.in-Probe.is (Performs_to (λ past h. rings_stand past _ h) c.ring_probe.ensures.row)
+returns-in-Probe-clause-row g c turn = rw c.in-Probe.is (Performs_to (λ past h. rings_stand past _ h) c.ring_probe.ensures.row)
 
 pub returns-in-Probe-clause-corrects : goal.returns-in-Probe-clause-corrects
 unfolding master_rings
-returns-in-Probe-clause-corrects g c past h = rw c.in-Probe.is (sym (probe-corrects c.args.tick past))
+returns-in-Probe-clause-corrects g c turn past h = rw c.in-Probe.is (sym (probe-corrects c.args.tick past))
 
 pub returns-in-Close-clause-row : goal.returns-in-Close-clause-row
 unfolding master_rings
-returns-in-Close-clause-row g c = rw c.in-Close.is (Performs_to (λ past h. rings_stand past _ h) c.ring_close.ensures.row)
+returns-in-Close-clause-row g c turn = rw c.in-Close.is (Performs_to (λ past h. rings_stand past _ h) (c.ring_close.ensures.row (turn c.in-Close.is)))
 
 pub returns-in-Close-clause-corrects : goal.returns-in-Close-clause-corrects
 unfolding master_rings
-returns-in-Close-clause-corrects g c past h = rw c.in-Close.is (c.ring_close.ensures.corrects past h)
+returns-in-Close-clause-corrects g c turn past h = rw c.in-Close.is (c.ring_close.ensures.corrects (turn c.in-Close.is) past h)
 
 pub returns-in-Round-clause-row : goal.returns-in-Round-clause-row
 unfolding master_rings
-returns-in-Round-clause-row g c = rw c.in-Round.is (Performs_to (λ past h. rings_stand past _ h) c.ring_round.ensures.row)
+returns-in-Round-clause-row g c turn = rw c.in-Round.is (Performs_to (λ past h. rings_stand past _ h) c.ring_round.ensures.row)
 
 pub returns-in-Round-clause-corrects : goal.returns-in-Round-clause-corrects
 unfolding master_rings
-returns-in-Round-clause-corrects g c past h = rw c.in-Round.is (sym (round-corrects c.args.tick past))
+returns-in-Round-clause-corrects g c turn past h = rw c.in-Round.is (sym (round-corrects c.args.tick past))
 
 pub returns-in_default-clause-row : goal.returns-in_default-clause-row
-returns-in_default-clause-row g c = rw (master_rings-other c.args.group_mean _ c.in_default.not-Probe c.in_default.not-Close c.in_default.not-Round) Performs_nothing
+returns-in_default-clause-row g c turn = rw (master_rings-other c.args.group_mean _ c.in_default.not-Probe c.in_default.not-Close c.in_default.not-Round) Performs_nothing
 
 pub returns-in_default-clause-corrects : goal.returns-in_default-clause-corrects
-returns-in_default-clause-corrects g c past h = rw (master_rings-other c.args.group_mean _ c.in_default.not-Probe c.in_default.not-Close c.in_default.not-Round) (nothing-corrects c.args.tick past)
+returns-in_default-clause-corrects g c turn past h = rw (master_rings-other c.args.group_mean _ c.in_default.not-Probe c.in_default.not-Close c.in_default.not-Round) (nothing-corrects c.args.tick past)
 
 pub returns-in-Close-clause-recent : goal.returns-in-Close-clause-recent
 returns-in-Close-clause-recent g c e past h alone p s b =

@@ -7,4 +7,4 @@ use Rattle.tsp_node.proofs.node.Node.ring.Goals as goal
 
 pub returns-clause-row : goal.returns-clause-row
 unfolding rings_alone
-returns-clause-row g c = node_untaken refl (emits_rings true false c.args.alarm) c.ring.ensures.row
+returns-clause-row g c = node_untaken refl (emits_rings true false c.args.alarm) (c.ring.ensures.row c.requires.turn)

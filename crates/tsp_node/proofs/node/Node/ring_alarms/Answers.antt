@@ -20,8 +20,8 @@ loop-alarm-init g c = record {
   room = record { spare = omega arith; few = omega arith };
 }
 
-pub ring-requires-clause-order : goal.ring-requires-clause-order
-ring-requires-clause-order g c = c.loop-alarm.invariant.probe
+pub ring-requires-clause-turn : goal.ring-requires-clause-turn
+ring-requires-clause-turn g c = c.loop-alarm.invariant.probe
 
 pub loop-alarm-preserved : goal.loop-alarm-preserved
 loop-alarm-preserved g c =

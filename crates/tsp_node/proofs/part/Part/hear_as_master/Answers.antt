@@ -33,7 +33,7 @@ returns-in-Conflict-clause-row g c =
     let m = c.args.m.now in
     let conflict : m.kind ≡ Conflict = sym c.kind.ensures ∙ c.in-Conflict.is in
     let post = rw c.number.ensures at (c.post.ensures.row c.args.tick) in
-    let emits : Emits question_sorts (posts p Ack m.number followed_by resolves) = emits_built refl (built_conflict p m.number tt) in
+    let emits : Emits question_sorts (posts p Ack m.number followed_by resolves) = emits_built refl (built_conflict p m.number tt tt) in
     rw (master_conflict p m conflict) (Performs_took (Performs_resolved refl refl refl refl (Emits_more question_sorts refl emits) (Emits_more question_sorts refl emits) (DatesStand_by (posts p Ack m.number followed_by resolves) (Emits_more question_sorts refl emits))
     (Performs_then (Performs_resolving c.args.self.now.resolve (Emits_posts p Ack m.number refl) post) c.start-in-Conflict.ensures.row)))
 
@@ -41,7 +41,7 @@ pub returns-in-MasterAck-clause-row : goal.returns-in-MasterAck-clause-row
 returns-in-MasterAck-clause-row g c =
     let p = c.args.p in
     let ack : c.args.m.now.kind ≡ MasterAck = sym c.kind.ensures ∙ c.in-MasterAck.is in
-    rw (master_masterack p c.args.m.now ack) (Performs_took (Performs_resolved refl refl refl refl (emits_built refl (built_finds_rival p)) (emits_built refl (built_finds_rival p)) (DatesStand_by (finds_rival p) (emits_built refl (built_finds_rival p))) (c.rival.ensures.row c.requires.role c.args.tick)))
+    rw (master_masterack p c.args.m.now ack) (Performs_took (Performs_resolved refl refl refl refl (emits_built refl (built_finds_rival p tt)) (emits_built refl (built_finds_rival p tt)) (DatesStand_by (finds_rival p) (emits_built refl (built_finds_rival p tt))) (c.rival.ensures.row c.requires.role c.args.tick)))
 
 pub returns-in_default-clause-row : goal.returns-in_default-clause-row
 unfolding master_takes master_takes_here
@@ -51,7 +51,7 @@ returns-in_default-clause-row g c =
     let other = c.in_default in
     let take = c.take.ensures.row c.requires.role in
     rw (master_takes-other p m m.kind (roles_other m.kind c.requires.audience) (λ e. other.not-Quit (c.kind.ensures ∙ e)) (λ e. other.not-MasterUp (c.kind.ensures ∙ e)) (λ e. other.not-Conflict (c.kind.ensures ∙ e)) (λ e. other.not-MasterAck (c.kind.ensures ∙ e)))
-    (Performs_led refl refl refl (emits_built refl (built_master_takes_here p m tt)) (emits_built refl (built_master_takes_here p m tt)) (DatesStand_by (master_takes_here p m) (emits_built refl (built_master_takes_here p m tt))) take)
+    (Performs_led refl refl refl (emits_built refl (built_master_takes_here p m tt tt)) (emits_built refl (built_master_takes_here p m tt tt)) (DatesStand_by (master_takes_here p m) (emits_built refl (built_master_takes_here p m tt tt))) take)
 
 pub take_quit-requires : goal.take_quit-requires
 take_quit-requires g c = record { room = omega (arith, c.requires.room); tick = c.requires.tick; peer = c.requires.peer; role = c.requires.role; audience = c.requires.audience }

@@ -47,7 +47,7 @@ returns-in-Candidate-clause-row g c =
     let p = c.in-Some.p in
     let here = port_with c.args.self.now c.args.clock.now in
     let heard = sym c.in-Some.ensures in
-    let emits : Emits all_candidate_sorts (candidate_takes p m) = emits_built refl (built_candidate_takes p m tt) in
+    let emits : Emits all_candidate_sorts (candidate_takes p m) = emits_built refl (built_candidate_takes p m tt tt) in
     let after : PortValue = record here { station = c.candidate_take.new.station; last = c.candidate_take.new.last } in
     rw (is_from st from p heard) (Performs_kept {after = after} c.args.terms.steer m.kind (leaves_none c.args.terms.steer m.kind st.role (ap is_follow c.in-Candidate.is)) (Performs_heard_at {after = after} p (peer_says m) (is_hearing st from p heard)
     (Performs_by_role {after = after} (says_in p m) (Performs_role {after = after} p m st.role Candidate c.in-Candidate.is (Performs_heard {after = after} refl (DatesAside_by (candidate_takes p m) (Emits_more all_candidate_sorts refl emits)) (roles_date m.kind c.requires.audience)
@@ -77,7 +77,7 @@ returns-else-leaves-clause-row g c =
     let p = c.in-Some.p in
     let heard = sym c.in-Some.ensures in
     let other = c.in_default-role in
-    let emits : Emits open_sorts (slave_takes p m) = emits_built (slave_part_open m.kind (roles_other m.kind c.requires.audience)) (built_slave_takes p m tt) in
+    let emits : Emits open_sorts (slave_takes p m) = emits_built (slave_part_open m.kind (roles_other m.kind c.requires.audience)) (built_slave_takes p m tt tt) in
     let after : PortValue = record (port_with c.args.self.now c.slave_hear.new.clock) { station = c.slave_hear.new.station; last = c.slave_hear.new.last } in
     let left : leaves_by c.args.terms.steer m.kind st.role ≡ false = ap (λ k. leaves_by c.args.terms.steer k st.role) (sym c.kind.ensures) ∙ (sym c.leaves.ensures ∙ c.if-leaves.false) in
     rw (is_from st from p heard) (Performs_kept {after = after} c.args.terms.steer m.kind left (Performs_heard_at {after = after} p (peer_says m) (is_hearing st from p heard)
@@ -100,14 +100,14 @@ returns-in-Candidate-clause-corrects g c past h =
     let p = c.in-Some.p in
     let m = c.args.m.now in
     let from = is_from c.args.self.now.station c.args.from p (sym c.in-Some.ensures) in
-    tells_still (emits_built refl (built_candidate_takes p m tt)) (c.candidate_take.ensures.row (taken past.seen) (took_of c.args.from p m past _ from h)) past (took_slave _ past _ h)
+    tells_still (emits_built refl (built_candidate_takes p m tt tt)) (c.candidate_take.ensures.row (taken past.seen) (took_of c.args.from p m past _ from h)) past (took_slave _ past _ h)
 
 pub returns-in-Master-clause-corrects : goal.returns-in-Master-clause-corrects
 returns-in-Master-clause-corrects g c past h =
     let p = c.in-Some.p in
     let m = c.args.m.now in
     let from = is_from c.args.self.now.station c.args.from p (sym c.in-Some.ensures) in
-    tells_still (emits_built refl (built_master_takes p m tt)) c.hear_as_master.ensures.row past (record { stands = h.stands; took = took_of c.args.from p m past _ from h })
+    tells_still (emits_built refl (built_master_takes p m tt tt)) c.hear_as_master.ensures.row past (record { stands = h.stands; took = took_of c.args.from p m past _ from h })
 
 pub returns-then-leaves-clause-corrects : goal.returns-then-leaves-clause-corrects
 returns-then-leaves-clause-corrects g c past h = tells_nothing c.args.terms.at.port _

@@ -15,10 +15,10 @@ use Rattle.tsp_node.proofs.part.Part.ring_window.Goals as goal
 pub returns-clause-row : goal.returns-clause-row
 returns-clause-row g c clock =
     let x = c.args.tick in
-    Performs_untaken (emits_built refl built_window_rings)
-    (Performs_station refl refl refl beside_window (DatesStand_by window_rings (emits_built refl built_window_rings))
-    (λ past h s. MasterStands_changing window_rings (emits_built {all = turning_sorts} refl built_window_rings) x past c.args.self.now.master c.clear.new.self (window_changes x past) (record { slaves = c.clear.ensures.slaves; peers = c.clear.ensures.peers; rounds = c.clear.ensures.rounds }) h.master)
-    (λ past h s. ResolveStands_changed x past (window_rings x past) c.args.self.now.resolve c.clear-2.new.self ((emits_built {all = rivalless} refl built_window_rings).only x past) (window_changes x past) c.clear-2.ensures.many c.clear-2.ensures.none h.resolve)
+    Performs_untaken (emits_built refl (built_window_rings tt))
+    (Performs_station refl refl refl beside_window (DatesStand_by window_rings (emits_built refl (built_window_rings tt)))
+    (λ past h s. MasterStands_changing window_rings (emits_built {all = turning_sorts} refl (built_window_rings tt)) x past c.args.self.now.master c.clear.new.self (window_changes x past) (record { slaves = c.clear.ensures.slaves; peers = c.clear.ensures.peers; rounds = c.clear.ensures.rounds }) h.master)
+    (λ past h s. ResolveStands_changed x past (window_rings x past) c.args.self.now.resolve c.clear-2.new.self ((emits_built {all = rivalless} refl (built_window_rings tt)).only x past) (window_changes x past) c.clear-2.ensures.many c.clear-2.ensures.none h.resolve)
     c.candidate_ring.ensures.row)
 
 pub invariant_of-self : goal.invariant_of-self

@@ -42,7 +42,7 @@ loop-place-preserved g c =
           let set : get_or marks n false ≡ true = sym c.at.ensures ∙ w.if-at.true in
           let grown : marked (take (n + 1) ps) marks ≡ marked (take n ps) marks ++ p ∷ [] = more ∙ ap (λ b. marked (take n ps) marks ++ (if b then p ∷ [] else [])) set in
           record {
-            row = rw (w.station-is, w.desk-is, grown) (Performs_each_more (begins QuitKind) (marked (take n ps) marks) p inv.row (Performs_resolving_acting c.args.self.now (emits_built {few = Numbering ∷ []} refl (built_begins QuitKind p refl refl)) w.begin.ensures.row));
+            row = rw (w.station-is, w.desk-is, grown) (Performs_each_more (begins QuitKind) (marked (take n ps) marks) p inv.row (Performs_resolving_acting c.args.self.now (emits_built {few = Numbering ∷ []} refl (built_begins QuitKind p tt refl refl)) w.begin.ensures.row));
             same = rw w.station-is (record { me = w.begin.ensures.rest.me ∙ inv.same.me; peers = w.begin.ensures.rest.peers ∙ inv.same.peers });
             room = rw w.desk-is (record { spare = omega (arith, inv.room.spare, w.begin.ensures.room.spare); few = omega (arith, inv.room.few, w.begin.ensures.room.count) });
           }
