@@ -10,9 +10,9 @@ use Rattle.tsp_lines.specs.Answers.{IsAnswer}
 use Rattle.tsp_lines.specs.Definite.{IsDefinite}
 use Rattle.tsp_lines.specs.declared.treat.Outcome.TheVariants.{Ok as Done}
 use Rattle.tsp_convert.specs.Packs.{IsLineOf, AreMessageLines, packed, pack_meaning}
-use Rattle.tsp_convert.specs.Shows.{IsHex, IsNoHex, IsHexOf, RefusesHex, AreHexLines, shown, show_meaning}
+use Rattle.tsp_convert.specs.Shows.{IsHex, IsNoHex, IsHexLineOf, RefusesHex, AreHexLines, lines_shown, show_meaning}
 use Rattle.tsp_convert.proofs.Conversions.{Converts-one, Converts-before}
-use Rattle.tsp_convert.proofs.Hexes.{IsHexOf-one, IsHexOf-not_refused}
+use Rattle.tsp_convert.proofs.Hexes.{IsHexLineOf-one, IsHexLineOf-not_refused}
 use Rattle.tsp_convert.proofs.LinesApart.{IsLineOf-one}
 
 no_hex : (line octets : List ℕ) → IsNoHex line → IsHex line octets → ⊥
@@ -30,9 +30,9 @@ RefusesHex-one line cause other (inr (octets, f, hex, p, e)) (inr (others, g, he
 
 pub IsDefinite-show : IsDefinite show_meaning
 IsDefinite-show = record {
-  one_output = Converts-one IsHexOf message_text IsHexOf-one;
-  before = λ lines line text a. ((λ f. f), (Converts-before IsHexOf message_text lines line text a).0);
-  not_refused = λ lines line text cause a r. let x = (Converts-before IsHexOf message_text lines line text a).1 in IsHexOf-not_refused line cause x.0 x.1 r;
+  one_output = Converts-one IsHexLineOf message_text IsHexLineOf-one;
+  before = λ lines line text a. ((λ f. f), (Converts-before IsHexLineOf message_text lines line text a).0);
+  not_refused = λ lines line text cause a r. let x = (Converts-before IsHexLineOf message_text lines line text a).1 in IsHexLineOf-not_refused line cause x.0 x.1 r;
   not_limited = λ lines line text a l. l;
   one_cause = λ lines line cause other r s. RefusesHex-one line cause other r s;
   refused_within = λ lines line cause r l. l;
@@ -55,15 +55,15 @@ IsDefinite-pack = record {
 }
 
 -- the answer to lines of datagrams
-pub answer_hex : (limit : ℕ) (octets : List ℕ) → length octets ≤ limit → (a : AreHexLines octets) → IsAnswer show_meaning limit octets Done (shown a.1)
+pub answer_hex : (limit : ℕ) (octets : List ℕ) → length octets ≤ limit → (a : AreHexLines octets) → IsAnswer show_meaning limit octets Done (lines_shown a.1)
 answer_hex limit octets l (lines, datagrams, n, are, z) = record {
   lines = lines;
-  text = shown datagrams;
+  text = lines_shown datagrams;
   said = [];
   feedless = n;
   accepted = (datagrams, z, refl);
   ending = ((octets, are, (l, refl)), refl);
-  whole = sym (append-nil (shown datagrams));
+  whole = sym (append-nil (lines_shown datagrams));
 }
 
 pub answer_messages : (limit : ℕ) (octets : List ℕ) → length octets ≤ limit → (a : AreMessageLines octets) → IsAnswer pack_meaning limit octets Done (packed a.1)

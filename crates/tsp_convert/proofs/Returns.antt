@@ -12,35 +12,35 @@ use Rattle.tsp_lines.specs.declared.treat.Outcome.TheVariants.{Ok as Done}
 use Rattle.tsp_lines.proofs.OneCut.{AreLines-one}
 use Rattle.tsp_convert.specs.Packs.{IsLineOf, pack_meaning}
 use Rattle.tsp_convert.specs.Returns.{IsWritten}
-use Rattle.tsp_convert.specs.Shows.{IsHexOf, show_meaning}
+use Rattle.tsp_convert.specs.Shows.{IsHexLineOf, show_meaning}
 use Rattle.tsp_convert.proofs.Feedless.{NoFeed-message_text}
-use Rattle.tsp_convert.proofs.Hexes.{IsHexOf-one, IsHexOf-in_ranges}
+use Rattle.tsp_convert.proofs.Hexes.{IsHexLineOf-one, IsHexLineOf-in_ranges}
 
 -- the lines of datagrams in hexadecimal
-lines_of : (lines : List (List ℕ)) (ds : List Datagram) → AllZip IsHexOf lines ds → AllZip IsLineOf (map message_text ds) ds
+lines_of : (lines : List (List ℕ)) (ds : List Datagram) → AllZip IsHexLineOf lines ds → AllZip IsLineOf (map message_text ds) ds
 lines_of [] [] z = tt
 lines_of [] (d ∷ ds) z = absurd z
 lines_of (l ∷ ls) [] z = absurd z
-lines_of (l ∷ ls) (d ∷ ds) z = ((IsHexOf-in_ranges l d z.0, refl), lines_of ls ds z.1)
+lines_of (l ∷ ls) (d ∷ ds) z = ((IsHexLineOf-in_ranges l d z.0, refl), lines_of ls ds z.1)
 
 -- written lines are their datagrams'
-written_lines : (lines : List (List ℕ)) (ds : List Datagram) → All IsWritten lines → AllZip IsHexOf lines ds → lines ≡ map (λ d. encode_lower (canon d)) ds
+written_lines : (lines : List (List ℕ)) (ds : List Datagram) → All IsWritten lines → AllZip IsHexLineOf lines ds → lines ≡ map (λ d. encode_lower (canon d)) ds
 written_lines [] [] w z = refl
 written_lines [] (d ∷ ds) w z = absurd z
 written_lines (l ∷ ls) [] w z = absurd z
 written_lines (l ∷ ls) (d ∷ ds) w z =
     let p = w 0 [] (omega arith) in
-    let q = IsHexOf-one l p.0 d p.1 z.0 in
+    let q = IsHexLineOf-one l p.0 d p.1 z.0 in
     let line : l ≡ encode_lower (canon d) = p.2 ∙ ap (λ x. encode_lower (canon x)) q in
     let rest = written_lines ls ds (λ k d h. w (suc k) d (omega (arith, h))) z.1 in
     rw (line, rest) refl
 
 -- no line of theirs has a line feed
-feedless : (lines : List (List ℕ)) (ds : List Datagram) → AllZip IsHexOf lines ds → All NoFeed (map message_text ds)
+feedless : (lines : List (List ℕ)) (ds : List Datagram) → AllZip IsHexLineOf lines ds → All NoFeed (map message_text ds)
 feedless [] [] z = λ k d h. absurd (omega (arith, h))
 feedless [] (d ∷ ds) z = absurd z
 feedless (l ∷ ls) [] z = absurd z
-feedless (l ∷ ls) (d ∷ ds) z = All-cons NoFeed (message_text d) (map message_text ds) (NoFeed-message_text d (IsHexOf-in_ranges l d z.0)) (feedless ls ds z.1)
+feedless (l ∷ ls) (d ∷ ds) z = All-cons NoFeed (message_text d) (map message_text ds) (NoFeed-message_text d (IsHexLineOf-in_ranges l d z.0)) (feedless ls ds z.1)
 
 pub shown-packs : (lines : List (List ℕ)) (text : List ℕ) → All IsWritten lines → show_meaning.accepts lines text
     → (back : List (List ℕ)) × All NoFeed back × (text ≡ closed back) × pack_meaning.accepts back (closed lines)

@@ -20,8 +20,8 @@ abbrev pub IsNoHex : List ℕ → Type 0
 IsNoHex line = (1024 < length line) ⊎ IsErr (decode_of line)
 
 -- the line is octets of this datagram, in hexadecimal
-abbrev pub IsHexOf : List ℕ → Datagram → Type 0
-IsHexOf line d = (octets : List ℕ) × IsHex line octets × Spells octets d
+abbrev pub IsHexLineOf : List ℕ → Datagram → Type 0
+IsHexLineOf line d = (octets : List ℕ) × IsHex line octets × Spells octets d
 
 -- the line isn't hexadecimal, or its octets aren't a datagram and this is the word of their first fault
 abbrev pub RefusesHex : List ℕ → List ℕ → Type 0
@@ -29,13 +29,13 @@ RefusesHex line cause = (IsNoHex line × (cause ≡ codes "hex"))
     ⊎ ((octets : List ℕ) × (fault : DecodeFault) × IsHex line octets × IsFault octets fault × (cause ≡ fault_word fault))
 
 -- the lines of these datagrams, each with its line feed
-abbrev pub shown : List Datagram → List ℕ
-shown datagrams = closed (map message_text datagrams)
+abbrev pub lines_shown : List Datagram → List ℕ
+lines_shown datagrams = closed (map message_text datagrams)
 
 -- what lines mean to `show`: each is a datagram's octets in hexadecimal, and the output is the datagrams' lines
 abbrev pub show_meaning : Meaning
 show_meaning = record {
-  accepts = λ lines text. (datagrams : List Datagram) × AllZip IsHexOf lines datagrams × (text ≡ shown datagrams);
+  accepts = λ lines text. (datagrams : List Datagram) × AllZip IsHexLineOf lines datagrams × (text ≡ lines_shown datagrams);
   refuses = λ lines line cause. RefusesHex line cause;
   limits = λ lines line. ⊥;
   full = λ lines. ⊥;
@@ -45,4 +45,4 @@ show_meaning = record {
 
 -- octets are lines of hexadecimal, each a datagram
 abbrev pub AreHexLines : List ℕ → Type 0
-AreHexLines octets = (lines : List (List ℕ)) × (datagrams : List Datagram) × All NoFeed lines × AreLines octets lines × AllZip IsHexOf lines datagrams
+AreHexLines octets = (lines : List (List ℕ)) × (datagrams : List Datagram) × All NoFeed lines × AreLines octets lines × AllZip IsHexLineOf lines datagrams

@@ -6,18 +6,18 @@ ghost use Rattle.tsp_lines.specs.Answers.{IsAnswer};
 ghost use Rattle.tsp_lines.specs.Definite.{IsDefinite};
 ghost use Rattle.tsp_lines.specs.Lines.{NoFeed, closed};
 ghost use Rattle.tsp_lines.specs.declared.treat.Outcome.{Outcome};
-ghost use Rattle.tsp_convert.specs.Shows.{IsHexOf, RefusesHex, show_meaning};
+ghost use Rattle.tsp_convert.specs.Shows.{IsHexLineOf, RefusesHex, show_meaning};
 ghost use Rattle.tsp_convert.specs.Packs.{IsLineOf, pack_meaning};
 ghost use Rattle.tsp_convert.specs.Returns.{IsWritten};
 
 /// A line is at most one datagram's octets in hexadecimal.
 pub fn one_datagram_in_hex()
-    ensures { (line : List ℕ) (d e : Datagram) → IsHexOf line d → IsHexOf line e → d ≡ e }
+    ensures { (line : List ℕ) (d e : Datagram) → IsHexLineOf line d → IsHexLineOf line e → d ≡ e }
 {}
 
 /// `show` doesn't refuse a line that is a datagram's octets in hexadecimal.
 pub fn hex_is_not_refused()
-    ensures { (line cause : List ℕ) (d : Datagram) → IsHexOf line d → RefusesHex line cause → ⊥ }
+    ensures { (line cause : List ℕ) (d : Datagram) → IsHexLineOf line d → RefusesHex line cause → ⊥ }
 {}
 
 /// A line is at most one datagram's message line.

@@ -6,7 +6,7 @@ ghost use Rattle.tsp_base.specs.declared.datagram.Datagram.{Datagram};
 ghost use Rattle.tsp_lines.specs.Lines.{NoFeed, close};
 ghost use Rattle.tsp_lines.specs.Meanings.{Goes, StopsAt, Closes, StopsAtEnd};
 ghost use Rattle.tsp_script.specs.Texts.{message_text};
-ghost use Rattle.tsp_convert.specs.Shows.{IsHexOf, RefusesHex, show_meaning};
+ghost use Rattle.tsp_convert.specs.Shows.{IsHexLineOf, RefusesHex, show_meaning};
 
 use crate::hand_over::hand_over;
 use arrayvec::ArrayVec;
@@ -24,7 +24,7 @@ use tsp_script::numbers::{append, octets_in};
 fn shown(line: &[u8], buffer: &mut [u8; 512], text: &mut ArrayVec<u8, 1024>) -> Result<(), Cause>
     requires { length line.now ≤ 1024 }
     ensures { MatchResult result
-        (λ _. (d : Datagram) × IsHexOf line.now d × (text.new.items ≡ close (message_text d)))
+        (λ _. (d : Datagram) × IsHexLineOf line.now d × (text.new.items ≡ close (message_text d)))
         (λ cause. RefusesHex line.now cause) }
 {
     let Some(count) = octets_in(line, buffer) else {

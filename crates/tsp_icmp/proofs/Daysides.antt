@@ -3,7 +3,7 @@ use Rattle.std.proofs.Common.{◌≡◌, ℕ, ◌<◌, ◌/◌, refl, sym, ap, �
 use Rattle.std.specs.Prelude.{int_le, if◌then◌else◌, IsSomeAnd}
 use Rattle.std.specs.Int.{int_div_euclid}
 use Rattle.std.proofs.lemmas.Int.{ints}
-use Rattle.tsp_icmp.specs.Days.{in_day, trip_of, shift_of, half_down, half_up, difference_of, milli_of, IsAtMost, Dayside}
+use Rattle.tsp_icmp.specs.Days.{in_day, trip_of, shift_of, lesser_half, greater_half, difference_of, milli_of, IsAtMost, Dayside}
 
 -- a number is whole days and what lies in the last
 abbrev days : ℤ → ℤ
@@ -54,20 +54,20 @@ milli_of-high (negsuc a) = omega (arith, ints)
 milli_of-mono : (y z : ℤ) → y ≤ℤ z → milli_of y ≤ℤ milli_of z
 milli_of-mono y z h = omega (arith, ints, milli_of-low y, milli_of-high y, milli_of-low z, milli_of-high z)
 
-half_down-low : (z : ℤ) → (pos 2 *ℤ half_down z) ≤ℤ z
-half_down-low (pos a) = omega (arith, ints)
-half_down-low (negsuc a) = omega (arith, ints)
+lesser_half-low : (z : ℤ) → (pos 2 *ℤ lesser_half z) ≤ℤ z
+lesser_half-low (pos a) = omega (arith, ints)
+lesser_half-low (negsuc a) = omega (arith, ints)
 
-half_down-high : (z : ℤ) → z ≤ℤ ((pos 2 *ℤ half_down z) +ℤ pos 1)
-half_down-high (pos a) = omega (arith, ints)
-half_down-high (negsuc a) = omega (arith, ints)
+lesser_half-high : (z : ℤ) → z ≤ℤ ((pos 2 *ℤ lesser_half z) +ℤ pos 1)
+lesser_half-high (pos a) = omega (arith, ints)
+lesser_half-high (negsuc a) = omega (arith, ints)
 
 -- both halves make the whole
-halves : (z : ℤ) → half_down z +ℤ half_up z ≡ z
-halves z = omega (arith, ints, half_down-low z, half_down-high z, half_down-low (z +ℤ pos 1), half_down-high (z +ℤ pos 1))
+halves : (z : ℤ) → lesser_half z +ℤ greater_half z ≡ z
+halves z = omega (arith, ints, lesser_half-low z, lesser_half-high z, lesser_half-low (z +ℤ pos 1), lesser_half-high (z +ℤ pos 1))
 
-half_down-half_up : (z : ℤ) → half_down z ≤ℤ half_up z
-half_down-half_up z = omega (arith, ints, half_down-low z, half_down-high z, half_down-low (z +ℤ pos 1), half_down-high (z +ℤ pos 1))
+lesser_half-greater_half : (z : ℤ) → lesser_half z ≤ℤ greater_half z
+lesser_half-greater_half z = omega (arith, ints, lesser_half-low z, lesser_half-high z, lesser_half-low (z +ℤ pos 1), lesser_half-high (z +ℤ pos 1))
 
 -- the bound, on plain numbers
 bound : (A L D R a d r hd hu : ℤ) → A ≤ℤ L → L ≤ℤ D
@@ -89,9 +89,9 @@ pub Dayside-difference_of : (o r d : ℕ) → Dayside o r d (difference_of o r d
 Dayside-difference_of o r d A L D R al ld a b c trip low high =
     let t : trip_of o d ≡ milli_of D -ℤ milli_of A = trip_of-is (milli_of A) (milli_of D) o d a c (omega (arith, ints, milli_of-mono A L al, milli_of-mono L D ld)) trip in
     let s : shift_of o r ≡ milli_of R -ℤ milli_of A = shift_of-is (milli_of A) (milli_of R) o r a b low high in
-    given (int_le (pos 43200000) (trip_of o d)) (shift_of o r -ℤ half_down (trip_of o d), half_up (trip_of o d) +ℤ pos 1) (λ x. IsAtMost (pos 1000 *ℤ x.1) ((pos 1000 *ℤ x.0) -ℤ (R -ℤ L)))
+    given (int_le (pos 43200000) (trip_of o d)) (shift_of o r -ℤ lesser_half (trip_of o d), greater_half (trip_of o d) +ℤ pos 1) (λ x. IsAtMost (pos 1000 *ℤ x.1) ((pos 1000 *ℤ x.0) -ℤ (R -ℤ L)))
     (rw t (int_le-false _ _ trip))
-    (rw s (bound A L D R (milli_of A) (milli_of D) (milli_of R) (half_down (trip_of o d)) (half_up (trip_of o d)) al ld (milli_of-low A) (milli_of-high A) (milli_of-low R) (milli_of-high R) (milli_of-low D) (milli_of-high D) (halves (trip_of o d) ∙ t) (half_down-half_up (trip_of o d))))
+    (rw s (bound A L D R (milli_of A) (milli_of D) (milli_of R) (lesser_half (trip_of o d)) (greater_half (trip_of o d)) al ld (milli_of-low A) (milli_of-high A) (milli_of-low R) (milli_of-high R) (milli_of-low D) (milli_of-high D) (halves (trip_of o d) ∙ t) (lesser_half-greater_half (trip_of o d))))
 
 found_case : (b : Bool) (x y : ℤ × ℤ) → b ≡ false → x ≡ y → Some x ≡ (if b then None else Some y)
 found_case true x y e p = cc
@@ -101,8 +101,8 @@ found_case false x y e p = ap Some p
 pub found : (x y : ℤ) (trip o r d : ℕ) → pos trip ≡ trip_of o d → trip < 43200000
     → x ≡ shift_of o r -ℤ pos (trip / 2) → y ≡ (pos trip -ℤ pos (trip / 2)) +ℤ pos 1 → Some (x, y) ≡ difference_of o r d
 found x y trip o r d t small ex ey =
-    let down : half_down (trip_of o d) ≡ pos (trip / 2) = rw (sym t) refl in
-    let up : half_up (trip_of o d) ≡ pos trip -ℤ pos (trip / 2) = omega (arith, ints, halves (trip_of o d), down, t) in
-    found_case (int_le (pos 43200000) (trip_of o d)) (x, y) (shift_of o r -ℤ half_down (trip_of o d), half_up (trip_of o d) +ℤ pos 1)
+    let down : lesser_half (trip_of o d) ≡ pos (trip / 2) = rw (sym t) refl in
+    let up : greater_half (trip_of o d) ≡ pos trip -ℤ pos (trip / 2) = omega (arith, ints, halves (trip_of o d), down, t) in
+    found_case (int_le (pos 43200000) (trip_of o d)) (x, y) (shift_of o r -ℤ lesser_half (trip_of o d), greater_half (trip_of o d) +ℤ pos 1)
     (int_le-false (pos 43200000) (trip_of o d) (omega (arith, ints, t)))
     (rw (ex, ey, down, up) refl)

@@ -3,7 +3,7 @@ use Rattle.std.proofs.Common.{rules, ◌≡◌, ℕ, ◌+◌, ◌<◌, ◌^◌, 
 use Rattle.std.specs.Int.{w16, w32, from_be_bytes, to_be_bytes}
 use Rattle.std.proofs.lemmas.Nat.{from_be_bytes-to_be_bytes_2, from_be_bytes-to_be_bytes_4, be_bytes_2, be_bytes_4}
 use Rattle.tsp_icmp.specs.Checksums.{checksum}
-use Rattle.tsp_icmp.specs.Spelling.{type_of, icmp_octets, IsTimestamp, without_checksum, octet, Applies, IsFault}
+use Rattle.tsp_icmp.specs.Spelling.{type_of, icmp_octets, IsTimestamp, without_checksum, octet, HasFault, IsFault}
 use Rattle.tsp_icmp.specs.declared.timestamp.Timestamp.{Timestamp}
 use Rattle.tsp_icmp.specs.declared.timestamp.IcmpFault.{IcmpFault}
 use Rattle.tsp_icmp.specs.declared.timestamp.IcmpFault.TheVariants.{Length, Kind, Code, Checksum}
@@ -96,7 +96,7 @@ icmp_octets-injective m n g h e =
 pub icmp_octets-no_fault : (m : Timestamp) (f : IcmpFault) → IsFault (icmp_octets m) f → ⊥
 icmp_octets-no_fault m Length f = f.applies refl
 icmp_octets-no_fault m Kind f = no_kind m.reply f.applies where
-  no_kind : (b : Bool) → Applies (type_of b ∷ []) Kind → ⊥
+  no_kind : (b : Bool) → HasFault (type_of b ∷ []) Kind → ⊥
   no_kind true a = a.1 refl
   no_kind false a = a.0 refl
 icmp_octets-no_fault m Code f = f.applies refl

@@ -15,18 +15,18 @@ abbrev pub shift_of : ℕ → ℕ → ℤ
 shift_of o r = in_day ((pos r -ℤ pos o) +ℤ pos 43200000) -ℤ pos 43200000
 
 -- half of a round trip, rounded down
-abbrev pub half_down : ℤ → ℤ
-half_down trip = int_div_euclid trip (pos 2)
+abbrev pub lesser_half : ℤ → ℤ
+lesser_half trip = int_div_euclid trip (pos 2)
 
 -- half of a round trip, rounded up
-abbrev pub half_up : ℤ → ℤ
-half_up trip = int_div_euclid (trip +ℤ pos 1) (pos 2)
+abbrev pub greater_half : ℤ → ℤ
+greater_half trip = int_div_euclid (trip +ℤ pos 1) (pos 2)
 
 -- how far a clock that read r is ahead of one that read o at the request and d at the reply, and by how much that may be wrong; None where the trip takes half a day or more
 abbrev pub difference_of : ℕ → ℕ → ℕ → Option (ℤ × ℤ)
 difference_of o r d =
     if int_le (pos 43200000) (trip_of o d) then None
-    else Some (shift_of o r -ℤ half_down (trip_of o d), half_up (trip_of o d) +ℤ pos 1)
+    else Some (shift_of o r -ℤ lesser_half (trip_of o d), greater_half (trip_of o d) +ℤ pos 1)
 
 -- the millisecond in which a microsecond lies
 abbrev pub milli_of : ℤ → ℤ

@@ -16,12 +16,12 @@ abbrev pub head_octets : Timestamp → List ℕ
 head_octets t = type_of t.reply ∷ 0 ∷ []
 
 -- what follows the checksum
-abbrev pub body_octets : Timestamp → List ℕ
-body_octets t = to_be_bytes w16 t.ident ++ to_be_bytes w16 t.seq ++ to_be_bytes w32 t.originate ++ to_be_bytes w32 t.receive ++ to_be_bytes w32 t.transmit
+abbrev pub fields_octets : Timestamp → List ℕ
+fields_octets t = to_be_bytes w16 t.ident ++ to_be_bytes w16 t.seq ++ to_be_bytes w32 t.originate ++ to_be_bytes w32 t.receive ++ to_be_bytes w32 t.transmit
 
 -- the 20 octets of a message; its checksum is computed with zeros in its own place
 abbrev pub icmp_octets : Timestamp → List ℕ
-icmp_octets t = head_octets t ++ to_be_bytes w16 (checksum (head_octets t ++ 0 ∷ 0 ∷ body_octets t)) ++ body_octets t
+icmp_octets t = head_octets t ++ to_be_bytes w16 (checksum (head_octets t ++ 0 ∷ 0 ∷ fields_octets t)) ++ fields_octets t
 
 -- the numbers are in their ranges: so they are in each message that the program can hold
 pub record IsTimestamp (t : Timestamp) : Type 0 where
@@ -40,20 +40,20 @@ abbrev pub octet : List ℕ → ℕ → ℕ
 octet octets place = slice_index_or octets place 0
 
 -- the octets have this fault, whatever other faults they have
-abbrev pub Applies : List ℕ → IcmpFault → Type 0
-Applies octets Length = length octets ≢ 20
-Applies octets Kind = (octet octets 0 ≢ 13) × (octet octets 0 ≢ 14)
-Applies octets Code = octet octets 1 ≢ 0
-Applies octets Checksum = slice_range octets 2 4 ≢ to_be_bytes w16 (checksum (without_checksum octets))
+abbrev pub HasFault : List ℕ → IcmpFault → Type 0
+HasFault octets Length = length octets ≢ 20
+HasFault octets Kind = (octet octets 0 ≢ 13) × (octet octets 0 ≢ 14)
+HasFault octets Code = octet octets 1 ≢ 0
+HasFault octets Checksum = slice_range octets 2 4 ≢ to_be_bytes w16 (checksum (without_checksum octets))
 
 -- the place of a fault in the order in which faults are looked for
-abbrev pub rank : IcmpFault → ℕ
-rank Length = 0
-rank Kind = 1
-rank Code = 2
-rank Checksum = 3
+abbrev pub fault_rank : IcmpFault → ℕ
+fault_rank Length = 0
+fault_rank Kind = 1
+fault_rank Code = 2
+fault_rank Checksum = 3
 
 -- the octets have this fault, and none before it in the order
 pub record IsFault (octets : List ℕ) (fault : IcmpFault) : Type 0 where
-  pub applies : Applies octets fault
-  pub first : (earlier : IcmpFault) → rank earlier < rank fault → ¬ Applies octets earlier
+  pub applies : HasFault octets fault
+  pub first : (earlier : IcmpFault) → fault_rank earlier < fault_rank fault → ¬ HasFault octets earlier

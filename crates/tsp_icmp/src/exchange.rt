@@ -1,6 +1,6 @@
 //! How far another clock is ahead, by an exchange of Timestamp messages.
 ghost use Rattle.std.specs.Prelude.{◌≡◌, ◌<◌, ◌≤ℤ◌, ◌↔◌, IsTrue, IfSome, pos};
-ghost use Rattle.tsp_icmp.specs.Days.{trip_of, shift_of, half_down, half_up, difference_of, IsAtMost, Dayside};
+ghost use Rattle.tsp_icmp.specs.Days.{trip_of, shift_of, lesser_half, greater_half, difference_of, IsAtMost, Dayside};
 
 /// The milliseconds of a day.
 const DAY: u32 = 86_400_000;

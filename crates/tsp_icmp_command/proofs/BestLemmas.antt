@@ -6,7 +6,7 @@ use Rattle.std.specs.Str.{bytes_eq}
 use Rattle.std.specs.Cmp.Lexicographic.{same_text, other_text}
 use Rattle.std.proofs.lemmas.List.Sums.{fold-append}
 use Rattle.std.proofs.lemmas.List.Elements.{filter_map-append}
-use Rattle.tsp_icmp_command.specs.Bests.{BestValue, is_same_clock, better, bests, note, with_difference, difference_in, differences}
+use Rattle.tsp_icmp_command.specs.Bests.{BestValue, is_same_clock, of_shorter_trip, bests, note, with_difference, difference_in, differences}
 use Rattle.tsp_icmp_command.specs.Findings.{finding_of}
 use Rattle.tsp_icmp_command.specs.declared.exchange.Exchange.{Exchange}
 
@@ -35,14 +35,14 @@ filter-keeps p b bs e = rw e refl
 filter-drops : (p : BestValue → Bool) (b : BestValue) (bs : List BestValue) → p b ≡ false → filter p (b ∷ bs) ≡ filter p bs
 filter-drops p b bs e = rw e refl
 
-note-same : (b x : BestValue) (bs : List BestValue) → is_same_clock b x ≡ true → note (b ∷ bs) x ≡ better b x ∷ bs
+note-same : (b x : BestValue) (bs : List BestValue) → is_same_clock b x ≡ true → note (b ∷ bs) x ≡ of_shorter_trip b x ∷ bs
 note-same b x bs e = rw e refl
 
 note-other : (b x : BestValue) (bs : List BestValue) → is_same_clock b x ≡ false → note (b ∷ bs) x ≡ b ∷ note bs x
 note-other b x bs e = rw e refl
 
-better-other : (b x : BestValue) → is_same_clock b x ≡ false → better b x ≡ b
-better-other b x e = rw e refl
+of_shorter_trip-other : (b x : BestValue) → is_same_clock b x ≡ false → of_shorter_trip b x ≡ b
+of_shorter_trip-other b x e = rw e refl
 
 -- the better one of two has the earlier one's name
 name-case : (s t : Bool) (a b : BestValue) → is_same_clock a b ≡ s → (if s && t then b else a).name ≡ a.name
@@ -50,12 +50,12 @@ name-case true true a b e = sym (same_text a.name b.name (sym e))
 name-case true false a b e = refl
 name-case false t a b e = refl
 
-pub name-better : (a b : BestValue) → (better a b).name ≡ a.name
-name-better a b = name-case (is_same_clock a b) (nat_lt b.trip a.trip) a b refl
+pub name-of_shorter_trip : (a b : BestValue) → (of_shorter_trip a b).name ≡ a.name
+name-of_shorter_trip a b = name-case (is_same_clock a b) (nat_lt b.trip a.trip) a b refl
 
-pub name-fold : (first : BestValue) (later : List BestValue) → (fold better first later).name ≡ first.name
+pub name-fold : (first : BestValue) (later : List BestValue) → (fold of_shorter_trip first later).name ≡ first.name
 name-fold first [] = refl
-name-fold first (b ∷ bs) = name-fold (better first b) bs ∙ name-better first b
+name-fold first (b ∷ bs) = name-fold (of_shorter_trip first b) bs ∙ name-of_shorter_trip first b
 
 filter-ap : (t : Bool) (p : BestValue → Bool) (b : BestValue) (xs ys : List BestValue) → p b ≡ t → filter p xs ≡ filter p ys → filter p (b ∷ xs) ≡ filter p (b ∷ ys)
 filter-ap true p b xs ys e h = filter-keeps p b xs e ∙ ap (λ l. b ∷ l) h ∙ sym (filter-keeps p b ys e)
@@ -66,7 +66,7 @@ own-case : (t : Bool) (m x b : BestValue) (bs : List BestValue) → is_same_cloc
 own-case true m x b bs e h rest =
     let same : b.name ≡ x.name = same_text b.name x.name (sym e) in
     ap (filter (other m)) (note-same b x bs e)
-    ∙ filter-drops (other m) (better b x) bs (ap not (equal m.name (better b x).name (h ∙ sym same ∙ sym (name-better b x))))
+    ∙ filter-drops (other m) (of_shorter_trip b x) bs (ap not (equal m.name (of_shorter_trip b x).name (h ∙ sym same ∙ sym (name-of_shorter_trip b x))))
     ∙ sym (filter-drops (other m) b bs (ap not (equal m.name b.name (h ∙ sym same))))
 own-case false m x b bs e h rest = ap (filter (other m)) (note-other b x bs e) ∙ filter-ap (other m b) (other m) b (note bs x) bs refl rest
 
@@ -85,7 +85,7 @@ other-case : (t : Bool) (m x b : BestValue) (bs : List BestValue) → is_same_cl
 other-case true m x b bs e n rest =
     let same : b.name ≡ x.name = same_text b.name x.name (sym e) in
     ap (filter (other m)) (note-same b x bs e)
-    ∙ filter-keeps (other m) (better b x) bs (ap not (unequal m.name (better b x).name (λ p. n (p ∙ name-better b x ∙ same))))
+    ∙ filter-keeps (other m) (of_shorter_trip b x) bs (ap not (unequal m.name (of_shorter_trip b x).name (λ p. n (p ∙ name-of_shorter_trip b x ∙ same))))
     ∙ sym (note-same b x (filter (other m) bs) e)
     ∙ ap (λ l. note l x) (sym (filter-keeps (other m) b bs (ap not (unequal m.name b.name (λ p. n (p ∙ same))))))
 other-case false m x b bs e n rest = ap (filter (other m)) (note-other b x bs e) ∙ behind-case (other m b) m x b bs refl e rest
@@ -94,11 +94,11 @@ filter-note_other : (m x : BestValue) (bs : List BestValue) → m.name ≢ x.nam
 filter-note_other m x [] n = filter-keeps (other m) x [] (ap not (unequal m.name x.name n))
 filter-note_other m x (b ∷ bs) n = other-case (is_same_clock b x) m x b bs refl n (filter-note_other m x bs n)
 
-first-case : (t : Bool) (m x f : BestValue) (bs : List BestValue) → f.name ≡ m.name → bytes_eq f.name x.name ≡ t → better f x ∷ filter (other m) (note bs x) ≡ note (f ∷ filter (other m) bs) x
+first-case : (t : Bool) (m x f : BestValue) (bs : List BestValue) → f.name ≡ m.name → bytes_eq f.name x.name ≡ t → of_shorter_trip f x ∷ filter (other m) (note bs x) ≡ note (f ∷ filter (other m) bs) x
 first-case true m x f bs h e =
-    ap (λ l. better f x ∷ l) (filter-note_own m x bs (sym h ∙ same_text f.name x.name (sym e))) ∙ sym (note-same f x (filter (other m) bs) e)
+    ap (λ l. of_shorter_trip f x ∷ l) (filter-note_own m x bs (sym h ∙ same_text f.name x.name (sym e))) ∙ sym (note-same f x (filter (other m) bs) e)
 first-case false m x f bs h e =
-    ap (λ b. b ∷ filter (other m) (note bs x)) (better-other f x e)
+    ap (λ b. b ∷ filter (other m) (note bs x)) (of_shorter_trip-other f x e)
     ∙ ap (λ l. f ∷ l) (filter-note_other m x bs (λ p. other_text f.name x.name (sym e) (h ∙ p)))
     ∙ sym (note-other f x (filter (other m) bs) e)
 
@@ -106,9 +106,9 @@ first-case false m x f bs h e =
 bests-more : (ms : List BestValue) (x : BestValue) → bests (ms ++ x ∷ []) ≡ note (bests ms) x
 bests-more [] x = refl
 bests-more (m ∷ ms) x =
-    let f = fold better m ms in
-    ap (λ b. b ∷ filter (other m) (bests (ms ++ x ∷ []))) (fold-append better m ms (x ∷ []))
-    ∙ ap (λ l. better f x ∷ filter (other m) l) (bests-more ms x)
+    let f = fold of_shorter_trip m ms in
+    ap (λ b. b ∷ filter (other m) (bests (ms ++ x ∷ []))) (fold-append of_shorter_trip m ms (x ∷ []))
+    ∙ ap (λ l. of_shorter_trip f x ∷ filter (other m) l) (bests-more ms x)
     ∙ first-case (is_same_clock f x) m x f (bests ms) (name-fold m ms) refl
 
 with-case : (ms : List BestValue) (o : Option BestValue) → bests (ms ++ cons_option o []) ≡ with_difference (bests ms) o

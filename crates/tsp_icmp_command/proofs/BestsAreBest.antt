@@ -4,8 +4,8 @@ use Rattle.std.specs.Prelude.{if◌then◌else◌, not, ◌&&◌}
 use Rattle.std.specs.List.{All, filter, fold}
 use Rattle.std.specs.Cmp.Lexicographic.{same_text}
 use Rattle.std.proofs.lemmas.List.Elements.{All-nil, All-cons, All-head, All-tail, All-filter, filter_passes}
-use Rattle.tsp_icmp_command.specs.Bests.{BestValue, is_same_clock, better, bests, IsBestDifference}
-use Rattle.tsp_icmp_command.proofs.BestLemmas.{equal, name-better, name-fold}
+use Rattle.tsp_icmp_command.specs.Bests.{BestValue, is_same_clock, of_shorter_trip, bests, IsBestDifference}
+use Rattle.tsp_icmp_command.proofs.BestLemmas.{equal, name-of_shorter_trip, name-fold}
 
 abbrev Greater : BestValue → BestValue → Type 0
 Greater b m = is_same_clock b m ≡ true → b.trip < m.trip
@@ -69,9 +69,9 @@ step false t m x r xs es et n h =
       differ : (b : Bool) → b ≡ true → b ≡ false → ⊥
       differ b p q = cc
 
-fold-is_best : (m : BestValue) (ms : List BestValue) → IsBestDifference (m ∷ ms) (fold better m ms)
+fold-is_best : (m : BestValue) (ms : List BestValue) → IsBestDifference (m ∷ ms) (fold of_shorter_trip m ms)
 fold-is_best m [] = record { earlier = []; later = []; whole = refl; first = All-nil (Greater m); least = All-nil (AtLeast m) }
-fold-is_best m (x ∷ xs) = step (is_same_clock m x) (nat_lt x.trip m.trip) m x (fold better (better m x) xs) xs refl refl (name-fold (better m x) xs ∙ name-better m x) (fold-is_best (better m x) xs)
+fold-is_best m (x ∷ xs) = step (is_same_clock m x) (nat_lt x.trip m.trip) m x (fold of_shorter_trip (of_shorter_trip m x) xs) xs refl refl (name-fold (of_shorter_trip m x) xs ∙ name-of_shorter_trip m x) (fold-is_best (of_shorter_trip m x) xs)
 
 -- another clock's best stays so
 of_other : (m b : BestValue) (ms : List BestValue) → IsBestDifference ms b → not (is_same_clock m b) ≡ true → IsBestDifference (m ∷ ms) b
@@ -86,4 +86,4 @@ bests-are_best (m ∷ ms) =
     let p = λ (b : BestValue). not (is_same_clock m b) in
     let known = All-filter p (IsBestDifference ms) (bests ms) (bests-are_best ms) in
     let others = filter_passes p (bests ms) in
-    All-cons (IsBestDifference (m ∷ ms)) (fold better m ms) (filter p (bests ms)) (fold-is_best m ms) (λ k d h. of_other m _ ms (known k d h) (others k d h))
+    All-cons (IsBestDifference (m ∷ ms)) (fold of_shorter_trip m ms) (filter p (bests ms)) (fold-is_best m ms) (λ k d h. of_other m _ ms (known k d h) (others k d h))

@@ -4,7 +4,7 @@ use Rattle.tsp_lines.specs.Answers.{IsAnswer}
 use Rattle.tsp_lines.specs.Definite.{IsDefinite}
 use Rattle.tsp_lines.specs.Lines.{close, closed}
 use Rattle.tsp_lines.specs.declared.treat.Outcome.TheVariants.{Ok as Done}
-use Rattle.tsp_icmp_command.specs.Bests.{bests, differences, summary}
+use Rattle.tsp_icmp_command.specs.Bests.{bests, differences, group_lines}
 use Rattle.tsp_icmp_command.specs.Meaning.{averaging, exchange_line, AreExchangeLines}
 use Rattle.tsp_icmp_command.proofs.OneExchange.{IsExchange-not_refused, RefusesRecord-one, exchanges-one, exchanges-before}
 use Rattle.tsp_icmp_command.proofs.TreatLemmas.{output-more}
@@ -28,17 +28,17 @@ IsDefinite-averaging = record {
   not_limited = λ lines line text a l. l;
   one_cause = λ lines line cause other r s. RefusesRecord-one line cause other r s;
   refused_within = λ lines line cause r l. l;
-  one_end = λ lines more other a b. a.2 ∙ ap (λ es. summary (bests (differences es))) (exchanges-one lines a.0 b.0 a.1 b.1) ∙ sym b.2;
+  one_end = λ lines more other a b. a.2 ∙ ap (λ es. group_lines (bests (differences es))) (exchanges-one lines a.0 b.0 a.1 b.1) ∙ sym b.2;
   one_lack = λ lines cause other e f. absurd e;
   ended_whole = λ lines more cause e f. f;
 }
 
 -- the answer to lines of exchanges
-pub answer_exchanges : (limit : ℕ) (octets : List ℕ) → length octets ≤ limit → (a : AreExchangeLines octets) → IsAnswer averaging limit octets Done (closed (map exchange_line a.1) ++ summary (bests (differences a.1)))
+pub answer_exchanges : (limit : ℕ) (octets : List ℕ) → length octets ≤ limit → (a : AreExchangeLines octets) → IsAnswer averaging limit octets Done (closed (map exchange_line a.1) ++ group_lines (bests (differences a.1)))
 answer_exchanges limit octets l (lines, exchanges, n, are, z, few) = record {
   lines = lines;
   text = closed (map exchange_line exchanges);
-  said = summary (bests (differences exchanges));
+  said = group_lines (bests (differences exchanges));
   feedless = n;
   accepted = (exchanges, z, few, refl);
   ending = ((octets, are, (l, refl)), (exchanges, z, refl));

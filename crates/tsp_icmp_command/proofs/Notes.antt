@@ -6,25 +6,25 @@ use Rattle.std.specs.Str.{bytes_eq}
 use Rattle.std.proofs.lemmas.List.{set-get_or}
 use Rattle.std.proofs.lemmas.List.Sums.{passes_at_first}
 use Rattle.std.proofs.lemmas.Bool.{lt-ltb}
-use Rattle.tsp_icmp_command.specs.Bests.{BestValue, is_same_clock, better, note}
+use Rattle.tsp_icmp_command.specs.Bests.{BestValue, is_same_clock, of_shorter_trip, note}
 
 -- whether a difference is of this clock
 abbrev of_clock : List ℕ → BestValue → Bool
 of_clock name b = bytes_eq b.name name
 
 here : (t : Bool) (b : BestValue) (all : List BestValue) (x : BestValue) (p : ℕ) → cond (not t) (1 + p) 0 < length (b ∷ all)
-    → (p < length all → note all x ≡ slice_set all p (better (get_or all p x) x))
-    → (if t then better b x ∷ all else b ∷ note all x) ≡ slice_set (b ∷ all) (cond (not t) (1 + p) 0) (better (get_or (b ∷ all) (cond (not t) (1 + p) 0) x) x)
+    → (p < length all → note all x ≡ slice_set all p (of_shorter_trip (get_or all p x) x))
+    → (if t then of_shorter_trip b x ∷ all else b ∷ note all x) ≡ slice_set (b ∷ all) (cond (not t) (1 + p) 0) (of_shorter_trip (get_or (b ∷ all) (cond (not t) (1 + p) 0) x) x)
 here true b all x p h rest = refl
 here false b all x p h rest = let e : 1 + p ≡ suc p = omega arith in rw e (ap (λ l. b ∷ l) (rest (omega (arith, h))))
 
 note-at : (all : List BestValue) (x : BestValue) → position_or_len (of_clock x.name) all < length all
-    → note all x ≡ slice_set all (position_or_len (of_clock x.name) all) (better (get_or all (position_or_len (of_clock x.name) all) x) x)
+    → note all x ≡ slice_set all (position_or_len (of_clock x.name) all) (of_shorter_trip (get_or all (position_or_len (of_clock x.name) all) x) x)
 note-at [] x h = absurd (omega arith)
 note-at (b ∷ all) x h = here (of_clock x.name b) b all x (position_or_len (of_clock x.name) all) h (note-at all x)
 
 missing : (t : Bool) (b : BestValue) (all : List BestValue) (x : BestValue) (p : ℕ) → length (b ∷ all) < suc (cond (not t) (1 + p) 0)
-    → (length all < suc p → note all x ≡ all ++ x ∷ []) → (if t then better b x ∷ all else b ∷ note all x) ≡ (b ∷ all) ++ x ∷ []
+    → (length all < suc p → note all x ≡ all ++ x ∷ []) → (if t then of_shorter_trip b x ∷ all else b ∷ note all x) ≡ (b ∷ all) ++ x ∷ []
 missing true b all x p h rest = absurd (omega (arith, h))
 missing false b all x p h rest = ap (λ l. b ∷ l) (rest (omega (arith, h)))
 
@@ -54,10 +54,10 @@ get_or-any (b ∷ all) (suc i) d e h = get_or-any all i d e (omega (arith, h))
 at_place : (all : List BestValue) (x y : BestValue) (i : ℕ) → position (of_clock x.name) all ≡ Some i → y ≡ get_or all i y → y ≡ get_or all i x
 at_place all x y i e g = let p = position-some all x.name i e in g ∙ get_or-any all i y x (omega (arith, p.0, p.1))
 
-better-case : (s t : Bool) (a b : BestValue) → s ≡ true → t ≡ true → (if s && t then b else a) ≡ b
-better-case true true a b p q = refl
-better-case true false a b p q = cc
-better-case false t a b p q = cc
+of_shorter_trip-case : (s t : Bool) (a b : BestValue) → s ≡ true → t ≡ true → (if s && t then b else a) ≡ b
+of_shorter_trip-case true true a b p q = refl
+of_shorter_trip-case true false a b p q = cc
+of_shorter_trip-case false t a b p q = cc
 
 worse-case : (s t : Bool) (a b : BestValue) → t ≡ false → (if s && t then b else a) ≡ a
 worse-case true true a b q = cc
@@ -73,7 +73,7 @@ note-replaces all x y i e g less =
     let h : x.trip < (get_or all i x).trip = rw (at_place all x y i e g) at less in
     let p = position-some all x.name i e in
     let same : of_clock x.name (get_or all i x) ≡ true = rw p.1 at (passes_at_first (of_clock x.name) all x p.0) in
-    (rw p.1 at (note-at all x p.0)) ∙ ap (slice_set all i) (better-case (is_same_clock (get_or all i x) x) (nat_lt x.trip (get_or all i x).trip) (get_or all i x) x same (lt-ltb _ _ h))
+    (rw p.1 at (note-at all x p.0)) ∙ ap (slice_set all i) (of_shorter_trip-case (is_same_clock (get_or all i x) x) (nat_lt x.trip (get_or all i x).trip) (get_or all i x) x same (lt-ltb _ _ h))
 
 -- a later difference of no lesser trip changes nothing
 pub note-keeps : (all : List BestValue) (x y : BestValue) (i : ℕ) → position (of_clock x.name) all ≡ Some i → y ≡ get_or all i y → y.trip < suc x.trip → note all x ≡ all

@@ -6,7 +6,7 @@ use Rattle.std.specs.List.{AllZip}
 use Rattle.std.specs.declared.result.Result.{Result}
 use Rattle.tsp_icmp.specs.declared.timestamp.Timestamp.{Timestamp}
 use Rattle.tsp_icmp.specs.declared.timestamp.IcmpFault.{IcmpFault}
-use Rattle.tsp_icmp_command.specs.Records.{IsRecord, expected, IsExchange, fault_word, RefusesRecord}
+use Rattle.tsp_icmp_command.specs.Records.{IsRecord, expected, IsExchange, icmp_fault_word, RefusesRecord}
 use Rattle.tsp_icmp_command.specs.declared.record.Record.{Record}
 use Rattle.tsp_icmp_command.specs.declared.exchange.Exchange.{Exchange}
 use Rattle.tsp_icmp_command.proofs.Messages.{SaysInHex-one}
@@ -65,7 +65,7 @@ RefusesRecord-one line cause other (inr (inl r)) (inl s) = absurd (s.0 r.0 r.2)
 RefusesRecord-one line cause other (inr (inr r)) (inl s) = absurd (s.0 r.0 r.3)
 RefusesRecord-one line cause other (inr (inl r)) (inr (inl s)) =
     let same = ap (λ (x : Record). expected false x.request) (IsRecord-one line r.0 s.0 r.2 s.2) in
-    r.4 ∙ ap (λ f. codes "request " ++ fault_word f) (err_injective r.1 s.1 (expected false s.0.request) (sym same ∙ r.3) s.3) ∙ sym s.4
+    r.4 ∙ ap (λ f. codes "request " ++ icmp_fault_word f) (err_injective r.1 s.1 (expected false s.0.request) (sym same ∙ r.3) s.3) ∙ sym s.4
 RefusesRecord-one line cause other (inr (inl r)) (inr (inr s)) =
     let same = ap (λ (x : Record). expected false x.request) (IsRecord-one line r.0 s.0 r.2 s.3) in
     absurd (ok_or_err s.1 r.1 (expected false s.0.request) s.4 (sym same ∙ r.3))
@@ -74,7 +74,7 @@ RefusesRecord-one line cause other (inr (inr r)) (inr (inl s)) =
     absurd (ok_or_err r.1 s.1 (expected false s.0.request) (sym same ∙ r.4) s.3)
 RefusesRecord-one line cause other (inr (inr r)) (inr (inr s)) =
     let same = ap (λ (x : Record). expected true x.reply) (IsRecord-one line r.0 s.0 r.3 s.3) in
-    r.6 ∙ ap (λ f. codes "reply " ++ fault_word f) (err_injective r.2 s.2 (expected true s.0.reply) (sym same ∙ r.5) s.5) ∙ sym s.6
+    r.6 ∙ ap (λ f. codes "reply " ++ icmp_fault_word f) (err_injective r.2 s.2 (expected true s.0.reply) (sym same ∙ r.5) s.5) ∙ sym s.6
 
 -- lines are the same exchanges
 pub exchanges-one : (lines : List (List ℕ)) (es fs : List Exchange) → AllZip IsExchange lines es → AllZip IsExchange lines fs → es ≡ fs

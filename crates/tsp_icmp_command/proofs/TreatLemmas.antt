@@ -11,7 +11,7 @@ use Rattle.tsp_lines.specs.Outputs.{Hands}
 use Rattle.tsp_lines.specs.declared.output.Unwritten.{Unwritten}
 use Rattle.tsp_lines.specs.declared.treatment.Stop.{Stop}
 use Rattle.tsp_lines.proofs.Stops.{StopsAt-stop_of}
-use Rattle.tsp_icmp_command.specs.Bests.{TallyValue, taken}
+use Rattle.tsp_icmp_command.specs.Bests.{TallyValue, tally_with}
 use Rattle.tsp_icmp_command.specs.Meaning.{averaging, exchange_line, TallyStands}
 use Rattle.tsp_icmp_command.specs.Records.{IsExchange}
 use Rattle.tsp_icmp_command.specs.declared.exchange.Exchange.{Exchange}
@@ -36,7 +36,7 @@ accepts-more lines text line e a n h = (
   few : length (lines ++ line ∷ []) ≤ 1000
   few = omega (arith, n, length-append lines (line ∷ []))
 
-Stands-more : (t u : TallyValue) (lines : List (List ℕ)) (line : List ℕ) (e : Exchange) → TallyStands t lines → IsExchange line e → u ≡ taken t e → TallyStands u (lines ++ line ∷ [])
+Stands-more : (t u : TallyValue) (lines : List (List ℕ)) (line : List ℕ) (e : Exchange) → TallyStands t lines → IsExchange line e → u ≡ tally_with t e → TallyStands u (lines ++ line ∷ [])
 Stands-more t u lines line e s h i = (
   s.0 ++ e ∷ [],
   exchanges-more lines s.0 line e s.1 h,
@@ -46,7 +46,7 @@ Stands-more t u lines line e s h i = (
 
 -- a line that is an exchange
 pub MatchResult-exchange : (r : Result (Unit {0}) Stop) (lines : List (List ℕ)) (text line : List ℕ) (e : Exchange) (t u : TallyValue) (w n : Option (List ℕ)) (h k : List ℕ)
-    → TallyStands t lines → averaging.accepts lines text → (averaging.full lines → ⊥) → IsExchange line e → OnOk r (u ≡ taken t e) → OnOk r (Hands w h n k (close (exchange_line e))) → OnErr r (Hands w h n k [])
+    → TallyStands t lines → averaging.accepts lines text → (averaging.full lines → ⊥) → IsExchange line e → OnOk r (u ≡ tally_with t e) → OnOk r (Hands w h n k (close (exchange_line e))) → OnErr r (Hands w h n k [])
     → IfErr r (λ stop. (fault : Unwritten) × (stop ≡ stop_of fault))
     → MatchResult r (λ _. Goes averaging (TallyStands u) lines text line w h n k) (λ stop. StopsAt averaging lines text line w h n k stop)
 MatchResult-exchange (Ok x) lines text line e t u w n h k s a few is taken hands err stop = (close (exchange_line e), hands, accepts-more lines text line e a few is, Stands-more t u lines line e s is taken)

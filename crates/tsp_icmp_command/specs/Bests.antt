@@ -23,13 +23,13 @@ abbrev pub is_same_clock : BestValue → BestValue → Bool
 is_same_clock a b = bytes_eq a.name b.name
 
 -- of two differences of one clock the one with the shorter round trip, and the earlier where they are equal; of different clocks the earlier
-abbrev pub better : BestValue → BestValue → BestValue
-better earlier later = if is_same_clock earlier later && nat_lt later.trip earlier.trip then later else earlier
+abbrev pub of_shorter_trip : BestValue → BestValue → BestValue
+of_shorter_trip earlier later = if is_same_clock earlier later && nat_lt later.trip earlier.trip then later else earlier
 
 -- each clock's difference with the shortest round trip, the first of them, in the order of the clocks' first differences
 abbrev pub bests : List BestValue → List BestValue
 bests [] = []
-bests (first ∷ later) = fold better first later ∷ filter (λ b. not (is_same_clock first b)) (bests later)
+bests (first ∷ later) = fold of_shorter_trip first later ∷ filter (λ b. not (is_same_clock first b)) (bests later)
 
 -- the clock's earlier differences took a longer round trip, and its later ones one at least as long
 pub record IsBestDifference (all : List BestValue) (b : BestValue) : Type 0 where
@@ -42,7 +42,7 @@ pub record IsBestDifference (all : List BestValue) (b : BestValue) : Type 0 wher
 -- the best so far, with one more difference
 abbrev pub note : List BestValue → BestValue → List BestValue
 note [] later = later ∷ []
-note (b ∷ all) later = if is_same_clock b later then better b later ∷ all else b ∷ note all later
+note (b ∷ all) later = if is_same_clock b later then of_shorter_trip b later ∷ all else b ∷ note all later
 
 -- the difference that a finding gives
 abbrev pub difference_in : List ℕ → Finding → Option BestValue
@@ -82,8 +82,8 @@ pub record TallyValue : Type 0 where
   pub left : ℕ
 
 -- the tally after one exchange more
-abbrev pub taken : TallyValue → Exchange → TallyValue
-taken t e = record { bests = with_difference t.bests (difference_in e.name (finding_of e)); left = t.left - 1 }
+abbrev pub tally_with : TallyValue → Exchange → TallyValue
+tally_with t e = record { bests = with_difference t.bests (difference_in e.name (finding_of e)); left = t.left - 1 }
 
 -- the lines of the corrections to a mean
 abbrev pub corrections : ℤ → List BestValue → List ℕ
@@ -94,5 +94,5 @@ abbrev pub summary_of : Group → List BestValue → List ℕ
 summary_of g all = close (group_line g) ++ corrections (mean_of g) all
 
 -- the lines of the group of these, and of the corrections to its mean
-abbrev pub summary : List BestValue → List ℕ
-summary all = summary_of (group_in all) all
+abbrev pub group_lines : List BestValue → List ℕ
+group_lines all = summary_of (group_in all) all

@@ -4,13 +4,13 @@ use Rattle.std.specs.List.{All, AllZip}
 use Rattle.tsp_lines.specs.Lines.{NoFeed, closed, AreLines}
 use Rattle.tsp_lines.specs.Meanings.{Meaning}
 use Rattle.tsp_icmp_command.specs.Records.{IsExchange, RefusesRecord}
-use Rattle.tsp_icmp_command.specs.Findings.{finding_of, line_of}
-use Rattle.tsp_icmp_command.specs.Bests.{TallyValue, bests, differences, summary}
+use Rattle.tsp_icmp_command.specs.Findings.{finding_of, finding_line}
+use Rattle.tsp_icmp_command.specs.Bests.{TallyValue, bests, differences, group_lines}
 use Rattle.tsp_icmp_command.specs.declared.exchange.Exchange.{Exchange}
 
 -- the output line of an exchange
 abbrev pub exchange_line : Exchange → List ℕ
-exchange_line e = line_of e.name (finding_of e)
+exchange_line e = finding_line e.name (finding_of e)
 
 -- the tally stands for these lines: it is the one after them
 abbrev pub TallyStands : TallyValue → List (List ℕ) → Type 0
@@ -23,7 +23,7 @@ averaging = record {
   refuses = λ lines line cause. RefusesRecord line cause;
   limits = λ lines line. ⊥;
   full = λ lines. 1000 ≤ length lines;
-  ends = λ lines more. (exchanges : List Exchange) × AllZip IsExchange lines exchanges × (more ≡ summary (bests (differences exchanges)));
+  ends = λ lines more. (exchanges : List Exchange) × AllZip IsExchange lines exchanges × (more ≡ group_lines (bests (differences exchanges)));
   lacks = λ lines cause. ⊥;
 }
 

@@ -39,15 +39,15 @@ pub record IsExchange (line : List ℕ) (e : Exchange) : Type 0 where
       × (expected false request ≡ Ok e.request) × (expected true reply ≡ Ok e.reply)
 
 -- the word of a fault
-abbrev pub fault_word : IcmpFault → List ℕ
-fault_word Length = codes "length"
-fault_word Kind = codes "kind"
-fault_word Code = codes "code"
-fault_word Checksum = codes "checksum"
+abbrev pub icmp_fault_word : IcmpFault → List ℕ
+icmp_fault_word Length = codes "length"
+icmp_fault_word Kind = codes "kind"
+icmp_fault_word Code = codes "code"
+icmp_fault_word Checksum = codes "checksum"
 
 -- why a line is refused: it isn't four such words; else its request is faulty; else its reply
 abbrev pub RefusesRecord : List ℕ → List ℕ → Type 0
 RefusesRecord line cause =
     (((r : Record) → IsRecord line r → ⊥) × (cause ≡ codes "record"))
-    ⊎ (((r : Record) × (fault : IcmpFault) × IsRecord line r × (expected false r.request ≡ Err fault) × (cause ≡ codes "request " ++ fault_word fault))
-    ⊎ ((r : Record) × (t : Timestamp) × (fault : IcmpFault) × IsRecord line r × (expected false r.request ≡ Ok t) × (expected true r.reply ≡ Err fault) × (cause ≡ codes "reply " ++ fault_word fault)))
+    ⊎ (((r : Record) × (fault : IcmpFault) × IsRecord line r × (expected false r.request ≡ Err fault) × (cause ≡ codes "request " ++ icmp_fault_word fault))
+    ⊎ ((r : Record) × (t : Timestamp) × (fault : IcmpFault) × IsRecord line r × (expected false r.request ≡ Ok t) × (expected true r.reply ≡ Err fault) × (cause ≡ codes "reply " ++ icmp_fault_word fault)))

@@ -55,7 +55,7 @@ impl Averaging {
     ghost use Rattle.tsp_lines.specs.Meanings.{stop_of};
     ghost use Rattle.tsp_lines.specs.Outputs.{Hands};
     ghost use Rattle.tsp_lines.specs.declared.output.Unwritten.{Unwritten};
-    ghost use Rattle.tsp_icmp_command.specs.Bests.{taken};
+    ghost use Rattle.tsp_icmp_command.specs.Bests.{tally_with};
     ghost use Rattle.tsp_icmp_command.specs.Meaning.{exchange_line};
 
     /// Takes the exchange of a line, and gives its output line.
@@ -67,7 +67,7 @@ impl Averaging {
     ) -> Result<(), Stop>
         requires room { 0 < self.old.tally.left }
         requires arrival { exchange.arrival < 86400000 }
-        ensures taken { OnOk result (self.new.tally ≡ taken self.old.tally exchange) }
+        ensures taken { OnOk result (self.new.tally ≡ tally_with self.old.tally exchange) }
         ensures stop { IfErr result (λ stop. (fault : Unwritten) × (stop ≡ stop_of fault)) }
         ensures later { K.faults sink.old ≤ K.faults sink.new }
         ensures ok { OnOk result (Hands (K.written sink.old) output.old (K.written sink.new)

@@ -1,8 +1,8 @@
 //! The exchange of a line.
 ghost use Rattle.std.specs.Prelude.{◌≡◌, ◌≤◌, ◌++◌, length, MatchResult};
-ghost use Rattle.tsp_icmp_command.specs.Records.{fault_word, IsExchange, RefusesRecord};
+ghost use Rattle.tsp_icmp_command.specs.Records.{icmp_fault_word, IsExchange, RefusesRecord};
 
-use crate::message::{expected, fault_word};
+use crate::message::{expected, icmp_fault_word};
 use crate::record::record_of;
 use arrayvec::ArrayVec;
 use tsp_base::name::Name;
@@ -25,11 +25,11 @@ pub struct Exchange {
 /// The cause for which a part of a line is refused.
 fn cause_of(part: &[u8], fault: IcmpFault) -> Cause
     requires { length part.now ≤ 8 }
-    ensures { result ≡ part.now ++ fault_word fault }
+    ensures { result ≡ part.now ++ icmp_fault_word fault }
 {
     let mut words = ArrayVec::new();
     let _ = words.try_extend_from_slice(part);
-    let _ = words.try_extend_from_slice(fault_word(fault));
+    let _ = words.try_extend_from_slice(icmp_fault_word(fault));
     Cause::new(words)
 }
 

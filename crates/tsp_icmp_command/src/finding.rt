@@ -2,7 +2,7 @@
 ghost use Rattle.std.specs.Prelude.{◌≡◌, ◌≤◌, ◌<◌, ◌+◌, ◌++◌};
 ghost use Rattle.arrayvec.specs.ArrayVec.{array_vec_len};
 ghost use Rattle.tsp_lines.specs.Lines.{close};
-ghost use Rattle.tsp_icmp_command.specs.Findings.{is_answer, finding_of, IsNearDay, finding_text, line_of};
+ghost use Rattle.tsp_icmp_command.specs.Findings.{repeats_request, finding_of, IsNearDay, finding_text, finding_line};
 
 use crate::apart::Apart;
 use crate::exchange::Exchange;
@@ -25,8 +25,8 @@ pub enum Finding {
 }
 
 /// Whether the reply repeats the request's identifier, sequence number and originate stamp.
-fn is_answer(request: &Timestamp, reply: &Timestamp) -> bool
-    ensures { result ≡ is_answer request.now reply.now }
+fn repeats_request(request: &Timestamp, reply: &Timestamp) -> bool
+    ensures { result ≡ repeats_request request.now reply.now }
 {
     request.ident == reply.ident && request.seq == reply.seq && request.originate == reply.originate
 }
@@ -38,7 +38,7 @@ pub(crate) fn finding_of(exchange: &Exchange) -> Finding
     ensures near { IsNearDay result }
 {
     let (originate, receive) = (exchange.request.originate, exchange.reply.receive);
-    if !is_answer(&exchange.request, &exchange.reply) {
+    if !repeats_request(&exchange.request, &exchange.reply) {
         return Finding::Unlike;
     }
     if !standard(originate) || !standard(receive) {
@@ -73,7 +73,7 @@ fn append_finding(out: &mut ArrayVec<u8, 1024>, finding: &Finding)
 
 /// The line of a finding, with its line feed.
 pub(crate) fn finding_line(name: &Name, finding: &Finding) -> ArrayVec<u8, 1024>
-    ensures text { result.items ≡ close (line_of name.now finding.now) }
+    ensures text { result.items ≡ close (finding_line name.now finding.now) }
     ensures short { array_vec_len result ≤ 1024 }
 {
     let mut text = ArrayVec::new();

@@ -3,7 +3,7 @@ ghost use Rattle.std.specs.Prelude.{◌≡◌, ◌≤◌, length, MatchOption};
 ghost use Rattle.std.specs.declared.result.Result.{Result};
 ghost use Rattle.tsp_icmp.specs.declared.timestamp.Timestamp.{Timestamp};
 ghost use Rattle.tsp_icmp.specs.declared.timestamp.IcmpFault.{IcmpFault};
-ghost use Rattle.tsp_icmp_command.specs.Records.{SaysInHex, expected, fault_word};
+ghost use Rattle.tsp_icmp_command.specs.Records.{SaysInHex, expected, icmp_fault_word};
 
 use tsp_icmp::{IcmpFault, Timestamp, icmp_decode};
 use tsp_script::numbers::octets_of;
@@ -38,8 +38,8 @@ pub(crate) fn expected(
 }
 
 /// The word of a fault.
-pub(crate) fn fault_word(fault: IcmpFault) -> &'static [u8]
-    ensures word { result.now ≡ fault_word fault }
+pub(crate) fn icmp_fault_word(fault: IcmpFault) -> &'static [u8]
+    ensures word { result.now ≡ icmp_fault_word fault }
     ensures short { length result.now ≤ 8 }
 {
     match fault {

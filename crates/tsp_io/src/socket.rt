@@ -25,6 +25,9 @@ const LONGEST_PAUSE: u64 = 1_000_000;
 /// How many datagrams one receive throws away at most.
 const MOST_DISCARDED: u32 = 100_000;
 
+/// So many looks are left out after one that found nothing.
+const LOOKS_LEFT_OUT: u8 = 15;
+
 /// The system reported an error of a receive, and not only that there was no datagram.
 #[derive(Clone, Copy)]
 pub(crate) struct ReceiveFault;
@@ -65,6 +68,8 @@ pub(crate) struct Socket {
     wait: u64,
     /// Whether calls wait: a receive for a datagram, a send for room. No send is tried while they do.
     waits: bool,
+    /// How many more looks at what is there already are left out.
+    looks_left_out: u8,
     /// When the last receive ended, or the bind; None if the machine's clock gave no reading.
     ended: Option<u64>,
     ghost no_stream: { pos 2 <ℤ udp_raw_fd udp },
@@ -96,6 +101,7 @@ impl Socket {
             discarded: 0,
             wait: 0,
             waits: true,
+            looks_left_out: 0,
             ended: machine_micros(rt),
         })
     }
@@ -139,6 +145,25 @@ impl Socket {
         }
     }
 
+    /// A look at what is there already, after a send. After one that found nothing the next ones are left
+    /// out, and give nothing: so a socket that seldom has something to take is seldom asked in vain.
+    #[inline(always)]
+    fn look(&mut self, buf: &mut [u8]) -> Result<Came, Untaken>
+        requires { length buf.old ≡ 512 }
+        ensures size { IfOk result (λ came. came.count ≤ 512) }
+        ensures same { self.new ≡ record self.old { looks_left_out = self.new.looks_left_out } }
+    {
+        if self.looks_left_out > 0 {
+            self.looks_left_out -= 1;
+            return Err(Untaken::Empty);
+        }
+        let looked = self.take(buf);
+        if matches!(looked, Err(Untaken::Empty)) {
+            self.looks_left_out = LOOKS_LEFT_OUT;
+        }
+        looked
+    }
+
     /// The next datagram that comes within the wait that is set. After a send what is there already is
     /// taken first, and calls wait again once nothing is there: so a socket that always has something
     /// to take isn't told to wait and not to wait in turn.
@@ -146,10 +171,13 @@ impl Socket {
     fn next(&mut self, buf: &mut [u8]) -> Result<Came, Untaken>
         requires { length buf.old ≡ 512 }
         ensures size { IfOk result (λ came. came.count ≤ 512) }
-        ensures same { self.new ≡ record self.old { waits = self.new.waits } }
+        ensures same { self.new ≡ record self.old {
+          waits = self.new.waits;
+          looks_left_out = self.new.looks_left_out;
+        } }
     {
         if !self.waits {
-            match self.take(buf) {
+            match self.look(buf) {
                 Err(Untaken::Empty) => {}
                 taken => return taken,
             }
@@ -219,6 +247,7 @@ impl Socket {
         ensures same { self.new ≡ record self.old {
           wait = self.new.wait;
           waits = self.new.waits;
+          looks_left_out = self.new.looks_left_out;
           discarded = self.new.discarded;
           ended = self.new.ended;
         } }

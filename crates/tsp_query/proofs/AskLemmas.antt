@@ -6,7 +6,7 @@ use Rattle.tsp_io.specs.Clocks.{TakesReading}
 use Rattle.tsp_io.specs.Links.{Arrival, Tried, NotesReceive}
 use Rattle.tsp_query.specs.Arrivals.{answer_in, next_arrival, rest_of, or_later, asked_from}
 use Rattle.tsp_query.specs.Clocks.{reading}
-use Rattle.tsp_query.specs.Ends.{Outside, KnowsExactly, heard, heard_times, receives, Listens, sent, Asks, WaitsSeconds}
+use Rattle.tsp_query.specs.Ends.{Outside, KnowsExactly, heard, heard_times, receives, Listens, after_send, Asks, WaitsSeconds}
 use Rattle.tsp_query.specs.declared.ask.AskEnd.{AskEnd}
 use Rattle.tsp_query.specs.declared.ask.AskEnd.TheVariants.{Answer, NoAnswer, LinkFault, OutOfMemory}
 use Rattle.tsp_query.specs.declared.question.Question.{Question}
@@ -77,7 +77,7 @@ receives-least q i a h = receives_cases (asked_from q i (8 - i) a) i h (λ r e. 
 
 -- what eight receives come to is what asking does, once the request was sent
 pub asks-listens : (request : Datagram) (q : Question) (o : Outside) (arrivals : Option (List Arrival)) (tried : Option (List Tried)) (calls : Option ℕ) (readings : Option (List ℕ)) (last sends sends_now : ℕ) (end : AskEnd) → sends_now ≡ sends →
-    Listens q (sent request o) arrivals tried calls readings last end → Asks request q o arrivals tried calls readings last sends sends_now end
+    Listens q (after_send request o) arrivals tried calls readings last end → Asks request q o arrivals tried calls readings last sends sends_now end
 asks-listens request q o arrivals tried calls readings last sends sends_now (Answer d tick) same h = h
 asks-listens request q o arrivals tried calls readings last sends sends_now NoAnswer same h = h
 asks-listens request q o arrivals tried calls readings last sends sends_now LinkFault same h = inr (h, same)

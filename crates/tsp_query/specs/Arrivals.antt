@@ -15,9 +15,9 @@ use Rattle.tsp_query.specs.declared.question.Question.{Question}
 use Rattle.tsp_query.specs.declared.question.Question.TheVariants.{OfNumber, OfDate, OfWord}
 
 -- whether messages of this kind are ACKs
-abbrev pub is_ack : Kind → Bool
-is_ack Ack = true
-is_ack _ = false
+abbrev pub is_ack_kind : Kind → Bool
+is_ack_kind Ack = true
+is_ack_kind _ = false
 
 -- whether messages of this kind are ACKs or DATEACKs
 abbrev pub is_date_answer : Kind → Bool
@@ -28,7 +28,7 @@ is_date_answer _ = false
 -- whether a datagram answers a question: an ACK with its number, or, to a date, a DATEACK with it too; or a stamp reply
 -- with its word and counter 0
 abbrev pub answers : Question → Datagram → Bool
-answers (OfNumber number) (Message m) = is_ack m.kind && (m.number == number)
+answers (OfNumber number) (Message m) = is_ack_kind m.kind && (m.number == number)
 answers (OfNumber number) (Stamp s) = false
 answers (OfDate number) (Message m) = is_date_answer m.kind && (m.number == number)
 answers (OfDate number) (Stamp s) = false
@@ -72,5 +72,5 @@ asked_from q i zero arrivals = None
 asked_from q i (suc n) arrivals = or_later (answer_in q (next_arrival arrivals)) i (asked_from q (i + 1) n (rest_of arrivals))
 
 -- the first answer within eight waits, and the number of its wait, counted from 0
-abbrev pub asked : Question → List Arrival → Option (ℕ × Datagram)
-asked q arrivals = asked_from q 0 8 arrivals
+abbrev pub first_answer : Question → List Arrival → Option (ℕ × Datagram)
+first_answer q arrivals = asked_from q 0 8 arrivals

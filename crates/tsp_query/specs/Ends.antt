@@ -5,7 +5,7 @@ use Rattle.tsp_base.specs.declared.place.Place.TheVariants.{Peer}
 use Rattle.tsp_codec.specs.Canon.{canon}
 use Rattle.tsp_io.specs.Counts.{Rose, one_more}
 use Rattle.tsp_io.specs.Links.{Arrival, Tried}
-use Rattle.tsp_query.specs.Arrivals.{answers, answer_in, next_arrival, rest_of, asked}
+use Rattle.tsp_query.specs.Arrivals.{answers, answer_in, next_arrival, rest_of, first_answer}
 use Rattle.tsp_query.specs.Clocks.{reading}
 use Rattle.tsp_query.specs.declared.ask.AskEnd.{AskEnd}
 use Rattle.tsp_query.specs.declared.ask.AskEnd.TheVariants.{Answer, NoAnswer, LinkFault, OutOfMemory}
@@ -62,22 +62,22 @@ HearsWell q last _ = Unit {0}
 -- what up to eight receives come to: the first answer among them, unless one fails before it; nothing happens after
 -- either
 abbrev pub Listens : Question → Outside → Option (List Arrival) → Option (List Tried) → Option ℕ → Option (List ℕ) → ℕ → AskEnd → Type 0
-Listens q o arrivals tried calls readings last (Answer d tick) = (i : ℕ) × (asked q o.arrivals ≡ Some (i, d)) × (tick ≡ reading o.last o.readings i) × KnowsExactly (heard_times (i + 1) o) arrivals tried calls readings last
-Listens q o arrivals tried calls readings last NoAnswer = (asked q o.arrivals ≡ None) × KnowsExactly (heard_times 8 o) arrivals tried calls readings last
-Listens q o arrivals tried calls readings last LinkFault = (n : ℕ) × (n < receives (asked q o.arrivals)) × KnowsExactly (failed (heard_times n o)) arrivals tried calls readings last
+Listens q o arrivals tried calls readings last (Answer d tick) = (i : ℕ) × (first_answer q o.arrivals ≡ Some (i, d)) × (tick ≡ reading o.last o.readings i) × KnowsExactly (heard_times (i + 1) o) arrivals tried calls readings last
+Listens q o arrivals tried calls readings last NoAnswer = (first_answer q o.arrivals ≡ None) × KnowsExactly (heard_times 8 o) arrivals tried calls readings last
+Listens q o arrivals tried calls readings last LinkFault = (n : ℕ) × (n < receives (first_answer q o.arrivals)) × KnowsExactly (failed (heard_times n o)) arrivals tried calls readings last
 Listens q o arrivals tried calls readings last OutOfMemory = ⊥
 
 -- the outside after one datagram more was sent to the daemon
-abbrev pub sent : Datagram → Outside → Outside
-sent request o = record o { tried = o.tried ++ (Peer (record { 0 = 0 }), canon request) ∷ [] }
+abbrev pub after_send : Datagram → Outside → Outside
+after_send request o = record o { tried = o.tried ++ (Peer (record { 0 = 0 }), canon request) ∷ [] }
 
 -- how asking ends; the last two numbers are the counts of failed sends before and after. The one datagram was tried,
 -- unless there was no memory for it. If its send failed, nothing more happened
 abbrev pub Asks : Datagram → Question → Outside → Option (List Arrival) → Option (List Tried) → Option ℕ → Option (List ℕ) → ℕ → ℕ → ℕ → AskEnd → Type 0
 Asks request q o arrivals tried calls readings last sends sends_now OutOfMemory = KnowsExactly o arrivals tried calls readings last
 Asks request q o arrivals tried calls readings last sends sends_now LinkFault =
-    (KnowsExactly (sent request o) arrivals tried calls readings last × Rose sends sends_now) ⊎ (Listens q (sent request o) arrivals tried calls readings last LinkFault × (sends_now ≡ sends))
-Asks request q o arrivals tried calls readings last sends sends_now end = Listens q (sent request o) arrivals tried calls readings last end
+    (KnowsExactly (after_send request o) arrivals tried calls readings last × Rose sends sends_now) ⊎ (Listens q (after_send request o) arrivals tried calls readings last LinkFault × (sends_now ≡ sends))
+Asks request q o arrivals tried calls readings last sends sends_now end = Listens q (after_send request o) arrivals tried calls readings last end
 
 -- each receive waited a second, if it is told how long receives wait
 abbrev pub WaitsSeconds : Option (List ℕ) → Option (List ℕ) → Type 0

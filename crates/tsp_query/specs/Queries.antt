@@ -81,13 +81,13 @@ EndsByWord links tickers request question answer link ticker link_now ticker_now
     → HoldsOf links tickers (QueryEnds (request word) (question word) answer o) link_now ticker_now (links.send_faults link) (links.send_faults link_now) end
 
 -- the name in an answer
-abbrev pub name_in : Datagram → List ℕ
-name_in (Message m) = m.name
-name_in (Stamp s) = []
+abbrev pub name_told : Datagram → List ℕ
+name_told (Message m) = m.name
+name_told (Stamp s) = []
 
 -- the answer to who is master: the name in it
 abbrev pub master_in : Datagram → ℕ → QueryEnd
-master_in d tick = Master (name_in d)
+master_in d tick = Master (name_told d)
 
 -- the answer that says only that the daemon has heard
 abbrev pub heard_in : Datagram → ℕ → QueryEnd

@@ -12,7 +12,7 @@ ghost use Rattle.tsp_query.specs.Faults.{LinkCounts};
 ghost use Rattle.tsp_query.specs.Queries.{read_twice, message, message_with, date_message};
 ghost use Rattle.tsp_query.specs.Queries.{question_of, stamp, QueryEnds, end_of, trace_kind};
 ghost use Rattle.tsp_query.specs.Queries.{EndsByWord, by_number, by_date};
-ghost use Rattle.tsp_query.specs.Queries.{name_in, master_in, heard_in, says_set, date_in};
+ghost use Rattle.tsp_query.specs.Queries.{name_told, master_in, heard_in, says_set, date_in};
 ghost use Rattle.tsp_query.specs.Queries.{reading_in, IsReplied, diff_in};
 ghost use Rattle.tsp_query.specs.Told.{AsksOnce, HoldsOf, ReadsWall};
 

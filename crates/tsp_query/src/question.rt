@@ -1,7 +1,7 @@
 //! Questions, and what answers them.
 ghost use Rattle.std.specs.Prelude.{◌≡◌};
 ghost use Rattle.tsp_codec.specs.Taken.{taken_of};
-ghost use Rattle.tsp_query.specs.Arrivals.{is_ack, is_date_answer, answers, answer_of};
+ghost use Rattle.tsp_query.specs.Arrivals.{is_ack_kind, is_date_answer, answers, answer_of};
 
 use tsp_base::datagram::{Datagram, Taken};
 use tsp_base::kind::Kind;
@@ -20,8 +20,8 @@ pub enum Question {
 }
 
 /// Whether messages of this kind are ACKs.
-fn is_ack(kind: Kind) -> bool
-    ensures { result ≡ is_ack kind }
+fn is_ack_kind(kind: Kind) -> bool
+    ensures { result ≡ is_ack_kind kind }
 {
     matches!(kind, Kind::Ack)
 }
@@ -39,7 +39,7 @@ fn answers(question: Question, datagram: &Datagram) -> bool
 {
     match question {
         Question::OfNumber(number) => match datagram {
-            Datagram::Message(message) => is_ack(message.kind()) && message.number() == number,
+            Datagram::Message(message) => is_ack_kind(message.kind()) && message.number() == number,
             Datagram::Stamp(_) => false,
         },
         Question::OfDate(number) => match datagram {

@@ -1,5 +1,5 @@
 -- Laws of the words of a line.
-use Rattle.std.proofs.Common.{◌≡◌, ◌≢◌, ℕ, ◌<◌, List, [], ◌∷◌, ◌++◌, zero, suc, length, take, drop, slice_index_or, refl, ap, sym, subst, ◌∙◌, ◌≤◌, inl, inr, arith}
+use Rattle.std.proofs.Common.{◌≡◌, ◌≢◌, ℕ, ◌<◌, List, [], ◌∷◌, ◌++◌, zero, suc, length, take, drop, slice_index_or, refl, ap, sym, subst, ◌∙◌, inl, inr, arith}
 use Rattle.std.specs.Prelude.{Contains, decimal, ◌^◌, ℤ, pos, negsuc}
 use Rattle.std.specs.Fmt.{signed_decimal}
 use Rattle.std.specs.Str.Parse.{AllDigits}
@@ -100,21 +100,6 @@ pub cut_back : (line word rest text : List ℕ) → word ≡ first_word line →
 cut_back line word rest text v r e h =
     let behind : 0 < length (after_word line) = omega (arith, ap length r) in
     line_of_marks 32 line behind ∙ rw (sym v ∙ e, sym r) refl
-
--- what stands behind a mark is shorter than the whole
-length-after_mark-le : (m : ℕ) (line : List ℕ) → length (after_mark m line) ≤ length line
-length-after_mark-le m [] = omega arith
-length-after_mark-le m (c ∷ cs) = elim (eqb_tells c m) [
-  | inl e ↦ rw (after_mark-mark m c cs e.1) (omega arith)
-  | inr e ↦ rw (after_mark-other m c cs e.1) (omega (arith, length-after_mark-le m cs))
-]
-
-pub length-after_mark : (m : ℕ) (line : List ℕ) → 0 < length line → length (after_mark m line) < length line
-length-after_mark m [] h = absurd (omega arith)
-length-after_mark m (c ∷ cs) h = elim (eqb_tells c m) [
-  | inl e ↦ rw (after_mark-mark m c cs e.1) (omega arith)
-  | inr e ↦ rw (after_mark-other m c cs e.1) (omega (arith, length-after_mark-le m cs))
-]
 
 -- what is no digit stands in no number
 no_mark-digits : (m : ℕ) (ds : List ℕ) → (AllDigits 10 (m ∷ []) → ⊥) → AllDigits 10 ds → ¬ Contains ds m

@@ -1,6 +1,9 @@
 -- Laws of the number whose digits some octets begin with.
-use Rattle.std.proofs.Common.{◌≡◌, ℕ, ◌+◌, ◌-◌, ◌*◌, ◌/◌, ◌%◌, ◌<◌, ◌≤◌, ◌^◌, List, [], ◌∷◌, ◌++◌, length, take, drop, take-append-drop, zero, suc, refl, sym, ap, ◌∙◌, subst, append_assoc, arith, get_or}
-use Rattle.std.specs.Prelude.{decimal, Option, None, Some, IfSome, IfNone}
+use Rattle.std.proofs.Common.{◌≡◌, ℕ, ◌+◌, ◌-◌, ◌*◌, ◌/◌, ◌%◌, ◌<◌, ◌≤◌, ◌^◌, List, [], ◌∷◌, ◌++◌, length, take, drop, take-append-drop, zero, suc, refl, sym, ap, ◌∙◌, append_assoc, arith, get_or}
+use Rattle.std.specs.Prelude.{decimal, Option, None, Some, IfSome, IfNone, ℤ, pos, negsuc}
+use Rattle.std.specs.Fmt.{signed_decimal}
+use Rattle.std.specs.Int.{w64}
+use Rattle.std.specs.Int.RustNames.{FitsSigned}
 use Rattle.std.specs.Str.Parse.{AllDigits, digits_value}
 use Rattle.std.specs.Char.{digit_value}
 use Rattle.std.proofs.lemmas.Fmt.{decimal_is_IsNumeral, decimal_is_IsNumeral_wide, decimal_injective, decimal_step_wide, decimal_digit, first_decimal}
@@ -94,6 +97,12 @@ no_number octets none n rest h b e = first (decimal n) (decimal_is_IsNumeral n h
   first : (ds : List ℕ) → 0 < length ds → AllDigits 10 ds → octets ≡ ds ++ rest → ⊥
   first [] some all f = absurd (omega (arith, some))
   first (c ∷ cs) some all f = not_first c (cs ++ rest) octets all.0 none f
+
+-- a number with a dash before it is below zero
+pub signed_behind : (word digits : List ℕ) (z : ℤ) → FitsSigned w64 z → word ≡ 45 ∷ digits → word ≡ signed_decimal z → (n : ℕ) × (z ≡ negsuc n) × (n < 2 ^ 63) × (digits ≡ decimal (suc n))
+signed_behind word digits (pos n) h d e =
+    absurd (no_number (45 ∷ digits) (NoDigit-other 45 digits (λ x. omega (arith, x))) n [] (omega (arith, h.sfits)) NoDigit-nil (sym d ∙ e ∙ sym (append-nil (decimal n))))
+signed_behind word digits (negsuc n) h d e = (n, refl, omega (arith, h.sfits), tail_is 45 45 digits (decimal (suc n)) (sym d ∙ e))
 
 -- no number is written with a 0 and another digit
 pub no_leading_zero : (d : ℕ) (octets behind rest : List ℕ) → d < 10 → octets ≡ 48 ∷ behind → behind ≡ (48 + d) ∷ rest → (n : ℕ) (s : List ℕ) → n < 2 ^ 64 → NoDigit s → octets ≡ decimal n ++ s → ⊥

@@ -9,9 +9,6 @@ use Rattle.std.proofs.lemmas.Fmt.{length-decimal-le}
 pub number_length : (n : ℕ) → n < 2 ^ 64 → length (decimal n) ≤ 20
 number_length n h = length-decimal-le 20 n (omega arith) (omega arith) h
 
-pub long_length : (n : ℕ) → n < 2 ^ 32 → length (decimal n) ≤ 10
-long_length n h = length-decimal-le 10 n (omega arith) (omega arith) (omega arith)
-
 pub size_length : (n : ℕ) → n ≤ 2 ^ 63 → length (decimal n) ≤ 19
 size_length n h = length-decimal-le 19 n (omega arith) (omega arith) (omega arith)
 

@@ -1,44 +1,46 @@
 //! The line of a network in a schedule's header.
-ghost use Rattle.std.specs.Prelude.{◌≡◌, ℕ, ◌^◌, ◌<◌, ◌++◌, ◌∷◌, List, length, codes, IfSome, IsSomeAnd};
+ghost use Rattle.std.specs.Prelude.{◌≡◌, ℕ, ◌^◌, ◌<◌, ◌++◌, ◌∷◌, List, length, decimal, codes, IfSome, IfNone, IsSomeAnd};
 ghost use Rattle.std.specs.List.{All};
 ghost use Rattle.tsp_script.specs.declared.head_line.HeadItem.{HeadItem};
-ghost use Rattle.tsp_script.specs.Schedules.{joined_text, net_text, IsNetLine, SpellsHead, ReadsHead};
+ghost use Rattle.tsp_script.specs.Schedules.{joined_text, IsNetLine, SpellsHead, ReadsHead};
+ghost use Rattle.tsp_script.specs.Words.{NoDigit};
 
-use crate::head_line::HeadItem;
+use crate::digit_reader::front_digits;
+use crate::head_line::{HeadItem, after};
 use crate::line_fault::LineFault;
-use crate::numbers::{append, append_next_long, long_of, number_of};
-use crate::words::{cut, is_same};
+use crate::numbers::long_of;
 use arrayvec::ArrayVec;
 use tsp_base::members::{Members, is_ascending};
 
-/// The first of some numbers, and the text of the others. It may accept texts that aren't written so.
-fn next_member(text: &[u8]) -> Option<(u32, &[u8])>
-    requires { 0 < length text.now }
-    ensures reads { (n : ℕ) (ns : List ℕ) → n < 2 ^ 32 → text.now ≡ joined_text (n ∷ ns)
-        → IsSomeAnd result (λ r. (r.0 ≡ n) × (r.1.now ≡ joined_text ns)) }
-    ensures small { IfSome result (λ r. r.0 < 2 ^ 32) }
-    ensures shorter { IfSome result (λ r. length r.1.now < length text.now) }
+/// The number that a text begins with, and what follows it; None exactly where no number of 32 bits is written so.
+fn front_member(text: &[u8]) -> Option<(u32, &[u8])>
+    ensures found { IfSome result (λ r. (r.0 < 2 ^ 32) × NoDigit r.1.now
+        × (text.now ≡ decimal r.0 ++ r.1.now)) }
+    ensures none { IfNone result ((n : ℕ) (rest : List ℕ) → n < 2 ^ 32 → NoDigit rest
+        → text.now ≡ decimal n ++ rest → ⊥) }
 {
-    let (word, rest) = cut(text);
-    let number = number_of(word)?;
-    let number = long_of(number)?;
-    Some((number, rest))
+    let (number, rest) = front_digits(text)?;
+    Some((long_of(number)?, rest))
 }
 
-/// The numbers of a text; None where there are more than 64. It may accept texts that aren't written so.
+/// The numbers of a text; None where there are more than 64, or where they aren't written so.
 fn numbers_in(text: &[u8]) -> Option<ArrayVec<u32, 64>>
     ensures reads { (ns : List ℕ) → IsNetLine ns → text.now ≡ joined_text ns
         → IsSomeAnd result (λ r. r.items ≡ ns) }
+    ensures found { IfSome result (λ r. (text.now ≡ joined_text r.items) × (0 < length r.items)) }
     ensures small { IfSome result (λ r. All (λ n. n < 2 ^ 32) r.items) }
 {
     let mut numbers = ArrayVec::new();
-    let mut rest = text;
+    let (first, behind) = front_member(text)?;
+    numbers.push(first);
+    let mut rest = behind;
     while !rest.is_empty() {
-        let (number, after) = next_member(rest)?;
+        let next = after(rest, b" ")?;
+        let (number, behind) = front_member(next)?;
         let Ok(()) = numbers.try_push(number) else {
             return None;
         };
-        rest = after;
+        rest = behind;
     }
     Some(numbers)
 }
@@ -47,25 +49,14 @@ fn numbers_in(text: &[u8]) -> Option<ArrayVec<u32, 64>>
 fn read_net(text: &[u8]) -> Option<Members>
     ensures reads { (members : List ℕ) → IsNetLine members → text.now ≡ joined_text members
         → result ≡ Some members }
+    ensures found { IfSome result (λ members. text.now ≡ joined_text members) }
     ensures range { IfSome result IsNetLine }
 {
     let numbers = numbers_in(text)?;
-    if numbers.is_empty() || !is_ascending(numbers.as_slice()) {
+    if !is_ascending(numbers.as_slice()) {
         return None;
     }
     Members::of(numbers.as_slice())
-}
-
-/// The line of a network.
-fn net_text(members: &Members) -> ArrayVec<u8, 1024>
-    ensures { result.items ≡ net_text members.now }
-{
-    let mut out = ArrayVec::new();
-    append(&mut out, b"net");
-    for number in members.numbers() {
-        append_next_long(&mut out, *number);
-    }
-    out
 }
 
 /// What a line is that begins with `net `.
@@ -74,12 +65,8 @@ pub(crate) fn net_line(line: &[u8], rest: &[u8]) -> Result<HeadItem, LineFault>
     ensures reads { ReadsHead 4 line.now result }
     ensures one { (item : HeadItem) → SpellsHead 4 line.now item → result ≡ Ok item }
 {
-    let Some(members) = read_net(rest) else {
-        return Err(LineFault::Bad);
-    };
-    if is_same(net_text(&members).as_slice(), line) {
-        Ok(HeadItem::Net(members))
-    } else {
-        Err(LineFault::Bad)
+    match read_net(rest) {
+        Some(members) => Ok(HeadItem::Net(members)),
+        None => Err(LineFault::Bad),
     }
 }

@@ -1,6 +1,6 @@
 //! Numbers and octets as text.
 ghost use Rattle.std.specs.Prelude.{◌≡◌, ℕ, ◌+◌, ◌*◌, ◌^◌, ◌≤◌, ◌<◌, ◌++◌, length, take, decimal};
-ghost use Rattle.std.specs.Prelude.{IfSome, IfNone, Ok, MatchBool, IsErr, ℤ, List, IsSomeAnd, ◌∷◌};
+ghost use Rattle.std.specs.Prelude.{IfSome, IfNone, Ok, IsErr, ℤ, negsuc, suc, List, IsSomeAnd, ◌∷◌};
 ghost use Rattle.std.specs.Int.{w64};
 ghost use Rattle.std.specs.Int.RustNames.{FitsSigned};
 ghost use Rattle.std.specs.Fmt.{signed_decimal};
@@ -14,8 +14,6 @@ use crate::head_line::after;
 use crate::hexes::value_of;
 use crate::words::front_word;
 use arrayvec::ArrayVec;
-use itoa::Buffer;
-use std::str;
 
 /// Writes octets as they are.
 #[inline(always)]
@@ -59,16 +57,6 @@ pub fn append_next_number(out: &mut ArrayVec<u8, 1024>, number: u64)
     append_number(out, number);
 }
 
-/// Writes a space and a number of 32 bits, in at most 11 octets.
-pub fn append_next_long(out: &mut ArrayVec<u8, 1024>, number: u32)
-    requires { array_vec_len out.old + 11 ≤ 1024 }
-    ensures text { out.new.items ≡ out.old.items ++ space ++ decimal number }
-    ensures short { array_vec_len out.new ≤ array_vec_len out.old + 11 }
-{
-    out.push(b' ');
-    append_decimal(out, number as u64);
-}
-
 /// Writes a space and a number with its sign.
 pub fn append_next_signed(out: &mut ArrayVec<u8, 1024>, number: i64)
     requires { array_vec_len out.old + 21 ≤ 1024 }
@@ -108,27 +96,19 @@ pub fn signed_of(word: &[u8]) -> Option<i64>
     ensures found { IfSome result (λ n. word.now ≡ signed_decimal n) }
     ensures reads { (n : ℤ) → FitsSigned w64 n → word.now ≡ signed_decimal n → result ≡ Some n }
 {
-    let Ok(text) = str::from_utf8(word) else {
-        return None;
-    };
-    let Ok(number) = text.parse::<i64>() else {
-        return None;
-    };
-    if is_signed_text_of(word, number) {
-        Some(number)
-    } else {
-        None
+    match after(word, b"-") {
+        Some(digits) => negative_of(number_of(digits)?),
+        None => i64::try_from(number_of(word)?).ok(),
     }
 }
 
-/// Whether the word is the text of the number with a sign.
-fn is_signed_text_of(word: &[u8], number: i64) -> bool
-    ensures { MatchBool result (word.now ≡ signed_decimal number) (word.now ≡ signed_decimal number
-        → ⊥) }
+/// The number below zero of this magnitude; None exactly where that is 0 or above 2^63.
+fn negative_of(magnitude: u64) -> Option<i64>
+    ensures found { IfSome result (λ z. (n : ℕ) × (z ≡ negsuc n) × (magnitude ≡ suc n)) }
+    ensures reads { (n : ℕ) → n < 2 ^ 63 → magnitude ≡ suc n → result ≡ Some (negsuc n) }
 {
-    let mut buffer = Buffer::new();
-    let text = buffer.format(number).as_bytes();
-    if text == word { true } else { false }
+    let below = i64::try_from(magnitude.checked_sub(1)?).ok()?;
+    Some(-1 - below)
 }
 
 /// The octets of a line of hexadecimal, whose letters may be in either case; None exactly where the line

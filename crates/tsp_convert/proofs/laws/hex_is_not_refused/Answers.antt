@@ -1,5 +1,5 @@
-use Rattle.tsp_convert.proofs.Hexes.{IsHexOf-not_refused}
+use Rattle.tsp_convert.proofs.Hexes.{IsHexLineOf-not_refused}
 use Rattle.tsp_convert.proofs.laws.hex_is_not_refused.Goals as goal
 
 pub returns : goal.returns
-returns c = IsHexOf-not_refused
+returns c = IsHexLineOf-not_refused

@@ -1,5 +1,5 @@
-use Rattle.tsp_convert.proofs.Hexes.{IsHexOf-one}
+use Rattle.tsp_convert.proofs.Hexes.{IsHexLineOf-one}
 use Rattle.tsp_convert.proofs.laws.one_datagram_in_hex.Goals as goal
 
 pub returns : goal.returns
-returns c = IsHexOf-one
+returns c = IsHexLineOf-one

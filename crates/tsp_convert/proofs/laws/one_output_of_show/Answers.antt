@@ -1,8 +1,8 @@
 use Rattle.tsp_script.specs.Texts.{message_text}
-use Rattle.tsp_convert.specs.Shows.{IsHexOf}
+use Rattle.tsp_convert.specs.Shows.{IsHexLineOf}
 use Rattle.tsp_convert.proofs.Conversions.{Converts-one}
-use Rattle.tsp_convert.proofs.Hexes.{IsHexOf-one}
+use Rattle.tsp_convert.proofs.Hexes.{IsHexLineOf-one}
 use Rattle.tsp_convert.proofs.laws.one_output_of_show.Goals as goal
 
 pub returns : goal.returns
-returns c = Converts-one IsHexOf message_text IsHexOf-one
+returns c = Converts-one IsHexLineOf message_text IsHexLineOf-one

@@ -1,20 +1,29 @@
-use Rattle.std.proofs.Common.{refl, rules, arith}
-use Rattle.tsp_script.proofs.NetLines.{one_more, can_read, all_read, All-small}
+use Rattle.std.proofs.Common.{rules, arith}
+use Rattle.tsp_script.proofs.NetLines.{All-small, first_read, next_read, no_next, text-more}
 use Rattle.tsp_script.proofs.net_line.numbers_in.Goals as goal
 
 pub loop-rest-init : goal.loop-rest-init
-loop-rest-init c = rw c.new-numbers.ensures (λ ns h e. (ns, refl, e), λ k d lt. absurd (omega arith))
+loop-rest-init c =
+    let found = c.in_ok-first.ensures.found in
+    rw (c.push.ensures.items, c.new-numbers.ensures) (record {
+      reads = λ ns h e. first_read ns c.args.text.now c.in_ok-first.behind.now c.in_ok-first.first h e found.0 found.1 found.2;
+      text = search rules;
+      some = omega arith;
+      small = search rules;
+    })
 
 pub returns-in_err-number-clause-reads : goal.returns-in_err-number-clause-reads
 returns-in_err-number-clause-reads c = λ ns h e.
-    let front = can_read ns c.loop-rest.numbers.items c.loop-rest.rest.now h.small (search rules) (c.loop-rest.invariant.0 ns h e) in
-    absurd (c.in_err-number.ensures.reads front.0 front.1 front.2 front.3)
+    absurd (no_next ns c.loop-rest.numbers.items c.loop-rest.rest.now c.in_ok-next.next.now h.small (search rules) (c.loop-rest.invariant.reads ns h e) c.in_ok-next.ensures c.in_err-number.ensures.none)
 
 pub loop-rest-preserved : goal.loop-rest-preserved
-loop-rest-preserved c = (
-  λ ns h e. one_more ns c.loop-rest.numbers.items _ c.loop-rest.rest.now c.in_ok-number.after.now c.in_ok-number.number h.small (search rules) c.in_ok-number.ensures.reads c.in-Ok.ensures.ok (c.loop-rest.invariant.0 ns h e),
-  rw c.in-Ok.ensures.ok (All-small c.loop-rest.numbers.items c.in_ok-number.number c.loop-rest.invariant.1 c.in_ok-number.ensures.small),
-)
-
-pub returns-clause-reads : goal.returns-clause-reads
-returns-clause-reads c = λ ns h e. all_read ns c.loop-rest.numbers.items c.loop-rest.rest.now h.small (search rules) (c.loop-rest.invariant.0 ns h e)
+loop-rest-preserved c =
+    let inv = c.loop-rest.invariant in
+    let found = c.in_ok-number.ensures.found in
+    let more = c.in-Ok.ensures.ok in
+    record {
+      reads = λ ns h e. next_read ns c.loop-rest.numbers.items _ c.loop-rest.rest.now c.in_ok-next.next.now c.in_ok-number.behind.now c.in_ok-number.number h.small (search rules) (inv.reads ns h e) c.in_ok-next.ensures found.0 found.1 found.2 more;
+      text = text-more c.args.text.now c.loop-rest.numbers.items _ c.loop-rest.rest.now c.in_ok-next.next.now c.in_ok-number.behind.now c.in_ok-number.number inv.some inv.text c.in_ok-next.ensures found.2 more;
+      some = search rules;
+      small = rw more (All-small c.loop-rest.numbers.items c.in_ok-number.number inv.small found.0);
+    }
