@@ -1,3 +1,4 @@
 pub mod HeadLemmas
 pub mod MemberLemmas
 pub mod TellLemmas
+pub mod BesideLemmas

@@ -1,11 +1,12 @@
 //! What is stored of a post beside the octets of its name.
-ghost use Rattle.std.specs.Prelude.{◌≡◌, ◌≤◌, ◌+◌, ◌++◌, ℕ, List, length, vec_len, vec_capacity};
+ghost use Rattle.std.specs.Prelude.{◌≡◌, ◌≤◌, ◌+◌, ◌++◌, ℕ, List, length, slice_range, vec_len, vec_capacity};
 ghost use Rattle.tsp_base.specs.declared.datagram.Datagram.{Datagram};
-ghost use Rattle.tsp_networks.specs.Heads.{HeldStands, datagram_in, is_peer, name_in};
+ghost use Rattle.tsp_base.specs.declared.datagram.Taken.TheVariants.{Good};
+ghost use Rattle.tsp_networks.specs.Heads.{HeldStands, MessageStands, datagram_in, is_peer, name_in};
 ghost use Rattle.tsp_networks.specs.Heads.{place_of, route_of, small_of, way_in};
 
 use crate::way::Way;
-use tsp_base::datagram::Datagram;
+use tsp_base::datagram::{Datagram, Taken};
 use tsp_base::kind::Kind;
 use tsp_base::message::{Body, Message};
 use tsp_base::name::Name;
@@ -196,10 +197,26 @@ pub(crate) fn way_of(head: &Head) -> Way
     }
 }
 
-/// The stored datagram, whose name is among these octets.
-pub(crate) fn datagram_of(names: &[u8], head: &Head) -> Datagram
+/// A message, whose name is among these octets, as it is taken. (A call of its own, so that a stamp needs no room for
+/// a message.)
+#[inline(never)]
+fn message_taken(names: &[u8], kind: Kind, number: u16, len: u8, start: usize, body: Body) -> Taken
+    requires { MessageStands names.now kind len start body }
+    ensures { result ≡ Good (Datagram.Message (record {
+      kind = kind;
+      number = number;
+      body = body;
+      name = slice_range names.now start (start + len);
+    })) }
+{
+    let name = Name::new(&names[start..start + len as usize]);
+    Taken::Good(Datagram::Message(Message::new(kind, number, body, name)))
+}
+
+/// The stored datagram, whose name is among these octets, as it is taken.
+pub(crate) fn taken_of(names: &[u8], head: &Head) -> Taken
     requires { HeldStands names.now head.now.held }
-    ensures { result ≡ datagram_in names.now head.now.held }
+    ensures { result ≡ Good (datagram_in names.now head.now.held) }
 {
     match &head.held {
         StoredDatagram::Message {
@@ -209,14 +226,13 @@ pub(crate) fn datagram_of(names: &[u8], head: &Head) -> Datagram
             start,
             body,
             ..
-        } => {
-            let name = Name::new(&names[*start..*start + *len as usize]);
-            Datagram::Message(Message::new(*kind, *number, *body, name))
+        } => message_taken(names, *kind, *number, *len, *start, *body),
+        StoredDatagram::Request { word, counter, .. } => {
+            Taken::Good(Datagram::Stamp(Stamp::Request {
+                word: *word,
+                counter: *counter,
+            }))
         }
-        StoredDatagram::Request { word, counter, .. } => Datagram::Stamp(Stamp::Request {
-            word: *word,
-            counter: *counter,
-        }),
         StoredDatagram::Reply {
             ticket,
             word,
@@ -224,7 +240,7 @@ pub(crate) fn datagram_of(names: &[u8], head: &Head) -> Datagram
             reading,
             ..
         } => match Stamp::reply(*ticket, *word, *counter, *reading) {
-            Some(stamp) => Datagram::Stamp(stamp),
+            Some(stamp) => Taken::Good(Datagram::Stamp(stamp)),
             None => unreachable!(),
         },
     }

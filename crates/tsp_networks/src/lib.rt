@@ -28,7 +28,7 @@
 //! - That time goes back, that what an event names isn't there and that a node is down, each as the cause
 //!   that it is (`time_back`, `no_node`, `down_at`).
 //! - Posts are given back under their numbers as they were put, whatever their names (`items` of `push`,
-//!   `way`, `datagram`), as many as room was made for (`spare` of `push`, `room`, `kept` of `reserve`).
+//!   `way`, `taken`), as many as room was made for (`spare` of `push`, `room`, `kept` of `reserve`).
 //!
 //! # What is only tested
 //!
@@ -45,7 +45,7 @@ ghost use Rattle.std.specs.Prelude.{◌≡◌, ◌≤◌, [], ◌∷◌, length,
 ghost use Rattle.tsp_base.specs.Headers.{has_member};
 ghost use Rattle.tsp_networks.specs.Rooms.{AreRooms};
 ghost use Rattle.tsp_run.specs.Networks.{networks, numbers_below, peers_on, ports_on, room};
-ghost use Rattle.tsp_run.specs.Networks.{address_of, network_at, port_from};
+ghost use Rattle.tsp_run.specs.Networks.{address_of, network_at, port_at};
 
 use std::alloc::{AllocError, Global};
 use tsp_base::header::Header;
@@ -164,40 +164,25 @@ pub fn rooms_of(alloc: Global, count: u32, nets: &[Members]) -> Result<Vec<u64>,
     Ok(rooms)
 }
 
-/// The number of the network of a node's port; None where the node has no such port.
-fn network_at(nets: &[Members], n: u32, port: Port) -> Option<u32>
+/// The port by which node `n` is on the network of a port of node `from`. None if it isn't on that network, or if
+/// there is no such port.
+fn port_beside(nets: &[Members], from: u32, port: Port, n: u32) -> Option<u8>
     requires { length nets.now ≤ 64 }
-    ensures { result ≡ network_at n port nets.now }
+    ensures { result ≡ port_at n (network_at from port nets.now) nets.now }
 {
-    let mut passed: u32 = 0;
-    let mut number: u32 = 0;
+    let mut passed: u8 = 0;
+    let mut beside: u8 = 0;
     for net in nets {
-        if has(net, n) {
-            if passed == port.0 as u32 {
-                return Some(number);
+        let is_there = has(net, n);
+        if has(net, from) {
+            if passed == port.0 {
+                return if is_there { Some(beside) } else { None };
             }
             passed += 1;
         }
-        number += 1;
-    }
-    None
-}
-
-/// The port by which a node is on a network; None where it isn't on it.
-fn port_on(nets: &[Members], n: u32, network: u32) -> Option<u8>
-    requires { length nets.now ≤ 64 }
-    ensures { result ≡ port_from n network 0 0 nets.now }
-{
-    let mut passed: u8 = 0;
-    let mut number: u32 = 0;
-    for net in nets {
-        if number == network {
-            return if has(net, n) { Some(passed) } else { None };
+        if is_there {
+            beside += 1;
         }
-        if has(net, n) {
-            passed += 1;
-        }
-        number += 1;
     }
     None
 }
@@ -210,8 +195,7 @@ pub fn address_of(nets: &[Members], from: u32, port: Port, to: Place) -> Option<
 {
     match to {
         Place::Peer(p) => {
-            let network = network_at(nets, from, port)?;
-            let on = port_on(nets, p.0, network)?;
+            let on = port_beside(nets, from, port, p.0)?;
             Some(Address {
                 node: p.0,
                 port: Port(on),

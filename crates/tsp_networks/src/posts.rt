@@ -2,11 +2,11 @@
 ghost use Rattle.std.specs.Prelude.{◌≡◌, ◌≤◌, ◌<◌, ◌+◌, ◌++◌, [], ◌∷◌, length, slice_get, Some, OnOk, OnErr};
 ghost use Rattle.std.specs.Option.{option_map};
 
-use crate::head::{Head, datagram_of, hold, number_of, way_of};
+use crate::head::{Head, hold, number_of, taken_of, way_of};
 use crate::way::Way;
 use std::alloc::{AllocError, Global};
 use std::marker::Model;
-use tsp_base::datagram::Datagram;
+use tsp_base::datagram::{Datagram, Taken};
 
 /// The greatest length of a name, in octets.
 const LONGEST: usize = 255;
@@ -39,6 +39,7 @@ impl Model for Posts {
 }
 
 impl Posts {
+    ghost use Rattle.tsp_base.specs.declared.datagram.Taken.TheVariants.{Good};
     ghost use Rattle.tsp_run.specs.declared.posted.Posted.{Posted};
     ghost use Rattle.tsp_networks.specs.Posts.{posted_on, way_of};
 
@@ -72,12 +73,12 @@ impl Posts {
         }
     }
 
-    /// What the datagram with this number carries.
-    pub fn datagram(&self, k: u64) -> Datagram
+    /// The datagram with this number, as it is taken.
+    pub fn taken(&self, k: u64) -> Taken
         requires { k < length self.now.items }
-        ensures { (p : Posted) → slice_get self.now.items k ≡ Some p → result ≡ p.datagram }
+        ensures { (p : Posted) → slice_get self.now.items k ≡ Some p → result ≡ Good p.datagram }
     {
-        datagram_of(self.names.as_slice(), &self.heads[k as usize])
+        taken_of(self.names.as_slice(), &self.heads[k as usize])
     }
 
     /// Makes room for at least `n` more posts, whatever their names. Fails only if out of memory; the room is

@@ -2,3 +2,4 @@ pub mod Schedules
 pub mod Traces
 pub mod Meaning
 pub mod Stages
+pub mod LineTexts

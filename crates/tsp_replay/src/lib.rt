@@ -25,6 +25,7 @@
 #![tactic(auto)]
 
 pub mod laws;
+mod line_text;
 pub mod replay;
 mod replayed;
 pub mod run;

@@ -1,9 +1,9 @@
 //! The replay as a treatment of lines.
 ghost use Rattle.std.specs.Prelude.{◌≡◌};
 
+use crate::line_text::LineText;
 use crate::replayed::Replayed;
 use crate::tell::{tell, tell_stage, told};
-use arrayvec::ArrayVec;
 use std::alloc::Global;
 use tsp_io::sink::Sink;
 use tsp_lines::cause::Cause;
@@ -17,7 +17,7 @@ pub struct Replay {
     alloc: Global,
     stage: Stage<Replayed>,
     /// Where a line of the trace is made.
-    text: ArrayVec<u8, 1024>,
+    text: LineText,
 }
 
 impl Replay {
@@ -28,7 +28,7 @@ impl Replay {
         Replay {
             alloc,
             stage: Stage::Untitled,
-            text: ArrayVec::new(),
+            text: LineText::new(),
         }
     }
 }

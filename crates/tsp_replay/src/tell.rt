@@ -3,17 +3,16 @@ ghost use Rattle.std.specs.Prelude.{◌≡◌, ◌≢◌, ◌≤◌, ◌<◌, �
 ghost use Rattle.tsp_io.specs.Counts.{Rose};
 ghost use Rattle.tsp_lines.specs.Outputs.{Hands};
 ghost use Rattle.tsp_replay.specs.Stages.{told_at, told_by, HandsBeginning};
-ghost use Rattle.tsp_replay.specs.Traces.{lines_text, number_in};
+ghost use Rattle.tsp_replay.specs.Traces.{lines_text};
 
+use crate::line_text::LineText;
 use crate::replayed::Replayed;
-use arrayvec::ArrayVec;
 use tsp_io::sink::Sink;
 use tsp_lines::output::{Output, Unwritten};
 use tsp_lines::treatment::Stop;
 use tsp_run::line::Line;
 use tsp_schedule::run::Run;
 use tsp_schedule::stage::Stage;
-use tsp_script::trace::append_placed;
 
 /// The lines of the last event's acts; none where the last line wasn't an event.
 pub(crate) fn told(stage: &Stage<Replayed>) -> &[Line]
@@ -38,7 +37,7 @@ fn told_by(run: &Run<Replayed>) -> &[Line]
 /// Puts the lines of the last event's acts into `output`, each of which is made in `text`.
 pub(crate) fn tell_stage<K: Sink>(
     stage: &Stage<Replayed>,
-    text: &mut ArrayVec<u8, 1024>,
+    text: &mut LineText,
     output: &mut Output,
     sink: &mut K,
 ) -> Result<(), Stop>
@@ -61,7 +60,7 @@ pub(crate) fn tell_stage<K: Sink>(
 /// Puts lines of the trace into `output`, each of which is made in `text`; where it fails, the beginning of them.
 pub(crate) fn tell<K: Sink>(
     lines: &[Line],
-    text: &mut ArrayVec<u8, 1024>,
+    text: &mut LineText,
     output: &mut Output,
     sink: &mut K,
 ) -> Result<(), Unwritten>
@@ -76,20 +75,8 @@ pub(crate) fn tell<K: Sink>(
     ensures still { result ≢ Err Unwritten.WriteFault → K.faults sink.new ≡ K.faults sink.old }
 {
     for line in lines {
-        let number = number_in(line.number);
-        text.clear();
-        append_placed(text, line.event, line.node, line.tick, number, &line.placed);
-        output.put_line(sink, text.as_slice())?;
+        text.write(line);
+        output.put_line(sink, text.octets())?;
     }
     Ok(())
-}
-
-/// A post's number; 0 for other acts.
-fn number_in(number: Option<u64>) -> u64
-    ensures { result ≡ number_in number }
-{
-    match number {
-        Some(k) => k,
-        None => 0,
-    }
 }

@@ -3,7 +3,7 @@ use Rattle.std.specs.Prelude.{◌≡◌, ℕ, ◌<◌, true, List, ◌∷◌, le
 use Rattle.std.proofs.Common.{refl, sym, ap, ◌∙◌, subst}
 use Rattle.std.specs.Option.{option_map}
 use Rattle.std.proofs.lemmas.Option.{slice_get_within}
-use Rattle.tsp_rules.specs.Values.{Datagram, Good, Event, Take, Peer}
+use Rattle.tsp_rules.specs.Values.{Taken, Good, Event, Take, Peer}
 use Rattle.tsp_base.specs.Words.{HeaderValue, Came}
 use Rattle.tsp_gateway.specs.declared.gateway.Gateway.{Gateway}
 use Rattle.tsp_networks.specs.Posts.{way_of}
@@ -33,10 +33,10 @@ addressee world at k a len goes allowed =
     subst (λ m. a.node < m) (sym len) (up_within world.nodes.items a.node up)
 
 -- what an addressee takes of a poster has come by this take
-pub delivered : (header : HeaderValue) (events : List Event) (world new : World) (at k : ℕ) (a : Address) (way : Way) (datagram : Datagram) → vec_len world.nodes ≡ length world.nodes.items → WorldStands header events world →
+pub delivered : (header : HeaderValue) (events : List Event) (world new : World) (at k : ℕ) (a : Address) (way : Way) (taken : Taken) → vec_len world.nodes ≡ length world.nodes.items → WorldStands header events world →
     goes_to (networks world.header) (slice_get world.sent.items k) ≡ Some a → refusal (scene header events) (Take at k) ≡ None → Some way ≡ option_map way_of (slice_get world.sent.items k) →
-    ((p : Posted) → slice_get world.sent.items k ≡ Some p → datagram ≡ p.datagram) → HappensBy (answers_all (GotOn a.port (Peer (record { 0 = way.from })) (Good datagram))) at a.node world new → WorldStands header (Take at k ∷ events) new
-delivered header events world new at k a way datagram len w goes none way_is datagram_is happens =
+    ((p : Posted) → slice_get world.sent.items k ≡ Some p → taken ≡ Good p.datagram) → HappensBy (answers_all (GotOn a.port (Peer (record { 0 = way.from })) taken)) at a.node world new → WorldStands header (Take at k ∷ events) new
+delivered header events world new at k a way taken len w goes none way_is taken_is happens =
     let nets = networks header in
     let there : goes_to nets (slice_get (posts (run header events)) k) ≡ Some a =
     subst (λ l. goes_to nets (slice_get l k) ≡ Some a) w.sent (subst (λ (h : HeaderValue). goes_to (networks h) (slice_get world.sent.items k) ≡ Some a) w.header_is goes) in
@@ -44,7 +44,7 @@ delivered header events world new at k a way datagram len w goes none way_is dat
     let stored = ap (λ l. slice_get l k) w.sent ∙ found.1 in
     let read = posted-read header events (accepted header events world w) k found.0 found.1 in
     let same_way : way ≡ way_of found.0 = some_same (way_is ∙ ap (λ o. option_map way_of o) stored) in
-    let same_datagram = datagram_is found.0 stored in
+    let same_taken = taken_is found.0 stored in
     let arrived : arrives nets (slice_get (posts (run header events)) k) ≡ Some (record { node = a.node; port = a.port; from = Peer (record { 0 = found.0.from }); taken = Good found.0.datagram }) =
     ap (λ o. arrives nets o) found.1 ∙ ap (λ q. arrives_at found.0 q) found.2
     ∙ ap (λ t. let b : Arrival = record { node = a.node; port = a.port; from = Peer (record { 0 = found.0.from }); taken = t } in Some b) read in
@@ -53,4 +53,4 @@ delivered header events world new at k a way datagram len w goes none way_is dat
     happens (Came k) header events (Take at k) w refl tt none up
     (ap (λ o. reaches header (run header events) at k o) arrived
     ∙ ap (λ (v : Way). Some (steps header (run header events) (answers_all (GotOn a.port (Peer (record { 0 = v.from })) (Good found.0.datagram))) (record { at = at; node = a.node; cause = Came k }))) (sym same_way)
-    ∙ ap (λ d. Some (steps header (run header events) (answers_all (GotOn a.port (Peer (record { 0 = way.from })) (Good d))) (record { at = at; node = a.node; cause = Came k }))) (sym same_datagram))
+    ∙ ap (λ t. Some (steps header (run header events) (answers_all (GotOn a.port (Peer (record { 0 = way.from })) t)) (record { at = at; node = a.node; cause = Came k }))) (sym same_taken))

@@ -149,7 +149,7 @@ impl World {
             unreachable!()
         };
         let from = Place::Peer(PeerId(way.from));
-        let taken = Taken::Good(self.sent.datagram(k));
+        let taken = self.sent.taken(k);
         self.receive(at, address.node, address.port, from, &taken);
     }
 

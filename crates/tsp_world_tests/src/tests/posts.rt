@@ -1,6 +1,6 @@
 //! Posts are read again as they were stored, whatever their names.
 
-use tsp_base::datagram::Datagram;
+use tsp_base::datagram::{Datagram, Taken};
 use tsp_base::kind::Kind;
 use tsp_base::message::{Body, Message};
 use tsp_base::name::Name;
@@ -48,21 +48,21 @@ fn push_loop(posts: &mut Posts, at: u64, name: &[u8]) -> bool {
 }
 
 /// Whether this is the message with this name.
-fn is_loop(datagram: &Datagram, name: &[u8]) -> bool {
-    match datagram {
-        Datagram::Message(message) => {
+fn is_loop(taken: &Taken, name: &[u8]) -> bool {
+    match taken {
+        Taken::Good(Datagram::Message(message)) => {
             matches!(message.body(), Body::Hops(3))
                 && message.kind() == Kind::Loop
                 && message.number() == 7
                 && message.name().octets() == name
         }
-        Datagram::Stamp(_) => false,
+        _ => false,
     }
 }
 
 /// Whether the post with this number is the message with this name.
 fn has_loop(posts: &Posts, k: u64, name: &[u8]) -> bool {
-    (k as usize) < posts.len() && is_loop(&posts.datagram(k), name)
+    (k as usize) < posts.len() && is_loop(&posts.taken(k), name)
 }
 
 /// A request for a clock's stamp.
@@ -74,9 +74,9 @@ const REQUEST: Stamp = Stamp::Request {
 /// Whether the post with this number is that request.
 fn has_request(posts: &Posts, k: u64) -> bool {
     (k as usize) < posts.len()
-        && match posts.datagram(k) {
-            Datagram::Stamp(stamp) => stamp == REQUEST,
-            Datagram::Message(_) => false,
+        && match posts.taken(k) {
+            Taken::Good(Datagram::Stamp(stamp)) => stamp == REQUEST,
+            _ => false,
         }
 }
 

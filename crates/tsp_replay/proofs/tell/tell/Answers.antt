@@ -30,12 +30,12 @@ loop-line-preserved g c =
     let item : Line = c.line-item.result in
     let rest : List ℕ = lines_text (drop (i + 1) c.args.lines.now) in
     let item_is : get_or c.args.lines.now i item ≡ item = search rules in
-    let text_is : line_text item ≡ c.as_slice.result.now ++ 10 ∷ [] = search rules in
+    let text_is : line_text item ≡ c.octets.result.now ++ 10 ∷ [] = search rules in
     let here : lines_text (drop i c.args.lines.now) ≡ line_text item ++ rest = ap (λ ls. lines_text ls) (drop_more c.args.lines.now i item (search rules)) ∙ ap (λ l. line_text l ++ rest) item_is in
     record {
       told = (
         told.0 ++ line_text item,
-        line_told _ _ _ _ _ _ told.0 c.as_slice.result.now (line_text item) told.1 text_is c.in_ok-put_line.ensures.ok,
+        line_told _ _ _ _ _ _ told.0 c.octets.result.now (line_text item) told.1 text_is c.in_ok-put_line.ensures.ok,
         told.2 ∙ ap (λ z. told.0 ++ z) here ∙ sym (append_assoc told.0 (line_text item) rest),
       );
       still = c.in_ok-put_line.ensures.still (λ e. cc) ∙ c.loop-line.invariant.still;

@@ -29,4 +29,4 @@ pub returns : goal.returns
 returns c header events w none =
     let world = c.args.self.now in
     let len : vec_len world.nodes ≡ length world.nodes.items = search rules in
-    delivered header events world c.receive.new.self c.args.at c.args.k c.args.address c.in-Some.way c.datagram.result len w c.requires.goes none (sym c.in-Some.is ∙ c.way.ensures) c.datagram.ensures c.receive.ensures
+    delivered header events world c.receive.new.self c.args.at c.args.k c.args.address c.in-Some.way c.taken-taken.result len w c.requires.goes none (sym c.in-Some.is ∙ c.way.ensures) c.taken-taken.ensures c.receive.ensures
