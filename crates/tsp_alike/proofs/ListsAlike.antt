@@ -1,0 +1,154 @@
+-- The lists of peers that rows go through, at alike pasts.
+use Rattle.std.specs.Prelude.{◌≡◌, ℕ, ◌+◌, ◌==◌, Bool, true, false, not, ◌||◌, if◌then◌else◌, List, [], ◌∷◌, map, filter, refl, is_some, Option, None, Some}
+use Rattle.std.specs.List.{All}
+use Rattle.std.proofs.Common.{ap, sym, ◌∙◌}
+use Rattle.std.proofs.lemmas.Bool.{eq-eqb, eqb-false, ne_eqb}
+use Rattle.std.proofs.lemmas.List.Elements.{All-nil, All-cons, All-head, All-tail, All-same, All-weaker, All-filter}
+use Rattle.tsp_rules.specs.Values.{PeerId}
+use Rattle.tsp_base.specs.Words.{Past, in_table, is_among, is_measured, is_rival, others, open_send, Sending, estimate, Seen}
+use Rattle.tsp_rules.specs.Guards.{rivals_at, table_at}
+use Rattle.tsp_rules.specs.NodeRows.{PortSetup}
+use Rattle.tsp_rules.specs.RoundRows.{measured_at, round_at, standing}
+use Rattle.tsp_rules.specs.SendRows.{others_at}
+use Rattle.tsp_rules.specs.Renames.{Naming, Renaming, later_sends}
+use Rattle.tsp_rules.proofs.GuardFacts.{same_peer}
+use Rattle.tsp_alike.proofs.Alike.{AlikePort, AlikePast, Alike}
+use Rattle.tsp_alike.proofs.PortAlike.{in_table_alike, is_rival_alike}
+use Rattle.tsp_alike.proofs.RoundsAlike.{is_measured_alike, estimate_alike}
+use Rattle.tsp_alike.proofs.Unnamed.{in_table_unnamed, is_measured_unnamed, is_rival_unnamed, open_send_unnamed}
+use Rattle.tsp_alike.proofs.SendsAlike.{open_send_alike}
+use Rattle.tsp_alike.proofs.Renamed.{renamed_standing}
+
+-- the renamed peers that pass a test, if renaming doesn't change what it says
+pub filter_renamed : (f : PeerId → PeerId) (t t' : PeerId → Bool) → ((p : PeerId) → t' (f p) ≡ t p) → (ps : List PeerId) → filter t' (map f ps) ≡ map f (filter t ps)
+filter_renamed f t t' same [] = refl
+filter_renamed f t t' same (p ∷ ps) = ap (λ b. if b then f p ∷ filter t' (map f ps) else filter t' (map f ps)) (same p) ∙ by_case (t p) (filter_renamed f t t' same ps) where
+  by_case : (b : Bool) → filter t' (map f ps) ≡ map f (filter t ps) → (if b then f p ∷ filter t' (map f ps) else filter t' (map f ps)) ≡ map f (if b then p ∷ filter t ps else filter t ps)
+  by_case true e = ap (λ z. f p ∷ z) e
+  by_case false e = e
+
+-- the own number is passed over by a test that is false of it
+pub filter_others : (t : PeerId → Bool) (own : PeerId) → t own ≡ false → (ps : List PeerId) → filter t ps ≡ filter t (others own ps)
+filter_others t own off [] = refl
+filter_others t own off (p ∷ ps) = by_case (p.0 == own.0) refl (filter_others t own off ps) where
+  by_case : (b : Bool) → (p.0 == own.0) ≡ b → filter t ps ≡ filter t (others own ps) → filter t (p ∷ ps) ≡ filter t (if not b then p ∷ others own ps else others own ps)
+  by_case true e k = ap (λ b. if b then p ∷ filter t ps else filter t ps) (ap t (same_peer p own e) ∙ off) ∙ k
+  by_case false e k = ap (λ z. if t p then p ∷ z else z) k
+
+some_later : (n : Renaming) (o : Option Sending) → is_some (later_sends n o) ≡ is_some o
+some_later n None = refl
+some_later n (Some s) = refl
+
+-- numbers are compared either way round
+eqb_swap : (a b : ℕ) → (a == b) ≡ false → (b == a) ≡ false
+eqb_swap a b e = ne_eqb b a (λ s. eqb-false a b e (sym s))
+
+-- another number than the own one is among all peers if it is among the others
+pub among_others : (p own : PeerId) → (p.0 == own.0) ≡ false → (ps : List PeerId) → is_among p ps ≡ is_among p (others own ps)
+among_others p own off [] = refl
+among_others p own off (q ∷ ps) = by_case (q.0 == own.0) refl (among_others p own off ps) where
+  by_case : (b : Bool) → (q.0 == own.0) ≡ b → is_among p ps ≡ is_among p (others own ps) → is_among p (q ∷ ps) ≡ is_among p (if not b then q ∷ others own ps else others own ps)
+  by_case true e k = ap (λ b. b || is_among p ps) (ap (λ r. r.0 == p.0) (same_peer q own e) ∙ eqb_swap p.0 own.0 off) ∙ k
+  by_case false e k = ap (λ b. (q.0 == p.0) || b) k
+
+-- a peer is among peers as its other name is among theirs
+pub among_renamed : (m : Naming) (p : PeerId) (ps : List PeerId) → is_among (m.names.peer p) (map m.names.peer ps) ≡ is_among p ps
+among_renamed m p [] = refl
+among_renamed m p (q ∷ ps) = ap (λ b. b || is_among (m.names.peer p) (map m.names.peer ps)) (m.same q p) ∙ ap (λ b. (q.0 == p.0) || b) (among_renamed m p ps)
+
+-- the first of some peers is among them
+among_first : (p : PeerId) (ps : List PeerId) → is_among p (p ∷ ps) ≡ true
+among_first p ps = ap (λ b. b || is_among p ps) (eq-eqb p.0 p.0 refl)
+
+among_rest : (q p : PeerId) (ps : List PeerId) → is_among p ps ≡ true → is_among p (q ∷ ps) ≡ true
+among_rest q p ps e = by_case (q.0 == p.0) where
+  by_case : (b : Bool) → (b || is_among p ps) ≡ true
+  by_case true = refl
+  by_case false = e
+
+-- peers are among themselves
+all_among : (ps : List PeerId) → All (λ p. is_among p ps ≡ true) ps
+all_among [] = All-nil (λ p. is_among p [] ≡ true)
+all_among (q ∷ ps) = All-cons (λ p. is_among p (q ∷ ps) ≡ true) q ps (among_first q ps) (All-weaker (λ p. is_among p ps ≡ true) (λ p. is_among p (q ∷ ps) ≡ true) (λ p. among_rest q p ps) ps (all_among ps))
+
+-- the standings of known peers
+standings_known : (m : Naming) (seen : List Seen) (ps : List PeerId) → All m.known ps → All (λ s. m.known s.peer) (map (standing seen) ps)
+standings_known m seen [] k = All-nil (λ s. m.known s.peer)
+standings_known m seen (p ∷ ps) k = All-cons (λ s. m.known s.peer) (standing seen p) (map (standing seen) ps) (All-head m.known p ps k) (standings_known m seen ps (All-tail m.known p ps k))
+
+-- setups of ports
+module _ {m : Naming} where
+  pub others_known : {a b : PortSetup} → AlikePort m a b → All m.known (others a.own a.peers)
+  others_known {a = a} s = All-weaker (λ p. is_among p (others a.own a.peers) ≡ true) m.known s.known (others a.own a.peers) (all_among (others a.own a.peers))
+
+  -- a test that renaming doesn't change, and that is false of the own number, chooses the same peers
+  pub chosen_alike : {a b : PortSetup} → AlikePort m a b → (t t' : PeerId → Bool) → ((p : PeerId) → t' (m.names.peer p) ≡ t p) → t a.own ≡ false → filter t' b.peers ≡ map m.names.peer (filter t a.peers)
+  chosen_alike {a = a} {b = b} s t t' same off =
+      filter_others t' b.own (ap t' s.own ∙ same a.own ∙ off) b.peers
+      ∙ ap (filter t') s.others_are
+      ∙ filter_renamed m.names.peer t t' same (others a.own a.peers)
+      ∙ ap (map m.names.peer) (sym (filter_others t a.own off a.peers))
+
+  -- and it chooses known peers
+  pub chosen_known : {a b : PortSetup} → AlikePort m a b → (t : PeerId → Bool) → t a.own ≡ false → All m.known (filter t a.peers)
+  chosen_known {a = a} s t off = All-same m.known (filter t a.peers) (filter t (others a.own a.peers)) (filter_others t a.own off a.peers) (All-filter t m.known (others a.own a.peers) (others_known s))
+
+  -- another peer than the port itself is one of the port's peers on both sides or on neither
+  pub is_among_alike : {a b : PortSetup} → AlikePort m a b → (p : PeerId) → (p.0 == a.own.0) ≡ false → is_among (m.names.peer p) b.peers ≡ is_among p a.peers
+  is_among_alike {a = a} {b = b} s p off =
+      among_others (m.names.peer p) b.own (ap (λ o. (m.names.peer p).0 == o.0) s.own ∙ m.same p a.own ∙ off) b.peers
+      ∙ ap (is_among (m.names.peer p)) s.others_are
+      ∙ among_renamed m p (others a.own a.peers)
+      ∙ sym (among_others p a.own off a.peers)
+
+  -- a peer of the port that isn't the port itself is known
+  pub among_known : {a b : PortSetup} → AlikePort m a b → (p : PeerId) → (p.0 == a.own.0) ≡ false → is_among p a.peers ≡ true → m.known p
+  among_known {a = a} s p off e = s.known p (sym (among_others p a.own off a.peers) ∙ e)
+
+-- pasts of ports
+module _ {m : Naming} where
+  pub others_at_alike : {p q : Past} → AlikePast m p q → (x : ℕ) → others_at (x + m.names.shift) q ≡ map m.names.peer (others_at x p)
+  others_at_alike a x = a.setup.others_are
+
+  pub rivals_at_alike : {p q : Past} → AlikePast m p q → (x : ℕ) → rivals_at (x + m.names.shift) q ≡ map m.names.peer (rivals_at x p)
+  rivals_at_alike {p = p} {q = q} a x = chosen_alike a.setup (λ r. is_rival r p.seen) (λ r. is_rival r q.seen) (λ r. is_rival_alike r a.seen) (is_rival_unnamed p.own a.setup.apart a.seen)
+
+  pub table_at_alike : {p q : Past} → AlikePast m p q → (x : ℕ) → table_at (x + m.names.shift) q ≡ map m.names.peer (table_at x p)
+  table_at_alike {p = p} {q = q} a x = chosen_alike a.setup (λ r. in_table r p.seen) (λ r. in_table r q.seen) (λ r. in_table_alike r a.seen) (in_table_unnamed p.own a.setup.apart a.seen)
+
+  pub measured_at_alike : {p q : Past} → AlikePast m p q → (x : ℕ) → measured_at (x + m.names.shift) q ≡ map m.names.peer (measured_at x p)
+  measured_at_alike {p = p} {q = q} a x = chosen_alike a.setup (λ r. is_measured r p.seen) (λ r. is_measured r q.seen) (λ r. is_measured_alike r a.seen) (is_measured_unnamed p.own a.setup.apart a.seen)
+
+  -- they are known
+  pub others_at_known : {p q : Past} → AlikePast m p q → (x : ℕ) → All m.known (others_at x p)
+  others_at_known a x = others_known a.setup
+
+  pub rivals_at_known : {p q : Past} → AlikePast m p q → (x : ℕ) → All m.known (rivals_at x p)
+  rivals_at_known {p = p} a x = chosen_known a.setup (λ r. is_rival r p.seen) (is_rival_unnamed p.own a.setup.apart a.seen)
+
+  pub table_at_known : {p q : Past} → AlikePast m p q → (x : ℕ) → All m.known (table_at x p)
+  table_at_known {p = p} a x = chosen_known a.setup (λ r. in_table r p.seen) (in_table_unnamed p.own a.setup.apart a.seen)
+
+  pub measured_at_known : {p q : Past} → AlikePast m p q → (x : ℕ) → All m.known (measured_at x p)
+  measured_at_known {p = p} a x = chosen_known a.setup (λ r. is_measured r p.seen) (is_measured_unnamed p.own a.setup.apart a.seen)
+
+  -- the peers to whom a send is open
+  pub open_alike : {p q : Past} → AlikePast m p q → filter (λ r. is_some (open_send r q.seen)) q.peers ≡ map m.names.peer (filter (λ r. is_some (open_send r p.seen)) p.peers)
+  open_alike {p = p} {q = q} a = chosen_alike a.setup (λ r. is_some (open_send r p.seen)) (λ r. is_some (open_send r q.seen))
+      (λ r. ap is_some (open_send_alike r a.seen) ∙ some_later m.names (open_send r p.seen)) (ap is_some (open_send_unnamed p.own a.setup.apart a.seen))
+
+  pub open_known : {p q : Past} → AlikePast m p q → All m.known (filter (λ r. is_some (open_send r p.seen)) p.peers)
+  open_known {p = p} a = chosen_known a.setup (λ r. is_some (open_send r p.seen)) (ap is_some (open_send_unnamed p.own a.setup.apart a.seen))
+
+  -- the result of a round
+  standings_alike : {seen seen' : List Seen} → Alike m seen seen' → (ps : List PeerId) → map (standing seen') (map m.names.peer ps) ≡ map (renamed_standing m.names) (map (standing seen) ps)
+  standings_alike a [] = refl
+  standings_alike {seen = z} {seen' = z'} a (p ∷ ps) =
+      ap (λ e. record { peer = m.names.peer p; best = e } ∷ map (standing z') (map m.names.peer ps)) (estimate_alike p a)
+      ∙ ap (λ rest. record { peer = m.names.peer p; best = estimate p z } ∷ rest) (standings_alike a ps)
+
+  pub round_at_alike : {p q : Past} → AlikePast m p q → (x : ℕ) → round_at (x + m.names.shift) q ≡ map (renamed_standing m.names) (round_at x p)
+  round_at_alike {p = p} {q = q} a x = ap (map (standing q.seen)) (measured_at_alike a x) ∙ standings_alike a.seen (measured_at x p)
+
+  pub round_at_known : {p q : Past} → AlikePast m p q → (x : ℕ) → All (λ s. m.known s.peer) (round_at x p)
+  round_at_known {p = p} a x = standings_known m p.seen (measured_at x p) (measured_at_known a x)

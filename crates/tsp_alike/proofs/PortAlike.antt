@@ -1,0 +1,210 @@
+-- Facts of a port at alike pasts: role, alarms, hold, what a step took, table, backers, rivals.
+use Rattle.std.specs.Prelude.{◌≡◌, ℕ, ◌+◌, Bool, true, false, if◌then◌else◌, List, map, Option, None, Some, is_some, refl}
+use Rattle.std.proofs.Common.{sym, ap, true≢false, ◌∙◌}
+use Rattle.tsp_rules.specs.Values.{Boot, Took, Become, Arm, Ring, Late, Back, Backer, Abandon, Join, Leave, Rival, Quit, Alarm, Window, Quiet, PeerId, Place, Peer, Stranger, Role, Follow, HOLD, ELECT_MIN}
+use Rattle.tsp_base.specs.Words.{Deed, Begins, Acts, Seen, Deadlines, deadline, with_deadline, Held, may_back, may_back_after, may_stand, Received, MessageValue, role, role_after, taken, taken_after, acting, acting_after, name_in, said, said_by, message_in, kept_name, kept_name_after, held, held_after, armed, armed_after, in_table, backers, backers_after, is_rival, is_rival_after}
+use Rattle.tsp_base.specs.PortFacts.{in_table_after}
+use Rattle.tsp_rules.specs.Renames.{Renaming, Naming, Knows, renamed_place, renamed_role, known_role}
+use Rattle.tsp_alike.specs.AlikeNodes.{renamed_deed, KnowsDeed}
+use Rattle.tsp_alike.proofs.Alike.{Alike, Booted, Own, Other}
+use Rattle.tsp_alike.proofs.Renamed.{later, later_deadlines, renamed_back, renamed_held, renamed_taken, renamed_said}
+use Rattle.tsp_alike.proofs.Ticks.{le_after, past_later}
+
+-- what a deed does to a fact, with other names
+module _ (n : Renaming) where
+  pub role_deed : (d : Deed) (was : Role) → role_after (renamed_deed n d) (renamed_role n was) ≡ renamed_role n (role_after d was)
+  role_deed (Acts Boot) was = refl
+  role_deed (Acts (Become r)) was = refl
+  role_deed _ was = refl
+
+  pub taken_deed : (d : Deed) (was : Option Received) → taken_after (renamed_deed n d) (renamed_taken n was) ≡ renamed_taken n (taken_after d was)
+  taken_deed Begins was = refl
+  taken_deed (Acts (Took from t)) was = refl
+  taken_deed _ was = refl
+
+  pub acting_deed : (d : Deed) (was : Bool) → acting_after (renamed_deed n d) was ≡ acting_after d was
+  acting_deed Begins was = refl
+  acting_deed (Acts (Took from t)) was = refl
+  acting_deed (Acts (Ring a)) was = refl
+  acting_deed (Acts (Late a)) was = refl
+  acting_deed _ was = refl
+
+  with_later : (d : Deadlines) (a : Alarm) (at : Option ℕ) → with_deadline (later_deadlines n d) a (later n at) ≡ later_deadlines n (with_deadline d a at)
+  with_later d Quiet at = refl
+  with_later d _ at = refl
+
+  pub armed_deed : (d : Deed) (was : Deadlines) → armed_after (renamed_deed n d) (later_deadlines n was) ≡ later_deadlines n (armed_after d was)
+  armed_deed (Acts Boot) was = refl
+  armed_deed (Acts (Become r)) was = refl
+  armed_deed (Acts (Arm a at)) was = with_later was a (Some at)
+  armed_deed (Acts (Ring a)) was = with_later was a None
+  armed_deed (Acts (Late a)) was = with_later was a None
+  armed_deed (Acts Abandon) was = refl
+  armed_deed _ was = refl
+
+  deadline_later : (d : Deadlines) (a : Alarm) → deadline (later_deadlines n d) a ≡ later n (deadline d a)
+  deadline_later d Quiet = refl
+  deadline_later d _ = refl
+
+  pub held_deed : (d : Deed) (x : ℕ) (was : Held) → held_after (renamed_deed n d) (x + n.shift) (renamed_held n was) ≡ renamed_held n (held_after d x was)
+  held_deed (Acts Boot) x was = refl
+  held_deed (Acts (Back p)) x was = refl
+  held_deed (Acts (Quit p)) x was = refl
+  held_deed _ x was = refl
+
+  name_renamed : (t : Option Received) → name_in (renamed_taken n t) ≡ name_in t
+  name_renamed None = refl
+  name_renamed (Some r) = refl
+
+  by_renamed : (from : Place) (o : Option MessageValue) → said_by (renamed_place n from) o ≡ renamed_said n (said_by from o)
+  by_renamed (Peer p) (Some msg) = refl
+  by_renamed (Peer p) None = refl
+  by_renamed Stranger o = refl
+
+  pub said_renamed : (t : Option Received) → said (renamed_taken n t) ≡ renamed_said n (said t)
+  said_renamed None = refl
+  said_renamed (Some r) = by_renamed r.from (message_in r.taken)
+
+  pub kept_name_deed : (d : Deed) (t : Option Received) (was : List ℕ) → kept_name_after (renamed_deed n d) (renamed_taken n t) was ≡ kept_name_after d t was
+  kept_name_deed (Acts Boot) t was = refl
+  kept_name_deed (Acts (Become (Follow p))) t was = name_renamed t
+  kept_name_deed (Acts (Become r)) t was = refl
+  kept_name_deed _ t was = refl
+
+  pub backers_deed : (d : Deed) (was : List PeerId) → backers_after (renamed_deed n d) (map n.peer was) ≡ map n.peer (backers_after d was)
+  backers_deed (Acts Boot) was = refl
+  backers_deed (Acts (Become r)) was = refl
+  backers_deed (Acts (Backer p)) was = refl
+  backers_deed _ was = refl
+
+-- the same, where peers are told apart or known
+module _ (m : Naming) where
+  known_role_deed : (d : Deed) (was : Role) → KnowsDeed m d → known_role m was → known_role m (role_after d was)
+  known_role_deed (Acts Boot) was knows k = tt
+  known_role_deed (Acts (Become r)) was knows k = knows
+  known_role_deed _ was knows k = k
+
+  window_with : (d : Deadlines) (a : Alarm) (at : ℕ) → Knows m (Arm a at) → (is_some d.window ≡ true → m.stands) → is_some (with_deadline d a (Some at)).window ≡ true → m.stands
+  window_with d Window at knows k e = knows
+  window_with d _ at knows k e = k e
+
+  window_off : (d : Deadlines) (a : Alarm) → (is_some d.window ≡ true → m.stands) → is_some (with_deadline d a None).window ≡ true → m.stands
+  window_off d Window k e = absurd (true≢false (sym e))
+  window_off d _ k e = k e
+
+  window_deed : (d : Deed) (was : Deadlines) → KnowsDeed m d → (is_some was.window ≡ true → m.stands) → is_some (armed_after d was).window ≡ true → m.stands
+  window_deed (Acts Boot) was knows k e = absurd (true≢false (sym e))
+  window_deed (Acts (Become r)) was knows k e = absurd (true≢false (sym e))
+  window_deed (Acts (Arm a at)) was knows k e = window_with was a at knows k e
+  window_deed (Acts (Ring a)) was knows k e = window_off was a k e
+  window_deed (Acts (Late a)) was knows k e = window_off was a k e
+  window_deed (Acts Abandon) was knows k e = k e
+  window_deed _ was knows k e = k e
+
+  back_renamed : (o : Option (ℕ × PeerId)) (x : ℕ) (p : PeerId) → may_back_after (renamed_back m.names o) (x + m.names.shift) (m.names.peer p) ≡ may_back_after o x p
+  back_renamed None x p = refl
+  back_renamed (Some b) x p = let e = m.same b.1 p in let l = le_after b.0 HOLD x m.names.shift in rw (e, l) refl
+
+  stand_renamed : (h : Held) (x : ℕ) (own : PeerId) → may_stand (renamed_held m.names h) (x + m.names.shift) (m.names.peer own) ≡ may_stand h x own
+  stand_renamed h x own =
+      let a = le_after h.boot ELECT_MIN x m.names.shift in
+      let b = past_later m.names h.quit ELECT_MIN x in
+      let c = back_renamed h.back x own in
+      rw (a, b, c) refl
+
+  -- the slave table
+  in_table_deed : (p : PeerId) (d : Deed) (was : Bool) → in_table_after (m.names.peer p) (renamed_deed m.names d) was ≡ in_table_after p d was
+  in_table_deed p (Acts Boot) was = refl
+  in_table_deed p (Acts (Become r)) was = refl
+  in_table_deed p (Acts (Join q)) was = ap (λ b. if b then true else was) (m.same q p)
+  in_table_deed p (Acts (Leave q)) was = ap (λ b. if b then false else was) (m.same q p)
+  in_table_deed p _ was = refl
+
+  -- rivals
+  is_rival_deed : (p : PeerId) (d : Deed) (was : Bool) → is_rival_after (m.names.peer p) (renamed_deed m.names d) was ≡ is_rival_after p d was
+  is_rival_deed p (Acts Boot) was = refl
+  is_rival_deed p (Acts (Become r)) was = refl
+  is_rival_deed p (Acts (Rival q)) was = ap (λ b. if b then true else was) (m.same q p)
+  is_rival_deed p _ was = refl
+
+module _ {m : Naming} where
+  -- roles
+  pub role_alike : {seen seen' : List Seen} → Alike m seen seen' → role seen' ≡ renamed_role m.names (role seen)
+  role_alike (Booted s s' cause x old old') = refl
+  role_alike (Own s s' x d ok knows {before = b} a) = ap (role_after (renamed_deed m.names d)) (role_alike a) ∙ role_deed m.names d (role b)
+  role_alike (Other n shift s s' x d ok a) = role_alike a
+
+  -- only a known peer is followed, and only a port that may stand for election is a candidate
+  pub role_known : {seen seen' : List Seen} → Alike m seen seen' → known_role m (role seen)
+  role_known (Booted s s' cause x old old') = tt
+  role_known (Own s s' x d ok knows {before = b} a) = known_role_deed m d (role b) knows (role_known a)
+  role_known (Other n shift s s' x d ok a) = role_known a
+
+  -- what a step took
+  pub taken_alike : {seen seen' : List Seen} → Alike m seen seen' → taken seen' ≡ renamed_taken m.names (taken seen)
+  taken_alike (Booted s s' cause x old old') = refl
+  taken_alike (Own s s' x d ok knows {before = b} a) = ap (taken_after (renamed_deed m.names d)) (taken_alike a) ∙ taken_deed m.names d (taken b)
+  taken_alike (Other n shift s s' x d ok a) = taken_alike a
+
+  pub said_alike : {seen seen' : List Seen} → Alike m seen seen' → said (taken seen') ≡ renamed_said m.names (said (taken seen))
+  said_alike {seen = z} a = ap said (taken_alike a) ∙ said_renamed m.names (taken z)
+
+  pub name_in_alike : {seen seen' : List Seen} → Alike m seen seen' → name_in (taken seen') ≡ name_in (taken seen)
+  name_in_alike {seen = z} a = ap name_in (taken_alike a) ∙ name_renamed m.names (taken z)
+
+  pub acting_alike : {seen seen' : List Seen} → Alike m seen seen' → acting seen' ≡ acting seen
+  acting_alike (Booted s s' cause x old old') = refl
+  acting_alike (Own s s' x d ok knows {before = b} a) = ap (acting_after (renamed_deed m.names d)) (acting_alike a) ∙ acting_deed m.names d (acting b)
+  acting_alike (Other n shift s s' x d ok a) = acting_alike a
+
+  -- alarms
+  pub armed_alike : {seen seen' : List Seen} → Alike m seen seen' → armed seen' ≡ later_deadlines m.names (armed seen)
+  armed_alike (Booted s s' cause x old old') = refl
+  armed_alike (Own s s' x d ok knows {before = b} a) = ap (armed_after (renamed_deed m.names d)) (armed_alike a) ∙ armed_deed m.names d (armed b)
+  armed_alike (Other n shift s s' x d ok a) = armed_alike a
+
+  pub deadline_alike : {seen seen' : List Seen} → Alike m seen seen' → (alarm : Alarm) → deadline (armed seen') alarm ≡ later m.names (deadline (armed seen) alarm)
+  deadline_alike {seen = z} a alarm = ap (λ d. deadline d alarm) (armed_alike a) ∙ deadline_later m.names (armed z) alarm
+
+  -- only a port that may stand for election waits for the end of the window
+  pub window_stands : {seen seen' : List Seen} → Alike m seen seen' → is_some (deadline (armed seen) Window) ≡ true → m.stands
+  window_stands (Booted s s' cause x old old') e = absurd (true≢false (sym e))
+  window_stands (Own s s' x d ok knows {before = b} a) e = window_deed m d (armed b) knows (window_stands a) e
+  window_stands (Other n shift s s' x d ok a) e = window_stands a e
+
+  -- the hold
+  pub held_alike : {seen seen' : List Seen} → Alike m seen seen' → held seen' ≡ renamed_held m.names (held seen)
+  held_alike (Booted s s' cause x old old') = refl
+  held_alike (Own s s' x d ok knows {before = b} a) = ap (held_after (renamed_deed m.names d) (x + m.names.shift)) (held_alike a) ∙ held_deed m.names d x (held b)
+  held_alike (Other n shift s s' x d ok a) = held_alike a
+
+  pub may_back_alike : {seen seen' : List Seen} → Alike m seen seen' → (x : ℕ) (p : PeerId) → may_back (held seen') (x + m.names.shift) (m.names.peer p) ≡ may_back (held seen) x p
+  may_back_alike {seen = z} a x p = ap (λ h. may_back h (x + m.names.shift) (m.names.peer p)) (held_alike a) ∙ back_renamed m (held z).back x p
+
+  pub may_stand_alike : {seen seen' : List Seen} → Alike m seen seen' → (x : ℕ) (own : PeerId) → may_stand (held seen') (x + m.names.shift) (m.names.peer own) ≡ may_stand (held seen) x own
+  may_stand_alike {seen = z} a x own = ap (λ h. may_stand h (x + m.names.shift) (m.names.peer own)) (held_alike a) ∙ stand_renamed m (held z) x own
+
+  -- the name of the master that was followed last
+  pub kept_name_alike : {seen seen' : List Seen} → Alike m seen seen' → kept_name seen' ≡ kept_name seen
+  kept_name_alike (Booted s s' cause x old old') = refl
+  kept_name_alike (Own s s' x d ok knows {before = b} {before' = b'} a) =
+      ap (λ t. kept_name_after (renamed_deed m.names d) t (kept_name b')) (taken_alike a)
+      ∙ ap (kept_name_after (renamed_deed m.names d) (renamed_taken m.names (taken b))) (kept_name_alike a)
+      ∙ kept_name_deed m.names d (taken b) (kept_name b)
+  kept_name_alike (Other n shift s s' x d ok a) = kept_name_alike a
+
+  -- backers
+  pub backers_alike : {seen seen' : List Seen} → Alike m seen seen' → backers seen' ≡ map m.names.peer (backers seen)
+  backers_alike (Booted s s' cause x old old') = refl
+  backers_alike (Own s s' x d ok knows {before = b} a) = ap (backers_after (renamed_deed m.names d)) (backers_alike a) ∙ backers_deed m.names d (backers b)
+  backers_alike (Other n shift s s' x d ok a) = backers_alike a
+
+  pub in_table_alike : (p : PeerId) → {seen seen' : List Seen} → Alike m seen seen' → in_table (m.names.peer p) seen' ≡ in_table p seen
+  in_table_alike p (Booted s s' cause x old old') = refl
+  in_table_alike p (Own s s' x d ok knows {before = b} a) = ap (in_table_after (m.names.peer p) (renamed_deed m.names d)) (in_table_alike p a) ∙ in_table_deed m p d (in_table p b)
+  in_table_alike p (Other n shift s s' x d ok a) = in_table_alike p a
+
+  pub is_rival_alike : (p : PeerId) → {seen seen' : List Seen} → Alike m seen seen' → is_rival (m.names.peer p) seen' ≡ is_rival p seen
+  is_rival_alike p (Booted s s' cause x old old') = refl
+  is_rival_alike p (Own s s' x d ok knows {before = b} a) = ap (is_rival_after (m.names.peer p) (renamed_deed m.names d)) (is_rival_alike p a) ∙ is_rival_deed m p d (is_rival p b)
+  is_rival_alike p (Other n shift s s' x d ok a) = is_rival_alike p a

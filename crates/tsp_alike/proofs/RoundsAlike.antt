@@ -1,0 +1,188 @@
+-- Facts of a port's rounds at alike pasts.
+use Rattle.std.specs.Prelude.{◌≡◌, ℕ, ◌+◌, ◌==◌, ℤ, ◌-ℤ◌, int_lt, Bool, true, false, ◌&&◌, if◌then◌else◌, List, ◌∷◌, Option, None, Some, is_some, refl}
+use Rattle.std.proofs.Common.{ap, sym, ◌∙◌}
+use Rattle.tsp_rules.specs.Values.{Boot, Post, Become, Arm, Ring, Late, Leave, Sample, Abandon, Stamp, Probe, CloseAlarm, PeerId, Peer, Request}
+use Rattle.tsp_base.specs.Words.{Deed, Begins, Acts, Step, Seen, is_going, is_starting, is_measured, asked, asked_after, exchange, exchange_after, probes, target_there, target, plain, armed, Sampled, better, best, best_after, request_at_place, request_open, Estimate, estimate, estimate_of}
+use Rattle.tsp_base.specs.RoundFacts.{is_starting_after, is_measured_after, word_asked_by, probes_after}
+use Rattle.tsp_rules.specs.Renames.{Renaming, Naming}
+use Rattle.tsp_alike.specs.AlikeNodes.{renamed_deed}
+use Rattle.tsp_alike.proofs.Alike.{Alike, Booted, Own, Other, here}
+use Rattle.tsp_alike.proofs.NodeAlike.{target_alike}
+use Rattle.tsp_alike.proofs.Places.{AlikePlaces, Nowhere, There, either_place}
+use Rattle.tsp_alike.proofs.PortAlike.{armed_alike}
+use Rattle.tsp_alike.proofs.Renamed.{later}
+
+-- what an estimate takes from a sample, and by what samples are compared
+pub record Trip : Type 0 where
+  pub diff : ℤ
+  pub ticket : ℕ
+  pub trip : ℤ
+
+-- what is taken from a sample, if there is one
+abbrev trip_in : Option Sampled → Option Trip
+trip_in None = None
+trip_in (Some s) = Some (record { diff = s.diff; ticket = s.ticket; trip = s.trip })
+
+-- the shorter of two round trips, the earlier if they are equal
+abbrev shorter : Option Trip → Trip → Trip
+shorter None late = late
+shorter (Some early) late = if int_lt late.trip early.trip then late else early
+
+-- the estimate that a round trip gives
+abbrev trip_said : Option Trip → Option Estimate
+trip_said None = None
+trip_said (Some t) = Some (record { diff = t.diff; ticket = t.ticket })
+
+shorter_in : (was : Option Sampled) (late : Sampled) → trip_in (Some (better was late)) ≡ Some (shorter (trip_in was) (record { diff = late.diff; ticket = late.ticket; trip = late.trip }))
+shorter_in None late = refl
+shorter_in (Some early) late = by_case (int_lt late.trip early.trip) where
+  by_case : (b : Bool) → trip_in (Some (if b then late else early)) ≡ Some (if b then record { diff = late.diff; ticket = late.ticket; trip = late.trip } else record { diff = early.diff; ticket = early.ticket; trip = early.trip })
+  by_case true = refl
+  by_case false = refl
+
+said_in : (o : Option Sampled) → estimate_of o ≡ trip_said (trip_in o)
+said_in None = refl
+said_in (Some s) = refl
+
+-- what the best sample says after one more, where that is of the same peer
+abbrev after_trip : Bool → Option Trip → Trip → Option Trip
+after_trip same was late = if same then Some (shorter was late) else was
+
+-- what a sample says that was taken at a place
+abbrev sampled_at : (counter : ℕ) (diff err : ℤ) (ticket : ℕ) (trip : ℤ) → List Seen → Sampled
+sampled_at counter diff err ticket trip place = record { counter = counter; diff = diff; err = err; ticket = ticket; trip = trip; place = place }
+
+trip_after : (same : Bool) (was : Option Sampled) (late : Sampled) → trip_in (if same then Some (better was late) else was) ≡ after_trip same (trip_in was) (record { diff = late.diff; ticket = late.ticket; trip = late.trip })
+trip_after true was late = shorter_in was late
+trip_after false was late = refl
+
+-- what a deed does to a fact, with other names
+module _ (n : Renaming) where
+  is_starting_deed : (d : Deed) (was : Bool) → is_starting_after (renamed_deed n d) was ≡ is_starting_after d was
+  is_starting_deed Begins was = refl
+  is_starting_deed (Acts (Arm CloseAlarm at)) was = refl
+  is_starting_deed (Acts (Arm a at)) was = refl
+  is_starting_deed _ was = refl
+
+  asked_deed : (d : Deed) (was : ℕ) → asked_after (renamed_deed n d) was ≡ asked_after d was
+  asked_deed (Acts Boot) was = refl
+  asked_deed (Acts (Post to (Stamp (Request word counter)))) was = refl
+  asked_deed (Acts (Post to datagram)) was = refl
+  asked_deed _ was = refl
+
+  probes_deed : (d : Deed) (was : ℕ) → probes_after (renamed_deed n d) was ≡ probes_after d was
+  probes_deed (Acts Boot) was = refl
+  probes_deed (Acts (Become r)) was = refl
+  probes_deed (Acts (Arm CloseAlarm at)) was = refl
+  probes_deed (Acts (Arm a at)) was = refl
+  probes_deed (Acts (Ring Probe)) was = refl
+  probes_deed _ was = refl
+
+  word_deed : (d : Deed) → word_asked_by (renamed_deed n d) ≡ word_asked_by d
+  word_deed (Acts (Post to (Stamp (Request word counter)))) = refl
+  word_deed (Acts (Post to datagram)) = refl
+  word_deed _ = refl
+
+  going_later : (at : Option ℕ) → is_some (later n at) ≡ is_some at
+  going_later None = refl
+  going_later (Some x) = refl
+
+-- the same for one peer, where peers are told apart
+module _ (m : Naming) where
+  is_measured_deed : (p : PeerId) (d : Deed) (starts was : Bool) → is_measured_after (m.names.peer p) (renamed_deed m.names d) starts was ≡ is_measured_after p d starts was
+  is_measured_deed p (Acts Boot) starts was = refl
+  is_measured_deed p (Acts (Become r)) starts was = refl
+  is_measured_deed p (Acts (Arm CloseAlarm at)) starts was = refl
+  is_measured_deed p (Acts (Arm a at)) starts was = refl
+  is_measured_deed p (Acts (Post (Peer q) (Stamp (Request word counter)))) starts was = ap (λ b. if b && starts then true else was) (m.same q p)
+  is_measured_deed p (Acts (Leave q)) starts was = ap (λ b. if b then false else was) (m.same q p)
+  is_measured_deed p _ starts was = refl
+
+  exchange_deed : (p : PeerId) (c : ℕ) (d : Deed) → {z z' was was' : List Seen} → AlikePlaces m z z' → AlikePlaces m was was' → AlikePlaces m (exchange_after p c d z was) (exchange_after (m.names.peer p) c (renamed_deed m.names d) z' was')
+  exchange_deed p c (Acts Boot) now k = Nowhere
+  exchange_deed p c (Acts (Become r)) now k = Nowhere
+  exchange_deed p c (Acts (Arm CloseAlarm at)) now k = Nowhere
+  exchange_deed p c (Acts (Arm a at)) now k = k
+  exchange_deed p c (Acts (Ring CloseAlarm)) now k = Nowhere
+  exchange_deed p c (Acts (Late CloseAlarm)) now k = Nowhere
+  exchange_deed p c (Acts Abandon) now k = Nowhere
+  exchange_deed p c (Acts (Post (Peer q) (Stamp (Request word counter)))) now k = either_place m ((q.0 == p.0) && (counter == c)) (((m.names.peer q).0 == (m.names.peer p).0) && (counter == c)) (ap (λ b. b && (counter == c)) (m.same q p)) now k
+  exchange_deed p c (Acts (Sample q counter diff err ticket)) now k = either_place m ((q.0 == p.0) && (counter == c)) (((m.names.peer q).0 == (m.names.peer p).0) && (counter == c)) (ap (λ b. b && (counter == c)) (m.same q p)) Nowhere k
+  exchange_deed p c _ now k = k
+
+module _ {m : Naming} where
+  pub is_going_alike : {seen seen' : List Seen} → Alike m seen seen' → is_going seen' ≡ is_going seen
+  is_going_alike {seen = z} a = ap (λ d. is_some d.close) (armed_alike a) ∙ going_later m.names (armed z).close
+
+  is_starting_alike : {seen seen' : List Seen} → Alike m seen seen' → is_starting seen' ≡ is_starting seen
+  is_starting_alike (Booted s s' boot x old old') = refl
+  is_starting_alike (Own s s' x d ok knows {before = b} a) = ap (is_starting_after (renamed_deed m.names d)) (is_starting_alike a) ∙ is_starting_deed m.names d (is_starting b)
+  is_starting_alike (Other n shift s s' x d ok a) = is_starting_alike a
+
+  pub is_measured_alike : (p : PeerId) → {seen seen' : List Seen} → Alike m seen seen' → is_measured (m.names.peer p) seen' ≡ is_measured p seen
+  is_measured_alike p (Booted s s' boot x old old') = refl
+  is_measured_alike p (Own s s' x d ok knows {before = b} {before' = b'} a) =
+      ap (λ starts. is_measured_after (m.names.peer p) (renamed_deed m.names d) starts (is_measured (m.names.peer p) b')) (is_starting_alike a)
+      ∙ ap (is_measured_after (m.names.peer p) (renamed_deed m.names d) (is_starting b)) (is_measured_alike p a)
+      ∙ is_measured_deed m p d (is_starting b) (is_measured p b)
+  is_measured_alike p (Other n shift s s' x d ok a) = is_measured_alike p a
+
+  pub asked_alike : {seen seen' : List Seen} → Alike m seen seen' → asked seen' ≡ asked seen
+  asked_alike (Booted s s' boot x old old') = refl
+  asked_alike (Own s s' x d ok knows {before = b} a) = ap (asked_after (renamed_deed m.names d)) (asked_alike a) ∙ asked_deed m.names d (asked b)
+  asked_alike (Other n shift s s' x d ok a) = asked_alike a
+
+  pub probes_alike : {seen seen' : List Seen} → Alike m seen seen' → probes seen' ≡ probes seen
+  probes_alike (Booted s s' boot x old old') = refl
+  probes_alike (Own s s' x d ok knows {before = b} a) = ap (probes_after (renamed_deed m.names d)) (probes_alike a) ∙ probes_deed m.names d (probes b)
+  probes_alike (Other n shift s s' x d ok a) = probes_alike a
+
+  -- open exchanges
+  pub exchange_alike : (p : PeerId) (c : ℕ) → {seen seen' : List Seen} → Alike m seen seen' → AlikePlaces m (exchange p c seen) (exchange (m.names.peer p) c seen')
+  exchange_alike p c (Booted s s' boot x old old') = Nowhere
+  exchange_alike p c (Own s s' x d ok knows a) = exchange_deed m p c d (There s s' x d a) (exchange_alike p c a)
+  exchange_alike p c (Other n shift s s' x d ok a) = exchange_alike p c a
+
+  target_there_alike : {place place' : List Seen} → AlikePlaces m place place' → target_there place' ≡ target_there place
+  target_there_alike Nowhere = refl
+  target_there_alike (There s s' x d a) = target_alike a x
+
+  request_at_alike : {place place' : List Seen} → AlikePlaces m place place' → request_at_place place' ≡ request_at_place place
+  request_at_alike Nowhere = refl
+  request_at_alike (There s s' x d {before = b} {before' = b'} a) =
+      ap (λ w. Some (record { word = w; target = target_there (here s' (x + m.names.shift) (renamed_deed m.names d) ∷ b') })) (word_deed m.names d)
+      ∙ ap (λ t. Some (record { word = word_asked_by d; target = t })) (target_alike a x)
+
+  pub request_open_alike : (p : PeerId) (c : ℕ) → {seen seen' : List Seen} → Alike m seen seen' → request_open (m.names.peer p) c seen' ≡ request_open p c seen
+  request_open_alike p c a = request_at_alike (exchange_alike p c a)
+
+  -- the round trip of a sample
+  trip_alike : {seen seen' : List Seen} → Alike m seen seen' → (p : PeerId) (c x : ℕ) →
+      target (plain seen') (x + m.names.shift) -ℤ target_there (exchange (m.names.peer p) c seen') ≡ target (plain seen) x -ℤ target_there (exchange p c seen)
+  trip_alike {seen = z} {seen' = z'} a p c x = ap (λ t. t -ℤ target_there (exchange (m.names.peer p) c z')) (target_alike a x) ∙ ap (λ t. target (plain z) x -ℤ t) (target_there_alike (exchange_alike p c a))
+
+  best_deed : (p : PeerId) (d : Deed) (s s' : Step) (x : ℕ) → {seen seen' : List Seen} → Alike m seen seen' → (was was' : Option Sampled) → trip_in was' ≡ trip_in was →
+      trip_in (best_after (m.names.peer p) (renamed_deed m.names d) (here s' (x + m.names.shift) (renamed_deed m.names d) ∷ seen') seen' was') ≡ trip_in (best_after p d (here s x d ∷ seen) seen was)
+  best_deed p (Acts Boot) s s' x a was was' e = refl
+  best_deed p (Acts (Become r)) s s' x a was was' e = refl
+  best_deed p (Acts (Arm CloseAlarm at)) s s' x a was was' e = refl
+  best_deed p (Acts (Arm alarm at)) s s' x a was was' e = e
+  best_deed p (Acts (Sample q counter diff err ticket)) s s' x {seen = z} {seen' = z'} a was was' e =
+      let now = here s x (Acts (Sample q counter diff err ticket)) ∷ z in
+      let now' = here s' (x + m.names.shift) (Acts (Sample (m.names.peer q) counter diff err ticket)) ∷ z' in
+      let trip = target (plain z) x -ℤ target_there (exchange p counter z) in
+      let trip' = target (plain z') (x + m.names.shift) -ℤ target_there (exchange (m.names.peer p) counter z') in
+      trip_after ((m.names.peer q).0 == (m.names.peer p).0) was' (sampled_at counter diff err ticket trip' now')
+      ∙ ap (λ same. after_trip same (trip_in was') (record { diff = diff; ticket = ticket; trip = trip' })) (m.same q p)
+      ∙ ap (λ w. after_trip (q.0 == p.0) w (record { diff = diff; ticket = ticket; trip = trip' })) e
+      ∙ ap (λ t. after_trip (q.0 == p.0) (trip_in was) (record { diff = diff; ticket = ticket; trip = t })) (trip_alike a p counter x)
+      ∙ sym (trip_after (q.0 == p.0) was (sampled_at counter diff err ticket trip now))
+  best_deed p _ s s' x a was was' e = e
+
+  best_alike : (p : PeerId) → {seen seen' : List Seen} → Alike m seen seen' → trip_in (best (m.names.peer p) seen') ≡ trip_in (best p seen)
+  best_alike p (Booted s s' boot x old old') = refl
+  best_alike p (Own s s' x d ok knows {before = b} {before' = b'} a) = best_deed p d s s' x a (best p b) (best (m.names.peer p) b') (best_alike p a)
+  best_alike p (Other n shift s s' x d ok a) = best_alike p a
+
+  pub estimate_alike : (p : PeerId) → {seen seen' : List Seen} → Alike m seen seen' → estimate (m.names.peer p) seen' ≡ estimate p seen
+  estimate_alike p {seen = z} {seen' = z'} a = said_in (best (m.names.peer p) z') ∙ ap trip_said (best_alike p a) ∙ sym (said_in (best p z))

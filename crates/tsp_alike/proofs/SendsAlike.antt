@@ -1,0 +1,189 @@
+-- Facts of a port's numbered sends at alike pasts.
+use Rattle.std.specs.Prelude.{◌≡◌, ℕ, ◌+◌, ◌==◌, Bool, true, false, ◌&&◌, if◌then◌else◌, List, ◌∷◌, Option, None, Some, refl}
+use Rattle.std.proofs.Common.{ap, sym, subst, ◌∙◌}
+use Rattle.tsp_rules.specs.Values.{Boot, Post, Become, Acked, Gave, Correct, Message, PeerId, Peer}
+use Rattle.tsp_base.specs.Words.{Deed, Acts, Seen, Received, Said, said, taken, acting, is_correction, is_numbered, is_date_request, is_set_date_request, open_to, open_to_after, begun_to, begun_to_after, posts_of, posts_of_after, message_at, sending_at, open_send, begun, begun_after, last_to, last_to_after, number_of, last_number, last_post, last_post_after, corrects_by, is_acknowledged, is_acknowledged_after, Correcting, correcting_of, last_taken, last_taken_after, last_taken_elsewhere, Dating, dating_of, last_date, last_date_after, last_asked, last_asked_after}
+use Rattle.tsp_rules.specs.Renames.{Renaming, Naming, later_sends}
+use Rattle.tsp_alike.specs.AlikeNodes.{renamed_deed}
+use Rattle.tsp_alike.proofs.Alike.{Alike, Booted, Own, Other, here}
+use Rattle.tsp_alike.proofs.Places.{AlikePlaces, Nowhere, There, either_place, message_at_alike, sending_at_alike}
+use Rattle.tsp_alike.proofs.PortAlike.{acting_alike, taken_alike, said_renamed}
+use Rattle.tsp_alike.proofs.Renamed.{later, later_date, renamed_said, renamed_taken, renamed_correcting}
+
+-- what a deed does to a fact, with other names
+module _ (n : Renaming) where
+  begun_deed : (d : Deed) (begins : Bool) (was : ℕ) → begun_after (renamed_deed n d) begins was ≡ begun_after d begins was
+  begun_deed (Acts Boot) begins was = refl
+  begun_deed (Acts (Post to (Message msg))) begins was = refl
+  begun_deed _ begins was = refl
+
+  asked_if : (b : Bool) (x : ℕ) (was : Option ℕ) → (if b then Some (x + n.shift) else later n was) ≡ later n (if b then Some x else was)
+  asked_if true x was = refl
+  asked_if false x was = refl
+
+  last_asked_deed : (d : Deed) (begins : Bool) (x : ℕ) (was : Option ℕ) → last_asked_after (renamed_deed n d) begins (x + n.shift) (later n was) ≡ later n (last_asked_after d begins x was)
+  last_asked_deed (Acts Boot) begins x was = refl
+  last_asked_deed (Acts (Post to (Message msg))) begins x was = asked_if (is_set_date_request msg.kind && begins) x was
+  last_asked_deed _ begins x was = refl
+
+  correcting_renamed : (o : Option Said) → correcting_of (renamed_said n o) ≡ renamed_correcting n (correcting_of o)
+  correcting_renamed None = refl
+  correcting_renamed (Some s) = by_case (is_correction s.message.kind) where
+    by_case : (b : Bool) → (if b then Some (record { from = n.peer s.from; number = s.message.number }) else None) ≡ renamed_correcting n (if b then Some (record { from = s.from; number = s.message.number }) else None)
+    by_case true = refl
+    by_case false = refl
+
+  last_taken_deed : (d : Deed) (took : Option Received) (was : Option Correcting) → last_taken_after (renamed_deed n d) (renamed_taken n took) (renamed_correcting n was) ≡ renamed_correcting n (last_taken_after d took was)
+  last_taken_deed (Acts Boot) took was = refl
+  last_taken_deed (Acts (Correct amount stepped shown)) took was = ap correcting_of (said_renamed n took) ∙ correcting_renamed (said took)
+  last_taken_deed _ took was = refl
+
+  -- what a deed on another port does, whatever its peers are called
+  elsewhere_deed : (k : Renaming) (d : Deed) (was : Option Correcting) → last_taken_elsewhere (renamed_deed k d) (renamed_correcting n was) ≡ renamed_correcting n (last_taken_elsewhere d was)
+  elsewhere_deed k (Acts (Correct amount stepped shown)) was = refl
+  elsewhere_deed k _ was = refl
+
+-- the same for one peer, where peers are told apart
+module _ (m : Naming) where
+  open_to_deed : (p : PeerId) (d : Deed) (begins : Bool) → {z z' was was' : List Seen} → AlikePlaces m z z' → AlikePlaces m was was' → AlikePlaces m (open_to_after p d begins z was) (open_to_after (m.names.peer p) (renamed_deed m.names d) begins z' was')
+  open_to_deed p (Acts Boot) begins now k = Nowhere
+  open_to_deed p (Acts (Become r)) begins now k = Nowhere
+  open_to_deed p (Acts (Post (Peer q) (Message msg))) begins now k = either_place m ((q.0 == p.0) && (is_numbered msg.kind && begins)) (((m.names.peer q).0 == (m.names.peer p).0) && (is_numbered msg.kind && begins)) (ap (λ b. b && (is_numbered msg.kind && begins)) (m.same q p)) now k
+  open_to_deed p (Acts (Acked q)) begins now k = either_place m (q.0 == p.0) ((m.names.peer q).0 == (m.names.peer p).0) (m.same q p) Nowhere k
+  open_to_deed p (Acts (Gave q)) begins now k = either_place m (q.0 == p.0) ((m.names.peer q).0 == (m.names.peer p).0) (m.same q p) Nowhere k
+  open_to_deed p _ begins now k = k
+
+  begun_to_deed : (p : PeerId) (d : Deed) (begins : Bool) → {z z' was was' : List Seen} → AlikePlaces m z z' → AlikePlaces m was was' → AlikePlaces m (begun_to_after p d begins z was) (begun_to_after (m.names.peer p) (renamed_deed m.names d) begins z' was')
+  begun_to_deed p (Acts Boot) begins now k = Nowhere
+  begun_to_deed p (Acts (Post (Peer q) (Message msg))) begins now k = either_place m ((q.0 == p.0) && (is_numbered msg.kind && begins)) (((m.names.peer q).0 == (m.names.peer p).0) && (is_numbered msg.kind && begins)) (ap (λ b. b && (is_numbered msg.kind && begins)) (m.same q p)) now k
+  begun_to_deed p _ begins now k = k
+
+  last_to_deed : (p : PeerId) (d : Deed) (begins : Bool) → {z z' was was' : List Seen} → AlikePlaces m z z' → AlikePlaces m was was' → AlikePlaces m (last_to_after p d begins z was) (last_to_after (m.names.peer p) (renamed_deed m.names d) begins z' was')
+  last_to_deed p (Acts Boot) begins now k = Nowhere
+  last_to_deed p (Acts (Post (Peer q) (Message msg))) begins now k = either_place m ((q.0 == p.0) && (is_correction msg.kind && begins)) (((m.names.peer q).0 == (m.names.peer p).0) && (is_correction msg.kind && begins)) (ap (λ b. b && (is_correction msg.kind && begins)) (m.same q p)) now k
+  last_to_deed p _ begins now k = k
+
+  posts_of_deed : (p : PeerId) (d : Deed) (begins : Bool) (was : ℕ) → posts_of_after (m.names.peer p) (renamed_deed m.names d) begins was ≡ posts_of_after p d begins was
+  posts_of_deed p (Acts Boot) begins was = refl
+  posts_of_deed p (Acts (Become r)) begins was = refl
+  posts_of_deed p (Acts (Post (Peer q) (Message msg))) begins was = ap (λ b. if b && is_numbered msg.kind then (if begins then 1 else was + 1) else was) (m.same q p)
+  posts_of_deed p (Acts (Acked q)) begins was = ap (λ b. if b then 0 else was) (m.same q p)
+  posts_of_deed p (Acts (Gave q)) begins was = ap (λ b. if b then 0 else was) (m.same q p)
+  posts_of_deed p _ begins was = refl
+
+  last_post_deed : (p : PeerId) (d : Deed) (x : ℕ) (was : Option ℕ) → last_post_after (m.names.peer p) (renamed_deed m.names d) (x + m.names.shift) (later m.names was) ≡ later m.names (last_post_after p d x was)
+  last_post_deed p (Acts Boot) x was = refl
+  last_post_deed p (Acts (Post (Peer q) (Message msg))) x was = ap (λ b. if b && is_correction msg.kind then Some (x + m.names.shift) else later m.names was) (m.same q p) ∙ asked_if m.names ((q.0 == p.0) && is_correction msg.kind) x was
+  last_post_deed p _ x was = refl
+
+  is_acknowledged_deed : (p : PeerId) (d : Deed) (begins corrects was : Bool) → is_acknowledged_after (m.names.peer p) (renamed_deed m.names d) begins corrects was ≡ is_acknowledged_after p d begins corrects was
+  is_acknowledged_deed p (Acts Boot) begins corrects was = refl
+  is_acknowledged_deed p (Acts (Post (Peer q) (Message msg))) begins corrects was = ap (λ b. if b && (is_correction msg.kind && begins) then false else was) (m.same q p)
+  is_acknowledged_deed p (Acts (Acked q)) begins corrects was = ap (λ b. if b && corrects then true else was) (m.same q p)
+  is_acknowledged_deed p _ begins corrects was = refl
+
+  date_if : (b : Bool) (x number : ℕ) (was : Option Dating) → (if b then Some (record { at = x + m.names.shift; number = number }) else later_date m.names was) ≡ later_date m.names (if b then Some (record { at = x; number = number }) else was)
+  date_if true x number was = refl
+  date_if false x number was = refl
+
+  dating_renamed : (p : PeerId) (x : ℕ) (o : Option Said) (was : Option Dating) → dating_of (m.names.peer p) (x + m.names.shift) (renamed_said m.names o) (later_date m.names was) ≡ later_date m.names (dating_of p x o was)
+  dating_renamed p x None was = refl
+  dating_renamed p x (Some s) was =
+      ap (λ b. if b && is_date_request s.message.kind then Some (record { at = x + m.names.shift; number = s.message.number }) else later_date m.names was) (m.same s.from p)
+      ∙ date_if ((s.from.0 == p.0) && is_date_request s.message.kind) x s.message.number was
+
+  last_date_deed : (p : PeerId) (d : Deed) (x : ℕ) (took : Option Received) (was : Option Dating) → last_date_after (m.names.peer p) (renamed_deed m.names d) (x + m.names.shift) (renamed_taken m.names took) (later_date m.names was) ≡ later_date m.names (last_date_after p d x took was)
+  last_date_deed p (Acts Boot) x took was = refl
+  last_date_deed p (Acts (Correct amount stepped shown)) x took was = ap (λ o. dating_of (m.names.peer p) (x + m.names.shift) o (later_date m.names was)) (said_renamed m.names took) ∙ dating_renamed p x (said took) was
+  last_date_deed p _ x took was = refl
+
+module _ {m : Naming} where
+  -- open sends
+  pub open_to_alike : (p : PeerId) → {seen seen' : List Seen} → Alike m seen seen' → AlikePlaces m (open_to p seen) (open_to (m.names.peer p) seen')
+  open_to_alike p (Booted s s' boot x old old') = Nowhere
+  open_to_alike p (Own s s' x d ok knows {before = b} {before' = b'} a) =
+      subst (λ begins. AlikePlaces m (open_to p (here s x d ∷ b)) (open_to_after (m.names.peer p) (renamed_deed m.names d) begins (here s' (x + m.names.shift) (renamed_deed m.names d) ∷ b') (open_to (m.names.peer p) b'))) (sym (acting_alike a))
+      (open_to_deed m p d (acting b) (There s s' x d a) (open_to_alike p a))
+  open_to_alike p (Other n shift s s' x d ok a) = open_to_alike p a
+
+  pub posts_of_alike : (p : PeerId) → {seen seen' : List Seen} → Alike m seen seen' → posts_of (m.names.peer p) seen' ≡ posts_of p seen
+  posts_of_alike p (Booted s s' boot x old old') = refl
+  posts_of_alike p (Own s s' x d ok knows {before = b} {before' = b'} a) =
+      ap (λ begins. posts_of_after (m.names.peer p) (renamed_deed m.names d) begins (posts_of (m.names.peer p) b')) (acting_alike a)
+      ∙ ap (posts_of_after (m.names.peer p) (renamed_deed m.names d) (acting b)) (posts_of_alike p a)
+      ∙ posts_of_deed m p d (acting b) (posts_of p b)
+  posts_of_alike p (Other n shift s s' x d ok a) = posts_of_alike p a
+
+  pub open_send_alike : (p : PeerId) → {seen seen' : List Seen} → Alike m seen seen' → open_send (m.names.peer p) seen' ≡ later_sends m.names (open_send p seen)
+  open_send_alike p {seen = z} {seen' = z'} a = ap (sending_at (open_to (m.names.peer p) z')) (posts_of_alike p a) ∙ sending_at_alike (open_to_alike p a) (posts_of p z)
+
+  pub begun_to_alike : (p : PeerId) → {seen seen' : List Seen} → Alike m seen seen' → AlikePlaces m (begun_to p seen) (begun_to (m.names.peer p) seen')
+  begun_to_alike p (Booted s s' boot x old old') = Nowhere
+  begun_to_alike p (Own s s' x d ok knows {before = b} {before' = b'} a) =
+      subst (λ begins. AlikePlaces m (begun_to p (here s x d ∷ b)) (begun_to_after (m.names.peer p) (renamed_deed m.names d) begins (here s' (x + m.names.shift) (renamed_deed m.names d) ∷ b') (begun_to (m.names.peer p) b'))) (sym (acting_alike a))
+      (begun_to_deed m p d (acting b) (There s s' x d a) (begun_to_alike p a))
+  begun_to_alike p (Other n shift s s' x d ok a) = begun_to_alike p a
+
+  -- how many sends began with the port's own numbers
+  pub begun_alike : {seen seen' : List Seen} → Alike m seen seen' → begun seen' ≡ begun seen
+  begun_alike (Booted s s' boot x old old') = refl
+  begun_alike (Own s s' x d ok knows {before = b} {before' = b'} a) =
+      ap (λ begins. begun_after (renamed_deed m.names d) begins (begun b')) (acting_alike a)
+      ∙ ap (begun_after (renamed_deed m.names d) (acting b)) (begun_alike a)
+      ∙ begun_deed m.names d (acting b) (begun b)
+  begun_alike (Other n shift s s' x d ok a) = begun_alike a
+
+  -- the last correction of a peer
+  pub last_to_alike : (p : PeerId) → {seen seen' : List Seen} → Alike m seen seen' → AlikePlaces m (last_to p seen) (last_to (m.names.peer p) seen')
+  last_to_alike p (Booted s s' boot x old old') = Nowhere
+  last_to_alike p (Own s s' x d ok knows {before = b} {before' = b'} a) =
+      subst (λ begins. AlikePlaces m (last_to p (here s x d ∷ b)) (last_to_after (m.names.peer p) (renamed_deed m.names d) begins (here s' (x + m.names.shift) (renamed_deed m.names d) ∷ b') (last_to (m.names.peer p) b'))) (sym (acting_alike a))
+      (last_to_deed m p d (acting b) (There s s' x d a) (last_to_alike p a))
+  last_to_alike p (Other n shift s s' x d ok a) = last_to_alike p a
+
+  pub last_number_alike : (p : PeerId) → {seen seen' : List Seen} → Alike m seen seen' → last_number (m.names.peer p) seen' ≡ last_number p seen
+  last_number_alike p a = ap number_of (message_at_alike (last_to_alike p a))
+
+  pub last_post_alike : (p : PeerId) → {seen seen' : List Seen} → Alike m seen seen' → last_post (m.names.peer p) seen' ≡ later m.names (last_post p seen)
+  last_post_alike p (Booted s s' boot x old old') = refl
+  last_post_alike p (Own s s' x d ok knows {before = b} a) = ap (last_post_after (m.names.peer p) (renamed_deed m.names d) (x + m.names.shift)) (last_post_alike p a) ∙ last_post_deed m p d x (last_post p b)
+  last_post_alike p (Other n shift s s' x d ok a) = last_post_alike p a
+
+  -- whether the open send corrects
+  corrects_alike : (p : PeerId) → {seen seen' : List Seen} → Alike m seen seen' → corrects_by (message_at (open_to (m.names.peer p) seen')) ≡ corrects_by (message_at (open_to p seen))
+  corrects_alike p a = ap corrects_by (message_at_alike (open_to_alike p a))
+
+  pub is_acknowledged_alike : (p : PeerId) → {seen seen' : List Seen} → Alike m seen seen' → is_acknowledged (m.names.peer p) seen' ≡ is_acknowledged p seen
+  is_acknowledged_alike p (Booted s s' boot x old old') = refl
+  is_acknowledged_alike p (Own s s' x d ok knows {before = b} {before' = b'} a) =
+      ap (λ begins. is_acknowledged_after (m.names.peer p) (renamed_deed m.names d) begins (corrects_by (message_at (open_to (m.names.peer p) b'))) (is_acknowledged (m.names.peer p) b')) (acting_alike a)
+      ∙ ap (λ corrects. is_acknowledged_after (m.names.peer p) (renamed_deed m.names d) (acting b) corrects (is_acknowledged (m.names.peer p) b')) (corrects_alike p a)
+      ∙ ap (is_acknowledged_after (m.names.peer p) (renamed_deed m.names d) (acting b) (corrects_by (message_at (open_to p b)))) (is_acknowledged_alike p a)
+      ∙ is_acknowledged_deed m p d (acting b) (corrects_by (message_at (open_to p b))) (is_acknowledged p b)
+  is_acknowledged_alike p (Other n shift s s' x d ok a) = is_acknowledged_alike p a
+
+  -- the correction that was taken last
+  pub last_taken_alike : {seen seen' : List Seen} → Alike m seen seen' → last_taken seen' ≡ renamed_correcting m.names (last_taken seen)
+  last_taken_alike (Booted s s' boot x old old') = refl
+  last_taken_alike (Own s s' x d ok knows {before = b} {before' = b'} a) =
+      ap (λ t. last_taken_after (renamed_deed m.names d) t (last_taken b')) (taken_alike a)
+      ∙ ap (last_taken_after (renamed_deed m.names d) (renamed_taken m.names (taken b))) (last_taken_alike a)
+      ∙ last_taken_deed m.names d (taken b) (last_taken b)
+  last_taken_alike (Other n shift s s' x d ok {before = b} a) = ap (last_taken_elsewhere (renamed_deed n d)) (last_taken_alike a) ∙ elsewhere_deed m.names n d (last_taken b)
+
+  -- dates
+  pub last_date_alike : (p : PeerId) → {seen seen' : List Seen} → Alike m seen seen' → last_date (m.names.peer p) seen' ≡ later_date m.names (last_date p seen)
+  last_date_alike p (Booted s s' boot x old old') = refl
+  last_date_alike p (Own s s' x d ok knows {before = b} {before' = b'} a) =
+      ap (λ t. last_date_after (m.names.peer p) (renamed_deed m.names d) (x + m.names.shift) t (last_date (m.names.peer p) b')) (taken_alike a)
+      ∙ ap (last_date_after (m.names.peer p) (renamed_deed m.names d) (x + m.names.shift) (renamed_taken m.names (taken b))) (last_date_alike p a)
+      ∙ last_date_deed m p d x (taken b) (last_date p b)
+  last_date_alike p (Other n shift s s' x d ok a) = last_date_alike p a
+
+  pub last_asked_alike : {seen seen' : List Seen} → Alike m seen seen' → last_asked seen' ≡ later m.names (last_asked seen)
+  last_asked_alike (Booted s s' boot x old old') = refl
+  last_asked_alike (Own s s' x d ok knows {before = b} {before' = b'} a) =
+      ap (λ begins. last_asked_after (renamed_deed m.names d) begins (x + m.names.shift) (last_asked b')) (acting_alike a)
+      ∙ ap (last_asked_after (renamed_deed m.names d) (acting b) (x + m.names.shift)) (last_asked_alike a)
+      ∙ last_asked_deed m.names d (acting b) x (last_asked b)
+  last_asked_alike (Other n shift s s' x d ok a) = last_asked_alike a

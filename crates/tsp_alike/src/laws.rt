@@ -1,0 +1,12 @@
+//! Theorems about the rules. Nothing here runs.
+ghost use Rattle.tsp_alike.specs.AlikeNodes.{AnswersAreAlike, BootsAreAlike};
+
+/// A node's answers don't depend on what its peers are called, nor on when its ticks begin.
+pub fn answers_are_alike()
+    ensures { AnswersAreAlike }
+{}
+
+/// Nor do the acts with which it begins a life.
+pub fn boots_are_alike()
+    ensures { BootsAreAlike }
+{}

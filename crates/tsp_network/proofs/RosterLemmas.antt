@@ -1,0 +1,187 @@
+-- Rosters: which nodes the ports of a node of a header reach.
+use Rattle.std.specs.Prelude.{◌≡◌, ◌≢◌, ◌⊎◌, ℕ, zero, suc, ◌+◌, ◌<◌, ◌≤◌, ◌==◌, Bool, true, false, not, if◌then◌else◌, List, [], ◌∷◌, length, map, All, Option, None, Some, slice_index_or, refl}
+use Rattle.std.specs.List.Sorted.{IsStrictlyIncreasing}
+use Rattle.std.proofs.Common.{sym, ap, subst, inl, inr, arith, true≢false, eq-eqb, eqb-true, ◌∙◌}
+use Rattle.std.proofs.lemmas.Bool.{cases_lt, ne_eqb, or_cases, or_right}
+use Rattle.std.proofs.lemmas.List.Elements.{All-get_or, All-head, All-tail, All-weaker, All-filter, All-append, All-cons, All-nil, filter_passes}
+use Rattle.std.proofs.lemmas.List.Kept.{IsStrictlyIncreasing-filter}
+use Rattle.tsp_rules.specs.Values.{Place, Peer, Stranger, Port}
+use Rattle.tsp_base.specs.Words.{HeaderValue, IsHeader, IsNet, has_member, others, peer_of}
+use Rattle.tsp_base.proofs.AscendingLemmas.{Rise, Rise-numbers, Rise-rest}
+use Rattle.tsp_rules.specs.NodeRows.{no_port}
+use Rattle.tsp_run.specs.Networks.{address_at, address_of, network_at, network_from, networks, networks_among, numbers_below, peers_on, port_at, port_from, port_on, ports_on}
+use Rattle.tsp_run.specs.declared.address.Address.{Address}
+use Rattle.tsp_run.proofs.NetworkLemmas.{on_network, on_port_of, some_same}
+use Rattle.tsp_networks.proofs.MemberLemmas.{ascending-below}
+use Rattle.tsp_network.specs.Rosters.{neighbours, neighbours_on, others_in, place_in}
+use Rattle.tsp_network.proofs.NamedLemmas.{IsRoster}
+
+-- none is none
+pub none_some : {A : Type 0} {a : A} → None ≡ Some a → ⊥
+none_some e = cc
+
+-- a network of so many nodes, in ascending order
+pub record GoodNet (count : ℕ) (net : List ℕ) : Type 0 where
+  pub rising : IsStrictlyIncreasing net
+  pub low : All (λ m. m < count) net
+
+below-all : (count n : ℕ) → n ≤ count → All (λ m. m < count) (numbers_below n)
+below-all count zero few = All-nil (λ m. m < count)
+below-all count (suc n) few = All-append (λ m. m < count) (numbers_below n) (n ∷ []) (below-all count n (omega (arith, few))) (All-cons (λ m. m < count) n [] (omega (arith, few)) (All-nil (λ m. m < count)))
+
+good-net : (count : ℕ) (net : List ℕ) → IsNet count net → GoodNet count net
+good-net count net is = record { rising = is.ascending; low = is.known }
+
+-- the networks of a header are
+pub header_nets : (header : HeaderValue) → IsHeader header → All (GoodNet (length header.nodes)) (networks header)
+header_nets header is = by_nets header.nets is.nets_are where
+  by_nets : (nets : List (List ℕ)) → All (IsNet (length header.nodes)) nets → All (GoodNet (length header.nodes)) (networks_among (length header.nodes) nets)
+  by_nets [] all = All-cons (GoodNet (length header.nodes)) (numbers_below (length header.nodes)) [] (record { rising = ascending-below (length header.nodes); low = below-all (length header.nodes) (length header.nodes) (omega arith) }) (All-nil (GoodNet (length header.nodes)))
+  by_nets (net ∷ rest) all = All-weaker (IsNet (length header.nodes)) (GoodNet (length header.nodes)) (good-net (length header.nodes)) (net ∷ rest) all
+
+-- what is known of a port: its network, and the nodes that it reaches
+pub record PortIs (count n r : ℕ) (nets : List (List ℕ)) : Type 0 where
+  pub net : List ℕ
+  pub good : GoodNet count net
+  pub member : has_member n net ≡ true
+  pub setup : slice_index_or (ports_on n nets) r no_port ≡ port_on n net
+  pub nodes : neighbours_on n r nets ≡ others_in n net
+
+pub length_neighbours : (n : ℕ) (nets : List (List ℕ)) → length (neighbours n nets) ≡ length (ports_on n nets)
+length_neighbours n [] = refl
+length_neighbours n (net ∷ rest) = by_member (has_member n net) (length_neighbours n rest) where
+  by_member : (b : Bool) → length (neighbours n rest) ≡ length (ports_on n rest) → length (if b then others_in n net ∷ neighbours n rest else neighbours n rest) ≡ length (if b then port_on n net ∷ ports_on n rest else ports_on n rest)
+  by_member true e = ap (λ k. suc k) e
+  by_member false e = e
+
+pub port_is : (count n r : ℕ) (nets : List (List ℕ)) → All (GoodNet count) nets → r < length (ports_on n nets) → PortIs count n r nets
+port_is count n r [] good h = absurd (omega (arith, h))
+port_is count n r (net ∷ rest) good h = by_member (has_member n net) refl r h (λ k. port_is count n k rest (All-tail (GoodNet count) net rest good)) where
+  by_member : (b : Bool) → has_member n net ≡ b → (r : ℕ) → r < length (if b then port_on n net ∷ ports_on n rest else ports_on n rest) → ((k : ℕ) → k < length (ports_on n rest) → PortIs count n k rest) → PortIs count n r (net ∷ rest)
+  by_member true m zero h more = record { net = net; good = All-head (GoodNet count) net rest good; member = m; setup = rw m refl; nodes = rw m refl }
+  by_member true m (suc k) h more = let p = more k (omega (arith, h)) in record { net = p.net; good = p.good; member = p.member; setup = rw m p.setup; nodes = rw m p.nodes }
+  by_member false m k h more = let p = more k h in record { net = p.net; good = p.good; member = p.member; setup = rw m p.setup; nodes = rw m p.nodes }
+
+-- different places of a rising list have different numbers
+rising-once : (xs : List ℕ) → IsStrictlyIncreasing xs → (i j : ℕ) → i < length xs → j < length xs → slice_index_or xs i 0 ≡ slice_index_or xs j 0 → i ≡ j
+rising-once xs up i j h k e = elim (cases_lt i j) [
+  | inl lt ↦ (let less = (Rise-numbers xs up).at i j 0 lt k in absurd (omega (arith, less, e)))
+  | inr ge ↦ elim (cases_lt j i) [
+    | inl lt ↦ (let less = (Rise-numbers xs up).at j i 0 lt h in absurd (omega (arith, less, e)))
+    | inr le ↦ omega (arith, ge, le)
+  ]
+]
+
+passes-apart : (n m : ℕ) → not (m == n) ≡ true → m ≢ n
+passes-apart n m e same = true≢false (sym e ∙ ap not (eq-eqb m n same))
+
+-- the others of a network are a roster
+pub roster : (count n : ℕ) (net : List ℕ) → count ≤ 64 → n < 64 → GoodNet count net → IsRoster n (others_in n net)
+roster count n net few low good = record {
+  own = low;
+  below = λ i h. (let less = All-get_or (λ m. m < count) (others_in n net) i 0 h (All-filter (λ m. not (m == n)) (λ m. m < count) net good.low) in omega (arith, less, few));
+  apart = λ i h. passes-apart n (slice_index_or (others_in n net) i 0) (All-get_or (λ m. not (m == n) ≡ true) (others_in n net) i 0 h (filter_passes (λ m. not (m == n)) net));
+  once = rising-once (others_in n net) (IsStrictlyIncreasing-filter (λ m. not (m == n)) net good.rising);
+}
+
+-- the others among the peers of a port are the others of its network
+pub others_on : (n : ℕ) (net : List ℕ) → others (peer_of n) (peers_on net) ≡ map peer_of (others_in n net)
+others_on n [] = refl
+others_on n (m ∷ rest) = by_case (m == n) (others_on n rest) where
+  by_case : (b : Bool) → others (peer_of n) (peers_on rest) ≡ map peer_of (others_in n rest) → (if not b then peer_of m ∷ others (peer_of n) (peers_on rest) else others (peer_of n) (peers_on rest)) ≡ map peer_of (if not b then m ∷ others_in n rest else others_in n rest)
+  by_case true e = e
+  by_case false e = ap (λ l. peer_of m ∷ l) e
+
+-- a list without this node has no others than all
+none-left : (n : ℕ) (xs : List ℕ) → ((i : ℕ) → i < length xs → slice_index_or xs i 0 ≢ n) → length (others_in n xs) ≡ length xs
+none-left n [] none = refl
+none-left n (m ∷ rest) none =
+    let off : (m == n) ≡ false = ne_eqb m n (none 0 (omega arith)) in
+    ap (λ b. length (if not b then m ∷ others_in n rest else others_in n rest)) off ∙ ap (λ k. suc k) (none-left n rest (λ i h. none (suc i) (omega (arith, h))))
+
+-- a node stands in its network once
+pub one_fewer : (n : ℕ) (net : List ℕ) → Rise (λ (m : ℕ). m) net → has_member n net ≡ true → suc (length (others_in n net)) ≡ length net
+one_fewer n [] up m = absurd (true≢false (sym m))
+one_fewer n (k ∷ rest) up m = by_case (k == n) refl (or_cases (k == n) (has_member n rest) m) (λ h. one_fewer n rest (Rise-rest k rest up) h) where
+  by_case : (b : Bool) → (k == n) ≡ b → ((k == n) ≡ true) ⊎ (has_member n rest ≡ true) → (has_member n rest ≡ true → suc (length (others_in n rest)) ≡ length rest) → suc (length (if not b then k ∷ others_in n rest else others_in n rest)) ≡ suc (length rest)
+  by_case true e where_ more = ap (λ l. suc l) (none-left n rest (λ i h same. let less = up.at 0 (suc i) 0 (omega arith) (omega (arith, h)) in let first = eqb-true k n e in omega (arith, less, same, first)))
+  by_case false e (inl same) more = absurd (true≢false (sym same ∙ e))
+  by_case false e (inr there) more = ap (λ l. suc l) (more there)
+
+-- where a node stands among others
+pub record PlaceIs (m : ℕ) (nodes : List ℕ) : Type 0 where
+  pub few : place_in m nodes < length nodes
+  pub is : slice_index_or nodes (place_in m nodes) 0 ≡ m
+
+pub place_is : (m : ℕ) (nodes : List ℕ) → has_member m nodes ≡ true → PlaceIs m nodes
+place_is m [] e = absurd (true≢false (sym e))
+place_is m (n ∷ rest) e = by_case (n == m) refl (or_cases (n == m) (has_member m rest) e) (place_is m rest) where
+  by_case : (b : Bool) → (n == m) ≡ b → ((n == m) ≡ true) ⊎ (has_member m rest ≡ true) → (has_member m rest ≡ true → PlaceIs m rest) → PlaceIs m (n ∷ rest)
+  by_case true f o more = record { few = rw f (omega arith); is = rw f (eqb-true n m f) }
+  by_case false f (inl same) more = absurd (true≢false (sym same ∙ f))
+  by_case false f (inr there) more =
+      let p = more there in
+      record { few = (let a = p.few in rw f (omega (arith, a))); is = rw f p.is }
+
+-- which network a port is on, and whom it reaches there; ports are counted from p, and networks from i
+pub record NodesAt (n r p i : ℕ) (nets : List (List ℕ)) : Type 0 where
+  pub j : ℕ
+  pub network : network_from n (p + r) p i nets ≡ Some (i + j)
+  pub nodes : neighbours_on n r nets ≡ others_in n (slice_index_or nets j [])
+
+pub nodes_at : (n r p i : ℕ) (nets : List (List ℕ)) → r < length (ports_on n nets) → NodesAt n r p i nets
+nodes_at n r p i [] h = absurd (omega (arith, h))
+nodes_at n r p i (net ∷ rest) h = by_member (λ k. nodes_at n k (p + 1) (i + 1) rest) (λ k. nodes_at n k p (i + 1) rest) (has_member n net) refl r h where
+  by_member : ((k : ℕ) → k < length (ports_on n rest) → NodesAt n k (p + 1) (i + 1) rest) → ((k : ℕ) → k < length (ports_on n rest) → NodesAt n k p (i + 1) rest) → (b : Bool) → has_member n net ≡ b → (r : ℕ) →
+      r < length (if b then port_on n net ∷ ports_on n rest else ports_on n rest) → NodesAt n r p i (net ∷ rest)
+  by_member more past true m zero h =
+      let first : (p == p + 0) ≡ true = eq-eqb p (p + 0) (omega arith) in
+      record { j = 0; network = rw (m, first) (ap (λ k. Some k) (let e : i ≡ i + 0 = omega arith in e)); nodes = rw m refl }
+  by_member more past true m (suc k) h =
+      let s = more k (omega (arith, h)) in
+      let other : (p == p + suc k) ≡ false = ne_eqb p (p + suc k) (λ e. let bad : ⊥ = omega (arith, e) in bad) in
+      record {
+        j = suc s.j;
+        network = rw (m, other) (ap (λ z. network_from n z (p + 1) (i + 1) rest) (let e : p + suc k ≡ (p + 1) + k = omega arith in e) ∙ s.network ∙ ap (λ z. Some z) (let e : (i + 1) + s.j ≡ i + suc s.j = omega arith in e));
+        nodes = rw m s.nodes;
+      }
+  by_member more past false m k h =
+      let s = past k h in
+      record {
+        j = suc s.j;
+        network = rw m (s.network ∙ ap (λ z. Some z) (let e : (i + 1) + s.j ≡ i + suc s.j = omega arith in e));
+        nodes = rw m s.nodes;
+      }
+
+-- another member of a network is one of the others
+pub member_others : (n m : ℕ) (net : List ℕ) → m ≢ n → has_member m net ≡ true → has_member m (others_in n net) ≡ true
+member_others n m [] off e = e
+member_others n m (k ∷ rest) off e = by_case (k == n) refl (or_cases (k == m) (has_member m rest) e) (member_others n m rest off) where
+  by_case : (b : Bool) → (k == n) ≡ b → ((k == m) ≡ true) ⊎ (has_member m rest ≡ true) → (has_member m rest ≡ true → has_member m (others_in n rest) ≡ true) → has_member m (if not b then k ∷ others_in n rest else others_in n rest) ≡ true
+  by_case true f (inl same) more = absurd (off (sym (eqb-true k m same) ∙ eqb-true k n f))
+  by_case true f (inr there) more = more there
+  by_case false f (inl same) more = rw same refl
+  by_case false f (inr there) more = or_right (k == m) (has_member m (others_in n rest)) (more there)
+
+-- whoever posts to a node on a network is one of those that the node reaches by the port at which the post comes
+pub poster_near : (nets : List (List ℕ)) (from : ℕ) (port : Port) (to : Place) (a : Address) → address_of nets from port to ≡ Some a → a.node ≢ from → has_member from (neighbours_on a.node a.port.0 nets) ≡ true
+poster_near nets from port Stranger a e off = absurd (none_some e)
+poster_near nets from port (Peer p) a e off = by_network (network_at from port nets) refl e where
+  by_port : (k : ℕ) → network_at from port nets ≡ Some k → (o : Option ℕ) → port_from p.0 k 0 0 nets ≡ o → address_at p.0 o ≡ Some a → has_member from (neighbours_on a.node a.port.0 nets) ≡ true
+  by_port k f None g e = absurd (none_some e)
+  by_port k f (Some q) g e =
+      let sender = on_network from port.0 k 0 0 nets f in
+      let taker = on_port_of p.0 q k 0 0 nets g in
+      let few = taker.few in
+      let at = nodes_at p.0 q 0 0 nets (omega (arith, few)) in
+      let same : at.j ≡ sender.j =
+      (let one : 0 + at.j ≡ k = some_same (sym at.network ∙ ap (λ z. network_from p.0 z 0 0 nets) (let e : 0 + q ≡ q = omega arith in e) ∙ taker.network) in let two = sender.place in omega (arith, one, two)) in
+      let here : Address = record { node = p.0; port = record { 0 = q } } in
+      let is : here ≡ a = some_same e in
+      let apart : from ≢ p.0 = λ z. off (sym (ap (λ (b : Address). b.node) is) ∙ sym z) in
+      subst (λ (b : Address). has_member from (neighbours_on b.node b.port.0 nets) ≡ true) is
+      (subst (λ l. has_member from l ≡ true) (sym at.nodes) (member_others p.0 from (slice_index_or nets at.j []) apart (subst (λ j. has_member from (slice_index_or nets j []) ≡ true) (sym same) sender.member)))
+
+  by_network : (o : Option ℕ) → network_at from port nets ≡ o → address_at p.0 (port_at p.0 o nets) ≡ Some a → has_member from (neighbours_on a.node a.port.0 nets) ≡ true
+  by_network None f e = absurd (none_some e)
+  by_network (Some k) f e = by_port k f (port_from p.0 k 0 0 nets) refl e

@@ -1,0 +1,72 @@
+-- What the rules give where a copy goes astray.
+use Rattle.std.specs.Prelude.{◌≡◌, pos, negsuc, true, List, [], ◌∷◌, codes, length, Some, slice_get, refl}
+use Rattle.tsp_rules.specs.Values.{Ack, Act, Arm, Correct, Datagram, Elect, Follow, Good, Message, Peer, Placed, Post, SetTime, Took}
+use Rattle.tsp_base.specs.Words.{Came, Line, Step, bare, dids, first_port, of, peer_of as peer, role, stepped, timed, up, view}
+use Rattle.tsp_codec.specs.Canon.{canon}
+use Rattle.tsp_run.specs.declared.posted.Posted.{Posted}
+use Rattle.tsp_run.specs.Possible.{Happens}
+use Rattle.tsp_run.specs.Run.{run, posts as posts_of}
+use Rattle.tsp_run.proofs.Happens.{acts_by}
+use Rattle.tsp_network.specs.Misdelivered.{led, three_nodes}
+use Rattle.tsp_base.specs.Words.{kind_number, nothing, puts, ◌followed_by◌, either_by, reading, for_each, arms, posts, posts_to_others, posts_back, posts_time, carries_hops, carries_time, kind_of}
+use Rattle.tsp_rules.specs.Answers.{alarm_rings, rings, rings_alone, due_alarms, says_in, peer_says, replies_in, peer_replies, from_peer, handles_kind, handles, takes, input_row, answers}
+use Rattle.tsp_rules.specs.CandidateRows.{lead_row, yields, window_rings, accepted_by, refused_by, candidate_takes_kind, candidate_takes}
+use Rattle.tsp_rules.specs.ClockRows.{adjusts, sets}
+use Rattle.tsp_rules.specs.CommonRows.{boots, arms_elect, searches, tells_ticket, follow_row, backs_own, candidature_row, follows_unless, quits, posts_reply, replies, names_master, says_master, traces, tests}
+use Rattle.tsp_group.specs.Groups.{group_from, goes_before, better}
+use Rattle.tsp_rules.specs.MasterRows.{joins, sends_away, master_takes_kind, master_takes}
+use Rattle.tsp_rules.specs.ResolveRows.{resolves, finds_rival, quits_rivals, resolve_rings}
+use Rattle.tsp_rules.specs.RoundRows.{asks, asks_slaves, round_begins, round_rings, asks_measured, arms_next, abandons, probe_rings, samples_request, samples, corrects_by, corrects_peer, begins_or_waits, moves, closes_with, closes, close_rings, abandons_going, upsetting}
+use Rattle.tsp_rules.specs.SendRows.{begins, begins_timed, begins_to_others, begins_adjtime, begins_settime, acknowledges, leaves_after, gives_up, repeats, repeats_send, due_send, due_sends}
+use Rattle.tsp_rules.specs.SlaveRows.{quiet_rings, rings_or_late, search_rings, loosens, elect_rings, reports_conflict, masterup_in, masterack_in, election_of, acks_repeat, confirms, adjtime_of, settime_of, from_master, slave_takes_kind, slave_takes}
+use Rattle.tsp_rules.specs.DateRows.{passes_on, leaves, leaves_all, new_date, sets_date_where, date_in, date_of, sets_in_charge, date_request_in, date_request_of, date_acked_in, date_acked}
+use Rattle.tsp_rules.specs.NodeRows.{nothing_at_all, on, ◌and_then◌, reading_all, for_ports, abandons_on, stirring}
+use Rattle.tsp_rules.specs.GateRows.{GotOn, sends_loops, loops_after, probes_on, closes_on, begins_round_on, alarm_on, alarms_on, turns_on, reposts, reposts_on, loosens_master, forwards, takes_loop_step, judges, heeds_loop, takes_loop, takes_message, takes_kind, takes_on, input_all, answers_all, boots_on, boots_all}
+use Rattle.tsp_codec.specs.Taken.{taken_of}
+use Rattle.tsp_run.specs.Run.{steps}
+
+-- the SETTIME
+abbrev pub set_time : Datagram
+set_time = Message (timed SetTime 9 (pos 390001000) (codes "a"))
+
+-- its post, which is to b
+abbrev pub set_post : Posted
+set_post = record { at = 390001000; from = 0; port = first_port; to = Peer (peer 1); datagram = set_time }
+
+-- the step in which c takes it
+abbrev pub stray_step : Step
+stray_step = record { at = 390001400; node = 2; cause = Came 14 }
+
+abbrev pub placed : Act → Placed
+placed a = record { port = first_port; act = a }
+
+abbrev pub history : List Line
+history = run three_nodes led
+
+-- the history when c has taken it, and has done nothing yet
+abbrev pub taken_astray : List Line
+taken_astray = stepped stray_step 390001400 (placed (Took (Peer (peer 0)) (Good set_time)) ∷ []) history
+
+-- what c does
+abbrev pub stray_acts : List Placed
+stray_acts =
+    placed (Took (Peer (peer 0)) (Good set_time)) ∷
+    placed (Correct (negsuc 20399) true (pos 390001000)) ∷
+    placed (Arm Elect 690001409) ∷
+    placed (Post (Peer (peer 0)) (Message (bare Ack 9 (codes "c")))) ∷
+    []
+
+-- what is known of the run, and of what c does
+pub record GoesAstray : Type 0 where
+  pub happens : Happens three_nodes led
+  pub count : length (posts_of history) ≡ 15
+  pub is_up : up (dids (of 2 history)) ≡ true
+  pub posted : slice_get (posts_of history) 14 ≡ Some set_post
+  pub still_posted : slice_get (posts_of taken_astray) 14 ≡ Some set_post
+  pub size : length (canon set_time) ≡ 76
+  pub follows : role (view first_port (of 2 taken_astray)) ≡ Follow (peer 0)
+  pub acts_are : acts_by three_nodes history (answers_all (GotOn first_port (Peer (peer 0)) (taken_of (canon set_time)))) stray_step ≡ stray_acts
+
+pub goes_astray : GoesAstray
+unfolding taken_of kind_number kind_of carries_time carries_hops nothing puts ◌followed_by◌ either_by reading for_each arms posts posts_to_others posts_back posts_time alarm_rings rings rings_alone due_alarms says_in peer_says replies_in peer_replies from_peer handles_kind handles takes input_row answers lead_row yields window_rings accepted_by refused_by candidate_takes_kind candidate_takes adjusts sets boots arms_elect searches tells_ticket follow_row backs_own candidature_row follows_unless quits posts_reply replies names_master says_master traces tests group_from goes_before better joins sends_away master_takes_kind master_takes resolves finds_rival quits_rivals resolve_rings asks asks_slaves round_begins round_rings asks_measured arms_next abandons probe_rings samples_request samples corrects_by corrects_peer begins_or_waits moves closes_with closes close_rings abandons_going upsetting begins begins_to_others begins_adjtime begins_settime acknowledges leaves_after gives_up repeats repeats_send due_send due_sends quiet_rings rings_or_late search_rings loosens elect_rings reports_conflict masterup_in masterack_in election_of acks_repeat confirms adjtime_of settime_of from_master slave_takes_kind slave_takes begins_timed passes_on leaves leaves_all new_date sets_date_where date_in date_of sets_in_charge date_request_in date_request_of date_acked_in date_acked nothing_at_all on ◌and_then◌ reading_all for_ports abandons_on stirring sends_loops loops_after probes_on closes_on begins_round_on alarm_on alarms_on turns_on reposts reposts_on loosens_master forwards takes_loop_step judges heeds_loop takes_loop takes_message takes_kind takes_on input_all answers_all boots_on boots_all steps
+goes_astray = record { happens = (refl, (refl, (refl, (refl, (refl, (refl, (refl, (refl, (refl, (refl, (refl, (refl, (refl, (refl, (refl, (refl, (refl, (refl, tt)))))))))))))))))); count = refl; is_up = refl; posted = refl; still_posted = refl; size = refl; follows = refl; acts_are = refl }

@@ -1,0 +1,54 @@
+-- What can happen in a network of daemons.
+use Rattle.std.specs.Prelude.{◌≡◌, ◌⊎◌, ℕ, ◌≤◌, ◌<◌, ◌^◌, true, List, [], ◌∷◌, length, Option, None, Some, slice_get}
+use Rattle.tsp_rules.specs.Values.{Event, BootAt, Turn, Take, Bytes, Place, Peer, Stranger, Port}
+use Rattle.tsp_base.specs.Words.{IsHeader, has_member}
+use Rattle.tsp_codec.specs.Numbers.{octet_at}
+use Rattle.tsp_run.specs.declared.address.Address.{Address}
+use Rattle.tsp_run.specs.Networks.{networks}
+use Rattle.tsp_run.specs.Run.{event_at, last_at}
+use Rattle.tsp_network.specs.Lives.{Daemons, IsStarted, Life}
+use Rattle.tsp_network.specs.Networks.{Network, Sent, network, node_tick}
+use Rattle.tsp_network.specs.Rosters.{destination, neighbours, neighbours_on}
+
+-- a daemon runs
+abbrev pub Runs : Option Life → Type 0
+Runs None = ⊥
+Runs (Some life) = Unit {0}
+
+-- a daemon runs at this address, if there is one
+abbrev pub RunsAt : Network → Option Address → Type 0
+RunsAt w None = Unit {0}
+RunsAt w (Some a) = Runs (w.lives a.node)
+
+-- a daemon runs where this send goes
+abbrev pub RunsFor : Daemons → Network → Option Sent → Type 0
+RunsFor d w None = ⊥
+RunsFor d w (Some s) = RunsAt w (destination (networks d.header) s.from s.tried.0)
+
+-- octets may come from there to port q of node n. A daemon tells its ports apart by the senders: what comes from its own address or from a
+-- stranger it takes on port 0
+abbrev pub MayCome : List (List ℕ) → ℕ → Port → Place → Type 0
+MayCome nets n q (Peer m) = ((m.0 ≡ n) × (q.0 ≡ 0)) ⊎ (has_member m.0 (neighbours_on n q.0 nets) ≡ true)
+MayCome nets n q Stranger = q.0 ≡ 0
+
+-- event k can happen: a daemon starts after its counter does; the daemon of any other event runs; a copy is that of a send that was tried;
+-- and of other octets there are at most 512, which is all that a daemon reads of a datagram
+abbrev pub CanHappen : Daemons → ℕ → Network → Event → Type 0
+CanHappen d k w (BootAt at node word) = (node < length d.header.nodes) × (word < 2 ^ 64) × (d.origin k ≤ node_tick d node at)
+CanHappen d k w (Turn at node) = Runs (w.lives node)
+CanHappen d k w (Take at number) = RunsFor d w (slice_get w.sent number)
+CanHappen d k w (Bytes at node port from octets) =
+    Runs (w.lives node) × (port.0 < length (neighbours node (networks d.header))) × MayCome (networks d.header) node port from × (length octets ≤ 512)
+    × ((i : ℕ) → octet_at octets i < 256)
+
+-- each of these events, the newest of which comes first, can happen after those before it, and isn't earlier
+abbrev pub AllHappen : Daemons → List Event → Type 0
+AllHappen d [] = Unit {0}
+AllHappen d (e ∷ before) = (last_at before ≤ event_at e) × CanHappen d (length before) (network d before) e × AllHappen d before
+
+-- the events of a network of daemons: each is started as its node says, and fewer than 2^64 datagrams are sent
+pub record IsNetwork (d : Daemons) (events : List Event) : Type 0 where
+  pub header_is : IsHeader d.header
+  pub started : (n : ℕ) → n < length d.header.nodes → IsStarted d n
+  pub happen : AllHappen d events
+  pub few : length (network d events).sent < 2 ^ 64

@@ -1,0 +1,109 @@
+-- A network of daemons: what they do at the events of true time, and what all of them have done.
+use Rattle.std.specs.Prelude.{ℕ, ◌-◌, ◌==◌, ℤ, pos, ◌+ℤ◌, if◌then◌else◌, List, [], ◌∷◌, ◌++◌, length, map, Option, None, Some, slice_get}
+use Rattle.tsp_rules.specs.Values.{Placed, Event, BootAt, Turn, Take, Bytes, Peer}
+use Rattle.tsp_base.specs.Words.{Turned, Came, Handed, Step, Line, peer_of, stepped, tick_at}
+use Rattle.tsp_rules.specs.Renames.{renamed_act}
+use Rattle.tsp_io.specs.Links.{Arrival, Tried}
+use Rattle.tsp_daemon.specs.Posts.{sends_of}
+use Rattle.tsp_run.specs.declared.address.Address.{Address}
+use Rattle.tsp_run.specs.Networks.{networks}
+use Rattle.tsp_run.specs.Run.{boot_step, step_tick}
+use Rattle.tsp_run.specs.Setup.{node_line}
+use Rattle.tsp_network.specs.Lives.{Daemons, Life, first_acts, told, turn_acts}
+use Rattle.tsp_network.specs.Rosters.{destination, renaming_on, sender_for}
+
+-- a send that node `from` has tried: to whom, in the numbers of its daemon, and the octets
+pub record Sent : Type 0 where
+  pub from : ℕ
+  pub tried : Tried
+
+-- how far a network has come
+pub record Network : Type 0 where
+  -- the daemon that runs on a node, if one does
+  pub lives : ℕ → Option Life
+  -- all sends that any of them has tried, the oldest first; each has its place here as its number
+  pub sent : List Sent
+  -- what all of them did, the newest first, in the numbers of the nodes
+  pub history : List Line
+
+-- before the first event no daemon runs
+abbrev pub nothing_yet : Network
+nothing_yet = record { lives = λ n. None; sent = []; history = [] }
+
+-- acts of a daemon, in the numbers of the nodes and in the ticks of its node
+abbrev pub named_act : List (List ℕ) → ℕ → ℕ → Placed → Placed
+named_act nets n origin p = record { port = p.port; act = renamed_act (renaming_on nets n origin p.port) p.act }
+
+abbrev pub named_acts : List (List ℕ) → ℕ → ℕ → List Placed → List Placed
+named_acts nets n origin = map (named_act nets n origin)
+
+-- a send of node n
+abbrev pub sent_by : ℕ → Tried → Sent
+sent_by n t = record { from = n; tried = t }
+
+-- this life is node n's; all others are as they were
+abbrev pub with_life : ℕ → Life → (ℕ → Option Life) → ℕ → Option Life
+with_life n life lives m = if m == n then Some life else lives m
+
+-- a daemon puts these acts in a step, and has come to this life
+abbrev pub acted : Daemons → Step → Life → List Placed → Network → Network
+acted d step life acts w = record {
+  lives = with_life step.node life w.lives;
+  sent = w.sent ++ map (sent_by step.node) (sends_of acts);
+  history = stepped step (step_tick d.header step) (named_acts (networks d.header) step.node life.origin acts) w.history;
+}
+
+-- the tick of node n's counter at a true time
+abbrev pub node_tick : Daemons → ℕ → ℕ → ℕ
+node_tick d n at = tick_at (node_line d.header n).rate at
+
+-- its wall clock then: it runs at the rate of the counter
+abbrev pub node_wall : Daemons → ℕ → ℕ → ℤ
+node_wall d n at = (node_line d.header n).wall +ℤ pos (node_tick d n at)
+
+-- the life of a daemon that starts at event k, when so many datagrams were sent: it has read its first tick
+abbrev pub life_from : Daemons → ℕ → ℕ → ℕ → ℕ → ℕ → Life
+life_from d k at n word sent =
+    record { origin = d.origin k; sent_before = sent; wall = node_wall d n at; word = word; arrivals = []; readings = (node_tick d n at - d.origin k) ∷ [] }
+
+-- a daemon starts
+abbrev pub starts : Daemons → ℕ → ℕ → ℕ → ℕ → Network → Network
+starts d k at n word w =
+    acted d (boot_step d.header at n word) (life_from d k at n word (length w.sent)) (first_acts (d.words n) (node_tick d n at - d.origin k) (node_wall d n at) word) w
+
+-- a daemon has taken a turn, and come from one life to the other
+abbrev pub turned_to : Daemons → Step → Life → Life → Network → Network
+turned_to d step life now w = acted d step now (turn_acts (d.words step.node) life now) w
+
+-- a daemon that runs takes a turn, in which this comes
+abbrev pub turns : Daemons → ℕ → Step → Arrival → Option Life → Network → Network
+turns d k step arrival None w = w
+turns d k step arrival (Some life) w = turned_to d step life (told arrival (d.early k) (step_tick d.header step - life.origin) life) w
+
+-- a copy of a send, as it comes to a port: its octets, from the daemon that sent it
+abbrev pub copy_at : List (List ℕ) → Address → Sent → Arrival
+copy_at nets a s = Some (sender_for nets a.node a.port (Peer (peer_of s.from)), s.tried.1)
+
+-- a copy of the send with this number comes to where it is addressed
+abbrev pub delivers : Daemons → ℕ → ℕ → ℕ → Sent → Option Address → Network → Network
+delivers d k at number s None w = w
+delivers d k at number s (Some a) w = turns d k (record { at = at; node = a.node; cause = Came number }) (copy_at (networks d.header) a s) (w.lives a.node) w
+
+-- the same, if there is such a send
+abbrev pub takes_copy : Daemons → ℕ → ℕ → ℕ → Option Sent → Network → Network
+takes_copy d k at number None w = w
+takes_copy d k at number (Some s) w = delivers d k at number s (destination (networks d.header) s.from s.tried.0) w
+
+-- event k: a daemon starts; it takes a turn in which nothing comes; a copy of a send comes to where it is addressed; or octets come that no
+-- daemon of the network sent, or that seem to be a peer's
+abbrev pub happens : Daemons → ℕ → Event → Network → Network
+happens d k (BootAt at node word) w = starts d k at node word w
+happens d k (Turn at node) w = turns d k (record { at = at; node = node; cause = Turned }) None (w.lives node) w
+happens d k (Take at number) w = takes_copy d k at number (slice_get w.sent number) w
+happens d k (Bytes at node port from octets) w =
+    turns d k (record { at = at; node = node; cause = Handed }) (Some (sender_for (networks d.header) node port from, octets)) (w.lives node) w
+
+-- the network after these events, of which the newest comes first; they are counted from 0
+abbrev pub network : Daemons → List Event → Network
+network d [] = nothing_yet
+network d (e ∷ before) = happens d (length before) e (network d before)

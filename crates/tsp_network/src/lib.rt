@@ -1,0 +1,46 @@
+//! What the daemons of a network do together is a run of the rules, and so it keeps the promises.
+//! Nothing here runs: each function's contract is a theorem.
+//!
+//! A *session* is what a daemon does, turn by turn, as long as all of its outside is told
+//! (`tsp_daemon`). A *network* is up to 64 daemons, one for each node of a header, in which such
+//! things happen, in the order of true time: a daemon starts, takes a turn in which nothing comes,
+//! takes a copy of a datagram that one of them tried to send, or takes other octets. These are the
+//! *events* of a schedule (`tsp_run`). The *life* of a daemon is all that it has been told since
+//! its start: its session is that of its life. Its acts are read in the numbers of the nodes, and
+//! in the ticks of its node.
+//!
+//! Read `specs/` in this order: `Rosters` (who is whom: the numbers by which daemons know each
+//! other), `Lives` (how daemons are started, and what they are told), `Networks` (what comes of
+//! each event), `Events` (which events can happen), `Kept` (what is promised), `Addressed` (by
+//! which addresses daemons know each other) and `Schedules` (which schedules are networks'). The
+//! others are examples.
+//! `docs/NETWORK.md` has them with the definitions that they use, and `docs/PROMISES.md` says in
+//! plain words what is asked of clocks, words and datagrams, and what isn't covered.
+//!
+//! # What is proved
+//!
+//! In parentheses are the contracts, clauses and definitions that say it.
+//!
+//! - The history of all daemons together is the run of the events, act by act. They try to send
+//!   exactly what that run posts, in its order: the same octets, from the same node, to the same
+//!   addressee. So their history keeps the promises, each under its premises, and a premise holds
+//!   of it if its counterpart holds of the events. What a daemon that runs has tried to send, as
+//!   its own session has it, is what the network has of it since it started
+//!   (`networks_keep_promises`, by `NetworkKept`).
+//! - The number by which a daemon knows a peer is the place of the peer's address on their network
+//!   among the addresses to which the daemon binds its link (`numbers_are_addresses`).
+//! - Every possible schedule is a network's, if the daemons are started as its nodes say and each
+//!   event is one that a daemon can be told; and no others are (`runs_are_networks`).
+//! - Two daemons elect a master, which sets the other's clock and corrects it after a round
+//!   (`network_use`). What is asked of events is needed: with a counter that begins after its
+//!   daemon, or octets on a port where a daemon can't take them so, the history is another than
+//!   the run's (`networks_can_be_broken`), and a copy that comes to another than its addressee
+//!   breaks a promise (`misdelivered`).
+//!
+//! # What is neither proved nor tested
+//!
+//! - That sockets, counters and wall clocks are as `IsNetwork` has it. `tsp-witness` looks whether
+//!   traces fit (`docs/JUDGE.md`).
+#![tactic(auto)]
+
+pub mod laws;
