@@ -23,8 +23,8 @@ for document in README.md docs/*.md examples/README.md; do
         [ -e "$(dirname "$document")/$link" ] || fail "$document points to $link, which isn't there"
     done <"$out/links"
 done
-dev/headline --check || fail 'docs/HEADLINE.md or its annex is out of date: dev/headline writes them'
-python3 tools/tests/headline_names.py >"$out/names" || fail 'a name of docs/HEADLINE.md or its annex stands for two things'
+dev/headline --check || fail 'docs/HEADLINE.md, its annex or docs/NETWORK.md is out of date: dev/headline writes them'
+python3 tools/tests/headline_names.py >"$out/names" || fail 'a name of docs/HEADLINE.md, its annex or docs/NETWORK.md stands for two things'
 [ "$(wc -w <docs/HEADLINE.md)" -le 25000 ] || fail 'docs/HEADLINE.md is more than an evening takes'
 dev/layers --check || fail 'docs/layers.svg is out of date: dev/layers writes it'
 python3 tools/tests/proofs.py || fail 'docs/PROOFS.md names what is not there'
