@@ -1,7 +1,7 @@
 -- The laws: answers and boots are alike.
-use Rattle.std.specs.Prelude.{ℕ, ◌+◌, List, [], ◌∷◌, refl}
+use Rattle.std.specs.Prelude.{ℕ, ◌+◌, [], ◌∷◌, refl}
 use Rattle.std.proofs.Common.{ap}
-use Rattle.tsp_rules.specs.Values.{Boot, Placed, Peer, Stranger, Port}
+use Rattle.tsp_rules.specs.Values.{Boot, Peer, Stranger, Port}
 use Rattle.tsp_base.specs.Words.{first_port, puts}
 use Rattle.tsp_rules.specs.GateRows.{NodeGiven, NodeTurn, GotOn, all_ports, boots_all, boots_on}
 use Rattle.tsp_rules.specs.NodeRows.{NodePast, for_ports, in_node_step, on, reading_all, spread, ◌and_then◌}
@@ -16,9 +16,6 @@ comes-on rs apart shift p (GotOn q Stranger taken) c = (c, tt)
 
 pub answers-are-alike : AnswersAreAlike
 answers-are-alike rs apart shift g x p p' a comes = (answers_move rs apart shift p.ports p.may g (comes-on rs apart shift p g comes)).at x p.name p.strict p.step p.lines p' a
-
-boot-act : List Placed
-boot-act = record { port = first_port; act = Boot } ∷ []
 
 pub boots-are-alike : BootsAreAlike
 unfolding boots_all on ◌and_then◌ puts

@@ -4,7 +4,6 @@ use Rattle.std.proofs.Common.{ap, ◌∙◌}
 use Rattle.tsp_rules.specs.Values.{PeerId, Role, Follow, Master}
 use Rattle.tsp_base.specs.Words.{Past, plain, begun, kept_name, role, word}
 use Rattle.tsp_rules.specs.CommonRows.{master_name, master_name_in, own_at}
-use Rattle.tsp_rules.specs.DateRows.{date_at}
 use Rattle.tsp_rules.specs.Guards.{delay, delay_at, role_at, target_at, ticket_at}
 use Rattle.tsp_rules.specs.RoundRows.{request_at}
 use Rattle.tsp_rules.specs.SendRows.{next_number, open_at}
@@ -12,9 +11,8 @@ use Rattle.tsp_rules.specs.Renames.{Renaming, Naming, known_role, later_sends, r
 use Rattle.tsp_alike.proofs.Alike.{AlikePast}
 use Rattle.tsp_alike.proofs.NodeAlike.{target_alike, ticket_alike, word_alike}
 use Rattle.tsp_alike.proofs.PortAlike.{kept_name_alike, role_alike, role_known}
-use Rattle.tsp_alike.proofs.Renamed.{later_date}
 use Rattle.tsp_alike.proofs.RoundsAlike.{request_open_alike}
-use Rattle.tsp_alike.proofs.SendsAlike.{begun_alike, last_date_alike, open_send_alike}
+use Rattle.tsp_alike.proofs.SendsAlike.{begun_alike, open_send_alike}
 
 name_in_role : (n : Renaming) (r : Role) (own kept : List ℕ) → master_name_in (renamed_role n r) own kept ≡ master_name_in r own kept
 name_in_role n Master own kept = refl
@@ -58,6 +56,3 @@ module _ {m : Naming} {p q : Past} where
 
   pub open_at_alike : AlikePast m p q → (r : PeerId) (x : ℕ) → open_at (m.names.peer r) (x + m.names.shift) q ≡ later_sends m.names (open_at r x p)
   open_at_alike a r x = open_send_alike r a.seen
-
-  pub date_at_alike : AlikePast m p q → (r : PeerId) (x : ℕ) → date_at (m.names.peer r) (x + m.names.shift) q ≡ later_date m.names (date_at r x p)
-  date_at_alike a r x = last_date_alike r a.seen

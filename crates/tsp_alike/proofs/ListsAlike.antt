@@ -5,7 +5,7 @@ use Rattle.std.proofs.Common.{ap, sym, ◌∙◌}
 use Rattle.std.proofs.lemmas.Bool.{eq-eqb, eqb-false, ne_eqb}
 use Rattle.std.proofs.lemmas.List.Elements.{All-nil, All-cons, All-head, All-tail, All-same, All-weaker, All-filter}
 use Rattle.tsp_rules.specs.Values.{PeerId}
-use Rattle.tsp_base.specs.Words.{Past, in_table, is_among, is_measured, is_rival, others, open_send, Sending, estimate, Seen}
+use Rattle.tsp_base.specs.Words.{Past, in_table, is_among, is_measured, is_rival, others, Sending, estimate, Seen}
 use Rattle.tsp_rules.specs.Guards.{rivals_at, table_at}
 use Rattle.tsp_rules.specs.NodeRows.{PortSetup}
 use Rattle.tsp_rules.specs.RoundRows.{measured_at, round_at, standing}
@@ -15,8 +15,7 @@ use Rattle.tsp_rules.proofs.GuardFacts.{same_peer}
 use Rattle.tsp_alike.proofs.Alike.{AlikePort, AlikePast, Alike}
 use Rattle.tsp_alike.proofs.PortAlike.{in_table_alike, is_rival_alike}
 use Rattle.tsp_alike.proofs.RoundsAlike.{is_measured_alike, estimate_alike}
-use Rattle.tsp_alike.proofs.Unnamed.{in_table_unnamed, is_measured_unnamed, is_rival_unnamed, open_send_unnamed}
-use Rattle.tsp_alike.proofs.SendsAlike.{open_send_alike}
+use Rattle.tsp_alike.proofs.Unnamed.{in_table_unnamed, is_measured_unnamed, is_rival_unnamed}
 use Rattle.tsp_alike.proofs.Renamed.{renamed_standing}
 
 -- the renamed peers that pass a test, if renaming doesn't change what it says
@@ -101,10 +100,6 @@ module _ {m : Naming} where
       ∙ among_renamed m p (others a.own a.peers)
       ∙ sym (among_others p a.own off a.peers)
 
-  -- a peer of the port that isn't the port itself is known
-  pub among_known : {a b : PortSetup} → AlikePort m a b → (p : PeerId) → (p.0 == a.own.0) ≡ false → is_among p a.peers ≡ true → m.known p
-  among_known {a = a} s p off e = s.known p (sym (among_others p a.own off a.peers) ∙ e)
-
 -- pasts of ports
 module _ {m : Naming} where
   pub others_at_alike : {p q : Past} → AlikePast m p q → (x : ℕ) → others_at (x + m.names.shift) q ≡ map m.names.peer (others_at x p)
@@ -131,14 +126,6 @@ module _ {m : Naming} where
 
   pub measured_at_known : {p q : Past} → AlikePast m p q → (x : ℕ) → All m.known (measured_at x p)
   measured_at_known {p = p} a x = chosen_known a.setup (λ r. is_measured r p.seen) (is_measured_unnamed p.own a.setup.apart a.seen)
-
-  -- the peers to whom a send is open
-  pub open_alike : {p q : Past} → AlikePast m p q → filter (λ r. is_some (open_send r q.seen)) q.peers ≡ map m.names.peer (filter (λ r. is_some (open_send r p.seen)) p.peers)
-  open_alike {p = p} {q = q} a = chosen_alike a.setup (λ r. is_some (open_send r p.seen)) (λ r. is_some (open_send r q.seen))
-      (λ r. ap is_some (open_send_alike r a.seen) ∙ some_later m.names (open_send r p.seen)) (ap is_some (open_send_unnamed p.own a.setup.apart a.seen))
-
-  pub open_known : {p q : Past} → AlikePast m p q → All m.known (filter (λ r. is_some (open_send r p.seen)) p.peers)
-  open_known {p = p} a = chosen_known a.setup (λ r. is_some (open_send r p.seen)) (ap is_some (open_send_unnamed p.own a.setup.apart a.seen))
 
   -- the result of a round
   standings_alike : {seen seen' : List Seen} → Alike m seen seen' → (ps : List PeerId) → map (standing seen') (map m.names.peer ps) ≡ map (renamed_standing m.names) (map (standing seen) ps)

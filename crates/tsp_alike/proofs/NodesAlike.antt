@@ -22,10 +22,6 @@ or-true : (b : Bool) → (b || true) ≡ true
 or-true true = refl
 or-true false = refl
 
-or-false : (b : Bool) → (b || false) ≡ b
-or-false true = refl
-or-false false = refl
-
 -- no other act than a boot is seen by every port
 unshared : (a : Act) → is_later (Acts a) ≡ true → is_shared (Acts a) ≡ false
 unshared Boot e = absurd (true≢false (sym e))

@@ -146,12 +146,6 @@ module _ {m : Naming} where
   taken_alike (Own s s' x d ok knows {before = b} a) = ap (taken_after (renamed_deed m.names d)) (taken_alike a) ∙ taken_deed m.names d (taken b)
   taken_alike (Other n shift s s' x d ok a) = taken_alike a
 
-  pub said_alike : {seen seen' : List Seen} → Alike m seen seen' → said (taken seen') ≡ renamed_said m.names (said (taken seen))
-  said_alike {seen = z} a = ap said (taken_alike a) ∙ said_renamed m.names (taken z)
-
-  pub name_in_alike : {seen seen' : List Seen} → Alike m seen seen' → name_in (taken seen') ≡ name_in (taken seen)
-  name_in_alike {seen = z} a = ap name_in (taken_alike a) ∙ name_renamed m.names (taken z)
-
   pub acting_alike : {seen seen' : List Seen} → Alike m seen seen' → acting seen' ≡ acting seen
   acting_alike (Booted s s' cause x old old') = refl
   acting_alike (Own s s' x d ok knows {before = b} a) = ap (acting_after (renamed_deed m.names d)) (acting_alike a) ∙ acting_deed m.names d (acting b)

@@ -7,17 +7,16 @@ use Rattle.tsp_base.specs.Words.{Past, deadline, armed, backers, held, is_among,
 use Rattle.tsp_rules.specs.Answers.{is_left}
 use Rattle.tsp_rules.specs.CandidateRows.{has_won}
 use Rattle.tsp_rules.specs.CommonRows.{is_awake, is_idle, may_be_asked}
-use Rattle.tsp_rules.specs.Guards.{follows_at, is_armed, is_due, is_follow, is_heard, is_in_time, is_master, is_master_at, is_met, is_over, is_own, is_rival_at, is_slave_at, is_starting_role, may_back_at, may_stand_at}
+use Rattle.tsp_rules.specs.Guards.{follows_at, is_armed, is_due, is_follow, is_heard, is_in_time, is_master, is_master_at, is_met, is_over, is_own, is_slave_at, is_starting_role, may_back_at, may_stand_at}
 use Rattle.tsp_rules.specs.GateRows.{is_last_probe}
 use Rattle.tsp_rules.specs.MasterRows.{may_join}
 use Rattle.tsp_rules.specs.Renames.{Renaming, Naming, renamed_place, renamed_role}
 use Rattle.tsp_rules.specs.ResolveRows.{is_new_rival}
 use Rattle.tsp_alike.proofs.Alike.{AlikePast}
-use Rattle.tsp_alike.proofs.ListsAlike.{is_among_alike, among_known}
+use Rattle.tsp_alike.proofs.ListsAlike.{is_among_alike}
 use Rattle.tsp_alike.proofs.PortAlike.{backers_alike, deadline_alike, in_table_alike, is_rival_alike, may_back_alike, may_stand_alike, role_alike, window_stands}
 use Rattle.tsp_alike.proofs.Renamed.{later}
 use Rattle.tsp_alike.proofs.Ticks.{met_later, over_later}
-use Rattle.std.proofs.lemmas.Bool.{and_parts}
 
 -- tests of renamed values
 module _ (n : Renaming) where
@@ -45,10 +44,6 @@ module _ (n : Renaming) where
 some_over : (o : Option ℕ) (x : ℕ) → is_over o x ≡ true → is_some o ≡ true
 some_over None x e = e
 some_over (Some at) x e = refl
-
-some_met : (o : Option ℕ) (x : ℕ) → is_met o x ≡ true → is_some o ≡ true
-some_met None x e = e
-some_met (Some at) x e = refl
 
 and_false : (b : Bool) → (b && false) ≡ false
 and_false true = refl
@@ -109,9 +104,6 @@ module _ {m : Naming} {p q : Past} where
   pub may_join_alike : AlikePast m p q → (r : PeerId) (number x : ℕ) → may_join (m.names.peer r) number (x + m.names.shift) q ≡ may_join r number x p
   may_join_alike a r number x = ap (λ b. nat_lt number 32768 && not b) (in_table_alike r a.seen)
 
-  pub is_rival_at_alike : AlikePast m p q → (r : PeerId) (x : ℕ) → is_rival_at (m.names.peer r) (x + m.names.shift) q ≡ is_rival_at r x p
-  is_rival_at_alike a r x = is_rival_alike r a.seen
-
   pub is_new_rival_alike : AlikePast m p q → (r : PeerId) (x : ℕ) → is_new_rival (m.names.peer r) (x + m.names.shift) q ≡ is_new_rival r x p
   is_new_rival_alike a r x =
       ap (λ b. b && not (is_rival (m.names.peer r) q.seen)) (is_armed_alike a ResolveAlarm x)
@@ -126,10 +118,6 @@ module _ {m : Naming} {p q : Past} where
   is_heard_alike a r x off =
       ap (λ b. b && not (is_starting_role (role q.seen))) (is_among_alike a.setup r off)
       ∙ ap (λ b. is_among r p.peers && not b) (is_starting_alike a)
-
-  -- another number that is heard is known
-  pub heard_known : AlikePast m p q → (r : PeerId) (x : ℕ) → is_own (Peer r) x p ≡ false → is_heard r x p ≡ true → m.known r
-  heard_known a r x off e = among_known a.setup r off (and_parts (is_among r p.peers) (not (is_starting_role (role p.seen))) e).0
 
   -- the own number isn't heard as another peer, whether or not it is among the peers
   pub hears_alike : AlikePast m p q → (r : PeerId) (x : ℕ) →
@@ -148,12 +136,3 @@ module _ {m : Naming} {p q : Past} where
   -- only a port that may stand for election has an alarm for the end of the window, or stands
   pub due_stands : AlikePast m p q → (x : ℕ) → is_due Window x p ≡ true → m.stands
   due_stands a x e = window_stands a.seen (some_over (deadline (armed p.seen) Window) x e)
-
-  pub in_time_stands : AlikePast m p q → (x : ℕ) → is_in_time Window x p ≡ true → m.stands
-  in_time_stands a x e = window_stands a.seen (some_met (deadline (armed p.seen) Window) x e)
-
-  pub may_stand_stands : AlikePast m p q → (x : ℕ) → may_stand_at x p ≡ true → m.stands
-  may_stand_stands a x e = a.stands (and_parts p.may (may_stand (held p.seen) x p.own) e).0
-
-  pub may_be_asked_stands : AlikePast m p q → (x : ℕ) → may_be_asked x p ≡ true → m.stands
-  may_be_asked_stands a x e = may_stand_stands a x (and_parts (is_idle (role p.seen)) (may_stand_at x p) e).1

@@ -8,9 +8,7 @@ use Rattle.tsp_base.specs.RoundFacts.{is_measured_after}
 use Rattle.tsp_rules.specs.Renames.{Naming, later_sends}
 use Rattle.tsp_alike.specs.AlikeNodes.{KnowsDeed}
 use Rattle.tsp_alike.proofs.Alike.{Alike, Booted, Own, Other, here}
-use Rattle.tsp_alike.proofs.PortAlike.{in_table_alike, is_rival_alike}
 use Rattle.tsp_alike.proofs.SendsAlike.{open_send_alike}
-use Rattle.tsp_alike.proofs.RoundsAlike.{is_measured_alike}
 
 -- no known peer has this number
 abbrev pub Unnamed : Naming → PeerId → Type 0
@@ -71,16 +69,6 @@ module _ {m : Naming} where
 
   pub open_send_unnamed : (o : PeerId) → Unnamed m o → {seen seen' : List Seen} → Alike m seen seen' → open_send o seen ≡ None
   open_send_unnamed o u {seen = z} a = ap (λ place. sending_at place (posts_of o z)) (open_to_unnamed o u a)
-
-  -- the same on the second past, of the renamed peer
-  pub in_table_renamed : (o : PeerId) → Unnamed m o → {seen seen' : List Seen} → Alike m seen seen' → in_table (m.names.peer o) seen' ≡ false
-  in_table_renamed o u a = in_table_alike o a ∙ in_table_unnamed o u a
-
-  pub is_rival_renamed : (o : PeerId) → Unnamed m o → {seen seen' : List Seen} → Alike m seen seen' → is_rival (m.names.peer o) seen' ≡ false
-  is_rival_renamed o u a = is_rival_alike o a ∙ is_rival_unnamed o u a
-
-  pub is_measured_renamed : (o : PeerId) → Unnamed m o → {seen seen' : List Seen} → Alike m seen seen' → is_measured (m.names.peer o) seen' ≡ false
-  is_measured_renamed o u a = is_measured_alike o a ∙ is_measured_unnamed o u a
 
   pub open_send_renamed : (o : PeerId) → Unnamed m o → {seen seen' : List Seen} → Alike m seen seen' → open_send (m.names.peer o) seen' ≡ None
   open_send_renamed o u a = open_send_alike o a ∙ ap (later_sends m.names) (open_send_unnamed o u a)

@@ -21,17 +21,13 @@ use Rattle.tsp_network.specs.Kept.{IsSent}
 use Rattle.tsp_network.specs.Networks.{Sent, sent_by}
 use Rattle.tsp_network.specs.Rosters.{count_below, destination, goes_by, named, neighbours, neighbours_on, port_with, renaming_on}
 use Rattle.tsp_network.proofs.NamedLemmas.{named_member}
-use Rattle.tsp_network.proofs.RosterLemmas.{length_neighbours}
+use Rattle.tsp_network.proofs.RosterLemmas.{length_neighbours, none_some}
 use Rattle.tsp_network.proofs.SegmentLemmas.{port_with_found}
 use Rattle.tsp_network.proofs.SetUpLemmas.{Segment, daemon_ports, is_roster, segment, tells_apart}
 
 -- equal places have equal numbers
 pub place-of : {p q : PeerId} → Peer p ≡ Peer q → p.0 ≡ q.0
 place-of e = cc
-
--- none is none
-no-address : (a : Address) → None ≡ Some a → ⊥
-no-address a e = cc
 
 -- a send is a post's, and goes where it goes, which isn't back to its node
 pub record Matches (d : Daemons) (s : Sent) (p : Posted) : Type 0 where
@@ -93,7 +89,7 @@ module _ (d : Daemons) (is : IsHeader d.header) (n : ℕ) (low : n < length d.he
 
   act-matches : (at : ℕ) (port : Port) (act : Act) → Knows (naming port) act → AllMatch d (map (sent_by n) (send_of act)) (posted_by at n port (renamed_act (renaming_on nets n origin port) act))
   act-matches at port (Post (Peer num) datagram) known = MoreMatch (peer-matches at port num datagram (segment d is n low port.0 num.0 known)) NoneMatch
-  act-matches at port (Post Stranger datagram) known = MoreMatch (record { sent = record { from = refl; to = refl; octets = refl }; goes = refl; away = λ a e same. no-address a e }) NoneMatch
+  act-matches at port (Post Stranger datagram) known = MoreMatch (record { sent = record { from = refl; to = refl; octets = refl }; goes = refl; away = λ a e same. none_some e }) NoneMatch
   act-matches at port _ known = NoneMatch
 
   -- so it is of all acts of a step
