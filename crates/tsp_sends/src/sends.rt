@@ -132,8 +132,20 @@ impl Sends {
     {
         match self.slots.kind(place) {
             None => {}
-            Some(_) => self.fill(place, None),
+            Some(_) => self.empty(place),
         }
+    }
+
+    /// Ends the open send in a slot. (A call of its own, so that a slot without one needs no room for a send: each
+    /// call clears that room.)
+    #[inline(never)]
+    fn empty(&mut self, place: usize)
+        requires { place < length self.old }
+        ensures { (d : Slot)
+            → self.new ≡ slice_set self.old place (record (slice_index_or self.old place d)
+            { sending = None }) }
+    {
+        self.fill(place, None)
     }
 
     /// Puts a send, or none, into a slot.
