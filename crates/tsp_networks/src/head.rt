@@ -67,8 +67,39 @@ pub(crate) struct Head {
 // Most of what a long run holds are heads.
 const _: () = prove!(size_of::<Head>() == 48);
 
+/// Up to so many octets are appended one by one: the call for all of them together takes longer.
+const FEW: usize = 8;
+
 /// Appends octets.
+#[inline(always)]
 fn append(names: &mut Vec<u8>, octets: &[u8])
+    requires room { vec_len names.old + length octets.now ≤ vec_capacity names.old }
+    ensures items { names.new.items ≡ names.old.items ++ octets.now }
+    ensures len { vec_len names.new ≡ vec_len names.old + length octets.now }
+    ensures capacity { vec_capacity names.old ≤ vec_capacity names.new }
+{
+    if octets.len() <= FEW {
+        append_each(names, octets);
+    } else {
+        append_all(names, octets);
+    }
+}
+
+/// Appends octets, one by one.
+fn append_each(names: &mut Vec<u8>, octets: &[u8])
+    requires room { vec_len names.old + length octets.now ≤ vec_capacity names.old }
+    ensures items { names.new.items ≡ names.old.items ++ octets.now }
+    ensures len { vec_len names.new ≡ vec_len names.old + length octets.now }
+    ensures capacity { vec_capacity names.old ≤ vec_capacity names.new }
+{
+    for octet in octets {
+        names.push_reserved(*octet);
+    }
+}
+
+/// Appends octets, all together.
+#[inline(never)]
+fn append_all(names: &mut Vec<u8>, octets: &[u8])
     requires room { vec_len names.old + length octets.now ≤ vec_capacity names.old }
     ensures items { names.new.items ≡ names.old.items ++ octets.now }
     ensures len { vec_len names.new ≡ vec_len names.old + length octets.now }
