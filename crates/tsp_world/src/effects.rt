@@ -154,7 +154,7 @@ impl World {
     }
 
     /// A node takes on a port what was read of octets.
-    #[inline(always)]
+    #[inline(never)]
     pub(crate) fn receive(&mut self, at: u64, node: u32, port: Port, from: Place, taken: &Taken)
         requires ready { IsReady (room (ports_on node (networks self.old.header))) self.old }
         requires able { CanStep at node self.old }
@@ -182,9 +182,8 @@ impl World {
     }
 
     /// Notes an event, at which a node put the acts on the desk, if it put any. The event's time
-    /// was noted before. (A call of its own: as a part of each event's code it made that code
-    /// slower.)
-    #[inline(never)]
+    /// was noted before.
+    #[inline(always)]
     fn note(&mut self, node: u32, tick: u64)
         requires { CanNote self.old }
         ensures { Notes self.old.last node tick self.old.header self.old.nodes.items self.old.events

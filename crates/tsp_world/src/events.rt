@@ -1,6 +1,7 @@
 //! A world's events, with a call for each kind, which makes no `Event`. Each answers as `World::event` does.
 ghost use Rattle.std.specs.Prelude.{◌≡◌, ◌≤◌, ◌<◌, ℕ, List, None, Some, MatchResult, slice_get};
 ghost use Rattle.tsp_base.specs.declared.event.Event.{Event};
+ghost use Rattle.tsp_base.specs.declared.place.Place.{Place};
 ghost use Rattle.tsp_codec.specs.Numbers.{octet_at};
 ghost use Rattle.tsp_codec.specs.Taken.{taken_of};
 ghost use Rattle.tsp_run.specs.Networks.{networks, address_of};
@@ -10,7 +11,7 @@ ghost use Rattle.tsp_world.specs.WorldStands.{Occurs, Declines};
 use crate::world::World;
 use tsp_base::datagram::Taken;
 use tsp_base::event::EventFault;
-use tsp_base::place::{Place, Port};
+use tsp_base::place::{PeerId, Place, Port};
 use tsp_codec::read;
 use tsp_networks::address_of;
 use tsp_run::address::Address;
@@ -71,6 +72,7 @@ impl World {
     }
 
     /// A node takes on a port what was read of octets from somebody.
+    #[inline(always)]
     pub fn hand(
         &mut self,
         at: u64,
@@ -114,14 +116,23 @@ impl World {
     }
 
     /// Where the datagram with this number goes: to a port of its addressee; None where it goes nowhere.
+    #[inline(always)]
     fn address(&self, k: u64) -> Option<Address>
         ensures { result ≡ goes_to (networks self.now.header) (slice_get self.now.sent.items k) }
     {
         let way = self.sent.way(k)?;
         match way.to {
-            Place::Peer(_) => address_of(self.networks(), way.from, way.port, way.to),
+            Place::Peer(p) => self.address_by(way.from, way.port, p),
             Place::Stranger => None,
         }
+    }
+
+    /// Where a datagram goes that a node posts on a port to a peer.
+    #[inline(never)]
+    fn address_by(&self, from: u32, port: Port, p: PeerId) -> Option<Address>
+        ensures { result ≡ address_of (networks self.now.header) from port (Place.Peer p) }
+    {
+        address_of(self.networks(), from, port, Place::Peer(p))
     }
 
     /// A posted datagram reaches its addressee at this address.

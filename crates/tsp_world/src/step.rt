@@ -30,6 +30,7 @@ pub(crate) fn turn(place: &mut Option<Gateway>, tick: u64, desk: &mut Sheet)
 }
 
 /// A node takes on a port what was read of octets, if it is up.
+#[inline(always)]
 pub(crate) fn take(
     place: &mut Option<Gateway>,
     tick: u64,
