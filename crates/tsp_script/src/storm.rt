@@ -162,6 +162,7 @@ impl Storm {
     }
 
     /// The same as `next`, but an event's octets are left to `request`.
+    #[inline(always)]
     pub fn choice(&mut self, posted: u64, recent: Option<u64>) -> Choice
         requires named { self.old.named ≡ self.old.nodes }
         requires few { self.old.given < 200000 }
