@@ -28,7 +28,8 @@ pub enum StormEnd {
     OutOfMemory,
 }
 
-/// Runs a whole schedule, and counts.
+/// Runs a whole schedule, and counts. (A call of its own: as a part of the code of all commands it was slower.)
+#[inline(never)]
 fn run(alloc: Global, words: &StormWords) -> Result<Summary, Stopped>
     requires { IsStorm words.now }
     ensures { MatchResult result (SumsUp words.now) (HaltsStorm words.now) }
