@@ -1,7 +1,9 @@
 -- Names stay where they lie when more octets are put behind them.
-use Rattle.std.specs.Prelude.{◌≡◌, ℕ, ◌≤◌, ◌+◌, ◌-◌, List, [], ◌∷◌, ◌++◌, length, map, take, drop, slice_range, All, refl}
-use Rattle.std.proofs.Common.{ap, ◌∙◌, arith, length-drop}
-use Rattle.std.proofs.lemmas.List.{drop-append-le, take-append-le, map_push}
+use Rattle.std.specs.Prelude.{◌≡◌, ℕ, ◌≤◌, ◌<◌, ◌+◌, ◌-◌, List, [], ◌∷◌, ◌++◌, length, map, take, drop, slice_get, slice_range, All, Some, refl}
+use Rattle.std.specs.Option.{option_map}
+use Rattle.std.proofs.Common.{ap, sym, subst, ◌∙◌, arith, get_or, length-drop}
+use Rattle.std.proofs.lemmas.Option.{slice_get-get_or, slice_get-map}
+use Rattle.std.proofs.lemmas.List.{drop-append-le, length-map, take-append-le, map_push}
 use Rattle.std.proofs.lemmas.List.Elements.{All-head, All-tail}
 use Rattle.tsp_rules.specs.Values.{Datagram, Place}
 use Rattle.tsp_networks.specs.declared.head.Head.{Head}
@@ -10,6 +12,7 @@ use Rattle.tsp_networks.specs.declared.way.Way.{Way}
 use Rattle.tsp_networks.specs.declared.head.StoredDatagram.{StoredDatagram}
 use Rattle.tsp_networks.specs.declared.head.StoredDatagram.TheVariants.{Message, Request, Reply}
 use Rattle.tsp_networks.specs.Heads.{HeadStands, HeldStands, datagram_in, is_peer, place_of, post_in, route_of, small_of, way_in}
+use Rattle.tsp_run.specs.declared.posted.Posted.{Posted}
 use Rattle.tsp_networks.specs.Posts.{posted_on}
 
 range-append : (names more : List ℕ) (start len : ℕ) → start + len ≤ length names → slice_range (names ++ more) start (start + len) ≡ slice_range names start (start + len)
@@ -43,3 +46,17 @@ pub way_in-head : (way : Way) (held : StoredDatagram) (n : ℕ) → route_of hel
 way_in-head way held n route number =
     ap (λ (r : Route). let w : Way = record { at = way.at; from = way.from; port = r.port; to = place_of r.to_peer n } in w) route
     ∙ ap (λ (p : Place). let w : Way = record { at = way.at; from = way.from; port = way.port; to = p } in w) number
+
+-- the post with a number is the one that is stored at its place
+post-stored : (names : List ℕ) (heads : List Head) (k : ℕ) (head : Head) → k < length (map (post_in names) heads) → head ≡ get_or heads k head → slice_get (map (post_in names) heads) k ≡ Some (post_in names head)
+post-stored names heads k head within is =
+    let long = length-map heads (post_in names) in
+    slice_get-map (post_in names) heads k ∙ ap (option_map (post_in names)) (slice_get-get_or heads k head (omega (arith, within, long)) ∙ ap Some (sym is))
+
+-- the same of a list that is given so
+pub post-here : (names : List ℕ) (heads : List Head) (items : List Posted) (k : ℕ) (head : Head) → map (post_in names) heads ≡ items → k < length items → head ≡ get_or heads k head → slice_get items k ≡ Some (post_in names head)
+post-here names heads items k head same within is = subst (λ (l : List Posted). slice_get l k ≡ Some (post_in names head)) same (post-stored names heads k head (subst (λ (l : List Posted). k < length l) (sym same) within) is)
+
+-- and its datagram is the stored one
+pub datagram-here : (names : List ℕ) (head : Head) (p q : Posted) → Some p ≡ Some q → q ≡ post_in names head → datagram_in names head.held ≡ p.datagram
+datagram-here names head p q same is = cc

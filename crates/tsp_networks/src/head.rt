@@ -1,9 +1,10 @@
 //! What is stored of a post beside the octets of its name.
-ghost use Rattle.std.specs.Prelude.{◌≡◌, ◌≤◌, ◌+◌, ◌++◌, ℕ, List, length, slice_range, vec_len, vec_capacity};
+ghost use Rattle.std.specs.Prelude.{◌≡◌, ◌≤◌, ◌+◌, ◌++◌, ℕ, List, None, length, vec_len, vec_capacity};
 ghost use Rattle.tsp_base.specs.declared.datagram.Datagram.{Datagram};
 ghost use Rattle.tsp_base.specs.declared.datagram.Taken.TheVariants.{Good};
-ghost use Rattle.tsp_networks.specs.Heads.{HeldStands, MessageStands, datagram_in, is_peer, name_in};
+ghost use Rattle.tsp_networks.specs.Heads.{HeldStands, datagram_in, is_peer, name_in};
 ghost use Rattle.tsp_networks.specs.Heads.{place_of, route_of, small_of, way_in};
+ghost use Rattle.tsp_networks.specs.Posts.{stamp_in};
 
 use crate::way::Way;
 use tsp_base::datagram::{Datagram, Taken};
@@ -228,28 +229,35 @@ pub(crate) fn way_of(head: &Head) -> Way
     }
 }
 
-/// A message, whose name is among these octets, as it is taken. (A call of its own, so that a stamp needs no room for
-/// a message.)
-#[inline(never)]
-fn message_taken(names: &[u8], kind: Kind, number: u16, len: u8, start: usize, body: Body) -> Taken
-    requires { MessageStands names.now kind len start body }
-    ensures { result ≡ Good (Datagram.Message (record {
-      kind = kind;
-      number = number;
-      body = body;
-      name = slice_range names.now start (start + len);
-    })) }
+/// The stamp that is stored; None exactly where it is a message.
+pub(crate) fn stamp_of(held: &StoredDatagram) -> Option<Stamp>
+    ensures { (names : List ℕ) → HeldStands names held.now
+        → result ≡ stamp_in (datagram_in names held.now) }
 {
-    let name = Name::new(&names[start..start + len as usize]);
-    Taken::Good(Datagram::Message(Message::new(kind, number, body, name)))
+    match held {
+        StoredDatagram::Message { .. } => None,
+        StoredDatagram::Request { word, counter, .. } => Some(Stamp::Request {
+            word: *word,
+            counter: *counter,
+        }),
+        StoredDatagram::Reply {
+            ticket,
+            word,
+            counter,
+            reading,
+            ..
+        } => Stamp::reply(*ticket, *word, *counter, *reading),
+    }
 }
 
-/// The stored datagram, whose name is among these octets, as it is taken.
-pub(crate) fn taken_of(names: &[u8], head: &Head) -> Taken
-    requires { HeldStands names.now head.now.held }
-    ensures { result ≡ Good (datagram_in names.now head.now.held) }
+/// The stored message, whose name is among these octets, as it is taken.
+#[inline(always)]
+pub(crate) fn message_of(names: &[u8], held: &StoredDatagram) -> Taken
+    requires stands { HeldStands names.now held.now }
+    requires message { stamp_in (datagram_in names.now held.now) ≡ None }
+    ensures { result ≡ Good (datagram_in names.now held.now) }
 {
-    match &head.held {
+    match held {
         StoredDatagram::Message {
             kind,
             number,
@@ -257,22 +265,10 @@ pub(crate) fn taken_of(names: &[u8], head: &Head) -> Taken
             start,
             body,
             ..
-        } => message_taken(names, *kind, *number, *len, *start, *body),
-        StoredDatagram::Request { word, counter, .. } => {
-            Taken::Good(Datagram::Stamp(Stamp::Request {
-                word: *word,
-                counter: *counter,
-            }))
+        } => {
+            let name = Name::new(&names[*start..*start + *len as usize]);
+            Taken::Good(Datagram::Message(Message::new(*kind, *number, *body, name)))
         }
-        StoredDatagram::Reply {
-            ticket,
-            word,
-            counter,
-            reading,
-            ..
-        } => match Stamp::reply(*ticket, *word, *counter, *reading) {
-            Some(stamp) => Taken::Good(Datagram::Stamp(stamp)),
-            None => unreachable!(),
-        },
+        _ => unreachable!(),
     }
 }

@@ -28,7 +28,8 @@
 //! - That time goes back, that what an event names isn't there and that a node is down, each as the cause
 //!   that it is (`time_back`, `no_node`, `down_at`).
 //! - Posts are given back under their numbers as they were put, whatever their names (`items` of `push`,
-//!   `way`, `taken`), as many as room was made for (`spare` of `push`, `room`, `kept` of `reserve`).
+//!   `way`, `stamp`, `message`), as many as room was made for (`spare` of `push`, `room`, `kept` of
+//!   `reserve`).
 //!
 //! # What is only tested
 //!

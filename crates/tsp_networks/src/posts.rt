@@ -1,12 +1,14 @@
 //! Posted datagrams, stored so that a short name takes little memory.
-ghost use Rattle.std.specs.Prelude.{◌≡◌, ◌≤◌, ◌<◌, ◌+◌, ◌++◌, [], ◌∷◌, length, slice_get, Some, OnOk, OnErr};
+ghost use Rattle.std.specs.Prelude.{◌≡◌, ◌≤◌, ◌<◌, ◌+◌, ◌++◌, [], ◌∷◌, length, slice_get, None, Some, OnOk};
+ghost use Rattle.std.specs.Prelude.{OnErr};
 ghost use Rattle.std.specs.Option.{option_map};
 
-use crate::head::{Head, hold, number_of, taken_of, way_of};
+use crate::head::{Head, hold, message_of, number_of, stamp_of, way_of};
 use crate::way::Way;
 use std::alloc::{AllocError, Global};
 use std::marker::Model;
 use tsp_base::datagram::{Datagram, Taken};
+use tsp_base::stamp::Stamp;
 
 /// The greatest length of a name, in octets.
 const LONGEST: usize = 255;
@@ -41,7 +43,7 @@ impl Model for Posts {
 impl Posts {
     ghost use Rattle.tsp_base.specs.declared.datagram.Taken.TheVariants.{Good};
     ghost use Rattle.tsp_run.specs.declared.posted.Posted.{Posted};
-    ghost use Rattle.tsp_networks.specs.Posts.{posted_on, way_of};
+    ghost use Rattle.tsp_networks.specs.Posts.{posted_on, stamp_in, way_of};
 
     /// No posts and no room. Takes no memory.
     pub fn new(alloc: Global) -> Posts
@@ -73,12 +75,24 @@ impl Posts {
         }
     }
 
-    /// The datagram with this number, as it is taken.
-    pub fn taken(&self, k: u64) -> Taken
+    /// The stamp with this number; None exactly where it is a message.
+    pub fn stamp(&self, k: u64) -> Option<Stamp>
         requires { k < length self.now.items }
+        ensures { (p : Posted) → slice_get self.now.items k ≡ Some p
+            → result ≡ stamp_in p.datagram }
+    {
+        stamp_of(&self.heads[k as usize].held)
+    }
+
+    /// The message with this number, as it is taken.
+    #[inline(always)]
+    pub fn message(&self, k: u64) -> Taken
+        requires within { k < length self.now.items }
+        requires message { (p : Posted) → slice_get self.now.items k ≡ Some p
+            → stamp_in p.datagram ≡ None }
         ensures { (p : Posted) → slice_get self.now.items k ≡ Some p → result ≡ Good p.datagram }
     {
-        taken_of(self.names.as_slice(), &self.heads[k as usize])
+        message_of(self.names.as_slice(), &self.heads[k as usize].held)
     }
 
     /// Makes room for at least `n` more posts, whatever their names. Fails only if out of memory; the room is

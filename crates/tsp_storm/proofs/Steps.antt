@@ -8,6 +8,7 @@ use Rattle.tsp_base.specs.declared.event.EventFault.{EventFault}
 use Rattle.tsp_base.specs.declared.event.EventFault.TheVariants.{TimeBack, NoNode, NoDatagram, NotUp, Limit, OutOfMemory}
 use Rattle.tsp_script.specs.Storms.{StormValue}
 use Rattle.tsp_storm.specs.declared.making.Making.{Making}
+use Rattle.tsp_storm.specs.declared.request.Request.{Request}
 use Rattle.tsp_storm.specs.declared.making.Stopped.{Stopped}
 use Rattle.tsp_storm.specs.Answers.{StopsAfter, refused_after}
 use Rattle.tsp_storm.specs.Makings.{MakingStands, StopsMaking}
@@ -56,13 +57,13 @@ pub event_now : (s : StormWords) (m : Making) (e : Event) (w : StormValue) → M
 event_now s m e w st is = event_is s m e w st is ∙ ap (λ n. event_after s n) (count_now s m st)
 
 -- one event more happened
-pub record Stepped (s : StormWords) (m : Making) (w : StormValue) (world : World) : Type 0 where
-  pub stands : MakingStands s (record { storm = w; world = world })
+pub record Stepped (s : StormWords) (m : Making) (w : StormValue) (world : World) (asked : Request) : Type 0 where
+  pub stands : MakingStands s (record { storm = w; world = world; request = asked })
   pub given : w.given ≡ m.storm.given + 1
   pub event : WorldStands (header_of s) (event_after s m.storm.given ∷ events_of s m.storm.given) world
 
-stepped : (s : StormWords) (m : Making) (e : Event) (w : StormValue) (world : World) → MakingStands s m → ComesNext s m e w → WorldStands (header_of s) (events_of s (m.world.events + 1)) world → Stepped s m w world
-stepped s m e w world st is new =
+stepped : (s : StormWords) (m : Making) (e : Event) (w : StormValue) (world : World) (asked : Request) → MakingStands s m → ComesNext s m e w → WorldStands (header_of s) (events_of s (m.world.events + 1)) world → Stepped s m w world asked
+stepped s m e w world asked st is new =
     let given = (moves_now s m e w st is).given in
     let same = count_now s m st in
     let count : suc m.storm.given ≡ w.given = omega (arith, given) in
@@ -77,10 +78,10 @@ stepped s m e w world st is new =
     }
 
 -- what is so where an event happened is so where its step did
-pub on_step : {E : Type 0} (s : StormWords) (m : Making) (e : Event) (w : StormValue) (world : World) (r : Result (Unit {0}) E) (P : Type 0) → MakingStands s m → ComesNext s m e w → (Stepped s m w world → P) →
+pub on_step : {E : Type 0} (s : StormWords) (m : Making) (e : Event) (w : StormValue) (world : World) (asked : Request) (r : Result (Unit {0}) E) (P : Type 0) → MakingStands s m → ComesNext s m e w → (Stepped s m w world asked → P) →
     OnOk r (WorldStands (header_of s) (events_of s (m.world.events + 1)) world) → OnOk r P
-on_step s m e w world (Ok u) P st is f new = f (stepped s m e w world st is new)
-on_step s m e w world (Err x) P st is f new = new
+on_step s m e w world asked (Ok u) P st is f new = f (stepped s m e w world asked st is new)
+on_step s m e w world asked (Err x) P st is f new = new
 
 -- why no event happened is why no step did
 pub stops_step : (s : StormWords) (m : Making) (r : Result (Unit {0}) Stopped) → MakingStands s m → IfErr r (λ stop. StopsMaking s m.world.events stop) → IfErr r (λ stop. StopsMaking s m.storm.given stop)
@@ -120,8 +121,8 @@ stops_after s n world f a b is more same w refused limit =
     (both.0 ∙ sym (same ∙ w.count), record { within = more; valid = w.valid; limit = (a, b, both.1) })
 
 -- a schedule without events
-pub stands_begins : (s : StormWords) (storm : StormValue) (world : World) → IsStorm s → storm ≡ (made s 0).generator → WorldStands (header_of s) [] world → MakingStands s (record { storm = storm; world = world })
-stands_begins s storm world words is stands =
+pub stands_begins : (s : StormWords) (storm : StormValue) (world : World) (asked : Request) → IsStorm s → storm ≡ (made s 0).generator → WorldStands (header_of s) [] world → MakingStands s (record { storm = storm; world = world; request = asked })
+stands_begins s storm world asked words is stands =
     let none : storm.given ≡ 0 = ap (λ (v : StormValue). v.given) is ∙ (made_is s words 0).count in
     record {
       words = words;

@@ -1,5 +1,6 @@
 pub mod Answers
 pub mod Kept
 pub mod Makings
+pub mod Requests
 pub mod Schedules
 pub mod Summaries

@@ -31,5 +31,6 @@ pub mod counts;
 pub mod header;
 pub mod laws;
 pub mod making;
+pub mod request;
 pub mod run;
 pub mod summary;

@@ -14,13 +14,12 @@ ghost use Rattle.tsp_args.specs.Storms.{IsStorm};
 ghost use Rattle.tsp_world.specs.WorldStands.{WorldStands, Occurs, Declines};
 
 use crate::header::begin;
+use crate::request::Request;
 use std::alloc::{AllocError, Global};
 use tsp_args::storm::StormWords;
-use tsp_base::datagram::{Datagram, Taken};
 use tsp_base::event::EventFault;
 use tsp_base::place::{Place, Port};
 use tsp_base::plain::Plain;
-use tsp_base::stamp::Stamp;
 use tsp_run::line::Line;
 use tsp_script::storm::{Choice, Storm};
 use tsp_world::world::World;
@@ -34,11 +33,12 @@ pub enum Stopped {
     OutOfMemory,
 }
 
-/// The generator, and the world.
+/// The generator, the world, and room for a request.
 #[derive(Drop)]
 pub struct Making {
     storm: Storm,
     world: World,
+    request: Request,
 }
 
 /// The event that comes after those of a world, as a choice, which isn't a question.
@@ -86,20 +86,25 @@ fn occur_plain(world: &mut World, plain: &Plain) -> Result<(), EventFault>
     }
 }
 
-/// Lets a stranger's request happen, as it is read from its octets. Only here is there room for a datagram, since
-/// each call clears that room.
-#[inline(never)]
-fn occur_request(world: &mut World, at: u64, node: u32, word: u64) -> Result<(), EventFault>
+/// Lets a stranger's request happen, as it is read from its octets.
+#[inline(always)]
+fn occur_request(
+    world: &mut World,
+    request: &mut Request,
+    at: u64,
+    node: u32,
+    word: u64,
+) -> Result<(), EventFault>
     requires { at ≤ 1000000000000000 }
     ensures { MatchResult result (λ _. Occurs (request_event at node word) world.old world.new)
         (Declines (request_event at node word) world.old world.new) }
 {
-    let request = Taken::Good(Datagram::Stamp(Stamp::Request { word, counter: 0 }));
-    world.hand(at, node, Port(0), Place::Stranger, &request)
+    request.set_word(word);
+    world.hand(at, node, Port(0), Place::Stranger, request.taken())
 }
 
 /// Lets an event happen that was chosen, which isn't a question.
-fn occur(world: &mut World, choice: &Choice) -> Result<(), EventFault>
+fn occur(world: &mut World, request: &mut Request, choice: &Choice) -> Result<(), EventFault>
     requires range { IsChoice (length world.old.sent.items) choice.now }
     requires given { (e : Event) × (draw_of choice.now ≡ Draw.Event e) }
     ensures { (e : Event) → draw_of choice.now ≡ Draw.Event e
@@ -107,14 +112,19 @@ fn occur(world: &mut World, choice: &Choice) -> Result<(), EventFault>
 {
     match choice {
         Choice::Plain(plain) => occur_plain(world, plain),
-        Choice::Request { at, node, word } => occur_request(world, *at, *node, *word),
+        Choice::Request { at, node, word } => occur_request(world, request, *at, *node, *word),
         Choice::Ask(_) => unreachable!(),
     }
 }
 
 /// Lets the chosen event happen, which comes after those of the world: `Limit` exactly where there is no room for
 /// it, with its number, from 1 on.
-fn happen(world: &mut World, words: &StormWords, choice: &Choice) -> Result<(), Stopped>
+fn happen(
+    world: &mut World,
+    request: &mut Request,
+    words: &StormWords,
+    choice: &Choice,
+) -> Result<(), Stopped>
     requires words { IsStorm words.now }
     requires more { world.old.events < words.now.events }
     requires stands { WorldStands (header_of words.now) (events_of words.now world.old.events)
@@ -125,7 +135,7 @@ fn happen(world: &mut World, words: &StormWords, choice: &Choice) -> Result<(), 
         (world.old.events + 1)) world.new) }
     ensures stops { IfErr result (λ stop. StopsMaking words.now world.old.events stop) }
 {
-    match occur(world, choice) {
+    match occur(world, request, choice) {
         Ok(()) => Ok(()),
         Err(fault) => match fault {
             EventFault::Limit(events, _) => Err(Stopped::Limit(events + 1)),
@@ -148,6 +158,7 @@ impl Making {
         Ok(Making {
             storm: begun.storm,
             world,
+            request: Request::new(),
         })
     }
 
@@ -164,7 +175,7 @@ impl Making {
     {
         let world = &mut self.world;
         let choice = draw(&mut self.storm, world);
-        happen(world, words, &choice)
+        happen(world, &mut self.request, words, &choice)
     }
 
     /// The lines of the last event's acts.

@@ -3,10 +3,10 @@ use Rattle.std.specs.Prelude.{◌≡◌, ℕ, ◌<◌, true, List, ◌∷◌, le
 use Rattle.std.proofs.Common.{refl, sym, ap, ◌∙◌, subst}
 use Rattle.std.specs.Option.{option_map}
 use Rattle.std.proofs.lemmas.Option.{slice_get_within}
-use Rattle.tsp_rules.specs.Values.{Taken, Good, Event, Take, Peer}
+use Rattle.tsp_rules.specs.Values.{Datagram, Message, Stamp, StampValue, Taken, Good, Event, Take, Peer}
 use Rattle.tsp_base.specs.Words.{HeaderValue, Came}
 use Rattle.tsp_gateway.specs.declared.gateway.Gateway.{Gateway}
-use Rattle.tsp_networks.specs.Posts.{way_of}
+use Rattle.tsp_networks.specs.Posts.{stamp_in, way_of}
 use Rattle.tsp_networks.specs.declared.way.Way.{Way}
 use Rattle.tsp_rules.specs.GateRows.{GotOn, answers_all}
 use Rattle.tsp_run.specs.declared.address.Address.{Address}
@@ -54,3 +54,12 @@ delivered header events world new at k a way taken len w goes none way_is taken_
     (ap (λ o. reaches header (run header events) at k o) arrived
     ∙ ap (λ (v : Way). Some (steps header (run header events) (answers_all (GotOn a.port (Peer (record { 0 = v.from })) (Good found.0.datagram))) (record { at = at; node = a.node; cause = Came k }))) (sym same_way)
     ∙ ap (λ t. Some (steps header (run header events) (answers_all (GotOn a.port (Peer (record { 0 = way.from })) t)) (record { at = at; node = a.node; cause = Came k }))) (sym same_taken))
+
+-- a datagram that goes somewhere was posted
+pub post_within : (nets : List (List ℕ)) (posts : List Posted) (k : ℕ) (a : Address) → goes_to nets (slice_get posts k) ≡ Some a → k < length posts
+post_within nets posts k a goes = let found = goes_to-post nets (slice_get posts k) a goes in slice_get_within posts k found.0 found.1
+
+-- whose stamp is this one is this stamp
+pub stamp_is : (d : Datagram) (s : StampValue) → Some s ≡ stamp_in d → Good (Stamp s) ≡ Good d
+stamp_is (Stamp t) s is = ap (λ x. Good (Stamp x)) (some_same is)
+stamp_is (Message m) s is = cc

@@ -1,6 +1,6 @@
 -- Nodes that can act still can later, and when one of them has acted or booted.
-use Rattle.std.specs.Prelude.{◌≡◌, ℕ, ◌<◌, ◌≤◌, List, length, Option, None, Some, slice_get, vec_len}
-use Rattle.std.proofs.Common.{sym, ap, ◌∙◌, subst, arith, inl, inr, get_or}
+use Rattle.std.specs.Prelude.{◌≡◌, ℕ, ℤ, pos, negsuc, nat_abs, ◌+◌, ◌*◌, ◌/◌, ◌<◌, ◌≤◌, List, length, Option, None, Some, slice_get, vec_len}
+use Rattle.std.proofs.Common.{sym, ap, ◌∙◌, subst, arith, inl, inr, get_or, mul-le-mul_left}
 use Rattle.std.proofs.lemmas.Option.{slice_get-get_or}
 use Rattle.std.proofs.Math.ListN.{set}
 use Rattle.tsp_rules.specs.Values.{Port}
@@ -82,3 +82,10 @@ place_there world n place inside len is = slice_get-get_or world.nodes.items n p
 -- a node is ready at the tick of an event that doesn't go back in time
 pub PlaceReady-acts : (world : World) (n at x : ℕ) (place : Option Gateway) → world.last ≤ at → x ≡ tick_at (node_line world.header n).rate at → slice_get world.nodes.items n ≡ Some place → PlaceReady (ports_on n (networks world.header)) x place
 PlaceReady-acts world n at x place order tick there = subst (λ t. PlaceReady (ports_on n (networks world.header)) t place) (sym tick) ((NodesReady-later order world.ready).places n place there)
+
+-- a counter gains a thousandth at most, so its tick is before what is more than a 512th ahead
+pub tick_at-before : (r : ℤ) (t tick : ℕ) → nat_abs r ≤ 1000 → t + t / 512 < tick → tick_at r t < tick
+tick_at-before (pos r) t tick k before =
+    let m : t * r ≤ t * 1000 = mul-le-mul_left t k in
+    omega arith
+tick_at-before (negsuc r) t tick k before = omega arith

@@ -1,8 +1,10 @@
 //! What an event of a world does that nothing refuses: one of its nodes acts, or none.
 ghost use Rattle.std.specs.Prelude.{◌≡◌, ◌≤◌, ◌<◌, ◌+◌, ◌^◌, ◌+ℤ◌, pos, true, length, vec_len};
-ghost use Rattle.std.specs.Prelude.{slice_get, Some, OnOk, OnErr};
+ghost use Rattle.std.specs.Prelude.{slice_get, None, Some, OnOk, OnErr};
 ghost use Rattle.tsp_base.specs.declared.event.Event.{Event};
+ghost use Rattle.tsp_base.specs.declared.datagram.Datagram.{Datagram};
 ghost use Rattle.tsp_base.specs.declared.datagram.Taken.{Taken};
+ghost use Rattle.tsp_base.specs.declared.datagram.Taken.TheVariants.{Good};
 ghost use Rattle.tsp_base.specs.declared.place.Place.{Place};
 ghost use Rattle.tsp_base.specs.Headers.{KeepsDrift};
 ghost use Rattle.tsp_base.specs.Ticks.{tick_at};
@@ -12,6 +14,8 @@ ghost use Rattle.tsp_run.specs.Networks.{networks, ports_on, room};
 ghost use Rattle.tsp_run.specs.Refusals.{Allowed};
 ghost use Rattle.tsp_run.specs.Run.{goes_to};
 ghost use Rattle.tsp_run.specs.Setup.{node_line};
+ghost use Rattle.tsp_run.specs.declared.posted.Posted.{Posted};
+ghost use Rattle.tsp_networks.specs.Posts.{stamp_in};
 ghost use Rattle.tsp_networks.specs.Sheets.{acts_on};
 ghost use Rattle.tsp_world.specs.WorldStands.{scene_of, IsReady, CanStep, CanNote, Notes, Passes};
 ghost use Rattle.tsp_world.specs.WorldStands.{Happens, HappensBy, Idles, RestsFor, Stays};
@@ -19,10 +23,11 @@ ghost use Rattle.tsp_world.specs.WorldStands.{Happens, HappensBy, Idles, RestsFo
 use crate::step;
 use crate::world::World;
 use std::alloc::AllocError;
-use tsp_base::datagram::Taken;
+use tsp_base::datagram::{Datagram, Taken};
 use tsp_base::drift::tick_at;
 use tsp_base::header::NodeLine;
 use tsp_base::place::{PeerId, Place, Port};
+use tsp_base::stamp::Stamp;
 use tsp_gateway::Gateway;
 use tsp_networks::tell::tell;
 use tsp_node::BootFault;
@@ -94,15 +99,29 @@ impl World {
         ensures header { self.new.header ≡ self.old.header }
         ensures idles { result ≡ true → Idles at node self.new }
     {
-        let tick = self.tick(node, at);
         match self.dues[node as usize] {
-            Some(due) => tick < due,
-            None => tick < self.due(node),
+            Some(due) => self.is_before(at, node, due),
+            None => {
+                let due = self.due(node);
+                self.is_before(at, node, due)
+            }
         }
     }
 
+    /// Whether a node's tick at a true time is before this one. A counter gains less than a 512th, so mostly its tick
+    /// needn't be known.
+    #[inline(always)]
+    fn is_before(&self, at: u64, node: u32, tick: u64) -> bool
+        requires node { node < vec_len self.now.nodes }
+        requires time { at ≤ 1000000000000000 }
+        ensures { result ≡ true → tick_at (node_line self.now.header node).rate at < tick }
+    {
+        let line = self.line(node);
+        at + at / 512 < tick || tick_at(line.rate, at) < tick
+    }
+
     /// The tick before which a turn of a node does nothing, which is kept from now on; 0 where the node isn't up.
-    #[inline(never)]
+    #[inline(always)]
     fn due(&mut self, node: u32) -> u64
         requires node { node < vec_len self.old.nodes }
         ensures stands { Stays self.old self.new }
@@ -149,8 +168,43 @@ impl World {
             unreachable!()
         };
         let from = Place::Peer(PeerId(way.from));
-        let taken = self.sent.taken(k);
-        self.receive(at, address.node, address.port, from, &taken);
+        match self.sent.stamp(k) {
+            Some(stamp) => self.receive_stamp(at, address.node, address.port, from, stamp),
+            None => self.receive_message(at, address.node, address.port, from, k),
+        }
+    }
+
+    /// A node takes a stamp on a port. (A call of its own, as that of a message is, so that room for a datagram is
+    /// made for one kind alone.)
+    #[inline(never)]
+    fn receive_stamp(&mut self, at: u64, node: u32, port: Port, from: Place, stamp: Stamp)
+        requires ready { IsReady (room (ports_on node (networks self.old.header))) self.old }
+        requires able { CanStep at node self.old }
+        requires node { node < vec_len self.old.nodes }
+        requires port { port.0 < length (ports_on node (networks self.old.header)) }
+        ensures { HappensBy (answers_all (GotOn port from (Good (Datagram.Stamp stamp)))) at node
+            self.old self.new }
+    {
+        let taken = Taken::Good(Datagram::Stamp(stamp));
+        self.receive(at, node, port, from, &taken);
+    }
+
+    /// A node takes a posted message on a port.
+    #[inline(never)]
+    fn receive_message(&mut self, at: u64, node: u32, port: Port, from: Place, k: u64)
+        requires ready { IsReady (room (ports_on node (networks self.old.header))) self.old }
+        requires able { CanStep at node self.old }
+        requires node { node < vec_len self.old.nodes }
+        requires port { port.0 < length (ports_on node (networks self.old.header)) }
+        requires within { k < length self.old.sent.items }
+        requires message { (p : Posted) → slice_get self.old.sent.items k ≡ Some p
+            → stamp_in p.datagram ≡ None }
+        ensures { (p : Posted) → slice_get self.old.sent.items k ≡ Some p
+            → HappensBy (answers_all (GotOn port from (Good p.datagram))) at node self.old
+            self.new }
+    {
+        let taken = self.sent.message(k);
+        self.receive(at, node, port, from, &taken);
     }
 
     /// A node takes on a port what was read of octets.

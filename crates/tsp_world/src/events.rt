@@ -136,7 +136,7 @@ impl World {
     }
 
     /// A posted datagram reaches its addressee at this address.
-    #[inline(never)]
+    #[inline(always)]
     fn take_at(&mut self, at: u64, k: u64, address: Address) -> Result<(), EventFault>
         requires time { at ≤ 1000000000000000 }
         requires goes { goes_to (networks self.old.header) (slice_get self.old.sent.items k) ≡ Some

@@ -62,7 +62,11 @@ fn is_loop(taken: &Taken, name: &[u8]) -> bool {
 
 /// Whether the post with this number is the message with this name.
 fn has_loop(posts: &Posts, k: u64, name: &[u8]) -> bool {
-    (k as usize) < posts.len() && is_loop(&posts.taken(k), name)
+    (k as usize) < posts.len()
+        && match posts.stamp(k) {
+            Some(_) => false,
+            None => is_loop(&posts.message(k), name),
+        }
 }
 
 /// A request for a clock's stamp.
@@ -74,9 +78,9 @@ const REQUEST: Stamp = Stamp::Request {
 /// Whether the post with this number is that request.
 fn has_request(posts: &Posts, k: u64) -> bool {
     (k as usize) < posts.len()
-        && match posts.taken(k) {
-            Taken::Good(Datagram::Stamp(stamp)) => stamp == REQUEST,
-            _ => false,
+        && match posts.stamp(k) {
+            Some(stamp) => stamp == REQUEST,
+            None => false,
         }
 }
 

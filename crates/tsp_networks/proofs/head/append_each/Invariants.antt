@@ -1,5 +1,5 @@
 -- The octets so far, and those that are left.
-use Rattle.std.proofs.Common.{◌≡◌, ◌≤◌, ◌+◌, ◌++◌, drop, vec_len, vec_capacity}
+use Rattle.std.proofs.Common.{◌≡◌, ◌+◌, ◌++◌, drop, vec_len, vec_capacity}
 use Rattle.tsp_networks.proofs.head.append_each.Given as goal
 
 abbrev pub invariant-loop-octet : goal.invariant-loop-octet

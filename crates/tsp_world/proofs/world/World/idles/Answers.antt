@@ -1,5 +1,5 @@
 -- What is kept of the node is so.
-use Rattle.std.proofs.Common.{ltb-true, ◌≡◌, ◌<◌, ◌∙◌, Some, ap, arith, length, rules, slice_get, subst, sym, vec_len}
+use Rattle.std.proofs.Common.{◌≡◌, ◌<◌, ◌∙◌, Some, ap, arith, length, rules, slice_get, sym, vec_len}
 use Rattle.std.proofs.lemmas.Option.{slice_get-get_or}
 use Rattle.tsp_world.proofs.world.World.idles.Goals as goal
 
@@ -9,4 +9,4 @@ returns-in-Some-clause-idles c earlier =
     let many : vec_len world.dues ≡ length world.dues.items = search rules in
     let inside : c.args.node < length world.dues.items = (let same = world.due_places in let node = c.requires.node in omega (arith, many, same, node)) in
     let known : slice_get world.dues.items c.args.node ≡ Some (Some c.in-Some.due) = slice_get-get_or world.dues.items c.args.node c.index.result.now inside ∙ ap Some (sym c.index.ensures ∙ c.in-Some.is) in
-    (c.in-Some.due, (λ node there. world.dues_are c.args.node c.in-Some.due node known there), subst (λ t. t < c.in-Some.due) c.tick-tick.ensures.tick (ltb-true c.tick-tick.result c.in-Some.due earlier))
+    (c.in-Some.due, (λ node there. world.dues_are c.args.node c.in-Some.due node known there), c.is_before.ensures earlier)
