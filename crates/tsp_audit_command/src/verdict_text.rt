@@ -6,18 +6,18 @@ ghost use Rattle.tsp_lines.specs.Meanings.{stop_of};
 ghost use Rattle.tsp_lines.specs.Outputs.{Hands};
 ghost use Rattle.tsp_lines.specs.declared.output.Unwritten.{Unwritten};
 
-use arrayvec::ArrayVec;
 use tsp_audit::verdict::Failure;
 use tsp_io::sink::Sink;
 use tsp_lines::output::Output;
 use tsp_lines::treatment::Stop;
 use tsp_script::numbers::{append, append_number};
+use tsp_script::text::Text;
 
 /// `fails Dn E` with the numbers of this failure's part and event, or `holds` where there is none; with a line feed.
-fn text_of(found: Option<Failure>) -> ArrayVec<u8, 1024>
+fn text_of(found: Option<Failure>) -> Text
     ensures { result.items ≡ verdict_text found }
 {
-    let mut text = ArrayVec::new();
+    let mut text = Text::new();
     match found {
         None => append(&mut text, b"holds\n"),
         Some(failure) => {

@@ -9,7 +9,6 @@ ghost use Rattle.tsp_script.specs.Texts.{message_text};
 ghost use Rattle.tsp_convert.specs.Shows.{IsHexLineOf, RefusesHex, show_meaning};
 
 use crate::hand_over::hand_over;
-use arrayvec::ArrayVec;
 use tsp_codec::decode;
 use tsp_io::sink::Sink;
 use tsp_lines::cause::Cause;
@@ -18,10 +17,11 @@ use tsp_lines::treatment::{Stop, Treatment};
 use tsp_script::acts::fault_word;
 use tsp_script::messages::append_datagram;
 use tsp_script::numbers::{append, octets_in};
+use tsp_script::text::Text;
 
 /// Writes the message line of the datagram that a line is in hexadecimal, with a line feed. `buffer` gets
 /// its octets.
-fn shown(line: &[u8], buffer: &mut [u8; 512], text: &mut ArrayVec<u8, 1024>) -> Result<(), Cause>
+fn shown(line: &[u8], buffer: &mut [u8; 512], text: &mut Text) -> Result<(), Cause>
     requires { length line.now ≤ 1024 }
     ensures { MatchResult result
         (λ _. (d : Datagram) × IsHexLineOf line.now d × (text.new.items ≡ close (message_text d)))
@@ -51,7 +51,7 @@ fn shown(line: &[u8], buffer: &mut [u8; 512], text: &mut ArrayVec<u8, 1024>) -> 
 #[derive(Drop)]
 pub(crate) struct Show {
     octets: [u8; 512],
-    text: ArrayVec<u8, 1024>,
+    text: Text,
 }
 
 impl Show {
@@ -59,7 +59,7 @@ impl Show {
     pub(crate) fn new() -> Show {
         Show {
             octets: [0; 512],
-            text: ArrayVec::new(),
+            text: Text::new(),
         }
     }
 }

@@ -6,10 +6,10 @@ ghost use Rattle.tsp_icmp_command.specs.Findings.{repeats_request, finding_of, I
 
 use crate::apart::Apart;
 use crate::exchange::Exchange;
-use arrayvec::ArrayVec;
 use tsp_base::name::Name;
 use tsp_icmp::{Timestamp, difference, standard, trip};
 use tsp_script::numbers::{append, append_next_signed, append_signed};
+use tsp_script::text::Text;
 
 /// What an exchange says of another clock, or why it says nothing.
 #[derive(Clone, Copy)]
@@ -55,7 +55,7 @@ pub(crate) fn finding_of(exchange: &Exchange) -> Finding
 }
 
 /// Writes the words of a finding, in at most 41 octets.
-fn append_finding(out: &mut ArrayVec<u8, 1024>, finding: &Finding)
+fn append_finding(out: &mut Text, finding: &Finding)
     requires { array_vec_len out.old + 41 ≤ 1024 }
     ensures text { out.new.items ≡ out.old.items ++ finding_text finding.now }
     ensures short { array_vec_len out.new ≤ array_vec_len out.old + 41 }
@@ -72,11 +72,11 @@ fn append_finding(out: &mut ArrayVec<u8, 1024>, finding: &Finding)
 }
 
 /// The line of a finding, with its line feed.
-pub(crate) fn finding_line(name: &Name, finding: &Finding) -> ArrayVec<u8, 1024>
+pub(crate) fn finding_line(name: &Name, finding: &Finding) -> Text
     ensures text { result.items ≡ close (finding_line name.now finding.now) }
     ensures short { array_vec_len result ≤ 1024 }
 {
-    let mut text = ArrayVec::new();
+    let mut text = Text::new();
     append(&mut text, name.octets());
     append(&mut text, b" ");
     append_finding(&mut text, finding);

@@ -9,19 +9,19 @@ ghost use Rattle.tsp_lines.specs.Lines.{close};
 ghost use Rattle.tsp_lines.specs.Outputs.{Hands};
 
 use crate::best::Best;
-use arrayvec::ArrayVec;
 use tsp_group::{Group, correction, mean};
 use tsp_io::sink::Sink;
 use tsp_lines::output::{Output, Unwritten};
 use tsp_script::numbers::{append, append_next_signed, append_number};
+use tsp_script::text::Text;
 
 /// The line of a group with this mean, with its line feed.
-fn group_line(group: &Group, mean: i64) -> ArrayVec<u8, 1024>
+fn group_line(group: &Group, mean: i64) -> Text
     requires { mean ≡ mean_of group.now }
     ensures text { result.items ≡ close (group_line group.now) }
     ensures short { array_vec_len result ≤ 1024 }
 {
-    let mut text = ArrayVec::new();
+    let mut text = Text::new();
     append(&mut text, b"group ");
     append_number(&mut text, u64::from(group.count));
     append_next_signed(&mut text, group.lo);
@@ -32,12 +32,12 @@ fn group_line(group: &Group, mean: i64) -> ArrayVec<u8, 1024>
 }
 
 /// The line of the correction that takes a clock to the mean, with its line feed.
-fn correct_line(mean: i64, best: &Best) -> ArrayVec<u8, 1024>
+fn correct_line(mean: i64, best: &Best) -> Text
     requires { IsNear mean }
     ensures text { result.items ≡ close (correct_line mean best.now) }
     ensures short { array_vec_len result ≤ 1024 }
 {
-    let mut text = ArrayVec::new();
+    let mut text = Text::new();
     append(&mut text, b"correct ");
     append(&mut text, best.name().octets());
     append_next_signed(&mut text, correction(mean, best.micros()));

@@ -5,11 +5,11 @@ ghost use Rattle.tsp_script.specs.Traces.{trace_text};
 ghost use Rattle.tsp_replay.specs.LineTexts.{BeginsWith, beginning_text, beginning_of};
 ghost use Rattle.tsp_replay.specs.Traces.{number_in};
 
-use arrayvec::ArrayVec;
 use tsp_base::place::Port;
 use tsp_run::line::Line;
 use tsp_script::acts::append_act;
-use tsp_script::numbers::{append, append_next_number, append_number};
+use tsp_script::text::Text;
+use tsp_script::trace::append_beginning;
 
 /// What a line has before its act. The lines of an event mostly have the same.
 #[derive(Clone, Copy)]
@@ -42,19 +42,6 @@ fn is_same(one: Beginning, other: Beginning) -> bool
         && one.port.0 == other.port.0
 }
 
-/// Writes what a line has before its act.
-fn append_beginning(out: &mut ArrayVec<u8, 1024>, beginning: Beginning)
-    requires { array_vec_len out.old + 84 ≤ 1024 }
-    ensures text { out.new.items ≡ out.old.items ++ beginning_text beginning }
-    ensures short { array_vec_len out.new ≤ array_vec_len out.old + 84 }
-{
-    append_number(out, beginning.event);
-    append_next_number(out, beginning.node as u64);
-    append_next_number(out, beginning.port.0 as u64);
-    append_next_number(out, beginning.tick);
-    append(out, b" ");
-}
-
 /// The number of a post; 0 for other acts.
 fn number_in(number: Option<u64>) -> u64
     ensures { result ≡ number_in number }
@@ -68,7 +55,7 @@ fn number_in(number: Option<u64>) -> u64
 /// The text of a line, without a line end.
 #[derive(Drop)]
 pub(crate) struct LineText {
-    text: ArrayVec<u8, 1024>,
+    text: Text,
     /// What the text begins with.
     beginning: Beginning,
     /// How long that is in the text.
@@ -85,8 +72,8 @@ impl LineText {
             port: Port(0),
             tick: 0,
         };
-        let mut text = ArrayVec::new();
-        append_beginning(&mut text, beginning);
+        let mut text = Text::new();
+        append_beginning(&mut text, 0, 0, Port(0), 0);
         let len = text.len();
         LineText {
             text,
@@ -115,7 +102,13 @@ impl LineText {
         ensures short { array_vec_len self.new.text ≤ 84 }
     {
         self.text.clear();
-        append_beginning(&mut self.text, beginning);
+        let Beginning {
+            event,
+            node,
+            port,
+            tick,
+        } = beginning;
+        append_beginning(&mut self.text, event, node, port, tick);
         self.beginning = beginning;
         self.len = self.text.len();
     }

@@ -3,11 +3,11 @@ ghost use Rattle.std.specs.Prelude.{◌≡◌, ◌≢◌, ◌≤◌, ◌+◌, �
 ghost use Rattle.tsp_base.specs.declared.event.EventFault.{EventFault};
 ghost use Rattle.tsp_schedule.specs.Stages.{StopsFor};
 
-use arrayvec::ArrayVec;
 use tsp_base::event::EventFault;
 use tsp_lines::cause::Cause;
 use tsp_lines::treatment::Stop;
 use tsp_script::numbers::{append, append_number};
+use tsp_script::text::Text;
 
 /// Why the reading stops at a refused event: `Bad` with the fault's words, or `Limit`, or out of memory.
 #[inline(never)]
@@ -32,7 +32,7 @@ fn one_number(word: &[u8], a: u64) -> Cause
     requires { length word.now ≤ 12 }
     ensures { result ≡ word.now ++ decimal a }
 {
-    let mut words: ArrayVec<u8, 1024> = ArrayVec::new();
+    let mut words = Text::new();
     append(&mut words, word);
     append_number(&mut words, a);
     Cause::of(words.as_slice())
@@ -43,7 +43,7 @@ fn two_numbers(word: &[u8], a: u64, b: u64) -> Cause
     requires { length word.now ≤ 12 }
     ensures { result ≡ word.now ++ decimal a ++ codes " " ++ decimal b }
 {
-    let mut words: ArrayVec<u8, 1024> = ArrayVec::new();
+    let mut words = Text::new();
     append(&mut words, word);
     append_number(&mut words, a);
     append(&mut words, b" ");

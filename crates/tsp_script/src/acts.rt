@@ -11,7 +11,7 @@ use crate::messages::append_datagram;
 use crate::numbers::{
     append, append_next_number, append_next_signed, append_number, append_signed,
 };
-use arrayvec::ArrayVec;
+use crate::text::Text;
 use tsp_base::act::Act;
 use tsp_base::alarm::Alarm;
 use tsp_base::datagram::{Datagram, DecodeFault, Taken};
@@ -36,7 +36,7 @@ pub fn fault_word(fault: DecodeFault) -> &'static [u8]
     }
 }
 
-fn append_role(out: &mut ArrayVec<u8, 1024>, role: Role)
+fn append_role(out: &mut Text, role: Role)
     requires { array_vec_len out.old + 27 ≤ 1024 }
     ensures text { out.new.items ≡ out.old.items ++ role_text role }
     ensures short { array_vec_len out.new ≤ array_vec_len out.old + 27 }
@@ -51,7 +51,7 @@ fn append_role(out: &mut ArrayVec<u8, 1024>, role: Role)
 }
 
 /// Writes a peer's number, or a dash for a stranger.
-pub fn append_place(out: &mut ArrayVec<u8, 1024>, place: Place)
+pub fn append_place(out: &mut Text, place: Place)
     requires { array_vec_len out.old + 20 ≤ 1024 }
     ensures text { out.new.items ≡ out.old.items ++ place_text place }
     ensures short { array_vec_len out.new ≤ array_vec_len out.old + 20 }
@@ -62,7 +62,7 @@ pub fn append_place(out: &mut ArrayVec<u8, 1024>, place: Place)
     }
 }
 
-fn append_taken(out: &mut ArrayVec<u8, 1024>, from: Place, taken: &Taken)
+fn append_taken(out: &mut Text, from: Place, taken: &Taken)
     requires { array_vec_len out.old + 844 ≤ 1024 }
     ensures { out.new.items ≡ out.old.items ++ (codes "took " ++ place_text
         from ++ space ++ taken_text taken.now) }
@@ -79,7 +79,7 @@ fn append_taken(out: &mut ArrayVec<u8, 1024>, from: Place, taken: &Taken)
     }
 }
 
-fn append_post(out: &mut ArrayVec<u8, 1024>, number: u64, to: Place, datagram: &Datagram)
+fn append_post(out: &mut Text, number: u64, to: Place, datagram: &Datagram)
     requires { array_vec_len out.old + 865 ≤ 1024 }
     ensures { out.new.items ≡ out.old.items ++ (codes "post " ++ decimal
         number ++ space ++ place_text to ++ space ++ message_text datagram.now) }
@@ -93,7 +93,8 @@ fn append_post(out: &mut ArrayVec<u8, 1024>, number: u64, to: Place, datagram: &
 }
 
 /// Writes a word, with its space, and a peer's number.
-fn append_peer(out: &mut ArrayVec<u8, 1024>, word: &[u8], peer: PeerId)
+#[inline(always)]
+fn append_peer(out: &mut Text, word: &[u8], peer: PeerId)
     requires { array_vec_len out.old + length word.now + 20 ≤ 1024 }
     ensures text { out.new.items ≡ out.old.items ++ (word.now ++ decimal peer.0) }
     ensures short { array_vec_len out.new ≤ array_vec_len out.old + length word.now + 20 }
@@ -103,7 +104,8 @@ fn append_peer(out: &mut ArrayVec<u8, 1024>, word: &[u8], peer: PeerId)
 }
 
 /// Writes a word, with its space, and an alarm's word.
-fn append_alarm(out: &mut ArrayVec<u8, 1024>, word: &[u8], alarm: Alarm)
+#[inline(always)]
+fn append_alarm(out: &mut Text, word: &[u8], alarm: Alarm)
     requires { array_vec_len out.old + length word.now + 7 ≤ 1024 }
     ensures text { out.new.items ≡ out.old.items ++ (word.now ++ alarm_word alarm) }
     ensures short { array_vec_len out.new ≤ array_vec_len out.old + length word.now + 7 }
@@ -112,7 +114,7 @@ fn append_alarm(out: &mut ArrayVec<u8, 1024>, word: &[u8], alarm: Alarm)
     append(out, alarm.word());
 }
 
-fn append_arm(out: &mut ArrayVec<u8, 1024>, alarm: Alarm, at: u64)
+fn append_arm(out: &mut Text, alarm: Alarm, at: u64)
     requires { array_vec_len out.old + 40 ≤ 1024 }
     ensures { out.new.items ≡ out.old.items ++ (codes "arm " ++ alarm_word alarm ++ space ++ decimal
         at) }
@@ -121,14 +123,7 @@ fn append_arm(out: &mut ArrayVec<u8, 1024>, alarm: Alarm, at: u64)
     append_next_number(out, at);
 }
 
-fn append_sample(
-    out: &mut ArrayVec<u8, 1024>,
-    peer: PeerId,
-    counter: u64,
-    diff: i64,
-    err: i64,
-    ticket: u16,
-)
+fn append_sample(out: &mut Text, peer: PeerId, counter: u64, diff: i64, err: i64, ticket: u16)
     requires { array_vec_len out.old + 111 ≤ 1024 }
     ensures { out.new.items ≡ out.old.items ++ (codes "sample " ++ decimal
         peer.0 ++ space ++ decimal counter ++ space ++ signed_decimal
@@ -141,7 +136,7 @@ fn append_sample(
     append_next_number(out, ticket as u64);
 }
 
-fn append_close(out: &mut ArrayVec<u8, 1024>, count: u32, lo: i64, width: i64, mean: i64)
+fn append_close(out: &mut Text, count: u32, lo: i64, width: i64, mean: i64)
     requires { array_vec_len out.old + 89 ≤ 1024 }
     ensures { out.new.items ≡ out.old.items ++ (codes "close " ++ decimal
         count ++ space ++ signed_decimal lo ++ space ++ signed_decimal
@@ -162,7 +157,7 @@ fn way_word(stepped: bool) -> &'static [u8]
     if stepped { b" step " } else { b" slew " }
 }
 
-fn append_correct(out: &mut ArrayVec<u8, 1024>, amount: i64, stepped: bool, shown: i64)
+fn append_correct(out: &mut Text, amount: i64, stepped: bool, shown: i64)
     requires { array_vec_len out.old + 54 ≤ 1024 }
     ensures { out.new.items ≡ out.old.items ++ (codes "correct " ++ signed_decimal
         amount ++ way_word stepped ++ signed_decimal shown) }
@@ -174,7 +169,7 @@ fn append_correct(out: &mut ArrayVec<u8, 1024>, amount: i64, stepped: bool, show
 }
 
 /// Writes an act, in at most 865 octets. `number` is the posted datagram's; for any other act it isn't used.
-pub fn append_act(out: &mut ArrayVec<u8, 1024>, number: u64, act: &Act)
+pub fn append_act(out: &mut Text, number: u64, act: &Act)
     requires { array_vec_len out.old + 865 ≤ 1024 }
     ensures { out.new.items ≡ out.old.items ++ act_text number act.now }
 {
@@ -202,7 +197,7 @@ pub fn append_act(out: &mut ArrayVec<u8, 1024>, number: u64, act: &Act)
 }
 
 /// Writes an act that has microseconds: a sample, a close or a correction.
-fn append_measured(out: &mut ArrayVec<u8, 1024>, act: &Act)
+fn append_measured(out: &mut Text, act: &Act)
     requires measured { is_measured act.now ≡ true }
     requires room { array_vec_len out.old + 111 ≤ 1024 }
     ensures { (number : ℕ) → out.new.items ≡ out.old.items ++ act_text number act.now }
@@ -230,7 +225,7 @@ fn append_measured(out: &mut ArrayVec<u8, 1024>, act: &Act)
     }
 }
 
-fn append_become(out: &mut ArrayVec<u8, 1024>, role: Role)
+fn append_become(out: &mut Text, role: Role)
     requires { array_vec_len out.old + 34 ≤ 1024 }
     ensures { out.new.items ≡ out.old.items ++ (codes "become " ++ role_text role) }
 {

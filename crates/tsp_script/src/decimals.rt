@@ -2,7 +2,7 @@
 ghost use Rattle.std.specs.Prelude.{◌≡◌, ◌+◌, ◌/◌, ◌%◌, ◌≤◌, ◌<◌, [], ◌∷◌, ◌++◌, length, decimal};
 ghost use Rattle.arrayvec.specs.ArrayVec.{array_vec_len};
 
-use arrayvec::ArrayVec;
+use crate::text::Text;
 
 /// The two digits of each number below 100.
 static PAIRS: [u8; 200] = *b"0001020304050607080910111213141516171819\
@@ -13,7 +13,7 @@ static PAIRS: [u8; 200] = *b"0001020304050607080910111213141516171819\
 
 /// Writes the two digits of a number below 100.
 #[inline(always)]
-fn append_pair(out: &mut ArrayVec<u8, 1024>, number: u64)
+fn append_pair(out: &mut Text, number: u64)
     requires number { number < 100 }
     requires room { array_vec_len out.old + 2 ≤ 1024 }
     ensures { out.new.items ≡ out.old.items ++ (48 + number / 10) ∷ (48 + number % 10) ∷ [] }
@@ -25,7 +25,7 @@ fn append_pair(out: &mut ArrayVec<u8, 1024>, number: u64)
 
 /// Writes the four digits of a number below 10,000.
 #[inline(always)]
-fn append_four(out: &mut ArrayVec<u8, 1024>, number: u64)
+fn append_four(out: &mut Text, number: u64)
     requires number { number < 10000 }
     requires room { array_vec_len out.old + 4 ≤ 1024 }
     ensures { out.new.items ≡ out.old.items ++ (48 + number / 100 / 10)
@@ -37,7 +37,7 @@ fn append_four(out: &mut ArrayVec<u8, 1024>, number: u64)
 
 /// Writes a number below 10,000 in decimal.
 #[inline(always)]
-fn append_short(out: &mut ArrayVec<u8, 1024>, number: u64)
+fn append_short(out: &mut Text, number: u64)
     requires number { number < 10000 }
     requires room { array_vec_len out.old + length (decimal number) ≤ 1024 }
     ensures { out.new.items ≡ out.old.items ++ decimal number }
@@ -56,7 +56,7 @@ fn append_short(out: &mut ArrayVec<u8, 1024>, number: u64)
 
 /// Writes a number in decimal.
 #[cycle(decimal)]
-pub(crate) fn append_decimal(out: &mut ArrayVec<u8, 1024>, number: u64)
+pub(crate) fn append_decimal(out: &mut Text, number: u64)
     requires room { array_vec_len out.old + length (decimal number) ≤ 1024 }
     ensures { out.new.items ≡ out.old.items ++ decimal number }
 {
@@ -73,7 +73,7 @@ pub(crate) fn append_decimal(out: &mut ArrayVec<u8, 1024>, number: u64)
 /// The same, of a number of nine digits or more.
 #[cycle(decimal)]
 #[inline(never)]
-fn append_long(out: &mut ArrayVec<u8, 1024>, number: u64)
+fn append_long(out: &mut Text, number: u64)
     requires number { 100000000 ≤ number }
     requires room { array_vec_len out.old + length (decimal number) ≤ 1024 }
     ensures { out.new.items ≡ out.old.items ++ decimal number }

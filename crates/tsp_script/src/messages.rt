@@ -8,13 +8,15 @@ use crate::names::append_name;
 use crate::numbers::{
     append, append_next_number, append_next_signed, append_number, append_signed,
 };
+use crate::padded::kind_octets;
+use crate::text::Text;
 use arrayvec::ArrayVec;
 use tsp_base::datagram::Datagram;
 use tsp_base::message::{Body, Message};
 use tsp_base::stamp::{Stamp, StampReply};
 
 /// Writes what is between a message's number and its name.
-fn append_body(out: &mut ArrayVec<u8, 1024>, body: &Body)
+fn append_body(out: &mut Text, body: &Body)
     requires { array_vec_len out.old + 21 ≤ 1024 }
     ensures text { out.new.items ≡ out.old.items ++ body_text body.now }
     ensures short { array_vec_len out.new ≤ array_vec_len out.old + 21 }
@@ -34,13 +36,14 @@ fn append_body(out: &mut ArrayVec<u8, 1024>, body: &Body)
 }
 
 /// Writes a message's line, in at most 818 octets.
-fn append_message(out: &mut ArrayVec<u8, 1024>, message: &Message)
+fn append_message(out: &mut Text, message: &Message)
     requires { array_vec_len out.old + 818 ≤ 1024 }
     ensures text { out.new.items ≡ out.old.items ++ message_line message.now }
     ensures short { array_vec_len out.new ≤ array_vec_len out.old + 818 }
     ensures range { IsMessage message.now }
 {
-    append(out, message.kind().word());
+    let kind = message.kind();
+    out.extend_front(kind_octets(kind), kind.word().len());
     append_next_number(out, message.number() as u64);
     append(out, b" ");
     append_body(out, &message.body());
@@ -48,7 +51,7 @@ fn append_message(out: &mut ArrayVec<u8, 1024>, message: &Message)
 }
 
 /// Writes a stamp's line.
-fn append_stamp(out: &mut ArrayVec<u8, 1024>, stamp: &Stamp)
+fn append_stamp(out: &mut Text, stamp: &Stamp)
     requires { array_vec_len out.old + 818 ≤ 1024 }
     ensures text { out.new.items ≡ out.old.items ++ stamp_text stamp.now }
     ensures short { array_vec_len out.new ≤ array_vec_len out.old + 818 }
@@ -65,7 +68,7 @@ fn append_stamp(out: &mut ArrayVec<u8, 1024>, stamp: &Stamp)
 }
 
 /// Writes a reply's line.
-fn append_reply(out: &mut ArrayVec<u8, 1024>, reply: &StampReply)
+fn append_reply(out: &mut Text, reply: &StampReply)
     requires { array_vec_len out.old + 818 ≤ 1024 }
     ensures text { out.new.items ≡ out.old.items ++ reply_text reply.now }
     ensures short { array_vec_len out.new ≤ array_vec_len out.old + 818 }
@@ -79,7 +82,7 @@ fn append_reply(out: &mut ArrayVec<u8, 1024>, reply: &StampReply)
 }
 
 /// Writes a datagram's line.
-pub fn append_datagram(out: &mut ArrayVec<u8, 1024>, datagram: &Datagram)
+pub fn append_datagram(out: &mut Text, datagram: &Datagram)
     requires { array_vec_len out.old + 818 ≤ 1024 }
     ensures text { out.new.items ≡ out.old.items ++ message_text datagram.now }
     ensures short { array_vec_len out.new ≤ array_vec_len out.old + 818 }
@@ -97,7 +100,7 @@ pub fn message_text(datagram: &Datagram) -> ArrayVec<u8, 1024>
     ensures short { array_vec_len result ≤ 818 }
     ensures range { IsDatagram datagram.now }
 {
-    let mut out = ArrayVec::new();
-    append_datagram(&mut out, datagram);
-    out
+    let mut text = Text::new();
+    append_datagram(&mut text, datagram);
+    text.array()
 }

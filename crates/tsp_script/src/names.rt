@@ -8,6 +8,7 @@ ghost use Rattle.tsp_base.specs.Names.{IsName};
 ghost use Rattle.tsp_script.specs.Texts.{is_plain, escaped, name_text};
 
 use crate::numbers::{append, append_hex};
+use crate::text::Text;
 use crate::words::is_same;
 use arrayvec::ArrayVec;
 use tsp_base::name::Name;
@@ -31,7 +32,7 @@ fn are_plain(octets: &[u8]) -> bool
     true
 }
 
-fn append_octet(out: &mut ArrayVec<u8, 1024>, octet: u8)
+fn append_octet(out: &mut Text, octet: u8)
     requires { array_vec_len out.old + 3 ≤ 1024 }
     ensures text { out.new.items ≡ out.old.items ++ escaped octet }
     ensures short { array_vec_len out.new ≤ array_vec_len out.old + 3 }
@@ -44,7 +45,7 @@ fn append_octet(out: &mut ArrayVec<u8, 1024>, octet: u8)
     }
 }
 
-fn append_octets(out: &mut ArrayVec<u8, 1024>, octets: &[u8])
+fn append_octets(out: &mut Text, octets: &[u8])
     requires { array_vec_len out.old + 3 * length octets.now ≤ 1024 }
     ensures text { out.new.items ≡ out.old.items ++ flat_map escaped octets.now }
     ensures short { array_vec_len out.new ≤ array_vec_len out.old + 3 * length octets.now }
@@ -58,7 +59,7 @@ fn append_octets(out: &mut ArrayVec<u8, 1024>, octets: &[u8])
 }
 
 /// The same, octet by octet.
-fn append_each(out: &mut ArrayVec<u8, 1024>, octets: &[u8])
+fn append_each(out: &mut Text, octets: &[u8])
     requires { array_vec_len out.old + 3 * length octets.now ≤ 1024 }
     ensures text { out.new.items ≡ out.old.items ++ flat_map escaped octets.now }
     ensures short { array_vec_len out.new ≤ array_vec_len out.old + 3 * length octets.now }
@@ -69,7 +70,7 @@ fn append_each(out: &mut ArrayVec<u8, 1024>, octets: &[u8])
 }
 
 /// Writes a name's text, in at most 765 octets.
-pub fn append_name(out: &mut ArrayVec<u8, 1024>, name: &Name)
+pub fn append_name(out: &mut Text, name: &Name)
     requires { array_vec_len out.old + 765 ≤ 1024 }
     ensures text { out.new.items ≡ out.old.items ++ name_text name.now }
     ensures short { array_vec_len out.new ≤ array_vec_len out.old + 765 }

@@ -12,20 +12,21 @@ use crate::decimals::append_decimal;
 use crate::digit_reader::front_digits;
 use crate::head_line::after;
 use crate::hexes::value_of;
+use crate::text::Text;
 use crate::words::front_word;
 use arrayvec::ArrayVec;
 
 /// Writes octets as they are.
 #[inline(always)]
-pub fn append(out: &mut ArrayVec<u8, 1024>, piece: &[u8])
+pub fn append(out: &mut Text, piece: &[u8])
     requires { array_vec_len out.old + length piece.now ≤ 1024 }
     ensures { out.new.items ≡ out.old.items ++ piece.now }
 {
-    let _ = out.try_extend_from_slice(piece);
+    out.extend(piece);
 }
 
 /// Writes a number in decimal, in at most 20 octets.
-pub fn append_number(out: &mut ArrayVec<u8, 1024>, number: u64)
+pub fn append_number(out: &mut Text, number: u64)
     requires { array_vec_len out.old + 20 ≤ 1024 }
     ensures text { out.new.items ≡ out.old.items ++ decimal number }
     ensures short { array_vec_len out.new ≤ array_vec_len out.old + 20 }
@@ -34,7 +35,7 @@ pub fn append_number(out: &mut ArrayVec<u8, 1024>, number: u64)
 }
 
 /// Writes a number in decimal, with a dash where it is negative, in at most 20 octets.
-pub fn append_signed(out: &mut ArrayVec<u8, 1024>, number: i64)
+pub fn append_signed(out: &mut Text, number: i64)
     requires { array_vec_len out.old + 20 ≤ 1024 }
     ensures text { out.new.items ≡ out.old.items ++ signed_decimal number }
     ensures short { array_vec_len out.new ≤ array_vec_len out.old + 20 }
@@ -48,7 +49,7 @@ pub fn append_signed(out: &mut ArrayVec<u8, 1024>, number: i64)
 }
 
 /// Writes a space and a number.
-pub fn append_next_number(out: &mut ArrayVec<u8, 1024>, number: u64)
+pub fn append_next_number(out: &mut Text, number: u64)
     requires { array_vec_len out.old + 21 ≤ 1024 }
     ensures text { out.new.items ≡ out.old.items ++ space ++ decimal number }
     ensures short { array_vec_len out.new ≤ array_vec_len out.old + 21 }
@@ -58,7 +59,7 @@ pub fn append_next_number(out: &mut ArrayVec<u8, 1024>, number: u64)
 }
 
 /// Writes a space and a number with its sign.
-pub fn append_next_signed(out: &mut ArrayVec<u8, 1024>, number: i64)
+pub fn append_next_signed(out: &mut Text, number: i64)
     requires { array_vec_len out.old + 21 ≤ 1024 }
     ensures text { out.new.items ≡ out.old.items ++ space ++ signed_decimal number }
     ensures short { array_vec_len out.new ≤ array_vec_len out.old + 21 }
@@ -68,7 +69,7 @@ pub fn append_next_signed(out: &mut ArrayVec<u8, 1024>, number: i64)
 }
 
 /// Writes octets in hexadecimal, in lower case.
-pub fn append_hex(out: &mut ArrayVec<u8, 1024>, octets: &[u8])
+pub fn append_hex(out: &mut Text, octets: &[u8])
     requires { array_vec_len out.old + 2 * length octets.now ≤ 1024 }
     ensures text { out.new.items ≡ out.old.items ++ encode_lower octets.now }
     ensures count { array_vec_len out.new ≡ array_vec_len out.old + 2 * length octets.now }

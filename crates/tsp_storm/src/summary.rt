@@ -4,9 +4,9 @@ ghost use Rattle.arrayvec.specs.ArrayVec.{array_vec_len};
 ghost use Rattle.tsp_storm.specs.Summaries.{summary_text};
 
 use crate::counts::Counts;
-use arrayvec::ArrayVec;
 use itoa::Buffer;
 use tsp_script::numbers::append;
+use tsp_script::text::Text;
 
 /// What came of a run.
 #[derive(Clone, Copy, PartialEq, Eq, Debug)]
@@ -20,7 +20,7 @@ pub struct Summary {
 }
 
 /// Writes words and a number.
-fn append_count(out: &mut ArrayVec<u8, 1024>, words: &[u8], number: u128)
+fn append_count(out: &mut Text, words: &[u8], number: u128)
     requires few { length words.now ≤ 20 }
     requires room { array_vec_len out.old + 60 ≤ 1024 }
     ensures text { out.new.items ≡ (out.old.items ++ words.now) ++ decimal number }
@@ -33,11 +33,11 @@ fn append_count(out: &mut ArrayVec<u8, 1024>, words: &[u8], number: u128)
 
 impl Summary {
     /// The words of the summary, with their line feed.
-    pub fn text(&self) -> ArrayVec<u8, 1024>
+    pub fn text(&self) -> Text
         ensures { result.items ≡ summary_text self.now.events self.now.posted self.now.counts.took
             self.now.counts.corrects self.now.counts.masters }
     {
-        let mut out = ArrayVec::new();
+        let mut out = Text::new();
         append_count(&mut out, b"events ", self.events as u128);
         append_count(&mut out, b" posted ", self.posted as u128);
         append_count(&mut out, b" took ", self.counts.took);

@@ -1,12 +1,12 @@
 //! Acts as lines of a trace.
 
-use arrayvec::ArrayVec;
 use tsp_base::act::{Act, Placed};
 use tsp_script::acts::append_act;
+use tsp_script::text::Text;
 
 /// Whether an act has this text in a trace, where each posted datagram has the number 0.
 fn is_told(act: &Act, text: &str) -> bool {
-    let mut told = ArrayVec::new();
+    let mut told = Text::new();
     append_act(&mut told, 0, act);
     told.as_slice() == text.as_bytes()
 }

@@ -1,6 +1,5 @@
 //! Message lines and their values, that no other form is accepted, and hexadecimal.
 
-use arrayvec::ArrayVec;
 use tsp_base::datagram::Datagram;
 use tsp_base::kind::Kind;
 use tsp_base::message::Body;
@@ -8,6 +7,7 @@ use tsp_base::micros::Micros;
 use tsp_script::message_reader::message_of;
 use tsp_script::messages::message_text;
 use tsp_script::numbers::{append_hex, octets_of};
+use tsp_script::text::Text;
 
 /// Whether a line is read, and written again as it was.
 fn comes_back(line: &[u8]) -> bool {
@@ -89,7 +89,7 @@ fn refuses_other_spellings(rt: HostRuntime) {
 
 /// Whether these two octets are written as this text.
 fn is_written(octets: &[u8; 2], text: &[u8]) -> bool {
-    let mut out = ArrayVec::new();
+    let mut out = Text::new();
     append_hex(&mut out, octets);
     out.as_slice() == text
 }

@@ -6,13 +6,13 @@ use Rattle.tsp_script.proofs.PairDigits.{pair, written, decimal_three, decimal_f
 use Rattle.tsp_script.proofs.decimals.append_short.Goals as goal
 
 pub push-requires : goal.push-requires
-push-requires c = (omega arith, omega (arith, length_one c.args.number (omega arith)))
+push-requires c = omega (arith, length_one c.args.number (omega arith))
 
 pub append_pair-requires-clause-room : goal.append_pair-requires-clause-room
 append_pair-requires-clause-room c = omega (arith, length_two c.args.number (omega arith) (omega arith))
 
 pub push-requires-then-number-lt1000 : goal.push-requires-then-number-lt1000
-push-requires-then-number-lt1000 c = (omega arith, omega (arith, length_three c.args.number (omega arith) (omega arith)))
+push-requires-then-number-lt1000 c = omega (arith, length_three c.args.number (omega arith) (omega arith))
 
 pub append_pair-requires-then-number-lt1000-clause-room : goal.append_pair-requires-then-number-lt1000-clause-room
 append_pair-requires-then-number-lt1000-clause-room c = omega (arith, length_three c.args.number (omega arith) (omega arith))
