@@ -1,7 +1,10 @@
 -- Laws of the bodies of messages.
-use Rattle.std.proofs.Common.{◌≡◌, ℕ, List, ◌++◌, true, false, Bool, refl}
-use Rattle.std.specs.Prelude.{not, ◌&&◌}
-use Rattle.tsp_base.specs.Words.{carries_time, carries_hops, body_fits}
+use Rattle.std.proofs.Common.{◌≡◌, ℕ, List, ◌++◌, true, false, Bool, refl, arith}
+use Rattle.std.specs.Prelude.{ℤ, pos, negsuc, not, ◌&&◌}
+use Rattle.std.specs.Int.{w64}
+use Rattle.std.specs.Int.RustNames.{FitsSigned}
+use Rattle.std.proofs.lemmas.Int.{ints}
+use Rattle.tsp_base.specs.Words.{carries_time, carries_hops, body_fits, IsMicros}
 use Rattle.tsp_base.specs.declared.kind.Kind.{Kind}
 use Rattle.tsp_base.specs.declared.kind.Kind.TheVariants.{Loop as LoopKind}
 use Rattle.tsp_base.specs.declared.message.Body.{Body}
@@ -58,3 +61,18 @@ hops_fit k (Hops n) h b = h
 pub nothing_fits : (k : Kind) → carries_time k ≡ false → carries_hops k ≡ false → body_fits k Nothing ≡ true
 unfolding body_fits
 nothing_fits k g h = rw (g, h) refl
+
+-- what holds for each time, or for each hop count, holds for a body that is one
+pub time_case : (Holds : Body → Type 0) (b : Body) → IsTimeBody b → ((t : ℤ) → Holds (TimeBody t)) → Holds b
+time_case Holds (TimeBody t) i h = h t
+time_case Holds Nothing i h = absurd i
+time_case Holds (Hops n) i h = absurd i
+
+pub hops_case : (Holds : Body → Type 0) (b : Body) → IsHopsBody b → ((n : ℕ) → Holds (Hops n)) → Holds b
+hops_case Holds (Hops n) i h = h n
+hops_case Holds Nothing i h = absurd i
+hops_case Holds (TimeBody t) i h = absurd i
+
+pub fits_micros : (z : ℤ) → IsMicros z → FitsSigned w64 z
+fits_micros (pos n) h = record { sfits = omega (arith, ints, h.high) }
+fits_micros (negsuc n) h = record { sfits = omega (arith, ints, h.low) }

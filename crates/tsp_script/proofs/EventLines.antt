@@ -1,8 +1,7 @@
 -- Laws of the lines of events.
-use Rattle.std.proofs.Common.{◌≡◌, ℕ, ◌≤◌, List, ◌∷◌, ◌++◌, length, refl, sym, ◌∙◌, arith, Some, append_assoc, Ok}
+use Rattle.std.proofs.Common.{◌≡◌, ℕ, ◌≤◌, List, [], ◌∷◌, ◌++◌, length, refl, sym, ◌∙◌, arith, append_assoc, Ok}
 use Rattle.std.specs.Prelude.{decimal, codes, Contains}
 use Rattle.std.specs.Str.Parse.{AllDigits}
-use Rattle.std.proofs.lemmas.Fmt.{decimal_is_IsNumeral}
 use Rattle.hex.specs.Hex.{decode_of}
 use Rattle.hex.proofs.HexLemmas.{decode_of-ok}
 use Rattle.tsp_base.specs.declared.event.Event.{Event}
@@ -25,10 +24,6 @@ use Rattle.tsp_script.proofs.KindWords.{no_space-spaceless}
 -- a dash is no number
 pub dash_no_number : (ds : List ℕ) → AllDigits 10 ds → codes "-" ≡ ds → ⊥
 dash_no_number ds a e = let q = rw (sym e) at a in omega (arith, q.0)
-
-pub dash_is_stranger : (word : List ℕ) (p : Place) → IsPlace p → word ≡ codes "-" → word ≡ place_text p → Some Stranger ≡ Some p
-dash_is_stranger word Stranger h d e = refl
-dash_is_stranger word (Peer p) h d e = absurd (dash_no_number (decimal p.0) (decimal_is_IsNumeral p.0 (omega arith)).0.1 (sym d ∙ e))
 
 pub no_space-place : (p : Place) → IsPlace p → ¬ Contains (place_text p) 32
 no_space-place Stranger h = no_space-spaceless (codes "-") refl
@@ -62,6 +57,14 @@ event_parts (BootAt at node word) hex = simp append_assoc
 event_parts (Turn at node) hex = simp append_assoc
 event_parts (Take at datagram) hex = simp append_assoc
 event_parts (Bytes at node port from octets) hex = simp append_assoc
+
+-- the line of an event with octets, and that of a boot, as what was read of them
+pub bytes_written : (at node : ℕ) (port : Port) (from : Place) (octets line a b c hex : List ℕ) → line ≡ codes "at " ++ (decimal at ++ 32 ∷ a) → a ≡ codes "bytes " ++ b → b ≡ (decimal node ++ port_text port) ++ 32 ∷ c → c ≡ place_text from ++ 32 ∷ hex
+    → line ≡ event_text (Bytes at node port from octets) hex
+bytes_written at node port from octets line a b c hex e f g h = e ∙ rw (f, g, h) (sym (event_parts (Bytes at node port from octets) hex))
+
+pub boot_written : (at node word : ℕ) (line a b c : List ℕ) → line ≡ codes "at " ++ (decimal at ++ 32 ∷ a) → a ≡ codes "boot " ++ b → b ≡ decimal node ++ 32 ∷ c → c ≡ decimal word → line ≡ event_text (BootAt at node word) []
+boot_written at node word line a b c e f g h = e ∙ rw (f, g, h) (sym (event_parts (BootAt at node word) []))
 
 pub after_at : (e : Event) (line hex : List ℕ) → line ≡ event_text e hex → after_word line ≡ decimal (at_of e) ++ 32 ∷ (verb_of e ++ 32 ∷ rest_of e hex)
 after_at e line hex l =

@@ -34,6 +34,11 @@ first_read (n ∷ ns) text rest number h e small none f =
     let same = front_one number n rest (numbers_text ns) (omega (arith, small)) (omega (arith, k)) none (NoDigit-numbers ns) (sym f ∙ e) in
     (ns, ap (λ x. x ∷ ns) (sym same.0), same.1)
 
+-- where no number stands first, a text is of no network
+pub no_first : (ns text : List ℕ) → IsNetLine ns → text ≡ joined_text ns → NoNumber text → ⊥
+no_first [] text h e none = absurd (let s = h.some in omega (arith, s))
+no_first (n ∷ ns) text h e none = none n (numbers_text ns) (All-head (λ m. m < 2 ^ 32) n ns h.small) (NoDigit-numbers ns) e
+
 All-middle : (items : List ℕ) (n : ℕ) (left : List ℕ) → All (λ m. m < 2 ^ 32) (items ++ n ∷ left) → n < 2 ^ 32
 All-middle [] n left all = All-head (λ m. m < 2 ^ 32) n left all
 All-middle (x ∷ items) n left all = All-middle items n left (All-tail (λ m. m < 2 ^ 32) x (items ++ n ∷ left) all)

@@ -14,7 +14,7 @@ use Rattle.tsp_script.specs.Words.{NoDigit}
 use Rattle.tsp_script.proofs.Apart.{words_apart, numbers_apart}
 use Rattle.tsp_script.proofs.Cuts.{no_feed-decimal}
 use Rattle.tsp_script.proofs.EventLines.{at_of, verb_of, rest_of, no_space-verb_of, IsTrueTime-at_of}
-use Rattle.tsp_script.proofs.FrontDigits.{NoDigit-nil, front_one}
+use Rattle.tsp_script.proofs.FrontDigits.{front_one}
 use Rattle.tsp_script.proofs.KindWords.{no_space-spaceless, no_mark-without}
 use Rattle.tsp_script.proofs.OneEvent.{words_differ}
 
@@ -118,10 +118,9 @@ pub take_datagram : (plain : Plain) (at datagram : ℕ) → plain ≡ Take at da
 take_datagram plain at datagram e h = (subst (λ p. IsEvent (event_in p)) e h).1
 
 -- octets that were read as a turn or as a take
-pub turn_written : (at node read : ℕ) (octets behind digits rest : List ℕ) → octets ≡ codes "at " ++ (decimal at ++ 32 ∷ behind) → behind ≡ codes "turn " ++ digits → digits ≡ decimal read ++ rest → node ≡ read
+pub turn_written : (at node : ℕ) (octets behind digits rest : List ℕ) → octets ≡ codes "at " ++ (decimal at ++ 32 ∷ behind) → behind ≡ codes "turn " ++ digits → digits ≡ decimal node ++ rest
     → octets ≡ event_text (event_in (Turn at node)) [] ++ rest
-turn_written at node read octets behind digits rest e f g s =
-    e ∙ ap (λ x. codes "at " ++ (decimal at ++ 32 ∷ x)) (f ∙ ap (λ x. codes "turn " ++ x) (g ∙ ap (λ n. decimal n ++ rest) (sym s))) ∙ sym (plain_parts (Turn at node) rest tt)
+turn_written at node octets behind digits rest e f g = e ∙ ap (λ x. codes "at " ++ (decimal at ++ 32 ∷ x)) (f ∙ ap (λ x. codes "turn " ++ x) g) ∙ sym (plain_parts (Turn at node) rest tt)
 
 pub take_written : (at datagram : ℕ) (octets behind digits rest : List ℕ) → octets ≡ codes "at " ++ (decimal at ++ 32 ∷ behind) → behind ≡ codes "take " ++ digits → digits ≡ decimal datagram ++ rest
     → octets ≡ event_text (event_in (Take at datagram)) [] ++ rest

@@ -21,10 +21,12 @@ ghost use Rattle.tsp_script.specs.Verbs.{way_text, switch_text, SpellsRest};
 ghost use Rattle.tsp_script.specs.declared.verbs.Verb.{Verb};
 
 use crate::act_words::{alarm_of, fault_of};
-use crate::event_line::place_of;
+use crate::event_line::front_place;
 use crate::head_line::after;
 use crate::message_reader::message_of;
-use crate::numbers::{front_number, front_signed, long_of, number_of, short_of, signed_of};
+use crate::numbers::{
+    front_long, front_number, front_signed, long_number, number_of, short_of, signed_of,
+};
 use crate::words::{front_word, is_same};
 use tsp_base::act::Act;
 use tsp_base::alarm::Alarm;
@@ -38,9 +40,7 @@ pub(crate) fn read_peer(text: &[u8]) -> Option<PeerId>
     ensures found { IfSome result (λ p. text.now ≡ decimal p.0) }
     ensures range { IfSome result (λ p. p.0 < 2 ^ 32) }
 {
-    let number = number_of(text)?;
-    let number = long_of(number)?;
-    Some(PeerId(number))
+    Some(PeerId(long_number(text)?))
 }
 
 /// What was taken; its sender was read before.
@@ -65,8 +65,7 @@ pub(crate) fn read_took(text: &[u8]) -> Option<Act>
     ensures found { IfSome result (SpellsRest Verb.Took 0 text.now) }
     ensures range { IfSome result IsSilent }
 {
-    let (word, rest) = front_word(text)?;
-    let from = place_of(word)?;
+    let (from, rest) = front_place(text)?;
     let taken = taken_of(rest)?;
     Some(Act::Took(from, taken))
 }
@@ -80,8 +79,7 @@ pub(crate) fn read_post(text: &[u8]) -> Option<(u64, Act)>
     ensures range { IfSome result (λ r. (r.0 < 2 ^ 64) × IsAct r.1 × IsNumberOf r.1 r.0) }
 {
     let (number, rest) = front_number(text)?;
-    let (word, rest) = front_word(rest)?;
-    let to = place_of(word)?;
+    let (to, rest) = front_place(rest)?;
     match message_of(rest) {
         Ok(datagram) => Some((number, Act::Post(to, datagram))),
         Err(_) => None,
@@ -143,8 +141,7 @@ pub(crate) fn read_sample(text: &[u8]) -> Option<Act>
     ensures found { IfSome result (SpellsRest Verb.Sample 0 text.now) }
     ensures range { IfSome result IsSilent }
 {
-    let (peer, rest) = front_number(text)?;
-    let peer = long_of(peer)?;
+    let (peer, rest) = front_long(text)?;
     let (counter, rest) = front_number(rest)?;
     let (diff, rest) = front_signed(rest)?;
     let (err, rest) = front_signed(rest)?;
@@ -169,8 +166,7 @@ pub(crate) fn read_close(text: &[u8]) -> Option<Act>
     ensures found { IfSome result (SpellsRest Verb.Close 0 text.now) }
     ensures range { IfSome result IsSilent }
 {
-    let (count, rest) = front_number(text)?;
-    let count = long_of(count)?;
+    let (count, rest) = front_long(text)?;
     let (lo, rest) = front_signed(rest)?;
     let (width, rest) = front_signed(rest)?;
     let mean = signed_of(rest)?;

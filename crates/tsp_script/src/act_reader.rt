@@ -13,7 +13,7 @@ use crate::act_parts::{
 };
 use crate::act_words::alarm_of;
 use crate::line_fault::LineFault;
-use crate::numbers::{front_number, long_of};
+use crate::numbers::{front_long, front_number, octet_of};
 use crate::verbs::Verb;
 use crate::words::front_word;
 use tsp_base::act::{Act, Placed};
@@ -94,14 +94,6 @@ fn read_act(text: &[u8]) -> Option<(u64, Act)>
     }
 }
 
-/// The number as 8 bits; None where it is above 255.
-fn octet_of(number: u64) -> Option<u8>
-    ensures fits { number < 2 ^ 8 → result ≡ Some number }
-    ensures same { IfSome result (λ n. (n ≡ number) × (n < 2 ^ 8)) }
-{
-    u8::try_from(number).ok()
-}
-
 /// The values of a line.
 fn read_line(line: &[u8]) -> Option<Line2>
     ensures found { IfSome result (λ l. line.now ≡ trace_text l.event l.node l.tick l.number
@@ -110,8 +102,7 @@ fn read_line(line: &[u8]) -> Option<Line2>
     ensures range { IfSome result IsLine2 }
 {
     let (event, rest) = front_number(line)?;
-    let (node, rest) = front_number(rest)?;
-    let node = long_of(node)?;
+    let (node, rest) = front_long(rest)?;
     let (port, rest) = front_number(rest)?;
     let port = octet_of(port)?;
     let (tick, rest) = front_number(rest)?;

@@ -16,7 +16,8 @@ ghost use Rattle.tsp_script.specs.Words.{NoDigit};
 use crate::digit_reader::front_digits;
 use crate::head_line::after;
 use crate::line_fault::LineFault;
-use crate::numbers::{front_number, long_of, number_of, octets_in};
+use crate::net_line::front_member;
+use crate::numbers::{front_long, front_number, long_number, number_of, octet_of, octets_in};
 use crate::words::{front_word, is_same, part};
 use tsp_base::constants::SCHEDULE_END;
 use tsp_base::event::Event;
@@ -31,30 +32,6 @@ pub enum EventItem {
     Event(Event),
     /// The schedule's last line.
     End,
-}
-
-/// The place that a word names: a peer's number, or a dash for a stranger.
-pub(crate) fn place_of(word: &[u8]) -> Option<Place>
-    ensures reads { (p : Place) → IsPlace p → word.now ≡ place_text p → result ≡ Some p }
-    ensures found { IfSome result (λ p. word.now ≡ place_text p) }
-    ensures range { IfSome result IsPlace }
-{
-    if is_same(word, b"-") {
-        return Some(Place::Stranger);
-    }
-    let number = number_of(word)?;
-    let number = long_of(number)?;
-    Some(Place::Peer(PeerId(number)))
-}
-
-/// The node that a word names.
-fn long_number(word: &[u8]) -> Option<u32>
-    ensures reads { (node : ℕ) → node < 2 ^ 32 → word.now ≡ decimal node → result ≡ Some node }
-    ensures spells { IfSome result (λ node. word.now ≡ decimal node) }
-    ensures range { IfSome result (λ node. node < 2 ^ 32) }
-{
-    let number = number_of(word)?;
-    long_of(number)
 }
 
 /// Puts the octets of hexadecimal, whose letters may be in either case, at the front of a buffer, and gives how many
@@ -104,8 +81,7 @@ fn plain_front(octets: &[u8]) -> Option<(Plain, &[u8])>
 {
     let (at, rest) = front_time(octets)?;
     if let Some(digits) = after(rest, b"turn ") {
-        let (node, rest) = front_digits(digits)?;
-        let node = long_of(node)?;
+        let (node, rest) = front_member(digits)?;
         return Some((Plain::Turn { at, node }, rest));
     }
     let digits = after(rest, b"take ")?;
@@ -145,7 +121,7 @@ fn port_of(word: &[u8]) -> Option<Port>
         → result ≡ Some port }
 {
     let number = number_of(word)?;
-    let port = u8::try_from(number).ok()?;
+    let port = octet_of(number)?;
     if port == 0 {
         return None;
     }
@@ -174,8 +150,7 @@ fn front_node(line: &[u8]) -> Option<(u32, Port, &[u8])>
         → line.now ≡ (decimal node ++ port_text port) ++ 32 ∷ rest
         → IsSomeAnd result (λ r. (r.0 ≡ node) × (r.1 ≡ port) × (r.2.now ≡ rest)) }
 {
-    if let Some((node, rest)) = front_number(line) {
-        let node = long_of(node)?;
+    if let Some((node, rest)) = front_long(line) {
         return Some((node, Port(0), rest));
     }
     let (word, rest) = front_word(line)?;
@@ -184,7 +159,7 @@ fn front_node(line: &[u8]) -> Option<(u32, Port, &[u8])>
 }
 
 /// The place before the first space, and what follows the space.
-fn front_place(line: &[u8]) -> Option<(Place, &[u8])>
+pub(crate) fn front_place(line: &[u8]) -> Option<(Place, &[u8])>
     ensures found { IfSome result (λ r. IsPlace r.0
         × (line.now ≡ place_text r.0 ++ 32 ∷ r.1.now)) }
     ensures reads { (p : Place) (rest : List ℕ) → IsPlace p → line.now ≡ place_text p ++ 32 ∷ rest
@@ -193,8 +168,7 @@ fn front_place(line: &[u8]) -> Option<(Place, &[u8])>
     if let Some(rest) = after(line, b"- ") {
         return Some((Place::Stranger, rest));
     }
-    let (number, rest) = front_number(line)?;
-    let number = long_of(number)?;
+    let (number, rest) = front_long(line)?;
     Some((Place::Peer(PeerId(number)), rest))
 }
 
@@ -262,8 +236,7 @@ fn boot_line(line: &[u8]) -> Option<Event>
 {
     let (at, line) = front_time(line)?;
     let line = after(line, b"boot ")?;
-    let (node, line) = front_number(line)?;
-    let node = long_of(node)?;
+    let (node, line) = front_long(line)?;
     let word = number_of(line)?;
     Some(Event::Boot { at, node, word })
 }

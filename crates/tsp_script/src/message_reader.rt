@@ -11,7 +11,7 @@ ghost use Rattle.tsp_script.specs.Texts.{body_text, name_text, message_text, Rea
 
 use crate::line_fault::LineFault;
 use crate::names::name_of;
-use crate::numbers::{front_number, front_signed, number_of, short_of, signed_of};
+use crate::numbers::{front_number, front_signed, number_of, octet_of, short_of, signed_of};
 use crate::words::{cut, is_same};
 use tsp_base::datagram::Datagram;
 use tsp_base::kind::Kind;
@@ -113,7 +113,7 @@ fn next_hops(line: &[u8]) -> Option<(Body, &[u8])>
         → IsSomeAnd result (λ r. (r.0 ≡ body) × (r.1.now ≡ rest)) }
 {
     let (hops, rest) = front_number(line)?;
-    let hops = u8::try_from(hops).ok()?;
+    let hops = octet_of(hops)?;
     Some((Body::Hops(hops), rest))
 }
 

@@ -13,7 +13,8 @@ use arrayvec::ArrayVec;
 use tsp_base::members::{Members, is_ascending};
 
 /// The number that a text begins with, and what follows it; None exactly where no number of 32 bits is written so.
-fn front_member(text: &[u8]) -> Option<(u32, &[u8])>
+#[inline(always)]
+pub(crate) fn front_member(text: &[u8]) -> Option<(u32, &[u8])>
     ensures found { IfSome result (λ r. (r.0 < 2 ^ 32) × NoDigit r.1.now
         × (text.now ≡ decimal r.0 ++ r.1.now)) }
     ensures none { IfNone result ((n : ℕ) (rest : List ℕ) → n < 2 ^ 32 → NoDigit rest

@@ -91,6 +91,16 @@ pub fn number_of(word: &[u8]) -> Option<u64>
     if rest.is_empty() { Some(number) } else { None }
 }
 
+/// The number of 32 bits that a word names.
+pub(crate) fn long_number(word: &[u8]) -> Option<u32>
+    ensures reads { (n : ℕ) → n < 2 ^ 32 → word.now ≡ decimal n → result ≡ Some n }
+    ensures spells { IfSome result (λ n. word.now ≡ decimal n) }
+    ensures range { IfSome result (λ n. n < 2 ^ 32) }
+{
+    let number = number_of(word)?;
+    long_of(number)
+}
+
 /// The number of a decimal text, with a dash where it is negative; None exactly where no number of 64 bits is
 /// written so, for instance with a plus, a leading zero or a negative zero.
 pub fn signed_of(word: &[u8]) -> Option<i64>
@@ -163,6 +173,18 @@ pub(crate) fn front_number(line: &[u8]) -> Option<(u64, &[u8])>
     Some((number, rest))
 }
 
+/// The number of 32 bits before the first space, and what follows the space; None where there is no space.
+#[inline(always)]
+pub(crate) fn front_long(line: &[u8]) -> Option<(u32, &[u8])>
+    ensures found { IfSome result (λ r. (r.0 < 2 ^ 32)
+        × (line.now ≡ decimal r.0 ++ 32 ∷ r.1.now)) }
+    ensures reads { (n : ℕ) (rest : List ℕ) → n < 2 ^ 32 → line.now ≡ decimal n ++ 32 ∷ rest
+        → IsSomeAnd result (λ r. (r.0 ≡ n) × (r.1.now ≡ rest)) }
+{
+    let (number, rest) = front_number(line)?;
+    Some((long_of(number)?, rest))
+}
+
 /// The number, maybe with a dash, before the first space, and what follows the space; None where there is no
 /// space.
 pub(crate) fn front_signed(line: &[u8]) -> Option<(i64, &[u8])>
@@ -174,6 +196,14 @@ pub(crate) fn front_signed(line: &[u8]) -> Option<(i64, &[u8])>
     let (word, rest) = front_word(line)?;
     let number = signed_of(word)?;
     Some((number, rest))
+}
+
+/// The number as 8 bits; None where it is above 255.
+pub(crate) fn octet_of(number: u64) -> Option<u8>
+    ensures fits { number < 2 ^ 8 → result ≡ Some number }
+    ensures same { IfSome result (λ n. (n ≡ number) × (n < 2 ^ 8)) }
+{
+    u8::try_from(number).ok()
 }
 
 /// The number as 16 bits; None where it is above 65,535.

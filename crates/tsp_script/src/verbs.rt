@@ -6,7 +6,7 @@ ghost use Rattle.tsp_script.specs.declared.verbs.Verb.{Verb};
 use crate::words::is_same;
 
 /// The word that an act's text begins with.
-#[derive(Clone, Copy, PartialEq, Eq, Debug)]
+#[derive(Clone, Copy)]
 pub enum Verb {
     /// `boot`
     Boot,

@@ -1,4 +1,4 @@
-use Rattle.std.proofs.Common.{◌≡◌, ◌∙◌, ap, arith}
+use Rattle.std.proofs.Common.{arith}
 use Rattle.tsp_script.proofs.FrontDigits.{digits_split, if_found, if_unfound}
 use Rattle.tsp_script.proofs.digit_reader.digits_behind.Goals as goal
 

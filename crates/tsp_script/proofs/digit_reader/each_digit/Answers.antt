@@ -1,4 +1,4 @@
-use Rattle.std.proofs.Common.{refl, arith}
+use Rattle.std.proofs.Common.{arith}
 use Rattle.tsp_script.proofs.FrontDigits.{digit_taken, too_large}
 use Rattle.tsp_script.proofs.Outcomes.{if_none}
 use Rattle.tsp_script.proofs.digit_reader.each_digit.Goals as goal

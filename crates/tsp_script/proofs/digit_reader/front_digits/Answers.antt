@@ -1,4 +1,4 @@
-use Rattle.std.proofs.Common.{◌≡◌, ◌+◌, ◌∷◌, ap, arith, subst}
+use Rattle.std.proofs.Common.{arith}
 use Rattle.tsp_script.proofs.FrontDigits.{digit_and, no_number, no_leading_zero, zero_first, if_found, if_unfound}
 use Rattle.tsp_script.proofs.Outcomes.{if_none}
 use Rattle.tsp_script.proofs.digit_reader.front_digits.Goals as goal

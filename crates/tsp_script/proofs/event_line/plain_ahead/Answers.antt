@@ -1,4 +1,4 @@
-use Rattle.std.proofs.Common.{◌∙◌, ◌++◌, ◌∷◌, List, ℕ, [], ap, refl, length, arith, length-append}
+use Rattle.std.proofs.Common.{◌∙◌, ◌++◌, ◌∷◌, List, ℕ, [], ap, length, arith, length-append}
 use Rattle.tsp_base.specs.Words.{event_in}
 use Rattle.tsp_script.specs.Schedules.{event_text}
 use Rattle.tsp_script.proofs.PlainLines.{no_feed-plain, octets_passed, plain_spells}

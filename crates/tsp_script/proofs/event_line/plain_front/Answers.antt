@@ -1,11 +1,6 @@
-use Rattle.std.proofs.Common.{◌≡◌, ◌∙◌, ◌++◌, ◌∷◌, ap, sym, arith, List, ℕ}
-use Rattle.std.specs.Prelude.{decimal, codes}
-use Rattle.tsp_base.specs.declared.plain.Plain.TheVariants.{Turn, Take}
+use Rattle.std.proofs.Common.{◌∙◌}
 use Rattle.tsp_base.specs.Words.{event_in}
-use Rattle.tsp_script.specs.Schedules.{IsEvent}
 use Rattle.tsp_script.proofs.EventLines.{at_of, IsTrueTime-at_of}
-use Rattle.tsp_script.proofs.Outcomes.{none_not_some}
-use Rattle.tsp_script.proofs.FrontDigits.{front_one}
 use Rattle.tsp_script.proofs.PlainLines.{behind_time, none_plain, plain_parts, turn_node, turn_parts, turn_written, take_datagram, take_parts, take_written, no_plain}
 use Rattle.tsp_script.proofs.event_line.plain_front.Goals as goal
 
@@ -17,22 +12,12 @@ pub returns-in_err-node-clause-none : goal.returns-in_err-node-clause-none
 returns-in_err-node-clause-none c = none_plain c.args.octets.now _ (λ plain rest i e d l.
     let a = c.in_ok-at.ensures.reads (at_of (event_in plain)) (behind_time plain rest) (IsTrueTime-at_of (event_in plain) e) (l ∙ plain_parts plain rest i) in
     let t = turn_parts c.in_ok-at.rest.now c.in-Some.digits.now rest plain i c.in-Some.ensures a.1 in
-    c.in_err-node.ensures.none t.1 rest (omega (arith, turn_node plain t.0 t.1 t.2 e)) d t.3)
-
-pub returns-in_err-node-2-clause-none : goal.returns-in_err-node-2-clause-none
-returns-in_err-node-2-clause-none c = none_plain c.args.octets.now _ (λ plain rest i e d l.
-    let a = c.in_ok-at.ensures.reads (at_of (event_in plain)) (behind_time plain rest) (IsTrueTime-at_of (event_in plain) e) (l ∙ plain_parts plain rest i) in
-    let t = turn_parts c.in_ok-at.rest.now c.in-Some.digits.now rest plain i c.in-Some.ensures a.1 in
-    let n = turn_node plain t.0 t.1 t.2 e in
-    let f = c.in_ok-node.ensures.found in
-    let o = front_one c.in_ok-node.node t.1 c.in_ok-node.rest.now rest f.0 (omega (arith, n)) f.1 d (sym f.2 ∙ t.3) in
-    none_not_some _ (c.in_err-node-2.ensures.fits (omega (arith, o.0, n))))
+    c.in_err-node.ensures.none t.1 rest (turn_node plain t.0 t.1 t.2 e) d t.3)
 
 pub returns-in-Some-clause-found : goal.returns-in-Some-clause-found
 returns-in-Some-clause-found c =
     let f = c.in_ok-node.ensures.found in
-    let s = c.in_ok-node-2.ensures.same in
-    (tt, (c.in_ok-at.ensures.found.0, s.1), f.1, turn_written c.in_ok-at.at c.in_ok-node-2.node c.in_ok-node.node c.args.octets.now c.in_ok-at.rest.now c.in-Some.digits.now c.in_ok-node.rest.now c.in_ok-at.ensures.found.1 c.in-Some.ensures f.2 s.0)
+    (tt, (c.in_ok-at.ensures.found.0, f.0), f.1, turn_written c.in_ok-at.at c.in_ok-node.node c.args.octets.now c.in_ok-at.rest.now c.in-Some.digits.now c.in_ok-node.rest.now c.in_ok-at.ensures.found.1 c.in-Some.ensures f.2)
 
 pub returns-in_err-digits-clause-none : goal.returns-in_err-digits-clause-none
 returns-in_err-digits-clause-none c = none_plain c.args.octets.now _ (λ plain rest i e d l.

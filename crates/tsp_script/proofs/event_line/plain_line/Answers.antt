@@ -1,6 +1,4 @@
-use Rattle.std.proofs.Common.{◌∙◌, ap, sym, Some, [], append-nil, refl, length, ◌<◌, rules, arith}
-use Rattle.tsp_base.specs.Words.{event_in}
-use Rattle.tsp_script.specs.Schedules.{event_text}
+use Rattle.std.proofs.Common.{ap, Some, [], length, ◌<◌, rules, arith}
 use Rattle.tsp_script.proofs.FrontDigits.{NoDigit-nil}
 use Rattle.tsp_script.proofs.PlainLines.{plain_alone, plain_one, plain_spelled}
 use Rattle.tsp_script.proofs.event_line.plain_line.Goals as goal

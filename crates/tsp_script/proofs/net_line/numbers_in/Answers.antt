@@ -1,5 +1,7 @@
-use Rattle.std.proofs.Common.{rules, arith}
-use Rattle.tsp_script.proofs.NetLines.{All-small, first_read, next_read, no_next, text-more}
+use Rattle.std.proofs.Common.{rules, arith, ◌++◌}
+use Rattle.std.specs.Prelude.{decimal}
+use Rattle.tsp_script.specs.Schedules.{numbers_text}
+use Rattle.tsp_script.proofs.NetLines.{All-small, first_read, next_read, next_there, no_first, no_next, text-more}
 use Rattle.tsp_script.proofs.net_line.numbers_in.Goals as goal
 
 pub loop-rest-init : goal.loop-rest-init
@@ -11,6 +13,14 @@ loop-rest-init c =
       some = omega arith;
       small = search rules;
     })
+
+pub returns-in_err-first-clause-reads : goal.returns-in_err-first-clause-reads
+returns-in_err-first-clause-reads c = λ ns h e. absurd (no_first ns c.args.text.now h e c.in_err-first.ensures.none)
+
+pub returns-in_err-next-clause-reads : goal.returns-in_err-next-clause-reads
+returns-in_err-next-clause-reads c = λ ns h e.
+    let t = next_there ns c.loop-rest.numbers.items c.loop-rest.rest.now h.small (search rules) (c.loop-rest.invariant.reads ns h e) in
+    absurd (c.in_err-next.ensures (decimal t.0 ++ numbers_text t.1) t.4)
 
 pub returns-in_err-number-clause-reads : goal.returns-in_err-number-clause-reads
 returns-in_err-number-clause-reads c = λ ns h e.
