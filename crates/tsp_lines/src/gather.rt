@@ -11,7 +11,7 @@ use tsp_io::source::{Got, Source};
 const ROOM: usize = 65536;
 
 /// Why an input couldn't be read whole.
-#[derive(Clone, Copy, PartialEq, Eq, Debug)]
+#[derive(Clone, Copy)]
 pub(crate) enum Ungathered {
     /// A read failed.
     ReadFault,

@@ -1,7 +1,7 @@
 //! What a reader of lines gives.
 
 /// What a reader of lines gives.
-#[derive(Clone, Copy, PartialEq, Eq, Debug)]
+#[derive(Clone, Copy)]
 pub enum Next {
     /// A line that a line feed ended.
     Line,
@@ -20,7 +20,7 @@ pub enum Next {
 }
 
 /// Whether there is more of the input.
-#[derive(Clone, Copy, PartialEq, Eq, Debug)]
+#[derive(Clone, Copy)]
 pub enum Fill {
     /// There is at least one octet.
     More,

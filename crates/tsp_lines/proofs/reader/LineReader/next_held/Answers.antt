@@ -33,3 +33,17 @@ returns-then-self-place-clause-next c =
 
 pub returns-clause-next : goal.returns-clause-next
 returns-clause-next c = (c.give.ensures.next, c.give.ensures.same.2, c.give.ensures.same.3)
+
+pub returns-clause-same : goal.returns-clause-same
+returns-clause-same c =
+    let got : c.self.inside.got ≡ c.args.self.now.got = ap (λ v. v.got) c.self.view_is in
+    let limit : c.self.inside.limit ≡ c.args.self.now.limit = ap (λ v. v.limit) c.self.view_is in
+    let same = c.give.ensures.same in
+    (same.0, same.1, omega (arith, same.0, same.1, got, limit, c.self.invariant.5))
+
+pub give-requires-clause-most : goal.give-requires-clause-most
+give-requires-clause-most c =
+    let got : c.self.inside.got ≡ c.args.self.now.got = ap (λ v. v.got) c.self.view_is in
+    let limit : c.self.inside.limit ≡ c.args.self.now.limit = ap (λ v. v.limit) c.self.view_is in
+    let held : slice_range c.self.inside.buf.items c.self.inside.at c.self.inside.end ≡ c.args.self.now.held = ap (λ v. v.held) c.self.view_is in
+    (omega (arith, got, limit, c.self.invariant.5), omega (arith, ap length held, held_length c.self.inside.buf.items c.self.inside.at c.self.inside.end, c.self.invariant.4))
