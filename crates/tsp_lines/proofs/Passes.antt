@@ -1,11 +1,12 @@
 -- Laws of a long line that is passed over.
-use Rattle.std.proofs.Common.{◌≡◌, ◌≢◌, ℕ, ◌<◌, ◌+◌, List, [], ◌∷◌, ◌++◌, sym, ap, ◌∙◌, append_assoc, append-nil, length, take, arith, length-append, inl, inr, subst}
+use Rattle.std.proofs.Common.{◌≡◌, ◌≢◌, ℕ, ◌<◌, ◌+◌, List, [], ◌∷◌, ◌++◌, sym, ap, ◌∙◌, append_assoc, append-nil, length, take, arith, length-append, inl, inr, subst, true}
 use Rattle.std.proofs.lemmas.List.{take-append-le}
 use Rattle.std.proofs.lemmas.List.Elements.{Contains-append_cases}
 use Rattle.std.specs.declared.option.Option.{Option}
 use Rattle.tsp_io.specs.Streams.{Gives}
 use Rattle.tsp_lines.specs.Lines.{NoFeed, close}
-use Rattle.tsp_lines.specs.Readings.{ReaderValue, IsNext, IsPassed}
+use Rattle.tsp_lines.specs.Readings.{ReaderValue, IsNext, IsPassed, is_over}
+use Rattle.tsp_lines.specs.declared.next.Fill.TheVariants.{More, Over, NotRead}
 use Rattle.tsp_lines.specs.declared.next.Next.{Next}
 use Rattle.tsp_lines.specs.declared.next.Next.TheVariants.{Line, Last, Long, LongLast, End, Limit, Failed}
 use Rattle.tsp_lines.proofs.Streams.{Gives-trans}
@@ -62,3 +63,13 @@ next_more a b c r held octets now more got n g f h e p = (
 
 pub Limit-Failed : Limit ≢ Failed
 Limit-Failed = λ e. cc
+
+pub More-NotRead : More ≢ NotRead
+More-NotRead = λ e. cc
+
+pub Over-NotRead : Over ≢ NotRead
+Over-NotRead = λ e. cc
+
+-- what is given at the input's end isn't a failed read
+pub over_not_failed : (n : Next) → is_over n ≡ true → n ≢ Failed
+over_not_failed n o e = let f = rw e at o in cc

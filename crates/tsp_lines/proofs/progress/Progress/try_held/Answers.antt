@@ -3,8 +3,7 @@ use Rattle.std.proofs.Common.{ap, subst, refl, arith, [], ◌∷◌, ◌++◌, E
 use Rattle.tsp_lines.specs.Lines.{IsFront}
 use Rattle.tsp_lines.specs.Meanings.{BreaksOff, Tried}
 use Rattle.tsp_lines.specs.Readings.{ReaderValue}
-use Rattle.tsp_lines.proofs.Outputs.{Grows-nil}
-use Rattle.tsp_lines.proofs.Turns.{IsAt-front, IsAt-same, Comes-broken}
+use Rattle.tsp_lines.proofs.Turns.{IsAt-front, Comes-broken}
 use Rattle.tsp_lines.proofs.progress.Progress.try_held.Goals as goal
 
 pub returns-in-Ok-Some-clause-tries : goal.returns-in-Ok-Some-clause-tries
@@ -28,32 +27,3 @@ returns-in-Err-clause-tries g c = λ input left written lines text at.
     Comes-broken g.T.Treatment.meaning _ input left written _ _ c.args.self.now.reader c.args.self.now.output _ c.args.self.now.number lines text c.in-Err.fault at at.stands.1 (omega arith)
     (subst (λ octets. BreaksOff g.T.Treatment.meaning lines text octets (g.K.Sink.written c.args.sink.now) c.args.self.now.output (g.K.Sink.written c.try_front.new.sink) c.try_front.new.output) c.octets.ensures (c.in-Err.ensures.tries lines text at.stands.0 at.accepted at.stands.1))
     (λ e. (c.in-Err.ensures.cause (ap Err e)).1)
-
-pub returns-in-Ok-None-clause-tries : goal.returns-in-Ok-None-clause-tries
-returns-in-Ok-None-clause-tries g c = λ input left written lines text at.
-    let m = g.T.Treatment.meaning in
-    let t = subst (λ front. Tried m (g.T.Treatment.stands c.try_front.new.self) lines text c.octets.result.now (g.K.Sink.written c.args.sink.now) c.args.self.now.output (g.K.Sink.written c.try_front.new.sink) c.try_front.new.output front) c.in-Ok-None.field-0-is (c.in-Ok-None.ensures.tries lines text at.stands.0 at.accepted at.stands.1) in
-    IsAt-same m _ _ input left written _ _ c.args.self.now.reader c.args.self.now.output _ c.args.self.now.number lines text at (t.0, at.stands.1) t.1 t.2
-
-pub returns-then-not-is_within-clause-tries : goal.returns-then-not-is_within-clause-tries
-returns-then-not-is_within-clause-tries g c = λ input left written lines text at. at
-
-pub returns-in-Ok-Some-clause-grew : goal.returns-in-Ok-Some-clause-grew
-returns-in-Ok-Some-clause-grew g c = λ lines text stands accepted.
-    let m = g.T.Treatment.meaning in
-    let t = subst (λ front. Tried m (g.T.Treatment.stands c.try_front.new.self) lines text c.octets.result.now (g.K.Sink.written c.args.sink.now) c.args.self.now.output (g.K.Sink.written c.try_front.new.sink) c.try_front.new.output front) c.in-Ok-Some.field-0-is (c.in-Ok-Some.ensures.tries lines text stands.0 accepted stands.1) in
-    (t.2.1.0, t.2.1.1)
-
-pub returns-in-Ok-None-clause-grew : goal.returns-in-Ok-None-clause-grew
-returns-in-Ok-None-clause-grew g c = λ lines text stands accepted.
-    let m = g.T.Treatment.meaning in
-    let t = subst (λ front. Tried m (g.T.Treatment.stands c.try_front.new.self) lines text c.octets.result.now (g.K.Sink.written c.args.sink.now) c.args.self.now.output (g.K.Sink.written c.try_front.new.sink) c.try_front.new.output front) c.in-Ok-None.field-0-is (c.in-Ok-None.ensures.tries lines text stands.0 accepted stands.1) in
-    ([], rw t.1 (Grows-nil _))
-
-pub returns-in-Err-clause-grew : goal.returns-in-Err-clause-grew
-returns-in-Err-clause-grew g c = λ lines text stands accepted.
-    let b = c.in-Err.ensures.tries lines text stands.0 accepted stands.1 in
-    (b.3.1.0, b.3.1.1)
-
-pub returns-then-not-is_within-clause-grew : goal.returns-then-not-is_within-clause-grew
-returns-then-not-is_within-clause-grew g c = λ lines text stands accepted. ([], Grows-nil _)
