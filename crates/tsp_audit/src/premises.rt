@@ -3,7 +3,7 @@ ghost use Rattle.std.specs.Prelude.{MatchBool};
 ghost use Rattle.tsp_audit.specs.Parts.{AllKept};
 
 /// Which premises the whole input keeps: not only the events up to the one at hand.
-#[derive(Clone, Copy, PartialEq, Eq, Debug)]
+#[derive(Clone, Copy)]
 pub struct Premises {
     /// No octets from outside are handed to a node as a peer's.
     pub honest: bool,

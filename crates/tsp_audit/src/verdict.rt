@@ -3,7 +3,7 @@ ghost use Rattle.std.specs.Prelude.{◌≡◌};
 ghost use Rattle.tsp_audit.specs.Named.{named};
 
 /// The verdict on a claimed history.
-#[derive(Clone, Copy, PartialEq, Eq, Debug)]
+#[derive(Clone, Copy, PartialEq, Eq)]
 pub enum Verdict {
     /// All parts hold.
     Holds,
@@ -16,7 +16,7 @@ pub enum Verdict {
 }
 
 /// The first failure of a claimed history.
-#[derive(Clone, Copy, PartialEq, Eq, Debug)]
+#[derive(Clone, Copy, PartialEq, Eq)]
 pub struct Failure {
     /// The number of the least part that fails.
     pub part: u32,
