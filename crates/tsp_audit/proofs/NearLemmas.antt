@@ -45,6 +45,13 @@ boss-told header t spare n a states c b true ac bat st near = λ e f ae fat left
     subst₂ (λ (x : RoundCorrection) (y : NodeState). MasterNear header t spare n a x y) ce bf near)
 boss-told header t spare n a states c b false ac bat st far = λ agrees. far (agrees c b ac bat st)
 
+-- a node agrees with a master that wasn't left alone, whatever that shows
+pub boss-moved : (header : HeaderValue) (t spare n : ℕ) (a : NodeState) (states : List NodeState) (c : RoundCorrection) (b : NodeState) → a.from_round ≡ Some c → IsAtPlace states c.master b → (FromRoundStands c b → ⊥) → BossAgrees header t spare n a states
+boss-moved header t spare n a states c b ac bat moved = λ e f ae fat left.
+    (let ce : c ≡ e = some-same a.from_round c e ac ae in
+    let bf : b ≡ f = same-state states c.master b f bat (subst (λ (x : RoundCorrection). IsAtPlace states x.master f) (sym ce) fat) in
+    absurd (moved (subst₂ (λ (x : RoundCorrection) (y : NodeState). FromRoundStands x y) (sym ce) (sym bf) left)))
+
 near-turned : (x y m w : ℤ) → pos (nat_abs (x -ℤ y)) ≤ℤ m → m ≡ w → pos (nat_abs (y -ℤ x)) ≤ℤ w
 near-turned x y m w near same = omega (arith, ints, near, same)
 

@@ -5,7 +5,7 @@ use Rattle.tsp_audit.specs.Standings.{StandsAs}
 use Rattle.tsp_audit.specs.declared.round_correction.NodeState.{NodeState}
 use Rattle.tsp_audit.specs.declared.shown.Standing.{Standing}
 use Rattle.tsp_audit.proofs.AgreementSteps.{here-at}
-use Rattle.tsp_audit.proofs.NearLemmas.{boss-told}
+use Rattle.tsp_audit.proofs.NearLemmas.{boss-moved, boss-told}
 use Rattle.tsp_audit.proofs.nearness.master_agrees.Goals as goal
 
 pub returns-then-stands : goal.returns-then-stands
@@ -23,3 +23,12 @@ returns-then-stands c header at spare all is sums =
     let left : FromRoundStands x boss = c.if-stands.ensures in
     boss-told header at spare c.args.node c.args.a.now c.args.states.now x boss c.master_near.result ac bat left
     (c.master_near.ensures c.args.a.now boss x ac header at spare c.args.node mine theirs (sums c.args.node c.args.a.now is) (sums x.master boss bat))
+
+pub returns-else-stands : goal.returns-else-stands
+returns-else-stands c header at spare all is sums =
+    let none : NodeState = record { moved = pos 0; lives = 0; corrects = 0; after = None; from_round = None } in
+    let x = c.in-Some.c in
+    let ac : c.args.a.now.from_round ≡ Some x = search rules in
+    let lt : x.master < length c.args.states.now = omega arith in
+    let boss : NodeState = get_or c.args.states.now x.master none in
+    boss-moved header at spare c.args.node c.args.a.now c.args.states.now x boss ac (here-at c.args.states.now x.master none lt) c.if-stands.ensures
