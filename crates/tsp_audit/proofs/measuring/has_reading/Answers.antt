@@ -1,4 +1,4 @@
-use Rattle.std.proofs.Common.{◌≡◌, ◌≤◌, ℤ, rules, get_or, subst₂, to_z, of_z, MatchBool}
+use Rattle.std.proofs.Common.{◌≡◌, ◌≤◌, ℤ, rules, get_or, subst₂, to_z, of_z, MatchBool, sym}
 use Rattle.std.specs.Int.{w64, w128}
 use Rattle.tsp_history.specs.declared.line.HistoryLine.{HistoryLine}
 use Rattle.tsp_history.specs.Histories.{history_of, line_of}
@@ -13,9 +13,9 @@ returns-in-None c setting has timely = read-none setting (line_of c.args.line.no
 
 pub returns-in-Some : goal.returns-in-Some
 returns-in-Some c setting has timely =
-    let at : RepliesAt c.args.lines.now (line_of c.args.line.now) c.args.peer c.in-Some.index = search rules in
+    let at : RepliesAt c.args.lines.now (line_of c.args.line.now) c.args.peer c.in-Some.index = c.in-Some.ensures in
     let noted : HistoryLine = c.index-lines-index.result in
-    let here : get_or c.args.lines.now c.in-Some.index noted ≡ noted = search rules in
+    let here : get_or c.args.lines.now c.in-Some.index noted ≡ noted = sym c.index-lines-index.is in
     let soon : noted.at ≤ 1000000000000000 = at-line (λ l before. l.did.step.at ≤ 1000000000000000) c.args.lines.now c.in-Some.index noted at.below here timely in
     let diff : to_z w64 (of_z w64 c.args.diff) ≡ c.args.diff = search rules in
     let err : to_z w64 (of_z w64 c.args.err) ≡ c.args.err = search rules in

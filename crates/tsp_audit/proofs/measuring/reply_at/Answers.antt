@@ -1,4 +1,4 @@
-use Rattle.std.proofs.Common.{◌≡◌, rules, get_or}
+use Rattle.std.proofs.Common.{◌≡◌, get_or, sym}
 use Rattle.tsp_history.specs.declared.line.HistoryLine.{HistoryLine}
 use Rattle.tsp_history.specs.Histories.{history_of, line_of}
 use Rattle.tsp_audit.specs.Acting.{CameAt}
@@ -11,16 +11,16 @@ returns-in-None c = replies-none (line_of c.args.line.now) (history_of c.args.li
 
 pub returns-else-replies_to : goal.returns-else-replies_to
 returns-else-replies_to c =
-    let came : CameAt c.args.lines.now (line_of c.args.line.now) c.in-Some.index = search rules in
+    let came : CameAt c.args.lines.now (line_of c.args.line.now) c.in-Some.index = c.in-Some.ensures in
     let noted : HistoryLine = c.index-lines-index.result in
-    let here : get_or c.args.lines.now c.in-Some.index noted ≡ noted = search rules in
-    let other : RepliesTo (line_of noted) c.args.peer c.args.line.now.node → ⊥ = search rules in
+    let here : get_or c.args.lines.now c.in-Some.index noted ≡ noted = sym c.index-lines-index.is in
+    let other : RepliesTo (line_of noted) c.args.peer c.args.line.now.node → ⊥ = c.if-replies_to.ensures in
     replies-other c.args.lines.now (line_of c.args.line.now) c.args.peer c.in-Some.index noted came here other
 
 pub returns-then-replies_to : goal.returns-then-replies_to
 returns-then-replies_to c =
-    let came : CameAt c.args.lines.now (line_of c.args.line.now) c.in-Some.index = search rules in
+    let came : CameAt c.args.lines.now (line_of c.args.line.now) c.in-Some.index = c.in-Some.ensures in
     let noted : HistoryLine = c.index-lines-index.result in
-    let here : get_or c.args.lines.now c.in-Some.index noted ≡ noted = search rules in
-    let posts : RepliesTo (line_of noted) c.args.peer c.args.line.now.node = search rules in
+    let here : get_or c.args.lines.now c.in-Some.index noted ≡ noted = sym c.index-lines-index.is in
+    let posts : RepliesTo (line_of noted) c.args.peer c.args.line.now.node = c.if-replies_to.ensures in
     replies-found c.args.lines.now (line_of c.args.line.now) c.args.peer c.in-Some.index noted came here posts

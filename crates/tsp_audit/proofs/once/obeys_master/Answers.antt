@@ -1,4 +1,4 @@
-use Rattle.std.proofs.Common.{◌≡◌, ℤ, rules, get_or, subst₂, to_z, of_z, MatchBool}
+use Rattle.std.proofs.Common.{◌≡◌, ℤ, rules, get_or, subst₂, to_z, of_z, MatchBool, sym}
 use Rattle.std.specs.Int.{w64, w128}
 use Rattle.tsp_history.specs.declared.line.HistoryLine.{HistoryLine}
 use Rattle.tsp_history.specs.Histories.{deed_of, line_of}
@@ -11,17 +11,17 @@ returns-in-None c setting has timely o = c.in-None.ensures o.post o.older o.brin
 
 pub returns-then-post-master : goal.returns-then-post-master
 returns-then-post-master c setting has timely =
-    let brings : BringsAt c.args.lines.now (line_of c.args.line.now) c.in-Some.index = search rules in
+    let brings : BringsAt c.args.lines.now (line_of c.args.line.now) c.in-Some.index = c.in-Some.ensures in
     let noted : HistoryLine = c.index-lines-index.result in
-    let here : get_or c.args.lines.now c.in-Some.index noted ≡ noted = search rules in
+    let here : get_or c.args.lines.now c.in-Some.index noted ≡ noted = sym c.index-lines-index.is in
     let other : noted.node ≡ c.args.master.0 → ⊥ = search rules in
     obeys-not setting c.args.lines.now (line_of c.args.line.now) c.args.amount c.args.master c.in-Some.index noted brings here (λ same moves. other same)
 
 pub returns-else-post-master : goal.returns-else-post-master
 returns-else-post-master c setting has timely =
-    let brings : BringsAt c.args.lines.now (line_of c.args.line.now) c.in-Some.index = search rules in
+    let brings : BringsAt c.args.lines.now (line_of c.args.line.now) c.in-Some.index = c.in-Some.ensures in
     let noted : HistoryLine = c.index-lines-index.result in
-    let here : get_or c.args.lines.now c.in-Some.index noted ≡ noted = search rules in
+    let here : get_or c.args.lines.now c.in-Some.index noted ≡ noted = sym c.index-lines-index.is in
     let same : noted.node ≡ c.args.master.0 = search rules in
     let amount : to_z w64 (of_z w64 c.args.amount) ≡ c.args.amount = search rules in
     let target : to_z w128 (of_z w128 c.clock_at-target.result) ≡ c.clock_at-target.result = search rules in

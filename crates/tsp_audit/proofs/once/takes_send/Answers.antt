@@ -1,4 +1,4 @@
-use Rattle.std.proofs.Common.{◌≡◌, rules, get_or}
+use Rattle.std.proofs.Common.{◌≡◌, get_or, sym}
 use Rattle.tsp_history.specs.declared.line.HistoryLine.{HistoryLine}
 use Rattle.tsp_history.specs.Histories.{deed_of, history_of, line_of}
 use Rattle.tsp_audit.specs.Acting.{ActsNow, BringsAt, IsNumbered}
@@ -11,19 +11,19 @@ returns-in-None c s t = c.in-None.ensures t.post t.older t.acts.brings
 
 pub returns-then-is_numbered : goal.returns-then-is_numbered
 returns-then-is_numbered c =
-    let brings : BringsAt c.args.lines.now (line_of c.args.line.now) c.in-Some.index = search rules in
+    let brings : BringsAt c.args.lines.now (line_of c.args.line.now) c.in-Some.index = c.in-Some.ensures in
     let noted : HistoryLine = c.index-lines-index.result in
-    let here : get_or c.args.lines.now c.in-Some.index noted ≡ noted = search rules in
-    let acts : ActsNow (line_of c.args.line.now) (history_of c.args.lines.now) = search rules in
-    let numbered : IsNumbered (deed_of noted.act) = search rules in
+    let here : get_or c.args.lines.now c.in-Some.index noted ≡ noted = sym c.index-lines-index.is in
+    let acts : ActsNow (line_of c.args.line.now) (history_of c.args.lines.now) = c.if-not-acts.ensures in
+    let numbered : IsNumbered (deed_of noted.act) = c.if-is_numbered.ensures in
     takes-decide c.args.lines.now (line_of c.args.line.now) c.in-Some.index noted c.begun_to.result brings here acts numbered c.begun_to.ensures
 
 pub returns-else-is_numbered : goal.returns-else-is_numbered
 returns-else-is_numbered c s =
-    let brings : BringsAt c.args.lines.now (line_of c.args.line.now) c.in-Some.index = search rules in
+    let brings : BringsAt c.args.lines.now (line_of c.args.line.now) c.in-Some.index = c.in-Some.ensures in
     let noted : HistoryLine = c.index-lines-index.result in
-    let here : get_or c.args.lines.now c.in-Some.index noted ≡ noted = search rules in
-    let other : IsNumbered (deed_of noted.act) → ⊥ = search rules in
+    let here : get_or c.args.lines.now c.in-Some.index noted ≡ noted = sym c.index-lines-index.is in
+    let other : IsNumbered (deed_of noted.act) → ⊥ = c.if-is_numbered.ensures in
     takes-unnumbered c.args.lines.now (line_of c.args.line.now) c.in-Some.index noted s brings here other
 
 pub begun_to-requires : goal.begun_to-requires
