@@ -1,0 +1,13 @@
+-- Errors and drifts are far less than what 128 bits hold.
+use Rattle.std.proofs.Common.{arith}
+use Rattle.std.proofs.lemmas.Int.{ints}
+use Rattle.tsp_audit.proofs.standing.reach.Goals as goal
+
+pub overflow_sub-result : goal.overflow_sub-result
+overflow_sub-result c = omega (arith, ints)
+
+pub overflow_add-result : goal.overflow_add-result
+overflow_add-result c = omega (arith, ints)
+
+pub overflow_add-result-2 : goal.overflow_add-result-2
+overflow_add-result-2 c = omega (arith, ints)
