@@ -90,7 +90,8 @@ module _ (header : HeaderValue) (events : List Event) (claims : Claims) (ends : 
         (subst (λ es. FitAtHand header (claims_on events ends claims) es pending) (ahead-at events (length ends) e at) s.at_hand)
         (subst (λ t. lacks e t ≡ false) s.tally_is none)
 
-    at-listed : IsListed (length header.nodes) e
+    -- it is at a time of a schedule, and its node exists
+    pub at-listed : IsListed (length header.nodes) e
     at-listed = subst (λ x. IsListed (length header.nodes) x) (get_or_from_slice_get events (length ends) e e at) (s.listed.1 (length ends) e (slice_get_within events (length ends) e at))
 
     -- it is passed

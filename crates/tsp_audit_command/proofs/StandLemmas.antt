@@ -1,27 +1,33 @@
 -- What is held, and how far the lines have come.
-use Rattle.std.specs.Prelude.{◌≡◌, ℕ, ◌<◌, ◌≤◌, List, [], ◌∷◌, length, codes, reverse, IfSome, MatchOption, Option, None, Some}
+use Rattle.std.specs.Prelude.{◌≡◌, ℕ, ◌<◌, ◌≤◌, Bool, List, [], ◌∷◌, length, codes, reverse, IfSome, MatchOption, MatchResult, Option, None, Some}
+use Rattle.std.specs.declared.result.Result.{Result}
 use Rattle.std.proofs.Common.{◌∙◌, ap, subst, inl, inr, sym, refl, append-nil}
+use Rattle.std.proofs.lemmas.List.{length-reverse}
+use Rattle.tsp_base.specs.declared.event.Event.{Event}
+use Rattle.tsp_base.specs.Words.{HeaderValue}
 use Rattle.tsp_audit_command.specs.declared.check.AuditInput.{AuditInput}
 use Rattle.tsp_audit_command.specs.declared.check.AuditInput.TheVariants.{Schedule, Claims as ClaimsOf}
 use Rattle.tsp_audit_command.specs.declared.listing.Listing.{Listing}
 use Rattle.tsp_audit_command.specs.ClaimReaders.{ClaimReaderValue, comes_to, passes_all, told_more}
-use Rattle.tsp_audit_command.specs.Listings.{most_nodes, refused}
+use Rattle.tsp_audit_command.specs.Listings.{most_nodes, refusal_at, refused}
 use Rattle.tsp_audit_command.specs.Meaning.{auditing}
-use Rattle.tsp_audit_command.specs.Readings.{Claimed, IsWanting, ReachesReading, Reading, RefusesLine, Scheduling, nodes_at, reading_of}
-use Rattle.tsp_audit_command.specs.Stands.{AdvancesReading, ClaimAdvances, HaltsReading, HaltsBehind, HaltsConcluding, EventStands, ListingStands, ReadingStands, Unpassed}
+use Rattle.tsp_audit_command.specs.Readings.{Claimed, IsWanting, MayEnd, ReachesReading, Reading, RefusesLine, Scheduling, nodes_at, reading_of}
+use Rattle.tsp_audit_command.specs.Stands.{AdvancesReading, ClaimAdvances, Concludes, HaltsReading, HaltsBehind, HaltsConcluding, EventStands, ListingStands, ReadingStands, Unpassed}
 use Rattle.tsp_audit_command.proofs.PassLemmas.{some-one}
 use Rattle.tsp_audit_command.proofs.Reverses.{reverse-more}
 use Rattle.tsp_audit_command.proofs.TraceLengths.{SpellsTrace-long}
 use Rattle.tsp_schedule.specs.declared.stage.Stage.{Stage}
 use Rattle.tsp_schedule.specs.Schedules.{Progress, Untitled, Titled, Drifted, Heading, Running, Ended, IsEnded}
 use Rattle.tsp_schedule.specs.Stages.{StageStands, Advances as AdvancesBy, AdvancesByEvent}
-use Rattle.tsp_schedule.proofs.StageLemmas.{MatchOption-map}
+use Rattle.tsp_schedule.proofs.StageLemmas.{MatchOption-map, MatchResult-map}
 use Rattle.tsp_lines.specs.Lines.{IsAhead, line_ahead}
 use Rattle.tsp_lines.specs.declared.treatment.Stop.{Stop}
 use Rattle.tsp_lines.specs.declared.treatment.Stop.TheVariants.{Bad, Limit, WriteFault, OutOfMemory}
-use Rattle.tsp_lines.specs.Meanings.{Goes, StopsAt, Tried}
+use Rattle.tsp_lines.specs.Meanings.{Closes, Goes, StopsAt, StopsAtEnd, Tried}
 use Rattle.tsp_lines.proofs.Outputs.{Hands-nil}
 use Rattle.tsp_base.specs.declared.trace.Line2.{Line2}
+use Rattle.tsp_claims.specs.Listed.{up_in}
+use Rattle.tsp_run.specs.Run.{last_at}
 
 -- a long line is no trace's
 pub Refuses-long : (r : Reading) (held : AuditInput) (c : ClaimReaderValue) (line cause : List ℕ) → held ≡ ClaimsOf c → EventStands r held → 1024 < length line → cause ≡ codes "line" → RefusesLine r line cause
@@ -135,3 +141,29 @@ pub Ends-schedule : (lines : List (List ℕ)) (r : Reading) (held : AuditInput) 
     ((p : Progress) → StageStands ListingStands p stage → ¬ IsEnded p → IsWanting (Scheduling p) cause) → IsWanting r cause
 Ends-schedule lines (Scheduling p) held stage cause is reaches stands lacks = lacks p (subst (λ h. EventStands (Scheduling p) h) is stands) (λ e. Reaches-open (reverse lines) p reaches e)
 Ends-schedule lines (Claimed c) held stage cause is reaches stands lacks = let bad : ⊥ = subst (λ h. EventStands (Claimed c) h) is stands in absurd bad
+
+-- behind the schedule the input may not end, or nothing of the verdict was handed over
+Stops-claims : (lines : List (List ℕ)) (c v : ClaimReaderValue) (written : Option (List ℕ)) (kept : List ℕ) (now : Option (List ℕ)) (keeps : List ℕ) (stop : Stop) → c ≡ v → ReachesReading (reverse lines) (Claimed v) → HaltsConcluding c written kept now keeps stop →
+    StopsAtEnd auditing lines written kept now keeps stop
+Stops-claims lines c v written kept now keeps (Bad cause) same reaches h = (h.0, (Claimed v, reaches, subst (λ x. IsWanting (Claimed x) cause) same h.1))
+Stops-claims lines c v written kept now keeps Limit same reaches h = h
+Stops-claims lines c v written kept now keeps WriteFault same reaches h = ([], h, inl refl)
+Stops-claims lines c v written kept now keeps OutOfMemory same reaches h = ([], h, inl refl)
+
+-- the input ends behind the schedule
+pub Ends-claims : (lines : List (List ℕ)) (r : Reading) (held : AuditInput) (c : ClaimReaderValue) (written : Option (List ℕ)) (kept : List ℕ) (now : Option (List ℕ)) (keeps : List ℕ) (result : Result (Unit {0}) Stop) → held ≡ ClaimsOf c → ReachesReading (reverse lines) r → EventStands r held →
+    MatchResult result (λ _. Concludes c written kept now keeps) (HaltsConcluding c written kept now keeps) → MatchResult result (λ _. Closes auditing lines written kept now keeps) (StopsAtEnd auditing lines written kept now keeps)
+Ends-claims lines (Scheduling p) held c written kept now keeps result is reaches stands ends = let bad : ⊥ = subst (λ h. EventStands (Scheduling p) h) is stands in absurd bad
+Ends-claims lines (Claimed v) held c written kept now keeps result is reaches stands ends =
+    let same : c ≡ v = subst (λ h. EventStands (Claimed v) h) is stands in
+    MatchResult-map result ends (λ _ a. (a.0, a.1, (Claimed v, reaches, subst (λ x. MayEnd (Claimed x) a.0) same a.2))) (λ stop h. Stops-claims lines c v written kept now keeps stop same reaches h)
+
+-- for what a listing refuses an event is that for which the events before it do
+pub refused-as : (header : HeaderValue) (events : List Event) (listing : Listing) (e : Event) → ListingStands header events listing → refusal_at listing.header listing.last (length listing.events.items) (up_in listing.up.items) e ≡ refused header events e
+refused-as header events listing e s =
+    let items = listing.events.items in
+    let up = up_in listing.up.items in
+    ap (λ (h : HeaderValue). refusal_at h listing.last (length items) up e) s.header_is
+    ∙ (ap (λ (last : ℕ). refusal_at header last (length items) up e) s.last_is
+    ∙ (ap (λ (n : ℕ). refusal_at header (last_at events) n up e) (ap (λ (es : List Event). length es) s.events_are ∙ length-reverse events)
+    ∙ ap (λ (u : ℕ → Bool). refusal_at header (last_at events) (length events) u e) s.up_is))

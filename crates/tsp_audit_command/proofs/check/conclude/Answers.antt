@@ -4,3 +4,12 @@ use Rattle.tsp_audit_command.proofs.check.conclude.Goals as goal
 
 pub returns-in-Err-clause-ends : goal.returns-in-Err-clause-ends
 returns-in-Err-clause-ends g c = Halts-concluding c.args.claiming _ _ c.in-Err.stop c.in-Err.ensures
+
+pub returns-in-Ok-judge-clause-later : goal.returns-in-Ok-judge-clause-later
+returns-in-Ok-judge-clause-later g c = c.tell.ensures.later
+
+pub returns-in-Ok-judge-clause-cause : goal.returns-in-Ok-judge-clause-cause
+returns-in-Ok-judge-clause-cause g c = c.tell.ensures.cause
+
+pub returns-in-Ok-judge-clause-still : goal.returns-in-Ok-judge-clause-still
+returns-in-Ok-judge-clause-still g c = c.tell.ensures.still

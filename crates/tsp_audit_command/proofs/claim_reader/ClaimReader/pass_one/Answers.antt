@@ -1,18 +1,38 @@
 -- The event at hand lacks nothing, and is passed.
 use Rattle.std.proofs.Common.{◌≡◌, ◌∙◌, ap, sym, subst, rules}
-use Rattle.std.specs.Prelude.{List, ℕ, length, take, reverse, [], ◌∷◌, ◌++◌, Some, false, OnOk, OnErr}
+use Rattle.std.specs.Prelude.{List, ℕ, ◌+◌, ◌≤◌, length, take, reverse, [], ◌∷◌, ◌++◌, Some, false, OnOk, OnErr}
 use Rattle.std.specs.List.{slice_get}
 use Rattle.std.proofs.lemmas.Option.{slice_get_within}
 use Rattle.tsp_audit.specs.Premised.{kept_with}
+use Rattle.tsp_base.specs.declared.trace.Line2.{Line2}
 use Rattle.tsp_base.specs.Words.{Line}
 use Rattle.tsp_audit_command.specs.ClaimReaders.{pass_one}
 use Rattle.tsp_audit_command.specs.Sound.{Sound, claims_on}
 use Rattle.tsp_claims.specs.ClaimedHistory.{claimed, posts_of}
 use Rattle.tsp_claims.specs.Fitting.{Fit, lacks, untold}
 use Rattle.tsp_claims.specs.Stands.{ClaimsStand, claim_of}
-use Rattle.tsp_audit_command.proofs.SoundLemmas.{Sound-kept, Sound-passed, at-fit, few-passed, got-at, view-passed}
+use Rattle.tsp_audit_command.proofs.SoundLemmas.{Sound-kept, Sound-passed, at-fit, at-listed, few-passed, got-at, view-passed}
 use Rattle.tsp_history.proofs.NoteLemmas.{length-history}
 use Rattle.tsp_audit_command.proofs.claim_reader.ClaimReader.pass_one.Goals as goal
+
+pub add-requires-clause-time : goal.add-requires-clause-time
+add-requires-clause-time c =
+    let i = c.self.inside in
+    let e = c.event-e.result in
+    let read : slice_get i.events.items (length i.ends.items) ≡ Some c.in-Some.e.now = got-at c.deref.result.now i.events.items c.len-at.result (length i.ends.items) c.in-Some.e.now c.deref.ensures.value (search rules) c.in-Some.ensures.lookup.3.0 c.in-Some.ensures.lookup.1 in
+    let at : slice_get i.events.items (length i.ends.items) ≡ Some e = subst (λ x. slice_get i.events.items (length i.ends.items) ≡ Some x) (sym c.event-e.ensures) read in
+    (at-listed i.claims.header i.events.items i.claims i.ends.items i.pending.items i.premises c.self.invariant e at).0
+
+pub add-requires-clause-node : goal.add-requires-clause-node
+add-requires-clause-node c =
+    let i = c.self.inside in
+    let e = c.event-e.result in
+    let read : slice_get i.events.items (length i.ends.items) ≡ Some c.in-Some.e.now = got-at c.deref.result.now i.events.items c.len-at.result (length i.ends.items) c.in-Some.e.now c.deref.ensures.value (search rules) c.in-Some.ensures.lookup.3.0 c.in-Some.ensures.lookup.1 in
+    let at : slice_get i.events.items (length i.ends.items) ≡ Some e = subst (λ x. slice_get i.events.items (length i.ends.items) ≡ Some x) (sym c.event-e.ensures) read in
+    (at-listed i.claims.header i.events.items i.claims i.ends.items i.pending.items i.premises c.self.invariant e at).1
+
+pub add-requires-clause-lines : goal.add-requires-clause-lines
+add-requires-clause-lines c = let i = c.self.inside in subst (λ (ls : List Line2). i.claims.told + length ls ≤ 20000) (sym c.as_slice.ensures.value) c.self.invariant.few_lines
 
 pub add-requires-clause-events : goal.add-requires-clause-events
 add-requires-clause-events c =
@@ -28,7 +48,7 @@ add-requires-clause-fit c =
     let read : slice_get i.events.items (length i.ends.items) ≡ Some c.in-Some.e.now = got-at c.deref.result.now i.events.items c.len-at.result (length i.ends.items) c.in-Some.e.now c.deref.ensures.value (search rules) c.in-Some.ensures.lookup.3.0 c.in-Some.ensures.lookup.1 in
     let at : slice_get i.events.items (length i.ends.items) ≡ Some e = subst (λ x. slice_get i.events.items (length i.ends.items) ≡ Some x) (sym c.event-e.ensures) read in
     let none : lacks e i.claims.tally ≡ false = sym c.lacks.ensures ∙ c.if-lacks.false in
-    let slice : c.as_slice.result.now ≡ i.pending.items = search rules in (
+    let slice : c.as_slice.result.now ≡ i.pending.items = c.as_slice.ensures.value in (
       i.claims.header,
       passed,
       c.self.invariant.stand,
@@ -43,7 +63,7 @@ invariant_of-self-2 c =
     let read : slice_get i.events.items (length i.ends.items) ≡ Some c.in-Some.e.now = got-at c.deref.result.now i.events.items c.len-at.result (length i.ends.items) c.in-Some.e.now c.deref.ensures.value (search rules) c.in-Some.ensures.lookup.3.0 c.in-Some.ensures.lookup.1 in
     let at : slice_get i.events.items (length i.ends.items) ≡ Some e = subst (λ x. slice_get i.events.items (length i.ends.items) ≡ Some x) (sym c.event-e.ensures) read in
     let none : lacks e i.claims.tally ≡ false = sym c.lacks.ensures ∙ c.if-lacks.false in
-    let slice : c.as_slice.result.now ≡ i.pending.items = search rules in
+    let slice : c.as_slice.result.now ≡ i.pending.items = c.as_slice.ensures.value in
     let took : OnOk c.add.result (ClaimsStand i.claims.header (claim_of e c.as_slice.result.now ∷ passed) c.add.new.self) = c.add.ensures.taken i.claims.header passed c.self.invariant.stand in
     let given : ClaimsStand i.claims.header (claim_of e c.as_slice.result.now ∷ passed) c.add.new.self = search rules in
     let stand : ClaimsStand i.claims.header (claim_of e i.pending.items ∷ passed) c.add.new.self = subst (λ ls. ClaimsStand i.claims.header (claim_of e ls ∷ passed) c.add.new.self) slice given in
@@ -56,7 +76,7 @@ invariant_of-self-2 c =
     k ∙ (ap (λ n. kept_with i.premises (reverse (take n c.deref-2.result.now)) c.posts.result.now e) len
     ∙ (ap (λ es. kept_with i.premises (reverse (take (length i.ends.items) es)) c.posts.result.now e) c.deref-2.ensures.value
     ∙ ap (λ ps. kept_with i.premises (reverse (take (length i.ends.items) i.events.items)) ps e) (c.posts.ensures i.claims.header passed c.self.invariant.stand)))) in
-    let empty : c.clear.new.self.items ≡ [] = search rules in
+    let empty : c.clear.new.self.items ≡ [] = c.clear.ensures.items in
     let fresh : c.add.new.self.tally ≡ untold = search rules in
     subst (λ h. Sound h i.events.items c.add.new.self c.push_reserved.new.self.items c.clear.new.self.items c.keep_with-premises.result) (sym stand.header_is)
     (Sound-passed i.claims.header i.events.items i.claims i.ends.items i.pending.items i.premises c.self.invariant e at none c.add.new.self c.push_reserved.new.self.items (length c.lines.result.now) _ _ stand more_is n_is empty fresh kept_is)
@@ -69,12 +89,12 @@ returns c =
     let read : slice_get i.events.items (length i.ends.items) ≡ Some c.in-Some.e.now = got-at c.deref.result.now i.events.items c.len-at.result (length i.ends.items) c.in-Some.e.now c.deref.ensures.value (search rules) c.in-Some.ensures.lookup.3.0 c.in-Some.ensures.lookup.1 in
     let at : slice_get i.events.items (length i.ends.items) ≡ Some e = subst (λ x. slice_get i.events.items (length i.ends.items) ≡ Some x) (sym c.event-e.ensures) read in
     let none : lacks e i.claims.tally ≡ false = sym c.lacks.ensures ∙ c.if-lacks.false in
-    let slice : c.as_slice.result.now ≡ i.pending.items = search rules in
+    let slice : c.as_slice.result.now ≡ i.pending.items = c.as_slice.ensures.value in
     let took : OnOk c.add.result (ClaimsStand i.claims.header (claim_of e c.as_slice.result.now ∷ passed) c.add.new.self) = c.add.ensures.taken i.claims.header passed c.self.invariant.stand in
     let given : ClaimsStand i.claims.header (claim_of e c.as_slice.result.now ∷ passed) c.add.new.self = search rules in
     let stand : ClaimsStand i.claims.header (claim_of e i.pending.items ∷ passed) c.add.new.self = subst (λ ls. ClaimsStand i.claims.header (claim_of e ls ∷ passed) c.add.new.self) slice given in
     let more_is : c.push_reserved.new.self.items ≡ i.ends.items ++ (length c.lines.result.now) ∷ [] = search rules in
-    let empty : c.clear.new.self.items ≡ [] = search rules in
+    let empty : c.clear.new.self.items ≡ [] = c.clear.ensures.items in
     ap (λ v. pass_one v) (sym c.self.view_is) ∙ view-passed i.claims.header i.events.items i.claims i.ends.items i.pending.items i.premises c.self.invariant e at none c.add.new.self c.push_reserved.new.self.items (length c.lines.result.now) _ stand more_is empty
 
 -- without memory the claims stand for what they did
