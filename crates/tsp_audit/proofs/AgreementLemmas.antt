@@ -10,7 +10,7 @@ use Rattle.tsp_base.specs.Words.{HeaderValue, Acts, Begins, Deed, Line, dids, fr
 use Rattle.tsp_promises.specs.Setting.{Setting}
 use Rattle.tsp_promises.proofs.EverywhereLemmas.{Everywhere-at}
 use Rattle.tsp_base.proofs.PlaceLemmas.{Within-all, Within-comparable, Within-length, Within-tail, Within-through}
-use Rattle.tsp_audit.specs.Agreeing.{AgreementIs, AfterAs, AfterIs, AllAgree, BossAgrees, IsAtPlace, LiveAs, LiveIs, MasterNear, NodeIs, Numbered, PairAgrees, PairNear, FromRoundStands, err_less, shown_by}
+use Rattle.tsp_audit.specs.Agreeing.{AgreementIs, AfterAs, AfterIs, AllAgree, BossAgrees, IsAtPlace, LiveAs, LiveIs, MasterNearWithSpare, NodeIs, Numbered, PairAgrees, PairNear, FromRoundStands, err_less, shown_by}
 use Rattle.tsp_audit.specs.Settings.{HasClocks}
 use Rattle.tsp_audit.specs.declared.agreement_tracker.AgreementTracker.{AgreementTracker}
 use Rattle.tsp_audit.specs.declared.round_correction.RoundCorrection.{RoundCorrection}
@@ -173,7 +173,7 @@ master-agrees header setting count h a t has numbered is all = λ m close cpast 
     let below : m < count = subst (λ (i : ℕ). i < count) from_round.node (node-below count from_round.post from_round.before h numbered w) in
     let b = kept count h a m is below in
     let at : IsAtPlace a.nodes.items o.live.master b.state = subst (λ (i : ℕ). IsAtPlace a.nodes.items i b.state) (sym o.master) b.at in
-    let near : MasterNear header t 0 n x.state o.live b.state = (all n x.state x.at).master o.live b.state o.is at (stands-so m close cpast h o.live b.state o.close_is o.lives_is o.corrects_is b.is but) in
+    let near : MasterNearWithSpare header t 0 n x.state o.live b.state = (all n x.state x.at).master o.live b.state o.is at (stands-so m close cpast h o.live b.state o.close_is o.lives_is o.corrects_is b.is but) in
     let mine : shown_by header o.live.master b.state.moved t ≡ clock_at setting m h t = ap (λ (i : ℕ). shown_by header i b.state.moved t) o.master ∙ clock-kept header setting m h b.state t has b.is in
     close-move (shown_by header n x.state.moved t) (shown_by header o.live.master b.state.moved t) (err_less 0 o.live) header.drift t o.live.at (clock_at setting n h t) (clock_at setting m h t) e setting.drift r.did.step.at
     (clock-kept header setting n h x.state t has x.is) mine (err-whole o.live ∙ o.err) (sym has.drift_is) o.at near

@@ -4,7 +4,7 @@ use Rattle.std.proofs.Common.{ap, ◌∙◌}
 use Rattle.tsp_rules.specs.Values.{Act, Post, Placed}
 use Rattle.tsp_base.specs.Words.{Step}
 use Rattle.tsp_claims.specs.declared.claimed.Claimed.{Claimed}
-use Rattle.tsp_claims.specs.ClaimedHistory.{claims_post, goes_by, posts_in, reaches}
+use Rattle.tsp_claims.specs.ClaimedHistory.{claims_post, claimed_address, posts_in, post_goes}
 use Rattle.tsp_run.specs.declared.posted.Posted.{Posted}
 use Rattle.tsp_run.specs.Networks.{address_of}
 use Rattle.tsp_run.specs.Run.{goes_to, posted_by, posts_from}
@@ -58,11 +58,11 @@ get-ArePosts (c ∷ cs) (p ∷ ps) zero a = a.0
 get-ArePosts (c ∷ cs) (p ∷ ps) (suc k) a = get-ArePosts cs ps k a.1
 
 -- they go to one address
-pub goes-same : (nets : List (List ℕ)) (o : Option Claimed) (q : Option Posted) → SamePost o q → reaches nets o ≡ goes_to nets q
+pub goes-same : (nets : List (List ℕ)) (o : Option Claimed) (q : Option Posted) → SamePost o q → post_goes nets o ≡ goes_to nets q
 goes-same nets None None s = refl
 goes-same nets None (Some p) s = absurd s
 goes-same nets (Some c) None s = absurd s
 goes-same nets (Some c) (Some p) s =
-    ap (λ a. goes_by nets c.node c.placed.port a) s.act
+    ap (λ a. claimed_address nets c.node c.placed.port a) s.act
     ∙ ap (λ n. address_of nets n c.placed.port p.to) s.node
     ∙ ap (λ q. address_of nets p.from q p.to) s.port

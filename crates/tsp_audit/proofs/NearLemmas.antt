@@ -5,7 +5,7 @@ use Rattle.std.proofs.lemmas.Bool.{cases_lt}
 use Rattle.std.proofs.lemmas.Int.{ints}
 use Rattle.tsp_audit.proofs.AgreementSteps.{state-at}
 use Rattle.tsp_base.specs.Words.{HeaderValue}
-use Rattle.tsp_audit.specs.Agreeing.{AgreesBack, AllAgree, BossAgrees, IsAtPlace, MasterNear, NodeAgrees, PairAgrees, PairNear, FromRoundStands, shown_by}
+use Rattle.tsp_audit.specs.Agreeing.{AgreesBack, AllAgree, BossAgrees, IsAtPlace, MasterNearWithSpare, NodeAgrees, PairAgrees, PairNear, FromRoundStands, shown_by}
 use Rattle.tsp_audit.specs.declared.round_correction.NodeState.{NodeState}
 use Rattle.tsp_audit.specs.declared.round_correction.RoundCorrection.{RoundCorrection}
 
@@ -38,11 +38,11 @@ same-state states k b f bat fat = sym bat.is ∙ state-at states k k b f fat ref
 
 -- a node agrees with its master exactly where they are near, if that was left alone
 pub boss-told : (header : HeaderValue) (t spare n : ℕ) (a : NodeState) (states : List NodeState) (c : RoundCorrection) (b : NodeState) (r : Bool) → a.from_round ≡ Some c → IsAtPlace states c.master b → FromRoundStands c b →
-    MatchBool r (MasterNear header t spare n a c b) (MasterNear header t spare n a c b → ⊥) → MatchBool r (BossAgrees header t spare n a states) (BossAgrees header t spare n a states → ⊥)
+    MatchBool r (MasterNearWithSpare header t spare n a c b) (MasterNearWithSpare header t spare n a c b → ⊥) → MatchBool r (BossAgrees header t spare n a states) (BossAgrees header t spare n a states → ⊥)
 boss-told header t spare n a states c b true ac bat st near = λ e f ae fat left.
     (let ce : c ≡ e = some-same a.from_round c e ac ae in
     let bf : b ≡ f = same-state states c.master b f bat (subst (λ (x : RoundCorrection). IsAtPlace states x.master f) (sym ce) fat) in
-    subst₂ (λ (x : RoundCorrection) (y : NodeState). MasterNear header t spare n a x y) ce bf near)
+    subst₂ (λ (x : RoundCorrection) (y : NodeState). MasterNearWithSpare header t spare n a x y) ce bf near)
 boss-told header t spare n a states c b false ac bat st far = λ agrees. far (agrees c b ac bat st)
 
 -- a node agrees with a master that wasn't left alone, whatever that shows

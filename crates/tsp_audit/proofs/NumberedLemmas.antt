@@ -8,8 +8,8 @@ use Rattle.tsp_audit.proofs.JoinLemmas.{OfStep, grown-all, made}
 use Rattle.tsp_promises.specs.Everywhere.{Everywhere}
 use Rattle.tsp_promises.specs.Fits.{node_of}
 use Rattle.tsp_claims.specs.declared.claimed.Claimed.{Claimed}
-use Rattle.tsp_claims.specs.ClaimedHistory.{Claim, awake, claimed, events_of, makes_step, posts_of, reaches, step_at, step_of, takes_step}
-use Rattle.tsp_claims.specs.Listed.{NamesNode, booted, boots}
+use Rattle.tsp_claims.specs.ClaimedHistory.{Claim, awake, claimed, events_of, makes_step, posts_of, post_goes, step_at, step_of, takes_step}
+use Rattle.tsp_claims.specs.Listed.{NamesNode, booted, is_boot_of}
 use Rattle.tsp_run.specs.declared.address.Address.{Address}
 use Rattle.tsp_run.specs.Networks.{networks}
 use Rattle.std.specs.Prelude.{slice_get}
@@ -22,19 +22,19 @@ either : (b c : Bool) → (b || c) ≡ true → (b ≡ false → c ≡ true)
 either true c e f = let bad : ⊥ = cc in absurd bad
 either false c e f = e
 
-boots-below : (count : ℕ) (e : Event) (n : ℕ) → NamesNode count e → boots e n ≡ true → n < count
+boots-below : (count : ℕ) (e : Event) (n : ℕ) → NamesNode count e → is_boot_of e n ≡ true → n < count
 boots-below count (BootAt at node word) n named e = subst (λ (k : ℕ). k < count) (eqb-true node n e) named
 boots-below count (Turn at node) n named e = let bad : ⊥ = cc in absurd bad
 boots-below count (Take at k) n named e = let bad : ⊥ = cc in absurd bad
 boots-below count (Bytes at node port from octets) n named e = let bad : ⊥ = cc in absurd bad
 
-booted-more : (count : ℕ) (e : Event) (n : ℕ) (was b : Bool) → NamesNode count e → (was ≡ true → n < count) → boots e n ≡ b → (boots e n || was) ≡ true → n < count
+booted-more : (count : ℕ) (e : Event) (n : ℕ) (was b : Bool) → NamesNode count e → (was ≡ true → n < count) → is_boot_of e n ≡ b → (is_boot_of e n || was) ≡ true → n < count
 booted-more count e n was true named rest f or = boots-below count e n named f
-booted-more count e n was false named rest f or = rest (either (boots e n) was or f)
+booted-more count e n was false named rest f or = rest (either (is_boot_of e n) was or f)
 
 booted-below : (count : ℕ) (claims : List Claim) → AllName count claims → (n : ℕ) → booted (events_of claims) n ≡ true → n < count
 booted-below count [] named n e = let bad : ⊥ = cc in absurd bad
-booted-below count (c ∷ before) named n e = booted-more count c.event n (booted (events_of before) n) (boots c.event n) named.0 (booted-below count before named.1 n) refl e
+booted-below count (c ∷ before) named n e = booted-more count c.event n (booted (events_of before) n) (is_boot_of c.event n) named.0 (booted-below count before named.1 n) refl e
 
 -- a step of one of so many nodes, if there is one
 abbrev Below : ℕ → Option Step → Type 0
@@ -50,7 +50,7 @@ taken-below count at k up below (Some a) = by_up (up a.node) refl where
 step-below : (count : ℕ) (header : HeaderValue) (posts : List Claimed) (up : ℕ → Bool) (e : Event) → ((n : ℕ) → up n ≡ true → n < count) → NamesNode count e → Below count (step_at header posts up e)
 step-below count header posts up (BootAt at node word) below named = named
 step-below count header posts up (Turn at node) below named = named
-step-below count header posts up (Take at k) below named = taken-below count at k up below (reaches (networks header) (slice_get posts k))
+step-below count header posts up (Take at k) below named = taken-below count at k up below (post_goes (networks header) (slice_get posts k))
 step-below count header posts up (Bytes at node port from octets) below named = named
 
 -- where each event names a node of so many, each claimed line's is one

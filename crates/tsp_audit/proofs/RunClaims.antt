@@ -4,9 +4,9 @@ use Rattle.std.proofs.Common.{ap, ◌∙◌, sym, subst, inl, inr, eqb-true, app
 use Rattle.tsp_rules.specs.Values.{Boot, Placed, Event, BootAt, Turn, Take, Bytes, Peer}
 use Rattle.tsp_base.specs.Words.{HeaderValue, IsHeader, Acts, Begins, Handed, Line, Step, Turned, dids, of, first_port, line_of, stepped, up, peer_of}
 use Rattle.tsp_claims.specs.declared.claimed.Claimed.{Claimed}
-use Rattle.tsp_claims.specs.ClaimedHistory.{Claim, awake, claimed, events_of, joins_acts, makes_step, posts_by, posts_of, reaches as claim_reaches, step_of, taker, takes_step}
+use Rattle.tsp_claims.specs.ClaimedHistory.{Claim, awake, claimed, events_of, joins_acts, makes_step, claims_of_step, posts_of, post_goes as claim_reaches, step_of, taker, takes_step}
 use Rattle.tsp_claims.specs.Fitting.{acts_of}
-use Rattle.tsp_claims.specs.Listed.{booted, boots}
+use Rattle.tsp_claims.specs.Listed.{booted, is_boot_of}
 use Rattle.tsp_codec.specs.Canon.{canon}
 use Rattle.tsp_codec.specs.Taken.{taken_of}
 use Rattle.tsp_audit.specs.AuditedRuns.{claims_of, last_lines}
@@ -43,14 +43,14 @@ joins-alike header (Some h) (Some s) before history is e =
     ap (λ x. stepped s x h.acts before) (sym is.1) ∙ ap (λ t. stepped t h.tick h.acts before) (sym is.0) ∙ ap (λ l. stepped h.step h.tick h.acts l) e
 
 -- and so do the posts
-posts-alike : (header : HeaderValue) (event : ℕ) (o : Option Happening) (s : Option Step) (cs : List Claimed) (history : List Line) → IsStep header o s → ArePosts cs (posts history) → ArePosts (cs ++ posts_by event s (happened o)) (posts (joins o history))
+posts-alike : (header : HeaderValue) (event : ℕ) (o : Option Happening) (s : Option Step) (cs : List Claimed) (history : List Line) → IsStep header o s → ArePosts cs (posts history) → ArePosts (cs ++ claims_of_step event s (happened o)) (posts (joins o history))
 posts-alike header event None None cs history is a = subst (λ ps. ArePosts (cs ++ []) ps) (append-nil (posts history)) (ArePosts-append cs [] (posts history) [] a tt)
 posts-alike header event None (Some s) cs history is a = absurd is
 posts-alike header event (Some h) None cs history is a = absurd is
 posts-alike header event (Some h) (Some s) cs history is a =
-    subst (λ ps. ArePosts (cs ++ posts_by event (Some s) h.acts) ps) (sym (posts_stepped h.step h.tick h.acts history))
-    (subst (λ t. ArePosts (cs ++ posts_by event (Some s) h.acts) (posts history ++ posts_from t.at t.node h.acts)) (sym is.0)
-    (ArePosts-append cs (posts_by event (Some s) h.acts) (posts history) (posts_from s.at s.node h.acts) a (posts_of_acts event s h.acts)))
+    subst (λ ps. ArePosts (cs ++ claims_of_step event (Some s) h.acts) ps) (sym (posts_stepped h.step h.tick h.acts history))
+    (subst (λ t. ArePosts (cs ++ claims_of_step event (Some s) h.acts) (posts history ++ posts_from t.at t.node h.acts)) (sym is.0)
+    (ArePosts-append cs (claims_of_step event (Some s) h.acts) (posts history) (posts_from s.at s.node h.acts) a (posts_of_acts event s h.acts)))
 
 -- a step of a node that is up leaves each node as it is
 up-stays : (step : Step) (x : ℕ) (acts : List Placed) (h : List Line) (n : ℕ) → up (dids (of step.node h)) ≡ true → up (dids (of n (stepped step x acts h))) ≡ up (dids (of n h))
@@ -80,7 +80,7 @@ module _ {header : HeaderValue} (is : IsHeader header) (before : List Event) (cl
   Steps e o = IsStep header o (step_of header (posts_of header claims) (booted (events_of claims)) e (happened o))
 
   abbrev Wakes : Event → Option Happening → Type 0
-  Wakes e o = (n : ℕ) → (boots e n || booted (events_of claims) n) ≡ up (dids (of n (joins o (run header before))))
+  Wakes e o = (n : ℕ) → (is_boot_of e n || booted (events_of claims) n) ≡ up (dids (of n (joins o (run header before))))
 
   -- the addressee of a datagram that is taken is up
   taker-up : (at k : ℕ) → refusal (scene header before) (Take at k) ≡ None → (a : Arrives header (run header before) at k) → up (dids (of a.to.node (run header before))) ≡ true
@@ -119,7 +119,7 @@ module _ {header : HeaderValue} (is : IsHeader header) (before : List Event) (cl
   ]
 
   -- an event but a boot leaves who is up
-  wakes-none : (e : Event) (h : Happening) → ((n : ℕ) → boots e n ≡ false) → up (dids (of h.step.node (run header before))) ≡ true → Wakes e (Some h)
+  wakes-none : (e : Event) (h : Happening) → ((n : ℕ) → is_boot_of e n ≡ false) → up (dids (of h.step.node (run header before))) ≡ true → Wakes e (Some h)
   wakes-none e h none is_up n = ap (λ b. b || booted (events_of claims) n) (none n) ∙ known.up_is n ∙ sym (up-stays h.step h.tick h.acts (run header before) n is_up)
 
   wakes-of : (e : Event) → refusal (scene header before) e ≡ None → Wakes e (happening header (run header before) e)

@@ -9,7 +9,7 @@ use Rattle.tsp_audit.specs.Ends.{AreDated}
 use Rattle.tsp_audit.specs.Looking.{Grown, Looks}
 use Rattle.tsp_audit.specs.Remembered.{RememberedStands}
 use Rattle.tsp_audit.specs.Settings.{HasClocks, Timely}
-use Rattle.tsp_audit.specs.Verdicts.{AllHold, IsFound, Looked}
+use Rattle.tsp_audit.specs.Verdicts.{AllHold, IsFound, IsFoundOfAll}
 use Rattle.tsp_audit.proofs.EventLemmas.{found-more, grown-claims, holds-none, joins-within}
 use Rattle.tsp_audit.proofs.JudgeLemmas.{prefix-is}
 use Rattle.tsp_audit.proofs.NumberedLemmas.{AllName}
@@ -109,14 +109,14 @@ found-through premises setting header told upto f w first =
 
 -- something fails of the next event
 pub reached-failure : (premises : Premises) (header : HeaderValue) (told : List Claim) (i from : ℕ) (old new : Remembered) (f : Failure) → (r : Reached premises header told i from old) → (n : Next told r.before) →
-    Looks premises header (n.claim ∷ r.before) (claimed header r.before) new (Some f) → Looked premises header told new (Some f)
+    Looks premises header (n.claim ∷ r.before) (claimed header r.before) new (Some f) → IsFoundOfAll premises header told new (Some f)
 reached-failure premises header told i from old new f r n looks = record {
   found_is = λ setting has. found-through premises setting header told (n.claim ∷ r.before) f n.place (found-more premises header n.claim r.before None (Some f) new r.holds looks setting has);
   notes_are = λ none. (let bad : ⊥ = cc in absurd bad);
 }
 
 -- all events were looked at
-pub reached-all : (premises : Premises) (header : HeaderValue) (told : List Claim) (i from : ℕ) (notes : Remembered) → length told ≤ i → Reached premises header told i from notes → Looked premises header told notes None
+pub reached-all : (premises : Premises) (header : HeaderValue) (told : List Claim) (i from : ℕ) (notes : Remembered) → length told ≤ i → Reached premises header told i from notes → IsFoundOfAll premises header told notes None
 reached-all premises header told i from notes past r =
     let whole : r.before ≡ told = whole-place told r.before r.place (let many = r.count in omega (arith, past, many)) in
     record {

@@ -121,12 +121,12 @@ abbrev pub FromRoundStands : RoundCorrection → NodeState → Type 0
 FromRoundStands c b = (c.lives ≡ b.lives) × ((c.corrects ≡ b.corrects) ⊎ (b.after ≡ Some c.close))
 
 -- a node that a Close corrected and its master differ by at most the error, less what is to spare, and drift
-abbrev pub MasterNear : HeaderValue → ℕ → ℕ → ℕ → NodeState → RoundCorrection → NodeState → Type 0
-MasterNear header t spare n a c b = pos (nat_abs (shown_by header n a.moved t -ℤ shown_by header c.master b.moved t)) ≤ℤ (err_less spare c +ℤ pos (2 * width header.drift (t - c.at)))
+abbrev pub MasterNearWithSpare : HeaderValue → ℕ → ℕ → ℕ → NodeState → RoundCorrection → NodeState → Type 0
+MasterNearWithSpare header t spare n a c b = pos (nat_abs (shown_by header n a.moved t -ℤ shown_by header c.master b.moved t)) ≤ℤ (err_less spare c +ℤ pos (2 * width header.drift (t - c.at)))
 
 -- the same, where the master was left alone since its Close, as `FromRoundStands` says
 abbrev pub BossAgrees : HeaderValue → ℕ → ℕ → ℕ → NodeState → List NodeState → Type 0
-BossAgrees header t spare n a states = (c : RoundCorrection) (b : NodeState) → a.from_round ≡ Some c → IsAtPlace states c.master b → FromRoundStands c b → MasterNear header t spare n a c b
+BossAgrees header t spare n a states = (c : RoundCorrection) (b : NodeState) → a.from_round ≡ Some c → IsAtPlace states c.master b → FromRoundStands c b → MasterNearWithSpare header t spare n a c b
 
 -- a node agrees with each that the same Close corrected, and with its master
 pub record NodeAgrees (header : HeaderValue) (t spare n : ℕ) (a : NodeState) (states : List NodeState) : Type 0 where
@@ -151,12 +151,12 @@ abbrev pub AllBounded : List NodeState → Type 0
 AllBounded states = (n : ℕ) (a : NodeState) → IsAtPlace states n a → IsSumOf 4294967295 a.moved
 
 -- the reading by which a round corrected a node, if one did, is no later than a true time
-abbrev pub IsPast : ℕ → NodeState → Type 0
-IsPast t a = (c : RoundCorrection) → a.from_round ≡ Some c → c.at ≤ t
+abbrev pub IsReadBy : ℕ → NodeState → Type 0
+IsReadBy t a = (c : RoundCorrection) → a.from_round ≡ Some c → c.at ≤ t
 
 -- the same of each of these nodes
 abbrev pub AllPast : ℕ → List NodeState → Type 0
-AllPast t states = (n : ℕ) (a : NodeState) → IsAtPlace states n a → IsPast t a
+AllPast t states = (n : ℕ) (a : NodeState) → IsAtPlace states n a → IsReadBy t a
 
 -- clocks agree with so much to spare that they do from then on, as long as none is moved
 pub record Settles (header : HeaderValue) (t : ℕ) (states : List NodeState) : Type 0 where

@@ -43,7 +43,7 @@ IsFound premises setting header claims (Some f) = FailsFirst premises setting he
 
 -- this is found of all events: no part fails up to any, and these are the notes of all lines then; or this part fails
 -- first
-pub record Looked (premises : Premises) (header : HeaderValue) (told : List Claim) (notes : Remembered) (found : Option Failure) : Type 0 where
+pub record IsFoundOfAll (premises : Premises) (header : HeaderValue) (told : List Claim) (notes : Remembered) (found : Option Failure) : Type 0 where
   pub found_is : (setting : Setting) → HasClocks header setting → IsFound premises setting header told found
   pub notes_are : found ≡ None → RememberedStands premises header (claimed header told) notes
 

@@ -77,7 +77,7 @@ fn look_at(
     Ok(look(claims.header(), &lines[..end], premises, from, event, notes))
 }
 
-ghost use Rattle.tsp_audit.specs.Verdicts.{Looked};
+ghost use Rattle.tsp_audit.specs.Verdicts.{IsFoundOfAll};
 
 /// The first failure of what is claimed, where nothing is noted yet; `ends` has, for each event, the
 /// oldest first, how many lines of the history stand up to its end. Where nothing fails the notes are
@@ -91,7 +91,7 @@ pub(crate) fn look_through(
     ensures { (header : HeaderValue) (told : List Claim) → ClaimsStand header told claims.now
         → AreDated (length header.nodes) told → EndsAt header told ends.now
         → RememberedStands premises header [] notes.old
-        → IfOk result (λ found. Looked premises header told notes.new found) }
+        → IfOk result (λ found. IsFoundOfAll premises header told notes.new found) }
 {
     let mut from = 0;
     for i in 0..ends.len() {

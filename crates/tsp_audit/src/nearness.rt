@@ -1,7 +1,7 @@
 //! Whether clocks that one round corrected agree.
 ghost use Rattle.std.specs.Prelude.{◌≡◌, ◌≤◌, ◌<◌, ◌≤ℤ◌, ◌-ℤ◌, pos, nat_abs, ℕ, length, true, Some};
 ghost use Rattle.tsp_audit.specs.Agreeing.{AgreesBack, AllAgree, AllBounded, AllPast, BossAgrees};
-ghost use Rattle.tsp_audit.specs.Agreeing.{FromRoundStands, IsPast, MasterNear, PairAgrees, PairNear, PairsAgree, Settles};
+ghost use Rattle.tsp_audit.specs.Agreeing.{FromRoundStands, IsReadBy, MasterNearWithSpare, PairAgrees, PairNear, PairsAgree, Settles};
 ghost use Rattle.tsp_audit.specs.Standings.{IsWhether, OfNode, OfPair, StandsAs};
 ghost use Rattle.tsp_audit.specs.declared.round_correction.NodeState.{NodeState as NodeValue};
 ghost use Rattle.tsp_audit.specs.declared.round_correction.RoundCorrection.{RoundCorrection as CorrectionValue};
@@ -108,7 +108,7 @@ fn master_near(own: &Standing, other: &Standing) -> bool
         (at spare node : ℕ) → StandsAs header at spare node a own.now
         → StandsAs header at spare c.master b other.now
         → IsSumOf 4294967295 a.moved → IsSumOf 4294967295 b.moved
-        → IsWhether result (MasterNear header at spare node a c b) }
+        → IsWhether result (MasterNearWithSpare header at spare node a c b) }
 {
     is_met(own.low, own.high, other.clock, other.clock)
 }
@@ -167,7 +167,7 @@ pub(crate) fn all_agree(header: &Header, at: u64, spare: u32, states: &[NodeStat
 
 /// Whether a round corrected a node by no reading that is later than a true time, in microseconds.
 fn is_past(at: u64, a: &NodeState) -> bool
-    ensures { result ≡ true → IsPast at a.now }
+    ensures { result ≡ true → IsReadBy at a.now }
 {
     match &a.from_round {
         Some(c) => c.at <= at,

@@ -12,8 +12,8 @@ use Rattle.tsp_base.specs.declared.event.Event.{Event}
 use Rattle.tsp_base.specs.Words.{HeaderValue, IsHeader, Line, Within}
 use Rattle.tsp_promises.specs.Setting.{Setting}
 use Rattle.tsp_base.proofs.PlaceLemmas.{Within-comparable}
-use Rattle.tsp_audit_command.specs.ClaimReaders.{ClaimReaderValue, FitsAt, FitsHere, MisfitsAt, IsOneLine, and_then, comes_to, lines_told, most_lines, pass_first, pass_one, passes, passes_all, tallied, told_more, unclaimed}
-use Rattle.tsp_audit_command.specs.Listings.{most_nodes, refused}
+use Rattle.tsp_audit_command.specs.ClaimReaders.{ClaimReaderValue, FitsAt, FitsHere, MisfitsAt, IsOneLine, and_then, passed_up_to, lines_told, most_lines, pass_first, pass_one, passes, passes_all, tallied, told_more, unclaimed}
+use Rattle.tsp_audit_command.specs.Listings.{most_nodes, refused_next}
 use Rattle.tsp_audit_command.specs.Meaning.{auditing}
 use Rattle.tsp_audit_command.specs.Readings.{Claimed, MayEnd, ReadsOn, GivesVerdict, IsWanting, PassesLimit, ReachesReading, Reading, RefusesLine, Scheduling, nodes_at, reading_of}
 use Rattle.tsp_audit_command.specs.Texts.{verdict_text}
@@ -39,18 +39,18 @@ reading-unended (Running header events) p is = cc
 reading-unended (Ended header events) p is = let bad : ⊥ = cc in absurd bad
 
 -- lines that bring the reading somewhere in the schedule bring the schedule there
-scheduled : (lines : List (List ℕ)) (p : Progress) → ReachesReading lines (Scheduling p) → ReachesBy refused lines p
+scheduled : (lines : List (List ℕ)) (p : Progress) → ReachesReading lines (Scheduling p) → ReachesBy refused_next lines p
 scheduled [] p is = cc
-scheduled (line ∷ before) p (Scheduling q, r, g) = (q, scheduled before q r, subst (λ x. GoesOnBy refused q line x) (reading-unended g.0 p (sym g.3)) g.1)
+scheduled (line ∷ before) p (Scheduling q, r, g) = (q, scheduled before q r, subst (λ x. GoesOnBy refused_next q line x) (reading-unended g.0 p (sym g.3)) g.1)
 scheduled (line ∷ before) p (Claimed c, r, g) = let is = g.5 in let bad : ⊥ = cc in absurd bad
 
 -- a line of the schedule brings it to one place
-one-schedule : (before : List (List ℕ)) (line : List ℕ) (p q r : Progress) → ReachesReading before (Scheduling p) → GoesOnBy refused p line q → GoesOnBy refused p line r → q ≡ r
-one-schedule before line p q r reaches g h = ReachesBy-one refused (line ∷ before) q r (p, scheduled before p reaches, g) (p, scheduled before p reaches, h)
+one-schedule : (before : List (List ℕ)) (line : List ℕ) (p q r : Progress) → ReachesReading before (Scheduling p) → GoesOnBy refused_next p line q → GoesOnBy refused_next p line r → q ≡ r
+one-schedule before line p q r reaches g h = ReachesBy-one refused_next (line ∷ before) q r (p, scheduled before p reaches, g) (p, scheduled before p reaches, h)
 
 -- two readings of a claimed line are one, and so are the places to which they come
-same-here : (c : ClaimReaderValue) (line : List ℕ) (l k : Line2) (here there : ClaimReaderValue) → IsOneLine line l → IsOneLine line k → comes_to c l.event ≡ Some here → comes_to c k.event ≡ Some there → there ≡ here
-same-here c line l k here there t u p q = some-one there here (sym q ∙ (ap (λ (x : Line2). comes_to c x.event) (t.1 k u.0) ∙ p))
+same-here : (c : ClaimReaderValue) (line : List ℕ) (l k : Line2) (here there : ClaimReaderValue) → IsOneLine line l → IsOneLine line k → passed_up_to c l.event ≡ Some here → passed_up_to c k.event ≡ Some there → there ≡ here
+same-here c line l k here there t u p q = some-one there here (sym q ∙ (ap (λ (x : Line2). passed_up_to c x.event) (t.1 k u.0) ∙ p))
 
 GoesOn-one : (before : List (List ℕ)) (at : Reading) (line : List ℕ) (r s : Reading) → ReachesReading before at → ReadsOn at line r → ReadsOn at line s → r ≡ s
 GoesOn-one before (Scheduling p) line r s reaches g h = g.3 ∙ (ap (λ q. reading_of q) (one-schedule before line p g.0 h.0 reaches g.1 h.1) ∙ sym h.3)
@@ -66,12 +66,12 @@ Reaches-one (line ∷ before) r s p q = GoesOn-one before p.0 line r s p.1 p.2 (
 
 -- a claimed line that fits doesn't misfit
 fits-misfits : (c : ClaimReaderValue) (line : List ℕ) (l k : Line2) (here : ClaimReaderValue) → IsOneLine line l → IsOneLine line k → FitsAt c l here → MisfitsAt c k → ⊥
-fits-misfits c line l k here t u f (inl none) = none-some (comes_to c k.event) here none (ap (λ (x : Line2). comes_to c x.event) (t.1 k u.0) ∙ f.0)
+fits-misfits c line l k here t u f (inl none) = none-some (passed_up_to c k.event) here none (ap (λ (x : Line2). passed_up_to c x.event) (t.1 k u.0) ∙ f.0)
 fits-misfits c line l k here t u f (inr (there, at, unfit)) =
     unfit (subst (λ v. FitsHere v k) (sym (same-here c line l k here there t u f.0 at)) (subst (λ (x : Line2). FitsHere here x) (sym (t.1 k u.0)) f.1))
 
 not_refused : (before : List (List ℕ)) (at : Reading) (line cause : List ℕ) (r : Reading) → ReadsOn at line r → RefusesLine at line cause → ⊥
-not_refused before (Scheduling p) line cause r g f = GoesOn-not_refused refused p line cause g.0 g.1 f
+not_refused before (Scheduling p) line cause r g f = GoesOn-not_refused refused_next p line cause g.0 g.1 f
 not_refused before (Claimed c) line cause r g (inl f) = f.0 g.0 g.2.0
 not_refused before (Claimed c) line cause r g (inr (k, tells, misfits, is)) = fits-misfits c line g.0 k g.1 g.2 tells g.3 misfits
 
@@ -82,20 +82,20 @@ no-room : (n most : ℕ) → n < most → most ≤ n → ⊥
 no-room n most few many = omega (arith, few, many)
 
 not_limited : (before : List (List ℕ)) (at : Reading) (line : List ℕ) (r : Reading) → ReachesReading before at → ReadsOn at line r → PassesLimit at line → ⊥
-not_limited before (Scheduling p) line r reaches g (inl f) = GoesOn-not_limited refused p line g.0 g.1 f
+not_limited before (Scheduling p) line r reaches g (inl f) = GoesOn-not_limited refused_next p line g.0 g.1 f
 not_limited before (Scheduling p) line r reaches g (inr (q, h, many)) = too-many (nodes_at q) most_nodes (subst (λ x. nodes_at x ≤ most_nodes) (one-schedule before line p g.0 q reaches g.1 h) g.2) many
 not_limited before (Claimed c) line r reaches g (k, there, tells, fits, full) = no-room (lines_told there) most_lines (subst (λ v. lines_told v < most_lines) (sym (same-here c line g.0 k g.1 there g.2 tells g.3.0 fits.0)) g.4) full
 
 one_cause : (at : Reading) (line cause other : List ℕ) → RefusesLine at line cause → RefusesLine at line other → cause ≡ other
-one_cause (Scheduling p) line cause other f g = Refuses-one refused p line cause other f g
+one_cause (Scheduling p) line cause other f g = Refuses-one refused_next p line cause other f g
 one_cause (Claimed c) line cause other (inl f) (inl g) = f.1 ∙ sym g.1
 one_cause (Claimed c) line cause other (inl f) (inr g) = absurd (f.0 g.0 g.1.0)
 one_cause (Claimed c) line cause other (inr f) (inl g) = absurd (g.0 f.0 f.1.0)
 one_cause (Claimed c) line cause other (inr f) (inr g) = f.3 ∙ sym g.3
 
 refused_within : (at : Reading) (line cause : List ℕ) → RefusesLine at line cause → PassesLimit at line → ⊥
-refused_within (Scheduling p) line cause f (inl g) = Refuses-within refused p line cause f g
-refused_within (Scheduling p) line cause f (inr (q, g, many)) = GoesOn-not_refused refused p line cause q g f
+refused_within (Scheduling p) line cause f (inl g) = Refuses-within refused_next p line cause f g
+refused_within (Scheduling p) line cause f (inr (q, g, many)) = GoesOn-not_refused refused_next p line cause q g f
 refused_within (Claimed c) line cause (inl f) (k, there, tells, fits, full) = f.0 k tells.0
 refused_within (Claimed c) line cause (inr f) (k, there, tells, fits, full) = fits-misfits c line k f.0 there tells f.1 fits f.2
 
@@ -136,7 +136,7 @@ passes-header (suc n) c d is = then-header (pass_one c) c.header (λ x. passes n
 -- the header behind which lines are claimed keeps its ranges
 claimed-header : (lines : List (List ℕ)) (c : ClaimReaderValue) → ReachesReading lines (Claimed c) → IsHeader c.header
 claimed-header [] c is = let bad : ⊥ = cc in absurd bad
-claimed-header (line ∷ before) c (Scheduling p, r, g) = reading-claimed g.0 c (sym g.3) (Reaches-header refused (line ∷ before) g.0 (p, scheduled before p r, g.1))
+claimed-header (line ∷ before) c (Scheduling p, r, g) = reading-claimed g.0 c (sym g.3) (Reaches-header refused_next (line ∷ before) g.0 (p, scheduled before p r, g.1))
 claimed-header (line ∷ before) c (Claimed d, r, g) =
     let is = g.5 in
     let same : c ≡ told_more g.1 g.0 = cc in

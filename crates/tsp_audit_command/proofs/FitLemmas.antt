@@ -6,7 +6,7 @@ use Rattle.tsp_audit_command.specs.ClaimReaders.{tallied}
 use Rattle.tsp_audit_command.specs.Sound.{FitSoFar}
 use Rattle.tsp_claims.specs.declared.tally.Tally.{Tally}
 use Rattle.tsp_claims.specs.Fitting.{AllFit, counted, lacks}
-use Rattle.tsp_claims.proofs.FitLemmas.{posts_by-few}
+use Rattle.tsp_claims.proofs.FitLemmas.{claims_of_step-few}
 use Rattle.tsp_base.specs.declared.trace.Line2.{Line2}
 
 -- one line more
@@ -17,7 +17,7 @@ tallied-more t (k ∷ rest) l = tallied-more (counted t k.placed.act) rest l
 -- lines claim one post each at the most
 pub tallied-posts : (t : Tally) (lines : List Line2) → (tallied t lines).posts ≤ t.posts + length lines
 tallied-posts t [] = omega arith
-tallied-posts t (k ∷ rest) = omega (arith, tallied-posts (counted t k.placed.act) rest, posts_by-few k.placed.act)
+tallied-posts t (k ∷ rest) = omega (arith, tallied-posts (counted t k.placed.act) rest, claims_of_step-few k.placed.act)
 
 module _ (fits : Event → Tally → Line2 → Type 0) (e : Event) where
   -- a line that fits behind the others

@@ -8,8 +8,8 @@ use Rattle.tsp_base.specs.Words.{HeaderValue}
 use Rattle.tsp_audit_command.specs.declared.check.AuditInput.{AuditInput}
 use Rattle.tsp_audit_command.specs.declared.check.AuditInput.TheVariants.{Schedule, Claims as ClaimsOf}
 use Rattle.tsp_audit_command.specs.declared.listing.Listing.{Listing}
-use Rattle.tsp_audit_command.specs.ClaimReaders.{ClaimReaderValue, comes_to, passes_all, told_more}
-use Rattle.tsp_audit_command.specs.Listings.{most_nodes, refusal_at, refused}
+use Rattle.tsp_audit_command.specs.ClaimReaders.{ClaimReaderValue, passed_up_to, passes_all, told_more}
+use Rattle.tsp_audit_command.specs.Listings.{most_nodes, refusal_at, refused_next}
 use Rattle.tsp_audit_command.specs.Meaning.{auditing}
 use Rattle.tsp_audit_command.specs.Readings.{Claimed, IsWanting, MayEnd, ReachesReading, Reading, RefusesLine, Scheduling, nodes_at, reading_of}
 use Rattle.tsp_audit_command.specs.Stands.{AdvancesReading, ClaimAdvances, Concludes, HaltsReading, HaltsBehind, HaltsConcluding, EventStands, ListingStands, ReadingStands, Unpassed}
@@ -35,7 +35,7 @@ Refuses-long (Scheduling p) held c line cause is stands long cause_is = let bad 
 Refuses-long (Claimed v) held c line cause is stands long cause_is = inl (SpellsTrace-long line long, cause_is)
 
 -- a line of the schedule that it took, and which brings no node too many
-pub Advances-scheduled : (p : Progress) (line : List ℕ) (stage : Stage Listing) (a : AdvancesBy refused ListingStands p line stage) (next : AuditInput) → nodes_at a.to ≤ most_nodes → EventStands (reading_of a.to) next → AdvancesReading (Scheduling p) line next
+pub Advances-scheduled : (p : Progress) (line : List ℕ) (stage : Stage Listing) (a : AdvancesBy refused_next ListingStands p line stage) (next : AuditInput) → nodes_at a.to ≤ most_nodes → EventStands (reading_of a.to) next → AdvancesReading (Scheduling p) line next
 Advances-scheduled p line stage a next few stands = record {
   to = reading_of a.to;
   goes = (a.to, a.goes, few, refl);
@@ -44,29 +44,29 @@ Advances-scheduled p line stage a next few stands = record {
 }
 
 -- a line of the schedule's, of an event
-Advances-event : (p : Progress) (line : List ℕ) (stage : Stage Listing) → AdvancesByEvent refused ListingStands p line stage → nodes_at p ≤ most_nodes → AdvancesReading (Scheduling p) line (Schedule stage)
+Advances-event : (p : Progress) (line : List ℕ) (stage : Stage Listing) → AdvancesByEvent refused_next ListingStands p line stage → nodes_at p ≤ most_nodes → AdvancesReading (Scheduling p) line (Schedule stage)
 Advances-event p line stage (header, events, e, is, a, to) few =
     Advances-scheduled p line stage a (Schedule stage) (subst (λ q. nodes_at q ≤ most_nodes) (sym to) (subst (λ q. nodes_at q ≤ most_nodes) is few))
     (subst (λ q. EventStands (reading_of q) (Schedule stage)) (sym to) (subst (λ q. StageStands ListingStands q stage) to a.stands_for))
 
 -- the first of some lines of the schedule's was tried: it is that of an event, or nothing has changed
 pub Tries-scheduled : (r : Reading) (held : AuditInput) (old new : Stage Listing) (text : List ℕ) (count : ℕ) (front : Option ℕ) → held ≡ Schedule old → EventStands r held → ((p : Progress) → StageStands ListingStands p old → count ≡ nodes_at p) → count ≤ most_nodes →
-    ((p : Progress) → StageStands ListingStands p old → MatchOption front (StageStands ListingStands p new) (λ n. AdvancesByEvent refused ListingStands p (line_ahead text n) new)) → MatchOption front (EventStands r (Schedule new)) (λ n. AdvancesReading r (line_ahead text n) (Schedule new))
+    ((p : Progress) → StageStands ListingStands p old → MatchOption front (StageStands ListingStands p new) (λ n. AdvancesByEvent refused_next ListingStands p (line_ahead text n) new)) → MatchOption front (EventStands r (Schedule new)) (λ n. AdvancesReading r (line_ahead text n) (Schedule new))
 Tries-scheduled (Scheduling p) held old new text count front is stands counts few tries =
     let s : StageStands ListingStands p old = subst (λ h. EventStands (Scheduling p) h) is stands in
     MatchOption-map front (tries p s) (λ t. t) (λ n a. Advances-event p (line_ahead text n) new a (subst (λ k. k ≤ most_nodes) (counts p s) few))
 Tries-scheduled (Claimed v) held old new text count front is stands counts few tries = let bad : ⊥ = subst (λ h. EventStands (Claimed v) h) is stands in absurd bad
 
 -- one that brings a node too many
-pub Halts-behind : (p : Progress) (line : List ℕ) (stage : Stage Listing) (a : AdvancesBy refused ListingStands p line stage) (stop : Stop) → HaltsBehind a.to stop → HaltsReading (Scheduling p) line stop
+pub Halts-behind : (p : Progress) (line : List ℕ) (stage : Stage Listing) (a : AdvancesBy refused_next ListingStands p line stage) (stop : Stop) → HaltsBehind a.to stop → HaltsReading (Scheduling p) line stop
 Halts-behind p line stage a (Bad cause) h = absurd h
 Halts-behind p line stage a Limit h = inr (a.to, a.goes, h)
 Halts-behind p line stage a WriteFault h = h
 Halts-behind p line stage a OutOfMemory h = h
 
 -- lines come to one place
-comes-same : (c : ClaimReaderValue) (l k : Line2) (here there : ClaimReaderValue) → k ≡ l → comes_to c l.event ≡ Some here → comes_to c k.event ≡ Some there → there ≡ here
-comes-same c l k here there same p q = some-one there here (sym q ∙ (ap (λ (x : Line2). comes_to c x.event) same ∙ p))
+comes-same : (c : ClaimReaderValue) (l k : Line2) (here there : ClaimReaderValue) → k ≡ l → passed_up_to c l.event ≡ Some here → passed_up_to c k.event ≡ Some there → there ≡ here
+comes-same c l k here there same p q = some-one there here (sym q ∙ (ap (λ (x : Line2). passed_up_to c x.event) same ∙ p))
 
 -- a claimed line
 pub Advances-claimed : (c : ClaimReaderValue) (line : List ℕ) (next : ClaimReaderValue) → ClaimAdvances c line next → AdvancesReading (Claimed c) line (ClaimsOf next)
@@ -159,8 +159,8 @@ Ends-claims lines (Claimed v) held c written kept now keeps result is reaches st
     MatchResult-map result ends (λ _ a. (a.0, a.1, (Claimed v, reaches, subst (λ x. MayEnd (Claimed x) a.0) same a.2))) (λ stop h. Stops-claims lines c v written kept now keeps stop same reaches h)
 
 -- for what a listing refuses an event is that for which the events before it do
-pub refused-as : (header : HeaderValue) (events : List Event) (listing : Listing) (e : Event) → ListingStands header events listing → refusal_at listing.header listing.last (length listing.events.items) (up_in listing.up.items) e ≡ refused header events e
-refused-as header events listing e s =
+pub refused_next-as : (header : HeaderValue) (events : List Event) (listing : Listing) (e : Event) → ListingStands header events listing → refusal_at listing.header listing.last (length listing.events.items) (up_in listing.up.items) e ≡ refused_next header events e
+refused_next-as header events listing e s =
     let items = listing.events.items in
     let up = up_in listing.up.items in
     ap (λ (h : HeaderValue). refusal_at h listing.last (length items) up e) s.header_is

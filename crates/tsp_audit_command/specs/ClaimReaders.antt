@@ -64,8 +64,8 @@ passes (suc n) c = and_then (pass_one c) (λ d. passes n d)
 
 -- the events before the one with this number, from 1, are passed, where that can be; the event at hand has the number
 -- after those of the passed ones. Where the event with this number was passed before, nothing changes
-abbrev pub comes_to : ClaimReaderValue → ℕ → Option ClaimReaderValue
-comes_to c event = passes (event - (length c.passed + 1)) c
+abbrev pub passed_up_to : ClaimReaderValue → ℕ → Option ClaimReaderValue
+passed_up_to c event = passes (event - (length c.passed + 1)) c
 
 -- all events that are left are passed, where that can be
 abbrev pub passes_all : ClaimReaderValue → Option ClaimReaderValue
@@ -83,12 +83,12 @@ FitsHere c l = FitsFirst c.header c.passed c.told c.ahead l
 -- a line fits: the events before its own lack nothing, and passing them brings the claims here, where the line fits as
 -- the next one of its event
 abbrev pub FitsAt : ClaimReaderValue → Line2 → ClaimReaderValue → Type 0
-FitsAt c l here = (comes_to c l.event ≡ Some here) × FitsHere here l
+FitsAt c l here = (passed_up_to c l.event ≡ Some here) × FitsHere here l
 
 -- a line doesn't fit: an event before its own lacks something or isn't there; or its event was passed, or isn't there,
 -- or the line doesn't fit as the next one of it
 abbrev pub MisfitsAt : ClaimReaderValue → Line2 → Type 0
-MisfitsAt c l = (comes_to c l.event ≡ None) ⊎ ((here : ClaimReaderValue) × (comes_to c l.event ≡ Some here) × ¬ FitsHere here l)
+MisfitsAt c l = (passed_up_to c l.event ≡ None) ⊎ ((here : ClaimReaderValue) × (passed_up_to c l.event ≡ Some here) × ¬ FitsHere here l)
 
 -- the claims with one line more of the event at hand
 abbrev pub told_more : ClaimReaderValue → Line2 → ClaimReaderValue

@@ -17,8 +17,8 @@ abbrev pub most_nodes : ℕ
 most_nodes = 16
 
 -- the most events that it may have
-abbrev pub most_events : ℕ
-most_events = 20000
+abbrev pub most_listed : ℕ
+most_listed = 20000
 
 -- the node that must have booted before an event: that of a turn or of octets; none for a boot and for a take
 abbrev pub wants_up : Event → Option ℕ
@@ -29,7 +29,7 @@ wants_up (Bytes at node port from octets) = Some node
 
 -- the fault of one event more after so many: a limit, where they are 20,000 or more
 abbrev pub no_room : ℕ → Option EventFault
-no_room events = if nat_le most_events events then Some (Limit events 0) else None
+no_room events = if nat_le most_listed events then Some (Limit events 0) else None
 
 -- for what first cause an event is refused, if it is, under a header, after so many events, where the newest one had
 -- this time, in microseconds, and these nodes have booted: its time is before that; it names a node, a port or a sender
@@ -38,8 +38,8 @@ abbrev pub refusal_at : HeaderValue → ℕ → ℕ → (ℕ → Bool) → Event
 refusal_at header last events up e = first_of (time_back (event_at e) last) (first_of (no_node (scene header []) e) (first_of (down up (wants_up e)) (no_room events)))
 
 -- for what first cause an event may not follow these, if it may not; they are given newest first
-abbrev pub refused : HeaderValue → List Event → Event → Option EventFault
-refused header events e = refusal_at header (last_at events) (length events) (booted events) e
+abbrev pub refused_next : HeaderValue → List Event → Event → Option EventFault
+refused_next header events e = refusal_at header (last_at events) (length events) (booted events) e
 
 -- a header that may be audited: 1 to 16 nodes, each on a network where there are networks
 pub record IsAudited (header : HeaderValue) : Type 0 where
@@ -53,7 +53,7 @@ IsListed nodes e = (event_at e ≤ 1000000000000000) × NamesNode nodes e
 
 -- at most 20,000 events, each at such a time, their nodes among so many: they may be audited
 abbrev pub AreListed : ℕ → List Event → Type 0
-AreListed nodes events = (length events ≤ most_events) × All (IsListed nodes) events
+AreListed nodes events = (length events ≤ most_listed) × All (IsListed nodes) events
 
 NamesNode-prop : (nodes : ℕ) (e : Event) → IsProp (NamesNode nodes e)
 NamesNode-prop nodes (BootAt at node word) = le_prop

@@ -8,7 +8,7 @@ use Rattle.tsp_audit.specs.Verdicts.{IsFound}
 use Rattle.tsp_base.specs.Words.{HeaderValue}
 use Rattle.tsp_promises.specs.Setting.{Setting}
 use Rattle.tsp_audit_command.specs.ClaimReaders.{ClaimReaderValue, FitsAt, MisfitsAt, IsOneLine, lines_told, most_lines, passes_all, told_more, unclaimed}
-use Rattle.tsp_audit_command.specs.Listings.{most_nodes, refused}
+use Rattle.tsp_audit_command.specs.Listings.{most_nodes, refused_next}
 use Rattle.tsp_audit_command.specs.Texts.{verdict_text}
 use Rattle.tsp_claims.specs.ClaimedHistory.{Claim}
 use Rattle.tsp_schedule.specs.Schedules.{Progress, Untitled, Titled, Drifted, Heading, Running, Ended, GoesOn as GoesOnBy, Refuses as RefusesBy, Limits as LimitsBy, Lacks as LacksBy}
@@ -43,7 +43,7 @@ nodes_at (Ended header events) = length header.nodes
 -- a line may follow, and this is how far it brings the reading: a line that the schedule goes on by, with at most 16
 -- nodes, or a claimed line that fits, after fewer than 20,000
 abbrev pub ReadsOn : Reading → List ℕ → Reading → Type 0
-ReadsOn (Scheduling p) line next = (q : Progress) × GoesOnBy refused p line q × (nodes_at q ≤ most_nodes) × (next ≡ reading_of q)
+ReadsOn (Scheduling p) line next = (q : Progress) × GoesOnBy refused_next p line q × (nodes_at q ≤ most_nodes) × (next ≡ reading_of q)
 ReadsOn (Claimed c) line next = (l : Line2) × (here : ClaimReaderValue) × IsOneLine line l × FitsAt c l here × (lines_told here < most_lines) × (next ≡ Claimed (told_more here l))
 
 -- these lines, which are given newest first, bring the reading so far
@@ -54,13 +54,13 @@ ReachesReading (line ∷ before) r = (q : Reading) × ReachesReading before q ×
 -- a line may not follow, for this cause: in the schedule for that of the schedule; after it for `line` where it is no
 -- line of a trace, and for `history` where it is one that doesn't fit
 abbrev pub RefusesLine : Reading → List ℕ → List ℕ → Type 0
-RefusesLine (Scheduling p) line cause = RefusesBy refused p line cause
+RefusesLine (Scheduling p) line cause = RefusesBy refused_next p line cause
 RefusesLine (Claimed c) line cause = (((l : Line2) → SpellsTrace line l → ⊥) × (cause ≡ codes "line")) ⊎ ((l : Line2) × IsOneLine line l × MisfitsAt c l × (cause ≡ codes "history"))
 
 -- a line may not follow only since it passes a limit: its event is one more than 20,000; or it is the line of a 17th
 -- node, which the header would take; or it is a claimed line that fits, after 20,000
 abbrev pub PassesLimit : Reading → List ℕ → Type 0
-PassesLimit (Scheduling p) line = LimitsBy refused p line ⊎ ((q : Progress) × GoesOnBy refused p line q × (most_nodes < nodes_at q))
+PassesLimit (Scheduling p) line = LimitsBy refused_next p line ⊎ ((q : Progress) × GoesOnBy refused_next p line q × (most_nodes < nodes_at q))
 PassesLimit (Claimed c) line = (l : Line2) × (here : ClaimReaderValue) × IsOneLine line l × FitsAt c l here × (most_lines ≤ lines_told here)
 
 -- this is found of these claims: the first failure, or none, under the premises that all these events keep, with the

@@ -60,10 +60,10 @@ impl Listing {
 }
 
 impl EventHandler for Listing {
-    ghost use Rattle.tsp_audit_command.specs.Listings.{refused};
+    ghost use Rattle.tsp_audit_command.specs.Listings.{refused_next};
     ghost use Rattle.tsp_audit_command.specs.Stands.{ListingStands};
 
-    ghost refused = { refused };
+    ghost refused = { refused_next };
 
     ghost stands = { ListingStands };
 

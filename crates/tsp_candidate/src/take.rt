@@ -2,7 +2,7 @@
 ghost use Rattle.std.specs.Prelude.{◌≤◌};
 ghost use Rattle.tsp_rules.specs.CandidateRows.{candidate_takes};
 ghost use Rattle.tsp_acks.specs.Calls.{Contains, IsTick, UsesAtMost, IsSamePort};
-ghost use Rattle.tsp_slave.specs.SlaveStands.{ActsOn, IsMessage, slave};
+ghost use Rattle.tsp_slave.specs.SlaveStands.{ActsOn, IsMessageFrom, slave};
 
 use crate::answers::{take_accept, take_refuse};
 use tsp_acks::station::Station;
@@ -32,7 +32,7 @@ pub fn candidate_take<D: Desk>(
     requires tick { IsTick tick }
     requires room { 5 ≤ D.spare desk.old }
     requires peer { Contains station.old.peers from }
-    ensures row { ActsOn (IsMessage from m.now) (candidate_takes from m.now) tick port
+    ensures row { ActsOn (IsMessageFrom from m.now) (candidate_takes from m.now) tick port
         (slave station.old last.old clock.now) (slave station.new last.new clock.now)
         D.acts desk.old desk.new }
     ensures room { UsesAtMost 5 D.spare D.acts desk.old desk.new }

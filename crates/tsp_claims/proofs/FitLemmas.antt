@@ -11,9 +11,9 @@ use Rattle.tsp_run.specs.Run.{posts_by}
 use Rattle.tsp_base.specs.declared.trace.Line2.{Line2}
 
 -- an act posts one datagram at the most
-pub posts_by-few : (a : Act) → posts_by a ≤ 1
-posts_by-few (Post to datagram) = omega arith
-posts_by-few _ = omega arith
+pub claims_of_step-few : (a : Act) → posts_by a ≤ 1
+claims_of_step-few (Post to datagram) = omega arith
+claims_of_step-few _ = omega arith
 
 -- what the lines that are left are to all lines, behind those that were counted
 pub record Left (fits : Event → Tally → Line2 → Type 0) (e : Event) (t : Tally) (i : ℕ) (lines : List Line2) : Type 0 where

@@ -11,7 +11,7 @@ use Rattle.tsp_claims.specs.declared.claims.Claims.{Claims}
 use Rattle.tsp_claims.specs.declared.taking_in.HeldStep.{HeldStep}
 use Rattle.tsp_claims.specs.ClaimedHistory.{Claim, events_of, joins_acts, lines_in, posts_of, step_of}
 use Rattle.tsp_claims.specs.Fitting.{acts_of}
-use Rattle.tsp_claims.specs.Listed.{boots, booted, up_in}
+use Rattle.tsp_claims.specs.Listed.{is_boot_of, booted, up_in}
 use Rattle.tsp_claims.specs.Stands.{ClaimsStand, claim_of}
 use Rattle.tsp_claims.specs.TakingIn.{HoldsStep, JoinsEvent, StaysSame}
 use Rattle.tsp_history.specs.Histories.{history_of}
@@ -61,5 +61,5 @@ ClaimsStand-taken header claims e lines held old mid new stays joins holds stood
       told = joins.told_is ∙ (ap (λ n. n + length lines) s.told ∙ ap (λ n. lines_in claims + n) (sym (length-map lines (λ (l : Line2). l.placed))));
       history = joins.history ∙ (is.lines (history_of mid.lines.lines) ∙ ap (λ h. joins_acts header step acts h) s.history);
       posts_are = joins.posts_are ∙ (ap (λ ps. ps ++ held.posts.items) s.posts_are ∙ ap (λ ps. posts_of header claims ++ ps) is.posts);
-      up_is = fun_ext (λ n. joins.wakes.1 n ∙ ap (λ u. boots e n || u n) s.up_is);
+      up_is = fun_ext (λ n. joins.wakes.1 n ∙ ap (λ u. is_boot_of e n || u n) s.up_is);
     }

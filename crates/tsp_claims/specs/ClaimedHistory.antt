@@ -29,14 +29,14 @@ lines_in [] = 0
 lines_in (c ∷ before) = lines_in before + length c.acts
 
 -- where the datagram goes that an act of a node posts on a port, if it posts one
-abbrev pub goes_by : List (List ℕ) → ℕ → Port → Act → Option Address
-goes_by nets node port (Post to datagram) = address_of nets node port to
-goes_by nets node port _ = None
+abbrev pub claimed_address : List (List ℕ) → ℕ → Port → Act → Option Address
+claimed_address nets node port (Post to datagram) = address_of nets node port to
+claimed_address nets node port _ = None
 
 -- where a claimed post goes, if there is one
-abbrev pub reaches : List (List ℕ) → Option Claimed → Option Address
-reaches nets None = None
-reaches nets (Some post) = goes_by nets post.node post.placed.port post.placed.act
+abbrev pub post_goes : List (List ℕ) → Option Claimed → Option Address
+post_goes nets None = None
+post_goes nets (Some post) = claimed_address nets post.node post.placed.port post.placed.act
 
 -- an address whose node is up
 abbrev pub awake : (ℕ → Bool) → Option Address → Option Address
@@ -45,7 +45,7 @@ awake up (Some a) = if up a.node then Some a else None
 
 -- who takes the claimed post k, if there is one: its addressee, if that is up
 abbrev pub taker : HeaderValue → List Claimed → (ℕ → Bool) → ℕ → Option Address
-taker header posts up k = awake up (reaches (networks header) (slice_get posts k))
+taker header posts up k = awake up (post_goes (networks header) (slice_get posts k))
 
 -- the step of a take of claimed post k, if somebody takes it
 abbrev pub takes_step : ℕ → ℕ → Option Address → Option Step
@@ -80,14 +80,14 @@ posts_in event step [] = []
 posts_in event step (p ∷ rest) = claims_post event step p p.act ++ posts_in event step rest
 
 -- those of a step, if there is one
-abbrev pub posts_by : ℕ → Option Step → List Placed → List Claimed
-posts_by event None acts = []
-posts_by event (Some step) acts = posts_in event step acts
+abbrev pub claims_of_step : ℕ → Option Step → List Placed → List Claimed
+claims_of_step event None acts = []
+claims_of_step event (Some step) acts = posts_in event step acts
 
 -- the claimed posts, in their order
 abbrev pub posts_of : HeaderValue → List Claim → List Claimed
 posts_of header [] = []
-posts_of header (c ∷ before) = posts_of header before ++ posts_by (length before + 1) (step_of header (posts_of header before) (booted (events_of before)) c.event c.acts) c.acts
+posts_of header (c ∷ before) = posts_of header before ++ claims_of_step (length before + 1) (step_of header (posts_of header before) (booted (events_of before)) c.event c.acts) c.acts
 
 -- a history, and then a step with its mark and these acts; without a step nothing
 abbrev pub joins_acts : HeaderValue → Option Step → List Placed → List Line → List Line

@@ -4,14 +4,14 @@ use Rattle.tsp_base.specs.declared.event.Event.{Event}
 use Rattle.tsp_base.specs.declared.event.Event.TheVariants.{Boot as BootAt, Turn, Take, Bytes}
 
 -- whether an event boots node n
-abbrev pub boots : Event → ℕ → Bool
-boots (BootAt at node word) n = node == n
-boots _ n = false
+abbrev pub is_boot_of : Event → ℕ → Bool
+is_boot_of (BootAt at node word) n = node == n
+is_boot_of _ n = false
 
 -- whether one of these events boots node n
 abbrev pub booted : List Event → ℕ → Bool
 booted [] n = false
-booted (e ∷ before) n = boots e n || booted before n
+booted (e ∷ before) n = is_boot_of e n || booted before n
 
 abbrev pub is_up : Option Bool → Bool
 is_up None = false
@@ -29,5 +29,5 @@ NamesNode nodes (Take at k) = Unit {0}
 NamesNode nodes (Bytes at node port from octets) = node < nodes
 
 -- after an event a node is up that was up before, or that the event boots
-abbrev pub Wakes : Event → List Bool → List Bool → Type 0
-Wakes e old new = (length new ≡ length old) × ((n : ℕ) → up_in new n ≡ (boots e n || up_in old n))
+abbrev pub IsUpAfter : Event → List Bool → List Bool → Type 0
+IsUpAfter e old new = (length new ≡ length old) × ((n : ℕ) → up_in new n ≡ (is_boot_of e n || up_in old n))

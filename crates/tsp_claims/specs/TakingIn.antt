@@ -5,13 +5,13 @@ use Rattle.tsp_base.specs.declared.act.Placed.{Placed}
 use Rattle.tsp_base.specs.Words.{HeaderValue, Line, Step}
 use Rattle.tsp_claims.specs.declared.claims.Claims.{Claims}
 use Rattle.tsp_claims.specs.declared.taking_in.HeldStep.{HeldStep}
-use Rattle.tsp_claims.specs.ClaimedHistory.{joins_acts, posts_by}
+use Rattle.tsp_claims.specs.ClaimedHistory.{joins_acts, claims_of_step}
 use Rattle.tsp_claims.specs.Fitting.{untold}
-use Rattle.tsp_claims.specs.Listed.{Wakes}
+use Rattle.tsp_claims.specs.Listed.{IsUpAfter}
 use Rattle.tsp_history.specs.Histories.{history_of, noted_after}
 
 -- there is room for a mark and so many lines, and for as many posts
-pub record HasEventRoom (count : ℕ) (c : Claims) : Type 0 where
+pub record HasRoomFor (count : ℕ) (c : Claims) : Type 0 where
   pub lines : count + 1 ≤ c.lines.room
   pub posts : vec_len c.posts + count ≤ vec_capacity c.posts
 
@@ -28,7 +28,7 @@ pub record StaysSame (old new : Claims) : Type 0 where
 -- these lines and posts are the step of an event of this number, if there is one, and what its acts claim
 pub record HoldsStep (header : HeaderValue) (event : ℕ) (step : Option Step) (acts : List Placed) (held : HeldStep) : Type 0 where
   pub lines : (h : List Line) → noted_after h held.lines.items ≡ joins_acts header step acts h
-  pub posts : held.posts.items ≡ posts_by event step acts
+  pub posts : held.posts.items ≡ claims_of_step event step acts
   pub many : vec_len held.lines ≤ length acts + 1
   pub few : vec_len held.posts ≤ length acts
 
@@ -40,4 +40,4 @@ pub record JoinsEvent (e : Event) (held : HeldStep) (count : ℕ) (old new : Cla
   pub events_are : new.events ≡ old.events + 1
   pub told_is : new.told ≡ old.told + count
   pub tally_is : new.tally ≡ untold
-  pub wakes : Wakes e old.up.items new.up.items
+  pub wakes : IsUpAfter e old.up.items new.up.items

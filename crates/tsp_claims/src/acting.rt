@@ -5,7 +5,7 @@ ghost use Rattle.tsp_base.specs.Ticks.{tick_at};
 ghost use Rattle.tsp_run.specs.Networks.{networks, ports_on};
 ghost use Rattle.tsp_run.specs.Run.{boot_step, event_at};
 ghost use Rattle.tsp_run.specs.Setup.{node_line};
-ghost use Rattle.tsp_claims.specs.ClaimedHistory.{reaches, step_at, taker};
+ghost use Rattle.tsp_claims.specs.ClaimedHistory.{post_goes, step_at, taker};
 ghost use Rattle.tsp_claims.specs.Listed.{NamesNode, up_in};
 ghost use Rattle.tsp_claims.specs.Steps.{ActsIn, step_by};
 
@@ -71,7 +71,7 @@ impl Claims {
     /// Where the claimed post with this number goes; None where it isn't there, or its addressee
     /// isn't a node of the network on which it is posted.
     fn address(&self, k: u64) -> Option<Address>
-        ensures { result ≡ reaches (networks self.now.header) (slice_get self.now.posts.items k) }
+        ensures { result ≡ post_goes (networks self.now.header) (slice_get self.now.posts.items k) }
     {
         let post = self.posts.get(k as usize)?;
         match post.placed.brief() {

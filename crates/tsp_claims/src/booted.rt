@@ -1,6 +1,6 @@
 //! Which nodes have booted, by a list that says it of each.
 ghost use Rattle.std.specs.Prelude.{◌≡◌, ◌<◌, [], true, length, vec_len, IfOk};
-ghost use Rattle.tsp_claims.specs.Listed.{NamesNode, Wakes, booted, up_in};
+ghost use Rattle.tsp_claims.specs.Listed.{NamesNode, IsUpAfter, booted, up_in};
 
 use std::alloc::{AllocError, Global};
 use tsp_base::event::Event;
@@ -31,7 +31,7 @@ pub fn has_booted(up: &[bool], n: u32) -> bool
 /// A node has booted where the event is its boot.
 pub fn wake(up: &mut Vec<bool>, e: &Event)
     requires { NamesNode (vec_len up.old) e.now }
-    ensures { Wakes e.now up.old.items up.new.items }
+    ensures { IsUpAfter e.now up.old.items up.new.items }
 {
     if let Event::Boot { node, .. } = e {
         up[*node as usize] = true;

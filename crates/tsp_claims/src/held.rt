@@ -1,6 +1,6 @@
 //! Claimed posts that are held, each in little room.
 ghost use Rattle.std.specs.Prelude.{◌≡◌, List, ℕ, Some, IfOk};
-ghost use Rattle.tsp_history.specs.HeldActs.{act_of, datagram_in};
+ghost use Rattle.tsp_history.specs.HeldActs.{act_of, posted_datagram};
 
 use std::alloc::{AllocError, Global};
 use std::marker::Model;
@@ -57,7 +57,7 @@ impl HeldPlaced {
 
     /// The datagram that it posts; none where it posts none.
     pub fn datagram(&self) -> Option<Datagram>
-        ensures { result ≡ datagram_in (Some self.now.act) }
+        ensures { result ≡ posted_datagram (Some self.now.act) }
     {
         self.act.datagram()
     }

@@ -9,7 +9,7 @@ ghost use Rattle.tsp_claims.specs.Fitting.{acts_of, untold};
 ghost use Rattle.tsp_claims.specs.Listed.{NamesNode, up_in};
 ghost use Rattle.tsp_claims.specs.Stands.{ClaimsStand, claim_of};
 ghost use Rattle.tsp_claims.specs.Steps.{ActsIn, step_by};
-ghost use Rattle.tsp_claims.specs.TakingIn.{HasEventRoom, HoldsStep, JoinsEvent, StaysSame};
+ghost use Rattle.tsp_claims.specs.TakingIn.{HasRoomFor, HoldsStep, JoinsEvent, StaysSame};
 ghost use Rattle.tsp_history.specs.Histories.{deed_of, line_of, noted_after};
 
 use crate::acting::Acting;
@@ -152,7 +152,7 @@ impl Claims {
     /// are what they were.
     fn make_room(&mut self, count: usize) -> Result<(), AllocError>
         requires { count ≤ 20000 }
-        ensures room { OnOk result (HasEventRoom count self.new) }
+        ensures room { OnOk result (HasRoomFor count self.new) }
         ensures same { StaysSame self.old self.new }
     {
         self.lines.make_room(count + 1)?;
@@ -165,7 +165,7 @@ impl Claims {
         requires node { NamesNode (length self.old.header.nodes) e.now }
         requires events { self.old.events < 20000 }
         requires lines { self.old.told + count ≤ 20000 }
-        requires room { HasEventRoom count self.old }
+        requires room { HasRoomFor count self.old }
         requires few { (vec_len held.lines ≤ count + 1) × (vec_len held.posts ≤ count) }
         ensures { JoinsEvent e.now held count self.old self.new }
     {

@@ -7,7 +7,7 @@ use Rattle.tsp_base.specs.Words.{Past, plain, eased, base, moved, word, corrects
 use Rattle.tsp_base.proofs.TickLemmas.{eased_none}
 use Rattle.tsp_rules.specs.ClockRows.{is_step, adjusts, sets}
 use Rattle.tsp_rules.specs.Guards.{is_clock_value}
-use Rattle.tsp_clock.specs.Clocks.{ClockValue, target_of, rest_of, shown_of, adjusted, set_to}
+use Rattle.tsp_clock.specs.Clocks.{ClockValue, target_of, slew_rest, shown_of, adjusted, set_to}
 use Rattle.tsp_clock.specs.ClockStands.{ClockStands}
 
 -- the ends of a clock's range
@@ -35,7 +35,7 @@ shown_after false offset left amount x n e = rw (e, eased_none (left +ℤ amount
 
 pub shown_adjusted : (v : ClockValue) (x : ℕ) (amount : ℤ) →
     shown_of (adjusted v x amount) x ≡ (if is_step amount then target_of v x +ℤ amount else shown_of v x)
-shown_adjusted v x amount = shown_after (is_step amount) v.offset (rest_of v x) amount x ((x - x) / SLEW) (omega arith)
+shown_adjusted v x amount = shown_after (is_step amount) v.offset (slew_rest v x) amount x ((x - x) / SLEW) (omega arith)
 
 -- a clock that was set stands for the past with that correction
 pub Stands_sets : (value : ℤ) (x : ℕ) (past : Past) (v : ClockValue) → ClockStands past v → ClockStands (grown x past (sets value x past)) (set_to v x value)

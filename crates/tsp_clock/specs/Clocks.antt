@@ -17,18 +17,18 @@ abbrev pub target_of : ClockValue → ℕ → ℤ
 target_of v x = v.offset +ℤ pos x
 
 -- what is still to be slewed at a tick: a microsecond less for each 200 ticks since the last correction
-abbrev pub rest_of : ClockValue → ℕ → ℤ
-rest_of v x = eased v.rest ((x - v.at) / SLEW)
+abbrev pub slew_rest : ClockValue → ℕ → ℤ
+slew_rest v x = eased v.rest ((x - v.at) / SLEW)
 
 -- the value shown at a tick: the target less what is still to be slewed
 abbrev pub shown_of : ClockValue → ℕ → ℤ
-shown_of v x = target_of v x -ℤ rest_of v x
+shown_of v x = target_of v x -ℤ slew_rest v x
 
 -- the clock after a correction by an amount: a large one steps, any other is slewed
 abbrev pub adjusted : ClockValue → ℕ → ℤ → ClockValue
 adjusted v x amount = record {
   offset = v.offset +ℤ amount;
-  rest = if is_step amount then pos 0 else rest_of v x +ℤ amount;
+  rest = if is_step amount then pos 0 else slew_rest v x +ℤ amount;
   at = x;
   ticket = (v.ticket + 1) % 32768;
 }

@@ -8,7 +8,7 @@ ghost use Rattle.tsp_base.specs.History.{Past, Booted};
 ghost use Rattle.tsp_base.specs.Rows.{grown};
 ghost use Rattle.tsp_rules.specs.ClockRows.{is_step};
 ghost use Rattle.tsp_rules.specs.Guards.{is_clock_value};
-ghost use Rattle.tsp_clock.specs.Clocks.{target_of, rest_of, shown_of, adjusted, set_to};
+ghost use Rattle.tsp_clock.specs.Clocks.{target_of, slew_rest, shown_of, adjusted, set_to};
 
 use crate::slew::eased;
 use std::marker::Model;
@@ -111,7 +111,7 @@ impl Clock {
     fn rest(&self, tick: u64) -> i64
         requires tick { IsTick tick }
         requires later { self.now.at ≤ tick }
-        ensures value { result ≡ rest_of self.now tick }
+        ensures value { result ≡ slew_rest self.now tick }
         ensures low { negsuc 2147483647999999 <ℤ shown_of self.now tick }
         ensures high { shown_of self.now tick ≤ℤ pos (2147483648000000 + tick) }
     {
@@ -146,7 +146,7 @@ impl Clock {
         requires tick { IsTick tick }
         requires later { self.now.at ≤ tick }
         requires range { is_clock_value (target_of self.now tick +ℤ amount) ≡ true }
-        ensures value { result ≡ (if is_step amount then pos 0 else rest_of self.now tick +ℤ
+        ensures value { result ≡ (if is_step amount then pos 0 else slew_rest self.now tick +ℤ
             amount) }
         ensures low { negsuc 2147483647999999 <ℤ ((target_of self.now tick +ℤ amount) -ℤ result) }
         ensures high { ((target_of self.now tick +ℤ amount) -ℤ result) ≤ℤ pos

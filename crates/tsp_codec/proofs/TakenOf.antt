@@ -18,7 +18,7 @@ use Rattle.tsp_base.specs.declared.datagram.Taken.{Taken}
 use Rattle.tsp_base.specs.declared.datagram.Taken.TheVariants.{Good, Bad}
 use Rattle.tsp_codec.specs.Numbers.{octet_at, be16_at, be64_at}
 use Rattle.tsp_codec.specs.Spelling.{HasHead, IsStamp, IsTime, Spells, SpellsBody, SpellsName, time_field, reading_field}
-use Rattle.tsp_codec.specs.Faults.{name_room, IsReading, Reads}
+use Rattle.tsp_codec.specs.Faults.{name_room, IsCodedReading, Reads}
 use Rattle.tsp_codec.specs.Taken.{before_nul, is_time, is_reading, body_of, message_taken, request_taken, reply_taken, kind_taken, taken_of}
 use Rattle.tsp_codec.proofs.Lists.{Contains-∷}
 use Rattle.tsp_codec.specs.Canon.{canon, IsWritable}
@@ -75,11 +75,11 @@ IsTime-is_time o e =
 is_time-IsTime : (o : List ℕ) → IsTime o → is_time o ≡ true
 is_time-IsTime o p = and_from _ _ (and_from _ _ (true_from_T _ p.low.le) (true_from_T _ p.high.le)) (and_from _ _ (true_from_T _ p.value.low.le) (true_from_T _ p.value.high.lt))
 
-IsReading-is_reading : (r : ℤ) → is_reading r ≡ true → IsReading r
-IsReading-is_reading r e = let p = and_parts _ _ e in record { low = record { lt = T_from_true _ p.0 }; high = record { lt = T_from_true _ p.1 } }
+IsCodedReading-is_reading : (r : ℤ) → is_reading r ≡ true → IsCodedReading r
+IsCodedReading-is_reading r e = let p = and_parts _ _ e in record { low = record { lt = T_from_true _ p.0 }; high = record { lt = T_from_true _ p.1 } }
 
-is_reading-IsReading : (r : ℤ) → IsReading r → is_reading r ≡ true
-is_reading-IsReading r p = and_from _ _ (true_from_T _ p.low.lt) (true_from_T _ p.high.lt)
+is_reading-IsCodedReading : (r : ℤ) → IsCodedReading r → is_reading r ≡ true
+is_reading-IsCodedReading r p = and_from _ _ (true_from_T _ p.low.lt) (true_from_T _ p.high.lt)
 
 -- what a body is read as
 abbrev ReadsBody : List ℕ → Kind → Option Body → Type 0
@@ -112,7 +112,7 @@ Reads-reply_taken : (o : List ℕ) (a b : Bool) → nat_lt 32767 (be16_at o 2) �
     → Reads o (if a then Bad Reserved else (if b then Good (Stamp (Reply (record { ticket = be16_at o 2; word = be64_at o 4; counter = be64_at o 12; reading = reading_field o }))) else Bad Time))
 Reads-reply_taken o true b d e h = IsFault-Reserved-reply o h (ltb-true 32767 (be16_at o 2) d)
 Reads-reply_taken o false true d e h =
-    let r = IsReading-is_reading (reading_field o) e in
+    let r = IsCodedReading-is_reading (reading_field o) e in
     let t : be16_at o 2 < 32768 = omega (arith, ltb-false 32767 (be16_at o 2) d) in record {
       head = h;
       ticket = refl;
@@ -123,7 +123,7 @@ Reads-reply_taken o false true d e h =
     }
 Reads-reply_taken o false false d e h =
     IsFault-Time-reply o (be16_at o 2) (reading_field o) h refl refl (ltb-false 32767 (be16_at o 2) d)
-    (λ r. both_ways _ e (is_reading-IsReading (reading_field o) (record { low = r.low; high = r.high })))
+    (λ r. both_ways _ e (is_reading-IsCodedReading (reading_field o) (record { low = r.low; high = r.high })))
 
 Reads-stamp_taken : (o : List ℕ) (a b c : Bool) → (octet_at o 0 == 128) ≡ a → (octet_at o 0 == 129) ≡ b → (length o == 28) ≡ c → HasHead o → kind_of (octet_at o 0) ≡ None
     → Reads o (if a then (if c then request_taken o else Bad StampLength) else (if b then (if c then reply_taken o else Bad StampLength) else Bad BadKind))

@@ -26,7 +26,7 @@ abbrev pub HasTimedKind : List ℕ → Type 0
 HasTimedKind octets = (kind : Kind) × (kind_of (octet_at octets 0) ≡ Some kind) × (carries_time kind ≡ true)
 
 -- a reading within its range
-pub record IsReading (reading : ℤ) : Type 0 where
+pub record IsCodedReading (reading : ℤ) : Type 0 where
   pub low : negsuc 2147483647999999 <ℤ reading
   pub high : reading <ℤ pos 2147483648000000
 
@@ -40,7 +40,7 @@ Applies octets StampLength = HasStampType octets × (length octets ≢ 28)
 Applies octets NoEnd = HasKind octets × (length (drop 12 octets) < 256) × ¬ Contains (name_room octets) 0
 Applies octets NameTooLong = HasKind octets × (256 ≤ length (drop 12 octets)) × ¬ Contains (name_room octets) 0
 Applies octets Reserved = ((octet_at octets 0 ≡ 128) × ((be16_at octets 2 ≢ 0) ⊎ (be64_at octets 20 ≢ 0))) ⊎ ((octet_at octets 0 ≡ 129) × (32767 < be16_at octets 2))
-Applies octets Time = (HasTimedKind octets × ¬ IsTime octets) ⊎ ((octet_at octets 0 ≡ 129) × ¬ IsReading (reading_field octets))
+Applies octets Time = (HasTimedKind octets × ¬ IsTime octets) ⊎ ((octet_at octets 0 ≡ 129) × ¬ IsCodedReading (reading_field octets))
 
 -- the place of a fault in the order in which faults are looked for
 abbrev pub rank : DecodeFault → ℕ

@@ -10,7 +10,7 @@ use Rattle.tsp_io.specs.declared.addr.Addr.{Addr}
 use Rattle.tsp_promises.specs.Setting.{Alone, Named, Network, Setting}
 use Rattle.tsp_rules.specs.NodeRows.{PortSetup, no_port}
 use Rattle.tsp_daemon.specs.Kept.{SetByWords}
-use Rattle.tsp_daemon.specs.Nodes.{is_strict, peer_of, setups_from}
+use Rattle.tsp_daemon.specs.Nodes.{is_strict, numbered_peer, setups_from}
 use Rattle.tsp_run.proofs.NetworkLemmas.{port_named}
 
 -- each port is on a network of its own
@@ -19,13 +19,13 @@ net_of zero q = Named q.0
 net_of (suc n) q = Alone (suc n) q.0
 
 abbrev peers_in : Option PortSetup → List PeerId
-peers_in None = peer_of 0 ∷ []
+peers_in None = numbered_peer 0 ∷ []
 peers_in (Some setup) = setup.peers
 
 -- who is on it: on the daemon's own the peers of its port
 abbrev members_in : List PortSetup → Network → List PeerId
 members_in ports (Named k) = peers_in (slice_get ports k)
-members_in ports (Alone n q) = peer_of n ∷ []
+members_in ports (Alone n q) = numbered_peer n ∷ []
 
 -- the number of a network
 abbrev number_of : Network → ℕ
@@ -36,15 +36,15 @@ apart : (n : ℕ) (p q : Port) → net_of n p ≡ net_of n q → p ≡ q
 apart zero p q e = port_named p q (ap number_of e)
 apart (suc n) p q e = port_named p q (ap number_of e)
 
-among-self : (n : ℕ) (rest : List PeerId) → is_among (peer_of n) (peer_of n ∷ rest) ≡ true
+among-self : (n : ℕ) (rest : List PeerId) → is_among (numbered_peer n) (numbered_peer n ∷ rest) ≡ true
 among-self n rest = let same : (n == n) ≡ true = eq-eqb n n refl in rw same refl
 
-own-peers : (done : ℕ) (ports : List (List Addr)) (k : ℕ) → is_among (peer_of 0) (peers_in (slice_get (setups_from done ports) k)) ≡ true
+own-peers : (done : ℕ) (ports : List (List Addr)) (k : ℕ) → is_among (numbered_peer 0) (peers_in (slice_get (setups_from done ports) k)) ≡ true
 own-peers done [] k = among-self 0 []
-own-peers done (peers ∷ ports) zero = among-self 0 (map (λ number. peer_of number) (range_with_len (done + 1) (length peers)))
+own-peers done (peers ∷ ports) zero = among-self 0 (map (λ number. numbered_peer number) (range_with_len (done + 1) (length peers)))
 own-peers done (peers ∷ ports) (suc k) = own-peers (done + length peers) ports k
 
-own : (s : ServeWords) (n : ℕ) (q : Port) → is_among (peer_of n) (members_in (setups_from 0 s.ports) (net_of n q)) ≡ true
+own : (s : ServeWords) (n : ℕ) (q : Port) → is_among (numbered_peer n) (members_in (setups_from 0 s.ports) (net_of n q)) ≡ true
 own s zero q = own-peers 0 s.ports q.0
 own s (suc n) q = among-self (suc n) []
 

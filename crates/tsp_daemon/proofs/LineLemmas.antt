@@ -8,13 +8,13 @@ use Rattle.tsp_lines.proofs.Outputs.{Grows-trans}
 use Rattle.tsp_daemon.specs.declared.end.ServeEnd.{ServeEnd}
 use Rattle.tsp_daemon.specs.declared.end.ServeEnd.TheVariants.{Done, LinkFault, WriteFault, OutOfMemory}
 use Rattle.tsp_daemon.specs.Ends.{CutsShort, TellsUntil}
-use Rattle.tsp_daemon.specs.Posts.{send_of, line_of, lines_of}
+use Rattle.tsp_daemon.specs.Posts.{send_of, line_of, act_lines}
 
 -- the lines of acts from a place on are that of the act there, and those of the acts behind it
 pub lines_here : (turn tick number : ℕ) (acts : List Placed) (i : ℕ) (item : Placed) → i < length acts → get_or acts i item ≡ item →
-    lines_of turn tick number (drop i acts) ≡ line_of turn tick number item ++ lines_of turn tick (number + length (send_of item.act)) (drop (i + 1) acts)
+    act_lines turn tick number (drop i acts) ≡ line_of turn tick number item ++ act_lines turn tick (number + length (send_of item.act)) (drop (i + 1) acts)
 lines_here turn tick number acts i item l e =
-    ap (λ ps. lines_of turn tick number ps) (drop_more acts i item l) ∙ ap (λ (p : Placed). line_of turn tick number p ++ lines_of turn tick (number + length (send_of p.act)) (drop (i + 1) acts)) e
+    ap (λ ps. act_lines turn tick number ps) (drop_more acts i item l) ∙ ap (λ (p : Placed). line_of turn tick number p ++ act_lines turn tick (number + length (send_of p.act)) (drop (i + 1) acts)) e
 
 -- some text, and a line that was cut off
 cuts_on : (all done line rest : List ℕ) (a b c : Option (List ℕ)) → Grows a b done → all ≡ done ++ (line ++ rest) → CutsShort line b c → CutsShort all a c

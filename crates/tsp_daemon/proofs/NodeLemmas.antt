@@ -13,18 +13,18 @@ use Rattle.tsp_io.specs.declared.addr.Addr.{Addr}
 use Rattle.tsp_rules.specs.NodeRows.{PortSetup}
 use Rattle.tsp_args.specs.Ports.{all_peers}
 use Rattle.tsp_args.specs.declared.serve.ServeWords.{ServeWords}
-use Rattle.tsp_daemon.specs.Nodes.{peer_of, port_peers, setup_of, setups_from, config_of}
+use Rattle.tsp_daemon.specs.Nodes.{numbered_peer, port_peers, numbered_setup, setups_from, daemon_config}
 
 -- a port has one peer more than it has behind the daemon
 length-peers : (done count : ℕ) → length (port_peers done count) ≡ count + 1
-length-peers done count = let len = length-map-range_with_len (λ k. peer_of k) (done + 1) count in omega (arith, len)
+length-peers done count = let len = length-map-range_with_len (λ k. numbered_peer k) (done + 1) count in omega (arith, len)
 
 -- the number of the peer in a place behind the first
 number_at : (done count k : ℕ) → k < count → slice_index (map (λ (p : PeerId). p.0) (port_peers done count)) (suc k) ≡ done + 1 + k
 number_at done count k h =
-    let len = length-map-range_with_len (λ i. peer_of i) (done + 1) count in
-    get_or-map (λ (p : PeerId). p.0) (map (λ i. peer_of i) (range_with_len (done + 1) count)) k (peer_of 0) 0 (omega (arith, h, len))
-    ∙ ap (λ (p : PeerId). p.0) (get_or-map-range_with_len (λ i. peer_of i) (done + 1) count k (done + 1 + k) (peer_of 0) h refl)
+    let len = length-map-range_with_len (λ i. numbered_peer i) (done + 1) count in
+    get_or-map (λ (p : PeerId). p.0) (map (λ i. numbered_peer i) (range_with_len (done + 1) count)) k (numbered_peer 0) 0 (omega (arith, h, len))
+    ∙ ap (λ (p : PeerId). p.0) (get_or-map-range_with_len (λ i. numbered_peer i) (done + 1) count k (done + 1 + k) (numbered_peer 0) h refl)
 
 -- each peer's number is below the next one's
 ascends : (done count k : ℕ) → k + 1 < length (map (λ (p : PeerId). p.0) (port_peers done count)) → slice_index (map (λ (p : PeerId). p.0) (port_peers done count)) k < slice_index (map (λ (p : PeerId). p.0) (port_peers done count)) (k + 1)
@@ -41,8 +41,8 @@ ascends done count k h = by_place k (let len = length-peers done count in let lo
       subst (λ n. slice_index numbers (suc k) < slice_index numbers n) (sym one) (omega (arith, here, next))
 
 -- a node can have a port behind so many peers
-IsPortSetup-setup_of : (done count : ℕ) → count ≤ 999 → IsPortSetup (setup_of done count)
-IsPortSetup-setup_of done count few = record {
+IsPortSetup-numbered_setup : (done count : ℕ) → count ≤ 999 → IsPortSetup (numbered_setup done count)
+IsPortSetup-numbered_setup done count few = record {
   peers = record { few = (let len = length-peers done count in omega (arith, len, few)); ascending = ascends done count };
   own = refl;
 }
@@ -52,7 +52,7 @@ pub ArePorts-setups_from : (done : ℕ) (ports : List (List Addr)) → length (a
 ArePorts-setups_from done [] few = tt
 ArePorts-setups_from done (peers ∷ ports) few =
     let both = length-append peers (all_peers ports) in (
-      IsPortSetup-setup_of done (length peers) (omega (arith, few, both)),
+      IsPortSetup-numbered_setup done (length peers) (omega (arith, few, both)),
       ArePorts-setups_from (done + length peers) ports (omega (arith, few, both)),
     )
 
@@ -70,7 +70,7 @@ room-setups done (peers ∷ ports) =
     let rest = room-setups (done + length peers) ports in
     omega (arith, both, len, rest)
 
-pub room_is : (s : ServeWords) (ports : List (List PeerId)) → ports ≡ peers_of_ports (config_of s).ports → length (all_peers s.ports) ≤ 999 → length s.ports ≤ 4 → room_of_ports ports ≤ 24 * 1003 + 4 * 256
+pub room_is : (s : ServeWords) (ports : List (List PeerId)) → ports ≡ peers_of_ports (daemon_config s).ports → length (all_peers s.ports) ≤ 999 → length s.ports ≤ 4 → room_of_ports ports ≤ 24 * 1003 + 4 * 256
 room_is s ports is few four = let room = room-setups 0 s.ports in let same = ap room_of_ports is in omega (arith, room, same, few, four)
 
 -- the ports from a place on are the one there and those behind it
@@ -79,9 +79,9 @@ ports-here ports i peers e = drop_more ports i peers (slice_get_within ports i p
 
 -- one port more is set up
 pub setups_more : (before : List PortSetup) (done : ℕ) (ports : List (List Addr)) (i : ℕ) (peers : List Addr) → slice_get ports i ≡ Some peers →
-    (before ++ setup_of done (length peers) ∷ []) ++ setups_from (done + length peers) (drop (i + 1) ports) ≡ before ++ setups_from done (drop i ports)
+    (before ++ numbered_setup done (length peers) ∷ []) ++ setups_from (done + length peers) (drop (i + 1) ports) ≡ before ++ setups_from done (drop i ports)
 setups_more before done ports i peers e =
-    append_assoc before (setup_of done (length peers) ∷ []) (setups_from (done + length peers) (drop (i + 1) ports))
+    append_assoc before (numbered_setup done (length peers) ∷ []) (setups_from (done + length peers) (drop (i + 1) ports))
     ∙ ap (λ (ps : List (List Addr)). before ++ setups_from done ps) (sym (ports-here ports i peers e))
 
 -- and its peers are among the few

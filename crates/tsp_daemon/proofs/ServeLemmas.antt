@@ -2,7 +2,7 @@
 use Rattle.std.specs.Prelude.{◌≡◌, ℕ, ◌≤◌, ℤ, true, List, Option, Some}
 use Rattle.std.specs.Option.{option_map}
 use Rattle.std.proofs.Common.{arith, ap, ◌∙◌, subst, refl}
-use Rattle.tsp_query.specs.Arrivals.{rest_of}
+use Rattle.tsp_query.specs.Arrivals.{all_but_first}
 use Rattle.tsp_daemon.specs.declared.end.ServeEnd.{ServeEnd}
 use Rattle.tsp_daemon.specs.declared.end.ServeEnd.TheVariants.{Done, LinkFault, WriteFault, OutOfMemory}
 use Rattle.tsp_daemon.specs.Ends.{IsAt, Serves, ServesUntil}
@@ -13,7 +13,7 @@ use Rattle.tsp_gateway.specs.declared.gateway.Gateway.{Gateway}
 use Rattle.tsp_gateway.specs.GatewayStands.{GatewayStands}
 use Rattle.tsp_io.specs.Clocks.{TakesReading}
 use Rattle.tsp_io.specs.Links.{Arrival, Tried}
-use Rattle.tsp_query.specs.Clocks.{reading}
+use Rattle.tsp_query.specs.Clocks.{tick_given}
 use Rattle.tsp_query.specs.Ends.{Outside, KnowsExactly}
 use Rattle.tsp_query.specs.Outside.{Observed}
 use Rattle.tsp_rules.specs.Guards.{is_clock_value}
@@ -29,7 +29,7 @@ pub Tells_read : (o : Outside) (arrivals : Option (List Arrival)) (tried : Optio
     → TakesReading readings between last tick → now_readings ≡ between → now_last ≡ tick → KnowsExactly o arrivals tried calls readings last → KnowsExactly (read_once o) arrivals tried calls now_readings now_last × (tick ≡ (read_once o).last)
 Tells_read o arrivals tried calls readings between now_readings last tick now_last takes same is k =
     let taken = reading_taken o.readings readings between last tick k.readings_are takes in
-    let read = taken.1 ∙ ap (λ n. reading n o.readings 0) k.last_is in (
+    let read = taken.1 ∙ ap (λ n. tick_given n o.readings 0) k.last_is in (
       record {
         arrivals_are = k.arrivals_are;
         tried_are = k.tried_are;
@@ -42,7 +42,7 @@ Tells_read o arrivals tried calls readings between now_readings last tick now_la
 
 -- the wall clock was read after the first tick, and not again
 pub walled_is : (readings between : Option (List ℕ)) (last first : ℕ) (walled later : Option (Option (List ℕ))) (left : List ℕ) → readings ≡ Some left → TakesReading readings between last first →
-    walled ≡ option_map (λ rest. Some rest) between → later ≡ walled → later ≡ Some (Some (rest_of left))
+    walled ≡ option_map (λ rest. Some rest) between → later ≡ walled → later ≡ Some (Some (all_but_first left))
 walled_is readings between last first walled later left told takes at same = same ∙ at ∙ ap (λ rest. option_map (λ (r : List ℕ). Some r) rest) (reading_taken left readings between last first told takes).0
 
 -- a session takes no more turns than it has

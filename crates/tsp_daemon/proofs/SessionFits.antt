@@ -8,7 +8,7 @@ use Rattle.tsp_rules.specs.Values.{Placed, PeerId, Place, Peer, Stranger, Port}
 use Rattle.tsp_base.specs.Words.{Acts, Begins, Booted, Cause, Line, Step, Turned, dids, of, view, first_port, joined, line_of, time_of, up, posted, tick_at}
 use Rattle.tsp_base.proofs.PlaceLemmas.{Within-all}
 use Rattle.tsp_gateway.specs.GateConfigs.{peers_of_ports}
-use Rattle.tsp_gateway.specs.PortOf.{has_other, port_of_from}
+use Rattle.tsp_gateway.specs.PortOf.{has_other_peer, port_of_from}
 use Rattle.tsp_gateway.specs.Rooms.{room_of_ports}
 use Rattle.tsp_io.specs.Links.{Arrival}
 use Rattle.tsp_io.specs.declared.addr.Addr.{Addr}
@@ -38,9 +38,9 @@ use Rattle.tsp_run.proofs.FitsLines.{ActsOn, AllAlive, AreOn, acts_fit, all_end,
 use Rattle.tsp_run.proofs.RunLemmas.{up_joined}
 use Rattle.tsp_run.proofs.RunFits.{joined-time}
 use Rattle.tsp_daemon.specs.Kept.{HistoryKept, SetByWords}
-use Rattle.tsp_daemon.specs.Nodes.{config_of, first_past, is_strict, setups_from}
+use Rattle.tsp_daemon.specs.Nodes.{daemon_config, first_past, is_strict, setups_from}
 use Rattle.tsp_daemon.specs.Serving.{first_session}
-use Rattle.tsp_daemon.specs.Sessions.{after_turns, begun, cause_of, given_in, given_of, port_from, read_once, Rises, tick_of}
+use Rattle.tsp_daemon.specs.Sessions.{after_turns, turn_begun, turn_cause, given_in, given_of, port_from, read_once, Rises, turn_tick}
 use Rattle.tsp_daemon.proofs.NodeLemmas.{length-setups_from, room_is}
 
 -- all lines are of node 0
@@ -94,7 +94,7 @@ room-of (s ∷ rest) = ap (λ n. 24 * length s.peers + 256 + n) (room-of rest)
 -- the port on which something is taken is one of the node's
 port-below : (k : ℕ) (p : PeerId) (ports : List PortSetup) → 0 < k + length ports → (port_of_from k p ports).0 < k + length ports
 port-below k p [] some = some
-port-below k p (s ∷ rest) some = by_case (has_other p s) (port-below (k + 1) p rest (omega arith)) where
+port-below k p (s ∷ rest) some = by_case (has_other_peer p s) (port-below (k + 1) p rest (omega arith)) where
   by_case : (b : Bool) → (port_of_from (k + 1) p rest).0 < k + 1 + length rest → (if b then record { 0 = k } else port_of_from (k + 1) p rest).0 < k + length (s ∷ rest)
   by_case true later = omega arith
   by_case false later = omega (arith, later)
@@ -196,7 +196,7 @@ module _ {s : ServeWords} {setting : Setting} {tick : ℕ} {wall : ℤ} (is : Is
   boots word =
       let base : NodePast = record {
         name = s.name;
-        may = (config_of s).may;
+        may = (daemon_config s).may;
         strict = is_strict s.candidacy;
         ports = setups_from 0 s.ports;
         step = step_of (Booted word wall) tick;
@@ -224,9 +224,9 @@ module _ {s : ServeWords} {setting : Setting} {tick : ℕ} {wall : ℤ} (is : Is
 
   -- a turn
   one-turn : (n t x : ℕ) (past : NodePast) (g : NodeGiven) → Ran s setting n t past × (up (dids past.lines) ≡ true) → t ≤ x → n ≤ 1000000001 → GivenOn g past →
-      Ran s setting (n + 1) x (spread x (begun g x past) (answers_all g x (begun g x past))) × (up (dids (spread x (begun g x past) (answers_all g x (begun g x past))).lines) ≡ true)
+      Ran s setting (n + 1) x (spread x (turn_begun g x past) (answers_all g x (turn_begun g x past))) × (up (dids (spread x (turn_begun g x past) (answers_all g x (turn_begun g x past))).lines) ≡ true)
   one-turn n t x past NodeTurn r later turns given =
-      let mid : NodePast = begun NodeTurn x past in
+      let mid : NodePast = turn_begun NodeTurn x past in
       let ok = turn_ok setting (step_of Turned x) x past.lines mid (four past r.0.ports) in (
         one-step n t x past Turned (answers_all NodeTurn) r.0 later turns (λ fresh. (answers_all_end NodeTurn).run x mid (tt, fresh))
             (subst (λ b. StepOk (length past.ports) (room past.ports) setting (step_of Turned x) x past.lines b (answers_all NodeTurn x mid)) (sym r.1) ok),
@@ -234,11 +234,11 @@ module _ {s : ServeWords} {setting : Setting} {tick : ℕ} {wall : ℤ} (is : Is
       )
   one-turn n t x past (GotOn q from taken) r later turns given =
       let g : NodeGiven = GotOn q from taken in
-      let mid : NodePast = begun g x past in
-      let ok = got_ok setting (step_of (cause_of g) x) x past.lines mid q from taken (four past r.0.ports) given tt in (
-        one-step n t x past (cause_of g) (answers_all g) r.0 later turns (λ fresh. (answers_all_end g).run x mid (given, fresh))
-            (subst (λ b. StepOk (length past.ports) (room past.ports) setting (step_of (cause_of g) x) x past.lines b (answers_all g x mid)) (sym r.1) ok),
-        up-after x (cause_of g) past (answers_all g x mid) r.1,
+      let mid : NodePast = turn_begun g x past in
+      let ok = got_ok setting (step_of (turn_cause g) x) x past.lines mid q from taken (four past r.0.ports) given tt in (
+        one-step n t x past (turn_cause g) (answers_all g) r.0 later turns (λ fresh. (answers_all_end g).run x mid (given, fresh))
+            (subst (λ b. StepOk (length past.ports) (room past.ports) setting (step_of (turn_cause g) x) x past.lines b (answers_all g x mid)) (sym r.1) ok),
+        up-after x (turn_cause g) past (answers_all g x mid) r.1,
       )
 
 given-on : (past : NodePast) (a : Arrival) → 0 < length past.ports → GivenOn (given_of past.ports a) past
@@ -253,9 +253,9 @@ turns-ran s o wall word written setting is set (suc i) few rises =
     let now = after_turns i (first_session s o wall word written) in
     let r = turns-ran s o wall word written setting is set i (omega (arith, few)) rises.0 in
     let most = is.few in
-    let one = one-turn is set (i + 1) now.outside.last (tick_of now) now.past (given_in now) r rises.1 (omega (arith, few, most)) (given-on now.past (next_arrival now.outside.arrivals) (some_port is set now.past r.0.ports)) in
+    let one = one-turn is set (i + 1) now.outside.last (turn_tick now) now.past (given_in now) r rises.1 (omega (arith, few, most)) (given-on now.past (next_arrival now.outside.arrivals) (some_port is set now.past r.0.ports)) in
     let same : i + 1 + 1 ≡ suc i + 1 = omega arith in
-    (subst (λ n. Ran s setting n (tick_of now) (after_turns (suc i) (first_session s o wall word written)).past) same one.0, one.1)
+    (subst (λ n. Ran s setting n (turn_tick now) (after_turns (suc i) (first_session s o wall word written)).past) same one.0, one.1)
 
 finished : (s : ServeWords) (setting : Setting) (tick : ℕ) (wall : ℤ) (n t : ℕ) (past : NodePast) → IsServe s → SetByWords s tick wall setting → Ran s setting n t past → Finished setting past.lines
 finished s setting tick wall n t past is set r zero q =

@@ -17,8 +17,8 @@ use Rattle.tsp_io.specs.Streams.{Grows}
 use Rattle.tsp_io.specs.declared.link.Recv.{Recv}
 use Rattle.tsp_io.specs.declared.link.Recv.TheVariants.{Datagram, Nothing, Failed}
 use Rattle.tsp_query.proofs.AskLemmas.{reading_taken}
-use Rattle.tsp_query.specs.Arrivals.{next_arrival, rest_of}
-use Rattle.tsp_query.specs.Clocks.{reading}
+use Rattle.tsp_query.specs.Arrivals.{next_arrival, all_but_first}
+use Rattle.tsp_query.specs.Clocks.{tick_given}
 use Rattle.tsp_query.specs.Ends.{Outside, KnowsExactly}
 use Rattle.tsp_rules.specs.GateRows.{NodeGiven, NodeTurn, GotOn, answers_all}
 use Rattle.tsp_rules.specs.NodePerforms.{PerformsAll}
@@ -28,17 +28,17 @@ use Rattle.tsp_daemon.specs.declared.end.ServeEnd.{ServeEnd}
 use Rattle.tsp_daemon.specs.declared.end.ServeEnd.TheVariants.{Done, LinkFault, WriteFault, OutOfMemory}
 use Rattle.tsp_daemon.specs.Ends.{given_by, TriesAll, FinishesUntil, Lives, IsAt, EndsTurn, ServesUntil}
 use Rattle.tsp_daemon.specs.Posts.{sends_of, shown_lines, AreKnown}
-use Rattle.tsp_daemon.specs.Sessions.{Session, port_from, given_of, unheard, waited, tick_of, given_in, cause_of, begun, acts_in, past_after, shown, turned, after_turns, Rises}
+use Rattle.tsp_daemon.specs.Sessions.{Session, port_from, given_of, unheard, waited, turn_tick, given_in, turn_cause, turn_begun, acts_in_turn, past_after, shown_by_turn, turned, after_turns, Rises}
 use Rattle.tsp_daemon.proofs.StrangerLemmas.{is_strange_on, known_any, known_steps}
 
 -- a told arrival is the next, and the node is given it
 received_is : (ports : List PortSetup) (arriving : List Arrival) (arrivals rest : Option (List Arrival)) (stranger now : Bool) (r : Recv) (buf : List ℕ) → arrivals ≡ Some arriving → (r ≡ Failed → ⊥) → ReceivesOne arrivals rest stranger now r buf →
-    (rest ≡ Some (rest_of arriving)) × (given_by ports r buf ≡ given_of ports (next_arrival arriving))
+    (rest ≡ Some (all_but_first arriving)) × (given_by ports r buf ≡ given_of ports (next_arrival arriving))
 received_is ports arriving arrivals rest stranger now (Datagram from count) buf is ok got = by_datagram (subst (λ a. TakesDatagram a rest from (take count buf)) is got.1) where
-  by_datagram : TakesDatagram (Some arriving) rest from (take count buf) → (rest ≡ Some (rest_of arriving)) × (given_by ports (Datagram from count) buf ≡ given_of ports (next_arrival arriving))
-  by_datagram t = (t.3 ∙ ap (λ (xs : List Arrival). Some (rest_of xs)) (sym t.2), ap (λ (o : List ℕ). GotOn (port_from ports from) from (taken_of o)) t.4 ∙ ap (λ (xs : List Arrival). given_of ports (next_arrival xs)) (sym t.2))
+  by_datagram : TakesDatagram (Some arriving) rest from (take count buf) → (rest ≡ Some (all_but_first arriving)) × (given_by ports (Datagram from count) buf ≡ given_of ports (next_arrival arriving))
+  by_datagram t = (t.3 ∙ ap (λ (xs : List Arrival). Some (all_but_first xs)) (sym t.2), ap (λ (o : List ℕ). GotOn (port_from ports from) from (taken_of o)) t.4 ∙ ap (λ (xs : List Arrival). given_of ports (next_arrival xs)) (sym t.2))
 received_is ports arriving arrivals rest stranger now Nothing buf is ok got = by_nothing arriving (subst (λ a. TakesNothing a rest) is got.0) where
-  by_nothing : (xs : List Arrival) → TakesNothing (Some xs) rest → (rest ≡ Some (rest_of xs)) × (NodeTurn ≡ given_of ports (next_arrival xs))
+  by_nothing : (xs : List Arrival) → TakesNothing (Some xs) rest → (rest ≡ Some (all_but_first xs)) × (NodeTurn ≡ given_of ports (next_arrival xs))
   by_nothing [] t = (t, refl)
   by_nothing (a ∷ after) t = (t.1, ap (λ (b : Arrival). given_of ports b) (sym t.0))
 received_is ports arriving arrivals rest stranger now Failed buf is ok got = absurd (ok refl)
@@ -54,10 +54,10 @@ pub waits_is : (ports : List PortSetup) (o : Outside) (arrivals now_arrivals : O
     TakesReading between now_readings last_between tick → now_last ≡ tick → Waits ports o r buf tick now_arrivals now_tried now_calls now_readings now_last
 waits_is ports o arrivals now_arrivals tried now_tried calls now_calls readings between now_readings last first last_between tick now_last stranger now r buf t one one_is got ok same counted two two_is =
     let a = reading_taken o.readings readings between last first t.readings_are one in
-    let b = reading_taken (rest_of o.readings) between now_readings last_between tick a.0 two in
+    let b = reading_taken (all_but_first o.readings) between now_readings last_between tick a.0 two in
     let c = received_is ports o.arrivals arrivals now_arrivals stranger now r buf t.arrivals_are ok got in
-    let from : last_between ≡ reading o.last o.readings 0 = one_is ∙ a.1 ∙ ap (λ n. reading n o.readings 0) t.last_is in
-    let to : tick ≡ (waited o).last = b.1 ∙ ap (λ n. reading n (rest_of o.readings) 0) from in
+    let from : last_between ≡ tick_given o.last o.readings 0 = one_is ∙ a.1 ∙ ap (λ n. tick_given n o.readings 0) t.last_is in
+    let to : tick ≡ (waited o).last = b.1 ∙ ap (λ n. tick_given n (all_but_first o.readings) 0) from in
     record {
       tells = record {
         arrivals_are = c.0;
@@ -82,25 +82,25 @@ unheard_is o arrivals now_arrivals tried now_tried calls now_calls readings betw
       tried_are = same ∙ t.tried_are;
       calls_are = counted ∙ ap (option_map one_more) t.calls_are;
       readings_are = a.0;
-      last_is = one_is ∙ a.1 ∙ ap (λ n. reading n o.readings 0) t.last_is;
+      last_is = one_is ∙ a.1 ∙ ap (λ n. tick_given n o.readings 0) t.last_is;
     }
 
 -- what a turn's step has come to
 pub record Steps (s : Session) (next : Gateway) (counters : Counters) (tick : ℕ) (acts : List Placed) (on : Bool) : Type 0 where
   pub stands : GatewayStands (past_after s) next
-  pub acts_are : acts ≡ acts_in s
-  pub text_is : shown_lines on (counters.turns + 1) tick counters.posts acts ≡ shown s
+  pub acts_are : acts ≡ acts_in_turn s
+  pub text_is : shown_lines on (counters.turns + 1) tick counters.posts acts ≡ shown_by_turn s
 
 pub steps_is : (s : Session) (node next : Gateway) (counters : Counters) (r : Recv) (buf : List ℕ) (tick : ℕ) (acts : List Placed) (arrivals : Option (List Arrival)) (tried : Option (List Tried)) (calls : Option ℕ) (readings : Option (List ℕ)) (last : ℕ) (before after on : Bool) →
     GatewayStands s.past node → counters.turns ≡ s.turns → counters.posts ≡ s.posts → Waits s.past.ports s.outside r buf tick arrivals tried calls readings last →
     PerformsAll GatewayBegun GatewayStands (answers_all (given_by (setups_in node) r buf)) tick node next [] acts → before ≡ tracing (dids s.past.lines) → ((past : NodePast) → GatewayStands past next → after ≡ tracing (dids past.lines)) → on ≡ (before || after) → Steps s next counters tick acts on
 steps_is s node next counters r buf tick acts arrivals tried calls readings last before after on stands turns posts w row before_is after_is on_is =
-    let begins = GatewayBegun_in_step (record { at = tick_of s; node = 0; cause = cause_of (given_in s) }) (tick_of s) s.past node stands in
+    let begins = GatewayBegun_in_step (record { at = turn_tick s; node = 0; cause = turn_cause (given_in s) }) (turn_tick s) s.past node stands in
     let set_up = subst (λ ports. PerformsAll GatewayBegun GatewayStands (answers_all (given_by ports r buf)) tick node next [] acts) (setups-stand s.past node stands) row in
     let given = subst (λ g. PerformsAll GatewayBegun GatewayStands (answers_all g) tick node next [] acts) w.given_is set_up in
     let here = subst (λ x. PerformsAll GatewayBegun GatewayStands (answers_all (given_in s)) x node next [] acts) w.tick_is given in
-    let are : acts ≡ acts_in s = here.acts (begun (given_in s) (tick_of s) s.past) begins in
-    let stands_then : GatewayStands (past_after s) next = here.stands (begun (given_in s) (tick_of s) s.past) begins in
+    let are : acts ≡ acts_in_turn s = here.acts (turn_begun (given_in s) (turn_tick s) s.past) begins in
+    let stands_then : GatewayStands (past_after s) next = here.stands (turn_begun (given_in s) (turn_tick s) s.past) begins in
     record {
       stands = stands_then;
       acts_are = are;
@@ -108,8 +108,8 @@ steps_is s node next counters r buf tick acts arrivals tried calls readings last
           ap (λ b. shown_lines b (counters.turns + 1) tick counters.posts acts) (on_is ∙ ap (λ b. b || after) before_is ∙ ap (λ b. tracing (dids s.past.lines) || b) (after_is (past_after s) stands_then))
           ∙ ap (λ n. shown_lines (tracing (dids s.past.lines) || tracing (dids (past_after s).lines)) (n + 1) tick counters.posts acts) turns
           ∙ ap (λ x. shown_lines (tracing (dids s.past.lines) || tracing (dids (past_after s).lines)) (s.turns + 1) x counters.posts acts) w.tick_is
-          ∙ ap (λ n. shown_lines (tracing (dids s.past.lines) || tracing (dids (past_after s).lines)) (s.turns + 1) (tick_of s) n acts) posts
-          ∙ ap (λ ps. shown_lines (tracing (dids s.past.lines) || tracing (dids (past_after s).lines)) (s.turns + 1) (tick_of s) s.posts ps) are;
+          ∙ ap (λ n. shown_lines (tracing (dids s.past.lines) || tracing (dids (past_after s).lines)) (s.turns + 1) (turn_tick s) n acts) posts
+          ∙ ap (λ ps. shown_lines (tracing (dids s.past.lines) || tracing (dids (past_after s).lines)) (s.turns + 1) (turn_tick s) s.posts ps) are;
     }
 
 -- the session after a whole turn
@@ -138,14 +138,14 @@ pub ends_is : (s : Session) (next : Gateway) (counters : Counters) (r : Recv) (b
     FinishesUntil (sends_of acts) (shown_lines on (counters.turns + 1) tick counters.posts acts) tried now_tried written now end →
     EndsTurn s now_arrivals now_tried now_calls readings last now end
 ends_is s next counters r buf tick acts arrivals now_arrivals tried now_tried calls now_calls readings last written now on end written_is w steps same counted f =
-    by_end end (subst (λ t. FinishesUntil (sends_of (acts_in s)) t (Some s.outside.tried) now_tried (Some s.written) now end) steps.text_is
+    by_end end (subst (λ t. FinishesUntil (sends_of (acts_in_turn s)) t (Some s.outside.tried) now_tried (Some s.written) now end) steps.text_is
     (subst (λ ps. FinishesUntil (sends_of ps) text (Some s.outside.tried) now_tried (Some s.written) now end) steps.acts_are
     (subst (λ z. FinishesUntil (sends_of acts) text (Some s.outside.tried) now_tried z now end) written_is
     (subst (λ z. FinishesUntil (sends_of acts) text z now_tried written now end) w.tells.tried_are f)))) where
       text : List ℕ
       text = shown_lines on (counters.turns + 1) tick counters.posts acts
 
-      by_end : (e : ServeEnd) → FinishesUntil (sends_of (acts_in s)) (shown s) (Some s.outside.tried) now_tried (Some s.written) now e → EndsTurn s now_arrivals now_tried now_calls readings last now e
+      by_end : (e : ServeEnd) → FinishesUntil (sends_of (acts_in_turn s)) (shown_by_turn s) (Some s.outside.tried) now_tried (Some s.written) now e → EndsTurn s now_arrivals now_tried now_calls readings last now e
       by_end Done h = h.1
       by_end LinkFault h = absurd h.1
       by_end WriteFault h = (record { arrivals_are = same ∙ w.tells.arrivals_are; tried_are = h.0; calls_are = counted ∙ w.tells.calls_are; readings_are = w.tells.readings_are; last_is = w.tells.last_is }, h.1)
@@ -157,8 +157,8 @@ ends_is s next counters r buf tick acts arrivals now_arrivals tried now_tried ca
 -- a node that lives through a step lives
 pub lives_on : (node next : Gateway) (g : NodeGiven) (tick : ℕ) (acts : List Placed) → Lives node → PerformsAll GatewayBegun GatewayStands (answers_all g) tick node next [] acts → Lives next
 lives_on node next g tick acts l row = record {
-  past = spread tick (begun g tick l.past) (answers_all g tick (begun g tick l.past));
-  stands = row.stands (begun g tick l.past) (GatewayBegun_in_step _ tick l.past node l.stands);
+  past = spread tick (turn_begun g tick l.past) (answers_all g tick (turn_begun g tick l.past));
+  stands = row.stands (turn_begun g tick l.past) (GatewayBegun_in_step _ tick l.past node l.stands);
 }
 
 -- what may go to a stranger where one is answered
@@ -172,7 +172,7 @@ pub acts_known : (arrivals rest : Option (List Arrival)) (stranger now : Bool) (
     PerformsAll GatewayBegun GatewayStands (answers_all (given_by (setups_in node) r buf)) tick node next [] acts → AreKnown now acts
 acts_known arrivals rest stranger now r buf tick node next acts got l row =
     let given = given_by (setups_in node) r buf in
-    let past = begun given tick l.past in
+    let past = turn_begun given tick l.past in
     subst (λ ps. AreKnown now ps) (sym (row.acts past (GatewayBegun_in_step _ tick l.past node l.stands))) (known_by (setups_in node) r buf arrivals rest stranger now (answers_all given tick past) got (known_steps given tick past))
 
 -- how a turn ends is how the session ends

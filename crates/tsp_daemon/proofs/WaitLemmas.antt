@@ -6,7 +6,7 @@ use Rattle.tsp_gateway.specs.Dues.{IsNodeDue}
 use Rattle.tsp_gateway.specs.GatewayStands.{GatewayStands}
 use Rattle.tsp_io.specs.Clocks.{TakesReading}
 use Rattle.tsp_io.specs.Links.{Arrival, NotesReceive, Tried}
-use Rattle.tsp_query.specs.Clocks.{reading}
+use Rattle.tsp_query.specs.Clocks.{tick_given}
 use Rattle.tsp_query.specs.Ends.{Outside, KnowsExactly}
 use Rattle.tsp_rules.specs.NodeRows.{NodePast}
 use Rattle.tsp_daemon.specs.declared.end.ServeEnd.{ServeEnd}
@@ -19,7 +19,7 @@ use Rattle.tsp_query.proofs.AskLemmas.{reading_taken}
 -- the first reading of a turn
 pub first_reading : (o : Outside) (arrivals : Option (List Arrival)) (tried : Option (List Tried)) (calls : Option ℕ) (readings between : Option (List ℕ)) (last first : ℕ) →
     KnowsExactly o arrivals tried calls readings last → TakesReading readings between last first → first ≡ (read_once o).last
-first_reading o arrivals tried calls readings between last first t takes = (reading_taken o.readings readings between last first t.readings_are takes).1 ∙ ap (λ n. reading n o.readings 0) t.last_is
+first_reading o arrivals tried calls readings between last first t takes = (reading_taken o.readings readings between last first t.readings_are takes).1 ∙ ap (λ n. tick_given n o.readings 0) t.last_is
 
 -- a receive that waits until the node is due
 pub wait_noted : (s : Session) (node : Gateway) (due first wait : ℕ) (waits now : Option (List ℕ)) → GatewayStands s.past node → ((past : NodePast) → GatewayStands past node → IsNodeDue past due) →

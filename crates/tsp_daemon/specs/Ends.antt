@@ -16,7 +16,7 @@ use Rattle.tsp_daemon.specs.declared.counters.Counters.{Counters}
 use Rattle.tsp_daemon.specs.declared.end.ServeEnd.{ServeEnd}
 use Rattle.tsp_daemon.specs.declared.end.ServeEnd.TheVariants.{Done, LinkFault, WriteFault, OutOfMemory}
 use Rattle.tsp_daemon.specs.Posts.{sends_of}
-use Rattle.tsp_daemon.specs.Sessions.{Session, port_from, acts_in, shown, turned, after_turns, unheard, waited, Rises}
+use Rattle.tsp_daemon.specs.Sessions.{Session, port_from, acts_in_turn, shown_by_turn, turned, after_turns, unheard, waited, Rises}
 use Rattle.tsp_daemon.specs.Waits.{NotesWaits}
 
 -- what a node with these ports is given by the answer of a receive
@@ -85,11 +85,11 @@ tried_some part s = record (waited s.outside) { tried = s.outside.tried ++ part 
 abbrev pub EndsTurn : Session → Option (List Arrival) → Option (List Tried) → Option ℕ → Option (List ℕ) → ℕ → Option (List ℕ) → ServeEnd → Type 0
 EndsTurn s arrivals tried calls readings last written Done = ⊥
 EndsTurn s arrivals tried calls readings last written LinkFault = KnowsExactly (unheard s.outside) arrivals tried calls readings last × (written ≡ Some s.written)
-EndsTurn s arrivals tried calls readings last written WriteFault = KnowsExactly (turned s).outside arrivals tried calls readings last × CutsShort (shown s) (Some s.written) written
+EndsTurn s arrivals tried calls readings last written WriteFault = KnowsExactly (turned s).outside arrivals tried calls readings last × CutsShort (shown_by_turn s) (Some s.written) written
 EndsTurn s arrivals tried calls readings last written OutOfMemory =
     (KnowsExactly s.outside arrivals tried calls readings last × (written ≡ Some s.written))
-    ⊎ ((part : List Tried) × (rest : List Tried) × (0 < length rest) × (sends_of (acts_in s) ≡ part ++ rest) × KnowsExactly (tried_some part s) arrivals tried calls readings last × (written ≡ Some s.written))
-    ⊎ (KnowsExactly (turned s).outside arrivals tried calls readings last × CutsShort (shown s) (Some s.written) written)
+    ⊎ ((part : List Tried) × (rest : List Tried) × (0 < length rest) × (sends_of (acts_in_turn s) ≡ part ++ rest) × KnowsExactly (tried_some part s) arrivals tried calls readings last × (written ≡ Some s.written))
+    ⊎ (KnowsExactly (turned s).outside arrivals tried calls readings last × CutsShort (shown_by_turn s) (Some s.written) written)
 
 -- how many receives a session makes that ends so after i turns: one for each turn, and one for the turn that ended it,
 -- unless it ran out of memory before the receive

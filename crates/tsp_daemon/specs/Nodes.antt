@@ -12,22 +12,22 @@ use Rattle.tsp_args.specs.declared.serve.Candidacy.TheVariants.{Never, Plain, St
 use Rattle.tsp_args.specs.declared.serve.ServeWords.{ServeWords}
 
 -- the peer with this number
-abbrev pub peer_of : ℕ → PeerId
-peer_of number = record { 0 = number }
+abbrev pub numbered_peer : ℕ → PeerId
+numbered_peer number = record { 0 = number }
 
 -- the peers of a port that come after so many peers of earlier ports: the daemon itself, which is peer 0, and `count`
 -- more
 abbrev pub port_peers : ℕ → ℕ → List PeerId
-port_peers done count = peer_of 0 ∷ map (λ number. peer_of number) (range_with_len (done + 1) count)
+port_peers done count = numbered_peer 0 ∷ map (λ number. numbered_peer number) (range_with_len (done + 1) count)
 
 -- how a port with these peers is set up
-abbrev pub setup_of : ℕ → ℕ → PortSetup
-setup_of done count = record { own = peer_of 0; peers = port_peers done count }
+abbrev pub numbered_setup : ℕ → ℕ → PortSetup
+numbered_setup done count = record { own = numbered_peer 0; peers = port_peers done count }
 
 -- how ports are set up: their peers are numbered over all ports, in the order of the words, after so many before them
 abbrev pub setups_from : ℕ → List (List Addr) → List PortSetup
 setups_from done [] = []
-setups_from done (peers ∷ ports) = setup_of done (length peers) ∷ setups_from (done + length peers) ports
+setups_from done (peers ∷ ports) = numbered_setup done (length peers) ∷ setups_from (done + length peers) ports
 
 -- whether a node may be master
 abbrev pub may_be : Candidacy → Bool
@@ -43,8 +43,8 @@ is_strict Strict = true
 
 -- what the node is set up with: its name, whether it may be master, whether elections are strict, and one port for each
 -- list of peers
-abbrev pub config_of : ServeWords → GateConfigValue
-config_of s = record {
+abbrev pub daemon_config : ServeWords → GateConfigValue
+daemon_config s = record {
   name = s.name;
   may = may_be s.candidacy;
   strict = is_strict s.candidacy;
@@ -65,4 +65,4 @@ booting c tick wall word = in_node_step (record { at = tick; node = 0; cause = B
 
 -- the past of the daemon's node once it has booted
 abbrev pub first_past : ServeWords → ℕ → ℤ → ℕ → NodePast
-first_past s tick wall word = spread tick (booting (config_of s) tick wall word) (boots_all tick (booting (config_of s) tick wall word))
+first_past s tick wall word = spread tick (booting (daemon_config s) tick wall word) (boots_all tick (booting (daemon_config s) tick wall word))

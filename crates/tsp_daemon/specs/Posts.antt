@@ -21,13 +21,13 @@ abbrev pub line_of : ℕ → ℕ → ℕ → Placed → List ℕ
 line_of turn tick number p = trace_text turn 0 tick number p ++ 10 ∷ []
 
 -- the lines of the acts of a turn; the first post among them has this number
-abbrev pub lines_of : ℕ → ℕ → ℕ → List Placed → List ℕ
-lines_of turn tick number [] = []
-lines_of turn tick number (p ∷ rest) = line_of turn tick number p ++ lines_of turn tick (number + length (send_of p.act)) rest
+abbrev pub act_lines : ℕ → ℕ → ℕ → List Placed → List ℕ
+act_lines turn tick number [] = []
+act_lines turn tick number (p ∷ rest) = line_of turn tick number p ++ act_lines turn tick (number + length (send_of p.act)) rest
 
 -- the lines, if they are to be shown
 abbrev pub shown_lines : Bool → ℕ → ℕ → ℕ → List Placed → List ℕ
-shown_lines shown turn tick number acts = if shown then lines_of turn tick number acts else []
+shown_lines shown turn tick number acts = if shown then act_lines turn tick number acts else []
 
 -- acts post to a stranger only if this is true: the last datagram that came was a stranger's
 abbrev pub AreKnown : Bool → List Placed → Type 0

@@ -9,7 +9,7 @@ use Rattle.tsp_daemon.specs.Ends.{IsReceived, ServesUntil}
 use Rattle.tsp_daemon.specs.Kept.{HistoryKept, SetByWords}
 use Rattle.tsp_daemon.specs.Sessions.{Session, after_turns, read_once}
 use Rattle.tsp_query.specs.Ends.{Outside, KnowsExactly}
-use Rattle.tsp_query.specs.Outside.{Observed, Knows, bound, WritesBeginning}
+use Rattle.tsp_query.specs.Outside.{Observed, Knows, after_bind, WritesBeginning}
 use Rattle.tsp_rules.specs.Guards.{is_clock_value}
 use Rattle.tsp_args.specs.declared.serve.ServeWords.{ServeWords}
 use Rattle.tsp_daemon.specs.declared.exit.DaemonExit.{DaemonExit}
@@ -85,20 +85,20 @@ BoundServesIfTold s before now served = (o : Outside) (wall : ℤ) (word : ℕ) 
 -- the bind failed: no tick was read, and nothing was sent or written
 pub record ServesNothing (o : Outside) (written : List ℕ) (waits : Option (List ℕ)) (now : Observed) (served : DaemonExit) : Type 0 where
   pub cause : served ≡ LinkFault
-  pub tells : KnowsExactly (bound o) now.arrivals now.tried now.calls now.readings now.last
+  pub tells : KnowsExactly (after_bind o) now.arrivals now.tried now.calls now.readings now.last
   pub written_is : now.written ≡ Some written
   pub unwaited : now.waits ≡ waits
 
 -- the link wasn't bound: there was no memory for the addresses or for the bind, or the bind failed
 abbrev pub ServesUnbound : Outside → List ℕ → Option (List ℕ) → Observed → DaemonExit → Type 0
-ServesUnbound o written waits now served = IsRefused o written waits now served ⊎ IsRefused (bound o) written waits now served ⊎ ServesNothing o written waits now served
+ServesUnbound o written waits now served = IsRefused o written waits now served ⊎ IsRefused (after_bind o) written waits now served ⊎ ServesNothing o written waits now served
 
 -- what comes of a daemon. Its link is bound to its own address and its peers; after that the wall clock is read, right
 -- after the first tick
 abbrev pub ServesAs : ServeWords → Outside → ℤ → ℕ → List ℕ → Observed → Observed → DaemonExit → Type 0
 ServesAs s o wall word written before now served =
     ((now.binds ≡ before.binds) × (now.left_at_wall ≡ before.left_at_wall) × ServesUnbound o written before.waits now served)
-    ⊎ (NotesReceive before.binds now.binds (serving_binding s) × (now.left_at_wall ≡ Some (Some (read_once o).readings)) × BoundServes s (bound o) wall word written before.waits now served)
+    ⊎ (NotesReceive before.binds now.binds (serving_binding s) × (now.left_at_wall ≡ Some (Some (read_once o).readings)) × BoundServes s (after_bind o) wall word written before.waits now served)
 
 -- the same, if all of the outside is told at its beginning
 abbrev pub ServesIfTold : ServeWords → Observed → Observed → DaemonExit → Type 0

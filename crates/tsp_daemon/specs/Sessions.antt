@@ -6,9 +6,9 @@ use Rattle.tsp_codec.specs.Taken.{taken_of}
 use Rattle.tsp_gateway.specs.PortOf.{port_of}
 use Rattle.tsp_io.specs.Counts.{one_more}
 use Rattle.tsp_io.specs.Links.{Arrival}
-use Rattle.tsp_query.specs.Arrivals.{next_arrival, rest_of}
-use Rattle.tsp_query.specs.Clocks.{reading}
-use Rattle.tsp_query.specs.Ends.{Outside, heard}
+use Rattle.tsp_query.specs.Arrivals.{next_arrival, all_but_first}
+use Rattle.tsp_query.specs.Clocks.{tick_given}
+use Rattle.tsp_query.specs.Ends.{Outside, after_wait}
 use Rattle.tsp_rules.specs.GateRows.{NodeGiven, NodeTurn, GotOn, answers_all}
 use Rattle.tsp_rules.specs.NodeRows.{NodePast, PortSetup, in_node_step, spread}
 use Rattle.tsp_daemon.specs.Posts.{sends_of, shown_lines}
@@ -39,7 +39,7 @@ given_of ports (Some (from, octets)) = GotOn (port_from ports from) from (taken_
 
 -- the tick counter is read once
 abbrev pub read_once : Outside → Outside
-read_once o = record o { readings = rest_of o.readings; last = reading o.last o.readings 0 }
+read_once o = record o { readings = all_but_first o.readings; last = tick_given o.last o.readings 0 }
 
 -- what is left if the receive of a turn fails, after the turn's first reading
 abbrev pub unheard : Outside → Outside
@@ -47,45 +47,45 @@ unheard o = record (read_once o) { calls = one_more o.calls }
 
 -- what is left when the node of a turn steps, after a reading, a receive and a second reading
 abbrev pub waited : Outside → Outside
-waited o = heard (read_once o)
+waited o = after_wait (read_once o)
 
 -- the tick of a turn's step: the second reading
-abbrev pub tick_of : Session → ℕ
-tick_of s = (waited s.outside).last
+abbrev pub turn_tick : Session → ℕ
+turn_tick s = (waited s.outside).last
 
 -- what the node is given in a turn: the next arrival, or nothing
 abbrev pub given_in : Session → NodeGiven
 given_in s = given_of s.past.ports (next_arrival s.outside.arrivals)
 
 -- the cause of a turn's step: octets were handed to the node, or it looks at its timers
-abbrev pub cause_of : NodeGiven → Cause
-cause_of NodeTurn = Turned
-cause_of (GotOn q from taken) = Handed
+abbrev pub turn_cause : NodeGiven → Cause
+turn_cause NodeTurn = Turned
+turn_cause (GotOn q from taken) = Handed
 
 -- the node's past when the step of a turn begins, with this given to the node at this tick
-abbrev pub begun : NodeGiven → ℕ → NodePast → NodePast
-begun g x past = in_node_step (record { at = x; node = 0; cause = cause_of g }) x past
+abbrev pub turn_begun : NodeGiven → ℕ → NodePast → NodePast
+turn_begun g x past = in_node_step (record { at = x; node = 0; cause = turn_cause g }) x past
 
 -- the acts of a turn, each on its port: the node's answer to what came, at the tick of the second reading
-abbrev pub acts_in : Session → List Placed
-acts_in s = answers_all (given_in s) (tick_of s) (begun (given_in s) (tick_of s) s.past)
+abbrev pub acts_in_turn : Session → List Placed
+acts_in_turn s = answers_all (given_in s) (turn_tick s) (turn_begun (given_in s) (turn_tick s) s.past)
 
 -- the node's past after a turn
 abbrev pub past_after : Session → NodePast
-past_after s = spread (tick_of s) (begun (given_in s) (tick_of s) s.past) (acts_in s)
+past_after s = spread (turn_tick s) (turn_begun (given_in s) (turn_tick s) s.past) (acts_in_turn s)
 
 -- the text that a turn shows: the lines of its acts, if the trace was on before the turn or is on after it
-abbrev pub shown : Session → List ℕ
-shown s = shown_lines (tracing (dids s.past.lines) || tracing (dids (past_after s).lines)) (s.turns + 1) (tick_of s) s.posts (acts_in s)
+abbrev pub shown_by_turn : Session → List ℕ
+shown_by_turn s = shown_lines (tracing (dids s.past.lines) || tracing (dids (past_after s).lines)) (s.turns + 1) (turn_tick s) s.posts (acts_in_turn s)
 
 -- the session after one turn more
 abbrev pub turned : Session → Session
 turned s = record {
   past = past_after s;
-  outside = record (waited s.outside) { tried = s.outside.tried ++ sends_of (acts_in s) };
+  outside = record (waited s.outside) { tried = s.outside.tried ++ sends_of (acts_in_turn s) };
   turns = s.turns + 1;
-  posts = s.posts + length (sends_of (acts_in s));
-  written = s.written ++ shown s;
+  posts = s.posts + length (sends_of (acts_in_turn s));
+  written = s.written ++ shown_by_turn s;
 }
 
 -- the session after so many turns more
@@ -96,4 +96,4 @@ after_turns (suc n) s = turned (after_turns n s)
 -- in each of so many turns the tick of the step wasn't below the last reading of the turn before
 abbrev pub Rises : ℕ → Session → Type 0
 Rises zero s = Unit {0}
-Rises (suc n) s = Rises n s × ((after_turns n s).outside.last ≤ tick_of (after_turns n s))
+Rises (suc n) s = Rises n s × ((after_turns n s).outside.last ≤ turn_tick (after_turns n s))

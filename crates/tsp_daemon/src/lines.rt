@@ -3,7 +3,7 @@ ghost use Rattle.std.specs.Prelude.{◌≡◌, ◌<◌, ◌+◌, ◌^◌, ◌||�
 ghost use Rattle.tsp_io.specs.Streams.{Grows};
 ghost use Rattle.tsp_query.specs.Faults.{Counts};
 ghost use Rattle.tsp_daemon.specs.Ends.{TellsUntil};
-ghost use Rattle.tsp_daemon.specs.Posts.{line_of, lines_of};
+ghost use Rattle.tsp_daemon.specs.Posts.{line_of, act_lines};
 
 use crate::end::ServeEnd;
 use crate::sends::posts_by;
@@ -52,8 +52,8 @@ pub(crate) fn tell<K: Sink>(
 ) -> Result<(), ServeEnd>
     requires few { first + length acts.now < 2 ^ 64 }
     ensures ok { OnOk result (Grows (K.written sink.old) (K.written sink.new)
-        (lines_of turn tick first acts.now)) }
-    ensures err { IfErr result (TellsUntil (lines_of turn tick first acts.now) (K.written sink.old)
+        (act_lines turn tick first acts.now)) }
+    ensures err { IfErr result (TellsUntil (act_lines turn tick first acts.now) (K.written sink.old)
         (K.written sink.new)) }
     ensures write { Counts (K.faults sink.old) (K.faults sink.new)
         (result ≡ Err ServeEnd.WriteFault) }

@@ -3,7 +3,7 @@ ghost use Rattle.std.specs.Prelude.{◌≡◌, ◌≤◌, ◌+◌, ◌*◌, [], 
 ghost use Rattle.tsp_base.specs.Frames.{IsTick};
 ghost use Rattle.tsp_gateway.specs.GatewayStands.{GatewayStands, clock_at};
 ghost use Rattle.tsp_gateway.specs.Rooms.{ports_in, room_of_ports};
-ghost use Rattle.tsp_daemon.specs.Nodes.{port_peers, setup_of, may_be, is_strict, config_of, first_past};
+ghost use Rattle.tsp_daemon.specs.Nodes.{port_peers, numbered_setup, may_be, is_strict, daemon_config, first_past};
 ghost use Rattle.tsp_rules.specs.Guards.{is_clock_value};
 ghost use Rattle.tsp_args.specs.Ports.{all_peers};
 ghost use Rattle.tsp_args.specs.Serves.{IsServe};
@@ -57,7 +57,7 @@ fn port_peers(alloc: Global, done: u32, count: u32) -> Result<Vec<PeerId>, Alloc
 fn join(alloc: Global, config: &mut GateConfig, done: u32, count: u32) -> Result<(), AllocError>
     requires { done + count ≤ 999 }
     ensures { OnOk result (config.new ≡ record config.old {
-      ports = config.old.ports ++ setup_of
+      ports = config.old.ports ++ numbered_setup
           done count ∷ [];
     }) }
 {
@@ -93,7 +93,7 @@ fn is_strict(candidacy: Candidacy) -> bool
 /// What the node is set up with. Fails only if out of memory.
 fn config_of(alloc: Global, words: &ServeWords) -> Result<GateConfig, AllocError>
     requires { length (all_peers words.now.ports) ≤ 999 }
-    ensures { IfOk result (λ config. config ≡ config_of words.now) }
+    ensures { IfOk result (λ config. config ≡ daemon_config words.now) }
 {
     let may = may_be(words.candidacy);
     let strict = is_strict(words.candidacy);

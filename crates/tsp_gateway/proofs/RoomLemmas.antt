@@ -2,7 +2,7 @@
 use Rattle.std.specs.Prelude.{◌≡◌, ℕ, zero, suc, ◌+◌, ◌*◌, ◌<◌, ◌≤◌, List, [], ◌∷◌, length, refl}
 use Rattle.std.proofs.Common.{ap, arith, ◌∙◌}
 use Rattle.tsp_rules.specs.Values.{PeerId}
-use Rattle.tsp_gateway.specs.Rooms.{all_peers, peers_at, room_of_ports, turn_room, turns_room}
+use Rattle.tsp_gateway.specs.Rooms.{peers_sum, peers_at, room_of_ports, turn_room, turns_room}
 
 -- the peers of the ports below k, and what their turns may put
 pub peers_below : ℕ → List (List PeerId) → ℕ
@@ -41,7 +41,7 @@ peers_more k ports lt = let e : k + 1 ≡ suc k = omega arith in ap (λ n. peers
 pub turns_more : (k : ℕ) (ports : List (List PeerId)) → k < length ports → turns_below (k + 1) ports ≡ turns_below k ports + turn_room (peers_at k ports)
 turns_more k ports lt = let e : k + 1 ≡ suc k = omega arith in ap (λ n. turns_below n ports) e ∙ turns-suc k ports lt
 
-pub peers_few : (k : ℕ) (ports : List (List PeerId)) → peers_below k ports ≤ all_peers ports
+pub peers_few : (k : ℕ) (ports : List (List PeerId)) → peers_below k ports ≤ peers_sum ports
 unfolding peers_below
 peers_few zero ports = omega arith
 peers_few (suc k) [] = omega arith
@@ -54,10 +54,10 @@ turns_few (suc k) [] = omega arith
 turns_few (suc k) (peers ∷ later) = let more = turns_few k later in omega (arith, more)
 
 -- one port more has its peers among all
-pub peers_next : (k : ℕ) (ports : List (List PeerId)) → k < length ports → peers_below k ports + peers_at k ports ≤ all_peers ports
+pub peers_next : (k : ℕ) (ports : List (List PeerId)) → k < length ports → peers_below k ports + peers_at k ports ≤ peers_sum ports
 peers_next k ports lt = let more = peers_more k ports lt in let few = peers_few (k + 1) ports in omega (arith, more, few)
 
-turns-room : (ports : List (List PeerId)) → turns_room ports + all_peers ports ≤ room_of_ports ports
+turns-room : (ports : List (List PeerId)) → turns_room ports + peers_sum ports ≤ room_of_ports ports
 turns-room [] = omega arith
 turns-room (peers ∷ later) = let more = turns-room later in omega (arith, more)
 
@@ -66,7 +66,7 @@ pub turns_next : (k : ℕ) (ports : List (List PeerId)) → k < length ports →
 turns_next k ports lt = let more = turns_more k ports lt in let few = turns_few (k + 1) ports in let all = turns-room ports in omega (arith, more, few, all)
 
 -- after all turns there is room for what is taken
-pub take_room : (q : ℕ) (ports : List (List PeerId)) → q < length ports → turns_room ports + (2 * peers_at q ports + all_peers ports + 24) ≤ room_of_ports ports
+pub take_room : (q : ℕ) (ports : List (List PeerId)) → q < length ports → turns_room ports + (2 * peers_at q ports + peers_sum ports + 24) ≤ room_of_ports ports
 take_room q [] lt = let bad : ⊥ = omega (arith, lt) in absurd bad
 take_room zero (peers ∷ later) lt = let more = turns-room later in omega (arith, more)
 take_room (suc q) (peers ∷ later) lt = let more = take_room q later (omega (arith, lt)) in omega (arith, more)

@@ -12,9 +12,9 @@ given_on Turn = NodeTurn
 given_on (Bytes port from octets) = GotOn port from (taken_of octets.now)
 
 -- if the input has octets, they come on one of so many ports
-abbrev pub ComesOn : ℕ → Input → Type 0
-ComesOn ports Turn = Unit {0}
-ComesOn ports (Bytes port from octets) = port.0 < ports
+abbrev pub ComesOnPort : ℕ → Input → Type 0
+ComesOnPort ports Turn = Unit {0}
+ComesOnPort ports (Bytes port from octets) = port.0 < ports
 
 -- what was read isn't a message
 abbrev pub HoldsNoMessage : Taken → Type 0

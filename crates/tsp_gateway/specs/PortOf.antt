@@ -7,13 +7,13 @@ use Rattle.tsp_node.specs.declared.part.Part.{Part}
 use Rattle.tsp_gateway.specs.declared.gateway.Gateway.{Gateway}
 
 -- whether p is a peer of a port and not the node itself
-abbrev pub has_other : PeerId → PortSetup → Bool
-has_other p s = is_among p s.peers && not (s.own.0 == p.0)
+abbrev pub has_other_peer : PeerId → PortSetup → Bool
+has_other_peer p s = is_among p s.peers && not (s.own.0 == p.0)
 
 -- the lowest of these ports, numbered from this number on, that has p as a peer other than the node itself; the first port where none has
 abbrev pub port_of_from : ℕ → PeerId → List PortSetup → Port
 port_of_from k p [] = first_port
-port_of_from k p (s ∷ rest) = if has_other p s then record { 0 = k } else port_of_from (k + 1) p rest
+port_of_from k p (s ∷ rest) = if has_other_peer p s then record { 0 = k } else port_of_from (k + 1) p rest
 
 -- the lowest port that has p as a peer other than the node itself; the first port where none has
 abbrev pub port_of : PeerId → List PortSetup → Port

@@ -37,6 +37,6 @@ turns_room [] = 0
 turns_room (peers ∷ rest) = turn_room (length peers) + turns_room rest
 
 -- how many peers all ports have together
-abbrev pub all_peers : List (List PeerId) → ℕ
-all_peers [] = 0
-all_peers (peers ∷ rest) = length peers + all_peers rest
+abbrev pub peers_sum : List (List PeerId) → ℕ
+peers_sum [] = 0
+peers_sum (peers ∷ rest) = length peers + peers_sum rest

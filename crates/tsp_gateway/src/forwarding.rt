@@ -9,7 +9,7 @@ ghost use Rattle.tsp_rules.specs.NodePerforms.{PerformsAll};
 ghost use Rattle.tsp_rules.specs.NodeRows.{NodePast, on};
 ghost use Rattle.tsp_rules.specs.Guards.{is_starting_role};
 ghost use Rattle.tsp_gateway.specs.GatewayStands.{GatewayStands, clock_at, port_at};
-ghost use Rattle.tsp_gateway.specs.Rooms.{all_peers, peers_at, ports_in};
+ghost use Rattle.tsp_gateway.specs.Rooms.{peers_sum, peers_at, ports_in};
 
 use crate::gateway::{Gateway, port_at};
 use crate::looping::repost;
@@ -45,13 +45,13 @@ impl Gateway {
     pub(crate) fn judge_loop<D: Desk>(&mut self, q: usize, m: &Message, tick: u64, desk: &mut D)
         requires kind { m.now.kind ≡ Loop }
         requires port { q < length (ports_in self.old) }
-        requires room { all_peers (ports_in self.old) + 2 ≤ D.spare desk.old }
+        requires room { peers_sum (ports_in self.old) + 2 ≤ D.spare desk.old }
         requires tick { IsTick tick }
         ensures row { PerformsAll GatewayStands GatewayStands (judges (port_at q) m.now) tick
             self.old self.new (D.acts desk.old) (D.acts desk.new) }
         ensures ports { ports_in self.new ≡ ports_in self.old }
         ensures clock { clock_at self.new ≡ clock_at self.old }
-        ensures room { UsesAtMost (all_peers (ports_in self.old) + 2)
+        ensures room { UsesAtMost (peers_sum (ports_in self.old) + 2)
             D.spare D.acts desk.old desk.new }
     {
         let own = &self.ports[q].station().me.name;
@@ -86,10 +86,10 @@ impl Gateway {
     /// Posts a LOOP to each other peer of each other port whose quiet time is over.
     fn forward<D: Desk>(&self, q: usize, m: &Message, desk: &mut D)
         requires kind { m.now.kind ≡ Loop }
-        requires room { all_peers (ports_in self.now) ≤ D.spare desk.old }
+        requires room { peers_sum (ports_in self.now) ≤ D.spare desk.old }
         ensures row { (x : ℕ) → PerformsAll GatewayStands GatewayStands (forwards (port_at q) m.now)
             x self.now self.now (D.acts desk.old) (D.acts desk.new) }
-        ensures room { UsesAtMost (all_peers (ports_in self.now)) D.spare D.acts desk.old desk.new }
+        ensures room { UsesAtMost (peers_sum (ports_in self.now)) D.spare D.acts desk.old desk.new }
     {
         for r in 0..self.ports.len() {
             if r != q {

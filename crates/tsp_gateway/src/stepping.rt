@@ -4,7 +4,7 @@ ghost use Rattle.tsp_base.specs.Frames.{IsTick, UsesAtMost};
 ghost use Rattle.tsp_rules.specs.GateRows.{GotOn, NodeTurn, answers_all};
 ghost use Rattle.tsp_rules.specs.NodePerforms.{PerformsAll};
 ghost use Rattle.tsp_codec.specs.Taken.{taken_of};
-ghost use Rattle.tsp_gateway.specs.GateInputs.{ComesOn, given_on};
+ghost use Rattle.tsp_gateway.specs.GateInputs.{ComesOnPort, given_on};
 
 use crate::gateway::Gateway;
 use tsp_base::datagram::{Datagram, Taken};
@@ -20,7 +20,7 @@ impl Gateway {
     /// A step: due sends and alarms of every port are handled, and then the input's octets are read and
     /// taken. Their port must be one of the node's, and the tick not before that of an earlier step.
     pub fn step<D: Desk>(&mut self, tick: u64, input: &Input, desk: &mut D)
-        requires port { ComesOn (length (ports_in self.old)) input.now }
+        requires port { ComesOnPort (length (ports_in self.old)) input.now }
         requires room { room_of_ports (ports_in self.old) ≤ D.spare desk.old }
         requires tick { IsTick tick }
         requires later { clock_at self.old ≤ tick }

@@ -8,7 +8,7 @@ ghost use Rattle.tsp_rules.specs.GateRows.{takes_message, takes_on};
 ghost use Rattle.tsp_rules.specs.NodePerforms.{PerformsAll};
 ghost use Rattle.tsp_gateway.specs.GateInputs.{HoldsNoMessage};
 ghost use Rattle.tsp_gateway.specs.GatewayStands.{ComesAt, GatewayStands, clock_at, port_at};
-ghost use Rattle.tsp_gateway.specs.Rooms.{all_peers, peers_at, ports_in};
+ghost use Rattle.tsp_gateway.specs.Rooms.{peers_sum, peers_at, ports_in};
 
 use crate::gateway::{Gateway, port_at};
 use tsp_base::act::Act;
@@ -34,7 +34,7 @@ impl Gateway {
         desk: &mut D,
     )
         requires port { q < length (ports_in self.old) }
-        requires room { 2 * peers_at q (ports_in self.old) + all_peers
+        requires room { 2 * peers_at q (ports_in self.old) + peers_sum
             (ports_in self.old) + 24 ≤ D.spare desk.old }
         requires tick { ComesAt tick self.old }
         ensures row { PerformsAll GatewayStands GatewayStands (takes_on (port_at q) from taken.now)
@@ -42,7 +42,7 @@ impl Gateway {
         ensures ports { ports_in self.new ≡ ports_in self.old }
         ensures clock { clock_at self.new ≤ tick }
         ensures room { UsesAtMost
-            (2 * peers_at q (ports_in self.old) + all_peers (ports_in self.old) + 24)
+            (2 * peers_at q (ports_in self.old) + peers_sum (ports_in self.old) + 24)
             D.spare D.acts desk.old desk.new }
     {
         match taken {

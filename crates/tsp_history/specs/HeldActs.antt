@@ -12,17 +12,17 @@ use Rattle.tsp_history.specs.declared.brief.Brief.{Brief}
 use Rattle.tsp_history.specs.declared.brief.Brief.TheVariants as briefs
 
 -- a message of this kind and number, with this body and name
-abbrev pub message_of : Kind → ℕ → Body → List ℕ → MessageValue
-message_of kind number body name = record { kind = kind; number = number; body = body; name = name }
+abbrev pub held_message : Kind → ℕ → Body → List ℕ → MessageValue
+held_message kind number body name = record { kind = kind; number = number; body = body; name = name }
 
 -- the act, or none, that is held so, with the name in its message
 abbrev pub act_of : Brief → List ℕ → Option Act
 act_of briefs.Mark name = None
 act_of briefs.Boot name = Some acts.Boot
-act_of (briefs.TookMessage from kind number body) name = Some (acts.Took from (Good (Message (message_of kind number body name))))
+act_of (briefs.TookMessage from kind number body) name = Some (acts.Took from (Good (Message (held_message kind number body name))))
 act_of (briefs.TookStamp from stamp) name = Some (acts.Took from (Good (Stamp stamp)))
 act_of (briefs.TookBad from fault) name = Some (acts.Took from (Bad fault))
-act_of (briefs.PostMessage to kind number body) name = Some (acts.Post to (Message (message_of kind number body name)))
+act_of (briefs.PostMessage to kind number body) name = Some (acts.Post to (Message (held_message kind number body name)))
 act_of (briefs.PostStamp to stamp) name = Some (acts.Post to (Stamp stamp))
 act_of (briefs.Become role) name = Some (acts.Become role)
 act_of (briefs.Back p) name = Some (acts.Back p)
@@ -55,6 +55,6 @@ IsSilentAct (acts.Post to datagram) = ⊥
 IsSilentAct _ = Unit {0}
 
 -- the datagram that is posted, if one is
-abbrev pub datagram_in : Option Act → Option Datagram
-datagram_in (Some (acts.Post to datagram)) = Some datagram
-datagram_in _ = None
+abbrev pub posted_datagram : Option Act → Option Datagram
+posted_datagram (Some (acts.Post to datagram)) = Some datagram
+posted_datagram _ = None

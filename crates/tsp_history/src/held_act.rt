@@ -2,7 +2,7 @@
 ghost use Rattle.std.specs.Prelude.{◌≡◌, List, ℕ, [], true, is_none, None, Some, IfOk};
 ghost use Rattle.tsp_base.specs.Messages.{body_fits};
 ghost use Rattle.tsp_base.specs.Names.{IsName};
-ghost use Rattle.tsp_history.specs.HeldActs.{IsBrief, IsSilentAct, act_of, datagram_in, message_of};
+ghost use Rattle.tsp_history.specs.HeldActs.{IsBrief, IsSilentAct, act_of, posted_datagram, held_message};
 
 use crate::brief::Brief;
 use std::alloc::{AllocError, Global};
@@ -102,7 +102,7 @@ fn parts(act: &Act) -> (Brief, &[u8])
 fn message(kind: Kind, number: u16, body: Body, name: &[u8]) -> Datagram
     requires fits { body_fits kind body ≡ true }
     requires name { IsName name.now }
-    ensures { result ≡ Datagram.Message (message_of kind number body name.now) }
+    ensures { result ≡ Datagram.Message (held_message kind number body name.now) }
 {
     Datagram::Message(Message::new(kind, number, body, Name::new(name)))
 }
@@ -143,7 +143,7 @@ impl HeldAct {
 
     /// The datagram that it posts; none where it posts none.
     pub fn datagram(&self) -> Option<Datagram>
-        ensures { result ≡ datagram_in self.now }
+        ensures { result ≡ posted_datagram self.now }
     {
         match self.brief {
             Brief::PostMessage(_, kind, number, body) => {

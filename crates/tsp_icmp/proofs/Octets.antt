@@ -3,7 +3,7 @@ use Rattle.std.proofs.Common.{rules, ◌≡◌, ℕ, ◌+◌, ◌<◌, ◌^◌, 
 use Rattle.std.specs.Int.{w16, w32, from_be_bytes, to_be_bytes}
 use Rattle.std.proofs.lemmas.Nat.{from_be_bytes-to_be_bytes_2, from_be_bytes-to_be_bytes_4, be_bytes_2, be_bytes_4}
 use Rattle.tsp_icmp.specs.Checksums.{checksum}
-use Rattle.tsp_icmp.specs.Spelling.{type_of, icmp_octets, IsTimestamp, without_checksum, octet, HasFault, IsFault}
+use Rattle.tsp_icmp.specs.Spelling.{type_of, icmp_octets, IsTimestamp, without_checksum, octet, HasFault, IsIcmpFault}
 use Rattle.tsp_icmp.specs.declared.timestamp.Timestamp.{Timestamp}
 use Rattle.tsp_icmp.specs.declared.timestamp.IcmpFault.{IcmpFault}
 use Rattle.tsp_icmp.specs.declared.timestamp.IcmpFault.TheVariants.{Length, Kind, Code, Checksum}
@@ -93,7 +93,7 @@ icmp_octets-injective m n g h e =
     (four-same m.originate n.originate 8 o p g.originate h.originate refl refl e) (four-same m.receive n.receive 12 o p g.receive h.receive refl refl e) (four-same m.transmit n.transmit 16 o p g.transmit h.transmit refl refl e)
 
 -- a message's octets have no fault
-pub icmp_octets-no_fault : (m : Timestamp) (f : IcmpFault) → IsFault (icmp_octets m) f → ⊥
+pub icmp_octets-no_fault : (m : Timestamp) (f : IcmpFault) → IsIcmpFault (icmp_octets m) f → ⊥
 icmp_octets-no_fault m Length f = f.applies refl
 icmp_octets-no_fault m Kind f = no_kind m.reply f.applies where
   no_kind : (b : Bool) → HasFault (type_of b ∷ []) Kind → ⊥
@@ -103,5 +103,5 @@ icmp_octets-no_fault m Code f = f.applies refl
 icmp_octets-no_fault m Checksum f = f.applies refl
 
 -- of two first faults none stands before the other
-pub IsFault-one : (o : List ℕ) (f g : IcmpFault) → IsFault o f → IsFault o g → f ≡ g
-IsFault-one o f g p q = search rules
+pub IsIcmpFault-one : (o : List ℕ) (f g : IcmpFault) → IsIcmpFault o f → IsIcmpFault o g → f ≡ g
+IsIcmpFault-one o f g p q = search rules

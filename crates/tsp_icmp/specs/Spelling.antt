@@ -54,6 +54,6 @@ fault_rank Code = 2
 fault_rank Checksum = 3
 
 -- the octets have this fault, and none before it in the order
-pub record IsFault (octets : List ℕ) (fault : IcmpFault) : Type 0 where
+pub record IsIcmpFault (octets : List ℕ) (fault : IcmpFault) : Type 0 where
   pub applies : HasFault octets fault
   pub first : (earlier : IcmpFault) → fault_rank earlier < fault_rank fault → ¬ HasFault octets earlier

@@ -2,7 +2,7 @@
 ghost use Rattle.std.specs.Prelude.{◌≡◌, ◌+◌, ◌≤◌, [], ◌∷◌, length, MatchResult, Ok, Err};
 ghost use Rattle.std.specs.Int.{w16, w32, from_be_bytes};
 ghost use Rattle.tsp_icmp.specs.Checksums.{checksum};
-ghost use Rattle.tsp_icmp.specs.Spelling.{octet, without_checksum, icmp_octets, IsTimestamp, IsFault};
+ghost use Rattle.tsp_icmp.specs.Spelling.{octet, without_checksum, icmp_octets, IsTimestamp, IsIcmpFault};
 ghost use Rattle.tsp_icmp.specs.declared.timestamp.Timestamp.{Timestamp};
 ghost use Rattle.tsp_icmp.specs.declared.timestamp.IcmpFault.{IcmpFault};
 
@@ -52,7 +52,7 @@ fn right_checksum(octets: &[u8]) -> u16
 /// one.
 fn first_reading(octets: &[u8]) -> Result<Timestamp, IcmpFault>
     ensures { MatchResult result (λ t. IsTimestamp t × (octets.now ≡ icmp_octets t))
-        (λ fault. IsFault octets.now fault) }
+        (λ fault. IsIcmpFault octets.now fault) }
 {
     if octets.len() != SIZE {
         return Err(IcmpFault::Length);
@@ -82,9 +82,9 @@ fn first_reading(octets: &[u8]) -> Result<Timestamp, IcmpFault>
 /// the answer is the first of their faults, in the order of `IcmpFault`.
 pub fn icmp_decode(octets: &[u8]) -> Result<Timestamp, IcmpFault>
     ensures reads { MatchResult result (λ t. IsTimestamp t × (octets.now ≡ icmp_octets t))
-        (λ fault. IsFault octets.now fault) }
+        (λ fault. IsIcmpFault octets.now fault) }
     ensures spelled { (t : Timestamp) → IsTimestamp t → octets.now ≡ icmp_octets t → result ≡ Ok t }
-    ensures faulty { (fault : IcmpFault) → IsFault octets.now fault → result ≡ Err fault }
+    ensures faulty { (fault : IcmpFault) → IsIcmpFault octets.now fault → result ≡ Err fault }
 {
     match first_reading(octets) {
         Ok(t) => Ok(t),

@@ -6,7 +6,7 @@ use Rattle.hex.specs.Hex.{decode_of, is_hex_digit}
 use Rattle.hex.proofs.HexLemmas.{decode_of-ok, decode_of-same}
 use Rattle.tsp_icmp.specs.declared.timestamp.Timestamp.{Timestamp}
 use Rattle.tsp_icmp.specs.declared.timestamp.IcmpFault.{IcmpFault}
-use Rattle.tsp_icmp.proofs.Octets.{icmp_octets-injective, icmp_octets-no_fault, IsFault-one}
+use Rattle.tsp_icmp.proofs.Octets.{icmp_octets-injective, icmp_octets-no_fault, IsIcmpFault-one}
 use Rattle.tsp_icmp_command.specs.Records.{SaysRecord, SaysInHex}
 use Rattle.tsp_script.proofs.Outcomes.{true_or_false}
 
@@ -24,7 +24,7 @@ Says-one : (octets : List ℕ) (a b : Result Timestamp IcmpFault) → SaysRecord
 Says-one octets (Ok t) (Ok u) p q = ap Ok (icmp_octets-injective t u p.0 q.0 (sym p.1 ∙ q.1))
 Says-one octets (Ok t) (Err f) p q = absurd (icmp_octets-no_fault t f (rw p.1 at q))
 Says-one octets (Err f) (Ok t) p q = absurd (icmp_octets-no_fault t f (rw q.1 at p))
-Says-one octets (Err f) (Err g) p q = ap Err (IsFault-one octets f g p q)
+Says-one octets (Err f) (Err g) p q = ap Err (IsIcmpFault-one octets f g p q)
 
 pub SaysInHex-one : (word : List ℕ) (a b : Result Timestamp IcmpFault) → SaysInHex word a → SaysInHex word b → a ≡ b
 SaysInHex-one word a b p q = Says-one q.0 a b (rw (decode_of-same word p.0 q.0 p.2 q.2) at p.3) q.3

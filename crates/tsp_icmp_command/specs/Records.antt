@@ -3,7 +3,7 @@ use Rattle.std.specs.Prelude.{◌≡◌, ℕ, ◌<◌, ◌≤◌, ◌⊎◌, Lis
 use Rattle.std.specs.declared.result.Result.{Result}
 use Rattle.std.specs.declared.result.Result.TheVariants.{Ok, Err}
 use Rattle.hex.specs.Hex.{decode_of}
-use Rattle.tsp_icmp.specs.Spelling.{icmp_octets, IsTimestamp, IsFault}
+use Rattle.tsp_icmp.specs.Spelling.{icmp_octets, IsTimestamp, IsIcmpFault}
 use Rattle.tsp_icmp.specs.declared.timestamp.Timestamp.{Timestamp}
 use Rattle.tsp_icmp.specs.declared.timestamp.IcmpFault.{IcmpFault}
 use Rattle.tsp_icmp.specs.declared.timestamp.IcmpFault.TheVariants.{Length, Kind, Code, Checksum}
@@ -14,7 +14,7 @@ use Rattle.tsp_icmp_command.specs.declared.exchange.Exchange.{Exchange}
 -- octets are this Timestamp message, or have this first fault
 abbrev pub SaysRecord : List ℕ → Result Timestamp IcmpFault → Type 0
 SaysRecord octets (Ok t) = IsTimestamp t × (octets ≡ icmp_octets t)
-SaysRecord octets (Err fault) = IsFault octets fault
+SaysRecord octets (Err fault) = IsIcmpFault octets fault
 
 -- a word is at least one octet in hexadecimal, with letters in either case, and the octets are this message or have this fault
 abbrev pub SaysInHex : List ℕ → Result Timestamp IcmpFault → Type 0

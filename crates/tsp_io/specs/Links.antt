@@ -25,9 +25,9 @@ pub record Binding : Type 0 where
   pub peers : List Addr
 
 -- whether a datagram came from an address that is no peer's
-abbrev pub is_stranger : Place → Bool
-is_stranger Stranger = true
-is_stranger (Peer p) = false
+abbrev pub is_from_stranger : Place → Bool
+is_from_stranger Stranger = true
+is_from_stranger (Peer p) = false
 
 -- these are the first 512 octets of the next arrival, a datagram that came from this place. If the arrivals weren't
 -- told, they aren't told afterwards either
@@ -44,7 +44,7 @@ TakesNothing (Some (a ∷ after)) rest = (a ≡ None) × (rest ≡ Some after)
 -- what a receive answers, and what it makes of the arrivals and of whether the last datagram was a stranger's. A
 -- receive that fails takes nothing
 abbrev pub ReceivesOne : Option (List Arrival) → Option (List Arrival) → Bool → Bool → Recv → List ℕ → Type 0
-ReceivesOne left rest stranger now_stranger (Datagram from count) buf = (count ≤ 512) × TakesDatagram left rest from (take count buf) × (now_stranger ≡ is_stranger from)
+ReceivesOne left rest stranger now_stranger (Datagram from count) buf = (count ≤ 512) × TakesDatagram left rest from (take count buf) × (now_stranger ≡ is_from_stranger from)
 ReceivesOne left rest stranger now_stranger Nothing buf = TakesNothing left rest × (now_stranger ≡ stranger)
 ReceivesOne left rest stranger now_stranger Failed buf = (rest ≡ left) × (now_stranger ≡ stranger)
 

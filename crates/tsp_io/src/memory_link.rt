@@ -4,7 +4,7 @@ ghost use Rattle.std.specs.Prelude.{IfOk, MatchResult, false, true, slice_get};
 ghost use Rattle.std.specs.Option.{option_map};
 ghost use Rattle.tsp_io.specs.Counts.{Rose, one_more};
 ghost use Rattle.tsp_io.specs.FailingCalls.{FailsNext, CountsCall};
-ghost use Rattle.tsp_io.specs.Links.{is_stranger, NotesReceive, NotesBind, ReceivesOne, Sends};
+ghost use Rattle.tsp_io.specs.Links.{is_from_stranger, NotesReceive, NotesBind, ReceivesOne, Sends};
 
 use crate::addr::Addr;
 use crate::arrivals::{Arrivals, Coming};

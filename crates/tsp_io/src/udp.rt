@@ -1,7 +1,7 @@
 //! A link over a UDP socket.
 ghost use Rattle.std.specs.Prelude.{◌≡◌, ◌≢◌, ◌≤◌, false, true, [], length, None};
 ghost use Rattle.tsp_io.specs.Counts.{Rose};
-ghost use Rattle.tsp_io.specs.Links.{is_stranger, NotesBind, ReceivesOne, Sends};
+ghost use Rattle.tsp_io.specs.Links.{is_from_stranger, NotesBind, ReceivesOne, Sends};
 ghost use Rattle.tsp_io.specs.Directories.{addr_at, ComesFrom};
 ghost use Rattle.tsp_io.specs.UdpLinks.{binds_of, discarded_by, GoesTo, IsAwaited, IsBoundTo, TakesFrom};
 
@@ -87,7 +87,7 @@ impl<R: Net + Clock> UdpLink<R> {
         ensures place { ComesFrom self.old.directory addr result }
         ensures noted { self.new ≡ record self.old {
           last = addr;
-          stranger = is_stranger result;
+          stranger = is_from_stranger result;
         } }
     {
         let place = match addr {

@@ -5,7 +5,7 @@ use Rattle.std.proofs.lemmas.List.Elements.{Contains-append_cases}
 use Rattle.std.specs.declared.option.Option.{Option}
 use Rattle.tsp_io.specs.Streams.{Gives}
 use Rattle.tsp_lines.specs.Lines.{NoFeed, close}
-use Rattle.tsp_lines.specs.Readings.{ReaderValue, IsNext, IsPassed, is_over}
+use Rattle.tsp_lines.specs.Readings.{ReaderValue, IsNext, IsPassed, ends_input}
 use Rattle.tsp_lines.specs.declared.next.Fill.TheVariants.{More, Over, NotRead}
 use Rattle.tsp_lines.specs.declared.next.Next.{Next}
 use Rattle.tsp_lines.specs.declared.next.Next.TheVariants.{Line, Last, Long, LongLast, End, Limit, Failed}
@@ -71,5 +71,5 @@ pub Over-NotRead : Over ≢ NotRead
 Over-NotRead = λ e. cc
 
 -- what is given at the input's end isn't a failed read
-pub over_not_failed : (n : Next) → is_over n ≡ true → n ≢ Failed
+pub over_not_failed : (n : Next) → ends_input n ≡ true → n ≢ Failed
 over_not_failed n o e = let f = rw e at o in cc

@@ -32,12 +32,12 @@ abbrev pub IsDone : Meaning → ℕ → Option (List ℕ) → List (List ℕ) �
 IsDone m limit input lines said = IsWhole limit input lines × m.ends lines said
 
 -- the input has these lines, and nothing more is written
-abbrev pub GoesOn : ℕ → Option (List ℕ) → List (List ℕ) → List ℕ → Type 0
-GoesOn limit input lines said = HasLines limit input lines × (said ≡ [])
+abbrev pub WritesNoMore : ℕ → Option (List ℕ) → List (List ℕ) → List ℕ → Type 0
+WritesNoMore limit input lines said = HasLines limit input lines × (said ≡ [])
 
 -- what may be written after the output of these lines
 abbrev pub Follows : Meaning → ℕ → Option (List ℕ) → List (List ℕ) → List ℕ → Type 0
-Follows m limit input lines said = GoesOn limit input lines said ⊎ (IsBad m limit input lines said ⊎ (IsLimited m limit input lines said ⊎ IsDone m limit input lines said))
+Follows m limit input lines said = WritesNoMore limit input lines said ⊎ (IsBad m limit input lines said ⊎ (IsLimited m limit input lines said ⊎ IsDone m limit input lines said))
 
 -- these lines were accepted, and what was written is their output and then what follows it
 abbrev pub WritesAll : Meaning → (List (List ℕ) → List ℕ → Type 0) → Option (List ℕ) → Option (List ℕ) → Type 0

@@ -54,22 +54,22 @@ long_of End = Long
 long_of Failed = Long
 
 -- the input's end was read
-abbrev pub is_over : Next → Bool
-is_over Last = true
-is_over LongLast = true
-is_over End = true
-is_over Line = false
-is_over Long = false
-is_over Limit = false
-is_over Failed = false
+abbrev pub ends_input : Next → Bool
+ends_input Last = true
+ends_input LongLast = true
+ends_input End = true
+ends_input Line = false
+ends_input Long = false
+ends_input Limit = false
+ends_input Failed = false
 
 -- what comes of a call that reads up to the next line: source and reader, each before and after, and what it gives
 pub record ReadsNext {S : Type 0} (sources : SourceOf S) (source source_now : S) (reader reader_now : ReaderValue) (given : Next) : Type 0 where
   pub next : (octets : List ℕ) × Gives (sources.left source) (sources.left source_now) octets × (reader_now.got ≡ reader.got + length octets) × IsNext reader_now (reader.held ++ octets) given
   pub limit : (reader_now.limit ≡ reader.limit) × (reader_now.got ≤ reader_now.limit + 1)
   pub faults : Counts (sources.faults source) (sources.faults source_now) (given ≡ Failed)
-  pub over : is_over given ≡ true → IsOver (sources.left source_now)
-  pub ended : sources.ended source_now ≡ is_over given
+  pub over : ends_input given ≡ true → IsOver (sources.left source_now)
+  pub ended : sources.ended source_now ≡ ends_input given
 
 -- a read gave octets, or none
 abbrev pub IsFill : Fill → List ℕ → Type 0

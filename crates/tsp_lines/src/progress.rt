@@ -9,7 +9,7 @@ ghost use Rattle.tsp_lines.specs.Lines.{NoFeed, IsOver};
 ghost use Rattle.tsp_lines.specs.Meanings.{Breaks, Goes};
 ghost use Rattle.tsp_lines.specs.Outputs.{Hands};
 ghost use Rattle.tsp_lines.specs.Outcomes.{Comes};
-ghost use Rattle.tsp_lines.specs.Readings.{IsNext, IsFill, is_over, meets_end};
+ghost use Rattle.tsp_lines.specs.Readings.{IsNext, IsFill, ends_input, meets_end};
 ghost use Rattle.tsp_lines.specs.Faults.{Counts};
 ghost use Rattle.tsp_lines.specs.Turns.{only_so, line_sayings, end_sayings, Ends, Stopped};
 ghost use Rattle.tsp_lines.specs.Turns.{IsAt, StandsOpen, StillKeepsUp, TriesHeld};
@@ -141,8 +141,8 @@ impl Progress {
         ensures writes { Counts (K.faults sink.old) (K.faults sink.new)
             (result ≡ Err Unwritten.WriteFault) }
         ensures unwritten { result ≡ Err Unwritten.WriteFault → 0 < length self.new.output }
-        ensures over { IfOk result (λ next. is_over next ≡ true → IsOver (S.left source.new)) }
-        ensures ended { IfOk result (λ next. S.ended source.new ≡ is_over next) }
+        ensures over { IfOk result (λ next. ends_input next ≡ true → IsOver (S.left source.new)) }
+        ensures ended { IfOk result (λ next. S.ended source.new ≡ ends_input next) }
     {
         if let Some(next) = self.reader.next_held() {
             return Ok(next);

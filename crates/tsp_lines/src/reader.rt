@@ -4,7 +4,7 @@ ghost use Rattle.std.specs.Prelude.{take, drop, slice_range, true, false, if◌t
 ghost use Rattle.std.specs.Prelude.{IfSome, MatchBool, MatchOption};
 ghost use Rattle.tsp_io.specs.Streams.{Gives};
 ghost use Rattle.tsp_lines.specs.Lines.{NoFeed, close, IsOver};
-ghost use Rattle.tsp_lines.specs.Readings.{IsNext, ReadsNext, IsPassed, long_of, is_over, IsFill, meets_end};
+ghost use Rattle.tsp_lines.specs.Readings.{IsNext, ReadsNext, IsPassed, long_of, ends_input, IsFill, meets_end};
 ghost use Rattle.tsp_lines.specs.Faults.{Counts};
 
 use crate::buffer::refill;
@@ -184,7 +184,7 @@ impl LineReader {
         requires most { (self.old.got ≤ self.old.limit + 1) × (length self.old.held ≤ 65536) }
         ensures next { IsNext self.new self.old.held result }
         ensures same { (self.new.got ≡ self.old.got) × (self.new.limit ≡ self.old.limit)
-            × (is_over result ≡ false) × (result ≢ Next.Failed) }
+            × (ends_input result ≡ false) × (result ≢ Next.Failed) }
     {
         if place > LONGEST {
             let start = self.start_of_held();
@@ -201,7 +201,7 @@ impl LineReader {
     pub fn next_held(&mut self) -> Option<Next>
         ensures next { MatchOption result (NoFeed self.old.held × (self.new.held ≡ self.old.held)
             × (self.new.got ≤ self.new.limit)) (λ next. IsNext self.new self.old.held next
-            × (is_over next ≡ false) × (next ≢ Next.Failed)) }
+            × (ends_input next ≡ false) × (next ≢ Next.Failed)) }
         ensures same { (self.new.got ≡ self.old.got) × (self.new.limit ≡ self.old.limit)
             × (self.new.got ≤ self.new.limit + 1) }
     {
@@ -258,7 +258,7 @@ impl LineReader {
         requires within { self.old.got ≤ self.old.limit }
         ensures next { IsNext self.new self.old.held result }
         ensures same { (self.new.got ≡ self.old.got) × (self.new.limit ≡ self.old.limit)
-            × (is_over result ≡ true) }
+            × (ends_input result ≡ true) }
     {
         self.from = self.at;
         self.to = self.end;
@@ -296,9 +296,9 @@ impl LineReader {
         ensures limit { (self.new.limit ≡ self.old.limit) × (self.new.got ≤ self.new.limit + 1) }
         ensures faults { Counts (S.faults source.old) (S.faults source.new)
             (result ≡ Some Next.Failed) }
-        ensures over { IfSome result (λ next. is_over next ≡ true → IsOver (S.left source.new)) }
+        ensures over { IfSome result (λ next. ends_input next ≡ true → IsOver (S.left source.new)) }
         ensures ended { MatchOption result (S.ended source.new ≡ false)
-            (λ next. S.ended source.new ≡ is_over next) }
+            (λ next. S.ended source.new ≡ ends_input next) }
     {
         self.forget();
         match self.fill(source) {

@@ -6,10 +6,10 @@ use Rattle.tsp_rules.specs.GateRows.{LoopStep, PassOver, GiveUp, Forward, hops_i
 use Rattle.tsp_loop.specs.declared.step.LoopStep.{LoopStep as Step}
 use Rattle.tsp_loop.specs.declared.step.LoopStep.TheVariants.{PassOver as Passes, GiveUp as Gives, Forward as Forwards}
 
-abbrev pub step_of : Step → LoopStep
-step_of Passes = PassOver
-step_of Gives = GiveUp
-step_of (Forwards m) = Forward m
+abbrev pub loop_step_of : Step → LoopStep
+loop_step_of Passes = PassOver
+loop_step_of Gives = GiveUp
+loop_step_of (Forwards m) = Forward m
 
 -- a node gives up where its own LOOP came back on a higher port
 abbrev pub judge_own : ℕ → Port → LoopStep

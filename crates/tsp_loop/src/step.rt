@@ -2,7 +2,7 @@
 ghost use Rattle.std.specs.Prelude.{◌≡◌, Bool, true, false, MatchOption};
 ghost use Rattle.tsp_base.specs.declared.kind.Kind.TheVariants.{Loop};
 ghost use Rattle.tsp_rules.specs.GateRows.{judge, one_hop_less, same_name};
-ghost use Rattle.tsp_loop.specs.Steps.{has_hops, judge_own, step_of};
+ghost use Rattle.tsp_loop.specs.Steps.{has_hops, judge_own, loop_step_of};
 
 use tsp_base::constants::HOPS;
 use tsp_base::message::{Body, Message};
@@ -26,7 +26,7 @@ pub enum LoopStep {
 /// has one port.
 pub fn judge(own: &Name, ports: u8, port: Port, m: &Message) -> LoopStep
     requires { m.now.kind ≡ Loop }
-    ensures { step_of result ≡ judge own.now ports port m.now }
+    ensures { loop_step_of result ≡ judge own.now ports port m.now }
 {
     if ports < 2 {
         return LoopStep::PassOver;
@@ -42,7 +42,7 @@ pub fn judge(own: &Name, ports: u8, port: Port, m: &Message) -> LoopStep
 
 /// What a node does with its own LOOP that came back on a port.
 fn back(number: u16, port: Port) -> LoopStep
-    ensures { step_of result ≡ judge_own number port }
+    ensures { loop_step_of result ≡ judge_own number port }
 {
     if number < u16::from(port.0) {
         LoopStep::GiveUp

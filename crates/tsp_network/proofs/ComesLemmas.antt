@@ -16,7 +16,7 @@ use Rattle.tsp_daemon.specs.Sessions.{given_of, port_from}
 use Rattle.tsp_alike.specs.AlikeNodes.{ComesOn, renamed_given}
 use Rattle.tsp_network.specs.Events.{MayCome}
 use Rattle.tsp_network.specs.Lives.{Daemons, addresses}
-use Rattle.tsp_network.specs.Rosters.{count_below, named, neighbours, neighbours_on, number_for, place_in, renaming_on, sender_for}
+use Rattle.tsp_network.specs.Rosters.{count_below, named_node, neighbours, neighbours_on, number_for, place_in, renaming_on, sender_for}
 use Rattle.tsp_network.proofs.NamedLemmas.{is_in_range, named_member}
 use Rattle.tsp_network.proofs.RosterLemmas.{length_neighbours, place_is}
 use Rattle.tsp_network.proofs.SegmentLemmas.{as_long, port_found, port_own}
@@ -30,7 +30,7 @@ module _ (d : Daemons) (is : IsHeader d.header) (n : ℕ) (low : n < length d.he
   pub record Found (q : Port) (m num : ℕ) : Type 0 where
     pub port : (port_of_from 0 (peer_of num) (daemon_ports d n)).0 ≡ q.0
     pub among : is_among (peer_of num) (slice_index_or (daemon_ports d n) q.0 no_port).peers ≡ true
-    pub names : named n (count_below q.0 (neighbours n nets)) (neighbours_on n q.0 nets) num ≡ m
+    pub names : named_node n (count_below q.0 (neighbours n nets)) (neighbours_on n q.0 nets) num ≡ m
 
   -- its own number
   found-own : (q : Port) → q.0 ≡ 0 → q.0 < length (ports_on n nets) → Found q n 0
@@ -56,7 +56,7 @@ module _ (d : Daemons) (is : IsHeader d.header) (n : ℕ) (low : n < length d.he
         among = subst (λ (s : PortSetup). is_among (peer_of (number_for n q.0 m nets)) s.peers ≡ true) (sym (daemon_port d is n low q.0 has))
             (or_right (0 == number_for n q.0 m nets) (is_among (peer_of (number_for n q.0 m nets)) (map peer_of (range_with_len (done + 1) (length nodes))))
             (subst (λ k. is_among (peer_of k) (map peer_of (range_with_len (done + 1) (length nodes))) ≡ true) (sym number) (is_in_range (done + 1) (length nodes) i few)));
-        names = ap (named n done nodes) number ∙ named_member n done nodes i few ∙ p.is;
+        names = ap (named_node n done nodes) number ∙ named_member n done nodes i few ∙ p.is;
       }
 
   found : (q : Port) (m : PeerId) → MayCome nets n q (Peer m) → q.0 < length (ports_on n nets) → Found q m.0 (number_for n q.0 m.0 nets)

@@ -5,7 +5,7 @@ use Rattle.std.proofs.lemmas.Bool.{and_parts, cases_lt, eqb-false, lt-ltb, ltb-t
 use Rattle.std.specs.List.{range_with_len}
 use Rattle.tsp_rules.specs.Values.{PeerId}
 use Rattle.tsp_base.specs.Words.{is_among, others, peer_of}
-use Rattle.tsp_network.specs.Rosters.{named}
+use Rattle.tsp_network.specs.Rosters.{named_node}
 
 -- nodes that a node numbers: all have numbers below 64, none is the node itself, and none stands there twice
 pub record IsRoster (n : ℕ) (nodes : List ℕ) : Type 0 where
@@ -16,11 +16,11 @@ pub record IsRoster (n : ℕ) (nodes : List ℕ) : Type 0 where
 
 -- whom a number names: the node itself, the i-th of the nodes, or nobody
 pub data Names (n done : ℕ) (nodes : List ℕ) (p : ℕ) : Type 0 where
-  Itself : p ≡ 0 → named n done nodes p ≡ n → Names n done nodes p
-  Member : (i : ℕ) → i < length nodes → p ≡ done + 1 + i → named n done nodes p ≡ slice_index_or nodes i 0 → Names n done nodes p
-  Nobody : 0 < p → named n done nodes p ≡ p + 64 → Names n done nodes p
+  Itself : p ≡ 0 → named_node n done nodes p ≡ n → Names n done nodes p
+  Member : (i : ℕ) → i < length nodes → p ≡ done + 1 + i → named_node n done nodes p ≡ slice_index_or nodes i 0 → Names n done nodes p
+  Nobody : 0 < p → named_node n done nodes p ≡ p + 64 → Names n done nodes p
 
-pub named_member : (n done : ℕ) (nodes : List ℕ) (i : ℕ) → i < length nodes → named n done nodes (done + 1 + i) ≡ slice_index_or nodes i 0
+pub named_member : (n done : ℕ) (nodes : List ℕ) (i : ℕ) → i < length nodes → named_node n done nodes (done + 1 + i) ≡ slice_index_or nodes i 0
 named_member n done nodes i h =
     let some : ((done + 1 + i) == 0) ≡ false = ne_eqb (done + 1 + i) 0 (λ e. let bad : ⊥ = omega (arith, e) in bad) in
     let low : nat_lt done (done + 1 + i) ≡ true = lt-ltb done (done + 1 + i) (omega arith) in
@@ -48,7 +48,7 @@ names n done nodes p = by_zero (p == 0) refl where
         Nobody (by_size (cases_lt 0 p) some) (rw (e, f) refl)
 
 -- different numbers name different nodes
-pub named_once : (n done : ℕ) (nodes : List ℕ) → IsRoster n nodes → (p q : ℕ) → named n done nodes p ≡ named n done nodes q → p ≡ q
+pub named_once : (n done : ℕ) (nodes : List ℕ) → IsRoster n nodes → (p q : ℕ) → named_node n done nodes p ≡ named_node n done nodes q → p ≡ q
 named_once n done nodes r p q e = by_both (names n done nodes p) (names n done nodes q) where
   by_both : Names n done nodes p → Names n done nodes q → p ≡ q
   by_both (Itself a f) (Itself b g) = a ∙ sym b
@@ -62,11 +62,11 @@ named_once n done nodes r p q e = by_both (names n done nodes p) (names n done n
   by_both (Nobody a f) (Nobody b g) = let same : p + 64 ≡ q + 64 = sym f ∙ e ∙ g in omega (arith, same)
 
 -- so numbers are compared as their nodes are
-pub compared : (n done : ℕ) (nodes : List ℕ) → IsRoster n nodes → (p q : ℕ) → (named n done nodes p == named n done nodes q) ≡ (p == q)
+pub compared : (n done : ℕ) (nodes : List ℕ) → IsRoster n nodes → (p q : ℕ) → (named_node n done nodes p == named_node n done nodes q) ≡ (p == q)
 compared n done nodes r p q = by_case (p == q) refl where
-  by_case : (b : Bool) → (p == q) ≡ b → (named n done nodes p == named n done nodes q) ≡ b
-  by_case true e = eq-eqb (named n done nodes p) (named n done nodes q) (ap (named n done nodes) (eqb-true p q e))
-  by_case false e = ne_eqb (named n done nodes p) (named n done nodes q) (λ f. eqb-false p q e (named_once n done nodes r p q f))
+  by_case : (b : Bool) → (p == q) ≡ b → (named_node n done nodes p == named_node n done nodes q) ≡ b
+  by_case true e = eq-eqb (named_node n done nodes p) (named_node n done nodes q) (ap (named_node n done nodes) (eqb-true p q e))
+  by_case false e = ne_eqb (named_node n done nodes p) (named_node n done nodes q) (λ f. eqb-false p q e (named_once n done nodes r p q f))
 
 -- the peers of a port, in order, name the nodes
 pub range_named : (f : PeerId → PeerId) (k : ℕ) (nodes : List ℕ) → ((i : ℕ) → i < length nodes → f (peer_of (k + i)) ≡ peer_of (slice_index_or nodes i 0)) → map f (map peer_of (range_with_len k (length nodes))) ≡ map peer_of nodes

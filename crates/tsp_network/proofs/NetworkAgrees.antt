@@ -13,12 +13,12 @@ use Rattle.tsp_run.specs.Run.{boot_step, joins, posts, posts_from, step_tick}
 use Rattle.tsp_run.specs.Setup.{past_of, rests}
 use Rattle.tsp_run.proofs.Happens.{acts_by, stepping}
 use Rattle.tsp_run.proofs.RunLemmas.{posts_stepped, stepped_own, up_joined}
-use Rattle.tsp_daemon.specs.Nodes.{config_of, setups_from}
+use Rattle.tsp_daemon.specs.Nodes.{daemon_config, setups_from}
 use Rattle.tsp_daemon.specs.Posts.{sends_of}
 use Rattle.tsp_alike.specs.AlikeNodes.{AllKnown, ComesOn, SameBoot, TellsApart, naming_of, renamed_given, renamed_placed}
 use Rattle.tsp_alike.proofs.AlikeLaws.{boots-are-alike}
-use Rattle.tsp_network.specs.Lives.{Daemons, IsStarted, Life, first_acts, session_of, told, turn_acts}
-use Rattle.tsp_network.specs.Networks.{Network, acted, life_from, named_acts, node_tick, node_wall, nothing_yet, sent_by, starts, turned_to, turns}
+use Rattle.tsp_network.specs.Lives.{Daemons, IsStarted, Life, first_acts, session_of, turn_told, turn_acts}
+use Rattle.tsp_network.specs.Networks.{Network, acted, life_from, named_acts, daemon_tick, node_wall, nothing_yet, sent_by, starts, turned_to, turns}
 use Rattle.tsp_network.specs.Rosters.{renaming_on}
 use Rattle.tsp_network.proofs.NodesAgree.{Agrees, agrees_later, agrees_still, alike_lines, given, turn_agrees}
 use Rattle.tsp_network.proofs.SentLemmas.{AllMatch, NoneMatch, acts_match, match_append}
@@ -80,7 +80,7 @@ module _ (d : Daemons) (header_is : IsHeader d.header) (started : (n : ℕ) → 
       let x : ℕ = step_tick d.header step in
       let own : Agrees d header_is step.node life t h = subst (λ o. OneAgrees step.node o t h) lives (all.nodes step.node) in
       let r = turn_agrees d header_is step life t h a (d.early k) own later comes in
-      let now : Life = told a (d.early k) (x - life.origin) life in
+      let now : Life = turn_told a (d.early k) (x - life.origin) life in
       let acts : List Placed = turn_acts (d.words step.node) life now in
       let theirs : named_acts nets step.node life.origin acts ≡ acts_by d.header h (answers_all g) step = r.same ∙ ap (λ z. answers_all z x (in_node_step step x (past_of d.header step h))) same in
       let sends = acts_match d header_is step.node r.low life.origin r.may step.at acts r.known in
@@ -88,17 +88,17 @@ module _ (d : Daemons) (header_is : IsHeader d.header) (started : (n : ℕ) → 
       (subst (λ l. AllAgree (turned_to d step life now w) step.at (stepped step x l h)) theirs (acted_agrees w t h step now acts all later r.after sends))
 
   -- a daemon starts, and its node boots
-  pub boot_agrees : (w : Network) (t : ℕ) (h : List Line) (k at n word : ℕ) → AllAgree w t h → t ≤ at → n < length d.header.nodes → d.origin k ≤ node_tick d n at →
+  pub boot_agrees : (w : Network) (t : ℕ) (h : List Line) (k at n word : ℕ) → AllAgree w t h → t ≤ at → n < length d.header.nodes → d.origin k ≤ daemon_tick d n at →
       AllAgree (starts d k at n word w) at (joins (Some (stepping d.header h boots_all (boot_step d.header at n word))) h)
   boot_agrees w t h k at n word all later low began =
       let step : Step = boot_step d.header at n word in
-      let x : ℕ = node_tick d n at in
+      let x : ℕ = daemon_tick d n at in
       let origin : ℕ = d.origin k in
       let y : ℕ = x - origin in
       let tick : y + origin ≡ x = omega (arith, began) in
       let wall = node_wall d n at in
       let now : Life = life_from d k at n word (length w.sent) in
-      let c = config_of (d.words n) in
+      let c = daemon_config (d.words n) in
       let first : Step = record { at = y; node = 0; cause = Booted word wall } in
       let base : NodePast = record { name = c.name; may = c.may; strict = c.strict; ports = c.ports; step = first; lines = [] } in
       let p : NodePast = in_node_step first y base in

@@ -22,9 +22,9 @@ use Rattle.tsp_run.proofs.NetworkLemmas.{goes_there}
 use Rattle.tsp_run.proofs.RunFits.{post_sound, ran}
 use Rattle.tsp_run.proofs.SettingLemmas.{each-is-set}
 use Rattle.tsp_run.proofs.SoundLemmas.{sound_writable}
-use Rattle.tsp_network.specs.Events.{AllHappen, CanHappen, MayCome, Runs, RunsAt, RunsFor}
-use Rattle.tsp_network.specs.Lives.{Daemons, IsStarted, Life, first_acts, session_of, told, turn_acts}
-use Rattle.tsp_network.specs.Networks.{Network, Sent, acted, copy_at, delivers, happens, life_from, network, node_tick, node_wall, sent_by, takes_copy, turns}
+use Rattle.tsp_network.specs.Events.{AllHappen, CanHappen, MayCome, IsRunning, RunsAt, RunsFor}
+use Rattle.tsp_network.specs.Lives.{Daemons, IsStarted, Life, first_acts, session_of, turn_told, turn_acts}
+use Rattle.tsp_network.specs.Networks.{Network, Sent, acted, copy_at, delivers, after_event, life_from, network, daemon_tick, node_wall, sent_by, takes_copy, turns}
 use Rattle.tsp_network.specs.Rosters.{destination, neighbours_on, sender_for}
 use Rattle.tsp_network.proofs.ComesLemmas.{comes_as}
 use Rattle.tsp_network.proofs.EventsHappen.{could_boot, could_come, could_take, could_turn, sender_known}
@@ -49,7 +49,7 @@ pub record Running (o : Option Life) : Type 0 where
   pub life : Life
   pub is : o ≡ Some life
 
-pub running : (o : Option Life) → Runs o → Running o
+pub running : (o : Option Life) → IsRunning o → Running o
 running None r = absurd r
 running (Some life) r = record { life = life; is = refl }
 
@@ -65,13 +65,13 @@ module _ (d : Daemons) (header_is : IsHeader d.header) (started : (n : ℕ) → 
 
   -- what is known of an event that can happen after others, with which the network agrees
   pub record EventAgrees (e : Event) (before : List Event) : Type 0 where
-    pub agree : Agreeing (happens d (length before) e (network d before)) (event_at e) (run d.header (e ∷ before))
+    pub agree : Agreeing (after_event d (length before) e (network d before)) (event_at e) (run d.header (e ∷ before))
     pub can : impossible (scene d.header before) e ≡ None
     pub ranges : IsInRange e
 
   boots : (before : List Event) (at node word : ℕ) → last_at before ≤ at → Agreeing (network d before) (last_at before) (run d.header before) → CanHappen d (length before) (network d before) (BootAt at node word) → EventAgrees (BootAt at node word) before
   boots before at node word later a c = record {
-    agree = subst (λ z. Agreeing (happens d (length before) (BootAt at node word) (network d before)) at (joins (Some z) (run d.header before))) (sym (steps-are d.header (run d.header before) boots_all (boot_step d.header at node word)))
+    agree = subst (λ z. Agreeing (after_event d (length before) (BootAt at node word) (network d before)) at (joins (Some z) (run d.header before))) (sym (steps-are d.header (run d.header before) boots_all (boot_step d.header at node word)))
         (boot_agrees d header_is started (network d before) (last_at before) (run d.header before) (length before) at node word a later c.0 c.2);
     can = could_boot (scene d.header before) at node word later c.0;
     ranges = c.1;
@@ -85,7 +85,7 @@ module _ (d : Daemons) (header_is : IsHeader d.header) (started : (n : ℕ) → 
       let own = own-agrees w (last_at before) h node a r in
       let step : Step = record { at = at; node = node; cause = Turned } in
       record {
-        agree = subst (λ z. Agreeing (happens d (length before) (Turn at node) w) at (joins (Some z) h)) (sym (steps-are d.header h (answers_all NodeTurn) step))
+        agree = subst (λ z. Agreeing (after_event d (length before) (Turn at node) w) at (joins (Some z) h)) (sym (steps-are d.header h (answers_all NodeTurn) step))
             (turn_agrees_all d header_is started w (last_at before) h (length before) step None r.life NodeTurn a later r.is refl tt);
         can = could_turn (scene d.header before) at node later own.low own.up_is;
         ranges = tt;
@@ -104,7 +104,7 @@ module _ (d : Daemons) (header_is : IsHeader d.header) (started : (n : ℕ) → 
       let has : port.0 < length (ports_on node nets) = omega (arith, some, all) in
       let k = comes_as d header_is node own.low r.life.origin port from octets (session_of (d.words node) r.life).past own.ports c.2 has c.3 in
       record {
-        agree = subst (λ z. Agreeing (happens d (length before) (Bytes at node port from octets) w) at (joins (Some z) h)) (sym (steps-are d.header h (answers_all (GotOn port from (taken_of octets))) step))
+        agree = subst (λ z. Agreeing (after_event d (length before) (Bytes at node port from octets) w) at (joins (Some z) h)) (sym (steps-are d.header h (answers_all (GotOn port from (taken_of octets))) step))
             (turn_agrees_all d header_is started w (last_at before) h (length before) step (Some (sender_for nets node port from, octets)) r.life (GotOn port from (taken_of octets)) a later r.is k.same k.comes);
         can = could_come (scene d.header before) at node port from octets later own.low has (sender_known d header_is node own.low port has from c.2) own.up_is;
         ranges = c.4;
@@ -121,7 +121,7 @@ module _ (d : Daemons) (header_is : IsHeader d.header) (started : (n : ℕ) → 
     by_address : (s : Sent) (m : MatchedAt d s (posts h) k) → slice_get w.sent k ≡ Some s → (o : Option Address) → destination nets s.from s.tried.0 ≡ o → RunsAt w o → EventAgrees (Take at k) before
     by_address s m there None e r =
         let away : address_of nets m.post.from m.post.port m.post.to ≡ None = sym m.matches.goes ∙ e in
-        let net : happens d (length before) (Take at k) w ≡ w = ap (λ z. takes_copy d (length before) at k z w) there ∙ ap (λ z. delivers d (length before) at k s z w) e in
+        let net : after_event d (length before) (Take at k) w ≡ w = ap (λ z. takes_copy d (length before) at k z w) there ∙ ap (λ z. delivers d (length before) at k s z w) e in
         let nowhere : goes_to nets (slice_get (posts h) k) ≡ None = ap (goes_to nets) m.there ∙ away in
         let nothing : happening d.header h (Take at k) ≡ None = ap (λ z. reaches d.header h at k (arrives nets z)) m.there ∙ ap (λ z. reaches d.header h at k (arrives_at m.post z)) away in
         record {
@@ -146,7 +146,7 @@ module _ (d : Daemons) (header_is : IsHeader d.header) (started : (n : ℕ) → 
         let may : MayCome nets to.node to.port (Peer (peer_of s.from)) = inr (subst (λ n. has_member n (neighbours_on to.node to.port.0 nets) ≡ true) (sym from) near) in
         let c = comes_as d header_is to.node own.low r.life.origin to.port (Peer (peer_of s.from)) octets (session_of (d.words to.node) r.life).past own.ports may reach.has small in
         let given_is = c.same ∙ ap (λ n. GotOn to.port (Peer (peer_of n)) (taken_of octets)) from ∙ ap (λ l. GotOn to.port (Peer (peer_of post.from)) (taken_of l)) written in
-        let net : happens d (length before) (Take at k) w ≡ turns d (length before) step (copy_at nets to s) (w.lives to.node) w = ap (λ z. takes_copy d (length before) at k z w) there ∙ ap (λ z. delivers d (length before) at k s z w) e in
+        let net : after_event d (length before) (Take at k) w ≡ turns d (length before) step (copy_at nets to s) (w.lives to.node) w = ap (λ z. takes_copy d (length before) at k z w) there ∙ ap (λ z. delivers d (length before) at k s z w) e in
         let happened : happening d.header h (Take at k) ≡ Some (stepping d.header h (answers_all (GotOn to.port (Peer (peer_of post.from)) (taken_of (canon post.datagram)))) step) =
         taking d.header h at k (record { post = post; to = to; there = m.there; goes = goes; has = reach.has }) in
         let somewhere : goes_to nets (slice_get (posts h) k) ≡ Some to = ap (goes_to nets) m.there ∙ goes in
@@ -173,7 +173,7 @@ module _ (d : Daemons) (header_is : IsHeader d.header) (started : (n : ℕ) → 
 
   turn-grows : (k : ℕ) (step : Step) (a : Arrival) (o : Option Life) (w : Network) → length w.sent ≤ length (turns d k step a o w).sent
   turn-grows k step a None w = omega arith
-  turn-grows k step a (Some life) w = acted-grows step (told a (d.early k) (step_tick d.header step - life.origin) life) (turn_acts (d.words step.node) life (told a (d.early k) (step_tick d.header step - life.origin) life)) w
+  turn-grows k step a (Some life) w = acted-grows step (turn_told a (d.early k) (step_tick d.header step - life.origin) life) (turn_acts (d.words step.node) life (turn_told a (d.early k) (step_tick d.header step - life.origin) life)) w
 
   copy-grows : (k at number : ℕ) (s : Option Sent) (w : Network) → length w.sent ≤ length (takes_copy d k at number s w).sent
   copy-grows k at number None w = omega arith
@@ -182,8 +182,8 @@ module _ (d : Daemons) (header_is : IsHeader d.header) (started : (n : ℕ) → 
     by_address None = omega arith
     by_address (Some a) = turn-grows k (record { at = at; node = a.node; cause = Came number }) (copy_at nets a s) (w.lives a.node) w
 
-  pub sent_grows : (k : ℕ) (e : Event) (w : Network) → length w.sent ≤ length (happens d k e w).sent
-  sent_grows k (BootAt at node word) w = acted-grows (boot_step d.header at node word) (life_from d k at node word (length w.sent)) (first_acts (d.words node) (node_tick d node at - d.origin k) (node_wall d node at) word) w
+  pub sent_grows : (k : ℕ) (e : Event) (w : Network) → length w.sent ≤ length (after_event d k e w).sent
+  sent_grows k (BootAt at node word) w = acted-grows (boot_step d.header at node word) (life_from d k at node word (length w.sent)) (first_acts (d.words node) (daemon_tick d node at - d.origin k) (node_wall d node at) word) w
   sent_grows k (Turn at node) w = turn-grows k (record { at = at; node = node; cause = Turned }) None (w.lives node) w
   sent_grows k (Take at number) w = copy-grows k at number (slice_get w.sent number) w
   sent_grows k (Bytes at node port from octets) w = turn-grows k (record { at = at; node = node; cause = Handed }) (Some (sender_for nets node port from, octets)) (w.lives node) w

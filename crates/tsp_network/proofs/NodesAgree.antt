@@ -13,11 +13,11 @@ use Rattle.tsp_run.specs.Run.{step_tick}
 use Rattle.tsp_run.specs.Setup.{node_line, past_of, rests}
 use Rattle.tsp_run.proofs.RunLemmas.{stepped_own, stepped_other, up_joined}
 use Rattle.tsp_run.proofs.SettingLemmas.{each-is-set}
-use Rattle.tsp_daemon.specs.Sessions.{Session, begun, cause_of, given_of, turned}
+use Rattle.tsp_daemon.specs.Sessions.{Session, turn_begun, turn_cause, given_of, turned}
 use Rattle.tsp_alike.specs.AlikeNodes.{AlikeLines, AlikeNodes, AlikeSetup, AllKnown, Both, ComesOn, TellsApart, naming_of, namings, renamed_given}
 use Rattle.tsp_alike.proofs.AlikeLaws.{answers-are-alike}
-use Rattle.tsp_network.specs.Lives.{Daemons, Life, session_of, told, turn_acts}
-use Rattle.tsp_network.specs.Networks.{named_acts, node_tick}
+use Rattle.tsp_network.specs.Lives.{Daemons, Life, session_of, turn_told, turn_acts}
+use Rattle.tsp_network.specs.Networks.{named_acts, daemon_tick}
 use Rattle.tsp_network.specs.Rosters.{renaming_on}
 use Rattle.tsp_network.proofs.SetUpLemmas.{daemon_ports, tells_apart}
 use Rattle.tsp_network.proofs.ToldLemmas.{Reached, Went, acts_told, session_told, told_so}
@@ -57,7 +57,7 @@ module _ (d : Daemons) (is : IsHeader d.header) where
   nets = networks d.header
 
   -- ticks never fall
-  pub ticks_rise : (n t at : ℕ) → t ≤ at → node_tick d n t ≤ node_tick d n at
+  pub ticks_rise : (n t at : ℕ) → t ≤ at → daemon_tick d n t ≤ daemon_tick d n at
   ticks_rise n t at later =
       let set = each-is-set d.header is in
       let same : set.0.rate n ≡ (node_line d.header n).rate = set.1.rate_is n in
@@ -68,7 +68,7 @@ module _ (d : Daemons) (is : IsHeader d.header) where
   pub record Agrees (n : ℕ) (life : Life) (t : ℕ) (h : List Line) : Type 0 where
     pub low : n < length d.header.nodes
     pub reached : Reached life
-    pub began : life.origin ≤ node_tick d n t
+    pub began : life.origin ≤ daemon_tick d n t
     pub ports : (session_of (d.words n) life).past.ports ≡ daemon_ports d n
     pub up_is : up (dids (of n h)) ≡ true
     pub alike : AlikeNodes (renaming_on nets n life.origin) (tells_apart d is n low life.origin) life.origin (session_of (d.words n) life).past (past_of d.header (rests n) h)
@@ -110,7 +110,7 @@ module _ (d : Daemons) (is : IsHeader d.header) where
     pub after : Agrees step.node now step.at (stepped step (step_tick d.header step) (named_acts nets step.node life.origin (turn_acts (d.words step.node) life now)) h)
 
   pub turn_agrees : (step : Step) (life : Life) (t : ℕ) (h : List Line) (a : Arrival) (early : ℕ) → Agrees step.node life t h → t ≤ step.at → ComesOn (session_of (d.words step.node) life).past (given step.node life a) →
-      TurnAgrees step life (told a early (step_tick d.header step - life.origin) life) (given step.node life a) h
+      TurnAgrees step life (turn_told a early (step_tick d.header step - life.origin) life) (given step.node life a) h
   turn_agrees step life t h a early k later comes =
       let n : ℕ = step.node in
       let x : ℕ = step_tick d.header step in
@@ -118,19 +118,19 @@ module _ (d : Daemons) (is : IsHeader d.header) where
       let s = d.words n in
       let past : NodePast = (session_of s life).past in
       let g : NodeGiven = given n life a in
-      let now : Life = told a early y life in
+      let now : Life = turn_told a early y life in
       let before = k.began in
       let rise = ticks_rise n t step.at later in
       let tick : y + life.origin ≡ x = omega (arith, before, rise) in
       let rs : Port → Renaming = renaming_on nets n life.origin in
       let apart : (q : Port) → TellsApart (rs q) = tells_apart d is n k.low life.origin in
-      let p : NodePast = begun g y past in
+      let p : NodePast = turn_begun g y past in
       let acts : List Placed = answers_all g y p in
       let acts_are : turn_acts s life now ≡ acts = acts_told s k.reached a early y in
       let here : NodePast = past_of d.header step h in
       let p' : NodePast = in_node_step step (y + life.origin) here in
       let alike : AlikeNodes rs apart life.origin past here = alike_lines rs apart life.origin past (past_of d.header (rests n) h) here k.alike refl refl refl refl refl in
-      let first : Step = record { at = y; node = 0; cause = cause_of g } in
+      let first : Step = record { at = y; node = 0; cause = turn_cause g } in
       let both = answers-are-alike rs apart life.origin g y p p' (begins_alike rs apart life.origin first step y past here alike) (comes-step first y past g comes) in
       let ours : List Placed = answers_all (renamed_given rs g) (y + life.origin) p' in
       let named : named_acts nets n life.origin (turn_acts s life now) ≡ ours = ap (named_acts nets n life.origin) acts_are ∙ sym both.same in

@@ -19,9 +19,9 @@ use Rattle.tsp_run.proofs.NetworkLemmas.{some_same}
 use Rattle.tsp_run.proofs.PossibleRun.{possible_before}
 use Rattle.tsp_run.proofs.RefusalLemmas.{CanHappen as CanBe, can_happen, first_of-none, up-down}
 use Rattle.tsp_run.proofs.RunLemmas.{stepped_other}
-use Rattle.tsp_network.specs.Events.{AllHappen, CanHappen, IsNetwork, Runs, RunsAt, RunsFor}
-use Rattle.tsp_network.specs.Lives.{AreStarted, Daemons, IsStarted, Life, first_acts, told, turn_acts}
-use Rattle.tsp_network.specs.Networks.{Network, Sent, acted, copy_at, delivers, life_from, named_acts, network, node_tick, node_wall, takes_copy, turns}
+use Rattle.tsp_network.specs.Events.{AllHappen, CanHappen, IsNetwork, IsRunning, RunsAt, RunsFor}
+use Rattle.tsp_network.specs.Lives.{AreStarted, Daemons, IsStarted, Life, first_acts, turn_told, turn_acts}
+use Rattle.tsp_network.specs.Networks.{Network, Sent, acted, copy_at, delivers, life_from, named_acts, network, daemon_tick, node_wall, takes_copy, turns}
 use Rattle.tsp_network.specs.Rosters.{destination, sender_for}
 use Rattle.tsp_network.specs.Schedules.{AllSuit, RunsAreNetworks, Suits}
 use Rattle.tsp_network.proofs.NetworkAgrees.{AllAgree}
@@ -53,7 +53,7 @@ acted-quiet d step life acts w q n e = by_node (n == step.node) refl e where
 
 turn-quiet : (d : Daemons) (k : ℕ) (step : Step) (a : Arrival) (o : Option Life) (w : Network) → IsQuiet w → IsQuiet (turns d k step a o w)
 turn-quiet d k step a None w q = q
-turn-quiet d k step a (Some life) w q = acted-quiet d step (told a (d.early k) (step_tick d.header step - life.origin) life) (turn_acts (d.words step.node) life (told a (d.early k) (step_tick d.header step - life.origin) life)) w q
+turn-quiet d k step a (Some life) w q = acted-quiet d step (turn_told a (d.early k) (step_tick d.header step - life.origin) life) (turn_acts (d.words step.node) life (turn_told a (d.early k) (step_tick d.header step - life.origin) life)) w q
 
 copy-quiet : (d : Daemons) (k at number : ℕ) (s : Option Sent) (w : Network) → IsQuiet w → IsQuiet (takes_copy d k at number s w)
 copy-quiet d k at number None w q = q
@@ -67,16 +67,16 @@ quiet d [] = λ n e. refl
 quiet d (BootAt at node word ∷ before) =
     let w = network d before in
     let k = length before in
-    acted-quiet d (boot_step d.header at node word) (life_from d k at node word (length w.sent)) (first_acts (d.words node) (node_tick d node at - d.origin k) (node_wall d node at) word) w (quiet d before)
+    acted-quiet d (boot_step d.header at node word) (life_from d k at node word (length w.sent)) (first_acts (d.words node) (daemon_tick d node at - d.origin k) (node_wall d node at) word) w (quiet d before)
 quiet d (Turn at node ∷ before) = turn-quiet d (length before) (record { at = at; node = node; cause = Turned }) None ((network d before).lives node) (network d before) (quiet d before)
 quiet d (Take at number ∷ before) = copy-quiet d (length before) at number (slice_get (network d before).sent number) (network d before) (quiet d before)
 quiet d (Bytes at node port from octets ∷ before) =
     turn-quiet d (length before) (record { at = at; node = node; cause = Handed }) (Some (sender_for (networks d.header) node port from, octets)) ((network d before).lives node) (network d before) (quiet d before)
 
 -- a daemon runs on each node that is up
-pub runs_up : (w : Network) (h : List Line) (n : ℕ) → w.history ≡ h → IsQuiet w → up (dids (of n h)) ≡ true → Runs (w.lives n)
+pub runs_up : (w : Network) (h : List Line) (n : ℕ) → w.history ≡ h → IsQuiet w → up (dids (of n h)) ≡ true → IsRunning (w.lives n)
 runs_up w h n same q up_is = by_life (w.lives n) refl where
-  by_life : (o : Option Life) → w.lives n ≡ o → Runs o
+  by_life : (o : Option Life) → w.lives n ≡ o → IsRunning o
   by_life None e =
       let none : of n h ≡ [] = ap (of n) (sym same) ∙ q n e in
       let off : up (dids (of n h)) ≡ false = ap (λ l. up (dids l)) none in

@@ -5,12 +5,12 @@ use Rattle.std.proofs.lemmas.Bool.{lt-leb, ne_eqb}
 use Rattle.std.proofs.lemmas.List.{length-map}
 use Rattle.tsp_rules.specs.Values.{Port}
 use Rattle.tsp_base.specs.Words.{has_member, peer_of}
-use Rattle.tsp_gateway.specs.PortOf.{has_other, port_of_from}
+use Rattle.tsp_gateway.specs.PortOf.{has_other_peer, port_of_from}
 use Rattle.tsp_io.specs.declared.addr.Addr.{Addr}
 use Rattle.tsp_rules.specs.NodeRows.{no_port}
-use Rattle.tsp_daemon.specs.Nodes.{setup_of, setups_from}
+use Rattle.tsp_daemon.specs.Nodes.{numbered_setup, setups_from}
 use Rattle.tsp_network.specs.Lives.{addresses}
-use Rattle.tsp_network.specs.Rosters.{count_below, neighbours, others_in, port_with}
+use Rattle.tsp_network.specs.Rosters.{count_below, neighbours, others_in, port_of_number}
 use Rattle.tsp_network.proofs.NamedLemmas.{is_in_range, not_in_range}
 
 -- lists of lists that are as long, each as the other's
@@ -32,21 +32,21 @@ ports_count done None = refl
 ports_count done (More {ps = ps} e a) = ap (λ k. suc k) (ports_count (done + length ps) a)
 
 -- how they are set up
-pub setup_at : (done r : ℕ) {pss : List (List Addr)} {nss : List (List ℕ)} → AsLong pss nss → r < length nss → slice_index_or (setups_from done pss) r no_port ≡ setup_of (done + count_below r nss) (length (slice_index_or nss r []))
+pub setup_at : (done r : ℕ) {pss : List (List Addr)} {nss : List (List ℕ)} → AsLong pss nss → r < length nss → slice_index_or (setups_from done pss) r no_port ≡ numbered_setup (done + count_below r nss) (length (slice_index_or nss r []))
 setup_at done r None h = absurd (omega (arith, h))
-setup_at done zero (More {ps = ps} e a) h = ap (λ k. setup_of k (length ps)) (let same : done ≡ done + 0 = omega arith in same) ∙ ap (λ c. setup_of (done + 0) c) e
+setup_at done zero (More {ps = ps} e a) h = ap (λ k. numbered_setup k (length ps)) (let same : done ≡ done + 0 = omega arith in same) ∙ ap (λ c. numbered_setup (done + 0) c) e
 setup_at done (suc r) (More {ps = ps} {ns = ns} {nss = nss} e a) h =
     setup_at (done + length ps) r a (omega (arith, h))
-    ∙ ap (λ k. setup_of k (length (slice_index_or nss r []))) (let same : (done + length ps) + count_below r nss ≡ done + (length ns + count_below r nss) = omega (arith, e) in same)
+    ∙ ap (λ k. numbered_setup k (length (slice_index_or nss r []))) (let same : (done + length ps) + count_below r nss ≡ done + (length ns + count_below r nss) = omega (arith, e) in same)
 
 -- a number above 0 that isn't among these numbers is no other peer of such a port
-not-other : (done count p : ℕ) → ((i : ℕ) → i < count → p ≢ done + 1 + i) → 0 < p → has_other (peer_of p) (setup_of done count) ≡ false
+not-other : (done count p : ℕ) → ((i : ℕ) → i < count → p ≢ done + 1 + i) → 0 < p → has_other_peer (peer_of p) (numbered_setup done count) ≡ false
 not-other done count p none some =
     let zero_off : (0 == p) ≡ false = ne_eqb 0 p (λ e. let bad : ⊥ = omega (arith, some, e) in bad) in
     let off = not_in_range (done + 1) count p none in
     rw (zero_off, off) refl
 
-is-other : (done count i : ℕ) → i < count → has_other (peer_of (done + 1 + i)) (setup_of done count) ≡ true
+is-other : (done count i : ℕ) → i < count → has_other_peer (peer_of (done + 1 + i)) (numbered_setup done count) ≡ true
 is-other done count i h =
     let zero_off : (0 == (done + 1 + i)) ≡ false = ne_eqb 0 (done + 1 + i) (λ e. let bad : ⊥ = omega (arith, e) in bad) in
     let on = is_in_range (done + 1) count i h in
@@ -58,10 +58,10 @@ pub port_found : (k done r i p : ℕ) {pss : List (List Addr)} {nss : List (List
 port_found k done r i p None h few is = absurd (omega (arith, h))
 port_found k done zero i p (More {ps = ps} {pss = pss} e a) h few is =
     let same : p ≡ done + 1 + i = omega (arith, is) in
-    let on : has_other (peer_of p) (setup_of done (length ps)) ≡ true = subst (λ z. has_other (peer_of z) (setup_of done (length ps)) ≡ true) (sym same) (is-other done (length ps) i (omega (arith, few, e))) in
+    let on : has_other_peer (peer_of p) (numbered_setup done (length ps)) ≡ true = subst (λ z. has_other_peer (peer_of z) (numbered_setup done (length ps)) ≡ true) (sym same) (is-other done (length ps) i (omega (arith, few, e))) in
     ap (λ b. (if b then record { 0 = k } else port_of_from (k + 1) (peer_of p) (setups_from (done + length ps) pss)).0) on ∙ (let z : k ≡ k + 0 = omega arith in z)
 port_found k done (suc r) i p (More {ps = ps} {ns = ns} {pss = pss} {nss = nss} e a) h few is =
-    let off : has_other (peer_of p) (setup_of done (length ps)) ≡ false = not-other done (length ps) p (λ j low same. let bad : ⊥ = omega (arith, is, e, low, same) in bad) (omega (arith, is)) in
+    let off : has_other_peer (peer_of p) (numbered_setup done (length ps)) ≡ false = not-other done (length ps) p (λ j low same. let bad : ⊥ = omega (arith, is, e, low, same) in bad) (omega (arith, is)) in
     ap (λ b. (if b then record { 0 = k } else port_of_from (k + 1) (peer_of p) (setups_from (done + length ps) pss)).0) off
     ∙ port_found (k + 1) (done + length ps) r i p a (omega (arith, h)) few (omega (arith, is, e))
     ∙ (let z : (k + 1) + r ≡ k + suc r = omega arith in z)
@@ -72,13 +72,13 @@ port_own k done [] = refl
 port_own k done (ps ∷ pss) = port_own (k + 1) (done + length ps) pss
 
 -- the same of the number of a send
-pub port_with_found : (done q r i p : ℕ) (nss : List (List ℕ)) → r < length nss → i < length (slice_index_or nss r []) → p ≡ done + count_below r nss + 1 + i → port_with p done q nss ≡ Some (record { 0 = q + r })
+pub port_with_found : (done q r i p : ℕ) (nss : List (List ℕ)) → r < length nss → i < length (slice_index_or nss r []) → p ≡ done + count_below r nss + 1 + i → port_of_number p done q nss ≡ Some (record { 0 = q + r })
 port_with_found done q r i p [] h few is = absurd (omega (arith, h))
 port_with_found done q zero i p (ns ∷ nss) h few is =
     let here : nat_le p (done + length ns) ≡ true = le-leb p (done + length ns) (omega (arith, is, few)) in
-    ap (λ b. if b then Some (record { 0 = q }) else port_with p (done + length ns) (q + 1) nss) here ∙ ap (λ k. Some (let z : Port = record { 0 = k } in z)) (let z : q ≡ q + 0 = omega arith in z)
+    ap (λ b. if b then Some (record { 0 = q }) else port_of_number p (done + length ns) (q + 1) nss) here ∙ ap (λ k. Some (let z : Port = record { 0 = k } in z)) (let z : q ≡ q + 0 = omega arith in z)
 port_with_found done q (suc r) i p (ns ∷ nss) h few is =
     let past : nat_le p (done + length ns) ≡ false = lt-leb p (done + length ns) (omega (arith, is)) in
-    ap (λ b. if b then Some (record { 0 = q }) else port_with p (done + length ns) (q + 1) nss) past
+    ap (λ b. if b then Some (record { 0 = q }) else port_of_number p (done + length ns) (q + 1) nss) past
     ∙ port_with_found (done + length ns) (q + 1) r i p nss (omega (arith, h)) few (omega (arith, is))
     ∙ ap (λ k. Some (let z : Port = record { 0 = k } in z)) (let z : (q + 1) + r ≡ q + suc r = omega arith in z)

@@ -19,7 +19,7 @@ use Rattle.tsp_alike.specs.AlikeNodes.{AllKnown, naming_of, renamed_placed}
 use Rattle.tsp_network.specs.Lives.{Daemons}
 use Rattle.tsp_network.specs.Kept.{IsSent}
 use Rattle.tsp_network.specs.Networks.{Sent, sent_by}
-use Rattle.tsp_network.specs.Rosters.{count_below, destination, goes_by, named, neighbours, neighbours_on, port_with, renaming_on}
+use Rattle.tsp_network.specs.Rosters.{count_below, destination, send_address, named_node, neighbours, neighbours_on, port_of_number, renaming_on}
 use Rattle.tsp_network.proofs.NamedLemmas.{named_member}
 use Rattle.tsp_network.proofs.RosterLemmas.{length_neighbours, none_some}
 use Rattle.tsp_network.proofs.SegmentLemmas.{port_with_found}
@@ -76,12 +76,12 @@ module _ (d : Daemons) (is : IsHeader d.header) (n : ℕ) (low : n < length d.he
       let all = length_neighbours n nets in
       let few = g.has in
       let some : (num.0 == 0) ≡ false = ne_eqb num.0 0 (λ e. let same = g.number in let bad : ⊥ = omega (arith, e, same) in bad) in
-      let found : port_with num.0 0 0 (neighbours n nets) ≡ Some port =
+      let found : port_of_number num.0 0 0 (neighbours n nets) ≡ Some port =
       port_with_found 0 0 port.0 g.i num.0 (neighbours n nets) (omega (arith, few, all)) g.few (let same = g.number in omega (arith, same)) ∙ ap (λ k. Some (let z : Port = record { 0 = k } in z)) (let e : 0 + port.0 ≡ port.0 = omega arith in e) in
-      let named_is : named n done nodes num.0 ≡ slice_index_or nodes g.i 0 = ap (named n done nodes) g.number ∙ named_member n done nodes g.i g.few in
+      let named_is : named_node n done nodes num.0 ≡ slice_index_or nodes g.i 0 = ap (named_node n done nodes) g.number ∙ named_member n done nodes g.i g.few in
       record {
         sent = record { from = refl; to = refl; octets = refl };
-        goes = ap (λ b. if b then None else goes_by nets n num.0 (port_with num.0 0 0 (neighbours n nets))) some ∙ ap (goes_by nets n num.0) found;
+        goes = ap (λ b. if b then None else send_address nets n num.0 (port_of_number num.0 0 0 (neighbours n nets))) some ∙ ap (send_address nets n num.0) found;
         away = λ a e same.
             let to = (goes_there nets n port (Peer ((renaming_on nets n origin port).peer num)) a e).to_is in
             (is_roster d is n low port.0).apart g.i g.few (sym named_is ∙ place-of to ∙ same);

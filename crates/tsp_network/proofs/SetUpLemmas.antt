@@ -12,7 +12,7 @@ use Rattle.tsp_rules.specs.NodeRows.{NodePast, PortSetup, no_port, port_setup}
 use Rattle.tsp_rules.specs.Renames.{Renaming}
 use Rattle.tsp_run.specs.Networks.{networks, ports_on}
 use Rattle.tsp_run.specs.Setup.{node_line, past_of}
-use Rattle.tsp_daemon.specs.Nodes.{config_of, setup_of, setups_from}
+use Rattle.tsp_daemon.specs.Nodes.{daemon_config, numbered_setup, setups_from}
 use Rattle.tsp_alike.specs.AlikeNodes.{AlikeConfigs, AlikeSetup, TellsApart}
 use Rattle.tsp_network.specs.Lives.{Daemons, IsStarted, addresses}
 use Rattle.tsp_network.specs.Rosters.{count_below, neighbours, neighbours_on, others_in, renaming_on}
@@ -51,25 +51,25 @@ module _ (d : Daemons) (is : IsHeader d.header) (n : ℕ) (low : n < length d.he
   tells_apart origin q p r = compared n (count_below q.0 (neighbours n nets)) (neighbours_on n q.0 nets) (is_roster q.0) p.0 r.0
 
   -- each port of the daemon
-  pub daemon_port : (q : ℕ) → q < length (ports_on n nets) → slice_index_or (daemon_ports d n) q no_port ≡ setup_of (count_below q (neighbours n nets)) (length (neighbours_on n q nets))
+  pub daemon_port : (q : ℕ) → q < length (ports_on n nets) → slice_index_or (daemon_ports d n) q no_port ≡ numbered_setup (count_below q (neighbours n nets)) (length (neighbours_on n q nets))
   daemon_port q has =
       let all = length_neighbours n nets in
-      setup_at 0 q long (omega (arith, has, all)) ∙ ap (λ k. setup_of k (length (neighbours_on n q nets))) (let e : 0 + count_below q (neighbours n nets) ≡ count_below q (neighbours n nets) = omega arith in e)
+      setup_at 0 q long (omega (arith, has, all)) ∙ ap (λ k. numbered_setup k (length (neighbours_on n q nets))) (let e : 0 + count_below q (neighbours n nets) ≡ count_below q (neighbours n nets) = omega arith in e)
 
-  alike-port : (origin : ℕ) (q : Port) → q.0 < length (ports_on n nets) → AlikeSetup (renaming_on nets n origin q) (setup_of (count_below q.0 (neighbours n nets)) (length (neighbours_on n q.0 nets))) (slice_index_or (ports_on n nets) q.0 no_port)
+  alike-port : (origin : ℕ) (q : Port) → q.0 < length (ports_on n nets) → AlikeSetup (renaming_on nets n origin q) (numbered_setup (count_below q.0 (neighbours n nets)) (length (neighbours_on n q.0 nets))) (slice_index_or (ports_on n nets) q.0 no_port)
   alike-port origin q has =
       let p = port_is (length d.header.nodes) n q.0 nets (header_nets d.header is) has in
       let done : ℕ = count_below q.0 (neighbours n nets) in
       let nodes : List ℕ = neighbours_on n q.0 nets in
       let r : Renaming = renaming_on nets n origin q in
-      subst (λ s. AlikeSetup r (setup_of done (length nodes)) s) (sym p.setup) (record {
+      subst (λ s. AlikeSetup r (numbered_setup done (length nodes)) s) (sym p.setup) (record {
         own = refl;
         others_are = others_on n p.net ∙ ap (map peer_of) (sym p.nodes) ∙ sym (range_named r.peer (done + 1) nodes (λ i h. ap peer_of (named_member n done nodes i h))) ∙ ap (map r.peer) (sym (others_above (done + 1) (length nodes) (omega arith)));
         count = (let one = length-map p.net peer_of in let two = length-map-range_with_len peer_of (done + 1) (length nodes) in let three = one_fewer n p.net (Rise-numbers p.net p.good.rising) p.member in let four : length nodes ≡ length (others_in n p.net) = ap (λ l. length l) p.nodes in omega (arith, one, two, three, four));
       })
 
   -- both are set up alike
-  pub configs_alike : IsStarted d n → (origin : ℕ) (step : Step) (h : List Line) → step.node ≡ n → (p : NodePast) → p.name ≡ (config_of (d.words n)).name → p.may ≡ (config_of (d.words n)).may → p.strict ≡ (config_of (d.words n)).strict → p.ports ≡ daemon_ports d n →
+  pub configs_alike : IsStarted d n → (origin : ℕ) (step : Step) (h : List Line) → step.node ≡ n → (p : NodePast) → p.name ≡ (daemon_config (d.words n)).name → p.may ≡ (daemon_config (d.words n)).may → p.strict ≡ (daemon_config (d.words n)).strict → p.ports ≡ daemon_ports d n →
       AlikeConfigs (renaming_on nets n origin) origin p (past_of d.header step h)
   configs_alike s origin step h node p name may strict ports =
       let count : length p.ports ≡ length (ports_on n nets) = ap (λ (l : List PortSetup). length l) ports ∙ sym same_ports in

@@ -12,13 +12,13 @@ use Rattle.tsp_io.specs.Links.{Arrival, Tried}
 use Rattle.tsp_run.specs.declared.address.Address.{Address}
 use Rattle.tsp_run.specs.Networks.{networks}
 use Rattle.tsp_run.specs.Run.{boot_step, last_at, run, step_tick}
-use Rattle.tsp_daemon.specs.Nodes.{booting, config_of}
+use Rattle.tsp_daemon.specs.Nodes.{booting, daemon_config}
 use Rattle.tsp_daemon.specs.Posts.{send_of, sends_of}
 use Rattle.tsp_daemon.specs.Sessions.{Session}
 use Rattle.tsp_network.specs.Events.{AllHappen}
 use Rattle.tsp_network.specs.Kept.{tried_by}
-use Rattle.tsp_network.specs.Lives.{Daemons, IsStarted, Life, first_acts, session_of, told, turn_acts}
-use Rattle.tsp_network.specs.Networks.{Network, Sent, acted, copy_at, delivers, happens, life_from, network, node_tick, node_wall, sent_by, takes_copy, turns}
+use Rattle.tsp_network.specs.Lives.{Daemons, IsStarted, Life, first_acts, session_of, turn_told, turn_acts}
+use Rattle.tsp_network.specs.Networks.{Network, Sent, acted, copy_at, delivers, after_event, life_from, network, daemon_tick, node_wall, sent_by, takes_copy, turns}
 use Rattle.tsp_network.specs.Rosters.{destination, sender_for}
 use Rattle.tsp_network.proofs.NetworkAgrees.{OneAgrees}
 use Rattle.tsp_network.proofs.NetworkRuns.{run_agrees, sent_grows}
@@ -79,7 +79,7 @@ module _ (d : Daemons) where
       let n : ℕ = step.node in
       let s = d.words n in
       let y : ℕ = step_tick d.header step - life.origin in
-      let now : Life = told a (d.early k) y life in
+      let now : Life = turn_told a (d.early k) y life in
       let acts : List Placed = turn_acts s life now in
       let r = reached life refl in
       let after : (session_of s now).outside.tried ≡ (session_of s life).outside.tried ++ sends_of acts =
@@ -92,12 +92,12 @@ module _ (d : Daemons) where
             ∙ sym (ap (tried_by n) (drop-append-le life.sent_before w.sent (map (sent_by n) (sends_of acts)) own.0) ∙ more-tried n (drop life.sent_before w.sent) (map (sent_by n) (sends_of acts)) ∙ ap (λ l. tried_by n (drop life.sent_before w.sent) ++ l) (own-tried n (sends_of acts))),
       )
 
-  boot-tried : (k at n word : ℕ) (w : Network) → AllTried w → AllTried (happens d k (BootAt at n word) w)
+  boot-tried : (k at n word : ℕ) (w : Network) → AllTried w → AllTried (after_event d k (BootAt at n word) w)
   boot-tried k at n word w all =
-      let y : ℕ = node_tick d n at - d.origin k in
+      let y : ℕ = daemon_tick d n at - d.origin k in
       let wall = node_wall d n at in
       let acts : List Placed = first_acts (d.words n) y wall word in
-      let silent : sends_of acts ≡ [] = boots-silent y (booting (config_of (d.words n)) y wall word) in
+      let silent : sends_of acts ≡ [] = boots-silent y (booting (daemon_config (d.words n)) y wall word) in
       let new : map (sent_by n) (sends_of acts) ≡ [] = ap (map (sent_by n)) silent in
       let both = length-append w.sent (map (sent_by n) (sends_of acts)) in
       acted-tried (boot_step d.header at n word) (life_from d k at n word (length w.sent)) acts w all (
@@ -117,7 +117,7 @@ module _ (d : Daemons) where
           w : Network
           w = network d before
 
-          by_event : (e : Event) → AllTried w → ((n : ℕ) (life : Life) → w.lives n ≡ Some life → Reached life) → AllTried (happens d (length before) e w)
+          by_event : (e : Event) → AllTried w → ((n : ℕ) (life : Life) → w.lives n ≡ Some life → Reached life) → AllTried (after_event d (length before) e w)
           by_event (BootAt at node word) k r = boot-tried (length before) at node word w k
           by_event (Turn at node) k r = turn-tried (length before) (record { at = at; node = node; cause = Turned }) None (w.lives node) w (r node) (k node) k
           by_event (Bytes at node port from octets) k r = turn-tried (length before) (record { at = at; node = node; cause = Handed }) (Some (sender_for (networks d.header) node port from, octets)) (w.lives node) w (r node) (k node) k

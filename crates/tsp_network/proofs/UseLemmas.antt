@@ -23,7 +23,7 @@ use Rattle.tsp_run.specs.Run.{posted_time, posts as posts_of, run}
 use Rattle.tsp_run.specs.declared.posted.Posted.{Posted}
 use Rattle.tsp_run.specs.Premised.{Prompt}
 use Rattle.tsp_run.proofs.NetworkLemmas.{some_same}
-use Rattle.tsp_network.specs.NetworkUse.{acts_of, acts_of_a, acts_of_b, two_nodes, used}
+use Rattle.tsp_network.specs.NetworkUse.{acts_by_node, acts_of_a, acts_of_b, two_nodes, used}
 
 -- a post that was made at this time is taken early enough
 early : (o : Option Posted) (at t : ℕ) → posted_time o ≡ Some t → at ≤ t + 30000000 → (p : Posted) → o ≡ Some p → at ≤ p.at + LIFE
@@ -36,8 +36,8 @@ early o at t time soon p there =
 pub record IsUsed : Type 0 where
   pub happens : Happens two_nodes used
   pub count : length (posts_of (run two_nodes used)) ≡ 16
-  pub acts_a : acts_of 0 (run two_nodes used) ≡ acts_of_a
-  pub acts_b : acts_of 1 (run two_nodes used) ≡ acts_of_b
+  pub acts_a : acts_by_node 0 (run two_nodes used) ≡ acts_of_a
+  pub acts_b : acts_by_node 1 (run two_nodes used) ≡ acts_of_b
   pub prompt : Prompt two_nodes used
 
 pub is_used : IsUsed

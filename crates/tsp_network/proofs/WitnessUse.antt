@@ -14,8 +14,8 @@ use Rattle.tsp_run.specs.Setup.{node_line}
 use Rattle.tsp_run.proofs.RunPremises.{possible-runs-keep-premises}
 use Rattle.tsp_network.specs.Events.{IsNetwork}
 use Rattle.tsp_network.specs.Lives.{AreStarted}
-use Rattle.tsp_network.specs.NetworkUse.{NetworkUse, acts_of, two_daemons, two_nodes, used}
-use Rattle.tsp_network.specs.Networks.{network, node_tick}
+use Rattle.tsp_network.specs.NetworkUse.{NetworkUse, acts_by_node, two_daemons, two_nodes, used}
+use Rattle.tsp_network.specs.Networks.{network, daemon_tick}
 use Rattle.tsp_network.specs.Schedules.{AllSuit}
 use Rattle.tsp_network.proofs.NetworkRuns.{run_agrees}
 use Rattle.tsp_network.proofs.RunsHappen.{run_is_network}
@@ -44,9 +44,9 @@ are-started zero low = record { name = refl; may = refl; strict = λ e. refl; po
 are-started (suc zero) low = record { name = refl; may = refl; strict = λ e. refl; ports = refl }
 are-started (suc (suc n)) low = let bad : ⊥ = omega (arith, low) in absurd bad
 
-begun-at : (n : ℕ) → n < 2 → 1000000 ≤ node_tick two_daemons n 1000000
-begun-at zero low = let e : node_tick two_daemons 0 1000000 ≡ 1000000 = refl in omega (arith, e)
-begun-at (suc zero) low = let e : node_tick two_daemons 1 1000000 ≡ 1000000 = refl in omega (arith, e)
+begun-at : (n : ℕ) → n < 2 → 1000000 ≤ daemon_tick two_daemons n 1000000
+begun-at zero low = let e : daemon_tick two_daemons 0 1000000 ≡ 1000000 = refl in omega (arith, e)
+begun-at (suc zero) low = let e : daemon_tick two_daemons 1 1000000 ≡ 1000000 = refl in omega (arith, e)
 begun-at (suc (suc n)) low = let bad : ⊥ = omega (arith, low) in absurd bad
 
 suits : AllSuit two_daemons used
@@ -82,8 +82,8 @@ network-use =
     let same = sym history-is in
     record {
       is = used-is;
-      master = ap (acts_of 0) history-is ∙ is_used.acts_a;
-      slave = ap (acts_of 1) history-is ∙ is_used.acts_b;
+      master = ap (acts_by_node 0) history-is ∙ is_used.acts_a;
+      slave = ap (acts_by_node 1) history-is ∙ is_used.acts_b;
       honest = subst Honest same (kept.honest sealed);
       life = subst Life same (kept.life is_used.prompt);
       words = subst Words same (kept.words apart);

@@ -7,18 +7,18 @@ use Rattle.tsp_run.specs.declared.address.Address.{Address}
 use Rattle.tsp_run.specs.Networks.{networks}
 use Rattle.tsp_run.specs.Run.{event_at, last_at}
 use Rattle.tsp_network.specs.Lives.{Daemons, IsStarted, Life}
-use Rattle.tsp_network.specs.Networks.{Network, Sent, network, node_tick}
+use Rattle.tsp_network.specs.Networks.{Network, Sent, network, daemon_tick}
 use Rattle.tsp_network.specs.Rosters.{destination, neighbours, neighbours_on}
 
 -- a daemon runs
-abbrev pub Runs : Option Life → Type 0
-Runs None = ⊥
-Runs (Some life) = Unit {0}
+abbrev pub IsRunning : Option Life → Type 0
+IsRunning None = ⊥
+IsRunning (Some life) = Unit {0}
 
 -- a daemon runs at this address, if there is one
 abbrev pub RunsAt : Network → Option Address → Type 0
 RunsAt w None = Unit {0}
-RunsAt w (Some a) = Runs (w.lives a.node)
+RunsAt w (Some a) = IsRunning (w.lives a.node)
 
 -- a daemon runs where this send goes
 abbrev pub RunsFor : Daemons → Network → Option Sent → Type 0
@@ -34,11 +34,11 @@ MayCome nets n q Stranger = q.0 ≡ 0
 -- event k can happen: a daemon starts after its counter does; the daemon of any other event runs; a copy is that of a send that was tried;
 -- and of other octets there are at most 512, which is all that a daemon reads of a datagram
 abbrev pub CanHappen : Daemons → ℕ → Network → Event → Type 0
-CanHappen d k w (BootAt at node word) = (node < length d.header.nodes) × (word < 2 ^ 64) × (d.origin k ≤ node_tick d node at)
-CanHappen d k w (Turn at node) = Runs (w.lives node)
+CanHappen d k w (BootAt at node word) = (node < length d.header.nodes) × (word < 2 ^ 64) × (d.origin k ≤ daemon_tick d node at)
+CanHappen d k w (Turn at node) = IsRunning (w.lives node)
 CanHappen d k w (Take at number) = RunsFor d w (slice_get w.sent number)
 CanHappen d k w (Bytes at node port from octets) =
-    Runs (w.lives node) × (port.0 < length (neighbours node (networks d.header))) × MayCome (networks d.header) node port from × (length octets ≤ 512)
+    IsRunning (w.lives node) × (port.0 < length (neighbours node (networks d.header))) × MayCome (networks d.header) node port from × (length octets ≤ 512)
     × ((i : ℕ) → octet_at octets i < 256)
 
 -- each of these events, the newest of which comes first, can happen after those before it, and isn't earlier

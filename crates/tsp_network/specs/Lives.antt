@@ -6,13 +6,13 @@ use Rattle.tsp_args.specs.declared.serve.ServeWords.{ServeWords}
 use Rattle.tsp_io.specs.declared.addr.Addr.{Addr}
 use Rattle.tsp_io.specs.Links.{Arrival}
 use Rattle.tsp_query.specs.Ends.{Outside}
-use Rattle.tsp_query.specs.Outside.{bound}
+use Rattle.tsp_query.specs.Outside.{after_bind}
 use Rattle.tsp_rules.specs.GateRows.{boots_all}
 use Rattle.tsp_run.specs.Networks.{networks}
 use Rattle.tsp_run.specs.Setup.{node_line}
-use Rattle.tsp_daemon.specs.Nodes.{booting, config_of, is_strict, may_be}
+use Rattle.tsp_daemon.specs.Nodes.{booting, daemon_config, is_strict, may_be}
 use Rattle.tsp_daemon.specs.Serving.{first_session}
-use Rattle.tsp_daemon.specs.Sessions.{Session, acts_in, after_turns}
+use Rattle.tsp_daemon.specs.Sessions.{Session, acts_in_turn, after_turns}
 use Rattle.tsp_network.specs.Rosters.{others_in}
 
 -- the daemons of a network, one for each node of a header, which names their clocks, names and networks
@@ -60,20 +60,20 @@ outside_of life = record { arrivals = life.arrivals; tried = []; calls = 0; read
 
 -- the daemon's session, as `serve` promises it once its link is bound, after so many turns
 abbrev pub session_after : ℕ → ServeWords → Life → Session
-session_after turns s life = after_turns turns (first_session s (bound (outside_of life)) life.wall life.word [])
+session_after turns s life = after_turns turns (first_session s (after_bind (outside_of life)) life.wall life.word [])
 
 -- the daemon's session now: each thing that came was a turn's
 abbrev pub session_of : ServeWords → Life → Session
 session_of s life = session_after (length life.arrivals) s life
 
 -- what is told in one turn more: what came, and the two ticks that are read, before the wait and after it
-abbrev pub told : Arrival → ℕ → ℕ → Life → Life
-told arrival early tick life = record life { arrivals = life.arrivals ++ arrival ∷ []; readings = life.readings ++ early ∷ tick ∷ [] }
+abbrev pub turn_told : Arrival → ℕ → ℕ → Life → Life
+turn_told arrival early tick life = record life { arrivals = life.arrivals ++ arrival ∷ []; readings = life.readings ++ early ∷ tick ∷ [] }
 
 -- the acts of a turn: of the life with it, at the turn that was the next before
 abbrev pub turn_acts : ServeWords → Life → Life → List Placed
-turn_acts s before now = acts_in (session_after (length before.arrivals) s now)
+turn_acts s before now = acts_in_turn (session_after (length before.arrivals) s now)
 
 -- the acts with which a daemon begins
 abbrev pub first_acts : ServeWords → ℕ → ℤ → ℕ → List Placed
-first_acts s tick wall word = boots_all tick (booting (config_of s) tick wall word)
+first_acts s tick wall word = boots_all tick (booting (daemon_config s) tick wall word)

@@ -11,7 +11,7 @@ use Rattle.tsp_run.specs.declared.address.Address.{Address}
 use Rattle.tsp_run.specs.Networks.{networks}
 use Rattle.tsp_network.specs.Events.{IsNetwork}
 use Rattle.tsp_network.specs.Lives.{Daemons}
-use Rattle.tsp_network.specs.NetworkUse.{address_at, node_a, node_b, words_for}
+use Rattle.tsp_network.specs.NetworkUse.{network_address, node_a, node_b, words_for}
 use Rattle.tsp_network.specs.Networks.{Network, Sent, delivers, network}
 use Rattle.tsp_network.specs.Rosters.{destination}
 
@@ -32,7 +32,7 @@ three_words (suc (suc n)) = words_for (networks three_nodes) (codes "c") Never 2
 
 -- their daemons, whose counters are their nodes' ticks
 abbrev pub three_daemons : Daemons
-three_daemons = record { header = three_nodes; words = three_words; address = address_at; origin = λ k. 0; early = λ k. 0 }
+three_daemons = record { header = three_nodes; words = three_words; address = network_address; origin = λ k. 0; early = λ k. 0 }
 
 -- the events, the newest first. In the order of time: all start, b and c with one word; b and c back a, which is elected; they follow it; and
 -- it answers b's SLAVEUP by a SETTIME, which is datagram 14

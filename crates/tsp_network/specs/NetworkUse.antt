@@ -30,12 +30,12 @@ two_nodes = record {
 }
 
 -- the address of a node on a network
-abbrev pub address_at : ℕ → ℕ → Addr
-address_at k m = record { ip = 10 ∷ 0 ∷ k ∷ m ∷ []; port = 525 }
+abbrev pub network_address : ℕ → ℕ → Addr
+network_address k m = record { ip = 10 ∷ 0 ∷ k ∷ m ∷ []; port = 525 }
 
 -- the words that start a daemon of this name on these networks, as node n
 abbrev pub words_for : List (List ℕ) → List ℕ → Candidacy → ℕ → ServeWords
-words_for nets name candidacy n = record { local = address_at 0 n; name = name; candidacy = candidacy; turns = 1000; ports = addresses address_at n 0 nets }
+words_for nets name candidacy n = record { local = network_address 0 n; name = name; candidacy = candidacy; turns = 1000; ports = addresses network_address n 0 nets }
 
 -- those of each node
 abbrev pub two_words : ℕ → ServeWords
@@ -44,7 +44,7 @@ two_words (suc n) = words_for (networks two_nodes) (codes "b") Never 1
 
 -- their daemons. Both nodes' ticks begin 1 second before the daemons do, whose counters begin with 0
 abbrev pub two_daemons : Daemons
-two_daemons = record { header = two_nodes; words = two_words; address = address_at; origin = λ k. 1000000; early = λ k. 0 }
+two_daemons = record { header = two_nodes; words = two_words; address = network_address; origin = λ k. 1000000; early = λ k. 0 }
 
 -- the events, the newest first. In the order of time: both start; they search a master; a stands for election, b backs it, and a is
 -- master; b follows it, is set by a SETTIME and acknowledges it; a round asks b for its clock four times and takes one answer, and its ADJTIME
@@ -77,14 +77,14 @@ used =
     []
 
 -- the act of a deed, if it isn't the mark of a step
-abbrev pub act_in : Deed → List Act
-act_in Begins = []
-act_in (Acts a) = a ∷ []
+abbrev pub act_of_deed : Deed → List Act
+act_of_deed Begins = []
+act_of_deed (Acts a) = a ∷ []
 
 -- what a node did in a history, the oldest first
-abbrev pub acts_of : ℕ → List Line → List Act
-acts_of n [] = []
-acts_of n (l ∷ before) = acts_of n before ++ (if l.did.step.node == n then act_in l.did.deed else [])
+abbrev pub acts_by_node : ℕ → List Line → List Act
+acts_by_node n [] = []
+acts_by_node n (l ∷ before) = acts_by_node n before ++ (if l.did.step.node == n then act_of_deed l.did.deed else [])
 
 -- what a does: it is elected, sets b's clock, and closes a round, which corrects both clocks
 abbrev pub acts_of_a : List Act
@@ -123,8 +123,8 @@ acts_of_b =
 -- two boots differ: so each promise that asks this holds of it
 pub record NetworkUse : Type 0 where
   pub is : IsNetwork two_daemons used
-  pub master : acts_of 0 (network two_daemons used).history ≡ acts_of_a
-  pub slave : acts_of 1 (network two_daemons used).history ≡ acts_of_b
+  pub master : acts_by_node 0 (network two_daemons used).history ≡ acts_of_a
+  pub slave : acts_by_node 1 (network two_daemons used).history ≡ acts_of_b
   pub honest : Honest (network two_daemons used).history
   pub life : Life (network two_daemons used).history
   pub words : Words (network two_daemons used).history

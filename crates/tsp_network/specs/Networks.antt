@@ -9,7 +9,7 @@ use Rattle.tsp_run.specs.declared.address.Address.{Address}
 use Rattle.tsp_run.specs.Networks.{networks}
 use Rattle.tsp_run.specs.Run.{boot_step, step_tick}
 use Rattle.tsp_run.specs.Setup.{node_line}
-use Rattle.tsp_network.specs.Lives.{Daemons, Life, first_acts, told, turn_acts}
+use Rattle.tsp_network.specs.Lives.{Daemons, Life, first_acts, turn_told, turn_acts}
 use Rattle.tsp_network.specs.Rosters.{destination, renaming_on, sender_for}
 
 -- a send that node `from` has tried: to whom, in the numbers of its daemon, and the octets
@@ -54,22 +54,22 @@ acted d step life acts w = record {
 }
 
 -- the tick of node n's counter at a true time
-abbrev pub node_tick : Daemons → ℕ → ℕ → ℕ
-node_tick d n at = tick_at (node_line d.header n).rate at
+abbrev pub daemon_tick : Daemons → ℕ → ℕ → ℕ
+daemon_tick d n at = tick_at (node_line d.header n).rate at
 
 -- its wall clock then: it runs at the rate of the counter
 abbrev pub node_wall : Daemons → ℕ → ℕ → ℤ
-node_wall d n at = (node_line d.header n).wall +ℤ pos (node_tick d n at)
+node_wall d n at = (node_line d.header n).wall +ℤ pos (daemon_tick d n at)
 
 -- the life of a daemon that starts at event k, when so many datagrams were sent: it has read its first tick
 abbrev pub life_from : Daemons → ℕ → ℕ → ℕ → ℕ → ℕ → Life
 life_from d k at n word sent =
-    record { origin = d.origin k; sent_before = sent; wall = node_wall d n at; word = word; arrivals = []; readings = (node_tick d n at - d.origin k) ∷ [] }
+    record { origin = d.origin k; sent_before = sent; wall = node_wall d n at; word = word; arrivals = []; readings = (daemon_tick d n at - d.origin k) ∷ [] }
 
 -- a daemon starts
 abbrev pub starts : Daemons → ℕ → ℕ → ℕ → ℕ → Network → Network
 starts d k at n word w =
-    acted d (boot_step d.header at n word) (life_from d k at n word (length w.sent)) (first_acts (d.words n) (node_tick d n at - d.origin k) (node_wall d n at) word) w
+    acted d (boot_step d.header at n word) (life_from d k at n word (length w.sent)) (first_acts (d.words n) (daemon_tick d n at - d.origin k) (node_wall d n at) word) w
 
 -- a daemon has taken a turn, and come from one life to the other
 abbrev pub turned_to : Daemons → Step → Life → Life → Network → Network
@@ -78,7 +78,7 @@ turned_to d step life now w = acted d step now (turn_acts (d.words step.node) li
 -- a daemon that runs takes a turn, in which this comes
 abbrev pub turns : Daemons → ℕ → Step → Arrival → Option Life → Network → Network
 turns d k step arrival None w = w
-turns d k step arrival (Some life) w = turned_to d step life (told arrival (d.early k) (step_tick d.header step - life.origin) life) w
+turns d k step arrival (Some life) w = turned_to d step life (turn_told arrival (d.early k) (step_tick d.header step - life.origin) life) w
 
 -- a copy of a send, as it comes to a port: its octets, from the daemon that sent it
 abbrev pub copy_at : List (List ℕ) → Address → Sent → Arrival
@@ -96,14 +96,14 @@ takes_copy d k at number (Some s) w = delivers d k at number s (destination (net
 
 -- event k: a daemon starts; it takes a turn in which nothing comes; a copy of a send comes to where it is addressed; or octets come that no
 -- daemon of the network sent, or that seem to be a peer's
-abbrev pub happens : Daemons → ℕ → Event → Network → Network
-happens d k (BootAt at node word) w = starts d k at node word w
-happens d k (Turn at node) w = turns d k (record { at = at; node = node; cause = Turned }) None (w.lives node) w
-happens d k (Take at number) w = takes_copy d k at number (slice_get w.sent number) w
-happens d k (Bytes at node port from octets) w =
+abbrev pub after_event : Daemons → ℕ → Event → Network → Network
+after_event d k (BootAt at node word) w = starts d k at node word w
+after_event d k (Turn at node) w = turns d k (record { at = at; node = node; cause = Turned }) None (w.lives node) w
+after_event d k (Take at number) w = takes_copy d k at number (slice_get w.sent number) w
+after_event d k (Bytes at node port from octets) w =
     turns d k (record { at = at; node = node; cause = Handed }) (Some (sender_for (networks d.header) node port from, octets)) (w.lives node) w
 
 -- the network after these events, of which the newest comes first; they are counted from 0
 abbrev pub network : Daemons → List Event → Network
 network d [] = nothing_yet
-network d (e ∷ before) = happens d (length before) e (network d before)
+network d (e ∷ before) = after_event d (length before) e (network d before)

@@ -8,7 +8,7 @@ use Rattle.tsp_run.specs.Possible.{Possible}
 use Rattle.tsp_run.specs.Run.{run}
 use Rattle.tsp_network.specs.Events.{AllHappen}
 use Rattle.tsp_network.specs.Lives.{AreStarted, Daemons}
-use Rattle.tsp_network.specs.NetworkUse.{address_at, node_a, words_for}
+use Rattle.tsp_network.specs.NetworkUse.{network_address, node_a, words_for}
 use Rattle.tsp_network.specs.Networks.{network}
 
 -- the header: a alone, on two networks
@@ -20,7 +20,7 @@ abbrev pub one_daemon : ℕ → Daemons
 one_daemon origin = record {
   header = one_node;
   words = λ n. words_for (networks one_node) (codes "a") Plain n;
-  address = address_at;
+  address = network_address;
   origin = λ k. origin;
   early = λ k. 0;
 }

@@ -37,27 +37,27 @@ number_for n q m nets = if m == n then 0 else count_below q (neighbours n nets) 
 
 -- the node that a number names for node n, if these nodes have the numbers after `done`; a number that names nobody there is above all
 -- nodes' numbers, of which there are at most 64
-abbrev pub named : ℕ → ℕ → List ℕ → ℕ → ℕ
-named n done nodes p = if p == 0 then n else (if nat_lt done p && nat_le p (done + length nodes) then slice_index_or nodes (p - (done + 1)) 0 else p + 64)
+abbrev pub named_node : ℕ → ℕ → List ℕ → ℕ → ℕ
+named_node n done nodes p = if p == 0 then n else (if nat_lt done p && nat_le p (done + length nodes) then slice_index_or nodes (p - (done + 1)) 0 else p + 64)
 
 -- what a port's acts are in the numbers of the nodes, and in the ticks of the node: `origin` is the node's tick when the daemon's own
 -- counter was at 0
 abbrev pub renaming_on : List (List ℕ) → ℕ → ℕ → Port → Renaming
-renaming_on nets n origin q = record { shift = origin; peer = λ p. record { 0 = named n (count_below q.0 (neighbours n nets)) (neighbours_on n q.0 nets) p.0 } }
+renaming_on nets n origin q = record { shift = origin; peer = λ p. record { 0 = named_node n (count_below q.0 (neighbours n nets)) (neighbours_on n q.0 nets) p.0 } }
 
 -- the port on which a number above 0 is a peer, if these are the nodes of the ports from q on, and `done` numbers are those of earlier ports
-abbrev pub port_with : ℕ → ℕ → ℕ → List (List ℕ) → Option Port
-port_with p done q [] = None
-port_with p done q (nodes ∷ rest) = if nat_le p (done + length nodes) then Some (record { 0 = q }) else port_with p (done + length nodes) (q + 1) rest
+abbrev pub port_of_number : ℕ → ℕ → ℕ → List (List ℕ) → Option Port
+port_of_number p done q [] = None
+port_of_number p done q (nodes ∷ rest) = if nat_le p (done + length nodes) then Some (record { 0 = q }) else port_of_number p (done + length nodes) (q + 1) rest
 
 -- where a send of node n goes, by the port on which it is sent
-abbrev pub goes_by : List (List ℕ) → ℕ → ℕ → Option Port → Option Address
-goes_by nets n p None = None
-goes_by nets n p (Some q) = address_of nets n q (Peer (peer_of (named n (count_below q.0 (neighbours n nets)) (neighbours_on n q.0 nets) p)))
+abbrev pub send_address : List (List ℕ) → ℕ → ℕ → Option Port → Option Address
+send_address nets n p None = None
+send_address nets n p (Some q) = address_of nets n q (Peer (peer_of (named_node n (count_below q.0 (neighbours n nets)) (neighbours_on n q.0 nets) p)))
 
 -- where a send of node n goes: to the node and the port at which the addressee is reached; to nobody, if it is a stranger or the daemon itself
 abbrev pub destination : List (List ℕ) → ℕ → Place → Option Address
-destination nets n (Peer p) = if p.0 == 0 then None else goes_by nets n p.0 (port_with p.0 0 0 (neighbours n nets))
+destination nets n (Peer p) = if p.0 == 0 then None else send_address nets n p.0 (port_of_number p.0 0 0 (neighbours n nets))
 destination nets n Stranger = None
 
 -- from whom a datagram comes to port q of node n, in the daemon's numbers

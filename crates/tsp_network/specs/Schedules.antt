@@ -5,11 +5,11 @@ use Rattle.tsp_run.specs.Networks.{networks}
 use Rattle.tsp_run.specs.Possible.{Possible}
 use Rattle.tsp_network.specs.Events.{IsNetwork, MayCome}
 use Rattle.tsp_network.specs.Lives.{AreStarted, Daemons}
-use Rattle.tsp_network.specs.Networks.{node_tick}
+use Rattle.tsp_network.specs.Networks.{daemon_tick}
 
 -- daemons do what a node does at event k: if it starts, after its counter does; and if octets are handed to it, a daemon can take them so
 abbrev pub Suits : Daemons → ℕ → Event → Type 0
-Suits d k (BootAt at node word) = d.origin k ≤ node_tick d node at
+Suits d k (BootAt at node word) = d.origin k ≤ daemon_tick d node at
 Suits d k (Bytes at node port from octets) = MayCome (networks d.header) node port from × (length octets ≤ 512)
 Suits d k _ = Unit {0}
 

@@ -12,9 +12,9 @@ use Rattle.tsp_networks.specs.declared.way.Way.{Way}
 use Rattle.tsp_networks.specs.Posts.{posted_on}
 
 -- the octets that a datagram adds to all names: its own name, if it has one
-abbrev pub name_in : Datagram → List ℕ
-name_in (Message m) = m.name
-name_in (Stamp s) = []
+abbrev pub own_name_in : Datagram → List ℕ
+own_name_in (Message m) = m.name
+own_name_in (Stamp s) = []
 
 -- the stored datagram, whose name is among these octets
 abbrev pub datagram_in : List ℕ → StoredDatagram → Datagram

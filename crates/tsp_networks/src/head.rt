@@ -2,7 +2,7 @@
 ghost use Rattle.std.specs.Prelude.{◌≡◌, ◌≤◌, ◌+◌, ◌++◌, ℕ, List, None, length, vec_len, vec_capacity};
 ghost use Rattle.tsp_base.specs.declared.datagram.Datagram.{Datagram};
 ghost use Rattle.tsp_base.specs.declared.datagram.Taken.TheVariants.{Good};
-ghost use Rattle.tsp_networks.specs.Heads.{HeldStands, datagram_in, is_peer, name_in};
+ghost use Rattle.tsp_networks.specs.Heads.{HeldStands, datagram_in, is_peer, own_name_in};
 ghost use Rattle.tsp_networks.specs.Heads.{place_of, route_of, small_of, way_in};
 ghost use Rattle.tsp_networks.specs.Posts.{stamp_in};
 
@@ -171,7 +171,7 @@ fn small_of(way: Way) -> Route
 /// parts of its way.
 pub(crate) fn hold(names: &mut Vec<u8>, way: Way, datagram: &Datagram) -> StoredDatagram
     requires room { vec_len names.old + 255 ≤ vec_capacity names.old }
-    ensures items { names.new.items ≡ names.old.items ++ name_in datagram.now }
+    ensures items { names.new.items ≡ names.old.items ++ own_name_in datagram.now }
     ensures few { vec_len names.new ≤ vec_len names.old + 255 }
     ensures capacity { vec_capacity names.old ≤ vec_capacity names.new }
     ensures datagram { datagram_in names.new.items result ≡ datagram.now }

@@ -6,7 +6,7 @@ use Rattle.tsp_base.specs.Words.{Past, MessageValue, Received, Row, nothing, tak
 use Rattle.tsp_rules.specs.Answers.{from_peer, peer_says, says_in}
 use Rattle.tsp_rules.specs.Guards.{is_heard, role_at}
 use Rattle.tsp_rules.proofs.Emits.{Sort, Acking, Emits, Emits_either, Emits_nothing, Emits_reading}
-use Rattle.tsp_slave.specs.SlaveStands.{IsMessage, SlaveStands, slave}
+use Rattle.tsp_slave.specs.SlaveStands.{IsMessageFrom, SlaveStands, slave}
 use Rattle.tsp_date.specs.DateStands.{DateStands, date_state}
 use Rattle.tsp_node.specs.NodeStands.{PortTook, PortValue}
 use Rattle.tsp_rules.proofs.BuiltShared.{built_acknowledges}
@@ -37,5 +37,5 @@ pub took_dates : (r : Received) (past : Past) (v : PortValue) → PortTook r pas
 took_dates r past v h = record { dates = h.stands.dates; master = h.stands.master; station = h.stands.station; last = h.stands.last; clock = h.stands.clock; took = refl }
 
 -- who sent the message that was taken
-pub took_of : (from : Place) (p : PeerId) (m : MessageValue) (past : Past) (v : PortValue) → from ≡ Peer p → PortTook (record { from = from; taken = Good (Message m) }) past v → IsMessage p m (taken past.seen)
+pub took_of : (from : Place) (p : PeerId) (m : MessageValue) (past : Past) (v : PortValue) → from ≡ Peer p → PortTook (record { from = from; taken = Good (Message m) }) past v → IsMessageFrom p m (taken past.seen)
 took_of from p m past v is h = h.took ∙ ap (λ f. Some (record { from = f; taken = Good (Message m) })) is

@@ -6,7 +6,7 @@ use Rattle.tsp_base.specs.Words.{Acts, Turned, Line, dids, of, MessageValue, hea
 use Rattle.tsp_promises.specs.Broken.{Breaks}
 use Rattle.tsp_promises.specs.Fits.{node_of}
 use Rattle.tsp_promises.specs.Everywhere.{Everywhere}
-use Rattle.tsp_promises.specs.Looped.{ChainAt, GivesUpAt, HopsAt, IsChain, LoopPost}
+use Rattle.tsp_promises.specs.Looped.{ChainAt, GivesUpAt, HopsAt, IsLoopChain, LoopPost}
 use Rattle.tsp_promises.specs.LoopsBroken.{LoopsBreak}
 use Rattle.tsp_promises.specs.Premises.{Honest, NamesApart}
 use Rattle.tsp_promises.proofs.Histories.{does, still}
@@ -31,7 +31,7 @@ hops-in last n deed =
     let same : Hops n ≡ Hops last.hops = ap (λ (z : MessageValue). z.body) m ∙ last.hops_is in
     cc
 
-no-chain : (last : LoopPost) (rest : List LoopPost) → last.post.did.deed ≡ Acts (Post (Peer (peer_of 2)) (Message (loop_with 3))) → last.older ≡ [] → IsChain (last ∷ rest) → ⊥
+no-chain : (last : LoopPost) (rest : List LoopPost) → last.post.did.deed ≡ Acts (Post (Peer (peer_of 2)) (Message (loop_with 3))) → last.older ≡ [] → IsLoopChain (last ∷ rest) → ⊥
 no-chain last [] deed older c = (let k = hops-in last 3 deed in omega (arith, k, c))
 no-chain last (early ∷ rest) deed older c = true≢false (sym (subst (λ h. is_some (heard (dids (of (node_of last.post) h))) ≡ true) older c.0.took))
 

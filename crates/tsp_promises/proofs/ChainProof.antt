@@ -17,7 +17,7 @@ use Rattle.tsp_promises.proofs.KnownProof.{known}
 use Rattle.tsp_promises.proofs.Locating.{fits_in}
 use Rattle.tsp_promises.proofs.OwnFitsProof.{fits_at}
 use Rattle.tsp_promises.proofs.PortFits.{deed_fits}
-use Rattle.tsp_promises.specs.Looped.{ChainAt, GivesUpAt, HopsAt, IsChain, Looped, LoopPost, SentBy}
+use Rattle.tsp_promises.specs.Looped.{ChainAt, GivesUpAt, HopsAt, IsLoopChain, Looped, LoopPost, SentBy}
 use Rattle.tsp_promises.proofs.HeardPosts.{heard_post}
 
 -- whose name a chain of posts carries, and under which number: those of the first one; all others are by nodes of other names
@@ -29,7 +29,7 @@ Named setting name number (late ∷ early ∷ rest) = (setting.name (node_of lat
 -- a post's chain
 record Traced (setting : Setting) (x : LoopPost) : Type 0 where
   pub rest : List LoopPost
-  pub chain : IsChain (x ∷ rest)
+  pub chain : IsLoopChain (x ∷ rest)
   pub named : Named setting x.message.name x.message.number (x ∷ rest)
 
 same-hops : (a b : ℕ) → Hops a ≡ Hops b → a ≡ b
@@ -66,7 +66,7 @@ traced setting (l ∷ t) f h x (inl e) =
     (loop_fits setting x.post x.older x.to x.message (subst (λ z. Fits setting z) (sym e) f).0 x.deed x.kind)
 
 -- a chain is as long as its hops say
-chain-length : (x : LoopPost) (rest : List LoopPost) → IsChain (x ∷ rest) → length (x ∷ rest) + x.hops ≡ HOPS + 1
+chain-length : (x : LoopPost) (rest : List LoopPost) → IsLoopChain (x ∷ rest) → length (x ∷ rest) + x.hops ≡ HOPS + 1
 chain-length x [] c = omega (arith, c)
 chain-length x (y ∷ rest) c = omega (arith, c.1.0, chain-length y rest c.1.1)
 
@@ -95,7 +95,7 @@ Inside [] world = Unit {0}
 Inside (x ∷ rest) world = Within (x.post ∷ x.older) world
 
 -- a chain in the name of node n was begun by it, and passed on by others
-sent-by : (setting : Setting) (l : Line) (world : List Line) (number : ℕ) → NamesApartAt setting l world → number < l.port.0 → (chain : List LoopPost) → IsChain chain → Named setting (setting.name (node_of l)) number chain → Inside chain world → SentBy (node_of l) l.port chain
+sent-by : (setting : Setting) (l : Line) (world : List Line) (number : ℕ) → NamesApartAt setting l world → number < l.port.0 → (chain : List LoopPost) → IsLoopChain chain → Named setting (setting.name (node_of l)) number chain → Inside chain world → SentBy (node_of l) l.port chain
 sent-by setting l world number apart below [] c named inside = c
 sent-by setting l world number apart below (first ∷ []) c named inside = (apart first.post first.older inside named.0, omega (arith, named.1))
 sent-by setting l world number apart below (late ∷ early ∷ rest) c named inside =

@@ -26,10 +26,10 @@ pub record TakesPost (l : Line) (world : List Line) (early : LoopPost) : Type 0 
 
 -- a chain of posts, the last one first: the first has HOPS hops, and each other comes in the step that has taken the
 -- one before it, with one hop less
-abbrev pub IsChain : List LoopPost → Type 0
-IsChain [] = ⊥
-IsChain (first ∷ []) = first.hops ≡ HOPS
-IsChain (late ∷ early ∷ rest) = TakesPost late.post late.older early × ((early.hops ≡ late.hops + 1) × IsChain (early ∷ rest))
+abbrev pub IsLoopChain : List LoopPost → Type 0
+IsLoopChain [] = ⊥
+IsLoopChain (first ∷ []) = first.hops ≡ HOPS
+IsLoopChain (late ∷ early ∷ rest) = TakesPost late.post late.older early × ((early.hops ≡ late.hops + 1) × IsLoopChain (early ∷ rest))
 
 -- the post of a LOOP here ends a chain of at most HOPS + 1 posts, eleven
 pub record EndsChain (l : Line) (world : List Line) : Type 0 where
@@ -37,7 +37,7 @@ pub record EndsChain (l : Line) (world : List Line) : Type 0 where
   pub rest : List LoopPost
   pub post_is : last.post ≡ l
   pub older_is : last.older ≡ world
-  pub chain : IsChain (last ∷ rest)
+  pub chain : IsLoopChain (last ∷ rest)
   pub few : length (last ∷ rest) ≤ HOPS + 1
 
 -- a LOOP that is posted has at most HOPS hops, ten
@@ -60,7 +60,7 @@ pub record GivesUp (l : Line) (world : List Line) : Type 0 where
   pub last : LoopPost
   pub rest : List LoopPost
   pub takes : TakesPost l world last
-  pub chain : IsChain (last ∷ rest)
+  pub chain : IsLoopChain (last ∷ rest)
   pub sent : SentBy (node_of l) l.port (last ∷ rest)
 
 -- a master becomes Loose for such a LOOP alone

@@ -4,42 +4,42 @@ use Rattle.std.proofs.lemmas.List.Elements.{All-nil, All-push}
 use Rattle.tsp_base.specs.declared.datagram.Datagram.{Datagram}
 use Rattle.tsp_io.specs.Clocks.{TakesReading}
 use Rattle.tsp_io.specs.Links.{Arrival, Tried, NotesReceive}
-use Rattle.tsp_query.specs.Arrivals.{answer_in, next_arrival, rest_of, or_later, asked_from}
-use Rattle.tsp_query.specs.Clocks.{reading}
-use Rattle.tsp_query.specs.Ends.{Outside, KnowsExactly, heard, heard_times, receives, Listens, after_send, Asks, WaitsSeconds}
+use Rattle.tsp_query.specs.Arrivals.{answer_in, next_arrival, all_but_first, or_later, asked_from}
+use Rattle.tsp_query.specs.Clocks.{tick_given}
+use Rattle.tsp_query.specs.Ends.{Outside, KnowsExactly, after_wait, heard_times, receives, Listens, after_send, Asks, WaitsSeconds}
 use Rattle.tsp_query.specs.declared.ask.AskEnd.{AskEnd}
 use Rattle.tsp_query.specs.declared.ask.AskEnd.TheVariants.{Answer, NoAnswer, LinkFault, OutOfMemory}
 use Rattle.tsp_query.specs.declared.question.Question.{Question}
 
-next_reading : (last : ℕ) (rs : List ℕ) (k : ℕ) → reading (reading last rs 0) (rest_of rs) k ≡ reading last rs (suc k)
+next_reading : (last : ℕ) (rs : List ℕ) (k : ℕ) → tick_given (tick_given last rs 0) (all_but_first rs) k ≡ tick_given last rs (suc k)
 next_reading last [] k = refl
 next_reading last (x ∷ rs) k = refl
 
 -- a reading that is told is the next one
-pub reading_taken : (xs : List ℕ) (readings rest : Option (List ℕ)) (last tick : ℕ) → readings ≡ Some xs → TakesReading readings rest last tick → (rest ≡ Some (rest_of xs)) × (tick ≡ reading last xs 0)
+pub reading_taken : (xs : List ℕ) (readings rest : Option (List ℕ)) (last tick : ℕ) → readings ≡ Some xs → TakesReading readings rest last tick → (rest ≡ Some (all_but_first xs)) × (tick ≡ tick_given last xs 0)
 reading_taken [] readings rest last tick is takes = subst (λ r. TakesReading r rest last tick) is takes
 reading_taken (x ∷ xs) readings rest last tick is takes = subst (λ r. TakesReading r rest last tick) is takes
 
 -- two readings, one right after the other
 pub readings_taken : (xs : List ℕ) (readings between then rest : Option (List ℕ)) (last first again sent : ℕ) → readings ≡ Some xs → TakesReading readings between last first → then ≡ between → again ≡ first → TakesReading then rest again sent
-    → (first ≡ reading last xs 0) × (sent ≡ reading last xs 1) × (rest ≡ Some (rest_of (rest_of xs)))
+    → (first ≡ tick_given last xs 0) × (sent ≡ tick_given last xs 1) × (rest ≡ Some (all_but_first (all_but_first xs)))
 readings_taken xs readings between then rest last first again sent told takes same stays more =
     let one = reading_taken xs readings between last first told takes in
-    let two = reading_taken (rest_of xs) then rest again sent (same ∙ one.0) more in
-    (one.1, two.1 ∙ (ap (λ n. reading n (rest_of xs) 0) (stays ∙ one.1) ∙ next_reading last xs 0), two.0)
+    let two = reading_taken (all_but_first xs) then rest again sent (same ∙ one.0) more in
+    (one.1, two.1 ∙ (ap (λ n. tick_given n (all_but_first xs) 0) (stays ∙ one.1) ∙ next_reading last xs 0), two.0)
 
-pub after-reading : (n : ℕ) (o : Outside) (k : ℕ) → reading (heard_times n o).last (heard_times n o).readings k ≡ reading o.last o.readings (n + k)
-after-reading zero o k = ap (λ i. reading o.last o.readings i) (omega arith)
+pub after-reading : (n : ℕ) (o : Outside) (k : ℕ) → tick_given (heard_times n o).last (heard_times n o).readings k ≡ tick_given o.last o.readings (n + k)
+after-reading zero o k = ap (λ i. tick_given o.last o.readings i) (omega arith)
 after-reading (suc n) o k =
     let i : n + suc k ≡ suc n + k = omega arith in
-    next_reading (heard_times n o).last (heard_times n o).readings k ∙ (after-reading n o (suc k) ∙ ap (λ j. reading o.last o.readings j) i)
+    next_reading (heard_times n o).last (heard_times n o).readings k ∙ (after-reading n o (suc k) ∙ ap (λ j. tick_given o.last o.readings j) i)
 
 -- one wait more
-pub after-next : (n : ℕ) (o : Outside) → heard_times (n + 1) o ≡ heard (heard_times n o)
+pub after-next : (n : ℕ) (o : Outside) → heard_times (n + 1) o ≡ after_wait (heard_times n o)
 after-next n o = let e : n + 1 ≡ suc n = omega arith in rw e refl
 
 -- a wait without an answer leaves the others
-pub asked-step : (q : Question) (i : ℕ) (a : List Arrival) → i < 8 → answer_in q (next_arrival a) ≡ None → asked_from q i (8 - i) a ≡ asked_from q (i + 1) (8 - (i + 1)) (rest_of a)
+pub asked-step : (q : Question) (i : ℕ) (a : List Arrival) → i < 8 → answer_in q (next_arrival a) ≡ None → asked_from q i (8 - i) a ≡ asked_from q (i + 1) (8 - (i + 1)) (all_but_first a)
 unfolding asked_from
 asked-step q i a h e =
     let n : 8 - i ≡ suc (8 - (i + 1)) = omega arith in
@@ -65,7 +65,7 @@ later_cases (Some d) i later r f e = let s : (i, d) ≡ r = cc in omega (arith, 
 asked-later : (q : Question) (n i : ℕ) (a : List Arrival) (r : ℕ × Datagram) → asked_from q i n a ≡ Some r → i ≤ r.0
 unfolding asked_from
 asked-later q zero i a r e = absurd (cc)
-asked-later q (suc n) i a r e = later_cases (answer_in q (next_arrival a)) i (asked_from q (i + 1) n (rest_of a)) r (λ f. asked-later q n (i + 1) (rest_of a) r f) e
+asked-later q (suc n) i a r e = later_cases (answer_in q (next_arrival a)) i (asked_from q (i + 1) n (all_but_first a)) r (λ f. asked-later q n (i + 1) (all_but_first a) r f) e
 
 receives_cases : (found : Option (ℕ × Datagram)) (i : ℕ) → i < 8 → ((r : ℕ × Datagram) → found ≡ Some r → i ≤ r.0) → i + 1 ≤ receives found
 receives_cases None i h f = omega arith

@@ -9,7 +9,7 @@ use Rattle.tsp_io.specs.declared.link.Bound.{Bound}
 use Rattle.tsp_io.specs.declared.link.Bound.TheVariants.{Bound as Made, Failed, OutOfMemory}
 use Rattle.tsp_io.specs.Streams.{Grows}
 use Rattle.tsp_query.specs.Ends.{Outside, KnowsExactly}
-use Rattle.tsp_query.specs.Outside.{bound, WritesBeginning}
+use Rattle.tsp_query.specs.Outside.{after_bind, WritesBeginning}
 
 -- not all of a text was written
 pub Says_cut : {E : Type 0} (text line : List ℕ) (meant fault memory end : E) (written now : Option (List ℕ)) (at : ℕ) → line ≡ text → (end ≡ fault) ⊎ (end ≡ memory) → at < length line → Grows written now (take at line) → WritesBeginning text meant fault memory written now end
@@ -19,7 +19,7 @@ Says_cut text line meant fault memory end written now at e w l g =
 
 -- what is told once a bind was made
 pub Tells_bound : (o : Outside) (arrivals now_arrivals : Option (List Arrival)) (tried now_tried : Option (List Tried)) (calls now_calls : Option ℕ) (readings : Option (List ℕ)) (last : ℕ)
-    → now_arrivals ≡ arrivals → now_tried ≡ tried → now_calls ≡ option_map (λ n. one_more n) calls → KnowsExactly o arrivals tried calls readings last → KnowsExactly (bound o) now_arrivals now_tried now_calls readings last
+    → now_arrivals ≡ arrivals → now_tried ≡ tried → now_calls ≡ option_map (λ n. one_more n) calls → KnowsExactly o arrivals tried calls readings last → KnowsExactly (after_bind o) now_arrivals now_tried now_calls readings last
 Tells_bound o arrivals now_arrivals tried now_tried calls now_calls readings last a t c k = record {
   arrivals_are = a ∙ k.arrivals_are;
   tried_are = t ∙ k.tried_are;

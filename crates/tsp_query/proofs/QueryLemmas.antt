@@ -12,11 +12,11 @@ use Rattle.tsp_io.specs.Links.{Arrival, Tried}
 use Rattle.tsp_io.specs.declared.link.Link.{Ghosts as LinkOf}
 use Rattle.tsp_io.specs.declared.ticker.Ticker.{Ghosts as TickerOf}
 use Rattle.tsp_query.proofs.FaultLemmas.{LinkCounts-from}
-use Rattle.tsp_query.specs.Arrivals.{rest_of}
-use Rattle.tsp_query.specs.Clocks.{reading}
+use Rattle.tsp_query.specs.Arrivals.{all_but_first}
+use Rattle.tsp_query.specs.Clocks.{tick_given}
 use Rattle.tsp_query.specs.Ends.{Outside, KnowsExactly, Asks, WaitsSeconds}
 use Rattle.tsp_query.specs.Faults.{LinkCounts}
-use Rattle.tsp_query.specs.Queries.{read_twice, trace_kind, message_with, question_of, stamp, diff_in, end_of, QueryEnds, master_in, heard_in, date_in}
+use Rattle.tsp_query.specs.Queries.{read_twice, trace_kind, message_with, question_of, stamp, diff_in, end_of, QueryEnds, master_in, heard_in, date_answer}
 use Rattle.tsp_query.specs.declared.ask.AskEnd.{AskEnd}
 use Rattle.tsp_query.specs.declared.ask.AskEnd.TheVariants.{Answer, NoAnswer, LinkFault, OutOfMemory}
 use Rattle.tsp_query.specs.declared.question.Question.{Question}
@@ -70,7 +70,7 @@ ends-heard request q o arrivals tried calls readings last sends sends_now LinkFa
 ends-heard request q o arrivals tried calls readings last sends sends_now OutOfMemory h = h
 
 pub ends-date : (request : Datagram) (q : Question) (o : Outside) (arrivals : Option (List Arrival)) (tried : Option (List Tried)) (calls : Option ℕ) (readings : Option (List ℕ)) (last sends sends_now : ℕ) (asked : AskEnd)
-    → Asks request q (read_twice o) arrivals tried calls readings last sends sends_now asked → QueryEnds request q date_in o arrivals tried calls readings last sends sends_now (end_of date_in asked)
+    → Asks request q (read_twice o) arrivals tried calls readings last sends sends_now asked → QueryEnds request q date_answer o arrivals tried calls readings last sends sends_now (end_of date_answer asked)
 ends-date request q o arrivals tried calls readings last sends sends_now (Answer d tick) h = (d, tick, h, refl)
 ends-date request q o arrivals tried calls readings last sends sends_now NoAnswer h = h
 ends-date request q o arrivals tried calls readings last sends sends_now LinkFault h = h
@@ -78,13 +78,13 @@ ends-date request q o arrivals tried calls readings last sends sends_now OutOfMe
 
 -- what is told once the tick counter was read twice
 pub tells-twice : (o : Outside) (arrivals : Option (List Arrival)) (tried : Option (List Tried)) (calls : Option ℕ) (readings now : Option (List ℕ)) (last sent : ℕ) (later : ℕ)
-    → KnowsExactly o arrivals tried calls readings last → sent ≡ reading last o.readings 1 → now ≡ Some (rest_of (rest_of o.readings)) → later ≡ sent → KnowsExactly (read_twice o) arrivals tried calls now later
+    → KnowsExactly o arrivals tried calls readings last → sent ≡ tick_given last o.readings 1 → now ≡ Some (all_but_first (all_but_first o.readings)) → later ≡ sent → KnowsExactly (read_twice o) arrivals tried calls now later
 tells-twice o arrivals tried calls readings now last sent later t s r l = record {
   arrivals_are = t.arrivals_are;
   tried_are = t.tried_are;
   calls_are = t.calls_are;
   readings_are = r;
-  last_is = l ∙ (s ∙ ap (λ x. reading x o.readings 1) t.last_is);
+  last_is = l ∙ (s ∙ ap (λ x. tick_given x o.readings 1) t.last_is);
 }
 
 -- asking by a stamp of the same word

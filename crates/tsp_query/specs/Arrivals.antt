@@ -57,9 +57,9 @@ next_arrival [] = None
 next_arrival (a ∷ rest) = a
 
 -- what comes after that
-abbrev pub rest_of : {A : Type 0} → List A → List A
-rest_of [] = []
-rest_of (x ∷ rest) = rest
+abbrev pub all_but_first : {A : Type 0} → List A → List A
+all_but_first [] = []
+all_but_first (x ∷ rest) = rest
 
 -- this answer with the number of its wait, or, if there is none, a later one
 abbrev pub or_later : Option Datagram → ℕ → Option (ℕ × Datagram) → Option (ℕ × Datagram)
@@ -69,7 +69,7 @@ or_later (Some d) i later = Some (i, d)
 -- the first answer within so many waits, and the number of its wait; the first of these has number i
 unfoldable pub asked_from : Question → ℕ → ℕ → List Arrival → Option (ℕ × Datagram)
 asked_from q i zero arrivals = None
-asked_from q i (suc n) arrivals = or_later (answer_in q (next_arrival arrivals)) i (asked_from q (i + 1) n (rest_of arrivals))
+asked_from q i (suc n) arrivals = or_later (answer_in q (next_arrival arrivals)) i (asked_from q (i + 1) n (all_but_first arrivals))
 
 -- the first answer within eight waits, and the number of its wait, counted from 0
 abbrev pub first_answer : Question → List Arrival → Option (ℕ × Datagram)

@@ -3,11 +3,11 @@ use Rattle.std.specs.Prelude.{◌≡◌, ◌⊎◌, ℕ, ℤ, ◌%◌, List, [],
 use Rattle.tsp_base.specs.declared.kind.Kind.TheVariants.{Msite, Test}
 use Rattle.tsp_io.specs.declared.addr.Addr.{Addr}
 use Rattle.tsp_io.specs.Links.{Arrival, Binding, NotesReceive, Tried}
-use Rattle.tsp_query.specs.Arrivals.{rest_of}
-use Rattle.tsp_query.specs.Clocks.{reading}
+use Rattle.tsp_query.specs.Arrivals.{all_but_first}
+use Rattle.tsp_query.specs.Clocks.{tick_given}
 use Rattle.tsp_query.specs.Ends.{Outside, KnowsExactly, WaitsSeconds}
-use Rattle.tsp_query.specs.Queries.{message, stamp, trace_kind, date_message, QueryEnds, master_in, heard_in, date_in, diff_in}
-use Rattle.tsp_query.specs.Outside.{Observed, Knows, bound, WritesBeginning}
+use Rattle.tsp_query.specs.Queries.{message, stamp, trace_kind, date_message, QueryEnds, master_in, heard_in, date_answer, diff_in}
+use Rattle.tsp_query.specs.Outside.{Observed, Knows, after_bind, WritesBeginning}
 use Rattle.tsp_query.specs.declared.query.QueryEnd.{QueryEnd}
 use Rattle.tsp_query.specs.declared.query.QueryEnd.TheVariants.{Master, Diff, Heard, Date as Dated, NoAnswer as Unanswered, LinkFault as Faulty, OutOfMemory as Refused}
 use Rattle.tsp_query.specs.declared.question.Question.TheVariants.{OfNumber, OfDate, OfWord}
@@ -30,10 +30,10 @@ asking_of Refused = OutOfMemory
 -- a question ends so: the wall clock and the word were read, and a request was sent, whose number is made from the word
 abbrev pub QueryComes : Query → ℤ → ℕ → Outside → Option (List Arrival) → Option (List Tried) → Option ℕ → Option (List ℕ) → ℕ → ℕ → ℕ → QueryEnd → Type 0
 QueryComes MsiteQuery wall word o arrivals tried calls readings last sends sends_now end = QueryEnds (message Msite word) (OfNumber (word % 65536)) master_in o arrivals tried calls readings last sends sends_now end
-QueryComes ClockDiff wall word o arrivals tried calls readings last sends sends_now end = QueryEnds (stamp word) (OfWord word) (diff_in wall (reading o.last o.readings 0) (reading o.last o.readings 1)) o arrivals tried calls readings last sends sends_now end
+QueryComes ClockDiff wall word o arrivals tried calls readings last sends sends_now end = QueryEnds (stamp word) (OfWord word) (diff_in wall (tick_given o.last o.readings 0) (tick_given o.last o.readings 1)) o arrivals tried calls readings last sends sends_now end
 QueryComes (Trace on) wall word o arrivals tried calls readings last sends sends_now end = QueryEnds (message (trace_kind on) word) (OfNumber (word % 65536)) heard_in o arrivals tried calls readings last sends sends_now end
 QueryComes Election wall word o arrivals tried calls readings last sends sends_now end = QueryEnds (message Test word) (OfNumber (word % 65536)) heard_in o arrivals tried calls readings last sends sends_now end
-QueryComes (Date time) wall word o arrivals tried calls readings last sends sends_now end = QueryEnds (date_message time word) (OfDate (word % 65536)) date_in o arrivals tried calls readings last sends sends_now end
+QueryComes (Date time) wall word o arrivals tried calls readings last sends sends_now end = QueryEnds (date_message time word) (OfDate (word % 65536)) date_answer o arrivals tried calls readings last sends sends_now end
 
 -- the address from which a question is asked: any address of this machine, and a UDP port that the system chooses
 abbrev pub anywhere : Addr
@@ -46,7 +46,7 @@ asking_binding daemon = record { local = anywhere; peers = daemon ∷ [] }
 -- the bind failed, or there was no memory for it: no tick was read, and nothing was sent or written
 pub record IsNotAsked (o : Outside) (written : List ℕ) (before now : Observed) (asking : QueryExit) : Type 0 where
   pub cause : (asking ≡ LinkFault) ⊎ (asking ≡ OutOfMemory)
-  pub tells : KnowsExactly (bound o) now.arrivals now.tried now.calls now.readings now.last
+  pub tells : KnowsExactly (after_bind o) now.arrivals now.tried now.calls now.readings now.last
   pub written_is : now.written ≡ Some written
   pub unbound : now.binds ≡ before.binds
   pub unwaited : now.waits ≡ before.waits
@@ -56,13 +56,13 @@ pub record IsNotAsked (o : Outside) (written : List ℕ) (before now : Observed)
 -- numbers are the counts of failed sends before and after
 pub record IsAsked (daemon : Addr) (query : Query) (o : Outside) (wall : ℤ) (word : ℕ) (written : List ℕ) (before now : Observed) (sends sends_now : ℕ) (asking : QueryExit) : Type 0 where
   pub end : QueryEnd
-  pub comes : QueryComes query wall word (bound o) now.arrivals now.tried now.calls now.readings now.last sends sends_now end
+  pub comes : QueryComes query wall word (after_bind o) now.arrivals now.tried now.calls now.readings now.last sends sends_now end
   pub says : WritesBeginning (end_line query end) (asking_of end) WriteFault OutOfMemory (Some written) now.written asking
   -- the link was bound to any address and to the daemon alone
   pub bound_to : NotesReceive before.binds now.binds (asking_binding daemon)
   pub waits : WaitsSeconds before.waits now.waits
   -- the wall clock was read between the first two ticks
-  pub walled : now.left_at_wall ≡ Some (Some (rest_of o.readings))
+  pub walled : now.left_at_wall ≡ Some (Some (all_but_first o.readings))
 
 -- how a question ends as a command, if this was known of the outside at its beginning
 abbrev pub AsksAs : Addr → Query → Outside → ℤ → ℕ → List ℕ → Observed → Observed → ℕ → ℕ → QueryExit → Type 0

@@ -5,8 +5,8 @@ use Rattle.tsp_base.specs.declared.place.Place.TheVariants.{Peer}
 use Rattle.tsp_codec.specs.Canon.{canon}
 use Rattle.tsp_io.specs.Counts.{Rose, one_more}
 use Rattle.tsp_io.specs.Links.{Arrival, Tried}
-use Rattle.tsp_query.specs.Arrivals.{answers, answer_in, next_arrival, rest_of, first_answer}
-use Rattle.tsp_query.specs.Clocks.{reading}
+use Rattle.tsp_query.specs.Arrivals.{answers, answer_in, next_arrival, all_but_first, first_answer}
+use Rattle.tsp_query.specs.Clocks.{tick_given}
 use Rattle.tsp_query.specs.declared.ask.AskEnd.{AskEnd}
 use Rattle.tsp_query.specs.declared.ask.AskEnd.TheVariants.{Answer, NoAnswer, LinkFault, OutOfMemory}
 use Rattle.tsp_query.specs.declared.ask.Heard.{Heard}
@@ -31,13 +31,13 @@ pub record KnowsExactly (o : Outside) (arrivals : Option (List Arrival)) (tried 
   pub last_is : last ≡ o.last
 
 -- the outside after a wait, and after the tick right after it was read
-abbrev pub heard : Outside → Outside
-heard o = record { arrivals = rest_of o.arrivals; tried = o.tried; calls = one_more o.calls; readings = rest_of o.readings; last = reading o.last o.readings 0 }
+abbrev pub after_wait : Outside → Outside
+after_wait o = record { arrivals = all_but_first o.arrivals; tried = o.tried; calls = one_more o.calls; readings = all_but_first o.readings; last = tick_given o.last o.readings 0 }
 
 -- the outside after so many waits
 abbrev pub heard_times : ℕ → Outside → Outside
 heard_times zero o = o
-heard_times (suc n) o = heard (heard_times n o)
+heard_times (suc n) o = after_wait (heard_times n o)
 
 -- the outside after a receive that failed: it is counted, and nothing else has happened
 abbrev pub failed : Outside → Outside
@@ -50,8 +50,8 @@ receives (Some r) = r.0 + 1
 
 -- what one receive comes to: an answer and the tick right after it, something else or nothing, or a failure
 abbrev pub Hears : Question → Outside → Option (List Arrival) → Option (List Tried) → Option ℕ → Option (List ℕ) → ℕ → Heard → Type 0
-Hears q o arrivals tried calls readings last (HeardAnswer d tick) = KnowsExactly (heard o) arrivals tried calls readings last × (answer_in q (next_arrival o.arrivals) ≡ Some d) × (tick ≡ last)
-Hears q o arrivals tried calls readings last Other = KnowsExactly (heard o) arrivals tried calls readings last × (answer_in q (next_arrival o.arrivals) ≡ None)
+Hears q o arrivals tried calls readings last (HeardAnswer d tick) = KnowsExactly (after_wait o) arrivals tried calls readings last × (answer_in q (next_arrival o.arrivals) ≡ Some d) × (tick ≡ last)
+Hears q o arrivals tried calls readings last Other = KnowsExactly (after_wait o) arrivals tried calls readings last × (answer_in q (next_arrival o.arrivals) ≡ None)
 Hears q o arrivals tried calls readings last Failed = KnowsExactly (failed o) arrivals tried calls readings last
 
 -- what was heard as an answer does answer the question, and its tick is at least the last one and at most 2^61
@@ -62,7 +62,7 @@ HearsWell q last _ = Unit {0}
 -- what up to eight receives come to: the first answer among them, unless one fails before it; nothing happens after
 -- either
 abbrev pub Listens : Question → Outside → Option (List Arrival) → Option (List Tried) → Option ℕ → Option (List ℕ) → ℕ → AskEnd → Type 0
-Listens q o arrivals tried calls readings last (Answer d tick) = (i : ℕ) × (first_answer q o.arrivals ≡ Some (i, d)) × (tick ≡ reading o.last o.readings i) × KnowsExactly (heard_times (i + 1) o) arrivals tried calls readings last
+Listens q o arrivals tried calls readings last (Answer d tick) = (i : ℕ) × (first_answer q o.arrivals ≡ Some (i, d)) × (tick ≡ tick_given o.last o.readings i) × KnowsExactly (heard_times (i + 1) o) arrivals tried calls readings last
 Listens q o arrivals tried calls readings last NoAnswer = (first_answer q o.arrivals ≡ None) × KnowsExactly (heard_times 8 o) arrivals tried calls readings last
 Listens q o arrivals tried calls readings last LinkFault = (n : ℕ) × (n < receives (first_answer q o.arrivals)) × KnowsExactly (failed (heard_times n o)) arrivals tried calls readings last
 Listens q o arrivals tried calls readings last OutOfMemory = ⊥

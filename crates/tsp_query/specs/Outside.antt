@@ -47,8 +47,8 @@ pub record Knows (o : Outside) (wall : ℤ) (word : ℕ) (written : List ℕ) (t
   pub written_is : t.written ≡ Some written
 
 -- the outside after a bind was tried, whether it failed or not
-abbrev pub bound : Outside → Outside
-bound o = record o { calls = one_more o.calls }
+abbrev pub after_bind : Outside → Outside
+after_bind o = record o { calls = one_more o.calls }
 
 -- of this text the beginning was written, and not all
 abbrev pub IsCutShort : List ℕ → Option (List ℕ) → Option (List ℕ) → Type 0

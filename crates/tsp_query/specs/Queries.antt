@@ -11,8 +11,8 @@ use Rattle.tsp_base.specs.declared.stamp.Stamp.TheVariants.{Request, Reply}
 use Rattle.tsp_io.specs.Links.{Arrival, Tried}
 use Rattle.tsp_io.specs.declared.link.Link.{Ghosts as LinkOf}
 use Rattle.tsp_io.specs.declared.ticker.Ticker.{Ghosts as TickerOf}
-use Rattle.tsp_query.specs.Arrivals.{rest_of}
-use Rattle.tsp_query.specs.Clocks.{reading, own_clock}
+use Rattle.tsp_query.specs.Arrivals.{all_but_first}
+use Rattle.tsp_query.specs.Clocks.{tick_given, own_clock}
 use Rattle.tsp_query.specs.Ends.{Outside, KnowsExactly, Asks}
 use Rattle.tsp_query.specs.Told.{HoldsOf}
 use Rattle.tsp_query.specs.declared.ask.AskEnd.{AskEnd}
@@ -24,7 +24,7 @@ use Rattle.tsp_query.specs.declared.query.QueryEnd.TheVariants.{Master, Diff, He
 
 -- the outside after the tick counter was read twice
 abbrev pub read_twice : Outside → Outside
-read_twice o = record o { readings = rest_of (rest_of o.readings); last = reading o.last o.readings 1 }
+read_twice o = record o { readings = all_but_first (all_but_first o.readings); last = tick_given o.last o.readings 1 }
 
 -- the kind of message that turns a trace on or off
 abbrev pub trace_kind : Bool → Kind
@@ -104,8 +104,8 @@ says_set (Message m) = is_date_ack m.kind
 says_set (Stamp s) = false
 
 -- the answer to a date: whether it was set, or is passed on
-abbrev pub date_in : Datagram → ℕ → QueryEnd
-date_in d tick = Date (says_set d)
+abbrev pub date_answer : Datagram → ℕ → QueryEnd
+date_answer d tick = Date (says_set d)
 
 -- the datagram is a stamp reply
 abbrev pub IsReplied : Datagram → Type 0

@@ -3,7 +3,7 @@ use Rattle.std.specs.Prelude.{◌≡◌, ◌≤◌, ℕ, List, Option, Some}
 use Rattle.tsp_io.specs.Links.{Arrival, Tried}
 use Rattle.tsp_io.specs.declared.link.Link.{Ghosts as LinkOf}
 use Rattle.tsp_io.specs.declared.ticker.Ticker.{Ghosts as TickerOf}
-use Rattle.tsp_query.specs.Arrivals.{rest_of}
+use Rattle.tsp_query.specs.Arrivals.{all_but_first}
 use Rattle.tsp_query.specs.Ends.{WaitsSeconds}
 
 -- this holds of what a link and a ticker tell: of the arrivals to come, the sends that were tried, the number of calls,
@@ -13,7 +13,7 @@ HoldsOf links tickers fact link ticker = fact (links.arrivals link) (links.tried
 
 -- the wall clock was read right after the first tick, if it is told which ticks come
 abbrev pub ReadsWall : {T : Type 0} → TickerOf T → T → T → Type 0
-ReadsWall tickers before now = (readings : List ℕ) → tickers.readings before ≡ Some readings → tickers.left_at_wall now ≡ Some (Some (rest_of readings))
+ReadsWall tickers before now = (readings : List ℕ) → tickers.readings before ≡ Some readings → tickers.left_at_wall now ≡ Some (Some (all_but_first readings))
 
 -- the link is bound as before, the wall clock wasn't read, and the tick didn't go back
 pub record KeepsOn {L T : Type 0} (links : LinkOf L) (tickers : TickerOf T) (link : L) (ticker : T) (link_now : L) (ticker_now : T) : Type 0 where

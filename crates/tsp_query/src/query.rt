@@ -5,14 +5,14 @@ ghost use Rattle.tsp_base.specs.Messages.{body_fits};
 ghost use Rattle.tsp_base.specs.declared.kind.Kind.{Kind};
 ghost use Rattle.tsp_base.specs.declared.message.Body.{Body};
 ghost use Rattle.tsp_io.specs.Clocks.{IsWall};
-ghost use Rattle.tsp_query.specs.Arrivals.{rest_of};
-ghost use Rattle.tsp_query.specs.Clocks.{reading};
+ghost use Rattle.tsp_query.specs.Arrivals.{all_but_first};
+ghost use Rattle.tsp_query.specs.Clocks.{tick_given};
 ghost use Rattle.tsp_query.specs.Ends.{Outside, KnowsExactly, Asks};
 ghost use Rattle.tsp_query.specs.Faults.{LinkCounts};
 ghost use Rattle.tsp_query.specs.Queries.{read_twice, message, message_with, date_message};
 ghost use Rattle.tsp_query.specs.Queries.{question_of, stamp, QueryEnds, end_of, trace_kind};
 ghost use Rattle.tsp_query.specs.Queries.{EndsByWord, by_number, by_date};
-ghost use Rattle.tsp_query.specs.Queries.{name_told, master_in, heard_in, says_set, date_in};
+ghost use Rattle.tsp_query.specs.Queries.{name_told, master_in, heard_in, says_set, date_answer};
 ghost use Rattle.tsp_query.specs.Queries.{reading_in, IsReplied, diff_in};
 ghost use Rattle.tsp_query.specs.Told.{AsksOnce, HoldsOf, ReadsWall};
 
@@ -64,9 +64,9 @@ struct Start {
 /// Reads the tick counter, the wall clock and the word, and the counter again.
 fn begin<T: Ticker>(ticker: &mut T) -> Start
     ensures readings { (readings : List ℕ) → T.readings ticker.old ≡ Some readings
-        → (result.first ≡ reading (T.last ticker.old) readings 0)
-        × (result.sent ≡ reading (T.last ticker.old) readings 1)
-        × (T.readings ticker.new ≡ Some (rest_of (rest_of readings))) }
+        → (result.first ≡ tick_given (T.last ticker.old) readings 0)
+        × (result.sent ≡ tick_given (T.last ticker.old) readings 1)
+        × (T.readings ticker.new ≡ Some (all_but_first (all_but_first readings))) }
     ensures wall { IfSome (T.wall_is ticker.old) (λ wall. result.wall ≡ wall) }
     ensures word { IfSome (T.word_is ticker.old) (λ word. result.word ≡ word) }
     ensures range { IsWall result.wall }
@@ -202,7 +202,7 @@ pub fn trace<L: Link, T: Ticker>(on: bool, link: &mut L, ticker: &mut T) -> Quer
 
 /// The end of a question whose answer says whether the date was set.
 fn date_end(asked: AskEnd) -> QueryEnd
-    ensures { result ≡ end_of date_in asked }
+    ensures { result ≡ end_of date_answer asked }
 {
     match asked {
         AskEnd::Answer(Datagram::Message(message), _) => {
@@ -218,7 +218,7 @@ fn date_end(asked: AskEnd) -> QueryEnd
 /// Sets the network's date, in microseconds since 1970 (SETDATE). A daemon that is master sets it;
 /// one that follows passes it on to its master.
 pub fn setdate<L: Link, T: Ticker>(time: Micros, link: &mut L, ticker: &mut T) -> QueryEnd
-    ensures asks { EndsByWord L.Link T.Ticker (date_message time) by_date date_in link.old
+    ensures asks { EndsByWord L.Link T.Ticker (date_message time) by_date date_answer link.old
         ticker.old link.new ticker.new result }
     ensures once { AsksOnce L.Link T.Ticker link.old ticker.old link.new ticker.new }
     ensures faults { LinkCounts L.Link link.old link.new (result ≡ QueryEnd.LinkFault) }
@@ -264,7 +264,7 @@ pub fn clockdiff<L: Link, T: Ticker>(link: &mut L, ticker: &mut T) -> QueryEnd
         → HoldsOf L.Link T.Ticker (KnowsExactly o) link.old ticker.old → T.word_is ticker.old ≡ Some word
         → T.wall_is ticker.old ≡ Some wall
         → HoldsOf L.Link T.Ticker (QueryEnds (stamp word) (Question.OfWord word)
-        (diff_in wall (reading o.last o.readings 0) (reading o.last o.readings 1)) o) link.new
+        (diff_in wall (tick_given o.last o.readings 0) (tick_given o.last o.readings 1)) o) link.new
         ticker.new (L.send_faults link.old) (L.send_faults link.new) result }
     ensures once { AsksOnce L.Link T.Ticker link.old ticker.old link.new ticker.new }
     ensures faults { LinkCounts L.Link link.old link.new (result ≡ QueryEnd.LinkFault) }

@@ -51,11 +51,11 @@ way_word true = codes " step "
 way_word false = codes " slew "
 
 -- an act that has microseconds
-abbrev pub is_measured : Act → Bool
-is_measured (Sample p counter diff err ticket) = true
-is_measured (Close count lo width mean) = true
-is_measured (Correct amount stepped shown) = true
-is_measured _ = false
+abbrev pub has_micros : Act → Bool
+has_micros (Sample p counter diff err ticket) = true
+has_micros (Close count lo width mean) = true
+has_micros (Correct amount stepped shown) = true
+has_micros _ = false
 
 -- an act; the number is the posted datagram's
 abbrev pub act_text : ℕ → Act → List ℕ

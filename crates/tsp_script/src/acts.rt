@@ -5,7 +5,7 @@ ghost use Rattle.arrayvec.specs.ArrayVec.{array_vec_len};
 ghost use Rattle.tsp_script.specs.Texts.{space, message_text};
 ghost use Rattle.tsp_base.specs.Alarms.{alarm_word};
 ghost use Rattle.tsp_script.specs.Traces.{fault_word, role_text, place_text};
-ghost use Rattle.tsp_script.specs.Traces.{taken_text, way_word, act_text, is_measured};
+ghost use Rattle.tsp_script.specs.Traces.{taken_text, way_word, act_text, has_micros};
 
 use crate::messages::append_datagram;
 use crate::numbers::{
@@ -198,7 +198,7 @@ pub fn append_act(out: &mut Text, number: u64, act: &Act)
 
 /// Writes an act that has microseconds: a sample, a close or a correction.
 fn append_measured(out: &mut Text, act: &Act)
-    requires measured { is_measured act.now ≡ true }
+    requires measured { has_micros act.now ≡ true }
     requires room { array_vec_len out.old + 111 ≤ 1024 }
     ensures { (number : ℕ) → out.new.items ≡ out.old.items ++ act_text number act.now }
 {

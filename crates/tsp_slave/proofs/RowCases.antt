@@ -12,7 +12,7 @@ use Rattle.tsp_sends.specs.Slots.{kind_of, sending_to}
 use Rattle.tsp_acks.specs.declared.station.Station.{Station}
 use Rattle.tsp_acks.specs.Stands.{StationStands}
 use Rattle.tsp_slave.specs.ClockChanges.{change_in, correction_of}
-use Rattle.tsp_slave.specs.SlaveStands.{IsCorrection, IsMessage}
+use Rattle.tsp_slave.specs.SlaveStands.{IsCorrection, IsMessageFrom}
 use Rattle.tsp_slave.specs.SlaveAlarms.{slave_rings, is_to_be_candidate}
 
 pub slave_rings-other : (a : Alarm) → a ≢ Quiet → a ≢ Search → a ≢ Elect → slave_rings a ≡ nothing
@@ -43,7 +43,7 @@ correction-kind SetTime e = inr refl
 correction-kind _ e = absurd (false≢true e)
 
 -- what such a message is taken as
-pub told_correction : (p : PeerId) (m : MessageValue) (took : Option Received) → (m.kind ≡ AdjTime) ⊎ (m.kind ≡ SetTime) → IsMessage p m took → IsCorrection (Some (record { from = p; number = m.number })) took
+pub told_correction : (p : PeerId) (m : MessageValue) (took : Option Received) → (m.kind ≡ AdjTime) ⊎ (m.kind ≡ SetTime) → IsMessageFrom p m took → IsCorrection (Some (record { from = p; number = m.number })) took
 told_correction p m took k e =
     ap (λ t. correcting_of (said t)) e ∙ ap (λ b. if b then Some (record { from = p; number = m.number }) else None) (is_correction-either m.kind k)
 

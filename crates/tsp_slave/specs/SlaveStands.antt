@@ -13,8 +13,8 @@ abbrev pub Took : Past → Option Received → Type 0
 Took past took = taken past.seen ≡ took
 
 -- what was taken is this message of a peer
-abbrev pub IsMessage : PeerId → MessageValue → Option Received → Type 0
-IsMessage p m took = took ≡ Some (record { from = Peer p; taken = Good (Message m) })
+abbrev pub IsMessageFrom : PeerId → MessageValue → Option Received → Type 0
+IsMessageFrom p m took = took ≡ Some (record { from = Peer p; taken = Good (Message m) })
 
 -- what was taken carries this name
 abbrev pub IsNamed : List ℕ → Option Received → Type 0

@@ -6,7 +6,7 @@ ghost use Rattle.tsp_rules.specs.SlaveRows.{masterack_in, masterup_in, slave_tak
 ghost use Rattle.tsp_rules.specs.Guards.{role_at};
 ghost use Rattle.tsp_acks.specs.Calls.{Contains, IsTick, Past, Received, StationStands, UsesAtMost, IsSamePort};
 ghost use Rattle.tsp_slave.specs.Corrections.{TellsCorrection};
-ghost use Rattle.tsp_slave.specs.SlaveStands.{ActsOn, IsMessage, SlaveStands, slave};
+ghost use Rattle.tsp_slave.specs.SlaveStands.{ActsOn, IsMessageFrom, SlaveStands, slave};
 
 use crate::conflict::report_conflict;
 use crate::correction::take_correction;
@@ -48,7 +48,7 @@ pub fn slave_take<D: Desk>(
     requires later { clock.old.at ≤ tick }
     requires room { 5 ≤ D.spare desk.old }
     requires peer { Contains station.old.peers from }
-    ensures row { ActsOn (IsMessage from m.now) (slave_takes from m.now) tick port
+    ensures row { ActsOn (IsMessageFrom from m.now) (slave_takes from m.now) tick port
         (slave station.old last.old clock.old) (slave station.new last.new clock.new)
         D.acts desk.old desk.new }
     ensures room { UsesAtMost 5 D.spare D.acts desk.old desk.new }
@@ -72,10 +72,10 @@ pub fn slave_hear<D: Desk>(
     requires later { clock.old.at ≤ at.tick }
     requires room { 5 ≤ D.spare desk.old }
     requires peer { Contains station.old.peers from }
-    ensures row { ActsOn (IsMessage from m.now) (slave_takes from m.now) at.tick at.port
+    ensures row { ActsOn (IsMessageFrom from m.now) (slave_takes from m.now) at.tick at.port
         (slave station.old last.old clock.old) (slave station.new last.new clock.new)
         D.acts desk.old desk.new }
-    ensures corrects { (past : Past) (took : Option Received) → IsMessage from m.now took
+    ensures corrects { (past : Past) (took : Option Received) → IsMessageFrom from m.now took
         → SlaveStands past (slave station.old last.old clock.old took)
         → TellsCorrection result at.port (D.acts desk.old) (D.acts desk.new) }
     ensures room { UsesAtMost 5 D.spare D.acts desk.old desk.new }
@@ -104,7 +104,7 @@ fn hear_other<D: Desk>(
     requires peer { Contains station.old.peers from }
     requires tick { IsTick at.tick }
     requires room { 5 ≤ D.spare desk.old }
-    ensures row { ActsOn (IsMessage from m.now) (slave_takes from m.now) at.tick at.port
+    ensures row { ActsOn (IsMessageFrom from m.now) (slave_takes from m.now) at.tick at.port
         (slave station.old last.old clock.now) (slave station.new last.new clock.now)
         D.acts desk.old desk.new }
     ensures room { UsesAtMost 5 D.spare D.acts desk.old desk.new }
@@ -141,7 +141,7 @@ fn hear_master<D: Desk>(
     requires peer { Contains station.old.peers from }
     requires tick { IsTick at.tick }
     requires room { 3 ≤ D.spare desk.old }
-    ensures row { ActsOn (IsMessage from m.now) (reading role_at (masterup_in from))
+    ensures row { ActsOn (IsMessageFrom from m.now) (reading role_at (masterup_in from))
         at.tick at.port
         (slave station.old last.old clock.now) (slave station.new last.new clock.now)
         D.acts desk.old desk.new }

@@ -10,7 +10,7 @@ use Rattle.tsp_script.specs.declared.storm.Choice.TheVariants.{Plain, Request, A
 use Rattle.tsp_script.specs.declared.storm.Draw.{Draw}
 use Rattle.tsp_script.specs.declared.storm.Draw.TheVariants.{Event as Gives, Ask}
 use Rattle.tsp_script.specs.Storms.{StormValue, moved, drawn, gave, boots_next, turns_one, asks_one, recent_one, as_event, as_question, asks_or_turns, chosen, storm_draw, storm_take, storm_next, draw_of, request_event}
-use Rattle.tsp_storm.specs.Schedules.{event_of, next_event, posted_in, time_in}
+use Rattle.tsp_storm.specs.Schedules.{drawn_event, next_event, posted_count, posting_time}
 use Rattle.tsp_run.specs.declared.posted.Posted.{Posted}
 use Rattle.tsp_run.specs.Run.{event_at, posted_time}
 
@@ -106,34 +106,34 @@ moves-take posted k time v w some a =
     (record { nodes = a.nodes; named = a.named; given = ap (λ n. n + 1) a.given; asked = refl; at = refl; next = (a.booted, a.later, a.known) })
     (moves-turn posted w.at v w (record { nodes = a.nodes; named = a.named; given = a.given; booted = a.booted; some = some }) a.later)
 
-moves-of : (header : HeaderValue) (events : List Event) (v : StormValue) (d : Draw) (w : StormValue) → 1 ≤ v.nodes → Good (posted_in header events) v d w →
-    Moves (posted_in header events) v (event_of header events d w).0 (event_of header events d w).1
-unfolding event_of
+moves-of : (header : HeaderValue) (events : List Event) (v : StormValue) (d : Draw) (w : StormValue) → 1 ≤ v.nodes → Good (posted_count header events) v d w →
+    Moves (posted_count header events) v (drawn_event header events d w).0 (drawn_event header events d w).1
+unfolding drawn_event
 moves-of header events v (Gives e) w some g = g
-moves-of header events v (Ask k) w some g = moves-take (posted_in header events) k (time_in header events k) v w some g
+moves-of header events v (Ask k) w some g = moves-take (posted_count header events) k (posting_time header events k) v w some g
 
 -- the next event of a schedule follows those before it
-pub next_moves : (header : HeaderValue) (events : List Event) (v : StormValue) → 1 ≤ v.nodes → Moves (posted_in header events) v (next_event header events v).0 (next_event header events v).1
+pub next_moves : (header : HeaderValue) (events : List Event) (v : StormValue) → 1 ≤ v.nodes → Moves (posted_count header events) v (next_event header events v).0 (next_event header events v).1
 unfolding next_event
-next_moves header events v some = moves-of header events v (storm_draw (posted_in header events) v).0 (storm_draw (posted_in header events) v).1 some (good (posted_in header events) v some)
+next_moves header events v some = moves-of header events v (storm_draw (posted_count header events) v).0 (storm_draw (posted_count header events) v).1 some (good (posted_count header events) v some)
 
 -- a drawn event is the next
-pub next-given : (header : HeaderValue) (events : List Event) (v : StormValue) (posted : ℕ) (e : Event) (w : StormValue) → posted ≡ posted_in header events → (Gives e, w) ≡ storm_next posted None v → (e, w) ≡ next_event header events v
-unfolding next_event event_of
+pub next-given : (header : HeaderValue) (events : List Event) (v : StormValue) (posted : ℕ) (e : Event) (w : StormValue) → posted ≡ posted_count header events → (Gives e, w) ≡ storm_next posted None v → (e, w) ≡ next_event header events v
+unfolding next_event drawn_event
 next-given header events v posted e w same is =
-    let drawn_is : (Gives e, w) ≡ storm_draw (posted_in header events) v = is ∙ ap (λ p. storm_draw p v) same in
-    ap (λ (d : Draw × StormValue). event_of header events d.0 d.1) drawn_is
+    let drawn_is : (Gives e, w) ≡ storm_draw (posted_count header events) v = is ∙ ap (λ p. storm_draw p v) same in
+    ap (λ (d : Draw × StormValue). drawn_event header events d.0 d.1) drawn_is
 
 -- the answer to a question is the next
-pub next-asked : (header : HeaderValue) (events : List Event) (v : StormValue) (posted k time : ℕ) (u : StormValue) (r : Event × StormValue) → posted ≡ posted_in header events → (Ask k, u) ≡ storm_next posted None v → time ≡ time_in header events k →
+pub next-asked : (header : HeaderValue) (events : List Event) (v : StormValue) (posted k time : ℕ) (u : StormValue) (r : Event × StormValue) → posted ≡ posted_count header events → (Ask k, u) ≡ storm_next posted None v → time ≡ posting_time header events k →
     r ≡ storm_take k time u → r ≡ next_event header events v
-unfolding next_event event_of
+unfolding next_event drawn_event
 next-asked header events v posted k time u r same is at taken =
-    let drawn_is : (Ask k, u) ≡ storm_draw (posted_in header events) v = is ∙ ap (λ p. storm_draw p v) same in
-    taken ∙ ap (λ t. storm_take k t u) at ∙ ap (λ (d : Draw × StormValue). event_of header events d.0 d.1) drawn_is
+    let drawn_is : (Ask k, u) ≡ storm_draw (posted_count header events) v = is ∙ ap (λ p. storm_draw p v) same in
+    taken ∙ ap (λ t. storm_take k t u) at ∙ ap (λ (d : Draw × StormValue). drawn_event header events d.0 d.1) drawn_is
 
 -- a choice that isn't a question is the next
-pub next-chosen : (header : HeaderValue) (events : List Event) (v : StormValue) (posted : ℕ) (c : Choice) (w : StormValue) → posted ≡ posted_in header events → (draw_of c, w) ≡ storm_next posted None v → ((k : ℕ) → c ≡ Asked k → ⊥) →
+pub next-chosen : (header : HeaderValue) (events : List Event) (v : StormValue) (posted : ℕ) (c : Choice) (w : StormValue) → posted ≡ posted_count header events → (draw_of c, w) ≡ storm_next posted None v → ((k : ℕ) → c ≡ Asked k → ⊥) →
     (draw_of c, w) ≡ as_event (next_event header events v)
 next-chosen header events v posted (Plain p) w same is other = ap (λ (r : Event × StormValue). as_event r) (next-given header events v posted (event_in p) w same is)
 next-chosen header events v posted (Request at node word) w same is other = ap (λ (r : Event × StormValue). as_event r) (next-given header events v posted (request_event at node word) w same is)

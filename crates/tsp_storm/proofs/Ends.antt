@@ -8,22 +8,22 @@ use Rattle.tsp_lines.specs.Outcomes.{limit_line}
 use Rattle.tsp_storm.specs.declared.run.StormEnd.{StormEnd}
 use Rattle.tsp_storm.specs.declared.run.StormEnd.TheVariants.{Done, Limit, WriteFault, OutOfMemory}
 use Rattle.tsp_storm.specs.Answers.{IsLimit, StopsAfter, IsStormAnswer, IsTextPart, WritesTextPart, StormsAs, AgreesWithAnswer, refused_after, SaysText}
-use Rattle.tsp_storm.specs.Schedules.{header_of, events_of}
+use Rattle.tsp_storm.specs.Schedules.{header_of, storm_events}
 use Rattle.tsp_args.specs.declared.storm.StormWords.{StormWords}
 use Rattle.tsp_run.specs.Refusals.{Valid}
 
 -- of a valid schedule each beginning is valid
-valid_before : (s : StormWords) (more n all : ℕ) → all ≡ more + n → Valid (header_of s) (events_of s all) → Valid (header_of s) (events_of s n)
-valid_before s zero n all e v = subst (λ m. Valid (header_of s) (events_of s m)) (let same : all ≡ n = omega (arith, e) in same) v
+valid_before : (s : StormWords) (more n all : ℕ) → all ≡ more + n → Valid (header_of s) (storm_events s all) → Valid (header_of s) (storm_events s n)
+valid_before s zero n all e v = subst (λ m. Valid (header_of s) (storm_events s m)) (let same : all ≡ n = omega (arith, e) in same) v
 valid_before s (suc more) n all e v =
     let is : all ≡ suc (more + n) = omega (arith, e) in
-    valid_before s more n (more + n) refl (subst (λ m. Valid (header_of s) (events_of s m)) is v).1
+    valid_before s more n (more + n) refl (subst (λ m. Valid (header_of s) (storm_events s m)) is v).1
 
 -- none of its events is refused
-not_refused : (s : StormWords) (n all : ℕ) → n < all → Valid (header_of s) (events_of s all) → refused_after s n ≡ None
+not_refused : (s : StormWords) (n all : ℕ) → n < all → Valid (header_of s) (storm_events s all) → refused_after s n ≡ None
 not_refused s n all lt v = (valid_before s (all - suc n) (suc n) all (omega (arith, lt)) v).0
 
-none_is_limit : (s : StormWords) (n all : ℕ) → n < all → Valid (header_of s) (events_of s all) → IsLimit (refused_after s n) → ⊥
+none_is_limit : (s : StormWords) (n all : ℕ) → n < all → Valid (header_of s) (storm_events s all) → IsLimit (refused_after s n) → ⊥
 none_is_limit s n all lt v (a, b, is) = let none = not_refused s n all lt v in cc
 
 -- a schedule stops after one number of events at most

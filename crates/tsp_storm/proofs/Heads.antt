@@ -7,7 +7,7 @@ use Rattle.tsp_base.specs.declared.header.HeaderFault.{HeaderFault}
 use Rattle.tsp_base.specs.declared.header.HeaderFault.TheVariants.{Full, Rate, Wall, Nets, Net, OutOfMemory}
 use Rattle.tsp_rules.specs.Values.{NodeLine}
 use Rattle.tsp_base.specs.Words.{HeaderValue, Pushes}
-use Rattle.tsp_storm.specs.Schedules.{after_lines, lines_of}
+use Rattle.tsp_storm.specs.Schedules.{after_lines, storm_lines}
 use Rattle.tsp_script.specs.Storms.{StormValue, moved, drawn, storm_line}
 
 near : (d b : ℕ) → d ≤ 2 * b → nat_abs (pos d -ℤ pos b) ≤ b
@@ -31,7 +31,7 @@ joins_header old new v Net d few n p = p
 joins_header old new v OutOfMemory d few n p = n refl
 
 -- a header with one line more
-pub header_more : (old new : HeaderValue) (line : NodeLine) (v w : StormValue) (n : ℕ) → new ≡ record old { nodes = old.nodes ++ line ∷ [] } → old ≡ record { drift = 100; strict = false; nodes = lines_of n v; nets = [] } → line ≡ storm_line w → w ≡ after_lines n v →
-    new ≡ record { drift = 100; strict = false; nodes = lines_of (suc n) v; nets = [] }
+pub header_more : (old new : HeaderValue) (line : NodeLine) (v w : StormValue) (n : ℕ) → new ≡ record old { nodes = old.nodes ++ line ∷ [] } → old ≡ record { drift = 100; strict = false; nodes = storm_lines n v; nets = [] } → line ≡ storm_line w → w ≡ after_lines n v →
+    new ≡ record { drift = 100; strict = false; nodes = storm_lines (suc n) v; nets = [] }
 header_more old new line v w n is was next at =
-    is ∙ ap (λ (h : HeaderValue). record h { nodes = h.nodes ++ line ∷ [] }) was ∙ ap (λ (l : NodeLine). record { drift = 100; strict = false; nodes = lines_of n v ++ l ∷ []; nets = [] }) (next ∙ ap (λ (u : StormValue). storm_line u) at)
+    is ∙ ap (λ (h : HeaderValue). record h { nodes = h.nodes ++ line ∷ [] }) was ∙ ap (λ (l : NodeLine). record { drift = 100; strict = false; nodes = storm_lines n v ++ l ∷ []; nets = [] }) (next ∙ ap (λ (u : StormValue). storm_line u) at)

@@ -7,7 +7,7 @@ use Rattle.tsp_base.specs.Words.{HeaderValue, has_member, is_whole, of, dids, fi
 use Rattle.tsp_base.specs.declared.event.EventFault.{EventFault}
 use Rattle.tsp_base.specs.declared.event.EventFault.TheVariants.{Limit}
 use Rattle.tsp_script.specs.Storms.{StormValue, storm_line}
-use Rattle.tsp_storm.specs.Schedules.{after_lines, lines_of, header_of, generator_of, posted_in, next_event, made, events_of}
+use Rattle.tsp_storm.specs.Schedules.{after_lines, storm_lines, header_of, generator_of, posted_count, next_event, made, storm_events}
 use Rattle.tsp_storm.proofs.Draws.{IsNext, Moves, next_moves}
 use Rattle.tsp_storm.proofs.Ups.{up-later, up-booted}
 use Rattle.tsp_args.specs.Storms.{IsStorm}
@@ -34,9 +34,9 @@ after_is zero v = record { nodes = refl; named = omega arith; given = refl; at =
 after_is (suc n) v = let a = after_is n v in record { nodes = a.nodes; named = (let e = a.named in omega (arith, e)); given = a.given; at = a.at; asked = a.asked }
 
 -- there is a line for each node
-pub length-lines_of : (n : ℕ) (v : StormValue) → length (lines_of n v) ≡ n
-length-lines_of zero v = refl
-length-lines_of (suc n) v = let e = length-lines_of n v in omega (arith, length-append (lines_of n v) (storm_line (after_lines n v) ∷ []), e)
+pub length-storm_lines : (n : ℕ) (v : StormValue) → length (storm_lines n v) ≡ n
+length-storm_lines zero v = refl
+length-storm_lines (suc n) v = let e = length-storm_lines n v in omega (arith, length-append (storm_lines n v) (storm_line (after_lines n v) ∷ []), e)
 
 -- a generator, and the events that it has given, the newest first
 pub record IsMade (header : HeaderValue) (events : List Event) (v : StormValue) : Type 0 where
@@ -52,7 +52,7 @@ pub record IsMade (header : HeaderValue) (events : List Event) (v : StormValue) 
 
 IsMade-begins : (s : StormWords) → IsStorm s → IsMade (header_of s) [] (made s 0).generator
 IsMade-begins s is = let a = after_is s.nodes (generator_of s) in record {
-  nodes = a.nodes ∙ sym (length-lines_of s.nodes (generator_of s));
+  nodes = a.nodes ∙ sym (length-storm_lines s.nodes (generator_of s));
   one_net = refl;
   some = (let e = a.nodes in let some = is.some in omega (arith, e, some));
   named = (let e = a.named in let f = a.nodes in omega (arith, e, f));
@@ -74,7 +74,7 @@ IsMade-next : (header : HeaderValue) (events : List Event) (v : StormValue) → 
 IsMade-next header events v i =
     let e = (next_event header events v).0 in
     let w = (next_event header events v).1 in
-    let m : Moves (posted_in header events) v e w = next_moves header events v i.some in
+    let m : Moves (posted_count header events) v e w = next_moves header events v i.some in
     record {
       nodes = m.nodes ∙ i.nodes;
       one_net = i.one_net;
@@ -83,21 +83,21 @@ IsMade-next header events v i =
       quiet = m.asked;
       count = (let a = m.given in let b = i.count in omega (arith, a, b));
       last = sym m.at;
-      start = λ le. m.at ∙ ap (λ x. event_at x) (next-boots (posted_in header events) v e m.next (let a = m.given in let b = m.nodes in omega (arith, a, b, le))).1;
+      start = λ le. m.at ∙ ap (λ x. event_at x) (next-boots (posted_count header events) v e m.next (let a = m.given in let b = m.nodes in omega (arith, a, b, le))).1;
       up = λ k few here. elim (cases_lt k v.given) [
         | inl before ↦ up-later header events e k (i.up k (subst (λ n. k < n) m.nodes few) before)
         | inr after ↦ (
             let same : v.given ≡ k = (let a = m.given in omega (arith, a, here, after)) in
-            let boot = next-boots (posted_in header events) v e m.next (let b = m.nodes in omega (arith, b, same, few)) in
+            let boot = next-boots (posted_count header events) v e m.next (let b = m.nodes in omega (arith, b, same, few)) in
             let is : e ≡ BootAt 0 k boot.0 = boot.1 ∙ ap (λ n. BootAt 0 n boot.0) same in
             subst (λ x. up (dids (of k (run header (x ∷ events)))) ≡ true) (sym is) (up-booted header events 0 k boot.0))
       ];
     }
 
 -- each beginning of a schedule is such a one
-pub made_is : (s : StormWords) → IsStorm s → (n : ℕ) → IsMade (header_of s) (events_of s n) (made s n).generator
+pub made_is : (s : StormWords) → IsStorm s → (n : ℕ) → IsMade (header_of s) (storm_events s n) (made s n).generator
 made_is s is zero = IsMade-begins s is
-made_is s is (suc n) = IsMade-next (header_of s) (events_of s n) (made s n).generator (made_is s is n)
+made_is s is (suc n) = IsMade-next (header_of s) (storm_events s n) (made s n).generator (made_is s is n)
 
 -- the only cause of a refusal is a limit, after so many events
 abbrev pub OnlyLimit : ℕ → Option EventFault → Type 0
@@ -109,7 +109,7 @@ no_time_back : (at last : ℕ) → last ≤ at → time_back at last ≡ None
 no_time_back at last le = rw (le-ltb at last le) refl
 
 -- a next event is in time
-in_time : (header : HeaderValue) (events : List Event) (v : StormValue) (e : Event) → IsMade header events v → IsNext (posted_in header events) v e → last_at events ≤ event_at e
+in_time : (header : HeaderValue) (events : List Event) (v : StormValue) (e : Event) → IsMade header events v → IsNext (posted_count header events) v e → last_at events ≤ event_at e
 in_time header events v (BootAt at node word) i n = let l = i.last in let s = i.start (let lt = n.2 in omega (arith, lt)) in omega (arith, l, s)
 in_time header events v (Turn at node) i n = let l = i.last in let later = n.1 in omega (arith, l, later)
 in_time header events v (Take at k) i n = let l = i.last in let later = n.1 in omega (arith, l, later)
@@ -127,7 +127,7 @@ first_port_known : (header : HeaderValue) (events : List Event) (node : ℕ) →
 first_port_known header events node none lt = rw (lt-ltb 0 (length (ports_on node (networks header))) (let some = some_port header (whole_alone header none) node lt in omega (arith, some))) refl
 
 -- its node is one of the schedule's, and its port is one of the node's
-node_known : (header : HeaderValue) (events : List Event) (v : StormValue) (e : Event) → IsMade header events v → IsNext (posted_in header events) v e → no_node (scene header events) e ≡ None
+node_known : (header : HeaderValue) (events : List Event) (v : StormValue) (e : Event) → IsMade header events v → IsNext (posted_count header events) v e → no_node (scene header events) e ≡ None
 node_known header events v (BootAt at node word) i n = known_here (length header.nodes) node (let same = n.1 in let lt = n.2 in let nodes = i.nodes in omega (arith, same, lt, nodes))
 node_known header events v (Turn at node) i n = known_here (length header.nodes) node (let lt = n.2 in let nodes = i.nodes in omega (arith, lt, nodes))
 node_known header events v (Take at k) i n = refl
@@ -136,10 +136,10 @@ node_known header events v (Bytes at node port from octets) i n =
     rw (n.3, n.4, known_here (length header.nodes) node lt, first_port_known header events node i.one_net lt) refl
 
 -- what it takes was posted
-datagram_known : (header : HeaderValue) (events : List Event) (v : StormValue) (e : Event) → IsNext (posted_in header events) v e → no_datagram (posted_in header events) e ≡ None
+datagram_known : (header : HeaderValue) (events : List Event) (v : StormValue) (e : Event) → IsNext (posted_count header events) v e → no_datagram (posted_count header events) e ≡ None
 datagram_known header events v (BootAt at node word) n = refl
 datagram_known header events v (Turn at node) n = refl
-datagram_known header events v (Take at k) n = rw (lt-ltb k (posted_in header events) n.2) refl
+datagram_known header events v (Take at k) n = rw (lt-ltb k (posted_count header events) n.2) refl
 datagram_known header events v (Bytes at node port from octets) n = refl
 
 -- once all have booted, each node is up
@@ -159,7 +159,7 @@ takers_up header events v k i booted (Some a) is =
     all_up header events v a.node i booted (let lt = reached header (slice_get (posts (run header events)) k) a i.one_net is in let nodes = i.nodes in omega (arith, lt, nodes))
 
 -- who acts is up
-node_up : (header : HeaderValue) (events : List Event) (v : StormValue) (e : Event) → IsMade header events v → IsNext (posted_in header events) v e → not_up (scene header events) e ≡ None
+node_up : (header : HeaderValue) (events : List Event) (v : StormValue) (e : Event) → IsMade header events v → IsNext (posted_count header events) v e → not_up (scene header events) e ≡ None
 node_up header events v (BootAt at node word) i n = refl
 node_up header events v (Turn at node) i n = all_up header events v node i n.0 n.2
 node_up header events v (Take at k) i n = takers_up header events v k i n.0 (goes_to (networks header) (slice_get (posts (run header events)) k)) refl
@@ -175,6 +175,6 @@ last_cause s e time node datagram up =
     rw (time, node, datagram, up) (at_limit (nat_le most_events s.events || is_crowded (length s.posts) (room_at s.networks (actor s e))) s.events (length s.posts))
 
 -- nothing but a limit refuses a schedule's next event
-pub only_limit : (header : HeaderValue) (events : List Event) (v : StormValue) (e : Event) → IsMade header events v → IsNext (posted_in header events) v e → OnlyLimit (length events) (refusal (scene header events) e)
+pub only_limit : (header : HeaderValue) (events : List Event) (v : StormValue) (e : Event) → IsMade header events v → IsNext (posted_count header events) v e → OnlyLimit (length events) (refusal (scene header events) e)
 only_limit header events v e i n =
     last_cause (scene header events) e (no_time_back (event_at e) (last_at events) (in_time header events v e i n)) (node_known header events v e i n) (datagram_known header events v e n) (node_up header events v e i n)

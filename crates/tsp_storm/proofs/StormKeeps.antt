@@ -18,22 +18,22 @@ use Rattle.tsp_run.proofs.RunPromises.{runs-keep-promises}
 use Rattle.tsp_script.specs.Storms.{StormValue, storm_line}
 use Rattle.tsp_script.proofs.NodeNames.{node_name_fits}
 use Rattle.tsp_storm.specs.Kept.{StormKept}
-use Rattle.tsp_storm.specs.Schedules.{after_lines, events_of, generator_of, header_of, lines_of, made}
+use Rattle.tsp_storm.specs.Schedules.{after_lines, storm_events, generator_of, header_of, storm_lines, made}
 use Rattle.tsp_storm.proofs.Draws.{next_moves}
 use Rattle.tsp_storm.proofs.Heads.{rate_near, wall_near}
-use Rattle.tsp_storm.proofs.Mades.{after_is, length-lines_of, made_is}
+use Rattle.tsp_storm.proofs.Mades.{after_is, length-storm_lines, made_is}
 use Rattle.tsp_storm.proofs.Tame.{Tame, tame-next, tame-none}
 
 -- each beginning of a schedule is tame
-tame_is : (s : StormWords) → IsStorm s → (n : ℕ) → Tame (header_of s) (events_of s n) (made s n).generator
+tame_is : (s : StormWords) → IsStorm s → (n : ℕ) → Tame (header_of s) (storm_events s n) (made s n).generator
 tame_is s is zero = tame-none (header_of s) (made s 0).generator
 tame_is s is (suc n) =
     let i = made_is s is n in
     let v = (made s n).generator in
     let nodes = i.nodes in
-    let lines = length-lines_of s.nodes (generator_of s) in
+    let lines = length-storm_lines s.nodes (generator_of s) in
     let few = is.nodes in
-    tame-next (header_of s) (events_of s n) v (omega (arith, nodes, lines, few)) i.count (tame_is s is n) (next_moves (header_of s) (events_of s n) v i.some)
+    tame-next (header_of s) (storm_events s n) v (omega (arith, nodes, lines, few)) i.count (tame_is s is n) (next_moves (header_of s) (storm_events s n) v i.some)
 
 -- the name of the node with this number
 abbrev named : ℕ → List ℕ
@@ -48,23 +48,23 @@ named-is k small =
 line-name : (k : ℕ) (v : StormValue) → v.named ≡ 0 → (storm_line (after_lines k v)).name ≡ named k
 line-name k v none = ap named (let a = (after_is k v).named in omega (arith, a, none))
 
-lines-keep : (n : ℕ) (v : StormValue) → v.named ≡ 0 → n ≤ 64 → All (KeepsDrift 100) (lines_of n v)
+lines-keep : (n : ℕ) (v : StormValue) → v.named ≡ 0 → n ≤ 64 → All (KeepsDrift 100) (storm_lines n v)
 lines-keep zero v none few = All-nil (KeepsDrift 100)
 lines-keep (suc n) v none few =
     let u = after_lines n v in
-    All-push (KeepsDrift 100) (lines_of n v) (storm_line u) (lines-keep n v none (omega (arith, few)))
+    All-push (KeepsDrift 100) (storm_lines n v) (storm_line u) (lines-keep n v none (omega (arith, few)))
     (record { name = subst (λ x. IsName x) (sym (line-name n v none)) (named-is n (omega (arith, few))); rate = rate_near u; wall = (let near = wall_near u in omega (arith, near)) })
 
 -- and stands in its place
-line_at : (n k : ℕ) (v : StormValue) → k < n → slice_index_or (lines_of n v) k nobody ≡ storm_line (after_lines k v)
+line_at : (n k : ℕ) (v : StormValue) → k < n → slice_index_or (storm_lines n v) k nobody ≡ storm_line (after_lines k v)
 line_at zero k v lt = absurd (omega (arith, lt))
 line_at (suc n) k v lt = elim (cases_lt k n) [
-  | inl less ↦ get_or_append_left (lines_of n v) (storm_line (after_lines n v) ∷ []) nobody k (let len = length-lines_of n v in omega (arith, less, len)) ∙ line_at n k v less
+  | inl less ↦ get_or_append_left (storm_lines n v) (storm_line (after_lines n v) ∷ []) nobody k (let len = length-storm_lines n v in omega (arith, less, len)) ∙ line_at n k v less
   | inr last ↦ (
       let same : n ≡ k = omega (arith, lt, last) in
-      let here : length (lines_of n v) + 0 ≡ k = (let len = length-lines_of n v in omega (arith, len, same)) in
-      ap (λ i. slice_index_or (lines_of n v ++ storm_line (after_lines n v) ∷ []) i nobody) (sym here)
-      ∙ get_or-append-add (lines_of n v) (storm_line (after_lines n v) ∷ []) 0 nobody
+      let here : length (storm_lines n v) + 0 ≡ k = (let len = length-storm_lines n v in omega (arith, len, same)) in
+      ap (λ i. slice_index_or (storm_lines n v ++ storm_line (after_lines n v) ∷ []) i nobody) (sym here)
+      ∙ get_or-append-add (storm_lines n v) (storm_line (after_lines n v) ∷ []) 0 nobody
       ∙ ap (λ i. storm_line (after_lines i v)) same)
 ]
 
@@ -72,7 +72,7 @@ module _ (s : StormWords) (is : IsStorm s) where
   header_is : IsHeader (header_of s)
   header_is = record {
     small = omega arith;
-    few = (let len = length-lines_of s.nodes (generator_of s) in let few = is.nodes in omega (arith, len, few));
+    few = (let len = length-storm_lines s.nodes (generator_of s) in let few = is.nodes in omega (arith, len, few));
     kept = lines-keep s.nodes (generator_of s) refl is.nodes;
     few_nets = omega arith;
     nets_are = λ k d lt. absurd (omega (arith, lt));
@@ -81,7 +81,7 @@ module _ (s : StormWords) (is : IsStorm s) where
 
   names_differ : NamesDiffer (header_of s)
   names_differ m n lt less same =
-      let len = length-lines_of s.nodes (generator_of s) in
+      let len = length-storm_lines s.nodes (generator_of s) in
       let few = is.nodes in
       let one : named m ≡ named n =
       sym (ap (λ (l : NodeLine). l.name) (line_at s.nodes m (generator_of s) (omega (arith, lt, len))) ∙ line-name m (generator_of s) refl)
@@ -91,7 +91,7 @@ module _ (s : StormWords) (is : IsStorm s) where
   pub storm-kept : StormKept s
   storm-kept n valid =
       let header = header_of s in
-      let events = events_of s n in
+      let events = storm_events s n in
       let t = tame_is s is n in
       let accepted : Accepted header events = record { header_is = header_is; ranges = t.ranges; valid = valid } in
       let kept = runs-keep-premises header events accepted in

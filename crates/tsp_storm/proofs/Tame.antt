@@ -14,7 +14,7 @@ use Rattle.tsp_run.specs.Run.{posted_time, posts, run}
 use Rattle.tsp_script.specs.declared.storm.Draw.{Draw}
 use Rattle.tsp_script.specs.declared.storm.Draw.TheVariants.{Event as Gives, Ask}
 use Rattle.tsp_script.specs.Storms.{StormValue, moved, drawn, gave, boots_next, turns_one, asks_one, request_octets, recent_one, as_event, as_question, asks_or_turns, chosen, storm_draw, storm_take}
-use Rattle.tsp_storm.specs.Schedules.{event_of, next_event, posted_in, time_in}
+use Rattle.tsp_storm.specs.Schedules.{drawn_event, next_event, posted_count, posting_time}
 use Rattle.tsp_storm.proofs.BootWords.{Follow, boot-otherwise, moved-low, next_low}
 use Rattle.tsp_storm.proofs.Draws.{Moves}
 
@@ -22,7 +22,7 @@ use Rattle.tsp_storm.proofs.Draws.{Moves}
 abbrev Adds : HeaderValue → List Event → StormValue → Event → StormValue → Type 0
 Adds header events v (BootAt at node word) w = (word ≡ (moved v).state) × (w.state ≡ (moved v).state)
 Adds header events v (Turn at node) w = Unit {0}
-Adds header events v (Take at k) w = at ≤ time_in header events k + 20000000
+Adds header events v (Take at k) w = at ≤ posting_time header events k + 20000000
 Adds header events v (Bytes at node port from octets) w = (word : ℕ) × (octets ≡ request_octets word)
 
 abbrev AddsDraw : HeaderValue → List Event → StormValue → Draw × StormValue → Type 0
@@ -44,20 +44,20 @@ module _ (header : HeaderValue) (events : List Event) (v : StormValue) where
       (adds-if (posted == 0) (as_event (turns_one at u)) (as_question (recent_one posted (moved u)) at (moved u)) tt tt)
       ((moved u).state, refl)))
 
-  adds-take : (k : ℕ) (w : StormValue) → Adds header events v (storm_take k (time_in header events k) w).0 (storm_take k (time_in header events k) w).1
-  adds-take k w = by_case (nat_le w.at (time_in header events k + 20000000)) refl where
-    by_case : (b : Bool) → nat_le w.at (time_in header events k + 20000000) ≡ b → let r = (if b then (Take w.at k, gave w.at w) else turns_one w.at w) in Adds header events v r.0 r.1
-    by_case true e = leb-true w.at (time_in header events k + 20000000) e
+  adds-take : (k : ℕ) (w : StormValue) → Adds header events v (storm_take k (posting_time header events k) w).0 (storm_take k (posting_time header events k) w).1
+  adds-take k w = by_case (nat_le w.at (posting_time header events k + 20000000)) refl where
+    by_case : (b : Bool) → nat_le w.at (posting_time header events k + 20000000) ≡ b → let r = (if b then (Take w.at k, gave w.at w) else turns_one w.at w) in Adds header events v r.0 r.1
+    by_case true e = leb-true w.at (posting_time header events k + 20000000) e
     by_case false e = tt
 
-  adds-of : (d : Draw) (w : StormValue) → AddsDraw header events v (d, w) → Adds header events v (event_of header events d w).0 (event_of header events d w).1
-  unfolding event_of
+  adds-of : (d : Draw) (w : StormValue) → AddsDraw header events v (d, w) → Adds header events v (drawn_event header events d w).0 (drawn_event header events d w).1
+  unfolding drawn_event
   adds-of (Gives e) w a = a
   adds-of (Ask k) w a = adds-take k w
 
   adds-next : Adds header events v (next_event header events v).0 (next_event header events v).1
   unfolding next_event
-  adds-next = let d : Draw × StormValue = storm_draw (posted_in header events) v in adds-of d.0 d.1 (adds-draw (posted_in header events))
+  adds-next = let d : Draw × StormValue = storm_draw (posted_count header events) v in adds-of d.0 d.1 (adds-draw (posted_count header events))
 
 -- a list of octets
 abbrev Small : List ℕ → Type 0
@@ -109,7 +109,7 @@ pub tame-none : (header : HeaderValue) (v : StormValue) → Tame header [] v
 tame-none header v = record { ranges = All-nil IsInRange; sealed = tt; prompt = tt; apart = tt; follow = λ le. tt }
 
 module _ (header : HeaderValue) (events : List Event) (v w : StormValue) (t : Tame header events v) where
-  tame-event : (e : Event) → v.nodes ≤ 64 → v.given ≡ length events → Moves (posted_in header events) v e w → Adds header events v e w → Tame header (e ∷ events) w
+  tame-event : (e : Event) → v.nodes ≤ 64 → v.given ≡ length events → Moves (posted_count header events) v e w → Adds header events v e w → Tame header (e ∷ events) w
   tame-event (BootAt at node word) few count m a =
       let low : word % 128 ≡ next_low (v.state % 128) = ap (λ z. z % 128) a.0 ∙ moved-low v in
       let booting : v.given < v.nodes = m.next.2 in
@@ -136,7 +136,7 @@ module _ (header : HeaderValue) (events : List Event) (v w : StormValue) (t : Ta
   } where
     recent : (p : Posted) → slice_get (posts (run header events)) k ≡ Some p → at ≤ p.at + LIFE
     recent p there =
-        let time : time_in header events k ≡ p.at = ap (λ o. unwrap_or (posted_time o) 0) there in
+        let time : posting_time header events k ≡ p.at = ap (λ o. unwrap_or (posted_time o) 0) there in
         omega (arith, a, time)
   tame-event (Bytes at node port from octets) few count m a = record {
     ranges = All-cons IsInRange (Bytes at node port from octets) events (subst (λ o. Small o) (sym a.1) (small-request a.0)) t.ranges;
@@ -147,6 +147,6 @@ module _ (header : HeaderValue) (events : List Event) (v w : StormValue) (t : Ta
   }
 
 -- one event more
-pub tame-next : (header : HeaderValue) (events : List Event) (v : StormValue) → v.nodes ≤ 64 → v.given ≡ length events → Tame header events v → Moves (posted_in header events) v (next_event header events v).0 (next_event header events v).1 →
+pub tame-next : (header : HeaderValue) (events : List Event) (v : StormValue) → v.nodes ≤ 64 → v.given ≡ length events → Tame header events v → Moves (posted_count header events) v (next_event header events v).0 (next_event header events v).1 →
     Tame header ((next_event header events v).0 ∷ events) (next_event header events v).1
 tame-next header events v few count t m = tame-event header events v (next_event header events v).1 t (next_event header events v).0 few count m (adds-next header events v)

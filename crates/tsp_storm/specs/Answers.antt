@@ -10,7 +10,7 @@ use Rattle.tsp_storm.specs.declared.making.Stopped.{Stopped}
 use Rattle.tsp_storm.specs.declared.making.Stopped.TheVariants.{Limit as NoRoomFor, OutOfMemory as NoMemory}
 use Rattle.tsp_storm.specs.declared.summary.Summary.{Summary}
 use Rattle.tsp_storm.specs.Kept.{KeptOutright}
-use Rattle.tsp_storm.specs.Schedules.{header_of, events_of, event_after}
+use Rattle.tsp_storm.specs.Schedules.{header_of, storm_events, event_after}
 use Rattle.tsp_storm.specs.Summaries.{summary, summary_text}
 use Rattle.tsp_args.specs.declared.storm.StormWords.{StormWords}
 use Rattle.tsp_run.specs.Refusals.{Valid, scene, refusal}
@@ -21,17 +21,17 @@ IsLimit cause = (events : ℕ) × (posted : ℕ) × (cause ≡ Some (NoRoom even
 
 -- why the event after so many is refused, if it is
 abbrev pub refused_after : StormWords → ℕ → Option EventFault
-refused_after s n = refusal (scene (header_of s) (events_of s n)) (event_after s n)
+refused_after s n = refusal (scene (header_of s) (storm_events s n)) (event_after s n)
 
 -- the event after so many is the first that is refused, and there is no room for it
 pub record StopsAfter (s : StormWords) (n : ℕ) : Type 0 where
   pub within : n < s.events
-  pub valid : Valid (header_of s) (events_of s n)
+  pub valid : Valid (header_of s) (storm_events s n)
   pub limit : IsLimit (refused_after s n)
 
 -- how a storm ends and what it writes, if no write fails and there is memory: the summary of the run of its whole schedule, which keeps the promises, or the number of the event for which there is no room
 abbrev pub IsStormAnswer : StormWords → StormEnd → List ℕ → Type 0
-IsStormAnswer s Done text = Valid (header_of s) (events_of s s.events) × KeptOutright (header_of s) (events_of s s.events) × (text ≡ summary (header_of s) (events_of s s.events))
+IsStormAnswer s Done text = Valid (header_of s) (storm_events s s.events) × KeptOutright (header_of s) (storm_events s s.events) × (text ≡ summary (header_of s) (storm_events s s.events))
 IsStormAnswer s Limit text = (n : ℕ) × StopsAfter s n × (text ≡ limit_line (n + 1))
 IsStormAnswer s WriteFault text = ⊥
 IsStormAnswer s OutOfMemory text = ⊥
@@ -65,9 +65,9 @@ HasEventRoom s = (n : ℕ) → n < s.events → ¬ IsLimit (refused_after s n)
 -- this is the summary of the run of the whole schedule, of which no event is refused and which keeps the promises
 abbrev pub SumsUp : StormWords → Summary → Type 0
 SumsUp s t =
-    Valid (header_of s) (events_of s s.events)
-    × KeptOutright (header_of s) (events_of s s.events)
-    × (summary_text t.events t.posted t.counts.took t.counts.corrects t.counts.masters ≡ summary (header_of s) (events_of s s.events))
+    Valid (header_of s) (storm_events s s.events)
+    × KeptOutright (header_of s) (storm_events s s.events)
+    × (summary_text t.events t.posted t.counts.took t.counts.corrects t.counts.masters ≡ summary (header_of s) (storm_events s s.events))
 
 -- why the whole schedule didn't happen
 abbrev pub HaltsStorm : StormWords → Stopped → Type 0

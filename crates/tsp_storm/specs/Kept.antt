@@ -10,7 +10,7 @@ use Rattle.tsp_run.specs.Promises.{Promises}
 use Rattle.tsp_run.specs.Refusals.{Valid}
 use Rattle.tsp_run.specs.Run.{run}
 use Rattle.tsp_run.specs.Setting.{SetBy}
-use Rattle.tsp_storm.specs.Schedules.{header_of, events_of}
+use Rattle.tsp_storm.specs.Schedules.{header_of, storm_events}
 
 -- a run that keeps the promises, and what they ask too, with nothing left to ask but that few sends begin: no peer's datagram is forged in it, none is taken too late, boots have words of their own and nodes names of their own. Few begin where the run is short
 pub record KeptOutright (header : HeaderValue) (events : List Event) : Type 0 where
@@ -23,4 +23,4 @@ pub record KeptOutright (header : HeaderValue) (events : List Event) : Type 0 wh
 
 -- so it is of each beginning of the schedule of these words of which nothing is refused
 abbrev pub StormKept : StormWords → Type 0
-StormKept s = (n : ℕ) → Valid (header_of s) (events_of s n) → KeptOutright (header_of s) (events_of s n)
+StormKept s = (n : ℕ) → Valid (header_of s) (storm_events s n) → KeptOutright (header_of s) (storm_events s n)

@@ -4,7 +4,7 @@ use Rattle.tsp_storm.specs.declared.making.Making.{Making}
 use Rattle.tsp_storm.specs.declared.making.Stopped.{Stopped}
 use Rattle.tsp_storm.specs.declared.making.Stopped.TheVariants.{Limit, OutOfMemory}
 use Rattle.tsp_storm.specs.Answers.{StopsAfter}
-use Rattle.tsp_storm.specs.Schedules.{header_of, events_of, made}
+use Rattle.tsp_storm.specs.Schedules.{header_of, storm_events, made}
 use Rattle.tsp_args.specs.Storms.{IsStorm}
 use Rattle.tsp_args.specs.declared.storm.StormWords.{StormWords}
 use Rattle.tsp_world.specs.WorldStands.{WorldStands}
@@ -13,7 +13,7 @@ use Rattle.tsp_world.specs.WorldStands.{WorldStands}
 pub record MakingStands (s : StormWords) (m : Making) : Type 0 where
   pub words : IsStorm s
   pub generator : m.storm ≡ (made s m.storm.given).generator
-  pub world : WorldStands (header_of s) (events_of s m.storm.given) m.world
+  pub world : WorldStands (header_of s) (storm_events s m.storm.given) m.world
 
 -- why the event after so many wasn't made
 abbrev pub StopsMaking : StormWords → ℕ → Stopped → Type 0

@@ -14,9 +14,9 @@ after_lines zero v = v
 after_lines (suc n) v = storm_named (after_lines n v)
 
 -- the lines of so many nodes, in order
-abbrev pub lines_of : ℕ → StormValue → List NodeLine
-lines_of zero v = []
-lines_of (suc n) v = lines_of n v ++ storm_line (after_lines n v) ∷ []
+abbrev pub storm_lines : ℕ → StormValue → List NodeLine
+storm_lines zero v = []
+storm_lines (suc n) v = storm_lines n v ++ storm_line (after_lines n v) ∷ []
 
 -- the generator that has given nothing
 abbrev pub generator_of : StormWords → StormValue
@@ -24,24 +24,24 @@ generator_of s = storm_begins s.seed s.nodes
 
 -- the header: a drift of 100 parts in a million, and a line for each node; a candidate needs no majority, and all nodes are on one network
 abbrev pub header_of : StormWords → HeaderValue
-header_of s = record { drift = 100; strict = false; nodes = lines_of s.nodes (generator_of s); nets = [] }
+header_of s = record { drift = 100; strict = false; nodes = storm_lines s.nodes (generator_of s); nets = [] }
 
 -- how many datagrams a schedule's run has posted
-abbrev pub posted_in : HeaderValue → List Event → ℕ
-posted_in header events = length (posts (run header events))
+abbrev pub posted_count : HeaderValue → List Event → ℕ
+posted_count header events = length (posts (run header events))
 
 -- the true time of the datagram with this number in a schedule's run; 0 where there is none
-abbrev pub time_in : HeaderValue → List Event → ℕ → ℕ
-time_in header events k = unwrap_or (posted_time (slice_get (posts (run header events)) k)) 0
+abbrev pub posting_time : HeaderValue → List Event → ℕ → ℕ
+posting_time header events k = unwrap_or (posted_time (slice_get (posts (run header events)) k)) 0
 
 -- the event that comes of a draw, and the generator after it: a question is answered by the run so far
-unfoldable pub event_of : HeaderValue → List Event → Draw → StormValue → Event × StormValue
-event_of header before (Gives e) v = (e, v)
-event_of header before (Ask k) v = storm_take k (time_in header before k) v
+unfoldable pub drawn_event : HeaderValue → List Event → Draw → StormValue → Event × StormValue
+drawn_event header before (Gives e) v = (e, v)
+drawn_event header before (Ask k) v = storm_take k (posting_time header before k) v
 
 -- what this generator gives after these events
 unfoldable pub next_event : HeaderValue → List Event → StormValue → Event × StormValue
-next_event header before v = let d = storm_next (posted_in header before) None v in event_of header before d.0 d.1
+next_event header before v = let d = storm_next (posted_count header before) None v in drawn_event header before d.0 d.1
 
 -- events, the newest first, and the generator that has given them
 pub record Made : Type 0 where
@@ -57,8 +57,8 @@ abbrev pub made : StormWords → ℕ → Made
 made s zero = record { events = []; generator = after_lines s.nodes (generator_of s) }
 made s (suc n) = one_more_made (header_of s) (made s n)
 
-abbrev pub events_of : StormWords → ℕ → List Event
-events_of s n = (made s n).events
+abbrev pub storm_events : StormWords → ℕ → List Event
+storm_events s n = (made s n).events
 
 -- the event that comes after so many
 abbrev pub event_after : StormWords → ℕ → Event

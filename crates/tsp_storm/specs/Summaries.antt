@@ -1,21 +1,17 @@
 -- What is said of a schedule's run in one line.
+use Rattle.tsp_rules.specs.RoundRows.{is_correct}
 use Rattle.std.specs.Prelude.{◌≡◌, ℕ, Bool, true, false, List, [], ◌∷◌, ◌++◌, length, count_by, codes, decimal}
 use Rattle.tsp_rules.specs.Values.{Act, Took, Become, Correct, Event, Master}
 use Rattle.tsp_base.specs.Words.{HeaderValue}
 use Rattle.tsp_storm.specs.declared.counts.Counts.{Counts}
-use Rattle.tsp_storm.specs.Schedules.{posted_in}
+use Rattle.tsp_storm.specs.Schedules.{posted_count}
 use Rattle.tsp_run.specs.declared.line.Line.{Line}
 use Rattle.tsp_run.specs.Run.{told}
 
 -- octets reached a node
-abbrev pub is_took : Act → Bool
-is_took (Took from taken) = true
-is_took _ = false
-
--- a clock was corrected
-abbrev pub is_correct : Act → Bool
-is_correct (Correct amount stepped shown) = true
-is_correct _ = false
+abbrev pub is_arrival : Act → Bool
+is_arrival (Took from taken) = true
+is_arrival _ = false
 
 -- a node became master
 abbrev pub is_mastership : Act → Bool
@@ -28,7 +24,7 @@ acts_like is_such lines = count_by (λ l. is_such l.placed.act) lines
 
 -- these are the numbers of datagrams taken, of corrections and of masterships in these lines
 pub record CountsLines (lines : List Line) (c : Counts) : Type 0 where
-  pub took : c.took ≡ acts_like is_took lines
+  pub took : c.took ≡ acts_like is_arrival lines
   pub corrects : c.corrects ≡ acts_like is_correct lines
   pub masters : c.masters ≡ acts_like is_mastership lines
 
@@ -40,4 +36,4 @@ summary_text events posted took corrects masters =
 -- the summary of a schedule's run
 abbrev pub summary : HeaderValue → List Event → List ℕ
 summary header events = let lines = told header events in
-    summary_text (length events) (posted_in header events) (acts_like is_took lines) (acts_like is_correct lines) (acts_like is_mastership lines)
+    summary_text (length events) (posted_count header events) (acts_like is_arrival lines) (acts_like is_correct lines) (acts_like is_mastership lines)

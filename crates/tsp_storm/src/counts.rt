@@ -1,6 +1,7 @@
 //! What is counted of a run.
 ghost use Rattle.std.specs.Prelude.{◌≡◌, ◌+◌, ◌<◌, ◌^◌, ◌≤◌, [], length, if◌then◌else◌};
-ghost use Rattle.tsp_storm.specs.Summaries.{acts_like, is_took, is_correct, is_mastership, CountsLines};
+ghost use Rattle.tsp_rules.specs.RoundRows.{is_correct};
+ghost use Rattle.tsp_storm.specs.Summaries.{acts_like, is_arrival, is_mastership, CountsLines};
 
 use tsp_base::act::Act;
 use tsp_base::role::Role;
@@ -36,7 +37,7 @@ impl Counts {
         requires took { self.old.took + 1 < 2 ^ 128 }
         requires corrects { self.old.corrects + 1 < 2 ^ 128 }
         requires masters { self.old.masters + 1 < 2 ^ 128 }
-        ensures took { self.new.took ≡ self.old.took + (if is_took act.now then 1 else 0) }
+        ensures took { self.new.took ≡ self.old.took + (if is_arrival act.now then 1 else 0) }
         ensures corrects { self.new.corrects ≡ self.old.corrects + (if is_correct act.now then 1
             else 0) }
         ensures masters { self.new.masters ≡ self.old.masters + (if is_mastership act.now then 1
@@ -55,7 +56,7 @@ impl Counts {
         requires took { self.old.took + length lines.now < 2 ^ 128 }
         requires corrects { self.old.corrects + length lines.now < 2 ^ 128 }
         requires masters { self.old.masters + length lines.now < 2 ^ 128 }
-        ensures took { self.new.took ≡ self.old.took + acts_like is_took lines.now }
+        ensures took { self.new.took ≡ self.old.took + acts_like is_arrival lines.now }
         ensures corrects { self.new.corrects ≡ self.old.corrects + acts_like is_correct lines.now }
         ensures masters { self.new.masters ≡ self.old.masters + acts_like is_mastership lines.now }
         ensures few_took { self.new.took ≤ self.old.took + length lines.now }

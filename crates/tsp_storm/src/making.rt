@@ -9,7 +9,7 @@ ghost use Rattle.tsp_script.specs.declared.storm.Draw.{Draw};
 ghost use Rattle.tsp_base.specs.Plains.{event_in};
 ghost use Rattle.tsp_script.specs.Storms.{storm_take, draw_of, as_event, IsChoice, request_event};
 ghost use Rattle.tsp_storm.specs.Makings.{MakingStands, StopsMaking};
-ghost use Rattle.tsp_storm.specs.Schedules.{header_of, events_of, event_after, next_event};
+ghost use Rattle.tsp_storm.specs.Schedules.{header_of, storm_events, event_after, next_event};
 ghost use Rattle.tsp_args.specs.Storms.{IsStorm};
 ghost use Rattle.tsp_world.specs.WorldStands.{WorldStands, Occurs, Declines};
 
@@ -127,11 +127,11 @@ fn happen(
 ) -> Result<(), Stopped>
     requires words { IsStorm words.now }
     requires more { world.old.events < words.now.events }
-    requires stands { WorldStands (header_of words.now) (events_of words.now world.old.events)
+    requires stands { WorldStands (header_of words.now) (storm_events words.now world.old.events)
         world.old }
     requires event { draw_of choice.now ≡ Draw.Event (event_after words.now world.old.events) }
     requires range { IsChoice (length world.old.sent.items) choice.now }
-    ensures stands { OnOk result (WorldStands (header_of words.now) (events_of words.now
+    ensures stands { OnOk result (WorldStands (header_of words.now) (storm_events words.now
         (world.old.events + 1)) world.new) }
     ensures stops { IfErr result (λ stop. StopsMaking words.now world.old.events stop) }
 {
@@ -170,7 +170,7 @@ impl Making {
         ensures stands { OnOk result (MakingStands words.now self.new) }
         ensures given { OnOk result (self.new.storm.given ≡ self.old.storm.given + 1) }
         ensures event { OnOk result (WorldStands (header_of words.now) (event_after words.now
-            self.old.storm.given ∷ events_of words.now self.old.storm.given) self.new.world) }
+            self.old.storm.given ∷ storm_events words.now self.old.storm.given) self.new.world) }
         ensures stops { IfErr result (λ stop. StopsMaking words.now self.old.storm.given stop) }
     {
         let world = &mut self.world;

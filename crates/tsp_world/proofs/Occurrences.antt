@@ -11,7 +11,7 @@ use Rattle.tsp_run.specs.Refusals.{Allowed, actor, scene, refusal}
 use Rattle.tsp_run.specs.Run.{event_at}
 use Rattle.tsp_run.proofs.RefusalLemmas.{allowed, refusal-alike}
 use Rattle.tsp_world.specs.declared.world.World.{World}
-use Rattle.tsp_world.specs.WorldStands.{CanStep, Declines, Happens, Occurs, Stays, WorldStands, scene_of}
+use Rattle.tsp_world.specs.WorldStands.{CanStep, Declines, HappensInWorld, Occurs, Stays, WorldStands, scene_of}
 use Rattle.tsp_world.proofs.WorldLemmas.{Alike-stands}
 
 -- what the world refuses, its schedule refuses
@@ -38,7 +38,7 @@ pub lacks_memory : (e : Event) (old new : World) (cause : Option EventFault) →
 lacks_memory e old new cause refused is stays header events w = (inr (sym (refuses header events old e w) ∙ sym refused ∙ is, refl), stays header events w)
 
 -- an event happened after room was made for it
-pub occurred : (e : Event) (old ready new : World) (cause : Option EventFault) → cause ≡ refusal (scene_of old) e → cause ≡ None → Stays old ready → Happens e ready new → Occurs e old new
+pub occurred : (e : Event) (old ready new : World) (cause : Option EventFault) → cause ≡ refusal (scene_of old) e → cause ≡ None → Stays old ready → HappensInWorld e ready new → Occurs e old new
 occurred e old ready new cause refused is stays happens header events w =
     let none = sym (refuses header events old e w) ∙ sym refused ∙ is in
     (none, happens header events (stays header events w) none)

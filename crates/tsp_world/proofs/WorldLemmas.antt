@@ -20,7 +20,7 @@ use Rattle.tsp_run.specs.Refusals.{scene, refusal}
 use Rattle.tsp_run.specs.Run.{run, joins, happening, steps, step_tick, event_at}
 use Rattle.tsp_run.specs.Setup.{node_line, past_of, rests}
 use Rattle.tsp_networks.specs.Posts.{PostsValue}
-use Rattle.tsp_world.specs.WorldStands.{WorldStands, PlaceStands, UpBegun, UpStands, Happens, Idles, Notes, Passes, up_at, is_node, scene_of}
+use Rattle.tsp_world.specs.WorldStands.{WorldStands, PlaceStands, UpBegun, UpStands, HappensInWorld, Idles, Notes, Passes, up_at, is_node, scene_of}
 use Rattle.tsp_gateway.proofs.RestLemmas.{turn_rests}
 use Rattle.tsp_gateway.proofs.StepLemmas.{GatewayStands_step, GatewayBegun_in_step}
 use Rattle.tsp_run.proofs.NetworkLemmas.{some_same}
@@ -167,7 +167,7 @@ pub accepted : (header : HeaderValue) (events : List Event) (world : World) → 
 accepted header events world w = record { header_is = subst (λ h. IsHeader h) w.header_is world.ready.header_is; ranges = w.ranges; valid = w.valid }
 
 -- a node whose deadline hasn't come has looked at its timers, and has done nothing
-pub WorldStands-rested : (at n : ℕ) (world new : World) → vec_len world.nodes ≡ length world.nodes.items → n < vec_len world.nodes → Idles at n world → Passes at world new → Happens (Turn at n) world new
+pub WorldStands-rested : (at n : ℕ) (world new : World) → vec_len world.nodes ≡ length world.nodes.items → n < vec_len world.nodes → Idles at n world → Passes at world new → HappensInWorld (Turn at n) world new
 WorldStands-rested at n world new len inside idles passes header events w none =
     let found = up_place world.nodes.items n (slice_get world.nodes.items n) refl ((Alike-stands header events world len w).up n ∙ up-down (scene header events) n (refusal-none (scene header events) (Turn at n) none).up) in
     let node = found.0 in

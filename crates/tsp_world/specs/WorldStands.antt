@@ -74,8 +74,8 @@ abbrev pub Stays : World → World → Type 0
 Stays old new = (header : HeaderValue) (events : List Event) → WorldStands header events old → WorldStands header events new
 
 -- an event has happened
-abbrev pub Happens : Event → World → World → Type 0
-Happens e old new = (header : HeaderValue) (events : List Event) → WorldStands header events old → refusal (scene header events) e ≡ None → WorldStands header (e ∷ events) new
+abbrev pub HappensInWorld : Event → World → World → Type 0
+HappensInWorld e old new = (header : HeaderValue) (events : List Event) → WorldStands header events old → refusal (scene header events) e ≡ None → WorldStands header (e ∷ events) new
 
 -- nothing refuses an event, and it has happened
 abbrev pub Occurs : Event → World → World → Type 0

@@ -18,7 +18,7 @@ ghost use Rattle.tsp_run.specs.declared.posted.Posted.{Posted};
 ghost use Rattle.tsp_networks.specs.Posts.{stamp_in};
 ghost use Rattle.tsp_networks.specs.Sheets.{acts_on};
 ghost use Rattle.tsp_world.specs.WorldStands.{scene_of, IsReady, CanStep, CanNote, Notes, Passes};
-ghost use Rattle.tsp_world.specs.WorldStands.{Happens, HappensBy, Idles, RestsFor, Stays};
+ghost use Rattle.tsp_world.specs.WorldStands.{HappensInWorld, HappensBy, Idles, RestsFor, Stays};
 
 use crate::step;
 use crate::world::World;
@@ -68,7 +68,7 @@ impl World {
         requires ready { IsReady (room (ports_on node (networks self.old.header))) self.old }
         requires able { CanStep at node self.old }
         requires node { node < vec_len self.old.nodes }
-        ensures happens { OnOk result (Happens (Event.Boot at node word) self.old self.new) }
+        ensures happens { OnOk result (HappensInWorld (Event.Boot at node word) self.old self.new) }
         ensures kept { OnErr result (Stays self.old self.new) }
     {
         let tick = self.tick(node, at);
@@ -143,7 +143,7 @@ impl World {
         requires ready { IsReady (room (ports_on node (networks self.old.header))) self.old }
         requires able { CanStep at node self.old }
         requires node { node < vec_len self.old.nodes }
-        ensures { Happens (Event.Turn at node) self.old self.new }
+        ensures { HappensInWorld (Event.Turn at node) self.old self.new }
     {
         let tick = self.tick(node, at);
         self.last = at;
@@ -162,7 +162,7 @@ impl World {
         requires goes { goes_to (networks self.old.header) (slice_get self.old.sent.items k) ≡ Some
             address }
         requires allowed { Allowed (scene_of self.old) (Event.Take at k) }
-        ensures { Happens (Event.Take at k) self.old self.new }
+        ensures { HappensInWorld (Event.Take at k) self.old self.new }
     {
         let Some(way) = self.sent.way(k) else {
             unreachable!()

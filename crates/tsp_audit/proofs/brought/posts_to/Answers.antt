@@ -5,7 +5,7 @@ use Rattle.std.proofs.lemmas.Bool.{eqb-false, eqb-true}
 use Rattle.tsp_rules.specs.Values.{Post, Message, PeerId, Place, Peer}
 use Rattle.tsp_base.specs.Words.{Acts, Deed, MessageValue, peer_of}
 use Rattle.tsp_audit.specs.Acting.{PostsTo}
-use Rattle.tsp_history.specs.HeldActs.{message_of}
+use Rattle.tsp_history.specs.HeldActs.{held_message}
 use Rattle.tsp_history.specs.Histories.{deed_of}
 use Rattle.tsp_audit.proofs.brought.posts_to.Goals as goal
 
@@ -20,6 +20,6 @@ pub returns-in-PostMessage-Peer-default-default-default : goal.returns-in-PostMe
 returns-in-PostMessage-Peer-default-default-default c =
     let o = c.in-PostMessage-Peer-default-default-default in
     let line = c.args.line.now in
-    let m : MessageValue = message_of o.field-1 o.field-2 o.field-3 o.ensures.act.0 in
+    let m : MessageValue = held_message o.field-1 o.field-2 o.field-3 o.ensures.act.0 in
     let deed : deed_of line.act ≡ Acts (Post o.field-0 (Message m)) = ap deed_of o.ensures.act.1 in
     posts-decides _ (deed_of line.act) o.p m c.args.node (subst (λ (to : Place). deed_of line.act ≡ Acts (Post to (Message m))) o.field-0-is deed) refl

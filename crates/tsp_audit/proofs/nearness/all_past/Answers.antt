@@ -1,6 +1,6 @@
 use Rattle.std.proofs.Common.{◌≡◌, ℕ, pos, subst, refl, arith, inl, inr, get_or, None}
 use Rattle.std.proofs.lemmas.Bool.{cases_lt}
-use Rattle.tsp_audit.specs.Agreeing.{IsPast}
+use Rattle.tsp_audit.specs.Agreeing.{IsReadBy}
 use Rattle.tsp_audit.specs.declared.round_correction.NodeState.{NodeState}
 use Rattle.tsp_audit.proofs.AgreementSteps.{state-at}
 use Rattle.tsp_audit.proofs.nearness.all_past.Goals as goal
@@ -13,7 +13,7 @@ loop-n-preserved c n a lt at =
       | inr le ↦
           let e : c.loop-n.n ≡ n = omega (arith, lt, le) in
           let here : get_or c.args.states.now c.loop-n.n none ≡ a = state-at c.args.states.now c.loop-n.n n none a at e in
-          subst (λ (s : NodeState). IsPast c.args.at s) here (c.if-not-is_past.ensures refl)
+          subst (λ (s : NodeState). IsReadBy c.args.at s) here (c.if-not-is_past.ensures refl)
     ]
 
 pub returns : goal.returns

@@ -2,7 +2,7 @@ use Rattle.std.proofs.Common.{◌≡◌, inl, inr, refl, rules, subst, List, ◌
 use Rattle.tsp_args.specs.Ports.{all_peers}
 use Rattle.tsp_io.specs.declared.addr.Addr.{Addr}
 use Rattle.tsp_io.specs.Links.{NotesReceive}
-use Rattle.tsp_query.specs.Outside.{bound}
+use Rattle.tsp_query.specs.Outside.{after_bind}
 use Rattle.tsp_query.proofs.FaultLemmas.{Counts-from, Counts-same}
 use Rattle.tsp_query.proofs.OutsideLemmas.{NotesBind_failed, NotesBind_made, NotesBind_refused, Notes_same, Tells_bound}
 use Rattle.tsp_daemon.proofs.command.serve_words.Goals as goal
@@ -16,7 +16,7 @@ returns-in-Bound-clause-serves g c = λ o wall word written k.
     inr (
       Notes_same _ _ _ _ c.serve_bound.ensures.same noted,
       c.serve_bound.ensures.walled o.readings k.tells.readings_are,
-      rw (← c.bind.ensures.same.2) (c.serve_bound.ensures.serves (bound o) wall word written (record { tells = tells; wall_is = k.wall_is; word_is = k.word_is; written_is = k.written_is })),
+      rw (← c.bind.ensures.same.2) (c.serve_bound.ensures.serves (after_bind o) wall word written (record { tells = tells; wall_is = k.wall_is; word_is = k.word_is; written_is = k.written_is })),
     )
 
 pub returns-in-Failed-clause-serves : goal.returns-in-Failed-clause-serves

@@ -1,7 +1,7 @@
 use Rattle.std.proofs.Common.{rules, arith, ◌≡◌, ◌∙◌, ◌++◌, ◌+◌, ap, sym, append_assoc, get_or, length, drop}
 use Rattle.tsp_rules.specs.Values.{Placed}
 use Rattle.tsp_lines.proofs.Outputs.{Grows-trans}
-use Rattle.tsp_daemon.specs.Posts.{line_of, lines_of, send_of}
+use Rattle.tsp_daemon.specs.Posts.{line_of, act_lines, send_of}
 use Rattle.tsp_daemon.proofs.LineLemmas.{lines_here, tells_until}
 use Rattle.tsp_daemon.proofs.lines.tell.Goals as goal
 
@@ -13,8 +13,8 @@ loop-placed-preserved g c =
     let rest = drop (c.loop-placed.placed-index + 1) c.args.acts.now in
     let line : c.as_slice.result.now ≡ line_of c.args.turn c.args.tick c.loop-placed.number item = c.as_slice.ensures.value ∙ c.line_of.ensures in
     let here = lines_here c.args.turn c.args.tick c.loop-placed.number c.args.acts.now c.loop-placed.placed-index item (search rules) item_is
-    ∙ ap (λ xs. xs ++ lines_of c.args.turn c.args.tick (c.loop-placed.number + length (send_of item.act)) rest) (sym line)
-    ∙ ap (λ n. c.as_slice.result.now ++ lines_of c.args.turn c.args.tick (c.loop-placed.number + n) rest) (sym c.posts_by-number.ensures.count) in
+    ∙ ap (λ xs. xs ++ act_lines c.args.turn c.args.tick (c.loop-placed.number + length (send_of item.act)) rest) (sym line)
+    ∙ ap (λ n. c.as_slice.result.now ++ act_lines c.args.turn c.args.tick (c.loop-placed.number + n) rest) (sym c.posts_by-number.ensures.count) in
     record {
       told = (
         told.0 ++ c.as_slice.result.now,
@@ -32,5 +32,5 @@ returns-in-Err-clause-err g c =
     let item_is : get_or c.args.acts.now c.loop-placed.placed-index item ≡ item = search rules in
     let line : c.as_slice.result.now ≡ line_of c.args.turn c.args.tick c.loop-placed.number item = c.as_slice.ensures.value ∙ c.line_of.ensures in
     let here = lines_here c.args.turn c.args.tick c.loop-placed.number c.args.acts.now c.loop-placed.placed-index item (search rules) item_is
-    ∙ ap (λ xs. xs ++ lines_of c.args.turn c.args.tick (c.loop-placed.number + length (send_of item.act)) (drop (c.loop-placed.placed-index + 1) c.args.acts.now)) (sym line) in
+    ∙ ap (λ xs. xs ++ act_lines c.args.turn c.args.tick (c.loop-placed.number + length (send_of item.act)) (drop (c.loop-placed.placed-index + 1) c.args.acts.now)) (sym line) in
     tells_until c.in-Err.end _ told.0 c.as_slice.result.now _ _ _ _ told.1 (told.2 ∙ ap (λ xs. told.0 ++ xs) here) c.in-Err.ensures.err

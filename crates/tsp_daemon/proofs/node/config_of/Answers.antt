@@ -1,7 +1,7 @@
 -- One port more.
 use Rattle.std.proofs.Common.{◌≡◌, ◌∙◌, ◌+◌, ◌∷◌, [], ◌++◌, ap, arith, drop, length}
 use Rattle.tsp_gateway.specs.GateConfigs.{GateConfigValue}
-use Rattle.tsp_daemon.specs.Nodes.{setup_of, setups_from}
+use Rattle.tsp_daemon.specs.Nodes.{numbered_setup, setups_from}
 use Rattle.tsp_daemon.proofs.NodeLemmas.{peers_more, setups_more}
 use Rattle.tsp_daemon.proofs.node.config_of.Goals as goal
 
@@ -19,7 +19,7 @@ loop-port-preserved c =
     let ports = c.args.words.now.ports in
     let peers = c.get.result.now in
     let before = c.loop-port.config.ports in
-    let is : c.join.new.config ≡ record c.loop-port.config { ports = before ++ setup_of c.loop-port.done (length peers) ∷ [] } = c.in_ok-join.ensures in
+    let is : c.join.new.config ≡ record c.loop-port.config { ports = before ++ numbered_setup c.loop-port.done (length peers) ∷ [] } = c.in_ok-join.ensures in
     record {
       name = ap (λ (v : GateConfigValue). v.name) is ∙ c.loop-port.invariant.name;
       may = ap (λ (v : GateConfigValue). v.may) is ∙ c.loop-port.invariant.may;

@@ -1,6 +1,6 @@
 use Rattle.std.proofs.Common.{◌≡◌, ◌∙◌, refl, ap, arith, ◌+◌, ◌-◌, ◌≤◌}
 use Rattle.tsp_query.specs.Arrivals.{asked_from}
-use Rattle.tsp_query.specs.Clocks.{reading}
+use Rattle.tsp_query.specs.Clocks.{tick_given}
 use Rattle.tsp_query.specs.Ends.{heard_times, receives}
 use Rattle.tsp_query.proofs.AskLemmas.{after-reading, after-next, asked-step, asked-hit, asked-none, receives-least, tells-all, no-wait, one-wait}
 use Rattle.tsp_query.proofs.ask.listen.Goals as goal
@@ -14,7 +14,7 @@ returns-in-Answer-clause-listens g c = λ o t.
     let before = c.loop.invariant.0 o t in
     let here = c.in-Answer.ensures.hears (heard_times i o) before.0 in
     let zero : i + 0 ≡ i = omega arith in
-    let tick = here.2 ∙ (here.0.last_is ∙ (after-reading i o 0 ∙ ap (λ k. reading o.last o.readings k) zero)) in
+    let tick = here.2 ∙ (here.0.last_is ∙ (after-reading i o 0 ∙ ap (λ k. tick_given o.last o.readings k) zero)) in
     let first = before.1 ∙ asked-hit c.args.question i (heard_times i o).arrivals c.in-Answer.answer c.loop-test.true here.1 in
     (i, first, tick, rw (after-next i o) here.0)
 

@@ -1,5 +1,5 @@
 use Rattle.std.proofs.Common.{inl, inr, refl}
-use Rattle.tsp_query.specs.Outside.{bound}
+use Rattle.tsp_query.specs.Outside.{after_bind}
 use Rattle.tsp_query.proofs.FaultLemmas.{LinkCounts-from}
 use Rattle.tsp_query.proofs.OutsideLemmas.{NotesBind_failed, NotesBind_made, NotesBind_refused, Notes_same, Tells_bound, Says_from}
 use Rattle.tsp_query.proofs.command.ask.Goals as goal
@@ -9,7 +9,7 @@ returns-in-Bound-clause-asks g c = λ o wall word written k.
     let tells = Tells_bound o _ _ _ _ _ _ _ _ c.bind.ensures.same.0 c.bind.ensures.same.1 c.bind.ensures.counted k.tells in
     inr (record {
       end = c.ask_bound-end.result;
-      comes = rw (← c.bind.ensures.later.1) (c.ask_bound-end.ensures.comes (bound o) wall word tells k.wall_is k.word_is);
+      comes = rw (← c.bind.ensures.later.1) (c.ask_bound-end.ensures.comes (after_bind o) wall word tells k.wall_is k.word_is);
       says = Says_from _ _ _ _ _ _ _ written k.written_is c.tell.ensures.says;
       bound_to = Notes_same _ _ _ _ c.ask_bound-end.ensures.once.binds (NotesBind_made _ _ _ _ c.in-Bound.is c.bind.ensures.binds);
       waits = rw (← c.bind.ensures.same.2) c.ask_bound-end.ensures.once.waits;

@@ -1,5 +1,5 @@
 use Rattle.std.proofs.Common.{◌%◌}
-use Rattle.tsp_query.specs.Queries.{date_message, date_in}
+use Rattle.tsp_query.specs.Queries.{date_message, date_answer}
 use Rattle.tsp_query.specs.declared.question.Question.TheVariants.{OfDate}
 use Rattle.tsp_query.proofs.QueryLemmas.{fits-date, ends-date, counts_end}
 use Rattle.tsp_query.proofs.query.setdate.Goals as goal
@@ -12,4 +12,4 @@ returns-clause-asks g c = λ o word t w.
     rw c.date_end.ensures (ends-date (date_message c.args.time word) (OfDate (word % 65536)) o _ _ _ _ _ _ _ c.ask_by_message.result (c.ask_by_message.ensures.asks o word t w))
 
 pub returns-clause-faults : goal.returns-clause-faults
-returns-clause-faults g c = counts_end _ _ _ date_in c.ask_by_message.result c.date_end.result (λ d tick e. cc) c.date_end.ensures c.ask_by_message.ensures.faults
+returns-clause-faults g c = counts_end _ _ _ date_answer c.ask_by_message.result c.date_end.result (λ d tick e. cc) c.date_end.ensures c.ask_by_message.ensures.faults

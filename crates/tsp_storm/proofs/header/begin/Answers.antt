@@ -2,9 +2,9 @@
 use Rattle.std.proofs.Common.{◌≡◌, ◌∙◌, ap, arith, length, subst, add-one, ◌<◌, ◌≤◌, ℕ, [], false, Err}
 use Rattle.tsp_base.specs.Words.{HeaderValue, Pushes}
 use Rattle.tsp_script.specs.Storms.{StormValue, storm_named}
-use Rattle.tsp_storm.specs.Schedules.{after_lines, lines_of, generator_of}
+use Rattle.tsp_storm.specs.Schedules.{after_lines, storm_lines, generator_of}
 use Rattle.tsp_storm.proofs.Heads.{joins_header, header_more}
-use Rattle.tsp_storm.proofs.Mades.{after_is, length-lines_of}
+use Rattle.tsp_storm.proofs.Mades.{after_is, length-storm_lines}
 use Rattle.tsp_storm.proofs.header.begin.Goals as goal
 
 pub head-requires-clause-first : goal.head-requires-clause-first
@@ -18,8 +18,8 @@ head-requires-clause-more c =
     let more = c.loop-test.true in
     omega (arith, named, nodes, more)
 
-few_lines : (header : HeaderValue) (n nodes : ℕ) (v : StormValue) → header ≡ record { drift = 100; strict = false; nodes = lines_of n v; nets = [] } → n < nodes → nodes ≤ 64 → length header.nodes < 64
-few_lines header n nodes v is more few = let same = ap (λ (h : HeaderValue). length h.nodes) is ∙ length-lines_of n v in omega (arith, same, more, few)
+few_lines : (header : HeaderValue) (n nodes : ℕ) (v : StormValue) → header ≡ record { drift = 100; strict = false; nodes = storm_lines n v; nets = [] } → n < nodes → nodes ≤ 64 → length header.nodes < 64
+few_lines header n nodes v is more few = let same = ap (λ (h : HeaderValue). length h.nodes) is ∙ length-storm_lines n v in omega (arith, same, more, few)
 
 pub unreachable-requires : goal.unreachable-requires
 unreachable-requires c =
@@ -36,7 +36,7 @@ loop-preserved c = rw add-one (record {
 pub returns-clause-header : goal.returns-clause-header
 returns-clause-header c =
     let all : c.loop.counter ≡ c.args.words.now.nodes = (let low = c.loop-test.false in let high = c.loop.auto.counter-end in omega (arith, low, high)) in
-    c.loop.invariant.header ∙ ap (λ (n : ℕ). record { drift = 100; strict = false; nodes = lines_of n (generator_of c.args.words.now); nets = [] }) all
+    c.loop.invariant.header ∙ ap (λ (n : ℕ). record { drift = 100; strict = false; nodes = storm_lines n (generator_of c.args.words.now); nets = [] }) all
 
 pub returns-clause-generator : goal.returns-clause-generator
 returns-clause-generator c =

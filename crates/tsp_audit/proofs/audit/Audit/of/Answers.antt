@@ -1,7 +1,7 @@
 -- The audit stands for what was found of all events.
 use Rattle.std.proofs.Common.{◌≡◌, ◌∙◌, List, [], ap, length, refl, sym}
 use Rattle.tsp_audit.specs.Remembered.{RememberedStands}
-use Rattle.tsp_audit.specs.Verdicts.{Looked}
+use Rattle.tsp_audit.specs.Verdicts.{IsFoundOfAll}
 use Rattle.tsp_audit.proofs.ThroughLemmas.{dated-named, dated-timely}
 use Rattle.tsp_rules.specs.Values.{NodeLine}
 use Rattle.tsp_base.specs.Words.{HeaderValue}
@@ -11,7 +11,7 @@ pub returns : goal.returns
 returns c header told stand dated ends =
     let nodes : c.nodes.result.now ≡ header.nodes = c.nodes.ensures.nodes ∙ ap (λ (h : HeaderValue). h.nodes) (c.header.ensures ∙ stand.header_is) in
     let none : RememberedStands c.args.premises header [] c.in_ok-notes.notes = c.in_ok-notes.ensures c.args.premises header (ap (λ (ns : List NodeLine). length ns) (sym nodes)) in
-    let first : Looked c.args.premises header told c.look_through.new.notes c.in_ok-failed.failed = c.in_ok-failed.ensures header told stand dated ends none in
+    let first : IsFoundOfAll c.args.premises header told c.look_through.new.notes c.in_ok-failed.failed = c.in_ok-failed.ensures header told stand dated ends none in
     record {
       claims_stand = stand;
       premises_are = refl;

@@ -4,7 +4,7 @@ use Rattle.tsp_base.specs.declared.event.Event.{Event}
 use Rattle.tsp_claims.specs.declared.tally.Tally.{Tally}
 use Rattle.tsp_claims.specs.Fitting.{FitsAfter, Misfits, untold}
 use Rattle.tsp_claims.specs.Listed.{up_in}
-use Rattle.tsp_claims.proofs.FitLemmas.{Left, left-next, left-misfits, left-lacks, posts_by-few}
+use Rattle.tsp_claims.proofs.FitLemmas.{Left, left-next, left-misfits, left-lacks, claims_of_step-few}
 use Rattle.tsp_claims.proofs.claims.Claims.misfit.Goals as goal
 use Rattle.tsp_base.specs.declared.trace.Line2.{Line2}
 
@@ -21,7 +21,7 @@ loop-i-preserved c =
     let fits : Event → Tally → Line2 → Type 0 = FitsAfter self.header self.posts.items (up_in self.up.items) (self.events + 1) in
     let yes : fits c.args.e.now c.loop-i.tally c.index-lines-i.result = search rules in
     record {
-      posts = (let counted_is = ap (λ t. t.posts) c.count.ensures in let few = posts_by-few c.index-lines-i.result.placed.act in let so_far = c.loop-i.invariant.posts in omega (arith, counted_is, few, so_far));
+      posts = (let counted_is = ap (λ t. t.posts) c.count.ensures in let few = claims_of_step-few c.index-lines-i.result.placed.act in let so_far = c.loop-i.invariant.posts in omega (arith, counted_is, few, so_far));
       left = subst (λ t. Left fits c.args.e.now t (c.loop-i.i + 1) c.args.lines.now) (sym c.count.ensures)
           (left-next fits c.args.e.now c.loop-i.tally c.loop-i.i c.args.lines.now c.loop-i.invariant.left c.index-lines-i.result (omega arith) (sym c.index-lines-i.is) yes);
     }

@@ -4,7 +4,7 @@ use Rattle.std.proofs.lemmas.Int.{ints}
 use Rattle.std.specs.Prelude.{if◌then◌else◌}
 use Rattle.tsp_rules.specs.ClockRows.{is_step}
 use Rattle.tsp_rules.specs.Guards.{is_clock_value}
-use Rattle.tsp_clock.specs.Clocks.{target_of, rest_of}
+use Rattle.tsp_clock.specs.Clocks.{target_of, slew_rest}
 use Rattle.tsp_clock.proofs.clock.Clock.adjust.Goals as goal
 
 moves : (offset amount : ℤ) (x : ℕ) → ((offset +ℤ pos x) +ℤ amount) -ℤ pos x ≡ offset +ℤ amount
@@ -17,7 +17,7 @@ returns-in-Some-clause-ok c =
     let t : to_z w64 (of_z w64 c.in-Some.target) ≡ target_of now c.args.tick +ℤ c.args.amount = search rules in
     let fits : SFits w64 c.rest_after-rest.result = search rules in
     let back : to_z w64 (of_z w64 c.rest_after-rest.result) ≡ c.rest_after-rest.result = to_z-of_z fits in
-    let r : c.rest_after-rest.result ≡ (if is_step c.args.amount then pos 0 else rest_of now c.args.tick +ℤ c.args.amount) =
+    let r : c.rest_after-rest.result ≡ (if is_step c.args.amount then pos 0 else slew_rest now c.args.tick +ℤ c.args.amount) =
     let v = c.rest_after-rest.ensures.value in rw am at v in
     let s = c.is_step.ensures in
     let inside : is_clock_value (target_of now c.args.tick +ℤ c.args.amount) ≡ true = search rules in (

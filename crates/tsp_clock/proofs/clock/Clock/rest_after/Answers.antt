@@ -1,7 +1,7 @@
 -- What is shown steps to the new target, or stays.
 use Rattle.std.proofs.Common.{rules, ◌≡◌, true, false, refl, sym, ◌∙◌, ap, ◌+ℤ◌, SFits, w64, to_z, of_z, to_z-of_z}
 use Rattle.tsp_rules.specs.ClockRows.{is_step}
-use Rattle.tsp_clock.specs.Clocks.{target_of, rest_of}
+use Rattle.tsp_clock.specs.Clocks.{target_of, slew_rest}
 use Rattle.tsp_clock.proofs.ClockLemmas.{left_fits, shown_kept, stepped_high, stepped_low}
 use Rattle.tsp_clock.proofs.clock.Clock.rest_after.Goals as goal
 
@@ -13,7 +13,7 @@ overflow_add-result c =
     let fits : SFits w64 c.rest.result = search rules in
     let back : to_z w64 (of_z w64 c.rest.result) ≡ c.rest.result = to_z-of_z fits in
     let arg : to_z w64 (of_z w64 c.args.amount) ≡ c.args.amount = to_z-of_z c.ranges.amount in
-    rw (back, arg, c.rest.ensures.value) (left_fits (target_of now x) (rest_of now x) c.args.amount x c.requires.tick c.requires.range c.rest.ensures.low c.rest.ensures.high)
+    rw (back, arg, c.rest.ensures.value) (left_fits (target_of now x) (slew_rest now x) c.args.amount x c.requires.tick c.requires.range c.rest.ensures.low c.rest.ensures.high)
 
 pub returns-then-is_step-clause-value : goal.returns-then-is_step-clause-value
 returns-then-is_step-clause-value c =
@@ -34,7 +34,7 @@ returns-else-is_step-clause-value c =
     let fits : SFits w64 c.rest.result = search rules in
     let back : to_z w64 (of_z w64 c.rest.result) ≡ c.rest.result = to_z-of_z fits in
     let sum = overflow_add-result c in
-    rw test (to_z-of_z sum ∙ ap (λ z. z +ℤ to_z w64 (of_z w64 c.args.amount)) (back ∙ c.rest.ensures.value) ∙ ap (λ z. rest_of c.args.self.now c.args.tick +ℤ z) arg)
+    rw test (to_z-of_z sum ∙ ap (λ z. z +ℤ to_z w64 (of_z w64 c.args.amount)) (back ∙ c.rest.ensures.value) ∙ ap (λ z. slew_rest c.args.self.now c.args.tick +ℤ z) arg)
 
 -- what is shown after it is what was shown before
 pub returns-else-is_step-clause-low : goal.returns-else-is_step-clause-low
@@ -43,7 +43,7 @@ returns-else-is_step-clause-low c =
     let fits : SFits w64 c.rest.result = search rules in
     let back : to_z w64 (of_z w64 c.rest.result) ≡ c.rest.result = to_z-of_z fits in
     let sum = overflow_add-result c in
-    rw (to_z-of_z sum, back, arg, c.rest.ensures.value, shown_kept (target_of c.args.self.now c.args.tick) (rest_of c.args.self.now c.args.tick) c.args.amount) c.rest.ensures.low
+    rw (to_z-of_z sum, back, arg, c.rest.ensures.value, shown_kept (target_of c.args.self.now c.args.tick) (slew_rest c.args.self.now c.args.tick) c.args.amount) c.rest.ensures.low
 
 pub returns-else-is_step-clause-high : goal.returns-else-is_step-clause-high
 returns-else-is_step-clause-high c =
@@ -51,4 +51,4 @@ returns-else-is_step-clause-high c =
     let fits : SFits w64 c.rest.result = search rules in
     let back : to_z w64 (of_z w64 c.rest.result) ≡ c.rest.result = to_z-of_z fits in
     let sum = overflow_add-result c in
-    rw (to_z-of_z sum, back, arg, c.rest.ensures.value, shown_kept (target_of c.args.self.now c.args.tick) (rest_of c.args.self.now c.args.tick) c.args.amount) c.rest.ensures.high
+    rw (to_z-of_z sum, back, arg, c.rest.ensures.value, shown_kept (target_of c.args.self.now c.args.tick) (slew_rest c.args.self.now c.args.tick) c.args.amount) c.rest.ensures.high

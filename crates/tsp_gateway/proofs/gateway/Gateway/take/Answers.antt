@@ -2,7 +2,7 @@
 use Rattle.std.proofs.Common.{◌+◌, ◌*◌, ◌<◌, ◌≤◌, ap, arith, length, subst, sym}
 use Rattle.tsp_rules.specs.GateRows.{answers_all, input_all}
 use Rattle.tsp_rules.proofs.NodeRowLemmas.{All_then}
-use Rattle.tsp_gateway.specs.Rooms.{all_peers, peers_at, ports_in}
+use Rattle.tsp_gateway.specs.Rooms.{peers_sum, peers_at, ports_in}
 use Rattle.tsp_gateway.proofs.RoomLemmas.{take_room}
 use Rattle.tsp_gateway.proofs.gateway.Gateway.take.Goals as goal
 
@@ -14,7 +14,7 @@ take_in-requires g c =
     let same = c.turn_ports.ensures.ports in
     record {
       port = subst (λ ps. q < length ps) (sym same) c.requires.port;
-      room = subst (λ ps. 2 * peers_at q ps + all_peers ps + 24 ≤ g.D.Desk.spare c.turn_ports.new.desk) (sym same) (omega (arith, room, c.requires.room, c.turn_ports.ensures.room.spare));
+      room = subst (λ ps. 2 * peers_at q ps + peers_sum ps + 24 ≤ g.D.Desk.spare c.turn_ports.new.desk) (sym same) (omega (arith, room, c.requires.room, c.turn_ports.ensures.room.spare));
       tick = (c.requires.tick, c.turn_ports.ensures.clock);
     }
 
@@ -27,5 +27,5 @@ returns-clause-room g c =
     let old = ports_in c.args.self.now in
     let q = c.args.port.0 in
     let room = take_room q old c.requires.port in
-    let took = ap (λ ps. 2 * peers_at q ps + all_peers ps + 24) c.turn_ports.ensures.ports in
+    let took = ap (λ ps. 2 * peers_at q ps + peers_sum ps + 24) c.turn_ports.ensures.ports in
     record { spare = omega (arith, room, took, c.turn_ports.ensures.room.spare, c.take_in.ensures.room.spare); few = omega (arith, room, took, c.turn_ports.ensures.room.few, c.take_in.ensures.room.few) }

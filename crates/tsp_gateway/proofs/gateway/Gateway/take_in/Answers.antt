@@ -5,7 +5,7 @@ use Rattle.tsp_rules.specs.GateRows.{hears_on, heeds_loop, takes_kind, takes_loo
 use Rattle.tsp_rules.specs.NodeRows.{nothing_at_all}
 use Rattle.tsp_rules.proofs.NodeRowLemmas.{All_then}
 use Rattle.tsp_gateway.specs.GatewayStands.{port_at}
-use Rattle.tsp_gateway.specs.Rooms.{all_peers}
+use Rattle.tsp_gateway.specs.Rooms.{peers_sum}
 use Rattle.tsp_gateway.proofs.LiftLemmas.{All_nothing, All_reading, All_row}
 use Rattle.tsp_gateway.proofs.TakeLemmas.{loop_on, message_on, message_taken_on, other_on}
 use Rattle.tsp_gateway.proofs.gateway.Gateway.take_in.Goals as goal
@@ -47,7 +47,7 @@ pub judge_loop-requires-clause-port : goal.judge_loop-requires-clause-port
 judge_loop-requires-clause-port g c = rw c.note.ensures.ports c.requires.port
 
 pub judge_loop-requires-clause-room : goal.judge_loop-requires-clause-room
-judge_loop-requires-clause-room g c = omega (arith, ap all_peers c.note.ensures.ports, c.note.ensures.room.spare, c.requires.room)
+judge_loop-requires-clause-room g c = omega (arith, ap peers_sum c.note.ensures.ports, c.note.ensures.room.spare, c.requires.room)
 
 pub returns-then-hears-clause-ports : goal.returns-then-hears-clause-ports
 returns-then-hears-clause-ports g c = c.judge_loop.ensures.ports ∙ c.note.ensures.ports
@@ -57,7 +57,7 @@ returns-then-hears-clause-clock g c = rw (c.judge_loop.ensures.clock, c.note.ens
 
 pub returns-then-hears-clause-room : goal.returns-then-hears-clause-room
 returns-then-hears-clause-room g c =
-    let same = ap all_peers c.note.ensures.ports in
+    let same = ap peers_sum c.note.ensures.ports in
     let note = c.note.ensures.room in
     let judge = c.judge_loop.ensures.room in
     record { spare = omega (arith, same, note.spare, judge.spare); few = omega (arith, same, note.few, judge.few) }

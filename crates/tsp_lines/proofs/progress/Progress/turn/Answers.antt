@@ -1,5 +1,5 @@
 use Rattle.std.proofs.Common.{refl, ap, ◌∙◌, [], ◌∷◌, ◌++◌, inl, inr, arith, Ok, Err}
-use Rattle.tsp_lines.specs.Readings.{is_over}
+use Rattle.tsp_lines.specs.Readings.{ends_input}
 use Rattle.tsp_lines.specs.declared.treat.Outcome.TheVariants.{WriteFault, OutOfMemory}
 use Rattle.tsp_lines.specs.Outcomes.{limit_line}
 use Rattle.tsp_lines.specs.Turns.{only_limited, end_sayings, line_sayings}
@@ -39,14 +39,14 @@ pub returns-in-Some-clause-turns : goal.returns-in-Some-clause-turns
 returns-in-Some-clause-turns g c = λ input written lines text at.
     let n = c.in-Ok.ensures.next in
     let a = After-next _ _ _ _ _ _ _ _ _ c.next.new.self.reader _ c.next.new.self.output _ c.next.new.self.number lines text n.0 at n.1 n.2 c.next.ensures.hands c.next.ensures.same.0 c.next.ensures.same.1 in
-    Turn-last _ _ _ _ _ _ _ c.next.new.self.reader _ _ lines text _ a _ c.in-Some.outcome at.stands.1 (rw c.in-Last.is at n.3) (c.in-Ok.ensures.over (ap is_over c.in-Last.is)) (c.in-Some.ensures.treats lines text at.stands.0 at.accepted at.stands.1)
+    Turn-last _ _ _ _ _ _ _ c.next.new.self.reader _ _ lines text _ a _ c.in-Some.outcome at.stands.1 (rw c.in-Last.is at n.3) (c.in-Ok.ensures.over (ap ends_input c.in-Last.is)) (c.in-Some.ensures.treats lines text at.stands.0 at.accepted at.stands.1)
 
 pub returns-in-None-clause-turns : goal.returns-in-None-clause-turns
 returns-in-None-clause-turns g c = λ input written lines text at.
     let n = c.in-Ok.ensures.next in
     let a = After-next _ _ _ _ _ _ _ _ _ c.next.new.self.reader _ c.next.new.self.output _ c.next.new.self.number lines text n.0 at n.1 n.2 c.next.ensures.hands c.next.ensures.same.0 c.next.ensures.same.1 in
     let t = c.in-None.ensures.treats lines text at.stands.0 at.accepted at.stands.1 in
-    Turn-last_end _ _ _ _ _ _ _ c.next.new.self.reader _ _ lines text _ a (g.T.Treatment.stands c.treat-in-Last.new.treatment) _ _ c.treat-in-Last.new.self.output c.treat-in-Last.new.self.number c.finish.result (rw c.in-Last.is at n.3) (c.in-Ok.ensures.over (ap is_over c.in-Last.is)) (c.treat-in-Last.ensures.number c.in-None.is) t
+    Turn-last_end _ _ _ _ _ _ _ c.next.new.self.reader _ _ lines text _ a (g.T.Treatment.stands c.treat-in-Last.new.treatment) _ _ c.treat-in-Last.new.self.output c.treat-in-Last.new.self.number c.finish.result (rw c.in-Last.is at n.3) (c.in-Ok.ensures.over (ap ends_input c.in-Last.is)) (c.treat-in-Last.ensures.number c.in-None.is) t
     (c.finish.ensures.ends _ _ t.3 t.2)
 
 pub returns-in-Long-clause-turns : goal.returns-in-Long-clause-turns
@@ -55,14 +55,14 @@ returns-in-Long-clause-turns g c = λ input written lines text at.
     let a = After-next _ _ _ _ _ _ _ _ _ c.next.new.self.reader _ c.next.new.self.output _ c.next.new.self.number lines text n.0 at n.1 n.2 c.next.ensures.hands c.next.ensures.same.0 c.next.ensures.same.1 in
     elim c.in-Long.is [
       | inl e ↦ let m = rw e at n.3 in Comes-line _ _ _ _ _ _ _ c.next.new.self.reader _ _ lines text _ a _ m.0 c.refuse_long.result at.stands.1 (HasNext-long _ _ _ _ _ _ _ c.next.new.self.reader _ _ lines text _ a m) (c.refuse_long.ensures.ends lines text m.0 at.stands.0 at.accepted at.stands.1 m.1 m.2 m.4)
-      | inr e ↦ let m = rw e at n.3 in Comes-line _ _ _ _ _ _ _ c.next.new.self.reader _ _ lines text _ a _ _ c.refuse_long.result at.stands.1 (HasNext-long_last _ _ _ _ _ _ _ c.next.new.self.reader _ _ lines text _ a m (c.in-Ok.ensures.over (ap is_over e))) (c.refuse_long.ensures.ends lines text _ at.stands.0 at.accepted at.stands.1 m.0 m.1 m.3)
+      | inr e ↦ let m = rw e at n.3 in Comes-line _ _ _ _ _ _ _ c.next.new.self.reader _ _ lines text _ a _ _ c.refuse_long.result at.stands.1 (HasNext-long_last _ _ _ _ _ _ _ c.next.new.self.reader _ _ lines text _ a m (c.in-Ok.ensures.over (ap ends_input e))) (c.refuse_long.ensures.ends lines text _ at.stands.0 at.accepted at.stands.1 m.0 m.1 m.3)
     ]
 
 pub returns-in-End-clause-turns : goal.returns-in-End-clause-turns
 returns-in-End-clause-turns g c = λ input written lines text at.
     let n = c.in-Ok.ensures.next in
     let a = After-next _ _ _ _ _ _ _ _ _ c.next.new.self.reader _ c.next.new.self.output _ c.next.new.self.number lines text n.0 at n.1 n.2 c.next.ensures.hands c.next.ensures.same.0 c.next.ensures.same.1 in
-    Turn-end _ _ _ _ _ _ _ c.next.new.self.reader _ _ lines text _ a _ c.finish-in-End.result (rw c.in-End.is at n.3).0 (c.in-Ok.ensures.over (ap is_over c.in-End.is)) (c.finish-in-End.ensures.ends lines text at.stands.0 at.accepted)
+    Turn-end _ _ _ _ _ _ _ c.next.new.self.reader _ _ lines text _ a _ c.finish-in-End.result (rw c.in-End.is at n.3).0 (c.in-Ok.ensures.over (ap ends_input c.in-End.is)) (c.finish-in-End.ensures.ends lines text at.stands.0 at.accepted)
 
 pub returns-in-Limit-clause-turns : goal.returns-in-Limit-clause-turns
 returns-in-Limit-clause-turns g c = λ input written lines text at.

@@ -2,7 +2,7 @@
 use Rattle.std.proofs.Common.{◌∙◌, ap}
 use Rattle.tsp_rules.specs.Values.{Event}
 use Rattle.tsp_script.specs.declared.storm.Draw.TheVariants.{Event as Gives}
-use Rattle.tsp_storm.specs.Schedules.{header_of, events_of, next_event}
+use Rattle.tsp_storm.specs.Schedules.{header_of, storm_events, next_event}
 use Rattle.tsp_storm.proofs.Draws.{given-next}
 use Rattle.tsp_storm.proofs.Steps.{made_now, more_now, world_now, event_now, on_step, stops_step}
 use Rattle.tsp_storm.proofs.making.Making.step.Goals as goal
@@ -27,8 +27,8 @@ happen-requires-clause-event c =
     let s = c.args.words.now in
     let m = c.args.self.now in
     let st = c.requires.stands in
-    let next = next_event (header_of s) (events_of s m.storm.given) m.storm in
-    let comes = given-next _ c.draw-choice.new.storm next (c.draw-choice.ensures.next (header_of s) (events_of s m.storm.given) st.world) in
+    let next = next_event (header_of s) (storm_events s m.storm.given) m.storm in
+    let comes = given-next _ c.draw-choice.new.storm next (c.draw-choice.ensures.next (header_of s) (storm_events s m.storm.given) st.world) in
     comes.0 ∙ ap (λ (e : Event). Gives e) (event_now s m next.0 c.draw-choice.new.storm st comes.1)
 
 pub returns-clause-stands : goal.returns-clause-stands
@@ -36,8 +36,8 @@ returns-clause-stands c =
     let s = c.args.words.now in
     let m = c.args.self.now in
     let st = c.requires.stands in
-    let next = next_event (header_of s) (events_of s m.storm.given) m.storm in
-    let comes = given-next _ c.draw-choice.new.storm next (c.draw-choice.ensures.next (header_of s) (events_of s m.storm.given) st.world) in
+    let next = next_event (header_of s) (storm_events s m.storm.given) m.storm in
+    let comes = given-next _ c.draw-choice.new.storm next (c.draw-choice.ensures.next (header_of s) (storm_events s m.storm.given) st.world) in
     on_step s m next.0 c.draw-choice.new.storm c.happen.new.world c.happen.new.request c.happen.result _ st comes.1 (λ d. d.stands) c.happen.ensures.stands
 
 pub returns-clause-given : goal.returns-clause-given
@@ -45,8 +45,8 @@ returns-clause-given c =
     let s = c.args.words.now in
     let m = c.args.self.now in
     let st = c.requires.stands in
-    let next = next_event (header_of s) (events_of s m.storm.given) m.storm in
-    let comes = given-next _ c.draw-choice.new.storm next (c.draw-choice.ensures.next (header_of s) (events_of s m.storm.given) st.world) in
+    let next = next_event (header_of s) (storm_events s m.storm.given) m.storm in
+    let comes = given-next _ c.draw-choice.new.storm next (c.draw-choice.ensures.next (header_of s) (storm_events s m.storm.given) st.world) in
     on_step s m next.0 c.draw-choice.new.storm c.happen.new.world c.happen.new.request c.happen.result _ st comes.1 (λ d. d.given) c.happen.ensures.stands
 
 pub returns-clause-event : goal.returns-clause-event
@@ -54,8 +54,8 @@ returns-clause-event c =
     let s = c.args.words.now in
     let m = c.args.self.now in
     let st = c.requires.stands in
-    let next = next_event (header_of s) (events_of s m.storm.given) m.storm in
-    let comes = given-next _ c.draw-choice.new.storm next (c.draw-choice.ensures.next (header_of s) (events_of s m.storm.given) st.world) in
+    let next = next_event (header_of s) (storm_events s m.storm.given) m.storm in
+    let comes = given-next _ c.draw-choice.new.storm next (c.draw-choice.ensures.next (header_of s) (storm_events s m.storm.given) st.world) in
     on_step s m next.0 c.draw-choice.new.storm c.happen.new.world c.happen.new.request c.happen.result _ st comes.1 (λ d. d.event) c.happen.ensures.stands
 
 pub returns-clause-stops : goal.returns-clause-stops

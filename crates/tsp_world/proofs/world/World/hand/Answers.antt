@@ -6,7 +6,7 @@ use Rattle.tsp_rules.specs.GateRows.{GotOn, answers_all}
 use Rattle.tsp_run.specs.Refusals.{scene}
 use Rattle.tsp_run.specs.Run.{run, steps}
 use Rattle.tsp_run.proofs.RefusalLemmas.{refusal-none, up-down}
-use Rattle.tsp_world.specs.WorldStands.{Happens}
+use Rattle.tsp_world.specs.WorldStands.{HappensInWorld}
 use Rattle.tsp_world.proofs.Occurrences.{can_step, declined, lacks_memory, may, occurred}
 use Rattle.tsp_world.proofs.WorldLemmas.{Alike-stands}
 use Rattle.tsp_world.proofs.world.World.hand.Goals as goal
@@ -31,7 +31,7 @@ returns c octets range is =
     let ready = c.make_room.new.self in
     let node = c.args.node in
     let e : Event = Bytes c.args.at node c.args.port c.args.from octets in
-    let happens : Happens e ready c.receive.new.self = λ header events w none.
+    let happens : HappensInWorld e ready c.receive.new.self = λ header events w none.
     let len : vec_len ready.nodes ≡ length ready.nodes.items = search rules in
     let up = (Alike-stands header events ready len w).up node ∙ up-down (scene header events) node (refusal-none (scene header events) e none).up in
     c.receive.ensures Handed header events e w refl range none up
