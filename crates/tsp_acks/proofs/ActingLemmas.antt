@@ -3,8 +3,7 @@ use Rattle.std.specs.Prelude.{◌≡◌, ℕ, Bool, true, List, [], ◌∷◌, O
 use Rattle.std.proofs.lemmas.Option.{none-some}
 use Rattle.tsp_rules.specs.Values.{Act, Took, Ring, Late, Placed, Port}
 use Rattle.tsp_base.specs.Words.{Deed, Step, Seen, Begins, Acts, Here, Elsewhere, Performs, Received, acting, acting_after, taken, taken_after, Row, added}
-use Rattle.tsp_acks.specs.declared.station.Station.{Station}
-use Rattle.tsp_acks.specs.Stands.{StationStands, StandsActing}
+use Rattle.tsp_acks.specs.{Stands.StationStands, Stands.StandsActing, declared.station.Station.Station}
 
 acting_after-acts : (a : Act) (before : Bool) → before ≡ true → acting_after (Acts a) before ≡ true
 acting_after-acts (Took from taken) before e = refl

@@ -1,10 +1,7 @@
 -- The peers that come after one, and the rows that are left for them.
-use Rattle.std.specs.Prelude.{◌≡◌, ℕ, zero, suc, ◌+◌, ◌≤◌, ◌<◌, nat_lt, Bool, true, false, List, [], ◌∷◌, ◌++◌, map, length, cond, Option, Some, None, refl, slice_index_or}
+use Rattle.std.proofs.Common.{ap, arith, length-append, ◌≡◌, ℕ, zero, suc, ◌+◌, ◌≤◌, ◌<◌, nat_lt, Bool, true, false, List, [], ◌∷◌, ◌++◌, map, length, cond, Option, Some, None, refl, slice_index_or}
 use Rattle.std.specs.List.{All, AllPairs, Contains, filter}
-use Rattle.std.proofs.Common.{ap, arith, length-append}
-use Rattle.std.proofs.lemmas.Bool.{ltb-true, lt-ltb}
-use Rattle.std.proofs.lemmas.List.{length-map, get_or-map}
-use Rattle.std.proofs.lemmas.List.Kept.{AllPairs-from_increasing}
+use Rattle.std.proofs.lemmas.{Bool.ltb-true, Bool.lt-ltb, List.length-map, List.get_or-map, List.Kept.AllPairs-from_increasing}
 use Rattle.tsp_rules.specs.Values.{Placed, PeerId, Port}
 use Rattle.tsp_base.specs.Words.{Past, Performs, Row, for_each, IsAscending}
 use Rattle.tsp_base.proofs.PerformsLemmas.{Performs_then, Performs_nothing}

@@ -1,7 +1,6 @@
 -- Calls that change nothing but sends, one after the other.
 use Rattle.std.proofs.Common.{◌∙◌}
-use Rattle.tsp_acks.specs.declared.station.Station.{Station}
-use Rattle.tsp_acks.specs.Changes.{ChangesSends}
+use Rattle.tsp_acks.specs.{Changes.ChangesSends, declared.station.Station.Station}
 
 pub ChangesSends_then : {first middle last : Station} → ChangesSends first middle → ChangesSends middle last → ChangesSends first last
 ChangesSends_then a b = record {

@@ -1,23 +1,16 @@
 -- What the repeating of a due send makes of a station.
-use Rattle.std.specs.Prelude.{◌≡◌, ℕ, ◌<◌, ◌+◌, ◌%◌, ◌==◌, ◌&&◌, Bool, true, false, if◌then◌else◌, List, [], ◌∷◌, ◌++◌, Option, Some, None, refl}
-use Rattle.std.specs.List.{Contains}
-use Rattle.std.proofs.Common.{sym, ◌∙◌, ap, arith, eqb-true}
-use Rattle.std.proofs.Math.Bool.{and-false}
-use Rattle.std.proofs.lemmas.List.{length-map, get_or-map}
+use Rattle.std.proofs.Common.{sym, ◌∙◌, ap, arith, eqb-true, ◌≡◌, ℕ, ◌<◌, ◌+◌, ◌%◌, ◌==◌, ◌&&◌, Bool, true, false, if◌then◌else◌, List, [], ◌∷◌, ◌++◌, Option, Some, None, refl}
+use Rattle.std.{proofs.Math.Bool.and-false, proofs.lemmas.List.length-map, proofs.lemmas.List.get_or-map, specs.List.Contains}
 use Rattle.tsp_rules.specs.Values.{Act, Boot, Post, Become, Acked, Gave, Placed, Message, PeerId, Peer, Port}
 use Rattle.tsp_base.specs.Words.{Deed, Acts, Step, Past, Seen, Here, Elsewhere, MessageValue, Performs, acting, grown, nothing, puts, again, begun, has_own_number, is_given_up, is_numbered, message_at, message_of, open_send, open_to, open_to_after, posts_of, Sending, sending_at, sending_of}
 use Rattle.tsp_base.proofs.PerformsLemmas.{Performs_else_part, Performs_nothing, Performs_reading, Performs_then_part}
 use Rattle.tsp_base.proofs.SendLemmas.{seen_act, open_send-gave, open_send-repeats}
 use Rattle.tsp_rules.specs.SendRows.{bare_send, is_send_due, is_spent, open_at, repeats, repeats_bare_send}
-use Rattle.tsp_sends.specs.declared.due.Due.{Due}
 use Rattle.tsp_sends.specs.declared.due.Due.TheVariants.{Again, Gave as GaveUp}
-use Rattle.tsp_sends.specs.declared.slot.Slot.{Slot}
-use Rattle.tsp_sends.specs.Slots.{peers_of, sending_to, SetsOnly}
+use Rattle.tsp_sends.specs.{Slots.peers_of, Slots.sending_to, Slots.SetsOnly, declared.due.Due.Due, declared.slot.Slot.Slot}
 use Rattle.tsp_sends.specs.Repeating.{IsAfter, is_due_send, peer_of, repeated, RepeatsNext}
 use Rattle.tsp_sends.proofs.SlotLemmas.{sending_to-found}
-use Rattle.tsp_acks.specs.declared.station.Station.{Station}
-use Rattle.tsp_acks.specs.Changes.{ChangesSends}
-use Rattle.tsp_acks.specs.Stands.{StandsStill}
+use Rattle.tsp_acks.specs.{Changes.ChangesSends, Stands.StandsStill, declared.station.Station.Station}
 
 -- no message, or one that is a numbered send
 abbrev IsNumbered : Option MessageValue → Type 0

@@ -1,6 +1,5 @@
 -- How sends that end keep what a station stands for.
-use Rattle.std.specs.Prelude.{◌≡◌, ℕ, ◌==◌, Bool, true, false, ◌&&◌, if◌then◌else◌, List, [], ◌∷◌, ◌++◌, Option, Some, None, MatchBool, refl}
-use Rattle.std.proofs.Common.{sym, ◌∙◌, ap}
+use Rattle.std.proofs.Common.{sym, ◌∙◌, ap, ◌≡◌, ℕ, ◌==◌, Bool, true, false, ◌&&◌, if◌then◌else◌, List, [], ◌∷◌, ◌++◌, Option, Some, None, MatchBool, refl}
 use Rattle.tsp_rules.specs.Values.{Acked, Placed, PeerId, Port}
 use Rattle.tsp_base.specs.Words.{Past, Performs, nothing, puts, Sending, is_set_date_request}
 use Rattle.tsp_base.proofs.SendLemmas.{open_send-acked}
@@ -8,12 +7,9 @@ use Rattle.tsp_base.proofs.PerformsLemmas.{Performs_then_part, Performs_else_par
 use Rattle.tsp_rules.specs.DateRows.{answers_date}
 use Rattle.tsp_rules.specs.SendRows.{answers_election, answers_other, ends_by_ack, has_other, is_kind_election, acknowledges}
 use Rattle.tsp_sends.specs.Slots.{SetsOnly, kind_of, has_number, sending_to}
-use Rattle.tsp_acks.specs.declared.ends.Answer.{Answer}
-use Rattle.tsp_acks.specs.declared.ends.Answer.TheVariants.{Vote, Date, Ack}
+use Rattle.tsp_acks.specs.declared.ends.Answer.{Answer, TheVariants.Vote, TheVariants.Date, TheVariants.Ack}
 use Rattle.tsp_acks.specs.declared.station.Station.{Station}
-use Rattle.tsp_acks.specs.Changes.{ChangesSends}
-use Rattle.tsp_acks.specs.Openings.{is_of, answered_by, has_open}
-use Rattle.tsp_acks.specs.Stands.{StationStands}
+use Rattle.tsp_acks.specs.{Changes.ChangesSends, Openings.is_of, Openings.answered_by, Openings.has_open, Stands.StationStands}
 
 -- the open send to a peer ends
 pub Performs_acked : (p : PeerId) {x : ℕ} {port : Port} {before after : Station} {old new : List Placed} → ChangesSends before after → after.begun ≡ before.begun → SetsOnly p None before.sends after.sends →

@@ -1,9 +1,6 @@
 -- Who is among some peers.
-use Rattle.std.specs.Prelude.{◌≡◌, ◌≢◌, ◌==◌, ◌||◌, Bool, ℕ, zero, suc, ◌<◌, true, false, List, [], ◌∷◌, length, Result, Ok, Err, is_ok, refl}
-use Rattle.std.specs.List.{Contains}
-use Rattle.std.specs.List.Sorted.{IsBinarySearchResult, IsSearchInRange}
-use Rattle.std.specs.Ordering.{nat_cmp}
-use Rattle.std.proofs.Common.{sym, ap, arith, get_or, eq-eqb, eqb-true}
+use Rattle.std.proofs.Common.{sym, ap, arith, get_or, eq-eqb, eqb-true, ◌≡◌, ◌≢◌, ◌==◌, ◌||◌, Bool, ℕ, zero, suc, ◌<◌, true, false, List, [], ◌∷◌, length, Result, Ok, Err, is_ok, refl}
+use Rattle.std.specs.{List.Contains, List.Sorted.IsBinarySearchResult, List.Sorted.IsSearchInRange, Ordering.nat_cmp}
 use Rattle.std.proofs.lemmas.Bool.{false≢true, ne_eqb, or_right}
 use Rattle.tsp_rules.specs.Values.{PeerId}
 use Rattle.tsp_base.specs.Words.{is_among, IsAscending}

@@ -1,13 +1,9 @@
 -- A plain message that is posted once.
-use Rattle.std.specs.Prelude.{◌≡◌, ℕ, true, List, [], ◌∷◌, ◌++◌}
-use Rattle.std.proofs.Common.{◌∙◌, ap}
+use Rattle.std.proofs.Common.{◌∙◌, ap, ◌≡◌, ℕ, true, List, [], ◌∷◌, ◌++◌}
 use Rattle.tsp_rules.specs.Values.{Post, Placed, Message, Kind, PeerId, Place, Peer, Port}
 use Rattle.tsp_base.specs.Words.{MessageValue, Performs, bare, posts, posts_back}
-use Rattle.tsp_acks.specs.declared.station.Station.{Station}
-use Rattle.tsp_acks.specs.Posts.{is_plain}
-use Rattle.tsp_acks.specs.Stands.{StationStands}
-use Rattle.tsp_acks.proofs.PostLemmas.{is_plain_once}
-use Rattle.tsp_acks.proofs.StandsLemmas.{Stands_post}
+use Rattle.tsp_acks.specs.{Posts.is_plain, Stands.StationStands, declared.station.Station.Station}
+use Rattle.tsp_acks.proofs.{PostLemmas.is_plain_once, StandsLemmas.Stands_post}
 
 -- a message in the own name, and a copy of that name
 pub named : (kind : Kind) (number : ℕ) {m : MessageValue} {name copy : List ℕ} → m ≡ bare kind number copy → copy ≡ name → m ≡ bare kind number name

@@ -1,17 +1,12 @@
 -- How sends that begin keep what a station stands for.
-use Rattle.std.specs.Prelude.{◌≡◌, ℕ, ℤ, ◌+◌, ◌%◌, ◌==◌, Bool, true, false, ◌&&◌, if◌then◌else◌, List, [], ◌∷◌, ◌++◌, Some, refl}
-use Rattle.std.proofs.Common.{sym, ◌∙◌, ap, arith}
+use Rattle.std.proofs.Common.{sym, ◌∙◌, ap, arith, ◌≡◌, ℕ, ℤ, ◌+◌, ◌%◌, ◌==◌, Bool, true, false, ◌&&◌, if◌then◌else◌, List, [], ◌∷◌, ◌++◌, Some, refl}
 use Rattle.tsp_rules.specs.Values.{Post, Placed, Message, Kind, AdjTime, Conflict, Election, QuitKind, SetDateReq, SetTime, Nothing, TimeBody, PeerId, Peer, Port}
 use Rattle.tsp_base.specs.Words.{Past, plain, carries_time, carries_hops, MessageValue, body_fits, word, Performs, Row, bare, timed, for_each, grown, others, reading, posts, posts_time, post_of, has_own_number, is_correction, is_numbered, is_set_date_request, begun}
-use Rattle.tsp_base.proofs.SendLemmas.{open_send-begins}
-use Rattle.tsp_base.proofs.PerformsLemmas.{Performs_each_more}
-use Rattle.tsp_base.proofs.RowLemmas.{others-more}
+use Rattle.tsp_base.proofs.{PerformsLemmas.Performs_each_more, RowLemmas.others-more, SendLemmas.open_send-begins}
 use Rattle.tsp_rules.specs.SendRows.{next_number, begins, begins_timed}
 use Rattle.tsp_sends.specs.Slots.{SetsOnly}
 use Rattle.tsp_acks.specs.declared.station.Station.{Station}
-use Rattle.tsp_acks.specs.Changes.{ChangesSends}
-use Rattle.tsp_acks.specs.Openings.{is_bare_send}
-use Rattle.tsp_acks.specs.Stands.{StationStands, StandsActing, own_number}
+use Rattle.tsp_acks.specs.{Changes.ChangesSends, Openings.is_bare_send, Stands.StationStands, Stands.StandsActing, Stands.own_number}
 
 -- what the kinds of a send are: which body fits, whether it is numbered, and whether by the port itself
 pub is_bare_send-fits : (k : Kind) → is_bare_send k ≡ true → body_fits k Nothing ≡ true

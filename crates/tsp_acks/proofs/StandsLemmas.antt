@@ -1,12 +1,10 @@
 -- Acts that change nothing that a station stands for.
-use Rattle.std.specs.Prelude.{◌≡◌, ℕ, ◌%◌, Bool, true, false, List, [], ◌∷◌, map, refl}
-use Rattle.std.proofs.Common.{sym, ◌∙◌, ap}
+use Rattle.std.proofs.Common.{sym, ◌∙◌, ap, ◌≡◌, ℕ, ◌%◌, Bool, true, false, List, [], ◌∷◌, map, refl}
 use Rattle.std.proofs.lemmas.Bool.{false≢true}
 use Rattle.tsp_rules.specs.Values.{Act, Took, Post, Close, Correct, Sample, Join, Leave, Rival, Trace, Message, Stamp, Kind, Conflict, Election, QuitKind, SetDateReq, PeerId, Place, Peer, Stranger, StampValue}
 use Rattle.tsp_base.specs.Words.{Step, Past, Seen, MessageValue, Keeps, bare, grown, post_of, puts, is_numbered, has_own_number, begun}
 use Rattle.tsp_base.proofs.SendLemmas.{seen_act, open_send-unnumbered}
-use Rattle.tsp_acks.specs.declared.station.Station.{Station}
-use Rattle.tsp_acks.specs.Stands.{StationStands}
+use Rattle.tsp_acks.specs.{Stands.StationStands, declared.station.Station.Station}
 
 -- a message that isn't numbered has no number of the port's own
 own-unnumbered : (k : Kind) → is_numbered k ≡ false → has_own_number k ≡ false

@@ -4,8 +4,7 @@ use Rattle.tsp_rules.specs.Values.{Kind, Conflict, Election, QuitKind, PeerId}
 use Rattle.tsp_base.specs.Words.{Past, is_set_date_request}
 use Rattle.tsp_rules.specs.DateRows.{has_date}
 use Rattle.tsp_rules.specs.SendRows.{has_election, has_other, is_kind_election, ends_by_ack}
-use Rattle.tsp_acks.specs.declared.ends.Answer.{Answer}
-use Rattle.tsp_acks.specs.declared.ends.Answer.TheVariants.{Vote, Date, Ack}
+use Rattle.tsp_acks.specs.declared.ends.Answer.{Answer, TheVariants.Vote, TheVariants.Date, TheVariants.Ack}
 
 -- whether a send of this kind has the port's own next number and carries nothing else
 abbrev pub is_bare_send : Kind → Bool

@@ -3,8 +3,7 @@ use Rattle.std.specs.Prelude.{◌≡◌, ℕ, ◌+◌, ◌%◌, min, true, false
 use Rattle.tsp_rules.specs.Values.{PeerId, Starting}
 use Rattle.tsp_base.specs.Words.{none_armed, Past, plain, word, role, armed, held, backers, acting, open_send, begun}
 use Rattle.tsp_sends.specs.Slots.{sending_to}
-use Rattle.tsp_acks.specs.declared.me.Me.{Me}
-use Rattle.tsp_acks.specs.declared.station.Station.{Station}
+use Rattle.tsp_acks.specs.declared.{me.Me.Me, station.Station.Station}
 
 -- the station has exactly the facts of its port's past
 pub record StationStands (past : Past) (station : Station) : Type 0 where

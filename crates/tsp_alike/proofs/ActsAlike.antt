@@ -1,10 +1,7 @@
 -- What rows ask of acts is the same of renamed acts.
-use Rattle.std.specs.Prelude.{◌≡◌, ◌||◌, List, [], ◌∷◌, map, refl}
-use Rattle.std.proofs.Common.{ap, ◌∙◌}
+use Rattle.std.proofs.Common.{ap, ◌∙◌, ◌≡◌, ◌||◌, List, [], ◌∷◌, map, refl}
 use Rattle.tsp_rules.specs.Values.{Act, Correct, Ring}
-use Rattle.tsp_rules.specs.GateRows.{has_rung}
-use Rattle.tsp_rules.specs.RoundRows.{corrects, is_correct}
-use Rattle.tsp_rules.specs.Renames.{Renaming, renamed_act}
+use Rattle.tsp_rules.specs.{GateRows.has_rung, Renames.Renaming, Renames.renamed_act, RoundRows.corrects, RoundRows.is_correct}
 
 module _ (n : Renaming) where
   correct_renamed : (act : Act) → is_correct (renamed_act n act) ≡ is_correct act

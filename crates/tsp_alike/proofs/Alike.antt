@@ -1,10 +1,8 @@
 -- Two pasts of a port that are alike: since a boot they differ only in what its peers are called and in when its ticks begin. Whatever
 -- was before the boot may differ.
 use Rattle.std.specs.Prelude.{◌≡◌, ℕ, ◌+◌, ◌==◌, true, false, List, ◌∷◌, length, map}
-use Rattle.tsp_rules.specs.Values.{Boot, PeerId}
 use Rattle.tsp_base.specs.Words.{Deed, Begins, Acts, Step, Seen, Here, Elsewhere, Past, is_among, others}
-use Rattle.tsp_rules.specs.NodeRows.{PortSetup}
-use Rattle.tsp_rules.specs.Renames.{Renaming, Naming}
+use Rattle.tsp_rules.specs.{NodeRows.PortSetup, Renames.Renaming, Renames.Naming, Values.Boot, Values.PeerId}
 use Rattle.tsp_alike.specs.AlikeNodes.{KnowsDeed, SameBoot, is_later, renamed_deed}
 
 -- a deed of a step, as it is seen here

@@ -1,6 +1,5 @@
 -- The laws: answers and boots are alike.
-use Rattle.std.specs.Prelude.{ℕ, ◌+◌, [], ◌∷◌, refl}
-use Rattle.std.proofs.Common.{ap}
+use Rattle.std.proofs.Common.{ap, ℕ, ◌+◌, [], ◌∷◌, refl}
 use Rattle.tsp_rules.specs.Values.{Boot, Peer, Stranger, Port}
 use Rattle.tsp_base.specs.Words.{first_port, puts}
 use Rattle.tsp_rules.specs.GateRows.{NodeGiven, NodeTurn, GotOn, all_ports, boots_all, boots_on}

@@ -1,17 +1,13 @@
 -- Facts that rows read are the same at alike pasts, but for the names of peers and later ticks.
-use Rattle.std.specs.Prelude.{◌≡◌, ℕ, ◌+◌, ◌%◌, List, refl}
-use Rattle.std.proofs.Common.{ap, ◌∙◌}
+use Rattle.std.proofs.Common.{ap, ◌∙◌, ◌≡◌, ℕ, ◌+◌, ◌%◌, List, refl}
 use Rattle.tsp_rules.specs.Values.{PeerId, Role, Follow, Master}
 use Rattle.tsp_base.specs.Words.{Past, plain, begun, kept_name, role, word}
-use Rattle.tsp_rules.specs.CommonRows.{master_name, master_name_in, own_at}
+use Rattle.tsp_rules.specs.{CommonRows.master_name, CommonRows.master_name_in, CommonRows.own_at, RoundRows.request_at}
 use Rattle.tsp_rules.specs.Guards.{delay, delay_at, role_at, target_at, ticket_at}
-use Rattle.tsp_rules.specs.RoundRows.{request_at}
 use Rattle.tsp_rules.specs.SendRows.{next_number, open_at}
 use Rattle.tsp_rules.specs.Renames.{Renaming, Naming, known_role, later_sends, renamed_role}
-use Rattle.tsp_alike.proofs.Alike.{AlikePast}
-use Rattle.tsp_alike.proofs.NodeAlike.{target_alike, ticket_alike, word_alike}
-use Rattle.tsp_alike.proofs.PortAlike.{kept_name_alike, role_alike, role_known}
-use Rattle.tsp_alike.proofs.RoundsAlike.{request_open_alike}
+use Rattle.tsp_alike.proofs.{Alike.AlikePast, NodeAlike.target_alike, NodeAlike.ticket_alike, NodeAlike.word_alike}
+use Rattle.tsp_alike.proofs.{PortAlike.kept_name_alike, PortAlike.role_alike, PortAlike.role_known, RoundsAlike.request_open_alike}
 use Rattle.tsp_alike.proofs.SendsAlike.{begun_alike, open_send_alike}
 
 name_in_role : (n : Renaming) (r : Role) (own kept : List ℕ) → master_name_in (renamed_role n r) own kept ≡ master_name_in r own kept

@@ -1,6 +1,5 @@
 -- What a node's rows over its ports read is the same for pasts that are alike.
-use Rattle.std.specs.Prelude.{◌≡◌, ℕ, ◌+◌, ◌<◌, ◌==◌, nat_le, nat_lt, Bool, not, ◌&&◌, ◌||◌, if◌then◌else◌, List, [], ◌∷◌, length, filter, map, All, refl}
-use Rattle.std.proofs.Common.{ap, arith, ◌∙◌}
+use Rattle.std.proofs.Common.{ap, arith, ◌∙◌, ◌≡◌, ℕ, ◌+◌, ◌<◌, ◌==◌, nat_le, nat_lt, Bool, not, ◌&&◌, ◌||◌, if◌then◌else◌, List, [], ◌∷◌, length, filter, map, All, refl}
 use Rattle.std.proofs.lemmas.List.Elements.{All-nil, All-cons}
 use Rattle.tsp_rules.specs.Values.{Act, Kind, Place, Peer, Stranger, Port}
 use Rattle.tsp_base.specs.Words.{Step, Line, role, sets_date, view}
@@ -9,12 +8,9 @@ use Rattle.tsp_rules.specs.Guards.{is_follow, is_master, is_starting_role}
 use Rattle.tsp_rules.specs.NodeRows.{NodePast, PortSetup, on_port}
 use Rattle.tsp_rules.specs.Renames.{Renaming, renamed_act, renamed_place}
 use Rattle.tsp_alike.specs.AlikeNodes.{AlikeNodes, TellsApart}
-use Rattle.tsp_alike.proofs.Alike.{Alike}
-use Rattle.tsp_alike.proofs.ActsAlike.{has_rung_renamed}
+use Rattle.tsp_alike.proofs.{ActsAlike.has_rung_renamed, Alike.Alike, PortAlike.role_alike, RoundsAlike.is_going_alike}
 use Rattle.tsp_alike.proofs.TestsAlike.{follow_renamed, master_renamed, starting_renamed, hears_alike, is_last_probe_alike}
 use Rattle.tsp_alike.proofs.NodesAlike.{naming_on, past_with, view_alike, port_alike}
-use Rattle.tsp_alike.proofs.PortAlike.{role_alike}
-use Rattle.tsp_alike.proofs.RoundsAlike.{is_going_alike}
 
 -- as many ports have the same numbers
 pub ports_same : (k : ℕ) (a b : List PortSetup) → length b ≡ length a → ports_from k b ≡ ports_from k a

@@ -1,19 +1,15 @@
 -- A node's answers over all its ports move.
-use Rattle.std.specs.Prelude.{◌≡◌, ℕ, ◌+◌, ◌<◌, ◌==◌, Bool, true, false, not, if◌then◌else◌, List, [], ◌∷◌, ◌++◌, length, filter, map, All, refl}
-use Rattle.std.proofs.Common.{sym, ap, subst, arith, ◌∙◌}
+use Rattle.std.proofs.Common.{sym, ap, subst, arith, ◌∙◌, ◌≡◌, ℕ, ◌+◌, ◌<◌, ◌==◌, Bool, true, false, not, if◌then◌else◌, List, [], ◌∷◌, ◌++◌, length, filter, map, All, refl}
 use Rattle.std.proofs.lemmas.List.Elements.{All-nil, All-cons, All-filter}
 use Rattle.tsp_rules.specs.Values.{Act, Abandon, Become, Quiet, Round, Probe, CloseAlarm, Alarm, Message, Stamp, Taken, Good, Bad, Took, Placed, Kind, LoopKind, Place, Port, Starting, ALL, QUIET}
 use Rattle.tsp_base.specs.Words.{Step, Line, MessageValue, Row, arms, puts, ◌followed_by◌, is_going, sets_date, view}
-use Rattle.tsp_rules.specs.Answers.{rings, takes}
+use Rattle.tsp_rules.specs.{Answers.rings, Answers.takes, RoundRows.corrects, SendRows.due_sends}
 use Rattle.tsp_rules.specs.GateRows.{NodeGiven, NodeTurn, GotOn, LoopStep, PassOver, GiveUp, Forward, alarm_on, alarms_on, all_ports, answers_all, begins_round_on, boots_on, closes_on, each_on, ends_probes, forwards, hears_on, heeds_loop, in_charge, input_all, is_awake_on, judge, judges, leads_clock, loosens_master, loops_after, other_ports, ports_from, probes_on, reposts, reposts_on, sends_loops, steers, stirred_ports, takes_kind, takes_loop, takes_loop_step, takes_message, takes_on, turns_on, waits}
 use Rattle.tsp_rules.specs.NodeRows.{NodePast, NodeRow, PortSetup, abandons_on, for_ports, on, on_port, reading_all, spread, stirring, ◌and_then◌}
-use Rattle.tsp_rules.specs.RoundRows.{corrects}
-use Rattle.tsp_rules.specs.SendRows.{due_sends}
 use Rattle.tsp_rules.specs.Renames.{Renaming, Knows, comes_place, renamed_act, renamed_place}
 use Rattle.tsp_alike.specs.AlikeNodes.{AlikeNodes, StepsAlike, TellsApart, renamed_given}
-use Rattle.tsp_alike.proofs.ActsAlike.{corrects_renamed}
+use Rattle.tsp_alike.proofs.{ActsAlike.corrects_renamed, Moves.Moves}
 use Rattle.tsp_alike.proofs.GateAlike.{ends_same, goes_same, awake_same, hears_same, in_charge_same, leads_clock_same, other_same, ports_below, ports_same, steers_same, stirred_same, waits_same}
-use Rattle.tsp_alike.proofs.Moves.{Moves}
 use Rattle.tsp_alike.proofs.NodesAlike.{NodeMoves, for_ports_move, naming_on, nothing_moves, on_moves, past_with, port_alike, steps_alike, then_moves}
 use Rattle.tsp_alike.proofs.RowsMove.{due_sends_move, loops_move, loosens_master_moves, reposts_move, rings_move, starts_move, takes_move, took_moves}
 

@@ -1,20 +1,14 @@
 -- Rows that put acts put the same at alike pasts, but for the names of peers and later ticks.
-use Rattle.std.specs.Prelude.{◌≡◌, ℕ, ◌+◌, ◌%◌, ◌^◌, ℤ, ◌+ℤ◌, ◌-ℤ◌, Bool, true, false, if◌then◌else◌, List, [], ◌∷◌, map, refl}
-use Rattle.std.proofs.Common.{ap, arith, ◌∙◌}
+use Rattle.std.proofs.Common.{ap, arith, ◌∙◌, ◌≡◌, ℕ, ◌+◌, ◌%◌, ◌^◌, ℤ, ◌+ℤ◌, ◌-ℤ◌, Bool, true, false, if◌then◌else◌, List, [], ◌∷◌, map, refl}
 use Rattle.tsp_rules.specs.Values.{Act, Post, Correct, Arm, Alarm, Message, Stamp, Kind, SetTime, PeerId, Place, Peer, Port, Request, Reply}
 use Rattle.tsp_base.specs.Words.{Past, plain, MessageValue, arms, asked, bare, nothing, others, post_of, posts, posts_back, posts_time, posts_to_others, puts, ReplyValue, shown, timed, word, either_by, reading}
-use Rattle.tsp_rules.specs.ClockRows.{adjusts, is_step, sets}
-use Rattle.tsp_rules.specs.CommonRows.{posts_reply, replies}
+use Rattle.tsp_rules.specs.{ClockRows.adjusts, ClockRows.is_step, ClockRows.sets, CommonRows.posts_reply, CommonRows.replies}
 use Rattle.tsp_rules.specs.GateRows.{loop_to, repost, reposts, sends_loops}
-use Rattle.tsp_rules.specs.Guards.{is_in_range, target_at, ticket_at}
-use Rattle.tsp_rules.specs.RoundRows.{asks, sample_of}
+use Rattle.tsp_rules.specs.{Guards.is_in_range, Guards.target_at, Guards.ticket_at, RoundRows.asks, RoundRows.sample_of}
 use Rattle.tsp_rules.specs.SendRows.{begins_settime, may_set, repeats}
 use Rattle.tsp_rules.specs.Renames.{Renaming, Naming, renamed_act, renamed_place}
-use Rattle.tsp_alike.proofs.Alike.{AlikePast}
-use Rattle.tsp_alike.proofs.FactsAlike.{target_at_alike, ticket_at_alike}
-use Rattle.tsp_alike.proofs.NodeAlike.{shown_alike, word_alike}
-use Rattle.tsp_alike.proofs.RoundsAlike.{asked_alike}
-use Rattle.tsp_alike.proofs.SendTestsAlike.{is_in_range_alike, may_set_alike}
+use Rattle.tsp_alike.proofs.{Alike.AlikePast, FactsAlike.target_at_alike, FactsAlike.ticket_at_alike, RoundsAlike.asked_alike}
+use Rattle.tsp_alike.proofs.{NodeAlike.shown_alike, NodeAlike.word_alike, SendTestsAlike.is_in_range_alike, SendTestsAlike.may_set_alike}
 
 -- an act for each renamed peer
 acts_renamed : (n : Renaming) (act act' : PeerId → Act) → ((r : PeerId) → act' (n.peer r) ≡ renamed_act n (act r)) → (rs : List PeerId) → map act' (map n.peer rs) ≡ map (renamed_act n) (map act rs)

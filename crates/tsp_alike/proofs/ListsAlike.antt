@@ -1,22 +1,14 @@
 -- The lists of peers that rows go through, at alike pasts.
-use Rattle.std.specs.Prelude.{◌≡◌, ℕ, ◌+◌, ◌==◌, Bool, true, false, not, ◌||◌, if◌then◌else◌, List, [], ◌∷◌, map, filter, refl, is_some, Option, None, Some}
-use Rattle.std.specs.List.{All}
-use Rattle.std.proofs.Common.{ap, sym, ◌∙◌}
-use Rattle.std.proofs.lemmas.Bool.{eq-eqb, eqb-false, ne_eqb}
+use Rattle.std.proofs.Common.{ap, sym, ◌∙◌, ◌≡◌, ℕ, ◌+◌, ◌==◌, Bool, true, false, not, ◌||◌, if◌then◌else◌, List, [], ◌∷◌, map, filter, refl, is_some, Option, None, Some}
+use Rattle.std.{proofs.lemmas.Bool.eq-eqb, proofs.lemmas.Bool.eqb-false, proofs.lemmas.Bool.ne_eqb, specs.List.All}
 use Rattle.std.proofs.lemmas.List.Elements.{All-nil, All-cons, All-head, All-tail, All-same, All-weaker, All-filter}
-use Rattle.tsp_rules.specs.Values.{PeerId}
 use Rattle.tsp_base.specs.Words.{Past, in_table, is_among, is_measured, is_rival, others, Sending, estimate, Seen}
-use Rattle.tsp_rules.specs.Guards.{rivals_at, table_at}
-use Rattle.tsp_rules.specs.NodeRows.{PortSetup}
-use Rattle.tsp_rules.specs.RoundRows.{measured_at, round_at, standing}
-use Rattle.tsp_rules.specs.SendRows.{others_at}
-use Rattle.tsp_rules.specs.Renames.{Naming, Renaming, later_sends}
+use Rattle.tsp_rules.specs.{Guards.rivals_at, Guards.table_at, NodeRows.PortSetup, Renames.Naming, Renames.Renaming, Renames.later_sends}
+use Rattle.tsp_rules.specs.{RoundRows.measured_at, RoundRows.round_at, RoundRows.standing, SendRows.others_at, Values.PeerId}
 use Rattle.tsp_rules.proofs.GuardFacts.{same_peer}
-use Rattle.tsp_alike.proofs.Alike.{AlikePort, AlikePast, Alike}
-use Rattle.tsp_alike.proofs.PortAlike.{in_table_alike, is_rival_alike}
-use Rattle.tsp_alike.proofs.RoundsAlike.{is_measured_alike, estimate_alike}
+use Rattle.tsp_alike.proofs.{Alike.AlikePort, Alike.AlikePast, Alike.Alike, PortAlike.in_table_alike, PortAlike.is_rival_alike}
 use Rattle.tsp_alike.proofs.Unnamed.{in_table_unnamed, is_measured_unnamed, is_rival_unnamed}
-use Rattle.tsp_alike.proofs.Renamed.{renamed_standing}
+use Rattle.tsp_alike.proofs.{Renamed.renamed_standing, RoundsAlike.is_measured_alike, RoundsAlike.estimate_alike}
 
 -- the renamed peers that pass a test, if renaming doesn't change what it says
 pub filter_renamed : (f : PeerId → PeerId) (t t' : PeerId → Bool) → ((p : PeerId) → t' (f p) ≡ t p) → (ps : List PeerId) → filter t' (map f ps) ≡ map f (filter t ps)

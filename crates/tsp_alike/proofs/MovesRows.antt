@@ -1,14 +1,10 @@
 -- How moving rows are put together.
-use Rattle.std.specs.Prelude.{◌≡◌, ℕ, ◌+◌, ◌==◌, Bool, true, false, not, if◌then◌else◌, List, [], ◌∷◌, ◌++◌, map, All, refl}
-use Rattle.std.proofs.Common.{sym, ap, subst, ◌∙◌}
+use Rattle.std.proofs.Common.{sym, ap, subst, ◌∙◌, ◌≡◌, ℕ, ◌+◌, ◌==◌, Bool, true, false, not, if◌then◌else◌, List, [], ◌∷◌, ◌++◌, map, All, refl}
 use Rattle.std.proofs.lemmas.List.{map-append}
 use Rattle.std.proofs.lemmas.List.Elements.{All-nil, All-head, All-tail, All-append}
-use Rattle.tsp_rules.specs.Values.{Act, PeerId}
 use Rattle.tsp_base.specs.Words.{Step, Acts, Past, Row, Seen, added, grown, nothing, others, ◌followed_by◌, either_by, for_each}
-use Rattle.tsp_rules.specs.Renames.{Naming, Knows, renamed_act}
-use Rattle.tsp_alike.proofs.Alike.{Alike, AlikePast, Own}
-use Rattle.tsp_alike.proofs.Moves.{Moves, MovesAt}
-use Rattle.tsp_alike.proofs.NodesAlike.{later_known}
+use Rattle.tsp_rules.specs.{Renames.Naming, Renames.Knows, Renames.renamed_act, Values.Act, Values.PeerId}
+use Rattle.tsp_alike.proofs.{Alike.Alike, Alike.AlikePast, Alike.Own, Moves.Moves, Moves.MovesAt, NodesAlike.later_known}
 
 module _ {m : Naming} where
   added-alike : (s s' : Step) (x : ℕ) (acts : List Act) → All (Knows m) acts → {seen seen' : List Seen} → Alike m seen seen' → Alike m (added s x acts seen) (added s' (x + m.names.shift) (map (renamed_act m.names) acts) seen')

@@ -1,15 +1,11 @@
 -- Facts of a node at alike pasts of its port: word, ticket and clock are the same; ticks are later.
-use Rattle.std.specs.Prelude.{◌≡◌, ℕ, ◌+◌, ◌-◌, ◌/◌, ◌%◌, ℤ, pos, ◌+ℤ◌, ◌-ℤ◌, true, List, refl, ◌∷◌}
-use Rattle.std.proofs.Common.{ap, arith, sym, true≢false, ◌∙◌}
+use Rattle.std.proofs.Common.{ap, arith, sym, true≢false, ◌∙◌, ◌≡◌, ℕ, ◌+◌, ◌-◌, ◌/◌, ◌%◌, ℤ, pos, ◌+ℤ◌, ◌-ℤ◌, true, List, refl, ◌∷◌}
 use Rattle.std.proofs.lemmas.Int.{ints}
-use Rattle.tsp_rules.specs.Values.{Boot, Correct, SLEW}
 use Rattle.tsp_base.specs.Words.{Cause, Deed, Acts, Seen, plain, word, word_after, wall, wall_after, boot_tick, boot_after, corrects, ticket, moved, moved_after, target, last_correct, last_correct_after, eased, rest, rest_after, rest_at, shown, Step, Did, correct_place, correct_place_after, tick_in, correct_tick}
 use Rattle.tsp_base.specs.NodeFacts.{corrects_after}
-use Rattle.tsp_rules.specs.Renames.{Renaming, Naming}
-use Rattle.tsp_alike.specs.AlikeNodes.{renamed_deed, is_later}
+use Rattle.tsp_rules.specs.{Renames.Renaming, Renames.Naming, Values.Boot, Values.Correct, Values.SLEW}
 use Rattle.tsp_alike.proofs.Alike.{Alike, Booted, Own, Other}
-use Rattle.tsp_alike.proofs.Ticks.{same_time}
-use Rattle.tsp_alike.proofs.Renamed.{later}
+use Rattle.tsp_alike.{proofs.Renamed.later, proofs.Ticks.same_time, specs.AlikeNodes.renamed_deed, specs.AlikeNodes.is_later}
 
 -- a value that starts with the boot's tick
 same_target : (w : ℤ) (b c x : ℕ) (z : ℤ) → ((w -ℤ pos (b + c)) +ℤ z) +ℤ pos (x + c) ≡ ((w -ℤ pos b) +ℤ z) +ℤ pos x

@@ -1,8 +1,6 @@
 -- Rows over ports do alike on pasts that are alike.
-use Rattle.std.specs.Prelude.{◌≡◌, ℕ, ◌+◌, ◌<◌, ◌==◌, Bool, true, false, not, ◌||◌, if◌then◌else◌, List, [], ◌∷◌, ◌++◌, length, map, All, slice_index_or, refl}
-use Rattle.std.proofs.Common.{sym, ap, subst, inl, inr, true≢false, eqb-true, ◌∙◌}
-use Rattle.std.proofs.lemmas.Bool.{or_cases}
-use Rattle.std.proofs.lemmas.List.{map-append}
+use Rattle.std.proofs.Common.{sym, ap, subst, inl, inr, true≢false, eqb-true, ◌∙◌, ◌≡◌, ℕ, ◌+◌, ◌<◌, ◌==◌, Bool, true, false, not, ◌||◌, if◌then◌else◌, List, [], ◌∷◌, ◌++◌, length, map, All, slice_index_or, refl}
+use Rattle.std.proofs.lemmas.{Bool.or_cases, List.map-append}
 use Rattle.std.proofs.lemmas.List.Elements.{All-nil, All-cons, All-head, All-tail, All-append}
 use Rattle.tsp_rules.specs.Values.{Act, Boot, Placed, PeerId, Port}
 use Rattle.tsp_base.specs.Words.{Deed, Begins, Acts, Step, Line, Row, first_port, is_shared, joined, line_of, placed, seen_as, view, is_among, others}
@@ -10,8 +8,7 @@ use Rattle.tsp_rules.specs.NodeRows.{NodePast, NodeRow, PortSetup, no_port, noth
 use Rattle.tsp_rules.specs.Renames.{Naming, Renaming, Knows, renamed_act}
 use Rattle.tsp_alike.specs.AlikeNodes.{AlikeLines, AlikeNodes, AllKnown, Booted, Both, KnowsDeed, StepsAlike, TellsApart, is_later, naming_of, renamed_deed, renamed_placed}
 use Rattle.tsp_alike.proofs.Alike.{Alike, AlikePast, Booted as PortBooted, Own, Other, elsewhere, here}
-use Rattle.tsp_alike.proofs.ListsAlike.{among_others}
-use Rattle.tsp_alike.proofs.Moves.{Moves}
+use Rattle.tsp_alike.proofs.{ListsAlike.among_others, Moves.Moves}
 
 -- an act that names known peers is no boot
 pub later_known : (m : Naming) (a : Act) → Knows m a → is_later (Acts a) ≡ true

@@ -1,11 +1,8 @@
 -- Places in alike pasts: the deeds there, and what was before them, are alike.
-use Rattle.std.specs.Prelude.{◌≡◌, ℕ, ◌+◌, Bool, true, false, if◌then◌else◌, List, [], ◌∷◌, Option, None, Some, refl}
-use Rattle.std.proofs.Common.{ap, sym, true≢false, ◌∙◌}
-use Rattle.tsp_rules.specs.Values.{Post, Message}
+use Rattle.std.proofs.Common.{ap, sym, true≢false, ◌∙◌, ◌≡◌, ℕ, ◌+◌, Bool, true, false, if◌then◌else◌, List, [], ◌∷◌, Option, None, Some, refl}
 use Rattle.tsp_base.specs.Words.{Deed, Acts, Step, Seen, MessageValue, message_of, message_at, sending_of, sending_at}
-use Rattle.tsp_rules.specs.Renames.{Renaming, Naming, later_sends}
-use Rattle.tsp_alike.specs.AlikeNodes.{renamed_deed}
-use Rattle.tsp_alike.proofs.Alike.{Alike, here}
+use Rattle.tsp_rules.specs.{Renames.Renaming, Renames.Naming, Renames.later_sends, Values.Post, Values.Message}
+use Rattle.tsp_alike.{proofs.Alike.Alike, proofs.Alike.here, specs.AlikeNodes.renamed_deed}
 
 -- no place in both, or places of own deeds that are alike
 pub data AlikePlaces (m : Naming) : List Seen → List Seen → Type 0 where

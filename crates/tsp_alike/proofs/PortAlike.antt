@@ -1,14 +1,12 @@
 -- Facts of a port at alike pasts: role, alarms, hold, what a step took, table, backers, rivals.
-use Rattle.std.specs.Prelude.{◌≡◌, ℕ, ◌+◌, Bool, true, false, if◌then◌else◌, List, map, Option, None, Some, is_some, refl}
-use Rattle.std.proofs.Common.{sym, ap, true≢false, ◌∙◌}
+use Rattle.std.proofs.Common.{sym, ap, true≢false, ◌∙◌, ◌≡◌, ℕ, ◌+◌, Bool, true, false, if◌then◌else◌, List, map, Option, None, Some, is_some, refl}
 use Rattle.tsp_rules.specs.Values.{Boot, Took, Become, Arm, Ring, Late, Back, Backer, Abandon, Join, Leave, Rival, Quit, Alarm, Window, Quiet, PeerId, Place, Peer, Stranger, Role, Follow, HOLD, ELECT_MIN}
 use Rattle.tsp_base.specs.Words.{Deed, Begins, Acts, Seen, Deadlines, deadline, with_deadline, Held, may_back, may_back_after, may_stand, Received, MessageValue, role, role_after, taken, taken_after, acting, acting_after, name_in, said, said_by, message_in, kept_name, kept_name_after, held, held_after, armed, armed_after, in_table, backers, backers_after, is_rival, is_rival_after}
 use Rattle.tsp_base.specs.PortFacts.{in_table_after}
 use Rattle.tsp_rules.specs.Renames.{Renaming, Naming, Knows, renamed_place, renamed_role, known_role}
-use Rattle.tsp_alike.specs.AlikeNodes.{renamed_deed, KnowsDeed}
 use Rattle.tsp_alike.proofs.Alike.{Alike, Booted, Own, Other}
 use Rattle.tsp_alike.proofs.Renamed.{later, later_deadlines, renamed_back, renamed_held, renamed_taken, renamed_said}
-use Rattle.tsp_alike.proofs.Ticks.{le_after, past_later}
+use Rattle.tsp_alike.{proofs.Ticks.le_after, proofs.Ticks.past_later, specs.AlikeNodes.renamed_deed, specs.AlikeNodes.KnowsDeed}
 
 -- what a deed does to a fact, with other names
 module _ (n : Renaming) where

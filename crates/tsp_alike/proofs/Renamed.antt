@@ -1,9 +1,7 @@
 -- What renaming makes of the facts of a port.
 use Rattle.std.specs.Prelude.{ℕ, ◌+◌, Option, None, Some}
-use Rattle.tsp_rules.specs.Values.{PeerId}
 use Rattle.tsp_base.specs.Words.{Correcting, Dating, Deadlines, Held, Received, Said}
-use Rattle.tsp_rules.specs.RoundRows.{Standing}
-use Rattle.tsp_rules.specs.Renames.{Renaming, renamed_place}
+use Rattle.tsp_rules.specs.{Renames.Renaming, Renames.renamed_place, RoundRows.Standing, Values.PeerId}
 
 -- a later tick, if there is one
 abbrev pub later : Renaming → Option ℕ → Option ℕ

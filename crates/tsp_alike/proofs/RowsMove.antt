@@ -2,16 +2,12 @@
 use Rattle.std.specs.Prelude.{Bool}
 use Rattle.tsp_base.specs.Words.{MessageValue, arms, puts, ◌followed_by◌}
 use Rattle.tsp_rules.specs.Values.{Took, Become, Quiet, Alarm, Place, Port, Starting, Taken, QUIET}
-use Rattle.tsp_rules.specs.Answers.{rings, takes}
-use Rattle.tsp_rules.specs.GateRows.{loosens_master, reposts, sends_loops}
-use Rattle.tsp_rules.specs.SendRows.{due_sends}
-use Rattle.tsp_rules.specs.Renames.{Naming, comes_place, renamed_place}
-use Rattle.tsp_rules.proofs.BuiltAnswers.{built_rings, built_takes, built_took}
+use Rattle.tsp_rules.specs.{Answers.rings, Answers.takes, GateRows.loosens_master, GateRows.reposts, GateRows.sends_loops}
+use Rattle.tsp_rules.specs.{Renames.Naming, Renames.comes_place, Renames.renamed_place, SendRows.due_sends}
+use Rattle.tsp_rules.proofs.{BuiltAnswers.built_rings, BuiltAnswers.built_takes, BuiltAnswers.built_took, BuiltSends.built_due_sends}
 use Rattle.tsp_rules.proofs.BuiltGate.{built_loosens_master, built_reposts, built_sends_loops, built_starts}
-use Rattle.tsp_rules.proofs.BuiltSends.{built_due_sends}
 use Rattle.tsp_rules.proofs.EmitsBuilt.{nothing_taken}
-use Rattle.tsp_alike.proofs.Moves.{Moves}
-use Rattle.tsp_alike.proofs.MovesBuilt.{moves_built}
+use Rattle.tsp_alike.proofs.{Moves.Moves, MovesBuilt.moves_built}
 
 module _ {m : Naming} where
   pub due_sends_move : Moves m due_sends due_sends

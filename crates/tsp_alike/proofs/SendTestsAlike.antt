@@ -1,19 +1,15 @@
 -- Tests of sends, corrections and dates say the same at alike pasts.
-use Rattle.std.specs.Prelude.{◌≡◌, ℕ, ◌+◌, ◌*◌, ◌%◌, ◌==◌, nat_le, nat_lt, ℤ, ◌+ℤ◌, not, ◌&&◌, ◌||◌, List, [], ◌∷◌, map, Option, None, Some, is_some, refl}
-use Rattle.std.proofs.Common.{ap, ◌∙◌}
+use Rattle.std.proofs.Common.{ap, ◌∙◌, ◌≡◌, ℕ, ◌+◌, ◌*◌, ◌%◌, ◌==◌, nat_le, nat_lt, ℤ, ◌+ℤ◌, not, ◌&&◌, ◌||◌, List, [], ◌∷◌, map, Option, None, Some, is_some, refl}
 use Rattle.tsp_rules.specs.Values.{PeerId, GAP, REUSE, DATEHOLD, LAST, TRIES, RETRY}
 use Rattle.tsp_base.specs.Words.{Past, plain, correct_tick, Correcting, Dating, is_acknowledged, is_past, last_asked, last_date, last_number, last_post, last_taken, open_send, Sending, ticket}
-use Rattle.tsp_rules.specs.ClockRows.{can_adjust}
+use Rattle.tsp_rules.specs.{ClockRows.can_adjust, RoundRows.has_more}
 use Rattle.tsp_rules.specs.DateRows.{all_settled, answers_date, are_settled, has_date, is_dated, is_last, is_settled, may_date, may_pass_on}
 use Rattle.tsp_rules.specs.Guards.{is_clock_value, is_going_at, is_in_range, table_at}
 use Rattle.tsp_rules.specs.Renames.{Renaming, Naming, later_send, later_sends}
-use Rattle.tsp_rules.specs.RoundRows.{has_more}
 use Rattle.tsp_rules.specs.SendRows.{answers_election, answers_other, has_election, has_other, has_quit, is_free, is_quit, is_send_due, is_spent, may_correct, may_set}
 use Rattle.tsp_rules.specs.SlaveRows.{is_by, is_next, is_repeated, takes_amount, takes_value}
-use Rattle.tsp_alike.proofs.Alike.{AlikePast}
-use Rattle.tsp_alike.proofs.ListsAlike.{table_at_alike}
+use Rattle.tsp_alike.proofs.{Alike.AlikePast, ListsAlike.table_at_alike, Renamed.later_date, Renamed.renamed_correcting}
 use Rattle.tsp_alike.proofs.NodeAlike.{correct_tick_alike, target_alike, ticket_alike}
-use Rattle.tsp_alike.proofs.Renamed.{later_date, renamed_correcting}
 use Rattle.tsp_alike.proofs.RoundsAlike.{is_going_alike, probes_alike}
 use Rattle.tsp_alike.proofs.SendsAlike.{is_acknowledged_alike, last_asked_alike, last_date_alike, last_number_alike, last_post_alike, last_taken_alike, open_send_alike}
 use Rattle.tsp_alike.proofs.Ticks.{le_after, lt_after, lt_until, past_later}

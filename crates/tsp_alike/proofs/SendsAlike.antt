@@ -1,6 +1,5 @@
 -- Facts of a port's numbered sends at alike pasts.
-use Rattle.std.specs.Prelude.{◌≡◌, ℕ, ◌+◌, ◌==◌, Bool, true, false, ◌&&◌, if◌then◌else◌, List, ◌∷◌, Option, None, Some, refl}
-use Rattle.std.proofs.Common.{ap, sym, subst, ◌∙◌}
+use Rattle.std.proofs.Common.{ap, sym, subst, ◌∙◌, ◌≡◌, ℕ, ◌+◌, ◌==◌, Bool, true, false, ◌&&◌, if◌then◌else◌, List, ◌∷◌, Option, None, Some, refl}
 use Rattle.tsp_rules.specs.Values.{Boot, Post, Become, Acked, Gave, Correct, Message, PeerId, Peer}
 use Rattle.tsp_base.specs.Words.{Deed, Acts, Seen, Received, Said, said, taken, acting, is_correction, is_numbered, is_date_request, is_set_date_request, open_to, open_to_after, begun_to, begun_to_after, posts_of, posts_of_after, message_at, sending_at, open_send, begun, begun_after, last_to, last_to_after, number_of, last_number, last_post, last_post_after, corrects_by, is_acknowledged, is_acknowledged_after, Correcting, correcting_of, last_taken, last_taken_after, last_taken_elsewhere, Dating, dating_of, last_date, last_date_after, last_asked, last_asked_after}
 use Rattle.tsp_rules.specs.Renames.{Renaming, Naming, later_sends}

@@ -1,22 +1,14 @@
 -- Tests of alarms, roles, the hold and peers say the same at alike pasts.
-use Rattle.std.specs.Prelude.{◌≡◌, ℕ, ◌+◌, ◌*◌, ◌==◌, nat_lt, Bool, not, ◌&&◌, ◌||◌, length, Option, None, Some, is_some, refl, true, false}
-use Rattle.std.proofs.Common.{ap, ◌∙◌, sym}
+use Rattle.std.proofs.Common.{ap, ◌∙◌, sym, ◌≡◌, ℕ, ◌+◌, ◌*◌, ◌==◌, nat_lt, Bool, not, ◌&&◌, ◌||◌, length, Option, None, Some, is_some, refl, true, false}
 use Rattle.std.proofs.lemmas.List.{length-map}
 use Rattle.tsp_rules.specs.Values.{Alarm, Probe, CloseAlarm, ResolveAlarm, Kind, PeerId, Place, Peer, Stranger, Role, Follow, Window}
 use Rattle.tsp_base.specs.Words.{Past, deadline, armed, backers, held, is_among, is_correction, may_stand, role, is_rival}
-use Rattle.tsp_rules.specs.Answers.{is_left}
-use Rattle.tsp_rules.specs.CandidateRows.{has_won}
-use Rattle.tsp_rules.specs.CommonRows.{is_awake, is_idle, may_be_asked}
+use Rattle.tsp_rules.specs.{Answers.is_left, CandidateRows.has_won, CommonRows.is_awake, CommonRows.is_idle, CommonRows.may_be_asked}
 use Rattle.tsp_rules.specs.Guards.{follows_at, is_armed, is_due, is_follow, is_heard, is_in_time, is_master, is_master_at, is_met, is_over, is_own, is_slave_at, is_starting_role, may_back_at, may_stand_at}
-use Rattle.tsp_rules.specs.GateRows.{is_last_probe}
-use Rattle.tsp_rules.specs.MasterRows.{may_join}
+use Rattle.tsp_rules.specs.{GateRows.is_last_probe, MasterRows.may_join, ResolveRows.is_new_rival}
 use Rattle.tsp_rules.specs.Renames.{Renaming, Naming, renamed_place, renamed_role}
-use Rattle.tsp_rules.specs.ResolveRows.{is_new_rival}
-use Rattle.tsp_alike.proofs.Alike.{AlikePast}
-use Rattle.tsp_alike.proofs.ListsAlike.{is_among_alike}
+use Rattle.tsp_alike.proofs.{Alike.AlikePast, ListsAlike.is_among_alike, Renamed.later, Ticks.met_later, Ticks.over_later}
 use Rattle.tsp_alike.proofs.PortAlike.{backers_alike, deadline_alike, in_table_alike, is_rival_alike, may_back_alike, may_stand_alike, role_alike, window_stands}
-use Rattle.tsp_alike.proofs.Renamed.{later}
-use Rattle.tsp_alike.proofs.Ticks.{met_later, over_later}
 
 -- tests of renamed values
 module _ (n : Renaming) where

@@ -1,11 +1,8 @@
 -- Ticks that are later by the same number compare alike.
-use Rattle.std.specs.Prelude.{◌≡◌, ℕ, ◌+◌, ◌-◌, suc, nat_le, nat_lt, Bool, true, false, Option, None, Some, refl}
-use Rattle.std.proofs.Common.{ap, arith, ◌∙◌}
+use Rattle.std.proofs.Common.{ap, arith, ◌∙◌, ◌≡◌, ℕ, ◌+◌, ◌-◌, suc, nat_le, nat_lt, Bool, true, false, Option, None, Some, refl}
 use Rattle.std.proofs.lemmas.Bool.{leb-true, leb-false, le-leb, lt-leb}
 use Rattle.tsp_base.specs.Words.{is_past}
-use Rattle.tsp_rules.specs.Guards.{is_over, is_met}
-use Rattle.tsp_rules.specs.Values.{SLACK}
-use Rattle.tsp_rules.specs.Renames.{Renaming}
+use Rattle.tsp_rules.specs.{Guards.is_over, Guards.is_met, Renames.Renaming, Values.SLACK}
 use Rattle.tsp_alike.proofs.Renamed.{later}
 
 pub le_later : (a x c : ℕ) → nat_le (a + c) (x + c) ≡ nat_le a x

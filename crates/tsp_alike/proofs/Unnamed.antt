@@ -1,14 +1,11 @@
 -- Acts name only known peers: of any other peer, as the port's own number, a past says nothing.
-use Rattle.std.specs.Prelude.{◌≡◌, ◌==◌, Bool, true, false, ◌&&◌, if◌then◌else◌, List, [], ◌∷◌, None, refl}
-use Rattle.std.proofs.Common.{ap, ◌∙◌}
+use Rattle.std.proofs.Common.{ap, ◌∙◌, ◌≡◌, ◌==◌, Bool, true, false, ◌&&◌, if◌then◌else◌, List, [], ◌∷◌, None, refl}
 use Rattle.tsp_rules.specs.Values.{Boot, Post, Become, Acked, Gave, Join, Leave, Rival, Arm, Message, Stamp, CloseAlarm, PeerId, Peer, Request}
 use Rattle.tsp_base.specs.Words.{Deed, Acts, Seen, acting, in_table, is_rival, is_rival_after, is_numbered, open_to, open_to_after, posts_of, open_send, sending_at, is_starting, is_measured}
-use Rattle.tsp_base.specs.PortFacts.{in_table_after}
-use Rattle.tsp_base.specs.RoundFacts.{is_measured_after}
+use Rattle.tsp_base.specs.{PortFacts.in_table_after, RoundFacts.is_measured_after}
 use Rattle.tsp_rules.specs.Renames.{Naming, later_sends}
-use Rattle.tsp_alike.specs.AlikeNodes.{KnowsDeed}
 use Rattle.tsp_alike.proofs.Alike.{Alike, Booted, Own, Other, here}
-use Rattle.tsp_alike.proofs.SendsAlike.{open_send_alike}
+use Rattle.tsp_alike.{proofs.SendsAlike.open_send_alike, specs.AlikeNodes.KnowsDeed}
 
 -- no known peer has this number
 abbrev pub Unnamed : Naming → PeerId → Type 0

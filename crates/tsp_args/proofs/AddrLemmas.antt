@@ -1,14 +1,8 @@
 -- Laws of the words of addresses.
-use Rattle.std.proofs.Common.{◌≡◌, ℕ, ◌<◌, ◌^◌, List, [], ◌∷◌, ◌++◌, zero, suc, length, slice_index_or, refl, ap, arith}
-use Rattle.std.specs.Prelude.{All, Contains, decimal}
-use Rattle.std.specs.Net.Grammar.{IsDotted}
-use Rattle.std.specs.declared.net.ipv4_addr.Ipv4Addr.{Ipv4Addr}
-use Rattle.std.specs.Net.Text.{ipv4_text}
-use Rattle.std.proofs.lemmas.List.Elements.{All-contains}
-use Rattle.std.proofs.NetLemmas.Alphabet.{IsDigitOrDot, All-ipv4_text}
-use Rattle.std.proofs.NetLemmas.Texts.{IsDotted-ipv4_text}
-use Rattle.std.proofs.NetLemmas.Theorems.{IsIpv4Text_unique}
-use Rattle.std.proofs.lemmas.Fmt.{decimal_injective}
+use Rattle.std.proofs.Common.{◌≡◌, ℕ, ◌<◌, ◌^◌, List, [], ◌∷◌, ◌++◌, zero, suc, length, slice_index_or, refl, ap, arith, All, Contains, decimal}
+use Rattle.std.specs.{Net.Grammar.IsDotted, Net.Text.ipv4_text, declared.net.ipv4_addr.Ipv4Addr.Ipv4Addr}
+use Rattle.std.proofs.NetLemmas.{Alphabet.IsDigitOrDot, Alphabet.All-ipv4_text, Texts.IsDotted-ipv4_text, Theorems.IsIpv4Text_unique}
+use Rattle.std.proofs.lemmas.{Fmt.decimal_injective, List.Elements.All-contains}
 use Rattle.tsp_io.specs.declared.addr.Addr.{Addr}
 use Rattle.tsp_args.specs.Addrs.{addr_text, IsAddr}
 

@@ -1,16 +1,11 @@
 -- Laws of the words of commands.
-use Rattle.std.proofs.Common.{◌≡◌, ◌≢◌, ℕ, ◌≤◌, ◌<◌, ◌-◌, List, [], ◌∷◌, length, drop, slice_index_or, refl, arith, length-drop}
-use Rattle.std.specs.Prelude.{map, codes, slice_range}
+use Rattle.std.proofs.Common.{◌≡◌, ◌≢◌, ℕ, ◌≤◌, ◌<◌, ◌-◌, List, [], ◌∷◌, length, drop, slice_index_or, refl, arith, length-drop, map, codes, slice_range}
 use Rattle.std.proofs.lemmas.List.{take_all}
 use Rattle.tsp_io.specs.declared.addr.Addr.{Addr}
-use Rattle.tsp_args.specs.Addrs.{addr_text, IsAddr}
-use Rattle.tsp_args.specs.Commands.{words_of, IsCommand}
-use Rattle.tsp_args.specs.Queries.{query_word, query_rest, IsQuery}
-use Rattle.tsp_args.specs.declared.command.Command.{Command}
+use Rattle.tsp_args.specs.{Addrs.addr_text, Addrs.IsAddr, Commands.words_of, Commands.IsCommand, declared.command.Command.Command}
+use Rattle.tsp_args.specs.{Queries.query_word, Queries.query_rest, Queries.IsQuery, declared.query.Query.Query}
 use Rattle.tsp_args.specs.declared.command.Command.TheVariants.{Replay, Show, Pack, Serve, Ask, Storm, Icmp, Audit}
-use Rattle.tsp_args.specs.declared.query.Query.{Query}
-use Rattle.tsp_args.specs.declared.serve.Candidacy.{Candidacy}
-use Rattle.tsp_args.specs.declared.serve.ServeWords.{ServeWords}
+use Rattle.tsp_args.specs.declared.serve.{Candidacy.Candidacy, ServeWords.ServeWords}
 
 -- all words from a place on
 rest_from : {S : Type 0} (ws : List S) (k : ℕ) → slice_range ws k (length ws) ≡ drop k ws

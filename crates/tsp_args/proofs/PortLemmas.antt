@@ -1,13 +1,10 @@
 -- Laws of the words of ports.
-use Rattle.std.proofs.Common.{◌≡◌, ◌≢◌, ℕ, ◌≤◌, List, [], ◌∷◌, ◌++◌, length, refl, sym, ap, arith, append_assoc, zero, suc, slice_index_or, subst}
-use Rattle.std.specs.Prelude.{All, Contains, codes, decimal, flat_map, map, ◌<◌}
-use Rattle.std.specs.Net.Text.{ipv4_text}
-use Rattle.std.proofs.lemmas.List.{map-append, append-nil}
+use Rattle.std.proofs.Common.{◌≡◌, ◌≢◌, ℕ, ◌≤◌, List, [], ◌∷◌, ◌++◌, length, refl, sym, ap, arith, append_assoc, zero, suc, slice_index_or, subst, All, Contains, codes, decimal, flat_map, map, ◌<◌}
+use Rattle.std.{proofs.lemmas.List.map-append, proofs.lemmas.List.append-nil, specs.Net.Text.ipv4_text}
 use Rattle.std.proofs.lemmas.List.Elements.{All-nil, All-cons, All-head, All-tail, All-push}
 use Rattle.tsp_io.specs.declared.addr.Addr.{Addr}
-use Rattle.tsp_args.specs.Addrs.{addr_text, IsAddr}
 use Rattle.tsp_args.specs.Ports.{led_words, peer_words, all_peers, IsPeerWord, ArePeers}
-use Rattle.tsp_args.proofs.AddrLemmas.{contains_behind, addr_text-injective}
+use Rattle.tsp_args.{proofs.AddrLemmas.contains_behind, proofs.AddrLemmas.addr_text-injective, specs.Addrs.addr_text, specs.Addrs.IsAddr}
 
 -- one more peer of the last port
 led_words-add : (ps : List (List Addr)) (p : List Addr) (a : Addr) → led_words (ps ++ (p ++ a ∷ []) ∷ []) ≡ led_words (ps ++ p ∷ []) ++ addr_text a ∷ []

@@ -1,10 +1,7 @@
 -- The commands of the program and their words.
 use Rattle.std.specs.Prelude.{◌≡◌, ℕ, List, [], ◌∷◌, codes}
-use Rattle.tsp_args.specs.Addrs.{addr_text, IsAddr}
-use Rattle.tsp_args.specs.Queries.{query_word, query_rest, IsQuery}
-use Rattle.tsp_args.specs.Serves.{serve_words, IsServe}
-use Rattle.tsp_args.specs.Storms.{storm_words, IsStorm}
-use Rattle.tsp_args.specs.declared.command.Command.{Command}
+use Rattle.tsp_args.specs.{Addrs.addr_text, Addrs.IsAddr, Queries.query_word, Queries.query_rest, Queries.IsQuery}
+use Rattle.tsp_args.specs.{Serves.serve_words, Serves.IsServe, Storms.storm_words, Storms.IsStorm, declared.command.Command.Command}
 use Rattle.tsp_args.specs.declared.command.Command.TheVariants.{Replay, Show, Pack, Serve, Ask, Storm, Icmp, Audit}
 
 -- the words of a command

@@ -1,9 +1,7 @@
 -- The words of `serve`.
 use Rattle.std.specs.Prelude.{ℕ, ◌≤◌, List, ◌∷◌, decimal, codes}
 use Rattle.tsp_script.specs.Schedules.{IsHost}
-use Rattle.tsp_args.specs.Addrs.{addr_text, IsAddr}
-use Rattle.tsp_args.specs.Ports.{peer_words, ArePorts}
-use Rattle.tsp_args.specs.declared.serve.Candidacy.{Candidacy}
+use Rattle.tsp_args.specs.{Addrs.addr_text, Addrs.IsAddr, Ports.peer_words, Ports.ArePorts, declared.serve.Candidacy.Candidacy}
 use Rattle.tsp_args.specs.declared.serve.Candidacy.TheVariants.{Never, Plain, Strict}
 use Rattle.tsp_args.specs.declared.serve.ServeWords.{ServeWords}
 

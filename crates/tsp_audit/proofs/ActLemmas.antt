@@ -1,21 +1,15 @@
 -- Sends that are taken, and sends that are acknowledged, by the list of those of which Corrects have taken posts.
-use Rattle.std.specs.Prelude.{◌≡◌, ℕ, Bool, true, false, not, List, [], ◌∷◌, ◌++◌, ◌||◌, ◌==◌, refl, MatchBool, MatchOption, Option, None, Some}
-use Rattle.std.proofs.Common.{sym, ap, subst, subst₂, ◌∙◌, inl, inr, true≢false, eqb-true, eq-eqb}
-use Rattle.std.proofs.lemmas.List.Folds.{list_any-append}
-use Rattle.std.proofs.lemmas.Bool.{or_left}
+use Rattle.std.proofs.Common.{sym, ap, subst, subst₂, ◌∙◌, inl, inr, true≢false, eqb-true, eq-eqb, ◌≡◌, ℕ, Bool, true, false, not, List, [], ◌∷◌, ◌++◌, ◌||◌, ◌==◌, refl, MatchBool, MatchOption, Option, None, Some}
+use Rattle.std.proofs.lemmas.{Bool.or_left, List.Folds.list_any-append}
 use Rattle.tsp_rules.specs.Values.{Post, Acked, Message, PeerId, Peer}
 use Rattle.tsp_base.specs.Words.{Acts, Did, Here, Line, Seen, of, view, MessageValue, Within, is_correction, is_numbered, open_to, peer_of}
-use Rattle.tsp_promises.specs.Everywhere.{Everywhere}
-use Rattle.tsp_promises.specs.Fits.{node_of}
+use Rattle.tsp_promises.specs.{Everywhere.Everywhere, Fits.node_of, Setting.Setting}
 use Rattle.tsp_promises.specs.Once.{ConfirmedAt, ObeysAt, OfSend, OnceAt, SpacedAt}
-use Rattle.tsp_promises.specs.Setting.{Setting}
-use Rattle.tsp_promises.proofs.EverywhereLemmas.{Everywhere-at, Everywhere-from}
+use Rattle.tsp_promises.proofs.{EverywhereLemmas.Everywhere-at, EverywhereLemmas.Everywhere-from, SendProof.opened}
 use Rattle.tsp_base.proofs.PlaceLemmas.{Within-all, Within-tail, Within-through}
-use Rattle.tsp_promises.proofs.SendProof.{opened}
 use Rattle.tsp_audit.proofs.SendPlaces.{one-number, one-place, send-number, takes-one}
 use Rattle.tsp_audit.specs.Acting.{ActedIs, ActsAt, Corrects, TakenIn, TakesAs, TakesSend, TakesWell, is_in, is_unknown, with_send}
-use Rattle.tsp_audit.specs.declared.premises.Premises.{Premises}
-use Rattle.tsp_audit.specs.Parts.{ActsOnce, AllKept}
+use Rattle.tsp_audit.specs.{Parts.ActsOnce, Parts.AllKept, declared.premises.Premises.Premises}
 use Rattle.tsp_history.specs.PostedPlaces.{PostedAt}
 
 -- what takes no post of a send takes none twice

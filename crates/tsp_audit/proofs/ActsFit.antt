@@ -1,18 +1,14 @@
 -- Acts that fit their event fit as its lines.
-use Rattle.std.specs.Prelude.{◌≡◌, ◌<◌, ℕ, ◌+◌, Bool, true, false, List, [], ◌∷◌, ◌++◌, length, map, Some, refl}
-use Rattle.std.proofs.Common.{ap, sym, subst, arith, true≢false}
+use Rattle.std.proofs.Common.{ap, sym, subst, arith, true≢false, ◌≡◌, ◌<◌, ℕ, ◌+◌, Bool, true, false, List, [], ◌∷◌, ◌++◌, length, map, Some, refl}
 use Rattle.std.proofs.lemmas.Bool.{and_right, or_from, or_left, or_right}
 use Rattle.tsp_rules.specs.Values.{Act, Boot, Took, Post, Placed, Event, Port}
 use Rattle.tsp_base.specs.Words.{HeaderValue, Step}
-use Rattle.tsp_claims.specs.declared.claimed.Claimed.{Claimed}
-use Rattle.tsp_claims.specs.declared.tally.Tally.{Tally}
-use Rattle.tsp_claims.specs.ClaimedHistory.{step_at}
+use Rattle.tsp_claims.specs.{ClaimedHistory.step_at, declared.claimed.Claimed.Claimed, declared.tally.Tally.Tally}
 use Rattle.tsp_claims.specs.Fitting.{ActMayStand, AllFit, FitsAfter, LineFitsIn, NumberFits, begins_with_boot, counted, is_took, lacks, wants_boot}
 use Rattle.tsp_rules.proofs.FewActs.{is_calm_act}
 use Rattle.tsp_audit.specs.AuditedRuns.{number_or_zero, traced}
-use Rattle.tsp_run.specs.Networks.{networks, ports_on}
 use Rattle.tsp_run.specs.Run.{number_of, posts_by, step_tick, told_from}
-use Rattle.tsp_run.proofs.CalmAll.{AreCalm}
+use Rattle.tsp_run.{proofs.CalmAll.AreCalm, specs.Networks.networks, specs.Networks.ports_on}
 
 -- what lines of these acts come to, with those before
 abbrev pub tallied : Tally → List Placed → Tally

@@ -1,22 +1,14 @@
 -- What is kept of all nodes tells whether their clocks agree.
-use Rattle.std.specs.Prelude.{◌≡◌, ◌<◌, ◌≤ℤ◌, ◌+◌, ◌-◌, ◌*◌, ℕ, ℤ, pos, ◌+ℤ◌, ◌-ℤ◌, nat_abs, Option, None, Some, List, [], ◌∷◌, length, refl}
-use Rattle.std.proofs.Common.{sym, ap, subst, subst₂, ◌∙◌, arith, inl, inr, get_or}
-use Rattle.std.proofs.lemmas.Int.{ints}
-use Rattle.std.proofs.lemmas.List.{get_or_default}
+use Rattle.std.proofs.Common.{sym, ap, subst, subst₂, ◌∙◌, arith, inl, inr, get_or, ◌≡◌, ◌<◌, ◌≤ℤ◌, ◌+◌, ◌-◌, ◌*◌, ℕ, ℤ, pos, ◌+ℤ◌, ◌-ℤ◌, nat_abs, Option, None, Some, List, [], ◌∷◌, length, refl}
+use Rattle.std.proofs.lemmas.{Int.ints, List.get_or_default}
 use Rattle.tsp_promises.specs.Agreed.{FromRound, ClocksAgree, MasterAgrees, PeersAgree, RightAfter, Unchanged, UnchangedBut}
-use Rattle.tsp_promises.specs.ClockAt.{clock_at}
-use Rattle.tsp_promises.specs.Fits.{node_of}
 use Rattle.tsp_base.specs.Words.{HeaderValue, Acts, Begins, Deed, Line, dids, from_act, from_act_at, of, all_corrects, lives, moved, Within, tick_at, width}
-use Rattle.tsp_promises.specs.Setting.{Setting}
-use Rattle.tsp_promises.proofs.EverywhereLemmas.{Everywhere-at}
+use Rattle.tsp_promises.{proofs.EverywhereLemmas.Everywhere-at, specs.ClockAt.clock_at, specs.Fits.node_of, specs.Setting.Setting}
 use Rattle.tsp_base.proofs.PlaceLemmas.{Within-all, Within-comparable, Within-length, Within-tail, Within-through}
 use Rattle.tsp_audit.specs.Agreeing.{AgreementIs, AfterAs, AfterIs, AllAgree, BossAgrees, IsAtPlace, LiveAs, LiveIs, MasterNearWithSpare, NodeIs, Numbered, PairAgrees, PairNear, FromRoundStands, err_less, shown_by}
-use Rattle.tsp_audit.specs.Settings.{HasClocks}
-use Rattle.tsp_audit.specs.declared.agreement_tracker.AgreementTracker.{AgreementTracker}
-use Rattle.tsp_audit.specs.declared.round_correction.RoundCorrection.{RoundCorrection}
-use Rattle.tsp_audit.specs.declared.round_correction.NodeState.{NodeState}
-use Rattle.tsp_audit.proofs.FromRoundLemmas.{from_round-one}
-use Rattle.tsp_audit.proofs.StateLemmas.{last-one}
+use Rattle.tsp_audit.specs.{Settings.HasClocks, declared.agreement_tracker.AgreementTracker.AgreementTracker}
+use Rattle.tsp_audit.specs.declared.round_correction.{NodeState.NodeState, RoundCorrection.RoundCorrection}
+use Rattle.tsp_audit.proofs.{FromRoundLemmas.from_round-one, StateLemmas.last-one}
 
 -- places with as many entries before them are one
 pub place-one : (a b : Line) (s t h : List Line) → Within (a ∷ s) h → Within (b ∷ t) h → length s ≡ length t → a ∷ s ≡ b ∷ t

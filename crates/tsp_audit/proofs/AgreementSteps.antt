@@ -1,27 +1,17 @@
 -- How an agreement grows by a line.
-use Rattle.std.specs.Prelude.{◌≡◌, ◌==◌, ◌<◌, ◌≤◌, ◌+◌, ℕ, ℤ, pos, Bool, true, false, MatchBool, is_some, is_none, Option, None, Some, List, [], ◌∷◌, ◌++◌, length, refl, set}
-use Rattle.std.proofs.Common.{sym, ap, subst, ◌∙◌, arith, inl, inr, get_or, take, eqb-true, true≢false}
-use Rattle.std.proofs.Math.ListN.{get_or-append}
-use Rattle.std.proofs.Math.Seq.{get_or-append_seam}
-use Rattle.std.proofs.lemmas.Bool.{cases_lt}
+use Rattle.std.proofs.Common.{sym, ap, subst, ◌∙◌, arith, inl, inr, get_or, take, eqb-true, true≢false, ◌≡◌, ◌==◌, ◌<◌, ◌≤◌, ◌+◌, ℕ, ℤ, pos, Bool, true, false, MatchBool, is_some, is_none, Option, None, Some, List, [], ◌∷◌, ◌++◌, length, refl, set}
+use Rattle.std.proofs.{Math.ListN.get_or-append, Math.Seq.get_or-append_seam, lemmas.Bool.cases_lt}
 use Rattle.std.proofs.lemmas.List.{get_or_default, get_or-set_other, get_or-set_same, length-append, length-set}
 use Rattle.tsp_rules.specs.Values.{Act, Post, Message, AdjTime, PeerId, Peer, Port}
 use Rattle.tsp_base.specs.Words.{HeaderValue, Acts, Here, Line, Seen, from_act, of, view, MessageValue, Within, acting, best}
-use Rattle.tsp_promises.specs.Agreed.{AgreedAt, RestsOnSample}
-use Rattle.tsp_promises.specs.Fits.{node_of}
-use Rattle.tsp_promises.specs.Setting.{Setting}
-use Rattle.tsp_promises.specs.StepFacts.{closed}
+use Rattle.tsp_promises.specs.{Agreed.AgreedAt, Agreed.RestsOnSample, Fits.node_of, Setting.Setting, StepFacts.closed}
 use Rattle.tsp_base.proofs.PlaceLemmas.{Within-length}
 use Rattle.tsp_audit.specs.Agreeing.{AgreementIs, AllAgree, AllAre, AllBounded, AreBlank, FirstIs, IsAtPlace, NodeIs, Numbered}
-use Rattle.tsp_audit.specs.Resting.{RestsOn}
-use Rattle.tsp_audit.specs.Settings.{HasClocks}
-use Rattle.tsp_audit.specs.declared.agreement_tracker.AgreementTracker.{AgreementTracker}
+use Rattle.tsp_audit.specs.{Resting.RestsOn, Settings.HasClocks, declared.agreement_tracker.AgreementTracker.AgreementTracker}
 use Rattle.tsp_audit.specs.declared.round_correction.NodeState.{NodeState}
-use Rattle.tsp_audit.proofs.AgreementLemmas.{clocks-agree, clocks-back}
-use Rattle.tsp_audit.proofs.StateLemmas.{node-still, still-other}
-use Rattle.tsp_history.specs.declared.line.HistoryLine.{HistoryLine}
+use Rattle.tsp_audit.proofs.{AgreementLemmas.clocks-agree, AgreementLemmas.clocks-back, StateLemmas.node-still, StateLemmas.still-other}
 use Rattle.tsp_history.specs.declared.rounds.Best.{Best}
-use Rattle.tsp_history.specs.Histories.{deed_of, history_of, line_of}
+use Rattle.tsp_history.specs.{Histories.deed_of, Histories.history_of, Histories.line_of, declared.line.HistoryLine.HistoryLine}
 use Rattle.tsp_history.specs.Rounds.{Bests, SeenAt, TripsTell, trip_at}
 
 -- one blank node more

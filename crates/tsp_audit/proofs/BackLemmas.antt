@@ -1,12 +1,9 @@
 -- Backing, line by line.
-use Rattle.std.specs.Prelude.{◌≡◌, ◌==◌, ◌||◌, ◌&&◌, ◌≤◌, ◌+◌, ℕ, Bool, true, false, if◌then◌else◌, List, [], ◌∷◌, Option, refl, MatchBool, None, Some}
-use Rattle.std.proofs.Common.{sym, ap, subst, inl, inr, ◌⊎◌, ◌∙◌, eq-eqb, eqb-true, true≢false}
+use Rattle.std.proofs.Common.{sym, ap, subst, inl, inr, ◌⊎◌, ◌∙◌, eq-eqb, eqb-true, true≢false, ◌≡◌, ◌==◌, ◌||◌, ◌&&◌, ◌≤◌, ◌+◌, ℕ, Bool, true, false, if◌then◌else◌, List, [], ◌∷◌, Option, refl, MatchBool, None, Some}
 use Rattle.tsp_rules.specs.Values.{Act, Post, Become, Back, Message, Kind, Accept, Election, PeerId, Place, Peer, Stranger, Port, Candidate, HOLD}
 use Rattle.tsp_base.specs.Words.{Acts, Begins, Deed, Line, is_shared, of, seen_as, view, MessageValue}
-use Rattle.tsp_promises.specs.Everywhere.{Everywhere}
-use Rattle.tsp_promises.specs.Fits.{node_of}
+use Rattle.tsp_promises.specs.{Everywhere.Everywhere, Fits.node_of, StepFacts.backed, StepFacts.is_unbacked, StepFacts.is_unbacked_after}
 use Rattle.tsp_promises.specs.OneBack.{BacksAt, HoldsAt, IsBacked, OneBack}
-use Rattle.tsp_promises.specs.StepFacts.{backed, is_unbacked, is_unbacked_after}
 use Rattle.tsp_promises.proofs.EverywhereLemmas.{Everywhere-at, Everywhere-from}
 use Rattle.tsp_base.proofs.ViewPlaces.{or-false, port-same}
 use Rattle.tsp_audit.specs.Backing.{Backs, Settled, deed_backs, is_stand, is_standing, post_backs}

@@ -1,10 +1,8 @@
 -- The acts of what is told of an event are those that happen.
-use Rattle.std.specs.Prelude.{◌≡◌, ℕ, ◌+◌, suc, List, [], ◌∷◌, length, map, Option, None, Some, refl}
-use Rattle.std.proofs.Common.{ap}
+use Rattle.std.proofs.Common.{ap, ◌≡◌, ℕ, ◌+◌, suc, List, [], ◌∷◌, length, map, Option, None, Some, refl}
 use Rattle.tsp_rules.specs.Values.{Placed, Event}
 use Rattle.tsp_base.specs.Words.{HeaderValue}
-use Rattle.tsp_claims.specs.ClaimedHistory.{events_of}
-use Rattle.tsp_claims.specs.Fitting.{acts_of}
+use Rattle.tsp_claims.specs.{ClaimedHistory.events_of, Fitting.acts_of}
 use Rattle.tsp_audit.specs.AuditedRuns.{claims_of, traced}
 use Rattle.tsp_run.specs.Run.{Happening, posts_by, told_from, told_of}
 

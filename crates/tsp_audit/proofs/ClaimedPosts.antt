@@ -1,13 +1,10 @@
 -- Claimed posts that are those of a history.
-use Rattle.std.specs.Prelude.{◌≡◌, ℕ, zero, suc, List, [], ◌∷◌, ◌++◌, length, Option, None, Some, slice_get, refl}
-use Rattle.std.proofs.Common.{ap, ◌∙◌}
+use Rattle.std.proofs.Common.{ap, ◌∙◌, ◌≡◌, ℕ, zero, suc, List, [], ◌∷◌, ◌++◌, length, Option, None, Some, slice_get, refl}
 use Rattle.tsp_rules.specs.Values.{Act, Post, Placed}
 use Rattle.tsp_base.specs.Words.{Step}
 use Rattle.tsp_claims.specs.declared.claimed.Claimed.{Claimed}
 use Rattle.tsp_claims.specs.ClaimedHistory.{claims_post, claimed_address, posts_in, post_goes}
-use Rattle.tsp_run.specs.declared.posted.Posted.{Posted}
-use Rattle.tsp_run.specs.Networks.{address_of}
-use Rattle.tsp_run.specs.Run.{goes_to, posted_by, posts_from}
+use Rattle.tsp_run.specs.{Networks.address_of, Run.goes_to, Run.posted_by, Run.posts_from, declared.posted.Posted.Posted}
 
 -- a claimed post is this one of a history
 pub record IsPost (c : Claimed) (p : Posted) : Type 0 where

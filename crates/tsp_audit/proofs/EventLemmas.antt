@@ -1,17 +1,10 @@
 -- What an event makes of an audit.
-use Rattle.std.specs.Prelude.{◌≡◌, ◌≤◌, ◌+◌, ℕ, Bool, List, [], ◌∷◌, length, refl, Option, None, Some}
-use Rattle.std.proofs.Common.{sym, subst, arith, inl, inr}
-use Rattle.tsp_audit.specs.declared.premises.Premises.{Premises}
-use Rattle.tsp_audit.specs.declared.verdict.Failure.{Failure}
+use Rattle.std.proofs.Common.{sym, subst, arith, inl, inr, ◌≡◌, ◌≤◌, ◌+◌, ℕ, Bool, List, [], ◌∷◌, length, refl, Option, None, Some}
 use Rattle.std.specs.declared.result.Result.TheVariants.{Err}
-use Rattle.tsp_audit.specs.declared.audit.Audit.{Audit}
-use Rattle.tsp_audit.specs.declared.remembered.Remembered.{Remembered}
-use Rattle.tsp_audit.specs.Agreeing.{Numbered}
-use Rattle.tsp_audit.specs.Looking.{Finds, Grown}
-use Rattle.tsp_audit.specs.Named.{named}
-use Rattle.tsp_audit.specs.Remembered.{RememberedStands}
+use Rattle.tsp_audit.specs.declared.{remembered.Remembered.Remembered, verdict.Failure.Failure}
+use Rattle.tsp_audit.specs.{Agreeing.Numbered, Looking.Finds, Looking.Grown, Named.named, Remembered.RememberedStands}
 use Rattle.tsp_audit.specs.Parts.{Acting, Agreeing, AllKeep, Backing, Leading, Measuring}
-use Rattle.tsp_audit.specs.Settings.{HasClocks, Timely}
+use Rattle.tsp_audit.specs.{Settings.HasClocks, Settings.Timely, declared.audit.Audit.Audit, declared.premises.Premises.Premises}
 use Rattle.tsp_audit.specs.Verdicts.{AllHold, AuditStands, Audits, FailsFirst, IsFound, IsVerdict}
 use Rattle.tsp_rules.specs.Values.{Placed, Event, BootAt, Turn, Take, Bytes, Line2}
 use Rattle.tsp_base.specs.Words.{HeaderValue, Acts, Begins, Line, Step, first_port, joined, line_of, Within}
@@ -19,16 +12,11 @@ use Rattle.tsp_promises.specs.Setting.{Setting}
 use Rattle.tsp_audit.proofs.JoinLemmas.{OfStep, grown-all, made}
 use Rattle.tsp_audit.proofs.NumberedLemmas.{AllName, numbered-claims}
 use Rattle.tsp_base.proofs.PlaceLemmas.{Within-all, Within-tail}
-use Rattle.tsp_claims.specs.declared.audit_fault.AuditFault.{AuditFault}
 use Rattle.tsp_claims.specs.declared.audit_fault.AuditFault.TheVariants.{History, OutOfMemory}
-use Rattle.tsp_claims.specs.declared.claimed.Claimed.{Claimed}
-use Rattle.tsp_claims.specs.declared.claims.Claims.{Claims}
+use Rattle.tsp_claims.specs.declared.{claimed.Claimed.Claimed, claims.Claims.Claims}
 use Rattle.tsp_claims.specs.ClaimedHistory.{Claim, claimed, events_of, joins_acts, makes_step, posts_of, step_at, step_of, taker, takes_step}
-use Rattle.tsp_claims.specs.Listed.{booted}
-use Rattle.tsp_claims.specs.Fitting.{acts_of}
-use Rattle.tsp_claims.specs.Stands.{ClaimsStand, TakesIn}
-use Rattle.tsp_run.specs.declared.address.Address.{Address}
-use Rattle.tsp_run.specs.Run.{event_at, step_tick}
+use Rattle.tsp_claims.specs.{Fitting.acts_of, Listed.booted, Stands.ClaimsStand, Stands.TakesIn, declared.audit_fault.AuditFault.AuditFault}
+use Rattle.tsp_run.specs.{Run.event_at, Run.step_tick, declared.address.Address.Address}
 
 joined-within : (step : Step) (x : ℕ) (acts : List Placed) (h : List Line) → Within h (joined step x acts h)
 joined-within step x [] h = Within-all h

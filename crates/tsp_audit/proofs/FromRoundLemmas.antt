@@ -1,25 +1,17 @@
 -- A Correct came of one round at most.
-use Rattle.std.specs.Prelude.{◌≡◌, ◌≤◌, ℕ, ℤ, List, ◌∷◌, refl, Some}
-use Rattle.std.proofs.Common.{sym, ap, subst, subst₂, ◌∙◌, arith, get_or, take}
+use Rattle.std.proofs.Common.{sym, ap, subst, subst₂, ◌∙◌, arith, get_or, take, ◌≡◌, ◌≤◌, ℕ, ℤ, List, ◌∷◌, refl, Some}
 use Rattle.tsp_rules.specs.Values.{Post, Message, AdjTime, Peer, Port}
 use Rattle.tsp_base.specs.Words.{Acts, Did, Here, Line, Seen, dids, of, view, MessageValue, all_corrects, lives, Within, Sampled, best, begun_to, peer_of, posted}
-use Rattle.tsp_promises.specs.Agreed.{FromRound, ReadingOf}
-use Rattle.tsp_promises.specs.Fits.{node_of}
-use Rattle.tsp_promises.specs.Once.{ActsOn, OfSend}
+use Rattle.tsp_promises.specs.{Agreed.FromRound, Agreed.ReadingOf, Fits.node_of, Once.ActsOn, Once.OfSend}
 use Rattle.tsp_base.proofs.PlaceLemmas.{Within-tail, Within-through}
-use Rattle.tsp_promises.proofs.Locating.{line_on}
-use Rattle.tsp_promises.proofs.SeenPlaces.{seen_same}
+use Rattle.tsp_promises.proofs.{Locating.line_on, SeenPlaces.seen_same}
 use Rattle.tsp_promises.proofs.SendPlaces.{post_unique, posted-mono, posted-post, same-number}
-use Rattle.tsp_audit.proofs.Prefixes.{history-within}
-use Rattle.tsp_audit.proofs.SendPlaces.{brings-one, send-number}
-use Rattle.tsp_audit.proofs.TakeLemmas.{same-noted}
-use Rattle.tsp_audit.specs.Acting.{TakesSend}
-use Rattle.tsp_audit.specs.Agreeing.{FromRoundAs, IsFromNoRound}
+use Rattle.tsp_audit.proofs.{Prefixes.history-within, SendPlaces.brings-one, SendPlaces.send-number, TakeLemmas.same-noted}
+use Rattle.tsp_audit.specs.{Acting.TakesSend, Agreeing.FromRoundAs, Agreeing.IsFromNoRound}
 use Rattle.tsp_audit.specs.FromRounds.{BegunAt, HasNoRound, IsAdjusting, RoundAs, Rounds}
 use Rattle.tsp_audit.specs.declared.round_correction.RoundCorrection.{RoundCorrection}
 use Rattle.tsp_history.specs.declared.line.HistoryLine.{HistoryLine}
-use Rattle.tsp_history.specs.Histories.{deed_of, history_of, line_of}
-use Rattle.tsp_history.specs.Posts.{PostsAt}
+use Rattle.tsp_history.specs.{Histories.deed_of, Histories.history_of, Histories.line_of, Posts.PostsAt}
 
 -- what a port sees as its own at one place is one line
 pub lines-one : (m : ℕ) (q : Port) (world : List Line) (a b : Line) (s t : List Line) → node_of a ≡ m → node_of b ≡ m → a.port ≡ q → b.port ≡ q → Within (a ∷ s) world → Within (b ∷ t) world →

@@ -1,22 +1,13 @@
 -- Which part fails, and what the newest event changes.
-use Rattle.std.specs.Prelude.{◌≡◌, ◌<◌, ◌≤◌, ℕ, Bool, true, false, List, [], ◌∷◌, length, refl, MatchBool, Option}
-use Rattle.std.proofs.Common.{sym, ap, subst, ◌∙◌, arith, inl, inr, take}
+use Rattle.std.proofs.Common.{sym, ap, subst, ◌∙◌, arith, inl, inr, take, ◌≡◌, ◌<◌, ◌≤◌, ℕ, Bool, true, false, List, [], ◌∷◌, length, refl, MatchBool, Option}
 use Rattle.std.proofs.lemmas.List.{length-take}
-use Rattle.tsp_audit.specs.declared.premises.Premises.{Premises}
-use Rattle.tsp_audit.specs.Agreeing.{Numbered}
-use Rattle.tsp_audit.specs.Judged.{FailsNow, JudgesParts}
-use Rattle.tsp_audit.specs.Looking.{Grown}
+use Rattle.tsp_audit.specs.{Agreeing.Numbered, Judged.FailsNow, Judged.JudgesParts, Looking.Grown, Settings.HasClocks, Settings.Timely}
 use Rattle.tsp_audit.specs.Parts.{Acting, ActsOnce, Agreeing, AllKeep, Backing, PartHolds, Leading, Measuring, Part, part_number}
-use Rattle.tsp_audit.specs.Settings.{HasClocks, Timely}
-use Rattle.tsp_history.proofs.NoteLemmas.{length-history}
-use Rattle.tsp_audit.proofs.Prefixes.{history-within}
+use Rattle.tsp_history.{proofs.NoteLemmas.length-history, specs.Histories.history_of, specs.declared.line.HistoryLine.HistoryLine}
+use Rattle.tsp_audit.{proofs.Prefixes.history-within, specs.declared.premises.Premises.Premises}
 use Rattle.tsp_base.specs.Words.{HeaderValue, Line, Within}
-use Rattle.tsp_promises.specs.OneBack.{OneBack}
-use Rattle.tsp_promises.specs.OnlyMaster.{OnlyMaster}
-use Rattle.tsp_promises.specs.Setting.{Setting}
+use Rattle.tsp_promises.specs.{OneBack.OneBack, OnlyMaster.OnlyMaster, Setting.Setting}
 use Rattle.tsp_base.proofs.PlaceLemmas.{Within-comparable, Within-length}
-use Rattle.tsp_history.specs.declared.line.HistoryLine.{HistoryLine}
-use Rattle.tsp_history.specs.Histories.{history_of}
 
 pub decided : (b : Bool) (P : Type 0) → b ≡ true → MatchBool b P (P → ⊥) → P
 decided true P e m = m

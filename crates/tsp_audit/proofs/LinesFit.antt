@@ -1,32 +1,23 @@
 -- What the run tells of each event fits.
-use Rattle.std.specs.Prelude.{◌≡◌, ◌<◌, ℕ, ◌+◌, Bool, true, false, not, List, [], ◌∷◌, length, map, Option, None, Some, slice_get, refl}
-use Rattle.std.proofs.Common.{ap, sym, subst, arith, inl, inr}
+use Rattle.std.proofs.Common.{ap, sym, subst, arith, inl, inr, ◌≡◌, ◌<◌, ℕ, ◌+◌, Bool, true, false, not, List, [], ◌∷◌, length, map, Option, None, Some, slice_get, refl}
 use Rattle.std.proofs.lemmas.Bool.{and_right, not_from_true}
 use Rattle.tsp_rules.specs.Values.{Boot, Took, Placed, Taken, Good, Event, BootAt, Turn, Take, Bytes, Place, Peer, Port}
 use Rattle.tsp_base.specs.Words.{HeaderValue, is_whole, Handed, Step, Turned, first_port, peer_of}
-use Rattle.tsp_claims.specs.declared.claimed.Claimed.{Claimed}
-use Rattle.tsp_claims.specs.declared.tally.Tally.{Tally}
 use Rattle.tsp_claims.specs.ClaimedHistory.{Claim, events_of, posts_of, step_at, taker, takes_step}
 use Rattle.tsp_claims.specs.Fitting.{AllFit, Fit, FitsAfter, IsPosted, TakesClaimedPost, TakingFits, counted, lacks, untold, wants_boot}
-use Rattle.tsp_claims.specs.Listed.{booted}
+use Rattle.tsp_claims.specs.{Listed.booted, declared.claimed.Claimed.Claimed, declared.tally.Tally.Tally}
 use Rattle.tsp_codec.specs.Taken.{taken_of}
 use Rattle.tsp_audit.specs.AuditedRuns.{RunsFitClaims, claims_of, last_lines, traced}
 use Rattle.tsp_rules.specs.GateRows.{GotOn, NodeTurn, answers_all, boots_all}
-use Rattle.tsp_run.specs.declared.address.Address.{Address}
-use Rattle.tsp_run.specs.declared.posted.Posted.{Posted}
-use Rattle.tsp_run.specs.Ranges.{Accepted}
-use Rattle.tsp_run.specs.Refusals.{refusal, scene}
+use Rattle.tsp_run.specs.{Ranges.Accepted, Refusals.refusal, Refusals.scene, declared.address.Address.Address}
 use Rattle.tsp_run.specs.Run.{Happening, boot_step, happening, posts, run, step_tick, told_from, told_of}
-use Rattle.tsp_run.proofs.CalmPorts.{TakesOnce}
-use Rattle.tsp_run.proofs.RefusalLemmas.{allowed, handed-port, refusal-none}
-use Rattle.tsp_run.proofs.RunPromises.{posted-read}
+use Rattle.tsp_run.proofs.{CalmPorts.TakesOnce, RefusalLemmas.allowed, RefusalLemmas.handed-port, RefusalLemmas.refusal-none}
+use Rattle.tsp_run.{proofs.RunPromises.posted-read, proofs.SealedRun.accepted_before, specs.declared.posted.Posted.Posted}
 use Rattle.tsp_networks.proofs.MemberLemmas.{some_port}
 use Rattle.tsp_audit.proofs.ActsFit.{ActsFit, begun-after, calm-untaken, calm_fit, calm_fit_all, tallied, told_fit, took-after, wants-none, wants_tallied}
-use Rattle.tsp_audit.proofs.ClaimedPosts.{SamePost, get-ArePosts, length-ArePosts}
 use Rattle.tsp_run.proofs.Happens.{acts_by, boot_acts, got_acts, ports_in, steps-are, taken_in, takes-or, taking, taking_row, taking_step, turn_acts}
-use Rattle.tsp_run.proofs.SealedRun.{accepted_before}
 use Rattle.tsp_audit.proofs.RunClaims.{AreOf, takes-at, told_are}
-use Rattle.tsp_audit.proofs.ClaimedEvents.{length-claims}
+use Rattle.tsp_audit.proofs.{ClaimedEvents.length-claims, ClaimedPosts.SamePost, ClaimedPosts.get-ArePosts, ClaimedPosts.length-ArePosts}
 
 -- what was taken is what was posted
 takes-post : (o : Option Claimed) (p : Posted) (a : Address) (t : Option Address) (taken : Taken) → SamePost o (Some p) → t ≡ Some a → taken ≡ Good p.datagram → TakesClaimedPost o t a.port (Peer (peer_of p.from)) taken

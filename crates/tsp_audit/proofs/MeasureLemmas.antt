@@ -1,25 +1,17 @@
 -- Measurements: what a step reads of a peer's clock, and the exchange that a Sample ends.
-use Rattle.std.specs.Prelude.{◌≡◌, ◌+◌, ℕ, ℤ, ◌-ℤ◌, Bool, true, false, List, ◌∷◌, MatchBool}
-use Rattle.std.proofs.Common.{sym, ap, subst, subst₂, ◌∙◌, get_or, take}
+use Rattle.std.proofs.Common.{sym, ap, subst, subst₂, ◌∙◌, get_or, take, ◌≡◌, ◌+◌, ℕ, ℤ, ◌-ℤ◌, Bool, true, false, List, ◌∷◌, MatchBool}
 use Rattle.tsp_rules.specs.Values.{Sample, Stamp, PeerId, Peer, Reply}
 use Rattle.tsp_base.specs.Words.{HeaderValue, Acts, Did, Here, Line, Seen, dids, of, plain, view, target, exchange, is_going, half_up, peer_of, posted}
-use Rattle.tsp_promises.specs.ClockAt.{clock, clock_at}
-use Rattle.tsp_promises.specs.Everywhere.{Everywhere}
-use Rattle.tsp_promises.specs.Fits.{node_of}
+use Rattle.tsp_promises.specs.{ClockAt.clock, ClockAt.clock_at, Everywhere.Everywhere, Fits.node_of, Setting.Setting}
 use Rattle.tsp_promises.specs.Measured.{MeasuredAt, ReadBy, TripAt, TripOf}
-use Rattle.tsp_promises.specs.Setting.{Setting}
 use Rattle.tsp_promises.proofs.EverywhereLemmas.{Everywhere-at, Everywhere-from}
 use Rattle.tsp_base.proofs.Views.{plain_view}
 use Rattle.tsp_promises.proofs.SendPlaces.{post_unique, same-number}
-use Rattle.tsp_audit.specs.Acting.{CameAt, IsUnposted}
+use Rattle.tsp_audit.specs.{Acting.CameAt, Acting.IsUnposted, Parts.MeasuresWell, Settings.HasClocks, Settings.clock_in}
 use Rattle.tsp_audit.specs.Measuring.{IsWithinError, MeasuresAt, Replies, RepliesAt, RepliesTo}
-use Rattle.tsp_audit.specs.Parts.{MeasuresWell}
-use Rattle.tsp_audit.specs.Settings.{HasClocks, clock_in}
 use Rattle.tsp_history.proofs.HistoryLemmas.{history-more}
 use Rattle.tsp_audit.proofs.TakeLemmas.{came-cause, came-there, came-within, clock-set, same-noted, unposted}
-use Rattle.tsp_history.specs.declared.line.HistoryLine.{HistoryLine}
-use Rattle.tsp_history.specs.Histories.{history_of, line_of}
-use Rattle.tsp_history.specs.Rounds.{AskedAt}
+use Rattle.tsp_history.specs.{Histories.history_of, Histories.line_of, Rounds.AskedAt, declared.line.HistoryLine.HistoryLine}
 
 -- no reply comes that was never posted
 pub replies-none : (l : Line) (h : List Line) (p : PeerId) → IsUnposted l h → (post : Line) (older : List Line) → Replies l h p post older → ⊥

@@ -1,13 +1,10 @@
 -- Whether clocks are near each other, as it is computed.
-use Rattle.std.specs.Prelude.{◌≡◌, ◌+◌, ◌*◌, ◌≤ℤ◌, ◌<◌, ◌≤◌, ℕ, ℤ, pos, ◌+ℤ◌, ◌-ℤ◌, nat_abs, Bool, true, false, Option, Some, List, length, MatchBool}
-use Rattle.std.proofs.Common.{ap, refl, ◌∙◌, arith, rules, subst, subst₂, sym, ◌⊎◌, inl, inr}
-use Rattle.std.proofs.lemmas.Bool.{cases_lt}
-use Rattle.std.proofs.lemmas.Int.{ints}
+use Rattle.std.proofs.Common.{ap, refl, ◌∙◌, arith, rules, subst, subst₂, sym, ◌⊎◌, inl, inr, ◌≡◌, ◌+◌, ◌*◌, ◌≤ℤ◌, ◌<◌, ◌≤◌, ℕ, ℤ, pos, ◌+ℤ◌, ◌-ℤ◌, nat_abs, Bool, true, false, Option, Some, List, length, MatchBool}
+use Rattle.std.proofs.lemmas.{Bool.cases_lt, Int.ints}
 use Rattle.tsp_audit.proofs.AgreementSteps.{state-at}
 use Rattle.tsp_base.specs.Words.{HeaderValue}
 use Rattle.tsp_audit.specs.Agreeing.{AgreesBack, AllAgree, BossAgrees, IsAtPlace, MasterNearWithSpare, NodeAgrees, PairAgrees, PairNear, FromRoundStands, shown_by}
-use Rattle.tsp_audit.specs.declared.round_correction.NodeState.{NodeState}
-use Rattle.tsp_audit.specs.declared.round_correction.RoundCorrection.{RoundCorrection}
+use Rattle.tsp_audit.specs.declared.round_correction.{NodeState.NodeState, RoundCorrection.RoundCorrection}
 
 -- two clocks are near each other exactly where the spans of what they may be wrong by meet
 pub spans-told : (r : Bool) (x y e f xl xh yl yh : ℤ) (u v : ℕ) → xl ≡ x -ℤ (e +ℤ pos (2 * u)) → xh ≡ x +ℤ (e +ℤ pos (2 * u)) → yl ≡ y -ℤ (f +ℤ pos (2 * v)) → yh ≡ y +ℤ (f +ℤ pos (2 * v)) →

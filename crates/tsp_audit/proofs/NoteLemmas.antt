@@ -1,8 +1,6 @@
 -- What an audit notes stands for a history.
-use Rattle.std.specs.Prelude.{◌≤◌, ℕ}
-use Rattle.std.proofs.Common.{arith}
-use Rattle.tsp_audit.specs.declared.remembered.Remembered.{Remembered}
-use Rattle.tsp_audit.specs.Remembered.{HasLineRoom}
+use Rattle.std.proofs.Common.{arith, ◌≤◌, ℕ}
+use Rattle.tsp_audit.specs.{Remembered.HasLineRoom, declared.remembered.Remembered.Remembered}
 
 -- room for more is room for less
 pub room-less : (few many : ℕ) (n : Remembered) → few ≤ many → HasLineRoom many n → HasLineRoom few n

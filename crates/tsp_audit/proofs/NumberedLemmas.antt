@@ -1,18 +1,12 @@
 -- The nodes of claimed lines are nodes of the header.
-use Rattle.std.specs.Prelude.{◌≡◌, ◌||◌, ◌<◌, ℕ, Bool, true, false, if◌then◌else◌, Option, None, Some, List, [], ◌∷◌, refl}
-use Rattle.std.proofs.Common.{subst, eqb-true}
-use Rattle.tsp_audit.specs.Agreeing.{Numbered}
+use Rattle.std.proofs.Common.{subst, eqb-true, ◌≡◌, ◌||◌, ◌<◌, ℕ, Bool, true, false, if◌then◌else◌, Option, None, Some, List, [], ◌∷◌, refl, slice_get}
 use Rattle.tsp_rules.specs.Values.{Event, BootAt, Turn, Take, Bytes}
 use Rattle.tsp_base.specs.Words.{HeaderValue, Step}
-use Rattle.tsp_audit.proofs.JoinLemmas.{OfStep, grown-all, made}
-use Rattle.tsp_promises.specs.Everywhere.{Everywhere}
-use Rattle.tsp_promises.specs.Fits.{node_of}
-use Rattle.tsp_claims.specs.declared.claimed.Claimed.{Claimed}
+use Rattle.tsp_audit.{proofs.JoinLemmas.OfStep, proofs.JoinLemmas.grown-all, proofs.JoinLemmas.made, specs.Agreeing.Numbered}
+use Rattle.tsp_promises.specs.{Everywhere.Everywhere, Fits.node_of}
 use Rattle.tsp_claims.specs.ClaimedHistory.{Claim, awake, claimed, events_of, makes_step, posts_of, post_goes, step_at, step_of, takes_step}
-use Rattle.tsp_claims.specs.Listed.{NamesNode, booted, is_boot_of}
-use Rattle.tsp_run.specs.declared.address.Address.{Address}
-use Rattle.tsp_run.specs.Networks.{networks}
-use Rattle.std.specs.Prelude.{slice_get}
+use Rattle.tsp_claims.specs.{Listed.NamesNode, Listed.booted, Listed.is_boot_of, declared.claimed.Claimed.Claimed}
+use Rattle.tsp_run.specs.{Networks.networks, declared.address.Address.Address}
 
 -- each event names a node of so many
 abbrev pub AllName : ℕ → List Claim → Type 0

@@ -1,13 +1,9 @@
 -- The history of some lines, and of those before them.
-use Rattle.std.specs.Prelude.{◌≡◌, ◌<◌, ◌+◌, ℕ, List, [], ◌∷◌, length}
-use Rattle.std.proofs.Common.{sym, ap, subst, ◌∙◌, take, drop, get_or}
+use Rattle.std.proofs.Common.{sym, ap, subst, ◌∙◌, take, drop, get_or, ◌≡◌, ◌<◌, ◌+◌, ℕ, List, [], ◌∷◌, length}
 use Rattle.std.proofs.lemmas.List.{take-append-drop}
-use Rattle.tsp_promises.specs.Everywhere.{Everywhere}
-use Rattle.tsp_base.specs.Words.{Line, Within}
-use Rattle.tsp_promises.proofs.EverywhereLemmas.{Everywhere-at}
-use Rattle.tsp_base.proofs.PlaceLemmas.{Within-all, Within-tail}
-use Rattle.tsp_history.specs.declared.line.HistoryLine.{HistoryLine}
-use Rattle.tsp_history.specs.Histories.{line_of, noted_after, history_of}
+use Rattle.tsp_promises.{proofs.EverywhereLemmas.Everywhere-at, specs.Everywhere.Everywhere}
+use Rattle.tsp_base.{proofs.PlaceLemmas.Within-all, proofs.PlaceLemmas.Within-tail, specs.Words.Line, specs.Words.Within}
+use Rattle.tsp_history.specs.{Histories.line_of, Histories.noted_after, Histories.history_of, declared.line.HistoryLine.HistoryLine}
 use Rattle.tsp_history.proofs.HistoryLemmas.{Within-noted, history-more, noted-append}
 
 noted-within : (h : List Line) (xs : List HistoryLine) → Within h (noted_after h xs)

@@ -1,8 +1,6 @@
 -- Whether a word is repeated doesn't depend on the order of the events.
-use Rattle.std.specs.Prelude.{◌≡◌, Bool, true, false, ◌||◌, List, [], ◌∷◌, refl, reverse}
-use Rattle.std.specs.List.{list_any}
-use Rattle.std.proofs.Common.{ap, ◌∙◌}
-use Rattle.std.proofs.lemmas.List.Folds.{list_any-append}
+use Rattle.std.proofs.Common.{ap, ◌∙◌, ◌≡◌, Bool, true, false, ◌||◌, List, [], ◌∷◌, refl, reverse}
+use Rattle.std.{proofs.lemmas.List.Folds.list_any-append, specs.List.list_any}
 use mathlib.Core.List.{reverse-cons}
 
 or_swap : (a b : Bool) → (b || (a || false)) ≡ (a || b)

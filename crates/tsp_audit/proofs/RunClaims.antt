@@ -1,22 +1,16 @@
 -- What is told of a run, where it is claimed, makes the run, posts what it posts, and boots whom it boots.
-use Rattle.std.specs.Prelude.{◌≡◌, ℕ, ◌+◌, ◌==◌, Bool, true, false, ◌||◌, if◌then◌else◌, List, [], ◌∷◌, ◌++◌, length, Option, None, Some, slice_get, refl}
-use Rattle.std.proofs.Common.{ap, ◌∙◌, sym, subst, inl, inr, eqb-true, append-nil}
+use Rattle.std.proofs.Common.{ap, ◌∙◌, sym, subst, inl, inr, eqb-true, append-nil, ◌≡◌, ℕ, ◌+◌, ◌==◌, Bool, true, false, ◌||◌, if◌then◌else◌, List, [], ◌∷◌, ◌++◌, length, Option, None, Some, slice_get, refl}
 use Rattle.tsp_rules.specs.Values.{Boot, Placed, Event, BootAt, Turn, Take, Bytes, Peer}
 use Rattle.tsp_base.specs.Words.{HeaderValue, IsHeader, Acts, Begins, Handed, Line, Step, Turned, dids, of, first_port, line_of, stepped, up, peer_of}
-use Rattle.tsp_claims.specs.declared.claimed.Claimed.{Claimed}
 use Rattle.tsp_claims.specs.ClaimedHistory.{Claim, awake, claimed, events_of, joins_acts, makes_step, claims_of_step, posts_of, post_goes as claim_reaches, step_of, taker, takes_step}
-use Rattle.tsp_claims.specs.Fitting.{acts_of}
-use Rattle.tsp_claims.specs.Listed.{booted, is_boot_of}
-use Rattle.tsp_codec.specs.Canon.{canon}
-use Rattle.tsp_codec.specs.Taken.{taken_of}
+use Rattle.tsp_claims.specs.{Fitting.acts_of, Listed.booted, Listed.is_boot_of, declared.claimed.Claimed.Claimed}
+use Rattle.tsp_codec.specs.{Canon.canon, Taken.taken_of}
 use Rattle.tsp_audit.specs.AuditedRuns.{claims_of, last_lines}
 use Rattle.tsp_rules.specs.GateRows.{GotOn, NodeTurn, answers_all, boots_all}
-use Rattle.tsp_run.specs.Networks.{networks}
-use Rattle.tsp_run.specs.Ranges.{Accepted}
+use Rattle.tsp_run.specs.{Networks.networks, Ranges.Accepted}
 use Rattle.tsp_run.specs.Refusals.{down, node_in, refusal, scene}
 use Rattle.tsp_run.specs.Run.{Happening, boot_step, goes_to, happening, joins, posts, posts_from, run, step_tick}
-use Rattle.tsp_run.proofs.RefusalLemmas.{allowed, up-down}
-use Rattle.tsp_run.proofs.SealedRun.{accepted_before}
+use Rattle.tsp_run.proofs.{RefusalLemmas.allowed, RefusalLemmas.up-down, SealedRun.accepted_before}
 use Rattle.tsp_run.proofs.RunLemmas.{posts_stepped, stepped_other, stepped_own, up_joined}
 use Rattle.tsp_audit.proofs.ClaimedPosts.{ArePosts, ArePosts-append, get-ArePosts, goes-same, posts_of_acts}
 use Rattle.tsp_run.proofs.Happens.{Arrives, acts_by, boot_acts, got_acts, stepping, steps-are, takes-or, taking, taking_row, taking_step}

@@ -1,15 +1,11 @@
 -- Sends by the numbers of the datagrams with which they begin.
-use Rattle.std.specs.Prelude.{◌≡◌, ℕ, List, ◌∷◌, refl}
-use Rattle.std.proofs.Common.{sym, ap, subst, subst₂, ◌∙◌}
+use Rattle.std.proofs.Common.{sym, ap, subst, subst₂, ◌∙◌, ◌≡◌, ℕ, List, ◌∷◌, refl}
 use Rattle.tsp_rules.specs.Values.{Post, Message, PeerId, Peer, Port}
 use Rattle.tsp_base.specs.Words.{Acts, Did, Here, Line, Seen, dids, of, view, MessageValue, Within, begun_to, peer_of, posted}
-use Rattle.tsp_promises.specs.Fits.{node_of}
-use Rattle.tsp_promises.specs.Once.{Brings, OfSend}
+use Rattle.tsp_promises.specs.{Fits.node_of, Once.Brings, Once.OfSend}
 use Rattle.tsp_base.proofs.PlaceLemmas.{Within-through}
-use Rattle.tsp_promises.proofs.Locating.{line_on, locate, view-line}
-use Rattle.tsp_promises.proofs.SeenPlaces.{seen_same}
+use Rattle.tsp_promises.proofs.{Locating.line_on, Locating.locate, Locating.view-line, SeenPlaces.seen_same, SendProof.begun_at}
 use Rattle.tsp_promises.proofs.SendPlaces.{post_unique, same-number, not-shared}
-use Rattle.tsp_promises.proofs.SendProof.{begun_at}
 use Rattle.tsp_audit.specs.Acting.{TakesSend}
 use Rattle.tsp_history.specs.PostedPlaces.{PostedAt}
 

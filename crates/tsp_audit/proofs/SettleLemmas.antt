@@ -1,17 +1,12 @@
 -- Clocks that settled agree from then on.
-use Rattle.std.specs.Prelude.{◌≡◌, ◌≤◌, ◌+◌, ◌-◌, ◌*◌, ◌≤ℤ◌, ℕ, ℤ, pos, ◌+ℤ◌, ◌-ℤ◌, nat_abs, Option, None, Some, List, MatchOption}
-use Rattle.std.proofs.Common.{sym, subst, subst₂, arith}
+use Rattle.std.proofs.Common.{sym, subst, subst₂, arith, ◌≡◌, ◌≤◌, ◌+◌, ◌-◌, ◌*◌, ◌≤ℤ◌, ℕ, ℤ, pos, ◌+ℤ◌, ◌-ℤ◌, nat_abs, Option, None, Some, List, MatchOption}
 use Rattle.std.proofs.lemmas.Int.{ints}
 use Rattle.tsp_audit.specs.Agreeing.{AgreementIs, AllAgree, AllBounded, BossAgrees, PairAgrees, SettledAt, Settles, StillSettled}
-use Rattle.tsp_audit.specs.Changes.{LeavesState}
-use Rattle.tsp_audit.specs.Settings.{HasClocks}
-use Rattle.tsp_audit.specs.declared.agreement_tracker.AgreementTracker.{AgreementTracker}
+use Rattle.tsp_audit.specs.{Changes.LeavesState, Settings.HasClocks, declared.agreement_tracker.AgreementTracker.AgreementTracker}
 use Rattle.tsp_audit.specs.declared.round_correction.NodeState.{NodeState}
 use Rattle.tsp_base.specs.Words.{HeaderValue, Line, tick_at, width}
-use Rattle.tsp_history.specs.Histories.{deed_of}
-use Rattle.tsp_history.specs.declared.line.HistoryLine.{HistoryLine}
-use Rattle.tsp_promises.proofs.Clocks.{ticks_over}
-use Rattle.tsp_promises.specs.Setting.{Setting}
+use Rattle.tsp_history.specs.{Histories.deed_of, declared.line.HistoryLine.HistoryLine}
+use Rattle.tsp_promises.{proofs.Clocks.ticks_over, specs.Setting.Setting}
 use Rattle.tsp_run.specs.Setup.{node_line}
 
 -- by how much a tick may leave the true time over a while, s before it and s' after it

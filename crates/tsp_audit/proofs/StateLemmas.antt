@@ -1,20 +1,15 @@
 -- How what is kept of a node changes with a line.
-use Rattle.std.specs.Prelude.{◌≡◌, ◌==◌, ◌<◌, ◌≤◌, ◌+◌, ◌^◌, ℕ, ℤ, pos, Bool, false, MatchOption, Option, None, Some, List, [], ◌∷◌, refl}
-use Rattle.std.proofs.Common.{sym, ap, subst, ◌∙◌, arith, inl, inr}
+use Rattle.std.proofs.Common.{sym, ap, subst, ◌∙◌, arith, inl, inr, ◌≡◌, ◌==◌, ◌<◌, ◌≤◌, ◌+◌, ◌^◌, ℕ, ℤ, pos, Bool, false, MatchOption, Option, None, Some, List, [], ◌∷◌, refl}
 use Rattle.std.proofs.lemmas.Int.{ints}
 use Rattle.tsp_rules.specs.Values.{Boot, Correct}
 use Rattle.tsp_base.specs.Words.{Acts, Deed, Did, Line, dids, from_act, of, all_corrects, all_corrects_after, lives, lives_after, moved, moved_after, Within}
-use Rattle.tsp_promises.specs.Agreed.{FromRound}
-use Rattle.tsp_promises.specs.Fits.{node_of}
-use Rattle.tsp_base.proofs.PlaceLemmas.{Within-all, Within-comparable}
-use Rattle.tsp_base.proofs.ViewPlaces.{Within-dids}
+use Rattle.tsp_promises.specs.{Agreed.FromRound, Fits.node_of}
+use Rattle.tsp_base.proofs.{PlaceLemmas.Within-all, PlaceLemmas.Within-comparable, ViewPlaces.Within-dids}
 use Rattle.tsp_promises.proofs.HistoryPlaces.{Within-of, of-other, of-own}
 use Rattle.tsp_audit.specs.Agreeing.{AfterIs, FromRoundAs, FirstIs, IsFromNoRound, LiveIs, NodeIs}
-use Rattle.tsp_audit.specs.Changes.{IsCorrect, LeavesState}
+use Rattle.tsp_audit.specs.{Changes.IsCorrect, Changes.LeavesState, declared.round_correction.NodeState.NodeState}
 use Rattle.tsp_audit.specs.declared.round_correction.RoundCorrection.{RoundCorrection}
-use Rattle.tsp_audit.specs.declared.round_correction.NodeState.{NodeState}
-use Rattle.tsp_history.specs.Clocks.{IsSumOf}
-use Rattle.tsp_history.proofs.SpacingLemmas.{lives-mono}
+use Rattle.tsp_history.{proofs.SpacingLemmas.lives-mono, specs.Clocks.IsSumOf}
 
 -- a node's Corrects and Boots grow in number
 corrects-deed : (deed : Deed) (n : ℕ) → n ≤ all_corrects_after deed n

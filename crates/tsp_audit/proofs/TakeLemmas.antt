@@ -1,25 +1,17 @@
 -- What a line's step brings, and the send that its Correct takes a post of.
-use Rattle.std.specs.Prelude.{◌≡◌, ◌<◌, ◌≤◌, ◌+◌, ℕ, ℤ, pos, ◌+ℤ◌, Bool, true, false, MatchBool, MatchOption, Option, None, List, [], ◌∷◌, length, refl, is_some, Some}
-use Rattle.std.proofs.Common.{sym, ap, subst, subst₂, ◌∙◌, arith, get_or, take}
+use Rattle.std.proofs.Common.{sym, ap, subst, subst₂, ◌∙◌, arith, get_or, take, ◌≡◌, ◌<◌, ◌≤◌, ◌+◌, ℕ, ℤ, pos, ◌+ℤ◌, Bool, true, false, MatchBool, MatchOption, Option, None, List, [], ◌∷◌, length, refl, is_some, Some}
 use Rattle.std.proofs.lemmas.List.{get_or_default}
 use Rattle.tsp_rules.specs.Values.{Post, Correct, Datagram, Message, PeerId, Place, Peer, Follow}
 use Rattle.tsp_base.specs.Words.{Acts, Came, Here, Line, Seen, dids, of, view, MessageValue, HeaderValue, moved, role, tick_at, Within, begun_to, is_correction, is_numbered, heard, peer_of, posted, time_in}
-use Rattle.tsp_promises.specs.Fits.{node_of}
 use Rattle.tsp_promises.specs.Once.{Brings, Obeys, ObeysAt, SpacedAt}
-use Rattle.tsp_promises.specs.ClockAt.{clock_at}
-use Rattle.tsp_promises.specs.Setting.{Setting}
-use Rattle.tsp_promises.specs.CorrectFits.{amount_of}
+use Rattle.tsp_promises.specs.{ClockAt.clock_at, CorrectFits.amount_of, Fits.node_of, Setting.Setting}
 use Rattle.tsp_promises.proofs.Locating.{view-line}
 use Rattle.tsp_promises.proofs.SendPlaces.{post_unique, posted-mono, posted-post, same-number}
 use Rattle.tsp_history.proofs.HistoryLemmas.{history-more}
-use Rattle.tsp_audit.proofs.SendPlaces.{brings-one}
+use Rattle.tsp_audit.{proofs.SendPlaces.brings-one, specs.Settings.HasClocks, specs.Settings.clock_in}
 use Rattle.tsp_audit.specs.Acting.{ActsNow, BringsAt, CameAt, Corrects, IsNumbered, IsUnposted, PostsMove, PostsTo, TakesSend, deed_corrects}
-use Rattle.tsp_audit.specs.Settings.{HasClocks, clock_in}
-use Rattle.tsp_history.specs.declared.line.HistoryLine.{HistoryLine}
-use Rattle.tsp_history.specs.Histories.{deed_of, history_of, line_of}
-use Rattle.tsp_history.specs.Posts.{PostsAt}
-use Rattle.tsp_history.specs.Spacing.{Spaced}
-use Rattle.tsp_history.specs.PostedPlaces.{PostedAt, IsPostAt}
+use Rattle.tsp_history.specs.{Histories.deed_of, Histories.history_of, Histories.line_of, PostedPlaces.PostedAt, PostedPlaces.IsPostAt}
+use Rattle.tsp_history.specs.{Posts.PostsAt, Spacing.Spaced, declared.line.HistoryLine.HistoryLine}
 
 -- one line stands at an index
 pub same-noted : (ns : List HistoryLine) (i : ℕ) (a b : HistoryLine) → i < length ns → get_or ns i a ≡ a → get_or ns i b ≡ b → a ≡ b

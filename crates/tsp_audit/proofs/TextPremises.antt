@@ -1,21 +1,16 @@
 -- A schedule that a verdict takes for one that keeps its premises keeps them in its text, and so in its run.
-use Rattle.std.specs.Prelude.{◌≡◌, ◌≤◌, ℕ, ◌+◌, true, false, not, List, [], ◌∷◌, Option, None, Some, slice_get}
+use Rattle.std.proofs.Common.{ap, subst, ◌≡◌, ◌≤◌, ℕ, ◌+◌, true, false, not, List, [], ◌∷◌, Option, None, Some, slice_get}
 use Rattle.std.specs.List.{list_any}
-use Rattle.std.proofs.Common.{ap, subst}
 use Rattle.std.proofs.lemmas.Bool.{and_parts, eqb-false, leb-true, not-true, or_parts}
 use Rattle.tsp_audit.specs.Premised.{boots_with, forges, in_life, is_honest, keeps_life, repeats_word, takes_early, words_differ}
 use Rattle.tsp_rules.specs.Values.{Event, BootAt, Turn, Take, Bytes, Peer, Stranger, LIFE}
 use Rattle.tsp_base.specs.Words.{HeaderValue}
-use Rattle.tsp_claims.specs.declared.claimed.Claimed.{Claimed}
-use Rattle.tsp_claims.specs.ClaimedHistory.{posts_of}
+use Rattle.tsp_claims.specs.{ClaimedHistory.posts_of, declared.claimed.Claimed.Claimed}
 use Rattle.tsp_audit.specs.AuditedRuns.{claims_of}
-use Rattle.tsp_run.specs.declared.posted.Posted.{Posted}
 use Rattle.tsp_run.specs.Premised.{AllBootOtherwise, Apart, BootsOtherwise, IsApart, IsPrompt, IsSealed, Prompt, Sealed}
-use Rattle.tsp_run.specs.Ranges.{Accepted}
-use Rattle.tsp_run.specs.Run.{posts, run}
+use Rattle.tsp_run.specs.{Ranges.Accepted, Run.posts, Run.run, declared.posted.Posted.Posted}
 use Rattle.tsp_run.proofs.SealedRun.{accepted_before}
-use Rattle.tsp_audit.proofs.ClaimedPosts.{SamePost, get-ArePosts}
-use Rattle.tsp_audit.proofs.RunClaims.{told_are}
+use Rattle.tsp_audit.proofs.{ClaimedPosts.SamePost, ClaimedPosts.get-ArePosts, RunClaims.told_are}
 
 is-sealed : (e : Event) → forges e ≡ false → IsSealed e
 is-sealed (BootAt at node word) f = tt

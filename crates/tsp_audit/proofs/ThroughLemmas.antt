@@ -1,27 +1,17 @@
 -- What is found of a claimed history, event by event.
-use Rattle.std.specs.Prelude.{◌≡◌, ◌<◌, ◌≤◌, ◌+◌, ℕ, List, [], ◌∷◌, length, refl, None, Some, take}
-use Rattle.std.proofs.Common.{sym, ap, subst, arith, inl, inr, ◌⊎◌}
+use Rattle.std.proofs.Common.{sym, ap, subst, arith, inl, inr, ◌⊎◌, ◌≡◌, ◌<◌, ◌≤◌, ◌+◌, ℕ, List, [], ◌∷◌, length, refl, None, Some, take}
 use Rattle.std.proofs.lemmas.Bool.{cases_lt}
-use Rattle.tsp_audit.specs.declared.remembered.Remembered.{Remembered}
-use Rattle.tsp_audit.specs.declared.premises.Premises.{Premises}
-use Rattle.tsp_audit.specs.declared.verdict.Failure.{Failure}
-use Rattle.tsp_audit.specs.Ends.{AreDated}
-use Rattle.tsp_audit.specs.Looking.{Grown, Looks}
-use Rattle.tsp_audit.specs.Remembered.{RememberedStands}
-use Rattle.tsp_audit.specs.Settings.{HasClocks, Timely}
-use Rattle.tsp_audit.specs.Verdicts.{AllHold, IsFound, IsFoundOfAll}
+use Rattle.tsp_audit.specs.declared.{remembered.Remembered.Remembered, verdict.Failure.Failure}
+use Rattle.tsp_audit.specs.{Ends.AreDated, Looking.Grown, Looking.Looks, Remembered.RememberedStands, Settings.HasClocks, Settings.Timely}
+use Rattle.tsp_audit.specs.{Verdicts.AllHold, Verdicts.IsFound, Verdicts.IsFoundOfAll, declared.premises.Premises.Premises}
 use Rattle.tsp_audit.proofs.EventLemmas.{found-more, grown-claims, holds-none, joins-within}
-use Rattle.tsp_audit.proofs.JudgeLemmas.{prefix-is}
-use Rattle.tsp_audit.proofs.NumberedLemmas.{AllName}
-use Rattle.tsp_promises.specs.Setting.{Setting}
-use Rattle.tsp_promises.proofs.EverywhereLemmas.{Everywhere-within}
+use Rattle.tsp_audit.proofs.{JudgeLemmas.prefix-is, NumberedLemmas.AllName}
+use Rattle.tsp_promises.{proofs.EverywhereLemmas.Everywhere-within, specs.Setting.Setting}
 use Rattle.tsp_base.specs.Words.{HeaderValue, Line, Within}
 use Rattle.tsp_base.proofs.PlaceLemmas.{Within-all, Within-length, Within-through}
 use Rattle.tsp_claims.specs.ClaimedHistory.{Claim, claimed, events_of, posts_of, step_of}
 use Rattle.tsp_claims.specs.Listed.{NamesNode, booted}
-use Rattle.tsp_history.specs.declared.line.HistoryLine.{HistoryLine}
-use Rattle.tsp_history.specs.Histories.{history_of}
-use Rattle.tsp_history.proofs.NoteLemmas.{length-history}
+use Rattle.tsp_history.{proofs.NoteLemmas.length-history, specs.Histories.history_of, specs.declared.line.HistoryLine.HistoryLine}
 use Rattle.tsp_run.specs.Run.{event_at}
 
 -- the history up to an event is a place of the whole

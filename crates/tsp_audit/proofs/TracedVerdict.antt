@@ -1,30 +1,20 @@
 -- The verdict on what is told of a run.
-use Rattle.std.specs.Prelude.{◌≡◌, true, not, List, [], ◌∷◌, refl}
-use Rattle.std.proofs.Common.{sym, subst, inl, inr}
+use Rattle.std.proofs.Common.{sym, subst, inl, inr, ◌≡◌, true, not, List, [], ◌∷◌, refl}
 use Rattle.std.proofs.lemmas.Bool.{and_parts}
-use Rattle.tsp_audit.specs.declared.premises.Premises.{Premises}
-use Rattle.tsp_audit.specs.declared.verdict.Verdict.{Verdict}
+use Rattle.tsp_audit.specs.declared.{premises.Premises.Premises, verdict.Verdict.Verdict}
 use Rattle.tsp_audit.specs.declared.verdict.Verdict.TheVariants.{Holds, Fails}
 use Rattle.tsp_audit.specs.Parts.{Acting, Agreeing, AllKeep, Backing, Leading, Measuring}
 use Rattle.tsp_audit.specs.Premised.{forges, is_honest, keeps_life, premises_of, repeats_word, takes_early, words_differ}
-use Rattle.tsp_audit.specs.Verdicts.{AllHold, IsVerdict}
 use Rattle.tsp_rules.specs.Values.{Event}
 use Rattle.tsp_base.specs.Words.{HeaderValue, Line}
-use Rattle.tsp_promises.specs.Premises.{Honest, Life, Words}
-use Rattle.tsp_promises.specs.Safe.{Safe}
-use Rattle.tsp_promises.specs.Setting.{Setting}
+use Rattle.tsp_promises.specs.{Premises.Honest, Premises.Life, Premises.Words, Safe.Safe, Setting.Setting}
 use Rattle.tsp_promises.proofs.WordsProof.{own_words}
 use Rattle.tsp_claims.specs.ClaimedHistory.{Claim, claimed, posts_of}
-use Rattle.tsp_audit.specs.AuditedRuns.{RunsHold, claims_of}
-use Rattle.tsp_run.specs.Ranges.{Accepted}
-use Rattle.tsp_run.specs.Run.{run}
-use Rattle.tsp_run.specs.Setting.{SetBy}
-use Rattle.tsp_run.proofs.RunPromises.{runs-keep-promises}
-use Rattle.tsp_run.proofs.RunPremises.{runs-keep-premises}
-use Rattle.tsp_run.proofs.SealedRun.{accepted_before}
-use Rattle.tsp_audit.proofs.RunClaims.{told_are}
+use Rattle.tsp_audit.specs.{AuditedRuns.RunsHold, AuditedRuns.claims_of, Verdicts.AllHold, Verdicts.IsVerdict}
+use Rattle.tsp_run.specs.{Ranges.Accepted, Run.run, Setting.SetBy}
+use Rattle.tsp_run.proofs.{RunPremises.runs-keep-premises, RunPromises.runs-keep-promises, SealedRun.accepted_before}
 use Rattle.tsp_audit.proofs.TextPremises.{apart-text, prompt-text, sealed-text}
-use Rattle.tsp_audit.proofs.ClaimedEvents.{events-claims}
+use Rattle.tsp_audit.proofs.{ClaimedEvents.events-claims, RunClaims.told_are}
 
 -- of the premises that a verdict goes by, a history keeps each that they grant
 pub record Granted (premises : Premises) (history : List Line) : Type 0 where

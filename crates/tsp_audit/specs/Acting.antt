@@ -1,18 +1,13 @@
 -- Which sends a clock's corrections have taken.
 use Rattle.std.specs.Prelude.{◌≡◌, ◌<◌, ◌≤◌, ℕ, ◌==◌, ℤ, Bool, true, false, not, List, [], ◌∷◌, ◌++◌, length, get_or, take, Option, None, Some, is_some}
 use Rattle.std.specs.List.{list_any}
-use Rattle.tsp_audit.specs.declared.premises.Premises.{Premises}
-use Rattle.tsp_audit.specs.Parts.{AllKept}
+use Rattle.tsp_audit.specs.{Parts.AllKept, declared.premises.Premises.Premises}
 use Rattle.tsp_rules.specs.Values.{Post, Correct, Message, PeerId, Place, Peer}
 use Rattle.tsp_base.specs.Words.{Acts, Came, Deed, Did, Here, Line, Seen, dids, of, MessageValue, Within, is_correction, is_numbered, heard, peer_of, posted, time_in}
-use Rattle.tsp_promises.specs.CorrectFits.{amount_of}
-use Rattle.tsp_promises.specs.Fits.{node_of}
+use Rattle.tsp_promises.specs.{CorrectFits.amount_of, Fits.node_of, Setting.Setting}
 use Rattle.tsp_promises.specs.Once.{ActsOn, Brings, ConfirmedAt, ObeysAt, OfSend, OnceAt, SpacedAt}
-use Rattle.tsp_promises.specs.Setting.{Setting}
 use Rattle.tsp_history.specs.declared.line.HistoryLine.{HistoryLine}
-use Rattle.tsp_history.specs.Histories.{history_of, line_of}
-use Rattle.tsp_history.specs.Posts.{PostsAt}
-use Rattle.tsp_history.specs.PostedPlaces.{PostedAt}
+use Rattle.tsp_history.specs.{Histories.history_of, Histories.line_of, PostedPlaces.PostedAt, Posts.PostsAt}
 
 -- the datagram that the line's step takes, if it takes one, was never posted
 abbrev pub IsUnposted : Line → List Line → Type 0

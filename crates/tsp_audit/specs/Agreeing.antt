@@ -1,17 +1,10 @@
 -- What is remembered from line to line of clocks that one round corrected.
 use Rattle.std.specs.Prelude.{◌≡◌, ◌<◌, ◌≤◌, ◌≤ℤ◌, ◌⊎◌, ℕ, ◌+◌, ◌-◌, ◌*◌, ℤ, pos, ◌+ℤ◌, ◌-ℤ◌, nat_abs, List, [], ◌∷◌, length, get_or, Option, None, Some}
-use Rattle.tsp_audit.specs.declared.round_correction.RoundCorrection.{RoundCorrection}
-use Rattle.tsp_audit.specs.declared.round_correction.NodeState.{NodeState}
-use Rattle.tsp_audit.specs.declared.agreement_tracker.AgreementTracker.{AgreementTracker}
-use Rattle.tsp_audit.specs.Changes.{LeavesState}
-use Rattle.tsp_promises.specs.Agreed.{FromRound, RightAfter, Unchanged}
-use Rattle.tsp_promises.specs.Everywhere.{Everywhere}
-use Rattle.tsp_promises.specs.Fits.{node_of}
+use Rattle.tsp_audit.specs.declared.round_correction.{NodeState.NodeState, RoundCorrection.RoundCorrection}
+use Rattle.tsp_audit.specs.{Changes.LeavesState, declared.agreement_tracker.AgreementTracker.AgreementTracker}
+use Rattle.tsp_promises.specs.{Agreed.FromRound, Agreed.RightAfter, Agreed.Unchanged, Everywhere.Everywhere, Fits.node_of}
 use Rattle.tsp_base.specs.Words.{HeaderValue, Line, dids, from_act, of, all_corrects, lives, moved, Within, tick_at, width}
-use Rattle.tsp_history.specs.Clocks.{IsSumOf}
-use Rattle.tsp_history.specs.declared.line.HistoryLine.{HistoryLine}
-use Rattle.tsp_history.specs.Histories.{deed_of}
-use Rattle.tsp_history.specs.Rounds.{TripsTell}
+use Rattle.tsp_history.specs.{Clocks.IsSumOf, Histories.deed_of, Rounds.TripsTell, declared.line.HistoryLine.HistoryLine}
 use Rattle.tsp_run.specs.Setup.{node_line}
 
 -- each line's node is below this number

@@ -1,20 +1,12 @@
 -- What an audit says of a run's own trace, if that is claimed of its schedule. Lists have the newest event first.
 use Rattle.std.specs.Prelude.{◌≡◌, ℕ, true, List, [], ◌∷◌, map, Option, None, Some}
-use Rattle.tsp_audit.specs.declared.verdict.Verdict.{Verdict}
 use Rattle.tsp_audit.specs.declared.verdict.Verdict.TheVariants.{Holds}
-use Rattle.tsp_audit.specs.Premised.{premises_of}
-use Rattle.tsp_audit.specs.Verdicts.{IsVerdict}
+use Rattle.tsp_audit.specs.{Premised.premises_of, Verdicts.IsVerdict, declared.verdict.Verdict.Verdict}
 use Rattle.tsp_rules.specs.Values.{Event, Line2}
 use Rattle.tsp_base.specs.Words.{HeaderValue, is_whole}
-use Rattle.tsp_promises.specs.Everywhere.{Everywhere}
-use Rattle.tsp_promises.specs.Setting.{Setting}
-use Rattle.tsp_claims.specs.ClaimedHistory.{Claim, claimed}
-use Rattle.tsp_claims.specs.Fitting.{Fit}
-use Rattle.tsp_claims.specs.Stands.{claim_of}
-use Rattle.tsp_run.specs.declared.line.Line.{Line as ToldLine}
-use Rattle.tsp_run.specs.Ranges.{Accepted}
-use Rattle.tsp_run.specs.Run.{gained, run}
-use Rattle.tsp_run.specs.Setting.{SetBy}
+use Rattle.tsp_promises.specs.{Everywhere.Everywhere, Setting.Setting}
+use Rattle.tsp_claims.specs.{ClaimedHistory.Claim, ClaimedHistory.claimed, Fitting.Fit, Stands.claim_of}
+use Rattle.tsp_run.specs.{Ranges.Accepted, Run.gained, Run.run, Setting.SetBy, declared.line.Line.Line as ToldLine}
 
 -- the number of a post, and 0 for any other act
 abbrev pub number_or_zero : Option ℕ → ℕ

@@ -2,8 +2,7 @@
 use Rattle.std.specs.Prelude.{◌≡◌, ℕ, ◌==◌, Bool, true, false, not, List, Option, None, Some}
 use Rattle.tsp_rules.specs.Values.{Post, Become, Message, Kind, Accept, Election, PeerId, Place, Peer, Stranger, Port, Candidate}
 use Rattle.tsp_base.specs.Words.{Acts, Deed, Line, of, view}
-use Rattle.tsp_promises.specs.OneBack.{BacksAt, HoldsAt}
-use Rattle.tsp_promises.specs.StepFacts.{is_unbacked}
+use Rattle.tsp_promises.specs.{OneBack.BacksAt, OneBack.HoldsAt, StepFacts.is_unbacked}
 
 abbrev pub is_standing : Deed → Bool
 is_standing (Acts (Become Candidate)) = true

@@ -2,8 +2,7 @@
 use Rattle.std.specs.Prelude.{◌≡◌, ◌≤◌, ℕ, List, ◌∷◌, length, get_or}
 use Rattle.tsp_base.specs.Words.{HeaderValue, Within}
 use Rattle.tsp_promises.specs.Everywhere.{Everywhere}
-use Rattle.tsp_claims.specs.ClaimedHistory.{Claim, claimed}
-use Rattle.tsp_claims.specs.Listed.{NamesNode}
+use Rattle.tsp_claims.specs.{ClaimedHistory.Claim, ClaimedHistory.claimed, Listed.NamesNode}
 use Rattle.tsp_run.specs.Run.{event_at}
 
 -- each event stands at a true time of a schedule, at most 10^15 microseconds, and its node is one of so many

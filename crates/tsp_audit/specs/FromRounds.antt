@@ -3,13 +3,8 @@ use Rattle.std.specs.Prelude.{◌≡◌, ◌≤◌, ℕ, ℤ, List, ◌∷◌, l
 use Rattle.tsp_audit.specs.declared.round_correction.RoundCorrection.{RoundCorrection}
 use Rattle.tsp_rules.specs.Values.{Post, Datagram, Message, AdjTime, Place, Peer, Port}
 use Rattle.tsp_base.specs.Words.{Acts, Came, Deed, Here, Line, Seen, dids, of, view, MessageValue, all_corrects, lives, Within, Sampled, best, peer_of, posted}
-use Rattle.tsp_promises.specs.Agreed.{ReadingOf}
-use Rattle.tsp_promises.specs.Fits.{node_of}
-use Rattle.tsp_promises.specs.Once.{ActsOn, OfSend}
-use Rattle.tsp_promises.specs.StepFacts.{closed}
-use Rattle.tsp_history.specs.declared.line.HistoryLine.{HistoryLine}
-use Rattle.tsp_history.specs.Histories.{history_of, line_of}
-use Rattle.tsp_history.specs.Rounds.{LineAt}
+use Rattle.tsp_promises.specs.{Agreed.ReadingOf, Fits.node_of, Once.ActsOn, Once.OfSend, StepFacts.closed}
+use Rattle.tsp_history.specs.{Histories.history_of, Histories.line_of, Rounds.LineAt, declared.line.HistoryLine.HistoryLine}
 
 -- a deed posts an ADJTIME
 pub record IsAdjusting (deed : Deed) : Type 0 where

@@ -1,13 +1,8 @@
 -- What is found of the newest event.
 use Rattle.std.specs.Prelude.{◌≡◌, ℕ, List, length, Option, None, Some}
-use Rattle.tsp_audit.specs.declared.premises.Premises.{Premises}
-use Rattle.tsp_audit.specs.declared.verdict.Failure.{Failure}
 use Rattle.tsp_audit.specs.declared.remembered.Remembered.{Remembered}
-use Rattle.tsp_audit.specs.Agreeing.{Numbered}
-use Rattle.tsp_audit.specs.Judged.{FailsNow}
-use Rattle.tsp_audit.specs.Remembered.{RememberedStands}
-use Rattle.tsp_audit.specs.Parts.{AllKeep}
-use Rattle.tsp_audit.specs.Settings.{HasClocks, Timely}
+use Rattle.tsp_audit.specs.{Agreeing.Numbered, Judged.FailsNow, Parts.AllKeep, Remembered.RememberedStands}
+use Rattle.tsp_audit.specs.{Settings.HasClocks, Settings.Timely, declared.premises.Premises.Premises, declared.verdict.Failure.Failure}
 use Rattle.tsp_base.specs.Words.{HeaderValue, Line, Within}
 use Rattle.tsp_promises.specs.Setting.{Setting}
 use Rattle.tsp_claims.specs.ClaimedHistory.{Claim, claimed}

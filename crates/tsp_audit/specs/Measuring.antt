@@ -2,11 +2,8 @@
 use Rattle.std.specs.Prelude.{◌≡◌, ◌<◌, ℕ, ℤ, pos, ◌-ℤ◌, ◌≤ℤ◌, nat_abs, List, ◌∷◌, length, get_or, take}
 use Rattle.tsp_rules.specs.Values.{Post, Stamp, PeerId, Peer, Reply}
 use Rattle.tsp_base.specs.Words.{Acts, Came, Line, dids, Within, ReplyValue, peer_of, posted}
-use Rattle.tsp_promises.specs.Fits.{node_of}
-use Rattle.tsp_promises.specs.Measured.{MeasuredAt, TripAt}
-use Rattle.tsp_promises.specs.Setting.{Setting}
-use Rattle.tsp_history.specs.declared.line.HistoryLine.{HistoryLine}
-use Rattle.tsp_history.specs.Histories.{history_of, line_of}
+use Rattle.tsp_promises.specs.{Fits.node_of, Measured.MeasuredAt, Measured.TripAt, Setting.Setting}
+use Rattle.tsp_history.specs.{Histories.history_of, Histories.line_of, declared.line.HistoryLine.HistoryLine}
 
 -- a line is that of peer p, and posts a reply to this node
 pub record RepliesTo (post : Line) (p : PeerId) (node : ℕ) : Type 0 where

@@ -1,8 +1,6 @@
 -- Verdicts and failures.
 use Rattle.std.specs.Prelude.{Option, None, Some}
-use Rattle.tsp_audit.specs.declared.verdict.Failure.{Failure}
-use Rattle.tsp_audit.specs.declared.verdict.Verdict.{Verdict}
-use Rattle.tsp_audit.specs.declared.verdict.Verdict.TheVariants.{Holds, Fails}
+use Rattle.tsp_audit.specs.declared.verdict.{Failure.Failure, Verdict.Verdict, Verdict.TheVariants.Holds, Verdict.TheVariants.Fails}
 
 -- the verdict that names a failure, if there is one
 abbrev pub named : Option Failure → Verdict

@@ -1,13 +1,9 @@
 -- The parts of a verdict, and what each asks of a history. Each is a promise that every run keeps.
 use Rattle.std.specs.Prelude.{◌≡◌, true, ℕ, List}
 use Rattle.tsp_audit.specs.declared.premises.Premises.{Premises}
-use Rattle.tsp_promises.specs.Agreed.{Agreed}
+use Rattle.tsp_promises.specs.{Agreed.Agreed, Measured.Measured, Measured.Trips, OneBack.OneBack, OnlyMaster.OnlyMaster, Setting.Setting}
 use Rattle.tsp_base.specs.Words.{Line}
-use Rattle.tsp_promises.specs.Measured.{Measured, Trips}
 use Rattle.tsp_promises.specs.Once.{OnceConfirmed, OnceObeyed, OnceSpaced, OnceTaken}
-use Rattle.tsp_promises.specs.OneBack.{OneBack}
-use Rattle.tsp_promises.specs.OnlyMaster.{OnlyMaster}
-use Rattle.tsp_promises.specs.Setting.{Setting}
 
 -- the parts, the least first
 pub data Part : Type 0 where

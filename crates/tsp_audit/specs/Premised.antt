@@ -5,8 +5,7 @@ use Rattle.std.specs.List.{list_any}
 use Rattle.tsp_audit.specs.declared.premises.Premises.{Premises}
 use Rattle.tsp_rules.specs.Values.{Event, BootAt, Take, Bytes, Peer, LIFE}
 use Rattle.tsp_base.specs.Words.{HeaderValue}
-use Rattle.tsp_claims.specs.declared.claimed.Claimed.{Claimed}
-use Rattle.tsp_claims.specs.ClaimedHistory.{Claim, events_of, posts_of}
+use Rattle.tsp_claims.specs.{ClaimedHistory.Claim, ClaimedHistory.events_of, ClaimedHistory.posts_of, declared.claimed.Claimed.Claimed}
 
 -- whether an event hands a node octets as a peer's
 abbrev pub forges : Event → Bool

@@ -1,10 +1,7 @@
 -- What an audit notes of a history.
 use Rattle.std.specs.Prelude.{◌≤◌, ◌+◌, ℕ, List, length, vec_len, vec_capacity}
 use Rattle.tsp_audit.specs.declared.remembered.Remembered.{Remembered}
-use Rattle.tsp_audit.specs.declared.premises.Premises.{Premises}
-use Rattle.tsp_audit.specs.Acting.{ActedIs}
-use Rattle.tsp_audit.specs.Agreeing.{AgreementIs, SettledAt}
-use Rattle.tsp_audit.specs.Parts.{AllKept}
+use Rattle.tsp_audit.specs.{Acting.ActedIs, Agreeing.AgreementIs, Agreeing.SettledAt, Parts.AllKept, declared.premises.Premises.Premises}
 use Rattle.tsp_base.specs.Words.{HeaderValue, Line}
 
 -- the sends that were taken are those of a history; where the schedule keeps all premises the tracker of the header's

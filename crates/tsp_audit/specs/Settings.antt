@@ -1,8 +1,7 @@
 -- What a verdict takes from a schedule's header.
 use Rattle.std.specs.Prelude.{◌≡◌, ℕ, ◌≤◌, ℤ, pos, ◌+ℤ◌, List}
-use Rattle.tsp_promises.specs.Everywhere.{Everywhere}
+use Rattle.tsp_promises.specs.{Everywhere.Everywhere, Setting.Setting}
 use Rattle.tsp_base.specs.Words.{HeaderValue, Line, dids, of, moved, tick_at}
-use Rattle.tsp_promises.specs.Setting.{Setting}
 use Rattle.tsp_run.specs.Setup.{node_line}
 
 -- a setting has the header's drift, rates and walls

@@ -1,7 +1,5 @@
 -- Events that are held, each in little room.
-use Rattle.tsp_audit.specs.declared.small_event.Handed.{Handed}
-use Rattle.tsp_audit.specs.declared.small_event.Held.{Held}
-use Rattle.tsp_audit.specs.declared.small_event.Held.TheVariants.{Boxed, Plain}
+use Rattle.tsp_audit.specs.declared.small_event.{Handed.Handed, Held.Held, Held.TheVariants.Boxed, Held.TheVariants.Plain}
 use Rattle.tsp_rules.specs.Values.{Event, Bytes}
 use Rattle.tsp_base.specs.Words.{event_in}
 

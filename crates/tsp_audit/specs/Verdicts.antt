@@ -1,27 +1,15 @@
 -- The verdict on what is claimed. The newest claim is the first.
 use Rattle.std.specs.Prelude.{◌≡◌, ℕ, ◌+◌, List, ◌∷◌, length, Option, None, Some}
-use Rattle.std.specs.declared.result.Result.{Result}
-use Rattle.std.specs.declared.result.Result.TheVariants.{Ok, Err}
-use Rattle.tsp_audit.specs.declared.audit.Audit.{Audit}
-use Rattle.tsp_audit.specs.declared.remembered.Remembered.{Remembered}
-use Rattle.tsp_audit.specs.declared.premises.Premises.{Premises}
-use Rattle.tsp_audit.specs.declared.verdict.Failure.{Failure}
-use Rattle.tsp_audit.specs.declared.verdict.Verdict.{Verdict}
-use Rattle.tsp_audit.specs.declared.verdict.Verdict.TheVariants.{Holds, Fails}
-use Rattle.tsp_audit.specs.Judged.{FailsNow}
-use Rattle.tsp_audit.specs.Remembered.{RememberedStands}
-use Rattle.tsp_audit.specs.Parts.{AllKeep}
-use Rattle.tsp_audit.specs.Settings.{HasClocks, Timely}
+use Rattle.std.specs.declared.result.Result.{Result, TheVariants.Ok, TheVariants.Err}
+use Rattle.tsp_audit.specs.declared.{audit.Audit.Audit, premises.Premises.Premises, remembered.Remembered.Remembered}
+use Rattle.tsp_audit.specs.declared.verdict.{Failure.Failure, Verdict.Verdict, Verdict.TheVariants.Holds, Verdict.TheVariants.Fails}
+use Rattle.tsp_audit.specs.{Judged.FailsNow, Parts.AllKeep, Remembered.RememberedStands, Settings.HasClocks, Settings.Timely}
 use Rattle.tsp_rules.specs.Values.{Event, Line2}
 use Rattle.tsp_base.specs.Words.{HeaderValue, Within}
-use Rattle.tsp_promises.specs.Everywhere.{Everywhere}
-use Rattle.tsp_promises.specs.Setting.{Setting}
-use Rattle.tsp_claims.specs.declared.audit_fault.AuditFault.{AuditFault}
+use Rattle.tsp_promises.specs.{Everywhere.Everywhere, Setting.Setting}
 use Rattle.tsp_claims.specs.declared.audit_fault.AuditFault.TheVariants.{History, OutOfMemory}
-use Rattle.tsp_claims.specs.ClaimedHistory.{Claim, claimed}
-use Rattle.tsp_claims.specs.Fitting.{Fit, Misfit}
-use Rattle.tsp_claims.specs.Listed.{NamesNode}
-use Rattle.tsp_claims.specs.Stands.{ClaimsStand, claim_of}
+use Rattle.tsp_claims.specs.{ClaimedHistory.Claim, ClaimedHistory.claimed, Fitting.Fit, Fitting.Misfit, Listed.NamesNode}
+use Rattle.tsp_claims.specs.{Stands.ClaimsStand, Stands.claim_of, declared.audit_fault.AuditFault.AuditFault}
 
 -- all parts hold up to each of these events, and before the first event
 abbrev pub AllHold : Premises → Setting → HeaderValue → List Claim → Type 0

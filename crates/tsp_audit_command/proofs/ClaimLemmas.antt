@@ -1,26 +1,20 @@
 -- The claims that a history holds, event by event.
-use Rattle.std.specs.Prelude.{◌≡◌, ◌<◌, ℕ, ◌+◌, ◌-◌, Bool, List, [], ◌∷◌, ◌++◌, length, drop, take, get_or, reverse, Option, None, Some, slice_get}
-use Rattle.std.proofs.Common.{◌∙◌, ap, sym, refl, arith, append-nil, append_assoc, inl, inr}
+use Rattle.std.proofs.Common.{◌∙◌, ap, sym, refl, arith, append-nil, append_assoc, inl, inr, ◌≡◌, ◌<◌, ℕ, ◌+◌, ◌-◌, Bool, List, [], ◌∷◌, ◌++◌, length, drop, take, get_or, reverse, Option, None, Some, slice_get}
 use Rattle.std.proofs.lemmas.List.{get_or_append_left, length-append, reverse-append, take_more}
 use Rattle.std.proofs.lemmas.Option.{get_or_from_slice_get, slice_get_within}
 use Rattle.std.proofs.Math.Seq.{drop-append_seam, get_or-append_seam, take-append_seam}
 use Rattle.tsp_audit.specs.Ends.{EndsAt}
-use Rattle.tsp_base.specs.declared.act.Placed.{Placed}
-use Rattle.tsp_base.specs.declared.event.Event.{Event}
+use Rattle.tsp_base.specs.declared.{act.Placed.Placed, event.Event.Event, trace.Line2.Line2}
 use Rattle.tsp_base.specs.declared.event.Event.TheVariants.{Boot as BootAt, Turn, Take, Bytes}
 use Rattle.tsp_base.specs.Words.{HeaderValue, Acts, Begins, Line, Step, first_port, joined, line_of, Within}
 use Rattle.tsp_base.proofs.PlaceLemmas.{Within-length}
 use Rattle.tsp_audit_command.specs.Sound.{acts_in, claims_by, claims_on, first_end, placed_by}
-use Rattle.tsp_claims.specs.declared.claimed.Claimed.{Claimed}
-use Rattle.tsp_claims.specs.declared.claims.Claims.{Claims}
-use Rattle.tsp_claims.specs.declared.tally.Tally.{Tally}
+use Rattle.tsp_claims.specs.declared.{claims.Claims.Claims, tally.Tally.Tally}
 use Rattle.tsp_claims.specs.ClaimedHistory.{Claim, claimed, events_of, joins_acts, posts_of, step_at, step_of}
 use Rattle.tsp_claims.specs.Fitting.{Fit, LineFitsIn, acts_of, untold}
-use Rattle.tsp_claims.specs.Listed.{booted}
-use Rattle.tsp_claims.specs.Stands.{ClaimsStand, claim_of}
+use Rattle.tsp_claims.specs.{Listed.booted, Stands.ClaimsStand, Stands.claim_of, declared.claimed.Claimed.Claimed}
 use Rattle.tsp_history.specs.Histories.{history_of}
 use Rattle.tsp_run.specs.Run.{step_tick}
-use Rattle.tsp_base.specs.declared.trace.Line2.{Line2}
 
 acts_in-append : (a b : List Line) → acts_in (a ++ b) ≡ acts_in b ++ acts_in a
 acts_in-append [] b = sym (append-nil (acts_in b))

@@ -1,18 +1,11 @@
 -- Where the whole input may be audited, nothing of it is refused.
-use Rattle.std.specs.Prelude.{◌≡◌, ◌⊎◌, ℕ, ◌≤◌, List, [], length, reverse, Option, Some}
-use Rattle.std.proofs.Common.{◌∙◌, subst, inl, inr, sym, refl}
-use Rattle.tsp_audit_command.specs.ClaimReaders.{ClaimReaderValue, passes_all}
-use Rattle.tsp_audit_command.specs.Meaning.{IsAuditText, auditing}
+use Rattle.std.proofs.Common.{◌∙◌, subst, inl, inr, sym, refl, ◌≡◌, ◌⊎◌, ℕ, ◌≤◌, List, [], length, reverse, Option, Some}
+use Rattle.tsp_audit_command.specs.{ClaimReaders.ClaimReaderValue, ClaimReaders.passes_all, Meaning.IsAuditText, Meaning.auditing}
 use Rattle.tsp_audit_command.specs.Readings.{Claimed, IsWanting, ReachesReading, Reading, Scheduling}
-use Rattle.tsp_audit_command.proofs.Definites.{IsDefinite-auditing, Reaches-one}
-use Rattle.tsp_audit_command.proofs.PassLemmas.{none-some}
-use Rattle.tsp_lines.specs.Answers.{Agrees, IsAnswer}
-use Rattle.tsp_lines.specs.Definite.{IsDefinite}
-use Rattle.tsp_lines.specs.Gatherings.{ComesGathered}
-use Rattle.tsp_lines.specs.Meanings.{Meaning}
-use Rattle.tsp_lines.specs.declared.treat.Outcome.{Outcome}
+use Rattle.tsp_audit_command.proofs.{Definites.IsDefinite-auditing, Definites.Reaches-one, PassLemmas.none-some}
+use Rattle.tsp_lines.specs.{Answers.Agrees, Answers.IsAnswer, Definite.IsDefinite, Gatherings.ComesGathered, Meanings.Meaning}
 use Rattle.tsp_lines.specs.declared.treat.Outcome.TheVariants.{Ok as Done, Bad, ReadFault, WriteFault, Limit, OutOfMemory}
-use Rattle.tsp_lines.proofs.OneAnswer.{Comes-answers}
+use Rattle.tsp_lines.{proofs.OneAnswer.Comes-answers, specs.declared.treat.Outcome.Outcome}
 
 -- the same lines, where nothing is handed over at their end
 abbrev silently : Meaning

@@ -1,34 +1,22 @@
 -- At each place of an audit's lines one thing at most may follow, and the verdict is one.
-use Rattle.std.specs.Prelude.{◌≡◌, ℕ, zero, suc, ◌+◌, ◌-◌, ◌<◌, ◌≤◌, if◌then◌else◌, Bool, true, false, List, [], ◌∷◌, ◌++◌, length, reverse, Option, None, Some}
-use Rattle.std.proofs.Common.{◌∙◌, ap, subst, inl, inr, sym, refl, arith}
+use Rattle.std.proofs.Common.{◌∙◌, ap, subst, inl, inr, sym, refl, arith, ◌≡◌, ℕ, zero, suc, ◌+◌, ◌-◌, ◌<◌, ◌≤◌, if◌then◌else◌, Bool, true, false, List, [], ◌∷◌, ◌++◌, length, reverse, Option, None, Some}
 use Rattle.std.proofs.lemmas.Bool.{cases_order}
-use Rattle.tsp_audit.specs.declared.premises.Premises.{Premises}
-use Rattle.tsp_audit.specs.declared.verdict.Failure.{Failure}
-use Rattle.tsp_audit.specs.Judged.{FailsNow}
-use Rattle.tsp_audit.specs.Premised.{premises_of}
-use Rattle.tsp_audit.specs.Settings.{HasClocks}
-use Rattle.tsp_audit.specs.Verdicts.{AllHold, FailsFirst, IsFound}
-use Rattle.tsp_base.specs.declared.event.Event.{Event}
+use Rattle.tsp_audit.specs.{Judged.FailsNow, Premised.premises_of, Settings.HasClocks, declared.premises.Premises.Premises}
+use Rattle.tsp_audit.specs.{Verdicts.AllHold, Verdicts.FailsFirst, Verdicts.IsFound, declared.verdict.Failure.Failure}
 use Rattle.tsp_base.specs.Words.{HeaderValue, IsHeader, Line, Within}
 use Rattle.tsp_promises.specs.Setting.{Setting}
-use Rattle.tsp_base.proofs.PlaceLemmas.{Within-comparable}
+use Rattle.tsp_base.{proofs.PlaceLemmas.Within-comparable, specs.declared.event.Event.Event, specs.declared.trace.Line2.Line2}
 use Rattle.tsp_audit_command.specs.ClaimReaders.{ClaimReaderValue, FitsAt, FitsHere, MisfitsAt, IsOneLine, and_then, passed_up_to, lines_told, most_lines, pass_first, pass_one, passes, passes_all, tallied, told_more, unclaimed}
-use Rattle.tsp_audit_command.specs.Listings.{most_nodes, refused_next}
-use Rattle.tsp_audit_command.specs.Meaning.{auditing}
+use Rattle.tsp_audit_command.specs.{Listings.most_nodes, Listings.refused_next, Meaning.auditing, Texts.verdict_text}
 use Rattle.tsp_audit_command.specs.Readings.{Claimed, MayEnd, ReadsOn, GivesVerdict, IsWanting, PassesLimit, ReachesReading, Reading, RefusesLine, Scheduling, nodes_at, reading_of}
-use Rattle.tsp_audit_command.specs.Texts.{verdict_text}
-use Rattle.tsp_audit_command.proofs.PassLemmas.{none-some, some-one}
-use Rattle.tsp_audit_command.proofs.Reverses.{reverse-more}
-use Rattle.tsp_claims.specs.ClaimedHistory.{Claim, claimed}
-use Rattle.tsp_claims.specs.Fitting.{lacks, untold}
-use Rattle.tsp_claims.specs.Stands.{claim_of}
+use Rattle.tsp_audit_command.proofs.{PassLemmas.none-some, PassLemmas.some-one, Reverses.reverse-more}
+use Rattle.tsp_claims.specs.{ClaimedHistory.Claim, ClaimedHistory.claimed, Fitting.lacks, Fitting.untold, Stands.claim_of}
 use Rattle.tsp_schedule.specs.Schedules.{Progress, Untitled, Titled, Drifted, Heading, Running, Ended, GoesOn as GoesOnBy, Reaches as ReachesBy}
 use Rattle.tsp_schedule.proofs.Definites.{Lacks-one, Refuses-one, Refuses-within}
 use Rattle.tsp_schedule.proofs.OneReading.{GoesOn-not_limited, GoesOn-not_refused, Reaches-one as ReachesBy-one}
 use Rattle.tsp_schedule.proofs.ReadHeaders.{KeepsHeader, Reaches-header}
 use Rattle.tsp_lines.specs.Definite.{IsDefinite}
 use Rattle.tsp_run.proofs.SettingLemmas.{each-is-set}
-use Rattle.tsp_base.specs.declared.trace.Line2.{Line2}
 
 reading-unended : (q p : Progress) → reading_of q ≡ Scheduling p → q ≡ p
 reading-unended Untitled p is = cc

@@ -1,13 +1,9 @@
 -- How the lines of an event fit, one behind the other.
-use Rattle.std.specs.Prelude.{◌≡◌, ◌+◌, ◌≤◌, false, List, [], ◌∷◌, ◌++◌, length}
-use Rattle.std.proofs.Common.{refl, arith}
-use Rattle.tsp_base.specs.declared.event.Event.{Event}
-use Rattle.tsp_audit_command.specs.ClaimReaders.{tallied}
-use Rattle.tsp_audit_command.specs.Sound.{FitSoFar}
-use Rattle.tsp_claims.specs.declared.tally.Tally.{Tally}
-use Rattle.tsp_claims.specs.Fitting.{AllFit, counted, lacks}
+use Rattle.std.proofs.Common.{refl, arith, ◌≡◌, ◌+◌, ◌≤◌, false, List, [], ◌∷◌, ◌++◌, length}
+use Rattle.tsp_base.specs.declared.{event.Event.Event, trace.Line2.Line2}
+use Rattle.tsp_audit_command.specs.{ClaimReaders.tallied, Sound.FitSoFar}
+use Rattle.tsp_claims.specs.{Fitting.AllFit, Fitting.counted, Fitting.lacks, declared.tally.Tally.Tally}
 use Rattle.tsp_claims.proofs.FitLemmas.{claims_of_step-few}
-use Rattle.tsp_base.specs.declared.trace.Line2.{Line2}
 
 -- one line more
 pub tallied-more : (t : Tally) (lines : List Line2) (l : Line2) → tallied t (lines ++ l ∷ []) ≡ counted (tallied t lines) l.placed.act

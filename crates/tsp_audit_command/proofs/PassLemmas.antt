@@ -1,16 +1,11 @@
 -- How events are passed, one after the other.
-use Rattle.std.specs.Prelude.{◌≡◌, ℕ, suc, false, List, [], ◌∷◌, Option, None, Some}
-use Rattle.std.proofs.Common.{◌∙◌, ap, sym, refl}
-use Rattle.tsp_base.specs.declared.event.Event.{Event}
-use Rattle.tsp_base.specs.Words.{HeaderValue}
+use Rattle.std.proofs.Common.{◌∙◌, ap, sym, refl, ◌≡◌, ℕ, suc, false, List, [], ◌∷◌, Option, None, Some}
+use Rattle.tsp_base.specs.{Words.HeaderValue, declared.event.Event.Event, declared.trace.Line2.Line2}
 use Rattle.tsp_audit_command.specs.ClaimReaders.{ClaimReaderValue, and_then, pass_first, pass_one, passes, tallied}
 use Rattle.tsp_audit_command.specs.Stands.{Unpassed}
-use Rattle.tsp_claims.specs.ClaimedHistory.{Claim}
-use Rattle.tsp_claims.specs.Fitting.{lacks, untold}
-use Rattle.tsp_claims.specs.Stands.{claim_of}
+use Rattle.tsp_claims.specs.{ClaimedHistory.Claim, Fitting.lacks, Fitting.untold, Stands.claim_of}
 use Rattle.tsp_lines.specs.declared.treatment.Stop.{Stop}
 use Rattle.tsp_lines.specs.declared.treatment.Stop.TheVariants.{Bad, Limit, WriteFault, OutOfMemory}
-use Rattle.tsp_base.specs.declared.trace.Line2.{Line2}
 
 pub some-one : (a b : ClaimReaderValue) → Some a ≡ Some b → a ≡ b
 some-one a b p = cc

@@ -1,27 +1,19 @@
 -- What is known of events and claimed lines, one step on.
-use Rattle.std.specs.Prelude.{◌≡◌, ℕ, ◌+◌, ◌<◌, ◌^◌, false, List, [], ◌∷◌, ◌++◌, length, drop, take, reverse, Some}
-use Rattle.std.proofs.Common.{◌∙◌, ap, sym, refl, subst, arith, get_or}
+use Rattle.std.proofs.Common.{◌∙◌, ap, sym, refl, subst, arith, get_or, ◌≡◌, ℕ, ◌+◌, ◌<◌, ◌^◌, false, List, [], ◌∷◌, ◌++◌, length, drop, take, reverse, Some}
 use Rattle.std.proofs.lemmas.List.{drop_more, length-append, length-map, reverse-append}
 use Rattle.std.proofs.lemmas.Option.{slice_get_within, get_or_from_slice_get, slice_get_read}
 use Rattle.std.specs.List.{slice_get}
-use Rattle.tsp_audit.specs.declared.premises.Premises.{Premises}
-use Rattle.tsp_audit.specs.Ends.{AreDated, EndsAt}
-use Rattle.tsp_audit.specs.Premised.{kept_with, premises_of}
-use Rattle.tsp_base.specs.declared.event.Event.{Event}
-use Rattle.tsp_base.specs.Words.{HeaderValue}
+use Rattle.tsp_audit.specs.{Ends.AreDated, Ends.EndsAt, Premised.kept_with, Premised.premises_of, declared.premises.Premises.Premises}
+use Rattle.tsp_base.specs.{Words.HeaderValue, declared.event.Event.Event, declared.trace.Line2.Line2}
 use Rattle.tsp_audit_command.specs.ClaimReaders.{ClaimReaderValue, FitsFirst, most_lines, pass_first, tallied}
-use Rattle.tsp_audit_command.specs.Listings.{AreListed, IsAudited, IsListed}
 use Rattle.tsp_audit_command.specs.Sound.{FitAtHand, Sound, claims_by, claims_on, first_end}
 use Rattle.tsp_history.specs.Histories.{history_of}
 use Rattle.tsp_audit_command.proofs.ClaimLemmas.{EndsAt-more, EndsAt-none, claims_on-more, passed-more}
 use Rattle.tsp_audit_command.proofs.FitLemmas.{AllFit-so-far, FitSoFar-more, tallied-more, tallied-posts}
-use Rattle.tsp_audit_command.proofs.PassLemmas.{pass-whole}
-use Rattle.tsp_claims.specs.declared.claims.Claims.{Claims}
-use Rattle.tsp_claims.specs.declared.tally.Tally.{Tally}
+use Rattle.tsp_audit_command.{proofs.PassLemmas.pass-whole, specs.Listings.AreListed, specs.Listings.IsAudited, specs.Listings.IsListed}
 use Rattle.tsp_claims.specs.ClaimedHistory.{Claim, claimed, events_of, lines_in, posts_of}
 use Rattle.tsp_claims.specs.Fitting.{Fit, FitsNext, counted, lacks, untold}
-use Rattle.tsp_claims.specs.Stands.{ClaimsStand, claim_of}
-use Rattle.tsp_base.specs.declared.trace.Line2.{Line2}
+use Rattle.tsp_claims.specs.{Stands.ClaimsStand, Stands.claim_of, declared.claims.Claims.Claims, declared.tally.Tally.Tally}
 
 -- the event with this index is at hand, and the rest behind it
 pub ahead-at : {A : Type 0} (events : List A) (n : ℕ) (e : A) → slice_get events n ≡ Some e → drop n events ≡ (e ∷ drop (n + 1) events)

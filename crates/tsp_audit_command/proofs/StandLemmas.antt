@@ -1,31 +1,20 @@
 -- What is held, and how far the lines have come.
-use Rattle.std.specs.Prelude.{◌≡◌, ℕ, ◌<◌, ◌≤◌, Bool, List, [], ◌∷◌, length, codes, reverse, IfSome, MatchOption, MatchResult, Option, None, Some}
-use Rattle.std.specs.declared.result.Result.{Result}
-use Rattle.std.proofs.Common.{◌∙◌, ap, subst, inl, inr, sym, refl, append-nil}
-use Rattle.std.proofs.lemmas.List.{length-reverse}
-use Rattle.tsp_base.specs.declared.event.Event.{Event}
-use Rattle.tsp_base.specs.Words.{HeaderValue}
-use Rattle.tsp_audit_command.specs.declared.check.AuditInput.{AuditInput}
-use Rattle.tsp_audit_command.specs.declared.check.AuditInput.TheVariants.{Schedule, Claims as ClaimsOf}
+use Rattle.std.proofs.Common.{◌∙◌, ap, subst, inl, inr, sym, refl, append-nil, ◌≡◌, ℕ, ◌<◌, ◌≤◌, Bool, List, [], ◌∷◌, length, codes, reverse, IfSome, MatchOption, MatchResult, Option, None, Some}
+use Rattle.std.{proofs.lemmas.List.length-reverse, specs.declared.result.Result.Result}
+use Rattle.tsp_base.specs.{Words.HeaderValue, declared.event.Event.Event, declared.trace.Line2.Line2}
+use Rattle.tsp_audit_command.specs.declared.check.AuditInput.{AuditInput, TheVariants.Schedule, TheVariants.Claims as ClaimsOf}
 use Rattle.tsp_audit_command.specs.declared.listing.Listing.{Listing}
 use Rattle.tsp_audit_command.specs.ClaimReaders.{ClaimReaderValue, passed_up_to, passes_all, told_more}
-use Rattle.tsp_audit_command.specs.Listings.{most_nodes, refusal_at, refused_next}
-use Rattle.tsp_audit_command.specs.Meaning.{auditing}
+use Rattle.tsp_audit_command.specs.{Listings.most_nodes, Listings.refusal_at, Listings.refused_next, Meaning.auditing}
 use Rattle.tsp_audit_command.specs.Readings.{Claimed, IsWanting, MayEnd, ReachesReading, Reading, RefusesLine, Scheduling, nodes_at, reading_of}
 use Rattle.tsp_audit_command.specs.Stands.{AdvancesReading, ClaimAdvances, Concludes, HaltsReading, HaltsBehind, HaltsConcluding, EventStands, ListingStands, ReadingStands, Unpassed}
-use Rattle.tsp_audit_command.proofs.PassLemmas.{some-one}
-use Rattle.tsp_audit_command.proofs.Reverses.{reverse-more}
-use Rattle.tsp_audit_command.proofs.TraceLengths.{SpellsTrace-long}
-use Rattle.tsp_schedule.specs.declared.stage.Stage.{Stage}
+use Rattle.tsp_audit_command.proofs.{PassLemmas.some-one, Reverses.reverse-more, TraceLengths.SpellsTrace-long}
 use Rattle.tsp_schedule.specs.Schedules.{Progress, Untitled, Titled, Drifted, Heading, Running, Ended, IsEnded}
-use Rattle.tsp_schedule.specs.Stages.{StageStands, Advances as AdvancesBy, AdvancesByEvent}
+use Rattle.tsp_schedule.specs.{Stages.StageStands, Stages.Advances as AdvancesBy, Stages.AdvancesByEvent, declared.stage.Stage.Stage}
 use Rattle.tsp_schedule.proofs.StageLemmas.{MatchOption-map, MatchResult-map}
-use Rattle.tsp_lines.specs.Lines.{IsAhead, line_ahead}
-use Rattle.tsp_lines.specs.declared.treatment.Stop.{Stop}
 use Rattle.tsp_lines.specs.declared.treatment.Stop.TheVariants.{Bad, Limit, WriteFault, OutOfMemory}
 use Rattle.tsp_lines.specs.Meanings.{Closes, Goes, StopsAt, StopsAtEnd, Tried}
-use Rattle.tsp_lines.proofs.Outputs.{Hands-nil}
-use Rattle.tsp_base.specs.declared.trace.Line2.{Line2}
+use Rattle.tsp_lines.{proofs.Outputs.Hands-nil, specs.Lines.IsAhead, specs.Lines.line_ahead, specs.declared.treatment.Stop.Stop}
 use Rattle.tsp_claims.specs.Listed.{up_in}
 use Rattle.tsp_run.specs.Run.{last_at}
 

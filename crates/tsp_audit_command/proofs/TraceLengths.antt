@@ -1,28 +1,16 @@
 -- No line of a trace has more than 1,024 octets.
-use Rattle.std.proofs.Common.{ℕ, ◌^◌, ◌<◌, ◌≤◌, List, ◌++◌, Bool, true, false, length, arith, length-append, subst, suc, sym}
-use Rattle.std.specs.Prelude.{ℤ, pos, negsuc, decimal, codes}
-use Rattle.std.specs.Int.{w64}
-use Rattle.std.specs.Int.RustNames.{FitsSigned}
-use Rattle.std.specs.Fmt.{signed_decimal}
-use Rattle.tsp_base.specs.Words.{alarm_word}
-use Rattle.tsp_base.specs.declared.act.Act.{Act}
+use Rattle.std.proofs.Common.{ℕ, ◌^◌, ◌<◌, ◌≤◌, List, ◌++◌, Bool, true, false, length, arith, length-append, subst, suc, sym, ℤ, pos, negsuc, decimal, codes}
+use Rattle.std.specs.{Fmt.signed_decimal, Int.w64, Int.RustNames.FitsSigned}
+use Rattle.tsp_base.specs.{Words.alarm_word, declared.act.Act.Act, declared.alarm.Alarm.Alarm, declared.alarm.Alarm.TheVariants.Quiet}
 use Rattle.tsp_base.specs.declared.act.Act.TheVariants.{Boot, Took, Post, Become, Back, Backer, Quit, Arm, Ring, Late, Join, Leave, Rival, Acked, Gave, Sample, Close, Correct, Abandon, Trace}
-use Rattle.tsp_base.specs.declared.alarm.Alarm.{Alarm}
-use Rattle.tsp_base.specs.declared.alarm.Alarm.TheVariants.{Quiet}
-use Rattle.tsp_base.specs.declared.datagram.DecodeFault.{DecodeFault}
+use Rattle.tsp_base.specs.declared.datagram.{DecodeFault.DecodeFault, Taken.Taken, Taken.TheVariants.Good, Taken.TheVariants.Bad}
 use Rattle.tsp_base.specs.declared.datagram.DecodeFault.TheVariants.{Short, Long, Version, Kind, StampLength, NoEnd, NameTooLong, Reserved, Time}
-use Rattle.tsp_base.specs.declared.datagram.Taken.{Taken}
-use Rattle.tsp_base.specs.declared.datagram.Taken.TheVariants.{Good, Bad}
-use Rattle.tsp_base.specs.declared.place.PeerId.{PeerId}
-use Rattle.tsp_base.specs.declared.role.Role.{Role}
+use Rattle.tsp_base.specs.declared.{place.PeerId.PeerId, role.Role.Role, trace.Line2.Line2}
 use Rattle.tsp_base.specs.declared.role.Role.TheVariants.{Starting, Loose, Follow, Candidate, Master}
-use Rattle.tsp_script.proofs.MessageLengths.{length-message_text}
 use Rattle.tsp_schedule.proofs.LongLines.{place_length}
-use Rattle.tsp_script.proofs.Lengths.{number_length}
+use Rattle.tsp_script.{proofs.Lengths.number_length, proofs.MessageLengths.length-message_text, specs.Texts.space, specs.Texts.message_text}
 use Rattle.tsp_script.specs.ActLines.{IsAct, IsLine2, IsNumberOf, IsRole, IsTaken, SpellsTrace}
-use Rattle.tsp_script.specs.Texts.{space, message_text}
 use Rattle.tsp_script.specs.Traces.{act_text, fault_word, place_text, role_text, taken_text, trace_text, way_word}
-use Rattle.tsp_base.specs.declared.trace.Line2.{Line2}
 
 alarm_length : (a : Alarm) → length (alarm_word a) ≤ 7
 alarm_length Quiet = omega arith

@@ -1,14 +1,10 @@
 -- The claimed lines after a schedule: how far they have come, which line may follow, and why one may not. An event is
 -- passed once all its lines were read and it lacks nothing; the first one that isn't passed is the event at hand.
 use Rattle.std.specs.Prelude.{◌≡◌, ◌⊎◌, ℕ, zero, suc, ◌+◌, ◌-◌, if◌then◌else◌, List, [], ◌∷◌, ◌++◌, length, reverse, Option, None, Some}
-use Rattle.tsp_base.specs.declared.event.Event.{Event}
-use Rattle.tsp_base.specs.Words.{HeaderValue}
-use Rattle.tsp_claims.specs.declared.tally.Tally.{Tally}
-use Rattle.tsp_claims.specs.ClaimedHistory.{Claim, lines_in}
+use Rattle.tsp_base.specs.{Words.HeaderValue, declared.event.Event.Event, declared.trace.Line2.Line2}
+use Rattle.tsp_claims.specs.{ClaimedHistory.Claim, ClaimedHistory.lines_in, Stands.claim_of, declared.tally.Tally.Tally}
 use Rattle.tsp_claims.specs.Fitting.{FitsNext, counted, lacks, untold}
-use Rattle.tsp_claims.specs.Stands.{claim_of}
 use Rattle.tsp_script.specs.ActLines.{SpellsTrace}
-use Rattle.tsp_base.specs.declared.trace.Line2.{Line2}
 
 -- the most lines that may be claimed, of all events together
 abbrev pub most_lines : ℕ

@@ -1,13 +1,10 @@
 -- Why an event of an audited schedule is refused: for what it is refused in a run, but of a take only the time is
 -- looked at, and there is room for fewer events.
 use Rattle.std.specs.Prelude.{◌≡◌, ℕ, ◌≤◌, nat_le, if◌then◌else◌, Bool, true, List, [], length, Option, None, Some}
-use Rattle.std.specs.Coded.{Unit-prop, le_prop}
-use Rattle.std.specs.List.{All}
-use Rattle.tsp_base.specs.declared.event.Event.{Event}
+use Rattle.std.specs.{Coded.Unit-prop, Coded.le_prop, List.All}
 use Rattle.tsp_base.specs.declared.event.Event.TheVariants.{Boot as BootAt, Turn, Take, Bytes}
-use Rattle.tsp_base.specs.declared.event.EventFault.{EventFault}
 use Rattle.tsp_base.specs.declared.event.EventFault.TheVariants.{Limit}
-use Rattle.tsp_base.specs.Words.{HeaderValue, is_whole}
+use Rattle.tsp_base.specs.{Words.HeaderValue, Words.is_whole, declared.event.Event.Event, declared.event.EventFault.EventFault}
 use Rattle.tsp_claims.specs.Listed.{NamesNode, booted}
 use Rattle.tsp_run.specs.Refusals.{down, first_of, no_node, scene, time_back}
 use Rattle.tsp_run.specs.Run.{event_at, last_at}

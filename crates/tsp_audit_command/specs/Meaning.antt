@@ -2,8 +2,7 @@
 use Rattle.std.specs.Prelude.{◌≡◌, ℕ, List, [], reverse, All, Some}
 use Rattle.tsp_audit_command.specs.ClaimReaders.{ClaimReaderValue, passes_all}
 use Rattle.tsp_audit_command.specs.Readings.{Claimed, MayEnd, IsWanting, PassesLimit, ReachesReading, Reading, RefusesLine}
-use Rattle.tsp_lines.specs.Lines.{NoFeed, AreLines}
-use Rattle.tsp_lines.specs.Meanings.{Meaning}
+use Rattle.tsp_lines.specs.{Lines.NoFeed, Lines.AreLines, Meanings.Meaning}
 
 -- octets are the lines of a schedule of at most 16 nodes and 20,000 events, and after it at most 20,000 claimed lines,
 -- which all fit, and no event lacks anything

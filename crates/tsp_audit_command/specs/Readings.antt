@@ -1,19 +1,14 @@
 -- Reading the input of an audit line by line: how far the lines have come, which line may follow, and why one may not.
 -- The causes are words: those of a schedule, and after it `line` and `history`.
 use Rattle.std.specs.Prelude.{◌≡◌, ◌⊎◌, ℕ, ◌<◌, ◌≤◌, List, [], ◌∷◌, length, None, Some, codes, Option}
-use Rattle.tsp_audit.specs.declared.verdict.Failure.{Failure}
-use Rattle.tsp_audit.specs.Premised.{premises_of}
-use Rattle.tsp_audit.specs.Settings.{HasClocks}
-use Rattle.tsp_audit.specs.Verdicts.{IsFound}
-use Rattle.tsp_base.specs.Words.{HeaderValue}
+use Rattle.tsp_audit.specs.{Premised.premises_of, Settings.HasClocks, Verdicts.IsFound, declared.verdict.Failure.Failure}
+use Rattle.tsp_base.specs.{Words.HeaderValue, declared.trace.Line2.Line2}
 use Rattle.tsp_promises.specs.Setting.{Setting}
 use Rattle.tsp_audit_command.specs.ClaimReaders.{ClaimReaderValue, FitsAt, MisfitsAt, IsOneLine, lines_told, most_lines, passes_all, told_more, unclaimed}
-use Rattle.tsp_audit_command.specs.Listings.{most_nodes, refused_next}
-use Rattle.tsp_audit_command.specs.Texts.{verdict_text}
+use Rattle.tsp_audit_command.specs.{Listings.most_nodes, Listings.refused_next, Texts.verdict_text}
 use Rattle.tsp_claims.specs.ClaimedHistory.{Claim}
 use Rattle.tsp_schedule.specs.Schedules.{Progress, Untitled, Titled, Drifted, Heading, Running, Ended, GoesOn as GoesOnBy, Refuses as RefusesBy, Limits as LimitsBy, Lacks as LacksBy}
 use Rattle.tsp_script.specs.ActLines.{SpellsTrace}
-use Rattle.tsp_base.specs.declared.trace.Line2.{Line2}
 
 -- how far the lines of an input have come
 pub data Reading : Type 0 where

@@ -1,21 +1,12 @@
 -- What is known of the events and the claimed lines while lines are read.
 use Rattle.std.specs.Prelude.{◌≡◌, ℕ, ◌+◌, ◌-◌, ◌≤◌, List, [], ◌∷◌, ◌++◌, length, drop, take, reverse}
-use Rattle.tsp_audit.specs.declared.premises.Premises.{Premises}
-use Rattle.tsp_audit.specs.Ends.{AreDated, EndsAt}
-use Rattle.tsp_audit.specs.Premised.{premises_of}
-use Rattle.tsp_base.specs.declared.act.Placed.{Placed}
-use Rattle.tsp_base.specs.declared.event.Event.{Event}
-use Rattle.tsp_base.specs.declared.place.Port.{Port}
+use Rattle.tsp_audit.specs.{Ends.AreDated, Ends.EndsAt, Premised.premises_of, declared.premises.Premises.Premises}
+use Rattle.tsp_base.specs.declared.{act.Placed.Placed, event.Event.Event, place.Port.Port, trace.Line2.Line2}
 use Rattle.tsp_base.specs.Words.{HeaderValue, Acts, Begins, Deed, Line}
-use Rattle.tsp_audit_command.specs.ClaimReaders.{most_lines, tallied}
-use Rattle.tsp_audit_command.specs.Listings.{AreListed, IsAudited}
-use Rattle.tsp_claims.specs.declared.claims.Claims.{Claims}
-use Rattle.tsp_claims.specs.declared.tally.Tally.{Tally}
-use Rattle.tsp_claims.specs.ClaimedHistory.{Claim, claimed, events_of}
-use Rattle.tsp_claims.specs.Fitting.{FitsNext, counted, untold}
-use Rattle.tsp_claims.specs.Stands.{ClaimsStand}
+use Rattle.tsp_audit_command.specs.{ClaimReaders.most_lines, ClaimReaders.tallied, Listings.AreListed, Listings.IsAudited}
+use Rattle.tsp_claims.specs.{ClaimedHistory.Claim, ClaimedHistory.claimed, ClaimedHistory.events_of, Stands.ClaimsStand}
+use Rattle.tsp_claims.specs.{Fitting.FitsNext, Fitting.counted, Fitting.untold, declared.claims.Claims.Claims, declared.tally.Tally.Tally}
 use Rattle.tsp_history.specs.Histories.{history_of}
-use Rattle.tsp_base.specs.declared.trace.Line2.{Line2}
 
 -- the act of a line of a history, on its port; none of a mark
 abbrev pub placed_by : Port → Deed → List Placed

@@ -1,23 +1,16 @@
 -- What the values that the treatment of an audit holds stand for, and what each of its calls makes of them.
 use Rattle.std.specs.Prelude.{◌≡◌, ℕ, ◌<◌, ◌≤◌, List, [], length, reverse, Option, None, codes}
-use Rattle.tsp_base.specs.declared.event.Event.{Event}
-use Rattle.tsp_base.specs.Words.{HeaderValue}
-use Rattle.tsp_audit_command.specs.declared.check.AuditInput.{AuditInput}
+use Rattle.tsp_base.specs.{Words.HeaderValue, declared.event.Event.Event, declared.trace.Line2.Line2}
 use Rattle.tsp_audit_command.specs.declared.check.AuditInput.TheVariants.{Schedule, Claims as ClaimsOf}
-use Rattle.tsp_audit_command.specs.declared.listing.Listing.{Listing}
 use Rattle.tsp_audit_command.specs.ClaimReaders.{ClaimReaderValue, FitsAt, FitsHere, MisfitsAt, IsOneLine, lines_told, most_lines, told_more}
-use Rattle.tsp_audit_command.specs.Listings.{most_nodes}
+use Rattle.tsp_audit_command.specs.{Listings.most_nodes, declared.check.AuditInput.AuditInput, declared.listing.Listing.Listing}
 use Rattle.tsp_audit_command.specs.Readings.{Claimed, MayEnd, ReadsOn, IsWanting, PassesLimit, ReachesReading, Reading, RefusesLine, Scheduling, nodes_at}
 use Rattle.tsp_claims.specs.Listed.{booted, up_in}
-use Rattle.tsp_schedule.specs.declared.stage.Stage.{Stage}
 use Rattle.tsp_schedule.specs.declared.stage.Stage.TheVariants.{Untitled as AtUntitled, Titled as AtTitled, Drifted as AtDrifted, Heading as AtHeading, Running as AtRunning}
-use Rattle.tsp_schedule.specs.Schedules.{Progress}
-use Rattle.tsp_schedule.specs.Stages.{StageStands}
-use Rattle.tsp_lines.specs.Outputs.{Hands}
-use Rattle.tsp_lines.specs.declared.treatment.Stop.{Stop}
+use Rattle.tsp_schedule.specs.{Schedules.Progress, Stages.StageStands, declared.stage.Stage.Stage}
+use Rattle.tsp_lines.specs.{Outputs.Hands, declared.treatment.Stop.Stop}
 use Rattle.tsp_lines.specs.declared.treatment.Stop.TheVariants.{Bad, Limit, WriteFault, OutOfMemory}
 use Rattle.tsp_run.specs.Run.{last_at}
-use Rattle.tsp_base.specs.declared.trace.Line2.{Line2}
 
 -- the listing stands for a header and these events, which are given newest first
 pub record ListingStands (header : HeaderValue) (events : List Event) (listing : Listing) : Type 0 where

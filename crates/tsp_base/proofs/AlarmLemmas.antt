@@ -1,8 +1,6 @@
 -- The earlier of two deadlines.
-use Rattle.std.specs.Prelude.{◌≡◌, ◌≤◌, ◌⊎◌, ℕ, List, [], ◌∷◌, length, drop, Option, None, Some, IfSome, IsSome, min}
-use Rattle.std.proofs.Common.{refl, inl, inr, arith, ap, sym, subst, ◌∙◌}
-use Rattle.std.proofs.lemmas.Bool.{cases_lt}
-use Rattle.std.proofs.lemmas.List.{drop_all}
+use Rattle.std.proofs.Common.{refl, inl, inr, arith, ap, sym, subst, ◌∙◌, ◌≡◌, ◌≤◌, ◌⊎◌, ℕ, List, [], ◌∷◌, length, drop, Option, None, Some, IfSome, IsSome, min}
+use Rattle.std.proofs.lemmas.{Bool.cases_lt, List.drop_all}
 use Rattle.tsp_base.specs.declared.alarm.Alarm.{Alarm}
 use Rattle.tsp_base.specs.declared.alarm.Alarm.TheVariants.{Quiet, Search, Elect, Window, Probe, Close as CloseAlarm, Resolve as ResolveAlarm, Round}
 use Rattle.tsp_base.specs.Words.{Deadlines, deadline, deadlines_in, earlier, least_deadline}

@@ -1,14 +1,9 @@
 -- Lists whose elements' numbers rise, and what a binary search by these numbers finds.
 use Rattle.std.proofs.Common.{◌≡◌, ◌≢◌, ℕ, suc, ◌<◌, ◌≤◌, List, ◌∷◌, length, map, Err, get_or, ap, arith, inl, inr}
-use Rattle.std.specs.List.Sorted.{IsBinarySearchResult, IsStrictlyIncreasing}
-use Rattle.std.specs.Ordering.{nat_cmp, ordering_index}
+use Rattle.std.specs.{List.Sorted.IsBinarySearchResult, List.Sorted.IsStrictlyIncreasing, Ordering.nat_cmp, Ordering.ordering_index}
 use Rattle.std.specs.declared.cmp.Ordering.TheVariants.{Less, Equal, Greater}
-use Rattle.std.proofs.lemmas.Bool.{cases_lt}
-use Rattle.std.proofs.lemmas.Bool.Decides.{nat_tests}
-use Rattle.std.proofs.lemmas.List.{length-map, get_or-map}
-use Rattle.std.proofs.lemmas.List.Kept.{AllPairs-from_increasing}
-use Rattle.tsp_base.specs.declared.place.PeerId.{PeerId}
-use Rattle.tsp_base.specs.Words.{IsAscending}
+use Rattle.std.proofs.lemmas.{Bool.cases_lt, Bool.Decides.nat_tests, List.length-map, List.get_or-map, List.Kept.AllPairs-from_increasing}
+use Rattle.tsp_base.specs.{Words.IsAscending, declared.place.PeerId.PeerId}
 
 -- of two places the later one has the greater number
 pub record Rise {A : Type 0} (number : A → ℕ) (xs : List A) : Type 0 where

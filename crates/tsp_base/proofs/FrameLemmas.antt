@@ -1,8 +1,6 @@
 -- The room that calls take of a desk.
-use Rattle.std.specs.Prelude.{◌≡◌, ℕ, ◌+◌, ◌≤◌, List, [], ◌∷◌, ◌++◌, length}
-use Rattle.std.proofs.Common.{sym, ◌∙◌, ap, arith, length-append, add-zero}
-use Rattle.tsp_base.specs.declared.act.Placed.{Placed}
-use Rattle.tsp_base.specs.Words.{PutsAtMost, PutsExactly}
+use Rattle.std.proofs.Common.{sym, ◌∙◌, ap, arith, length-append, add-zero, ◌≡◌, ℕ, ◌+◌, ◌≤◌, List, [], ◌∷◌, ◌++◌, length}
+use Rattle.tsp_base.specs.{Words.PutsAtMost, Words.PutsExactly, declared.act.Placed.Placed}
 
 -- nothing is put
 pub PutsExactly_none : {room : ℕ} {old : List Placed} → PutsExactly 0 room room old old

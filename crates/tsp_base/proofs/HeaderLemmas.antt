@@ -1,15 +1,10 @@
 -- One node or one network more keeps a header's rules.
-use Rattle.std.proofs.Common.{◌≡◌, ℕ, ◌+◌, ◌≤◌, ◌<◌, List, [], ◌∷◌, ◌++◌, length, Bool, true, false, if◌then◌else◌}
+use Rattle.std.proofs.Common.{◌≡◌, ℕ, ◌+◌, ◌≤◌, ◌<◌, List, [], ◌∷◌, ◌++◌, length, Bool, true, false, if◌then◌else◌, count_by}
 use Rattle.std.proofs.Common.{zero, suc, ◌↔◌, nat_lt, arith, subst, slice_index_or, refl, inl, inr}
-use Rattle.std.proofs.lemmas.List.Elements.{All-append, All-head, All-tail}
-use Rattle.std.proofs.lemmas.List.{length-append}
+use Rattle.std.proofs.lemmas.List.{length-append, Elements.All-append, Elements.All-head, Elements.All-tail}
 use Rattle.std.proofs.lemmas.List.Sums.{sum_by-append, AllPass-from_list_all, list_all-from_AllPass}
-use Rattle.std.proofs.lemmas.Map.Keys.{sorted_from_strictly_increasing}
-use Rattle.std.proofs.lemmas.Map.Views.{length-le_from_below}
-use Rattle.std.proofs.lemmas.Bool.{cases_lt, ltb-true, lt-ltb}
-use Rattle.std.proofs.lemmas.Bool.Decides.{eqb_tells}
-use Rattle.std.proofs.Math.Bool.{and-false}
-use Rattle.std.specs.Prelude.{count_by}
+use Rattle.std.proofs.lemmas.Map.{Keys.sorted_from_strictly_increasing, Views.length-le_from_below}
+use Rattle.std.proofs.{Math.Bool.and-false, lemmas.Bool.cases_lt, lemmas.Bool.ltb-true, lemmas.Bool.lt-ltb, lemmas.Bool.Decides.eqb_tells}
 use Rattle.std.specs.List.{All, list_any, list_all}
 use Rattle.tsp_base.specs.declared.header.NodeLine.{NodeLine}
 use Rattle.tsp_base.specs.Words.{HeaderValue, IsHeader, KeepsDrift, IsNet, Joins, has_member, nets_with, all_joined}

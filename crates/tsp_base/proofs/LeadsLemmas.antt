@@ -1,8 +1,7 @@
 -- The rules by which rows lead from one fact of a past to another.
 use Rattle.std.specs.Prelude.{◌≡◌, ℕ, Bool, true, false, if◌then◌else◌, List, [], ◌∷◌, refl}
-use Rattle.tsp_base.specs.declared.act.Act.{Act}
 use Rattle.tsp_base.specs.Words.{Past, Leads, Row, grown, nothing, puts, ◌followed_by◌, either_by, reading, for_each}
-use Rattle.tsp_base.proofs.RowLemmas.{added_append}
+use Rattle.tsp_base.{proofs.RowLemmas.added_append, specs.declared.act.Act.Act}
 
 pub Leads_then : {P Q R : ℕ → Past → Type 0} (r s : Row) → Leads P r Q → Leads Q s R → Leads P (r followed_by s) R
 unfolding ◌followed_by◌

@@ -1,9 +1,7 @@
 -- Calls one after the other, and on one of two ways, perform the rows that are built alike.
-use Rattle.std.specs.Prelude.{◌≡◌, ℕ, Bool, true, false, if◌then◌else◌, List, [], ◌∷◌, ◌++◌}
-use Rattle.std.proofs.Common.{sym, ◌∙◌, ap, append_assoc, append-nil}
+use Rattle.std.proofs.Common.{sym, ◌∙◌, ap, append_assoc, append-nil, ◌≡◌, ℕ, Bool, true, false, if◌then◌else◌, List, [], ◌∷◌, ◌++◌}
 use Rattle.std.proofs.lemmas.List.{map-append}
-use Rattle.tsp_base.specs.declared.act.Placed.{Placed}
-use Rattle.tsp_base.specs.declared.place.Port.{Port}
+use Rattle.tsp_base.specs.declared.{act.Placed.Placed, place.Port.Port}
 use Rattle.tsp_base.specs.Words.{Past, Performs, Keeps, Row, grown, placed, nothing, ◌followed_by◌, either_by, reading, for_each}
 use Rattle.tsp_base.proofs.RowLemmas.{added_append, for_each-more}
 

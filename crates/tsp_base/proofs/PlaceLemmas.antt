@@ -1,6 +1,5 @@
 -- Order of places.
-use Rattle.std.specs.Prelude.{◌≤◌, List, [], ◌∷◌, length, refl}
-use Rattle.std.proofs.Common.{sym, arith, subst, ◌⊎◌, inl, inr}
+use Rattle.std.proofs.Common.{sym, arith, subst, ◌⊎◌, inl, inr, ◌≤◌, List, [], ◌∷◌, length, refl}
 use Rattle.tsp_base.specs.Words.{Within}
 
 -- the whole list is a place of itself

@@ -1,9 +1,7 @@
 -- Laws of rows.
-use Rattle.std.specs.Prelude.{◌≡◌, ◌≢◌, ◌==◌, ℕ, Bool, true, false, not, if◌then◌else◌, List, [], ◌∷◌, ◌++◌, refl}
-use Rattle.std.proofs.Common.{sym, ◌∙◌, ap, append_assoc, append-nil, eq-eqb}
+use Rattle.std.proofs.Common.{sym, ◌∙◌, ap, append_assoc, append-nil, eq-eqb, ◌≡◌, ◌≢◌, ◌==◌, ℕ, Bool, true, false, not, if◌then◌else◌, List, [], ◌∷◌, ◌++◌, refl}
 use Rattle.std.proofs.lemmas.Bool.{ne_eqb}
-use Rattle.tsp_base.specs.declared.act.Act.{Act}
-use Rattle.tsp_base.specs.declared.place.PeerId.{PeerId}
+use Rattle.tsp_base.specs.declared.{act.Act.Act, place.PeerId.PeerId}
 use Rattle.tsp_base.specs.Words.{Step, Seen, Here, Acts, Past, Row, added, grown, nothing, ◌followed_by◌, for_each, others}
 
 -- the past grows by one list of acts after another

@@ -1,11 +1,8 @@
 -- What one act more makes of a port's sends.
 use Rattle.std.specs.Prelude.{◌≡◌, ℕ, ◌+◌, ◌==◌, ◌&&◌, Bool, true, false, if◌then◌else◌, List, [], ◌∷◌, Option, None, Some, refl}
 use Rattle.std.proofs.lemmas.Bool.{and_right}
-use Rattle.tsp_base.specs.declared.act.Act.{Act}
-use Rattle.tsp_base.specs.declared.act.Act.TheVariants.{Post, Acked, Gave}
-use Rattle.tsp_base.specs.declared.datagram.Datagram.TheVariants.{Message}
-use Rattle.tsp_base.specs.declared.place.PeerId.{PeerId}
-use Rattle.tsp_base.specs.declared.place.Place.{Place}
+use Rattle.tsp_base.specs.declared.act.Act.{Act, TheVariants.Post, TheVariants.Acked, TheVariants.Gave}
+use Rattle.tsp_base.specs.declared.{datagram.Datagram.TheVariants.Message, place.PeerId.PeerId, place.Place.Place}
 use Rattle.tsp_base.specs.declared.place.Place.TheVariants.{Peer, Stranger}
 use Rattle.tsp_base.specs.Words.{Step, Acts, Seen, Here, did_of, MessageValue, acting, again, corrects_in, message_of, sending_of, is_numbered, is_correction, open_send, sending_at, open_to, posts_of, last_post, last_number, number_of, message_at, last_to, is_acknowledged, corrects_by}
 

@@ -1,9 +1,7 @@
 -- Places of a node's lines and places of what its ports see.
-use Rattle.std.specs.Prelude.{◌≡◌, ◌==◌, ◌||◌, Bool, true, false, List, [], ◌∷◌, refl}
-use Rattle.std.proofs.Common.{sym, ap, subst, subst₂, inl, inr, eqb-true, eq-eqb}
-use Rattle.tsp_base.specs.declared.place.Port.{Port}
+use Rattle.std.proofs.Common.{sym, ap, subst, subst₂, inl, inr, eqb-true, eq-eqb, ◌≡◌, ◌==◌, ◌||◌, Bool, true, false, List, [], ◌∷◌, refl}
 use Rattle.tsp_base.specs.Words.{Did, Line, Seen, Here, is_shared, seen_as, view, dids, Within}
-use Rattle.tsp_base.proofs.PlaceLemmas.{Within-none}
+use Rattle.tsp_base.{proofs.PlaceLemmas.Within-none, specs.declared.place.Port.Port}
 
 -- a place of the node's lines is a place of what a port sees
 pub Within-view : (q : Port) (s t : List Line) → Within s t → Within (view q s) (view q t)

@@ -1,11 +1,7 @@
 -- A schedule's header.
 use Rattle.std.specs.Prelude.{◌≡◌, ℕ, zero, suc, ◌≤◌, ◌<◌, Bool, true, ◌&&◌, ◌||◌, ◌==◌, List, [], ◌∷◌, ◌++◌, length, count_by, nat_abs, Ok, Err}
-use Rattle.std.specs.List.{All, list_any}
-use Rattle.std.specs.List.Sorted.{IsStrictlyIncreasing}
-use Rattle.std.specs.declared.result.Result.{Result}
-use Rattle.tsp_base.specs.Names.{IsName}
-use Rattle.tsp_base.specs.declared.header.NodeLine.{NodeLine}
-use Rattle.tsp_base.specs.declared.header.HeaderFault.{HeaderFault}
+use Rattle.std.specs.{List.All, List.list_any, List.Sorted.IsStrictlyIncreasing, declared.result.Result.Result}
+use Rattle.tsp_base.specs.{Names.IsName, declared.header.HeaderFault.HeaderFault, declared.header.NodeLine.NodeLine}
 use Rattle.tsp_base.specs.declared.header.HeaderFault.TheVariants.{Full, Rate, Wall, Nets, Net, OutOfMemory}
 
 -- the drift in parts in a million, whether elections are strict, and the nodes and the networks in order

@@ -1,9 +1,6 @@
 -- What the nodes did, and what one port sees of it. Each list has its newest line first.
 use Rattle.std.specs.Prelude.{ℕ, ◌==◌, Bool, true, false, ◌||◌, if◌then◌else◌, ℤ, List, [], ◌∷◌}
-use Rattle.tsp_base.specs.declared.act.Act.{Act}
-use Rattle.tsp_base.specs.declared.act.Act.TheVariants.{Boot}
-use Rattle.tsp_base.specs.declared.place.PeerId.{PeerId}
-use Rattle.tsp_base.specs.declared.place.Port.{Port}
+use Rattle.tsp_base.specs.declared.{act.Act.Act, act.Act.TheVariants.Boot, place.PeerId.PeerId, place.Port.Port}
 
 -- why a step happens
 pub data Cause : Type 0 where

@@ -1,7 +1,6 @@
 -- Whom a port has backed, and when it may back a candidate or stand for election.
 use Rattle.std.specs.Prelude.{ℕ, ◌+◌, Bool, true, ◌==◌, ◌||◌, ◌&&◌, nat_le, Option, None, Some}
-use Rattle.tsp_base.specs.declared.constants.TheConstants.{HOLD, ELECT_MIN}
-use Rattle.tsp_base.specs.declared.place.PeerId.{PeerId}
+use Rattle.tsp_base.specs.declared.{constants.TheConstants.HOLD, constants.TheConstants.ELECT_MIN, place.PeerId.PeerId}
 
 -- the boot's tick, the last backing since with its tick, and the tick of the last Quit since
 pub record Held : Type 0 where

@@ -1,7 +1,6 @@
 -- A history, and then one step more.
 use Rattle.std.specs.Prelude.{ℕ, List, [], ◌∷◌}
-use Rattle.tsp_base.specs.declared.act.Placed.{Placed}
-use Rattle.tsp_base.specs.declared.place.Port.{Port}
+use Rattle.tsp_base.specs.declared.{act.Placed.Placed, place.Port.Port}
 use Rattle.tsp_base.specs.History.{Step, Deed, Begins, Acts, Line}
 
 -- the port that marks are noted under; every port sees them

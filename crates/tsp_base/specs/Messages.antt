@@ -1,8 +1,6 @@
 -- Bodies and messages.
 use Rattle.std.specs.Prelude.{Bool, not, ◌&&◌, ℕ, List}
-use Rattle.tsp_base.specs.Kinds.{carries_time, carries_hops}
-use Rattle.tsp_base.specs.declared.kind.Kind.{Kind}
-use Rattle.tsp_base.specs.declared.message.Body.{Body}
+use Rattle.tsp_base.specs.{Kinds.carries_time, Kinds.carries_hops, declared.kind.Kind.Kind, declared.message.Body.Body}
 use Rattle.tsp_base.specs.declared.message.Body.TheVariants.{Nothing, Time, Hops}
 
 -- the body is the one that the kind carries

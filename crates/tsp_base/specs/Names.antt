@@ -1,9 +1,7 @@
 -- Host names.
 use Rattle.std.specs.Prelude.{◌≡◌, ℕ, ◌≤◌, ◌<◌, List, length, Ok, Err}
-use Rattle.std.specs.List.{Contains}
-use Rattle.std.specs.declared.result.Result.{Result}
-use Rattle.tsp_base.specs.declared.name.NameFault.{NameFault}
-use Rattle.tsp_base.specs.declared.name.NameFault.TheVariants.{TooLong, HasNul as HasNulFault}
+use Rattle.std.specs.{List.Contains, declared.result.Result.Result}
+use Rattle.tsp_base.specs.declared.name.NameFault.{NameFault, TheVariants.TooLong, TheVariants.HasNul as HasNulFault}
 
 -- an octet of the list is zero
 abbrev pub HasNul : List ℕ → Type 0

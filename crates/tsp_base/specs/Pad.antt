@@ -1,7 +1,6 @@
 -- A pad's acts and its room.
 use Rattle.std.specs.Prelude.{ℕ, List}
-use Rattle.tsp_base.specs.declared.act.Placed.{Placed}
-use Rattle.tsp_base.specs.declared.pad.Pad.{Pad}
+use Rattle.tsp_base.specs.declared.{act.Placed.Placed, pad.Pad.Pad}
 
 -- the acts on a pad
 abbrev pub acts_of : Pad → List Placed

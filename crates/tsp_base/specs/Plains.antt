@@ -1,6 +1,5 @@
 -- Events without octets.
-use Rattle.tsp_base.specs.declared.event.Event.{Event}
-use Rattle.tsp_base.specs.declared.event.Event.TheVariants.{Boot, Turn, Take}
+use Rattle.tsp_base.specs.declared.event.Event.{Event, TheVariants.Boot, TheVariants.Turn, TheVariants.Take}
 use Rattle.tsp_base.specs.declared.plain.Plain.{Plain}
 use Rattle.tsp_base.specs.declared.plain.Plain.TheVariants.{Boot as PlainBoot, Turn as PlainTurn, Take as PlainTake}
 

@@ -1,19 +1,12 @@
 -- Facts of a port, read off its deeds since its node's last boot. Deeds on other ports change none of them.
 use Rattle.std.specs.Prelude.{ℕ, ◌==◌, Bool, true, false, if◌then◌else◌, List, [], ◌∷◌, Option, None, Some}
 use Rattle.tsp_base.specs.declared.act.Act.TheVariants.{Boot, Took, Become, Back, Backer, Quit, Arm, Ring, Late, Join, Leave, Rival, Abandon}
-use Rattle.tsp_base.specs.declared.alarm.Alarm.TheVariants.{Probe, Close}
-use Rattle.tsp_base.specs.declared.datagram.Datagram.TheVariants.{Message}
-use Rattle.tsp_base.specs.declared.datagram.Taken.{Taken}
-use Rattle.tsp_base.specs.declared.datagram.Taken.TheVariants.{Good}
-use Rattle.tsp_base.specs.declared.place.PeerId.{PeerId}
-use Rattle.tsp_base.specs.declared.place.Place.{Place}
-use Rattle.tsp_base.specs.declared.place.Place.TheVariants.{Peer}
-use Rattle.tsp_base.specs.declared.role.Role.{Role}
+use Rattle.tsp_base.specs.declared.{alarm.Alarm.TheVariants.Probe, alarm.Alarm.TheVariants.Close, datagram.Datagram.TheVariants.Message}
+use Rattle.tsp_base.specs.declared.{datagram.Taken.Taken, datagram.Taken.TheVariants.Good, place.PeerId.PeerId, place.Place.Place}
+use Rattle.tsp_base.specs.declared.{place.Place.TheVariants.Peer, role.Role.Role}
 use Rattle.tsp_base.specs.declared.role.Role.TheVariants.{Starting, Follow}
-use Rattle.tsp_base.specs.Alarms.{Deadlines, with_deadline, none_armed}
+use Rattle.tsp_base.specs.{Alarms.Deadlines, Alarms.with_deadline, Alarms.none_armed, Hold.Held, Messages.MessageValue}
 use Rattle.tsp_base.specs.History.{Deed, Begins, Acts, Seen, Here, Elsewhere}
-use Rattle.tsp_base.specs.Hold.{Held}
-use Rattle.tsp_base.specs.Messages.{MessageValue}
 
 abbrev pub role_after : Deed → Role → Role
 role_after (Acts Boot) was = Starting

@@ -1,14 +1,10 @@
 -- Facts of a port's rounds: who is measured, what was asked, and what came of it.
 use Rattle.std.specs.Prelude.{ℕ, ◌+◌, ◌==◌, ℤ, ◌-ℤ◌, pos, int_lt, Bool, true, false, ◌&&◌, if◌then◌else◌, List, [], ◌∷◌, Option, None, Some, is_some}
 use Rattle.tsp_base.specs.declared.act.Act.TheVariants.{Boot, Post, Become, Arm, Ring, Late, Leave, Sample, Abandon}
-use Rattle.tsp_base.specs.declared.alarm.Alarm.TheVariants.{Probe, Close}
-use Rattle.tsp_base.specs.declared.datagram.Datagram.TheVariants.{Stamp}
-use Rattle.tsp_base.specs.declared.place.PeerId.{PeerId}
-use Rattle.tsp_base.specs.declared.place.Place.TheVariants.{Peer}
+use Rattle.tsp_base.specs.declared.{alarm.Alarm.TheVariants.Probe, alarm.Alarm.TheVariants.Close, place.Place.TheVariants.Peer}
 use Rattle.tsp_base.specs.declared.stamp.Stamp.TheVariants.{Request}
 use Rattle.tsp_base.specs.History.{Deed, Begins, Acts, Seen, Here, Elsewhere, did_of, plain}
-use Rattle.tsp_base.specs.NodeFacts.{target}
-use Rattle.tsp_base.specs.PortFacts.{armed}
+use Rattle.tsp_base.specs.{NodeFacts.target, PortFacts.armed, declared.datagram.Datagram.TheVariants.Stamp, declared.place.PeerId.PeerId}
 
 -- whether a round goes on: its close is still to come
 abbrev pub is_going : List Seen → Bool

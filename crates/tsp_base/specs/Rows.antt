@@ -1,18 +1,10 @@
 -- Rows: what a port does at a tick, as a list of acts that is built one act after the other.
 use Rattle.std.specs.Prelude.{ℕ, ◌+◌, ◌==◌, Bool, not, if◌then◌else◌, ℤ, List, [], ◌∷◌, ◌++◌, map, filter}
-use Rattle.tsp_base.specs.declared.act.Act.{Act}
-use Rattle.tsp_base.specs.declared.act.Act.TheVariants.{Post, Arm}
-use Rattle.tsp_base.specs.declared.act.Placed.{Placed}
-use Rattle.tsp_base.specs.declared.alarm.Alarm.{Alarm}
-use Rattle.tsp_base.specs.declared.datagram.Datagram.TheVariants.{Message}
-use Rattle.tsp_base.specs.declared.kind.Kind.{Kind}
-use Rattle.tsp_base.specs.declared.message.Body.TheVariants.{Nothing, Time}
-use Rattle.tsp_base.specs.declared.place.PeerId.{PeerId}
-use Rattle.tsp_base.specs.declared.place.Place.{Place}
-use Rattle.tsp_base.specs.declared.place.Place.TheVariants.{Peer}
-use Rattle.tsp_base.specs.declared.place.Port.{Port}
+use Rattle.tsp_base.specs.declared.{act.Placed.Placed, alarm.Alarm.Alarm, datagram.Datagram.TheVariants.Message, kind.Kind.Kind}
+use Rattle.tsp_base.specs.declared.{message.Body.TheVariants.Nothing, message.Body.TheVariants.Time, place.PeerId.PeerId, place.Place.Place}
+use Rattle.tsp_base.specs.declared.place.{Place.TheVariants.Peer, Port.Port}
 use Rattle.tsp_base.specs.History.{Step, Begins, Acts, Seen, Here, Past}
-use Rattle.tsp_base.specs.Messages.{MessageValue}
+use Rattle.tsp_base.specs.{Messages.MessageValue, declared.act.Act.Act, declared.act.Act.TheVariants.Post, declared.act.Act.TheVariants.Arm}
 
 -- what a port does at a tick, after a past
 abbrev pub Row : Type 0

@@ -2,13 +2,10 @@
 use Rattle.std.specs.Prelude.{ℕ, ◌+◌, ◌*◌, ◌==◌, nat_le, nat_lt, Bool, true, false, ◌&&◌, ◌||◌, if◌then◌else◌, List, [], ◌∷◌, Option, None, Some}
 use Rattle.tsp_base.specs.declared.act.Act.TheVariants.{Boot, Post, Become, Acked, Gave, Correct}
 use Rattle.tsp_base.specs.declared.constants.TheConstants.{RETRY, TRIES, LAST}
-use Rattle.tsp_base.specs.declared.datagram.Datagram.TheVariants.{Message}
-use Rattle.tsp_base.specs.declared.kind.Kind.{Kind}
 use Rattle.tsp_base.specs.declared.kind.Kind.TheVariants.{AdjTime, SetTime, Election, Conflict, Quit, Date, DateReq, SetDate, SetDateReq}
-use Rattle.tsp_base.specs.declared.place.PeerId.{PeerId}
-use Rattle.tsp_base.specs.declared.place.Place.TheVariants.{Peer}
+use Rattle.tsp_base.specs.declared.place.{PeerId.PeerId, Place.TheVariants.Peer}
 use Rattle.tsp_base.specs.History.{Deed, Acts, Seen, Here, Elsewhere, did_of}
-use Rattle.tsp_base.specs.Messages.{MessageValue}
+use Rattle.tsp_base.specs.{Messages.MessageValue, declared.datagram.Datagram.TheVariants.Message, declared.kind.Kind.Kind}
 use Rattle.tsp_base.specs.PortFacts.{Received, Said, said, taken, acting}
 
 -- whether messages of this kind correct a clock: the number of such a send is a ticket

@@ -1,16 +1,10 @@
 -- What a step takes, and how long its node has been left alone.
 use Rattle.std.specs.Prelude.{◌≡◌, ℕ, ◌+◌, ℤ, pos, List, [], ◌∷◌, Option, None, Some}
-use Rattle.tsp_base.specs.declared.act.Act.TheVariants.{Post}
-use Rattle.tsp_base.specs.declared.datagram.Datagram.{Datagram}
-use Rattle.tsp_base.specs.declared.datagram.Taken.TheVariants.{Good}
-use Rattle.tsp_base.specs.declared.message.Body.{Body}
-use Rattle.tsp_base.specs.declared.message.Body.TheVariants.{Time}
-use Rattle.tsp_base.specs.declared.place.PeerId.{PeerId}
-use Rattle.tsp_base.specs.declared.place.Place.{Place}
+use Rattle.tsp_base.specs.declared.{act.Act.TheVariants.Post, datagram.Datagram.Datagram, datagram.Taken.TheVariants.Good}
+use Rattle.tsp_base.specs.declared.{message.Body.Body, message.Body.TheVariants.Time, place.PeerId.PeerId, place.Place.Place}
 use Rattle.tsp_base.specs.declared.place.Place.TheVariants.{Peer}
 use Rattle.tsp_base.specs.History.{Did, Deed, Begins, Acts, Seen}
-use Rattle.tsp_base.specs.NodeFacts.{all_corrects, lives}
-use Rattle.tsp_base.specs.PortFacts.{Received, taken, taken_after}
+use Rattle.tsp_base.specs.{NodeFacts.all_corrects, NodeFacts.lives, PortFacts.Received, PortFacts.taken, PortFacts.taken_after}
 
 -- the node's number as its peers write it
 abbrev pub peer_of : ℕ → PeerId

@@ -3,8 +3,7 @@ use Rattle.std.specs.Prelude.{◌≡◌, ℕ, Bool, false, List}
 use Rattle.tsp_rules.specs.Values.{Placed, Port}
 use Rattle.tsp_base.specs.Words.{Past, Performs, Row, nothing, either_by}
 use Rattle.tsp_base.proofs.PerformsLemmas.{Performs_else_part, Performs_nothing}
-use Rattle.tsp_acks.specs.declared.station.Station.{Station}
-use Rattle.tsp_acks.specs.Stands.{StationStands}
+use Rattle.tsp_acks.specs.{Stands.StationStands, declared.station.Station.Station}
 
 -- where the test fails and nothing was done
 pub Performs_passed_over : (test : ℕ → Past → Bool) (r : Row) {x : ℕ} {port : Port} {before after : Station} {old new : List Placed} → ((past : Past) → StationStands past before → test x past ≡ false) →

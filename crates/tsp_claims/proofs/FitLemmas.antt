@@ -1,14 +1,10 @@
 -- How lines fit that are looked at one after the other.
-use Rattle.std.specs.Prelude.{◌≡◌, ℕ, zero, suc, ◌+◌, ◌<◌, ◌≤◌, true, false, List, ◌∷◌, length, drop, get_or}
-use Rattle.std.proofs.Common.{◌∙◌, ap, arith, refl, subst, sym}
+use Rattle.std.proofs.Common.{◌∙◌, ap, arith, refl, subst, sym, ◌≡◌, ℕ, zero, suc, ◌+◌, ◌<◌, ◌≤◌, true, false, List, ◌∷◌, length, drop, get_or}
 use Rattle.std.proofs.lemmas.List.{drop_more, drop_all}
-use Rattle.tsp_base.specs.declared.act.Act.{Act}
-use Rattle.tsp_base.specs.declared.act.Act.TheVariants.{Post}
-use Rattle.tsp_base.specs.declared.event.Event.{Event}
+use Rattle.tsp_base.specs.declared.{act.Act.Act, act.Act.TheVariants.Post, event.Event.Event, trace.Line2.Line2}
 use Rattle.tsp_claims.specs.declared.tally.Tally.{Tally}
 use Rattle.tsp_claims.specs.Fitting.{AllFit, Misfits, counted, lacks, untold}
 use Rattle.tsp_run.specs.Run.{posts_by}
-use Rattle.tsp_base.specs.declared.trace.Line2.{Line2}
 
 -- an act posts one datagram at the most
 pub claims_of_step-few : (a : Act) → posts_by a ≤ 1

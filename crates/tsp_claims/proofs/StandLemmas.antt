@@ -1,19 +1,11 @@
 -- What claims stand for, field by field.
-use Rattle.std.specs.Prelude.{◌≡◌, ℕ, zero, suc, ◌+◌, Bool, false, ◌||◌, List, [], ◌∷◌, ◌++◌, length, replicate, Option}
-use Rattle.std.proofs.Common.{◌∙◌, ap, sym, subst, refl, arith}
-use Rattle.std.proofs.lemmas.List.{length-map}
-use Rattle.std.proofs.Math.Path.{fun_ext}
-use Rattle.tsp_base.specs.declared.event.Event.{Event}
-use Rattle.tsp_base.specs.declared.act.Placed.{Placed}
-use Rattle.tsp_base.specs.Words.{HeaderValue, Step}
-use Rattle.tsp_claims.specs.declared.claimed.Claimed.{Claimed}
-use Rattle.tsp_claims.specs.declared.claims.Claims.{Claims}
-use Rattle.tsp_claims.specs.declared.taking_in.HeldStep.{HeldStep}
+use Rattle.std.proofs.Common.{◌∙◌, ap, sym, subst, refl, arith, ◌≡◌, ℕ, zero, suc, ◌+◌, Bool, false, ◌||◌, List, [], ◌∷◌, ◌++◌, length, replicate, Option}
+use Rattle.std.proofs.{Math.Path.fun_ext, lemmas.List.length-map}
+use Rattle.tsp_base.specs.{Words.HeaderValue, Words.Step, declared.act.Placed.Placed, declared.event.Event.Event}
+use Rattle.tsp_claims.specs.declared.{claims.Claims.Claims, taking_in.HeldStep.HeldStep}
 use Rattle.tsp_claims.specs.ClaimedHistory.{Claim, events_of, joins_acts, lines_in, posts_of, step_of}
-use Rattle.tsp_claims.specs.Fitting.{acts_of}
-use Rattle.tsp_claims.specs.Listed.{is_boot_of, booted, up_in}
-use Rattle.tsp_claims.specs.Stands.{ClaimsStand, claim_of}
-use Rattle.tsp_claims.specs.TakingIn.{HoldsStep, JoinsEvent, StaysSame}
+use Rattle.tsp_claims.specs.{Fitting.acts_of, Listed.is_boot_of, Listed.booted, Listed.up_in, Stands.ClaimsStand, Stands.claim_of}
+use Rattle.tsp_claims.specs.{TakingIn.HoldsStep, TakingIn.JoinsEvent, TakingIn.StaysSame, declared.claimed.Claimed.Claimed}
 use Rattle.tsp_history.specs.Histories.{history_of}
 use Rattle.tsp_base.specs.declared.trace.Line2.{Line2}
 

@@ -1,18 +1,11 @@
 -- The history that claimed lines are: built as a run is, with the claimed acts in the place of those that the rules give. The newest claim is the first.
 use Rattle.std.specs.Prelude.{ℕ, ◌+◌, Bool, true, false, ℤ, ◌+ℤ◌, if◌then◌else◌, List, [], ◌∷◌, ◌++◌, length, map, Option, None, Some, slice_get}
-use Rattle.tsp_base.specs.declared.act.Act.{Act}
-use Rattle.tsp_base.specs.declared.act.Act.TheVariants.{Post}
-use Rattle.tsp_base.specs.declared.act.Placed.{Placed}
-use Rattle.tsp_base.specs.declared.event.Event.{Event}
+use Rattle.tsp_base.specs.declared.{act.Act.Act, act.Act.TheVariants.Post, act.Placed.Placed, event.Event.Event, place.Port.Port}
 use Rattle.tsp_base.specs.declared.event.Event.TheVariants.{Boot as BootAt, Turn, Take, Bytes}
-use Rattle.tsp_base.specs.declared.place.Port.{Port}
 use Rattle.tsp_base.specs.Words.{HeaderValue, Turned, Came, Handed, Step, Line, of, dids, stepped, moved}
-use Rattle.tsp_claims.specs.declared.claimed.Claimed.{Claimed}
-use Rattle.tsp_claims.specs.Listed.{booted}
+use Rattle.tsp_claims.specs.{Listed.booted, declared.claimed.Claimed.Claimed}
 use Rattle.tsp_run.specs.declared.address.Address.{Address}
-use Rattle.tsp_run.specs.Networks.{address_of, networks}
-use Rattle.tsp_run.specs.Run.{boot_step, step_tick}
-use Rattle.tsp_run.specs.Setup.{node_line}
+use Rattle.tsp_run.specs.{Networks.address_of, Networks.networks, Run.boot_step, Run.step_tick, Setup.node_line}
 
 -- an event, and the acts that are claimed of it, in their order
 pub record Claim : Type 0 where

@@ -1,24 +1,13 @@
 -- When claimed lines fit their schedule, line by line.
 use Rattle.std.specs.Prelude.{◌≡◌, ℕ, zero, suc, ◌+◌, ◌<◌, Bool, true, false, not, ◌&&◌, ◌||◌, List, [], ◌∷◌, length, map, Option, None, Some, slice_get}
-use Rattle.tsp_base.specs.declared.act.Act.{Act}
-use Rattle.tsp_base.specs.declared.act.Act.TheVariants.{Boot, Took, Post}
-use Rattle.tsp_base.specs.declared.act.Placed.{Placed}
-use Rattle.tsp_base.specs.declared.datagram.Taken.{Taken}
-use Rattle.tsp_base.specs.declared.datagram.Taken.TheVariants.{Good}
-use Rattle.tsp_base.specs.declared.event.Event.{Event}
+use Rattle.tsp_base.specs.declared.{act.Act.TheVariants.Boot, act.Act.TheVariants.Took, act.Act.TheVariants.Post, datagram.Taken.Taken}
+use Rattle.tsp_base.specs.declared.{datagram.Taken.TheVariants.Good, event.Event.Event, place.Place.Place, place.Place.TheVariants.Peer}
 use Rattle.tsp_base.specs.declared.event.Event.TheVariants.{Boot as BootAt, Turn, Take, Bytes}
-use Rattle.tsp_base.specs.declared.place.Place.{Place}
-use Rattle.tsp_base.specs.declared.place.Place.TheVariants.{Peer}
-use Rattle.tsp_base.specs.declared.place.Port.{Port}
-use Rattle.tsp_base.specs.Words.{HeaderValue, Step, peer_of}
-use Rattle.tsp_claims.specs.declared.claimed.Claimed.{Claimed}
-use Rattle.tsp_claims.specs.declared.tally.Tally.{Tally}
+use Rattle.tsp_base.specs.declared.{place.Port.Port, trace.Line2.Line2}
+use Rattle.tsp_base.specs.{Words.HeaderValue, Words.Step, Words.peer_of, declared.act.Act.Act, declared.act.Placed.Placed}
 use Rattle.tsp_claims.specs.ClaimedHistory.{Claim, events_of, posts_of, step_at, taker}
-use Rattle.tsp_claims.specs.Listed.{booted}
-use Rattle.tsp_run.specs.declared.address.Address.{Address}
-use Rattle.tsp_run.specs.Networks.{networks, ports_on}
-use Rattle.tsp_run.specs.Run.{posts_by, step_tick}
-use Rattle.tsp_base.specs.declared.trace.Line2.{Line2}
+use Rattle.tsp_claims.specs.{Listed.booted, declared.claimed.Claimed.Claimed, declared.tally.Tally.Tally}
+use Rattle.tsp_run.specs.{Networks.networks, Networks.ports_on, Run.posts_by, Run.step_tick, declared.address.Address.Address}
 
 -- whether an act is a Took
 abbrev pub is_took : Act → Bool

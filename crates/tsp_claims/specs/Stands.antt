@@ -1,17 +1,11 @@
 -- What the claims stand for that were taken in.
 use Rattle.std.specs.Prelude.{◌≡◌, List, ◌∷◌, length}
-use Rattle.std.specs.declared.result.Result.{Result}
-use Rattle.std.specs.declared.result.Result.TheVariants.{Ok, Err}
-use Rattle.tsp_base.specs.declared.event.Event.{Event}
-use Rattle.tsp_base.specs.Words.{HeaderValue}
-use Rattle.tsp_claims.specs.declared.audit_fault.AuditFault.{AuditFault}
-use Rattle.tsp_claims.specs.declared.audit_fault.AuditFault.TheVariants.{History, OutOfMemory}
-use Rattle.tsp_claims.specs.declared.claims.Claims.{Claims}
+use Rattle.std.specs.declared.result.Result.{Result, TheVariants.Ok, TheVariants.Err}
+use Rattle.tsp_base.specs.{Words.HeaderValue, declared.event.Event.Event, declared.trace.Line2.Line2}
+use Rattle.tsp_claims.specs.declared.audit_fault.AuditFault.{AuditFault, TheVariants.History, TheVariants.OutOfMemory}
 use Rattle.tsp_claims.specs.ClaimedHistory.{Claim, claimed, events_of, lines_in, posts_of}
-use Rattle.tsp_claims.specs.Fitting.{Fit, Misfit, acts_of}
-use Rattle.tsp_claims.specs.Listed.{booted, up_in}
+use Rattle.tsp_claims.specs.{Fitting.Fit, Fitting.Misfit, Fitting.acts_of, Listed.booted, Listed.up_in, declared.claims.Claims.Claims}
 use Rattle.tsp_history.specs.Histories.{history_of}
-use Rattle.tsp_base.specs.declared.trace.Line2.{Line2}
 
 -- the claims stand for a header, and for events with the acts that are claimed of them, the newest first
 pub record ClaimsStand (header : HeaderValue) (claims : List Claim) (c : Claims) : Type 0 where

@@ -1,13 +1,8 @@
 -- What it takes to take claimed lines in, and what it comes to.
 use Rattle.std.specs.Prelude.{◌≡◌, ℕ, ◌+◌, ◌≤◌, List, ◌++◌, length, Option, vec_len, vec_capacity}
-use Rattle.tsp_base.specs.declared.event.Event.{Event}
-use Rattle.tsp_base.specs.declared.act.Placed.{Placed}
-use Rattle.tsp_base.specs.Words.{HeaderValue, Line, Step}
-use Rattle.tsp_claims.specs.declared.claims.Claims.{Claims}
-use Rattle.tsp_claims.specs.declared.taking_in.HeldStep.{HeldStep}
-use Rattle.tsp_claims.specs.ClaimedHistory.{joins_acts, claims_of_step}
-use Rattle.tsp_claims.specs.Fitting.{untold}
-use Rattle.tsp_claims.specs.Listed.{IsUpAfter}
+use Rattle.tsp_base.specs.{Words.HeaderValue, Words.Line, Words.Step, declared.act.Placed.Placed, declared.event.Event.Event}
+use Rattle.tsp_claims.specs.declared.{claims.Claims.Claims, taking_in.HeldStep.HeldStep}
+use Rattle.tsp_claims.specs.{ClaimedHistory.joins_acts, ClaimedHistory.claims_of_step, Fitting.untold, Listed.IsUpAfter}
 use Rattle.tsp_history.specs.Histories.{history_of, noted_after}
 
 -- there is room for a mark and so many lines, and for as many posts

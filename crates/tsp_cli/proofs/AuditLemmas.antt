@@ -1,19 +1,12 @@
 -- From what the treatment of a claimed history comes to, to how an audit's run ends.
-use Rattle.std.specs.Prelude.{◌≡◌, ◌≢◌, ◌⊎◌, ℕ, ◌≤◌, List, length, Option, Some, Bool, true}
-use Rattle.std.proofs.Common.{sym, ◌∙◌, ap, subst}
+use Rattle.std.proofs.Common.{sym, ◌∙◌, ap, subst, ◌≡◌, ◌≢◌, ◌⊎◌, ℕ, ◌≤◌, List, length, Option, Some, Bool, true}
 use Rattle.tsp_audit_command.specs.Meaning.{IsAuditText, auditing}
 use Rattle.tsp_io.specs.Counts.{Rose}
-use Rattle.tsp_lines.specs.declared.limits.TheConstants.{MOST_INPUT}
-use Rattle.tsp_lines.specs.declared.treat.Outcome.{Outcome}
 use Rattle.tsp_lines.specs.declared.treat.Outcome.TheVariants.{Ok as Done, ReadFault as NotRead, WriteFault as NotWritten, OutOfMemory as NoMemory}
-use Rattle.tsp_lines.specs.Answers.{Answers}
-use Rattle.tsp_lines.specs.Gatherings.{ComesGathered, IsGathered}
-use Rattle.tsp_lines.proofs.OneAnswer.{Agrees-outcome}
-use Rattle.tsp_cli.specs.declared.status.Status.{Status}
-use Rattle.tsp_cli.specs.declared.status.Status.TheVariants.{OutOfMemory}
-use Rattle.tsp_cli.specs.Commands.{RunsAudit}
-use Rattle.tsp_cli.specs.Statuses.{status_of}
-use Rattle.tsp_cli.proofs.RunLemmas.{status_ok, status_same}
+use Rattle.tsp_lines.specs.{Answers.Answers, Gatherings.ComesGathered, Gatherings.IsGathered, declared.limits.TheConstants.MOST_INPUT}
+use Rattle.tsp_lines.{proofs.OneAnswer.Agrees-outcome, specs.declared.treat.Outcome.Outcome}
+use Rattle.tsp_cli.specs.{Commands.RunsAudit, Statuses.status_of, declared.status.Status.Status}
+use Rattle.tsp_cli.{proofs.RunLemmas.status_ok, proofs.RunLemmas.status_same, specs.declared.status.Status.TheVariants.OutOfMemory}
 
 -- the treatment of a claimed history is the run of an audit
 pub RunsAudit-treated : (input left written now : Option (List ℕ)) (ended : Bool) (reads reads_now writes writes_now : ℕ) (o : Outcome) (status : Status) → status ≡ status_of o

@@ -1,39 +1,24 @@
 -- From what the words ask for, and from how a daemon or a question ends, to how the program does.
-use Rattle.std.specs.Prelude.{◌≡◌, ◌≢◌, ◌⊎◌, ◌≤◌, ℕ, ℤ, true, false, List, [], Option, None, Some, IfSome, MatchOption}
-use Rattle.std.proofs.Common.{sym, ◌∙◌, inl, inr, subst, refl, ap, arith}
-use Rattle.tsp_query.specs.declared.exit.QueryExit.{QueryExit}
+use Rattle.std.proofs.Common.{sym, ◌∙◌, inl, inr, subst, refl, ap, arith, ◌≡◌, ◌≢◌, ◌⊎◌, ◌≤◌, ℕ, ℤ, true, false, List, [], Option, None, Some, IfSome, MatchOption}
 use Rattle.tsp_query.specs.declared.exit.QueryExit.TheVariants.{Answered, NoAnswer as Unanswered, LinkFault as NotAsked, WriteFault as Untold, OutOfMemory as Unasked}
-use Rattle.tsp_query.specs.Asks.{AsksAs}
-use Rattle.tsp_io.specs.declared.addr.Addr.{Addr}
-use Rattle.tsp_io.specs.Counts.{Rose}
-use Rattle.tsp_io.specs.declared.link.Link.{Ghosts as LinkOf}
-use Rattle.tsp_query.specs.Faults.{Counts}
+use Rattle.tsp_query.specs.{Asks.AsksAs, Ends.Outside, Faults.Counts, Outside.Observed, Outside.Knows, declared.exit.QueryExit.QueryExit}
+use Rattle.tsp_io.specs.{Counts.Rose, declared.addr.Addr.Addr, declared.link.Link.Ghosts as LinkOf}
 use Rattle.tsp_lines.proofs.Outputs.{Grows-nil}
 use Rattle.tsp_query.proofs.AskLemmas.{of_some}
-use Rattle.tsp_query.specs.Ends.{Outside}
-use Rattle.tsp_query.specs.Outside.{Observed, Knows}
 use Rattle.tsp_rules.specs.Guards.{is_clock_value}
 use Rattle.tsp_storm.specs.declared.run.StormEnd.{StormEnd}
 use Rattle.tsp_storm.specs.declared.run.StormEnd.TheVariants.{Done as Summed, Limit as Full, WriteFault as Unsaid, OutOfMemory as Unmade}
 use Rattle.tsp_storm.specs.Answers.{IsStormAnswer, AgreesWithAnswer, HasEventRoom, StormsAs}
-use Rattle.tsp_daemon.specs.declared.exit.DaemonExit.{DaemonExit}
 use Rattle.tsp_daemon.specs.declared.exit.DaemonExit.TheVariants.{Done as AllTurns, BadWall, LinkFault as NotHeard, WriteFault as NotShown, OutOfMemory as Unserved}
-use Rattle.tsp_daemon.specs.Serving.{ServesAs}
-use Rattle.tsp_args.specs.Commands.{words_of, IsCommand, IsNoCommand}
-use Rattle.tsp_args.specs.declared.command.Command.{Command}
+use Rattle.tsp_daemon.specs.{Serving.ServesAs, declared.exit.DaemonExit.DaemonExit}
+use Rattle.tsp_args.specs.{Commands.words_of, Commands.IsCommand, Commands.IsNoCommand, declared.command.Command.Command}
 use Rattle.tsp_args.specs.declared.command.Command.TheVariants.{Replay, Show, Pack, Serve, Ask, Storm, Icmp, Audit}
-use Rattle.tsp_args.specs.declared.query.Query.{Query}
-use Rattle.tsp_args.specs.declared.serve.ServeWords.{ServeWords}
-use Rattle.tsp_args.specs.declared.storm.StormWords.{StormWords}
-use Rattle.tsp_cli.specs.declared.status.Status.{Status}
+use Rattle.tsp_args.specs.declared.{query.Query.Query, serve.ServeWords.ServeWords, storm.StormWords.StormWords}
 use Rattle.tsp_cli.specs.declared.status.Status.TheVariants.{Ok, Usage, ReadFault, WriteFault, LinkFault, NoAnswer, OutOfMemory}
 use Rattle.tsp_cli.specs.Commands.{Now, Does, IsAsk, IsQuestion, LinkFaults, Untouched, RunsDaemon, RunsQuery, RunsStorm}
-use Rattle.tsp_cli.specs.Headline.{PrintsHistory, PrintsSoFar}
-use Rattle.tsp_cli.specs.Lines.{Says}
+use Rattle.tsp_cli.specs.{Headline.PrintsHistory, Headline.PrintsSoFar, Lines.Says, Usage.usage_line, declared.status.Status.Status}
 use Rattle.tsp_cli.specs.Statuses.{status_of_served, status_of_asking, status_of_storm}
-use Rattle.tsp_cli.specs.Usage.{usage_line}
-use Rattle.tsp_cli.proofs.HeadlineLemmas.{EndsAs-prints}
-use Rattle.tsp_cli.proofs.SoFarLemmas.{EndsAs-so-far}
+use Rattle.tsp_cli.proofs.{HeadlineLemmas.EndsAs-prints, SoFarLemmas.EndsAs-so-far}
 
 -- a command that is left as it is leaves all objects
 pub Untouched-same : {S L T : Type 0} (c : Command) (source : S) (link : L) (ticker : T) → Untouched c source source link link ticker ticker

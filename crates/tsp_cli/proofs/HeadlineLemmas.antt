@@ -1,31 +1,19 @@
 -- From what a replay comes to, to the headline.
-use Rattle.std.specs.Prelude.{◌≡◌, ℕ, ◌==◌, Bool, true, false, if◌then◌else◌, List, [], ◌∷◌, ◌++◌, reverse, Option, All}
-use Rattle.std.proofs.Common.{sym, ap, ◌∙◌, inl, inr, subst, append-nil}
+use Rattle.std.proofs.Common.{sym, ap, ◌∙◌, inl, inr, subst, append-nil, ◌≡◌, ℕ, ◌==◌, Bool, true, false, if◌then◌else◌, List, [], ◌∷◌, ◌++◌, reverse, Option, All}
 use Rattle.std.proofs.lemmas.List.Elements.{All-cons, All-nil}
 use Rattle.hex.proofs.HexLemmas.{decode_of-ok}
 use Rattle.tsp_rules.specs.Values.{Event, BootAt, Turn, Take, Bytes}
 use Rattle.tsp_base.specs.Words.{HeaderValue}
 use Rattle.tsp_io.specs.Streams.{Grows}
-use Rattle.tsp_script.specs.declared.event_line.EventItem.TheVariants.{Event as EventOf}
-use Rattle.tsp_script.specs.Schedules.{SpellsEvent}
+use Rattle.tsp_script.specs.{Schedules.SpellsEvent, declared.event_line.EventItem.TheVariants.Event as EventOf}
 use Rattle.tsp_schedule.specs.Schedules.{Progress, Untitled, Titled, Drifted, Heading, Running, Ended, IsEnded, new_header}
-use Rattle.tsp_replay.proofs.Places.{GoesOn, RunsOn}
-use Rattle.tsp_replay.specs.Schedules.{Reaches}
-use Rattle.tsp_replay.specs.Traces.{written_at, trace}
-use Rattle.tsp_run.specs.Ranges.{Accepted, IsInRange}
-use Rattle.tsp_run.specs.Refusals.{Valid}
-use Rattle.tsp_run.proofs.RunPremises.{runs-keep-premises}
-use Rattle.tsp_run.proofs.RunPromises.{runs-keep-promises}
-use Rattle.tsp_lines.specs.declared.limits.TheConstants.{MOST_INPUT}
+use Rattle.tsp_replay.proofs.{Places.GoesOn, Places.RunsOn, ReadHeaders.IsSchedule-header}
+use Rattle.tsp_run.specs.{Ranges.Accepted, Ranges.IsInRange, Refusals.Valid}
+use Rattle.tsp_run.proofs.{RunPremises.runs-keep-premises, RunPromises.runs-keep-promises}
 use Rattle.tsp_lines.specs.Lines.{NoFeed, AreLines, IsInput, IsOver}
-use Rattle.tsp_lines.specs.Outcomes.{Comes}
-use Rattle.tsp_lines.specs.declared.treat.Outcome.TheVariants.{Ok as Done}
-use Rattle.tsp_replay.specs.Meaning.{IsSchedule, replaying}
-use Rattle.tsp_replay.proofs.ReadHeaders.{IsSchedule-header}
-use Rattle.tsp_cli.specs.declared.status.Status.{Status}
-use Rattle.tsp_cli.specs.declared.status.Status.TheVariants.{Ok}
-use Rattle.tsp_cli.specs.Lines.{EndsAs}
-use Rattle.tsp_cli.specs.Headline.{PrintsHistory}
+use Rattle.tsp_lines.specs.{Outcomes.Comes, declared.limits.TheConstants.MOST_INPUT, declared.treat.Outcome.TheVariants.Ok as Done}
+use Rattle.tsp_replay.specs.{Meaning.IsSchedule, Meaning.replaying, Schedules.Reaches, Traces.written_at, Traces.trace}
+use Rattle.tsp_cli.specs.{Headline.PrintsHistory, Lines.EndsAs, declared.status.Status.Status, declared.status.Status.TheVariants.Ok}
 
 -- the events that were read so far are in their ranges, and nothing refuses them
 abbrev pub KeepsValid : Progress → Type 0

@@ -1,21 +1,13 @@
 -- From what a treatment comes to, to how a command's run ends.
-use Rattle.std.specs.Prelude.{◌≡◌, ◌≢◌, ◌⊎◌, ℕ, ◌≤◌, List, length, Option, Some, Bool, true, false}
-use Rattle.std.proofs.Common.{sym, ◌∙◌, inl, inr, subst, refl, ap, arith}
-use Rattle.tsp_io.specs.Counts.{Rose}
-use Rattle.tsp_io.specs.declared.link.Link.{Ghosts as LinkOf}
+use Rattle.std.proofs.Common.{sym, ◌∙◌, inl, inr, subst, refl, ap, arith, ◌≡◌, ◌≢◌, ◌⊎◌, ℕ, ◌≤◌, List, length, Option, Some, Bool, true, false}
+use Rattle.tsp_io.specs.{Counts.Rose, declared.link.Link.Ghosts as LinkOf}
 use Rattle.tsp_query.specs.Faults.{Counts, LinkCounts}
-use Rattle.tsp_lines.specs.declared.limits.TheConstants.{MOST_INPUT}
-use Rattle.tsp_lines.specs.declared.treat.Outcome.{Outcome}
 use Rattle.tsp_lines.specs.declared.treat.Outcome.TheVariants.{Ok as Done, Bad as Refused, ReadFault as NotRead, WriteFault as NotWritten, Limit as Limited, OutOfMemory as NoMemory}
-use Rattle.tsp_lines.specs.Answers.{Agrees, Answers}
-use Rattle.tsp_lines.specs.Meanings.{Meaning}
-use Rattle.tsp_lines.specs.Outcomes.{Comes, KeepsUp}
-use Rattle.tsp_lines.proofs.OneAnswer.{Agrees-outcome}
-use Rattle.tsp_cli.specs.declared.status.Status.{Status}
+use Rattle.tsp_lines.specs.{Answers.Agrees, Answers.Answers, Meanings.Meaning, Outcomes.Comes, Outcomes.KeepsUp}
+use Rattle.tsp_lines.{proofs.OneAnswer.Agrees-outcome, specs.declared.limits.TheConstants.MOST_INPUT, specs.declared.treat.Outcome.Outcome}
 use Rattle.tsp_cli.specs.declared.status.Status.TheVariants.{Ok, Usage, ReadFault, WriteFault, LinkFault, OutOfMemory}
-use Rattle.tsp_cli.specs.Commands.{LinkFaults}
+use Rattle.tsp_cli.specs.{Commands.LinkFaults, Statuses.status_of, declared.status.Status.Status}
 use Rattle.tsp_cli.specs.Lines.{LineCommand, meaning_of, IsTextOf, EndsAs, AgreesAs, Runs}
-use Rattle.tsp_cli.specs.Statuses.{status_of}
 
 -- the status of a treatment says what the treatment came to
 EndsAs-comes : (m : Meaning) (input left written now : Option (List ℕ)) (o : Outcome) → Comes m MOST_INPUT input left written now o → EndsAs m input left written now (status_of o)

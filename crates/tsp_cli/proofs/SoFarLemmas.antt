@@ -1,26 +1,19 @@
 -- From what a replay comes to, however it ends, to what it has printed so far.
-use Rattle.std.specs.Prelude.{◌≡◌, ℕ, ◌+◌, ◌≤◌, List, [], ◌++◌, length, reverse, Option, None, Some, All, refl}
-use Rattle.std.proofs.Common.{arith, sym, ap, ◌∙◌, inl, inr, subst, append-nil, append_assoc, length-append}
+use Rattle.std.proofs.Common.{arith, sym, ap, ◌∙◌, inl, inr, subst, append-nil, append_assoc, length-append, ◌≡◌, ℕ, ◌+◌, ◌≤◌, List, [], ◌++◌, length, reverse, Option, None, Some, All, refl}
 use Rattle.std.proofs.lemmas.List.Elements.{All-nil}
 use Rattle.tsp_rules.specs.Values.{Event}
 use Rattle.tsp_base.specs.Words.{HeaderValue, IsHeader}
 use Rattle.tsp_io.specs.Streams.{Gives, Grows}
-use Rattle.tsp_lines.specs.declared.limits.TheConstants.{MOST_INPUT}
 use Rattle.tsp_lines.specs.Lines.{Begins, HasLines, HasNext, IsInput, IsPast, NoFeed, close, closed}
 use Rattle.tsp_lines.specs.Outcomes.{Follows, IsBad, IsLimited, WritesGot, WritesPart, bad_line, limit_line}
-use Rattle.tsp_lines.proofs.Outputs.{Grows-nil}
-use Rattle.tsp_replay.specs.Meaning.{Replays, replaying}
-use Rattle.tsp_replay.specs.Schedules.{Reaches, refused}
-use Rattle.tsp_replay.specs.Traces.{written_at}
-use Rattle.tsp_run.specs.Ranges.{Accepted, IsInRange}
-use Rattle.tsp_run.specs.Refusals.{Valid}
-use Rattle.tsp_run.proofs.RunPremises.{runs-keep-premises}
-use Rattle.tsp_run.proofs.RunPromises.{runs-keep-promises}
+use Rattle.tsp_lines.{proofs.Outputs.Grows-nil, specs.declared.limits.TheConstants.MOST_INPUT}
+use Rattle.tsp_replay.specs.{Meaning.Replays, Meaning.replaying, Schedules.Reaches, Schedules.refused, Traces.written_at}
+use Rattle.tsp_run.specs.{Ranges.Accepted, Ranges.IsInRange, Refusals.Valid}
+use Rattle.tsp_run.proofs.{RunPremises.runs-keep-premises, RunPromises.runs-keep-promises}
 use Rattle.tsp_schedule.specs.Schedules.{Progress, Untitled, Titled, Drifted, Heading, Running, Ended}
 use Rattle.tsp_schedule.proofs.ReadHeaders.{KeepsHeader, Reaches-header}
-use Rattle.tsp_cli.specs.declared.status.Status.{Status}
 use Rattle.tsp_cli.specs.declared.status.Status.TheVariants.{Ok, Usage, Bad, ReadFault, WriteFault, LinkFault, NoAnswer, Limit, OutOfMemory}
-use Rattle.tsp_cli.specs.Lines.{EndsAs}
+use Rattle.tsp_cli.specs.{Lines.EndsAs, declared.status.Status.Status}
 use Rattle.tsp_cli.specs.Headline.{IsLastLine, KeepsPromises, PrintsSoFar, TellsSoFar, WritesOnly, WritesSoFar}
 use Rattle.tsp_cli.proofs.HeadlineLemmas.{KeepsValid, Reaches-valid}
 

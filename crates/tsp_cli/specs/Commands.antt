@@ -1,30 +1,18 @@
 -- What comes of each command of the program.
 use Rattle.std.specs.Prelude.{◌≡◌, ◌≢◌, ◌⊎◌, ◌≤◌, ℕ, ℤ, Bool, true, List, length, Option, Some}
-use Rattle.tsp_query.specs.declared.exit.QueryExit.{QueryExit}
-use Rattle.tsp_query.specs.Asks.{AsksIfTold}
+use Rattle.tsp_query.specs.{Asks.AsksIfTold, Outside.Observed, Outside.observed, declared.exit.QueryExit.QueryExit}
 use Rattle.tsp_audit_command.specs.Meaning.{IsAuditText, auditing}
-use Rattle.tsp_io.specs.Counts.{Rose}
-use Rattle.tsp_io.specs.declared.addr.Addr.{Addr}
-use Rattle.tsp_io.specs.declared.link.Link.{Ghosts as LinkOf}
-use Rattle.tsp_io.specs.declared.sink.Sink.{Ghosts as SinkOf}
-use Rattle.tsp_io.specs.declared.source.Source.{Ghosts as SourceOf}
-use Rattle.tsp_io.specs.declared.ticker.Ticker.{Ghosts as TickerOf}
-use Rattle.tsp_lines.specs.declared.limits.TheConstants.{MOST_INPUT}
-use Rattle.tsp_lines.specs.declared.treat.Outcome.{Outcome}
-use Rattle.tsp_lines.specs.Answers.{Answers, IsAnswer as IsAnswerTo}
-use Rattle.tsp_lines.specs.Gatherings.{ComesGathered, IsGathered}
-use Rattle.tsp_query.specs.Outside.{Observed, observed}
+use Rattle.tsp_io.specs.{Counts.Rose, declared.addr.Addr.Addr, declared.link.Link.Ghosts as LinkOf, declared.sink.Sink.Ghosts as SinkOf}
+use Rattle.tsp_io.specs.declared.{source.Source.Ghosts as SourceOf, ticker.Ticker.Ghosts as TickerOf}
+use Rattle.tsp_lines.specs.declared.{limits.TheConstants.MOST_INPUT, treat.Outcome.Outcome}
+use Rattle.tsp_lines.specs.{Answers.Answers, Answers.IsAnswer as IsAnswerTo, Gatherings.ComesGathered, Gatherings.IsGathered}
 use Rattle.tsp_rules.specs.Guards.{is_clock_value}
 use Rattle.tsp_storm.specs.declared.run.StormEnd.{StormEnd}
 use Rattle.tsp_storm.specs.Answers.{IsStormAnswer, AgreesWithAnswer, HasEventRoom, StormsAs}
-use Rattle.tsp_daemon.specs.declared.exit.DaemonExit.{DaemonExit}
-use Rattle.tsp_daemon.specs.Serving.{ServesIfTold}
-use Rattle.tsp_args.specs.Commands.{words_of, IsCommand}
-use Rattle.tsp_args.specs.declared.command.Command.{Command}
+use Rattle.tsp_daemon.specs.{Serving.ServesIfTold, declared.exit.DaemonExit.DaemonExit}
+use Rattle.tsp_args.specs.{Commands.words_of, Commands.IsCommand, declared.command.Command.Command, declared.query.Query.Query}
 use Rattle.tsp_args.specs.declared.command.Command.TheVariants.{Replay, Show, Pack, Serve, Ask, Storm, Icmp, Audit}
-use Rattle.tsp_args.specs.declared.query.Query.{Query}
-use Rattle.tsp_args.specs.declared.serve.ServeWords.{ServeWords}
-use Rattle.tsp_args.specs.declared.storm.StormWords.{StormWords}
+use Rattle.tsp_args.specs.declared.{serve.ServeWords.ServeWords, storm.StormWords.StormWords}
 use Rattle.tsp_cli.specs.declared.status.Status.{Status}
 use Rattle.tsp_cli.specs.declared.status.Status.TheVariants.{Ok, NoAnswer, OutOfMemory, ReadFault}
 use Rattle.tsp_cli.specs.Lines.{LineCommand, Replay as Replays, Show as Shows, Pack as Packs, Icmp as Averages, Runs}

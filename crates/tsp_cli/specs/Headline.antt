@@ -4,20 +4,13 @@ use Rattle.tsp_rules.specs.Values.{Event}
 use Rattle.tsp_base.specs.Words.{HeaderValue}
 use Rattle.tsp_promises.specs.Setting.{Setting}
 use Rattle.tsp_io.specs.Streams.{Grows}
-use Rattle.tsp_lines.specs.declared.limits.TheConstants.{MOST_INPUT}
 use Rattle.tsp_lines.specs.Lines.{HasLines, IsInput, IsOver, NoFeed}
-use Rattle.tsp_lines.specs.Outcomes.{bad_line, limit_line}
-use Rattle.tsp_replay.specs.Meaning.{IsSchedule}
-use Rattle.tsp_replay.specs.Schedules.{Reaches}
-use Rattle.tsp_replay.specs.Traces.{trace}
+use Rattle.tsp_lines.specs.{Outcomes.bad_line, Outcomes.limit_line, declared.limits.TheConstants.MOST_INPUT}
+use Rattle.tsp_replay.specs.{Meaning.IsSchedule, Schedules.Reaches, Traces.trace}
 use Rattle.tsp_schedule.specs.Schedules.{Progress, Running, Ended}
 use Rattle.tsp_cli.specs.declared.status.Status.{Status}
 use Rattle.tsp_cli.specs.declared.status.Status.TheVariants.{Ok, Bad, ReadFault, WriteFault, Limit, OutOfMemory}
-use Rattle.tsp_run.specs.Premised.{KeptByText}
-use Rattle.tsp_run.specs.Promises.{Promises}
-use Rattle.tsp_run.specs.Ranges.{Accepted}
-use Rattle.tsp_run.specs.Run.{run}
-use Rattle.tsp_run.specs.Setting.{SetBy}
+use Rattle.tsp_run.specs.{Premised.KeptByText, Promises.Promises, Ranges.Accepted, Run.run, Setting.SetBy}
 
 -- the input was the text of a schedule, all of it was read, its header and events are in their ranges, and none of its
 -- events is refused. What was written is exactly the trace of its run. The run's history keeps the promises, each under

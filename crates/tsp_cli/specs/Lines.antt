@@ -1,17 +1,12 @@
 -- What comes of a command that reads lines.
 use Rattle.std.specs.Prelude.{◌≡◌, ◌⊎◌, ℕ, ◌≤◌, List, length, Option, Some, Bool, true}
-use Rattle.tsp_cli.specs.declared.status.Status.{Status}
 use Rattle.tsp_cli.specs.declared.status.Status.TheVariants.{Ok, Usage, Bad, ReadFault, WriteFault, LinkFault, NoAnswer, Limit, OutOfMemory}
-use Rattle.tsp_cli.specs.Statuses.{status_of}
-use Rattle.tsp_convert.specs.Packs.{AreMessageLines, pack_meaning}
-use Rattle.tsp_convert.specs.Shows.{AreHexLines, show_meaning}
+use Rattle.tsp_cli.specs.{Statuses.status_of, declared.status.Status.Status}
+use Rattle.tsp_convert.specs.{Packs.AreMessageLines, Packs.pack_meaning, Shows.AreHexLines, Shows.show_meaning}
 use Rattle.tsp_io.specs.Counts.{Rose}
-use Rattle.tsp_lines.specs.declared.limits.TheConstants.{MOST_INPUT}
-use Rattle.tsp_lines.specs.declared.treat.Outcome.{Outcome}
+use Rattle.tsp_lines.specs.declared.{limits.TheConstants.MOST_INPUT, treat.Outcome.Outcome}
 use Rattle.tsp_lines.specs.declared.treat.Outcome.TheVariants.{Ok as Done, Bad as Refused, ReadFault as NotRead, WriteFault as NotWritten, Limit as Limited, OutOfMemory as NoMemory}
-use Rattle.tsp_lines.specs.Answers.{IsAnswer, Agrees}
-use Rattle.tsp_lines.specs.Meanings.{Meaning}
-use Rattle.tsp_lines.specs.Outcomes.{Comes, KeepsUp}
+use Rattle.tsp_lines.specs.{Answers.IsAnswer, Answers.Agrees, Meanings.Meaning, Outcomes.Comes, Outcomes.KeepsUp}
 use Rattle.tsp_query.specs.Outside.{WritesBeginning as SaysAs}
 use Rattle.tsp_icmp_command.specs.Meaning.{AreExchangeLines, averaging}
 use Rattle.tsp_replay.specs.Meaning.{IsScheduleText, replaying}

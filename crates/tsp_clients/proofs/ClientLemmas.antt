@@ -1,17 +1,14 @@
 -- What the answers to clients leave as it is.
-use Rattle.std.specs.Prelude.{◌≡◌, ◌≢◌, ℕ, ◌&&◌, Bool, true, false, List, [], ◌∷◌, ◌++◌, refl}
-use Rattle.std.proofs.Common.{◌∙◌, ap, sym}
+use Rattle.std.proofs.Common.{◌∙◌, ap, sym, ◌≡◌, ◌≢◌, ℕ, ◌&&◌, Bool, true, false, List, [], ◌∷◌, ◌++◌, refl}
 use Rattle.std.proofs.lemmas.Bool.{false≢true}
 use Rattle.tsp_rules.specs.Values.{Act, Boot, Post, Trace, Placed, Message, Ack, PeerId, Place, Port, Role, Starting, Follow, Master}
 use Rattle.tsp_base.specs.Words.{Past, may_stand, Performs, Keeps, kept_name, held, Row, bare, grown, posts_back, puts}
 use Rattle.tsp_rules.specs.CommonRows.{is_idle, master_name, master_name_in, may_be_asked}
 use Rattle.tsp_rules.specs.Guards.{is_starting_role}
 use Rattle.tsp_rules.proofs.Emits.{Sort, Taking, Asking, Correcting, Numbering, Passing, Posting, Leading, Following, Changing, Backing, Counting, Rounding, Alarming, Tabling, Rivalling, Acking, Giving, Sampling, Closing, Moving, Emits, Emits_posts_back, Emits_puts, Keeps_by, is_in, sort_of}
-use Rattle.tsp_acks.specs.declared.station.Station.{Station}
-use Rattle.tsp_acks.specs.Stands.{StationStands}
+use Rattle.tsp_acks.specs.{Stands.StationStands, declared.station.Station.Station}
 use Rattle.tsp_acks.proofs.StandsLemmas.{Stands_idle, Stands_post}
-use Rattle.tsp_slave.specs.Lasts.{LastValue}
-use Rattle.tsp_slave.proofs.BesideLemmas.{Remembers_by}
+use Rattle.tsp_slave.{proofs.BesideLemmas.Remembers_by, specs.Lasts.LastValue}
 use Rattle.tsp_clients.specs.ClientStands.{NamingStands, TraceStands, TracingStands}
 
 -- all sorts of acts but Boot and Trace

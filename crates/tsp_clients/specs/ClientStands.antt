@@ -1,8 +1,7 @@
 -- Which pasts the states of these calls stand for.
 use Rattle.std.specs.Prelude.{◌≡◌, Bool}
 use Rattle.tsp_base.specs.Words.{Past, plain, tracing}
-use Rattle.tsp_acks.specs.declared.station.Station.{Station}
-use Rattle.tsp_acks.specs.Stands.{StationStands}
+use Rattle.tsp_acks.specs.{Stands.StationStands, declared.station.Station.Station}
 use Rattle.tsp_slave.specs.Lasts.{LastValue, Remembers}
 
 -- the node's flag says whether its trace is on

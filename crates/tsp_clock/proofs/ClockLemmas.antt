@@ -1,12 +1,9 @@
 -- What keeps a clock in its range.
-use Rattle.std.specs.Prelude.{◌≡◌, ℕ, ◌+◌, ◌-◌, ◌/◌, ◌%◌, ◌^◌, ◌≤◌, ℤ, pos, negsuc, ◌+ℤ◌, ◌-ℤ◌, ◌≤ℤ◌, ◌<ℤ◌, Bool, true, false, if◌then◌else◌, refl}
-use Rattle.std.proofs.Common.{arith, SFits, w64}
+use Rattle.std.proofs.Common.{arith, SFits, w64, ◌≡◌, ℕ, ◌+◌, ◌-◌, ◌/◌, ◌%◌, ◌^◌, ◌≤◌, ℤ, pos, negsuc, ◌+ℤ◌, ◌-ℤ◌, ◌≤ℤ◌, ◌<ℤ◌, Bool, true, false, if◌then◌else◌, refl}
 use Rattle.std.proofs.lemmas.Int.{ints}
-use Rattle.tsp_rules.specs.Values.{SLEW}
 use Rattle.tsp_base.specs.Words.{Past, plain, eased, base, moved, word, corrects, grown}
 use Rattle.tsp_base.proofs.TickLemmas.{eased_none}
-use Rattle.tsp_rules.specs.ClockRows.{is_step, adjusts, sets}
-use Rattle.tsp_rules.specs.Guards.{is_clock_value}
+use Rattle.tsp_rules.specs.{ClockRows.is_step, ClockRows.adjusts, ClockRows.sets, Guards.is_clock_value, Values.SLEW}
 use Rattle.tsp_clock.specs.Clocks.{ClockValue, target_of, slew_rest, shown_of, adjusted, set_to}
 use Rattle.tsp_clock.specs.ClockStands.{ClockStands}
 

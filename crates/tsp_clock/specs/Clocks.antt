@@ -1,8 +1,7 @@
 -- A corrected clock.
 use Rattle.std.specs.Prelude.{ℕ, ◌+◌, ◌-◌, ◌/◌, ◌%◌, ◌^◌, ◌≤◌, ◌<◌, ℤ, pos, negsuc, ◌+ℤ◌, ◌-ℤ◌, ◌<ℤ◌, ◌≤ℤ◌, if◌then◌else◌}
-use Rattle.tsp_rules.specs.Values.{SLEW}
 use Rattle.tsp_base.specs.Words.{eased}
-use Rattle.tsp_rules.specs.ClockRows.{is_step}
+use Rattle.tsp_rules.specs.{ClockRows.is_step, Values.SLEW}
 
 -- how far the target is ahead of the ticks, what was still to be slewed right after the last correction,
 -- its tick (that of the boot where there was none), and the number that the next correction must have

@@ -1,15 +1,12 @@
 -- The first fault of octets, by what the reader has found before it.
-use Rattle.std.proofs.Common.{rules, ◌≡◌, ◌≢◌, ℕ, ◌<◌, ◌≤◌, List, length, drop, refl, arith, Some, None, true, inl, inr, ◌⊎◌}
+use Rattle.std.proofs.Common.{rules, ◌≡◌, ◌≢◌, ℕ, ◌<◌, ◌≤◌, List, length, drop, refl, arith, Some, None, true, inl, inr, ◌⊎◌, Contains, ℤ}
 use Rattle.std.proofs.lemmas.Grind.{common_steps}
-use Rattle.std.specs.Prelude.{Contains, ℤ}
-use Rattle.tsp_base.specs.Words.{kind_of, carries_time, IsReply}
-use Rattle.tsp_base.specs.declared.kind.Kind.{Kind}
+use Rattle.tsp_base.specs.{Words.kind_of, Words.carries_time, Words.IsReply, declared.kind.Kind.Kind}
 use Rattle.tsp_base.specs.declared.datagram.DecodeFault.TheVariants.{Short, Long, Version, Kind as BadKind, StampLength, NoEnd, NameTooLong, Reserved, Time}
 use Rattle.tsp_codec.specs.Numbers.{octet_at, be16_at, be64_at}
 use Rattle.tsp_codec.specs.Spelling.{HasHead, IsStamp, IsTime, reading_field}
 use Rattle.tsp_codec.specs.Faults.{name_room, HasKind, HasStampType, IsFault}
-use Rattle.tsp_codec.proofs.OneDatagram.{HasStampType-kind}
-use Rattle.tsp_codec.proofs.NoFault.{HasKind-stamp}
+use Rattle.tsp_codec.proofs.{NoFault.HasKind-stamp, OneDatagram.HasStampType-kind}
 
 HasKind-kind : (o : List ℕ) (k : Kind) → kind_of (octet_at o 0) ≡ Some k → HasKind o
 HasKind-kind o k e = rw e refl

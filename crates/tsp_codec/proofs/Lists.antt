@@ -1,7 +1,6 @@
 -- Laws of lists of octets.
-use Rattle.std.proofs.Common.{◌≡◌, ℕ, ◌<◌, ◌≤◌, ◌-◌, List, [], ◌∷◌, ◌++◌, zero, suc, length, take, slice_index_or, refl, ap, arith}
+use Rattle.std.proofs.Common.{◌≡◌, ℕ, ◌<◌, ◌≤◌, ◌-◌, List, [], ◌∷◌, ◌++◌, zero, suc, length, take, slice_index_or, refl, ap, arith, Contains}
 use Rattle.std.proofs.lemmas.Grind.{common_steps}
-use Rattle.std.specs.Prelude.{Contains}
 use Rattle.tsp_base.specs.Words.{IsName}
 
 -- a list is split at a zero of its front

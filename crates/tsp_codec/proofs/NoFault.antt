@@ -1,15 +1,10 @@
 -- What spells a datagram has no fault.
-use Rattle.std.proofs.Common.{rules, ◌≡◌, ℕ, List, ap, sym, ◌∙◌, arith, Some, None, true, false, inl, inr}
-use Rattle.std.specs.Prelude.{Contains}
+use Rattle.std.proofs.Common.{rules, ◌≡◌, ℕ, List, ap, sym, ◌∙◌, arith, Some, None, true, false, inl, inr, Contains}
 use Rattle.std.proofs.lemmas.Bool.{both_ways}
-use Rattle.tsp_base.specs.Words.{carries_time, MessageValue, ReplyValue}
-use Rattle.tsp_base.specs.declared.kind.Kind.{Kind}
-use Rattle.tsp_base.specs.declared.message.Body.{Body}
+use Rattle.tsp_base.specs.{Words.carries_time, Words.MessageValue, Words.ReplyValue, declared.datagram.Datagram.Datagram}
+use Rattle.tsp_base.specs.declared.{kind.Kind.Kind, message.Body.Body, stamp.Stamp.TheVariants.Request, stamp.Stamp.TheVariants.Reply}
 use Rattle.tsp_base.specs.declared.message.Body.TheVariants.{Nothing, Time as TimeBody, Hops}
-use Rattle.tsp_base.specs.declared.stamp.Stamp.TheVariants.{Request, Reply}
-use Rattle.tsp_base.specs.declared.datagram.Datagram.{Datagram}
-use Rattle.tsp_base.specs.declared.datagram.Datagram.TheVariants.{Message, Stamp}
-use Rattle.tsp_base.specs.declared.datagram.DecodeFault.{DecodeFault}
+use Rattle.tsp_base.specs.declared.datagram.{Datagram.TheVariants.Message, Datagram.TheVariants.Stamp, DecodeFault.DecodeFault}
 use Rattle.tsp_base.specs.declared.datagram.DecodeFault.TheVariants.{Short, Long, Version, Kind as BadKind, StampLength, NoEnd, NameTooLong, Reserved, Time}
 use Rattle.tsp_codec.specs.Spelling.{IsTime, Spells, SpellsBody, SpellsMessage, SpellsRequest, SpellsReply}
 use Rattle.tsp_codec.specs.Faults.{name_room, HasStampType, HasKind, HasTimedKind, Applies, IsFault}

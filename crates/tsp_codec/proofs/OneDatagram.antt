@@ -1,18 +1,11 @@
 -- Octets spell at most one datagram.
-use Rattle.std.proofs.Common.{◌≡◌, ℕ, List, refl, ap, sym, ◌∙◌, arith, Some, None, subst, inl, inr}
-use Rattle.std.specs.Prelude.{ℤ}
-use Rattle.std.proofs.lemmas.Bool.{both_ways}
-use Rattle.tsp_base.specs.Words.{kind_of, MessageValue, ReplyValue}
-use Rattle.std.specs.declared.option.Option.{Option}
-use Rattle.tsp_base.specs.declared.kind.Kind.{Kind}
-use Rattle.tsp_base.specs.declared.message.Body.{Body}
-use Rattle.tsp_base.specs.declared.message.Body.TheVariants.{Nothing, Time as TimeBody, Hops}
+use Rattle.std.proofs.Common.{◌≡◌, ℕ, List, refl, ap, sym, ◌∙◌, arith, Some, None, subst, inl, inr, ℤ}
+use Rattle.std.{proofs.lemmas.Bool.both_ways, specs.declared.option.Option.Option}
+use Rattle.tsp_base.specs.{Words.kind_of, Words.MessageValue, Words.ReplyValue, declared.datagram.Datagram.Datagram}
+use Rattle.tsp_base.specs.declared.message.Body.{Body, TheVariants.Nothing, TheVariants.Time as TimeBody, TheVariants.Hops}
 use Rattle.tsp_base.specs.declared.stamp.Stamp.TheVariants.{Request, Reply}
-use Rattle.tsp_base.specs.declared.datagram.Datagram.{Datagram}
-use Rattle.tsp_base.specs.declared.datagram.Datagram.TheVariants.{Message, Stamp}
-use Rattle.tsp_codec.specs.Numbers.{octet_at}
-use Rattle.tsp_codec.specs.Spelling.{Spells, SpellsBody, SpellsMessage}
-use Rattle.tsp_codec.specs.Faults.{HasStampType}
+use Rattle.tsp_base.specs.declared.{datagram.Datagram.TheVariants.Message, datagram.Datagram.TheVariants.Stamp, kind.Kind.Kind}
+use Rattle.tsp_codec.specs.{Faults.HasStampType, Numbers.octet_at, Spelling.Spells, Spelling.SpellsBody, Spelling.SpellsMessage}
 use Rattle.tsp_codec.proofs.Lists.{append-one_split}
 
 SpellsBody-one : (o : List ℕ) (k : Kind) (a b : Body) → SpellsBody o k a → SpellsBody o k b → a ≡ b

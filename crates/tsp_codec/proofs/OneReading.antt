@@ -1,11 +1,7 @@
 -- A reader takes one thing from the same octets.
 use Rattle.std.proofs.Common.{rules, ◌≡◌, ℕ, List, ap}
-use Rattle.tsp_base.specs.declared.datagram.DecodeFault.{DecodeFault}
-use Rattle.tsp_base.specs.declared.datagram.Taken.{Taken}
-use Rattle.tsp_base.specs.declared.datagram.Taken.TheVariants.{Good, Bad}
-use Rattle.tsp_codec.specs.Faults.{IsFault, Reads}
-use Rattle.tsp_codec.proofs.OneDatagram.{Spells-one}
-use Rattle.tsp_codec.proofs.NoFault.{Spells-no_fault}
+use Rattle.tsp_base.specs.declared.datagram.{DecodeFault.DecodeFault, Taken.Taken, Taken.TheVariants.Good, Taken.TheVariants.Bad}
+use Rattle.tsp_codec.{proofs.NoFault.Spells-no_fault, proofs.OneDatagram.Spells-one, specs.Faults.IsFault, specs.Faults.Reads}
 
 -- of two first faults none stands before the other
 pub IsFault-one : (o : List ℕ) (f g : DecodeFault) → IsFault o f → IsFault o g → f ≡ g

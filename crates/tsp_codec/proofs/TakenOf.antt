@@ -1,29 +1,18 @@
 -- What is computed from octets is what a reader takes.
-use Rattle.std.proofs.Common.{◌≡◌, ◌≢◌, ℕ, ◌+◌, ◌<◌, ◌≤◌, List, [], ◌∷◌, ◌++◌, zero, suc, length, take, drop, slice_index_or, length-append, refl, ap, sym, ◌∙◌, arith, Some, None, true, false, Bool, ◌&&◌, inl, inr, ◌↔◌}
+use Rattle.std.proofs.Common.{◌≡◌, ◌≢◌, ℕ, ◌+◌, ◌<◌, ◌≤◌, List, [], ◌∷◌, ◌++◌, zero, suc, length, take, drop, slice_index_or, length-append, refl, ap, sym, ◌∙◌, arith, Some, None, true, false, Bool, ◌&&◌, inl, inr, ◌↔◌, Contains, ℤ, T, if◌then◌else◌, option_map, ◌==◌, nat_lt, Option}
 use Rattle.std.proofs.lemmas.Bool.{ltb-true, ltb-false, eqb-true, eqb-false, and_parts, and_from, both_ways}
-use Rattle.std.proofs.lemmas.Float.{T_from_true}
-use Rattle.std.proofs.lemmas.Grind.{common_steps}
-use Rattle.std.proofs.lemmas.List.{append_assoc, take-append-drop}
-use Rattle.std.specs.Prelude.{Contains, ℤ, T, if◌then◌else◌, option_map, ◌==◌, nat_lt, Option}
-use Rattle.tsp_base.specs.Words.{kind_of, carries_time, carries_hops}
-use Rattle.tsp_base.specs.declared.kind.Kind.{Kind}
-use Rattle.tsp_base.specs.declared.message.Body.{Body}
+use Rattle.std.proofs.lemmas.{Float.T_from_true, Grind.common_steps, List.append_assoc, List.take-append-drop}
+use Rattle.tsp_base.specs.{Words.kind_of, Words.carries_time, Words.carries_hops, declared.datagram.Datagram.Datagram}
+use Rattle.tsp_base.specs.declared.{kind.Kind.Kind, message.Body.Body, stamp.Stamp.Stamp as StampValue}
 use Rattle.tsp_base.specs.declared.message.Body.TheVariants.{Nothing, Time as TimeBody, Hops}
-use Rattle.tsp_base.specs.declared.stamp.Stamp.{Stamp as StampValue}
 use Rattle.tsp_base.specs.declared.stamp.Stamp.TheVariants.{Request, Reply}
-use Rattle.tsp_base.specs.declared.datagram.Datagram.{Datagram}
-use Rattle.tsp_base.specs.declared.datagram.Datagram.TheVariants.{Stamp}
+use Rattle.tsp_base.specs.declared.datagram.{Datagram.TheVariants.Stamp, Taken.Taken, Taken.TheVariants.Good, Taken.TheVariants.Bad}
 use Rattle.tsp_base.specs.declared.datagram.DecodeFault.TheVariants.{Short, Long, Version, Kind as BadKind, StampLength, NoEnd, NameTooLong, Reserved, Time}
-use Rattle.tsp_base.specs.declared.datagram.Taken.{Taken}
-use Rattle.tsp_base.specs.declared.datagram.Taken.TheVariants.{Good, Bad}
 use Rattle.tsp_codec.specs.Numbers.{octet_at, be16_at, be64_at}
 use Rattle.tsp_codec.specs.Spelling.{HasHead, IsStamp, IsTime, Spells, SpellsBody, SpellsName, time_field, reading_field}
-use Rattle.tsp_codec.specs.Faults.{name_room, IsCodedReading, Reads}
 use Rattle.tsp_codec.specs.Taken.{before_nul, is_time, is_reading, body_of, message_taken, request_taken, reply_taken, kind_taken, taken_of}
-use Rattle.tsp_codec.proofs.Lists.{Contains-∷}
-use Rattle.tsp_codec.specs.Canon.{canon, IsWritable}
-use Rattle.tsp_codec.proofs.OneReading.{Reads-one}
-use Rattle.tsp_codec.proofs.Written.{Spells-canon}
+use Rattle.tsp_codec.proofs.{Lists.Contains-∷, OneReading.Reads-one, Written.Spells-canon}
+use Rattle.tsp_codec.specs.{Canon.canon, Canon.IsWritable, Faults.name_room, Faults.IsCodedReading, Faults.Reads}
 use Rattle.tsp_codec.proofs.FirstFault.{IsFault-Short, IsFault-Long, IsFault-Version, IsFault-Kind, IsFault-StampLength, IsFault-NoEnd, IsFault-NameTooLong, IsFault-Time, IsFault-Reserved-request, IsFault-Reserved-reply, IsFault-Time-reply}
 
 -- what stands before the first NUL of a room

@@ -1,24 +1,17 @@
 -- The written spelling spells its datagram.
-use Rattle.std.proofs.Common.{◌≡◌, ℕ, ◌+◌, ◌-◌, ◌^◌, ◌<◌, ◌≤◌, Bool, nat_le, if◌then◌else◌, List, ◌∷◌, ◌++◌, suc, length, drop, refl, ap, sym, ◌∙◌, arith, true, false}
-use Rattle.std.specs.Prelude.{replicate}
+use Rattle.std.proofs.Common.{◌≡◌, ℕ, ◌+◌, ◌-◌, ◌^◌, ◌<◌, ◌≤◌, Bool, nat_le, if◌then◌else◌, List, ◌∷◌, ◌++◌, suc, length, drop, refl, ap, sym, ◌∙◌, arith, true, false, replicate, ℤ, pos, negsuc, ◌+ℤ◌, ◌*ℤ◌, ◌≤ℤ◌}
 use Rattle.std.specs.Int.{w32, w64, from_be_bytes, to_be_bytes}
-use Rattle.std.proofs.lemmas.Bool.{and_parts, not-true, leb-true}
 use Rattle.std.proofs.lemmas.Nat.{from_be_bytes-to_be_bytes_2, from_be_bytes-to_be_bytes_4, from_be_bytes-to_be_bytes_8}
-use Rattle.std.proofs.lemmas.Grind.{common_steps}
 use Rattle.std.proofs.lemmas.Int.{ints, to_z-of_z}
-use Rattle.std.proofs.Math.Facts.{Fits-of_z}
-use Rattle.std.specs.Prelude.{ℤ, pos, negsuc, ◌+ℤ◌, ◌*ℤ◌, ◌≤ℤ◌}
+use Rattle.std.proofs.{Math.Facts.Fits-of_z, lemmas.Bool.and_parts, lemmas.Bool.not-true, lemmas.Bool.leb-true, lemmas.Grind.common_steps}
 use Rattle.std.specs.Int.{cast_signed, cast_unsigned, int_div_euclid, int_rem_euclid}
 use Rattle.tsp_base.specs.Words.{IsMicros, carries_time, carries_hops, IsName, MessageValue, body_fits, ReplyValue, IsReply}
 use mir.Val.{SFits, Fits}
 use Rattle.tsp_base.proofs.KindLemmas.{kind_of-kind_number}
-use Rattle.tsp_base.specs.declared.kind.Kind.{Kind}
+use Rattle.tsp_base.specs.declared.{kind.Kind.Kind, message.Body.Body, stamp.Stamp.TheVariants.Request, stamp.Stamp.TheVariants.Reply}
 use Rattle.tsp_base.specs.declared.kind.Kind.TheVariants.{AdjTime, Ack, MasterReq, MasterAck, SetTime, MasterUp, SlaveUp, Election, Accept, Refuse, Conflict, Resolve as ResolveKind, Quit as QuitKind, Date, DateReq, DateAck, TraceOn, TraceOff, Msite, MsiteReq, Test, SetDate, SetDateReq, Loop as LoopKind}
-use Rattle.tsp_base.specs.declared.message.Body.{Body}
 use Rattle.tsp_base.specs.declared.message.Body.TheVariants.{Nothing, Time as TimeBody, Hops}
-use Rattle.tsp_base.specs.declared.datagram.Datagram.{Datagram}
-use Rattle.tsp_base.specs.declared.datagram.Datagram.TheVariants.{Message, Stamp}
-use Rattle.tsp_base.specs.declared.stamp.Stamp.TheVariants.{Request, Reply}
+use Rattle.tsp_base.specs.declared.datagram.Datagram.{Datagram, TheVariants.Message, TheVariants.Stamp}
 use Rattle.tsp_codec.specs.Spelling.{Spells, SpellsMessage, SpellsName, SpellsRequest, SpellsReply}
 use Rattle.tsp_codec.specs.Canon.{IsWritable, IsWritableBody, message_octets, stamp_octets, name_octets, room_for, canon, written_size}
 

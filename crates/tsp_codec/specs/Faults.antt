@@ -1,13 +1,9 @@
 -- Why octets aren't a valid datagram: the faults, and the first of them.
 use Rattle.std.specs.Prelude.{◌≡◌, ◌≢◌, ℕ, ◌<◌, ◌≤◌, List, length, take, drop, true, None, Some, IsSome, Contains, ◌⊎◌, ℤ, pos, negsuc, ◌<ℤ◌}
-use Rattle.tsp_base.specs.Words.{kind_of, carries_time}
-use Rattle.tsp_base.specs.declared.kind.Kind.{Kind}
-use Rattle.tsp_base.specs.declared.datagram.DecodeFault.{DecodeFault}
+use Rattle.tsp_base.specs.{Words.kind_of, Words.carries_time, declared.datagram.DecodeFault.DecodeFault, declared.datagram.Taken.Taken}
 use Rattle.tsp_base.specs.declared.datagram.DecodeFault.TheVariants.{Short, Long, Version, Kind as BadKind, StampLength, NoEnd, NameTooLong, Reserved, Time}
-use Rattle.tsp_base.specs.declared.datagram.Taken.{Taken}
-use Rattle.tsp_base.specs.declared.datagram.Taken.TheVariants.{Good, Bad}
-use Rattle.tsp_codec.specs.Numbers.{octet_at, be16_at, be64_at}
-use Rattle.tsp_codec.specs.Spelling.{Spells, IsTime, reading_field}
+use Rattle.tsp_base.specs.declared.{datagram.Taken.TheVariants.Good, datagram.Taken.TheVariants.Bad, kind.Kind.Kind}
+use Rattle.tsp_codec.specs.{Numbers.octet_at, Numbers.be16_at, Numbers.be64_at, Spelling.Spells, Spelling.IsTime, Spelling.reading_field}
 
 -- the octets in which a name must end: the first 256 from octet 12 on
 abbrev pub name_room : List ℕ → List ℕ

@@ -1,17 +1,13 @@
 -- What a reader makes of octets, as a computation.
 use Rattle.std.specs.Prelude.{ℕ, ℤ, pos, negsuc, List, [], ◌∷◌, length, Bool, ◌&&◌, ◌==◌, nat_lt, int_le, int_lt, if◌then◌else◌, Option, None, Some, option_map}
-use Rattle.tsp_base.specs.Words.{kind_of, carries_time, carries_hops}
-use Rattle.tsp_base.specs.declared.kind.Kind.{Kind}
-use Rattle.tsp_base.specs.declared.message.Body.{Body}
+use Rattle.tsp_base.specs.{Words.kind_of, Words.carries_time, Words.carries_hops, declared.datagram.Taken.Taken, declared.kind.Kind.Kind}
 use Rattle.tsp_base.specs.declared.message.Body.TheVariants.{Nothing, Time as TimeBody, Hops}
 use Rattle.tsp_base.specs.declared.stamp.Stamp.TheVariants.{Request, Reply}
-use Rattle.tsp_base.specs.declared.datagram.Datagram.TheVariants.{Message, Stamp}
+use Rattle.tsp_base.specs.declared.{datagram.Datagram.TheVariants.Message, datagram.Datagram.TheVariants.Stamp, message.Body.Body}
 use Rattle.tsp_base.specs.declared.datagram.DecodeFault.TheVariants.{Short, Long, Version, Kind as BadKind, StampLength, NoEnd, NameTooLong, Reserved, Time}
-use Rattle.tsp_base.specs.declared.datagram.Taken.{Taken}
 use Rattle.tsp_base.specs.declared.datagram.Taken.TheVariants.{Good, Bad}
-use Rattle.tsp_codec.specs.Numbers.{octet_at, be16_at, be64_at}
 use Rattle.tsp_codec.specs.Spelling.{micros_field, time_field, reading_field}
-use Rattle.tsp_codec.specs.Faults.{name_room}
+use Rattle.tsp_codec.specs.{Faults.name_room, Numbers.octet_at, Numbers.be16_at, Numbers.be64_at}
 
 -- the octets before the first NUL; None where there is none
 abbrev pub before_nul : List ℕ → Option (List ℕ)

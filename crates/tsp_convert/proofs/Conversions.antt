@@ -1,15 +1,8 @@
 -- Laws of lines that are made of datagrams.
-use Rattle.std.proofs.Common.{◌≡◌, ℕ, List, [], ◌∷◌, ◌++◌, refl, sym, ap, ◌∙◌, map, append-nil, inl, Result, Ok, Err}
-use Rattle.std.specs.Prelude.{OnOk, OnErr, IfErr, MatchResult}
-use Rattle.std.specs.List.{AllZip}
-use Rattle.std.specs.declared.option.Option.{Option}
-use Rattle.std.proofs.lemmas.List.{map-append}
-use Rattle.std.proofs.lemmas.Grind.{flat_map-append}
-use Rattle.tsp_lines.specs.Lines.{close, closed}
+use Rattle.std.proofs.Common.{◌≡◌, ℕ, List, [], ◌∷◌, ◌++◌, refl, sym, ap, ◌∙◌, map, append-nil, inl, Result, Ok, Err, OnOk, OnErr, IfErr, MatchResult}
+use Rattle.std.{proofs.lemmas.Grind.flat_map-append, proofs.lemmas.List.map-append, specs.List.AllZip, specs.declared.option.Option.Option}
+use Rattle.tsp_lines.specs.{Lines.close, Lines.closed, Outputs.Hands, declared.output.Unwritten.Unwritten, declared.treatment.Stop.Stop}
 use Rattle.tsp_lines.specs.Meanings.{Meaning, Goes, StopsAt, stop_of}
-use Rattle.tsp_lines.specs.Outputs.{Hands}
-use Rattle.tsp_lines.specs.declared.treatment.Stop.{Stop}
-use Rattle.tsp_lines.specs.declared.output.Unwritten.{Unwritten}
 use Rattle.tsp_lines.proofs.Stops.{StopsAt-stop_of}
 
 -- each of these lines is the value at its place, and the text is those values' output

@@ -1,18 +1,12 @@
 -- The two conversions are definite, and give lines of datagrams the answer that is due.
 use Rattle.std.proofs.Common.{◌≡◌, ℕ, ◌≤◌, inl, inr, List, [], false, true, refl, sym, ap, ◌∙◌, append-nil, length, arith}
-use Rattle.hex.specs.Hex.{encode_lower}
-use Rattle.hex.proofs.HexLemmas.{decode_of-same}
-use Rattle.tsp_codec.specs.Canon.{canon}
-use Rattle.tsp_codec.proofs.OneReading.{IsFault-one}
-use Rattle.tsp_script.specs.Texts.{message_text}
-use Rattle.tsp_script.specs.Traces.{fault_word}
-use Rattle.tsp_lines.specs.Answers.{IsAnswer}
-use Rattle.tsp_lines.specs.Definite.{IsDefinite}
-use Rattle.tsp_lines.specs.declared.treat.Outcome.TheVariants.{Ok as Done}
+use Rattle.hex.{proofs.HexLemmas.decode_of-same, specs.Hex.encode_lower}
+use Rattle.tsp_codec.{proofs.OneReading.IsFault-one, specs.Canon.canon}
+use Rattle.tsp_script.specs.{Texts.message_text, Traces.fault_word}
+use Rattle.tsp_lines.specs.{Answers.IsAnswer, Definite.IsDefinite, declared.treat.Outcome.TheVariants.Ok as Done}
 use Rattle.tsp_convert.specs.Packs.{IsLineOf, AreMessageLines, packed, pack_meaning}
 use Rattle.tsp_convert.specs.Shows.{IsHex, IsNoHex, IsHexLineOf, RefusesHex, AreHexLines, lines_shown, show_meaning}
-use Rattle.tsp_convert.proofs.Conversions.{Converts-one, Converts-before}
-use Rattle.tsp_convert.proofs.Hexes.{IsHexLineOf-one, IsHexLineOf-not_refused}
+use Rattle.tsp_convert.proofs.{Conversions.Converts-one, Conversions.Converts-before, Hexes.IsHexLineOf-one, Hexes.IsHexLineOf-not_refused}
 use Rattle.tsp_convert.proofs.LinesApart.{IsLineOf-one}
 
 no_hex : (line octets : List ℕ) → IsNoHex line → IsHex line octets → ⊥

@@ -1,22 +1,14 @@
 -- No message line has a line feed.
-use Rattle.std.proofs.Common.{◌≡◌, ◌≢◌, ℕ, ◌<◌, ◌^◌, List, [], ◌∷◌, ◌++◌, zero, suc, Bool, true, false, Some, refl, arith}
-use Rattle.std.specs.Prelude.{ℤ, pos, negsuc, ◌≤ℤ◌, ◌<ℤ◌, decimal, codes, flat_map, if◌then◌else◌, not, ◌&&◌, ◌==◌, slice_index, ◌/◌, ◌%◌}
-use Rattle.std.specs.Fmt.{signed_decimal}
-use Rattle.std.specs.Str.Parse.{AllDigits}
-use Rattle.std.proofs.lemmas.Fmt.{decimal_is_IsNumeral}
-use Rattle.std.proofs.lemmas.Int.{ints}
+use Rattle.std.proofs.Common.{◌≡◌, ◌≢◌, ℕ, ◌<◌, ◌^◌, List, [], ◌∷◌, ◌++◌, zero, suc, Bool, true, false, Some, refl, arith, ℤ, pos, negsuc, ◌≤ℤ◌, ◌<ℤ◌, decimal, codes, flat_map, if◌then◌else◌, not, ◌&&◌, ◌==◌, slice_index, ◌/◌, ◌%◌}
+use Rattle.std.{proofs.lemmas.Fmt.decimal_is_IsNumeral, proofs.lemmas.Int.ints, specs.Fmt.signed_decimal, specs.Str.Parse.AllDigits}
 use Rattle.hex.specs.Hex.{encode_lower, encode_with, hex_digit_value, lower_digits, IsBytes}
 use Rattle.hex.proofs.HexLemmas.{IsDigits-lower_digits}
 use Rattle.tsp_base.specs.Words.{kind_word, MessageValue, ReplyValue, IsReply}
-use Rattle.tsp_base.specs.declared.kind.Kind.{Kind}
-use Rattle.tsp_base.specs.declared.kind.Kind.TheVariants.{AdjTime}
-use Rattle.tsp_base.specs.declared.message.Body.{Body}
+use Rattle.tsp_base.specs.declared.{kind.Kind.Kind, kind.Kind.TheVariants.AdjTime, message.Body.Body}
 use Rattle.tsp_base.specs.declared.message.Body.TheVariants.{Nothing, Time as TimeBody, Hops}
 use Rattle.tsp_base.specs.declared.stamp.Stamp.TheVariants.{Request, Reply}
-use Rattle.tsp_base.specs.declared.datagram.Datagram.{Datagram}
-use Rattle.tsp_base.specs.declared.datagram.Datagram.TheVariants.{Message, Stamp}
-use Rattle.tsp_lines.specs.Lines.{NoFeed}
-use Rattle.tsp_lines.proofs.Passes.{NoFeed-append}
+use Rattle.tsp_base.specs.declared.datagram.Datagram.{Datagram, TheVariants.Message, TheVariants.Stamp}
+use Rattle.tsp_lines.{proofs.Passes.NoFeed-append, specs.Lines.NoFeed}
 use Rattle.tsp_script.specs.Ranges.{IsBody, IsMessage, IsDatagram}
 use Rattle.tsp_script.specs.Texts.{space, is_plain, escaped, name_text, body_text, message_text}
 

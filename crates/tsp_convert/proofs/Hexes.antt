@@ -2,11 +2,9 @@
 use Rattle.std.proofs.Common.{◌≡◌, ℕ, List, inl, inr, true, false, arith}
 use Rattle.hex.proofs.HexLemmas.{decode_of-ok, decode_of-same}
 use Rattle.tsp_base.specs.declared.datagram.Datagram.{Datagram}
-use Rattle.tsp_codec.proofs.OneDatagram.{Spells-one}
-use Rattle.tsp_codec.proofs.NoFault.{Spells-no_fault}
+use Rattle.tsp_codec.proofs.{NoFault.Spells-no_fault, OneDatagram.Spells-one}
 use Rattle.tsp_script.specs.Ranges.{IsDatagram}
-use Rattle.tsp_convert.specs.Shows.{IsHexLineOf, RefusesHex}
-use Rattle.tsp_convert.proofs.InRanges.{IsDatagram-spelled}
+use Rattle.tsp_convert.{proofs.InRanges.IsDatagram-spelled, specs.Shows.IsHexLineOf, specs.Shows.RefusesHex}
 
 -- the octets are the same
 pub IsHexLineOf-one : (line : List ℕ) (d e : Datagram) → IsHexLineOf line d → IsHexLineOf line e → d ≡ e

@@ -1,15 +1,11 @@
 -- What octets spell is in its ranges.
 use Rattle.std.proofs.Common.{◌≡◌, ℕ, ◌+◌, ◌^◌, ◌<◌, List, [], ◌∷◌, ◌++◌, zero, suc, true, drop, refl, sym, arith}
 use Rattle.hex.specs.Hex.{IsBytes}
-use Rattle.tsp_base.specs.Words.{body_fits}
-use Rattle.tsp_base.specs.declared.kind.Kind.{Kind}
-use Rattle.tsp_base.specs.declared.message.Body.{Body}
+use Rattle.tsp_base.specs.{Words.body_fits, declared.datagram.Datagram.Datagram, declared.kind.Kind.Kind, declared.message.Body.Body}
 use Rattle.tsp_base.specs.declared.message.Body.TheVariants.{Nothing, Time as TimeBody, Hops}
 use Rattle.tsp_base.specs.declared.stamp.Stamp.TheVariants.{Request, Reply}
-use Rattle.tsp_base.specs.declared.datagram.Datagram.{Datagram}
 use Rattle.tsp_base.specs.declared.datagram.Datagram.TheVariants.{Message, Stamp}
-use Rattle.tsp_codec.specs.Numbers.{be16_at, be64_at}
-use Rattle.tsp_codec.specs.Spelling.{Spells, SpellsBody}
+use Rattle.tsp_codec.specs.{Numbers.be16_at, Numbers.be64_at, Spelling.Spells, Spelling.SpellsBody}
 use Rattle.tsp_script.specs.Ranges.{IsBody, IsDatagram}
 
 be16_at-le : (o : List ℕ) (i : ℕ) → IsBytes o → be16_at o i < 2 ^ 16

@@ -1,27 +1,18 @@
 -- Message lines that are the same are one datagram's.
-use Rattle.std.proofs.Common.{◌≡◌, ℕ, ◌<◌, ◌^◌, List, ◌∷◌, ◌++◌, true, refl, sym, ap, ◌∙◌, arith, append_assoc, slice_index_or}
-use Rattle.std.specs.Prelude.{ℤ, pos, negsuc, ◌≤ℤ◌, ◌<ℤ◌, decimal, codes}
-use Rattle.std.specs.Fmt.{signed_decimal}
-use Rattle.std.specs.Int.{w64}
-use Rattle.std.specs.Int.RustNames.{FitsSigned}
-use Rattle.std.proofs.lemmas.Fmt.{decimal_injective, signed_decimal_injective}
-use Rattle.std.proofs.lemmas.Int.{ints}
+use Rattle.std.proofs.Common.{◌≡◌, ℕ, ◌<◌, ◌^◌, List, ◌∷◌, ◌++◌, true, refl, sym, ap, ◌∙◌, arith, append_assoc, slice_index_or, ℤ, pos, negsuc, ◌≤ℤ◌, ◌<ℤ◌, decimal, codes}
+use Rattle.std.specs.{Fmt.signed_decimal, Int.w64, Int.RustNames.FitsSigned}
+use Rattle.std.proofs.lemmas.{Fmt.decimal_injective, Fmt.signed_decimal_injective, Int.ints}
 use lib.Signed.{mag}
 use Rattle.tsp_base.specs.Words.{kind_word, MessageValue, body_fits, ReplyValue, IsReply}
-use Rattle.tsp_base.specs.declared.kind.Kind.{Kind}
-use Rattle.tsp_base.specs.declared.message.Body.{Body}
+use Rattle.tsp_base.specs.declared.{kind.Kind.Kind, message.Body.Body, stamp.Stamp.TheVariants.Request, stamp.Stamp.TheVariants.Reply}
 use Rattle.tsp_base.specs.declared.message.Body.TheVariants.{Nothing, Time as TimeBody, Hops}
-use Rattle.tsp_base.specs.declared.stamp.Stamp.TheVariants.{Request, Reply}
-use Rattle.tsp_base.specs.declared.datagram.Datagram.{Datagram}
-use Rattle.tsp_base.specs.declared.datagram.Datagram.TheVariants.{Message, Stamp}
+use Rattle.tsp_base.specs.declared.datagram.Datagram.{Datagram, TheVariants.Message, TheVariants.Stamp}
 use Rattle.tsp_script.specs.Ranges.{IsBody, IsMessage, IsDatagram}
 use Rattle.tsp_script.specs.Texts.{space, body_text, name_text, message_line, message_text}
-use Rattle.tsp_script.proofs.Bodies.{time_body, hops_body}
-use Rattle.tsp_script.proofs.Apart.{words_apart, numbers_apart, signs_apart}
+use Rattle.tsp_script.proofs.{Apart.words_apart, Apart.numbers_apart, Apart.signs_apart, Bodies.time_body, Bodies.hops_body}
 use Rattle.tsp_script.proofs.KindWords.{kind_word-injective, kind_word-not_request, kind_word-not_reply, no_space-kind_word, no_space-spaceless}
 use Rattle.tsp_script.proofs.MessageLines.{message_rest, request_rest, reply_rest, message_form, request_form, reply_form, message_of_parts}
-use Rattle.tsp_convert.specs.Packs.{IsLineOf}
-use Rattle.tsp_convert.proofs.NamesApart.{name_text-injective}
+use Rattle.tsp_convert.{proofs.NamesApart.name_text-injective, specs.Packs.IsLineOf}
 
 abbrev IsShort : ℤ → Type 0
 IsShort t = (negsuc 2147483647999999 ≤ℤ t) × (t <ℤ pos 2147483648000000)

@@ -1,11 +1,9 @@
 -- Texts that are the same are one name's.
-use Rattle.std.proofs.Common.{◌≡◌, ℕ, ◌<◌, List, [], ◌∷◌, ◌++◌, suc, Bool, true, false, Ok, take, drop, refl, sym, ap, ◌∙◌}
-use Rattle.std.specs.Prelude.{flat_map, if◌then◌else◌}
+use Rattle.std.proofs.Common.{◌≡◌, ℕ, ◌<◌, List, [], ◌∷◌, ◌++◌, suc, Bool, true, false, Ok, take, drop, refl, sym, ap, ◌∙◌, flat_map, if◌then◌else◌}
 use Rattle.hex.specs.Hex.{encode_lower, encode_with, decode_of, IsBytes}
 use Rattle.hex.proofs.HexLemmas.{decode_of-encode_lower}
 use Rattle.tsp_script.specs.Texts.{is_plain, escaped, name_text}
-use Rattle.tsp_script.proofs.Outcomes.{true_or_false}
-use Rattle.tsp_script.proofs.NameTexts.{IsBytes-one, escaped_some, name_empty}
+use Rattle.tsp_script.proofs.{NameTexts.IsBytes-one, NameTexts.escaped_some, NameTexts.name_empty, Outcomes.true_or_false}
 
 -- the digits of one octet
 digits_apart : (c d : ℕ) (r s : List ℕ) → c < 256 → d < 256 → encode_lower (c ∷ []) ++ r ≡ encode_lower (d ∷ []) ++ s → (c ≡ d) × (r ≡ s)

@@ -1,20 +1,14 @@
 -- Lines that were shown come back.
 use Rattle.std.proofs.Common.{◌≡◌, ℕ, ◌≤◌, List, [], ◌∷◌, ◌++◌, suc, inl, map, length, refl, sym, ap, ◌∙◌, append-nil, arith}
-use Rattle.std.proofs.lemmas.List.Elements.{All-cons}
-use Rattle.std.specs.List.{All, AllZip}
+use Rattle.std.{proofs.lemmas.List.Elements.All-cons, specs.List.All, specs.List.AllZip}
 use Rattle.hex.specs.Hex.{encode_lower}
 use Rattle.tsp_base.specs.declared.datagram.Datagram.{Datagram}
 use Rattle.tsp_codec.specs.Canon.{canon}
 use Rattle.tsp_script.specs.Texts.{message_text}
-use Rattle.tsp_lines.specs.Answers.{IsAnswer}
-use Rattle.tsp_lines.specs.Lines.{NoFeed, closed, AreLines}
-use Rattle.tsp_lines.specs.declared.treat.Outcome.TheVariants.{Ok as Done}
+use Rattle.tsp_lines.specs.{Answers.IsAnswer, Lines.NoFeed, Lines.closed, Lines.AreLines, declared.treat.Outcome.TheVariants.Ok as Done}
 use Rattle.tsp_lines.proofs.OneCut.{AreLines-one}
-use Rattle.tsp_convert.specs.Packs.{IsLineOf, pack_meaning}
-use Rattle.tsp_convert.specs.Returns.{IsWritten}
-use Rattle.tsp_convert.specs.Shows.{IsHexLineOf, show_meaning}
-use Rattle.tsp_convert.proofs.Feedless.{NoFeed-message_text}
-use Rattle.tsp_convert.proofs.Hexes.{IsHexLineOf-one, IsHexLineOf-in_ranges}
+use Rattle.tsp_convert.specs.{Packs.IsLineOf, Packs.pack_meaning, Returns.IsWritten, Shows.IsHexLineOf, Shows.show_meaning}
+use Rattle.tsp_convert.proofs.{Feedless.NoFeed-message_text, Hexes.IsHexLineOf-one, Hexes.IsHexLineOf-in_ranges}
 
 -- the lines of datagrams in hexadecimal
 lines_of : (lines : List (List ℕ)) (ds : List Datagram) → AllZip IsHexLineOf lines ds → AllZip IsLineOf (map message_text ds) ds

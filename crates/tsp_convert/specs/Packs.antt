@@ -4,10 +4,8 @@ use Rattle.std.specs.List.{All, AllZip}
 use Rattle.hex.specs.Hex.{encode_lower}
 use Rattle.tsp_base.specs.declared.datagram.Datagram.{Datagram}
 use Rattle.tsp_codec.specs.Canon.{canon}
-use Rattle.tsp_lines.specs.Lines.{NoFeed, closed, AreLines}
-use Rattle.tsp_lines.specs.Meanings.{Meaning}
-use Rattle.tsp_script.specs.Ranges.{IsDatagram}
-use Rattle.tsp_script.specs.Texts.{message_text}
+use Rattle.tsp_lines.specs.{Lines.NoFeed, Lines.closed, Lines.AreLines, Meanings.Meaning}
+use Rattle.tsp_script.specs.{Ranges.IsDatagram, Texts.message_text}
 
 -- the line is the message line of this datagram, which is in its ranges
 abbrev pub IsLineOf : List ℕ → Datagram → Type 0

@@ -2,14 +2,10 @@
 use Rattle.std.specs.Prelude.{◌≡◌, ℕ, ◌<◌, ◌≤◌, ◌⊎◌, List, [], length, map, codes, Ok, IsErr}
 use Rattle.std.specs.List.{All, AllZip}
 use Rattle.hex.specs.Hex.{decode_of}
-use Rattle.tsp_base.specs.declared.datagram.Datagram.{Datagram}
-use Rattle.tsp_base.specs.declared.datagram.DecodeFault.{DecodeFault}
-use Rattle.tsp_codec.specs.Spelling.{Spells}
-use Rattle.tsp_codec.specs.Faults.{IsFault}
-use Rattle.tsp_lines.specs.Lines.{NoFeed, closed, AreLines}
-use Rattle.tsp_lines.specs.Meanings.{Meaning}
-use Rattle.tsp_script.specs.Texts.{message_text}
-use Rattle.tsp_script.specs.Traces.{fault_word}
+use Rattle.tsp_base.specs.declared.datagram.{Datagram.Datagram, DecodeFault.DecodeFault}
+use Rattle.tsp_codec.specs.{Faults.IsFault, Spelling.Spells}
+use Rattle.tsp_lines.specs.{Lines.NoFeed, Lines.closed, Lines.AreLines, Meanings.Meaning}
+use Rattle.tsp_script.specs.{Texts.message_text, Traces.fault_word}
 
 -- the line is these octets in hexadecimal, in either case of the letters
 abbrev pub IsHex : List ℕ → List ℕ → Type 0

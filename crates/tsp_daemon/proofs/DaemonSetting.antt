@@ -1,16 +1,12 @@
 -- Every daemon has a setting.
-use Rattle.std.specs.Prelude.{◌≡◌, ℕ, zero, suc, ◌+◌, ◌<◌, ◌==◌, ℤ, pos, ◌-ℤ◌, true, List, [], ◌∷◌, length, map, Option, None, Some, slice_get, slice_index_or, refl}
-use Rattle.std.specs.List.{range_with_len}
-use Rattle.std.proofs.Common.{ap, arith, eq-eqb}
-use Rattle.std.proofs.lemmas.Int.{ints}
+use Rattle.std.proofs.Common.{ap, arith, eq-eqb, ◌≡◌, ℕ, zero, suc, ◌+◌, ◌<◌, ◌==◌, ℤ, pos, ◌-ℤ◌, true, List, [], ◌∷◌, length, map, Option, None, Some, slice_get, slice_index_or, refl}
+use Rattle.std.{proofs.lemmas.Int.ints, specs.List.range_with_len}
 use Rattle.tsp_args.specs.declared.serve.ServeWords.{ServeWords}
-use Rattle.tsp_rules.specs.Values.{PeerId, Port}
 use Rattle.tsp_base.specs.Words.{is_among}
 use Rattle.tsp_io.specs.declared.addr.Addr.{Addr}
 use Rattle.tsp_promises.specs.Setting.{Alone, Named, Network, Setting}
-use Rattle.tsp_rules.specs.NodeRows.{PortSetup, no_port}
-use Rattle.tsp_daemon.specs.Kept.{SetByWords}
-use Rattle.tsp_daemon.specs.Nodes.{is_strict, numbered_peer, setups_from}
+use Rattle.tsp_rules.specs.{NodeRows.PortSetup, NodeRows.no_port, Values.PeerId, Values.Port}
+use Rattle.tsp_daemon.specs.{Kept.SetByWords, Nodes.is_strict, Nodes.numbered_peer, Nodes.setups_from}
 use Rattle.tsp_run.proofs.NetworkLemmas.{port_named}
 
 -- each port is on a network of its own

@@ -1,14 +1,11 @@
 -- Lines that are written one after the other, and how far their writing came.
-use Rattle.std.specs.Prelude.{◌≡◌, ℕ, ◌+◌, ◌<◌, List, ◌++◌, length, take, drop, Option}
-use Rattle.std.proofs.Common.{ap, sym, ◌∙◌, append_assoc, arith, get_or, length-append, length-drop, take-append-drop}
+use Rattle.std.proofs.Common.{ap, sym, ◌∙◌, append_assoc, arith, get_or, length-append, length-drop, take-append-drop, ◌≡◌, ℕ, ◌+◌, ◌<◌, List, ◌++◌, length, take, drop, Option}
 use Rattle.std.proofs.lemmas.List.{drop_more}
 use Rattle.tsp_rules.specs.Values.{Placed}
 use Rattle.tsp_io.specs.Streams.{Grows}
 use Rattle.tsp_lines.proofs.Outputs.{Grows-trans}
-use Rattle.tsp_daemon.specs.declared.end.ServeEnd.{ServeEnd}
 use Rattle.tsp_daemon.specs.declared.end.ServeEnd.TheVariants.{Done, LinkFault, WriteFault, OutOfMemory}
-use Rattle.tsp_daemon.specs.Ends.{CutsShort, TellsUntil}
-use Rattle.tsp_daemon.specs.Posts.{send_of, line_of, act_lines}
+use Rattle.tsp_daemon.specs.{Ends.CutsShort, Ends.TellsUntil, Posts.send_of, Posts.line_of, Posts.act_lines, declared.end.ServeEnd.ServeEnd}
 
 -- the lines of acts from a place on are that of the act there, and those of the acts behind it
 pub lines_here : (turn tick number : ℕ) (acts : List Placed) (i : ℕ) (item : Placed) → i < length acts → get_or acts i item ≡ item →

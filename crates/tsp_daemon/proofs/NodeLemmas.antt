@@ -1,18 +1,12 @@
 -- The daemon's node can boot, and then stands for its first past.
-use Rattle.std.specs.Prelude.{◌≡◌, ℕ, zero, suc, ◌+◌, ◌*◌, ◌^◌, ◌<◌, ◌≤◌, List, [], ◌∷◌, ◌++◌, length, map, drop, slice_get, slice_index, Some}
-use Rattle.std.proofs.Common.{ap, sym, ◌∙◌, arith, refl, subst, length-append, append_assoc}
-use Rattle.std.proofs.lemmas.List.{drop_more, get_or-map, length-map}
-use Rattle.std.proofs.lemmas.Option.{get_or_from_slice_get, slice_get_within}
-use Rattle.std.proofs.lemmas.List.FromFn.{length-map-range_with_len, get_or-map-range_with_len}
-use Rattle.std.specs.List.{range_with_len}
-use Rattle.tsp_rules.specs.Values.{PeerId}
+use Rattle.std.proofs.Common.{ap, sym, ◌∙◌, arith, refl, subst, length-append, append_assoc, ◌≡◌, ℕ, zero, suc, ◌+◌, ◌*◌, ◌^◌, ◌<◌, ◌≤◌, List, [], ◌∷◌, ◌++◌, length, map, drop, slice_get, slice_index, Some}
+use Rattle.std.proofs.lemmas.List.{drop_more, get_or-map, length-map, FromFn.length-map-range_with_len, FromFn.get_or-map-range_with_len}
+use Rattle.std.{proofs.lemmas.Option.get_or_from_slice_get, proofs.lemmas.Option.slice_get_within, specs.List.range_with_len}
 use Rattle.tsp_node.specs.Configs.{IsPortSetup}
-use Rattle.tsp_gateway.specs.GateConfigs.{AreGatePorts, peers_of_ports}
-use Rattle.tsp_gateway.specs.Rooms.{room_of_ports}
+use Rattle.tsp_gateway.specs.{GateConfigs.AreGatePorts, GateConfigs.peers_of_ports, Rooms.room_of_ports}
 use Rattle.tsp_io.specs.declared.addr.Addr.{Addr}
-use Rattle.tsp_rules.specs.NodeRows.{PortSetup}
-use Rattle.tsp_args.specs.Ports.{all_peers}
-use Rattle.tsp_args.specs.declared.serve.ServeWords.{ServeWords}
+use Rattle.tsp_rules.specs.{NodeRows.PortSetup, Values.PeerId}
+use Rattle.tsp_args.specs.{Ports.all_peers, declared.serve.ServeWords.ServeWords}
 use Rattle.tsp_daemon.specs.Nodes.{numbered_peer, port_peers, numbered_setup, setups_from, daemon_config}
 
 -- a port has one peer more than it has behind the daemon

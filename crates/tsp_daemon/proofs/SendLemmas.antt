@@ -1,12 +1,9 @@
 -- Sends and lines, a few at a time.
-use Rattle.std.specs.Prelude.{◌≡◌, ℕ, ◌+◌, ◌<◌, List, ◌++◌, length, Option, None, Some}
-use Rattle.std.specs.Option.{option_map}
-use Rattle.std.proofs.Common.{ap, ◌∙◌, append_assoc, get_or, drop}
-use Rattle.std.proofs.lemmas.List.{drop_more}
+use Rattle.std.proofs.Common.{ap, ◌∙◌, append_assoc, get_or, drop, ◌≡◌, ℕ, ◌+◌, ◌<◌, List, ◌++◌, length, Option, None, Some}
+use Rattle.std.{proofs.lemmas.List.drop_more, specs.Option.option_map}
 use Rattle.tsp_rules.specs.Values.{Placed}
 use Rattle.tsp_io.specs.Links.{Tried}
-use Rattle.tsp_daemon.specs.Ends.{TriesAll}
-use Rattle.tsp_daemon.specs.Posts.{send_of, sends_of}
+use Rattle.tsp_daemon.specs.{Ends.TriesAll, Posts.send_of, Posts.sends_of}
 
 -- sends, and then others
 pub TriesAll-trans : (a b c : Option (List Tried)) (xs ys : List Tried) → TriesAll xs a b → TriesAll ys b c → TriesAll (xs ++ ys) a c

@@ -1,28 +1,17 @@
 -- From the readings of a boot to the session that follows it.
-use Rattle.std.specs.Prelude.{◌≡◌, ℕ, ◌≤◌, ℤ, true, List, Option, Some}
+use Rattle.std.proofs.Common.{arith, ap, ◌∙◌, subst, refl, ◌≡◌, ℕ, ◌≤◌, ℤ, true, List, Option, Some}
 use Rattle.std.specs.Option.{option_map}
-use Rattle.std.proofs.Common.{arith, ap, ◌∙◌, subst, refl}
-use Rattle.tsp_query.specs.Arrivals.{all_but_first}
-use Rattle.tsp_daemon.specs.declared.end.ServeEnd.{ServeEnd}
+use Rattle.tsp_query.specs.{Arrivals.all_but_first, Clocks.tick_given, Ends.Outside, Ends.KnowsExactly, Outside.Observed}
 use Rattle.tsp_daemon.specs.declared.end.ServeEnd.TheVariants.{Done, LinkFault, WriteFault, OutOfMemory}
-use Rattle.tsp_daemon.specs.Ends.{IsAt, Serves, ServesUntil}
-use Rattle.tsp_daemon.specs.Sessions.{Session, read_once}
-use Rattle.tsp_daemon.proofs.SessionFits.{session_kept}
+use Rattle.tsp_daemon.specs.{Ends.IsAt, Ends.Serves, Ends.ServesUntil, Nodes.first_past, Sessions.Session, Sessions.read_once}
+use Rattle.tsp_daemon.{proofs.SessionFits.session_kept, specs.declared.exit.DaemonExit.DaemonExit}
 use Rattle.tsp_query.proofs.AskLemmas.{reading_taken}
-use Rattle.tsp_gateway.specs.declared.gateway.Gateway.{Gateway}
-use Rattle.tsp_gateway.specs.GatewayStands.{GatewayStands}
-use Rattle.tsp_io.specs.Clocks.{TakesReading}
-use Rattle.tsp_io.specs.Links.{Arrival, Tried}
-use Rattle.tsp_query.specs.Clocks.{tick_given}
-use Rattle.tsp_query.specs.Ends.{Outside, KnowsExactly}
-use Rattle.tsp_query.specs.Outside.{Observed}
+use Rattle.tsp_gateway.specs.{GatewayStands.GatewayStands, declared.gateway.Gateway.Gateway}
+use Rattle.tsp_io.specs.{Clocks.TakesReading, Links.Arrival, Links.Tried}
 use Rattle.tsp_rules.specs.Guards.{is_clock_value}
-use Rattle.tsp_args.specs.Serves.{IsServe}
-use Rattle.tsp_args.specs.declared.serve.ServeWords.{ServeWords}
-use Rattle.tsp_daemon.specs.declared.exit.DaemonExit.{DaemonExit}
+use Rattle.tsp_args.specs.{Serves.IsServe, declared.serve.ServeWords.ServeWords}
 use Rattle.tsp_daemon.specs.declared.exit.DaemonExit.TheVariants.{BadWall, LinkFault as Faulty, WriteFault as Unwritten}
-use Rattle.tsp_daemon.specs.Nodes.{first_past}
-use Rattle.tsp_daemon.specs.Serving.{served_of, first_session, IsServed}
+use Rattle.tsp_daemon.specs.{Serving.served_of, Serving.first_session, Serving.IsServed, declared.end.ServeEnd.ServeEnd}
 
 -- what is told once the tick counter was read
 pub Tells_read : (o : Outside) (arrivals : Option (List Arrival)) (tried : Option (List Tried)) (calls : Option ℕ) (readings between now_readings : Option (List ℕ)) (last tick now_last : ℕ)

@@ -1,45 +1,26 @@
 -- The history of a daemon's node fits, whoever sends to it: its boot and each turn add a step that does.
-use Rattle.std.specs.Prelude.{◌≡◌, ℕ, zero, suc, ◌+◌, ◌*◌, ◌<◌, ◌≤◌, ◌==◌, if◌then◌else◌, ℤ, pos, negsuc, nat_abs, Bool, true, false, List, [], ◌∷◌, length, None, Some, slice_index_or, refl}
-use Rattle.std.proofs.Common.{sym, ap, ◌∙◌, subst, arith, inr}
+use Rattle.std.proofs.Common.{sym, ap, ◌∙◌, subst, arith, inr, ◌≡◌, ℕ, zero, suc, ◌+◌, ◌*◌, ◌<◌, ◌≤◌, ◌==◌, if◌then◌else◌, ℤ, pos, negsuc, nat_abs, Bool, true, false, List, [], ◌∷◌, length, None, Some, slice_index_or, refl}
 use Rattle.std.proofs.lemmas.Bool.{ne_eqb}
-use Rattle.tsp_args.specs.Serves.{IsServe}
-use Rattle.tsp_args.specs.declared.serve.ServeWords.{ServeWords}
+use Rattle.tsp_args.specs.{Serves.IsServe, declared.serve.ServeWords.ServeWords}
 use Rattle.tsp_rules.specs.Values.{Placed, PeerId, Place, Peer, Stranger, Port}
 use Rattle.tsp_base.specs.Words.{Acts, Begins, Booted, Cause, Line, Step, Turned, dids, of, view, first_port, joined, line_of, time_of, up, posted, tick_at}
 use Rattle.tsp_base.proofs.PlaceLemmas.{Within-all}
-use Rattle.tsp_gateway.specs.GateConfigs.{peers_of_ports}
-use Rattle.tsp_gateway.specs.PortOf.{has_other_peer, port_of_from}
-use Rattle.tsp_gateway.specs.Rooms.{room_of_ports}
-use Rattle.tsp_io.specs.Links.{Arrival}
-use Rattle.tsp_io.specs.declared.addr.Addr.{Addr}
-use Rattle.tsp_promises.specs.Dated.{SetsAt}
-use Rattle.tsp_promises.specs.Fits.{Fits, Finished}
-use Rattle.tsp_promises.specs.PortFits.{PortFits, setup_in}
+use Rattle.tsp_gateway.specs.{GateConfigs.peers_of_ports, PortOf.has_other_peer, PortOf.port_of_from, Rooms.room_of_ports}
+use Rattle.tsp_io.specs.{Links.Arrival, declared.addr.Addr.Addr}
+use Rattle.tsp_promises.specs.{Dated.SetsAt, Fits.Fits, Fits.Finished, PortFits.PortFits, PortFits.setup_in, StepFacts.StepEnds}
 use Rattle.tsp_promises.specs.Setting.{Setting, setup_of}
-use Rattle.tsp_promises.specs.StepFacts.{StepEnds}
-use Rattle.tsp_promises.proofs.ChainProof.{looped_in}
-use Rattle.tsp_promises.proofs.EverywhereLemmas.{Everywhere-from}
-use Rattle.tsp_promises.proofs.GateFacts.{AllPorts}
-use Rattle.tsp_promises.proofs.GateLeads.{GivenOn}
-use Rattle.tsp_promises.proofs.Known.{Ended, Fresh}
-use Rattle.tsp_promises.proofs.NodeLeads.{answers_all_end, begins_all, boots_all_lead}
-use Rattle.tsp_promises.proofs.OwnFitsProof.{fits_at}
+use Rattle.tsp_promises.proofs.{ChainProof.looped_in, EverywhereLemmas.Everywhere-from, GateFacts.AllPorts, GateLeads.GivenOn}
+use Rattle.tsp_promises.proofs.{Known.Ended, Known.Fresh, NodeLeads.answers_all_end, NodeLeads.begins_all, NodeLeads.boots_all_lead}
+use Rattle.tsp_promises.proofs.{OwnFitsProof.fits_at, SafeProof.safe, SetProof.sets_at}
 use Rattle.tsp_promises.proofs.RunLeads.{ended_later, ends_of, nothing-done, nothing-ends}
-use Rattle.tsp_promises.proofs.SafeProof.{safe}
-use Rattle.tsp_promises.proofs.SetProof.{sets_at}
-use Rattle.tsp_query.specs.Arrivals.{next_arrival}
-use Rattle.tsp_query.specs.Ends.{Outside}
+use Rattle.tsp_query.specs.{Arrivals.next_arrival, Ends.Outside}
 use Rattle.tsp_rules.specs.GateRows.{NodeGiven, NodeTurn, GotOn, answers_all, boots_all}
 use Rattle.tsp_rules.specs.NodeRows.{NodePast, NodeRow, PortSetup, in_node_step, no_port, on, on_port, port_setup, spread}
-use Rattle.tsp_run.specs.Networks.{room}
-use Rattle.tsp_run.proofs.BootLemmas.{boots-up}
+use Rattle.tsp_run.{proofs.BootLemmas.boots-up, proofs.RunFits.joined-time, proofs.RunLemmas.up_joined, specs.Networks.room}
 use Rattle.tsp_run.proofs.AnswersFit.{StepOk, boot_ok, got_ok, turn_ok}
 use Rattle.tsp_run.proofs.FitsLines.{ActsOn, AllAlive, AreOn, acts_fit, all_end, mark_line, posted_more}
-use Rattle.tsp_run.proofs.RunLemmas.{up_joined}
-use Rattle.tsp_run.proofs.RunFits.{joined-time}
-use Rattle.tsp_daemon.specs.Kept.{HistoryKept, SetByWords}
+use Rattle.tsp_daemon.specs.{Kept.HistoryKept, Kept.SetByWords, Serving.first_session}
 use Rattle.tsp_daemon.specs.Nodes.{daemon_config, first_past, is_strict, setups_from}
-use Rattle.tsp_daemon.specs.Serving.{first_session}
 use Rattle.tsp_daemon.specs.Sessions.{after_turns, turn_begun, turn_cause, given_in, given_of, port_from, read_once, Rises, turn_tick}
 use Rattle.tsp_daemon.proofs.NodeLemmas.{length-setups_from, room_is}
 

@@ -1,33 +1,22 @@
 -- How a turn lengthens a session.
-use Rattle.std.specs.Prelude.{◌≡◌, ◌<◌, ◌≤◌, ◌+◌, ◌||◌, ℕ, suc, Bool, List, [], ◌∷◌, ◌++◌, length, take, Option, Some, refl}
+use Rattle.std.proofs.Common.{ap, sym, subst, ◌∙◌, arith, inl, inr, ◌≡◌, ◌<◌, ◌≤◌, ◌+◌, ◌||◌, ℕ, suc, Bool, List, [], ◌∷◌, ◌++◌, length, take, Option, Some, refl}
 use Rattle.std.specs.Option.{option_map}
-use Rattle.std.proofs.Common.{ap, sym, subst, ◌∙◌, arith, inl, inr}
 use Rattle.tsp_rules.specs.Values.{Placed, Peer, Stranger}
 use Rattle.tsp_base.specs.Words.{dids, tracing}
 use Rattle.tsp_codec.specs.Taken.{taken_of}
-use Rattle.tsp_gateway.specs.declared.gateway.Gateway.{Gateway}
-use Rattle.tsp_gateway.specs.GatewayStands.{GatewayStands, GatewayBegun}
-use Rattle.tsp_gateway.specs.PortOf.{setups_in}
-use Rattle.tsp_gateway.proofs.PortOfLemmas.{setups-stand}
-use Rattle.tsp_gateway.proofs.StepLemmas.{GatewayBegun_in_step}
-use Rattle.tsp_io.specs.Clocks.{TakesReading}
-use Rattle.tsp_io.specs.Counts.{one_more}
+use Rattle.tsp_gateway.specs.{GatewayStands.GatewayStands, GatewayStands.GatewayBegun, PortOf.setups_in, declared.gateway.Gateway.Gateway}
+use Rattle.tsp_gateway.proofs.{PortOfLemmas.setups-stand, StepLemmas.GatewayBegun_in_step}
+use Rattle.tsp_io.specs.{Clocks.TakesReading, Counts.one_more, Streams.Grows, declared.link.Recv.Recv}
 use Rattle.tsp_io.specs.Links.{Arrival, Tried, ReceivesOne, TakesDatagram, TakesNothing}
-use Rattle.tsp_io.specs.Streams.{Grows}
-use Rattle.tsp_io.specs.declared.link.Recv.{Recv}
 use Rattle.tsp_io.specs.declared.link.Recv.TheVariants.{Datagram, Nothing, Failed}
 use Rattle.tsp_query.proofs.AskLemmas.{reading_taken}
-use Rattle.tsp_query.specs.Arrivals.{next_arrival, all_but_first}
-use Rattle.tsp_query.specs.Clocks.{tick_given}
-use Rattle.tsp_query.specs.Ends.{Outside, KnowsExactly}
+use Rattle.tsp_query.specs.{Arrivals.next_arrival, Arrivals.all_but_first, Clocks.tick_given, Ends.Outside, Ends.KnowsExactly}
 use Rattle.tsp_rules.specs.GateRows.{NodeGiven, NodeTurn, GotOn, answers_all}
-use Rattle.tsp_rules.specs.NodePerforms.{PerformsAll}
-use Rattle.tsp_rules.specs.NodeRows.{NodePast, PortSetup, spread}
-use Rattle.tsp_daemon.specs.declared.counters.Counters.{Counters}
+use Rattle.tsp_rules.specs.{NodePerforms.PerformsAll, NodeRows.NodePast, NodeRows.PortSetup, NodeRows.spread}
 use Rattle.tsp_daemon.specs.declared.end.ServeEnd.{ServeEnd}
 use Rattle.tsp_daemon.specs.declared.end.ServeEnd.TheVariants.{Done, LinkFault, WriteFault, OutOfMemory}
 use Rattle.tsp_daemon.specs.Ends.{given_by, TriesAll, FinishesUntil, Lives, IsAt, EndsTurn, ServesUntil}
-use Rattle.tsp_daemon.specs.Posts.{sends_of, shown_lines, AreKnown}
+use Rattle.tsp_daemon.specs.{Posts.sends_of, Posts.shown_lines, Posts.AreKnown, declared.counters.Counters.Counters}
 use Rattle.tsp_daemon.specs.Sessions.{Session, port_from, given_of, unheard, waited, turn_tick, given_in, turn_cause, turn_begun, acts_in_turn, past_after, shown_by_turn, turned, after_turns, Rises}
 use Rattle.tsp_daemon.proofs.StrangerLemmas.{is_strange_on, known_any, known_steps}
 

@@ -1,19 +1,14 @@
 -- A step of a node over its ports posts to a stranger only where it is given a stranger's datagram.
-use Rattle.std.specs.Prelude.{ℕ, ◌+◌, ◌*◌, Bool, true, false, if◌then◌else◌, List, [], ◌∷◌, ◌++◌, length, map, All, refl}
-use Rattle.std.proofs.Common.{subst, sym}
+use Rattle.std.proofs.Common.{subst, sym, ℕ, ◌+◌, ◌*◌, Bool, true, false, if◌then◌else◌, List, [], ◌∷◌, ◌++◌, length, map, All, refl}
 use Rattle.std.proofs.lemmas.List.Elements.{All-nil, All-cons, All-append, All-map, All-weaker}
 use Rattle.tsp_rules.specs.Values.{Act, Took, Post, Abandon, Placed, Message, Stamp, Taken, Good, Bad, Kind, LoopKind, Place, Peer, Stranger, Port}
 use Rattle.tsp_base.specs.Words.{Past, view, MessageValue, is_going, Row, placed, puts}
-use Rattle.tsp_rules.specs.Strangers.{is_stranger, IsKnown}
-use Rattle.tsp_rules.proofs.CalmBuilt.{calm_moving}
 use Rattle.tsp_rules.proofs.CalmSteps.{calm_handles, known_calm, taking, TakesFirst}
-use Rattle.tsp_rules.proofs.FewActs.{Calm}
-use Rattle.tsp_rules.specs.Answers.{takes, handles}
+use Rattle.tsp_rules.specs.{Answers.takes, Answers.handles, RoundRows.corrects, Strangers.is_stranger, Strangers.IsKnown}
 use Rattle.tsp_rules.specs.GateRows.{LoopStep, PassOver, GiveUp, Forward, NodeGiven, NodeTurn, GotOn, all_ports, answers_all, input_all, judge, in_charge, steers, stirred_ports, takes_kind, takes_loop, takes_message, takes_on, turns_on}
 use Rattle.tsp_rules.specs.NodeRows.{NodePast, NodeRow, abandons_on, for_ports, nothing_at_all, on, on_port, ◌and_then◌, reading_all, spread, stirring}
-use Rattle.tsp_rules.specs.RoundRows.{corrects}
 use Rattle.tsp_rules.proofs.BuiltAll.{AnyPort, BuiltAll, EmptyAll, ForPorts, MoreAll, On, ReadingAll, StirringAll, ThenAll, WhereAll}
-use Rattle.tsp_rules.proofs.BuiltPorts.{OwesStep, built_all_turns, built_heeds}
+use Rattle.tsp_rules.proofs.{BuiltPorts.OwesStep, BuiltPorts.built_all_turns, BuiltPorts.built_heeds, CalmBuilt.calm_moving, FewActs.Calm}
 use Rattle.tsp_rules.proofs.CalmBuilt.{answers_owed}
 use Rattle.tsp_daemon.specs.Posts.{AreKnown}
 

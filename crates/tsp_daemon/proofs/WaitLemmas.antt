@@ -1,20 +1,13 @@
 -- How long receives wait, turn by turn.
-use Rattle.std.specs.Prelude.{◌≡◌, ℕ, suc, ◌+◌, List, [], ◌∷◌, ◌++◌, Option, None, Some, refl}
-use Rattle.std.proofs.Common.{ap, inl, inr, sym, subst, ◌∙◌, append_assoc, arith}
-use Rattle.tsp_gateway.specs.declared.gateway.Gateway.{Gateway}
-use Rattle.tsp_gateway.specs.Dues.{IsNodeDue}
-use Rattle.tsp_gateway.specs.GatewayStands.{GatewayStands}
-use Rattle.tsp_io.specs.Clocks.{TakesReading}
-use Rattle.tsp_io.specs.Links.{Arrival, NotesReceive, Tried}
-use Rattle.tsp_query.specs.Clocks.{tick_given}
-use Rattle.tsp_query.specs.Ends.{Outside, KnowsExactly}
+use Rattle.std.proofs.Common.{ap, inl, inr, sym, subst, ◌∙◌, append_assoc, arith, ◌≡◌, ℕ, suc, ◌+◌, List, [], ◌∷◌, ◌++◌, Option, None, Some, refl}
+use Rattle.tsp_gateway.specs.{Dues.IsNodeDue, GatewayStands.GatewayStands, declared.gateway.Gateway.Gateway}
+use Rattle.tsp_io.specs.{Clocks.TakesReading, Links.Arrival, Links.NotesReceive, Links.Tried}
 use Rattle.tsp_rules.specs.NodeRows.{NodePast}
 use Rattle.tsp_daemon.specs.declared.end.ServeEnd.{ServeEnd}
 use Rattle.tsp_daemon.specs.declared.end.ServeEnd.TheVariants.{Done, LinkFault, WriteFault, OutOfMemory}
-use Rattle.tsp_daemon.specs.Ends.{EndsTurn, IsReceived}
-use Rattle.tsp_daemon.specs.Sessions.{Session, after_turns, read_once}
+use Rattle.tsp_daemon.specs.{Ends.EndsTurn, Ends.IsReceived, Sessions.Session, Sessions.after_turns, Sessions.read_once}
 use Rattle.tsp_daemon.specs.Waits.{NotesTurn, NotesWait, NotesWaits, wait_until}
-use Rattle.tsp_query.proofs.AskLemmas.{reading_taken}
+use Rattle.tsp_query.{proofs.AskLemmas.reading_taken, specs.Clocks.tick_given, specs.Ends.Outside, specs.Ends.KnowsExactly}
 
 -- the first reading of a turn
 pub first_reading : (o : Outside) (arrivals : Option (List Arrival)) (tried : Option (List Tried)) (calls : Option ℕ) (readings between : Option (List ℕ)) (last first : ℕ) →

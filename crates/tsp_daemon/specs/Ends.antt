@@ -2,22 +2,14 @@
 use Rattle.std.specs.Prelude.{◌≡◌, ◌⊎◌, ℕ, ◌+◌, ◌<◌, ◌≤◌, List, ◌++◌, length, take, Option, Some}
 use Rattle.std.specs.Option.{option_map}
 use Rattle.tsp_codec.specs.Taken.{taken_of}
-use Rattle.tsp_gateway.specs.declared.gateway.Gateway.{Gateway}
-use Rattle.tsp_gateway.specs.GatewayStands.{GatewayStands}
-use Rattle.tsp_io.specs.Links.{Arrival, Tried}
-use Rattle.tsp_io.specs.Streams.{Grows}
-use Rattle.tsp_io.specs.declared.link.Link.{Ghosts as LinkOf}
-use Rattle.tsp_io.specs.declared.link.Recv.{Recv}
+use Rattle.tsp_gateway.specs.{GatewayStands.GatewayStands, declared.gateway.Gateway.Gateway}
+use Rattle.tsp_io.specs.{Links.Arrival, Links.Tried, Streams.Grows, declared.link.Link.Ghosts as LinkOf, declared.link.Recv.Recv}
 use Rattle.tsp_io.specs.declared.link.Recv.TheVariants.{Datagram}
 use Rattle.tsp_query.specs.Ends.{Outside, KnowsExactly}
-use Rattle.tsp_rules.specs.GateRows.{NodeGiven, NodeTurn, GotOn}
-use Rattle.tsp_rules.specs.NodeRows.{NodePast, PortSetup}
-use Rattle.tsp_daemon.specs.declared.counters.Counters.{Counters}
-use Rattle.tsp_daemon.specs.declared.end.ServeEnd.{ServeEnd}
+use Rattle.tsp_rules.specs.{GateRows.NodeGiven, GateRows.NodeTurn, GateRows.GotOn, NodeRows.NodePast, NodeRows.PortSetup}
 use Rattle.tsp_daemon.specs.declared.end.ServeEnd.TheVariants.{Done, LinkFault, WriteFault, OutOfMemory}
-use Rattle.tsp_daemon.specs.Posts.{sends_of}
+use Rattle.tsp_daemon.specs.{Posts.sends_of, Waits.NotesWaits, declared.counters.Counters.Counters, declared.end.ServeEnd.ServeEnd}
 use Rattle.tsp_daemon.specs.Sessions.{Session, port_from, acts_in_turn, shown_by_turn, turned, after_turns, unheard, waited, Rises}
-use Rattle.tsp_daemon.specs.Waits.{NotesWaits}
 
 -- what a node with these ports is given by the answer of a receive
 abbrev pub given_by : List PortSetup → Recv → List ℕ → NodeGiven

@@ -1,15 +1,9 @@
 -- What the history of a daemon's own node keeps, whoever sends to it.
 use Rattle.std.specs.Prelude.{◌≡◌, ◌<◌, ℕ, ℤ, pos, ◌+ℤ◌, List, length, slice_index_or}
 use Rattle.tsp_args.specs.declared.serve.ServeWords.{ServeWords}
-use Rattle.tsp_rules.specs.Values.{Port}
 use Rattle.tsp_base.specs.Words.{Line}
-use Rattle.tsp_promises.specs.Dated.{SetsAt}
-use Rattle.tsp_promises.specs.Everywhere.{Everywhere}
-use Rattle.tsp_promises.specs.Fits.{Fits, Finished}
-use Rattle.tsp_promises.specs.Looped.{HopsAt}
-use Rattle.tsp_promises.specs.Safe.{Safe}
-use Rattle.tsp_promises.specs.Setting.{Setting}
-use Rattle.tsp_rules.specs.NodeRows.{no_port}
+use Rattle.tsp_promises.specs.{Dated.SetsAt, Everywhere.Everywhere, Fits.Fits, Fits.Finished, Looped.HopsAt, Safe.Safe, Setting.Setting}
+use Rattle.tsp_rules.specs.{NodeRows.no_port, Values.Port}
 use Rattle.tsp_daemon.specs.Nodes.{is_strict, setups_from}
 
 -- a setting of a daemon that booted at this tick with this wall clock: true time is counted in its own ticks, it is

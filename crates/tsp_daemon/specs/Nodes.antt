@@ -1,14 +1,12 @@
 -- The daemon's node, as its words set it up.
 use Rattle.std.specs.Prelude.{ℕ, ◌+◌, ℤ, Bool, true, false, List, [], ◌∷◌, length, map}
 use Rattle.std.specs.List.{range_with_len}
-use Rattle.tsp_rules.specs.Values.{PeerId}
 use Rattle.tsp_base.specs.Words.{Booted}
 use Rattle.tsp_gateway.specs.GateConfigs.{GateConfigValue}
 use Rattle.tsp_io.specs.declared.addr.Addr.{Addr}
-use Rattle.tsp_rules.specs.GateRows.{boots_all}
+use Rattle.tsp_rules.specs.{GateRows.boots_all, Values.PeerId}
 use Rattle.tsp_rules.specs.NodeRows.{NodePast, PortSetup, in_node_step, spread}
-use Rattle.tsp_args.specs.declared.serve.Candidacy.{Candidacy}
-use Rattle.tsp_args.specs.declared.serve.Candidacy.TheVariants.{Never, Plain, Strict}
+use Rattle.tsp_args.specs.declared.serve.Candidacy.{Candidacy, TheVariants.Never, TheVariants.Plain, TheVariants.Strict}
 use Rattle.tsp_args.specs.declared.serve.ServeWords.{ServeWords}
 
 -- the peer with this number

@@ -1,8 +1,7 @@
 -- The datagrams that acts send, and the lines that show acts.
 use Rattle.std.specs.Prelude.{ℕ, ◌+◌, Bool, if◌then◌else◌, List, [], ◌∷◌, ◌++◌, length, All}
-use Rattle.tsp_rules.specs.Values.{Act, Post, Placed}
 use Rattle.tsp_codec.specs.Canon.{canon}
-use Rattle.tsp_rules.specs.Strangers.{IsKnown}
+use Rattle.tsp_rules.specs.{Strangers.IsKnown, Values.Act, Values.Post, Values.Placed}
 use Rattle.tsp_io.specs.Links.{Tried}
 use Rattle.tsp_script.specs.Traces.{trace_text}
 

@@ -1,21 +1,16 @@
 -- What comes of a daemon that the words after `serve` ask for.
 use Rattle.std.specs.Prelude.{◌≡◌, ◌⊎◌, ℕ, ℤ, true, false, List, ◌∷◌, Option, Some, codes}
-use Rattle.tsp_daemon.specs.declared.end.ServeEnd.{ServeEnd}
 use Rattle.tsp_daemon.specs.declared.end.ServeEnd.TheVariants.{Done as AllTurns, LinkFault as Faulty, WriteFault as Unwritten, OutOfMemory as Refused}
 use Rattle.tsp_io.specs.Links.{Binding, NotesReceive}
 use Rattle.tsp_promises.specs.Setting.{Setting}
-use Rattle.tsp_args.specs.Ports.{all_peers}
-use Rattle.tsp_daemon.specs.Ends.{IsReceived, ServesUntil}
-use Rattle.tsp_daemon.specs.Kept.{HistoryKept, SetByWords}
-use Rattle.tsp_daemon.specs.Sessions.{Session, after_turns, read_once}
+use Rattle.tsp_args.specs.{Ports.all_peers, declared.serve.ServeWords.ServeWords}
+use Rattle.tsp_daemon.specs.{Ends.IsReceived, Ends.ServesUntil, Kept.HistoryKept, Kept.SetByWords, Nodes.first_past, Waits.NotesWaits}
+use Rattle.tsp_daemon.specs.{Sessions.Session, Sessions.after_turns, Sessions.read_once, declared.end.ServeEnd.ServeEnd}
 use Rattle.tsp_query.specs.Ends.{Outside, KnowsExactly}
 use Rattle.tsp_query.specs.Outside.{Observed, Knows, after_bind, WritesBeginning}
 use Rattle.tsp_rules.specs.Guards.{is_clock_value}
-use Rattle.tsp_args.specs.declared.serve.ServeWords.{ServeWords}
 use Rattle.tsp_daemon.specs.declared.exit.DaemonExit.{DaemonExit}
 use Rattle.tsp_daemon.specs.declared.exit.DaemonExit.TheVariants.{Done, BadWall, LinkFault, WriteFault, OutOfMemory}
-use Rattle.tsp_daemon.specs.Nodes.{first_past}
-use Rattle.tsp_daemon.specs.Waits.{NotesWaits}
 
 -- the line that is written if the wall clock is out of its range
 abbrev pub bad_wall : List ℕ

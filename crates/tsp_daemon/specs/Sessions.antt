@@ -4,11 +4,8 @@ use Rattle.tsp_rules.specs.Values.{Placed, Place, Peer, Stranger, Port}
 use Rattle.tsp_base.specs.Words.{Cause, Handed, Turned, dids, first_port, tracing}
 use Rattle.tsp_codec.specs.Taken.{taken_of}
 use Rattle.tsp_gateway.specs.PortOf.{port_of}
-use Rattle.tsp_io.specs.Counts.{one_more}
-use Rattle.tsp_io.specs.Links.{Arrival}
-use Rattle.tsp_query.specs.Arrivals.{next_arrival, all_but_first}
-use Rattle.tsp_query.specs.Clocks.{tick_given}
-use Rattle.tsp_query.specs.Ends.{Outside, after_wait}
+use Rattle.tsp_io.specs.{Counts.one_more, Links.Arrival}
+use Rattle.tsp_query.specs.{Arrivals.next_arrival, Arrivals.all_but_first, Clocks.tick_given, Ends.Outside, Ends.after_wait}
 use Rattle.tsp_rules.specs.GateRows.{NodeGiven, NodeTurn, GotOn, answers_all}
 use Rattle.tsp_rules.specs.NodeRows.{NodePast, PortSetup, in_node_step, spread}
 use Rattle.tsp_daemon.specs.Posts.{sends_of, shown_lines}

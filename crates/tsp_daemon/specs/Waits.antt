@@ -2,9 +2,8 @@
 use Rattle.std.specs.Prelude.{◌≡◌, ◌⊎◌, ℕ, zero, suc, ◌-◌, min, max, List, [], ◌∷◌, ◌++◌, Option, None, Some}
 use Rattle.tsp_gateway.specs.Dues.{IsNodeDue}
 use Rattle.tsp_io.specs.Links.{NotesReceive}
-use Rattle.tsp_daemon.specs.declared.end.ServeEnd.{ServeEnd}
 use Rattle.tsp_daemon.specs.declared.end.ServeEnd.TheVariants.{OutOfMemory}
-use Rattle.tsp_daemon.specs.Sessions.{Session, after_turns, read_once}
+use Rattle.tsp_daemon.specs.{Sessions.Session, Sessions.after_turns, Sessions.read_once, declared.end.ServeEnd.ServeEnd}
 
 -- how many microseconds to wait until the node's next alarm or repeat is due: at least 1,000, and at most 1,000,000
 abbrev pub wait_until : ℕ → ℕ → ℕ

@@ -1,33 +1,23 @@
 -- The calls that a date makes, beside what they leave alone.
-use Rattle.std.proofs.Common.{◌≡◌, ℕ, ℤ, ◌==◌, ◌&&◌, not, Bool, true, false, if◌then◌else◌, List, [], ◌∷◌, ◌++◌, Option, Some, None, refl, sym, ◌∙◌, ap}
-use Rattle.std.specs.Prelude.{MatchBool}
+use Rattle.std.proofs.Common.{◌≡◌, ℕ, ℤ, ◌==◌, ◌&&◌, not, Bool, true, false, if◌then◌else◌, List, [], ◌∷◌, ◌++◌, Option, Some, None, refl, sym, ◌∙◌, ap, MatchBool}
 use Rattle.std.proofs.lemmas.Bool.{false≢true, ne_eqb, and_parts}
 use Rattle.tsp_rules.specs.Values.{Correct, Acked, Leave, Placed, Message, Good, Kind, AdjTime, SetDateReq, SetTime, PeerId, Place, Peer, Stranger, Port, Role, Follow}
 use Rattle.tsp_base.specs.Words.{Past, MessageValue, is_among, Keeps, Performs, Received, acting, said, said_by, taken, Row, either_by, for_each, grown, nothing, posts_time, puts, reading, Sending, correcting_of, corrects_in, dating_of, is_correction, is_set_date_request, last_asked, last_date, open_send, sets_date}
 use Rattle.tsp_base.proofs.PerformsLemmas.{Keeps_each, Keeps_reading, Performs_else_part, Performs_nothing, Performs_then_part}
-use Rattle.tsp_rules.specs.Answers.{from_peer}
-use Rattle.tsp_rules.specs.ClockRows.{sets}
+use Rattle.tsp_rules.specs.{Answers.from_peer, ClockRows.sets, Guards.is_heard, Guards.is_starting_role, Guards.table_at}
 use Rattle.tsp_rules.specs.DateRows.{answers_date, date_acked_in, has_date, leaves, leaves_all}
 use Rattle.tsp_rules.specs.SendRows.{begins_timed, next_number}
-use Rattle.tsp_rules.specs.Guards.{is_heard, is_starting_role, table_at}
 use Rattle.tsp_rules.proofs.Emits.{Sort, Acking, Passing, Posting, Tabling, Emits, Emits_each, Emits_more, Emits_posts_time, Emits_puts, Emits_reading, Keeps_by}
-use Rattle.tsp_acks.specs.declared.station.Station.{Station}
-use Rattle.tsp_acks.specs.Stands.{StationStands, StandsActing}
-use Rattle.tsp_acks.proofs.ActingLemmas.{taken-acts}
-use Rattle.tsp_acks.proofs.StandsLemmas.{Stands_idle}
-use Rattle.tsp_clock.specs.Clocks.{ClockValue}
-use Rattle.tsp_clock.specs.ClockStands.{ClockStands}
+use Rattle.tsp_acks.specs.{Stands.StationStands, Stands.StandsActing, declared.station.Station.Station}
+use Rattle.tsp_acks.proofs.{ActingLemmas.taken-acts, StandsLemmas.Stands_idle}
+use Rattle.tsp_clock.specs.{ClockStands.ClockStands, Clocks.ClockValue}
 use Rattle.tsp_slave.specs.SlaveStands.{AlsoState, AlsoStands}
 use Rattle.tsp_slave.proofs.BesideLemmas.{AlsoStands_by, beside_sorts}
-use Rattle.tsp_measure.specs.declared.entry.Entry.{Entry}
-use Rattle.tsp_measure.specs.Slaves.{Changes, acks_where, entry_of}
-use Rattle.tsp_master.specs.declared.master.Master.{Master}
-use Rattle.tsp_master.specs.MasterStands.{MasterStands}
-use Rattle.tsp_master.proofs.MasterLemmas.{MasterStands_aside}
+use Rattle.tsp_measure.specs.{Slaves.Changes, Slaves.acks_where, Slaves.entry_of, declared.entry.Entry.Entry}
+use Rattle.tsp_master.{proofs.MasterLemmas.MasterStands_aside, specs.MasterStands.MasterStands, specs.declared.master.Master.Master}
 use Rattle.tsp_master.proofs.TableLemmas.{MasterStands_changed, MasterStands_quiet, acked-after, quiet_sorts}
 use Rattle.tsp_date.specs.Dates.{DatesValue, last_in, peers_of}
-use Rattle.tsp_date.specs.DateStands.{DatesStand, DateState, DateStands}
-use Rattle.tsp_date.proofs.KeepLemmas.{DatesStand_by}
+use Rattle.tsp_date.{proofs.KeepLemmas.DatesStand_by, specs.DateStands.DatesStand, specs.DateStands.DateState, specs.DateStands.DateStands}
 
 -- posts that are no sends
 abbrev pub posting : List Sort

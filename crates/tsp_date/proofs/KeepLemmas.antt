@@ -4,8 +4,7 @@ use Rattle.std.proofs.lemmas.Bool.{false≢true, and_left}
 use Rattle.tsp_rules.specs.Values.{Act, Boot, Took, Post, Correct, Message, Kind, SetDateReq, PeerId, Place}
 use Rattle.tsp_base.specs.Words.{Past, Seen, MessageValue, Keeps, Said, acting, said, taken, Row, grown, puts, Dating, dating_of, is_date_request, is_set_date_request, last_asked, last_date}
 use Rattle.tsp_rules.proofs.Emits.{Sort, Taking, Asking, Correcting, Numbering, Posting, Leading, Following, Changing, Backing, Counting, Rounding, Alarming, Tabling, Rivalling, Acking, Giving, Sampling, Closing, Moving, Tracing, is_in, sort_of, sort_of_kind, Emits, Keeps_by}
-use Rattle.tsp_date.specs.Dates.{DatesValue}
-use Rattle.tsp_date.specs.DateStands.{DatesStand}
+use Rattle.tsp_date.specs.{DateStands.DatesStand, Dates.DatesValue}
 
 -- the post of a message that begins no passing on of a date: another message, or a repeat
 asked-other : (b : Bool) (x : ℕ) (seen : List Seen) → b ≡ false → (if b then Some x else last_asked seen) ≡ last_asked seen

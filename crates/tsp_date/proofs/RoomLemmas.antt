@@ -1,6 +1,5 @@
 -- The room of the calls that tell of a date.
-use Rattle.std.specs.Prelude.{ℕ, ◌+◌, ◌*◌, List}
-use Rattle.std.proofs.Common.{arith}
+use Rattle.std.proofs.Common.{arith, ℕ, ◌+◌, ◌*◌, List}
 use Rattle.tsp_rules.specs.Values.{Placed}
 use Rattle.tsp_base.specs.Words.{PutsAtMost, PutsExactly}
 

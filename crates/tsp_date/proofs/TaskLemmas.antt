@@ -4,15 +4,12 @@ use Rattle.std.proofs.lemmas.Bool.{false≢true}
 use Rattle.tsp_rules.specs.Values.{Placed, Kind, Date, DateAck, DateReq, SetDate, SetDateReq, PeerId, Place, Peer, Stranger, Port, Role, Follow, Master}
 use Rattle.tsp_base.specs.Words.{Past, MessageValue, Performs, role, either_by, reading, is_date_request, sets_date, time_in}
 use Rattle.tsp_base.proofs.PerformsLemmas.{Performs_same}
-use Rattle.tsp_rules.specs.Answers.{from_peer, handles_kind}
+use Rattle.tsp_rules.specs.{Answers.from_peer, Answers.handles_kind, Guards.is_heard}
 use Rattle.tsp_rules.specs.DateRows.{date_acked, date_in, date_of, date_request_in, date_request_of, is_dated, is_last, sets_in_charge}
-use Rattle.tsp_rules.specs.Guards.{is_heard}
 use Rattle.tsp_acks.specs.Stands.{StationStands}
-use Rattle.tsp_date.specs.declared.task.Task.{Task}
 use Rattle.tsp_date.specs.declared.task.Task.TheVariants.{AnswerAgain, Nothing, Set}
-use Rattle.tsp_date.specs.Dates.{DatesValue, last_in}
-use Rattle.tsp_date.specs.DateStands.{DatesStand, DateState, DateStands}
-use Rattle.tsp_date.specs.Tasks.{task_row}
+use Rattle.tsp_date.specs.{DateStands.DatesStand, DateStands.DateState, DateStands.DateStands, Dates.DatesValue, Dates.last_in}
+use Rattle.tsp_date.specs.{Tasks.task_row, declared.task.Task.Task}
 
 -- what kind of message has which row
 pub handles-date : (charge : Bool) (from : Place) (m : MessageValue) (k : Kind) → sets_date k ≡ true → is_date_request k ≡ false → handles_kind charge from m k ≡ date_of charge from m

@@ -2,13 +2,10 @@
 use Rattle.std.specs.Prelude.{◌≡◌, ℕ, Bool, true, false, Option, None, Some}
 use Rattle.tsp_rules.specs.Values.{Kind, DateAck, PeerId}
 use Rattle.tsp_base.specs.Words.{Past, Received, taken, last_asked, last_date, sets_date}
-use Rattle.tsp_acks.specs.declared.station.Station.{Station}
-use Rattle.tsp_acks.specs.Stands.{StationStands}
-use Rattle.tsp_clock.specs.Clocks.{ClockValue}
-use Rattle.tsp_clock.specs.ClockStands.{ClockStands}
+use Rattle.tsp_acks.specs.{Stands.StationStands, declared.station.Station.Station}
+use Rattle.tsp_clock.specs.{ClockStands.ClockStands, Clocks.ClockValue}
 use Rattle.tsp_slave.specs.Lasts.{LastValue, Remembers}
-use Rattle.tsp_master.specs.declared.master.Master.{Master}
-use Rattle.tsp_master.specs.MasterStands.{MasterStands}
+use Rattle.tsp_master.specs.{MasterStands.MasterStands, declared.master.Master.Master}
 use Rattle.tsp_date.specs.Dates.{DatesValue, last_in, peers_of}
 
 -- the dates are what the port's past comes to

@@ -2,8 +2,7 @@
 use Rattle.std.specs.Prelude.{ℕ, ◌==◌, if◌then◌else◌, List, [], ◌∷◌, map, Option, None, Some}
 use Rattle.tsp_rules.specs.Values.{PeerId}
 use Rattle.tsp_base.specs.Words.{Dating}
-use Rattle.tsp_date.specs.declared.dates.Date.{Date}
-use Rattle.tsp_date.specs.declared.dates.Dated.{Dated}
+use Rattle.tsp_date.specs.declared.dates.{Date.Date, Dated.Dated}
 
 -- each peer with its last date, and the tick at which the port last began to pass one on
 pub record DatesValue : Type 0 where

@@ -1,7 +1,6 @@
 -- What a port does with a message that sets a date or passes one on.
-use Rattle.tsp_rules.specs.Values.{DateAck, Place}
 use Rattle.tsp_base.specs.Words.{MessageValue, Row, nothing, posts, time_in}
-use Rattle.tsp_rules.specs.DateRows.{passes_on, sets_date_where}
+use Rattle.tsp_rules.specs.{DateRows.passes_on, DateRows.sets_date_where, Values.DateAck, Values.Place}
 use Rattle.tsp_date.specs.declared.task.Task.{Task}
 use Rattle.tsp_date.specs.declared.task.Task.TheVariants.{Nothing, PassOn, AnswerAgain, Set}
 

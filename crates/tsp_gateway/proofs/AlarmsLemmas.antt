@@ -1,13 +1,10 @@
 -- A port's alarms, one after the other.
-use Rattle.std.proofs.Common.{◌≡◌, ◌+◌, ◌*◌, ◌<◌, ◌≤◌, ◌++◌, ◌∷◌, [], ℕ, zero, suc, List, length, take, drop, arith, refl, ap, append-nil, ◌∙◌}
-use Rattle.std.specs.Prelude.{slice_index_or}
+use Rattle.std.proofs.Common.{◌≡◌, ◌+◌, ◌*◌, ◌<◌, ◌≤◌, ◌++◌, ◌∷◌, [], ℕ, zero, suc, List, length, take, drop, arith, refl, ap, append-nil, ◌∙◌, slice_index_or}
 use Rattle.tsp_rules.specs.Values.{Placed, Alarm, Quiet, Probe, Port, ALL}
-use Rattle.tsp_rules.specs.GateRows.{alarm_on, alarms_on, each_on}
-use Rattle.tsp_rules.specs.NodePerforms.{PerformsAll}
+use Rattle.tsp_rules.specs.{GateRows.alarm_on, GateRows.alarms_on, GateRows.each_on, NodePerforms.PerformsAll}
 use Rattle.tsp_rules.specs.NodeRows.{NodePast, NodeRow, nothing_at_all, spread, ◌and_then◌}
 use Rattle.tsp_node.proofs.AlarmOrder.{take_one_more}
-use Rattle.tsp_gateway.specs.Rooms.{alarm_room, alarms_room}
-use Rattle.tsp_gateway.proofs.LiftLemmas.{All_nothing}
+use Rattle.tsp_gateway.{proofs.LiftLemmas.All_nothing, specs.Rooms.alarm_room, specs.Rooms.alarms_room}
 
 alarms_room-more : (alarms : List Alarm) (a : Alarm) (peers : ℕ) → alarms_room (alarms ++ a ∷ []) peers ≡ alarms_room alarms peers + alarm_room a peers
 alarms_room-more [] a peers = omega arith

@@ -1,18 +1,11 @@
 -- What is asked of a node's ports, one after the other.
-use Rattle.std.specs.Prelude.{◌≡◌, ◌≢◌, ℕ, ◌<◌, ◌≤◌, ◌+◌, ◌==◌, nat_lt, ◌||◌, not, Bool, true, false, if◌then◌else◌, List, [], ◌∷◌, length, filter, refl}
-use Rattle.std.proofs.Common.{sym, subst, ap, arith, eq-eqb, eqb-true, get_or, true≢false, ◌∙◌}
+use Rattle.std.proofs.Common.{sym, subst, ap, arith, eq-eqb, eqb-true, get_or, true≢false, ◌∙◌, ◌≡◌, ◌≢◌, ℕ, ◌<◌, ◌≤◌, ◌+◌, ◌==◌, nat_lt, ◌||◌, not, Bool, true, false, if◌then◌else◌, List, [], ◌∷◌, length, filter, refl}
 use Rattle.std.proofs.lemmas.Bool.{lt-ltb, ltb-true, ne_eqb, not-true}
-use Rattle.tsp_rules.specs.Values.{Port}
-use Rattle.tsp_rules.specs.GateRows.{any_port, ports_from}
-use Rattle.tsp_rules.specs.NodeRows.{NodePast, PortSetup, on_port}
-use Rattle.tsp_acks.specs.declared.station.Station.{Station}
-use Rattle.tsp_acks.specs.Stands.{StationStands}
+use Rattle.tsp_rules.specs.{GateRows.any_port, GateRows.ports_from, NodeRows.NodePast, NodeRows.PortSetup, NodeRows.on_port, Values.Port}
+use Rattle.tsp_acks.specs.{Stands.StationStands, declared.station.Station.Station}
 use Rattle.tsp_node.specs.declared.part.Part.{Part}
-use Rattle.tsp_gateway.specs.declared.gateway.Gateway.{Gateway}
-use Rattle.tsp_gateway.specs.declared.leading.Asked.{Asked}
-use Rattle.tsp_gateway.specs.GatewayStands.{GatewayStands, port_at}
-use Rattle.tsp_gateway.specs.PortFacts.{any_lower, any_other, asked_on}
-use Rattle.tsp_gateway.specs.Rooms.{ports_in}
+use Rattle.tsp_gateway.specs.{GatewayStands.GatewayStands, GatewayStands.port_at, Rooms.ports_in, declared.gateway.Gateway.Gateway}
+use Rattle.tsp_gateway.specs.{PortFacts.any_lower, PortFacts.any_other, PortFacts.asked_on, declared.leading.Asked.Asked}
 use Rattle.tsp_gateway.proofs.LiftLemmas.{part_there}
 
 -- the station of a port stands

@@ -1,20 +1,15 @@
 -- What a port stands for while another port of its node acts.
-use Rattle.std.specs.Prelude.{◌≡◌, ℕ, ◌+ℤ◌, ◌||◌, Bool, true, false, List, [], ◌∷◌, Option, None, Some, refl}
-use Rattle.std.proofs.Common.{sym, subst, true≢false}
+use Rattle.std.proofs.Common.{sym, subst, true≢false, ◌≡◌, ℕ, ◌+ℤ◌, ◌||◌, Bool, true, false, List, [], ◌∷◌, Option, None, Some, refl}
 use Rattle.std.proofs.lemmas.Bool.{or_parts}
-use Rattle.tsp_rules.specs.Values.{Act, Boot, Correct}
 use Rattle.tsp_base.specs.Words.{Did, Past, plain, base, correct_tick, last_correct, moved, rest, ticket, acting, kept_name, taken, Correcting, last_taken}
-use Rattle.tsp_rules.specs.RoundRows.{corrects, is_correct}
-use Rattle.tsp_rules.proofs.NodeRowLemmas.{Bootless}
-use Rattle.tsp_rules.proofs.Asides.{all_aside, aside}
+use Rattle.tsp_rules.specs.{RoundRows.corrects, RoundRows.is_correct, Values.Act, Values.Boot, Values.Correct}
+use Rattle.tsp_rules.proofs.{Asides.all_aside, Asides.aside, NodeRowLemmas.Bootless}
 use Rattle.tsp_acks.specs.Stands.{StationStands}
-use Rattle.tsp_clock.specs.Clocks.{ClockValue}
-use Rattle.tsp_clock.specs.ClockStands.{ClockStands}
+use Rattle.tsp_clock.specs.{ClockStands.ClockStands, Clocks.ClockValue}
 use Rattle.tsp_date.specs.DateStands.{DatesStand}
 use Rattle.tsp_master.specs.MasterStands.{MasterStands}
 use Rattle.tsp_resolve.specs.ResolveStands.{ResolveStands}
-use Rattle.tsp_node.specs.declared.part.Part.{Part}
-use Rattle.tsp_node.specs.NodeStands.{PortStands, PortValue, port_with}
+use Rattle.tsp_node.specs.{NodeStands.PortStands, NodeStands.PortValue, NodeStands.port_with, declared.part.Part.Part}
 use Rattle.tsp_gateway.specs.Untold.{told}
 
 -- all that a port stands for but the clock, and which correction it remembers

@@ -1,19 +1,15 @@
 -- A node that has just booted.
-use Rattle.std.specs.Prelude.{◌≡◌, ◌⊎◌, ℕ, zero, suc, ◌<◌, ◌==◌, ℤ, true, false, List, [], ◌∷◌, ◌++◌, length, map, Some, slice_get, slice_index_or, refl}
-use Rattle.std.proofs.Common.{sym, subst, ap, arith, inl, inr, ◌∙◌}
+use Rattle.std.proofs.Common.{sym, subst, ap, arith, inl, inr, ◌∙◌, ◌≡◌, ◌⊎◌, ℕ, zero, suc, ◌<◌, ◌==◌, ℤ, true, false, List, [], ◌∷◌, ◌++◌, length, map, Some, slice_get, slice_index_or, refl}
 use Rattle.std.proofs.lemmas.Bool.{or_right}
 use Rattle.tsp_rules.specs.Values.{Boot, PeerId, Port}
 use Rattle.tsp_base.specs.Words.{Acts, Booted, Past, seen_as, view, first_port, line_of, grown}
 use Rattle.tsp_rules.specs.NodeRows.{NodePast, PortSetup, no_port, on_port, spread}
 use Rattle.tsp_acks.specs.Stands.{IsPortOf}
 use Rattle.tsp_clock.specs.ClockStands.{ClockStands}
-use Rattle.tsp_node.specs.declared.part.Part.{Part}
-use Rattle.tsp_node.specs.Configs.{IsPortSetup}
-use Rattle.tsp_node.specs.NodeStands.{PortStands, port_with}
+use Rattle.tsp_node.specs.{Configs.IsPortSetup, NodeStands.PortStands, NodeStands.port_with, declared.part.Part.Part}
 use Rattle.tsp_gateway.specs.declared.gateway.Gateway.{Gateway}
 use Rattle.tsp_gateway.specs.GateConfigs.{AreGatePorts, GateConfigValue, UnbootedNode, peers_of_ports}
-use Rattle.tsp_gateway.specs.GatewayStands.{GatewayStands, port_at}
-use Rattle.tsp_gateway.specs.PartsFresh.{AreFresh, me_on}
+use Rattle.tsp_gateway.specs.{GatewayStands.GatewayStands, GatewayStands.port_at, PartsFresh.AreFresh, PartsFresh.me_on}
 
 -- a port among those that a node can have
 pub port_in_place : (ports : List PortSetup) (q : ℕ) → AreGatePorts ports → q < length ports → IsPortSetup (slice_index_or ports q no_port)

@@ -1,20 +1,13 @@
 -- The earliest of several ports' deadlines.
-use Rattle.std.specs.Prelude.{◌≡◌, ◌⊎◌, ℕ, zero, suc, ◌<◌, false, min, List, [], ◌∷◌, ◌++◌, length, Option, None, Some, slice_get}
-use Rattle.std.proofs.Common.{refl, sym, ◌∙◌, ap, subst, inl, inr, arith}
-use Rattle.std.proofs.lemmas.Bool.{lt-leb}
-use Rattle.std.proofs.lemmas.Option.{same_Some}
+use Rattle.std.proofs.Common.{refl, sym, ◌∙◌, ap, subst, inl, inr, arith, ◌≡◌, ◌⊎◌, ℕ, zero, suc, ◌<◌, false, min, List, [], ◌∷◌, ◌++◌, length, Option, None, Some, slice_get}
+use Rattle.std.proofs.lemmas.{Bool.lt-leb, Option.same_Some}
 use Rattle.tsp_base.specs.Words.{earlier, least_deadline, Past}
-use Rattle.tsp_rules.specs.Guards.{is_over}
-use Rattle.tsp_rules.specs.NodeRows.{NodePast, on_port}
-use Rattle.tsp_sends.specs.Slots.{sending_to}
-use Rattle.tsp_sends.specs.Repeating.{IsEarliest}
-use Rattle.tsp_acks.specs.declared.station.Station.{Station}
-use Rattle.tsp_acks.specs.Stands.{StationStands}
-use Rattle.tsp_node.specs.NodeStands.{due_of}
-use Rattle.tsp_node.proofs.DueLemmas.{IsEarliest-open, neither_over}
-use Rattle.tsp_gateway.specs.declared.gateway.Gateway.{Gateway}
+use Rattle.tsp_rules.specs.{Guards.is_over, NodeRows.NodePast, NodeRows.on_port}
+use Rattle.tsp_sends.specs.{Repeating.IsEarliest, Slots.sending_to}
+use Rattle.tsp_acks.specs.{Stands.StationStands, declared.station.Station.Station}
+use Rattle.tsp_node.{proofs.DueLemmas.IsEarliest-open, proofs.DueLemmas.neither_over, specs.NodeStands.due_of}
 use Rattle.tsp_gateway.specs.Dues.{IsGatewayDue, IsNodeDue, IsPortDue, least_of}
-use Rattle.tsp_gateway.specs.GatewayStands.{GatewayStands, port_at}
+use Rattle.tsp_gateway.specs.{GatewayStands.GatewayStands, GatewayStands.port_at, declared.gateway.Gateway.Gateway}
 
 earlier_none : (a : Option ℕ) → earlier a None ≡ a
 earlier_none None = refl

@@ -1,27 +1,18 @@
 -- A port with nothing due has nothing to do in its turn.
-use Rattle.std.specs.Prelude.{◌≡◌, ◌<◌, ◌+◌, ℕ, not, Bool, true, false, length, List, [], ◌∷◌, Option, None, Some, slice_get, refl}
-use Rattle.std.proofs.Common.{ap, append-nil, arith, leb-false, sym, true≢false, ◌∙◌}
+use Rattle.std.proofs.Common.{ap, append-nil, arith, leb-false, sym, true≢false, ◌∙◌, ◌≡◌, ◌<◌, ◌+◌, ℕ, not, Bool, true, false, length, List, [], ◌∷◌, Option, None, Some, slice_get, refl}
 use Rattle.std.proofs.lemmas.Bool.{lt-leb}
 use Rattle.tsp_rules.specs.Values.{Placed, Alarm, Round, Probe, CloseAlarm, PeerId, Port, ALL}
 use Rattle.tsp_base.specs.Words.{least_deadline, Past, either_by, for_each, nothing, reading, ◌followed_by◌, Sending, deadline_of, open_send}
-use Rattle.tsp_rules.specs.Answers.{rings}
+use Rattle.tsp_rules.specs.{Answers.rings, Guards.is_due, Guards.is_over, NodePerforms.PerformsAll}
 use Rattle.tsp_rules.specs.GateRows.{alarm_on, alarms_on, begins_round_on, closes_on, each_on, loops_after, probes_on, turns_on}
-use Rattle.tsp_rules.specs.Guards.{is_due, is_over}
-use Rattle.tsp_rules.specs.NodePerforms.{PerformsAll}
 use Rattle.tsp_rules.specs.NodeRows.{NodePast, nothing_at_all, on, on_port, reading_all, stirring, ◌and_then◌}
 use Rattle.tsp_rules.specs.SendRows.{due_send, due_sends, repeats_send}
-use Rattle.tsp_sends.specs.Repeating.{IsEarliest, is_due_send}
-use Rattle.tsp_sends.specs.Slots.{sending_to}
-use Rattle.tsp_node.specs.declared.part.Part.{Part}
-use Rattle.tsp_node.specs.Dues.{IsPartDue}
-use Rattle.tsp_node.specs.NodeStands.{PortStands, port_with}
+use Rattle.tsp_sends.specs.{Repeating.IsEarliest, Repeating.is_due_send, Slots.sending_to}
+use Rattle.tsp_node.specs.{Dues.IsPartDue, NodeStands.PortStands, NodeStands.port_with, declared.part.Part.Part}
 use Rattle.tsp_node.proofs.DueLemmas.{alarm_waits, neither_over}
 use Rattle.tsp_clock.specs.Clocks.{ClockValue}
-use Rattle.tsp_gateway.specs.declared.gateway.Gateway.{Gateway}
-use Rattle.tsp_gateway.specs.Dues.{Waits}
-use Rattle.tsp_gateway.specs.GatewayStands.{GatewayTurning, port_at}
-use Rattle.tsp_gateway.specs.Rooms.{ports_in}
-use Rattle.tsp_gateway.proofs.LiftLemmas.{part_of}
+use Rattle.tsp_gateway.specs.{Dues.Waits, GatewayStands.GatewayTurning, GatewayStands.port_at, Rooms.ports_in}
+use Rattle.tsp_gateway.{proofs.LiftLemmas.part_of, specs.declared.gateway.Gateway.Gateway}
 
 -- no send is due before the earliest is
 send_waits : (sending : PeerId → Option Sending) (first : Option ℕ) (x : ℕ) → IsEarliest sending first → is_over first x ≡ false → (p : PeerId) → is_due_send x (sending p) ≡ false

@@ -1,13 +1,9 @@
 -- What a node makes of a LOOP.
-use Rattle.std.specs.Prelude.{◌≡◌, ℕ, ◌&&◌, nat_le, nat_lt, Bool, true, false, if◌then◌else◌, List, length, refl}
-use Rattle.std.proofs.Common.{sym, ap}
-use Rattle.tsp_rules.specs.Values.{Placed, Port, HOPS}
+use Rattle.std.proofs.Common.{sym, ap, ◌≡◌, ℕ, ◌&&◌, nat_le, nat_lt, Bool, true, false, if◌then◌else◌, List, length, refl}
 use Rattle.tsp_base.specs.Words.{MessageValue}
 use Rattle.tsp_rules.specs.GateRows.{Forward, GiveUp, LoopStep, PassOver, hops_in, judge, judges, one_hop_less, same_name, takes_loop_step}
-use Rattle.tsp_rules.specs.NodePerforms.{PerformsAll}
-use Rattle.tsp_rules.specs.NodeRows.{NodePast}
-use Rattle.tsp_gateway.specs.declared.gateway.Gateway.{Gateway}
-use Rattle.tsp_gateway.specs.GatewayStands.{GatewayStands, port_at}
+use Rattle.tsp_rules.specs.{NodePerforms.PerformsAll, NodeRows.NodePast, Values.Placed, Values.Port, Values.HOPS}
+use Rattle.tsp_gateway.specs.{GatewayStands.GatewayStands, GatewayStands.port_at, declared.gateway.Gateway.Gateway}
 use Rattle.tsp_gateway.proofs.LiftLemmas.{All_same}
 
 -- judged alike by equal names, numbers and ports

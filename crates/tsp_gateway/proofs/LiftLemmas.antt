@@ -1,31 +1,19 @@
 -- A port's call is one of its node.
-use Rattle.std.specs.Prelude.{◌≡◌, ◌≢◌, ℕ, zero, suc, ◌+◌, ◌<◌, ◌==◌, ◌⊎◌, Bool, true, false, List, [], ◌∷◌, length, Some, slice_get, refl}
-use Rattle.std.proofs.Common.{sym, subst, ap, inl, inr, arith, append-nil, eq-eqb, eqb-true, get_or, true≢false, ◌∙◌}
-use Rattle.std.proofs.lemmas.Bool.{ne_eqb}
-use Rattle.std.proofs.lemmas.List.{length-map}
-use Rattle.std.proofs.lemmas.Option.{slice_get-get_or}
-use Rattle.std.proofs.Math.ListN.{set, length-set}
-use Rattle.tsp_rules.specs.Values.{Act, Boot, Placed}
+use Rattle.std.proofs.Common.{sym, subst, ap, inl, inr, arith, append-nil, eq-eqb, eqb-true, get_or, true≢false, ◌∙◌, ◌≡◌, ◌≢◌, ℕ, zero, suc, ◌+◌, ◌<◌, ◌==◌, ◌⊎◌, Bool, true, false, List, [], ◌∷◌, length, Some, slice_get, refl}
+use Rattle.std.proofs.{Math.ListN.set, Math.ListN.length-set, lemmas.Bool.ne_eqb, lemmas.List.length-map, lemmas.Option.slice_get-get_or}
 use Rattle.tsp_base.specs.Words.{Past, dids, plain, tracing, Performs, Row, grown, placed}
 use Rattle.tsp_base.proofs.Views.{plain_view}
-use Rattle.tsp_rules.specs.NodePerforms.{PerformsAll}
+use Rattle.tsp_rules.specs.{NodePerforms.PerformsAll, RoundRows.corrects, Values.Act, Values.Boot, Values.Placed}
 use Rattle.tsp_rules.specs.NodeRows.{NodePast, NodeRow, abandons_on, for_ports, on, on_port, reading_all, spread, stirring, ◌and_then◌}
-use Rattle.tsp_rules.specs.RoundRows.{corrects}
 use Rattle.tsp_rules.proofs.Emits.{Sort, Acking, Alarming, AllOf, Asking, Backing, Changing, Closing, Correcting, Counting, Emits, Emits_more, Following, Giving, Leading, Numbering, Passing, Posting, Rivalling, Rounding, Sampling, Tabling, is_in, sort_of}
-use Rattle.tsp_rules.proofs.EmitsStill.{row_corrects-none}
 use Rattle.tsp_rules.proofs.NodeRowLemmas.{All_then, Bootless, on_own}
-use Rattle.tsp_rules.proofs.Asides.{all_aside, on_other}
-use Rattle.tsp_clients.specs.ClientStands.{TraceStands}
-use Rattle.tsp_clients.proofs.ClientLemmas.{TraceStands_by}
-use Rattle.tsp_clock.specs.Clocks.{ClockValue}
-use Rattle.tsp_clock.specs.ClockStands.{ClockStands}
+use Rattle.tsp_rules.proofs.{Asides.all_aside, Asides.on_other, EmitsStill.row_corrects-none}
+use Rattle.tsp_clients.{proofs.ClientLemmas.TraceStands_by, specs.ClientStands.TraceStands}
+use Rattle.tsp_clock.specs.{ClockStands.ClockStands, Clocks.ClockValue}
 use Rattle.tsp_node.specs.declared.part.Part.{Part}
 use Rattle.tsp_node.specs.NodeStands.{PortStands, PortValue, TakeStands, TracedValue, port_with, traced_with}
-use Rattle.tsp_node.proofs.NodeLemmas.{Performs_traced}
-use Rattle.tsp_node.proofs.TakeEmits.{bootless, silent_trace}
-use Rattle.tsp_gateway.specs.declared.gateway.Gateway.{Gateway}
-use Rattle.tsp_gateway.specs.GatewayStands.{GatewayStands, port_at}
-use Rattle.tsp_gateway.specs.Rooms.{ports_in}
+use Rattle.tsp_node.proofs.{NodeLemmas.Performs_traced, TakeEmits.bootless, TakeEmits.silent_trace}
+use Rattle.tsp_gateway.specs.{GatewayStands.GatewayStands, GatewayStands.port_at, Rooms.ports_in, declared.gateway.Gateway.Gateway}
 use Rattle.tsp_gateway.specs.Untold.{Untold, told, upset_ports}
 use Rattle.tsp_gateway.proofs.AsideLemmas.{clock_same, stands_still, stands_told}
 

@@ -1,15 +1,10 @@
 -- Calls for a node's ports, one after the other.
-use Rattle.std.specs.Prelude.{◌≡◌, ℕ, zero, suc, ◌+◌, ◌-◌, ◌<◌, ◌≤◌, Bool, true, false, if◌then◌else◌, List, [], ◌∷◌, filter, length, refl}
-use Rattle.std.proofs.Common.{sym, subst, ap, append-nil, arith, ◌∙◌}
-use Rattle.tsp_rules.specs.Values.{Placed, Port}
-use Rattle.tsp_rules.specs.GateRows.{ports_from}
-use Rattle.tsp_rules.specs.NodePerforms.{PerformsAll}
+use Rattle.std.proofs.Common.{sym, subst, ap, append-nil, arith, ◌∙◌, ◌≡◌, ℕ, zero, suc, ◌+◌, ◌-◌, ◌<◌, ◌≤◌, Bool, true, false, if◌then◌else◌, List, [], ◌∷◌, filter, length, refl}
+use Rattle.tsp_rules.specs.{GateRows.ports_from, NodePerforms.PerformsAll, Values.Placed, Values.Port}
 use Rattle.tsp_rules.specs.NodeRows.{NodePast, NodeRow, PortSetup, for_ports, nothing_at_all, reading_all}
 use Rattle.tsp_rules.proofs.NodeRowLemmas.{All_then}
-use Rattle.tsp_gateway.specs.declared.gateway.Gateway.{Gateway}
-use Rattle.tsp_gateway.specs.GatewayStands.{GatewayStands, port_at}
-use Rattle.tsp_gateway.specs.Untold.{is_upset, upset_ports}
-use Rattle.tsp_gateway.proofs.LiftLemmas.{All_reading}
+use Rattle.tsp_gateway.specs.{GatewayStands.GatewayStands, GatewayStands.port_at, Untold.is_upset, Untold.upset_ports}
+use Rattle.tsp_gateway.{proofs.LiftLemmas.All_reading, specs.declared.gateway.Gateway.Gateway}
 
 -- so many ports, from one on
 between : ℕ → ℕ → List Port

@@ -1,12 +1,9 @@
 -- A port in its place among a node's ports.
-use Rattle.std.specs.Prelude.{◌≡◌, ◌<◌, ◌≤◌, ℕ, zero, suc, List, [], ◌∷◌, length, map, Some, slice_get, vec_len}
-use Rattle.std.proofs.Common.{ap, arith, get_or, rules, subst, sym, ◌∙◌}
-use Rattle.std.proofs.Math.ListN.{set}
-use Rattle.std.proofs.lemmas.List.{length-map}
+use Rattle.std.proofs.Common.{ap, arith, get_or, rules, subst, sym, ◌∙◌, ◌≡◌, ◌<◌, ◌≤◌, ℕ, zero, suc, List, [], ◌∷◌, length, map, Some, slice_get, vec_len}
+use Rattle.std.proofs.{Math.ListN.set, lemmas.List.length-map}
 use Rattle.tsp_acks.specs.declared.station.Station.{Station}
 use Rattle.tsp_node.specs.declared.part.Part.{Part}
-use Rattle.tsp_gateway.specs.declared.gateway.Gateway.{Gateway}
-use Rattle.tsp_gateway.specs.Rooms.{peers_at, ports_in}
+use Rattle.tsp_gateway.specs.{Rooms.peers_at, Rooms.ports_in, declared.gateway.Gateway.Gateway}
 use Rattle.tsp_gateway.proofs.LiftLemmas.{part_there, ports_many}
 
 -- a number of a port is a place

@@ -1,11 +1,8 @@
 -- How a node's ports are set up, and on which of them a peer is.
-use Rattle.std.specs.Prelude.{◌≡◌, ℕ, suc, List, [], ◌∷◌, length, map, Some, slice_get, slice_index_or}
-use Rattle.std.proofs.Common.{refl, arith}
+use Rattle.std.proofs.Common.{refl, arith, ◌≡◌, ℕ, suc, List, [], ◌∷◌, length, map, Some, slice_get, slice_index_or}
 use Rattle.tsp_rules.specs.NodeRows.{NodePast, PortSetup, no_port}
 use Rattle.tsp_node.specs.declared.part.Part.{Part}
-use Rattle.tsp_gateway.specs.declared.gateway.Gateway.{Gateway}
-use Rattle.tsp_gateway.specs.GatewayStands.{GatewayStands}
-use Rattle.tsp_gateway.specs.PortOf.{setups_in}
+use Rattle.tsp_gateway.specs.{GatewayStands.GatewayStands, PortOf.setups_in, declared.gateway.Gateway.Gateway}
 
 -- how a port is set up, by what the node keeps of it
 abbrev setup_in : Part → PortSetup

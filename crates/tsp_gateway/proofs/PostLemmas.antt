@@ -1,11 +1,8 @@
 -- LOOPs are posted, which changes nothing of a port.
-use Rattle.std.specs.Prelude.{◌≡◌, ℕ, true, false, List, [], ◌∷◌, ◌++◌, map, Some, slice_get, refl}
-use Rattle.std.proofs.Common.{sym, subst, ap, ◌∙◌}
+use Rattle.std.proofs.Common.{sym, subst, ap, ◌∙◌, ◌≡◌, ℕ, true, false, List, [], ◌∷◌, ◌++◌, map, Some, slice_get, refl}
 use Rattle.tsp_rules.specs.Values.{Placed, LoopKind, Hops, PeerId, Peer, Port, HOPS}
 use Rattle.tsp_base.specs.Words.{Past, MessageValue, Row, grown, others, placed, puts, is_numbered}
-use Rattle.tsp_rules.specs.GateRows.{loop_to, repost}
-use Rattle.tsp_rules.specs.NodePerforms.{PerformsAll}
-use Rattle.tsp_rules.specs.NodeRows.{on, on_port}
+use Rattle.tsp_rules.specs.{GateRows.loop_to, GateRows.repost, NodePerforms.PerformsAll, NodeRows.on, NodeRows.on_port}
 use Rattle.tsp_rules.proofs.Emits.{Sort, Emits, Emits_puts, Posting, is_in, sort_of_kind}
 use Rattle.tsp_acks.proofs.StandsLemmas.{Stands_post}
 use Rattle.tsp_clients.proofs.ClientLemmas.{TraceStands_by}
@@ -13,10 +10,8 @@ use Rattle.tsp_date.proofs.KeepLemmas.{DatesStand_by}
 use Rattle.tsp_master.proofs.TableLemmas.{MasterStands_quiet, quiet_sorts}
 use Rattle.tsp_resolve.proofs.ResolveLemmas.{ResolveStands_by}
 use Rattle.tsp_slave.proofs.BesideLemmas.{ClockStands_by, Remembers_by}
-use Rattle.tsp_node.specs.declared.part.Part.{Part}
-use Rattle.tsp_node.specs.NodeStands.{TakeStands, TracedValue, traced_with}
-use Rattle.tsp_gateway.specs.declared.gateway.Gateway.{Gateway}
-use Rattle.tsp_gateway.specs.GatewayStands.{GatewayStands, port_at}
+use Rattle.tsp_node.specs.{NodeStands.TakeStands, NodeStands.TracedValue, NodeStands.traced_with, declared.part.Part.Part}
+use Rattle.tsp_gateway.specs.{GatewayStands.GatewayStands, GatewayStands.port_at, declared.gateway.Gateway.Gateway}
 use Rattle.tsp_gateway.proofs.LiftLemmas.{All_on, bootless_silent, set_same, silent_still, still_by, still_sorts, take_stands}
 
 -- a LOOP is a post like any other

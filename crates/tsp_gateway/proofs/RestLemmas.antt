@@ -1,18 +1,14 @@
 -- A node does nothing in a turn before its deadline.
-use Rattle.std.specs.Prelude.{ℕ, zero, suc, ◌≡◌, ◌+◌, ◌<◌, true, List, length, None, Some, slice_get, refl}
-use Rattle.std.proofs.Common.{arith, get_or, subst, sym, ◌∙◌}
+use Rattle.std.proofs.Common.{arith, get_or, subst, sym, ◌∙◌, ℕ, zero, suc, ◌≡◌, ◌+◌, ◌<◌, true, List, length, None, Some, slice_get, refl}
 use Rattle.std.proofs.lemmas.Option.{same_Some, slice_get-get_or, slice_get_within}
-use Rattle.tsp_rules.specs.Values.{Placed}
 use Rattle.tsp_rules.specs.GateRows.{NodeTurn, all_ports, answers_all, input_all, turns_on}
-use Rattle.tsp_rules.specs.NodePerforms.{PerformsAll}
-use Rattle.tsp_rules.specs.NodeRows.{for_ports, nothing_at_all, reading_all}
+use Rattle.tsp_rules.specs.{NodePerforms.PerformsAll, NodeRows.for_ports, NodeRows.nothing_at_all, NodeRows.reading_all, Values.Placed}
 use Rattle.tsp_rules.proofs.NodeRowLemmas.{All_then}
 use Rattle.tsp_node.specs.declared.part.Part.{Part}
 use Rattle.tsp_gateway.specs.declared.gateway.Gateway.{Gateway}
 use Rattle.tsp_gateway.specs.Dues.{IsGatewayDue, RestsUntil, Waits, least_of}
 use Rattle.tsp_gateway.specs.GatewayStands.{GatewayBegun, GatewayStands, GatewayTurning}
-use Rattle.tsp_gateway.proofs.DueLemmas.{before-over, none_over}
-use Rattle.tsp_gateway.proofs.IdleLemmas.{All_waits, Waits-before}
+use Rattle.tsp_gateway.proofs.{DueLemmas.before-over, DueLemmas.none_over, IdleLemmas.All_waits, IdleLemmas.Waits-before}
 use Rattle.tsp_gateway.proofs.LiftLemmas.{All_nothing, All_same, part_of, ports_many}
 use Rattle.tsp_gateway.proofs.LoopLemmas.{last_port, left, next_port, upset_all}
 

@@ -1,13 +1,11 @@
 -- What a node stands for doesn't rest on the step that it is in, and a step begins.
-use Rattle.std.specs.Prelude.{◌≡◌, ℕ, ◌==◌, true, ◌∷◌, refl}
-use Rattle.std.proofs.Common.{sym, subst, ap}
+use Rattle.std.proofs.Common.{sym, subst, ap, ◌≡◌, ℕ, ◌==◌, true, ◌∷◌, refl}
 use Rattle.std.proofs.lemmas.Bool.{or_right}
 use Rattle.tsp_base.specs.Words.{Begins, Past, Step, seen_as, view, first_port, line_of, acting, taken, in_step}
 use Rattle.tsp_rules.specs.NodeRows.{NodePast, in_node_step, on_port}
 use Rattle.tsp_clock.specs.Clocks.{ClockValue}
 use Rattle.tsp_master.proofs.TurnLemmas.{MasterStands_in_step, MasterStands_step}
-use Rattle.tsp_node.specs.declared.part.Part.{Part}
-use Rattle.tsp_node.specs.NodeStands.{PortStands, port_with}
+use Rattle.tsp_node.specs.{NodeStands.PortStands, NodeStands.port_with, declared.part.Part.Part}
 use Rattle.tsp_node.proofs.RivalKeeps.{ResolveStands_in_step, ResolveStands_step}
 use Rattle.tsp_gateway.specs.declared.gateway.Gateway.{Gateway}
 use Rattle.tsp_gateway.specs.GatewayStands.{GatewayBegun, GatewayStands, port_at}

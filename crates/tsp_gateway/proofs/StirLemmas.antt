@@ -1,24 +1,17 @@
 -- What a correction in a port's turn makes of its node.
-use Rattle.std.specs.Prelude.{◌≡◌, ℕ, ◌<◌, ◌+◌, ◌==◌, ◌||◌, ◌&&◌, nat_le, Bool, true, false, if◌then◌else◌, List, [], ◌∷◌, ◌++◌, length, Some, slice_get, refl}
-use Rattle.std.proofs.Common.{sym, subst, ap, append-nil, arith, ◌∙◌}
-use Rattle.std.proofs.Math.ListN.{set}
-use Rattle.std.proofs.lemmas.Bool.{and_right}
+use Rattle.std.proofs.Common.{sym, subst, ap, append-nil, arith, ◌∙◌, ◌≡◌, ℕ, ◌<◌, ◌+◌, ◌==◌, ◌||◌, ◌&&◌, nat_le, Bool, true, false, if◌then◌else◌, List, [], ◌∷◌, ◌++◌, length, Some, slice_get, refl}
+use Rattle.std.proofs.{Math.ListN.set, lemmas.Bool.and_right}
 use Rattle.tsp_rules.specs.Values.{Act, Ring, Late, Abandon, Placed, Probe, Port}
 use Rattle.tsp_base.specs.Words.{Acts, Did, Past, Seen, is_shared, seen_as, view, line_of, Performs, acting, taken, is_going, Row, either_by, nothing, puts, ◌followed_by◌}
-use Rattle.tsp_rules.specs.Answers.{alarm_rings, rings}
+use Rattle.tsp_rules.specs.{Answers.alarm_rings, Answers.rings, Guards.is_due, Guards.is_in_time, NodePerforms.PerformsAll}
 use Rattle.tsp_rules.specs.GateRows.{ends_probes, has_rung, is_last_probe, loops_after, probes_on, sends_loops}
-use Rattle.tsp_rules.specs.NodePerforms.{PerformsAll}
 use Rattle.tsp_rules.specs.NodeRows.{NodePast, abandons_on, for_ports, nothing_at_all, on, on_port, reading_all, spread, stirring, ◌and_then◌}
 use Rattle.tsp_rules.specs.RoundRows.{abandons, corrects, probe_rings}
-use Rattle.tsp_rules.specs.Guards.{is_due, is_in_time}
-use Rattle.tsp_rules.proofs.Emits.{Emits}
-use Rattle.tsp_rules.proofs.NodeRowLemmas.{All_then, spread_append}
-use Rattle.tsp_node.specs.declared.part.Part.{Part}
-use Rattle.tsp_node.specs.NodeStands.{PortUntaken, Traced, port_with}
+use Rattle.tsp_rules.proofs.{Emits.Emits, NodeRowLemmas.All_then, NodeRowLemmas.spread_append}
+use Rattle.tsp_node.specs.{NodeStands.PortUntaken, NodeStands.Traced, NodeStands.port_with, declared.part.Part.Part}
 use Rattle.tsp_node.proofs.TakeEmits.{silent_trace}
-use Rattle.tsp_gateway.specs.declared.gateway.Gateway.{Gateway}
 use Rattle.tsp_gateway.specs.GatewayStands.{GatewayStands, GatewayTurning, TurnsFrom, port_at}
-use Rattle.tsp_gateway.specs.Untold.{Untold, upset_ports}
+use Rattle.tsp_gateway.specs.{Untold.Untold, Untold.upset_ports, declared.gateway.Gateway.Gateway}
 use Rattle.tsp_gateway.proofs.LiftLemmas.{All_moved, All_on, All_same, All_stirred, All_unstirred, bootless_silent, take_stands}
 use Rattle.tsp_gateway.proofs.TurnLemmas.{trace_beside, turned}
 

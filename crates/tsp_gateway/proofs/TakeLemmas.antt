@@ -3,24 +3,15 @@ use Rattle.std.specs.Prelude.{◌≡◌, ℕ, Bool, true, false, if◌then◌els
 use Rattle.std.proofs.Math.ListN.{set}
 use Rattle.tsp_rules.specs.Values.{Took, Placed, Message, Stamp, Taken, Good, Bad, Kind, LoopKind, Place, Port}
 use Rattle.tsp_base.specs.Words.{Past, MessageValue, Performs, nothing, puts, sets_date}
-use Rattle.tsp_rules.specs.Answers.{takes, handles}
+use Rattle.tsp_rules.specs.{Answers.takes, Answers.handles, Guards.is_own, NodePerforms.PerformsAll, RoundRows.corrects}
 use Rattle.tsp_rules.specs.GateRows.{in_charge, steers, stirred_ports, takes_kind, takes_loop, takes_message, takes_on}
-use Rattle.tsp_rules.specs.NodePerforms.{PerformsAll}
 use Rattle.tsp_rules.specs.NodeRows.{NodePast, abandons_on, for_ports, on, on_port, reading_all, stirring}
-use Rattle.tsp_rules.specs.RoundRows.{corrects}
-use Rattle.tsp_rules.specs.Guards.{is_own}
 use Rattle.tsp_rules.proofs.Emits.{is_part, Emits, Emits_either, Emits_nothing, Emits_puts, Emits_then}
-use Rattle.tsp_node.specs.declared.part.Part.{Part}
-use Rattle.tsp_node.specs.NodeStands.{TakeStands, traced_with}
-use Rattle.tsp_node.proofs.TakeEmits.{emits_takes}
-use Rattle.tsp_gateway.specs.declared.gateway.Gateway.{Gateway}
-use Rattle.tsp_gateway.specs.GateInputs.{HoldsNoMessage}
-use Rattle.tsp_gateway.specs.GatewayStands.{GatewayStands, port_at}
-use Rattle.tsp_gateway.specs.Untold.{Untold, upset_ports}
-use Rattle.tsp_rules.proofs.BuiltAnswers.{built_handles, taken_sorts}
-use Rattle.tsp_rules.proofs.EmitsBuilt.{emits_built, nothing_taken}
-use Rattle.tsp_rules.proofs.Unchanged.{place_unchanged}
-use Rattle.tsp_rules.proofs.EmitsStill.{row_corrects-none, still_sorts}
+use Rattle.tsp_node.{proofs.TakeEmits.emits_takes, specs.NodeStands.TakeStands, specs.NodeStands.traced_with, specs.declared.part.Part.Part}
+use Rattle.tsp_gateway.specs.{GateInputs.HoldsNoMessage, GatewayStands.GatewayStands, GatewayStands.port_at}
+use Rattle.tsp_gateway.specs.{Untold.Untold, Untold.upset_ports, declared.gateway.Gateway.Gateway}
+use Rattle.tsp_rules.proofs.{BuiltAnswers.built_handles, BuiltAnswers.taken_sorts, EmitsBuilt.emits_built, EmitsBuilt.nothing_taken}
+use Rattle.tsp_rules.proofs.{EmitsStill.row_corrects-none, EmitsStill.still_sorts, Unchanged.place_unchanged}
 use Rattle.tsp_gateway.proofs.LiftLemmas.{All_moved, All_on, All_same, All_stirred, All_unstirred, take_stands}
 
 -- the ports whose rounds a message may end

@@ -1,17 +1,11 @@
 -- The ports of a node are told of a correction, one after the other.
-use Rattle.std.specs.Prelude.{◌≡◌, ◌≢◌, ℕ, zero, suc, ◌+◌, ◌<◌, ◌≤◌, ◌==◌, Bool, true, false, List, [], ◌∷◌, length, map, None, Some, slice_get, refl}
-use Rattle.std.proofs.Common.{sym, subst, ap, arith, inl, inr, eq-eqb, eqb-true, true≢false, ◌∙◌}
+use Rattle.std.proofs.Common.{sym, subst, ap, arith, inl, inr, eq-eqb, eqb-true, true≢false, ◌∙◌, ◌≡◌, ◌≢◌, ℕ, zero, suc, ◌+◌, ◌<◌, ◌≤◌, ◌==◌, Bool, true, false, List, [], ◌∷◌, length, map, None, Some, slice_get, refl}
 use Rattle.std.proofs.Math.ListN.{set, length-set}
-use Rattle.tsp_rules.specs.Values.{PeerId}
-use Rattle.tsp_rules.specs.NodeRows.{NodePast, on_port}
+use Rattle.tsp_rules.specs.{NodeRows.NodePast, NodeRows.on_port, Values.PeerId}
 use Rattle.tsp_clock.specs.Clocks.{ClockValue}
-use Rattle.tsp_node.specs.declared.part.Part.{Part}
-use Rattle.tsp_node.specs.NodeStands.{PortStands, PortValue, port_with}
-use Rattle.tsp_gateway.specs.declared.gateway.Gateway.{Gateway}
-use Rattle.tsp_gateway.specs.GatewayStands.{GatewayStands, port_at}
-use Rattle.tsp_gateway.specs.Rooms.{ports_in}
-use Rattle.tsp_gateway.specs.Untold.{Untold, told}
-use Rattle.tsp_gateway.proofs.LiftLemmas.{set_cases}
+use Rattle.tsp_node.specs.{NodeStands.PortStands, NodeStands.PortValue, NodeStands.port_with, declared.part.Part.Part}
+use Rattle.tsp_gateway.specs.{GatewayStands.GatewayStands, GatewayStands.port_at, Rooms.ports_in, Untold.Untold, Untold.told}
+use Rattle.tsp_gateway.{proofs.LiftLemmas.set_cases, specs.declared.gateway.Gateway.Gateway}
 
 -- a part in this place was told
 pub record IsTold (x : ℕ) (olds : List Part) (k : ℕ) (part : Part) : Type 0 where

@@ -1,29 +1,19 @@
 -- What the calls of a port's turn make of its node.
-use Rattle.std.specs.Prelude.{◌≡◌, ◌≢◌, ℕ, ◌<◌, ◌≤◌, ◌+◌, ◌==◌, Bool, true, false, List, [], ◌∷◌, Some, None, slice_get, refl}
-use Rattle.std.proofs.Common.{sym, subst, ap, arith, eqb-true, true≢false, ◌∙◌}
-use Rattle.std.proofs.Math.ListN.{set}
-use Rattle.std.proofs.lemmas.Bool.{and_parts}
+use Rattle.std.proofs.Common.{sym, subst, ap, arith, eqb-true, true≢false, ◌∙◌, ◌≡◌, ◌≢◌, ℕ, ◌<◌, ◌≤◌, ◌+◌, ◌==◌, Bool, true, false, List, [], ◌∷◌, Some, None, slice_get, refl}
+use Rattle.std.proofs.{Math.ListN.set, lemmas.Bool.and_parts}
 use Rattle.tsp_rules.specs.Values.{Act, Correct, Placed, Alarm, Round, Probe, CloseAlarm, Port}
 use Rattle.tsp_base.specs.Words.{Past, view, Performs, acting, taken, Row, grown, placed}
 use Rattle.tsp_base.proofs.ViewPlaces.{port-same}
-use Rattle.tsp_rules.specs.Answers.{rings}
-use Rattle.tsp_rules.specs.GateRows.{alarm_on}
-use Rattle.tsp_rules.specs.NodePerforms.{PerformsAll}
+use Rattle.tsp_rules.specs.{Answers.rings, GateRows.alarm_on, NodePerforms.PerformsAll, RoundRows.corrects, RoundRows.is_correct}
 use Rattle.tsp_rules.specs.NodeRows.{NodePast, on, on_port, spread}
-use Rattle.tsp_rules.specs.RoundRows.{corrects, is_correct}
-use Rattle.tsp_rules.proofs.Emits.{Emits, Emits_more}
-use Rattle.tsp_rules.proofs.NodeRowLemmas.{Bootless, on_own}
-use Rattle.tsp_rules.proofs.CalmAlarms.{calm_rings, moves_by}
-use Rattle.tsp_rules.proofs.FewActs.{is_calm, is_calm_act}
-use Rattle.tsp_rules.proofs.Asides.{on_other}
+use Rattle.tsp_rules.proofs.{FewActs.is_calm, FewActs.is_calm_act, NodeRowLemmas.Bootless, NodeRowLemmas.on_own}
+use Rattle.tsp_rules.proofs.{Asides.on_other, CalmAlarms.calm_rings, CalmAlarms.moves_by, Emits.Emits, Emits.Emits_more}
 use Rattle.tsp_clients.proofs.ClientLemmas.{TraceStands_by}
 use Rattle.tsp_node.specs.declared.part.Part.{Part}
 use Rattle.tsp_node.specs.NodeStands.{PortBegun, PortUntaken, PortValue, Traced, port_with, traced_with}
-use Rattle.tsp_node.proofs.NodeLemmas.{Performs_traced, untaken_by}
-use Rattle.tsp_node.proofs.TakeEmits.{silent_trace}
-use Rattle.tsp_gateway.specs.declared.gateway.Gateway.{Gateway}
+use Rattle.tsp_node.proofs.{NodeLemmas.Performs_traced, NodeLemmas.untaken_by, TakeEmits.silent_trace}
 use Rattle.tsp_gateway.specs.GatewayStands.{GatewayStands, GatewayTurning, TurnsFrom, port_at}
-use Rattle.tsp_gateway.proofs.AsideLemmas.{acting_aside, taken_aside}
+use Rattle.tsp_gateway.{proofs.AsideLemmas.acting_aside, proofs.AsideLemmas.taken_aside, specs.declared.gateway.Gateway.Gateway}
 use Rattle.tsp_gateway.proofs.LiftLemmas.{All_on, bootless_by, bootless_silent, take_stands}
 
 calm-correct : (a : Act) → is_calm_act false false a ≡ true → is_correct a ≡ false

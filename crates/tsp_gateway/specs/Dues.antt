@@ -1,16 +1,10 @@
 -- When a gateway needs its next step, and whether a port has probed.
 use Rattle.std.specs.Prelude.{◌≡◌, ◌<◌, ℕ, false, List, [], ◌∷◌, length, Option, None, Some, slice_get}
-use Rattle.tsp_rules.specs.Values.{Alarm, PeerId}
 use Rattle.tsp_base.specs.Words.{deadline, earlier, least_deadline, Seen, view, armed, open_send}
-use Rattle.tsp_rules.specs.Guards.{is_over}
-use Rattle.tsp_rules.specs.NodeRows.{NodePast}
-use Rattle.tsp_sends.specs.Repeating.{IsEarliest, is_due_send}
-use Rattle.tsp_sends.specs.Slots.{sending_to}
-use Rattle.tsp_node.specs.declared.part.Part.{Part}
-use Rattle.tsp_node.specs.Dues.{IsPartDue}
-use Rattle.tsp_node.specs.NodeStands.{due_of}
-use Rattle.tsp_gateway.specs.declared.gateway.Gateway.{Gateway}
-use Rattle.tsp_gateway.specs.GatewayStands.{port_at}
+use Rattle.tsp_rules.specs.{Guards.is_over, NodeRows.NodePast, Values.Alarm, Values.PeerId}
+use Rattle.tsp_sends.specs.{Repeating.IsEarliest, Repeating.is_due_send, Slots.sending_to}
+use Rattle.tsp_node.specs.{Dues.IsPartDue, NodeStands.due_of, declared.part.Part.Part}
+use Rattle.tsp_gateway.specs.{GatewayStands.port_at, declared.gateway.Gateway.Gateway}
 
 -- the earliest of some deadlines
 abbrev pub least_of : List (Option ℕ) → Option ℕ

@@ -1,12 +1,9 @@
 -- The configuration of a gateway, and the pasts of a node with it.
 use Rattle.std.specs.Prelude.{◌≡◌, ℕ, ℤ, Bool, true, false, List, [], ◌∷◌, map}
-use Rattle.tsp_rules.specs.Values.{PeerId}
 use Rattle.tsp_base.specs.Words.{Booted}
-use Rattle.tsp_rules.specs.NodeRows.{NodePast, PortSetup}
-use Rattle.tsp_rules.specs.Guards.{is_clock_value}
-use Rattle.tsp_node.specs.declared.fault.BootFault.{BootFault}
+use Rattle.tsp_rules.specs.{Guards.is_clock_value, NodeRows.NodePast, NodeRows.PortSetup, Values.PeerId}
 use Rattle.tsp_node.specs.declared.fault.BootFault.TheVariants.{Peers, Range, OutOfMemory}
-use Rattle.tsp_node.specs.Configs.{IsPortSetup}
+use Rattle.tsp_node.specs.{Configs.IsPortSetup, declared.fault.BootFault.BootFault}
 
 -- a node's host name, whether it may be master, whether a candidate needs a majority, and its ports in their order
 pub record GateConfigValue : Type 0 where

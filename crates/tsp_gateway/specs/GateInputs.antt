@@ -1,10 +1,8 @@
 -- The input of a gateway's step, as the rules have it.
 use Rattle.std.specs.Prelude.{ℕ, ◌<◌}
-use Rattle.tsp_rules.specs.Values.{Message, Taken, Good}
-use Rattle.tsp_base.specs.declared.input.Input.{Input}
-use Rattle.tsp_base.specs.declared.input.Input.TheVariants.{Turn, Bytes}
+use Rattle.tsp_base.specs.declared.input.Input.{Input, TheVariants.Turn, TheVariants.Bytes}
 use Rattle.tsp_codec.specs.Taken.{taken_of}
-use Rattle.tsp_rules.specs.GateRows.{NodeGiven, NodeTurn, GotOn}
+use Rattle.tsp_rules.specs.{GateRows.NodeGiven, GateRows.NodeTurn, GateRows.GotOn, Values.Message, Values.Taken, Values.Good}
 
 -- nothing, or octets on a port, as they are read
 abbrev pub given_on : Input → NodeGiven

@@ -1,11 +1,9 @@
 -- Which pasts a gateway stands for.
 use Rattle.std.specs.Prelude.{◌≡◌, ℕ, ◌≤◌, false, List, length, None, Some, slice_get}
-use Rattle.tsp_rules.specs.Values.{Port}
 use Rattle.tsp_base.specs.Words.{IsTick, dids, view, tracing, acting, taken}
-use Rattle.tsp_rules.specs.NodeRows.{NodePast, on_port}
+use Rattle.tsp_rules.specs.{NodeRows.NodePast, NodeRows.on_port, Values.Port}
 use Rattle.tsp_clock.specs.Clocks.{ClockValue}
-use Rattle.tsp_node.specs.declared.part.Part.{Part}
-use Rattle.tsp_node.specs.NodeStands.{PortStands, port_with}
+use Rattle.tsp_node.specs.{NodeStands.PortStands, NodeStands.port_with, declared.part.Part.Part}
 use Rattle.tsp_gateway.specs.declared.gateway.Gateway.{Gateway}
 
 -- the port of this number

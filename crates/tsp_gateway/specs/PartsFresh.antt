@@ -1,14 +1,10 @@
 -- The ports of a node that boots.
 use Rattle.std.specs.Prelude.{◌≡◌, ℕ, ℤ, List, [], ◌∷◌, length, Some, slice_get, slice_index_or}
-use Rattle.tsp_rules.specs.Values.{Boot}
 use Rattle.tsp_base.specs.Words.{Past, Booted, grown}
-use Rattle.tsp_rules.specs.NodeRows.{PortSetup, no_port}
-use Rattle.tsp_acks.specs.declared.me.Me.{Me}
-use Rattle.tsp_acks.specs.Stands.{IsPortOf}
-use Rattle.tsp_clock.specs.Clocks.{ClockValue}
-use Rattle.tsp_clock.specs.ClockStands.{ClockStands}
-use Rattle.tsp_node.specs.declared.part.Part.{Part}
-use Rattle.tsp_node.specs.NodeStands.{PortStands, port_with}
+use Rattle.tsp_rules.specs.{NodeRows.PortSetup, NodeRows.no_port, Values.Boot}
+use Rattle.tsp_acks.specs.{Stands.IsPortOf, declared.me.Me.Me}
+use Rattle.tsp_clock.specs.{ClockStands.ClockStands, Clocks.ClockValue}
+use Rattle.tsp_node.specs.{NodeStands.PortStands, NodeStands.port_with, declared.part.Part.Part}
 use Rattle.tsp_gateway.specs.GateConfigs.{GateConfigValue}
 
 -- who the node is on a port after a boot with this word

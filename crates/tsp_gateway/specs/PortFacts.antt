@@ -1,10 +1,8 @@
 -- Questions of one port about the others.
 use Rattle.std.specs.Prelude.{Bool}
-use Rattle.tsp_rules.specs.Values.{Port}
 use Rattle.tsp_rules.specs.GateRows.{any_port, follows_on, goes_on, leads_on, lower_ports, other_ports}
-use Rattle.tsp_rules.specs.NodeRows.{NodePast}
-use Rattle.tsp_gateway.specs.declared.leading.Asked.{Asked}
-use Rattle.tsp_gateway.specs.declared.leading.Asked.TheVariants.{Follows, Leads, Goes}
+use Rattle.tsp_rules.specs.{NodeRows.NodePast, Values.Port}
+use Rattle.tsp_gateway.specs.declared.leading.Asked.{Asked, TheVariants.Follows, TheVariants.Leads, TheVariants.Goes}
 
 -- whether a port follows, is a master, or has a round going
 abbrev pub asked_on : Asked → NodePast → Port → Bool

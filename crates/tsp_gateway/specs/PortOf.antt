@@ -1,8 +1,7 @@
 -- Which port a peer is on.
 use Rattle.std.specs.Prelude.{ℕ, ◌+◌, ◌==◌, ◌&&◌, not, Bool, if◌then◌else◌, List, [], ◌∷◌, map}
-use Rattle.tsp_rules.specs.Values.{PeerId, Port}
 use Rattle.tsp_base.specs.Words.{first_port, is_among}
-use Rattle.tsp_rules.specs.NodeRows.{PortSetup}
+use Rattle.tsp_rules.specs.{NodeRows.PortSetup, Values.PeerId, Values.Port}
 use Rattle.tsp_node.specs.declared.part.Part.{Part}
 use Rattle.tsp_gateway.specs.declared.gateway.Gateway.{Gateway}
 

@@ -1,14 +1,10 @@
 -- A node one of whose ports has corrected its clock, before the other ports have noted it.
 use Rattle.std.specs.Prelude.{◌≡◌, ◌≢◌, ◌==◌, ℕ, Bool, true, false, not, List, length, None, Some, slice_get}
-use Rattle.tsp_rules.specs.Values.{Port}
 use Rattle.tsp_base.specs.Words.{dids, tracing}
-use Rattle.tsp_rules.specs.GateRows.{other_ports, ports_from}
-use Rattle.tsp_rules.specs.NodeRows.{NodePast, on_port}
+use Rattle.tsp_rules.specs.{GateRows.other_ports, GateRows.ports_from, NodeRows.NodePast, NodeRows.on_port, Values.Port}
 use Rattle.tsp_clock.specs.Clocks.{ClockValue}
-use Rattle.tsp_node.specs.declared.part.Part.{Part}
-use Rattle.tsp_node.specs.NodeStands.{PortStands, PortValue, port_with}
-use Rattle.tsp_gateway.specs.declared.gateway.Gateway.{Gateway}
-use Rattle.tsp_gateway.specs.GatewayStands.{port_at}
+use Rattle.tsp_node.specs.{NodeStands.PortStands, NodeStands.PortValue, NodeStands.port_with, declared.part.Part.Part}
+use Rattle.tsp_gateway.specs.{GatewayStands.port_at, declared.gateway.Gateway.Gateway}
 
 -- a port's state once it has noted a correction at this tick
 abbrev pub told : ℕ → Part → ClockValue → PortValue

@@ -1,15 +1,10 @@
 -- The best window of a whole list is its largest group.
 use Rattle.std.proofs.Common.{◌≡◌, ◌∙◌, sym, ap, subst, ℕ, zero, suc, ◌+◌, ◌-◌, ◌<◌, ◌≤◌, false, ℤ, pos, ◌+ℤ◌, ◌≤ℤ◌, ◌<ℤ◌, List, length, get_or, arith, ◌⊎◌, inl, inr}
-use Rattle.std.proofs.lemmas.Int.{ints, by_lt_z}
-use Rattle.std.proofs.lemmas.Bool.{cases_lt}
-use Rattle.std.proofs.lemmas.List.Elements.{Contains-get_or, at_from_Contains}
+use Rattle.std.proofs.lemmas.{Bool.cases_lt, Int.ints, Int.by_lt_z, List.Elements.Contains-get_or, List.Elements.at_from_Contains}
 use Rattle.std.specs.List.{Contains}
-use Rattle.tsp_group.specs.Groups.{group_from, goes_before, IsLargest}
+use Rattle.tsp_group.specs.{Groups.group_from, Groups.goes_before, Groups.IsLargest, Values.IsAscending, declared.group.Group.Group}
 use Rattle.tsp_group.specs.Windows.{window_of, Spans, IsBest}
-use Rattle.tsp_group.specs.Values.{IsAscending}
-use Rattle.tsp_group.specs.declared.group.Group.{Group}
-use Rattle.tsp_group.proofs.Members.{group_from-stretch}
-use Rattle.tsp_group.proofs.Windows.{best_count, fewer_behind}
+use Rattle.tsp_group.proofs.{Members.group_from-stretch, Windows.best_count, Windows.fewer_behind}
 
 cases_ℤ : (x y : ℤ) → (x <ℤ y) ⊎ (y ≤ℤ x)
 cases_ℤ x y = by_lt_z {P = (x <ℤ y) ⊎ (y ≤ℤ x)} x y (λ h. inl h) (λ h. inr h)

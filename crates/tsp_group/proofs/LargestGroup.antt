@@ -1,17 +1,12 @@
 -- Lemmas on the largest group.
 use Rattle.std.proofs.Common.{◌≡◌, ◌∙◌, refl, ap, sym, subst, ℕ, ◌<◌, ◌==◌, nat_lt, Bool, true, false, cond, ℤ, pos, List, length, get_or, arith, inl, inr, ◌⊎◌}
-use Rattle.std.proofs.lemmas.Int.{ints}
-use Rattle.std.proofs.lemmas.Bool.Decides.{nat_tests}
-use Rattle.std.proofs.lemmas.List.Elements.{All-contains, Contains-get_or}
+use Rattle.std.proofs.lemmas.{Bool.Decides.nat_tests, Int.ints, List.Elements.All-contains, List.Elements.Contains-get_or}
 use Rattle.std.proofs.lemmas.List.Sorted.{IsPermutation-sym, Contains-permutation}
-use Rattle.std.specs.List.{All, Contains, filter}
-use Rattle.std.specs.List.Sorted.{IsPermutation}
+use Rattle.std.specs.List.{All, Contains, filter, Sorted.IsPermutation}
 use Rattle.tsp_group.specs.Groups.{is_member, group_from, goes_before, no_group, group_of, IsLargest}
 use Rattle.tsp_group.specs.declared.group.Group.{Group}
-use Rattle.tsp_group.proofs.Members.{is_member-inside}
+use Rattle.tsp_group.proofs.{Members.is_member-inside, Precedence.goes_before-tie, Trials.best_of-first, Trials.best_of-cases}
 use Rattle.tsp_group.proofs.Permutations.{Passing, passing_from_filter, group_from-permutation}
-use Rattle.tsp_group.proofs.Precedence.{goes_before-tie}
-use Rattle.tsp_group.proofs.Trials.{best_of-first, best_of-cases}
 
 some_pass : (p : ℤ → Bool) (xs : List ℤ) (x : ℤ) → Contains xs x → p x ≡ true → 0 < length (filter p xs)
 some_pass p xs x c e = All-contains (Passing p (λ _. 0 < length (filter p xs))) xs x (passing_from_filter p (λ _. 0 < length (filter p xs)) xs (λ k d h. omega arith)) c e

@@ -1,17 +1,12 @@
 -- Lemmas on the mean of the largest group, and on the values of a majority.
-use Rattle.std.proofs.Common.{◌≡◌, ◌∙◌, refl, ap, sym, subst, ℕ, ◌+◌, ◌*◌, ◌<◌, ◌≤◌, ◌==◌, nat_lt, Bool, true, false, cond, ℤ, pos, negsuc, ◌+ℤ◌, ◌*ℤ◌, ◌≤ℤ◌, List, [], ◌∷◌, length, get_or, arith, inl, inr}
-use Rattle.std.proofs.lemmas.Int.{ints, fold-int_min_bounds, fold-int_min_reached}
-use Rattle.std.proofs.lemmas.Bool.Decides.{nat_tests}
+use Rattle.std.proofs.Common.{◌≡◌, ◌∙◌, refl, ap, sym, subst, ℕ, ◌+◌, ◌*◌, ◌<◌, ◌≤◌, ◌==◌, nat_lt, Bool, true, false, cond, ℤ, pos, negsuc, ◌+ℤ◌, ◌*ℤ◌, ◌≤ℤ◌, List, [], ◌∷◌, length, get_or, arith, inl, inr, unsigned_abs}
+use Rattle.std.proofs.lemmas.{Bool.Decides.nat_tests, Int.ints, Int.fold-int_min_bounds, Int.fold-int_min_reached}
 use Rattle.std.proofs.lemmas.List.Elements.{All-head, All-tail, All-contains, All-filter, All-weaker, All-contains_itself, filter_passes, Contains-get_or, Contains-append_right}
-use Rattle.std.proofs.lemmas.List.Sums.{sum_by-cons, length-filter}
-use Rattle.std.specs.Prelude.{unsigned_abs}
+use Rattle.std.{proofs.lemmas.List.Sums.sum_by-cons, proofs.lemmas.List.Sums.length-filter, specs.Int.int_min}
 use Rattle.std.specs.List.{All, Contains, fold, filter, count_by}
-use Rattle.std.specs.Int.{int_min}
-use Rattle.tsp_group.specs.Values.{IsNear}
+use Rattle.tsp_group.specs.{Values.IsNear, declared.group.Group.Group}
 use Rattle.tsp_group.specs.Groups.{is_member, members, total, group_from, goes_before, IsLargest, HasMean, mean_of, IsWithin, Agree, FollowsMajority}
-use Rattle.tsp_group.specs.declared.group.Group.{Group}
-use Rattle.tsp_group.proofs.LargestGroup.{group_from-count}
-use Rattle.tsp_group.proofs.Means.{le-floor_div, floor_div-le}
+use Rattle.tsp_group.proofs.{LargestGroup.group_from-count, Means.le-floor_div, Means.floor_div-le}
 use Rattle.tsp_group.proofs.Members.{is_member-inside, is_member-low, is_member-high}
 use Rattle.tsp_group.proofs.Permutations.{Passing, passing_from_filter}
 use Rattle.tsp_group.proofs.Sums.{le-total, total-le, near_total-low, near_total-high}

@@ -1,11 +1,8 @@
 -- Lemmas on the mean of a group.
-use Rattle.std.proofs.Common.{◌≡◌, ℕ, suc, ◌*◌, ◌/◌, ◌<◌, ◌≤◌, ℤ, pos, negsuc, ◌*ℤ◌, ◌≤ℤ◌, arith, FitsSigned}
-use Rattle.std.proofs.lemmas.Int.{ints, to_z-of_z}
+use Rattle.std.proofs.Common.{◌≡◌, ℕ, suc, ◌*◌, ◌/◌, ◌<◌, ◌≤◌, ℤ, pos, negsuc, ◌*ℤ◌, ◌≤ℤ◌, arith, FitsSigned, unsigned_abs}
 use Rattle.std.specs.Int.{int_div_euclid, w128}
 use mir.Val.{to_z, of_z}
-use Rattle.std.proofs.lemmas.Nat.{le-div}
-use Rattle.std.proofs.Math.Nat.{div-lt_iff_lt-mul}
-use Rattle.std.specs.Prelude.{unsigned_abs}
+use Rattle.std.proofs.{Math.Nat.div-lt_iff_lt-mul, lemmas.Int.ints, lemmas.Int.to_z-of_z, lemmas.Nat.le-div}
 use Rattle.tsp_group.specs.Groups.{floor_div}
 
 div_below : (s n a : ℕ) → 0 < n → s < a * n → s / n < a

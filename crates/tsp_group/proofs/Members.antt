@@ -1,13 +1,11 @@
 -- Lemmas on the members of a value's group.
 use Rattle.std.proofs.Common.{◌≡◌, ◌∙◌, refl, ap, sym, subst, ℕ, ◌+◌, ◌-◌, ◌<◌, ◌≤◌, Bool, true, false, ℤ, pos, ◌+ℤ◌, ◌-ℤ◌, ◌≤ℤ◌, ◌<ℤ◌, List, [], ◌∷◌, ◌++◌, length, take, drop, get_or, arith, inl, inr, length-take, length-drop, append-nil}
-use Rattle.std.proofs.lemmas.Int.{ints, fold-int_max_bounds, fold-int_max_reached}
+use Rattle.std.{proofs.lemmas.Int.ints, proofs.lemmas.Int.fold-int_max_bounds, proofs.lemmas.Int.fold-int_max_reached, specs.Int.int_max}
 use Rattle.std.proofs.lemmas.List.{take-append-drop, take-append-le, get_or-take, get_or-drop}
 use Rattle.std.proofs.lemmas.List.Elements.{All-head, All-tail, All-from_get_or, All-contains, filter-append, Contains-get_or}
 use Rattle.std.specs.List.{All, Contains, fold, filter}
-use Rattle.std.specs.Int.{int_max}
 use Rattle.tsp_group.specs.Groups.{is_member, members, total, group_from}
-use Rattle.tsp_group.specs.Values.{IsAscending}
-use Rattle.tsp_group.proofs.Sums.{total-append}
+use Rattle.tsp_group.{proofs.Sums.total-append, specs.Values.IsAscending}
 
 pub is_member-below : (span : ℕ) (lo x : ℤ) → x <ℤ lo → is_member span lo x ≡ false
 is_member-below span lo x h = grind (arith, ints)

@@ -1,10 +1,7 @@
 -- Lemmas on ascending lists.
 use Rattle.std.proofs.Common.{◌≡◌, ℤ, pos, ◌≤ℤ◌, List, false, arith}
-use Rattle.std.proofs.lemmas.Int.{ints}
-use Rattle.std.proofs.lemmas.Cmp.{int_cmp_total}
-use Rattle.std.proofs.lemmas.List.Sorted.{sorted_far, ranks_by}
-use Rattle.std.specs.Ordering.{int_cmp, is_lt}
-use Rattle.std.specs.List.Sorted.{IsSorted}
+use Rattle.std.proofs.lemmas.{Cmp.int_cmp_total, Int.ints, List.Sorted.sorted_far, List.Sorted.ranks_by}
+use Rattle.std.specs.{List.Sorted.IsSorted, Ordering.int_cmp, Ordering.is_lt}
 use Rattle.tsp_group.specs.Values.{IsAscending}
 
 not_below : (x y : ℤ) → is_lt (int_cmp y x) ≡ false → x ≤ℤ y

@@ -1,15 +1,12 @@
 -- Lemmas on lists that hold the same values, each as often.
 use Rattle.std.proofs.Common.{◌≡◌, ◌∙◌, refl, ap, sym, ℕ, ◌+◌, Bool, true, false, cond, ℤ, pos, negsuc, ◌-ℤ◌, ◌≤ℤ◌, List, [], ◌∷◌, length, arith, inl, inr}
-use Rattle.std.proofs.lemmas.Int.{ints, fold-int_max_bounds, fold-int_max_reached}
+use Rattle.std.proofs.lemmas.{Int.ints, Int.fold-int_max_bounds, Int.fold-int_max_reached, List.Sums.sum_by-cons, List.Sums.length-filter}
 use Rattle.std.proofs.lemmas.List.Elements.{All-nil, All-cons, All-head, All-tail, All-contains}
-use Rattle.std.proofs.lemmas.List.Sums.{sum_by-cons, length-filter}
 use Rattle.std.proofs.lemmas.List.Sorted.{IsPermutation-sym, sum_by-IsPermutation, All-permutation}
 use Rattle.std.specs.List.{All, fold, filter, sum_by, count_by}
-use Rattle.std.specs.List.Sorted.{IsPermutation}
-use Rattle.std.specs.Int.{int_max}
+use Rattle.std.specs.{Int.int_max, List.Sorted.IsPermutation}
 use Rattle.tsp_group.specs.Groups.{is_member, members, total, group_from}
-use Rattle.tsp_group.proofs.Sums.{total-cons}
-use Rattle.tsp_group.proofs.Members.{le_antisymm_ℤ}
+use Rattle.tsp_group.proofs.{Members.le_antisymm_ℤ, Sums.total-cons}
 
 -- how far a value is above 0, and how far below
 abbrev above : ℤ → ℕ

@@ -1,11 +1,7 @@
 -- Lemmas on which of two groups goes first.
-use Rattle.std.proofs.Common.{◌≡◌, refl, ℕ, ◌==◌, nat_lt, Bool, true, false, cond, ℤ, arith}
-use Rattle.std.proofs.lemmas.Int.{ints}
-use Rattle.std.proofs.lemmas.Bool.Decides.{nat_tests}
-use Rattle.std.specs.Prelude.{int_lt, unsigned_abs}
-use Rattle.std.specs.Cmp.{IsStrictWeakOrder}
-use Rattle.tsp_group.specs.Groups.{goes_before, better}
-use Rattle.tsp_group.specs.declared.group.Group.{Group}
+use Rattle.std.proofs.Common.{◌≡◌, refl, ℕ, ◌==◌, nat_lt, Bool, true, false, cond, ℤ, arith, int_lt, unsigned_abs}
+use Rattle.std.{proofs.lemmas.Bool.Decides.nat_tests, proofs.lemmas.Int.ints, specs.Cmp.IsStrictWeakOrder}
+use Rattle.tsp_group.specs.{Groups.goes_before, Groups.better, declared.group.Group.Group}
 
 int_lt_one_way : (x y : ℤ) → int_lt x y ≡ true → int_lt y x ≡ false
 int_lt_one_way x y h = grind (arith, ints)

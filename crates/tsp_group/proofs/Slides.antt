@@ -1,16 +1,9 @@
 -- Lemmas on one step of the window.
 use Rattle.std.proofs.Common.{◌≡◌, refl, sym, ap, subst, ℕ, ◌+◌, ◌-◌, ◌<◌, ◌≤◌, ◌^◌, ℤ, pos, ◌+ℤ◌, ◌-ℤ◌, ◌≤ℤ◌, ◌<ℤ◌, List, length, get_or, arith, ◌⊎◌, inl, inr}
-use Rattle.std.proofs.lemmas.Int.{ints}
-use Rattle.std.proofs.lemmas.Bool.{cases_lt}
-use Rattle.std.proofs.lemmas.List.Elements.{All-get_or}
-use Rattle.std.specs.List.{All}
-use Rattle.tsp_group.specs.Groups.{better}
-use Rattle.tsp_group.specs.Values.{IsNear, IsAscending}
+use Rattle.std.{proofs.lemmas.Bool.cases_lt, proofs.lemmas.Int.ints, proofs.lemmas.List.Elements.All-get_or, specs.List.All}
+use Rattle.tsp_group.specs.{Groups.better, Values.IsNear, Values.IsAscending, declared.group.Group.Group, declared.window.Window.Window}
 use Rattle.tsp_group.specs.Windows.{window_of, IsSmallSum, IsWindow, IsBest, Moves, Spans}
-use Rattle.tsp_group.specs.declared.group.Group.{Group}
-use Rattle.tsp_group.specs.declared.window.Window.{Window}
-use Rattle.tsp_group.proofs.Sums.{total_more, small_total}
-use Rattle.tsp_group.proofs.Windows.{best-grows, best-moves, best-passes}
+use Rattle.tsp_group.proofs.{Sums.total_more, Sums.small_total, Windows.best-grows, Windows.best-moves, Windows.best-passes}
 
 pub window_near : (xs : List ℤ) (w : Window) → All IsNear xs → IsWindow xs w → IsNear w.lo
 window_near xs w near h = rw h.lo (All-get_or IsNear xs w.first (pos 0) h.starts near)

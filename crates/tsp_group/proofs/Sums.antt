@@ -1,12 +1,9 @@
 -- Lemmas on sums of values.
 use Rattle.std.proofs.Common.{◌≡◌, ◌∙◌, ℕ, suc, ◌+◌, ◌<◌, ◌≤◌, ◌^◌, ℤ, pos, negsuc, ◌+ℤ◌, ◌-ℤ◌, ◌*ℤ◌, ◌≤ℤ◌, List, [], ◌∷◌, ◌++◌, length, take, get_or, length-take, arith}
-use Rattle.std.proofs.lemmas.Int.{ints}
-use Rattle.std.proofs.lemmas.List.Sums.{fold_more, fold-append}
+use Rattle.std.proofs.lemmas.{Int.ints, List.Sums.fold_more, List.Sums.fold-append}
 use Rattle.std.proofs.lemmas.List.Elements.{All-head, All-tail, All-take, All-weaker}
 use Rattle.std.specs.List.{All, fold}
-use Rattle.tsp_group.specs.Groups.{total}
-use Rattle.tsp_group.specs.Values.{IsNear}
-use Rattle.tsp_group.specs.Windows.{IsSmallSum}
+use Rattle.tsp_group.specs.{Groups.total, Values.IsNear, Windows.IsSmallSum}
 
 pub total_more : (xs : List ℤ) (i : ℕ) → i < length xs → total (take (i + 1) xs) ≡ total (take i xs) +ℤ get_or xs i (pos 0)
 total_more xs i h = fold_more ◌+ℤ◌ (pos 0) xs i (pos 0) h

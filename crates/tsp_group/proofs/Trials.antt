@@ -2,8 +2,7 @@
 use Rattle.std.proofs.Common.{◌≡◌, ◌∙◌, refl, Bool, true, false, ℤ, List, [], ◌∷◌, arith, inl, inr, ◌⊎◌}
 use Rattle.std.specs.List.{All, Contains, fold}
 use Rattle.std.proofs.lemmas.List.Elements.{All-nil, All-cons, Contains-append_right}
-use Rattle.tsp_group.specs.Groups.{goes_before, better}
-use Rattle.tsp_group.specs.declared.group.Group.{Group}
+use Rattle.tsp_group.specs.{Groups.goes_before, Groups.better, declared.group.Group.Group}
 use Rattle.tsp_group.proofs.Precedence.{goes_before_order, goes_before-same, better-left, better-right, better-stays, better-takes}
 
 -- the best of a group and of f of each value

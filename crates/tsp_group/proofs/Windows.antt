@@ -1,11 +1,7 @@
 -- Lemmas on the windows of an ascending list: the values from place i to before place j.
 use Rattle.std.proofs.Common.{◌≡◌, ◌∙◌, refl, sym, ap, subst, ℕ, ◌+◌, ◌-◌, ◌<◌, ◌≤◌, ◌==◌, nat_lt, Bool, true, false, cond, ℤ, pos, ◌+ℤ◌, ◌≤ℤ◌, ◌<ℤ◌, List, length, get_or, arith, ◌⊎◌, inl, inr}
-use Rattle.std.proofs.lemmas.Int.{ints}
-use Rattle.std.proofs.lemmas.Bool.{cases_lt}
-use Rattle.std.proofs.lemmas.Bool.Decides.{nat_tests}
-use Rattle.tsp_group.specs.Groups.{goes_before, better}
-use Rattle.tsp_group.specs.Windows.{window_of, Spans, IsBest}
-use Rattle.tsp_group.specs.Values.{IsAscending}
+use Rattle.std.proofs.lemmas.{Bool.cases_lt, Bool.Decides.nat_tests, Int.ints}
+use Rattle.tsp_group.specs.{Groups.goes_before, Groups.better, Values.IsAscending, Windows.window_of, Windows.Spans, Windows.IsBest}
 use Rattle.tsp_group.specs.declared.group.Group.{Group}
 use Rattle.tsp_group.proofs.Precedence.{goes_before_order, goes_before-same, better-left, better-right, better-stays, better-takes}
 

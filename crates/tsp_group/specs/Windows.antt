@@ -1,8 +1,6 @@
 -- The windows of an ascending list, and the best of the largest ones.
 use Rattle.std.specs.Prelude.{◌≡◌, ℕ, ◌+◌, ◌-◌, ◌<◌, ◌≤◌, ◌⊎◌, false, ℤ, pos, negsuc, ◌+ℤ◌, ◌-ℤ◌, ◌≤ℤ◌, ◌<ℤ◌, List, length, take, slice_index_or}
-use Rattle.tsp_group.specs.Groups.{total, goes_before, no_group}
-use Rattle.tsp_group.specs.declared.group.Group.{Group}
-use Rattle.tsp_group.specs.declared.window.Window.{Window}
+use Rattle.tsp_group.specs.{Groups.total, Groups.goes_before, Groups.no_group, declared.group.Group.Group, declared.window.Window.Window}
 
 -- the group of the values from place i to before place j
 abbrev pub window_of : List ℤ → ℕ → ℕ → Group

@@ -1,13 +1,10 @@
 -- An act has one brief.
-use Rattle.std.specs.Prelude.{◌≡◌, ℕ, List, Option, None, Some}
-use Rattle.std.proofs.Common.{◌∙◌, ap, sym, refl}
-use Rattle.tsp_base.specs.declared.act.Act.{Act}
+use Rattle.std.proofs.Common.{◌∙◌, ap, sym, refl, ◌≡◌, ℕ, List, Option, None, Some}
+use Rattle.tsp_base.specs.declared.{act.Act.Act, datagram.Datagram.TheVariants.Message, datagram.Datagram.TheVariants.Stamp}
 use Rattle.tsp_base.specs.declared.act.Act.TheVariants as acts
-use Rattle.tsp_base.specs.declared.datagram.Datagram.TheVariants.{Message, Stamp}
 use Rattle.tsp_base.specs.declared.datagram.Taken.TheVariants.{Good, Bad}
-use Rattle.tsp_history.specs.declared.brief.Brief.{Brief}
 use Rattle.tsp_history.specs.declared.brief.Brief.TheVariants as briefs
-use Rattle.tsp_history.specs.HeldActs.{act_of}
+use Rattle.tsp_history.specs.{HeldActs.act_of, declared.brief.Brief.Brief}
 
 -- the brief of an act, or of none
 abbrev brief_of : Option Act → Brief

@@ -1,18 +1,11 @@
 -- How a history of noted lines grows.
-use Rattle.std.specs.Prelude.{◌≡◌, ◌<◌, ◌≤◌, ◌+◌, ℕ, zero, suc, Bool, true, false, MatchBool, List, [], ◌∷◌, ◌++◌, length, get_or, take}
-use Rattle.std.proofs.Common.{◌∙◌, ap, sym, subst, arith, refl, ◌⊎◌, inl, inr}
+use Rattle.std.proofs.Common.{◌∙◌, ap, sym, subst, arith, refl, ◌⊎◌, inl, inr, ◌≡◌, ◌<◌, ◌≤◌, ◌+◌, ℕ, zero, suc, Bool, true, false, MatchBool, List, [], ◌∷◌, ◌++◌, length, get_or, take}
 use Rattle.std.proofs.lemmas.List.{take_more}
-use Rattle.tsp_base.specs.declared.act.Act.TheVariants.{Back}
-use Rattle.tsp_base.specs.declared.constants.TheConstants.{HOLD}
-use Rattle.tsp_base.specs.declared.place.PeerId.{PeerId}
-use Rattle.tsp_base.specs.declared.place.Port.{Port}
-use Rattle.tsp_promises.specs.Fits.{node_of}
-use Rattle.tsp_promises.specs.Everywhere.{Everywhere}
-use Rattle.tsp_base.specs.Words.{Acts, Line, Within}
-use Rattle.tsp_base.proofs.PlaceLemmas.{Within-all}
+use Rattle.tsp_promises.specs.{Everywhere.Everywhere, Fits.node_of}
+use Rattle.tsp_base.specs.{Words.Acts, Words.Line, Words.Within, declared.act.Act.TheVariants.Back, declared.constants.TheConstants.HOLD}
+use Rattle.tsp_base.{proofs.PlaceLemmas.Within-all, specs.declared.place.PeerId.PeerId, specs.declared.place.Port.Port}
 use Rattle.tsp_history.specs.declared.line.HistoryLine.{HistoryLine}
-use Rattle.tsp_history.specs.Histories.{line_of, noted_after, history_of}
-use Rattle.tsp_history.specs.Holding.{HoldsApart}
+use Rattle.tsp_history.specs.{Histories.line_of, Histories.noted_after, Histories.history_of, Holding.HoldsApart}
 
 -- what holds at every place of a longer history holds at every place of a shorter one
 pub Everywhere-before : (P : Line → List Line → Type 0) (h : List Line) (ns : List HistoryLine) → Everywhere P (noted_after h ns) → Everywhere P h

@@ -1,24 +1,13 @@
 -- What is known after the lines of a history.
-use Rattle.std.specs.Prelude.{◌≡◌, ◌<◌, ◌≤◌, ◌==◌, ◌+◌, ◌^◌, ℕ, ℤ, false, List, [], ◌∷◌, ◌++◌, length, get_or, take, min}
-use Rattle.std.proofs.Common.{◌∙◌, ap, sym, subst, arith, refl, ◌⊎◌, inl, inr, eq-eqb}
-use Rattle.std.proofs.lemmas.Bool.{cases_lt}
-use Rattle.std.proofs.lemmas.Int.{ints}
+use Rattle.std.proofs.Common.{◌∙◌, ap, sym, subst, arith, refl, ◌⊎◌, inl, inr, eq-eqb, ◌≡◌, ◌<◌, ◌≤◌, ◌==◌, ◌+◌, ◌^◌, ℕ, ℤ, false, List, [], ◌∷◌, ◌++◌, length, get_or, take, min}
 use Rattle.std.proofs.lemmas.List.{get_or_default, get_or-take, length-append, length-take, length-take-le, take_all, take_at, take-append-le, take-take}
-use Rattle.std.proofs.Math.ListN.{get_or-append}
-use Rattle.std.proofs.Math.Seq.{get_or-append_seam}
-use Rattle.tsp_base.specs.declared.place.Port.{Port}
+use Rattle.std.proofs.{Math.ListN.get_or-append, Math.Seq.get_or-append_seam, lemmas.Bool.cases_lt, lemmas.Int.ints}
 use Rattle.tsp_base.specs.Words.{Line, of, dids, posted, all_corrects, boot_tick, lives, moved, wall}
-use Rattle.tsp_base.proofs.ViewPlaces.{port-same}
-use Rattle.tsp_history.specs.declared.line.HistoryLine.{HistoryLine}
-use Rattle.tsp_history.specs.declared.notes.NodeNote.{NodeNote}
-use Rattle.tsp_history.specs.declared.notes.PortNote.{PortNote}
-use Rattle.tsp_history.specs.Changes.{BeginsOn}
-use Rattle.tsp_history.specs.Clocks.{IsSumOf}
-use Rattle.tsp_history.specs.Histories.{line_of, noted_after, history_of}
+use Rattle.tsp_base.{proofs.ViewPlaces.port-same, specs.declared.place.Port.Port}
+use Rattle.tsp_history.specs.{Changes.BeginsOn, Clocks.IsSumOf, Histories.line_of, Histories.noted_after, Histories.history_of}
 use Rattle.tsp_history.specs.Notes.{LastAt, NodeKnown, NoteIs, PortKnown, Quiet, Told}
-use Rattle.tsp_history.specs.Spacing.{SpacedBy}
-use Rattle.tsp_history.proofs.HistoryLemmas.{history-more}
-use Rattle.tsp_history.proofs.SpacingLemmas.{spaced-other}
+use Rattle.tsp_history.specs.{Spacing.SpacedBy, declared.line.HistoryLine.HistoryLine, declared.notes.NodeNote.NodeNote}
+use Rattle.tsp_history.{proofs.HistoryLemmas.history-more, proofs.SpacingLemmas.spaced-other, specs.declared.notes.PortNote.PortNote}
 use Rattle.tsp_promises.proofs.HistoryPlaces.{of-other}
 
 -- a history is longer by its lines

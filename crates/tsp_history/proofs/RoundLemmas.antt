@@ -1,27 +1,15 @@
 -- How exchanges and samples are told.
-use Rattle.std.specs.Prelude.{◌≡◌, ◌==◌, ◌<◌, ℕ, ℤ, pos, ◌-ℤ◌, ◌+ℤ◌, int_lt, Bool, true, false, if◌then◌else◌, List, ◌∷◌, length, get_or, take, Option, None, Some}
-use Rattle.std.proofs.Common.{◌∙◌, ap, ap₂, arith, sym, subst, refl, eq-eqb}
-use Rattle.std.proofs.lemmas.Int.{ints}
-use Rattle.std.proofs.lemmas.List.{length-take-le}
-use Rattle.tsp_base.specs.declared.act.Act.{Act}
-use Rattle.tsp_base.specs.declared.act.Act.TheVariants.{Post, Sample}
-use Rattle.tsp_base.specs.declared.datagram.Datagram.{Datagram}
-use Rattle.tsp_base.specs.declared.place.PeerId.{PeerId}
-use Rattle.tsp_base.specs.declared.place.Place.{Place}
-use Rattle.tsp_base.specs.declared.place.Port.{Port}
+use Rattle.std.proofs.Common.{◌∙◌, ap, ap₂, arith, sym, subst, refl, eq-eqb, ◌≡◌, ◌==◌, ◌<◌, ℕ, ℤ, pos, ◌-ℤ◌, ◌+ℤ◌, int_lt, Bool, true, false, if◌then◌else◌, List, ◌∷◌, length, get_or, take, Option, None, Some}
+use Rattle.std.proofs.lemmas.{Int.ints, List.length-take-le}
+use Rattle.tsp_base.specs.declared.{act.Act.Act, act.Act.TheVariants.Post, act.Act.TheVariants.Sample, datagram.Datagram.Datagram}
+use Rattle.tsp_base.specs.declared.place.{PeerId.PeerId, Place.Place, Port.Port}
 use Rattle.tsp_promises.specs.Fits.{node_of}
 use Rattle.tsp_base.specs.Words.{Acts, Did, Line, Seen, Here, of, view, dids, boot_after, boot_tick, moved, moved_after, target, wall, wall_after, Sampled, best, best_after, better, exchange, target_there}
-use Rattle.tsp_base.proofs.ViewPlaces.{port-same}
-use Rattle.tsp_base.proofs.Views.{plain_view}
+use Rattle.tsp_base.proofs.{ViewPlaces.port-same, Views.plain_view}
 use Rattle.tsp_history.specs.declared.line.HistoryLine.{HistoryLine}
-use Rattle.tsp_history.specs.declared.rounds.Best.{Best}
-use Rattle.tsp_history.specs.Histories.{deed_of, line_of, history_of}
-use Rattle.tsp_history.specs.Posts.{IsPost}
+use Rattle.tsp_history.specs.{Histories.deed_of, Histories.line_of, Histories.history_of, Posts.IsPost, declared.rounds.Best.Best}
 use Rattle.tsp_history.specs.Rounds.{Asked, AskedAt, BestAt, Bests, better_of, IsSampleOf, LineAt, SeenAt, TripsTell, sample_in, sampled_at, start_of, trip_after, trip_at}
-use Rattle.tsp_history.proofs.HistoryLemmas.{Within-noted}
-use Rattle.tsp_history.proofs.NoteLemmas.{length-history}
-use Rattle.tsp_history.proofs.SendLemmas.{view-here}
-use Rattle.tsp_history.proofs.SpacingLemmas.{of-own}
+use Rattle.tsp_history.proofs.{HistoryLemmas.Within-noted, NoteLemmas.length-history, SendLemmas.view-here, SpacingLemmas.of-own}
 
 -- a line among others, by its index
 pub line-at : (ns : List HistoryLine) (i : ℕ) (n : HistoryLine) → i < length ns → get_or ns i n ≡ n → LineAt ns i n

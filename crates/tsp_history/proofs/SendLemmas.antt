@@ -1,19 +1,11 @@
 -- How a port's own line is seen.
-use Rattle.std.specs.Prelude.{◌≡◌, ◌==◌, ◌||◌, ◌<◌, ◌+◌, ◌-◌, ℕ, Bool, true, if◌then◌else◌, List, ◌∷◌, length, get_or, take}
-use Rattle.std.proofs.Common.{◌∙◌, ap, arith, sym, subst}
-use Rattle.tsp_base.specs.declared.place.Port.{Port}
+use Rattle.std.proofs.Common.{◌∙◌, ap, arith, sym, subst, ◌≡◌, ◌==◌, ◌||◌, ◌<◌, ◌+◌, ◌-◌, ℕ, Bool, true, if◌then◌else◌, List, ◌∷◌, length, get_or, take}
 use Rattle.tsp_promises.specs.Fits.{node_of}
 use Rattle.tsp_base.specs.Words.{Line, Here, Seen, dids, of, view, seen_as, is_shared, posted, posted_after}
-use Rattle.tsp_base.proofs.ViewPlaces.{sees-own}
-use Rattle.tsp_history.specs.declared.line.HistoryLine.{HistoryLine}
-use Rattle.tsp_history.specs.Changes.{BeginsOn}
-use Rattle.tsp_history.specs.Histories.{deed_of, history_of, line_of}
-use Rattle.tsp_history.specs.Notes.{Told}
-use Rattle.tsp_history.specs.PostedPlaces.{PostedAt}
-use Rattle.tsp_history.specs.Posts.{IsPost}
-use Rattle.tsp_history.proofs.HistoryLemmas.{Within-noted}
-use Rattle.tsp_history.proofs.NoteLemmas.{begins-port}
-use Rattle.tsp_history.proofs.SpacingLemmas.{of-own}
+use Rattle.tsp_base.{proofs.ViewPlaces.sees-own, specs.declared.place.Port.Port}
+use Rattle.tsp_history.specs.{Changes.BeginsOn, Histories.deed_of, Histories.history_of, Histories.line_of, Notes.Told, Posts.IsPost}
+use Rattle.tsp_history.specs.{PostedPlaces.PostedAt, declared.line.HistoryLine.HistoryLine}
+use Rattle.tsp_history.proofs.{HistoryLemmas.Within-noted, NoteLemmas.begins-port, SpacingLemmas.of-own}
 
 -- a port's own line, as it sees it
 pub view-here : (n : ℕ) (q : Port) (l : Line) (h : List Line) → node_of l ≡ n → l.port ≡ q → view q (of n (l ∷ h)) ≡ (Here l.did ∷ view q (of n h))

@@ -1,20 +1,12 @@
 -- How spacing carries over a line.
-use Rattle.std.specs.Prelude.{◌≡◌, ◌<◌, ◌≤◌, ◌+◌, ◌==◌, ℕ, ℤ, nat_lt, if◌then◌else◌, Bool, true, false, List, [], ◌∷◌, Option, None, Some, MatchBool}
-use Rattle.std.proofs.Common.{◌∙◌, ap, sym, subst, arith, refl, inl, inr, eq-eqb}
+use Rattle.std.proofs.Common.{◌∙◌, ap, sym, subst, arith, refl, inl, inr, eq-eqb, ◌≡◌, ◌<◌, ◌≤◌, ◌+◌, ◌==◌, ℕ, ℤ, nat_lt, if◌then◌else◌, Bool, true, false, List, [], ◌∷◌, Option, None, Some, MatchBool}
 use Rattle.std.proofs.lemmas.Bool.{ltb-false, ltb-true}
-use Rattle.tsp_base.specs.declared.act.Act.{Act}
-use Rattle.tsp_base.specs.declared.act.Act.TheVariants.{Boot, Correct}
-use Rattle.tsp_base.specs.declared.constants.TheConstants.{GAP}
-use Rattle.tsp_promises.specs.Fits.{node_of}
-use Rattle.tsp_promises.proofs.HistoryPlaces.{of-other}
-use Rattle.tsp_promises.proofs.SteadyProof.{lives-more}
+use Rattle.tsp_base.specs.declared.{act.Act.Act, act.Act.TheVariants.Boot, act.Act.TheVariants.Correct, constants.TheConstants.GAP}
+use Rattle.tsp_promises.{proofs.HistoryPlaces.of-other, proofs.SteadyProof.lives-more, specs.Fits.node_of}
 use Rattle.tsp_base.specs.Words.{Acts, Line, of, dids, lives, lives_after, Within}
 use Rattle.tsp_base.proofs.PlaceLemmas.{Within-tail}
-use Rattle.tsp_history.specs.declared.brief.Brief.{Brief}
-use Rattle.tsp_history.specs.declared.brief.Brief.TheVariants.{Boot as BriefBoot, Correct as BriefCorrect}
-use Rattle.tsp_history.specs.HeldActs.{act_of}
-use Rattle.tsp_history.specs.Histories.{deed_of}
-use Rattle.tsp_history.specs.Spacing.{later_of, Spaced, SpacedBy}
+use Rattle.tsp_history.specs.declared.brief.Brief.{Brief, TheVariants.Boot as BriefBoot, TheVariants.Correct as BriefCorrect}
+use Rattle.tsp_history.specs.{HeldActs.act_of, Histories.deed_of, Spacing.later_of, Spacing.Spaced, Spacing.SpacedBy}
 
 -- a node's lines with one of its own
 pub of-own : (n : ℕ) (l : Line) (h : List Line) → node_of l ≡ n → of n (l ∷ h) ≡ (l ∷ of n h)

@@ -1,9 +1,7 @@
 -- What a line does to a place that is sought.
 use Rattle.std.specs.Prelude.{◌≡◌, ℕ, Bool, if◌then◌else◌, List, [], ◌∷◌, Option, None, Some}
-use Rattle.tsp_base.specs.declared.place.Port.{Port}
-use Rattle.tsp_base.specs.Words.{Did, Seen, Here}
-use Rattle.tsp_history.specs.declared.change.Change.{Change}
-use Rattle.tsp_history.specs.declared.change.Change.TheVariants.{Keeps, Ends, Begins}
+use Rattle.tsp_base.specs.{Words.Did, Words.Seen, Words.Here, declared.place.Port.Port}
+use Rattle.tsp_history.specs.declared.change.Change.{Change, TheVariants.Keeps, TheVariants.Ends, TheVariants.Begins}
 use Rattle.tsp_history.specs.declared.line.HistoryLine.{HistoryLine}
 
 -- the place after a deed that changes it so, where `keep` was the place before; it begins one only where the flag

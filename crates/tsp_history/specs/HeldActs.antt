@@ -1,13 +1,9 @@
 -- Acts that are held without the names in their messages, and what they are with these.
 use Rattle.std.specs.Prelude.{◌≡◌, ℕ, true, List, Option, None, Some}
-use Rattle.tsp_base.specs.declared.act.Act.{Act}
 use Rattle.tsp_base.specs.declared.act.Act.TheVariants as acts
-use Rattle.tsp_base.specs.declared.datagram.Datagram.{Datagram}
-use Rattle.tsp_base.specs.declared.datagram.Datagram.TheVariants.{Message, Stamp}
-use Rattle.tsp_base.specs.declared.datagram.Taken.TheVariants.{Good, Bad}
-use Rattle.tsp_base.specs.declared.kind.Kind.{Kind}
-use Rattle.tsp_base.specs.declared.message.Body.{Body}
-use Rattle.tsp_base.specs.Words.{MessageValue, body_fits, IsName}
+use Rattle.tsp_base.specs.declared.{datagram.Datagram.TheVariants.Message, datagram.Datagram.TheVariants.Stamp, kind.Kind.Kind}
+use Rattle.tsp_base.specs.declared.{datagram.Taken.TheVariants.Good, datagram.Taken.TheVariants.Bad, message.Body.Body}
+use Rattle.tsp_base.specs.{Words.MessageValue, Words.body_fits, Words.IsName, declared.act.Act.Act, declared.datagram.Datagram.Datagram}
 use Rattle.tsp_history.specs.declared.brief.Brief.{Brief}
 use Rattle.tsp_history.specs.declared.brief.Brief.TheVariants as briefs
 

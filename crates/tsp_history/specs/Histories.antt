@@ -2,8 +2,7 @@
 use Rattle.std.specs.Prelude.{List, [], ◌∷◌, Option, None, Some}
 use Rattle.tsp_base.specs.declared.act.Act.{Act}
 use Rattle.tsp_base.specs.Words.{Cause, Booted, Turned, Came, Handed, Deed, Begins, Acts, Line}
-use Rattle.tsp_history.specs.declared.line.HistoryLine.{HistoryLine}
-use Rattle.tsp_history.specs.declared.line.Why.{Why}
+use Rattle.tsp_history.specs.declared.line.{HistoryLine.HistoryLine, Why.Why}
 use Rattle.tsp_history.specs.declared.line.Why.TheVariants.{Booted as ByBoot, Turned as ByTurn, Came as ByPost, Handed as ByHand}
 
 -- why a step happens, as a cause of the history

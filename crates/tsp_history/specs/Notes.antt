@@ -3,14 +3,9 @@ use Rattle.std.specs.Prelude.{◌≡◌, ◌<◌, ◌≤◌, ℕ, ◌+◌, Bool,
 use Rattle.tsp_base.specs.declared.place.Port.{Port}
 use Rattle.tsp_promises.specs.Fits.{node_of}
 use Rattle.tsp_base.specs.Words.{Line, of, view, dids, all_corrects, lives, role, is_going, posted}
-use Rattle.tsp_history.specs.declared.counts.Counts.{Counts}
-use Rattle.tsp_history.specs.declared.line.HistoryLine.{HistoryLine}
-use Rattle.tsp_history.specs.declared.notes.NodeNote.{NodeNote}
-use Rattle.tsp_history.specs.declared.notes.Note.{Note}
+use Rattle.tsp_history.specs.declared.{counts.Counts.Counts, line.HistoryLine.HistoryLine, notes.NodeNote.NodeNote, notes.Note.Note}
 use Rattle.tsp_history.specs.declared.notes.PortNote.{PortNote}
-use Rattle.tsp_history.specs.Clocks.{IsSumOf, KeepsClock}
-use Rattle.tsp_history.specs.Histories.{line_of, history_of}
-use Rattle.tsp_history.specs.Spacing.{SpacedBy}
+use Rattle.tsp_history.specs.{Clocks.IsSumOf, Clocks.KeepsClock, Histories.line_of, Histories.history_of, Spacing.SpacedBy}
 
 -- the boots and the corrections of node n are counted
 pub record AreCounted (n : ℕ) (h : List Line) (c : Counts) : Type 0 where

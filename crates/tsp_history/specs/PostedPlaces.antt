@@ -1,9 +1,6 @@
 -- Places of a history, each by a number.
 use Rattle.std.specs.Prelude.{◌≡◌, ℕ, List, [], ◌∷◌, Option, None, Some}
-use Rattle.tsp_base.specs.declared.act.Act.TheVariants.{Post}
-use Rattle.tsp_base.specs.declared.datagram.Datagram.{Datagram}
-use Rattle.tsp_base.specs.declared.place.Place.{Place}
-use Rattle.tsp_base.specs.declared.place.Port.{Port}
+use Rattle.tsp_base.specs.declared.{act.Act.TheVariants.Post, datagram.Datagram.Datagram, place.Place.Place, place.Port.Port}
 use Rattle.tsp_promises.specs.Fits.{node_of}
 use Rattle.tsp_base.specs.Words.{Acts, Line, Seen, Here, of, dids, view, Within, posted}
 

@@ -1,11 +1,8 @@
 -- The post of a datagram, among noted lines.
 use Rattle.std.specs.Prelude.{◌≡◌, ◌<◌, ℕ, List, ◌∷◌, length, get_or, take, Some}
-use Rattle.tsp_base.specs.declared.act.Act.TheVariants.{Post}
-use Rattle.tsp_base.specs.declared.datagram.Datagram.{Datagram}
 use Rattle.tsp_base.specs.declared.place.Place.{Place}
-use Rattle.tsp_base.specs.Words.{dids, Within, posted}
-use Rattle.tsp_history.specs.declared.line.HistoryLine.{HistoryLine}
-use Rattle.tsp_history.specs.Histories.{line_of, history_of}
+use Rattle.tsp_base.specs.{Words.dids, Words.Within, Words.posted, declared.act.Act.TheVariants.Post, declared.datagram.Datagram.Datagram}
+use Rattle.tsp_history.specs.{Histories.line_of, Histories.history_of, declared.line.HistoryLine.HistoryLine}
 
 -- a line posts something
 pub record IsPost (noted : HistoryLine) : Type 0 where

@@ -1,14 +1,9 @@
 -- The exchanges and the samples of a port's round, among noted lines.
 use Rattle.std.specs.Prelude.{◌≡◌, ◌<◌, ℕ, ℤ, pos, ◌-ℤ◌, int_lt, if◌then◌else◌, List, [], ◌∷◌, length, get_or, take, Option, None, Some}
-use Rattle.tsp_base.specs.declared.act.Act.{Act}
-use Rattle.tsp_base.specs.declared.act.Act.TheVariants.{Sample}
-use Rattle.tsp_base.specs.declared.place.PeerId.{PeerId}
-use Rattle.tsp_base.specs.declared.place.Port.{Port}
+use Rattle.tsp_base.specs.declared.{act.Act.Act, act.Act.TheVariants.Sample, place.PeerId.PeerId, place.Port.Port}
 use Rattle.tsp_promises.specs.Fits.{node_of}
 use Rattle.tsp_base.specs.Words.{Deed, Acts, Did, Line, Seen, Here, of, plain, view, target, Within, Sampled, exchange, target_there}
-use Rattle.tsp_history.specs.declared.line.HistoryLine.{HistoryLine}
-use Rattle.tsp_history.specs.declared.rounds.Best.{Best}
-use Rattle.tsp_history.specs.Histories.{line_of, history_of}
+use Rattle.tsp_history.specs.{Histories.line_of, Histories.history_of, declared.line.HistoryLine.HistoryLine, declared.rounds.Best.Best}
 
 -- an exchange that is open, by the clock's target at its request
 pub record AskedAt (seen : List Seen) (t : ℤ) : Type 0 where

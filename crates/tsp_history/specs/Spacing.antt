@@ -1,7 +1,6 @@
 -- How far corrections of a clock lie apart.
 use Rattle.std.specs.Prelude.{◌≡◌, ◌<◌, ◌≤◌, ℕ, ◌+◌, if◌then◌else◌, nat_lt, ℤ, Bool, true, List, ◌∷◌, Option, None, Some, MatchBool}
-use Rattle.tsp_base.specs.declared.act.Act.TheVariants.{Correct}
-use Rattle.tsp_base.specs.declared.constants.TheConstants.{GAP}
+use Rattle.tsp_base.specs.declared.{act.Act.TheVariants.Correct, constants.TheConstants.GAP}
 use Rattle.tsp_promises.specs.Fits.{node_of}
 use Rattle.tsp_base.specs.Words.{Acts, Line, of, dids, lives, Within}
 

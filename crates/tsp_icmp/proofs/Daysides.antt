@@ -1,8 +1,6 @@
 -- What an exchange says is right where the clocks are at most half a day apart.
-use Rattle.std.proofs.Common.{◌≡◌, ℕ, ◌<◌, ◌/◌, refl, sym, ap, ◌∙◌, arith, ℤ, pos, negsuc, ◌+ℤ◌, ◌-ℤ◌, ◌*ℤ◌, ◌≤ℤ◌, ◌<ℤ◌, Bool, true, false, Some, None}
-use Rattle.std.specs.Prelude.{int_le, if◌then◌else◌, IsSomeAnd}
-use Rattle.std.specs.Int.{int_div_euclid}
-use Rattle.std.proofs.lemmas.Int.{ints}
+use Rattle.std.proofs.Common.{◌≡◌, ℕ, ◌<◌, ◌/◌, refl, sym, ap, ◌∙◌, arith, ℤ, pos, negsuc, ◌+ℤ◌, ◌-ℤ◌, ◌*ℤ◌, ◌≤ℤ◌, ◌<ℤ◌, Bool, true, false, Some, None, int_le, if◌then◌else◌, IsSomeAnd}
+use Rattle.std.{proofs.lemmas.Int.ints, specs.Int.int_div_euclid}
 use Rattle.tsp_icmp.specs.Days.{in_day, trip_of, shift_of, lesser_half, greater_half, difference_of, milli_of, IsAtMost, Dayside}
 
 -- a number is whole days and what lies in the last

@@ -2,10 +2,8 @@
 use Rattle.std.proofs.Common.{rules, ◌≡◌, ℕ, ◌+◌, ◌<◌, ◌^◌, List, [], ◌∷◌, ◌++◌, zero, suc, length, get_or, refl, sym, ap, ◌∙◌, arith, Bool, true, false}
 use Rattle.std.specs.Int.{w16, w32, from_be_bytes, to_be_bytes}
 use Rattle.std.proofs.lemmas.Nat.{from_be_bytes-to_be_bytes_2, from_be_bytes-to_be_bytes_4, be_bytes_2, be_bytes_4}
-use Rattle.tsp_icmp.specs.Checksums.{checksum}
+use Rattle.tsp_icmp.specs.{Checksums.checksum, declared.timestamp.IcmpFault.IcmpFault, declared.timestamp.Timestamp.Timestamp}
 use Rattle.tsp_icmp.specs.Spelling.{type_of, icmp_octets, IsTimestamp, without_checksum, octet, HasFault, IsIcmpFault}
-use Rattle.tsp_icmp.specs.declared.timestamp.Timestamp.{Timestamp}
-use Rattle.tsp_icmp.specs.declared.timestamp.IcmpFault.{IcmpFault}
 use Rattle.tsp_icmp.specs.declared.timestamp.IcmpFault.TheVariants.{Length, Kind, Code, Checksum}
 
 -- the octets behind the checksum, each by its place

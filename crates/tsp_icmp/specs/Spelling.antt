@@ -1,9 +1,7 @@
 -- The octets of a Timestamp message (RFC 792), and why octets aren't one.
 use Rattle.std.specs.Prelude.{◌≢◌, ℕ, ◌<◌, ◌^◌, List, [], ◌∷◌, ◌++◌, length, take, drop, slice_index_or, slice_range, Bool, true, false}
 use Rattle.std.specs.Int.{w16, w32, to_be_bytes}
-use Rattle.tsp_icmp.specs.Checksums.{checksum}
-use Rattle.tsp_icmp.specs.declared.timestamp.Timestamp.{Timestamp}
-use Rattle.tsp_icmp.specs.declared.timestamp.IcmpFault.{IcmpFault}
+use Rattle.tsp_icmp.specs.{Checksums.checksum, declared.timestamp.IcmpFault.IcmpFault, declared.timestamp.Timestamp.Timestamp}
 use Rattle.tsp_icmp.specs.declared.timestamp.IcmpFault.TheVariants.{Length, Kind, Code, Checksum}
 
 -- the type: 13, or 14 for the reply

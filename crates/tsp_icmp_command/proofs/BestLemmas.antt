@@ -1,14 +1,9 @@
 -- The best differences go on with each difference.
-use Rattle.std.proofs.Common.{◌≡◌, ℕ, List, [], ◌∷◌, ◌++◌, Bool, true, false, Option, Some, None, refl, sym, ap, ◌∙◌, append-nil}
-use Rattle.std.specs.Prelude.{◌≢◌, if◌then◌else◌, not, ◌&&◌, nat_lt}
-use Rattle.std.specs.List.{filter, fold, cons_option}
-use Rattle.std.specs.Str.{bytes_eq}
-use Rattle.std.specs.Cmp.Lexicographic.{same_text, other_text}
-use Rattle.std.proofs.lemmas.List.Sums.{fold-append}
-use Rattle.std.proofs.lemmas.List.Elements.{filter_map-append}
+use Rattle.std.proofs.Common.{◌≡◌, ℕ, List, [], ◌∷◌, ◌++◌, Bool, true, false, Option, Some, None, refl, sym, ap, ◌∙◌, append-nil, ◌≢◌, if◌then◌else◌, not, ◌&&◌, nat_lt}
+use Rattle.std.specs.{Cmp.Lexicographic.same_text, Cmp.Lexicographic.other_text, List.filter, List.fold, List.cons_option, Str.bytes_eq}
+use Rattle.std.proofs.lemmas.List.{Elements.filter_map-append, Sums.fold-append}
 use Rattle.tsp_icmp_command.specs.Bests.{BestValue, is_same_clock, of_shorter_trip, bests, note, with_difference, difference_in, differences}
-use Rattle.tsp_icmp_command.specs.Findings.{finding_of}
-use Rattle.tsp_icmp_command.specs.declared.exchange.Exchange.{Exchange}
+use Rattle.tsp_icmp_command.specs.{Findings.finding_of, declared.exchange.Exchange.Exchange}
 
 -- tests of names
 equal-case : (t : Bool) (xs ys : List ℕ) → bytes_eq xs ys ≡ t → xs ≡ ys → bytes_eq xs ys ≡ true

@@ -1,8 +1,6 @@
 -- Each clock's best difference is its first of least trip.
-use Rattle.std.proofs.Common.{◌≡◌, ◌<◌, ◌≤◌, List, [], ◌∷◌, ◌++◌, Bool, true, false, nat_lt, refl, sym, ap, ◌∙◌, arith, subst}
-use Rattle.std.specs.Prelude.{if◌then◌else◌, not, ◌&&◌}
-use Rattle.std.specs.List.{All, filter, fold}
-use Rattle.std.specs.Cmp.Lexicographic.{same_text}
+use Rattle.std.proofs.Common.{◌≡◌, ◌<◌, ◌≤◌, List, [], ◌∷◌, ◌++◌, Bool, true, false, nat_lt, refl, sym, ap, ◌∙◌, arith, subst, if◌then◌else◌, not, ◌&&◌}
+use Rattle.std.specs.{Cmp.Lexicographic.same_text, List.All, List.filter, List.fold}
 use Rattle.std.proofs.lemmas.List.Elements.{All-nil, All-cons, All-head, All-tail, All-filter, filter_passes}
 use Rattle.tsp_icmp_command.specs.Bests.{BestValue, is_same_clock, of_shorter_trip, bests, IsBestDifference}
 use Rattle.tsp_icmp_command.proofs.BestLemmas.{equal, name-of_shorter_trip, name-fold}

@@ -1,6 +1,5 @@
 -- Laws of the words that a line is cut into.
-use Rattle.std.proofs.Common.{◌≡◌, ℕ, ◌<◌, ◌≤◌, List, [], ◌∷◌, ◌++◌, length, Bool, true, false, refl, ap, arith}
-use Rattle.std.specs.Prelude.{◌==◌, if◌then◌else◌}
+use Rattle.std.proofs.Common.{◌≡◌, ℕ, ◌<◌, ◌≤◌, List, [], ◌∷◌, ◌++◌, length, Bool, true, false, refl, ap, arith, ◌==◌, if◌then◌else◌}
 use Rattle.tsp_script.specs.Words.{first_word, after_word}
 
 front-case : (b : Bool) (c : ℕ) (cs : List ℕ) → length (first_word cs) ≤ length cs → length (if b then [] else c ∷ first_word cs) ≤ length (c ∷ cs)

@@ -1,13 +1,9 @@
 -- The averaging is definite, and gives lines of exchanges the answer that is due.
 use Rattle.std.proofs.Common.{◌≡◌, ℕ, ◌≤◌, List, [], ◌∷◌, ◌++◌, refl, sym, ap, ◌∙◌, map, length, length-append, arith}
-use Rattle.tsp_lines.specs.Answers.{IsAnswer}
-use Rattle.tsp_lines.specs.Definite.{IsDefinite}
-use Rattle.tsp_lines.specs.Lines.{close, closed}
-use Rattle.tsp_lines.specs.declared.treat.Outcome.TheVariants.{Ok as Done}
-use Rattle.tsp_icmp_command.specs.Bests.{bests, differences, group_lines}
+use Rattle.tsp_lines.specs.{Answers.IsAnswer, Definite.IsDefinite, Lines.close, Lines.closed, declared.treat.Outcome.TheVariants.Ok as Done}
 use Rattle.tsp_icmp_command.specs.Meaning.{averaging, exchange_line, AreExchangeLines}
 use Rattle.tsp_icmp_command.proofs.OneExchange.{IsExchange-not_refused, RefusesRecord-one, exchanges-one, exchanges-before}
-use Rattle.tsp_icmp_command.proofs.TreatLemmas.{output-more}
+use Rattle.tsp_icmp_command.{proofs.TreatLemmas.output-more, specs.Bests.bests, specs.Bests.differences, specs.Bests.group_lines}
 
 room : (lines : List (List ℕ)) (line : List ℕ) → length (lines ++ line ∷ []) ≤ 1000 → 1000 ≤ length lines → ⊥
 room lines line few full = omega (arith, few, full, length-append lines (line ∷ []))

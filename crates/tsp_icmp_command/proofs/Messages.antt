@@ -1,11 +1,8 @@
 -- A word of hexadecimal says one thing.
-use Rattle.std.proofs.Common.{◌≡◌, ℕ, List, Ok, Err, refl, sym, ap, ◌∙◌}
-use Rattle.std.specs.Prelude.{Contains}
+use Rattle.std.proofs.Common.{◌≡◌, ℕ, List, Ok, Err, refl, sym, ap, ◌∙◌, Contains}
 use Rattle.std.specs.declared.result.Result.{Result}
-use Rattle.hex.specs.Hex.{decode_of, is_hex_digit}
-use Rattle.hex.proofs.HexLemmas.{decode_of-ok, decode_of-same}
-use Rattle.tsp_icmp.specs.declared.timestamp.Timestamp.{Timestamp}
-use Rattle.tsp_icmp.specs.declared.timestamp.IcmpFault.{IcmpFault}
+use Rattle.hex.{proofs.HexLemmas.decode_of-ok, proofs.HexLemmas.decode_of-same, specs.Hex.decode_of, specs.Hex.is_hex_digit}
+use Rattle.tsp_icmp.specs.declared.timestamp.{IcmpFault.IcmpFault, Timestamp.Timestamp}
 use Rattle.tsp_icmp.proofs.Octets.{icmp_octets-injective, icmp_octets-no_fault, IsIcmpFault-one}
 use Rattle.tsp_icmp_command.specs.Records.{SaysRecord, SaysInHex}
 use Rattle.tsp_script.proofs.Outcomes.{true_or_false}

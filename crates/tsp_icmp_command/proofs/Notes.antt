@@ -1,11 +1,7 @@
 -- How each clock's best difference goes on.
-use Rattle.std.proofs.Common.{◌≡◌, ℕ, ◌+◌, ◌<◌, List, [], ◌∷◌, ◌++◌, zero, suc, length, Bool, true, false, Some, None, cond, nat_lt, get_or, slice_set, refl, ap, ◌∙◌, arith}
-use Rattle.std.specs.Prelude.{if◌then◌else◌, not, ◌&&◌, position}
-use Rattle.std.specs.List.{position_or_len}
-use Rattle.std.specs.Str.{bytes_eq}
-use Rattle.std.proofs.lemmas.List.{set-get_or}
-use Rattle.std.proofs.lemmas.List.Sums.{passes_at_first}
-use Rattle.std.proofs.lemmas.Bool.{lt-ltb}
+use Rattle.std.proofs.Common.{◌≡◌, ℕ, ◌+◌, ◌<◌, List, [], ◌∷◌, ◌++◌, zero, suc, length, Bool, true, false, Some, None, cond, nat_lt, get_or, slice_set, refl, ap, ◌∙◌, arith, if◌then◌else◌, not, ◌&&◌, position}
+use Rattle.std.specs.{List.position_or_len, Str.bytes_eq}
+use Rattle.std.proofs.lemmas.{Bool.lt-ltb, List.set-get_or, List.Sums.passes_at_first}
 use Rattle.tsp_icmp_command.specs.Bests.{BestValue, is_same_clock, of_shorter_trip, note}
 
 -- whether a difference is of this clock

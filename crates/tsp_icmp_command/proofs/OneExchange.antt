@@ -1,16 +1,10 @@
 -- A line is one exchange, or is refused for one cause.
-use Rattle.std.proofs.Common.{◌≡◌, ℕ, List, [], ◌∷◌, ◌++◌, true, false, Ok, Err, inl, inr, refl, sym, ap, ◌∙◌, arith}
-use Rattle.std.specs.Prelude.{codes}
-use Rattle.std.proofs.lemmas.Fmt.{decimal_injective}
-use Rattle.std.specs.List.{AllZip}
-use Rattle.std.specs.declared.result.Result.{Result}
-use Rattle.tsp_icmp.specs.declared.timestamp.Timestamp.{Timestamp}
-use Rattle.tsp_icmp.specs.declared.timestamp.IcmpFault.{IcmpFault}
+use Rattle.std.proofs.Common.{◌≡◌, ℕ, List, [], ◌∷◌, ◌++◌, true, false, Ok, Err, inl, inr, refl, sym, ap, ◌∙◌, arith, codes}
+use Rattle.std.{proofs.lemmas.Fmt.decimal_injective, specs.List.AllZip, specs.declared.result.Result.Result}
+use Rattle.tsp_icmp.specs.declared.timestamp.{IcmpFault.IcmpFault, Timestamp.Timestamp}
 use Rattle.tsp_icmp_command.specs.Records.{IsRecord, expected, IsExchange, icmp_fault_word, RefusesRecord}
-use Rattle.tsp_icmp_command.specs.declared.record.Record.{Record}
-use Rattle.tsp_icmp_command.specs.declared.exchange.Exchange.{Exchange}
-use Rattle.tsp_icmp_command.proofs.Messages.{SaysInHex-one}
-use Rattle.tsp_icmp_command.proofs.RecordLemmas.{HasWords-IsRecord}
+use Rattle.tsp_icmp_command.specs.declared.{exchange.Exchange.Exchange, record.Record.Record}
+use Rattle.tsp_icmp_command.proofs.{Messages.SaysInHex-one, RecordLemmas.HasWords-IsRecord}
 
 record_of_parts : (a b : Record) → a.name ≡ b.name → a.request ≡ b.request → a.reply ≡ b.reply → a.arrival ≡ b.arrival → a ≡ b
 record_of_parts a b n q r d = rw (n, q, r, d) refl

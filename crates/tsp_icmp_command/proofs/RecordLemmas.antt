@@ -1,16 +1,10 @@
 -- Laws of the words of an exchange's line.
-use Rattle.std.proofs.Common.{◌≡◌, ℕ, ◌<◌, ◌≤◌, List, ◌∷◌, ◌++◌, length, length-append, refl, sym, ap, subst, arith, Some, None}
-use Rattle.std.specs.Prelude.{decimal, MatchOption}
-use Rattle.std.specs.declared.option.Option.{Option}
-use Rattle.std.proofs.lemmas.Fmt.{decimal_nonempty}
-use Rattle.tsp_script.specs.Schedules.{IsHost}
-use Rattle.tsp_script.specs.Words.{first_word, after_word}
-use Rattle.tsp_script.proofs.Cuts.{cut_front}
-use Rattle.tsp_script.proofs.HeadLines.{no_space-host}
-use Rattle.tsp_icmp_command.specs.Records.{SaysInHex, IsRecord}
-use Rattle.tsp_icmp_command.specs.declared.record.Record.{Record}
-use Rattle.tsp_icmp_command.proofs.Cuts.{cut_back}
-use Rattle.tsp_icmp_command.proofs.Messages.{no_space-message}
+use Rattle.std.proofs.Common.{◌≡◌, ℕ, ◌<◌, ◌≤◌, List, ◌∷◌, ◌++◌, length, length-append, refl, sym, ap, subst, arith, Some, None, decimal, MatchOption}
+use Rattle.std.{proofs.lemmas.Fmt.decimal_nonempty, specs.declared.option.Option.Option}
+use Rattle.tsp_script.specs.{Schedules.IsHost, Words.first_word, Words.after_word}
+use Rattle.tsp_script.proofs.{Cuts.cut_front, HeadLines.no_space-host}
+use Rattle.tsp_icmp_command.specs.{Records.SaysInHex, Records.IsRecord, declared.record.Record.Record}
+use Rattle.tsp_icmp_command.proofs.{Cuts.cut_back, Messages.no_space-message}
 
 -- what the words of a record's line are
 pub record HasWords (line : List ℕ) (r : Record) : Type 0 where

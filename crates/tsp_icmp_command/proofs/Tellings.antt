@@ -1,9 +1,7 @@
 -- What was handed over of a summary.
-use Rattle.std.proofs.Common.{◌≡◌, ℕ, List, [], ◌++◌, Ok, Err, refl, sym, ap, ◌∙◌, subst, append_assoc}
-use Rattle.std.specs.Prelude.{Option, OnOk, OnErr}
+use Rattle.std.proofs.Common.{◌≡◌, ℕ, List, [], ◌++◌, Ok, Err, refl, sym, ap, ◌∙◌, subst, append_assoc, Option, OnOk, OnErr}
 use Rattle.std.specs.declared.result.Result.{Result}
-use Rattle.tsp_lines.specs.Outputs.{Hands}
-use Rattle.tsp_lines.proofs.Outputs.{Hands-trans}
+use Rattle.tsp_lines.{proofs.Outputs.Hands-trans, specs.Outputs.Hands}
 
 pub on_err : {A B P : Type 0} (r : Result A B) → P → OnErr r P
 on_err (Ok a) p = tt

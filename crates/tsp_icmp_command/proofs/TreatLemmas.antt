@@ -1,21 +1,10 @@
 -- How the treatment of a line comes out.
-use Rattle.std.proofs.Common.{◌≡◌, ℕ, ◌≤◌, List, [], ◌∷◌, ◌++◌, Ok, Err, length, length-append, map, refl, sym, ap, ◌∙◌, inl, arith, append-nil}
-use Rattle.std.specs.Prelude.{Option, OnOk, OnErr, IfErr, MatchResult}
-use Rattle.std.specs.List.{AllZip}
-use Rattle.std.specs.declared.result.Result.{Result}
-use Rattle.std.proofs.lemmas.List.{map-append}
-use Rattle.std.proofs.lemmas.Grind.{flat_map-append}
-use Rattle.tsp_lines.specs.Lines.{close, closed}
-use Rattle.tsp_lines.specs.Meanings.{Goes, StopsAt, stop_of}
-use Rattle.tsp_lines.specs.Outputs.{Hands}
-use Rattle.tsp_lines.specs.declared.output.Unwritten.{Unwritten}
-use Rattle.tsp_lines.specs.declared.treatment.Stop.{Stop}
-use Rattle.tsp_lines.proofs.Stops.{StopsAt-stop_of}
-use Rattle.tsp_icmp_command.specs.Bests.{TallyValue, tally_with}
-use Rattle.tsp_icmp_command.specs.Meaning.{averaging, exchange_line, TallyStands}
-use Rattle.tsp_icmp_command.specs.Records.{IsExchange}
-use Rattle.tsp_icmp_command.specs.declared.exchange.Exchange.{Exchange}
-use Rattle.tsp_icmp_command.proofs.BestLemmas.{bests-with_difference}
+use Rattle.std.proofs.Common.{◌≡◌, ℕ, ◌≤◌, List, [], ◌∷◌, ◌++◌, Ok, Err, length, length-append, map, refl, sym, ap, ◌∙◌, inl, arith, append-nil, Option, OnOk, OnErr, IfErr, MatchResult}
+use Rattle.std.{proofs.lemmas.Grind.flat_map-append, proofs.lemmas.List.map-append, specs.List.AllZip, specs.declared.result.Result.Result}
+use Rattle.tsp_lines.specs.{Lines.close, Lines.closed, Meanings.Goes, Meanings.StopsAt, Meanings.stop_of, Outputs.Hands}
+use Rattle.tsp_lines.{proofs.Stops.StopsAt-stop_of, specs.declared.output.Unwritten.Unwritten, specs.declared.treatment.Stop.Stop}
+use Rattle.tsp_icmp_command.specs.{Bests.TallyValue, Bests.tally_with, Meaning.averaging, Meaning.exchange_line, Meaning.TallyStands}
+use Rattle.tsp_icmp_command.{proofs.BestLemmas.bests-with_difference, specs.Records.IsExchange, specs.declared.exchange.Exchange.Exchange}
 
 exchanges-more : (lines : List (List ℕ)) (es : List Exchange) (line : List ℕ) (e : Exchange) → AllZip IsExchange lines es → IsExchange line e → AllZip IsExchange (lines ++ line ∷ []) (es ++ e ∷ [])
 exchanges-more [] [] line e z h = (h, tt)

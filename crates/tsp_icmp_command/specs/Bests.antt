@@ -1,15 +1,11 @@
 -- Each clock's best difference, their group, and the corrections to its mean.
 use Rattle.std.specs.Prelude.{◌≡◌, ◌<◌, ◌≤◌, ℕ, ◌-◌, ℤ, pos, ◌*ℤ◌, ◌-ℤ◌, List, [], ◌∷◌, ◌++◌, Bool, true, not, ◌&&◌, nat_lt, if◌then◌else◌, map, flat_map, decimal, codes, Option, None, Some}
 use Rattle.std.specs.List.{All, filter, filter_map, fold}
-use Rattle.std.specs.Str.{bytes_eq}
-use Rattle.std.specs.Fmt.{signed_decimal}
-use Rattle.tsp_group.specs.Groups.{group_of, mean_of}
-use Rattle.tsp_group.specs.declared.group.Group.{Group}
+use Rattle.std.specs.{Fmt.signed_decimal, Str.bytes_eq}
+use Rattle.tsp_group.specs.{Groups.group_of, Groups.mean_of, declared.group.Group.Group}
 use Rattle.tsp_lines.specs.Lines.{close}
 use Rattle.tsp_script.specs.Texts.{space}
-use Rattle.tsp_icmp_command.specs.Findings.{finding_of}
-use Rattle.tsp_icmp_command.specs.declared.exchange.Exchange.{Exchange}
-use Rattle.tsp_icmp_command.specs.declared.finding.Finding.{Finding}
+use Rattle.tsp_icmp_command.specs.{Findings.finding_of, declared.exchange.Exchange.Exchange, declared.finding.Finding.Finding}
 use Rattle.tsp_icmp_command.specs.declared.finding.Finding.TheVariants.{Unlike, NoTime, Late, Apart}
 
 -- a clock's difference in milliseconds, and the round trip that it took

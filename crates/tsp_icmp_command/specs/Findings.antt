@@ -1,11 +1,9 @@
 -- What an exchange says of another clock.
 use Rattle.std.specs.Prelude.{ℕ, ℤ, pos, List, ◌++◌, Bool, not, ◌&&◌, ◌==◌, nat_lt, if◌then◌else◌, Option, None, Some, codes, unsigned_abs}
 use Rattle.std.specs.Fmt.{signed_decimal}
-use Rattle.tsp_icmp.specs.Days.{trip_of, difference_of, IsAtMost}
-use Rattle.tsp_icmp.specs.declared.timestamp.Timestamp.{Timestamp}
+use Rattle.tsp_icmp.specs.{Days.trip_of, Days.difference_of, Days.IsAtMost, declared.timestamp.Timestamp.Timestamp}
 use Rattle.tsp_script.specs.Texts.{space}
-use Rattle.tsp_icmp_command.specs.declared.exchange.Exchange.{Exchange}
-use Rattle.tsp_icmp_command.specs.declared.finding.Finding.{Finding}
+use Rattle.tsp_icmp_command.specs.declared.{exchange.Exchange.Exchange, finding.Finding.Finding}
 use Rattle.tsp_icmp_command.specs.declared.finding.Finding.TheVariants.{Unlike, NoTime, Late, Apart}
 
 -- the reply repeats the request's identifier, sequence number and originate stamp

@@ -1,10 +1,8 @@
 -- What lines of exchanges mean.
 use Rattle.std.specs.Prelude.{◌≡◌, ℕ, ◌≤◌, ◌-◌, List, length, map}
 use Rattle.std.specs.List.{All, AllZip}
-use Rattle.tsp_lines.specs.Lines.{NoFeed, closed, AreLines}
-use Rattle.tsp_lines.specs.Meanings.{Meaning}
-use Rattle.tsp_icmp_command.specs.Records.{IsExchange, RefusesRecord}
-use Rattle.tsp_icmp_command.specs.Findings.{finding_of, finding_line}
+use Rattle.tsp_lines.specs.{Lines.NoFeed, Lines.closed, Lines.AreLines, Meanings.Meaning}
+use Rattle.tsp_icmp_command.specs.{Findings.finding_of, Findings.finding_line, Records.IsExchange, Records.RefusesRecord}
 use Rattle.tsp_icmp_command.specs.Bests.{TallyValue, bests, differences, group_lines}
 use Rattle.tsp_icmp_command.specs.declared.exchange.Exchange.{Exchange}
 

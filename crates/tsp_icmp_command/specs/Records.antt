@@ -1,15 +1,12 @@
 -- The lines of exchanges, and why a line isn't one.
 use Rattle.std.specs.Prelude.{◌≡◌, ℕ, ◌<◌, ◌≤◌, ◌⊎◌, List, ◌∷◌, ◌++◌, length, Bool, true, false, if◌then◌else◌, decimal, codes}
-use Rattle.std.specs.declared.result.Result.{Result}
-use Rattle.std.specs.declared.result.Result.TheVariants.{Ok, Err}
+use Rattle.std.specs.declared.result.Result.{Result, TheVariants.Ok, TheVariants.Err}
 use Rattle.hex.specs.Hex.{decode_of}
-use Rattle.tsp_icmp.specs.Spelling.{icmp_octets, IsTimestamp, IsIcmpFault}
+use Rattle.tsp_icmp.specs.{Spelling.icmp_octets, Spelling.IsTimestamp, Spelling.IsIcmpFault, declared.timestamp.IcmpFault.IcmpFault}
 use Rattle.tsp_icmp.specs.declared.timestamp.Timestamp.{Timestamp}
-use Rattle.tsp_icmp.specs.declared.timestamp.IcmpFault.{IcmpFault}
 use Rattle.tsp_icmp.specs.declared.timestamp.IcmpFault.TheVariants.{Length, Kind, Code, Checksum}
 use Rattle.tsp_script.specs.Schedules.{IsHost}
-use Rattle.tsp_icmp_command.specs.declared.record.Record.{Record}
-use Rattle.tsp_icmp_command.specs.declared.exchange.Exchange.{Exchange}
+use Rattle.tsp_icmp_command.specs.declared.{exchange.Exchange.Exchange, record.Record.Record}
 
 -- octets are this Timestamp message, or have this first fault
 abbrev pub SaysRecord : List ℕ → Result Timestamp IcmpFault → Type 0

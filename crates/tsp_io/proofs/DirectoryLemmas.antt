@@ -1,11 +1,8 @@
 -- Laws of the table of a directory.
-use Rattle.std.proofs.Common.{◌≡◌, ℕ, ◌<◌, ◌⊎◌, List, [], ◌∷◌, ◌++◌, length, refl, sym, ap, ◌∙◌, arith, true, false, zero, suc, slice_index_or, length-append, ⊎_elim, inl, inr}
-use Rattle.std.specs.Prelude.{Contains, nat_eq, Option, Some, None, is_some}
+use Rattle.std.proofs.Common.{◌≡◌, ℕ, ◌<◌, ◌⊎◌, List, [], ◌∷◌, ◌++◌, length, refl, sym, ap, ◌∙◌, arith, true, false, zero, suc, slice_index_or, length-append, ⊎_elim, inl, inr, Contains, nat_eq, Option, Some, None, is_some}
 use Rattle.std.specs.Int.{w32, to_be_bytes, from_be_bytes}
-use Rattle.std.proofs.Math.Seq.{get_or-append_seam, take-append_seam}
-use Rattle.std.proofs.lemmas.Bool.{cases_eq, ne_eqb}
-use Rattle.std.proofs.lemmas.List.{take-append-le, get_or_append_left}
-use Rattle.std.proofs.lemmas.List.Elements.{Contains-append_cases}
+use Rattle.std.proofs.{Math.Seq.get_or-append_seam, Math.Seq.take-append_seam, lemmas.Bool.cases_eq, lemmas.Bool.ne_eqb}
+use Rattle.std.proofs.lemmas.List.{take-append-le, get_or_append_left, Elements.Contains-append_cases}
 use Rattle.std.proofs.lemmas.Option.{none-some, slice_get_within, get_or_from_slice_get, slice_get-get_or}
 use Rattle.tsp_io.specs.Directories.{AreNumbers, FitsKey, IsFirst, key_of}
 use Rattle.tsp_io.specs.declared.addr.Addr.{Addr}

@@ -1,12 +1,8 @@
 -- Which peer has which address.
 use Rattle.std.specs.Prelude.{◌≡◌, ℕ, ◌+◌, ◌*◌, ◌^◌, ◌<◌, List, Contains, take, slice_get, Some, Option, None, MatchOption}
-use Rattle.std.specs.Net.Addr.{ipv4_octets}
-use Rattle.std.specs.Net.Socket.{v4_ip, v4_port}
-use Rattle.std.specs.declared.net.socket_addr.SocketAddr.{SocketAddr}
-use Rattle.std.specs.declared.net.socket_addr.SocketAddr.TheVariants.{V4, V6}
-use Rattle.std.specs.Int.{w32, to_be_bytes, from_be_bytes}
-use Rattle.tsp_base.specs.declared.place.Place.{Place}
-use Rattle.tsp_base.specs.declared.place.Place.TheVariants.{Peer, Stranger}
+use Rattle.std.specs.declared.net.socket_addr.SocketAddr.{SocketAddr, TheVariants.V4, TheVariants.V6}
+use Rattle.std.specs.{Int.w32, Int.to_be_bytes, Int.from_be_bytes, Net.Addr.ipv4_octets, Net.Socket.v4_ip, Net.Socket.v4_port}
+use Rattle.tsp_base.specs.declared.place.Place.{Place, TheVariants.Peer, TheVariants.Stranger}
 use Rattle.tsp_io.specs.declared.addr.Addr.{Addr}
 
 -- this number is the lowest of a peer with this address

@@ -1,14 +1,9 @@
 -- What a link receives and sends. A list is None if it isn't told, as over a real network.
 use Rattle.std.specs.Prelude.{◌≡◌, ℕ, ◌≤◌, List, [], ◌∷◌, ◌++◌, take, Bool, true, false, None, Some, Option}
 use Rattle.std.specs.Option.{option_map}
-use Rattle.tsp_base.specs.declared.place.Place.{Place}
-use Rattle.tsp_base.specs.declared.place.Place.TheVariants.{Peer, Stranger}
-use Rattle.tsp_io.specs.declared.addr.Addr.{Addr}
-use Rattle.tsp_io.specs.declared.link.Bound.{Bound}
-use Rattle.tsp_io.specs.declared.link.Bound.TheVariants.{Bound as Made}
-use Rattle.tsp_io.specs.declared.link.Recv.{Recv}
+use Rattle.tsp_base.specs.declared.place.Place.{Place, TheVariants.Peer, TheVariants.Stranger}
+use Rattle.tsp_io.specs.declared.{addr.Addr.Addr, link.Bound.Bound, link.Bound.TheVariants.Bound as Made, link.Recv.Recv, link.Sent.Sent}
 use Rattle.tsp_io.specs.declared.link.Recv.TheVariants.{Datagram, Nothing, Failed}
-use Rattle.tsp_io.specs.declared.link.Sent.{Sent}
 use Rattle.tsp_io.specs.declared.link.Sent.TheVariants.{Sent as Went, Failed as Lost, OutOfMemory}
 
 -- what one receive gets: a datagram and its sender, or nothing

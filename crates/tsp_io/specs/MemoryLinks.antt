@@ -1,10 +1,8 @@
 -- What a link in memory holds, as values.
 use Rattle.std.specs.Prelude.{Some, None}
-use Rattle.tsp_io.specs.Links.{Arrival, Binding, Tried}
-use Rattle.tsp_io.specs.declared.arrivals.Coming.{Coming}
+use Rattle.tsp_io.specs.{Links.Arrival, Links.Binding, Links.Tried, declared.arrivals.Coming.Coming}
 use Rattle.tsp_io.specs.declared.arrivals.Coming.TheVariants.{Datagram, Nothing}
-use Rattle.tsp_io.specs.declared.noted_calls.NotedBind.{NotedBind}
-use Rattle.tsp_io.specs.declared.tried_sends.TriedSend.{TriedSend}
+use Rattle.tsp_io.specs.declared.{noted_calls.NotedBind.NotedBind, tried_sends.TriedSend.TriedSend}
 
 -- an arrival as a value
 abbrev pub arrival_of : Coming → Arrival

@@ -1,12 +1,8 @@
 -- What a link over a UDP socket is bound to, whom it hears, and where it sends.
 use Rattle.std.specs.Prelude.{◌≡◌, ℕ, Bool, true, false, List, [], ◌∷◌, None, Some, Option, MatchOption}
 use Rattle.std.specs.Option.{option_map}
-use Rattle.tsp_io.specs.Directories.{addr_of, ComesFrom}
-use Rattle.tsp_io.specs.Links.{Binding}
-use Rattle.tsp_io.specs.Sockets.{IsWaitFor}
-use Rattle.tsp_io.specs.declared.addr.Addr.{Addr}
-use Rattle.tsp_io.specs.declared.link.Recv.{Recv}
-use Rattle.tsp_io.specs.declared.link.Recv.TheVariants.{Datagram, Nothing, Failed}
+use Rattle.tsp_io.specs.{Directories.addr_of, Directories.ComesFrom, Links.Binding, Sockets.IsWaitFor, declared.addr.Addr.Addr}
+use Rattle.tsp_io.specs.declared.link.Recv.{Recv, TheVariants.Datagram, TheVariants.Nothing, TheVariants.Failed}
 use Rattle.tsp_io.specs.declared.socket.Socket.{Socket}
 
 -- what the link was bound to: nothing yet, or the address that the system was asked for, and its peers. It isn't told

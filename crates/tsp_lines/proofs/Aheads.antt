@@ -1,12 +1,9 @@
 -- Laws of what a reader gives of an input of which some lines were accepted.
-use Rattle.std.proofs.Common.{◌≡◌, ℕ, ◌<◌, ◌≤◌, ◌+◌, inl, inr, List, [], ◌∷◌, ◌++◌, None, Some, refl, sym, ap, ◌∙◌, append-nil, append_assoc, subst, length, length-append, arith}
-use Rattle.std.proofs.lemmas.Grind.{common_steps}
-use Rattle.std.specs.Prelude.{IfSome}
-use Rattle.std.specs.declared.option.Option.{Option}
+use Rattle.std.proofs.Common.{◌≡◌, ℕ, ◌<◌, ◌≤◌, ◌+◌, inl, inr, List, [], ◌∷◌, ◌++◌, None, Some, refl, sym, ap, ◌∙◌, append-nil, append_assoc, subst, length, length-append, arith, IfSome}
+use Rattle.std.{proofs.lemmas.Grind.common_steps, specs.declared.option.Option.Option}
 use Rattle.tsp_io.specs.Streams.{Gives}
 use Rattle.tsp_lines.specs.Lines.{NoFeed, close, closed, Begins, IsInput, IsOver, HasLines, HasNext, HasMore, IsPast}
-use Rattle.tsp_lines.specs.Readings.{ReaderValue, IsNext}
-use Rattle.tsp_lines.specs.declared.next.Next.TheVariants.{Limit}
+use Rattle.tsp_lines.specs.{Readings.ReaderValue, Readings.IsNext, declared.next.Next.TheVariants.Limit}
 use Rattle.tsp_lines.proofs.Streams.{Gives-trans}
 
 -- an input that gave octets begins with the first of them

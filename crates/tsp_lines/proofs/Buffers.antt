@@ -1,10 +1,6 @@
 -- Laws of a buffer that is read into.
-use Rattle.std.proofs.Common.{◌≡◌, ℕ, ◌≤◌, ◌+◌, ◌-◌, List, [], ◌∷◌, ◌++◌, refl, sym, ap, ◌∙◌, take, drop, length, arith}
-use Rattle.std.specs.Prelude.{slice_range}
-use Rattle.std.specs.declared.option.Option.{Option}
-use Rattle.std.proofs.lemmas.List.{take_at}
-use Rattle.std.proofs.Math.Seq.{take-add}
-use Rattle.std.proofs.lemmas.Grind.{common_steps}
+use Rattle.std.proofs.Common.{◌≡◌, ℕ, ◌≤◌, ◌+◌, ◌-◌, List, [], ◌∷◌, ◌++◌, refl, sym, ap, ◌∙◌, take, drop, length, arith, slice_range}
+use Rattle.std.{proofs.Math.Seq.take-add, proofs.lemmas.Grind.common_steps, proofs.lemmas.List.take_at, specs.declared.option.Option.Option}
 use Rattle.tsp_io.specs.Streams.{Gives}
 
 -- octets behind those that are held

@@ -1,15 +1,11 @@
 -- Laws of what the treatment of an input comes to.
-use Rattle.std.proofs.Common.{◌≡◌, ℕ, ◌<◌, ◌+◌, inl, inr, List, [], ◌∷◌, ◌++◌, refl, sym, ap, ◌∙◌, append-nil, append_assoc, subst, length, length-append, arith}
-use Rattle.std.specs.Prelude.{All, ◌⊎◌}
-use Rattle.std.proofs.lemmas.List.Elements.{All-push}
-use Rattle.std.specs.declared.option.Option.{Option}
+use Rattle.std.proofs.Common.{◌≡◌, ℕ, ◌<◌, ◌+◌, inl, inr, List, [], ◌∷◌, ◌++◌, refl, sym, ap, ◌∙◌, append-nil, append_assoc, subst, length, length-append, arith, All, ◌⊎◌}
+use Rattle.std.{proofs.lemmas.List.Elements.All-push, specs.declared.option.Option.Option}
 use Rattle.tsp_io.specs.Streams.{Grows}
 use Rattle.tsp_lines.specs.Lines.{NoFeed, close, closed, Begins, IsOver, IsWhole, HasLines, HasNext, HasMore, IsPast}
-use Rattle.tsp_lines.specs.Meanings.{Meaning, Breaks}
-use Rattle.tsp_lines.specs.Outputs.{Hands}
+use Rattle.tsp_lines.specs.{Meanings.Meaning, Meanings.Breaks, Outputs.Hands, declared.treat.Outcome.Outcome}
 use Rattle.tsp_lines.specs.Outcomes.{bad_line, limit_line, IsBad, IsLimited, IsDone, Follows, WritesPart, Comes}
 use Rattle.tsp_lines.specs.Turns.{Sayings, IsSaying, only_limited, line_sayings, end_sayings, Ends}
-use Rattle.tsp_lines.specs.declared.treat.Outcome.{Outcome}
 use Rattle.tsp_lines.specs.declared.treat.Outcome.TheVariants.{Ok as Done, Bad, ReadFault, WriteFault, Limit, OutOfMemory}
 use Rattle.tsp_lines.proofs.Outputs.{Hands-trans}
 

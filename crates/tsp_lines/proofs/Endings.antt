@@ -2,15 +2,11 @@
 use Rattle.std.proofs.Common.{◌≡◌, ℕ, ◌<◌, inl, inr, List, [], ◌∷◌, ◌++◌, refl, sym, append-nil, subst, length}
 use Rattle.std.specs.declared.option.Option.{Option}
 use Rattle.tsp_lines.specs.Meanings.{Meaning, Breaks, StopsAt, StopsAtEnd, Closes}
-use Rattle.tsp_lines.specs.Outputs.{Hands}
-use Rattle.tsp_lines.specs.Outcomes.{bad_line, limit_line}
+use Rattle.tsp_lines.specs.{Outcomes.bad_line, Outcomes.limit_line, Outputs.Hands, declared.treat.Outcome.Outcome}
 use Rattle.tsp_lines.specs.Turns.{Sayings, IsSaying, only_bad, only_limited, line_sayings, end_sayings, Ends, Stopped}
-use Rattle.tsp_lines.specs.declared.treatment.Stop.{Stop}
 use Rattle.tsp_lines.specs.declared.treatment.Stop.TheVariants.{Bad as Refused, Limit as Limited, WriteFault as Unwrote, OutOfMemory as Unheld}
-use Rattle.tsp_lines.specs.declared.treat.Outcome.{Outcome}
 use Rattle.tsp_lines.specs.declared.treat.Outcome.TheVariants.{Ok as Done, Bad, ReadFault, WriteFault, Limit, OutOfMemory}
-use Rattle.tsp_lines.proofs.Outputs.{Hands-trans}
-use Rattle.tsp_lines.proofs.Says.{said, Breaks-imp}
+use Rattle.tsp_lines.{proofs.Outputs.Hands-trans, proofs.Says.said, proofs.Says.Breaks-imp, specs.declared.treatment.Stop.Stop}
 
 -- a part of a saying behind nothing
 Breaks-behind : (P Q : List ℕ → Type 0) → ((w : List ℕ) → P w → Q w) → (a b c : Option (List ℕ)) (held keeps left : List ℕ) → Hands a held b keeps [] → Breaks P b keeps c left → Breaks Q a held c left

@@ -1,6 +1,5 @@
 -- Laws of what calls do to a count of faults.
-use Rattle.std.specs.Prelude.{◌≡◌, ℕ}
-use Rattle.std.proofs.Common.{◌∙◌, arith}
+use Rattle.std.proofs.Common.{◌∙◌, arith, ◌≡◌, ℕ}
 use Rattle.tsp_lines.specs.Faults.{Counts}
 
 -- a count from an earlier moment, at which it was the same, and by another word for the fault

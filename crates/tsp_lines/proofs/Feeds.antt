@@ -1,14 +1,10 @@
 -- Laws of the first line feed.
-use Rattle.std.proofs.Common.{◌≡◌, ℕ, ◌<◌, ◌≤◌, ◌+◌, ◌-◌, List, [], ◌∷◌, ◌++◌, None, Some, refl, sym, ap, ◌∙◌, take, drop, length, get_or, append_assoc, take-append-drop, length-drop, arith, eq-eqb, eqb-true, length-take-le, add_assoc, zero, suc, subst}
-use Rattle.std.specs.Prelude.{MatchOption, slice_range}
-use Rattle.std.specs.declared.option.Option.{Option}
+use Rattle.std.proofs.Common.{◌≡◌, ℕ, ◌<◌, ◌≤◌, ◌+◌, ◌-◌, List, [], ◌∷◌, ◌++◌, None, Some, refl, sym, ap, ◌∙◌, take, drop, length, get_or, append_assoc, take-append-drop, length-drop, arith, eq-eqb, eqb-true, length-take-le, add_assoc, zero, suc, subst, MatchOption, slice_range}
 use Rattle.std.proofs.lemmas.List.{drop_more, drop-take, drop-drop, drop_all, append-nil}
-use Rattle.std.proofs.Math.Seq.{take-length}
-use Rattle.std.proofs.lemmas.List.Elements.{Contains-append_left}
-use Rattle.std.proofs.lemmas.Grind.{common_steps, get_or_default_zero}
+use Rattle.std.proofs.{Math.Seq.take-length, lemmas.Grind.common_steps, lemmas.Grind.get_or_default_zero}
+use Rattle.std.{proofs.lemmas.List.Elements.Contains-append_left, specs.declared.option.Option.Option}
 use Rattle.memchr.specs.Find.{IsFirstByte, is_byte, Nowhere, Passes}
-use Rattle.tsp_lines.specs.Lines.{NoFeed, close, IsFront}
-use Rattle.tsp_lines.specs.Readings.{ReaderValue}
+use Rattle.tsp_lines.specs.{Lines.NoFeed, Lines.close, Lines.IsFront, Readings.ReaderValue}
 
 NoFeed-take : (hay : List ℕ) (n : ℕ) → n ≤ length hay → Nowhere (Passes (is_byte 10) hay) 0 n → NoFeed (take n hay)
 NoFeed-take hay n h p = λ c.

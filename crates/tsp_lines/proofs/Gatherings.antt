@@ -1,13 +1,9 @@
 -- What reads add to the octets that were gathered.
-use Rattle.std.proofs.Common.{◌≡◌, ℕ, ◌<◌, ◌≤◌, ◌+◌, refl, None, Some, Err, inl, inr, List, [], ◌++◌, sym, ap, ◌∙◌, append-nil, subst, length, length-append, arith}
-use Rattle.std.specs.Prelude.{Bool, false}
+use Rattle.std.proofs.Common.{◌≡◌, ℕ, ◌<◌, ◌≤◌, ◌+◌, refl, None, Some, Err, inl, inr, List, [], ◌++◌, sym, ap, ◌∙◌, append-nil, subst, length, length-append, arith, Bool, false}
 use Rattle.std.specs.declared.option.Option.{Option}
-use Rattle.tsp_io.specs.Streams.{Gives, IsEndWhere, ReadsSome}
-use Rattle.tsp_io.specs.declared.source.Got.TheVariants.{Got as Gave}
-use Rattle.tsp_lines.specs.Lines.{IsOver}
-use Rattle.tsp_lines.specs.Gatherings.{Adds, Gathers, ReadsWhole}
+use Rattle.tsp_io.specs.{Streams.Gives, Streams.IsEndWhere, Streams.ReadsSome, declared.source.Got.TheVariants.Got as Gave}
+use Rattle.tsp_lines.specs.{Gatherings.Adds, Gatherings.Gathers, Gatherings.ReadsWhole, Lines.IsOver, declared.gather.Ungathered.Ungathered}
 use Rattle.tsp_lines.specs.declared.gather.Added.TheVariants.{More, End, Fault}
-use Rattle.tsp_lines.specs.declared.gather.Ungathered.{Ungathered}
 use Rattle.tsp_lines.specs.declared.gather.Ungathered.TheVariants.{ReadFault, OutOfMemory}
 use Rattle.tsp_lines.proofs.Streams.{Gives-trans}
 

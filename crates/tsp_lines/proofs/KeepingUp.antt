@@ -1,22 +1,13 @@
 -- Laws of output that keeps up with what was read.
-use Rattle.std.proofs.Common.{◌≡◌, ℕ, ◌<◌, ◌≤◌, ◌+◌, inl, inr, List, [], ◌∷◌, ◌++◌, None, Some, sym, ap, ◌∙◌, append_assoc, append-nil, length, length-append, arith, subst}
-use Rattle.std.specs.Prelude.{◌⊎◌, MatchOption}
+use Rattle.std.proofs.Common.{◌≡◌, ℕ, ◌<◌, ◌≤◌, ◌+◌, inl, inr, List, [], ◌∷◌, ◌++◌, None, Some, sym, ap, ◌∙◌, append_assoc, append-nil, length, length-append, arith, subst, ◌⊎◌, MatchOption}
 use Rattle.std.specs.declared.option.Option.{Option}
 use Rattle.tsp_io.specs.Streams.{Gives, Grows}
-use Rattle.tsp_lines.specs.Lines.{NoFeed, close, closed}
-use Rattle.tsp_lines.specs.Meanings.{Meaning, Goes}
-use Rattle.tsp_lines.specs.Outputs.{Hands}
-use Rattle.tsp_lines.specs.Outcomes.{KeepsUp}
-use Rattle.tsp_lines.specs.Readings.{ReaderValue, IsNext}
-use Rattle.tsp_lines.specs.Turns.{Sayings, IsAt, Ends}
-use Rattle.tsp_lines.specs.declared.next.Next.{Next}
+use Rattle.tsp_lines.specs.{Lines.NoFeed, Lines.close, Lines.closed, Meanings.Meaning, Meanings.Goes, Outcomes.KeepsUp, Outputs.Hands}
+use Rattle.tsp_lines.specs.{Readings.ReaderValue, Readings.IsNext, Turns.Sayings, Turns.IsAt, Turns.Ends, declared.next.Next.Next}
 use Rattle.tsp_lines.specs.declared.next.Next.TheVariants.{Line, Last, Long, LongLast, End, Limit, Failed}
 use Rattle.tsp_lines.specs.declared.treat.Outcome.{Outcome}
 use Rattle.tsp_lines.specs.declared.treat.Outcome.TheVariants.{Ok as Done, Bad, ReadFault, WriteFault, Limit as Limited, OutOfMemory}
-use Rattle.tsp_lines.proofs.Comes.{Grows-handed}
-use Rattle.tsp_lines.proofs.Outputs.{Grows-nil, Grows-trans}
-use Rattle.tsp_lines.proofs.Says.{said}
-use Rattle.tsp_lines.proofs.Streams.{Gives-nil, Gives-trans}
+use Rattle.tsp_lines.proofs.{Comes.Grows-handed, Outputs.Grows-nil, Outputs.Grows-trans, Says.said, Streams.Gives-nil, Streams.Gives-trans}
 
 -- some octets more were written
 abbrev pub Grew : Option (List ℕ) → Option (List ℕ) → Type 0

@@ -1,13 +1,8 @@
 -- How source and sink are left.
 use Rattle.std.proofs.Common.{◌≡◌, ◌≢◌, ℕ, ◌≤◌, ◌∙◌, List, Result, Ok, Err, arith, refl, sym, subst}
-use Rattle.tsp_io.specs.Counts.{Rose}
-use Rattle.tsp_io.specs.declared.sink.Sink.{Ghosts as SinkOf}
-use Rattle.tsp_io.specs.declared.source.Source.{Ghosts as SourceOf}
-use Rattle.tsp_lines.specs.Definite.{IsDefinite}
+use Rattle.tsp_io.specs.{Counts.Rose, declared.sink.Sink.Ghosts as SinkOf, declared.source.Source.Ghosts as SourceOf}
+use Rattle.tsp_lines.specs.{Definite.IsDefinite, Meanings.Meaning, Turns.outcome_of, declared.output.Unwritten.Unwritten}
 use Rattle.tsp_lines.specs.Frames.{Accepts, Completes, Leaves, Treats}
-use Rattle.tsp_lines.specs.Meanings.{Meaning}
-use Rattle.tsp_lines.specs.Turns.{outcome_of}
-use Rattle.tsp_lines.specs.declared.output.Unwritten.{Unwritten}
 use Rattle.tsp_lines.specs.declared.output.Unwritten.TheVariants.{WriteFault as NotWritten, OutOfMemory as NoMemory}
 use Rattle.tsp_lines.specs.declared.treat.Outcome.{Outcome}
 use Rattle.tsp_lines.specs.declared.treat.Outcome.TheVariants.{Ok as Done, OutOfMemory, ReadFault, WriteFault}

@@ -1,11 +1,7 @@
 -- A line feed among the first 32 octets.
-use Rattle.std.proofs.Common.{◌≡◌, ℕ, ◌+◌, ◌<◌, ◌≤◌, ◌^◌, List, Some, ap, ◌∙◌, inl, inr, length, map, w64, arith, subst}
-use Rattle.std.specs.Prelude.{not}
-use Rattle.std.specs.List.{prefix_len}
-use Rattle.std.specs.Simd.Lanes.{mask_l, chunk}
-use Rattle.std.proofs.lemmas.Bool.{cases_lt}
-use Rattle.std.proofs.lemmas.List.{length-map}
-use Rattle.std.proofs.lemmas.Nat.Bits.{bit_at-trailing_zeros, bit_at_above}
+use Rattle.std.proofs.Common.{◌≡◌, ℕ, ◌+◌, ◌<◌, ◌≤◌, ◌^◌, List, Some, ap, ◌∙◌, inl, inr, length, map, w64, arith, subst, not}
+use Rattle.std.specs.{List.prefix_len, Simd.Lanes.mask_l, Simd.Lanes.chunk}
+use Rattle.std.proofs.lemmas.{Bool.cases_lt, List.length-map, Nat.Bits.bit_at-trailing_zeros, Nat.Bits.bit_at_above}
 use Rattle.std.proofs.lemmas.Simd.{length-chunk, mask_l-lt, trailing_mask_l, run_in_chunk_fails, run_in_chunk_stops}
 use lib.Count.{count_trailing_zeros}
 use Rattle.memchr.specs.Find.{IsFirstByte, Passes, is_byte}

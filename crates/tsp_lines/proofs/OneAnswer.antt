@@ -1,20 +1,14 @@
 -- An input has one answer.
-use Rattle.std.proofs.Common.{◌≡◌, ℕ, ◌≤◌, ◌+◌, inl, inr, List, [], ◌∷◌, ◌++◌, None, Some, refl, sym, ap, ◌∙◌, append_assoc, append-nil, length, length-append, arith, subst}
-use Rattle.std.specs.Prelude.{All, ◌⊎◌}
+use Rattle.std.proofs.Common.{◌≡◌, ℕ, ◌≤◌, ◌+◌, inl, inr, List, [], ◌∷◌, ◌++◌, None, Some, refl, sym, ap, ◌∙◌, append_assoc, append-nil, length, length-append, arith, subst, All, ◌⊎◌}
 use Rattle.std.specs.declared.option.Option.{Option}
-use Rattle.std.proofs.lemmas.List.{append_cancel_left}
-use Rattle.std.proofs.lemmas.List.Elements.{All-push}
-use Rattle.std.proofs.lemmas.Grind.{flat_map-append}
+use Rattle.std.proofs.lemmas.{Grind.flat_map-append, List.append_cancel_left, List.Elements.All-push}
 use Rattle.tsp_io.specs.Streams.{Grows}
 use Rattle.tsp_lines.specs.Lines.{NoFeed, close, closed, Begins, IsInput, AreLines, IsWhole, HasLines, HasNext, HasMore, IsPast}
-use Rattle.tsp_lines.specs.Meanings.{Meaning}
-use Rattle.tsp_lines.specs.Definite.{IsDefinite}
+use Rattle.tsp_lines.specs.{Definite.IsDefinite, Meanings.Meaning, declared.treat.Outcome.Outcome}
 use Rattle.tsp_lines.specs.Outcomes.{bad_line, IsBad, IsLimited, IsDone, Follows, Comes}
 use Rattle.tsp_lines.specs.Answers.{IsEnding, IsAnswer, IsPart, Agrees, Answers}
-use Rattle.tsp_lines.specs.declared.treat.Outcome.{Outcome}
 use Rattle.tsp_lines.specs.declared.treat.Outcome.TheVariants.{Ok as Done, Bad, ReadFault, WriteFault, Limit, OutOfMemory}
-use Rattle.tsp_lines.proofs.Aheads.{begins}
-use Rattle.tsp_lines.proofs.Comes.{HasLines-next}
+use Rattle.tsp_lines.proofs.{Aheads.begins, Comes.HasLines-next}
 use Rattle.tsp_lines.proofs.OneCut.{AreLines-none, AreLines-one, cut, front_of, feed_within}
 
 -- of octets that an input begins with, the first lie within a limit

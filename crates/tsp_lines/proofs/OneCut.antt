@@ -1,6 +1,5 @@
 -- Octets are cut into lines in one way.
-use Rattle.std.proofs.Common.{◌≡◌, ℕ, ◌<◌, inl, inr, List, [], ◌∷◌, ◌++◌, refl, sym, ap, ◌∙◌, append_assoc, length, zero, suc, arith, Bool, true, false, ◌==◌, eqb-true, eq-eqb, subst, slice_index_or}
-use Rattle.std.specs.Prelude.{All, Contains, ◌⊎◌}
+use Rattle.std.proofs.Common.{◌≡◌, ℕ, ◌<◌, inl, inr, List, [], ◌∷◌, ◌++◌, refl, sym, ap, ◌∙◌, append_assoc, length, zero, suc, arith, Bool, true, false, ◌==◌, eqb-true, eq-eqb, subst, slice_index_or, All, Contains, ◌⊎◌}
 use Rattle.std.proofs.lemmas.List.Elements.{All-cons, All-head, All-tail}
 use Rattle.tsp_lines.specs.Lines.{NoFeed, close, closed, AreLines}
 

@@ -1,9 +1,6 @@
 -- Laws of what a sink took and of what was handed to an output.
-use Rattle.std.proofs.Common.{◌≡◌, ℕ, ◌+◌, List, [], ◌++◌, None, Some, refl, sym, ap, ◌∙◌, take, drop, append_assoc, append-nil, take-append-drop, length, length-drop, arith}
-use Rattle.std.proofs.Math.Seq.{take-add}
-use Rattle.std.proofs.lemmas.List.{take_all}
-use Rattle.std.specs.Prelude.{slice_range}
-use Rattle.std.specs.declared.option.Option.{Option}
+use Rattle.std.proofs.Common.{◌≡◌, ℕ, ◌+◌, List, [], ◌++◌, None, Some, refl, sym, ap, ◌∙◌, take, drop, append_assoc, append-nil, take-append-drop, length, length-drop, arith, slice_range}
+use Rattle.std.{proofs.Math.Seq.take-add, proofs.lemmas.List.take_all, specs.declared.option.Option.Option}
 use Rattle.tsp_io.specs.Streams.{Grows}
 use Rattle.tsp_lines.specs.Outputs.{Hands}
 

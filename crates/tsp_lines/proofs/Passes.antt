@@ -1,15 +1,11 @@
 -- Laws of a long line that is passed over.
 use Rattle.std.proofs.Common.{◌≡◌, ◌≢◌, ℕ, ◌<◌, ◌+◌, List, [], ◌∷◌, ◌++◌, sym, ap, ◌∙◌, append_assoc, append-nil, length, take, arith, length-append, inl, inr, subst, true}
-use Rattle.std.proofs.lemmas.List.{take-append-le}
-use Rattle.std.proofs.lemmas.List.Elements.{Contains-append_cases}
-use Rattle.std.specs.declared.option.Option.{Option}
+use Rattle.std.{proofs.lemmas.List.take-append-le, proofs.lemmas.List.Elements.Contains-append_cases, specs.declared.option.Option.Option}
 use Rattle.tsp_io.specs.Streams.{Gives}
-use Rattle.tsp_lines.specs.Lines.{NoFeed, close}
 use Rattle.tsp_lines.specs.Readings.{ReaderValue, IsNext, IsPassed, ends_input}
 use Rattle.tsp_lines.specs.declared.next.Fill.TheVariants.{More, Over, NotRead}
-use Rattle.tsp_lines.specs.declared.next.Next.{Next}
 use Rattle.tsp_lines.specs.declared.next.Next.TheVariants.{Line, Last, Long, LongLast, End, Limit, Failed}
-use Rattle.tsp_lines.proofs.Streams.{Gives-trans}
+use Rattle.tsp_lines.{proofs.Streams.Gives-trans, specs.Lines.NoFeed, specs.Lines.close, specs.declared.next.Next.Next}
 
 -- no line feed in two lists, none in both
 pub NoFeed-append : (xs ys : List ℕ) → NoFeed xs → NoFeed ys → NoFeed (xs ++ ys)

@@ -1,13 +1,8 @@
 -- Laws of words that are handed over and written.
-use Rattle.std.proofs.Common.{◌≡◌, ℕ, ◌⊎◌, inl, inr, List, [], ◌++◌, Ok, Err, append-nil, subst}
-use Rattle.std.specs.Prelude.{OnOk, OnErr}
-use Rattle.std.specs.declared.option.Option.{Option}
-use Rattle.std.specs.declared.result.Result.{Result}
-use Rattle.tsp_lines.specs.Meanings.{Breaks}
-use Rattle.tsp_lines.specs.Outputs.{Hands}
+use Rattle.std.proofs.Common.{◌≡◌, ℕ, ◌⊎◌, inl, inr, List, [], ◌++◌, Ok, Err, append-nil, subst, OnOk, OnErr}
+use Rattle.std.specs.declared.{option.Option.Option, result.Result.Result}
+use Rattle.tsp_lines.specs.{Meanings.Breaks, Outputs.Hands, declared.output.Unwritten.Unwritten, declared.treat.Outcome.Outcome}
 use Rattle.tsp_lines.specs.Turns.{IsSaying, only_bad, only_limited, only_so}
-use Rattle.tsp_lines.specs.declared.output.Unwritten.{Unwritten}
-use Rattle.tsp_lines.specs.declared.treat.Outcome.{Outcome}
 use Rattle.tsp_lines.specs.declared.treat.Outcome.TheVariants.{Bad, Limit}
 use Rattle.tsp_lines.proofs.Outputs.{Hands-trans}
 

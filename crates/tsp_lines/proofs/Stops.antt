@@ -1,12 +1,8 @@
 -- Laws for the proofs of treatments: what `?` gives where octets weren't written.
-use Rattle.std.proofs.Common.{◌≡◌, ℕ, List, [], ◌∷◌, ◌++◌, Ok, Err, subst, sym}
-use Rattle.std.specs.Prelude.{MatchResult, IsErr}
-use Rattle.std.specs.Result.{IsErrAnd}
-use Rattle.std.specs.declared.option.Option.{Option}
-use Rattle.std.specs.declared.result.Result.{Result}
+use Rattle.std.proofs.Common.{◌≡◌, ℕ, List, [], ◌∷◌, ◌++◌, Ok, Err, subst, sym, MatchResult, IsErr}
+use Rattle.std.specs.{Result.IsErrAnd, declared.option.Option.Option, declared.result.Result.Result}
 use Rattle.tsp_lines.specs.Meanings.{Meaning, Breaks, StopsAt, stop_of}
-use Rattle.tsp_lines.specs.declared.output.Unwritten.{Unwritten}
-use Rattle.tsp_lines.specs.declared.output.Unwritten.TheVariants.{WriteFault as NotWritten, OutOfMemory as NoMemory}
+use Rattle.tsp_lines.specs.declared.output.Unwritten.{Unwritten, TheVariants.WriteFault as NotWritten, TheVariants.OutOfMemory as NoMemory}
 use Rattle.tsp_lines.specs.declared.treatment.Stop.{Stop}
 
 -- a part of a line's output was handed over

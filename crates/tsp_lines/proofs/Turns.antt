@@ -1,22 +1,15 @@
 -- Laws of a turn of a treatment.
-use Rattle.std.proofs.Common.{◌≡◌, ℕ, ◌<◌, ◌≤◌, ◌+◌, inl, inr, List, [], ◌∷◌, ◌++◌, None, Some, refl, sym, ap, ◌∙◌, append-nil, append_assoc, subst, length, length-append, drop, arith}
-use Rattle.std.specs.Prelude.{All, MatchOption, ◌⊎◌}
-use Rattle.std.specs.declared.option.Option.{Option}
-use Rattle.std.proofs.lemmas.List.Elements.{All-push}
+use Rattle.std.proofs.Common.{◌≡◌, ℕ, ◌<◌, ◌≤◌, ◌+◌, inl, inr, List, [], ◌∷◌, ◌++◌, None, Some, refl, sym, ap, ◌∙◌, append-nil, append_assoc, subst, length, length-append, drop, arith, All, MatchOption, ◌⊎◌}
+use Rattle.std.{proofs.lemmas.List.Elements.All-push, specs.declared.option.Option.Option}
 use Rattle.tsp_io.specs.Streams.{Gives}
 use Rattle.tsp_lines.specs.Lines.{NoFeed, close, closed, IsFront, Begins, IsOver, IsWhole, HasLines, HasNext, HasMore, IsPast}
 use Rattle.tsp_lines.specs.Meanings.{Meaning, Goes, Breaks, BreaksOff}
-use Rattle.tsp_lines.specs.Outputs.{Hands}
-use Rattle.tsp_lines.specs.Outcomes.{Comes, limit_line}
-use Rattle.tsp_lines.specs.Readings.{ReaderValue, IsNext}
+use Rattle.tsp_lines.specs.{Outcomes.Comes, Outcomes.limit_line, Outputs.Hands, Readings.ReaderValue, Readings.IsNext}
 use Rattle.tsp_lines.specs.Turns.{IsAt, IsSaying, StandsOpen, Ends, line_sayings, end_sayings, only_limited, outcome_of}
 use Rattle.tsp_lines.specs.declared.next.Next.TheVariants.{Line, Last, Long, LongLast, Limit}
-use Rattle.tsp_lines.specs.declared.output.Unwritten.{Unwritten}
-use Rattle.tsp_lines.specs.declared.output.Unwritten.TheVariants.{WriteFault as NotWritten, OutOfMemory as NoMemory}
-use Rattle.tsp_lines.specs.declared.treat.Outcome.{Outcome}
-use Rattle.tsp_lines.specs.declared.treat.Outcome.TheVariants.{ReadFault, OutOfMemory}
-use Rattle.tsp_lines.proofs.Outputs.{Hands-trans, Grows-nil}
-use Rattle.tsp_lines.proofs.Says.{said, Breaks-imp}
+use Rattle.tsp_lines.specs.declared.output.Unwritten.{Unwritten, TheVariants.WriteFault as NotWritten, TheVariants.OutOfMemory as NoMemory}
+use Rattle.tsp_lines.specs.declared.treat.Outcome.{Outcome, TheVariants.ReadFault, TheVariants.OutOfMemory}
+use Rattle.tsp_lines.proofs.{Outputs.Hands-trans, Outputs.Grows-nil, Says.said, Says.Breaks-imp}
 use Rattle.tsp_lines.proofs.Aheads.{Ahead, Ahead-next, HasLines-got, HasNext-line, HasNext-last, HasMore-got, IsInput-got, IsPast-limit}
 use Rattle.tsp_lines.proofs.Comes.{Comes-Ends, Grows-handed, Place-line, Place-end, Place-limit, Place-any, no_sayings, closed-push}
 

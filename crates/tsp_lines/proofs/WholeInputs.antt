@@ -1,13 +1,10 @@
 -- What comes of octets that were gathered comes of the input that they were read of.
-use Rattle.std.proofs.Common.{◌≡◌, ℕ, ◌+◌, inl, inr, List, [], ◌∷◌, ◌++◌, None, Some, refl, ap, ◌∙◌, append-nil, append_assoc, drop, subst, length, arith}
-use Rattle.std.specs.Prelude.{Bool, true}
+use Rattle.std.proofs.Common.{◌≡◌, ℕ, ◌+◌, inl, inr, List, [], ◌∷◌, ◌++◌, None, Some, refl, ap, ◌∙◌, append-nil, append_assoc, drop, subst, length, arith, Bool, true}
 use Rattle.std.specs.declared.option.Option.{Option}
 use Rattle.tsp_io.specs.Streams.{Gives}
-use Rattle.tsp_lines.specs.Gatherings.{Gathers, ComesGathered}
+use Rattle.tsp_lines.specs.{Gatherings.Gathers, Gatherings.ComesGathered, Meanings.Meaning, declared.treat.Outcome.Outcome}
 use Rattle.tsp_lines.specs.Lines.{close, closed, Begins, IsInput, IsOver, IsWhole, HasLines, HasNext, HasMore, IsPast}
-use Rattle.tsp_lines.specs.Meanings.{Meaning}
 use Rattle.tsp_lines.specs.Outcomes.{IsBad, IsLimited, Follows, WritesPart, Comes}
-use Rattle.tsp_lines.specs.declared.treat.Outcome.{Outcome}
 use Rattle.tsp_lines.specs.declared.treat.Outcome.TheVariants.{Ok as Done, Bad, ReadFault, WriteFault, Limit, OutOfMemory}
 
 -- what the octets begin with, the input begins with

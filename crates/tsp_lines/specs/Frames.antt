@@ -1,14 +1,8 @@
 -- What the treatment of a whole input says of its source and its sink.
 use Rattle.std.specs.Prelude.{◌≡◌, ◌≢◌, ◌≤◌, ◌⊎◌, ℕ, List, length, Some, true, false}
-use Rattle.tsp_io.specs.Counts.{Rose}
-use Rattle.tsp_io.specs.declared.sink.Sink.{Ghosts as SinkOf}
-use Rattle.tsp_io.specs.declared.source.Source.{Ghosts as SourceOf}
-use Rattle.tsp_lines.specs.Answers.{Answers}
-use Rattle.tsp_lines.specs.Definite.{IsDefinite}
-use Rattle.tsp_lines.specs.Gatherings.{ComesGathered, IsGathered}
-use Rattle.tsp_lines.specs.Meanings.{Meaning}
-use Rattle.tsp_lines.specs.Outcomes.{Comes, KeepsUp}
-use Rattle.tsp_lines.specs.declared.treat.Outcome.{Outcome}
+use Rattle.tsp_io.specs.{Counts.Rose, declared.sink.Sink.Ghosts as SinkOf, declared.source.Source.Ghosts as SourceOf}
+use Rattle.tsp_lines.specs.{Answers.Answers, Definite.IsDefinite, Gatherings.ComesGathered, Gatherings.IsGathered, Meanings.Meaning}
+use Rattle.tsp_lines.specs.{Outcomes.Comes, Outcomes.KeepsUp, declared.treat.Outcome.Outcome}
 use Rattle.tsp_lines.specs.declared.treat.Outcome.TheVariants.{Ok as Done, ReadFault, WriteFault, OutOfMemory}
 
 -- how source and sink are left, each given before and after: no count of faults falls, `ReadFault` and `WriteFault` come only if that object's count rose, and it is unchanged where they don't come

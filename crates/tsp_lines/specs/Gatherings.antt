@@ -1,17 +1,11 @@
 -- What comes of an input that is read whole first.
 use Rattle.std.specs.Prelude.{◌≡◌, ℕ, ◌<◌, ◌≤◌, ◌+◌, ◌⊎◌, List, [], ◌++◌, length, Bool, true, false, Ok, Err}
-use Rattle.std.specs.declared.option.Option.{Option}
-use Rattle.std.specs.declared.result.Result.{Result}
+use Rattle.std.specs.declared.{option.Option.Option, result.Result.Result}
 use Rattle.tsp_io.specs.Streams.{Gives}
-use Rattle.tsp_lines.specs.Lines.{IsOver}
-use Rattle.tsp_lines.specs.Meanings.{Meaning}
-use Rattle.tsp_lines.specs.Outcomes.{Comes}
-use Rattle.tsp_lines.specs.declared.gather.Ungathered.{Ungathered}
+use Rattle.tsp_lines.specs.{Lines.IsOver, Meanings.Meaning, Outcomes.Comes, declared.gather.Added.Added, declared.treat.Outcome.Outcome}
 use Rattle.tsp_lines.specs.declared.gather.Ungathered.TheVariants.{ReadFault as NotRead, OutOfMemory as NoMemory}
-use Rattle.tsp_lines.specs.declared.gather.Added.{Added}
-use Rattle.tsp_lines.specs.declared.gather.Added.TheVariants.{More, End, Fault}
+use Rattle.tsp_lines.specs.declared.gather.{Added.TheVariants.More, Added.TheVariants.End, Added.TheVariants.Fault, Ungathered.Ungathered}
 use Rattle.tsp_lines.specs.declared.gathered.Gathered.{Gathered}
-use Rattle.tsp_lines.specs.declared.treat.Outcome.{Outcome}
 use Rattle.tsp_lines.specs.declared.treat.Outcome.TheVariants.{Ok as Done, Bad, ReadFault, WriteFault, Limit, OutOfMemory}
 
 -- what one read adds to the octets that were read: at most this many, or none at the input's end; if out of memory, the octets are lost

@@ -1,11 +1,9 @@
 -- How the treatment of a whole input ends.
 use Rattle.std.specs.Prelude.{◌≡◌, ℕ, ◌<◌, ◌≤◌, ◌+◌, ◌⊎◌, List, [], ◌∷◌, ◌++◌, length, codes, All}
-use Rattle.std.specs.Fmt.{decimal}
-use Rattle.std.specs.declared.option.Option.{Option}
+use Rattle.std.specs.{Fmt.decimal, declared.option.Option.Option}
 use Rattle.tsp_io.specs.Streams.{Gives, Grows}
 use Rattle.tsp_lines.specs.Lines.{NoFeed, closed, IsOver, IsWhole, HasLines, HasNext, HasMore, IsPast}
-use Rattle.tsp_lines.specs.Meanings.{Meaning}
-use Rattle.tsp_lines.specs.declared.treat.Outcome.{Outcome}
+use Rattle.tsp_lines.specs.{Meanings.Meaning, declared.treat.Outcome.Outcome}
 use Rattle.tsp_lines.specs.declared.treat.Outcome.TheVariants.{Ok as Done, Bad, ReadFault, WriteFault, Limit, OutOfMemory}
 
 -- the words of a refused line: its number, from 1 on, and the cause

@@ -1,14 +1,9 @@
 -- What a reader of lines holds and gives.
 use Rattle.std.specs.Prelude.{◌≡◌, ℕ, ◌<◌, ◌≤◌, ◌+◌, List, [], ◌∷◌, ◌++◌, length, take, Bool, true, false, ◌==◌}
-use Rattle.tsp_io.specs.declared.source.Got.{Got}
 use Rattle.tsp_io.specs.declared.source.Got.TheVariants.{Got as Gave, Failed as NotGot}
-use Rattle.tsp_io.specs.declared.source.Source.{Ghosts as SourceOf}
-use Rattle.tsp_io.specs.Streams.{Gives}
-use Rattle.tsp_lines.specs.Lines.{NoFeed, close, IsOver}
-use Rattle.tsp_lines.specs.Faults.{Counts}
-use Rattle.tsp_lines.specs.declared.next.Next.{Next}
+use Rattle.tsp_io.specs.{Streams.Gives, declared.source.Got.Got, declared.source.Source.Ghosts as SourceOf}
+use Rattle.tsp_lines.specs.{Faults.Counts, Lines.NoFeed, Lines.close, Lines.IsOver, declared.next.Fill.Fill, declared.next.Next.Next}
 use Rattle.tsp_lines.specs.declared.next.Next.TheVariants.{Line, Last, Long, LongLast, End, Limit, Failed}
-use Rattle.tsp_lines.specs.declared.next.Fill.{Fill}
 use Rattle.tsp_lines.specs.declared.next.Fill.TheVariants.{More, Over, NotRead}
 
 -- a reader: the line last given, the first octets of the long line last given, the octets read and not used yet, how many were read in all, and the limit

@@ -1,18 +1,12 @@
 -- A treatment of lines under way: how far it is, and how it ends.
 use Rattle.std.specs.Prelude.{◌≡◌, ℕ, ◌<◌, ◌≤◌, ◌+◌, ◌⊎◌, Bool, true, false, List, [], ◌∷◌, ◌++◌, length, All, Ok, Err}
-use Rattle.std.specs.declared.option.Option.{Option}
-use Rattle.std.specs.declared.result.Result.{Result}
+use Rattle.std.specs.declared.{option.Option.Option, result.Result.Result}
 use Rattle.tsp_io.specs.Streams.{Gives}
-use Rattle.tsp_lines.specs.Lines.{NoFeed, closed}
-use Rattle.tsp_lines.specs.Meanings.{Meaning, Breaks}
-use Rattle.tsp_lines.specs.Outputs.{Hands}
+use Rattle.tsp_lines.specs.{Lines.NoFeed, Lines.closed, Meanings.Meaning, Meanings.Breaks, Outputs.Hands, Readings.ReaderValue}
 use Rattle.tsp_lines.specs.Outcomes.{bad_line, limit_line, Comes, KeepsUp}
-use Rattle.tsp_lines.specs.Readings.{ReaderValue}
-use Rattle.tsp_lines.specs.declared.output.Unwritten.{Unwritten}
-use Rattle.tsp_lines.specs.declared.output.Unwritten.TheVariants.{WriteFault as NotWritten, OutOfMemory as NoMemory}
-use Rattle.tsp_lines.specs.declared.treatment.Stop.{Stop}
+use Rattle.tsp_lines.specs.declared.output.Unwritten.{Unwritten, TheVariants.WriteFault as NotWritten, TheVariants.OutOfMemory as NoMemory}
 use Rattle.tsp_lines.specs.declared.treatment.Stop.TheVariants.{Bad as Refused, Limit as Limited, WriteFault as Unwrote, OutOfMemory as Unheld}
-use Rattle.tsp_lines.specs.declared.treat.Outcome.{Outcome}
+use Rattle.tsp_lines.specs.declared.{treat.Outcome.Outcome, treatment.Stop.Stop}
 use Rattle.tsp_lines.specs.declared.treat.Outcome.TheVariants.{Ok as Done, Bad, ReadFault, WriteFault, Limit, OutOfMemory}
 
 -- what may be written at a line of the input, or at its end

@@ -1,28 +1,17 @@
 -- How one peer after the other is asked.
 use Rattle.std.proofs.Common.{◌≡◌, ℕ, suc, ◌+◌, ◌%◌, ◌^◌, ◌<◌, ◌≤◌, ◌==◌, ◌&&◌, Bool, true, false, if◌then◌else◌, cond, List, [], ◌∷◌, ◌++◌, length, take, get_or, eqb-true, ℤ, refl, sym, ◌∙◌, ap, subst, arith}
-use Rattle.std.specs.List.{filter}
-use Rattle.std.proofs.Math.Seq.{take-suc}
-use Rattle.std.proofs.lemmas.List.{get_or_default}
+use Rattle.std.{proofs.Math.Seq.take-suc, proofs.lemmas.List.get_or_default, specs.List.filter}
 use Rattle.tsp_rules.specs.Values.{Act, Post, Placed, Stamp, PeerId, Peer, Port, Request}
 use Rattle.tsp_base.specs.Words.{Past, Seen, plain, target, word, Performs, in_table, asked, is_measured, is_starting, grown, placed, is_acknowledged, last_number, last_post, IsAscending}
-use Rattle.tsp_base.proofs.SendLemmas.{seen_act}
-use Rattle.tsp_rules.specs.RoundRows.{asks, measured_at}
-use Rattle.tsp_rules.specs.Guards.{table_at}
-use Rattle.tsp_acks.specs.declared.station.Station.{Station}
-use Rattle.tsp_base.proofs.AscendingLemmas.{Rise-peers}
-use Rattle.tsp_acks.specs.Stands.{StationStands}
-use Rattle.tsp_acks.proofs.StandsLemmas.{Stands_stamp}
-use Rattle.tsp_clock.specs.Clocks.{ClockValue, target_of}
-use Rattle.tsp_clock.specs.ClockStands.{ClockStands}
-use Rattle.tsp_measure.specs.Measures.{begun}
-use Rattle.tsp_measure.specs.declared.entry.Entry.{Entry}
-use Rattle.tsp_measure.specs.Rounds.{RoundsValue, Starts, measured_with}
+use Rattle.tsp_rules.specs.{Guards.table_at, RoundRows.asks, RoundRows.measured_at}
+use Rattle.tsp_base.proofs.{AscendingLemmas.Rise-peers, SendLemmas.seen_act}
+use Rattle.tsp_acks.{proofs.StandsLemmas.Stands_stamp, specs.Stands.StationStands, specs.declared.station.Station.Station}
+use Rattle.tsp_clock.specs.{ClockStands.ClockStands, Clocks.ClockValue, Clocks.target_of}
+use Rattle.tsp_measure.specs.{Measures.begun, Rounds.RoundsValue, Rounds.Starts, Rounds.measured_with, declared.entry.Entry.Entry}
 use Rattle.tsp_measure.specs.Slaves.{entry_of, peers_of, Changes, measures}
-use Rattle.tsp_master.specs.declared.master.Master.{Master}
 use Rattle.tsp_master.specs.MasterStands.{LeadStands, MasterStands, ProbesStands, StartsStands, entry_at}
-use Rattle.tsp_master.specs.Closing.{measured_of}
-use Rattle.tsp_master.proofs.RoundLemmas.{MasterStands_asks}
-use Rattle.tsp_master.proofs.TableLemmas.{EntriesAfter_changed, target-is}
+use Rattle.tsp_master.specs.{Closing.measured_of, declared.master.Master.Master}
+use Rattle.tsp_master.proofs.{RoundLemmas.MasterStands_asks, TableLemmas.EntriesAfter_changed, TableLemmas.target-is}
 
 -- those of some peers that have joined
 abbrev pub joined_of : List Entry → List PeerId → List PeerId

@@ -3,20 +3,14 @@ use Rattle.std.proofs.Common.{◌≡◌, ℕ, ◌+ℤ◌, ◌&&◌, Bool, true, 
 use Rattle.tsp_rules.specs.Values.{Ring, Late, Abandon, Placed, CloseAlarm, Port, SPAN}
 use Rattle.tsp_base.specs.Words.{Deadlines, Past, Performs, armed, either_by, grown, puts, reading, ◌followed_by◌}
 use Rattle.tsp_base.proofs.PerformsLemmas.{Performs_else_part, Performs_from, Performs_reading, Performs_then, Performs_then_part}
-use Rattle.tsp_group.specs.declared.group.Group.{Group}
-use Rattle.tsp_group.specs.Groups.{group_of}
-use Rattle.tsp_rules.specs.ClockRows.{can_adjust}
+use Rattle.tsp_group.specs.{Groups.group_of, declared.group.Group.Group}
 use Rattle.tsp_rules.specs.RoundRows.{abandons, close_rings, closes, closes_with, corrects, estimates, mean_by, round_at}
 use Rattle.tsp_rules.specs.Guards.{is_clock_value, is_in_time, is_met, is_over}
-use Rattle.tsp_rules.proofs.Emits.{Emits_puts}
-use Rattle.tsp_acks.specs.declared.station.Station.{Station}
-use Rattle.tsp_acks.specs.Stands.{StationStands}
-use Rattle.tsp_acks.proofs.ActingLemmas.{Performs_acting}
-use Rattle.tsp_clock.specs.Clocks.{ClockValue, target_of}
-use Rattle.tsp_clock.specs.ClockStands.{ClockStands}
+use Rattle.tsp_rules.{proofs.Emits.Emits_puts, specs.ClockRows.can_adjust}
+use Rattle.tsp_acks.{proofs.ActingLemmas.Performs_acting, specs.Stands.StationStands, specs.declared.station.Station.Station}
+use Rattle.tsp_clock.specs.{ClockStands.ClockStands, Clocks.ClockValue, Clocks.target_of}
 use Rattle.tsp_measure.specs.Slaves.{entry_of, peers_of}
-use Rattle.tsp_master.specs.declared.master.Master.{Master}
-use Rattle.tsp_master.specs.Closing.{round_of}
+use Rattle.tsp_master.specs.{Closing.round_of, declared.master.Master.Master}
 use Rattle.tsp_master.specs.MasterStands.{LeadStands, LeadState, MasterStands, RingStands, lead_of}
 use Rattle.tsp_master.proofs.CloseLemmas.{closes_same, corrects-closes, goes_where, no_probe, round-is}
 use Rattle.tsp_master.proofs.LeadLemmas.{ClockStands_still, Performs_lead, Performs_rung, in_time-is}

@@ -1,34 +1,23 @@
 -- What a close reads, and what it does to each measured peer.
 use Rattle.std.proofs.Common.{◌≡◌, ℕ, ◌+◌, ◌<◌, ◌≤◌, ◌&&◌, nat_le, Bool, true, false, if◌then◌else◌, List, [], ◌∷◌, ◌++◌, length, map, get_or, Option, Some, None, ℤ, pos, refl, ◌∙◌, ap, subst, arith}
-use Rattle.std.specs.Option.{option_map}
-use Rattle.std.proofs.lemmas.List.{get_or_default, map-append}
-use Rattle.std.proofs.lemmas.Bool.{le-leb}
+use Rattle.std.{proofs.lemmas.Bool.le-leb, proofs.lemmas.List.get_or_default, proofs.lemmas.List.map-append, specs.Option.option_map}
 use Rattle.tsp_rules.specs.Values.{Correct, Leave, Placed, PeerId, Port}
 use Rattle.tsp_base.specs.Words.{Performs, armed, Past, either_by, for_each, grown, nothing, puts, ◌followed_by◌, Estimate, Sampled, best, estimate_of, is_going, IsAscending}
 use Rattle.tsp_group.specs.declared.group.Group.{Group}
-use Rattle.tsp_rules.specs.ClockRows.{adjusts, can_adjust, is_step}
-use Rattle.tsp_rules.specs.Guards.{is_over}
-use Rattle.tsp_rules.proofs.Emits.{Emits, Emits_each}
-use Rattle.tsp_rules.proofs.EmitsStill.{corrects-none, still_sorts}
-use Rattle.tsp_acks.specs.declared.station.Station.{Station}
-use Rattle.tsp_acks.proofs.StandsLemmas.{Stands_idle}
-use Rattle.tsp_clock.specs.Clocks.{ClockValue}
-use Rattle.tsp_clock.specs.ClockStands.{ClockStands}
+use Rattle.tsp_rules.specs.{ClockRows.adjusts, ClockRows.can_adjust, ClockRows.is_step, Guards.is_over}
+use Rattle.tsp_acks.{proofs.StandsLemmas.Stands_idle, specs.declared.station.Station.Station}
+use Rattle.tsp_clock.specs.{ClockStands.ClockStands, Clocks.ClockValue}
 use Rattle.tsp_rules.specs.RoundRows.{Standing, abandons, closes_with, corrects, corrects_peer, diff_before, mean_by, moves, estimates, is_near, near_diffs, round_at, standing}
 use Rattle.tsp_measure.specs.declared.sample.TimedSample.{TimedSample}
 use Rattle.tsp_base.proofs.AscendingLemmas.{Rise-peers}
-use Rattle.tsp_measure.specs.declared.entry.Entry.{Entry}
-use Rattle.tsp_measure.specs.Rounds.{RoundsValue, estimate_in, timed_of}
+use Rattle.tsp_measure.specs.{Rounds.RoundsValue, Rounds.estimate_in, Rounds.timed_of, declared.entry.Entry.Entry}
 use Rattle.tsp_measure.specs.Slaves.{Changes, entry_of, leaves, peers_of}
-use Rattle.tsp_master.specs.declared.master.Master.{Master}
 use Rattle.tsp_master.specs.Closing.{estimate_with, measured_of, round_of, standing_with, standings_of}
-use Rattle.tsp_master.specs.MasterStands.{LeadStands, MasterStands}
-use Rattle.tsp_master.proofs.AskLemmas.{filter-more, filter-past, measured-is}
-use Rattle.tsp_master.proofs.MasterLemmas.{MasterStands_aside}
-use Rattle.tsp_master.proofs.PhaseLemmas.{over-low, over-some}
-use Rattle.tsp_rules.proofs.BuiltRounds.{built_corrects_by}
+use Rattle.tsp_master.specs.{MasterStands.LeadStands, MasterStands.MasterStands, declared.master.Master.Master}
+use Rattle.tsp_master.proofs.{AskLemmas.filter-more, AskLemmas.filter-past, AskLemmas.measured-is, MasterLemmas.MasterStands_aside}
+use Rattle.tsp_master.proofs.{PhaseLemmas.over-low, PhaseLemmas.over-some, TableLemmas.MasterStands_changed, TableLemmas.leaves-after}
+use Rattle.tsp_rules.proofs.{BuiltRounds.built_corrects_by, Emits.Emits, Emits.Emits_each, EmitsStill.corrects-none, EmitsStill.still_sorts}
 use Rattle.tsp_rules.proofs.EmitsBuilt.{emits_built, nothing_measured}
-use Rattle.tsp_master.proofs.TableLemmas.{MasterStands_changed, leaves-after}
 
 -- one estimate more
 near_diffs-more : (rs : List Standing) (s : Standing) → near_diffs (rs ++ s ∷ []) ≡ near_diffs rs ++ diff_before s.best []

@@ -4,18 +4,13 @@ use Rattle.std.proofs.lemmas.Bool.{false≢true}
 use Rattle.tsp_rules.specs.Values.{Act, Boot, Correct, Placed, Alarm, Port}
 use Rattle.tsp_base.specs.Words.{deadline, Past, Performs, Keeps, acting, Row, grown, puts}
 use Rattle.tsp_base.proofs.SendLemmas.{seen_act}
-use Rattle.tsp_rules.specs.Guards.{is_in_time, is_met}
 use Rattle.tsp_rules.proofs.Emits.{is_in, sort_of, Emits, Emits_more, Keeps_by}
-use Rattle.tsp_rules.proofs.EmitsStill.{still_sorts}
-use Rattle.tsp_acks.specs.declared.station.Station.{Station}
-use Rattle.tsp_acks.specs.Stands.{StationStands, StandsActing}
-use Rattle.tsp_acks.proofs.ActingLemmas.{Performs_acting}
-use Rattle.tsp_acks.proofs.StandsLemmas.{Stands_idle, is_idle}
-use Rattle.tsp_clock.specs.Clocks.{ClockValue}
-use Rattle.tsp_clock.specs.ClockStands.{ClockStands}
-use Rattle.tsp_master.specs.declared.master.Master.{Master}
+use Rattle.tsp_rules.{proofs.EmitsStill.still_sorts, specs.Guards.is_in_time, specs.Guards.is_met}
+use Rattle.tsp_acks.specs.{Stands.StationStands, Stands.StandsActing, declared.station.Station.Station}
+use Rattle.tsp_acks.proofs.{ActingLemmas.Performs_acting, StandsLemmas.Stands_idle, StandsLemmas.is_idle}
+use Rattle.tsp_clock.specs.{ClockStands.ClockStands, Clocks.ClockValue}
 use Rattle.tsp_master.specs.MasterStands.{LeadStands, LeadState, MasterStands, RingStands}
-use Rattle.tsp_master.proofs.TableLemmas.{quiet_sorts, MasterStands_quiet}
+use Rattle.tsp_master.{proofs.TableLemmas.quiet_sorts, proofs.TableLemmas.MasterStands_quiet, specs.declared.master.Master.Master}
 
 -- an act that the station doesn't keep
 pub Performs_idle : (a : Act) → is_idle a ≡ true → {x : ℕ} {port : Port} {station : Station} {old new : List Placed} → new ≡ old ++ record { port = port; act = a } ∷ [] →

@@ -5,8 +5,7 @@ use Rattle.tsp_rules.specs.Values.{Act, Boot, Post, Become, Arm, Ring, Late, Aba
 use Rattle.tsp_base.specs.Words.{Past, in_table, role, is_measured, grown}
 use Rattle.tsp_base.proofs.SendLemmas.{seen_act}
 use Rattle.tsp_measure.specs.Slaves.{entry_of, peers_of}
-use Rattle.tsp_master.specs.declared.master.Master.{Master as MasterStruct}
-use Rattle.tsp_master.specs.MasterStands.{MasterStands, entry_at}
+use Rattle.tsp_master.specs.{MasterStands.MasterStands, MasterStands.entry_at, declared.master.Master.Master as MasterStruct}
 
 -- acts that leave rounds alone
 abbrev pub is_aside : Act → Bool

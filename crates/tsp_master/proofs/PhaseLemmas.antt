@@ -1,16 +1,12 @@
 -- How a round begins and goes on.
 use Rattle.std.proofs.Common.{◌≡◌, ℕ, ◌+◌, ◌*◌, ◌<◌, ◌≤◌, nat_lt, true, false, [], ◌∷◌, Option, Some, None, refl, sym, ◌∙◌, ap, arith}
-use Rattle.std.proofs.lemmas.Bool.{false≢true, leb-true}
-use Rattle.std.proofs.lemmas.Bool.Decides.{nat_tests}
+use Rattle.std.proofs.lemmas.Bool.{false≢true, leb-true, Decides.nat_tests}
 use Rattle.tsp_rules.specs.Values.{Act, Post, Become, Arm, Ring, Late, Probe, CloseAlarm, Follow, Master, CLOSE, PROBE}
 use Rattle.tsp_base.specs.Words.{Past, Keeps, armed, is_going, is_starting, probes, arms, grown, puts, ◌followed_by◌}
-use Rattle.tsp_rules.specs.Guards.{is_met, is_over}
-use Rattle.tsp_rules.proofs.Emits.{Posting, is_in, sort_of}
-use Rattle.tsp_measure.specs.Measures.{Measured, best_of}
-use Rattle.tsp_measure.specs.Rounds.{IsNothing, pending_at}
+use Rattle.tsp_rules.{proofs.Emits.Posting, proofs.Emits.is_in, proofs.Emits.sort_of, specs.Guards.is_met, specs.Guards.is_over}
+use Rattle.tsp_measure.specs.{Measures.Measured, Measures.best_of, Rounds.IsNothing, Rounds.pending_at}
 use Rattle.tsp_measure.specs.Slaves.{ChangesAll, peers_of, unmeasures}
-use Rattle.tsp_master.specs.declared.master.Master.{Master as MasterStruct}
-use Rattle.tsp_master.specs.MasterStands.{MasterStands, IsProbing}
+use Rattle.tsp_master.specs.{MasterStands.MasterStands, MasterStands.IsProbing, declared.master.Master.Master as MasterStruct}
 
 -- a round begins
 pub MasterStands_begins_round : (x : ℕ) (past : Past) (old new : MasterStruct) → ChangesAll unmeasures old.slaves new.slaves → peers_of new.slaves ≡ peers_of old.slaves → IsNothing new.rounds → new.rounds.asked ≡ old.rounds.asked → new.rounds.probes ≡ 0 → MasterStands past old →

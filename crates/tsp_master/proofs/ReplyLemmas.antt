@@ -1,27 +1,19 @@
 -- What a reply is for a master: an answer to an open exchange, or none.
 use Rattle.std.proofs.Common.{◌≡◌, ℕ, ◌==◌, ◌&&◌, Bool, true, false, if◌then◌else◌, List, [], ◌∷◌, ◌++◌, Some, None, ℤ, eqb-true, eq-eqb, refl, sym, ◌∙◌, ap}
-use Rattle.std.specs.List.{All}
-use Rattle.std.proofs.lemmas.List.Elements.{All-head, All-tail}
-use Rattle.std.proofs.lemmas.Bool.{and_parts}
+use Rattle.std.{proofs.lemmas.Bool.and_parts, proofs.lemmas.List.Elements.All-head, proofs.lemmas.List.Elements.All-tail, specs.List.All}
 use Rattle.tsp_rules.specs.Values.{Sample, Placed, PeerId, Port}
 use Rattle.tsp_base.specs.Words.{Past, Performs, is_going, nothing, puts, reading, ReplyValue}
 use Rattle.tsp_base.proofs.PerformsLemmas.{Performs_nothing, Performs_reading, Performs_to}
 use Rattle.tsp_rules.specs.RoundRows.{request_at, sample_of, samples, samples_request}
-use Rattle.tsp_rules.specs.Guards.{target_at}
-use Rattle.tsp_rules.proofs.Emits.{Emits_puts}
+use Rattle.tsp_rules.{proofs.Emits.Emits_puts, specs.Guards.target_at}
 use Rattle.tsp_acks.specs.declared.station.Station.{Station}
 use Rattle.tsp_clock.specs.Clocks.{ClockValue, target_of}
-use Rattle.tsp_measure.specs.declared.exchange.Exchange.{Exchange}
-use Rattle.tsp_measure.specs.declared.sample.Sample.{Sample as SampleStruct}
-use Rattle.tsp_measure.specs.Measures.{IsAnswered, asks}
+use Rattle.tsp_measure.specs.{Measures.IsAnswered, Measures.asks, declared.exchange.Exchange.Exchange}
 use Rattle.tsp_measure.specs.Rounds.{RoundsValue, AreApart, measured_with, pending_at, request_of}
-use Rattle.tsp_measure.proofs.Counters.{asks-counter, pending_at-found}
-use Rattle.tsp_master.specs.declared.master.Master.{Master}
-use Rattle.tsp_master.specs.MasterStands.{GoingStands, LeadStands, LeadState}
-use Rattle.tsp_master.proofs.LeadLemmas.{Performs_idle, Performs_lead_by}
-use Rattle.tsp_master.proofs.RoundLemmas.{MasterStands_unasked}
-use Rattle.tsp_master.proofs.SampleLemmas.{MasterStands_samples}
-use Rattle.tsp_master.proofs.TableLemmas.{target-is}
+use Rattle.tsp_measure.{proofs.Counters.asks-counter, proofs.Counters.pending_at-found, specs.declared.sample.Sample.Sample as SampleStruct}
+use Rattle.tsp_master.specs.{MasterStands.GoingStands, MasterStands.LeadStands, MasterStands.LeadState, declared.master.Master.Master}
+use Rattle.tsp_master.proofs.{LeadLemmas.Performs_idle, LeadLemmas.Performs_lead_by, RoundLemmas.MasterStands_unasked}
+use Rattle.tsp_master.proofs.{SampleLemmas.MasterStands_samples, TableLemmas.target-is}
 
 -- a reply that answers no open exchange
 missed : (p : PeerId) (r : ReplyValue) (es : List Exchange) → All (λ (e : Exchange). asks r.word r.counter e ≡ false) es → samples_request p r (pending_at r.counter es) ≡ nothing

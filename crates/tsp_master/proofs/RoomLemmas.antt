@@ -1,9 +1,7 @@
 -- The room of calls that put at most a number of acts, one after the other.
-use Rattle.std.specs.Prelude.{◌≡◌, ℕ, suc, ◌+◌, ◌*◌, Bool, true, false, if◌then◌else◌, List, [], ◌∷◌, ◌++◌}
-use Rattle.std.proofs.Common.{arith}
+use Rattle.std.proofs.Common.{arith, ◌≡◌, ℕ, suc, ◌+◌, ◌*◌, Bool, true, false, if◌then◌else◌, List, [], ◌∷◌, ◌++◌}
 use Rattle.tsp_rules.specs.Values.{Placed}
-use Rattle.tsp_base.specs.Words.{PutsAtMost, PutsExactly}
-use Rattle.tsp_base.proofs.FrameLemmas.{PutsExactly_put}
+use Rattle.tsp_base.{proofs.FrameLemmas.PutsExactly_put, specs.Words.PutsAtMost, specs.Words.PutsExactly}
 
 -- one act
 pub once : (n k : ℕ) {room left : ℕ} {old new : List Placed} → PutsExactly 1 room left old new → PutsAtMost (n + suc k) room left old new

@@ -4,13 +4,10 @@ use Rattle.std.proofs.lemmas.Bool.{false≢true}
 use Rattle.tsp_rules.specs.Values.{Boot, Post, Arm, Ring, Late, Abandon, Probe, CloseAlarm, Stamp, PeerId, Peer, Request}
 use Rattle.tsp_base.specs.Words.{Acts, Deed, Elsewhere, Here, Past, Seen, plain, Within, target, word, armed, asked, exchange, is_going, request_at_place, request_open, started, started_after, grown}
 use Rattle.tsp_base.proofs.SendLemmas.{seen_act}
-use Rattle.tsp_measure.specs.declared.exchange.Exchange.{Exchange}
-use Rattle.tsp_measure.specs.Measures.{Measured, best_of}
+use Rattle.tsp_measure.specs.{Measures.Measured, Measures.best_of, Slaves.entry_of, Slaves.peers_of, declared.exchange.Exchange.Exchange}
 use Rattle.tsp_measure.specs.Rounds.{RoundsValue, Starts, measured_with, pending_at, request_of}
-use Rattle.tsp_measure.specs.Slaves.{entry_of, peers_of}
 use Rattle.tsp_measure.proofs.Counters.{pending_at-push}
-use Rattle.tsp_master.specs.declared.master.Master.{Master}
-use Rattle.tsp_master.specs.MasterStands.{MasterStands}
+use Rattle.tsp_master.specs.{MasterStands.MasterStands, declared.master.Master.Master}
 use Rattle.tsp_master.proofs.MasterLemmas.{EmptyAfter, EntriesAfter}
 
 -- a round ends

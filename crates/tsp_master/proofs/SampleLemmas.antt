@@ -1,18 +1,15 @@
 -- What a Sample makes of what a master stands for.
 use Rattle.std.proofs.Common.{◌≡◌, ℕ, ◌==◌, ◌&&◌, Bool, true, false, if◌then◌else◌, List, [], ◌∷◌, ◌++◌, Option, Some, None, ℤ, ◌-ℤ◌, int_lt, eqb-true, eq-eqb, refl, sym, ◌∙◌, ap, subst}
-use Rattle.std.specs.List.{fold}
-use Rattle.std.specs.Option.{option_map}
+use Rattle.std.specs.{List.fold, Option.option_map}
 use Rattle.tsp_rules.specs.Values.{Sample, PeerId}
 use Rattle.tsp_base.specs.Words.{Past, Seen, plain, Within, target, OpenRequest, Sampled, best, better, exchange, is_going, request_at_place, request_open, started, target_there, word_asked, grown}
 use Rattle.tsp_base.proofs.SendLemmas.{seen_act}
-use Rattle.tsp_measure.specs.declared.sample.Sample.{Sample as SampleStruct}
 use Rattle.tsp_measure.specs.declared.sample.TimedSample.{TimedSample}
 use Rattle.tsp_measure.specs.Measures.{Measured, IsAnswered, best_of, timed_sample, better as better_timed}
 use Rattle.tsp_measure.specs.Rounds.{AreApart, measured_with, pending_at, request_of, timed_of}
-use Rattle.tsp_measure.specs.Slaves.{entry_of, peers_of}
+use Rattle.tsp_measure.specs.{Slaves.entry_of, Slaves.peers_of, declared.sample.Sample.Sample as SampleStruct}
 use Rattle.tsp_measure.proofs.Counters.{asks-counter, pending_at-found, pending_at-remove}
-use Rattle.tsp_master.specs.declared.master.Master.{Master}
-use Rattle.tsp_master.specs.MasterStands.{IsOfRound, MasterStands}
+use Rattle.tsp_master.specs.{MasterStands.IsOfRound, MasterStands.MasterStands, declared.master.Master.Master}
 
 -- an open request is answered
 request_open-sampled : (p q : PeerId) (k c : ℕ) (diff err : ℤ) (ticket : ℕ) (past : Past) (x : ℕ) →

@@ -2,8 +2,7 @@
 use Rattle.std.proofs.Common.{◌≡◌, ℕ, false, refl}
 use Rattle.tsp_base.specs.Words.{Past}
 use Rattle.tsp_rules.specs.RoundRows.{corrects, probe_rings, round_rings}
-use Rattle.tsp_rules.proofs.BuiltRounds.{built_probe_rings, built_round_rings}
-use Rattle.tsp_rules.proofs.EmitsBuilt.{emits_built}
+use Rattle.tsp_rules.proofs.{BuiltRounds.built_probe_rings, BuiltRounds.built_round_rings, EmitsBuilt.emits_built}
 use Rattle.tsp_rules.proofs.EmitsStill.{corrects-none, still_sorts}
 
 pub probe-corrects : (x : ℕ) (past : Past) → corrects (probe_rings x past) ≡ false

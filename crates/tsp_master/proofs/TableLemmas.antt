@@ -1,22 +1,17 @@
 -- What one act more makes of the past of a peer, and of a master's table.
 use Rattle.std.proofs.Common.{◌≡◌, ℕ, ◌==◌, ◌&&◌, ◌||◌, not, cond, get_or, pos, ◌+ℤ◌, Bool, true, false, if◌then◌else◌, List, [], ◌∷◌, Option, Some, eqb-true, refl, sym, ◌∙◌, ap}
 use Rattle.std.specs.List.{All, filter}
-use Rattle.std.proofs.lemmas.Bool.{false≢true, and_right, and_left}
-use Rattle.std.proofs.lemmas.List.Elements.{All-head, All-tail}
+use Rattle.std.proofs.lemmas.{Bool.false≢true, Bool.and_right, Bool.and_left, List.Elements.All-head, List.Elements.All-tail}
 use Rattle.tsp_rules.specs.Values.{Act, Boot, Post, Become, Arm, Ring, Late, Abandon, Sample, Acked, Join, Leave, Probe, CloseAlarm, Message, Stamp, Kind, AdjTime, SetTime, PeerId, Place, Peer, Stranger, Follow, Master, Request, Reply}
 use Rattle.tsp_base.specs.Words.{Past, MessageValue, Keeps, acting, in_table, is_measured, grown, puts, corrects_in, is_correction, is_acknowledged, last_number, last_post, open_send, IsPeers}
 use Rattle.tsp_base.proofs.SendLemmas.{seen_act, last_post-posts, last_post-other, last_number-begins, last_number-other, is_acknowledged-begins, is_acknowledged-other, is_acknowledged-acked}
-use Rattle.tsp_rules.specs.DateRows.{all_settled, are_settled, is_settled}
-use Rattle.tsp_rules.specs.SendRows.{may_correct, may_set}
+use Rattle.tsp_rules.specs.{DateRows.all_settled, DateRows.are_settled, DateRows.is_settled, SendRows.may_correct, SendRows.may_set}
 use Rattle.tsp_rules.specs.Guards.{is_clock_value, is_in_range, target_at}
 use Rattle.tsp_rules.proofs.Emits.{Sort, Taking, Numbering, Passing, Posting, Backing, Counting, Alarming, Rivalling, Giving, Closing, Tracing, is_in, sort_of, sort_of_kind}
-use Rattle.tsp_clock.specs.Clocks.{ClockValue, target_of}
-use Rattle.tsp_clock.specs.ClockStands.{ClockStands}
-use Rattle.tsp_measure.specs.declared.entry.Entry.{Entry}
+use Rattle.tsp_clock.specs.{ClockStands.ClockStands, Clocks.ClockValue, Clocks.target_of}
 use Rattle.tsp_measure.specs.Slaves.{entry_of, peers_of, Changes, joins, leaves, begins_at, acks, acks_where, may_correct_by, is_settled_by, are_settled_by}
-use Rattle.tsp_measure.proofs.Entries.{Rising-peers, entry_of-at}
-use Rattle.tsp_master.specs.declared.master.Master.{Master as MasterStruct}
-use Rattle.tsp_master.specs.MasterStands.{MasterStands, entry_at}
+use Rattle.tsp_measure.{proofs.Entries.Rising-peers, proofs.Entries.entry_of-at, specs.declared.entry.Entry.Entry}
+use Rattle.tsp_master.specs.{MasterStands.MasterStands, MasterStands.entry_at, declared.master.Master.Master as MasterStruct}
 use Rattle.tsp_master.proofs.MasterLemmas.{EntriesAfter, MasterStands_aside, is_aside}
 
 -- an entry that changes where the act is about its peer

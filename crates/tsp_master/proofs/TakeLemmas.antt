@@ -4,19 +4,13 @@ use Rattle.tsp_rules.specs.Values.{Acked, Join, Kind, Election, MasterAck, Maste
 use Rattle.tsp_base.specs.Words.{Past, MessageValue, grown, nothing, puts, either_by, posts, Sending, corrects_in, is_correction, open_send}
 use Rattle.tsp_rules.specs.MasterRows.{may_join, sends_away}
 use Rattle.tsp_rules.specs.SendRows.{acknowledges, has_other, has_quit, is_kind_quit, is_quit}
-use Rattle.tsp_rules.proofs.Emits.{Emits}
 use Rattle.tsp_sends.specs.Slots.{kind_of, sending_to}
-use Rattle.tsp_acks.specs.declared.station.Station.{Station}
-use Rattle.tsp_acks.specs.Openings.{is_of}
-use Rattle.tsp_acks.specs.Stands.{StationStands}
+use Rattle.tsp_acks.specs.{Openings.is_of, Stands.StationStands, declared.station.Station.Station}
 use Rattle.tsp_measure.specs.declared.entry.Entry.{Entry}
 use Rattle.tsp_measure.specs.Slaves.{entry_of, peers_of, Changes, acks_where, joins}
-use Rattle.tsp_master.specs.declared.master.Master.{Master as MasterStruct}
-use Rattle.tsp_master.specs.MasterStands.{MasterStands}
-use Rattle.tsp_master.specs.MasterTakes.{master_takes_kind_here}
+use Rattle.tsp_master.specs.{MasterStands.MasterStands, MasterTakes.master_takes_kind_here, declared.master.Master.Master as MasterStruct}
 use Rattle.tsp_master.proofs.MasterLemmas.{MasterStands_aside}
-use Rattle.tsp_rules.proofs.BuiltMaster.{built_sends_away}
-use Rattle.tsp_rules.proofs.EmitsBuilt.{emits_built}
+use Rattle.tsp_rules.proofs.{BuiltMaster.built_sends_away, Emits.Emits, EmitsBuilt.emits_built}
 use Rattle.tsp_master.proofs.TableLemmas.{EntriesAfter_changed, MasterStands_changed, MasterStands_same, acked-after, joins-after, quiet_sorts}
 
 pub master_takes_kind_here-ask : (p : PeerId) (m : MessageValue) (k : Kind) → (k ≡ MasterReq) ⊎ (k ≡ ResolveKind) → master_takes_kind_here p m k ≡ posts p MasterAck m.number

@@ -1,18 +1,13 @@
 -- What the acts of a port's other parts make of a master: they leave it alone, but for a change of the role, which takes its slaves.
-use Rattle.std.specs.Prelude.{◌≡◌, ◌≢◌, ◌==◌, ℕ, zero, ℤ, Bool, true, false, not, ◌||◌, ◌&&◌, if◌then◌else◌, List, [], ◌∷◌, ◌⊎◌, refl}
-use Rattle.std.proofs.Common.{sym, ◌∙◌, ap, inl, inr, true≢false}
+use Rattle.std.proofs.Common.{sym, ◌∙◌, ap, inl, inr, true≢false, ◌≡◌, ◌≢◌, ◌==◌, ℕ, zero, ℤ, Bool, true, false, not, ◌||◌, ◌&&◌, if◌then◌else◌, List, [], ◌∷◌, ◌⊎◌, refl}
 use Rattle.std.proofs.lemmas.Bool.{false≢true, or_parts, or_cases}
 use Rattle.tsp_rules.specs.Values.{Act, Boot, Post, Become, Arm, Ring, Late, Correct, Acked, Probe, CloseAlarm, Message, Stamp, Kind, AdjTime, Conflict, Election, QuitKind, SetDateReq, SetTime, PeerId, Role, Starting, Master, Request}
 use Rattle.tsp_base.specs.Words.{Acts, Did, Elsewhere, Here, Past, Seen, Step, Turned, in_table, role, is_measured, corrects_in, open_send, Row, added, grown, in_step, puts}
-use Rattle.tsp_rules.specs.Guards.{is_master}
 use Rattle.tsp_rules.proofs.Emits.{Sort, Taking, Numbering, Passing, Posting, Leading, Following, Changing, Backing, Counting, Alarming, Rivalling, Giving, Closing, Moving, Tracing, AllOf, is_in, sort_of, sort_of_kind, Emits, Emits_more}
-use Rattle.tsp_rules.proofs.EmitsTables.{changes, is_change}
-use Rattle.tsp_measure.specs.declared.entry.Entry.{Entry}
-use Rattle.tsp_measure.specs.Slaves.{acks_where, entry_of, leaves}
-use Rattle.tsp_master.specs.declared.master.Master.{Master as MasterStruct}
-use Rattle.tsp_master.specs.Clearing.{Cleared, Clears}
-use Rattle.tsp_master.specs.MasterStands.{MasterStands, entry_at}
-use Rattle.tsp_master.proofs.MasterLemmas.{MasterStands_aside}
+use Rattle.tsp_rules.{proofs.EmitsTables.changes, proofs.EmitsTables.is_change, specs.Guards.is_master}
+use Rattle.tsp_measure.specs.{Slaves.acks_where, Slaves.entry_of, Slaves.leaves, declared.entry.Entry.Entry}
+use Rattle.tsp_master.specs.{Clearing.Cleared, Clearing.Clears, MasterStands.MasterStands, MasterStands.entry_at}
+use Rattle.tsp_master.{proofs.MasterLemmas.MasterStands_aside, specs.declared.master.Master.Master as MasterStruct}
 use Rattle.tsp_master.proofs.TableLemmas.{quiet_sorts, MasterStands_changed, MasterStands_quiet, acked-after}
 
 -- acts of a port's other parts: none of a round, of a correction or of the table, and no answer to a send

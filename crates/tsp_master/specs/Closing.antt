@@ -1,15 +1,10 @@
 -- What a close reads of a master's table and exchanges.
 use Rattle.std.specs.Prelude.{List, map, Option}
-use Rattle.std.specs.List.{filter}
-use Rattle.std.specs.Option.{option_map}
-use Rattle.tsp_rules.specs.Values.{PeerId}
+use Rattle.std.specs.{List.filter, Option.option_map}
 use Rattle.tsp_base.specs.Words.{Estimate}
-use Rattle.tsp_measure.specs.declared.sample.TimedSample.{TimedSample}
-use Rattle.tsp_measure.specs.Measures.{best_of}
-use Rattle.tsp_rules.specs.RoundRows.{Standing}
-use Rattle.tsp_measure.specs.declared.entry.Entry.{Entry}
-use Rattle.tsp_measure.specs.Rounds.{RoundsValue, estimate_in, measured_with}
-use Rattle.tsp_measure.specs.Slaves.{entry_of, peers_of}
+use Rattle.tsp_measure.specs.{Measures.best_of, Rounds.RoundsValue, Rounds.estimate_in, Rounds.measured_with, declared.entry.Entry.Entry}
+use Rattle.tsp_rules.specs.{RoundRows.Standing, Values.PeerId}
+use Rattle.tsp_measure.specs.{Slaves.entry_of, Slaves.peers_of, declared.sample.TimedSample.TimedSample}
 
 -- those of some peers that are measured
 abbrev pub measured_of : List Entry → List PeerId → List PeerId

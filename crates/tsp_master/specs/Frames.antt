@@ -3,8 +3,7 @@ use Rattle.std.specs.Prelude.{◌≡◌, ◌≤◌, ℕ, length}
 use Rattle.tsp_rules.specs.Values.{PeerId}
 use Rattle.tsp_acks.specs.Calls.{Contains, IsTick}
 use Rattle.tsp_measure.specs.Slaves.{entry_of, peers_of}
-use Rattle.tsp_master.specs.declared.master.Master.{Master}
-use Rattle.tsp_master.specs.MasterStands.{LeadState}
+use Rattle.tsp_master.specs.{MasterStands.LeadState, declared.master.Master.Master}
 
 -- how many peers a master has
 abbrev pub peer_count : Master → ℕ

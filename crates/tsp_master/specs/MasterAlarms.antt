@@ -2,8 +2,7 @@
 use Rattle.std.specs.Prelude.{◌≡◌, Bool, ℕ, false}
 use Rattle.tsp_rules.specs.Values.{Alarm, Round, Probe, CloseAlarm}
 use Rattle.tsp_base.specs.Words.{Deadlines, Row, nothing}
-use Rattle.tsp_rules.specs.Guards.{is_over}
-use Rattle.tsp_rules.specs.RoundRows.{close_rings, probe_rings, round_rings}
+use Rattle.tsp_rules.specs.{Guards.is_over, RoundRows.close_rings, RoundRows.probe_rings, RoundRows.round_rings}
 
 -- the alarms of its rounds; a close moves the clock where the port leads it
 unfoldable pub master_rings : Bool → Alarm → Row

@@ -3,14 +3,10 @@ use Rattle.std.specs.Prelude.{◌∷◌, ◌≡◌, ◌≢◌, ℕ, ◌+◌, ◌
 use Rattle.std.specs.Option.{option_map}
 use Rattle.tsp_rules.specs.Values.{PeerId, Master}
 use Rattle.tsp_base.specs.Words.{Past, Seen, plain, correct_place, Within, role, acting, armed, in_table, Sampled, asked, best, exchange, is_going, is_measured, is_starting, probes, request_open, started, is_acknowledged, last_number, last_post}
-use Rattle.tsp_acks.specs.declared.station.Station.{Station}
-use Rattle.tsp_acks.specs.Stands.{StationStands}
-use Rattle.tsp_clock.specs.Clocks.{ClockValue}
-use Rattle.tsp_clock.specs.ClockStands.{ClockStands}
-use Rattle.tsp_measure.specs.Measures.{best_of}
-use Rattle.tsp_measure.specs.declared.entry.Entry.{Entry}
+use Rattle.tsp_acks.specs.{Stands.StationStands, declared.station.Station.Station}
+use Rattle.tsp_clock.specs.{ClockStands.ClockStands, Clocks.ClockValue}
+use Rattle.tsp_measure.specs.{Measures.best_of, Slaves.entry_of, Slaves.peers_of, declared.entry.Entry.Entry}
 use Rattle.tsp_measure.specs.Rounds.{RoundsValue, measured_with, pending_at, timed_of}
-use Rattle.tsp_measure.specs.Slaves.{entry_of, peers_of}
 use Rattle.tsp_master.specs.declared.master.Master.{Master as MasterStruct}
 
 -- what the past comes to with a peer

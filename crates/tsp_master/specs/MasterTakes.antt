@@ -1,8 +1,7 @@
 -- What a master itself does with messages of its peers; the others are for its port's other parts.
 use Rattle.tsp_rules.specs.Values.{Kind, Election, MasterAck, MasterReq, ResolveKind, SlaveUp, PeerId, StampValue, Request, Reply}
 use Rattle.tsp_base.specs.Words.{MessageValue, Row, nothing, posts}
-use Rattle.tsp_rules.specs.MasterRows.{joins, sends_away}
-use Rattle.tsp_rules.specs.RoundRows.{samples}
+use Rattle.tsp_rules.specs.{MasterRows.joins, MasterRows.sends_away, RoundRows.samples}
 
 -- what it does with this kind of message
 unfoldable pub master_takes_kind_here : PeerId → MessageValue → Kind → Row

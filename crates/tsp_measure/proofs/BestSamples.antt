@@ -1,11 +1,7 @@
 -- Lemmas on the best sample.
-use Rattle.std.proofs.Common.{◌≡◌, ◌∙◌, refl, ap, subst, ℕ, ◌<◌, Bool, true, false, Option, None, Some, cond, ℤ, ◌≤ℤ◌, ◌<ℤ◌, List, [], ◌∷◌, ◌++◌, length, get_or, arith, append_assoc, append-nil, length-append}
-use Rattle.std.proofs.lemmas.Int.{ints}
-use Rattle.std.proofs.lemmas.List.{get_or_append_left}
-use Rattle.std.proofs.Math.Seq.{get_or-append_seam}
+use Rattle.std.proofs.Common.{◌≡◌, ◌∙◌, refl, ap, subst, ℕ, ◌<◌, Bool, true, false, Option, None, Some, cond, ℤ, ◌≤ℤ◌, ◌<ℤ◌, List, [], ◌∷◌, ◌++◌, length, get_or, arith, append_assoc, append-nil, length-append, int_lt}
+use Rattle.std.{proofs.Math.Seq.get_or-append_seam, proofs.lemmas.Int.ints, proofs.lemmas.List.get_or_append_left, specs.List.fold}
 use Rattle.std.proofs.lemmas.List.Elements.{All-push, All-weaker, All-nil, All-get_or}
-use Rattle.std.specs.Prelude.{int_lt}
-use Rattle.std.specs.List.{fold}
 use Rattle.tsp_measure.specs.Measures.{IsFirstOfLeastTrip, IsBestSample, better, best_of}
 use Rattle.tsp_measure.specs.declared.sample.TimedSample.{TimedSample}
 

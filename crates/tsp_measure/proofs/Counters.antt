@@ -1,15 +1,11 @@
 -- Lemmas on the exchanges of a round: their counters tell them apart.
 use Rattle.std.proofs.Common.{◌≡◌, ◌≢◌, ℕ, suc, ◌+◌, ◌*◌, ◌%◌, ◌^◌, ◌<◌, ◌≤◌, ◌==◌, Bool, true, false, if◌then◌else◌, List, [], ◌∷◌, ◌++◌, length, Some, None, ℤ, eqb-true, eq-eqb, refl, sym, ◌∙◌, ap, subst, arith, length-append}
-use Rattle.std.specs.List.{All}
-use Rattle.std.proofs.lemmas.Bool.{ne_eqb, and_parts}
+use Rattle.std.{proofs.lemmas.Bool.ne_eqb, proofs.lemmas.Bool.and_parts, specs.List.All}
 use Rattle.std.proofs.lemmas.List.Elements.{All-nil, All-cons, All-head, All-tail, All-push, All-weaker}
 use Rattle.tsp_base.specs.declared.place.PeerId.{PeerId}
-use Rattle.tsp_measure.specs.declared.exchange.Exchange.{Exchange}
-use Rattle.tsp_measure.specs.declared.sample.TimedSample.{TimedSample}
-use Rattle.tsp_measure.specs.declared.sample.Reply.{Reply}
-use Rattle.tsp_measure.specs.declared.sample.Reply.TheVariants.{NotStarted, Sample as SampleOf}
+use Rattle.tsp_measure.specs.declared.sample.{Reply.TheVariants.NotStarted, Reply.TheVariants.Sample as SampleOf, TimedSample.TimedSample}
 use Rattle.tsp_measure.specs.Measures.{Measured, begun, nothing_measured, IsNewCounter, TakesReply, timed_sample, asks}
-use Rattle.tsp_measure.specs.Peers.{MeasuredPeers, with_peer}
+use Rattle.tsp_measure.specs.{Peers.MeasuredPeers, Peers.with_peer, declared.exchange.Exchange.Exchange, declared.sample.Reply.Reply}
 use Rattle.tsp_measure.specs.Rounds.{RoundsValue, measured_with, request_of, pending_at, IsFrom, AreApart, IsCounted, IsRounds, IsNothing, Starts}
 
 -- a counter of a request isn't that of the next one

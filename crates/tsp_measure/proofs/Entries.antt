@@ -1,17 +1,12 @@
 -- Lemmas on the table of a master's peers.
 use Rattle.std.proofs.Common.{◌≡◌, ◌≢◌, ℕ, zero, suc, ◌+◌, ◌<◌, ◌≤◌, ◌==◌, Bool, true, false, if◌then◌else◌, List, [], ◌∷◌, ◌++◌, length, map, take, drop, append_assoc, append-nil, Result, Ok, Err, get_or, set, eqb-true, eq-eqb, refl, sym, ◌∙◌, ap, arith}
-use Rattle.std.specs.List.{Contains}
-use Rattle.std.specs.List.Sorted.{IsBinarySearchResult, IsSearchInRange}
-use Rattle.std.specs.Ordering.{nat_cmp}
-use Rattle.std.proofs.lemmas.Bool.{ne_eqb}
-use Rattle.std.proofs.Math.Seq.{take-suc, take-append_seam}
+use Rattle.std.specs.{List.Contains, List.Sorted.IsBinarySearchResult, List.Sorted.IsSearchInRange, Ordering.nat_cmp}
+use Rattle.std.proofs.{Math.Seq.take-suc, Math.Seq.take-append_seam, lemmas.Bool.ne_eqb}
 use Rattle.std.proofs.lemmas.List.{length-map, length-take-le, get_or-map, get_or_at, set_at, take_all, drop_more, map-append}
-use Rattle.tsp_base.specs.declared.place.PeerId.{PeerId}
-use Rattle.tsp_base.specs.Words.{IsPeers}
+use Rattle.tsp_base.specs.{Words.IsPeers, declared.place.PeerId.PeerId}
 use Rattle.tsp_base.proofs.AscendingLemmas.{Rise, Rise-of, Rise-rest, Parts-absent, Parts-searched, equal_means}
-use Rattle.tsp_measure.specs.declared.entry.Change.{Change}
+use Rattle.tsp_measure.specs.declared.entry.{Change.Change, Entry.Entry}
 use Rattle.tsp_measure.specs.declared.entry.Change.TheVariants.{Join, Measure, Post, Begin, Acknowledge}
-use Rattle.tsp_measure.specs.declared.entry.Entry.{Entry}
 use Rattle.tsp_measure.specs.Slaves.{idle_entry, peers_of, entry_of, changed_by, Changes, ChangesAll, IsEntryPlace}
 
 -- the peers' numbers rise along the entries

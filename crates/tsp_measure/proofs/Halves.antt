@@ -1,7 +1,6 @@
 -- Lemmas on half of a whole number.
 use Rattle.std.proofs.Common.{◌≡◌, refl, zero, suc, ℤ, pos, negsuc, ◌+ℤ◌, ◌-ℤ◌, ◌≤ℤ◌, arith}
-use Rattle.std.proofs.lemmas.Int.{ints}
-use Rattle.std.specs.Int.{int_div_euclid}
+use Rattle.std.{proofs.lemmas.Int.ints, specs.Int.int_div_euclid}
 use Rattle.tsp_base.specs.Words.{half_down, half_up}
 
 pub div_euclid_half : (z : ℤ) → int_div_euclid z (pos 2) ≡ half_down z

@@ -1,15 +1,10 @@
 -- Lemmas on what is measured with a peer.
 use Rattle.std.proofs.Common.{◌≡◌, ◌∙◌, refl, ap, sym, ℕ, zero, suc, ◌<◌, ◌≤◌, ◌==◌, cond, Bool, true, false, List, [], ◌∷◌, ◌++◌, length, get_or, set, arith, MatchResult, MatchOption, Result, Ok, Err, inl, inr, ◌⊎◌}
-use Rattle.std.proofs.lemmas.Bool.Decides.{nat_tests}
 use Rattle.std.proofs.lemmas.List.Elements.{All-from_get_or, All-contains}
-use Rattle.std.proofs.lemmas.Bool.{cases_lt}
-use Rattle.std.proofs.lemmas.List.{get_or-set_same}
-use Rattle.std.proofs.Math.ListN.{length-set}
-use Rattle.std.specs.List.{All, Contains}
-use Rattle.std.specs.Result.{result_ok}
-use Rattle.tsp_measure.specs.Measures.{Measured, nothing_measured}
+use Rattle.std.proofs.{Math.ListN.length-set, lemmas.Bool.cases_lt, lemmas.Bool.Decides.nat_tests, lemmas.List.get_or-set_same}
+use Rattle.std.specs.{List.All, List.Contains, Result.result_ok}
+use Rattle.tsp_measure.specs.{Measures.Measured, Measures.nothing_measured, Peers.at_peer}
 use Rattle.tsp_base.proofs.AscendingLemmas.{Rise, Rise-rest}
-use Rattle.tsp_measure.specs.Peers.{at_peer}
 
 same_test : (q p : ℕ) → q ≡ p → (q == p) ≡ true
 same_test q p e = grind (arith, nat_tests)

@@ -1,10 +1,8 @@
 -- Lemmas on the numbers of a sample.
 use Rattle.std.proofs.Common.{◌≡◌, ℤ, ◌-ℤ◌, arith, FitsSigned, to_z, of_z}
-use Rattle.std.proofs.lemmas.Int.{ints}
-use Rattle.std.specs.Int.{w64}
+use Rattle.std.{proofs.lemmas.Int.ints, specs.Int.w64}
 use Rattle.tsp_base.specs.Words.{half_down}
-use Rattle.tsp_measure.specs.Measures.{IsReading, IsStamp}
-use Rattle.tsp_measure.proofs.Halves.{half_down-low, half_down-high}
+use Rattle.tsp_measure.{proofs.Halves.half_down-low, proofs.Halves.half_down-high, specs.Measures.IsReading, specs.Measures.IsStamp}
 
 -- how the code writes a difference
 abbrev pub kept : ℤ → ℤ → ℤ

@@ -2,11 +2,8 @@
 use Rattle.std.specs.Prelude.{◌≡◌, ℕ, ◌+◌, ◌<◌, ◌==◌, ◌&&◌, Bool, true, false, if◌then◌else◌, ℤ, pos, negsuc, ◌-ℤ◌, ◌≤ℤ◌, ◌<ℤ◌, int_lt, Option, None, Some, MatchOption, List, [], ◌∷◌, ◌++◌, length, slice_index_or}
 use Rattle.std.specs.List.{All, fold}
 use Rattle.tsp_base.specs.Words.{sample_diff, sample_err}
-use Rattle.tsp_measure.specs.declared.exchange.Exchange.{Exchange}
-use Rattle.tsp_measure.specs.declared.sample.Reply.{Reply}
+use Rattle.tsp_measure.specs.declared.{exchange.Exchange.Exchange, sample.Reply.Reply, sample.Sample.Sample, sample.TimedSample.TimedSample}
 use Rattle.tsp_measure.specs.declared.sample.Reply.TheVariants.{NotStarted, Sample as SampleOf}
-use Rattle.tsp_measure.specs.declared.sample.Sample.{Sample}
-use Rattle.tsp_measure.specs.declared.sample.TimedSample.{TimedSample}
 
 -- a reading of the own clock: strictly between -2 ^ 62 and 2 ^ 62
 pub record IsReading (x : ℤ) : Type 0 where

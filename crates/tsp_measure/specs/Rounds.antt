@@ -1,13 +1,9 @@
 -- What a round has asked and learned, as the exchanges with each peer have it.
 use Rattle.std.specs.Prelude.{◌≡◌, ℕ, ◌+◌, ◌*◌, ◌%◌, ◌^◌, ◌<◌, ◌≤◌, ◌==◌, ℤ, if◌then◌else◌, List, [], ◌∷◌, ◌++◌, Option, None, Some}
 use Rattle.std.specs.List.{All}
-use Rattle.tsp_base.specs.declared.place.PeerId.{PeerId}
-use Rattle.tsp_base.specs.Words.{Estimate, OpenRequest, Sampled}
-use Rattle.tsp_measure.specs.declared.exchange.Exchange.{Exchange}
-use Rattle.tsp_measure.specs.declared.sample.Sample.{Sample}
-use Rattle.tsp_measure.specs.declared.sample.TimedSample.{TimedSample}
-use Rattle.tsp_measure.specs.Measures.{Measured, begun, nothing_measured}
-use Rattle.tsp_measure.specs.Peers.{MeasuredPeers, with_peer}
+use Rattle.tsp_base.specs.{Words.Estimate, Words.OpenRequest, Words.Sampled, declared.place.PeerId.PeerId}
+use Rattle.tsp_measure.specs.declared.{exchange.Exchange.Exchange, sample.Sample.Sample, sample.TimedSample.TimedSample}
+use Rattle.tsp_measure.specs.{Measures.Measured, Measures.begun, Measures.nothing_measured, Peers.MeasuredPeers, Peers.with_peer}
 
 -- the exchanges of the last round, the requests since the boot modulo 2 ^ 64, and the probes since the round began
 pub record RoundsValue : Type 0 where

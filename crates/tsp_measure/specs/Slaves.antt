@@ -1,12 +1,9 @@
 -- What a master knows of its peers, and how it changes.
 use Rattle.std.specs.Prelude.{◌≡◌, ◌≢◌, ℕ, ◌+◌, ◌%◌, ◌<◌, ◌==◌, Bool, true, false, not, ◌&&◌, ◌||◌, if◌then◌else◌, List, [], ◌∷◌, map, length, slice_index_or, None, Some, Result, Ok, Err}
 use Rattle.std.specs.List.{list_all}
-use Rattle.tsp_base.specs.declared.constants.TheConstants.{REUSE}
-use Rattle.tsp_base.specs.declared.place.PeerId.{PeerId}
-use Rattle.tsp_base.specs.Words.{is_past}
-use Rattle.tsp_measure.specs.declared.entry.Change.{Change}
+use Rattle.tsp_base.specs.{Words.is_past, declared.constants.TheConstants.REUSE, declared.place.PeerId.PeerId}
+use Rattle.tsp_measure.specs.declared.entry.{Change.Change, Entry.Entry}
 use Rattle.tsp_measure.specs.declared.entry.Change.TheVariants.{Join, Measure, Post, Begin, Acknowledge}
-use Rattle.tsp_measure.specs.declared.entry.Entry.{Entry}
 
 -- a peer of which nothing is known
 abbrev pub idle_entry : PeerId → Entry

@@ -1,16 +1,12 @@
 -- The numbers of a daemon's peers are the places of their addresses.
-use Rattle.std.specs.Prelude.{◌≡◌, ℕ, zero, suc, ◌+◌, ◌<◌, ◌==◌, Bool, true, false, if◌then◌else◌, List, [], ◌∷◌, ◌++◌, length, map, flat_map, Some, slice_get, slice_index_or, refl}
-use Rattle.std.proofs.Common.{ap, subst, arith, eq-eqb, ◌∙◌}
-use Rattle.std.proofs.lemmas.Bool.{ne_eqb}
-use Rattle.std.proofs.lemmas.List.{length-map}
+use Rattle.std.proofs.Common.{ap, subst, arith, eq-eqb, ◌∙◌, ◌≡◌, ℕ, zero, suc, ◌+◌, ◌<◌, ◌==◌, Bool, true, false, if◌then◌else◌, List, [], ◌∷◌, ◌++◌, length, map, flat_map, Some, slice_get, slice_index_or, refl}
+use Rattle.std.proofs.lemmas.{Bool.ne_eqb, List.length-map}
 use Rattle.tsp_base.specs.Words.{has_member}
 use Rattle.tsp_io.specs.declared.addr.Addr.{Addr}
-use Rattle.tsp_run.specs.Networks.{network_from, networks}
-use Rattle.tsp_run.proofs.NetworkLemmas.{some_same}
+use Rattle.tsp_run.{proofs.NetworkLemmas.some_same, specs.Networks.network_from, specs.Networks.networks}
 use Rattle.tsp_daemon.specs.Serving.{serving_binding}
 use Rattle.tsp_args.specs.Ports.{all_peers}
-use Rattle.tsp_network.specs.Addressed.{NumbersAreAddresses}
-use Rattle.tsp_network.specs.Lives.{addresses}
+use Rattle.tsp_network.specs.{Addressed.NumbersAreAddresses, Lives.addresses}
 use Rattle.tsp_network.specs.Rosters.{count_below, neighbours, neighbours_on, number_for, others_in, place_in}
 use Rattle.tsp_network.proofs.RosterLemmas.{none_some, place_is}
 

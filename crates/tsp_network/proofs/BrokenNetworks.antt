@@ -1,19 +1,11 @@
 -- Daemons to whom what can't happen in a network happens don't do what the run of their events does.
-use Rattle.std.specs.Prelude.{◌≡◌, ◌≢◌, ℕ, zero, suc, ◌<◌, ◌^◌, List, [], ◌∷◌, length, refl}
-use Rattle.std.proofs.Common.{sym, ap, subst, arith, inl, inr}
-use Rattle.std.proofs.lemmas.List.Elements.{All-nil, All-cons}
-use Rattle.std.proofs.lemmas.List.Sums.{count_by-le-length}
+use Rattle.std.proofs.Common.{sym, ap, subst, arith, inl, inr, ◌≡◌, ◌≢◌, ℕ, zero, suc, ◌<◌, ◌^◌, List, [], ◌∷◌, length, refl}
+use Rattle.std.proofs.lemmas.List.{Elements.All-nil, Elements.All-cons, Sums.count_by-le-length}
 use Rattle.tsp_rules.specs.Values.{Arm, BootAt, Bytes, Peer, Place, Stranger}
 use Rattle.tsp_base.specs.Words.{Acts, Deed, IsHeader, IsNet, KeepsDrift, Line, has_member, peer_of as peer}
-use Rattle.tsp_run.specs.Possible.{Happens, Possible}
-use Rattle.tsp_run.specs.Ranges.{IsInRange}
-use Rattle.tsp_run.specs.Run.{run, posts as posts_of}
-use Rattle.tsp_run.specs.Setup.{node_line}
-use Rattle.tsp_network.specs.Events.{AllHappen}
-use Rattle.tsp_network.specs.Lives.{AreStarted}
+use Rattle.tsp_run.specs.{Possible.Happens, Possible.Possible, Ranges.IsInRange, Run.run, Run.posts as posts_of, Run.steps, Setup.node_line}
 use Rattle.tsp_network.specs.NetworksBroken.{NetworksBreak, on_second_port, one_daemon, one_node, start}
-use Rattle.tsp_network.specs.Networks.{network}
-use Rattle.tsp_network.proofs.WitnessUse.{letter_name}
+use Rattle.tsp_network.{proofs.WitnessUse.letter_name, specs.Events.AllHappen, specs.Lives.AreStarted, specs.Networks.network}
 use Rattle.tsp_base.specs.Words.{kind_number, nothing, puts, ◌followed_by◌, either_by, reading, for_each, arms, posts, posts_to_others, posts_back, posts_time, carries_hops, carries_time, kind_of}
 use Rattle.tsp_rules.specs.Answers.{alarm_rings, rings, rings_alone, due_alarms, says_in, peer_says, replies_in, peer_replies, from_peer, handles_kind, handles, takes, input_row, answers}
 use Rattle.tsp_rules.specs.CandidateRows.{lead_row, yields, window_rings, accepted_by, refused_by, candidate_takes_kind, candidate_takes}
@@ -29,7 +21,6 @@ use Rattle.tsp_rules.specs.DateRows.{passes_on, leaves, leaves_all, new_date, se
 use Rattle.tsp_rules.specs.NodeRows.{nothing_at_all, on, ◌and_then◌, reading_all, for_ports, abandons_on, stirring}
 use Rattle.tsp_rules.specs.GateRows.{sends_loops, loops_after, probes_on, closes_on, begins_round_on, alarm_on, alarms_on, turns_on, reposts, reposts_on, loosens_master, forwards, takes_loop_step, judges, heeds_loop, takes_loop, takes_message, takes_kind, takes_on, input_all, answers_all, boots_on, boots_all}
 use Rattle.tsp_codec.specs.Taken.{taken_of}
-use Rattle.tsp_run.specs.Run.{steps}
 
 one-net : IsNet 1 (0 ∷ [])
 one-net = record { some = omega arith; ascending = λ k few. (let bad : ⊥ = omega (arith, few) in absurd bad); known = All-cons (λ n. n < 1) 0 [] (omega arith) (All-nil (λ n. n < 1)) }

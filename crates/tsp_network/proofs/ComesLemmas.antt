@@ -1,24 +1,18 @@
 -- What comes to a daemon is what comes to its node, in other names.
-use Rattle.std.specs.Prelude.{◌≡◌, ℕ, ◌+◌, ◌<◌, ◌≤◌, ◌==◌, true, false, if◌then◌else◌, List, length, map, take, Some, slice_index_or, refl}
-use Rattle.std.proofs.Common.{sym, ap, subst, inl, inr, arith, eq-eqb, take_all, ◌∙◌}
-use Rattle.std.proofs.lemmas.Bool.{ne_eqb, or_right}
-use Rattle.std.specs.List.{range_with_len}
+use Rattle.std.proofs.Common.{sym, ap, subst, inl, inr, arith, eq-eqb, take_all, ◌∙◌, ◌≡◌, ℕ, ◌+◌, ◌<◌, ◌≤◌, ◌==◌, true, false, if◌then◌else◌, List, length, map, take, Some, slice_index_or, refl}
+use Rattle.std.{proofs.lemmas.Bool.ne_eqb, proofs.lemmas.Bool.or_right, specs.List.range_with_len}
 use Rattle.tsp_rules.specs.Values.{PeerId, Place, Peer, Stranger, Port}
 use Rattle.tsp_base.specs.Words.{IsHeader, first_port, has_member, is_among, peer_of}
 use Rattle.tsp_codec.specs.Taken.{taken_of}
 use Rattle.tsp_gateway.specs.PortOf.{port_of_from}
-use Rattle.tsp_rules.specs.GateRows.{GotOn}
+use Rattle.tsp_rules.specs.{GateRows.GotOn, Renames.renamed_place}
 use Rattle.tsp_rules.specs.NodeRows.{NodePast, PortSetup, no_port, port_setup}
-use Rattle.tsp_rules.specs.Renames.{renamed_place}
-use Rattle.tsp_run.specs.Networks.{networks, ports_on}
-use Rattle.tsp_run.proofs.NetworkLemmas.{port_named}
+use Rattle.tsp_run.{proofs.NetworkLemmas.port_named, specs.Networks.networks, specs.Networks.ports_on}
 use Rattle.tsp_daemon.specs.Sessions.{given_of, port_from}
 use Rattle.tsp_alike.specs.AlikeNodes.{ComesOn, renamed_given}
-use Rattle.tsp_network.specs.Events.{MayCome}
-use Rattle.tsp_network.specs.Lives.{Daemons, addresses}
+use Rattle.tsp_network.specs.{Events.MayCome, Lives.Daemons, Lives.addresses}
 use Rattle.tsp_network.specs.Rosters.{count_below, named_node, neighbours, neighbours_on, number_for, place_in, renaming_on, sender_for}
-use Rattle.tsp_network.proofs.NamedLemmas.{is_in_range, named_member}
-use Rattle.tsp_network.proofs.RosterLemmas.{length_neighbours, place_is}
+use Rattle.tsp_network.proofs.{NamedLemmas.is_in_range, NamedLemmas.named_member, RosterLemmas.length_neighbours, RosterLemmas.place_is}
 use Rattle.tsp_network.proofs.SegmentLemmas.{as_long, port_found, port_own}
 use Rattle.tsp_network.proofs.SetUpLemmas.{daemon_port, daemon_ports, is_roster, same_ports}
 

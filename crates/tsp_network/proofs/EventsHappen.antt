@@ -1,16 +1,11 @@
 -- What can happen in a network of daemons isn't impossible in the run.
-use Rattle.std.specs.Prelude.{◌≡◌, ℕ, ◌<◌, ◌≤◌, ◌==◌, not, true, List, length, Option, None, Some, All, refl}
-use Rattle.std.proofs.Common.{sym, ap, subst, inl, inr, ◌∙◌}
-use Rattle.std.proofs.lemmas.Bool.{le-ltb, lt-ltb}
-use Rattle.std.proofs.lemmas.List.Elements.{All-get_or, All-filter}
+use Rattle.std.proofs.Common.{sym, ap, subst, inl, inr, ◌∙◌, ◌≡◌, ℕ, ◌<◌, ◌≤◌, ◌==◌, not, true, List, length, Option, None, Some, All, refl}
+use Rattle.std.proofs.lemmas.{Bool.le-ltb, Bool.lt-ltb, List.Elements.All-get_or, List.Elements.All-filter}
 use Rattle.tsp_rules.specs.Values.{BootAt, Turn, Take, Bytes, Peer, Stranger, Place, Port}
-use Rattle.tsp_base.specs.Words.{IsHeader}
-use Rattle.tsp_base.specs.declared.event.EventFault.{EventFault}
+use Rattle.tsp_base.specs.{Words.IsHeader, declared.event.EventFault.EventFault}
 use Rattle.tsp_run.specs.Networks.{networks, ports_on}
 use Rattle.tsp_run.specs.Refusals.{Scene, actor, down, first_of, impossible, port_count, time_back, unknown, unknown_place}
-use Rattle.tsp_network.specs.Events.{MayCome}
-use Rattle.tsp_network.specs.Lives.{Daemons}
-use Rattle.tsp_network.specs.Rosters.{neighbours_on, place_in}
+use Rattle.tsp_network.specs.{Events.MayCome, Lives.Daemons, Rosters.neighbours_on, Rosters.place_in}
 use Rattle.tsp_network.proofs.RosterLemmas.{header_nets, place_is, port_is}
 
 none-of : {a b : Option EventFault} → a ≡ None → b ≡ None → first_of a b ≡ None

@@ -1,6 +1,5 @@
 -- Names: which node a number names, and that different numbers name different nodes.
-use Rattle.std.specs.Prelude.{◌≡◌, ◌≢◌, ◌⊎◌, ℕ, zero, suc, ◌+◌, ◌-◌, ◌<◌, ◌≤◌, ◌==◌, nat_le, nat_lt, Bool, true, false, not, ◌&&◌, if◌then◌else◌, List, [], ◌∷◌, length, map, slice_index_or, refl}
-use Rattle.std.proofs.Common.{sym, ap, subst, inl, inr, arith, true≢false, eq-eqb, eqb-true, le-leb, leb-true, ◌∙◌}
+use Rattle.std.proofs.Common.{sym, ap, subst, inl, inr, arith, true≢false, eq-eqb, eqb-true, le-leb, leb-true, ◌∙◌, ◌≡◌, ◌≢◌, ◌⊎◌, ℕ, zero, suc, ◌+◌, ◌-◌, ◌<◌, ◌≤◌, ◌==◌, nat_le, nat_lt, Bool, true, false, not, ◌&&◌, if◌then◌else◌, List, [], ◌∷◌, length, map, slice_index_or, refl}
 use Rattle.std.proofs.lemmas.Bool.{and_parts, cases_lt, eqb-false, lt-ltb, ltb-true, ne_eqb, or_cases, or_right}
 use Rattle.std.specs.List.{range_with_len}
 use Rattle.tsp_rules.specs.Values.{PeerId}

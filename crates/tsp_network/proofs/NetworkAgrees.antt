@@ -1,20 +1,15 @@
 -- What the daemons of a network did is the run of its events.
-use Rattle.std.specs.Prelude.{◌≡◌, ℕ, ◌+◌, ◌-◌, ◌<◌, ◌≤◌, ◌==◌, Bool, true, false, if◌then◌else◌, List, [], ◌∷◌, ◌++◌, length, map, Option, None, Some, slice_index_or, refl}
-use Rattle.std.proofs.Common.{sym, ap, subst, arith, eq-eqb, eqb-true, ◌∙◌}
+use Rattle.std.proofs.Common.{sym, ap, subst, arith, eq-eqb, eqb-true, ◌∙◌, ◌≡◌, ℕ, ◌+◌, ◌-◌, ◌<◌, ◌≤◌, ◌==◌, Bool, true, false, if◌then◌else◌, List, [], ◌∷◌, ◌++◌, length, map, Option, None, Some, slice_index_or, refl}
 use Rattle.std.proofs.lemmas.Bool.{eqb-false, ne_eqb}
 use Rattle.tsp_rules.specs.Values.{Boot, Placed, Port}
 use Rattle.tsp_base.specs.Words.{Booted, IsHeader, Line, Step, first_port, joined, line_of, stepped, Acts, Begins, dids, of, up}
-use Rattle.tsp_rules.specs.GateRows.{NodeGiven, answers_all, boots_all}
+use Rattle.tsp_rules.specs.{GateRows.NodeGiven, GateRows.answers_all, GateRows.boots_all, Renames.Renaming}
 use Rattle.tsp_rules.specs.NodeRows.{NodePast, PortSetup, in_node_step, no_port, spread}
-use Rattle.tsp_rules.specs.Renames.{Renaming}
 use Rattle.tsp_io.specs.Links.{Arrival}
-use Rattle.tsp_run.specs.Networks.{networks}
+use Rattle.tsp_run.specs.{Networks.networks, Setup.past_of, Setup.rests}
 use Rattle.tsp_run.specs.Run.{boot_step, joins, posts, posts_from, step_tick}
-use Rattle.tsp_run.specs.Setup.{past_of, rests}
-use Rattle.tsp_run.proofs.Happens.{acts_by, stepping}
-use Rattle.tsp_run.proofs.RunLemmas.{posts_stepped, stepped_own, up_joined}
-use Rattle.tsp_daemon.specs.Nodes.{daemon_config, setups_from}
-use Rattle.tsp_daemon.specs.Posts.{sends_of}
+use Rattle.tsp_run.proofs.{Happens.acts_by, Happens.stepping, RunLemmas.posts_stepped, RunLemmas.stepped_own, RunLemmas.up_joined}
+use Rattle.tsp_daemon.specs.{Nodes.daemon_config, Nodes.setups_from, Posts.sends_of}
 use Rattle.tsp_alike.specs.AlikeNodes.{AllKnown, ComesOn, SameBoot, TellsApart, naming_of, renamed_given, renamed_placed}
 use Rattle.tsp_alike.proofs.AlikeLaws.{boots-are-alike}
 use Rattle.tsp_network.specs.Lives.{Daemons, IsStarted, Life, first_acts, session_of, turn_told, turn_acts}
@@ -22,8 +17,7 @@ use Rattle.tsp_network.specs.Networks.{Network, acted, life_from, named_acts, da
 use Rattle.tsp_network.specs.Rosters.{renaming_on}
 use Rattle.tsp_network.proofs.NodesAgree.{Agrees, agrees_later, agrees_still, alike_lines, given, turn_agrees}
 use Rattle.tsp_network.proofs.SentLemmas.{AllMatch, NoneMatch, acts_match, match_append}
-use Rattle.tsp_network.proofs.SetUpLemmas.{configs_alike, daemon_ports, tells_apart}
-use Rattle.tsp_network.proofs.ToldLemmas.{Began}
+use Rattle.tsp_network.proofs.{SetUpLemmas.configs_alike, SetUpLemmas.daemon_ports, SetUpLemmas.tells_apart, ToldLemmas.Began}
 
 module _ (d : Daemons) (header_is : IsHeader d.header) (started : (n : ℕ) → n < length d.header.nodes → IsStarted d n) where
   abbrev nets : List (List ℕ)

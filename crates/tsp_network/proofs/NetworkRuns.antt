@@ -1,36 +1,25 @@
 -- Event after event a network of daemons does what the run of its events does.
-use Rattle.std.specs.Prelude.{◌≡◌, ℕ, ◌-◌, ◌<◌, ◌≤◌, ◌^◌, nat_le, Bool, true, false, if◌then◌else◌, List, [], ◌∷◌, length, map, Option, None, Some, slice_get, refl}
-use Rattle.std.proofs.Common.{sym, ap, subst, inr, arith, length-append, ◌∙◌}
+use Rattle.std.proofs.Common.{sym, ap, subst, inr, arith, length-append, ◌∙◌, ◌≡◌, ℕ, ◌-◌, ◌<◌, ◌≤◌, ◌^◌, nat_le, Bool, true, false, if◌then◌else◌, List, [], ◌∷◌, length, map, Option, None, Some, slice_get, refl}
 use Rattle.std.proofs.lemmas.List.Elements.{All-nil, All-cons}
 use Rattle.tsp_rules.specs.Values.{Placed, Event, BootAt, Turn, Take, Bytes, Message, Stamp, Datagram, Peer, Place, Port, Request, Reply}
 use Rattle.tsp_base.specs.Words.{Came, Handed, IsHeader, has_member, Line, Step, Turned, peer_of}
-use Rattle.tsp_codec.specs.Canon.{canon, room_for}
-use Rattle.tsp_codec.specs.Taken.{taken_of}
-use Rattle.tsp_codec.proofs.Written.{length-canon}
+use Rattle.tsp_codec.{proofs.Written.length-canon, specs.Canon.canon, specs.Canon.room_for, specs.Taken.taken_of}
 use Rattle.tsp_promises.specs.Sound.{IsSound}
 use Rattle.tsp_rules.specs.GateRows.{GotOn, NodeTurn, answers_all, boots_all}
 use Rattle.tsp_io.specs.Links.{Arrival}
 use Rattle.tsp_daemon.specs.Posts.{sends_of}
-use Rattle.tsp_run.specs.declared.address.Address.{Address}
-use Rattle.tsp_run.specs.Networks.{address_of, networks, ports_on}
-use Rattle.tsp_run.specs.Possible.{Possible}
-use Rattle.tsp_run.specs.Ranges.{IsInRange}
+use Rattle.tsp_run.specs.{Networks.address_of, Networks.networks, Networks.ports_on, Possible.Possible, Ranges.IsInRange}
 use Rattle.tsp_run.specs.Refusals.{down, down_at, impossible, node_in, scene}
 use Rattle.tsp_run.specs.Run.{arrives, arrives_at, boot_step, step_tick, event_at, goes_to, happening, joins, last_at, posts, reaches, run}
-use Rattle.tsp_run.proofs.Happens.{stepping, steps-are, taking}
-use Rattle.tsp_run.proofs.NetworkLemmas.{goes_there}
-use Rattle.tsp_run.proofs.RunFits.{post_sound, ran}
-use Rattle.tsp_run.proofs.SettingLemmas.{each-is-set}
-use Rattle.tsp_run.proofs.SoundLemmas.{sound_writable}
+use Rattle.tsp_run.proofs.{Happens.stepping, Happens.steps-are, Happens.taking, NetworkLemmas.goes_there, RunFits.post_sound, RunFits.ran}
+use Rattle.tsp_run.{proofs.SettingLemmas.each-is-set, proofs.SoundLemmas.sound_writable, specs.declared.address.Address.Address}
 use Rattle.tsp_network.specs.Events.{AllHappen, CanHappen, MayCome, IsRunning, RunsAt, RunsFor}
 use Rattle.tsp_network.specs.Lives.{Daemons, IsStarted, Life, first_acts, session_of, turn_told, turn_acts}
 use Rattle.tsp_network.specs.Networks.{Network, Sent, acted, copy_at, delivers, after_event, life_from, network, daemon_tick, node_wall, sent_by, takes_copy, turns}
 use Rattle.tsp_network.specs.Rosters.{destination, neighbours_on, sender_for}
-use Rattle.tsp_network.proofs.ComesLemmas.{comes_as}
+use Rattle.tsp_network.proofs.{ComesLemmas.comes_as, NodesAgree.Agrees, RosterLemmas.length_neighbours, RosterLemmas.poster_near}
 use Rattle.tsp_network.proofs.EventsHappen.{could_boot, could_come, could_take, could_turn, sender_known}
 use Rattle.tsp_network.proofs.NetworkAgrees.{AllAgree, OneAgrees, all_still, boot_agrees, none_agree, turn_agrees_all}
-use Rattle.tsp_network.proofs.NodesAgree.{Agrees}
-use Rattle.tsp_network.proofs.RosterLemmas.{length_neighbours, poster_near}
 use Rattle.tsp_network.proofs.SentLemmas.{MatchedAt, match_at, match_length}
 
 -- a written datagram has at most 268 octets

@@ -1,15 +1,10 @@
 -- Every network of daemons keeps the promises.
 use Rattle.std.proofs.Common.{sym, subst, arith, ◌∙◌}
-use Rattle.tsp_run.specs.Promises.{Promises}
-use Rattle.tsp_run.specs.Run.{run}
-use Rattle.tsp_run.proofs.NetworkLemmas.{some_same}
-use Rattle.tsp_run.proofs.RunPremises.{possible-runs-keep-premises}
-use Rattle.tsp_run.proofs.RunPromises.{possible-runs-keep-promises}
-use Rattle.tsp_network.specs.Kept.{IsSent, NetworksKeepPromises}
-use Rattle.tsp_network.specs.Networks.{network}
-use Rattle.tsp_network.proofs.NetworkRuns.{run_agrees}
+use Rattle.tsp_run.specs.{Promises.Promises, Run.run}
+use Rattle.tsp_run.proofs.{NetworkLemmas.some_same, RunPremises.possible-runs-keep-premises, RunPromises.possible-runs-keep-promises}
+use Rattle.tsp_network.specs.{Kept.IsSent, Kept.NetworksKeepPromises, Networks.network}
+use Rattle.tsp_network.proofs.{NetworkRuns.run_agrees, SentLemmas.match_at, SentLemmas.match_length}
 use Rattle.tsp_network.proofs.TriedLemmas.{OneTried, all_tried}
-use Rattle.tsp_network.proofs.SentLemmas.{match_at, match_length}
 
 pub networks-keep-promises : NetworksKeepPromises
 networks-keep-promises d setting events n set =

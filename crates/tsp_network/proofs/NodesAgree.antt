@@ -1,6 +1,5 @@
 -- A daemon's session and its node in the run are alike, and stay so from turn to turn.
-use Rattle.std.specs.Prelude.{◌≡◌, ℕ, ◌+◌, ◌-◌, ◌<◌, ◌≤◌, ◌==◌, Bool, true, false, List, [], ◌∷◌, length, slice_index_or, refl}
-use Rattle.std.proofs.Common.{sym, ap, subst, arith, eq-eqb, ◌∙◌}
+use Rattle.std.proofs.Common.{sym, ap, subst, arith, eq-eqb, ◌∙◌, ◌≡◌, ℕ, ◌+◌, ◌-◌, ◌<◌, ◌≤◌, ◌==◌, Bool, true, false, List, [], ◌∷◌, length, slice_index_or, refl}
 use Rattle.tsp_rules.specs.Values.{Placed, Peer, Stranger, Port}
 use Rattle.tsp_base.specs.Words.{IsHeader, Begins, Line, Step, dids, first_port, joined, line_of, of, stepped, tick_at, up}
 use Rattle.tsp_rules.specs.GateRows.{NodeGiven, NodeTurn, GotOn, answers_all}
@@ -8,17 +7,13 @@ use Rattle.tsp_rules.specs.NodeRows.{NodePast, PortSetup, in_node_step, no_port,
 use Rattle.tsp_rules.specs.Renames.{Renaming}
 use Rattle.tsp_promises.proofs.Clocks.{tick-mono}
 use Rattle.tsp_io.specs.Links.{Arrival}
-use Rattle.tsp_run.specs.Networks.{networks}
-use Rattle.tsp_run.specs.Run.{step_tick}
-use Rattle.tsp_run.specs.Setup.{node_line, past_of, rests}
-use Rattle.tsp_run.proofs.RunLemmas.{stepped_own, stepped_other, up_joined}
-use Rattle.tsp_run.proofs.SettingLemmas.{each-is-set}
+use Rattle.tsp_run.specs.{Networks.networks, Run.step_tick, Setup.node_line, Setup.past_of, Setup.rests}
+use Rattle.tsp_run.proofs.{RunLemmas.stepped_own, RunLemmas.stepped_other, RunLemmas.up_joined, SettingLemmas.each-is-set}
 use Rattle.tsp_daemon.specs.Sessions.{Session, turn_begun, turn_cause, given_of, turned}
 use Rattle.tsp_alike.specs.AlikeNodes.{AlikeLines, AlikeNodes, AlikeSetup, AllKnown, Both, ComesOn, TellsApart, naming_of, namings, renamed_given}
 use Rattle.tsp_alike.proofs.AlikeLaws.{answers-are-alike}
 use Rattle.tsp_network.specs.Lives.{Daemons, Life, session_of, turn_told, turn_acts}
-use Rattle.tsp_network.specs.Networks.{named_acts, daemon_tick}
-use Rattle.tsp_network.specs.Rosters.{renaming_on}
+use Rattle.tsp_network.specs.{Networks.named_acts, Networks.daemon_tick, Rosters.renaming_on}
 use Rattle.tsp_network.proofs.SetUpLemmas.{daemon_ports, tells_apart}
 use Rattle.tsp_network.proofs.ToldLemmas.{Reached, Went, acts_told, session_told, told_so}
 

@@ -1,10 +1,8 @@
 -- Rosters: which nodes the ports of a node of a header reach.
-use Rattle.std.specs.Prelude.{◌≡◌, ◌≢◌, ◌⊎◌, ℕ, zero, suc, ◌+◌, ◌<◌, ◌≤◌, ◌==◌, Bool, true, false, not, if◌then◌else◌, List, [], ◌∷◌, length, map, All, Option, None, Some, slice_index_or, refl}
-use Rattle.std.specs.List.Sorted.{IsStrictlyIncreasing}
-use Rattle.std.proofs.Common.{sym, ap, subst, inl, inr, arith, true≢false, eq-eqb, eqb-true, ◌∙◌}
+use Rattle.std.proofs.Common.{sym, ap, subst, inl, inr, arith, true≢false, eq-eqb, eqb-true, ◌∙◌, ◌≡◌, ◌≢◌, ◌⊎◌, ℕ, zero, suc, ◌+◌, ◌<◌, ◌≤◌, ◌==◌, Bool, true, false, not, if◌then◌else◌, List, [], ◌∷◌, length, map, All, Option, None, Some, slice_index_or, refl}
 use Rattle.std.proofs.lemmas.Bool.{cases_lt, ne_eqb, or_cases, or_right}
 use Rattle.std.proofs.lemmas.List.Elements.{All-get_or, All-head, All-tail, All-weaker, All-filter, All-append, All-cons, All-nil, filter_passes}
-use Rattle.std.proofs.lemmas.List.Kept.{IsStrictlyIncreasing-filter}
+use Rattle.std.{proofs.lemmas.List.Kept.IsStrictlyIncreasing-filter, specs.List.Sorted.IsStrictlyIncreasing}
 use Rattle.tsp_rules.specs.Values.{Place, Peer, Stranger, Port}
 use Rattle.tsp_base.specs.Words.{HeaderValue, IsHeader, IsNet, has_member, others, peer_of}
 use Rattle.tsp_base.proofs.AscendingLemmas.{Rise, Rise-numbers, Rise-rest}

@@ -1,31 +1,21 @@
 -- What can happen in a run can happen in a network of daemons.
-use Rattle.std.specs.Prelude.{◌≡◌, ℕ, zero, suc, ◌-◌, ◌<◌, ◌==◌, nat_lt, Bool, true, false, if◌then◌else◌, List, [], ◌∷◌, length, Option, None, Some, slice_get, refl}
-use Rattle.std.proofs.Common.{sym, ap, subst, arith, inl, inr, ◌∙◌}
-use Rattle.std.proofs.lemmas.Bool.{ltb-true, eqb-false, ne_eqb}
-use Rattle.std.proofs.lemmas.List.Elements.{All-head}
-use Rattle.std.proofs.lemmas.Option.{slice_get_cases}
+use Rattle.std.proofs.Common.{sym, ap, subst, arith, inl, inr, ◌∙◌, ◌≡◌, ℕ, zero, suc, ◌-◌, ◌<◌, ◌==◌, nat_lt, Bool, true, false, if◌then◌else◌, List, [], ◌∷◌, length, Option, None, Some, slice_get, refl}
+use Rattle.std.proofs.lemmas.{Bool.ltb-true, Bool.eqb-false, Bool.ne_eqb, List.Elements.All-head, Option.slice_get_cases}
 use Rattle.tsp_rules.specs.Values.{Placed, Event, BootAt, Turn, Take, Bytes}
 use Rattle.tsp_base.specs.Words.{Came, Handed, IsHeader, Line, Step, Turned, dids, of, up}
 use Rattle.tsp_base.specs.declared.event.EventFault.TheVariants.{NoDatagram}
 use Rattle.tsp_io.specs.Links.{Arrival}
-use Rattle.tsp_run.specs.declared.address.Address.{Address}
 use Rattle.tsp_run.specs.declared.posted.Posted.{Posted}
-use Rattle.tsp_run.specs.Networks.{networks}
-use Rattle.tsp_run.specs.Possible.{Possible}
-use Rattle.tsp_run.specs.Ranges.{IsInRange}
+use Rattle.tsp_run.specs.{Networks.networks, Possible.Possible, Ranges.IsInRange, declared.address.Address.Address}
 use Rattle.tsp_run.specs.Refusals.{down, impossible, node_in, no_datagram, scene, time_back}
 use Rattle.tsp_run.specs.Run.{boot_step, goes_to, last_at, posts, run, step_tick}
-use Rattle.tsp_run.proofs.NetworkLemmas.{some_same}
-use Rattle.tsp_run.proofs.PossibleRun.{possible_before}
+use Rattle.tsp_run.proofs.{NetworkLemmas.some_same, PossibleRun.possible_before, RunLemmas.stepped_other}
 use Rattle.tsp_run.proofs.RefusalLemmas.{CanHappen as CanBe, can_happen, first_of-none, up-down}
-use Rattle.tsp_run.proofs.RunLemmas.{stepped_other}
 use Rattle.tsp_network.specs.Events.{AllHappen, CanHappen, IsNetwork, IsRunning, RunsAt, RunsFor}
 use Rattle.tsp_network.specs.Lives.{AreStarted, Daemons, IsStarted, Life, first_acts, turn_told, turn_acts}
 use Rattle.tsp_network.specs.Networks.{Network, Sent, acted, copy_at, delivers, life_from, named_acts, network, daemon_tick, node_wall, takes_copy, turns}
-use Rattle.tsp_network.specs.Rosters.{destination, sender_for}
-use Rattle.tsp_network.specs.Schedules.{AllSuit, RunsAreNetworks, Suits}
-use Rattle.tsp_network.proofs.NetworkAgrees.{AllAgree}
-use Rattle.tsp_network.proofs.NetworkRuns.{RunAgrees, event_agrees, run_agrees}
+use Rattle.tsp_network.specs.{Rosters.destination, Rosters.sender_for, Schedules.AllSuit, Schedules.RunsAreNetworks, Schedules.Suits}
+use Rattle.tsp_network.proofs.{NetworkAgrees.AllAgree, NetworkRuns.RunAgrees, NetworkRuns.event_agrees, NetworkRuns.run_agrees}
 use Rattle.tsp_network.proofs.RosterLemmas.{length_neighbours}
 use Rattle.tsp_network.proofs.SentLemmas.{AllMatch, Matches, MoreMatch, NoneMatch, match_length}
 

@@ -1,17 +1,13 @@
 -- Segments: each port of a daemon has its peers' numbers to itself.
-use Rattle.std.specs.Prelude.{◌≡◌, ◌≢◌, ℕ, zero, suc, ◌+◌, ◌<◌, ◌==◌, nat_le, Bool, true, false, if◌then◌else◌, List, [], ◌∷◌, length, map, Some, slice_index_or, refl}
-use Rattle.std.proofs.Common.{sym, ap, subst, arith, le-leb, ◌∙◌}
-use Rattle.std.proofs.lemmas.Bool.{lt-leb, ne_eqb}
-use Rattle.std.proofs.lemmas.List.{length-map}
-use Rattle.tsp_rules.specs.Values.{Port}
+use Rattle.std.proofs.Common.{sym, ap, subst, arith, le-leb, ◌∙◌, ◌≡◌, ◌≢◌, ℕ, zero, suc, ◌+◌, ◌<◌, ◌==◌, nat_le, Bool, true, false, if◌then◌else◌, List, [], ◌∷◌, length, map, Some, slice_index_or, refl}
+use Rattle.std.proofs.lemmas.{Bool.lt-leb, Bool.ne_eqb, List.length-map}
 use Rattle.tsp_base.specs.Words.{has_member, peer_of}
 use Rattle.tsp_gateway.specs.PortOf.{has_other_peer, port_of_from}
 use Rattle.tsp_io.specs.declared.addr.Addr.{Addr}
-use Rattle.tsp_rules.specs.NodeRows.{no_port}
+use Rattle.tsp_rules.specs.{NodeRows.no_port, Values.Port}
 use Rattle.tsp_daemon.specs.Nodes.{numbered_setup, setups_from}
-use Rattle.tsp_network.specs.Lives.{addresses}
 use Rattle.tsp_network.specs.Rosters.{count_below, neighbours, others_in, port_of_number}
-use Rattle.tsp_network.proofs.NamedLemmas.{is_in_range, not_in_range}
+use Rattle.tsp_network.{proofs.NamedLemmas.is_in_range, proofs.NamedLemmas.not_in_range, specs.Lives.addresses}
 
 -- lists of lists that are as long, each as the other's
 pub data AsLong : List (List Addr) → List (List ℕ) → Type 0 where

@@ -1,27 +1,17 @@
 -- What a daemon sends is what its node posts.
-use Rattle.std.specs.Prelude.{◌≡◌, ◌≢◌, ℕ, zero, suc, ◌+◌, ◌<◌, ◌==◌, Bool, false, if◌then◌else◌, List, [], ◌∷◌, ◌++◌, length, map, None, Some, slice_get, slice_index_or, refl}
-use Rattle.std.proofs.Common.{sym, ap, subst, arith, ◌∙◌}
-use Rattle.std.proofs.lemmas.Bool.{ne_eqb}
-use Rattle.std.proofs.lemmas.List.{map-append}
-use Rattle.std.proofs.lemmas.List.Elements.{All-head, All-tail}
+use Rattle.std.proofs.Common.{sym, ap, subst, arith, ◌∙◌, ◌≡◌, ◌≢◌, ℕ, zero, suc, ◌+◌, ◌<◌, ◌==◌, Bool, false, if◌then◌else◌, List, [], ◌∷◌, ◌++◌, length, map, None, Some, slice_get, slice_index_or, refl}
+use Rattle.std.proofs.lemmas.{Bool.ne_eqb, List.map-append, List.Elements.All-head, List.Elements.All-tail}
 use Rattle.tsp_rules.specs.Values.{Act, Post, Placed, Datagram, PeerId, Peer, Stranger, Port}
 use Rattle.tsp_base.specs.Words.{IsHeader}
 use Rattle.tsp_codec.specs.Canon.{canon}
-use Rattle.tsp_rules.specs.NodeRows.{no_port}
-use Rattle.tsp_rules.specs.Renames.{Naming, Knows, renamed_act}
-use Rattle.tsp_run.specs.declared.address.Address.{Address}
-use Rattle.tsp_run.specs.declared.posted.Posted.{Posted}
-use Rattle.tsp_run.specs.Networks.{address_of, networks}
-use Rattle.tsp_run.specs.Run.{posted_by, posts_from}
-use Rattle.tsp_run.proofs.NetworkLemmas.{goes_there, some_same}
+use Rattle.tsp_rules.specs.{NodeRows.no_port, Renames.Naming, Renames.Knows, Renames.renamed_act}
+use Rattle.tsp_run.specs.{Networks.address_of, Networks.networks, Run.posted_by, Run.posts_from, declared.address.Address.Address}
+use Rattle.tsp_run.{proofs.NetworkLemmas.goes_there, proofs.NetworkLemmas.some_same, specs.declared.posted.Posted.Posted}
 use Rattle.tsp_daemon.specs.Posts.{send_of, sends_of}
 use Rattle.tsp_alike.specs.AlikeNodes.{AllKnown, naming_of, renamed_placed}
-use Rattle.tsp_network.specs.Lives.{Daemons}
-use Rattle.tsp_network.specs.Kept.{IsSent}
-use Rattle.tsp_network.specs.Networks.{Sent, sent_by}
+use Rattle.tsp_network.specs.{Kept.IsSent, Lives.Daemons, Networks.Sent, Networks.sent_by}
 use Rattle.tsp_network.specs.Rosters.{count_below, destination, send_address, named_node, neighbours, neighbours_on, port_of_number, renaming_on}
-use Rattle.tsp_network.proofs.NamedLemmas.{named_member}
-use Rattle.tsp_network.proofs.RosterLemmas.{length_neighbours, none_some}
+use Rattle.tsp_network.proofs.{NamedLemmas.named_member, RosterLemmas.length_neighbours, RosterLemmas.none_some}
 use Rattle.tsp_network.proofs.SegmentLemmas.{port_with_found}
 use Rattle.tsp_network.proofs.SetUpLemmas.{Segment, daemon_ports, is_roster, segment, tells_apart}
 

@@ -1,17 +1,12 @@
 -- The node of a daemon is set up as its node in the schedule, in other names.
-use Rattle.std.specs.Prelude.{◌≡◌, ℕ, ◌+◌, ◌<◌, true, List, [], length, map, slice_index_or, refl}
-use Rattle.std.proofs.Common.{sym, ap, subst, inl, inr, arith, true≢false, ◌∙◌}
-use Rattle.std.proofs.lemmas.Bool.{cases_lt}
-use Rattle.std.proofs.lemmas.List.{get_or_past, length-map}
-use Rattle.std.proofs.lemmas.List.FromFn.{length-map-range_with_len}
+use Rattle.std.proofs.Common.{sym, ap, subst, inl, inr, arith, true≢false, ◌∙◌, ◌≡◌, ℕ, ◌+◌, ◌<◌, true, List, [], length, map, slice_index_or, refl}
+use Rattle.std.proofs.lemmas.{Bool.cases_lt, List.get_or_past, List.length-map, List.FromFn.length-map-range_with_len}
 use Rattle.std.specs.List.{range_with_len}
-use Rattle.tsp_rules.specs.Values.{Port}
 use Rattle.tsp_base.specs.Words.{IsHeader, Line, Step, is_among, others, peer_of}
 use Rattle.tsp_base.proofs.AscendingLemmas.{Rise-numbers}
 use Rattle.tsp_rules.specs.NodeRows.{NodePast, PortSetup, no_port, port_setup}
-use Rattle.tsp_rules.specs.Renames.{Renaming}
-use Rattle.tsp_run.specs.Networks.{networks, ports_on}
-use Rattle.tsp_run.specs.Setup.{node_line, past_of}
+use Rattle.tsp_rules.specs.{Renames.Renaming, Values.Port}
+use Rattle.tsp_run.specs.{Networks.networks, Networks.ports_on, Setup.node_line, Setup.past_of}
 use Rattle.tsp_daemon.specs.Nodes.{daemon_config, numbered_setup, setups_from}
 use Rattle.tsp_alike.specs.AlikeNodes.{AlikeConfigs, AlikeSetup, TellsApart}
 use Rattle.tsp_network.specs.Lives.{Daemons, IsStarted, addresses}

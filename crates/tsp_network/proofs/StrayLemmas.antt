@@ -2,10 +2,8 @@
 use Rattle.std.specs.Prelude.{◌≡◌, pos, negsuc, true, List, [], ◌∷◌, codes, length, Some, slice_get, refl}
 use Rattle.tsp_rules.specs.Values.{Ack, Act, Arm, Correct, Datagram, Elect, Follow, Good, Message, Peer, Placed, Post, SetTime, Took}
 use Rattle.tsp_base.specs.Words.{Came, Line, Step, bare, dids, first_port, of, peer_of as peer, role, stepped, timed, up, view}
-use Rattle.tsp_codec.specs.Canon.{canon}
-use Rattle.tsp_run.specs.declared.posted.Posted.{Posted}
-use Rattle.tsp_run.specs.Possible.{Happens}
-use Rattle.tsp_run.specs.Run.{run, posts as posts_of}
+use Rattle.tsp_codec.specs.{Canon.canon, Taken.taken_of}
+use Rattle.tsp_run.specs.{Possible.Happens, Run.run, Run.posts as posts_of, Run.steps, declared.posted.Posted.Posted}
 use Rattle.tsp_run.proofs.Happens.{acts_by}
 use Rattle.tsp_network.specs.Misdelivered.{led, three_nodes}
 use Rattle.tsp_base.specs.Words.{kind_number, nothing, puts, ◌followed_by◌, either_by, reading, for_each, arms, posts, posts_to_others, posts_back, posts_time, carries_hops, carries_time, kind_of}
@@ -22,8 +20,6 @@ use Rattle.tsp_rules.specs.SlaveRows.{quiet_rings, rings_or_late, search_rings, 
 use Rattle.tsp_rules.specs.DateRows.{passes_on, leaves, leaves_all, new_date, sets_date_where, date_in, date_of, sets_in_charge, date_request_in, date_request_of, date_acked_in, date_acked}
 use Rattle.tsp_rules.specs.NodeRows.{nothing_at_all, on, ◌and_then◌, reading_all, for_ports, abandons_on, stirring}
 use Rattle.tsp_rules.specs.GateRows.{GotOn, sends_loops, loops_after, probes_on, closes_on, begins_round_on, alarm_on, alarms_on, turns_on, reposts, reposts_on, loosens_master, forwards, takes_loop_step, judges, heeds_loop, takes_loop, takes_message, takes_kind, takes_on, input_all, answers_all, boots_on, boots_all}
-use Rattle.tsp_codec.specs.Taken.{taken_of}
-use Rattle.tsp_run.specs.Run.{steps}
 
 -- the SETTIME
 abbrev pub set_time : Datagram

@@ -1,37 +1,21 @@
 -- A copy that comes to another daemon than it is addressed to breaks a promise.
-use Rattle.std.specs.Prelude.{◌≡◌, ℕ, zero, suc, ◌<◌, ◌≤◌, ◌^◌, true, pos, negsuc, List, [], ◌∷◌, ◌++◌, length, Some, slice_get, refl}
-use Rattle.std.proofs.Common.{sym, ap, subst, arith, inl, inr, ◌∙◌}
+use Rattle.std.proofs.Common.{sym, ap, subst, arith, inl, inr, ◌∙◌, ◌≡◌, ℕ, zero, suc, ◌<◌, ◌≤◌, ◌^◌, true, pos, negsuc, List, [], ◌∷◌, ◌++◌, length, Some, slice_get, refl}
 use Rattle.std.proofs.lemmas.List.Elements.{All-nil, All-cons}
 use Rattle.tsp_rules.specs.Values.{Datagram, Message, Peer, Place, Port, Post}
 use Rattle.tsp_rules.specs.GateRows.{GotOn}
 use Rattle.tsp_base.specs.Words.{Acts, Came, Deed, Handed, IsHeader, IsNet, KeepsDrift, Line, Step, Within, dids, first_port, has_member, peer_of as peer, posted, stepped}
 use Rattle.tsp_base.proofs.PlaceLemmas.{Within-none}
-use Rattle.tsp_codec.specs.Canon.{canon}
-use Rattle.tsp_codec.specs.Taken.{taken_of}
-use Rattle.tsp_promises.specs.Once.{OnceObeyed}
-use Rattle.tsp_promises.specs.Premises.{Honest}
-use Rattle.tsp_promises.specs.Setting.{Setting}
+use Rattle.tsp_codec.specs.{Canon.canon, Taken.taken_of}
+use Rattle.tsp_promises.specs.{Once.OnceObeyed, Premises.Honest, Setting.Setting}
 use Rattle.tsp_run.specs.declared.posted.Posted.{Posted}
-use Rattle.tsp_run.specs.Networks.{networks}
-use Rattle.tsp_run.specs.Possible.{Possible}
-use Rattle.tsp_run.specs.Premised.{Sealed}
-use Rattle.tsp_run.specs.Run.{posted_in, posts}
-use Rattle.tsp_run.specs.Setup.{node_line}
-use Rattle.tsp_run.proofs.NetworkLemmas.{some_same}
-use Rattle.tsp_run.proofs.PostPlaces.{length-posts}
-use Rattle.tsp_run.proofs.RunPremises.{possible-runs-keep-premises}
-use Rattle.tsp_network.specs.Events.{IsNetwork, MayCome}
-use Rattle.tsp_network.specs.Lives.{AreStarted, session_of}
+use Rattle.tsp_run.specs.{Networks.networks, Possible.Possible, Premised.Sealed, Run.posted_in, Run.posts, Setup.node_line}
+use Rattle.tsp_run.proofs.{NetworkLemmas.some_same, PostPlaces.length-posts, RunPremises.possible-runs-keep-premises}
+use Rattle.tsp_network.specs.{Events.IsNetwork, Events.MayCome, Lives.AreStarted, Lives.session_of, Rosters.neighbours_on}
 use Rattle.tsp_network.specs.Misdelivered.{Misdelivered, astray, first_at, led, three_daemons, three_nodes}
-use Rattle.tsp_network.specs.Networks.{Network, copy_at, network}
-use Rattle.tsp_network.specs.Rosters.{neighbours_on}
-use Rattle.tsp_network.specs.Schedules.{AllSuit}
-use Rattle.tsp_network.proofs.ComesLemmas.{comes_as}
-use Rattle.tsp_network.proofs.NetworkAgrees.{AllAgree, OneAgrees, turn_agrees_all}
-use Rattle.tsp_network.proofs.NetworkRuns.{Running, run_agrees, running}
-use Rattle.tsp_network.proofs.NodesAgree.{Agrees}
+use Rattle.tsp_network.specs.{Networks.Network, Networks.copy_at, Networks.network, Schedules.AllSuit}
+use Rattle.tsp_network.proofs.{ComesLemmas.comes_as, NetworkAgrees.AllAgree, NetworkAgrees.OneAgrees, NetworkAgrees.turn_agrees_all}
+use Rattle.tsp_network.proofs.{NetworkRuns.Running, NetworkRuns.run_agrees, NetworkRuns.running, NodesAgree.Agrees, SentLemmas.place-of}
 use Rattle.tsp_network.proofs.RunsHappen.{SendAt, quiet, run_is_network, runs_up, send_at}
-use Rattle.tsp_network.proofs.SentLemmas.{place-of}
 use Rattle.tsp_network.proofs.StrayLemmas.{goes_astray, history, set_post, set_time, stray_acts, stray_step, taken_astray}
 use Rattle.tsp_network.proofs.WitnessUse.{in_ranges, letter_name}
 

@@ -1,6 +1,5 @@
 -- What is told of later turns changes no earlier one: the session of a life goes on from turn to turn.
-use Rattle.std.specs.Prelude.{◌≡◌, ℕ, suc, ◌+◌, ℤ, List, [], ◌∷◌, ◌++◌, length, refl}
-use Rattle.std.proofs.Common.{sym, ap, arith, append_assoc, length-append, ◌∙◌}
+use Rattle.std.proofs.Common.{sym, ap, arith, append_assoc, length-append, ◌∙◌, ◌≡◌, ℕ, suc, ◌+◌, ℤ, List, [], ◌∷◌, ◌++◌, length, refl}
 use Rattle.tsp_args.specs.declared.serve.ServeWords.{ServeWords}
 use Rattle.tsp_io.specs.Links.{Arrival}
 use Rattle.tsp_daemon.specs.Sessions.{Session, acts_in_turn, turned}

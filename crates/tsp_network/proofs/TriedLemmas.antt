@@ -1,27 +1,18 @@
 -- What the session of a daemon has tried is what the network has of it since it started.
-use Rattle.std.specs.Prelude.{◌≡◌, ℕ, ◌-◌, ◌≤◌, ◌==◌, ◌<◌, ◌^◌, Bool, true, false, if◌then◌else◌, List, [], ◌∷◌, ◌++◌, length, map, filter, drop, Option, None, Some, slice_get, refl}
-use Rattle.std.proofs.Common.{sym, ap, subst, arith, eq-eqb, eqb-true, length-append, append-nil, append_assoc, ◌∙◌}
-use Rattle.std.proofs.lemmas.Bool.{eqb-false, ne_eqb}
-use Rattle.std.proofs.lemmas.List.{drop-append-le, drop_all, map-append}
-use Rattle.std.proofs.lemmas.List.Elements.{filter-append}
+use Rattle.std.proofs.Common.{sym, ap, subst, arith, eq-eqb, eqb-true, length-append, append-nil, append_assoc, ◌∙◌, ◌≡◌, ℕ, ◌-◌, ◌≤◌, ◌==◌, ◌<◌, ◌^◌, Bool, true, false, if◌then◌else◌, List, [], ◌∷◌, ◌++◌, length, map, filter, drop, Option, None, Some, slice_get, refl}
+use Rattle.std.proofs.lemmas.{Bool.eqb-false, Bool.ne_eqb, List.drop-append-le, List.drop_all, List.map-append, List.Elements.filter-append}
 use Rattle.tsp_rules.specs.Values.{Placed, Event, BootAt, Turn, Take, Bytes, Boot, Port}
 use Rattle.tsp_base.specs.Words.{first_port, Came, Handed, IsHeader, Step, Turned, arms, puts, ◌followed_by◌}
 use Rattle.tsp_rules.specs.GateRows.{all_ports, boots_all, boots_on}
 use Rattle.tsp_rules.specs.NodeRows.{NodePast, for_ports, nothing_at_all, on, reading_all, spread, ◌and_then◌}
 use Rattle.tsp_io.specs.Links.{Arrival, Tried}
-use Rattle.tsp_run.specs.declared.address.Address.{Address}
-use Rattle.tsp_run.specs.Networks.{networks}
+use Rattle.tsp_run.specs.{Networks.networks, declared.address.Address.Address}
 use Rattle.tsp_run.specs.Run.{boot_step, last_at, run, step_tick}
-use Rattle.tsp_daemon.specs.Nodes.{booting, daemon_config}
-use Rattle.tsp_daemon.specs.Posts.{send_of, sends_of}
-use Rattle.tsp_daemon.specs.Sessions.{Session}
-use Rattle.tsp_network.specs.Events.{AllHappen}
-use Rattle.tsp_network.specs.Kept.{tried_by}
+use Rattle.tsp_daemon.specs.{Nodes.booting, Nodes.daemon_config, Posts.send_of, Posts.sends_of, Sessions.Session}
+use Rattle.tsp_network.specs.{Events.AllHappen, Kept.tried_by, Rosters.destination, Rosters.sender_for}
 use Rattle.tsp_network.specs.Lives.{Daemons, IsStarted, Life, first_acts, session_of, turn_told, turn_acts}
 use Rattle.tsp_network.specs.Networks.{Network, Sent, acted, copy_at, delivers, after_event, life_from, network, daemon_tick, node_wall, sent_by, takes_copy, turns}
-use Rattle.tsp_network.specs.Rosters.{destination, sender_for}
-use Rattle.tsp_network.proofs.NetworkAgrees.{OneAgrees}
-use Rattle.tsp_network.proofs.NetworkRuns.{run_agrees, sent_grows}
+use Rattle.tsp_network.proofs.{NetworkAgrees.OneAgrees, NetworkRuns.run_agrees, NetworkRuns.sent_grows}
 use Rattle.tsp_network.proofs.ToldLemmas.{Reached, acts_told, session_told}
 
 sends-append : (ps qs : List Placed) → sends_of (ps ++ qs) ≡ sends_of ps ++ sends_of qs

@@ -1,11 +1,9 @@
 -- The rules give what the two daemons in use do.
-use Rattle.std.specs.Prelude.{◌≡◌, ℕ, ◌+◌, ◌≤◌, length, Option, Some, refl}
-use Rattle.std.proofs.Common.{sym, ap, arith, ◌∙◌}
-use Rattle.tsp_rules.specs.Values.{LIFE}
+use Rattle.std.proofs.Common.{sym, ap, arith, ◌∙◌, ◌≡◌, ℕ, ◌+◌, ◌≤◌, length, Option, Some, refl}
 use Rattle.tsp_base.specs.Words.{kind_number, nothing, puts, ◌followed_by◌, either_by, reading, for_each, arms, posts, posts_to_others, posts_back, posts_time, carries_hops, carries_time, kind_of}
 use Rattle.tsp_rules.specs.Answers.{alarm_rings, rings, rings_alone, due_alarms, says_in, peer_says, replies_in, peer_replies, from_peer, handles_kind, handles, takes, input_row, answers}
 use Rattle.tsp_rules.specs.CandidateRows.{lead_row, yields, window_rings, accepted_by, refused_by, candidate_takes_kind, candidate_takes}
-use Rattle.tsp_rules.specs.ClockRows.{adjusts, sets}
+use Rattle.tsp_rules.specs.{ClockRows.adjusts, ClockRows.sets, Values.LIFE}
 use Rattle.tsp_rules.specs.CommonRows.{boots, arms_elect, searches, tells_ticket, follow_row, backs_own, candidature_row, follows_unless, quits, posts_reply, replies, names_master, says_master, traces, tests}
 use Rattle.tsp_group.specs.Groups.{group_from, goes_before, better}
 use Rattle.tsp_rules.specs.MasterRows.{joins, sends_away, master_takes_kind, master_takes}
@@ -17,12 +15,8 @@ use Rattle.tsp_rules.specs.DateRows.{passes_on, leaves, leaves_all, new_date, se
 use Rattle.tsp_rules.specs.NodeRows.{nothing_at_all, on, ◌and_then◌, reading_all, for_ports, abandons_on, stirring}
 use Rattle.tsp_rules.specs.GateRows.{sends_loops, loops_after, probes_on, closes_on, begins_round_on, alarm_on, alarms_on, turns_on, reposts, reposts_on, loosens_master, forwards, takes_loop_step, judges, heeds_loop, takes_loop, takes_message, takes_kind, takes_on, input_all, answers_all, boots_on, boots_all}
 use Rattle.tsp_codec.specs.Taken.{taken_of}
-use Rattle.tsp_run.specs.Run.{steps}
-use Rattle.tsp_run.specs.Possible.{Happens}
-use Rattle.tsp_run.specs.Run.{posted_time, posts as posts_of, run}
-use Rattle.tsp_run.specs.declared.posted.Posted.{Posted}
-use Rattle.tsp_run.specs.Premised.{Prompt}
-use Rattle.tsp_run.proofs.NetworkLemmas.{some_same}
+use Rattle.tsp_run.specs.Run.{steps, posted_time, posts as posts_of, run}
+use Rattle.tsp_run.{proofs.NetworkLemmas.some_same, specs.Possible.Happens, specs.Premised.Prompt, specs.declared.posted.Posted.Posted}
 use Rattle.tsp_network.specs.NetworkUse.{acts_by_node, acts_of_a, acts_of_b, two_nodes, used}
 
 -- a post that was made at this time is taken early enough

@@ -1,25 +1,14 @@
 -- There are networks of daemons: two of them in use.
-use Rattle.std.specs.Prelude.{◌≡◌, ℕ, zero, suc, ◌<◌, ◌≤◌, ◌^◌, List, [], ◌∷◌, slice_index_or, refl}
-use Rattle.std.specs.List.{All}
-use Rattle.std.proofs.Common.{sym, ap, subst, arith, ◌∙◌}
-use Rattle.std.proofs.lemmas.List.Elements.{All-nil, All-cons}
+use Rattle.std.proofs.Common.{sym, ap, subst, arith, ◌∙◌, ◌≡◌, ℕ, zero, suc, ◌<◌, ◌≤◌, ◌^◌, List, [], ◌∷◌, slice_index_or, refl}
+use Rattle.std.{proofs.lemmas.List.Elements.All-nil, proofs.lemmas.List.Elements.All-cons, specs.List.All}
 use Rattle.tsp_rules.specs.Values.{Event}
 use Rattle.tsp_base.specs.Words.{IsHeader, IsName, IsNet, KeepsDrift}
 use Rattle.tsp_promises.specs.Premises.{Honest, Life, Words}
-use Rattle.tsp_run.specs.Possible.{Possible}
-use Rattle.tsp_run.specs.Premised.{Apart, Sealed}
-use Rattle.tsp_run.specs.Ranges.{IsInRange}
-use Rattle.tsp_run.specs.Run.{run}
-use Rattle.tsp_run.specs.Setup.{node_line}
+use Rattle.tsp_run.specs.{Possible.Possible, Premised.Apart, Premised.Sealed, Ranges.IsInRange, Run.run, Setup.node_line}
 use Rattle.tsp_run.proofs.RunPremises.{possible-runs-keep-premises}
-use Rattle.tsp_network.specs.Events.{IsNetwork}
-use Rattle.tsp_network.specs.Lives.{AreStarted}
+use Rattle.tsp_network.specs.{Events.IsNetwork, Lives.AreStarted, Networks.network, Networks.daemon_tick, Schedules.AllSuit}
 use Rattle.tsp_network.specs.NetworkUse.{NetworkUse, acts_by_node, two_daemons, two_nodes, used}
-use Rattle.tsp_network.specs.Networks.{network, daemon_tick}
-use Rattle.tsp_network.specs.Schedules.{AllSuit}
-use Rattle.tsp_network.proofs.NetworkRuns.{run_agrees}
-use Rattle.tsp_network.proofs.RunsHappen.{run_is_network}
-use Rattle.tsp_network.proofs.UseLemmas.{is_used}
+use Rattle.tsp_network.proofs.{NetworkRuns.run_agrees, RunsHappen.run_is_network, UseLemmas.is_used}
 
 -- one letter is a name
 pub letter_name : (x : ℕ) → 0 < x → IsName (x ∷ [])

@@ -4,8 +4,7 @@ use Rattle.tsp_rules.specs.Values.{Port}
 use Rattle.tsp_base.specs.Words.{has_member}
 use Rattle.tsp_run.specs.Networks.{network_at, networks}
 use Rattle.tsp_daemon.specs.Serving.{serving_binding}
-use Rattle.tsp_network.specs.Lives.{Daemons, IsStarted}
-use Rattle.tsp_network.specs.Rosters.{neighbours_on, number_for}
+use Rattle.tsp_network.specs.{Lives.Daemons, Lives.IsStarted, Rosters.neighbours_on, Rosters.number_for}
 
 -- the number by which the daemon of node n knows node m, on a port that is on network k, is the place of m's address on that network among the
 -- addresses to which the daemon binds its link. So a link that takes an address for its place takes senders for whom they are

@@ -3,12 +3,9 @@ use Rattle.std.specs.Prelude.{◌≡◌, ◌⊎◌, ℕ, ◌≤◌, ◌<◌, ◌
 use Rattle.tsp_rules.specs.Values.{Event, BootAt, Turn, Take, Bytes, Place, Peer, Stranger, Port}
 use Rattle.tsp_base.specs.Words.{IsHeader, has_member}
 use Rattle.tsp_codec.specs.Numbers.{octet_at}
-use Rattle.tsp_run.specs.declared.address.Address.{Address}
-use Rattle.tsp_run.specs.Networks.{networks}
-use Rattle.tsp_run.specs.Run.{event_at, last_at}
-use Rattle.tsp_network.specs.Lives.{Daemons, IsStarted, Life}
+use Rattle.tsp_run.specs.{Networks.networks, Run.event_at, Run.last_at, declared.address.Address.Address}
+use Rattle.tsp_network.specs.{Lives.Daemons, Lives.IsStarted, Lives.Life, Rosters.destination, Rosters.neighbours, Rosters.neighbours_on}
 use Rattle.tsp_network.specs.Networks.{Network, Sent, network, daemon_tick}
-use Rattle.tsp_network.specs.Rosters.{destination, neighbours, neighbours_on}
 
 -- a daemon runs
 abbrev pub IsRunning : Option Life → Type 0

@@ -1,19 +1,12 @@
 -- What is promised of every network of daemons.
 use Rattle.std.specs.Prelude.{◌≡◌, ◌==◌, ℕ, List, length, map, filter, drop, Some, slice_get}
-use Rattle.tsp_rules.specs.Values.{Event}
 use Rattle.tsp_codec.specs.Canon.{canon}
 use Rattle.tsp_run.specs.declared.posted.Posted.{Posted}
 use Rattle.tsp_promises.specs.Setting.{Setting}
-use Rattle.tsp_run.specs.Networks.{networks}
-use Rattle.tsp_run.specs.Promises.{Promises}
-use Rattle.tsp_run.specs.Premised.{KeptByText}
-use Rattle.tsp_run.specs.Run.{posts, run}
-use Rattle.tsp_run.specs.Setting.{SetBy}
-use Rattle.tsp_rules.specs.Renames.{renamed_place}
+use Rattle.tsp_run.specs.{Networks.networks, Premised.KeptByText, Promises.Promises, Run.posts, Run.run, Setting.SetBy}
+use Rattle.tsp_rules.specs.{Renames.renamed_place, Values.Event}
 use Rattle.tsp_io.specs.Links.{Tried}
-use Rattle.tsp_network.specs.Events.{IsNetwork}
-use Rattle.tsp_network.specs.Lives.{Daemons, Life, session_of}
-use Rattle.tsp_network.specs.Networks.{Sent, network}
+use Rattle.tsp_network.specs.{Events.IsNetwork, Lives.Daemons, Lives.Life, Lives.session_of, Networks.Sent, Networks.network}
 use Rattle.tsp_network.specs.Rosters.{renaming_on}
 
 -- a send is that of a post: of its octets, by its node, to its addressee

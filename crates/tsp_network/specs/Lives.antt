@@ -1,18 +1,13 @@
 -- A daemon of the network, from its start on: what it has been told, and its session.
 use Rattle.std.specs.Prelude.{◌≡◌, ℕ, ◌+◌, ◌<◌, ℤ, true, if◌then◌else◌, List, [], ◌∷◌, ◌++◌, length, map}
-use Rattle.tsp_rules.specs.Values.{Placed}
 use Rattle.tsp_base.specs.Words.{HeaderValue, has_member}
 use Rattle.tsp_args.specs.declared.serve.ServeWords.{ServeWords}
-use Rattle.tsp_io.specs.declared.addr.Addr.{Addr}
-use Rattle.tsp_io.specs.Links.{Arrival}
-use Rattle.tsp_query.specs.Ends.{Outside}
-use Rattle.tsp_query.specs.Outside.{after_bind}
-use Rattle.tsp_rules.specs.GateRows.{boots_all}
-use Rattle.tsp_run.specs.Networks.{networks}
-use Rattle.tsp_run.specs.Setup.{node_line}
+use Rattle.tsp_io.specs.{Links.Arrival, declared.addr.Addr.Addr}
+use Rattle.tsp_query.specs.{Ends.Outside, Outside.after_bind}
+use Rattle.tsp_rules.specs.{GateRows.boots_all, Values.Placed}
+use Rattle.tsp_run.specs.{Networks.networks, Setup.node_line}
 use Rattle.tsp_daemon.specs.Nodes.{booting, daemon_config, is_strict, may_be}
-use Rattle.tsp_daemon.specs.Serving.{first_session}
-use Rattle.tsp_daemon.specs.Sessions.{Session, acts_in_turn, after_turns}
+use Rattle.tsp_daemon.specs.{Serving.first_session, Sessions.Session, Sessions.acts_in_turn, Sessions.after_turns}
 use Rattle.tsp_network.specs.Rosters.{others_in}
 
 -- the daemons of a network, one for each node of a header, which names their clocks, names and networks

@@ -2,18 +2,12 @@
 use Rattle.std.specs.Prelude.{◌≡◌, ℕ, zero, suc, pos, false, List, [], ◌∷◌, codes, Some, slice_get}
 use Rattle.tsp_rules.specs.Values.{Event, BootAt, Turn, Take}
 use Rattle.tsp_base.specs.Words.{HeaderValue, first_port}
-use Rattle.tsp_args.specs.declared.serve.Candidacy.TheVariants.{Never, Plain}
-use Rattle.tsp_args.specs.declared.serve.ServeWords.{ServeWords}
-use Rattle.tsp_promises.specs.Once.{OnceObeyed}
-use Rattle.tsp_promises.specs.Premises.{Honest}
-use Rattle.tsp_promises.specs.Setting.{Setting}
-use Rattle.tsp_run.specs.declared.address.Address.{Address}
-use Rattle.tsp_run.specs.Networks.{networks}
-use Rattle.tsp_network.specs.Events.{IsNetwork}
-use Rattle.tsp_network.specs.Lives.{Daemons}
+use Rattle.tsp_args.specs.declared.serve.{Candidacy.TheVariants.Never, Candidacy.TheVariants.Plain, ServeWords.ServeWords}
+use Rattle.tsp_promises.specs.{Once.OnceObeyed, Premises.Honest, Setting.Setting}
+use Rattle.tsp_run.specs.{Networks.networks, declared.address.Address.Address}
+use Rattle.tsp_network.specs.{Events.IsNetwork, Lives.Daemons, Rosters.destination}
 use Rattle.tsp_network.specs.NetworkUse.{network_address, node_a, node_b, words_for}
 use Rattle.tsp_network.specs.Networks.{Network, Sent, delivers, network}
-use Rattle.tsp_network.specs.Rosters.{destination}
 
 -- the header: a, b, and c (node 2), which may not be master either and whose wall clock is 10 milliseconds ahead of b's, on one network
 abbrev pub three_nodes : HeaderValue

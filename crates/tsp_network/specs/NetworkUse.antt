@@ -2,15 +2,12 @@
 use Rattle.std.specs.Prelude.{◌≡◌, ℕ, zero, suc, ◌==◌, pos, negsuc, true, false, if◌then◌else◌, List, [], ◌∷◌, ◌++◌, codes}
 use Rattle.tsp_rules.specs.Values.{Act, Boot, Took, Post, Become, Arm, Ring, Back, Backer, Close, Correct, Sample, Acked, Join, Quiet, Window, Elect, Search, Round, Probe, CloseAlarm, Message, Stamp, Good, Accept, Ack, AdjTime, Election, MasterReq, MasterUp, NodeLine, SetTime, SlaveUp, Peer, Starting, Loose, Follow, Candidate, Master, Request, Reply, Event, BootAt, Turn, Take}
 use Rattle.tsp_base.specs.Words.{Acts, Begins, Deed, HeaderValue, Line, bare, timed, peer_of as peer}
-use Rattle.tsp_args.specs.declared.serve.Candidacy.{Candidacy}
-use Rattle.tsp_args.specs.declared.serve.Candidacy.TheVariants.{Never, Plain}
+use Rattle.tsp_args.specs.declared.serve.Candidacy.{Candidacy, TheVariants.Never, TheVariants.Plain}
 use Rattle.tsp_args.specs.declared.serve.ServeWords.{ServeWords}
 use Rattle.tsp_io.specs.declared.addr.Addr.{Addr}
 use Rattle.tsp_promises.specs.Premises.{Honest, Life, Words}
 use Rattle.tsp_run.specs.Networks.{networks}
-use Rattle.tsp_network.specs.Events.{IsNetwork}
-use Rattle.tsp_network.specs.Lives.{Daemons, addresses}
-use Rattle.tsp_network.specs.Networks.{network}
+use Rattle.tsp_network.specs.{Events.IsNetwork, Lives.Daemons, Lives.addresses, Networks.network}
 
 -- a may be master
 abbrev pub node_a : NodeLine

@@ -5,10 +5,7 @@ use Rattle.tsp_base.specs.Words.{Turned, Came, Handed, Step, Line, peer_of, step
 use Rattle.tsp_rules.specs.Renames.{renamed_act}
 use Rattle.tsp_io.specs.Links.{Arrival, Tried}
 use Rattle.tsp_daemon.specs.Posts.{sends_of}
-use Rattle.tsp_run.specs.declared.address.Address.{Address}
-use Rattle.tsp_run.specs.Networks.{networks}
-use Rattle.tsp_run.specs.Run.{boot_step, step_tick}
-use Rattle.tsp_run.specs.Setup.{node_line}
+use Rattle.tsp_run.specs.{Networks.networks, Run.boot_step, Run.step_tick, Setup.node_line, declared.address.Address.Address}
 use Rattle.tsp_network.specs.Lives.{Daemons, Life, first_acts, turn_told, turn_acts}
 use Rattle.tsp_network.specs.Rosters.{destination, renaming_on, sender_for}
 

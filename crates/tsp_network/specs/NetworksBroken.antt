@@ -3,13 +3,9 @@ use Rattle.std.specs.Prelude.{◌≢◌, ℕ, false, List, [], ◌∷◌, codes}
 use Rattle.tsp_rules.specs.Values.{Event, BootAt, Bytes, Peer, Place, Stranger}
 use Rattle.tsp_base.specs.Words.{HeaderValue, peer_of as peer}
 use Rattle.tsp_args.specs.declared.serve.Candidacy.TheVariants.{Plain}
-use Rattle.tsp_run.specs.Networks.{networks}
-use Rattle.tsp_run.specs.Possible.{Possible}
-use Rattle.tsp_run.specs.Run.{run}
-use Rattle.tsp_network.specs.Events.{AllHappen}
-use Rattle.tsp_network.specs.Lives.{AreStarted, Daemons}
+use Rattle.tsp_run.specs.{Networks.networks, Possible.Possible, Run.run}
+use Rattle.tsp_network.specs.{Events.AllHappen, Lives.AreStarted, Lives.Daemons, Networks.network}
 use Rattle.tsp_network.specs.NetworkUse.{network_address, node_a, words_for}
-use Rattle.tsp_network.specs.Networks.{network}
 
 -- the header: a alone, on two networks
 abbrev pub one_node : HeaderValue

@@ -4,8 +4,7 @@ use Rattle.std.specs.Prelude.{ℕ, zero, suc, ◌+◌, ◌-◌, ◌==◌, nat_le
 use Rattle.tsp_rules.specs.Values.{Place, Peer, Stranger, Port}
 use Rattle.tsp_base.specs.Words.{has_member, peer_of}
 use Rattle.tsp_rules.specs.Renames.{Renaming}
-use Rattle.tsp_run.specs.declared.address.Address.{Address}
-use Rattle.tsp_run.specs.Networks.{address_of}
+use Rattle.tsp_run.specs.{Networks.address_of, declared.address.Address.Address}
 
 -- the other members of a network
 abbrev pub others_in : ℕ → List ℕ → List ℕ

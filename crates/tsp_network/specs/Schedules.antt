@@ -1,11 +1,8 @@
 -- Which runs of the rules are a network of daemons.
 use Rattle.std.specs.Prelude.{ℕ, ◌≤◌, List, [], ◌∷◌, length}
 use Rattle.tsp_rules.specs.Values.{Event, BootAt, Bytes}
-use Rattle.tsp_run.specs.Networks.{networks}
-use Rattle.tsp_run.specs.Possible.{Possible}
-use Rattle.tsp_network.specs.Events.{IsNetwork, MayCome}
-use Rattle.tsp_network.specs.Lives.{AreStarted, Daemons}
-use Rattle.tsp_network.specs.Networks.{daemon_tick}
+use Rattle.tsp_run.specs.{Networks.networks, Possible.Possible}
+use Rattle.tsp_network.specs.{Events.IsNetwork, Events.MayCome, Lives.AreStarted, Lives.Daemons, Networks.daemon_tick}
 
 -- daemons do what a node does at event k: if it starts, after its counter does; and if octets are handed to it, a daemon can take them so
 abbrev pub Suits : Daemons → ℕ → Event → Type 0

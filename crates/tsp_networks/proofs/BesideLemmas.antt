@@ -1,8 +1,6 @@
 -- The port of a node on the network of another node's port, as one walk over the networks finds it.
-use Rattle.std.specs.Prelude.{◌≡◌, ℕ, ◌+◌, ◌==◌, Bool, true, false, if◌then◌else◌, List, [], ◌∷◌, Option, None, Some, refl}
-use Rattle.std.proofs.Common.{◌∙◌, sym, ap, subst, arith, drop, eq-eqb, get_or, length, ◌<◌}
-use Rattle.std.proofs.lemmas.List.{drop_more}
-use Rattle.std.proofs.lemmas.Bool.{ne_eqb}
+use Rattle.std.proofs.Common.{◌∙◌, sym, ap, subst, arith, drop, eq-eqb, get_or, length, ◌<◌, ◌≡◌, ℕ, ◌+◌, ◌==◌, Bool, true, false, if◌then◌else◌, List, [], ◌∷◌, Option, None, Some, refl}
+use Rattle.std.proofs.lemmas.{Bool.ne_eqb, List.drop_more}
 use Rattle.tsp_base.specs.Words.{has_member}
 use Rattle.tsp_rules.specs.Values.{Port}
 use Rattle.tsp_run.specs.Networks.{network_at, network_from, port_at, port_from}

@@ -1,19 +1,13 @@
 -- Names stay where they lie when more octets are put behind them.
-use Rattle.std.specs.Prelude.{◌≡◌, ℕ, ◌≤◌, ◌<◌, ◌+◌, ◌-◌, List, [], ◌∷◌, ◌++◌, length, map, take, drop, slice_get, slice_range, All, Some, refl}
+use Rattle.std.proofs.Common.{ap, sym, subst, ◌∙◌, arith, get_or, length-drop, ◌≡◌, ℕ, ◌≤◌, ◌<◌, ◌+◌, ◌-◌, List, [], ◌∷◌, ◌++◌, length, map, take, drop, slice_get, slice_range, All, Some, refl}
 use Rattle.std.specs.Option.{option_map}
-use Rattle.std.proofs.Common.{ap, sym, subst, ◌∙◌, arith, get_or, length-drop}
-use Rattle.std.proofs.lemmas.Option.{slice_get-get_or, slice_get-map}
 use Rattle.std.proofs.lemmas.List.{drop-append-le, length-map, take-append-le, map_push}
-use Rattle.std.proofs.lemmas.List.Elements.{All-head, All-tail}
+use Rattle.std.proofs.lemmas.{List.Elements.All-head, List.Elements.All-tail, Option.slice_get-get_or, Option.slice_get-map}
 use Rattle.tsp_rules.specs.Values.{Datagram, Place}
-use Rattle.tsp_networks.specs.declared.head.Head.{Head}
-use Rattle.tsp_networks.specs.declared.head.Route.{Route}
-use Rattle.tsp_networks.specs.declared.way.Way.{Way}
-use Rattle.tsp_networks.specs.declared.head.StoredDatagram.{StoredDatagram}
-use Rattle.tsp_networks.specs.declared.head.StoredDatagram.TheVariants.{Message, Request, Reply}
+use Rattle.tsp_networks.specs.declared.head.StoredDatagram.{StoredDatagram, TheVariants.Message, TheVariants.Request, TheVariants.Reply}
 use Rattle.tsp_networks.specs.Heads.{HeadStands, HeldStands, datagram_in, is_peer, place_of, post_in, route_of, small_of, way_in}
 use Rattle.tsp_run.specs.declared.posted.Posted.{Posted}
-use Rattle.tsp_networks.specs.Posts.{posted_on}
+use Rattle.tsp_networks.specs.{Posts.posted_on, declared.head.Head.Head, declared.head.Route.Route, declared.way.Way.Way}
 
 range-append : (names more : List ℕ) (start len : ℕ) → start + len ≤ length names → slice_range (names ++ more) start (start + len) ≡ slice_range names start (start + len)
 range-append names more start len inside =

@@ -2,11 +2,9 @@
 use Rattle.std.specs.Prelude.{◌≡◌, ℕ, zero, suc, ◌+◌, ◌*◌, ◌<◌, ◌≤◌, ◌==◌, nat_le, ◌&&◌, ◌||◌, Bool, true, false, if◌then◌else◌, List, [], ◌∷◌, ◌++◌, length, map, slice_index, slice_index_or, refl}
 use Rattle.std.proofs.Common.{sym, ap, ◌∙◌, arith, subst, inl, inr, length-append, add-one, le-leb, leb-true, eq-eqb, eqb-true, true≢false}
 use Rattle.std.proofs.lemmas.Bool.{cases_lt, ne_eqb, and_parts, or_right}
-use Rattle.std.specs.List.{list_any}
-use Rattle.std.specs.List.Sorted.{IsStrictlyIncreasing}
-use Rattle.tsp_rules.specs.Values.{PeerId}
+use Rattle.std.specs.List.{list_any, Sorted.IsStrictlyIncreasing}
 use Rattle.tsp_base.specs.Words.{HeaderValue, all_joined, has_member, is_whole}
-use Rattle.tsp_rules.specs.NodeRows.{PortSetup}
+use Rattle.tsp_rules.specs.{NodeRows.PortSetup, Values.PeerId}
 use Rattle.tsp_run.specs.Networks.{networks, networks_among, numbers_below, peers_on, port_on, ports_on, room}
 
 -- whether these numbers rise, each by one at the least, and none is below this

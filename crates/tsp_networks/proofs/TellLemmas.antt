@@ -1,8 +1,6 @@
 -- Nothing is left to be told behind the last line.
-use Rattle.std.specs.Prelude.{◌≡◌, ℕ, zero, suc, ◌≤◌, List, [], ◌∷◌, ◌++◌, length, map, take, drop, refl}
-use Rattle.std.proofs.Common.{ap, arith}
-use Rattle.tsp_run.specs.declared.line.Line.{Line}
-use Rattle.tsp_run.specs.Run.{told_from}
+use Rattle.std.proofs.Common.{ap, arith, ◌≡◌, ℕ, zero, suc, ◌≤◌, List, [], ◌∷◌, ◌++◌, length, map, take, drop, refl}
+use Rattle.tsp_run.specs.{Run.told_from, declared.line.Line.Line}
 use Rattle.tsp_networks.specs.Sheets.{placed_in}
 
 -- at the end all are told

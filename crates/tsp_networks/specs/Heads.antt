@@ -4,12 +4,9 @@ use Rattle.std.specs.Global.{Vec}
 use Rattle.tsp_rules.specs.Values.{Datagram, Message, Stamp, Kind, Body, Place, Peer, Stranger, Request, Reply}
 use Rattle.tsp_base.specs.Words.{IsReply, body_fits, IsName}
 use Rattle.tsp_run.specs.declared.posted.Posted.{Posted}
-use Rattle.tsp_networks.specs.declared.head.Head.{Head}
-use Rattle.tsp_networks.specs.declared.head.Route.{Route}
 use Rattle.tsp_networks.specs.declared.head.StoredDatagram.{StoredDatagram}
 use Rattle.tsp_networks.specs.declared.head.StoredDatagram.TheVariants.{Message as HeldMessage, Request as HeldRequest, Reply as HeldReply}
-use Rattle.tsp_networks.specs.declared.way.Way.{Way}
-use Rattle.tsp_networks.specs.Posts.{posted_on}
+use Rattle.tsp_networks.specs.{Posts.posted_on, declared.head.Head.Head, declared.head.Route.Route, declared.way.Way.Way}
 
 -- the octets that a datagram adds to all names: its own name, if it has one
 abbrev pub own_name_in : Datagram → List ℕ

@@ -1,27 +1,19 @@
 -- How a port's alarms meet their rows.
-use Rattle.std.specs.Prelude.{◌≡◌, ◌≢◌, ℕ, Bool, true, false, List, [], ◌∷◌, refl}
-use Rattle.std.proofs.Common.{sym, ◌∙◌, ap}
+use Rattle.std.proofs.Common.{sym, ◌∙◌, ap, ◌≡◌, ◌≢◌, ℕ, Bool, true, false, List, [], ◌∷◌, refl}
 use Rattle.std.proofs.lemmas.Bool.{false≢true}
 use Rattle.tsp_rules.specs.Values.{Ring, Late, Placed, Alarm, Quiet, Window, Elect, Search, Round, Probe, CloseAlarm, ResolveAlarm, Port, ROUND, WAIT}
 use Rattle.tsp_base.specs.Words.{deadline, Past, Performs, arms, either_by, nothing, puts}
 use Rattle.tsp_base.proofs.PerformsLemmas.{Performs_nothing, Performs_same}
-use Rattle.tsp_rules.specs.Answers.{alarm_rings, rings}
-use Rattle.tsp_rules.specs.CandidateRows.{window_rings}
+use Rattle.tsp_rules.specs.{Answers.alarm_rings, Answers.rings, CandidateRows.window_rings, ResolveRows.resolve_rings}
 use Rattle.tsp_rules.specs.RoundRows.{begins_or_waits, corrects, round_rings}
-use Rattle.tsp_rules.specs.ResolveRows.{resolve_rings}
 use Rattle.tsp_rules.specs.Guards.{is_due, is_in_time, is_over}
 use Rattle.tsp_rules.proofs.Emits.{Alarming, Emits, Emits_arms, Emits_either, Emits_more, Emits_puts, Emits_then}
-use Rattle.tsp_slave.specs.SlaveAlarms.{slave_rings}
-use Rattle.tsp_slave.proofs.BesideLemmas.{beside_sorts}
+use Rattle.tsp_slave.{proofs.BesideLemmas.beside_sorts, specs.SlaveAlarms.slave_rings}
 use Rattle.tsp_master.specs.MasterAlarms.{master_rings}
-use Rattle.tsp_rules.proofs.EmitsStill.{corrects-none, still_sorts}
-use Rattle.tsp_node.specs.NodeStands.{PortUntaken, PortValue}
+use Rattle.tsp_node.specs.{NodeStands.PortUntaken, NodeStands.PortValue, RoleAlarms.is_of_master, RoleAlarms.is_of_slave}
 use Rattle.tsp_rules.proofs.BuiltSlave.{built_elect_rings, built_quiet_rings, built_search_rings}
-use Rattle.tsp_rules.proofs.BuiltShared.{standing_sorts}
-use Rattle.tsp_rules.proofs.BuiltMaster.{built_resolve_rings}
-use Rattle.tsp_rules.proofs.BuiltCandidate.{built_window_rings}
-use Rattle.tsp_rules.proofs.EmitsBuilt.{emits_built}
-use Rattle.tsp_node.specs.RoleAlarms.{is_of_master, is_of_slave}
+use Rattle.tsp_rules.proofs.{BuiltCandidate.built_window_rings, BuiltMaster.built_resolve_rings, BuiltShared.standing_sorts}
+use Rattle.tsp_rules.proofs.{EmitsBuilt.emits_built, EmitsStill.corrects-none, EmitsStill.still_sorts}
 
 -- whether an alarm is due, as the station has it
 due_is : (alarm : Alarm) (x : ℕ) (past : Past) (state : PortValue) → PortUntaken past state → is_due alarm x past ≡ is_over (deadline state.station.alarms alarm) x

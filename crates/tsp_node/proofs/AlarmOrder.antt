@@ -1,12 +1,9 @@
 -- The alarms in their order, and their rows.
-use Rattle.std.proofs.Common.{◌≡◌, ◌+◌, ◌<◌, ◌++◌, ◌∷◌, [], ℕ, zero, suc, Bool, true, false, List, length, take, Some, arith, refl, ap, append-nil, subst, sym, ◌∙◌}
-use Rattle.std.proofs.Math.Seq.{take-suc}
-use Rattle.std.proofs.lemmas.Bool.{false≢true, and_parts}
-use Rattle.std.specs.Prelude.{◌&&◌, ◌||◌, if◌then◌else◌, is_some, not, slice_index_or}
+use Rattle.std.proofs.Common.{◌≡◌, ◌+◌, ◌<◌, ◌++◌, ◌∷◌, [], ℕ, zero, suc, Bool, true, false, List, length, take, Some, arith, refl, ap, append-nil, subst, sym, ◌∙◌, ◌&&◌, ◌||◌, if◌then◌else◌, is_some, not, slice_index_or}
+use Rattle.std.proofs.{Math.Seq.take-suc, lemmas.Bool.false≢true, lemmas.Bool.and_parts}
 use Rattle.tsp_rules.specs.Values.{Alarm, Quiet, Probe, CloseAlarm, ALL}
 use Rattle.tsp_base.specs.Words.{deadline, none_armed, with_deadline, Past, for_each, nothing, grown, ◌followed_by◌}
-use Rattle.tsp_rules.specs.Answers.{due_alarms, rings_alone, rings_each}
-use Rattle.tsp_rules.specs.GateRows.{is_probe}
+use Rattle.tsp_rules.specs.{Answers.due_alarms, Answers.rings_alone, Answers.rings_each, GateRows.is_probe}
 use Rattle.tsp_rules.proofs.CalmAlarms.{moves_by}
 
 -- one more of a list

@@ -1,15 +1,11 @@
 -- The earliest deadline of a port's open sends.
-use Rattle.std.specs.Prelude.{◌≡◌, ◌<◌, ℕ, ◌||◌, min, not, nat_le, Bool, true, false, Option, None, Some, refl}
-use Rattle.std.proofs.Common.{ap, arith, sym, ◌∙◌}
+use Rattle.std.proofs.Common.{ap, arith, sym, ◌∙◌, ◌≡◌, ◌<◌, ℕ, ◌||◌, min, not, nat_le, Bool, true, false, Option, None, Some, refl}
 use Rattle.std.proofs.lemmas.Bool.{false≢true, le-leb, leb-false, leb-true, lt-leb}
-use Rattle.tsp_rules.specs.Values.{Alarm, Quiet}
 use Rattle.tsp_base.specs.Words.{Deadlines, deadline, earlier, least_deadline, Past, open_send}
 use Rattle.tsp_base.proofs.AlarmLemmas.{least_deadline_armed}
-use Rattle.tsp_rules.specs.Guards.{is_over}
-use Rattle.tsp_sends.specs.Slots.{sending_to}
-use Rattle.tsp_sends.specs.Repeating.{IsEarliest}
-use Rattle.tsp_acks.specs.declared.station.Station.{Station}
-use Rattle.tsp_acks.specs.Stands.{StationStands}
+use Rattle.tsp_rules.specs.{Guards.is_over, Values.Alarm, Values.Quiet}
+use Rattle.tsp_sends.specs.{Repeating.IsEarliest, Slots.sending_to}
+use Rattle.tsp_acks.specs.{Stands.StationStands, declared.station.Station.Station}
 
 -- the earliest deadline in a station's slots is that of its past
 pub IsEarliest-open : (past : Past) (station : Station) (o : Option ℕ) → StationStands past station → IsEarliest (sending_to station.sends) o → IsEarliest (λ p. open_send p past.seen) o

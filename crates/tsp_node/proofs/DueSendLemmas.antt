@@ -1,6 +1,5 @@
 -- How a port's due sends meet their rows.
-use Rattle.std.specs.Prelude.{◌≡◌, ℕ, Bool, true, false, if◌then◌else◌, List, [], ◌∷◌, Option, None, Some, refl}
-use Rattle.std.proofs.Common.{sym, ◌∙◌, ap}
+use Rattle.std.proofs.Common.{sym, ◌∙◌, ap, ◌≡◌, ℕ, Bool, true, false, if◌then◌else◌, List, [], ◌∷◌, Option, None, Some, refl}
 use Rattle.std.proofs.lemmas.Bool.{and_right}
 use Rattle.tsp_rules.specs.Values.{Post, Gave, Leave, Placed, Message, Kind, AdjTime, Conflict, Election, QuitKind, SetDateReq, SetTime, PeerId, Peer, Port}
 use Rattle.tsp_base.specs.Words.{Past, MessageValue, Performs, Keeps, acting, taken, Row, either_by, grown, nothing, puts, reading, ◌followed_by◌, Sending, is_correction, is_given_up, is_set_date_request}
@@ -8,25 +7,18 @@ use Rattle.tsp_base.proofs.PerformsLemmas.{Keeps_either, Keeps_nothing, Performs
 use Rattle.tsp_rules.specs.SendRows.{bare_send, due_send, gives_up, is_send_due, is_spent, leaves_after, open_at, repeats, repeats_bare_send, repeats_send}
 use Rattle.tsp_rules.specs.Guards.{is_slave_at}
 use Rattle.tsp_rules.proofs.Emits.{Emits, Emits_puts, is_in, sort_of_kind}
-use Rattle.tsp_sends.specs.declared.due.Due.{Due}
-use Rattle.tsp_sends.specs.declared.due.Due.TheVariants.{Again, Gave as GaveUp}
-use Rattle.tsp_sends.specs.declared.slot.Slot.{Slot}
-use Rattle.tsp_sends.specs.Slots.{sending_to}
-use Rattle.tsp_sends.specs.Repeating.{RepeatsNext, is_due_send, peer_of}
-use Rattle.tsp_acks.specs.declared.station.Station.{Station}
-use Rattle.tsp_acks.specs.Stands.{StationStands, StandsStill}
+use Rattle.tsp_sends.specs.declared.{due.Due.TheVariants.Again, due.Due.TheVariants.Gave as GaveUp, slot.Slot.Slot}
+use Rattle.tsp_sends.specs.{Repeating.RepeatsNext, Repeating.is_due_send, Repeating.peer_of, Slots.sending_to, declared.due.Due.Due}
+use Rattle.tsp_acks.specs.{Stands.StationStands, Stands.StandsStill, declared.station.Station.Station}
 use Rattle.tsp_acks.proofs.StandsLemmas.{Stands_idle}
 use Rattle.tsp_clock.specs.ClockStands.{ClockStands}
 use Rattle.tsp_slave.specs.Lasts.{Remembers}
 use Rattle.tsp_slave.proofs.BesideLemmas.{beside_sorts, ClockStands_by, Remembers_by}
-use Rattle.tsp_master.specs.declared.master.Master.{Master}
-use Rattle.tsp_master.specs.MasterStands.{MasterStands}
+use Rattle.tsp_master.specs.{MasterStands.MasterStands, declared.master.Master.Master}
 use Rattle.tsp_master.proofs.TableLemmas.{MasterStands_quiet, quiet_sorts}
-use Rattle.tsp_date.specs.DateStands.{DatesStand}
-use Rattle.tsp_date.proofs.KeepLemmas.{DatesStand_post}
+use Rattle.tsp_date.{proofs.KeepLemmas.DatesStand_post, specs.DateStands.DatesStand}
 use Rattle.tsp_resolve.specs.ResolveStands.{ResolveStands}
-use Rattle.tsp_node.specs.Dues.{IsNoted}
-use Rattle.tsp_node.specs.NodeStands.{PortBegun, PortValue}
+use Rattle.tsp_node.specs.{Dues.IsNoted, NodeStands.PortBegun, NodeStands.PortValue}
 
 -- what stands beside a master when a step begins
 record Rest (past : Past) (v : PortValue) : Type 0 where

@@ -1,35 +1,23 @@
 -- What a port does with a message.
-use Rattle.std.specs.Prelude.{◌≡◌, ◌≢◌, ℕ, ◌==◌, ◌&&◌, not, Bool, true, false, if◌then◌else◌, List, [], ◌∷◌, ◌++◌, Option, None, Some, refl}
-use Rattle.std.specs.List.{Contains}
-use Rattle.std.proofs.Common.{◌∙◌, ap, subst, sym}
-use Rattle.std.proofs.lemmas.Bool.{false≢true}
+use Rattle.std.proofs.Common.{◌∙◌, ap, subst, sym, ◌≡◌, ◌≢◌, ℕ, ◌==◌, ◌&&◌, not, Bool, true, false, if◌then◌else◌, List, [], ◌∷◌, ◌++◌, Option, None, Some, refl}
+use Rattle.std.{proofs.lemmas.Bool.false≢true, specs.List.Contains}
 use Rattle.tsp_rules.specs.Values.{Backer, Acked, Placed, Kind, Accept, Ack, AdjTime, Conflict, Date, DateAck, DateReq, Election, LoopKind, MasterAck, MasterReq, MasterUp, Msite, MsiteReq, QuitKind, Refuse, ResolveKind, SetDate, SetDateReq, SetTime, SlaveUp, Test, TraceOff, TraceOn, PeerId, Place, Peer, Stranger, Port, Role, Starting, Loose, Follow, Candidate, Master}
 use Rattle.tsp_base.specs.Words.{Past, MessageValue, is_among, Performs, Received, role, Row, either_by, grown, nothing, placed, posts, puts, reading, ◌followed_by◌, Sending, corrects_in, is_correction, is_date_request, open_send, ReplyValue}
 use Rattle.tsp_base.proofs.PerformsLemmas.{Performs_else_part, Performs_reading, Performs_then_part}
 use Rattle.tsp_rules.specs.Answers.{from_peer, is_left, peer_says, replies_in, says_in, handles_kind}
 use Rattle.tsp_rules.specs.CommonRows.{names_master, quits, says_master, tests, traces}
-use Rattle.tsp_rules.specs.MasterRows.{master_takes, master_takes_kind}
-use Rattle.tsp_rules.specs.ResolveRows.{finds_rival, resolves}
+use Rattle.tsp_rules.specs.{MasterRows.master_takes, MasterRows.master_takes_kind, ResolveRows.finds_rival, ResolveRows.resolves}
 use Rattle.tsp_rules.specs.CandidateRows.{accepted_by, candidate_takes, candidate_takes_kind, refused_by, yields}
-use Rattle.tsp_rules.specs.RoundRows.{samples}
+use Rattle.tsp_rules.specs.{RoundRows.samples, SlaveRows.slave_takes, SlaveRows.slave_takes_kind}
 use Rattle.tsp_rules.specs.SendRows.{acknowledges, answers_election, has_election, is_kind_election}
-use Rattle.tsp_rules.specs.SlaveRows.{slave_takes, slave_takes_kind}
 use Rattle.tsp_rules.specs.Guards.{is_follow, is_heard, is_master, is_starting_role, role_at}
-use Rattle.tsp_acks.specs.declared.station.Station.{Station}
-use Rattle.tsp_acks.specs.Stands.{StationStands}
-use Rattle.tsp_acks.proofs.PeerLemmas.{Contains-among}
-use Rattle.tsp_master.specs.declared.master.Master.{Master as MasterValue}
-use Rattle.tsp_master.specs.MasterStands.{MasterStands}
-use Rattle.tsp_master.specs.MasterTakes.{master_takes_kind_here}
-use Rattle.tsp_master.proofs.TableLemmas.{MasterStands_quiet}
-use Rattle.tsp_master.proofs.TurnLemmas.{MasterStands_idle, MasterStands_unheld}
-use Rattle.tsp_node.specs.declared.audience.Audience.{Audience}
+use Rattle.tsp_acks.{proofs.PeerLemmas.Contains-among, specs.Stands.StationStands, specs.declared.station.Station.Station}
+use Rattle.tsp_master.specs.{MasterStands.MasterStands, MasterTakes.master_takes_kind_here, declared.master.Master.Master as MasterValue}
+use Rattle.tsp_master.proofs.{TableLemmas.MasterStands_quiet, TurnLemmas.MasterStands_idle, TurnLemmas.MasterStands_unheld}
 use Rattle.tsp_node.specs.declared.audience.Audience.TheVariants.{OfClients, OfNode, OfRoles, OfSends}
-use Rattle.tsp_node.specs.Audiences.{audience_of, heard_from, hears_by}
-use Rattle.tsp_node.specs.NodeStands.{PortStands, PortTook, PortValue}
-use Rattle.tsp_rules.proofs.BuiltCandidate.{built_candidate_takes_kind, built_yields}
-use Rattle.tsp_rules.proofs.EmitsBuilt.{emits_built}
-use Rattle.tsp_node.proofs.NodeLemmas.{Performs_pass}
+use Rattle.tsp_node.specs.{Audiences.audience_of, Audiences.heard_from, Audiences.hears_by, declared.audience.Audience.Audience}
+use Rattle.tsp_rules.proofs.{BuiltCandidate.built_candidate_takes_kind, BuiltCandidate.built_yields, EmitsBuilt.emits_built}
+use Rattle.tsp_node.{proofs.NodeLemmas.Performs_pass, specs.NodeStands.PortStands, specs.NodeStands.PortTook, specs.NodeStands.PortValue}
 
 pub is_stranger : (from : Place) → ((p : PeerId) → from ≡ Peer p → ⊥) → from ≡ Stranger
 is_stranger (Peer p) n = absurd (n p refl)

@@ -3,10 +3,8 @@ use Rattle.std.specs.Prelude.{◌≡◌, ℕ, true, false, List, [], ◌∷◌, 
 use Rattle.tsp_rules.specs.Values.{Leave, Placed, Kind, PeerId, Port}
 use Rattle.tsp_base.specs.Words.{Past, Performs, in_table, grown, nothing, puts, is_correction}
 use Rattle.tsp_base.proofs.PerformsLemmas.{Performs_else_part, Performs_nothing, Performs_then_part}
-use Rattle.tsp_rules.specs.SendRows.{leaves_after}
-use Rattle.tsp_rules.specs.Guards.{is_slave_at}
-use Rattle.tsp_master.specs.declared.master.Master.{Master}
-use Rattle.tsp_master.specs.MasterStands.{MasterStands}
+use Rattle.tsp_rules.specs.{Guards.is_slave_at, SendRows.leaves_after}
+use Rattle.tsp_master.specs.{MasterStands.MasterStands, declared.master.Master.Master}
 
 -- a slave leaves
 pub Performs_leaves : {x : ℕ} {port : Port} (p : PeerId) (k : Kind) {before after : Master} {old new : List Placed} → is_correction k ≡ true → ((past : Past) → MasterStands past before → in_table p past.seen ≡ true) →

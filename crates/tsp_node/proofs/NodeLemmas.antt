@@ -1,40 +1,28 @@
 -- How a port's calls meet the rows of its node.
-use Rattle.std.specs.Prelude.{◌≡◌, ℕ, ◌&&◌, not, Bool, true, false, List, [], ◌∷◌, ◌++◌, Option, None, Some, refl}
-use Rattle.std.proofs.Common.{append-nil, sym, ◌∙◌, ap}
+use Rattle.std.proofs.Common.{append-nil, sym, ◌∙◌, ap, ◌≡◌, ℕ, ◌&&◌, not, Bool, true, false, List, [], ◌∷◌, ◌++◌, Option, None, Some, refl}
 use Rattle.std.proofs.lemmas.Bool.{false≢true}
 use Rattle.tsp_rules.specs.Values.{Act, Took, Post, Abandon, Placed, Stamp, Taken, Place, Port, Role, Master, Reply}
 use Rattle.tsp_base.specs.Words.{Past, Performs, Keeps, Received, role, said, taken, Row, nothing, puts, grown, ReplyValue}
 use Rattle.tsp_base.proofs.PerformsLemmas.{Performs_from, Performs_nothing}
-use Rattle.tsp_rules.specs.Guards.{is_master}
 use Rattle.tsp_rules.proofs.Emits.{Sort, Booting, Asking, Correcting, Numbering, Passing, Posting, Leading, Following, Changing, Backing, Counting, Rounding, Alarming, Tabling, Rivalling, Acking, Giving, Sampling, Closing, Moving, Tracing, Emits, Emits_more, Keeps_by, is_in, sort_of}
-use Rattle.tsp_acks.specs.declared.station.Station.{Station}
-use Rattle.tsp_acks.specs.Stands.{StationStands, StandsActing}
+use Rattle.tsp_acks.specs.{Stands.StationStands, Stands.StandsActing, declared.station.Station.Station}
 use Rattle.tsp_clients.specs.ClientStands.{NamingStands, TraceStands, TracingStands}
 use Rattle.tsp_clients.proofs.ClientLemmas.{TraceStands_by}
-use Rattle.tsp_acks.proofs.StandsLemmas.{Stands_idle, Stands_stamp}
-use Rattle.tsp_acks.proofs.ActingLemmas.{taken-acts}
-use Rattle.tsp_clock.specs.Clocks.{ClockValue}
-use Rattle.tsp_clock.specs.ClockStands.{ClockStands}
-use Rattle.tsp_slave.specs.Lasts.{LastValue, Remembers}
-use Rattle.tsp_slave.specs.SlaveStands.{SlaveStands}
+use Rattle.tsp_acks.proofs.{ActingLemmas.taken-acts, StandsLemmas.Stands_idle, StandsLemmas.Stands_stamp}
+use Rattle.tsp_clock.specs.{ClockStands.ClockStands, Clocks.ClockValue}
+use Rattle.tsp_slave.specs.{Lasts.LastValue, Lasts.Remembers, SlaveStands.SlaveStands}
 use Rattle.tsp_slave.proofs.BesideLemmas.{beside_sorts, ClockStands_by, Remembers_by}
 use Rattle.tsp_master.specs.declared.master.Master.{Master as MasterStruct}
-use Rattle.tsp_master.specs.Clearing.{Clears}
-use Rattle.tsp_master.specs.MasterStands.{MasterStands, LeadStands, OwnStands}
-use Rattle.tsp_master.proofs.TableLemmas.{MasterStands_quiet, quiet_sorts}
-use Rattle.tsp_master.proofs.TurnLemmas.{MasterStands_parted}
-use Rattle.tsp_date.specs.Dates.{DatesValue}
-use Rattle.tsp_date.specs.DateStands.{DateStands, DatesStand, moved_where}
+use Rattle.tsp_master.specs.{Clearing.Clears, MasterStands.MasterStands, MasterStands.LeadStands, MasterStands.OwnStands}
+use Rattle.tsp_master.proofs.{TableLemmas.MasterStands_quiet, TableLemmas.quiet_sorts, TurnLemmas.MasterStands_parted}
+use Rattle.tsp_date.specs.{DateStands.DateStands, DateStands.DatesStand, DateStands.moved_where, Dates.DatesValue}
 use Rattle.tsp_date.proofs.KeepLemmas.{DatesAside, DatesStand_act, DatesStand_by, passes_date}
-use Rattle.tsp_resolve.specs.declared.resolve.Resolve.{Resolve}
-use Rattle.tsp_resolve.specs.ResolveStands.{ResolveStands, ResolvingStands}
+use Rattle.tsp_resolve.specs.{ResolveStands.ResolveStands, ResolveStands.ResolvingStands, declared.resolve.Resolve.Resolve}
 use Rattle.tsp_resolve.proofs.ResolveLemmas.{ResolveStands_by, unchanging}
-use Rattle.tsp_node.specs.declared.node.Node.{Node}
-use Rattle.tsp_node.specs.Unmarking.{Unmarks}
+use Rattle.tsp_node.specs.{Unmarking.Unmarks, declared.node.Node.Node}
 use Rattle.tsp_node.specs.NodeStands.{PortBegun, PortStands, PortTook, PortUntaken, PortValue, NodeStands, NodeUntaken, Begun, TakeStands, TookStands, Traced, TracedValue, port_with, traced_of}
-use Rattle.tsp_node.proofs.TakeEmits.{role_sorts, silent_trace}
-use Rattle.tsp_rules.proofs.BuiltDates.{date_sorts}
-use Rattle.tsp_node.proofs.RivalKeeps.{ResolveStands_parted}
+use Rattle.tsp_rules.{proofs.BuiltDates.date_sorts, specs.Guards.is_master}
+use Rattle.tsp_node.proofs.{RivalKeeps.ResolveStands_parted, TakeEmits.role_sorts, TakeEmits.silent_trace}
 
 -- a call that changes nothing but the station, the master and the rivals
 pub Performs_station : {row : Row} {x : ℕ} {port : Port} {before after : PortValue} {old new : List Placed} → after.last ≡ before.last → after.clock ≡ before.clock → after.dates ≡ before.dates → Emits beside_sorts row → Keeps DatesStand row →

@@ -1,6 +1,5 @@
 -- What a part of a port keeps of its peers.
-use Rattle.std.specs.Prelude.{◌≡◌, ℕ, List, length}
-use Rattle.std.proofs.Common.{sym, ◌∙◌, ap}
+use Rattle.std.proofs.Common.{sym, ◌∙◌, ap, ◌≡◌, ℕ, List, length}
 use Rattle.tsp_rules.specs.Values.{PeerId}
 use Rattle.tsp_date.specs.Dates.{peers_of as dated_of}
 use Rattle.tsp_measure.specs.Slaves.{peers_of}

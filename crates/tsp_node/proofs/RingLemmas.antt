@@ -4,11 +4,9 @@ use Rattle.std.proofs.lemmas.Bool.{and_parts}
 use Rattle.tsp_rules.specs.Values.{Ring, Late, Placed, Elect, Port}
 use Rattle.tsp_base.specs.Words.{Past, Performs, puts, ◌followed_by◌}
 use Rattle.tsp_base.proofs.PerformsLemmas.{Performs_then, Performs_then_part, Performs_from, Performs_to}
-use Rattle.tsp_rules.specs.CommonRows.{arms_elect, searches, candidature_row}
+use Rattle.tsp_rules.specs.{CommonRows.arms_elect, CommonRows.searches, CommonRows.candidature_row, Guards.is_in_time, Guards.may_stand_at}
 use Rattle.tsp_rules.specs.SlaveRows.{loosens, elect_rings}
-use Rattle.tsp_rules.specs.Guards.{is_in_time, may_stand_at}
-use Rattle.tsp_acks.specs.declared.station.Station.{Station}
-use Rattle.tsp_acks.specs.Stands.{StationStands, StandsActing}
+use Rattle.tsp_acks.specs.{Stands.StationStands, Stands.StandsActing, declared.station.Station.Station}
 use Rattle.tsp_slave.specs.SlaveAlarms.{is_to_be_candidate}
 
 -- whether a node stands, as its station has it

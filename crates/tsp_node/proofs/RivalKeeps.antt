@@ -1,17 +1,12 @@
 -- Rows of a port's other parts leave its rivals alone, but for a change of the role.
-use Rattle.std.specs.Prelude.{◌≡◌, ◌≢◌, ℕ, Bool, true, false, not, ◌&&◌, List, ◌∷◌, refl}
-use Rattle.std.proofs.Common.{sym, ◌∙◌, ap, true≢false}
+use Rattle.std.proofs.Common.{sym, ◌∙◌, ap, true≢false, ◌≡◌, ◌≢◌, ℕ, Bool, true, false, not, ◌&&◌, List, ◌∷◌, refl}
 use Rattle.tsp_rules.specs.Values.{Act, Role, Starting, Master}
 use Rattle.tsp_base.specs.Words.{Did, Elsewhere, Past, Step, role, Row, grown, in_step}
-use Rattle.tsp_rules.specs.Guards.{is_master}
-use Rattle.tsp_rules.proofs.Emits.{AllOf, Emits, Emits_more}
-use Rattle.tsp_rules.proofs.EmitsTables.{changes}
+use Rattle.tsp_rules.{proofs.Emits.AllOf, proofs.Emits.Emits, proofs.Emits.Emits_more, proofs.EmitsTables.changes, specs.Guards.is_master}
 use Rattle.tsp_master.proofs.TurnLemmas.{changes_parted, parting_sorts}
-use Rattle.tsp_resolve.specs.declared.resolve.Resolve.{Resolve}
-use Rattle.tsp_resolve.specs.ResolveStands.{ResolveStands}
+use Rattle.tsp_resolve.specs.{ResolveStands.ResolveStands, declared.resolve.Resolve.Resolve}
 use Rattle.tsp_resolve.proofs.ResolveLemmas.{ResolveStands_changed, ResolveStands_idle, ResolveStands_same, rivalless}
-use Rattle.tsp_node.specs.Unmarking.{Unmarks}
-use Rattle.tsp_node.proofs.TakeEmits.{role_sorts}
+use Rattle.tsp_node.{proofs.TakeEmits.role_sorts, specs.Unmarking.Unmarks}
 
 not-master : (r : Role) → is_master r ≡ false → r ≢ Master
 not-master Master e = absurd (true≢false e)

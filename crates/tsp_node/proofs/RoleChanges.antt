@@ -3,8 +3,7 @@ use Rattle.std.specs.Prelude.{◌≡◌, ℕ, Bool, true, false, if◌then◌els
 use Rattle.tsp_rules.specs.Values.{Become, Ring, Late, Quiet, Window, Starting, QUIET}
 use Rattle.tsp_base.specs.Words.{Past, arms, either_by, grown, puts, ◌followed_by◌}
 use Rattle.tsp_rules.specs.CandidateRows.{has_won, lead_row, window_rings, yields}
-use Rattle.tsp_rules.specs.Guards.{is_in_time}
-use Rattle.tsp_rules.proofs.EmitsTables.{changes}
+use Rattle.tsp_rules.{proofs.EmitsTables.changes, specs.Guards.is_in_time}
 
 -- the end of a candidature
 pub window_changes : (x : ℕ) (past : Past) → changes (window_rings x past) ≡ true

@@ -1,20 +1,16 @@
 -- What a round's alarms make of what a port remembers.
-use Rattle.std.specs.Prelude.{◌≡◌, ℕ, ◌||◌, Bool, true, false, if◌then◌else◌, List, [], ◌∷◌, None, Some, refl}
-use Rattle.std.proofs.Common.{sym, ap}
+use Rattle.std.proofs.Common.{sym, ap, ◌≡◌, ℕ, ◌||◌, Bool, true, false, if◌then◌else◌, List, [], ◌∷◌, None, Some, refl}
 use Rattle.std.proofs.lemmas.Bool.{false≢true}
 use Rattle.tsp_rules.specs.Values.{Act, Boot, Took, Become, Correct, Placed, Alarm, Round, Probe, CloseAlarm, Port, Follow}
 use Rattle.tsp_base.specs.Words.{Past, Performs, said, taken, grown, correcting_of}
-use Rattle.tsp_rules.specs.RoundRows.{corrects, is_correct}
 use Rattle.tsp_rules.proofs.Emits.{AllOf, Emits, Emits_more, Emits_nothing, is_in, sort_of}
 use Rattle.tsp_slave.specs.Lasts.{LastValue, Remembers}
-use Rattle.tsp_master.specs.MasterAlarms.{master_rings}
-use Rattle.tsp_master.specs.MasterStands.{RingStands}
-use Rattle.tsp_date.specs.DateStands.{DatesStand}
-use Rattle.tsp_date.proofs.KeepLemmas.{DatesAside_by, passes_date}
+use Rattle.tsp_master.specs.{MasterAlarms.master_rings, MasterStands.RingStands}
+use Rattle.tsp_date.{proofs.KeepLemmas.DatesAside_by, proofs.KeepLemmas.passes_date, specs.DateStands.DatesStand}
 use Rattle.tsp_resolve.proofs.ResolveLemmas.{ResolveStands_by}
 use Rattle.tsp_node.specs.NodeStands.{PortUntaken, PortValue}
 use Rattle.tsp_rules.proofs.BuiltRounds.{built_close_rings, built_probe_rings, built_round_rings, round_sorts}
-use Rattle.tsp_rules.proofs.EmitsBuilt.{emits_built}
+use Rattle.tsp_rules.{proofs.EmitsBuilt.emits_built, specs.RoundRows.corrects, specs.RoundRows.is_correct}
 use Rattle.tsp_node.proofs.NodeLemmas.{untaken_by, untaking_sorts}
 
 -- what is remembered after a correction that took no message

@@ -1,17 +1,13 @@
 -- What a port takes that never corrects its clock, and what stands where something was taken.
-use Rattle.std.specs.Prelude.{◌≡◌, List, [], ◌∷◌, Some, refl}
-use Rattle.std.proofs.Common.{◌∙◌, ap}
+use Rattle.std.proofs.Common.{◌∙◌, ap, ◌≡◌, List, [], ◌∷◌, Some, refl}
 use Rattle.tsp_rules.specs.Values.{Message, Good, Ack, PeerId, Place, Peer, Stranger, Role, Starting}
 use Rattle.tsp_base.specs.Words.{Past, MessageValue, Received, Row, nothing, taken, reading}
-use Rattle.tsp_rules.specs.Answers.{from_peer, peer_says, says_in}
-use Rattle.tsp_rules.specs.Guards.{is_heard, role_at}
+use Rattle.tsp_rules.specs.{Answers.from_peer, Answers.peer_says, Answers.says_in, Guards.is_heard, Guards.role_at}
 use Rattle.tsp_rules.proofs.Emits.{Sort, Acking, Emits, Emits_either, Emits_nothing, Emits_reading}
 use Rattle.tsp_slave.specs.SlaveStands.{IsMessageFrom, SlaveStands, slave}
 use Rattle.tsp_date.specs.DateStands.{DateStands, date_state}
-use Rattle.tsp_node.specs.NodeStands.{PortTook, PortValue}
-use Rattle.tsp_rules.proofs.BuiltShared.{built_acknowledges}
-use Rattle.tsp_rules.proofs.EmitsBuilt.{emits_built}
-use Rattle.tsp_node.proofs.HearLemmas.{says_ack}
+use Rattle.tsp_rules.proofs.{BuiltShared.built_acknowledges, EmitsBuilt.emits_built}
+use Rattle.tsp_node.{proofs.HearLemmas.says_ack, specs.NodeStands.PortTook, specs.NodeStands.PortValue}
 
 peer-emits : {sorts : List Sort} (from : Place) (row : PeerId → Row) → ((p : PeerId) → Emits sorts (row p)) → Emits sorts (from_peer from row)
 unfolding from_peer

@@ -1,24 +1,18 @@
 -- Which sorts of acts put what a port does with what it takes, and its alarms.
-use Rattle.std.specs.Prelude.{◌≡◌, ℕ, Bool, true, List, [], ◌∷◌, refl}
-use Rattle.std.proofs.Common.{sym, ap, subst, ◌∙◌}
+use Rattle.std.proofs.Common.{sym, ap, subst, ◌∙◌, ◌≡◌, ℕ, Bool, true, List, [], ◌∷◌, refl}
 use Rattle.tsp_rules.specs.Values.{Alarm, CloseAlarm, Taken, Kind, Ack, Date, DateAck, DateReq, LoopKind, MasterReq, Msite, MsiteReq, ResolveKind, SetDate, SetDateReq, SlaveUp, Election, MasterAck, Test, TraceOff, TraceOn, PeerId, Place}
 use Rattle.tsp_base.specs.Words.{MessageValue, ReplyValue}
 use Rattle.tsp_rules.specs.Answers.{from_peer, handles_kind, peer_replies, peer_says, rings, takes}
-use Rattle.tsp_rules.specs.CommonRows.{replies}
+use Rattle.tsp_rules.specs.{CommonRows.replies, Renames.Naming}
 use Rattle.tsp_rules.proofs.Emits.{Sort, Acking, Alarming, Asking, Backing, Changing, Closing, Correcting, Counting, Following, Giving, Leading, Moving, Numbering, Passing, Posting, Rivalling, Rounding, Sampling, Tabling, Taking, Tracing, Emits, is_part}
-use Rattle.tsp_rules.specs.Renames.{Naming}
-use Rattle.tsp_rules.proofs.RowCodes.{ANumber, Owed, Posts}
+use Rattle.tsp_rules.proofs.{RowCodes.ANumber, RowCodes.Owed, RowCodes.Posts, Unchanged.comes_unchanged, Unchanged.place_unchanged}
 use Rattle.tsp_rules.proofs.Built.{Built, At, Empty, More, Wider}
 use Rattle.tsp_rules.proofs.BuiltAnswers.{built_from_peer, built_handles_kind, built_peer_replies, built_peer_says, built_rings, built_takes, handled_sorts, ring_sorts, says_sorts}
-use Rattle.tsp_rules.proofs.BuiltDates.{date_sorts}
-use Rattle.tsp_rules.proofs.BuiltMaster.{built_joins, built_sends_away}
-use Rattle.tsp_rules.proofs.BuiltShared.{built_replies, client_sorts}
-use Rattle.tsp_rules.proofs.EmitsBuilt.{emits_built, nothing_taken}
-use Rattle.tsp_rules.proofs.Unchanged.{comes_unchanged, place_unchanged}
+use Rattle.tsp_rules.proofs.{BuiltDates.date_sorts, BuiltMaster.built_joins, BuiltMaster.built_sends_away}
+use Rattle.tsp_rules.proofs.{BuiltShared.built_replies, BuiltShared.client_sorts, EmitsBuilt.emits_built, EmitsBuilt.nothing_taken}
 use Rattle.tsp_master.specs.MasterTakes.{master_takes_here, master_takes_kind_here}
-use Rattle.tsp_node.specs.declared.audience.Audience.{Audience}
 use Rattle.tsp_node.specs.declared.audience.Audience.TheVariants.{OfClients, OfDates}
-use Rattle.tsp_node.specs.Audiences.{audience_of}
+use Rattle.tsp_node.specs.{Audiences.audience_of, declared.audience.Audience.Audience}
 
 -- acts of a port that doesn't lead, but for what ends its sends
 abbrev pub role_sorts : List Sort

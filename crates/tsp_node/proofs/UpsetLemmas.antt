@@ -1,10 +1,8 @@
 -- What is taken, and a round that it upsets.
-use Rattle.std.specs.Prelude.{◌≡◌, ℕ, true, false, List, refl}
-use Rattle.std.proofs.Common.{append-nil, sym}
-use Rattle.tsp_rules.specs.Values.{Placed, Port}
+use Rattle.std.proofs.Common.{append-nil, sym, ◌≡◌, ℕ, true, false, List, refl}
 use Rattle.tsp_base.specs.Words.{Past, Performs, Row, ◌followed_by◌}
 use Rattle.tsp_base.proofs.PerformsLemmas.{Performs_same, Performs_then}
-use Rattle.tsp_rules.specs.RoundRows.{abandons_going, corrects, upsetting}
+use Rattle.tsp_rules.specs.{RoundRows.abandons_going, RoundRows.corrects, RoundRows.upsetting, Values.Placed, Values.Port}
 
 -- the clock was corrected, and the round that goes on is given up
 pub Performs_upset : {S T U : Type 0} {p : Past → S → Type 0} {q : Past → T → Type 0} {w : Past → U → Type 0} {x : ℕ} {port : Port} {before : S} {mid : T} {after : U} {old middle new : List Placed} (row : Row) →

@@ -1,11 +1,8 @@
 -- The configuration of a node, and the pasts of a node with it.
 use Rattle.std.specs.Prelude.{◌≡◌, ℕ, ℤ, Bool, true, false, List}
-use Rattle.tsp_rules.specs.Values.{PeerId}
 use Rattle.tsp_base.specs.Words.{Past, is_among, IsPeers}
-use Rattle.tsp_rules.specs.NodeRows.{PortSetup}
-use Rattle.tsp_rules.specs.Guards.{is_clock_value}
-use Rattle.tsp_node.specs.declared.fault.BootFault.{BootFault}
-use Rattle.tsp_node.specs.declared.fault.BootFault.TheVariants.{Peers, Range, OutOfMemory}
+use Rattle.tsp_rules.specs.{Guards.is_clock_value, NodeRows.PortSetup, Values.PeerId}
+use Rattle.tsp_node.specs.declared.fault.BootFault.{BootFault, TheVariants.Peers, TheVariants.Range, TheVariants.OutOfMemory}
 
 -- a node's host name, its own number, all peers, whether it may be master, and whether a candidate needs a majority
 pub record ConfigValue : Type 0 where

@@ -3,12 +3,9 @@ use Rattle.std.specs.Prelude.{◌≡◌, ℕ, false, List, [], ◌∷◌, Option
 use Rattle.tsp_rules.specs.Values.{Post, Placed, Message, Peer, Port}
 use Rattle.tsp_base.specs.Words.{Past, Performs, acting, grown, earlier, least_deadline}
 use Rattle.tsp_rules.specs.SendRows.{leaves_after}
-use Rattle.tsp_sends.specs.Slots.{sending_to}
-use Rattle.tsp_sends.specs.Repeating.{IsEarliest}
-use Rattle.tsp_sends.specs.declared.due.Due.{Due}
+use Rattle.tsp_sends.specs.{Repeating.IsEarliest, Slots.sending_to, declared.due.Due.Due}
 use Rattle.tsp_sends.specs.declared.due.Due.TheVariants.{Again, Gave}
-use Rattle.tsp_master.specs.declared.master.Master.{Master}
-use Rattle.tsp_master.specs.MasterStands.{MasterStands}
+use Rattle.tsp_master.specs.{MasterStands.MasterStands, declared.master.Master.Master}
 use Rattle.tsp_node.specs.declared.part.Part.{Part}
 
 -- the earliest deadline of a port's armed alarms and open sends, from the state of the port

@@ -1,6 +1,5 @@
 -- The input of a step, as the rules have it.
-use Rattle.tsp_base.specs.declared.input.Input.{Input}
-use Rattle.tsp_base.specs.declared.input.Input.TheVariants.{Turn as OfTurn, Bytes}
+use Rattle.tsp_base.specs.declared.input.Input.{Input, TheVariants.Turn as OfTurn, TheVariants.Bytes}
 use Rattle.tsp_codec.specs.Taken.{taken_of}
 use Rattle.tsp_rules.specs.Answers.{Given, Turn, Got}
 

@@ -2,21 +2,14 @@
 use Rattle.std.specs.Prelude.{◌≡◌, ℕ, ◌-◌, ◌^◌, ℤ, Bool, false, List, ◌∷◌, Option, None, Some}
 use Rattle.tsp_rules.specs.Values.{Correct, PeerId}
 use Rattle.tsp_base.specs.Words.{Acts, Booted, Elsewhere, Past, Step, Received, acting, taken}
-use Rattle.tsp_acks.specs.declared.station.Station.{Station}
-use Rattle.tsp_acks.specs.Stands.{StationStands}
+use Rattle.tsp_acks.specs.{Stands.StationStands, declared.station.Station.Station}
 use Rattle.tsp_clients.specs.ClientStands.{TraceStands}
-use Rattle.tsp_clock.specs.Clocks.{ClockValue}
-use Rattle.tsp_clock.specs.ClockStands.{ClockStands}
+use Rattle.tsp_clock.specs.{ClockStands.ClockStands, Clocks.ClockValue}
 use Rattle.tsp_slave.specs.Lasts.{LastValue, Remembers}
-use Rattle.tsp_master.specs.declared.master.Master.{Master}
-use Rattle.tsp_master.specs.MasterStands.{MasterStands}
-use Rattle.tsp_date.specs.Dates.{DatesValue}
-use Rattle.tsp_date.specs.DateStands.{DatesStand}
-use Rattle.tsp_resolve.specs.declared.resolve.Resolve.{Resolve}
-use Rattle.tsp_resolve.specs.ResolveStands.{ResolveStands}
-use Rattle.tsp_node.specs.declared.node.Node.{Node}
-use Rattle.tsp_node.specs.declared.part.Part.{Part}
-use Rattle.tsp_node.specs.Configs.{ConfigValue, IsOf}
+use Rattle.tsp_master.specs.{MasterStands.MasterStands, declared.master.Master.Master}
+use Rattle.tsp_date.specs.{DateStands.DatesStand, Dates.DatesValue}
+use Rattle.tsp_resolve.specs.{ResolveStands.ResolveStands, declared.resolve.Resolve.Resolve}
+use Rattle.tsp_node.specs.{Configs.ConfigValue, Configs.IsOf, declared.node.Node.Node, declared.part.Part.Part}
 
 -- the state of a port, with its node's clock
 pub record PortValue : Type 0 where

@@ -1,8 +1,7 @@
 -- How a master forgets its rivals.
 use Rattle.std.specs.Prelude.{◌≡◌, Bool, true, false, List, [], length}
 use Rattle.tsp_rules.specs.Values.{PeerId}
-use Rattle.tsp_resolve.specs.declared.resolve.Resolve.{Resolve}
-use Rattle.tsp_resolve.specs.Marked.{marked}
+use Rattle.tsp_resolve.specs.{Marked.marked, declared.resolve.Resolve.Resolve}
 
 -- no peer is marked any more
 pub record Unmarked (old new : Resolve) : Type 0 where

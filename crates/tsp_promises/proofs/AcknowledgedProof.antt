@@ -1,6 +1,5 @@
 -- Where the last correction was acknowledged, and where the last taken one was taken.
-use Rattle.std.specs.Prelude.{◌≡◌, ◌==◌, ◌&&◌, cond, Bool, true, false, List, [], ◌∷◌, refl}
-use Rattle.std.proofs.Common.{sym, ap, inl, inr, true≢false, ◌∙◌}
+use Rattle.std.proofs.Common.{sym, ap, inl, inr, true≢false, ◌∙◌, ◌≡◌, ◌==◌, ◌&&◌, cond, Bool, true, false, List, [], ◌∷◌, refl}
 use Rattle.std.proofs.lemmas.Bool.{and_parts}
 use Rattle.tsp_rules.specs.Values.{Boot, Post, Become, Acked, Gave, Message, PeerId, Peer}
 use Rattle.tsp_base.specs.Words.{Acts, Deed, Did, Seen, Here, Elsewhere, Within, acting, is_correction, is_numbered, open_to, open_to_after, last_to, last_to_after, is_acknowledged, is_acknowledged_after, corrects_by, message_at, message_of}

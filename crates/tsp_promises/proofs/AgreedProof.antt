@@ -1,24 +1,14 @@
 -- Clocks corrected in one round agree.
-use Rattle.std.specs.Prelude.{◌≡◌, ◌≤◌, ◌≤ℤ◌, ◌⊎◌, ℕ, ◌-◌, ◌*◌, ℤ, pos, ◌+ℤ◌, ◌-ℤ◌, nat_abs, true, List, ◌∷◌, is_some, refl}
-use Rattle.std.proofs.Common.{sym, ap, arith, subst, inl, inr, ◌∙◌}
+use Rattle.std.proofs.Common.{sym, ap, arith, subst, inl, inr, ◌∙◌, ◌≡◌, ◌≤◌, ◌≤ℤ◌, ◌⊎◌, ℕ, ◌-◌, ◌*◌, ℤ, pos, ◌+ℤ◌, ◌-ℤ◌, nat_abs, true, List, ◌∷◌, is_some, refl}
 use Rattle.tsp_rules.specs.Values.{AdjTime, PeerId}
 use Rattle.tsp_base.specs.Words.{Did, Line, Seen, Here, of, dids, view, moved, time_of, MessageValue, Within, best, tick_at, width}
 use Rattle.tsp_promises.specs.Agreed.{Agreed, AgreedAt, ClocksAgree, MasterAgrees, PeersAgree, RestsOnSample, StayAgreed, Unchanged}
-use Rattle.tsp_promises.specs.ClockAt.{clock_at}
-use Rattle.tsp_promises.specs.CorrectionFits.{AnswersSlaveUp, AtClose}
-use Rattle.tsp_promises.specs.Fits.{Fits, node_of}
-use Rattle.tsp_promises.specs.StepFacts.{closed}
-use Rattle.tsp_promises.specs.Setting.{Setting}
-use Rattle.tsp_promises.proofs.EverywhereLemmas.{Everywhere-from}
+use Rattle.tsp_promises.specs.{ClockAt.clock_at, CorrectionFits.AnswersSlaveUp, CorrectionFits.AtClose, Fits.Fits, Fits.node_of}
+use Rattle.tsp_promises.proofs.{EverywhereLemmas.Everywhere-from, FromRoundProof.Met, FromRoundProof.corrects-adj, FromRoundProof.whole}
 use Rattle.tsp_base.proofs.PlaceLemmas.{Within-through, Within-tail}
-use Rattle.tsp_promises.proofs.AgreedSums.{sums, triangle, moved-by}
-use Rattle.tsp_promises.proofs.Clocks.{drift_apart}
-use Rattle.tsp_promises.proofs.HistoryPlaces.{of-own}
-use Rattle.tsp_promises.proofs.MasterMoved.{master_moved, same-mean, unmoved}
-use Rattle.tsp_promises.proofs.OwnFitsProof.{place-time}
-use Rattle.tsp_promises.proofs.SendPlaces.{post_fits}
-use Rattle.tsp_promises.proofs.FromRoundProof.{Met, corrects-adj, whole}
-use Rattle.tsp_promises.proofs.Given.{Given, given_at}
+use Rattle.tsp_promises.proofs.{AgreedSums.sums, AgreedSums.triangle, AgreedSums.moved-by, Clocks.drift_apart, Given.Given, Given.given_at}
+use Rattle.tsp_promises.proofs.{HistoryPlaces.of-own, MasterMoved.master_moved, MasterMoved.same-mean, MasterMoved.unmoved}
+use Rattle.tsp_promises.{proofs.OwnFitsProof.place-time, proofs.SendPlaces.post_fits, specs.Setting.Setting, specs.StepFacts.closed}
 
 -- the clock of k against m's clock as its Close left it
 pub core : (setting : Setting) (m : ℕ) (cpast : List Line) (mean : ℤ) (c : Line) (past : List Line) (r : Line) (rolder h : List Line) (err : ℤ) (t : ℕ) → Fits setting h → time_of (dids h) ≤ t →

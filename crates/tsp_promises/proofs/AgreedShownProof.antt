@@ -1,24 +1,14 @@
 -- What clocks show agrees where the clocks do.
-use Rattle.std.specs.Prelude.{◌≡◌, ◌≤◌, ◌≤ℤ◌, ℕ, ◌+◌, ◌-◌, ℤ, pos, ◌+ℤ◌, ◌-ℤ◌, nat_abs, true, List, [], ◌∷◌}
-use Rattle.std.proofs.Common.{sym, arith, subst, ◌∙◌}
+use Rattle.std.proofs.Common.{sym, arith, subst, ◌∙◌, ◌≡◌, ◌≤◌, ◌≤ℤ◌, ℕ, ◌+◌, ◌-◌, ℤ, pos, ◌+ℤ◌, ◌-ℤ◌, nat_abs, true, List, [], ◌∷◌}
 use Rattle.std.proofs.lemmas.Int.{ints}
-use Rattle.tsp_promises.specs.Agreed.{FromRound, Unchanged}
+use Rattle.tsp_promises.specs.{Agreed.FromRound, Agreed.Unchanged, ClockAt.clock_at, Fits.Alive, Fits.Fits, Fits.node_of, Setting.Setting}
 use Rattle.tsp_promises.specs.AgreedShown.{AgreedShown, HasMet, ShownWithin, AcrossShown, DownShown, MasterShown, PeersShown, ShownAgree, ShownAsClocks, ShownNear, TreeShown, Waited, WaitedFor}
 use Rattle.tsp_promises.specs.Chained.{Hop, Hops, IsChain, last_hop, node_at}
-use Rattle.tsp_promises.specs.ClockAt.{clock_at}
-use Rattle.tsp_promises.specs.Fits.{Alive, Fits, node_of}
 use Rattle.tsp_base.specs.Words.{Line, of, dids, time_of, up, Within, tick_at}
-use Rattle.tsp_promises.specs.Setting.{Setting}
-use Rattle.tsp_promises.specs.ShownAt.{left_at, shown_at}
-use Rattle.tsp_promises.specs.Steady.{shown_width}
+use Rattle.tsp_promises.specs.{ShownAt.left_at, ShownAt.shown_at, Steady.shown_width}
 use Rattle.tsp_base.proofs.PlaceLemmas.{Within-through, Within-tail}
-use Rattle.tsp_promises.proofs.AgreedProof.{agreed_master, agreed_peers}
-use Rattle.tsp_promises.proofs.ChainedProof.{chained_at}
-use Rattle.tsp_promises.proofs.ClockProof.{post_up}
-use Rattle.tsp_promises.proofs.EverywhereLemmas.{Everywhere-from}
-use Rattle.tsp_promises.proofs.Given.{Given, given_at}
-use Rattle.tsp_promises.proofs.Locating.{fits_in}
-use Rattle.tsp_promises.proofs.OwnFitsProof.{fits_at}
+use Rattle.tsp_promises.proofs.{AgreedProof.agreed_master, AgreedProof.agreed_peers, ChainedProof.chained_at, ClockProof.post_up}
+use Rattle.tsp_promises.proofs.{EverywhereLemmas.Everywhere-from, Given.Given, Given.given_at, Locating.fits_in, OwnFitsProof.fits_at}
 use Rattle.tsp_promises.proofs.ShownProof.{clock_target, shown_is, stays_up}
 use Rattle.tsp_promises.proofs.SteadyProof.{meets_by, runs_over_time}
 

@@ -1,6 +1,5 @@
 -- The sums of agreement, over whole numbers.
-use Rattle.std.specs.Prelude.{◌≡◌, ◌≤◌, ◌≤ℤ◌, ℤ, pos, ◌+ℤ◌, ◌-ℤ◌, nat_abs, ℕ, ◌+◌}
-use Rattle.std.proofs.Common.{arith}
+use Rattle.std.proofs.Common.{arith, ◌≡◌, ◌≤◌, ◌≤ℤ◌, ℤ, pos, ◌+ℤ◌, ◌-ℤ◌, nat_abs, ℕ, ◌+◌}
 use Rattle.std.proofs.lemmas.Int.{ints}
 
 -- wk and wm are the walls, k0 and m0 what the clocks had moved at the reading, k1 what k's has moved after its Correct, ticks at the reading and now

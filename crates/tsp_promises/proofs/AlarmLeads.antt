@@ -1,23 +1,17 @@
 -- The alarms of a port that is Loose or follows, and Resolve, keep what is known of it.
-use Rattle.std.specs.Prelude.{◌≡◌, ◌≤◌, ℕ, ◌+◌, Bool, true, false, refl}
-use Rattle.std.proofs.Common.{sym, subst, inl, inr, arith, ◌∙◌, true≢false}
+use Rattle.std.proofs.Common.{sym, subst, inl, inr, arith, ◌∙◌, true≢false, ◌≡◌, ◌≤◌, ℕ, ◌+◌, Bool, true, false, refl}
 use Rattle.std.proofs.lemmas.Bool.{and_parts}
 use Rattle.tsp_rules.specs.Values.{Become, Ring, Late, Alarm, Quiet, Elect, Search, ResolveAlarm, QuitKind, Role, Starting, Loose, Master, QUIET}
 use Rattle.tsp_base.specs.Words.{Past, plain, may_stand, Leads, boot_tick, role, held, armed, nothing, puts, ◌followed_by◌, either_by, for_each}
 use Rattle.tsp_base.proofs.LeadsLemmas.{Leads_then, Leads_either, Leads_reading, Leads_nothing, Leads_puts, Leads_each, Leads_from, Leads_to}
-use Rattle.tsp_rules.specs.Answers.{alarm_rings, rings}
-use Rattle.tsp_rules.specs.CommonRows.{arms_elect, searches, candidature_row}
-use Rattle.tsp_rules.specs.ResolveRows.{quits_rivals, resolve_rings}
-use Rattle.tsp_rules.specs.SendRows.{begins}
+use Rattle.tsp_rules.specs.{Answers.alarm_rings, Answers.rings, CommonRows.arms_elect, CommonRows.searches, CommonRows.candidature_row}
+use Rattle.tsp_rules.specs.{ResolveRows.quits_rivals, ResolveRows.resolve_rings, SendRows.begins}
 use Rattle.tsp_rules.specs.SlaveRows.{quiet_rings, rings_or_late, search_rings, loosens, elect_rings}
 use Rattle.tsp_rules.specs.Guards.{is_due, is_in_time, is_follow, may_stand_at, follows_at, rivals_at}
-use Rattle.tsp_promises.proofs.Known.{Free, Open, Untaken}
-use Rattle.tsp_promises.proofs.Leaves.{none-some}
 use Rattle.tsp_promises.proofs.Rings.{open_of, rested_of, ring_search, late_search, ring_elect, late_elect, ring_resolve, late_resolve, ring_quiet}
-use Rattle.tsp_promises.proofs.Changes.{become_loose}
+use Rattle.tsp_promises.proofs.{Changes.become_loose, Known.Free, Known.Open, Known.Untaken, Leaves.none-some, TakenLeads.master_awake}
 use Rattle.tsp_rules.proofs.GuardFacts.{due_is, stand_is}
 use Rattle.tsp_promises.proofs.CommonLeads.{arms_elect_during, searches_during, begins_quit, candidature_leads}
-use Rattle.tsp_promises.proofs.TakenLeads.{master_awake}
 
 -- a port whose alarm is due
 abbrev pub Due : Alarm → ℕ → Past → Type 0

@@ -1,34 +1,21 @@
 -- What a port does with what it takes, and a whole step, keeps what is known of it.
-use Rattle.std.specs.Prelude.{◌≡◌, ℕ, not, Bool, true, false, List, [], ◌∷◌, refl}
-use Rattle.std.proofs.Common.{sym, subst, inl, inr, ap, true≢false, eq-eqb, ◌∙◌}
+use Rattle.std.proofs.Common.{sym, subst, inl, inr, ap, true≢false, eq-eqb, ◌∙◌, ◌≡◌, ℕ, not, Bool, true, false, List, [], ◌∷◌, refl}
 use Rattle.std.proofs.lemmas.Bool.{and_parts, not-true}
 use Rattle.tsp_rules.specs.Values.{Took, Message, Stamp, Taken, Good, Bad, Kind, Date, DateAck, DateReq, LoopKind, Msite, MsiteReq, QuitKind, SetDate, SetDateReq, Test, TraceOff, TraceOn, PeerId, Place, Peer, Stranger, Role, Starting, Loose, Follow, Candidate, Master, Request, Reply}
 use Rattle.tsp_base.specs.Words.{Seen, Past, Leads, MessageValue, is_among, role, Row, grown, nothing, puts, ◌followed_by◌, is_date_request, sets_date, ReplyValue}
-use Rattle.tsp_promises.specs.AckFits.{Answers}
-use Rattle.tsp_promises.specs.DeedFits.{asks_name, is_answered_early}
+use Rattle.tsp_promises.specs.{AckFits.Answers, DeedFits.asks_name, DeedFits.is_answered_early}
 use Rattle.tsp_base.proofs.LeadsLemmas.{Leads_then, Leads_reading, Leads_nothing, Leads_from}
 use Rattle.tsp_rules.specs.Answers.{due_alarms, says_in, peer_says, replies_in, peer_replies, from_peer, handles_kind, is_left, handles, takes, Given, Turn, Got, input_row, answers}
-use Rattle.tsp_rules.specs.CandidateRows.{candidate_takes}
-use Rattle.tsp_rules.specs.CommonRows.{quits}
-use Rattle.tsp_rules.specs.DateRows.{date_request_of, date_acked}
-use Rattle.tsp_rules.specs.MasterRows.{master_takes}
-use Rattle.tsp_rules.specs.SendRows.{due_sends}
-use Rattle.tsp_rules.specs.SlaveRows.{slave_takes}
+use Rattle.tsp_rules.specs.{CandidateRows.candidate_takes, CommonRows.quits, DateRows.date_request_of, DateRows.date_acked}
 use Rattle.tsp_rules.specs.Guards.{role_at, is_own, is_heard, is_starting_role}
 use Rattle.tsp_promises.proofs.Known.{Open, Fresh, Early, Rests}
-use Rattle.tsp_promises.proofs.Leaves.{none-among}
-use Rattle.tsp_promises.proofs.Rings.{open_of}
-use Rattle.tsp_promises.proofs.Changes.{Is, JustTook, take}
-use Rattle.tsp_rules.proofs.GuardFacts.{awake_is}
-use Rattle.tsp_promises.proofs.AlarmTable.{due_alarms_lead}
-use Rattle.tsp_promises.proofs.CorrectionLeads.{due_sends_lead}
+use Rattle.tsp_promises.proofs.{Rings.open_of, RoleLeads.slave_leads, RoleLeads.candidate_leads, RoleLeads.master_leads}
+use Rattle.tsp_rules.{proofs.GuardFacts.awake_is, specs.MasterRows.master_takes, specs.SendRows.due_sends, specs.SlaveRows.slave_takes}
+use Rattle.tsp_promises.proofs.{AlarmTable.due_alarms_lead, Changes.Is, Changes.JustTook, Changes.take, CorrectionLeads.due_sends_lead}
 use Rattle.tsp_promises.proofs.TakenLeads.{Heard, HeardIn, Unanswered, rests_of, took_awake, names_master_leads, says_master_leads, traces_leads, tests_leads, replies_lead, quits_lead}
-use Rattle.tsp_promises.proofs.SlaveLeads.{quit_follower, idle_heard}
-use Rattle.tsp_promises.proofs.RoleLeads.{slave_leads, candidate_leads, master_leads}
-use Rattle.tsp_promises.proofs.SampleLeads.{samples_lead}
+use Rattle.tsp_promises.proofs.{SampleLeads.samples_lead, SlaveLeads.quit_follower, SlaveLeads.idle_heard, Stirring.upsetting_lead}
 use Rattle.tsp_promises.proofs.Upsets.{Upsets, upsets_of, upsets_from, upsets_either}
-use Rattle.tsp_promises.proofs.DateLeads.{date_upsets, date_request_upsets, date_acked_leads}
-use Rattle.tsp_promises.proofs.Stirring.{upsetting_lead}
+use Rattle.tsp_promises.proofs.{DateLeads.date_upsets, DateLeads.date_request_upsets, DateLeads.date_acked_leads, Leaves.none-among}
 
 module _ {p : PeerId} {m : MessageValue} where
   pub quit_loose : m.kind ≡ QuitKind → Leads (HeardIn p m Loose) (quits p m.number) Rests

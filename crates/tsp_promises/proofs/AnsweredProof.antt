@@ -1,25 +1,16 @@
 -- What is asked is answered, once.
-use Rattle.std.specs.Prelude.{◌≡◌, ◌==◌, ◌||◌, ◌≤◌, ℕ, ◌+◌, Bool, true, false, if◌then◌else◌, List, [], ◌∷◌, Option, None, Some, is_some, refl}
-use Rattle.std.proofs.Common.{sym, ap, arith, subst, eq-eqb, true≢false, ◌∙◌}
+use Rattle.std.proofs.Common.{sym, ap, arith, subst, eq-eqb, true≢false, ◌∙◌, ◌≡◌, ◌==◌, ◌||◌, ◌≤◌, ℕ, ◌+◌, Bool, true, false, if◌then◌else◌, List, [], ◌∷◌, Option, None, Some, is_some, refl}
 use Rattle.std.proofs.Math.Bool.{or-false as or-none, or-true}
 use Rattle.tsp_rules.specs.Values.{Act, Took, Post, Quit, Message, Taken, Good, PeerId, Place, Peer, Stranger, Port}
 use Rattle.tsp_base.specs.Words.{Acts, Begins, Deed, Did, Line, Seen, Here, Step, dids, is_shared, of, seen_as, view, Received, taken, taken_after, Setup, heard}
 use Rattle.tsp_promises.specs.Answered.{Acknowledged, Answered, AnswersAt, Heeded, HeedsQuit, OneForOneAt, QuitsAt, StrangersAt, TakesOneAt, from_strangers, from_strangers_after, has_answered, has_answered_after, has_quit, has_quit_after, to_strangers, to_strangers_after}
-use Rattle.tsp_promises.specs.DeedFits.{DeedFits}
+use Rattle.tsp_promises.specs.{DeedFits.DeedFits, OwnFits.OwnFits, OwnFits.OwnLineFits, QuitFits.QuitFits}
 use Rattle.tsp_promises.specs.Fits.{Finished, Fits, SameStep, node_of}
-use Rattle.tsp_promises.specs.OwnFits.{OwnFits, OwnLineFits}
-use Rattle.tsp_promises.specs.QuitFits.{QuitFits}
-use Rattle.tsp_promises.specs.Setting.{Setting, setup_of}
 use Rattle.tsp_promises.specs.StepFacts.{is_answered, is_answered_after, unacknowledged, unheeded}
-use Rattle.tsp_base.proofs.ViewPlaces.{or-false, port-same, sees-own}
-use Rattle.tsp_base.proofs.Views.{plain_view}
-use Rattle.tsp_promises.proofs.EverywhereLemmas.{Everywhere-from}
-use Rattle.tsp_promises.proofs.HeardProof.{heard_taken}
-use Rattle.tsp_promises.proofs.HistoryPlaces.{of-own}
-use Rattle.tsp_promises.proofs.OwnFitsProof.{fits_at, own_fits}
-use Rattle.tsp_promises.proofs.PortFits.{deed_fits, mark_fits}
-use Rattle.tsp_promises.proofs.Printed.{heard_now}
-use Rattle.tsp_promises.proofs.StrangerFacts.{answering, answers_asked}
+use Rattle.tsp_base.proofs.{ViewPlaces.or-false, ViewPlaces.port-same, ViewPlaces.sees-own, Views.plain_view}
+use Rattle.tsp_promises.proofs.{EverywhereLemmas.Everywhere-from, HeardProof.heard_taken, HistoryPlaces.of-own, Printed.heard_now}
+use Rattle.tsp_promises.proofs.{OwnFitsProof.fits_at, OwnFitsProof.own_fits, PortFits.deed_fits, PortFits.mark_fits}
+use Rattle.tsp_promises.{proofs.StrangerFacts.answering, proofs.StrangerFacts.answers_asked, specs.Setting.Setting, specs.Setting.setup_of}
 
 takes_one_at : (setting : Setting) (l : Line) (world : List Line) → Fits setting (l ∷ world) → TakesOneAt l world
 takes_one_at setting l world f from t is = ap heard (sym (plain_view l.port (of (node_of l) world))) ∙ deed_fits setting l world (Acts (Took from t)) is f.0

@@ -1,12 +1,8 @@
 -- How many requests a port has posted.
-use Rattle.std.specs.Prelude.{◌≡◌, ◌==◌, ◌||◌, Bool, true, false, ℕ, ◌≤◌, List, [], ◌∷◌, refl}
-use Rattle.std.proofs.Common.{sym, arith, subst, inl, inr}
+use Rattle.std.proofs.Common.{sym, arith, subst, inl, inr, ◌≡◌, ◌==◌, ◌||◌, Bool, true, false, ℕ, ◌≤◌, List, [], ◌∷◌, refl}
 use Rattle.tsp_rules.specs.Values.{Boot, Post, Stamp, Port, Request}
 use Rattle.tsp_base.specs.Words.{Deed, Acts, Did, Line, Seen, dids, of, view, seen_as, is_shared, lives, lives_after, Within, asked, asked_after, posted, posted_after}
-use Rattle.tsp_promises.specs.Fits.{node_of}
-use Rattle.tsp_promises.specs.Setting.{Setting}
-use Rattle.tsp_promises.specs.OwnFits.{OwnFits}
-use Rattle.tsp_promises.proofs.HeldProof.{still-lives}
+use Rattle.tsp_promises.{proofs.HeldProof.still-lives, specs.Fits.node_of, specs.OwnFits.OwnFits, specs.Setting.Setting}
 
 asked-deed : (deed : Deed) (n m : ℕ) → lives_after deed n ≡ n → m ≤ asked_after deed m
 asked-deed (Acts Boot) n m v = absurd (omega arith)

@@ -1,10 +1,8 @@
 -- How a master that took a QUIT comes to follow its sender.
-use Rattle.std.specs.Prelude.{◌≡◌, true, List, [], ◌∷◌, refl}
-use Rattle.std.proofs.Common.{sym, ap, inl, inr, ◌∙◌}
+use Rattle.std.proofs.Common.{sym, ap, inl, inr, ◌∙◌, ◌≡◌, true, List, [], ◌∷◌, refl}
 use Rattle.tsp_rules.specs.Values.{Boot, Become, Quit, PeerId, Role, Follow}
 use Rattle.tsp_base.specs.Words.{Begins, Acts, Deed, Did, Seen, Here, Elsewhere, is_among, role, role_after}
-use Rattle.tsp_promises.specs.StepFacts.{owes, owes_after}
-use Rattle.tsp_promises.specs.Became.{Became, BecomesAfter}
+use Rattle.tsp_promises.specs.{Became.Became, Became.BecomesAfter, StepFacts.owes, StepFacts.owes_after}
 
 later : (s : Seen) (before : List Seen) (p : PeerId) → Became before p → Became (s ∷ before) p
 later s before p b = record { did = b.did; before = b.before; place = inr b.place; deed = b.deed; after = b.after }

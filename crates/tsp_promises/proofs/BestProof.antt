@@ -1,6 +1,5 @@
 -- The best sample of a peer stands in the last round.
-use Rattle.std.specs.Prelude.{◌≡◌, ◌==◌, cond, int_lt, Bool, true, false, ◌⊎◌, List, [], ◌∷◌, Option, Some, None, refl}
-use Rattle.std.proofs.Common.{sym, ap, subst, inl, inr, ◌∙◌}
+use Rattle.std.proofs.Common.{sym, ap, subst, inl, inr, ◌∙◌, ◌≡◌, ◌==◌, cond, int_lt, Bool, true, false, ◌⊎◌, List, [], ◌∷◌, Option, Some, None, refl}
 use Rattle.tsp_rules.specs.Values.{Boot, Become, Arm, Sample, CloseAlarm, PeerId}
 use Rattle.tsp_base.specs.Words.{Deed, Acts, Did, Seen, Here, Elsewhere, Within, Sampled, best, best_after, better, started, started_after}
 use Rattle.tsp_rules.proofs.GuardFacts.{same_peer}

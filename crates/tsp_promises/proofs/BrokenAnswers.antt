@@ -1,10 +1,8 @@
 -- Small histories that break the promise of answers.
-use Rattle.std.specs.Prelude.{◌≡◌, ◌≤◌, false, ℕ, pos, List, [], ◌∷◌, Option, None, Some, refl}
-use Rattle.std.proofs.Common.{sym, ap, arith, subst, true≢false, ◌∙◌}
+use Rattle.std.proofs.Common.{sym, ap, arith, subst, true≢false, ◌∙◌, ◌≡◌, ◌≤◌, false, ℕ, pos, List, [], ◌∷◌, Option, None, Some, refl}
 use Rattle.tsp_rules.specs.Values.{Took, Post, Become, Quit, Datagram, Message, Stamp, Taken, Good, Ack, QuitKind, Test, Nothing, PeerId, Place, Peer, Stranger, Loose, Request, Reply}
 use Rattle.tsp_base.specs.Words.{Handed, Turned, Line, dids, MessageValue, Received, ReplyValue, heard, peer_of}
-use Rattle.tsp_promises.specs.Answered.{Answered, AnswersAsked, AnswersWith}
-use Rattle.tsp_promises.specs.Broken.{AnswersBreak, Breaks}
+use Rattle.tsp_promises.specs.{Answered.Answered, Answered.AnswersAsked, Answered.AnswersWith, Broken.AnswersBreak, Broken.Breaks}
 use Rattle.tsp_promises.proofs.Histories.{begins, does, msg, still}
 use Rattle.tsp_promises.proofs.StepChecks.{port0}
 

@@ -1,31 +1,19 @@
 -- Small histories that break the promises of chains and of single corrections.
-use Rattle.std.specs.Prelude.{◌≡◌, ◌≤ℤ◌, false, true, pos, negsuc, List, [], ◌∷◌, refl}
-use Rattle.std.proofs.Common.{arith, inl, inr}
+use Rattle.std.proofs.Common.{arith, inl, inr, ◌≡◌, ◌≤ℤ◌, false, true, pos, negsuc, List, [], ◌∷◌, refl}
 use Rattle.std.proofs.lemmas.Int.{ints}
 use Rattle.tsp_rules.specs.Values.{Took, Post, Ring, Correct, Sample, CloseAlarm, Message, Stamp, Good, AdjTime, SetTime, TimeBody, Peer, Reply}
 use Rattle.tsp_base.specs.Words.{Came, Turned, Line, of, view, peer_of}
-use Rattle.tsp_promises.specs.Agreed.{FromRound}
-use Rattle.tsp_promises.specs.Broken.{AllBreak, Breaks, ChainsBreak}
-use Rattle.tsp_promises.specs.Chained.{Chained, Hop, Hops}
-use Rattle.tsp_promises.specs.ErrsBounded.{ErrsBounded}
-use Rattle.tsp_promises.specs.FirstSet.{FirstSet, FirstSetSoon, SetBy}
-use Rattle.tsp_promises.specs.Throughout.{Throughout}
-use Rattle.tsp_promises.specs.OneError.{OneError}
-use Rattle.tsp_promises.proofs.BrokenAnswers.{answers_break}
+use Rattle.tsp_promises.specs.{Agreed.FromRound, Broken.AllBreak, Broken.Breaks, Broken.ChainsBreak, ErrsBounded.ErrsBounded}
+use Rattle.tsp_promises.specs.{Chained.Chained, Chained.Hop, Chained.Hops, FirstSet.FirstSet, FirstSet.FirstSetSoon, FirstSet.SetBy}
+use Rattle.tsp_promises.specs.{OneError.OneError, Throughout.Throughout}
+use Rattle.tsp_promises.proofs.{BrokenAnswers.answers_break, BrokenReadings.readings_break, BrokenRoles.roles_break, StepChecks.port0}
 use Rattle.tsp_promises.proofs.BrokenClocks.{clocks_break, left_alone, relays_wrong, stray, strays, wrong}
 use Rattle.tsp_promises.proofs.BrokenEstimates.{ended_near, estimates_apart, master_near}
-use Rattle.tsp_promises.proofs.BrokenReadings.{readings_break}
-use Rattle.tsp_promises.proofs.BrokenRoles.{roles_break}
-use Rattle.tsp_promises.proofs.BrokenRounds.{rounds_break}
-use Rattle.tsp_promises.proofs.BrokenSends.{sends_break}
-use Rattle.tsp_promises.proofs.FromRoundBy.{from_round-by}
-use Rattle.tsp_promises.proofs.FromRoundProof.{reading_of, taking_of}
+use Rattle.tsp_promises.proofs.{BrokenRounds.rounds_break, BrokenSends.sends_break, FromRoundBy.from_round-by, WitnessRelay.relay}
+use Rattle.tsp_promises.proofs.{FromRoundProof.reading_of, FromRoundProof.taking_of, WitnessUse.reply1, WitnessUse.usual}
 use Rattle.tsp_promises.proofs.Histories.{begins, does, msg, skip, skipped, still}
-use Rattle.tsp_promises.proofs.StepChecks.{port0}
 use Rattle.tsp_promises.proofs.WitnessFromRounds.{answers, closing, far-from_round, far-close, far-reading, first, first-from_round, near-from_round, near-close, near-correct, near-reading, second-from_round, sounds}
-use Rattle.tsp_promises.proofs.WitnessRelay.{relay}
 use Rattle.tsp_promises.proofs.WitnessSets.{set-by, set-source, set-taking, slaveup}
-use Rattle.tsp_promises.proofs.WitnessUse.{reply1, usual}
 
 abbrev near-hop : Hop
 near-hop = record { close = near-close; cpast = skip 3 (relay 19); correct = near-correct; past = skip 2 (relay 20); reading = near-reading; older = skip 1 (relay 17); err = pos 401 }

@@ -1,21 +1,14 @@
 -- Small histories that break the promises of clocks.
-use Rattle.std.specs.Prelude.{◌≡◌, ◌≤ℤ◌, Bool, false, ℕ, pos, negsuc, ◌-ℤ◌, nat_abs, List, [], ◌∷◌, refl}
-use Rattle.std.proofs.Common.{sym, ap, arith, subst, inl, inr, true≢false, ◌∙◌}
+use Rattle.std.proofs.Common.{sym, ap, arith, subst, inl, inr, true≢false, ◌∙◌, ◌≡◌, ◌≤ℤ◌, Bool, false, ℕ, pos, negsuc, ◌-ℤ◌, nat_abs, List, [], ◌∷◌, refl}
 use Rattle.std.proofs.lemmas.Int.{ints}
 use Rattle.tsp_rules.specs.Values.{Boot, Took, Post, Arm, Ring, Close, Correct, Sample, CloseAlarm, Message, Stamp, Good, AdjTime, TimeBody, PeerId, Peer, Request, Reply}
 use Rattle.tsp_base.specs.Words.{Booted, Came, Turned, Did, Line, Seen, Here, of, view, MessageValue, Within, peer_of}
 use Rattle.tsp_promises.specs.Agreed.{Agreed, FromRound, MasterAgrees, StayAgreed, UnchangedBut}
-use Rattle.tsp_promises.specs.ClockAt.{clock}
-use Rattle.tsp_promises.specs.Fits.{node_of}
-use Rattle.tsp_promises.specs.Measured.{Measured, Trips}
 use Rattle.tsp_promises.specs.Relayed.{Relayed}
-use Rattle.tsp_promises.specs.Broken.{Breaks, ClocksBreak}
-use Rattle.tsp_promises.proofs.FromRoundBy.{from_round-by}
+use Rattle.tsp_promises.specs.{Broken.Breaks, Broken.ClocksBreak, ClockAt.clock, Fits.node_of, Measured.Measured, Measured.Trips}
+use Rattle.tsp_promises.proofs.{FromRoundBy.from_round-by, StepChecks.port0, WitnessRelay.relay, WitnessUse.reply1, WitnessUse.usual}
 use Rattle.tsp_promises.proofs.Histories.{begins, does, line, msg, skip, skipped, step_at, still}
-use Rattle.tsp_promises.proofs.StepChecks.{port0}
 use Rattle.tsp_promises.proofs.WitnessFromRounds.{answers, closing, far-from_round, far-close, far-reading, first, first-from_round, near-from_round, near-close, near-correct, near-reading, second-from_round, sounds}
-use Rattle.tsp_promises.proofs.WitnessRelay.{relay}
-use Rattle.tsp_promises.proofs.WitnessUse.{reply1, usual}
 
 abbrev reply : ℕ → Line
 reply n = does 10 n Turned (Post (Peer (peer_of 0)) (Stamp (Reply (record { ticket = 0; word = 0; counter = 0; reading = pos 10 }))))

@@ -1,17 +1,11 @@
 -- Small histories that break the promise of the network's date.
-use Rattle.std.specs.Prelude.{◌≡◌, false, true, ℤ, pos, List, [], ◌∷◌, refl}
-use Rattle.std.proofs.Common.{arith}
+use Rattle.std.proofs.Common.{arith, ◌≡◌, false, true, ℤ, pos, List, [], ◌∷◌, refl}
 use Rattle.std.proofs.lemmas.Int.{ints}
 use Rattle.tsp_rules.specs.Values.{Took, Post, Become, Ring, Correct, Acked, Round, Message, Good, Date, SetDateReq, TimeBody, Peer, Stranger, Master}
 use Rattle.tsp_base.specs.Words.{Handed, Turned, Line, MessageValue, peer_of}
-use Rattle.tsp_promises.specs.Broken.{Breaks}
-use Rattle.tsp_promises.specs.Dated.{DateConfirmedAt, SetsAt}
-use Rattle.tsp_promises.specs.DatesBroken.{DatesBreak}
-use Rattle.tsp_promises.specs.Everywhere.{Everywhere}
-use Rattle.tsp_promises.specs.Fits.{node_of}
-use Rattle.tsp_promises.specs.Premises.{Few, Honest, Life}
-use Rattle.tsp_promises.proofs.BrokenRoles.{starting}
-use Rattle.tsp_promises.proofs.EverywhereLemmas.{Everywhere-at}
+use Rattle.tsp_promises.specs.{Broken.Breaks, Dated.DateConfirmedAt, Dated.SetsAt, DatesBroken.DatesBreak, Everywhere.Everywhere}
+use Rattle.tsp_promises.specs.{Fits.node_of, Premises.Few, Premises.Honest, Premises.Life}
+use Rattle.tsp_promises.proofs.{BrokenRoles.starting, EverywhereLemmas.Everywhere-at}
 use Rattle.tsp_promises.proofs.Histories.{begins, does, msg, still}
 use Rattle.tsp_promises.proofs.PremiseChecks.{few-by, honest-by, life-by}
 

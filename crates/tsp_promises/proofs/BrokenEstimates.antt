@@ -1,11 +1,9 @@
 -- Small histories that break the promises of estimates.
-use Rattle.std.specs.Prelude.{◌≤ℤ◌, false, pos, negsuc, List, ◌∷◌, refl}
-use Rattle.std.proofs.Common.{arith, inl, inr}
+use Rattle.std.proofs.Common.{arith, inl, inr, ◌≤ℤ◌, false, pos, negsuc, List, ◌∷◌, refl}
 use Rattle.std.proofs.lemmas.Int.{ints}
 use Rattle.tsp_rules.specs.Values.{Took, Ring, Correct, Sample, CloseAlarm, Stamp, Good, Peer, Reply}
 use Rattle.tsp_base.specs.Words.{Came, Turned, Line, peer_of}
-use Rattle.tsp_promises.specs.Broken.{Breaks}
-use Rattle.tsp_promises.specs.Estimates.{Estimate, EstimatesHold}
+use Rattle.tsp_promises.specs.{Broken.Breaks, Estimates.Estimate, Estimates.EstimatesHold}
 use Rattle.tsp_promises.proofs.Histories.{begins, does, skip, skipped, still}
 use Rattle.tsp_promises.proofs.WitnessFromRounds.{answers, closing, sounds}
 use Rattle.tsp_promises.proofs.WitnessEstimates.{adjusts, begins-at, estimate1, sample1, sample2}

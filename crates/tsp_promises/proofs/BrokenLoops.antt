@@ -1,18 +1,11 @@
 -- Small histories that break the promise of LOOPs.
-use Rattle.std.specs.Prelude.{◌≡◌, false, true, ℕ, List, [], ◌∷◌, is_some, refl}
-use Rattle.std.proofs.Common.{sym, ap, arith, subst, true≢false, ◌∙◌}
+use Rattle.std.proofs.Common.{sym, ap, arith, subst, true≢false, ◌∙◌, ◌≡◌, false, true, ℕ, List, [], ◌∷◌, is_some, refl}
 use Rattle.tsp_rules.specs.Values.{Post, Become, Message, Hops, Peer, Loose, Master}
 use Rattle.tsp_base.specs.Words.{Acts, Turned, Line, dids, of, MessageValue, heard, peer_of}
-use Rattle.tsp_promises.specs.Broken.{Breaks}
-use Rattle.tsp_promises.specs.Fits.{node_of}
-use Rattle.tsp_promises.specs.Everywhere.{Everywhere}
+use Rattle.tsp_promises.specs.{Broken.Breaks, Everywhere.Everywhere, Fits.node_of, LoopsBroken.LoopsBreak}
 use Rattle.tsp_promises.specs.Looped.{ChainAt, GivesUpAt, HopsAt, IsLoopChain, LoopPost}
-use Rattle.tsp_promises.specs.LoopsBroken.{LoopsBreak}
-use Rattle.tsp_promises.specs.Premises.{Honest, NamesApart}
-use Rattle.tsp_promises.proofs.Histories.{does, still}
-use Rattle.tsp_promises.proofs.PremiseChecks.{honest-by}
-use Rattle.tsp_promises.proofs.SendProof.{one-message}
-use Rattle.tsp_promises.proofs.WitnessLoop.{loop_with, names-by}
+use Rattle.tsp_promises.proofs.{Histories.does, Histories.still, PremiseChecks.honest-by, SendProof.one-message}
+use Rattle.tsp_promises.{proofs.WitnessLoop.loop_with, proofs.WitnessLoop.names-by, specs.Premises.Honest, specs.Premises.NamesApart}
 
 -- node 1 posts a LOOP with so many hops to node 2
 abbrev posts-with : ℕ → Line

@@ -1,18 +1,13 @@
 -- Small histories that break the promises of shown values.
-use Rattle.std.specs.Prelude.{◌≡◌, ◌≤◌, ◌≤ℤ◌, false, true, ℤ, pos, negsuc, List, [], ◌∷◌, refl}
-use Rattle.std.proofs.Common.{arith, inl, sym, true≢false}
+use Rattle.std.proofs.Common.{arith, inl, sym, true≢false, ◌≡◌, ◌≤◌, ◌≤ℤ◌, false, true, ℤ, pos, negsuc, List, [], ◌∷◌, refl}
 use Rattle.std.proofs.lemmas.Int.{ints}
 use Rattle.tsp_rules.specs.Values.{Boot, Correct}
 use Rattle.tsp_base.specs.Words.{Booted, Turned, Line}
-use Rattle.tsp_promises.specs.AgreedShown.{AgreedShown, ShownNear, Waited}
-use Rattle.tsp_promises.specs.Broken.{Breaks, ReadingsBreak}
-use Rattle.tsp_promises.specs.Shows.{Shows}
-use Rattle.tsp_promises.specs.Steady.{Steady}
-use Rattle.tsp_promises.proofs.BrokenClocks.{left_alone, stray, strays}
-use Rattle.tsp_promises.proofs.Histories.{does, skip, still}
+use Rattle.tsp_promises.specs.{AgreedShown.AgreedShown, AgreedShown.ShownNear, AgreedShown.Waited, Broken.Breaks, Broken.ReadingsBreak}
+use Rattle.tsp_promises.proofs.{BrokenClocks.left_alone, BrokenClocks.stray, BrokenClocks.strays, WitnessUse.usual}
+use Rattle.tsp_promises.{proofs.Histories.does, proofs.Histories.skip, proofs.Histories.still, specs.Shows.Shows, specs.Steady.Steady}
 use Rattle.tsp_promises.proofs.ReadingChecks.{read-by, read_at-by, unstepped-by}
 use Rattle.tsp_promises.proofs.WitnessFromRounds.{answers, closing, second-from_round}
-use Rattle.tsp_promises.proofs.WitnessUse.{usual}
 
 -- a Correct that is slewed, and later ones of 0 at a late tick and back at the first
 abbrev again : ℤ → List Line

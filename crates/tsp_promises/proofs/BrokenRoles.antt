@@ -1,17 +1,11 @@
 -- Small histories that break the promises of roles.
-use Rattle.std.specs.Prelude.{◌≡◌, ◌≤◌, ◌<◌, ℕ, true, false, ◌+◌, pos, List, [], ◌∷◌, Option, Some, None, refl}
-use Rattle.std.proofs.Common.{ap, arith, inl, inr, sym, true≢false}
+use Rattle.std.proofs.Common.{ap, arith, inl, inr, sym, true≢false, ◌≡◌, ◌≤◌, ◌<◌, ℕ, true, false, ◌+◌, pos, List, [], ◌∷◌, Option, Some, None, refl}
 use Rattle.tsp_rules.specs.Values.{Boot, Took, Post, Become, Ring, Back, Close, Correct, Quit, ResolveAlarm, Message, Stamp, Good, Accept, Ack, AdjTime, Election, MasterReq, Msite, QuitKind, Nothing, TimeBody, PeerId, Peer, Stranger, Starting, Follow, Candidate, Master, Reply, ELECT_MIN}
 use Rattle.tsp_base.specs.Words.{Booted, Came, Handed, Turned, Line, of, view, MessageValue, Received, message_in, ReplyValue, peer_of}
-use Rattle.tsp_promises.specs.OneBack.{OneBack}
-use Rattle.tsp_promises.specs.OneWinner.{OneWinner}
-use Rattle.tsp_promises.specs.OnlyMaster.{OnlyMaster}
 use Rattle.tsp_promises.specs.Resolved.{StaysQuiet, StopsLeading, TakesQuit, Yields, YieldsTaken}
-use Rattle.tsp_promises.specs.Silent.{Silent}
-use Rattle.tsp_promises.specs.Broken.{Breaks, RolesBreak}
+use Rattle.tsp_promises.specs.{Broken.Breaks, Broken.RolesBreak, OneBack.OneBack, OneWinner.OneWinner, OnlyMaster.OnlyMaster, Silent.Silent}
 use Rattle.tsp_promises.proofs.Histories.{begins, does, line, msg, step_at, still}
-use Rattle.tsp_promises.proofs.StepChecks.{port0, port1}
-use Rattle.tsp_promises.proofs.Debts.{not-same}
+use Rattle.tsp_promises.proofs.{Debts.not-same, StepChecks.port0, StepChecks.port1}
 
 one-two : peer_of 1 ≡ peer_of 2 → ⊥
 one-two e = not-same 1 2 (omega arith) (ap (λ (p : PeerId). p.0) e)

@@ -1,18 +1,12 @@
 -- Small histories that break the promises of rounds.
-use Rattle.std.specs.Prelude.{◌≡◌, ◌≤◌, ◌≤ℤ◌, true, ℕ, false, pos, negsuc, List, [], ◌∷◌, refl}
-use Rattle.std.proofs.Common.{arith, inl, true≢false}
+use Rattle.std.proofs.Common.{arith, inl, true≢false, ◌≡◌, ◌≤◌, ◌≤ℤ◌, true, ℕ, false, pos, negsuc, List, [], ◌∷◌, refl}
 use Rattle.std.proofs.lemmas.Int.{ints}
 use Rattle.tsp_rules.specs.Values.{Took, Post, Close, Correct, Sample, Message, Stamp, Good, AdjTime, TimeBody, Peer, Reply}
 use Rattle.tsp_base.specs.Words.{Came, Turned, Line, MessageValue, peer_of}
-use Rattle.tsp_promises.specs.Agreed.{FromRound}
-use Rattle.tsp_promises.specs.Broken.{Breaks, RoundsBreak}
-use Rattle.tsp_promises.specs.Estimates.{Estimate, Moves}
+use Rattle.tsp_promises.specs.{Agreed.FromRound, Broken.Breaks, Broken.RoundsBreak, Estimates.Estimate, Estimates.Moves, Seldom.Seldom}
 use Rattle.tsp_promises.specs.Moderate.{Moderate, ModerateClocks, PeerCorrects}
-use Rattle.tsp_promises.specs.Seldom.{Seldom}
-use Rattle.tsp_promises.proofs.FromRoundBy.{from_round-by}
-use Rattle.tsp_promises.proofs.FromRoundProof.{taking_of}
+use Rattle.tsp_promises.proofs.{FromRoundBy.from_round-by, FromRoundProof.taking_of, WitnessFromRounds.sounds}
 use Rattle.tsp_promises.proofs.Histories.{begins, does, msg, skip, skipped, still}
-use Rattle.tsp_promises.proofs.WitnessFromRounds.{sounds}
 use Rattle.tsp_promises.proofs.WitnessModerate.{moves-little, moves-own, near-agrees, near-from_round, near-sample, own-agrees, shut-by, small-agrees, outlier}
 use Rattle.tsp_promises.proofs.WitnessUse.{reply1, usual}
 

@@ -1,16 +1,11 @@
 -- Small histories that break the promises of sends.
-use Rattle.std.specs.Prelude.{◌≡◌, ◌≤◌, false, true, ℕ, ◌+◌, pos, List, [], ◌∷◌, is_some, refl}
-use Rattle.std.proofs.Common.{ap, arith, inl, inr}
+use Rattle.std.proofs.Common.{ap, arith, inl, inr, ◌≡◌, ◌≤◌, false, true, ℕ, ◌+◌, pos, List, [], ◌∷◌, is_some, refl}
 use Rattle.tsp_rules.specs.Values.{Boot, Took, Post, Become, Ring, Correct, Acked, Elect, Round, Message, Good, AdjTime, Election, SetDateReq, SetTime, Nothing, TimeBody, Peer, Follow, GAP}
 use Rattle.tsp_base.specs.Words.{Acts, Booted, Came, Handed, Turned, Line, dids, of, plain, view, MessageValue, tick_of, Within, heard, peer_of, posted}
-use Rattle.tsp_promises.specs.Fits.{node_of}
 use Rattle.tsp_promises.specs.Once.{ActsOn, OfSend, OnceConfirmed, OnceCorrected, OnceObeyed, OnceSpaced, OnceSpacedOverLives, OnceTaken}
-use Rattle.tsp_promises.proofs.EverywhereLemmas.{Everywhere-at}
-use Rattle.tsp_promises.specs.Broken.{Breaks, SendsBreak}
-use Rattle.tsp_promises.specs.Thrice.{Thrice}
+use Rattle.tsp_promises.specs.{Broken.Breaks, Broken.SendsBreak, Fits.node_of, Thrice.Thrice}
 use Rattle.tsp_promises.proofs.Histories.{begins, does, line, msg, step_at, still}
-use Rattle.tsp_promises.proofs.StepChecks.{port0, port1}
-use Rattle.tsp_promises.proofs.BrokenClocks.{turned}
+use Rattle.tsp_promises.proofs.{BrokenClocks.turned, EverywhereLemmas.Everywhere-at, StepChecks.port0, StepChecks.port1}
 
 abbrev moves : ℕ → ℕ → Line
 moves at k = does at 0 (Came k) (Correct (pos 1) false (pos 0))

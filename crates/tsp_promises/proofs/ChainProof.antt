@@ -1,24 +1,14 @@
 -- LOOPs come along chains, in one name.
-use Rattle.std.specs.Prelude.{◌≡◌, ◌≢◌, ℕ, ◌+◌, ◌<◌, ◌≤◌, List, [], ◌∷◌, length, is_some, refl}
-use Rattle.std.proofs.Common.{sym, ap, subst, subst₂, arith, inl, inr, ◌∙◌}
+use Rattle.std.proofs.Common.{sym, ap, subst, subst₂, arith, inl, inr, ◌∙◌, ◌≡◌, ◌≢◌, ℕ, ◌+◌, ◌<◌, ◌≤◌, List, [], ◌∷◌, length, is_some, refl}
 use Rattle.tsp_rules.specs.Values.{Post, Become, Message, LoopKind, Hops, PeerId, Place, Peer, Stranger, Loose, HOPS}
 use Rattle.tsp_base.specs.Words.{Acts, Line, of, view, MessageValue, Within, heard, peer_of}
-use Rattle.tsp_promises.specs.DeedFits.{MessageFits, StrangerFits}
-use Rattle.tsp_promises.specs.Fits.{Fits, LineFits, node_of}
-use Rattle.tsp_promises.specs.HoldFits.{YieldFits}
-use Rattle.tsp_promises.specs.LoopFits.{LoopFits}
-use Rattle.tsp_promises.specs.Premises.{Honest, HonestAt, NamesApartAt}
-use Rattle.tsp_promises.specs.Setting.{Setting, setup_of}
+use Rattle.tsp_promises.specs.{DeedFits.MessageFits, DeedFits.StrangerFits, Fits.Fits, Fits.LineFits, Fits.node_of, HoldFits.YieldFits}
+use Rattle.tsp_promises.specs.{LoopFits.LoopFits, Premises.Honest, Premises.HonestAt, Premises.NamesApartAt}
 use Rattle.tsp_promises.proofs.EverywhereLemmas.{Everywhere-at, Everywhere-from, Everywhere-within}
-use Rattle.tsp_base.proofs.PlaceLemmas.{Within-none, Within-tail, Within-through}
-use Rattle.tsp_base.proofs.Views.{plain_view}
-use Rattle.tsp_promises.proofs.HeardProof.{heard_taken}
-use Rattle.tsp_promises.proofs.KnownProof.{known}
-use Rattle.tsp_promises.proofs.Locating.{fits_in}
-use Rattle.tsp_promises.proofs.OwnFitsProof.{fits_at}
-use Rattle.tsp_promises.proofs.PortFits.{deed_fits}
+use Rattle.tsp_base.proofs.{PlaceLemmas.Within-none, PlaceLemmas.Within-tail, PlaceLemmas.Within-through, Views.plain_view}
+use Rattle.tsp_promises.{proofs.PortFits.deed_fits, specs.Setting.Setting, specs.Setting.setup_of}
 use Rattle.tsp_promises.specs.Looped.{ChainAt, GivesUpAt, HopsAt, IsLoopChain, Looped, LoopPost, SentBy}
-use Rattle.tsp_promises.proofs.HeardPosts.{heard_post}
+use Rattle.tsp_promises.proofs.{HeardPosts.heard_post, HeardProof.heard_taken, KnownProof.known, Locating.fits_in, OwnFitsProof.fits_at}
 
 -- whose name a chain of posts carries, and under which number: those of the first one; all others are by nodes of other names
 abbrev Named : Setting → List ℕ → ℕ → List LoopPost → Type 0

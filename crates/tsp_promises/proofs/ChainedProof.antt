@@ -1,18 +1,11 @@
 -- Clocks along chains of corrected masters agree.
-use Rattle.std.specs.Prelude.{◌≤◌, ◌≤ℤ◌, ℕ, ◌+◌, ◌-◌, ◌*◌, ℤ, pos, ◌+ℤ◌, ◌-ℤ◌, nat_abs, List, [], ◌∷◌}
-use Rattle.std.proofs.Common.{arith, subst, sym, inl, inr}
+use Rattle.std.proofs.Common.{arith, subst, sym, inl, inr, ◌≤◌, ◌≤ℤ◌, ℕ, ◌+◌, ◌-◌, ◌*◌, ℤ, pos, ◌+ℤ◌, ◌-ℤ◌, nat_abs, List, [], ◌∷◌}
 use Rattle.std.proofs.lemmas.Int.{ints}
-use Rattle.tsp_promises.specs.Agreed.{FromRound, Unchanged, UnchangedBut}
-use Rattle.tsp_promises.specs.ClockAt.{clock_at}
+use Rattle.tsp_promises.specs.{Agreed.FromRound, Agreed.Unchanged, Agreed.UnchangedBut, ClockAt.clock_at, Setting.Setting}
 use Rattle.tsp_base.specs.Words.{Line, of, dids, time_of, Within, width}
-use Rattle.tsp_promises.specs.Setting.{Setting}
-use Rattle.tsp_promises.proofs.EverywhereLemmas.{Everywhere-from}
 use Rattle.tsp_base.proofs.PlaceLemmas.{Within-through, Within-tail}
-use Rattle.tsp_promises.proofs.AgreedProof.{agreed_master, agreed_peers}
-use Rattle.tsp_promises.proofs.Given.{Given, given_at}
-use Rattle.tsp_promises.proofs.HistoryPlaces.{Within-of}
-use Rattle.tsp_promises.proofs.OwnFitsProof.{own_fits, fits_at}
-use Rattle.tsp_promises.proofs.SinceProof.{since}
+use Rattle.tsp_promises.proofs.{AgreedProof.agreed_master, AgreedProof.agreed_peers, EverywhereLemmas.Everywhere-from, SinceProof.since}
+use Rattle.tsp_promises.proofs.{Given.Given, Given.given_at, HistoryPlaces.Within-of, OwnFitsProof.own_fits, OwnFitsProof.fits_at}
 use Rattle.tsp_promises.specs.Chained.{Hop, Hops, IsChain, ChainAgrees, ChainsAgree, Chained, ChainedAt, TreeAgrees, bound, hop_bound, last_hop, node_at}
 
 none-off : (a : ℤ) → pos (nat_abs (a -ℤ a)) ≤ℤ pos 0

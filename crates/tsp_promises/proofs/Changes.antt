@@ -1,16 +1,12 @@
 -- What changes of the role, backings and takings make of what is known of a port.
-use Rattle.std.specs.Prelude.{◌≡◌, ◌≢◌, ◌≤◌, ℕ, ◌+◌, ◌==◌, Bool, true, false, if◌then◌else◌, List, [], ◌∷◌, Option, None, Some, refl}
-use Rattle.std.proofs.Common.{sym, ap, inl, inr, ◌∙◌, eq-eqb, true≢false}
+use Rattle.std.proofs.Common.{sym, ap, inl, inr, ◌∙◌, eq-eqb, true≢false, ◌≡◌, ◌≢◌, ◌≤◌, ℕ, ◌+◌, ◌==◌, Bool, true, false, if◌then◌else◌, List, [], ◌∷◌, Option, None, Some, refl}
 use Rattle.tsp_rules.specs.Values.{Took, Post, Become, Back, Quit, Message, Taken, PeerId, Place, Peer, Role, Loose, Follow, Candidate, Master, ELECT_MIN, QUIET}
 use Rattle.tsp_base.specs.Words.{Did, Acts, Seen, Here, Past, plain, MessageValue, boot_tick, Received, Said, role, held, armed, acting, said, taken, grown, heard}
-use Rattle.tsp_promises.specs.DeedFits.{MessageFits}
-use Rattle.tsp_promises.specs.HoldFits.{BackFits, LeadFits, YieldFits}
-use Rattle.tsp_promises.specs.QuitFits.{QuitFits}
+use Rattle.tsp_promises.specs.{DeedFits.MessageFits, HoldFits.BackFits, HoldFits.LeadFits, HoldFits.YieldFits, QuitFits.QuitFits}
 use Rattle.tsp_promises.specs.StepFacts.{acked_by, is_ack, is_answered, is_unbacked, owes, owes_after, unacknowledged}
-use Rattle.tsp_promises.specs.PortFits.{PortFits, setup_in}
 use Rattle.tsp_promises.proofs.Known.{TimesOf, KnowsOf, During, Open}
 use Rattle.tsp_promises.proofs.Leaves.{then_seen, made, none-some, nil-cons}
-use Rattle.tsp_promises.proofs.StrangerFacts.{unanswered}
+use Rattle.tsp_promises.{proofs.StrangerFacts.unanswered, specs.PortFits.PortFits, specs.PortFits.setup_in}
 use Rattle.tsp_rules.proofs.Asides.{now}
 
 -- a change of the role turns all alarms off, and ends all sends

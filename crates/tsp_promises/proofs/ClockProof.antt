@@ -1,13 +1,10 @@
 -- The clock at a place is the target that the node's past gives.
-use Rattle.std.specs.Prelude.{◌≡◌, ◌==◌, Bool, true, false, ℕ, pos, ◌-ℤ◌, List, [], ◌∷◌, refl}
-use Rattle.std.proofs.Common.{sym, ap, arith, subst, eqb-true, true≢false, ◌∙◌}
+use Rattle.std.proofs.Common.{sym, ap, arith, subst, eqb-true, true≢false, ◌∙◌, ◌≡◌, ◌==◌, Bool, true, false, ℕ, pos, ◌-ℤ◌, List, [], ◌∷◌, refl}
 use Rattle.std.proofs.lemmas.Int.{ints}
 use Rattle.tsp_rules.specs.Values.{Boot, Post, Datagram, Place}
 use Rattle.tsp_base.specs.Words.{Deed, Begins, Acts, Did, Line, of, dids, base, boot_after, boot_tick, moved, target, up, up_after, wall, wall_after}
-use Rattle.tsp_promises.specs.ClockAt.{clock, clock_at}
 use Rattle.tsp_promises.specs.Fits.{Fits, LineFits, Alive, node_of}
-use Rattle.tsp_promises.specs.Setting.{Setting}
-use Rattle.tsp_promises.proofs.HistoryPlaces.{of-own}
+use Rattle.tsp_promises.{proofs.HistoryPlaces.of-own, specs.ClockAt.clock, specs.ClockAt.clock_at, specs.Setting.Setting}
 
 base-deed : (setting : Setting) (d : Did) (t : List Did) (deed : Deed) → Alive setting deed d (up t) → (up t ≡ true → base t ≡ setting.wall d.step.node) → up_after deed (up t) ≡ true →
     wall_after deed d.step.cause (wall t) -ℤ pos (boot_after deed d.tick (boot_tick t)) ≡ setting.wall d.step.node

@@ -1,6 +1,5 @@
 -- The law of ticks for the nodes of a setting.
-use Rattle.std.specs.Prelude.{◌≡◌, ℕ, ◌+◌, ◌-◌, ◌*◌, ◌≤◌}
-use Rattle.std.proofs.Common.{arith, subst}
+use Rattle.std.proofs.Common.{arith, subst, ◌≡◌, ℕ, ◌+◌, ◌-◌, ◌*◌, ◌≤◌}
 use Rattle.tsp_promises.specs.Setting.{Setting}
 use Rattle.tsp_base.specs.Words.{tick_at, width}
 use Rattle.tsp_base.proofs.TickLemmas.{Near, tick_at-near, tick_at-width}

@@ -1,28 +1,18 @@
 -- The close of a round keeps what is known of a port.
-use Rattle.std.specs.Prelude.{◌≡◌, ◌≤◌, ℕ, ◌+◌, ℤ, pos, Bool, true, false, List, [], ◌∷◌, map, Option, None, Some, is_some, refl}
-use Rattle.std.proofs.Common.{sym, subst, inl, inr, ap, arith, ◌∙◌}
+use Rattle.std.proofs.Common.{sym, subst, inl, inr, ap, arith, ◌∙◌, ◌≡◌, ◌≤◌, ℕ, ◌+◌, ℤ, pos, Bool, true, false, List, [], ◌∷◌, map, Option, None, Some, is_some, refl}
 use Rattle.tsp_rules.specs.Values.{Ring, Late, Abandon, Close, Correct, CloseAlarm, PeerId, Master, CLOSE, GAP, QUIET, SLACK, SPAN}
 use Rattle.tsp_base.specs.Words.{Did, Acts, Seen, Here, Past, plain, Leads, boot_tick, last_correct, shown, role, armed, is_going, started, grown, nothing, puts, ◌followed_by◌, reading, for_each, Undisturbed, heard}
-use Rattle.tsp_promises.specs.CorrectFits.{ByRound, is_stepped}
-use Rattle.tsp_promises.specs.PortFits.{setup_in}
-use Rattle.tsp_promises.specs.RoundFits.{measured_peers}
+use Rattle.tsp_promises.specs.{CorrectFits.ByRound, CorrectFits.is_stepped, PortFits.setup_in, RoundFits.measured_peers}
 use Rattle.tsp_promises.specs.StepFacts.{closed, closed_after}
 use Rattle.tsp_base.proofs.LeadsLemmas.{Leads_then, Leads_either, Leads_reading, Leads_nothing, Leads_puts, Leads_to}
-use Rattle.tsp_group.specs.Groups.{group_of, mean_of}
-use Rattle.tsp_group.specs.declared.group.Group.{Group}
-use Rattle.tsp_rules.specs.Answers.{alarm_rings, rings}
-use Rattle.tsp_rules.specs.ClockRows.{can_adjust, adjusts, is_step}
+use Rattle.tsp_group.specs.{Groups.group_of, Groups.mean_of, declared.group.Group.Group}
+use Rattle.tsp_rules.specs.{Answers.alarm_rings, Answers.rings, ClockRows.can_adjust, ClockRows.adjusts, ClockRows.is_step}
 use Rattle.tsp_rules.specs.RoundRows.{Standing, standing, round_at, measured_at, estimates, corrects_peer, mean_by, close_act, moves, closes_with, closes, close_rings, abandons}
-use Rattle.tsp_rules.specs.Guards.{is_due, is_in_time}
-use Rattle.tsp_promises.proofs.Known.{Free, Open, Untaken}
 use Rattle.tsp_promises.proofs.Leaves.{some-same, correct, abandon, close_act as close_leaf}
-use Rattle.tsp_rules.proofs.Asides.{now}
+use Rattle.tsp_rules.{proofs.Asides.now, proofs.GuardFacts.due_is, proofs.GuardFacts.met_is, specs.Guards.is_due, specs.Guards.is_in_time}
 use Rattle.tsp_promises.proofs.Rings.{open_of, ring_close, late_close}
-use Rattle.tsp_rules.proofs.GuardFacts.{due_is, met_is}
-use Rattle.tsp_promises.proofs.AlarmLeads.{rings_lead, master_rested}
-use Rattle.tsp_promises.proofs.RoundLeads.{Probed}
-use Rattle.tsp_promises.proofs.PeerCorrections.{CorrectingPeers, peers_lead}
-use Rattle.tsp_promises.proofs.Printed.{adjusts_prints}
+use Rattle.tsp_promises.proofs.{AlarmLeads.rings_lead, AlarmLeads.master_rested, Known.Free, Known.Open, Known.Untaken, RoundLeads.Probed}
+use Rattle.tsp_promises.proofs.{PeerCorrections.CorrectingPeers, PeerCorrections.peers_lead, Printed.adjusts_prints}
 
 -- a round that closes now, with what it has come to
 record Closing (round : List Standing) (x : ℕ) (past : Past) : Type 0 where

@@ -1,10 +1,8 @@
 -- The last Close of a step stands at its place.
-use Rattle.std.specs.Prelude.{◌≡◌, List, [], ◌∷◌}
-use Rattle.std.proofs.Common.{sym, inl, inr}
+use Rattle.std.proofs.Common.{sym, inl, inr, ◌≡◌, List, [], ◌∷◌}
 use Rattle.tsp_rules.specs.Values.{Close}
 use Rattle.tsp_base.specs.Words.{Begins, Acts, Deed, Did, Seen, Here, Elsewhere, Within}
-use Rattle.tsp_promises.specs.StepFacts.{closed, closed_after}
-use Rattle.tsp_promises.proofs.Leaves.{nil-cons}
+use Rattle.tsp_promises.{proofs.Leaves.nil-cons, specs.StepFacts.closed, specs.StepFacts.closed_after}
 
 closed-deed : (d : Did) (before : List Seen) (close : Did) (past : List Seen) (deed : Deed) → (closed before ≡ Here close ∷ past → Within (Here close ∷ past) before) → closed_after deed (Here d ∷ before) (closed before) ≡ Here close ∷ past → Within (Here close ∷ past) (Here d ∷ before)
 closed-deed d before close past Begins h e = nil-cons (Here close) past e

@@ -1,22 +1,16 @@
 -- The rows that several roles share keep what is known of a port.
-use Rattle.std.specs.Prelude.{◌≡◌, ◌≤◌, ℕ, ◌+◌, Bool, true, false, List, [], ◌∷◌, Option, None, Some, refl}
-use Rattle.std.proofs.Common.{sym, subst, ap, arith, ◌∙◌, true≢false}
+use Rattle.std.proofs.Common.{sym, subst, ap, arith, ◌∙◌, true≢false, ◌≡◌, ◌≤◌, ℕ, ◌+◌, Bool, true, false, List, [], ◌∷◌, Option, None, Some, refl}
 use Rattle.tsp_rules.specs.Values.{Post, Become, Arm, Back, Window, Elect, Search, Message, Kind, Conflict, Election, MasterReq, QuitKind, SlaveUp, PeerId, Peer, Role, Follow, Candidate, ELECT_MIN, WINDOW}
 use Rattle.tsp_base.specs.Words.{Did, Seen, Here, Past, plain, Leads, boot_tick, ticket, MessageValue, Received, role, held, armed, stood, backers, grown, puts, ◌followed_by◌, for_each, arms, bare, post_of, posts, posts_to_others}
-use Rattle.tsp_promises.specs.DeedFits.{MessageFits, NumberedFits}
-use Rattle.tsp_promises.specs.HoldFits.{BackFits}
+use Rattle.tsp_promises.specs.{DeedFits.MessageFits, DeedFits.NumberedFits, HoldFits.BackFits, PortFits.setup_in}
 use Rattle.tsp_base.proofs.LeadsLemmas.{Leads_then, Leads_reading, Leads_puts, Leads_each, Leads_from, Leads_to}
 use Rattle.tsp_rules.specs.CommonRows.{arms_elect, searches, tells_ticket, follow_row, backs_own, own_at, candidature_row}
 use Rattle.tsp_rules.specs.SendRows.{next_number, begins, others_at, begins_to_others, is_kind_election}
 use Rattle.tsp_rules.specs.Guards.{delay_at, ticket_at}
-use Rattle.tsp_promises.proofs.Known.{During, Free}
-use Rattle.tsp_promises.specs.PortFits.{setup_in}
-use Rattle.tsp_promises.proofs.Leaves.{arm_search, arm_elect, arm_window}
-use Rattle.tsp_rules.proofs.Asides.{now}
-use Rattle.tsp_promises.proofs.PostLeaves.{post_message, post_election}
+use Rattle.tsp_promises.proofs.{Known.During, Known.Free, LeadsLeaves.Leads_arms, LeadsLeaves.Leads_posts, LeadsLeaves.Leads_others}
+use Rattle.tsp_promises.proofs.{Leaves.arm_search, Leaves.arm_elect, Leaves.arm_window, PostLeaves.post_message, PostLeaves.post_election}
+use Rattle.tsp_rules.proofs.{Asides.now, GuardFacts.MayStand, GuardFacts.back_is}
 use Rattle.tsp_promises.proofs.Changes.{Quitting, FreeIn, become_follow, become_candidate, back_own}
-use Rattle.tsp_promises.proofs.LeadsLeaves.{Leads_arms, Leads_posts, Leads_others}
-use Rattle.tsp_rules.proofs.GuardFacts.{MayStand, back_is}
 
 module _ {P : ℕ → Past → Type 0} where
   pub arms_elect_keeps : ((x : ℕ) (past : Past) (at : ℕ) → P x past → P x (grown x past (Arm Elect at ∷ []))) → Leads P arms_elect P

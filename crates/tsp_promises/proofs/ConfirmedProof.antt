@@ -1,28 +1,17 @@
 -- An acknowledged correction was taken.
-use Rattle.std.specs.Prelude.{◌≡◌, Bool, true, ℕ, ◌+◌, ◌<◌, ◌≤◌, ℤ, List, [], ◌∷◌, Some, is_some, refl}
-use Rattle.std.proofs.Common.{sym, ap, arith, subst, subst₂, inl, inr, ◌∙◌}
+use Rattle.std.proofs.Common.{sym, ap, arith, subst, subst₂, inl, inr, ◌∙◌, ◌≡◌, Bool, true, ℕ, ◌+◌, ◌<◌, ◌≤◌, ℤ, List, [], ◌∷◌, Some, is_some, refl}
 use Rattle.tsp_rules.specs.Values.{Post, Correct, Acked, Message, Good, Kind, Ack, AdjTime, Conflict, Date, Msite, MsiteReq, QuitKind, SetDate, SetTime, Test, TraceOff, TraceOn, PeerId, Peer, Port, LIFE}
 use Rattle.tsp_base.specs.Words.{Came, Acts, Did, Line, Seen, Here, of, dids, view, MessageValue, all_corrects, corrects, lives, ticket, word, Within, acting, begun_to, is_correction, last_taken, open_to, Setup, Receives, heard, peer_of, posted}
-use Rattle.tsp_promises.specs.AckFits.{Acknowledges, AckFits, Answers}
-use Rattle.tsp_promises.specs.DeedFits.{MessageFits}
-use Rattle.tsp_promises.specs.Fits.{Fits, node_of}
+use Rattle.tsp_promises.specs.{AckFits.Acknowledges, AckFits.AckFits, AckFits.Answers, DeedFits.MessageFits, Fits.Fits, Fits.node_of}
 use Rattle.tsp_promises.specs.Once.{Acted, Brings, ConfirmedAt, OnceConfirmed}
-use Rattle.tsp_promises.specs.Setting.{Setting, setup_of}
+use Rattle.tsp_promises.specs.{Setting.Setting, Setting.setup_of, Since.OneLife}
 use Rattle.tsp_base.proofs.PlaceLemmas.{Within-all, Within-through, Within-tail, Within-comparable}
 use Rattle.tsp_base.proofs.Views.{plain_view}
-use Rattle.tsp_promises.specs.Since.{OneLife}
-use Rattle.tsp_promises.proofs.Given.{Given, given_at}
-use Rattle.tsp_promises.proofs.Correcting.{takes_of}
-use Rattle.tsp_promises.proofs.HeardProof.{heard_taken}
-use Rattle.tsp_promises.proofs.HistoryPlaces.{lift, own_in, Within-of}
-use Rattle.tsp_promises.proofs.KnownProof.{known}
-use Rattle.tsp_promises.proofs.LastTakenProof.{last_taken_at}
-use Rattle.tsp_promises.proofs.Locating.{line_on, locate}
+use Rattle.tsp_promises.proofs.{Correcting.takes_of, Given.Given, Given.given_at, HeardProof.heard_taken, KnownProof.known}
+use Rattle.tsp_promises.proofs.{HistoryPlaces.lift, HistoryPlaces.own_in, HistoryPlaces.Within-of, LastTakenProof.last_taken_at}
+use Rattle.tsp_promises.proofs.{Locating.line_on, Locating.locate, PortFits.deed_fits, SameSendProof.same_send, SinceProof.since}
 use Rattle.tsp_promises.proofs.OwnFitsProof.{own_fits, own_fits_at, fits_at, place-time}
-use Rattle.tsp_promises.proofs.PortFits.{deed_fits}
-use Rattle.tsp_promises.proofs.SameSendProof.{same_send}
 use Rattle.tsp_promises.proofs.SendProof.{CorrectsTo, numbered, opened, number-same}
-use Rattle.tsp_promises.proofs.SinceProof.{since}
 use Rattle.tsp_promises.proofs.SourceProof.{Source, source}
 
 -- the last Correct doesn't stand before the source of a number that it took

@@ -1,23 +1,15 @@
 -- When a correction may begin, and what a repeat owes.
-use Rattle.std.specs.Prelude.{◌≡◌, ◌⊎◌, ◌≤◌, ◌<◌, ℕ, ◌+◌, ◌%◌, ◌==◌, ◌&&◌, ◌||◌, nat_lt, nat_le, cond, Bool, true, false, if◌then◌else◌, List, [], ◌∷◌, Option, None, Some, refl}
-use Rattle.std.proofs.Common.{sym, subst, inl, inr, ap, arith, true≢false, eqb-true, leb-false, ltb-false, ◌∙◌}
+use Rattle.std.proofs.Common.{sym, subst, inl, inr, ap, arith, true≢false, eqb-true, leb-false, ltb-false, ◌∙◌, ◌≡◌, ◌⊎◌, ◌≤◌, ◌<◌, ℕ, ◌+◌, ◌%◌, ◌==◌, ◌&&◌, ◌||◌, nat_lt, nat_le, cond, Bool, true, false, if◌then◌else◌, List, [], ◌∷◌, Option, None, Some, refl}
 use Rattle.std.proofs.lemmas.Bool.{and_parts, or_cases}
 use Rattle.tsp_rules.specs.Values.{Boot, Post, Become, Acked, Gave, Leave, Message, Kind, AdjTime, Conflict, Election, QuitKind, SetDateReq, SetTime, PeerId, Peer, LAST, REUSE, TRIES}
 use Rattle.tsp_base.specs.Words.{is_past, Deed, Acts, Did, Seen, Here, Elsewhere, Past, Leads, MessageValue, role, acting, nothing, puts, ◌followed_by◌, either_by, for_each, is_correction, is_numbered, Sending, open_send, open_to, open_to_after, posts_of, sending_at, message_at, message_of, corrects_by, last_to, last_to_after, last_number, number_of, last_post, is_acknowledged, is_acknowledged_after, Setup}
-use Rattle.tsp_promises.specs.CorrectionFits.{RepeatFits, Rests, Follows}
-use Rattle.tsp_promises.specs.DeedFits.{MessageFits}
-use Rattle.tsp_promises.specs.StepFacts.{is_unbacked}
+use Rattle.tsp_promises.specs.{CorrectionFits.RepeatFits, CorrectionFits.Rests, CorrectionFits.Follows, DeedFits.MessageFits}
 use Rattle.tsp_base.proofs.LeadsLemmas.{Leads_then, Leads_either, Leads_reading, Leads_nothing, Leads_puts, Leads_each, Leads_from}
 use Rattle.tsp_rules.specs.SendRows.{may_correct, open_at, leaves_after, gives_up, repeats, repeats_send, due_send, peers_at, due_sends, is_send_due, is_spent}
-use Rattle.tsp_rules.specs.Guards.{is_slave_at}
-use Rattle.tsp_promises.specs.PortFits.{PortFits, setup_in}
-use Rattle.tsp_promises.proofs.Known.{During, Fresh, Untaken}
-use Rattle.tsp_promises.proofs.Leaves.{none-some, gave, leave}
-use Rattle.tsp_rules.proofs.Asides.{now}
-use Rattle.tsp_promises.proofs.PostLeaves.{post_again}
-use Rattle.tsp_promises.proofs.Rings.{wake, forget}
-use Rattle.tsp_promises.proofs.SendFits.{OpenIs, open_is}
-use Rattle.tsp_rules.proofs.GuardFacts.{past_is, same_peer}
+use Rattle.tsp_promises.specs.{PortFits.PortFits, PortFits.setup_in, StepFacts.is_unbacked}
+use Rattle.tsp_promises.proofs.{Known.During, Known.Fresh, Known.Untaken, Leaves.none-some, Leaves.gave, Leaves.leave}
+use Rattle.tsp_rules.{proofs.Asides.now, proofs.GuardFacts.past_is, proofs.GuardFacts.same_peer, specs.Guards.is_slave_at}
+use Rattle.tsp_promises.proofs.{PostLeaves.post_again, Rings.wake, Rings.forget, SendFits.OpenIs, SendFits.open_is}
 
 -- the place where the last correction to p begins
 pub record LastIs (p : PeerId) (seen : List Seen) : Type 0 where

@@ -1,25 +1,17 @@
 -- What the acts of small histories owe, where it is found by computing: each premise computes, and `search debts` proves it.
-use Rattle.std.specs.Prelude.{◌≡◌, ◌≢◌, ◌≤◌, ◌<◌, ◌⊎◌, ◌-ℤ◌, Bool, true, false, ℕ, ◌+◌, ◌%◌, ℤ, pos, List, [], ◌∷◌, Option, Some, None}
-use Rattle.std.proofs.Common.{sym, ap, subst, true≢false, ◌∙◌}
+use Rattle.std.proofs.Common.{sym, ap, subst, true≢false, ◌∙◌, ◌≡◌, ◌≢◌, ◌≤◌, ◌<◌, ◌⊎◌, ◌-ℤ◌, Bool, true, false, ℕ, ◌+◌, ◌%◌, ℤ, pos, List, [], ◌∷◌, Option, Some, None}
 pub use Rattle.std.proofs.Common.{arith, inl, inr}
 pub use Rattle.std.proofs.lemmas.Int.{ints}
 use Rattle.tsp_rules.specs.Values.{Took, Post, Ring, Close, CloseAlarm, Correct, Datagram, Taken, Message, Stamp, Good, Kind, Ack, AdjTime, Election, QuitKind, HOLD, SetTime, SlaveUp, Nothing, PeerId, Place, Peer, Follow, Master, Role, Request, Reply, CLOSE, QUIET, ROUND, SLACK}
 use Rattle.tsp_base.specs.Words.{Acts, Booted, Cause, Deed, Did, Line, Seen, Here, plain, MessageValue, Turned, boot_tick, target, ticket, word, Received, acting, did_of, message_in, message_of, role, taken, Sampled, best, exchange, is_going, started, sample_diff, sample_err, is_acknowledged, is_correction, last_post, last_to, open_to, peer_of, ReplyValue, Setup, TakesFrom, Receives, Undisturbed, Within, time_in}
 use Rattle.tsp_promises.specs.AckFits.{AckFits, AckedFits, Acknowledges, Answers, EndsFits}
-use Rattle.tsp_promises.specs.CorrectFits.{WhyCorrect, ByMaster, amount_of}
+use Rattle.tsp_promises.specs.{CorrectFits.WhyCorrect, CorrectFits.ByMaster, CorrectFits.amount_of, Fits.Posted, Fits.node_of}
 pub use Rattle.tsp_promises.specs.CorrectFits.{ByRound}
-use Rattle.tsp_promises.specs.CorrectionFits.{CorrectionFits, FollowedBy, SetsTarget}
-use Rattle.tsp_promises.specs.DeedFits.{AskedEarly, is_answered_early}
-use Rattle.tsp_promises.specs.HoldFits.{AcceptFits}
-use Rattle.tsp_promises.specs.QuitFits.{QuitFits}
-use Rattle.tsp_promises.specs.Fits.{Posted, node_of}
-use Rattle.tsp_promises.specs.MeasureFits.{SampleFits}
-use Rattle.tsp_promises.specs.RoundFits.{CloseFits, StartFits}
-use Rattle.tsp_promises.specs.StepFacts.{backed, closed}
-use Rattle.tsp_promises.proofs.Histories.{begins, post_at, still}
-use Rattle.tsp_promises.proofs.HistoriesFit.{came}
+use Rattle.tsp_promises.specs.{CorrectionFits.CorrectionFits, CorrectionFits.FollowedBy, CorrectionFits.SetsTarget, HoldFits.AcceptFits}
+use Rattle.tsp_promises.specs.{DeedFits.AskedEarly, DeedFits.is_answered_early, MeasureFits.SampleFits, QuitFits.QuitFits}
+use Rattle.tsp_promises.specs.{RoundFits.CloseFits, RoundFits.StartFits, StepFacts.backed, StepFacts.closed}
+use Rattle.tsp_promises.proofs.{Histories.begins, Histories.post_at, Histories.still, HistoriesFit.came, Leaves.nil-cons}
 use Rattle.tsp_promises.proofs.SendProof.{one-message}
-use Rattle.tsp_promises.proofs.Leaves.{nil-cons}
 
 pub none-some : {A B : Type 0} (x : A) → None ≡ Some x → B
 none-some x e = let bad : ⊥ = cc in absurd bad

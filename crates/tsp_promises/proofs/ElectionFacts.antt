@@ -1,18 +1,12 @@
 -- What a port has seen of its candidatures: when they began, who backed them, and which sends asked for votes.
-use Rattle.std.specs.Prelude.{◌≡◌, ◌⊎◌, ◌≤◌, ℕ, ◌+◌, ◌==◌, ◌&&◌, ◌||◌, cond, Bool, true, false, List, [], ◌∷◌, Option, None, Some, refl}
-use Rattle.std.proofs.Common.{sym, ap, arith, subst, subst₂, inl, inr, eqb-true, true≢false, ◌∙◌}
+use Rattle.std.proofs.Common.{sym, ap, arith, subst, subst₂, inl, inr, eqb-true, true≢false, ◌∙◌, ◌≡◌, ◌⊎◌, ◌≤◌, ℕ, ◌+◌, ◌==◌, ◌&&◌, ◌||◌, cond, Bool, true, false, List, [], ◌∷◌, Option, None, Some, refl}
 use Rattle.std.proofs.lemmas.Bool.{or_parts}
 use Rattle.tsp_rules.specs.Values.{Boot, Post, Become, Back, Backer, Acked, Gave, Message, Election, PeerId, Peer, Port}
 use Rattle.tsp_base.specs.Words.{Deed, Begins, Acts, Did, Line, Seen, Here, Elsewhere, of, dids, view, seen_as, did_of, is_shared, MessageValue, lives, lives_after, Within, held, held_after, acting, stood, stood_after, backers, backers_after, has_own_number, is_numbered, open_to, open_to_after, begun, begun_after, peer_of, Setup}
-use Rattle.tsp_promises.specs.Fits.{node_of}
-use Rattle.tsp_promises.specs.Setting.{Setting, setup_of}
-use Rattle.tsp_base.proofs.PlaceLemmas.{Within-comparable}
-use Rattle.tsp_base.proofs.ViewPlaces.{port-same}
-use Rattle.tsp_promises.specs.HoldFits.{BackerFits}
+use Rattle.tsp_promises.specs.{Fits.node_of, HoldFits.BackerFits, Setting.Setting, Setting.setup_of}
+use Rattle.tsp_base.proofs.{PlaceLemmas.Within-comparable, ViewPlaces.port-same}
 use Rattle.tsp_promises.proofs.Elections.{In, in_among, not_among, ElectFits, Elects}
-use Rattle.tsp_promises.proofs.Pigeons.{Distinct, AllIn}
-use Rattle.tsp_promises.proofs.SendProof.{if-nil}
-use Rattle.tsp_promises.proofs.Leaves.{nil-cons}
+use Rattle.tsp_promises.proofs.{Leaves.nil-cons, Pigeons.Distinct, Pigeons.AllIn, SendProof.if-nil}
 
 abbrev pub boots_after : Deed → ℕ → ℕ
 boots_after (Acts Boot) n = n + 1

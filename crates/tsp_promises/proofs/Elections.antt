@@ -1,16 +1,11 @@
 -- What elections add to what a deed owes, taken out of that.
-use Rattle.std.specs.Prelude.{◌≡◌, ◌⊎◌, ℕ, ◌+◌, ◌%◌, ◌==◌, true, false, List, [], ◌∷◌, refl}
-use Rattle.std.proofs.Common.{sym, inl, inr, true≢false, eq-eqb, ◌∙◌}
+use Rattle.std.proofs.Common.{sym, inl, inr, true≢false, eq-eqb, ◌∙◌, ◌≡◌, ◌⊎◌, ℕ, ◌+◌, ◌%◌, ◌==◌, true, false, List, [], ◌∷◌, refl}
 use Rattle.tsp_rules.specs.Values.{Post, Become, Backer, Message, Kind, Accept, Election, PeerId, Peer, Master}
 use Rattle.tsp_base.specs.Words.{Deed, Acts, Did, Line, Seen, of, view, plain, MessageValue, word, is_among, acting, begun, Setup}
-use Rattle.tsp_promises.specs.DeedFits.{DeedFits, MessageFits}
-use Rattle.tsp_promises.specs.Everywhere.{Everywhere}
-use Rattle.tsp_promises.specs.Fits.{Fits, node_of}
-use Rattle.tsp_promises.specs.HoldFits.{AcceptFits, BackerFits, LeadFits}
-use Rattle.tsp_promises.specs.Setting.{Setting, setup_of}
+use Rattle.tsp_promises.specs.{DeedFits.DeedFits, DeedFits.MessageFits, Everywhere.Everywhere, Fits.Fits, Fits.node_of}
+use Rattle.tsp_promises.specs.{HoldFits.AcceptFits, HoldFits.BackerFits, HoldFits.LeadFits, Setting.Setting, Setting.setup_of}
 use Rattle.tsp_promises.proofs.PortFits.{deed_fits}
-use Rattle.std.proofs.Math.Bool.{or-true}
-use Rattle.std.proofs.lemmas.Bool.{or_cases}
+use Rattle.std.proofs.{Math.Bool.or-true, lemmas.Bool.or_cases}
 use Rattle.tsp_rules.proofs.GuardFacts.{same_peer}
 
 -- p is one of these

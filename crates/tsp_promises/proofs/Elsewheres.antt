@@ -1,16 +1,12 @@
 -- What is known of a port while another port of its node acts.
-use Rattle.std.specs.Prelude.{◌≡◌, ℕ, Bool, true, false, List, [], ◌∷◌, Option, None, refl}
-use Rattle.std.proofs.Common.{sym, subst, arith, true≢false}
+use Rattle.std.proofs.Common.{sym, subst, arith, true≢false, ◌≡◌, ℕ, Bool, true, false, List, [], ◌∷◌, Option, None, refl}
 use Rattle.std.proofs.lemmas.Bool.{or_parts, and_parts}
 use Rattle.tsp_rules.specs.Values.{Act, Boot, Took, Post, Abandon, Correct, Stranger}
 use Rattle.tsp_base.specs.Words.{Past, Received, armed, grown}
-use Rattle.tsp_rules.proofs.NodeRowLemmas.{Bootless}
 use Rattle.tsp_rules.specs.RoundRows.{is_correct, corrects}
-use Rattle.tsp_rules.proofs.Asides.{all_aside, aside}
+use Rattle.tsp_rules.proofs.{Asides.all_aside, Asides.aside, FewActs.is_calm_act, FewActs.is_calm, NodeRowLemmas.Bootless}
 use Rattle.tsp_promises.proofs.Known.{KnowsOf, FreshIn, OpenIn, RestsIn}
-use Rattle.tsp_promises.proofs.Leaves.{stir, abandon}
-use Rattle.tsp_rules.proofs.FewActs.{is_calm_act, is_calm}
-use Rattle.tsp_promises.proofs.Stirring.{calmed, abandoned}
+use Rattle.tsp_promises.proofs.{Leaves.stir, Leaves.abandon, Stirring.calmed, Stirring.abandoned}
 
 -- whether an act elsewhere leaves all alone that is known of a port: it is no boot, and no correction
 abbrev pub is_apart : Act → Bool

@@ -1,27 +1,15 @@
 -- The error of a reading is at most half of its round.
-use Rattle.std.specs.Prelude.{◌≡◌, ◌≤◌, ◌≤ℤ◌, ℕ, ◌+◌, ◌-◌, ◌/◌, ℤ, pos, ◌+ℤ◌, ◌-ℤ◌, List, ◌∷◌, refl}
-use Rattle.std.proofs.Common.{sym, ap, arith, subst, subst₂, inl, inr, ◌∙◌}
+use Rattle.std.proofs.Common.{sym, ap, arith, subst, subst₂, inl, inr, ◌∙◌, ◌≡◌, ◌≤◌, ◌≤ℤ◌, ℕ, ◌+◌, ◌-◌, ◌/◌, ℤ, pos, ◌+ℤ◌, ◌-ℤ◌, List, ◌∷◌, refl}
 use Rattle.std.proofs.lemmas.Int.{ints}
 use Rattle.tsp_rules.specs.Values.{Port}
 use Rattle.tsp_base.specs.Words.{Did, Line, Here, of, dids, plain, view, all_corrects, boot_tick, moved, target, tick_of, wall, Within, half_up, peer_of}
-use Rattle.tsp_promises.specs.ErrsBounded.{ErrAt, ErrsBounded}
-use Rattle.tsp_promises.specs.Fits.{Fits, node_of}
-use Rattle.tsp_promises.specs.MeasureFits.{SampleFits}
-use Rattle.tsp_promises.specs.Setting.{Setting}
-use Rattle.tsp_base.proofs.PlaceLemmas.{Within-tail}
-use Rattle.tsp_base.proofs.Views.{plain_view}
-use Rattle.tsp_promises.specs.Since.{OneLife}
-use Rattle.tsp_promises.proofs.BestProof.{best_at}
-use Rattle.tsp_promises.proofs.FromRoundProof.{cast_kind, taking_of}
-use Rattle.tsp_promises.proofs.EverywhereLemmas.{Everywhere-from}
-use Rattle.tsp_promises.proofs.HistoryPlaces.{of-own, Within-of}
-use Rattle.tsp_promises.proofs.Locating.{fits_in, line_on, locate}
-use Rattle.tsp_promises.proofs.MeasuredProof.{first-now, half-up-pos, sample_fits}
-use Rattle.tsp_promises.proofs.OwnFitsProof.{fits_at, own_fits}
-use Rattle.tsp_promises.proofs.PortFits.{own_tick}
-use Rattle.tsp_promises.proofs.RoundPlaces.{exchange_at, same-start, started_at}
-use Rattle.tsp_promises.proofs.SinceProof.{since}
-use Rattle.tsp_promises.proofs.TakingProof.{begun_facts, used-by}
+use Rattle.tsp_promises.specs.{ErrsBounded.ErrAt, ErrsBounded.ErrsBounded, Fits.Fits, Fits.node_of, MeasureFits.SampleFits, Setting.Setting}
+use Rattle.tsp_base.proofs.{PlaceLemmas.Within-tail, Views.plain_view}
+use Rattle.tsp_promises.proofs.{BestProof.best_at, EverywhereLemmas.Everywhere-from, FromRoundProof.cast_kind, FromRoundProof.taking_of}
+use Rattle.tsp_promises.proofs.{HistoryPlaces.of-own, HistoryPlaces.Within-of, Locating.fits_in, Locating.line_on, Locating.locate}
+use Rattle.tsp_promises.proofs.{MeasuredProof.first-now, MeasuredProof.half-up-pos, MeasuredProof.sample_fits, PortFits.own_tick}
+use Rattle.tsp_promises.proofs.{OwnFitsProof.fits_at, OwnFitsProof.own_fits, SinceProof.since, TakingProof.begun_facts, TakingProof.used-by}
+use Rattle.tsp_promises.{proofs.RoundPlaces.exchange_at, proofs.RoundPlaces.same-start, proofs.RoundPlaces.started_at, specs.Since.OneLife}
 
 -- a sample's error is half the ticks from its request, which stands in the round, to itself
 record Trip (err : ℤ) (start last : ℕ) : Type 0 where

@@ -1,28 +1,16 @@
 -- What the estimates of a round tell of the clocks.
-use Rattle.std.specs.Prelude.{◌≡◌, ◌≤◌, ◌≤ℤ◌, ◌⊎◌, ℕ, ◌+◌, ◌-◌, ◌*◌, ℤ, pos, ◌+ℤ◌, ◌-ℤ◌, nat_abs, List, ◌∷◌, refl}
-use Rattle.std.proofs.Common.{sym, ap, arith, subst, subst₂, inl, inr, ◌∙◌}
+use Rattle.std.proofs.Common.{sym, ap, arith, subst, subst₂, inl, inr, ◌∙◌, ◌≡◌, ◌≤◌, ◌≤ℤ◌, ◌⊎◌, ℕ, ◌+◌, ◌-◌, ◌*◌, ℤ, pos, ◌+ℤ◌, ◌-ℤ◌, nat_abs, List, ◌∷◌, refl}
 use Rattle.std.proofs.lemmas.Int.{ints}
 use Rattle.tsp_rules.specs.Values.{Close, AdjTime, PeerId}
 use Rattle.tsp_base.specs.Words.{Acts, Did, Here, Line, Seen, dids, of, view, MessageValue, lives, moved, time_of, Within, Sampled, Undisturbed, tick_at, width}
-use Rattle.tsp_promises.specs.Agreed.{Unchanged}
-use Rattle.tsp_promises.specs.ClockAt.{clock_at}
+use Rattle.tsp_promises.specs.{Agreed.Unchanged, ClockAt.clock_at, Fits.Fits, Fits.node_of, RoundFits.CloseFits, Setting.Setting}
 use Rattle.tsp_promises.specs.CorrectionFits.{AnswersSlaveUp, AtClose, FollowedBy, FromClose}
 use Rattle.tsp_promises.specs.Estimates.{CloseBegins, EndedNear, Estimate, EstimatesHold, EstimatesNear, MasterNear, Moves, NearMean}
-use Rattle.tsp_promises.specs.Fits.{Fits, node_of}
-use Rattle.tsp_promises.specs.RoundFits.{CloseFits}
-use Rattle.tsp_promises.specs.Setting.{Setting}
-use Rattle.tsp_promises.specs.StepFacts.{closed}
 use Rattle.tsp_base.proofs.PlaceLemmas.{Within-through, Within-tail}
-use Rattle.tsp_promises.proofs.FromRoundProof.{corrects-adj}
-use Rattle.tsp_promises.proofs.Clocks.{drift_apart}
-use Rattle.tsp_promises.proofs.EverywhereLemmas.{Everywhere-from}
-use Rattle.tsp_promises.proofs.Given.{Given, given_at}
-use Rattle.tsp_promises.proofs.HistoryPlaces.{of-own}
+use Rattle.tsp_promises.proofs.{Clocks.drift_apart, EverywhereLemmas.Everywhere-from, FromRoundProof.corrects-adj, HistoryPlaces.of-own}
+use Rattle.tsp_promises.proofs.{Given.Given, Given.given_at, OwnFitsProof.fits_at, OwnFitsProof.place-time, PortFits.deed_fits}
 use Rattle.tsp_promises.proofs.MasterMoved.{master_moved, moved-right-after, same-mean, unmoved}
-use Rattle.tsp_promises.proofs.OwnFitsProof.{fits_at, place-time}
-use Rattle.tsp_promises.proofs.PortFits.{deed_fits}
-use Rattle.tsp_promises.proofs.ReadingProof.{ReadAt, read_at}
-use Rattle.tsp_promises.proofs.SendPlaces.{post_fits}
+use Rattle.tsp_promises.{proofs.ReadingProof.ReadAt, proofs.ReadingProof.read_at, proofs.SendPlaces.post_fits, specs.StepFacts.closed}
 
 -- what the Close owes that begins an ADJTIME
 pub at-close : (here : Did) (seen : List Seen) (p : PeerId) (m : MessageValue) (close : Did) (past : List Seen) → m.kind ≡ AdjTime → closed seen ≡ Here close ∷ past → AnswersSlaveUp seen p m ⊎ AtClose here seen p m →

@@ -1,9 +1,7 @@
 -- How a property of every place is used and proved.
-use Rattle.std.specs.Prelude.{◌≡◌, List, [], ◌∷◌, refl}
-use Rattle.std.proofs.Common.{sym, subst, subst₂, inl, inr}
-use Rattle.tsp_base.specs.Words.{Within}
+use Rattle.std.proofs.Common.{sym, subst, subst₂, inl, inr, ◌≡◌, List, [], ◌∷◌, refl}
 use Rattle.tsp_promises.specs.Everywhere.{Everywhere}
-use Rattle.tsp_base.proofs.PlaceLemmas.{Within-none}
+use Rattle.tsp_base.{proofs.PlaceLemmas.Within-none, specs.Words.Within}
 
 -- at a place
 pub Everywhere-at : {A : Type 0} (P : A → List A → Type 0) (l : A) (s h : List A) → Everywhere P h → Within (l ∷ s) h → P l s

@@ -1,25 +1,15 @@
 -- How far a clock is behind its master's after a SETTIME.
-use Rattle.std.specs.Prelude.{◌≡◌, ◌≤◌, ◌≤ℤ◌, ℕ, ◌+◌, ◌-◌, ◌*◌, ℤ, pos, ◌+ℤ◌, ◌-ℤ◌, true, List, ◌∷◌, refl}
-use Rattle.std.proofs.Common.{sym, ap, arith, subst, subst₂, mul-le-mul_left, ◌∙◌}
+use Rattle.std.proofs.Common.{sym, ap, arith, subst, subst₂, mul-le-mul_left, ◌∙◌, ◌≡◌, ◌≤◌, ◌≤ℤ◌, ℕ, ◌+◌, ◌-◌, ◌*◌, ℤ, pos, ◌+ℤ◌, ◌-ℤ◌, true, List, ◌∷◌, refl}
 use Rattle.std.proofs.lemmas.Int.{ints}
 use Rattle.tsp_rules.specs.Values.{Message, Peer, LAST, LIFE}
 use Rattle.tsp_base.specs.Words.{Did, Line, of, dids, plain, view, moved, target, up, Within, Undisturbed, peer_of, time_in, tick_at, width}
-use Rattle.tsp_promises.specs.CorrectFits.{amount_of}
+use Rattle.tsp_promises.specs.{CorrectFits.amount_of, Fits.Alive, Fits.Fits, Fits.node_of, Premises.Life, Premises.TakenWithinAt}
 use Rattle.tsp_promises.specs.FirstSet.{BehindAtOnce, BehindBy, FirstSet, FirstSetAt, FirstSetSoon, SetBy, behind}
-use Rattle.tsp_promises.specs.Fits.{Alive, Fits, node_of}
-use Rattle.tsp_promises.specs.Premises.{Life, TakenWithinAt}
-use Rattle.tsp_promises.specs.Setting.{Setting}
-use Rattle.tsp_base.proofs.PlaceLemmas.{Within-through, Within-tail}
-use Rattle.tsp_base.proofs.Views.{plain_view}
-use Rattle.tsp_promises.proofs.Clocks.{tick-mono, ticks_over}
-use Rattle.tsp_promises.proofs.ClockProof.{post_up}
-use Rattle.tsp_promises.proofs.EverywhereLemmas.{Everywhere-from, Everywhere-within}
-use Rattle.tsp_promises.proofs.HistoryPlaces.{of-own}
-use Rattle.tsp_promises.proofs.Locating.{fits_in, line_on, tick_in}
-use Rattle.tsp_promises.proofs.MasterMoved.{correct-moves, unmoved}
-use Rattle.tsp_promises.proofs.OwnFitsProof.{fits_at, place-time}
-use Rattle.tsp_promises.proofs.ShownProof.{clock_target, stays_up}
-use Rattle.tsp_promises.proofs.TakingProof.{begun_facts}
+use Rattle.tsp_base.proofs.{PlaceLemmas.Within-through, PlaceLemmas.Within-tail, Views.plain_view}
+use Rattle.tsp_promises.proofs.{ClockProof.post_up, Clocks.tick-mono, Clocks.ticks_over, HistoryPlaces.of-own, TakingProof.begun_facts}
+use Rattle.tsp_promises.{proofs.EverywhereLemmas.Everywhere-from, proofs.EverywhereLemmas.Everywhere-within, specs.Setting.Setting}
+use Rattle.tsp_promises.proofs.{Locating.fits_in, Locating.line_on, Locating.tick_in, MasterMoved.correct-moves, MasterMoved.unmoved}
+use Rattle.tsp_promises.proofs.{OwnFitsProof.fits_at, OwnFitsProof.place-time, ShownProof.clock_target, ShownProof.stays_up}
 
 -- what the clock is behind by, in ticks of both nodes
 core : (wm mh time wk mp mk amount : ℤ) (tf tm tc tk : ℕ) → time ≡ (wm +ℤ mh) +ℤ pos tf → amount ≡ time -ℤ ((wk +ℤ mp) +ℤ pos tc) → mk ≡ mp +ℤ amount →

@@ -1,25 +1,15 @@
 -- A later correction to a peer comes long after an earlier one, or the peer's clock was corrected for each number between.
-use Rattle.std.specs.Prelude.{◌≡◌, true, ℕ, ◌+◌, ◌%◌, ◌<◌, ◌≤◌, ◌⊎◌, List, ◌∷◌, refl}
-use Rattle.std.proofs.Common.{sym, ap, arith, subst, subst₂, inl, inr, ◌∙◌}
+use Rattle.std.proofs.Common.{sym, ap, arith, subst, subst₂, inl, inr, ◌∙◌, ◌≡◌, true, ℕ, ◌+◌, ◌%◌, ◌<◌, ◌≤◌, ◌⊎◌, List, ◌∷◌, refl}
 use Rattle.tsp_rules.specs.Values.{Post, Message, Peer, Port, QUIET, REUSE}
 use Rattle.tsp_base.specs.Words.{Acts, Did, Line, Seen, Here, of, dids, view, is_shared, MessageValue, all_corrects, boot_tick, Within, begun_to, is_correction, peer_of}
-use Rattle.tsp_promises.specs.CorrectionFits.{Rests}
-use Rattle.tsp_promises.specs.Fits.{Fits, node_of}
-use Rattle.tsp_promises.specs.Once.{ActsOn, OfSend}
-use Rattle.tsp_promises.specs.Setting.{Setting}
+use Rattle.tsp_promises.specs.{CorrectionFits.Rests, Fits.Fits, Fits.node_of, Once.ActsOn, Once.OfSend, OwnFits.OwnFits, Setting.Setting}
 use Rattle.tsp_base.proofs.PlaceLemmas.{Within-all, Within-through, Within-tail, Within-strict, Within-comparable}
 use Rattle.tsp_base.proofs.ViewPlaces.{sees-own}
-use Rattle.tsp_promises.specs.OwnFits.{OwnFits}
-use Rattle.tsp_promises.proofs.HistoryPlaces.{of-own, own_in, Within-of}
-use Rattle.tsp_promises.proofs.LastPostProof.{last_post_late}
-use Rattle.tsp_promises.proofs.LateProof.{begun_late}
-use Rattle.tsp_promises.proofs.Locating.{line_on, seen_in, fits_in}
-use Rattle.tsp_promises.proofs.OnceTakenProof.{numbered-by}
-use Rattle.tsp_promises.proofs.OwnFitsProof.{own_fits, fits_at}
-use Rattle.tsp_promises.proofs.SeenPlaces.{seen_same}
+use Rattle.tsp_promises.proofs.{HistoryPlaces.of-own, HistoryPlaces.own_in, HistoryPlaces.Within-of, LastPostProof.last_post_late}
+use Rattle.tsp_promises.proofs.{LateProof.begun_late, Locating.line_on, Locating.seen_in, Locating.fits_in, OnceTakenProof.numbered-by}
+use Rattle.tsp_promises.proofs.{OwnFitsProof.own_fits, OwnFitsProof.fits_at, SeenPlaces.seen_same, SinceProof.since}
 use Rattle.tsp_promises.proofs.SendPlaces.{send_place, post_fits}
 use Rattle.tsp_promises.proofs.SendProof.{CorrectsTo, begun-begins, begun-here, corrects-sends, numbered, send_is}
-use Rattle.tsp_promises.proofs.SinceProof.{since}
 
 -- each post before t of the send of m to k that begins at `start` lies REUSE before t
 abbrev pub OldBefore : ℕ → ℕ → Port → List Seen → Did → List Line → Type 0

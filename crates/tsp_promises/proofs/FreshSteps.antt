@@ -1,27 +1,14 @@
 -- The induction over corrections to one peer.
-use Rattle.std.specs.Prelude.{◌≡◌, true, ℕ, ◌+◌, ◌%◌, ◌≤◌, ◌⊎◌, List, [], ◌∷◌, refl}
-use Rattle.std.proofs.Common.{sym, ap, arith, subst, subst₂, inl, inr, ◌∙◌}
+use Rattle.std.proofs.Common.{sym, ap, arith, subst, subst₂, inl, inr, ◌∙◌, ◌≡◌, true, ℕ, ◌+◌, ◌%◌, ◌≤◌, ◌⊎◌, List, [], ◌∷◌, refl}
 use Rattle.tsp_rules.specs.Values.{Acked, Port, QUIET}
 use Rattle.tsp_base.specs.Words.{Acts, Did, Line, Here, of, dids, view, plain, MessageValue, all_corrects, boot_tick, lives, tick_of, Within, acting, open_to, peer_of}
-use Rattle.tsp_promises.specs.CorrectionFits.{Follows}
-use Rattle.tsp_promises.specs.Fits.{Fits}
-use Rattle.tsp_promises.specs.Once.{ConfirmedAt, OnceConfirmed}
-use Rattle.tsp_promises.specs.Setting.{Setting}
-use Rattle.tsp_promises.proofs.EverywhereLemmas.{Everywhere-at}
-use Rattle.tsp_base.proofs.PlaceLemmas.{Within-none, Within-tail}
-use Rattle.tsp_base.proofs.Views.{plain_view}
-use Rattle.tsp_promises.specs.Since.{OneLife}
-use Rattle.tsp_promises.proofs.AcknowledgedProof.{acked_at}
+use Rattle.tsp_promises.specs.{CorrectionFits.Follows, Fits.Fits, Once.ConfirmedAt, Once.OnceConfirmed, Setting.Setting, Since.OneLife}
+use Rattle.tsp_base.proofs.{PlaceLemmas.Within-none, PlaceLemmas.Within-tail, Views.plain_view}
+use Rattle.tsp_promises.proofs.{AcknowledgedProof.acked_at, EverywhereLemmas.Everywhere-at, HistoryPlaces.own_in, OwnFitsProof.own_fits}
 use Rattle.tsp_promises.proofs.FreshProof.{OldBefore, Counted, Fresh, acked-counts, old-by-rest, old-by-boot, before_later}
-use Rattle.tsp_promises.proofs.HistoryPlaces.{own_in}
-use Rattle.tsp_promises.proofs.LateProof.{last_is, last_late}
-use Rattle.tsp_promises.proofs.Locating.{line_on, locate, seen_in}
-use Rattle.tsp_promises.proofs.OwnFitsProof.{own_fits}
-use Rattle.tsp_promises.proofs.PortFits.{own_tick}
-use Rattle.tsp_promises.proofs.SeenPlaces.{seen_before, seen_same}
-use Rattle.tsp_promises.proofs.SendPlaces.{post_fits}
+use Rattle.tsp_promises.proofs.{LateProof.last_is, LateProof.last_late, Locating.line_on, Locating.locate, Locating.seen_in}
+use Rattle.tsp_promises.proofs.{PortFits.own_tick, SeenPlaces.seen_before, SeenPlaces.seen_same, SendPlaces.post_fits, SinceProof.since}
 use Rattle.tsp_promises.proofs.SendProof.{CorrectsTo, one-message}
-use Rattle.tsp_promises.proofs.SinceProof.{since}
 
 -- the Correct that the acknowledgment confirms stands between f and t
 counts-between : (setting : Setting) (m k : ℕ) (q : Port) (t f acked : Did) (wb fw aw : List Line) (mf : MessageValue) → Fits setting (line_on q t ∷ wb) → OnceConfirmed wb → f.step.node ≡ m → Within (line_on q f ∷ fw) wb →

@@ -2,9 +2,7 @@
 use Rattle.std.specs.Prelude.{◌≡◌, true, ℕ, ℤ, Bool, List, ◌∷◌, Some, is_some, refl}
 use Rattle.tsp_rules.specs.Values.{Post, Correct, Message, AdjTime, Peer}
 use Rattle.tsp_base.specs.Words.{Came, Acts, Line, Here, of, dids, view, MessageValue, Within, Sampled, best, begun_to, is_numbered, heard, peer_of, posted}
-use Rattle.tsp_promises.specs.Agreed.{FromRound, ReadingOf}
-use Rattle.tsp_promises.specs.Fits.{node_of}
-use Rattle.tsp_promises.specs.StepFacts.{closed}
+use Rattle.tsp_promises.specs.{Agreed.FromRound, Agreed.ReadingOf, Fits.node_of, StepFacts.closed}
 
 -- the post that a Correct takes is the first of its send
 pub record FirstTaken (m : ℕ) (c : Line) (past : List Line) (post : Line) (before : List Line) (message : MessageValue) (amount : ℤ) (stepped : Bool) (shown : ℤ) : Type 0 where

@@ -1,21 +1,12 @@
 -- What is known of a Correct that takes an ADJTIME of a Close.
-use Rattle.std.specs.Prelude.{◌≡◌, ◌≤ℤ◌, ◌⊎◌, Bool, ℕ, ℤ, pos, ◌-ℤ◌, nat_abs, true, List, ◌∷◌, refl}
-use Rattle.std.proofs.Common.{sym, ap, subst, inl, ◌∙◌}
+use Rattle.std.proofs.Common.{sym, ap, subst, inl, ◌∙◌, ◌≡◌, ◌≤ℤ◌, ◌⊎◌, Bool, ℕ, ℤ, pos, ◌-ℤ◌, nat_abs, true, List, ◌∷◌, refl}
 use Rattle.tsp_rules.specs.Values.{Close, Correct, Kind, AdjTime, Port}
 use Rattle.tsp_base.specs.Words.{Acts, Did, Line, Here, of, dids, view, plain, moved, target, MessageValue, Within, is_correction, Undisturbed, time_in}
-use Rattle.tsp_promises.specs.Agreed.{FromRound}
-use Rattle.tsp_promises.specs.ClockAt.{clock}
-use Rattle.tsp_promises.specs.CorrectFits.{amount_of}
-use Rattle.tsp_promises.specs.CorrectionFits.{FollowedBy}
-use Rattle.tsp_promises.specs.Fits.{Fits, node_of}
-use Rattle.tsp_promises.specs.OneError.{FromReading, Taking}
-use Rattle.tsp_promises.specs.Setting.{Setting}
+use Rattle.tsp_promises.specs.{Agreed.FromRound, ClockAt.clock, CorrectFits.amount_of, CorrectionFits.FollowedBy, Fits.Fits, Fits.node_of}
+use Rattle.tsp_promises.specs.{OneError.FromReading, OneError.Taking, Setting.Setting}
 use Rattle.tsp_base.proofs.PlaceLemmas.{Within-through, Within-tail}
-use Rattle.tsp_promises.proofs.Given.{Given}
-use Rattle.tsp_promises.proofs.Locating.{line_on}
-use Rattle.tsp_promises.proofs.OnceTakenProof.{Acting, numbered-by, posts-same}
-use Rattle.tsp_promises.proofs.OwnFitsProof.{fits_at}
-use Rattle.tsp_promises.proofs.SendPlaces.{send_place}
+use Rattle.tsp_promises.proofs.{Given.Given, Locating.line_on, OnceTakenProof.Acting, OnceTakenProof.numbered-by, OnceTakenProof.posts-same}
+use Rattle.tsp_promises.proofs.{OwnFitsProof.fits_at, SendPlaces.send_place}
 use Rattle.tsp_promises.proofs.TakingProof.{ReadFacts, TakenFacts, read_facts, taken_facts}
 
 pub corrects-adj : (k : Kind) → k ≡ AdjTime → is_correction k ≡ true

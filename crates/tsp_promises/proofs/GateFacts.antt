@@ -1,12 +1,9 @@
 -- How rows over ports lead from what is known of each port to what is known then.
-use Rattle.std.specs.Prelude.{◌≡◌, ◌<◌, ℕ, ◌==◌, Bool, true, false, List, length, refl}
-use Rattle.std.proofs.Common.{sym, subst, true≢false, eq-eqb, ◌∙◌}
+use Rattle.std.proofs.Common.{sym, subst, true≢false, eq-eqb, ◌∙◌, ◌≡◌, ◌<◌, ℕ, ◌==◌, Bool, true, false, List, length, refl}
 use Rattle.tsp_rules.specs.Values.{Act, Port}
-use Rattle.tsp_base.specs.Words.{Past, grown, placed}
-use Rattle.tsp_base.proofs.ViewPlaces.{port-same}
+use Rattle.tsp_base.{proofs.ViewPlaces.port-same, specs.Words.Past, specs.Words.grown, specs.Words.placed}
 use Rattle.tsp_rules.specs.NodeRows.{NodePast, NodeRow, on_port, spread, ◌and_then◌, reading_all}
-use Rattle.tsp_rules.proofs.NodeRowLemmas.{Bootless, on_own, spread_append}
-use Rattle.tsp_rules.proofs.Asides.{all_aside, on_other}
+use Rattle.tsp_rules.proofs.{Asides.all_aside, Asides.on_other, NodeRowLemmas.Bootless, NodeRowLemmas.on_own, NodeRowLemmas.spread_append}
 
 -- of each port of a node
 abbrev pub AllPorts : (Port → ℕ → Past → Type 0) → ℕ → NodePast → Type 0

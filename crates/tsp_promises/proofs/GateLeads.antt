@@ -1,27 +1,18 @@
 -- What a node answers over its ports keeps what is known of each.
-use Rattle.std.specs.Prelude.{◌≡◌, ◌<◌, ℕ, ◌+◌, ◌*◌, ◌==◌, Bool, true, false, if◌then◌else◌, List, ◌∷◌, length, refl}
-use Rattle.std.proofs.Common.{sym, subst, ap, arith, inl, inr, true≢false, ◌∙◌}
+use Rattle.std.proofs.Common.{sym, subst, ap, arith, inl, inr, true≢false, ◌∙◌, ◌≡◌, ◌<◌, ℕ, ◌+◌, ◌*◌, ◌==◌, Bool, true, false, if◌then◌else◌, List, ◌∷◌, length, refl}
 use Rattle.tsp_rules.specs.Values.{Act, Took, Message, Stamp, Taken, Good, Bad, Kind, LoopKind, Place, Port}
 use Rattle.tsp_base.specs.Words.{Past, MessageValue, grown, sets_date}
-use Rattle.tsp_rules.specs.Answers.{handles, takes}
+use Rattle.tsp_rules.specs.{Answers.handles, Answers.takes, RoundRows.corrects, Strangers.is_stranger}
 use Rattle.tsp_rules.specs.GateRows.{ports_from, all_ports, other_ports, steers, in_charge, stirred_ports, takes_message, takes_kind, takes_on, NodeGiven, NodeTurn, GotOn, input_all, turns_on, answers_all}
 use Rattle.tsp_rules.specs.NodeRows.{NodePast, on_port, spread, nothing_at_all, on, reading_all, for_ports}
-use Rattle.tsp_rules.specs.RoundRows.{corrects}
-use Rattle.tsp_rules.proofs.NodeRowLemmas.{Bootless}
 use Rattle.tsp_promises.proofs.Known.{Open, Fresh, Rests, RestsIn}
-use Rattle.tsp_promises.proofs.Upsets.{Upset, Upsets, upsets_never}
-use Rattle.tsp_promises.proofs.AnswerLeads.{takes_upsets, dates_by, open_rests}
-use Rattle.tsp_rules.specs.Strangers.{is_stranger}
-use Rattle.tsp_rules.proofs.FewActs.{is_calm}
+use Rattle.tsp_promises.proofs.{AnswerLeads.takes_upsets, AnswerLeads.dates_by, AnswerLeads.open_rests, GateSteps.stirring_all}
 use Rattle.tsp_rules.proofs.CalmSteps.{TakesFirst, taking, calm_handles, calm_stamps, is_message}
 use Rattle.tsp_promises.proofs.Elsewheres.{rests_family, rests_took, kept_aside, moved_aside, calm_bootless, calm_still}
-use Rattle.tsp_rules.proofs.Asides.{aside, all_aside}
+use Rattle.tsp_rules.proofs.{Asides.aside, Asides.all_aside, BuiltAll.StirredPorts, FewActs.is_calm, NodeRowLemmas.Bootless}
 use Rattle.tsp_promises.proofs.PortLists.{listed_ranged, listed, listed_from, other_listed}
 use Rattle.tsp_promises.proofs.GateFacts.{AllPorts, LeadsAll, All_after, Pick, picks, placed_all}
-use Rattle.tsp_promises.proofs.GateSteps.{stirring_all}
-use Rattle.tsp_promises.proofs.GateTurns.{turns_lead}
-use Rattle.tsp_rules.proofs.BuiltAll.{StirredPorts}
-use Rattle.tsp_promises.proofs.LoopLeads.{takes_loop_lead}
+use Rattle.tsp_promises.proofs.{GateTurns.turns_lead, LoopLeads.takes_loop_lead, Upsets.Upset, Upsets.Upsets, Upsets.upsets_never}
 
 -- acts that take first and are calm then, as another port sees them
 pub taken-bootless : (strange moving : Bool) (from : Place) (t : Taken) (acts after : List Act) → acts ≡ Took from t ∷ after → is_calm strange moving after ≡ true → Bootless acts

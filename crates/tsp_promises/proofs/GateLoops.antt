@@ -1,14 +1,10 @@
 -- The LOOPs after a round's last probe keep what is known of their port.
-use Rattle.std.specs.Prelude.{◌≡◌, ℕ, not, Bool, true, false, List, [], ◌∷◌, map, Option, None, Some, is_some, refl}
-use Rattle.std.proofs.Common.{sym, inl, ap, true≢false}
+use Rattle.std.proofs.Common.{sym, inl, ap, true≢false, ◌≡◌, ℕ, not, Bool, true, false, List, [], ◌∷◌, map, Option, None, Some, is_some, refl}
 use Rattle.std.proofs.lemmas.Bool.{and_parts}
 use Rattle.tsp_rules.specs.Values.{Probe, CloseAlarm, PeerId, Port}
 use Rattle.tsp_base.specs.Words.{deadline, Past, Received, acting, armed, grown, others}
 use Rattle.tsp_rules.specs.GateRows.{loop_to, sends_loops, is_last_probe}
-use Rattle.tsp_promises.proofs.Known.{OpenIn, During}
-use Rattle.tsp_promises.proofs.PostLeaves.{post_message}
-use Rattle.tsp_promises.proofs.Rings.{open_of, wake}
-use Rattle.tsp_promises.proofs.AlarmLeads.{master_rested}
+use Rattle.tsp_promises.proofs.{AlarmLeads.master_rested, Known.OpenIn, Known.During, PostLeaves.post_message, Rings.open_of, Rings.wake}
 use Rattle.tsp_promises.proofs.RoundLeads.{Probed}
 
 -- a port in a step, whether it has acted or not

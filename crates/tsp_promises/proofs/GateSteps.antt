@@ -1,17 +1,12 @@
 -- A port's row, and what it stirs, over all ports of a node.
-use Rattle.std.specs.Prelude.{◌≡◌, ◌<◌, ℕ, ◌==◌, ◌||◌, Bool, true, false, if◌then◌else◌, List, [], ◌∷◌, ◌++◌, length, None, refl}
-use Rattle.std.proofs.Common.{sym, subst, append-nil}
-use Rattle.tsp_rules.specs.Values.{Abandon, Port}
+use Rattle.std.proofs.Common.{sym, subst, append-nil, ◌≡◌, ◌<◌, ℕ, ◌==◌, ◌||◌, Bool, true, false, if◌then◌else◌, List, [], ◌∷◌, ◌++◌, length, None, refl}
 use Rattle.tsp_base.specs.Words.{Past, view, Leads, armed, is_going, Row, grown, placed}
 use Rattle.tsp_base.proofs.ViewPlaces.{port-same}
 use Rattle.tsp_rules.specs.NodeRows.{NodePast, on_port, spread, nothing_at_all, on, ◌and_then◌, for_ports, abandons_on, stirring}
-use Rattle.tsp_rules.specs.RoundRows.{corrects}
-use Rattle.tsp_rules.proofs.NodeRowLemmas.{Bootless, spread_append}
-use Rattle.tsp_promises.proofs.Elsewheres.{Family, kept_aside, calm_bootless}
-use Rattle.tsp_rules.proofs.Asides.{all_aside}
-use Rattle.tsp_rules.proofs.FewActs.{is_calm}
+use Rattle.tsp_rules.specs.{RoundRows.corrects, Values.Abandon, Values.Port}
+use Rattle.tsp_promises.proofs.{Elsewheres.Family, Elsewheres.kept_aside, Elsewheres.calm_bootless, PortLists.listed, PortLists.Ranged}
+use Rattle.tsp_rules.proofs.{Asides.all_aside, FewActs.is_calm, NodeRowLemmas.Bootless, NodeRowLemmas.spread_append}
 use Rattle.tsp_promises.proofs.GateFacts.{AllPorts, LeadsAll, Pick, picks, passes, placed_all, same_port}
-use Rattle.tsp_promises.proofs.PortLists.{listed, Ranged}
 use Rattle.tsp_promises.proofs.Stirring.{shut_of}
 
 -- port q as P says, and each other port as its own predicate says

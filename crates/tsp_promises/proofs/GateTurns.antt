@@ -1,28 +1,20 @@
 -- The due sends and alarms of all ports, one port after the other, keep what is known of each.
-use Rattle.std.specs.Prelude.{◌≡◌, ◌≤◌, ℕ, ◌+◌, ◌==◌, ◌||◌, ◌&&◌, nat_lt, nat_le, Bool, true, false, if◌then◌else◌, List, [], ◌∷◌, length, refl}
-use Rattle.std.proofs.Common.{sym, subst, arith, eqb-true, ◌∙◌}
+use Rattle.std.proofs.Common.{sym, subst, arith, eqb-true, ◌∙◌, ◌≡◌, ◌≤◌, ℕ, ◌+◌, ◌==◌, ◌||◌, ◌&&◌, nat_lt, nat_le, Bool, true, false, if◌then◌else◌, List, [], ◌∷◌, length, refl}
 use Rattle.std.proofs.lemmas.Bool.{lt-ltb, le-ltb, and_parts}
 use Rattle.tsp_rules.specs.Values.{Act, Alarm, Round, Probe, CloseAlarm, Port, ALL}
 use Rattle.tsp_base.specs.Words.{Past, Leads, grown}
-use Rattle.tsp_rules.specs.Answers.{rings}
+use Rattle.tsp_rules.specs.{Answers.rings, SendRows.due_sends}
 use Rattle.tsp_rules.specs.GateRows.{ports_from, all_ports, other_ports, leads_clock, waits, has_rung, is_last_probe, ends_probes, sends_loops, loops_after, probes_on, closes_on, begins_round_on, is_probe, alarm_on, each_on, alarms_on, turns_on}
 use Rattle.tsp_rules.specs.NodeRows.{PortSetup, NodePast, on_port, spread, nothing_at_all, on, ◌and_then◌, reading_all, for_ports}
-use Rattle.tsp_rules.specs.SendRows.{due_sends}
-use Rattle.tsp_rules.proofs.NodeRowLemmas.{spread_append}
 use Rattle.tsp_promises.proofs.Known.{Open, OpenIn, Fresh, FreshIn, Untaken}
-use Rattle.tsp_promises.proofs.Rings.{open_of}
-use Rattle.tsp_promises.proofs.CorrectionLeads.{due_sends_lead}
+use Rattle.tsp_promises.proofs.{CorrectionLeads.due_sends_lead, GateLoops.loops_kept, Rings.open_of, RoundLeads.Probed}
 use Rattle.tsp_promises.proofs.AlarmTable.{Around, after_turn, alarm_leads, are_probed, around_open, before_turn}
-use Rattle.tsp_promises.proofs.RoundLeads.{Probed}
 use Rattle.tsp_rules.proofs.CalmAlarms.{calm_due_sends, moves_by, calm_rings}
 use Rattle.tsp_promises.proofs.Elsewheres.{Family, fresh_family, open_family, kept_aside, moved_aside, calm_bootless, calm_still}
-use Rattle.tsp_rules.proofs.Asides.{all_aside}
+use Rattle.tsp_rules.proofs.{Asides.all_aside, BuiltGate.built_sends_loops, CalmBuilt.calm_unmoving, NodeRowLemmas.spread_append}
 use Rattle.tsp_promises.proofs.PortLists.{other_ranged, other_others, other_listed, unlisted}
 use Rattle.tsp_promises.proofs.GateFacts.{AllPorts, LeadsAll, All_after, All_reading, All_from, All_to, Pick, passes, same_port}
 use Rattle.tsp_promises.proofs.GateSteps.{AtPort, own_of, at_to, on_run, on_leads, stirring_all}
-use Rattle.tsp_rules.proofs.CalmBuilt.{calm_unmoving}
-use Rattle.tsp_rules.proofs.BuiltGate.{built_sends_loops}
-use Rattle.tsp_promises.proofs.GateLoops.{loops_kept}
 
 -- a port whose turn has been, or is still to come
 abbrev pub Standing : Bool → Bool → ℕ → Past → Type 0

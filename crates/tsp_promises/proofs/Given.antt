@@ -2,11 +2,8 @@
 use Rattle.std.specs.Prelude.{List}
 use Rattle.tsp_rules.specs.Values.{LIFE}
 use Rattle.tsp_base.specs.Words.{Line, Within}
-use Rattle.tsp_promises.specs.Fits.{Fits}
 use Rattle.tsp_promises.specs.Premises.{Honest, HonestAt, Life, TakenWithinAt}
-use Rattle.tsp_promises.specs.Setting.{Setting}
-use Rattle.tsp_promises.proofs.EverywhereLemmas.{Everywhere-within}
-use Rattle.tsp_promises.proofs.OwnFitsProof.{fits_at}
+use Rattle.tsp_promises.{proofs.EverywhereLemmas.Everywhere-within, proofs.OwnFitsProof.fits_at, specs.Fits.Fits, specs.Setting.Setting}
 
 -- what a schedule gives
 pub record Given (setting : Setting) (world : List Line) : Type 0 where

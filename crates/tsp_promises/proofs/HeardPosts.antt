@@ -1,18 +1,12 @@
 -- What a node's step has taken from a peer, on whatever port, is what that peer posted.
-use Rattle.std.specs.Prelude.{◌≡◌, List, [], ◌∷◌, Some, refl}
-use Rattle.std.proofs.Common.{sym, ap, subst, subst₂, inl, inr, ◌∙◌}
+use Rattle.std.proofs.Common.{sym, ap, subst, subst₂, inl, inr, ◌∙◌, ◌≡◌, List, [], ◌∷◌, Some, refl}
 use Rattle.tsp_rules.specs.Values.{Act, Took, Post, Datagram, Good, PeerId, Peer}
 use Rattle.tsp_base.specs.Words.{Cause, Booted, Turned, Came, Handed, Step, Deed, Begins, Acts, Line, of, dids, Within, Received, taken_after, heard, peer_of, posted}
 use Rattle.tsp_promises.specs.Fits.{Fits, SameStep, TookFits, node_of}
-use Rattle.tsp_promises.specs.Premises.{Honest, HonestAt}
-use Rattle.tsp_promises.specs.Setting.{Setting}
-use Rattle.tsp_promises.proofs.EverywhereLemmas.{Everywhere-at}
+use Rattle.tsp_promises.proofs.{EverywhereLemmas.Everywhere-at, HistoryPlaces.lift, Locating.fits_in, OwnFitsProof.own_fits}
 use Rattle.tsp_base.proofs.PlaceLemmas.{Within-through, Within-tail}
-use Rattle.tsp_promises.specs.OwnFits.{OwnFits}
-use Rattle.tsp_promises.proofs.HistoryPlaces.{lift}
+use Rattle.tsp_promises.specs.{OwnFits.OwnFits, Premises.Honest, Premises.HonestAt, Setting.Setting}
 use Rattle.tsp_promises.proofs.KnownProof.{InStep, in-step, own-in-step, received-from, same-place, same-good}
-use Rattle.tsp_promises.proofs.Locating.{fits_in}
-use Rattle.tsp_promises.proofs.OwnFitsProof.{own_fits}
 
 -- where the Took stands of what a step has taken
 record HeardAt (t : List Line) (r : Received) : Type 0 where

@@ -1,6 +1,5 @@
 -- What a port's step has taken the node's step has taken.
-use Rattle.std.specs.Prelude.{◌≡◌, ◌==◌, ◌||◌, Bool, true, false, List, [], ◌∷◌, Option, Some, is_some, refl}
-use Rattle.std.proofs.Common.{sym, true≢false, ◌∙◌}
+use Rattle.std.proofs.Common.{sym, true≢false, ◌∙◌, ◌≡◌, ◌==◌, ◌||◌, Bool, true, false, List, [], ◌∷◌, Option, Some, is_some, refl}
 use Rattle.tsp_rules.specs.Values.{Took, Port}
 use Rattle.tsp_base.specs.Words.{Begins, Acts, Deed, Line, dids, view, seen_as, is_shared, Received, taken, taken_after, heard}
 use Rattle.std.proofs.Math.Bool.{or-true}

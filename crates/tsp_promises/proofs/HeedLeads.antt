@@ -1,40 +1,25 @@
 -- A port heeds each QUIT of a peer that it takes.
-use Rattle.std.specs.Prelude.{◌≡◌, ◌<◌, ℕ, ◌==◌, ◌&&◌, not, Bool, true, false, if◌then◌else◌, List, [], ◌∷◌, ◌++◌, length, map, Option, None, Some, refl}
-use Rattle.std.proofs.Common.{sym, ap, subst, true≢false, append-nil, ◌∙◌}
+use Rattle.std.proofs.Common.{sym, ap, subst, true≢false, append-nil, ◌∙◌, ◌≡◌, ◌<◌, ℕ, ◌==◌, ◌&&◌, not, Bool, true, false, if◌then◌else◌, List, [], ◌∷◌, ◌++◌, length, map, Option, None, Some, refl}
 use Rattle.std.proofs.lemmas.Bool.{and_parts}
 use Rattle.tsp_rules.specs.Values.{Act, Boot, Took, Quit, Message, Stamp, Taken, Good, Bad, Kind, LoopKind, QuitKind, PeerId, Place, Peer, Stranger, Port, Role, Starting, Loose, Follow, Candidate, Master}
 use Rattle.tsp_base.specs.Words.{Deed, Begins, Acts, Step, Seen, Here, Elsewhere, Past, Leads, MessageValue, is_among, Received, message_in, role, said_by, taken, taken_after, Row, added, grown, nothing, puts, ◌followed_by◌, either_by, reading, others, placed, is_correction}
-use Rattle.tsp_base.proofs.LeadsLemmas.{Leads_then, Leads_from}
-use Rattle.tsp_base.proofs.RowLemmas.{added_append}
+use Rattle.tsp_base.proofs.{LeadsLemmas.Leads_then, LeadsLemmas.Leads_from, RowLemmas.added_append, ViewPlaces.port-same}
 use Rattle.tsp_rules.specs.Answers.{due_alarms, says_in, peer_says, from_peer, handles_kind, handles, takes, Given, Turn, Got, input_row, answers}
-use Rattle.tsp_rules.specs.CandidateRows.{candidate_takes, candidate_takes_kind}
-use Rattle.tsp_rules.specs.CommonRows.{quits}
+use Rattle.tsp_rules.specs.{CandidateRows.candidate_takes, CandidateRows.candidate_takes_kind, CommonRows.quits, SendRows.due_sends}
 use Rattle.tsp_rules.specs.GateRows.{other_ports, LoopStep, PassOver, GiveUp, Forward, judge, repost, reposts, is_awake_on, reposts_on, loosens_master, forwards, takes_loop_step, hears_on, judges, heeds_loop, takes_loop, steers, in_charge, stirred_ports, takes_message, takes_kind, takes_on, all_ports, turns_on, NodeGiven, NodeTurn, GotOn, input_all, answers_all}
 use Rattle.tsp_rules.specs.Guards.{is_own, is_heard, is_follow, is_starting_role}
-use Rattle.tsp_rules.specs.MasterRows.{master_takes, master_takes_kind}
+use Rattle.tsp_rules.specs.{MasterRows.master_takes, MasterRows.master_takes_kind, SlaveRows.slave_takes, SlaveRows.slave_takes_kind}
 use Rattle.tsp_rules.specs.NodeRows.{NodePast, on_port, spread, nothing_at_all, on, ◌and_then◌, reading_all, for_ports}
-use Rattle.tsp_rules.specs.RoundRows.{abandons_going, corrects, upsetting}
-use Rattle.tsp_rules.specs.SendRows.{due_sends}
-use Rattle.tsp_rules.specs.SlaveRows.{slave_takes, slave_takes_kind}
-use Rattle.tsp_rules.specs.Strangers.{is_stranger}
-use Rattle.tsp_base.proofs.ViewPlaces.{port-same}
-use Rattle.tsp_rules.proofs.Asides.{on_other}
+use Rattle.tsp_rules.specs.{RoundRows.abandons_going, RoundRows.corrects, RoundRows.upsetting, Strangers.is_stranger}
+use Rattle.tsp_rules.proofs.{Asides.on_other, BuiltAll.StirredPorts, FewActs.is_calm_act, FewActs.is_calm}
 use Rattle.tsp_rules.proofs.CalmSteps.{calm_abandons_going, calm_handles, taking}
-use Rattle.tsp_rules.proofs.FewActs.{is_calm_act, is_calm}
 use Rattle.tsp_rules.proofs.NodeRowLemmas.{on_own, passed, spread_append}
 use Rattle.tsp_promises.specs.StepFacts.{is_quit, quit_by, unless_starting, unheeded, unheeded_after}
-use Rattle.tsp_promises.proofs.AlarmTable.{due_alarms_lead}
-use Rattle.tsp_promises.proofs.CorrectionLeads.{due_sends_lead}
-use Rattle.tsp_promises.proofs.Elsewheres.{Family, calm_bootless}
+use Rattle.tsp_promises.proofs.{AlarmTable.due_alarms_lead, CorrectionLeads.due_sends_lead, Elsewheres.Family, Elsewheres.calm_bootless}
 use Rattle.tsp_promises.proofs.GateFacts.{AllPorts, LeadsAll, All_after, Pick, placed_all}
 use Rattle.tsp_promises.proofs.GateLeads.{GivenOn, given_kept, stirred-listed, taken-bootless}
-use Rattle.tsp_promises.proofs.GateSteps.{stirring_all}
-use Rattle.tsp_promises.proofs.GateTurns.{turns_lead}
-use Rattle.tsp_promises.proofs.Known.{Fresh, Open}
-use Rattle.tsp_promises.proofs.LoopLeads.{gives-up-calm, repost-calm}
-use Rattle.tsp_promises.proofs.Rings.{open_of}
-use Rattle.tsp_promises.proofs.PortLists.{listed_ranged}
-use Rattle.tsp_rules.proofs.BuiltAll.{StirredPorts}
+use Rattle.tsp_promises.proofs.{GateSteps.stirring_all, GateTurns.turns_lead, Known.Fresh, Known.Open, PortLists.listed_ranged}
+use Rattle.tsp_promises.proofs.{LoopLeads.gives-up-calm, LoopLeads.repost-calm, Rings.open_of}
 
 -- a port that has heeded what it took in this step
 abbrev pub Heeds : ℕ → Past → Type 0

@@ -1,13 +1,9 @@
 -- The last Back and the last Quit that a port has seen.
-use Rattle.std.specs.Prelude.{◌≡◌, ◌==◌, ◌||◌, ◌≤◌, ◌⊎◌, Bool, true, false, ℕ, ◌+◌, List, [], ◌∷◌, Some, refl}
-use Rattle.std.proofs.Common.{arith, subst, inl, inr, ◌∙◌}
+use Rattle.std.proofs.Common.{arith, subst, inl, inr, ◌∙◌, ◌≡◌, ◌==◌, ◌||◌, ◌≤◌, ◌⊎◌, Bool, true, false, ℕ, ◌+◌, List, [], ◌∷◌, Some, refl}
 use Rattle.tsp_rules.specs.Values.{Boot, Back, Quit, PeerId, Port, HOLD}
 use Rattle.tsp_base.specs.Words.{Did, Deed, Acts, Line, Seen, Here, dids, view, is_shared, seen_as, lives, lives_after, tick_of, Within, held, Setup}
-use Rattle.tsp_promises.specs.DeedFits.{DeedFits}
-use Rattle.tsp_promises.specs.Fits.{Sees, node_of}
-use Rattle.tsp_promises.specs.Setting.{Setting, setup_of}
+use Rattle.tsp_promises.specs.{DeedFits.DeedFits, Fits.Sees, Fits.node_of, OwnFits.OwnFits, Setting.Setting, Setting.setup_of}
 use Rattle.tsp_base.proofs.PlaceLemmas.{Within-none}
-use Rattle.tsp_promises.specs.OwnFits.{OwnFits}
 use Rattle.tsp_promises.proofs.SinceProof.{since}
 
 -- c was backed at tick x, the node hasn't booted since, and it is tick y now

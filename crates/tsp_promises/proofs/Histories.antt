@@ -1,13 +1,10 @@
 -- Small histories, step by step, and what shows that they fit.
-use Rattle.std.specs.Prelude.{◌≡◌, ◌==◌, Bool, true, false, ℕ, zero, suc, pos, ◌+ℤ◌, if◌then◌else◌, List, [], ◌∷◌, None, refl}
-use Rattle.std.proofs.Common.{sym, ap, arith, subst, subst₂, inr, eq-eqb, ◌∙◌}
+use Rattle.std.proofs.Common.{sym, ap, arith, subst, subst₂, inr, eq-eqb, ◌∙◌, ◌≡◌, ◌==◌, Bool, true, false, ℕ, zero, suc, pos, ◌+ℤ◌, if◌then◌else◌, List, [], ◌∷◌, None, refl}
 use Rattle.tsp_rules.specs.Values.{Act, Boot, Took, Post, Placed, Taken, Kind, Body, PeerId, Place, Port}
 use Rattle.tsp_base.specs.Words.{Cause, Booted, Step, Begins, Acts, Deed, Line, of, dids, plain, view, first_port, line_of, stepped, MessageValue, up, is_among, Within, heard, peer_of, posted}
-use Rattle.tsp_promises.specs.DeedFits.{ActFits, DeedFits}
-use Rattle.tsp_promises.specs.Fits.{Alive, Sees, TookFits}
+use Rattle.tsp_promises.specs.{DeedFits.ActFits, DeedFits.DeedFits, Fits.Alive, Fits.Sees, Fits.TookFits}
 use Rattle.tsp_promises.specs.Setting.{Network, Named, Alone, Setting, setup_of}
-use Rattle.tsp_base.proofs.PlaceLemmas.{Within-all}
-use Rattle.tsp_base.proofs.ViewPlaces.{port-same, or-false}
+use Rattle.tsp_base.proofs.{PlaceLemmas.Within-all, ViewPlaces.port-same, ViewPlaces.or-false}
 
 -- nodes 0, 1 and 2 are on one network by port 0; nodes 1 and 3 on another, by the ports 1 and 0; nodes 3 and 2 on a third, by their ports 1
 abbrev pub net_of : ℕ → ℕ → Network

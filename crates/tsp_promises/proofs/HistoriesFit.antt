@@ -1,14 +1,11 @@
 -- Small histories fit, step by step.
-use Rattle.std.specs.Prelude.{◌≡◌, ◌==◌, ◌&&◌, cond, ◌≤◌, ◌<◌, nat_lt, nat_le, Bool, true, false, ℕ, zero, suc, ◌+◌, List, [], ◌∷◌, length, refl}
-use Rattle.std.proofs.Common.{sym, ap, arith, subst, inl, inr, eqb-true, ◌∙◌}
+use Rattle.std.proofs.Common.{sym, ap, arith, subst, inl, inr, eqb-true, ◌∙◌, ◌≡◌, ◌==◌, ◌&&◌, cond, ◌≤◌, ◌<◌, nat_lt, nat_le, Bool, true, false, ℕ, zero, suc, ◌+◌, List, [], ◌∷◌, length, refl}
 use Rattle.std.proofs.lemmas.Bool.{ltb-true, leb-true, and_parts}
 use Rattle.tsp_rules.specs.Values.{Act, Post, Placed, Datagram, Taken, Good, PeerId, Place, Peer, Port}
 use Rattle.tsp_base.specs.Words.{Step, Begins, Acts, Deed, Line, of, dids, view, first_port, joined, line_of, time_of, Within, peer_of, posted, posted_after}
 use Rattle.tsp_promises.specs.Fits.{Finished, Fits, LineFits, Posted, node_of}
-use Rattle.tsp_promises.specs.Setting.{setup_of}
-use Rattle.tsp_promises.specs.StepFacts.{StepEnds}
 use Rattle.tsp_promises.proofs.Histories.{ActsOk, ActOk, alive-of, deeds-of, post_at, post_here, still, then_step, took-of}
-use Rattle.tsp_promises.proofs.StepChecks.{settled, settled-ends}
+use Rattle.tsp_promises.{proofs.StepChecks.settled, proofs.StepChecks.settled-ends, specs.Setting.setup_of, specs.StepFacts.StepEnds}
 
 posted-few : (h : List Line) → posted (dids h) ≤ length h
 posted-few [] = omega arith

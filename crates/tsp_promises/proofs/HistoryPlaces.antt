@@ -1,6 +1,5 @@
 -- Places of a history and places of one node's lines.
-use Rattle.std.specs.Prelude.{◌≡◌, ℕ, ◌==◌, Bool, true, false, List, [], ◌∷◌, refl}
-use Rattle.std.proofs.Common.{sym, ap, subst, inl, inr, eqb-true, eq-eqb}
+use Rattle.std.proofs.Common.{sym, ap, subst, inl, inr, eqb-true, eq-eqb, ◌≡◌, ℕ, ◌==◌, Bool, true, false, List, [], ◌∷◌, refl}
 use Rattle.tsp_promises.specs.Fits.{node_of}
 use Rattle.tsp_base.specs.Words.{Line, of, Within}
 use Rattle.tsp_base.proofs.PlaceLemmas.{Within-all, Within-none, Within-strict, Within-comparable}

@@ -1,19 +1,11 @@
 -- The last date of a peer, and the last time that a port began to pass one on.
-use Rattle.std.specs.Prelude.{◌≡◌, ◌==◌, ◌||◌, ◌&&◌, ◌≤◌, cond, Bool, true, false, ℕ, ℤ, List, [], ◌∷◌, Option, None, Some, refl}
-use Rattle.std.proofs.Common.{sym, ap, arith, subst, inl, inr, eq-eqb, ◌∙◌}
+use Rattle.std.proofs.Common.{sym, ap, arith, subst, inl, inr, eq-eqb, ◌∙◌, ◌≡◌, ◌==◌, ◌||◌, ◌&&◌, ◌≤◌, cond, Bool, true, false, ℕ, ℤ, List, [], ◌∷◌, Option, None, Some, refl}
 use Rattle.std.proofs.lemmas.Bool.{and_parts}
 use Rattle.tsp_rules.specs.Values.{Boot, Post, Correct, Message, PeerId, Peer, Port}
 use Rattle.tsp_base.specs.Words.{Acts, Deed, Did, Line, Seen, dids, view, seen_as, is_shared, MessageValue, lives, lives_after, Within, Said, said, taken, acting, Dating, dating_of, is_date_request, is_set_date_request, last_asked, last_asked_after, last_date, last_date_after, Receives}
-use Rattle.tsp_promises.specs.Fits.{Sees}
-use Rattle.tsp_promises.specs.Setting.{Setting}
-use Rattle.tsp_base.proofs.PlaceLemmas.{Within-none}
-use Rattle.tsp_base.proofs.ViewPlaces.{port-same, or-false, sees-own}
-use Rattle.tsp_promises.specs.OwnFits.{OwnFits}
-use Rattle.tsp_promises.proofs.HeldProof.{still-lives}
-use Rattle.tsp_promises.proofs.KnownProof.{line-is}
-use Rattle.tsp_promises.proofs.LastTakenProof.{said_took}
-use Rattle.tsp_promises.proofs.Locating.{line_on}
-use Rattle.tsp_promises.proofs.SinceProof.{since}
+use Rattle.tsp_promises.specs.{Fits.Sees, OwnFits.OwnFits, Setting.Setting}
+use Rattle.tsp_base.proofs.{PlaceLemmas.Within-none, ViewPlaces.port-same, ViewPlaces.or-false, ViewPlaces.sees-own}
+use Rattle.tsp_promises.proofs.{HeldProof.still-lives, KnownProof.line-is, LastTakenProof.said_took, Locating.line_on, SinceProof.since}
 use Rattle.tsp_rules.proofs.GuardFacts.{same_peer}
 
 -- where the last date of p was set: at the Correct c of port q or after it

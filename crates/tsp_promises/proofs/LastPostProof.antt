@@ -1,14 +1,10 @@
 -- A post of a correction isn't later than the last one.
-use Rattle.std.specs.Prelude.{◌≡◌, ◌==◌, ◌&&◌, ◌||◌, cond, Bool, true, false, ℕ, ◌≤◌, List, [], ◌∷◌, Option, Some, refl}
-use Rattle.std.proofs.Common.{arith, subst, inl, inr, eq-eqb}
+use Rattle.std.proofs.Common.{arith, subst, inl, inr, eq-eqb, ◌≡◌, ◌==◌, ◌&&◌, ◌||◌, cond, Bool, true, false, ℕ, ◌≤◌, List, [], ◌∷◌, Option, Some, refl}
 use Rattle.tsp_rules.specs.Values.{Boot, Post, Message, PeerId, Peer, Port}
 use Rattle.tsp_base.specs.Words.{Acts, Deed, Did, Line, Seen, Here, dids, view, seen_as, is_shared, MessageValue, lives, lives_after, Within, is_correction, last_post, last_post_after}
-use Rattle.tsp_promises.specs.Fits.{Sees}
-use Rattle.tsp_promises.specs.Setting.{Setting}
+use Rattle.tsp_promises.specs.{Fits.Sees, OwnFits.OwnFits, Setting.Setting}
 use Rattle.tsp_base.proofs.PlaceLemmas.{Within-none}
-use Rattle.tsp_promises.specs.OwnFits.{OwnFits}
-use Rattle.tsp_promises.proofs.HeldProof.{still-lives}
-use Rattle.tsp_promises.proofs.SinceProof.{since}
+use Rattle.tsp_promises.proofs.{HeldProof.still-lives, SinceProof.since}
 
 -- the last post of a correction to p stands at this tick or later
 pub record LastPost (p : PeerId) (seen : List Seen) (tick : ℕ) : Type 0 where

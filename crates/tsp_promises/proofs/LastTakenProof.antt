@@ -1,6 +1,5 @@
 -- Where a port took the node's last correction.
-use Rattle.std.specs.Prelude.{◌≡◌, ◌==◌, ◌||◌, cond, Bool, true, false, ℕ, ℤ, List, [], ◌∷◌, Option, Some, None, refl}
-use Rattle.std.proofs.Common.{sym, ap, subst, subst₂, inl, inr, true≢false, ◌∙◌}
+use Rattle.std.proofs.Common.{sym, ap, subst, subst₂, inl, inr, true≢false, ◌∙◌, ◌≡◌, ◌==◌, ◌||◌, cond, Bool, true, false, ℕ, ℤ, List, [], ◌∷◌, Option, Some, None, refl}
 use Rattle.tsp_rules.specs.Values.{Boot, Correct, Message, Stamp, Taken, Good, Bad, PeerId, Place, Peer, Stranger, Port}
 use Rattle.tsp_base.specs.Words.{Acts, Deed, Did, Line, dids, view, seen_as, is_shared, MessageValue, all_corrects, all_corrects_after, lives, lives_after, Within, Received, Said, said, said_by, message_in, taken, Correcting, correcting_of, is_correction, last_taken, last_taken_after, last_taken_elsewhere, Receives}
 use Rattle.std.proofs.Math.Bool.{or-true}

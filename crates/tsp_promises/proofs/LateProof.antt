@@ -1,12 +1,10 @@
 -- The last send and the last correction to a peer aren't older than a send that has begun.
-use Rattle.std.specs.Prelude.{◌≡◌, ◌==◌, ◌&&◌, cond, Bool, true, false, ◌≤◌, ◌⊎◌, List, [], ◌∷◌, refl}
-use Rattle.std.proofs.Common.{sym, ap, arith, subst, inl, inr, eq-eqb, ◌∙◌}
+use Rattle.std.proofs.Common.{sym, ap, arith, subst, inl, inr, eq-eqb, ◌∙◌, ◌≡◌, ◌==◌, ◌&&◌, cond, Bool, true, false, ◌≤◌, ◌⊎◌, List, [], ◌∷◌, refl}
 use Rattle.std.proofs.lemmas.Bool.{and_parts}
 use Rattle.tsp_rules.specs.Values.{Boot, Post, Message, PeerId, Peer}
 use Rattle.tsp_base.specs.Words.{Acts, Deed, Did, Seen, Here, Elsewhere, plain, did_of, MessageValue, lives, Within, acting, begun_to, is_correction, last_to, last_to_after}
 use Rattle.tsp_promises.proofs.SendProof.{BeginsSend, CorrectsTo, begun-begins, begun-here}
-use Rattle.tsp_promises.proofs.Leaves.{nil-cons}
-use Rattle.tsp_promises.proofs.SteadyProof.{lives-more}
+use Rattle.tsp_promises.proofs.{Leaves.nil-cons, SteadyProof.lives-more}
 use Rattle.tsp_rules.proofs.GuardFacts.{same_peer}
 
 -- the last send to a peer isn't older than one that has begun

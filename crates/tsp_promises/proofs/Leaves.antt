@@ -1,19 +1,12 @@
 -- What single acts make of what is known of a port.
-use Rattle.std.specs.Prelude.{◌≡◌, ◌≤◌, ℕ, ◌+◌, ◌==◌, ◌&&◌, ◌||◌, ℤ, Bool, true, false, if◌then◌else◌, cond, List, [], ◌∷◌, Option, None, Some, refl}
-use Rattle.std.proofs.Common.{sym, ap, subst, arith, inr, ◌∙◌, true≢false}
+use Rattle.std.proofs.Common.{sym, ap, subst, arith, inr, ◌∙◌, true≢false, ◌≡◌, ◌≤◌, ℕ, ◌+◌, ◌==◌, ◌&&◌, ◌||◌, ℤ, Bool, true, false, if◌then◌else◌, cond, List, [], ◌∷◌, Option, None, Some, refl}
 use Rattle.tsp_rules.specs.Values.{Act, Arm, Backer, Abandon, Close, Correct, Sample, Acked, Gave, Join, Leave, Rival, Trace, Window, Elect, Search, Round, Probe, CloseAlarm, ResolveAlarm, PeerId, Master, CLOSE, PROBE, QUIET, ROUND}
 use Rattle.tsp_base.specs.Words.{Did, Seen, Here, Past, plain, boot_tick, is_among, Received, role, armed, acting, taken, backers, held, stood, exchange, probes, started, grown, open_to, message_at, heard}
-use Rattle.tsp_rules.proofs.Asides.{now}
-use Rattle.tsp_promises.specs.AckFits.{AckedFits}
-use Rattle.tsp_promises.specs.CorrectFits.{CorrectFits}
-use Rattle.tsp_promises.specs.DeedFits.{ActFits}
-use Rattle.tsp_promises.specs.HoldFits.{BackerFits}
-use Rattle.tsp_promises.specs.MeasureFits.{SampleFits}
-use Rattle.tsp_promises.specs.RoundFits.{CloseFits}
+use Rattle.tsp_rules.proofs.{Asides.now, GuardFacts.same_peer}
+use Rattle.tsp_promises.specs.{AckFits.AckedFits, CorrectFits.CorrectFits, DeedFits.ActFits, HoldFits.BackerFits, MeasureFits.SampleFits}
 use Rattle.tsp_promises.specs.StepFacts.{is_unbacked, owes, unacknowledged}
-use Rattle.tsp_promises.specs.PortFits.{PortFits, setup_in}
+use Rattle.tsp_promises.specs.{PortFits.PortFits, PortFits.setup_in, RoundFits.CloseFits}
 use Rattle.tsp_promises.proofs.Known.{Asked, Probing, Candidature, asks_vote, KnowsOf, During}
-use Rattle.tsp_rules.proofs.GuardFacts.{same_peer}
 
 -- what a port has seen when it is done
 abbrev pub then_seen : ℕ → Past → Act → List Seen

@@ -1,14 +1,10 @@
 -- Where a deed stands in the history that a port sees.
-use Rattle.std.specs.Prelude.{◌≡◌, ◌==◌, ◌||◌, ℕ, true, false, List, ◌∷◌, refl}
-use Rattle.std.proofs.Common.{ap, ◌∙◌}
+use Rattle.std.proofs.Common.{ap, ◌∙◌, ◌≡◌, ◌==◌, ◌||◌, ℕ, true, false, List, ◌∷◌, refl}
 use Rattle.tsp_rules.specs.Values.{Port}
 use Rattle.tsp_base.specs.Words.{Did, Line, Seen, Here, of, view, is_shared, Within, tick_at}
-use Rattle.tsp_promises.specs.Fits.{Fits, LineFits, node_of}
-use Rattle.tsp_promises.specs.Setting.{Setting}
-use Rattle.tsp_promises.proofs.EverywhereLemmas.{Everywhere-at}
+use Rattle.tsp_promises.proofs.{EverywhereLemmas.Everywhere-at, HistoryPlaces.lift, HistoryPlaces.own_in, HistoryPlaces.of-own}
 use Rattle.tsp_base.proofs.ViewPlaces.{on_port, sees-own, Within-view}
-use Rattle.tsp_promises.proofs.HistoryPlaces.{lift, own_in, of-own}
-use Rattle.tsp_promises.proofs.OwnFitsProof.{tick_is}
+use Rattle.tsp_promises.{proofs.OwnFitsProof.tick_is, specs.Fits.Fits, specs.Fits.LineFits, specs.Fits.node_of, specs.Setting.Setting}
 
 -- a line of a port
 abbrev pub line_on : Port → Did → Line

@@ -1,13 +1,9 @@
 -- Why a look at a clock bounds how far that clock is ahead later.
-use Rattle.std.specs.Prelude.{◌≡◌, ℕ, ◌+◌, ◌-◌, ◌*◌, ◌/◌, ◌≤◌, ℤ, pos, negsuc, ◌-ℤ◌, ◌+ℤ◌, ◌≤ℤ◌, nat_abs, List}
-use Rattle.std.proofs.Common.{arith, subst, mul-le-mul_left}
+use Rattle.std.proofs.Common.{arith, subst, mul-le-mul_left, ◌≡◌, ℕ, ◌+◌, ◌-◌, ◌*◌, ◌/◌, ◌≤◌, ℤ, pos, negsuc, ◌-ℤ◌, ◌+ℤ◌, ◌≤ℤ◌, nat_abs, List}
 use Rattle.std.proofs.lemmas.Int.{ints}
 use Rattle.tsp_base.specs.Words.{Line, of, dids, moved, tick_at, width}
-use Rattle.tsp_promises.specs.Fits.{Fits}
 use Rattle.tsp_promises.specs.Looked.{Look, ticks_since, width_by_ticks, IsAhead, Looked}
-use Rattle.tsp_promises.specs.Setting.{Setting}
-use Rattle.tsp_promises.proofs.Clocks.{tick-mono}
-use Rattle.tsp_promises.proofs.MasterMoved.{unmoved}
+use Rattle.tsp_promises.{proofs.Clocks.tick-mono, proofs.MasterMoved.unmoved, specs.Fits.Fits, specs.Setting.Setting}
 
 -- the drift of a span, rounded up
 abbrev part : ℕ → ℕ → ℕ

@@ -1,37 +1,24 @@
 -- What a node does with a LOOP keeps what is known of each of its ports.
-use Rattle.std.specs.Prelude.{◌≡◌, ◌≢◌, ◌≤◌, ◌<◌, ℕ, ◌+◌, ◌-◌, ◌==◌, ◌&&◌, nat_le, nat_lt, Bool, true, false, if◌then◌else◌, List, [], ◌∷◌, map, length, Option, Some, refl}
-use Rattle.std.proofs.Common.{sym, subst, inr, ap, arith, true≢false, eqb-true, eq-eqb, leb-true, ltb-true, ◌∙◌}
+use Rattle.std.proofs.Common.{sym, subst, inr, ap, arith, true≢false, eqb-true, eq-eqb, leb-true, ltb-true, ◌∙◌, ◌≡◌, ◌≢◌, ◌≤◌, ◌<◌, ℕ, ◌+◌, ◌-◌, ◌==◌, ◌&&◌, nat_le, nat_lt, Bool, true, false, if◌then◌else◌, List, [], ◌∷◌, map, length, Option, Some, refl}
 use Rattle.std.proofs.lemmas.Bool.{and_parts, not-true}
 use Rattle.tsp_rules.specs.Values.{Took, Post, Become, Message, Taken, Good, LoopKind, Body, Nothing, TimeBody, Hops, PeerId, Place, Peer, Stranger, Port, Starting, Loose}
 use Rattle.tsp_base.specs.Words.{Past, Leads, MessageValue, Received, role, grown, nothing, puts, ◌followed_by◌, others}
-use Rattle.tsp_promises.specs.LoopFits.{LoopFits}
-use Rattle.tsp_promises.specs.DeedFits.{MessageFits}
+use Rattle.tsp_promises.specs.{DeedFits.MessageFits, LoopFits.LoopFits, PortFits.setup_in}
 use Rattle.tsp_base.proofs.LeadsLemmas.{Leads_then, Leads_either, Leads_nothing, Leads_puts, Leads_from, Leads_to}
-use Rattle.tsp_rules.specs.CandidateRows.{yields}
-use Rattle.tsp_rules.specs.CommonRows.{arms_elect}
+use Rattle.tsp_rules.specs.{CandidateRows.yields, CommonRows.arms_elect, Guards.is_master_at, Guards.is_starting_role}
 use Rattle.tsp_rules.specs.GateRows.{other_ports, hops_in, same_name, PassOver, GiveUp, Forward, one_hop_less, repost, reposts, is_awake_on, reposts_on, loosens_master, forwards, takes_loop_step, hears_on, judges, heeds_loop, takes_loop}
 use Rattle.tsp_rules.specs.NodeRows.{NodePast, on_port, spread, nothing_at_all, on, ◌and_then◌, reading_all, for_ports}
 use Rattle.tsp_rules.specs.SendRows.{is_kind_election}
-use Rattle.tsp_rules.specs.Guards.{is_master_at, is_starting_role}
-use Rattle.tsp_rules.proofs.NodeRowLemmas.{spread_append}
-use Rattle.tsp_promises.specs.PortFits.{setup_in}
 use Rattle.tsp_promises.proofs.Known.{Open, OpenIn, Rests, Free}
-use Rattle.tsp_rules.proofs.Asides.{aside, now}
-use Rattle.tsp_promises.proofs.Leaves.{none-among}
-use Rattle.tsp_promises.proofs.PostLeaves.{post_message}
-use Rattle.tsp_promises.proofs.Rings.{open_of}
+use Rattle.tsp_rules.proofs.{Asides.aside, Asides.now, BuiltGate.built_loosens_master, CalmBuilt.calm_unmoving, FewActs.is_calm}
+use Rattle.tsp_promises.proofs.{Leaves.none-among, PostLeaves.post_message, Rings.open_of}
 use Rattle.tsp_promises.proofs.Changes.{JustTook, Is, become_loose, take}
-use Rattle.tsp_rules.proofs.GuardFacts.{awake_is, master_is}
-use Rattle.tsp_promises.proofs.CommonLeads.{arms_elect_during}
+use Rattle.tsp_rules.proofs.{GuardFacts.awake_is, GuardFacts.master_is, NodeRowLemmas.spread_append}
+use Rattle.tsp_promises.proofs.{CommonLeads.arms_elect_during, GateLoops.during_open, GateSteps.AtPort, GateSteps.own_of, GateSteps.on_run}
 use Rattle.tsp_promises.proofs.TakenLeads.{rests_of, wake_role, master_awake}
-use Rattle.tsp_rules.proofs.FewActs.{is_calm}
-use Rattle.tsp_rules.proofs.BuiltGate.{built_loosens_master}
-use Rattle.tsp_rules.proofs.CalmBuilt.{calm_unmoving}
 use Rattle.tsp_promises.proofs.Elsewheres.{open_family, rests_family, kept_aside, calm_bootless}
 use Rattle.tsp_promises.proofs.PortLists.{Ranged, Others, other_ranged, other_others}
 use Rattle.tsp_promises.proofs.GateFacts.{AllPorts, LeadsAll, Pick, picks, passes, placed_all, same_port}
-use Rattle.tsp_promises.proofs.GateSteps.{AtPort, own_of, on_run}
-use Rattle.tsp_promises.proofs.GateLoops.{during_open}
 
 -- the step has taken this datagram, on whatever port
 abbrev pub IsHeard : Place → Taken → Option Received → Option Received → Type 0

@@ -1,23 +1,14 @@
 -- What a master's own clock has moved by since its Close.
-use Rattle.std.specs.Prelude.{◌≡◌, ◌==◌, ◌||◌, ◌⊎◌, Bool, true, false, ℕ, ◌+◌, ℤ, pos, ◌+ℤ◌, List, ◌∷◌, refl}
-use Rattle.std.proofs.Common.{sym, ap, arith, subst, subst₂, inl, inr, ◌∙◌}
+use Rattle.std.proofs.Common.{sym, ap, arith, subst, subst₂, inl, inr, ◌∙◌, ◌≡◌, ◌==◌, ◌||◌, ◌⊎◌, Bool, true, false, ℕ, ◌+◌, ℤ, pos, ◌+ℤ◌, List, ◌∷◌, refl}
 use Rattle.std.proofs.lemmas.Int.{ints}
 use Rattle.tsp_rules.specs.Values.{Close, Correct, Port}
 use Rattle.tsp_base.specs.Words.{Acts, Did, Line, Seen, Here, of, dids, view, plain, seen_as, is_shared, all_corrects, lives, moved, Within, Setup, Undisturbed}
-use Rattle.tsp_promises.specs.Agreed.{RightAfter, UnchangedBut}
+use Rattle.tsp_promises.specs.{Agreed.RightAfter, Agreed.UnchangedBut, CorrectionFits.FollowedBy, Fits.Fits, Fits.node_of}
 use Rattle.tsp_promises.specs.CorrectFits.{WhyCorrect, ByRound, ByMaster, ByDate}
-use Rattle.tsp_promises.specs.CorrectionFits.{FollowedBy}
-use Rattle.tsp_promises.specs.Fits.{Fits, node_of}
-use Rattle.tsp_promises.specs.Setting.{Setting, setup_of}
-use Rattle.tsp_base.proofs.PlaceLemmas.{Within-through}
-use Rattle.tsp_base.proofs.Views.{plain_view}
-use Rattle.tsp_promises.proofs.HistoryPlaces.{of-own, Within-of}
-use Rattle.tsp_promises.proofs.Locating.{line_on, locate, fits_in}
-use Rattle.tsp_promises.proofs.Matching.{kept_by}
-use Rattle.tsp_promises.proofs.NextAct.{right_after}
-use Rattle.tsp_promises.proofs.OwnFitsProof.{own_fits, fits_at}
-use Rattle.tsp_promises.proofs.PortFits.{deed_fits}
-use Rattle.tsp_promises.proofs.SinceProof.{since}
+use Rattle.tsp_base.proofs.{PlaceLemmas.Within-through, Views.plain_view}
+use Rattle.tsp_promises.proofs.{HistoryPlaces.of-own, HistoryPlaces.Within-of, Locating.line_on, Locating.locate, Locating.fits_in}
+use Rattle.tsp_promises.proofs.{Matching.kept_by, NextAct.right_after, OwnFitsProof.own_fits, OwnFitsProof.fits_at, PortFits.deed_fits}
+use Rattle.tsp_promises.{proofs.SinceProof.since, specs.Setting.Setting, specs.Setting.setup_of}
 
 -- where a node is left alone since a place, its clock moved no more
 pub unmoved : (setting : Setting) (n : ℕ) (s h : List Line) → Fits setting h → Within s h → Undisturbed (dids (of n s)) (dids (of n h)) → moved (dids (of n s)) ≡ moved (dids (of n h))

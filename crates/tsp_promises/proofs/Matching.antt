@@ -1,18 +1,11 @@
 -- A correction is the first after the place where its number comes from.
-use Rattle.std.specs.Prelude.{◌≡◌, ℕ, ◌+◌, ◌<◌, ◌≤◌, List, ◌∷◌}
-use Rattle.std.proofs.Common.{ap, arith, subst, inl, inr, ◌∙◌}
+use Rattle.std.proofs.Common.{ap, arith, subst, inl, inr, ◌∙◌, ◌≡◌, ℕ, ◌+◌, ◌<◌, ◌≤◌, List, ◌∷◌}
 use Rattle.std.proofs.lemmas.Bool.{cases_lt}
 use Rattle.tsp_rules.specs.Values.{Post, Datagram, Place, QUIET}
 use Rattle.tsp_base.specs.Words.{Acts, Did, Line, of, dids, all_corrects, boot_tick, moved, tick_of, ticket, Within, Undisturbed, tick_at}
-use Rattle.tsp_promises.specs.Fits.{Fits, node_of}
-use Rattle.tsp_promises.specs.Setting.{Setting}
-use Rattle.tsp_promises.specs.Since.{Since, OneLife}
-use Rattle.tsp_promises.proofs.Clocks.{near}
-use Rattle.tsp_promises.proofs.HistoryPlaces.{of-own, Within-of}
-use Rattle.tsp_promises.proofs.Locating.{tick_in}
-use Rattle.tsp_promises.proofs.OwnFitsProof.{own_fits, place-time}
-use Rattle.tsp_promises.proofs.PortFits.{own_tick}
-use Rattle.tsp_promises.proofs.SinceProof.{since}
+use Rattle.tsp_promises.specs.{Fits.Fits, Fits.node_of, Setting.Setting, Since.Since, Since.OneLife}
+use Rattle.tsp_promises.proofs.{Clocks.near, HistoryPlaces.of-own, HistoryPlaces.Within-of, Locating.tick_in, PortFits.own_tick}
+use Rattle.tsp_promises.proofs.{OwnFitsProof.own_fits, OwnFitsProof.place-time, SinceProof.since}
 
 -- the node is left alone between, so its clock only runs on
 pub record Kept (s t : List Did) : Type 0 where

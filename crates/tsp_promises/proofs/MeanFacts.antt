@@ -1,16 +1,11 @@
 -- The mean of a round's differences is near, as they are.
-use Rattle.std.specs.Prelude.{◌≡◌, ℕ, zero, suc, ℤ, pos, negsuc, ◌-ℤ◌, ◌*ℤ◌, ◌≤ℤ◌, Bool, true, false, if◌then◌else◌, List, [], ◌∷◌, Option, None, Some, refl}
+use Rattle.std.proofs.Common.{sym, subst, ap, arith, ◌≡◌, ℕ, zero, suc, ℤ, pos, negsuc, ◌-ℤ◌, ◌*ℤ◌, ◌≤ℤ◌, Bool, true, false, if◌then◌else◌, List, [], ◌∷◌, Option, None, Some, refl}
 use Rattle.std.specs.List.{All, fold}
-use Rattle.std.proofs.Common.{sym, subst, ap, arith}
-use Rattle.std.proofs.lemmas.Int.{ints}
-use Rattle.std.proofs.lemmas.List.Elements.{All-nil, All-cons, All-filter}
+use Rattle.std.proofs.lemmas.{Int.ints, List.Elements.All-nil, List.Elements.All-cons, List.Elements.All-filter}
 use Rattle.tsp_base.specs.Words.{Estimate, IsMicros}
 use Rattle.tsp_group.specs.Groups.{is_member, members, group_from, goes_before, better, no_group, try_lo, group_of, floor_div, mean_of}
-use Rattle.tsp_group.specs.Values.{IsNear}
-use Rattle.tsp_group.specs.declared.group.Group.{Group}
-use Rattle.tsp_group.proofs.Means.{floor_div_fits}
-use Rattle.tsp_group.proofs.Sums.{near_total-low, near_total-high}
-use Rattle.tsp_group.proofs.Majority.{near_sum}
+use Rattle.tsp_group.specs.{Values.IsNear, declared.group.Group.Group}
+use Rattle.tsp_group.proofs.{Majority.near_sum, Means.floor_div_fits, Sums.near_total-low, Sums.near_total-high}
 use Rattle.tsp_rules.specs.RoundRows.{Standing, is_near, diff_before, near_diffs, estimates, mean_by}
 
 -- a difference that is averaged is near

@@ -1,31 +1,19 @@
 -- A measurement errs by at most half its round trip.
-use Rattle.std.specs.Prelude.{◌≡◌, true, ℤ, pos, ◌+ℤ◌, ◌-ℤ◌, ◌≤ℤ◌, nat_abs, ℕ, zero, suc, ◌+◌, ◌-◌, ◌/◌, ◌≤◌, ◌⊎◌, List, ◌∷◌, refl}
-use Rattle.std.proofs.Common.{sym, ap, arith, subst, subst₂, inl, inr, ◌∙◌}
+use Rattle.std.proofs.Common.{sym, ap, arith, subst, subst₂, inl, inr, ◌∙◌, ◌≡◌, true, ℤ, pos, ◌+ℤ◌, ◌-ℤ◌, ◌≤ℤ◌, nat_abs, ℕ, zero, suc, ◌+◌, ◌-◌, ◌/◌, ◌≤◌, ◌⊎◌, List, ◌∷◌, refl}
 use Rattle.std.proofs.lemmas.Int.{ints}
 use Rattle.tsp_rules.specs.Values.{Post, Sample, Datagram, Stamp, PeerId, Place, Peer, Port, Request, Reply, LIFE}
 use Rattle.tsp_base.specs.Words.{Came, Acts, Did, Line, Seen, Here, of, dids, view, plain, all_corrects, base, boot_tick, lives, moved, target, up, word, wall, ticket, Within, half_down, half_up, sample_diff, sample_err, ReplyValue, Undisturbed, peer_of, posted, tick_at}
-use Rattle.tsp_promises.specs.ClockAt.{clock}
+use Rattle.tsp_promises.specs.{ClockAt.clock, MeasureFits.ReplyFits, MeasureFits.SampleFits, Measured.MeasuredAt, Measured.Measured}
 use Rattle.tsp_promises.specs.Fits.{Fits, LineFits, Alive, node_of}
-use Rattle.tsp_promises.specs.Measured.{MeasuredAt, Measured}
-use Rattle.tsp_promises.specs.MeasureFits.{ReplyFits, SampleFits}
 use Rattle.tsp_promises.specs.Premises.{Honest, HonestAt, Life, OwnWords, OwnWordsAt, TakenWithinAt}
-use Rattle.tsp_promises.specs.Setting.{Setting}
-use Rattle.tsp_promises.proofs.EverywhereLemmas.{Everywhere-from, Everywhere-within}
-use Rattle.tsp_base.proofs.PlaceLemmas.{Within-through, Within-tail}
-use Rattle.tsp_base.proofs.Views.{plain_view}
-use Rattle.tsp_promises.specs.Since.{Since, OneLife}
-use Rattle.tsp_promises.proofs.ClockProof.{base_is, clock_post}
-use Rattle.tsp_promises.proofs.Clocks.{tick-mono}
-use Rattle.tsp_promises.proofs.HistoryPlaces.{of-own, Within-of}
-use Rattle.tsp_promises.proofs.KnownProof.{known}
+use Rattle.tsp_promises.proofs.{EverywhereLemmas.Everywhere-from, EverywhereLemmas.Everywhere-within, KnownProof.known, PortFits.deed_fits}
+use Rattle.tsp_base.proofs.{PlaceLemmas.Within-through, PlaceLemmas.Within-tail, Views.plain_view}
+use Rattle.tsp_promises.proofs.{ClockProof.base_is, ClockProof.clock_post, Clocks.tick-mono, HistoryPlaces.of-own, HistoryPlaces.Within-of}
 use Rattle.tsp_promises.proofs.Locating.{Located, line_on, locate, fits_in, tick_in}
-use Rattle.tsp_promises.proofs.OwnFitsProof.{own_fits, fits_at, place-time}
-use Rattle.tsp_promises.proofs.PortFits.{deed_fits}
+use Rattle.tsp_promises.proofs.{OwnFitsProof.own_fits, OwnFitsProof.fits_at, OwnFitsProof.place-time, SendProof.number-same}
 use Rattle.tsp_promises.proofs.Requests.{Asks, SameLife, asks-up, request-fits, request_unique}
-use Rattle.tsp_promises.proofs.RoundPlaces.{started_at, exchange_at}
-use Rattle.tsp_promises.proofs.SendPlaces.{post_unique, same-number}
-use Rattle.tsp_promises.proofs.SinceProof.{since}
-use Rattle.tsp_promises.proofs.SendProof.{number-same}
+use Rattle.tsp_promises.proofs.{RoundPlaces.started_at, RoundPlaces.exchange_at, SendPlaces.post_unique, SendPlaces.same-number}
+use Rattle.tsp_promises.{proofs.SinceProof.since, specs.Setting.Setting, specs.Since.Since, specs.Since.OneLife}
 
 -- the arithmetic of an exchange
 pub half-up-pos : (z : ℕ) → half_up (pos z) ≡ pos ((z + 1) / 2)

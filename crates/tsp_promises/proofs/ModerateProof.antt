@@ -1,34 +1,19 @@
 -- A minority of a round's estimates moves no clock of the majority by much.
-use Rattle.std.specs.Prelude.{◌≡◌, ◌==◌, ◌||◌, ◌≤◌, ◌<◌, ◌≤ℤ◌, ℕ, ◌-◌, ◌*◌, ℤ, pos, ◌+ℤ◌, ◌-ℤ◌, nat_abs, Bool, true, false, List, ◌∷◌, length, Some, refl, ◌+◌, ◌/◌, negsuc, neg_ℤ, if◌then◌else◌, nat_lt, Option, None}
-use Rattle.std.proofs.Common.{sym, ap, arith, subst, inl, inr, ◌∙◌}
-use Rattle.std.proofs.lemmas.Bool.{ltb-true}
-use Rattle.std.proofs.lemmas.Int.{ints}
+use Rattle.std.proofs.Common.{sym, ap, arith, subst, inl, inr, ◌∙◌, ◌≡◌, ◌==◌, ◌||◌, ◌≤◌, ◌<◌, ◌≤ℤ◌, ℕ, ◌-◌, ◌*◌, ℤ, pos, ◌+ℤ◌, ◌-ℤ◌, nat_abs, Bool, true, false, List, ◌∷◌, length, Some, refl, ◌+◌, ◌/◌, negsuc, neg_ℤ, if◌then◌else◌, nat_lt, Option, None}
+use Rattle.std.proofs.lemmas.{Bool.ltb-true, Int.ints}
 use Rattle.tsp_rules.specs.Values.{Close, Correct, Message, Good, AdjTime, Place, MAXADJ, SLEW, SPAN}
 use Rattle.tsp_base.specs.Words.{Acts, Did, Line, Seen, of, dids, view, seen_as, is_shared, plain, MessageValue, Received, time_of, eased, last_correct, rest, rest_at, shown, target, Sampled, best, Setup, peer_of, time_in, heard, width}
 use Rattle.tsp_group.specs.Groups.{FollowsMajority, IsWithin, group_of, mean_of}
-use Rattle.tsp_group.proofs.LargestGroup.{group_of-IsLargest}
-use Rattle.tsp_group.proofs.Majority.{IsLargest-majority}
-use Rattle.tsp_promises.specs.ClockAt.{clock_at}
+use Rattle.tsp_group.proofs.{LargestGroup.group_of-IsLargest, Majority.IsLargest-majority}
+use Rattle.tsp_promises.specs.{ClockAt.clock_at, Estimates.Moves, Fits.Fits, Fits.node_of, RoundFits.group_mean}
 use Rattle.tsp_promises.specs.CorrectFits.{CorrectFits, WhyCorrect, ByRound, ByMaster, ByDate, is_stepped, sets_time}
-use Rattle.tsp_promises.specs.Fits.{Fits, node_of}
-use Rattle.tsp_promises.specs.Estimates.{Moves}
 use Rattle.tsp_promises.specs.Moderate.{AdjTimeNear, Agrees, MeanNear, Moderate, ModerateAt, ModerateClocks, OwnNear, PeerCorrects, PeerNear, WithMajority, estimates_of}
-use Rattle.tsp_promises.specs.RoundFits.{group_mean}
-use Rattle.tsp_promises.specs.Setting.{Setting, setup_of}
 use Rattle.tsp_base.proofs.ViewPlaces.{or-false, port-same}
-use Rattle.tsp_promises.proofs.BestProof.{some-is}
-use Rattle.tsp_promises.proofs.FromRoundProof.{amount-adj, corrects-adj}
-use Rattle.tsp_promises.proofs.Correcting.{heard_as}
-use Rattle.tsp_promises.proofs.EstimatesProof.{at-close, ended_near}
-use Rattle.tsp_promises.proofs.EverywhereLemmas.{Everywhere-from}
-use Rattle.tsp_promises.proofs.Given.{Given, given_at}
-use Rattle.tsp_promises.proofs.HistoryPlaces.{of-own}
-use Rattle.tsp_promises.proofs.MasterMoved.{mean-is, same-mean}
-use Rattle.tsp_promises.proofs.OnceTakenProof.{correct_fits}
-use Rattle.tsp_promises.proofs.OwnFitsProof.{fits_at}
-use Rattle.tsp_promises.proofs.PortFits.{deed_fits}
-use Rattle.tsp_promises.proofs.SendPlaces.{post_fits}
-use Rattle.tsp_promises.proofs.TakingProof.{begun_facts, used-by}
+use Rattle.tsp_promises.proofs.{BestProof.some-is, Correcting.heard_as, EstimatesProof.at-close, EstimatesProof.ended_near}
+use Rattle.tsp_promises.proofs.{EverywhereLemmas.Everywhere-from, FromRoundProof.amount-adj, FromRoundProof.corrects-adj}
+use Rattle.tsp_promises.proofs.{Given.Given, Given.given_at, HistoryPlaces.of-own, MasterMoved.mean-is, MasterMoved.same-mean}
+use Rattle.tsp_promises.proofs.{OnceTakenProof.correct_fits, OwnFitsProof.fits_at, PortFits.deed_fits, SendPlaces.post_fits}
+use Rattle.tsp_promises.{proofs.TakingProof.begun_facts, proofs.TakingProof.used-by, specs.Setting.Setting, specs.Setting.setup_of}
 
 -- a Correct right after a Close is on its port, in a step that has taken nothing, and by the mean of the group that the port finds
 group-is : (setup : Setup) (here close : Did) (vs : List Seen) (b : Bool) (count : ℕ) (lo size mean amount : ℤ) → close.deed ≡ Acts (Close count lo size mean) → WhyCorrect setup here (seen_as b close ∷ vs) amount → (b ≡ true) × (amount ≡ group_mean setup vs) × (heard (plain (seen_as b close ∷ vs)) ≡ None)

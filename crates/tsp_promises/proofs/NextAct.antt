@@ -1,13 +1,10 @@
 -- A Correct that is the next act of all after a line stands right after it.
-use Rattle.std.specs.Prelude.{◌≡◌, ◌==◌, ℤ, Bool, List, [], ◌∷◌, refl}
-use Rattle.std.proofs.Common.{sym, ap, subst, ◌∙◌}
+use Rattle.std.proofs.Common.{sym, ap, subst, ◌∙◌, ◌≡◌, ◌==◌, ℤ, Bool, List, [], ◌∷◌, refl}
 use Rattle.tsp_rules.specs.Values.{Correct}
 use Rattle.tsp_base.specs.Words.{Begins, Acts, Deed, Did, Line, Seen, Here, Step, from_act, from_act_at, of, dids, view, Setup}
 use Rattle.tsp_promises.specs.CorrectFits.{WhyCorrect, ByRound, ByMaster, ByDate}
-use Rattle.tsp_promises.specs.Fits.{Fits, SameStep, node_of}
-use Rattle.tsp_promises.specs.Setting.{Setting, setup_of}
-use Rattle.tsp_promises.proofs.HistoryPlaces.{of-own}
-use Rattle.tsp_promises.proofs.PortFits.{deed_fits}
+use Rattle.tsp_promises.specs.{Fits.Fits, Fits.SameStep, Fits.node_of, Setting.Setting, Setting.setup_of}
+use Rattle.tsp_promises.proofs.{HistoryPlaces.of-own, PortFits.deed_fits}
 use Rattle.std.proofs.Math.Bool.{or-true}
 
 -- no Correct stands right after a mark

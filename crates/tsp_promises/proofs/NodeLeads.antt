@@ -1,25 +1,18 @@
 -- The steps of a node follow one another, and each deed of its ports fits.
-use Rattle.std.specs.Prelude.{◌≡◌, ◌≤◌, ◌<◌, ℕ, ◌+◌, ◌==◌, true, List, [], ◌∷◌, ◌++◌, length, refl}
-use Rattle.std.proofs.Common.{sym, subst, inl, ap, arith, true≢false, ◌∙◌}
+use Rattle.std.proofs.Common.{sym, subst, inl, ap, arith, true≢false, ◌∙◌, ◌≡◌, ◌≤◌, ◌<◌, ℕ, ◌+◌, ◌==◌, true, List, [], ◌∷◌, ◌++◌, length, refl}
 use Rattle.std.proofs.lemmas.Bool.{or_right}
 use Rattle.tsp_rules.specs.Values.{Boot, Become, Arm, Quiet, Port, Starting, QUIET}
 use Rattle.tsp_base.specs.Words.{Step, Begins, Acts, Here, Past, plain, view, seen_as, first_port, line_of, boot_tick, role, grown, in_step, puts, ◌followed_by◌, arms, placed}
 use Rattle.tsp_rules.specs.GateRows.{ports_from, boots_on, boots_all, NodeGiven, NodeTurn, GotOn, answers_all}
 use Rattle.tsp_rules.specs.NodeRows.{NodePast, port_setup, on_port, spread, in_node_step, nothing_at_all, on, ◌and_then◌, reading_all, for_ports}
-use Rattle.tsp_rules.proofs.NodeRowLemmas.{spread_append}
 use Rattle.tsp_promises.specs.NodeRuns.{NodeMakes, NodeBoots, NodeAnswers, node_row_of, NodeHappening, node_ran, node_tick, IsGivenOn, NodeOrdered, NodesFit}
-use Rattle.tsp_promises.specs.PortFits.{PortFits, setup_in}
-use Rattle.tsp_promises.specs.StepFacts.{StepEnds}
-use Rattle.tsp_promises.proofs.Known.{Ended, Fresh, Rests}
+use Rattle.tsp_promises.specs.{PortFits.PortFits, PortFits.setup_in, StepFacts.StepEnds}
+use Rattle.tsp_promises.proofs.{Known.Ended, Known.Fresh, Known.Rests, PortLists.Ranged, PortLists.ranged_from}
 use Rattle.tsp_promises.proofs.Leaves.{none-some, none-among, nil-cons, some-same}
 use Rattle.tsp_promises.proofs.RunLeads.{ends_of, begins_fresh, nothing-done}
-use Rattle.tsp_promises.proofs.Elsewheres.{fresh_family}
-use Rattle.tsp_rules.proofs.Asides.{all_aside}
-use Rattle.tsp_promises.proofs.PortLists.{Ranged, ranged_from}
-use Rattle.tsp_promises.proofs.GateFacts.{AllPorts, LeadsAll, placed_all}
-use Rattle.tsp_promises.proofs.GateLeads.{GivenOn, answers_all_lead}
-use Rattle.tsp_promises.proofs.HeedLeads.{answers_all_heed, untaken_heeds}
-use Rattle.tsp_promises.proofs.RunLemmas.{ports-ran}
+use Rattle.tsp_promises.proofs.{Elsewheres.fresh_family, GateFacts.AllPorts, GateFacts.LeadsAll, GateFacts.placed_all, RunLemmas.ports-ran}
+use Rattle.tsp_rules.proofs.{Asides.all_aside, NodeRowLemmas.spread_append}
+use Rattle.tsp_promises.proofs.{GateLeads.GivenOn, GateLeads.answers_all_lead, HeedLeads.answers_all_heed, HeedLeads.untaken_heeds}
 
 -- a mark is seen by each port
 on-mark : (q : Port) (step : Step) (x : ℕ) (past : NodePast) → on_port q (in_node_step step x past) ≡ in_step step x (on_port q past)

@@ -1,22 +1,15 @@
 -- A follower's clock is moved only as its master says.
-use Rattle.std.specs.Prelude.{◌≡◌, ℕ, ℤ, Bool, true, false, List, ◌∷◌, refl}
-use Rattle.std.proofs.Common.{sym, ap, subst, inl, ◌∙◌}
+use Rattle.std.proofs.Common.{sym, ap, subst, inl, ◌∙◌, ◌≡◌, ℕ, ℤ, Bool, true, false, List, ◌∷◌, refl}
 use Rattle.tsp_rules.specs.Values.{Close, Correct, Message, PeerId, Port, Follow, Master}
 use Rattle.tsp_base.specs.Words.{Acts, Line, Here, of, dids, view, plain, is_shared, target, up, Within, role, time_in}
-use Rattle.tsp_promises.specs.ClockAt.{clock_at}
+use Rattle.tsp_promises.specs.{ClockAt.clock_at, Once.Obeys, Once.ObeysAt, Once.OnceObeyed, Premises.Honest, Premises.HonestAt}
 use Rattle.tsp_promises.specs.CorrectFits.{WhyCorrect, ByRound, ByMaster, ByDate, EndsRound, amount_of}
 use Rattle.tsp_promises.specs.Fits.{Fits, LineFits, Alive, node_of}
-use Rattle.tsp_promises.specs.Once.{Obeys, ObeysAt, OnceObeyed}
-use Rattle.tsp_promises.specs.Premises.{Honest, HonestAt}
 use Rattle.tsp_promises.specs.Setting.{Setting, setup_of}
 use Rattle.tsp_promises.proofs.EverywhereLemmas.{Everywhere-from, Everywhere-within}
 use Rattle.tsp_base.proofs.Views.{plain_view}
-use Rattle.tsp_promises.proofs.ClockProof.{target_is}
-use Rattle.tsp_promises.proofs.Correcting.{taken-of}
-use Rattle.tsp_promises.proofs.KnownProof.{known}
+use Rattle.tsp_promises.proofs.{ClockProof.target_is, Correcting.taken-of, KnownProof.known, OwnFitsProof.fits_at, PortFits.deed_fits}
 use Rattle.tsp_promises.proofs.Locating.{line_on, locate, fits_in}
-use Rattle.tsp_promises.proofs.OwnFitsProof.{fits_at}
-use Rattle.tsp_promises.proofs.PortFits.{deed_fits}
 
 -- a round is closed by a master
 pub round-leads : (setting : Setting) (n : ℕ) (q : Port) (world : List Line) (amount : ℤ) → Fits setting world → EndsRound (setup_of setting n q) (view q (of n world)) amount → role (view q (of n world)) ≡ Master

@@ -1,17 +1,11 @@
 -- Corrects of a node stand apart.
-use Rattle.std.specs.Prelude.{◌≡◌, ◌≤◌, ◌+◌, List, ◌∷◌, refl}
-use Rattle.std.proofs.Common.{arith, subst}
+use Rattle.std.proofs.Common.{arith, subst, ◌≡◌, ◌≤◌, ◌+◌, List, ◌∷◌, refl}
 use Rattle.tsp_rules.specs.Values.{Correct, GAP}
 use Rattle.tsp_base.specs.Words.{Acts, Line, of, dids, last_correct}
-use Rattle.tsp_promises.specs.Fits.{Fits, node_of}
 use Rattle.tsp_promises.specs.Once.{SpacedAt, SpacedOverLivesAt, OnceSpaced, OnceSpacedOverLives}
-use Rattle.tsp_promises.specs.Setting.{Setting}
-use Rattle.tsp_promises.proofs.EverywhereLemmas.{Everywhere-from}
+use Rattle.tsp_promises.proofs.{EverywhereLemmas.Everywhere-from, HistoryPlaces.own_in, OwnFitsProof.own_fits, OwnFitsProof.fits_at}
 use Rattle.tsp_base.proofs.Views.{plain_view}
-use Rattle.tsp_promises.proofs.HistoryPlaces.{own_in}
-use Rattle.tsp_promises.proofs.OwnFitsProof.{own_fits, fits_at}
-use Rattle.tsp_promises.proofs.PortFits.{deed_fits}
-use Rattle.tsp_promises.proofs.SinceProof.{since}
+use Rattle.tsp_promises.{proofs.PortFits.deed_fits, proofs.SinceProof.since, specs.Fits.Fits, specs.Fits.node_of, specs.Setting.Setting}
 
 spaced_over_at : (setting : Setting) (l : Line) (world : List Line) → Fits setting (l ∷ world) → SpacedOverLivesAt l world
 spaced_over_at setting l world f other older a b s t x y is w node other_is =

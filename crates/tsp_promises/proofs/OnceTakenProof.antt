@@ -1,23 +1,14 @@
 -- No two Corrects take posts of one correction.
-use Rattle.std.specs.Prelude.{◌≡◌, true, ℕ, ◌+◌, ◌≤◌, ℤ, List, ◌∷◌, refl}
-use Rattle.std.proofs.Common.{sym, ap, arith, subst, ◌∙◌}
+use Rattle.std.proofs.Common.{sym, ap, arith, subst, ◌∙◌, ◌≡◌, true, ℕ, ◌+◌, ◌≤◌, ℤ, List, ◌∷◌, refl}
 use Rattle.tsp_rules.specs.Values.{Post, Correct, Message, PeerId, Peer, LIFE, QUIET}
 use Rattle.tsp_base.specs.Words.{Acts, Did, Line, Seen, Here, of, dids, view, MessageValue, boot_tick, ticket, Within, is_correction, is_numbered, peer_of, tick_at}
-use Rattle.tsp_promises.specs.CorrectFits.{CorrectFits}
-use Rattle.tsp_promises.specs.Fits.{Fits, node_of}
+use Rattle.tsp_promises.specs.{CorrectFits.CorrectFits, Fits.Fits, Fits.node_of, Premises.Life, Premises.TakenWithinAt}
 use Rattle.tsp_promises.specs.Once.{ActsOn, OfSend, OnceAt, OnceCorrected}
-use Rattle.tsp_promises.specs.Premises.{Life, TakenWithinAt}
-use Rattle.tsp_promises.specs.Setting.{Setting, setup_of}
-use Rattle.tsp_promises.proofs.EverywhereLemmas.{Everywhere-from, Everywhere-within}
+use Rattle.tsp_promises.proofs.{EverywhereLemmas.Everywhere-from, EverywhereLemmas.Everywhere-within, Locating.tick_in, SinceProof.since}
 use Rattle.tsp_base.proofs.Views.{plain_view}
-use Rattle.tsp_promises.proofs.Clocks.{near}
-use Rattle.tsp_promises.proofs.Correcting.{TakesOf, takes_of, ticket_moves}
-use Rattle.tsp_promises.proofs.HistoryPlaces.{own_in}
-use Rattle.tsp_promises.proofs.Locating.{tick_in}
-use Rattle.tsp_promises.proofs.OwnFitsProof.{own_fits, fits_at, place-time}
-use Rattle.tsp_promises.proofs.PortFits.{deed_fits, own_tick}
-use Rattle.tsp_promises.proofs.SendPlaces.{SendPlace, send_place}
-use Rattle.tsp_promises.proofs.SinceProof.{since}
+use Rattle.tsp_promises.proofs.{Clocks.near, Correcting.TakesOf, Correcting.takes_of, Correcting.ticket_moves, HistoryPlaces.own_in}
+use Rattle.tsp_promises.proofs.{OwnFitsProof.own_fits, OwnFitsProof.fits_at, OwnFitsProof.place-time, PortFits.deed_fits, PortFits.own_tick}
+use Rattle.tsp_promises.{proofs.SendPlaces.SendPlace, proofs.SendPlaces.send_place, specs.Setting.Setting, specs.Setting.setup_of}
 
 -- what the Correct owes that takes a post
 pub correct_fits : (setting : Setting) (l : Line) (world : List Line) (post : Line) (older : List Line) → Fits setting (l ∷ world) → (a : ActsOn l world post older) → CorrectFits (setup_of setting (node_of l) l.port) l.did (view l.port (of (node_of l) world)) a.amount a.stepped a.shown

@@ -1,22 +1,14 @@
 -- No node backs two candidates within the hold.
-use Rattle.std.specs.Prelude.{◌≡◌, ◌≤◌, ◌+◌, false, List, ◌∷◌}
-use Rattle.std.proofs.Common.{arith, subst, inl, inr, ◌∙◌}
+use Rattle.std.proofs.Common.{arith, subst, inl, inr, ◌∙◌, ◌≡◌, ◌≤◌, ◌+◌, false, List, ◌∷◌}
 use Rattle.tsp_rules.specs.Values.{Post, Back, Message, Kind, Accept, Election, PeerId, Place, Peer, Stranger, QUIET}
 use Rattle.tsp_base.specs.Words.{Acts, Did, Line, Seen, of, dids, view, is_shared, MessageValue, boot_tick, Setup}
-use Rattle.tsp_promises.specs.DeedFits.{MessageFits, PostFits, StrangerFits}
+use Rattle.tsp_promises.specs.{DeedFits.MessageFits, DeedFits.PostFits, DeedFits.StrangerFits, HoldFits.AcceptFits}
 use Rattle.tsp_promises.specs.Fits.{Fits, Finished, Sees, node_of}
-use Rattle.tsp_promises.specs.HoldFits.{AcceptFits}
 use Rattle.tsp_promises.specs.OneBack.{HoldsAt, IsBacked, BacksAt, OneBack}
-use Rattle.tsp_promises.specs.Setting.{Setting, setup_of}
-use Rattle.tsp_promises.specs.StepFacts.{backed, is_unbacked}
-use Rattle.tsp_promises.proofs.EverywhereLemmas.{Everywhere-from}
-use Rattle.tsp_base.proofs.ViewPlaces.{sees-own}
-use Rattle.tsp_base.proofs.Views.{plain_view}
-use Rattle.tsp_promises.proofs.HeldProof.{back_late}
-use Rattle.tsp_promises.proofs.HistoryPlaces.{own_in}
-use Rattle.tsp_promises.proofs.OwnFitsProof.{own_fits, fits_at}
-use Rattle.tsp_promises.proofs.PortFits.{deed_fits, mark_fits, own_tick}
-use Rattle.tsp_promises.proofs.SinceProof.{since}
+use Rattle.tsp_promises.specs.{Setting.Setting, Setting.setup_of, StepFacts.backed, StepFacts.is_unbacked}
+use Rattle.tsp_promises.proofs.{EverywhereLemmas.Everywhere-from, HeldProof.back_late, HistoryPlaces.own_in, SinceProof.since}
+use Rattle.tsp_base.proofs.{ViewPlaces.sees-own, Views.plain_view}
+use Rattle.tsp_promises.proofs.{OwnFitsProof.own_fits, OwnFitsProof.fits_at, PortFits.deed_fits, PortFits.mark_fits, PortFits.own_tick}
 
 pub holds_at : (setting : Setting) (l : Line) (world : List Line) → Fits setting (l ∷ world) → HoldsAt l world
 holds_at setting l world f p q other older is w node port other_is =

@@ -1,24 +1,13 @@
 -- A clock is corrected only as it was measured.
-use Rattle.std.specs.Prelude.{◌≡◌, ◌⊎◌, ℕ, ◌+◌, ◌≤◌, List, ◌∷◌, Some, refl}
-use Rattle.std.proofs.Common.{sym, ap, arith, subst, inl, inr, ◌∙◌}
+use Rattle.std.proofs.Common.{sym, ap, arith, subst, inl, inr, ◌∙◌, ◌≡◌, ◌⊎◌, ℕ, ◌+◌, ◌≤◌, List, ◌∷◌, Some, refl}
 use Rattle.tsp_rules.specs.Values.{Post, Message, Stamp, Peer, Port, Reply}
 use Rattle.tsp_base.specs.Words.{Acts, Did, Here, Line, of, dids, view, ticket, Within, Sampled, best, ReplyValue, Receives, Undisturbed, peer_of, posted}
-use Rattle.tsp_promises.specs.Agreed.{ReadingOf}
-use Rattle.tsp_promises.specs.CorrectionFits.{AnswersSlaveUp, AtClose}
-use Rattle.tsp_promises.specs.Fits.{node_of}
+use Rattle.tsp_promises.specs.{Agreed.ReadingOf, CorrectionFits.AnswersSlaveUp, CorrectionFits.AtClose, Fits.node_of, Setting.Setting}
 use Rattle.tsp_promises.specs.OneError.{FromSlaveUp, OneError, OneErrorAt, SourceReading, SourceSlaveUp, Taking}
-use Rattle.tsp_promises.specs.Setting.{Setting}
 use Rattle.tsp_base.proofs.PlaceLemmas.{Within-all, Within-through, Within-tail}
-use Rattle.tsp_promises.proofs.BestProof.{best_at}
-use Rattle.tsp_promises.proofs.ClosedProof.{closed_at}
-use Rattle.tsp_promises.proofs.EverywhereLemmas.{Everywhere-from}
-use Rattle.tsp_promises.proofs.Given.{Given, given_at}
-use Rattle.tsp_promises.proofs.KnownProof.{known}
-use Rattle.tsp_promises.proofs.Locating.{line_on, locate}
-use Rattle.tsp_promises.proofs.Matching.{first_after}
-use Rattle.tsp_promises.proofs.MeasuredProof.{reading_at, sample_fits}
-use Rattle.tsp_promises.proofs.SendPlaces.{post_unique, same-number}
-use Rattle.tsp_promises.proofs.SendProof.{number-same}
+use Rattle.tsp_promises.proofs.{BestProof.best_at, ClosedProof.closed_at, EverywhereLemmas.Everywhere-from, Given.Given, Given.given_at}
+use Rattle.tsp_promises.proofs.{KnownProof.known, Locating.line_on, Locating.locate, Matching.first_after, SendProof.number-same}
+use Rattle.tsp_promises.proofs.{MeasuredProof.reading_at, MeasuredProof.sample_fits, SendPlaces.post_unique, SendPlaces.same-number}
 use Rattle.tsp_promises.proofs.SourceProof.{slaveup_ticket}
 use Rattle.tsp_promises.proofs.TakingProof.{BegunFacts, begun_facts, read_facts, taken_facts}
 

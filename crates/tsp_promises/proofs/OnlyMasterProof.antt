@@ -1,20 +1,13 @@
 -- Only masters correct.
-use Rattle.std.specs.Prelude.{◌≡◌, ◌==◌, ◌||◌, ℕ, ℤ, Bool, true, false, List, ◌∷◌, refl}
-use Rattle.std.proofs.Common.{sym, ap, subst, true≢false}
+use Rattle.std.proofs.Common.{sym, ap, subst, true≢false, ◌≡◌, ◌==◌, ◌||◌, ℕ, ℤ, Bool, true, false, List, ◌∷◌, refl}
 use Rattle.tsp_rules.specs.Values.{Post, Close, Correct, Message, Kind, Ack, AdjTime, DateAck, SetTime, PeerId, Place, Peer, Stranger, Master}
 use Rattle.tsp_base.specs.Words.{Acts, Deed, Did, Line, Step, Seen, from_act, of, dids, view, seen_as, is_shared, MessageValue, role, is_correction, Setup}
 use Rattle.tsp_promises.specs.CorrectFits.{WhyCorrect, ByRound, ByMaster, ByDate}
-use Rattle.tsp_promises.specs.CorrectionFits.{CorrectionFits}
+use Rattle.tsp_promises.specs.{CorrectionFits.CorrectionFits, OnlyMaster.Leads, OnlyMaster.LeadsAt, OnlyMaster.OnlyMaster}
 use Rattle.tsp_promises.specs.DeedFits.{DeedFits, PostFits, MessageFits, StrangerFits}
 use Rattle.tsp_promises.specs.Fits.{Fits, LineFits, SameStep, node_of}
-use Rattle.tsp_promises.specs.OnlyMaster.{Leads, LeadsAt, OnlyMaster}
-use Rattle.tsp_promises.specs.RoundFits.{CloseFits}
-use Rattle.tsp_promises.specs.Setting.{Setting, setup_of}
-use Rattle.tsp_promises.proofs.EverywhereLemmas.{Everywhere-from}
-use Rattle.tsp_promises.proofs.HistoryPlaces.{of-own}
-use Rattle.tsp_promises.proofs.OwnFitsProof.{fits_at}
-use Rattle.tsp_promises.proofs.NextAct.{right_after}
-use Rattle.tsp_promises.proofs.PortFits.{deed_fits}
+use Rattle.tsp_promises.proofs.{EverywhereLemmas.Everywhere-from, HistoryPlaces.of-own, NextAct.right_after, OwnFitsProof.fits_at}
+use Rattle.tsp_promises.{proofs.PortFits.deed_fits, specs.RoundFits.CloseFits, specs.Setting.Setting, specs.Setting.setup_of}
 
 -- what the post of a correction to a peer owes
 pub correction_fits : (setup : Setup) (k : Kind) (here : Did) (seen : List Seen) (p : PeerId) (m : MessageValue) → is_correction k ≡ true → MessageFits setup k here seen p m → CorrectionFits here seen p m

@@ -1,14 +1,9 @@
 -- The lines of each node of a history that fits.
-use Rattle.std.specs.Prelude.{◌≡◌, ◌==◌, Bool, true, false, ℕ, ◌≤◌, List, [], ◌∷◌, refl}
-use Rattle.std.proofs.Common.{sym, ap, ◌∙◌, arith, subst, inl, inr, eqb-true}
-use Rattle.tsp_promises.specs.DeedFits.{DeedFits}
+use Rattle.std.proofs.Common.{sym, ap, ◌∙◌, arith, subst, inl, inr, eqb-true, ◌≡◌, ◌==◌, Bool, true, false, ℕ, ◌≤◌, List, [], ◌∷◌, refl}
+use Rattle.tsp_promises.specs.{DeedFits.DeedFits, OwnFits.OwnFits, OwnFits.OwnLineFits, Setting.Setting, Setting.setup_of}
 use Rattle.tsp_promises.specs.Fits.{Fits, LineFits, Alive, SameStep, node_of}
 use Rattle.tsp_base.specs.Words.{Line, Deed, Begins, Acts, Step, of, dids, view, time_of, tick_of, up, Within, tick_at}
-use Rattle.tsp_promises.specs.Setting.{Setting, setup_of}
-use Rattle.tsp_promises.proofs.EverywhereLemmas.{Everywhere-within}
-use Rattle.tsp_promises.specs.OwnFits.{OwnFits, OwnLineFits}
-use Rattle.tsp_promises.proofs.Clocks.{tick-mono}
-use Rattle.tsp_promises.proofs.HistoryPlaces.{of-own}
+use Rattle.tsp_promises.proofs.{Clocks.tick-mono, EverywhereLemmas.Everywhere-within, HistoryPlaces.of-own}
 
 -- a line's tick, by its node's number
 pub tick_is : (setting : Setting) (n : ℕ) (l : Line) (world : List Line) → node_of l ≡ n → LineFits setting l world → l.did.tick ≡ tick_at (setting.rate n) l.did.step.at

@@ -1,22 +1,15 @@
 -- How a Close corrects the measured peers, and what stays known of the port.
-use Rattle.std.specs.Prelude.{◌≡◌, ◌⊎◌, ◌≤◌, ℕ, ◌+◌, ℤ, pos, ◌-ℤ◌, Bool, true, false, if◌then◌else◌, List, [], ◌∷◌, map, Option, None, Some, refl}
-use Rattle.std.proofs.Common.{sym, inl, inr, ap, true≢false, ◌∙◌}
+use Rattle.std.proofs.Common.{sym, inl, inr, ap, true≢false, ◌∙◌, ◌≡◌, ◌⊎◌, ◌≤◌, ℕ, ◌+◌, ℤ, pos, ◌-ℤ◌, Bool, true, false, if◌then◌else◌, List, [], ◌∷◌, map, Option, None, Some, refl}
 use Rattle.std.proofs.lemmas.Bool.{and_parts}
 use Rattle.tsp_rules.specs.Values.{Post, Close, Leave, Message, AdjTime, SetTime, PeerId, Peer, Master, CLOSE, SLACK}
 use Rattle.tsp_base.specs.Words.{Step, Did, Acts, Seen, Here, Past, plain, Leads, MessageValue, role, started, Sampled, best, Estimate, estimate_of, grown, nothing, reading, for_each, timed, posts_time, Undisturbed, time_in}
-use Rattle.tsp_promises.specs.CorrectionFits.{CorrectionFits, FollowedBy, SetsTarget}
-use Rattle.tsp_promises.specs.StepFacts.{closed}
+use Rattle.tsp_promises.specs.{CorrectionFits.CorrectionFits, CorrectionFits.FollowedBy, CorrectionFits.SetsTarget, StepFacts.closed}
 use Rattle.tsp_base.proofs.LeadsLemmas.{Leads_then, Leads_either, Leads_reading, Leads_nothing, Leads_puts, Leads_from}
 use Rattle.tsp_rules.specs.RoundRows.{standing, is_near, corrects_by, corrects_peer}
 use Rattle.tsp_rules.specs.SendRows.{may_correct, begins_adjtime, may_set, begins_settime}
-use Rattle.tsp_rules.specs.Guards.{is_in_range, target_at}
-use Rattle.tsp_promises.proofs.Known.{Free, Untaken}
-use Rattle.tsp_promises.proofs.Leaves.{leave}
-use Rattle.tsp_rules.proofs.Asides.{now}
-use Rattle.tsp_promises.proofs.PostLeaves.{post_message}
-use Rattle.tsp_promises.proofs.LeadsLeaves.{Leads_posts_time}
-use Rattle.tsp_promises.proofs.TargetFacts.{sets_target}
-use Rattle.tsp_promises.proofs.CorrectionLeads.{may_fits}
+use Rattle.tsp_rules.{proofs.Asides.now, specs.Guards.is_in_range, specs.Guards.target_at}
+use Rattle.tsp_promises.proofs.{PostLeaves.post_message, TargetFacts.sets_target}
+use Rattle.tsp_promises.proofs.{CorrectionLeads.may_fits, Known.Free, Known.Untaken, LeadsLeaves.Leads_posts_time, Leaves.leave}
 
 -- after the own clock's correction, if there is one, while the peers are corrected
 pub record CorrectingPeers (mean : ℤ) (close : Did) (before : List Seen) (x : ℕ) (past : Past) : Type 0 where

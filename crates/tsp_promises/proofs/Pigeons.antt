@@ -1,9 +1,7 @@
 -- Two lists of different peers that are longer together than the list of all have one in common.
-use Rattle.std.specs.Prelude.{◌≡◌, ◌⊎◌, ◌≤◌, ◌<◌, ℕ, ◌+◌, ◌==◌, Bool, true, false, ◌||◌, if◌then◌else◌, List, [], ◌∷◌, length, refl}
-use Rattle.std.proofs.Common.{sym, ap, arith, inl, inr, eq-eqb, true≢false, ◌∙◌}
-use Rattle.tsp_rules.specs.Values.{PeerId}
+use Rattle.std.proofs.Common.{sym, ap, arith, inl, inr, eq-eqb, true≢false, ◌∙◌, ◌≡◌, ◌⊎◌, ◌≤◌, ◌<◌, ℕ, ◌+◌, ◌==◌, Bool, true, false, ◌||◌, if◌then◌else◌, List, [], ◌∷◌, length, refl}
 use Rattle.tsp_promises.proofs.Elections.{In}
-use Rattle.tsp_rules.proofs.GuardFacts.{same_peer}
+use Rattle.tsp_rules.{proofs.GuardFacts.same_peer, specs.Values.PeerId}
 
 -- no peer stands twice
 abbrev pub Distinct : List PeerId → Type 0

@@ -1,9 +1,6 @@
 -- Lists of a node's ports.
-use Rattle.std.specs.Prelude.{◌≡◌, ◌≢◌, ◌≤◌, ◌<◌, ℕ, ◌+◌, ◌==◌, ◌||◌, not, Bool, true, false, if◌then◌else◌, List, [], ◌∷◌, length, filter, refl}
-use Rattle.std.proofs.Common.{sym, subst, arith, true≢false, eqb-true, eq-eqb, ◌∙◌}
-use Rattle.tsp_rules.specs.Values.{Port}
-use Rattle.tsp_rules.specs.GateRows.{ports_from, other_ports}
-use Rattle.tsp_rules.specs.NodeRows.{PortSetup, NodePast}
+use Rattle.std.proofs.Common.{sym, subst, arith, true≢false, eqb-true, eq-eqb, ◌∙◌, ◌≡◌, ◌≢◌, ◌≤◌, ◌<◌, ℕ, ◌+◌, ◌==◌, ◌||◌, not, Bool, true, false, if◌then◌else◌, List, [], ◌∷◌, length, filter, refl}
+use Rattle.tsp_rules.specs.{GateRows.ports_from, GateRows.other_ports, NodeRows.PortSetup, NodeRows.NodePast, Values.Port}
 use Rattle.tsp_base.specs.Words.{sets_date}
 use Rattle.tsp_rules.proofs.BuiltAll.{EachPort, OtherPorts, PortsOf, StirredPorts}
 

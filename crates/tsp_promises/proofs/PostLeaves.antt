@@ -1,16 +1,12 @@
 -- What posts make of what is known of a port.
-use Rattle.std.specs.Prelude.{◌≡◌, ◌≤◌, ℕ, ◌+◌, ◌%◌, ◌^◌, ◌==◌, ◌&&◌, Bool, true, false, if◌then◌else◌, cond, List, [], ◌∷◌, Option, Some, refl}
-use Rattle.std.proofs.Common.{sym, subst, inl, inr, ap, ◌∙◌, true≢false}
+use Rattle.std.proofs.Common.{sym, subst, inl, inr, ap, ◌∙◌, true≢false, ◌≡◌, ◌≤◌, ℕ, ◌+◌, ◌%◌, ◌^◌, ◌==◌, ◌&&◌, Bool, true, false, if◌then◌else◌, cond, List, [], ◌∷◌, Option, Some, refl}
 use Rattle.std.proofs.lemmas.Bool.{and_parts}
 use Rattle.tsp_rules.specs.Values.{Post, Message, Stamp, Ack, PeerId, Place, Peer, Stranger, Request, Reply, QUIET}
 use Rattle.tsp_base.specs.Words.{Acts, Did, Seen, Here, Past, plain, MessageValue, all_corrects, boot_tick, lives, word, is_among, Received, armed, acting, backers, asked, exchange, word_asked, grown, bare, is_numbered, message_at, open_to, ReplyValue}
-use Rattle.tsp_promises.specs.DeedFits.{PostFits, MessageFits, AskedEarly}
-use Rattle.tsp_rules.specs.SendRows.{is_kind_election}
-use Rattle.tsp_promises.specs.PortFits.{setup_in}
-use Rattle.tsp_promises.specs.StepFacts.{acked_by}
+use Rattle.tsp_promises.specs.{DeedFits.PostFits, DeedFits.MessageFits, DeedFits.AskedEarly, PortFits.setup_in, StepFacts.acked_by}
 use Rattle.tsp_promises.proofs.Known.{Asked, asks_vote, During, KnowsOf}
 use Rattle.tsp_promises.proofs.Leaves.{then_seen, made}
-use Rattle.tsp_rules.proofs.Asides.{now}
+use Rattle.tsp_rules.{proofs.Asides.now, specs.SendRows.is_kind_election}
 
 -- a vote that is asked for after a post: by this message, which begins a send, or before
 post-vote : (p q : PeerId) (m : MessageValue) (d : Did) (before : List Seen) (bs : List PeerId) → d.deed ≡ Acts (Post (Peer p) (Message m)) → (is_kind_election m.kind ≡ true → acting before ≡ true → is_among q bs ≡ false) →

@@ -1,15 +1,12 @@
 -- The premises of small histories, by computing.
-use Rattle.std.specs.Prelude.{◌≡◌, ◌==◌, ◌&&◌, ◌||◌, nat_le, nat_lt, cond, Bool, true, false, ℕ, ◌+◌, ℤ, List, [], ◌∷◌, refl}
-use Rattle.std.proofs.Common.{sym, arith, subst, subst₂, inl, inr, eqb-true, eq-eqb, true≢false}
+use Rattle.std.proofs.Common.{sym, arith, subst, subst₂, inl, inr, eqb-true, eq-eqb, true≢false, ◌≡◌, ◌==◌, ◌&&◌, ◌||◌, nat_le, nat_lt, cond, Bool, true, false, ℕ, ◌+◌, ℤ, List, [], ◌∷◌, refl}
 use Rattle.std.proofs.lemmas.Bool.{leb-true, ltb-true, or_left, or_right, and_parts}
 use Rattle.tsp_rules.specs.Values.{Boot, Took, Post, Datagram, Place, Peer, LIFE}
 use Rattle.tsp_base.specs.Words.{Cause, Booted, Came, Handed, Acts, Deed, Line, dids, of, view, Within, begun, posted}
-use Rattle.tsp_promises.specs.Fits.{Fits, node_of}
+use Rattle.tsp_promises.specs.{Fits.Fits, Fits.node_of, Kept.Kept}
 use Rattle.tsp_promises.specs.Premises.{Few, Honest, Life, TakenWithinAt, Words, WordsAt}
-use Rattle.tsp_promises.specs.Kept.{Kept}
 use Rattle.tsp_promises.proofs.HistoriesFit.{all-finished, all_settled}
-use Rattle.tsp_promises.proofs.Histories.{still, post_at, post_here}
-use Rattle.tsp_promises.proofs.SendPlaces.{posted-mono, posted-post}
+use Rattle.tsp_promises.proofs.{Histories.still, Histories.post_at, Histories.post_here, SendPlaces.posted-mono, SendPlaces.posted-post}
 
 -- the post of a number is the one that is found by it
 found-is : (h : List Line) (post : Line) (older : List Line) (to : Place) (datagram : Datagram) → Within (post ∷ older) h → post.did.deed ≡ Acts (Post to datagram) → post_at (posted (dids older)) h ≡ post ∷ older

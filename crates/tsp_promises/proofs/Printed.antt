@@ -1,13 +1,11 @@
 -- What a Correct prints is what the clock shows right after it.
-use Rattle.std.specs.Prelude.{◌≡◌, ℕ, ◌-◌, ◌/◌, ℤ, pos, ◌+ℤ◌, ◌-ℤ◌, nat_lt, nat_abs, Bool, true, false, ◌||◌, if◌then◌else◌, List, ◌∷◌, Some, refl}
-use Rattle.std.proofs.Common.{sym, ap, arith, subst, ◌∙◌}
+use Rattle.std.proofs.Common.{sym, ap, arith, subst, ◌∙◌, ◌≡◌, ℕ, ◌-◌, ◌/◌, ℤ, pos, ◌+ℤ◌, ◌-ℤ◌, nat_lt, nat_abs, Bool, true, false, ◌||◌, if◌then◌else◌, List, ◌∷◌, Some, refl}
 use Rattle.std.proofs.lemmas.Int.{ints}
 use Rattle.tsp_rules.specs.Values.{Took, Correct, Message, Good, Kind, SetTime, Place, MAXADJ, SLEW}
 use Rattle.tsp_base.specs.Words.{Acts, Did, Here, Past, Seen, Step, plain, MessageValue, base, eased, moved, rest, rest_at, shown, target, taken_after, sets_date, heard}
 use Rattle.tsp_base.proofs.TickLemmas.{eased_none}
 use Rattle.tsp_promises.specs.CorrectFits.{is_stepped, sets_time}
-use Rattle.tsp_rules.specs.Guards.{target_at}
-use Rattle.tsp_rules.proofs.Asides.{now}
+use Rattle.tsp_rules.{proofs.Asides.now, specs.Guards.target_at}
 
 -- nothing is slewed in no time
 eased-now : (r : ℤ) (x : ℕ) → eased r ((x - x) / SLEW) ≡ r

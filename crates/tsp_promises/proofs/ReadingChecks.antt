@@ -1,13 +1,11 @@
 -- What a reading asks of the lines after a place, by computing.
-use Rattle.std.specs.Prelude.{◌≡◌, ◌==◌, ◌&&◌, ◌≤◌, nat_le, cond, Bool, true, false, ℕ, zero, suc, ℤ, List, [], ◌∷◌, refl}
-use Rattle.std.proofs.Common.{sym, ap, subst, inl, inr, eq-eqb, true≢false, ◌∙◌}
+use Rattle.std.proofs.Common.{sym, ap, subst, inl, inr, eq-eqb, true≢false, ◌∙◌, ◌≡◌, ◌==◌, ◌&&◌, ◌≤◌, nat_le, cond, Bool, true, false, ℕ, zero, suc, ℤ, List, [], ◌∷◌, refl}
 use Rattle.std.proofs.lemmas.Bool.{leb-true, and_parts}
 use Rattle.tsp_rules.specs.Values.{Correct}
 use Rattle.tsp_base.specs.Words.{Acts, Deed, Line, of, dids, lives, tick_of, time_of, Within}
-use Rattle.tsp_promises.specs.Fits.{node_of}
 use Rattle.tsp_promises.specs.Steady.{NoneStepped, ReadTicks, ReadTimes, Unstepped}
 use Rattle.tsp_base.proofs.PlaceLemmas.{Within-none, Within-strict}
-use Rattle.tsp_promises.proofs.Histories.{skip, skipped}
+use Rattle.tsp_promises.{proofs.Histories.skip, proofs.Histories.skipped, specs.Fits.node_of}
 
 abbrev keeps : Deed → Bool
 keeps (Acts (Correct amount true value)) = false

@@ -1,22 +1,13 @@
 -- The reading of the sample that a Close used.
-use Rattle.std.specs.Prelude.{◌≡◌, ◌≤◌, ◌≤ℤ◌, ℕ, pos, ◌-ℤ◌, nat_abs, List, ◌∷◌, Some, refl}
-use Rattle.std.proofs.Common.{sym, ap, subst, subst₂, inl, ◌∙◌}
+use Rattle.std.proofs.Common.{sym, ap, subst, subst₂, inl, ◌∙◌, ◌≡◌, ◌≤◌, ◌≤ℤ◌, ℕ, pos, ◌-ℤ◌, nat_abs, List, ◌∷◌, Some, refl}
 use Rattle.tsp_rules.specs.Values.{Post, Sample, Datagram, PeerId, Place, Port}
 use Rattle.tsp_base.specs.Words.{Came, Acts, Did, Line, Seen, Here, of, dids, view, plain, moved, ticket, Within, Sampled, best, started, ReplyValue, Undisturbed, peer_of, posted}
-use Rattle.tsp_promises.specs.ClockAt.{clock}
-use Rattle.tsp_promises.specs.Fits.{Fits, node_of}
-use Rattle.tsp_promises.specs.Premises.{Honest, Life}
-use Rattle.tsp_promises.specs.Setting.{Setting}
-use Rattle.tsp_base.proofs.PlaceLemmas.{Within-tail}
-use Rattle.tsp_base.proofs.Views.{plain_view}
-use Rattle.tsp_promises.proofs.BestProof.{BestAt, best_at}
-use Rattle.tsp_promises.proofs.HistoryPlaces.{Within-of}
-use Rattle.tsp_promises.proofs.Locating.{line_on, locate}
-use Rattle.tsp_promises.proofs.Matching.{Kept, kept_from}
+use Rattle.tsp_promises.specs.{ClockAt.clock, Fits.Fits, Fits.node_of, Premises.Honest, Premises.Life, Setting.Setting}
+use Rattle.tsp_base.proofs.{PlaceLemmas.Within-tail, Views.plain_view}
+use Rattle.tsp_promises.proofs.{BestProof.BestAt, BestProof.best_at, HistoryPlaces.Within-of, Locating.line_on, Locating.locate}
+use Rattle.tsp_promises.proofs.{Matching.Kept, Matching.kept_from, OwnFitsProof.own_fits, OwnFitsProof.fits_at, SinceProof.since}
 use Rattle.tsp_promises.proofs.MeasuredProof.{Reading, first-now, reading_at, reading_is, sample_fits}
-use Rattle.tsp_promises.proofs.OwnFitsProof.{own_fits, fits_at}
 use Rattle.tsp_promises.proofs.RoundPlaces.{started_at, same-start}
-use Rattle.tsp_promises.proofs.SinceProof.{since}
 
 -- from the round's best sample to its Close the node is left alone
 kept-to-close : (setting : Setting) (m : ℕ) (q : Port) (cpast before : List Line) (p : PeerId) (sample : Sampled) (start : Did) (idle : List Seen) → Fits setting cpast →

@@ -1,17 +1,10 @@
 -- A clock that a corrected master corrects agrees with the first master's: a chain of two links.
-use Rattle.std.specs.Prelude.{◌≤◌, ◌≤ℤ◌, ℕ, ◌+◌, ◌-◌, ◌*◌, ℤ, pos, ◌+ℤ◌, ◌-ℤ◌, nat_abs, List, [], ◌∷◌}
-use Rattle.std.proofs.Common.{arith, subst, sym}
+use Rattle.std.proofs.Common.{arith, subst, sym, ◌≤◌, ◌≤ℤ◌, ℕ, ◌+◌, ◌-◌, ◌*◌, ℤ, pos, ◌+ℤ◌, ◌-ℤ◌, nat_abs, List, [], ◌∷◌}
 use Rattle.std.proofs.lemmas.Int.{ints}
-use Rattle.tsp_promises.specs.Agreed.{FromRound}
-use Rattle.tsp_promises.specs.Chained.{ChainAgrees, Hop, Hops}
-use Rattle.tsp_promises.specs.ClockAt.{clock_at}
-use Rattle.tsp_promises.specs.Fits.{node_of}
+use Rattle.tsp_promises.specs.{Agreed.FromRound, Chained.ChainAgrees, Chained.Hop, Chained.Hops, ClockAt.clock_at, Fits.node_of}
 use Rattle.tsp_base.specs.Words.{Line, width}
-use Rattle.tsp_promises.specs.Relayed.{RelayAgrees, Relayed}
-use Rattle.tsp_promises.specs.Setting.{Setting}
-use Rattle.tsp_promises.proofs.ChainedProof.{chained_at}
-use Rattle.tsp_promises.proofs.EverywhereLemmas.{Everywhere-from}
-use Rattle.tsp_promises.proofs.Given.{Given, given_at}
+use Rattle.tsp_promises.specs.{Relayed.RelayAgrees, Relayed.Relayed, Setting.Setting}
+use Rattle.tsp_promises.proofs.{ChainedProof.chained_at, EverywhereLemmas.Everywhere-from, Given.Given, Given.given_at}
 
 abbrev hop : Line → List Line → Line → List Line → Line → List Line → ℤ → Hop
 hop close cpast c past r older e = record { close = close; cpast = cpast; correct = c; past = past; reading = r; older = older; err = e }

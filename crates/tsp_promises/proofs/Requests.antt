@@ -1,24 +1,13 @@
 -- A request is named by its port and counter, in the life of its node.
-use Rattle.std.specs.Prelude.{◌≡◌, true, ℕ, ◌+◌, ◌%◌, ◌^◌, ◌<◌, ◌≤◌, ◌⊎◌, List, ◌∷◌, refl}
-use Rattle.std.proofs.Common.{sym, ap, arith, subst, inl, inr, ◌∙◌}
+use Rattle.std.proofs.Common.{sym, ap, arith, subst, inl, inr, ◌∙◌, ◌≡◌, true, ℕ, ◌+◌, ◌%◌, ◌^◌, ◌<◌, ◌≤◌, ◌⊎◌, List, ◌∷◌, refl}
 use Rattle.tsp_rules.specs.Values.{Post, Stamp, PeerId, Peer, Request, QUIET}
 use Rattle.tsp_base.specs.Words.{Acts, Line, of, dids, view, plain, boot_tick, lives, tick_of, up, word, Within, asked, tick_at}
-use Rattle.tsp_promises.specs.Fits.{Fits, LineFits, node_of}
-use Rattle.tsp_promises.specs.MeasureFits.{RequestFits}
-use Rattle.tsp_promises.specs.Premises.{OwnWords, OwnWordsAt}
-use Rattle.tsp_promises.specs.Setting.{Setting}
-use Rattle.tsp_promises.proofs.EverywhereLemmas.{Everywhere-within}
-use Rattle.tsp_base.proofs.PlaceLemmas.{Within-all, Within-tail, Within-comparable}
-use Rattle.tsp_base.proofs.Views.{plain_view}
-use Rattle.tsp_promises.proofs.AskedProof.{asked-mono, asked-few}
-use Rattle.tsp_promises.proofs.ClockProof.{post_up}
-use Rattle.tsp_promises.proofs.Clocks.{near}
-use Rattle.tsp_promises.proofs.HistoryPlaces.{of-own, Within-of}
-use Rattle.tsp_promises.proofs.Locating.{tick_in, view-line}
-use Rattle.tsp_promises.proofs.OwnFitsProof.{own_fits, fits_at, place-time}
-use Rattle.tsp_promises.proofs.PortFits.{deed_fits}
-use Rattle.tsp_promises.proofs.SinceProof.{since}
-use Rattle.tsp_promises.proofs.WordsProof.{word_moves}
+use Rattle.tsp_promises.specs.{Fits.Fits, Fits.LineFits, Fits.node_of, MeasureFits.RequestFits, Premises.OwnWords, Premises.OwnWordsAt}
+use Rattle.tsp_promises.proofs.{EverywhereLemmas.Everywhere-within, HistoryPlaces.of-own, HistoryPlaces.Within-of, SinceProof.since}
+use Rattle.tsp_base.proofs.{PlaceLemmas.Within-all, PlaceLemmas.Within-tail, PlaceLemmas.Within-comparable, Views.plain_view}
+use Rattle.tsp_promises.proofs.{AskedProof.asked-mono, AskedProof.asked-few, ClockProof.post_up, Clocks.near, PortFits.deed_fits}
+use Rattle.tsp_promises.proofs.{Locating.tick_in, Locating.view-line, OwnFitsProof.own_fits, OwnFitsProof.fits_at, OwnFitsProof.place-time}
+use Rattle.tsp_promises.{proofs.WordsProof.word_moves, specs.Setting.Setting}
 
 -- a request of node n to p on a port, with this word and counter
 pub record Asks (n : ℕ) (line : Line) (p : PeerId) (w c : ℕ) : Type 0 where

@@ -1,24 +1,15 @@
 -- A rival that takes Quit stops being master.
-use Rattle.std.specs.Prelude.{◌≡◌, ◌≤◌, ◌⊎◌, ℕ, ◌+◌, ◌==◌, ◌&&◌, not, Bool, true, false, if◌then◌else◌, List, [], ◌∷◌, Option, None, Some, refl}
-use Rattle.std.proofs.Common.{arith, sym, ap, subst, inl, inr, eq-eqb, ◌∙◌}
+use Rattle.std.proofs.Common.{arith, sym, ap, subst, inl, inr, eq-eqb, ◌∙◌, ◌≡◌, ◌≤◌, ◌⊎◌, ℕ, ◌+◌, ◌==◌, ◌&&◌, not, Bool, true, false, if◌then◌else◌, List, [], ◌∷◌, Option, None, Some, refl}
 use Rattle.tsp_rules.specs.Values.{Took, Become, Quit, PeerId, Port, Role, Master, ELECT_MIN}
 use Rattle.tsp_base.specs.Words.{Begins, Acts, Deed, Did, Line, Seen, Here, Elsewhere, of, dids, view, is_shared, boot_tick, is_among, message_in, role, role_after, said_by, Setup}
-use Rattle.tsp_promises.specs.DeedFits.{DeedFits}
+use Rattle.tsp_promises.specs.{DeedFits.DeedFits, PortFits.PortFits, QuitFits.QuitFits, Setting.Setting, Setting.setup_of}
 use Rattle.tsp_promises.specs.Fits.{Fits, Finished, Sees, node_of}
-use Rattle.tsp_promises.specs.PortFits.{PortFits}
-use Rattle.tsp_promises.specs.QuitFits.{QuitFits}
 use Rattle.tsp_promises.specs.Resolved.{YieldsAt, Yields, YieldsTaken, YieldsTakenAt, QuietAt, StaysQuiet}
-use Rattle.tsp_promises.specs.Setting.{Setting, setup_of}
 use Rattle.tsp_promises.specs.StepFacts.{StepEnds, if_master, is_quit, owes, owes_after, quit_by, quits_master, quits_master_after, unheeded, unheeded_after, unless_starting}
-use Rattle.tsp_promises.proofs.EverywhereLemmas.{Everywhere-from}
-use Rattle.tsp_base.proofs.ViewPlaces.{sees-own}
-use Rattle.tsp_base.proofs.Views.{plain_view}
-use Rattle.tsp_promises.proofs.HeldProof.{quit_late}
-use Rattle.tsp_promises.proofs.HistoryPlaces.{own_in}
-use Rattle.tsp_promises.proofs.Leaves.{none-some, some-same}
-use Rattle.tsp_promises.proofs.OwnFitsProof.{own_fits, fits_at}
+use Rattle.tsp_promises.proofs.{EverywhereLemmas.Everywhere-from, HeldProof.quit_late, HistoryPlaces.own_in, SinceProof.since}
+use Rattle.tsp_base.proofs.{ViewPlaces.sees-own, Views.plain_view}
+use Rattle.tsp_promises.proofs.{Leaves.none-some, Leaves.some-same, OwnFitsProof.own_fits, OwnFitsProof.fits_at}
 use Rattle.tsp_promises.proofs.PortFits.{deed_fits, mark_fits, port_fits}
-use Rattle.tsp_promises.proofs.SinceProof.{since}
 
 pub yields : (setting : Setting) (world : List Line) → Fits setting world → Finished setting world → Yields world
 yields setting world f end = record {

@@ -1,11 +1,8 @@
 -- What alarms make of what is known of a port.
-use Rattle.std.specs.Prelude.{◌≡◌, ◌≢◌, ◌⊎◌, ◌≤◌, ℕ, ◌+◌, Bool, true, false, List, [], ◌∷◌, Option, None, refl}
-use Rattle.std.proofs.Common.{sym, inl, inr, ◌∙◌}
+use Rattle.std.proofs.Common.{sym, inl, inr, ◌∙◌, ◌≡◌, ◌≢◌, ◌⊎◌, ◌≤◌, ℕ, ◌+◌, Bool, true, false, List, [], ◌∷◌, Option, None, refl}
 use Rattle.tsp_rules.specs.Values.{Act, Ring, Late, Quiet, Window, Elect, Search, Round, Probe, CloseAlarm, ResolveAlarm, PeerId, Role, Starting, QUIET}
 use Rattle.tsp_base.specs.Words.{Seen, Past, plain, boot_tick, Received, role, armed, acting, taken, grown, open_to, heard}
-use Rattle.tsp_promises.specs.DeedFits.{ActFits}
-use Rattle.tsp_promises.specs.StepFacts.{is_unbacked, owes, unacknowledged}
-use Rattle.tsp_promises.specs.PortFits.{setup_in}
+use Rattle.tsp_promises.specs.{DeedFits.ActFits, PortFits.setup_in, StepFacts.is_unbacked, StepFacts.owes, StepFacts.unacknowledged}
 use Rattle.tsp_promises.proofs.Known.{Sleeps, Quiets, KnowsOf, During, Open, OpenIn, Untaken, Free}
 use Rattle.tsp_promises.proofs.Leaves.{then_seen, made, none-some, nil-cons}
 use Rattle.tsp_rules.proofs.Asides.{now}

@@ -1,30 +1,21 @@
 -- What a port does with a message of a peer keeps what is known of it, in each role.
-use Rattle.std.specs.Prelude.{◌≡◌, ◌≢◌, ℕ, ◌+◌, ◌==◌, ◌||◌, ℤ, Bool, true, false, [], ◌∷◌, Option, refl}
-use Rattle.std.proofs.Common.{sym, subst, inl, true≢false, ◌∙◌}
+use Rattle.std.proofs.Common.{sym, subst, inl, true≢false, ◌∙◌, ◌≡◌, ◌≢◌, ℕ, ◌+◌, ◌==◌, ◌||◌, ℤ, Bool, true, false, [], ◌∷◌, Option, refl}
 use Rattle.std.proofs.lemmas.Bool.{and_parts}
 use Rattle.tsp_rules.specs.Values.{Post, Join, Rival, ResolveAlarm, Message, Good, Kind, Accept, Ack, AdjTime, Conflict, Election, MasterAck, MasterReq, MasterUp, QuitKind, Refuse, ResolveKind, SetTime, SlaveUp, PeerId, Peer, Role, Candidate, Master, WINDOW}
 use Rattle.tsp_base.specs.Words.{Past, Leads, MessageValue, is_among, Received, role, nothing, puts, ◌followed_by◌, either_by, reading, arms, bare, timed, posts, posts_to_others, posts_time, time_in}
-use Rattle.tsp_promises.specs.AckFits.{Answers}
-use Rattle.tsp_promises.specs.CorrectionFits.{CorrectionFits, SetsTarget}
+use Rattle.tsp_promises.specs.{AckFits.Answers, CorrectionFits.CorrectionFits, CorrectionFits.SetsTarget}
 use Rattle.tsp_base.proofs.LeadsLemmas.{Leads_then, Leads_either, Leads_reading, Leads_nothing, Leads_puts, Leads_from, Leads_to}
-use Rattle.tsp_rules.specs.CandidateRows.{candidate_takes_kind}
-use Rattle.tsp_rules.specs.CommonRows.{quits}
 use Rattle.tsp_rules.specs.MasterRows.{may_join, joins, sends_away, master_takes_kind}
 use Rattle.tsp_rules.specs.ResolveRows.{resolves, is_new_rival, finds_rival}
 use Rattle.tsp_rules.specs.SendRows.{begins, acknowledges, may_correct, may_set, begins_settime, has_quit}
 use Rattle.tsp_rules.specs.SlaveRows.{masterup_in, masterack_in, from_master, adjtime_of, settime_of, slave_takes_kind}
 use Rattle.tsp_rules.specs.Guards.{role_at, is_armed, is_in_range, target_at}
-use Rattle.tsp_promises.proofs.Known.{Free, Rests}
 use Rattle.tsp_promises.proofs.Leaves.{none-among, join, rival, arm_resolve}
-use Rattle.tsp_rules.proofs.Asides.{now}
-use Rattle.tsp_promises.proofs.PostLeaves.{post_message}
+use Rattle.tsp_rules.{proofs.Asides.now, proofs.GuardFacts.same_peer, specs.CandidateRows.candidate_takes_kind, specs.CommonRows.quits}
 use Rattle.tsp_promises.proofs.LeadsLeaves.{Leads_arms, Leads_posts, Leads_others, Leads_posts_time}
-use Rattle.tsp_rules.proofs.GuardFacts.{same_peer}
-use Rattle.tsp_promises.proofs.TargetFacts.{sets_target}
-use Rattle.tsp_promises.proofs.CommonLeads.{begins_quit}
-use Rattle.tsp_promises.proofs.CorrectionLeads.{may_fits}
+use Rattle.tsp_promises.proofs.{TargetFacts.sets_target, VoteLeads.accepted_lead, VoteLeads.refused_lead}
+use Rattle.tsp_promises.proofs.{CommonLeads.begins_quit, CorrectionLeads.may_fits, Known.Free, Known.Rests, PostLeaves.post_message}
 use Rattle.tsp_promises.proofs.TakenLeads.{Says, Heard, HeardIn, rests_of, ack_fits, acknowledges_lead, quits_lead}
-use Rattle.tsp_promises.proofs.VoteLeads.{accepted_lead, refused_lead}
 use Rattle.tsp_promises.proofs.SlaveLeads.{follow_heard, idle_heard, masterup_leads, masterack_leads, election_leads, adjtime_leads, settime_leads, from_master_leads}
 
 -- a peer among one is that one

@@ -1,21 +1,16 @@
 -- A round's beginning and its probes keep what is known of a port.
-use Rattle.std.specs.Prelude.{◌≡◌, ◌≤◌, ◌<◌, ℕ, ◌+◌, ◌*◌, Bool, true, false, List, [], ◌∷◌, None, Some, refl}
-use Rattle.std.proofs.Common.{sym, subst, arith, ◌∙◌, leb-false, ltb-true}
+use Rattle.std.proofs.Common.{sym, subst, arith, ◌∙◌, leb-false, ltb-true, ◌≡◌, ◌≤◌, ◌<◌, ℕ, ◌+◌, ◌*◌, Bool, true, false, List, [], ◌∷◌, None, Some, refl}
 use Rattle.tsp_rules.specs.Values.{Arm, Ring, Late, Abandon, Alarm, Round, Probe, CloseAlarm, MasterUp, PeerId, Master, CLOSE, PROBE, QUIET, ROUND, WAIT}
 use Rattle.tsp_base.specs.Words.{Did, Seen, Here, Past, plain, Leads, boot_tick, role, armed, probes, started, Row, grown, nothing, puts, ◌followed_by◌, for_each, arms, bare, posts_to_others}
 use Rattle.tsp_base.proofs.LeadsLemmas.{Leads_then, Leads_either, Leads_reading, Leads_nothing, Leads_puts, Leads_each, Leads_from, Leads_to}
-use Rattle.tsp_rules.specs.Answers.{alarm_rings, rings}
+use Rattle.tsp_rules.specs.{Answers.alarm_rings, Answers.rings, Guards.is_in_time, Guards.is_over, Guards.table_at}
 use Rattle.tsp_rules.specs.RoundRows.{asks, asks_slaves, round_begins, begins_or_waits, round_rings, measured_at, asks_measured, has_more, arms_next, abandons, probe_rings}
-use Rattle.tsp_rules.specs.Guards.{is_in_time, is_over, table_at}
-use Rattle.tsp_promises.proofs.Known.{Free, Open, Untaken}
 use Rattle.tsp_promises.proofs.Leaves.{none-some, some-same, arm_round, arm_round_alarms, arm_probe, abandon}
-use Rattle.tsp_promises.proofs.PostLeaves.{post_message, request}
+use Rattle.tsp_promises.proofs.{PostLeaves.post_message, PostLeaves.request, WindowLeads.arms_round_in}
 use Rattle.tsp_promises.proofs.Rings.{open_of, ring_round, late_round, ring_probe, late_probe}
-use Rattle.tsp_promises.proofs.Changes.{FreeIn}
-use Rattle.tsp_promises.proofs.LeadsLeaves.{Leads_arms, Leads_others}
+use Rattle.tsp_promises.proofs.{Changes.FreeIn, Known.Free, Known.Open, Known.Untaken, LeadsLeaves.Leads_arms, LeadsLeaves.Leads_others}
 use Rattle.tsp_rules.proofs.GuardFacts.{due_is, met_is}
 use Rattle.tsp_promises.proofs.AlarmLeads.{Due, rings_lead, master_rested, stays}
-use Rattle.tsp_promises.proofs.WindowLeads.{arms_round_in}
 
 -- a master in whose round requests are posted
 record InRound (until : ℕ) (x : ℕ) (past : Past) : Type 0 where

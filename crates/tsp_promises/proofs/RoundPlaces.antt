@@ -1,6 +1,5 @@
 -- Where a round began and where an open exchange was asked.
-use Rattle.std.specs.Prelude.{◌≡◌, ◌==◌, ◌&&◌, cond, Bool, true, false, ℕ, ◌⊎◌, List, [], ◌∷◌, refl}
-use Rattle.std.proofs.Common.{sym, ap, subst, inl, inr, eqb-true, ◌∙◌}
+use Rattle.std.proofs.Common.{sym, ap, subst, inl, inr, eqb-true, ◌∙◌, ◌≡◌, ◌==◌, ◌&&◌, cond, Bool, true, false, ℕ, ◌⊎◌, List, [], ◌∷◌, refl}
 use Rattle.std.proofs.lemmas.Bool.{and_parts}
 use Rattle.tsp_rules.specs.Values.{Boot, Post, Become, Arm, Ring, Late, Abandon, Sample, CloseAlarm, Stamp, PeerId, Peer, Request}
 use Rattle.tsp_base.specs.Words.{Deed, Acts, Did, Seen, Here, Elsewhere, Within, started, started_after, exchange, exchange_after}

@@ -1,16 +1,13 @@
 -- Steps follow one another, and each deed of them fits.
-use Rattle.std.specs.Prelude.{◌≡◌, ◌≤◌, ℕ, ◌+◌, Bool, true, false, List, [], ◌∷◌, None, refl}
-use Rattle.std.proofs.Common.{sym, subst, inl, inr, ap, arith, true≢false, ◌∙◌}
-use Rattle.tsp_rules.specs.Values.{PeerId, Follow, QUIET}
+use Rattle.std.proofs.Common.{sym, subst, inl, inr, ap, arith, true≢false, ◌∙◌, ◌≡◌, ◌≤◌, ℕ, ◌+◌, Bool, true, false, List, [], ◌∷◌, None, refl}
 use Rattle.tsp_base.specs.Words.{Step, Seen, Here, Past, Leads, role, in_step, puts, ◌followed_by◌, arms, is_among, Setup}
 use Rattle.tsp_promises.specs.StepFacts.{StepEnds, is_unbacked, owes, unacknowledged, unheeded}
-use Rattle.tsp_rules.specs.CommonRows.{boots}
+use Rattle.tsp_rules.specs.{CommonRows.boots, Values.PeerId, Values.Follow, Values.QUIET}
 use Rattle.tsp_promises.specs.PortFits.{PortFits, setup_in}
 use Rattle.tsp_promises.specs.Runs.{Makes, Boots, Answers as Answering, row_of, Happening, ran, last_tick, Ordered, RulesFit}
 use Rattle.tsp_promises.proofs.Known.{KnowsOf, Ended, Fresh, Rests}
 use Rattle.tsp_promises.proofs.Leaves.{none-some, none-among, nil-cons, some-same}
-use Rattle.tsp_promises.proofs.AnswerLeads.{answers_lead}
-use Rattle.tsp_promises.proofs.HeedLeads.{Heeds, answers_heed, untaken_heeds}
+use Rattle.tsp_promises.proofs.{AnswerLeads.answers_lead, HeedLeads.Heeds, HeedLeads.answers_heed, HeedLeads.untaken_heeds}
 
 -- a step of a port at rest may end
 pub ends_of : {x : ℕ} {past : Past} → Ended x past → StepEnds (setup_in past) past.seen

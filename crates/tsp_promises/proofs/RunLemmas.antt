@@ -1,14 +1,11 @@
 -- The runs of a node with one port are those of that port.
-use Rattle.std.specs.Prelude.{◌≡◌, ◌≤◌, ℕ, List, [], ◌∷◌, slice_index_or, refl}
-use Rattle.std.proofs.Common.{sym, subst, ap, ◌∙◌}
+use Rattle.std.proofs.Common.{sym, subst, ap, ◌∙◌, ◌≡◌, ◌≤◌, ℕ, List, [], ◌∷◌, slice_index_or, refl}
 use Rattle.tsp_base.specs.Words.{Past, Step, view, first_port, grown, in_step}
 use Rattle.tsp_rules.specs.NodeRows.{NodePast, PortSetup, in_node_step, no_port, spread}
 use Rattle.tsp_rules.proofs.NodeRowLemmas.{on_own}
 use Rattle.tsp_promises.specs.NodeRuns.{NodeMakes, NodeBoots, NodeAnswers, NodeHappening, NodeOrdered, IsGivenOn, node_ran, node_row_of, node_tick}
-use Rattle.tsp_promises.specs.Runs.{ran, row_of}
-use Rattle.tsp_promises.proofs.Known.{Fresh, Ended}
-use Rattle.tsp_promises.proofs.RunLeads.{begins_fresh, nothing-done, row_leads}
-use Rattle.tsp_promises.specs.Alone.{IsNew, makes_alone, steps_alone}
+use Rattle.tsp_promises.proofs.{Known.Fresh, Known.Ended, RunLeads.begins_fresh, RunLeads.nothing-done, RunLeads.row_leads}
+use Rattle.tsp_promises.specs.{Alone.IsNew, Alone.makes_alone, Alone.steps_alone, Runs.ran, Runs.row_of}
 use Rattle.tsp_promises.proofs.AloneLemmas.{Same, alone, same_answers, same_boots}
 
 -- a step's row

@@ -1,36 +1,16 @@
 -- All promises together.
 use Rattle.std.specs.Prelude.{List}
-use Rattle.tsp_promises.specs.Fits.{Fits, Finished}
+use Rattle.tsp_promises.specs.{Fits.Fits, Fits.Finished, Safe.Safe, Setting.Setting}
 use Rattle.tsp_base.specs.Words.{Line}
-use Rattle.tsp_promises.specs.Safe.{Safe}
-use Rattle.tsp_promises.specs.Setting.{Setting}
-use Rattle.tsp_promises.proofs.AgreedProof.{agreed, stay_agreed}
-use Rattle.tsp_promises.proofs.AgreedShownProof.{agreed_shown, shown_near, waited}
-use Rattle.tsp_promises.proofs.AnsweredProof.{answered}
-use Rattle.tsp_promises.proofs.ChainedProof.{chained}
-use Rattle.tsp_promises.proofs.ConfirmedProof.{once_confirmed}
-use Rattle.tsp_promises.proofs.ErrsProof.{errs_bounded}
-use Rattle.tsp_promises.proofs.EstimatesProof.{estimates_hold}
-use Rattle.tsp_promises.proofs.FirstSetProof.{first_set, first_set_soon}
-use Rattle.tsp_promises.proofs.MeasuredProof.{measured}
-use Rattle.tsp_promises.proofs.ModerateProof.{moderate, moderate_clocks}
-use Rattle.tsp_promises.proofs.OnceObeyedProof.{once_obeyed}
-use Rattle.tsp_promises.proofs.OnceSpacedProof.{once_spaced, once_spaced_over_lives}
-use Rattle.tsp_promises.proofs.OnceDatedProof.{once_taken}
-use Rattle.tsp_promises.proofs.OnceTakenProof.{once_corrected}
-use Rattle.tsp_promises.proofs.OneBackProof.{one_back}
-use Rattle.tsp_promises.proofs.OneErrorProof.{one_error}
-use Rattle.tsp_promises.proofs.OnlyMasterProof.{only_master}
-use Rattle.tsp_promises.proofs.RelayedProof.{relayed}
-use Rattle.tsp_promises.proofs.ResolvedProof.{yields, yields_taken, stays_quiet}
-use Rattle.tsp_promises.proofs.SeldomProof.{seldom}
-use Rattle.tsp_promises.proofs.ShowsProof.{shows}
-use Rattle.tsp_promises.proofs.SilentProof.{silent}
-use Rattle.tsp_promises.proofs.SteadyProof.{meets, steady}
-use Rattle.tsp_promises.proofs.StopsProof.{stops_leading}
-use Rattle.tsp_promises.proofs.ThriceProof.{thrice}
-use Rattle.tsp_promises.proofs.ThroughoutProof.{throughout}
-use Rattle.tsp_promises.proofs.TripProof.{trips}
+use Rattle.tsp_promises.proofs.{AgreedProof.agreed, AgreedProof.stay_agreed, AnsweredProof.answered, ChainedProof.chained, ShowsProof.shows}
+use Rattle.tsp_promises.proofs.{AgreedShownProof.agreed_shown, AgreedShownProof.shown_near, AgreedShownProof.waited, ErrsProof.errs_bounded}
+use Rattle.tsp_promises.proofs.{ConfirmedProof.once_confirmed, EstimatesProof.estimates_hold, MeasuredProof.measured, OneBackProof.one_back}
+use Rattle.tsp_promises.proofs.{FirstSetProof.first_set, FirstSetProof.first_set_soon, OnceDatedProof.once_taken, OneErrorProof.one_error}
+use Rattle.tsp_promises.proofs.{ModerateProof.moderate, ModerateProof.moderate_clocks, OnceObeyedProof.once_obeyed, RelayedProof.relayed}
+use Rattle.tsp_promises.proofs.{OnceSpacedProof.once_spaced, OnceSpacedProof.once_spaced_over_lives, OnceTakenProof.once_corrected}
+use Rattle.tsp_promises.proofs.{OnlyMasterProof.only_master, ResolvedProof.yields, ResolvedProof.yields_taken, ResolvedProof.stays_quiet}
+use Rattle.tsp_promises.proofs.{SeldomProof.seldom, SilentProof.silent, SteadyProof.meets, SteadyProof.steady, StopsProof.stops_leading}
+use Rattle.tsp_promises.proofs.{ThriceProof.thrice, ThroughoutProof.throughout, TripProof.trips}
 
 pub safe : (setting : Setting) (world : List Line) → Fits setting world → Finished setting world → Safe setting world
 safe setting world f end = record {

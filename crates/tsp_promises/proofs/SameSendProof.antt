@@ -1,22 +1,13 @@
 -- A post with the open send's number, posted not long ago, is of the open send.
-use Rattle.std.specs.Prelude.{◌≡◌, true, ℕ, ◌+◌, ◌%◌, ◌<◌, ◌≤◌, List, ◌∷◌}
-use Rattle.std.proofs.Common.{sym, ap, arith, subst, subst₂, inl, inr}
+use Rattle.std.proofs.Common.{sym, ap, arith, subst, subst₂, inl, inr, ◌≡◌, true, ℕ, ◌+◌, ◌%◌, ◌<◌, ◌≤◌, List, ◌∷◌}
 use Rattle.tsp_rules.specs.Values.{Post, Message, Peer, Port}
 use Rattle.tsp_base.specs.Words.{Acts, Did, Line, Here, of, dids, view, MessageValue, all_corrects, Within, begun_to, is_correction, open_to, peer_of, tick_at}
-use Rattle.tsp_promises.specs.Fits.{Fits}
-use Rattle.tsp_promises.specs.Once.{OnceConfirmed}
-use Rattle.tsp_promises.specs.Setting.{Setting}
+use Rattle.tsp_promises.specs.{Fits.Fits, Once.OnceConfirmed, Setting.Setting}
 use Rattle.tsp_base.proofs.PlaceLemmas.{Within-all, Within-through, Within-tail, Within-strict, Within-comparable}
-use Rattle.tsp_promises.proofs.Clocks.{near}
-use Rattle.tsp_promises.proofs.FreshProof.{before_later}
-use Rattle.tsp_promises.proofs.FreshSteps.{fresh}
-use Rattle.tsp_promises.proofs.LateProof.{begun_late}
-use Rattle.tsp_promises.proofs.Locating.{line_on, seen_in, tick_in}
+use Rattle.tsp_promises.proofs.{Clocks.near, FreshProof.before_later, FreshSteps.fresh, LateProof.begun_late, SendPlaces.send_place}
+use Rattle.tsp_promises.proofs.{Locating.line_on, Locating.seen_in, Locating.tick_in, SinceProof.last_by, SpacedProof.spaced_from}
 use Rattle.tsp_promises.proofs.OwnFitsProof.{own_fits, fits_at, of-tick, place-time}
-use Rattle.tsp_promises.proofs.SendPlaces.{send_place}
 use Rattle.tsp_promises.proofs.SendProof.{BeginsSend, CorrectsTo, numbered, open_begun, sends-correct}
-use Rattle.tsp_promises.proofs.SinceProof.{last_by}
-use Rattle.tsp_promises.proofs.SpacedProof.{spaced_from}
 
 -- 32,768 corrections of a clock take hours
 few-corrects : (setting : Setting) (k : ℕ) (q : Port) (s f : Did) (sw fw : List Line) (count n1 n2 : ℕ) → Fits setting (line_on q f ∷ fw) → Within (line_on q s ∷ sw) fw → f.step.at ≤ s.step.at + 64004007 → n1 ≡ n2 → n2 < 32768 →

@@ -1,16 +1,12 @@
 -- A reply to an open exchange keeps what is known of a port.
-use Rattle.std.specs.Prelude.{◌≡◌, ℕ, ◌==◌, ℤ, Bool, true, false, if◌then◌else◌, List, [], ◌∷◌, Option, None, Some, is_some, refl}
-use Rattle.std.proofs.Common.{sym, ap, eqb-true, ◌∙◌}
+use Rattle.std.proofs.Common.{sym, ap, eqb-true, ◌∙◌, ◌≡◌, ℕ, ◌==◌, ℤ, Bool, true, false, if◌then◌else◌, List, [], ◌∷◌, Option, None, Some, is_some, refl}
 use Rattle.tsp_rules.specs.Values.{Stamp, Good, PeerId, Reply}
 use Rattle.tsp_base.specs.Words.{Seen, Past, plain, Leads, target, OpenRequest, exchange, request_at_place, request_open, word_asked, target_there, nothing, puts, reading, sample_diff, sample_err, ReplyValue}
 use Rattle.tsp_promises.specs.MeasureFits.{SampleFits}
 use Rattle.tsp_base.proofs.LeadsLemmas.{Leads_reading, Leads_nothing, Leads_puts, Leads_from}
 use Rattle.tsp_rules.specs.RoundRows.{request_at, sample_of, samples_request, samples}
-use Rattle.tsp_rules.specs.Guards.{target_at}
-use Rattle.tsp_promises.proofs.Known.{Rests}
-use Rattle.tsp_promises.proofs.Leaves.{none-some, some-same, sample}
-use Rattle.tsp_rules.proofs.Asides.{now}
-use Rattle.tsp_promises.proofs.TakenLeads.{Heard, rests_of}
+use Rattle.tsp_promises.proofs.{Known.Rests, Leaves.none-some, Leaves.some-same, Leaves.sample, TakenLeads.Heard, TakenLeads.rests_of}
+use Rattle.tsp_rules.{proofs.Asides.now, specs.Guards.target_at}
 
 -- the place of an open exchange, from what it says
 pub record Placed (p : PeerId) (counter : ℕ) (seen : List Seen) (q : OpenRequest) : Type 0 where

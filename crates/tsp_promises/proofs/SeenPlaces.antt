@@ -1,12 +1,10 @@
 -- Order and equality of places that a port sees.
-use Rattle.std.specs.Prelude.{◌≡◌, ℕ, List, [], ◌∷◌, length, refl}
-use Rattle.std.proofs.Common.{sym, ap, arith, subst, inl, inr, ◌∙◌}
+use Rattle.std.proofs.Common.{sym, ap, arith, subst, inl, inr, ◌∙◌, ◌≡◌, ℕ, List, [], ◌∷◌, length, refl}
 use Rattle.tsp_rules.specs.Values.{Port}
 use Rattle.tsp_base.specs.Words.{Did, Line, Here, of, dids, view, plain, Within}
 use Rattle.tsp_base.proofs.PlaceLemmas.{Within-all, Within-tail, Within-length, Within-strict, Within-comparable}
 use Rattle.tsp_base.proofs.Views.{plain_view}
-use Rattle.tsp_promises.proofs.HistoryPlaces.{own_in, own_same}
-use Rattle.tsp_promises.proofs.Locating.{line_on, seen_in}
+use Rattle.tsp_promises.proofs.{HistoryPlaces.own_in, HistoryPlaces.own_same, Locating.line_on, Locating.seen_in}
 
 -- order of what a port sees is order in the history
 pub seen_before : (m : ℕ) (q : Port) (s t : Did) (a b h : List Line) → s.step.node ≡ m → t.step.node ≡ m → Within (line_on q s ∷ a) h → Within (line_on q t ∷ b) h → Within (Here s ∷ view q (of m a)) (view q (of m b)) → Within (line_on q s ∷ a) b

@@ -1,20 +1,11 @@
 -- Rounds of a port stand apart.
-use Rattle.std.specs.Prelude.{◌≡◌, ◌==◌, ◌||◌, ◌⊎◌, ◌≤◌, ℕ, ◌+◌, ◌-◌, ℤ, Bool, true, false, List, [], ◌∷◌, Option, None, Some, is_some, refl}
-use Rattle.std.proofs.Common.{sym, ap, arith, subst, inl, inr, true≢false, ◌∙◌}
+use Rattle.std.proofs.Common.{sym, ap, arith, subst, inl, inr, true≢false, ◌∙◌, ◌≡◌, ◌==◌, ◌||◌, ◌⊎◌, ◌≤◌, ℕ, ◌+◌, ◌-◌, ℤ, Bool, true, false, List, [], ◌∷◌, Option, None, Some, is_some, refl}
 use Rattle.tsp_rules.specs.Values.{Boot, Become, Arm, Ring, Late, Abandon, Close, CloseAlarm, Port, CLOSE, ROUND, SLACK}
 use Rattle.tsp_base.specs.Words.{Acts, Deed, Did, Line, Seen, Here, of, dids, view, seen_as, is_shared, lives, lives_after, Within, armed, armed_after, is_going, started, started_after, Setup}
-use Rattle.tsp_promises.specs.DeedFits.{DeedFits}
-use Rattle.tsp_promises.specs.Fits.{Fits, Sees, node_of}
-use Rattle.tsp_promises.specs.OwnFits.{OwnFits}
-use Rattle.tsp_promises.specs.RoundFits.{CloseFits, StartFits}
-use Rattle.tsp_promises.specs.Seldom.{Seldom, SeldomAt}
-use Rattle.tsp_promises.specs.Setting.{Setting, setup_of}
-use Rattle.tsp_promises.proofs.EverywhereLemmas.{Everywhere-from}
-use Rattle.tsp_promises.proofs.HistoryPlaces.{of-own, own_in}
-use Rattle.tsp_promises.proofs.Locating.{fits_in, view-line}
-use Rattle.tsp_promises.proofs.OwnFitsProof.{fits_at, own_fits}
-use Rattle.tsp_promises.proofs.PortFits.{deed_fits}
-use Rattle.tsp_promises.proofs.SinceProof.{since}
+use Rattle.tsp_promises.specs.{DeedFits.DeedFits, Fits.Fits, Fits.Sees, Fits.node_of, OwnFits.OwnFits, Seldom.Seldom, Seldom.SeldomAt}
+use Rattle.tsp_promises.specs.{RoundFits.CloseFits, RoundFits.StartFits, Setting.Setting, Setting.setup_of}
+use Rattle.tsp_promises.proofs.{EverywhereLemmas.Everywhere-from, HistoryPlaces.of-own, HistoryPlaces.own_in, PortFits.deed_fits}
+use Rattle.tsp_promises.proofs.{Locating.fits_in, Locating.view-line, OwnFitsProof.fits_at, OwnFitsProof.own_fits, SinceProof.since}
 use Rattle.tsp_promises.proofs.SteadyProof.{lives-more}
 
 -- what stands after a round's end: no other round yet, or one that began ROUND later

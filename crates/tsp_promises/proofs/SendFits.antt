@@ -1,11 +1,9 @@
 -- What stands behind an open send and behind an acknowledged correction.
-use Rattle.std.specs.Prelude.{◌≡◌, ◌==◌, ◌&&◌, cond, Bool, true, false, List, [], ◌∷◌, None, Some, refl}
-use Rattle.std.proofs.Common.{sym, subst, ap, ◌∙◌}
+use Rattle.std.proofs.Common.{sym, subst, ap, ◌∙◌, ◌≡◌, ◌==◌, ◌&&◌, cond, Bool, true, false, List, [], ◌∷◌, None, Some, refl}
 use Rattle.std.proofs.lemmas.Bool.{and_parts}
 use Rattle.tsp_rules.specs.Values.{Boot, Post, Become, Acked, Gave, Message, PeerId, Peer}
 use Rattle.tsp_base.specs.Words.{Deed, Acts, Did, Seen, Here, Elsewhere, MessageValue, role, role_after, acting, is_numbered, Sending, open_send, sending_at, sending_of, open_to, open_to_after, posts_of, message_of, Setup}
-use Rattle.tsp_promises.specs.DeedFits.{DeedFits, MessageFits}
-use Rattle.tsp_promises.specs.PortFits.{PortFits}
+use Rattle.tsp_promises.specs.{DeedFits.DeedFits, DeedFits.MessageFits, PortFits.PortFits}
 use Rattle.tsp_promises.proofs.Leaves.{nil-cons, none-some, some-same}
 use Rattle.tsp_rules.proofs.GuardFacts.{same_peer}
 

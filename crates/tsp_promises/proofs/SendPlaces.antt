@@ -1,17 +1,11 @@
 -- Where the send of a post begins in the history, and what its posts have in common.
-use Rattle.std.specs.Prelude.{◌≡◌, ◌+◌, ◌*◌, ◌≤◌, true, false, ℕ, List, [], ◌∷◌, refl}
-use Rattle.std.proofs.Common.{sym, ap, arith, subst, subst₂, inl, inr, true≢false, ◌∙◌}
+use Rattle.std.proofs.Common.{sym, ap, arith, subst, subst₂, inl, inr, true≢false, ◌∙◌, ◌≡◌, ◌+◌, ◌*◌, ◌≤◌, true, false, ℕ, List, [], ◌∷◌, refl}
 use Rattle.tsp_rules.specs.Values.{Post, Datagram, Message, Kind, AdjTime, Conflict, Election, QuitKind, SetDateReq, SetTime, PeerId, Place, Peer, LAST}
 use Rattle.tsp_base.specs.Words.{Acts, Came, Deed, Did, Line, Seen, Here, of, dids, view, is_shared, MessageValue, Within, acting, begun_to, is_correction, is_numbered, Setup, peer_of, posted, posted_after}
-use Rattle.tsp_promises.specs.CorrectionFits.{CorrectionFits, RepeatFits}
-use Rattle.tsp_promises.specs.DeedFits.{MessageFits}
-use Rattle.tsp_promises.specs.Fits.{Fits, LineFits, node_of}
-use Rattle.tsp_promises.specs.Setting.{Setting, setup_of}
-use Rattle.tsp_promises.proofs.Clocks.{near}
+use Rattle.tsp_promises.specs.{CorrectionFits.CorrectionFits, CorrectionFits.RepeatFits, DeedFits.MessageFits}
+use Rattle.tsp_promises.specs.{Fits.Fits, Fits.LineFits, Fits.node_of, Setting.Setting, Setting.setup_of}
+use Rattle.tsp_promises.proofs.{Clocks.near, OnlyMasterProof.correction_fits, OwnFitsProof.place-time, PortFits.deed_fits}
 use Rattle.tsp_promises.proofs.Locating.{line_on, locate, view-line, tick_in}
-use Rattle.tsp_promises.proofs.OnlyMasterProof.{correction_fits}
-use Rattle.tsp_promises.proofs.OwnFitsProof.{place-time}
-use Rattle.tsp_promises.proofs.PortFits.{deed_fits}
 use Rattle.tsp_promises.proofs.SendProof.{BeginsSend, send_is}
 
 -- where the send of the post p of node m to k begins

@@ -1,11 +1,9 @@
 -- Sends: where the last one to a peer began, and which one a post belongs to.
-use Rattle.std.specs.Prelude.{◌≡◌, ◌==◌, ◌&&◌, cond, Bool, true, false, ℕ, ◌+◌, ◌≤◌, ◌⊎◌, List, [], ◌∷◌, refl}
-use Rattle.std.proofs.Common.{sym, ap, arith, subst, inl, inr, eq-eqb, true≢false, ◌∙◌}
+use Rattle.std.proofs.Common.{sym, ap, arith, subst, inl, inr, eq-eqb, true≢false, ◌∙◌, ◌≡◌, ◌==◌, ◌&&◌, cond, Bool, true, false, ℕ, ◌+◌, ◌≤◌, ◌⊎◌, List, [], ◌∷◌, refl}
 use Rattle.std.proofs.lemmas.Bool.{and_parts}
 use Rattle.tsp_rules.specs.Values.{Boot, Post, Become, Acked, Gave, Message, Kind, AdjTime, SetTime, PeerId, Peer, LAST}
 use Rattle.tsp_base.specs.Words.{Acts, Deed, Did, Seen, Here, Elsewhere, MessageValue, Within, acting, begun_to, begun_to_after, is_correction, is_numbered, open_to, open_to_after, peer_of}
-use Rattle.tsp_promises.specs.CorrectionFits.{RepeatFits}
-use Rattle.tsp_promises.proofs.Leaves.{nil-cons}
+use Rattle.tsp_promises.{proofs.Leaves.nil-cons, specs.CorrectionFits.RepeatFits}
 use Rattle.tsp_rules.proofs.GuardFacts.{same_peer}
 
 -- a numbered send of this message to p begins here

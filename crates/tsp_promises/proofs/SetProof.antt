@@ -1,18 +1,11 @@
 -- A date is set at a master, to the time that was taken.
-use Rattle.std.specs.Prelude.{◌≡◌, ℤ, ◌-ℤ◌, Bool, true, List, ◌∷◌, Some, refl}
-use Rattle.std.proofs.Common.{sym, ap, subst, ◌∙◌}
+use Rattle.std.proofs.Common.{sym, ap, subst, ◌∙◌, ◌≡◌, ℤ, ◌-ℤ◌, Bool, true, List, ◌∷◌, Some, refl}
 use Rattle.tsp_rules.specs.Values.{Correct, Message, Good, Place, Peer}
 use Rattle.tsp_base.specs.Words.{Acts, Line, of, plain, view, MessageValue, target, Received, message_in, is_correction, sets_date, heard, time_in}
-use Rattle.tsp_promises.specs.ClockAt.{clock_at}
+use Rattle.tsp_promises.specs.{ClockAt.clock_at, Dated.SetsAt, Dated.SetsClock, Fits.Fits, Fits.node_of, Setting.Setting, Setting.setup_of}
 use Rattle.tsp_promises.specs.CorrectFits.{ByDate, ByMaster, ByRound, WhyCorrect}
-use Rattle.tsp_promises.specs.Fits.{Fits, node_of}
-use Rattle.tsp_promises.specs.Setting.{Setting, setup_of}
 use Rattle.tsp_base.proofs.Views.{plain_view}
-use Rattle.tsp_promises.proofs.ClockProof.{target_is}
-use Rattle.tsp_promises.proofs.Correcting.{no-correction}
-use Rattle.tsp_promises.proofs.OnceObeyedProof.{correct-up}
-use Rattle.tsp_promises.proofs.PortFits.{deed_fits}
-use Rattle.tsp_promises.specs.Dated.{SetsAt, SetsClock}
+use Rattle.tsp_promises.proofs.{ClockProof.target_is, Correcting.no-correction, OnceObeyedProof.correct-up, PortFits.deed_fits}
 
 -- what was taken, by its sender and its message
 abbrev received : Place → MessageValue → Received

@@ -1,14 +1,9 @@
 -- What a booted node's clock shows.
-use Rattle.std.specs.Prelude.{◌≡◌, true, ℕ, ◌-ℤ◌, List, [], ◌∷◌, refl}
-use Rattle.std.proofs.Common.{sym, ap, subst, inl, inr}
+use Rattle.std.proofs.Common.{sym, ap, subst, inl, inr, ◌≡◌, true, ℕ, ◌-ℤ◌, List, [], ◌∷◌, refl}
 use Rattle.tsp_rules.specs.Values.{Boot}
 use Rattle.tsp_base.specs.Words.{Deed, Acts, Line, of, dids, rest_at, target, up, up_after, Within, tick_at}
-use Rattle.tsp_promises.specs.ClockAt.{clock_at}
-use Rattle.tsp_promises.specs.Fits.{Fits}
-use Rattle.tsp_promises.specs.Setting.{Setting}
-use Rattle.tsp_promises.specs.ShownAt.{left_at, shown_at}
-use Rattle.tsp_promises.proofs.ClockProof.{base_is}
-use Rattle.tsp_promises.proofs.HistoryPlaces.{Within-of}
+use Rattle.tsp_promises.specs.{ClockAt.clock_at, Fits.Fits, Setting.Setting, ShownAt.left_at, ShownAt.shown_at}
+use Rattle.tsp_promises.proofs.{ClockProof.base_is, HistoryPlaces.Within-of}
 
 up-deed : (deed : Deed) (b : _) → b ≡ true → up_after deed b ≡ true
 up-deed (Acts Boot) b e = refl

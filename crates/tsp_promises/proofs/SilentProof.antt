@@ -1,15 +1,10 @@
 -- A node is silent after its boot.
-use Rattle.std.specs.Prelude.{◌≤◌, ◌+◌, List, ◌∷◌}
-use Rattle.std.proofs.Common.{subst, inl, inr}
+use Rattle.std.proofs.Common.{subst, inl, inr, ◌≤◌, ◌+◌, List, ◌∷◌}
 use Rattle.tsp_rules.specs.Values.{Post, Correct, QUIET}
 use Rattle.tsp_base.specs.Words.{Acts, Line, of, boot_tick}
-use Rattle.tsp_promises.specs.Fits.{Fits, LineFits, node_of}
-use Rattle.tsp_promises.specs.Setting.{Setting}
-use Rattle.tsp_promises.specs.Silent.{Silent, SilentAt}
+use Rattle.tsp_promises.specs.{Fits.Fits, Fits.LineFits, Fits.node_of, Setting.Setting, Silent.Silent, Silent.SilentAt}
 use Rattle.tsp_base.proofs.Views.{plain_view}
-use Rattle.tsp_promises.proofs.EverywhereLemmas.{Everywhere-from}
-use Rattle.tsp_promises.proofs.OwnFitsProof.{fits_at}
-use Rattle.tsp_promises.proofs.PortFits.{deed_fits}
+use Rattle.tsp_promises.proofs.{EverywhereLemmas.Everywhere-from, OwnFitsProof.fits_at, PortFits.deed_fits}
 
 silent_at : (setting : Setting) (l : Line) (world : List Line) → LineFits setting l world → SilentAt l world
 silent_at setting l world f =

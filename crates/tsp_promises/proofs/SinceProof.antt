@@ -1,15 +1,10 @@
 -- What a node's deeds up to one place tell of its deeds up to a later one.
-use Rattle.std.specs.Prelude.{ℕ, ◌+◌, ◌≤◌, List, [], ◌∷◌, refl}
-use Rattle.std.proofs.Common.{sym, arith, subst, inl, inr}
+use Rattle.std.proofs.Common.{sym, arith, subst, inl, inr, ℕ, ◌+◌, ◌≤◌, List, [], ◌∷◌, refl}
 use Rattle.std.proofs.lemmas.Bool.{cases_lt}
 use Rattle.tsp_rules.specs.Values.{Boot, Correct, Port, GAP, QUIET}
 use Rattle.tsp_base.specs.Words.{Did, Deed, Acts, Line, dids, view, is_shared, all_corrects, boot_tick, last_correct, last_correct_after, time_of, tick_of, Within, Setup}
-use Rattle.tsp_promises.specs.DeedFits.{DeedFits}
-use Rattle.tsp_promises.specs.Setting.{Setting, setup_of}
-use Rattle.tsp_promises.specs.Fits.{node_of}
-use Rattle.tsp_base.proofs.ViewPlaces.{sees-own}
-use Rattle.tsp_base.proofs.Views.{plain_view}
-use Rattle.tsp_promises.specs.OwnFits.{OwnFits, OwnLineFits}
+use Rattle.tsp_promises.specs.{DeedFits.DeedFits, Fits.node_of, OwnFits.OwnFits, OwnFits.OwnLineFits, Setting.Setting, Setting.setup_of}
+use Rattle.tsp_base.proofs.{ViewPlaces.sees-own, Views.plain_view}
 use Rattle.tsp_promises.specs.Since.{Since}
 
 -- a Correct stands apart from the last one and from the boot

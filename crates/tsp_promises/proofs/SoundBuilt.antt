@@ -1,22 +1,17 @@
 -- What follows for each row from how it is made: it keeps a port sound.
-use Rattle.std.specs.Prelude.{◌≡◌, ◌<◌, ◌^◌, ℕ, ◌+◌, ℤ, ◌-ℤ◌, Bool, true, false, List, [], ◌∷◌, map, Option, None, Some, refl}
-use Rattle.std.proofs.Common.{sym, arith, true≢false}
+use Rattle.std.proofs.Common.{sym, arith, true≢false, ◌≡◌, ◌<◌, ◌^◌, ℕ, ◌+◌, ℤ, ◌-ℤ◌, Bool, true, false, List, [], ◌∷◌, map, Option, None, Some, refl}
 use Rattle.std.proofs.Math.Nat.{mod-lt}
 use Rattle.tsp_rules.specs.Values.{Act, Boot, Took, Post, Abandon, Sample, Ring, CloseAlarm, Message, Stamp, Taken, Good, Bad, Kind, Ack, AdjTime, Date, DateReq, LoopKind, SetDate, SetDateReq, SetTime, Nothing, TimeBody, PeerId, Port, Role, Follow, Master, Request, Reply, SPAN}
 use Rattle.tsp_base.specs.Words.{Acts, Cause, MessageValue, Past, grown, others, Seen, plain, body_fits, carries_hops, carries_time, Estimate, IsMicros, IsName, Row, Sending, begun, for_each, nothing, puts, reading, word, word_after}
 use Rattle.tsp_base.proofs.LeadsLemmas.{Leads_then, Leads_nothing, Leads_each}
 use Rattle.tsp_group.specs.Groups.{group_of}
-use Rattle.tsp_rules.specs.ClockRows.{can_adjust}
-use Rattle.tsp_rules.specs.CommonRows.{master_name_in}
+use Rattle.tsp_rules.specs.{ClockRows.can_adjust, CommonRows.master_name_in, Guards.role_at, SendRows.open_at, SendRows.repeats}
 use Rattle.tsp_rules.specs.GateRows.{loop_to, repost, reposts, sends_loops}
-use Rattle.tsp_rules.specs.Guards.{role_at}
 use Rattle.tsp_rules.specs.RoundRows.{Standing, abandons, close_act, closes, closes_with, corrects_by, corrects_peer, estimates, is_near, mean_by, measured_at, moves, round_at, standing}
-use Rattle.tsp_rules.specs.SendRows.{open_at, repeats}
-use Rattle.tsp_rules.proofs.Emits.{Sort}
 use Rattle.tsp_rules.proofs.Unchanged.{no_unchanged, told_unchanged, unchanged, yes_unchanged}
 use Rattle.tsp_rules.proofs.RowCodes.{Value, ANumber, ATicket, ATime, AStamp, AName, ASend, AMessage, APlace, ATaken, Owed, Leaf, Puts, Takes, Arms, Posts, ToOthers, PostsBack, PostsTime, PostsReply, PostsName, Repeats, SettimeBegins, Loops, Reposts, Asks, Samples, Adjusts, Sets, Valued, TicketAt, NextNumber, MasterName, is_bare, is_plain, is_timed}
 use Rattle.tsp_rules.proofs.Built.{Built, Corrects, Empty, At, Then, Either, If, Reading, ReadingValue, Each, EachSend, Closes, More, Wider}
-use Rattle.tsp_rules.proofs.BuiltAnswers.{Owes}
+use Rattle.tsp_rules.proofs.{BuiltAnswers.Owes, Emits.Sort}
 use Rattle.tsp_promises.specs.Sound.{AreSound, IsSound, IsSoundAct, IsSoundTaken, SoundPast}
 use Rattle.tsp_promises.proofs.MeanFacts.{correction_time}
 use Rattle.tsp_promises.proofs.SoundFacts.{IsSoundEstimate, estimate_sound, kept_sound, no_name, open_sound, time_sound}

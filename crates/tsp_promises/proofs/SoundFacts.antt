@@ -1,6 +1,5 @@
 -- What the facts of a sound past hand on is sound.
-use Rattle.std.specs.Prelude.{◌≡◌, ◌<◌, ℕ, ◌==◌, Bool, true, false, cond, int_lt, List, [], ◌∷◌, Option, None, Some}
-use Rattle.std.proofs.Common.{subst, arith, rules}
+use Rattle.std.proofs.Common.{subst, arith, rules, ◌≡◌, ◌<◌, ℕ, ◌==◌, Bool, true, false, cond, int_lt, List, [], ◌∷◌, Option, None, Some}
 use Rattle.std.proofs.lemmas.Int.{ints}
 use Rattle.tsp_rules.specs.Values.{Boot, Took, Post, Become, Arm, Sample, Acked, Gave, CloseAlarm, Message, Stamp, Taken, Good, Bad, Body, Nothing, TimeBody, Hops, PeerId, Peer, Follow}
 use Rattle.tsp_base.specs.Words.{Deed, Begins, Acts, Did, Seen, Here, Elsewhere, IsName, Received, acting, taken, taken_after, message_in, name_of, name_in, kept_name, kept_name_after, Sampled, Estimate, best, best_after, better, estimate, estimate_of, Sending, open_send, open_to, open_to_after, posts_of, sending_at, sending_of, message_of, time_in, IsMicros}

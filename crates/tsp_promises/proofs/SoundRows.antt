@@ -1,15 +1,10 @@
 -- What keeps a port sound: the words that rows are put together with, and single acts.
-use Rattle.std.specs.Prelude.{◌≡◌, ◌<◌, ◌^◌, ℕ, ◌+◌, ℤ, Bool, true, List, [], ◌∷◌, refl}
-use Rattle.std.proofs.Common.{sym, subst, arith}
-use Rattle.std.proofs.Math.Nat.{mod-lt}
-use Rattle.std.proofs.lemmas.Int.{ints}
-use Rattle.std.proofs.lemmas.Bool.{and_parts}
+use Rattle.std.proofs.Common.{sym, subst, arith, ◌≡◌, ◌<◌, ◌^◌, ℕ, ◌+◌, ℤ, Bool, true, List, [], ◌∷◌, refl}
+use Rattle.std.proofs.{Math.Nat.mod-lt, lemmas.Bool.and_parts, lemmas.Int.ints}
 use Rattle.tsp_rules.specs.Values.{Act, Alarm, Message, Kind, SetTime, Nothing, TimeBody, PeerId, Place}
 use Rattle.tsp_base.specs.Words.{Acts, Cause, Past, plain, carries_time, carries_hops, Leads, body_fits, IsName, word, word_after, corrects, Row, grown, nothing, puts, either_by, reading, arms, bare, timed, posts, posts_to_others, posts_back, posts_time, IsReply, IsMicros, asked}
 use Rattle.tsp_base.proofs.LeadsLemmas.{Leads_either, Leads_reading, Leads_nothing, Leads_puts, Leads_from}
-use Rattle.tsp_rules.specs.ClockRows.{adjusts, sets}
-use Rattle.tsp_rules.specs.RoundRows.{asks}
-use Rattle.tsp_rules.specs.CommonRows.{posts_reply, replies}
+use Rattle.tsp_rules.specs.{ClockRows.adjusts, ClockRows.sets, CommonRows.posts_reply, CommonRows.replies, RoundRows.asks}
 use Rattle.tsp_rules.specs.SendRows.{may_correct, may_set, begins_settime}
 use Rattle.tsp_rules.specs.Guards.{ticket_at, target_at, is_clock_value, is_in_range}
 use Rattle.tsp_promises.specs.Sound.{IsSound, IsSoundAct, SoundPast}

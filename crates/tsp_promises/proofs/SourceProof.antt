@@ -1,25 +1,14 @@
 -- Where the number of a correction comes from.
-use Rattle.std.specs.Prelude.{◌≡◌, ℕ, ◌+◌, ◌≤◌, List, ◌∷◌, refl}
-use Rattle.std.proofs.Common.{sym, ap, arith, subst, inl, inr, ◌∙◌}
+use Rattle.std.proofs.Common.{sym, ap, arith, subst, inl, inr, ◌∙◌, ◌≡◌, ℕ, ◌+◌, ◌≤◌, List, ◌∷◌, refl}
 use Rattle.tsp_rules.specs.Values.{Post, Datagram, Message, Stamp, SlaveUp, Place, Peer, Port, Reply}
 use Rattle.tsp_base.specs.Words.{Acts, Did, Line, Seen, Here, of, dids, view, plain, MessageValue, ticket, Within, Sampled, started, ReplyValue, Receives, peer_of}
-use Rattle.tsp_promises.specs.CorrectionFits.{AnswersSlaveUp, AtClose}
-use Rattle.tsp_promises.specs.DeedFits.{MessageFits}
-use Rattle.tsp_promises.specs.Fits.{Fits, LineFits, node_of}
-use Rattle.tsp_promises.specs.Setting.{Setting, setup_of}
-use Rattle.tsp_base.proofs.PlaceLemmas.{Within-all, Within-through, Within-tail}
-use Rattle.tsp_base.proofs.Views.{plain_view}
-use Rattle.tsp_promises.proofs.Given.{Given, given_at}
-use Rattle.tsp_promises.proofs.ClosedProof.{closed_at}
-use Rattle.tsp_promises.proofs.BestProof.{best_at}
-use Rattle.tsp_promises.proofs.KnownProof.{known}
-use Rattle.tsp_promises.proofs.Locating.{line_on, locate}
+use Rattle.tsp_promises.specs.{CorrectionFits.AnswersSlaveUp, CorrectionFits.AtClose, DeedFits.MessageFits}
+use Rattle.tsp_promises.specs.{Fits.Fits, Fits.LineFits, Fits.node_of, Setting.Setting, Setting.setup_of}
+use Rattle.tsp_base.proofs.{PlaceLemmas.Within-all, PlaceLemmas.Within-through, PlaceLemmas.Within-tail, Views.plain_view}
+use Rattle.tsp_promises.proofs.{BestProof.best_at, ClosedProof.closed_at, Given.Given, Given.given_at, KnownProof.known, PortFits.deed_fits}
+use Rattle.tsp_promises.proofs.{Locating.line_on, Locating.locate, RoundPlaces.same-start, SendPlaces.post_fits, TakingProof.round-soon}
 use Rattle.tsp_promises.proofs.MeasuredProof.{Reading, reading_at, sample_fits}
-use Rattle.tsp_promises.proofs.PortFits.{deed_fits}
-use Rattle.tsp_promises.proofs.RoundPlaces.{same-start}
-use Rattle.tsp_promises.proofs.SendPlaces.{post_fits}
 use Rattle.tsp_promises.proofs.SendProof.{CorrectsTo, number-same}
-use Rattle.tsp_promises.proofs.TakingProof.{round-soon}
 
 -- k posted its ticket at most 30 s before the correction f began with it
 pub record Source (k : ℕ) (f : Did) (fw : List Line) (number : ℕ) : Type 0 where

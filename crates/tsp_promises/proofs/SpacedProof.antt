@@ -1,14 +1,10 @@
 -- The Corrects of a node after a time stand apart.
-use Rattle.std.specs.Prelude.{◌≡◌, ◌==◌, Bool, true, false, ℕ, ◌+◌, ◌*◌, ◌<◌, ◌≤◌, List, [], ◌∷◌, refl}
-use Rattle.std.proofs.Common.{sym, arith, subst, inl, inr, eqb-true}
+use Rattle.std.proofs.Common.{sym, arith, subst, inl, inr, eqb-true, ◌≡◌, ◌==◌, Bool, true, false, ℕ, ◌+◌, ◌*◌, ◌<◌, ◌≤◌, List, [], ◌∷◌, refl}
 use Rattle.std.proofs.lemmas.Bool.{cases_lt}
 use Rattle.tsp_rules.specs.Values.{Boot, Correct, GAP}
 use Rattle.tsp_base.specs.Words.{Deed, Acts, Did, Line, of, dids, all_corrects, last_correct, time_of, Within, tick_at}
-use Rattle.tsp_promises.specs.Fits.{Fits, node_of}
-use Rattle.tsp_promises.specs.Setting.{Setting}
-use Rattle.tsp_promises.specs.OwnFits.{OwnFits}
-use Rattle.tsp_promises.proofs.Clocks.{tick-mono}
-use Rattle.tsp_promises.proofs.OwnFitsProof.{own_fits, place-time, tick_is}
+use Rattle.tsp_promises.specs.{Fits.Fits, Fits.node_of, OwnFits.OwnFits, Setting.Setting}
+use Rattle.tsp_promises.proofs.{Clocks.tick-mono, OwnFitsProof.own_fits, OwnFitsProof.place-time, OwnFitsProof.tick_is}
 use Rattle.tsp_promises.proofs.SinceProof.{ApartIf, apart_if, last_by}
 
 -- each Correct after the place s costs GAP, counted from the tick `low`

@@ -3,9 +3,8 @@ use Rattle.std.specs.Prelude.{◌≡◌, ◌&&◌, Bool, true, ℕ, zero, suc, �
 use Rattle.std.proofs.lemmas.Bool.{and_parts}
 use Rattle.tsp_rules.specs.Values.{Act, Boot, Took, Post, Become, Ring, Back, Correct, Sample, Acked, Placed, Window, Elect, Datagram, Message, Stamp, Good, Ack, SetTime, SlaveUp, Nothing, TimeBody, Place, Peer, Follow, Candidate, Master, Request, Reply}
 use Rattle.tsp_base.specs.Words.{Cause, Booted, Came, Handed, Turned, Step, Begins, Line, MessageValue, ReplyValue, first_port, line_of, peer_of}
-use Rattle.tsp_promises.specs.Fits.{Fits}
 use Rattle.tsp_promises.proofs.Histories.{ActsOk, msg, on, skip, step_at, still, then_step}
-use Rattle.tsp_promises.proofs.HistoriesFit.{may_begin, step-fits}
+use Rattle.tsp_promises.{proofs.HistoriesFit.may_begin, proofs.HistoriesFit.step-fits, specs.Fits.Fits}
 
 -- a step and its acts
 pub record Stage : Type 0 where

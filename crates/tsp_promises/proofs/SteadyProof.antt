@@ -1,21 +1,14 @@
 -- The shown clock runs on between steps, and meets its target.
-use Rattle.std.specs.Prelude.{◌≡◌, ◌==◌, ◌≤◌, ◌⊎◌, ℕ, ◌+◌, ◌-◌, ◌*◌, ◌/◌, ℤ, pos, negsuc, ◌+ℤ◌, ◌-ℤ◌, nat_abs, Bool, true, false, List, [], ◌∷◌, refl}
-use Rattle.std.proofs.Common.{arith, subst, sym, inl, inr, eqb-true, true≢false, ◌∙◌}
+use Rattle.std.proofs.Common.{arith, subst, sym, inl, inr, eqb-true, true≢false, ◌∙◌, ◌≡◌, ◌==◌, ◌≤◌, ◌⊎◌, ℕ, ◌+◌, ◌-◌, ◌*◌, ◌/◌, ℤ, pos, negsuc, ◌+ℤ◌, ◌-ℤ◌, nat_abs, Bool, true, false, List, [], ◌∷◌, refl}
 use Rattle.std.proofs.lemmas.Int.{ints}
 use Rattle.tsp_rules.specs.Values.{Boot, Correct, SLEW}
 use Rattle.tsp_base.specs.Words.{Deed, Begins, Acts, Did, Line, of, dids, boot_after, boot_tick, eased, last_correct, last_correct_after, lives, lives_after, moved, moved_after, rest, rest_after, shown, target, tick_of, time_of, wall, wall_after, Within, tick_at, width}
-use Rattle.tsp_promises.specs.Fits.{Fits, node_of}
-use Rattle.tsp_promises.specs.Setting.{Setting}
-use Rattle.tsp_promises.specs.ShownAt.{shown_at}
+use Rattle.tsp_promises.specs.{Fits.Fits, Fits.node_of, OwnFits.OwnFits, Setting.Setting, ShownAt.shown_at}
 use Rattle.tsp_promises.specs.Steady.{Advances, Meets, MeetsBy, NoneStepped, RunsOn, RunsOverTime, Steady, SteadyAt}
-use Rattle.tsp_promises.specs.OwnFits.{OwnFits}
-use Rattle.tsp_promises.proofs.Clocks.{tick-mono, ticks_over}
-use Rattle.tsp_promises.proofs.EverywhereLemmas.{Everywhere-from}
-use Rattle.tsp_promises.proofs.HistoryPlaces.{of-other, of-own, Within-of}
-use Rattle.tsp_promises.proofs.Locating.{tick_in}
+use Rattle.tsp_promises.proofs.{Clocks.tick-mono, Clocks.ticks_over, EverywhereLemmas.Everywhere-from, Locating.tick_in}
+use Rattle.tsp_promises.proofs.{HistoryPlaces.of-other, HistoryPlaces.of-own, HistoryPlaces.Within-of, SinceProof.last_by, SinceProof.since}
 use Rattle.tsp_promises.proofs.OwnFitsProof.{fits_at, own_fits, tick_is}
 use Rattle.tsp_base.proofs.TickLemmas.{eased_none}
-use Rattle.tsp_promises.proofs.SinceProof.{last_by, since}
 
 -- more slewing changes a rest by no more than itself
 eased-by : (r : ℤ) (n m : ℕ) → n ≤ m → nat_abs (eased r m -ℤ eased r n) ≤ m - n

@@ -1,17 +1,11 @@
 -- Lines of one step, and where steps have ended.
-use Rattle.std.specs.Prelude.{◌≡◌, ◌==◌, ◌≤◌, Bool, true, false, ℕ, List, [], ◌∷◌, refl}
-use Rattle.std.proofs.Common.{sym, ap, arith, subst, inl, inr, eqb-true, ◌∙◌}
+use Rattle.std.proofs.Common.{sym, ap, arith, subst, inl, inr, eqb-true, ◌∙◌, ◌≡◌, ◌==◌, ◌≤◌, Bool, true, false, ℕ, List, [], ◌∷◌, refl}
 use Rattle.tsp_rules.specs.Values.{Act, Port}
 use Rattle.tsp_base.specs.Words.{Begins, Acts, Deed, Did, Line, Step, of, dids, view, time_of, Within, steps, steps_after}
-use Rattle.tsp_promises.specs.Everywhere.{Everywhere}
+use Rattle.tsp_promises.specs.{Everywhere.Everywhere, OwnFits.OwnFits, Setting.Setting, Setting.setup_of, StepFacts.StepEnds}
 use Rattle.tsp_promises.specs.Fits.{Finished, Fits, LineFits, SameStep, node_of}
-use Rattle.tsp_promises.specs.Setting.{Setting, setup_of}
-use Rattle.tsp_promises.specs.StepFacts.{StepEnds}
 use Rattle.tsp_base.proofs.PlaceLemmas.{Within-comparable, Within-none}
-use Rattle.tsp_promises.specs.OwnFits.{OwnFits}
-use Rattle.tsp_promises.proofs.HistoryPlaces.{of-other}
-use Rattle.tsp_promises.proofs.Locating.{fits_in}
-use Rattle.tsp_promises.proofs.PortFits.{mark_fits}
+use Rattle.tsp_promises.proofs.{HistoryPlaces.of-other, Locating.fits_in, PortFits.mark_fits}
 
 -- each act is of the step of the deed before it
 abbrev pub Stepped : List Did → Type 0

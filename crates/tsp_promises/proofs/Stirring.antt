@@ -1,12 +1,10 @@
 -- How a port that was stirred comes to rest: its round is given up, where one goes on.
-use Rattle.std.specs.Prelude.{◌≡◌, ℕ, Bool, true, false, if◌then◌else◌, List, [], ◌∷◌, ◌++◌, Option, None, Some, is_some, refl}
-use Rattle.std.proofs.Common.{sym, subst, inl, inr, true≢false, append-nil, ◌∙◌}
+use Rattle.std.proofs.Common.{sym, subst, inl, inr, true≢false, append-nil, ◌∙◌, ◌≡◌, ℕ, Bool, true, false, if◌then◌else◌, List, [], ◌∷◌, ◌++◌, Option, None, Some, is_some, refl}
 use Rattle.tsp_rules.specs.Values.{Abandon, PeerId}
 use Rattle.tsp_base.specs.Words.{Seen, Past, Leads, armed, is_going, Row, grown, nothing, puts, either_by}
 use Rattle.tsp_base.proofs.RowLemmas.{added_append}
 use Rattle.tsp_rules.specs.RoundRows.{abandons, abandons_going, corrects, upsetting}
-use Rattle.tsp_promises.proofs.Known.{KnowsOf, Rests, RestsIn}
-use Rattle.tsp_promises.proofs.Leaves.{then_seen, none-some, nil-cons}
+use Rattle.tsp_promises.proofs.{Known.KnowsOf, Known.Rests, Known.RestsIn, Leaves.then_seen, Leaves.none-some, Leaves.nil-cons}
 use Rattle.tsp_promises.proofs.Upsets.{Upset, Upsets}
 
 -- without a round nothing stirs a port

@@ -1,27 +1,16 @@
 -- Rivals that take the QUITs of one resolution lead no more.
-use Rattle.std.specs.Prelude.{◌≡◌, ◌==◌, ◌||◌, ◌≤◌, ◌<◌, Bool, true, false, ℕ, ◌+◌, List, [], ◌∷◌, refl}
-use Rattle.std.proofs.Common.{sym, ap, arith, subst, inl, inr, eq-eqb, ◌∙◌}
+use Rattle.std.proofs.Common.{sym, ap, arith, subst, inl, inr, eq-eqb, ◌∙◌, ◌≡◌, ◌==◌, ◌||◌, ◌≤◌, ◌<◌, Bool, true, false, ℕ, ◌+◌, List, [], ◌∷◌, refl}
 use Rattle.tsp_rules.specs.Values.{Boot, Post, Become, Ring, Quit, ResolveAlarm, Message, PeerId, Peer, Port, Role, Follow, Master, ELECT_MIN, LIFE}
 use Rattle.tsp_base.specs.Words.{Step, Begins, Acts, Deed, Did, Line, Seen, Here, of, dids, view, plain, seen_as, is_shared, boot_tick, tick_of, time_of, is_among, Within, role, role_after, begun_to, peer_of, steps, MessageValue, tick_at}
-use Rattle.tsp_promises.specs.DeedFits.{DeedFits}
+use Rattle.tsp_promises.specs.{DeedFits.DeedFits, OwnFits.OwnFits, Premises.Life, Premises.TakenWithinAt, Setting.Setting, Setting.setup_of}
 use Rattle.tsp_promises.specs.Fits.{Fits, Finished, Sees, node_of}
-use Rattle.tsp_promises.specs.Premises.{Life, TakenWithinAt}
-use Rattle.tsp_promises.specs.Resolved.{StopsBy, StopsLeading, TakesQuit}
-use Rattle.tsp_promises.specs.Setting.{Setting, setup_of}
-use Rattle.tsp_promises.specs.StepFacts.{owes, owes_after}
-use Rattle.tsp_promises.proofs.EverywhereLemmas.{Everywhere-from, Everywhere-within}
-use Rattle.tsp_base.proofs.PlaceLemmas.{Within-none, Within-tail, Within-through}
+use Rattle.tsp_promises.specs.{Resolved.StopsBy, Resolved.StopsLeading, Resolved.TakesQuit, StepFacts.owes, StepFacts.owes_after}
+use Rattle.tsp_base.proofs.{PlaceLemmas.Within-none, PlaceLemmas.Within-tail, PlaceLemmas.Within-through, Views.plain_view}
 use Rattle.tsp_base.proofs.ViewPlaces.{sees-own, Within-dids}
-use Rattle.tsp_base.proofs.Views.{plain_view}
-use Rattle.tsp_promises.specs.OwnFits.{OwnFits}
-use Rattle.tsp_promises.proofs.Clocks.{near}
-use Rattle.tsp_promises.proofs.HeldProof.{quit_late}
-use Rattle.tsp_promises.proofs.HistoryPlaces.{of-own, own_in}
-use Rattle.tsp_promises.proofs.Locating.{line_on}
+use Rattle.tsp_promises.proofs.{Clocks.near, EverywhereLemmas.Everywhere-from, EverywhereLemmas.Everywhere-within, HeldProof.quit_late}
+use Rattle.tsp_promises.proofs.{HistoryPlaces.of-own, HistoryPlaces.own_in, Locating.line_on, SendPlaces.send_place, SinceProof.since}
 use Rattle.tsp_promises.proofs.OwnFitsProof.{own_fits, fits_at, of-tick, place-time}
-use Rattle.tsp_promises.proofs.SendPlaces.{send_place}
 use Rattle.tsp_promises.proofs.StepProof.{all-stepped, finished_at, last_time, one_step, own-stepped}
-use Rattle.tsp_promises.proofs.SinceProof.{since}
 
 -- where a port leads after a QUIT, it owes its step's end to follow somebody
 record Owing (seen : List Seen) : Type 0 where

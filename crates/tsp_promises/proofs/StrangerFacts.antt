@@ -1,14 +1,10 @@
 -- What goes to strangers answers what was taken from one.
-use Rattle.std.specs.Prelude.{◌≡◌, true, false, if◌then◌else◌, List, [], ◌∷◌, Option, None, Some, refl}
-use Rattle.std.proofs.Common.{sym, ap, subst, subst₂, inl, inr, true≢false, ◌∙◌}
+use Rattle.std.proofs.Common.{sym, ap, subst, subst₂, inl, inr, true≢false, ◌∙◌, ◌≡◌, true, false, if◌then◌else◌, List, [], ◌∷◌, Option, None, Some, refl}
 use Rattle.tsp_rules.specs.Values.{Took, Post, Datagram, Message, Stamp, Good, Kind, Ack, DateAck, PeerId, Place, Peer, Stranger, Request, Reply}
 use Rattle.tsp_base.specs.Words.{Begins, Acts, Deed, Did, Seen, Here, Elsewhere, MessageValue, Received, kept_name, message_in, role, taken, taken_after, Setup, ReplyValue, TakesFrom}
-use Rattle.tsp_promises.specs.AckFits.{AckFits}
-use Rattle.tsp_promises.specs.Answered.{AnswersWith, acknowledges, is_answer}
-use Rattle.tsp_promises.specs.DateFits.{DateAckFits}
+use Rattle.tsp_promises.specs.{AckFits.AckFits, Answered.AnswersWith, Answered.acknowledges, Answered.is_answer, DateFits.DateAckFits}
 use Rattle.tsp_promises.specs.DeedFits.{DeedFits, MessageFits, NamedFits, PostFits, StrangerFits, answer_name, asks_name}
-use Rattle.tsp_promises.specs.PortFits.{PortFits}
-use Rattle.tsp_promises.specs.StepFacts.{is_answered, is_answered_after}
+use Rattle.tsp_promises.specs.{PortFits.PortFits, StepFacts.is_answered, StepFacts.is_answered_after}
 use Rattle.tsp_rules.specs.CommonRows.{master_name_in}
 
 -- what is posted to a stranger, and what it answers

@@ -1,28 +1,22 @@
 -- The rows that take a message, of whichever role, keep what is known of a port.
-use Rattle.std.specs.Prelude.{◌≡◌, ◌≢◌, ℕ, ◌==◌, Bool, true, false, List, [], ◌∷◌, Option, None, Some, refl}
-use Rattle.std.proofs.Common.{sym, subst, ap, true≢false, eqb-true, ◌∙◌}
+use Rattle.std.proofs.Common.{sym, subst, ap, true≢false, eqb-true, ◌∙◌, ◌≡◌, ◌≢◌, ℕ, ◌==◌, Bool, true, false, List, [], ◌∷◌, Option, None, Some, refl}
 use Rattle.std.proofs.lemmas.Bool.{and_parts, not-true}
 use Rattle.tsp_rules.specs.Values.{Post, Acked, Quit, Trace, Message, Stamp, Taken, Good, Kind, Ack, Election, QuitKind, PeerId, Place, Peer, Stranger, Role, Starting, Follow, Master, Request, Reply}
 use Rattle.tsp_base.specs.Words.{Did, Acts, Seen, Here, Past, plain, may_stand, Leads, MessageValue, boot_tick, ticket, target, is_among, Received, Said, role, said, taken, held, grown, nothing, puts, ◌followed_by◌, either_by, reading, bare, posts, posts_back, is_correction, open_send, open_to, posts_of, sending_at, sending_of, message_of, Setup, peer_of}
-use Rattle.tsp_promises.specs.AckFits.{AckFits, AckedFits, Answers}
+use Rattle.tsp_promises.specs.{AckFits.AckFits, AckFits.AckedFits, AckFits.Answers, PortFits.setup_in, QuitFits.QuitFits}
 use Rattle.tsp_promises.specs.DeedFits.{NamedFits, PostFits, asks_name, is_answered_early}
-use Rattle.tsp_promises.specs.QuitFits.{QuitFits}
 use Rattle.tsp_promises.specs.StepFacts.{is_answered, owes, owes_after}
 use Rattle.tsp_base.proofs.LeadsLemmas.{Leads_then, Leads_either, Leads_reading, Leads_nothing, Leads_puts, Leads_from, Leads_to}
 use Rattle.tsp_rules.specs.CommonRows.{quits, follows_unless, follow_row, posts_reply, replies, master_name, names_master, says_master, traces, tests, is_awake, is_idle, may_be_asked, candidature_row}
 use Rattle.tsp_rules.specs.SendRows.{has_other, answers_other, has_election, answers_election, is_kind_election, ends_by_ack, acknowledges}
 use Rattle.tsp_rules.specs.Guards.{role_at, is_in_range, is_master_at, is_starting_role, may_stand_at}
-use Rattle.tsp_promises.specs.PortFits.{setup_in}
 use Rattle.tsp_promises.proofs.Known.{During, Free, Early, RestsIn, Rests}
-use Rattle.tsp_promises.proofs.Leaves.{none-among, trace, acked}
-use Rattle.tsp_rules.proofs.Asides.{now}
+use Rattle.tsp_rules.proofs.{Asides.now, GuardFacts.stand_is, GuardFacts.awake_is, GuardFacts.master_is}
 use Rattle.tsp_promises.proofs.PostLeaves.{post_back, post_reply, post_early}
-use Rattle.tsp_promises.proofs.Rings.{rested_of, wake}
 use Rattle.tsp_promises.proofs.Changes.{Quitting, FreeIn, quit_acked, quit_taken, Is, JustTook}
-use Rattle.tsp_promises.proofs.LeadsLeaves.{Leads_posts, Leads_posts_back}
+use Rattle.tsp_promises.proofs.{LeadsLeaves.Leads_posts, LeadsLeaves.Leads_posts_back, Rings.rested_of, Rings.wake}
 use Rattle.tsp_promises.proofs.StrangerFacts.{master_named, own_named}
-use Rattle.tsp_rules.proofs.GuardFacts.{stand_is, awake_is, master_is}
-use Rattle.tsp_promises.proofs.CommonLeads.{follow_leads, candidature_leads}
+use Rattle.tsp_promises.proofs.{CommonLeads.follow_leads, CommonLeads.candidature_leads, Leaves.none-among, Leaves.trace, Leaves.acked}
 
 -- what a step took from a peer: a message
 abbrev pub Says : PeerId → MessageValue → Option Received → Option Received → Type 0

@@ -1,24 +1,14 @@
 -- What is known of a Correct that takes a correction, and of the reading on which that rests.
-use Rattle.std.specs.Prelude.{◌≡◌, ◌≤◌, ◌⊎◌, ℕ, ◌+◌, ℤ, List, ◌∷◌, None, Some, refl}
-use Rattle.std.proofs.Common.{sym, ap, arith, subst, subst₂, inl, inr, ◌∙◌}
+use Rattle.std.proofs.Common.{sym, ap, arith, subst, subst₂, inl, inr, ◌∙◌, ◌≡◌, ◌≤◌, ◌⊎◌, ℕ, ◌+◌, ℤ, List, ◌∷◌, None, Some, refl}
 use Rattle.tsp_rules.specs.Values.{Message, AdjTime, PeerId, Peer, Port, CLOSE, LIFE, SLACK}
 use Rattle.tsp_base.specs.Words.{Did, Line, Seen, Here, of, dids, view, ticket, MessageValue, Within, taken, Sampled, best, started, peer_of, tick_at}
 use Rattle.tsp_promises.specs.CorrectionFits.{AnswersSlaveUp, AtClose, BeginFits, FromClose}
-use Rattle.tsp_promises.specs.Fits.{Fits, node_of}
-use Rattle.tsp_promises.specs.OneError.{FromReading, Taking}
-use Rattle.tsp_promises.specs.StepFacts.{closed}
-use Rattle.tsp_promises.specs.Setting.{Setting}
+use Rattle.tsp_promises.specs.{Fits.Fits, Fits.node_of, OneError.FromReading, OneError.Taking, Setting.Setting, StepFacts.closed}
 use Rattle.tsp_base.proofs.PlaceLemmas.{Within-through, Within-tail}
-use Rattle.tsp_promises.proofs.BestProof.{some-is}
-use Rattle.tsp_promises.proofs.Clocks.{near}
-use Rattle.tsp_promises.proofs.Given.{Given, given_at}
-use Rattle.tsp_promises.proofs.Locating.{line_on, locate, tick_in}
-use Rattle.tsp_promises.proofs.Matching.{Kept, first_after}
-use Rattle.tsp_promises.proofs.OnceTakenProof.{Acting, acting_on}
-use Rattle.tsp_promises.proofs.OwnFitsProof.{fits_at, place-time}
-use Rattle.tsp_promises.proofs.ReadingProof.{ReadAt, read_at}
-use Rattle.tsp_promises.proofs.RoundPlaces.{started_at}
-use Rattle.tsp_promises.proofs.SendPlaces.{SendPlace, post_fits, send_place}
+use Rattle.tsp_promises.proofs.{BestProof.some-is, Clocks.near, Given.Given, Given.given_at, Matching.Kept, Matching.first_after}
+use Rattle.tsp_promises.proofs.{Locating.line_on, Locating.locate, Locating.tick_in, OnceTakenProof.Acting, OnceTakenProof.acting_on}
+use Rattle.tsp_promises.proofs.{OwnFitsProof.fits_at, OwnFitsProof.place-time, ReadingProof.ReadAt, ReadingProof.read_at}
+use Rattle.tsp_promises.proofs.{RoundPlaces.started_at, SendPlaces.SendPlace, SendPlaces.post_fits, SendPlaces.send_place}
 use Rattle.tsp_promises.proofs.SendProof.{numbered}
 
 -- the round began at most so long before its Close

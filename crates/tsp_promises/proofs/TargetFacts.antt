@@ -1,10 +1,8 @@
 -- What a SETTIME carries that a master sends a slave.
-use Rattle.std.specs.Prelude.{◌≡◌, ℕ, neg_ℤ, ◌<ℤ◌, true}
-use Rattle.std.proofs.Common.{sym, subst, ap, ◌∙◌}
-use Rattle.tsp_rules.specs.Values.{LIMIT}
+use Rattle.std.proofs.Common.{sym, subst, ap, ◌∙◌, ◌≡◌, ℕ, neg_ℤ, ◌<ℤ◌, true}
 use Rattle.tsp_base.specs.Words.{Did, Past, plain, MessageValue, target, time_in}
 use Rattle.tsp_promises.specs.CorrectionFits.{SetsTarget}
-use Rattle.tsp_rules.specs.Guards.{is_in_range, target_at}
+use Rattle.tsp_rules.specs.{Guards.is_in_range, Guards.target_at, Values.LIMIT}
 use Rattle.tsp_rules.proofs.GuardFacts.{clock_low, clock_high}
 
 -- a SETTIME carries the target, which is in a clock's range

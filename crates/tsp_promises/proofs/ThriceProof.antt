@@ -1,17 +1,11 @@
 -- A numbered send has few posts.
-use Rattle.std.specs.Prelude.{◌≡◌, ◌≤◌, ◌⊎◌, ℕ, ◌+◌, ◌==◌, ◌&&◌, if◌then◌else◌, Bool, true, false, List, [], ◌∷◌, refl}
-use Rattle.std.proofs.Common.{sym, ap, arith, subst, inl, inr, eq-eqb, ◌∙◌}
+use Rattle.std.proofs.Common.{sym, ap, arith, subst, inl, inr, eq-eqb, ◌∙◌, ◌≡◌, ◌≤◌, ◌⊎◌, ℕ, ◌+◌, ◌==◌, ◌&&◌, if◌then◌else◌, Bool, true, false, List, [], ◌∷◌, refl}
 use Rattle.tsp_rules.specs.Values.{Boot, Post, Become, Acked, Gave, Message, PeerId, Peer, TRIES}
 use Rattle.tsp_base.specs.Words.{Deed, Acts, Did, Line, Seen, Here, Elsewhere, of, view, MessageValue, acting, begun_to, is_numbered, open_to, open_to_after, posts_of, posts_of_after}
-use Rattle.tsp_promises.specs.CorrectionFits.{RepeatFits}
-use Rattle.tsp_promises.specs.Fits.{Fits, node_of}
-use Rattle.tsp_promises.specs.Setting.{Setting}
+use Rattle.tsp_promises.specs.{CorrectionFits.RepeatFits, Fits.Fits, Fits.node_of, Setting.Setting}
 use Rattle.tsp_promises.specs.Thrice.{Thrice, ThriceAt, sent, sent_after}
-use Rattle.tsp_promises.proofs.EverywhereLemmas.{Everywhere-from}
-use Rattle.tsp_promises.proofs.Locating.{line_on, view-line}
-use Rattle.tsp_promises.proofs.OwnFitsProof.{fits_at}
-use Rattle.tsp_promises.proofs.SendPlaces.{repeats_in, send_place}
-use Rattle.tsp_promises.proofs.Leaves.{nil-cons}
+use Rattle.tsp_promises.proofs.{EverywhereLemmas.Everywhere-from, Leaves.nil-cons, Locating.line_on, Locating.view-line}
+use Rattle.tsp_promises.proofs.{OwnFitsProof.fits_at, SendPlaces.repeats_in, SendPlaces.send_place}
 
 -- what a send has had is what the open one has had, where one is open
 abbrev Counted : List Seen → ℕ → ℕ → Type 0

@@ -1,19 +1,11 @@
 -- A round's bound outlasts later Corrects.
-use Rattle.std.specs.Prelude.{◌≡◌, ◌≤◌, ◌≤ℤ◌, ℕ, ◌+◌, ◌-◌, ◌*◌, ℤ, pos, ◌+ℤ◌, ◌-ℤ◌, nat_abs, List, ◌∷◌, refl}
-use Rattle.std.proofs.Common.{arith, sym, subst, subst₂, inl, ◌∙◌}
+use Rattle.std.proofs.Common.{arith, sym, subst, subst₂, inl, ◌∙◌, ◌≡◌, ◌≤◌, ◌≤ℤ◌, ℕ, ◌+◌, ◌-◌, ◌*◌, ℤ, pos, ◌+ℤ◌, ◌-ℤ◌, nat_abs, List, ◌∷◌, refl}
 use Rattle.std.proofs.lemmas.Int.{ints}
-use Rattle.tsp_promises.specs.ClockAt.{clock_at}
-use Rattle.tsp_promises.specs.Fits.{node_of}
+use Rattle.tsp_promises.specs.{ClockAt.clock_at, Fits.node_of, Setting.Setting}
 use Rattle.tsp_base.specs.Words.{Line, of, dids, moved, time_of, tick_at, width}
-use Rattle.tsp_promises.specs.Setting.{Setting}
 use Rattle.tsp_promises.specs.Throughout.{BoundAt, BoundsLast, PeersBound, Throughout, moved_since}
-use Rattle.tsp_promises.proofs.AgreedProof.{core}
-use Rattle.tsp_promises.proofs.AgreedSums.{triangle}
-use Rattle.tsp_promises.proofs.FromRoundProof.{Met, whole}
-use Rattle.tsp_promises.proofs.EverywhereLemmas.{Everywhere-from}
-use Rattle.tsp_promises.proofs.Given.{Given, given_at}
-use Rattle.tsp_promises.proofs.MasterMoved.{same-mean}
-use Rattle.tsp_promises.proofs.OwnFitsProof.{place-time}
+use Rattle.tsp_promises.proofs.{AgreedProof.core, AgreedSums.triangle, EverywhereLemmas.Everywhere-from, Given.Given, Given.given_at}
+use Rattle.tsp_promises.proofs.{FromRoundProof.Met, FromRoundProof.whole, MasterMoved.same-mean, OwnFitsProof.place-time}
 
 -- the clocks as they were left, and what moved them since
 back : (wk wm ck cm hk hm mean e : ℤ) (tk tm w : ℕ) → pos (nat_abs (((wk +ℤ ck) +ℤ pos tk) -ℤ (((wm +ℤ cm) +ℤ mean) +ℤ pos tm))) ≤ℤ (e +ℤ pos w) →

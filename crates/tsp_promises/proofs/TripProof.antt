@@ -1,12 +1,8 @@
 -- A Sample's err is half its round trip.
 use Rattle.std.specs.Prelude.{List, ◌∷◌}
-use Rattle.tsp_promises.specs.Fits.{Fits}
+use Rattle.tsp_promises.specs.{Fits.Fits, Measured.TripAt, Measured.Trips, Setting.Setting}
 use Rattle.tsp_base.specs.Words.{Line}
-use Rattle.tsp_promises.specs.Measured.{TripAt, Trips}
-use Rattle.tsp_promises.specs.Setting.{Setting}
-use Rattle.tsp_promises.proofs.EverywhereLemmas.{Everywhere-from}
-use Rattle.tsp_promises.proofs.MeasuredProof.{sample_fits}
-use Rattle.tsp_promises.proofs.OwnFitsProof.{fits_at}
+use Rattle.tsp_promises.proofs.{EverywhereLemmas.Everywhere-from, MeasuredProof.sample_fits, OwnFitsProof.fits_at}
 
 trip_at : (setting : Setting) (l : Line) (world : List Line) → Fits setting (l ∷ world) → TripAt l world
 trip_at setting l world f p counter diff err number is =

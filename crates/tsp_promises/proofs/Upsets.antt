@@ -1,9 +1,7 @@
 -- Rows after which a port rests, or is stirred since they corrected the clock.
-use Rattle.std.specs.Prelude.{◌≡◌, ◌⊎◌, ℕ, Bool, true, false, if◌then◌else◌, List, refl}
-use Rattle.std.proofs.Common.{sym, inl, inr, true≢false}
-use Rattle.tsp_rules.specs.Values.{Act}
+use Rattle.std.proofs.Common.{sym, inl, inr, true≢false, ◌≡◌, ◌⊎◌, ℕ, Bool, true, false, if◌then◌else◌, List, refl}
 use Rattle.tsp_base.specs.Words.{Past, Leads, Row, grown, either_by, reading}
-use Rattle.tsp_rules.specs.RoundRows.{corrects}
+use Rattle.tsp_rules.specs.{RoundRows.corrects, Values.Act}
 use Rattle.tsp_promises.proofs.Known.{Rests, RestsIn}
 
 -- a port after these acts: it rests, or it is stirred, since they set a date

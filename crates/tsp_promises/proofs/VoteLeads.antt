@@ -1,23 +1,15 @@
 -- The answers to a candidate's votes keep what is known of a port.
-use Rattle.std.specs.Prelude.{◌≡◌, ◌==◌, ℕ, true, List, [], ◌∷◌, Option, None, Some, refl}
-use Rattle.std.proofs.Common.{sym, ap, true≢false, eqb-true, eq-eqb, ◌∙◌}
+use Rattle.std.proofs.Common.{sym, ap, true≢false, eqb-true, eq-eqb, ◌∙◌, ◌≡◌, ◌==◌, ℕ, true, List, [], ◌∷◌, Option, None, Some, refl}
 use Rattle.std.proofs.lemmas.Bool.{and_parts}
 use Rattle.tsp_rules.specs.Values.{Post, Become, Backer, Acked, Message, Good, Kind, Accept, Election, PeerId, Peer, Loose, Candidate}
 use Rattle.tsp_base.specs.Words.{Acts, Did, Seen, Here, Past, Leads, MessageValue, role, grown, nothing, puts, ◌followed_by◌, Sending, open_send, open_to, message_at, Setup}
-use Rattle.tsp_promises.specs.HoldFits.{BackerFits}
+use Rattle.tsp_promises.specs.{HoldFits.BackerFits, PortFits.PortFits, PortFits.setup_in}
 use Rattle.tsp_base.proofs.LeadsLemmas.{Leads_then, Leads_either, Leads_puts, Leads_to}
-use Rattle.tsp_rules.specs.CandidateRows.{yields, accepted_by, refused_by}
-use Rattle.tsp_rules.specs.CommonRows.{arms_elect}
-use Rattle.tsp_rules.specs.SendRows.{has_election, answers_election, is_kind_election}
-use Rattle.tsp_promises.specs.PortFits.{PortFits, setup_in}
-use Rattle.tsp_promises.proofs.Known.{asks_vote, Free, Rests}
-use Rattle.tsp_promises.proofs.Leaves.{acked, backer}
-use Rattle.tsp_rules.proofs.Asides.{now}
-use Rattle.tsp_promises.proofs.Changes.{become_loose}
-use Rattle.tsp_promises.proofs.SendFits.{open_is}
-use Rattle.tsp_promises.proofs.CommonLeads.{arms_elect_during}
+use Rattle.tsp_rules.specs.{CandidateRows.yields, CandidateRows.accepted_by, CandidateRows.refused_by, CommonRows.arms_elect}
+use Rattle.tsp_promises.proofs.{Leaves.acked, Leaves.backer, SendFits.open_is, SlaveLeads.idle_heard}
+use Rattle.tsp_rules.{proofs.Asides.now, specs.SendRows.has_election, specs.SendRows.answers_election, specs.SendRows.is_kind_election}
+use Rattle.tsp_promises.proofs.{Changes.become_loose, CommonLeads.arms_elect_during, Known.asks_vote, Known.Free, Known.Rests}
 use Rattle.tsp_promises.proofs.TakenLeads.{Says, Heard, HeardIn, rests_of, election_acked}
-use Rattle.tsp_promises.proofs.SlaveLeads.{idle_heard}
 
 -- the ELECTION that is open to p under this number
 record VoteAsked (p : PeerId) (number : ℕ) (seen : List Seen) : Type 0 where

@@ -1,29 +1,19 @@
 -- What stands behind a Backer: the ACCEPT that was taken, the Back in its step, and the ELECTION that it answers.
-use Rattle.std.specs.Prelude.{◌≡◌, ◌≤◌, ◌<◌, ℕ, ◌+◌, ◌%◌, true, false, List, ◌∷◌, Some, refl}
-use Rattle.std.proofs.Common.{sym, ap, arith, subst, subst₂, inl, inr, ◌∙◌}
+use Rattle.std.proofs.Common.{sym, ap, arith, subst, subst₂, inl, inr, ◌∙◌, ◌≡◌, ◌≤◌, ◌<◌, ℕ, ◌+◌, ◌%◌, true, false, List, ◌∷◌, Some, refl}
 use Rattle.std.proofs.lemmas.Bool.{cases_lt}
 use Rattle.tsp_rules.specs.Values.{Post, Back, Backer, Message, Accept, Election, PeerId, Peer, Port, LAST, LIFE}
 use Rattle.tsp_base.specs.Words.{Step, Acts, Did, Line, Seen, Here, of, dids, view, is_shared, MessageValue, boot_tick, lives, lives_after, time_of, word, Within, acting, stood, stood_after, begun, is_numbered, Receives, peer_of, tick_at, Setup}
-use Rattle.tsp_promises.specs.DeedFits.{MessageFits, ElectionFits}
-use Rattle.tsp_promises.specs.Fits.{Fits, SameStep, node_of}
+use Rattle.tsp_promises.specs.{DeedFits.MessageFits, DeedFits.ElectionFits, Fits.Fits, Fits.SameStep, Fits.node_of, StepFacts.backed}
 use Rattle.tsp_promises.specs.Premises.{Few, FewAt, Honest, HonestAt, Life, TakenWithinAt}
-use Rattle.tsp_promises.specs.Setting.{Network, Setting, setup_of}
-use Rattle.tsp_promises.specs.StepFacts.{backed}
-use Rattle.tsp_promises.proofs.EverywhereLemmas.{Everywhere-at, Everywhere-within}
-use Rattle.tsp_base.proofs.PlaceLemmas.{Within-all, Within-through, Within-tail}
-use Rattle.tsp_base.proofs.Views.{plain_view}
-use Rattle.tsp_promises.specs.HoldFits.{AcceptFits, BackerFits}
+use Rattle.tsp_base.proofs.{PlaceLemmas.Within-all, PlaceLemmas.Within-through, PlaceLemmas.Within-tail, Views.plain_view}
+use Rattle.tsp_promises.specs.{HoldFits.AcceptFits, HoldFits.BackerFits, Setting.Network, Setting.Setting, Setting.setup_of}
 use Rattle.tsp_promises.proofs.Elections.{AskFits, VoteFits, ElectFits, ElectsAt, Elects}
-use Rattle.tsp_promises.proofs.BackedProof.{back_at}
-use Rattle.tsp_promises.proofs.Clocks.{near}
+use Rattle.tsp_promises.proofs.{BackedProof.back_at, Clocks.near, EverywhereLemmas.Everywhere-at, EverywhereLemmas.Everywhere-within}
 use Rattle.tsp_promises.proofs.ElectionFacts.{Asks, begun_asks, asks_life, one_asking, open_at, boots, boots_after, boots_view}
-use Rattle.tsp_promises.proofs.HistoryPlaces.{Within-of, lift, own_in}
-use Rattle.tsp_promises.proofs.KnownProof.{in-step, known, own-in-step}
+use Rattle.tsp_promises.proofs.{HistoryPlaces.Within-of, HistoryPlaces.lift, HistoryPlaces.own_in, PortFits.deed_fits, SinceProof.since}
+use Rattle.tsp_promises.proofs.{KnownProof.in-step, KnownProof.known, KnownProof.own-in-step, SendProof.opened, SendProof.send_is}
 use Rattle.tsp_promises.proofs.Locating.{line_on, locate, view-line, seen_in, tick_in}
 use Rattle.tsp_promises.proofs.OwnFitsProof.{own_fits, fits_at, place-time}
-use Rattle.tsp_promises.proofs.PortFits.{deed_fits}
-use Rattle.tsp_promises.proofs.SendProof.{opened, send_is}
-use Rattle.tsp_promises.proofs.SinceProof.{since}
 
 -- a history that fits, also as elections ask, under their premises
 pub record Polled (setting : Setting) (world : List Line) : Type 0 where

@@ -1,24 +1,15 @@
 -- The end of a candidature keeps what is known of a port.
-use Rattle.std.specs.Prelude.{◌≡◌, ◌≤◌, ◌<◌, ℕ, ◌+◌, ◌*◌, nat_lt, Bool, true, false, not, ◌||◌, List, [], ◌∷◌, length, Some, refl}
-use Rattle.std.proofs.Common.{sym, ap, arith, ◌∙◌, ltb-true, true≢false}
+use Rattle.std.proofs.Common.{sym, ap, arith, ◌∙◌, ltb-true, true≢false, ◌≡◌, ◌≤◌, ◌<◌, ℕ, ◌+◌, ◌*◌, nat_lt, Bool, true, false, not, ◌||◌, List, [], ◌∷◌, length, Some, refl}
 use Rattle.tsp_rules.specs.Values.{Become, Ring, Late, Window, Round, MasterUp, Loose, Candidate, Master, ELECT_MIN, ROUND, SLACK, WINDOW}
 use Rattle.tsp_base.specs.Words.{Did, Seen, Here, Past, plain, Leads, boot_tick, role, held, armed, backers, stood, grown, puts, ◌followed_by◌, either_by, arms, bare, posts_to_others, peer_of}
-use Rattle.tsp_promises.specs.HoldFits.{LeadFits}
+use Rattle.tsp_promises.specs.{HoldFits.LeadFits, PortFits.setup_in}
 use Rattle.tsp_base.proofs.LeadsLemmas.{Leads_then, Leads_either, Leads_puts, Leads_from, Leads_to}
-use Rattle.tsp_rules.specs.Answers.{alarm_rings, rings}
+use Rattle.tsp_rules.specs.{Answers.alarm_rings, Answers.rings, CommonRows.arms_elect, Guards.is_in_time}
 use Rattle.tsp_rules.specs.CandidateRows.{lead_row, yields, has_won, window_rings}
-use Rattle.tsp_rules.specs.CommonRows.{arms_elect}
-use Rattle.tsp_rules.specs.Guards.{is_in_time}
-use Rattle.tsp_promises.proofs.Known.{Free, Open, Untaken}
-use Rattle.tsp_promises.specs.PortFits.{setup_in}
-use Rattle.tsp_promises.proofs.Leaves.{arm_round}
-use Rattle.tsp_rules.proofs.Asides.{now}
-use Rattle.tsp_promises.proofs.PostLeaves.{post_message}
-use Rattle.tsp_promises.proofs.Rings.{open_of, ring_window, late_window}
-use Rattle.tsp_promises.proofs.Changes.{become_loose, become_master, FreeIn}
-use Rattle.tsp_promises.proofs.LeadsLeaves.{Leads_arms, Leads_others}
-use Rattle.tsp_rules.proofs.GuardFacts.{due_is, met_is}
-use Rattle.tsp_promises.proofs.CommonLeads.{arms_elect_during}
+use Rattle.tsp_promises.proofs.{Known.Free, Known.Open, Known.Untaken, LeadsLeaves.Leads_arms, LeadsLeaves.Leads_others, Leaves.arm_round}
+use Rattle.tsp_rules.proofs.{Asides.now, GuardFacts.due_is, GuardFacts.met_is}
+use Rattle.tsp_promises.proofs.{PostLeaves.post_message, Rings.open_of, Rings.ring_window, Rings.late_window}
+use Rattle.tsp_promises.proofs.{Changes.become_loose, Changes.become_master, Changes.FreeIn, CommonLeads.arms_elect_during}
 use Rattle.tsp_promises.proofs.AlarmLeads.{Due, rings_lead, to_open, stays}
 
 -- a candidate whose window ends

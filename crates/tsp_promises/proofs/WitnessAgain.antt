@@ -1,14 +1,11 @@
 -- After ordinary use the master boots again with its old word, leads again and closes another round.
-use Rattle.std.specs.Prelude.{ℕ, true, false, pos, negsuc, List, [], ◌∷◌, refl}
-use Rattle.std.proofs.Common.{arith, inl}
+use Rattle.std.proofs.Common.{arith, inl, ℕ, true, false, pos, negsuc, List, [], ◌∷◌, refl}
 use Rattle.tsp_rules.specs.Values.{Post, Arm, Ring, Close, Correct, Round, CloseAlarm, Message, Stamp, AdjTime, SetTime, TimeBody, Peer, Request}
 use Rattle.tsp_base.specs.Words.{Line, ReplyValue, peer_of}
 use Rattle.tsp_promises.specs.Fits.{Fits}
 use Rattle.tsp_group.specs.Groups.{better, goes_before, group_from}
-use Rattle.tsp_promises.proofs.Debts.{adjusts-at, debts}
-use Rattle.tsp_promises.proofs.Histories.{msg, still}
+use Rattle.tsp_promises.proofs.{Debts.adjusts-at, Debts.debts, Histories.msg, Histories.still, WitnessUse.fits, WitnessUse.usual}
 use Rattle.tsp_promises.proofs.Stages.{Stage, after, at, stages-fit, boots, turns, stands, wins, follows, sets_up, obeys, acked, replies, samples}
-use Rattle.tsp_promises.proofs.WitnessUse.{fits, usual}
 
 abbrev pub again : ReplyValue
 again = record { ticket = 12; word = 7; counter = 0; reading = pos 1000000298 }

@@ -1,15 +1,11 @@
 -- Rivals meet, and then a stranger asks the one that leads for an election.
-use Rattle.std.specs.Prelude.{ℕ, ◌-◌, false, List, [], ◌∷◌, refl}
-use Rattle.std.proofs.Common.{inl}
+use Rattle.std.proofs.Common.{inl, ℕ, ◌-◌, false, List, [], ◌∷◌, refl}
 use Rattle.tsp_rules.specs.Values.{Post, Quit, Message, Ack, Test, Nothing, Peer, Stranger}
 use Rattle.tsp_base.specs.Words.{Came, Handed, Line, peer_of}
-use Rattle.tsp_promises.specs.AnsweredUse.{AnsweredUse}
-use Rattle.tsp_promises.specs.Fits.{Fits}
-use Rattle.tsp_promises.proofs.Debts.{debts}
+use Rattle.tsp_promises.specs.{AnsweredUse.AnsweredUse, Fits.Fits}
+use Rattle.tsp_promises.proofs.{Debts.debts, HistoriesFit.all-finished, WitnessRivals.met, WitnessRivals.rivals}
 use Rattle.tsp_promises.proofs.Histories.{does, msg, named_msg, skip, skipped, still}
-use Rattle.tsp_promises.proofs.HistoriesFit.{all-finished}
 use Rattle.tsp_promises.proofs.Stages.{Stage, after, at, stages-fit, hands}
-use Rattle.tsp_promises.proofs.WitnessRivals.{met, rivals}
 
 abbrev tested_steps : List Stage
 tested_steps =

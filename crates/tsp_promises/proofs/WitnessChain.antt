@@ -1,19 +1,12 @@
 -- What is promised of chains isn't empty.
-use Rattle.std.specs.Prelude.{false, pos, negsuc, [], ◌∷◌, refl}
-use Rattle.std.proofs.Common.{arith, inr}
+use Rattle.std.proofs.Common.{arith, inr, false, pos, negsuc, [], ◌∷◌, refl}
 use Rattle.tsp_rules.specs.Values.{Post, Close, Correct, Sample, Message, Stamp, AdjTime, TimeBody, Peer, Reply}
 use Rattle.tsp_base.specs.Words.{Came, Turned, Line, of, view, peer_of}
-use Rattle.tsp_promises.specs.Agreed.{FromRound}
-use Rattle.tsp_promises.specs.Chained.{Hop, Hops, IsChain}
-use Rattle.tsp_promises.specs.ChainUse.{ChainUse}
-use Rattle.tsp_promises.proofs.FromRoundBy.{from_round-by}
+use Rattle.tsp_promises.specs.{Agreed.FromRound, ChainUse.ChainUse, Chained.Hop, Chained.Hops, Chained.IsChain}
 use Rattle.tsp_promises.proofs.Histories.{line, msg, skip, skipped, step_at, still}
-use Rattle.tsp_promises.proofs.PremiseChecks.{kept-by}
-use Rattle.tsp_promises.proofs.StepChecks.{port0, port1}
 use Rattle.tsp_promises.proofs.WitnessFromRounds.{far-from_round, far-close, far-correct, far-reading, near-from_round, near-close, near-correct, near-reading}
-use Rattle.tsp_promises.proofs.WitnessRelay.{relay}
-use Rattle.tsp_promises.proofs.WitnessRow.{last, fits, row}
-use Rattle.tsp_promises.proofs.Debts.{not-same}
+use Rattle.tsp_promises.proofs.{WitnessRelay.relay, WitnessRow.last, WitnessRow.fits, WitnessRow.row}
+use Rattle.tsp_promises.proofs.{Debts.not-same, FromRoundBy.from_round-by, PremiseChecks.kept-by, StepChecks.port0, StepChecks.port1}
 
 abbrev last-close : Line
 last-close = line (step_at 1008000000 3 Turned) port1 (Close 2 (negsuc 100) (pos 101) (pos 0))

@@ -4,8 +4,7 @@ use Rattle.tsp_rules.specs.Values.{Correct, Acked, SetDateReq, TimeBody, Peer}
 use Rattle.tsp_base.specs.Words.{Came, peer_of}
 use Rattle.tsp_promises.specs.DatedUse.{DatedUse}
 use Rattle.tsp_promises.proofs.Histories.{does, msg, skip, skipped, still}
-use Rattle.tsp_promises.proofs.PremiseChecks.{few-by, kept-by}
-use Rattle.tsp_promises.proofs.WitnessDates.{dates, passing}
+use Rattle.tsp_promises.proofs.{PremiseChecks.few-by, PremiseChecks.kept-by, WitnessDates.dates, WitnessDates.passing}
 
 pub dated_use : DatedUse
 dated_use = record {

@@ -1,18 +1,12 @@
 -- A date that is passed on: a client's, which a follower passes to its master; then a second one in the master's next life, or one with forged octets, after which the first is set again.
-use Rattle.std.specs.Prelude.{◌≡◌, ◌≢◌, ℕ, ◌-◌, Some, true, false, pos, negsuc, List, [], ◌∷◌, refl}
-use Rattle.std.proofs.Common.{sym, ap, arith, inl, inr, ◌∙◌}
+use Rattle.std.proofs.Common.{sym, ap, arith, inl, inr, ◌∙◌, ◌≡◌, ◌≢◌, ℕ, ◌-◌, Some, true, false, pos, negsuc, List, [], ◌∷◌, refl}
 use Rattle.tsp_rules.specs.Values.{Took, Post, Become, Correct, Acked, Message, Good, Ack, Date, DateAck, SetDateReq, Nothing, TimeBody, PeerId, Peer, Stranger, Follow}
 use Rattle.tsp_base.specs.Words.{Came, Handed, Line, Seen, Dating, last_date, of, view, peer_of}
-use Rattle.tsp_promises.specs.CorrectFits.{ByDate}
-use Rattle.tsp_promises.specs.Fits.{Fits}
-use Rattle.tsp_promises.specs.Once.{ActsOn, OfSend}
-use Rattle.tsp_promises.specs.DateUse.{DateUse, ForgedDate}
-use Rattle.tsp_promises.proofs.Debts.{debts, none-some, not-same}
+use Rattle.tsp_promises.specs.{CorrectFits.ByDate, DateUse.DateUse, DateUse.ForgedDate, Fits.Fits, Once.ActsOn, Once.OfSend}
+use Rattle.tsp_promises.proofs.{Debts.debts, Debts.none-some, Debts.not-same, HistoriesFit.all-finished, HistoriesFit.came}
 use Rattle.tsp_promises.proofs.Histories.{begins, does, msg, named_msg, skip, skipped, still}
-use Rattle.tsp_promises.proofs.HistoriesFit.{all-finished, came}
-use Rattle.tsp_promises.proofs.PremiseChecks.{kept-by, life-by, words-by}
+use Rattle.tsp_promises.proofs.{PremiseChecks.kept-by, PremiseChecks.life-by, PremiseChecks.words-by, StepChecks.port0}
 use Rattle.tsp_promises.proofs.Stages.{Stage, after, at, stages-fit, skip-fits, boots, turns, takes, hands, stands, wins}
-use Rattle.tsp_promises.proofs.StepChecks.{port0}
 use Rattle.tsp_promises.proofs.WitnessLead.{led, lead}
 
 -- a date of another number was set last

@@ -1,19 +1,13 @@
 -- A round that a Correct ends without an ADJTIME: the ACK of the SETTIME before it doesn't come.
-use Rattle.std.specs.Prelude.{◌-◌, true, false, ℕ, pos, negsuc, List, [], ◌∷◌, refl}
-use Rattle.std.proofs.Common.{arith}
+use Rattle.std.proofs.Common.{arith, ◌-◌, true, false, ℕ, pos, negsuc, List, [], ◌∷◌, refl}
 use Rattle.std.proofs.lemmas.Int.{ints}
 use Rattle.tsp_rules.specs.Values.{Post, Arm, Ring, Close, Correct, Sample, Round, CloseAlarm, Stamp, SetTime, TimeBody, Peer, Request, Reply}
 use Rattle.tsp_base.specs.Words.{Came, Line, Turned, of, peer_of, view}
 use Rattle.tsp_group.specs.Groups.{better, goes_before, group_from}
-use Rattle.tsp_promises.specs.EstimatesUse.{EndedUse}
-use Rattle.tsp_promises.specs.Fits.{Fits}
-use Rattle.tsp_promises.proofs.Debts.{debts, not-same}
+use Rattle.tsp_promises.proofs.{Debts.debts, Debts.not-same, PremiseChecks.kept-by, StepChecks.port0, WitnessLead.lead, WitnessLead.led}
 use Rattle.tsp_promises.proofs.Histories.{does, msg, skip, skipped, still}
-use Rattle.tsp_promises.proofs.PremiseChecks.{kept-by}
 use Rattle.tsp_promises.proofs.Stages.{Stage, after, at, follows, obeys, replies, samples, sets_up, stages-fit, turns}
-use Rattle.tsp_promises.proofs.StepChecks.{port0}
-use Rattle.tsp_promises.proofs.WitnessLead.{lead, led}
-use Rattle.tsp_promises.proofs.WitnessUse.{reply1}
+use Rattle.tsp_promises.{proofs.WitnessUse.reply1, specs.EstimatesUse.EndedUse, specs.Fits.Fits}
 
 abbrev unheard_steps : List Stage
 unheard_steps =

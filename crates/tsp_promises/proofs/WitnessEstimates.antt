@@ -1,17 +1,12 @@
 -- What is promised of estimates isn't empty.
-use Rattle.std.specs.Prelude.{◌≡◌, true, false, ℤ, pos, negsuc, List, ◌∷◌, refl}
-use Rattle.std.proofs.Common.{arith, inr}
+use Rattle.std.proofs.Common.{arith, inr, ◌≡◌, true, false, ℤ, pos, negsuc, List, ◌∷◌, refl}
 use Rattle.tsp_rules.specs.Values.{Post, Correct, Sample, Message, Stamp, AdjTime, TimeBody, Peer, Reply}
 use Rattle.tsp_base.specs.Words.{Came, Turned, Here, Line, dids, of, view, Within, Sampled, acting, Undisturbed, peer_of}
-use Rattle.tsp_promises.specs.Estimates.{CloseBegins, Estimate}
-use Rattle.tsp_promises.specs.EstimatesUse.{EstimatesUse}
-use Rattle.tsp_promises.specs.StepFacts.{closed}
+use Rattle.tsp_promises.specs.{Estimates.CloseBegins, Estimates.Estimate, EstimatesUse.EstimatesUse, StepFacts.closed}
 use Rattle.tsp_promises.proofs.Histories.{does, msg, skip, skipped, still}
-use Rattle.tsp_promises.proofs.PremiseChecks.{kept-by}
-use Rattle.tsp_promises.proofs.StepChecks.{port0}
 use Rattle.tsp_promises.proofs.WitnessFromRounds.{answers, closing, sounds}
 use Rattle.tsp_promises.proofs.WitnessUse.{reply1, reply2, fits, usual}
-use Rattle.tsp_promises.proofs.Debts.{not-same}
+use Rattle.tsp_promises.proofs.{Debts.not-same, PremiseChecks.kept-by, StepChecks.port0}
 
 -- the round's first ADJTIME
 abbrev pub adjusts : Line

@@ -1,18 +1,12 @@
 -- What is promised of ordinary use and of a relayed clock isn't empty.
-use Rattle.std.specs.Prelude.{false, ℤ, pos, negsuc, Bool, refl}
-use Rattle.std.proofs.Common.{ap, arith, inl, inr}
+use Rattle.std.proofs.Common.{ap, arith, inl, inr, false, ℤ, pos, negsuc, Bool, refl}
 use Rattle.tsp_rules.specs.Values.{Post, Close, Correct, Sample, Acked, Message, Stamp, AdjTime, TimeBody, Peer, Port, Reply}
 use Rattle.tsp_base.specs.Words.{Came, Turned, Line, of, view, peer_of}
-use Rattle.tsp_promises.specs.Agreed.{FromRound}
-use Rattle.tsp_promises.specs.OrdinaryUse.{Closes, Confirms, OrdinaryUse}
-use Rattle.tsp_promises.specs.Relays.{Relays}
-use Rattle.tsp_promises.proofs.FromRoundBy.{from_round-by}
+use Rattle.tsp_promises.specs.{Agreed.FromRound, OrdinaryUse.Closes, OrdinaryUse.Confirms, OrdinaryUse.OrdinaryUse, Relays.Relays}
 use Rattle.tsp_promises.proofs.Histories.{line, msg, skip, skipped, step_at, still}
-use Rattle.tsp_promises.proofs.PremiseChecks.{kept-by}
-use Rattle.tsp_promises.proofs.StepChecks.{port0, port1}
 use Rattle.tsp_promises.proofs.WitnessRelay.{near, distant, fits as relay-fits, relay}
 use Rattle.tsp_promises.proofs.WitnessUse.{reply1, reply2, fits, usual}
-use Rattle.tsp_promises.proofs.Debts.{not-same}
+use Rattle.tsp_promises.proofs.{Debts.not-same, FromRoundBy.from_round-by, PremiseChecks.kept-by, StepChecks.port0, StepChecks.port1}
 
 abbrev pub closing : Line
 closing = line (step_at 408000000 0 Turned) port0 (Close 3 (negsuc 150) (pos 151) (negsuc 83))

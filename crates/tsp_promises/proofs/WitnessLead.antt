@@ -1,9 +1,7 @@
 -- How small histories begin: three nodes boot, and one of them is elected.
 use Rattle.std.specs.Prelude.{ℕ, false, List, [], ◌∷◌, refl}
 use Rattle.tsp_base.specs.Words.{Line}
-use Rattle.tsp_promises.specs.Fits.{Fits}
-use Rattle.tsp_promises.proofs.Debts.{debts}
-use Rattle.tsp_promises.proofs.Histories.{still}
+use Rattle.tsp_promises.{proofs.Debts.debts, proofs.Histories.still, specs.Fits.Fits}
 use Rattle.tsp_promises.proofs.Stages.{Stage, after, at, stages-fit, skip-fits, boots, stands, wins}
 
 abbrev lead_steps : List Stage

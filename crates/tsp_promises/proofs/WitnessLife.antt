@@ -1,16 +1,11 @@
 -- A reply of an earlier life: a master asks, boots, and takes the answer.
-use Rattle.std.specs.Prelude.{ℕ, ◌-◌, ◌≡◌, false, pos, List, [], ◌∷◌, refl}
-use Rattle.std.proofs.Common.{arith, inl}
+use Rattle.std.proofs.Common.{arith, inl, ℕ, ◌-◌, ◌≡◌, false, pos, List, [], ◌∷◌, refl}
 use Rattle.tsp_rules.specs.Values.{Took, Post, Arm, Ring, Round, CloseAlarm, Stamp, Good, Peer, Request, Reply}
 use Rattle.tsp_base.specs.Words.{Came, Turned, Did, Line, Seen, Here, ReplyValue, peer_of}
-use Rattle.tsp_promises.specs.Fits.{Fits}
-use Rattle.tsp_promises.proofs.Debts.{debts}
+use Rattle.tsp_promises.specs.{Fits.Fits, LateReply.LateReply}
+use Rattle.tsp_promises.proofs.{Debts.debts, PremiseChecks.kept-by, StepChecks.port0, WitnessLead.led, WitnessLead.lead}
 use Rattle.tsp_promises.proofs.Histories.{line, skip, skipped, step_at, still}
-use Rattle.tsp_promises.proofs.PremiseChecks.{kept-by}
 use Rattle.tsp_promises.proofs.Stages.{Stage, after, at, stages-fit, boots, turns, takes, replies}
-use Rattle.tsp_promises.proofs.StepChecks.{port0}
-use Rattle.tsp_promises.proofs.WitnessLead.{led, lead}
-use Rattle.tsp_promises.specs.LateReply.{LateReply}
 
 abbrev pub answer : ReplyValue
 answer = record { ticket = 9; word = 7; counter = 0; reading = pos 400000300 }

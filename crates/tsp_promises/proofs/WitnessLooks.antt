@@ -1,13 +1,9 @@
 -- Looks at clocks: the bound is reached, and a clock that is corrected after it was read breaks it.
-use Rattle.std.specs.Prelude.{ℕ, zero, suc, ◌≤◌, nat_abs, pos, negsuc, ℤ, false, [], ◌∷◌, refl}
-use Rattle.std.proofs.Common.{arith}
-use Rattle.tsp_promises.specs.Agreed.{Unchanged}
-use Rattle.tsp_promises.specs.Looked.{Look, LooksNeedRest, LooksUse}
-use Rattle.tsp_promises.specs.Setting.{Setting}
+use Rattle.std.proofs.Common.{arith, ℕ, zero, suc, ◌≤◌, nat_abs, pos, negsuc, ℤ, false, [], ◌∷◌, refl}
+use Rattle.tsp_promises.specs.{Agreed.Unchanged, Looked.Look, Looked.LooksNeedRest, Looked.LooksUse, Setting.Setting}
 use Rattle.tsp_base.proofs.PlaceLemmas.{Within-all}
 use Rattle.tsp_promises.proofs.Histories.{in-own, members_of, net_of, nets-apart, skip, skipped, still}
-use Rattle.tsp_promises.proofs.PremiseChecks.{kept-by}
-use Rattle.tsp_promises.proofs.WitnessUse.{fits, usual}
+use Rattle.tsp_promises.proofs.{PremiseChecks.kept-by, WitnessUse.fits, WitnessUse.usual}
 
 -- node 0 gains 100 parts in a million, and all others lose as much
 abbrev rate_of : ℕ → ℤ

@@ -1,18 +1,11 @@
 -- A LOOP that comes back: node 1 leads on both of its ports, node 2 passes its LOOP on to the network that it shares with node 3, and that one back.
-use Rattle.std.specs.Prelude.{◌≡◌, ◌≢◌, ◌<◌, false, Bool, ℕ, List, [], ◌∷◌, refl}
-use Rattle.std.proofs.Common.{sym, arith, inl, inr}
+use Rattle.std.proofs.Common.{sym, arith, inl, inr, ◌≡◌, ◌≢◌, ◌<◌, false, Bool, ℕ, List, [], ◌∷◌, refl}
 use Rattle.tsp_rules.specs.Values.{Took, Post, Become, Ring, Back, Window, Elect, Message, Good, LoopKind, Hops, Peer, Loose, Candidate, Master}
 use Rattle.tsp_base.specs.Words.{Came, Turned, Line, MessageValue, peer_of}
-use Rattle.tsp_promises.specs.Fits.{Fits, node_of}
-use Rattle.tsp_promises.specs.Looped.{GivesUp, LoopPost}
-use Rattle.tsp_promises.specs.LoopUse.{LoopUse}
-use Rattle.tsp_promises.specs.Premises.{NamesApart}
-use Rattle.tsp_promises.proofs.Debts.{debts, not-same}
+use Rattle.tsp_promises.specs.{Fits.Fits, Fits.node_of, LoopUse.LoopUse, Looped.GivesUp, Looped.LoopPost, Premises.NamesApart}
+use Rattle.tsp_promises.proofs.{Debts.debts, Debts.not-same, HistoriesFit.came, PremiseChecks.kept-by, StepChecks.port0, StepChecks.port1}
 use Rattle.tsp_promises.proofs.Histories.{does, line, on, skip, skipped, step_at, still}
-use Rattle.tsp_promises.proofs.HistoriesFit.{came}
-use Rattle.tsp_promises.proofs.PremiseChecks.{kept-by}
 use Rattle.tsp_promises.proofs.Stages.{Stage, after, at, stages-fit, boots, turns, takes}
-use Rattle.tsp_promises.proofs.StepChecks.{port0, port1}
 
 -- a LOOP of node 1 from its port 0, with so many hops
 abbrev pub loop_with : ℕ → MessageValue

@@ -1,26 +1,15 @@
 -- A round in which the reply of one peer makes it seem a second off: it moves nobody else by much.
-use Rattle.std.specs.Prelude.{ℕ, ◌≡◌, nat_le, true, false, ℤ, pos, negsuc, nat_abs, Bool, List, [], ◌∷◌, length, refl}
-use Rattle.std.specs.List.{Contains, count_by}
-use Rattle.std.proofs.Common.{arith, inl}
-use Rattle.std.proofs.lemmas.Bool.{leb-true}
-use Rattle.std.proofs.lemmas.Int.{ints}
+use Rattle.std.proofs.Common.{arith, inl, ℕ, ◌≡◌, nat_le, true, false, ℤ, pos, negsuc, nat_abs, Bool, List, [], ◌∷◌, length, refl}
+use Rattle.std.{proofs.lemmas.Bool.leb-true, proofs.lemmas.Int.ints, specs.List.Contains, specs.List.count_by}
 use Rattle.tsp_rules.specs.Values.{Post, Ring, Close, Correct, Sample, CloseAlarm, Message, Stamp, AdjTime, TimeBody, Peer, Reply, SPAN}
 use Rattle.tsp_base.specs.Words.{Came, Turned, Line, of, view, Sampled, ReplyValue, peer_of}
 use Rattle.tsp_group.specs.Groups.{Agree, better, goes_before, group_from}
-use Rattle.tsp_promises.specs.Agreed.{FromRound}
-use Rattle.tsp_promises.specs.Estimates.{CloseBegins, Moves}
-use Rattle.tsp_promises.specs.Fits.{Fits}
+use Rattle.tsp_promises.specs.{Agreed.FromRound, Estimates.CloseBegins, Estimates.Moves, Fits.Fits, ModerateUse.ModerateUse}
 use Rattle.tsp_promises.specs.Moderate.{Agrees, Majority, PeerAgrees, estimates_of}
-use Rattle.tsp_promises.specs.ModerateUse.{ModerateUse}
-use Rattle.tsp_promises.proofs.Debts.{debts}
-use Rattle.tsp_promises.proofs.FromRoundBy.{from_round-by}
-use Rattle.tsp_promises.proofs.FromRoundProof.{taking_of}
+use Rattle.tsp_promises.proofs.{Debts.debts, FromRoundBy.from_round-by, FromRoundProof.taking_of, PremiseChecks.kept-by, StepChecks.port0}
 use Rattle.tsp_promises.proofs.Histories.{line, msg, skip, skipped, step_at, still}
-use Rattle.tsp_promises.proofs.PremiseChecks.{kept-by}
 use Rattle.tsp_promises.proofs.Stages.{Stage, after, at, stages-fit, turns, obeys, acked, replies, samples}
-use Rattle.tsp_promises.proofs.StepChecks.{port0}
-use Rattle.tsp_promises.proofs.WitnessFromRounds.{sounds}
-use Rattle.tsp_promises.proofs.WitnessUse.{asked, reply1, usual}
+use Rattle.tsp_promises.proofs.{WitnessFromRounds.sounds, WitnessUse.asked, WitnessUse.reply1, WitnessUse.usual}
 
 -- the request took two seconds, the reply a microsecond
 abbrev pub late : ReplyValue

@@ -1,13 +1,9 @@
 -- A node answers a stranger in its quiet time.
-use Rattle.std.specs.Prelude.{ℕ, false, pos, List, [], ◌∷◌, refl}
-use Rattle.std.proofs.Common.{arith, inl}
+use Rattle.std.proofs.Common.{arith, inl, ℕ, false, pos, List, [], ◌∷◌, refl}
 use Rattle.tsp_rules.specs.Values.{Post, Message, Stamp, Ack, Msite, Nothing, Stranger, Request, Reply}
 use Rattle.tsp_base.specs.Words.{Handed, Line, ReplyValue}
-use Rattle.tsp_promises.specs.Fits.{Fits}
-use Rattle.tsp_promises.specs.QuietUse.{QuietUse}
-use Rattle.tsp_promises.proofs.Debts.{debts}
+use Rattle.tsp_promises.{proofs.Debts.debts, proofs.PremiseChecks.kept-by, specs.Fits.Fits, specs.QuietUse.QuietUse}
 use Rattle.tsp_promises.proofs.Histories.{does, msg, skip, skipped, still}
-use Rattle.tsp_promises.proofs.PremiseChecks.{kept-by}
 use Rattle.tsp_promises.proofs.Stages.{Stage, after, at, stages-fit, boots, hands}
 
 abbrev early : ReplyValue

@@ -1,18 +1,12 @@
 -- What is promised of shown values, of first settings and of single corrections isn't empty.
-use Rattle.std.specs.Prelude.{◌≢◌, false, true, pos, negsuc, refl}
-use Rattle.std.proofs.Common.{arith}
+use Rattle.std.proofs.Common.{arith, ◌≢◌, false, true, pos, negsuc, refl}
 use Rattle.std.proofs.lemmas.Int.{ints}
-use Rattle.tsp_promises.specs.PrintsUse.{PrintsUse}
-use Rattle.tsp_promises.specs.SetUse.{SetUse}
-use Rattle.tsp_promises.specs.ShownUse.{ShownUse}
-use Rattle.tsp_promises.proofs.FromRoundProof.{reading_of, taking_of}
-use Rattle.tsp_promises.proofs.Histories.{skip, skipped, still}
-use Rattle.tsp_promises.proofs.PremiseChecks.{kept-by}
+use Rattle.tsp_promises.specs.{PrintsUse.PrintsUse, SetUse.SetUse, ShownUse.ShownUse}
+use Rattle.tsp_promises.proofs.{Histories.skip, Histories.skipped, Histories.still, WitnessUse.fits, WitnessUse.usual}
 use Rattle.tsp_promises.proofs.ReadingChecks.{read-by, read_at-by, unstepped-by}
 use Rattle.tsp_promises.proofs.WitnessFromRounds.{closing, first, first-from_round, sounds}
 use Rattle.tsp_promises.proofs.WitnessSets.{set-by, set-source, set-taking, slaveup}
-use Rattle.tsp_promises.proofs.WitnessUse.{fits, usual}
-use Rattle.tsp_promises.proofs.Debts.{not-same}
+use Rattle.tsp_promises.proofs.{Debts.not-same, FromRoundProof.reading_of, FromRoundProof.taking_of, PremiseChecks.kept-by}
 
 some-left : pos 17 ≢ pos 0
 some-left e = omega (arith, ints)

@@ -2,10 +2,8 @@
 use Rattle.std.specs.Prelude.{ℕ, true, false, pos, negsuc, List, [], ◌∷◌, refl}
 use Rattle.tsp_rules.specs.Values.{Post, Arm, Ring, Close, Correct, Round, CloseAlarm, Message, Stamp, AdjTime, SetTime, TimeBody, Peer, Request}
 use Rattle.tsp_base.specs.Words.{Line, ReplyValue, peer_of}
-use Rattle.tsp_promises.specs.Fits.{Fits}
 use Rattle.tsp_group.specs.Groups.{better, goes_before, group_from}
-use Rattle.tsp_promises.proofs.Debts.{debts}
-use Rattle.tsp_promises.proofs.Histories.{msg, still}
+use Rattle.tsp_promises.{proofs.Debts.debts, proofs.Histories.msg, proofs.Histories.still, specs.Fits.Fits}
 use Rattle.tsp_promises.proofs.Stages.{Stage, after, at, stages-fit, boots, turns, stands, wins, follows, sets_up, obeys, acked, replies, samples}
 
 abbrev pub near : ReplyValue

@@ -1,16 +1,11 @@
 -- A history of rivals: an election, two backings a hold apart, a resolution, and a second election.
-use Rattle.std.specs.Prelude.{ℕ, ◌≡◌, false, List, [], ◌∷◌, refl}
-use Rattle.std.proofs.Common.{ap, arith, inl}
+use Rattle.std.proofs.Common.{ap, arith, inl, ℕ, ◌≡◌, false, List, [], ◌∷◌, refl}
 use Rattle.tsp_rules.specs.Values.{Post, Become, Ring, Back, Quit, Elect, ResolveAlarm, Message, Accept, Ack, Election, QuitKind, Nothing, PeerId, Peer, Follow, Candidate, Master}
 use Rattle.tsp_base.specs.Words.{Came, Turned, Begins, Line, of, view, first_port, line_of, peer_of}
-use Rattle.tsp_promises.specs.Fits.{Fits}
-use Rattle.tsp_promises.proofs.Debts.{debts}
+use Rattle.tsp_promises.specs.{Fits.Fits, RivalsMeet.RivalsMeet}
+use Rattle.tsp_promises.proofs.{Debts.debts, HistoriesFit.all-finished, PremiseChecks.life-by, StepChecks.port0}
 use Rattle.tsp_promises.proofs.Histories.{line, msg, skip, skipped, step_at, still}
-use Rattle.tsp_promises.proofs.HistoriesFit.{all-finished}
-use Rattle.tsp_promises.proofs.PremiseChecks.{life-by}
 use Rattle.tsp_promises.proofs.Stages.{Stage, after, at, stages-fit, boots, turns, takes, stands, wins, acked}
-use Rattle.tsp_promises.proofs.StepChecks.{port0}
-use Rattle.tsp_promises.specs.RivalsMeet.{RivalsMeet}
 
 abbrev rivals_steps : List Stage
 rivals_steps =

@@ -1,19 +1,14 @@
 -- After ordinary use another round of the same master.
-use Rattle.std.specs.Prelude.{ℕ, ◌≢◌, false, pos, negsuc, List, [], ◌∷◌, refl}
-use Rattle.std.proofs.Common.{arith}
+use Rattle.std.proofs.Common.{arith, ℕ, ◌≢◌, false, pos, negsuc, List, [], ◌∷◌, refl}
 use Rattle.std.proofs.lemmas.Int.{ints}
 use Rattle.tsp_rules.specs.Values.{Post, Arm, Ring, Close, Correct, Round, CloseAlarm, Message, Stamp, AdjTime, TimeBody, Peer, Request}
 use Rattle.tsp_base.specs.Words.{Turned, Line, ReplyValue, peer_of}
-use Rattle.tsp_promises.specs.Fits.{Fits}
-use Rattle.tsp_promises.specs.RoundsUse.{RoundsUse}
+use Rattle.tsp_promises.specs.{Fits.Fits, RoundsUse.RoundsUse}
 use Rattle.tsp_group.specs.Groups.{better, goes_before, group_from}
-use Rattle.tsp_promises.proofs.Debts.{debts, not-same}
+use Rattle.tsp_promises.proofs.{Debts.debts, Debts.not-same, PremiseChecks.kept-by, StepChecks.port0, WitnessUse.fits, WitnessUse.usual}
 use Rattle.tsp_promises.proofs.Histories.{line, msg, skip, skipped, step_at, still}
-use Rattle.tsp_promises.proofs.PremiseChecks.{kept-by}
 use Rattle.tsp_promises.proofs.Stages.{Stage, after, at, stages-fit, turns, obeys, acked, replies, samples}
-use Rattle.tsp_promises.proofs.StepChecks.{port0}
 use Rattle.tsp_promises.proofs.WitnessFromRounds.{answers, closing, first, first-from_round, second, second-from_round, sounds}
-use Rattle.tsp_promises.proofs.WitnessUse.{fits, usual}
 
 abbrev next : ReplyValue
 next = record { ticket = 11; word = 7; counter = 2; reading = pos 1000000296 }

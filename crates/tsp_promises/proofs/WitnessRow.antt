@@ -3,10 +3,8 @@ use Rattle.std.specs.Prelude.{ℕ, true, false, pos, negsuc, List, [], ◌∷◌
 use Rattle.tsp_rules.specs.Values.{Post, Arm, Ring, Close, Round, CloseAlarm, Message, Stamp, AdjTime, SetTime, TimeBody, Peer, Request}
 use Rattle.tsp_base.specs.Words.{Line, ReplyValue, peer_of}
 use Rattle.tsp_promises.specs.Fits.{Fits}
-use Rattle.tsp_promises.proofs.Debts.{debts}
-use Rattle.tsp_promises.proofs.Histories.{msg, still}
+use Rattle.tsp_promises.proofs.{Debts.debts, Histories.msg, Histories.still, WitnessRelay.fits as relay-fits, WitnessRelay.relay}
 use Rattle.tsp_promises.proofs.Stages.{Stage, after, at, stages-fit, boots, turns, stands, wins, follows, sets_up, obeys, acked, replies, samples}
-use Rattle.tsp_promises.proofs.WitnessRelay.{fits as relay-fits, relay}
 
 abbrev pub last : ReplyValue
 last = record { ticket = 14; word = 11; counter = 0; reading = pos 1000000449 }

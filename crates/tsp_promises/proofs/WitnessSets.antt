@@ -3,9 +3,7 @@ use Rattle.std.specs.Prelude.{◌≡◌, Bool, true, ℤ, pos, List, ◌∷◌, 
 use Rattle.tsp_rules.specs.Values.{Post, Correct, Message, SetTime, SlaveUp, Nothing, TimeBody, Peer}
 use Rattle.tsp_base.specs.Words.{Came, Turned, Line, dids, of, view, Within, heard, peer_of}
 use Rattle.tsp_promises.specs.OneError.{FromSlaveUp, Taking}
-use Rattle.tsp_promises.proofs.Histories.{does, msg, skip}
-use Rattle.tsp_promises.proofs.StepChecks.{port0}
-use Rattle.tsp_promises.proofs.WitnessUse.{usual}
+use Rattle.tsp_promises.proofs.{Histories.does, Histories.msg, Histories.skip, StepChecks.port0, WitnessUse.usual}
 
 abbrev pub settime : Line
 settime = does 305000001 0 (Came 0) (Post (Peer (peer_of 1)) (Message (msg SetTime 9 (TimeBody (pos 305000001)))))

@@ -1,14 +1,10 @@
 -- Strict elections: a node wins with the vote of a second one, and later the second wins with the vote of a third.
-use Rattle.std.specs.Prelude.{ℕ, true, List, [], ◌∷◌, refl}
-use Rattle.std.proofs.Common.{sym, ap, arith, inl}
+use Rattle.std.proofs.Common.{sym, ap, arith, inl, ℕ, true, List, [], ◌∷◌, refl}
 use Rattle.tsp_rules.specs.Values.{Post, Become, Ring, Back, Backer, Acked, Elect, Message, Accept, Election, Nothing, PeerId, Peer, Candidate, Master}
 use Rattle.tsp_base.specs.Words.{Turned, Line, peer_of}
-use Rattle.tsp_promises.specs.Fits.{Fits}
-use Rattle.tsp_promises.specs.StrictElections.{StrictElections}
-use Rattle.tsp_promises.proofs.Debts.{debts, not-same}
+use Rattle.tsp_promises.specs.{Fits.Fits, StrictElections.StrictElections}
+use Rattle.tsp_promises.proofs.{Debts.debts, Debts.not-same, HistoriesFit.came, PremiseChecks.few-by, PremiseChecks.kept-by}
 use Rattle.tsp_promises.proofs.Histories.{does, msg, skip, skipped, still}
-use Rattle.tsp_promises.proofs.HistoriesFit.{came}
-use Rattle.tsp_promises.proofs.PremiseChecks.{few-by, kept-by}
 use Rattle.tsp_promises.proofs.Stages.{Stage, after, at, stages-fit, boots, turns, takes, wins}
 
 abbrev votes_steps : List Stage

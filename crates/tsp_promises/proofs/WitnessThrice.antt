@@ -1,15 +1,11 @@
 -- A candidate asks a peer three times for its vote.
-use Rattle.std.specs.Prelude.{ℕ, ◌-◌, false, List, [], ◌∷◌, refl}
-use Rattle.std.proofs.Common.{inl}
+use Rattle.std.proofs.Common.{inl, ℕ, ◌-◌, false, List, [], ◌∷◌, refl}
 use Rattle.tsp_rules.specs.Values.{Post, Become, Ring, Back, Elect, Message, Election, Nothing, Peer, Candidate}
 use Rattle.tsp_base.specs.Words.{Turned, Line, MessageValue, peer_of}
-use Rattle.tsp_promises.specs.Fits.{Fits}
-use Rattle.tsp_promises.specs.ThriceUse.{ThriceUse}
-use Rattle.tsp_promises.proofs.Debts.{debts}
+use Rattle.tsp_promises.specs.{Fits.Fits, ThriceUse.ThriceUse}
+use Rattle.tsp_promises.proofs.{Debts.debts, PremiseChecks.kept-by, WitnessLead.booted, WitnessLead.lead}
 use Rattle.tsp_promises.proofs.Histories.{does, msg, skip, still}
-use Rattle.tsp_promises.proofs.PremiseChecks.{kept-by}
 use Rattle.tsp_promises.proofs.Stages.{Stage, after, at, stages-fit, turns}
-use Rattle.tsp_promises.proofs.WitnessLead.{booted, lead}
 
 abbrev asks : MessageValue
 asks = msg Election 32775 Nothing

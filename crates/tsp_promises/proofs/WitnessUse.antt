@@ -4,10 +4,8 @@ use Rattle.tsp_rules.specs.Values.{Post, Arm, Ring, Close, Correct, Round, Close
 use Rattle.tsp_base.specs.Words.{Line, ReplyValue, peer_of}
 use Rattle.tsp_promises.specs.Fits.{Fits}
 use Rattle.tsp_group.specs.Groups.{better, goes_before, group_from}
-use Rattle.tsp_promises.proofs.Debts.{debts}
-use Rattle.tsp_promises.proofs.Histories.{msg, still}
+use Rattle.tsp_promises.proofs.{Debts.debts, Histories.msg, Histories.still, WitnessLead.led, WitnessLead.lead}
 use Rattle.tsp_promises.proofs.Stages.{Stage, after, at, stages-fit, skip-fits, turns, follows, sets_up, obeys, acked, replies, samples}
-use Rattle.tsp_promises.proofs.WitnessLead.{led, lead}
 
 abbrev pub reply1 : ReplyValue
 reply1 = record { ticket = 10; word = 7; counter = 0; reading = pos 400000299 }

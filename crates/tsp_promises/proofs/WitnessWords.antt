@@ -1,21 +1,13 @@
 -- Boots with one word: promises that hold all the same, and a measurement that goes wrong where datagrams live long.
-use Rattle.std.specs.Prelude.{ℕ, ◌≡◌, ◌≤ℤ◌, ◌-ℤ◌, nat_abs, false, pos, negsuc, List, [], ◌∷◌, refl}
-use Rattle.std.proofs.Common.{sym, arith, subst}
+use Rattle.std.proofs.Common.{sym, arith, subst, ℕ, ◌≡◌, ◌≤ℤ◌, ◌-ℤ◌, nat_abs, false, pos, negsuc, List, [], ◌∷◌, refl}
 use Rattle.std.proofs.lemmas.Int.{ints}
 use Rattle.tsp_rules.specs.Values.{Boot, Post, Arm, Ring, Close, Correct, Sample, Round, CloseAlarm, Message, Stamp, AdjTime, TimeBody, Peer, Request, Reply}
 use Rattle.tsp_base.specs.Words.{Booted, Came, Turned, Line, dids, of, view, peer_of, posted}
-use Rattle.tsp_promises.specs.Fits.{Fits}
-use Rattle.tsp_promises.specs.Agreed.{FromRound}
-use Rattle.tsp_promises.specs.ClockAt.{clock}
-use Rattle.tsp_promises.specs.Measured.{Measured}
+use Rattle.tsp_promises.specs.{Agreed.FromRound, ClockAt.clock, Fits.Fits, Measured.Measured}
 use Rattle.tsp_promises.specs.SameWords.{MeasuresWrongly, SameWords}
-use Rattle.tsp_promises.proofs.Debts.{debts}
+use Rattle.tsp_promises.proofs.{Debts.debts, FromRoundBy.from_round-by, HistoriesFit.all-finished, StepChecks.port0}
 use Rattle.tsp_promises.proofs.Histories.{line, msg, skip, skipped, step_at, still}
-use Rattle.tsp_promises.proofs.HistoriesFit.{all-finished}
-use Rattle.tsp_promises.proofs.StepChecks.{port0}
-use Rattle.tsp_promises.proofs.FromRoundBy.{from_round-by}
-use Rattle.tsp_promises.proofs.PremiseChecks.{honest-by, life-by}
-use Rattle.tsp_promises.proofs.SendPlaces.{post_unique, same-number}
+use Rattle.tsp_promises.proofs.{PremiseChecks.honest-by, PremiseChecks.life-by, SendPlaces.post_unique, SendPlaces.same-number}
 use Rattle.tsp_promises.proofs.Stages.{Stage, after, at, stages-fit, boots, turns, stands, wins, samples}
 use Rattle.tsp_promises.proofs.WitnessAgain.{again, again-fits, anew}
 use Rattle.tsp_promises.proofs.WitnessFromRounds.{closing, first, first-from_round, sounds}

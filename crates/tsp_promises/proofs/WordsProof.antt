@@ -1,17 +1,12 @@
 -- A boot gives the node another word.
-use Rattle.std.specs.Prelude.{◌≡◌, ◌≢◌, ◌==◌, Bool, true, false, ℕ, ◌<◌, ℤ, pos, ◌+ℤ◌, List, [], ◌∷◌, refl}
-use Rattle.std.proofs.Common.{sym, ap, arith, subst, subst₂, inl, inr, eqb-true, true≢false, ◌∙◌}
+use Rattle.std.proofs.Common.{sym, ap, arith, subst, subst₂, inl, inr, eqb-true, true≢false, ◌∙◌, ◌≡◌, ◌≢◌, ◌==◌, Bool, true, false, ℕ, ◌<◌, ℤ, pos, ◌+ℤ◌, List, [], ◌∷◌, refl}
 use Rattle.tsp_rules.specs.Values.{Boot}
 use Rattle.tsp_base.specs.Words.{Booted, Deed, Begins, Acts, Line, of, dids, lives, lives_after, up, up_after, word, word_after, Within}
 use Rattle.tsp_promises.specs.Fits.{Fits, LineFits, Alive, node_of}
 use Rattle.tsp_promises.specs.Premises.{OwnWords, OwnWordsAt, Words, WordsAt}
-use Rattle.tsp_promises.specs.Setting.{Setting}
-use Rattle.tsp_promises.proofs.EverywhereLemmas.{Everywhere-at, Everywhere-from}
+use Rattle.tsp_promises.proofs.{EverywhereLemmas.Everywhere-at, EverywhereLemmas.Everywhere-from, HistoryPlaces.own_in, SinceProof.since}
 use Rattle.tsp_base.proofs.PlaceLemmas.{Within-all, Within-through, Within-comparable}
-use Rattle.tsp_promises.specs.OwnFits.{OwnFits}
-use Rattle.tsp_promises.proofs.HistoryPlaces.{own_in}
-use Rattle.tsp_promises.proofs.OwnFitsProof.{own_fits, own_fits_at}
-use Rattle.tsp_promises.proofs.SinceProof.{since}
+use Rattle.tsp_promises.{proofs.OwnFitsProof.own_fits, proofs.OwnFitsProof.own_fits_at, specs.OwnFits.OwnFits, specs.Setting.Setting}
 
 -- a boot of the node with this word, the so many-th
 pub record BootOf (n : ℕ) (world : List Line) (w count : ℕ) : Type 0 where

@@ -2,11 +2,7 @@
 use Rattle.std.specs.Prelude.{◌≡◌, ◌⊎◌, ◌≤◌, ◌≤ℤ◌, ℕ, ◌+◌, ◌-◌, ◌*◌, ℤ, pos, ◌+ℤ◌, ◌-ℤ◌, nat_abs, Bool, true, List, ◌∷◌, Some, is_some}
 use Rattle.tsp_rules.specs.Values.{Act, Post, Correct, Datagram, Message, AdjTime, PeerId, Place, Peer, Port}
 use Rattle.tsp_base.specs.Words.{Came, Acts, Did, Seen, Here, Line, from_act, of, dids, view, MessageValue, all_corrects, lives, Within, acting, Sampled, best, Undisturbed, peer_of, posted, width}
-use Rattle.tsp_promises.specs.ClockAt.{clock_at}
-use Rattle.tsp_promises.specs.Everywhere.{Everywhere}
-use Rattle.tsp_promises.specs.Fits.{node_of}
-use Rattle.tsp_promises.specs.Once.{ActsOn, OfSend}
-use Rattle.tsp_promises.specs.Setting.{Setting}
+use Rattle.tsp_promises.specs.{ClockAt.clock_at, Everywhere.Everywhere, Fits.node_of, Once.ActsOn, Once.OfSend, Setting.Setting}
 use Rattle.tsp_promises.specs.StepFacts.{closed}
 
 -- the reading of a sample that port q of m has at a place is r: the post of the reply that the Sample's step took

@@ -2,10 +2,7 @@
 use Rattle.std.specs.Prelude.{◌≡◌, ◌≤◌, ◌⊎◌, ℕ, ◌+◌, Bool, true, false, List, [], ◌∷◌, None}
 use Rattle.tsp_rules.specs.Values.{Took, Post, Quit, Datagram, Message, Stamp, Taken, Good, Kind, Ack, DateAck, QuitKind, PeerId, Place, Peer, Stranger, Port, Request, Reply}
 use Rattle.tsp_base.specs.Words.{Acts, Begins, Deed, Did, Line, dids, of, view, MessageValue, TakesFrom, heard}
-use Rattle.tsp_promises.specs.DeedFits.{answer_name}
-use Rattle.tsp_promises.specs.Everywhere.{Everywhere}
-use Rattle.tsp_promises.specs.Fits.{node_of}
-use Rattle.tsp_promises.specs.Setting.{Setting, setup_of}
+use Rattle.tsp_promises.specs.{DeedFits.answer_name, Everywhere.Everywhere, Fits.node_of, Setting.Setting, Setting.setup_of}
 use Rattle.tsp_promises.specs.StepFacts.{unacknowledged, unheeded}
 
 -- a step takes one datagram at most, on whatever port

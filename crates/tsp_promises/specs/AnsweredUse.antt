@@ -2,9 +2,7 @@
 use Rattle.std.specs.Prelude.{◌≡◌, true, List, ◌∷◌}
 use Rattle.tsp_rules.specs.Values.{Post, Quit, Datagram, PeerId, Peer, Stranger}
 use Rattle.tsp_base.specs.Words.{Acts, Line, Within}
-use Rattle.tsp_promises.specs.Answered.{is_answer}
-use Rattle.tsp_promises.specs.Fits.{Finished, Fits}
-use Rattle.tsp_promises.specs.Setting.{Setting}
+use Rattle.tsp_promises.specs.{Answered.is_answer, Fits.Finished, Fits.Fits, Setting.Setting}
 
 -- a history that fits, in which a port heeds a QUIT and answers it, and a stranger is answered
 pub record AnsweredUse : Type 0 where

@@ -1,29 +1,13 @@
 -- That the promises say something: for each part of one a small history that breaks it.
 use Rattle.std.specs.Prelude.{List}
-use Rattle.tsp_promises.specs.Agreed.{Agreed, StayAgreed}
-use Rattle.tsp_promises.specs.AgreedShown.{AgreedShown, ShownNear, Waited}
-use Rattle.tsp_promises.specs.Answered.{Answered}
-use Rattle.tsp_promises.specs.Chained.{Chained}
-use Rattle.tsp_promises.specs.ErrsBounded.{ErrsBounded}
-use Rattle.tsp_promises.specs.Estimates.{EstimatesHold}
-use Rattle.tsp_promises.specs.FirstSet.{FirstSet, FirstSetSoon}
+use Rattle.tsp_promises.specs.{Agreed.Agreed, Agreed.StayAgreed, AgreedShown.AgreedShown, AgreedShown.ShownNear, AgreedShown.Waited}
+use Rattle.tsp_promises.specs.{Answered.Answered, Chained.Chained, ErrsBounded.ErrsBounded, Estimates.EstimatesHold, OneBack.OneBack}
+use Rattle.tsp_promises.specs.{FirstSet.FirstSet, FirstSet.FirstSetSoon, Measured.Measured, Measured.Trips, OneError.OneError, Shows.Shows}
 use Rattle.tsp_base.specs.Words.{Line}
-use Rattle.tsp_promises.specs.Measured.{Measured, Trips}
 use Rattle.tsp_promises.specs.Once.{OnceConfirmed, OnceCorrected, OnceObeyed, OnceSpaced, OnceSpacedOverLives, OnceTaken}
-use Rattle.tsp_promises.specs.OneBack.{OneBack}
-use Rattle.tsp_promises.specs.Moderate.{Moderate, ModerateClocks}
-use Rattle.tsp_promises.specs.OneError.{OneError}
-use Rattle.tsp_promises.specs.OneWinner.{OneWinner}
-use Rattle.tsp_promises.specs.OnlyMaster.{OnlyMaster}
-use Rattle.tsp_promises.specs.Relayed.{Relayed}
+use Rattle.tsp_promises.specs.{Moderate.Moderate, Moderate.ModerateClocks, OneWinner.OneWinner, OnlyMaster.OnlyMaster, Relayed.Relayed}
 use Rattle.tsp_promises.specs.Resolved.{StaysQuiet, StopsLeading, Yields, YieldsTaken}
-use Rattle.tsp_promises.specs.Seldom.{Seldom}
-use Rattle.tsp_promises.specs.Setting.{Setting}
-use Rattle.tsp_promises.specs.Shows.{Shows}
-use Rattle.tsp_promises.specs.Silent.{Silent}
-use Rattle.tsp_promises.specs.Steady.{Steady}
-use Rattle.tsp_promises.specs.Thrice.{Thrice}
-use Rattle.tsp_promises.specs.Throughout.{Throughout}
+use Rattle.tsp_promises.specs.{Seldom.Seldom, Setting.Setting, Silent.Silent, Steady.Steady, Thrice.Thrice, Throughout.Throughout}
 
 -- some history breaks the promise
 pub record Breaks (Promise : List Line → Type 0) : Type 0 where

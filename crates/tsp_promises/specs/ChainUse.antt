@@ -1,10 +1,8 @@
 -- A chain of three links: the promises of chains aren't empty.
 use Rattle.std.specs.Prelude.{◌≢◌, ◌≤◌, ℕ, List, length}
-use Rattle.tsp_promises.specs.Agreed.{UnchangedBut}
+use Rattle.tsp_promises.specs.{Agreed.UnchangedBut, Kept.Kept, Setting.Setting}
 use Rattle.tsp_promises.specs.Chained.{Hop, Hops, IsChain, last_hop, node_at}
 use Rattle.tsp_base.specs.Words.{Line}
-use Rattle.tsp_promises.specs.Kept.{Kept}
-use Rattle.tsp_promises.specs.Setting.{Setting}
 
 -- a history that fits and keeps the premises (Kept), in which a master corrects a gateway, that one a second one, and
 -- that one a last node; all are left alone since. The clocks at both ends of the row are bounded down the chain, and

@@ -1,11 +1,8 @@
 -- The promise that clocks along chains of corrected masters agree.
 use Rattle.std.specs.Prelude.{◌≡◌, ◌≤◌, ◌≤ℤ◌, ℕ, ◌-◌, ◌*◌, ℤ, pos, ◌+ℤ◌, ◌-ℤ◌, nat_abs, List, [], ◌∷◌}
-use Rattle.tsp_promises.specs.Agreed.{FromRound, Unchanged, UnchangedBut}
-use Rattle.tsp_promises.specs.ClockAt.{clock_at}
-use Rattle.tsp_promises.specs.Everywhere.{Everywhere}
-use Rattle.tsp_promises.specs.Fits.{node_of}
+use Rattle.tsp_promises.specs.{Agreed.FromRound, Agreed.Unchanged, Agreed.UnchangedBut, ClockAt.clock_at, Everywhere.Everywhere}
+use Rattle.tsp_promises.specs.{Fits.node_of, Setting.Setting}
 use Rattle.tsp_base.specs.Words.{Line, Within, width}
-use Rattle.tsp_promises.specs.Setting.{Setting}
 
 -- one link of a chain: a Close, the Correct that takes its ADJTIME, the reading on which that rests, and its error in
 -- microseconds

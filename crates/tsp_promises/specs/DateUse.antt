@@ -2,11 +2,8 @@
 use Rattle.std.specs.Prelude.{◌≡◌, ◌<◌, List, ◌∷◌}
 use Rattle.tsp_rules.specs.Values.{SetDateReq}
 use Rattle.tsp_base.specs.Words.{Line, dids, of, lives, Within}
-use Rattle.tsp_promises.specs.Fits.{Fits, Finished, node_of}
-use Rattle.tsp_promises.specs.Once.{ActsOn, OnceTaken}
+use Rattle.tsp_promises.specs.{Fits.Fits, Fits.Finished, Fits.node_of, Kept.Kept, Once.ActsOn, Once.OnceTaken, Setting.Setting}
 use Rattle.tsp_promises.specs.Premises.{Life, Words}
-use Rattle.tsp_promises.specs.Setting.{Setting}
-use Rattle.tsp_promises.specs.Kept.{Kept}
 
 -- a history that fits and keeps the premises (Kept), in which a Correct takes a date that is passed on, and in the next
 -- life of its node another does

@@ -2,12 +2,8 @@
 use Rattle.std.specs.Prelude.{◌≡◌, ℤ, ◌-ℤ◌, Bool, true, List, ◌∷◌, Some}
 use Rattle.tsp_rules.specs.Values.{Post, Correct, Acked, Message, Good, SetDateReq, PeerId, Place, Peer, Master}
 use Rattle.tsp_base.specs.Words.{Acts, Did, Here, Line, Seen, dids, of, view, MessageValue, role, open_to, sets_date, heard, time_in}
-use Rattle.tsp_promises.specs.ClockAt.{clock_at}
-use Rattle.tsp_promises.specs.Everywhere.{Everywhere}
-use Rattle.tsp_promises.specs.Fits.{node_of}
-use Rattle.tsp_promises.specs.Once.{Acted}
+use Rattle.tsp_promises.specs.{ClockAt.clock_at, Everywhere.Everywhere, Fits.node_of, Once.Acted, Setting.Setting}
 use Rattle.tsp_promises.specs.Premises.{Few, Honest, Life}
-use Rattle.tsp_promises.specs.Setting.{Setting}
 
 -- a Correct of this amount at a master, which sets the clock to the time in a message
 pub record SetsClock (setting : Setting) (l : Line) (world : List Line) (amount : ℤ) (m : MessageValue) : Type 0 where

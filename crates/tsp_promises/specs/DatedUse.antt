@@ -2,10 +2,7 @@
 use Rattle.std.specs.Prelude.{◌≡◌, ℤ, Bool, true, List, ◌∷◌, Some}
 use Rattle.tsp_rules.specs.Values.{Post, Correct, Acked, Message, Good, SetDateReq, PeerId, Place, Peer}
 use Rattle.tsp_base.specs.Words.{Acts, Did, Here, Line, Seen, dids, of, view, MessageValue, Within, open_to, sets_date, heard}
-use Rattle.tsp_promises.specs.Fits.{node_of}
-use Rattle.tsp_promises.specs.Kept.{Kept}
-use Rattle.tsp_promises.specs.Premises.{Few}
-use Rattle.tsp_promises.specs.Setting.{Setting}
+use Rattle.tsp_promises.specs.{Fits.node_of, Kept.Kept, Premises.Few, Setting.Setting}
 
 -- a history that fits and keeps the premises (Kept and Few), in which a clock is set to a date, and the one who passed
 -- that date on notes that it was acknowledged

@@ -1,11 +1,8 @@
 -- That the promise of the network's date says something: each part is broken by a small history.
 use Rattle.std.specs.Prelude.{List}
 use Rattle.tsp_base.specs.Words.{Line}
-use Rattle.tsp_promises.specs.Broken.{Breaks}
-use Rattle.tsp_promises.specs.Dated.{DateConfirmedAt, SetsAt}
-use Rattle.tsp_promises.specs.Everywhere.{Everywhere}
+use Rattle.tsp_promises.specs.{Broken.Breaks, Dated.DateConfirmedAt, Dated.SetsAt, Everywhere.Everywhere, Setting.Setting}
 use Rattle.tsp_promises.specs.Premises.{Few, Honest, Life}
-use Rattle.tsp_promises.specs.Setting.{Setting}
 
 -- what breaks the promise of dates, in one setting
 pub record DatesBreak : Type 0 where

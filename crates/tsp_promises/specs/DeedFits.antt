@@ -2,17 +2,12 @@
 use Rattle.std.specs.Prelude.{◌≡◌, ℕ, ◌≤◌, ◌⊎◌, ◌+◌, ◌%◌, Bool, true, false, if◌then◌else◌, List, None}
 use Rattle.tsp_rules.specs.Values.{Act, Took, Post, Become, Arm, Back, Backer, Close, Correct, Sample, Acked, Quit, CloseAlarm, Datagram, Message, Stamp, Kind, Accept, Ack, AdjTime, Conflict, Date, DateAck, DateReq, Election, LoopKind, MasterAck, MasterReq, MasterUp, Msite, MsiteReq, QuitKind, Refuse, ResolveKind, SetDate, SetDateReq, SetTime, SlaveUp, Test, TraceOff, TraceOn, PeerId, Place, Peer, Stranger, Request, Reply, QUIET}
 use Rattle.tsp_base.specs.Words.{Deed, Begins, Acts, Did, Seen, plain, MessageValue, boot_tick, ticket, word, acting, kept_name, role, taken, begun, Setup, TakesFrom, heard}
-use Rattle.tsp_promises.specs.AckFits.{AckFits, AckedFits}
-use Rattle.tsp_promises.specs.CorrectFits.{CorrectFits}
-use Rattle.tsp_promises.specs.CorrectionFits.{CorrectionFits, RepeatFits}
-use Rattle.tsp_promises.specs.DateFits.{DateAckFits, PassOnFits}
+use Rattle.tsp_promises.specs.{AckFits.AckFits, AckFits.AckedFits, CorrectFits.CorrectFits, DateFits.DateAckFits, DateFits.PassOnFits}
+use Rattle.tsp_promises.specs.{CorrectionFits.CorrectionFits, CorrectionFits.RepeatFits, LoopFits.LoopFits, QuitFits.QuitFits}
 use Rattle.tsp_promises.specs.HoldFits.{AcceptFits, BackFits, BackerFits, BecomeFits}
-use Rattle.tsp_promises.specs.LoopFits.{LoopFits}
 use Rattle.tsp_promises.specs.MeasureFits.{RequestFits, ReplyFits, SampleFits}
-use Rattle.tsp_promises.specs.QuitFits.{QuitFits}
-use Rattle.tsp_promises.specs.RoundFits.{CloseFits, StartFits}
+use Rattle.tsp_promises.specs.{RoundFits.CloseFits, RoundFits.StartFits, StepFacts.StepEnds, StepFacts.is_answered, StepFacts.is_unbacked}
 use Rattle.tsp_rules.specs.CommonRows.{master_name_in}
-use Rattle.tsp_promises.specs.StepFacts.{StepEnds, is_answered, is_unbacked}
 
 -- what the post of a numbered message owes that is no correction: it begins a send with the port's own next number,
 -- from 32,768 to 65,535, where no ticket is, or it repeats the open send

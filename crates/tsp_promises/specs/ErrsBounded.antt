@@ -1,7 +1,6 @@
 -- The promise that the error on which an ADJTIME rests is at most half of the longest round, 4.5 s.
 use Rattle.std.specs.Prelude.{◌≤ℤ◌, ℕ, ℤ, pos, List}
-use Rattle.tsp_promises.specs.Agreed.{FromRound}
-use Rattle.tsp_promises.specs.Everywhere.{Everywhere}
+use Rattle.tsp_promises.specs.{Agreed.FromRound, Everywhere.Everywhere}
 use Rattle.tsp_base.specs.Words.{Line}
 
 -- an exchange is within its round, which closes at most CLOSE and SLACK ticks (9 s) after it began, and the error is

@@ -2,12 +2,8 @@
 use Rattle.std.specs.Prelude.{◌≡◌, ◌≤◌, ◌≤ℤ◌, ℕ, ◌+◌, ◌-◌, ◌*◌, ℤ, pos, ◌+ℤ◌, ◌-ℤ◌, nat_abs, Bool, true, List, ◌∷◌, Some}
 use Rattle.tsp_rules.specs.Values.{Post, Close, Correct, Message, AdjTime, PeerId, Peer}
 use Rattle.tsp_base.specs.Words.{Acts, Here, Line, dids, of, view, MessageValue, Within, acting, Sampled, best, Undisturbed, peer_of, width}
-use Rattle.tsp_promises.specs.Agreed.{ReadingOf, Unchanged, UnchangedBut}
-use Rattle.tsp_promises.specs.ClockAt.{clock_at}
-use Rattle.tsp_promises.specs.Everywhere.{Everywhere}
-use Rattle.tsp_promises.specs.Fits.{node_of}
-use Rattle.tsp_promises.specs.Setting.{Setting}
-use Rattle.tsp_promises.specs.StepFacts.{closed}
+use Rattle.tsp_promises.specs.{Agreed.ReadingOf, Agreed.Unchanged, Agreed.UnchangedBut, ClockAt.clock_at, Everywhere.Everywhere}
+use Rattle.tsp_promises.specs.{Fits.node_of, Setting.Setting, StepFacts.closed}
 
 -- this Close of m, with this mean, begins the ADJTIME that is posted at f
 pub record CloseBegins (m : ℕ) (close : Line) (cpast : List Line) (mean : ℤ) (f : Line) (fw : List Line) : Type 0 where

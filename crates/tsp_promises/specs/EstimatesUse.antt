@@ -1,10 +1,7 @@
 -- A round and its estimates: what is promised of them isn't empty.
 use Rattle.std.specs.Prelude.{◌≡◌, ◌≢◌, ℕ, ℤ, pos, List, ◌∷◌}
-use Rattle.tsp_promises.specs.Agreed.{UnchangedBut}
-use Rattle.tsp_promises.specs.Estimates.{CloseBegins, Estimate, Moves}
+use Rattle.tsp_promises.specs.{Agreed.UnchangedBut, Estimates.CloseBegins, Estimates.Estimate, Estimates.Moves, Kept.Kept, Setting.Setting}
 use Rattle.tsp_base.specs.Words.{Line, Within, Sampled}
-use Rattle.tsp_promises.specs.Kept.{Kept}
-use Rattle.tsp_promises.specs.Setting.{Setting}
 
 -- a history that fits and keeps the premises (Kept), in which a round has estimates of two nodes, which are left alone
 -- from their readings to its Close, and for a while after it, as is the master

@@ -2,12 +2,7 @@
 use Rattle.std.specs.Prelude.{◌≡◌, ◌≤◌, ◌≤ℤ◌, ℕ, ◌+◌, ◌-◌, ℤ, pos, ◌-ℤ◌, List, ◌∷◌}
 use Rattle.tsp_rules.specs.Values.{SetTime, LAST, LIFE}
 use Rattle.tsp_base.specs.Words.{Line, of, dids, plain, Undisturbed, width}
-use Rattle.tsp_promises.specs.Agreed.{Unchanged}
-use Rattle.tsp_promises.specs.ClockAt.{clock_at}
-use Rattle.tsp_promises.specs.Everywhere.{Everywhere}
-use Rattle.tsp_promises.specs.Fits.{node_of}
-use Rattle.tsp_promises.specs.OneError.{Taking}
-use Rattle.tsp_promises.specs.Setting.{Setting}
+use Rattle.tsp_promises.specs.{Agreed.Unchanged, ClockAt.clock_at, Everywhere.Everywhere, Fits.node_of, OneError.Taking, Setting.Setting}
 
 -- the Correct c takes a post of a SETTIME of m. Up to the history h c's node neither booted nor corrected its clock
 -- after c, nor m after the SETTIME's send began

@@ -1,9 +1,7 @@
 -- A history that fits, and keeps the premises that most promises ask.
 use Rattle.std.specs.Prelude.{List}
-use Rattle.tsp_promises.specs.Fits.{Fits, Finished}
+use Rattle.tsp_promises.specs.{Fits.Fits, Fits.Finished, Premises.Honest, Premises.Life, Premises.Words, Setting.Setting}
 use Rattle.tsp_base.specs.Words.{Line}
-use Rattle.tsp_promises.specs.Premises.{Honest, Life, Words}
-use Rattle.tsp_promises.specs.Setting.{Setting}
 
 -- it ends with a step, no peer's datagram is forged, none lives longer than LIFE, and no two boots have the same word.
 -- Few and NamesApart, which few promises ask, aren't among them

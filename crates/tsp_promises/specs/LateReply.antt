@@ -2,10 +2,7 @@
 use Rattle.std.specs.Prelude.{◌≡◌, ◌<◌, ℤ, List, ◌∷◌}
 use Rattle.tsp_rules.specs.Values.{Took, Post, Stamp, Good, PeerId, Peer, Request, Reply}
 use Rattle.tsp_base.specs.Words.{Acts, Line, of, dids, view, lives, Within, ReplyValue}
-use Rattle.tsp_promises.specs.Fits.{node_of}
-use Rattle.tsp_promises.specs.Measured.{TripOf}
-use Rattle.tsp_promises.specs.Setting.{Setting}
-use Rattle.tsp_promises.specs.Kept.{Kept}
+use Rattle.tsp_promises.specs.{Fits.node_of, Kept.Kept, Measured.TripOf, Setting.Setting}
 
 -- a history that fits and keeps the premises (Kept), in which a node takes the reply to a request that it posted in an
 -- earlier life; a Sample right after would end no exchange

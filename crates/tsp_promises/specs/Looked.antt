@@ -1,11 +1,7 @@
 -- The promise behind the interval that programs read: where a master's clock may be, some time after a look at it.
 use Rattle.std.specs.Prelude.{◌≡◌, ℕ, ◌+◌, ◌-◌, ◌*◌, ◌≤◌, ℤ, pos, ◌-ℤ◌, ◌+ℤ◌, ◌≤ℤ◌, List, []}
 use Rattle.tsp_base.specs.Words.{Line, of, dids, lives, Within, tick_at, width}
-use Rattle.tsp_promises.specs.Agreed.{Unchanged}
-use Rattle.tsp_promises.specs.ClockAt.{clock_at}
-use Rattle.tsp_promises.specs.Fits.{Fits}
-use Rattle.tsp_promises.specs.Kept.{Kept}
-use Rattle.tsp_promises.specs.Setting.{Setting}
+use Rattle.tsp_promises.specs.{Agreed.Unchanged, ClockAt.clock_at, Fits.Fits, Kept.Kept, Setting.Setting}
 
 -- node k has looked at the clock of node m: m's clock was read at a true time between those of two readings of k's own, and from each
 -- reading until t, after the history h, the clock that was read was left alone. Times are microseconds

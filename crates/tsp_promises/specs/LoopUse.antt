@@ -2,11 +2,7 @@
 use Rattle.std.specs.Prelude.{◌≡◌, ◌<◌, List, ◌∷◌, length}
 use Rattle.tsp_rules.specs.Values.{Become, Port, Loose, Master}
 use Rattle.tsp_base.specs.Words.{Acts, Line, of, view, Within, role}
-use Rattle.tsp_promises.specs.Fits.{node_of}
-use Rattle.tsp_promises.specs.Kept.{Kept}
-use Rattle.tsp_promises.specs.Looped.{GivesUp}
-use Rattle.tsp_promises.specs.Premises.{NamesApart}
-use Rattle.tsp_promises.specs.Setting.{Setting}
+use Rattle.tsp_promises.specs.{Fits.node_of, Kept.Kept, Looped.GivesUp, Premises.NamesApart, Setting.Setting}
 
 -- a history that fits and keeps the premises (Kept and NamesApart), in which a gateway leads on two networks that are
 -- joined by two other nodes: its LOOP comes back over both, and it gives up the lead of the higher port

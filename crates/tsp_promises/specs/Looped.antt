@@ -2,11 +2,7 @@
 use Rattle.std.specs.Prelude.{◌≡◌, ◌≢◌, ℕ, ◌+◌, ◌<◌, ◌≤◌, true, List, [], ◌∷◌, length, is_some}
 use Rattle.tsp_rules.specs.Values.{Post, Become, Message, LoopKind, Hops, PeerId, Place, Peer, Port, Loose, Master, HOPS}
 use Rattle.tsp_base.specs.Words.{Acts, Line, dids, of, view, MessageValue, role, heard}
-use Rattle.tsp_promises.specs.Everywhere.{Everywhere}
-use Rattle.tsp_promises.specs.Fits.{node_of}
-use Rattle.tsp_promises.specs.Once.{Brings}
-use Rattle.tsp_promises.specs.Premises.{Honest, NamesApart}
-use Rattle.tsp_promises.specs.Setting.{Setting}
+use Rattle.tsp_promises.specs.{Everywhere.Everywhere, Fits.node_of, Once.Brings, Premises.Honest, Premises.NamesApart, Setting.Setting}
 
 -- the post of a LOOP to a peer, and what stands before it
 pub record LoopPost : Type 0 where

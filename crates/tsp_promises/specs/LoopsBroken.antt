@@ -1,11 +1,8 @@
 -- That the promise of LOOPs says something: each part is broken by a small history.
 use Rattle.std.specs.Prelude.{List}
 use Rattle.tsp_base.specs.Words.{Line}
-use Rattle.tsp_promises.specs.Broken.{Breaks}
-use Rattle.tsp_promises.specs.Everywhere.{Everywhere}
-use Rattle.tsp_promises.specs.Looped.{ChainAt, GivesUpAt, HopsAt}
+use Rattle.tsp_promises.specs.{Broken.Breaks, Everywhere.Everywhere, Looped.ChainAt, Looped.GivesUpAt, Looped.HopsAt, Setting.Setting}
 use Rattle.tsp_promises.specs.Premises.{Honest, NamesApart}
-use Rattle.tsp_promises.specs.Setting.{Setting}
 
 -- what breaks the promise of LOOPs, in one setting, each with all that its part asks
 pub record LoopsBreak : Type 0 where

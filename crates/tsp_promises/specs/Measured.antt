@@ -2,10 +2,7 @@
 use Rattle.std.specs.Prelude.{◌≡◌, ℕ, ℤ, pos, ◌-ℤ◌, ◌≤ℤ◌, nat_abs, true, List, ◌∷◌}
 use Rattle.tsp_rules.specs.Values.{Post, Sample, Stamp, PeerId, Peer, Reply}
 use Rattle.tsp_base.specs.Words.{Came, Acts, Did, Line, Seen, Here, of, dids, plain, view, target, Within, exchange, is_going, half_up, ReplyValue, peer_of, posted}
-use Rattle.tsp_promises.specs.ClockAt.{clock}
-use Rattle.tsp_promises.specs.Everywhere.{Everywhere}
-use Rattle.tsp_promises.specs.Fits.{node_of}
-use Rattle.tsp_promises.specs.Setting.{Setting}
+use Rattle.tsp_promises.specs.{ClockAt.clock, Everywhere.Everywhere, Fits.node_of, Setting.Setting}
 
 -- the reading of a Sample of p: its step takes a reply that p posted to this node, and when that was posted p's clock
 -- was ahead of this node's by diff, give or take err, both in microseconds

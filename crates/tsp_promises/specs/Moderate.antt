@@ -5,14 +5,8 @@ use Rattle.std.specs.List.{Contains, count_by}
 use Rattle.tsp_rules.specs.Values.{AdjTime, PeerId, Port, SLEW, SPAN}
 use Rattle.tsp_base.specs.Words.{Here, Line, dids, of, view, rest_at, shown, target, Within, Sampled, best, peer_of, time_in, width}
 use Rattle.tsp_group.specs.Groups.{Agree}
-use Rattle.tsp_promises.specs.Agreed.{Unchanged}
-use Rattle.tsp_promises.specs.ClockAt.{clock_at}
-use Rattle.tsp_promises.specs.Estimates.{CloseBegins, Estimate, Moves}
-use Rattle.tsp_promises.specs.Everywhere.{Everywhere}
-use Rattle.tsp_promises.specs.Fits.{node_of}
-use Rattle.tsp_promises.specs.OneError.{Taking}
-use Rattle.tsp_promises.specs.RoundFits.{estimates_at}
-use Rattle.tsp_promises.specs.Setting.{Setting, setup_of}
+use Rattle.tsp_promises.specs.{Agreed.Unchanged, ClockAt.clock_at, Estimates.CloseBegins, Estimates.Estimate, Estimates.Moves, Fits.node_of}
+use Rattle.tsp_promises.specs.{Everywhere.Everywhere, OneError.Taking, RoundFits.estimates_at, Setting.Setting, Setting.setup_of}
 use Rattle.tsp_promises.specs.StepFacts.{closed}
 
 -- the estimates that port q of m has after this history, in microseconds: 0 for its own clock, and the diff of the best

@@ -3,10 +3,7 @@ use Rattle.std.specs.Prelude.{◌≡◌, ◌≤◌, ◌≤ℤ◌, ℕ, ℤ, pos,
 use Rattle.std.specs.List.{Contains}
 use Rattle.tsp_rules.specs.Values.{Correct}
 use Rattle.tsp_base.specs.Words.{Acts, Line, dids, of, view, rest_at, Within, Sampled, best, peer_of}
-use Rattle.tsp_promises.specs.Agreed.{Unchanged}
-use Rattle.tsp_promises.specs.Estimates.{CloseBegins, Estimate, Moves}
-use Rattle.tsp_promises.specs.Fits.{node_of}
-use Rattle.tsp_promises.specs.Kept.{Kept}
+use Rattle.tsp_promises.specs.{Agreed.Unchanged, Estimates.CloseBegins, Estimates.Estimate, Estimates.Moves, Fits.node_of, Kept.Kept}
 use Rattle.tsp_promises.specs.Moderate.{Agrees, PeerAgrees, PeerCorrects, estimates_of}
 use Rattle.tsp_promises.specs.Setting.{Setting}
 

@@ -2,11 +2,7 @@
 use Rattle.std.specs.Prelude.{◌≡◌, ◌≤◌, ℕ, ◌+◌, ℤ, Bool, true, List, ◌∷◌, is_some}
 use Rattle.tsp_rules.specs.Values.{Post, Correct, Acked, Message, Kind, PeerId, Peer, Follow, GAP}
 use Rattle.tsp_base.specs.Words.{Came, Acts, Did, Seen, Here, Line, of, dids, view, MessageValue, lives, Within, role, begun_to, is_correction, is_numbered, open_to, heard, peer_of, posted, time_in}
-use Rattle.tsp_promises.specs.ClockAt.{clock_at}
-use Rattle.tsp_promises.specs.CorrectFits.{amount_of}
-use Rattle.tsp_promises.specs.Everywhere.{Everywhere}
-use Rattle.tsp_promises.specs.Fits.{node_of}
-use Rattle.tsp_promises.specs.Setting.{Setting}
+use Rattle.tsp_promises.specs.{ClockAt.clock_at, CorrectFits.amount_of, Everywhere.Everywhere, Fits.node_of, Setting.Setting}
 
 -- the step of this line is the coming of the message that is posted at that place, to the line's node
 pub record Brings (l : Line) (world : List Line) (post : Line) (older : List Line) : Type 0 where

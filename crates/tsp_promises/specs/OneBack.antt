@@ -2,9 +2,7 @@
 use Rattle.std.specs.Prelude.{◌≡◌, ◌≤◌, ◌⊎◌, ℕ, ◌+◌, false, List, ◌∷◌, Option, Some}
 use Rattle.tsp_rules.specs.Values.{Post, Back, Message, Accept, Election, PeerId, Place, Peer, Stranger, Port, HOLD}
 use Rattle.tsp_base.specs.Words.{Begins, Acts, Line, of, view, MessageValue, Within}
-use Rattle.tsp_promises.specs.Everywhere.{Everywhere}
-use Rattle.tsp_promises.specs.Fits.{node_of}
-use Rattle.tsp_promises.specs.StepFacts.{backed, is_unbacked}
+use Rattle.tsp_promises.specs.{Everywhere.Everywhere, Fits.node_of, StepFacts.backed, StepFacts.is_unbacked}
 
 -- of two Backs of a node on one port for different candidates, the later comes at least HOLD ticks (60 s) after the
 -- earlier, even if the node boots between

@@ -2,11 +2,7 @@
 use Rattle.std.specs.Prelude.{◌≡◌, ◌⊎◌, ℕ, true, List, ◌∷◌, None, Some}
 use Rattle.tsp_rules.specs.Values.{Post, Datagram, Message, Stamp, AdjTime, SlaveUp, Place, Reply}
 use Rattle.tsp_base.specs.Words.{Came, Acts, Did, Line, Seen, Here, of, dids, view, MessageValue, Within, taken, Sampled, best, is_correction, ReplyValue, Receives, Undisturbed, peer_of, posted}
-use Rattle.tsp_promises.specs.Agreed.{ReadingOf}
-use Rattle.tsp_promises.specs.Everywhere.{Everywhere}
-use Rattle.tsp_promises.specs.Fits.{node_of}
-use Rattle.tsp_promises.specs.Once.{ActsOn, OfSend}
-use Rattle.tsp_promises.specs.StepFacts.{closed}
+use Rattle.tsp_promises.specs.{Agreed.ReadingOf, Everywhere.Everywhere, Fits.node_of, Once.ActsOn, Once.OfSend, StepFacts.closed}
 
 -- the Correct c takes a post of a correction of m, an ADJTIME or a SETTIME, whose send begins at this place
 pub record Taking (m : ℕ) (c : Line) (past : List Line) : Type 0 where

@@ -2,9 +2,7 @@
 use Rattle.std.specs.Prelude.{◌≡◌, ◌≢◌, ◌<◌, ◌+◌, List, ◌∷◌}
 use Rattle.tsp_rules.specs.Values.{Become, Master}
 use Rattle.tsp_base.specs.Words.{Acts, Line, Within}
-use Rattle.tsp_promises.specs.Everywhere.{Everywhere}
-use Rattle.tsp_promises.specs.Fits.{node_of}
-use Rattle.tsp_promises.specs.Setting.{Setting}
+use Rattle.tsp_promises.specs.{Everywhere.Everywhere, Fits.node_of, Setting.Setting}
 
 -- of two changes to master, by different nodes on one network, the later comes more than 50 s of true time after the
 -- earlier

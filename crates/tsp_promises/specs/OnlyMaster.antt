@@ -2,8 +2,7 @@
 use Rattle.std.specs.Prelude.{◌≡◌, ℕ, ℤ, Bool, true, List, ◌∷◌}
 use Rattle.tsp_rules.specs.Values.{Post, Close, Correct, Message, Place, Master}
 use Rattle.tsp_base.specs.Words.{Acts, Line, from_act, of, view, MessageValue, role, is_correction}
-use Rattle.tsp_promises.specs.Everywhere.{Everywhere}
-use Rattle.tsp_promises.specs.Fits.{node_of}
+use Rattle.tsp_promises.specs.{Everywhere.Everywhere, Fits.node_of}
 
 -- the port's role just before the line is Master
 abbrev pub Leads : Line → List Line → Type 0

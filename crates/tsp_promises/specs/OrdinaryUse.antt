@@ -2,10 +2,7 @@
 use Rattle.std.specs.Prelude.{◌≡◌, ◌≢◌, ℕ, ℤ, true, List, ◌∷◌}
 use Rattle.tsp_rules.specs.Values.{Post, Acked, Message, PeerId, Peer}
 use Rattle.tsp_base.specs.Words.{Acts, Did, Seen, Here, Line, of, view, MessageValue, Within, is_correction, open_to}
-use Rattle.tsp_promises.specs.Agreed.{FromRound, Unchanged, UnchangedBut}
-use Rattle.tsp_promises.specs.Fits.{node_of}
-use Rattle.tsp_promises.specs.Setting.{Setting}
-use Rattle.tsp_promises.specs.Kept.{Kept}
+use Rattle.tsp_promises.specs.{Agreed.FromRound, Agreed.Unchanged, Agreed.UnchangedBut, Fits.node_of, Kept.Kept, Setting.Setting}
 
 -- an Acked that ends a correction's send
 pub record Confirms (world : List Line) : Type 0 where

@@ -2,10 +2,8 @@
 use Rattle.std.specs.Prelude.{◌≤◌, List}
 use Rattle.tsp_rules.specs.Values.{Port}
 use Rattle.tsp_base.specs.Words.{Line, dids, view, time_of, tick_of, up}
-use Rattle.tsp_promises.specs.DeedFits.{DeedFits}
-use Rattle.tsp_promises.specs.Everywhere.{Everywhere}
+use Rattle.tsp_promises.specs.{DeedFits.DeedFits, Everywhere.Everywhere, Setting.Setting, Setting.setup_of}
 use Rattle.tsp_promises.specs.Fits.{Alive, SameStep, Sees, node_of}
-use Rattle.tsp_promises.specs.Setting.{Setting, setup_of}
 
 -- a line fits the lines of its node before it
 pub record OwnLineFits (setting : Setting) (l : Line) (before : List Line) : Type 0 where

@@ -2,9 +2,7 @@
 use Rattle.std.specs.Prelude.{◌≡◌, ◌≢◌, ◌≤◌, ◌<◌, ℕ, ◌+◌, ℤ, List, ◌∷◌}
 use Rattle.tsp_rules.specs.Values.{Boot, Took, Post, Datagram, Taken, PeerId, Place, Peer, LIFE}
 use Rattle.tsp_base.specs.Words.{Booted, Came, Handed, Acts, Line, of, dids, view, Within, begun, posted}
-use Rattle.tsp_promises.specs.Everywhere.{Everywhere}
-use Rattle.tsp_promises.specs.Fits.{node_of}
-use Rattle.tsp_promises.specs.Setting.{Setting}
+use Rattle.tsp_promises.specs.{Everywhere.Everywhere, Fits.node_of, Setting.Setting}
 
 -- octets that are handed to a node from outside don't seem to come from a peer
 abbrev pub HonestAt : Line → List Line → Type 0

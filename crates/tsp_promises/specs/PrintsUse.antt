@@ -2,10 +2,7 @@
 use Rattle.std.specs.Prelude.{◌≡◌, ◌≢◌, ◌≤◌, ℤ, pos, nat_abs, true, false, List, ◌∷◌}
 use Rattle.tsp_rules.specs.Values.{Correct, MAXADJ}
 use Rattle.tsp_base.specs.Words.{Acts, Line, Within}
-use Rattle.tsp_promises.specs.Fits.{node_of}
-use Rattle.tsp_promises.specs.Kept.{Kept}
-use Rattle.tsp_promises.specs.Setting.{Setting}
-use Rattle.tsp_promises.specs.Steady.{Unstepped}
+use Rattle.tsp_promises.specs.{Fits.node_of, Kept.Kept, Setting.Setting, Steady.Unstepped}
 
 -- a history that fits and keeps the premises (Kept), in which a Correct of a small amount is stepped, since it sets the
 -- clock, and a later one of that life slews it

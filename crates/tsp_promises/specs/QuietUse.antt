@@ -2,9 +2,7 @@
 use Rattle.std.specs.Prelude.{◌≡◌, ◌<◌, ◌+◌, List, ◌∷◌}
 use Rattle.tsp_rules.specs.Values.{Post, Message, Stamp, Place, Reply, QUIET}
 use Rattle.tsp_base.specs.Words.{Acts, Line, dids, of, MessageValue, boot_tick, Within, ReplyValue}
-use Rattle.tsp_promises.specs.Fits.{node_of}
-use Rattle.tsp_promises.specs.Kept.{Kept}
-use Rattle.tsp_promises.specs.Setting.{Setting}
+use Rattle.tsp_promises.specs.{Fits.node_of, Kept.Kept, Setting.Setting}
 
 -- a history that fits and keeps the premises (Kept), in which a node replies to a stamp request and acknowledges a
 -- message in its quiet time, the first QUIET ticks after its boot

@@ -1,11 +1,8 @@
 -- The promise that a clock that a corrected master corrects agrees with the first master's.
 use Rattle.std.specs.Prelude.{◌≡◌, ◌≤◌, ◌≤ℤ◌, ℕ, ◌+◌, ◌-◌, ◌*◌, ℤ, pos, ◌+ℤ◌, ◌-ℤ◌, nat_abs, List, ◌∷◌}
-use Rattle.tsp_promises.specs.Agreed.{FromRound, Unchanged, UnchangedBut}
-use Rattle.tsp_promises.specs.ClockAt.{clock_at}
-use Rattle.tsp_promises.specs.Everywhere.{Everywhere}
-use Rattle.tsp_promises.specs.Fits.{node_of}
+use Rattle.tsp_promises.specs.{Agreed.FromRound, Agreed.Unchanged, Agreed.UnchangedBut, ClockAt.clock_at, Everywhere.Everywhere}
+use Rattle.tsp_promises.specs.{Fits.node_of, Setting.Setting}
 use Rattle.tsp_base.specs.Words.{Line, Within, width}
-use Rattle.tsp_promises.specs.Setting.{Setting}
 
 -- after the history h, at true time t: the Correct c of a node k takes an ADJTIME of a Close of g, and the Correct d of
 -- g, before that Close, one of a Close of m. As long as k, g and m are left alone since, m but for the Correct right

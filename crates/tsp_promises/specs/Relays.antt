@@ -1,10 +1,7 @@
 -- A relayed clock: the promises of gateways aren't empty.
 use Rattle.std.specs.Prelude.{◌≡◌, ◌≢◌, ℕ, ℤ, List, ◌∷◌}
-use Rattle.tsp_promises.specs.Agreed.{FromRound, Unchanged, UnchangedBut}
-use Rattle.tsp_promises.specs.Fits.{node_of}
+use Rattle.tsp_promises.specs.{Agreed.FromRound, Agreed.Unchanged, Agreed.UnchangedBut, Fits.node_of, Kept.Kept, Setting.Setting}
 use Rattle.tsp_base.specs.Words.{Line, Within}
-use Rattle.tsp_promises.specs.Setting.{Setting}
-use Rattle.tsp_promises.specs.Kept.{Kept}
 
 -- a history that fits and keeps the premises (Kept), in which a node follows by one port and leads by another: a Close
 -- of its master corrects it, and then a Close of its own corrects a third node; all are left alone since

@@ -2,11 +2,7 @@
 use Rattle.std.specs.Prelude.{◌≡◌, ◌≢◌, ◌≤◌, ℕ, ◌+◌, true, List, ◌∷◌, Some}
 use Rattle.tsp_rules.specs.Values.{Post, Become, Ring, Quit, ResolveAlarm, Message, QuitKind, PeerId, Peer, Port, Follow, Master, ELECT_MIN}
 use Rattle.tsp_base.specs.Words.{Came, Begins, Acts, Did, Line, Seen, of, dids, plain, view, MessageValue, is_among, Within, role, peer_of, posted, steps}
-use Rattle.tsp_promises.specs.Everywhere.{Everywhere}
-use Rattle.tsp_promises.specs.Fits.{node_of}
-use Rattle.tsp_promises.specs.Once.{OfSend}
-use Rattle.tsp_promises.specs.Premises.{Life}
-use Rattle.tsp_promises.specs.Setting.{Setting, setup_of}
+use Rattle.tsp_promises.specs.{Everywhere.Everywhere, Fits.node_of, Once.OfSend, Premises.Life, Setting.Setting, Setting.setup_of}
 use Rattle.tsp_promises.specs.StepFacts.{owes, quits_master}
 
 -- at the end of a step the port follows each peer of which it put a Quit in that step as a master

@@ -2,10 +2,7 @@
 use Rattle.std.specs.Prelude.{◌≡◌, ◌≢◌, List, ◌∷◌, Some}
 use Rattle.tsp_rules.specs.Values.{Become, Ring, Back, ResolveAlarm, PeerId, Master}
 use Rattle.tsp_base.specs.Words.{Begins, Acts, Line, dids, of, view, Within, peer_of, steps}
-use Rattle.tsp_promises.specs.Fits.{Fits, Finished, node_of}
-use Rattle.tsp_promises.specs.Premises.{Life}
-use Rattle.tsp_promises.specs.Resolved.{TakesQuit}
-use Rattle.tsp_promises.specs.Setting.{Setting, setup_of}
+use Rattle.tsp_promises.specs.{Fits.Fits, Fits.Finished, Fits.node_of, Premises.Life, Resolved.TakesQuit, Setting.Setting, Setting.setup_of}
 use Rattle.tsp_promises.specs.StepFacts.{quits_master}
 
 -- a history that fits and in which no datagram outlives LIFE: a rival takes the QUIT of a resolution, as a master, its step ends and

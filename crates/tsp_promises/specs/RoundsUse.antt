@@ -2,9 +2,7 @@
 use Rattle.std.specs.Prelude.{◌≡◌, ◌≢◌, ℕ, ℤ, pos, ◌-ℤ◌, List, ◌∷◌}
 use Rattle.tsp_rules.specs.Values.{Close}
 use Rattle.tsp_base.specs.Words.{Acts, Line, dids, of, lives, Within}
-use Rattle.tsp_promises.specs.Fits.{node_of}
-use Rattle.tsp_promises.specs.Kept.{Kept}
-use Rattle.tsp_promises.specs.Setting.{Setting}
+use Rattle.tsp_promises.specs.{Fits.node_of, Kept.Kept, Setting.Setting}
 use Rattle.tsp_promises.specs.Throughout.{SinceClose, SinceCorrect, moved_since}
 
 -- a history that fits and keeps the premises (Kept), in which a round corrects two nodes, and a later one moves one of

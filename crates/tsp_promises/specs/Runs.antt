@@ -1,10 +1,8 @@
 -- A port that runs by the rules of tsp_rules.
 use Rattle.std.specs.Prelude.{◌≡◌, ◌≤◌, ℕ, List, [], ◌∷◌}
 use Rattle.tsp_base.specs.Words.{Step, Past, Row, grown, in_step}
-use Rattle.tsp_promises.specs.StepFacts.{StepEnds}
-use Rattle.tsp_rules.specs.Answers.{Given, answers}
-use Rattle.tsp_rules.specs.CommonRows.{boots}
-use Rattle.tsp_promises.specs.PortFits.{PortFits, setup_in}
+use Rattle.tsp_rules.specs.{Answers.Given, Answers.answers, CommonRows.boots}
+use Rattle.tsp_promises.specs.{PortFits.PortFits, PortFits.setup_in, StepFacts.StepEnds}
 
 -- what a step consists of: a boot, or the answer to what the port is given, a look at its timers or a datagram
 pub data Makes : Type 0 where

@@ -1,30 +1,14 @@
 -- Most promises of a history, each under the premises that it needs: all but OneWinner, Dated, Looped and Looked, which
 -- have files of their own here, and that of the octets of answers, which tsp_run has.
 use Rattle.std.specs.Prelude.{◌⊎◌, List}
-use Rattle.tsp_promises.specs.Agreed.{Agreed, StayAgreed}
-use Rattle.tsp_promises.specs.AgreedShown.{AgreedShown, ShownNear, Waited}
-use Rattle.tsp_promises.specs.Answered.{Answered}
-use Rattle.tsp_promises.specs.Chained.{Chained}
-use Rattle.tsp_promises.specs.ErrsBounded.{ErrsBounded}
-use Rattle.tsp_promises.specs.Estimates.{EstimatesHold}
-use Rattle.tsp_promises.specs.FirstSet.{FirstSet, FirstSetSoon}
+use Rattle.tsp_promises.specs.{Agreed.Agreed, Agreed.StayAgreed, AgreedShown.AgreedShown, AgreedShown.ShownNear, AgreedShown.Waited}
+use Rattle.tsp_promises.specs.{Answered.Answered, Chained.Chained, ErrsBounded.ErrsBounded, Estimates.EstimatesHold, OneBack.OneBack}
+use Rattle.tsp_promises.specs.{FirstSet.FirstSet, FirstSet.FirstSetSoon, Measured.Measured, Measured.Trips, OneError.OneError, Shows.Shows}
 use Rattle.tsp_base.specs.Words.{Line}
-use Rattle.tsp_promises.specs.Measured.{Measured, Trips}
-use Rattle.tsp_promises.specs.Moderate.{Moderate, ModerateClocks}
+use Rattle.tsp_promises.specs.{Moderate.Moderate, Moderate.ModerateClocks, OnlyMaster.OnlyMaster, Relayed.Relayed, Resolved.Resolved}
 use Rattle.tsp_promises.specs.Once.{OnceConfirmed, OnceCorrected, OnceObeyed, OnceSpaced, OnceSpacedOverLives, OnceTaken}
-use Rattle.tsp_promises.specs.OneBack.{OneBack}
-use Rattle.tsp_promises.specs.OneError.{OneError}
-use Rattle.tsp_promises.specs.OnlyMaster.{OnlyMaster}
-use Rattle.tsp_promises.specs.Premises.{Honest, Life, OwnWords}
-use Rattle.tsp_promises.specs.Relayed.{Relayed}
-use Rattle.tsp_promises.specs.Resolved.{Resolved}
-use Rattle.tsp_promises.specs.Seldom.{Seldom}
-use Rattle.tsp_promises.specs.Setting.{Setting}
-use Rattle.tsp_promises.specs.Shows.{Shows}
-use Rattle.tsp_promises.specs.Silent.{Silent}
-use Rattle.tsp_promises.specs.Steady.{Meets, Steady}
-use Rattle.tsp_promises.specs.Thrice.{Thrice}
-use Rattle.tsp_promises.specs.Throughout.{Throughout}
+use Rattle.tsp_promises.specs.{Premises.Honest, Premises.Life, Premises.OwnWords, Seldom.Seldom, Setting.Setting, Silent.Silent}
+use Rattle.tsp_promises.specs.{Steady.Meets, Steady.Steady, Thrice.Thrice, Throughout.Throughout}
 
 -- these promises, each under its premises. Those that ask nothing hold whatever is delivered. The others ask that no
 -- peer's datagram is forged (Honest), that no datagram lives longer than LIFE (Life), or both; for a measurement, words

@@ -2,10 +2,7 @@
 use Rattle.std.specs.Prelude.{◌≡◌, ℕ, ℤ, List, ◌∷◌}
 use Rattle.tsp_rules.specs.Values.{Boot}
 use Rattle.tsp_base.specs.Words.{Booted, Acts, Line, Within}
-use Rattle.tsp_promises.specs.Agreed.{FromRound}
-use Rattle.tsp_promises.specs.Fits.{Fits, Finished, node_of}
-use Rattle.tsp_promises.specs.Measured.{Measured}
-use Rattle.tsp_promises.specs.Premises.{Honest, Life}
+use Rattle.tsp_promises.specs.{Agreed.FromRound, Fits.Fits, Fits.Finished, Fits.node_of, Measured.Measured, Premises.Honest, Premises.Life}
 use Rattle.tsp_promises.specs.Setting.{Setting}
 
 -- two boots of one node have the same word; this is the place of the later one

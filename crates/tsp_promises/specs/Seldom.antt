@@ -2,8 +2,7 @@
 use Rattle.std.specs.Prelude.{◌≡◌, ◌≤◌, ℕ, ◌+◌, ◌-◌, ℤ, List, ◌∷◌}
 use Rattle.tsp_rules.specs.Values.{Close, ROUND, SLACK}
 use Rattle.tsp_base.specs.Words.{Acts, Line, of, dids, lives, Within}
-use Rattle.tsp_promises.specs.Everywhere.{Everywhere}
-use Rattle.tsp_promises.specs.Fits.{node_of}
+use Rattle.tsp_promises.specs.{Everywhere.Everywhere, Fits.node_of}
 
 -- a Close comes at least ROUND less SLACK ticks (239 s) after each earlier one on its port, in one life of its node
 abbrev pub SeldomAt : Line → List Line → Type 0

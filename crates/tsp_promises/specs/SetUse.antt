@@ -2,10 +2,7 @@
 use Rattle.std.specs.Prelude.{◌≡◌, ℕ, List, ◌∷◌}
 use Rattle.tsp_rules.specs.Values.{AdjTime}
 use Rattle.tsp_base.specs.Words.{Line, Within}
-use Rattle.tsp_promises.specs.FirstSet.{SetBy}
-use Rattle.tsp_promises.specs.OneError.{FromReading, FromSlaveUp, Taking}
-use Rattle.tsp_promises.specs.Kept.{Kept}
-use Rattle.tsp_promises.specs.Setting.{Setting}
+use Rattle.tsp_promises.specs.{FirstSet.SetBy, Kept.Kept, OneError.FromReading, OneError.FromSlaveUp, OneError.Taking, Setting.Setting}
 
 -- a history that fits and keeps the premises (Kept), in which a Correct takes the SETTIME that answers a SLAVEUP, after
 -- which its node and the master are left alone for a while; and another takes an ADJTIME that rests on a reading

@@ -2,10 +2,7 @@
 use Rattle.std.specs.Prelude.{◌≡◌, ◌≢◌, ◌≤◌, ◌≤ℤ◌, ◌<ℤ◌, ℕ, ◌+◌, ◌*◌, ℤ, pos, ◌-ℤ◌, nat_abs, false, List, ◌∷◌}
 use Rattle.tsp_rules.specs.Values.{Correct}
 use Rattle.tsp_base.specs.Words.{Acts, Line, of, dids, last_correct, rest, Within}
-use Rattle.tsp_promises.specs.Fits.{node_of}
-use Rattle.tsp_promises.specs.Kept.{Kept}
-use Rattle.tsp_promises.specs.Setting.{Setting}
-use Rattle.tsp_promises.specs.ShownAt.{shown_at}
+use Rattle.tsp_promises.specs.{Fits.node_of, Kept.Kept, Setting.Setting, ShownAt.shown_at}
 use Rattle.tsp_promises.specs.Steady.{ReadTicks, ReadTimes, Unstepped, shown_width}
 
 -- a history that fits and keeps the premises (Kept), in which a node is read before and after a Correct that slews its

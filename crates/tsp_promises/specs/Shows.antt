@@ -2,10 +2,7 @@
 use Rattle.std.specs.Prelude.{◌≡◌, ◌≤◌, ◌-◌, ◌/◌, ℤ, pos, ◌-ℤ◌, nat_abs, Bool, true, false, List, ◌∷◌}
 use Rattle.tsp_rules.specs.Values.{Correct}
 use Rattle.tsp_base.specs.Words.{Acts, Line, dids, of, shown, target, Within, heard}
-use Rattle.tsp_promises.specs.CorrectFits.{is_stepped}
-use Rattle.tsp_promises.specs.Everywhere.{Everywhere}
-use Rattle.tsp_promises.specs.Fits.{node_of}
-use Rattle.tsp_promises.specs.Steady.{Unstepped}
+use Rattle.tsp_promises.specs.{CorrectFits.is_stepped, Everywhere.Everywhere, Fits.node_of, Steady.Unstepped}
 
 -- what a Correct of this amount prints
 pub record Prints (l : Line) (world : List Line) (amount : ℤ) (stepped : Bool) (printed : ℤ) : Type 0 where

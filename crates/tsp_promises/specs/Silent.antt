@@ -2,9 +2,7 @@
 use Rattle.std.specs.Prelude.{◌≡◌, ◌≤◌, ◌⊎◌, ◌+◌, ℤ, Bool, List}
 use Rattle.tsp_rules.specs.Values.{Post, Correct, Datagram, Place, QUIET}
 use Rattle.tsp_base.specs.Words.{Acts, Line, dids, of, view, boot_tick}
-use Rattle.tsp_promises.specs.DeedFits.{AnswersEarly}
-use Rattle.tsp_promises.specs.Everywhere.{Everywhere}
-use Rattle.tsp_promises.specs.Fits.{node_of}
+use Rattle.tsp_promises.specs.{DeedFits.AnswersEarly, Everywhere.Everywhere, Fits.node_of}
 
 -- for QUIET ticks (80 s) after a boot a node posts nothing but the answer to what its step took on that port: to the
 -- sender of a stamp request the reply with its word and counter, and to that of an MSITE, TRACEON or TRACEOFF the ACK of

@@ -2,10 +2,7 @@
 use Rattle.std.specs.Prelude.{◌≡◌, ◌≢◌, true, List, ◌∷◌}
 use Rattle.tsp_rules.specs.Values.{Become, Master}
 use Rattle.tsp_base.specs.Words.{Acts, Line, Within}
-use Rattle.tsp_promises.specs.Fits.{node_of}
-use Rattle.tsp_promises.specs.Premises.{Few}
-use Rattle.tsp_promises.specs.Setting.{Setting}
-use Rattle.tsp_promises.specs.Kept.{Kept}
+use Rattle.tsp_promises.specs.{Fits.node_of, Kept.Kept, Premises.Few, Setting.Setting}
 
 -- a history that fits and keeps the premises (Kept and Few), in which elections are strict and two nodes on one network
 -- win one after another

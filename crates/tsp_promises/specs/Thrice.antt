@@ -2,8 +2,7 @@
 use Rattle.std.specs.Prelude.{◌≡◌, ◌≤◌, ℕ, ◌+◌, ◌==◌, Bool, true, ◌&&◌, if◌then◌else◌, List, [], ◌∷◌}
 use Rattle.tsp_rules.specs.Values.{Post, Message, PeerId, Peer, LAST, TRIES}
 use Rattle.tsp_base.specs.Words.{Deed, Acts, Line, Seen, Here, Elsewhere, of, view, MessageValue, Within, acting, begun_to, is_numbered}
-use Rattle.tsp_promises.specs.Everywhere.{Everywhere}
-use Rattle.tsp_promises.specs.Fits.{node_of}
+use Rattle.tsp_promises.specs.{Everywhere.Everywhere, Fits.node_of}
 
 abbrev pub sent_after : PeerId → Deed → Bool → ℕ → ℕ
 sent_after p (Acts (Post (Peer q) (Message m))) begins n = if (q.0 == p.0) && is_numbered m.kind then (if begins then 1 else n + 1) else n

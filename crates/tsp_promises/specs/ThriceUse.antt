@@ -2,10 +2,7 @@
 use Rattle.std.specs.Prelude.{◌≡◌, true, List, ◌∷◌}
 use Rattle.tsp_rules.specs.Values.{Post, Message, PeerId, Peer, TRIES}
 use Rattle.tsp_base.specs.Words.{Acts, Line, of, view, MessageValue, Within, is_numbered}
-use Rattle.tsp_promises.specs.Fits.{node_of}
-use Rattle.tsp_promises.specs.Kept.{Kept}
-use Rattle.tsp_promises.specs.Setting.{Setting}
-use Rattle.tsp_promises.specs.Thrice.{sent}
+use Rattle.tsp_promises.specs.{Fits.node_of, Kept.Kept, Setting.Setting, Thrice.sent}
 
 -- a history that fits and keeps the premises (Kept), in which a message is posted for the third time, the last one that
 -- is allowed

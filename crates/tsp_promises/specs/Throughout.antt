@@ -2,11 +2,7 @@
 use Rattle.std.specs.Prelude.{◌≡◌, ◌≤◌, ◌≤ℤ◌, ℕ, ◌+◌, ◌-◌, ◌*◌, ℤ, pos, ◌+ℤ◌, ◌-ℤ◌, nat_abs, List, ◌∷◌}
 use Rattle.tsp_rules.specs.Values.{Close}
 use Rattle.tsp_base.specs.Words.{Acts, Line, of, dids, lives, moved, Within, width}
-use Rattle.tsp_promises.specs.Agreed.{FromRound}
-use Rattle.tsp_promises.specs.ClockAt.{clock_at}
-use Rattle.tsp_promises.specs.Everywhere.{Everywhere}
-use Rattle.tsp_promises.specs.Fits.{node_of}
-use Rattle.tsp_promises.specs.Setting.{Setting}
+use Rattle.tsp_promises.specs.{Agreed.FromRound, ClockAt.clock_at, Everywhere.Everywhere, Fits.node_of, Setting.Setting}
 
 -- by how much the Corrects of node n have moved its clock since the place s, in one life
 abbrev pub moved_since : ℕ → List Line → List Line → ℤ

@@ -2,14 +2,11 @@
 use Rattle.std.proofs.Common.{◌≡◌, ℕ, ◌<◌, ◌≤◌, ◌+◌, ◌-◌, List, [], ◌∷◌, ◌++◌, zero, suc, refl, ap, ◌∙◌, sym, inr, arith, append_assoc, append-nil, Option, Some, None, IfSome, subst}
 use Rattle.std.proofs.lemmas.List.Elements.{All-nil, All-push}
 use Rattle.tsp_base.specs.declared.datagram.Datagram.{Datagram}
-use Rattle.tsp_io.specs.Clocks.{TakesReading}
-use Rattle.tsp_io.specs.Links.{Arrival, Tried, NotesReceive}
+use Rattle.tsp_io.specs.{Clocks.TakesReading, Links.Arrival, Links.Tried, Links.NotesReceive}
 use Rattle.tsp_query.specs.Arrivals.{answer_in, next_arrival, all_but_first, or_later, asked_from}
-use Rattle.tsp_query.specs.Clocks.{tick_given}
+use Rattle.tsp_query.specs.{Clocks.tick_given, declared.ask.AskEnd.AskEnd, declared.question.Question.Question}
 use Rattle.tsp_query.specs.Ends.{Outside, KnowsExactly, after_wait, heard_times, receives, Listens, after_send, Asks, WaitsSeconds}
-use Rattle.tsp_query.specs.declared.ask.AskEnd.{AskEnd}
 use Rattle.tsp_query.specs.declared.ask.AskEnd.TheVariants.{Answer, NoAnswer, LinkFault, OutOfMemory}
-use Rattle.tsp_query.specs.declared.question.Question.{Question}
 
 next_reading : (last : ℕ) (rs : List ℕ) (k : ℕ) → tick_given (tick_given last rs 0) (all_but_first rs) k ≡ tick_given last rs (suc k)
 next_reading last [] k = refl

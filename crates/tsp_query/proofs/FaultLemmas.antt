@@ -1,6 +1,5 @@
 -- Laws of what calls do to counts of faults.
-use Rattle.std.specs.Prelude.{◌≡◌}
-use Rattle.std.proofs.Common.{◌∙◌, arith}
+use Rattle.std.proofs.Common.{◌∙◌, arith, ◌≡◌}
 use Rattle.tsp_io.specs.declared.link.Link.{Ghosts as LinkOf}
 pub use Rattle.tsp_lines.proofs.Faults.{Counts-from, Counts-same}
 use Rattle.tsp_query.specs.Faults.{LinkCounts}

@@ -1,10 +1,7 @@
 -- Laws of the line of what came of a question.
-use Rattle.std.specs.Prelude.{◌≡◌, ◌<◌, ℕ, List, [], length}
-use Rattle.std.proofs.Common.{ap, ◌∙◌, arith}
-use Rattle.tsp_query.specs.declared.query.QueryEnd.{QueryEnd}
-use Rattle.tsp_query.specs.declared.query.QueryEnd.TheVariants.{LinkFault}
+use Rattle.std.proofs.Common.{ap, ◌∙◌, arith, ◌≡◌, ◌<◌, ℕ, List, [], length}
 use Rattle.tsp_args.specs.declared.query.Query.{Query}
-use Rattle.tsp_query.specs.Lines.{end_line}
+use Rattle.tsp_query.specs.{Lines.end_line, declared.query.QueryEnd.QueryEnd, declared.query.QueryEnd.TheVariants.LinkFault}
 
 -- a question that the link ended has no line, so no part of one is left out
 pub no_line : (q : Query) (end : QueryEnd) (line : List ℕ) (at : ℕ) → line ≡ end_line q end → end ≡ LinkFault → at < length line → ⊥

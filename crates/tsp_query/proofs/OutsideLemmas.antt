@@ -1,15 +1,10 @@
 -- Laws of what is told of the outside of a command.
-use Rattle.std.specs.Prelude.{◌≡◌, ◌⊎◌, ℕ, ◌<◌, List, ◌++◌, length, take, drop, Option, Some}
-use Rattle.std.specs.Option.{option_map}
-use Rattle.std.proofs.Common.{sym, inr, arith, take-append-drop, ◌∙◌, ap, subst}
-use Rattle.std.proofs.lemmas.List.{length-drop}
-use Rattle.tsp_io.specs.Counts.{one_more}
+use Rattle.std.proofs.Common.{sym, inr, arith, take-append-drop, ◌∙◌, ap, subst, ◌≡◌, ◌⊎◌, ℕ, ◌<◌, List, ◌++◌, length, take, drop, Option, Some}
+use Rattle.std.{proofs.lemmas.List.length-drop, specs.Option.option_map}
+use Rattle.tsp_io.specs.{Counts.one_more, Streams.Grows, declared.link.Bound.Bound}
 use Rattle.tsp_io.specs.Links.{Arrival, Binding, NotesReceive, NotesBind, Tried}
-use Rattle.tsp_io.specs.declared.link.Bound.{Bound}
 use Rattle.tsp_io.specs.declared.link.Bound.TheVariants.{Bound as Made, Failed, OutOfMemory}
-use Rattle.tsp_io.specs.Streams.{Grows}
-use Rattle.tsp_query.specs.Ends.{Outside, KnowsExactly}
-use Rattle.tsp_query.specs.Outside.{after_bind, WritesBeginning}
+use Rattle.tsp_query.specs.{Ends.Outside, Ends.KnowsExactly, Outside.after_bind, Outside.WritesBeginning}
 
 -- not all of a text was written
 pub Says_cut : {E : Type 0} (text line : List ℕ) (meant fault memory end : E) (written now : Option (List ℕ)) (at : ℕ) → line ≡ text → (end ≡ fault) ⊎ (end ≡ memory) → at < length line → Grows written now (take at line) → WritesBeginning text meant fault memory written now end

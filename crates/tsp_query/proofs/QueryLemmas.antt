@@ -1,29 +1,17 @@
 -- Laws of the queries.
-use Rattle.std.proofs.Common.{◌≡◌, ◌≤◌, ◌∙◌, ap, sym, ℕ, ℤ, ◌%◌, List, subst, Option, Some, refl, Bool, true, false, arith}
-use Rattle.std.specs.Prelude.{codes}
+use Rattle.std.proofs.Common.{◌≡◌, ◌≤◌, ◌∙◌, ap, sym, ℕ, ℤ, ◌%◌, List, subst, Option, Some, refl, Bool, true, false, arith, codes}
 use Rattle.tsp_base.specs.Words.{carries_time, carries_hops, MessageValue, body_fits}
-use Rattle.tsp_base.specs.declared.datagram.Datagram.{Datagram}
-use Rattle.tsp_base.specs.declared.datagram.Datagram.TheVariants.{Message}
-use Rattle.tsp_base.specs.declared.kind.Kind.{Kind}
+use Rattle.tsp_base.specs.declared.{datagram.Datagram.Datagram, datagram.Datagram.TheVariants.Message, kind.Kind.Kind, message.Body.Body}
 use Rattle.tsp_base.specs.declared.kind.Kind.TheVariants.{Msite, SetDate, Test}
-use Rattle.tsp_base.specs.declared.message.Body.{Body}
 use Rattle.tsp_base.specs.declared.message.Body.TheVariants.{Nothing, Time as TimeBody}
-use Rattle.tsp_io.specs.Links.{Arrival, Tried}
-use Rattle.tsp_io.specs.declared.link.Link.{Ghosts as LinkOf}
-use Rattle.tsp_io.specs.declared.ticker.Ticker.{Ghosts as TickerOf}
+use Rattle.tsp_io.specs.{Links.Arrival, Links.Tried, declared.link.Link.Ghosts as LinkOf, declared.ticker.Ticker.Ghosts as TickerOf}
 use Rattle.tsp_query.proofs.FaultLemmas.{LinkCounts-from}
-use Rattle.tsp_query.specs.Arrivals.{all_but_first}
-use Rattle.tsp_query.specs.Clocks.{tick_given}
+use Rattle.tsp_query.specs.{Arrivals.all_but_first, Clocks.tick_given, Faults.LinkCounts, Told.AsksOnce, Told.KeepsOn, Told.ReadsWall}
 use Rattle.tsp_query.specs.Ends.{Outside, KnowsExactly, Asks, WaitsSeconds}
-use Rattle.tsp_query.specs.Faults.{LinkCounts}
 use Rattle.tsp_query.specs.Queries.{read_twice, trace_kind, message_with, question_of, stamp, diff_in, end_of, QueryEnds, master_in, heard_in, date_answer}
-use Rattle.tsp_query.specs.declared.ask.AskEnd.{AskEnd}
+use Rattle.tsp_query.specs.declared.{ask.AskEnd.AskEnd, query.QueryEnd.QueryEnd, query.QueryEnd.TheVariants.LinkFault as Faulty}
 use Rattle.tsp_query.specs.declared.ask.AskEnd.TheVariants.{Answer, NoAnswer, LinkFault, OutOfMemory}
-use Rattle.tsp_query.specs.declared.question.Question.{Question}
-use Rattle.tsp_query.specs.declared.question.Question.TheVariants.{OfWord}
-use Rattle.tsp_query.specs.declared.query.QueryEnd.{QueryEnd}
-use Rattle.tsp_query.specs.declared.query.QueryEnd.TheVariants.{LinkFault as Faulty}
-use Rattle.tsp_query.specs.Told.{AsksOnce, KeepsOn, ReadsWall}
+use Rattle.tsp_query.specs.declared.question.Question.{Question, TheVariants.OfWord}
 
 -- the messages of queries carry nothing, but for the one that sets the date
 pub fits-msite : body_fits Msite Nothing ≡ true

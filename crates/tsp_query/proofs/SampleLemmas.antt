@@ -2,8 +2,7 @@
 use Rattle.std.proofs.Common.{◌≡◌, ℕ, ◌≤◌, ◌-◌, ◌/◌, zero, suc, refl, ap, ◌∙◌, ℤ, pos, ◌-ℤ◌, ◌+ℤ◌, arith}
 use Rattle.std.proofs.lemmas.Int.{ints}
 use Rattle.tsp_base.specs.Words.{half_down, half_up, sample_diff, sample_err}
-use Rattle.tsp_query.specs.Clocks.{own_clock}
-use Rattle.tsp_query.specs.declared.query.QueryEnd.TheVariants.{Diff}
+use Rattle.tsp_query.specs.{Clocks.own_clock, declared.query.QueryEnd.TheVariants.Diff}
 
 trip_is : (wall : ℤ) (first sent came : ℕ) → first ≤ sent → sent ≤ came → own_clock wall first came -ℤ own_clock wall first sent ≡ pos (came - sent)
 trip_is wall first sent came h k = omega (arith, ints)

@@ -1,18 +1,13 @@
 -- Which datagrams answer a question, and the first answer among the arrivals.
 use Rattle.std.specs.Prelude.{ℕ, Bool, true, false, ◌&&◌, ◌==◌, if◌then◌else◌, List, [], ◌∷◌, take, Option, Some, None, zero, suc, ◌+◌}
-use Rattle.tsp_base.specs.declared.datagram.Datagram.{Datagram}
-use Rattle.tsp_base.specs.declared.datagram.Datagram.TheVariants.{Message, Stamp}
-use Rattle.tsp_base.specs.declared.datagram.Taken.{Taken}
-use Rattle.tsp_base.specs.declared.datagram.Taken.TheVariants.{Good, Bad}
-use Rattle.tsp_base.specs.declared.kind.Kind.{Kind}
+use Rattle.tsp_base.specs.declared.datagram.{Datagram.Datagram, Datagram.TheVariants.Message, Datagram.TheVariants.Stamp, Taken.Taken}
+use Rattle.tsp_base.specs.declared.{datagram.Taken.TheVariants.Good, datagram.Taken.TheVariants.Bad, kind.Kind.Kind, place.Place.Place}
 use Rattle.tsp_base.specs.declared.kind.Kind.TheVariants.{Ack, DateAck}
-use Rattle.tsp_base.specs.declared.place.Place.{Place}
 use Rattle.tsp_base.specs.declared.place.Place.TheVariants.{Peer, Stranger}
 use Rattle.tsp_base.specs.declared.stamp.Stamp.TheVariants.{Request, Reply}
 use Rattle.tsp_codec.specs.Taken.{taken_of}
 use Rattle.tsp_io.specs.Links.{Arrival}
-use Rattle.tsp_query.specs.declared.question.Question.{Question}
-use Rattle.tsp_query.specs.declared.question.Question.TheVariants.{OfNumber, OfDate, OfWord}
+use Rattle.tsp_query.specs.declared.question.Question.{Question, TheVariants.OfNumber, TheVariants.OfDate, TheVariants.OfWord}
 
 -- whether messages of this kind are ACKs
 abbrev pub is_ack_kind : Kind → Bool

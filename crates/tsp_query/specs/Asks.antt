@@ -3,19 +3,15 @@ use Rattle.std.specs.Prelude.{◌≡◌, ◌⊎◌, ℕ, ℤ, ◌%◌, List, [],
 use Rattle.tsp_base.specs.declared.kind.Kind.TheVariants.{Msite, Test}
 use Rattle.tsp_io.specs.declared.addr.Addr.{Addr}
 use Rattle.tsp_io.specs.Links.{Arrival, Binding, NotesReceive, Tried}
-use Rattle.tsp_query.specs.Arrivals.{all_but_first}
-use Rattle.tsp_query.specs.Clocks.{tick_given}
-use Rattle.tsp_query.specs.Ends.{Outside, KnowsExactly, WaitsSeconds}
+use Rattle.tsp_query.specs.{Arrivals.all_but_first, Clocks.tick_given, Ends.Outside, Ends.KnowsExactly, Ends.WaitsSeconds, Lines.end_line}
 use Rattle.tsp_query.specs.Queries.{message, stamp, trace_kind, date_message, QueryEnds, master_in, heard_in, date_answer, diff_in}
 use Rattle.tsp_query.specs.Outside.{Observed, Knows, after_bind, WritesBeginning}
-use Rattle.tsp_query.specs.declared.query.QueryEnd.{QueryEnd}
 use Rattle.tsp_query.specs.declared.query.QueryEnd.TheVariants.{Master, Diff, Heard, Date as Dated, NoAnswer as Unanswered, LinkFault as Faulty, OutOfMemory as Refused}
 use Rattle.tsp_query.specs.declared.question.Question.TheVariants.{OfNumber, OfDate, OfWord}
 use Rattle.tsp_args.specs.declared.query.Query.{Query}
 use Rattle.tsp_args.specs.declared.query.Query.TheVariants.{Msite as MsiteQuery, ClockDiff, Trace, Election, Date}
-use Rattle.tsp_query.specs.declared.exit.QueryExit.{QueryExit}
+use Rattle.tsp_query.specs.declared.{exit.QueryExit.QueryExit, query.QueryEnd.QueryEnd}
 use Rattle.tsp_query.specs.declared.exit.QueryExit.TheVariants.{Answered, NoAnswer, LinkFault, WriteFault, OutOfMemory}
-use Rattle.tsp_query.specs.Lines.{end_line}
 
 -- how a command ends if its question ends so and its line is written
 abbrev pub asking_of : QueryEnd → QueryExit

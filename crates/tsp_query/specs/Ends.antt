@@ -1,17 +1,12 @@
 -- How asking a daemon ends, and what is left of the outside then.
 use Rattle.std.specs.Prelude.{◌≡◌, ◌⊎◌, ℕ, ◌+◌, ◌<◌, ◌≤◌, ◌^◌, true, List, [], ◌∷◌, ◌++◌, All, Option, Some, None, zero, suc}
-use Rattle.tsp_base.specs.declared.datagram.Datagram.{Datagram}
-use Rattle.tsp_base.specs.declared.place.Place.TheVariants.{Peer}
+use Rattle.tsp_base.specs.declared.{datagram.Datagram.Datagram, place.Place.TheVariants.Peer}
 use Rattle.tsp_codec.specs.Canon.{canon}
-use Rattle.tsp_io.specs.Counts.{Rose, one_more}
-use Rattle.tsp_io.specs.Links.{Arrival, Tried}
+use Rattle.tsp_io.specs.{Counts.Rose, Counts.one_more, Links.Arrival, Links.Tried}
 use Rattle.tsp_query.specs.Arrivals.{answers, answer_in, next_arrival, all_but_first, first_answer}
-use Rattle.tsp_query.specs.Clocks.{tick_given}
-use Rattle.tsp_query.specs.declared.ask.AskEnd.{AskEnd}
+use Rattle.tsp_query.specs.{Clocks.tick_given, declared.ask.AskEnd.AskEnd, declared.ask.Heard.Heard, declared.question.Question.Question}
 use Rattle.tsp_query.specs.declared.ask.AskEnd.TheVariants.{Answer, NoAnswer, LinkFault, OutOfMemory}
-use Rattle.tsp_query.specs.declared.ask.Heard.{Heard}
 use Rattle.tsp_query.specs.declared.ask.Heard.TheVariants.{Answer as HeardAnswer, Other, Failed}
-use Rattle.tsp_query.specs.declared.question.Question.{Question}
 
 -- what a link and a ticker hold, if all of it is known: the arrivals to come, the sends that were tried, the number of
 -- binds and receives, the ticks still to be read, and the last tick that was read

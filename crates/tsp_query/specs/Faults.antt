@@ -1,7 +1,6 @@
 -- How a call leaves counts of faults.
 use Rattle.std.specs.Prelude.{◌≡◌, ◌⊎◌, ◌≤◌}
-use Rattle.tsp_io.specs.Counts.{Rose}
-use Rattle.tsp_io.specs.declared.link.Link.{Ghosts as LinkOf}
+use Rattle.tsp_io.specs.{Counts.Rose, declared.link.Link.Ghosts as LinkOf}
 pub use Rattle.tsp_lines.specs.Faults.{Counts}
 
 -- what `Counts` says of one count, of a link's two, that of failed binds and receives and that of failed sends: this

@@ -4,9 +4,7 @@ use Rattle.std.specs.Fmt.{signed_decimal}
 use Rattle.tsp_query.specs.declared.query.QueryEnd.{QueryEnd}
 use Rattle.tsp_query.specs.declared.query.QueryEnd.TheVariants.{Master, Diff, Heard, Date as Dated, NoAnswer, LinkFault, OutOfMemory}
 use Rattle.tsp_script.specs.Texts.{name_text, space}
-use Rattle.tsp_args.specs.Queries.{switch_word}
-use Rattle.tsp_args.specs.declared.query.Query.{Query}
-use Rattle.tsp_args.specs.declared.query.Query.TheVariants.{Trace}
+use Rattle.tsp_args.specs.{Queries.switch_word, declared.query.Query.Query, declared.query.Query.TheVariants.Trace}
 
 -- the line of a master's name; the empty name means that the daemon knows of none
 abbrev pub master_line : List ℕ → List ℕ

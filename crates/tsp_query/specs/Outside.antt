@@ -1,11 +1,7 @@
 -- What is known of the outside of a command: of a link, a ticker and a sink.
 use Rattle.std.specs.Prelude.{◌≡◌, ◌⊎◌, ◌<◌, ℕ, ℤ, List, ◌++◌, length, Option, Some}
-use Rattle.tsp_io.specs.Counts.{one_more}
-use Rattle.tsp_io.specs.Links.{Arrival, Binding, Tried}
-use Rattle.tsp_io.specs.Streams.{Grows}
-use Rattle.tsp_io.specs.declared.link.Link.{Ghosts as LinkOf}
-use Rattle.tsp_io.specs.declared.sink.Sink.{Ghosts as SinkOf}
-use Rattle.tsp_io.specs.declared.ticker.Ticker.{Ghosts as TickerOf}
+use Rattle.tsp_io.specs.{Counts.one_more, Links.Arrival, Links.Binding, Links.Tried, Streams.Grows, declared.link.Link.Ghosts as LinkOf}
+use Rattle.tsp_io.specs.declared.{sink.Sink.Ghosts as SinkOf, ticker.Ticker.Ghosts as TickerOf}
 use Rattle.tsp_query.specs.Ends.{Outside, KnowsExactly}
 
 -- what they hold, each part None if it isn't told

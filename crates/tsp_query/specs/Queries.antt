@@ -1,25 +1,15 @@
 -- The questions to a daemon, and how each ends.
 use Rattle.std.specs.Prelude.{◌≡◌, ℕ, ℤ, pos, ◌%◌, Bool, true, false, List, [], Option, Some, codes}
-use Rattle.tsp_base.specs.Words.{sample_diff, sample_err}
-use Rattle.tsp_base.specs.declared.datagram.Datagram.{Datagram}
-use Rattle.tsp_base.specs.declared.datagram.Datagram.TheVariants.{Message, Stamp}
-use Rattle.tsp_base.specs.declared.kind.Kind.{Kind}
+use Rattle.tsp_base.specs.{Words.sample_diff, Words.sample_err, declared.datagram.Datagram.Datagram, declared.kind.Kind.Kind}
+use Rattle.tsp_base.specs.declared.{datagram.Datagram.TheVariants.Message, datagram.Datagram.TheVariants.Stamp, message.Body.Body}
 use Rattle.tsp_base.specs.declared.kind.Kind.TheVariants.{TraceOn, TraceOff, SetDate, DateAck}
-use Rattle.tsp_base.specs.declared.message.Body.{Body}
 use Rattle.tsp_base.specs.declared.message.Body.TheVariants.{Nothing, Time as TimeBody}
 use Rattle.tsp_base.specs.declared.stamp.Stamp.TheVariants.{Request, Reply}
-use Rattle.tsp_io.specs.Links.{Arrival, Tried}
-use Rattle.tsp_io.specs.declared.link.Link.{Ghosts as LinkOf}
-use Rattle.tsp_io.specs.declared.ticker.Ticker.{Ghosts as TickerOf}
-use Rattle.tsp_query.specs.Arrivals.{all_but_first}
-use Rattle.tsp_query.specs.Clocks.{tick_given, own_clock}
-use Rattle.tsp_query.specs.Ends.{Outside, KnowsExactly, Asks}
-use Rattle.tsp_query.specs.Told.{HoldsOf}
-use Rattle.tsp_query.specs.declared.ask.AskEnd.{AskEnd}
+use Rattle.tsp_io.specs.{Links.Arrival, Links.Tried, declared.link.Link.Ghosts as LinkOf, declared.ticker.Ticker.Ghosts as TickerOf}
+use Rattle.tsp_query.specs.{Arrivals.all_but_first, Clocks.tick_given, Clocks.own_clock, Ends.Outside, Ends.KnowsExactly, Ends.Asks}
+use Rattle.tsp_query.specs.{Told.HoldsOf, declared.ask.AskEnd.AskEnd, declared.query.QueryEnd.QueryEnd, declared.question.Question.Question}
 use Rattle.tsp_query.specs.declared.ask.AskEnd.TheVariants.{Answer, NoAnswer as Unanswered, LinkFault as Faulty, OutOfMemory as Refused}
-use Rattle.tsp_query.specs.declared.question.Question.{Question}
 use Rattle.tsp_query.specs.declared.question.Question.TheVariants.{OfNumber, OfDate}
-use Rattle.tsp_query.specs.declared.query.QueryEnd.{QueryEnd}
 use Rattle.tsp_query.specs.declared.query.QueryEnd.TheVariants.{Master, Diff, Heard, Date, NoAnswer, LinkFault, OutOfMemory}
 
 -- the outside after the tick counter was read twice

@@ -1,10 +1,7 @@
 -- What is told of a link and a ticker before a call and after it.
 use Rattle.std.specs.Prelude.{◌≡◌, ◌≤◌, ℕ, List, Option, Some}
-use Rattle.tsp_io.specs.Links.{Arrival, Tried}
-use Rattle.tsp_io.specs.declared.link.Link.{Ghosts as LinkOf}
-use Rattle.tsp_io.specs.declared.ticker.Ticker.{Ghosts as TickerOf}
-use Rattle.tsp_query.specs.Arrivals.{all_but_first}
-use Rattle.tsp_query.specs.Ends.{WaitsSeconds}
+use Rattle.tsp_io.specs.{Links.Arrival, Links.Tried, declared.link.Link.Ghosts as LinkOf, declared.ticker.Ticker.Ghosts as TickerOf}
+use Rattle.tsp_query.specs.{Arrivals.all_but_first, Ends.WaitsSeconds}
 
 -- this holds of what a link and a ticker tell: of the arrivals to come, the sends that were tried, the number of calls,
 -- the readings to come, and the last one

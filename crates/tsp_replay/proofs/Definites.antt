@@ -1,19 +1,13 @@
 -- What lines mean to a replay is definite, and a schedule's text has the answer that is due.
-use Rattle.std.proofs.Common.{◌≡◌, ℕ, ◌≤◌, inl, inr, List, [], ◌∷◌, ◌++◌, sym, ap, ◌∙◌, subst, length, append-nil}
-use Rattle.std.specs.Prelude.{reverse, ◌==◌, Bool, true, false, if◌then◌else◌, refl}
-use Rattle.tsp_base.specs.declared.event.Event.{Event}
-use Rattle.tsp_base.specs.Words.{HeaderValue}
+use Rattle.std.proofs.Common.{◌≡◌, ℕ, ◌≤◌, inl, inr, List, [], ◌∷◌, ◌++◌, sym, ap, ◌∙◌, subst, length, append-nil, reverse, ◌==◌, Bool, true, false, if◌then◌else◌, refl}
+use Rattle.tsp_base.specs.{Words.HeaderValue, declared.event.Event.Event}
 use Rattle.tsp_schedule.proofs.Definites.{Lacks-not_ended, Lacks-one, Refuses-one, Refuses-within}
 use Rattle.tsp_schedule.proofs.OneReading.{Reaches-one, GoesOn-not_refused, GoesOn-not_limited}
 use Rattle.tsp_schedule.specs.Schedules.{Progress, Untitled, Titled, Drifted, Heading, Running, Ended, Lacks, IsEnded, new_header}
-use Rattle.tsp_lines.specs.Answers.{IsAnswer}
-use Rattle.tsp_lines.specs.Definite.{IsDefinite}
-use Rattle.tsp_lines.specs.declared.treat.Outcome.TheVariants.{Ok as Done}
-use Rattle.tsp_replay.proofs.TraceLemmas.{reverse-more, trace-more}
-use Rattle.tsp_replay.specs.Meaning.{IsScheduleText, Replays, replaying}
-use Rattle.tsp_replay.proofs.Places.{RunsOn, GoesOn}
+use Rattle.tsp_lines.specs.{Answers.IsAnswer, Definite.IsDefinite, declared.treat.Outcome.TheVariants.Ok as Done}
+use Rattle.tsp_replay.specs.{Meaning.IsScheduleText, Meaning.Replays, Meaning.replaying, Traces.lines_text, Traces.trace, Traces.written_at}
+use Rattle.tsp_replay.proofs.{Places.RunsOn, Places.GoesOn, TraceLemmas.reverse-more, TraceLemmas.trace-more}
 use Rattle.tsp_replay.specs.Schedules.{refused, Reaches, Refuses}
-use Rattle.tsp_replay.specs.Traces.{lines_text, trace, written_at}
 use Rattle.tsp_run.specs.Run.{gained}
 
 -- what is written goes on with each line

@@ -1,13 +1,9 @@
 -- A text is one schedule's.
-use Rattle.std.proofs.Common.{◌≡◌, ℕ, List}
-use Rattle.std.specs.Prelude.{reverse}
-use Rattle.tsp_base.specs.declared.event.Event.{Event}
-use Rattle.tsp_base.specs.Words.{HeaderValue}
-use Rattle.tsp_schedule.proofs.OneReading.{Reaches-one}
-use Rattle.tsp_schedule.specs.Schedules.{Ended}
+use Rattle.std.proofs.Common.{◌≡◌, ℕ, List, reverse}
+use Rattle.tsp_base.specs.{Words.HeaderValue, declared.event.Event.Event}
+use Rattle.tsp_schedule.{proofs.OneReading.Reaches-one, specs.Schedules.Ended}
 use Rattle.tsp_lines.proofs.OneCut.{AreLines-one}
-use Rattle.tsp_replay.specs.Meaning.{IsSchedule}
-use Rattle.tsp_replay.specs.Schedules.{refused}
+use Rattle.tsp_replay.specs.{Meaning.IsSchedule, Schedules.refused}
 
 -- a text is one schedule's
 pub IsSchedule-one : (octets : List ℕ) (header other : HeaderValue) (events others : List Event) → IsSchedule octets header events → IsSchedule octets other others → (header ≡ other) × (events ≡ others)

@@ -1,14 +1,10 @@
 -- The places of a schedule whose events meet a world.
 use Rattle.std.specs.Prelude.{ℕ, List}
-use Rattle.tsp_base.specs.declared.event.Event.{Event}
-use Rattle.tsp_base.specs.Words.{HeaderValue}
-use Rattle.tsp_schedule.specs.declared.stage.Stage.{Stage}
-use Rattle.tsp_schedule.specs.Schedules.{Progress, RunsOn as RunsOnBy, GoesOn as GoesOnBy}
+use Rattle.tsp_base.specs.{Words.HeaderValue, declared.event.Event.Event}
+use Rattle.tsp_schedule.specs.{Schedules.Progress, Schedules.RunsOn as RunsOnBy, Schedules.GoesOn as GoesOnBy, declared.stage.Stage.Stage}
 use Rattle.tsp_schedule.specs.Stages.{Advances as AdvancesBy, Halts as HaltsBy, StageStands as StageStandsBy}
 use Rattle.tsp_lines.specs.declared.treatment.Stop.{Stop}
-use Rattle.tsp_replay.specs.declared.replayed.Replayed.{Replayed}
-use Rattle.tsp_replay.specs.Schedules.{refused}
-use Rattle.tsp_replay.specs.Stages.{stands}
+use Rattle.tsp_replay.specs.{Schedules.refused, Stages.stands, declared.replayed.Replayed.Replayed}
 
 -- behind the header a line is an event that nothing refuses, or the last
 abbrev pub RunsOn : HeaderValue → List Event → List ℕ → Progress → Type 0

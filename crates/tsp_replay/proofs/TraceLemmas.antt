@@ -1,17 +1,13 @@
 -- How the trace grows, and how lists of lines are read.
-use Rattle.std.specs.Prelude.{◌≡◌, ℕ, List, [], ◌∷◌, ◌++◌, reverse, refl, ◌==◌, Bool, true, false, if◌then◌else◌}
-use Rattle.std.proofs.Common.{sym, ap, ◌∙◌, inl, inr, subst, append-nil}
-use Rattle.std.proofs.lemmas.List.{reverse-append}
-use Rattle.std.proofs.lemmas.Grind.{flat_map-append}
-use Rattle.tsp_base.specs.declared.event.Event.{Event}
-use Rattle.tsp_base.specs.Words.{HeaderValue}
+use Rattle.std.proofs.Common.{sym, ap, ◌∙◌, inl, inr, subst, append-nil, ◌≡◌, ℕ, List, [], ◌∷◌, ◌++◌, reverse, refl, ◌==◌, Bool, true, false, if◌then◌else◌}
+use Rattle.std.proofs.lemmas.{Grind.flat_map-append, List.reverse-append}
+use Rattle.tsp_base.specs.{Words.HeaderValue, declared.event.Event.Event}
 use Rattle.tsp_run.specs.Run.{told, gained}
 use Rattle.tsp_schedule.specs.declared.stage.Stage.{Stage}
 use Rattle.tsp_schedule.specs.declared.stage.Stage.TheVariants.{Untitled as AtUntitled, Titled as AtTitled, Drifted as AtDrifted, Heading as AtHeading, Running as AtRunning}
 use Rattle.tsp_schedule.specs.Schedules.{Progress, Untitled, Titled, Drifted, Heading, Running, Ended, new_header}
 use Rattle.tsp_replay.proofs.Places.{GoesOn, RunsOn, StageStands}
-use Rattle.tsp_replay.specs.declared.replayed.Replayed.{Replayed}
-use Rattle.tsp_replay.specs.Stages.{told_at}
+use Rattle.tsp_replay.specs.{Stages.told_at, declared.replayed.Replayed.Replayed}
 use Rattle.tsp_replay.specs.Traces.{line_text, lines_text, trace, written_at}
 
 -- one line more, read back

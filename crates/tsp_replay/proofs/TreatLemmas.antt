@@ -1,20 +1,12 @@
 -- How the treatment of a line comes out.
-use Rattle.std.specs.Prelude.{◌≡◌, ℕ, List, [], ◌∷◌, ◌++◌, reverse, refl, Option}
-use Rattle.std.proofs.Common.{sym, ap, ◌∙◌, inl, inr, subst}
-use Rattle.tsp_lines.specs.declared.treatment.Stop.{Stop}
+use Rattle.std.proofs.Common.{sym, ap, ◌∙◌, inl, inr, subst, ◌≡◌, ℕ, List, [], ◌∷◌, ◌++◌, reverse, refl, Option}
 use Rattle.tsp_lines.specs.declared.treatment.Stop.TheVariants.{Bad, Limit, WriteFault, OutOfMemory}
-use Rattle.tsp_lines.specs.Meanings.{Goes, StopsAt}
-use Rattle.tsp_lines.specs.Outputs.{Hands}
+use Rattle.tsp_lines.specs.{Meanings.Goes, Meanings.StopsAt, Outputs.Hands, declared.treatment.Stop.Stop}
 use Rattle.tsp_lines.proofs.Outputs.{Hands-nil}
-use Rattle.tsp_schedule.specs.declared.stage.Stage.{Stage}
-use Rattle.tsp_replay.specs.Meaning.{replaying, Replays}
-use Rattle.tsp_schedule.specs.Schedules.{Progress}
-use Rattle.tsp_replay.specs.Schedules.{Reaches}
-use Rattle.tsp_replay.specs.declared.replayed.Replayed.{Replayed}
-use Rattle.tsp_replay.proofs.Places.{StageStands, Advances, Halts}
-use Rattle.tsp_replay.specs.Stages.{ReplayStands, told_at, HandsBeginning}
-use Rattle.tsp_replay.specs.Traces.{lines_text, written_at}
-use Rattle.tsp_replay.proofs.TraceLemmas.{reverse-more, written_at-more}
+use Rattle.tsp_replay.specs.{Meaning.replaying, Meaning.Replays, Schedules.Reaches, Traces.lines_text, Traces.written_at}
+use Rattle.tsp_schedule.specs.{Schedules.Progress, declared.stage.Stage.Stage}
+use Rattle.tsp_replay.proofs.{Places.StageStands, Places.Advances, Places.Halts, TraceLemmas.reverse-more, TraceLemmas.written_at-more}
+use Rattle.tsp_replay.specs.{Stages.ReplayStands, Stages.told_at, Stages.HandsBeginning, declared.replayed.Replayed.Replayed}
 
 accepted : (lines : List (List ℕ)) (text line : List ℕ) (p : Progress) (next : Stage Replayed) → Reaches (reverse lines) p → text ≡ written_at p → Advances p line next → Replays (lines ++ line ∷ []) (text ++ lines_text (told_at next))
 accepted lines text line p next reaches text_is a = (

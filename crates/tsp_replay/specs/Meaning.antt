@@ -1,12 +1,9 @@
 -- What lines mean to the replay of a schedule.
 use Rattle.std.specs.Prelude.{◌≡◌, ℕ, List, [], reverse, All}
-use Rattle.tsp_base.specs.declared.event.Event.{Event}
-use Rattle.tsp_base.specs.Words.{HeaderValue}
-use Rattle.tsp_lines.specs.Lines.{NoFeed, AreLines}
-use Rattle.tsp_lines.specs.Meanings.{Meaning}
+use Rattle.tsp_base.specs.{Words.HeaderValue, declared.event.Event.Event}
+use Rattle.tsp_lines.specs.{Lines.NoFeed, Lines.AreLines, Meanings.Meaning}
 use Rattle.tsp_schedule.specs.Schedules.{Progress, Ended, Lacks, IsEnded}
-use Rattle.tsp_replay.specs.Schedules.{Reaches, Refuses, Limits}
-use Rattle.tsp_replay.specs.Traces.{written_at}
+use Rattle.tsp_replay.specs.{Schedules.Reaches, Schedules.Refuses, Schedules.Limits, Traces.written_at}
 
 -- octets are the text of a schedule: a header, events, the newest first, and the last line
 abbrev pub IsSchedule : List ℕ → HeaderValue → List Event → Type 0

@@ -1,8 +1,6 @@
 -- Schedules whose events a world handles: how far one is after some lines, and why a line is refused.
 use Rattle.std.specs.Prelude.{ℕ, List, Option}
-use Rattle.tsp_base.specs.declared.event.Event.{Event}
-use Rattle.tsp_base.specs.declared.event.EventFault.{EventFault}
-use Rattle.tsp_base.specs.Words.{HeaderValue}
+use Rattle.tsp_base.specs.{Words.HeaderValue, declared.event.Event.Event, declared.event.EventFault.EventFault}
 use Rattle.tsp_schedule.specs.Schedules.{Progress, Reaches as ReachesBy, Refuses as RefusesBy, Limits as LimitsBy}
 use Rattle.tsp_run.specs.Refusals.{scene, refusal}
 

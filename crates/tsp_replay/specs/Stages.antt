@@ -1,16 +1,11 @@
 -- What a stage of the replay stands for, and the lines that it gives.
 use Rattle.std.specs.Prelude.{◌≡◌, ℕ, if◌then◌else◌, List, [], ◌++◌, Option}
-use Rattle.tsp_base.specs.declared.event.Event.{Event}
-use Rattle.tsp_base.specs.Words.{HeaderValue}
-use Rattle.tsp_schedule.specs.declared.run.Run.{Run}
-use Rattle.tsp_schedule.specs.declared.stage.Stage.{Stage}
+use Rattle.tsp_base.specs.{Words.HeaderValue, declared.event.Event.Event}
 use Rattle.tsp_schedule.specs.declared.stage.Stage.TheVariants.{Untitled as AtUntitled, Titled as AtTitled, Drifted as AtDrifted, Heading as AtHeading, Running as AtRunning}
-use Rattle.tsp_schedule.specs.Stages.{StageHolds as StandsBy}
-use Rattle.tsp_lines.specs.Outputs.{Hands}
-use Rattle.tsp_lines.specs.declared.treatment.Stop.{Stop}
+use Rattle.tsp_schedule.specs.{Stages.StageHolds as StandsBy, declared.run.Run.Run, declared.stage.Stage.Stage}
+use Rattle.tsp_lines.specs.{Outputs.Hands, declared.treatment.Stop.Stop}
 use Rattle.tsp_lines.specs.declared.treatment.Stop.TheVariants.{Bad, Limit, WriteFault, OutOfMemory}
-use Rattle.tsp_replay.specs.declared.replayed.Replayed.{Replayed}
-use Rattle.tsp_replay.specs.Schedules.{refused}
+use Rattle.tsp_replay.specs.{Schedules.refused, declared.replayed.Replayed.Replayed}
 use Rattle.tsp_run.specs.declared.line.Line.{Line}
 use Rattle.tsp_world.specs.WorldStands.{WorldStands}
 

@@ -1,10 +1,8 @@
 -- The trace of a schedule's run.
 use Rattle.std.specs.Prelude.{ℕ, List, [], ◌∷◌, ◌++◌, flat_map, Option, None, Some}
-use Rattle.tsp_base.specs.declared.event.Event.{Event}
-use Rattle.tsp_base.specs.Words.{HeaderValue}
+use Rattle.tsp_base.specs.{Words.HeaderValue, declared.event.Event.Event}
 use Rattle.tsp_script.specs.Traces.{trace_text}
-use Rattle.tsp_run.specs.declared.line.Line.{Line}
-use Rattle.tsp_run.specs.Run.{told}
+use Rattle.tsp_run.specs.{Run.told, declared.line.Line.Line}
 use Rattle.tsp_schedule.specs.Schedules.{Progress, Untitled, Titled, Drifted, Heading, Running, Ended}
 
 -- a post's number; 0 for other acts, whose lines don't show it

@@ -1,8 +1,6 @@
 -- Marks that are all taken away.
-use Rattle.std.specs.Prelude.{◌≡◌, ℕ, zero, suc, ◌+◌, ◌<◌, ◌≤◌, Bool, false, List, [], ◌∷◌, ◌++◌, length, take, drop, set, replicate, refl}
-use Rattle.std.proofs.Common.{◌∙◌, ap, sym, arith, append-nil, get_or}
-use Rattle.std.proofs.Math.Seq.{take-append_seam}
-use Rattle.std.proofs.lemmas.List.{drop_more, length-replicate, set_at}
+use Rattle.std.proofs.Common.{◌∙◌, ap, sym, arith, append-nil, get_or, ◌≡◌, ℕ, zero, suc, ◌+◌, ◌<◌, ◌≤◌, Bool, false, List, [], ◌∷◌, ◌++◌, length, take, drop, set, replicate, refl}
+use Rattle.std.proofs.{Math.Seq.take-append_seam, lemmas.List.drop_more, lemmas.List.length-replicate, lemmas.List.set_at}
 
 replicate_front : (n : ℕ) (ys : List Bool) → replicate n false ++ false ∷ ys ≡ false ∷ (replicate n false ++ ys)
 replicate_front zero ys = refl

@@ -1,23 +1,17 @@
 -- What a port's marks of rivals stand for after more acts.
-use Rattle.std.specs.Prelude.{◌≡◌, ◌≢◌, ℕ, ◌==◌, ◌||◌, ◌&&◌, not, Bool, true, false, if◌then◌else◌, List, [], ◌∷◌, ◌++◌, length, is_some, Some, None, refl}
-use Rattle.std.proofs.Common.{◌∙◌, ap, sym, subst, eqb-true}
-use Rattle.std.proofs.lemmas.Bool.{false≢true, or_parts, not-false}
-use Rattle.std.proofs.lemmas.List.Elements.{filter_agree}
+use Rattle.std.proofs.Common.{◌∙◌, ap, sym, subst, eqb-true, ◌≡◌, ◌≢◌, ℕ, ◌==◌, ◌||◌, ◌&&◌, not, Bool, true, false, if◌then◌else◌, List, [], ◌∷◌, ◌++◌, length, is_some, Some, None, refl}
+use Rattle.std.proofs.lemmas.{Bool.false≢true, Bool.or_parts, Bool.not-false, List.Elements.filter_agree}
 use Rattle.tsp_rules.specs.Values.{Act, Boot, Become, Ring, Rival, Placed, Alarm, ResolveAlarm, PeerId, Port, Role, Master}
 use Rattle.tsp_base.specs.Words.{deadline, Step, Acts, Seen, Here, Past, is_among, IsPeers, Performs, Keeps, is_rival, is_rival_after, role, role_after, Row, added, grown, nothing, puts}
 use Rattle.tsp_base.proofs.PerformsLemmas.{Performs_else_part, Performs_nothing, Performs_then_part, Performs_to}
-use Rattle.tsp_rules.specs.ResolveRows.{finds_rival, is_new_rival}
-use Rattle.tsp_rules.specs.Guards.{rivals_at}
+use Rattle.tsp_rules.specs.{Guards.rivals_at, ResolveRows.finds_rival, ResolveRows.is_new_rival}
 use Rattle.tsp_rules.proofs.Emits.{Sort, Taking, Asking, Correcting, Numbering, Passing, Posting, Leading, Following, Changing, Backing, Counting, Rounding, Alarming, Tabling, Acking, Giving, Sampling, Closing, Moving, Tracing, AllOf, Emits, Keeps_by, is_in, sort_of}
 use Rattle.tsp_rules.proofs.EmitsTables.{changes, is_change}
-use Rattle.tsp_acks.specs.declared.station.Station.{Station}
-use Rattle.tsp_acks.specs.Stands.{StationStands, StandsActing}
+use Rattle.tsp_acks.specs.{Stands.StationStands, Stands.StandsActing, declared.station.Station.Station}
 use Rattle.tsp_acks.proofs.StandsLemmas.{Stands_idle}
-use Rattle.tsp_resolve.specs.declared.resolve.Resolve.{Resolve}
-use Rattle.tsp_resolve.specs.Marked.{marked}
-use Rattle.tsp_resolve.specs.ResolveStands.{ResolveStands, ResolvingActs, ResolvingStands}
+use Rattle.tsp_resolve.specs.{Marked.marked, ResolveStands.ResolveStands, ResolveStands.ResolvingActs, ResolveStands.ResolvingStands}
 use Rattle.tsp_base.proofs.AscendingLemmas.{Rise-peers}
-use Rattle.tsp_resolve.proofs.MarkedLemmas.{marked-filter}
+use Rattle.tsp_resolve.{proofs.MarkedLemmas.marked-filter, specs.declared.resolve.Resolve.Resolve}
 
 -- all sorts of acts but Boot and Rival
 abbrev pub rivalless : List Sort

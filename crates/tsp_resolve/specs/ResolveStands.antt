@@ -2,10 +2,8 @@
 use Rattle.std.specs.Prelude.{◌≡◌, ◌≢◌, true, false, length}
 use Rattle.tsp_rules.specs.Values.{PeerId, Master}
 use Rattle.tsp_base.specs.Words.{Past, is_among, acting, is_rival, role}
-use Rattle.tsp_acks.specs.declared.station.Station.{Station}
-use Rattle.tsp_acks.specs.Stands.{StationStands}
-use Rattle.tsp_resolve.specs.declared.resolve.Resolve.{Resolve}
-use Rattle.tsp_resolve.specs.Marked.{marked}
+use Rattle.tsp_acks.specs.{Stands.StationStands, declared.station.Station.Station}
+use Rattle.tsp_resolve.specs.{Marked.marked, declared.resolve.Resolve.Resolve}
 
 -- there is a mark for each peer, the marked ones are the rivals, and a port that isn't master has none
 pub record ResolveStands (past : Past) (resolve : Resolve) : Type 0 where

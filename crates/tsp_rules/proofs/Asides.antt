@@ -1,9 +1,7 @@
 -- A port's past after acts of its node on another port.
-use Rattle.std.specs.Prelude.{◌≡◌, ℕ, ◌==◌, false, List, ◌∷◌}
-use Rattle.std.proofs.Common.{ap}
-use Rattle.tsp_rules.specs.Values.{Act, Port}
+use Rattle.std.proofs.Common.{ap, ◌≡◌, ℕ, ◌==◌, false, List, ◌∷◌}
 use Rattle.tsp_base.specs.Words.{Did, Acts, Elsewhere, Past, placed}
-use Rattle.tsp_rules.specs.NodeRows.{NodePast, on_port, spread}
+use Rattle.tsp_rules.specs.{NodeRows.NodePast, NodeRows.on_port, NodeRows.spread, Values.Act, Values.Port}
 use Rattle.tsp_rules.proofs.NodeRowLemmas.{passed, Bootless, view_other}
 
 -- an act done now

@@ -2,12 +2,10 @@
 -- are known. A row stands beside the row that it is where its peers are renamed: a property of one row looks at the first of the
 -- two, one of both at both.
 use Rattle.std.specs.Prelude.{◌≡◌, ℕ, ◌+◌, nat_le, ℤ, ◌-ℤ◌, Bool, true, ◌&&◌, if◌then◌else◌, List, [], ◌∷◌, Option, None, Some}
-use Rattle.tsp_rules.specs.Values.{PeerId}
 use Rattle.tsp_base.specs.Words.{Past, Estimate, Row, Sending, nothing, ◌followed_by◌, either_by, reading, for_each}
 use Rattle.tsp_rules.specs.RoundRows.{closes, corrects_by, is_near, moves, round_at}
-use Rattle.tsp_rules.specs.SendRows.{open_at, peers_at}
 use Rattle.tsp_rules.proofs.Emits.{Sort, Closing, Rounding, is_part}
-use Rattle.tsp_rules.specs.Renames.{Naming, later_send}
+use Rattle.tsp_rules.specs.{Renames.Naming, Renames.later_send, SendRows.open_at, SendRows.peers_at, Values.PeerId}
 use Rattle.tsp_rules.proofs.RowCodes.{ANumber, ASend, ATime, Fact, Leaf, Listed, Owed, Test, Value, Valued, no, yes}
 
 -- what a correction of a measured peer owes

@@ -1,13 +1,9 @@
 -- How a row over a node's ports is made, once for each row: of rows of single ports, and of the words that such rows are put together with.
 use Rattle.std.specs.Prelude.{◌≡◌, ℕ, ◌+◌, ◌*◌, nat_le, Bool, true, ◌&&◌, if◌then◌else◌, List, []}
-use Rattle.tsp_rules.specs.Values.{Kind, Port}
 use Rattle.tsp_base.specs.Words.{Row}
-use Rattle.tsp_rules.specs.GateRows.{other_ports, ports_from, stirred_ports}
+use Rattle.tsp_rules.specs.{GateRows.other_ports, GateRows.ports_from, GateRows.stirred_ports, Values.Kind, Values.Port}
 use Rattle.tsp_rules.specs.NodeRows.{NodePast, NodeRow, nothing_at_all, on, ◌and_then◌, for_ports, stirring}
-use Rattle.tsp_rules.proofs.Emits.{Sort}
-use Rattle.tsp_rules.proofs.Unchanged.{unchanged}
-use Rattle.tsp_rules.proofs.RowCodes.{Owed}
-use Rattle.tsp_rules.proofs.Built.{Built}
+use Rattle.tsp_rules.proofs.{Built.Built, Emits.Sort, RowCodes.Owed, Unchanged.unchanged}
 
 -- nothing is known of a port
 abbrev pub AnyPort : Port → Type 0

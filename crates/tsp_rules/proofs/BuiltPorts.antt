@@ -2,15 +2,13 @@
 use Rattle.std.specs.Prelude.{◌≡◌, ℕ, Bool, true, false, List, length, refl}
 use Rattle.tsp_rules.specs.Values.{Alarm, Quiet, Search, Elect, Window, Probe, Round, CloseAlarm, ResolveAlarm, Message, Taken, Good, Bad, Stamp, Kind, LoopKind, Place, Port}
 use Rattle.tsp_base.specs.Words.{MessageValue}
-use Rattle.tsp_rules.specs.Answers.{rings, takes}
 use Rattle.tsp_rules.specs.GateRows.{alarm_on, alarms_on, all_ports, begins_round_on, boots_on, closes_on, ends_probes, forwards, heeds_loop, hears_on, in_charge, is_awake_on, judge, judges, leads_clock, LoopStep, PassOver, GiveUp, Forward, loops_after, probes_on, reposts_on, steers, takes_kind, takes_loop, takes_loop_step, takes_message, takes_on, turns_on, waits, stirred_ports}
 use Rattle.tsp_rules.specs.NodeRows.{on_port, for_ports, reading_all, stirring}
 use Rattle.tsp_rules.proofs.RowCodes.{AMessage, ANumber, APlace, ATaken, Any, Owed}
 use Rattle.tsp_rules.proofs.BuiltAll.{BuiltAll, EachPort, EmptyAll, ForPorts, MoreAll, On, OtherPorts, ReadingAll, StirredPorts, StirringAll, ThenAll, WhereAll}
-use Rattle.tsp_rules.proofs.Unchanged.{comes_unchanged}
 use Rattle.tsp_rules.proofs.BuiltAnswers.{Owes, built_rings, built_takes, built_took}
 use Rattle.tsp_rules.proofs.BuiltGate.{built_loosens_master, built_reposts, built_sends_loops, built_starts}
-use Rattle.tsp_rules.proofs.BuiltSends.{built_due_sends}
+use Rattle.tsp_rules.{proofs.BuiltSends.built_due_sends, proofs.Unchanged.comes_unchanged, specs.Answers.rings, specs.Answers.takes}
 
 -- what is owed for a LOOP, if it is passed on
 abbrev pub OwesStep : Owed → LoopStep → Type 0

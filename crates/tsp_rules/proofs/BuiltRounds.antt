@@ -4,10 +4,9 @@ use Rattle.tsp_rules.specs.Values.{Ring, Late, Abandon, Leave, Round, Probe, Clo
 use Rattle.tsp_base.specs.Words.{Estimate, OpenRequest, ReplyValue}
 use Rattle.tsp_rules.specs.RoundRows.{asks_slaves, round_begins, begins_or_waits, round_rings, asks_measured, arms_next, abandons, probe_rings, samples_request, samples, is_near, corrects_by, moves, close_rings, abandons_going}
 use Rattle.tsp_rules.proofs.Emits.{Sort, Asking, Correcting, Posting, Alarming, Rounding, Tabling, Sampling, Closing, Moving}
-use Rattle.tsp_rules.specs.Renames.{Naming}
 use Rattle.tsp_rules.proofs.RowCodes.{ATicket, Owed, Puts, Arms, Asks, Adjusts, Samples, ToOthers, RequestAt, TargetAt, Measured, Table, HasMore, InTime, IsGoing}
 use Rattle.tsp_rules.proofs.Built.{Built, Corrects, Empty, At, Then, If, Reading, Each, Closes, More, Wider, whichever}
-use Rattle.tsp_rules.proofs.BuiltSends.{built_begins_adjtime, built_begins_settime}
+use Rattle.tsp_rules.{proofs.BuiltSends.built_begins_adjtime, proofs.BuiltSends.built_begins_settime, specs.Renames.Naming}
 
 -- a round begins, goes on or is given up
 abbrev pub asking_sorts : List Sort

@@ -1,6 +1,5 @@
 -- How the rows are made of a port that is Starting, Loose or follows.
-use Rattle.std.specs.Prelude.{◌≡◌, ◌≢◌, ℕ, ◌==◌, ℤ, true, false, List, [], ◌∷◌, refl}
-use Rattle.std.proofs.Common.{true≢false}
+use Rattle.std.proofs.Common.{true≢false, ◌≡◌, ◌≢◌, ℕ, ◌==◌, ℤ, true, false, List, [], ◌∷◌, refl}
 use Rattle.tsp_rules.specs.Values.{Become, Back, Ring, Late, Quiet, Search, Elect, Kind, Accept, Ack, AdjTime, Conflict, Election, MasterAck, MasterUp, QuitKind, Refuse, SetTime, PeerId, Role, Loose, Follow}
 use Rattle.tsp_base.specs.Words.{MessageValue, Row, is_correction, time_in}
 use Rattle.tsp_rules.specs.SlaveRows.{quiet_rings, rings_or_late, search_rings, loosens, elect_rings, reports_conflict, masterup_in, masterack_in, election_of, acks_repeat, confirms, adjtime_of, settime_of, from_master, slave_takes_kind, slave_takes}

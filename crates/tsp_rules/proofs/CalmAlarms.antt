@@ -1,13 +1,9 @@
 -- What due sends and due alarms put: few acts, and calm ones.
 use Rattle.std.specs.Prelude.{◌≡◌, Bool, true, false, refl}
 use Rattle.tsp_rules.specs.Values.{Alarm, Quiet, Window, Elect, Search, Round, Probe, CloseAlarm, ResolveAlarm}
-use Rattle.tsp_rules.specs.Answers.{rings, rings_alone, due_alarms}
-use Rattle.tsp_rules.specs.SendRows.{due_sends}
-use Rattle.tsp_rules.proofs.Emits.{Moving, is_in}
-use Rattle.tsp_rules.proofs.FewActs.{Calm, calm_then}
-use Rattle.tsp_rules.proofs.BuiltAnswers.{ring_sorts, built_rings}
-use Rattle.tsp_rules.proofs.BuiltSends.{built_due_sends}
-use Rattle.tsp_rules.proofs.CalmBuilt.{calm_built, calm_unmoving}
+use Rattle.tsp_rules.specs.{Answers.rings, Answers.rings_alone, Answers.due_alarms, SendRows.due_sends}
+use Rattle.tsp_rules.proofs.{BuiltAnswers.ring_sorts, BuiltAnswers.built_rings, BuiltSends.built_due_sends, Emits.Moving, Emits.is_in}
+use Rattle.tsp_rules.proofs.{CalmBuilt.calm_built, CalmBuilt.calm_unmoving, FewActs.Calm, FewActs.calm_then}
 
 -- whether an alarm may move the clock
 abbrev pub moves_by : Alarm → Bool

@@ -1,18 +1,13 @@
 -- What follows for each row from how it is made: how many acts it puts, and that they are calm.
-use Rattle.std.specs.Prelude.{◌≡◌, ◌≤◌, ℕ, suc, ◌+◌, ◌*◌, ◌==◌, not, ℤ, Bool, true, false, if◌then◌else◌, List, [], ◌∷◌, ◌++◌, length, map, Option, None, Some, refl}
-use Rattle.std.proofs.Common.{sym, ap, arith, true≢false, length-append, ◌∙◌}
+use Rattle.std.proofs.Common.{sym, ap, arith, true≢false, length-append, ◌∙◌, ◌≡◌, ◌≤◌, ℕ, suc, ◌+◌, ◌*◌, ◌==◌, not, ℤ, Bool, true, false, if◌then◌else◌, List, [], ◌∷◌, ◌++◌, length, map, Option, None, Some, refl}
 use Rattle.std.proofs.lemmas.Bool.{leb-true, and_parts, and_from}
 use Rattle.tsp_rules.specs.Values.{Act, Boot, Took, Post, Abandon, Correct, Ring, CloseAlarm, Datagram, Message, Ack, PeerId, Place, Peer, Stranger, SPAN}
 use Rattle.tsp_base.specs.Words.{Past, Estimate, in_table, is_measured, is_rival, Row, Sending, bare, for_each, grown, nothing, posts_back, puts, reading, either_by, ◌followed_by◌}
-use Rattle.tsp_group.specs.Groups.{group_of}
-use Rattle.tsp_group.specs.declared.group.Group.{Group}
-use Rattle.tsp_rules.specs.ClockRows.{adjusts, can_adjust, sets}
-use Rattle.tsp_rules.specs.CommonRows.{posts_reply, replies}
+use Rattle.tsp_group.specs.{Groups.group_of, declared.group.Group.Group}
+use Rattle.tsp_rules.specs.{ClockRows.adjusts, ClockRows.can_adjust, ClockRows.sets, CommonRows.posts_reply, CommonRows.replies}
 use Rattle.tsp_rules.specs.GateRows.{loop_to, repost, reposts, sends_loops}
-use Rattle.tsp_rules.specs.Guards.{is_in_range}
+use Rattle.tsp_rules.specs.{Guards.is_in_range, SendRows.begins_settime, SendRows.repeats, Strangers.is_stranger}
 use Rattle.tsp_rules.specs.RoundRows.{abandons, asks, close_act, closes, closes_with, corrects_by, corrects_peer, estimates, mean_by, measured_at, moves, round_at, Standing, standing}
-use Rattle.tsp_rules.specs.SendRows.{begins_settime, repeats}
-use Rattle.tsp_rules.specs.Strangers.{is_stranger}
 use Rattle.tsp_rules.proofs.Emits.{Sort, Moving, is_in, is_in-part}
 use Rattle.tsp_rules.proofs.FewActs.{is_calm_act, is_calm, Calm, calm_append, calm_none, calm_puts, calm_then, calm_either, calm_reading, calm_more, calm_arms, calm_posts, calm_posts_time, calm_posts_to_others, calm_others, calm_each, each_few, each_calm, filter_few}
 use Rattle.tsp_rules.proofs.Unchanged.{no_unchanged, told_unchanged, unchanged, yes_unchanged}

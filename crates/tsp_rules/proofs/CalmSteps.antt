@@ -1,21 +1,14 @@
 -- A whole step takes nothing but what it is given, puts few acts, and posts to a stranger only where it is given a stranger's datagram.
-use Rattle.std.specs.Prelude.{◌≡◌, ◌≤◌, ℕ, ◌+◌, ◌*◌, Bool, true, false, if◌then◌else◌, List, [], ◌∷◌, ◌++◌, length, All, refl}
-use Rattle.std.proofs.Common.{sym, subst, ap, arith, true≢false, append_assoc, append-nil, length-append, ◌∙◌}
-use Rattle.std.proofs.lemmas.List.Elements.{All-nil, All-cons, All-append}
-use Rattle.std.proofs.lemmas.Bool.{and_parts}
+use Rattle.std.proofs.Common.{sym, subst, ap, arith, true≢false, append_assoc, append-nil, length-append, ◌∙◌, ◌≡◌, ◌≤◌, ℕ, ◌+◌, ◌*◌, Bool, true, false, if◌then◌else◌, List, [], ◌∷◌, ◌++◌, length, All, refl}
+use Rattle.std.proofs.lemmas.{Bool.and_parts, List.Elements.All-nil, List.Elements.All-cons, List.Elements.All-append}
 use Rattle.tsp_rules.specs.Values.{Act, Took, Post, Message, Stamp, Taken, Good, Bad, Place, Peer, Stranger, Request, Reply}
 use Rattle.tsp_base.specs.Words.{Past, Row, grown, nothing, puts, ◌followed_by◌, either_by}
 use Rattle.tsp_rules.specs.Answers.{due_alarms, handles, takes, Turn, Got, input_row, answers}
-use Rattle.tsp_rules.specs.RoundRows.{corrects, abandons_going, upsetting}
-use Rattle.tsp_rules.specs.SendRows.{due_sends}
-use Rattle.tsp_rules.specs.Guards.{is_own}
+use Rattle.tsp_rules.specs.{Guards.is_own, RoundRows.corrects, RoundRows.abandons_going, RoundRows.upsetting, SendRows.due_sends}
 use Rattle.tsp_rules.specs.Strangers.{is_stranger, IsKnown, StrangersAreAnswered}
 use Rattle.tsp_rules.proofs.FewActs.{Calm, is_calm_act, is_calm, calm_append, calm_nothing, calm_none, calm_then, calm_either, calm_more}
-use Rattle.tsp_rules.proofs.Emits.{Moving, is_in}
-use Rattle.tsp_rules.proofs.BuiltAnswers.{Owes, built_handles, taken_sorts}
-use Rattle.tsp_rules.proofs.BuiltRounds.{built_abandons_going}
-use Rattle.tsp_rules.proofs.CalmAlarms.{calm_due_alarms, calm_due_sends}
-use Rattle.tsp_rules.proofs.Unchanged.{place_unchanged}
+use Rattle.tsp_rules.proofs.{BuiltAnswers.Owes, BuiltAnswers.built_handles, BuiltAnswers.taken_sorts, BuiltRounds.built_abandons_going}
+use Rattle.tsp_rules.proofs.{CalmAlarms.calm_due_alarms, CalmAlarms.calm_due_sends, Emits.Moving, Emits.is_in, Unchanged.place_unchanged}
 use Rattle.tsp_rules.proofs.CalmBuilt.{answers_owed, calm_moving, calm_unmoving}
 
 -- whether what was taken is a message

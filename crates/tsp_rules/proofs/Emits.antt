@@ -1,6 +1,5 @@
 -- Which sorts of acts a row puts, and what rows of such acts leave alone.
-use Rattle.std.specs.Prelude.{◌≡◌, ℕ, ◌==◌, ◌||◌, ◌&&◌, Bool, true, false, if◌then◌else◌, ℤ, List, [], ◌∷◌, ◌++◌, map, refl}
-use Rattle.std.proofs.Common.{sym, ap, true≢false, eq-eqb, eqb-true, ◌∙◌}
+use Rattle.std.proofs.Common.{sym, ap, true≢false, eq-eqb, eqb-true, ◌∙◌, ◌≡◌, ℕ, ◌==◌, ◌||◌, ◌&&◌, Bool, true, false, if◌then◌else◌, ℤ, List, [], ◌∷◌, ◌++◌, map, refl}
 use Rattle.std.proofs.lemmas.Bool.{and_parts}
 use Rattle.tsp_rules.specs.Values.{Act, Boot, Took, Post, Become, Arm, Ring, Late, Back, Backer, Abandon, Close, Correct, Sample, Acked, Gave, Join, Leave, Rival, Quit, Trace, Alarm, Probe, CloseAlarm, Datagram, Message, Stamp, Kind, AdjTime, Conflict, Election, QuitKind, SetDateReq, SetTime, PeerId, Place, Role, Follow, Master, Request, Reply}
 use Rattle.tsp_base.specs.Words.{Past, Keeps, Row, grown, nothing, puts, ◌followed_by◌, either_by, reading, for_each, arms, posts, posts_to_others, posts_back, posts_time, post_of, others}

@@ -3,11 +3,9 @@ use Rattle.std.specs.Prelude.{◌≡◌, ℕ, ℤ, Bool, true, false, List, [], 
 use Rattle.tsp_rules.specs.Values.{Abandon, Ring, CloseAlarm, Message, Stamp, Taken, Good, Bad, PeerId, Request, Reply, SPAN}
 use Rattle.tsp_base.specs.Words.{Estimate, Row, Sending, nothing, others, puts, reading}
 use Rattle.tsp_group.specs.Groups.{group_of}
-use Rattle.tsp_rules.specs.ClockRows.{can_adjust}
-use Rattle.tsp_rules.specs.CommonRows.{posts_reply, replies}
+use Rattle.tsp_rules.specs.{ClockRows.can_adjust, CommonRows.posts_reply, CommonRows.replies, SendRows.begins_settime, SendRows.repeats}
 use Rattle.tsp_rules.specs.GateRows.{loop_to, repost, reposts, sends_loops}
 use Rattle.tsp_rules.specs.RoundRows.{abandons, asks, close_act, closes, closes_with, corrects_by, corrects_peer, estimates, mean_by, moves, round_at}
-use Rattle.tsp_rules.specs.SendRows.{begins_settime, repeats}
 use Rattle.tsp_rules.proofs.Emits.{Sort, Posting, all_map, Closing, Rounding, is_in-own, is_part, sort_of, sort_of_alarm, sort_of_kind, Emits, Emits_nothing, Emits_puts, Emits_then, Emits_either, Emits_reading, Emits_each, Emits_arms, Emits_posts, Emits_posts_to_others, Emits_posts_back, Emits_posts_time, Emits_adjusts, Emits_sets, Emits_more}
 use Rattle.tsp_rules.proofs.Unchanged.{no_unchanged, told_unchanged, unchanged, yes_unchanged}
 use Rattle.tsp_rules.proofs.RowCodes.{Owed, Leaf, Puts, Takes, Arms, Posts, ToOthers, PostsBack, PostsTime, PostsReply, PostsName, Repeats, SettimeBegins, Loops, Reposts, Asks, Samples, Adjusts, Sets}

@@ -1,10 +1,8 @@
 -- Acts that don't correct the clock.
-use Rattle.std.specs.Prelude.{◌≡◌, ◌||◌, ℕ, true, false, List, [], ◌∷◌, refl}
-use Rattle.std.proofs.Common.{ap, ◌∙◌}
+use Rattle.std.proofs.Common.{ap, ◌∙◌, ◌≡◌, ◌||◌, ℕ, true, false, List, [], ◌∷◌, refl}
 use Rattle.std.proofs.lemmas.Bool.{false≢true}
-use Rattle.tsp_rules.specs.Values.{Act, Correct}
 use Rattle.tsp_base.specs.Words.{Past, Row}
-use Rattle.tsp_rules.specs.RoundRows.{corrects, is_correct}
+use Rattle.tsp_rules.specs.{RoundRows.corrects, RoundRows.is_correct, Values.Act, Values.Correct}
 use Rattle.tsp_rules.proofs.Emits.{Sort, Acking, Alarming, Asking, Backing, Changing, Closing, Correcting, Counting, Following, Giving, Leading, Numbering, Passing, Posting, Rivalling, Rounding, Sampling, Tabling, Taking, Tracing, AllOf, Emits, is_in, sort_of}
 
 -- all sorts but Boot and Correct

@@ -1,6 +1,5 @@
 -- How many acts the rows put at the most, that only a taking takes, and that only a stranger's datagram is answered to a stranger.
-use Rattle.std.specs.Prelude.{◌≡◌, ◌≤◌, ℕ, suc, ◌+◌, ◌*◌, ◌&&◌, ◌==◌, not, ℤ, Bool, true, false, if◌then◌else◌, List, [], ◌∷◌, ◌++◌, length, map, filter, refl}
-use Rattle.std.proofs.Common.{sym, subst, ap, arith, true≢false, length-append}
+use Rattle.std.proofs.Common.{sym, subst, ap, arith, true≢false, length-append, ◌≡◌, ◌≤◌, ℕ, suc, ◌+◌, ◌*◌, ◌&&◌, ◌==◌, not, ℤ, Bool, true, false, if◌then◌else◌, List, [], ◌∷◌, ◌++◌, length, map, filter, refl}
 use Rattle.std.proofs.lemmas.Bool.{and_from}
 use Rattle.tsp_rules.specs.Values.{Act, Boot, Took, Post, Correct, Alarm, Kind, PeerId, Stranger}
 use Rattle.tsp_base.specs.Words.{Past, Row, grown, nothing, puts, ◌followed_by◌, either_by, reading, for_each, arms, others, post_of, posts, posts_to_others, posts_time}

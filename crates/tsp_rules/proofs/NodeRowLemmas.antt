@@ -1,6 +1,5 @@
 -- What ports see of rows over ports.
-use Rattle.std.specs.Prelude.{◌≡◌, ◌≢◌, ℕ, ◌==◌, true, false, ◌||◌, List, [], ◌∷◌, ◌++◌, refl}
-use Rattle.std.proofs.Common.{sym, ap, subst, eq-eqb, ◌∙◌}
+use Rattle.std.proofs.Common.{sym, ap, subst, eq-eqb, ◌∙◌, ◌≡◌, ◌≢◌, ℕ, ◌==◌, true, false, ◌||◌, List, [], ◌∷◌, ◌++◌, refl}
 use Rattle.std.proofs.lemmas.List.{append_assoc}
 use Rattle.tsp_rules.specs.Values.{Act, Boot, Placed, Port}
 use Rattle.tsp_base.specs.Words.{Step, Acts, Line, Seen, Elsewhere, view, seen_as, is_shared, joined, line_of, added, grown, placed}

@@ -3,7 +3,7 @@ use Rattle.std.specs.Prelude.{refl}
 use Rattle.tsp_base.specs.Words.{nothing, puts, ◌followed_by◌, either_by, reading, for_each, arms, posts, posts_to_others, posts_back, posts_time}
 use Rattle.tsp_rules.specs.Answers.{alarm_rings, rings, rings_alone, due_alarms, says_in, peer_says, replies_in, peer_replies, from_peer, handles_kind, handles, takes, input_row, answers}
 use Rattle.tsp_rules.specs.CandidateRows.{lead_row, yields, window_rings, accepted_by, refused_by, candidate_takes_kind, candidate_takes}
-use Rattle.tsp_rules.specs.ClockRows.{adjusts, sets}
+use Rattle.tsp_rules.specs.{ClockRows.adjusts, ClockRows.sets, Scripts.Answered}
 use Rattle.tsp_rules.specs.CommonRows.{boots, arms_elect, searches, tells_ticket, follow_row, backs_own, candidature_row, follows_unless, quits, posts_reply, replies, names_master, says_master, traces, tests}
 use Rattle.tsp_group.specs.Groups.{group_from, goes_before, better}
 use Rattle.tsp_rules.specs.MasterRows.{joins, sends_away, master_takes_kind, master_takes}
@@ -15,7 +15,6 @@ use Rattle.tsp_rules.specs.DateRows.{passes_on, leaves, leaves_all, new_date, se
 use Rattle.std.specs.Prelude.{take, ◌++◌}
 use Rattle.tsp_rules.specs.OrdinaryUse.{ordinary_use_a, fresh_a, ordinary_use_b, fresh_b}
 use Rattle.tsp_rules.specs.RoundsScript.{repeated_a, late_probe_a, far_a, silent_a, edge_a, repeated_b, fresh_edge}
-use Rattle.tsp_rules.specs.Scripts.{Answered}
 
 pub repeated-answered : Answered (take 10 ordinary_use_a ++ repeated_a) (fresh_a)
 unfolding nothing puts ◌followed_by◌ either_by reading for_each arms posts posts_to_others posts_back posts_time alarm_rings rings rings_alone due_alarms says_in peer_says replies_in peer_replies from_peer handles_kind handles takes input_row answers lead_row yields window_rings accepted_by refused_by candidate_takes_kind candidate_takes adjusts sets boots arms_elect searches tells_ticket follow_row backs_own candidature_row follows_unless quits posts_reply replies names_master says_master traces tests group_from goes_before better joins sends_away master_takes_kind master_takes resolves finds_rival quits_rivals resolve_rings asks asks_slaves round_begins round_rings asks_measured arms_next abandons probe_rings samples_request samples corrects_by corrects_peer begins_or_waits moves closes_with closes close_rings abandons_going upsetting begins begins_to_others begins_adjtime begins_settime acknowledges leaves_after gives_up repeats repeats_send due_send due_sends quiet_rings rings_or_late search_rings loosens elect_rings reports_conflict masterup_in masterack_in election_of acks_repeat confirms adjtime_of settime_of from_master slave_takes_kind slave_takes begins_timed passes_on leaves leaves_all new_date sets_date_where date_in date_of sets_in_charge date_request_in date_request_of date_acked_in date_acked

@@ -2,8 +2,7 @@
 use Rattle.std.specs.Prelude.{◌≡◌, ◌≢◌, false, refl}
 use Rattle.tsp_rules.specs.Values.{Kind, Accept, Ack, AdjTime, Election, MasterAck, MasterUp, QuitKind, Refuse, SetTime, PeerId, Role, Loose, Follow, Master}
 use Rattle.tsp_base.specs.Words.{MessageValue, Row, nothing}
-use Rattle.tsp_rules.specs.CandidateRows.{candidate_takes_kind}
-use Rattle.tsp_rules.specs.CommonRows.{follow_row, follows_unless}
+use Rattle.tsp_rules.specs.{CandidateRows.candidate_takes_kind, CommonRows.follow_row, CommonRows.follows_unless}
 use Rattle.tsp_rules.specs.SlaveRows.{masterup_in, masterack_in, from_master, slave_takes_kind}
 use Rattle.tsp_rules.specs.Guards.{is_follow, is_master}
 

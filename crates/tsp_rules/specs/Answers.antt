@@ -2,13 +2,10 @@
 use Rattle.std.specs.Prelude.{ℕ, Bool, true, false, not, ◌&&◌, List, [], ◌∷◌}
 use Rattle.tsp_rules.specs.Values.{Took, Alarm, Quiet, Window, Elect, Search, Round, Probe, CloseAlarm, ResolveAlarm, Message, Stamp, Taken, Good, Bad, Kind, Date, DateAck, DateReq, LoopKind, Msite, MsiteReq, SetDate, SetDateReq, Test, TraceOff, TraceOn, PeerId, Place, Peer, Stranger, Role, Starting, Loose, Follow, Candidate, Master, Request, Reply, ALL}
 use Rattle.tsp_base.specs.Words.{Past, MessageValue, Row, nothing, puts, ◌followed_by◌, either_by, reading, is_correction, ReplyValue}
-use Rattle.tsp_rules.specs.CandidateRows.{window_rings, candidate_takes}
+use Rattle.tsp_rules.specs.{CandidateRows.window_rings, CandidateRows.candidate_takes, MasterRows.master_takes, ResolveRows.resolve_rings}
 use Rattle.tsp_rules.specs.CommonRows.{replies, names_master, says_master, traces, tests}
-use Rattle.tsp_rules.specs.DateRows.{date_acked, date_of, date_request_of}
-use Rattle.tsp_rules.specs.MasterRows.{master_takes}
-use Rattle.tsp_rules.specs.ResolveRows.{resolve_rings}
+use Rattle.tsp_rules.specs.{DateRows.date_acked, DateRows.date_of, DateRows.date_request_of, SendRows.due_sends}
 use Rattle.tsp_rules.specs.RoundRows.{round_rings, probe_rings, close_rings, samples, upsetting}
-use Rattle.tsp_rules.specs.SendRows.{due_sends}
 use Rattle.tsp_rules.specs.SlaveRows.{quiet_rings, search_rings, elect_rings, slave_takes}
 use Rattle.tsp_rules.specs.Guards.{role_at, follows_at, is_due, is_own, is_heard}
 

@@ -1,8 +1,7 @@
 -- How a clock is corrected.
 use Rattle.std.specs.Prelude.{ℕ, nat_lt, nat_abs, ℤ, ◌+ℤ◌, ◌-ℤ◌, Bool, true, if◌then◌else◌, [], ◌∷◌}
-use Rattle.tsp_rules.specs.Values.{Correct, MAXADJ}
 use Rattle.tsp_base.specs.Words.{Past, plain, shown, Row}
-use Rattle.tsp_rules.specs.Guards.{target_at, is_clock_value}
+use Rattle.tsp_rules.specs.{Guards.target_at, Guards.is_clock_value, Values.Correct, Values.MAXADJ}
 
 -- whether an amount is stepped, not slewed
 abbrev pub is_step : ℤ → Bool

@@ -2,8 +2,7 @@
 use Rattle.std.specs.Prelude.{pos, false, List, [], ◌∷◌, take}
 use Rattle.tsp_rules.specs.Values.{Boot, Took, Post, Become, Arm, Ring, Correct, Quiet, Elect, Search, Message, Good, Ack, AdjTime, MasterReq, MasterUp, SlaveUp, Peer, Starting, Loose, Follow}
 use Rattle.tsp_base.specs.Words.{Booted, Turned, Handed, Past, bare, timed, peer_of as peer}
-use Rattle.tsp_rules.specs.Answers.{Turn, Got, answers}
-use Rattle.tsp_rules.specs.CommonRows.{boots}
+use Rattle.tsp_rules.specs.{Answers.Turn, Answers.Got, Answers.answers, CommonRows.boots}
 use Rattle.tsp_rules.specs.Scripts.{Event, step, a_name, b_name, fresh, after, Answered, Is}
 
 -- node a, which follows b: a correction, its repeat, one that comes too soon, and the same again

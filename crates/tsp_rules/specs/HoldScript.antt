@@ -2,8 +2,7 @@
 use Rattle.std.specs.Prelude.{◌≡◌, pos, false, List, [], ◌∷◌, take, Some, None}
 use Rattle.tsp_rules.specs.Values.{Boot, Took, Post, Become, Arm, Ring, Back, Quiet, Elect, Search, Message, Good, Accept, Election, MasterReq, Refuse, Peer, Starting, Loose}
 use Rattle.tsp_base.specs.Words.{Booted, Turned, Handed, Past, held, bare, open_send, peer_of as peer}
-use Rattle.tsp_rules.specs.Answers.{Turn, Got, answers}
-use Rattle.tsp_rules.specs.CommonRows.{boots}
+use Rattle.tsp_rules.specs.{Answers.Turn, Answers.Got, Answers.answers, CommonRows.boots}
 use Rattle.tsp_rules.specs.Scripts.{Event, step, a_name, b_name, c_name, fresh, after, Answered, Is}
 
 -- node a, which may not be master

@@ -2,8 +2,7 @@
 use Rattle.std.specs.Prelude.{pos, true, false, List, [], ◌∷◌, ◌++◌, take}
 use Rattle.tsp_rules.specs.Values.{Boot, Become, Arm, Ring, Late, Back, Abandon, Close, Correct, Quiet, Window, Elect, Search, Round, Probe, CloseAlarm, Starting, Loose, Candidate, Master}
 use Rattle.tsp_base.specs.Words.{Booted, Turned, Past, peer_of as peer}
-use Rattle.tsp_rules.specs.Answers.{Turn, answers}
-use Rattle.tsp_rules.specs.CommonRows.{boots}
+use Rattle.tsp_rules.specs.{Answers.Turn, Answers.answers, CommonRows.boots}
 use Rattle.tsp_rules.specs.Scripts.{Event, step, a_name, fresh, after, Answered, Is}
 
 -- a node alone, whose Close is handled one second after its deadline

@@ -2,10 +2,8 @@
 use Rattle.std.specs.Prelude.{ℕ, nat_lt, Bool, not, ◌&&◌}
 use Rattle.tsp_rules.specs.Values.{Join, Kind, Ack, Conflict, Election, MasterAck, MasterReq, MasterUp, QuitKind, ResolveKind, SlaveUp, PeerId}
 use Rattle.tsp_base.specs.Words.{Past, MessageValue, Row, nothing, puts, ◌followed_by◌, either_by, posts}
-use Rattle.tsp_rules.specs.CommonRows.{quits}
-use Rattle.tsp_rules.specs.ResolveRows.{resolves, finds_rival}
+use Rattle.tsp_rules.specs.{CommonRows.quits, Guards.is_slave_at, ResolveRows.resolves, ResolveRows.finds_rival}
 use Rattle.tsp_rules.specs.SendRows.{begins, begins_settime, has_quit, acknowledges}
-use Rattle.tsp_rules.specs.Guards.{is_slave_at}
 
 -- whether a number is a ticket, and its sender isn't a slave yet
 abbrev pub may_join : PeerId → ℕ → ℕ → Past → Bool

@@ -2,8 +2,7 @@
 use Rattle.std.specs.Prelude.{◌≡◌, pos, negsuc, true, false, List, [], ◌∷◌, take, Some, None}
 use Rattle.tsp_rules.specs.Values.{Boot, Took, Post, Become, Arm, Ring, Back, Backer, Close, Correct, Sample, Acked, Join, Quiet, Window, Elect, Search, Round, Probe, CloseAlarm, Message, Stamp, Good, Accept, Ack, AdjTime, Election, MasterReq, MasterUp, SetTime, SlaveUp, Peer, Starting, Loose, Follow, Candidate, Master, Request, Reply}
 use Rattle.tsp_base.specs.Words.{Booted, Turned, Came, Past, bare, timed, open_send, peer_of as peer}
-use Rattle.tsp_rules.specs.Answers.{Turn, Got, answers}
-use Rattle.tsp_rules.specs.CommonRows.{boots}
+use Rattle.tsp_rules.specs.{Answers.Turn, Answers.Got, Answers.answers, CommonRows.boots}
 use Rattle.tsp_rules.specs.Scripts.{Event, step, a_name, b_name, fresh, after, Answered, Is}
 
 -- node a: it is elected, sets the other clock, and closes a round

@@ -2,8 +2,7 @@
 use Rattle.std.specs.Prelude.{◌≡◌, pos, true, List, [], ◌∷◌, take, Some, None}
 use Rattle.tsp_rules.specs.Values.{Boot, Took, Post, Become, Arm, Ring, Back, Acked, Gave, Rival, Quit, Quiet, Window, Elect, Search, Round, ResolveAlarm, Message, Good, Ack, Election, MasterAck, MasterReq, MasterUp, QuitKind, ResolveKind, SlaveUp, Test, Peer, Stranger, Starting, Loose, Follow, Candidate, Master}
 use Rattle.tsp_base.specs.Words.{Booted, Turned, Handed, Past, is_rival, bare, open_send, peer_of as peer}
-use Rattle.tsp_rules.specs.Answers.{Turn, Got, answers}
-use Rattle.tsp_rules.specs.CommonRows.{boots}
+use Rattle.tsp_rules.specs.{Answers.Turn, Answers.Got, Answers.answers, CommonRows.boots}
 use Rattle.tsp_rules.specs.Scripts.{Event, step, a_name, b_name, fresh, after, Answered, Is}
 
 -- node a: it is elected, finds a rival, sends it away, and is sent away itself

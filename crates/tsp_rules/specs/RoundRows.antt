@@ -2,10 +2,8 @@
 use Rattle.std.specs.Prelude.{ℕ, ◌%◌, ◌^◌, ◌==◌, nat_lt, nat_abs, ℤ, pos, ◌-ℤ◌, int_lt, Bool, true, false, ◌||◌, if◌then◌else◌, List, [], ◌∷◌, ◌++◌, map, filter, Option, None, Some}
 use Rattle.tsp_rules.specs.Values.{Act, Post, Ring, Late, Abandon, Close, Correct, Sample, Leave, Round, Probe, CloseAlarm, Stamp, MasterUp, PeerId, Peer, Request, CLOSE, FAR, PROBE, ROUND, SPAN, WAIT}
 use Rattle.tsp_base.specs.Words.{Past, Seen, plain, word, Estimate, OpenRequest, asked, estimate, is_measured, probes, request_open, Row, grown, nothing, puts, ◌followed_by◌, either_by, reading, for_each, arms, posts_to_others, ReplyValue, sample_diff, sample_err}
-use Rattle.tsp_rules.specs.ClockRows.{can_adjust, adjusts}
-use Rattle.tsp_group.specs.Groups.{group_of, mean_of}
-use Rattle.tsp_group.specs.declared.group.Group.{Group}
-use Rattle.tsp_rules.specs.SendRows.{begins_adjtime, begins_settime}
+use Rattle.tsp_rules.specs.{ClockRows.can_adjust, ClockRows.adjusts, SendRows.begins_adjtime, SendRows.begins_settime}
+use Rattle.tsp_group.specs.{Groups.group_of, Groups.mean_of, declared.group.Group.Group}
 use Rattle.tsp_rules.specs.Guards.{is_going_at, is_in_time, target_at, table_at}
 
 -- a stamp request to p: the node's word, and a counter that counts the port's requests

@@ -2,8 +2,7 @@
 use Rattle.std.specs.Prelude.{◌≡◌, ℕ, ℤ, Bool, false, List, [], ◌∷◌, ◌++◌, codes}
 use Rattle.tsp_rules.specs.Values.{Act, Took, Datagram, Good, PeerId, Place, Role}
 use Rattle.tsp_base.specs.Words.{Cause, Booted, Turned, Handed, Step, Past, plain, ticket, target, shown, role, Row, grown, in_step, peer_of}
-use Rattle.tsp_rules.specs.Answers.{Turn, Got, answers}
-use Rattle.tsp_rules.specs.CommonRows.{boots}
+use Rattle.tsp_rules.specs.{Answers.Turn, Answers.Got, Answers.answers, CommonRows.boots}
 
 -- a step of node n at this true time
 abbrev pub step : ℕ → ℕ → Cause → Step

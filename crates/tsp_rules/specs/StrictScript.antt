@@ -2,10 +2,8 @@
 use Rattle.std.specs.Prelude.{true, List, [], ◌∷◌, ◌++◌, take}
 use Rattle.tsp_rules.specs.Values.{Become, Arm, Ring, Gave, Window, Elect, Loose}
 use Rattle.tsp_base.specs.Words.{peer_of as peer}
-use Rattle.tsp_rules.specs.LateClose.{late_close_in_time, fresh_alone}
-use Rattle.tsp_rules.specs.OrdinaryUse.{ordinary_use_a, fresh_a}
-use Rattle.tsp_rules.specs.RivalsScript.{rivals_a, fresh_rival}
-use Rattle.tsp_rules.specs.Scripts.{Event, turn_at, Answered}
+use Rattle.tsp_rules.specs.{LateClose.late_close_in_time, LateClose.fresh_alone, OrdinaryUse.ordinary_use_a, OrdinaryUse.fresh_a}
+use Rattle.tsp_rules.specs.{RivalsScript.rivals_a, RivalsScript.fresh_rival, Scripts.Event, Scripts.turn_at, Scripts.Answered}
 
 -- a candidate of two peers, backed by itself alone, when its window ends
 abbrev pub outvoted_a : List Event

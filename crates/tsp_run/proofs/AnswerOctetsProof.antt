@@ -1,14 +1,10 @@
 -- The octets that strangers are sent.
-use Rattle.std.specs.Prelude.{◌≡◌, ◌≤◌, ◌<◌, ℕ, ◌+◌, nat_le, if◌then◌else◌, List, length, refl}
-use Rattle.std.proofs.Common.{ap, ◌∙◌}
+use Rattle.std.proofs.Common.{ap, ◌∙◌, ◌≡◌, ◌≤◌, ◌<◌, ℕ, ◌+◌, nat_le, if◌then◌else◌, List, length, refl}
 use Rattle.std.proofs.lemmas.Bool.{le-leb, lt-leb}
 use Rattle.tsp_rules.specs.Values.{Datagram, Message, Stamp, Request, Reply}
 use Rattle.tsp_base.specs.Words.{Line, Seen, of, view, MessageValue, Setup}
 use Rattle.tsp_codec.specs.Canon.{written_size}
-use Rattle.tsp_promises.specs.Answered.{AnswersWith, StrangersAt}
-use Rattle.tsp_promises.specs.DeedFits.{answer_name}
-use Rattle.tsp_promises.specs.Everywhere.{Everywhere}
-use Rattle.tsp_promises.specs.Fits.{node_of}
+use Rattle.tsp_promises.specs.{Answered.AnswersWith, Answered.StrangersAt, DeedFits.answer_name, Everywhere.Everywhere, Fits.node_of}
 use Rattle.tsp_promises.specs.Setting.{Setting, setup_of}
 use Rattle.tsp_promises.proofs.EverywhereLemmas.{Everywhere-at, Everywhere-from}
 use Rattle.tsp_run.specs.AnswerOctets.{AnswerOctets, AnswerOctetsAt, SizeFits}

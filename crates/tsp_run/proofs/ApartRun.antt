@@ -1,20 +1,13 @@
 -- Where the words of any two boots of a schedule differ, so do those of its run.
-use Rattle.std.specs.Prelude.{◌≡◌, ◌≢◌, ℕ, ℤ, Bool, true, false, List, [], ◌∷◌, Some, refl}
-use Rattle.std.proofs.Common.{ap, sym, subst, inl, inr, true≢false, ◌∙◌}
+use Rattle.std.proofs.Common.{ap, sym, subst, inl, inr, true≢false, ◌∙◌, ◌≡◌, ◌≢◌, ℕ, ℤ, Bool, true, false, List, [], ◌∷◌, Some, refl}
 use Rattle.tsp_rules.specs.Values.{Act, Boot, Placed, Event, BootAt, Turn, Take, Bytes}
 use Rattle.tsp_base.specs.Words.{HeaderValue, IsHeader, Acts, Begins, Booted, Cause, Line, Step, first_port, joined, line_of, stepped}
-use Rattle.tsp_promises.specs.Everywhere.{Everywhere}
-use Rattle.tsp_promises.specs.Premises.{Words, WordsAt}
-use Rattle.tsp_promises.proofs.EverywhereLemmas.{Everywhere-at}
-use Rattle.tsp_rules.proofs.FewActs.{is_calm_act}
-use Rattle.tsp_rules.specs.GateRows.{boots_all}
+use Rattle.tsp_promises.{proofs.EverywhereLemmas.Everywhere-at, specs.Everywhere.Everywhere, specs.Premises.Words, specs.Premises.WordsAt}
+use Rattle.tsp_rules.{proofs.FewActs.is_calm_act, specs.GateRows.boots_all}
 use Rattle.tsp_run.specs.Premised.{AllBootOtherwise, Apart, BootsOtherwise, IsApart}
-use Rattle.tsp_run.specs.Possible.{Possible}
 use Rattle.tsp_run.specs.Run.{Happening, boot_step, joins, run, step_tick}
-use Rattle.tsp_run.proofs.CalmAll.{AreCalm}
-use Rattle.tsp_run.proofs.EachLine.{IsCause, each_event}
-use Rattle.tsp_run.proofs.Happens.{boot_acts, steps-are}
-use Rattle.tsp_run.proofs.PossibleRun.{possible_before}
+use Rattle.tsp_run.proofs.{CalmAll.AreCalm, EachLine.IsCause, EachLine.each_event, Happens.boot_acts, Happens.steps-are}
+use Rattle.tsp_run.{proofs.PossibleRun.possible_before, specs.Possible.Possible}
 
 -- a line is of no boot with this word
 abbrev pub OtherWord : ℕ → Line → List Line → Type 0

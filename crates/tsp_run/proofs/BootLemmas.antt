@@ -1,9 +1,7 @@
 -- A node that has booted is up.
-use Rattle.std.specs.Prelude.{◌≡◌, ℕ, true, List, [], ◌∷◌, refl}
-use Rattle.std.proofs.Common.{sym, subst}
-use Rattle.tsp_rules.specs.Values.{Boot, Placed}
+use Rattle.std.proofs.Common.{sym, subst, ◌≡◌, ℕ, true, List, [], ◌∷◌, refl}
 use Rattle.tsp_base.specs.Words.{dids, first_port, up, puts}
-use Rattle.tsp_rules.specs.GateRows.{all_ports, boots_all, boots_on}
+use Rattle.tsp_rules.specs.{GateRows.all_ports, GateRows.boots_all, GateRows.boots_on, Values.Boot, Values.Placed}
 use Rattle.tsp_rules.specs.NodeRows.{NodePast, on, ◌and_then◌, reading_all, for_ports, spread}
 use Rattle.tsp_rules.proofs.NodeRowLemmas.{spread_append}
 use Rattle.tsp_run.proofs.RunLemmas.{up_joined}

@@ -1,15 +1,11 @@
 -- Small histories that break the promise of the octets of answers.
-use Rattle.std.specs.Prelude.{◌≡◌, ◌+◌, ◌*◌, false, ℕ, List, [], ◌∷◌, replicate, refl}
-use Rattle.std.proofs.Common.{arith, subst}
+use Rattle.std.proofs.Common.{arith, subst, ◌≡◌, ◌+◌, ◌*◌, false, ℕ, List, [], ◌∷◌, replicate, refl}
 use Rattle.tsp_rules.specs.Values.{Took, Post, Datagram, Message, Stamp, Good, Ack, Test, Nothing, Stranger, Reply}
 use Rattle.tsp_base.specs.Words.{Handed, Line, MessageValue, of, view}
-use Rattle.tsp_promises.specs.Broken.{Breaks}
-use Rattle.tsp_promises.specs.Fits.{node_of}
-use Rattle.tsp_promises.specs.Setting.{Setting, setup_of}
+use Rattle.tsp_promises.specs.{Broken.Breaks, Fits.node_of, Setting.Setting, Setting.setup_of}
 use Rattle.tsp_promises.proofs.BrokenAnswers.{reply, same-datagram, tested}
 use Rattle.tsp_promises.proofs.Histories.{does, msg, still}
-use Rattle.tsp_run.specs.AnswerOctets.{AnswerOctets, AnswerSized, SizeFits}
-use Rattle.tsp_run.specs.AnswerOctetsBroken.{AnswerOctetsBreak}
+use Rattle.tsp_run.specs.{AnswerOctets.AnswerOctets, AnswerOctets.AnswerSized, AnswerOctets.SizeFits, AnswerOctetsBroken.AnswerOctetsBreak}
 
 -- a name of 64 octets
 abbrev long_name : List ℕ

@@ -1,19 +1,13 @@
 -- What follows for each row over ports from how it is made: it puts few acts, and calm ones, on ports that the node has.
-use Rattle.std.specs.Prelude.{◌≡◌, ◌≤◌, ◌<◌, ℕ, suc, ◌+◌, ◌*◌, ◌==◌, not, Bool, true, false, if◌then◌else◌, List, [], ◌∷◌, ◌++◌, length, filter, refl}
-use Rattle.std.proofs.Common.{ap, subst, arith, length-append}
-use Rattle.std.proofs.lemmas.Bool.{and_parts}
+use Rattle.std.proofs.Common.{ap, subst, arith, length-append, ◌≡◌, ◌≤◌, ◌<◌, ℕ, suc, ◌+◌, ◌*◌, ◌==◌, not, Bool, true, false, if◌then◌else◌, List, [], ◌∷◌, ◌++◌, length, filter, refl}
+use Rattle.std.proofs.lemmas.Bool.{and_parts, leb-true}
 use Rattle.tsp_rules.specs.Values.{Act, Abandon, Placed, Port}
 use Rattle.tsp_base.specs.Words.{view, is_going, Row, placed, sets_date}
-use Rattle.tsp_rules.specs.GateRows.{ports_from, other_ports}
+use Rattle.tsp_rules.specs.{GateRows.ports_from, GateRows.other_ports, RoundRows.corrects}
 use Rattle.tsp_rules.specs.NodeRows.{PortSetup, NodePast, NodeRow, port_setup, on_port, spread, nothing_at_all, on, ◌and_then◌, for_ports, abandons_on, stirring}
-use Rattle.tsp_rules.specs.RoundRows.{corrects}
-use Rattle.tsp_rules.proofs.CalmBuilt.{calm_moving}
-use Rattle.tsp_rules.proofs.FewActs.{is_calm_act, is_calm, Calm}
-use Rattle.tsp_promises.proofs.PortLists.{Ranged}
-use Rattle.std.proofs.lemmas.Bool.{leb-true}
+use Rattle.tsp_rules.proofs.{CalmBuilt.calm_moving, CalmBuilt.answers_owed, FewActs.is_calm_act, FewActs.is_calm, FewActs.Calm}
+use Rattle.tsp_promises.proofs.PortLists.{Ranged, listed_ranged}
 use Rattle.tsp_rules.proofs.BuiltAll.{BuiltAll, EachPort, EmptyAll, ForPorts, MoreAll, On, OtherPorts, PortsOf, ReadingAll, StirredPorts, StirringAll, ThenAll, WhereAll}
-use Rattle.tsp_rules.proofs.CalmBuilt.{answers_owed}
-use Rattle.tsp_promises.proofs.PortLists.{listed_ranged}
 
 -- calm acts, each on one of so many ports
 abbrev pub AreCalm : Bool → ℕ → List Placed → Type 0

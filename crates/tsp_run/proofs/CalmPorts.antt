@@ -1,18 +1,13 @@
 -- What a node's steps put: few acts, each on a port that the node has, of which only that of a taking takes.
-use Rattle.std.specs.Prelude.{◌≡◌, ◌≤◌, ◌<◌, ℕ, ◌+◌, ◌*◌, Bool, true, if◌then◌else◌, List, [], ◌∷◌, ◌++◌, length, refl}
-use Rattle.std.proofs.Common.{sym, ap, subst, arith, ◌∙◌, append-nil, append_assoc, length-append}
+use Rattle.std.proofs.Common.{sym, ap, subst, arith, ◌∙◌, append-nil, append_assoc, length-append, ◌≡◌, ◌≤◌, ◌<◌, ℕ, ◌+◌, ◌*◌, Bool, true, if◌then◌else◌, List, [], ◌∷◌, ◌++◌, length, refl}
 use Rattle.tsp_rules.specs.Values.{Act, Took, Placed, Message, Stamp, Taken, Good, Bad, Kind, LoopKind, Place, Port, ALL}
 use Rattle.tsp_base.specs.Words.{MessageValue, puts, placed}
-use Rattle.tsp_rules.specs.Answers.{handles, takes}
+use Rattle.tsp_rules.specs.{Answers.handles, Answers.takes, RoundRows.corrects, Strangers.is_stranger}
 use Rattle.tsp_rules.specs.GateRows.{all_ports, turns_on, LoopStep, PassOver, GiveUp, Forward, judge, hears_on, heeds_loop, takes_loop, stirred_ports, takes_message, takes_kind, takes_on, steers, in_charge, NodeTurn, GotOn, input_all, answers_all, boots_on}
 use Rattle.tsp_rules.specs.NodeRows.{NodePast, port_setup, on_port, spread, nothing_at_all, on, ◌and_then◌, reading_all, for_ports, abandons_on, stirring}
-use Rattle.tsp_rules.specs.RoundRows.{corrects}
-use Rattle.tsp_rules.specs.Strangers.{is_stranger}
-use Rattle.tsp_rules.proofs.CalmSteps.{TakesFirst, taking, calm_handles}
 use Rattle.tsp_promises.proofs.PortLists.{Ranged}
-use Rattle.tsp_rules.proofs.BuiltAll.{StirredPorts}
+use Rattle.tsp_rules.proofs.{BuiltAll.StirredPorts, CalmBuilt.answers_owed, CalmSteps.TakesFirst, CalmSteps.taking, CalmSteps.calm_handles}
 use Rattle.tsp_rules.proofs.BuiltPorts.{OwesStep, built_all_boots, built_all_turns, built_heeds}
-use Rattle.tsp_rules.proofs.CalmBuilt.{answers_owed}
 use Rattle.tsp_run.proofs.CalmAll.{AreCalm, AreCalm-append, Small, small_spread, CalmActs, CalmAll, calm_acts_more, calm_all_more, placed_calm, append_calm, on_few, calm_after, calm_all_built, few_ports, ranged_ports}
 
 -- how many acts the due sends and alarms of four ports put at the most, where each port has so many peers

@@ -1,6 +1,5 @@
 -- A property of every line of a step, whatever it does, is one of every line after it.
-use Rattle.std.specs.Prelude.{◌≡◌, ℕ, ℤ, List, [], ◌∷◌, refl}
-use Rattle.std.proofs.Common.{inl, inr, subst, sym}
+use Rattle.std.proofs.Common.{inl, inr, subst, sym, ◌≡◌, ℕ, ℤ, List, [], ◌∷◌, refl}
 use Rattle.tsp_rules.specs.Values.{Placed, Event, BootAt, Turn, Take, Bytes, Port}
 use Rattle.tsp_base.specs.Words.{HeaderValue, Acts, Begins, Booted, Came, Cause, Deed, Handed, Line, Step, Turned, first_port, joined, line_of, stepped}
 use Rattle.tsp_promises.specs.Everywhere.{Everywhere}

@@ -1,19 +1,14 @@
 -- The lines of one step fit the history before it.
-use Rattle.std.specs.Prelude.{◌≡◌, ◌⊎◌, ℕ, ◌+◌, ◌<◌, ◌≤◌, ◌^◌, ◌==◌, ◌||◌, Bool, true, false, if◌then◌else◌, List, [], ◌∷◌, length, None, refl}
-use Rattle.std.proofs.Common.{sym, ap, subst, inl, inr, arith, eq-eqb, eqb-true, true≢false}
+use Rattle.std.proofs.Common.{sym, ap, subst, inl, inr, arith, eq-eqb, eqb-true, true≢false, ◌≡◌, ◌⊎◌, ℕ, ◌+◌, ◌<◌, ◌≤◌, ◌^◌, ◌==◌, ◌||◌, Bool, true, false, if◌then◌else◌, List, [], ◌∷◌, length, None, refl}
 use Rattle.tsp_rules.specs.Values.{Act, Boot, Took, Post, Placed, Taken, PeerId, Place, Port}
 use Rattle.tsp_base.specs.Words.{first_port, joined, line_of, Cause, Booted, Turned, Came, Handed, Step, Deed, Begins, Acts, Did, Line, Seen, Here, of, view, seen_as, is_shared, dids, time_of, up, up_after, Within, role, taken, Setup, exchange, exchange_after, posted, posted_after, tick_at}
-use Rattle.tsp_promises.specs.DeedFits.{ActFits}
+use Rattle.tsp_promises.specs.{DeedFits.ActFits, PortFits.PortFits, Setting.Setting, Setting.setup_of}
 use Rattle.tsp_promises.specs.Fits.{Alive, TookFits, LineFits, Fits}
-use Rattle.tsp_promises.specs.Setting.{Setting, setup_of}
 use Rattle.tsp_promises.specs.StepFacts.{StepEnds, is_unbacked, is_unbacked_after, owes, owes_after, unacknowledged, unacknowledged_after, unheeded, unheeded_after}
 use Rattle.std.proofs.lemmas.Bool.{cases_lt, or_right}
-use Rattle.tsp_promises.proofs.Leaves.{none-among}
-use Rattle.tsp_promises.proofs.SendPlaces.{posted-mono}
-use Rattle.tsp_base.proofs.PlaceLemmas.{Within-all, Within-through}
-use Rattle.tsp_base.proofs.ViewPlaces.{port-same, sees-own}
+use Rattle.tsp_promises.proofs.{Leaves.none-among, SendPlaces.posted-mono}
+use Rattle.tsp_base.proofs.{PlaceLemmas.Within-all, PlaceLemmas.Within-through, ViewPlaces.port-same, ViewPlaces.sees-own}
 use Rattle.tsp_run.specs.Networks.{ports_on}
-use Rattle.tsp_promises.specs.PortFits.{PortFits}
 
 -- a line on one of so many ports, or of the whole node
 abbrev pub IsOn : ℕ → Line → Type 0

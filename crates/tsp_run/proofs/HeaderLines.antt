@@ -1,8 +1,6 @@
 -- The nodes of a header.
-use Rattle.std.specs.Prelude.{ℕ, ◌≤◌, length, nat_abs}
-use Rattle.std.proofs.Common.{sym, subst, arith, inl, inr}
-use Rattle.std.proofs.lemmas.Bool.{cases_lt}
-use Rattle.std.proofs.lemmas.List.{get_or_past}
+use Rattle.std.proofs.Common.{sym, subst, arith, inl, inr, ℕ, ◌≤◌, length, nat_abs}
+use Rattle.std.proofs.lemmas.{Bool.cases_lt, List.get_or_past}
 use Rattle.tsp_rules.specs.Values.{NodeLine}
 use Rattle.tsp_base.specs.Words.{HeaderValue, IsHeader, IsName}
 use Rattle.tsp_promises.proofs.SoundFacts.{no_name}

@@ -1,26 +1,17 @@
 -- Where the names of a header's nodes differ, so do those of the nodes of its runs.
-use Rattle.std.specs.Prelude.{◌≡◌, ◌<◌, ℕ, ◌==◌, Bool, true, false, if◌then◌else◌, List, [], ◌∷◌, length, None, Some, slice_get, refl}
-use Rattle.std.proofs.Common.{ap, ◌∙◌, sym, subst, inl, inr, eqb-true, true≢false}
+use Rattle.std.proofs.Common.{ap, ◌∙◌, sym, subst, inl, inr, eqb-true, true≢false, ◌≡◌, ◌<◌, ℕ, ◌==◌, Bool, true, false, if◌then◌else◌, List, [], ◌∷◌, length, None, Some, slice_get, refl}
 use Rattle.tsp_rules.specs.Values.{Event, BootAt, Turn, Take, Bytes}
 use Rattle.tsp_base.specs.Words.{HeaderValue, Handed, Line, Step, Turned, dids, of, stepped, up}
 use Rattle.tsp_codec.specs.Taken.{taken_of}
-use Rattle.tsp_promises.specs.Everywhere.{Everywhere}
-use Rattle.tsp_promises.specs.Fits.{node_of}
-use Rattle.tsp_promises.specs.Premises.{NamesApart}
-use Rattle.tsp_promises.specs.Setting.{Setting}
+use Rattle.tsp_promises.specs.{Everywhere.Everywhere, Fits.node_of, Premises.NamesApart, Setting.Setting}
 use Rattle.tsp_promises.proofs.EverywhereLemmas.{Everywhere-at}
 use Rattle.tsp_rules.specs.GateRows.{GotOn, NodeTurn, answers_all, boots_all}
 use Rattle.tsp_rules.specs.NodeRows.{NodeRow}
-use Rattle.tsp_run.specs.Networks.{networks}
-use Rattle.tsp_run.specs.Possible.{Possible}
-use Rattle.tsp_run.specs.Premised.{NamesDiffer}
+use Rattle.tsp_run.specs.{Networks.networks, Possible.Possible, Premised.NamesDiffer, Setting.SetBy}
 use Rattle.tsp_run.specs.Refusals.{down, impossible, node_in, scene}
 use Rattle.tsp_run.specs.Run.{boot_step, goes_to, joins, run, step_tick}
-use Rattle.tsp_run.specs.Setting.{SetBy}
-use Rattle.tsp_run.proofs.EachLine.{each-stepped}
+use Rattle.tsp_run.proofs.{EachLine.each-stepped, PossibleRun.possible_before, RefusalLemmas.can_happen, RefusalLemmas.up-down}
 use Rattle.tsp_run.proofs.Happens.{acts_by, steps-are, takes-or, taking, taking_row, taking_step}
-use Rattle.tsp_run.proofs.PossibleRun.{possible_before}
-use Rattle.tsp_run.proofs.RefusalLemmas.{can_happen, up-down}
 
 -- a line is of a node with a number below this
 abbrev pub IsBelow : ℕ → Line → List Line → Type 0

@@ -1,6 +1,5 @@
 -- Where a run is honest, or its words differ, its text is so.
-use Rattle.std.specs.Prelude.{◌≡◌, ◌≢◌, ℕ, ℤ, List, [], ◌∷◌, ◌++◌, Option, None, Some, refl}
-use Rattle.std.proofs.Common.{sym, subst, inl, inr}
+use Rattle.std.proofs.Common.{sym, subst, inl, inr, ◌≡◌, ◌≢◌, ℕ, ℤ, List, [], ◌∷◌, ◌++◌, Option, None, Some, refl}
 use Rattle.tsp_rules.specs.Values.{Boot, Took, Placed, Event, BootAt, Turn, Take, Bytes, Peer, Stranger}
 use Rattle.tsp_base.specs.Words.{HeaderValue, IsHeader, Acts, Begins, Booted, Handed, Line, Step, first_port, joined, line_of, stepped, Within}
 use Rattle.tsp_promises.specs.Everywhere.{Everywhere}
@@ -8,12 +7,10 @@ use Rattle.tsp_codec.specs.Taken.{taken_of}
 use Rattle.tsp_promises.specs.Premises.{Honest, HonestAt, Words, WordsAt}
 use Rattle.tsp_rules.specs.GateRows.{GotOn, answers_all, boots_all}
 use Rattle.tsp_run.specs.Premised.{AllBootOtherwise, Apart, BootsOtherwise, IsApart, IsSealed, Sealed}
-use Rattle.tsp_run.specs.Possible.{Possible}
-use Rattle.tsp_run.specs.Refusals.{impossible, scene}
+use Rattle.tsp_run.specs.{Possible.Possible, Refusals.impossible, Refusals.scene}
 use Rattle.tsp_run.specs.Run.{Happening, boot_step, happening, joins, run, step_tick}
 use Rattle.tsp_run.proofs.Happens.{acts_by, boot_acts, got_acts, steps-are}
-use Rattle.tsp_run.proofs.PossibleRun.{possible_before}
-use Rattle.tsp_run.proofs.RefusalLemmas.{can_happen}
+use Rattle.tsp_run.proofs.{PossibleRun.possible_before, RefusalLemmas.can_happen}
 
 -- what holds everywhere after a step held before it
 before-joined : (P : Line → List Line → Type 0) (step : Step) (x : ℕ) (acts : List Placed) (h : List Line) → Everywhere P (joined step x acts h) → Everywhere P h

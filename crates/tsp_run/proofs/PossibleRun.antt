@@ -1,21 +1,17 @@
 -- What is possible stays so without its last event, and what is accepted is possible.
-use Rattle.std.specs.Prelude.{◌≡◌, ◌<◌, ◌≤◌, ◌^◌, ℕ, suc, ◌+◌, List, [], ◌∷◌, ◌++◌, length, Option, None, Some, slice_get, refl}
-use Rattle.std.proofs.Common.{ap, arith, inl, inr, length-append, subst, sym, ◌∙◌}
+use Rattle.std.proofs.Common.{ap, arith, inl, inr, length-append, subst, sym, ◌∙◌, ◌≡◌, ◌<◌, ◌≤◌, ◌^◌, ℕ, suc, ◌+◌, List, [], ◌∷◌, ◌++◌, length, Option, None, Some, slice_get, refl}
 use Rattle.std.proofs.lemmas.List.Elements.{All-tail}
 use Rattle.tsp_rules.specs.Values.{Act, Post, Placed, Event, BootAt, Turn, Take, Bytes, Peer}
 use Rattle.tsp_base.specs.Words.{HeaderValue, IsHeader, Handed, Line, Step, Turned, peer_of, stepped}
 use Rattle.tsp_codec.specs.Taken.{taken_of}
 use Rattle.tsp_rules.specs.GateRows.{GotOn, NodeTurn, answers_all, boots_all}
 use Rattle.tsp_rules.specs.NodeRows.{NodeRow}
-use Rattle.tsp_run.specs.Networks.{networks, ports_on, room}
+use Rattle.tsp_run.specs.{Networks.networks, Networks.ports_on, Networks.room, Ranges.IsInRange}
 use Rattle.tsp_run.specs.Possible.{AcceptedIsPossible, Happens, Possible}
-use Rattle.tsp_run.specs.Ranges.{IsInRange}
 use Rattle.tsp_run.specs.Refusals.{Valid, most_posts, node_in, refusal, scene}
 use Rattle.tsp_run.specs.Run.{Happening, boot_step, goes_to, happening, joins, posted_by, posts, posts_from, run, step_tick, steps}
-use Rattle.tsp_run.proofs.CalmPorts.{step_most}
+use Rattle.tsp_run.proofs.{CalmPorts.step_most, RefusalLemmas.allowed, RefusalLemmas.allowed-possible, RunLemmas.posts_stepped}
 use Rattle.tsp_run.proofs.Happens.{acts_by, boot_few, got_acts, stepping, steps-are, taken_in, takes-or, taking, taking_row, taking_step, turn_few}
-use Rattle.tsp_run.proofs.RefusalLemmas.{allowed, allowed-possible}
-use Rattle.tsp_run.proofs.RunLemmas.{posts_stepped}
 
 -- how many datagrams were posted after a step
 count-stepped : (step : Step) (x : ℕ) (acts : List Placed) (h : List Line) → length (posts (stepped step x acts h)) ≡ length (posts h) + length (posts_from step.at step.node acts)

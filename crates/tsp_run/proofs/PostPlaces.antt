@@ -1,11 +1,8 @@
 -- Where the datagrams that a history posted stand in it.
-use Rattle.std.specs.Prelude.{◌≡◌, ◌⊎◌, ℕ, zero, suc, ◌+◌, List, [], ◌∷◌, ◌++◌, length, Some, slice_get, refl}
-use Rattle.std.proofs.Common.{sym, ap, subst, inl, inr, arith, ◌∙◌, append-nil, length-append}
+use Rattle.std.proofs.Common.{sym, ap, subst, inl, inr, arith, ◌∙◌, append-nil, length-append, ◌≡◌, ◌⊎◌, ℕ, zero, suc, ◌+◌, List, [], ◌∷◌, ◌++◌, length, Some, slice_get, refl}
 use Rattle.tsp_rules.specs.Values.{Post, Port}
 use Rattle.tsp_base.specs.Words.{Deed, Begins, Acts, Step, Line, dids, Within, posted, posted_after}
-use Rattle.tsp_run.specs.declared.posted.Posted.{Posted}
-use Rattle.tsp_run.specs.Run.{posts, posted_in}
-use Rattle.tsp_run.proofs.NetworkLemmas.{some_same}
+use Rattle.tsp_run.{proofs.NetworkLemmas.some_same, specs.Run.posts, specs.Run.posted_in, specs.declared.posted.Posted.Posted}
 
 posted-by : (deed : Deed) (port : Port) (step : Step) (n : ℕ) → n + length (posted_in port step deed) ≡ posted_after deed n
 posted-by Begins port step n = omega arith

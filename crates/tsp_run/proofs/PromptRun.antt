@@ -1,16 +1,12 @@
 -- Where each take comes early enough, no datagram of the run lives too long.
-use Rattle.std.specs.Prelude.{◌≡◌, ◌≤◌, ℕ, zero, suc, ◌+◌, List, [], ◌∷◌, ◌++◌, length, Some, slice_get, refl}
-use Rattle.std.proofs.Common.{ap, ◌∙◌, sym, subst, inl, inr}
+use Rattle.std.proofs.Common.{ap, ◌∙◌, sym, subst, inl, inr, ◌≡◌, ◌≤◌, ℕ, zero, suc, ◌+◌, List, [], ◌∷◌, ◌++◌, length, Some, slice_get, refl}
 use Rattle.tsp_rules.specs.Values.{Post, Placed, Datagram, Event, BootAt, Turn, Take, Bytes, Place, Port, LIFE}
 use Rattle.tsp_base.specs.Words.{HeaderValue, Acts, Begins, Came, Deed, Line, Step, dids, first_port, joined, line_of, stepped, Within, posted}
 use Rattle.tsp_promises.specs.Premises.{Life, TakenWithinAt}
 use Rattle.tsp_base.proofs.PlaceLemmas.{Within-none}
-use Rattle.tsp_run.specs.declared.posted.Posted.{Posted}
-use Rattle.tsp_run.specs.Premised.{IsPrompt, Prompt}
+use Rattle.tsp_run.specs.{Premised.IsPrompt, Premised.Prompt, declared.posted.Posted.Posted}
 use Rattle.tsp_run.specs.Run.{joins, posted_in, posts, run, step_tick}
-use Rattle.tsp_run.proofs.NetworkLemmas.{some_same}
-use Rattle.tsp_run.proofs.PostPlaces.{length-posts}
-use Rattle.tsp_run.proofs.EachLine.{each_event}
+use Rattle.tsp_run.proofs.{EachLine.each_event, NetworkLemmas.some_same, PostPlaces.length-posts}
 use Rattle.tsp_run.proofs.Happens.{acts_by, takes-or, taking, taking_row, taking_step}
 
 -- entries stay where more follow

@@ -1,44 +1,30 @@
 -- The history of every possible schedule fits, and so does that of every accepted one.
-use Rattle.std.specs.Prelude.{◌≡◌, ℕ, ◌+◌, ◌<◌, ◌≤◌, ◌^◌, ◌==◌, pos, ◌+ℤ◌, Bool, true, false, List, [], ◌∷◌, length, Option, None, Some, slice_get, refl}
-use Rattle.std.proofs.Common.{sym, ap, subst, inr, arith, ◌∙◌, eq-eqb, eqb-true}
+use Rattle.std.proofs.Common.{sym, ap, subst, inr, arith, ◌∙◌, eq-eqb, eqb-true, ◌≡◌, ℕ, ◌+◌, ◌<◌, ◌≤◌, ◌^◌, ◌==◌, pos, ◌+ℤ◌, Bool, true, false, List, [], ◌∷◌, length, Option, None, Some, slice_get, refl}
 use Rattle.std.proofs.lemmas.List.Elements.{All-head}
 use Rattle.tsp_rules.specs.Values.{Took, Post, Placed, Event, BootAt, Turn, Take, Bytes, Peer, Port}
 use Rattle.tsp_base.specs.Words.{first_port, joined, line_of, stepped, HeaderValue, IsHeader, Booted, Turned, Came, Handed, Step, Begins, Acts, Line, of, view, dids, time_of, up, posted, peer_of, tick_at}
-use Rattle.tsp_promises.specs.Fits.{Fits, TookFits}
+use Rattle.tsp_promises.specs.{Fits.Fits, Fits.TookFits, PortFits.PortFits, PortFits.setup_in, Sound.IsSound, Sound.IsSoundDeed}
 use Rattle.tsp_promises.specs.Setting.{Alone, Named, Setting, setup_of}
 use Rattle.tsp_base.proofs.PlaceLemmas.{Within-all}
-use Rattle.tsp_codec.specs.Canon.{canon}
-use Rattle.tsp_codec.specs.Taken.{taken_of}
+use Rattle.tsp_codec.specs.{Canon.canon, Taken.taken_of}
 use Rattle.tsp_rules.specs.GateRows.{NodeGiven, NodeTurn, GotOn, answers_all, boots_all}
 use Rattle.tsp_rules.specs.NodeRows.{NodePast, NodeRow, PortSetup, in_node_step, on_port, port_setup, spread}
-use Rattle.tsp_promises.specs.PortFits.{PortFits, setup_in}
 use Rattle.tsp_promises.specs.StepFacts.{StepEnds}
-use Rattle.tsp_promises.specs.Sound.{IsSound, IsSoundDeed}
-use Rattle.tsp_promises.proofs.GateFacts.{AllPorts}
-use Rattle.tsp_promises.proofs.GateLeads.{GivenOn}
-use Rattle.tsp_promises.proofs.Known.{Ended, Fresh}
 use Rattle.tsp_promises.proofs.NodeLeads.{answers_all_end, begins_all, boots_all_lead}
 use Rattle.tsp_promises.proofs.RunLeads.{ends_of, ended_later, ended_seen, nothing-done}
-use Rattle.tsp_promises.proofs.Clocks.{tick-mono}
-use Rattle.tsp_run.specs.declared.address.Address.{Address}
-use Rattle.tsp_run.specs.declared.posted.Posted.{Posted}
+use Rattle.tsp_promises.proofs.{Clocks.tick-mono, GateFacts.AllPorts, GateLeads.GivenOn, Known.Ended, Known.Fresh}
 use Rattle.tsp_run.specs.Networks.{networks, network_from, ports_on, address_of, room}
-use Rattle.tsp_run.specs.Possible.{Possible}
-use Rattle.tsp_run.specs.Ranges.{IsInRange}
-use Rattle.tsp_run.specs.Refusals.{scene, down, node_in}
+use Rattle.tsp_run.specs.{Possible.Possible, Ranges.IsInRange, Refusals.scene, Refusals.down, Refusals.node_in}
 use Rattle.tsp_run.specs.Run.{run, joins, steps, step_tick, boot_step, event_at, last_at, posts, reaches, arrives, arrives_at, goes_to}
 use Rattle.tsp_run.specs.Setting.{PossibleRunsFit, SetBy, RunsFit, named_or}
-use Rattle.tsp_run.specs.Setup.{node_line, past_of, rests}
+use Rattle.tsp_run.specs.{Setup.node_line, Setup.past_of, Setup.rests, declared.address.Address.Address, declared.posted.Posted.Posted}
 use Rattle.tsp_run.proofs.AnswersFit.{StepOk, turn_ok, got_ok, boot_ok}
 use Rattle.tsp_run.proofs.FitsLines.{ActsOn, AllAlive, ArePlaced, acts_fit, all_end, mark_line, of_placed, posted-joined}
-use Rattle.tsp_run.proofs.HeaderLines.{name-node_line}
-use Rattle.tsp_run.proofs.NetworkLemmas.{few_ports, goes_there, set_up}
-use Rattle.tsp_run.proofs.PossibleRun.{accepted-possible, possible_before}
-use Rattle.tsp_run.proofs.PostPlaces.{length-posts, post_at}
-use Rattle.tsp_run.proofs.RefusalLemmas.{CanHappen, can_happen, up-down}
+use Rattle.tsp_run.proofs.{HeaderLines.name-node_line, NetworkLemmas.few_ports, NetworkLemmas.goes_there, NetworkLemmas.set_up}
+use Rattle.tsp_run.proofs.{PossibleRun.accepted-possible, PossibleRun.possible_before, PostPlaces.length-posts, PostPlaces.post_at}
+use Rattle.tsp_run.proofs.{RefusalLemmas.CanHappen, RefusalLemmas.can_happen, RefusalLemmas.up-down, SoundAll.SoundNode}
 use Rattle.tsp_run.proofs.RunLemmas.{stepped_own, stepped_other}
 use Rattle.tsp_run.proofs.SoundLemmas.{line_sound, octets_sound, sound_read}
-use Rattle.tsp_run.proofs.SoundAll.{SoundNode}
 use Rattle.tsp_run.proofs.SoundPorts.{IsSoundInput, sound_answers_all, sound_begins, sound_boots_all}
 
 -- what is known of a run: its lines fit and are on their nodes' ports, its time is that of its last event, each port of each node is at rest, and each node took and posted what has its parts in their ranges

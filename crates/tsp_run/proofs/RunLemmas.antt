@@ -1,6 +1,5 @@
 -- What a step adds to a history: what its node and the others have then, and what was posted.
-use Rattle.std.specs.Prelude.{◌≡◌, ℕ, ◌==◌, Bool, true, false, List, [], ◌∷◌, ◌++◌}
-use Rattle.std.proofs.Common.{refl, sym, ap, ◌∙◌, append_assoc, append-nil}
+use Rattle.std.proofs.Common.{refl, sym, ap, ◌∙◌, append_assoc, append-nil, ◌≡◌, ℕ, ◌==◌, Bool, true, false, List, [], ◌∷◌, ◌++◌}
 use Rattle.tsp_rules.specs.Values.{Boot, Placed, Port}
 use Rattle.tsp_base.specs.Words.{first_port, joined, line_of, stepped, Step, Deed, Begins, Acts, Line, of, dids, up, up_after}
 use Rattle.tsp_run.specs.Run.{posts, posts_from, posted_by}

@@ -1,14 +1,7 @@
 -- The premises of the promises hold of a possible schedule's run if they hold of its text.
-use Rattle.tsp_run.specs.Premised.{PossibleRunsKeepPremises, RunsKeepPremises}
-use Rattle.tsp_run.specs.Run.{run}
-use Rattle.tsp_run.proofs.ApartRun.{apart-words}
-use Rattle.tsp_run.proofs.NamesRun.{names-apart}
-use Rattle.tsp_run.proofs.PromptRun.{prompt-life}
-use Rattle.tsp_run.proofs.SealedRun.{sealed-honest}
-use Rattle.tsp_run.proofs.OnlyThen.{honest-sealed, words-apart}
-use Rattle.tsp_run.proofs.PossibleRun.{accepted-possible}
-use Rattle.tsp_run.proofs.RunFits.{possible-runs-fit}
-use Rattle.tsp_run.proofs.SettingLemmas.{each-is-set}
+use Rattle.tsp_run.specs.{Premised.PossibleRunsKeepPremises, Premised.RunsKeepPremises, Run.run}
+use Rattle.tsp_run.proofs.{ApartRun.apart-words, NamesRun.names-apart, OnlyThen.honest-sealed, OnlyThen.words-apart, PromptRun.prompt-life}
+use Rattle.tsp_run.proofs.{PossibleRun.accepted-possible, RunFits.possible-runs-fit, SealedRun.sealed-honest, SettingLemmas.each-is-set}
 use Rattle.tsp_run.proofs.ShortRun.{own-few, short-few}
 use Rattle.tsp_promises.proofs.WordsProof.{own_words}
 

@@ -2,28 +2,15 @@
 use Rattle.std.specs.Prelude.{◌≡◌, ℕ, List, ◌∷◌, Some, slice_get}
 use Rattle.tsp_rules.specs.Values.{Good, Event, LIFE}
 use Rattle.tsp_base.specs.Words.{HeaderValue, Line}
-use Rattle.tsp_promises.specs.Fits.{Fits}
 use Rattle.tsp_promises.specs.Premises.{FewAt, HonestAt, TakenWithinAt}
-use Rattle.tsp_promises.specs.Setting.{Setting}
-use Rattle.tsp_promises.proofs.EverywhereLemmas.{Everywhere-from, Everywhere-within}
-use Rattle.tsp_codec.specs.Canon.{canon}
-use Rattle.tsp_codec.specs.Taken.{taken_of}
-use Rattle.tsp_promises.specs.Dated.{Dated, DateConfirmedAt, SetsAt}
-use Rattle.tsp_promises.proofs.ConfirmedDate.{date_confirmed}
-use Rattle.tsp_promises.proofs.SetProof.{sets_at}
-use Rattle.tsp_promises.proofs.ChainProof.{looped_in}
-use Rattle.tsp_promises.proofs.OneWinnerProof.{one_winner}
-use Rattle.tsp_promises.proofs.OwnFitsProof.{fits_at}
-use Rattle.tsp_promises.proofs.SafeProof.{safe}
+use Rattle.tsp_promises.proofs.{EverywhereLemmas.Everywhere-from, EverywhereLemmas.Everywhere-within, SafeProof.safe, SetProof.sets_at}
+use Rattle.tsp_codec.specs.{Canon.canon, Taken.taken_of}
+use Rattle.tsp_promises.specs.{Dated.Dated, Dated.DateConfirmedAt, Dated.SetsAt, Fits.Fits, Setting.Setting}
+use Rattle.tsp_promises.proofs.{ChainProof.looped_in, ConfirmedDate.date_confirmed, OneWinnerProof.one_winner, OwnFitsProof.fits_at}
 use Rattle.tsp_run.specs.declared.posted.Posted.{Posted}
-use Rattle.tsp_run.specs.Ranges.{Accepted}
-use Rattle.tsp_run.specs.Run.{last_at, posts, run}
-use Rattle.tsp_run.specs.Setting.{PossibleRunsKeepPromises, RunsKeepPromises}
-use Rattle.tsp_run.proofs.AnswerOctetsProof.{answer_octets}
-use Rattle.tsp_run.proofs.PossibleRun.{accepted-possible}
-use Rattle.tsp_run.proofs.RunFits.{possible-runs-fit, post_sound, ran}
-use Rattle.tsp_run.proofs.SettingLemmas.{each-is-set}
-use Rattle.tsp_run.proofs.SoundLemmas.{sound_read}
+use Rattle.tsp_run.specs.{Ranges.Accepted, Run.last_at, Run.posts, Run.run, Setting.PossibleRunsKeepPromises, Setting.RunsKeepPromises}
+use Rattle.tsp_run.proofs.{AnswerOctetsProof.answer_octets, PossibleRun.accepted-possible, SettingLemmas.each-is-set}
+use Rattle.tsp_run.proofs.{RunFits.possible-runs-fit, RunFits.post_sound, RunFits.ran, SoundLemmas.sound_read}
 
 dated : (setting : Setting) (world : List Line) → Fits setting world → Dated setting world
 dated setting world f = record {

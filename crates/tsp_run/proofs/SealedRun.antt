@@ -1,24 +1,15 @@
 -- Where no event hands a node octets as a peer's, the run is honest.
-use Rattle.std.specs.Prelude.{◌≡◌, ◌≢◌, ℕ, Bool, true, List, [], ◌∷◌, ◌++◌, None, Some, refl}
-use Rattle.std.proofs.Common.{sym, subst, true≢false}
+use Rattle.std.proofs.Common.{sym, subst, true≢false, ◌≡◌, ◌≢◌, ℕ, Bool, true, List, [], ◌∷◌, ◌++◌, None, Some, refl}
 use Rattle.std.proofs.lemmas.List.Elements.{All-tail}
 use Rattle.tsp_rules.specs.Values.{Act, Took, Placed, Taken, Event, BootAt, Turn, Take, Bytes, PeerId, Place, Peer, Stranger, Port}
 use Rattle.tsp_base.specs.Words.{HeaderValue, IsHeader, Acts, Handed, Line, Step, joined, line_of, stepped}
 use Rattle.tsp_promises.specs.Premises.{Honest, HonestAt}
 use Rattle.tsp_codec.specs.Taken.{taken_of}
-use Rattle.tsp_rules.proofs.FewActs.{is_calm_act}
-use Rattle.tsp_rules.specs.Strangers.{is_stranger}
-use Rattle.tsp_rules.specs.GateRows.{GotOn, answers_all}
-use Rattle.tsp_run.specs.Premised.{IsSealed, Sealed}
-use Rattle.tsp_run.specs.Possible.{Possible}
-use Rattle.tsp_run.specs.Ranges.{Accepted, IsInRange}
-use Rattle.tsp_run.specs.Refusals.{impossible, scene}
+use Rattle.tsp_rules.{proofs.FewActs.is_calm_act, specs.GateRows.GotOn, specs.GateRows.answers_all, specs.Strangers.is_stranger}
+use Rattle.tsp_run.specs.{Possible.Possible, Premised.IsSealed, Premised.Sealed, Ranges.Accepted, Ranges.IsInRange}
 use Rattle.tsp_run.specs.Run.{Happening, joins, run, step_tick}
-use Rattle.tsp_run.proofs.CalmAll.{AreCalm}
-use Rattle.tsp_run.proofs.EachLine.{each_event}
-use Rattle.tsp_run.proofs.Happens.{acts_by, got_acts, steps-are}
-use Rattle.tsp_run.proofs.PossibleRun.{possible_before}
-use Rattle.tsp_run.proofs.RefusalLemmas.{can_happen}
+use Rattle.tsp_run.proofs.{CalmAll.AreCalm, EachLine.each_event, Happens.acts_by, Happens.got_acts, Happens.steps-are}
+use Rattle.tsp_run.{proofs.PossibleRun.possible_before, proofs.RefusalLemmas.can_happen, specs.Refusals.impossible, specs.Refusals.scene}
 
 -- what was accepted before the last event
 pub accepted_before : (header : HeaderValue) (e : Event) (before : List Event) → Accepted header (e ∷ before) → Accepted header before

@@ -1,10 +1,7 @@
 -- Every header has a setting.
 use Rattle.std.specs.Prelude.{refl}
-use Rattle.tsp_run.specs.Networks.{networks}
-use Rattle.tsp_run.specs.Setting.{EachIsSet, members_of, network_of}
-use Rattle.tsp_run.specs.Setup.{node_line}
-use Rattle.tsp_run.proofs.HeaderLines.{rate-node_line}
-use Rattle.tsp_run.proofs.NetworkLemmas.{own_member, ports_apart}
+use Rattle.tsp_run.specs.{Networks.networks, Setting.EachIsSet, Setting.members_of, Setting.network_of, Setup.node_line}
+use Rattle.tsp_run.proofs.{HeaderLines.rate-node_line, NetworkLemmas.own_member, NetworkLemmas.ports_apart}
 
 pub each-is-set : EachIsSet
 each-is-set header is = (

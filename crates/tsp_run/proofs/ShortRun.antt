@@ -1,18 +1,12 @@
 -- Where few datagrams are posted, no port begins many sends.
-use Rattle.std.specs.Prelude.{◌≡◌, ◌<◌, ◌≤◌, nat_le, ℕ, ◌+◌, ◌==◌, ◌&&◌, ◌||◌, Bool, true, false, if◌then◌else◌, List, [], ◌∷◌, length, refl}
-use Rattle.std.proofs.Common.{arith, length-append, subst, sym, true≢false}
+use Rattle.std.proofs.Common.{arith, length-append, subst, sym, true≢false, ◌≡◌, ◌<◌, ◌≤◌, nat_le, ℕ, ◌+◌, ◌==◌, ◌&&◌, ◌||◌, Bool, true, false, if◌then◌else◌, List, [], ◌∷◌, length, refl}
 use Rattle.std.proofs.lemmas.Bool.{le-leb}
 use Rattle.tsp_rules.specs.Values.{Boot, Post, Message, Stamp, Kind, Ack, Conflict, DateAck, Election, QuitKind, SetDateReq, PeerId, Place, Peer, Stranger, Port}
 use Rattle.tsp_base.specs.Words.{MessageValue, Setup, Acts, Begins, Deed, Did, Line, Seen, Here, Elsewhere, is_shared, of, seen_as, view, acting, begun, begun_after, has_own_number}
 use Rattle.tsp_promises.specs.DeedFits.{DeedFits, MessageFits, PostFits, StrangerFits}
-use Rattle.tsp_promises.specs.Everywhere.{Everywhere}
-use Rattle.tsp_promises.specs.PortFits.{PortFits}
-use Rattle.tsp_promises.specs.Setting.{Setting, setup_of}
-use Rattle.tsp_promises.proofs.PortFits.{port_fits}
-use Rattle.tsp_run.specs.Premised.{own_posts, own_posts_after}
-use Rattle.tsp_promises.specs.Fits.{Fits, node_of}
-use Rattle.tsp_promises.specs.Premises.{Few}
-use Rattle.tsp_run.specs.Run.{posted_in, posts}
+use Rattle.tsp_promises.specs.{Everywhere.Everywhere, Fits.Fits, Fits.node_of, PortFits.PortFits, Premises.Few}
+use Rattle.tsp_promises.{proofs.PortFits.port_fits, specs.Setting.Setting, specs.Setting.setup_of}
+use Rattle.tsp_run.specs.{Premised.own_posts, Premised.own_posts_after, Run.posted_in, Run.posts}
 
 one_if : (b : Bool) (n m : ℕ) → n ≤ m → (if b then n + 1 else n) ≤ m + 1
 one_if true n m le = omega (arith, le)

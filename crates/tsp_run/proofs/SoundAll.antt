@@ -1,22 +1,15 @@
 -- What follows for each row over ports from how it is made: it keeps a node sound.
-use Rattle.std.specs.Prelude.{◌<◌, ◌≤◌, ◌^◌, ℕ, ◌-◌, ◌==◌, ◌||◌, Bool, true, false, if◌then◌else◌, List, [], ◌∷◌, ◌++◌, length, All}
-use Rattle.std.proofs.Common.{sym, subst, arith, append-nil}
+use Rattle.std.proofs.Common.{sym, subst, arith, append-nil, ◌<◌, ◌≤◌, ◌^◌, ℕ, ◌-◌, ◌==◌, ◌||◌, Bool, true, false, if◌then◌else◌, List, [], ◌∷◌, ◌++◌, length, All}
 use Rattle.std.proofs.lemmas.List.Elements.{All-head, All-tail}
 use Rattle.tsp_rules.specs.Values.{Act, Abandon, Placed, Port}
 use Rattle.tsp_base.specs.Words.{Step, Acts, Line, dids, is_shared, plain, seen_as, view, joined, line_of, IsName, word, is_going, Row, grown, placed}
 use Rattle.tsp_base.proofs.Views.{plain_view}
 use Rattle.tsp_rules.specs.NodeRows.{NodePast, NodeRow, on_port, spread, nothing_at_all, on, for_ports, abandons_on, stirring}
-use Rattle.tsp_rules.specs.RoundRows.{corrects}
-use Rattle.tsp_rules.proofs.NodeRowLemmas.{view_own, spread_append}
+use Rattle.tsp_rules.{proofs.NodeRowLemmas.view_own, proofs.NodeRowLemmas.spread_append, specs.RoundRows.corrects}
 use Rattle.tsp_promises.specs.Sound.{IsSoundAct, IsSoundDeed, AreSound, SoundPast}
-use Rattle.tsp_promises.proofs.GateFacts.{LeadsAll, All_after}
-use Rattle.tsp_promises.proofs.PortLists.{Ranged}
-use Rattle.tsp_promises.proofs.SoundBuilt.{sound_built}
-use Rattle.tsp_promises.proofs.SoundRows.{Soundly}
-use Rattle.tsp_promises.proofs.SoundSteps.{acts_sound}
+use Rattle.tsp_promises.proofs.{GateFacts.LeadsAll, GateFacts.All_after, PortLists.Ranged, PortLists.listed_ranged, SoundBuilt.sound_built}
 use Rattle.tsp_rules.proofs.BuiltAll.{BuiltAll, EmptyAll, ForPorts, MoreAll, On, PortsOf, ReadingAll, StirringAll, ThenAll, WhereAll}
-use Rattle.tsp_promises.proofs.SoundBuilt.{ranges_owed}
-use Rattle.tsp_promises.proofs.PortLists.{listed_ranged}
+use Rattle.tsp_promises.proofs.{SoundBuilt.ranges_owed, SoundRows.Soundly, SoundSteps.acts_sound}
 
 -- each deed of a node is sound
 abbrev pub AreSoundLines : List Line → Type 0

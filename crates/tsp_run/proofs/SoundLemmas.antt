@@ -1,13 +1,9 @@
 -- What a run posts and takes has its parts in their ranges, so a reader takes from its octets what was posted.
-use Rattle.std.specs.Prelude.{◌≡◌, ℕ, ◌+◌, ◌<◌, ◌^◌, ◌==◌, Bool, true, false, if◌then◌else◌, List, [], ◌∷◌, refl}
-use Rattle.std.proofs.Common.{sym, subst, inl, inr, arith, eq-eqb}
+use Rattle.std.proofs.Common.{sym, subst, inl, inr, arith, eq-eqb, ◌≡◌, ℕ, ◌+◌, ◌<◌, ◌^◌, ◌==◌, Bool, true, false, if◌then◌else◌, List, [], ◌∷◌, refl}
 use Rattle.tsp_rules.specs.Values.{Datagram, Message, Stamp, Taken, Good, Bad, Kind, Body, Nothing, TimeBody, Hops, Request, Reply}
 use Rattle.tsp_base.specs.Words.{Line, of, body_fits, word, Within}
-use Rattle.tsp_codec.specs.Canon.{canon, IsWritable, IsWritableBody}
-use Rattle.tsp_codec.specs.Faults.{Reads}
-use Rattle.tsp_codec.specs.Numbers.{octet_at, be16_at, be64_at}
-use Rattle.tsp_codec.specs.Spelling.{Spells, SpellsBody}
-use Rattle.tsp_codec.specs.Taken.{taken_of}
+use Rattle.tsp_codec.specs.{Canon.canon, Canon.IsWritable, Canon.IsWritableBody, Faults.Reads, Spelling.Spells, Spelling.SpellsBody}
+use Rattle.tsp_codec.specs.{Numbers.octet_at, Numbers.be16_at, Numbers.be64_at, Taken.taken_of}
 use Rattle.tsp_codec.proofs.TakenOf.{Reads-taken_of, taken_of-canon}
 use Rattle.tsp_promises.specs.Sound.{IsSound, IsSoundBody, IsSoundDeed, IsSoundTaken}
 use Rattle.tsp_run.proofs.SoundAll.{AreSoundLines}

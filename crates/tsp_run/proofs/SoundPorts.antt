@@ -1,16 +1,13 @@
 -- What a node does over its ports keeps its lines sound, where what it is given is.
-use Rattle.std.specs.Prelude.{◌≡◌, ◌<◌, ◌^◌, ℕ, ◌-◌, ◌&&◌, nat_le, nat_lt, ℤ, Bool, true, false, if◌then◌else◌, List, [], ◌∷◌, refl}
-use Rattle.std.proofs.Common.{sym, subst, arith}
+use Rattle.std.proofs.Common.{sym, subst, arith, ◌≡◌, ◌<◌, ◌^◌, ℕ, ◌-◌, ◌&&◌, nat_le, nat_lt, ℤ, Bool, true, false, if◌then◌else◌, List, [], ◌∷◌, refl}
 use Rattle.tsp_rules.specs.Values.{Boot, Placed, Message, LoopKind, Body, Nothing, TimeBody, Hops, Port, HOPS}
 use Rattle.tsp_base.specs.Words.{Booted, Step, Acts, dids, first_port, carries_time, carries_hops, MessageValue, body_fits, word, word_after, puts}
 use Rattle.tsp_rules.specs.GateRows.{ports_from, all_ports, turns_on, hops_in, one_hop_less, same_name, PassOver, GiveUp, Forward, judge, NodeGiven, NodeTurn, GotOn, input_all, answers_all, boots_on, boots_all}
 use Rattle.tsp_rules.specs.NodeRows.{NodePast, spread, in_node_step, on, ◌and_then◌, reading_all, for_ports}
-use Rattle.tsp_rules.proofs.NodeRowLemmas.{spread_append}
 use Rattle.tsp_promises.specs.Sound.{IsSound, IsSoundBody, IsSoundTaken}
-use Rattle.tsp_promises.proofs.GateFacts.{All_after}
-use Rattle.tsp_rules.proofs.BuiltAll.{AnyPort, EmptyAll}
+use Rattle.tsp_promises.proofs.{GateFacts.All_after, SoundBuilt.ranges_owed, SoundBuilt.taken_ranges}
+use Rattle.tsp_rules.proofs.{BuiltAll.AnyPort, BuiltAll.EmptyAll, NodeRowLemmas.spread_append}
 use Rattle.tsp_rules.proofs.BuiltPorts.{OwesStep, built_all_boots, built_all_turns, built_takes_on}
-use Rattle.tsp_promises.proofs.SoundBuilt.{ranges_owed, taken_ranges}
 use Rattle.tsp_run.proofs.SoundAll.{SoundNode, SoundlyAll, sound_all_built}
 
 -- a LOOP that is passed on

@@ -3,10 +3,7 @@ use Rattle.std.specs.Prelude.{◌≡◌, ◌≤◌, ◌<◌, List, length}
 use Rattle.tsp_rules.specs.Values.{Post, Datagram, Message, Stamp, Stranger}
 use Rattle.tsp_base.specs.Words.{Acts, Line, Seen, of, view, Setup, TakesFrom}
 use Rattle.tsp_codec.specs.Canon.{written_size}
-use Rattle.tsp_promises.specs.DeedFits.{answer_name}
-use Rattle.tsp_promises.specs.Everywhere.{Everywhere}
-use Rattle.tsp_promises.specs.Fits.{node_of}
-use Rattle.tsp_promises.specs.Setting.{Setting, setup_of}
+use Rattle.tsp_promises.specs.{DeedFits.answer_name, Everywhere.Everywhere, Fits.node_of, Setting.Setting, Setting.setup_of}
 
 -- a stamp request of 28 octets is answered by 28. A message is answered by 76, if the name in the answer has at most 63
 -- octets, and else by 268

@@ -1,6 +1,5 @@
 -- That the promise of the octets of answers says something: small histories of one node break it.
-use Rattle.tsp_promises.specs.Broken.{Breaks}
-use Rattle.tsp_promises.specs.Setting.{Setting}
+use Rattle.tsp_promises.specs.{Broken.Breaks, Setting.Setting}
 use Rattle.tsp_run.specs.AnswerOctets.{AnswerOctets}
 
 -- what breaks the promise, in one setting

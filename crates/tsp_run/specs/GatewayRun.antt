@@ -3,9 +3,7 @@ use Rattle.std.specs.Prelude.{◌≡◌, ℕ, pos, false, List, [], ◌∷◌, c
 use Rattle.tsp_rules.specs.Values.{Act, Boot, Took, Post, Become, Arm, Ring, Correct, Quiet, Elect, Search, Message, Good, Event, BootAt, Turn, Bytes, NodeLine, Ack, AdjTime, MasterReq, MasterUp, SlaveUp, Peer, Starting, Loose, Follow}
 use Rattle.tsp_base.specs.Words.{HeaderValue, MessageValue, bare, timed, peer_of as peer}
 use Rattle.tsp_base.specs.declared.event.EventFault.TheVariants.{NoNode}
-use Rattle.tsp_run.specs.declared.line.Line.{Line}
-use Rattle.tsp_run.specs.Refusals.{refusal, scene, Valid}
-use Rattle.tsp_run.specs.Run.{told}
+use Rattle.tsp_run.specs.{Refusals.refusal, Refusals.scene, Refusals.Valid, Run.told, declared.line.Line.Line}
 
 -- a node that has this name, no drift and wall clock 0, and that is never master
 abbrev pub slave_named : List ℕ → NodeLine

@@ -2,8 +2,7 @@
 use Rattle.std.specs.Prelude.{ℕ, zero, suc, ◌+◌, ◌==◌, if◌then◌else◌, List, [], ◌∷◌, ◌++◌, length, map, Option, None, Some}
 use Rattle.tsp_rules.specs.Values.{PeerId, Place, Peer, Stranger, Port}
 use Rattle.tsp_base.specs.Words.{HeaderValue, has_member, peer_of}
-use Rattle.tsp_rules.specs.NodeRows.{PortSetup}
-use Rattle.tsp_rules.specs.Rooms.{room_for}
+use Rattle.tsp_rules.specs.{NodeRows.PortSetup, Rooms.room_for}
 use Rattle.tsp_run.specs.declared.address.Address.{Address}
 
 -- the numbers from 0 to n - 1, ascending

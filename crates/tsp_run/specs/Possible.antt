@@ -2,9 +2,7 @@
 use Rattle.std.specs.Prelude.{◌≡◌, ◌<◌, ◌^◌, List, [], ◌∷◌, length, None, All}
 use Rattle.tsp_rules.specs.Values.{Event}
 use Rattle.tsp_base.specs.Words.{HeaderValue, IsHeader}
-use Rattle.tsp_run.specs.Ranges.{Accepted, IsInRange}
-use Rattle.tsp_run.specs.Refusals.{impossible, scene}
-use Rattle.tsp_run.specs.Run.{posts, run}
+use Rattle.tsp_run.specs.{Ranges.Accepted, Ranges.IsInRange, Refusals.impossible, Refusals.scene, Run.posts, Run.run}
 
 -- each of these events can happen after those before it
 abbrev pub Happens : HeaderValue → List Event → Type 0

@@ -3,16 +3,10 @@
 use Rattle.std.specs.Prelude.{◌≡◌, ◌≢◌, ◌<◌, ◌≤◌, nat_le, ℕ, ◌+◌, if◌then◌else◌, List, [], ◌∷◌, length, Some, slice_get}
 use Rattle.tsp_rules.specs.Values.{Boot, Post, Message, Event, BootAt, Take, Bytes, Peer, LIFE}
 use Rattle.tsp_base.specs.Words.{HeaderValue, Acts, Deed, Line, Seen, Here, Elsewhere, of, view}
-use Rattle.tsp_promises.specs.Everywhere.{Everywhere}
-use Rattle.tsp_promises.specs.Fits.{node_of}
+use Rattle.tsp_promises.specs.{Everywhere.Everywhere, Fits.node_of, Setting.Setting}
 use Rattle.tsp_promises.specs.Premises.{Few, Honest, Life, NamesApart, OwnWords, Words}
-use Rattle.tsp_promises.specs.Setting.{Setting}
 use Rattle.tsp_run.specs.declared.posted.Posted.{Posted}
-use Rattle.tsp_run.specs.Possible.{Possible}
-use Rattle.tsp_run.specs.Ranges.{Accepted}
-use Rattle.tsp_run.specs.Run.{posts, run}
-use Rattle.tsp_run.specs.Setting.{SetBy}
-use Rattle.tsp_run.specs.Setup.{node_line}
+use Rattle.tsp_run.specs.{Possible.Possible, Ranges.Accepted, Run.posts, Run.run, Setting.SetBy, Setup.node_line}
 
 -- an event isn't a `bytes` whose octets seem to come from a peer
 abbrev pub IsSealed : Event → Type 0

@@ -1,12 +1,8 @@
 -- What is promised of a run's history.
 use Rattle.std.specs.Prelude.{◌≡◌, true, List}
 use Rattle.tsp_base.specs.Words.{Line}
-use Rattle.tsp_promises.specs.OneWinner.{OneWinner}
-use Rattle.tsp_promises.specs.Premises.{Few, Honest, Life}
-use Rattle.tsp_promises.specs.Safe.{Safe}
 use Rattle.tsp_promises.specs.Setting.{Setting}
-use Rattle.tsp_promises.specs.Dated.{Dated}
-use Rattle.tsp_promises.specs.Looped.{Looped}
+use Rattle.tsp_promises.specs.{Dated.Dated, Looped.Looped, OneWinner.OneWinner, Premises.Few, Premises.Honest, Premises.Life, Safe.Safe}
 use Rattle.tsp_run.specs.AnswerOctets.{AnswerOctets}
 
 -- the history is Safe, and keeps the promises of dates, of LOOPs, and of how many octets strangers are sent; if

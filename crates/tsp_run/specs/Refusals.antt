@@ -5,8 +5,7 @@ use Rattle.tsp_base.specs.Words.{HeaderValue, of, dids, up}
 use Rattle.tsp_base.specs.declared.event.EventFault.{EventFault}
 use Rattle.tsp_base.specs.declared.event.EventFault.TheVariants.{TimeBack, NoNode, NoDatagram, NotUp, Limit, OutOfMemory}
 use Rattle.tsp_run.specs.declared.posted.Posted.{Posted}
-use Rattle.tsp_run.specs.declared.address.Address.{Address}
-use Rattle.tsp_run.specs.Networks.{networks, ports_on, room}
+use Rattle.tsp_run.specs.{Networks.networks, Networks.ports_on, Networks.room, declared.address.Address.Address}
 use Rattle.tsp_run.specs.Run.{event_at, goes_to, last_at, posts, run}
 
 -- the most events that a schedule may have, 200,000, and the most datagrams that its nodes may post, 1,000,000

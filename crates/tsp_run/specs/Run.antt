@@ -2,16 +2,11 @@
 use Rattle.std.specs.Prelude.{ℕ, ◌+◌, pos, ◌+ℤ◌, List, [], ◌∷◌, ◌++◌, length, Option, None, Some, slice_get}
 use Rattle.tsp_rules.specs.Values.{Act, Post, Placed, Event, BootAt, Turn, Take, Bytes, Peer, Port}
 use Rattle.tsp_base.specs.Words.{HeaderValue, Booted, Turned, Came as TakesPost, Handed, Step, Deed, Begins, Acts, Line, stepped, peer_of, tick_at}
-use Rattle.tsp_codec.specs.Canon.{canon}
-use Rattle.tsp_codec.specs.Taken.{taken_of}
+use Rattle.tsp_codec.specs.{Canon.canon, Taken.taken_of}
 use Rattle.tsp_rules.specs.GateRows.{NodeTurn, GotOn, answers_all, boots_all}
 use Rattle.tsp_rules.specs.NodeRows.{NodeRow, in_node_step}
-use Rattle.tsp_run.specs.declared.address.Address.{Address}
-use Rattle.tsp_run.specs.declared.arrival.Arrival.{Arrival}
-use Rattle.tsp_run.specs.declared.line.Line.{Line as ToldLine}
-use Rattle.tsp_run.specs.declared.posted.Posted.{Posted}
-use Rattle.tsp_run.specs.Networks.{networks, address_of}
-use Rattle.tsp_run.specs.Setup.{node_line, past_of}
+use Rattle.tsp_run.specs.declared.{arrival.Arrival.Arrival, line.Line.Line as ToldLine, posted.Posted.Posted}
+use Rattle.tsp_run.specs.{Networks.networks, Networks.address_of, Setup.node_line, Setup.past_of, declared.address.Address.Address}
 
 -- the true time of an event, in microseconds
 abbrev pub event_at : Event → ℕ

@@ -4,12 +4,8 @@ use Rattle.tsp_rules.specs.Values.{Event, PeerId, Port}
 use Rattle.tsp_base.specs.Words.{HeaderValue, IsHeader, peer_of}
 use Rattle.tsp_promises.specs.Fits.{Fits, Finished}
 use Rattle.tsp_promises.specs.Setting.{Alone, Named, Network, Setting}
-use Rattle.tsp_run.specs.Possible.{Possible}
-use Rattle.tsp_run.specs.Promises.{Promises}
-use Rattle.tsp_run.specs.Ranges.{Accepted}
-use Rattle.tsp_run.specs.Run.{run}
-use Rattle.tsp_run.specs.Networks.{network_at, networks, peers_on}
-use Rattle.tsp_run.specs.Setup.{node_line}
+use Rattle.tsp_run.specs.{Run.run, Setup.node_line}
+use Rattle.tsp_run.specs.{Networks.network_at, Networks.networks, Networks.peers_on, Possible.Possible, Promises.Promises, Ranges.Accepted}
 
 -- the network with this number, if there is one, else the other
 abbrev pub named_or : Network → Option ℕ → Network

@@ -1,8 +1,7 @@
 -- What a schedule's header sets up: the nodes, their ports, and a node's past in a history.
 use Rattle.std.specs.Prelude.{ℕ, false, pos, List, [], slice_index_or}
-use Rattle.tsp_rules.specs.Values.{NodeLine}
 use Rattle.tsp_base.specs.Words.{HeaderValue, Step, Turned, Line, of}
-use Rattle.tsp_rules.specs.NodeRows.{NodePast}
+use Rattle.tsp_rules.specs.{NodeRows.NodePast, Values.NodeLine}
 use Rattle.tsp_run.specs.Networks.{networks, ports_on}
 
 -- a node without a name, in place of one that doesn't exist

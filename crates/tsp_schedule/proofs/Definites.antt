@@ -1,14 +1,10 @@
 -- At each place of a schedule's lines one thing at most may follow.
 use Rattle.std.proofs.Common.{◌≡◌, ℕ, inl, inr, List, [], Some, sym, ap, ◌∙◌, subst}
-use Rattle.tsp_base.specs.declared.event.Event.{Event}
-use Rattle.tsp_base.specs.declared.event.EventFault.{EventFault}
 use Rattle.tsp_base.specs.declared.event.EventFault.TheVariants.{TimeBack, NoNode, NoDatagram, NotUp, Limit, OutOfMemory}
-use Rattle.tsp_base.specs.Words.{HeaderValue}
-use Rattle.tsp_script.specs.declared.event_line.EventItem.TheVariants.{Event as EventOf}
-use Rattle.tsp_script.proofs.OneEvent.{events_apart}
+use Rattle.tsp_base.specs.{Words.HeaderValue, declared.event.Event.Event, declared.event.EventFault.EventFault}
+use Rattle.tsp_script.{proofs.OneEvent.events_apart, specs.declared.event_line.EventItem.TheVariants.Event as EventOf}
 use Rattle.tsp_schedule.specs.Schedules.{Progress, Untitled, Titled, Drifted, Heading, Running, Ended, IsCause, Refuses, RefusesRun, Limits, LimitsRun, Lacks, IsEnded}
-use Rattle.tsp_schedule.proofs.OneReading.{end_kept}
-use Rattle.tsp_schedule.specs.Refusing.{Refusing}
+use Rattle.tsp_schedule.{proofs.OneReading.end_kept, specs.Refusing.Refusing}
 
 -- a fault has one cause
 IsCause-one : (fault : EventFault) (cause other : List ℕ) → IsCause fault cause → IsCause fault other → cause ≡ other

@@ -1,31 +1,18 @@
 -- No line of a schedule has more than 1,024 octets.
-use Rattle.std.specs.Prelude.{◌≡◌, ℕ, ◌*◌, ◌^◌, ◌<◌, ◌≤◌, if◌then◌else◌, List, [], ◌∷◌, ◌++◌, length, take, drop, decimal, codes, Bool, true, false, ◌==◌, ◌&&◌, not, refl}
-use Rattle.std.proofs.Common.{sym, ap, ◌∙◌, inl, inr, arith, length-append, append_assoc, take-append-drop, subst}
-use Rattle.std.specs.Fmt.{signed_decimal}
-use Rattle.std.specs.List.{All}
-use Rattle.std.proofs.lemmas.Fmt.{length-decimal-le}
-use Rattle.std.proofs.lemmas.List.Elements.{All-head, All-tail}
-use Rattle.tsp_base.specs.declared.event.Event.{Event}
+use Rattle.std.proofs.Common.{sym, ap, ◌∙◌, inl, inr, arith, length-append, append_assoc, take-append-drop, subst, ◌≡◌, ℕ, ◌*◌, ◌^◌, ◌<◌, ◌≤◌, if◌then◌else◌, List, [], ◌∷◌, ◌++◌, length, take, drop, decimal, codes, Bool, true, false, ◌==◌, ◌&&◌, not, refl}
+use Rattle.std.specs.{Fmt.signed_decimal, List.All}
+use Rattle.std.proofs.lemmas.{Fmt.length-decimal-le, List.Elements.All-head, List.Elements.All-tail}
 use Rattle.tsp_base.specs.declared.event.Event.TheVariants.{Boot as BootAt, Turn, Take, Bytes}
-use Rattle.tsp_base.specs.declared.header.NodeLine.{NodeLine}
-use Rattle.tsp_base.specs.declared.place.Place.{Place}
-use Rattle.tsp_base.specs.declared.place.Port.{Port}
-use Rattle.tsp_base.specs.declared.place.Place.TheVariants.{Peer, Stranger}
-use Rattle.tsp_base.specs.Words.{HeaderValue}
-use Rattle.tsp_script.specs.Texts.{space}
-use Rattle.tsp_script.specs.Traces.{place_text}
-use Rattle.tsp_script.specs.declared.event_line.EventItem.{EventItem}
+use Rattle.tsp_base.specs.declared.place.{Place.TheVariants.Peer, Place.TheVariants.Stranger, Port.Port}
+use Rattle.tsp_base.specs.{Words.HeaderValue, declared.event.Event.Event, declared.header.NodeLine.NodeLine, declared.place.Place.Place}
+use Rattle.tsp_script.specs.{Texts.space, Traces.place_text, declared.event_line.EventItem.EventItem, declared.head_line.HeadItem.HeadItem}
 use Rattle.tsp_script.specs.declared.event_line.EventItem.TheVariants.{Event as EventOf, End}
-use Rattle.tsp_script.specs.declared.head_line.HeadItem.{HeadItem}
 use Rattle.tsp_script.specs.declared.head_line.HeadItem.TheVariants.{Title, Drift, Strict, Node, Net, NotHead}
 use Rattle.tsp_script.specs.Schedules.{event_text, port_text, node_text, numbers_text, net_text, flag_text, IsPlace, IsEvent, IsHexOf, IsNodeLine, IsNetLine, IsNotHead, SpellsEvent, SpellsHead}
-use Rattle.tsp_script.proofs.EventLines.{short_hex}
-use Rattle.tsp_script.proofs.Lengths.{number_length, signed_length}
+use Rattle.tsp_script.proofs.{EventLines.short_hex, Lengths.number_length, Lengths.signed_length}
 use Rattle.tsp_schedule.specs.Schedules.{Progress, Untitled, Titled, Drifted, Heading, Running, Ended, next_place, Refuses, IsComplete}
-use Rattle.tsp_schedule.specs.Stages.{StageStands, RunStands}
 use Rattle.tsp_schedule.specs.declared.stage.Stage.TheVariants.{Titled as AtTitled, Drifted as AtDrifted, Heading as AtHeading}
-use Rattle.tsp_schedule.specs.Refusing.{Refusing}
-use Rattle.tsp_schedule.specs.declared.run.Run.{Run}
+use Rattle.tsp_schedule.specs.{Refusing.Refusing, Stages.StageStands, Stages.RunStands, declared.run.Run.Run}
 
 -- a place has at most 20 octets
 pub place_length : (p : Place) → IsPlace p → length (place_text p) ≤ 20

@@ -1,13 +1,10 @@
 -- Lines are read in one way, and none of a schedule is refused.
 use Rattle.std.proofs.Common.{◌≡◌, ℕ, inl, inr, List, [], ◌∷◌, ◌++◌, None, sym, ap, ◌∙◌, subst}
-use Rattle.tsp_base.specs.declared.event.Event.{Event}
-use Rattle.tsp_base.specs.declared.header.NodeLine.{NodeLine}
-use Rattle.tsp_base.specs.Words.{HeaderValue}
+use Rattle.tsp_base.specs.{Words.HeaderValue, declared.event.Event.Event, declared.header.NodeLine.NodeLine}
 use Rattle.tsp_script.specs.declared.event_line.EventItem.TheVariants.{Event as EventOf, End}
 use Rattle.tsp_script.specs.declared.head_line.HeadItem.TheVariants.{Title, Drift, Strict, Node, Net, NotHead}
 use Rattle.tsp_script.specs.Schedules.{SpellsEvent, SpellsHead}
-use Rattle.tsp_script.proofs.OneEvent.{SpellsEvent-one, events_apart}
-use Rattle.tsp_script.proofs.OneHead.{SpellsHead-one}
+use Rattle.tsp_script.proofs.{OneEvent.SpellsEvent-one, OneEvent.events_apart, OneHead.SpellsHead-one}
 use Rattle.tsp_schedule.specs.Schedules.{Progress, Untitled, Titled, Drifted, Heading, Running, Ended, Takes, TakesNet, next_place, RunsOn, GoesOn, Reaches, Refuses, RefusesRun, RefusesHeading, IsComplete, Limits, LimitsRun, drifted}
 use Rattle.tsp_schedule.specs.Refusing.{Refusing}
 

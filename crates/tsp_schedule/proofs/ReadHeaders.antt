@@ -1,11 +1,8 @@
 -- The header of lines that are a schedule's keeps its ranges.
-use Rattle.std.proofs.Common.{◌≡◌, ℕ, ◌≤◌, length, ap, inl, inr, List, [], ◌∷◌, ◌++◌, length-append, sym, subst, arith}
-use Rattle.std.specs.Prelude.{◌==◌, Bool, true, false, if◌then◌else◌}
+use Rattle.std.proofs.Common.{◌≡◌, ℕ, ◌≤◌, length, ap, inl, inr, List, [], ◌∷◌, ◌++◌, length-append, sym, subst, arith, ◌==◌, Bool, true, false, if◌then◌else◌}
 use Rattle.std.proofs.lemmas.List.Elements.{All-push}
-use Rattle.tsp_base.specs.declared.event.Event.{Event}
-use Rattle.tsp_base.specs.declared.header.NodeLine.{NodeLine}
-use Rattle.tsp_base.specs.Words.{HeaderValue, IsHeader, KeepsDrift}
-use Rattle.tsp_base.proofs.HeaderLemmas.{IsHeader-joined}
+use Rattle.tsp_base.specs.{Words.HeaderValue, Words.IsHeader, Words.KeepsDrift, declared.event.Event.Event}
+use Rattle.tsp_base.{proofs.HeaderLemmas.IsHeader-joined, specs.declared.header.NodeLine.NodeLine}
 use Rattle.tsp_schedule.specs.Schedules.{Progress, Untitled, Titled, Drifted, Heading, Running, Ended, Takes, TakesNet, new_header, RunsOn, GoesOn, Reaches}
 use Rattle.tsp_schedule.specs.Refusing.{Refusing}
 

@@ -1,28 +1,20 @@
 -- How a stage goes on, and how it halts.
-use Rattle.std.specs.Prelude.{◌≡◌, ◌≢◌, ℕ, Bool, List, [], ◌∷◌, ◌++◌, Ok, Err, Option, None, Some, MatchBool, MatchOption, MatchResult, refl, true, false}
-use Rattle.std.proofs.Common.{sym, ap, ◌∙◌, inl, inr, subst}
+use Rattle.std.proofs.Common.{sym, ap, ◌∙◌, inl, inr, subst, ◌≡◌, ◌≢◌, ℕ, Bool, List, [], ◌∷◌, ◌++◌, Ok, Err, Option, None, Some, MatchBool, MatchOption, MatchResult, refl, true, false}
 use Rattle.std.specs.declared.result.Result.{Result}
-use Rattle.tsp_base.specs.declared.event.Event.{Event}
-use Rattle.tsp_base.specs.declared.event.EventFault.{EventFault}
 use Rattle.tsp_base.specs.declared.event.EventFault.TheVariants.{TimeBack, NoNode, NoDatagram, NotUp, Limit as NoRoom, OutOfMemory as NoMemory}
 use Rattle.tsp_base.specs.declared.header.NodeLine.{NodeLine}
-use Rattle.tsp_base.specs.Words.{HeaderValue}
-use Rattle.tsp_lines.specs.Lines.{line_ahead}
-use Rattle.tsp_lines.specs.declared.treatment.Stop.{Stop}
+use Rattle.tsp_base.specs.{Words.HeaderValue, declared.event.Event.Event, declared.event.EventFault.EventFault}
+use Rattle.tsp_lines.specs.{Lines.line_ahead, declared.treatment.Stop.Stop}
 use Rattle.tsp_lines.specs.declared.treatment.Stop.TheVariants.{Bad, Limit, WriteFault, OutOfMemory}
-use Rattle.tsp_script.specs.declared.event_line.EventItem.{EventItem}
 use Rattle.tsp_script.specs.declared.event_line.EventItem.TheVariants.{Event as EventOf, End}
-use Rattle.tsp_script.specs.declared.head_line.HeadItem.{HeadItem}
+use Rattle.tsp_script.specs.declared.{head_line.HeadItem.HeadItem, line_fault.LineFault.LineFault}
 use Rattle.tsp_script.specs.declared.head_line.HeadItem.TheVariants.{Title, Drift, Node, Net, NotHead}
-use Rattle.tsp_script.specs.declared.line_fault.LineFault.{LineFault}
-use Rattle.tsp_script.specs.Schedules.{SpellsEvent, SpellsHead}
+use Rattle.tsp_script.specs.{Schedules.SpellsEvent, Schedules.SpellsHead, declared.event_line.EventItem.EventItem}
 use Rattle.tsp_script.proofs.OneEvent.{SpellsEvent-one}
-use Rattle.tsp_schedule.specs.declared.run.Run.{Run}
-use Rattle.tsp_schedule.specs.declared.stage.Stage.{Stage}
 use Rattle.tsp_schedule.specs.declared.stage.Stage.TheVariants.{Titled as AtTitled, Drifted as AtDrifted, Heading as AtHeading, Running as AtRunning}
 use Rattle.tsp_schedule.specs.Schedules.{Progress, Untitled, Titled, Drifted, Heading, Running, Ended, GoesOn, RunsOn, Takes, TakesNet, IsComplete, next_place, new_header, IsCause, drifted}
 use Rattle.tsp_schedule.specs.Stages.{StageStands, RunStands, TriesFront, Advances, AdvancesByEvent, Halts, HaltsFirst, HaltsNode, HaltsNet, HaltsEvent, StopsFor}
-use Rattle.tsp_schedule.specs.Refusing.{Refusing}
+use Rattle.tsp_schedule.specs.{Refusing.Refusing, declared.run.Run.Run, declared.stage.Stage.Stage}
 use Rattle.tsp_run.specs.Refusals.{IsRefusal}
 
 pub MatchResult-map : {A B : Type 0} {P R : A → Type 0} {Q S : B → Type 0} (r : Result A B) → MatchResult r P Q → ((a : A) → P a → R a) → ((b : B) → Q b → S b) → MatchResult r R S

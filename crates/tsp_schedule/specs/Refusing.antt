@@ -1,8 +1,6 @@
 -- Why the events of a schedule are refused.
 use Rattle.std.specs.Prelude.{List, Option}
-use Rattle.tsp_base.specs.declared.event.Event.{Event}
-use Rattle.tsp_base.specs.declared.event.EventFault.{EventFault}
-use Rattle.tsp_base.specs.Words.{HeaderValue}
+use Rattle.tsp_base.specs.{Words.HeaderValue, declared.event.Event.Event, declared.event.EventFault.EventFault}
 
 -- the cause, if there is one, for which an event is refused after these events, the newest first, under a header
 abbrev pub Refusing : Type 0

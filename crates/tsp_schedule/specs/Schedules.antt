@@ -1,15 +1,12 @@
 -- Reading a schedule line by line: how far it is after a list of lines, which line may come next, and why one is refused. Why events are refused is a parameter.
 use Rattle.std.specs.Prelude.{◌≡◌, ◌⊎◌, ℕ, ◌<◌, ◌==◌, if◌then◌else◌, false, List, [], ◌∷◌, ◌++◌, length, Some, None, codes, decimal, ◌&&◌, not, Bool, true}
-use Rattle.tsp_base.specs.declared.event.Event.{Event}
-use Rattle.tsp_base.specs.declared.event.EventFault.{EventFault}
+use Rattle.tsp_base.specs.declared.{event.Event.Event, event.EventFault.EventFault, header.NodeLine.NodeLine}
 use Rattle.tsp_base.specs.declared.event.EventFault.TheVariants.{TimeBack, NoNode, NoDatagram, NotUp, Limit, OutOfMemory}
-use Rattle.tsp_base.specs.declared.header.NodeLine.{NodeLine}
 use Rattle.tsp_base.specs.Words.{HeaderValue, Joins, KeepsDrift, is_whole}
-use Rattle.tsp_script.specs.declared.event_line.EventItem.{EventItem}
 use Rattle.tsp_script.specs.declared.event_line.EventItem.TheVariants.{Event as EventOf, End}
 use Rattle.tsp_script.specs.declared.head_line.HeadItem.{HeadItem}
 use Rattle.tsp_script.specs.declared.head_line.HeadItem.TheVariants.{Title, Drift, Strict, Node, Net, NotHead}
-use Rattle.tsp_script.specs.Schedules.{SpellsEvent, SpellsHead}
+use Rattle.tsp_script.specs.{Schedules.SpellsEvent, Schedules.SpellsHead, declared.event_line.EventItem.EventItem}
 use Rattle.tsp_schedule.specs.Refusing.{Refusing}
 
 -- how far the reading of a schedule is; the events are newest first

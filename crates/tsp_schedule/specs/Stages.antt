@@ -1,18 +1,13 @@
 -- What a stage of the reading of a schedule stands for.
 use Rattle.std.specs.Prelude.{◌≡◌, ◌⊎◌, ℕ, Bool, true, false, List, [], ◌∷◌, reverse, None, Some, codes, Option, MatchBool, MatchOption, MatchResult}
 use Rattle.std.specs.declared.result.Result.{Result}
-use Rattle.tsp_base.specs.declared.event.Event.{Event}
-use Rattle.tsp_base.specs.declared.event.EventFault.{EventFault}
 use Rattle.tsp_base.specs.declared.event.EventFault.TheVariants.{TimeBack, NoNode, NoDatagram, NotUp, Limit as NoRoom, OutOfMemory as NoMemory}
 use Rattle.tsp_base.specs.declared.header.NodeLine.{NodeLine}
-use Rattle.tsp_base.specs.Words.{HeaderValue}
-use Rattle.tsp_schedule.specs.declared.run.Run.{Run}
-use Rattle.tsp_schedule.specs.declared.stage.Stage.{Stage}
+use Rattle.tsp_base.specs.{Words.HeaderValue, declared.event.Event.Event, declared.event.EventFault.EventFault}
 use Rattle.tsp_schedule.specs.declared.stage.Stage.TheVariants.{Untitled as AtUntitled, Titled as AtTitled, Drifted as AtDrifted, Heading as AtHeading, Running as AtRunning}
-use Rattle.tsp_schedule.specs.Refusing.{Refusing}
+use Rattle.tsp_schedule.specs.{Refusing.Refusing, declared.run.Run.Run, declared.stage.Stage.Stage}
 use Rattle.tsp_schedule.specs.Schedules.{Progress, Untitled, Titled, Drifted, Heading, Running, Ended, GoesOn, Reaches, Refuses, RefusesRun, Limits, LimitsRun, Takes, TakesNet, IsComplete, IsCause, new_header}
-use Rattle.tsp_lines.specs.Lines.{line_ahead}
-use Rattle.tsp_lines.specs.declared.treatment.Stop.{Stop}
+use Rattle.tsp_lines.specs.{Lines.line_ahead, declared.treatment.Stop.Stop}
 use Rattle.tsp_lines.specs.declared.treatment.Stop.TheVariants.{Bad, Limit, WriteFault, OutOfMemory}
 
 -- a stage stands for this progress

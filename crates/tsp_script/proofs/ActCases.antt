@@ -1,17 +1,8 @@
 -- An act with the word of a post is a post, and every other act has no number.
-use Rattle.std.proofs.Common.{◌≡◌, ◌≢◌, ◌⊎◌, inl, inr, ℕ, ◌<◌, ◌^◌, List, ◌∷◌, ◌++◌, refl}
-use Rattle.std.specs.Prelude.{decimal}
-use Rattle.tsp_base.specs.declared.act.Act.{Act}
-use Rattle.tsp_base.specs.declared.act.Act.TheVariants.{Post}
-use Rattle.tsp_base.specs.declared.datagram.Datagram.{Datagram}
-use Rattle.tsp_base.specs.declared.place.Place.{Place}
-use Rattle.tsp_script.specs.ActLines.{IsAct, IsNumberOf}
-use Rattle.tsp_script.specs.Ranges.{IsDatagram}
-use Rattle.tsp_script.specs.Schedules.{IsPlace}
-use Rattle.tsp_script.specs.Texts.{message_text}
-use Rattle.tsp_script.specs.Traces.{place_text}
-use Rattle.tsp_script.specs.Verbs.{verb_of, rest_of_act}
-use Rattle.tsp_script.specs.declared.verbs.Verb.{Verb}
+use Rattle.std.proofs.Common.{◌≡◌, ◌≢◌, ◌⊎◌, inl, inr, ℕ, ◌<◌, ◌^◌, List, ◌∷◌, ◌++◌, refl, decimal}
+use Rattle.tsp_base.specs.declared.{act.Act.Act, act.Act.TheVariants.Post, datagram.Datagram.Datagram, place.Place.Place}
+use Rattle.tsp_script.specs.{ActLines.IsAct, ActLines.IsNumberOf, Ranges.IsDatagram, Schedules.IsPlace, Texts.message_text}
+use Rattle.tsp_script.specs.{Traces.place_text, Verbs.verb_of, Verbs.rest_of_act, declared.verbs.Verb.Verb}
 use Rattle.tsp_script.specs.declared.verbs.Verb.TheVariants.{Boot as BootWord, Post as PostWord, Abandon as AbandonWord}
 
 pub post_case : (Holds : ℕ → Act → Type 0) (rest : List ℕ) (number : ℕ) (a : Act) → IsAct a → IsNumberOf a number → PostWord ≡ verb_of a → rest ≡ rest_of_act number a

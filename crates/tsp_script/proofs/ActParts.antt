@@ -1,25 +1,14 @@
 -- What stands behind an act's word: what was taken, and the parts of an act.
-use Rattle.std.proofs.Common.{◌≡◌, ℕ, List, ◌++◌, refl, sym, ◌∙◌, ap, arith, false, slice_index_or, append_assoc}
-use Rattle.std.specs.Prelude.{ℤ, codes}
+use Rattle.std.proofs.Common.{◌≡◌, ℕ, List, ◌++◌, refl, sym, ◌∙◌, ap, arith, false, slice_index_or, append_assoc, ℤ, codes}
 use Rattle.std.proofs.lemmas.List.{append_cancel_left}
-use Rattle.tsp_base.specs.Words.{kind_word}
-use Rattle.tsp_base.specs.declared.act.Act.TheVariants.{Sample, Close}
-use Rattle.tsp_base.specs.declared.datagram.Datagram.{Datagram}
-use Rattle.tsp_base.specs.declared.datagram.Datagram.TheVariants.{Message, Stamp}
-use Rattle.tsp_base.specs.declared.datagram.DecodeFault.{DecodeFault}
-use Rattle.tsp_base.specs.declared.datagram.Taken.{Taken}
-use Rattle.tsp_base.specs.declared.datagram.Taken.TheVariants.{Good, Bad}
-use Rattle.tsp_base.specs.declared.kind.Kind.{Kind}
-use Rattle.tsp_base.specs.declared.kind.Kind.TheVariants.{AdjTime}
-use Rattle.tsp_base.specs.declared.place.PeerId.{PeerId}
+use Rattle.tsp_base.specs.{Words.kind_word, declared.act.Act.TheVariants.Sample, declared.act.Act.TheVariants.Close}
+use Rattle.tsp_base.specs.declared.datagram.{Datagram.Datagram, Datagram.TheVariants.Message, Datagram.TheVariants.Stamp, Taken.Taken}
+use Rattle.tsp_base.specs.declared.datagram.{DecodeFault.DecodeFault, Taken.TheVariants.Good, Taken.TheVariants.Bad}
+use Rattle.tsp_base.specs.declared.{kind.Kind.Kind, kind.Kind.TheVariants.AdjTime, place.PeerId.PeerId}
 use Rattle.tsp_base.specs.declared.stamp.Stamp.TheVariants.{Request, Reply}
-use Rattle.tsp_script.specs.Texts.{message_text}
-use Rattle.tsp_script.specs.Traces.{fault_word, taken_text}
-use Rattle.tsp_script.specs.Words.{first_word}
-use Rattle.tsp_script.proofs.Cuts.{cut_front}
-use Rattle.tsp_script.proofs.KindWords.{no_space-kind_word, no_space-spaceless}
+use Rattle.tsp_script.specs.{Texts.message_text, Traces.fault_word, Traces.taken_text, Words.first_word}
+use Rattle.tsp_script.proofs.{Cuts.cut_front, KindWords.no_space-kind_word, KindWords.no_space-spaceless, WordTables.same_word}
 use Rattle.tsp_script.proofs.MessageLines.{message_rest, request_rest, reply_rest}
-use Rattle.tsp_script.proofs.WordTables.{same_word}
 
 other_refused : (k : Kind) → same_word (kind_word k) (codes "refused") ≡ false
 unfolding kind_word

@@ -1,19 +1,12 @@
 -- An act's text is a word and what stands behind it, and a trace's line four numbers and such a text.
-use Rattle.std.proofs.Common.{◌≡◌, ◌≢◌, ℕ, List, ◌∷◌, ◌++◌, refl, ◌∙◌, ap, sym, subst, Bool, true, false, append_assoc, Some}
-use Rattle.std.specs.Prelude.{decimal, codes}
+use Rattle.std.proofs.Common.{◌≡◌, ◌≢◌, ℕ, List, ◌∷◌, ◌++◌, refl, ◌∙◌, ap, sym, subst, Bool, true, false, append_assoc, Some, decimal, codes}
 use Rattle.std.specs.Fmt.{signed_decimal}
-use Rattle.tsp_base.specs.Words.{alarm_word}
-use Rattle.tsp_base.specs.declared.act.Act.{Act}
+use Rattle.tsp_base.specs.{Words.alarm_word, declared.act.Act.Act, declared.trace.Line2.Line2}
 use Rattle.tsp_base.specs.declared.act.Act.TheVariants.{Boot, Took, Post, Become, Back, Backer, Quit, Arm, Ring, Late, Join, Leave, Rival, Acked, Gave, Sample, Close, Correct, Abandon, Trace}
-use Rattle.tsp_base.specs.declared.trace.Line2.{Line2}
-use Rattle.tsp_script.specs.ActLines.{IsNumberOf}
-use Rattle.tsp_script.specs.Traces.{way_word, act_text, trace_text}
+use Rattle.tsp_script.specs.{ActLines.IsNumberOf, Traces.way_word, Traces.act_text, Traces.trace_text, Words.first_word, Words.after_word}
 use Rattle.tsp_script.specs.Verbs.{verb_word, verb_of, way_text, rest_of_act, SpellsRest}
-use Rattle.tsp_script.specs.declared.verbs.Verb.{Verb}
-use Rattle.tsp_script.specs.declared.verbs.Verb.TheVariants.{Boot as BootWord, Abandon as AbandonWord}
-use Rattle.tsp_script.specs.Words.{first_word, after_word}
-use Rattle.tsp_script.proofs.Cuts.{cut_front, space_inside}
-use Rattle.tsp_script.proofs.KindWords.{no_space-spaceless}
+use Rattle.tsp_script.specs.declared.verbs.Verb.{Verb, TheVariants.Boot as BootWord, TheVariants.Abandon as AbandonWord}
+use Rattle.tsp_script.proofs.{Cuts.cut_front, Cuts.space_inside, KindWords.no_space-spaceless}
 
 abbrev Splits : List ℕ → List ℕ → List ℕ → Type 0
 Splits line word rest = (first_word line ≡ word) × (after_word line ≡ rest)

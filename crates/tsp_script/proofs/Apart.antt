@@ -1,9 +1,6 @@
 -- Texts that are the same have the same words and numbers.
-use Rattle.std.proofs.Common.{◌≡◌, ℕ, ◌<◌, ◌^◌, List, ◌∷◌, ◌++◌, refl, sym, ◌∙◌}
-use Rattle.std.specs.Prelude.{ℤ, Contains, decimal}
-use Rattle.std.specs.Fmt.{signed_decimal}
-use Rattle.std.specs.Int.{w64}
-use Rattle.std.specs.Int.RustNames.{FitsSigned}
+use Rattle.std.proofs.Common.{◌≡◌, ℕ, ◌<◌, ◌^◌, List, ◌∷◌, ◌++◌, refl, sym, ◌∙◌, ℤ, Contains, decimal}
+use Rattle.std.specs.{Fmt.signed_decimal, Int.w64, Int.RustNames.FitsSigned}
 use Rattle.std.proofs.lemmas.Fmt.{decimal_injective, signed_decimal_injective}
 use lib.Signed.{mag}
 use Rattle.tsp_script.proofs.Cuts.{cut_front, no_space-decimal, no_space-signed}

@@ -1,16 +1,10 @@
 -- Laws of the bodies of messages.
-use Rattle.std.proofs.Common.{◌≡◌, ℕ, List, ◌++◌, true, false, Bool, refl, arith}
-use Rattle.std.specs.Prelude.{ℤ, pos, negsuc, not, ◌&&◌}
-use Rattle.std.specs.Int.{w64}
-use Rattle.std.specs.Int.RustNames.{FitsSigned}
-use Rattle.std.proofs.lemmas.Int.{ints}
+use Rattle.std.proofs.Common.{◌≡◌, ℕ, List, ◌++◌, true, false, Bool, refl, arith, ℤ, pos, negsuc, not, ◌&&◌}
+use Rattle.std.{proofs.lemmas.Int.ints, specs.Int.w64, specs.Int.RustNames.FitsSigned}
 use Rattle.tsp_base.specs.Words.{carries_time, carries_hops, body_fits, IsMicros}
-use Rattle.tsp_base.specs.declared.kind.Kind.{Kind}
-use Rattle.tsp_base.specs.declared.kind.Kind.TheVariants.{Loop as LoopKind}
-use Rattle.tsp_base.specs.declared.message.Body.{Body}
+use Rattle.tsp_base.specs.declared.{kind.Kind.Kind, kind.Kind.TheVariants.Loop as LoopKind, message.Body.Body}
 use Rattle.tsp_base.specs.declared.message.Body.TheVariants.{Nothing, Time as TimeBody, Hops}
-use Rattle.tsp_script.specs.Texts.{IsTimeBody, IsHopsBody, body_text}
-use Rattle.tsp_script.proofs.Outcomes.{true_or_false}
+use Rattle.tsp_script.{proofs.Outcomes.true_or_false, specs.Texts.IsTimeBody, specs.Texts.IsHopsBody, specs.Texts.body_text}
 
 -- no kind carries both a time and hops
 not_both : (k : Kind) → carries_time k ≡ true → carries_hops k ≡ true → ⊥

@@ -1,12 +1,7 @@
 -- Laws of the words of a line.
-use Rattle.std.proofs.Common.{◌≡◌, ◌≢◌, ℕ, ◌<◌, List, [], ◌∷◌, ◌++◌, zero, suc, length, take, drop, slice_index_or, refl, ap, sym, subst, ◌∙◌, inl, inr, arith}
-use Rattle.std.specs.Prelude.{Contains, decimal, ◌^◌, ℤ, pos, negsuc}
-use Rattle.std.specs.Fmt.{signed_decimal}
-use Rattle.std.specs.Str.Parse.{AllDigits}
-use Rattle.std.proofs.lemmas.Fmt.{decimal_is_IsNumeral}
-use Rattle.std.proofs.lemmas.Bool.Decides.{eqb_tells}
-use Rattle.std.specs.Int.{w64}
-use Rattle.std.specs.Int.RustNames.{FitsSigned}
+use Rattle.std.proofs.Common.{◌≡◌, ◌≢◌, ℕ, ◌<◌, List, [], ◌∷◌, ◌++◌, zero, suc, length, take, drop, slice_index_or, refl, ap, sym, subst, ◌∙◌, inl, inr, arith, Contains, decimal, ◌^◌, ℤ, pos, negsuc}
+use Rattle.std.specs.{Fmt.signed_decimal, Int.w64, Int.RustNames.FitsSigned, Str.Parse.AllDigits}
+use Rattle.std.proofs.lemmas.{Bool.Decides.eqb_tells, Fmt.decimal_is_IsNumeral}
 use Rattle.tsp_script.specs.Words.{before_mark, after_mark, first_word, after_word}
 
 contains_first : (m : ℕ) (xs : List ℕ) (c : ℕ) → c ≡ m → Contains (c ∷ xs) m

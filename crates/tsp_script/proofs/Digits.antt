@@ -1,9 +1,6 @@
 -- How a number's text grows by a digit.
-use Rattle.std.proofs.Common.{◌≡◌, ℕ, ◌+◌, ◌-◌, ◌*◌, ◌/◌, ◌%◌, ◌<◌, ◌≤◌, List, [], ◌∷◌, ◌++◌, length, take, drop, suc, slice_index_or, arith, append_assoc, add-one, drop-cons, ap, ◌∙◌, sym, Option, Some, None}
-use Rattle.std.specs.Prelude.{decimal, IfSome, ◌^◌}
-use Rattle.std.proofs.lemmas.Fmt.{decimal_step, decimal_digit}
-use Rattle.std.proofs.lemmas.Grind.{pow_more}
-use Rattle.std.proofs.Math.Nat.{pow-le-pow_right}
+use Rattle.std.proofs.Common.{◌≡◌, ℕ, ◌+◌, ◌-◌, ◌*◌, ◌/◌, ◌%◌, ◌<◌, ◌≤◌, List, [], ◌∷◌, ◌++◌, length, take, drop, suc, slice_index_or, arith, append_assoc, add-one, drop-cons, ap, ◌∙◌, sym, Option, Some, None, decimal, IfSome, ◌^◌}
+use Rattle.std.proofs.{Math.Nat.pow-le-pow_right, lemmas.Fmt.decimal_step, lemmas.Fmt.decimal_digit, lemmas.Grind.pow_more}
 use Rattle.std.proofs.lemmas.List.{take_more, take-append-drop}
 
 -- a digit behind a number that isn't 0

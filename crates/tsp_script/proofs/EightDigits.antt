@@ -1,12 +1,9 @@
 -- Eight digits that are read at once: their octets as one word, and the number that they make.
-use Rattle.std.proofs.Common.{◌≡◌, ℕ, ◌+◌, ◌-◌, ◌*◌, ◌/◌, ◌%◌, ◌<◌, ◌≤◌, List, ◌++◌, length, take, slice_index_or, arith, sym, ap, ◌∙◌, append-nil, subst, refl, lit<, lit≤}
-use Rattle.std.specs.Prelude.{decimal}
+use Rattle.std.proofs.Common.{◌≡◌, ℕ, ◌+◌, ◌-◌, ◌*◌, ◌/◌, ◌%◌, ◌<◌, ◌≤◌, List, ◌++◌, length, take, slice_index_or, arith, sym, ap, ◌∙◌, append-nil, subst, refl, lit<, lit≤, decimal}
 use Rattle.std.proofs.Common.{Fits, w8}
 use Rattle.std.specs.Int.RustNames.{bit_and}
-use Rattle.std.proofs.lemmas.Nat.{and_block, and_le_r, and_mask}
-use Rattle.std.proofs.lemmas.Nat.Bits.{and_high}
-use Rattle.tsp_script.specs.Eights.{octets_word, eight_value, word_at}
-use Rattle.tsp_script.proofs.Digits.{digits-more}
+use Rattle.std.proofs.lemmas.Nat.{and_block, and_le_r, and_mask, Bits.and_high}
+use Rattle.tsp_script.{proofs.Digits.digits-more, specs.Eights.octets_word, specs.Eights.eight_value, specs.Eights.word_at}
 
 -- the high half of an octet is 3
 abbrev pub IsHigh : ℕ → Type 0

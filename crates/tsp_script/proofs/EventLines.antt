@@ -1,25 +1,15 @@
 -- Laws of the lines of events.
-use Rattle.std.proofs.Common.{◌≡◌, ℕ, ◌≤◌, List, [], ◌∷◌, ◌++◌, length, refl, sym, ◌∙◌, arith, append_assoc, Ok}
-use Rattle.std.specs.Prelude.{decimal, codes, Contains}
+use Rattle.std.proofs.Common.{◌≡◌, ℕ, ◌≤◌, List, [], ◌∷◌, ◌++◌, length, refl, sym, ◌∙◌, arith, append_assoc, Ok, decimal, codes, Contains}
 use Rattle.std.specs.Str.Parse.{AllDigits}
-use Rattle.hex.specs.Hex.{decode_of}
-use Rattle.hex.proofs.HexLemmas.{decode_of-ok}
-use Rattle.tsp_base.specs.declared.event.Event.{Event}
+use Rattle.hex.{proofs.HexLemmas.decode_of-ok, specs.Hex.decode_of}
 use Rattle.tsp_base.specs.declared.event.Event.TheVariants.{Boot as BootAt, Turn, Take, Bytes}
-use Rattle.tsp_base.specs.declared.place.Place.{Place}
-use Rattle.tsp_base.specs.declared.place.Port.{Port}
-use Rattle.tsp_base.specs.declared.place.Place.TheVariants.{Peer, Stranger}
+use Rattle.tsp_base.specs.declared.{place.Place.TheVariants.Peer, place.Place.TheVariants.Stranger, plain.Plain.Plain}
 use Rattle.tsp_base.specs.declared.plain.Plain.TheVariants.{Turn as PlainTurn, Take as PlainTake}
-use Rattle.tsp_base.specs.Words.{event_in}
-use Rattle.tsp_base.specs.declared.plain.Plain.{Plain}
-use Rattle.tsp_script.specs.Plains.{IsTurnOrTake}
-use Rattle.tsp_script.specs.declared.event_line.EventItem.{EventItem}
+use Rattle.tsp_base.specs.{Words.event_in, declared.event.Event.Event, declared.place.Place.Place, declared.place.Port.Port}
+use Rattle.tsp_script.specs.{Plains.IsTurnOrTake, Traces.place_text, Words.after_word, declared.event_line.EventItem.EventItem}
 use Rattle.tsp_script.specs.declared.event_line.EventItem.TheVariants.{Event as EventOf, End}
 use Rattle.tsp_script.specs.Schedules.{event_text, port_text, IsPlace, IsTrueTime, IsEvent, SpellsEvent}
-use Rattle.tsp_script.specs.Traces.{place_text}
-use Rattle.tsp_script.specs.Words.{after_word}
-use Rattle.tsp_script.proofs.Cuts.{cut_front, no_space-decimal}
-use Rattle.tsp_script.proofs.KindWords.{no_space-spaceless}
+use Rattle.tsp_script.proofs.{Cuts.cut_front, Cuts.no_space-decimal, KindWords.no_space-spaceless}
 
 -- a dash is no number
 pub dash_no_number : (ds : List ℕ) → AllDigits 10 ds → codes "-" ≡ ds → ⊥

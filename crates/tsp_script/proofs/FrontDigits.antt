@@ -1,14 +1,8 @@
 -- Laws of the number whose digits some octets begin with.
-use Rattle.std.proofs.Common.{◌≡◌, ℕ, ◌+◌, ◌-◌, ◌*◌, ◌/◌, ◌%◌, ◌<◌, ◌≤◌, ◌^◌, List, [], ◌∷◌, ◌++◌, length, take, drop, take-append-drop, zero, suc, refl, sym, ap, ◌∙◌, append_assoc, arith, get_or}
-use Rattle.std.specs.Prelude.{decimal, Option, None, Some, IfSome, IfNone, ℤ, pos, negsuc}
-use Rattle.std.specs.Fmt.{signed_decimal}
-use Rattle.std.specs.Int.{w64}
-use Rattle.std.specs.Int.RustNames.{FitsSigned}
-use Rattle.std.specs.Str.Parse.{AllDigits, digits_value}
-use Rattle.std.specs.Char.{digit_value}
+use Rattle.std.proofs.Common.{◌≡◌, ℕ, ◌+◌, ◌-◌, ◌*◌, ◌/◌, ◌%◌, ◌<◌, ◌≤◌, ◌^◌, List, [], ◌∷◌, ◌++◌, length, take, drop, take-append-drop, zero, suc, refl, sym, ap, ◌∙◌, append_assoc, arith, get_or, decimal, Option, None, Some, IfSome, IfNone, ℤ, pos, negsuc}
+use Rattle.std.specs.{Char.digit_value, Fmt.signed_decimal, Int.w64, Int.RustNames.FitsSigned, Str.Parse.AllDigits, Str.Parse.digits_value}
 use Rattle.std.proofs.lemmas.Fmt.{decimal_is_IsNumeral, decimal_is_IsNumeral_wide, decimal_injective, decimal_step_wide, decimal_digit, first_decimal}
-use Rattle.std.proofs.lemmas.Str.Parse.{digit_from_value, digits_value-take-le}
-use Rattle.std.proofs.lemmas.List.{append-nil}
+use Rattle.std.proofs.lemmas.{List.append-nil, Str.Parse.digit_from_value, Str.Parse.digits_value-take-le}
 use Rattle.tsp_script.specs.Words.{NoDigit}
 
 head_is : (x y : ℕ) (xs ys : List ℕ) → x ∷ xs ≡ y ∷ ys → x ≡ y

@@ -1,16 +1,10 @@
 -- Laws of the lines of a header.
-use Rattle.std.proofs.Common.{◌≡◌, ◌≢◌, subst, slice_index_or, ℕ, ◌≤◌, List, [], ◌∷◌, ◌++◌, length, refl, sym, ap, ◌∙◌, inl, inr, arith, Ok, Err, append_assoc, true, Bool}
-use Rattle.std.specs.Prelude.{codes, Contains, ℤ, pos, negsuc, nat_abs}
-use Rattle.std.specs.Fmt.{signed_decimal}
-use Rattle.std.specs.Int.{w32, w64}
-use Rattle.std.specs.Int.RustNames.{FitsSigned}
-use Rattle.std.specs.declared.result.Result.{Result}
+use Rattle.std.proofs.Common.{◌≡◌, ◌≢◌, subst, slice_index_or, ℕ, ◌≤◌, List, [], ◌∷◌, ◌++◌, length, refl, sym, ap, ◌∙◌, inl, inr, arith, Ok, Err, append_assoc, true, Bool, codes, Contains, ℤ, pos, negsuc, nat_abs}
+use Rattle.std.specs.{Fmt.signed_decimal, Int.w32, Int.w64, Int.RustNames.FitsSigned, declared.result.Result.Result}
 use Rattle.tsp_base.specs.declared.header.NodeLine.{NodeLine}
 use Rattle.tsp_script.specs.Schedules.{is_host, flag_text, node_text, numbers_text, joined_text, net_text, IsHost, IsNodeLine, IsTitle, SpellsHead, ReadsHead}
-use Rattle.tsp_script.specs.declared.head_line.HeadItem.{HeadItem}
+use Rattle.tsp_script.specs.declared.{head_line.HeadItem.HeadItem, line_fault.LineFault.LineFault, line_fault.LineFault.TheVariants.Bad}
 use Rattle.tsp_script.specs.declared.head_line.HeadItem.TheVariants.{Title, Drift, Strict, Node, Net, NotHead}
-use Rattle.tsp_script.specs.declared.line_fault.LineFault.{LineFault}
-use Rattle.tsp_script.specs.declared.line_fault.LineFault.TheVariants.{Bad}
 
 host_not_space : (c : ℕ) → is_host c ≡ true → c ≡ 32 → ⊥
 host_not_space c q e = let P : ℕ → Type 0 = λ (x : ℕ). is_host x ≡ true in let r = subst P e q in cc

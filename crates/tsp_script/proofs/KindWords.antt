@@ -1,9 +1,6 @@
 -- Laws of the words of kinds.
-use Rattle.std.proofs.Common.{◌≡◌, ℕ, List, [], ◌∷◌, zero, suc, refl, arith, true, false, Bool, Some, eq-eqb}
-use Rattle.std.specs.Prelude.{Contains, codes, ◌==◌, ◌&&◌, not}
-use Rattle.tsp_base.specs.Words.{kinds, kind_word}
-use Rattle.tsp_base.specs.declared.kind.Kind.{Kind}
-use Rattle.tsp_base.specs.declared.kind.Kind.TheVariants.{AdjTime}
+use Rattle.std.proofs.Common.{◌≡◌, ℕ, List, [], ◌∷◌, zero, suc, refl, arith, true, false, Bool, Some, eq-eqb, Contains, codes, ◌==◌, ◌&&◌, not}
+use Rattle.tsp_base.specs.{Words.kinds, Words.kind_word, declared.kind.Kind.Kind, declared.kind.Kind.TheVariants.AdjTime}
 use Rattle.tsp_script.proofs.WordTables.{same_word, first_with, one_word}
 
 first_kind : (k : Kind) → first_with kind_word kinds (kind_word k) ≡ Some k

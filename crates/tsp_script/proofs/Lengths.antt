@@ -1,10 +1,6 @@
 -- How long numbers are at most.
-use Rattle.std.proofs.Common.{ℕ, ◌^◌, ◌<◌, ◌≤◌, suc, length, arith}
-use Rattle.std.specs.Prelude.{ℤ, pos, negsuc, decimal, nat_abs}
-use Rattle.std.specs.Fmt.{signed_decimal}
-use Rattle.std.specs.Int.{w64}
-use Rattle.std.specs.Int.RustNames.{FitsSigned}
-use Rattle.std.proofs.lemmas.Fmt.{length-decimal-le}
+use Rattle.std.proofs.Common.{ℕ, ◌^◌, ◌<◌, ◌≤◌, suc, length, arith, ℤ, pos, negsuc, decimal, nat_abs}
+use Rattle.std.{proofs.lemmas.Fmt.length-decimal-le, specs.Fmt.signed_decimal, specs.Int.w64, specs.Int.RustNames.FitsSigned}
 
 pub number_length : (n : ℕ) → n < 2 ^ 64 → length (decimal n) ≤ 20
 number_length n h = length-decimal-le 20 n (omega arith) (omega arith) h

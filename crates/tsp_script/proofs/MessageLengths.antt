@@ -1,17 +1,12 @@
 -- How long a message line is at most.
-use Rattle.std.proofs.Common.{ℕ, ◌*◌, ◌^◌, ◌<◌, ◌≤◌, List, [], ◌∷◌, ◌++◌, Bool, true, false, length, arith, length-append}
-use Rattle.std.specs.Prelude.{ℤ, pos, negsuc, ◌≤ℤ◌, ◌<ℤ◌, decimal, codes, flat_map, if◌then◌else◌}
-use Rattle.std.specs.Fmt.{signed_decimal}
-use Rattle.std.proofs.lemmas.Int.{ints}
+use Rattle.std.proofs.Common.{ℕ, ◌*◌, ◌^◌, ◌<◌, ◌≤◌, List, [], ◌∷◌, ◌++◌, Bool, true, false, length, arith, length-append, ℤ, pos, negsuc, ◌≤ℤ◌, ◌<ℤ◌, decimal, codes, flat_map, if◌then◌else◌}
+use Rattle.std.{proofs.lemmas.Int.ints, specs.Fmt.signed_decimal}
 use Rattle.hex.specs.Hex.{encode_lower, encode_with}
 use Rattle.tsp_base.specs.Words.{kind_word, IsName, MessageValue, ReplyValue, IsReply}
-use Rattle.tsp_base.specs.declared.kind.Kind.{Kind}
-use Rattle.tsp_base.specs.declared.kind.Kind.TheVariants.{AdjTime}
-use Rattle.tsp_base.specs.declared.message.Body.{Body}
+use Rattle.tsp_base.specs.declared.{kind.Kind.Kind, kind.Kind.TheVariants.AdjTime, message.Body.Body}
 use Rattle.tsp_base.specs.declared.message.Body.TheVariants.{Nothing, Time as TimeBody, Hops}
 use Rattle.tsp_base.specs.declared.stamp.Stamp.TheVariants.{Request, Reply}
-use Rattle.tsp_base.specs.declared.datagram.Datagram.{Datagram}
-use Rattle.tsp_base.specs.declared.datagram.Datagram.TheVariants.{Message, Stamp}
+use Rattle.tsp_base.specs.declared.datagram.Datagram.{Datagram, TheVariants.Message, TheVariants.Stamp}
 use Rattle.tsp_script.proofs.Lengths.{number_length, signed_length}
 use Rattle.tsp_script.specs.Ranges.{IsBody, IsMessage, IsDatagram}
 use Rattle.tsp_script.specs.Texts.{space, is_plain, escaped, name_text, body_text, message_line, reply_text, stamp_text, message_text}

@@ -1,17 +1,12 @@
 -- Laws of message lines.
-use Rattle.std.proofs.Common.{◌≡◌, ℕ, ◌<◌, ◌^◌, List, ◌∷◌, ◌++◌, length, refl, sym, ap, ◌∙◌, Option, Some, None, append_assoc, length-append, arith, true}
-use Rattle.std.specs.Prelude.{IfSome, decimal, codes}
+use Rattle.std.proofs.Common.{◌≡◌, ℕ, ◌<◌, ◌^◌, List, ◌∷◌, ◌++◌, length, refl, sym, ap, ◌∙◌, Option, Some, None, append_assoc, length-append, arith, true, IfSome, decimal, codes}
 use Rattle.std.specs.Fmt.{signed_decimal}
 use Rattle.hex.specs.Hex.{IsBytes}
 use Rattle.tsp_base.specs.Words.{kind_word, IsName, MessageValue, body_fits, ReplyValue, IsReply}
-use Rattle.tsp_base.specs.declared.kind.Kind.{Kind}
-use Rattle.tsp_base.specs.declared.message.Body.{Body}
-use Rattle.tsp_base.specs.declared.datagram.Datagram.{Datagram}
-use Rattle.tsp_base.specs.declared.datagram.Datagram.TheVariants.{Message, Stamp}
-use Rattle.tsp_base.specs.declared.stamp.Stamp.TheVariants.{Request, Reply}
-use Rattle.tsp_script.specs.Ranges.{IsBody, IsMessage, IsDatagram}
+use Rattle.tsp_base.specs.declared.{kind.Kind.Kind, message.Body.Body, stamp.Stamp.TheVariants.Request, stamp.Stamp.TheVariants.Reply}
+use Rattle.tsp_base.specs.declared.datagram.Datagram.{Datagram, TheVariants.Message, TheVariants.Stamp}
+use Rattle.tsp_script.specs.{Ranges.IsBody, Ranges.IsMessage, Ranges.IsDatagram, Words.first_word, Words.after_word}
 use Rattle.tsp_script.specs.Texts.{body_text, name_text, message_line, reply_text, stamp_text, message_text}
-use Rattle.tsp_script.specs.Words.{first_word, after_word}
 use Rattle.tsp_script.proofs.Cuts.{cut_front, cut_back}
 use Rattle.tsp_script.proofs.KindWords.{no_space-kind_word, no_space-spaceless, kind_word-not_request, kind_word-not_reply}
 

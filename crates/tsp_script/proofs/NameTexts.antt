@@ -1,18 +1,11 @@
 -- Laws of name texts.
-use Rattle.std.proofs.Common.{◌≡◌, ℕ, ◌<◌, ◌≤◌, List, [], ◌∷◌, ◌++◌, zero, suc, length, take, drop, refl, ap, sym, ◌∙◌, arith, true, false, Bool, Result, Ok, Err, Some, ◌^◌, append_assoc}
-use Rattle.std.specs.Result.{result_ok}
-use Rattle.std.specs.List.{AllPass}
-use Rattle.std.specs.Prelude.{MatchResult, IfSome, flat_map, if◌then◌else◌}
-use Rattle.std.proofs.lemmas.Grind.{common_steps}
-use Rattle.std.proofs.lemmas.List.{flat_map_more}
+use Rattle.std.proofs.Common.{◌≡◌, ℕ, ◌<◌, ◌≤◌, List, [], ◌∷◌, ◌++◌, zero, suc, length, take, drop, refl, ap, sym, ◌∙◌, arith, true, false, Bool, Result, Ok, Err, Some, ◌^◌, append_assoc, MatchResult, IfSome, flat_map, if◌then◌else◌}
+use Rattle.std.{proofs.lemmas.Grind.common_steps, proofs.lemmas.List.flat_map_more, specs.List.AllPass, specs.Result.result_ok}
 use Rattle.hex.specs.Hex.{encode_lower, encode_with, decode_sized, IsBytes}
-use Rattle.hex.specs.declared.error.FromHexError.{FromHexError}
-use Rattle.hex.proofs.HexLemmas.{decode_sized-encode_lower}
-use Rattle.tsp_base.specs.Words.{IsName, NameGives}
-use Rattle.tsp_base.specs.declared.name.NameFault.{NameFault}
+use Rattle.hex.{proofs.HexLemmas.decode_sized-encode_lower, specs.declared.error.FromHexError.FromHexError}
+use Rattle.tsp_base.specs.{Words.IsName, Words.NameGives, declared.name.NameFault.NameFault}
 use Rattle.tsp_base.specs.declared.name.NameFault.TheVariants.{TooLong, HasNul}
-use Rattle.tsp_script.specs.Texts.{is_plain, escaped, name_text}
-use Rattle.tsp_script.proofs.Outcomes.{true_or_false}
+use Rattle.tsp_script.{proofs.Outcomes.true_or_false, specs.Texts.is_plain, specs.Texts.escaped, specs.Texts.name_text}
 
 -- one octet
 pub IsBytes-one : (c : ℕ) → c < 256 → IsBytes (c ∷ [])

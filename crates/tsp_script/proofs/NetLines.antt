@@ -1,12 +1,8 @@
 -- Laws of the lines of networks.
-use Rattle.std.proofs.Common.{◌≡◌, ℕ, ◌<◌, ◌^◌, List, [], ◌∷◌, ◌++◌, length, refl, sym, ap, ◌∙◌, arith, subst, append_assoc, length-append, Some, None}
-use Rattle.std.specs.Prelude.{codes, decimal, Option, IfSome}
-use Rattle.std.specs.List.{All}
-use Rattle.std.proofs.lemmas.Fmt.{decimal_is_IsNumeral}
-use Rattle.std.proofs.lemmas.List.{append-nil}
+use Rattle.std.proofs.Common.{◌≡◌, ℕ, ◌<◌, ◌^◌, List, [], ◌∷◌, ◌++◌, length, refl, sym, ap, ◌∙◌, arith, subst, append_assoc, length-append, Some, None, codes, decimal, Option, IfSome}
+use Rattle.std.{proofs.lemmas.Fmt.decimal_is_IsNumeral, proofs.lemmas.List.append-nil, specs.List.All}
 use Rattle.std.proofs.lemmas.List.Elements.{All-head, All-tail, All-append, All-cons}
-use Rattle.tsp_script.specs.Schedules.{numbers_text, joined_text, IsNetLine}
-use Rattle.tsp_script.specs.Words.{NoDigit}
+use Rattle.tsp_script.specs.{Schedules.numbers_text, Schedules.joined_text, Schedules.IsNetLine, Words.NoDigit}
 use Rattle.tsp_script.proofs.FrontDigits.{NoDigit-nil, NoDigit-other, front_one}
 
 -- no digit stands first in numbers that have spaces before them

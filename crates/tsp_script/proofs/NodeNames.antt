@@ -1,11 +1,8 @@
 -- The name of a node of a generated schedule.
-use Rattle.std.proofs.Common.{◌≡◌, ℕ, ◌<◌, ◌^◌, List, ◌∷◌, zero, suc, Err, subst, arith}
-use Rattle.std.specs.Prelude.{Contains, decimal}
-use Rattle.tsp_base.specs.Words.{NameGives}
-use Rattle.tsp_base.specs.declared.name.NameFault.{NameFault}
+use Rattle.std.proofs.Common.{◌≡◌, ℕ, ◌<◌, ◌^◌, List, ◌∷◌, zero, suc, Err, subst, arith, Contains, decimal}
+use Rattle.tsp_base.specs.{Words.NameGives, declared.name.NameFault.NameFault}
 use Rattle.tsp_base.specs.declared.name.NameFault.TheVariants.{TooLong, HasNul}
-use Rattle.tsp_script.proofs.Cuts.{no_nul-decimal}
-use Rattle.tsp_script.proofs.Lengths.{number_length}
+use Rattle.tsp_script.proofs.{Cuts.no_nul-decimal, Lengths.number_length}
 
 letter_no_nul : (digits : List ℕ) → ¬ Contains digits 0 → ¬ Contains (110 ∷ digits) 0
 letter_no_nul digits n (zero, h, e) = cc

@@ -1,18 +1,13 @@
 -- A line behind the header is one event's, or the last.
-use Rattle.std.proofs.Common.{◌≡◌, ◌≢◌, ℕ, ◌<◌, ◌^◌, List, ◌∷◌, ◌++◌, refl, sym, ap, ◌∙◌, arith, slice_index_or}
-use Rattle.std.specs.Prelude.{decimal, codes}
+use Rattle.std.proofs.Common.{◌≡◌, ◌≢◌, ℕ, ◌<◌, ◌^◌, List, ◌∷◌, ◌++◌, refl, sym, ap, ◌∙◌, arith, slice_index_or, decimal, codes}
 use Rattle.std.proofs.lemmas.Fmt.{decimal_is_IsNumeral, decimal_injective}
 use Rattle.hex.proofs.HexLemmas.{decode_of-same}
-use Rattle.tsp_base.specs.declared.event.Event.{Event}
+use Rattle.tsp_base.specs.declared.{event.Event.Event, place.Place.Place, place.Place.TheVariants.Peer, place.Place.TheVariants.Stranger}
 use Rattle.tsp_base.specs.declared.event.Event.TheVariants.{Boot as BootAt, Turn, Take, Bytes}
-use Rattle.tsp_base.specs.declared.place.Place.{Place}
-use Rattle.tsp_base.specs.declared.place.Place.TheVariants.{Peer, Stranger}
-use Rattle.tsp_script.specs.declared.event_line.EventItem.{EventItem}
 use Rattle.tsp_script.specs.declared.event_line.EventItem.TheVariants.{Event as EventOf, End}
 use Rattle.tsp_script.specs.Schedules.{event_text, port_text, IsHexOf, IsPlace, IsEvent, SpellsEvent}
-use Rattle.tsp_script.specs.Traces.{place_text}
-use Rattle.tsp_script.proofs.Ports.{ports_apart, no_space-port}
-use Rattle.tsp_script.proofs.Apart.{words_apart, numbers_apart}
+use Rattle.tsp_script.specs.{Traces.place_text, declared.event_line.EventItem.EventItem}
+use Rattle.tsp_script.proofs.{Apart.words_apart, Apart.numbers_apart, Ports.ports_apart, Ports.no_space-port}
 use Rattle.tsp_script.proofs.EventLines.{at_of, verb_of, rest_of, after_at, IsTrueTime-at_of, no_space-verb_of, no_space-place, dash_no_number}
 
 -- a word is one place's

@@ -1,16 +1,13 @@
 -- A line of the header is one item's.
-use Rattle.std.proofs.Common.{◌≡◌, ℕ, ◌<◌, ◌≤◌, ◌^◌, List, ◌∷◌, ◌++◌, refl, sym, ap, ◌∙◌, arith, Bool, true, false, slice_index_or}
-use Rattle.std.specs.Prelude.{ℤ, pos, negsuc, decimal, codes, nat_abs}
-use Rattle.std.specs.Fmt.{signed_decimal}
-use Rattle.std.proofs.lemmas.Fmt.{decimal_injective}
+use Rattle.std.proofs.Common.{◌≡◌, ℕ, ◌<◌, ◌≤◌, ◌^◌, List, ◌∷◌, ◌++◌, refl, sym, ap, ◌∙◌, arith, Bool, true, false, slice_index_or, ℤ, pos, negsuc, decimal, codes, nat_abs}
+use Rattle.std.{proofs.lemmas.Fmt.decimal_injective, specs.Fmt.signed_decimal}
 use lib.Signed.{mag}
 use Rattle.tsp_base.specs.declared.header.NodeLine.{NodeLine}
 use Rattle.tsp_script.specs.declared.head_line.HeadItem.{HeadItem}
 use Rattle.tsp_script.specs.declared.head_line.HeadItem.TheVariants.{Title, Drift, Strict, Node, Net, NotHead}
 use Rattle.tsp_script.specs.Schedules.{flag_text, numbers_text, joined_text, net_text, IsNodeLine, IsNetLine, SpellsHead}
-use Rattle.tsp_script.proofs.Apart.{words_apart, signs_apart}
+use Rattle.tsp_script.proofs.{Apart.words_apart, Apart.signs_apart, NetLines.joined_text-injective}
 use Rattle.tsp_script.proofs.HeadLines.{no_space-host, fits_wall, node_rest, node_of_parts, node_form, net_form, node_not_net, strict_not_node, strict_not_net, one_version}
-use Rattle.tsp_script.proofs.NetLines.{joined_text-injective}
 
 small : (z : ℤ) → nat_abs z ≤ 1000000000000000 → mag z < 2 ^ 63
 small (pos n) h = omega (arith, h)

@@ -1,6 +1,5 @@
 -- Laws of answers: an answer is one thing alone.
-use Rattle.std.proofs.Common.{◌≡◌, Option, Some, None, Result, Ok, Err, Bool, true, false}
-use Rattle.std.specs.Prelude.{IfSome, IfNone}
+use Rattle.std.proofs.Common.{◌≡◌, Option, Some, None, Result, Ok, Err, Bool, true, false, IfSome, IfNone}
 
 pub some_injective : {A : Type 0} (a b : A) → Some a ≡ Some b → a ≡ b
 some_injective a b p = cc

@@ -1,9 +1,7 @@
 -- Numbers as text, two digits at a time.
-use Rattle.std.proofs.Common.{◌≡◌, ℕ, zero, suc, ◌+◌, ◌*◌, ◌/◌, ◌%◌, ◌^◌, ◌<◌, ◌≤◌, ◌==◌, Bool, true, ◌&&◌, inl, inr, List, [], ◌∷◌, ◌++◌, slice_index_or, refl, ap, sym, ◌∙◌, append_assoc, length, length-append, arith}
-use Rattle.std.specs.Prelude.{decimal}
-use Rattle.std.proofs.lemmas.Bool.{and_parts, cases_lt, eqb-true}
+use Rattle.std.proofs.Common.{◌≡◌, ℕ, zero, suc, ◌+◌, ◌*◌, ◌/◌, ◌%◌, ◌^◌, ◌<◌, ◌≤◌, ◌==◌, Bool, true, ◌&&◌, inl, inr, List, [], ◌∷◌, ◌++◌, slice_index_or, refl, ap, sym, ◌∙◌, append_assoc, length, length-append, arith, decimal}
+use Rattle.std.proofs.lemmas.{Bool.and_parts, Bool.cases_lt, Bool.eqb-true, Fmt.decimal_digit}
 use Rattle.itoa.proofs.Decimal.{decimal_two, decimal_pair, decimal_four}
-use Rattle.std.proofs.lemmas.Fmt.{decimal_digit}
 use Rattle.tsp_script.specs.declared.decimals.TheConstants.{PAIRS}
 
 -- the table is right at the numbers below this one

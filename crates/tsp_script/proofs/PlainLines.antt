@@ -1,22 +1,13 @@
 -- Laws of the lines of turns and takes.
-use Rattle.std.proofs.Common.{◌≡◌, ◌∙◌, ◌<◌, ◌^◌, ℕ, List, [], ◌∷◌, ◌++◌, refl, sym, ap, append_assoc, append-nil, arith, inl, inr, drop, length, length-append, subst, ◌+◌}
-use Rattle.std.specs.Prelude.{decimal, codes, Contains, Option, None, Some, IfNone}
-use Rattle.std.proofs.Math.Seq.{drop-append_seam}
-use Rattle.std.proofs.lemmas.List.{append_cancel_left}
-use Rattle.std.proofs.lemmas.List.Elements.{Contains-append_cases}
-use Rattle.tsp_script.specs.declared.event_line.EventItem.TheVariants.{Event as EventOf}
-use Rattle.tsp_base.specs.declared.plain.Plain.{Plain}
+use Rattle.std.proofs.Common.{◌≡◌, ◌∙◌, ◌<◌, ◌^◌, ℕ, List, [], ◌∷◌, ◌++◌, refl, sym, ap, append_assoc, append-nil, arith, inl, inr, drop, length, length-append, subst, ◌+◌, decimal, codes, Contains, Option, None, Some, IfNone}
+use Rattle.std.proofs.{Math.Seq.drop-append_seam, lemmas.List.append_cancel_left, lemmas.List.Elements.Contains-append_cases}
 use Rattle.tsp_base.specs.declared.plain.Plain.TheVariants.{Boot, Turn, Take}
-use Rattle.tsp_base.specs.Words.{event_in}
-use Rattle.tsp_script.specs.Plains.{IsTurnOrTake}
+use Rattle.tsp_base.specs.{Words.event_in, declared.plain.Plain.Plain}
+use Rattle.tsp_script.specs.{Plains.IsTurnOrTake, Words.NoDigit, declared.event_line.EventItem.TheVariants.Event as EventOf}
 use Rattle.tsp_script.specs.Schedules.{SpellsEvent, IsEvent, IsHexOf, event_text}
-use Rattle.tsp_script.specs.Words.{NoDigit}
-use Rattle.tsp_script.proofs.Apart.{words_apart, numbers_apart}
-use Rattle.tsp_script.proofs.Cuts.{no_feed-decimal}
+use Rattle.tsp_script.proofs.{Apart.words_apart, Apart.numbers_apart, Cuts.no_feed-decimal, FrontDigits.front_one, OneEvent.words_differ}
 use Rattle.tsp_script.proofs.EventLines.{at_of, verb_of, rest_of, no_space-verb_of, IsTrueTime-at_of}
-use Rattle.tsp_script.proofs.FrontDigits.{front_one}
 use Rattle.tsp_script.proofs.KindWords.{no_space-spaceless, no_mark-without}
-use Rattle.tsp_script.proofs.OneEvent.{words_differ}
 
 -- what stands behind its time
 abbrev pub behind_time : Plain → List ℕ → List ℕ

@@ -1,14 +1,9 @@
 -- Laws of a node's number with its port.
-use Rattle.std.proofs.Common.{◌≡◌, ℕ, ◌<◌, ◌^◌, List, [], ◌∷◌, ◌++◌, Bool, true, false, ◌==◌, if◌then◌else◌, length, refl, sym, ap, ◌∙◌, ◌⊎◌, inl, inr, zero, suc, arith}
-use Rattle.std.specs.Prelude.{decimal, Contains}
-use Rattle.std.proofs.lemmas.Bool.{eqb-true}
-use Rattle.std.proofs.lemmas.Fmt.{decimal_is_IsNumeral, decimal_injective}
-use Rattle.std.proofs.lemmas.List.{append-nil}
+use Rattle.std.proofs.Common.{◌≡◌, ℕ, ◌<◌, ◌^◌, List, [], ◌∷◌, ◌++◌, Bool, true, false, ◌==◌, if◌then◌else◌, length, refl, sym, ap, ◌∙◌, ◌⊎◌, inl, inr, zero, suc, arith, decimal, Contains}
+use Rattle.std.proofs.lemmas.{Bool.eqb-true, Fmt.decimal_is_IsNumeral, Fmt.decimal_injective, List.append-nil}
 use Rattle.std.proofs.lemmas.List.Elements.{Contains-append_cases}
 use Rattle.tsp_base.specs.declared.place.Port.{Port}
-use Rattle.tsp_script.specs.Schedules.{port_text}
-use Rattle.tsp_script.specs.Words.{before_mark, after_mark}
-use Rattle.tsp_script.proofs.Apart.{words_apart}
+use Rattle.tsp_script.{proofs.Apart.words_apart, specs.Schedules.port_text, specs.Words.before_mark, specs.Words.after_mark}
 use Rattle.tsp_script.proofs.Cuts.{mark_front, line_of_marks, before_mark-alone, after_mark-alone, no_slash-decimal, no_space-decimal, no_space-later}
 
 -- the word after a node's slash is this port's: its number, or nothing for port 0

@@ -1,17 +1,10 @@
 -- Tables of words: those of alarms, of faults and of acts. Each word is in its table once.
-use Rattle.std.proofs.Common.{◌≡◌, ℕ, suc, ◌<◌, ◌≤◌, List, [], ◌∷◌, length, refl, ap, sym, ◌∙◌, true, false, Bool, Option, Some, None, slice_index_or, arith}
-use Rattle.std.specs.Prelude.{◌==◌, ◌&&◌, if◌then◌else◌}
-use Rattle.tsp_base.specs.Words.{alarm_word}
-use Rattle.tsp_base.specs.declared.alarm.Alarm.{Alarm}
-use Rattle.tsp_base.specs.declared.alarm.Alarm.TheVariants.{Quiet}
-use Rattle.tsp_base.specs.declared.alarm.TheConstants.Alarm.{ALL}
-use Rattle.tsp_base.specs.declared.datagram.DecodeFault.{DecodeFault}
+use Rattle.std.proofs.Common.{◌≡◌, ℕ, suc, ◌<◌, ◌≤◌, List, [], ◌∷◌, length, refl, ap, sym, ◌∙◌, true, false, Bool, Option, Some, None, slice_index_or, arith, ◌==◌, ◌&&◌, if◌then◌else◌}
+use Rattle.tsp_base.specs.{Words.alarm_word, declared.alarm.Alarm.Alarm, declared.alarm.Alarm.TheVariants.Quiet}
+use Rattle.tsp_base.specs.declared.{alarm.TheConstants.Alarm.ALL, datagram.DecodeFault.DecodeFault}
 use Rattle.tsp_base.specs.declared.datagram.DecodeFault.TheVariants.{Short, Long, Version, Kind, StampLength, NoEnd, NameTooLong, Reserved, Time}
-use Rattle.tsp_script.proofs.Outcomes.{some_injective, none_not_some}
-use Rattle.tsp_script.specs.Traces.{fault_word}
-use Rattle.tsp_script.specs.Verbs.{verbs, verb_word}
-use Rattle.tsp_script.specs.declared.verbs.Verb.{Verb}
-use Rattle.tsp_script.specs.declared.verbs.Verb.TheVariants.{Boot}
+use Rattle.tsp_script.{proofs.Outcomes.some_injective, proofs.Outcomes.none_not_some, specs.declared.verbs.Verb.TheVariants.Boot}
+use Rattle.tsp_script.specs.{Traces.fault_word, Verbs.verbs, Verbs.verb_word, declared.verbs.Verb.Verb}
 
 -- whether two words are the same
 abbrev pub same_word : List ℕ → List ℕ → Bool

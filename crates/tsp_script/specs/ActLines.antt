@@ -1,21 +1,13 @@
 -- Which lines are a trace's, and the values of each.
 use Rattle.std.specs.Prelude.{◌≡◌, ℕ, ◌<◌, ◌^◌, List}
-use Rattle.std.specs.Int.{w64}
-use Rattle.std.specs.Int.RustNames.{FitsSigned}
-use Rattle.std.specs.declared.result.Result.{Result}
+use Rattle.std.specs.{Int.w64, Int.RustNames.FitsSigned, declared.result.Result.Result}
 use Rattle.std.specs.declared.result.Result.TheVariants.{Ok, Err}
-use Rattle.tsp_base.specs.declared.act.Act.{Act}
+use Rattle.tsp_base.specs.declared.{act.Act.Act, datagram.Taken.Taken, datagram.Taken.TheVariants.Good, datagram.Taken.TheVariants.Bad}
 use Rattle.tsp_base.specs.declared.act.Act.TheVariants.{Boot, Took, Post, Become, Back, Backer, Quit, Arm, Ring, Late, Join, Leave, Rival, Acked, Gave, Sample, Close, Correct, Abandon, Trace}
-use Rattle.tsp_base.specs.declared.datagram.Taken.{Taken}
-use Rattle.tsp_base.specs.declared.datagram.Taken.TheVariants.{Good, Bad}
-use Rattle.tsp_base.specs.declared.role.Role.{Role}
+use Rattle.tsp_base.specs.declared.{role.Role.Role, trace.Line2.Line2}
 use Rattle.tsp_base.specs.declared.role.Role.TheVariants.{Starting, Loose, Follow, Candidate, Master}
-use Rattle.tsp_script.specs.Ranges.{IsDatagram}
-use Rattle.tsp_script.specs.Schedules.{IsPlace}
-use Rattle.tsp_script.specs.Traces.{trace_text}
-use Rattle.tsp_script.specs.declared.line_fault.LineFault.{LineFault}
+use Rattle.tsp_script.specs.{Ranges.IsDatagram, Schedules.IsPlace, Traces.trace_text, declared.line_fault.LineFault.LineFault}
 use Rattle.tsp_script.specs.declared.line_fault.LineFault.TheVariants.{Bad as BadLine}
-use Rattle.tsp_base.specs.declared.trace.Line2.{Line2}
 
 -- what was taken is a datagram in its range, or a fault
 abbrev pub IsTaken : Taken → Type 0

@@ -1,26 +1,15 @@
 -- The lines of a schedule.
 use Rattle.std.specs.Prelude.{◌≡◌, ◌⊎◌, ℕ, ◌^◌, ◌<◌, ◌≤◌, List, [], ◌∷◌, ◌++◌, Bool, true, false, ◌&&◌, ◌||◌, ◌==◌, nat_le, if◌then◌else◌, length, flat_map, decimal, codes, nat_abs}
-use Rattle.std.specs.List.{All, AllPass}
-use Rattle.std.specs.List.Sorted.{IsStrictlyIncreasing}
-use Rattle.std.specs.Fmt.{signed_decimal}
-use Rattle.std.specs.declared.result.Result.{Result}
+use Rattle.std.specs.{Fmt.signed_decimal, List.All, List.AllPass, List.Sorted.IsStrictlyIncreasing, declared.result.Result.Result}
 use Rattle.std.specs.declared.result.Result.TheVariants.{Ok, Err}
 use Rattle.hex.specs.Hex.{decode_of}
-use Rattle.tsp_base.specs.Words.{IsName}
-use Rattle.tsp_base.specs.declared.event.Event.{Event}
+use Rattle.tsp_base.specs.{Words.IsName, declared.event.Event.Event, declared.header.NodeLine.NodeLine, declared.place.Place.Place}
 use Rattle.tsp_base.specs.declared.event.Event.TheVariants.{Boot as BootAt, Turn, Take, Bytes}
-use Rattle.tsp_base.specs.declared.header.NodeLine.{NodeLine}
-use Rattle.tsp_base.specs.declared.place.Place.{Place}
-use Rattle.tsp_base.specs.declared.place.Port.{Port}
-use Rattle.tsp_base.specs.declared.place.Place.TheVariants.{Peer, Stranger}
-use Rattle.tsp_script.specs.Texts.{space}
-use Rattle.tsp_script.specs.Traces.{place_text}
-use Rattle.tsp_script.specs.declared.event_line.EventItem.{EventItem}
+use Rattle.tsp_base.specs.declared.place.{Place.TheVariants.Peer, Place.TheVariants.Stranger, Port.Port}
+use Rattle.tsp_script.specs.{Texts.space, Traces.place_text, declared.event_line.EventItem.EventItem, declared.head_line.HeadItem.HeadItem}
 use Rattle.tsp_script.specs.declared.event_line.EventItem.TheVariants.{Event as EventOf, End}
-use Rattle.tsp_script.specs.declared.head_line.HeadItem.{HeadItem}
 use Rattle.tsp_script.specs.declared.head_line.HeadItem.TheVariants.{Title, Drift, Strict, Node, Net, NotHead}
-use Rattle.tsp_script.specs.declared.line_fault.LineFault.{LineFault}
-use Rattle.tsp_script.specs.declared.line_fault.LineFault.TheVariants.{Bad}
+use Rattle.tsp_script.specs.declared.line_fault.LineFault.{LineFault, TheVariants.Bad}
 
 -- the port after a node's number: nothing for port 0
 abbrev pub port_text : Port → List ℕ

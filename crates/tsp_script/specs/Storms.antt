@@ -1,17 +1,11 @@
 -- The generator of schedules: what it draws from a number.
 use Rattle.std.specs.Prelude.{ℕ, ◌+◌, ◌-◌, ◌*◌, ◌/◌, ◌%◌, ◌^◌, ◌≤◌, ◌<◌, nat_lt, nat_le, ◌==◌, min, true, if◌then◌else◌, pos, ◌-ℤ◌, List, ◌∷◌, decimal, Option, None, Some}
-use Rattle.tsp_base.specs.declared.event.Event.{Event}
 use Rattle.tsp_base.specs.declared.event.Event.TheVariants.{Boot as BootAt, Turn, Take, Bytes}
-use Rattle.tsp_base.specs.declared.header.NodeLine.{NodeLine}
-use Rattle.tsp_base.specs.declared.place.Place.TheVariants.{Stranger}
-use Rattle.tsp_base.specs.declared.stamp.Stamp.TheVariants.{Request}
-use Rattle.tsp_base.specs.declared.datagram.Datagram.TheVariants.{Stamp}
-use Rattle.tsp_base.specs.Words.{first_port, event_in}
+use Rattle.tsp_base.specs.declared.{header.NodeLine.NodeLine, place.Place.TheVariants.Stranger, stamp.Stamp.TheVariants.Request}
+use Rattle.tsp_base.specs.{Words.first_port, Words.event_in, declared.datagram.Datagram.TheVariants.Stamp, declared.event.Event.Event}
 use Rattle.tsp_codec.specs.Canon.{canon}
-use Rattle.tsp_script.specs.Schedules.{IsEvent, IsTrueTime}
-use Rattle.tsp_script.specs.declared.storm.Choice.{Choice}
+use Rattle.tsp_script.specs.{Schedules.IsEvent, Schedules.IsTrueTime, declared.storm.Choice.Choice, declared.storm.Draw.Draw}
 use Rattle.tsp_script.specs.declared.storm.Choice.TheVariants.{Plain, Request as Asked, Ask as Asks}
-use Rattle.tsp_script.specs.declared.storm.Draw.{Draw}
 use Rattle.tsp_script.specs.declared.storm.Draw.TheVariants.{Event as Gives, Ask}
 
 -- a generator: its state, how many nodes the schedule has, how many of their lines and how many events it gave, the time of its last event, and the datagram that it asks for

@@ -1,19 +1,13 @@
 -- The texts of values: names, messages and trace lines.
 use Rattle.std.specs.Prelude.{◌≡◌, ℕ, List, [], ◌∷◌, ◌++◌, Bool, not, ◌&&◌, ◌==◌, nat_lt, if◌then◌else◌, flat_map, decimal, codes}
-use Rattle.std.specs.Fmt.{signed_decimal}
-use Rattle.std.specs.declared.result.Result.{Result}
+use Rattle.std.specs.{Fmt.signed_decimal, declared.result.Result.Result}
 use Rattle.std.specs.declared.result.Result.TheVariants.{Ok, Err}
 use Rattle.hex.specs.Hex.{encode_lower}
-use Rattle.tsp_base.specs.Words.{kind_word, MessageValue, ReplyValue}
-use Rattle.tsp_base.specs.declared.message.Body.{Body}
+use Rattle.tsp_base.specs.{Words.kind_word, Words.MessageValue, Words.ReplyValue, declared.datagram.Datagram.Datagram}
 use Rattle.tsp_base.specs.declared.message.Body.TheVariants.{Nothing, Time as TimeBody, Hops}
-use Rattle.tsp_base.specs.declared.stamp.Stamp.{Stamp as StampValue}
-use Rattle.tsp_base.specs.declared.stamp.Stamp.TheVariants.{Request, Reply}
-use Rattle.tsp_base.specs.declared.datagram.Datagram.{Datagram}
-use Rattle.tsp_base.specs.declared.datagram.Datagram.TheVariants.{Message, Stamp}
-use Rattle.tsp_script.specs.Ranges.{IsDatagram}
-use Rattle.tsp_script.specs.declared.line_fault.LineFault.{LineFault}
-use Rattle.tsp_script.specs.declared.line_fault.LineFault.TheVariants.{Bad}
+use Rattle.tsp_base.specs.declared.stamp.Stamp.{Stamp as StampValue, TheVariants.Request, TheVariants.Reply}
+use Rattle.tsp_base.specs.declared.{datagram.Datagram.TheVariants.Message, datagram.Datagram.TheVariants.Stamp, message.Body.Body}
+use Rattle.tsp_script.specs.{Ranges.IsDatagram, declared.line_fault.LineFault.LineFault, declared.line_fault.LineFault.TheVariants.Bad}
 
 -- one space
 abbrev pub space : List ℕ

@@ -2,17 +2,11 @@
 use Rattle.std.specs.Prelude.{ℕ, List, ◌++◌, Bool, true, false, decimal, codes}
 use Rattle.std.specs.Fmt.{signed_decimal}
 use Rattle.tsp_script.specs.Texts.{space, message_text}
-use Rattle.tsp_base.specs.Words.{alarm_word}
-use Rattle.tsp_base.specs.declared.act.Act.{Act}
+use Rattle.tsp_base.specs.{Words.alarm_word, declared.act.Act.Act, declared.act.Placed.Placed, declared.datagram.DecodeFault.DecodeFault}
 use Rattle.tsp_base.specs.declared.act.Act.TheVariants.{Boot, Took, Post, Become, Back, Backer, Quit, Arm, Ring, Late, Join, Leave, Rival, Acked, Gave, Sample, Close, Correct, Abandon, Trace}
-use Rattle.tsp_base.specs.declared.act.Placed.{Placed}
-use Rattle.tsp_base.specs.declared.datagram.DecodeFault.{DecodeFault}
 use Rattle.tsp_base.specs.declared.datagram.DecodeFault.TheVariants.{Short, Long, Version, Kind, StampLength, NoEnd, NameTooLong, Reserved, Time}
-use Rattle.tsp_base.specs.declared.datagram.Taken.{Taken}
-use Rattle.tsp_base.specs.declared.datagram.Taken.TheVariants.{Good, Bad}
-use Rattle.tsp_base.specs.declared.place.Place.{Place}
-use Rattle.tsp_base.specs.declared.place.Place.TheVariants.{Peer, Stranger}
-use Rattle.tsp_base.specs.declared.role.Role.{Role}
+use Rattle.tsp_base.specs.declared.{datagram.Taken.Taken, datagram.Taken.TheVariants.Good, datagram.Taken.TheVariants.Bad, role.Role.Role}
+use Rattle.tsp_base.specs.declared.place.Place.{Place, TheVariants.Peer, TheVariants.Stranger}
 use Rattle.tsp_base.specs.declared.role.Role.TheVariants.{Starting, Loose, Follow, Candidate, Master}
 
 -- the word of a fault

@@ -1,13 +1,9 @@
 -- The words that begin an act's text, and what follows them.
 use Rattle.std.specs.Prelude.{◌≡◌, ℕ, Option, None, Some, List, [], ◌∷◌, ◌++◌, Bool, true, false, decimal, codes}
 use Rattle.std.specs.Fmt.{signed_decimal}
-use Rattle.tsp_base.specs.Words.{alarm_word}
-use Rattle.tsp_base.specs.declared.act.Act.{Act}
+use Rattle.tsp_base.specs.{Words.alarm_word, declared.act.Act.Act, declared.place.PeerId.PeerId}
 use Rattle.tsp_base.specs.declared.act.Act.TheVariants.{Boot, Took, Post, Become, Back, Backer, Quit, Arm, Ring, Late, Join, Leave, Rival, Acked, Gave, Sample, Close, Correct, Abandon, Trace}
-use Rattle.tsp_base.specs.declared.place.PeerId.{PeerId}
-use Rattle.tsp_script.specs.Texts.{message_text}
-use Rattle.tsp_script.specs.Traces.{role_text, place_text, taken_text}
-use Rattle.tsp_script.specs.declared.verbs.Verb.{Verb}
+use Rattle.tsp_script.specs.{Texts.message_text, Traces.role_text, Traces.place_text, Traces.taken_text, declared.verbs.Verb.Verb}
 use Rattle.tsp_script.specs.declared.verbs.Verb.TheVariants.{Boot as BootWord, Took as TookWord, Post as PostWord, Become as BecomeWord, Back as BackWord, Backer as BackerWord, Quit as QuitWord, Arm as ArmWord, Ring as RingWord, Late as LateWord, Join as JoinWord, Leave as LeaveWord, Rival as RivalWord, Acked as AckedWord, Gave as GaveWord, Sample as SampleWord, Close as CloseWord, Correct as CorrectWord, Abandon as AbandonWord, Trace as TraceWord}
 
 -- all of them

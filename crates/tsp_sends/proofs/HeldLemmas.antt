@@ -1,13 +1,9 @@
 -- Lemmas on the slots that are held in memory.
 use Rattle.std.proofs.Common.{◌≡◌, ℕ, ◌+◌, ◌-◌, ◌≤◌, ◌<◌, List, [], ◌∷◌, ◌++◌, length, map, take, drop, Option, None, Some, get_or, set, length-set, length-append, length-drop, append_assoc, refl, sym, ◌∙◌, ap, arith}
 use Rattle.std.proofs.lemmas.List.{length-map, length_push, map-append, map_push, take-append-drop, take_more, drop_more, get_or-map, get_or_append_left, get_or-append_right, set-append_left, get_or_read}
-use Rattle.tsp_base.specs.declared.place.PeerId.{PeerId}
-use Rattle.tsp_base.specs.Words.{Sending}
-use Rattle.tsp_sends.specs.declared.slot.Slot.{Slot}
-use Rattle.tsp_sends.specs.Held.{slots_of, AreHeld}
-use Rattle.tsp_sends.specs.Slots.{peers_of, empty_slot, kind_of}
-use Rattle.tsp_sends.proofs.SendsLemmas.{peers_of-empty}
-use Rattle.tsp_sends.proofs.SlotLemmas.{peers_of-set}
+use Rattle.tsp_base.specs.{Words.Sending, declared.place.PeerId.PeerId}
+use Rattle.tsp_sends.specs.{Held.slots_of, Held.AreHeld, Slots.peers_of, Slots.empty_slot, Slots.kind_of, declared.slot.Slot.Slot}
+use Rattle.tsp_sends.proofs.{SendsLemmas.peers_of-empty, SlotLemmas.peers_of-set}
 
 -- there is a slot for each peer
 pub length-slots_of : (ps : List PeerId) (held : List Slot) (room : ℕ) → AreHeld ps held room → length (slots_of ps held) ≡ length ps

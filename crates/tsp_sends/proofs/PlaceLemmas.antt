@@ -1,12 +1,8 @@
 -- Lemmas on the places of a tree: the first leaves.
 use Rattle.std.proofs.Common.{◌≡◌, ◌≢◌, ℕ, ◌+◌, ◌-◌, ◌*◌, ◌%◌, ◌^◌, ◌≤◌, ◌<◌, nat_le, true, false, List, length, take, drop, replicate, Option, None, Some, set, length-take, length-drop, get_or-take, get_or-drop, get_or-set_other, refl, sym, ◌∙◌, ap, arith, inl, inr}
-use Rattle.std.proofs.Math.Seq.{take-set-lt}
-use Rattle.std.proofs.lemmas.Nat.{shl_whole}
-use Rattle.std.proofs.lemmas.Bool.Decides.{nat_tests}
-use Rattle.std.proofs.lemmas.Bool.{cases_lt, lt-leb}
+use Rattle.std.proofs.{Math.Seq.take-set-lt, lemmas.Bool.cases_lt, lemmas.Bool.lt-leb, lemmas.Bool.Decides.nat_tests, lemmas.Nat.shl_whole}
 use Rattle.std.proofs.lemmas.List.{get_or_past, length-replicate, get_or-replicate, drop-set-add, take-replicate, drop-replicate}
-use Rattle.tsp_sends.specs.Deadlines.{is_due, deadline_at, IsLeast}
-use Rattle.tsp_sends.specs.Trees.{HoldsEarlier, IsTree}
+use Rattle.tsp_sends.specs.{Deadlines.is_due, Deadlines.deadline_at, Deadlines.IsLeast, Trees.HoldsEarlier, Trees.IsTree}
 use Rattle.tsp_sends.proofs.TreeLemmas.{none_due_below, some_due_below}
 
 -- the deadlines of the places

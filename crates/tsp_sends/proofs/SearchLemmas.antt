@@ -1,16 +1,10 @@
 -- Lemmas on the search for a peer's slot.
 use Rattle.std.proofs.Common.{◌≡◌, ◌≢◌, ℕ, ◌+◌, ◌≤◌, ◌<◌, List, length, Option, None, Some, Result, Ok, Err, get_or, sym, ◌∙◌, ap, arith, inl, inr}
-use Rattle.std.specs.List.{Contains}
-use Rattle.std.specs.List.Sorted.{IsBinarySearchResult, IsSearchInRange}
-use Rattle.std.specs.Ordering.{nat_cmp}
-use Rattle.std.proofs.lemmas.Bool.{cases_lt}
-use Rattle.std.proofs.lemmas.List.{length-map, get_or-map}
-use Rattle.tsp_base.specs.declared.place.PeerId.{PeerId}
-use Rattle.tsp_base.specs.Words.{IsAscending}
+use Rattle.std.specs.{List.Contains, List.Sorted.IsBinarySearchResult, List.Sorted.IsSearchInRange, Ordering.nat_cmp}
+use Rattle.std.proofs.lemmas.{Bool.cases_lt, List.length-map, List.get_or-map}
+use Rattle.tsp_base.specs.{Words.IsAscending, declared.place.PeerId.PeerId}
 use Rattle.tsp_base.proofs.AscendingLemmas.{Rise-peers, Parts-searched, equal_means, never_falls}
-use Rattle.tsp_sends.specs.declared.slot.Slot.{Slot}
-use Rattle.tsp_sends.specs.Slots.{peers_of, sending_to}
-use Rattle.tsp_sends.specs.Repeating.{IsPlaceOf, IsFirstAfter}
+use Rattle.tsp_sends.specs.{Repeating.IsPlaceOf, Repeating.IsFirstAfter, Slots.peers_of, Slots.sending_to, declared.slot.Slot.Slot}
 use Rattle.tsp_sends.proofs.SlotLemmas.{Rising, sending_to-absent}
 
 -- the peer of a slot

@@ -1,12 +1,9 @@
 -- Lemmas on slots with their deadlines.
 use Rattle.std.proofs.Common.{◌≡◌, ℕ, ◌+◌, ◌≤◌, ◌<◌, true, false, List, [], ◌∷◌, length, map, replicate, Option, None, Some, Ok, get_or, set, length-set, get_or-set_same, get_or-set_other, refl, sym, ◌∙◌, ap, arith, inl, inr}
-use Rattle.std.specs.Option.{option_map, option_and_then}
-use Rattle.std.proofs.lemmas.Bool.{cases_lt, cases_eq}
+use Rattle.std.{proofs.lemmas.Bool.cases_lt, proofs.lemmas.Bool.cases_eq, specs.Option.option_map, specs.Option.option_and_then}
 use Rattle.std.proofs.lemmas.List.{length-map, get_or-map, get_or_default, map-set}
-use Rattle.tsp_base.specs.declared.place.PeerId.{PeerId}
-use Rattle.tsp_base.specs.Words.{Sending, deadline_of, IsAscending}
-use Rattle.tsp_sends.specs.declared.due.Due.{Due}
-use Rattle.tsp_sends.specs.declared.slot.Slot.{Slot}
+use Rattle.tsp_base.specs.{Words.Sending, Words.deadline_of, Words.IsAscending, declared.place.PeerId.PeerId}
+use Rattle.tsp_sends.specs.declared.{due.Due.Due, slot.Slot.Slot}
 use Rattle.tsp_sends.specs.Deadlines.{is_due, deadline_at, IsFirstDue, IsFirstDueAt, IsLeast}
 use Rattle.tsp_sends.specs.Slots.{peers_of, empty_slot, sending_to, deadline_in, SetsOnly, IsSends}
 use Rattle.tsp_sends.specs.Repeating.{IsAfter, is_due_send, repeated, kept, RepeatsNext, IsEarliest, IsPlaceOf, IsFirstAfter}

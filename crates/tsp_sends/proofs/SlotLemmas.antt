@@ -1,11 +1,9 @@
 -- Lemmas on the slots of a port's peers.
 use Rattle.std.proofs.Common.{◌≡◌, ◌≢◌, ℕ, zero, suc, ◌-◌, ◌<◌, ◌==◌, Bool, true, false, if◌then◌else◌, List, [], ◌∷◌, length, None, Some, get_or, set, eqb-true, eq-eqb, refl, sym, ◌∙◌, ap, arith}
 use Rattle.std.proofs.lemmas.Bool.{ne_eqb}
-use Rattle.tsp_base.specs.declared.place.PeerId.{PeerId}
-use Rattle.tsp_base.specs.Words.{Sending, IsAscending}
+use Rattle.tsp_base.specs.{Words.Sending, Words.IsAscending, declared.place.PeerId.PeerId}
 use Rattle.tsp_base.proofs.AscendingLemmas.{Rise, Rise-of, Rise-rest}
-use Rattle.tsp_sends.specs.declared.slot.Slot.{Slot}
-use Rattle.tsp_sends.specs.Slots.{peers_of, sending_to, SetsOnly}
+use Rattle.tsp_sends.specs.{Slots.peers_of, Slots.sending_to, Slots.SetsOnly, declared.slot.Slot.Slot}
 
 -- the peers' numbers rise along the slots
 abbrev pub Rising : List Slot → Type 0

@@ -2,12 +2,9 @@
 use Rattle.std.proofs.Common.{◌≡◌, ◌≢◌, ℕ, zero, suc, ◌+◌, ◌-◌, ◌*◌, ◌/◌, ◌%◌, ◌^◌, ◌≤◌, ◌<◌, nat_le, Bool, true, false, ◌||◌, List, length, drop, Option, None, Some, set, length-set, get_or-set_same, get_or-set_other, refl, sym, ◌∙◌, ap, add-one, arith, inl, inr}
 use Rattle.std.proofs.Math.Nat.{pow-suc, le-mul_of_pos_right, mul-le-mul_right, le_of_mul-le-mul_right, pow-le-pow_right}
 use Rattle.std.proofs.lemmas.Nat.{pow_pos, pow-add}
-use Rattle.std.proofs.lemmas.Bool.Decides.{nat_tests}
-use Rattle.std.proofs.lemmas.Bool.{cases_lt, cases_eq}
-use Rattle.std.proofs.lemmas.List.{get_or_past, drop-set-lt}
+use Rattle.std.proofs.lemmas.{Bool.cases_lt, Bool.cases_eq, Bool.Decides.nat_tests, List.get_or_past, List.drop-set-lt}
 use Rattle.tsp_base.specs.Words.{earlier}
-use Rattle.tsp_sends.specs.Deadlines.{is_due, deadline_at, IsFirstDueAt}
-use Rattle.tsp_sends.specs.Trees.{HoldsEarlier}
+use Rattle.tsp_sends.specs.{Deadlines.is_due, Deadlines.deadline_at, Deadlines.IsFirstDueAt, Trees.HoldsEarlier}
 
 -- the earlier of two deadlines has come where one of them has
 pub is_due-earlier : (tick : ℕ) (a b : Option ℕ) → is_due tick (earlier a b) ≡ (is_due tick a || is_due tick b)

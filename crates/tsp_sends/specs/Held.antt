@@ -1,8 +1,7 @@
 -- The slots that are held in memory: those of the first peers, since the other ones are empty.
 use Rattle.std.specs.Prelude.{◌≡◌, ℕ, ◌≤◌, List, ◌++◌, map, length, take, drop}
 use Rattle.tsp_base.specs.declared.place.PeerId.{PeerId}
-use Rattle.tsp_sends.specs.declared.slot.Slot.{Slot}
-use Rattle.tsp_sends.specs.Slots.{peers_of, empty_slot}
+use Rattle.tsp_sends.specs.{Slots.peers_of, Slots.empty_slot, declared.slot.Slot.Slot}
 
 -- a slot for each peer: the ones that are held, and then empty ones
 abbrev pub slots_of : List PeerId → List Slot → List Slot

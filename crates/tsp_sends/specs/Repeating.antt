@@ -1,13 +1,9 @@
 -- How the next due send is found and repeated.
 use Rattle.std.specs.Prelude.{◌≡◌, ℕ, ◌+◌, ◌<◌, ◌≤◌, Bool, true, false, if◌then◌else◌, List, length, Option, None, Some, Result, Ok, Err, slice_index_or}
 use Rattle.std.specs.Option.{option_map}
-use Rattle.tsp_base.specs.declared.place.PeerId.{PeerId}
-use Rattle.tsp_base.specs.Words.{Sending, deadline_of, is_given_up}
-use Rattle.tsp_sends.specs.declared.due.Due.{Due}
+use Rattle.tsp_base.specs.{Words.Sending, Words.deadline_of, Words.is_given_up, declared.place.PeerId.PeerId}
 use Rattle.tsp_sends.specs.declared.due.Due.TheVariants.{Again, Gave}
-use Rattle.tsp_sends.specs.declared.slot.Slot.{Slot}
-use Rattle.tsp_sends.specs.Deadlines.{is_due}
-use Rattle.tsp_sends.specs.Slots.{sending_to, SetsOnly}
+use Rattle.tsp_sends.specs.{Deadlines.is_due, Slots.sending_to, Slots.SetsOnly, declared.due.Due.Due, declared.slot.Slot.Slot}
 
 -- the peer comes after this one; without one, each peer does
 abbrev pub IsAfter : Option PeerId → PeerId → Type 0

@@ -1,9 +1,7 @@
 -- The slots of a port's peers, each with at most one open send.
 use Rattle.std.specs.Prelude.{◌≡◌, ℕ, ◌==◌, Bool, false, if◌then◌else◌, List, [], ◌∷◌, map, Option, None, Some}
 use Rattle.std.specs.Option.{option_map}
-use Rattle.tsp_base.specs.declared.kind.Kind.{Kind}
-use Rattle.tsp_base.specs.declared.place.PeerId.{PeerId}
-use Rattle.tsp_base.specs.Words.{IsAscending, Sending, deadline_of}
+use Rattle.tsp_base.specs.{Words.IsAscending, Words.Sending, Words.deadline_of, declared.kind.Kind.Kind, declared.place.PeerId.PeerId}
 use Rattle.tsp_sends.specs.declared.slot.Slot.{Slot}
 
 -- the peers that have a slot

@@ -1,15 +1,11 @@
 -- Rows that neither boot, take, follow nor correct leave alone what stands beside a station: what is remembered of corrections, the clock, and what was taken.
-use Rattle.std.specs.Prelude.{◌≡◌, ℕ, true, List, [], ◌∷◌, Option}
-use Rattle.std.proofs.Common.{sym, true≢false}
+use Rattle.std.proofs.Common.{sym, true≢false, ◌≡◌, ℕ, true, List, [], ◌∷◌, Option}
 use Rattle.tsp_rules.specs.Values.{Act, Boot, Took, Become, Correct, Placed, Port, Follow}
 use Rattle.tsp_base.specs.Words.{Performs, Keeps, Received, Row, puts}
 use Rattle.tsp_rules.proofs.Emits.{Sort, Asking, Correcting, Numbering, Passing, Posting, Leading, Changing, Backing, Counting, Rounding, Alarming, Tabling, Rivalling, Acking, Giving, Sampling, Closing, Tracing, is_in, sort_of, Emits, Keeps_by}
-use Rattle.tsp_acks.specs.declared.station.Station.{Station}
-use Rattle.tsp_acks.specs.Stands.{StationStands}
-use Rattle.tsp_clock.specs.Clocks.{ClockValue}
-use Rattle.tsp_clock.specs.ClockStands.{ClockStands}
-use Rattle.tsp_slave.specs.Lasts.{LastValue, Remembers}
-use Rattle.tsp_slave.specs.SlaveStands.{AlsoStands, SlaveStands, Took as WasTaken}
+use Rattle.tsp_acks.specs.{Stands.StationStands, declared.station.Station.Station}
+use Rattle.tsp_clock.specs.{ClockStands.ClockStands, Clocks.ClockValue}
+use Rattle.tsp_slave.specs.{Lasts.LastValue, Lasts.Remembers, SlaveStands.AlsoStands, SlaveStands.SlaveStands, SlaveStands.Took as WasTaken}
 
 -- all sorts of acts but Boot, Took, to follow, and Correct
 abbrev pub beside_sorts : List Sort

@@ -3,12 +3,9 @@ use Rattle.std.specs.Prelude.{◌≡◌, ℕ, ◌==◌, ◌&&◌, Bool, refl}
 use Rattle.tsp_rules.specs.Values.{PeerId, GAP}
 use Rattle.tsp_base.specs.Words.{Past, is_past, either_by, ◌followed_by◌}
 use Rattle.tsp_rules.specs.SlaveRows.{acks_repeat, adjtime_of, confirms, settime_of, takes_amount, takes_value}
-use Rattle.tsp_clock.specs.Clocks.{ClockValue}
-use Rattle.tsp_clock.specs.ClockStands.{ClockStands}
-use Rattle.tsp_slave.specs.declared.change.Change.{Change}
-use Rattle.tsp_slave.specs.declared.change.Change.TheVariants.{By, To}
-use Rattle.tsp_slave.specs.ClockChanges.{changes_clock, correction_of, fits}
-use Rattle.tsp_slave.specs.Lasts.{LastValue, Remembers}
+use Rattle.tsp_clock.specs.{ClockStands.ClockStands, Clocks.ClockValue}
+use Rattle.tsp_slave.specs.declared.change.Change.{Change, TheVariants.By, TheVariants.To}
+use Rattle.tsp_slave.specs.{ClockChanges.changes_clock, ClockChanges.correction_of, ClockChanges.fits, Lasts.LastValue, Lasts.Remembers}
 
 -- whether a correction acts
 abbrev pub acts_at : ℕ → Change → ℕ → Past → Bool

@@ -1,6 +1,5 @@
 -- The room of calls that put acts, one after the other.
-use Rattle.std.specs.Prelude.{◌≡◌, ℕ, ◌+◌, Bool, true, false, if◌then◌else◌, List}
-use Rattle.std.proofs.Common.{arith}
+use Rattle.std.proofs.Common.{arith, ◌≡◌, ℕ, ◌+◌, Bool, true, false, if◌then◌else◌, List}
 use Rattle.tsp_rules.specs.Values.{Placed}
 use Rattle.tsp_base.specs.Words.{PutsAtMost, PutsExactly}
 

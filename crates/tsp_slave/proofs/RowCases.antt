@@ -1,19 +1,15 @@
 -- Rows and tests by cases, in the cases that are left.
-use Rattle.std.specs.Prelude.{◌≡◌, ◌≢◌, ◌⊎◌, ◌==◌, ◌&&◌, not, ℕ, Bool, true, false, if◌then◌else◌, [], Option, None, Some, is_some, refl}
-use Rattle.std.proofs.Common.{◌∙◌, ap, sym, inl, inr}
+use Rattle.std.proofs.Common.{◌∙◌, ap, sym, inl, inr, ◌≡◌, ◌≢◌, ◌⊎◌, ◌==◌, ◌&&◌, not, ℕ, Bool, true, false, if◌then◌else◌, [], Option, None, Some, is_some, refl}
 use Rattle.std.proofs.lemmas.Bool.{false≢true}
 use Rattle.tsp_rules.specs.Values.{Alarm, Quiet, Elect, Search, Kind, AdjTime, SetTime, PeerId, Loose, Follow}
 use Rattle.tsp_base.specs.Words.{deadline, Past, may_stand, MessageValue, Received, held, role, said, Row, nothing, reading, either_by, ◌followed_by◌, Sending, correcting_of, is_correction}
-use Rattle.tsp_rules.specs.SendRows.{is_free}
-use Rattle.tsp_rules.specs.CommonRows.{arms_elect, tells_ticket}
+use Rattle.tsp_rules.specs.{CommonRows.arms_elect, CommonRows.tells_ticket, SendRows.is_free}
 use Rattle.tsp_rules.specs.SlaveRows.{from_master, masterack_in, masterup_in, reports_conflict, slave_takes_kind}
 use Rattle.tsp_rules.specs.Guards.{is_armed, is_met, may_stand_at, role_at}
 use Rattle.tsp_sends.specs.Slots.{kind_of, sending_to}
-use Rattle.tsp_acks.specs.declared.station.Station.{Station}
-use Rattle.tsp_acks.specs.Stands.{StationStands}
-use Rattle.tsp_slave.specs.ClockChanges.{change_in, correction_of}
+use Rattle.tsp_acks.specs.{Stands.StationStands, declared.station.Station.Station}
+use Rattle.tsp_slave.specs.{ClockChanges.change_in, ClockChanges.correction_of, SlaveAlarms.slave_rings, SlaveAlarms.is_to_be_candidate}
 use Rattle.tsp_slave.specs.SlaveStands.{IsCorrection, IsMessageFrom}
-use Rattle.tsp_slave.specs.SlaveAlarms.{slave_rings, is_to_be_candidate}
 
 pub slave_rings-other : (a : Alarm) → a ≢ Quiet → a ≢ Search → a ≢ Elect → slave_rings a ≡ nothing
 unfolding slave_rings

@@ -1,29 +1,18 @@
 -- What acts of the station leave as it is: what is remembered, the clock, and what was taken.
-use Rattle.std.specs.Prelude.{◌≡◌, ℕ, ℤ, Bool, true, false, Option, Some, List, [], ◌∷◌, refl}
-use Rattle.std.proofs.Common.{sym, ◌∙◌, ap}
+use Rattle.std.proofs.Common.{sym, ◌∙◌, ap, ◌≡◌, ℕ, ℤ, Bool, true, false, Option, Some, List, [], ◌∷◌, refl}
 use Rattle.std.proofs.lemmas.Bool.{false≢true}
 use Rattle.tsp_rules.specs.Values.{Act, Become, Back, Correct, Placed, Kind, Accept, Ack, Refuse, PeerId, Port, Follow}
 use Rattle.tsp_base.specs.Words.{Past, Performs, Keeps, Received, said, name_in, Row, grown, puts, ◌followed_by◌, posts, Correcting, correcting_of}
 use Rattle.tsp_base.proofs.PerformsLemmas.{Keeps_then, Keeps_either}
-use Rattle.tsp_rules.specs.ClockRows.{adjusts, sets}
-use Rattle.tsp_rules.specs.CommonRows.{arms_elect}
-use Rattle.tsp_rules.specs.SendRows.{acknowledges}
+use Rattle.tsp_rules.specs.{ClockRows.adjusts, ClockRows.sets, CommonRows.arms_elect, Guards.may_back_at, SendRows.acknowledges}
 use Rattle.tsp_rules.specs.SlaveRows.{election_of, confirms, reports_conflict}
-use Rattle.tsp_rules.specs.Guards.{may_back_at}
 use Rattle.tsp_rules.proofs.Emits.{Emits_posts, Emits_puts, is_in, sort_of_kind}
-use Rattle.tsp_acks.specs.declared.station.Station.{Station}
-use Rattle.tsp_acks.specs.Stands.{StationStands, StandsActing}
-use Rattle.tsp_acks.proofs.ActingLemmas.{taken-acts}
-use Rattle.tsp_acks.proofs.StandsLemmas.{Stands_idle}
-use Rattle.tsp_clock.specs.Clocks.{ClockValue}
-use Rattle.tsp_clock.specs.ClockStands.{ClockStands}
-use Rattle.tsp_slave.specs.declared.change.Change.{Change}
-use Rattle.tsp_slave.specs.declared.change.Change.TheVariants.{By, To}
-use Rattle.tsp_slave.specs.ClockChanges.{changes_clock}
-use Rattle.tsp_slave.specs.Lasts.{LastValue}
-use Rattle.tsp_slave.specs.SlaveStands.{AlsoStands, SlaveStands}
-use Rattle.tsp_rules.proofs.BuiltSlave.{built_reports_conflict}
-use Rattle.tsp_rules.proofs.BuiltShared.{built_acknowledges, built_arms_elect}
+use Rattle.tsp_acks.specs.{Stands.StationStands, Stands.StandsActing, declared.station.Station.Station}
+use Rattle.tsp_acks.proofs.{ActingLemmas.taken-acts, StandsLemmas.Stands_idle}
+use Rattle.tsp_clock.specs.{ClockStands.ClockStands, Clocks.ClockValue}
+use Rattle.tsp_slave.specs.declared.change.Change.{Change, TheVariants.By, TheVariants.To}
+use Rattle.tsp_slave.specs.{ClockChanges.changes_clock, Lasts.LastValue, SlaveStands.AlsoStands, SlaveStands.SlaveStands}
+use Rattle.tsp_rules.proofs.{BuiltShared.built_acknowledges, BuiltShared.built_arms_elect, BuiltSlave.built_reports_conflict}
 use Rattle.tsp_rules.proofs.EmitsBuilt.{emits_built}
 use Rattle.tsp_slave.proofs.BesideLemmas.{AlsoStands_by, beside_sorts}
 

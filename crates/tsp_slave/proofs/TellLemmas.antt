@@ -1,17 +1,11 @@
 -- What is told of a correction, by the row that was performed.
-use Rattle.std.specs.Prelude.{◌≡◌, ℕ, Bool, true, false, List, [], ◌∷◌, ◌++◌, map, refl}
-use Rattle.std.proofs.Common.{◌∙◌, ap, append-nil, sym}
+use Rattle.std.proofs.Common.{◌∙◌, ap, append-nil, sym, ◌≡◌, ℕ, Bool, true, false, List, [], ◌∷◌, ◌++◌, map, refl}
 use Rattle.std.proofs.lemmas.List.{append_cancel_left}
-use Rattle.tsp_rules.specs.Values.{Act, Placed, Port}
 use Rattle.tsp_base.specs.Words.{Past, Performs, Row, placed, ◌followed_by◌}
-use Rattle.tsp_rules.specs.ClockRows.{adjusts, sets}
-use Rattle.tsp_rules.specs.RoundRows.{corrects}
-use Rattle.tsp_rules.proofs.Emits.{Emits}
-use Rattle.tsp_rules.proofs.EmitsStill.{row_corrects-none, still_sorts}
-use Rattle.tsp_slave.specs.declared.change.Change.{Change}
+use Rattle.tsp_rules.specs.{ClockRows.adjusts, ClockRows.sets, RoundRows.corrects, Values.Act, Values.Placed, Values.Port}
+use Rattle.tsp_rules.proofs.{Emits.Emits, EmitsStill.row_corrects-none, EmitsStill.still_sorts}
 use Rattle.tsp_slave.specs.declared.change.Change.TheVariants.{By, To}
-use Rattle.tsp_slave.specs.ClockChanges.{changes_clock}
-use Rattle.tsp_slave.specs.Corrections.{TellsCorrection}
+use Rattle.tsp_slave.specs.{ClockChanges.changes_clock, Corrections.TellsCorrection, declared.change.Change.Change}
 
 abbrev act_in : Placed → Act
 act_in p = p.act

@@ -2,12 +2,9 @@
 use Rattle.std.specs.Prelude.{ℕ, ℤ, ◌+ℤ◌, Bool}
 use Rattle.tsp_rules.specs.Values.{Kind, SetTime, PeerId}
 use Rattle.tsp_base.specs.Words.{MessageValue, Row, time_in}
-use Rattle.tsp_rules.specs.ClockRows.{adjusts, sets}
-use Rattle.tsp_rules.specs.SlaveRows.{adjtime_of, settime_of}
-use Rattle.tsp_rules.specs.Guards.{is_clock_value}
+use Rattle.tsp_rules.specs.{ClockRows.adjusts, ClockRows.sets, Guards.is_clock_value, SlaveRows.adjtime_of, SlaveRows.settime_of}
 use Rattle.tsp_clock.specs.Clocks.{ClockValue, target_of}
-use Rattle.tsp_slave.specs.declared.change.Change.{Change}
-use Rattle.tsp_slave.specs.declared.change.Change.TheVariants.{By, To}
+use Rattle.tsp_slave.specs.declared.change.Change.{Change, TheVariants.By, TheVariants.To}
 
 abbrev pub change_by : Kind → ℤ → Change
 change_by SetTime time = To time

@@ -2,8 +2,7 @@
 use Rattle.std.specs.Prelude.{ℕ, ◌&&◌, Bool}
 use Rattle.tsp_rules.specs.Values.{Alarm, Quiet, Elect, Search}
 use Rattle.tsp_base.specs.Words.{deadline, may_stand, Row, nothing}
-use Rattle.tsp_rules.specs.SlaveRows.{quiet_rings, search_rings, elect_rings}
-use Rattle.tsp_rules.specs.Guards.{is_met}
+use Rattle.tsp_rules.specs.{Guards.is_met, SlaveRows.quiet_rings, SlaveRows.search_rings, SlaveRows.elect_rings}
 use Rattle.tsp_acks.specs.declared.station.Station.{Station}
 
 -- the alarms of such a port

@@ -2,10 +2,8 @@
 use Rattle.std.specs.Prelude.{◌≡◌, ℕ, List, Option, Some}
 use Rattle.tsp_rules.specs.Values.{Placed, Message, Good, PeerId, Peer, Port}
 use Rattle.tsp_base.specs.Words.{Past, MessageValue, Performs, Received, name_in, said, taken, Row, Correcting, correcting_of}
-use Rattle.tsp_acks.specs.declared.station.Station.{Station}
-use Rattle.tsp_acks.specs.Stands.{StationStands}
-use Rattle.tsp_clock.specs.Clocks.{ClockValue}
-use Rattle.tsp_clock.specs.ClockStands.{ClockStands}
+use Rattle.tsp_acks.specs.{Stands.StationStands, declared.station.Station.Station}
+use Rattle.tsp_clock.specs.{ClockStands.ClockStands, Clocks.ClockValue}
 use Rattle.tsp_slave.specs.Lasts.{LastValue, Remembers}
 
 -- this is what the step took

@@ -1,6 +1,5 @@
 -- The words of a storm's boots differ: modulo 128 the generator runs through all 128 states.
-use Rattle.std.specs.Prelude.{◌≡◌, ◌≢◌, ℕ, zero, suc, ◌+◌, ◌*◌, ◌%◌, ◌<◌, ◌≤◌, ◌==◌, ◌&&◌, not, Bool, true, List, [], ◌∷◌, length, refl}
-use Rattle.std.proofs.Common.{sym, ap, ◌∙◌, subst, arith, inl, inr}
+use Rattle.std.proofs.Common.{sym, ap, ◌∙◌, subst, arith, inl, inr, ◌≡◌, ◌≢◌, ℕ, zero, suc, ◌+◌, ◌*◌, ◌%◌, ◌<◌, ◌≤◌, ◌==◌, ◌&&◌, not, Bool, true, List, [], ◌∷◌, length, refl}
 use Rattle.std.proofs.lemmas.Bool.{and_parts, not-true, eqb-false, cases_lt}
 use Rattle.std.proofs.lemmas.Nat.{mod_below}
 use Rattle.tsp_rules.specs.Values.{Event, BootAt, Turn, Take, Bytes}

@@ -1,18 +1,13 @@
 -- What a generator gives: events that may follow those before them, and questions for datagrams that were posted.
-use Rattle.std.specs.Prelude.{◌≡◌, ℕ, ◌+◌, ◌/◌, ◌^◌, ◌<◌, ◌≤◌, nat_lt, nat_le, ◌==◌, Bool, true, false, if◌then◌else◌, List, [], ◌∷◌, length, slice_get, zero, suc, None, Some, refl}
-use Rattle.std.proofs.Common.{sym, ap, ◌∙◌, subst, arith}
-use Rattle.std.proofs.lemmas.Bool.{eqb-false, ltb-true, ltb-false}
-use Rattle.std.proofs.lemmas.Nat.{mod_below}
+use Rattle.std.proofs.Common.{sym, ap, ◌∙◌, subst, arith, ◌≡◌, ℕ, ◌+◌, ◌/◌, ◌^◌, ◌<◌, ◌≤◌, nat_lt, nat_le, ◌==◌, Bool, true, false, if◌then◌else◌, List, [], ◌∷◌, length, slice_get, zero, suc, None, Some, refl}
+use Rattle.std.proofs.lemmas.{Bool.eqb-false, Bool.ltb-true, Bool.ltb-false, Nat.mod_below}
 use Rattle.tsp_rules.specs.Values.{Event, BootAt, Turn, Take, Bytes, Stranger}
 use Rattle.tsp_base.specs.Words.{HeaderValue, first_port, event_in}
-use Rattle.tsp_script.specs.declared.storm.Choice.{Choice}
-use Rattle.tsp_script.specs.declared.storm.Choice.TheVariants.{Plain, Request, Ask as Asked}
-use Rattle.tsp_script.specs.declared.storm.Draw.{Draw}
-use Rattle.tsp_script.specs.declared.storm.Draw.TheVariants.{Event as Gives, Ask}
+use Rattle.tsp_script.specs.declared.storm.Choice.{Choice, TheVariants.Plain, TheVariants.Request, TheVariants.Ask as Asked}
+use Rattle.tsp_script.specs.declared.storm.Draw.{Draw, TheVariants.Event as Gives, TheVariants.Ask}
 use Rattle.tsp_script.specs.Storms.{StormValue, moved, drawn, gave, boots_next, turns_one, asks_one, recent_one, as_event, as_question, asks_or_turns, chosen, storm_draw, storm_take, storm_next, draw_of, request_event}
 use Rattle.tsp_storm.specs.Schedules.{drawn_event, next_event, posted_count, posting_time}
-use Rattle.tsp_run.specs.declared.posted.Posted.{Posted}
-use Rattle.tsp_run.specs.Run.{event_at, posted_time}
+use Rattle.tsp_run.specs.{Run.event_at, Run.posted_time, declared.posted.Posted.Posted}
 
 -- an event that comes next: a boot of the next node at time 0, or, once all have booted, something at a node of the schedule, no earlier than what came before
 abbrev pub IsNext : ℕ → StormValue → Event → Type 0

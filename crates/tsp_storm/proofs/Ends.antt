@@ -1,14 +1,11 @@
 -- A storm has one answer.
-use Rattle.std.specs.Prelude.{◌≡◌, ◌⊎◌, ℕ, zero, suc, ◌+◌, ◌<◌, List, [], length, Option, None, Some, refl, ◌-◌}
-use Rattle.std.proofs.Common.{sym, ap, ◌∙◌, subst, arith, inl, inr, length-append, append-nil, take, drop, take-append-drop}
-use Rattle.std.proofs.lemmas.List.{length-drop}
-use Rattle.std.proofs.lemmas.Bool.{cases_order}
+use Rattle.std.proofs.Common.{sym, ap, ◌∙◌, subst, arith, inl, inr, length-append, append-nil, take, drop, take-append-drop, ◌≡◌, ◌⊎◌, ℕ, zero, suc, ◌+◌, ◌<◌, List, [], length, Option, None, Some, refl, ◌-◌}
+use Rattle.std.proofs.lemmas.{Bool.cases_order, List.length-drop}
 use Rattle.tsp_io.specs.Streams.{Grows}
 use Rattle.tsp_lines.specs.Outcomes.{limit_line}
-use Rattle.tsp_storm.specs.declared.run.StormEnd.{StormEnd}
 use Rattle.tsp_storm.specs.declared.run.StormEnd.TheVariants.{Done, Limit, WriteFault, OutOfMemory}
 use Rattle.tsp_storm.specs.Answers.{IsLimit, StopsAfter, IsStormAnswer, IsTextPart, WritesTextPart, StormsAs, AgreesWithAnswer, refused_after, SaysText}
-use Rattle.tsp_storm.specs.Schedules.{header_of, storm_events}
+use Rattle.tsp_storm.specs.{Schedules.header_of, Schedules.storm_events, declared.run.StormEnd.StormEnd}
 use Rattle.tsp_args.specs.declared.storm.StormWords.{StormWords}
 use Rattle.tsp_run.specs.Refusals.{Valid}
 

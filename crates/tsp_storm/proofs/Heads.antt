@@ -1,12 +1,9 @@
 -- The lines that a generator gives can join a header.
-use Rattle.std.specs.Prelude.{◌≡◌, ◌≢◌, ℕ, ◌*◌, ◌<◌, ◌≤◌, ◌/◌, ◌^◌, length, [], ◌∷◌, ◌++◌, suc, false, Err, nat_abs, pos, ◌-ℤ◌, refl}
-use Rattle.std.proofs.Common.{arith, ap, ◌∙◌}
-use Rattle.std.proofs.lemmas.Int.{ints}
-use Rattle.std.proofs.lemmas.Nat.{mod_below}
-use Rattle.tsp_base.specs.declared.header.HeaderFault.{HeaderFault}
+use Rattle.std.proofs.Common.{arith, ap, ◌∙◌, ◌≡◌, ◌≢◌, ℕ, ◌*◌, ◌<◌, ◌≤◌, ◌/◌, ◌^◌, length, [], ◌∷◌, ◌++◌, suc, false, Err, nat_abs, pos, ◌-ℤ◌, refl}
+use Rattle.std.proofs.lemmas.{Int.ints, Nat.mod_below}
 use Rattle.tsp_base.specs.declared.header.HeaderFault.TheVariants.{Full, Rate, Wall, Nets, Net, OutOfMemory}
 use Rattle.tsp_rules.specs.Values.{NodeLine}
-use Rattle.tsp_base.specs.Words.{HeaderValue, Pushes}
+use Rattle.tsp_base.specs.{Words.HeaderValue, Words.Pushes, declared.header.HeaderFault.HeaderFault}
 use Rattle.tsp_storm.specs.Schedules.{after_lines, storm_lines}
 use Rattle.tsp_script.specs.Storms.{StormValue, moved, drawn, storm_line}
 

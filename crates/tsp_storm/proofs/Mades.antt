@@ -1,24 +1,17 @@
 -- What is true of every schedule that comes of a number: nothing but a limit refuses any of its events.
-use Rattle.std.specs.Prelude.{◌≡◌, ℕ, zero, suc, ◌+◌, ◌<◌, ◌≤◌, Bool, true, false, if◌then◌else◌, List, [], ◌∷◌, length, nat_le, ◌||◌, Option, None, Some, slice_get, slice_index_or, refl}
-use Rattle.std.proofs.Common.{sym, ap, ◌∙◌, subst, arith, inl, inr, length-append}
+use Rattle.std.proofs.Common.{sym, ap, ◌∙◌, subst, arith, inl, inr, length-append, ◌≡◌, ℕ, zero, suc, ◌+◌, ◌<◌, ◌≤◌, Bool, true, false, if◌then◌else◌, List, [], ◌∷◌, length, nat_le, ◌||◌, Option, None, Some, slice_get, slice_index_or, refl}
 use Rattle.std.proofs.lemmas.Bool.{lt-ltb, le-ltb, cases_lt}
 use Rattle.tsp_rules.specs.Values.{Event, BootAt, Turn, Take, Bytes}
 use Rattle.tsp_base.specs.Words.{HeaderValue, has_member, is_whole, of, dids, first_port, up}
-use Rattle.tsp_base.specs.declared.event.EventFault.{EventFault}
-use Rattle.tsp_base.specs.declared.event.EventFault.TheVariants.{Limit}
+use Rattle.tsp_base.specs.declared.event.EventFault.{EventFault, TheVariants.Limit}
 use Rattle.tsp_script.specs.Storms.{StormValue, storm_line}
 use Rattle.tsp_storm.specs.Schedules.{after_lines, storm_lines, header_of, generator_of, posted_count, next_event, made, storm_events}
-use Rattle.tsp_storm.proofs.Draws.{IsNext, Moves, next_moves}
-use Rattle.tsp_storm.proofs.Ups.{up-later, up-booted}
-use Rattle.tsp_args.specs.Storms.{IsStorm}
-use Rattle.tsp_args.specs.declared.storm.StormWords.{StormWords}
-use Rattle.tsp_run.specs.declared.address.Address.{Address}
-use Rattle.tsp_run.specs.declared.posted.Posted.{Posted}
-use Rattle.tsp_run.specs.Networks.{networks, networks_among, ports_on}
+use Rattle.tsp_storm.proofs.{Draws.IsNext, Draws.Moves, Draws.next_moves, Ups.up-later, Ups.up-booted}
+use Rattle.tsp_args.specs.{Storms.IsStorm, declared.storm.StormWords.StormWords}
+use Rattle.tsp_run.specs.{Networks.networks, Networks.networks_among, Networks.ports_on, declared.address.Address.Address}
 use Rattle.tsp_run.specs.Refusals.{Scene, scene, refusal, time_back, unknown, lacks_port, no_node, no_datagram, not_up, down, node_in, room_at, is_crowded, actor, most_events}
 use Rattle.tsp_run.specs.Run.{event_at, last_at, goes_to, posts, run}
-use Rattle.tsp_run.proofs.NetworkLemmas.{goes_there}
-use Rattle.tsp_run.proofs.RefusalLemmas.{goes_to-post}
+use Rattle.tsp_run.{proofs.NetworkLemmas.goes_there, proofs.RefusalLemmas.goes_to-post, specs.declared.posted.Posted.Posted}
 use Rattle.tsp_networks.proofs.MemberLemmas.{member_alone, some_port}
 
 -- a generator that has given the lines of so many nodes

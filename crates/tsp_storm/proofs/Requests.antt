@@ -1,12 +1,8 @@
 -- The octets of a stranger's request.
-use Rattle.std.specs.Prelude.{◌≡◌, ℕ, zero, suc, ◌<◌, ◌^◌, List, [], ◌∷◌, ◌++◌, replicate}
-use Rattle.std.specs.Int.{w64, to_be_bytes}
-use Rattle.std.proofs.Common.{arith}
-use Rattle.std.proofs.lemmas.Nat.{mod_below}
+use Rattle.std.proofs.Common.{arith, ◌≡◌, ℕ, zero, suc, ◌<◌, ◌^◌, List, [], ◌∷◌, ◌++◌, replicate}
+use Rattle.std.{proofs.lemmas.Nat.mod_below, specs.Int.w64, specs.Int.to_be_bytes}
 use Rattle.tsp_rules.specs.Values.{Stamp, Good, Request}
-use Rattle.tsp_codec.specs.Numbers.{octet_at}
-use Rattle.tsp_codec.specs.Taken.{taken_of}
-use Rattle.tsp_codec.proofs.TakenOf.{taken_of-canon}
+use Rattle.tsp_codec.{proofs.TakenOf.taken_of-canon, specs.Numbers.octet_at, specs.Taken.taken_of}
 use Rattle.tsp_script.specs.Storms.{request_octets}
 
 record AreOctets (l : List ℕ) : Type 0 where

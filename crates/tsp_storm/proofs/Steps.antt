@@ -1,25 +1,18 @@
 -- What a step of a schedule in the making comes to.
-use Rattle.std.specs.Prelude.{◌≡◌, ◌≢◌, ℕ, suc, ◌+◌, ◌<◌, [], ◌∷◌, length, Option, Some, OnOk, IfErr, refl}
-use Rattle.std.proofs.Common.{sym, ap, ◌∙◌, subst, arith, inl, inr}
-use Rattle.std.specs.declared.result.Result.{Result}
-use Rattle.std.specs.declared.result.Result.TheVariants.{Ok, Err}
+use Rattle.std.proofs.Common.{sym, ap, ◌∙◌, subst, arith, inl, inr, ◌≡◌, ◌≢◌, ℕ, suc, ◌+◌, ◌<◌, [], ◌∷◌, length, Option, Some, OnOk, IfErr, refl}
+use Rattle.std.specs.declared.result.Result.{Result, TheVariants.Ok, TheVariants.Err}
 use Rattle.tsp_rules.specs.Values.{Event}
 use Rattle.tsp_base.specs.declared.event.EventFault.{EventFault}
 use Rattle.tsp_base.specs.declared.event.EventFault.TheVariants.{TimeBack, NoNode, NoDatagram, NotUp, Limit, OutOfMemory}
 use Rattle.tsp_script.specs.Storms.{StormValue}
-use Rattle.tsp_storm.specs.declared.making.Making.{Making}
-use Rattle.tsp_storm.specs.declared.request.Request.{Request}
-use Rattle.tsp_storm.specs.declared.making.Stopped.{Stopped}
-use Rattle.tsp_storm.specs.Answers.{StopsAfter, refused_after}
-use Rattle.tsp_storm.specs.Makings.{MakingStands, StopsMaking}
+use Rattle.tsp_storm.specs.declared.{making.Making.Making, making.Stopped.Stopped, request.Request.Request}
+use Rattle.tsp_storm.specs.{Answers.StopsAfter, Answers.refused_after, Makings.MakingStands, Makings.StopsMaking}
 use Rattle.tsp_storm.specs.Schedules.{header_of, storm_events, made, posted_count, next_event, event_after}
 use Rattle.tsp_storm.proofs.Draws.{Moves, next_moves}
 use Rattle.tsp_storm.proofs.Mades.{IsMade, made_is, OnlyLimit, only_limit}
-use Rattle.tsp_args.specs.Storms.{IsStorm}
-use Rattle.tsp_args.specs.declared.storm.StormWords.{StormWords}
-use Rattle.tsp_world.specs.declared.world.World.{World}
+use Rattle.tsp_args.specs.{Storms.IsStorm, declared.storm.StormWords.StormWords}
 use Rattle.tsp_run.specs.Refusals.{IsRefusal}
-use Rattle.tsp_world.specs.WorldStands.{WorldStands}
+use Rattle.tsp_world.specs.{WorldStands.WorldStands, declared.world.World.World}
 
 abbrev made_of : StormWords → ℕ → StormValue
 made_of s n = (made s n).generator

@@ -1,28 +1,17 @@
 -- The run of a storm's schedule keeps the promises outright.
-use Rattle.std.specs.Prelude.{◌≡◌, ℕ, zero, suc, ◌+◌, ◌<◌, ◌≤◌, ◌^◌, List, [], ◌∷◌, ◌++◌, length, decimal, slice_index_or, All, refl}
-use Rattle.std.proofs.Common.{sym, ap, ◌∙◌, subst, arith, inl, inr, drop}
-use Rattle.std.proofs.lemmas.Bool.{cases_lt}
-use Rattle.std.proofs.lemmas.Fmt.{decimal_injective}
-use Rattle.std.proofs.lemmas.List.{get_or_append_left, get_or-append-add}
+use Rattle.std.proofs.Common.{sym, ap, ◌∙◌, subst, arith, inl, inr, drop, ◌≡◌, ℕ, zero, suc, ◌+◌, ◌<◌, ◌≤◌, ◌^◌, List, [], ◌∷◌, ◌++◌, length, decimal, slice_index_or, All, refl}
+use Rattle.std.proofs.lemmas.{Bool.cases_lt, Fmt.decimal_injective, List.get_or_append_left, List.get_or-append-add}
 use Rattle.std.proofs.lemmas.List.Elements.{All-push, All-nil}
-use Rattle.tsp_args.specs.Storms.{IsStorm}
-use Rattle.tsp_args.specs.declared.storm.StormWords.{StormWords}
+use Rattle.tsp_args.specs.{Storms.IsStorm, declared.storm.StormWords.StormWords}
 use Rattle.tsp_rules.specs.Values.{NodeLine}
 use Rattle.tsp_base.specs.Words.{IsHeader, KeepsDrift, IsName}
 use Rattle.tsp_base.specs.declared.name.NameFault.TheVariants.{TooLong, HasNul}
-use Rattle.tsp_run.specs.Premised.{NamesDiffer}
-use Rattle.tsp_run.specs.Ranges.{Accepted}
-use Rattle.tsp_run.specs.Setup.{nobody}
-use Rattle.tsp_run.proofs.RunPremises.{runs-keep-premises}
-use Rattle.tsp_run.proofs.RunPromises.{runs-keep-promises}
-use Rattle.tsp_script.specs.Storms.{StormValue, storm_line}
-use Rattle.tsp_script.proofs.NodeNames.{node_name_fits}
-use Rattle.tsp_storm.specs.Kept.{StormKept}
+use Rattle.tsp_run.specs.{Premised.NamesDiffer, Ranges.Accepted, Setup.nobody}
+use Rattle.tsp_run.proofs.{RunPremises.runs-keep-premises, RunPromises.runs-keep-promises}
+use Rattle.tsp_script.{proofs.NodeNames.node_name_fits, specs.Storms.StormValue, specs.Storms.storm_line}
 use Rattle.tsp_storm.specs.Schedules.{after_lines, storm_events, generator_of, header_of, storm_lines, made}
-use Rattle.tsp_storm.proofs.Draws.{next_moves}
-use Rattle.tsp_storm.proofs.Heads.{rate_near, wall_near}
-use Rattle.tsp_storm.proofs.Mades.{after_is, length-storm_lines, made_is}
-use Rattle.tsp_storm.proofs.Tame.{Tame, tame-next, tame-none}
+use Rattle.tsp_storm.proofs.{Draws.next_moves, Heads.rate_near, Heads.wall_near, Mades.after_is, Mades.length-storm_lines, Mades.made_is}
+use Rattle.tsp_storm.{proofs.Tame.Tame, proofs.Tame.tame-next, proofs.Tame.tame-none, specs.Kept.StormKept}
 
 -- each beginning of a schedule is tame
 tame_is : (s : StormWords) → IsStorm s → (n : ℕ) → Tame (header_of s) (storm_events s n) (made s n).generator

@@ -1,23 +1,14 @@
 -- What is counted of a run grows by what is counted of each event.
-use Rattle.std.specs.Prelude.{◌≡◌, ℕ, suc, ◌+◌, List, ◌++◌, length, if◌then◌else◌, Bool, refl}
-use Rattle.std.proofs.Common.{sym, ap, ◌∙◌, subst}
+use Rattle.std.proofs.Common.{sym, ap, ◌∙◌, subst, ◌≡◌, ℕ, suc, ◌+◌, List, ◌++◌, length, if◌then◌else◌, Bool, refl}
 use Rattle.std.proofs.lemmas.List.Sums.{sum_by-append}
-use Rattle.tsp_rules.specs.Values.{Act}
-use Rattle.tsp_storm.specs.declared.counts.Counts.{Counts}
-use Rattle.tsp_storm.specs.declared.making.Making.{Making}
-use Rattle.tsp_storm.specs.declared.making.Stopped.{Stopped}
-use Rattle.tsp_storm.specs.declared.making.Stopped.TheVariants.{Limit, OutOfMemory}
-use Rattle.tsp_storm.specs.Answers.{SumsUp, HaltsStorm}
-use Rattle.tsp_storm.specs.Makings.{MakingStands, StopsMaking}
-use Rattle.tsp_storm.specs.Schedules.{header_of, storm_events, posted_count}
-use Rattle.tsp_rules.specs.RoundRows.{is_correct}
+use Rattle.tsp_storm.specs.declared.making.Stopped.{Stopped, TheVariants.Limit, TheVariants.OutOfMemory}
+use Rattle.tsp_storm.specs.{Answers.SumsUp, Answers.HaltsStorm, Makings.MakingStands, Makings.StopsMaking, declared.counts.Counts.Counts}
+use Rattle.tsp_storm.specs.{Schedules.header_of, Schedules.storm_events, Schedules.posted_count, declared.making.Making.Making}
+use Rattle.tsp_rules.specs.{RoundRows.is_correct, Values.Act}
 use Rattle.tsp_storm.specs.Summaries.{acts_like, is_arrival, is_mastership, CountsLines, summary_text}
-use Rattle.tsp_storm.proofs.Steps.{made_now}
-use Rattle.tsp_storm.proofs.StormKeeps.{storm-kept}
+use Rattle.tsp_storm.proofs.{Steps.made_now, StormKeeps.storm-kept}
 use Rattle.tsp_args.specs.declared.storm.StormWords.{StormWords}
-use Rattle.tsp_run.specs.declared.line.Line.{Line}
-use Rattle.tsp_run.specs.Refusals.{Valid}
-use Rattle.tsp_run.specs.Run.{told, gained}
+use Rattle.tsp_run.specs.{Refusals.Valid, Run.told, Run.gained, declared.line.Line.Line}
 
 like_append : (is_such : Act → Bool) (xs ys : List Line) → acts_like is_such (xs ++ ys) ≡ acts_like is_such xs + acts_like is_such ys
 like_append is_such xs ys = sum_by-append (λ (l : Line). if is_such l.placed.act then 1 else 0) xs ys

@@ -1,18 +1,12 @@
 -- A storm hands over nothing in a peer's name, takes nothing late, and gives each boot a word of its own.
-use Rattle.std.specs.Prelude.{◌≡◌, ℕ, zero, suc, ◌+◌, ◌/◌, ◌%◌, ◌^◌, ◌<◌, ◌≤◌, nat_lt, nat_le, ◌==◌, Bool, true, false, if◌then◌else◌, List, [], ◌∷◌, ◌++◌, length, replicate, slice_get, slice_index_or, unwrap_or, Some, All, refl}
+use Rattle.std.proofs.Common.{sym, ap, ◌∙◌, subst, arith, ◌≡◌, ℕ, zero, suc, ◌+◌, ◌/◌, ◌%◌, ◌^◌, ◌<◌, ◌≤◌, nat_lt, nat_le, ◌==◌, Bool, true, false, if◌then◌else◌, List, [], ◌∷◌, ◌++◌, length, replicate, slice_get, slice_index_or, unwrap_or, Some, All, refl}
 use Rattle.std.specs.Int.{w64, byte_at, bytes_high_first, to_be_bytes}
-use Rattle.std.proofs.Common.{sym, ap, ◌∙◌, subst, arith}
-use Rattle.std.proofs.lemmas.Bool.{leb-true}
-use Rattle.std.proofs.lemmas.List.Elements.{All-cons, All-nil}
-use Rattle.std.proofs.lemmas.Nat.{mod_below}
+use Rattle.std.proofs.lemmas.{Bool.leb-true, List.Elements.All-cons, List.Elements.All-nil, Nat.mod_below}
 use Rattle.tsp_rules.specs.Values.{Event, BootAt, Turn, Take, Bytes, LIFE}
 use Rattle.tsp_base.specs.Words.{HeaderValue}
-use Rattle.tsp_run.specs.declared.posted.Posted.{Posted}
 use Rattle.tsp_run.specs.Premised.{Apart, IsSealed, Prompt, Sealed}
-use Rattle.tsp_run.specs.Ranges.{IsInRange}
-use Rattle.tsp_run.specs.Run.{posted_time, posts, run}
-use Rattle.tsp_script.specs.declared.storm.Draw.{Draw}
-use Rattle.tsp_script.specs.declared.storm.Draw.TheVariants.{Event as Gives, Ask}
+use Rattle.tsp_run.specs.{Ranges.IsInRange, Run.posted_time, Run.posts, Run.run, declared.posted.Posted.Posted}
+use Rattle.tsp_script.specs.declared.storm.Draw.{Draw, TheVariants.Event as Gives, TheVariants.Ask}
 use Rattle.tsp_script.specs.Storms.{StormValue, moved, drawn, gave, boots_next, turns_one, asks_one, request_octets, recent_one, as_event, as_question, asks_or_turns, chosen, storm_draw, storm_take}
 use Rattle.tsp_storm.specs.Schedules.{drawn_event, next_event, posted_count, posting_time}
 use Rattle.tsp_storm.proofs.BootWords.{Follow, boot-otherwise, moved-low, next_low}

@@ -1,17 +1,13 @@
 -- What a storm comes to.
 use Rattle.std.specs.Prelude.{◌≡◌, ◌⊎◌, ℕ, ◌<◌, ◌+◌, List, ◌++◌, length, Option, Some}
-use Rattle.tsp_base.specs.declared.event.EventFault.{EventFault}
-use Rattle.tsp_base.specs.declared.event.EventFault.TheVariants.{Limit as NoRoom}
+use Rattle.tsp_base.specs.declared.event.EventFault.{EventFault, TheVariants.Limit as NoRoom}
 use Rattle.tsp_io.specs.Streams.{Grows}
 use Rattle.tsp_lines.specs.Outcomes.{limit_line}
-use Rattle.tsp_storm.specs.declared.run.StormEnd.{StormEnd}
 use Rattle.tsp_storm.specs.declared.run.StormEnd.TheVariants.{Done, Limit, WriteFault, OutOfMemory}
-use Rattle.tsp_storm.specs.declared.making.Stopped.{Stopped}
 use Rattle.tsp_storm.specs.declared.making.Stopped.TheVariants.{Limit as NoRoomFor, OutOfMemory as NoMemory}
 use Rattle.tsp_storm.specs.declared.summary.Summary.{Summary}
-use Rattle.tsp_storm.specs.Kept.{KeptOutright}
-use Rattle.tsp_storm.specs.Schedules.{header_of, storm_events, event_after}
-use Rattle.tsp_storm.specs.Summaries.{summary, summary_text}
+use Rattle.tsp_storm.specs.{Kept.KeptOutright, Schedules.header_of, Schedules.storm_events, Schedules.event_after}
+use Rattle.tsp_storm.specs.{Summaries.summary, Summaries.summary_text, declared.making.Stopped.Stopped, declared.run.StormEnd.StormEnd}
 use Rattle.tsp_args.specs.declared.storm.StormWords.{StormWords}
 use Rattle.tsp_run.specs.Refusals.{Valid, scene, refusal}
 

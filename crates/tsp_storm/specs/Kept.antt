@@ -5,11 +5,7 @@ use Rattle.tsp_rules.specs.Values.{Event}
 use Rattle.tsp_base.specs.Words.{HeaderValue}
 use Rattle.tsp_promises.specs.Premises.{Few, Honest, Life, NamesApart, Words}
 use Rattle.tsp_promises.specs.Setting.{Setting}
-use Rattle.tsp_run.specs.Premised.{Short}
-use Rattle.tsp_run.specs.Promises.{Promises}
-use Rattle.tsp_run.specs.Refusals.{Valid}
-use Rattle.tsp_run.specs.Run.{run}
-use Rattle.tsp_run.specs.Setting.{SetBy}
+use Rattle.tsp_run.specs.{Premised.Short, Promises.Promises, Refusals.Valid, Run.run, Setting.SetBy}
 use Rattle.tsp_storm.specs.Schedules.{header_of, storm_events}
 
 -- a run that keeps the promises, and what they ask too, with nothing left to ask but that few sends begin: no peer's datagram is forged in it, none is taken too late, boots have words of their own and nodes names of their own. Few begin where the run is short

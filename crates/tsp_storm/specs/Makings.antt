@@ -1,12 +1,8 @@
 -- What a schedule in the making stands for.
 use Rattle.std.specs.Prelude.{◌≡◌, ℕ, ◌+◌}
-use Rattle.tsp_storm.specs.declared.making.Making.{Making}
-use Rattle.tsp_storm.specs.declared.making.Stopped.{Stopped}
-use Rattle.tsp_storm.specs.declared.making.Stopped.TheVariants.{Limit, OutOfMemory}
-use Rattle.tsp_storm.specs.Answers.{StopsAfter}
-use Rattle.tsp_storm.specs.Schedules.{header_of, storm_events, made}
-use Rattle.tsp_args.specs.Storms.{IsStorm}
-use Rattle.tsp_args.specs.declared.storm.StormWords.{StormWords}
+use Rattle.tsp_storm.specs.declared.making.Stopped.{Stopped, TheVariants.Limit, TheVariants.OutOfMemory}
+use Rattle.tsp_storm.specs.{Answers.StopsAfter, Schedules.header_of, Schedules.storm_events, Schedules.made, declared.making.Making.Making}
+use Rattle.tsp_args.specs.{Storms.IsStorm, declared.storm.StormWords.StormWords}
 use Rattle.tsp_world.specs.WorldStands.{WorldStands}
 
 -- as many events of the schedule of these words were made as the generator has given, and the world has accepted them

@@ -2,8 +2,7 @@
 use Rattle.std.specs.Prelude.{ℕ, zero, suc, false, List, [], ◌∷◌, ◌++◌, length, None, slice_get, unwrap_or}
 use Rattle.tsp_rules.specs.Values.{Event, NodeLine}
 use Rattle.tsp_base.specs.Words.{HeaderValue}
-use Rattle.tsp_script.specs.declared.storm.Draw.{Draw}
-use Rattle.tsp_script.specs.declared.storm.Draw.TheVariants.{Event as Gives, Ask}
+use Rattle.tsp_script.specs.declared.storm.Draw.{Draw, TheVariants.Event as Gives, TheVariants.Ask}
 use Rattle.tsp_script.specs.Storms.{StormValue, storm_begins, storm_line, storm_named, storm_next, storm_take}
 use Rattle.tsp_args.specs.declared.storm.StormWords.{StormWords}
 use Rattle.tsp_run.specs.Run.{run, posts, posted_time}

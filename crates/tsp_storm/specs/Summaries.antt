@@ -3,10 +3,8 @@ use Rattle.tsp_rules.specs.RoundRows.{is_correct}
 use Rattle.std.specs.Prelude.{◌≡◌, ℕ, Bool, true, false, List, [], ◌∷◌, ◌++◌, length, count_by, codes, decimal}
 use Rattle.tsp_rules.specs.Values.{Act, Took, Become, Correct, Event, Master}
 use Rattle.tsp_base.specs.Words.{HeaderValue}
-use Rattle.tsp_storm.specs.declared.counts.Counts.{Counts}
-use Rattle.tsp_storm.specs.Schedules.{posted_count}
-use Rattle.tsp_run.specs.declared.line.Line.{Line}
-use Rattle.tsp_run.specs.Run.{told}
+use Rattle.tsp_storm.specs.{Schedules.posted_count, declared.counts.Counts.Counts}
+use Rattle.tsp_run.specs.{Run.told, declared.line.Line.Line}
 
 -- octets reached a node
 abbrev pub is_arrival : Act → Bool

@@ -1,23 +1,16 @@
 -- A datagram that is taken reaches the node that the run says.
-use Rattle.std.specs.Prelude.{◌≡◌, ℕ, ◌<◌, true, List, ◌∷◌, length, Option, None, Some, slice_get, vec_len}
-use Rattle.std.proofs.Common.{refl, sym, ap, ◌∙◌, subst}
-use Rattle.std.specs.Option.{option_map}
-use Rattle.std.proofs.lemmas.Option.{slice_get_within}
+use Rattle.std.proofs.Common.{refl, sym, ap, ◌∙◌, subst, ◌≡◌, ℕ, ◌<◌, true, List, ◌∷◌, length, Option, None, Some, slice_get, vec_len}
+use Rattle.std.{proofs.lemmas.Option.slice_get_within, specs.Option.option_map}
 use Rattle.tsp_rules.specs.Values.{Datagram, Message, Stamp, StampValue, Taken, Good, Event, Take, Peer}
 use Rattle.tsp_base.specs.Words.{HeaderValue, Came}
 use Rattle.tsp_gateway.specs.declared.gateway.Gateway.{Gateway}
-use Rattle.tsp_networks.specs.Posts.{stamp_in, way_of}
-use Rattle.tsp_networks.specs.declared.way.Way.{Way}
+use Rattle.tsp_networks.specs.{Posts.stamp_in, Posts.way_of, declared.way.Way.Way}
 use Rattle.tsp_rules.specs.GateRows.{GotOn, answers_all}
-use Rattle.tsp_run.specs.declared.address.Address.{Address}
-use Rattle.tsp_run.specs.declared.arrival.Arrival.{Arrival}
-use Rattle.tsp_run.specs.declared.posted.Posted.{Posted}
-use Rattle.tsp_run.specs.Networks.{networks}
+use Rattle.tsp_run.specs.{Networks.networks, declared.address.Address.Address, declared.arrival.Arrival.Arrival}
 use Rattle.tsp_run.specs.Refusals.{Allowed, down, node_in, refusal, scene}
 use Rattle.tsp_run.specs.Run.{arrives, arrives_at, goes_to, reaches, run, posts, steps}
-use Rattle.tsp_run.proofs.NetworkLemmas.{some_same}
-use Rattle.tsp_run.proofs.RefusalLemmas.{refusal-none, up-down, goes_to-post}
-use Rattle.tsp_run.proofs.RunPromises.{posted-read}
+use Rattle.tsp_run.proofs.{NetworkLemmas.some_same, RefusalLemmas.refusal-none, RefusalLemmas.up-down, RefusalLemmas.goes_to-post}
+use Rattle.tsp_run.{proofs.RunPromises.posted-read, specs.declared.posted.Posted.Posted}
 use Rattle.tsp_world.specs.declared.world.World.{World}
 use Rattle.tsp_world.specs.WorldStands.{HappensBy, WorldStands, scene_of, up_at}
 use Rattle.tsp_world.proofs.WorldLemmas.{Alike-stands, accepted, up_place}

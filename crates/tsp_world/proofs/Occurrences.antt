@@ -1,18 +1,12 @@
 -- An event that nothing refuses occurs, or it lacks memory.
-use Rattle.std.specs.Prelude.{◌≡◌, ℕ, ◌≤◌, List, ◌∷◌, Option, None, Some, MatchResult, OnOk, refl}
-use Rattle.std.proofs.Common.{sym, ◌∙◌, subst, inl, inr, rules}
-use Rattle.std.specs.declared.result.Result.{Result}
-use Rattle.std.specs.declared.result.Result.TheVariants.{Ok, Err}
+use Rattle.std.proofs.Common.{sym, ◌∙◌, subst, inl, inr, rules, ◌≡◌, ℕ, ◌≤◌, List, ◌∷◌, Option, None, Some, MatchResult, OnOk, refl}
+use Rattle.std.specs.declared.result.Result.{Result, TheVariants.Ok, TheVariants.Err}
 use Rattle.tsp_rules.specs.Values.{Event}
-use Rattle.tsp_base.specs.Words.{HeaderValue}
-use Rattle.tsp_base.specs.declared.event.EventFault.{EventFault}
-use Rattle.tsp_base.specs.declared.event.EventFault.TheVariants.{OutOfMemory}
+use Rattle.tsp_base.specs.{Words.HeaderValue, declared.event.EventFault.EventFault, declared.event.EventFault.TheVariants.OutOfMemory}
 use Rattle.tsp_run.specs.Refusals.{Allowed, actor, scene, refusal}
-use Rattle.tsp_run.specs.Run.{event_at}
-use Rattle.tsp_run.proofs.RefusalLemmas.{allowed, refusal-alike}
-use Rattle.tsp_world.specs.declared.world.World.{World}
+use Rattle.tsp_run.{proofs.RefusalLemmas.allowed, proofs.RefusalLemmas.refusal-alike, specs.Run.event_at}
 use Rattle.tsp_world.specs.WorldStands.{CanStep, Declines, HappensInWorld, Occurs, Stays, WorldStands, scene_of}
-use Rattle.tsp_world.proofs.WorldLemmas.{Alike-stands}
+use Rattle.tsp_world.{proofs.WorldLemmas.Alike-stands, specs.declared.world.World.World}
 
 -- what the world refuses, its schedule refuses
 pub refuses : (header : HeaderValue) (events : List Event) (world : World) (e : Event) → WorldStands header events world → refusal (scene_of world) e ≡ refusal (scene header events) e

@@ -1,24 +1,14 @@
 -- Nodes that can act still can later, and when one of them has acted or booted.
-use Rattle.std.specs.Prelude.{◌≡◌, ℕ, ℤ, pos, negsuc, nat_abs, ◌+◌, ◌*◌, ◌/◌, ◌<◌, ◌≤◌, List, length, Option, None, Some, slice_get, vec_len}
-use Rattle.std.proofs.Common.{sym, ap, ◌∙◌, subst, arith, inl, inr, get_or, mul-le-mul_left}
-use Rattle.std.proofs.lemmas.Option.{slice_get-get_or}
-use Rattle.std.proofs.Math.ListN.{set}
-use Rattle.tsp_rules.specs.Values.{Port}
-use Rattle.tsp_base.specs.Words.{HeaderValue, IsHeader, tick_at}
-use Rattle.tsp_base.proofs.TickLemmas.{tick_at-near}
-use Rattle.tsp_gateway.specs.declared.gateway.Gateway.{Gateway}
-use Rattle.tsp_gateway.specs.Dues.{RestsUntil}
-use Rattle.tsp_gateway.specs.GateConfigs.{GateConfigValue}
-use Rattle.tsp_rules.specs.NodeRows.{PortSetup}
-use Rattle.tsp_run.specs.Networks.{networks, ports_on, room}
-use Rattle.tsp_run.specs.Setup.{node_line}
-use Rattle.tsp_run.proofs.HeaderLines.{rate-node_line}
-use Rattle.tsp_run.proofs.NetworkLemmas.{some_same}
-use Rattle.tsp_world.specs.declared.world.World.{World}
+use Rattle.std.proofs.Common.{sym, ap, ◌∙◌, subst, arith, inl, inr, get_or, mul-le-mul_left, ◌≡◌, ℕ, ℤ, pos, negsuc, nat_abs, ◌+◌, ◌*◌, ◌/◌, ◌<◌, ◌≤◌, List, length, Option, None, Some, slice_get, vec_len}
+use Rattle.std.proofs.{Math.ListN.set, lemmas.Option.slice_get-get_or}
+use Rattle.tsp_base.{proofs.TickLemmas.tick_at-near, specs.Words.HeaderValue, specs.Words.IsHeader, specs.Words.tick_at}
+use Rattle.tsp_gateway.specs.{Dues.RestsUntil, GateConfigs.GateConfigValue, declared.gateway.Gateway.Gateway}
+use Rattle.tsp_rules.specs.{NodeRows.PortSetup, Values.Port}
+use Rattle.tsp_run.specs.{Networks.networks, Networks.ports_on, Networks.room, Setup.node_line}
+use Rattle.tsp_run.proofs.{HeaderLines.rate-node_line, NetworkLemmas.some_same}
 use Rattle.tsp_world.specs.NodesReady.{AreDues, NodesReady, PlaceReady, CanAct, CanTake}
-use Rattle.tsp_gateway.proofs.LiftLemmas.{set_cases}
-use Rattle.tsp_gateway.proofs.TellLemmas.{set_other}
-use Rattle.tsp_world.proofs.SetupLemmas.{many-ready, room-ready}
+use Rattle.tsp_gateway.proofs.{LiftLemmas.set_cases, TellLemmas.set_other}
+use Rattle.tsp_world.{proofs.SetupLemmas.many-ready, proofs.SetupLemmas.room-ready, specs.declared.world.World.World}
 
 -- a node's ticks don't fall
 ticks-rise : (header : HeaderValue) → IsHeader header → (n s t : ℕ) → s ≤ t → tick_at (node_line header n).rate s ≤ tick_at (node_line header n).rate t

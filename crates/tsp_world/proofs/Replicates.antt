@@ -1,7 +1,6 @@
 -- Reading a list of equals.
 use Rattle.std.proofs.Common.{◌≡◌, ℕ, Some, slice_get, replicate, sym, ◌∙◌, arith}
-use Rattle.std.proofs.lemmas.List.{get_or-replicate, length-replicate}
-use Rattle.std.proofs.lemmas.Option.{slice_get_within, get_or_from_slice_get}
+use Rattle.std.proofs.lemmas.{List.get_or-replicate, List.length-replicate, Option.slice_get_within, Option.get_or_from_slice_get}
 
 -- all that stands in a list of equals is equal
 pub slice_get-replicate : {X : Type 0} (n k : ℕ) (a x : X) → slice_get (replicate n a) k ≡ Some x → x ≡ a

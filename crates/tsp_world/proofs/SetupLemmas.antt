@@ -1,24 +1,17 @@
 -- What a header sets its nodes up with: each can boot.
-use Rattle.std.specs.Prelude.{◌≡◌, ℕ, zero, suc, ◌+◌, ◌*◌, ◌<◌, ◌≤◌, Bool, true, false, if◌then◌else◌, List, [], ◌∷◌, ◌++◌, length, All, refl}
-use Rattle.std.proofs.Common.{sym, ap, ◌∙◌, arith, subst, get_or, inl, inr, length-append, add-one}
-use Rattle.std.proofs.lemmas.Bool.{cases_lt}
-use Rattle.std.proofs.lemmas.List.{length-map}
-use Rattle.std.proofs.lemmas.List.Elements.{All-head, All-tail}
-use Rattle.std.specs.List.Sorted.{IsStrictlyIncreasing}
-use Rattle.std.proofs.Math.ListN.{get_or-append}
-use Rattle.std.proofs.Math.Seq.{get_or-append_seam}
+use Rattle.std.proofs.Common.{sym, ap, ◌∙◌, arith, subst, get_or, inl, inr, length-append, add-one, ◌≡◌, ℕ, zero, suc, ◌+◌, ◌*◌, ◌<◌, ◌≤◌, Bool, true, false, if◌then◌else◌, List, [], ◌∷◌, ◌++◌, length, All, refl}
+use Rattle.std.{proofs.lemmas.List.Elements.All-head, proofs.lemmas.List.Elements.All-tail, specs.List.Sorted.IsStrictlyIncreasing}
+use Rattle.std.proofs.{Math.ListN.get_or-append, Math.Seq.get_or-append_seam, lemmas.Bool.cases_lt, lemmas.List.length-map}
 use Rattle.tsp_base.specs.Words.{HeaderValue, IsHeader, IsNet, has_member, peer_of}
 use Rattle.tsp_base.proofs.HeaderLemmas.{length-net}
-use Rattle.tsp_gateway.specs.declared.gateway.Gateway.{Gateway}
 use Rattle.tsp_node.specs.Configs.{IsPortSetup}
 use Rattle.tsp_gateway.specs.GateConfigs.{AreGatePorts, GateConfigValue, peers_of_ports}
-use Rattle.tsp_gateway.specs.Rooms.{ports_in, room_of_ports}
+use Rattle.tsp_gateway.specs.{Rooms.ports_in, Rooms.room_of_ports, declared.gateway.Gateway.Gateway}
 use Rattle.tsp_networks.proofs.MemberLemmas.{ascending-below, length-below, numbers-peers}
 use Rattle.tsp_rules.specs.NodeRows.{PortSetup}
 use Rattle.tsp_run.specs.Networks.{networks, networks_among, numbers_below, port_on, ports_on, room}
 use Rattle.tsp_run.proofs.NetworkLemmas.{is_among-peers}
-use Rattle.tsp_world.specs.Configs.{config_of, configs_below}
-use Rattle.tsp_world.specs.NodesReady.{NodeReady}
+use Rattle.tsp_world.specs.{Configs.config_of, Configs.configs_below, NodesReady.NodeReady}
 
 -- a node with these ports wants as much room as the world makes
 pub room-peers : (ports : List PortSetup) → room_of_ports (peers_of_ports ports) ≡ room ports

@@ -1,32 +1,21 @@
 -- How a world stands for one event more.
-use Rattle.std.specs.Prelude.{◌≡◌, ◌≢◌, ℕ, ◌<◌, ◌≤◌, ◌==◌, Bool, true, false, List, [], ◌∷◌, ◌++◌, length, Option, None, Some, slice_get, vec_len}
-use Rattle.std.proofs.Common.{refl, sym, ap, append-nil, ◌∙◌, arith, subst, inl, inr, eq-eqb, eqb-true, true≢false, length-set}
-use Rattle.std.proofs.lemmas.Bool.{ne_eqb, cases_lt}
-use Rattle.std.proofs.lemmas.List.Elements.{All-cons}
-use Rattle.std.proofs.lemmas.Option.{slice_get-get_or}
-use Rattle.std.proofs.Math.ListN.{set}
-use Rattle.std.specs.Global.{Vec}
-use Rattle.tsp_rules.specs.Values.{Placed, Event, Turn}
+use Rattle.std.proofs.Common.{refl, sym, ap, append-nil, ◌∙◌, arith, subst, inl, inr, eq-eqb, eqb-true, true≢false, length-set, ◌≡◌, ◌≢◌, ℕ, ◌<◌, ◌≤◌, ◌==◌, Bool, true, false, List, [], ◌∷◌, ◌++◌, length, Option, None, Some, slice_get, vec_len}
+use Rattle.std.{proofs.lemmas.Option.slice_get-get_or, specs.Global.Vec}
+use Rattle.std.proofs.{Math.ListN.set, lemmas.Bool.ne_eqb, lemmas.Bool.cases_lt, lemmas.List.Elements.All-cons}
 use Rattle.tsp_base.specs.Words.{HeaderValue, IsHeader, Step, Line, Turned, of, dids, up, tick_at}
-use Rattle.tsp_rules.specs.GateRows.{NodeTurn, answers_all}
-use Rattle.tsp_rules.specs.NodePerforms.{PerformsAll}
+use Rattle.tsp_rules.specs.{GateRows.NodeTurn, GateRows.answers_all, NodePerforms.PerformsAll, Values.Placed, Values.Event, Values.Turn}
 use Rattle.tsp_rules.specs.NodeRows.{NodePast, NodeRow, in_node_step, spread}
-use Rattle.tsp_gateway.specs.declared.gateway.Gateway.{Gateway}
-use Rattle.tsp_gateway.specs.GatewayStands.{GatewayStands}
+use Rattle.tsp_gateway.specs.{GatewayStands.GatewayStands, declared.gateway.Gateway.Gateway}
 use Rattle.tsp_world.specs.declared.world.World.{World}
-use Rattle.tsp_run.specs.Networks.{networks}
-use Rattle.tsp_run.specs.Ranges.{Accepted, IsInRange}
-use Rattle.tsp_run.specs.Refusals.{scene, refusal}
+use Rattle.tsp_run.specs.{Networks.networks, Ranges.Accepted, Ranges.IsInRange, Refusals.scene, Refusals.refusal}
 use Rattle.tsp_run.specs.Run.{run, joins, happening, steps, step_tick, event_at}
 use Rattle.tsp_run.specs.Setup.{node_line, past_of, rests}
 use Rattle.tsp_networks.specs.Posts.{PostsValue}
 use Rattle.tsp_world.specs.WorldStands.{WorldStands, PlaceStands, UpBegun, UpStands, HappensInWorld, Idles, Notes, Passes, up_at, is_node, scene_of}
-use Rattle.tsp_gateway.proofs.RestLemmas.{turn_rests}
 use Rattle.tsp_gateway.proofs.StepLemmas.{GatewayStands_step, GatewayBegun_in_step}
-use Rattle.tsp_run.proofs.NetworkLemmas.{some_same}
-use Rattle.tsp_run.proofs.RefusalLemmas.{Alike, refusal-none, up-down}
+use Rattle.tsp_run.proofs.{NetworkLemmas.some_same, RefusalLemmas.Alike, RefusalLemmas.refusal-none, RefusalLemmas.up-down}
 use Rattle.tsp_run.proofs.RunLemmas.{stepped_own, stepped_other, posts_stepped, up_joined}
-use Rattle.tsp_gateway.proofs.LiftLemmas.{set_cases, set_same}
+use Rattle.tsp_gateway.proofs.{LiftLemmas.set_cases, LiftLemmas.set_same, RestLemmas.turn_rests}
 
 -- what the place of a node stands for after a step by this row
 pub PlaceStands-acted : (header : HeaderValue) (history : List Line) (row : NodeRow) (step : Step) (node : Gateway) →

@@ -2,8 +2,7 @@
 use Rattle.std.specs.Prelude.{ℕ, zero, suc, List, [], ◌∷◌, ◌++◌}
 use Rattle.tsp_base.specs.Words.{HeaderValue}
 use Rattle.tsp_gateway.specs.GateConfigs.{GateConfigValue}
-use Rattle.tsp_run.specs.Networks.{networks, ports_on}
-use Rattle.tsp_run.specs.Setup.{node_line}
+use Rattle.tsp_run.specs.{Networks.networks, Networks.ports_on, Setup.node_line}
 
 -- the configuration of a node: a port for each of its networks
 abbrev pub config_of : HeaderValue → ℕ → GateConfigValue

@@ -1,13 +1,9 @@
 -- What is true of a world's nodes and their configurations, so that each can boot and act.
 use Rattle.std.specs.Prelude.{◌≡◌, ℕ, ◌≤◌, ◌<◌, true, List, [], ◌∷◌, length, Option, None, Some, slice_get}
-use Rattle.tsp_rules.specs.Values.{Port}
 use Rattle.tsp_base.specs.Words.{HeaderValue, IsHeader, is_whole, tick_at}
-use Rattle.tsp_gateway.specs.declared.gateway.Gateway.{Gateway}
-use Rattle.tsp_gateway.specs.Dues.{RestsUntil}
-use Rattle.tsp_gateway.specs.GateConfigs.{GateConfigValue, peers_of_ports}
-use Rattle.tsp_gateway.specs.GatewayStands.{clock_at}
-use Rattle.tsp_gateway.specs.Rooms.{ports_in, room_of_ports}
-use Rattle.tsp_rules.specs.NodeRows.{PortSetup}
+use Rattle.tsp_gateway.specs.{Dues.RestsUntil, GateConfigs.GateConfigValue, GateConfigs.peers_of_ports, GatewayStands.clock_at}
+use Rattle.tsp_gateway.specs.{Rooms.ports_in, Rooms.room_of_ports, declared.gateway.Gateway.Gateway}
+use Rattle.tsp_rules.specs.{NodeRows.PortSetup, Values.Port}
 use Rattle.tsp_run.specs.Networks.{networks, numbers_below, ports_on, room}
 use Rattle.tsp_run.specs.Setup.{node_line}
 use Rattle.tsp_world.specs.Configs.{configs_below}

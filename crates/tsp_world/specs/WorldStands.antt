@@ -1,16 +1,11 @@
 -- Which schedules a world stands for: its header, and the events that it accepted.
 use Rattle.std.specs.Prelude.{◌≡◌, ℕ, ◌+◌, ◌≤◌, Bool, true, false, List, [], ◌∷◌, ◌++◌, ◌<◌, length, Option, None, Some, is_some, slice_get, All, vec_len}
-use Rattle.tsp_rules.specs.Values.{Placed, Event}
 use Rattle.tsp_base.specs.Words.{HeaderValue, Cause, Line, of, dids, up, tick_at}
 use Rattle.tsp_base.specs.declared.event.EventFault.{EventFault}
-use Rattle.tsp_gateway.specs.declared.gateway.Gateway.{Gateway}
-use Rattle.tsp_gateway.specs.Dues.{RestsUntil}
-use Rattle.tsp_gateway.specs.GatewayStands.{GatewayBegun, GatewayStands}
-use Rattle.tsp_rules.specs.NodeRows.{NodePast, NodeRow}
-use Rattle.tsp_run.specs.declared.posted.Posted.{Posted}
+use Rattle.tsp_gateway.specs.{Dues.RestsUntil, GatewayStands.GatewayBegun, GatewayStands.GatewayStands, declared.gateway.Gateway.Gateway}
+use Rattle.tsp_rules.specs.{NodeRows.NodePast, NodeRows.NodeRow, Values.Placed, Values.Event}
 use Rattle.tsp_world.specs.declared.world.World.{World}
-use Rattle.tsp_run.specs.Networks.{networks, ports_on, room}
-use Rattle.tsp_run.specs.Ranges.{IsInRange}
+use Rattle.tsp_run.specs.{Networks.networks, Networks.ports_on, Networks.room, Ranges.IsInRange, declared.posted.Posted.Posted}
 use Rattle.tsp_run.specs.Refusals.{Scene, Valid, scene, refusal, IsRefusal}
 use Rattle.tsp_run.specs.Run.{run, posts, last_at, gained, event_at, happening, steps, posts_from, told_from}
 use Rattle.tsp_run.specs.Setup.{node_line, past_of, rests}

@@ -1,6 +1,5 @@
 -- Each network is passed, or it is the one of the port.
-use Rattle.std.proofs.Common.{◌≡◌, ◌∙◌, sym, ap, arith, rules, drop, [], ◌∷◌, ◌+◌, ℕ, List, true, false, Some, None}
-use Rattle.std.specs.Prelude.{if◌then◌else◌}
+use Rattle.std.proofs.Common.{◌≡◌, ◌∙◌, sym, ap, arith, rules, drop, [], ◌∷◌, ◌+◌, ℕ, List, true, false, Some, None, if◌then◌else◌}
 use Rattle.std.proofs.lemmas.List.{drop_all}
 use Rattle.tsp_base.specs.Headers.{has_member}
 use Rattle.tsp_networks.proofs.BesideLemmas.{beside, beside-all, beside-found, beside-other, beside-past, beside-none, next_net, with_port}

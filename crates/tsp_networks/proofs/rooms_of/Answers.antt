@@ -1,9 +1,7 @@
 -- One room more.
 use Rattle.std.proofs.Common.{◌≡◌, ℕ, ◌≤◌, List, [], ◌∷◌, ◌++◌, length, Some, ◌∙◌, sym, ap, subst, arith, inl, inr, get_or, length-append, rules}
-use Rattle.std.proofs.lemmas.Bool.{cases_lt}
 use Rattle.std.proofs.lemmas.Option.{slice_get_within, get_or_from_slice_get, slice_get-get_or}
-use Rattle.std.proofs.Math.ListN.{get_or-append}
-use Rattle.std.proofs.Math.Seq.{get_or-append_seam}
+use Rattle.std.proofs.{Math.ListN.get_or-append, Math.Seq.get_or-append_seam, lemmas.Bool.cases_lt}
 use Rattle.tsp_run.specs.Networks.{ports_on, room}
 use Rattle.tsp_networks.specs.Rooms.{AreRooms}
 use Rattle.tsp_networks.proofs.rooms_of.Goals as goal

@@ -1,10 +1,6 @@
-use Rattle.std.proofs.Common.{◌∙◌, ap, sym, Some}
-use Rattle.std.specs.Prelude.{decimal}
-use Rattle.std.specs.Net.Grammar.{IsDotted}
-use Rattle.std.specs.Net.Text.{ipv4_text}
-use Rattle.std.specs.declared.net.ipv4_addr.Ipv4Addr.{Ipv4Addr}
-use Rattle.std.proofs.NetLemmas.Texts.{IsDotted-ipv4_text}
-use Rattle.std.proofs.NetLemmas.Theorems.{IsIpv4Text_unique}
+use Rattle.std.proofs.Common.{◌∙◌, ap, sym, Some, decimal}
+use Rattle.std.specs.{Net.Grammar.IsDotted, Net.Text.ipv4_text, declared.net.ipv4_addr.Ipv4Addr.Ipv4Addr}
+use Rattle.std.proofs.NetLemmas.{Texts.IsDotted-ipv4_text, Theorems.IsIpv4Text_unique}
 use Rattle.tsp_args.proofs.AddrLemmas.{contains_behind, cut_once, no_colon, octet_at, addr_of_parts}
 use Rattle.tsp_args.proofs.addrs.addr_of.Goals as goal
 

@@ -1,5 +1,4 @@
-use Rattle.std.proofs.Common.{◌≡◌, ◌∙◌, arith, Some}
-use Rattle.std.specs.Prelude.{string_bytes}
+use Rattle.std.proofs.Common.{◌≡◌, ◌∙◌, arith, Some, string_bytes}
 use Rattle.tsp_args.specs.declared.command.Command.TheVariants.{Ask}
 use Rattle.tsp_args.proofs.CommandLemmas.{one_word, no_words, asks}
 use Rattle.tsp_args.proofs.command.other_command.Goals as goal

@@ -1,5 +1,4 @@
-use Rattle.std.proofs.Common.{◌∙◌, sym, ap, Some, rules}
-use Rattle.std.specs.Prelude.{map, string_bytes}
+use Rattle.std.proofs.Common.{◌∙◌, sym, ap, Some, rules, map, string_bytes}
 use Rattle.std.proofs.lemmas.List.{take_all}
 use Rattle.tsp_args.specs.Ports.{IsPeerWord}
 use Rattle.tsp_args.proofs.PortLemmas.{are_peer_words, peer_words-injective, word_at}

@@ -1,5 +1,4 @@
-use Rattle.std.proofs.Common.{◌≡◌, take}
-use Rattle.std.specs.Prelude.{map, string_bytes}
+use Rattle.std.proofs.Common.{◌≡◌, take, map, string_bytes}
 use Rattle.tsp_args.specs.Ports.{peer_words, ArePeers}
 use Rattle.tsp_args.proofs.ports.read.Given as goal
 

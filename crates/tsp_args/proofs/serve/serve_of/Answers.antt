@@ -1,9 +1,6 @@
-use Rattle.std.proofs.Common.{◌≡◌, ◌∙◌, refl, sym, ap, arith, Some, length}
-use Rattle.std.specs.Prelude.{map, string_bytes, decimal, slice_range}
+use Rattle.std.proofs.Common.{◌≡◌, ◌∙◌, refl, sym, ap, arith, Some, length, map, string_bytes, decimal, slice_range}
 use Rattle.std.proofs.lemmas.List.{length-map}
-use Rattle.tsp_args.specs.Addrs.{addr_text}
-use Rattle.tsp_args.specs.Ports.{peer_words, ArePorts}
-use Rattle.tsp_args.specs.Serves.{candidacy_word}
+use Rattle.tsp_args.specs.{Addrs.addr_text, Ports.peer_words, Ports.ArePorts, Serves.candidacy_word}
 use Rattle.tsp_args.proofs.CommandLemmas.{four_words, serve_of_parts}
 use Rattle.tsp_args.proofs.serve.serve_of.Goals as goal
 

@@ -1,7 +1,5 @@
 use Rattle.std.proofs.Common.{◌+◌, sym, subst, List}
-use Rattle.tsp_audit.specs.Agreeing.{AreBlank}
-use Rattle.tsp_audit.specs.declared.round_correction.NodeState.{NodeState}
-use Rattle.tsp_audit.proofs.AgreementSteps.{blank-more}
+use Rattle.tsp_audit.{proofs.AgreementSteps.blank-more, specs.Agreeing.AreBlank, specs.declared.round_correction.NodeState.NodeState}
 use Rattle.tsp_audit.proofs.agreement_tracker.blanks.Goals as goal
 
 pub loop-preserved : goal.loop-preserved

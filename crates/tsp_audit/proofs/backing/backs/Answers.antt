@@ -1,11 +1,8 @@
 use Rattle.std.proofs.Common.{◌≡◌, ap, sym, ◌∙◌, List}
 use Rattle.tsp_base.specs.Words.{Acts, Deed, Line, of, view}
 use Rattle.tsp_promises.specs.StepFacts.{backed, is_unbacked}
-use Rattle.tsp_history.specs.declared.line.HistoryLine.{HistoryLine}
-use Rattle.tsp_history.specs.Histories.{deed_of, line_of, history_of}
-use Rattle.tsp_audit.specs.Backing.{deed_backs}
-use Rattle.tsp_audit.proofs.AgreementSteps.{act-some}
-use Rattle.tsp_audit.proofs.BackLemmas.{votes-decide}
+use Rattle.tsp_history.specs.{Histories.deed_of, Histories.line_of, Histories.history_of, declared.line.HistoryLine.HistoryLine}
+use Rattle.tsp_audit.{proofs.AgreementSteps.act-some, proofs.BackLemmas.votes-decide, specs.Backing.deed_backs}
 use Rattle.tsp_audit.proofs.backing.backs.Goals as goal
 
 pub returns-else-is_mark : goal.returns-else-is_mark

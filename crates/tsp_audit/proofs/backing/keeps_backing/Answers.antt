@@ -1,11 +1,9 @@
 use Rattle.std.proofs.Common.{◌≡◌, ℕ, Bool, None, rules, arith, sym, subst, List, take, get_or, MatchBool}
 use Rattle.std.proofs.lemmas.List.{take-take, take_all}
 use Rattle.tsp_promises.specs.Everywhere.{Everywhere}
-use Rattle.tsp_history.specs.declared.line.HistoryLine.{HistoryLine}
-use Rattle.tsp_history.specs.Histories.{line_of, history_of}
+use Rattle.tsp_history.specs.{Histories.line_of, Histories.history_of, declared.line.HistoryLine.HistoryLine}
 use Rattle.tsp_audit.specs.Backing.{Backs, Settled}
-use Rattle.tsp_audit.proofs.BackLemmas.{backs-all, ends-decide, settled}
-use Rattle.tsp_audit.proofs.Prefixes.{at-line, one-more}
+use Rattle.tsp_audit.proofs.{BackLemmas.backs-all, BackLemmas.ends-decide, BackLemmas.settled, Prefixes.at-line, Prefixes.one-more}
 use Rattle.tsp_audit.proofs.backing.keeps_backing.Goals as goal
 
 pub loop-i-init : goal.loop-i-init

@@ -2,10 +2,8 @@ use Rattle.std.proofs.Common.{◌≡◌, ◌<◌, ◌+◌, ℕ, true, false, rul
 use Rattle.tsp_rules.specs.Values.{Port}
 use Rattle.tsp_base.specs.Words.{Line, of, view}
 use Rattle.tsp_promises.specs.StepFacts.{is_unbacked}
-use Rattle.tsp_history.specs.declared.line.HistoryLine.{HistoryLine}
-use Rattle.tsp_history.specs.Histories.{line_of, history_of}
-use Rattle.tsp_audit.specs.Backing.{concerns, is_stand}
-use Rattle.tsp_audit.proofs.BackLemmas.{neither, unbacked-more}
+use Rattle.tsp_history.specs.{Histories.line_of, Histories.history_of, declared.line.HistoryLine.HistoryLine}
+use Rattle.tsp_audit.{proofs.BackLemmas.neither, proofs.BackLemmas.unbacked-more, specs.Backing.concerns, specs.Backing.is_stand}
 use Rattle.tsp_history.proofs.HistoryLemmas.{history-more}
 use Rattle.tsp_audit.proofs.backing.settles.Goals as goal
 use Rattle.tsp_audit.proofs.backing.settles.Goals.{else-stands-via-then-stands+else-is_unbacked_at, else-stands-via-else-stands}

@@ -1,6 +1,5 @@
 use Rattle.std.proofs.Common.{◌≡◌, get_or, sym}
-use Rattle.tsp_history.specs.declared.line.HistoryLine.{HistoryLine}
-use Rattle.tsp_history.specs.Histories.{deed_of, history_of, line_of}
+use Rattle.tsp_history.specs.{Histories.deed_of, Histories.history_of, Histories.line_of, declared.line.HistoryLine.HistoryLine}
 use Rattle.tsp_audit.specs.Acting.{CameAt, PostsTo}
 use Rattle.tsp_audit.proofs.TakeLemmas.{brings-found, brings-none, brings-other}
 use Rattle.tsp_audit.proofs.brought.brought.Goals as goal

@@ -1,12 +1,10 @@
 -- A message to a peer is one to this node where their numbers are the same.
-use Rattle.std.specs.Prelude.{◌≡◌, ◌==◌, ℕ, Bool, true, false, MatchBool}
-use Rattle.std.proofs.Common.{◌∙◌, ap, refl, subst, sym}
+use Rattle.std.proofs.Common.{◌∙◌, ap, refl, subst, sym, ◌≡◌, ◌==◌, ℕ, Bool, true, false, MatchBool}
 use Rattle.std.proofs.lemmas.Bool.{eqb-false, eqb-true}
 use Rattle.tsp_rules.specs.Values.{Post, Message, PeerId, Place, Peer}
 use Rattle.tsp_base.specs.Words.{Acts, Deed, MessageValue, peer_of}
 use Rattle.tsp_audit.specs.Acting.{PostsTo}
-use Rattle.tsp_history.specs.HeldActs.{held_message}
-use Rattle.tsp_history.specs.Histories.{deed_of}
+use Rattle.tsp_history.specs.{HeldActs.held_message, Histories.deed_of}
 use Rattle.tsp_audit.proofs.brought.posts_to.Goals as goal
 
 number-same : (d : Deed) (p : PeerId) (m : MessageValue) (node : ℕ) → d ≡ Acts (Post (Peer p) (Message m)) → PostsTo d node → p.0 ≡ node

@@ -1,9 +1,7 @@
 use Rattle.std.proofs.Common.{◌≡◌, rules, get_or, sym}
 use Rattle.tsp_history.specs.declared.line.HistoryLine.{HistoryLine}
-use Rattle.tsp_history.specs.Histories.{deed_of, history_of, line_of}
-use Rattle.tsp_history.specs.Posts.{PostsAt}
-use Rattle.tsp_audit.specs.Acting.{TakesSend}
-use Rattle.tsp_audit.specs.FromRounds.{IsAdjusting}
+use Rattle.tsp_history.specs.{Histories.deed_of, Histories.history_of, Histories.line_of, Posts.PostsAt}
+use Rattle.tsp_audit.specs.{Acting.TakesSend, FromRounds.IsAdjusting}
 use Rattle.tsp_audit.proofs.FromRoundLemmas.{begun-found, begun-other, takes-none, takes-posted}
 use Rattle.tsp_audit.proofs.from_round.begun.Goals as goal
 

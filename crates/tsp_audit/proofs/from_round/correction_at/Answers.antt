@@ -1,9 +1,6 @@
 use Rattle.std.proofs.Common.{◌≡◌, rules, get_or}
-use Rattle.tsp_history.specs.declared.line.HistoryLine.{HistoryLine}
-use Rattle.tsp_history.specs.Histories.{line_of}
-use Rattle.tsp_audit.specs.FromRounds.{BegunAt}
-use Rattle.tsp_audit.proofs.SampleLemmas.{from_round-told, trips-before}
-use Rattle.tsp_history.proofs.NoteLemmas.{told_take}
+use Rattle.tsp_audit.{proofs.SampleLemmas.from_round-told, proofs.SampleLemmas.trips-before, specs.FromRounds.BegunAt}
+use Rattle.tsp_history.{proofs.NoteLemmas.told_take, specs.Histories.line_of, specs.declared.line.HistoryLine.HistoryLine}
 use Rattle.tsp_audit.proofs.from_round.correction_at.Goals as goal
 
 pub returns-in-Some : goal.returns-in-Some

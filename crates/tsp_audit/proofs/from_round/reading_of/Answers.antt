@@ -1,8 +1,6 @@
 use Rattle.std.proofs.Common.{◌≡◌, rules, get_or}
 use Rattle.tsp_base.specs.Words.{Came}
-use Rattle.tsp_history.specs.declared.line.HistoryLine.{HistoryLine}
-use Rattle.tsp_history.specs.Histories.{line_of}
-use Rattle.tsp_history.specs.Posts.{PostsAt}
+use Rattle.tsp_history.specs.{Histories.line_of, Posts.PostsAt, declared.line.HistoryLine.HistoryLine}
 use Rattle.tsp_audit.proofs.SampleLemmas.{reading-found}
 use Rattle.tsp_audit.proofs.from_round.reading_of.Goals as goal
 

@@ -1,11 +1,7 @@
 use Rattle.std.proofs.Common.{◌≡◌, rules, arith, get_or, take, to_z, of_z, refl, None}
-use Rattle.std.proofs.lemmas.List.{length-take-le}
-use Rattle.std.specs.Int.{w64}
+use Rattle.std.{proofs.lemmas.List.length-take-le, specs.Int.w64}
 use Rattle.tsp_base.specs.Words.{of, view, best, peer_of}
-use Rattle.tsp_history.specs.declared.line.HistoryLine.{HistoryLine}
-use Rattle.tsp_history.specs.Histories.{history_of}
-use Rattle.tsp_history.specs.Rounds.{BestAt}
-use Rattle.tsp_history.specs.Rounds.{TripsTell}
+use Rattle.tsp_history.specs.{Histories.history_of, Rounds.BestAt, Rounds.TripsTell, declared.line.HistoryLine.HistoryLine}
 use Rattle.tsp_audit.proofs.SampleLemmas.{reading-none, round-found, sample-none, trips-before}
 use Rattle.tsp_history.proofs.NoteLemmas.{told_take}
 use Rattle.tsp_audit.proofs.from_round.sampled_round.Goals as goal

@@ -1,8 +1,7 @@
 use Rattle.std.proofs.Common.{List, length}
 use Rattle.tsp_audit.specs.Parts.{Acting, ActsOnce, Agreeing, Backing, PartHolds, Leading, Measuring}
 use Rattle.tsp_base.specs.Words.{Line}
-use Rattle.tsp_promises.specs.OneBack.{OneBack}
-use Rattle.tsp_promises.specs.OnlyMaster.{OnlyMaster}
+use Rattle.tsp_promises.specs.{OneBack.OneBack, OnlyMaster.OnlyMaster}
 use Rattle.tsp_history.specs.Histories.{history_of}
 use Rattle.tsp_audit.proofs.JudgeLemmas.{all-keep, decided, fails-acting, fails-agreeing, fails-backing, fails-leading, fails-measuring, refuted}
 use Rattle.tsp_audit.proofs.judging.judge.Goals as goal

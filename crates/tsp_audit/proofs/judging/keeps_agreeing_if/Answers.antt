@@ -1,6 +1,5 @@
 use Rattle.std.proofs.Common.{rules, take}
-use Rattle.tsp_audit.specs.Parts.{AllKept}
-use Rattle.tsp_audit.proofs.JudgeLemmas.{if-kept}
+use Rattle.tsp_audit.{proofs.JudgeLemmas.if-kept, specs.Parts.AllKept}
 use Rattle.tsp_promises.specs.Agreed.{Agreed}
 use Rattle.tsp_history.specs.Histories.{history_of}
 use Rattle.tsp_audit.proofs.judging.keeps_agreeing_if.Goals as goal

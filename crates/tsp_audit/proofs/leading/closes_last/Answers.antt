@@ -1,7 +1,6 @@
 use Rattle.std.proofs.Common.{◌<◌, ◌∙◌, ◌-◌, sym, arith, rules, length, take}
 use Rattle.tsp_audit.specs.Leading.{closing}
-use Rattle.tsp_history.specs.Histories.{history_of}
-use Rattle.tsp_history.proofs.NoteLemmas.{newest-is}
+use Rattle.tsp_history.{proofs.NoteLemmas.newest-is, specs.Histories.history_of}
 use Rattle.tsp_audit.proofs.leading.closes_last.Goals as goal
 
 pub returns-in-Some : goal.returns-in-Some

@@ -1,7 +1,6 @@
 use Rattle.std.proofs.Common.{◌≡◌, rules, arith, List, take, get_or}
 use Rattle.tsp_promises.specs.OnlyMaster.{LeadsAt}
-use Rattle.tsp_history.specs.declared.line.HistoryLine.{HistoryLine}
-use Rattle.tsp_history.specs.Histories.{line_of, history_of}
+use Rattle.tsp_history.specs.{Histories.line_of, Histories.history_of, declared.line.HistoryLine.HistoryLine}
 use Rattle.tsp_audit.proofs.Prefixes.{at-line, one-more}
 use Rattle.tsp_history.proofs.NoteLemmas.{told_take}
 use Rattle.tsp_audit.proofs.leading.keeps_leading.Goals as goal

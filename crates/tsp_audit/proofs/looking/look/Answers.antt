@@ -1,11 +1,9 @@
 -- What is judged of the lines is found of the event.
 use Rattle.std.proofs.Common.{◌≡◌, ◌≤◌, ◌-◌, ◌∙◌, ℕ, arith, ap, sym, refl, List, length, Option, subst}
 use Rattle.tsp_base.specs.Words.{HeaderValue, Line}
-use Rattle.tsp_history.specs.declared.line.HistoryLine.{HistoryLine}
-use Rattle.tsp_history.proofs.NoteLemmas.{length-history}
+use Rattle.tsp_history.{proofs.NoteLemmas.length-history, specs.declared.line.HistoryLine.HistoryLine}
 use Rattle.tsp_claims.specs.ClaimedHistory.{claimed}
-use Rattle.tsp_audit.specs.Judged.{JudgesParts}
-use Rattle.tsp_audit.specs.Remembered.{HasLineRoom, RememberedStands}
+use Rattle.tsp_audit.specs.{Judged.JudgesParts, Remembered.HasLineRoom, Remembered.RememberedStands}
 use Rattle.tsp_audit.proofs.JudgeLemmas.{begins-within, looked, looked-notes}
 use Rattle.tsp_audit.proofs.looking.look.Goals as goal
 

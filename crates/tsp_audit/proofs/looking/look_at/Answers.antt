@@ -1,13 +1,10 @@
 -- The lines up to the end of the event are its history.
 use Rattle.std.proofs.Common.{◌≡◌, ◌≤◌, ◌-◌, ◌∙◌, ◌∷◌, sym, subst, arith, ℕ, List, length, take, rules}
-use Rattle.tsp_audit.specs.Looking.{Grown, Looks}
-use Rattle.tsp_audit.specs.Remembered.{HasLineRoom, RememberedStands}
-use Rattle.tsp_audit.proofs.NoteLemmas.{room-less}
-use Rattle.tsp_audit.proofs.ThroughLemmas.{grown-next, upto-below, upto-is}
+use Rattle.tsp_audit.specs.{Looking.Grown, Looking.Looks, Remembered.HasLineRoom, Remembered.RememberedStands}
+use Rattle.tsp_audit.proofs.{NoteLemmas.room-less, ThroughLemmas.grown-next, ThroughLemmas.upto-below, ThroughLemmas.upto-is}
 use Rattle.tsp_base.specs.Words.{HeaderValue, Line}
 use Rattle.tsp_claims.specs.ClaimedHistory.{claimed}
-use Rattle.tsp_history.specs.declared.line.HistoryLine.{HistoryLine}
-use Rattle.tsp_history.specs.Histories.{history_of}
+use Rattle.tsp_history.specs.{Histories.history_of, declared.line.HistoryLine.HistoryLine}
 use Rattle.tsp_audit.proofs.looking.look_at.Goals as goal
 
 pub returns-then-lines-end : goal.returns-then-lines-end

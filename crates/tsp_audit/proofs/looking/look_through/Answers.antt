@@ -1,7 +1,6 @@
 -- One event more was looked at.
 use Rattle.std.proofs.Common.{◌≡◌, ◌∙◌, ◌∷◌, ap, sym, subst, arith, ℕ, length, get_or, Option}
-use Rattle.tsp_audit.specs.declared.verdict.Failure.{Failure}
-use Rattle.tsp_audit.specs.Looking.{Looks}
+use Rattle.tsp_audit.specs.{Looking.Looks, declared.verdict.Failure.Failure}
 use Rattle.tsp_audit.proofs.ThroughLemmas.{Next, next-place, reached-all, reached-failure, reached-next, reached-none}
 use Rattle.tsp_claims.specs.ClaimedHistory.{claimed}
 use Rattle.tsp_audit.proofs.looking.look_through.Goals as goal

@@ -1,11 +1,8 @@
 -- So many events were looked at, and nothing fails of them.
 use Rattle.std.proofs.Common.{List, [], length}
-use Rattle.tsp_audit.specs.Ends.{AreDated, EndsAt}
-use Rattle.tsp_audit.specs.Remembered.{RememberedStands}
-use Rattle.tsp_audit.proofs.ThroughLemmas.{Reached}
+use Rattle.tsp_audit.{proofs.ThroughLemmas.Reached, specs.Ends.AreDated, specs.Ends.EndsAt, specs.Remembered.RememberedStands}
 use Rattle.tsp_base.specs.Words.{HeaderValue}
-use Rattle.tsp_claims.specs.ClaimedHistory.{Claim}
-use Rattle.tsp_claims.specs.Stands.{ClaimsStand}
+use Rattle.tsp_claims.specs.{ClaimedHistory.Claim, Stands.ClaimsStand}
 use Rattle.tsp_audit.proofs.looking.look_through.Given as goal
 
 abbrev pub invariant-loop-i : goal.invariant-loop-i

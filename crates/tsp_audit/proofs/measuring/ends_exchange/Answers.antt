@@ -1,8 +1,7 @@
 use Rattle.std.proofs.Common.{◌≡◌, ◌∙◌, ◌-ℤ◌, ℤ, sym, true, rules, subst, subst₂, to_z, of_z, MatchBool}
 use Rattle.std.specs.Int.{w64, w128}
 use Rattle.tsp_base.specs.Words.{of, view, exchange, is_going, half_up}
-use Rattle.tsp_history.specs.Histories.{history_of, line_of}
-use Rattle.tsp_history.specs.Rounds.{AskedAt}
+use Rattle.tsp_history.specs.{Histories.history_of, Histories.line_of, Rounds.AskedAt}
 use Rattle.tsp_audit.proofs.MeasureLemmas.{trip-decides}
 use Rattle.tsp_audit.proofs.measuring.ends_exchange.Goals as goal
 

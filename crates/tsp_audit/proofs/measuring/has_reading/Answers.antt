@@ -1,10 +1,8 @@
 use Rattle.std.proofs.Common.{◌≡◌, ◌≤◌, ℤ, rules, get_or, subst₂, to_z, of_z, MatchBool, sym}
 use Rattle.std.specs.Int.{w64, w128}
-use Rattle.tsp_history.specs.declared.line.HistoryLine.{HistoryLine}
-use Rattle.tsp_history.specs.Histories.{history_of, line_of}
+use Rattle.tsp_history.specs.{Histories.history_of, Histories.line_of, declared.line.HistoryLine.HistoryLine}
 use Rattle.tsp_audit.specs.Measuring.{IsWithinError, RepliesAt}
-use Rattle.tsp_audit.proofs.MeasureLemmas.{read-decides, read-none}
-use Rattle.tsp_audit.proofs.Prefixes.{at-line}
+use Rattle.tsp_audit.proofs.{MeasureLemmas.read-decides, MeasureLemmas.read-none, Prefixes.at-line}
 use Rattle.tsp_history.proofs.NoteLemmas.{told_take}
 use Rattle.tsp_audit.proofs.measuring.has_reading.Goals as goal
 

@@ -1,11 +1,8 @@
 use Rattle.std.proofs.Common.{◌≡◌, ◌<◌, ◌≤◌, ℕ, Bool, rules, arith, subst, List, length, take, get_or, MatchBool}
 use Rattle.std.proofs.lemmas.List.{take_all}
-use Rattle.tsp_promises.specs.Everywhere.{Everywhere}
-use Rattle.tsp_promises.proofs.EverywhereLemmas.{Everywhere-within}
-use Rattle.tsp_history.specs.declared.line.HistoryLine.{HistoryLine}
-use Rattle.tsp_history.specs.Histories.{line_of, history_of}
-use Rattle.tsp_audit.specs.Measuring.{MeasuresAt}
-use Rattle.tsp_audit.specs.Settings.{Timely}
+use Rattle.tsp_promises.{proofs.EverywhereLemmas.Everywhere-within, specs.Everywhere.Everywhere}
+use Rattle.tsp_history.specs.{Histories.line_of, Histories.history_of, declared.line.HistoryLine.HistoryLine}
+use Rattle.tsp_audit.specs.{Measuring.MeasuresAt, Settings.Timely}
 use Rattle.tsp_audit.proofs.MeasureLemmas.{measures-all, measures-part}
 use Rattle.tsp_audit.proofs.Prefixes.{at-line, history-within, one-more}
 use Rattle.tsp_history.proofs.NoteLemmas.{told_take}

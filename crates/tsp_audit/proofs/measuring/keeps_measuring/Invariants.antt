@@ -1,11 +1,8 @@
 -- The lines so far are as the promise says, where the first ones were.
 use Rattle.std.proofs.Common.{take}
-use Rattle.tsp_promises.specs.Everywhere.{Everywhere}
-use Rattle.tsp_promises.specs.Setting.{Setting}
+use Rattle.tsp_promises.specs.{Everywhere.Everywhere, Setting.Setting}
 use Rattle.tsp_history.specs.Histories.{history_of}
-use Rattle.tsp_audit.specs.Measuring.{MeasuresAt}
-use Rattle.tsp_audit.specs.Parts.{MeasuresWell}
-use Rattle.tsp_audit.specs.Settings.{HasClocks, Timely}
+use Rattle.tsp_audit.specs.{Measuring.MeasuresAt, Parts.MeasuresWell, Settings.HasClocks, Settings.Timely}
 use Rattle.tsp_audit.proofs.measuring.keeps_measuring.Given as goal
 
 abbrev pub invariant-loop-i : goal.invariant-loop-i

@@ -1,6 +1,5 @@
 use Rattle.std.proofs.Common.{◌≡◌, true, rules, take}
-use Rattle.tsp_audit.specs.Parts.{MeasuresWell}
-use Rattle.tsp_audit.proofs.MeasureLemmas.{if-both}
+use Rattle.tsp_audit.{proofs.MeasureLemmas.if-both, specs.Parts.MeasuresWell}
 use Rattle.tsp_history.specs.Histories.{history_of}
 use Rattle.tsp_audit.proofs.measuring.keeps_measuring_if.Goals as goal
 

@@ -1,8 +1,6 @@
 use Rattle.std.proofs.Common.{◌≡◌, get_or, sym}
-use Rattle.tsp_history.specs.declared.line.HistoryLine.{HistoryLine}
-use Rattle.tsp_history.specs.Histories.{history_of, line_of}
-use Rattle.tsp_audit.specs.Acting.{CameAt}
-use Rattle.tsp_audit.specs.Measuring.{RepliesTo}
+use Rattle.tsp_history.specs.{Histories.history_of, Histories.line_of, declared.line.HistoryLine.HistoryLine}
+use Rattle.tsp_audit.specs.{Acting.CameAt, Measuring.RepliesTo}
 use Rattle.tsp_audit.proofs.MeasureLemmas.{replies-found, replies-none, replies-other}
 use Rattle.tsp_audit.proofs.measuring.reply_at.Goals as goal
 

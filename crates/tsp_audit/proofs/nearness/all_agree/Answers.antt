@@ -1,9 +1,7 @@
 use Rattle.std.proofs.Common.{◌≡◌, ℕ, pos, subst₂, arith, inl, inr, get_or, None}
 use Rattle.std.proofs.lemmas.Bool.{cases_lt}
-use Rattle.tsp_audit.specs.Agreeing.{AgreesBack, IsAtPlace}
-use Rattle.tsp_audit.specs.declared.round_correction.NodeState.{NodeState}
-use Rattle.tsp_audit.proofs.AgreementSteps.{here-at, state-at}
-use Rattle.tsp_audit.proofs.NearLemmas.{all-back, back-all}
+use Rattle.tsp_audit.specs.{Agreeing.AgreesBack, Agreeing.IsAtPlace, declared.round_correction.NodeState.NodeState}
+use Rattle.tsp_audit.proofs.{AgreementSteps.here-at, AgreementSteps.state-at, NearLemmas.all-back, NearLemmas.back-all}
 use Rattle.tsp_audit.proofs.nearness.all_agree.Goals as goal
 
 pub loop-n-preserved : goal.loop-n-preserved

@@ -1,7 +1,6 @@
 -- Each node so far agrees.
 use Rattle.std.proofs.Common.{◌≤◌, ◌<◌, ℕ}
-use Rattle.tsp_audit.specs.Agreeing.{AllBounded, IsAtPlace, AgreesBack}
-use Rattle.tsp_audit.specs.declared.round_correction.NodeState.{NodeState}
+use Rattle.tsp_audit.specs.{Agreeing.AllBounded, Agreeing.IsAtPlace, Agreeing.AgreesBack, declared.round_correction.NodeState.NodeState}
 use Rattle.tsp_audit.proofs.nearness.all_agree.Given as goal
 
 abbrev pub invariant-loop-n : goal.invariant-loop-n

@@ -1,7 +1,6 @@
 -- Each node so far was corrected by no later reading.
 use Rattle.std.proofs.Common.{◌<◌, ℕ}
-use Rattle.tsp_audit.specs.Agreeing.{IsAtPlace, IsReadBy}
-use Rattle.tsp_audit.specs.declared.round_correction.NodeState.{NodeState}
+use Rattle.tsp_audit.specs.{Agreeing.IsAtPlace, Agreeing.IsReadBy, declared.round_correction.NodeState.NodeState}
 use Rattle.tsp_audit.proofs.nearness.all_past.Given as goal
 
 abbrev pub invariant-loop-n : goal.invariant-loop-n

@@ -1,11 +1,8 @@
 -- The master of the round is the node that was read.
 use Rattle.std.proofs.Common.{◌≡◌, ◌<◌, length, pos, sym, subst, arith, rules, get_or, None, Some}
-use Rattle.tsp_audit.specs.Agreeing.{IsAtPlace, FromRoundStands}
-use Rattle.tsp_audit.specs.Standings.{StandsAs}
-use Rattle.tsp_audit.specs.declared.round_correction.NodeState.{NodeState}
+use Rattle.tsp_audit.specs.{Agreeing.IsAtPlace, Agreeing.FromRoundStands, Standings.StandsAs, declared.round_correction.NodeState.NodeState}
 use Rattle.tsp_audit.specs.declared.shown.Standing.{Standing}
-use Rattle.tsp_audit.proofs.AgreementSteps.{here-at}
-use Rattle.tsp_audit.proofs.NearLemmas.{boss-moved, boss-told}
+use Rattle.tsp_audit.proofs.{AgreementSteps.here-at, NearLemmas.boss-moved, NearLemmas.boss-told}
 use Rattle.tsp_audit.proofs.nearness.master_agrees.Goals as goal
 
 pub returns-then-stands : goal.returns-then-stands

@@ -1,8 +1,6 @@
 use Rattle.std.proofs.Common.{◌≡◌, ◌≤ℤ◌, ◌∙◌, ◌+ℤ◌, ◌-ℤ◌, ◌-◌, ap, rules, subst, to_z, of_z, ℤ, MatchBool}
 use Rattle.std.specs.Int.{w128}
-use Rattle.tsp_audit.specs.Agreeing.{err_less, shown_by}
-use Rattle.tsp_audit.specs.Standings.{reach_at}
-use Rattle.tsp_audit.proofs.NearLemmas.{span-told}
+use Rattle.tsp_audit.{proofs.NearLemmas.span-told, specs.Agreeing.err_less, specs.Agreeing.shown_by, specs.Standings.reach_at}
 use Rattle.tsp_base.specs.Words.{width}
 use Rattle.tsp_audit.proofs.nearness.master_near.Goals as goal
 

@@ -1,6 +1,5 @@
 use Rattle.std.proofs.Common.{sym, subst, Bool, MatchBool}
-use Rattle.tsp_audit.specs.Agreeing.{AgreesBack}
-use Rattle.tsp_audit.proofs.NearLemmas.{agrees-then}
+use Rattle.tsp_audit.{proofs.NearLemmas.agrees-then, specs.Agreeing.AgreesBack}
 use Rattle.tsp_audit.proofs.nearness.node_agrees.Goals as goal
 
 pub returns-then-pairs_agree : goal.returns-then-pairs_agree

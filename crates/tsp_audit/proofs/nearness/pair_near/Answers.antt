@@ -1,8 +1,6 @@
 use Rattle.std.proofs.Common.{◌≡◌, ◌∙◌, ◌+ℤ◌, ◌-ℤ◌, ◌-◌, ap, rules, to_z, of_z, ℤ}
 use Rattle.std.specs.Int.{w128}
-use Rattle.tsp_audit.specs.Agreeing.{err_less, shown_by}
-use Rattle.tsp_audit.specs.Standings.{reach_at}
-use Rattle.tsp_audit.proofs.NearLemmas.{spans-told}
+use Rattle.tsp_audit.{proofs.NearLemmas.spans-told, specs.Agreeing.err_less, specs.Agreeing.shown_by, specs.Standings.reach_at}
 use Rattle.tsp_base.specs.Words.{width}
 use Rattle.tsp_audit.proofs.nearness.pair_near.Goals as goal
 

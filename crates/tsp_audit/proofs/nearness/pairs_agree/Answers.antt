@@ -1,10 +1,7 @@
 use Rattle.std.proofs.Common.{rules, ◌≡◌, ◌<◌, length, ℕ, pos, sym, subst, subst₂, arith, inl, inr, get_or, None}
 use Rattle.std.proofs.lemmas.Bool.{cases_lt}
-use Rattle.tsp_audit.specs.Agreeing.{IsAtPlace, PairAgrees}
-use Rattle.tsp_audit.specs.Standings.{StandsAs}
-use Rattle.tsp_audit.specs.declared.round_correction.NodeState.{NodeState}
-use Rattle.tsp_audit.specs.declared.shown.Standing.{Standing}
-use Rattle.tsp_audit.proofs.AgreementSteps.{here-at, state-at}
+use Rattle.tsp_audit.specs.{Agreeing.IsAtPlace, Agreeing.PairAgrees, Standings.StandsAs, declared.round_correction.NodeState.NodeState}
+use Rattle.tsp_audit.{proofs.AgreementSteps.here-at, proofs.AgreementSteps.state-at, specs.declared.shown.Standing.Standing}
 use Rattle.tsp_history.specs.Clocks.{IsSumOf}
 use Rattle.tsp_audit.proofs.nearness.pairs_agree.Goals as goal
 

@@ -1,7 +1,6 @@
 -- The node agrees with those so far.
 use Rattle.std.proofs.Common.{◌≤◌, ◌<◌, ℕ}
-use Rattle.tsp_audit.specs.Agreeing.{AllBounded, IsAtPlace, PairAgrees}
-use Rattle.tsp_audit.specs.Standings.{AllStand}
+use Rattle.tsp_audit.specs.{Agreeing.AllBounded, Agreeing.IsAtPlace, Agreeing.PairAgrees, Standings.AllStand}
 use Rattle.tsp_audit.specs.declared.round_correction.NodeState.{NodeState}
 use Rattle.tsp_base.specs.Words.{HeaderValue}
 use Rattle.tsp_audit.proofs.nearness.pairs_agree.Given as goal

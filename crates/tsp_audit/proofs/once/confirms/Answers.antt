@@ -1,10 +1,8 @@
 use Rattle.std.proofs.Common.{◌≡◌, ◌∙◌, ap, sym, true, false, rules}
 use Rattle.tsp_rules.specs.Values.{Acked}
 use Rattle.tsp_base.specs.Words.{Acts, of, view, open_to}
-use Rattle.tsp_history.specs.Histories.{deed_of, history_of, line_of}
-use Rattle.tsp_history.specs.PostedPlaces.{PostedAt}
-use Rattle.tsp_audit.specs.Acting.{is_in}
-use Rattle.tsp_audit.proofs.ActLemmas.{confirmed-rest, confirmed-yes}
+use Rattle.tsp_history.specs.{Histories.deed_of, Histories.history_of, Histories.line_of, PostedPlaces.PostedAt}
+use Rattle.tsp_audit.{proofs.ActLemmas.confirmed-rest, proofs.ActLemmas.confirmed-yes, specs.Acting.is_in}
 use Rattle.tsp_audit.proofs.once.confirms.Goals as goal
 
 pub returns-then-contains : goal.returns-then-contains

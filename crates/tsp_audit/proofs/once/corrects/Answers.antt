@@ -1,7 +1,5 @@
 use Rattle.std.proofs.Common.{◌≡◌, rules, get_or}
-use Rattle.tsp_history.specs.declared.line.HistoryLine.{HistoryLine}
-use Rattle.tsp_history.specs.Histories.{history_of}
-use Rattle.tsp_history.specs.Posts.{PostsAt}
+use Rattle.tsp_history.specs.{Histories.history_of, Posts.PostsAt, declared.line.HistoryLine.HistoryLine}
 use Rattle.tsp_audit.proofs.TakeLemmas.{corrects-at, corrects-none}
 use Rattle.tsp_audit.proofs.once.corrects.Goals as goal
 

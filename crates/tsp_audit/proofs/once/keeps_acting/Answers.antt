@@ -2,13 +2,10 @@ use Rattle.std.proofs.Common.{◌≡◌, ◌<◌, ◌≤◌, ℕ, Bool, rules, a
 use Rattle.std.proofs.lemmas.List.{take_all}
 use Rattle.tsp_promises.specs.Everywhere.{Everywhere}
 use Rattle.tsp_base.specs.Words.{Line}
-use Rattle.tsp_history.specs.declared.line.HistoryLine.{HistoryLine}
-use Rattle.tsp_history.specs.Histories.{line_of, history_of}
-use Rattle.tsp_audit.specs.Acting.{ActedIs, ActsAt, TakesAs}
+use Rattle.tsp_history.specs.{Histories.line_of, Histories.history_of, declared.line.HistoryLine.HistoryLine}
 use Rattle.tsp_audit.proofs.ActLemmas.{acted-next, acts-all, acts-part, takes-as}
-use Rattle.tsp_audit.proofs.Prefixes.{at-line, one-more}
-use Rattle.tsp_history.proofs.HistoryLemmas.{history-more}
-use Rattle.tsp_history.proofs.NoteLemmas.{told_take}
+use Rattle.tsp_audit.{proofs.Prefixes.at-line, proofs.Prefixes.one-more, specs.Acting.ActedIs, specs.Acting.ActsAt, specs.Acting.TakesAs}
+use Rattle.tsp_history.proofs.{HistoryLemmas.history-more, NoteLemmas.told_take}
 use Rattle.tsp_audit.proofs.once.keeps_acting.Goals as goal
 
 pub loop-i-init : goal.loop-i-init

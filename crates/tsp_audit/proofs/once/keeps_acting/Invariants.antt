@@ -1,11 +1,8 @@
 -- The sends so far are those that Corrects have taken posts of, the lines so far are as the promise says, and there is room for the rest.
 use Rattle.std.proofs.Common.{◌≤◌, ◌+◌, ◌-◌, length, take, vec_len, vec_capacity}
-use Rattle.tsp_promises.specs.Everywhere.{Everywhere}
-use Rattle.tsp_promises.specs.Setting.{Setting}
+use Rattle.tsp_promises.specs.{Everywhere.Everywhere, Setting.Setting}
 use Rattle.tsp_history.specs.Histories.{history_of}
-use Rattle.tsp_audit.specs.Acting.{ActedIs, ActsAt}
-use Rattle.tsp_audit.specs.Parts.{ActsOnce}
-use Rattle.tsp_audit.specs.Settings.{HasClocks, Timely}
+use Rattle.tsp_audit.specs.{Acting.ActedIs, Acting.ActsAt, Parts.ActsOnce, Settings.HasClocks, Settings.Timely}
 use Rattle.tsp_audit.proofs.once.keeps_acting.Given as goal
 
 abbrev pub invariant-loop-i : goal.invariant-loop-i

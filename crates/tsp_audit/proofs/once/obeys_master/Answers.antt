@@ -1,9 +1,7 @@
 use Rattle.std.proofs.Common.{◌≡◌, ℤ, rules, get_or, subst₂, to_z, of_z, MatchBool, sym}
 use Rattle.std.specs.Int.{w64, w128}
-use Rattle.tsp_history.specs.declared.line.HistoryLine.{HistoryLine}
-use Rattle.tsp_history.specs.Histories.{deed_of, line_of}
-use Rattle.tsp_audit.specs.Acting.{BringsAt, PostsMove}
-use Rattle.tsp_audit.proofs.TakeLemmas.{obeys-decides, obeys-not}
+use Rattle.tsp_history.specs.{Histories.deed_of, Histories.line_of, declared.line.HistoryLine.HistoryLine}
+use Rattle.tsp_audit.{proofs.TakeLemmas.obeys-decides, proofs.TakeLemmas.obeys-not, specs.Acting.BringsAt, specs.Acting.PostsMove}
 use Rattle.tsp_audit.proofs.once.obeys_master.Goals as goal
 
 pub returns-in-None : goal.returns-in-None

@@ -1,6 +1,5 @@
 use Rattle.std.proofs.Common.{◌≡◌, get_or, sym}
-use Rattle.tsp_history.specs.declared.line.HistoryLine.{HistoryLine}
-use Rattle.tsp_history.specs.Histories.{deed_of, history_of, line_of}
+use Rattle.tsp_history.specs.{Histories.deed_of, Histories.history_of, Histories.line_of, declared.line.HistoryLine.HistoryLine}
 use Rattle.tsp_audit.specs.Acting.{ActsNow, BringsAt, IsNumbered}
 use Rattle.tsp_audit.proofs.TakeLemmas.{takes-decide, takes-unnumbered}
 use Rattle.tsp_history.proofs.NoteLemmas.{told_take}

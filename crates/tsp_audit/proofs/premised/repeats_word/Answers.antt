@@ -1,8 +1,7 @@
 -- An event that is a boot repeats a word in whichever order the events stand.
 use Rattle.std.proofs.Common.{◌≡◌, rules}
 use Rattle.std.specs.List.{list_any}
-use Rattle.tsp_audit.specs.Premised.{boots_with}
-use Rattle.tsp_audit.proofs.PremiseLemmas.{list_any-reverse}
+use Rattle.tsp_audit.{proofs.PremiseLemmas.list_any-reverse, specs.Premised.boots_with}
 use Rattle.tsp_audit.proofs.premised.repeats_word.Goals as goal
 
 pub returns-in-Boot : goal.returns-in-Boot

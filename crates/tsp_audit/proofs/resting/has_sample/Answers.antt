@@ -1,6 +1,5 @@
 use Rattle.std.proofs.Common.{◌≡◌, rules, is_some}
-use Rattle.tsp_audit.proofs.AgreementSteps.{sample-told}
-use Rattle.tsp_audit.proofs.SampleLemmas.{trips-before}
+use Rattle.tsp_audit.proofs.{AgreementSteps.sample-told, SampleLemmas.trips-before}
 use Rattle.tsp_audit.proofs.resting.has_sample.Goals as goal
 
 pub returns-then-close-lines : goal.returns-then-close-lines

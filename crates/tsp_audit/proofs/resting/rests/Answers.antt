@@ -1,8 +1,7 @@
 use Rattle.std.proofs.Common.{◌≡◌, ap, rules, subst, true}
 use Rattle.tsp_rules.specs.Values.{Post, Message, AdjTime, Place, Peer}
 use Rattle.tsp_base.specs.Words.{Acts, of, view, acting, MessageValue}
-use Rattle.tsp_history.specs.HeldActs.{held_message}
-use Rattle.tsp_history.specs.Histories.{deed_of, history_of, line_of}
+use Rattle.tsp_history.specs.{HeldActs.held_message, Histories.deed_of, Histories.history_of, Histories.line_of}
 use Rattle.tsp_audit.proofs.AgreementSteps.{rests-told}
 use Rattle.tsp_audit.proofs.resting.rests.Goals as goal
 

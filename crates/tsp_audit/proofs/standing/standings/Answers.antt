@@ -1,9 +1,6 @@
 use Rattle.std.proofs.Common.{◌≡◌, ◌<◌, ℕ, pos, sym, subst, subst₂, arith, inl, inr, get_or, None, length, set, List, ◌∙◌, ap}
-use Rattle.std.proofs.lemmas.Bool.{cases_lt}
-use Rattle.std.proofs.lemmas.List.{get_or-set_other, get_or-set_same, length-set}
-use Rattle.tsp_audit.specs.Standings.{StandsAs}
-use Rattle.tsp_audit.specs.declared.round_correction.NodeState.{NodeState}
-use Rattle.tsp_audit.specs.declared.shown.Standing.{Standing}
+use Rattle.std.proofs.lemmas.{Bool.cases_lt, List.get_or-set_other, List.get_or-set_same, List.length-set}
+use Rattle.tsp_audit.specs.{Standings.StandsAs, declared.round_correction.NodeState.NodeState, declared.shown.Standing.Standing}
 use Rattle.tsp_audit.proofs.AgreementSteps.{state-at}
 use Rattle.tsp_audit.proofs.standing.standings.Goals as goal
 

@@ -1,8 +1,6 @@
 -- The clocks of the nodes so far stand so.
 use Rattle.std.proofs.Common.{◌≤◌, ◌<◌, ℕ, length, get_or}
-use Rattle.tsp_audit.specs.Agreeing.{IsAtPlace}
-use Rattle.tsp_audit.specs.Standings.{StandsAs}
-use Rattle.tsp_audit.specs.declared.round_correction.NodeState.{NodeState}
+use Rattle.tsp_audit.specs.{Agreeing.IsAtPlace, Standings.StandsAs, declared.round_correction.NodeState.NodeState}
 use Rattle.tsp_audit.specs.declared.shown.Standing.{Standing}
 use Rattle.tsp_audit.proofs.standing.standings.Given as goal
 

@@ -2,8 +2,7 @@ use Rattle.std.proofs.Common.{◌≡◌, ◌∷◌, ap, subst, sym, ◌∙◌, r
 use Rattle.std.specs.Int.{w128}
 use Rattle.tsp_rules.specs.Values.{Boot}
 use Rattle.tsp_base.specs.Words.{Acts, Line, dids, of, all_corrects, all_corrects_after, lives_after, moved}
-use Rattle.tsp_history.specs.Clocks.{IsSumOf}
-use Rattle.tsp_history.specs.Histories.{deed_of, history_of, line_of}
+use Rattle.tsp_history.specs.{Clocks.IsSumOf, Histories.deed_of, Histories.history_of, Histories.line_of}
 use Rattle.tsp_audit.specs.Changes.{IsCorrect}
 use Rattle.tsp_audit.proofs.StateLemmas.{boot-loud, correct-loud, node-correct, node-still, still-deed, sum-more}
 use Rattle.tsp_audit.proofs.states.state_after.Goals as goal

@@ -1,6 +1,5 @@
 use Rattle.tsp_lines.specs.declared.limits.TheConstants.{MOST_INPUT}
-use Rattle.tsp_audit_command.proofs.Completes.{complete}
-use Rattle.tsp_audit_command.proofs.Definites.{IsDefinite-auditing}
+use Rattle.tsp_audit_command.proofs.{Completes.complete, Definites.IsDefinite-auditing}
 use Rattle.tsp_audit_command.proofs.run.check.Goals as goal
 
 pub returns-clause-treats : goal.returns-clause-treats

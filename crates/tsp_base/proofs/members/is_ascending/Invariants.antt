@@ -1,6 +1,5 @@
 -- The numbers before this place ascend.
-use Rattle.std.proofs.Common.{ℕ, ◌+◌, ◌<◌}
-use Rattle.std.specs.Prelude.{slice_index}
+use Rattle.std.proofs.Common.{ℕ, ◌+◌, ◌<◌, slice_index}
 use Rattle.tsp_base.proofs.members.is_ascending.Given as goal
 
 abbrev pub invariant-loop-next : goal.invariant-loop-next

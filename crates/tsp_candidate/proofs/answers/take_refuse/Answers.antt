@@ -1,10 +1,8 @@
 -- A REFUSE that answers an open ELECTION ends it, and the candidature.
 use Rattle.std.proofs.Common.{◌∙◌}
 use Rattle.std.proofs.lemmas.Bool.{MatchBool-at_false}
-use Rattle.tsp_base.specs.Words.{nothing}
-use Rattle.tsp_base.proofs.PerformsLemmas.{Performs_then, Performs_then_part}
-use Rattle.tsp_rules.specs.CandidateRows.{refused_by}
-use Rattle.tsp_rules.specs.SendRows.{has_election}
+use Rattle.tsp_base.{proofs.PerformsLemmas.Performs_then, proofs.PerformsLemmas.Performs_then_part, specs.Words.nothing}
+use Rattle.tsp_rules.specs.{CandidateRows.refused_by, SendRows.has_election}
 use Rattle.tsp_candidate.proofs.AnswerLemmas.{Performs_passed_over}
 use Rattle.tsp_candidate.proofs.answers.take_refuse.Goals as goal
 

@@ -1,9 +1,7 @@
 -- The role, the backing, the alarm, and then the sends.
 use Rattle.std.proofs.Common.{sym}
-use Rattle.tsp_rules.specs.Values.{Back}
-use Rattle.tsp_base.specs.Words.{puts}
-use Rattle.tsp_base.proofs.PerformsLemmas.{Performs_then, Performs_reading}
-use Rattle.tsp_rules.specs.CommonRows.{candidature_row, backs_own, own_at}
+use Rattle.tsp_base.{proofs.PerformsLemmas.Performs_then, proofs.PerformsLemmas.Performs_reading, specs.Words.puts}
+use Rattle.tsp_rules.specs.{CommonRows.candidature_row, CommonRows.backs_own, CommonRows.own_at, Values.Back}
 use Rattle.tsp_acks.proofs.ActingLemmas.{Performs_acting}
 use Rattle.tsp_candidate.proofs.candidature.stand.Goals as goal
 

@@ -1,9 +1,8 @@
 -- In time it leads or gives way, late it gives way.
-use Rattle.tsp_rules.specs.Values.{Ring, Late, Window}
 use Rattle.tsp_base.specs.Words.{puts, either_by, ◌followed_by◌}
 use Rattle.tsp_base.proofs.PerformsLemmas.{Performs_then, Performs_then_part, Performs_else_part}
 use Rattle.tsp_rules.specs.CandidateRows.{has_won, lead_row, window_rings, yields}
-use Rattle.tsp_rules.specs.Guards.{is_in_time}
+use Rattle.tsp_rules.specs.{Guards.is_in_time, Values.Ring, Values.Late, Values.Window}
 use Rattle.tsp_candidate.proofs.ring.candidate_ring.Goals as goal
 
 pub returns-then-is_in_time-clause-row : goal.returns-then-is_in_time-clause-row

@@ -1,15 +1,11 @@
 -- Each kind has its row.
 use Rattle.std.proofs.Common.{◌≡◌, refl, sym, ◌∙◌, ap}
 use Rattle.tsp_rules.specs.Values.{Accept, Ack, Election, QuitKind, Refuse}
-use Rattle.tsp_base.specs.Words.{name_in, nothing}
-use Rattle.tsp_base.proofs.PerformsLemmas.{Performs_nothing}
-use Rattle.tsp_rules.specs.CommonRows.{follow_row}
-use Rattle.tsp_rules.specs.CandidateRows.{candidate_takes, candidate_takes_kind}
-use Rattle.tsp_slave.proofs.BesideLemmas.{Performs_station}
-use Rattle.tsp_slave.proofs.SlaveLemmas.{AlsoStands_posts, AlsoStands_acknowledges}
-use Rattle.tsp_candidate.proofs.AlsoLemmas.{AlsoStands_accepted_by, AlsoStands_refused_by}
+use Rattle.tsp_base.{proofs.PerformsLemmas.Performs_nothing, specs.Words.name_in, specs.Words.nothing}
+use Rattle.tsp_rules.specs.{CandidateRows.candidate_takes, CandidateRows.candidate_takes_kind, CommonRows.follow_row}
+use Rattle.tsp_slave.proofs.{BesideLemmas.Performs_station, SlaveLemmas.AlsoStands_posts, SlaveLemmas.AlsoStands_acknowledges}
+use Rattle.tsp_candidate.proofs.{AlsoLemmas.AlsoStands_accepted_by, AlsoLemmas.AlsoStands_refused_by, RowCases.candidate_takes_kind-master}
 use Rattle.tsp_rules.proofs.RowsOther.{candidate_takes_kind-other}
-use Rattle.tsp_candidate.proofs.RowCases.{candidate_takes_kind-master}
 use Rattle.tsp_candidate.proofs.take.candidate_take.Goals as goal
 
 pub returns-in-MasterUp-clause-row : goal.returns-in-MasterUp-clause-row

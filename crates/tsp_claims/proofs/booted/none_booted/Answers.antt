@@ -1,7 +1,6 @@
 -- No node is up.
 use Rattle.std.proofs.Common.{◌∙◌, ap}
-use Rattle.tsp_claims.specs.Listed.{up_in}
-use Rattle.tsp_claims.proofs.StandLemmas.{none-up}
+use Rattle.tsp_claims.{proofs.StandLemmas.none-up, specs.Listed.up_in}
 use Rattle.tsp_claims.proofs.booted.none_booted.Goals as goal
 
 pub returns-clause-none : goal.returns-clause-none

@@ -1,12 +1,9 @@
 -- The mark is noted, and then one line more.
 use Rattle.std.proofs.Common.{◌+◌, ◌++◌, ◌∷◌, [], ◌∙◌, ap, arith, drop, sym}
 use Rattle.tsp_base.specs.Words.{Line, joined, first_port, line_of as line_in}
-use Rattle.tsp_claims.specs.Fitting.{acts_of}
-use Rattle.tsp_claims.specs.Steps.{step_by}
-use Rattle.tsp_claims.proofs.StepLemmas.{note-next}
+use Rattle.tsp_claims.{proofs.StepLemmas.note-next, specs.Fitting.acts_of, specs.Steps.step_by}
 use Rattle.tsp_claims.proofs.taking_in.lines_of.Goals as goal
-use Rattle.tsp_history.specs.Histories.{deed_of, line_of, noted_after}
-use Rattle.tsp_history.proofs.HistoryLemmas.{noted-append}
+use Rattle.tsp_history.{proofs.HistoryLemmas.noted-append, specs.Histories.deed_of, specs.Histories.line_of, specs.Histories.noted_after}
 
 pub loop-line-init : goal.loop-line-init
 loop-line-init c =

@@ -1,8 +1,7 @@
 -- What was noted, and what is still to be noted.
 use Rattle.std.proofs.Common.{◌≡◌, ◌+◌, List, drop, vec_len}
 use Rattle.tsp_base.specs.Words.{Line, joined, stepped}
-use Rattle.tsp_claims.specs.Fitting.{acts_of}
-use Rattle.tsp_claims.specs.Steps.{step_by}
+use Rattle.tsp_claims.specs.{Fitting.acts_of, Steps.step_by}
 use Rattle.tsp_history.specs.Histories.{noted_after}
 use Rattle.tsp_claims.proofs.taking_in.lines_of.Given as goal
 

@@ -1,8 +1,6 @@
 -- What was noted, and what is still to be noted.
 use Rattle.std.proofs.Common.{◌≡◌, ◌≤◌, ◌++◌, drop, vec_len}
-use Rattle.tsp_claims.specs.ClaimedHistory.{posts_in}
-use Rattle.tsp_claims.specs.Fitting.{acts_of}
-use Rattle.tsp_claims.specs.Steps.{step_by}
+use Rattle.tsp_claims.specs.{ClaimedHistory.posts_in, Fitting.acts_of, Steps.step_by}
 use Rattle.tsp_claims.proofs.taking_in.posts_of.Given as goal
 
 abbrev pub invariant-loop-line : goal.invariant-loop-line

@@ -1,6 +1,5 @@
 use Rattle.std.proofs.Common.{◌∙◌, ap, sym, refl}
-use Rattle.tsp_query.proofs.FaultLemmas.{Counts-from, LinkCounts-from}
-use Rattle.tsp_query.specs.declared.exit.QueryExit.{QueryExit}
+use Rattle.tsp_query.{proofs.FaultLemmas.Counts-from, proofs.FaultLemmas.LinkCounts-from, specs.declared.exit.QueryExit.QueryExit}
 use Rattle.tsp_cli.specs.Statuses.{status_of_asking}
 use Rattle.tsp_cli.proofs.CommandLemmas.{RunsQuery-asked, asking_unread, asking_used, asking_linked, asking_written}
 use Rattle.tsp_cli.proofs.run.run_query.Goals as goal

@@ -1,11 +1,9 @@
 -- Nobody is answered in the quiet time; after it the ACK comes first.
-use Rattle.std.specs.Prelude.{not}
-use Rattle.std.proofs.Common.{◌∙◌, ap, sym}
-use Rattle.tsp_rules.specs.Values.{Ack}
+use Rattle.std.proofs.Common.{◌∙◌, ap, sym, not}
 use Rattle.tsp_base.specs.Words.{either_by, ◌followed_by◌, nothing, posts_back}
 use Rattle.tsp_base.proofs.PerformsLemmas.{Performs_then, Performs_then_part, Performs_else_part, Performs_nothing}
 use Rattle.tsp_rules.specs.CommonRows.{is_awake, may_be_asked, candidature_row, tests}
-use Rattle.tsp_rules.specs.Guards.{is_starting_role}
+use Rattle.tsp_rules.specs.{Guards.is_starting_role, Values.Ack}
 use Rattle.tsp_acks.proofs.ActingLemmas.{Performs_acting}
 use Rattle.tsp_clients.proofs.ClientLemmas.{is_starting_role-other}
 use Rattle.tsp_clients.proofs.candidature.take_test.Goals as goal

@@ -1,9 +1,7 @@
 -- The name is the one that the port knows.
 use Rattle.std.proofs.Common.{◌∙◌, refl, sym}
-use Rattle.tsp_rules.specs.Values.{Post, Message, Ack}
-use Rattle.tsp_base.specs.Words.{bare, puts}
-use Rattle.tsp_base.proofs.PerformsLemmas.{Performs_reading}
-use Rattle.tsp_rules.specs.CommonRows.{master_name, names_master}
+use Rattle.tsp_base.{proofs.PerformsLemmas.Performs_reading, specs.Words.bare, specs.Words.puts}
+use Rattle.tsp_rules.specs.{CommonRows.master_name, CommonRows.names_master, Values.Post, Values.Message, Values.Ack}
 use Rattle.tsp_acks.proofs.PostLemmas.{is_plain_fits}
 use Rattle.tsp_clients.proofs.ClientLemmas.{Performs_named, master_name-is}
 use Rattle.tsp_clients.proofs.naming.name_master.Goals as goal

@@ -1,10 +1,8 @@
 -- A master says so, and nobody else.
 use Rattle.std.proofs.Common.{◌∙◌, ap, sym}
-use Rattle.tsp_rules.specs.Values.{Ack}
 use Rattle.tsp_base.specs.Words.{nothing, posts_back}
 use Rattle.tsp_base.proofs.PerformsLemmas.{Performs_then_part, Performs_else_part, Performs_nothing}
-use Rattle.tsp_rules.specs.CommonRows.{says_master}
-use Rattle.tsp_rules.specs.Guards.{is_master, is_master_at}
+use Rattle.tsp_rules.specs.{CommonRows.says_master, Guards.is_master, Guards.is_master_at, Values.Ack}
 use Rattle.tsp_rules.proofs.RowsOther.{is_master-other}
 use Rattle.tsp_clients.proofs.naming.say_master.Goals as goal
 

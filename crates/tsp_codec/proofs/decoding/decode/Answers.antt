@@ -1,6 +1,5 @@
 use Rattle.std.proofs.Common.{ap, Ok}
-use Rattle.tsp_codec.proofs.OneDatagram.{Spells-one}
-use Rattle.tsp_codec.proofs.NoFault.{Spells-no_fault}
+use Rattle.tsp_codec.proofs.{NoFault.Spells-no_fault, OneDatagram.Spells-one}
 use Rattle.tsp_codec.proofs.decoding.decode.Goals as goal
 
 pub returns-in-Ok-clause-spelled : goal.returns-in-Ok-clause-spelled

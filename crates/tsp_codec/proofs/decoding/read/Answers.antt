@@ -1,6 +1,5 @@
 use Rattle.std.proofs.Common.{sym}
-use Rattle.tsp_base.specs.declared.datagram.Datagram.TheVariants.{Stamp}
-use Rattle.tsp_base.specs.declared.datagram.Taken.TheVariants.{Good}
+use Rattle.tsp_base.specs.declared.datagram.{Datagram.TheVariants.Stamp, Taken.TheVariants.Good}
 use Rattle.tsp_codec.proofs.TakenOf.{Reads-taken_of-iff}
 use Rattle.tsp_codec.proofs.decoding.read.Goals as goal
 

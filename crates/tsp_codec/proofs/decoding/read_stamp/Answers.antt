@@ -1,8 +1,6 @@
 use Rattle.std.proofs.Common.{rules}
-use Rattle.tsp_base.specs.declared.datagram.Datagram.TheVariants.{Stamp}
-use Rattle.tsp_base.specs.declared.datagram.Taken.TheVariants.{Good}
-use Rattle.tsp_codec.proofs.NoFault.{Spells-no_fault}
-use Rattle.tsp_codec.proofs.TakenOf.{no_stamp, taken_of-Reads}
+use Rattle.tsp_base.specs.declared.datagram.{Datagram.TheVariants.Stamp, Taken.TheVariants.Good}
+use Rattle.tsp_codec.proofs.{NoFault.Spells-no_fault, TakenOf.no_stamp, TakenOf.taken_of-Reads}
 use Rattle.tsp_codec.proofs.decoding.read_stamp.Goals as goal
 
 pub returns-then-octets-ne-STAMP : goal.returns-then-octets-ne-STAMP

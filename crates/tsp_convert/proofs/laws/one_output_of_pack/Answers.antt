@@ -1,8 +1,6 @@
 use Rattle.hex.specs.Hex.{encode_lower}
 use Rattle.tsp_codec.specs.Canon.{canon}
-use Rattle.tsp_convert.specs.Packs.{IsLineOf}
-use Rattle.tsp_convert.proofs.Conversions.{Converts-one}
-use Rattle.tsp_convert.proofs.LinesApart.{IsLineOf-one}
+use Rattle.tsp_convert.{proofs.Conversions.Converts-one, proofs.LinesApart.IsLineOf-one, specs.Packs.IsLineOf}
 use Rattle.tsp_convert.proofs.laws.one_output_of_pack.Goals as goal
 
 pub returns : goal.returns

@@ -1,7 +1,5 @@
 use Rattle.tsp_script.specs.Texts.{message_text}
-use Rattle.tsp_convert.specs.Shows.{IsHexLineOf}
-use Rattle.tsp_convert.proofs.Conversions.{Converts-one}
-use Rattle.tsp_convert.proofs.Hexes.{IsHexLineOf-one}
+use Rattle.tsp_convert.{proofs.Conversions.Converts-one, proofs.Hexes.IsHexLineOf-one, specs.Shows.IsHexLineOf}
 use Rattle.tsp_convert.proofs.laws.one_output_of_show.Goals as goal
 
 pub returns : goal.returns

@@ -1,14 +1,9 @@
 use Rattle.std.proofs.Common.{◌≡◌, ◌∙◌, ap, sym, inl, inr, refl, subst, ℤ, ℕ, false, rules, w64, to_z, of_z}
-use Rattle.tsp_query.proofs.AskLemmas.{of_some}
-use Rattle.tsp_query.proofs.FaultLemmas.{Counts-from, Counts-same}
-use Rattle.tsp_query.proofs.OutsideLemmas.{Says_from}
+use Rattle.tsp_query.proofs.{AskLemmas.of_some, FaultLemmas.Counts-from, FaultLemmas.Counts-same, OutsideLemmas.Says_from}
 use Rattle.tsp_query.specs.Outside.{observed}
 use Rattle.tsp_rules.specs.Guards.{is_clock_value}
-use Rattle.tsp_daemon.proofs.NodeLemmas.{turns_fit}
+use Rattle.tsp_daemon.{proofs.NodeLemmas.turns_fit, specs.Nodes.first_past, specs.Serving.served_of, specs.declared.end.ServeEnd.ServeEnd}
 use Rattle.tsp_daemon.proofs.ServeLemmas.{Tells_read, IsServed_serves, walled_is, served_linked, served_written, served_in_time}
-use Rattle.tsp_daemon.specs.declared.end.ServeEnd.{ServeEnd}
-use Rattle.tsp_daemon.specs.Nodes.{first_past}
-use Rattle.tsp_daemon.specs.Serving.{served_of}
 use Rattle.tsp_daemon.proofs.command.serve_bound.Goals as goal
 
 pub serve-requires-clause-lives : goal.serve-requires-clause-lives

@@ -1,9 +1,7 @@
 use Rattle.std.proofs.Common.{◌≡◌, inl, inr, refl, rules, subst, List, ◌∷◌}
 use Rattle.tsp_args.specs.Ports.{all_peers}
-use Rattle.tsp_io.specs.declared.addr.Addr.{Addr}
-use Rattle.tsp_io.specs.Links.{NotesReceive}
-use Rattle.tsp_query.specs.Outside.{after_bind}
-use Rattle.tsp_query.proofs.FaultLemmas.{Counts-from, Counts-same}
+use Rattle.tsp_io.specs.{Links.NotesReceive, declared.addr.Addr.Addr}
+use Rattle.tsp_query.{proofs.FaultLemmas.Counts-from, proofs.FaultLemmas.Counts-same, specs.Outside.after_bind}
 use Rattle.tsp_query.proofs.OutsideLemmas.{NotesBind_failed, NotesBind_made, NotesBind_refused, Notes_same, Tells_bound}
 use Rattle.tsp_daemon.proofs.command.serve_words.Goals as goal
 

@@ -1,8 +1,7 @@
 -- One port more.
 use Rattle.std.proofs.Common.{◌≡◌, ◌∙◌, ◌+◌, ◌∷◌, [], ◌++◌, ap, arith, drop, length}
 use Rattle.tsp_gateway.specs.GateConfigs.{GateConfigValue}
-use Rattle.tsp_daemon.specs.Nodes.{numbered_setup, setups_from}
-use Rattle.tsp_daemon.proofs.NodeLemmas.{peers_more, setups_more}
+use Rattle.tsp_daemon.{proofs.NodeLemmas.peers_more, proofs.NodeLemmas.setups_more, specs.Nodes.numbered_setup, specs.Nodes.setups_from}
 use Rattle.tsp_daemon.proofs.node.config_of.Goals as goal
 
 pub overflow_cast-count : goal.overflow_cast-count

@@ -1,7 +1,6 @@
 use Rattle.std.proofs.Common.{rules, arith, ◌≡◌, ◌∙◌, ◌++◌, ap, sym, append_assoc, get_or}
 use Rattle.tsp_rules.specs.Values.{Placed}
-use Rattle.tsp_daemon.specs.Posts.{send_of}
-use Rattle.tsp_daemon.proofs.SendLemmas.{TriesAll-trans, sends_here}
+use Rattle.tsp_daemon.{proofs.SendLemmas.TriesAll-trans, proofs.SendLemmas.sends_here, specs.Posts.send_of}
 use Rattle.tsp_daemon.proofs.sends.send_all.Goals as goal
 
 pub loop-placed-preserved : goal.loop-placed-preserved

@@ -1,8 +1,7 @@
 -- What was tried, and what is still to be tried.
 use Rattle.std.proofs.Common.{◌≡◌, ◌≤◌, ◌++◌, List, drop}
 use Rattle.tsp_io.specs.Links.{Tried}
-use Rattle.tsp_daemon.specs.Ends.{TriesAll}
-use Rattle.tsp_daemon.specs.Posts.{sends_of}
+use Rattle.tsp_daemon.specs.{Ends.TriesAll, Posts.sends_of}
 use Rattle.tsp_daemon.proofs.sends.send_all.Given as goal
 
 abbrev pub invariant-loop-placed : goal.invariant-loop-placed

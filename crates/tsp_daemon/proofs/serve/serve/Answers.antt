@@ -3,10 +3,9 @@ use Rattle.tsp_rules.specs.Values.{PeerId}
 use Rattle.tsp_gateway.specs.Rooms.{ports_in, room_of_ports}
 use Rattle.tsp_query.proofs.FaultLemmas.{Counts-from, Counts-same}
 use Rattle.tsp_daemon.specs.declared.end.ServeEnd.TheVariants.{LinkFault, WriteFault}
-use Rattle.tsp_daemon.specs.Sessions.{after_turns}
 use Rattle.tsp_daemon.proofs.SessionLemmas.{rises_more, serves_until, turns_more}
 use Rattle.tsp_daemon.proofs.TurnLemmas.{le_on, posts_more, went_on, done_unlinked, done_unwritten, end_as, same_end}
-use Rattle.tsp_daemon.proofs.WaitLemmas.{one_more_noted, until_noted}
+use Rattle.tsp_daemon.{proofs.WaitLemmas.one_more_noted, proofs.WaitLemmas.until_noted, specs.Sessions.after_turns}
 use Rattle.tsp_daemon.proofs.serve.serve.Goals as goal
 
 pub returns-in-Err-clause-serves : goal.returns-in-Err-clause-serves

@@ -1,10 +1,7 @@
 -- The node, the counters and the outside are where so many turns have brought them.
 use Rattle.std.proofs.Common.{◌≡◌, ◌≤◌, ◌*◌}
-use Rattle.tsp_gateway.specs.GatewayStands.{clock_at}
-use Rattle.tsp_gateway.specs.Rooms.{ports_in, room_of_ports}
-use Rattle.tsp_daemon.specs.Ends.{IsAt, Lives}
-use Rattle.tsp_daemon.specs.Sessions.{Session, after_turns, Rises}
-use Rattle.tsp_daemon.specs.Waits.{NotesWaits}
+use Rattle.tsp_gateway.specs.{GatewayStands.clock_at, Rooms.ports_in, Rooms.room_of_ports}
+use Rattle.tsp_daemon.specs.{Ends.IsAt, Ends.Lives, Sessions.Session, Sessions.after_turns, Sessions.Rises, Waits.NotesWaits}
 use Rattle.tsp_daemon.proofs.serve.serve.Given as goal
 
 abbrev pub invariant-loop : goal.invariant-loop

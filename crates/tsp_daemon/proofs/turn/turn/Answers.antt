@@ -1,16 +1,10 @@
 use Rattle.std.proofs.Common.{◌≡◌, ◌∙◌, ◌+◌, List, [], ap, inl, sym, subst, refl}
-use Rattle.tsp_rules.specs.Values.{Placed}
-use Rattle.tsp_daemon.specs.declared.end.ServeEnd.TheVariants.{LinkFault}
 use Rattle.tsp_io.specs.declared.link.Recv.TheVariants.{Failed}
-use Rattle.tsp_query.proofs.FaultLemmas.{Counts-same}
-use Rattle.tsp_gateway.specs.GatewayStands.{GatewayStands, GatewayBegun}
-use Rattle.tsp_gateway.specs.PortOf.{setups_in}
-use Rattle.tsp_rules.specs.GateRows.{answers_all}
-use Rattle.tsp_rules.specs.NodePerforms.{PerformsAll}
-use Rattle.tsp_daemon.specs.Ends.{given_by}
-use Rattle.tsp_daemon.specs.Posts.{AreKnown}
+use Rattle.tsp_query.proofs.{FaultLemmas.Counts-same, OutsideLemmas.Notes_same}
+use Rattle.tsp_gateway.specs.{GatewayStands.GatewayStands, GatewayStands.GatewayBegun, PortOf.setups_in}
+use Rattle.tsp_rules.specs.{GateRows.answers_all, NodePerforms.PerformsAll, Values.Placed}
+use Rattle.tsp_daemon.specs.{Ends.given_by, Posts.AreKnown, declared.end.ServeEnd.TheVariants.LinkFault}
 use Rattle.tsp_daemon.proofs.SessionLemmas.{waits_is, steps_is, turned_is, ends_is, lives_on, acts_known, unheard_is, finish_unlinked}
-use Rattle.tsp_query.proofs.OutsideLemmas.{Notes_same}
 use Rattle.tsp_daemon.proofs.TurnLemmas.{le_self, le_is, last_on, last_twice, sends_on, posts_on, memory_unlinked, memory_unwritten, link_unwritten, same_end}
 use Rattle.tsp_daemon.proofs.WaitLemmas.{first_reading, turn_noted, wait_noted}
 use Rattle.tsp_daemon.proofs.turn.turn.Goals as goal

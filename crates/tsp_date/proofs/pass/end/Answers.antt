@@ -1,9 +1,7 @@
 -- Only a follower has passed a date on.
 use Rattle.std.proofs.Common.{sym, ◌∙◌}
-use Rattle.tsp_rules.specs.Values.{Follow}
 use Rattle.tsp_base.proofs.PerformsLemmas.{Performs_nothing, Performs_reading}
-use Rattle.tsp_rules.specs.DateRows.{date_acked, date_acked_in}
-use Rattle.tsp_rules.specs.Guards.{role_at}
+use Rattle.tsp_rules.specs.{DateRows.date_acked, DateRows.date_acked_in, Guards.role_at, Values.Follow}
 use Rattle.tsp_date.proofs.DateLemmas.{Performs_ended, date_acked_in-other}
 use Rattle.tsp_master.proofs.RoomLemmas.{at_most_once}
 use Rattle.tsp_date.proofs.pass.end.Goals as goal

@@ -1,10 +1,8 @@
 -- The client is answered, and then the date begins to be passed on.
 use Rattle.std.proofs.Common.{◌≡◌, refl, ◌∙◌}
-use Rattle.tsp_rules.specs.Values.{Ack, SetDateReq}
 use Rattle.tsp_base.specs.Words.{◌followed_by◌, nothing, posts_back, time_in}
 use Rattle.tsp_base.proofs.PerformsLemmas.{Performs_else_part, Performs_nothing, Performs_then, Performs_then_part}
-use Rattle.tsp_rules.specs.DateRows.{may_pass_on, passes_on}
-use Rattle.tsp_rules.specs.SendRows.{begins_timed}
+use Rattle.tsp_rules.specs.{DateRows.may_pass_on, DateRows.passes_on, SendRows.begins_timed, Values.Ack, Values.SetDateReq}
 use Rattle.tsp_rules.proofs.Emits.{Emits_posts_back}
 use Rattle.tsp_date.proofs.DateLemmas.{Performs_asks, Performs_posting}
 use Rattle.tsp_master.proofs.RoomLemmas.{twice}

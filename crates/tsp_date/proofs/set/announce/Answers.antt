@@ -1,10 +1,8 @@
 -- The sender is answered, the slaves leave, and the others hear of it.
 use Rattle.std.proofs.Common.{refl, length}
-use Rattle.tsp_rules.specs.Values.{DateAck, MasterUp}
 use Rattle.tsp_base.proofs.PerformsLemmas.{Performs_then}
-use Rattle.tsp_rules.proofs.Emits.{Emits_posts_back, Emits_posts_to_others}
-use Rattle.tsp_date.proofs.DateLemmas.{Performs_leaves, Performs_posting}
-use Rattle.tsp_date.proofs.RoomLemmas.{told_to_each}
+use Rattle.tsp_rules.{proofs.Emits.Emits_posts_back, proofs.Emits.Emits_posts_to_others, specs.Values.DateAck, specs.Values.MasterUp}
+use Rattle.tsp_date.proofs.{DateLemmas.Performs_leaves, DateLemmas.Performs_posting, RoomLemmas.told_to_each}
 use Rattle.tsp_date.proofs.set.announce.Goals as goal
 
 pub returns-clause-row : goal.returns-clause-row

@@ -1,15 +1,10 @@
 -- One slave after the other leaves.
-use Rattle.std.specs.Prelude.{◌≡◌, ◌+◌, ◌<◌, ◌∷◌, [], ◌++◌, length, take, true, false, slice_index_or}
-use Rattle.std.proofs.Common.{get_or, refl, sym, ◌∙◌, ap, arith, length-append, subst, ◌≤◌}
+use Rattle.std.proofs.Common.{get_or, refl, sym, ◌∙◌, ap, arith, length-append, subst, ◌≤◌, ◌≡◌, ◌+◌, ◌<◌, ◌∷◌, [], ◌++◌, length, take, true, false, slice_index_or}
 use Rattle.std.proofs.lemmas.List.{get_or_default, take_all}
-use Rattle.tsp_rules.specs.Values.{PeerId}
-use Rattle.tsp_base.specs.Words.{for_each}
 use Rattle.tsp_base.proofs.PerformsLemmas.{Performs_each_more, Performs_nothing, Performs_reading}
-use Rattle.tsp_base.proofs.FrameLemmas.{PutsAtMost_up}
-use Rattle.tsp_rules.specs.DateRows.{leaves, leaves_all}
-use Rattle.tsp_rules.specs.Guards.{table_at}
-use Rattle.tsp_measure.specs.declared.entry.Entry.{Entry}
-use Rattle.tsp_measure.specs.Slaves.{entry_of, leaves as leaves_entry, peers_of}
+use Rattle.tsp_base.{proofs.FrameLemmas.PutsAtMost_up, specs.Words.for_each}
+use Rattle.tsp_rules.specs.{DateRows.leaves, DateRows.leaves_all, Guards.table_at, Values.PeerId}
+use Rattle.tsp_measure.specs.{Slaves.entry_of, Slaves.leaves as leaves_entry, Slaves.peers_of, declared.entry.Entry.Entry}
 use Rattle.tsp_master.proofs.AskLemmas.{filter-more, filter-past, joined-is, joined_of, take-more}
 use Rattle.tsp_master.proofs.CloseLemmas.{later-same}
 use Rattle.tsp_date.proofs.DateLemmas.{Performs_leave, changes-others}

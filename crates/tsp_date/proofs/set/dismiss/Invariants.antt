@@ -1,11 +1,9 @@
 -- The slaves among the peers so far have left.
 use Rattle.std.proofs.Common.{◌≡◌, ℕ, ◌<◌, ◌≤◌, length, take, get_or}
-use Rattle.tsp_rules.specs.Values.{PeerId}
 use Rattle.tsp_base.specs.Words.{PutsAtMost, Performs, for_each}
-use Rattle.tsp_rules.specs.DateRows.{leaves}
+use Rattle.tsp_rules.specs.{DateRows.leaves, Values.PeerId}
 use Rattle.tsp_measure.specs.Slaves.{entry_of, peers_of}
-use Rattle.tsp_master.specs.MasterStands.{MasterStands}
-use Rattle.tsp_master.proofs.AskLemmas.{joined_of}
+use Rattle.tsp_master.{proofs.AskLemmas.joined_of, specs.MasterStands.MasterStands}
 use Rattle.tsp_date.proofs.set.dismiss.Given as goal
 
 abbrev pub invariant-loop-p : goal.invariant-loop-p

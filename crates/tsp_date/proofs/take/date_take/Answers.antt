@@ -1,16 +1,13 @@
 -- Each message has its row.
 use Rattle.std.proofs.Common.{◌≡◌, true, refl, sym, ◌∙◌, ap, arith}
-use Rattle.tsp_rules.specs.Values.{DateAck}
 use Rattle.tsp_base.specs.Words.{nothing, time_in}
 use Rattle.tsp_base.proofs.PerformsLemmas.{Performs_else_part, Performs_nothing, Performs_then, Performs_then_part}
-use Rattle.tsp_rules.specs.DateRows.{may_date, new_date, sets_date_where}
-use Rattle.tsp_rules.specs.RoundRows.{corrects}
+use Rattle.tsp_rules.specs.{DateRows.may_date, DateRows.new_date, DateRows.sets_date_where, RoundRows.corrects, Values.DateAck}
 use Rattle.tsp_rules.proofs.Emits.{Emits_posts}
 use Rattle.tsp_date.specs.declared.task.Task.TheVariants.{AnswerAgain, Nothing, PassOn, Set}
 use Rattle.tsp_date.specs.DateStands.{DateState, moved_where}
 use Rattle.tsp_date.proofs.CorrectsLemmas.{corrects-end, corrects-nothing, corrects-passes, corrects-posts, corrects-sets}
-use Rattle.tsp_date.proofs.DateLemmas.{Performs_posting}
-use Rattle.tsp_date.proofs.TaskLemmas.{Performs_task, handles-end}
+use Rattle.tsp_date.proofs.{DateLemmas.Performs_posting, TaskLemmas.Performs_task, TaskLemmas.handles-end}
 use Rattle.tsp_date.proofs.take.date_take.Goals as goal
 
 pub returns-in-DateAck-clause-row : goal.returns-in-DateAck-clause-row

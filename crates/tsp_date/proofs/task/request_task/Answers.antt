@@ -1,7 +1,6 @@
 -- At a master the last date is answered again, and another is set where the port is in charge.
 use Rattle.std.proofs.Common.{sym, ◌∙◌, ap}
-use Rattle.tsp_rules.specs.Values.{Master}
-use Rattle.tsp_rules.specs.DateRows.{date_request_in, is_last}
+use Rattle.tsp_rules.specs.{DateRows.date_request_in, DateRows.is_last, Values.Master}
 use Rattle.tsp_date.specs.Dates.{last_in}
 use Rattle.tsp_date.proofs.TaskLemmas.{dated-is, request-again, request-ignored, request-other, request-sets}
 use Rattle.tsp_date.proofs.task.request_task.Goals as goal

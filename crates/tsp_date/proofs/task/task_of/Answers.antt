@@ -1,12 +1,8 @@
 -- A client's date, and one that a peer passes on.
 use Rattle.std.proofs.Common.{◌≡◌, true, false, sym, ◌∙◌, ap}
 use Rattle.tsp_base.specs.Words.{is_date_request}
-use Rattle.tsp_rules.specs.Answers.{from_peer}
-use Rattle.tsp_rules.specs.DateRows.{date_of, date_request_of}
-use Rattle.tsp_rules.specs.Guards.{is_heard}
-use Rattle.tsp_date.specs.declared.task.Task.TheVariants.{Nothing}
-use Rattle.tsp_date.specs.Tasks.{task_row}
-use Rattle.tsp_date.proofs.DateLemmas.{heard-is}
+use Rattle.tsp_rules.specs.{Answers.from_peer, DateRows.date_of, DateRows.date_request_of, Guards.is_heard}
+use Rattle.tsp_date.{proofs.DateLemmas.heard-is, specs.Tasks.task_row, specs.declared.task.Task.TheVariants.Nothing}
 use Rattle.tsp_date.proofs.TaskLemmas.{date-charged, date-uncharged, handles-date, handles-request, request-heard, request-stranger, request-unheard}
 use Rattle.tsp_date.proofs.task.task_of.Goals as goal
 

@@ -1,11 +1,9 @@
 -- One port more.
-use Rattle.std.proofs.Common.{◌≡◌, ◌∙◌, [], ◌∷◌, ◌++◌, List, Some, ap, arith, inl, inr, length, length-append, rules, slice_get, subst, sym, vec_len}
-use Rattle.std.specs.Prelude.{slice_index_or}
+use Rattle.std.proofs.Common.{◌≡◌, ◌∙◌, [], ◌∷◌, ◌++◌, List, Some, ap, arith, inl, inr, length, length-append, rules, slice_get, subst, sym, vec_len, slice_index_or}
 use Rattle.tsp_rules.specs.NodeRows.{no_port}
 use Rattle.tsp_base.specs.Words.{IsPeers}
 use Rattle.tsp_node.specs.declared.part.Part.{Part}
-use Rattle.tsp_gateway.specs.PartsFresh.{IsFreshPort}
-use Rattle.tsp_gateway.proofs.BootLemmas.{get_last, port_in_place}
+use Rattle.tsp_gateway.{proofs.BootLemmas.get_last, proofs.BootLemmas.port_in_place, specs.PartsFresh.IsFreshPort}
 use Rattle.tsp_gateway.proofs.booting.parts_of.Goals as goal
 
 pub new-requires : goal.new-requires

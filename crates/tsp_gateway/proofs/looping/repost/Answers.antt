@@ -1,12 +1,9 @@
 -- There is room for each peer, and the other peers so far were posted to.
-use Rattle.std.specs.Prelude.{◌≡◌, ◌+◌, ◌++◌, ◌∷◌, [], suc, List, length, map, take}
-use Rattle.std.proofs.Common.{ap, append-nil, append_assoc, arith, get_or, sym, ◌∙◌}
-use Rattle.std.proofs.Math.Seq.{take-suc}
-use Rattle.std.proofs.lemmas.List.{length-append, map-append, take_all}
-use Rattle.tsp_rules.specs.Values.{Placed, PeerId, Port}
+use Rattle.std.proofs.Common.{ap, append-nil, append_assoc, arith, get_or, sym, ◌∙◌, ◌≡◌, ◌+◌, ◌++◌, ◌∷◌, [], suc, List, length, map, take}
+use Rattle.std.proofs.{Math.Seq.take-suc, lemmas.List.length-append, lemmas.List.map-append, lemmas.List.take_all}
 use Rattle.tsp_base.specs.Words.{MessageValue, others, placed}
 use Rattle.tsp_base.proofs.RowLemmas.{others-more, others-own}
-use Rattle.tsp_rules.specs.GateRows.{repost}
+use Rattle.tsp_rules.specs.{GateRows.repost, Values.Placed, Values.PeerId, Values.Port}
 use Rattle.tsp_gateway.proofs.looping.repost.Goals as goal
 use Rattle.tsp_gateway.proofs.looping.repost.Goals.{then-p-station, else-p-station}
 

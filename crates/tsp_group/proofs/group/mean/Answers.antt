@@ -1,7 +1,6 @@
 use Rattle.std.proofs.Common.{◌≡◌, arith, rules}
 use Rattle.std.proofs.lemmas.Int.{ints}
-use Rattle.tsp_group.specs.Groups.{floor_div}
-use Rattle.tsp_group.proofs.Means.{floor_div_fits, div_euclid_is}
+use Rattle.tsp_group.{proofs.Means.floor_div_fits, proofs.Means.div_euclid_is, specs.Groups.floor_div}
 use Rattle.tsp_group.proofs.group.mean.Goals as goal
 
 quotient : (c : goal.After-div_euclid) → c.div_euclid.result ≡ floor_div c.args.g.now.sum c.args.g.now.count

@@ -1,9 +1,6 @@
 use Rattle.std.proofs.Common.{rules, arith, ◌≡◌, ◌∙◌, ◌<◌, ◌≤◌, ◌-◌, ◌+◌, ◌≤ℤ◌, ◌<ℤ◌, ◌+ℤ◌, ℤ, pos, length, get_or, sym, ap, subst, List, FitsSigned}
-use Rattle.std.proofs.lemmas.Int.{to_z-of_z}
-use Rattle.std.specs.Int.{w64}
-use Rattle.tsp_group.specs.Groups.{better}
-use Rattle.tsp_group.specs.Values.{IsAscending}
-use Rattle.tsp_group.specs.Windows.{IsBest, window_of}
+use Rattle.std.{proofs.lemmas.Int.to_z-of_z, specs.Int.w64}
+use Rattle.tsp_group.specs.{Groups.better, Values.IsAscending, Windows.IsBest, Windows.window_of}
 use Rattle.tsp_group.proofs.Slides.{step_tries, step_passes, group_is_window}
 use Rattle.tsp_group.proofs.sweep.advance.Goals as goal
 

@@ -1,8 +1,6 @@
 use Rattle.std.proofs.Common.{arith, ◌≡◌, ◌<◌, length, sym, subst, ◌∙◌}
 use Rattle.std.proofs.lemmas.List.Sorted.{length_permutation, All-permutation, IsPermutation-sym}
-use Rattle.tsp_group.specs.Groups.{group_of, IsLargest}
-use Rattle.tsp_group.specs.Values.{IsNear}
-use Rattle.tsp_group.specs.declared.group.Group.{Group}
+use Rattle.tsp_group.specs.{Groups.group_of, Groups.IsLargest, Values.IsNear, declared.group.Group.Group}
 use Rattle.tsp_group.proofs.LargestGroup.{group_of-IsLargest, IsLargest-unique, group_of-permutation}
 use Rattle.tsp_group.proofs.Majority.{IsLargest-near, IsLargest-majority}
 use Rattle.tsp_group.proofs.sweep.largest.Goals as goal

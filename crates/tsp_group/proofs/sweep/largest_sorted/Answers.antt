@@ -1,8 +1,6 @@
 use Rattle.std.proofs.Common.{arith, ◌≡◌, ◌∙◌, ◌-◌, ℕ, ℤ, List, length, ap, subst}
-use Rattle.tsp_group.specs.Groups.{group_of}
-use Rattle.tsp_group.specs.Windows.{IsBest}
-use Rattle.tsp_group.proofs.BestWindows.{best-IsLargest}
-use Rattle.tsp_group.proofs.LargestGroup.{group_of-IsLargest, IsLargest-unique}
+use Rattle.tsp_group.specs.{Groups.group_of, Windows.IsBest}
+use Rattle.tsp_group.proofs.{BestWindows.best-IsLargest, LargestGroup.group_of-IsLargest, LargestGroup.IsLargest-unique}
 use Rattle.tsp_group.proofs.sweep.largest_sorted.Goals as goal
 
 pub returns-clause-group : goal.returns-clause-group

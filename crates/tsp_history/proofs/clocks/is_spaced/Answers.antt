@@ -1,6 +1,5 @@
 use Rattle.std.proofs.Common.{true, refl, subst}
-use Rattle.tsp_history.specs.Histories.{history_of}
-use Rattle.tsp_history.specs.Spacing.{SpacedBy}
+use Rattle.tsp_history.specs.{Histories.history_of, Spacing.SpacedBy}
 use Rattle.tsp_history.proofs.clocks.is_spaced.Goals as goal
 
 pub returns-in-None : goal.returns-in-None

@@ -1,6 +1,5 @@
 use Rattle.std.proofs.Common.{ap, sym, subst, ◌∷◌, Some}
-use Rattle.tsp_history.specs.Histories.{line_of, deed_of}
-use Rattle.tsp_history.specs.Spacing.{SpacedBy}
+use Rattle.tsp_history.specs.{Histories.line_of, Histories.deed_of, Spacing.SpacedBy}
 use Rattle.tsp_history.proofs.SpacingLemmas.{no-boot, no-correct, spaced-later, spaced-new, spaced-plain}
 use Rattle.tsp_history.proofs.clocks.latest_after.Goals as goal
 

@@ -1,7 +1,6 @@
 use Rattle.std.proofs.Common.{◌≡◌, length, rules, sym, subst, to_z, of_z}
 use Rattle.std.specs.Int.{w128}
-use Rattle.tsp_history.specs.Clocks.{IsSumOf}
-use Rattle.tsp_history.proofs.NoteLemmas.{length-history}
+use Rattle.tsp_history.{proofs.NoteLemmas.length-history, specs.Clocks.IsSumOf}
 use Rattle.tsp_history.proofs.clocks.moved_at.Goals as goal
 
 pub returns-clause-bounded : goal.returns-clause-bounded

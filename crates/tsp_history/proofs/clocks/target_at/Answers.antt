@@ -1,6 +1,5 @@
 use Rattle.std.proofs.Common.{arith, length}
-use Rattle.tsp_history.proofs.NoteLemmas.{length-history, more-small}
-use Rattle.tsp_history.specs.Histories.{history_of}
+use Rattle.tsp_history.{proofs.NoteLemmas.length-history, proofs.NoteLemmas.more-small, specs.Histories.history_of}
 use Rattle.tsp_history.proofs.clocks.target_at.Goals as goal
 
 pub target-requires : goal.target-requires

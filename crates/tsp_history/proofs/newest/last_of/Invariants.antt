@@ -1,7 +1,6 @@
 -- None of the lines that were looked at is the node's.
 use Rattle.std.proofs.Common.{◌≤◌, length, take}
-use Rattle.tsp_history.specs.Histories.{history_of}
-use Rattle.tsp_history.specs.Notes.{Quiet}
+use Rattle.tsp_history.specs.{Histories.history_of, Notes.Quiet}
 use Rattle.tsp_history.proofs.newest.last_of.Given as goal
 
 abbrev pub invariant-loop-left : goal.invariant-loop-left

@@ -1,6 +1,5 @@
 use Rattle.std.proofs.Common.{◌∷◌, ◌+◌, arith, length}
-use Rattle.tsp_history.specs.Histories.{line_of}
-use Rattle.tsp_history.proofs.NoteLemmas.{more-small}
+use Rattle.tsp_history.{proofs.NoteLemmas.more-small, specs.Histories.line_of}
 use Rattle.tsp_history.proofs.notes.node_after.Goals as goal
 
 pub returns : goal.returns

@@ -1,6 +1,5 @@
 use Rattle.std.proofs.Common.{[], rules}
-use Rattle.tsp_history.specs.Histories.{history_of}
-use Rattle.tsp_history.proofs.NoteLemmas.{known-last, known-quiet}
+use Rattle.tsp_history.{proofs.NoteLemmas.known-last, proofs.NoteLemmas.known-quiet, specs.Histories.history_of}
 use Rattle.tsp_history.proofs.notes.node_at.Goals as goal
 
 pub returns-in-Some : goal.returns-in-Some

@@ -1,6 +1,5 @@
 use Rattle.std.proofs.Common.{◌+◌, ◌∙◌, ap, sym, arith, length}
-use Rattle.tsp_history.specs.Histories.{history_of}
-use Rattle.tsp_history.proofs.NoteLemmas.{length-history, more-small}
+use Rattle.tsp_history.{proofs.NoteLemmas.length-history, proofs.NoteLemmas.more-small, specs.Histories.history_of}
 use Rattle.tsp_history.proofs.notes.note_behind.Goals as goal
 
 pub node_after-requires-clause-moved : goal.node_after-requires-clause-moved

@@ -1,7 +1,5 @@
 use Rattle.std.proofs.Common.{◌≡◌, ◌<◌, ◌-◌, true, false, arith, rules, subst, sym, length, take, get_or}
-use Rattle.tsp_history.specs.Histories.{history_of}
-use Rattle.tsp_history.specs.Notes.{IsOwnLine, PortKnown}
-use Rattle.tsp_history.proofs.NoteLemmas.{port-more}
+use Rattle.tsp_history.{proofs.NoteLemmas.port-more, specs.Histories.history_of, specs.Notes.IsOwnLine, specs.Notes.PortKnown}
 use Rattle.tsp_history.proofs.notes.port_at.Goals as goal
 
 pub returns-then-is_own : goal.returns-then-is_own

@@ -1,8 +1,6 @@
 -- What is known of the port before the lines that were looked at is known of it behind them.
 use Rattle.std.proofs.Common.{◌≤◌, length, take}
-use Rattle.tsp_history.specs.declared.notes.PortNote.{PortNote}
-use Rattle.tsp_history.specs.Histories.{history_of}
-use Rattle.tsp_history.specs.Notes.{PortKnown}
+use Rattle.tsp_history.specs.{Histories.history_of, Notes.PortKnown, declared.notes.PortNote.PortNote}
 use Rattle.tsp_history.proofs.notes.port_at.Given as goal
 
 abbrev pub invariant-loop-left : goal.invariant-loop-left

@@ -1,7 +1,6 @@
 use Rattle.std.proofs.Common.{◌<◌, ◌∙◌, ◌-◌, sym, arith, rules, length, take, is_some}
 use Rattle.tsp_base.specs.Words.{dids, of, heard}
-use Rattle.tsp_history.specs.Histories.{history_of}
-use Rattle.tsp_history.proofs.NoteLemmas.{newest-is}
+use Rattle.tsp_history.{proofs.NoteLemmas.newest-is, specs.Histories.history_of}
 use Rattle.tsp_history.proofs.posts.has_taken.Goals as goal
 
 pub returns-in-Some : goal.returns-in-Some

@@ -1,9 +1,7 @@
 use Rattle.std.proofs.Common.{◌≡◌, ◌<◌, ◌+◌, ◌-◌, ◌∷◌, ap, subst, arith, rules, length, take, get_or, List, MatchBool}
 use Rattle.tsp_base.specs.Words.{Line, dids, posted, posted_after}
-use Rattle.tsp_history.specs.Histories.{deed_of, history_of, line_of}
-use Rattle.tsp_history.specs.Posts.{IsPost}
-use Rattle.tsp_history.proofs.HistoryLemmas.{Within-noted}
-use Rattle.tsp_history.proofs.NoteLemmas.{posted-more}
+use Rattle.tsp_history.specs.{Histories.deed_of, Histories.history_of, Histories.line_of, Posts.IsPost}
+use Rattle.tsp_history.proofs.{HistoryLemmas.Within-noted, NoteLemmas.posted-more}
 use Rattle.tsp_history.proofs.posts.post_at.Goals as goal
 use Rattle.tsp_history.proofs.posts.post_at.Goals.{else-is_post-via-then-is_post+else-line-number, else-is_post-via-else-is_post}
 

@@ -1,11 +1,8 @@
 use Rattle.std.proofs.Common.{◌≡◌, ◌<◌, ◌∙◌, ◌-◌, ◌∷◌, arith, rules, length, take, get_or, refl, sym, subst, to_z, of_z}
 use Rattle.std.specs.Int.{w128}
 use Rattle.tsp_base.specs.Words.{of, view, exchange}
-use Rattle.tsp_history.specs.Histories.{history_of, line_of}
-use Rattle.tsp_history.specs.Posts.{IsPost}
-use Rattle.tsp_history.specs.Rounds.{AskedAt}
-use Rattle.tsp_history.proofs.NoteLemmas.{moved-small, newest-is}
-use Rattle.tsp_history.proofs.RoundLemmas.{asked-here}
+use Rattle.tsp_history.specs.{Histories.history_of, Histories.line_of, Posts.IsPost, Rounds.AskedAt}
+use Rattle.tsp_history.proofs.{NoteLemmas.moved-small, NoteLemmas.newest-is, RoundLemmas.asked-here}
 use Rattle.tsp_history.proofs.rounds.asked_at.Goals as goal
 
 pub loop-left-preserved : goal.loop-left-preserved

@@ -1,11 +1,8 @@
 use Rattle.std.proofs.Common.{◌≡◌, ◌<◌, ◌∙◌, ◌-◌, ◌∷◌, ap, sym, subst, refl, rules, arith, length, get_or, take, ℕ, to_z, of_z, Option, None, Some}
-use Rattle.std.proofs.lemmas.List.{take_all}
-use Rattle.std.specs.Int.{w128}
+use Rattle.std.{proofs.lemmas.List.take_all, specs.Int.w128}
 use Rattle.tsp_base.specs.Words.{Sampled, of, view, best}
-use Rattle.tsp_history.specs.declared.rounds.Best.{Best}
-use Rattle.tsp_history.specs.Histories.{line_of, history_of}
 use Rattle.tsp_history.specs.Rounds.{Bests, better_of, sampled_at, trip_at}
-use Rattle.tsp_history.proofs.NoteLemmas.{first-lines}
+use Rattle.tsp_history.{proofs.NoteLemmas.first-lines, specs.Histories.line_of, specs.Histories.history_of, specs.declared.rounds.Best.Best}
 use Rattle.tsp_history.proofs.RoundLemmas.{best-here, line-at, merged, merged-more, merged-none, trip-here}
 use Rattle.tsp_history.proofs.rounds.best_at.Goals as goal
 

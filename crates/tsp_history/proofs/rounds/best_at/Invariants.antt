@@ -1,9 +1,7 @@
 -- The best of all samples is the better of that in the lines that are left and that of the others.
 use Rattle.std.proofs.Common.{◌≤◌, length, take, Option}
 use Rattle.tsp_base.specs.Words.{of, view, best}
-use Rattle.tsp_history.specs.declared.rounds.Best.{Best}
-use Rattle.tsp_history.specs.Histories.{history_of}
-use Rattle.tsp_history.specs.Rounds.{Bests, TripsTell}
+use Rattle.tsp_history.specs.{Histories.history_of, Rounds.Bests, Rounds.TripsTell, declared.rounds.Best.Best}
 use Rattle.tsp_history.proofs.RoundLemmas.{merged}
 use Rattle.tsp_history.proofs.rounds.best_at.Given as goal
 

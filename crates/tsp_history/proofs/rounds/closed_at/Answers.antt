@@ -1,9 +1,7 @@
 use Rattle.std.proofs.Common.{◌≡◌, ◌<◌, ◌∙◌, ◌-◌, arith, rules, length, take, get_or, refl}
 use Rattle.tsp_base.specs.Words.{of, view}
 use Rattle.tsp_promises.specs.StepFacts.{closed}
-use Rattle.tsp_history.specs.Histories.{history_of}
-use Rattle.tsp_history.proofs.NoteLemmas.{begins-port, newest-is}
-use Rattle.tsp_history.proofs.RoundLemmas.{line-at}
+use Rattle.tsp_history.{proofs.NoteLemmas.begins-port, proofs.NoteLemmas.newest-is, proofs.RoundLemmas.line-at, specs.Histories.history_of}
 use Rattle.tsp_history.proofs.rounds.closed_at.Goals as goal
 
 pub loop-left-preserved : goal.loop-left-preserved

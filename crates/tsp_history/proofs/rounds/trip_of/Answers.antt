@@ -1,9 +1,7 @@
 use Rattle.std.proofs.Common.{◌≡◌, ap, sym, ◌∙◌, rules, ◌-ℤ◌, to_z, of_z}
 use Rattle.std.specs.Int.{w128}
-use Rattle.tsp_base.specs.declared.act.Act.TheVariants.{Sample}
-use Rattle.tsp_base.specs.Words.{Acts}
-use Rattle.tsp_history.specs.Histories.{line_of, deed_of, history_of}
-use Rattle.tsp_history.specs.Rounds.{start_of}
+use Rattle.tsp_base.specs.{Words.Acts, declared.act.Act.TheVariants.Sample}
+use Rattle.tsp_history.specs.{Histories.line_of, Histories.deed_of, Histories.history_of, Rounds.start_of}
 use Rattle.tsp_history.proofs.RoundLemmas.{trip-told}
 use Rattle.tsp_history.proofs.rounds.trip_of.Goals as goal
 

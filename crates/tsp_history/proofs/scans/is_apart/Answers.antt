@@ -1,6 +1,5 @@
 use Rattle.std.proofs.Common.{ap, rules}
-use Rattle.tsp_history.specs.Histories.{deed_of, line_of}
-use Rattle.tsp_history.proofs.HistoryLemmas.{apart-told}
+use Rattle.tsp_history.{proofs.HistoryLemmas.apart-told, specs.Histories.deed_of, specs.Histories.line_of}
 use Rattle.tsp_history.proofs.scans.is_apart.Goals as goal
 
 pub returns-else-eq : goal.returns-else-eq

@@ -1,9 +1,7 @@
 use Rattle.std.proofs.Common.{◌≡◌, ◌∙◌, ◌∷◌, ◌+◌, ap, arith, sym, rules, subst, drop, get_or, List}
 use Rattle.std.proofs.lemmas.List.{at_drop_all, drop_more}
 use Rattle.tsp_promises.specs.Everywhere.{Everywhere}
-use Rattle.tsp_history.specs.declared.line.HistoryLine.{HistoryLine}
-use Rattle.tsp_history.specs.Histories.{line_of, noted_after}
-use Rattle.tsp_history.specs.Holding.{HoldsApart}
+use Rattle.tsp_history.specs.{Histories.line_of, Histories.noted_after, Holding.HoldsApart, declared.line.HistoryLine.HistoryLine}
 use Rattle.tsp_history.proofs.HistoryLemmas.{Everywhere-before}
 use Rattle.tsp_history.proofs.scans.is_held.Goals as goal
 

@@ -2,8 +2,7 @@
 use Rattle.std.proofs.Common.{◌≡◌, List, [], drop}
 use Rattle.tsp_promises.specs.Everywhere.{Everywhere}
 use Rattle.tsp_base.specs.Words.{Line}
-use Rattle.tsp_history.specs.Histories.{noted_after}
-use Rattle.tsp_history.specs.Holding.{HoldsApart}
+use Rattle.tsp_history.specs.{Histories.noted_after, Holding.HoldsApart}
 use Rattle.tsp_history.proofs.scans.is_held.Given as goal
 
 abbrev pub invariant-loop-line : goal.invariant-loop-line

@@ -1,8 +1,6 @@
 use Rattle.std.proofs.Common.{◌≡◌, ◌<◌, ◌∙◌, ◌-◌, ◌∷◌, true, false, if◌then◌else◌, ap, arith, rules, length, take, get_or, refl, sym}
 use Rattle.tsp_base.specs.Words.{Here, of, view, acting, begun_to, open_to}
-use Rattle.tsp_history.specs.Histories.{history_of, line_of}
-use Rattle.tsp_history.proofs.NoteLemmas.{newest-is}
-use Rattle.tsp_history.proofs.SendLemmas.{sent-here}
+use Rattle.tsp_history.{proofs.NoteLemmas.newest-is, proofs.SendLemmas.sent-here, specs.Histories.history_of, specs.Histories.line_of}
 use Rattle.tsp_history.proofs.sends.send_begun_to.Goals as goal
 
 pub loop-left-preserved-in-Keeps : goal.loop-left-preserved-in-Keeps

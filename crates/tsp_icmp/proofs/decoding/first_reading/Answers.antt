@@ -1,7 +1,6 @@
 use Rattle.std.proofs.Common.{◌≡◌, arith, sym, ◌∙◌}
 use Rattle.tsp_icmp.specs.Spelling.{type_of, octet}
-use Rattle.tsp_icmp.proofs.Octets.{read_is}
-use Rattle.tsp_icmp.proofs.decoding.first_reading.Goals.{in-13, in-14}
+use Rattle.tsp_icmp.proofs.{Octets.read_is, decoding.first_reading.Goals.in-13, decoding.first_reading.Goals.in-14}
 use Rattle.tsp_icmp.proofs.decoding.first_reading.Goals as goal
 
 pub returns : goal.returns

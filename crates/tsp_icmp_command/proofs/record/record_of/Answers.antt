@@ -1,8 +1,6 @@
 use Rattle.std.proofs.Common.{◌∙◌, sym, ap, subst, arith, length}
-use Rattle.tsp_script.specs.Schedules.{IsHost}
-use Rattle.tsp_script.specs.Words.{first_word, after_word}
-use Rattle.tsp_icmp_command.specs.Records.{SaysInHex}
-use Rattle.tsp_icmp_command.proofs.Cuts.{length-first_word, length-after_word}
+use Rattle.tsp_script.specs.{Schedules.IsHost, Words.first_word, Words.after_word}
+use Rattle.tsp_icmp_command.{proofs.Cuts.length-first_word, proofs.Cuts.length-after_word, specs.Records.SaysInHex}
 use Rattle.tsp_icmp_command.proofs.RecordLemmas.{HasWords-IsRecord, IsRecord-words, MatchOption-none}
 use Rattle.tsp_icmp_command.proofs.record.record_of.Goals as goal
 

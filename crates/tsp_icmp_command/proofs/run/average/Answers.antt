@@ -1,7 +1,5 @@
-use Rattle.tsp_lines.proofs.Leaving.{Accepts-treated}
-use Rattle.tsp_lines.proofs.OneAnswer.{Agrees-outcome}
-use Rattle.tsp_lines.specs.declared.limits.TheConstants.{MOST_INPUT}
-use Rattle.tsp_lines.specs.declared.treat.Outcome.TheVariants.{Ok as Done}
+use Rattle.tsp_lines.proofs.{Leaving.Accepts-treated, OneAnswer.Agrees-outcome}
+use Rattle.tsp_lines.specs.declared.{limits.TheConstants.MOST_INPUT, treat.Outcome.TheVariants.Ok as Done}
 use Rattle.tsp_icmp_command.proofs.Definites.{IsDefinite-averaging, answer_exchanges}
 use Rattle.tsp_icmp_command.proofs.run.average.Goals as goal
 

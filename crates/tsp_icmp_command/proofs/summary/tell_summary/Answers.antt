@@ -1,6 +1,5 @@
 use Rattle.std.proofs.Common.{rules, ◌≡◌, ◌∙◌, to_z, of_z, FitsSigned}
-use Rattle.std.proofs.lemmas.Int.{to_z-of_z}
-use Rattle.std.specs.Int.{w64}
+use Rattle.std.{proofs.lemmas.Int.to_z-of_z, specs.Int.w64}
 use Rattle.tsp_group.specs.Groups.{mean_of}
 use Rattle.tsp_lines.specs.Lines.{close}
 use Rattle.tsp_icmp_command.specs.Bests.{group_line, corrections, summary_of}

@@ -1,5 +1,4 @@
-use Rattle.std.proofs.Common.{◌≡◌, ◌∙◌, sym, arith, Some, None}
-use Rattle.std.specs.Prelude.{position}
+use Rattle.std.proofs.Common.{◌≡◌, ◌∙◌, sym, arith, Some, None, position}
 use Rattle.std.specs.Str.{bytes_eq}
 use Rattle.tsp_icmp_command.proofs.Notes.{note-replaces, note-keeps, note-adds}
 use Rattle.tsp_icmp_command.proofs.tally.note.Goals as goal

@@ -1,5 +1,4 @@
-use Rattle.std.proofs.Common.{nat_eq}
-use Rattle.std.specs.Prelude.{take}
+use Rattle.std.proofs.Common.{nat_eq, take}
 use Rattle.std.specs.HashMap.{get}
 use Rattle.tsp_io.specs.Directories.{AreNumbers}
 use Rattle.tsp_io.proofs.directory.numbers_of.Given as goal

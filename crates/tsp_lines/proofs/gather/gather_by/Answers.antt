@@ -1,10 +1,7 @@
 -- What was read so far goes on with what the next read adds.
-use Rattle.std.specs.Prelude.{◌≡◌, refl}
-use Rattle.std.proofs.Common.{◌∙◌, ap, arith, sym}
-use Rattle.tsp_lines.specs.declared.gather.Added.TheVariants.{Fault}
-use Rattle.tsp_lines.specs.declared.gather.Ungathered.TheVariants.{ReadFault}
-use Rattle.tsp_lines.proofs.Streams.{Gives-nil}
-use Rattle.tsp_lines.proofs.Faults.{Counts-from}
+use Rattle.std.proofs.Common.{◌∙◌, ap, arith, sym, ◌≡◌, refl}
+use Rattle.tsp_lines.specs.declared.gather.{Added.TheVariants.Fault, Ungathered.TheVariants.ReadFault}
+use Rattle.tsp_lines.proofs.{Faults.Counts-from, Streams.Gives-nil}
 use Rattle.tsp_lines.proofs.Gatherings.{Gathers-end, Gathers-past, Gives-more, more_added, ReadsWhole-fault}
 use Rattle.tsp_lines.proofs.gather.gather_by.Goals as goal
 

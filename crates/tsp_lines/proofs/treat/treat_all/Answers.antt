@@ -1,10 +1,7 @@
 use Rattle.std.proofs.Common.{sym, ap, ◌∙◌, subst, refl, Some, Ok, Err}
-use Rattle.tsp_lines.specs.Outcomes.{Comes}
-use Rattle.tsp_lines.specs.Turns.{TriesHeld}
-use Rattle.tsp_lines.specs.declared.treat.Outcome.TheVariants.{OutOfMemory}
-use Rattle.tsp_lines.proofs.KeepingUp.{KeepsUp-grew, KeepsUp-nothing}
+use Rattle.tsp_lines.specs.{Outcomes.Comes, Turns.TriesHeld, declared.treat.Outcome.TheVariants.OutOfMemory}
+use Rattle.tsp_lines.proofs.{KeepingUp.KeepsUp-grew, KeepingUp.KeepsUp-nothing, OneAnswer.Comes-answers}
 use Rattle.tsp_lines.proofs.Leaving.{Err-one, Leaves-nothing, Leaves-since, Leaves-unwritten, Ok-no_error}
-use Rattle.tsp_lines.proofs.OneAnswer.{Comes-answers}
 use Rattle.tsp_lines.proofs.Turns.{Comes-nothing, IsAt-open}
 use Rattle.tsp_lines.proofs.treat.treat_all.Goals as goal
 

@@ -1,6 +1,5 @@
 use Rattle.std.proofs.Common.{◌≡◌, ◌≤◌, ◌+◌, ◌-◌, ℕ, List, length, false}
-use Rattle.tsp_lines.specs.Outcomes.{KeepsUp}
-use Rattle.tsp_lines.specs.Turns.{IsAt}
+use Rattle.tsp_lines.specs.{Outcomes.KeepsUp, Turns.IsAt}
 use Rattle.tsp_lines.proofs.treat.treat_all.Given as goal
 
 abbrev pub invariant-loop-progress : goal.invariant-loop-progress

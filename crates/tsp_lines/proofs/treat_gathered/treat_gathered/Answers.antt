@@ -1,14 +1,10 @@
 -- What comes of the octets that were gathered comes of the input.
-use Rattle.std.specs.Prelude.{◌≡◌, [], Some, Err, drop, refl}
-use Rattle.std.proofs.Common.{◌∙◌, ap, sym, arith}
-use Rattle.tsp_lines.specs.Outcomes.{Comes}
+use Rattle.std.proofs.Common.{◌∙◌, ap, sym, arith, ◌≡◌, [], Some, Err, drop, refl}
+use Rattle.tsp_lines.specs.{Outcomes.Comes, declared.treat.Outcome.TheVariants.ReadFault, declared.treat.Outcome.TheVariants.OutOfMemory}
 use Rattle.tsp_lines.specs.declared.gather.Ungathered.TheVariants.{ReadFault as NotRead, OutOfMemory as NoMemory}
-use Rattle.tsp_lines.specs.declared.treat.Outcome.TheVariants.{ReadFault, OutOfMemory}
-use Rattle.tsp_lines.proofs.OneAnswer.{Comes-answers}
-use Rattle.tsp_lines.proofs.Turns.{Comes-nothing}
+use Rattle.tsp_lines.proofs.{OneAnswer.Comes-answers, Outputs.Grows-nil, Turns.Comes-nothing}
 use Rattle.tsp_lines.proofs.WholeInputs.{Comes-given, ComesGathered-comes, ended-given}
 use Rattle.tsp_lines.proofs.treat_gathered.treat_gathered.Goals as goal
-use Rattle.tsp_lines.proofs.Outputs.{Grows-nil}
 
 pub returns-in-Ok : goal.returns-in-Ok
 returns-in-Ok g c =

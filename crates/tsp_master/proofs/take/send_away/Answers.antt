@@ -1,13 +1,10 @@
 -- The row's test is the station's.
 use Rattle.std.proofs.Common.{sym, ◌∙◌, ap}
-use Rattle.tsp_rules.specs.Values.{QuitKind}
 use Rattle.tsp_base.specs.Words.{nothing}
 use Rattle.tsp_base.proofs.PerformsLemmas.{Performs_then_part, Performs_else_part, Performs_nothing}
-use Rattle.tsp_rules.specs.MasterRows.{sends_away}
-use Rattle.tsp_rules.specs.SendRows.{begins, has_quit, is_kind_quit}
+use Rattle.tsp_rules.specs.{MasterRows.sends_away, SendRows.begins, SendRows.has_quit, SendRows.is_kind_quit, Values.QuitKind}
 use Rattle.tsp_acks.specs.Openings.{is_of}
-use Rattle.tsp_master.proofs.TakeLemmas.{has_quit-is}
-use Rattle.tsp_master.proofs.RoomLemmas.{once}
+use Rattle.tsp_master.proofs.{RoomLemmas.once, TakeLemmas.has_quit-is}
 use Rattle.tsp_master.proofs.take.send_away.Goals as goal
 
 pub returns-then-not-is_quit-clause-row : goal.returns-then-not-is_quit-clause-row

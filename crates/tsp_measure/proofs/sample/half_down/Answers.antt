@@ -1,6 +1,5 @@
 use Rattle.std.proofs.Common.{rules, FitsSigned, ◌∙◌}
-use Rattle.std.proofs.lemmas.Int.{to_z-of_z}
-use Rattle.std.specs.Int.{w64}
+use Rattle.std.{proofs.lemmas.Int.to_z-of_z, specs.Int.w64}
 use Rattle.tsp_measure.proofs.Halves.{div_euclid_half}
 use Rattle.tsp_measure.proofs.sample.half_down.Goals as goal
 

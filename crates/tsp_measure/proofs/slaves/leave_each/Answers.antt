@@ -1,6 +1,5 @@
 -- One entry more is changed; at the end all are.
-use Rattle.tsp_measure.specs.Slaves.{idle_entry, leaves}
-use Rattle.tsp_measure.proofs.Entries.{mapped_more, mapped_all}
+use Rattle.tsp_measure.{proofs.Entries.mapped_more, proofs.Entries.mapped_all, specs.Slaves.idle_entry, specs.Slaves.leaves}
 use Rattle.tsp_measure.proofs.slaves.leave_each.Goals as goal
 
 pub loop-entry-preserved : goal.loop-entry-preserved

@@ -1,8 +1,7 @@
 -- A binary search by the peers' numbers.
 use Rattle.std.proofs.Common.{rules}
 use Rattle.std.proofs.lemmas.List.Sorted.{answers_always}
-use Rattle.tsp_measure.specs.declared.entry.Entry.{Entry}
-use Rattle.tsp_measure.proofs.Entries.{Rising-peers, IsPlaceOf-searched}
+use Rattle.tsp_measure.{proofs.Entries.Rising-peers, proofs.Entries.IsPlaceOf-searched, specs.declared.entry.Entry.Entry}
 use Rattle.tsp_measure.proofs.slaves.place_of.Goals as goal
 
 pub returns : goal.returns

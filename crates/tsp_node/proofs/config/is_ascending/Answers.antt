@@ -1,7 +1,6 @@
 -- A list whose neighbours rise is ascending.
-use Rattle.std.proofs.Common.{rules}
+use Rattle.std.proofs.Common.{rules, nat_lt}
 use Rattle.std.proofs.lemmas.List.Sorted.{answers_always}
-use Rattle.std.specs.Prelude.{nat_lt}
 use Rattle.tsp_node.proofs.ConfigLemmas.{IsAscending-answer}
 use Rattle.tsp_node.proofs.config.is_ascending.Goals as goal
 

@@ -1,6 +1,5 @@
 -- Few enough, ascending, and the own number among them.
-use Rattle.std.specs.Prelude.{◌≡◌}
-use Rattle.std.proofs.Common.{◌∙◌, sym}
+use Rattle.std.proofs.Common.{◌∙◌, sym, ◌≡◌}
 use Rattle.tsp_base.specs.Words.{is_among}
 use Rattle.tsp_node.proofs.ConfigLemmas.{list_any-is_among}
 use Rattle.tsp_node.proofs.config.is_port.Goals as goal

@@ -1,12 +1,9 @@
 -- The tests of all alarms are that of the earliest.
-use Rattle.std.specs.Prelude.{slice_index_or}
-use Rattle.std.proofs.Common.{◌≡◌, ◌∙◌, ℕ, arith, false, inl, inr, subst, sym}
+use Rattle.std.proofs.Common.{◌≡◌, ◌∙◌, ℕ, arith, false, inl, inr, subst, sym, slice_index_or}
 use Rattle.std.proofs.lemmas.Bool.{cases_lt}
-use Rattle.tsp_rules.specs.Values.{Alarm, Quiet, ALL}
 use Rattle.tsp_base.specs.Words.{deadline}
-use Rattle.tsp_rules.specs.Guards.{is_over}
-use Rattle.tsp_node.proofs.AlarmOrder.{at_place, has_place, place}
-use Rattle.tsp_node.proofs.DueLemmas.{none_over, over-at}
+use Rattle.tsp_rules.specs.{Guards.is_over, Values.Alarm, Values.Quiet, Values.ALL}
+use Rattle.tsp_node.proofs.{AlarmOrder.at_place, AlarmOrder.has_place, AlarmOrder.place, DueLemmas.none_over, DueLemmas.over-at}
 use Rattle.tsp_node.proofs.readings.is_any_due.Goals as goal
 
 pub returns-then-is_due : goal.returns-then-is_due

@@ -1,9 +1,7 @@
 -- None of the alarms so far is due.
-use Rattle.std.proofs.Common.{◌≡◌, ◌<◌, ℕ, false}
-use Rattle.std.specs.Prelude.{slice_index_or}
-use Rattle.tsp_rules.specs.Values.{Quiet, ALL}
+use Rattle.std.proofs.Common.{◌≡◌, ◌<◌, ℕ, false, slice_index_or}
 use Rattle.tsp_base.specs.Words.{deadline}
-use Rattle.tsp_rules.specs.Guards.{is_over}
+use Rattle.tsp_rules.specs.{Guards.is_over, Values.Quiet, Values.ALL}
 use Rattle.tsp_node.proofs.readings.is_any_due.Given as goal
 
 abbrev pub invariant-loop-alarm : goal.invariant-loop-alarm

@@ -1,12 +1,9 @@
 -- A reply where the target is a clock's value, else nothing.
 use Rattle.std.proofs.Common.{◌≡◌, refl, ◌∙◌}
-use Rattle.tsp_rules.specs.Values.{Reply}
 use Rattle.tsp_base.specs.Words.{plain, ticket, target}
 use Rattle.tsp_base.proofs.PerformsLemmas.{Performs_nothing, Performs_then_part, Performs_else_part}
-use Rattle.tsp_rules.specs.CommonRows.{replies, posts_reply}
-use Rattle.tsp_rules.specs.Guards.{is_in_range}
-use Rattle.tsp_node.specs.NodeStands.{port_with}
-use Rattle.tsp_node.proofs.NodeLemmas.{PortStands_stamp}
+use Rattle.tsp_rules.specs.{CommonRows.replies, CommonRows.posts_reply, Guards.is_in_range, Values.Reply}
+use Rattle.tsp_node.{proofs.NodeLemmas.PortStands_stamp, specs.NodeStands.port_with}
 use Rattle.tsp_node.proofs.reply.reply.Goals as goal
 
 pub returns-in-Some-clause-row : goal.returns-in-Some-clause-row

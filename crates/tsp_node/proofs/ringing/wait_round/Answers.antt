@@ -3,8 +3,7 @@ use Rattle.std.proofs.Common.{true, ap, sym, ◌∙◌}
 use Rattle.tsp_rules.specs.Values.{Ring, Late, Round, ROUND}
 use Rattle.tsp_base.specs.Words.{Deadlines, arms, puts, ◌followed_by◌}
 use Rattle.tsp_base.proofs.PerformsLemmas.{Performs_else_part, Performs_then, Performs_then_part}
-use Rattle.tsp_rules.specs.RoundRows.{begins_or_waits, round_rings}
-use Rattle.tsp_rules.specs.Guards.{is_in_time, is_met}
+use Rattle.tsp_rules.specs.{Guards.is_in_time, Guards.is_met, RoundRows.begins_or_waits, RoundRows.round_rings}
 use Rattle.tsp_node.proofs.ringing.wait_round.Goals as goal
 
 pub returns-then-is_in_time-clause-row : goal.returns-then-is_in_time-clause-row

@@ -1,6 +1,5 @@
 use Rattle.tsp_promises.proofs.safe.estimates_use.Goals as goal
-use Rattle.tsp_promises.proofs.WitnessEnded.{ended_use}
-use Rattle.tsp_promises.proofs.WitnessEstimates.{estimates_use}
+use Rattle.tsp_promises.proofs.{WitnessEnded.ended_use, WitnessEstimates.estimates_use}
 
 pub returns-clause-begins : goal.returns-clause-begins
 returns-clause-begins c = estimates_use

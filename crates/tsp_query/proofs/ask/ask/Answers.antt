@@ -1,6 +1,5 @@
 use Rattle.std.proofs.Common.{◌∙◌, refl}
-use Rattle.tsp_query.specs.Ends.{after_send}
-use Rattle.tsp_query.proofs.AskLemmas.{asks-listens}
+use Rattle.tsp_query.{proofs.AskLemmas.asks-listens, specs.Ends.after_send}
 use Rattle.tsp_query.proofs.ask.ask.Goals as goal
 
 pub returns-in-Sent-clause-asks : goal.returns-in-Sent-clause-asks

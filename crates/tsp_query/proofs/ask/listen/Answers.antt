@@ -1,7 +1,5 @@
 use Rattle.std.proofs.Common.{◌≡◌, ◌∙◌, refl, ap, arith, ◌+◌, ◌-◌, ◌≤◌}
-use Rattle.tsp_query.specs.Arrivals.{asked_from}
-use Rattle.tsp_query.specs.Clocks.{tick_given}
-use Rattle.tsp_query.specs.Ends.{heard_times, receives}
+use Rattle.tsp_query.specs.{Arrivals.asked_from, Clocks.tick_given, Ends.heard_times, Ends.receives}
 use Rattle.tsp_query.proofs.AskLemmas.{after-reading, after-next, asked-step, asked-hit, asked-none, receives-least, tells-all, no-wait, one-wait}
 use Rattle.tsp_query.proofs.ask.listen.Goals as goal
 

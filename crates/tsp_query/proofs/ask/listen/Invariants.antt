@@ -1,6 +1,5 @@
 use Rattle.std.proofs.Common.{◌≡◌, ◌≤◌, ◌-◌}
-use Rattle.tsp_query.specs.Arrivals.{first_answer, asked_from}
-use Rattle.tsp_query.specs.Ends.{Outside, KnowsExactly, WaitsSeconds}
+use Rattle.tsp_query.specs.{Arrivals.first_answer, Arrivals.asked_from, Ends.Outside, Ends.KnowsExactly, Ends.WaitsSeconds}
 use Rattle.tsp_query.specs.Ends.{heard_times}
 use Rattle.tsp_query.proofs.ask.listen.Given as goal
 

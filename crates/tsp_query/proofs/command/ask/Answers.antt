@@ -1,6 +1,5 @@
 use Rattle.std.proofs.Common.{inl, inr, refl}
-use Rattle.tsp_query.specs.Outside.{after_bind}
-use Rattle.tsp_query.proofs.FaultLemmas.{LinkCounts-from}
+use Rattle.tsp_query.{proofs.FaultLemmas.LinkCounts-from, specs.Outside.after_bind}
 use Rattle.tsp_query.proofs.OutsideLemmas.{NotesBind_failed, NotesBind_made, NotesBind_refused, Notes_same, Tells_bound, Says_from}
 use Rattle.tsp_query.proofs.command.ask.Goals as goal
 

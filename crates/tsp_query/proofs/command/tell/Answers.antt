@@ -1,6 +1,5 @@
 use Rattle.std.proofs.Common.{◌∙◌, inl, inr, refl}
-use Rattle.tsp_query.proofs.OutsideLemmas.{Says_cut}
-use Rattle.tsp_query.proofs.LineLemmas.{no_line}
+use Rattle.tsp_query.proofs.{LineLemmas.no_line, OutsideLemmas.Says_cut}
 use Rattle.tsp_query.proofs.command.tell.Goals as goal
 
 pub returns-in-WriteFault-clause-says : goal.returns-in-WriteFault-clause-says

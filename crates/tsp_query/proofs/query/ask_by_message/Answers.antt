@@ -1,7 +1,6 @@
 use Rattle.std.proofs.Common.{◌≡◌, ℕ, arith}
 use Rattle.tsp_query.specs.Queries.{read_twice}
-use Rattle.tsp_query.proofs.AskLemmas.{of_some}
-use Rattle.tsp_query.proofs.QueryLemmas.{asks-message, tells-twice, once_asked}
+use Rattle.tsp_query.proofs.{AskLemmas.of_some, QueryLemmas.asks-message, QueryLemmas.tells-twice, QueryLemmas.once_asked}
 use Rattle.tsp_query.proofs.query.ask_by_message.Goals as goal
 
 pub returns-clause-asks : goal.returns-clause-asks

@@ -1,10 +1,7 @@
 use Rattle.std.proofs.Common.{◌≡◌, ◌∙◌, ap, ℕ, ℤ}
-use Rattle.tsp_query.specs.Clocks.{tick_given}
-use Rattle.tsp_query.specs.Queries.{read_twice, stamp}
-use Rattle.tsp_query.specs.declared.question.Question.TheVariants.{OfWord}
+use Rattle.tsp_query.specs.{Clocks.tick_given, Queries.read_twice, Queries.stamp, declared.question.Question.TheVariants.OfWord}
 use Rattle.tsp_query.specs.declared.ask.AskEnd.TheVariants.{Answer, NoAnswer, LinkFault, OutOfMemory}
-use Rattle.tsp_query.proofs.AskLemmas.{of_some}
-use Rattle.tsp_query.proofs.QueryLemmas.{asks-stamp, tells-twice, ends-diff}
+use Rattle.tsp_query.proofs.{AskLemmas.of_some, QueryLemmas.asks-stamp, QueryLemmas.tells-twice, QueryLemmas.ends-diff}
 use Rattle.tsp_query.proofs.query.clockdiff.Goals as goal
 
 pub returns-in-NoAnswer-clause-asks : goal.returns-in-NoAnswer-clause-asks

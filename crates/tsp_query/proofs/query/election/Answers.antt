@@ -1,7 +1,6 @@
 use Rattle.std.proofs.Common.{◌%◌}
 use Rattle.tsp_base.specs.declared.kind.Kind.TheVariants.{Test}
-use Rattle.tsp_query.specs.Queries.{message, heard_in}
-use Rattle.tsp_query.specs.declared.question.Question.TheVariants.{OfNumber}
+use Rattle.tsp_query.specs.{Queries.message, Queries.heard_in, declared.question.Question.TheVariants.OfNumber}
 use Rattle.tsp_query.proofs.QueryLemmas.{fits-test, ends-heard, counts_end}
 use Rattle.tsp_query.proofs.query.election.Goals as goal
 

@@ -1,7 +1,6 @@
 use Rattle.std.proofs.Common.{◌%◌}
 use Rattle.tsp_base.specs.declared.kind.Kind.TheVariants.{Msite}
-use Rattle.tsp_query.specs.Queries.{message, master_in}
-use Rattle.tsp_query.specs.declared.question.Question.TheVariants.{OfNumber}
+use Rattle.tsp_query.specs.{Queries.message, Queries.master_in, declared.question.Question.TheVariants.OfNumber}
 use Rattle.tsp_query.proofs.QueryLemmas.{fits-msite, ends-master, counts_end}
 use Rattle.tsp_query.proofs.query.msite.Goals as goal
 

@@ -1,7 +1,6 @@
 use Rattle.std.proofs.Common.{arith}
 use Rattle.std.proofs.lemmas.Int.{ints}
-use Rattle.tsp_query.specs.Queries.{reading_in}
-use Rattle.tsp_query.proofs.SampleLemmas.{diff_is, err_is, diff_end}
+use Rattle.tsp_query.{proofs.SampleLemmas.diff_is, proofs.SampleLemmas.err_is, proofs.SampleLemmas.diff_end, specs.Queries.reading_in}
 use Rattle.tsp_query.proofs.query.sample.Goals as goal
 
 pub returns : goal.returns

@@ -1,6 +1,5 @@
 use Rattle.std.proofs.Common.{◌%◌}
-use Rattle.tsp_query.specs.Queries.{date_message, date_answer}
-use Rattle.tsp_query.specs.declared.question.Question.TheVariants.{OfDate}
+use Rattle.tsp_query.specs.{Queries.date_message, Queries.date_answer, declared.question.Question.TheVariants.OfDate}
 use Rattle.tsp_query.proofs.QueryLemmas.{fits-date, ends-date, counts_end}
 use Rattle.tsp_query.proofs.query.setdate.Goals as goal
 

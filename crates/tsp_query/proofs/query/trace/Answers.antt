@@ -1,6 +1,5 @@
 use Rattle.std.proofs.Common.{◌%◌}
-use Rattle.tsp_query.specs.Queries.{message, trace_kind, heard_in}
-use Rattle.tsp_query.specs.declared.question.Question.TheVariants.{OfNumber}
+use Rattle.tsp_query.specs.{Queries.message, Queries.trace_kind, Queries.heard_in, declared.question.Question.TheVariants.OfNumber}
 use Rattle.tsp_query.proofs.QueryLemmas.{fits-trace, ends-heard, counts_end}
 use Rattle.tsp_query.proofs.query.trace.Goals as goal
 

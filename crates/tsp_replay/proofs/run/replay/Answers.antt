@@ -1,7 +1,5 @@
-use Rattle.tsp_lines.proofs.Leaving.{Accepts-treated}
-use Rattle.tsp_lines.proofs.OneAnswer.{Agrees-outcome}
-use Rattle.tsp_lines.specs.declared.limits.TheConstants.{MOST_INPUT}
-use Rattle.tsp_lines.specs.declared.treat.Outcome.TheVariants.{Ok as Done}
+use Rattle.tsp_lines.proofs.{Leaving.Accepts-treated, OneAnswer.Agrees-outcome}
+use Rattle.tsp_lines.specs.declared.{limits.TheConstants.MOST_INPUT, treat.Outcome.TheVariants.Ok as Done}
 use Rattle.tsp_replay.proofs.Definites.{IsDefinite-replaying, answer_schedule}
 use Rattle.tsp_replay.proofs.run.replay.Goals as goal
 

@@ -1,10 +1,7 @@
 -- Where a line fails, what was handed over is what came before it.
-use Rattle.std.proofs.Common.{◌≡◌, ◌∙◌, ap, sym, ◌++◌, ◌∷◌, [], ◌+◌, List, ℕ, Ok, Err, get_or, append-nil, append_assoc, drop, rules, subst}
-use Rattle.std.specs.Prelude.{OnErr, Option}
-use Rattle.std.specs.declared.result.Result.{Result}
-use Rattle.std.proofs.lemmas.List.{drop_more}
-use Rattle.tsp_lines.specs.Outputs.{Hands}
-use Rattle.tsp_lines.proofs.Outputs.{Hands-trans}
+use Rattle.std.proofs.Common.{◌≡◌, ◌∙◌, ap, sym, ◌++◌, ◌∷◌, [], ◌+◌, List, ℕ, Ok, Err, get_or, append-nil, append_assoc, drop, rules, subst, OnErr, Option}
+use Rattle.std.{proofs.lemmas.List.drop_more, specs.declared.result.Result.Result}
+use Rattle.tsp_lines.{proofs.Outputs.Hands-trans, specs.Outputs.Hands}
 use Rattle.tsp_run.specs.declared.line.Line.{Line}
 use Rattle.tsp_replay.specs.Traces.{lines_text, line_text}
 use Rattle.tsp_replay.proofs.tell.tell.Goals as goal

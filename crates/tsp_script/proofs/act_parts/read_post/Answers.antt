@@ -1,8 +1,6 @@
-use Rattle.std.proofs.Common.{◌≡◌, ◌∙◌, ◌++◌, ◌∷◌, List, ℕ, refl, ap, Ok, Err}
-use Rattle.std.specs.Prelude.{decimal}
+use Rattle.std.proofs.Common.{◌≡◌, ◌∙◌, ◌++◌, ◌∷◌, List, ℕ, refl, ap, Ok, Err, decimal}
 use Rattle.tsp_base.specs.declared.act.Act.TheVariants.{Post}
-use Rattle.tsp_script.specs.Texts.{message_text}
-use Rattle.tsp_script.specs.Traces.{place_text}
+use Rattle.tsp_script.specs.{Texts.message_text, Traces.place_text}
 use Rattle.tsp_script.proofs.act_parts.read_post.Goals as goal
 
 pub returns-in_err-to-clause-reads : goal.returns-in_err-to-clause-reads

@@ -1,7 +1,6 @@
 use Rattle.std.proofs.Common.{◌∙◌, refl, ap, Some}
 use Rattle.tsp_base.specs.declared.act.Act.TheVariants.{Took}
-use Rattle.tsp_script.specs.Traces.{taken_text}
-use Rattle.tsp_script.proofs.Outcomes.{some_injective, none_not_some}
+use Rattle.tsp_script.{proofs.Outcomes.some_injective, proofs.Outcomes.none_not_some, specs.Traces.taken_text}
 use Rattle.tsp_script.proofs.act_parts.read_took.Goals as goal
 
 pub returns-in_err-from-clause-reads : goal.returns-in_err-from-clause-reads

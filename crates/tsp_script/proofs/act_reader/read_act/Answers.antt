@@ -1,9 +1,6 @@
-use Rattle.std.proofs.Common.{◌≡◌, ◌∙◌, refl, sym, ap, ℕ, List, inl, inr, rules}
-use Rattle.std.specs.Prelude.{IsSomeAnd}
+use Rattle.std.proofs.Common.{◌≡◌, ◌∙◌, refl, sym, ap, ℕ, List, inl, inr, rules, IsSomeAnd}
 use Rattle.tsp_base.specs.declared.act.Act.{Act}
-use Rattle.tsp_script.specs.Traces.{act_text}
-use Rattle.tsp_script.specs.Verbs.{verb_word, verb_of, rest_of_act}
-use Rattle.tsp_script.specs.Words.{first_word, after_word}
+use Rattle.tsp_script.specs.{Traces.act_text, Verbs.verb_word, Verbs.verb_of, Verbs.rest_of_act, Words.first_word, Words.after_word}
 use Rattle.tsp_script.proofs.ActCases.{post_case, other_case, post_differs}
 use Rattle.tsp_script.proofs.ActTexts.{act_splits, joined_found, lone_case, not_lone}
 use Rattle.tsp_script.proofs.Outcomes.{some_injective, none_not_some, if_some-then}

@@ -1,8 +1,6 @@
 -- None of the alarms so far has the word.
 use Rattle.std.proofs.Common.{◌≡◌, ℕ, ◌<◌, slice_index_or}
-use Rattle.tsp_base.specs.declared.alarm.Alarm.{Alarm}
-use Rattle.tsp_base.specs.declared.alarm.TheConstants.Alarm.{ALL}
-use Rattle.tsp_base.specs.Words.{alarm_word}
+use Rattle.tsp_base.specs.{Words.alarm_word, declared.alarm.Alarm.Alarm, declared.alarm.TheConstants.Alarm.ALL}
 use Rattle.tsp_script.proofs.act_words.alarm_of.Given as goal
 
 abbrev pub invariant-loop-alarm : goal.invariant-loop-alarm

@@ -1,6 +1,5 @@
 use Rattle.std.proofs.Common.{append_assoc}
-use Rattle.std.specs.Int.{w64}
-use Rattle.std.proofs.lemmas.Int.{to_z-of_z}
+use Rattle.std.{proofs.lemmas.Int.to_z-of_z, specs.Int.w64}
 use Rattle.tsp_script.proofs.acts.append_correct.Goals as goal
 
 pub returns : goal.returns

@@ -1,5 +1,4 @@
-use Rattle.std.proofs.Common.{◌/◌, ◌%◌, ◌++◌, refl, arith}
-use Rattle.std.specs.Prelude.{decimal}
+use Rattle.std.proofs.Common.{◌/◌, ◌%◌, ◌++◌, refl, arith, decimal}
 use Rattle.itoa.proofs.Decimal.{length_four, decimal_four}
 use Rattle.tsp_script.proofs.PairDigits.{four, written, decimal_eight, length_eight, length_written}
 use Rattle.tsp_script.proofs.decimals.+decimal.Goals as goal

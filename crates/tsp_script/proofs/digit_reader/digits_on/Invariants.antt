@@ -1,5 +1,4 @@
-use Rattle.std.proofs.Common.{◌≡◌, ◌<◌, ◌+◌, ◌++◌, take}
-use Rattle.std.specs.Prelude.{decimal, ◌^◌}
+use Rattle.std.proofs.Common.{◌≡◌, ◌<◌, ◌+◌, ◌++◌, take, decimal, ◌^◌}
 use Rattle.tsp_script.proofs.digit_reader.digits_on.Given as goal
 
 abbrev pub invariant-loop-place : goal.invariant-loop-place

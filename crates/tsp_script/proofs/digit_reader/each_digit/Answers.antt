@@ -1,6 +1,5 @@
 use Rattle.std.proofs.Common.{arith}
-use Rattle.tsp_script.proofs.FrontDigits.{digit_taken, too_large}
-use Rattle.tsp_script.proofs.Outcomes.{if_none}
+use Rattle.tsp_script.proofs.{FrontDigits.digit_taken, FrontDigits.too_large, Outcomes.if_none}
 use Rattle.tsp_script.proofs.digit_reader.each_digit.Goals as goal
 
 pub returns-in_err-number-clause-none : goal.returns-in_err-number-clause-none

@@ -1,5 +1,4 @@
-use Rattle.std.proofs.Common.{◌≡◌, ◌<◌, ◌++◌, length}
-use Rattle.std.specs.Prelude.{decimal, ◌^◌}
+use Rattle.std.proofs.Common.{◌≡◌, ◌<◌, ◌++◌, length, decimal, ◌^◌}
 use Rattle.tsp_script.proofs.digit_reader.each_digit.Given as goal
 
 abbrev pub invariant-loop-digit : goal.invariant-loop-digit

@@ -1,9 +1,7 @@
-use Rattle.std.proofs.Common.{◌∙◌, ◌++◌, ◌∷◌, [], refl, sym, arith}
-use Rattle.std.specs.Prelude.{decimal, codes}
+use Rattle.std.proofs.Common.{◌∙◌, ◌++◌, ◌∷◌, [], refl, sym, arith, decimal, codes}
 use Rattle.std.proofs.lemmas.List.{append_cancel_left}
 use Rattle.tsp_base.specs.declared.event.Event.TheVariants.{Boot}
-use Rattle.tsp_script.proofs.EventLines.{rest_of, event_parts, boot_written}
-use Rattle.tsp_script.proofs.Outcomes.{if_none, none_not_some}
+use Rattle.tsp_script.proofs.{EventLines.rest_of, EventLines.event_parts, EventLines.boot_written, Outcomes.if_none, Outcomes.none_not_some}
 use Rattle.tsp_script.proofs.event_line.boot_line.Goals as goal
 
 pub returns-in_err-at-clause-none : goal.returns-in_err-at-clause-none

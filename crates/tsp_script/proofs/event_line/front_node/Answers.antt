@@ -1,7 +1,5 @@
-use Rattle.std.proofs.Common.{◌∙◌, ◌++◌, ◌∷◌, ℕ, List, ap, arith}
-use Rattle.std.specs.Prelude.{decimal}
-use Rattle.tsp_script.specs.Schedules.{port_text}
-use Rattle.tsp_script.proofs.Cuts.{cut_front}
+use Rattle.std.proofs.Common.{◌∙◌, ◌++◌, ◌∷◌, ℕ, List, ap, arith, decimal}
+use Rattle.tsp_script.{proofs.Cuts.cut_front, specs.Schedules.port_text}
 use Rattle.tsp_script.proofs.Ports.{port_none, port_stands, nodes_apart, no_space-port}
 use Rattle.tsp_script.proofs.event_line.front_node.Goals as goal
 

@@ -1,11 +1,9 @@
-use Rattle.std.proofs.Common.{◌≡◌, ◌∙◌, ◌++◌, ◌∷◌, sym, Ok, arith, take, length-take}
-use Rattle.std.specs.Prelude.{codes}
+use Rattle.std.proofs.Common.{◌≡◌, ◌∙◌, ◌++◌, ◌∷◌, sym, Ok, arith, take, length-take, codes}
 use Rattle.std.proofs.lemmas.List.{append_cancel_left}
 use Rattle.hex.specs.Hex.{decode_of}
 use Rattle.tsp_base.specs.declared.event.Event.TheVariants.{Bytes}
 use Rattle.tsp_script.specs.Traces.{place_text}
-use Rattle.tsp_script.proofs.EventLines.{rest_of, event_parts, bytes_written}
-use Rattle.tsp_script.proofs.Outcomes.{if_none}
+use Rattle.tsp_script.proofs.{EventLines.rest_of, EventLines.event_parts, EventLines.bytes_written, Outcomes.if_none}
 use Rattle.tsp_script.proofs.event_line.handed_line.Goals as goal
 
 pub returns-in_err-at-clause-none : goal.returns-in_err-at-clause-none

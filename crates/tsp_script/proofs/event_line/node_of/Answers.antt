@@ -1,6 +1,5 @@
 use Rattle.std.proofs.Common.{◌∙◌, arith}
-use Rattle.tsp_script.proofs.Ports.{node_found, stroke_parts}
-use Rattle.tsp_script.proofs.Outcomes.{none_not_some, some_injective}
+use Rattle.tsp_script.proofs.{Outcomes.none_not_some, Outcomes.some_injective, Ports.node_found, Ports.stroke_parts}
 use Rattle.tsp_script.proofs.event_line.node_of.Goals as goal
 
 pub returns-clause-found : goal.returns-clause-found

@@ -1,6 +1,5 @@
 use Rattle.std.proofs.Common.{ap, Some, [], length, ◌<◌, rules, arith}
-use Rattle.tsp_script.proofs.FrontDigits.{NoDigit-nil}
-use Rattle.tsp_script.proofs.PlainLines.{plain_alone, plain_one, plain_spelled}
+use Rattle.tsp_script.proofs.{FrontDigits.NoDigit-nil, PlainLines.plain_alone, PlainLines.plain_one, PlainLines.plain_spelled}
 use Rattle.tsp_script.proofs.event_line.plain_line.Goals as goal
 
 pub returns-in_err-plain-clause-reads : goal.returns-in_err-plain-clause-reads

@@ -1,10 +1,7 @@
 use Rattle.std.proofs.Common.{◌≡◌, ap, Ok, Result}
 use Rattle.tsp_base.specs.declared.header.NodeLine.{NodeLine}
-use Rattle.tsp_script.specs.declared.head_line.HeadItem.{HeadItem}
-use Rattle.tsp_script.specs.declared.head_line.HeadItem.TheVariants.{Node}
-use Rattle.tsp_script.specs.declared.line_fault.LineFault.{LineFault}
-use Rattle.tsp_script.proofs.HeadLines.{node_item}
-use Rattle.tsp_script.proofs.Outcomes.{none_not_some, some_injective}
+use Rattle.tsp_script.specs.declared.{head_line.HeadItem.HeadItem, head_line.HeadItem.TheVariants.Node, line_fault.LineFault.LineFault}
+use Rattle.tsp_script.proofs.{HeadLines.node_item, Outcomes.none_not_some, Outcomes.some_injective}
 use Rattle.tsp_script.proofs.head_line.node_line.Goals as goal
 
 pub returns-in-Some-clause-one : goal.returns-in-Some-clause-one

@@ -1,13 +1,9 @@
-use Rattle.std.proofs.Common.{◌≡◌, ◌∙◌, ◌++◌, ◌∷◌, ◌≤◌, ap, arith, Some, ℤ}
-use Rattle.std.specs.Prelude.{nat_abs}
-use Rattle.std.specs.Fmt.{signed_decimal}
-use Rattle.std.specs.Int.{w32, w64}
+use Rattle.std.proofs.Common.{◌≡◌, ◌∙◌, ◌++◌, ◌∷◌, ◌≤◌, ap, arith, Some, ℤ, nat_abs}
 use mir.Val.{to_z, of_z}
-use Rattle.std.proofs.lemmas.Int.{to_z-of_z}
+use Rattle.std.{proofs.lemmas.Int.to_z-of_z, specs.Fmt.signed_decimal, specs.Int.w32, specs.Int.w64}
 use Rattle.tsp_script.specs.Schedules.{flag_text, IsHost}
-use Rattle.tsp_script.proofs.Cuts.{cut_front}
+use Rattle.tsp_script.proofs.{Cuts.cut_front, Outcomes.none_not_some, Outcomes.some_injective}
 use Rattle.tsp_script.proofs.HeadLines.{no_space-host, fits_wall, fits_rate, node_of_parts}
-use Rattle.tsp_script.proofs.Outcomes.{none_not_some, some_injective}
 use Rattle.tsp_script.proofs.head_line.read_node.Goals as goal
 
 pub returns-in_err-word-clause-reads : goal.returns-in_err-word-clause-reads

@@ -1,10 +1,6 @@
-use Rattle.std.proofs.Common.{◌≡◌, ◌∙◌, ◌++◌, ◌∷◌, [], ap, sym, arith, append_assoc}
-use Rattle.std.specs.Prelude.{decimal}
+use Rattle.std.proofs.Common.{◌≡◌, ◌∙◌, ◌++◌, ◌∷◌, [], ap, sym, arith, append_assoc, decimal}
 use Rattle.tsp_base.specs.declared.message.Body.TheVariants.{Hops}
-use Rattle.tsp_script.specs.Ranges.{IsBody}
-use Rattle.tsp_script.specs.Texts.{body_text}
-use Rattle.tsp_script.proofs.Bodies.{hops_case}
-use Rattle.tsp_script.proofs.Outcomes.{none_not_some}
+use Rattle.tsp_script.{proofs.Bodies.hops_case, proofs.Outcomes.none_not_some, specs.Ranges.IsBody, specs.Texts.body_text}
 use Rattle.tsp_script.proofs.message_reader.next_hops.Goals as goal
 
 pub returns-in_err-hops-clause-reads : goal.returns-in_err-hops-clause-reads

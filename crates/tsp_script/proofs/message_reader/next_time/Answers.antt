@@ -1,14 +1,8 @@
 use Rattle.std.proofs.Common.{◌≡◌, ◌∙◌, ◌++◌, ◌∷◌, [], ap, refl, sym, rules, append_assoc, ℤ}
-use Rattle.std.specs.Fmt.{signed_decimal}
-use Rattle.std.specs.Int.{w64}
-use Rattle.std.specs.Int.RustNames.{FitsSigned}
-use Rattle.std.proofs.lemmas.Int.{to_z-of_z}
+use Rattle.std.{proofs.lemmas.Int.to_z-of_z, specs.Fmt.signed_decimal, specs.Int.w64, specs.Int.RustNames.FitsSigned}
 use mir.Val.{to_z, of_z}
-use Rattle.tsp_base.specs.Words.{IsMicros}
-use Rattle.tsp_base.specs.declared.message.Body.TheVariants.{Time}
-use Rattle.tsp_script.specs.Ranges.{IsBody}
-use Rattle.tsp_script.specs.Texts.{body_text}
-use Rattle.tsp_script.proofs.Bodies.{time_case, fits_micros}
+use Rattle.tsp_base.specs.{Words.IsMicros, declared.message.Body.TheVariants.Time}
+use Rattle.tsp_script.{proofs.Bodies.time_case, proofs.Bodies.fits_micros, specs.Ranges.IsBody, specs.Texts.body_text}
 use Rattle.tsp_script.proofs.message_reader.next_time.Goals as goal
 
 pub returns-in_err-time-clause-reads : goal.returns-in_err-time-clause-reads

@@ -1,10 +1,7 @@
 use Rattle.std.proofs.Common.{◌≡◌, ◌∙◌, ap, sym, arith, ◌++◌, Some, true}
-use Rattle.tsp_base.specs.Words.{MessageValue, body_fits}
-use Rattle.tsp_base.specs.declared.datagram.Datagram.TheVariants.{Message}
-use Rattle.tsp_script.specs.Texts.{body_text, name_text}
-use Rattle.tsp_script.proofs.KindWords.{kind_word-injective}
-use Rattle.tsp_script.proofs.MessageLines.{message_of_parts, plain_found}
-use Rattle.tsp_script.proofs.Outcomes.{some_injective}
+use Rattle.tsp_base.specs.{Words.MessageValue, Words.body_fits, declared.datagram.Datagram.TheVariants.Message}
+use Rattle.tsp_script.proofs.{KindWords.kind_word-injective, MessageLines.message_of_parts, MessageLines.plain_found}
+use Rattle.tsp_script.{proofs.Outcomes.some_injective, specs.Texts.body_text, specs.Texts.name_text}
 use Rattle.tsp_script.proofs.message_reader.read_plain.Goals as goal
 
 pub returns-in_default-clause-reads : goal.returns-in_default-clause-reads

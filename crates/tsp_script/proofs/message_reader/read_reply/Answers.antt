@@ -1,12 +1,8 @@
 use Rattle.std.proofs.Common.{ap, sym, ◌∙◌, rules}
-use Rattle.std.specs.Fmt.{signed_decimal}
-use Rattle.std.specs.Int.{w64}
-use Rattle.std.specs.Int.RustNames.{FitsSigned}
-use Rattle.std.proofs.lemmas.Int.{to_z-of_z}
+use Rattle.std.{proofs.lemmas.Int.to_z-of_z, specs.Fmt.signed_decimal, specs.Int.w64, specs.Int.RustNames.FitsSigned}
 use mir.Val.{to_z, of_z}
 use Rattle.tsp_base.specs.Words.{ReplyValue}
-use Rattle.tsp_script.proofs.MessageLines.{reply_found}
-use Rattle.tsp_script.proofs.Outcomes.{if_some-then}
+use Rattle.tsp_script.proofs.{MessageLines.reply_found, Outcomes.if_some-then}
 use Rattle.tsp_script.proofs.message_reader.read_reply.Goals as goal
 
 pub returns-clause-found : goal.returns-clause-found

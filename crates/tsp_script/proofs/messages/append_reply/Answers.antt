@@ -1,7 +1,5 @@
 use Rattle.std.proofs.Common.{◌∙◌, append_assoc, rules}
-use Rattle.std.specs.Int.{w64}
-use Rattle.std.specs.Int.RustNames.{FitsSigned}
-use Rattle.std.proofs.lemmas.Int.{to_z-of_z}
+use Rattle.std.{proofs.lemmas.Int.to_z-of_z, specs.Int.w64, specs.Int.RustNames.FitsSigned}
 use Rattle.tsp_script.proofs.messages.append_reply.Goals as goal
 
 pub returns-clause-text : goal.returns-clause-text

@@ -1,6 +1,5 @@
 use Rattle.std.proofs.Common.{◌≡◌, ℕ, true, sym, arith}
-use Rattle.std.proofs.lemmas.List.Elements.{All-more}
-use Rattle.std.proofs.lemmas.List.{take_all}
+use Rattle.std.proofs.lemmas.List.{take_all, Elements.All-more}
 use Rattle.tsp_script.specs.Texts.{is_plain}
 use Rattle.tsp_script.proofs.names.are_plain.Goals as goal
 

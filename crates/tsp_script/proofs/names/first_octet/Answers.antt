@@ -1,6 +1,5 @@
 use Rattle.std.proofs.Common.{◌≡◌, ◌∙◌, sym, arith, true}
-use Rattle.tsp_script.specs.Texts.{is_plain}
-use Rattle.tsp_script.proofs.NameTexts.{percent_front, percent_escapes, pair_front}
+use Rattle.tsp_script.{proofs.NameTexts.percent_front, proofs.NameTexts.percent_escapes, proofs.NameTexts.pair_front, specs.Texts.is_plain}
 use Rattle.tsp_script.proofs.Outcomes.{none_or_some, some_once, true_or_false}
 use Rattle.tsp_script.proofs.names.first_octet.Goals as goal
 

@@ -1,5 +1,4 @@
-use Rattle.tsp_script.proofs.NameTexts.{decoded_pair}
-use Rattle.tsp_script.proofs.Outcomes.{err_or_ok}
+use Rattle.tsp_script.proofs.{NameTexts.decoded_pair, Outcomes.err_or_ok}
 use Rattle.tsp_script.proofs.names.octet_of.Goals as goal
 
 pub returns-in-Ok-clause-reads : goal.returns-in-Ok-clause-reads

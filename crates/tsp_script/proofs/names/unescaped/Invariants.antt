@@ -1,9 +1,7 @@
-use Rattle.std.proofs.Common.{◌≡◌, ◌++◌, List, ℕ, length}
-use Rattle.std.specs.Prelude.{flat_map}
+use Rattle.std.proofs.Common.{◌≡◌, ◌++◌, List, ℕ, length, flat_map}
 use Rattle.hex.specs.Hex.{IsBytes}
 use Rattle.tsp_base.specs.Words.{IsName}
-use Rattle.tsp_script.specs.Texts.{escaped, name_text}
-use Rattle.tsp_script.proofs.NameTexts.{Left}
+use Rattle.tsp_script.{proofs.NameTexts.Left, specs.Texts.escaped, specs.Texts.name_text}
 use Rattle.tsp_script.proofs.names.unescaped.Given as goal
 
 abbrev pub invariant-loop-rest : goal.invariant-loop-rest

@@ -1,7 +1,5 @@
 use Rattle.std.proofs.Common.{arith, sym, ◌∙◌}
-use Rattle.tsp_script.proofs.FrontDigits.{front_one}
-use Rattle.tsp_script.proofs.NetLines.{NoNumber}
-use Rattle.tsp_script.proofs.Outcomes.{if_none, none_not_some}
+use Rattle.tsp_script.proofs.{FrontDigits.front_one, NetLines.NoNumber, Outcomes.if_none, Outcomes.none_not_some}
 use Rattle.tsp_script.proofs.net_line.front_member.Goals as goal
 
 pub returns-in_err-number-clause-none : goal.returns-in_err-number-clause-none

@@ -1,5 +1,4 @@
-use Rattle.std.proofs.Common.{rules, arith, ◌++◌}
-use Rattle.std.specs.Prelude.{decimal}
+use Rattle.std.proofs.Common.{rules, arith, ◌++◌, decimal}
 use Rattle.tsp_script.specs.Schedules.{numbers_text}
 use Rattle.tsp_script.proofs.NetLines.{All-small, first_read, next_read, next_there, no_first, no_next, text-more}
 use Rattle.tsp_script.proofs.net_line.numbers_in.Goals as goal

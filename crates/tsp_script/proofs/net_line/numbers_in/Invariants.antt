@@ -1,7 +1,6 @@
 use Rattle.std.proofs.Common.{◌≡◌, ◌<◌, ◌^◌, ◌++◌, List, ℕ, length}
 use Rattle.std.specs.List.{All}
-use Rattle.tsp_script.specs.Schedules.{joined_text, IsNetLine}
-use Rattle.tsp_script.proofs.NetLines.{Left}
+use Rattle.tsp_script.{proofs.NetLines.Left, specs.Schedules.joined_text, specs.Schedules.IsNetLine}
 use Rattle.tsp_script.proofs.net_line.numbers_in.Given as goal
 
 abbrev pub invariant-loop-rest : goal.invariant-loop-rest

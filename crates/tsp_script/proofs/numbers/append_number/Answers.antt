@@ -1,7 +1,5 @@
-use Rattle.std.proofs.Common.{arith}
-use Rattle.std.specs.Prelude.{decimal}
-use Rattle.tsp_script.proofs.Lengths.{number_length}
-use Rattle.tsp_script.proofs.PairDigits.{length_written}
+use Rattle.std.proofs.Common.{arith, decimal}
+use Rattle.tsp_script.proofs.{Lengths.number_length, PairDigits.length_written}
 use Rattle.tsp_script.proofs.numbers.append_number.Goals as goal
 
 pub append_decimal-requires : goal.append_decimal-requires

@@ -1,10 +1,7 @@
-use Rattle.std.proofs.Common.{ℤ, length, ap, arith}
-use Rattle.std.specs.Int.{w64}
-use Rattle.std.specs.Prelude.{decimal, nat_abs}
+use Rattle.std.proofs.Common.{ℤ, length, ap, arith, decimal, nat_abs}
 use mir.Val.{to_z, of_z}
-use Rattle.std.proofs.lemmas.Int.{to_z-of_z}
-use Rattle.tsp_script.proofs.Lengths.{size_length, signed_size}
-use Rattle.tsp_script.proofs.PairDigits.{length_written}
+use Rattle.std.{proofs.lemmas.Int.to_z-of_z, specs.Int.w64}
+use Rattle.tsp_script.proofs.{Lengths.size_length, Lengths.signed_size, PairDigits.length_written}
 use Rattle.tsp_script.proofs.numbers.append_signed.Goals as goal
 
 pub append_decimal-requires : goal.append_decimal-requires

@@ -1,7 +1,5 @@
-use Rattle.std.proofs.Common.{◌∙◌, ◌++◌, ◌∷◌, ap, sym, arith, List, ℕ}
-use Rattle.std.specs.Prelude.{decimal}
-use Rattle.tsp_script.proofs.Apart.{numbers_apart}
-use Rattle.tsp_script.proofs.FrontDigits.{NoDigit-other, front_one}
+use Rattle.std.proofs.Common.{◌∙◌, ◌++◌, ◌∷◌, ap, sym, arith, List, ℕ, decimal}
+use Rattle.tsp_script.proofs.{Apart.numbers_apart, FrontDigits.NoDigit-other, FrontDigits.front_one}
 use Rattle.tsp_script.proofs.numbers.front_number.Goals as goal
 
 pub returns-in_err-number-clause-reads : goal.returns-in_err-number-clause-reads

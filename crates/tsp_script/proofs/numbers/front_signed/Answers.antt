@@ -1,11 +1,7 @@
 use Rattle.std.proofs.Common.{◌∙◌, ◌++◌, ◌∷◌, ap, rules, ℤ, List, ℕ}
-use Rattle.std.specs.Fmt.{signed_decimal}
-use Rattle.std.specs.Int.RustNames.{FitsSigned}
-use Rattle.std.specs.Int.{w64}
 use mir.Val.{to_z, of_z}
-use Rattle.std.proofs.lemmas.Int.{to_z-of_z}
-use Rattle.tsp_script.proofs.Cuts.{cut_front, no_space-signed}
-use Rattle.tsp_script.proofs.Outcomes.{none_or_some, some_once}
+use Rattle.std.{proofs.lemmas.Int.to_z-of_z, specs.Fmt.signed_decimal, specs.Int.w64, specs.Int.RustNames.FitsSigned}
+use Rattle.tsp_script.proofs.{Cuts.cut_front, Cuts.no_space-signed, Outcomes.none_or_some, Outcomes.some_once}
 use Rattle.tsp_script.proofs.numbers.front_signed.Goals as goal
 
 pub returns-clause-found : goal.returns-clause-found

@@ -1,5 +1,4 @@
-use Rattle.std.proofs.Common.{◌∙◌, ap, sym, Some, [], append-nil, length, ◌<◌, rules, arith}
-use Rattle.std.specs.Prelude.{decimal}
+use Rattle.std.proofs.Common.{◌∙◌, ap, sym, Some, [], append-nil, length, ◌<◌, rules, arith, decimal}
 use Rattle.tsp_script.proofs.FrontDigits.{NoDigit-nil, front_alone, none_left}
 use Rattle.tsp_script.proofs.numbers.number_of.Goals as goal
 

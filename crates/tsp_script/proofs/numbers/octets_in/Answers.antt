@@ -1,6 +1,5 @@
 use Rattle.std.proofs.Common.{◌≡◌, ℕ, ◌*◌, ◌+◌, ◌/◌, length, take, slice_index_or, Ok, subst, arith}
-use Rattle.hex.specs.Hex.{decode_of}
-use Rattle.hex.proofs.Pairs.{decode_start, decode_step}
+use Rattle.hex.{proofs.Pairs.decode_start, proofs.Pairs.decode_step, specs.Hex.decode_of}
 use Rattle.tsp_script.proofs.HexDigits.{value_read, pair_read, refused_high, refused_low, decoded}
 use Rattle.tsp_script.proofs.numbers.octets_in.Goals as goal
 

@@ -1,6 +1,5 @@
 use Rattle.std.proofs.Common.{◌≡◌, ◌*◌, take, drop}
-use Rattle.hex.specs.Hex.{decode_pairs}
-use Rattle.hex.proofs.Pairs.{prepend}
+use Rattle.hex.{proofs.Pairs.prepend, specs.Hex.decode_pairs}
 use Rattle.tsp_script.proofs.numbers.octets_in.Given as goal
 
 abbrev pub invariant-loop-place : goal.invariant-loop-place

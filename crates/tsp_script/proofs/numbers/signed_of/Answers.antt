@@ -1,6 +1,5 @@
 use Rattle.std.proofs.Common.{◌∙◌, ap, sym, arith, suc, Some}
-use Rattle.tsp_script.proofs.FrontDigits.{signed_behind}
-use Rattle.tsp_script.proofs.Outcomes.{none_not_some, some_injective}
+use Rattle.tsp_script.proofs.{FrontDigits.signed_behind, Outcomes.none_not_some, Outcomes.some_injective}
 use Rattle.tsp_script.proofs.numbers.signed_of.Goals as goal
 
 pub returns-in_err-number_of-in-Some-clause-reads : goal.returns-in_err-number_of-in-Some-clause-reads

@@ -1,5 +1,4 @@
-use Rattle.std.proofs.Common.{◌≡◌, take}
-use Rattle.std.specs.Prelude.{Contains}
+use Rattle.std.proofs.Common.{◌≡◌, take, Contains}
 use Rattle.tsp_script.proofs.words.find_mark.Given as goal
 
 abbrev pub invariant-loop-octet : goal.invariant-loop-octet

@@ -2,9 +2,7 @@
 use Rattle.std.proofs.Common.{◌≡◌, ◌∙◌, ◌+◌, ◌<◌, ◌∷◌, [], ◌++◌, length, get_or, arith, sym, ap}
 use Rattle.std.proofs.lemmas.List.{get_or_default, length_push}
 use Rattle.tsp_base.specs.declared.place.PeerId.{PeerId}
-use Rattle.tsp_sends.specs.declared.slot.Slot.{Slot}
-use Rattle.tsp_sends.specs.Held.{slots_of}
-use Rattle.tsp_sends.specs.Slots.{empty_slot}
+use Rattle.tsp_sends.specs.{Held.slots_of, Slots.empty_slot, declared.slot.Slot.Slot}
 use Rattle.tsp_sends.proofs.HeldLemmas.{slots_of-more, AreHeld-more}
 use Rattle.tsp_sends.proofs.slots.lengthen.Goals as goal
 

@@ -1,13 +1,9 @@
 -- A send is open exactly where the station has its kind.
-use Rattle.std.specs.Prelude.{not, is_some}
-use Rattle.std.proofs.Common.{◌∙◌, ap, sym}
-use Rattle.tsp_rules.specs.Values.{Conflict}
+use Rattle.std.proofs.Common.{◌∙◌, ap, sym, not, is_some}
 use Rattle.tsp_base.specs.Words.{nothing}
 use Rattle.tsp_base.proofs.PerformsLemmas.{Performs_then_part, Performs_else_part, Performs_nothing}
-use Rattle.tsp_rules.specs.SendRows.{begins, is_free}
-use Rattle.tsp_rules.specs.SlaveRows.{reports_conflict}
-use Rattle.tsp_slave.proofs.RowCases.{is_free-is}
-use Rattle.tsp_slave.proofs.RoomLemmas.{at_most}
+use Rattle.tsp_rules.specs.{SendRows.begins, SendRows.is_free, SlaveRows.reports_conflict, Values.Conflict}
+use Rattle.tsp_slave.proofs.{RoomLemmas.at_most, RowCases.is_free-is}
 use Rattle.tsp_slave.proofs.conflict.report_conflict.Goals as goal
 
 pub returns-in-None-clause-row : goal.returns-in-None-clause-row

@@ -1,12 +1,9 @@
 -- The row's test is the code's.
 use Rattle.std.specs.Prelude.{refl}
-use Rattle.tsp_rules.specs.Values.{Ack}
 use Rattle.tsp_base.specs.Words.{nothing, posts}
 use Rattle.tsp_base.proofs.PerformsLemmas.{Performs_then_part, Performs_else_part, Performs_nothing}
-use Rattle.tsp_rules.specs.SlaveRows.{acks_repeat, is_repeated}
-use Rattle.tsp_slave.proofs.BesideLemmas.{Performs_station}
-use Rattle.tsp_slave.proofs.SlaveLemmas.{AlsoStands_posts}
-use Rattle.tsp_slave.proofs.RoomLemmas.{at_most}
+use Rattle.tsp_rules.specs.{SlaveRows.acks_repeat, SlaveRows.is_repeated, Values.Ack}
+use Rattle.tsp_slave.proofs.{BesideLemmas.Performs_station, RoomLemmas.at_most, SlaveLemmas.AlsoStands_posts}
 use Rattle.tsp_slave.proofs.correction.ack_repeat.Goals as goal
 
 pub returns-then-is_repeat-clause-row : goal.returns-then-is_repeat-clause-row

@@ -1,8 +1,7 @@
 -- By cases of the role.
 use Rattle.std.proofs.Common.{sym, ◌∙◌, ap}
 use Rattle.tsp_base.specs.Words.{nothing, reading}
-use Rattle.tsp_rules.specs.SlaveRows.{from_master}
-use Rattle.tsp_rules.proofs.RowsOther.{from_master-other}
+use Rattle.tsp_rules.{proofs.RowsOther.from_master-other, specs.SlaveRows.from_master}
 use Rattle.tsp_slave.proofs.RowCases.{from_master-Follow}
 use Rattle.tsp_slave.proofs.correction.follows.Goals as goal
 

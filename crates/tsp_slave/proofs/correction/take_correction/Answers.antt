@@ -2,16 +2,13 @@
 use Rattle.std.proofs.Common.{◌≡◌, if◌then◌else◌, [], Some, true, refl, sym, ◌∙◌, ap}
 use Rattle.tsp_base.specs.Words.{said, nothing, reading, ◌followed_by◌, correcting_of}
 use Rattle.tsp_base.proofs.PerformsLemmas.{Performs_nothing, Performs_same, Performs_then, Performs_then_part, Performs_else_part}
-use Rattle.tsp_rules.specs.Guards.{role_at}
-use Rattle.tsp_rules.specs.SlaveRows.{acks_repeat, confirms, from_master}
+use Rattle.tsp_rules.specs.{Guards.role_at, SlaveRows.acks_repeat, SlaveRows.confirms, SlaveRows.from_master}
 use Rattle.tsp_slave.specs.ClockChanges.{change_in, changes_clock, correction_of}
-use Rattle.tsp_slave.proofs.BesideLemmas.{Performs_station}
-use Rattle.tsp_slave.proofs.ChangeLemmas.{acts_at, acts_at-is, correction_of-is}
+use Rattle.tsp_slave.proofs.{BesideLemmas.Performs_station, ChangeLemmas.acts_at, ChangeLemmas.acts_at-is, ChangeLemmas.correction_of-is}
 use Rattle.tsp_slave.proofs.SlaveLemmas.{AlsoStands_confirms, Performs_changes}
 use Rattle.tsp_slave.proofs.RoomLemmas.{at_most, both, more_room}
 use Rattle.tsp_slave.proofs.TellLemmas.{corrects-change, tells_nothing, tells_row, tells_still}
-use Rattle.tsp_rules.proofs.BuiltSlave.{built_acks_repeat}
-use Rattle.tsp_rules.proofs.EmitsBuilt.{emits_built}
+use Rattle.tsp_rules.proofs.{BuiltSlave.built_acks_repeat, EmitsBuilt.emits_built}
 use Rattle.tsp_slave.proofs.correction.take_correction.Goals as goal
 
 pub returns-then-not-follows-clause-row : goal.returns-then-not-follows-clause-row

@@ -1,10 +1,7 @@
 -- The row's test is the code's.
-use Rattle.tsp_rules.specs.Values.{Back, Accept, Refuse}
 use Rattle.tsp_base.specs.Words.{puts, ◌followed_by◌, posts}
 use Rattle.tsp_base.proofs.PerformsLemmas.{Performs_then, Performs_then_part, Performs_else_part}
-use Rattle.tsp_rules.specs.CommonRows.{arms_elect}
-use Rattle.tsp_rules.specs.SlaveRows.{election_of}
-use Rattle.tsp_rules.specs.Guards.{may_back_at}
+use Rattle.tsp_rules.specs.{CommonRows.arms_elect, Guards.may_back_at, SlaveRows.election_of, Values.Back, Values.Accept, Values.Refuse}
 use Rattle.tsp_slave.proofs.RoomLemmas.{at_most, both}
 use Rattle.tsp_slave.proofs.election.vote.Goals as goal
 

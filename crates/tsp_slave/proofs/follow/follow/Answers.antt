@@ -3,9 +3,7 @@ use Rattle.std.proofs.Common.{sym, ◌∙◌, ap}
 use Rattle.tsp_base.proofs.PerformsLemmas.{Performs_then}
 use Rattle.tsp_rules.specs.CommonRows.{follow_row}
 use Rattle.tsp_acks.proofs.PeerLemmas.{among-Contains}
-use Rattle.tsp_slave.proofs.BesideLemmas.{Performs_station}
-use Rattle.tsp_slave.proofs.SlaveLemmas.{AlsoStands_arms_elect, follow_becomes}
-use Rattle.tsp_slave.proofs.RoomLemmas.{both}
+use Rattle.tsp_slave.proofs.{BesideLemmas.Performs_station, RoomLemmas.both, SlaveLemmas.AlsoStands_arms_elect, SlaveLemmas.follow_becomes}
 use Rattle.tsp_slave.proofs.follow.follow.Goals as goal
 
 pub become_role-requires-clause-peer : goal.become_role-requires-clause-peer

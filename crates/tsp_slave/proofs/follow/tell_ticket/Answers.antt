@@ -1,12 +1,8 @@
 -- The number is the clock's ticket.
 use Rattle.std.specs.Prelude.{refl}
-use Rattle.tsp_rules.specs.Values.{SlaveUp}
-use Rattle.tsp_base.specs.Words.{posts}
-use Rattle.tsp_base.proofs.PerformsLemmas.{Performs_reading}
-use Rattle.tsp_rules.specs.CommonRows.{tells_ticket}
-use Rattle.tsp_rules.specs.Guards.{ticket_at}
-use Rattle.tsp_slave.proofs.BesideLemmas.{Performs_station}
-use Rattle.tsp_slave.proofs.SlaveLemmas.{AlsoStands_posts}
+use Rattle.tsp_base.{proofs.PerformsLemmas.Performs_reading, specs.Words.posts}
+use Rattle.tsp_rules.specs.{CommonRows.tells_ticket, Guards.ticket_at, Values.SlaveUp}
+use Rattle.tsp_slave.proofs.{BesideLemmas.Performs_station, SlaveLemmas.AlsoStands_posts}
 use Rattle.tsp_slave.proofs.follow.tell_ticket.Goals as goal
 
 pub returns-clause-row : goal.returns-clause-row

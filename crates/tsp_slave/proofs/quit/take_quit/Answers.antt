@@ -1,14 +1,10 @@
 -- The QUIT, its answer, and then whom the port follows, by cases of the role.
 use Rattle.std.proofs.Common.{◌≡◌, refl, sym, ◌∙◌}
-use Rattle.tsp_rules.specs.Values.{Quit, Ack}
 use Rattle.tsp_base.specs.Words.{puts}
 use Rattle.tsp_base.proofs.PerformsLemmas.{Performs_nothing, Performs_reading, Performs_then}
-use Rattle.tsp_rules.specs.CommonRows.{follows_unless, quits}
-use Rattle.tsp_rules.specs.Guards.{role_at}
-use Rattle.tsp_rules.proofs.Emits.{Emits_puts}
-use Rattle.tsp_rules.proofs.RowsOther.{follows_unless-other}
-use Rattle.tsp_slave.proofs.BesideLemmas.{AlsoStands_by, Performs_station}
-use Rattle.tsp_slave.proofs.SlaveLemmas.{AlsoStands_posts}
+use Rattle.tsp_rules.specs.{CommonRows.follows_unless, CommonRows.quits, Guards.role_at, Values.Quit, Values.Ack}
+use Rattle.tsp_rules.proofs.{Emits.Emits_puts, RowsOther.follows_unless-other}
+use Rattle.tsp_slave.proofs.{BesideLemmas.AlsoStands_by, BesideLemmas.Performs_station, SlaveLemmas.AlsoStands_posts}
 use Rattle.tsp_slave.proofs.RoomLemmas.{at_most, both, one_then}
 use Rattle.tsp_slave.proofs.quit.take_quit.Goals as goal
 

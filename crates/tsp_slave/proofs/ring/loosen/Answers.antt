@@ -1,10 +1,8 @@
 -- A follower becomes Loose, any other role stays.
 use Rattle.std.proofs.Common.{refl}
-use Rattle.tsp_rules.specs.Values.{Become, Loose}
 use Rattle.tsp_base.specs.Words.{puts, nothing}
 use Rattle.tsp_base.proofs.PerformsLemmas.{Performs_then_part, Performs_else_part, Performs_nothing}
-use Rattle.tsp_rules.specs.SlaveRows.{loosens}
-use Rattle.tsp_rules.specs.Guards.{follows_at}
+use Rattle.tsp_rules.specs.{Guards.follows_at, SlaveRows.loosens, Values.Become, Values.Loose}
 use Rattle.tsp_rules.proofs.RowsOther.{is_follow-other}
 use Rattle.tsp_slave.proofs.RoomLemmas.{at_most}
 use Rattle.tsp_slave.proofs.ring.loosen.Goals as goal

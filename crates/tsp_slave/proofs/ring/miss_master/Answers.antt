@@ -1,14 +1,10 @@
 -- In time it searches, since it doesn't stand; late it waits again.
-use Rattle.std.specs.Prelude.{◌≡◌, ◌&&◌, false}
-use Rattle.std.proofs.Common.{sym, ◌∙◌, length, refl}
-use Rattle.tsp_rules.specs.Values.{Ring, Late, Elect}
+use Rattle.std.proofs.Common.{sym, ◌∙◌, length, refl, ◌≡◌, ◌&&◌, false}
 use Rattle.tsp_base.specs.Words.{may_stand, puts, either_by, ◌followed_by◌}
 use Rattle.tsp_base.proofs.PerformsLemmas.{Performs_then, Performs_then_part, Performs_else_part}
-use Rattle.tsp_rules.specs.CommonRows.{arms_elect, searches, candidature_row}
-use Rattle.tsp_rules.specs.SlaveRows.{elect_rings, loosens}
-use Rattle.tsp_rules.specs.Guards.{is_in_time, may_stand_at}
-use Rattle.tsp_slave.proofs.RowCases.{may_stand-is, stays_in_time}
-use Rattle.tsp_slave.proofs.RoomLemmas.{beside_peers, both}
+use Rattle.tsp_rules.specs.{CommonRows.arms_elect, CommonRows.searches, CommonRows.candidature_row, Guards.is_in_time, Guards.may_stand_at}
+use Rattle.tsp_rules.specs.{SlaveRows.elect_rings, SlaveRows.loosens, Values.Ring, Values.Late, Values.Elect}
+use Rattle.tsp_slave.proofs.{RoomLemmas.beside_peers, RoomLemmas.both, RowCases.may_stand-is, RowCases.stays_in_time}
 use Rattle.tsp_slave.proofs.ring.miss_master.Goals as goal
 
 pub returns-then-is_in_time-clause-row : goal.returns-then-is_in_time-clause-row

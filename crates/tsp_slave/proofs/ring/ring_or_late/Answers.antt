@@ -1,9 +1,6 @@
 -- The row's test is the code's.
-use Rattle.tsp_rules.specs.Values.{Ring, Late}
-use Rattle.tsp_base.specs.Words.{puts}
-use Rattle.tsp_base.proofs.PerformsLemmas.{Performs_then_part, Performs_else_part}
-use Rattle.tsp_rules.specs.SlaveRows.{rings_or_late}
-use Rattle.tsp_rules.specs.Guards.{is_in_time}
+use Rattle.tsp_base.{proofs.PerformsLemmas.Performs_then_part, proofs.PerformsLemmas.Performs_else_part, specs.Words.puts}
+use Rattle.tsp_rules.specs.{Guards.is_in_time, SlaveRows.rings_or_late, Values.Ring, Values.Late}
 use Rattle.tsp_slave.proofs.ring.ring_or_late.Goals as goal
 
 pub returns-then-is_in_time-clause-row : goal.returns-then-is_in_time-clause-row

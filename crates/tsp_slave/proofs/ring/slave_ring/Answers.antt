@@ -3,8 +3,7 @@ use Rattle.std.proofs.Common.{length, refl}
 use Rattle.tsp_base.proofs.PerformsLemmas.{Performs_nothing, Performs_then}
 use Rattle.tsp_rules.specs.SlaveRows.{quiet_rings, search_rings}
 use Rattle.tsp_slave.specs.SlaveAlarms.{slave_rings}
-use Rattle.tsp_slave.proofs.RowCases.{slave_rings-other}
-use Rattle.tsp_slave.proofs.RoomLemmas.{beside_peers, both}
+use Rattle.tsp_slave.proofs.{RoomLemmas.beside_peers, RoomLemmas.both, RowCases.slave_rings-other}
 use Rattle.tsp_slave.proofs.ring.slave_ring.Goals as goal
 
 pub returns-in-Quiet-clause-row : goal.returns-in-Quiet-clause-row

@@ -1,16 +1,13 @@
 -- The row is by cases of the role.
 use Rattle.std.proofs.Common.{◌≡◌, ◌==◌, true, false, eq-eqb, ap, sym, ◌∙◌}
 use Rattle.std.proofs.lemmas.Bool.{ne_eqb}
-use Rattle.tsp_rules.specs.Values.{Loose, Follow}
 use Rattle.tsp_base.specs.Words.{name_in}
 use Rattle.tsp_base.proofs.PerformsLemmas.{Performs_then, Performs_reading, Performs_nothing}
-use Rattle.tsp_rules.specs.SlaveRows.{masterup_in}
-use Rattle.tsp_rules.specs.Guards.{role_at}
+use Rattle.tsp_rules.specs.{Guards.role_at, SlaveRows.masterup_in, Values.Loose, Values.Follow}
 use Rattle.tsp_acks.proofs.FollowLemmas.{followed-Contains}
 use Rattle.tsp_rules.proofs.RowsOther.{masterup_in-other}
-use Rattle.tsp_slave.proofs.BesideLemmas.{Performs_station}
+use Rattle.tsp_slave.proofs.{BesideLemmas.Performs_station, RoomLemmas.at_most, RoomLemmas.both, RoomLemmas.more_room}
 use Rattle.tsp_slave.proofs.SlaveLemmas.{AlsoStands_arms_elect, AlsoStands_reports_conflict, Performs_since_taken}
-use Rattle.tsp_slave.proofs.RoomLemmas.{at_most, both, more_room}
 use Rattle.tsp_slave.proofs.take.hear_master.Goals as goal
 
 pub report_conflict-requires-clause-peer : goal.report_conflict-requires-clause-peer

@@ -4,11 +4,9 @@ use Rattle.tsp_rules.specs.Values.{Ack, Election, MasterAck, MasterUp, QuitKind}
 use Rattle.tsp_base.specs.Words.{name_in, is_correction, nothing, reading}
 use Rattle.tsp_base.proofs.PerformsLemmas.{Performs_nothing, Performs_same}
 use Rattle.tsp_rules.specs.SlaveRows.{masterack_in, masterup_in, slave_takes, slave_takes_kind}
-use Rattle.tsp_rules.specs.Guards.{role_at}
-use Rattle.tsp_rules.proofs.RowsOther.{slave_takes_kind-other}
-use Rattle.tsp_slave.proofs.BesideLemmas.{Performs_station}
+use Rattle.tsp_rules.{proofs.RowsOther.slave_takes_kind-other, specs.Guards.role_at}
+use Rattle.tsp_slave.proofs.{BesideLemmas.Performs_station, RoomLemmas.at_most_once, RoomLemmas.more_room}
 use Rattle.tsp_slave.proofs.SlaveLemmas.{AlsoStands_election_of, AlsoStands_acknowledges}
-use Rattle.tsp_slave.proofs.RoomLemmas.{at_most_once, more_room}
 use Rattle.tsp_slave.proofs.take.hear_other.Goals as goal
 
 pub returns-in-MasterUp-clause-row : goal.returns-in-MasterUp-clause-row

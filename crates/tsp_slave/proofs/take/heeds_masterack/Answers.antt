@@ -1,8 +1,7 @@
 -- By cases of the role.
 use Rattle.std.proofs.Common.{sym, ◌∙◌, ap}
 use Rattle.tsp_base.specs.Words.{nothing, reading}
-use Rattle.tsp_rules.specs.SlaveRows.{masterack_in}
-use Rattle.tsp_rules.proofs.RowsOther.{masterack_in-other}
+use Rattle.tsp_rules.{proofs.RowsOther.masterack_in-other, specs.SlaveRows.masterack_in}
 use Rattle.tsp_slave.proofs.RowCases.{masterack_in-Loose, masterack_in-Follow}
 use Rattle.tsp_slave.proofs.take.heeds_masterack.Goals as goal
 

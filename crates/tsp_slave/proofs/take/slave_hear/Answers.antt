@@ -1,14 +1,10 @@
 -- A correction, or another message.
 use Rattle.std.proofs.Common.{◌≡◌, ◌⊎◌, sym, ◌∙◌, ap, false, refl}
-use Rattle.tsp_rules.specs.Values.{AdjTime, SetTime}
 use Rattle.tsp_base.specs.Words.{is_correction}
-use Rattle.tsp_rules.proofs.Emits.{Emits_more}
-use Rattle.tsp_rules.specs.SlaveRows.{slave_takes}
-use Rattle.tsp_slave.proofs.RowCases.{correction-kind, slave_takes_kind-correction, told_correction}
-use Rattle.tsp_slave.proofs.RoomLemmas.{more_room}
+use Rattle.tsp_slave.proofs.{RoomLemmas.more_room, RowCases.correction-kind, RowCases.slave_takes_kind-correction, RowCases.told_correction}
 use Rattle.tsp_slave.proofs.TellLemmas.{tells_still}
-use Rattle.tsp_rules.proofs.BuiltSlave.{built_slave_takes, slave_part_unmoved, unmoved_sorts}
-use Rattle.tsp_rules.proofs.EmitsBuilt.{emits_built}
+use Rattle.tsp_rules.proofs.{BuiltSlave.built_slave_takes, BuiltSlave.slave_part_unmoved, BuiltSlave.unmoved_sorts, Emits.Emits_more}
+use Rattle.tsp_rules.{proofs.EmitsBuilt.emits_built, specs.SlaveRows.slave_takes, specs.Values.AdjTime, specs.Values.SetTime}
 use Rattle.tsp_slave.proofs.take.slave_hear.Goals as goal
 
 pub returns-then-is_correction-clause-row : goal.returns-then-is_correction-clause-row

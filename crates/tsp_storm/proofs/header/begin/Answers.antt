@@ -3,8 +3,7 @@ use Rattle.std.proofs.Common.{◌≡◌, ◌∙◌, ap, arith, length, subst, ad
 use Rattle.tsp_base.specs.Words.{HeaderValue, Pushes}
 use Rattle.tsp_script.specs.Storms.{StormValue, storm_named}
 use Rattle.tsp_storm.specs.Schedules.{after_lines, storm_lines, generator_of}
-use Rattle.tsp_storm.proofs.Heads.{joins_header, header_more}
-use Rattle.tsp_storm.proofs.Mades.{after_is, length-storm_lines}
+use Rattle.tsp_storm.proofs.{Heads.joins_header, Heads.header_more, Mades.after_is, Mades.length-storm_lines}
 use Rattle.tsp_storm.proofs.header.begin.Goals as goal
 
 pub head-requires-clause-first : goal.head-requires-clause-first

@@ -1,6 +1,5 @@
 -- The chosen event is the schedule's next.
-use Rattle.std.proofs.Common.{◌∙◌, ap, sym, refl, arith, length}
-use Rattle.std.specs.Prelude.{unwrap_or, slice_get}
+use Rattle.std.proofs.Common.{◌∙◌, ap, sym, refl, arith, length, unwrap_or, slice_get}
 use Rattle.tsp_rules.specs.Values.{Event}
 use Rattle.tsp_script.specs.Storms.{StormValue, as_event}
 use Rattle.tsp_storm.proofs.Draws.{asks_is, next-chosen, next-asked, no_time}

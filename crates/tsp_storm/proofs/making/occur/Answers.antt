@@ -1,6 +1,5 @@
 -- A chosen event is the one that its choice gives.
-use Rattle.std.proofs.Common.{◌≡◌, ◌∙◌, ℕ, ap, sym, subst}
-use Rattle.std.specs.Prelude.{MatchResult}
+use Rattle.std.proofs.Common.{◌≡◌, ◌∙◌, ℕ, ap, sym, subst, MatchResult}
 use Rattle.tsp_rules.specs.Values.{Event}
 use Rattle.tsp_base.specs.Words.{event_in}
 use Rattle.tsp_script.specs.declared.storm.Draw.TheVariants.{Event as Gives, Ask}

@@ -1,7 +1,6 @@
 -- Each event more adds its acts, and the whole schedule its summary.
 use Rattle.std.proofs.Common.{◌≡◌, ℕ, ◌∙◌, ◌+◌, ap, arith, subst, add-one, suc}
-use Rattle.tsp_storm.specs.Schedules.{header_of, storm_events}
-use Rattle.tsp_storm.specs.Summaries.{CountsLines}
+use Rattle.tsp_storm.specs.{Schedules.header_of, Schedules.storm_events, Summaries.CountsLines}
 use Rattle.tsp_storm.proofs.Tallies.{counted_more, sums_up}
 use Rattle.tsp_storm.proofs.run.run.Goals as goal
 use Rattle.tsp_run.specs.Run.{told, gained}

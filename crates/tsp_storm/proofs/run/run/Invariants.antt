@@ -1,8 +1,6 @@
 -- As many events as were counted were made, and their acts were counted.
 use Rattle.std.proofs.Common.{◌≡◌, ◌≤◌, ◌*◌, ◌^◌}
-use Rattle.tsp_storm.specs.Makings.{MakingStands}
-use Rattle.tsp_storm.specs.Schedules.{header_of, storm_events}
-use Rattle.tsp_storm.specs.Summaries.{CountsLines}
+use Rattle.tsp_storm.specs.{Makings.MakingStands, Schedules.header_of, Schedules.storm_events, Summaries.CountsLines}
 use Rattle.tsp_run.specs.Run.{told}
 use Rattle.tsp_storm.proofs.run.run.Given as goal
 

@@ -1,9 +1,6 @@
 -- The delay is that of the past's word.
-use Rattle.tsp_rules.specs.Values.{Elect}
-use Rattle.tsp_base.specs.Words.{arms}
-use Rattle.tsp_base.proofs.PerformsLemmas.{Performs_reading}
-use Rattle.tsp_rules.specs.CommonRows.{arms_elect}
-use Rattle.tsp_rules.specs.Guards.{delay_at}
+use Rattle.tsp_base.{proofs.PerformsLemmas.Performs_reading, specs.Words.arms}
+use Rattle.tsp_rules.specs.{CommonRows.arms_elect, Guards.delay_at, Values.Elect}
 use Rattle.tsp_acks.proofs.station.Station.arm_elect.Goals as goal
 
 pub returns-clause-row : goal.returns-clause-row

@@ -1,6 +1,5 @@
 -- A message that carries nothing but a number of the port's own begins a send.
-use Rattle.std.specs.Prelude.{◌+◌, ◌%◌}
-use Rattle.std.proofs.Common.{◌∙◌, ap}
+use Rattle.std.proofs.Common.{◌∙◌, ap, ◌+◌, ◌%◌}
 use Rattle.tsp_rules.specs.SendRows.{begins}
 use Rattle.tsp_base.specs.Words.{has_own_number, is_numbered}
 use Rattle.tsp_acks.proofs.SendingLemmas.{begins-is, is_bare_send-fits, is_bare_send-own, Performs_opened}

@@ -1,6 +1,5 @@
 -- A date that is passed on begins a send.
-use Rattle.std.specs.Prelude.{◌+◌, ◌%◌}
-use Rattle.std.proofs.Common.{◌∙◌, ap}
+use Rattle.std.proofs.Common.{◌∙◌, ap, ◌+◌, ◌%◌}
 use Rattle.tsp_rules.specs.SendRows.{begins_timed}
 use Rattle.tsp_base.specs.Words.{has_own_number, is_numbered}
 use Rattle.tsp_acks.proofs.SendingLemmas.{begins_timed-is, is_date-fits, is_date-own, Performs_opened}

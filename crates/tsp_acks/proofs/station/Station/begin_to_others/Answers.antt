@@ -1,16 +1,10 @@
 -- A send begins to one peer after the other.
-use Rattle.std.specs.Prelude.{◌≡◌, suc, ◌+◌, ◌∷◌, [], ◌++◌, length, take, slice_index_or, refl}
-use Rattle.std.proofs.Common.{sym, ◌∙◌, ap, subst, arith}
-use Rattle.std.proofs.Math.Seq.{take-suc}
-use Rattle.std.proofs.lemmas.List.{take_all}
-use Rattle.tsp_rules.specs.Values.{PeerId}
+use Rattle.std.proofs.Common.{sym, ◌∙◌, ap, subst, arith, ◌≡◌, suc, ◌+◌, ◌∷◌, [], ◌++◌, length, take, slice_index_or, refl}
+use Rattle.std.proofs.{Math.Seq.take-suc, lemmas.List.take_all}
 use Rattle.tsp_base.specs.Words.{Performs, for_each, others}
-use Rattle.tsp_base.proofs.PerformsLemmas.{Performs_nothing, Performs_reading}
-use Rattle.tsp_base.proofs.RowLemmas.{others-own}
-use Rattle.tsp_rules.specs.SendRows.{begins, begins_to_others, others_at}
-use Rattle.tsp_acks.proofs.ChangeLemmas.{ChangesSends_then}
-use Rattle.tsp_acks.proofs.SendingLemmas.{Performs_begun_more}
-use Rattle.tsp_acks.specs.Stands.{StandsActing}
+use Rattle.tsp_base.proofs.{PerformsLemmas.Performs_nothing, PerformsLemmas.Performs_reading, RowLemmas.others-own}
+use Rattle.tsp_rules.specs.{SendRows.begins, SendRows.begins_to_others, SendRows.others_at, Values.PeerId}
+use Rattle.tsp_acks.{proofs.ChangeLemmas.ChangesSends_then, proofs.SendingLemmas.Performs_begun_more, specs.Stands.StandsActing}
 use Rattle.tsp_acks.proofs.station.Station.begin_to_others.Goals.{then-p-self, else-p-self}
 use Rattle.tsp_acks.proofs.station.Station.begin_to_others.Goals as goal
 

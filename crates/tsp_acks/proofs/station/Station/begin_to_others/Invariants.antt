@@ -2,8 +2,7 @@
 use Rattle.std.specs.Prelude.{take}
 use Rattle.tsp_base.specs.Words.{PutsAtMost, Performs, for_each, others}
 use Rattle.tsp_rules.specs.SendRows.{begins}
-use Rattle.tsp_acks.specs.Changes.{ChangesSends}
-use Rattle.tsp_acks.specs.Stands.{StandsActing}
+use Rattle.tsp_acks.specs.{Changes.ChangesSends, Stands.StandsActing}
 use Rattle.tsp_acks.proofs.station.Station.begin_to_others.Given as goal
 
 abbrev pub invariant-loop-place : goal.invariant-loop-place

@@ -1,11 +1,9 @@
 -- An end is told by an Acked.
-use Rattle.std.specs.Prelude.{◌≡◌, true, false, None, refl}
-use Rattle.std.proofs.Common.{sym, ◌∙◌, ap, true≢false}
+use Rattle.std.proofs.Common.{sym, ◌∙◌, ap, true≢false, ◌≡◌, true, false, None, refl}
 use Rattle.std.proofs.lemmas.Bool.{MatchBool-at_true, false≢true}
 use Rattle.tsp_base.proofs.FrameLemmas.{PutsExactly_none, PutsExactly_put}
 use Rattle.tsp_sends.specs.Slots.{SetsOnly, kind_of, sending_to}
-use Rattle.tsp_acks.specs.Openings.{answered_by, is_of}
-use Rattle.tsp_acks.proofs.EndingLemmas.{Performs_acked, has_open-of}
+use Rattle.tsp_acks.{proofs.EndingLemmas.Performs_acked, proofs.EndingLemmas.has_open-of, specs.Openings.answered_by, specs.Openings.is_of}
 use Rattle.tsp_acks.proofs.station.Station.end.Goals as goal
 
 pub returns-then-ended : goal.returns-then-ended

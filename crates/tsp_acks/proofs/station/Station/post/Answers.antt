@@ -2,8 +2,7 @@
 use Rattle.std.proofs.Common.{[], ◌∷◌, ◌++◌, ◌∙◌, ap}
 use Rattle.tsp_rules.specs.Values.{Post, Message, Peer}
 use Rattle.tsp_base.proofs.FrameLemmas.{PutsExactly_put}
-use Rattle.tsp_acks.proofs.PostLemmas.{is_plain_fits}
-use Rattle.tsp_acks.proofs.PostedLemmas.{named, Performs_post}
+use Rattle.tsp_acks.proofs.{PostLemmas.is_plain_fits, PostedLemmas.named, PostedLemmas.Performs_post}
 use Rattle.tsp_acks.proofs.station.Station.post.Goals as goal
 
 pub new-message-requires : goal.new-message-requires

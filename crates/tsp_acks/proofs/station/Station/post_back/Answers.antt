@@ -1,7 +1,6 @@
 -- One post, which changes nothing of the station.
 use Rattle.tsp_base.proofs.FrameLemmas.{PutsExactly_put}
-use Rattle.tsp_acks.proofs.PostLemmas.{is_plain_fits}
-use Rattle.tsp_acks.proofs.PostedLemmas.{named, Performs_post_back}
+use Rattle.tsp_acks.proofs.{PostLemmas.is_plain_fits, PostedLemmas.named, PostedLemmas.Performs_post_back}
 use Rattle.tsp_acks.proofs.station.Station.post_back.Goals as goal
 
 pub new-message-requires : goal.new-message-requires

@@ -1,10 +1,8 @@
 -- All peers were gone through, and posts change nothing of the station.
 use Rattle.std.proofs.Common.{◌≡◌, ◌≤◌, ap, subst, length, take, map, arith}
 use Rattle.std.proofs.lemmas.List.{take_all}
-use Rattle.tsp_base.specs.Words.{posts_to_others, post_of, others}
-use Rattle.tsp_base.proofs.FrameLemmas.{PutsAtMost_up}
-use Rattle.tsp_acks.proofs.PostLemmas.{is_plain_once}
-use Rattle.tsp_acks.proofs.StandsLemmas.{Stands-posts}
+use Rattle.tsp_base.{proofs.FrameLemmas.PutsAtMost_up, specs.Words.posts_to_others, specs.Words.post_of, specs.Words.others}
+use Rattle.tsp_acks.proofs.{PostLemmas.is_plain_once, StandsLemmas.Stands-posts}
 use Rattle.tsp_acks.proofs.station.Station.post_to_others.Goals as goal
 
 pub returns-clause-row : goal.returns-clause-row

@@ -1,5 +1,4 @@
-use Rattle.std.proofs.Common.{◌≡◌, take}
-use Rattle.std.specs.Prelude.{flat_map}
+use Rattle.std.proofs.Common.{◌≡◌, take, flat_map}
 use Rattle.tsp_args.proofs.ports.Ports.peers.Given as goal
 
 abbrev pub invariant-loop-port : goal.invariant-loop-port

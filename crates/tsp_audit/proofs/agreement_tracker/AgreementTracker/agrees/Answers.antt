@@ -1,8 +1,7 @@
 use Rattle.std.proofs.Common.{◌≡◌, ℤ, List, rules, sym, subst, is_none, false}
 use Rattle.tsp_audit.specs.Agreeing.{AllBounded}
-use Rattle.tsp_history.specs.Rounds.{TripsTell}
 use Rattle.tsp_audit.proofs.AgreementSteps.{act-some, agrees-told, all-bounded, trips-less}
-use Rattle.tsp_history.specs.Histories.{history_of, line_of}
+use Rattle.tsp_history.specs.{Histories.history_of, Histories.line_of, Rounds.TripsTell}
 use Rattle.tsp_audit.proofs.agreement_tracker.AgreementTracker.agrees.Goals as goal
 
 pub returns : goal.returns

@@ -1,14 +1,10 @@
 use Rattle.std.proofs.Common.{◌≡◌, ◌<◌, ◌≤◌, ◌+◌, ◌∷◌, ℕ, Bool, rules, arith, subst, List, length, take, get_or, MatchBool, vec_len, vec_capacity}
 use Rattle.std.proofs.lemmas.List.{take_all}
-use Rattle.tsp_promises.specs.Agreed.{Agreed, AgreedAt}
-use Rattle.tsp_promises.specs.Fits.{node_of}
 use Rattle.tsp_base.specs.Words.{Line}
-use Rattle.tsp_promises.proofs.EverywhereLemmas.{Everywhere-within}
-use Rattle.tsp_history.specs.declared.line.HistoryLine.{HistoryLine}
-use Rattle.tsp_history.specs.Histories.{line_of, history_of}
+use Rattle.tsp_promises.{proofs.EverywhereLemmas.Everywhere-within, specs.Agreed.Agreed, specs.Agreed.AgreedAt, specs.Fits.node_of}
+use Rattle.tsp_history.specs.{Histories.line_of, Histories.history_of, declared.line.HistoryLine.HistoryLine}
 use Rattle.tsp_audit.specs.Agreeing.{AgreementIs, Numbered, SettledAt}
-use Rattle.tsp_audit.proofs.SettleLemmas.{agreement-settled, still-settled}
-use Rattle.tsp_audit.proofs.Prefixes.{at-line, one-more}
+use Rattle.tsp_audit.proofs.{Prefixes.at-line, Prefixes.one-more, SettleLemmas.agreement-settled, SettleLemmas.still-settled}
 use Rattle.tsp_history.proofs.HistoryLemmas.{Within-noted, history-more}
 use Rattle.tsp_audit.proofs.agreement_tracker.AgreementTracker.keeps_agreeing.Goals as goal
 

@@ -1,17 +1,10 @@
 use Rattle.std.proofs.Common.{◌≡◌, ◌+◌, ◌∷◌, ◌++◌, ◌∙◌, [], ℤ, List, rules, arith, sym, ap, subst, get_or, take, to_z, of_z}
-use Rattle.std.specs.Int.{w128}
 use Rattle.tsp_base.specs.Words.{Line}
-use Rattle.tsp_audit.specs.Agreeing.{AgreementIs}
-use Rattle.tsp_history.specs.Rounds.{TripsTell}
-use Rattle.tsp_audit.specs.declared.agreement_tracker.AgreementTracker.{AgreementTracker}
-use Rattle.tsp_audit.proofs.AgreementSteps.{agreement-next}
-use Rattle.tsp_history.proofs.HistoryLemmas.{history-more}
-use Rattle.tsp_audit.proofs.SampleLemmas.{history-length}
-use Rattle.tsp_history.specs.declared.line.HistoryLine.{HistoryLine}
-use Rattle.tsp_audit.specs.Changes.{LeavesState}
-use Rattle.std.proofs.lemmas.List.{get_or_default}
-use Rattle.tsp_history.specs.Histories.{deed_of, history_of, line_of}
-use Rattle.tsp_history.proofs.NoteLemmas.{told_take}
+use Rattle.tsp_audit.specs.{Agreeing.AgreementIs, Changes.LeavesState, declared.agreement_tracker.AgreementTracker.AgreementTracker}
+use Rattle.tsp_audit.proofs.{AgreementSteps.agreement-next, SampleLemmas.history-length}
+use Rattle.tsp_history.{proofs.HistoryLemmas.history-more, proofs.NoteLemmas.told_take, specs.declared.line.HistoryLine.HistoryLine}
+use Rattle.std.{proofs.lemmas.List.get_or_default, specs.Int.w128}
+use Rattle.tsp_history.specs.{Histories.deed_of, Histories.history_of, Histories.line_of, Rounds.TripsTell}
 use Rattle.tsp_audit.proofs.agreement_tracker.AgreementTracker.note.Goals as goal
 
 pub returns-clause-agreement : goal.returns-clause-agreement

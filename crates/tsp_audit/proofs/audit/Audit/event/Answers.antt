@@ -1,20 +1,12 @@
 use Rattle.std.proofs.Common.{◌≡◌, ◌≤◌, ◌+◌, ◌-◌, ◌∙◌, ℕ, arith, ap, sym, subst, rules, List, ◌∷◌, length}
-use Rattle.tsp_audit.specs.declared.premises.Premises.{Premises}
-use Rattle.tsp_audit.specs.declared.verdict.Verdict.{Verdict}
-use Rattle.tsp_audit.specs.Looking.{Finds, Grown}
-use Rattle.tsp_audit.specs.Remembered.{HasLineRoom, RememberedStands}
-use Rattle.tsp_audit.specs.Verdicts.{IsVerdict}
+use Rattle.tsp_audit.specs.{Looking.Finds, Looking.Grown, Remembered.HasLineRoom, Remembered.RememberedStands, Verdicts.IsVerdict}
 use Rattle.tsp_audit.proofs.EventLemmas.{acts-length, audit-refused, audit-with, found-more, grown-claims, longer-claims, notes-later, verdict-is}
-use Rattle.tsp_audit.proofs.NoteLemmas.{room-less}
+use Rattle.tsp_audit.{proofs.NoteLemmas.room-less, specs.declared.premises.Premises.Premises, specs.declared.verdict.Verdict.Verdict}
 use Rattle.tsp_rules.specs.Values.{Line2}
 use Rattle.tsp_base.specs.Words.{HeaderValue, Line}
-use Rattle.tsp_claims.specs.ClaimedHistory.{Claim, claimed}
-use Rattle.tsp_claims.specs.Fitting.{Fit, acts_of}
-use Rattle.tsp_claims.specs.Listed.{NamesNode}
+use Rattle.tsp_claims.specs.{ClaimedHistory.Claim, ClaimedHistory.claimed, Fitting.Fit, Fitting.acts_of, Listed.NamesNode}
 use Rattle.tsp_claims.specs.Stands.{ClaimsStand, claim_of}
-use Rattle.tsp_history.specs.declared.line.HistoryLine.{HistoryLine}
-use Rattle.tsp_history.specs.Histories.{history_of}
-use Rattle.tsp_history.proofs.NoteLemmas.{length-history}
+use Rattle.tsp_history.{proofs.NoteLemmas.length-history, specs.Histories.history_of, specs.declared.line.HistoryLine.HistoryLine}
 use Rattle.tsp_audit.proofs.audit.Audit.event.Goals as goal
 
 pub returns-in-Some : goal.returns-in-Some

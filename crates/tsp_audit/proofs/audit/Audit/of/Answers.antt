@@ -1,7 +1,6 @@
 -- The audit stands for what was found of all events.
 use Rattle.std.proofs.Common.{◌≡◌, ◌∙◌, List, [], ap, length, refl, sym}
-use Rattle.tsp_audit.specs.Remembered.{RememberedStands}
-use Rattle.tsp_audit.specs.Verdicts.{IsFoundOfAll}
+use Rattle.tsp_audit.specs.{Remembered.RememberedStands, Verdicts.IsFoundOfAll}
 use Rattle.tsp_audit.proofs.ThroughLemmas.{dated-named, dated-timely}
 use Rattle.tsp_rules.specs.Values.{NodeLine}
 use Rattle.tsp_base.specs.Words.{HeaderValue}

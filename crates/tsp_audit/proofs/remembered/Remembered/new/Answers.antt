@@ -1,7 +1,5 @@
 use Rattle.std.proofs.Common.{◌≡◌, ℕ, List, [], Option, rules, subst, sym}
-use Rattle.tsp_audit.specs.Acting.{ActedIs}
-use Rattle.tsp_audit.specs.Agreeing.{AgreementIs, SettledAt}
-use Rattle.tsp_audit.proofs.ActLemmas.{acted-none}
+use Rattle.tsp_audit.{proofs.ActLemmas.acted-none, specs.Acting.ActedIs, specs.Agreeing.AgreementIs, specs.Agreeing.SettledAt}
 use Rattle.tsp_audit.proofs.remembered.Remembered.new.Goals as goal
 
 pub returns-in-Ok : goal.returns-in-Ok

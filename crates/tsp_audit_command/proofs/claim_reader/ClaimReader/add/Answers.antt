@@ -1,6 +1,5 @@
 -- The line fits, and there is room for it.
-use Rattle.std.proofs.Common.{◌≡◌, ◌<◌, ◌∙◌, ap, sym, subst, rules}
-use Rattle.std.specs.Prelude.{◌∷◌, ◌++◌, []}
+use Rattle.std.proofs.Common.{◌≡◌, ◌<◌, ◌∙◌, ap, sym, subst, rules, ◌∷◌, ◌++◌, []}
 use Rattle.tsp_audit_command.specs.ClaimReaders.{FitsHere, lines_told, most_lines, told_more}
 use Rattle.tsp_audit_command.specs.Sound.{Sound, claims_on}
 use Rattle.tsp_claims.specs.Stands.{ClaimsStand}

@@ -1,7 +1,6 @@
 -- Nothing is claimed yet.
 use Rattle.std.proofs.Common.{subst, sym}
-use Rattle.tsp_audit_command.specs.Sound.{Sound}
-use Rattle.tsp_audit_command.proofs.SoundLemmas.{Sound-begun, view-begun}
+use Rattle.tsp_audit_command.{proofs.SoundLemmas.Sound-begun, proofs.SoundLemmas.view-begun, specs.Sound.Sound}
 use Rattle.tsp_audit_command.proofs.claim_reader.ClaimReader.begin.Goals as goal
 
 pub invariant_of-result : goal.invariant_of-result

@@ -1,10 +1,7 @@
 -- A line fits as the next one of the event at hand.
-use Rattle.std.proofs.Common.{◌≡◌, sym, subst, ◌↔◌, IsTrue, rules}
-use Rattle.std.specs.Prelude.{length, Some}
-use Rattle.std.specs.List.{slice_get}
-use Rattle.std.proofs.lemmas.Option.{slice_get_within}
-use Rattle.tsp_audit_command.specs.ClaimReaders.{FitsFirst, FitsHere}
-use Rattle.tsp_audit_command.specs.Sound.{claims_on}
+use Rattle.std.proofs.Common.{◌≡◌, sym, subst, ◌↔◌, IsTrue, rules, length, Some}
+use Rattle.std.{proofs.lemmas.Option.slice_get_within, specs.List.slice_get}
+use Rattle.tsp_audit_command.specs.{ClaimReaders.FitsFirst, ClaimReaders.FitsHere, Sound.claims_on}
 use Rattle.tsp_claims.specs.Fitting.{FitsNext}
 use Rattle.tsp_audit_command.proofs.SoundLemmas.{ahead-at, few-passed, got-at}
 use Rattle.tsp_audit_command.proofs.claim_reader.ClaimReader.fits.Goals as goal

@@ -1,11 +1,7 @@
 -- What was passed is judged.
-use Rattle.std.proofs.Common.{subst, sym, ℕ}
-use Rattle.std.specs.Prelude.{List}
-use Rattle.tsp_audit.specs.Ends.{EndsAt}
-use Rattle.tsp_audit.specs.Verdicts.{AuditStands}
-use Rattle.tsp_audit_command.specs.ClaimReaders.{ClaimReaderValue}
-use Rattle.tsp_audit_command.specs.Readings.{GivesVerdict}
-use Rattle.tsp_audit_command.specs.Sound.{claims_on}
+use Rattle.std.proofs.Common.{subst, sym, ℕ, List}
+use Rattle.tsp_audit.specs.{Ends.EndsAt, Verdicts.AuditStands}
+use Rattle.tsp_audit_command.specs.{ClaimReaders.ClaimReaderValue, Readings.GivesVerdict, Sound.claims_on}
 use Rattle.tsp_claims.specs.ClaimedHistory.{Claim}
 use Rattle.tsp_audit_command.proofs.claim_reader.ClaimReader.judge.Goals as goal
 

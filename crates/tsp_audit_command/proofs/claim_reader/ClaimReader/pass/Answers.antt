@@ -1,7 +1,6 @@
 -- One event is passed, or it can't be.
 use Rattle.std.proofs.Common.{◌≡◌, ◌+◌, ◌-◌, ◌∙◌, ap, sym, arith, suc}
-use Rattle.tsp_audit_command.specs.ClaimReaders.{passes}
-use Rattle.tsp_audit_command.proofs.PassLemmas.{Unpassed-more, passes-next}
+use Rattle.tsp_audit_command.{proofs.PassLemmas.Unpassed-more, proofs.PassLemmas.passes-next, specs.ClaimReaders.passes}
 use Rattle.tsp_audit_command.proofs.claim_reader.ClaimReader.pass.Goals as goal
 
 pub returns-in-Err : goal.returns-in-Err

@@ -1,8 +1,6 @@
 -- As many events are left as are ahead.
-use Rattle.std.proofs.Common.{◌≡◌, ◌-◌, ◌∙◌, ap, sym, subst, length-drop, rules}
-use Rattle.std.specs.Prelude.{length, MatchResult, Some}
-use Rattle.tsp_audit_command.specs.ClaimReaders.{ClaimReaderValue, passes}
-use Rattle.tsp_audit_command.specs.Stands.{Unpassed}
+use Rattle.std.proofs.Common.{◌≡◌, ◌-◌, ◌∙◌, ap, sym, subst, length-drop, rules, length, MatchResult, Some}
+use Rattle.tsp_audit_command.specs.{ClaimReaders.ClaimReaderValue, ClaimReaders.passes, Stands.Unpassed}
 use Rattle.tsp_audit_command.proofs.claim_reader.ClaimReader.pass_all.Goals as goal
 
 pub returns : goal.returns

@@ -1,15 +1,10 @@
 -- The event at hand lacks nothing, and is passed.
-use Rattle.std.proofs.Common.{◌≡◌, ◌∙◌, ap, sym, subst, rules}
-use Rattle.std.specs.Prelude.{List, ℕ, ◌+◌, ◌≤◌, length, take, reverse, [], ◌∷◌, ◌++◌, Some, false, OnOk, OnErr}
-use Rattle.std.specs.List.{slice_get}
-use Rattle.std.proofs.lemmas.Option.{slice_get_within}
+use Rattle.std.proofs.Common.{◌≡◌, ◌∙◌, ap, sym, subst, rules, List, ℕ, ◌+◌, ◌≤◌, length, take, reverse, [], ◌∷◌, ◌++◌, Some, false, OnOk, OnErr}
+use Rattle.std.{proofs.lemmas.Option.slice_get_within, specs.List.slice_get}
 use Rattle.tsp_audit.specs.Premised.{kept_with}
-use Rattle.tsp_base.specs.declared.trace.Line2.{Line2}
-use Rattle.tsp_base.specs.Words.{Line}
-use Rattle.tsp_audit_command.specs.ClaimReaders.{pass_one}
-use Rattle.tsp_audit_command.specs.Sound.{Sound, claims_on}
-use Rattle.tsp_claims.specs.ClaimedHistory.{claimed, posts_of}
-use Rattle.tsp_claims.specs.Fitting.{Fit, lacks, untold}
+use Rattle.tsp_base.specs.{Words.Line, declared.trace.Line2.Line2}
+use Rattle.tsp_audit_command.specs.{ClaimReaders.pass_one, Sound.Sound, Sound.claims_on}
+use Rattle.tsp_claims.specs.{ClaimedHistory.claimed, ClaimedHistory.posts_of, Fitting.Fit, Fitting.lacks, Fitting.untold}
 use Rattle.tsp_claims.specs.Stands.{ClaimsStand, claim_of}
 use Rattle.tsp_audit_command.proofs.SoundLemmas.{Sound-kept, Sound-passed, at-fit, at-listed, few-passed, got-at, view-passed}
 use Rattle.tsp_history.proofs.NoteLemmas.{length-history}

@@ -1,10 +1,8 @@
 -- The event is listed, and its node may have woken.
-use Rattle.std.proofs.Common.{◌≡◌, ◌∙◌, ap, inl, inr, refl, rules, sym}
-use Rattle.std.specs.Prelude.{◌∷◌, ◌++◌, [], ◌||◌, None}
+use Rattle.std.proofs.Common.{◌≡◌, ◌∙◌, ap, inl, inr, refl, rules, sym, ◌∷◌, ◌++◌, [], ◌||◌, None}
 use Rattle.std.proofs.Math.Path.{fun_ext}
 use Rattle.tsp_claims.specs.Listed.{is_boot_of}
-use Rattle.tsp_audit_command.proofs.Reverses.{reversed-more}
-use Rattle.tsp_audit_command.proofs.StandLemmas.{refused_next-as}
+use Rattle.tsp_audit_command.proofs.{Reverses.reversed-more, StandLemmas.refused_next-as}
 use Rattle.tsp_audit_command.proofs.listing.ListingEventHandler.event.Goals as goal
 
 pub returns-clause-happens : goal.returns-clause-happens

@@ -1,7 +1,5 @@
-use Rattle.std.specs.Prelude.{◌≡◌}
-use Rattle.std.proofs.Common.{rules}
-use Rattle.tsp_base.specs.Words.{deadlines_in, least_deadline}
-use Rattle.tsp_base.proofs.AlarmLemmas.{all_seen}
+use Rattle.std.proofs.Common.{rules, ◌≡◌}
+use Rattle.tsp_base.{proofs.AlarmLemmas.all_seen, specs.Words.deadlines_in, specs.Words.least_deadline}
 use Rattle.tsp_base.proofs.alarms.Alarms.least.Goals as goal
 
 pub returns : goal.returns

@@ -1,6 +1,5 @@
 use Rattle.std.proofs.Common.{◌-◌, ◌∙◌, sym, ap, arith}
-use Rattle.tsp_base.specs.Words.{kind_word, kind_number}
-use Rattle.tsp_base.proofs.KindLemmas.{at_place, place_in_range}
+use Rattle.tsp_base.{proofs.KindLemmas.at_place, proofs.KindLemmas.place_in_range, specs.Words.kind_word, specs.Words.kind_number}
 use Rattle.tsp_base.proofs.kind.Kind.of_word.Goals as goal
 
 pub returns-clause-none : goal.returns-clause-none

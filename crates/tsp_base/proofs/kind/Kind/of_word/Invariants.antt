@@ -1,6 +1,5 @@
 use Rattle.std.proofs.Common.{◌≡◌, ℕ, ◌<◌, slice_index_or}
-use Rattle.tsp_base.specs.declared.kind.Kind.{Kind}
-use Rattle.tsp_base.specs.Words.{kind_word, kinds}
+use Rattle.tsp_base.specs.{Words.kind_word, Words.kinds, declared.kind.Kind.Kind}
 use Rattle.tsp_base.proofs.kind.Kind.of_word.Given as goal
 
 abbrev pub invariant-loop-kind : goal.invariant-loop-kind

@@ -1,6 +1,5 @@
 -- The claims stand for the event too, or for what they stood for.
-use Rattle.tsp_claims.specs.Fitting.{FitsAfter, Misfits, untold}
-use Rattle.tsp_claims.proofs.StandLemmas.{of-fields}
+use Rattle.tsp_claims.{proofs.StandLemmas.of-fields, specs.Fitting.FitsAfter, specs.Fitting.Misfits, specs.Fitting.untold}
 use Rattle.tsp_claims.proofs.claims.Claims.event.Goals as goal
 
 pub returns-in-Some : goal.returns-in-Some

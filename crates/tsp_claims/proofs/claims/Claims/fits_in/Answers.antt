@@ -1,10 +1,7 @@
 -- The step that the values are, if there is one.
 use Rattle.std.proofs.Common.{◌+◌, ◌↔◌, Option, false, None, IsTrue, sym, subst, rules}
 use Rattle.tsp_base.specs.Words.{Step}
-use Rattle.tsp_claims.specs.ClaimedHistory.{step_at}
-use Rattle.tsp_claims.specs.Fitting.{LineFitsIn}
-use Rattle.tsp_claims.specs.Listed.{up_in}
-use Rattle.tsp_claims.specs.Steps.{ActsIn}
+use Rattle.tsp_claims.specs.{ClaimedHistory.step_at, Fitting.LineFitsIn, Listed.up_in, Steps.ActsIn}
 use Rattle.tsp_claims.proofs.StepLemmas.{acts-in, acts-out}
 use Rattle.tsp_claims.proofs.claims.Claims.fits_in.Goals as goal
 

@@ -1,12 +1,9 @@
 -- A line that fits is counted; the first that doesn't is named.
 use Rattle.std.proofs.Common.{◌≡◌, ◌∙◌, ◌+◌, length, ap, arith, rules, subst, sym}
-use Rattle.tsp_base.specs.declared.event.Event.{Event}
-use Rattle.tsp_claims.specs.declared.tally.Tally.{Tally}
-use Rattle.tsp_claims.specs.Fitting.{FitsAfter, Misfits, untold}
-use Rattle.tsp_claims.specs.Listed.{up_in}
+use Rattle.tsp_base.specs.declared.{event.Event.Event, trace.Line2.Line2}
+use Rattle.tsp_claims.specs.{Fitting.FitsAfter, Fitting.Misfits, Fitting.untold, Listed.up_in, declared.tally.Tally.Tally}
 use Rattle.tsp_claims.proofs.FitLemmas.{Left, left-next, left-misfits, left-lacks, claims_of_step-few}
 use Rattle.tsp_claims.proofs.claims.Claims.misfit.Goals as goal
-use Rattle.tsp_base.specs.declared.trace.Line2.{Line2}
 
 pub returns-then-not-fits_in : goal.returns-then-not-fits_in
 returns-then-not-fits_in c =

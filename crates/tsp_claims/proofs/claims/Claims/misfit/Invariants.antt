@@ -1,8 +1,6 @@
 -- The lines so far fit and were counted.
 use Rattle.std.proofs.Common.{◌≤◌, ◌+◌}
-use Rattle.tsp_claims.specs.Fitting.{FitsAfter}
-use Rattle.tsp_claims.specs.Listed.{up_in}
-use Rattle.tsp_claims.proofs.FitLemmas.{Left}
+use Rattle.tsp_claims.{proofs.FitLemmas.Left, specs.Fitting.FitsAfter, specs.Listed.up_in}
 use Rattle.tsp_claims.proofs.claims.Claims.misfit.Given as goal
 
 abbrev pub invariant-loop-i : goal.invariant-loop-i

@@ -1,7 +1,5 @@
 -- The claims were joined by the event's step.
-use Rattle.tsp_claims.specs.ClaimedHistory.{step_at}
-use Rattle.tsp_claims.specs.Listed.{up_in}
-use Rattle.tsp_claims.proofs.StandLemmas.{ClaimsStand-taken}
+use Rattle.tsp_claims.{proofs.StandLemmas.ClaimsStand-taken, specs.ClaimedHistory.step_at, specs.Listed.up_in}
 use Rattle.tsp_claims.proofs.claims.Claims.take_in.Goals as goal
 
 pub returns-clause-taken : goal.returns-clause-taken

@@ -1,9 +1,7 @@
 -- The new offset is the old one and the amount.
-use Rattle.std.proofs.Common.{rules, ◌≡◌, ◌∙◌, ap, arith, ℕ, ◌+◌, ◌%◌, ℤ, pos, ◌+ℤ◌, ◌-ℤ◌, true, SFits, w64, to_z, of_z, to_z-of_z}
+use Rattle.std.proofs.Common.{rules, ◌≡◌, ◌∙◌, ap, arith, ℕ, ◌+◌, ◌%◌, ℤ, pos, ◌+ℤ◌, ◌-ℤ◌, true, SFits, w64, to_z, of_z, to_z-of_z, if◌then◌else◌}
 use Rattle.std.proofs.lemmas.Int.{ints}
-use Rattle.std.specs.Prelude.{if◌then◌else◌}
-use Rattle.tsp_rules.specs.ClockRows.{is_step}
-use Rattle.tsp_rules.specs.Guards.{is_clock_value}
+use Rattle.tsp_rules.specs.{ClockRows.is_step, Guards.is_clock_value}
 use Rattle.tsp_clock.specs.Clocks.{target_of, slew_rest}
 use Rattle.tsp_clock.proofs.clock.Clock.adjust.Goals as goal
 

@@ -1,8 +1,6 @@
 -- The act tells what is shown right after.
-use Rattle.std.specs.Prelude.{if◌then◌else◌}
-use Rattle.std.proofs.Common.{rules, ◌≡◌, refl, ◌∙◌, ap, ◌+ℤ◌, SFits, w64, to_z, of_z, to_z-of_z, le_refl}
-use Rattle.tsp_base.specs.Words.{plain, target, shown}
-use Rattle.tsp_base.proofs.FrameLemmas.{PutsExactly_put}
+use Rattle.std.proofs.Common.{rules, ◌≡◌, refl, ◌∙◌, ap, ◌+ℤ◌, SFits, w64, to_z, of_z, to_z-of_z, le_refl, if◌then◌else◌}
+use Rattle.tsp_base.{proofs.FrameLemmas.PutsExactly_put, specs.Words.plain, specs.Words.target, specs.Words.shown}
 use Rattle.tsp_rules.specs.ClockRows.{adjusts, is_step}
 use Rattle.tsp_clock.specs.Clocks.{target_of, shown_of, adjusted}
 use Rattle.tsp_clock.proofs.ClockLemmas.{Stands_adjusts, shown_adjusted}

@@ -1,10 +1,8 @@
 -- The act's amount is from the target to the value.
 use Rattle.std.proofs.Common.{rules, ◌≡◌, ap, pos, ◌+ℤ◌, ◌-ℤ◌, SFits, w64, to_z, of_z, to_z-of_z}
-use Rattle.tsp_base.specs.Words.{plain, target}
-use Rattle.tsp_base.proofs.FrameLemmas.{PutsExactly_put}
+use Rattle.tsp_base.{proofs.FrameLemmas.PutsExactly_put, specs.Words.plain, specs.Words.target}
 use Rattle.tsp_rules.specs.ClockRows.{sets}
-use Rattle.tsp_clock.specs.Clocks.{target_of}
-use Rattle.tsp_clock.proofs.ClockLemmas.{Stands_sets}
+use Rattle.tsp_clock.{proofs.ClockLemmas.Stands_sets, specs.Clocks.target_of}
 use Rattle.tsp_clock.proofs.clock.Clock.correct_to.Goals as goal
 
 pub returns-clause-row : goal.returns-clause-row

@@ -1,8 +1,6 @@
 -- The date at the peer's place is its last one.
-use Rattle.std.proofs.Common.{◌≡◌, sym, ◌∙◌, ap, Some, None, get_or}
-use Rattle.std.specs.Prelude.{◌==◌, position}
-use Rattle.tsp_date.specs.declared.dates.Dated.{Dated}
-use Rattle.tsp_date.specs.Dates.{DatesValue, dating_in}
+use Rattle.std.proofs.Common.{◌≡◌, sym, ◌∙◌, ap, Some, None, get_or, ◌==◌, position}
+use Rattle.tsp_date.specs.{Dates.DatesValue, Dates.dating_in, declared.dates.Dated.Dated}
 use Rattle.tsp_date.proofs.DatesLemmas.{found, last-at, last-none}
 use Rattle.tsp_date.proofs.dates.Dates.last.Goals as goal
 

@@ -1,8 +1,6 @@
 -- A date is put in its peer's place.
-use Rattle.std.proofs.Common.{◌≡◌, ℕ, sym, ◌∙◌, ap, Option, Some, None, get_or, refl}
-use Rattle.std.specs.Prelude.{◌==◌, position}
-use Rattle.tsp_date.specs.declared.dates.Dated.{Dated}
-use Rattle.tsp_date.specs.Dates.{DatesValue}
+use Rattle.std.proofs.Common.{◌≡◌, ℕ, sym, ◌∙◌, ap, Option, Some, None, get_or, refl, ◌==◌, position}
+use Rattle.tsp_date.specs.{Dates.DatesValue, declared.dates.Dated.Dated}
 use Rattle.tsp_date.proofs.DatesLemmas.{found, last-set, never_missing, peer-at, peers-set}
 use Rattle.tsp_date.proofs.dates.Dates.set.Goals as goal
 

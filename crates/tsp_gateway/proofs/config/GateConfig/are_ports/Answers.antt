@@ -1,12 +1,10 @@
 -- One port after the other.
 use Rattle.std.proofs.Common.{◌≡◌, ◌<◌, ◌∙◌, ℕ, List, ap, arith, get_or, length, refl, rules, subst, sym, vec_len}
-use Rattle.std.proofs.lemmas.Bool.{false≢true}
-use Rattle.std.proofs.lemmas.Option.{slice_get-get_or}
+use Rattle.std.proofs.lemmas.{Bool.false≢true, Option.slice_get-get_or}
 use Rattle.tsp_rules.specs.NodeRows.{PortSetup, no_port}
 use Rattle.tsp_node.specs.Configs.{IsPortSetup}
 use Rattle.tsp_gateway.specs.GateConfigs.{GateConfigValue}
-use Rattle.tsp_gateway.proofs.BootLemmas.{each_port, port_in_place}
-use Rattle.tsp_gateway.proofs.LiftLemmas.{one_more}
+use Rattle.tsp_gateway.proofs.{BootLemmas.each_port, BootLemmas.port_in_place, LiftLemmas.one_more}
 use Rattle.tsp_gateway.proofs.config.GateConfig.are_ports.Goals as goal
 
 -- inside a list what is read in the place of none doesn't matter

@@ -1,9 +1,7 @@
 -- One more was asked.
 use Rattle.std.proofs.Common.{◌≡◌, ◌∙◌, arith, false, sym}
-use Rattle.tsp_gateway.specs.GatewayStands.{port_at}
-use Rattle.tsp_gateway.specs.PortFacts.{asked_on}
-use Rattle.tsp_gateway.proofs.AnyLemmas.{lower_none, lower_some}
-use Rattle.tsp_gateway.proofs.LiftLemmas.{one_more, ports_many}
+use Rattle.tsp_gateway.specs.{GatewayStands.port_at, PortFacts.asked_on}
+use Rattle.tsp_gateway.proofs.{AnyLemmas.lower_none, AnyLemmas.lower_some, LiftLemmas.one_more, LiftLemmas.ports_many}
 use Rattle.tsp_gateway.proofs.gateway.Gateway.any_lower.Goals as goal
 
 pub loop-r-preserved : goal.loop-r-preserved

@@ -1,8 +1,7 @@
 -- So far none was found.
 use Rattle.std.specs.Prelude.{◌≡◌, ℕ, ◌<◌, false}
 use Rattle.tsp_rules.specs.NodeRows.{NodePast}
-use Rattle.tsp_gateway.specs.GatewayStands.{GatewayStands, port_at}
-use Rattle.tsp_gateway.specs.PortFacts.{asked_on}
+use Rattle.tsp_gateway.specs.{GatewayStands.GatewayStands, GatewayStands.port_at, PortFacts.asked_on}
 use Rattle.tsp_gateway.proofs.gateway.Gateway.any_lower.Given as goal
 
 abbrev pub invariant-loop-r : goal.invariant-loop-r

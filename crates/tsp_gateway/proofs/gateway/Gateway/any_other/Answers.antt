@@ -1,9 +1,7 @@
 -- One more was asked.
 use Rattle.std.proofs.Common.{◌≡◌, ◌≢◌, ◌∙◌, arith, false, length, rules, sym, vec_len}
-use Rattle.tsp_gateway.specs.GatewayStands.{port_at}
-use Rattle.tsp_gateway.specs.PortFacts.{asked_on}
-use Rattle.tsp_gateway.proofs.AnyLemmas.{other_none, other_some}
-use Rattle.tsp_gateway.proofs.LiftLemmas.{one_more}
+use Rattle.tsp_gateway.specs.{GatewayStands.port_at, PortFacts.asked_on}
+use Rattle.tsp_gateway.proofs.{AnyLemmas.other_none, AnyLemmas.other_some, LiftLemmas.one_more}
 use Rattle.tsp_gateway.proofs.gateway.Gateway.any_other.Goals as goal
 use Rattle.tsp_gateway.proofs.gateway.Gateway.any_other.Goals.{else-r-q-via-then-r-q+else-is, else-r-q-via-else-r-q}
 

@@ -1,9 +1,7 @@
 -- One port after the other.
 use Rattle.std.proofs.Common.{◌≡◌, ◌<◌, ◌∙◌, arith, length, refl, rules, subst, sym, true, vec_len}
-use Rattle.tsp_rules.specs.GateRows.{all_ports, boots_on}
-use Rattle.tsp_rules.specs.NodeRows.{for_ports, reading_all}
-use Rattle.tsp_gateway.proofs.LiftLemmas.{All_same, ports_many}
-use Rattle.tsp_gateway.proofs.LoopLemmas.{last_port, next_port, upset_all}
+use Rattle.tsp_rules.specs.{GateRows.all_ports, GateRows.boots_on, NodeRows.for_ports, NodeRows.reading_all}
+use Rattle.tsp_gateway.proofs.{LiftLemmas.All_same, LiftLemmas.ports_many, LoopLemmas.last_port, LoopLemmas.next_port, LoopLemmas.upset_all}
 use Rattle.tsp_gateway.proofs.gateway.Gateway.begin_all.Goals as goal
 
 pub loop-q-init : goal.loop-q-init

@@ -1,13 +1,8 @@
 -- What is left to perform are the rows of the ports that are still to come.
 use Rattle.std.specs.Prelude.{◌≡◌, ◌*◌, List, length, true}
-use Rattle.tsp_rules.specs.Values.{Placed}
 use Rattle.tsp_base.specs.Words.{PutsAtMost}
-use Rattle.tsp_rules.specs.GateRows.{boots_on}
-use Rattle.tsp_rules.specs.NodePerforms.{PerformsAll}
-use Rattle.tsp_rules.specs.NodeRows.{for_ports}
-use Rattle.tsp_gateway.specs.declared.gateway.Gateway.{Gateway}
-use Rattle.tsp_gateway.specs.GatewayStands.{GatewayStands, clock_at}
-use Rattle.tsp_gateway.specs.Rooms.{ports_in}
+use Rattle.tsp_rules.specs.{GateRows.boots_on, NodePerforms.PerformsAll, NodeRows.for_ports, Values.Placed}
+use Rattle.tsp_gateway.specs.{GatewayStands.GatewayStands, GatewayStands.clock_at, Rooms.ports_in, declared.gateway.Gateway.Gateway}
 use Rattle.tsp_gateway.proofs.LoopLemmas.{left}
 use Rattle.tsp_gateway.proofs.gateway.Gateway.begin_all.Given as goal
 

@@ -2,9 +2,7 @@
 use Rattle.std.proofs.Common.{◌≡◌, ◌∙◌, ap, arith, length, of_z, to_z, to_z-of_z, w64}
 use Rattle.std.proofs.lemmas.List.{length-append, length-map}
 use Rattle.tsp_base.specs.Words.{puts}
-use Rattle.tsp_rules.specs.GateRows.{boots_all}
-use Rattle.tsp_rules.specs.NodeRows.{on}
-use Rattle.tsp_rules.proofs.NodeRowLemmas.{All_then}
+use Rattle.tsp_rules.{proofs.NodeRowLemmas.All_then, specs.GateRows.boots_all, specs.NodeRows.on}
 use Rattle.tsp_gateway.specs.Rooms.{ports_in}
 use Rattle.tsp_gateway.proofs.gateway.Gateway.boot.Goals as goal
 

@@ -1,13 +1,9 @@
 -- What the port does, and what it stirs where it has corrected.
 use Rattle.std.proofs.Common.{ap, length, ◌∙◌, false, refl, sym, arith}
-use Rattle.tsp_rules.specs.Values.{CloseAlarm}
-use Rattle.tsp_rules.specs.Answers.{rings}
-use Rattle.tsp_rules.specs.GateRows.{alarm_on, closes_on, leads_clock}
-use Rattle.tsp_rules.specs.NodeRows.{on_port}
+use Rattle.tsp_rules.specs.{Answers.rings, GateRows.alarm_on, GateRows.closes_on, GateRows.leads_clock, NodeRows.on_port, Values.CloseAlarm}
 use Rattle.tsp_master.specs.MasterAlarms.{IsInTurn}
 use Rattle.tsp_node.proofs.TakeEmits.{emits_rings}
-use Rattle.tsp_gateway.specs.GatewayStands.{port_at}
-use Rattle.tsp_gateway.proofs.LiftLemmas.{All_reading, part_there}
+use Rattle.tsp_gateway.{proofs.LiftLemmas.All_reading, proofs.LiftLemmas.part_there, specs.GatewayStands.port_at}
 use Rattle.tsp_gateway.proofs.PlaceLemmas.{peers_there, places, ports_few, ports_set}
 use Rattle.tsp_gateway.proofs.StirLemmas.{All_calm, All_upset, untaken_there}
 use Rattle.tsp_gateway.proofs.gateway.Gateway.close.Goals as goal

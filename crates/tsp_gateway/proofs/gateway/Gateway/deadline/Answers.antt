@@ -1,12 +1,8 @@
 -- One port more, and at last all of them.
-use Rattle.std.specs.Prelude.{◌≡◌, ℕ, List, [], ◌∷◌, ◌++◌, length, Option, Some}
-use Rattle.std.proofs.Common.{sym, ◌∙◌, ap, refl, arith, subst, inl, inr}
-use Rattle.std.proofs.lemmas.List.{length-append}
-use Rattle.std.proofs.lemmas.Option.{slice_get-get_or}
+use Rattle.std.proofs.Common.{sym, ◌∙◌, ap, refl, arith, subst, inl, inr, ◌≡◌, ℕ, List, [], ◌∷◌, ◌++◌, length, Option, Some}
+use Rattle.std.proofs.lemmas.{List.length-append, Option.slice_get-get_or}
 use Rattle.tsp_base.specs.Words.{earlier}
-use Rattle.tsp_node.specs.declared.part.Part.{Part}
-use Rattle.tsp_node.specs.Dues.{IsPartDue}
-use Rattle.tsp_node.specs.NodeStands.{due_of}
+use Rattle.tsp_node.specs.{Dues.IsPartDue, NodeStands.due_of, declared.part.Part.Part}
 use Rattle.tsp_gateway.proofs.DueLemmas.{get-append, least_of-append}
 use Rattle.tsp_gateway.proofs.gateway.Gateway.deadline.Goals as goal
 

@@ -1,7 +1,6 @@
 -- The ports so far have these deadlines, and their earliest is at hand.
 use Rattle.std.proofs.Common.{◌≡◌, ℕ, length, List, Option, Some, slice_get}
-use Rattle.tsp_node.specs.declared.part.Part.{Part}
-use Rattle.tsp_node.specs.Dues.{IsPartDue}
+use Rattle.tsp_node.specs.{Dues.IsPartDue, declared.part.Part.Part}
 use Rattle.tsp_gateway.specs.Dues.{least_of}
 use Rattle.tsp_gateway.proofs.gateway.Gateway.deadline.Given as goal
 

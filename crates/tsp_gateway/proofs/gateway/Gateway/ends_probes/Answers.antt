@@ -1,11 +1,8 @@
 -- The station says it.
-use Rattle.std.proofs.Common.{◌≡◌, ◌∙◌, ap, false, length, rules, sym, true, vec_len}
-use Rattle.std.specs.Prelude.{◌&&◌, is_some, nat_le, not}
+use Rattle.std.proofs.Common.{◌≡◌, ◌∙◌, ap, false, length, rules, sym, true, vec_len, ◌&&◌, is_some, nat_le, not}
 use Rattle.tsp_base.specs.Words.{Deadlines}
-use Rattle.tsp_rules.specs.GateRows.{is_last_probe}
-use Rattle.tsp_rules.specs.NodeRows.{on_port}
-use Rattle.tsp_gateway.specs.GatewayStands.{port_at}
-use Rattle.tsp_gateway.proofs.AnyLemmas.{station_there}
+use Rattle.tsp_rules.specs.{GateRows.is_last_probe, NodeRows.on_port}
+use Rattle.tsp_gateway.{proofs.AnyLemmas.station_there, specs.GatewayStands.port_at}
 use Rattle.tsp_gateway.proofs.gateway.Gateway.ends_probes.Goals as goal
 
 pub returns-then-asks_no_more : goal.returns-then-asks_no_more

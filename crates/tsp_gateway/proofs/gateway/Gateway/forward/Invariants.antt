@@ -1,15 +1,9 @@
 -- What is left to perform are the rows of the ports that are still to come.
 use Rattle.std.specs.Prelude.{ℕ, List, length, false}
-use Rattle.tsp_rules.specs.Values.{Placed}
 use Rattle.tsp_base.specs.Words.{PutsAtMost}
-use Rattle.tsp_rules.specs.GateRows.{reposts_on}
-use Rattle.tsp_rules.specs.NodePerforms.{PerformsAll}
-use Rattle.tsp_rules.specs.NodeRows.{for_ports}
-use Rattle.tsp_gateway.specs.declared.gateway.Gateway.{Gateway}
-use Rattle.tsp_gateway.specs.GatewayStands.{GatewayStands}
-use Rattle.tsp_gateway.specs.Rooms.{ports_in}
-use Rattle.tsp_gateway.proofs.LoopLemmas.{left}
-use Rattle.tsp_gateway.proofs.RoomLemmas.{peers_below}
+use Rattle.tsp_rules.specs.{GateRows.reposts_on, NodePerforms.PerformsAll, NodeRows.for_ports, Values.Placed}
+use Rattle.tsp_gateway.specs.{GatewayStands.GatewayStands, Rooms.ports_in, declared.gateway.Gateway.Gateway}
+use Rattle.tsp_gateway.proofs.{LoopLemmas.left, RoomLemmas.peers_below}
 use Rattle.tsp_gateway.proofs.gateway.Gateway.forward.Given as goal
 
 abbrev pub invariant-loop-r : goal.invariant-loop-r

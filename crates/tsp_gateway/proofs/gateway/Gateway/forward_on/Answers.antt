@@ -1,16 +1,10 @@
 -- A post to each other peer, where the port is awake.
-use Rattle.std.proofs.Common.{◌≡◌, ◌∙◌, ap, arith, false, refl, sym, true}
-use Rattle.std.specs.Prelude.{not}
-use Rattle.tsp_rules.specs.Values.{Role}
-use Rattle.tsp_rules.specs.GateRows.{is_awake_on, reposts, reposts_on}
-use Rattle.tsp_rules.specs.Guards.{is_starting_role}
+use Rattle.std.proofs.Common.{◌≡◌, ◌∙◌, ap, arith, false, refl, sym, true, not}
+use Rattle.tsp_rules.specs.{GateRows.is_awake_on, GateRows.reposts, GateRows.reposts_on, Guards.is_starting_role, Values.Role}
 use Rattle.tsp_gateway.specs.GatewayStands.{port_at}
-use Rattle.tsp_gateway.proofs.AnyLemmas.{station_there}
-use Rattle.tsp_gateway.proofs.LiftLemmas.{All_nothing, All_same, part_there}
-use Rattle.tsp_gateway.proofs.PlaceLemmas.{places, ports_few, station_peers}
-use Rattle.tsp_gateway.proofs.PostLemmas.{All_posted}
-use Rattle.tsp_rules.proofs.BuiltGate.{built_reposts}
-use Rattle.tsp_rules.proofs.EmitsBuilt.{emits_built}
+use Rattle.tsp_gateway.proofs.{AnyLemmas.station_there, LiftLemmas.All_nothing, LiftLemmas.All_same, LiftLemmas.part_there}
+use Rattle.tsp_gateway.proofs.{PlaceLemmas.places, PlaceLemmas.ports_few, PlaceLemmas.station_peers, PostLemmas.All_posted}
+use Rattle.tsp_rules.proofs.{BuiltGate.built_reposts, EmitsBuilt.emits_built}
 use Rattle.tsp_gateway.proofs.gateway.Gateway.forward_on.Goals as goal
 
 pub returns-then-is_awake-clause-row : goal.returns-then-is_awake-clause-row

@@ -1,10 +1,7 @@
 -- The station says whether it heeds a peer, and whose its number is.
 use Rattle.std.proofs.Common.{◌≡◌, ◌∙◌, arith, false, refl, sym, true}
-use Rattle.tsp_rules.specs.Guards.{is_heard}
-use Rattle.tsp_rules.specs.NodeRows.{on_port}
-use Rattle.tsp_gateway.specs.GatewayStands.{port_at}
-use Rattle.tsp_gateway.proofs.AnyLemmas.{station_there}
-use Rattle.tsp_gateway.proofs.PlaceLemmas.{places}
+use Rattle.tsp_rules.specs.{Guards.is_heard, NodeRows.on_port}
+use Rattle.tsp_gateway.{proofs.AnyLemmas.station_there, proofs.PlaceLemmas.places, specs.GatewayStands.port_at}
 use Rattle.tsp_gateway.proofs.gateway.Gateway.hears.Goals as goal
 
 pub index-requires : goal.index-requires

@@ -1,6 +1,5 @@
 -- The one, or else the other.
-use Rattle.std.proofs.Common.{◌≡◌, ◌∙◌, false, refl, sym, true}
-use Rattle.std.specs.Prelude.{◌||◌, Bool}
+use Rattle.std.proofs.Common.{◌≡◌, ◌∙◌, false, refl, sym, true, ◌||◌, Bool}
 use Rattle.std.proofs.lemmas.Bool.{or_left}
 use Rattle.tsp_gateway.proofs.gateway.Gateway.in_charge.Goals as goal
 

@@ -1,11 +1,8 @@
 -- The port's own answer.
-use Rattle.std.specs.Prelude.{◌≡◌, ℕ, not, Option}
-use Rattle.std.proofs.Common.{subst}
+use Rattle.std.proofs.Common.{subst, ◌≡◌, ℕ, not, Option}
 use Rattle.tsp_rules.specs.Guards.{is_over}
-use Rattle.tsp_node.specs.declared.part.Part.{Part}
-use Rattle.tsp_node.specs.Dues.{IsPartDue}
-use Rattle.tsp_gateway.proofs.LiftLemmas.{part_there}
-use Rattle.tsp_gateway.proofs.PlaceLemmas.{one_part}
+use Rattle.tsp_node.specs.{Dues.IsPartDue, declared.part.Part.Part}
+use Rattle.tsp_gateway.proofs.{LiftLemmas.part_there, PlaceLemmas.one_part}
 use Rattle.tsp_gateway.proofs.gateway.Gateway.is_idle.Goals as goal
 
 pub returns : goal.returns

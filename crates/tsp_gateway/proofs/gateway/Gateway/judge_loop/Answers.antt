@@ -2,11 +2,8 @@
 use Rattle.std.proofs.Common.{◌∙◌, arith, length}
 use Rattle.tsp_rules.specs.GateRows.{Forward, GiveUp, PassOver, takes_loop_step}
 use Rattle.tsp_rules.specs.NodeRows.{nothing_at_all}
-use Rattle.tsp_gateway.specs.GatewayStands.{port_at}
-use Rattle.tsp_gateway.proofs.AnyLemmas.{station_there}
-use Rattle.tsp_gateway.proofs.JudgeLemmas.{All_judged, forward_kind, judge_same}
-use Rattle.tsp_gateway.proofs.LiftLemmas.{All_nothing}
-use Rattle.tsp_gateway.proofs.PlaceLemmas.{places, ports_few}
+use Rattle.tsp_gateway.proofs.{AnyLemmas.station_there, JudgeLemmas.All_judged, JudgeLemmas.forward_kind, JudgeLemmas.judge_same}
+use Rattle.tsp_gateway.{proofs.LiftLemmas.All_nothing, proofs.PlaceLemmas.places, proofs.PlaceLemmas.ports_few, specs.GatewayStands.port_at}
 use Rattle.tsp_gateway.proofs.gateway.Gateway.judge_loop.Goals as goal
 
 pub forward-requires : goal.forward-requires

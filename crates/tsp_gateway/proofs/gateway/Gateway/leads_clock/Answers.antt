@@ -1,15 +1,11 @@
 -- No port follows, and no lower one leads.
-use Rattle.std.proofs.Common.{◌≡◌, ◌∙◌, ap, false, length, refl, rules, sym, true, vec_len}
-use Rattle.std.specs.Prelude.{◌&&◌, Bool, not}
+use Rattle.std.proofs.Common.{◌≡◌, ◌∙◌, ap, false, length, refl, rules, sym, true, vec_len, ◌&&◌, Bool, not}
 use Rattle.std.proofs.lemmas.Bool.{and_left}
-use Rattle.tsp_rules.specs.GateRows.{any_port, follows_on, ports_from}
-use Rattle.tsp_rules.specs.NodeRows.{NodePast}
+use Rattle.tsp_rules.specs.{GateRows.any_port, GateRows.follows_on, GateRows.ports_from, NodeRows.NodePast}
 use Rattle.tsp_gateway.specs.declared.leading.Asked.TheVariants.{Follows}
-use Rattle.tsp_gateway.specs.GatewayStands.{GatewayStands, port_at}
-use Rattle.tsp_gateway.specs.PortFacts.{any_lower}
-use Rattle.tsp_gateway.proofs.AnyLemmas.{lower_all}
+use Rattle.tsp_gateway.specs.{GatewayStands.GatewayStands, GatewayStands.port_at, PortFacts.any_lower}
+use Rattle.tsp_gateway.proofs.{AnyLemmas.lower_all, gateway.Gateway.leads_clock.Goals.After-any_lower}
 use Rattle.tsp_gateway.proofs.gateway.Gateway.leads_clock.Goals as goal
-use Rattle.tsp_gateway.proofs.gateway.Gateway.leads_clock.Goals.{After-any_lower}
 
 none-follows : (c : After-any_lower) (past : NodePast) → GatewayStands past c.args.self.now → c.any_lower.result ≡ any_port (follows_on past) (ports_from 0 past.ports)
 none-follows c past h =

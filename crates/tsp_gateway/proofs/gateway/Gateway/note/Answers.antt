@@ -1,13 +1,11 @@
 -- What was taken leaves all ports as they are.
 use Rattle.std.proofs.Common.{ap, arith, length, refl, ◌∙◌}
 use Rattle.std.proofs.lemmas.List.{length-append}
-use Rattle.tsp_rules.specs.Values.{Took}
 use Rattle.tsp_base.specs.Words.{puts}
-use Rattle.tsp_rules.proofs.Emits.{Emits_puts}
+use Rattle.tsp_rules.{proofs.Emits.Emits_puts, specs.Values.Took}
 use Rattle.tsp_node.specs.NodeStands.{TakeStands, port_with}
 use Rattle.tsp_node.proofs.NodeLemmas.{PortTook_took, Performs_put}
-use Rattle.tsp_gateway.proofs.LiftLemmas.{All_idle}
-use Rattle.tsp_gateway.proofs.PlaceLemmas.{ports_few}
+use Rattle.tsp_gateway.proofs.{LiftLemmas.All_idle, PlaceLemmas.ports_few}
 use Rattle.tsp_gateway.proofs.gateway.Gateway.note.Goals as goal
 
 pub returns-clause-row : goal.returns-clause-row

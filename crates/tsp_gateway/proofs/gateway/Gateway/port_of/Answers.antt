@@ -1,7 +1,6 @@
 -- The ports are set up as the past says.
 use Rattle.std.proofs.Common.{◌∙◌, ap}
-use Rattle.tsp_gateway.specs.PortOf.{port_of}
-use Rattle.tsp_gateway.proofs.PortOfLemmas.{setups-stand}
+use Rattle.tsp_gateway.{proofs.PortOfLemmas.setups-stand, specs.PortOf.port_of}
 use Rattle.tsp_gateway.proofs.gateway.Gateway.port_of.Goals as goal
 
 pub returns-clause-past : goal.returns-clause-past

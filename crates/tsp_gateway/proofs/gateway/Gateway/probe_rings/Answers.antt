@@ -1,11 +1,8 @@
 -- The station says it.
 use Rattle.std.proofs.Common.{◌≡◌, ◌∙◌, ap, false, sym, true}
-use Rattle.tsp_rules.specs.Values.{Probe}
 use Rattle.tsp_base.specs.Words.{Deadlines}
-use Rattle.tsp_rules.specs.NodeRows.{on_port}
-use Rattle.tsp_rules.specs.Guards.{is_due, is_met, is_over}
-use Rattle.tsp_gateway.specs.GatewayStands.{port_at}
-use Rattle.tsp_gateway.proofs.AnyLemmas.{station_there}
+use Rattle.tsp_rules.specs.{Guards.is_due, Guards.is_met, Guards.is_over, NodeRows.on_port, Values.Probe}
+use Rattle.tsp_gateway.{proofs.AnyLemmas.station_there, specs.GatewayStands.port_at}
 use Rattle.tsp_gateway.proofs.gateway.Gateway.probe_rings.Goals as goal
 
 pub returns-then-is_due : goal.returns-then-is_due

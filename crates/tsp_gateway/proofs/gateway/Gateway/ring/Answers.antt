@@ -1,9 +1,7 @@
 -- What the port does is what the node does.
 use Rattle.std.proofs.Common.{◌≡◌, true, false, refl, subst, arith}
-use Rattle.tsp_rules.specs.Answers.{rings}
-use Rattle.tsp_rules.specs.Guards.{is_over}
-use Rattle.tsp_node.specs.declared.part.Part.{Part}
-use Rattle.tsp_node.proofs.TakeEmits.{emits_rings}
+use Rattle.tsp_rules.specs.{Answers.rings, Guards.is_over}
+use Rattle.tsp_node.{proofs.TakeEmits.emits_rings, specs.declared.part.Part.Part}
 use Rattle.tsp_gateway.proofs.LiftLemmas.{part_there, set_there}
 use Rattle.tsp_gateway.proofs.PlaceLemmas.{peers_there, places, ports_few, ports_set}
 use Rattle.tsp_gateway.proofs.TurnLemmas.{All_rung, moves_not, rings_still}

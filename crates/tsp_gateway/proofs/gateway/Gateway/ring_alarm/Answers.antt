@@ -1,12 +1,8 @@
 -- Each alarm has its call.
 use Rattle.std.proofs.Common.{◌≡◌, ◌∙◌, arith, sym}
-use Rattle.tsp_rules.specs.Values.{Round, Probe, CloseAlarm}
-use Rattle.tsp_rules.specs.GateRows.{alarm_on, begins_round_on, waits}
-use Rattle.tsp_gateway.specs.GatewayStands.{port_at}
-use Rattle.tsp_gateway.specs.Rooms.{peers_at, ports_in}
-use Rattle.tsp_gateway.proofs.AlarmsLemmas.{little_room}
-use Rattle.tsp_gateway.proofs.LiftLemmas.{All_reading}
-use Rattle.tsp_gateway.proofs.TurnLemmas.{alarm_alone}
+use Rattle.tsp_rules.specs.{GateRows.alarm_on, GateRows.begins_round_on, GateRows.waits, Values.Round, Values.Probe, Values.CloseAlarm}
+use Rattle.tsp_gateway.specs.{GatewayStands.port_at, Rooms.peers_at, Rooms.ports_in}
+use Rattle.tsp_gateway.proofs.{AlarmsLemmas.little_room, LiftLemmas.All_reading, TurnLemmas.alarm_alone}
 use Rattle.tsp_gateway.proofs.gateway.Gateway.ring_alarm.Goals as goal
 
 pub probe-requires-clause-port : goal.probe-requires-clause-port

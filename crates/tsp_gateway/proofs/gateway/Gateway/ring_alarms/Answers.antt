@@ -1,14 +1,10 @@
 -- One alarm after the other.
-use Rattle.std.proofs.Common.{◌≡◌, ◌+◌, ◌≤◌, arith, refl, ◌∙◌, ap, drop, take, []}
-use Rattle.std.specs.Prelude.{slice_index_or}
-use Rattle.tsp_rules.specs.Values.{Quiet, ALL}
-use Rattle.tsp_rules.specs.GateRows.{alarms_on}
-use Rattle.tsp_rules.proofs.NodeRowLemmas.{All_then}
+use Rattle.std.proofs.Common.{◌≡◌, ◌+◌, ◌≤◌, arith, refl, ◌∙◌, ap, drop, take, [], slice_index_or}
+use Rattle.tsp_rules.{proofs.NodeRowLemmas.All_then, specs.GateRows.alarms_on, specs.Values.Quiet, specs.Values.ALL}
 use Rattle.tsp_node.proofs.AlarmOrder.{close_after_probe}
-use Rattle.tsp_gateway.specs.GatewayStands.{port_at}
 use Rattle.tsp_gateway.specs.Rooms.{alarm_room, alarms_room, peers_at, ports_in}
 use Rattle.tsp_gateway.proofs.AlarmsLemmas.{alarms_room-front, alarms_room-next, all_on-alarms, drop_all, drop_next, nothing_left}
-use Rattle.tsp_gateway.proofs.LiftLemmas.{All_same}
+use Rattle.tsp_gateway.{proofs.LiftLemmas.All_same, specs.GatewayStands.port_at}
 use Rattle.tsp_gateway.proofs.gateway.Gateway.ring_alarms.Goals as goal
 
 pub loop-alarm-init : goal.loop-alarm-init

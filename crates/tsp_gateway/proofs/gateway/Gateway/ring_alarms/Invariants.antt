@@ -1,13 +1,10 @@
 -- What is left to perform are the alarms that are still to come; the Close comes right after the Probe.
-use Rattle.std.proofs.Common.{◌≡◌, ◌+◌, ◌≤◌, List, drop, take}
-use Rattle.std.specs.Prelude.{slice_index_or}
+use Rattle.std.proofs.Common.{◌≡◌, ◌+◌, ◌≤◌, List, drop, take, slice_index_or}
 use Rattle.tsp_rules.specs.Values.{Placed, Quiet, CloseAlarm, ALL}
 use Rattle.tsp_base.specs.Words.{PutsAtMost}
 use Rattle.tsp_rules.specs.NodePerforms.{PerformsAll}
-use Rattle.tsp_gateway.specs.declared.gateway.Gateway.{Gateway}
-use Rattle.tsp_gateway.specs.Dues.{HasProbed}
-use Rattle.tsp_gateway.specs.GatewayStands.{GatewayTurning, clock_at, port_at}
-use Rattle.tsp_gateway.specs.Rooms.{alarms_room, peers_at, ports_in}
+use Rattle.tsp_gateway.specs.{Dues.HasProbed, GatewayStands.GatewayTurning, GatewayStands.clock_at, GatewayStands.port_at}
+use Rattle.tsp_gateway.specs.{Rooms.alarms_room, Rooms.peers_at, Rooms.ports_in, declared.gateway.Gateway.Gateway}
 use Rattle.tsp_gateway.proofs.AlarmsLemmas.{all_on}
 use Rattle.tsp_gateway.proofs.gateway.Gateway.ring_alarms.Given as goal
 

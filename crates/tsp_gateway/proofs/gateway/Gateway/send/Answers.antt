@@ -1,11 +1,8 @@
 -- What the port does is what the node does.
 use Rattle.std.proofs.Common.{refl, arith}
-use Rattle.tsp_rules.specs.SendRows.{due_sends}
-use Rattle.tsp_gateway.proofs.LiftLemmas.{part_there, still_by}
+use Rattle.tsp_gateway.proofs.{LiftLemmas.part_there, LiftLemmas.still_by, TurnLemmas.All_sent}
 use Rattle.tsp_gateway.proofs.PlaceLemmas.{peers_there, places, ports_few, ports_set}
-use Rattle.tsp_gateway.proofs.TurnLemmas.{All_sent}
-use Rattle.tsp_rules.proofs.BuiltSends.{built_due_sends}
-use Rattle.tsp_rules.proofs.EmitsBuilt.{emits_built}
+use Rattle.tsp_rules.{proofs.BuiltSends.built_due_sends, proofs.EmitsBuilt.emits_built, specs.SendRows.due_sends}
 use Rattle.tsp_gateway.proofs.gateway.Gateway.send.Goals as goal
 
 pub returns-clause-row : goal.returns-clause-row

@@ -1,9 +1,7 @@
 -- All turns, and then what is taken.
 use Rattle.std.proofs.Common.{◌+◌, ◌*◌, ◌<◌, ◌≤◌, ap, arith, length, subst, sym}
-use Rattle.tsp_rules.specs.GateRows.{answers_all, input_all}
-use Rattle.tsp_rules.proofs.NodeRowLemmas.{All_then}
-use Rattle.tsp_gateway.specs.Rooms.{peers_sum, peers_at, ports_in}
-use Rattle.tsp_gateway.proofs.RoomLemmas.{take_room}
+use Rattle.tsp_rules.{proofs.NodeRowLemmas.All_then, specs.GateRows.answers_all, specs.GateRows.input_all}
+use Rattle.tsp_gateway.{proofs.RoomLemmas.take_room, specs.Rooms.peers_sum, specs.Rooms.peers_at, specs.Rooms.ports_in}
 use Rattle.tsp_gateway.proofs.gateway.Gateway.take.Goals as goal
 
 pub take_in-requires : goal.take_in-requires

@@ -1,11 +1,9 @@
 -- A LOOP, which is noted and judged where its sender is heard; another message, or what is none.
 use Rattle.std.proofs.Common.{◌≡◌, ◌∙◌, ap, arith, false, rules, sym, true}
-use Rattle.tsp_rules.specs.Values.{Message, Good, LoopKind}
 use Rattle.tsp_rules.specs.GateRows.{hears_on, heeds_loop, takes_kind, takes_loop, takes_on}
-use Rattle.tsp_rules.specs.NodeRows.{nothing_at_all}
+use Rattle.tsp_rules.specs.{NodeRows.nothing_at_all, Values.Message, Values.Good, Values.LoopKind}
 use Rattle.tsp_rules.proofs.NodeRowLemmas.{All_then}
-use Rattle.tsp_gateway.specs.GatewayStands.{port_at}
-use Rattle.tsp_gateway.specs.Rooms.{peers_sum}
+use Rattle.tsp_gateway.specs.{GatewayStands.port_at, Rooms.peers_sum}
 use Rattle.tsp_gateway.proofs.LiftLemmas.{All_nothing, All_reading, All_row}
 use Rattle.tsp_gateway.proofs.TakeLemmas.{loop_on, message_on, message_taken_on, other_on}
 use Rattle.tsp_gateway.proofs.gateway.Gateway.take_in.Goals as goal

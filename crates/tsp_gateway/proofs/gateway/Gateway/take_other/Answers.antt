@@ -1,12 +1,10 @@
 -- What the port does is what the node does.
 use Rattle.std.proofs.Common.{true, refl, arith}
-use Rattle.tsp_node.specs.NodeStands.{TakeStands}
-use Rattle.tsp_node.proofs.TakeEmits.{emits_takes}
+use Rattle.tsp_node.{proofs.TakeEmits.emits_takes, specs.NodeStands.TakeStands}
 use Rattle.tsp_rules.specs.NodeRows.{on_port}
 use Rattle.tsp_gateway.specs.GatewayStands.{GatewayStands, port_at}
-use Rattle.tsp_gateway.proofs.LiftLemmas.{All_on, part_there, take_stands}
+use Rattle.tsp_gateway.proofs.{LiftLemmas.All_on, LiftLemmas.part_there, LiftLemmas.take_stands, TakeLemmas.other_still}
 use Rattle.tsp_gateway.proofs.PlaceLemmas.{peers_there, places, ports_few, ports_set}
-use Rattle.tsp_gateway.proofs.TakeLemmas.{other_still}
 use Rattle.tsp_gateway.proofs.gateway.Gateway.take_other.Goals as goal
 
 pub returns-clause-row : goal.returns-clause-row

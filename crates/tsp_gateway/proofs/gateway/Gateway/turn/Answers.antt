@@ -1,11 +1,7 @@
 -- All turns, and nothing more.
 use Rattle.std.proofs.Common.{arith}
-use Rattle.tsp_rules.specs.GateRows.{answers_all, input_all}
-use Rattle.tsp_rules.specs.NodeRows.{nothing_at_all}
-use Rattle.tsp_rules.proofs.NodeRowLemmas.{All_then}
-use Rattle.tsp_gateway.specs.Rooms.{ports_in}
-use Rattle.tsp_gateway.proofs.LiftLemmas.{All_nothing}
-use Rattle.tsp_gateway.proofs.RoomLemmas.{turn_room_few}
+use Rattle.tsp_rules.{proofs.NodeRowLemmas.All_then, specs.GateRows.answers_all, specs.GateRows.input_all, specs.NodeRows.nothing_at_all}
+use Rattle.tsp_gateway.{proofs.LiftLemmas.All_nothing, proofs.RoomLemmas.turn_room_few, specs.Rooms.ports_in}
 use Rattle.tsp_gateway.proofs.gateway.Gateway.turn.Goals as goal
 
 pub returns-clause-row : goal.returns-clause-row

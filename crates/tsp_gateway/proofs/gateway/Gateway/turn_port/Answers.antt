@@ -1,7 +1,6 @@
 -- The sends, and then the alarms.
 use Rattle.std.proofs.Common.{ap, arith, ◌∙◌}
-use Rattle.tsp_rules.specs.GateRows.{turns_on}
-use Rattle.tsp_rules.proofs.NodeRowLemmas.{All_then}
+use Rattle.tsp_rules.{proofs.NodeRowLemmas.All_then, specs.GateRows.turns_on}
 use Rattle.tsp_gateway.specs.Rooms.{peers_at}
 use Rattle.tsp_gateway.proofs.gateway.Gateway.turn_port.Goals as goal
 

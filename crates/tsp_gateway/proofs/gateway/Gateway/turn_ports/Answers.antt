@@ -1,13 +1,9 @@
 -- One port after the other.
 use Rattle.std.proofs.Common.{◌≡◌, ◌<◌, ◌≤◌, ◌∙◌, ap, arith, length, refl, rules, subst, sym, true, vec_len}
-use Rattle.tsp_rules.specs.GateRows.{all_ports, turns_on}
-use Rattle.tsp_rules.specs.NodeRows.{for_ports, reading_all}
-use Rattle.tsp_gateway.specs.GatewayStands.{GatewayTurning}
-use Rattle.tsp_gateway.specs.Rooms.{peers_at, ports_in, turn_room}
-use Rattle.tsp_gateway.proofs.IdleLemmas.{idle_waits}
-use Rattle.tsp_gateway.proofs.LiftLemmas.{All_same, ports_many}
+use Rattle.tsp_rules.specs.{GateRows.all_ports, GateRows.turns_on, NodeRows.for_ports, NodeRows.reading_all}
+use Rattle.tsp_gateway.specs.{GatewayStands.GatewayTurning, Rooms.peers_at, Rooms.ports_in, Rooms.turn_room}
+use Rattle.tsp_gateway.proofs.{IdleLemmas.idle_waits, LiftLemmas.All_same, LiftLemmas.ports_many, PlaceLemmas.places}
 use Rattle.tsp_gateway.proofs.LoopLemmas.{last_port, next_port, upset_all}
-use Rattle.tsp_gateway.proofs.PlaceLemmas.{places}
 use Rattle.tsp_gateway.proofs.RoomLemmas.{no_turns, turns_few, turns_more, turns_next}
 use Rattle.tsp_gateway.proofs.gateway.Gateway.turn_ports.Goals as goal
 use Rattle.tsp_gateway.proofs.gateway.Gateway.turn_ports.Goals.{then-not-is_idle, else-not-is_idle}

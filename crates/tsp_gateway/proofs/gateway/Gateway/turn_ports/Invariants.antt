@@ -1,15 +1,9 @@
 -- What is left to perform are the turns of the ports that are still to come.
 use Rattle.std.specs.Prelude.{◌≡◌, ◌≤◌, List, length, true}
-use Rattle.tsp_rules.specs.Values.{Placed}
 use Rattle.tsp_base.specs.Words.{PutsAtMost}
-use Rattle.tsp_rules.specs.GateRows.{turns_on}
-use Rattle.tsp_rules.specs.NodePerforms.{PerformsAll}
-use Rattle.tsp_rules.specs.NodeRows.{for_ports}
-use Rattle.tsp_gateway.specs.declared.gateway.Gateway.{Gateway}
+use Rattle.tsp_rules.specs.{GateRows.turns_on, NodePerforms.PerformsAll, NodeRows.for_ports, Values.Placed}
 use Rattle.tsp_gateway.specs.GatewayStands.{GatewayBegun, GatewayStands, GatewayTurning, clock_at}
-use Rattle.tsp_gateway.specs.Rooms.{ports_in}
-use Rattle.tsp_gateway.proofs.LoopLemmas.{left}
-use Rattle.tsp_gateway.proofs.RoomLemmas.{turns_below}
+use Rattle.tsp_gateway.{proofs.LoopLemmas.left, proofs.RoomLemmas.turns_below, specs.Rooms.ports_in, specs.declared.gateway.Gateway.Gateway}
 use Rattle.tsp_gateway.proofs.gateway.Gateway.turn_ports.Given as goal
 
 abbrev pub invariant-loop-q : goal.invariant-loop-q

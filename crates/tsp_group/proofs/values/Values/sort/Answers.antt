@@ -1,7 +1,6 @@
 use Rattle.std.proofs.lemmas.List.Sorted.{All-permutation, length_permutation}
 use Rattle.std.proofs.Common.{arith}
-use Rattle.tsp_group.specs.Values.{IsNear}
-use Rattle.tsp_group.proofs.Orders.{ascending_from_sort}
+use Rattle.tsp_group.{proofs.Orders.ascending_from_sort, specs.Values.IsNear}
 use Rattle.tsp_group.proofs.values.Values.sort.Goals as goal
 
 pub invariant_of-self : goal.invariant_of-self

@@ -1,11 +1,6 @@
 use Rattle.std.proofs.Common.{rules, arith, ◌∙◌, ◌<◌, ◌+◌, ◌<ℤ◌, ◌+ℤ◌, ℤ, pos, sym, subst, FitsSigned, List}
-use Rattle.std.proofs.lemmas.Int.{to_z-of_z}
-use Rattle.std.proofs.lemmas.Bool.{cases_lt}
-use Rattle.std.specs.Int.{w64}
-use Rattle.std.specs.List.{All}
-use Rattle.tsp_group.specs.Values.{IsNear}
-use Rattle.tsp_group.specs.Windows.{IsWindow}
-use Rattle.tsp_group.specs.declared.window.Window.{Window}
+use Rattle.std.{proofs.lemmas.Bool.cases_lt, proofs.lemmas.Int.to_z-of_z, specs.Int.w64, specs.List.All}
+use Rattle.tsp_group.specs.{Values.IsNear, Windows.IsWindow, declared.window.Window.Window}
 use Rattle.tsp_group.proofs.Slides.{window_near, window_small, window_more, window_less, beyond_first}
 use Rattle.tsp_group.proofs.window.Window.slide.Goals as goal
 

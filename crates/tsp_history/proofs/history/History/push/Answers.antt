@@ -1,9 +1,6 @@
 use Rattle.std.proofs.Common.{◌∙◌, ◌∷◌, [], ap, sym, subst}
-use Rattle.tsp_history.specs.Growing.{HistoryValue}
-use Rattle.tsp_history.specs.Histories.{history_of, line_of}
-use Rattle.tsp_history.specs.Notes.{NoteIs, Told}
-use Rattle.tsp_history.proofs.HistoryLemmas.{noted-append}
-use Rattle.tsp_history.proofs.NoteLemmas.{told_push}
+use Rattle.tsp_history.specs.{Growing.HistoryValue, Histories.history_of, Histories.line_of, Notes.NoteIs, Notes.Told}
+use Rattle.tsp_history.proofs.{HistoryLemmas.noted-append, NoteLemmas.told_push}
 use Rattle.tsp_history.proofs.history.History.push.Goals as goal
 
 pub invariant_of-self : goal.invariant_of-self

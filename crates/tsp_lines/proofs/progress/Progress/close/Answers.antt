@@ -1,7 +1,6 @@
 use Rattle.std.proofs.Common.{[], inl, refl, ap, ◌∙◌, Ok, Err, arith, length}
 use Rattle.tsp_lines.specs.declared.treat.Outcome.TheVariants.{WriteFault, OutOfMemory}
-use Rattle.tsp_lines.specs.Outcomes.{limit_line}
-use Rattle.tsp_lines.specs.Turns.{only_limited, end_sayings}
+use Rattle.tsp_lines.specs.{Outcomes.limit_line, Turns.only_limited, Turns.end_sayings}
 use Rattle.tsp_lines.proofs.KeepingUp.{KeepsUp-grew, KeepsUp-peek, Ends-grew}
 use Rattle.tsp_lines.proofs.Turns.{After-next, Comes-unflushed, Turn-full, Turn-end, Turn-failed}
 use Rattle.tsp_lines.proofs.progress.Progress.close.Goals as goal

@@ -1,7 +1,5 @@
 use Rattle.std.proofs.Common.{refl, ◌∙◌}
-use Rattle.tsp_lines.specs.Turns.{line_sayings}
-use Rattle.tsp_lines.proofs.Outputs.{Hands-nil}
-use Rattle.tsp_lines.proofs.Endings.{Ends-only_bad}
+use Rattle.tsp_lines.{proofs.Endings.Ends-only_bad, proofs.Outputs.Hands-nil, specs.Turns.line_sayings}
 use Rattle.tsp_lines.proofs.progress.Progress.refuse_long.Goals as goal
 
 pub returns-clause-ends : goal.returns-clause-ends

@@ -1,8 +1,6 @@
 -- The first line that is held was treated, or nothing has changed, or its output wasn't written.
 use Rattle.std.proofs.Common.{ap, subst, refl, arith, [], ◌∷◌, ◌++◌, Err}
-use Rattle.tsp_lines.specs.Lines.{IsFront}
-use Rattle.tsp_lines.specs.Meanings.{BreaksOff, Tried}
-use Rattle.tsp_lines.specs.Readings.{ReaderValue}
+use Rattle.tsp_lines.specs.{Lines.IsFront, Meanings.BreaksOff, Meanings.Tried, Readings.ReaderValue}
 use Rattle.tsp_lines.proofs.Turns.{IsAt-front, Comes-broken}
 use Rattle.tsp_lines.proofs.progress.Progress.try_held.Goals as goal
 

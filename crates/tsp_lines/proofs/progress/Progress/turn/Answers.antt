@@ -1,8 +1,6 @@
 use Rattle.std.proofs.Common.{refl, ap, ◌∙◌, [], ◌∷◌, ◌++◌, inl, inr, arith, Ok, Err}
-use Rattle.tsp_lines.specs.Readings.{ends_input}
 use Rattle.tsp_lines.specs.declared.treat.Outcome.TheVariants.{WriteFault, OutOfMemory}
-use Rattle.tsp_lines.specs.Outcomes.{limit_line}
-use Rattle.tsp_lines.specs.Turns.{only_limited, end_sayings, line_sayings}
+use Rattle.tsp_lines.specs.{Outcomes.limit_line, Readings.ends_input, Turns.only_limited, Turns.end_sayings, Turns.line_sayings}
 use Rattle.tsp_lines.proofs.KeepingUp.{KeepsUp-grew, KeepsUp-next, Ends-grew, Treats-grew, Grew-trans}
 use Rattle.tsp_lines.proofs.Turns.{After-next, Comes-unflushed, Turn-line, Turn-last, Turn-last_end, HasNext-long, HasNext-long_last, Comes-line, Turn-end, Turn-limit, Turn-failed, length-line}
 use Rattle.tsp_lines.proofs.progress.Progress.turn.Goals as goal

@@ -1,10 +1,8 @@
-use Rattle.std.proofs.Common.{◌≡◌, ◌<◌, ◌≤◌, ◌+◌, ap, sym, arith, length, refl, take}
-use Rattle.std.specs.Prelude.{slice_range}
+use Rattle.std.proofs.Common.{◌≡◌, ◌<◌, ◌≤◌, ◌+◌, ap, sym, arith, length, refl, take, slice_range}
 use Rattle.tsp_lines.specs.Lines.{NoFeed}
 use Rattle.tsp_lines.proofs.Feeds.{NoFeed-end, some_held, last_feed, held_length}
-use Rattle.tsp_lines.proofs.Passes.{Limit-Failed}
+use Rattle.tsp_lines.proofs.{Passes.Limit-Failed, reader.LineReader.next_held.Goals.then-self, reader.LineReader.next_held.Goals.else-self}
 use Rattle.tsp_lines.proofs.reader.LineReader.next_held.Goals as goal
-use Rattle.tsp_lines.proofs.reader.LineReader.next_held.Goals.{then-self, else-self}
 
 pub returns-in_default-clause-next : goal.returns-in_default-clause-next
 returns-in_default-clause-next c =

@@ -3,8 +3,7 @@ use Rattle.std.proofs.Common.{◌≡◌, ◌∙◌, ap}
 use Rattle.tsp_base.specs.Words.{is_correction}
 use Rattle.tsp_sends.specs.Slots.{kind_of, sending_to}
 use Rattle.tsp_acks.specs.Openings.{is_of}
-use Rattle.tsp_master.proofs.TakeLemmas.{MasterStands_acknowledges}
-use Rattle.tsp_master.proofs.RoomLemmas.{at_most_once}
+use Rattle.tsp_master.proofs.{RoomLemmas.at_most_once, TakeLemmas.MasterStands_acknowledges}
 use Rattle.tsp_master.proofs.master.Master.acknowledge.Goals as goal
 
 pub returns-clause-row : goal.returns-clause-row

@@ -1,16 +1,12 @@
 -- The row's test is the count of probes.
 use Rattle.std.proofs.Common.{arith, refl}
 use Rattle.std.proofs.lemmas.Bool.{lt-ltb}
-use Rattle.tsp_rules.specs.Values.{Probe, PROBE}
 use Rattle.tsp_base.specs.Words.{arms, nothing}
 use Rattle.tsp_base.proofs.PerformsLemmas.{Performs_else_part, Performs_nothing, Performs_then_part, Performs_to}
-use Rattle.tsp_rules.specs.RoundRows.{arms_next, has_more}
-use Rattle.tsp_rules.proofs.Emits.{Emits_arms}
+use Rattle.tsp_rules.{proofs.Emits.Emits_arms, specs.RoundRows.arms_next, specs.RoundRows.has_more, specs.Values.Probe, specs.Values.PROBE}
 use Rattle.tsp_acks.proofs.ActingLemmas.{Performs_acting}
 use Rattle.tsp_master.specs.MasterStands.{LeadStands, ProbesStands}
-use Rattle.tsp_master.proofs.LeadLemmas.{Performs_lead_by}
-use Rattle.tsp_master.proofs.PhaseLemmas.{MasterStands_arms_probe, no_more}
-use Rattle.tsp_master.proofs.RoomLemmas.{once}
+use Rattle.tsp_master.proofs.{LeadLemmas.Performs_lead_by, PhaseLemmas.MasterStands_arms_probe, PhaseLemmas.no_more, RoomLemmas.once}
 use Rattle.tsp_master.proofs.master.Master.arm_next.Goals as goal
 
 pub returns-then-probes-lt-PROBES-clause-row : goal.returns-then-probes-lt-PROBES-clause-row

@@ -1,13 +1,10 @@
 -- The two alarms, and what they make of the master.
 use Rattle.std.proofs.Common.{refl}
 use Rattle.tsp_rules.specs.Values.{Probe, CloseAlarm, CLOSE, PROBE}
-use Rattle.tsp_base.specs.Words.{arms, ◌followed_by◌}
-use Rattle.tsp_base.proofs.PerformsLemmas.{Performs_then}
+use Rattle.tsp_base.{proofs.PerformsLemmas.Performs_then, specs.Words.arms, specs.Words.◌followed_by◌}
 use Rattle.tsp_rules.proofs.Emits.{Emits_arms, Emits_then}
 use Rattle.tsp_acks.proofs.ActingLemmas.{Performs_acting}
-use Rattle.tsp_master.proofs.LeadLemmas.{Performs_lead_by}
-use Rattle.tsp_master.proofs.PhaseLemmas.{MasterStands_begins_round}
-use Rattle.tsp_master.proofs.RoomLemmas.{twice}
+use Rattle.tsp_master.proofs.{LeadLemmas.Performs_lead_by, PhaseLemmas.MasterStands_begins_round, RoomLemmas.twice}
 use Rattle.tsp_master.proofs.master.Master.arm_round.Goals as goal
 
 pub returns-clause-row : goal.returns-clause-row

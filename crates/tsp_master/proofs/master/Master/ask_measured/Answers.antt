@@ -1,15 +1,10 @@
 -- One measured peer after the other is asked.
-use Rattle.std.specs.Prelude.{◌≡◌, ◌+◌, ◌*◌, ◌<◌, ◌∷◌, [], ◌++◌, length, take, true, false}
-use Rattle.std.proofs.Common.{get_or, refl, ◌∙◌, ap, arith, subst, ◌≤◌}
+use Rattle.std.proofs.Common.{get_or, refl, ◌∙◌, ap, arith, subst, ◌≤◌, ◌≡◌, ◌+◌, ◌*◌, ◌<◌, ◌∷◌, [], ◌++◌, length, take, true, false}
 use Rattle.std.proofs.lemmas.List.{take_all}
-use Rattle.tsp_rules.specs.Values.{PeerId}
-use Rattle.tsp_base.specs.Words.{for_each, IsPeers}
 use Rattle.tsp_base.proofs.PerformsLemmas.{Performs_each_more, Performs_nothing, Performs_reading}
-use Rattle.tsp_base.proofs.FrameLemmas.{PutsAtMost_up}
-use Rattle.tsp_rules.specs.RoundRows.{asks, asks_measured, measured_at}
-use Rattle.tsp_measure.specs.declared.entry.Entry.{Entry}
-use Rattle.tsp_measure.specs.Slaves.{entry_of, peers_of}
-use Rattle.tsp_measure.proofs.Counters.{IsCounted-more}
+use Rattle.tsp_base.{proofs.FrameLemmas.PutsAtMost_up, specs.Words.for_each, specs.Words.IsPeers}
+use Rattle.tsp_rules.specs.{RoundRows.asks, RoundRows.asks_measured, RoundRows.measured_at, Values.PeerId}
+use Rattle.tsp_measure.{proofs.Counters.IsCounted-more, specs.Slaves.entry_of, specs.Slaves.peers_of, specs.declared.entry.Entry.Entry}
 use Rattle.tsp_master.specs.Closing.{measured_of}
 use Rattle.tsp_master.proofs.AskLemmas.{Performs_probes, filter-more, filter-past, later-few, measured-is, take-more}
 use Rattle.tsp_master.proofs.master.Master.ask_measured.Goals.{then-entry, else-entry}

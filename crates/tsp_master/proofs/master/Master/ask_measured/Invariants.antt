@@ -1,13 +1,9 @@
 -- The measured peers so far were asked.
 use Rattle.std.proofs.Common.{◌≡◌, ℕ, ◌+◌, ◌*◌, ◌<◌, ◌≤◌, length, take, get_or}
-use Rattle.tsp_rules.specs.Values.{PeerId}
 use Rattle.tsp_base.specs.Words.{PutsAtMost, Performs, for_each}
-use Rattle.tsp_rules.specs.RoundRows.{asks}
-use Rattle.tsp_measure.specs.Measures.{begun}
-use Rattle.tsp_measure.specs.Rounds.{IsCounted, measured_with}
-use Rattle.tsp_measure.specs.Slaves.{peers_of}
-use Rattle.tsp_master.specs.MasterStands.{ProbesStands}
-use Rattle.tsp_master.specs.Closing.{measured_of}
+use Rattle.tsp_rules.specs.{RoundRows.asks, Values.PeerId}
+use Rattle.tsp_measure.specs.{Measures.begun, Rounds.IsCounted, Rounds.measured_with, Slaves.peers_of}
+use Rattle.tsp_master.specs.{Closing.measured_of, MasterStands.ProbesStands}
 use Rattle.tsp_master.proofs.master.Master.ask_measured.Given as goal
 
 abbrev pub invariant-loop-place : goal.invariant-loop-place

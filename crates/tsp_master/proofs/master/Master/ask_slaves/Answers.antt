@@ -1,16 +1,11 @@
 -- One slave after the other is asked.
-use Rattle.std.specs.Prelude.{◌≡◌, ◌+◌, ◌*◌, ◌<◌, ◌∷◌, [], ◌++◌, length, take, true, false}
-use Rattle.std.proofs.Common.{get_or, refl, sym, ◌∙◌, ap, arith, subst, ◌≤◌}
+use Rattle.std.proofs.Common.{get_or, refl, sym, ◌∙◌, ap, arith, subst, ◌≤◌, ◌≡◌, ◌+◌, ◌*◌, ◌<◌, ◌∷◌, [], ◌++◌, length, take, true, false}
 use Rattle.std.proofs.lemmas.List.{take_all}
-use Rattle.tsp_rules.specs.Values.{PeerId}
-use Rattle.tsp_base.specs.Words.{for_each, IsPeers}
 use Rattle.tsp_base.proofs.PerformsLemmas.{Performs_each_more, Performs_nothing, Performs_reading}
-use Rattle.tsp_base.proofs.FrameLemmas.{PutsAtMost_up}
-use Rattle.tsp_rules.specs.RoundRows.{asks, asks_slaves}
-use Rattle.tsp_rules.specs.Guards.{table_at}
-use Rattle.tsp_measure.specs.declared.entry.Entry.{Entry}
+use Rattle.tsp_base.{proofs.FrameLemmas.PutsAtMost_up, specs.Words.for_each, specs.Words.IsPeers}
+use Rattle.tsp_rules.specs.{Guards.table_at, RoundRows.asks, RoundRows.asks_slaves, Values.PeerId}
 use Rattle.tsp_measure.specs.Slaves.{Changes, entry_of, measures, peers_of}
-use Rattle.tsp_measure.proofs.Counters.{IsCounted-more}
+use Rattle.tsp_measure.{proofs.Counters.IsCounted-more, specs.declared.entry.Entry.Entry}
 use Rattle.tsp_master.proofs.AskLemmas.{Performs_starts, filter-more, filter-past, joined-is, joined-kept, joined_of, later-few, take-more}
 use Rattle.tsp_master.proofs.master.Master.ask_slaves.Goals.{then-entry, else-entry}
 use Rattle.tsp_master.proofs.master.Master.ask_slaves.Goals as goal

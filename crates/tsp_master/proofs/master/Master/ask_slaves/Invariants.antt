@@ -1,13 +1,9 @@
 -- The slaves so far were asked.
 use Rattle.std.proofs.Common.{◌≡◌, ℕ, ◌+◌, ◌*◌, ◌<◌, ◌≤◌, length, take, get_or}
-use Rattle.tsp_rules.specs.Values.{PeerId}
 use Rattle.tsp_base.specs.Words.{PutsAtMost, Performs, for_each}
-use Rattle.tsp_rules.specs.RoundRows.{asks}
-use Rattle.tsp_measure.specs.Measures.{begun}
-use Rattle.tsp_measure.specs.Rounds.{IsCounted, measured_with}
-use Rattle.tsp_measure.specs.Slaves.{entry_of, peers_of}
-use Rattle.tsp_master.specs.MasterStands.{StartsStands}
-use Rattle.tsp_master.proofs.AskLemmas.{joined_of}
+use Rattle.tsp_rules.specs.{RoundRows.asks, Values.PeerId}
+use Rattle.tsp_measure.specs.{Measures.begun, Rounds.IsCounted, Rounds.measured_with, Slaves.entry_of, Slaves.peers_of}
+use Rattle.tsp_master.{proofs.AskLemmas.joined_of, specs.MasterStands.StartsStands}
 use Rattle.tsp_master.proofs.master.Master.ask_slaves.Given as goal
 
 abbrev pub invariant-loop-place : goal.invariant-loop-place

@@ -1,13 +1,9 @@
 -- The row's test is the entry's, and the table changes as the past does.
 use Rattle.std.proofs.Common.{sym, ◌∙◌, refl}
-use Rattle.tsp_rules.specs.Values.{AdjTime}
 use Rattle.tsp_base.specs.Words.{nothing, posts_time, timed}
 use Rattle.tsp_base.proofs.PerformsLemmas.{Performs_then_part, Performs_else_part, Performs_nothing}
-use Rattle.tsp_rules.specs.SendRows.{begins_adjtime, may_correct}
-use Rattle.tsp_rules.proofs.Emits.{Emits_posts_time}
-use Rattle.tsp_master.proofs.LeadLemmas.{Performs_lead}
-use Rattle.tsp_master.proofs.TableLemmas.{MasterStands_begins, may_correct-is}
-use Rattle.tsp_master.proofs.RoomLemmas.{once}
+use Rattle.tsp_rules.{proofs.Emits.Emits_posts_time, specs.SendRows.begins_adjtime, specs.SendRows.may_correct, specs.Values.AdjTime}
+use Rattle.tsp_master.proofs.{LeadLemmas.Performs_lead, RoomLemmas.once, TableLemmas.MasterStands_begins, TableLemmas.may_correct-is}
 use Rattle.tsp_master.proofs.master.Master.begin_adjtime.Goals as goal
 
 pub returns-then-may_correct-clause-row : goal.returns-then-may_correct-clause-row

@@ -2,14 +2,12 @@
 use Rattle.std.proofs.Common.{[], ◌∷◌, refl}
 use Rattle.tsp_rules.specs.Values.{Round, Probe, CloseAlarm, MasterUp, CLOSE, PROBE, ROUND}
 use Rattle.tsp_base.specs.Words.{arms, posts_to_others, ◌followed_by◌}
-use Rattle.tsp_base.proofs.PerformsLemmas.{Performs_same, Performs_then, Performs_to}
+use Rattle.tsp_base.proofs.{PerformsLemmas.Performs_same, PerformsLemmas.Performs_then, PerformsLemmas.Performs_to, RowLemmas.then_assoc}
 use Rattle.tsp_rules.specs.RoundRows.{asks_slaves, round_begins}
 use Rattle.tsp_rules.proofs.Emits.{Posting, Emits_arms, Emits_posts_to_others, Keeps_by}
 use Rattle.tsp_acks.proofs.ActingLemmas.{Performs_acting}
 use Rattle.tsp_master.specs.MasterStands.{MasterStands, StartsStands}
-use Rattle.tsp_master.proofs.LeadLemmas.{Performs_lead_by, Performs_quiet}
-use Rattle.tsp_base.proofs.RowLemmas.{then_assoc}
-use Rattle.tsp_master.proofs.PhaseLemmas.{begins_posting, goes_posting}
+use Rattle.tsp_master.proofs.{LeadLemmas.Performs_lead_by, LeadLemmas.Performs_quiet, PhaseLemmas.begins_posting, PhaseLemmas.goes_posting}
 use Rattle.tsp_master.proofs.TableLemmas.{MasterStands_quiet, quiet_sorts}
 use Rattle.tsp_master.proofs.master.Master.begin_round.Goals as goal
 

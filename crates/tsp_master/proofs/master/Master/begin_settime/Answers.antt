@@ -1,14 +1,11 @@
 -- The row's tests are the entry's and the clock's, and the table changes as the past does.
 use Rattle.std.proofs.Common.{true, false, sym, ◌∙◌, refl}
-use Rattle.tsp_rules.specs.Values.{SetTime}
 use Rattle.tsp_base.specs.Words.{nothing, posts_time, reading, timed}
 use Rattle.tsp_base.proofs.PerformsLemmas.{Performs_then_part, Performs_else_part, Performs_nothing, Performs_reading}
-use Rattle.tsp_rules.specs.SendRows.{begins_settime, may_set}
-use Rattle.tsp_rules.specs.Guards.{target_at}
+use Rattle.tsp_rules.specs.{Guards.target_at, SendRows.begins_settime, SendRows.may_set, Values.SetTime}
 use Rattle.tsp_rules.proofs.Emits.{Emits_posts_time}
-use Rattle.tsp_master.proofs.LeadLemmas.{Performs_lead}
+use Rattle.tsp_master.proofs.{LeadLemmas.Performs_lead, RoomLemmas.once}
 use Rattle.tsp_master.proofs.TableLemmas.{MasterStands_begins, may_set-is, may_set-none, target-is}
-use Rattle.tsp_master.proofs.RoomLemmas.{once}
 use Rattle.tsp_master.proofs.master.Master.begin_settime.Goals as goal
 
 pub returns-then-may_correct-clause-row : goal.returns-then-may_correct-clause-row

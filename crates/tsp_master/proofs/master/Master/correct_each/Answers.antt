@@ -1,18 +1,13 @@
 -- One measured peer after the other is corrected.
-use Rattle.std.specs.Prelude.{◌≡◌, ◌+◌, ◌<◌, ◌∷◌, [], ◌++◌, length, take, true, false}
-use Rattle.std.proofs.Common.{get_or, refl, sym, ◌∙◌, ap, arith, w64, to_z, of_z, to_z-of_z, subst, ◌≤◌}
+use Rattle.std.proofs.Common.{get_or, refl, sym, ◌∙◌, ap, arith, w64, to_z, of_z, to_z-of_z, subst, ◌≤◌, ◌≡◌, ◌+◌, ◌<◌, ◌∷◌, [], ◌++◌, length, take, true, false}
 use Rattle.std.proofs.lemmas.List.{take_all}
-use Rattle.tsp_rules.specs.Values.{PeerId}
 use Rattle.tsp_base.specs.Words.{for_each, IsPeers}
-use Rattle.tsp_base.proofs.PerformsLemmas.{Performs_each_more, Performs_nothing}
-use Rattle.tsp_base.proofs.FrameLemmas.{PutsAtMost_up}
-use Rattle.tsp_rules.specs.RoundRows.{corrects_peer}
-use Rattle.tsp_measure.specs.declared.entry.Entry.{Entry}
-use Rattle.tsp_measure.specs.Slaves.{entry_of, peers_of}
+use Rattle.tsp_base.proofs.{FrameLemmas.PutsAtMost_up, PerformsLemmas.Performs_each_more, PerformsLemmas.Performs_nothing}
+use Rattle.tsp_rules.specs.{RoundRows.corrects_peer, Values.PeerId}
+use Rattle.tsp_measure.specs.{Slaves.entry_of, Slaves.peers_of, declared.entry.Entry.Entry}
 use Rattle.tsp_master.specs.Closing.{standing_with, standings_of}
-use Rattle.tsp_master.proofs.AskLemmas.{take-more}
+use Rattle.tsp_master.proofs.{AskLemmas.take-more, master.Master.correct_each.Goals.then-entry, master.Master.correct_each.Goals.else-entry}
 use Rattle.tsp_master.proofs.CloseLemmas.{corrects_with, later-same, standings-more, standings-past}
-use Rattle.tsp_master.proofs.master.Master.correct_each.Goals.{then-entry, else-entry}
 use Rattle.tsp_master.proofs.master.Master.correct_each.Goals as goal
 
 pub loop-place-init : goal.loop-place-init

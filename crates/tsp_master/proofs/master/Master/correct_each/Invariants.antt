@@ -1,12 +1,10 @@
 -- The measured peers so far were corrected.
 use Rattle.std.proofs.Common.{◌≡◌, ℕ, ◌≤◌, ◌<◌, length, take, get_or}
-use Rattle.tsp_rules.specs.Values.{PeerId}
 use Rattle.tsp_base.specs.Words.{PutsAtMost, Performs, for_each}
-use Rattle.tsp_rules.specs.RoundRows.{corrects_peer}
+use Rattle.tsp_rules.specs.{RoundRows.corrects_peer, Values.PeerId}
 use Rattle.tsp_acks.specs.Changes.{IsSamePort}
 use Rattle.tsp_measure.specs.Slaves.{entry_of, peers_of}
-use Rattle.tsp_master.specs.Closing.{standings_of}
-use Rattle.tsp_master.specs.MasterStands.{LeadStands}
+use Rattle.tsp_master.specs.{Closing.standings_of, MasterStands.LeadStands}
 use Rattle.tsp_master.proofs.master.Master.correct_each.Given as goal
 
 abbrev pub invariant-loop-place : goal.invariant-loop-place

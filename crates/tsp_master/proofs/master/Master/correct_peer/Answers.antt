@@ -1,16 +1,12 @@
 -- A near difference is adjusted, a far one set, and who never answered leaves.
 use Rattle.std.proofs.Common.{◌≡◌, ◌-ℤ◌, Some, None, true, false, refl, sym, ◌∙◌, ap, w64, to_z, of_z, to_z-of_z, SFits, rules}
 use Rattle.std.specs.Option.{option_map}
-use Rattle.tsp_rules.specs.Values.{Leave}
 use Rattle.tsp_base.specs.Words.{puts}
-use Rattle.tsp_rules.specs.RoundRows.{corrects_by, corrects_peer, is_near}
+use Rattle.tsp_rules.specs.{RoundRows.corrects_by, RoundRows.corrects_peer, RoundRows.is_near, Values.Leave}
 use Rattle.tsp_rules.proofs.Emits.{Emits_puts}
-use Rattle.tsp_measure.specs.Measures.{best_of}
-use Rattle.tsp_measure.specs.Rounds.{estimate_in, measured_with}
-use Rattle.tsp_master.specs.Closing.{estimate_with}
-use Rattle.tsp_master.proofs.CloseLemmas.{MasterStands_leaves, estimate-sample}
-use Rattle.tsp_master.proofs.LeadLemmas.{Performs_idle, Performs_lead}
-use Rattle.tsp_master.proofs.RoomLemmas.{put_once}
+use Rattle.tsp_measure.specs.{Measures.best_of, Rounds.estimate_in, Rounds.measured_with}
+use Rattle.tsp_master.proofs.{CloseLemmas.MasterStands_leaves, CloseLemmas.estimate-sample, RoomLemmas.put_once}
+use Rattle.tsp_master.{proofs.LeadLemmas.Performs_idle, proofs.LeadLemmas.Performs_lead, specs.Closing.estimate_with}
 use Rattle.tsp_master.proofs.master.Master.correct_peer.Goals as goal
 
 pub returns-in-None-clause-row : goal.returns-in-None-clause-row

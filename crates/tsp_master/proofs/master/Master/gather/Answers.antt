@@ -1,12 +1,9 @@
 -- The estimate of one measured peer more is listed.
 use Rattle.std.proofs.Common.{◌≡◌, ◌+◌, ◌<◌, ◌∷◌, [], ◌++◌, length, take, get_or, true, false, length-append, sym, ◌∙◌, ap, arith}
-use Rattle.tsp_rules.specs.Values.{PeerId}
-use Rattle.tsp_rules.specs.RoundRows.{diff_before, estimates}
-use Rattle.tsp_measure.specs.declared.entry.Entry.{Entry}
-use Rattle.tsp_measure.specs.Slaves.{entry_of, peers_of}
+use Rattle.tsp_rules.specs.{RoundRows.diff_before, RoundRows.estimates, Values.PeerId}
+use Rattle.tsp_measure.specs.{Slaves.entry_of, Slaves.peers_of, declared.entry.Entry.Entry}
 use Rattle.tsp_master.specs.Closing.{estimate_with}
-use Rattle.tsp_master.proofs.AskLemmas.{take-more}
-use Rattle.tsp_master.proofs.CloseLemmas.{estimates-more, one-estimate, standings-past}
+use Rattle.tsp_master.proofs.{AskLemmas.take-more, CloseLemmas.estimates-more, CloseLemmas.one-estimate, CloseLemmas.standings-past}
 use Rattle.tsp_master.proofs.master.Master.gather.Goals.{then-entry, else-entry}
 use Rattle.tsp_master.proofs.master.Master.gather.Goals as goal
 

@@ -1,15 +1,11 @@
 -- The row's test is the table's; the peer joins, and then it is sent the time.
 use Rattle.std.proofs.Common.{sym, ◌∙◌, refl}
-use Rattle.tsp_rules.specs.Values.{Join}
-use Rattle.tsp_base.specs.Words.{nothing, puts, ◌followed_by◌}
 use Rattle.tsp_base.proofs.PerformsLemmas.{Performs_then, Performs_then_part, Performs_else_part, Performs_nothing}
-use Rattle.tsp_base.proofs.FrameLemmas.{PutsExactly_put}
-use Rattle.tsp_rules.specs.MasterRows.{joins, may_join}
-use Rattle.tsp_rules.specs.SendRows.{begins_settime}
+use Rattle.tsp_base.{proofs.FrameLemmas.PutsExactly_put, specs.Words.nothing, specs.Words.puts, specs.Words.◌followed_by◌}
+use Rattle.tsp_rules.specs.{MasterRows.joins, MasterRows.may_join, SendRows.begins_settime, Values.Join}
 use Rattle.tsp_rules.proofs.Emits.{Emits_puts}
-use Rattle.tsp_master.proofs.LeadLemmas.{Performs_idle, Performs_lead}
+use Rattle.tsp_master.proofs.{LeadLemmas.Performs_idle, LeadLemmas.Performs_lead, RoomLemmas.once_then}
 use Rattle.tsp_master.proofs.TakeLemmas.{MasterStands_joins, may_join-is}
-use Rattle.tsp_master.proofs.RoomLemmas.{once_then}
 use Rattle.tsp_master.proofs.master.Master.join.Goals as goal
 
 pub returns-then-may_join-clause-row : goal.returns-then-may_join-clause-row

@@ -1,8 +1,6 @@
 -- Where no round goes on, no exchange is open.
-use Rattle.std.proofs.Common.{◌≡◌, sym, ◌∙◌, ap, w64, to_z, of_z, to_z-of_z, SFits, rules}
-use Rattle.std.specs.Prelude.{is_some}
-use Rattle.tsp_base.specs.Words.{Deadlines}
-use Rattle.tsp_base.proofs.PerformsLemmas.{Performs_nothing, Performs_from}
+use Rattle.std.proofs.Common.{◌≡◌, sym, ◌∙◌, ap, w64, to_z, of_z, to_z-of_z, SFits, rules, is_some}
+use Rattle.tsp_base.{proofs.PerformsLemmas.Performs_nothing, proofs.PerformsLemmas.Performs_from, specs.Words.Deadlines}
 use Rattle.tsp_master.proofs.ReplyLemmas.{Performs_idle_reply}
 use Rattle.tsp_master.proofs.master.Master.reply.Goals as goal
 

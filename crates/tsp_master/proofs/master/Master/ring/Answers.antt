@@ -1,16 +1,11 @@
 -- Each alarm has its row.
 use Rattle.std.proofs.Common.{sym, ◌∙◌, ap, length, refl}
-use Rattle.tsp_base.specs.Words.{Deadlines}
-use Rattle.tsp_base.proofs.PerformsLemmas.{Performs_nothing, Performs_to}
+use Rattle.tsp_base.{proofs.PerformsLemmas.Performs_nothing, proofs.PerformsLemmas.Performs_to, specs.Words.Deadlines}
 use Rattle.tsp_rules.specs.Guards.{is_over}
 use Rattle.tsp_measure.specs.Slaves.{peers_of}
 use Rattle.tsp_master.specs.MasterAlarms.{master_rings}
-use Rattle.tsp_master.proofs.CloseLemmas.{goes_where}
-use Rattle.tsp_master.proofs.LeadLemmas.{rings_stand}
-use Rattle.tsp_master.proofs.RingCases.{master_rings-other, nothing-corrects}
-use Rattle.tsp_master.proofs.SinceLemmas.{since_correct}
-use Rattle.tsp_master.proofs.StillLemmas.{probe-corrects, round-corrects}
-use Rattle.tsp_master.proofs.RoomLemmas.{doubled}
+use Rattle.tsp_master.proofs.{CloseLemmas.goes_where, LeadLemmas.rings_stand, RingCases.master_rings-other, RingCases.nothing-corrects}
+use Rattle.tsp_master.proofs.{RoomLemmas.doubled, SinceLemmas.since_correct, StillLemmas.probe-corrects, StillLemmas.round-corrects}
 use Rattle.tsp_master.proofs.master.Master.ring.Goals as goal
 
 pub returns-in-Probe-clause-row : goal.returns-in-Probe-clause-row

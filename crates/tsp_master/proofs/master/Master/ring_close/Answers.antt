@@ -1,20 +1,14 @@
 -- Late the round is given up. In time the alarm rings, and then the group, the test, and one act after the other.
 use Rattle.std.proofs.Common.{◌≡◌, ◌+ℤ◌, refl, sym, ◌∙◌, ap, length, w64, to_z, of_z, to_z-of_z, SFits, rules}
-use Rattle.tsp_rules.specs.Values.{Close}
-use Rattle.tsp_base.specs.Words.{for_each, puts, ◌followed_by◌}
 use Rattle.tsp_base.proofs.PerformsLemmas.{Performs_else_part, Performs_then, Performs_then_part}
-use Rattle.tsp_base.proofs.FrameLemmas.{PutsExactly_put}
-use Rattle.tsp_rules.specs.ClockRows.{can_adjust}
+use Rattle.tsp_base.{proofs.FrameLemmas.PutsExactly_put, specs.Words.for_each, specs.Words.puts, specs.Words.◌followed_by◌}
 use Rattle.tsp_rules.specs.RoundRows.{abandons, close_act, closes_with, corrects_peer, mean_by, moves}
-use Rattle.tsp_rules.specs.Guards.{is_clock_value}
-use Rattle.tsp_rules.proofs.Emits.{Emits_puts}
+use Rattle.tsp_rules.{proofs.Emits.Emits_puts, specs.ClockRows.can_adjust, specs.Guards.is_clock_value, specs.Values.Close}
 use Rattle.tsp_clock.specs.Clocks.{target_of}
 use Rattle.tsp_measure.specs.Slaves.{peers_of}
-use Rattle.tsp_master.specs.Closing.{round_of}
 use Rattle.tsp_master.proofs.CloseCases.{Performs_abandons, Performs_late_close, Performs_timely_close, can_adjust-is, corrects-late, corrects-timely}
-use Rattle.tsp_master.proofs.CloseLemmas.{each_same}
-use Rattle.tsp_master.proofs.LeadLemmas.{Performs_idle, Performs_quiet}
-use Rattle.tsp_master.proofs.RoomLemmas.{once_then, put_then, twice}
+use Rattle.tsp_master.proofs.{CloseLemmas.each_same, LeadLemmas.Performs_idle, LeadLemmas.Performs_quiet}
+use Rattle.tsp_master.{proofs.RoomLemmas.once_then, proofs.RoomLemmas.put_then, proofs.RoomLemmas.twice, specs.Closing.round_of}
 use Rattle.tsp_master.proofs.master.Master.ring_close.Goals as goal
 
 pub returns-then-not-is_in_time-clause-row : goal.returns-then-not-is_in_time-clause-row

@@ -1,17 +1,14 @@
 -- In time the measured peers are asked again; late the round is given up.
 use Rattle.std.proofs.Common.{refl, sym, ◌∙◌, ap, length}
-use Rattle.tsp_rules.specs.Values.{Ring, Late, Probe}
 use Rattle.tsp_base.specs.Words.{Deadlines, puts, ◌followed_by◌}
 use Rattle.tsp_base.proofs.PerformsLemmas.{Performs_else_part, Performs_then, Performs_then_part}
 use Rattle.tsp_rules.specs.RoundRows.{abandons, arms_next, asks_measured, probe_rings}
-use Rattle.tsp_rules.specs.Guards.{is_in_time}
+use Rattle.tsp_rules.specs.{Guards.is_in_time, Values.Ring, Values.Late, Values.Probe}
 use Rattle.tsp_measure.specs.Slaves.{peers_of}
-use Rattle.tsp_master.specs.MasterStands.{ProbesStands}
-use Rattle.tsp_master.proofs.CloseCases.{Performs_abandons}
-use Rattle.tsp_master.proofs.LeadLemmas.{Performs_rung, in_time-is}
+use Rattle.tsp_master.proofs.{CloseCases.Performs_abandons, LeadLemmas.Performs_rung, LeadLemmas.in_time-is}
 use Rattle.tsp_master.proofs.PhaseLemmas.{met-some, over-some, rings_early}
 use Rattle.tsp_master.proofs.RoundLemmas.{MasterStands_late_probe, MasterStands_ring_probe}
-use Rattle.tsp_master.proofs.RoomLemmas.{once, then_put, twice}
+use Rattle.tsp_master.{proofs.RoomLemmas.once, proofs.RoomLemmas.then_put, proofs.RoomLemmas.twice, specs.MasterStands.ProbesStands}
 use Rattle.tsp_master.proofs.master.Master.ring_probe.Goals as goal
 
 pub returns-then-not-is_in_time-clause-row : goal.returns-then-not-is_in_time-clause-row

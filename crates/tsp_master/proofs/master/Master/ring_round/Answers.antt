@@ -3,13 +3,10 @@ use Rattle.std.proofs.Common.{false, refl, sym, ◌∙◌, length, ◌*◌}
 use Rattle.tsp_rules.specs.Values.{Ring, Late, Round, ROUND}
 use Rattle.tsp_base.specs.Words.{arms, puts, ◌followed_by◌}
 use Rattle.tsp_base.proofs.PerformsLemmas.{Performs_else_part, Performs_then, Performs_then_part}
-use Rattle.tsp_rules.specs.RoundRows.{begins_or_waits, round_rings}
-use Rattle.tsp_rules.specs.Guards.{is_in_time}
-use Rattle.tsp_rules.proofs.Emits.{Emits_arms}
+use Rattle.tsp_rules.{proofs.Emits.Emits_arms, specs.Guards.is_in_time, specs.RoundRows.begins_or_waits, specs.RoundRows.round_rings}
 use Rattle.tsp_acks.proofs.ActingLemmas.{Performs_acting}
 use Rattle.tsp_measure.specs.Slaves.{peers_of}
-use Rattle.tsp_master.proofs.LeadLemmas.{Performs_quiet, Performs_rung, in_time-is}
-use Rattle.tsp_master.proofs.TableLemmas.{MasterStands_quiet}
+use Rattle.tsp_master.proofs.{LeadLemmas.Performs_quiet, LeadLemmas.Performs_rung, LeadLemmas.in_time-is, TableLemmas.MasterStands_quiet}
 use Rattle.tsp_master.proofs.RoomLemmas.{once_then, twice}
 use Rattle.tsp_master.proofs.master.Master.ring_round.Goals as goal
 

@@ -1,7 +1,6 @@
 -- The exchange that the reply answers gives a sample; a reply to none gives nothing.
 use Rattle.std.proofs.Common.{◌≡◌, refl, w64, to_z, of_z, to_z-of_z, SFits, rules}
-use Rattle.tsp_master.proofs.ReplyLemmas.{Performs_missed, Performs_sample, all_stay}
-use Rattle.tsp_master.proofs.RoomLemmas.{put_once}
+use Rattle.tsp_master.proofs.{ReplyLemmas.Performs_missed, ReplyLemmas.Performs_sample, ReplyLemmas.all_stay, RoomLemmas.put_once}
 use Rattle.tsp_master.proofs.master.Master.sample.Goals as goal
 
 pub returns-in-NotStarted-clause-row : goal.returns-in-NotStarted-clause-row

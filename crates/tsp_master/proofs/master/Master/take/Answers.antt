@@ -1,15 +1,11 @@
 -- Each kind has its row.
 use Rattle.std.proofs.Common.{◌≡◌, sym, ◌∙◌, ap, refl, le-add_right}
-use Rattle.tsp_rules.specs.Values.{Election, MasterAck, SlaveUp}
-use Rattle.tsp_base.specs.Words.{nothing, posts}
-use Rattle.tsp_base.proofs.PerformsLemmas.{Performs_nothing}
-use Rattle.tsp_base.proofs.FrameLemmas.{PutsAtMost_up}
-use Rattle.tsp_rules.proofs.Emits.{Emits_posts}
+use Rattle.tsp_base.{proofs.FrameLemmas.PutsAtMost_up, proofs.PerformsLemmas.Performs_nothing, specs.Words.nothing, specs.Words.posts}
+use Rattle.tsp_rules.{proofs.Emits.Emits_posts, specs.Values.Election, specs.Values.MasterAck, specs.Values.SlaveUp}
 use Rattle.tsp_acks.proofs.ActingLemmas.{Performs_acting}
 use Rattle.tsp_master.specs.MasterTakes.{master_takes_here, master_takes_kind_here}
-use Rattle.tsp_master.proofs.LeadLemmas.{Performs_quiet}
+use Rattle.tsp_master.proofs.{LeadLemmas.Performs_quiet, RoomLemmas.once}
 use Rattle.tsp_master.proofs.TakeLemmas.{emits_away, master_takes_kind_here-ask, master_takes_kind_here-other}
-use Rattle.tsp_master.proofs.RoomLemmas.{once}
 use Rattle.tsp_master.proofs.master.Master.take.Goals as goal
 
 pub returns-in-MasterReq-clause-row : goal.returns-in-MasterReq-clause-row

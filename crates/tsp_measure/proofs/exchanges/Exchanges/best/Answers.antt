@@ -1,9 +1,7 @@
 use Rattle.std.proofs.Common.{◌≡◌, ◌∙◌, sym, ap, refl}
 use Rattle.std.specs.Box.{boxed_slice_items}
-use Rattle.tsp_measure.specs.Peers.{MeasuredPeers, with_peer}
-use Rattle.tsp_measure.proofs.BestSamples.{best_of-IsBestOf}
+use Rattle.tsp_measure.{proofs.BestSamples.best_of-IsBestOf, proofs.Peers.at_peer-found, specs.Peers.MeasuredPeers, specs.Peers.with_peer}
 use Rattle.tsp_base.proofs.AscendingLemmas.{Rise-numbers}
-use Rattle.tsp_measure.proofs.Peers.{at_peer-found}
 use Rattle.tsp_measure.proofs.exchanges.Exchanges.best.Goals as goal
 
 pub returns-in-Some-clause-value : goal.returns-in-Some-clause-value

@@ -1,9 +1,7 @@
 -- One place more changes nothing of what is measured.
 use Rattle.std.proofs.Common.{◌∙◌, ◌+◌, length, ap}
 use Rattle.std.proofs.lemmas.List.{length_push}
-use Rattle.tsp_measure.specs.Measures.{nothing_measured}
-use Rattle.tsp_measure.specs.Peers.{MeasuredPeers, with_peer}
-use Rattle.tsp_measure.proofs.Peers.{at_peer-more}
+use Rattle.tsp_measure.{proofs.Peers.at_peer-more, specs.Measures.nothing_measured, specs.Peers.MeasuredPeers, specs.Peers.with_peer}
 use Rattle.tsp_measure.proofs.exchanges.Exchanges.lengthen.Goals as goal
 
 pub loop-next-preserved : goal.loop-next-preserved

@@ -1,9 +1,8 @@
 -- Nothing is measured with a peer past the list's end.
 use Rattle.std.proofs.Common.{◌≤◌, ◌∙◌, sym, ap, length, rules}
 use Rattle.std.specs.Box.{boxed_slice_items}
-use Rattle.tsp_measure.specs.Peers.{MeasuredPeers, with_peer}
 use Rattle.tsp_base.proofs.AscendingLemmas.{Rise-numbers}
-use Rattle.tsp_measure.proofs.Peers.{at_peer-missing, at_peer-past}
+use Rattle.tsp_measure.{proofs.Peers.at_peer-missing, proofs.Peers.at_peer-past, specs.Peers.MeasuredPeers, specs.Peers.with_peer}
 use Rattle.tsp_measure.proofs.exchanges.Exchanges.measured_place.Goals as goal
 
 pub returns-in-None : goal.returns-in-None

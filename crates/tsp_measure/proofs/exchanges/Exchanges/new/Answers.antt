@@ -1,8 +1,6 @@
 -- The peers are ascending, and nothing is measured yet.
 use Rattle.std.proofs.Common.{◌≡◌, ◌∙◌, arith, sym, ap, subst, length}
-use Rattle.std.proofs.lemmas.List.{length-map}
-use Rattle.std.specs.Box.{boxed_slice_items}
-use Rattle.std.specs.List.Sorted.{IsStrictlyIncreasing}
+use Rattle.std.{proofs.lemmas.List.length-map, specs.Box.boxed_slice_items, specs.List.Sorted.IsStrictlyIncreasing}
 use Rattle.tsp_base.specs.declared.place.PeerId.{PeerId}
 use Rattle.tsp_measure.proofs.Peers.{at_peer-nothing}
 use Rattle.tsp_measure.proofs.exchanges.Exchanges.new.Goals as goal

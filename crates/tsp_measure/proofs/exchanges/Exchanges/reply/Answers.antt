@@ -1,11 +1,6 @@
 use Rattle.std.proofs.Common.{◌≡◌, ◌∙◌, sym, ap, arith, refl, false}
-use Rattle.std.proofs.lemmas.Int.{to_z-of_z}
-use Rattle.std.proofs.lemmas.List.Elements.{All-nil}
-use Rattle.std.specs.Int.{w64}
-use Rattle.std.specs.Box.{boxed_slice_items}
-use Rattle.tsp_measure.specs.Measures.{asks}
-use Rattle.tsp_measure.specs.Peers.{MeasuredPeers, with_peer}
-use Rattle.tsp_measure.specs.declared.exchange.Exchange.{Exchange}
+use Rattle.std.{proofs.lemmas.Int.to_z-of_z, proofs.lemmas.List.Elements.All-nil, specs.Box.boxed_slice_items, specs.Int.w64}
+use Rattle.tsp_measure.specs.{Measures.asks, Peers.MeasuredPeers, Peers.with_peer, declared.exchange.Exchange.Exchange}
 use Rattle.tsp_base.proofs.AscendingLemmas.{Rise-numbers}
 use Rattle.tsp_measure.proofs.Peers.{at_peer-found, at_peer-put, at_peer-others}
 use Rattle.tsp_measure.proofs.exchanges.Exchanges.reply.Goals as goal

@@ -1,11 +1,7 @@
 -- The exchange is the peer's last one, in a list that has the peer's place.
 use Rattle.std.proofs.Common.{◌≡◌, ◌∙◌, ◌<◌, ◌++◌, ◌∷◌, [], List, length, sym, ap, subst}
-use Rattle.std.proofs.lemmas.Int.{to_z-of_z}
-use Rattle.std.specs.Int.{w64}
-use Rattle.std.specs.Box.{boxed_slice_items}
-use Rattle.tsp_measure.specs.Measures.{Measured, begun}
-use Rattle.tsp_measure.specs.Peers.{MeasuredPeers, with_peer}
-use Rattle.tsp_measure.specs.declared.exchange.Exchange.{Exchange}
+use Rattle.std.{proofs.lemmas.Int.to_z-of_z, specs.Box.boxed_slice_items, specs.Int.w64}
+use Rattle.tsp_measure.specs.{Measures.Measured, Measures.begun, Peers.MeasuredPeers, Peers.with_peer, declared.exchange.Exchange.Exchange}
 use Rattle.tsp_base.proofs.AscendingLemmas.{Rise-numbers}
 use Rattle.tsp_measure.proofs.Peers.{at_peer-found, at_peer-put, at_peer-others}
 use Rattle.tsp_measure.proofs.exchanges.Exchanges.start.Goals as goal

@@ -1,9 +1,7 @@
 use Rattle.std.proofs.Common.{◌≡◌, ◌∙◌, ◌<◌, ◌++◌, ◌∷◌, [], arith, suc, take, drop, length, get_or, List, ℤ, true, sym, ap, subst, FitsSigned}
-use Rattle.std.proofs.lemmas.Int.{ints, to_z-of_z}
-use Rattle.std.specs.Int.{w64}
+use Rattle.std.{proofs.lemmas.Int.ints, proofs.lemmas.Int.to_z-of_z, specs.Int.w64}
 use Rattle.tsp_measure.specs.Measures.{Measured, IsReading, asks, timed_sample}
-use Rattle.tsp_measure.specs.declared.exchange.Exchange.{Exchange}
-use Rattle.tsp_measure.specs.declared.sample.TimedSample.{TimedSample}
+use Rattle.tsp_measure.specs.declared.{exchange.Exchange.Exchange, sample.TimedSample.TimedSample}
 use Rattle.tsp_measure.proofs.Removals.{split_at_place, All-remove}
 use Rattle.tsp_measure.proofs.peer_exchanges.PeerExchanges.reply.Goals as goal
 

@@ -1,7 +1,6 @@
 -- A probe that is counted leaves the exchanges as they are.
 use Rattle.std.proofs.Common.{◌+◌, ◌*◌}
-use Rattle.tsp_measure.specs.Rounds.{RoundsValue}
-use Rattle.tsp_measure.proofs.Counters.{IsCounted-probed, IsRounds-probed}
+use Rattle.tsp_measure.{proofs.Counters.IsCounted-probed, proofs.Counters.IsRounds-probed, specs.Rounds.RoundsValue}
 use Rattle.tsp_measure.proofs.rounds.Rounds.count_probe.Goals as goal
 
 pub invariant_of-self : goal.invariant_of-self

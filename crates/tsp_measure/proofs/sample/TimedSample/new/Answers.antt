@@ -1,6 +1,5 @@
 use Rattle.std.proofs.Common.{◌≡◌, ◌-ℤ◌, ap, ◌∙◌, refl, to_z, of_z}
-use Rattle.std.proofs.lemmas.Int.{to_z-of_z}
-use Rattle.std.specs.Int.{w64}
+use Rattle.std.{proofs.lemmas.Int.to_z-of_z, specs.Int.w64}
 use Rattle.tsp_base.specs.Words.{half_down}
 use Rattle.tsp_measure.proofs.Halves.{half_up_is}
 use Rattle.tsp_measure.proofs.Samples.{trip_is, ahead_is, diff_fits, half_fits, err_fits}

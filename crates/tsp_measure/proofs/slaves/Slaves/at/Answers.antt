@@ -1,8 +1,7 @@
 -- The entry at a place is its peer's.
 use Rattle.std.proofs.Common.{◌<◌, length, ap, ◌∙◌, sym, arith}
 use Rattle.std.proofs.lemmas.List.{length-map, get_or-map}
-use Rattle.tsp_measure.specs.declared.entry.Entry.{Entry}
-use Rattle.tsp_measure.proofs.Entries.{Rising-peers, entry_of-at}
+use Rattle.tsp_measure.{proofs.Entries.Rising-peers, proofs.Entries.entry_of-at, specs.declared.entry.Entry.Entry}
 use Rattle.tsp_measure.proofs.slaves.Slaves.at.Goals as goal
 
 pub returns-clause-peer : goal.returns-clause-peer

@@ -1,8 +1,7 @@
 -- The peer's entry is found and changed.
 use Rattle.std.proofs.Common.{◌∙◌, ap}
 use Rattle.std.proofs.lemmas.List.{get_or_read}
-use Rattle.tsp_measure.specs.declared.entry.Entry.{Entry}
-use Rattle.tsp_measure.specs.Slaves.{changed_by}
+use Rattle.tsp_measure.specs.{Slaves.changed_by, declared.entry.Entry.Entry}
 use Rattle.tsp_measure.proofs.Entries.{Changes-put, always_found, changed_by-peer}
 use Rattle.tsp_measure.proofs.slaves.Slaves.change.Goals as goal
 

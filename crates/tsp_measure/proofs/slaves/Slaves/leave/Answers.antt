@@ -1,9 +1,7 @@
 -- The peer's entry is found and changed.
 use Rattle.std.proofs.Common.{ap, refl}
 use Rattle.std.proofs.lemmas.List.{get_or_read}
-use Rattle.tsp_measure.specs.declared.entry.Entry.{Entry}
-use Rattle.tsp_measure.specs.Slaves.{leaves}
-use Rattle.tsp_measure.proofs.Entries.{Changes-put, Changes-absent}
+use Rattle.tsp_measure.{proofs.Entries.Changes-put, proofs.Entries.Changes-absent, specs.Slaves.leaves, specs.declared.entry.Entry.Entry}
 use Rattle.tsp_measure.proofs.slaves.Slaves.leave.Goals as goal
 
 pub put-requires-clause-same : goal.put-requires-clause-same

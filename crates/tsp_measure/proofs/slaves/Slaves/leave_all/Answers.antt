@@ -1,10 +1,8 @@
 -- Each entry is changed.
 use Rattle.std.proofs.Common.{◌≡◌, length, map, refl, ap, ◌∙◌, arith, subst, sym}
-use Rattle.std.proofs.lemmas.List.{length-map}
-use Rattle.std.specs.Box.{boxed_slice_items, boxed_slice_len}
+use Rattle.std.{proofs.lemmas.List.length-map, specs.Box.boxed_slice_items, specs.Box.boxed_slice_len}
 use Rattle.tsp_base.specs.Words.{IsPeers}
-use Rattle.tsp_measure.specs.Slaves.{leaves}
-use Rattle.tsp_measure.proofs.Entries.{ChangesAll-map, peers_of-map, written}
+use Rattle.tsp_measure.{proofs.Entries.ChangesAll-map, proofs.Entries.peers_of-map, proofs.Entries.written, specs.Slaves.leaves}
 use Rattle.tsp_measure.proofs.slaves.Slaves.leave_all.Goals as goal
 
 pub invariant_of-self : goal.invariant_of-self

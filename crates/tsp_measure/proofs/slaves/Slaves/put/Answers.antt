@@ -2,8 +2,7 @@
 use Rattle.std.proofs.Common.{◌≡◌, set, subst, sym}
 use Rattle.std.specs.Box.{boxed_slice_items}
 use Rattle.tsp_base.specs.Words.{IsPeers}
-use Rattle.tsp_measure.specs.Slaves.{peers_of}
-use Rattle.tsp_measure.proofs.Entries.{peers_of-set}
+use Rattle.tsp_measure.{proofs.Entries.peers_of-set, specs.Slaves.peers_of}
 use Rattle.tsp_measure.proofs.slaves.Slaves.put.Goals as goal
 
 pub invariant_of-self : goal.invariant_of-self

@@ -1,8 +1,7 @@
 -- The stored message is the one that was posted.
 use Rattle.std.proofs.Common.{ap, ◌∙◌, subst, sym, ◌≡◌, List, ℕ, None, refl}
 use Rattle.tsp_rules.specs.Values.{Good}
-use Rattle.tsp_networks.specs.Heads.{datagram_in, post_in}
-use Rattle.tsp_networks.specs.Posts.{PostsValue, stamp_in}
+use Rattle.tsp_networks.specs.{Heads.datagram_in, Heads.post_in, Posts.PostsValue, Posts.stamp_in}
 use Rattle.tsp_networks.proofs.HeadLemmas.{datagram-here, post-here}
 use Rattle.tsp_networks.proofs.posts.Posts.message.Goals as goal
 

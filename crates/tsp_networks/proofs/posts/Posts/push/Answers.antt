@@ -1,10 +1,7 @@
 -- The other posts keep their names, and the last one has its own.
 use Rattle.std.proofs.Common.{◌≡◌, ◌∙◌, subst, ap, ◌++◌, ◌∷◌, [], map}
-use Rattle.tsp_networks.specs.declared.head.Head.{Head}
-use Rattle.tsp_networks.specs.declared.way.Way.{Way}
-use Rattle.tsp_networks.specs.Heads.{own_name_in, datagram_in, post_in}
-use Rattle.tsp_networks.specs.Posts.{posted_on}
-use Rattle.tsp_networks.proofs.HeadLemmas.{posts-push, way_in-head}
+use Rattle.tsp_networks.specs.{Heads.own_name_in, Heads.datagram_in, Heads.post_in, Posts.posted_on, declared.head.Head.Head}
+use Rattle.tsp_networks.{proofs.HeadLemmas.posts-push, proofs.HeadLemmas.way_in-head, specs.declared.way.Way.Way}
 use Rattle.tsp_networks.proofs.posts.Posts.push.Goals as goal
 
 pub returns-clause-items : goal.returns-clause-items

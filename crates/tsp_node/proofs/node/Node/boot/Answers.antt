@@ -1,12 +1,9 @@
 -- The boot, and then how its life begins.
 use Rattle.std.proofs.Common.{◌≡◌, ◌∙◌, ap, arith, length, refl, w64, to_z, of_z, to_z-of_z}
 use Rattle.std.proofs.lemmas.List.{length-append}
-use Rattle.tsp_rules.specs.Values.{Boot}
 use Rattle.tsp_base.proofs.PerformsLemmas.{Performs_then}
-use Rattle.tsp_rules.specs.CommonRows.{boots}
 use Rattle.tsp_node.proofs.NodeLemmas.{node_stands, Performs_put}
-use Rattle.tsp_rules.proofs.BuiltGate.{built_starts}
-use Rattle.tsp_rules.proofs.EmitsBuilt.{emits_built}
+use Rattle.tsp_rules.{proofs.BuiltGate.built_starts, proofs.EmitsBuilt.emits_built, specs.CommonRows.boots, specs.Values.Boot}
 use Rattle.tsp_node.proofs.node.Node.boot.Goals as goal
 
 pub returns-clause-row : goal.returns-clause-row

@@ -1,8 +1,7 @@
 -- The earliest of what the station has is the earliest of what its past has.
 use Rattle.std.proofs.Common.{◌≡◌, ◌∙◌, ap, sym}
 use Rattle.tsp_base.specs.Words.{earlier, least_deadline, armed}
-use Rattle.tsp_node.specs.NodeStands.{due_of}
-use Rattle.tsp_node.proofs.DueLemmas.{IsEarliest-open}
+use Rattle.tsp_node.{proofs.DueLemmas.IsEarliest-open, specs.NodeStands.due_of}
 use Rattle.tsp_node.proofs.node.Node.due.Goals as goal
 
 pub returns-in-Some-clause-past : goal.returns-in-Some-clause-past

@@ -1,8 +1,7 @@
 -- What the port does is what the node does.
 use Rattle.std.proofs.Common.{true, false, refl}
 use Rattle.tsp_rules.specs.Answers.{rings_alone}
-use Rattle.tsp_node.proofs.NodeLemmas.{node_untaken}
-use Rattle.tsp_node.proofs.TakeEmits.{emits_rings}
+use Rattle.tsp_node.proofs.{NodeLemmas.node_untaken, TakeEmits.emits_rings}
 use Rattle.tsp_node.proofs.node.Node.ring.Goals as goal
 
 pub returns-clause-row : goal.returns-clause-row

@@ -1,11 +1,9 @@
 -- One alarm after the other.
-use Rattle.std.proofs.Common.{◌≡◌, ◌+◌, ◌*◌, arith, refl, ◌∙◌, ap, length, take}
+use Rattle.std.proofs.Common.{◌≡◌, ◌+◌, ◌*◌, arith, refl, ◌∙◌, ap, length, take, slice_index_or}
 use Rattle.std.proofs.lemmas.List.{take_all}
-use Rattle.std.specs.Prelude.{slice_index_or}
-use Rattle.tsp_rules.specs.Values.{Quiet, ALL}
 use Rattle.tsp_base.specs.Words.{for_each}
 use Rattle.tsp_base.proofs.PerformsLemmas.{Performs_each_more, Performs_nothing, Performs_same}
-use Rattle.tsp_rules.specs.Answers.{due_alarms, rings_alone}
+use Rattle.tsp_rules.specs.{Answers.due_alarms, Answers.rings_alone, Values.Quiet, Values.ALL}
 use Rattle.tsp_node.specs.NodeStands.{peers_in}
 use Rattle.tsp_node.proofs.AlarmOrder.{all_due, close_after_probe, take_one_more}
 use Rattle.tsp_node.proofs.node.Node.ring_alarms.Goals as goal

@@ -1,10 +1,7 @@
 -- The alarms so far had their turn; the Close comes right after the Probe.
-use Rattle.std.proofs.Common.{◌≡◌, ◌+◌, ◌*◌, ◌≤◌, false, length, take}
-use Rattle.std.specs.Prelude.{slice_index_or}
-use Rattle.tsp_rules.specs.Values.{Quiet, CloseAlarm, ALL}
+use Rattle.std.proofs.Common.{◌≡◌, ◌+◌, ◌*◌, ◌≤◌, false, length, take, slice_index_or}
 use Rattle.tsp_base.specs.Words.{PutsAtMost, Performs, for_each}
-use Rattle.tsp_rules.specs.Answers.{rings_alone}
-use Rattle.tsp_rules.specs.Guards.{is_over}
+use Rattle.tsp_rules.specs.{Answers.rings_alone, Guards.is_over, Values.Quiet, Values.CloseAlarm, Values.ALL}
 use Rattle.tsp_node.specs.NodeStands.{NodeUntaken, clock_at, peers_in}
 use Rattle.tsp_node.proofs.node.Node.ring_alarms.Given as goal
 

@@ -1,10 +1,8 @@
 -- Sends, alarms, and then what is taken.
 use Rattle.std.proofs.Common.{arith, ap, length, refl, ◌∙◌}
 use Rattle.tsp_base.proofs.PerformsLemmas.{Performs_then}
-use Rattle.tsp_rules.specs.Answers.{answers, input_row}
 use Rattle.tsp_node.proofs.NodeLemmas.{node_begun}
-use Rattle.tsp_rules.proofs.BuiltSends.{built_due_sends}
-use Rattle.tsp_rules.proofs.EmitsBuilt.{emits_built}
+use Rattle.tsp_rules.{proofs.BuiltSends.built_due_sends, proofs.EmitsBuilt.emits_built, specs.Answers.answers, specs.Answers.input_row}
 use Rattle.tsp_node.proofs.node.Node.take.Goals as goal
 
 pub returns-clause-row : goal.returns-clause-row

@@ -1,11 +1,8 @@
 -- What is taken, and what it upsets.
 use Rattle.std.proofs.Common.{true, refl, sym, arith, ◌∙◌}
-use Rattle.tsp_rules.specs.Answers.{takes}
 use Rattle.tsp_node.specs.declared.node.Node.{Node}
-use Rattle.tsp_node.proofs.NodeLemmas.{node_stands, node_takes}
-use Rattle.tsp_node.proofs.UpsetLemmas.{Performs_calm, Performs_upset}
-use Rattle.tsp_rules.proofs.BuiltRounds.{built_abandons_going}
-use Rattle.tsp_rules.proofs.EmitsBuilt.{emits_built}
+use Rattle.tsp_node.proofs.{NodeLemmas.node_stands, NodeLemmas.node_takes, UpsetLemmas.Performs_calm, UpsetLemmas.Performs_upset}
+use Rattle.tsp_rules.{proofs.BuiltRounds.built_abandons_going, proofs.EmitsBuilt.emits_built, specs.Answers.takes}
 use Rattle.tsp_node.proofs.node.Node.take_in.Goals as goal
 
 pub returns-then-corrected-clause-row : goal.returns-then-corrected-clause-row

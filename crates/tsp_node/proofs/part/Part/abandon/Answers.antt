@@ -2,10 +2,8 @@
 use Rattle.std.proofs.Common.{refl, ◌∙◌}
 use Rattle.tsp_base.specs.Words.{nothing, puts}
 use Rattle.tsp_base.proofs.PerformsLemmas.{Performs_else_part, Performs_then_part}
-use Rattle.tsp_rules.specs.RoundRows.{abandons, abandons_going}
-use Rattle.tsp_rules.specs.Guards.{is_going_at}
-use Rattle.tsp_node.proofs.NodeLemmas.{abandoned, same_part}
-use Rattle.tsp_node.proofs.PartLemmas.{still_alike}
+use Rattle.tsp_rules.specs.{Guards.is_going_at, RoundRows.abandons, RoundRows.abandons_going}
+use Rattle.tsp_node.proofs.{NodeLemmas.abandoned, NodeLemmas.same_part, PartLemmas.still_alike}
 use Rattle.tsp_node.proofs.part.Part.abandon.Goals as goal
 
 pub returns-then-abandon-clause-row : goal.returns-then-abandon-clause-row

@@ -1,8 +1,7 @@
 -- A slave that didn't acknowledge a correction leaves.
 use Rattle.std.proofs.Common.{sym, ◌∙◌, ap, arith, length, refl}
 use Rattle.std.proofs.lemmas.List.{length-append}
-use Rattle.tsp_node.proofs.LeaveLemmas.{Performs_leaves, Performs_other, Performs_stays}
-use Rattle.tsp_node.proofs.PartLemmas.{still_alike}
+use Rattle.tsp_node.proofs.{LeaveLemmas.Performs_leaves, LeaveLemmas.Performs_other, LeaveLemmas.Performs_stays, PartLemmas.still_alike}
 use Rattle.tsp_node.proofs.part.Part.give_up.Goals as goal
 
 pub returns-then-not-is_correction-clause-row : goal.returns-then-not-is_correction-clause-row

@@ -1,10 +1,7 @@
 -- Whose it is, and what it is.
 use Rattle.std.proofs.Common.{◌∙◌, [], ◌∷◌, refl, arith}
-use Rattle.tsp_base.specs.Words.{nothing}
-use Rattle.tsp_base.proofs.PerformsLemmas.{Performs_else_part, Performs_then_part}
-use Rattle.tsp_rules.specs.Answers.{handles}
-use Rattle.tsp_rules.specs.Guards.{is_own}
-use Rattle.tsp_rules.proofs.Emits.{Emits_more, Posting, Sampling}
+use Rattle.tsp_base.{proofs.PerformsLemmas.Performs_else_part, proofs.PerformsLemmas.Performs_then_part, specs.Words.nothing}
+use Rattle.tsp_rules.{proofs.Emits.Emits_more, proofs.Emits.Posting, proofs.Emits.Sampling, specs.Answers.handles, specs.Guards.is_own}
 use Rattle.tsp_slave.proofs.TellLemmas.{tells_nothing, tells_still}
 use Rattle.tsp_node.proofs.NodeLemmas.{Performs_took, took_beside, took_pass}
 use Rattle.tsp_node.proofs.TakeEmits.{emits_replies_in, emits_reply}

@@ -1,12 +1,9 @@
 -- Whoever is heard has its send ended, in every role alike.
 use Rattle.std.proofs.Common.{◌≡◌, refl, sym}
-use Rattle.tsp_rules.specs.Values.{Ack}
-use Rattle.tsp_rules.specs.Answers.{peer_says, says_in}
+use Rattle.tsp_rules.specs.{Answers.peer_says, Answers.says_in, Values.Ack}
 use Rattle.tsp_node.proofs.HearLemmas.{audience_sends, heard_peer, heard_role, Performs_by_role, Performs_heard_by, Performs_unheard, says_ack}
-use Rattle.tsp_node.proofs.NodeLemmas.{Performs_acknowledged}
-use Rattle.tsp_node.proofs.PartLemmas.{still_alike}
-use Rattle.tsp_rules.proofs.BuiltShared.{built_acknowledges}
-use Rattle.tsp_rules.proofs.EmitsBuilt.{emits_built}
+use Rattle.tsp_node.proofs.{NodeLemmas.Performs_acknowledged, PartLemmas.still_alike}
+use Rattle.tsp_rules.proofs.{BuiltShared.built_acknowledges, EmitsBuilt.emits_built}
 use Rattle.tsp_node.proofs.part.Part.hear_ack.Goals as goal
 
 pub returns-in_default-clause-row : goal.returns-in_default-clause-row

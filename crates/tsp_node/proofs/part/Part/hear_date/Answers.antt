@@ -3,10 +3,7 @@ use Rattle.std.proofs.Common.{true, false, refl, sym}
 use Rattle.tsp_base.specs.Words.{taken}
 use Rattle.tsp_acks.proofs.FollowLemmas.{followed-Contains}
 use Rattle.tsp_slave.proofs.TellLemmas.{tells_row}
-use Rattle.tsp_node.proofs.StillTakes.{took_dates}
-use Rattle.tsp_node.proofs.NodeLemmas.{Performs_dated}
-use Rattle.tsp_node.proofs.TakeEmits.{emits_dates}
-use Rattle.tsp_node.proofs.PartLemmas.{still_alike}
+use Rattle.tsp_node.proofs.{NodeLemmas.Performs_dated, PartLemmas.still_alike, StillTakes.took_dates, TakeEmits.emits_dates}
 use Rattle.tsp_node.proofs.part.Part.hear_date.Goals as goal
 
 pub date_take-corrected-requires-clause-followed : goal.date_take-corrected-requires-clause-followed

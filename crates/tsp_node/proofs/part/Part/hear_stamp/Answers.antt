@@ -1,14 +1,10 @@
 -- Only a master hears replies.
 use Rattle.std.proofs.Common.{◌∷◌, [], refl, sym, ◌∙◌}
-use Rattle.tsp_rules.specs.Answers.{peer_replies, replies_in}
-use Rattle.tsp_rules.specs.RoundRows.{samples}
+use Rattle.tsp_rules.specs.{Answers.peer_replies, Answers.replies_in, RoundRows.samples}
 use Rattle.tsp_date.proofs.KeepLemmas.{DatesStand_by}
 use Rattle.tsp_node.proofs.HearLemmas.{Performs_by_role, Performs_heard_by, Performs_unheard, replies_none, replies_master}
-use Rattle.tsp_node.proofs.NodeLemmas.{Performs_led, Performs_pass}
-use Rattle.tsp_node.proofs.PartLemmas.{still_alike}
-use Rattle.tsp_rules.proofs.Emits.{Emits, Emits_more, Sampling}
-use Rattle.tsp_rules.proofs.BuiltRounds.{built_samples}
-use Rattle.tsp_rules.proofs.EmitsBuilt.{emits_built}
+use Rattle.tsp_node.proofs.{NodeLemmas.Performs_led, NodeLemmas.Performs_pass, PartLemmas.still_alike}
+use Rattle.tsp_rules.proofs.{BuiltRounds.built_samples, Emits.Emits, Emits.Emits_more, Emits.Sampling, EmitsBuilt.emits_built}
 use Rattle.tsp_node.proofs.part.Part.hear_stamp.Goals as goal
 
 pub returns-in_default-clause-row : goal.returns-in_default-clause-row

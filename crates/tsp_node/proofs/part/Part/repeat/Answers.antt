@@ -1,8 +1,7 @@
 -- A correction that is posted again is noted; nothing else is.
 use Rattle.std.proofs.Common.{sym, ◌∙◌, ap, refl}
 use Rattle.tsp_base.specs.Words.{is_correction}
-use Rattle.tsp_node.proofs.DueSendLemmas.{MasterStands_posted}
-use Rattle.tsp_node.proofs.PartLemmas.{still_alike}
+use Rattle.tsp_node.proofs.{DueSendLemmas.MasterStands_posted, PartLemmas.still_alike}
 use Rattle.tsp_node.proofs.part.Part.repeat.Goals as goal
 
 pub returns-then-is_correction-clause-stands : goal.returns-then-is_correction-clause-stands

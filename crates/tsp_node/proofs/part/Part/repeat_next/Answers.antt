@@ -1,7 +1,6 @@
 -- A due send is posted again or given up, and the master notes it.
 use Rattle.std.proofs.Common.{refl}
-use Rattle.tsp_node.proofs.DueSendLemmas.{Performs_noted}
-use Rattle.tsp_node.proofs.PartLemmas.{still_alike}
+use Rattle.tsp_node.proofs.{DueSendLemmas.Performs_noted, PartLemmas.still_alike}
 use Rattle.tsp_node.proofs.part.Part.repeat_next.Goals as goal
 
 pub returns-clause-row : goal.returns-clause-row

@@ -1,6 +1,5 @@
 -- The earliest of the alarms and of the sends is that of both.
-use Rattle.std.specs.Prelude.{not}
-use Rattle.std.proofs.Common.{ap, refl, sym, ◌∙◌}
+use Rattle.std.proofs.Common.{ap, refl, sym, ◌∙◌, not}
 use Rattle.tsp_base.specs.Words.{earlier, least_deadline}
 use Rattle.tsp_node.proofs.DueLemmas.{rests-not, rests-sends}
 use Rattle.tsp_node.proofs.part.Part.rests.Goals as goal

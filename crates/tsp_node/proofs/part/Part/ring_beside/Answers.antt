@@ -1,23 +1,15 @@
 -- Each alarm has its row.
 use Rattle.std.proofs.Common.{◌≡◌, ◌∷◌, [], true, false, refl}
-use Rattle.tsp_rules.specs.Values.{Round}
-use Rattle.tsp_rules.specs.Answers.{alarm_rings}
-use Rattle.tsp_rules.specs.RoundRows.{round_rings}
+use Rattle.tsp_rules.specs.{Answers.alarm_rings, ResolveRows.resolve_rings, RoundRows.round_rings, Values.Round}
 use Rattle.tsp_date.proofs.KeepLemmas.{DatesStand_by}
-use Rattle.tsp_master.specs.MasterStands.{MasterStands}
-use Rattle.tsp_master.proofs.TableLemmas.{MasterStands_quiet, quiet_sorts}
+use Rattle.tsp_master.{proofs.TableLemmas.MasterStands_quiet, proofs.TableLemmas.quiet_sorts, specs.MasterStands.MasterStands}
 use Rattle.tsp_resolve.proofs.ResolveLemmas.{ResolveStands_by}
-use Rattle.tsp_node.specs.RoleAlarms.{is_of_master}
-use Rattle.tsp_node.specs.NodeStands.{port_with}
+use Rattle.tsp_node.specs.{NodeStands.port_with, RoleAlarms.is_of_master}
 use Rattle.tsp_node.proofs.NodeLemmas.{Performs_resolved, Performs_station, Performs_untaken, rivals_part, slaves_part}
-use Rattle.tsp_node.proofs.PartLemmas.{as_many, still_alike}
-use Rattle.tsp_rules.specs.ResolveRows.{resolve_rings}
+use Rattle.tsp_node.proofs.{PartLemmas.as_many, PartLemmas.still_alike, TakeEmits.role_sorts}
 use Rattle.tsp_node.proofs.AlarmCases.{beside_alarm, emits_wait, of_slave, slave_alarm, waits}
 use Rattle.tsp_rules.proofs.Emits.{Alarming, Emits, Emits_more, Keeps_by}
-use Rattle.tsp_node.proofs.TakeEmits.{role_sorts}
-use Rattle.tsp_rules.proofs.BuiltShared.{standing_sorts}
-use Rattle.tsp_rules.proofs.BuiltMaster.{built_resolve_rings}
-use Rattle.tsp_rules.proofs.EmitsBuilt.{emits_built}
+use Rattle.tsp_rules.proofs.{BuiltMaster.built_resolve_rings, BuiltShared.standing_sorts, EmitsBuilt.emits_built}
 use Rattle.tsp_node.proofs.part.Part.ring_beside.Goals as goal
 
 pub returns-in-Round-clause-row : goal.returns-in-Round-clause-row

@@ -2,9 +2,8 @@
 use Rattle.std.proofs.Common.{◌≡◌, false, true, refl, sym, ◌∙◌}
 use Rattle.tsp_rules.specs.Answers.{alarm_rings}
 use Rattle.tsp_master.specs.MasterAlarms.{master_rings}
-use Rattle.tsp_node.proofs.AlarmCases.{corrects_beside, master_rings-is, no_probe}
+use Rattle.tsp_node.proofs.{AlarmCases.corrects_beside, AlarmCases.master_rings-is, AlarmCases.no_probe, PartLemmas.still_alike}
 use Rattle.tsp_node.proofs.RoundLemmas.{Performs_round}
-use Rattle.tsp_node.proofs.PartLemmas.{still_alike}
 use Rattle.tsp_node.proofs.part.Part.ring_due.Goals as goal
 
 pub ring_beside-requires-clause-alarm : goal.ring_beside-requires-clause-alarm

@@ -1,15 +1,11 @@
 -- What the station does; no slave and no rival is left.
 use Rattle.std.proofs.Common.{refl}
-use Rattle.tsp_rules.specs.CandidateRows.{window_rings}
 use Rattle.tsp_date.proofs.KeepLemmas.{DatesStand_by}
 use Rattle.tsp_master.proofs.TurnLemmas.{MasterStands_changing, turning_sorts}
 use Rattle.tsp_resolve.proofs.ResolveLemmas.{ResolveStands_changed, rivalless}
-use Rattle.tsp_node.proofs.AlarmCases.{beside_window}
-use Rattle.tsp_node.proofs.NodeLemmas.{Performs_station, Performs_untaken}
-use Rattle.tsp_node.proofs.PartLemmas.{still_alike}
+use Rattle.tsp_node.proofs.{AlarmCases.beside_window, NodeLemmas.Performs_station, NodeLemmas.Performs_untaken, PartLemmas.still_alike}
 use Rattle.tsp_node.proofs.RoleChanges.{window_changes}
-use Rattle.tsp_rules.proofs.BuiltCandidate.{built_window_rings}
-use Rattle.tsp_rules.proofs.EmitsBuilt.{emits_built}
+use Rattle.tsp_rules.{proofs.BuiltCandidate.built_window_rings, proofs.EmitsBuilt.emits_built, specs.CandidateRows.window_rings}
 use Rattle.tsp_node.proofs.part.Part.ring_window.Goals as goal
 
 pub returns-clause-row : goal.returns-clause-row

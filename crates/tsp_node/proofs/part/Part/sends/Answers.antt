@@ -1,13 +1,11 @@
 -- A round performs the row of the next peer with a due send; where no peer is left, or none with a due send, all rows were performed.
 use Rattle.std.proofs.Common.{◌≡◌, ◌∙◌, ap, arith, length, refl, sym, subst, zero, Some, None}
-use Rattle.tsp_base.specs.Words.{Performs, for_each, IsAscending}
-use Rattle.tsp_base.proofs.PerformsLemmas.{Performs_reading}
+use Rattle.tsp_base.{proofs.PerformsLemmas.Performs_reading, specs.Words.Performs, specs.Words.for_each, specs.Words.IsAscending}
 use Rattle.tsp_rules.specs.SendRows.{due_send, due_sends, peers_at}
 use Rattle.tsp_sends.specs.Repeating.{peer_of}
 use Rattle.tsp_acks.proofs.BeyondLemmas.{Splits, Splits-peer, Splits-fewer, beyond, beyond-none, for_each-beyond, for_each-idle, for_each-none}
 use Rattle.tsp_acks.proofs.DueLemmas.{none_before}
-use Rattle.tsp_node.specs.declared.part.Part.{Part}
-use Rattle.tsp_node.specs.NodeStands.{PortBegun, port_with}
+use Rattle.tsp_node.specs.{NodeStands.PortBegun, NodeStands.port_with, declared.part.Part.Part}
 use Rattle.tsp_node.proofs.DueSendLemmas.{Performs_waits}
 use Rattle.tsp_node.proofs.part.Part.sends.Goals as goal
 

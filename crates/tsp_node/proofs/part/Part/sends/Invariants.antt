@@ -1,12 +1,10 @@
 -- What is left to perform are the rows of the peers after the last one whose send was repeated; each round leaves one peer less.
 use Rattle.std.specs.Prelude.{◌≡◌, ◌+◌, ◌*◌, ◌≤◌, length, List}
-use Rattle.tsp_rules.specs.Values.{Placed}
 use Rattle.tsp_base.specs.Words.{PutsAtMost, Performs, for_each}
-use Rattle.tsp_rules.specs.SendRows.{due_send}
+use Rattle.tsp_rules.specs.{SendRows.due_send, Values.Placed}
 use Rattle.tsp_acks.proofs.BeyondLemmas.{beyond}
 use Rattle.tsp_clock.specs.Clocks.{ClockValue}
-use Rattle.tsp_node.specs.declared.part.Part.{Part}
-use Rattle.tsp_node.specs.NodeStands.{PortBegun, port_with}
+use Rattle.tsp_node.specs.{NodeStands.PortBegun, NodeStands.port_with, declared.part.Part.Part}
 use Rattle.tsp_node.proofs.part.Part.sends.Given as goal
 
 abbrev pub invariant-loop : goal.invariant-loop

@@ -1,17 +1,11 @@
 -- The port follows who quits it, and its slaves and rivals are forgotten.
 use Rattle.std.proofs.Common.{◌≡◌, ◌&&◌, not, true, refl}
-use Rattle.tsp_rules.specs.CommonRows.{quits}
-use Rattle.tsp_rules.specs.Guards.{is_master}
+use Rattle.tsp_rules.specs.{CommonRows.quits, Guards.is_master}
 use Rattle.tsp_date.proofs.KeepLemmas.{DatesAside_by}
 use Rattle.tsp_master.specs.Clearing.{Clears}
-use Rattle.tsp_node.specs.Unmarking.{Unmarks}
-use Rattle.tsp_node.specs.NodeStands.{port_with}
-use Rattle.tsp_node.proofs.HearLemmas.{roles_date}
-use Rattle.tsp_node.proofs.NodeLemmas.{Performs_heard, rivals_part, slaves_part}
-use Rattle.tsp_node.proofs.PartLemmas.{still_alike}
-use Rattle.tsp_rules.proofs.Emits.{Emits, Emits_more}
-use Rattle.tsp_rules.proofs.BuiltShared.{built_quits, quit_sorts}
-use Rattle.tsp_rules.proofs.EmitsBuilt.{emits_built}
+use Rattle.tsp_node.proofs.{HearLemmas.roles_date, NodeLemmas.Performs_heard, NodeLemmas.rivals_part, NodeLemmas.slaves_part}
+use Rattle.tsp_node.{proofs.PartLemmas.still_alike, specs.NodeStands.port_with, specs.Unmarking.Unmarks}
+use Rattle.tsp_rules.proofs.{BuiltShared.built_quits, BuiltShared.quit_sorts, Emits.Emits, Emits.Emits_more, EmitsBuilt.emits_built}
 use Rattle.tsp_node.proofs.part.Part.take_quit.Goals as goal
 
 pub returns-clause-row : goal.returns-clause-row

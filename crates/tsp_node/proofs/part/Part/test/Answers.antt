@@ -1,14 +1,10 @@
 -- What the station does, and what the slaves and the rivals become.
 use Rattle.std.proofs.Common.{refl}
-use Rattle.tsp_rules.specs.CommonRows.{tests}
 use Rattle.tsp_node.specs.NodeStands.{port_with}
-use Rattle.tsp_node.proofs.NodeLemmas.{Performs_acting_by, rivals_part, slaves_part}
-use Rattle.tsp_node.proofs.PartLemmas.{still_alike}
+use Rattle.tsp_node.proofs.{NodeLemmas.Performs_acting_by, NodeLemmas.rivals_part, NodeLemmas.slaves_part, PartLemmas.still_alike}
 use Rattle.tsp_date.proofs.KeepLemmas.{DatesStand_by}
-use Rattle.tsp_rules.proofs.Emits.{Emits, Emits_more}
-use Rattle.tsp_rules.proofs.BuiltShared.{built_tests, standing_sorts}
-use Rattle.tsp_rules.proofs.EmitsBuilt.{emits_built}
-use Rattle.tsp_rules.proofs.Unchanged.{place_unchanged}
+use Rattle.tsp_rules.proofs.{BuiltShared.built_tests, BuiltShared.standing_sorts, Emits.Emits, Emits.Emits_more, EmitsBuilt.emits_built}
+use Rattle.tsp_rules.{proofs.Unchanged.place_unchanged, specs.CommonRows.tests}
 use Rattle.tsp_node.proofs.part.Part.test.Goals as goal
 
 pub returns-clause-row : goal.returns-clause-row

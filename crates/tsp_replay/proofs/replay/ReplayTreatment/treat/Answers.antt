@@ -1,10 +1,8 @@
 -- The stage goes on or halts, and what it tells is handed over.
 use Rattle.std.proofs.Common.{reverse}
-use Rattle.tsp_schedule.proofs.StageLemmas.{MatchResult-map}
-use Rattle.tsp_schedule.specs.Schedules.{Progress}
+use Rattle.tsp_schedule.{proofs.StageLemmas.MatchResult-map, specs.Schedules.Progress}
 use Rattle.tsp_replay.specs.Schedules.{Reaches}
-use Rattle.tsp_replay.proofs.Places.{Advances}
-use Rattle.tsp_replay.proofs.TreatLemmas.{Goes-advances, StopsAt-untold, StopsAt-halts}
+use Rattle.tsp_replay.proofs.{Places.Advances, TreatLemmas.Goes-advances, TreatLemmas.StopsAt-untold, TreatLemmas.StopsAt-halts}
 use Rattle.tsp_replay.proofs.replay.ReplayTreatment.treat.Goals as goal
 
 pub returns-in-Ok-clause-treats : goal.returns-in-Ok-clause-treats

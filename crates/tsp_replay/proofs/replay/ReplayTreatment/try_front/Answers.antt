@@ -1,12 +1,8 @@
 -- The line was accepted, and what it tells is handed over, or nothing has changed.
 use Rattle.std.proofs.Common.{reverse, refl}
-use Rattle.tsp_lines.specs.Lines.{line_ahead}
-use Rattle.tsp_lines.proofs.Fronts.{ahead_within}
-use Rattle.tsp_lines.specs.declared.treatment.Stop.TheVariants.{WriteFault}
+use Rattle.tsp_lines.{proofs.Fronts.ahead_within, specs.Lines.line_ahead, specs.declared.treatment.Stop.TheVariants.WriteFault}
 use Rattle.tsp_schedule.specs.Schedules.{Progress}
-use Rattle.tsp_replay.specs.Schedules.{Reaches}
-use Rattle.tsp_replay.proofs.Places.{Advances}
-use Rattle.tsp_replay.proofs.TreatLemmas.{Goes-advances, StopsAt-untold}
+use Rattle.tsp_replay.{proofs.Places.Advances, proofs.TreatLemmas.Goes-advances, proofs.TreatLemmas.StopsAt-untold, specs.Schedules.Reaches}
 use Rattle.tsp_replay.proofs.replay.ReplayTreatment.try_front.Goals as goal
 
 pub returns-in_default-clause-tries : goal.returns-in_default-clause-tries

@@ -1,7 +1,6 @@
 -- Each mark is taken away.
 use Rattle.std.proofs.Common.{◌≡◌, false, length, replicate, refl, ap, ◌∙◌, arith}
-use Rattle.std.proofs.lemmas.List.{length-replicate}
-use Rattle.std.specs.Box.{boxed_slice_items, boxed_slice_len}
+use Rattle.std.{proofs.lemmas.List.length-replicate, specs.Box.boxed_slice_items, specs.Box.boxed_slice_len}
 use Rattle.tsp_resolve.proofs.MarksLemmas.{written}
 use Rattle.tsp_resolve.proofs.marks.Marks.clear.Goals as goal
 

@@ -1,11 +1,9 @@
 -- Nobody is marked any more.
-use Rattle.std.specs.Prelude.{length, refl}
-use Rattle.std.proofs.Common.{◌∙◌, ap, [], ◌∷◌}
+use Rattle.std.proofs.Common.{◌∙◌, ap, [], ◌∷◌, length, refl}
 use Rattle.std.proofs.lemmas.List.{length-replicate}
 use Rattle.tsp_rules.specs.Values.{Become}
 use Rattle.tsp_resolve.specs.Marked.{marked}
-use Rattle.tsp_resolve.proofs.MarkedLemmas.{marked-none}
-use Rattle.tsp_resolve.proofs.ResolveLemmas.{ResolveStands_changed, become-rivalless}
+use Rattle.tsp_resolve.proofs.{MarkedLemmas.marked-none, ResolveLemmas.ResolveStands_changed, ResolveLemmas.become-rivalless}
 use Rattle.tsp_resolve.proofs.resolve.Resolve.clear.Goals as goal
 
 pub returns-clause-none : goal.returns-clause-none

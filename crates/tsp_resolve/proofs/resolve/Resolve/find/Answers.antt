@@ -1,11 +1,8 @@
 -- A peer's mark is that of its place.
-use Rattle.std.specs.Prelude.{not}
-use Rattle.std.proofs.Common.{◌∙◌, ap, sym}
+use Rattle.std.proofs.Common.{◌∙◌, ap, sym, not}
 use Rattle.tsp_rules.specs.Values.{PeerId}
-use Rattle.tsp_base.specs.Words.{is_among}
-use Rattle.tsp_resolve.specs.Marked.{marked}
-use Rattle.tsp_base.proofs.AscendingLemmas.{Rise-peers}
-use Rattle.tsp_resolve.proofs.MarkedLemmas.{marked-at, marked-set}
+use Rattle.tsp_base.{proofs.AscendingLemmas.Rise-peers, specs.Words.is_among}
+use Rattle.tsp_resolve.{proofs.MarkedLemmas.marked-at, proofs.MarkedLemmas.marked-set, specs.Marked.marked}
 use Rattle.tsp_resolve.proofs.resolve.Resolve.find.Goals as goal
 
 pub returns-clause-found : goal.returns-clause-found

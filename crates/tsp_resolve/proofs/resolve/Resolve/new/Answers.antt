@@ -2,8 +2,7 @@
 use Rattle.std.proofs.Common.{◌∙◌, ap, false, length, refl, sym}
 use Rattle.std.proofs.lemmas.List.{length-replicate}
 use Rattle.tsp_base.specs.Words.{is_among}
-use Rattle.tsp_resolve.specs.Marked.{marked}
-use Rattle.tsp_resolve.proofs.MarkedLemmas.{marked-none}
+use Rattle.tsp_resolve.{proofs.MarkedLemmas.marked-none, specs.Marked.marked}
 use Rattle.tsp_resolve.proofs.resolve.Resolve.new.Goals as goal
 
 pub returns-clause-stands : goal.returns-clause-stands

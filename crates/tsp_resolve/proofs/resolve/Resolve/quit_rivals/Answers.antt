@@ -1,20 +1,13 @@
 -- A QUIT begins to one marked peer after the other.
-use Rattle.std.specs.Prelude.{◌≡◌, suc, ◌+◌, ◌<◌, ◌∷◌, [], ◌++◌, if◌then◌else◌, true, false, length, take, slice_index_or, refl}
-use Rattle.std.proofs.Common.{sym, ◌∙◌, ap, append-nil, arith, get_or}
+use Rattle.std.proofs.Common.{sym, ◌∙◌, ap, append-nil, arith, get_or, ◌≡◌, suc, ◌+◌, ◌<◌, ◌∷◌, [], ◌++◌, if◌then◌else◌, true, false, length, take, slice_index_or, refl}
 use Rattle.std.proofs.lemmas.List.{get_or_default, take_all}
-use Rattle.tsp_rules.specs.Values.{QuitKind, PeerId}
 use Rattle.tsp_base.specs.Words.{for_each}
 use Rattle.tsp_base.proofs.PerformsLemmas.{Performs_each_more, Performs_nothing, Performs_reading}
-use Rattle.tsp_rules.specs.ResolveRows.{quits_rivals}
-use Rattle.tsp_rules.specs.SendRows.{begins}
-use Rattle.tsp_rules.specs.Guards.{rivals_at}
+use Rattle.tsp_rules.specs.{Guards.rivals_at, ResolveRows.quits_rivals, SendRows.begins, Values.QuitKind, Values.PeerId}
 use Rattle.tsp_resolve.specs.Marked.{marked}
-use Rattle.tsp_resolve.proofs.MarkedLemmas.{marked-more}
-use Rattle.tsp_resolve.proofs.ResolveLemmas.{Performs_resolving_acting, rivals-marked}
+use Rattle.tsp_resolve.proofs.{MarkedLemmas.marked-more, ResolveLemmas.Performs_resolving_acting, ResolveLemmas.rivals-marked}
 use Rattle.tsp_resolve.proofs.resolve.Resolve.quit_rivals.Goals.{then-at, else-at}
-use Rattle.tsp_rules.proofs.BuiltShared.{built_begins}
-use Rattle.tsp_rules.proofs.EmitsBuilt.{emits_built}
-use Rattle.tsp_rules.proofs.Emits.{Numbering}
+use Rattle.tsp_rules.proofs.{BuiltShared.built_begins, Emits.Numbering, EmitsBuilt.emits_built}
 use Rattle.tsp_resolve.proofs.resolve.Resolve.quit_rivals.Goals as goal
 
 pub bounds-peers-place : goal.bounds-peers-place

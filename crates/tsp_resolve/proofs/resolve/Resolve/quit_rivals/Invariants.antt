@@ -1,11 +1,9 @@
 -- A QUIT to each of the marked peers so far has begun.
 use Rattle.std.specs.Prelude.{take}
-use Rattle.tsp_rules.specs.Values.{QuitKind}
 use Rattle.tsp_base.specs.Words.{PutsAtMost, Performs, for_each}
-use Rattle.tsp_rules.specs.SendRows.{begins}
+use Rattle.tsp_rules.specs.{SendRows.begins, Values.QuitKind}
 use Rattle.tsp_acks.specs.Changes.{IsSamePort}
-use Rattle.tsp_resolve.specs.Marked.{marked}
-use Rattle.tsp_resolve.specs.ResolveStands.{ResolvingActs}
+use Rattle.tsp_resolve.specs.{Marked.marked, ResolveStands.ResolvingActs}
 use Rattle.tsp_resolve.proofs.resolve.Resolve.quit_rivals.Given as goal
 
 abbrev pub invariant-loop-place : goal.invariant-loop-place

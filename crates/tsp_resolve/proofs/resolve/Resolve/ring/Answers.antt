@@ -1,14 +1,10 @@
 -- In time a QUIT begins to each rival.
-use Rattle.std.specs.Prelude.{refl}
-use Rattle.std.proofs.Common.{◌∙◌, ap, sym}
-use Rattle.tsp_rules.specs.Values.{Ring, Late, ResolveAlarm}
+use Rattle.std.proofs.Common.{◌∙◌, ap, sym, refl}
 use Rattle.tsp_base.specs.Words.{deadline, puts, ◌followed_by◌}
 use Rattle.tsp_base.proofs.PerformsLemmas.{Performs_then, Performs_then_part, Performs_else_part, Performs_to}
-use Rattle.tsp_rules.specs.ResolveRows.{quits_rivals, resolve_rings}
-use Rattle.tsp_rules.specs.Guards.{is_in_time, is_met}
-use Rattle.tsp_rules.proofs.Emits.{Emits_puts}
-use Rattle.tsp_resolve.specs.ResolveStands.{ResolvingActs}
-use Rattle.tsp_resolve.proofs.ResolveLemmas.{Performs_resolving, Performs_rung}
+use Rattle.tsp_rules.specs.{Guards.is_in_time, Guards.is_met, ResolveRows.quits_rivals, ResolveRows.resolve_rings}
+use Rattle.tsp_rules.{proofs.Emits.Emits_puts, specs.Values.Ring, specs.Values.Late, specs.Values.ResolveAlarm}
+use Rattle.tsp_resolve.{proofs.ResolveLemmas.Performs_resolving, proofs.ResolveLemmas.Performs_rung, specs.ResolveStands.ResolvingActs}
 use Rattle.tsp_resolve.proofs.resolve.Resolve.ring.Goals as goal
 
 pub returns-then-is_in_time-clause-row : goal.returns-then-is_in_time-clause-row

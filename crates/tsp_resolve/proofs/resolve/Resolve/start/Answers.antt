@@ -1,11 +1,8 @@
 -- The row's test is the station's.
-use Rattle.std.specs.Prelude.{is_some, refl}
-use Rattle.std.proofs.Common.{◌∙◌, ap, sym}
-use Rattle.tsp_rules.specs.Values.{ResolveAlarm, ResolveKind, WINDOW}
+use Rattle.std.proofs.Common.{◌∙◌, ap, sym, is_some, refl}
 use Rattle.tsp_base.specs.Words.{deadline, nothing, ◌followed_by◌, arms, posts_to_others}
 use Rattle.tsp_base.proofs.PerformsLemmas.{Performs_then, Performs_then_part, Performs_else_part, Performs_nothing}
-use Rattle.tsp_rules.specs.ResolveRows.{resolves}
-use Rattle.tsp_rules.specs.Guards.{is_armed}
+use Rattle.tsp_rules.specs.{Guards.is_armed, ResolveRows.resolves, Values.ResolveAlarm, Values.ResolveKind, Values.WINDOW}
 use Rattle.tsp_rules.proofs.Emits.{Emits_arms, Emits_posts_to_others}
 use Rattle.tsp_resolve.proofs.ResolveLemmas.{Performs_resolving}
 use Rattle.tsp_resolve.proofs.resolve.Resolve.start.Goals as goal

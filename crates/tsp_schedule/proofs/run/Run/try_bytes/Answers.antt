@@ -3,11 +3,8 @@ use Rattle.std.proofs.Common.{◌∙◌, ◌+◌, length, take, subst}
 use Rattle.std.proofs.lemmas.Bool.{MatchBool-at_true, MatchBool-at_false}
 use Rattle.tsp_lines.proofs.Fronts.{line_ahead-front, IsAhead-front}
 use Rattle.tsp_schedule.proofs.StageLemmas.{Advances-by_event}
-use Rattle.tsp_schedule.specs.Stages.{AdvancesByEvent}
-use Rattle.tsp_schedule.specs.Schedules.{Running as RunningAt}
-use Rattle.tsp_schedule.specs.declared.stage.Stage.TheVariants.{Running}
-use Rattle.tsp_base.specs.declared.event.Event.{Event}
-use Rattle.tsp_base.specs.declared.event.Event.TheVariants.{Bytes}
+use Rattle.tsp_schedule.specs.{Schedules.Running as RunningAt, Stages.AdvancesByEvent, declared.stage.Stage.TheVariants.Running}
+use Rattle.tsp_base.specs.declared.event.Event.{Event, TheVariants.Bytes}
 use Rattle.tsp_schedule.proofs.run.Run.try_bytes.Goals as goal
 
 pub returns-then-try_octets-clause-tries : goal.returns-then-try_octets-clause-tries

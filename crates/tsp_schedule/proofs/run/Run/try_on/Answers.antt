@@ -3,9 +3,7 @@ use Rattle.std.proofs.Common.{◌∙◌, subst}
 use Rattle.std.proofs.lemmas.Bool.{MatchBool-at_true, MatchBool-at_false}
 use Rattle.tsp_lines.proofs.Fronts.{line_ahead-front, IsAhead-front}
 use Rattle.tsp_schedule.proofs.StageLemmas.{Advances-by_event}
-use Rattle.tsp_schedule.specs.Stages.{AdvancesByEvent}
-use Rattle.tsp_schedule.specs.Schedules.{Running as RunningAt}
-use Rattle.tsp_schedule.specs.declared.stage.Stage.TheVariants.{Running}
+use Rattle.tsp_schedule.specs.{Schedules.Running as RunningAt, Stages.AdvancesByEvent, declared.stage.Stage.TheVariants.Running}
 use Rattle.tsp_base.specs.Words.{event_in}
 use Rattle.tsp_schedule.proofs.run.Run.try_on.Goals as goal
 

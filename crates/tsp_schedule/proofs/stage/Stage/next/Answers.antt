@@ -1,7 +1,6 @@
 -- A stage goes on as from the place for which it stands.
 use Rattle.std.proofs.Common.{subst}
-use Rattle.tsp_schedule.specs.Stages.{StageStands}
-use Rattle.tsp_schedule.proofs.StageLemmas.{drifted-next, titled-next}
+use Rattle.tsp_schedule.{proofs.StageLemmas.drifted-next, proofs.StageLemmas.titled-next, specs.Stages.StageStands}
 use Rattle.tsp_schedule.proofs.stage.Stage.next.Goals as goal
 
 pub returns-in-Running-clause-next : goal.returns-in-Running-clause-next

@@ -1,7 +1,6 @@
 -- `strict` is the one line that may follow.
 use Rattle.std.proofs.Common.{refl}
-use Rattle.tsp_script.specs.declared.head_line.HeadItem.TheVariants.{Strict}
-use Rattle.tsp_script.proofs.Outcomes.{err_or_ok}
+use Rattle.tsp_script.{proofs.Outcomes.err_or_ok, specs.declared.head_line.HeadItem.TheVariants.Strict}
 use Rattle.tsp_schedule.proofs.stage.Stage.strict.Goals as goal
 
 pub returns-in-Err-clause-next : goal.returns-in-Err-clause-next

@@ -1,8 +1,6 @@
 -- The title of either version is accepted.
 use Rattle.std.proofs.Common.{◌∙◌, ap, subst, refl, Ok}
-use Rattle.tsp_script.specs.Schedules.{SpellsHead}
-use Rattle.tsp_script.specs.declared.head_line.HeadItem.TheVariants.{Title}
-use Rattle.tsp_script.proofs.Outcomes.{err_or_ok}
+use Rattle.tsp_script.{proofs.Outcomes.err_or_ok, specs.Schedules.SpellsHead, specs.declared.head_line.HeadItem.TheVariants.Title}
 use Rattle.tsp_schedule.proofs.StageLemmas.{Advances-title}
 use Rattle.tsp_schedule.proofs.stage.Stage.title.Goals as goal
 

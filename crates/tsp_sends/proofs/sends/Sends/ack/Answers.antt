@@ -1,7 +1,6 @@
 -- The slot that was found has the send, which ends.
 use Rattle.std.proofs.Common.{None, refl, sym, ap, ◌∙◌}
-use Rattle.tsp_sends.specs.Slots.{empty_slot, has_number}
-use Rattle.tsp_sends.proofs.SearchLemmas.{sending_to-no_place}
+use Rattle.tsp_sends.{proofs.SearchLemmas.sending_to-no_place, specs.Slots.empty_slot, specs.Slots.has_number}
 use Rattle.tsp_sends.proofs.SendsLemmas.{sending_found, SetsOnly-fill, peers_of-fill}
 use Rattle.tsp_sends.proofs.sends.Sends.ack.Goals as goal
 

@@ -1,6 +1,5 @@
 use Rattle.std.proofs.Common.{Some}
-use Rattle.tsp_sends.proofs.SearchLemmas.{always_found}
-use Rattle.tsp_sends.proofs.SendsLemmas.{SetsOnly-fill, peers_of-fill}
+use Rattle.tsp_sends.proofs.{SearchLemmas.always_found, SendsLemmas.SetsOnly-fill, SendsLemmas.peers_of-fill}
 use Rattle.tsp_sends.proofs.sends.Sends.begin.Goals as goal
 
 pub returns-in-Ok-clause-sends : goal.returns-in-Ok-clause-sends

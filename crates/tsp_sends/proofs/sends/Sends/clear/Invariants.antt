@@ -1,6 +1,5 @@
 use Rattle.std.proofs.Common.{◌≡◌, ◌<◌, ℕ, length, None, get_or}
-use Rattle.tsp_sends.specs.declared.slot.Slot.{Slot}
-use Rattle.tsp_sends.specs.Slots.{peers_of}
+use Rattle.tsp_sends.specs.{Slots.peers_of, declared.slot.Slot.Slot}
 use Rattle.tsp_sends.proofs.sends.Sends.clear.Given as goal
 
 abbrev pub invariant-loop-place : goal.invariant-loop-place

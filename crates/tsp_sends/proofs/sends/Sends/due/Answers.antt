@@ -1,13 +1,9 @@
 -- The slot that the tree finds is repeated or emptied, and the tree gets its deadline.
 use Rattle.std.proofs.Common.{◌≡◌, arith, length, length-set, get_or, set, refl, ap, ◌∙◌}
-use Rattle.std.specs.Option.{option_and_then}
-use Rattle.std.proofs.lemmas.List.{length-map}
+use Rattle.std.{proofs.lemmas.List.length-map, specs.Option.option_and_then}
 use Rattle.tsp_sends.specs.declared.slot.Slot.{Slot}
-use Rattle.tsp_sends.specs.Deadlines.{IsFirstDueAt}
-use Rattle.tsp_sends.specs.Repeating.{kept}
-use Rattle.tsp_sends.specs.Slots.{empty_slot, deadline_in, peers_of}
-use Rattle.tsp_sends.proofs.SlotLemmas.{peers_of-set}
-use Rattle.tsp_sends.proofs.SendsLemmas.{IsSends-fill, RepeatsNext-none, RepeatsNext-put}
+use Rattle.tsp_sends.specs.{Deadlines.IsFirstDueAt, Repeating.kept, Slots.empty_slot, Slots.deadline_in, Slots.peers_of}
+use Rattle.tsp_sends.proofs.{SendsLemmas.IsSends-fill, SendsLemmas.RepeatsNext-none, SendsLemmas.RepeatsNext-put, SlotLemmas.peers_of-set}
 use Rattle.tsp_sends.proofs.sends.Sends.due.Goals as goal
 
 pub returns-in_err-place-clause-sends : goal.returns-in_err-place-clause-sends

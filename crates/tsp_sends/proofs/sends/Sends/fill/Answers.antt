@@ -1,8 +1,6 @@
 -- The slot's deadline is put into the tree.
 use Rattle.std.proofs.Common.{◌<◌, arith, length, length-set, get_or, refl, ap}
-use Rattle.tsp_sends.specs.declared.slot.Slot.{Slot}
-use Rattle.tsp_sends.specs.Slots.{empty_slot}
-use Rattle.tsp_sends.proofs.SendsLemmas.{IsSends-fill}
+use Rattle.tsp_sends.{proofs.SendsLemmas.IsSends-fill, specs.Slots.empty_slot, specs.declared.slot.Slot.Slot}
 use Rattle.tsp_sends.proofs.sends.Sends.fill.Goals as goal
 
 pub deadline-at-requires : goal.deadline-at-requires

@@ -1,8 +1,7 @@
 -- The slot that was found has the send.
 use Rattle.std.proofs.Common.{refl, sym, ap, ◌∙◌}
 use Rattle.tsp_sends.specs.Slots.{empty_slot, kind_of}
-use Rattle.tsp_sends.proofs.SearchLemmas.{sending_to-no_place}
-use Rattle.tsp_sends.proofs.SendsLemmas.{sending_found}
+use Rattle.tsp_sends.proofs.{SearchLemmas.sending_to-no_place, SendsLemmas.sending_found}
 use Rattle.tsp_sends.proofs.sends.Sends.kind.Goals as goal
 
 pub returns-in-Ok : goal.returns-in-Ok

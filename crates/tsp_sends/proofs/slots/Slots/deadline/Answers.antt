@@ -1,7 +1,6 @@
 -- No send is open in a slot that isn't held.
 use Rattle.std.proofs.Common.{◌≤◌, length, sym, ap, rules}
-use Rattle.std.specs.Box.{boxed_slice_items}
-use Rattle.std.specs.Option.{option_map}
+use Rattle.std.specs.{Box.boxed_slice_items, Option.option_map}
 use Rattle.tsp_base.specs.Words.{deadline_of}
 use Rattle.tsp_sends.proofs.HeldLemmas.{none_past}
 use Rattle.tsp_sends.proofs.slots.Slots.deadline.Goals as goal

@@ -1,8 +1,7 @@
 -- No send is open in a slot that isn't held.
 use Rattle.std.proofs.Common.{◌≤◌, length, sym, ap, rules}
 use Rattle.std.specs.Box.{boxed_slice_items}
-use Rattle.tsp_sends.specs.Slots.{kind_of}
-use Rattle.tsp_sends.proofs.HeldLemmas.{none_past}
+use Rattle.tsp_sends.{proofs.HeldLemmas.none_past, specs.Slots.kind_of}
 use Rattle.tsp_sends.proofs.slots.Slots.kind.Goals as goal
 
 pub returns-else-place-len : goal.returns-else-place-len

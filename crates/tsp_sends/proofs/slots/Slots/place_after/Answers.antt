@@ -1,5 +1,4 @@
-use Rattle.tsp_sends.proofs.SlotLemmas.{Rising-ascending}
-use Rattle.tsp_sends.proofs.SearchLemmas.{IsFirstAfter-next}
+use Rattle.tsp_sends.proofs.{SearchLemmas.IsFirstAfter-next, SlotLemmas.Rising-ascending}
 use Rattle.tsp_sends.proofs.slots.Slots.place_after.Goals as goal
 
 pub returns-in-Ok : goal.returns-in-Ok

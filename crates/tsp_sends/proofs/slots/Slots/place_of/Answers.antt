@@ -1,9 +1,7 @@
 -- A search by the peers' numbers.
 use Rattle.std.proofs.Common.{◌≡◌, sym, ap, ◌∙◌}
 use Rattle.std.specs.Box.{boxed_slice_items}
-use Rattle.tsp_sends.specs.Slots.{peers_of}
-use Rattle.tsp_sends.proofs.HeldLemmas.{peers_of-slots_of}
-use Rattle.tsp_sends.proofs.SearchLemmas.{IsPlaceOf-searched}
+use Rattle.tsp_sends.{proofs.HeldLemmas.peers_of-slots_of, proofs.SearchLemmas.IsPlaceOf-searched, specs.Slots.peers_of}
 use Rattle.tsp_sends.proofs.slots.Slots.place_of.Goals as goal
 
 pub returns : goal.returns

@@ -1,10 +1,7 @@
 -- The slot is held, and is repeated.
 use Rattle.std.proofs.Common.{◌≡◌, ◌∙◌, set, ap}
-use Rattle.std.specs.Box.{boxed_slice_items}
-use Rattle.std.specs.Option.{option_map, option_and_then}
-use Rattle.tsp_sends.specs.declared.slot.Slot.{Slot}
-use Rattle.tsp_sends.specs.Held.{slots_of}
-use Rattle.tsp_sends.specs.Repeating.{repeated, kept}
+use Rattle.std.specs.{Box.boxed_slice_items, Option.option_map, Option.option_and_then}
+use Rattle.tsp_sends.specs.{Held.slots_of, Repeating.repeated, Repeating.kept, declared.slot.Slot.Slot}
 use Rattle.tsp_sends.proofs.HeldLemmas.{AreHeld-set, slot-held, slot-is, slots_of-changed}
 use Rattle.tsp_sends.proofs.slots.Slots.repeat.Goals as goal
 

@@ -1,8 +1,7 @@
 -- The slot is held, and gets the send.
 use Rattle.std.proofs.Common.{◌≡◌, ◌∙◌, set, ap}
 use Rattle.std.specs.Box.{boxed_slice_items}
-use Rattle.tsp_sends.specs.declared.slot.Slot.{Slot}
-use Rattle.tsp_sends.specs.Held.{slots_of}
+use Rattle.tsp_sends.specs.{Held.slots_of, declared.slot.Slot.Slot}
 use Rattle.tsp_sends.proofs.HeldLemmas.{AreHeld-set, slot-held, slots_of-changed}
 use Rattle.tsp_sends.proofs.slots.Slots.set.Goals as goal
 

@@ -1,6 +1,5 @@
 use Rattle.std.proofs.Common.{ap, sym}
-use Rattle.tsp_sends.specs.Trees.{TreeValue}
-use Rattle.tsp_sends.proofs.PlaceLemmas.{IsLeast-root}
+use Rattle.tsp_sends.{proofs.PlaceLemmas.IsLeast-root, specs.Trees.TreeValue}
 use Rattle.tsp_sends.proofs.tree.Tree.least.Goals as goal
 
 pub returns : goal.returns

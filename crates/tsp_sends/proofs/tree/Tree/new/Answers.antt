@@ -1,6 +1,5 @@
 use Rattle.std.proofs.Common.{◌≡◌, ℕ, None, ◌*◌, ◌^◌, ◌≤◌, replicate, ap, ◌∙◌, refl}
-use Rattle.tsp_sends.specs.Trees.{StoreValue}
-use Rattle.tsp_sends.proofs.PlaceLemmas.{IsTree-new, places_in-new, nodes_fit}
+use Rattle.tsp_sends.{proofs.PlaceLemmas.IsTree-new, proofs.PlaceLemmas.places_in-new, proofs.PlaceLemmas.nodes_fit, specs.Trees.StoreValue}
 use Rattle.tsp_sends.proofs.tree.Tree.new.Goals as goal
 
 pub invariant_of-result : goal.invariant_of-result

@@ -1,7 +1,6 @@
 use Rattle.std.proofs.Common.{arith, ◌≡◌, ◌≤◌, ◌<◌, ◌^◌, length, set, ap, sym, ◌∙◌}
-use Rattle.tsp_sends.specs.Trees.{TreeValue}
 use Rattle.tsp_sends.proofs.PlaceLemmas.{IsTree-set, places_in-set, places_in-length, leaves_fit}
-use Rattle.tsp_sends.proofs.TreeLemmas.{pow-small}
+use Rattle.tsp_sends.{proofs.TreeLemmas.pow-small, specs.Trees.TreeValue}
 use Rattle.tsp_sends.proofs.tree.Tree.put.Goals as goal
 
 pub overflow_add-self-inside : goal.overflow_add-self-inside

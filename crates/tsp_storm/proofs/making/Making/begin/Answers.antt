@@ -3,8 +3,7 @@ use Rattle.std.proofs.Common.{◌∙◌, ap, arith, length, subst, []}
 use Rattle.tsp_base.specs.Words.{HeaderValue}
 use Rattle.tsp_script.specs.Storms.{StormValue}
 use Rattle.tsp_storm.specs.Schedules.{generator_of}
-use Rattle.tsp_storm.proofs.Mades.{length-storm_lines, made_is, whole_alone}
-use Rattle.tsp_storm.proofs.Steps.{stands_begins}
+use Rattle.tsp_storm.proofs.{Mades.length-storm_lines, Mades.made_is, Mades.whole_alone, Steps.stands_begins}
 use Rattle.tsp_storm.proofs.making.Making.begin.Goals as goal
 use Rattle.tsp_world.specs.WorldStands.{WorldStands}
 

@@ -2,8 +2,7 @@
 use Rattle.std.proofs.Common.{◌∙◌, ap}
 use Rattle.tsp_rules.specs.Values.{Event}
 use Rattle.tsp_script.specs.declared.storm.Draw.TheVariants.{Event as Gives}
-use Rattle.tsp_storm.specs.Schedules.{header_of, storm_events, next_event}
-use Rattle.tsp_storm.proofs.Draws.{given-next}
+use Rattle.tsp_storm.{proofs.Draws.given-next, specs.Schedules.header_of, specs.Schedules.storm_events, specs.Schedules.next_event}
 use Rattle.tsp_storm.proofs.Steps.{made_now, more_now, world_now, event_now, on_step, stops_step}
 use Rattle.tsp_storm.proofs.making.Making.step.Goals as goal
 

@@ -1,16 +1,12 @@
 -- The datagram reaches the node that the run says.
 use Rattle.std.proofs.Common.{◌≡◌, ◌∙◌, ◌<◌, ap, sym, subst, refl, rules, Some, None, ℕ, vec_len, length, slice_get}
 use Rattle.tsp_rules.specs.Values.{Good, Stamp}
-use Rattle.tsp_run.specs.declared.posted.Posted.{Posted}
-use Rattle.tsp_run.specs.Networks.{networks, ports_on}
-use Rattle.tsp_run.specs.Refusals.{node_in}
-use Rattle.tsp_run.proofs.NetworkLemmas.{goes_there, some_same}
-use Rattle.tsp_run.proofs.RefusalLemmas.{goes_to-post}
+use Rattle.tsp_run.specs.{Networks.networks, Networks.ports_on, Refusals.node_in, declared.posted.Posted.Posted}
+use Rattle.tsp_run.proofs.{NetworkLemmas.goes_there, NetworkLemmas.some_same, RefusalLemmas.goes_to-post}
 use Rattle.tsp_networks.specs.Posts.{stamp_in}
-use Rattle.tsp_world.specs.WorldStands.{CanStep}
 use Rattle.tsp_world.proofs.Deliveries.{addressee, delivered, post_within, stamp_is}
 use Rattle.tsp_world.proofs.world.World.deliver.Goals as goal
-use Rattle.tsp_world.proofs.world.World.deliver.Goals.{After-stamp}
+use Rattle.tsp_world.{proofs.world.World.deliver.Goals.After-stamp, specs.WorldStands.CanStep}
 
 able : (c : After-stamp) → CanStep c.args.at c.args.address.node c.args.self.now
 able c = let allowed = c.requires.allowed in

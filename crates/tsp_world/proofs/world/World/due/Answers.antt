@@ -1,11 +1,8 @@
 -- What is kept from now on is so of the node that was looked at.
 use Rattle.std.proofs.Common.{◌≡◌, ◌∙◌, Some, ap, arith, length, rules, subst, sym, vec_len}
-use Rattle.tsp_gateway.specs.declared.gateway.Gateway.{Gateway}
-use Rattle.tsp_gateway.specs.Dues.{RestsUntil}
-use Rattle.tsp_gateway.proofs.RestLemmas.{RestsUntil-deadline}
+use Rattle.tsp_gateway.{proofs.RestLemmas.RestsUntil-deadline, specs.Dues.RestsUntil, specs.declared.gateway.Gateway.Gateway}
 use Rattle.tsp_run.proofs.NetworkLemmas.{some_same}
-use Rattle.tsp_world.specs.WorldStands.{RestsFor}
-use Rattle.tsp_world.proofs.ReadyLemmas.{AreDues-known, place_there}
+use Rattle.tsp_world.{proofs.ReadyLemmas.AreDues-known, proofs.ReadyLemmas.place_there, specs.WorldStands.RestsFor}
 use Rattle.tsp_world.proofs.world.World.due.Goals as goal
 use Rattle.tsp_world.proofs.world.World.due.Goals.{Joined-index, in-Some, in-None}
 

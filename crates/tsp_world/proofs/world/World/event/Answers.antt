@@ -1,9 +1,7 @@
 -- What nothing refuses keeps the promises.
 use Rattle.std.specs.Prelude.{◌∷◌}
-use Rattle.tsp_run.proofs.RunPremises.{runs-keep-premises}
-use Rattle.tsp_run.proofs.RunPromises.{runs-keep-promises}
-use Rattle.tsp_world.proofs.Occurrences.{comes-so}
-use Rattle.tsp_world.proofs.WorldLemmas.{accepted}
+use Rattle.tsp_run.proofs.{RunPremises.runs-keep-premises, RunPromises.runs-keep-promises}
+use Rattle.tsp_world.proofs.{Occurrences.comes-so, WorldLemmas.accepted}
 use Rattle.tsp_world.proofs.world.World.event.Goals as goal
 
 pub returns-clause-promises : goal.returns-clause-promises

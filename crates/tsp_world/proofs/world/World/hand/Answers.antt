@@ -1,14 +1,10 @@
 -- Octets are refused, or taken after room was made for it, or memory lacks.
 use Rattle.std.proofs.Common.{◌≡◌, ◌∙◌, ap, refl, rules, [], Some, vec_len, length}
-use Rattle.tsp_rules.specs.Values.{Event, Bytes}
 use Rattle.tsp_base.specs.Words.{Handed}
-use Rattle.tsp_rules.specs.GateRows.{GotOn, answers_all}
-use Rattle.tsp_run.specs.Refusals.{scene}
-use Rattle.tsp_run.specs.Run.{run, steps}
-use Rattle.tsp_run.proofs.RefusalLemmas.{refusal-none, up-down}
-use Rattle.tsp_world.specs.WorldStands.{HappensInWorld}
+use Rattle.tsp_rules.specs.{GateRows.GotOn, GateRows.answers_all, Values.Event, Values.Bytes}
+use Rattle.tsp_run.{proofs.RefusalLemmas.refusal-none, proofs.RefusalLemmas.up-down, specs.Refusals.scene, specs.Run.run, specs.Run.steps}
 use Rattle.tsp_world.proofs.Occurrences.{can_step, declined, lacks_memory, may, occurred}
-use Rattle.tsp_world.proofs.WorldLemmas.{Alike-stands}
+use Rattle.tsp_world.{proofs.WorldLemmas.Alike-stands, specs.WorldStands.HappensInWorld}
 use Rattle.tsp_world.proofs.world.World.hand.Goals as goal
 
 pub returns-in-Some : goal.returns-in-Some

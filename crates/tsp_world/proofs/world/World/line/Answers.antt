@@ -3,8 +3,7 @@ use Rattle.std.proofs.Common.{◌≡◌, ◌<◌, ◌∙◌, ap, subst, sym, ari
 use Rattle.std.proofs.lemmas.Option.{slice_get-get_or}
 use Rattle.tsp_rules.specs.Values.{NodeLine}
 use Rattle.tsp_base.specs.Words.{KeepsDrift}
-use Rattle.tsp_run.specs.Setup.{nobody}
-use Rattle.tsp_run.proofs.NetworkLemmas.{some_same}
+use Rattle.tsp_run.{proofs.NetworkLemmas.some_same, specs.Setup.nobody}
 use Rattle.tsp_world.proofs.world.World.line.Goals as goal
 use Rattle.tsp_world.proofs.world.World.line.Goals.{After-index-nodes-node}
 

@@ -1,17 +1,12 @@
 -- The node's timers are looked at by its row.
 use Rattle.std.proofs.Common.{◌≡◌, ◌∙◌, ap, refl, subst, arith, Some, rules, vec_len, length, slice_get}
 use Rattle.std.proofs.Math.ListN.{set}
-use Rattle.tsp_rules.specs.Values.{Turn}
 use Rattle.tsp_base.specs.Words.{tick_at, Turned}
-use Rattle.tsp_rules.specs.GateRows.{NodeTurn, answers_all}
-use Rattle.tsp_rules.specs.NodePerforms.{PerformsAll}
-use Rattle.tsp_run.specs.Networks.{networks, ports_on}
-use Rattle.tsp_run.specs.Setup.{node_line}
-use Rattle.tsp_run.specs.Refusals.{scene}
+use Rattle.tsp_rules.specs.{GateRows.NodeTurn, GateRows.answers_all, NodePerforms.PerformsAll, Values.Turn}
+use Rattle.tsp_run.specs.{Networks.networks, Networks.ports_on, Refusals.scene, Setup.node_line}
 use Rattle.tsp_run.proofs.RefusalLemmas.{refusal-none, up-down}
-use Rattle.tsp_world.specs.NodesReady.{PlaceReady}
+use Rattle.tsp_world.specs.{NodesReady.PlaceReady, WorldStands.Notes, WorldStands.UpBegun, WorldStands.UpStands}
 use Rattle.tsp_networks.specs.Sheets.{acts_on}
-use Rattle.tsp_world.specs.WorldStands.{Notes, UpBegun, UpStands}
 use Rattle.tsp_world.proofs.ReadyLemmas.{AreDues-acted, NodesReady-later, NodesReady-set, CanAct-ready, PlaceReady-acts, place_there}
 use Rattle.tsp_world.proofs.WorldLemmas.{WorldStands-handed, Alike-stands, in_header}
 use Rattle.tsp_world.proofs.world.World.look.Goals as goal

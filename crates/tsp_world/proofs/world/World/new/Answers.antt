@@ -1,11 +1,9 @@
 -- No node is up, and each is set up as the header says.
 use Rattle.std.proofs.Common.{◌≡◌, ◌∙◌, ap, refl, sym, subst, rules, length, Some, None, slice_get, [], ◌∷◌}
-use Rattle.tsp_run.specs.Networks.{numbers_below}
+use Rattle.tsp_run.specs.{Networks.numbers_below, Ranges.IsInRange}
 use Rattle.std.proofs.lemmas.List.Elements.{All-nil}
-use Rattle.tsp_run.specs.Ranges.{IsInRange}
 use Rattle.tsp_networks.specs.Rooms.{AreRooms}
-use Rattle.tsp_world.specs.WorldStands.{PlaceStands}
-use Rattle.tsp_world.proofs.Replicates.{slice_get-replicate}
+use Rattle.tsp_world.{proofs.Replicates.slice_get-replicate, specs.WorldStands.PlaceStands}
 use Rattle.tsp_world.proofs.world.World.new.Goals as goal
 
 pub invariant_of-result-clause-ready : goal.invariant_of-result-clause-ready

@@ -1,6 +1,5 @@
 -- Each kind of event is a call of its own.
-use Rattle.std.proofs.Common.{subst}
-use Rattle.std.specs.Prelude.{MatchResult}
+use Rattle.std.proofs.Common.{subst, MatchResult}
 use Rattle.tsp_rules.specs.Values.{Bytes}
 use Rattle.tsp_world.specs.WorldStands.{Occurs, Declines}
 use Rattle.tsp_world.proofs.world.World.occur.Goals as goal

@@ -2,17 +2,13 @@
 use Rattle.std.proofs.Common.{◌≡◌, ◌∙◌, ap, subst, arith, Some, rules, vec_len, length, slice_get}
 use Rattle.std.proofs.Math.ListN.{set}
 use Rattle.tsp_base.specs.Words.{tick_at}
-use Rattle.tsp_rules.specs.GateRows.{GotOn, answers_all}
-use Rattle.tsp_rules.specs.NodePerforms.{PerformsAll}
-use Rattle.tsp_run.specs.Networks.{networks, ports_on}
-use Rattle.tsp_run.specs.Setup.{node_line}
-use Rattle.tsp_world.specs.NodesReady.{PlaceReady}
+use Rattle.tsp_rules.specs.{GateRows.GotOn, GateRows.answers_all, NodePerforms.PerformsAll}
+use Rattle.tsp_run.specs.{Networks.networks, Networks.ports_on, Setup.node_line}
+use Rattle.tsp_world.specs.{NodesReady.PlaceReady, WorldStands.Notes, WorldStands.UpBegun, WorldStands.UpStands}
 use Rattle.tsp_networks.specs.Sheets.{acts_on}
-use Rattle.tsp_world.specs.WorldStands.{Notes, UpBegun, UpStands}
 use Rattle.tsp_world.proofs.ReadyLemmas.{AreDues-acted, NodesReady-later, NodesReady-set, CanTake-ready, PlaceReady-acts, place_there}
-use Rattle.tsp_world.proofs.WorldLemmas.{WorldStands-handed, in_header}
+use Rattle.tsp_world.proofs.{WorldLemmas.WorldStands-handed, WorldLemmas.in_header, world.World.receive.Goals.After-index_mut-place}
 use Rattle.tsp_world.proofs.world.World.receive.Goals as goal
-use Rattle.tsp_world.proofs.world.World.receive.Goals.{After-index_mut-place}
 
 there : (c : After-index_mut-place) → slice_get c.args.self.now.nodes.items c.args.node ≡ Some c.index_mut-place.result.now
 there c = place_there c.args.self.now c.args.node c.index_mut-place.result.now c.requires.node (search rules) c.index_mut-place.ensures.value

@@ -1,25 +1,16 @@
 -- The node boots by its row, and takes its place. It is set up so that only memory can be wanting.
 use Rattle.std.proofs.Common.{◌≡◌, ◌<◌, ◌∙◌, ap, refl, subst, sym, arith, Some, rules, vec_len, length, pos, ◌+ℤ◌, SFits, w64, to_z, of_z, to_z-of_z, inl, inr, ◌++◌, get_or}
 use Rattle.std.proofs.Math.ListN.{set}
-use Rattle.tsp_rules.specs.Values.{BootAt}
 use Rattle.tsp_base.specs.Words.{tick_at}
 use Rattle.tsp_gateway.specs.GateConfigs.{AreGatePorts, GateBootsNot, GateConfigValue, UnbootedNode, peers_of_ports}
-use Rattle.tsp_gateway.specs.GatewayStands.{GatewayStands}
-use Rattle.tsp_rules.specs.GateRows.{boots_all}
-use Rattle.tsp_rules.specs.NodePerforms.{PerformsAll}
-use Rattle.tsp_rules.specs.NodeRows.{NodePast, in_node_step}
-use Rattle.tsp_run.specs.Networks.{networks, ports_on}
+use Rattle.tsp_rules.specs.{GateRows.boots_all, NodePerforms.PerformsAll, NodeRows.NodePast, NodeRows.in_node_step, Values.BootAt}
+use Rattle.tsp_run.specs.{Networks.networks, Networks.ports_on, Setup.node_line, Setup.past_of}
 use Rattle.tsp_run.specs.Run.{boot_step, run, joins, steps, step_tick}
-use Rattle.tsp_run.specs.Setup.{node_line, past_of}
-use Rattle.tsp_run.proofs.NetworkLemmas.{some_same}
-use Rattle.tsp_world.specs.Configs.{config_of}
-use Rattle.tsp_world.specs.NodesReady.{NodeReady}
-use Rattle.tsp_networks.specs.Sheets.{acts_on}
-use Rattle.tsp_world.specs.WorldStands.{Notes, PlaceStands}
-use Rattle.tsp_run.proofs.BootLemmas.{boots-up}
+use Rattle.tsp_world.specs.{Configs.config_of, NodesReady.NodeReady, WorldStands.Notes, WorldStands.PlaceStands}
+use Rattle.tsp_run.proofs.{BootLemmas.boots-up, NetworkLemmas.some_same}
 use Rattle.tsp_world.proofs.ReadyLemmas.{AreDues-acted, NodesReady-later, NodesReady-set}
-use Rattle.tsp_gateway.proofs.LiftLemmas.{set_cases}
-use Rattle.tsp_networks.proofs.MemberLemmas.{room-many, some_port}
+use Rattle.tsp_gateway.{proofs.LiftLemmas.set_cases, specs.GatewayStands.GatewayStands}
+use Rattle.tsp_networks.{proofs.MemberLemmas.room-many, proofs.MemberLemmas.some_port, specs.Sheets.acts_on}
 use Rattle.tsp_world.proofs.SetupLemmas.{can_boot, get_or-configs_below, length-configs_below}
 use Rattle.tsp_world.proofs.WorldLemmas.{WorldStands-acted, PlaceStands-acted, in_header}
 use Rattle.tsp_world.proofs.world.World.start.Goals as goal

@@ -1,6 +1,5 @@
 use Rattle.std.proofs.Common.{◌≤◌, [], inl, refl, length}
-use Rattle.tsp_lines.specs.Meanings.{Meaning}
-use Rattle.tsp_lines.proofs.Stops.{MatchResult-line}
+use Rattle.tsp_lines.{proofs.Stops.MatchResult-line, specs.Meanings.Meaning}
 use Rattle.tsp_text_tests.proofs.tests.lines.EchoTreatment.treat.Goals as goal
 
 pub returns-in_err-put-in_default-clause-treats : goal.returns-in_err-put-in_default-clause-treats
