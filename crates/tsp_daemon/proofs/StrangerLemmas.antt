@@ -1,5 +1,5 @@
 -- A step of a node over its ports posts to a stranger only where it is given a stranger's datagram.
-use Rattle.std.proofs.Common.{subst, sym, ℕ, ◌+◌, ◌*◌, Bool, true, false, if◌then◌else◌, List, [], ◌∷◌, ◌++◌, length, map, All, refl}
+use Rattle.std.proofs.Common.{subst, sym, ℕ, ◌+◌, ◌*◌, Bool, true, false, if◌then◌else◌, List, [], ◌∷◌, ◌++◌, length, All, refl}
 use Rattle.std.proofs.lemmas.List.Elements.{All-nil, All-cons, All-append, All-map, All-weaker}
 use Rattle.tsp_rules.specs.Values.{Act, Took, Post, Abandon, Placed, Message, Stamp, Taken, Good, Bad, Kind, LoopKind, Place, Peer, Stranger, Port}
 use Rattle.tsp_base.specs.Words.{Past, view, MessageValue, is_going, Row, placed, puts}
@@ -26,11 +26,6 @@ known-act b _ k = tt
 
 pub known_any : (b : Bool) (acts : List Placed) → AreKnown false acts → AreKnown b acts
 known_any b acts k = All-weaker (λ (p : Placed). IsKnown false p.act) (λ (p : Placed). IsKnown b p.act) (λ p. known-act b p.act) acts k
-
--- posts to peers alone
-posts-known : {A : Type 0} (strange : Bool) (f : A → Act) → ((a : A) → IsKnown strange (f a)) → (xs : List A) → All (IsKnown strange) (map f xs)
-posts-known strange f k [] = All-nil (IsKnown strange)
-posts-known strange f k (x ∷ xs) = All-cons (IsKnown strange) (f x) (map f xs) (k x) (posts-known strange f k xs)
 
 -- a row over ports that posts to a stranger only where this holds
 record Known (strange : Bool) (row : NodeRow) : Type 0 where

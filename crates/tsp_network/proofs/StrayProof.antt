@@ -1,15 +1,14 @@
 -- A copy that comes to another daemon than it is addressed to breaks a promise.
-use Rattle.std.proofs.Common.{sym, ap, subst, arith, inl, inr, ◌∙◌, ◌≡◌, ℕ, zero, suc, ◌<◌, ◌≤◌, ◌^◌, true, pos, negsuc, List, [], ◌∷◌, ◌++◌, length, Some, slice_get, refl}
+use Rattle.std.proofs.Common.{sym, ap, subst, arith, inr, ◌∙◌, ◌≡◌, ℕ, zero, suc, ◌<◌, ◌≤◌, ◌^◌, true, pos, negsuc, List, [], ◌∷◌, length, Some, slice_get, refl}
 use Rattle.std.proofs.lemmas.List.Elements.{All-nil, All-cons}
-use Rattle.tsp_rules.specs.Values.{Datagram, Message, Peer, Place, Port, Post}
+use Rattle.tsp_rules.specs.Values.{Message, Peer}
 use Rattle.tsp_rules.specs.GateRows.{GotOn}
-use Rattle.tsp_base.specs.Words.{Acts, Came, Deed, Handed, IsHeader, IsNet, KeepsDrift, Line, Step, Within, dids, first_port, has_member, peer_of as peer, posted, stepped}
-use Rattle.tsp_base.proofs.PlaceLemmas.{Within-none}
+use Rattle.tsp_base.specs.Words.{Came, Handed, IsHeader, IsNet, KeepsDrift, dids, first_port, has_member, peer_of as peer, posted, stepped}
 use Rattle.tsp_codec.specs.{Canon.canon, Taken.taken_of}
 use Rattle.tsp_promises.specs.{Once.OnceObeyed, Premises.Honest, Setting.Setting}
 use Rattle.tsp_run.specs.declared.posted.Posted.{Posted}
-use Rattle.tsp_run.specs.{Networks.networks, Possible.Possible, Premised.Sealed, Run.posted_in, Run.posts, Setup.node_line}
-use Rattle.tsp_run.proofs.{NetworkLemmas.some_same, PostPlaces.length-posts, RunPremises.possible-runs-keep-premises}
+use Rattle.tsp_run.specs.{Networks.networks, Possible.Possible, Premised.Sealed, Run.posts, Setup.node_line}
+use Rattle.tsp_run.proofs.{NetworkLemmas.some_same, PromptRun.posted-at, RunPremises.possible-runs-keep-premises}
 use Rattle.tsp_network.specs.{Events.IsNetwork, Events.MayCome, Lives.AreStarted, Lives.session_of, Rosters.neighbours_on}
 use Rattle.tsp_network.specs.Misdelivered.{Misdelivered, astray, first_at, led, three_daemons, three_nodes}
 use Rattle.tsp_network.specs.{Networks.Network, Networks.copy_at, Networks.network, Schedules.AllSuit}
@@ -87,38 +86,6 @@ handed e = let bad : ⊥ = cc in absurd bad
 honest-astray : Honest (stepped stray_step 390001400 stray_acts history)
 honest-astray = (λ e p t. handed e, (λ e p t. handed e, (λ e p t. handed e, (λ e p t. handed e, (λ e p t. handed e, honest-run)))))
 
--- a line that posts to somebody is found by its number
-record PostedTo (h : List Line) (k : ℕ) (to : Place) : Type 0 where
-  pub post : Posted
-  pub there : slice_get (posts h) k ≡ Some post
-  pub to_is : post.to ≡ to
-
-get-front : {A : Type 0} (xs ys : List A) (k : ℕ) (p : A) → slice_get xs k ≡ Some p → slice_get (xs ++ ys) k ≡ Some p
-get-front [] ys k p e = let bad : ⊥ = cc in absurd bad
-get-front (x ∷ xs) ys zero p e = e
-get-front (x ∷ xs) ys (suc k) p e = get-front xs ys k p e
-
-get-end : {A : Type 0} (xs : List A) (y : A) → slice_get (xs ++ y ∷ []) (length xs) ≡ Some y
-get-end [] y = refl
-get-end (x ∷ xs) y = get-end xs y
-
-posted-last : (before : List Line) (port : Port) (step : Step) (deed : Deed) (to : Place) (datagram : Datagram) → deed ≡ Acts (Post to datagram) → (p : Posted) × (slice_get (posts before ++ posted_in port step deed) (posted (dids before)) ≡ Some p) × (p.to ≡ to)
-posted-last before port step deed to datagram is =
-    let p : Posted = record { at = step.at; from = step.node; port = port; to = to; datagram = datagram } in
-    subst (λ d. (p : Posted) × (slice_get (posts before ++ posted_in port step d) (posted (dids before)) ≡ Some p) × (p.to ≡ to)) (sym is)
-    (p, ap (λ k. slice_get (posts before ++ p ∷ []) k) (sym (length-posts before)) ∙ get-end (posts before) p, refl)
-
-posted-to : (h : List Line) (post : Line) (older : List Line) (to : Place) (datagram : Datagram) → Within (post ∷ older) h → post.did.deed ≡ Acts (Post to datagram) → PostedTo h (posted (dids older)) to
-posted-to [] post older to datagram w is = Within-none post older w
-posted-to (l ∷ before) post older to datagram (inl e) is =
-    let line : l ≡ post = cc in
-    let rest : before ≡ older = cc in
-    let last = posted-last before l.port l.did.step l.did.deed to datagram (ap (λ (k : Line). k.did.deed) line ∙ is) in
-    subst (λ b. PostedTo (l ∷ before) (posted (dids b)) to) rest (record { post = last.0; there = last.1; to_is = last.2 })
-posted-to (l ∷ before) post older to datagram (inr w) is =
-    let a = posted-to before post older to datagram w is in
-    record { post = a.post; there = get-front (posts before) (posted_in l.port l.did.step l.did.deed) (posted (dids older)) a.post a.there; to_is = a.to_is }
-
 came-same : (j k : ℕ) → Came j ≡ Came k → j ≡ k
 came-same j k e = cc
 
@@ -126,7 +93,7 @@ not-obeyed : (setting : Setting) → ¬ OnceObeyed setting (stepped stray_step 3
 not-obeyed setting o =
     let obeys = o.1.1.0 (peer 0) (negsuc 20399) true (pos 390001000) refl goes_astray.follows in
     let brings = obeys.brings in
-    let found = posted-to taken_astray obeys.post obeys.older (Peer (peer 2)) (Message brings.message) brings.place brings.deed in
+    let found = posted-at taken_astray obeys.post obeys.older (Peer (peer 2)) (Message brings.message) brings.place brings.deed in
     let number : 14 ≡ posted (dids obeys.older) = came-same 14 (posted (dids obeys.older)) brings.cause in
     let same : set_post ≡ found.post = some_same (sym goes_astray.still_posted ∙ subst (λ m. slice_get (posts taken_astray) m ≡ Some found.post) (sym number) found.there) in
     let bad : 1 ≡ 2 = place-of (ap (λ (p : Posted). p.to) same ∙ found.to_is) in

@@ -1,5 +1,5 @@
 -- What the session of a daemon has tried is what the network has of it since it started.
-use Rattle.std.proofs.Common.{sym, ap, subst, arith, eq-eqb, eqb-true, length-append, append-nil, append_assoc, ◌∙◌, ◌≡◌, ℕ, ◌-◌, ◌≤◌, ◌==◌, ◌<◌, ◌^◌, Bool, true, false, if◌then◌else◌, List, [], ◌∷◌, ◌++◌, length, map, filter, drop, Option, None, Some, slice_get, refl}
+use Rattle.std.proofs.Common.{sym, ap, subst, arith, eq-eqb, eqb-true, length-append, append-nil, ◌∙◌, ◌≡◌, ℕ, ◌-◌, ◌≤◌, ◌==◌, ◌<◌, ◌^◌, Bool, true, false, if◌then◌else◌, List, [], ◌∷◌, ◌++◌, length, map, filter, drop, Option, None, Some, slice_get, refl}
 use Rattle.std.proofs.lemmas.{Bool.eqb-false, Bool.ne_eqb, List.drop-append-le, List.drop_all, List.map-append, List.Elements.filter-append}
 use Rattle.tsp_rules.specs.Values.{Placed, Event, BootAt, Turn, Take, Bytes, Boot, Port}
 use Rattle.tsp_base.specs.Words.{first_port, Came, Handed, IsHeader, Step, Turned, arms, puts, ◌followed_by◌}
@@ -8,16 +8,12 @@ use Rattle.tsp_rules.specs.NodeRows.{NodePast, for_ports, nothing_at_all, on, re
 use Rattle.tsp_io.specs.Links.{Arrival, Tried}
 use Rattle.tsp_run.specs.{Networks.networks, declared.address.Address.Address}
 use Rattle.tsp_run.specs.Run.{boot_step, last_at, run, step_tick}
-use Rattle.tsp_daemon.specs.{Nodes.booting, Nodes.daemon_config, Posts.send_of, Posts.sends_of, Sessions.Session}
+use Rattle.tsp_daemon.specs.{Nodes.booting, Nodes.daemon_config, Posts.sends_of, Sessions.Session}
 use Rattle.tsp_network.specs.{Events.AllHappen, Kept.tried_by, Rosters.destination, Rosters.sender_for}
 use Rattle.tsp_network.specs.Lives.{Daemons, IsStarted, Life, first_acts, session_of, turn_told, turn_acts}
 use Rattle.tsp_network.specs.Networks.{Network, Sent, acted, copy_at, delivers, after_event, life_from, network, daemon_tick, node_wall, sent_by, takes_copy, turns}
 use Rattle.tsp_network.proofs.{NetworkAgrees.OneAgrees, NetworkRuns.run_agrees, NetworkRuns.sent_grows}
 use Rattle.tsp_network.proofs.ToldLemmas.{Reached, acts_told, session_told}
-
-sends-append : (ps qs : List Placed) → sends_of (ps ++ qs) ≡ sends_of ps ++ sends_of qs
-sends-append [] qs = refl
-sends-append (p ∷ ps) qs = ap (λ l. send_of p.act ++ l) (sends-append ps qs) ∙ sym (append_assoc (send_of p.act) (sends_of ps) (sends_of qs))
 
 -- a node that boots sends nothing
 ports-silent : (qs : List Port) (x : ℕ) (p : NodePast) → sends_of (for_ports boots_on qs x p) ≡ []

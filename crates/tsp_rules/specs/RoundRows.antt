@@ -131,6 +131,7 @@ close_rings own = either_by (is_in_time CloseAlarm) (reading round_at (closes ow
 unfoldable pub abandons_going : Row
 abandons_going = either_by is_going_at abandons nothing
 
+-- whether an act corrects the clock
 abbrev pub is_correct : Act → Bool
 is_correct (Correct amount stepped shown) = true
 is_correct _ = false

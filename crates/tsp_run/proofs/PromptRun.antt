@@ -19,30 +19,31 @@ get-end : {A : Type 0} (xs : List A) (y : A) → slice_get (xs ++ y ∷ []) (len
 get-end [] y = refl
 get-end (x ∷ xs) y = get-end xs y
 
--- the post with this number, and its time
-record PostedAt (h : List Line) (k at : ℕ) : Type 0 where
+-- the post with this number, its time and its addressee
+pub record PostedAt (h : List Line) (k at : ℕ) (to : Place) : Type 0 where
   pub post : Posted
   pub there : slice_get (posts h) k ≡ Some post
   pub at_is : post.at ≡ at
+  pub to_is : post.to ≡ to
 
-posted-last : (before : List Line) (port : Port) (step : Step) (deed : Deed) (to : Place) (datagram : Datagram) → deed ≡ Acts (Post to datagram) → (p : Posted) × (slice_get (posts before ++ posted_in port step deed) (posted (dids before)) ≡ Some p) × (p.at ≡ step.at)
+posted-last : (before : List Line) (port : Port) (step : Step) (deed : Deed) (to : Place) (datagram : Datagram) → deed ≡ Acts (Post to datagram) → (p : Posted) × (slice_get (posts before ++ posted_in port step deed) (posted (dids before)) ≡ Some p) × (p.at ≡ step.at) × (p.to ≡ to)
 posted-last before port step deed to datagram is =
     let p : Posted = record { at = step.at; from = step.node; port = port; to = to; datagram = datagram } in
-    subst (λ d. (p : Posted) × (slice_get (posts before ++ posted_in port step d) (posted (dids before)) ≡ Some p) × (p.at ≡ step.at)) (sym is)
-    (p, ap (λ k. slice_get (posts before ++ p ∷ []) k) (sym (length-posts before)) ∙ get-end (posts before) p, refl)
+    subst (λ d. (p : Posted) × (slice_get (posts before ++ posted_in port step d) (posted (dids before)) ≡ Some p) × (p.at ≡ step.at) × (p.to ≡ to)) (sym is)
+    (p, ap (λ k. slice_get (posts before ++ p ∷ []) k) (sym (length-posts before)) ∙ get-end (posts before) p, refl, refl)
 
 -- a line that posts is found by its number
-posted-at : (h : List Line) (post : Line) (older : List Line) (to : Place) (datagram : Datagram) → Within (post ∷ older) h → post.did.deed ≡ Acts (Post to datagram) → PostedAt h (posted (dids older)) post.did.step.at
+pub posted-at : (h : List Line) (post : Line) (older : List Line) (to : Place) (datagram : Datagram) → Within (post ∷ older) h → post.did.deed ≡ Acts (Post to datagram) → PostedAt h (posted (dids older)) post.did.step.at to
 posted-at [] post older to datagram w is = Within-none post older w
 posted-at (l ∷ before) post older to datagram (inl e) is =
     let line : l ≡ post = cc in
     let rest : before ≡ older = cc in
     let last = posted-last before l.port l.did.step l.did.deed to datagram (ap (λ (k : Line). k.did.deed) line ∙ is) in
-    subst (λ (k : Line). PostedAt (l ∷ before) (posted (dids older)) k.did.step.at) line
-    (subst (λ b. PostedAt (l ∷ before) (posted (dids b)) l.did.step.at) rest (record { post = last.0; there = last.1; at_is = last.2 }))
+    subst (λ (k : Line). PostedAt (l ∷ before) (posted (dids older)) k.did.step.at to) line
+    (subst (λ b. PostedAt (l ∷ before) (posted (dids b)) l.did.step.at to) rest (record { post = last.0; there = last.1; at_is = last.2; to_is = last.3 }))
 posted-at (l ∷ before) post older to datagram (inr w) is =
     let a = posted-at before post older to datagram w is in
-    record { post = a.post; there = get-front (posts before) (posted_in l.port l.did.step l.did.deed) (posted (dids older)) a.post a.there; at_is = a.at_is }
+    record { post = a.post; there = get-front (posts before) (posted_in l.port l.did.step l.did.deed) (posted (dids older)) a.post a.there; at_is = a.at_is; to_is = a.to_is }
 
 -- a line of a step that takes an early post
 early-line : (step : Step) (x k : ℕ) (q : Posted) (port : Port) (deed : Deed) (w : List Line) → step.cause ≡ Came k → slice_get (posts w) k ≡ Some q → step.at ≤ q.at + LIFE → TakenWithinAt LIFE (line_of step x port deed) w

@@ -1,5 +1,5 @@
 -- How a stage goes on, and how it halts.
-use Rattle.std.proofs.Common.{sym, ap, ◌∙◌, inl, inr, subst, ◌≡◌, ◌≢◌, ℕ, Bool, List, [], ◌∷◌, ◌++◌, Ok, Err, Option, None, Some, MatchBool, MatchOption, MatchResult, refl, true, false}
+use Rattle.std.proofs.Common.{sym, ap, ◌∙◌, inl, inr, subst, ◌≡◌, ◌≢◌, ℕ, List, [], ◌∷◌, ◌++◌, Ok, Err, Option, None, Some, MatchOption, MatchResult, refl, true, false}
 use Rattle.std.specs.declared.result.Result.{Result}
 use Rattle.tsp_base.specs.declared.event.EventFault.TheVariants.{TimeBack, NoNode, NoDatagram, NotUp, Limit as NoRoom, OutOfMemory as NoMemory}
 use Rattle.tsp_base.specs.declared.header.NodeLine.{NodeLine}
@@ -20,10 +20,6 @@ use Rattle.tsp_run.specs.Refusals.{IsRefusal}
 pub MatchResult-map : {A B : Type 0} {P R : A → Type 0} {Q S : B → Type 0} (r : Result A B) → MatchResult r P Q → ((a : A) → P a → R a) → ((b : B) → Q b → S b) → MatchResult r R S
 MatchResult-map (Ok a) h f g = f a h
 MatchResult-map (Err b) h f g = g b h
-
-pub MatchBool-map : {P Q R S : Type 0} (b : Bool) → MatchBool b P Q → (P → R) → (Q → S) → MatchBool b R S
-MatchBool-map true h f g = f h
-MatchBool-map false h f g = g h
 
 pub MatchOption-map : {A P Q : Type 0} {R S : A → Type 0} (o : Option A) → MatchOption o P R → (P → Q) → ((a : A) → R a → S a) → MatchOption o Q S
 MatchOption-map None h f g = f h

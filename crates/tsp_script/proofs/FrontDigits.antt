@@ -18,10 +18,6 @@ NoDigit-nil d r h e = let n : 0 ≡ length ((48 + d) ∷ r) = ap length e in ome
 pub NoDigit-other : (c : ℕ) (cs : List ℕ) → (48 ≤ c → 58 ≤ c) → NoDigit (c ∷ cs)
 NoDigit-other c cs o d r h e = let q = head_is c (48 + d) cs r e in omega (arith, q, o)
 
-pub NoDigit-empty : (xs : List ℕ) → length xs ≡ 0 → NoDigit xs
-NoDigit-empty [] n = NoDigit-nil
-NoDigit-empty (x ∷ xs) n = absurd (omega (arith, n))
-
 not_first : (c : ℕ) (cs rest : List ℕ) → digit_value c < 10 → NoDigit rest → rest ≡ c ∷ cs → ⊥
 not_first c cs rest a n e =
     let k = digit_from_value c a in
