@@ -203,12 +203,25 @@ impl World {
             → HappensBy (answers_all (GotOn port from (Good p.datagram))) at node self.old
             self.new }
     {
-        let taken = self.sent.message(k);
+        let taken = self.message(k);
         self.receive(at, node, port, from, &taken);
     }
 
-    /// A node takes on a port what was read of octets.
+    /// The posted message with this number, as it is taken. (A call of its own, in which it is put together in the
+    /// place where it is wanted.)
     #[inline(never)]
+    fn message(&self, k: u64) -> Taken
+        requires within { k < length self.now.sent.items }
+        requires message { (p : Posted) → slice_get self.now.sent.items k ≡ Some p
+            → stamp_in p.datagram ≡ None }
+        ensures { (p : Posted) → slice_get self.now.sent.items k ≡ Some p
+            → result ≡ Good p.datagram }
+    {
+        self.sent.message(k)
+    }
+
+    /// A node takes on a port what was read of octets.
+    #[inline(always)]
     pub(crate) fn receive(&mut self, at: u64, node: u32, port: Port, from: Place, taken: &Taken)
         requires ready { IsReady (room (ports_on node (networks self.old.header))) self.old }
         requires able { CanStep at node self.old }

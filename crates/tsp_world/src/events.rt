@@ -128,7 +128,7 @@ impl World {
     }
 
     /// Where a datagram goes that a node posts on a port to a peer.
-    #[inline(never)]
+    #[inline(always)]
     fn address_by(&self, from: u32, port: Port, p: PeerId) -> Option<Address>
         ensures { result ≡ address_of (networks self.now.header) from port (Place.Peer p) }
     {
