@@ -1,14 +1,81 @@
 -- The lists of peers that rows go through, at alike pasts.
-use Rattle.std.proofs.Common.{ap, sym, ◌∙◌, ◌≡◌, ℕ, ◌+◌, ◌==◌, Bool, true, false, not, ◌||◌, if◌then◌else◌, List, [], ◌∷◌, map, filter, refl, is_some, Option, None, Some}
+use Rattle.std.proofs.Common.{ap, sym, ◌∙◌, ◌≡◌, ℕ, ◌+◌, ◌==◌, Bool, true, false, not, ◌||◌, if◌then◌else◌, List, [], ◌∷◌, map, filter, refl, is_some, Option, None, Some, ◌&&◌}
 use Rattle.std.{proofs.lemmas.Bool.eq-eqb, proofs.lemmas.Bool.eqb-false, proofs.lemmas.Bool.ne_eqb, specs.List.All}
 use Rattle.std.proofs.lemmas.List.Elements.{All-nil, All-cons, All-head, All-tail, All-same, All-weaker, All-filter}
-use Rattle.tsp_base.specs.Words.{Past, in_table, is_among, is_measured, is_rival, others, Sending, estimate, Seen}
-use Rattle.tsp_rules.specs.{Guards.rivals_at, Guards.table_at, NodeRows.PortSetup, Renames.Naming, Renames.Renaming, Renames.later_sends}
-use Rattle.tsp_rules.specs.{RoundRows.measured_at, RoundRows.round_at, RoundRows.standing, SendRows.others_at, Values.PeerId}
-use Rattle.tsp_rules.proofs.GuardFacts.{same_peer}
-use Rattle.tsp_alike.proofs.{Alike.AlikePort, Alike.AlikePast, Alike.Alike, PortAlike.in_table_alike, PortAlike.is_rival_alike}
-use Rattle.tsp_alike.proofs.Unnamed.{in_table_unnamed, is_measured_unnamed, is_rival_unnamed}
-use Rattle.tsp_alike.proofs.{Renamed.renamed_standing, RoundsAlike.is_measured_alike, RoundsAlike.estimate_alike}
+use Rattle.tsp_base.specs.Words.{Past, in_table, is_among, is_measured, is_rival, others, Sending, estimate, Seen, Deed, Acts, acting, is_rival_after, is_numbered, open_to, open_to_after, posts_of, open_send, sending_at, is_starting}
+use Rattle.tsp_base.specs.{PortFacts.in_table_after, RoundFacts.is_measured_after}
+use Rattle.tsp_rules.specs.{Guards.rivals_at, Guards.table_at, RoundRows.measured_at, RoundRows.round_at, RoundRows.standing}
+use Rattle.tsp_rules.specs.{NodeRows.PortSetup, SendRows.others_at}
+use Rattle.tsp_rules.{specs.Renames.Naming, specs.Renames.Renaming, specs.Renames.later_sends, proofs.GuardFacts.same_peer}
+use Rattle.tsp_rules.specs.Values.{PeerId, Boot, Post, Become, Acked, Gave, Join, Leave, Rival, Arm, Message, Stamp, CloseAlarm, Peer, Request}
+use Rattle.tsp_alike.proofs.Alike.{AlikePort, AlikePast, Alike, Booted, Own, Other, here}
+use Rattle.tsp_alike.proofs.{PortAlike.in_table_alike, PortAlike.is_rival_alike, RoundsAlike.is_measured_alike, RoundsAlike.estimate_alike}
+use Rattle.tsp_alike.{proofs.Renamed.renamed_standing, proofs.SendsAlike.open_send_alike, specs.AlikeNodes.KnowsDeed}
+
+-- acts name only known peers: of any other peer, as the port's own number, a past says nothing
+
+-- no known peer has this number
+abbrev pub Unnamed : Naming → PeerId → Type 0
+Unnamed m o = (p : PeerId) → m.known p → (p.0 == o.0) ≡ false
+
+-- what a deed leaves as it is
+module _ (m : Naming) where
+  in_table_deed : (o : PeerId) → Unnamed m o → (d : Deed) (was : Bool) → KnowsDeed m d → was ≡ false → in_table_after o d was ≡ false
+  in_table_deed o u (Acts Boot) was knows e = refl
+  in_table_deed o u (Acts (Become r)) was knows e = refl
+  in_table_deed o u (Acts (Join q)) was knows e = ap (λ b. if b then true else was) (u q knows) ∙ e
+  in_table_deed o u (Acts (Leave q)) was knows e = ap (λ b. if b then false else was) (u q knows) ∙ e
+  in_table_deed o u _ was knows e = e
+
+  is_rival_deed : (o : PeerId) → Unnamed m o → (d : Deed) (was : Bool) → KnowsDeed m d → was ≡ false → is_rival_after o d was ≡ false
+  is_rival_deed o u (Acts Boot) was knows e = refl
+  is_rival_deed o u (Acts (Become r)) was knows e = refl
+  is_rival_deed o u (Acts (Rival q)) was knows e = ap (λ b. if b then true else was) (u q knows) ∙ e
+  is_rival_deed o u _ was knows e = e
+
+  is_measured_deed : (o : PeerId) → Unnamed m o → (d : Deed) (starts was : Bool) → KnowsDeed m d → was ≡ false → is_measured_after o d starts was ≡ false
+  is_measured_deed o u (Acts Boot) starts was knows e = refl
+  is_measured_deed o u (Acts (Become r)) starts was knows e = refl
+  is_measured_deed o u (Acts (Arm CloseAlarm at)) starts was knows e = refl
+  is_measured_deed o u (Acts (Arm a at)) starts was knows e = e
+  is_measured_deed o u (Acts (Post (Peer q) (Stamp (Request word counter)))) starts was knows e = ap (λ b. if b && starts then true else was) (u q knows) ∙ e
+  is_measured_deed o u (Acts (Leave q)) starts was knows e = ap (λ b. if b then false else was) (u q knows) ∙ e
+  is_measured_deed o u _ starts was knows e = e
+
+  open_to_deed : (o : PeerId) → Unnamed m o → (d : Deed) (begins : Bool) (now was : List Seen) → KnowsDeed m d → was ≡ [] → open_to_after o d begins now was ≡ []
+  open_to_deed o u (Acts Boot) begins now was knows e = refl
+  open_to_deed o u (Acts (Become r)) begins now was knows e = refl
+  open_to_deed o u (Acts (Post (Peer q) (Message msg))) begins now was knows e = ap (λ b. if b && (is_numbered msg.kind && begins) then now else was) (u q knows) ∙ e
+  open_to_deed o u (Acts (Acked q)) begins now was knows e = ap (λ b. if b then [] else was) (u q knows) ∙ e
+  open_to_deed o u (Acts (Gave q)) begins now was knows e = ap (λ b. if b then [] else was) (u q knows) ∙ e
+  open_to_deed o u _ begins now was knows e = e
+
+module _ {m : Naming} where
+  pub in_table_unnamed : (o : PeerId) → Unnamed m o → {seen seen' : List Seen} → Alike m seen seen' → in_table o seen ≡ false
+  in_table_unnamed o u (Booted s s' boot x old old') = refl
+  in_table_unnamed o u (Own s s' x d ok knows {before = b} a) = in_table_deed m o u d (in_table o b) knows (in_table_unnamed o u a)
+  in_table_unnamed o u (Other n shift s s' x d ok a) = in_table_unnamed o u a
+
+  pub is_rival_unnamed : (o : PeerId) → Unnamed m o → {seen seen' : List Seen} → Alike m seen seen' → is_rival o seen ≡ false
+  is_rival_unnamed o u (Booted s s' boot x old old') = refl
+  is_rival_unnamed o u (Own s s' x d ok knows {before = b} a) = is_rival_deed m o u d (is_rival o b) knows (is_rival_unnamed o u a)
+  is_rival_unnamed o u (Other n shift s s' x d ok a) = is_rival_unnamed o u a
+
+  pub is_measured_unnamed : (o : PeerId) → Unnamed m o → {seen seen' : List Seen} → Alike m seen seen' → is_measured o seen ≡ false
+  is_measured_unnamed o u (Booted s s' boot x old old') = refl
+  is_measured_unnamed o u (Own s s' x d ok knows {before = b} a) = is_measured_deed m o u d (is_starting b) (is_measured o b) knows (is_measured_unnamed o u a)
+  is_measured_unnamed o u (Other n shift s s' x d ok a) = is_measured_unnamed o u a
+
+  open_to_unnamed : (o : PeerId) → Unnamed m o → {seen seen' : List Seen} → Alike m seen seen' → open_to o seen ≡ []
+  open_to_unnamed o u (Booted s s' boot x old old') = refl
+  open_to_unnamed o u (Own s s' x d ok knows {before = b} a) = open_to_deed m o u d (acting b) (here s x d ∷ b) (open_to o b) knows (open_to_unnamed o u a)
+  open_to_unnamed o u (Other n shift s s' x d ok a) = open_to_unnamed o u a
+
+  pub open_send_unnamed : (o : PeerId) → Unnamed m o → {seen seen' : List Seen} → Alike m seen seen' → open_send o seen ≡ None
+  open_send_unnamed o u {seen = z} a = ap (λ place. sending_at place (posts_of o z)) (open_to_unnamed o u a)
+
+  pub open_send_renamed : (o : PeerId) → Unnamed m o → {seen seen' : List Seen} → Alike m seen seen' → open_send (m.names.peer o) seen' ≡ None
+  open_send_renamed o u a = open_send_alike o a ∙ ap (later_sends m.names) (open_send_unnamed o u a)
 
 -- the renamed peers that pass a test, if renaming doesn't change what it says
 pub filter_renamed : (f : PeerId → PeerId) (t t' : PeerId → Bool) → ((p : PeerId) → t' (f p) ≡ t p) → (ps : List PeerId) → filter t' (map f ps) ≡ map f (filter t ps)

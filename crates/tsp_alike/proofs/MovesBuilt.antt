@@ -3,25 +3,21 @@ use Rattle.std.proofs.Common.{sym, ap, subst, ◌∙◌, ◌≡◌, ℕ, ◌+◌
 use Rattle.std.proofs.lemmas.Bool.{and_parts}
 use Rattle.std.proofs.lemmas.List.Elements.{All-nil, All-cons, All-head, All-tail}
 use Rattle.tsp_rules.specs.Values.{Act, Arm, Post, Took, Ring, Abandon, Alarm, Window, CloseAlarm, Message, SetTime, PeerId, Place, Peer, Stranger, SPAN}
-use Rattle.tsp_base.specs.Words.{Estimate, Past, arms, posts, posts_back, posts_time, posts_to_others, Row, Sending, nothing, puts, others, post_of, reading, for_each, grown, ◌followed_by◌, either_by, open_send}
-use Rattle.tsp_group.specs.{Groups.group_of, declared.group.Group.Group}
-use Rattle.tsp_rules.specs.{ClockRows.adjusts, ClockRows.sets, CommonRows.posts_reply, CommonRows.replies}
-use Rattle.tsp_rules.specs.GateRows.{loop_to, repost, reposts, sends_loops}
+use Rattle.tsp_rules.specs.{ClockRows.adjusts, ClockRows.sets, GateRows.loop_to, GateRows.repost, GateRows.reposts, GateRows.sends_loops}
+use Rattle.tsp_rules.specs.CommonRows.{posts_reply, replies}
 use Rattle.tsp_rules.specs.Guards.{is_due, is_in_range, is_own, may_stand_at, target_at}
 use Rattle.tsp_rules.specs.RoundRows.{Standing, abandons, asks, close_act, closes, closes_with, corrects_by, corrects_peer, diff_before, estimates, mean_by, moves, near_diffs, round_at, sample_of}
 use Rattle.tsp_rules.specs.SendRows.{begins_settime, may_set, open_at, peers_at, repeats}
-use Rattle.tsp_rules.specs.Renames.{Naming, Renaming, Knows, Wakes, known_place, later_send, later_sends, renamed_act, renamed_place}
+use Rattle.tsp_rules.specs.Renames.{Naming, Renaming, Knows, Wakes, known_place, later_send, later_sends, renamed_act}
 use Rattle.tsp_rules.proofs.Built.{Built, Empty, At, Then, Either, If, Reading, ReadingValue, Each, EachSend, Closes, More, Wider}
 use Rattle.tsp_rules.proofs.{Emits.Sort, EmitsBuilt.nothing_measured, EmitsBuilt.nothing_owed, GuardFacts.same_peer}
 use Rattle.tsp_rules.proofs.RowCodes.{Leaf, is_plain, Fact, Listed, Test, Valued, yes, no, Puts, Takes, Arms, Posts, ToOthers, PostsBack, PostsTime, PostsReply, PostsName, Repeats, SettimeBegins, Loops, Reposts, Asks, Samples, Adjusts, Sets, RoleAt, DelayAt, OwnAt, TargetAt, RequestAt, TicketAt, NextNumber, MasterName, Others, Rivals, Table, Measured, Due, InTime, Armed, MayStand, MayBack, MayJoin, MayCorrect, MayBeAsked, MayPassOn, MayDate, Follows, HasWon, HasMore, HasElection, HasOther, HasDate, HasQuit, IsAwake, IsGoing, IsMaster, IsSlave, IsNewRival, IsFree, IsHeard, IsOwn, IsLeft, IsSendDue, IsSpent, IsRepeated, IsDated, TakesAmount, TakesValue}
+use Rattle.tsp_base.specs.Words.{Estimate, Past, arms, posts, posts_back, posts_time, posts_to_others, Row, Sending, nothing, puts, others, post_of, reading, for_each, grown, either_by, open_send}
+use Rattle.tsp_group.specs.{Groups.group_of, declared.group.Group.Group}
 use Rattle.tsp_alike.proofs.{Alike.AlikePast, Moves.Moves, Moves.MovesAt, Renamed.renamed_standing}
-use Rattle.tsp_alike.proofs.FactsAlike.{delay_at_alike, master_name_alike, next_number_alike, open_at_alike, own_at_alike, request_at_alike, role_at_alike, role_at_known, target_at_alike, ticket_at_alike}
-use Rattle.tsp_alike.proofs.LeavesAlike.{adjusts_alike, arms_alike, asks_alike, begins_settime_alike, posts_alike, posts_back_alike, posts_time_alike, posts_to_others_alike, puts_alike, repeats_alike, replies_alike, reposts_alike, samples_alike, sends_loops_alike, sets_alike}
-use Rattle.tsp_alike.proofs.ListsAlike.{measured_at_alike, measured_at_known, others_at_alike, others_at_known, rivals_at_alike, rivals_at_known, round_at_alike, round_at_known, table_at_alike, table_at_known}
-use Rattle.tsp_alike.proofs.MovesRows.{each_moves, either_moves, grown_alike, nothing_moves, skips_own, then_moves}
-use Rattle.tsp_alike.proofs.SendTestsAlike.{can_adjust_alike, has_date_alike, has_election_alike, has_more_alike, has_other_alike, has_quit_alike, is_dated_alike, is_free_alike, is_going_at_alike, is_repeated_alike, is_send_due_alike, is_spent_alike, may_correct_alike, may_date_alike, may_pass_on_alike, takes_amount_alike, takes_value_alike}
-use Rattle.tsp_alike.proofs.TestsAlike.{due_stands, follows_alike, has_won_alike, is_armed_alike, is_awake_alike, is_due_alike, is_heard_alike, is_in_time_alike, is_left_alike, is_master_alike, is_new_rival_alike, is_own_alike, is_slave_alike, may_back_at_alike, may_be_asked_alike, may_join_alike, may_stand_at_alike}
-use Rattle.tsp_alike.proofs.Unnamed.{Unnamed, open_send_renamed, open_send_unnamed}
+use Rattle.tsp_alike.proofs.ListsAlike.{Unnamed, open_send_renamed, open_send_unnamed, measured_at_alike, measured_at_known, others_at_alike, others_at_known, rivals_at_alike, rivals_at_known, round_at_alike, round_at_known, table_at_alike, table_at_known}
+use Rattle.tsp_alike.proofs.LeavesAlike.{delay_at_alike, master_name_alike, next_number_alike, open_at_alike, own_at_alike, request_at_alike, role_at_alike, role_at_known, target_at_alike, ticket_at_alike, adjusts_alike, arms_alike, asks_alike, begins_settime_alike, posts_alike, posts_back_alike, posts_time_alike, posts_to_others_alike, puts_alike, repeats_alike, replies_alike, reposts_alike, samples_alike, sends_loops_alike, sets_alike, each_moves, either_moves, grown_alike, nothing_moves, skips_own, then_moves}
+use Rattle.tsp_alike.proofs.TestsAlike.{can_adjust_alike, has_date_alike, has_election_alike, has_more_alike, has_other_alike, has_quit_alike, is_dated_alike, is_free_alike, is_going_at_alike, is_repeated_alike, is_send_due_alike, is_spent_alike, may_correct_alike, may_date_alike, may_pass_on_alike, takes_amount_alike, takes_value_alike, due_stands, follows_alike, has_won_alike, is_armed_alike, is_awake_alike, is_due_alike, is_heard_alike, is_in_time_alike, is_left_alike, is_master_alike, is_new_rival_alike, is_own_alike, is_slave_alike, may_back_at_alike, may_be_asked_alike, may_join_alike, may_stand_at_alike}
 
 one-act : (m : Naming) (act : Act) → Knows m act → All (Knows m) (act ∷ [])
 one-act m act known = All-cons (Knows m) act [] known (All-nil (Knows m))

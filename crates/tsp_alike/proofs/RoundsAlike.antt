@@ -1,12 +1,12 @@
 -- Facts of a port's rounds at alike pasts.
 use Rattle.std.proofs.Common.{ap, sym, ◌∙◌, ◌≡◌, ℕ, ◌+◌, ◌==◌, ℤ, ◌-ℤ◌, int_lt, Bool, true, false, ◌&&◌, if◌then◌else◌, List, ◌∷◌, Option, None, Some, is_some, refl}
 use Rattle.tsp_rules.specs.Values.{Boot, Post, Become, Arm, Ring, Late, Leave, Sample, Abandon, Stamp, Probe, CloseAlarm, PeerId, Peer, Request}
+use Rattle.tsp_rules.specs.Renames.{Renaming, Naming}
 use Rattle.tsp_base.specs.Words.{Deed, Begins, Acts, Step, Seen, is_going, is_starting, is_measured, asked, asked_after, exchange, exchange_after, probes, target_there, target, plain, armed, Sampled, better, best, best_after, request_at_place, request_open, Estimate, estimate, estimate_of}
 use Rattle.tsp_base.specs.RoundFacts.{is_starting_after, is_measured_after, word_asked_by, probes_after}
-use Rattle.tsp_rules.specs.Renames.{Renaming, Naming}
 use Rattle.tsp_alike.proofs.Alike.{Alike, Booted, Own, Other, here}
-use Rattle.tsp_alike.{proofs.NodeAlike.target_alike, proofs.PortAlike.armed_alike, proofs.Renamed.later, specs.AlikeNodes.renamed_deed}
-use Rattle.tsp_alike.proofs.Places.{AlikePlaces, Nowhere, There, either_place}
+use Rattle.tsp_alike.{proofs.PortAlike.armed_alike, proofs.Renamed.later, specs.AlikeNodes.renamed_deed}
+use Rattle.tsp_alike.proofs.{NodeAlike.target_alike, SendsAlike.AlikePlaces, SendsAlike.Nowhere, SendsAlike.There, SendsAlike.either_place}
 
 -- what an estimate takes from a sample, and by what samples are compared
 pub record Trip : Type 0 where

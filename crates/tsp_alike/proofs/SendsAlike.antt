@@ -1,13 +1,43 @@
 -- Facts of a port's numbered sends at alike pasts.
-use Rattle.std.proofs.Common.{ap, sym, subst, ◌∙◌, ◌≡◌, ℕ, ◌+◌, ◌==◌, Bool, true, false, ◌&&◌, if◌then◌else◌, List, ◌∷◌, Option, None, Some, refl}
+use Rattle.std.proofs.Common.{ap, sym, subst, ◌∙◌, ◌≡◌, ℕ, ◌+◌, ◌==◌, Bool, true, false, ◌&&◌, if◌then◌else◌, List, ◌∷◌, Option, None, Some, refl, true≢false, []}
 use Rattle.tsp_rules.specs.Values.{Boot, Post, Become, Acked, Gave, Correct, Message, PeerId, Peer}
-use Rattle.tsp_base.specs.Words.{Deed, Acts, Seen, Received, Said, said, taken, acting, is_correction, is_numbered, is_date_request, is_set_date_request, open_to, open_to_after, begun_to, begun_to_after, posts_of, posts_of_after, message_at, sending_at, open_send, begun, begun_after, last_to, last_to_after, number_of, last_number, last_post, last_post_after, corrects_by, is_acknowledged, is_acknowledged_after, Correcting, correcting_of, last_taken, last_taken_after, last_taken_elsewhere, Dating, dating_of, last_date, last_date_after, last_asked, last_asked_after}
 use Rattle.tsp_rules.specs.Renames.{Renaming, Naming, later_sends}
+use Rattle.tsp_base.specs.Words.{Deed, Acts, Seen, Received, Said, said, taken, acting, is_correction, is_numbered, is_date_request, is_set_date_request, open_to, open_to_after, begun_to, begun_to_after, posts_of, posts_of_after, message_at, sending_at, open_send, begun, begun_after, last_to, last_to_after, number_of, last_number, last_post, last_post_after, corrects_by, is_acknowledged, is_acknowledged_after, Correcting, correcting_of, last_taken, last_taken_after, last_taken_elsewhere, Dating, dating_of, last_date, last_date_after, last_asked, last_asked_after, Step, MessageValue, message_of, sending_of}
 use Rattle.tsp_alike.specs.AlikeNodes.{renamed_deed}
 use Rattle.tsp_alike.proofs.Alike.{Alike, Booted, Own, Other, here}
-use Rattle.tsp_alike.proofs.Places.{AlikePlaces, Nowhere, There, either_place, message_at_alike, sending_at_alike}
 use Rattle.tsp_alike.proofs.PortAlike.{acting_alike, taken_alike, said_renamed}
 use Rattle.tsp_alike.proofs.Renamed.{later, later_date, renamed_said, renamed_taken, renamed_correcting}
+
+-- places in alike pasts: the deeds there, and what was before them, are alike
+
+-- no place in both, or places of own deeds that are alike
+pub data AlikePlaces (m : Naming) : List Seen → List Seen → Type 0 where
+  Nowhere : AlikePlaces m [] []
+  There : (s s' : Step) (x : ℕ) (deed : Deed) → {before before' : List Seen} → Alike m before before' → AlikePlaces m (here s x deed ∷ before) (here s' (x + m.names.shift) (renamed_deed m.names deed) ∷ before')
+
+pub message_renamed : (n : Renaming) (d : Deed) → message_of (renamed_deed n d) ≡ message_of d
+message_renamed n (Acts (Post to (Message msg))) = refl
+message_renamed n _ = refl
+
+sending_later : (n : Renaming) (o : Option MessageValue) (x posts : ℕ) → sending_of o (x + n.shift) posts ≡ later_sends n (sending_of o x posts)
+sending_later n None x posts = refl
+sending_later n (Some msg) x posts = refl
+
+-- one of two places, by a test that says the same in both pasts
+pub either_place : (m : Naming) → (b b' : Bool) → b' ≡ b → {p p' q q' : List Seen} → AlikePlaces m p p' → AlikePlaces m q q' → AlikePlaces m (if b then p else q) (if b' then p' else q')
+either_place m true true e first second = first
+either_place m false false e first second = second
+either_place m true false e first second = absurd (true≢false (sym e))
+either_place m false true e first second = absurd (true≢false e)
+
+module _ {m : Naming} where
+  pub message_at_alike : {place place' : List Seen} → AlikePlaces m place place' → message_at place' ≡ message_at place
+  message_at_alike Nowhere = refl
+  message_at_alike (There s s' x d a) = message_renamed m.names d
+
+  pub sending_at_alike : {place place' : List Seen} → AlikePlaces m place place' → (posts : ℕ) → sending_at place' posts ≡ later_sends m.names (sending_at place posts)
+  sending_at_alike Nowhere posts = refl
+  sending_at_alike (There s s' x d a) posts = ap (λ o. sending_of o (x + m.names.shift) posts) (message_renamed m.names d) ∙ sending_later m.names (message_of d) x posts
 
 -- what a deed does to a fact, with other names
 module _ (n : Renaming) where

@@ -8,7 +8,7 @@ use Rattle.tsp_claims.specs.Fitting.{ActMayStand, AllFit, FitsAfter, LineFitsIn,
 use Rattle.tsp_rules.proofs.FewActs.{is_calm_act}
 use Rattle.tsp_audit.specs.AuditedRuns.{number_or_zero, traced}
 use Rattle.tsp_run.specs.Run.{number_of, posts_by, step_tick, told_from}
-use Rattle.tsp_run.{proofs.CalmAll.AreCalm, specs.Networks.networks, specs.Networks.ports_on}
+use Rattle.tsp_run.{proofs.CalmPorts.AreCalm, specs.Networks.networks, specs.Networks.ports_on}
 
 -- what lines of these acts come to, with those before
 abbrev pub tallied : Tally → List Placed → Tally

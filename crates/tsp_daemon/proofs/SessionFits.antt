@@ -9,8 +9,8 @@ use Rattle.tsp_gateway.specs.{GateConfigs.peers_of_ports, PortOf.has_other_peer,
 use Rattle.tsp_io.specs.{Links.Arrival, declared.addr.Addr.Addr}
 use Rattle.tsp_promises.specs.{Dated.SetsAt, Fits.Fits, Fits.Finished, PortFits.PortFits, PortFits.setup_in, StepFacts.StepEnds}
 use Rattle.tsp_promises.specs.Setting.{Setting, setup_of}
-use Rattle.tsp_promises.proofs.{ChainProof.looped_in, EverywhereLemmas.Everywhere-from, GateFacts.AllPorts, GateLeads.GivenOn}
-use Rattle.tsp_promises.proofs.{Known.Ended, Known.Fresh, NodeLeads.answers_all_end, NodeLeads.begins_all, NodeLeads.boots_all_lead}
+use Rattle.tsp_promises.proofs.{ChainProof.looped_in, EverywhereLemmas.Everywhere-from, GateSteps.AllPorts, GateLeads.GivenOn, GateLeads.answers_all_lead}
+use Rattle.tsp_promises.proofs.{Known.Ended, Known.Fresh, NodeLeads.begins_all, NodeLeads.boots_all_lead}
 use Rattle.tsp_promises.proofs.{OwnFitsProof.fits_at, SafeProof.safe, SetProof.sets_at}
 use Rattle.tsp_promises.proofs.RunLeads.{ended_later, ends_of, nothing-done, nothing-ends}
 use Rattle.tsp_query.specs.{Arrivals.next_arrival, Ends.Outside}
@@ -209,7 +209,7 @@ module _ {s : ServeWords} {setting : Setting} {tick : ℕ} {wall : ℤ} (is : Is
   one-turn n t x past NodeTurn r later turns given =
       let mid : NodePast = turn_begun NodeTurn x past in
       let ok = turn_ok setting (step_of Turned x) x past.lines mid (four past r.0.ports) in (
-        one-step n t x past Turned (answers_all NodeTurn) r.0 later turns (λ fresh. (answers_all_end NodeTurn).run x mid (tt, fresh))
+        one-step n t x past Turned (answers_all NodeTurn) r.0 later turns (λ fresh. (answers_all_lead NodeTurn).run x mid (tt, fresh))
             (subst (λ b. StepOk (length past.ports) (room past.ports) setting (step_of Turned x) x past.lines b (answers_all NodeTurn x mid)) (sym r.1) ok),
         up-after x Turned past (answers_all NodeTurn x mid) r.1,
       )
@@ -217,7 +217,7 @@ module _ {s : ServeWords} {setting : Setting} {tick : ℕ} {wall : ℤ} (is : Is
       let g : NodeGiven = GotOn q from taken in
       let mid : NodePast = turn_begun g x past in
       let ok = got_ok setting (step_of (turn_cause g) x) x past.lines mid q from taken (four past r.0.ports) given tt in (
-        one-step n t x past (turn_cause g) (answers_all g) r.0 later turns (λ fresh. (answers_all_end g).run x mid (given, fresh))
+        one-step n t x past (turn_cause g) (answers_all g) r.0 later turns (λ fresh. (answers_all_lead g).run x mid (given, fresh))
             (subst (λ b. StepOk (length past.ports) (room past.ports) setting (step_of (turn_cause g) x) x past.lines b (answers_all g x mid)) (sym r.1) ok),
         up-after x (turn_cause g) past (answers_all g x mid) r.1,
       )

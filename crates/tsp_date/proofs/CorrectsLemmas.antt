@@ -3,7 +3,7 @@ use Rattle.std.proofs.Common.{◌≡◌, ℕ, ℤ, Bool, true, false, if◌then�
 use Rattle.tsp_base.specs.Words.{Past, MessageValue, ◌followed_by◌, either_by, nothing, posts}
 use Rattle.tsp_rules.specs.{Answers.from_peer, ClockRows.sets, RoundRows.corrects, Values.Kind, Values.PeerId, Values.Place}
 use Rattle.tsp_rules.specs.DateRows.{date_acked, may_date, new_date, passes_on, sets_date_where}
-use Rattle.tsp_rules.proofs.{BuiltAnswers.built_from_peer, BuiltDates.built_date_acked, BuiltDates.built_passes_on, EmitsBuilt.emits_built}
+use Rattle.tsp_rules.proofs.{BuiltAnswers.built_from_peer, BuiltAnswers.built_date_acked, BuiltAnswers.built_passes_on, EmitsBuilt.emits_built}
 use Rattle.tsp_rules.proofs.{EmitsStill.corrects-none, EmitsStill.still_sorts, Unchanged.place_unchanged}
 
 pub corrects-nothing : (x : ℕ) (past : Past) → corrects (nothing x past) ≡ false

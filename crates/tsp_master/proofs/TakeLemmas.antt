@@ -10,7 +10,7 @@ use Rattle.tsp_measure.specs.declared.entry.Entry.{Entry}
 use Rattle.tsp_measure.specs.Slaves.{entry_of, peers_of, Changes, acks_where, joins}
 use Rattle.tsp_master.specs.{MasterStands.MasterStands, MasterTakes.master_takes_kind_here, declared.master.Master.Master as MasterStruct}
 use Rattle.tsp_master.proofs.MasterLemmas.{MasterStands_aside}
-use Rattle.tsp_rules.proofs.{BuiltMaster.built_sends_away, Emits.Emits, EmitsBuilt.emits_built}
+use Rattle.tsp_rules.proofs.{BuiltRoles.built_sends_away, Emits.Emits, EmitsBuilt.emits_built}
 use Rattle.tsp_master.proofs.TableLemmas.{EntriesAfter_changed, MasterStands_changed, MasterStands_same, acked-after, joins-after, quiet_sorts}
 
 pub master_takes_kind_here-ask : (p : PeerId) (m : MessageValue) (k : Kind) → (k ≡ MasterReq) ⊎ (k ≡ ResolveKind) → master_takes_kind_here p m k ≡ posts p MasterAck m.number

@@ -11,8 +11,8 @@ use Rattle.tsp_rules.proofs.Emits.{Alarming, Emits, Emits_arms, Emits_either, Em
 use Rattle.tsp_slave.{proofs.BesideLemmas.beside_sorts, specs.SlaveAlarms.slave_rings}
 use Rattle.tsp_master.specs.MasterAlarms.{master_rings}
 use Rattle.tsp_node.specs.{NodeStands.PortUntaken, NodeStands.PortValue, RoleAlarms.is_of_master, RoleAlarms.is_of_slave}
-use Rattle.tsp_rules.proofs.BuiltSlave.{built_elect_rings, built_quiet_rings, built_search_rings}
-use Rattle.tsp_rules.proofs.{BuiltCandidate.built_window_rings, BuiltMaster.built_resolve_rings, BuiltShared.standing_sorts}
+use Rattle.tsp_rules.proofs.BuiltRoles.{built_elect_rings, built_quiet_rings, built_search_rings}
+use Rattle.tsp_rules.proofs.{BuiltRoles.built_window_rings, BuiltRoles.built_resolve_rings, BuiltShared.standing_sorts}
 use Rattle.tsp_rules.proofs.{EmitsBuilt.emits_built, EmitsStill.corrects-none, EmitsStill.still_sorts}
 
 -- whether an alarm is due, as the station has it

@@ -16,7 +16,7 @@ use Rattle.tsp_master.specs.{MasterStands.MasterStands, MasterTakes.master_takes
 use Rattle.tsp_master.proofs.{TableLemmas.MasterStands_quiet, TurnLemmas.MasterStands_idle, TurnLemmas.MasterStands_unheld}
 use Rattle.tsp_node.specs.declared.audience.Audience.TheVariants.{OfClients, OfNode, OfRoles, OfSends}
 use Rattle.tsp_node.specs.{Audiences.audience_of, Audiences.heard_from, Audiences.hears_by, declared.audience.Audience.Audience}
-use Rattle.tsp_rules.proofs.{BuiltCandidate.built_candidate_takes_kind, BuiltCandidate.built_yields, EmitsBuilt.emits_built}
+use Rattle.tsp_rules.proofs.{BuiltRoles.built_candidate_takes_kind, BuiltRoles.built_yields, EmitsBuilt.emits_built}
 use Rattle.tsp_node.{proofs.NodeLemmas.Performs_pass, specs.NodeStands.PortStands, specs.NodeStands.PortTook, specs.NodeStands.PortValue}
 
 pub is_stranger : (from : Place) → ((p : PeerId) → from ≡ Peer p → ⊥) → from ≡ Stranger

@@ -21,7 +21,7 @@ use Rattle.tsp_resolve.specs.{ResolveStands.ResolveStands, ResolveStands.Resolvi
 use Rattle.tsp_resolve.proofs.ResolveLemmas.{ResolveStands_by, unchanging}
 use Rattle.tsp_node.specs.{Unmarking.Unmarks, declared.node.Node.Node}
 use Rattle.tsp_node.specs.NodeStands.{PortBegun, PortStands, PortTook, PortUntaken, PortValue, NodeStands, NodeUntaken, Begun, TakeStands, TookStands, Traced, TracedValue, port_with, traced_of}
-use Rattle.tsp_rules.{proofs.BuiltDates.date_sorts, specs.Guards.is_master}
+use Rattle.tsp_rules.{proofs.BuiltAnswers.date_sorts, specs.Guards.is_master}
 use Rattle.tsp_node.proofs.{RivalKeeps.ResolveStands_parted, TakeEmits.role_sorts, TakeEmits.silent_trace}
 
 -- a call that changes nothing but the station, the master and the rivals

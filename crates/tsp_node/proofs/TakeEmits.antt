@@ -8,7 +8,7 @@ use Rattle.tsp_rules.proofs.Emits.{Sort, Acking, Alarming, Asking, Backing, Chan
 use Rattle.tsp_rules.proofs.{RowCodes.ANumber, RowCodes.Owed, RowCodes.Posts, Unchanged.comes_unchanged, Unchanged.place_unchanged}
 use Rattle.tsp_rules.proofs.Built.{Built, At, Empty, More, Wider}
 use Rattle.tsp_rules.proofs.BuiltAnswers.{built_from_peer, built_handles_kind, built_peer_replies, built_peer_says, built_rings, built_takes, handled_sorts, ring_sorts, says_sorts}
-use Rattle.tsp_rules.proofs.{BuiltDates.date_sorts, BuiltMaster.built_joins, BuiltMaster.built_sends_away}
+use Rattle.tsp_rules.proofs.{BuiltAnswers.date_sorts, BuiltRoles.built_joins, BuiltRoles.built_sends_away}
 use Rattle.tsp_rules.proofs.{BuiltShared.built_replies, BuiltShared.client_sorts, EmitsBuilt.emits_built, EmitsBuilt.nothing_taken}
 use Rattle.tsp_master.specs.MasterTakes.{master_takes_here, master_takes_kind_here}
 use Rattle.tsp_node.specs.declared.audience.Audience.TheVariants.{OfClients, OfDates}

@@ -2,13 +2,13 @@
 use Rattle.std.proofs.Common.{sym, true≢false, ◌≡◌, ℕ, ◌&&◌, ◌||◌, not, Bool, true, false, List, [], ◌∷◌, refl}
 use Rattle.std.proofs.lemmas.Bool.{and_parts}
 use Rattle.tsp_rules.specs.Values.{Alarm, Quiet, Window, Elect, Search, Round, Probe, CloseAlarm, ResolveAlarm, ALL}
+use Rattle.tsp_rules.specs.{Answers.rings, Answers.rings_alone, Answers.rings_each, Answers.due_alarms, GateRows.is_probe}
+use Rattle.tsp_rules.proofs.{BuiltAnswers.built_rings, CalmAlarms.moves_by}
 use Rattle.tsp_base.specs.Words.{Past, Leads}
 use Rattle.tsp_base.proofs.LeadsLemmas.{Leads_then, Leads_nothing, Leads_from, Leads_to}
-use Rattle.tsp_rules.specs.Answers.{rings, rings_alone, rings_each, due_alarms}
 use Rattle.tsp_promises.proofs.AlarmLeads.{quiet_leads, search_leads, elect_leads, resolve_leads}
-use Rattle.tsp_promises.proofs.{CloseLeads.close_leads, Known.Open, RoundLeads.Probed, RoundLeads.probe_leads, RoundLeads.round_leads}
-use Rattle.tsp_promises.proofs.{SoundBuilt.sound_built, SoundRows.Soundly, WindowLeads.window_leads}
-use Rattle.tsp_rules.{proofs.BuiltAnswers.built_rings, proofs.CalmAlarms.moves_by, specs.GateRows.is_probe}
+use Rattle.tsp_promises.proofs.{CloseLeads.close_leads, Known.Open, SoundBuilt.sound_built, SoundFacts.Soundly}
+use Rattle.tsp_promises.proofs.RoundLeads.{Probed, probe_leads, round_leads, window_leads}
 
 -- what is known of a port around an alarm: a Close needs to know that the port has probed, which a Probe leaves behind
 abbrev pub Around : Bool → ℕ → Past → Type 0

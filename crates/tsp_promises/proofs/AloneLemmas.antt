@@ -1,20 +1,20 @@
 -- A node with one port and that port alone, row by row.
 use Rattle.std.proofs.Common.{sym, subst, ap, ◌∙◌, arith, inl, inr, true≢false, append-nil, ◌≡◌, ℕ, ◌==◌, nat_lt, ◌&&◌, ◌||◌, not, Bool, true, false, if◌then◌else◌, List, [], ◌∷◌, ◌++◌, length, filter, Option, None, Some, is_some, refl}
-use Rattle.std.proofs.lemmas.Bool.{and_right}
+use Rattle.std.proofs.{lemmas.Bool.and_right, Math.Bool.or-false}
 use Rattle.tsp_rules.specs.Values.{Act, Boot, Took, Become, Abandon, Placed, Alarm, Quiet, Round, Probe, CloseAlarm, Message, Stamp, Taken, Good, Bad, Kind, LoopKind, Place, Port, Role, Starting, Master, ALL, QUIET}
-use Rattle.tsp_base.specs.Words.{Past, view, first_port, Leads, MessageValue, armed, role, is_going, Row, grown, arms, placed, nothing, puts, ◌followed_by◌, either_by, is_correction, sets_date}
-use Rattle.tsp_base.proofs.{LeadsLemmas.Leads_from, LeadsLemmas.Leads_then, RowLemmas.then_assoc}
 use Rattle.tsp_rules.specs.Answers.{answers, due_alarms, input_row, rings, rings_alone, rings_each, alarm_rings, takes, handles, handles_kind, is_left}
-use Rattle.tsp_rules.specs.{CommonRows.boots, SendRows.due_sends}
+use Rattle.tsp_rules.specs.CommonRows.{boots}
+use Rattle.tsp_rules.{specs.SendRows.due_sends, proofs.CalmAlarms.moves_by, proofs.CalmSteps.is_message, proofs.NodeRowLemmas.on_own}
 use Rattle.tsp_rules.specs.GateRows.{NodeGiven, NodeTurn, GotOn, is_probe, alarm_on, each_on, alarms_on, all_ports, answers_all, any_port, begins_round_on, boots_all, boots_on, closes_on, ends_probes, follows_on, goes_on, has_rung, hears_on, heeds_loop, in_charge, input_all, is_last_probe, judge, judges, leads_clock, leads_on, loops_after, lower_ports, other_ports, ports_from, probes_on, steers, stirred_ports, takes_kind, takes_loop, takes_loop_step, takes_message, takes_on, turns_on}
 use Rattle.tsp_rules.specs.NodeRows.{NodePast, NodeRow, PortSetup, abandons_on, for_ports, nothing_at_all, on, on_port, ◌and_then◌, reading_all, spread, stirring}
 use Rattle.tsp_rules.specs.RoundRows.{abandons, abandons_going, close_rings, corrects, upsetting}
 use Rattle.tsp_rules.specs.Guards.{is_due, is_follow, is_going_at, is_over, is_own}
+use Rattle.tsp_base.specs.Words.{Past, view, first_port, Leads, MessageValue, armed, role, is_going, Row, grown, arms, placed, nothing, puts, ◌followed_by◌, either_by, is_correction, sets_date}
+use Rattle.tsp_base.proofs.{LeadsLemmas.Leads_from, LeadsLemmas.Leads_then, RowLemmas.then_assoc}
 use Rattle.tsp_promises.proofs.AlarmTable.{Around, after_turn, alarm_leads, are_probed, around_open, before_turn, due_alarms_lead}
-use Rattle.tsp_promises.proofs.{AnswerLeads.takes_upsets, CorrectionLeads.due_sends_lead, Known.Fresh, Known.Open, Known.Rests}
-use Rattle.tsp_rules.proofs.{CalmAlarms.moves_by, CalmSteps.is_message, NodeRowLemmas.on_own}
-use Rattle.tsp_promises.proofs.{Rings.open_of, SteadyLemmas.steady_takes, SteadyLemmas.still_takes}
-use Rattle.tsp_promises.specs.{Alone.given_alone, NodeRuns.NodeAnswers, NodeRuns.IsGivenOn}
+use Rattle.tsp_promises.{proofs.AnswerLeads.takes_upsets, specs.Alone.given_alone, specs.NodeRuns.NodeAnswers, specs.NodeRuns.IsGivenOn}
+use Rattle.tsp_promises.proofs.{CorrectionLeads.due_sends_lead, Changes.open_of, SteadyLemmas.steady_takes, SteadyLemmas.still_takes}
+use Rattle.tsp_promises.proofs.Known.{Fresh, Open, Rests}
 
 -- the past of the only port
 abbrev pub alone : NodePast → Past
@@ -60,10 +60,6 @@ none-other past s one = ap (λ ps. filter (λ (r : Port). not (r.0 == 0)) (ports
 none-lower : (past : NodePast) (s : PortSetup) → past.ports ≡ s ∷ [] → lower_ports first_port past ≡ []
 none-lower past s one = ap (λ ps. filter (λ (r : Port). nat_lt r.0 0) (ports_from 0 ps)) one
 
-or-none : (b : Bool) → (b || false) ≡ b
-or-none true = refl
-or-none false = refl
-
 and-all : (b : Bool) → (b && true) ≡ b
 and-all true = refl
 and-all false = refl
@@ -74,7 +70,7 @@ leads-alone x past s one =
     ap (λ ps. not (any_port (follows_on past) ps) && not (any_port (leads_on past) (lower_ports first_port past))) (only past s one)
     ∙ ap (λ ps. not (follows_on past first_port || false) && not (any_port (leads_on past) ps)) (none-lower past s one)
     ∙ and-all (not (follows_on past first_port || false))
-    ∙ ap (λ b. not b) (or-none (follows_on past first_port))
+    ∙ ap (λ b. not b) (or-false (follows_on past first_port))
 
 steers-alone : (x : ℕ) (past : NodePast) (s : PortSetup) → past.ports ≡ s ∷ [] → steers first_port x past ≡ follows_on past first_port
 steers-alone x past s one = ap (λ ps. follows_on past first_port && not (any_port (follows_on past) ps)) (none-lower past s one) ∙ and-all (follows_on past first_port)

@@ -1,21 +1,83 @@
 -- What a port does with what it takes, and a whole step, keeps what is known of it.
-use Rattle.std.proofs.Common.{sym, subst, inl, inr, ap, true≢false, eq-eqb, ◌∙◌, ◌≡◌, ℕ, not, Bool, true, false, List, [], ◌∷◌, refl}
+use Rattle.std.proofs.Common.{sym, subst, inl, inr, ap, true≢false, eq-eqb, ◌∙◌, ◌≡◌, ℕ, not, Bool, true, false, List, [], ◌∷◌, refl, eqb-true, ◌==◌, ℤ, if◌then◌else◌, Option, None, Some, is_some}
 use Rattle.std.proofs.lemmas.Bool.{and_parts, not-true}
-use Rattle.tsp_rules.specs.Values.{Took, Message, Stamp, Taken, Good, Bad, Kind, Date, DateAck, DateReq, LoopKind, Msite, MsiteReq, QuitKind, SetDate, SetDateReq, Test, TraceOff, TraceOn, PeerId, Place, Peer, Stranger, Role, Starting, Loose, Follow, Candidate, Master, Request, Reply}
-use Rattle.tsp_base.specs.Words.{Seen, Past, Leads, MessageValue, is_among, role, Row, grown, nothing, puts, ◌followed_by◌, is_date_request, sets_date, ReplyValue}
-use Rattle.tsp_promises.specs.{AckFits.Answers, DeedFits.asks_name, DeedFits.is_answered_early}
-use Rattle.tsp_base.proofs.LeadsLemmas.{Leads_then, Leads_reading, Leads_nothing, Leads_from}
-use Rattle.tsp_rules.specs.Answers.{due_alarms, says_in, peer_says, replies_in, peer_replies, from_peer, handles_kind, is_left, handles, takes, Given, Turn, Got, input_row, answers}
-use Rattle.tsp_rules.specs.{CandidateRows.candidate_takes, CommonRows.quits, DateRows.date_request_of, DateRows.date_acked}
-use Rattle.tsp_rules.specs.Guards.{role_at, is_own, is_heard, is_starting_role}
-use Rattle.tsp_promises.proofs.Known.{Open, Fresh, Early, Rests}
-use Rattle.tsp_promises.proofs.{Rings.open_of, RoleLeads.slave_leads, RoleLeads.candidate_leads, RoleLeads.master_leads}
-use Rattle.tsp_rules.{proofs.GuardFacts.awake_is, specs.MasterRows.master_takes, specs.SendRows.due_sends, specs.SlaveRows.slave_takes}
-use Rattle.tsp_promises.proofs.{AlarmTable.due_alarms_lead, Changes.Is, Changes.JustTook, Changes.take, CorrectionLeads.due_sends_lead}
+use Rattle.tsp_promises.proofs.Known.{OpenIn, Open, Fresh, Early, Rests}
+use Rattle.tsp_promises.specs.{AckFits.Answers, DeedFits.asks_name, DeedFits.is_answered_early, MeasureFits.SampleFits}
+use Rattle.tsp_promises.proofs.SlaveLeads.{quit_follower, idle_heard}
+use Rattle.tsp_promises.proofs.Changes.{Is, JustTook, take, open_of}
+use Rattle.tsp_promises.proofs.DateLeads.{date_upsets, date_request_upsets, date_acked_leads}
+use Rattle.tsp_promises.proofs.{Leaves.none-among, Leaves.none-some, Leaves.some-same, Leaves.sample, AlarmTable.due_alarms_lead}
+use Rattle.tsp_promises.proofs.{RoleLeads.slave_leads, RoleLeads.candidate_leads, RoleLeads.master_leads, CorrectionLeads.due_sends_lead}
+use Rattle.tsp_promises.proofs.Elsewheres.{Upsets, upsets_of, upsets_from, upsets_either, upsetting_lead}
 use Rattle.tsp_promises.proofs.TakenLeads.{Heard, HeardIn, Unanswered, rests_of, took_awake, names_master_leads, says_master_leads, traces_leads, tests_leads, replies_lead, quits_lead}
-use Rattle.tsp_promises.proofs.{SampleLeads.samples_lead, SlaveLeads.quit_follower, SlaveLeads.idle_heard, Stirring.upsetting_lead}
-use Rattle.tsp_promises.proofs.Upsets.{Upsets, upsets_of, upsets_from, upsets_either}
-use Rattle.tsp_promises.proofs.{DateLeads.date_upsets, DateLeads.date_request_upsets, DateLeads.date_acked_leads, Leaves.none-among}
+use Rattle.tsp_rules.specs.Values.{Took, Message, Stamp, Taken, Good, Bad, Kind, Date, DateAck, DateReq, LoopKind, Msite, MsiteReq, QuitKind, SetDate, SetDateReq, Test, TraceOff, TraceOn, PeerId, Place, Peer, Stranger, Role, Starting, Loose, Follow, Candidate, Master, Request, Reply}
+use Rattle.tsp_rules.specs.Answers.{due_alarms, says_in, peer_says, replies_in, peer_replies, from_peer, handles_kind, is_left, handles, takes, Given, Turn, Got, input_row, answers}
+use Rattle.tsp_rules.specs.{CandidateRows.candidate_takes, DateRows.date_request_of, DateRows.date_acked, MasterRows.master_takes}
+use Rattle.tsp_rules.{specs.CommonRows.quits, proofs.GuardFacts.awake_is, specs.SendRows.due_sends, proofs.Asides.now}
+use Rattle.tsp_rules.specs.Guards.{role_at, is_own, is_heard, is_starting_role, target_at}
+use Rattle.tsp_rules.specs.{SlaveRows.slave_takes, RoundRows.request_at, RoundRows.sample_of, RoundRows.samples_request, RoundRows.samples}
+use Rattle.tsp_base.specs.Words.{Seen, Past, Leads, MessageValue, is_among, role, Row, grown, nothing, puts, ◌followed_by◌, is_date_request, sets_date, ReplyValue, plain, target, OpenRequest, exchange, request_at_place, request_open, word_asked, target_there, reading, sample_diff, sample_err, Received}
+use Rattle.tsp_base.proofs.LeadsLemmas.{Leads_then, Leads_reading, Leads_nothing, Leads_from, Leads_puts}
+
+-- a reply to an open exchange keeps what is known of a port
+
+-- the place of an open exchange, from what it says
+pub record Placed (p : PeerId) (counter : ℕ) (seen : List Seen) (q : OpenRequest) : Type 0 where
+  pub s : Seen
+  pub older : List Seen
+  pub is : exchange p counter seen ≡ s ∷ older
+  pub word_is : q.word ≡ word_asked (s ∷ older)
+  pub target_is : q.target ≡ target_there (s ∷ older)
+
+placed-cases : (p : PeerId) (counter : ℕ) (seen : List Seen) (q : OpenRequest) (place : List Seen) → exchange p counter seen ≡ place → request_at_place place ≡ Some q → Placed p counter seen q
+placed-cases p counter seen q [] is e = none-some q e
+placed-cases p counter seen q (s ∷ older) is e =
+    let same : record { word = word_asked (s ∷ older); target = target_there (s ∷ older) } ≡ q = some-same _ q e in
+    record { s = s; older = older; is = is; word_is = sym (ap (λ (r : OpenRequest). r.word) same); target_is = sym (ap (λ (r : OpenRequest). r.target) same) }
+
+pub request_place : (p : PeerId) (counter : ℕ) (seen : List Seen) (q : OpenRequest) → request_open p counter seen ≡ Some q → Placed p counter seen q
+request_place p counter seen q e = placed-cases p counter seen q (exchange p counter seen) refl e
+
+module _ {p : PeerId} {r : ReplyValue} where
+  sample_fits : (x : ℕ) (past : Past) (q : OpenRequest) (d : ℤ) → Heard p (Good (Stamp (Reply r))) x past → request_at p r.counter x past ≡ Some q → (q.word == r.word) ≡ true → target_at x past ≡ d →
+      SampleFits (now x past (sample_of p r q.target d)) past.seen p r.counter (sample_diff q.target r.reading d) (sample_err q.target d) r.ticket
+  sample_fits x past q d h found same now_is =
+      let free = h.just.free in
+      let placed = request_place p r.counter past.seen q found in
+      let asked = free.knows.round.exchanges p r.counter placed.s placed.older placed.is in
+      let going = free.knows.round.closes refl asked.at asked.goes in
+      let there : q.target ≡ target (plain placed.older) asked.post.tick = placed.target_is ∙ ap (λ z. target_there (z ∷ placed.older)) asked.is in
+      record {
+        start = going.start;
+        idle = going.idle;
+        start_is = going.start_is;
+        undisturbed = record { corrects = going.corrects; lives = going.life };
+        going = ap (λ o. is_some o) asked.goes;
+        post = asked.post;
+        older = placed.older;
+        exchange_is = placed.is ∙ ap (λ z. z ∷ placed.older) asked.is;
+        reply = r;
+        took = free.took;
+        word_is = sym (eqb-true q.word r.word same) ∙ placed.word_is ∙ asked.word_is;
+        counter_is = refl;
+        number_is = refl;
+        diff_is = ap (λ a. sample_diff a r.reading d) there ∙ ap (λ t. sample_diff (target (plain placed.older) asked.post.tick) r.reading t) (sym now_is);
+        err_is = ap (λ a. sample_err a d) there ∙ ap (λ t. sample_err (target (plain placed.older) asked.post.tick) t) (sym now_is);
+      }
+
+  samples_request_leads : (o : Option OpenRequest) → Leads (λ x past. Heard p (Good (Stamp (Reply r))) x past × (request_at p r.counter x past ≡ o)) (samples_request p r o) Rests
+  unfolding samples_request
+  samples_request_leads None = idle_heard (λ x past h. h.0)
+  samples_request_leads (Some q) = by_case (q.word == r.word) refl where
+    by_case : (b : Bool) → (q.word == r.word) ≡ b → Leads (λ x past. Heard p (Good (Stamp (Reply r))) x past × (request_at p r.counter x past ≡ Some q))
+        (if b then reading target_at (λ d. puts (sample_of p r q.target d)) else nothing) Rests
+    by_case true same = Leads_reading target_at (λ d. puts (sample_of p r q.target d)) (λ d. Leads_puts (sample_of p r q.target d) (λ x past h.
+        rests_of (sample p r.counter (sample_diff q.target r.reading d) (sample_err q.target d) r.ticket (sample_fits x past q d h.0.0 h.0.1 same h.1) h.0.0.just.free)))
+    by_case false same = idle_heard (λ x past h. h.0)
+
+  pub samples_lead : Leads (Heard p (Good (Stamp (Reply r)))) (samples p r) Rests
+  unfolding samples
+  samples_lead = Leads_reading (request_at p r.counter) (samples_request p r) samples_request_leads
 
 module _ {p : PeerId} {m : MessageValue} where
   pub quit_loose : m.kind ≡ QuitKind → Leads (HeardIn p m Loose) (quits p m.number) Rests
@@ -114,7 +176,7 @@ takes_upsets steer charge from t =
     (upsets_of (passes_over (λ x past h. h.0))) (upsets_from (λ x past h. record { just = h.0; other = h.1 }) (handles_upsets steer charge from t)) in
     record { run = λ x past h. k.run x (grown x past (Took from t ∷ [])) (take from t h) }
 
-pub open_rests : (x : ℕ) (past : Past) → Open x past → Rests x past
+pub open_rests : {T : Option Received → Option Received → Type 0} (x : ℕ) (past : Past) → OpenIn false T x past → Rests x past
 open_rests x past h = record { fits = h.fits; knows = h.knows; backs = h.backs; follows = λ p e. none-among p h.owed e; paid = h.paid }
 
 pub input_leads : (g : Given) → Leads Open (input_row g) Rests

@@ -1,15 +1,15 @@
 -- The rows that several roles share keep what is known of a port.
-use Rattle.std.proofs.Common.{sym, subst, ap, arith, ◌∙◌, true≢false, ◌≡◌, ◌≤◌, ℕ, ◌+◌, Bool, true, false, List, [], ◌∷◌, Option, None, Some, refl}
+use Rattle.std.proofs.Common.{sym, subst, arith, ◌∙◌, true≢false, ◌≡◌, ◌≤◌, ℕ, ◌+◌, Bool, true, false, List, [], ◌∷◌, Option, None, Some, refl}
 use Rattle.tsp_rules.specs.Values.{Post, Become, Arm, Back, Window, Elect, Search, Message, Kind, Conflict, Election, MasterReq, QuitKind, SlaveUp, PeerId, Peer, Role, Follow, Candidate, ELECT_MIN, WINDOW}
-use Rattle.tsp_base.specs.Words.{Did, Seen, Here, Past, plain, Leads, boot_tick, ticket, MessageValue, Received, role, held, armed, stood, backers, grown, puts, ◌followed_by◌, for_each, arms, bare, post_of, posts, posts_to_others}
-use Rattle.tsp_promises.specs.{DeedFits.MessageFits, DeedFits.NumberedFits, HoldFits.BackFits, PortFits.setup_in}
-use Rattle.tsp_base.proofs.LeadsLemmas.{Leads_then, Leads_reading, Leads_puts, Leads_each, Leads_from, Leads_to}
 use Rattle.tsp_rules.specs.CommonRows.{arms_elect, searches, tells_ticket, follow_row, backs_own, own_at, candidature_row}
 use Rattle.tsp_rules.specs.SendRows.{next_number, begins, others_at, begins_to_others, is_kind_election}
-use Rattle.tsp_rules.specs.Guards.{delay_at, ticket_at}
-use Rattle.tsp_promises.proofs.{Known.During, Known.Free, LeadsLeaves.Leads_arms, LeadsLeaves.Leads_posts, LeadsLeaves.Leads_others}
-use Rattle.tsp_promises.proofs.{Leaves.arm_search, Leaves.arm_elect, Leaves.arm_window, PostLeaves.post_message, PostLeaves.post_election}
-use Rattle.tsp_rules.proofs.{Asides.now, GuardFacts.MayStand, GuardFacts.back_is}
+use Rattle.tsp_rules.{specs.Guards.delay_at, specs.Guards.ticket_at, proofs.GuardFacts.MayStand, proofs.GuardFacts.back_is}
+use Rattle.tsp_rules.proofs.Asides.{now}
+use Rattle.tsp_base.specs.Words.{Did, Past, plain, Leads, boot_tick, ticket, MessageValue, Received, role, held, armed, stood, backers, grown, puts, ◌followed_by◌, for_each, arms, bare, post_of, posts, posts_to_others}
+use Rattle.tsp_base.proofs.LeadsLemmas.{Leads_then, Leads_reading, Leads_puts, Leads_each, Leads_from, Leads_to}
+use Rattle.tsp_promises.specs.{DeedFits.MessageFits, DeedFits.NumberedFits, HoldFits.BackFits, PortFits.setup_in}
+use Rattle.tsp_promises.proofs.{Known.Candidature, Known.During, Known.Free, Leaves.arm_search, Leaves.arm_elect, Leaves.arm_window}
+use Rattle.tsp_promises.proofs.PostLeaves.{Leads_arms, Leads_posts, Leads_others, post_message, post_election}
 use Rattle.tsp_promises.proofs.Changes.{Quitting, FreeIn, become_follow, become_candidate, back_own}
 
 module _ {P : ℕ → Past → Type 0} where
@@ -77,26 +77,17 @@ pub record Eligible (T : Option Received → Option Received → Type 0) (x : �
   pub may : MayStand (held past.seen) x past.own
 
 -- a candidate that is about to back itself
-record BackingItself (T : Option Received → Option Received → Type 0) (x : ℕ) (past : Past) : Type 0 where
+pub record BackingItself (T : Option Received → Option Received → Type 0) (x : ℕ) (past : Past) : Type 0 where
   pub during : During false true true [] true T x past
-  pub role_is : role past.seen ≡ Candidate
   pub shut : (armed past.seen).window ≡ None
   pub back : BackFits (now x past (Back past.own)) past.seen past.own
-  pub start : Did
-  pub idle : List Seen
-  pub start_is : stood past.seen ≡ Here start ∷ idle
-  pub tick_is : start.tick ≡ x
+  pub candidature : Candidature past.own (x + WINDOW) (role past.seen) (Some (x, past.own)) (stood past.seen)
   pub unbacked : backers past.seen ≡ []
 
 -- a candidate that has backed itself, and asks for votes
 record Electing (T : Option Received → Option Received → Type 0) (x : ℕ) (past : Past) : Type 0 where
   pub free : Free T x past
-  pub role_is : role past.seen ≡ Candidate
-  pub start : Did
-  pub idle : List Seen
-  pub start_is : stood past.seen ≡ Here start ∷ idle
-  pub tick_is : start.tick ≡ x
-  pub back_is : (held past.seen).back ≡ Some (start.tick, past.own)
+  pub candidature : Candidature past.own (x + WINDOW) (role past.seen) (held past.seen).back (stood past.seen)
   pub unbacked : backers past.seen ≡ []
 
 module _ {T : Option Received → Option Received → Type 0} where
@@ -107,38 +98,12 @@ module _ {T : Option Received → Option Received → Type 0} where
       let m = bare Election n past.name in
       record {
         free = post_election p m h.unbacked (record { numbered = own_number x past p (now x past (Post (Peer p) (Message m))) m h.free c.1; backs = h.free.backs }) h.free;
-        role_is = h.role_is;
-        start = h.start;
-        idle = h.idle;
-        start_is = h.start_is;
-        tick_is = h.tick_is;
-        back_is = h.back_is;
+        candidature = h.candidature;
         unbacked = h.unbacked;
       }))
 
   backs_up : (x : ℕ) (past : Past) → BackingItself T x past → Electing T x (grown x past (Back past.own ∷ []))
-  backs_up x past h = record {
-    free = back_own h.shut h.back h.during;
-    role_is = h.role_is;
-    start = h.start;
-    idle = h.idle;
-    start_is = h.start_is;
-    tick_is = h.tick_is;
-    back_is = ap (λ t. Some (t, past.own)) (sym h.tick_is);
-    unbacked = h.unbacked;
-  }
-
-  opens_window : (x : ℕ) (past : Past) → Electing T x past → Electing T x (grown x past (Arm Window (x + WINDOW) ∷ []))
-  opens_window x past h = record {
-    free = arm_window (x + WINDOW) (record { stands = h.role_is; start = h.start; idle = h.idle; start_is = h.start_is; at_is = ap (λ t. t + WINDOW) (sym h.tick_is); back_is = h.back_is }) h.free;
-    role_is = h.role_is;
-    start = h.start;
-    idle = h.idle;
-    start_is = h.start_is;
-    tick_is = h.tick_is;
-    back_is = h.back_is;
-    unbacked = h.unbacked;
-  }
+  backs_up x past h = record { free = back_own h.shut h.back h.during; candidature = h.candidature; unbacked = h.unbacked }
 
   pub candidature_leads : Leads (Eligible T) candidature_row (FreeIn [] T Candidate)
   unfolding candidature_row backs_own begins_to_others
@@ -147,18 +112,14 @@ module _ {T : Option Received → Option Received → Type 0} where
       let long : boot_tick (plain past.seen) + ELECT_MIN ≤ x = let b = h.may.boot in let e = h.free.knows.times.boot_is in omega (arith, b, e) in
       record {
         during = become_candidate long h.may.quit h.free;
-        role_is = refl;
         shut = refl;
         back = record { rested = omega (arith, long); holds = λ y q e. back_is (held past.seen).back x past.own h.may.back (y, q) e };
-        start = now x past (Become Candidate);
-        idle = past.seen;
-        start_is = refl;
-        tick_is = refl;
+        candidature = record { stands = refl; start = now x past (Become Candidate); idle = past.seen; start_is = refl; at_is = refl; back_is = refl };
         unbacked = refl;
       }))
       (Leads_then {Q = Electing T} backs_own (arms Window WINDOW followed_by begins_to_others Election)
       (Leads_reading own_at (λ own. puts (Back own)) (λ own. Leads_puts (Back own) (λ x past h.
       subst (λ a. Electing T x (grown x past (Back a ∷ []))) h.1 (backs_up x past h.0))))
       (Leads_then {Q = Electing T} (arms Window WINDOW) (begins_to_others Election)
-      (Leads_arms Window WINDOW opens_window)
-      (Leads_reading others_at (for_each (begins Election)) (λ ps. Leads_from (λ x past h. h.0) (Leads_to (λ x past h. record { free = h.free; role_is = h.role_is }) (Leads_each (begins Election) ps begins_election))))))
+      (Leads_arms Window WINDOW (λ x past h. record { free = arm_window (x + WINDOW) h.candidature h.free; candidature = h.candidature; unbacked = h.unbacked }))
+      (Leads_reading others_at (for_each (begins Election)) (λ ps. Leads_from (λ x past h. h.0) (Leads_to (λ x past h. record { free = h.free; role_is = h.candidature.stands }) (Leads_each (begins Election) ps begins_election))))))

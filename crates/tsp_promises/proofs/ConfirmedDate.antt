@@ -2,19 +2,17 @@
 use Rattle.std.proofs.Common.{sym, ap, arith, subst, subst₂, inl, inr, ◌⊎◌, ◌∙◌, ◌≡◌, ◌+◌, ◌*◌, ◌%◌, ◌<◌, ◌≤◌, true, ℕ, List, ◌∷◌, refl}
 use Rattle.tsp_rules.specs.Values.{Post, Correct, Acked, Message, Good, Kind, Date, DateAck, SetDate, SetDateReq, PeerId, Peer, Port, LIFE, QUIET}
 use Rattle.tsp_base.specs.Words.{Acts, Did, Line, Seen, Here, of, dids, view, MessageValue, boot_tick, lives, word, Within, acting, begun, begun_to, has_own_number, is_date_request, is_numbered, open_to, Receives, peer_of, tick_at}
-use Rattle.tsp_promises.specs.{AckFits.Acknowledges, DateFits.AnswersClient, DateFits.AnswersPassedOn, DateFits.DateAckFits, Once.Acted}
-use Rattle.tsp_promises.specs.Premises.{Few, FewAt, Honest, HonestAt, Life, TakenWithinAt}
-use Rattle.tsp_promises.specs.Setting.{Setting, setup_of}
-use Rattle.tsp_promises.proofs.{EverywhereLemmas.Everywhere-at, EverywhereLemmas.Everywhere-within, SameSendProof.too-late}
 use Rattle.tsp_base.proofs.{PlaceLemmas.Within-comparable, PlaceLemmas.Within-tail, PlaceLemmas.Within-through, Views.plain_view}
-use Rattle.tsp_promises.proofs.{Clocks.near, ConfirmedProof.port-is, DateAt.date_at, HeardProof.heard_taken, KnownProof.known}
-use Rattle.tsp_promises.proofs.{ElectionFacts.begun_mono, ElectionFacts.boots, ElectionFacts.boots_view, PortFits.deed_fits}
-use Rattle.tsp_promises.proofs.{HistoryPlaces.lift, HistoryPlaces.own_in, SendPlaces.send_place, SinceProof.since}
+use Rattle.tsp_promises.specs.{AckFits.Acknowledges, Dated.DateConfirmedAt, DeedFits.MessageFits, Fits.Fits, Fits.LineFits, Fits.node_of}
+use Rattle.tsp_promises.specs.{DateFits.AnswersClient, DateFits.AnswersPassedOn, DateFits.DateAckFits, Setting.Setting, Setting.setup_of}
+use Rattle.tsp_promises.{specs.Once.Acted, proofs.KnownProof.known, proofs.PortFits.deed_fits, proofs.SinceProof.since, specs.Since.OneLife}
+use Rattle.tsp_promises.specs.Premises.{Few, FewAt, Honest, HonestAt, Life, TakenWithinAt}
+use Rattle.tsp_promises.proofs.{EverywhereLemmas.Everywhere-at, EverywhereLemmas.Everywhere-within, SameSendProof.too-late, DateAt.date_at}
+use Rattle.tsp_promises.proofs.{Clocks.near, SendPlaces.send_place, OwnFitsProof.own_fits, OwnFitsProof.fits_at, OwnFitsProof.place-time}
+use Rattle.tsp_promises.proofs.{ConfirmedProof.port-is, OnceDatedProof.Passing, OnceDatedProof.passed-apart, OnceDatedProof.passes-in}
+use Rattle.tsp_promises.proofs.{HeardProof.heard_taken, ElectionFacts.begun_mono, ElectionFacts.boots, ElectionFacts.boots_view}
+use Rattle.tsp_promises.proofs.{HistoryPlaces.lift, HistoryPlaces.own_in, SendProof.BeginsSend, SendProof.number-same, SendProof.opened}
 use Rattle.tsp_promises.proofs.Locating.{line_on, locate, fits_in, seen_in, tick_in, view-line}
-use Rattle.tsp_promises.proofs.OnceDatedProof.{Passing, passed-apart, passes-in}
-use Rattle.tsp_promises.proofs.OwnFitsProof.{own_fits, fits_at, place-time}
-use Rattle.tsp_promises.proofs.SendProof.{BeginsSend, number-same, opened}
-use Rattle.tsp_promises.specs.{Dated.DateConfirmedAt, DeedFits.MessageFits, Fits.Fits, Fits.LineFits, Fits.node_of, Since.OneLife}
 
 -- the date that port q of n passes on to k is still open
 record OpenDate (n k : ℕ) (q : Port) (world : List Line) (f : Did) (fw : List Line) (m : MessageValue) : Type 0 where

@@ -3,12 +3,11 @@ use Rattle.std.proofs.Common.{sym, ap, arith, subst, subst₂, inl, inr, true≢
 use Rattle.std.proofs.lemmas.Bool.{cases_lt}
 use Rattle.tsp_rules.specs.Values.{Act, Took, Post, Correct, Datagram, Message, Good, Kind, AdjTime, SetTime, PeerId, Place, Peer, Follow, DATEHOLD, QUIET}
 use Rattle.tsp_base.specs.Words.{Cause, Booted, Turned, Came, Handed, Acts, Did, Line, Seen, Here, Step, of, dids, plain, view, MessageValue, all_corrects, corrects, word, boot_tick, tick_of, ticket, target, Within, role, taken, Dating, is_correction, is_date_request, last_date, sets_date, Receives, TakesFrom, heard, peer_of, posted, time_in}
-use Rattle.tsp_promises.specs.CorrectFits.{WhyCorrect, ByRound, ByMaster, ByDate, TakesCorrection, amount_of}
-use Rattle.tsp_promises.specs.Fits.{Fits, SameStep, TookFits, node_of}
-use Rattle.tsp_promises.specs.{Once.Brings, Setting.Setting, Setting.setup_of, Since.Since}
 use Rattle.tsp_base.proofs.{PlaceLemmas.Within-through, PlaceLemmas.Within-tail, Views.plain_view}
-use Rattle.tsp_promises.proofs.{Locating.line_on, Locating.locate, Locating.fits_in, OwnFitsProof.own-step}
-use Rattle.tsp_promises.proofs.SendPlaces.{post_unique, same-number}
+use Rattle.tsp_promises.specs.CorrectFits.{WhyCorrect, ByRound, ByMaster, ByDate, TakesCorrection, amount_of}
+use Rattle.tsp_promises.specs.{Fits.Fits, Fits.SameStep, Fits.TookFits, Fits.node_of, Once.Brings, Setting.Setting, Setting.setup_of}
+use Rattle.tsp_promises.{specs.Since.Since, proofs.OwnFitsProof.own-step}
+use Rattle.tsp_promises.proofs.{Locating.line_on, Locating.locate, Locating.fits_in, SendPlaces.post_unique, SendPlaces.same-number}
 
 -- a Correct in a step that has taken this correction of p
 pub record TakesOf (here : Did) (seen : List Seen) (amount : ℤ) (p : PeerId) (m : MessageValue) : Type 0 where

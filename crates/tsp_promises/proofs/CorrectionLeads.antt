@@ -1,15 +1,89 @@
 -- When a correction may begin, and what a repeat owes.
-use Rattle.std.proofs.Common.{sym, subst, inl, inr, ap, arith, true≢false, eqb-true, leb-false, ltb-false, ◌∙◌, ◌≡◌, ◌⊎◌, ◌≤◌, ◌<◌, ℕ, ◌+◌, ◌%◌, ◌==◌, ◌&&◌, ◌||◌, nat_lt, nat_le, cond, Bool, true, false, if◌then◌else◌, List, [], ◌∷◌, Option, None, Some, refl}
-use Rattle.std.proofs.lemmas.Bool.{and_parts, or_cases}
+use Rattle.std.proofs.Common.{sym, subst, inl, inr, ap, arith, true≢false, eqb-true, leb-false, ltb-false, ◌∙◌, ◌≡◌, ◌⊎◌, ◌≤◌, ◌<◌, ℕ, ◌+◌, ◌%◌, ◌==◌, ◌&&◌, nat_lt, nat_le, cond, Bool, true, false, if◌then◌else◌, List, [], ◌∷◌, Option, None, Some, refl}
+use Rattle.std.proofs.lemmas.Bool.{and_parts, or_cases, or_parts}
+use Rattle.tsp_promises.{proofs.SendProof.if-nil, specs.PortFits.PortFits, specs.PortFits.setup_in, proofs.PostLeaves.post_again}
+use Rattle.tsp_promises.specs.{CorrectionFits.RepeatFits, CorrectionFits.Rests, CorrectionFits.Follows, StepFacts.is_unbacked}
+use Rattle.tsp_promises.{specs.DeedFits.MessageFits, specs.DeedFits.DeedFits, proofs.Known.During, proofs.Known.Fresh, proofs.Known.Untaken}
+use Rattle.tsp_promises.proofs.Changes.{wake, forget}
+use Rattle.tsp_promises.proofs.Leaves.{none-some, gave, leave, nil-cons, some-same}
 use Rattle.tsp_rules.specs.Values.{Boot, Post, Become, Acked, Gave, Leave, Message, Kind, AdjTime, Conflict, Election, QuitKind, SetDateReq, SetTime, PeerId, Peer, LAST, REUSE, TRIES}
-use Rattle.tsp_base.specs.Words.{is_past, Deed, Acts, Did, Seen, Here, Elsewhere, Past, Leads, MessageValue, role, acting, nothing, puts, ◌followed_by◌, either_by, for_each, is_correction, is_numbered, Sending, open_send, open_to, open_to_after, posts_of, sending_at, message_at, message_of, corrects_by, last_to, last_to_after, last_number, number_of, last_post, is_acknowledged, is_acknowledged_after, Setup}
-use Rattle.tsp_promises.specs.{CorrectionFits.RepeatFits, CorrectionFits.Rests, CorrectionFits.Follows, DeedFits.MessageFits}
-use Rattle.tsp_base.proofs.LeadsLemmas.{Leads_then, Leads_either, Leads_reading, Leads_nothing, Leads_puts, Leads_each, Leads_from}
 use Rattle.tsp_rules.specs.SendRows.{may_correct, open_at, leaves_after, gives_up, repeats, repeats_send, due_send, peers_at, due_sends, is_send_due, is_spent}
-use Rattle.tsp_promises.specs.{PortFits.PortFits, PortFits.setup_in, StepFacts.is_unbacked}
-use Rattle.tsp_promises.proofs.{Known.During, Known.Fresh, Known.Untaken, Leaves.none-some, Leaves.gave, Leaves.leave}
 use Rattle.tsp_rules.{proofs.Asides.now, proofs.GuardFacts.past_is, proofs.GuardFacts.same_peer, specs.Guards.is_slave_at}
-use Rattle.tsp_promises.proofs.{PostLeaves.post_again, Rings.wake, Rings.forget, SendFits.OpenIs, SendFits.open_is}
+use Rattle.tsp_base.specs.Words.{is_past, Deed, Acts, Did, Seen, Here, Elsewhere, Past, Leads, MessageValue, role, acting, nothing, puts, ◌followed_by◌, either_by, for_each, is_correction, is_numbered, Sending, open_send, open_to, open_to_after, posts_of, sending_at, message_at, message_of, corrects_by, last_to, last_to_after, last_number, number_of, last_post, is_acknowledged, is_acknowledged_after, Setup, role_after, sending_of}
+use Rattle.tsp_base.proofs.LeadsLemmas.{Leads_then, Leads_either, Leads_reading, Leads_nothing, Leads_puts, Leads_each, Leads_from}
+
+-- what stands behind an open send and behind an acknowledged correction
+
+-- the beginning of the open send: its first post, in the role that the port still has
+pub record Began (setup : Setup) (p : PeerId) (seen : List Seen) : Type 0 where
+  pub first : Did
+  pub older : List Seen
+  pub is : open_to p seen ≡ Here first ∷ older
+  pub message : MessageValue
+  pub deed : first.deed ≡ Acts (Post (Peer p) (Message message))
+  pub numbered : is_numbered message.kind ≡ true
+  pub fits : MessageFits setup message.kind first older p message
+  pub role_is : role seen ≡ role older
+
+-- a place that an if gives
+if-keep : (b : Bool) (was : List Seen) (s : Seen) (older : List Seen) → cond b [] was ≡ s ∷ older → cond b [] was ≡ was
+if-keep true was s older e = nil-cons s older e
+if-keep false was s older e = refl
+
+began-more : (setup : Setup) (p : PeerId) (seen more : List Seen) → open_to p more ≡ open_to p seen → role more ≡ role seen → Began setup p seen → Began setup p more
+began-more setup p seen more o r b = record { first = b.first; older = b.older; is = o ∙ b.is; message = b.message; deed = b.deed; numbered = b.numbered; fits = b.fits; role_is = r ∙ b.role_is }
+
+began-post : (setup : Setup) (p q : PeerId) (m : MessageValue) (d : Did) (before : List Seen) (s : Seen) (older : List Seen) → Acts (Post (Peer q) (Message m)) ≡ d.deed → DeedFits setup d.deed d before → (open_to p before ≡ s ∷ older → Began setup p before) →
+    (b : Bool) → ((q.0 == p.0) && (is_numbered m.kind && acting before)) ≡ b → cond b (Here d ∷ before) (open_to p before) ≡ s ∷ older →
+    open_to p (Here d ∷ before) ≡ cond b (Here d ∷ before) (open_to p before) → role (Here d ∷ before) ≡ role before → Began setup p (Here d ∷ before)
+began-post setup p q m d before s older is f k true test e place r =
+    let one = and_parts (q.0 == p.0) (is_numbered m.kind && acting before) test in
+    let two = and_parts (is_numbered m.kind) (acting before) one.1 in
+    let same : q ≡ p = same_peer q p one.0 in
+    let deed : d.deed ≡ Acts (Post (Peer p) (Message m)) = subst (λ t. d.deed ≡ Acts (Post (Peer t) (Message m))) same (sym is) in
+    record { first = d; older = before; is = place; message = m; deed = deed; numbered = two.0; fits = (subst (λ t. DeedFits setup t d before) deed f).fits; role_is = r }
+began-post setup p q m d before s older is f k false test e place r = began-more setup p before (Here d ∷ before) place r (k e)
+
+-- what an act of a port makes of the beginning
+record Steps (p : PeerId) (d : Did) (before : List Seen) (deed : Deed) : Type 0 where
+  pub opens : open_to p (Here d ∷ before) ≡ open_to_after p deed (acting before) (Here d ∷ before) (open_to p before)
+  pub roles : role (Here d ∷ before) ≡ role_after deed (role before)
+
+began-deed : (setup : Setup) (p : PeerId) (d : Did) (before : List Seen) (s : Seen) (older : List Seen) → DeedFits setup d.deed d before → (open_to p before ≡ s ∷ older → Began setup p before) → (deed : Deed) → deed ≡ d.deed → Steps p d before deed →
+    open_to_after p deed (acting before) (Here d ∷ before) (open_to p before) ≡ s ∷ older → Began setup p (Here d ∷ before)
+began-deed setup p d before s older f k (Acts Boot) is t e = nil-cons s older e
+began-deed setup p d before s older f k (Acts (Become r)) is t e = nil-cons s older e
+began-deed setup p d before s older f k (Acts (Post (Peer q) (Message m))) is t e = began-post setup p q m d before s older is f k _ refl e t.opens t.roles
+began-deed setup p d before s older f k (Acts (Acked q)) is t e = began-more setup p before (Here d ∷ before) (t.opens ∙ if-keep (q.0 == p.0) (open_to p before) s older e) t.roles (k (if-nil (q.0 == p.0) (open_to p before) s older e))
+began-deed setup p d before s older f k (Acts (Gave q)) is t e = began-more setup p before (Here d ∷ before) (t.opens ∙ if-keep (q.0 == p.0) (open_to p before) s older e) t.roles (k (if-nil (q.0 == p.0) (open_to p before) s older e))
+began-deed setup p d before s older f k _ is t e = began-more setup p before (Here d ∷ before) t.opens t.roles (k e)
+
+pub began : (setup : Setup) (p : PeerId) (seen : List Seen) → PortFits setup seen → (s : Seen) (older : List Seen) → open_to p seen ≡ s ∷ older → Began setup p seen
+began setup p [] f s older e = nil-cons s older e
+began setup p (Elsewhere d ∷ before) f s older e = began-more setup p before (Elsewhere d ∷ before) refl refl (began setup p before f s older e)
+began setup p (Here d ∷ before) f s older e = began-deed setup p d before s older f.0 (began setup p before f.1 s older) d.deed refl (record { opens = refl; roles = refl }) e
+
+-- the open send as its slot is seen
+pub record OpenIs (setup : Setup) (p : PeerId) (seen : List Seen) (s : Sending) : Type 0 where
+  pub began : Began setup p seen
+  pub message_is : s.message ≡ began.message
+  pub tick_is : s.began ≡ began.first.tick
+  pub posts_is : s.posts ≡ posts_of p seen
+
+open-place : (setup : Setup) (p : PeerId) (seen : List Seen) (s : Sending) (b : Began setup p seen) → open_send p seen ≡ Some s → OpenIs setup p seen s
+open-place setup p seen s b e =
+    let there : sending_at (Here b.first ∷ b.older) (posts_of p seen) ≡ Some s = subst (λ place. sending_at place (posts_of p seen) ≡ Some s) b.is e in
+    let slot : sending_of (message_of b.first.deed) b.first.tick (posts_of p seen) ≡ Some s = there in
+    let known : Some (record { began = b.first.tick; posts = posts_of p seen; message = b.message }) ≡ Some s = subst (λ t. sending_of (message_of t) b.first.tick (posts_of p seen) ≡ Some s) b.deed slot in
+    let same : record { began = b.first.tick; posts = posts_of p seen; message = b.message } ≡ s = some-same _ s known in
+    record { began = b; message_is = sym (ap (λ (t : Sending). t.message) same); tick_is = sym (ap (λ (t : Sending). t.began) same); posts_is = sym (ap (λ (t : Sending). t.posts) same) }
+
+open-cases : (setup : Setup) (p : PeerId) (seen : List Seen) (s : Sending) → PortFits setup seen → open_send p seen ≡ Some s → (place : List Seen) → open_to p seen ≡ place → OpenIs setup p seen s
+open-cases setup p seen s f e [] is = none-some s (sym (subst (λ place. sending_at place (posts_of p seen) ≡ None) (sym is) refl) ∙ e)
+open-cases setup p seen s f e (t ∷ older) is = open-place setup p seen s (began setup p seen f t older is) e
+
+pub open_is : (setup : Setup) (p : PeerId) (seen : List Seen) (s : Sending) → PortFits setup seen → open_send p seen ≡ Some s → OpenIs setup p seen s
+open_is setup p seen s f e = open-cases setup p seen s f e (open_to p seen) refl
 
 -- the place where the last correction to p begins
 pub record LastIs (p : PeerId) (seen : List Seen) : Type 0 where
@@ -22,13 +96,12 @@ pub record LastIs (p : PeerId) (seen : List Seen) : Type 0 where
 last-more : (p : PeerId) (seen more : List Seen) → last_to p more ≡ last_to p seen → LastIs p seen → LastIs p more
 last-more p seen more e l = record { last = l.last; older = l.older; is = e ∙ l.is; message = l.message; deed = l.deed }
 
-last-post : (p q : PeerId) (m : MessageValue) (d : Did) (before : List Seen) → Acts (Post (Peer q) (Message m)) ≡ d.deed → LastIs p before → (b : Bool) → ((q.0 == p.0) && (is_correction m.kind && acting before)) ≡ b →
+last-post : (p q : PeerId) (m : MessageValue) (d : Did) (before : List Seen) → Acts (Post (Peer q) (Message m)) ≡ d.deed → (b : Bool) → ((q.0 == p.0) && (is_correction m.kind && acting before)) ≡ b → (b ≡ false → LastIs p before) →
     last_to p (Here d ∷ before) ≡ cond b (Here d ∷ before) (last_to p before) → LastIs p (Here d ∷ before)
-last-post p q m d before is l true test e =
+last-post p q m d before is true test l e =
     let one = and_parts (q.0 == p.0) (is_correction m.kind && acting before) test in
-    let same : q ≡ p = same_peer q p one.0 in
-    record { last = d; older = before; is = e; message = m; deed = subst (λ t. d.deed ≡ Acts (Post (Peer t) (Message m))) same (sym is) }
-last-post p q m d before is l false test e = last-more p before (Here d ∷ before) e l
+    record { last = d; older = before; is = e; message = m; deed = subst (λ t. d.deed ≡ Acts (Post (Peer t) (Message m))) (same_peer q p one.0) (sym is) }
+last-post p q m d before is false test l e = last-more p before (Here d ∷ before) e (l refl)
 
 if-true : (b : Bool) (was : List Seen) → corrects_by (message_at (cond b [] was)) ≡ true → corrects_by (message_at was) ≡ true
 if-true true was e = absurd (true≢false (sym e))
@@ -38,18 +111,12 @@ if-true false was e = e
 here-or-last : (p q : PeerId) (m : MessageValue) (d : Did) (before : List Seen) → Acts (Post (Peer q) (Message m)) ≡ d.deed → (corrects_by (message_at (open_to p before)) ≡ true → LastIs p before) →
     (a : Bool) → ((q.0 == p.0) && (is_numbered m.kind && acting before)) ≡ a → corrects_by (message_at (cond a (Here d ∷ before) (open_to p before))) ≡ true →
     (b : Bool) → ((q.0 == p.0) && (is_correction m.kind && acting before)) ≡ b → last_to p (Here d ∷ before) ≡ cond b (Here d ∷ before) (last_to p before) → LastIs p (Here d ∷ before)
-here-or-last p q m d before is k true one e true two place =
-    let first = and_parts (q.0 == p.0) (is_correction m.kind && acting before) two in
-    record { last = d; older = before; is = place; message = m; deed = subst (λ t. d.deed ≡ Acts (Post (Peer t) (Message m))) (same_peer q p first.0) (sym is) }
-here-or-last p q m d before is k true one e false two place =
+here-or-last p q m d before is k true one e b two place = last-post p q m d before is b two (λ none.
     let first = and_parts (q.0 == p.0) (is_numbered m.kind && acting before) one in
     let second = and_parts (is_numbered m.kind) (acting before) first.1 in
     let corrects : is_correction m.kind ≡ true = subst (λ t. corrects_by (message_of t) ≡ true) (sym is) e in
-    absurd (true≢false (sym (subst (λ b. (b && (is_correction m.kind && acting before)) ≡ true) (sym first.0) (subst (λ b. (b && acting before) ≡ true) (sym corrects) second.1)) ∙ two))
-here-or-last p q m d before is k false one e true two place =
-    let first = and_parts (q.0 == p.0) (is_correction m.kind && acting before) two in
-    record { last = d; older = before; is = place; message = m; deed = subst (λ t. d.deed ≡ Acts (Post (Peer t) (Message m))) (same_peer q p first.0) (sym is) }
-here-or-last p q m d before is k false one e false two place = last-more p before (Here d ∷ before) place (k e)
+    absurd (true≢false (sym (subst (λ b. (b && (is_correction m.kind && acting before)) ≡ true) (sym first.0) (subst (λ b. (b && acting before) ≡ true) (sym corrects) second.1)) ∙ (two ∙ none)))) place
+here-or-last p q m d before is k false one e b two place = last-post p q m d before is b two (λ none. k e) place
 
 open-last-deed : (p : PeerId) (d : Did) (before : List Seen) → (corrects_by (message_at (open_to p before)) ≡ true → LastIs p before) → (deed : Deed) → deed ≡ d.deed →
     last_to p (Here d ∷ before) ≡ last_to_after p deed (acting before) (Here d ∷ before) (last_to p before) →
@@ -81,7 +148,7 @@ acknowledged-deed : (p : PeerId) (d : Did) (before : List Seen) → (is_acknowle
     last_to p (Here d ∷ before) ≡ last_to_after p deed (acting before) (Here d ∷ before) (last_to p before) →
     is_acknowledged_after p deed (acting before) (corrects_by (message_at (open_to p before))) (is_acknowledged p before) ≡ true → LastIs p (Here d ∷ before)
 acknowledged-deed p d before k (Acts Boot) is t e = absurd (true≢false (sym e))
-acknowledged-deed p d before k (Acts (Post (Peer q) (Message m))) is t e = last-post p q m d before is (k (if-false ((q.0 == p.0) && (is_correction m.kind && acting before)) (is_acknowledged p before) e)) _ refl t
+acknowledged-deed p d before k (Acts (Post (Peer q) (Message m))) is t e = last-post p q m d before is _ refl (λ none. k (if-false ((q.0 == p.0) && (is_correction m.kind && acting before)) (is_acknowledged p before) e)) t
 acknowledged-deed p d before k (Acts (Acked q)) is t e = acked-last p q d before k t _ refl e
 acknowledged-deed p d before k _ is t e = last-more p before (Here d ∷ before) t (k e)
 
@@ -161,16 +228,10 @@ leaves_fresh p k = by_case (is_correction k) where
   by_case false = Leads_from (λ x past h. forget h) Leads_nothing
 
 soon_of : (s : Sending) (x : ℕ) (past : Past) → is_spent s x past ≡ false → x ≤ s.began + LAST
-soon_of s x past e = ltb-false (s.began + LAST) x (or-false (nat_lt (s.began + LAST) x) (nat_le TRIES s.posts) e) where
-  or-false : (a b : Bool) → (a || b) ≡ false → a ≡ false
-  or-false true b e = absurd (true≢false e)
-  or-false false b e = refl
+soon_of s x past e = ltb-false (s.began + LAST) x (or_parts (nat_lt (s.began + LAST) x) (nat_le TRIES s.posts) e).0
 
 few_of : (s : Sending) (x : ℕ) (past : Past) → is_spent s x past ≡ false → s.posts < TRIES
-few_of s x past e = leb-false TRIES s.posts (or-false (nat_lt (s.began + LAST) x) (nat_le TRIES s.posts) e) where
-  or-false : (a b : Bool) → (a || b) ≡ false → b ≡ false
-  or-false true b e = absurd (true≢false e)
-  or-false false b e = e
+few_of s x past e = leb-false TRIES s.posts (or_parts (nat_lt (s.began + LAST) x) (nat_le TRIES s.posts) e).1
 
 -- an open send that is due and not spent is posted again
 pub repeats_lead : (p : PeerId) (s : Sending) → Leads (λ x past. ((Fresh x past × (open_at p x past ≡ Some s)) × (is_send_due s x past ≡ true)) × (is_spent s x past ≡ false)) (repeats p s.message) Fresh

@@ -2,21 +2,19 @@
 use Rattle.std.proofs.Common.{sym, subst, inl, inr, ap, arith, true≢false, eqb-true, eq-eqb, ltb-false, ltb-true, ◌∙◌, ◌≡◌, ◌⊎◌, ◌≤◌, ◌<◌, ℕ, ◌+◌, ◌==◌, ◌&&◌, nat_lt, ℤ, ◌-ℤ◌, Bool, true, false, if◌then◌else◌, List, [], ◌∷◌, Option, None, Some, refl}
 use Rattle.std.proofs.lemmas.Bool.{and_parts}
 use Rattle.tsp_rules.specs.Values.{Post, Correct, Acked, Leave, Message, Good, Kind, Ack, Date, DateAck, MasterUp, Msite, SetDate, SetDateReq, PeerId, Place, Peer, Stranger, Role, Follow, Master, DATEHOLD, GAP, REUSE}
-use Rattle.tsp_base.specs.Words.{Did, Seen, Here, Past, plain, is_past, Leads, MessageValue, correct_tick, target, Received, role, said, taken, grown, nothing, puts, ◌followed_by◌, for_each, bare, timed, posts, posts_back, posts_time, posts_to_others, Dating, dating_of, is_correction, is_date_request, is_set_date_request, last_asked, last_date, posts_of, sets_date, Setup, time_in}
-use Rattle.tsp_promises.specs.{AckFits.AckedFits, AckFits.Answers, CorrectFits.ByDate, DateFits.DateAckFits, PortFits.setup_in}
-use Rattle.tsp_promises.specs.{DeedFits.PostFits, DeedFits.asks_name, StepFacts.is_answered}
-use Rattle.tsp_base.proofs.LeadsLemmas.{Leads_then, Leads_either, Leads_reading, Leads_nothing, Leads_puts, Leads_each, Leads_from, Leads_to}
-use Rattle.tsp_rules.specs.{ClockRows.sets, Guards.is_clock_value, Guards.role_at, Guards.table_at}
+use Rattle.tsp_rules.{specs.ClockRows.sets, specs.Guards.is_clock_value, specs.Guards.role_at, specs.Guards.table_at, proofs.Asides.now}
 use Rattle.tsp_rules.specs.DateRows.{may_pass_on, passes_on, all_settled, may_date, leaves, leaves_all, new_date, sets_date_where, date_in, date_of, is_last, is_dated, sets_in_charge, date_request_in, date_request_of, answers_date, has_date, date_acked_in, date_acked}
-use Rattle.tsp_rules.specs.SendRows.{begins_timed, next_number, is_free}
-use Rattle.tsp_promises.proofs.Known.{Free, Rests, RestsIn, Stirred}
-use Rattle.tsp_rules.proofs.{Asides.now, GuardFacts.past_is}
-use Rattle.tsp_promises.proofs.{PostLeaves.post_message, PostLeaves.post_back, Printed.date_sets, Printed.flag_of, Printed.sets_prints}
-use Rattle.tsp_promises.proofs.{Changes.Is, Changes.JustTook, CommonLeads.own_number, Leaves.leave, Leaves.acked, Leaves.correct_stirring}
-use Rattle.tsp_promises.proofs.LeadsLeaves.{Leads_posts, Leads_posts_back, Leads_posts_time, Leads_others}
+use Rattle.tsp_rules.{specs.SendRows.begins_timed, specs.SendRows.next_number, specs.SendRows.is_free, proofs.GuardFacts.past_is}
+use Rattle.tsp_base.specs.Words.{Did, Seen, Here, Past, plain, is_past, Leads, MessageValue, correct_tick, target, Received, role, said, taken, grown, nothing, puts, ◌followed_by◌, for_each, bare, timed, posts, posts_back, posts_time, posts_to_others, Dating, dating_of, is_correction, is_date_request, is_set_date_request, last_asked, last_date, posts_of, sets_date, Setup, time_in}
+use Rattle.tsp_base.proofs.LeadsLemmas.{Leads_then, Leads_either, Leads_reading, Leads_nothing, Leads_puts, Leads_each, Leads_from, Leads_to}
+use Rattle.tsp_promises.specs.{AckFits.AckedFits, AckFits.Answers, StepFacts.is_answered, DeedFits.PostFits, DeedFits.asks_name}
+use Rattle.tsp_promises.proofs.{CommonLeads.own_number, StrangerFacts.own_named, Changes.Is, Changes.JustTook}
+use Rattle.tsp_promises.specs.{CorrectFits.ByDate, PortFits.setup_in, DateFits.DateAckFits}
+use Rattle.tsp_promises.proofs.{SlaveLeads.idle_heard, SlaveLeads.gap_of, Printed.date_sets, Printed.flag_of, Printed.sets_prints}
+use Rattle.tsp_promises.proofs.{Known.Free, Known.Rests, Known.RestsIn, Known.Stirred, Leaves.leave, Leaves.acked, Leaves.correct_stirring}
+use Rattle.tsp_promises.proofs.PostLeaves.{post_message, post_back, Leads_posts, Leads_posts_back, Leads_posts_time, Leads_others}
 use Rattle.tsp_promises.proofs.TakenLeads.{Heard, HeardIn, Unanswered, rests_of, wake_role, took_awake, ack_fits, open_known}
-use Rattle.tsp_promises.proofs.{SlaveLeads.idle_heard, SlaveLeads.gap_of, StrangerFacts.own_named}
-use Rattle.tsp_promises.proofs.Upsets.{Upsets, upsets_of, upsets_from, upsets_either, upsets_reading}
+use Rattle.tsp_promises.proofs.Elsewheres.{Upsets, upsets_of, upsets_from, upsets_either, upsets_reading}
 
 -- a client's date
 abbrev pub IsClient : Kind → Type 0

@@ -1,20 +1,17 @@
 -- What the acts of small histories owe, where it is found by computing: each premise computes, and `search debts` proves it.
 use Rattle.std.proofs.Common.{sym, ap, subst, true≢false, ◌∙◌, ◌≡◌, ◌≢◌, ◌≤◌, ◌<◌, ◌⊎◌, ◌-ℤ◌, Bool, true, false, ℕ, ◌+◌, ◌%◌, ℤ, pos, List, [], ◌∷◌, Option, Some, None}
-pub use Rattle.std.proofs.Common.{arith, inl, inr}
-pub use Rattle.std.proofs.lemmas.Int.{ints}
 use Rattle.tsp_rules.specs.Values.{Took, Post, Ring, Close, CloseAlarm, Correct, Datagram, Taken, Message, Stamp, Good, Kind, Ack, AdjTime, Election, QuitKind, HOLD, SetTime, SlaveUp, Nothing, PeerId, Place, Peer, Follow, Master, Role, Request, Reply, CLOSE, QUIET, ROUND, SLACK}
 use Rattle.tsp_base.specs.Words.{Acts, Booted, Cause, Deed, Did, Line, Seen, Here, plain, MessageValue, Turned, boot_tick, target, ticket, word, Received, acting, did_of, message_in, message_of, role, taken, Sampled, best, exchange, is_going, started, sample_diff, sample_err, is_acknowledged, is_correction, last_post, last_to, open_to, peer_of, ReplyValue, Setup, TakesFrom, Receives, Undisturbed, Within, time_in}
 use Rattle.tsp_promises.specs.AckFits.{AckFits, AckedFits, Acknowledges, Answers, EndsFits}
-use Rattle.tsp_promises.specs.{CorrectFits.WhyCorrect, CorrectFits.ByMaster, CorrectFits.amount_of, Fits.Posted, Fits.node_of}
+use Rattle.tsp_promises.specs.{CorrectFits.WhyCorrect, CorrectFits.ByMaster, CorrectFits.amount_of, StepFacts.backed, StepFacts.closed}
+use Rattle.tsp_promises.{specs.Fits.Posted, specs.Fits.node_of, specs.HoldFits.AcceptFits, proofs.Leaves.nil-cons}
+use Rattle.tsp_promises.specs.{CorrectionFits.CorrectionFits, CorrectionFits.FollowedBy, CorrectionFits.SetsTarget, MeasureFits.SampleFits}
+use Rattle.tsp_promises.specs.{DeedFits.AskedEarly, DeedFits.is_answered_early, QuitFits.QuitFits, RoundFits.CloseFits, RoundFits.StartFits}
+use Rattle.tsp_promises.proofs.{Histories.begins, Histories.post_at, Histories.still, HistoriesFit.came, SendProof.one-message}
+pub use Rattle.std.proofs.Common.{arith, inl, inr}
+pub use Rattle.std.proofs.lemmas.Int.{ints}
 pub use Rattle.tsp_promises.specs.CorrectFits.{ByRound}
-use Rattle.tsp_promises.specs.{CorrectionFits.CorrectionFits, CorrectionFits.FollowedBy, CorrectionFits.SetsTarget, HoldFits.AcceptFits}
-use Rattle.tsp_promises.specs.{DeedFits.AskedEarly, DeedFits.is_answered_early, MeasureFits.SampleFits, QuitFits.QuitFits}
-use Rattle.tsp_promises.specs.{RoundFits.CloseFits, RoundFits.StartFits, StepFacts.backed, StepFacts.closed}
-use Rattle.tsp_promises.proofs.{Histories.begins, Histories.post_at, Histories.still, HistoriesFit.came, Leaves.nil-cons}
-use Rattle.tsp_promises.proofs.SendProof.{one-message}
-
-pub none-some : {A B : Type 0} (x : A) → None ≡ Some x → B
-none-some x e = let bad : ⊥ = cc in absurd bad
+pub use Rattle.tsp_promises.proofs.Leaves.{none-some}
 
 pub not-same : (x y : ℕ) → x < y → x ≢ y
 not-same x y l e = omega arith

@@ -1,12 +1,13 @@
 -- What is known of a port while another port of its node acts.
-use Rattle.std.proofs.Common.{sym, subst, arith, true≢false, ◌≡◌, ℕ, Bool, true, false, List, [], ◌∷◌, Option, None, refl}
+use Rattle.std.proofs.Common.{sym, subst, arith, true≢false, ◌≡◌, ℕ, Bool, true, false, List, [], ◌∷◌, Option, None, refl, inl, inr, ◌⊎◌, if◌then◌else◌, append-nil, ◌∙◌, ◌++◌, Some, is_some}
 use Rattle.std.proofs.lemmas.Bool.{or_parts, and_parts}
 use Rattle.tsp_rules.specs.Values.{Act, Boot, Took, Post, Abandon, Correct, Stranger}
-use Rattle.tsp_base.specs.Words.{Past, Received, armed, grown}
-use Rattle.tsp_rules.specs.RoundRows.{is_correct, corrects}
+use Rattle.tsp_rules.specs.RoundRows.{is_correct, corrects, abandons, abandons_going, upsetting}
 use Rattle.tsp_rules.proofs.{Asides.all_aside, Asides.aside, FewActs.is_calm_act, FewActs.is_calm, NodeRowLemmas.Bootless}
-use Rattle.tsp_promises.proofs.Known.{KnowsOf, FreshIn, OpenIn, RestsIn}
-use Rattle.tsp_promises.proofs.{Leaves.stir, Leaves.abandon, Stirring.calmed, Stirring.abandoned}
+use Rattle.tsp_base.specs.Words.{Past, Received, armed, grown, Leads, Row, either_by, reading, is_going, nothing, puts}
+use Rattle.tsp_base.proofs.RowLemmas.{added_append}
+use Rattle.tsp_promises.proofs.Known.{KnowsOf, FreshIn, OpenIn, RestsIn, Rests}
+use Rattle.tsp_promises.proofs.Leaves.{stir, abandon, calmed, abandoned}
 
 -- whether an act elsewhere leaves all alone that is known of a port: it is no boot, and no correction
 abbrev pub is_apart : Act → Bool
@@ -100,10 +101,10 @@ open_family = record {
   shut = λ x past e h. record { own = h.own; fits = h.fits; knows = calmed x past.own past.seen e h.knows; backs = h.backs; owed = h.owed; paid = h.paid; took = h.took };
 }
 
-rests-aside : {stirred : Bool} (x : ℕ) (past : Past) (a : Act) → is_apart a ≡ true → RestsIn stirred x past → RestsIn stirred x (aside x past a)
-rests-aside x past Boot e h = absurd (true≢false (sym e))
-rests-aside x past (Correct amount stepped shown) e h = absurd (true≢false (sym e))
-rests-aside x past _ e h = record { fits = h.fits; knows = h.knows; backs = h.backs; follows = h.follows; paid = h.paid }
+pub rests_aside : {stirred : Bool} (x : ℕ) (past : Past) (a : Act) → is_apart a ≡ true → RestsIn stirred x past → RestsIn stirred x (aside x past a)
+rests_aside x past Boot e h = absurd (true≢false (sym e))
+rests_aside x past (Correct amount stepped shown) e h = absurd (true≢false (sym e))
+rests_aside x past _ e h = record { fits = h.fits; knows = h.knows; backs = h.backs; follows = h.follows; paid = h.paid }
 
 rests-moved : (x : ℕ) (past : Past) (a : Act) → is_correct a ≡ true → RestsIn true x past → RestsIn true x (aside x past a)
 rests-moved x past (Correct amount stepped shown) e h = record { fits = h.fits; knows = knows-moved x past (Correct amount stepped shown) e h.knows; backs = h.backs; follows = h.follows; paid = h.paid }
@@ -112,15 +113,12 @@ rests-moved x past _ e h = absurd (true≢false (sym e))
 -- at the end of the step; a taking elsewhere changes nothing then
 pub rests_family : Family RestsIn
 rests_family = record {
-  still = λ x past a e h. rests-aside x past a (still-apart a e) h;
+  still = λ x past a e h. rests_aside x past a (still-apart a e) h;
   moved = rests-moved;
   weaken = λ x past h. record { fits = h.fits; knows = stirring x past h.knows; backs = h.backs; follows = h.follows; paid = h.paid };
   abandons = λ x past h. record { fits = (tt, h.fits); knows = abandoned x past h.knows; backs = h.backs; follows = h.follows; paid = h.paid };
   shut = λ x past e h. record { fits = h.fits; knows = calmed x past.own past.seen e h.knows; backs = h.backs; follows = h.follows; paid = h.paid };
 }
-
-pub rests_took : {stirred : Bool} (x : ℕ) (past : Past) (a : Act) → is_apart a ≡ true → RestsIn stirred x past → RestsIn stirred x (aside x past a)
-rests_took x past a e h = rests-aside x past a e h
 
 -- calm acts
 calm-apart : (strange moving : Bool) (a : Act) → is_calm_act strange moving a ≡ true → is_correct a ≡ false → is_still a ≡ true
@@ -174,3 +172,65 @@ module _ {S : Bool → ℕ → Past → Type 0} (family : Family S) where
   moved_aside strange x past (a ∷ rest) e h =
       let both = and_parts (is_calm_act strange true a) (is_calm strange true rest) e in
       moved_aside strange x (aside x past a) rest both.1 (step-moved strange x past a both.0 (is_correct a) refl h)
+
+-- rows after which a port rests, or is stirred since they corrected the clock
+
+-- a port after these acts: it rests, or it is stirred, since they set a date
+abbrev pub Upset : Bool → ℕ → Past → List Act → Type 0
+Upset dates x past acts = Rests x (grown x past acts) ⊎ ((dates ≡ true) × (corrects acts ≡ true) × RestsIn true x (grown x past acts))
+
+-- where a row leads that may set a date while a round goes on
+pub record Upsets (dates : Bool) (P : ℕ → Past → Type 0) (row : Row) : Type 0 where
+  pub run : (x : ℕ) (past : Past) → P x past → Upset dates x past (row x past)
+
+pub upsets_of : {dates : Bool} {P : ℕ → Past → Type 0} {row : Row} → Leads P row Rests → Upsets dates P row
+upsets_of l = record { run = λ x past h. inl (l.run x past h) }
+
+pub upsets_from : {dates : Bool} {P Q : ℕ → Past → Type 0} {row : Row} → ((x : ℕ) (past : Past) → P x past → Q x past) → Upsets dates Q row → Upsets dates P row
+upsets_from k u = record { run = λ x past h. u.run x past (k x past h) }
+
+pub upsets_either : {dates : Bool} {P : ℕ → Past → Type 0} (test : ℕ → Past → Bool) (r s : Row) → Upsets dates (λ x past. P x past × (test x past ≡ true)) r → Upsets dates (λ x past. P x past × (test x past ≡ false)) s → Upsets dates P (either_by test r s)
+unfolding either_by
+upsets_either test r s u v = record { run = λ x past h. by_case r s x past (test x past) (λ e. u.run x past (h, e)) (λ e. v.run x past (h, e)) } where
+  by_case : {dates : Bool} (r s : Row) (x : ℕ) (past : Past) (b : Bool) → (b ≡ true → Upset dates x past (r x past)) →
+      (b ≡ false → Upset dates x past (s x past)) →
+      Upset dates x past (if b then r x past else s x past)
+  by_case r s x past true f g = f refl
+  by_case r s x past false f g = g refl
+
+pub upsets_reading : {dates : Bool} {A : Type 0} {P : ℕ → Past → Type 0} (fact : ℕ → Past → A) (rows : A → Row) → ((a : A) → Upsets dates (λ x past. P x past × (fact x past ≡ a)) (rows a)) → Upsets dates P (reading fact rows)
+unfolding reading
+upsets_reading fact rows k = record { run = λ x past h. (k (fact x past)).run x past (h, refl) }
+
+-- a row that sets no date leads to rest
+pub upsets_never : {P : ℕ → Past → Type 0} {row : Row} → Upsets false P row → Leads P row Rests
+upsets_never u = record {
+  run = λ x past h. elim (u.run x past h) [
+    | inl r ↦ r
+    | inr s ↦ absurd (true≢false (sym s.0))
+  ];
+}
+
+-- how a port that was stirred comes to rest: its round is given up, where one goes on
+pub shut_of : (o : Option ℕ) → is_some o ≡ false → o ≡ None
+shut_of None e = refl
+shut_of (Some at) e = absurd (true≢false e)
+
+-- a port at the end of its step gives its round up, where one goes on
+pub rests_abandon : {stirred : Bool} (x : ℕ) (past : Past) → RestsIn stirred x past → Rests x (grown x past (abandons_going x past))
+unfolding abandons_going either_by abandons puts nothing
+rests_abandon x past h = by_case (is_going past.seen) refl where
+  by_case : (b : Bool) → is_going past.seen ≡ b → Rests x (grown x past (if b then Abandon ∷ [] else []))
+  by_case true e = record { fits = (tt, h.fits); knows = abandoned x past h.knows; backs = h.backs; follows = h.follows; paid = h.paid }
+  by_case false e = record { fits = h.fits; knows = calmed x past.own past.seen (shut_of (armed past.seen).close e) h.knows; backs = h.backs; follows = h.follows; paid = h.paid }
+
+-- a row after which the port's own round is given up, where it has corrected the clock
+pub upsetting_lead : {dates : Bool} {P : ℕ → Past → Type 0} (row : Row) → Upsets dates P row → Leads P (upsetting row) Rests
+unfolding upsetting
+upsetting_lead row u = record { run = λ x past h. ended x past (u.run x past h) (corrects (row x past)) refl } where
+  ended : {dates : Bool} (x : ℕ) (past : Past) → Upset dates x past (row x past) → (b : Bool) → corrects (row x past) ≡ b →
+      Rests x (grown x past (row x past ++ (if b then abandons_going x (grown x past (row x past)) else [])))
+  ended x past (inl r) true e = rw added_append (rests_abandon x (grown x past (row x past)) r)
+  ended x past (inl r) false e = subst (λ acts. Rests x (grown x past acts)) (sym (append-nil (row x past))) r
+  ended x past (inr s) true e = rw added_append (rests_abandon x (grown x past (row x past)) s.2)
+  ended x past (inr s) false e = absurd (true≢false (sym s.1 ∙ e))

@@ -30,40 +30,29 @@ port_back (suc (suc (suc zero))) (Named (suc (suc zero))) = 1
 port_back n (Named k) = 0
 port_back n (Alone m q) = q
 
--- each port's network names the port
-back : (n q : ℕ) → port_back n (net_of n q) ≡ q
-back zero zero = refl
-back zero (suc q) = refl
-back (suc zero) zero = refl
-back (suc zero) (suc zero) = refl
-back (suc zero) (suc (suc q)) = refl
-back (suc (suc zero)) zero = refl
-back (suc (suc zero)) (suc zero) = refl
-back (suc (suc zero)) (suc (suc q)) = refl
-back (suc (suc (suc zero))) zero = refl
-back (suc (suc (suc zero))) (suc zero) = refl
-back (suc (suc (suc zero))) (suc (suc q)) = refl
-back (suc (suc (suc (suc n)))) q = refl
-
-pub nets-apart : (n : ℕ) (p q : Port) → net_of n p.0 ≡ net_of n q.0 → p ≡ q
-nets-apart n p q e = ap (λ k. let r : Port = record { 0 = k } in r) (sym (back n p.0) ∙ (ap (port_back n) e ∙ back n q.0))
-
 pub alone : (n : ℕ) → is_among (peer_of n) (peer_of n ∷ []) ≡ true
 alone n = rw (eq-eqb n n refl) refl
 
+-- each port's network names the port, and has its node
+back : (n q : ℕ) → (port_back n (net_of n q) ≡ q) × (is_among (peer_of n) (members_of (net_of n q)) ≡ true)
+back zero zero = (refl, refl)
+back zero (suc q) = (refl, refl)
+back (suc zero) zero = (refl, refl)
+back (suc zero) (suc zero) = (refl, refl)
+back (suc zero) (suc (suc q)) = (refl, refl)
+back (suc (suc zero)) zero = (refl, refl)
+back (suc (suc zero)) (suc zero) = (refl, refl)
+back (suc (suc zero)) (suc (suc q)) = (refl, refl)
+back (suc (suc (suc zero))) zero = (refl, refl)
+back (suc (suc (suc zero))) (suc zero) = (refl, refl)
+back (suc (suc (suc zero))) (suc (suc q)) = (refl, refl)
+back (suc (suc (suc (suc n)))) q = (refl, alone (suc (suc (suc (suc n)))))
+
+pub nets-apart : (n : ℕ) (p q : Port) → net_of n p.0 ≡ net_of n q.0 → p ≡ q
+nets-apart n p q e = ap (λ k. let r : Port = record { 0 = k } in r) (sym (back n p.0).0 ∙ (ap (port_back n) e ∙ (back n q.0).0))
+
 pub in-own : (n q : ℕ) → is_among (peer_of n) (members_of (net_of n q)) ≡ true
-in-own zero zero = refl
-in-own zero (suc q) = refl
-in-own (suc zero) zero = refl
-in-own (suc zero) (suc zero) = refl
-in-own (suc zero) (suc (suc q)) = refl
-in-own (suc (suc zero)) zero = refl
-in-own (suc (suc zero)) (suc zero) = refl
-in-own (suc (suc zero)) (suc (suc q)) = refl
-in-own (suc (suc (suc zero))) zero = refl
-in-own (suc (suc (suc zero))) (suc zero) = refl
-in-own (suc (suc (suc zero))) (suc (suc q)) = refl
-in-own (suc (suc (suc (suc n)))) q = alone (suc (suc (suc (suc n))))
+in-own n q = (back n q).1
 
 -- clocks that run alike, and whether elections are strict
 abbrev pub still : Bool → Setting

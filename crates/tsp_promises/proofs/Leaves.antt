@@ -48,6 +48,29 @@ pub made : {stirred awake owing acts : Bool} {follow : List PeerId} {T : Option 
     During stirred awake owing follow acts T x (grown x past (a ∷ []))
 made a own f fits knows rested backs owed paid acting_is took = record { own = own; fits = (f, fits); knows = knows; rested = rested; backs = backs; owed = owed; paid = paid; acting_is = acting_is; took = took }
 
+-- without a round nothing stirs a port
+pub calmed : {stirred now : Bool} (x : ℕ) (own : PeerId) (seen : List Seen) → (armed seen).close ≡ None → KnowsOf stirred x own seen → KnowsOf now x own seen
+calmed x own seen shut k = record {
+  times = k.times;
+  quiet = k.quiet;
+  vote = k.vote;
+  round = record {
+    rounds = k.round.rounds;
+    probing = k.round.probing;
+    closes = λ calm at e. none-some at (sym shut ∙ e);
+    exchanges = λ p i s older e. let asked = k.round.exchanges p i s older e in none-some asked.at (sym shut ∙ asked.goes);
+  };
+}
+
+-- an Abandon ends the round
+pub abandoned : {stirred : Bool} (x : ℕ) (past : Past) → KnowsOf stirred x past.own past.seen → KnowsOf false x past.own (then_seen x past Abandon)
+abandoned x past k = record {
+  times = k.times;
+  quiet = k.quiet;
+  vote = k.vote;
+  round = record { rounds = k.round.rounds; probing = λ at e. none-some at e; closes = λ calm at e. none-some at e; exchanges = λ p i s older e. nil-cons s older e };
+}
+
 -- a round that has just begun isn't later than now, and is so long before the next
 begins-now : {x : ℕ} (d start : Did) (rest idle : List Seen) → Here d ∷ rest ≡ Here start ∷ idle → d.tick ≤ x → start.tick ≤ x
 begins-now {x = x} d start rest idle e h = let same : d ≡ start = cc in subst (λ (z : Did). z.tick ≤ x) same h
@@ -223,30 +246,9 @@ module _ {stirred awake owing acts : Bool} {follow : List PeerId} {T : Option Re
 
   -- a round is given up, and with it all that stirs the port
   pub abandon : During stirred awake owing follow acts T x past → During false awake owing follow acts T x (grown x past (Abandon ∷ []))
-  abandon h =
-      let k = h.knows in
-      made Abandon h.own tt h.fits
-      (record {
-        times = k.times;
-        quiet = k.quiet;
-        vote = k.vote;
-        round = record { rounds = k.round.rounds; probing = λ n e. none-some n e; closes = λ calm n e. none-some n e; exchanges = λ p i s older e. nil-cons s older e };
-      })
-      h.rested h.backs h.owed h.paid h.acting_is h.took
+  abandon h = made Abandon h.own tt h.fits (abandoned x past h.knows) h.rested h.backs h.owed h.paid h.acting_is h.took
 
-  pub correct : (amount : ℤ) (stepped : Bool) (shown : ℤ) → (armed past.seen).close ≡ None → CorrectFits (setup_in past) (now x past (Correct amount stepped shown)) past.seen amount stepped shown → During stirred awake owing follow acts T x past → During stirred awake owing follow acts T x (grown x past (Correct amount stepped shown ∷ []))
-  correct amount stepped shown idle f h =
-      let k = h.knows in
-      made (Correct amount stepped shown) h.own f h.fits
-      (record {
-        times = record { boot_le = k.times.boot_le; last_le = omega arith; boot_is = k.times.boot_is; start_le = k.times.start_le; next = k.times.next };
-        quiet = k.quiet;
-        vote = k.vote;
-        round = record { rounds = k.round.rounds; probing = k.round.probing; closes = λ calm n e. none-some n (sym idle ∙ e); exchanges = λ p i s older e. let asked = k.round.exchanges p i s older e in none-some asked.at (sym idle ∙ asked.goes) };
-      })
-      h.rested h.backs h.owed h.paid h.acting_is h.took
-
-  -- the same where a round may go on
+  -- the clock is corrected, and a round may go on
   pub correct_stirring : (amount : ℤ) (stepped : Bool) (shown : ℤ) → CorrectFits (setup_in past) (now x past (Correct amount stepped shown)) past.seen amount stepped shown → During stirred awake owing follow acts T x past → During true awake owing follow acts T x (grown x past (Correct amount stepped shown ∷ []))
   correct_stirring amount stepped shown f h =
       let k = h.knows in
@@ -258,6 +260,12 @@ module _ {stirred awake owing acts : Bool} {follow : List PeerId} {T : Option Re
         round = record { rounds = k.round.rounds; probing = k.round.probing; closes = λ calm. absurd (true≢false calm); exchanges = λ p i s older e. stir (k.round.exchanges p i s older e) };
       })
       h.rested h.backs h.owed h.paid h.acting_is h.took
+
+  -- the same without a round
+  pub correct : (amount : ℤ) (stepped : Bool) (shown : ℤ) → (armed past.seen).close ≡ None → CorrectFits (setup_in past) (now x past (Correct amount stepped shown)) past.seen amount stepped shown → During stirred awake owing follow acts T x past → During stirred awake owing follow acts T x (grown x past (Correct amount stepped shown ∷ []))
+  correct amount stepped shown idle f h =
+      let k = correct_stirring amount stepped shown f h in
+      made (Correct amount stepped shown) h.own f h.fits (calmed x past.own (then_seen x past (Correct amount stepped shown)) idle k.knows) h.rested h.backs h.owed h.paid h.acting_is h.took
 
   pub sample : (p : PeerId) (counter : ℕ) (diff err : ℤ) (number : ℕ) → SampleFits (now x past (Sample p counter diff err number)) past.seen p counter diff err number → During stirred awake owing follow acts T x past → During stirred awake owing follow acts T x (grown x past (Sample p counter diff err number ∷ []))
   sample p counter diff err number f h =

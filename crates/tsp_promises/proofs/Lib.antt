@@ -47,11 +47,8 @@ pub mod EverywhereLemmas
 pub mod FirstSetProof
 pub mod FreshProof
 pub mod FreshSteps
-pub mod GateFacts
 pub mod GateLeads
-pub mod GateLoops
 pub mod GateSteps
-pub mod GateTurns
 pub mod Given
 pub mod HeardPosts
 pub mod HeardProof
@@ -66,14 +63,12 @@ pub mod LastDateProof
 pub mod LastPostProof
 pub mod LastTakenProof
 pub mod LateProof
-pub mod LeadsLeaves
 pub mod Leaves
 pub mod Locating
 pub mod LookedProof
 pub mod LoopLeads
 pub mod MasterMoved
 pub mod Matching
-pub mod MeanFacts
 pub mod MeasuredProof
 pub mod ModerateProof
 pub mod NextAct
@@ -87,7 +82,6 @@ pub mod OneErrorProof
 pub mod OneWinnerProof
 pub mod OnlyMasterProof
 pub mod OwnFitsProof
-pub mod PeerCorrections
 mod Pigeons
 pub mod PortFits
 pub mod PortLists
@@ -99,18 +93,14 @@ pub mod ReadingProof
 pub mod RelayedProof
 pub mod Requests
 pub mod ResolvedProof
-pub mod Rings
 pub mod RoleLeads
 pub mod RoundLeads
 pub mod RoundPlaces
 pub mod RunLeads
-pub mod RunLemmas
 pub mod SafeProof
 pub mod SameSendProof
-pub mod SampleLeads
 pub mod SeenPlaces
 pub mod SeldomProof
-pub mod SendFits
 pub mod SendPlaces
 pub mod SendProof
 pub mod SetProof
@@ -121,7 +111,6 @@ pub mod SinceProof
 pub mod SlaveLeads
 pub mod SoundBuilt
 pub mod SoundFacts
-pub mod SoundRows
 pub mod SoundSteps
 pub mod SourceProof
 pub mod SpacedProof
@@ -130,19 +119,14 @@ pub mod SteadyProof
 pub mod Stages
 pub mod StepChecks
 pub mod StepProof
-pub mod Stirring
 pub mod StopsProof
 pub mod StrangerFacts
 pub mod TakenLeads
 pub mod TakingProof
-pub mod TargetFacts
 pub mod ThriceProof
 pub mod ThroughoutProof
 pub mod TripProof
-pub mod Upsets
-pub mod VoteLeads
 mod VoteProof
-pub mod WindowLeads
 pub mod WitnessAgain
 pub mod WitnessAnswered
 pub mod WitnessFromRounds

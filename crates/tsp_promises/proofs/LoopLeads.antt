@@ -1,35 +1,82 @@
 -- What a node does with a LOOP keeps what is known of each of its ports.
-use Rattle.std.proofs.Common.{sym, subst, inr, ap, arith, true≢false, eqb-true, eq-eqb, leb-true, ltb-true, ◌∙◌, ◌≡◌, ◌≢◌, ◌≤◌, ◌<◌, ℕ, ◌+◌, ◌-◌, ◌==◌, ◌&&◌, nat_le, nat_lt, Bool, true, false, if◌then◌else◌, List, [], ◌∷◌, map, length, Option, Some, refl}
+use Rattle.std.proofs.Common.{sym, subst, inr, ap, arith, true≢false, eqb-true, eq-eqb, leb-true, ltb-true, ◌∙◌, ◌≡◌, ◌≢◌, ◌≤◌, ◌<◌, ℕ, ◌+◌, ◌-◌, ◌==◌, ◌&&◌, nat_le, nat_lt, Bool, true, false, if◌then◌else◌, List, [], ◌∷◌, map, length, Option, Some, refl, inl, not, None, is_some}
 use Rattle.std.proofs.lemmas.Bool.{and_parts, not-true}
-use Rattle.tsp_rules.specs.Values.{Took, Post, Become, Message, Taken, Good, LoopKind, Body, Nothing, TimeBody, Hops, PeerId, Place, Peer, Stranger, Port, Starting, Loose}
-use Rattle.tsp_base.specs.Words.{Past, Leads, MessageValue, Received, role, grown, nothing, puts, ◌followed_by◌, others}
-use Rattle.tsp_promises.specs.{DeedFits.MessageFits, LoopFits.LoopFits, PortFits.setup_in}
-use Rattle.tsp_base.proofs.LeadsLemmas.{Leads_then, Leads_either, Leads_nothing, Leads_puts, Leads_from, Leads_to}
-use Rattle.tsp_rules.specs.{CandidateRows.yields, CommonRows.arms_elect, Guards.is_master_at, Guards.is_starting_role}
-use Rattle.tsp_rules.specs.GateRows.{other_ports, hops_in, same_name, PassOver, GiveUp, Forward, one_hop_less, repost, reposts, is_awake_on, reposts_on, loosens_master, forwards, takes_loop_step, hears_on, judges, heeds_loop, takes_loop}
+use Rattle.tsp_promises.{specs.StepFacts.is_quit, specs.DeedFits.MessageFits, proofs.AnswerLeads.open_rests, proofs.RoundLeads.Probed}
+use Rattle.tsp_promises.specs.{LoopFits.LoopFits, PortFits.setup_in}
+use Rattle.tsp_promises.proofs.Changes.{open_of, wake, JustTook, Is, become_loose, take}
+use Rattle.tsp_promises.proofs.GateSteps.{AtPort, own_of, on_run, AllPorts, LeadsAll, Pick, picks, passes, placed_all, same_port}
+use Rattle.tsp_promises.proofs.HeedLeads.{EndsIn, ends_family, untaken_heeds, unquit_heeds, took_quit}
+use Rattle.tsp_promises.proofs.Known.{Open, OpenIn, Free, During, Ended}
+use Rattle.tsp_promises.proofs.{PostLeaves.post_message, PortLists.Ranged, PortLists.Others, PortLists.other_ranged, PortLists.other_others}
+use Rattle.tsp_promises.proofs.{AlarmLeads.master_rested, TakenLeads.rests_of, TakenLeads.wake_role, TakenLeads.master_awake}
+use Rattle.tsp_promises.proofs.{CommonLeads.arms_elect_during, Elsewheres.open_family, Elsewheres.kept_aside, Elsewheres.calm_bootless}
+use Rattle.tsp_rules.specs.Values.{Took, Post, Become, Message, Taken, Good, LoopKind, Body, Nothing, TimeBody, Hops, PeerId, Place, Peer, Stranger, Port, Starting, Loose, Probe, CloseAlarm}
+use Rattle.tsp_rules.{specs.CandidateRows.yields, specs.CommonRows.arms_elect, specs.SendRows.is_kind_election, proofs.FewActs.is_calm}
+use Rattle.tsp_rules.{specs.Guards.is_master_at, specs.Guards.is_starting_role, proofs.BuiltGate.built_loosens_master}
+use Rattle.tsp_rules.specs.GateRows.{other_ports, hops_in, same_name, PassOver, GiveUp, Forward, one_hop_less, repost, reposts, is_awake_on, reposts_on, loosens_master, forwards, takes_loop_step, hears_on, judges, heeds_loop, takes_loop, loop_to, sends_loops, is_last_probe}
 use Rattle.tsp_rules.specs.NodeRows.{NodePast, on_port, spread, nothing_at_all, on, ◌and_then◌, reading_all, for_ports}
-use Rattle.tsp_rules.specs.SendRows.{is_kind_election}
-use Rattle.tsp_promises.proofs.Known.{Open, OpenIn, Rests, Free}
-use Rattle.tsp_rules.proofs.{Asides.aside, Asides.now, BuiltGate.built_loosens_master, CalmBuilt.calm_unmoving, FewActs.is_calm}
-use Rattle.tsp_promises.proofs.{Leaves.none-among, PostLeaves.post_message, Rings.open_of}
-use Rattle.tsp_promises.proofs.Changes.{JustTook, Is, become_loose, take}
-use Rattle.tsp_rules.proofs.{GuardFacts.awake_is, GuardFacts.master_is, NodeRowLemmas.spread_append}
-use Rattle.tsp_promises.proofs.{CommonLeads.arms_elect_during, GateLoops.during_open, GateSteps.AtPort, GateSteps.own_of, GateSteps.on_run}
-use Rattle.tsp_promises.proofs.TakenLeads.{rests_of, wake_role, master_awake}
-use Rattle.tsp_promises.proofs.Elsewheres.{open_family, rests_family, kept_aside, calm_bootless}
-use Rattle.tsp_promises.proofs.PortLists.{Ranged, Others, other_ranged, other_others}
-use Rattle.tsp_promises.proofs.GateFacts.{AllPorts, LeadsAll, Pick, picks, passes, placed_all, same_port}
+use Rattle.tsp_rules.proofs.Asides.{aside, now}
+use Rattle.tsp_rules.proofs.{CalmBuilt.calm_unmoving, GuardFacts.awake_is, GuardFacts.master_is, NodeRowLemmas.spread_append}
+use Rattle.tsp_base.specs.Words.{Past, Leads, MessageValue, Received, role, grown, nothing, puts, ◌followed_by◌, others, deadline, acting, armed, taken}
+use Rattle.tsp_base.proofs.LeadsLemmas.{Leads_then, Leads_either, Leads_nothing, Leads_puts, Leads_from, Leads_to}
 
--- the step has taken this datagram, on whatever port
+-- the LOOPs after a round's last probe keep what is known of their port
+
+-- a port in a step, whether it has acted or not
+pub during_open : {stirred : Bool} {T : Option Received → Option Received → Type 0} {x : ℕ} {past : Past} → OpenIn stirred T x past → During stirred false false [] (acting past.seen) T x past
+during_open h = record { own = h.own; fits = h.fits; knows = h.knows; rested = λ e. absurd (true≢false (sym e)); backs = h.backs; owed = h.owed; paid = h.paid; acting_is = refl; took = h.took }
+
+-- port q, whose round has had its last probe
+record Looping (q : Port) (x : ℕ) (past : Past) : Type 0 where
+  pub probed : Probed x past
+  pub port_is : past.port ≡ q
+  pub until : ℕ
+  pub goes : (armed past.seen).close ≡ Some until
+
+loops-one : (q : Port) (x : ℕ) (past : Past) (p : PeerId) → Looping q x past → Looping q x (grown x past (loop_to q past.name p ∷ []))
+loops-one q x past p h =
+    let port = h.probed.open_port in
+    let rested = master_rested x past port (port.knows.round.closes refl h.until h.goes).leads in
+    record {
+      probed = record {
+        open_port = open_of (post_message p _ refl (inl (record { name = refl; number = ap (λ (r : Port). r.0) (sym h.port_is); hops = refl })) (wake rested (during_open port)));
+        later = h.probed.later;
+      };
+      port_is = h.port_is;
+      until = h.until;
+      goes = h.goes;
+    }
+
+loops-list : (q : Port) (ps : List PeerId) (x : ℕ) (past : Past) → Looping q x past → Looping q x (grown x past (map (loop_to q past.name) ps))
+loops-list q [] x past h = h
+loops-list q (p ∷ ps) x past h = loops-list q ps x (grown x past (loop_to q past.name p ∷ [])) (loops-one q x past p h)
+
+some-is : (o : Option ℕ) → is_some o ≡ true → (at : ℕ) × (o ≡ Some at)
+some-is None e = absurd (true≢false (sym e))
+some-is (Some at) e = (at, refl)
+
+-- a LOOP sets out to each other peer
+pub loops_kept : (q : Port) (x : ℕ) (past : Past) → past.port ≡ q → is_last_probe past ≡ true → Probed x past → Probed x (grown x past (sends_loops q x past))
+unfolding sends_loops
+loops_kept q x past port last h =
+    let both = and_parts (is_some (deadline (armed past.seen) CloseAlarm)) (not (is_some (deadline (armed past.seen) Probe))) last in
+    let goes = some-is (armed past.seen).close both.0 in
+    (loops-list q (others past.own past.peers) x past (record { probed = h; port_is = port; until = goes.0; goes = goes.1 })).probed
+
+-- the step has taken this datagram, on another port
 abbrev pub IsHeard : Place → Taken → Option Received → Option Received → Type 0
-IsHeard from t here anywhere = anywhere ≡ Some (record { from = from; taken = t })
+IsHeard from t here anywhere = (here ≡ None) × (anywhere ≡ Some (record { from = from; taken = t }))
 
 -- another port takes it
 pub open_heard : (from : Place) (t : Taken) (x : ℕ) (past : Past) → Open x past → OpenIn false (IsHeard from t) x (aside x past (Took from t))
-open_heard from t x past h = record { own = h.own; fits = h.fits; knows = h.knows; backs = h.backs; owed = h.owed; paid = h.paid; took = refl }
+open_heard from t x past h = record { own = h.own; fits = h.fits; knows = h.knows; backs = h.backs; owed = h.owed; paid = h.paid; took = (h.took.0, refl) }
 
-pub open_ends : {T : Option Received → Option Received → Type 0} (x : ℕ) (past : Past) → OpenIn false T x past → Rests x past
-open_ends x past h = record { fits = h.fits; knows = h.knows; backs = h.backs; follows = λ p e. none-among p h.owed e; paid = h.paid }
+open_ends : (from : Place) (t : Taken) (x : ℕ) (past : Past) → OpenIn false (IsHeard from t) x past → Ended x past
+open_ends from t x past h = (open_rests x past h, untaken_heeds past.peers past.seen h.took.0)
+
+-- a port that took the LOOP has no QUIT to heed
+loop_ends : {stirred awake : Bool} {x : ℕ} {past : Past} (from : Place) (m : MessageValue) → m.kind ≡ LoopKind → During stirred awake false [] true (Is from (Good (Message m))) x past → EndsIn stirred x past
+loop_ends {past = past} from m kind h = (rests_of h, unquit_heeds past.peers past.seen (ap took_quit h.took ∙ ap is_quit kind))
 
 -- names
 name-same : (a b : List ℕ) → same_name a b ≡ true → a ≡ b
@@ -56,18 +103,17 @@ hops-are (Hops n) e = let some = leb-true 1 n e in ap Hops (omega (arith, some))
 -- a master gives up for its own LOOP that came back
 record GivesUp (p : PeerId) (m : MessageValue) (x : ℕ) (past : Past) : Type 0 where
   pub just : JustTook false (Peer p) (Good (Message m)) x past
-  pub kind : m.kind ≡ LoopKind
   pub name : m.name ≡ past.name
   pub number : m.number < past.port.0
 
-gives-up-leads : (p : PeerId) (m : MessageValue) → Leads (GivesUp p m) loosens_master Rests
+gives-up-leads : (p : PeerId) (m : MessageValue) → m.kind ≡ LoopKind → Leads (GivesUp p m) loosens_master Ended
 unfolding loosens_master yields
-gives-up-leads p m = Leads_either is_master_at (puts (Become Loose) followed_by arms_elect) nothing
+gives-up-leads p m kind = Leads_either is_master_at (puts (Become Loose) followed_by arms_elect) nothing
     (Leads_then {Q = Free (Is (Peer p) (Good (Message m)))} (puts (Become Loose)) arms_elect
-    (Leads_puts (Become Loose) (λ x past h. become_loose (λ e. record { from = p; message = m; took = h.0.just.free.took; kind = h.0.kind; name = h.0.name; number = h.0.number })
+    (Leads_puts (Become Loose) (λ x past h. become_loose (λ e. record { from = p; message = m; took = h.0.just.free.took; kind = kind; name = h.0.name; number = h.0.number })
     (wake_role (master_awake (role past.seen) (master_is (role past.seen) h.1)) h.0.just.free)))
-    (Leads_to (λ x past h. rests_of h) arms_elect_during))
-    (Leads_from (λ x past h. rests_of h.0.just.free) Leads_nothing)
+    (Leads_to (λ x past h. loop_ends (Peer p) m kind h) arms_elect_during))
+    (Leads_from (λ x past h. loop_ends (Peer p) m kind h.0.just.free) Leads_nothing)
 
 pub gives-up-calm : (x : ℕ) (past : Past) → is_calm false false (loosens_master x past) ≡ true
 gives-up-calm x past = (calm_unmoving {strange = false} {moving = false} refl built_loosens_master).calm x past
@@ -88,7 +134,7 @@ loop-message p q m x past h =
     let fits : LoopFits (setup_in past) past.seen (one_hop_less m) = inr (record {
       from = p;
       message = m;
-      took = h.open_port.took;
+      took = h.open_port.took.1;
       kind = h.kind;
       name = refl;
       number = refl;
@@ -119,8 +165,8 @@ repost-calm m [] = refl
 repost-calm m (p ∷ ps) = repost-calm m ps
 
 -- what is known of all ports while a LOOP is passed on: the port that took it rests, the others may post it
-abbrev pub Spreading : Port → PeerId → MessageValue → Port → ℕ → Past → Type 0
-Spreading q p m r = Pick (q.0 == r.0) Rests (OpenIn false (IsHeard (Peer p) (Good (Message m))))
+abbrev pub Spreading : Port → Place → MessageValue → Port → ℕ → Past → Type 0
+Spreading q from m r = Pick (q.0 == r.0) Ended (OpenIn false (IsHeard from (Good (Message m))))
 
 record Known_loop (m : MessageValue) (name : List ℕ) : Type 0 where
   pub kind : m.kind ≡ LoopKind
@@ -128,68 +174,68 @@ record Known_loop (m : MessageValue) (name : List ℕ) : Type 0 where
   pub some : nat_le 1 (hops_in m.body) ≡ true
   pub few : hops_in m.body ≤ 10
 
-reposts-one : (q r : Port) (p : PeerId) (m : MessageValue) (x : ℕ) (past : NodePast) → Known_loop m past.name → (q.0 == r.0) ≡ false → r.0 < length past.ports → AllPorts (Spreading q p m) x past →
-    AllPorts (Spreading q p m) x (spread x past (reposts_on (one_hop_less m) r x past))
+reposts-one : (q r : Port) (p : PeerId) (m : MessageValue) (x : ℕ) (past : NodePast) → Known_loop m past.name → (q.0 == r.0) ≡ false → r.0 < length past.ports → AllPorts (Spreading q (Peer p) m) x past →
+    AllPorts (Spreading q (Peer p) m) x (spread x past (reposts_on (one_hop_less m) r x past))
 unfolding reposts_on on reposts
 reposts-one q r p m x past k n has all = by_case (is_awake_on past r) refl where
-  by_case : (b : Bool) → is_awake_on past r ≡ b → AllPorts (Spreading q p m) x (spread x past (if b then on r (reposts (one_hop_less m)) x past else []))
+  by_case : (b : Bool) → is_awake_on past r ≡ b → AllPorts (Spreading q (Peer p) m) x (spread x past (if b then on r (reposts (one_hop_less m)) x past else []))
   by_case true e =
       let here = on_port r past in
       let acts = map (repost (one_hop_less m)) (others here.own here.peers) in
       let calm = repost-calm (one_hop_less m) (others here.own here.peers) in
       let awake = awake_is (role here.seen) (not-true (is_starting_role (role here.seen)) e) in
-      placed_all r x past acts (Spreading q p m) (Spreading q p m) (calm_bootless false false acts calm)
+      placed_all r x past acts (Spreading q (Peer p) m) (Spreading q (Peer p) m) (calm_bootless false false acts calm)
       (passes n (passing-list p m (others here.own here.peers) x here (record { open_port = (all r has).no n; awake = awake; kind = k.kind; other = k.other; some = k.some; few = k.few })).open_port)
-      (λ s d h y. record { yes = λ t. kept_aside rests_family false x (on_port s past) acts calm (y.yes t); no = λ t. kept_aside open_family false x (on_port s past) acts calm (y.no t) })
+      (λ s d h y. record { yes = λ t. kept_aside ends_family false x (on_port s past) acts calm (y.yes t); no = λ t. kept_aside open_family false x (on_port s past) acts calm (y.no t) })
       all
   by_case false e = all
 
-reposts-all : (q : Port) (p : PeerId) (m : MessageValue) (ports : List Port) (x : ℕ) (past : NodePast) → Known_loop m past.name → Ranged (length past.ports) ports → Others q ports → AllPorts (Spreading q p m) x past →
-    AllPorts (Spreading q p m) x (spread x past (for_ports (reposts_on (one_hop_less m)) ports x past))
+reposts-all : (q : Port) (p : PeerId) (m : MessageValue) (ports : List Port) (x : ℕ) (past : NodePast) → Known_loop m past.name → Ranged (length past.ports) ports → Others q ports → AllPorts (Spreading q (Peer p) m) x past →
+    AllPorts (Spreading q (Peer p) m) x (spread x past (for_ports (reposts_on (one_hop_less m)) ports x past))
 unfolding for_ports nothing_at_all ◌and_then◌
 reposts-all q p m [] x past k ranged other all = all
 reposts-all q p m (r ∷ rest) x past k ranged other all =
     let first = reposts_on (one_hop_less m) r x past in
-    subst (λ z. AllPorts (Spreading q p m) x z) (sym (spread_append x past first (for_ports (reposts_on (one_hop_less m)) rest x (spread x past first))))
+    subst (λ z. AllPorts (Spreading q (Peer p) m) x z) (sym (spread_append x past first (for_ports (reposts_on (one_hop_less m)) rest x (spread x past first))))
     (reposts-all q p m rest x (spread x past first) k ranged.1 other.1 (reposts-one q r p m x past k other.0 ranged.0 all))
 
 -- after the taking
 abbrev pub TookLoop : Port → Place → MessageValue → ℕ → NodePast → Type 0
 TookLoop q from m = AtPort q (JustTook false from (Good (Message m))) (λ r. OpenIn false (IsHeard from (Good (Message m))))
 
-pub loop_over : (q : Port) (from : Place) (m : MessageValue) (x : ℕ) (past : NodePast) → TookLoop q from m x past → AllPorts (λ r. Rests) x past
-loop_over q from m x past h r has = by_case (q.0 == r.0) refl where
-  by_case : (b : Bool) → (q.0 == r.0) ≡ b → Rests x (on_port r past)
-  by_case true e = rests_of ((h.all r has).yes e).free
-  by_case false e = open_ends x (on_port r past) ((h.all r has).no e)
+resting : (q : Port) (from : Place) (m : MessageValue) (x : ℕ) (past : NodePast) → m.kind ≡ LoopKind → TookLoop q from m x past → AllPorts (Spreading q from m) x past
+resting q from m x past kind h r has = let y = h.all r has in record { yes = λ e. loop_ends from m kind (y.yes e).free; no = y.no }
 
-ends-rest : (q : Port) (p : PeerId) (m : MessageValue) (x : ℕ) (past : NodePast) → AllPorts (Spreading q p m) x past → AllPorts (λ r. Rests) x past
-ends-rest q p m x past all r has = by_case (q.0 == r.0) refl where
-  by_case : (b : Bool) → (q.0 == r.0) ≡ b → Rests x (on_port r past)
+ends-rest : (q : Port) (from : Place) (m : MessageValue) (x : ℕ) (past : NodePast) → AllPorts (Spreading q from m) x past → AllPorts (λ r. Ended) x past
+ends-rest q from m x past all r has = by_case (q.0 == r.0) refl where
+  by_case : (b : Bool) → (q.0 == r.0) ≡ b → Ended x (on_port r past)
   by_case true e = (all r has).yes e
-  by_case false e = open_ends x (on_port r past) ((all r has).no e)
+  by_case false e = open_ends from (Good (Message m)) x (on_port r past) ((all r has).no e)
 
-gives-up-all : (q : Port) (p : PeerId) (m : MessageValue) (x : ℕ) (past : NodePast) → m.kind ≡ LoopKind → m.name ≡ past.name → m.number < q.0 → TookLoop q (Peer p) m x past → AllPorts (λ r. Rests) x (spread x past (on q loosens_master x past))
+loop_over : (q : Port) (from : Place) (m : MessageValue) (x : ℕ) (past : NodePast) → m.kind ≡ LoopKind → TookLoop q from m x past → AllPorts (λ r. Ended) x past
+loop_over q from m x past kind h = ends-rest q from m x past (resting q from m x past kind h)
+
+gives-up-all : (q : Port) (p : PeerId) (m : MessageValue) (x : ℕ) (past : NodePast) → m.kind ≡ LoopKind → m.name ≡ past.name → m.number < q.0 → TookLoop q (Peer p) m x past → AllPorts (λ r. Ended) x (spread x past (on q loosens_master x past))
 gives-up-all q p m x past kind name number h =
     let heard = IsHeard (Peer p) (Good (Message m)) in
-    let own = (gives-up-leads p m).run x (on_port q past) (record { just = own_of q x past h; kind = kind; name = name; number = number }) in
-    let after = on_run (λ r stirred. OpenIn stirred heard) (λ r. open_family) {Q = Rests} false q loosens_master x past (gives-up-calm x (on_port q past)) own h in
-    ends-rest q p m x (spread x past (on q loosens_master x past)) after.all
+    let own = (gives-up-leads p m kind).run x (on_port q past) (record { just = own_of q x past h; name = name; number = number }) in
+    let after = on_run (λ r stirred. OpenIn stirred heard) (λ r. open_family) {Q = Ended} false q loosens_master x past (gives-up-calm x (on_port q past)) own h in
+    ends-rest q (Peer p) m x (spread x past (on q loosens_master x past)) after.all
 
-forwards-all : (q : Port) (p : PeerId) (m : MessageValue) (x : ℕ) (past : NodePast) → Known_loop m past.name → TookLoop q (Peer p) m x past → AllPorts (λ r. Rests) x (spread x past (forwards q (one_hop_less m) x past))
+forwards-all : (q : Port) (p : PeerId) (m : MessageValue) (x : ℕ) (past : NodePast) → Known_loop m past.name → TookLoop q (Peer p) m x past → AllPorts (λ r. Ended) x (spread x past (forwards q (one_hop_less m) x past))
 unfolding forwards
 forwards-all q p m x past k h =
-    let all : AllPorts (Spreading q p m) x past = λ r has. let y = h.all r has in record { yes = λ e. rests_of (y.yes e).free; no = y.no } in
-    ends-rest q p m x (spread x past (for_ports (reposts_on (one_hop_less m)) (other_ports q past) x past)) (reposts-all q p m (other_ports q past) x past k (other_ranged q past) (other_others q past) all)
+    ends-rest q (Peer p) m x (spread x past (for_ports (reposts_on (one_hop_less m)) (other_ports q past) x past))
+    (reposts-all q p m (other_ports q past) x past k (other_ranged q past) (other_others q past) (resting q (Peer p) m x past k.kind h))
 
-judges-all : (q : Port) (p : PeerId) (m : MessageValue) (x : ℕ) (past : NodePast) → m.kind ≡ LoopKind → TookLoop q (Peer p) m x past → AllPorts (λ r. Rests) x (spread x past (judges q m x past))
+judges-all : (q : Port) (p : PeerId) (m : MessageValue) (x : ℕ) (past : NodePast) → m.kind ≡ LoopKind → TookLoop q (Peer p) m x past → AllPorts (λ r. Ended) x (spread x past (judges q m x past))
 unfolding judges takes_loop_step nothing_at_all
 judges-all q p m x past kind h = by_case (nat_le 2 (length past.ports)) (same_name m.name past.name) refl (nat_lt m.number q.0) refl (nat_le 1 (hops_in m.body) && nat_le (hops_in m.body) 10) refl where
-  over : AllPorts (λ r. Rests) x past
-  over = loop_over q (Peer p) m x past h
+  over : AllPorts (λ r. Ended) x past
+  over = loop_over q (Peer p) m x past kind h
 
   by_case : (two same : Bool) → same_name m.name past.name ≡ same → (lower : Bool) → nat_lt m.number q.0 ≡ lower → (hops : Bool) → (nat_le 1 (hops_in m.body) && nat_le (hops_in m.body) 10) ≡ hops →
-      AllPorts (λ r. Rests) x (spread x past (takes_loop_step q (if two then (if same then (if lower then GiveUp else PassOver) else (if hops then Forward (one_hop_less m) else PassOver)) else PassOver) x past))
+      AllPorts (λ r. Ended) x (spread x past (takes_loop_step q (if two then (if same then (if lower then GiveUp else PassOver) else (if hops then Forward (one_hop_less m) else PassOver)) else PassOver) x past))
   by_case false same s lower l hops o = over
   by_case true true s true l hops o = gives-up-all q p m x past kind (name-same m.name past.name s) (ltb-true m.number q.0 l) h
   by_case true true s false l hops o = over
@@ -198,14 +244,14 @@ judges-all q p m x past kind h = by_case (nat_le 2 (length past.ports)) (same_na
       forwards-all q p m x past (record { kind = kind; other = name-other m.name past.name s; some = both.0; few = leb-true (hops_in m.body) 10 both.1 }) h
   by_case true false s lower l false o = over
 
-heeds-all : (q : Port) (from : Place) (m : MessageValue) (x : ℕ) (past : NodePast) → m.kind ≡ LoopKind → TookLoop q from m x past → (b : Bool) → hears_on from q x past ≡ b → AllPorts (λ r. Rests) x (spread x past (heeds_loop q m b x past))
+heeds-all : (q : Port) (from : Place) (m : MessageValue) (x : ℕ) (past : NodePast) → m.kind ≡ LoopKind → TookLoop q from m x past → (b : Bool) → hears_on from q x past ≡ b → AllPorts (λ r. Ended) x (spread x past (heeds_loop q m b x past))
 unfolding heeds_loop nothing_at_all
 heeds-all q (Peer p) m x past kind h true e = judges-all q p m x past kind h
 heeds-all q Stranger m x past kind h true e = absurd (true≢false (sym e))
-heeds-all q from m x past kind h false e = loop_over q from m x past h
+heeds-all q from m x past kind h false e = loop_over q from m x past kind h
 
 -- a LOOP is taken
-pub takes_loop_lead : (q : Port) (from : Place) (m : MessageValue) → m.kind ≡ LoopKind → LeadsAll (λ x past. (q.0 < length past.ports) × AllPorts (λ r. Open) x past) (takes_loop q from m) (AllPorts (λ r. Rests))
+pub takes_loop_lead : (q : Port) (from : Place) (m : MessageValue) → m.kind ≡ LoopKind → LeadsAll (λ x past. (q.0 < length past.ports) × AllPorts (λ r. Open) x past) (takes_loop q from m) (AllPorts (λ r. Ended))
 unfolding takes_loop on puts ◌and_then◌ reading_all
 takes_loop_lead q from m kind = record {
   run = λ x past h.
@@ -218,5 +264,5 @@ takes_loop_lead q from m kind = record {
             (picks (same_port q) (take from t (h.1 q h.0)))
             (λ r n has s. passes n (open_heard from t x (on_port r past) s)) h.1;
       } in
-      subst (λ z. AllPorts (λ r. Rests) x z) (sym (spread_append x past first (heeds_loop q m (hears_on from q x mid) x mid))) (heeds-all q from m x mid kind took (hears_on from q x mid) refl);
+      subst (λ z. AllPorts (λ r. Ended) x z) (sym (spread_append x past first (heeds_loop q m (hears_on from q x mid) x mid))) (heeds-all q from m x mid kind took (hears_on from q x mid) refl);
 }

@@ -1,18 +1,67 @@
 -- The steps of a node follow one another, and each deed of its ports fits.
-use Rattle.std.proofs.Common.{sym, subst, inl, ap, arith, true≢false, ◌∙◌, ◌≡◌, ◌≤◌, ◌<◌, ℕ, ◌+◌, ◌==◌, true, List, [], ◌∷◌, ◌++◌, length, refl}
+use Rattle.std.proofs.Common.{sym, subst, ap, arith, ◌∙◌, ◌≡◌, ◌≤◌, ◌<◌, ℕ, ◌+◌, ◌==◌, true, List, [], ◌∷◌, ◌++◌, length, refl, slice_index_or}
 use Rattle.std.proofs.lemmas.Bool.{or_right}
 use Rattle.tsp_rules.specs.Values.{Boot, Become, Arm, Quiet, Port, Starting, QUIET}
-use Rattle.tsp_base.specs.Words.{Step, Begins, Acts, Here, Past, plain, view, seen_as, first_port, line_of, boot_tick, role, grown, in_step, puts, ◌followed_by◌, arms, placed}
-use Rattle.tsp_rules.specs.GateRows.{ports_from, boots_on, boots_all, NodeGiven, NodeTurn, GotOn, answers_all}
-use Rattle.tsp_rules.specs.NodeRows.{NodePast, port_setup, on_port, spread, in_node_step, nothing_at_all, on, ◌and_then◌, reading_all, for_ports}
+use Rattle.tsp_rules.specs.GateRows.{ports_from, boots_on, boots_all, NodeTurn, GotOn}
+use Rattle.tsp_rules.specs.NodeRows.{NodePast, port_setup, on_port, spread, in_node_step, nothing_at_all, on, ◌and_then◌, reading_all, for_ports, PortSetup, no_port}
+use Rattle.tsp_rules.proofs.{Asides.all_aside, NodeRowLemmas.spread_append, NodeRowLemmas.on_own}
+use Rattle.tsp_base.specs.Words.{Step, Begins, Acts, Past, view, seen_as, first_port, line_of, grown, in_step, puts, ◌followed_by◌, arms, placed}
 use Rattle.tsp_promises.specs.NodeRuns.{NodeMakes, NodeBoots, NodeAnswers, node_row_of, NodeHappening, node_ran, node_tick, IsGivenOn, NodeOrdered, NodesFit}
-use Rattle.tsp_promises.specs.{PortFits.PortFits, PortFits.setup_in, StepFacts.StepEnds}
-use Rattle.tsp_promises.proofs.{Known.Ended, Known.Fresh, Known.Rests, PortLists.Ranged, PortLists.ranged_from}
-use Rattle.tsp_promises.proofs.Leaves.{none-some, none-among, nil-cons, some-same}
-use Rattle.tsp_promises.proofs.RunLeads.{ends_of, begins_fresh, nothing-done}
-use Rattle.tsp_promises.proofs.{Elsewheres.fresh_family, GateFacts.AllPorts, GateFacts.LeadsAll, GateFacts.placed_all, RunLemmas.ports-ran}
-use Rattle.tsp_rules.proofs.{Asides.all_aside, NodeRowLemmas.spread_append}
-use Rattle.tsp_promises.proofs.{GateLeads.GivenOn, GateLeads.answers_all_lead, HeedLeads.answers_all_heed, HeedLeads.untaken_heeds}
+use Rattle.tsp_promises.specs.{PortFits.PortFits, PortFits.setup_in, StepFacts.StepEnds, Alone.IsNew, Alone.makes_alone, Alone.steps_alone}
+use Rattle.tsp_promises.proofs.{GateLeads.answers_all_lead, Known.Ended, Known.Fresh, Elsewheres.fresh_family, HeedLeads.untaken_heeds}
+use Rattle.tsp_promises.proofs.{GateSteps.AllPorts, GateSteps.LeadsAll, GateSteps.placed_all, PortLists.Ranged, PortLists.ranged_from}
+use Rattle.tsp_promises.proofs.RunLeads.{ends_of, begins_fresh, Booting, booted, quiets, boot_rests, nothing-done, row_leads}
+use Rattle.tsp_promises.specs.Runs.{ran, row_of}
+use Rattle.tsp_promises.proofs.AloneLemmas.{Same, alone, same_answers, same_boots}
+
+-- the runs of a node with one port are those of that port
+
+-- a step's row
+same-row : (m : NodeMakes) → IsGivenOn 1 m → Same Fresh (node_row_of m) (row_of (makes_alone m))
+same-row NodeBoots here = record { run = λ x past s one c. same_boots.run x past s one tt }
+same-row (NodeAnswers g) here = same_answers g here
+
+-- a node keeps its ports
+pub ports-ran : (hs : List NodeHappening) (past : NodePast) → (node_ran hs past).ports ≡ past.ports
+ports-ran [] past = refl
+ports-ran (h ∷ before) past = ports-ran before past
+
+own-is : (past : NodePast) (s : PortSetup) → past.ports ≡ s ∷ [] → (alone past).own.0 ≡ s.own.0
+own-is past s one = ap (λ (ps : List PortSetup). (slice_index_or ps 0 no_port).own.0) one
+
+-- the port begins its step
+begins-alone : (past : NodePast) (s : PortSetup) (last x : ℕ) (step : Step) → past.ports ≡ s ∷ [] → last ≤ x → step.node ≡ s.own.0 → Ended last (alone past) → Fresh x (alone (in_node_step step x past))
+begins-alone past s last x step one later node rests = begins_fresh step last x (alone past) later (own-is past s one ∙ sym node) rests
+
+-- after a step, the port has put what its row has
+alone-grown : (m : NodeMakes) (x : ℕ) (past : NodePast) (s : PortSetup) → IsGivenOn 1 m → past.ports ≡ s ∷ [] → Fresh x (alone past) → alone (spread x past (node_row_of m x past)) ≡ grown x (alone past) (row_of (makes_alone m) x (alone past))
+alone-grown m x past s here one fresh = ap (λ ps. alone (spread x past ps)) ((same-row m here).run x past s one fresh) ∙ on_own first_port x past (row_of (makes_alone m) x (alone past))
+
+-- the port owes nothing between the steps
+ended-alone : (past : NodePast) (s : PortSetup) (hs : List NodeHappening) → IsNew past s → NodeOrdered s.own.0 1 hs → Ended (node_tick hs) (alone (node_ran hs past))
+ended-alone past s [] new o = subst (λ ls. Ended 0 (record (alone past) { seen = view first_port ls })) (sym new.lines) (nothing-done 0 (alone past))
+ended-alone past s (h ∷ before) new o =
+    let done = node_ran before past in
+    let one : done.ports ≡ s ∷ [] = ports-ran before past ∙ new.ports in
+    let fresh = begins-alone done s (node_tick before) h.tick h.step one o.0 o.1 (ended-alone past s before new o.3) in
+    subst (λ z. Ended h.tick z) (sym (alone-grown h.makes h.tick (in_node_step h.step h.tick done) s o.2 one fresh))
+    ((row_leads (makes_alone h.makes)).run h.tick (alone (in_node_step h.step h.tick done)) fresh)
+
+pub fresh_alone : (past : NodePast) (s : PortSetup) (hs : List NodeHappening) (step : Step) (x : ℕ) (m : NodeMakes) → IsNew past s → NodeOrdered s.own.0 1 (record { step = step; tick = x; makes = m } ∷ hs) →
+    Fresh x (alone (in_node_step step x (node_ran hs past))) × ((node_ran hs past).ports ≡ s ∷ [])
+fresh_alone past s hs step x m new o =
+    let one : (node_ran hs past).ports ≡ s ∷ [] = ports-ran hs past ∙ new.ports in (
+      begins-alone (node_ran hs past) s (node_tick hs) x step one o.0 o.1 (ended-alone past s hs new o.3),
+      one,
+    )
+
+pub runs_alike : (past : NodePast) (s : PortSetup) (hs : List NodeHappening) → IsNew past s → NodeOrdered s.own.0 1 hs → alone (node_ran hs past) ≡ ran (steps_alone hs) (alone past)
+runs_alike past s [] new o = refl
+runs_alike past s (h ∷ before) new o =
+    let done = node_ran before past in
+    let known = fresh_alone past s before h.step h.tick h.makes new o in
+    alone-grown h.makes h.tick (in_node_step h.step h.tick done) s o.2 known.1 known.0
+    ∙ ap (λ (p : Past). grown h.tick (in_step h.step h.tick p) (row_of (makes_alone h.makes) h.tick (in_step h.step h.tick p))) (runs_alike past s before new o.3)
 
 -- a mark is seen by each port
 on-mark : (q : Port) (step : Step) (x : ℕ) (past : NodePast) → on_port q (in_node_step step x past) ≡ in_step step x (on_port q past)
@@ -21,62 +70,6 @@ on-mark q step x past = ap (λ b. record (on_port q past) { step = step; seen = 
 -- so is a boot
 on-boot : (q : Port) (x : ℕ) (past : NodePast) → on_port q (spread x past (placed first_port (Boot ∷ []))) ≡ grown x (on_port q past) (Boot ∷ [])
 on-boot q x past = ap (λ b. record (on_port q past) { seen = seen_as b (line_of past.step x first_port (Acts Boot)).did ∷ view q past.lines }) (or_right (first_port.0 == q.0) true refl)
-
--- a port whose node boots now
-record Booting (x : ℕ) (past : Past) : Type 0 where
-  pub fresh : Fresh x past
-  pub starts : role past.seen ≡ Starting
-  pub boot_is : boot_tick (plain past.seen) ≡ x
-
-booted : (x : ℕ) (past : Past) → Fresh x past → Booting x (grown x past (Boot ∷ []))
-booted x past h = record {
-  fresh = record {
-    own = h.own;
-    fits = (tt, h.fits);
-    knows = record {
-      times = record { boot_le = omega arith; last_le = omega arith; boot_is = refl; start_le = λ start idle e. nil-cons (Here start) idle e; next = λ at e. none-some at e };
-      quiet = record { rested = inl (record { starts = refl; unsearched = refl; unelected = refl; unresolved = refl; unsent = λ p. refl }); silent = λ at e. none-some at e };
-      vote = record { stands = λ e. let bad : ⊥ = cc in absurd bad; windows = λ at e. none-some at e; votes = λ p e. absurd (true≢false (sym e)) };
-      round = record { rounds = λ at e. none-some at e; probing = λ at e. none-some at e; closes = λ calm at e. none-some at e; exchanges = λ p i s older e. nil-cons s older e };
-    };
-    rested = λ e. absurd (true≢false (sym e));
-    backs = h.backs;
-    owed = h.owed;
-    paid = h.paid;
-    acting_is = h.acting_is;
-    took = h.took;
-  };
-  starts = refl;
-  boot_is = refl;
-}
-
-quiets : (x : ℕ) (past : Past) → Booting x past → Booting x (grown x past (Become Starting ∷ Arm Quiet (x + QUIET) ∷ []))
-quiets x past b =
-    let h = b.fresh in
-    let boot = b.boot_is in
-    record {
-      fresh = record {
-        own = h.own;
-        fits = (tt, (tt, h.fits));
-        knows = record {
-          times = record { boot_le = h.knows.times.boot_le; last_le = h.knows.times.last_le; boot_is = h.knows.times.boot_is; start_le = h.knows.times.start_le; next = λ at e. none-some at e };
-          quiet = record {
-            rested = inl (record { starts = refl; unsearched = refl; unelected = refl; unresolved = refl; unsent = λ p. refl });
-            silent = λ at e. (refl, let is = some-same (x + QUIET) at e in omega (arith, is, boot));
-          };
-          vote = record { stands = λ e. let bad : ⊥ = cc in absurd bad; windows = λ at e. none-some at e; votes = λ p e. absurd (true≢false (sym e)) };
-          round = record { rounds = λ at e. none-some at e; probing = λ at e. none-some at e; closes = λ calm at e. none-some at e; exchanges = λ p i s older e. nil-cons s older e };
-        };
-        rested = λ e. absurd (true≢false (sym e));
-        backs = h.backs;
-        owed = h.owed;
-        paid = h.paid;
-        acting_is = h.acting_is;
-        took = h.took;
-      };
-      starts = refl;
-      boot_is = b.boot_is;
-    }
 
 quiets-aside : (x : ℕ) (past : Past) → Booting x past → Booting x (all_aside x past (Become Starting ∷ Arm Quiet (x + QUIET) ∷ []))
 quiets-aside x past b = record {
@@ -97,11 +90,8 @@ boots-list (q ∷ rest) x past ranged all =
     let first = boots_on q x past in
     subst (λ z. AllPorts (λ r. Booting) x z) (sym (spread_append x past first (for_ports boots_on rest x (spread x past first)))) (boots-list rest x (spread x past first) ranged.1 (boots-one q x past ranged.0 all))
 
-boot-rests : (x : ℕ) (past : Past) → Booting x past → Rests x past
-boot-rests x past b = let h = b.fresh in record { fits = h.fits; knows = h.knows; backs = h.backs; follows = λ p e. none-among p h.owed e; paid = h.paid }
-
 boot-ends : (x : ℕ) (past : Past) → Booting x past → Ended x past
-boot-ends x past b = (boot-rests x past b, untaken_heeds past.peers past.seen b.fresh.took.0)
+boot-ends x past b = (boot_rests x past b, untaken_heeds past.peers past.seen b.fresh.took.0)
 
 -- a boot keeps what is known of each port
 pub boots_all_lead : LeadsAll (AllPorts (λ r. Fresh)) boots_all (AllPorts (λ r. Ended))
@@ -120,15 +110,11 @@ boots_all_lead = record {
 pub begins_all : (step : Step) (x y : ℕ) (past : NodePast) → x ≤ y → ((q : Port) → q.0 < length past.ports → (port_setup q past).own.0 ≡ step.node) → AllPorts (λ r. Ended) x past → AllPorts (λ r. Fresh) y (in_node_step step y past)
 begins_all step x y past later own all q has = subst (λ z. Fresh y z) (sym (on-mark q step y past)) (begins_fresh step x y (on_port q past) later (own q has) (all q has))
 
--- so does a step that answers
-pub answers_all_end : (g : NodeGiven) → LeadsAll (λ x past. GivenOn g past × AllPorts (λ r. Fresh) x past) (answers_all g) (AllPorts (λ r. Ended))
-answers_all_end g = record { run = λ x past h r has. ((answers_all_lead g).run x past h r has, (answers_all_heed g).run x past h r has) }
-
 given-on : (m : NodeMakes) (x y : ℕ) (step : Step) (past : NodePast) → x ≤ y → ((q : Port) → q.0 < length past.ports → (port_setup q past).own.0 ≡ step.node) → IsGivenOn (length past.ports) m → AllPorts (λ r. Ended) x past →
     AllPorts (λ r. Ended) y (spread y (in_node_step step y past) (node_row_of m y (in_node_step step y past)))
 given-on NodeBoots x y step past later own given all = boots_all_lead.run y (in_node_step step y past) (begins_all step x y past later own all)
-given-on (NodeAnswers NodeTurn) x y step past later own given all = (answers_all_end NodeTurn).run y (in_node_step step y past) (tt, begins_all step x y past later own all)
-given-on (NodeAnswers (GotOn q from t)) x y step past later own given all = (answers_all_end (GotOn q from t)).run y (in_node_step step y past) (given, begins_all step x y past later own all)
+given-on (NodeAnswers NodeTurn) x y step past later own given all = (answers_all_lead NodeTurn).run y (in_node_step step y past) (tt, begins_all step x y past later own all)
+given-on (NodeAnswers (GotOn q from t)) x y step past later own given all = (answers_all_lead (GotOn q from t)).run y (in_node_step step y past) (given, begins_all step x y past later own all)
 
 setup-ran : (hs : List NodeHappening) (past : NodePast) (q : Port) → setup_in (on_port q (node_ran hs past)) ≡ setup_in (on_port q past)
 setup-ran [] past q = refl

@@ -1,12 +1,11 @@
 -- What a line owes to its own port's past.
 use Rattle.std.proofs.Common.{subst, eqb-true, ◌≡◌, ◌==◌, ◌≤◌, ◌||◌, ℕ, Bool, true, false, if◌then◌else◌, List, [], ◌∷◌, refl}
 use Rattle.std.proofs.Math.Bool.{or-true}
-use Rattle.tsp_promises.specs.{DeedFits.DeedFits, OwnFits.OwnFits, PortFits.PortFits, Setting.Setting, Setting.setup_of}
-use Rattle.tsp_promises.specs.Fits.{Fits, LineFits, Sees, node_of}
+use Rattle.tsp_promises.specs.{DeedFits.DeedFits, Setting.Setting, Setting.setup_of, Fits.Fits, Fits.LineFits, Fits.Sees, Fits.node_of}
+use Rattle.tsp_promises.{specs.OwnFits.OwnFits, specs.PortFits.PortFits, proofs.HistoryPlaces.of-own, proofs.OwnFitsProof.own_fits}
 use Rattle.tsp_rules.specs.Values.{Port}
 use Rattle.tsp_base.specs.Words.{Deed, Begins, Line, of, dids, view, is_shared, seen_as, tick_of}
 use Rattle.tsp_base.proofs.ViewPlaces.{sees-own}
-use Rattle.tsp_promises.proofs.{HistoryPlaces.of-own, OwnFitsProof.own_fits}
 
 -- by what the deed is
 pub deed_fits : (setting : Setting) (l : Line) (world : List Line) (deed : Deed) → l.did.deed ≡ deed → LineFits setting l world → DeedFits (setup_of setting (node_of l) l.port) deed l.did (view l.port (of (node_of l) world))

@@ -1,12 +1,40 @@
 -- What posts make of what is known of a port.
-use Rattle.std.proofs.Common.{sym, subst, inl, inr, ap, ◌∙◌, true≢false, ◌≡◌, ◌≤◌, ℕ, ◌+◌, ◌%◌, ◌^◌, ◌==◌, ◌&&◌, Bool, true, false, if◌then◌else◌, cond, List, [], ◌∷◌, Option, Some, refl}
+use Rattle.std.proofs.Common.{sym, subst, inl, inr, ap, ◌∙◌, true≢false, ◌≡◌, ◌≤◌, ℕ, ◌+◌, ◌%◌, ◌^◌, ◌==◌, ◌&&◌, Bool, true, false, if◌then◌else◌, cond, List, [], ◌∷◌, Option, Some, refl, ℤ, map}
 use Rattle.std.proofs.lemmas.Bool.{and_parts}
-use Rattle.tsp_rules.specs.Values.{Post, Message, Stamp, Ack, PeerId, Place, Peer, Stranger, Request, Reply, QUIET}
-use Rattle.tsp_base.specs.Words.{Acts, Did, Seen, Here, Past, plain, MessageValue, all_corrects, boot_tick, lives, word, is_among, Received, armed, acting, backers, asked, exchange, word_asked, grown, bare, is_numbered, message_at, open_to, ReplyValue}
-use Rattle.tsp_promises.specs.{DeedFits.PostFits, DeedFits.MessageFits, DeedFits.AskedEarly, PortFits.setup_in, StepFacts.acked_by}
-use Rattle.tsp_promises.proofs.Known.{Asked, asks_vote, During, KnowsOf}
-use Rattle.tsp_promises.proofs.Leaves.{then_seen, made}
+use Rattle.tsp_rules.specs.Values.{Post, Message, Stamp, Ack, PeerId, Place, Peer, Stranger, Request, Reply, QUIET, Arm, Alarm, Kind}
 use Rattle.tsp_rules.{proofs.Asides.now, specs.SendRows.is_kind_election}
+use Rattle.tsp_base.specs.Words.{Acts, Did, Seen, Here, Past, plain, MessageValue, all_corrects, boot_tick, lives, word, is_among, Received, armed, acting, backers, asked, exchange, word_asked, grown, bare, is_numbered, message_at, open_to, ReplyValue, Leads, arms, timed, post_of, posts, posts_to_others, posts_back, posts_time, others}
+use Rattle.tsp_promises.specs.{DeedFits.PostFits, DeedFits.MessageFits, DeedFits.AskedEarly, PortFits.setup_in, StepFacts.acked_by}
+use Rattle.tsp_promises.proofs.{Known.Asked, Known.asks_vote, Known.During, Known.KnowsOf, Leaves.then_seen, Leaves.made}
+
+-- rows of one act, and of one act for each peer, lead where the act leads
+
+module _ {P Q : ℕ → Past → Type 0} where
+  pub Leads_arms : (alarm : Alarm) (long : ℕ) → ((x : ℕ) (past : Past) → P x past → Q x (grown x past (Arm alarm (x + long) ∷ []))) → Leads P (arms alarm long) Q
+  unfolding arms
+  Leads_arms alarm long k = record { run = k }
+
+  pub Leads_posts : (p : PeerId) (kind : Kind) (number : ℕ) → ((x : ℕ) (past : Past) → P x past → Q x (grown x past (post_of kind number past.name p ∷ []))) → Leads P (posts p kind number) Q
+  unfolding posts
+  Leads_posts p kind number k = record { run = k }
+
+  pub Leads_posts_back : (from : Place) (kind : Kind) (number : ℕ) → ((x : ℕ) (past : Past) → P x past → Q x (grown x past (Post from (Message (bare kind number past.name)) ∷ []))) → Leads P (posts_back from kind number) Q
+  unfolding posts_back
+  Leads_posts_back from kind number k = record { run = k }
+
+  pub Leads_posts_time : (p : PeerId) (kind : Kind) (number : ℕ) (time : ℤ) → ((x : ℕ) (past : Past) → P x past → Q x (grown x past (Post (Peer p) (Message (timed kind number time past.name)) ∷ []))) → Leads P (posts_time p kind number time) Q
+  unfolding posts_time
+  Leads_posts_time p kind number time k = record { run = k }
+
+kept_posts : (P : ℕ → Past → Type 0) (kind : Kind) (number : ℕ) → ((x : ℕ) (past : Past) (p : PeerId) → P x past → P x (grown x past (post_of kind number past.name p ∷ []))) →
+    (ps : List PeerId) (x : ℕ) (past : Past) → P x past → P x (grown x past (map (post_of kind number past.name) ps))
+kept_posts P kind number k [] x past h = h
+kept_posts P kind number k (p ∷ ps) x past h = kept_posts P kind number k ps x (grown x past (post_of kind number past.name p ∷ [])) (k x past p h)
+
+-- a bare message to each other peer
+pub Leads_others : {P : ℕ → Past → Type 0} (kind : Kind) (number : ℕ) → ((x : ℕ) (past : Past) (p : PeerId) → P x past → P x (grown x past (post_of kind number past.name p ∷ []))) → Leads P (posts_to_others kind number) P
+unfolding posts_to_others
+Leads_others {P = P} kind number k = record { run = λ x past h. kept_posts P kind number k (others past.own past.peers) x past h }
 
 -- a vote that is asked for after a post: by this message, which begins a send, or before
 post-vote : (p q : PeerId) (m : MessageValue) (d : Did) (before : List Seen) (bs : List PeerId) → d.deed ≡ Acts (Post (Peer p) (Message m)) → (is_kind_election m.kind ≡ true → acting before ≡ true → is_among q bs ≡ false) →

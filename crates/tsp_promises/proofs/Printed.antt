@@ -1,11 +1,22 @@
 -- What a Correct prints is what the clock shows right after it.
-use Rattle.std.proofs.Common.{sym, ap, arith, subst, ◌∙◌, ◌≡◌, ℕ, ◌-◌, ◌/◌, ℤ, pos, ◌+ℤ◌, ◌-ℤ◌, nat_lt, nat_abs, Bool, true, false, ◌||◌, if◌then◌else◌, List, ◌∷◌, Some, refl}
+use Rattle.std.proofs.Common.{sym, ap, arith, subst, ◌∙◌, ◌≡◌, ℕ, ◌-◌, ◌/◌, ℤ, pos, ◌+ℤ◌, ◌-ℤ◌, nat_lt, nat_abs, Bool, true, false, ◌||◌, if◌then◌else◌, List, ◌∷◌, Some, refl, neg_ℤ, ◌<ℤ◌}
 use Rattle.std.proofs.lemmas.Int.{ints}
-use Rattle.tsp_rules.specs.Values.{Took, Correct, Message, Good, Kind, SetTime, Place, MAXADJ, SLEW}
-use Rattle.tsp_base.specs.Words.{Acts, Did, Here, Past, Seen, Step, plain, MessageValue, base, eased, moved, rest, rest_at, shown, target, taken_after, sets_date, heard}
+use Rattle.tsp_rules.specs.Values.{Took, Correct, Message, Good, Kind, SetTime, Place, MAXADJ, SLEW, LIMIT}
+use Rattle.tsp_rules.proofs.Asides.{now}
+use Rattle.tsp_rules.{specs.Guards.target_at, specs.Guards.is_in_range, proofs.GuardFacts.clock_low, proofs.GuardFacts.clock_high}
+use Rattle.tsp_base.specs.Words.{Acts, Did, Here, Past, Seen, Step, plain, MessageValue, base, eased, moved, rest, rest_at, shown, target, taken_after, sets_date, heard, time_in}
 use Rattle.tsp_base.proofs.TickLemmas.{eased_none}
-use Rattle.tsp_promises.specs.CorrectFits.{is_stepped, sets_time}
-use Rattle.tsp_rules.{proofs.Asides.now, specs.Guards.target_at}
+use Rattle.tsp_promises.specs.{CorrectFits.is_stepped, CorrectFits.sets_time, CorrectionFits.SetsTarget}
+
+-- what a SETTIME carries that a master sends a slave
+
+-- a SETTIME carries the target, which is in a clock's range
+pub sets_target : (x : ℕ) (past : Past) (d : Did) (m : MessageValue) → d.tick ≡ x → time_in m.body ≡ target_at x past → is_in_range x past ≡ true → SetsTarget d past.seen m
+sets_target x past d m tick time e = record {
+  time = time ∙ ap (λ y. target (plain past.seen) y) (sym tick);
+  low = subst (λ y. neg_ℤ LIMIT <ℤ target (plain past.seen) y) (sym tick) (clock_low (target_at x past) e);
+  high = subst (λ y. target (plain past.seen) y <ℤ LIMIT) (sym tick) (clock_high (target_at x past) e);
+}
 
 -- nothing is slewed in no time
 eased-now : (r : ℤ) (x : ℕ) → eased r ((x - x) / SLEW) ≡ r

@@ -1,22 +1,113 @@
 -- What a port does with a message of a peer keeps what is known of it, in each role.
-use Rattle.std.proofs.Common.{sym, subst, inl, true≢false, ◌∙◌, ◌≡◌, ◌≢◌, ℕ, ◌+◌, ◌==◌, ◌||◌, ℤ, Bool, true, false, [], ◌∷◌, Option, refl}
+use Rattle.std.proofs.Common.{sym, subst, inl, true≢false, ◌∙◌, ◌≡◌, ◌≢◌, ℕ, ◌+◌, ◌==◌, ◌||◌, ℤ, Bool, true, false, [], ◌∷◌, Option, refl, ap, eqb-true, eq-eqb, List, None, Some}
 use Rattle.std.proofs.lemmas.Bool.{and_parts}
-use Rattle.tsp_rules.specs.Values.{Post, Join, Rival, ResolveAlarm, Message, Good, Kind, Accept, Ack, AdjTime, Conflict, Election, MasterAck, MasterReq, MasterUp, QuitKind, Refuse, ResolveKind, SetTime, SlaveUp, PeerId, Peer, Role, Candidate, Master, WINDOW}
-use Rattle.tsp_base.specs.Words.{Past, Leads, MessageValue, is_among, Received, role, nothing, puts, ◌followed_by◌, either_by, reading, arms, bare, timed, posts, posts_to_others, posts_time, time_in}
-use Rattle.tsp_promises.specs.{AckFits.Answers, CorrectionFits.CorrectionFits, CorrectionFits.SetsTarget}
-use Rattle.tsp_base.proofs.LeadsLemmas.{Leads_then, Leads_either, Leads_reading, Leads_nothing, Leads_puts, Leads_from, Leads_to}
-use Rattle.tsp_rules.specs.MasterRows.{may_join, joins, sends_away, master_takes_kind}
-use Rattle.tsp_rules.specs.ResolveRows.{resolves, is_new_rival, finds_rival}
-use Rattle.tsp_rules.specs.SendRows.{begins, acknowledges, may_correct, may_set, begins_settime, has_quit}
-use Rattle.tsp_rules.specs.SlaveRows.{masterup_in, masterack_in, from_master, adjtime_of, settime_of, slave_takes_kind}
-use Rattle.tsp_rules.specs.Guards.{role_at, is_armed, is_in_range, target_at}
-use Rattle.tsp_promises.proofs.Leaves.{none-among, join, rival, arm_resolve}
-use Rattle.tsp_rules.{proofs.Asides.now, proofs.GuardFacts.same_peer, specs.CandidateRows.candidate_takes_kind, specs.CommonRows.quits}
-use Rattle.tsp_promises.proofs.LeadsLeaves.{Leads_arms, Leads_posts, Leads_others, Leads_posts_time}
-use Rattle.tsp_promises.proofs.{TargetFacts.sets_target, VoteLeads.accepted_lead, VoteLeads.refused_lead}
-use Rattle.tsp_promises.proofs.{CommonLeads.begins_quit, CorrectionLeads.may_fits, Known.Free, Known.Rests, PostLeaves.post_message}
-use Rattle.tsp_promises.proofs.TakenLeads.{Says, Heard, HeardIn, rests_of, ack_fits, acknowledges_lead, quits_lead}
+use Rattle.tsp_promises.proofs.{Changes.FreeIn, Changes.become_loose, Known.Free, Known.Rests, Known.asks_vote, Printed.sets_target}
+use Rattle.tsp_promises.proofs.PostLeaves.{post_message, Leads_arms, Leads_posts, Leads_others, Leads_posts_time}
+use Rattle.tsp_promises.specs.{AckFits.Answers, HoldFits.BackerFits}
+use Rattle.tsp_promises.proofs.{CorrectionLeads.open_is, CorrectionLeads.may_fits, CommonLeads.begins_quit, CommonLeads.arms_elect_during}
+use Rattle.tsp_promises.specs.{CorrectionFits.CorrectionFits, CorrectionFits.SetsTarget, PortFits.PortFits, PortFits.setup_in}
+use Rattle.tsp_promises.proofs.Leaves.{none-among, join, rival, arm_resolve, acked, backer}
+use Rattle.tsp_promises.proofs.TakenLeads.{Says, Heard, HeardIn, rests_of, ack_fits, acknowledges_lead, quits_lead, election_acked}
 use Rattle.tsp_promises.proofs.SlaveLeads.{follow_heard, idle_heard, masterup_leads, masterack_leads, election_leads, adjtime_leads, settime_leads, from_master_leads}
+use Rattle.tsp_rules.specs.Values.{Post, Join, Rival, ResolveAlarm, Message, Good, Kind, Accept, Ack, AdjTime, Conflict, Election, MasterAck, MasterReq, MasterUp, QuitKind, Refuse, ResolveKind, SetTime, SlaveUp, PeerId, Peer, Role, Candidate, Master, WINDOW, Become, Backer, Acked, Loose}
+use Rattle.tsp_rules.specs.MasterRows.{may_join, joins, sends_away, master_takes_kind}
+use Rattle.tsp_rules.{specs.ResolveRows.resolves, specs.ResolveRows.is_new_rival, specs.ResolveRows.finds_rival, proofs.Asides.now}
+use Rattle.tsp_rules.specs.SendRows.{begins, acknowledges, may_correct, may_set, begins_settime, has_quit, has_election, answers_election, is_kind_election}
+use Rattle.tsp_rules.specs.SlaveRows.{masterup_in, masterack_in, from_master, adjtime_of, settime_of, slave_takes_kind}
+use Rattle.tsp_rules.specs.{Guards.role_at, Guards.is_armed, Guards.is_in_range, Guards.target_at, CommonRows.quits, CommonRows.arms_elect}
+use Rattle.tsp_rules.proofs.GuardFacts.{same_peer}
+use Rattle.tsp_rules.specs.CandidateRows.{candidate_takes_kind, yields, accepted_by, refused_by}
+use Rattle.tsp_base.specs.Words.{Past, Leads, MessageValue, is_among, nothing, puts, ◌followed_by◌, either_by, reading, arms, bare, timed, posts, posts_to_others, posts_time, time_in, Acts, Did, Seen, Here, grown, Sending, open_send, open_to, message_at, Setup}
+use Rattle.tsp_base.proofs.LeadsLemmas.{Leads_then, Leads_either, Leads_reading, Leads_nothing, Leads_puts, Leads_from, Leads_to}
+
+-- the answers to a candidate's votes keep what is known of a port
+
+-- the ELECTION that is open to p under this number
+record VoteAsked (p : PeerId) (number : ℕ) (seen : List Seen) : Type 0 where
+  pub first : Did
+  pub older : List Seen
+  pub is : open_to p seen ≡ Here first ∷ older
+  pub message : MessageValue
+  pub deed : first.deed ≡ Acts (Post (Peer p) (Message message))
+  pub kind : message.kind ≡ Election
+  pub number_is : message.number ≡ number
+
+election-is : (k : Kind) → is_kind_election k ≡ true → k ≡ Election
+election-is Election e = refl
+election-is _ e = absurd (true≢false (sym e))
+
+vote-open : (setup : Setup) (p : PeerId) (number : ℕ) (seen : List Seen) → PortFits setup seen → (o : Option Sending) → open_send p seen ≡ o → answers_election number o ≡ true → VoteAsked p number seen
+vote-open setup p number seen f None is e = absurd (true≢false (sym e))
+vote-open setup p number seen f (Some s) is e =
+    let o = open_is setup p seen s f is in
+    let both = and_parts (is_kind_election s.message.kind) (s.message.number == number) e in
+    let m = o.message_is in
+    record {
+      first = o.began.first;
+      older = o.began.older;
+      is = o.began.is;
+      message = o.began.message;
+      deed = o.began.deed;
+      kind = ap (λ (t : MessageValue). t.kind) (sym m) ∙ election-is s.message.kind both.0;
+      number_is = ap (λ (t : MessageValue). t.number) (sym m) ∙ eqb-true s.message.number number both.1;
+    }
+
+vote_asked : (p : PeerId) (number x : ℕ) (past : Past) → PortFits (setup_in past) past.seen → has_election p number x past ≡ true → VoteAsked p number past.seen
+vote_asked p number x past f e = vote-open (setup_in past) p number past.seen f (open_send p past.seen) refl e
+
+-- a candidate whose vote was answered
+record Answered (p : PeerId) (m : MessageValue) (x : ℕ) (past : Past) : Type 0 where
+  pub free : Free (Says p m) x past
+  pub ended : open_to p past.seen ≡ []
+  pub fits : BackerFits (setup_in past) (now x past (Backer p)) past.seen p
+
+module _ {p : PeerId} {m : MessageValue} where
+  answered : (x : ℕ) (past : Past) → m.kind ≡ Accept → Heard p (Good (Message m)) x past → has_election p m.number x past ≡ true → Answered p m x (grown x past (Acked p ∷ []))
+  answered x past k h e =
+      let v = vote_asked p m.number x past h.just.free.fits e in
+      let asks : asks_vote (message_at (open_to p past.seen)) ≡ true = ap (λ place. asks_vote (message_at place)) v.is ∙ ap (λ d. asks_vote (message_at (Here (record v.first { deed = d }) ∷ v.older))) v.deed ∙ ap is_kind_election v.kind in
+      let same : (p.0 == p.0) ≡ true = eq-eqb p.0 p.0 refl in
+      record {
+        free = acked p (election_acked p m.number x past e) h.just.free;
+        ended = rw same refl;
+        fits = record {
+          peer = h.peer;
+          other = h.other;
+          new = h.just.free.knows.vote.votes p asks;
+          answer = m;
+          took = h.just.free.took;
+          kind = k;
+          acked = now x past (Acked p);
+          past = past.seen;
+          is = refl;
+          deed = refl;
+          first = v.first;
+          older = v.older;
+          ends = v.is;
+          message = v.message;
+          asks = v.deed;
+          election = v.kind;
+          number = v.number_is;
+        };
+      }
+
+  pub accepted_lead : m.kind ≡ Accept → Leads (Heard p (Good (Message m))) (accepted_by p m.number) Rests
+  unfolding accepted_by
+  accepted_lead k = Leads_either (has_election p m.number) (puts (Acked p) followed_by puts (Backer p)) nothing
+      (Leads_then {Q = Answered p m} (puts (Acked p)) (puts (Backer p))
+      (Leads_puts (Acked p) (λ x past h. answered x past k h.0 h.1))
+      (Leads_puts (Backer p) (λ x past h. rests_of (backer p h.fits h.ended h.free))))
+      (idle_heard (λ x past h. h.0))
+
+  pub refused_lead : Leads (HeardIn p m Candidate) (refused_by p m.number) Rests
+  unfolding refused_by yields
+  refused_lead = Leads_either (has_election p m.number) (puts (Acked p) followed_by (puts (Become Loose) followed_by arms_elect)) nothing
+      (Leads_then {Q = FreeIn [] (Says p m) Candidate} (puts (Acked p)) (puts (Become Loose) followed_by arms_elect)
+      (Leads_puts (Acked p) (λ x past h. record { free = acked p (election_acked p m.number x past h.1) h.0.0.just.free; role_is = h.0.1 }))
+      (Leads_then {Q = Free (Says p m)} (puts (Become Loose)) arms_elect
+      (Leads_puts (Become Loose) (λ x past h. become_loose (λ e. let r = h.role_is in let bad : ⊥ = cc in absurd bad) h.free))
+      (Leads_to (λ x past h. rests_of h) arms_elect_during)))
+      (idle_heard (λ x past h. h.0.0))
 
 -- a peer among one is that one
 one-among : {p : PeerId} (q : PeerId) → is_among q (p ∷ []) ≡ true → q ≡ p
@@ -53,16 +144,11 @@ module _ {p : PeerId} {m : MessageValue} where
   candidate_leads Ack e = acknowledged e
   candidate_leads _ e = idle_heard (λ x past h. h.0)
 
--- a master that took a message
-record Leading (T : Option Received → Option Received → Type 0) (x : ℕ) (past : Past) : Type 0 where
-  pub free : Free T x past
-  pub leads : role past.seen ≡ Master
-
 module _ {p : PeerId} {m : MessageValue} where
-  answers_slave : (x : ℕ) (past : Past) (t : ℤ) → m.kind ≡ SlaveUp → may_correct p m.number x past ≡ true → SetsTarget (now x past (Post (Peer p) (Message (timed SetTime m.number t past.name)))) past.seen (timed SetTime m.number t past.name) → Leading (Says p m) x past →
+  answers_slave : (x : ℕ) (past : Past) (t : ℤ) → m.kind ≡ SlaveUp → may_correct p m.number x past ≡ true → SetsTarget (now x past (Post (Peer p) (Message (timed SetTime m.number t past.name)))) past.seen (timed SetTime m.number t past.name) → FreeIn [] (Says p m) Master x past →
       CorrectionFits (now x past (Post (Peer p) (Message (timed SetTime m.number t past.name)))) past.seen p (timed SetTime m.number t past.name)
   answers_slave x past t k may sets h = record {
-    leads = h.leads;
+    leads = h.role_is;
     begins = λ acts. record {
       rested = h.free.rested refl;
       from = inl (record { sets = refl; message = m; took = h.free.took; kind = k; number = refl });
@@ -75,8 +161,8 @@ module _ {p : PeerId} {m : MessageValue} where
   pub joins_lead : m.kind ≡ SlaveUp → Leads (HeardIn p m Master) (joins p m.number) Rests
   unfolding joins begins_settime
   joins_lead k = Leads_either (may_join p m.number) (puts (Join p) followed_by either_by (may_set p m.number) (reading target_at (posts_time p SetTime m.number)) nothing) nothing
-      (Leads_then {Q = Leading (Says p m)} (puts (Join p)) (either_by (may_set p m.number) (reading target_at (posts_time p SetTime m.number)) nothing)
-      (Leads_puts (Join p) (λ x past h. record { free = join p h.0.0.just.free; leads = h.0.1 }))
+      (Leads_then {Q = FreeIn [] (Says p m) Master} (puts (Join p)) (either_by (may_set p m.number) (reading target_at (posts_time p SetTime m.number)) nothing)
+      (Leads_puts (Join p) (λ x past h. record { free = join p h.0.0.just.free; role_is = h.0.1 }))
       (Leads_either (may_set p m.number) (reading target_at (posts_time p SetTime m.number)) nothing
       (Leads_reading target_at (posts_time p SetTime m.number) (λ t. Leads_posts_time p SetTime m.number t (λ x past h.
       let may = and_parts (may_correct p m.number x past) (is_in_range x past) h.0.1 in

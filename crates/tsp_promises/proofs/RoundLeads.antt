@@ -1,40 +1,104 @@
 -- A round's beginning and its probes keep what is known of a port.
-use Rattle.std.proofs.Common.{sym, subst, arith, ◌∙◌, leb-false, ltb-true, ◌≡◌, ◌≤◌, ◌<◌, ℕ, ◌+◌, ◌*◌, Bool, true, false, List, [], ◌∷◌, None, Some, refl}
-use Rattle.tsp_rules.specs.Values.{Arm, Ring, Late, Abandon, Alarm, Round, Probe, CloseAlarm, MasterUp, PeerId, Master, CLOSE, PROBE, QUIET, ROUND, WAIT}
-use Rattle.tsp_base.specs.Words.{Did, Seen, Here, Past, plain, Leads, boot_tick, role, armed, probes, started, Row, grown, nothing, puts, ◌followed_by◌, for_each, arms, bare, posts_to_others}
-use Rattle.tsp_base.proofs.LeadsLemmas.{Leads_then, Leads_either, Leads_reading, Leads_nothing, Leads_puts, Leads_each, Leads_from, Leads_to}
-use Rattle.tsp_rules.specs.{Answers.alarm_rings, Answers.rings, Guards.is_in_time, Guards.is_over, Guards.table_at}
+use Rattle.std.proofs.Common.{sym, subst, arith, ◌∙◌, leb-false, ltb-true, ◌≡◌, ◌≤◌, ◌<◌, ℕ, ◌+◌, ◌*◌, Bool, true, false, List, [], ◌∷◌, None, Some, refl, ap, true≢false, nat_lt, not, ◌||◌, length}
+use Rattle.tsp_rules.specs.Values.{Arm, Ring, Late, Abandon, Alarm, Round, Probe, CloseAlarm, MasterUp, PeerId, Master, CLOSE, PROBE, QUIET, ROUND, WAIT, Become, Window, Loose, Candidate}
+use Rattle.tsp_rules.specs.{Answers.alarm_rings, Answers.rings, Guards.is_in_time, Guards.is_over, Guards.table_at, CommonRows.arms_elect}
 use Rattle.tsp_rules.specs.RoundRows.{asks, asks_slaves, round_begins, begins_or_waits, round_rings, measured_at, asks_measured, has_more, arms_next, abandons, probe_rings}
+use Rattle.tsp_rules.proofs.{GuardFacts.due_is, GuardFacts.met_is, Asides.now}
+use Rattle.tsp_rules.specs.CandidateRows.{lead_row, yields, has_won, window_rings}
+use Rattle.tsp_base.specs.Words.{Did, Seen, Here, Past, plain, Leads, boot_tick, role, armed, probes, started, Row, grown, nothing, puts, ◌followed_by◌, for_each, arms, bare, posts_to_others, backers, either_by, peer_of}
+use Rattle.tsp_base.proofs.LeadsLemmas.{Leads_then, Leads_either, Leads_reading, Leads_nothing, Leads_puts, Leads_each, Leads_from, Leads_to}
 use Rattle.tsp_promises.proofs.Leaves.{none-some, some-same, arm_round, arm_round_alarms, arm_probe, abandon}
-use Rattle.tsp_promises.proofs.{PostLeaves.post_message, PostLeaves.request, WindowLeads.arms_round_in}
-use Rattle.tsp_promises.proofs.Rings.{open_of, ring_round, late_round, ring_probe, late_probe}
-use Rattle.tsp_promises.proofs.{Changes.FreeIn, Known.Free, Known.Open, Known.Untaken, LeadsLeaves.Leads_arms, LeadsLeaves.Leads_others}
-use Rattle.tsp_rules.proofs.GuardFacts.{due_is, met_is}
+use Rattle.tsp_promises.proofs.PostLeaves.{post_message, request, Leads_arms, Leads_others}
+use Rattle.tsp_promises.proofs.Changes.{FreeIn, become_loose, become_master, open_of, ring_round, late_round, ring_probe, late_probe, ring_window, late_window}
+use Rattle.tsp_promises.proofs.{Known.Free, Known.Open, Known.Untaken, CommonLeads.arms_elect_during}
+use Rattle.tsp_promises.specs.{HoldFits.LeadFits, PortFits.setup_in}
 use Rattle.tsp_promises.proofs.AlarmLeads.{Due, rings_lead, master_rested, stays}
 
--- a master in whose round requests are posted
-record InRound (until : ℕ) (x : ℕ) (past : Past) : Type 0 where
-  pub free : Free Untaken x past
-  pub goes : (armed past.seen).close ≡ Some until
+-- the end of a candidature keeps what is known of a port
 
-asks_in : (until : ℕ) (p : PeerId) → Leads (InRound until) (asks p) (InRound until)
-unfolding asks
-asks_in until p = record { run = λ x past h. record { free = request p until h.goes h.free; goes = h.goes } }
+-- a candidate whose window ends, and may lead if enough back it
+record Counting (x : ℕ) (past : Past) : Type 0 where
+  pub free : Free Untaken x past
+  pub stands : role past.seen ≡ Candidate
+  pub leads : has_won x past ≡ true → LeadFits (setup_in past) (now x past (Become Master)) past.seen
+
+enough : (strict : Bool) (peers backing : ℕ) → strict ≡ true → (not strict || nat_lt peers (2 * backing + 2)) ≡ true → peers < 2 * backing + 2
+enough true peers backing e w = ltb-true peers (2 * backing + 2) w
+enough false peers backing e w = absurd (true≢false (sym e))
+
+rings_window : (x : ℕ) (past : Past) → Due Window x past → is_in_time Window x past ≡ true → Counting x (grown x past (Ring Window ∷ []))
+rings_window x past h timely =
+    let due = due_is (armed past.seen).window x h.1 in
+    let met = met_is (armed past.seen).window x due.at due.is timely in
+    let c = h.0.knows.vote.windows due.at due.is in
+    let s = h.0.knows.vote.stands c.stands in
+    let long = s.0 in
+    let at_is = c.at_is in
+    record {
+      free = ring_window (omega (arith, long)) h.0;
+      stands = c.stands;
+      leads = λ won. record {
+        rested = long;
+        quiet = s.1;
+        stands = c.stands;
+        start = c.start;
+        idle = c.idle;
+        start_is = c.start_is;
+        soon = omega (arith, at_is, met);
+        backs = c.back_is ∙ ap (λ n. Some (c.start.tick, peer_of n)) h.0.own;
+        wins = λ strict. enough past.strict (length past.peers) (length (backers past.seen)) strict won;
+      };
+    }
+
+-- a candidate gives up
+yields_lead : Leads (FreeIn [] Untaken Candidate) yields Open
+unfolding yields
+yields_lead = Leads_to (λ x past h. open_of h) (Leads_then {Q = Free Untaken} (puts (Become Loose)) arms_elect
+    (Leads_puts (Become Loose) (λ x past h. become_loose (λ e. let s = h.role_is in let bad : ⊥ = cc in absurd bad) h.free))
+    arms_elect_during)
+
+master_up : Leads (FreeIn [] Untaken Master) (posts_to_others MasterUp 0) (FreeIn [] Untaken Master)
+master_up = Leads_others MasterUp 0 (λ x past p h. record { free = post_message p (bare MasterUp 0 past.name) refl tt h.free; role_is = h.role_is })
+
+pub arms_round_in : Leads (FreeIn [] Untaken Master) (arms Round ROUND) (FreeIn [] Untaken Master)
+arms_round_in = Leads_arms Round ROUND (λ x past h. record { free = arm_round (x + ROUND) h.role_is (λ start idle e. (let b = h.free.knows.times.start_le start idle e in omega (arith, b))) h.free; role_is = h.role_is })
+
+pub window_leads : (own wait : Bool) → Leads Open (rings own wait Window) Open
+unfolding alarm_rings window_rings lead_row
+window_leads own wait = rings_lead own wait Window
+    (Leads_either (is_in_time Window) (puts (Ring Window) followed_by either_by has_won lead_row yields) (puts (Late Window) followed_by yields)
+    (Leads_then {Q = Counting} (puts (Ring Window)) (either_by has_won lead_row yields)
+    (Leads_puts (Ring Window) (λ x past h. rings_window x past h.0 h.1))
+    (Leads_either has_won lead_row yields
+    (Leads_to (λ x past h. open_of h.free) (Leads_then {Q = FreeIn [] Untaken Master} (puts (Become Master)) (arms Round ROUND followed_by posts_to_others MasterUp 0)
+    (Leads_puts (Become Master) (λ x past h. record { free = become_master (h.0.leads h.1) h.0.free; role_is = refl }))
+    (Leads_then (arms Round ROUND) (posts_to_others MasterUp 0) arms_round_in master_up)))
+    (Leads_from (λ x past h. record { free = h.0.free; role_is = h.0.stands }) yields_lead)))
+    (Leads_then {Q = FreeIn [] Untaken Candidate} (puts (Late Window)) yields
+    (Leads_puts (Late Window) (λ x past h.
+    let due = due_is (armed past.seen).window x h.0.1 in
+    let c = h.0.0.knows.vote.windows due.at due.is in
+    let long = (h.0.0.knows.vote.stands c.stands).0 in
+    record { free = late_window (omega (arith, long)) h.0.0; role_is = c.stands }))
+    yields_lead))
+    (stays Window)
 
 two_arms : {P Q R : ℕ → Past → Type 0} (a b : Alarm) (long short : ℕ) (s : Row) → ((x : ℕ) (past : Past) → P x past → Q x (grown x past (Arm a (x + long) ∷ Arm b (x + short) ∷ []))) → Leads Q s R →
     Leads P (arms a long followed_by (arms b short followed_by s)) R
 unfolding arms ◌followed_by◌
 two_arms a b long short s k q = record { run = λ x past h. q.run x (grown x past (Arm a (x + long) ∷ Arm b (x + short) ∷ [])) (k x past h) }
 
--- a round that has begun at this tick
+-- a master whose round has begun at this tick, and in which requests are posted
 record Begun (x : ℕ) (past : Past) : Type 0 where
-  pub in_round : InRound (x + CLOSE) x past
+  pub free : Free Untaken x past
+  pub goes : (armed past.seen).close ≡ Some (x + CLOSE)
 
 round_master : (x : ℕ) (past : Past) → Due Round x past → role past.seen ≡ Master
 round_master x past h = let due = due_is (armed past.seen).round x h.1 in h.0.knows.round.rounds due.at due.is
 
 begun_asks : (p : PeerId) → Leads Begun (asks p) Begun
-begun_asks p = record { run = λ x past h. record { in_round = (asks_in (x + CLOSE) p).run x past h.in_round } }
+unfolding asks
+begun_asks p = record { run = λ x past h. record { free = request p (x + CLOSE) h.goes h.free; goes = h.goes } }
 
 -- a master whose last round began ROUND ago or earlier
 record Spaced (x : ℕ) (past : Past) : Type 0 where
@@ -68,10 +132,10 @@ begins_or_waits_leads true = Leads_to {Q = Spaced} (λ x past h. open_of h.free)
 begins_or_waits_leads false = Leads_then {Q = PutOff} (arms Round ROUND) (arms Probe PROBE followed_by (arms CloseAlarm CLOSE followed_by (posts_to_others MasterUp 0 followed_by asks_slaves)))
     (Leads_arms Round ROUND (λ x past h. record { last = arms_later ROUND x past h; next = refl }))
     (two_arms {Q = Begun} Probe CloseAlarm PROBE CLOSE (posts_to_others MasterUp 0 followed_by asks_slaves)
-    (λ x past h. record { in_round = record { free = arm_round_alarms h.last.role_is h.last.spaced h.next h.last.free; goes = refl } })
+    (λ x past h. record { free = arm_round_alarms h.last.role_is h.last.spaced h.next h.last.free; goes = refl })
     (Leads_then {Q = Begun} (posts_to_others MasterUp 0) asks_slaves
-    (Leads_others MasterUp 0 (λ x past p h. record { in_round = record { free = post_message p (bare MasterUp 0 past.name) refl tt h.in_round.free; goes = h.in_round.goes } }))
-    (Leads_to (λ x past h. open_of h.in_round.free) (Leads_reading table_at (for_each asks) (λ ps. Leads_from (λ x past h. h.0) (Leads_each asks ps begun_asks))))))
+    (Leads_others MasterUp 0 (λ x past p h. record { free = post_message p (bare MasterUp 0 past.name) refl tt h.free; goes = h.goes }))
+    (Leads_to (λ x past h. open_of h.free) (Leads_reading table_at (for_each asks) (λ ps. Leads_from (λ x past h. h.0) (Leads_each asks ps begun_asks))))))
 
 pub round_leads : (own wait : Bool) → Leads Open (rings own wait Round) Open
 unfolding alarm_rings round_rings

@@ -1,10 +1,10 @@
 -- Where a round began and where an open exchange was asked.
 use Rattle.std.proofs.Common.{sym, ap, subst, inl, inr, eqb-true, ◌∙◌, ◌≡◌, ◌==◌, ◌&&◌, cond, Bool, true, false, ℕ, ◌⊎◌, List, [], ◌∷◌, refl}
 use Rattle.std.proofs.lemmas.Bool.{and_parts}
+use Rattle.tsp_promises.proofs.{SendProof.if-nil, Leaves.nil-cons}
 use Rattle.tsp_rules.specs.Values.{Boot, Post, Become, Arm, Ring, Late, Abandon, Sample, CloseAlarm, Stamp, PeerId, Peer, Request}
-use Rattle.tsp_base.specs.Words.{Deed, Acts, Did, Seen, Here, Elsewhere, Within, started, started_after, exchange, exchange_after}
 use Rattle.tsp_rules.proofs.GuardFacts.{same_peer}
-use Rattle.tsp_promises.proofs.Leaves.{nil-cons}
+use Rattle.tsp_base.specs.Words.{Deed, Acts, Did, Seen, Here, Elsewhere, Within, started, started_after, exchange, exchange_after}
 
 -- the last round's beginning stands at its place
 pub record StartedAt (start : Did) (idle seen : List Seen) : Type 0 where
@@ -53,10 +53,6 @@ exchange-post p q c word counter d before post older was is h false b e =
     let o = h e in
     record { place = inr o.place; word = o.word; deed = o.deed; after = λ start idle s. o.after start idle (subst (λ k. started_after k (Here d ∷ before) (started before) ≡ Here start ∷ idle) (sym is) s) }
 
-exchange-sample : (b : Bool) (was : List Seen) (post : Did) (older : List Seen) → cond b [] was ≡ Here post ∷ older → was ≡ Here post ∷ older
-exchange-sample true was post older e = nil-cons (Here post) older e
-exchange-sample false was post older e = e
-
 later : (p : PeerId) (c : ℕ) (d : Did) (before : List Seen) (post : Did) (older : List Seen) → started (Here d ∷ before) ≡ started before → ExchangeAt p c post older before → ExchangeAt p c post older (Here d ∷ before)
 later p c d before post older s o = record { place = inr o.place; word = o.word; deed = o.deed; after = λ start idle e. o.after start idle (sym s ∙ e) }
 
@@ -70,7 +66,7 @@ exchange-deed p c d before post older (Acts (Late CloseAlarm)) is h e = nil-cons
 exchange-deed p c d before post older (Acts Abandon) is h e = nil-cons (Here post) older e
 exchange-deed p c d before post older (Acts (Post (Peer q) (Stamp (Request word counter)))) is h e = exchange-post p q c word counter d before post older (exchange p c before) is h _ refl e
 exchange-deed p c d before post older (Acts (Sample q counter diff err ticket)) is h e =
-    later p c d before post older (ap (λ k. started_after k (Here d ∷ before) (started before)) (sym is)) (h (exchange-sample ((q.0 == p.0) && (counter == c)) (exchange p c before) post older e))
+    later p c d before post older (ap (λ k. started_after k (Here d ∷ before) (started before)) (sym is)) (h (if-nil ((q.0 == p.0) && (counter == c)) (exchange p c before) (Here post) older e))
 exchange-deed p c d before post older deed is h e = later p c d before post older (ap (λ k. started_after k (Here d ∷ before) (started before)) (sym is)) (h e)
 
 pub exchange_at : (p : PeerId) (c : ℕ) (seen : List Seen) (post : Did) (older : List Seen) → exchange p c seen ≡ Here post ∷ older → ExchangeAt p c post older seen

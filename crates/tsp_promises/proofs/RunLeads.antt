@@ -1,12 +1,13 @@
 -- Steps follow one another, and each deed of them fits.
 use Rattle.std.proofs.Common.{sym, subst, inl, inr, ap, arith, true≢false, ◌∙◌, ◌≡◌, ◌≤◌, ℕ, ◌+◌, Bool, true, false, List, [], ◌∷◌, None, refl}
-use Rattle.tsp_base.specs.Words.{Step, Seen, Here, Past, Leads, role, in_step, puts, ◌followed_by◌, arms, is_among, Setup}
+use Rattle.tsp_base.specs.Words.{Step, Seen, Here, Past, plain, Leads, boot_tick, role, grown, in_step, puts, ◌followed_by◌, arms, is_among, Setup}
 use Rattle.tsp_promises.specs.StepFacts.{StepEnds, is_unbacked, owes, unacknowledged, unheeded}
-use Rattle.tsp_rules.specs.{CommonRows.boots, Values.PeerId, Values.Follow, Values.QUIET}
+use Rattle.tsp_rules.specs.Values.{Boot, Become, Arm, Quiet, Starting, PeerId, Follow, QUIET}
+use Rattle.tsp_rules.specs.CommonRows.{boots}
 use Rattle.tsp_promises.specs.PortFits.{PortFits, setup_in}
 use Rattle.tsp_promises.specs.Runs.{Makes, Boots, Answers as Answering, row_of, Happening, ran, last_tick, Ordered, RulesFit}
 use Rattle.tsp_promises.proofs.Known.{KnowsOf, Ended, Fresh, Rests}
-use Rattle.tsp_promises.proofs.Leaves.{none-some, none-among, nil-cons, some-same}
+use Rattle.tsp_promises.proofs.Leaves.{made, none-some, none-among, nil-cons, some-same}
 use Rattle.tsp_promises.proofs.{AnswerLeads.answers_lead, HeedLeads.Heeds, HeedLeads.answers_heed, HeedLeads.untaken_heeds}
 
 -- a step of a port at rest may end
@@ -19,26 +20,54 @@ ends_of h = record {
   exchanges = λ p counter request older e. let asked = h.0.knows.round.exchanges p counter _ older e in record { corrects = asked.corrects refl; lives = asked.life refl };
 }
 
+-- a port whose node boots now
+pub record Booting (x : ℕ) (past : Past) : Type 0 where
+  pub fresh : Fresh x past
+  pub starts : role past.seen ≡ Starting
+  pub boot_is : boot_tick (plain past.seen) ≡ x
+
+pub booted : (x : ℕ) (past : Past) → Fresh x past → Booting x (grown x past (Boot ∷ []))
+booted x past h = record {
+  fresh = made Boot h.own tt h.fits
+      (record {
+        times = record { boot_le = omega arith; last_le = omega arith; boot_is = refl; start_le = λ start idle e. nil-cons (Here start) idle e; next = λ at e. none-some at e };
+        quiet = record { rested = inl (record { starts = refl; unsearched = refl; unelected = refl; unresolved = refl; unsent = λ p. refl }); silent = λ at e. none-some at e };
+        vote = record { stands = λ e. let bad : ⊥ = cc in absurd bad; windows = λ at e. none-some at e; votes = λ p e. absurd (true≢false (sym e)) };
+        round = record { rounds = λ at e. none-some at e; probing = λ at e. none-some at e; closes = λ calm at e. none-some at e; exchanges = λ p i s older e. nil-cons s older e };
+      })
+      (λ e. absurd (true≢false (sym e))) h.backs h.owed h.paid h.acting_is h.took;
+  starts = refl;
+  boot_is = refl;
+}
+
+pub quiets : (x : ℕ) (past : Past) → Booting x past → Booting x (grown x past (Become Starting ∷ Arm Quiet (x + QUIET) ∷ []))
+quiets x past b =
+    let h = b.fresh in
+    let k = h.knows in
+    let boot = b.boot_is in
+    record {
+      fresh = made {past = grown x past (Become Starting ∷ [])} (Arm Quiet (x + QUIET)) h.own tt (tt, h.fits)
+          (record {
+            times = record { boot_le = k.times.boot_le; last_le = k.times.last_le; boot_is = k.times.boot_is; start_le = k.times.start_le; next = λ at e. none-some at e };
+            quiet = record {
+              rested = inl (record { starts = refl; unsearched = refl; unelected = refl; unresolved = refl; unsent = λ p. refl });
+              silent = λ at e. (refl, let is = some-same (x + QUIET) at e in omega (arith, is, boot));
+            };
+            vote = record { stands = λ e. let bad : ⊥ = cc in absurd bad; windows = λ at e. none-some at e; votes = λ p e. absurd (true≢false (sym e)) };
+            round = record { rounds = λ at e. none-some at e; probing = λ at e. none-some at e; closes = λ calm at e. none-some at e; exchanges = λ p i s older e. nil-cons s older e };
+          })
+          (λ e. absurd (true≢false (sym e))) h.backs h.owed h.paid h.acting_is h.took;
+      starts = refl;
+      boot_is = b.boot_is;
+    }
+
+pub boot_rests : (x : ℕ) (past : Past) → Booting x past → Rests x past
+boot_rests x past b = let h = b.fresh in record { fits = h.fits; knows = h.knows; backs = h.backs; follows = λ p e. none-among p h.owed e; paid = h.paid }
+
 -- a boot keeps what is known of a port
 pub boots_lead : Leads Fresh boots Rests
 unfolding boots puts arms ◌followed_by◌
-boots_lead = record {
-  run = λ x past h. record {
-    fits = (tt, (tt, (tt, h.fits)));
-    knows = record {
-      times = record { boot_le = omega arith; last_le = omega arith; boot_is = refl; start_le = λ start idle e. nil-cons (Here start) idle e; next = λ at e. none-some at e };
-      quiet = record {
-        rested = inl (record { starts = refl; unsearched = refl; unelected = refl; unresolved = refl; unsent = λ p. refl });
-        silent = λ at e. (refl, let is = some-same (x + QUIET) at e in omega (arith, is));
-      };
-      vote = record { stands = λ e. let bad : ⊥ = cc in absurd bad; windows = λ at e. none-some at e; votes = λ p e. absurd (true≢false (sym e)) };
-      round = record { rounds = λ at e. none-some at e; probing = λ at e. none-some at e; closes = λ calm at e. none-some at e; exchanges = λ p i s older e. nil-cons s older e };
-    };
-    backs = h.backs;
-    follows = λ p e. none-among p h.owed e;
-    paid = h.paid;
-  };
-}
+boots_lead = record { run = λ x past h. boot_rests x (grown x past (boots x past)) (quiets x (grown x past (Boot ∷ [])) (booted x past h)) }
 
 -- what is known of a port is known later too
 pub knows_later : {stirred : Bool} (x y : ℕ) (own : PeerId) (seen : List Seen) → x ≤ y → KnowsOf stirred x own seen → KnowsOf stirred y own seen

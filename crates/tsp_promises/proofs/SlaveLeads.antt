@@ -1,23 +1,26 @@
 -- The rows of a port that is Loose or follows keep what is known of it.
 use Rattle.std.proofs.Common.{sym, subst, inl, inr, ap, arith, true≢false, eqb-true, ◌∙◌, ◌≡◌, ◌≢◌, ◌⊎◌, ◌≤◌, ℕ, ◌+◌, ◌==◌, ℤ, ◌-ℤ◌, Bool, true, false, ◌||◌, if◌then◌else◌, List, [], ◌∷◌, Option, None, Some, refl}
 use Rattle.std.proofs.lemmas.Bool.{and_parts}
-use Rattle.tsp_rules.specs.Values.{Boot, Post, Back, Correct, Quit, Search, Message, Good, Kind, Accept, Ack, AdjTime, Conflict, Election, QuitKind, Refuse, SetTime, PeerId, Peer, Role, Loose, Follow, Candidate, GAP, QUIET}
-use Rattle.tsp_base.specs.Words.{Deed, Acts, Did, Seen, Past, plain, is_past, Leads, MessageValue, boot_tick, boot_after, ticket, target, last_correct, last_correct_after, correct_place, correct_place_after, correct_tick, shown, tick_in, Received, Said, role, said, held, armed, Row, grown, nothing, puts, ◌followed_by◌, reading, bare, posts, is_correction, Correcting, correcting_of, last_taken, time_in}
-use Rattle.tsp_promises.specs.{AckFits.Answers, CorrectFits.ByMaster, CorrectFits.amount_of, CorrectFits.sets_time}
-use Rattle.tsp_promises.specs.StepFacts.{backed, owes, owes_after}
-use Rattle.tsp_base.proofs.LeadsLemmas.{Leads_then, Leads_either, Leads_reading, Leads_nothing, Leads_puts, Leads_from, Leads_to}
-use Rattle.tsp_rules.specs.ClockRows.{adjusts, sets, can_adjust, is_step}
+use Rattle.tsp_rules.specs.Values.{Boot, Post, Back, Correct, Quit, Search, Message, Good, Kind, Accept, Ack, AdjTime, Conflict, Election, QuitKind, Refuse, SetTime, PeerId, Peer, Role, Loose, Follow, Candidate, GAP, QUIET, Taken}
+use Rattle.tsp_rules.{specs.ClockRows.adjusts, specs.ClockRows.sets, specs.ClockRows.can_adjust, specs.ClockRows.is_step, proofs.Asides.now}
 use Rattle.tsp_rules.specs.CommonRows.{arms_elect, tells_ticket, follow_row, quits, follows_unless}
-use Rattle.tsp_rules.specs.SendRows.{begins, is_free}
+use Rattle.tsp_rules.specs.{SendRows.begins, SendRows.is_free, Guards.role_at, Guards.is_armed, Guards.is_clock_value, Guards.may_back_at}
 use Rattle.tsp_rules.specs.SlaveRows.{reports_conflict, masterup_in, masterack_in, election_of, is_next, is_by, is_repeated, acks_repeat, confirms, takes_amount, adjtime_of, takes_value, settime_of, from_master}
-use Rattle.tsp_rules.specs.Guards.{role_at, is_armed, is_clock_value, may_back_at}
-use Rattle.tsp_promises.proofs.{Known.Free, Known.KnowsOf, Known.Rests, LeadsLeaves.Leads_posts}
-use Rattle.tsp_promises.proofs.{Leaves.correct, Leaves.arm_elect, Leaves.none-among, PostLeaves.post_knows, PostLeaves.post_message}
+use Rattle.tsp_rules.proofs.GuardFacts.{past_is, back_is, same_peer}
+use Rattle.tsp_base.specs.Words.{Deed, Acts, Did, Seen, Past, plain, is_past, Leads, MessageValue, boot_tick, boot_after, ticket, target, last_correct, last_correct_after, correct_place, correct_place_after, correct_tick, shown, tick_in, Received, Said, role, said, held, armed, Row, grown, nothing, puts, ◌followed_by◌, reading, bare, posts, is_correction, Correcting, correcting_of, last_taken, time_in}
+use Rattle.tsp_base.proofs.LeadsLemmas.{Leads_then, Leads_either, Leads_reading, Leads_nothing, Leads_puts, Leads_from, Leads_to}
+use Rattle.tsp_promises.{specs.AckFits.Answers, proofs.PostLeaves.Leads_posts, proofs.PostLeaves.post_knows, proofs.PostLeaves.post_message}
+use Rattle.tsp_promises.specs.CorrectFits.{ByMaster, amount_of, sets_time}
+use Rattle.tsp_promises.specs.StepFacts.{backed, owes, owes_after}
+use Rattle.tsp_promises.proofs.{Known.Free, Known.KnowsOf, Known.Rests, Printed.adjusts_prints, Printed.flag_of, Printed.sets_prints}
+use Rattle.tsp_promises.proofs.Leaves.{correct, arm_elect, none-among}
 use Rattle.tsp_promises.proofs.Changes.{Quitting, quitting_of, back_other, quit_acked, quit_taken}
 use Rattle.tsp_promises.proofs.CommonLeads.{arms_elect_keeps, arms_elect_during, tells_ticket_during, follow_leads, begins_conflict}
-use Rattle.tsp_promises.proofs.Printed.{adjusts_prints, flag_of, sets_prints}
 use Rattle.tsp_promises.proofs.TakenLeads.{Says, Heard, HeardIn, rests_of, ack_fits, quit_ack, quits_now}
-use Rattle.tsp_rules.proofs.{Asides.now, GuardFacts.past_is, GuardFacts.back_is, GuardFacts.same_peer}
+
+-- nothing is done
+pub idle_heard : {p : PeerId} {t : Taken} {P : ℕ → Past → Type 0} → ((x : ℕ) (past : Past) → P x past → Heard p t x past) → Leads P nothing Rests
+idle_heard k = Leads_from (λ x past h. rests_of (k x past h).just.free) Leads_nothing
 
 module _ {p : PeerId} {m : MessageValue} where
   pub heard_free : (x : ℕ) (past : Past) → Heard p (Good (Message m)) x past → Free (Says p m) x past
@@ -25,10 +28,6 @@ module _ {p : PeerId} {m : MessageValue} where
 
   pub follow_heard : Leads (Heard p (Good (Message m))) (follow_row p) Rests
   follow_heard = Leads_from (λ x past h. quitting_of h.just.free) (Leads_to (λ x past h. rests_of h.free) (follow_leads p))
-
-  -- nothing is done
-  pub idle_heard : {P : ℕ → Past → Type 0} → ((x : ℕ) (past : Past) → P x past → Heard p (Good (Message m)) x past) → Leads P nothing Rests
-  idle_heard k = Leads_from (λ x past h. rests_of (k x past h).just.free) Leads_nothing
 
   pub reports_heard : (q : PeerId) → Leads (Heard p (Good (Message m))) (reports_conflict q) Rests
   unfolding reports_conflict

@@ -4,11 +4,11 @@ use Rattle.std.proofs.lemmas.List.Elements.{All-nil, All-cons}
 use Rattle.tsp_base.specs.Words.{Step, Seen, Here, Acts, Past, Row, added, grown, nothing, ◌followed_by◌}
 use Rattle.tsp_base.proofs.{LeadsLemmas.Leads_then, LeadsLemmas.Leads_nothing, RowLemmas.added_append}
 use Rattle.tsp_rules.specs.Answers.{due_alarms, takes, Turn, Got, input_row, answers}
-use Rattle.tsp_rules.specs.{RoundRows.corrects, RoundRows.abandons_going, RoundRows.upsetting, SendRows.due_sends}
-use Rattle.tsp_promises.specs.Sound.{IsSoundTaken, IsSoundAct, AreSound, SoundPast, AnswersAreSound}
-use Rattle.tsp_rules.{proofs.Unchanged.comes_unchanged, specs.Values.Act, specs.Values.Taken, specs.Values.Place}
+use Rattle.tsp_rules.{specs.RoundRows.corrects, specs.RoundRows.abandons_going, specs.RoundRows.upsetting, proofs.Unchanged.comes_unchanged}
+use Rattle.tsp_rules.specs.{SendRows.due_sends, Values.Act, Values.Taken, Values.Place}
 use Rattle.tsp_rules.proofs.{BuiltAnswers.built_takes, BuiltRounds.built_abandons_going, BuiltSends.built_due_sends}
-use Rattle.tsp_promises.proofs.{AlarmTable.sound_alarms, SoundBuilt.sound_built, SoundBuilt.taken_ranges, SoundRows.Soundly}
+use Rattle.tsp_promises.specs.Sound.{IsSoundTaken, IsSoundAct, AreSound, SoundPast, AnswersAreSound}
+use Rattle.tsp_promises.proofs.{AlarmTable.sound_alarms, SoundBuilt.sound_built, SoundBuilt.taken_ranges, SoundFacts.Soundly}
 
 pub sound_takes : (steer charge : Bool) (from : Place) (t : Taken) → IsSoundTaken t → Soundly (takes steer charge from t)
 sound_takes steer charge from t s = sound_built (built_takes steer charge from t (comes_unchanged from) s tt (taken_ranges t s))

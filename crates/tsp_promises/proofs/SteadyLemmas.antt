@@ -1,17 +1,17 @@
 -- What corrects a clock and is no date is taken by a follower, which stays one.
 use Rattle.std.proofs.Common.{sym, ap, inl, inr, true≢false, ◌≡◌, ◌⊎◌, ℕ, ◌==◌, ◌||◌, ◌&&◌, ℤ, Bool, true, false, if◌then◌else◌, List, [], ◌∷◌, ◌++◌, refl}
 use Rattle.tsp_rules.specs.Values.{Act, Took, Message, Taken, Good, Kind, AdjTime, Date, DateAck, DateReq, LoopKind, Msite, MsiteReq, SetDate, SetDateReq, SetTime, Test, TraceOff, TraceOn, PeerId, Place, Peer, Stranger, Role, Starting, Loose, Follow, Candidate, Master}
-use Rattle.tsp_base.specs.Words.{Past, MessageValue, role, Row, grown, nothing, puts, ◌followed_by◌, either_by, reading, arms, posts, sets_date, time_in}
 use Rattle.tsp_rules.specs.Answers.{says_in, peer_says, from_peer, handles_kind, is_left, handles, takes}
-use Rattle.tsp_rules.specs.{CandidateRows.candidate_takes, ClockRows.adjusts, ClockRows.sets, CommonRows.arms_elect}
-use Rattle.tsp_rules.specs.{MasterRows.master_takes, RoundRows.corrects, RoundRows.is_correct}
+use Rattle.tsp_rules.{specs.CandidateRows.candidate_takes, proofs.BuiltAnswers.built_date_acked, specs.MasterRows.master_takes}
+use Rattle.tsp_rules.{proofs.Emits.Sort, proofs.Emits.Moving, proofs.Emits.is_in, specs.ClockRows.adjusts, specs.ClockRows.sets}
+use Rattle.tsp_rules.proofs.{CalmSteps.calm_stamps, CalmSteps.is_message, FewActs.Calm, FewActs.is_calm_act, FewActs.is_calm}
+use Rattle.tsp_rules.proofs.BuiltRoles.{built_master_takes, built_acks_repeat, built_slave_takes_kind, built_candidate_takes}
+use Rattle.tsp_rules.proofs.{Built.Built, Unchanged.place_unchanged, Unchanged.unchanged, CalmBuilt.answers_owed, CalmBuilt.calm_unmoving}
+use Rattle.tsp_rules.specs.CommonRows.{arms_elect}
+use Rattle.tsp_rules.specs.{RoundRows.corrects, RoundRows.is_correct, Guards.role_at, Guards.is_heard, Guards.is_own, Guards.is_follow}
 use Rattle.tsp_rules.specs.SlaveRows.{slave_takes, slave_takes_kind, from_master, adjtime_of, settime_of, takes_amount, takes_value, confirms, acks_repeat}
-use Rattle.tsp_rules.specs.Guards.{role_at, is_heard, is_own, is_follow}
-use Rattle.tsp_rules.proofs.{FewActs.Calm, FewActs.is_calm_act, FewActs.is_calm, Unchanged.place_unchanged, Unchanged.unchanged}
-use Rattle.tsp_rules.proofs.{Built.Built, BuiltCandidate.built_candidate_takes, BuiltDates.built_date_acked, BuiltMaster.built_master_takes}
 use Rattle.tsp_rules.proofs.BuiltShared.{built_names_master, built_says_master, built_tests, built_traces}
-use Rattle.tsp_rules.proofs.{BuiltSlave.built_acks_repeat, BuiltSlave.built_slave_takes_kind, CalmSteps.calm_stamps, CalmSteps.is_message}
-use Rattle.tsp_rules.proofs.{CalmBuilt.answers_owed, CalmBuilt.calm_unmoving, Emits.Sort, Emits.Moving, Emits.is_in}
+use Rattle.tsp_base.specs.Words.{Past, MessageValue, role, Row, grown, nothing, puts, ◌followed_by◌, either_by, reading, arms, posts, sets_date, time_in}
 use Rattle.tsp_promises.proofs.Elsewheres.{calm-correct}
 
 -- acts that don't correct the clock

@@ -1,11 +1,11 @@
 -- What a step owes at its end, read from a history by computing.
 use Rattle.std.proofs.Common.{sym, ap, arith, subst, eqb-true, true≢false, ◌∙◌, ◌≡◌, ◌==◌, ◌||◌, ◌&&◌, nat_lt, cond, Bool, true, false, ℕ, zero, suc, if◌then◌else◌, List, [], ◌∷◌, Option, None, Some, is_some, refl}
 use Rattle.std.proofs.lemmas.Bool.{ltb-true, and_parts}
-use Rattle.tsp_rules.specs.Values.{Boot, Post, Become, Arm, Ring, Late, Abandon, Correct, Sample, CloseAlarm, Stamp, PeerId, Peer, Port, Role, Follow, Request}
-use Rattle.tsp_base.specs.Words.{Begins, Acts, Deed, Did, Line, Seen, Here, Elsewhere, plain, view, seen_as, is_shared, is_among, role, exchange, exchange_after, Setup, Undisturbed}
+use Rattle.tsp_promises.proofs.{SendProof.if-nil, Leaves.none-among, Leaves.nil-cons}
 use Rattle.tsp_promises.specs.StepFacts.{StepEnds, is_unbacked, owes, unacknowledged, unheeded}
-use Rattle.tsp_promises.proofs.Leaves.{none-among, nil-cons}
+use Rattle.tsp_rules.specs.Values.{Boot, Post, Become, Arm, Ring, Late, Abandon, Correct, Sample, CloseAlarm, Stamp, PeerId, Peer, Port, Role, Follow, Request}
 use Rattle.tsp_rules.proofs.GuardFacts.{same_peer}
+use Rattle.tsp_base.specs.Words.{Begins, Acts, Deed, Did, Line, Seen, Here, Elsewhere, plain, view, seen_as, is_shared, is_among, role, exchange, exchange_after, Setup, Undisturbed}
 
 abbrev asks_after : Deed → Bool → Bool
 asks_after (Acts Boot) was = false
@@ -72,10 +72,6 @@ quiet-post : (d : Did) (before : List Seen) (request : Did) (older was : List Se
 quiet-post d before request older was true h e = let same : before ≡ older = cc in subst (λ z. Undisturbed (plain z) (plain before)) same (record { corrects = refl; lives = refl })
 quiet-post d before request older was false h e = h e
 
-quiet-sample : (request : Did) (older was : List Seen) (b : Bool) → cond b [] was ≡ Here request ∷ older → was ≡ Here request ∷ older
-quiet-sample request older was true e = nil-cons (Here request) older e
-quiet-sample request older was false e = e
-
 quiet-deed : (p : PeerId) (c : ℕ) (d : Did) (deed : Deed) (before : List Seen) → deed ≡ d.deed → (rests before ≡ true → Quiet p c before) → rests_after deed (asks before) (rests before) ≡ true → (request : Did) (older : List Seen) →
     exchange_after p c deed (Here d ∷ before) (exchange p c before) ≡ Here request ∷ older → Undisturbed (plain older) (plain (Here d ∷ before))
 quiet-deed p c d (Acts Boot) before is h r request older e = nil-cons (Here request) older e
@@ -89,7 +85,7 @@ quiet-deed p c d (Acts (Post (Peer q) (Stamp (Request word counter)))) before is
     let u = quiet-post d before request older (exchange p c before) ((q.0 == p.0) && (counter == c)) (h r request older) e in
     record { corrects = u.corrects ∙ rw (sym is) refl; lives = u.lives ∙ rw (sym is) refl }
 quiet-deed p c d (Acts (Sample q counter diff err ticket)) before is h r request older e =
-    let u = h r request older (quiet-sample request older (exchange p c before) ((q.0 == p.0) && (counter == c)) e) in
+    let u = h r request older (if-nil ((q.0 == p.0) && (counter == c)) (exchange p c before) (Here request) older e) in
     record { corrects = u.corrects ∙ rw (sym is) refl; lives = u.lives ∙ rw (sym is) refl }
 quiet-deed p c d _ before is h r request older e = let u = h r request older e in record { corrects = u.corrects ∙ rw (sym is) refl; lives = u.lives ∙ rw (sym is) refl }
 
@@ -146,7 +142,7 @@ on_two [] = true
 on_two (l ∷ t) = nat_lt l.port.0 2 && on_two t
 
 -- what a port sees where nothing is done on it
-record Empty (seen : List Seen) : Type 0 where
+pub record Empty (seen : List Seen) : Type 0 where
   pub backs : is_unbacked seen ≡ false
   pub none : owes seen ≡ []
   pub heeded : unacknowledged seen ≡ None
@@ -154,7 +150,7 @@ record Empty (seen : List Seen) : Type 0 where
   pub shut : (p : PeerId) (c : ℕ) → exchange p c seen ≡ []
 
 -- a port that its node doesn't have sees marks and boots alone
-far-deed : (b : Bool) (d : Did) (deed : Deed) (seen : List Seen) → deed ≡ d.deed → (false || is_shared deed) ≡ b → Empty seen → Empty (seen_as b d ∷ seen)
+pub far-deed : (b : Bool) (d : Did) (deed : Deed) (seen : List Seen) → deed ≡ d.deed → (false || is_shared deed) ≡ b → Empty seen → Empty (seen_as b d ∷ seen)
 far-deed true d Begins seen is e h = record { backs = rw (sym is) refl; none = rw (sym is) refl; heeded = rw (sym is) refl; untaken = λ peers. rw (sym is) refl; shut = λ p c. rw (sym is) (h.shut p c) }
 far-deed true d (Acts Boot) seen is e h = record { backs = rw (sym is) h.backs; none = rw (sym is) h.none; heeded = rw (sym is) h.heeded; untaken = λ peers. rw (sym is) (h.untaken peers); shut = λ p c. rw (sym is) refl }
 far-deed true d _ seen is e h = let bad : ⊥ = cc in absurd bad
@@ -181,7 +177,7 @@ port1 = record { 0 = 1 }
 abbrev pub settled : (Port → List PeerId) → List Line → Bool
 settled peers own = on_two own && (paid (peers port0) (view port0 own) && paid (peers port1) (view port1 own))
 
-far-ends : (setup : Setup) (seen : List Seen) → Empty seen → StepEnds setup seen
+pub far-ends : (setup : Setup) (seen : List Seen) → Empty seen → StepEnds setup seen
 far-ends setup seen h = record { backs = h.backs; heeds = h.untaken setup.peers; follows = λ p e. none-among p h.none e; acknowledged = h.heeded; exchanges = λ p c request older e. nil-cons (Here request) older (sym (h.shut p c) ∙ e) }
 
 pub settled-ends : (setups : Port → Setup) (own : List Line) → settled (λ q. (setups q).peers) own ≡ true → (q : Port) → StepEnds (setups q) (view q own)

@@ -1,20 +1,19 @@
 -- The rows that take a message, of whichever role, keep what is known of a port.
 use Rattle.std.proofs.Common.{sym, subst, ap, true≢false, eqb-true, ◌∙◌, ◌≡◌, ◌≢◌, ℕ, ◌==◌, Bool, true, false, List, [], ◌∷◌, Option, None, Some, refl}
 use Rattle.std.proofs.lemmas.Bool.{and_parts, not-true}
+use Rattle.tsp_rules.proofs.{RowsOther.follows_unless-other, Asides.now, GuardFacts.stand_is, GuardFacts.awake_is, GuardFacts.master_is}
 use Rattle.tsp_rules.specs.Values.{Post, Acked, Quit, Trace, Message, Stamp, Taken, Good, Kind, Ack, Election, QuitKind, PeerId, Place, Peer, Stranger, Role, Starting, Follow, Master, Request, Reply}
-use Rattle.tsp_base.specs.Words.{Did, Acts, Seen, Here, Past, plain, may_stand, Leads, MessageValue, boot_tick, ticket, target, is_among, Received, Said, role, said, taken, held, grown, nothing, puts, ◌followed_by◌, either_by, reading, bare, posts, posts_back, is_correction, open_send, open_to, posts_of, sending_at, sending_of, message_of, Setup, peer_of}
-use Rattle.tsp_promises.specs.{AckFits.AckFits, AckFits.AckedFits, AckFits.Answers, PortFits.setup_in, QuitFits.QuitFits}
-use Rattle.tsp_promises.specs.DeedFits.{NamedFits, PostFits, asks_name, is_answered_early}
-use Rattle.tsp_promises.specs.StepFacts.{is_answered, owes, owes_after}
-use Rattle.tsp_base.proofs.LeadsLemmas.{Leads_then, Leads_either, Leads_reading, Leads_nothing, Leads_puts, Leads_from, Leads_to}
 use Rattle.tsp_rules.specs.CommonRows.{quits, follows_unless, follow_row, posts_reply, replies, master_name, names_master, says_master, traces, tests, is_awake, is_idle, may_be_asked, candidature_row}
 use Rattle.tsp_rules.specs.SendRows.{has_other, answers_other, has_election, answers_election, is_kind_election, ends_by_ack, acknowledges}
 use Rattle.tsp_rules.specs.Guards.{role_at, is_in_range, is_master_at, is_starting_role, may_stand_at}
+use Rattle.tsp_base.specs.Words.{Did, Acts, Seen, Here, Past, plain, may_stand, Leads, MessageValue, boot_tick, ticket, target, is_among, Received, Said, role, said, taken, held, grown, nothing, puts, ◌followed_by◌, either_by, reading, bare, posts, posts_back, is_correction, open_send, open_to, posts_of, sending_at, sending_of, message_of, Setup, peer_of}
+use Rattle.tsp_base.proofs.LeadsLemmas.{Leads_then, Leads_either, Leads_reading, Leads_nothing, Leads_puts, Leads_from, Leads_to}
+use Rattle.tsp_promises.specs.AckFits.{AckFits, AckedFits, Answers}
+use Rattle.tsp_promises.specs.{PortFits.setup_in, DeedFits.NamedFits, DeedFits.PostFits, DeedFits.asks_name, DeedFits.is_answered_early}
+use Rattle.tsp_promises.specs.{QuitFits.QuitFits, StepFacts.is_answered, StepFacts.owes, StepFacts.owes_after}
+use Rattle.tsp_promises.proofs.PostLeaves.{post_back, post_reply, post_early, Leads_posts, Leads_posts_back}
 use Rattle.tsp_promises.proofs.Known.{During, Free, Early, RestsIn, Rests}
-use Rattle.tsp_rules.proofs.{Asides.now, GuardFacts.stand_is, GuardFacts.awake_is, GuardFacts.master_is}
-use Rattle.tsp_promises.proofs.PostLeaves.{post_back, post_reply, post_early}
-use Rattle.tsp_promises.proofs.Changes.{Quitting, FreeIn, quit_acked, quit_taken, Is, JustTook}
-use Rattle.tsp_promises.proofs.{LeadsLeaves.Leads_posts, LeadsLeaves.Leads_posts_back, Rings.rested_of, Rings.wake}
+use Rattle.tsp_promises.proofs.Changes.{rested_of, wake, Quitting, FreeIn, quit_acked, quit_taken, Is, JustTook}
 use Rattle.tsp_promises.proofs.StrangerFacts.{master_named, own_named}
 use Rattle.tsp_promises.proofs.{CommonLeads.follow_leads, CommonLeads.candidature_leads, Leaves.none-among, Leaves.trace, Leaves.acked}
 
@@ -164,11 +163,6 @@ rests_follow follow p k h = record {
   paid = h.free.paid;
 }
 
-is_no_follow : (p : PeerId) (r : Role) (x : ℕ) (past : Past) → ((q : PeerId) → r ≢ Follow q) → follows_unless p r ≡ follow_row p
-unfolding follows_unless
-is_no_follow p (Follow q) x past n = absurd (n q refl)
-is_no_follow p _ x past n = refl
-
 module _ {p : PeerId} {m : MessageValue} where
   pub quits_now : (x : ℕ) (past : Past) → m.kind ≡ QuitKind → Heard p (Good (Message m)) x past → QuitFits past.seen p
   quits_now x past k h = record { message = m; took = h.just.took; past = h.just.rest; is = h.just.is; deed = h.just.deed; kind = k }
@@ -190,6 +184,6 @@ module _ {p : PeerId} {m : MessageValue} where
       (Leads_reading role_at (follows_unless p) (λ a. record {
         run = λ x past h.
             let same : a ≡ r = sym h.1 ∙ h.0.role_is in
-            let row : follows_unless p a ≡ follow_row p = is_no_follow p a x past (λ q e. other q (sym same ∙ e)) in
+            let row : follows_unless p a ≡ follow_row p = follows_unless-other p a (λ q e. other q (sym same ∙ e)) in
             subst (λ s. Rests x (grown x past (s x past))) (sym row) (rests_follow follow p only ((follow_leads p).run x past h.0.quitting));
       })))

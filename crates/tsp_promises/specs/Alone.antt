@@ -4,9 +4,8 @@ use Rattle.tsp_base.specs.Words.{Step, first_port, placed}
 use Rattle.tsp_promises.specs.NodeRuns.{NodeMakes, NodeBoots, NodeAnswers, NodeHappening, NodeOrdered, node_ran}
 use Rattle.tsp_promises.specs.Runs.{Makes, Boots, Answers, Happening, ran}
 use Rattle.tsp_rules.specs.Answers.{Given, Turn, Got, answers}
-use Rattle.tsp_rules.specs.CommonRows.{boots}
+use Rattle.tsp_rules.specs.{CommonRows.boots, NodeRows.NodePast, NodeRows.PortSetup, NodeRows.in_node_step, NodeRows.on_port}
 use Rattle.tsp_rules.specs.GateRows.{NodeGiven, NodeTurn, GotOn, answers_all, boots_all}
-use Rattle.tsp_rules.specs.NodeRows.{NodePast, PortSetup, in_node_step, on_port}
 
 -- what a step is given, without the port on which it comes
 abbrev pub given_alone : NodeGiven → Given

@@ -1,18 +1,83 @@
 -- How a port's answers are made: its alarms, and what it does with what it takes.
-use Rattle.std.specs.Prelude.{◌≡◌, ℕ, Bool, true, false, List, [], ◌∷◌, refl}
-use Rattle.tsp_rules.specs.Values.{Took, Alarm, Quiet, Search, Elect, Window, Probe, Round, CloseAlarm, ResolveAlarm, Message, Stamp, Taken, Good, Bad, Kind, Ack, AdjTime, Date, DateAck, DateReq, LoopKind, Msite, MsiteReq, SetDate, SetDateReq, SetTime, Test, TraceOff, TraceOn, PeerId, Place, Peer, Stranger, Role, Starting, Loose, Follow, Candidate, Master, Request, Reply}
-use Rattle.tsp_base.specs.Words.{MessageValue, ReplyValue, Row, puts, time_in}
+use Rattle.std.specs.Prelude.{◌≡◌, ℕ, Bool, true, false, List, [], ◌∷◌, refl, ℤ}
+use Rattle.tsp_rules.specs.Values.{Took, Alarm, Quiet, Search, Elect, Window, Probe, Round, CloseAlarm, ResolveAlarm, Message, Stamp, Taken, Good, Bad, Kind, Ack, AdjTime, Date, DateAck, DateReq, LoopKind, Msite, MsiteReq, SetDate, SetDateReq, SetTime, Test, TraceOff, TraceOn, PeerId, Place, Peer, Stranger, Role, Starting, Loose, Follow, Candidate, Master, Request, Reply, Acked, Leave, MasterUp}
 use Rattle.tsp_rules.specs.Answers.{alarm_rings, rings, says_in, peer_says, replies_in, peer_replies, from_peer, handles_kind, handles, takes}
 use Rattle.tsp_rules.proofs.Emits.{Sort, Asking, Correcting, Passing, Numbering, Posting, Leading, Following, Changing, Backing, Counting, Alarming, Rounding, Tabling, Rivalling, Acking, Sampling, Moving, Taking, Tracing, is_part}
-use Rattle.tsp_rules.specs.Renames.{Naming, Wakes, comes_place, known_place, renamed_place, renamed_role}
-use Rattle.tsp_rules.proofs.RowCodes.{ANumber, APlace, AStamp, ATaken, ATicket, ATime, Owed, Takes, RoleAt, Due, IsHeard, IsLeft, IsOwn}
-use Rattle.tsp_rules.proofs.Built.{Built, Empty, At, Then, Either, Reading, More, Wider, whichever}
+use Rattle.tsp_rules.specs.Renames.{Naming, Wakes, comes_place, known_place, renamed_place, renamed_role, known_role}
+use Rattle.tsp_rules.proofs.RowCodes.{ANumber, APlace, AStamp, ATaken, ATicket, ATime, Owed, Takes, RoleAt, Due, IsHeard, IsLeft, IsOwn, Puts, Posts, PostsBack, PostsTime, Sets, ToOthers, NextNumber, Table, HasDate, IsDated, MayDate, MayPassOn}
+use Rattle.tsp_rules.proofs.Built.{Built, Empty, At, Then, Either, Reading, More, Wider, whichever, ReadingValue, Each}
 use Rattle.tsp_rules.proofs.BuiltShared.{client_sorts, built_names_master, built_replies, built_says_master, built_tests, built_traces}
-use Rattle.tsp_rules.proofs.BuiltSlave.{slave_sorts, built_elect_rings, built_quiet_rings, built_search_rings, built_slave_takes}
-use Rattle.tsp_rules.proofs.BuiltCandidate.{built_candidate_takes, built_window_rings}
-use Rattle.tsp_rules.proofs.BuiltMaster.{built_master_takes, built_resolve_rings}
+use Rattle.tsp_rules.proofs.BuiltRoles.{slave_sorts, built_elect_rings, built_quiet_rings, built_search_rings, built_slave_takes, built_master_takes, built_resolve_rings, built_candidate_takes, built_window_rings}
+use Rattle.tsp_rules.specs.SendRows.{begins_timed}
 use Rattle.tsp_rules.proofs.BuiltRounds.{round_sorts, built_close_rings, built_probe_rings, built_round_rings, built_samples}
-use Rattle.tsp_rules.proofs.BuiltDates.{date_sorts, built_date_acked, built_date_of, built_date_request_of}
+use Rattle.tsp_rules.specs.DateRows.{passes_on, leaves, leaves_all, new_date, sets_date_where, date_in, date_of, sets_in_charge, date_request_in, date_request_of, date_acked_in, date_acked}
+use Rattle.tsp_base.specs.Words.{MessageValue, ReplyValue, Row, puts, time_in}
+
+-- how the rows are made that set a date
+
+-- a date is passed on
+abbrev pub pass_sorts : List Sort
+pass_sorts = Passing ∷ Posting ∷ []
+
+-- a date is set
+abbrev pub set_sorts : List Sort
+set_sorts = Posting ∷ Tabling ∷ Moving ∷ []
+
+-- all that is done about dates
+abbrev pub date_sorts : List Sort
+date_sorts = Passing ∷ Posting ∷ Tabling ∷ Acking ∷ Moving ∷ []
+
+module _ {m : Naming} {o : Owed} where
+  pub built_date_acked : (msg : MessageValue) (p : PeerId) → m.known p → Built m o (Acking ∷ []) 0 1 (date_acked msg p) (date_acked msg (m.names.peer p))
+  unfolding date_acked date_acked_in
+  built_date_acked msg p known = Reading _ RoleAt by_role where
+    by_role : (r : Role) → known_role m r → Built m o (Acking ∷ []) 0 1 (date_acked_in msg p r) (date_acked_in msg (m.names.peer p) (renamed_role m.names r))
+    by_role (Follow q) told = whichever (HasDate p msg.number) (At (Puts (Acked p) refl known) refl) Empty
+    by_role _ told = Empty
+
+  module _ (number : ℕ) (time : ℤ) (is : o.of (ANumber number)) (timely : o.of (ATime time)) where
+    pub built_passes_on : (from : Place) (q : PeerId) → known_place m from → m.known q → o.of (APlace from) → Built m o pass_sorts 0 2 (passes_on from q number time) (passes_on (renamed_place m.names from) (m.names.peer q) number time)
+    unfolding passes_on begins_timed
+    built_passes_on from q place known back = whichever (MayPassOn q)
+        (Then (At (PostsBack from Ack number place back is refl) refl) (ReadingValue _ NextNumber (λ n own. At (PostsTime q SetDateReq n time known own timely refl) refl))) Empty
+
+    pub built_new_date : (from : Place) → known_place m from → o.of (APlace from) → Built m o set_sorts 2 2 (new_date from number time) (new_date (renamed_place m.names from) number time)
+    unfolding new_date leaves_all leaves
+    built_new_date from place back =
+        Then (At (Sets time) refl) (Then (At (PostsBack from DateAck number place back is refl) refl)
+        (Then (Each _ Table (λ p known. At (Puts (Leave p) refl known) refl)) (At (ToOthers MasterUp refl) refl)))
+
+    built-where : (from : Place) → known_place m from → o.of (APlace from) → Built m o set_sorts 2 2 (sets_date_where from number time) (sets_date_where (renamed_place m.names from) number time)
+    unfolding sets_date_where
+    built-where from place back = whichever (MayDate time) (built_new_date from place back) Empty
+
+    built-in : (from : Place) (r : Role) → known_place m from → known_role m r → o.of (APlace from) → Built m o date_sorts 2 2 (date_in from number time r) (date_in (renamed_place m.names from) number time (renamed_role m.names r))
+    unfolding date_in
+    built-in from (Follow q) place told back = More (Wider refl (built_passes_on from q place told back)) refl
+    built-in from Master place told back = Wider refl (built-where from place back)
+    built-in from _ place told back = Empty
+
+  module _ (charge : Bool) (msg : MessageValue) (is : o.of (ANumber msg.number)) (timely : o.of (ATime (time_in msg.body))) where
+    pub built_date_of : (from : Place) → known_place m from → o.of (APlace from) → Built m o date_sorts 2 2 (date_of charge from msg) (date_of charge (renamed_place m.names from) msg)
+    unfolding date_of
+    built_date_of from place back = by_charge charge where
+      by_charge : (b : Bool) → Built m o date_sorts 2 2 (date_of b from msg) (date_of b (renamed_place m.names from) msg)
+      by_charge true = Reading _ RoleAt (λ r told. built-in msg.number (time_in msg.body) is timely from r place told back)
+      by_charge false = Empty
+
+    built-charge : (p : PeerId) → m.known p → Built m o date_sorts 2 2 (sets_in_charge charge p msg) (sets_in_charge charge (m.names.peer p) msg)
+    unfolding sets_in_charge
+    built-charge p known = by_charge charge where
+      by_charge : (b : Bool) → Built m o date_sorts 2 2 (sets_in_charge b p msg) (sets_in_charge b (m.names.peer p) msg)
+      by_charge true = Wider refl (built-where msg.number (time_in msg.body) is timely (Peer p) known (o.near p))
+      by_charge false = Empty
+
+    pub built_date_request_of : (p : PeerId) → m.known p → Built m o date_sorts 2 2 (date_request_of charge msg p) (date_request_of charge msg (m.names.peer p))
+    unfolding date_request_of date_request_in
+    built_date_request_of p known = Reading _ RoleAt by_role where
+      by_role : (r : Role) → known_role m r → Built m o date_sorts 2 2 (date_request_in charge msg p r) (date_request_in charge msg (m.names.peer p) (renamed_role m.names r))
+      by_role Master told = whichever (IsDated p msg.number) (More (At (Posts p DateAck msg.number known is refl) refl) refl) (built-charge p known)
+      by_role _ told = Empty
 
 -- what an alarm brings about: only a Close moves the clock
 abbrev pub ring_sorts : Alarm → List Sort

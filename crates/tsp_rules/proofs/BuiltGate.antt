@@ -1,12 +1,11 @@
 -- How the rows of single ports are made that a node's rows over its ports need besides.
-use Rattle.std.specs.Prelude.{true, [], ◌∷◌, refl}
-use Rattle.std.proofs.lemmas.Bool.{and_from}
+use Rattle.std.{specs.Prelude.true, specs.Prelude.[], specs.Prelude.◌∷◌, specs.Prelude.refl, proofs.lemmas.Bool.and_from}
 use Rattle.tsp_rules.specs.Values.{Become, Quiet, Port, Starting, QUIET}
-use Rattle.tsp_base.specs.Words.{MessageValue, arms, puts, ◌followed_by◌}
 use Rattle.tsp_rules.specs.{GateRows.loosens_master, GateRows.reposts, GateRows.sends_loops, Renames.Naming}
 use Rattle.tsp_rules.proofs.RowCodes.{AMessage, ANumber, Arms, IsMaster, Loops, Owed, Puts, Reposts}
 use Rattle.tsp_rules.proofs.Built.{At, Built, Empty, Then, whichever}
-use Rattle.tsp_rules.proofs.{BuiltCandidate.built_yields, BuiltCandidate.yield_sorts, Emits.Posting, Emits.is_in-own, Emits.sort_of_kind}
+use Rattle.tsp_rules.proofs.{BuiltRoles.built_yields, BuiltRoles.yield_sorts, Emits.Posting, Emits.is_in-own, Emits.sort_of_kind}
+use Rattle.tsp_base.specs.Words.{MessageValue, arms, puts, ◌followed_by◌}
 
 module _ {m : Naming} {o : Owed} where
   pub built_loosens_master : Built m o yield_sorts 0 2 loosens_master loosens_master

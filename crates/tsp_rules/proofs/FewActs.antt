@@ -1,6 +1,6 @@
 -- How many acts the rows put at the most, that only a taking takes, and that only a stranger's datagram is answered to a stranger.
-use Rattle.std.proofs.Common.{sym, subst, ap, arith, true≢false, length-append, ◌≡◌, ◌≤◌, ℕ, suc, ◌+◌, ◌*◌, ◌&&◌, ◌==◌, not, ℤ, Bool, true, false, if◌then◌else◌, List, [], ◌∷◌, ◌++◌, length, map, filter, refl}
-use Rattle.std.proofs.lemmas.Bool.{and_from}
+use Rattle.std.proofs.Common.{sym, subst, ap, arith, true≢false, length-append, ◌≡◌, ◌≤◌, ℕ, ◌+◌, ◌*◌, ◌&&◌, ◌==◌, not, ℤ, Bool, true, false, if◌then◌else◌, List, [], ◌∷◌, ◌++◌, length, map, filter, refl}
+use Rattle.std.proofs.{lemmas.Bool.and_from, lemmas.List.length-map}
 use Rattle.tsp_rules.specs.Values.{Act, Boot, Took, Post, Correct, Alarm, Kind, PeerId, Stranger}
 use Rattle.tsp_base.specs.Words.{Past, Row, grown, nothing, puts, ◌followed_by◌, either_by, reading, for_each, arms, others, post_of, posts, posts_to_others, posts_time}
 
@@ -28,7 +28,7 @@ calm_append strange moving (a ∷ xs) ys p q = both strange moving (is_calm_act 
   both strange moving true b xs ys e k q = k e q
   both strange moving false b xs ys e k q = absurd (true≢false (sym e))
 
-pub filter_few : (test : PeerId → Bool) (ps : List PeerId) → length (filter test ps) ≤ length ps
+pub filter_few : {A : Type 0} (test : A → Bool) (ps : List A) → length (filter test ps) ≤ length ps
 filter_few test [] = omega arith
 filter_few test (p ∷ ps) = by_case (test p) (filter_few test ps) where
   by_case : (b : Bool) → length (filter test ps) ≤ length ps → length (if b then p ∷ filter test ps else filter test ps) ≤ length (p ∷ ps)
@@ -38,10 +38,6 @@ filter_few test (p ∷ ps) = by_case (test p) (filter_few test ps) where
 map-calm : (strange moving : Bool) (f : PeerId → Act) → ((p : PeerId) → is_calm_act strange moving (f p) ≡ true) → (ps : List PeerId) → is_calm strange moving (map f ps) ≡ true
 map-calm strange moving f e [] = refl
 map-calm strange moving f e (p ∷ ps) = and_from (is_calm_act strange moving (f p)) (is_calm strange moving (map f ps)) (e p) (map-calm strange moving f e ps)
-
-map-length : (f : PeerId → Act) (ps : List PeerId) → length (map f ps) ≡ length ps
-map-length f [] = refl
-map-length f (p ∷ ps) = ap (λ n. suc n) (map-length f ps)
 
 module _ {strange moving : Bool} where
   pub calm_nothing : Calm strange moving 0 0 nothing
@@ -105,7 +101,7 @@ module _ {strange moving : Bool} where
   pub calm_others : (row : Row) (f : Past → PeerId → Act) → ((x : ℕ) (past : Past) → row x past ≡ map (f past) (others past.own past.peers)) → ((past : Past) (p : PeerId) → is_calm_act strange moving (f past p) ≡ true) → Calm strange moving 1 0 row
   calm_others row f is e = record {
     few = λ x past.
-        let all = map-length (f past) (others past.own past.peers) in
+        let all = length-map (others past.own past.peers) (f past) in
         let some = filter_few (λ p. not (p.0 == past.own.0)) past.peers in
         let same : length (row x past) ≡ length (map (f past) (others past.own past.peers)) = ap length (is x past) in
         let one : 1 * length past.peers ≡ length past.peers = grind arith in

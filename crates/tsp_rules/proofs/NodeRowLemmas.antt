@@ -1,10 +1,9 @@
 -- What ports see of rows over ports.
 use Rattle.std.proofs.Common.{sym, ap, subst, eq-eqb, ◌∙◌, ◌≡◌, ◌≢◌, ℕ, ◌==◌, true, false, ◌||◌, List, [], ◌∷◌, ◌++◌, refl}
 use Rattle.std.proofs.lemmas.List.{append_assoc}
-use Rattle.tsp_rules.specs.Values.{Act, Boot, Placed, Port}
-use Rattle.tsp_base.specs.Words.{Step, Acts, Line, Seen, Elsewhere, view, seen_as, is_shared, joined, line_of, added, grown, placed}
-use Rattle.tsp_rules.specs.NodePerforms.{PerformsAll}
+use Rattle.tsp_rules.specs.{Values.Act, Values.Boot, Values.Placed, Values.Port, NodePerforms.PerformsAll}
 use Rattle.tsp_rules.specs.NodeRows.{NodePast, NodeRow, on_port, spread, ◌and_then◌}
+use Rattle.tsp_base.specs.Words.{Step, Acts, Line, Seen, Elsewhere, view, seen_as, is_shared, joined, line_of, added, grown, placed}
 
 -- a port's acts are its own
 pub view_own : (q : Port) (step : Step) (x : ℕ) (acts : List Act) (lines : List Line) → view q (joined step x (placed q acts) lines) ≡ added step x acts (view q lines)

@@ -1,17 +1,16 @@
 -- What rows are made of: acts, facts, tests and lists of peers, as codes that name no property.
 use Rattle.std.specs.Prelude.{◌≡◌, ℕ, ℤ, Bool, true, false, List, [], ◌∷◌, Option, Some}
 use Rattle.tsp_rules.specs.Values.{Act, Boot, Took, Post, Correct, Sample, Alarm, Message, Taken, Kind, AdjTime, Ack, Date, DateReq, LoopKind, SetDate, SetDateReq, SetTime, PeerId, Place, Peer, Port, Role}
-use Rattle.tsp_base.specs.Words.{Past, MessageValue, OpenRequest, Sending, Row, arms, bare, posts, posts_back, posts_time, posts_to_others, puts, ReplyValue}
 use Rattle.tsp_rules.specs.{Answers.is_left, CandidateRows.has_won, ClockRows.adjusts, ClockRows.sets, MasterRows.may_join}
 use Rattle.tsp_rules.specs.CommonRows.{is_awake, master_name, may_be_asked, own_at, replies}
-use Rattle.tsp_rules.specs.DateRows.{has_date, is_dated, may_date, may_pass_on}
-use Rattle.tsp_rules.specs.{GateRows.reposts, GateRows.sends_loops, ResolveRows.is_new_rival}
+use Rattle.tsp_rules.specs.{DateRows.has_date, DateRows.is_dated, DateRows.may_date, DateRows.may_pass_on, ResolveRows.is_new_rival}
+use Rattle.tsp_rules.specs.{GateRows.reposts, GateRows.sends_loops, SlaveRows.is_repeated, SlaveRows.takes_amount, SlaveRows.takes_value}
 use Rattle.tsp_rules.specs.Guards.{delay_at, follows_at, is_armed, is_due, is_going_at, is_heard, is_in_time, is_master_at, is_own, is_slave_at, may_back_at, may_stand_at, rivals_at, role_at, table_at, target_at, ticket_at}
 use Rattle.tsp_rules.specs.RoundRows.{asks, has_more, measured_at, request_at, sample_of}
 use Rattle.tsp_rules.specs.SendRows.{begins_settime, has_election, has_other, has_quit, is_free, is_send_due, is_spent, may_correct, next_number, others_at, repeats}
-use Rattle.tsp_rules.specs.SlaveRows.{is_repeated, takes_amount, takes_value}
 use Rattle.tsp_rules.proofs.Emits.{Sort, Asking, Correcting, Moving, Posting, Sampling, sort_of, sort_of_alarm, sort_of_kind}
 use Rattle.tsp_rules.specs.Renames.{Knows, Naming, Wakes, comes_place, known_place, known_role, later_send, renamed_act, renamed_place, renamed_role}
+use Rattle.tsp_base.specs.Words.{Past, MessageValue, OpenRequest, Sending, Row, arms, bare, posts, posts_back, posts_time, posts_to_others, puts, ReplyValue}
 
 -- values in acts
 pub data Value : Type 0 where

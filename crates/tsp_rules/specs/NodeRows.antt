@@ -1,8 +1,7 @@
 -- Rows of a node over all its ports.
 use Rattle.std.specs.Prelude.{ℕ, Bool, if◌then◌else◌, List, [], ◌∷◌, ◌++◌, slice_index_or}
-use Rattle.tsp_rules.specs.Values.{Abandon, Placed, PeerId, Port}
+use Rattle.tsp_rules.specs.{Values.Abandon, Values.Placed, Values.PeerId, Values.Port, RoundRows.corrects}
 use Rattle.tsp_base.specs.Words.{Begins, Step, Line, Past, view, first_port, joined, line_of, is_going, Row, placed}
-use Rattle.tsp_rules.specs.RoundRows.{corrects}
 
 -- how a port is set up: the node's number on its network, and all peers there
 pub record PortSetup : Type 0 where

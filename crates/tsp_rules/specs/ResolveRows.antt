@@ -1,9 +1,8 @@
 -- How a master finds its rivals and sends them away.
 use Rattle.std.specs.Prelude.{ℕ, Bool, not, ◌&&◌}
 use Rattle.tsp_rules.specs.Values.{Ring, Late, Rival, ResolveAlarm, QuitKind, ResolveKind, PeerId, WINDOW}
+use Rattle.tsp_rules.specs.{SendRows.begins, Guards.is_in_time, Guards.is_armed, Guards.is_rival_at, Guards.rivals_at}
 use Rattle.tsp_base.specs.Words.{Past, Row, nothing, puts, ◌followed_by◌, either_by, reading, for_each, arms, posts_to_others}
-use Rattle.tsp_rules.specs.SendRows.{begins}
-use Rattle.tsp_rules.specs.Guards.{is_in_time, is_armed, is_rival_at, rivals_at}
 
 -- a master asks all peers who else is master, unless it is asking already
 unfoldable pub resolves : Row

@@ -1,15 +1,14 @@
 -- What a node that is up puts in a step fits.
 use Rattle.std.proofs.Common.{sym, subst, arith, true≢false, ◌≡◌, ℕ, ◌≤◌, ◌<◌, pos, ◌+ℤ◌, Bool, true, false, List, [], ◌∷◌, ◌++◌, length, refl}
 use Rattle.tsp_rules.specs.Values.{Act, Boot, Took, Placed, Taken, Place, Port}
-use Rattle.tsp_base.specs.Words.{first_port, line_of, puts, Booted, Step, Acts, Line}
-use Rattle.tsp_promises.specs.{Fits.TookFits, Setting.Setting}
 use Rattle.tsp_rules.specs.GateRows.{NodeTurn, GotOn, all_ports, answers_all, boots_all, boots_on}
 use Rattle.tsp_rules.specs.NodeRows.{NodePast, on, ◌and_then◌, reading_all, for_ports, spread}
 use Rattle.tsp_rules.{proofs.FewActs.is_calm_act, specs.Strangers.is_stranger}
+use Rattle.tsp_base.specs.Words.{first_port, line_of, puts, Booted, Step, Acts, Line}
+use Rattle.tsp_promises.specs.{Fits.TookFits, Setting.Setting}
 use Rattle.tsp_run.specs.Networks.{room}
-use Rattle.tsp_run.proofs.{CalmAll.AreCalm, CalmAll.Small, CalmAll.small_spread, NetworkLemmas.peers_few}
-use Rattle.tsp_run.proofs.CalmPorts.{calm_boots, calm_turn_all, step_most, takes_once_on}
-use Rattle.tsp_run.proofs.FitsLines.{TakenOk, AllTaken, AllAlive, ActsOn}
+use Rattle.tsp_run.proofs.CalmPorts.{AreCalm, Small, small_spread, calm_boots, calm_turn_all, step_most, takes_once_on}
+use Rattle.tsp_run.proofs.{NetworkLemmas.peers_few, FitsLines.TakenOk, FitsLines.AllTaken, FitsLines.AllAlive, FitsLines.ActsOn}
 
 module _ (setting : Setting) (step : Step) (x : ℕ) (history : List Line) (strange : Bool) where
   alive-one : (p : Placed) (rest : List Placed) (a : Act) → p.act ≡ a → is_calm_act strange true a ≡ true → AllAlive setting step x true rest → AllAlive setting step x true (p ∷ rest)

@@ -1,11 +1,10 @@
 -- A property of every line of a step, whatever it does, is one of every line after it.
 use Rattle.std.proofs.Common.{inl, inr, subst, sym, ◌≡◌, ℕ, ℤ, List, [], ◌∷◌, refl}
 use Rattle.tsp_rules.specs.Values.{Placed, Event, BootAt, Turn, Take, Bytes, Port}
+use Rattle.tsp_rules.specs.{GateRows.GotOn, GateRows.NodeTurn, GateRows.answers_all, GateRows.boots_all, NodeRows.NodeRow}
 use Rattle.tsp_base.specs.Words.{HeaderValue, Acts, Begins, Booted, Came, Cause, Deed, Handed, Line, Step, Turned, first_port, joined, line_of, stepped}
 use Rattle.tsp_promises.specs.Everywhere.{Everywhere}
 use Rattle.tsp_codec.specs.Taken.{taken_of}
-use Rattle.tsp_rules.specs.GateRows.{GotOn, NodeTurn, answers_all, boots_all}
-use Rattle.tsp_rules.specs.NodeRows.{NodeRow}
 use Rattle.tsp_run.specs.Run.{boot_step, joins, run, step_tick}
 use Rattle.tsp_run.proofs.Happens.{acts_by, steps-are, takes-or, taking, taking_row, taking_step}
 

@@ -1,12 +1,11 @@
 -- The lines of one step fit the history before it.
-use Rattle.std.proofs.Common.{sym, ap, subst, inl, inr, arith, eq-eqb, eqb-true, true≢false, ◌≡◌, ◌⊎◌, ℕ, ◌+◌, ◌<◌, ◌≤◌, ◌^◌, ◌==◌, ◌||◌, Bool, true, false, if◌then◌else◌, List, [], ◌∷◌, length, None, refl}
-use Rattle.tsp_rules.specs.Values.{Act, Boot, Took, Post, Placed, Taken, PeerId, Place, Port}
-use Rattle.tsp_base.specs.Words.{first_port, joined, line_of, Cause, Booted, Turned, Came, Handed, Step, Deed, Begins, Acts, Did, Line, Seen, Here, of, view, seen_as, is_shared, dids, time_of, up, up_after, Within, role, taken, Setup, exchange, exchange_after, posted, posted_after, tick_at}
-use Rattle.tsp_promises.specs.{DeedFits.ActFits, PortFits.PortFits, Setting.Setting, Setting.setup_of}
-use Rattle.tsp_promises.specs.Fits.{Alive, TookFits, LineFits, Fits}
-use Rattle.tsp_promises.specs.StepFacts.{StepEnds, is_unbacked, is_unbacked_after, owes, owes_after, unacknowledged, unacknowledged_after, unheeded, unheeded_after}
-use Rattle.std.proofs.lemmas.Bool.{cases_lt, or_right}
-use Rattle.tsp_promises.proofs.{Leaves.none-among, SendPlaces.posted-mono}
+use Rattle.std.proofs.Common.{sym, ap, subst, inl, inr, arith, eq-eqb, eqb-true, ◌≡◌, ◌⊎◌, ℕ, ◌+◌, ◌<◌, ◌≤◌, ◌^◌, ◌==◌, ◌||◌, Bool, true, false, if◌then◌else◌, List, [], ◌∷◌, length, refl}
+use Rattle.std.proofs.lemmas.Bool.{cases_lt}
+use Rattle.tsp_promises.proofs.{StepChecks.Empty, StepChecks.far-deed, StepChecks.far-ends, SendPlaces.posted-mono}
+use Rattle.tsp_promises.specs.{DeedFits.ActFits, StepFacts.StepEnds, StepFacts.owes}
+use Rattle.tsp_promises.specs.{PortFits.PortFits, Setting.Setting, Setting.setup_of, Fits.Alive, Fits.TookFits, Fits.LineFits, Fits.Fits}
+use Rattle.tsp_rules.specs.Values.{Act, Boot, Took, Post, Placed, Taken, Place, Port}
+use Rattle.tsp_base.specs.Words.{first_port, joined, line_of, Cause, Booted, Turned, Came, Handed, Step, Deed, Begins, Acts, Did, Line, Seen, of, view, seen_as, is_shared, dids, time_of, up, up_after, Within, Setup, posted, posted_after, tick_at}
 use Rattle.tsp_base.proofs.{PlaceLemmas.Within-all, PlaceLemmas.Within-through, ViewPlaces.port-same, ViewPlaces.sees-own}
 use Rattle.tsp_run.specs.Networks.{ports_on}
 
@@ -37,34 +36,13 @@ ActsOn ports [] = Unit {0}
 ActsOn ports (p ∷ rest) = (is_shared (Acts p.act) ≡ false → p.port.0 < ports) × ActsOn ports rest
 
 -- a port that has no lines of its own
-record Bystander (seen : List Seen) : Type 0 where
-  pub backs : is_unbacked seen ≡ false
-  pub owed : owes seen ≡ []
-  pub paid : unacknowledged seen ≡ None
-  pub heeded : (peers : List PeerId) → unheeded peers seen ≡ None
-  pub idle : (p : PeerId) (c : ℕ) → exchange p c seen ≡ []
-
-shared-here : (d : Did) (seen : List Seen) → Bystander seen → (deed : Deed) → deed ≡ d.deed → is_shared deed ≡ true → Bystander (Here d ∷ seen)
-shared-here d seen b Begins is e = record { backs = (let i = is in subst (λ k. is_unbacked_after k d.step.node (is_unbacked seen) ≡ false) is refl); owed = subst (λ k. owes_after k (role seen) (owes seen) ≡ []) is refl; paid = subst (λ k. unacknowledged_after k (taken seen) (unacknowledged seen) ≡ None) is refl; heeded = λ peers. subst (λ k. unheeded_after peers d.step.node k (role seen) (unheeded peers seen) ≡ None) is refl; idle = λ p c. subst (λ k. exchange_after p c k (Here d ∷ seen) (exchange p c seen) ≡ []) is (b.idle p c) }
-shared-here d seen b (Acts Boot) is e = record { backs = subst (λ k. is_unbacked_after k d.step.node (is_unbacked seen) ≡ false) is b.backs; owed = subst (λ k. owes_after k (role seen) (owes seen) ≡ []) is b.owed; paid = subst (λ k. unacknowledged_after k (taken seen) (unacknowledged seen) ≡ None) is b.paid; heeded = λ peers. subst (λ k. unheeded_after peers d.step.node k (role seen) (unheeded peers seen) ≡ None) is (b.heeded peers); idle = λ p c. subst (λ k. exchange_after p c k (Here d ∷ seen) (exchange p c seen) ≡ []) is refl }
-shared-here d seen b _ is e = absurd (true≢false (sym e))
-
-bystands : (ports : ℕ) (q : Port) → ports ≤ q.0 → (ls : List Line) → AreOn ports ls → Bystander (view q ls)
-bystands ports q past [] f = record { backs = refl; owed = refl; paid = refl; heeded = λ peers. refl; idle = λ p c. refl }
+bystands : (ports : ℕ) (q : Port) → ports ≤ q.0 → (ls : List Line) → AreOn ports ls → Empty (view q ls)
+bystands ports q past [] f = record { backs = refl; none = refl; heeded = refl; untaken = λ peers. refl; shut = λ p c. refl }
 bystands ports q past (l ∷ before) f = by_case (l.port.0 == q.0) refl (is_shared l.did.deed) refl (bystands ports q past before f.1) where
-  by_case : (a : Bool) → (l.port.0 == q.0) ≡ a → (b : Bool) → is_shared l.did.deed ≡ b → Bystander (view q before) → Bystander (seen_as (a || b) l.did ∷ view q before)
-  by_case a e true i s = subst (λ b. Bystander (seen_as b l.did ∷ view q before)) (sym (or_right a true refl)) (shared-here l.did (view q before) s l.did.deed refl i)
+  by_case : (a : Bool) → (l.port.0 == q.0) ≡ a → (b : Bool) → is_shared l.did.deed ≡ b → Empty (view q before) → Empty (seen_as (a || b) l.did ∷ view q before)
+  by_case false e b i s = far-deed b l.did l.did.deed (view q before) refl i s
+  by_case true e true i s = far-deed true l.did l.did.deed (view q before) refl i s
   by_case true e false i s = let same = eqb-true l.port.0 q.0 e in let less = f.0 i in absurd (omega (arith, same, less, past))
-  by_case false e false i s = record { backs = s.backs; owed = s.owed; paid = s.paid; heeded = s.heeded; idle = s.idle }
-
-bystander_ends : (setup : Setup) (seen : List Seen) → Bystander seen → StepEnds setup seen
-bystander_ends setup seen b = record {
-  backs = b.backs;
-  heeds = b.heeded setup.peers;
-  follows = λ p e. none-among p b.owed e;
-  acknowledged = b.paid;
-  exchanges = λ p c request older e. let i = b.idle p c in let bad : ⊥ = cc in absurd bad;
-}
 
 or-left : (a : Bool) → (a || false) ≡ true → a ≡ true
 or-left true e = refl
@@ -74,7 +52,7 @@ or-left false e = e
 pub all_end : (setup : Setup) (ports : ℕ) (q : Port) (ls : List Line) → AreOn ports ls → (q.0 < ports → StepEnds setup (view q ls)) → StepEnds setup (view q ls)
 all_end setup ports q ls f ends = elim (cases_lt q.0 ports) [
   | inl has ↦ ends has
-  | inr past ↦ bystander_ends setup (view q ls) (bystands ports q past ls f)
+  | inr past ↦ far-ends setup (view q ls) (bystands ports q past ls f)
 ]
 
 boot_or : (a : Act) → (a ≡ Boot) ⊎ (is_shared (Acts a) ≡ false)

@@ -1,15 +1,14 @@
 -- What the events of a schedule make happen.
 use Rattle.std.proofs.Common.{ap, arith, ◌∙◌, inl, inr, ◌≡◌, ◌⊎◌, ◌≤◌, ◌<◌, ℕ, ◌+◌, false, List, [], ◌∷◌, length, Option, None, Some, slice_get, refl}
 use Rattle.tsp_rules.specs.Values.{Boot, Placed, Taken, Take, Place, Peer, Port}
-use Rattle.tsp_base.specs.Words.{HeaderValue, IsHeader, Came, Line, Step, first_port, puts, peer_of}
-use Rattle.tsp_codec.specs.{Canon.canon, Taken.taken_of}
 use Rattle.tsp_rules.specs.GateRows.{NodeTurn, GotOn, all_ports, answers_all, boots_all, boots_on}
 use Rattle.tsp_rules.specs.NodeRows.{NodePast, NodeRow, in_node_step, on, ◌and_then◌, reading_all, for_ports, spread}
-use Rattle.tsp_run.specs.Networks.{address_of, networks, ports_on, room}
-use Rattle.tsp_run.specs.Run.{Happening, arrives, arrives_at, goes_to, happening, reaches, steps, step_tick}
-use Rattle.tsp_run.specs.{Run.posts, Setup.past_of, declared.address.Address.Address, declared.posted.Posted.Posted}
-use Rattle.tsp_run.proofs.{AnswersFit.small_room, CalmAll.AreCalm, CalmAll.CalmActs, CalmAll.small_spread}
-use Rattle.tsp_run.proofs.CalmPorts.{TakesOnce, calm_boots, calm_turn_all, step_most, takes_once_on, turns_most}
+use Rattle.tsp_base.specs.Words.{HeaderValue, IsHeader, Came, Line, Step, first_port, puts, peer_of}
+use Rattle.tsp_codec.specs.{Canon.canon, Taken.taken_of}
+use Rattle.tsp_run.specs.{Networks.address_of, Networks.networks, Networks.ports_on, Networks.room, declared.address.Address.Address}
+use Rattle.tsp_run.specs.Run.{Happening, arrives, arrives_at, goes_to, happening, reaches, steps, step_tick, posts}
+use Rattle.tsp_run.{specs.Setup.past_of, specs.declared.posted.Posted.Posted, proofs.AnswersFit.small_room}
+use Rattle.tsp_run.proofs.CalmPorts.{AreCalm, CalmActs, small_spread, TakesOnce, calm_boots, calm_turn_all, step_most, takes_once_on, turns_most}
 use Rattle.tsp_run.proofs.{NetworkLemmas.few_ports, NetworkLemmas.goes_there, RefusalLemmas.goes-nowhere, RefusalLemmas.goes_to-post}
 
 -- the acts of a step by a row

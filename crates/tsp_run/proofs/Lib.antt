@@ -1,18 +1,11 @@
-mod AnswerOctetsProof
 pub mod AnswersFit
-pub mod ApartRun
 pub mod BootLemmas
-mod BrokenOctets
-pub mod CalmAll
 pub mod CalmPorts
 pub mod EachLine
 pub mod FitsLines
-pub mod GatewayRunTold
 pub mod Happens
 pub mod HeaderLines
-mod NamesRun
 pub mod NetworkLemmas
-mod OnlyThen
 pub mod PossibleRun
 pub mod PostPlaces
 pub mod PromptRun
@@ -26,4 +19,3 @@ pub mod SettingLemmas
 pub mod ShortRun
 pub mod SoundLemmas
 pub mod SoundAll
-pub mod SoundPorts

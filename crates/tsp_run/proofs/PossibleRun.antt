@@ -2,15 +2,14 @@
 use Rattle.std.proofs.Common.{ap, arith, inl, inr, length-append, subst, sym, ◌∙◌, ◌≡◌, ◌<◌, ◌≤◌, ◌^◌, ℕ, suc, ◌+◌, List, [], ◌∷◌, ◌++◌, length, Option, None, Some, slice_get, refl}
 use Rattle.std.proofs.lemmas.List.Elements.{All-tail}
 use Rattle.tsp_rules.specs.Values.{Act, Post, Placed, Event, BootAt, Turn, Take, Bytes, Peer}
+use Rattle.tsp_rules.specs.{GateRows.GotOn, GateRows.NodeTurn, GateRows.answers_all, GateRows.boots_all, NodeRows.NodeRow}
 use Rattle.tsp_base.specs.Words.{HeaderValue, IsHeader, Handed, Line, Step, Turned, peer_of, stepped}
 use Rattle.tsp_codec.specs.Taken.{taken_of}
-use Rattle.tsp_rules.specs.GateRows.{GotOn, NodeTurn, answers_all, boots_all}
-use Rattle.tsp_rules.specs.NodeRows.{NodeRow}
-use Rattle.tsp_run.specs.{Networks.networks, Networks.ports_on, Networks.room, Ranges.IsInRange}
-use Rattle.tsp_run.specs.Possible.{AcceptedIsPossible, Happens, Possible}
+use Rattle.tsp_run.specs.Networks.{networks, ports_on, room}
+use Rattle.tsp_run.{specs.Ranges.IsInRange, proofs.CalmPorts.step_most, proofs.RefusalLemmas.allowed, proofs.RefusalLemmas.allowed-possible}
+use Rattle.tsp_run.{specs.Possible.AcceptedIsPossible, specs.Possible.Happens, specs.Possible.Possible, proofs.RunLemmas.posts_stepped}
 use Rattle.tsp_run.specs.Refusals.{Valid, most_posts, node_in, refusal, scene}
 use Rattle.tsp_run.specs.Run.{Happening, boot_step, goes_to, happening, joins, posted_by, posts, posts_from, run, step_tick, steps}
-use Rattle.tsp_run.proofs.{CalmPorts.step_most, RefusalLemmas.allowed, RefusalLemmas.allowed-possible, RunLemmas.posts_stepped}
 use Rattle.tsp_run.proofs.Happens.{acts_by, boot_few, got_acts, stepping, steps-are, taken_in, takes-or, taking, taking_row, taking_step, turn_few}
 
 -- how many datagrams were posted after a step

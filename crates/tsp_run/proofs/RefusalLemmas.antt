@@ -4,10 +4,9 @@ use Rattle.std.proofs.lemmas.Bool.{ltb-true, ltb-false, leb-false, or_parts}
 use Rattle.tsp_rules.specs.Values.{Event, BootAt, Turn, Take, Bytes, Place, Port}
 use Rattle.tsp_base.specs.declared.event.EventFault.{EventFault}
 use Rattle.tsp_base.specs.declared.event.EventFault.TheVariants.{TimeBack, NoNode, NotUp, Limit}
-use Rattle.tsp_run.specs.declared.posted.Posted.{Posted}
+use Rattle.tsp_run.specs.{declared.posted.Posted.Posted, declared.address.Address.Address}
 use Rattle.tsp_run.specs.Refusals.{Scene, Allowed, Names, refusal, first_of, time_back, unknown, no_node, no_datagram, down, not_up, limit, impossible, lacks_port, port_count, is_crowded, room_at, node_in, actor, most_events, most_posts}
-use Rattle.tsp_run.specs.{Networks.address_of, Networks.ports_on, Networks.room, declared.address.Address.Address}
-use Rattle.tsp_run.specs.Run.{event_at, goes_to, arrives, arrives_at}
+use Rattle.tsp_run.specs.{Networks.address_of, Networks.ports_on, Networks.room, Run.event_at, Run.goes_to, Run.arrives, Run.arrives_at}
 
 -- there is no first cause where there is neither
 pub first_of-none : (a b : Option EventFault) → first_of a b ≡ None → (a ≡ None) × (b ≡ None)

@@ -2,30 +2,28 @@
 use Rattle.std.proofs.Common.{sym, ap, subst, inr, arith, ◌∙◌, eq-eqb, eqb-true, ◌≡◌, ℕ, ◌+◌, ◌<◌, ◌≤◌, ◌^◌, ◌==◌, pos, ◌+ℤ◌, Bool, true, false, List, [], ◌∷◌, length, Option, None, Some, slice_get, refl}
 use Rattle.std.proofs.lemmas.List.Elements.{All-head}
 use Rattle.tsp_rules.specs.Values.{Took, Post, Placed, Event, BootAt, Turn, Take, Bytes, Peer, Port}
-use Rattle.tsp_base.specs.Words.{first_port, joined, line_of, stepped, HeaderValue, IsHeader, Booted, Turned, Came, Handed, Step, Begins, Acts, Line, of, view, dids, time_of, up, posted, peer_of, tick_at}
-use Rattle.tsp_promises.specs.{Fits.Fits, Fits.TookFits, PortFits.PortFits, PortFits.setup_in, Sound.IsSound, Sound.IsSoundDeed}
-use Rattle.tsp_promises.specs.Setting.{Alone, Named, Setting, setup_of}
-use Rattle.tsp_base.proofs.PlaceLemmas.{Within-all}
-use Rattle.tsp_codec.specs.{Canon.canon, Taken.taken_of}
 use Rattle.tsp_rules.specs.GateRows.{NodeGiven, NodeTurn, GotOn, answers_all, boots_all}
 use Rattle.tsp_rules.specs.NodeRows.{NodePast, NodeRow, PortSetup, in_node_step, on_port, port_setup, spread}
-use Rattle.tsp_promises.specs.StepFacts.{StepEnds}
-use Rattle.tsp_promises.proofs.NodeLeads.{answers_all_end, begins_all, boots_all_lead}
-use Rattle.tsp_promises.proofs.RunLeads.{ends_of, ended_later, ended_seen, nothing-done}
-use Rattle.tsp_promises.proofs.{Clocks.tick-mono, GateFacts.AllPorts, GateLeads.GivenOn, Known.Ended, Known.Fresh}
+use Rattle.tsp_base.specs.Words.{first_port, joined, line_of, stepped, HeaderValue, IsHeader, Booted, Turned, Came, Handed, Step, Begins, Acts, Line, of, view, dids, time_of, up, posted, peer_of, tick_at}
+use Rattle.tsp_base.proofs.PlaceLemmas.{Within-all}
+use Rattle.tsp_promises.specs.{Fits.Fits, Fits.TookFits, Sound.IsSound, Sound.IsSoundDeed, StepFacts.StepEnds}
+use Rattle.tsp_promises.specs.{PortFits.PortFits, PortFits.setup_in, Setting.Alone, Setting.Named, Setting.Setting, Setting.setup_of}
+use Rattle.tsp_promises.proofs.{NodeLeads.begins_all, NodeLeads.boots_all_lead, GateLeads.GivenOn, GateLeads.answers_all_lead}
+use Rattle.tsp_promises.proofs.{Known.Ended, Known.Fresh, Clocks.tick-mono}
+use Rattle.tsp_promises.proofs.{RunLeads.ends_of, RunLeads.ended_later, RunLeads.ended_seen, RunLeads.nothing-done, GateSteps.AllPorts}
+use Rattle.tsp_codec.specs.{Canon.canon, Taken.taken_of}
 use Rattle.tsp_run.specs.Networks.{networks, network_from, ports_on, address_of, room}
-use Rattle.tsp_run.specs.{Possible.Possible, Ranges.IsInRange, Refusals.scene, Refusals.down, Refusals.node_in}
+use Rattle.tsp_run.{specs.Possible.Possible, proofs.RefusalLemmas.CanHappen, proofs.RefusalLemmas.can_happen, proofs.RefusalLemmas.up-down}
+use Rattle.tsp_run.{specs.Ranges.IsInRange, proofs.NetworkLemmas.few_ports, proofs.NetworkLemmas.goes_there, proofs.NetworkLemmas.set_up}
+use Rattle.tsp_run.specs.{Refusals.scene, Refusals.down, Refusals.node_in, Setup.node_line, Setup.past_of, Setup.rests}
 use Rattle.tsp_run.specs.Run.{run, joins, steps, step_tick, boot_step, event_at, last_at, posts, reaches, arrives, arrives_at, goes_to}
-use Rattle.tsp_run.specs.Setting.{PossibleRunsFit, SetBy, RunsFit, named_or}
-use Rattle.tsp_run.specs.{Setup.node_line, Setup.past_of, Setup.rests, declared.address.Address.Address, declared.posted.Posted.Posted}
+use Rattle.tsp_run.specs.{Setting.PossibleRunsFit, Setting.SetBy, Setting.RunsFit, Setting.named_or, declared.address.Address.Address}
+use Rattle.tsp_run.{specs.declared.posted.Posted.Posted, proofs.PostPlaces.length-posts, proofs.PostPlaces.post_at}
 use Rattle.tsp_run.proofs.AnswersFit.{StepOk, turn_ok, got_ok, boot_ok}
 use Rattle.tsp_run.proofs.FitsLines.{ActsOn, AllAlive, ArePlaced, acts_fit, all_end, mark_line, of_placed, posted-joined}
-use Rattle.tsp_run.proofs.{HeaderLines.name-node_line, NetworkLemmas.few_ports, NetworkLemmas.goes_there, NetworkLemmas.set_up}
-use Rattle.tsp_run.proofs.{PossibleRun.accepted-possible, PossibleRun.possible_before, PostPlaces.length-posts, PostPlaces.post_at}
-use Rattle.tsp_run.proofs.{RefusalLemmas.CanHappen, RefusalLemmas.can_happen, RefusalLemmas.up-down, SoundAll.SoundNode}
-use Rattle.tsp_run.proofs.RunLemmas.{stepped_own, stepped_other}
-use Rattle.tsp_run.proofs.SoundLemmas.{line_sound, octets_sound, sound_read}
-use Rattle.tsp_run.proofs.SoundPorts.{IsSoundInput, sound_answers_all, sound_begins, sound_boots_all}
+use Rattle.tsp_run.proofs.{HeaderLines.name-node_line, SoundLemmas.line_sound, SoundLemmas.octets_sound, SoundLemmas.sound_read}
+use Rattle.tsp_run.proofs.{PossibleRun.accepted-possible, PossibleRun.possible_before, RunLemmas.stepped_own, RunLemmas.stepped_other}
+use Rattle.tsp_run.proofs.SoundAll.{SoundNode, IsSoundInput, sound_answers_all, sound_begins, sound_boots_all}
 
 -- what is known of a run: its lines fit and are on their nodes' ports, its time is that of its last event, each port of each node is at rest, and each node took and posted what has its parts in their ranges
 pub record Ran (header : HeaderValue) (setting : Setting) (t : ℕ) (h : List Line) : Type 0 where
@@ -141,7 +139,7 @@ module _ {header : HeaderValue} {setting : Setting} (is : IsHeader header) (set 
       let x : ℕ = step_tick header step in
       let past : NodePast = in_node_step step x (past_of header step (run header before)) in
       by_row header setting (last_at before) (run header before) step (answers_all g) set r later few
-      (λ fresh. (answers_all_end g).run x past (given-in g given, fresh)) ((sound_answers_all g sound).run x past)
+      (λ fresh. (answers_all_lead g).run x past (given-in g given, fresh)) ((sound_answers_all g sound).run x past)
       (subst (λ b. StepOk (length (ports_on step.node (networks header))) (room (ports_on step.node (networks header))) setting step x (run header before) b (answers_all g x past)) (sym is_up) ok)
     where
       given-in : (g : NodeGiven) → GivenOn g (past_of header step (run header before)) → GivenOn g (in_node_step step (step_tick header step) (past_of header step (run header before)))

@@ -1,9 +1,248 @@
 -- The premises of the promises hold of a possible schedule's run if they hold of its text.
-use Rattle.tsp_run.specs.{Premised.PossibleRunsKeepPremises, Premised.RunsKeepPremises, Run.run}
-use Rattle.tsp_run.proofs.{ApartRun.apart-words, NamesRun.names-apart, OnlyThen.honest-sealed, OnlyThen.words-apart, PromptRun.prompt-life}
-use Rattle.tsp_run.proofs.{PossibleRun.accepted-possible, RunFits.possible-runs-fit, SealedRun.sealed-honest, SettingLemmas.each-is-set}
-use Rattle.tsp_run.proofs.ShortRun.{own-few, short-few}
-use Rattle.tsp_promises.proofs.WordsProof.{own_words}
+use Rattle.std.proofs.Common.{ap, sym, subst, inl, inr, true≢false, ◌∙◌, ◌≡◌, ◌≢◌, ℕ, ℤ, Bool, true, false, List, [], ◌∷◌, Some, refl, eqb-true, ◌<◌, ◌==◌, if◌then◌else◌, length, None, slice_get, ◌++◌, Option}
+use Rattle.tsp_run.specs.Premised.{PossibleRunsKeepPremises, RunsKeepPremises, AllBootOtherwise, Apart, BootsOtherwise, IsApart, NamesDiffer, IsSealed, Sealed}
+use Rattle.tsp_run.specs.Run.{run, Happening, boot_step, joins, step_tick, goes_to, happening}
+use Rattle.tsp_run.specs.{Possible.Possible, Networks.networks, Refusals.down, Refusals.impossible, Refusals.node_in, Refusals.scene}
+use Rattle.tsp_run.{specs.Setting.SetBy, proofs.CalmPorts.AreCalm}
+use Rattle.tsp_run.proofs.{SettingLemmas.each-is-set, RunFits.possible-runs-fit, PromptRun.prompt-life, SealedRun.sealed-honest}
+use Rattle.tsp_run.proofs.{ShortRun.own-few, ShortRun.short-few, EachLine.IsCause, EachLine.each_event, EachLine.each-stepped}
+use Rattle.tsp_run.proofs.{PossibleRun.accepted-possible, PossibleRun.possible_before, RefusalLemmas.can_happen, RefusalLemmas.up-down}
+use Rattle.tsp_run.proofs.Happens.{boot_acts, steps-are, acts_by, takes-or, taking, taking_row, taking_step, got_acts}
+use Rattle.tsp_promises.{proofs.WordsProof.own_words, specs.Everywhere.Everywhere, proofs.EverywhereLemmas.Everywhere-at}
+use Rattle.tsp_promises.specs.{Fits.node_of, Setting.Setting}
+use Rattle.tsp_promises.specs.Premises.{Words, WordsAt, NamesApart, Honest, HonestAt}
+use Rattle.tsp_rules.specs.Values.{Act, Boot, Placed, Event, BootAt, Turn, Take, Bytes, Took, Peer, Stranger}
+use Rattle.tsp_rules.proofs.FewActs.{is_calm_act}
+use Rattle.tsp_rules.specs.{GateRows.boots_all, GateRows.GotOn, GateRows.NodeTurn, GateRows.answers_all, NodeRows.NodeRow}
+use Rattle.tsp_base.specs.Words.{HeaderValue, IsHeader, Acts, Begins, Booted, Cause, Line, Step, first_port, joined, line_of, stepped, Handed, Turned, dids, of, up, Within}
+use Rattle.tsp_codec.specs.Taken.{taken_of}
+
+-- where a run is honest, or its words differ, its text is so
+
+-- what holds everywhere after a step held before it
+before-joined : (P : Line → List Line → Type 0) (step : Step) (x : ℕ) (acts : List Placed) (h : List Line) → Everywhere P (joined step x acts h) → Everywhere P h
+before-joined P step x [] h e = e
+before-joined P step x (a ∷ rest) h e = (before-joined P step x rest (line_of step x a.port (Acts a.act) ∷ h) e).1
+
+before-joins : (P : Line → List Line → Type 0) (o : Option Happening) (h : List Line) → Everywhere P (joins o h) → Everywhere P h
+before-joins P None h e = e
+before-joins P (Some s) h e = (before-joined P s.step s.tick s.acts (line_of s.step s.tick first_port Begins ∷ h) e).1
+
+-- it holds of each of the step's acts
+of-act : (P : Line → List Line → Type 0) (step : Step) (x : ℕ) (before : List Placed) (a : Placed) (after : List Placed) (h : List Line) → Everywhere P (joined step x (before ++ a ∷ after) h) → (s : List Line) × P (line_of step x a.port (Acts a.act)) s
+of-act P step x [] a after h e = (h, (before-joined P step x after (line_of step x a.port (Acts a.act) ∷ h) e).0)
+of-act P step x (b ∷ before) a after h e = of-act P step x before a after (line_of step x b.port (Acts b.act) ∷ h) e
+
+-- a place of a history is one of what a step makes of it
+in-joined : (s : List Line) (step : Step) (x : ℕ) (acts : List Placed) (h : List Line) → Within s h → Within s (joined step x acts h)
+in-joined s step x [] h w = w
+in-joined s step x (a ∷ rest) h w = in-joined s step x rest (line_of step x a.port (Acts a.act) ∷ h) (inr w)
+
+in-joins : (s : List Line) (o : Option Happening) (h : List Line) → Within s h → Within s (joins o h)
+in-joins s None h w = w
+in-joins s (Some k) h w = in-joined s k.step k.tick k.acts (line_of k.step k.tick first_port Begins ∷ h) (inr w)
+
+through-joins : (o : Option Happening) (h whole : List Line) → ((s : List Line) → Within s (joins o h) → Within s whole) → (s : List Line) → Within s h → Within s whole
+through-joins o h whole k s w = k s (in-joins s o h w)
+
+module _ {header : HeaderValue} (is : IsHeader header) (before : List Event) where
+  sealed-event : (e : Event) → impossible (scene header before) e ≡ None → Honest (run header (e ∷ before)) → IsSealed e
+  sealed-event (Bytes at node port (Peer p) octets) none honest =
+      let step : Step = record { at = at; node = node; cause = Handed } in
+      let h = run header before in
+      let has = (can_happen (scene header before) (Bytes at node port (Peer p) octets) none).node.1 in
+      let once = got_acts is h step port (Peer p) (taken_of octets) has in
+      let row = answers_all (GotOn port (Peer p) (taken_of octets)) in
+      let all : Honest (stepped step (step_tick header step) (acts_by header h row step) h) = subst (λ (k : Happening). Honest (joins (Some k) h)) (steps-are header h row step) honest in
+      let took = of-act HonestAt step (step_tick header step) once.before (record { port = port; act = Took (Peer p) (taken_of octets) }) once.after (line_of step (step_tick header step) first_port Begins ∷ h)
+      (subst (λ acts. Honest (joined step (step_tick header step) acts (line_of step (step_tick header step) first_port Begins ∷ h))) once.is all) in
+      took.1 refl p (taken_of octets) refl
+  sealed-event (Bytes at node port Stranger octets) none honest = tt
+  sealed-event (BootAt at node word) none honest = tt
+  sealed-event (Turn at node) none honest = tt
+  sealed-event (Take at k) none honest = tt
+
+pub honest-sealed : (header : HeaderValue) (events : List Event) → Possible header events → Honest (run header events) → Sealed events
+honest-sealed header [] p h = tt
+honest-sealed header (e ∷ before) p h = (sealed-event p.header_is before e p.happens.0 h, honest-sealed header before (possible_before header e before p) (before-joins HonestAt (happening header (run header before) e) (run header before) h))
+
+-- a boot of a history, with this word
+record BootIn (word : ℕ) (h : List Line) : Type 0 where
+  pub line : Line
+  pub older : List Line
+  pub place : Within (line ∷ older) h
+  pub boots : line.did.deed ≡ Acts Boot
+  pub wall : ℤ
+  pub cause : line.did.step.cause ≡ Booted word wall
+
+-- what an event that boots a node leaves
+booted-by : (header : HeaderValue) → IsHeader header → (at node word : ℕ) (h : List Line) → BootIn word (joins (happening header h (BootAt at node word)) h)
+booted-by header is at node word h =
+    let step = boot_step header at node word in
+    let x = step_tick header step in
+    let b = boot_acts is h step in
+    let mark = line_of step x first_port Begins in
+    let boot = line_of step x first_port (Acts Boot) in
+    subst (λ (k : Happening). BootIn word (joins (Some k) h)) (sym (steps-are header h boots_all step))
+    (subst (λ acts. BootIn word (stepped step x acts h)) (sym b.is)
+    (record { line = boot; older = mark ∷ h; place = in-joined (boot ∷ (mark ∷ h)) step x b.rest (boot ∷ (mark ∷ h)) (inl refl); boots = refl; wall = _; cause = refl }))
+
+-- no boot of these events has the word of a boot before which their run stands
+all-otherwise : (header : HeaderValue) → IsHeader header → (events : List Event) (word : ℕ) (whole : List Line) → ((s : List Line) → Within s (run header events) → Within s whole) → ((v : ℕ) → BootIn v whole → v ≢ word) → AllBootOtherwise word events
+all-otherwise header is [] word whole k other = tt
+all-otherwise header is (e ∷ before) word whole k other = (of-event e k, all-otherwise header is before word whole (through-joins (happening header (run header before) e) (run header before) whole k) other) where
+  of-event : (e : Event) → ((s : List Line) → Within s (run header (e ∷ before)) → Within s whole) → BootsOtherwise word e
+  of-event (BootAt at node w) k =
+      let b = booted-by header is at node w (run header before) in
+      other w (record { line = b.line; older = b.older; place = k (b.line ∷ b.older) b.place; boots = b.boots; wall = b.wall; cause = b.cause })
+  of-event (Turn at node) k = tt
+  of-event (Take at d) k = tt
+  of-event (Bytes at node port from octets) k = tt
+
+module _ {header : HeaderValue} (is : IsHeader header) (before : List Event) where
+  apart-event : (e : Event) → Words (run header (e ∷ before)) → IsApart e before
+  apart-event (BootAt at node word) words =
+      let step = boot_step header at node word in
+      let x = step_tick header step in
+      let h = run header before in
+      let b = boot_acts is h step in
+      let mark = line_of step x first_port Begins in
+      let boot = line_of step x first_port (Acts Boot) in
+      let all : Words (joined step x b.rest (boot ∷ (mark ∷ h))) =
+      subst (λ acts. Words (stepped step x acts h)) b.is (subst (λ (k : Happening). Words (joins (Some k) h)) (steps-are header h boots_all step) words) in
+      let here : WordsAt boot (mark ∷ h) = (before-joined WordsAt step x b.rest (boot ∷ (mark ∷ h)) all).0 in
+      all-otherwise header is before word h (λ s w. w) (λ v o. here o.line o.older v word _ o.wall (inr o.place) refl o.boots refl o.cause)
+  apart-event (Turn at node) words = tt
+  apart-event (Take at k) words = tt
+  apart-event (Bytes at node port from octets) words = tt
+
+pub words-apart : (header : HeaderValue) (events : List Event) → Possible header events → Words (run header events) → Apart events
+words-apart header [] p w = tt
+words-apart header (e ∷ before) p w = (apart-event p.header_is before e w, words-apart header before (possible_before header e before p) (before-joins WordsAt (happening header (run header before) e) (run header before) w))
+
+-- where the names of a header's nodes differ, so do those of the nodes of its runs
+
+-- a line is of a node with a number below this
+abbrev pub IsBelow : ℕ → Line → List Line → Type 0
+IsBelow count l before = node_of l < count
+
+-- a node that is up has a line
+is-known : (count n : ℕ) (h : List Line) → Everywhere (IsBelow count) h → up (dids (of n h)) ≡ true → n < count
+is-known count n [] all u = absurd (true≢false (sym u))
+is-known count n (l ∷ before) all u = by_node (l.did.step.node == n) refl u (λ v. is-known count n before all.1 v) where
+  by_node : (b : Bool) → (l.did.step.node == n) ≡ b → up (dids (if b then l ∷ of n before else of n before)) ≡ true → (up (dids (of n before)) ≡ true → n < count) → n < count
+  by_node true same v older = subst (λ m. m < count) (eqb-true l.did.step.node n same) all.0
+  by_node false other v older = older v
+
+module _ (header : HeaderValue) (before : List Event) (below : Everywhere (IsBelow (length header.nodes)) (run header before)) where
+  by-row : (row : NodeRow) (step : Step) → step.node < length header.nodes → Everywhere (IsBelow (length header.nodes)) (stepped step (step_tick header step) (acts_by header (run header before) row step) (run header before))
+  by-row row step known = each-stepped (IsBelow (length header.nodes)) step (step_tick header step) (acts_by header (run header before) row step) (run header before) (λ port deed h. known) below
+
+  below-event : (e : Event) → impossible (scene header before) e ≡ None → Everywhere (IsBelow (length header.nodes)) (run header (e ∷ before))
+  below-event (BootAt at node word) none =
+      let step = boot_step header at node word in
+      subst (λ h. Everywhere (IsBelow (length header.nodes)) (stepped h.step h.tick h.acts (run header before))) (sym (steps-are header (run header before) boots_all step))
+      (by-row boots_all step (can_happen (scene header before) (BootAt at node word) none).node)
+  below-event (Turn at node) none =
+      let step : Step = record { at = at; node = node; cause = Turned } in
+      let row = answers_all NodeTurn in
+      subst (λ h. Everywhere (IsBelow (length header.nodes)) (stepped h.step h.tick h.acts (run header before))) (sym (steps-are header (run header before) row step))
+      (by-row row step (can_happen (scene header before) (Turn at node) none).node)
+  below-event (Bytes at node port from octets) none =
+      let step : Step = record { at = at; node = node; cause = Handed } in
+      let row = answers_all (GotOn port from (taken_of octets)) in
+      subst (λ h. Everywhere (IsBelow (length header.nodes)) (stepped h.step h.tick h.acts (run header before))) (sym (steps-are header (run header before) row step))
+      (by-row row step (can_happen (scene header before) (Bytes at node port from octets) none).node.0)
+  below-event (Take at k) none = elim (takes-or header (run header before) at k) [
+    | inl a ↦
+        let s = scene header before in
+        let goes : goes_to s.networks (slice_get s.posts k) ≡ Some a.to = ap (λ o. goes_to (networks header) o) a.there ∙ a.goes in
+        let wakes : s.up a.to.node ≡ true = up-down s a.to.node (subst (λ o. down s.up (node_in o) ≡ None) goes (can_happen s (Take at k) none).up) in
+        subst (λ o. Everywhere (IsBelow (length header.nodes)) (joins o (run header before))) (sym (taking header (run header before) at k a))
+        (by-row (taking_row a.post a.to) (taking_step at k a.to) (is-known (length header.nodes) a.to.node (run header before) below wakes))
+    | inr nothing ↦ subst (λ o. Everywhere (IsBelow (length header.nodes)) (joins o (run header before))) (sym nothing.1) below
+  ]
+
+-- every line of a run is of a node of its header
+all-below : (header : HeaderValue) (events : List Event) → Possible header events → Everywhere (IsBelow (length header.nodes)) (run header events)
+all-below header [] p = tt
+all-below header (e ∷ before) p = below-event header before (all-below header before (possible_before header e before p)) e p.happens.0
+
+-- names that differ among the header's nodes do among a history's
+apart-in : (header : HeaderValue) (setting : Setting) → SetBy header setting → NamesDiffer header → (h : List Line) → Everywhere (IsBelow (length header.nodes)) h → NamesApart setting h
+apart-in header setting set differ [] all = tt
+apart-in header setting set differ (l ∷ before) all =
+    ((λ other older within same. differ (node_of other) (node_of l) (Everywhere-at (IsBelow (length header.nodes)) other older before all.1 within) all.0 (sym (set.name_is (node_of other)) ∙ same ∙ set.name_is (node_of l))), apart-in header setting set differ before all.1)
+
+pub names-apart : (header : HeaderValue) (setting : Setting) (events : List Event) → SetBy header setting → Possible header events → NamesDiffer header → NamesApart setting (run header events)
+names-apart header setting events set p differ = apart-in header setting set differ (run header events) (all-below header events p)
+
+-- where the words of any two boots of a schedule differ, so do those of its run
+
+-- a line is of no boot with this word
+abbrev pub OtherWord : ℕ → Line → List Line → Type 0
+OtherWord word l before = (v : ℕ) (y : ℤ) → l.did.step.cause ≡ Booted v y → v ≢ word
+
+-- nor is the step of an event that is no boot with it
+other-cause : (word : ℕ) (e : Event) (cause : Cause) (v : ℕ) (y : ℤ) → BootsOtherwise word e → IsCause e cause → cause ≡ Booted v y → v ≢ word
+other-cause word (BootAt at node w) cause v y f c is same =
+    let own = c.1 in
+    let first : w ≡ v = cc in
+    f (first ∙ same)
+other-cause word (Turn at node) cause v y f c is same = let no : ⊥ = cc in no
+other-cause word (Take at k) cause v y f c is same = let no : ⊥ = cc in no
+other-cause word (Bytes at node port from octets) cause v y f c is same = let no : ⊥ = cc in no
+
+-- where no event boots with this word, no line of the run does
+other-words : (header : HeaderValue) (events : List Event) (word : ℕ) → AllBootOtherwise word events → Everywhere (OtherWord word) (run header events)
+other-words header [] word e = tt
+other-words header (b ∷ before) word e =
+    each_event (OtherWord word) header before (other-words header before word e.1) b (λ step x c port deed h v y is. other-cause word b step.cause v y e.0 c is)
+
+calm-boots : (strange : Bool) (a : Act) → is_calm_act strange true a ≡ true → Acts a ≢ Acts Boot
+calm-boots strange a calm e =
+    let same : a ≡ Boot = cc in
+    true≢false (sym (subst (λ k. is_calm_act strange true k ≡ true) same calm))
+
+-- calm acts boot nobody
+words-calm : (strange : Bool) (n : ℕ) (step : Step) (x : ℕ) (acts : List Placed) (h : List Line) → AreCalm strange n acts → Words h → Words (joined step x acts h)
+words-calm strange n step x [] h c words = words
+words-calm strange n step x (a ∷ rest) h c words =
+    words-calm strange n step x rest (line_of step x a.port (Acts a.act) ∷ h) c.2 ((λ other older v w y z within own boot first second. absurd (calm-boots strange a.act c.1 own)), words)
+
+-- the Boot of a step has another word than all before
+boot-words : (step : Step) (x word : ℕ) (wall : ℤ) (h : List Line) → step.cause ≡ Booted word wall → Everywhere (OtherWord word) h → WordsAt (line_of step x first_port (Acts Boot)) (line_of step x first_port Begins ∷ h)
+boot-words step x word wall h cause others other older v w y z within own boot first second = elim within [
+  | inl e ↦
+      let mark : other ≡ line_of step x first_port Begins = cc in
+      let begins : Begins ≡ Acts Boot = sym (ap (λ (l : Line). l.did.deed) mark) ∙ boot in
+      let no : ⊥ = cc in
+      absurd no
+  | inr before ↦
+      let same : word ≡ w = cc in
+      λ (is : v ≡ w). Everywhere-at (OtherWord word) other older h others before v z second (is ∙ sym same)
+]
+
+module _ {header : HeaderValue} (is : IsHeader header) (before : List Event) (words : Words (run header before)) where
+  words-event : (e : Event) → IsApart e before → Words (run header (e ∷ before))
+  words-event (BootAt at node word) f =
+      let step = boot_step header at node word in
+      let x = step_tick header step in
+      let h = run header before in
+      let b = boot_acts is h step in
+      let mark : Words (line_of step x first_port Begins ∷ h) = ((λ other older v w y z within own boot first second. let no : ⊥ = cc in absurd no), words) in
+      subst (λ (h : Happening). Words (joins (Some h) (run header before))) (sym (steps-are header h boots_all step))
+      (subst (λ acts. Words (stepped step x acts h)) (sym b.is)
+      (words-calm false _ step x b.rest (line_of step x first_port (Acts Boot) ∷ line_of step x first_port Begins ∷ h) b.calm
+      (boot-words step x word _ h refl (other-words header before word f), mark)))
+  words-event (Turn at node) f = each_event WordsAt header before words (Turn at node) (λ step x c port deed h other older v w y z within own boot is that. let no : ⊥ = cc in absurd no)
+  words-event (Take at k) f = each_event WordsAt header before words (Take at k) (λ step x c port deed h other older v w y z within own boot is that. let no : ⊥ = cc in absurd no)
+  words-event (Bytes at node port from octets) f = each_event WordsAt header before words (Bytes at node port from octets) (λ step x c port deed h other older v w y z within own boot is that. let no : ⊥ = cc in absurd no)
+
+-- so it is with each run
+pub apart-words : (header : HeaderValue) (events : List Event) → Possible header events → Apart events → Words (run header events)
+apart-words header [] p d = tt
+apart-words header (e ∷ before) p d = words-event p.header_is before (apart-words header before (possible_before header e before p) d.1) e d.0
 
 pub possible-runs-keep-premises : PossibleRunsKeepPremises
 possible-runs-keep-premises header events p = record {

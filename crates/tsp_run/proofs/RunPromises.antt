@@ -1,16 +1,41 @@
 -- The history of every possible schedule keeps the promises, and so does that of every accepted one.
-use Rattle.std.specs.Prelude.{◌≡◌, ℕ, List, ◌∷◌, Some, slice_get}
-use Rattle.tsp_rules.specs.Values.{Good, Event, LIFE}
-use Rattle.tsp_base.specs.Words.{HeaderValue, Line}
-use Rattle.tsp_promises.specs.Premises.{FewAt, HonestAt, TakenWithinAt}
-use Rattle.tsp_promises.proofs.{EverywhereLemmas.Everywhere-from, EverywhereLemmas.Everywhere-within, SafeProof.safe, SetProof.sets_at}
-use Rattle.tsp_codec.specs.{Canon.canon, Taken.taken_of}
-use Rattle.tsp_promises.specs.{Dated.Dated, Dated.DateConfirmedAt, Dated.SetsAt, Fits.Fits, Setting.Setting}
-use Rattle.tsp_promises.proofs.{ChainProof.looped_in, ConfirmedDate.date_confirmed, OneWinnerProof.one_winner, OwnFitsProof.fits_at}
-use Rattle.tsp_run.specs.declared.posted.Posted.{Posted}
-use Rattle.tsp_run.specs.{Ranges.Accepted, Run.last_at, Run.posts, Run.run, Setting.PossibleRunsKeepPromises, Setting.RunsKeepPromises}
-use Rattle.tsp_run.proofs.{AnswerOctetsProof.answer_octets, PossibleRun.accepted-possible, SettingLemmas.each-is-set}
-use Rattle.tsp_run.proofs.{RunFits.possible-runs-fit, RunFits.post_sound, RunFits.ran, SoundLemmas.sound_read}
+use Rattle.std.proofs.Common.{◌≡◌, ℕ, List, ◌∷◌, Some, slice_get, ap, ◌∙◌, ◌≤◌, ◌<◌, ◌+◌, nat_le, if◌then◌else◌, length, refl}
+use Rattle.std.proofs.lemmas.Bool.{le-leb, lt-leb}
+use Rattle.tsp_rules.specs.Values.{Good, Event, LIFE, Datagram, Message, Stamp, Request, Reply}
+use Rattle.tsp_base.specs.Words.{HeaderValue, Line, Seen, of, view, MessageValue, Setup}
+use Rattle.tsp_promises.specs.{Premises.FewAt, Premises.HonestAt, Premises.TakenWithinAt, Dated.Dated, Dated.DateConfirmedAt, Dated.SetsAt}
+use Rattle.tsp_promises.proofs.EverywhereLemmas.{Everywhere-from, Everywhere-within, Everywhere-at}
+use Rattle.tsp_promises.{proofs.SafeProof.safe, proofs.ConfirmedDate.date_confirmed, specs.Answered.AnswersWith, specs.Answered.StrangersAt}
+use Rattle.tsp_promises.{proofs.SetProof.sets_at, specs.DeedFits.answer_name, specs.Everywhere.Everywhere, proofs.ChainProof.looped_in}
+use Rattle.tsp_promises.{proofs.OwnFitsProof.fits_at, specs.Setting.Setting, specs.Setting.setup_of, proofs.OneWinnerProof.one_winner}
+use Rattle.tsp_promises.specs.Fits.{Fits, node_of}
+use Rattle.tsp_codec.specs.{Canon.canon, Canon.written_size, Taken.taken_of}
+use Rattle.tsp_run.specs.{declared.posted.Posted.Posted, AnswerOctets.AnswerOctets, AnswerOctets.AnswerOctetsAt, AnswerOctets.SizeFits}
+use Rattle.tsp_run.specs.{Ranges.Accepted, Run.last_at, Run.posts, Run.run}
+use Rattle.tsp_run.{specs.Setting.PossibleRunsKeepPromises, specs.Setting.RunsKeepPromises, proofs.PossibleRun.accepted-possible}
+use Rattle.tsp_run.proofs.{SettingLemmas.each-is-set, RunFits.possible-runs-fit, RunFits.post_sound, RunFits.ran, SoundLemmas.sound_read}
+
+-- the octets that strangers are sent
+short-size : (m : MessageValue) (name : List ℕ) → m.name ≡ name → length name ≤ 63 → written_size (Message m) ≡ 76
+short-size m name is few = ap (λ n. 12 + (if nat_le (length n) 63 then 64 else 256)) is ∙ ap (λ b. 12 + (if b then 64 else 256)) (le-leb (length name) 63 few)
+
+long-size : (m : MessageValue) (name : List ℕ) → m.name ≡ name → 63 < length name → written_size (Message m) ≡ 268
+long-size m name is many = ap (λ n. 12 + (if nat_le (length n) 63 then 64 else 256)) is ∙ ap (λ b. 12 + (if b then 64 else 256)) (lt-leb (length name) 63 many)
+
+size-fits : (asked datagram : Datagram) (setup : Setup) (before : List Seen) → AnswersWith asked datagram → ((m message : MessageValue) → datagram ≡ Message m → asked ≡ Message message → m.name ≡ answer_name message.kind setup before) → SizeFits asked datagram setup before
+size-fits (Message asked) (Message answer) setup before w named =
+    let is = named answer asked refl refl in
+    (λ few. short-size answer (answer_name asked.kind setup before) is few, λ many. long-size answer (answer_name asked.kind setup before) is many)
+size-fits (Stamp (Request word counter)) (Stamp (Reply reply)) setup before w named = (refl, refl)
+size-fits _ _ setup before w named = absurd w
+
+octets-at : (setting : Setting) (l : Line) (world : List Line) → StrangersAt setting l world → AnswerOctetsAt setting l world
+octets-at setting l world s datagram is =
+    let a = s datagram is in
+    record { asked = a.asked; took = a.took; size = size-fits a.asked datagram (setup_of setting (node_of l) l.port) (view l.port (of (node_of l) world)) a.answer a.named }
+
+pub answer_octets : (setting : Setting) (world : List Line) → Everywhere (StrangersAt setting) world → AnswerOctets setting world
+answer_octets setting world s = Everywhere-from (AnswerOctetsAt setting) world (λ l before w. octets-at setting l before (Everywhere-at (StrangersAt setting) l before world s w))
 
 dated : (setting : Setting) (world : List Line) → Fits setting world → Dated setting world
 dated setting world f = record {

@@ -8,7 +8,7 @@ use Rattle.tsp_codec.specs.Taken.{taken_of}
 use Rattle.tsp_rules.{proofs.FewActs.is_calm_act, specs.GateRows.GotOn, specs.GateRows.answers_all, specs.Strangers.is_stranger}
 use Rattle.tsp_run.specs.{Possible.Possible, Premised.IsSealed, Premised.Sealed, Ranges.Accepted, Ranges.IsInRange}
 use Rattle.tsp_run.specs.Run.{Happening, joins, run, step_tick}
-use Rattle.tsp_run.proofs.{CalmAll.AreCalm, EachLine.each_event, Happens.acts_by, Happens.got_acts, Happens.steps-are}
+use Rattle.tsp_run.proofs.{CalmPorts.AreCalm, EachLine.each_event, Happens.acts_by, Happens.got_acts, Happens.steps-are}
 use Rattle.tsp_run.{proofs.PossibleRun.possible_before, proofs.RefusalLemmas.can_happen, specs.Refusals.impossible, specs.Refusals.scene}
 
 -- what was accepted before the last event

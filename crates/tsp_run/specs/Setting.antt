@@ -2,10 +2,9 @@
 use Rattle.std.specs.Prelude.{◌≡◌, ℕ, List, [], ◌∷◌, Option, None, Some, slice_index_or}
 use Rattle.tsp_rules.specs.Values.{Event, PeerId, Port}
 use Rattle.tsp_base.specs.Words.{HeaderValue, IsHeader, peer_of}
-use Rattle.tsp_promises.specs.Fits.{Fits, Finished}
-use Rattle.tsp_promises.specs.Setting.{Alone, Named, Network, Setting}
-use Rattle.tsp_run.specs.{Run.run, Setup.node_line}
-use Rattle.tsp_run.specs.{Networks.network_at, Networks.networks, Networks.peers_on, Possible.Possible, Promises.Promises, Ranges.Accepted}
+use Rattle.tsp_promises.specs.{Fits.Fits, Fits.Finished, Setting.Alone, Setting.Named, Setting.Network, Setting.Setting}
+use Rattle.tsp_run.specs.{Run.run, Ranges.Accepted}
+use Rattle.tsp_run.specs.{Setup.node_line, Networks.network_at, Networks.networks, Networks.peers_on, Possible.Possible, Promises.Promises}
 
 -- the network with this number, if there is one, else the other
 abbrev pub named_or : Network → Option ℕ → Network

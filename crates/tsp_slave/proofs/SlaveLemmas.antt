@@ -12,7 +12,7 @@ use Rattle.tsp_acks.proofs.{ActingLemmas.taken-acts, StandsLemmas.Stands_idle}
 use Rattle.tsp_clock.specs.{ClockStands.ClockStands, Clocks.ClockValue}
 use Rattle.tsp_slave.specs.declared.change.Change.{Change, TheVariants.By, TheVariants.To}
 use Rattle.tsp_slave.specs.{ClockChanges.changes_clock, Lasts.LastValue, SlaveStands.AlsoStands, SlaveStands.SlaveStands}
-use Rattle.tsp_rules.proofs.{BuiltShared.built_acknowledges, BuiltShared.built_arms_elect, BuiltSlave.built_reports_conflict}
+use Rattle.tsp_rules.proofs.{BuiltShared.built_acknowledges, BuiltShared.built_arms_elect, BuiltRoles.built_reports_conflict}
 use Rattle.tsp_rules.proofs.EmitsBuilt.{emits_built}
 use Rattle.tsp_slave.proofs.BesideLemmas.{AlsoStands_by, beside_sorts}
 

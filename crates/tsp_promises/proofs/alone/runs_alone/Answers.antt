@@ -1,4 +1,4 @@
-use Rattle.tsp_promises.proofs.RunLemmas.{runs_alike}
+use Rattle.tsp_promises.proofs.NodeLeads.{runs_alike}
 use Rattle.tsp_promises.proofs.alone.runs_alone.Goals as goal
 
 pub returns : goal.returns

@@ -1,4 +1,4 @@
-use Rattle.tsp_rules.proofs.ClientsScriptAnswered.{clients-answered}
+use Rattle.tsp_rules.proofs.ScriptsAnswered.{clients-answered}
 use Rattle.tsp_rules.proofs.worked.answers_clients.Goals as goal
 
 pub returns : goal.returns

@@ -1,4 +1,4 @@
-use Rattle.tsp_rules.proofs.RoundsScriptAnswered.{repeated-answered, late_probe-answered, far-answered, silent-answered, edge-answered, taken_once-answered}
+use Rattle.tsp_rules.proofs.ScriptsAnswered.{repeated-answered, late_probe-answered, far-answered, silent-answered, edge-answered, taken_once-answered}
 use Rattle.tsp_rules.proofs.worked.closes_otherwise.Goals as goal
 
 pub returns : goal.returns

@@ -1,4 +1,4 @@
-use Rattle.tsp_rules.proofs.DateScriptAnswered.{master-answered, follower-answered}
+use Rattle.tsp_rules.proofs.ScriptsAnswered.{master-answered, follower-answered}
 use Rattle.tsp_rules.proofs.worked.dates_once.Goals as goal
 
 pub returns : goal.returns

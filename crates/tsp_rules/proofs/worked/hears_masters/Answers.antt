@@ -1,4 +1,4 @@
-use Rattle.tsp_rules.proofs.RolesScriptAnswered.{conflict-answered, late-answered, meets_master-answered, finds_master-answered, is_sent_away-answered}
+use Rattle.tsp_rules.proofs.ScriptsAnswered.{conflict-answered, late-answered, meets_master-answered, finds_master-answered, is_sent_away-answered}
 use Rattle.tsp_rules.proofs.worked.hears_masters.Goals as goal
 
 pub returns : goal.returns

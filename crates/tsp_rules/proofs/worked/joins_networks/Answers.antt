@@ -1,4 +1,4 @@
-use Rattle.tsp_rules.proofs.GatewayScriptAnswered.{two_masters-answered, loops-answered}
+use Rattle.tsp_rules.proofs.ScriptsAnswered.{two_masters-answered, loops-answered}
 use Rattle.tsp_rules.proofs.worked.joins_networks.Goals as goal
 
 pub returns : goal.returns

@@ -1,4 +1,4 @@
-use Rattle.tsp_rules.proofs.ResolutionScriptAnswered.{winner-answered, left-answered, loser-answered}
+use Rattle.tsp_rules.proofs.ScriptsAnswered.{winner-answered, left-answered, loser-answered}
 use Rattle.tsp_rules.proofs.worked.resolves_once.Goals as goal
 
 pub returns : goal.returns

@@ -1,4 +1,4 @@
-use Rattle.tsp_rules.proofs.StrictScriptAnswered.{wins-answered, outvoted-answered, alone-answered}
+use Rattle.tsp_rules.proofs.ScriptsAnswered.{wins-answered, outvoted-answered, alone-answered}
 use Rattle.tsp_rules.proofs.worked.wins_by_majority.Goals as goal
 
 pub returns : goal.returns

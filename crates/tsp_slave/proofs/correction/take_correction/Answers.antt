@@ -8,7 +8,7 @@ use Rattle.tsp_slave.proofs.{BesideLemmas.Performs_station, ChangeLemmas.acts_at
 use Rattle.tsp_slave.proofs.SlaveLemmas.{AlsoStands_confirms, Performs_changes}
 use Rattle.tsp_slave.proofs.RoomLemmas.{at_most, both, more_room}
 use Rattle.tsp_slave.proofs.TellLemmas.{corrects-change, tells_nothing, tells_row, tells_still}
-use Rattle.tsp_rules.proofs.{BuiltSlave.built_acks_repeat, EmitsBuilt.emits_built}
+use Rattle.tsp_rules.proofs.{BuiltRoles.built_acks_repeat, EmitsBuilt.emits_built}
 use Rattle.tsp_slave.proofs.correction.take_correction.Goals as goal
 
 pub returns-then-not-follows-clause-row : goal.returns-then-not-follows-clause-row

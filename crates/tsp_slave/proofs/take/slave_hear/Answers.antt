@@ -3,7 +3,7 @@ use Rattle.std.proofs.Common.{◌≡◌, ◌⊎◌, sym, ◌∙◌, ap, false, r
 use Rattle.tsp_base.specs.Words.{is_correction}
 use Rattle.tsp_slave.proofs.{RoomLemmas.more_room, RowCases.correction-kind, RowCases.slave_takes_kind-correction, RowCases.told_correction}
 use Rattle.tsp_slave.proofs.TellLemmas.{tells_still}
-use Rattle.tsp_rules.proofs.{BuiltSlave.built_slave_takes, BuiltSlave.slave_part_unmoved, BuiltSlave.unmoved_sorts, Emits.Emits_more}
+use Rattle.tsp_rules.proofs.{BuiltRoles.built_slave_takes, BuiltRoles.slave_part_unmoved, BuiltRoles.unmoved_sorts, Emits.Emits_more}
 use Rattle.tsp_rules.{proofs.EmitsBuilt.emits_built, specs.SlaveRows.slave_takes, specs.Values.AdjTime, specs.Values.SetTime}
 use Rattle.tsp_slave.proofs.take.slave_hear.Goals as goal
 

@@ -2,7 +2,7 @@
 use Rattle.std.proofs.Common.{◌≡◌, ◌∙◌, [], ◌∷◌, ap, refl, sym, arith}
 use Rattle.tsp_base.specs.Words.{nothing}
 use Rattle.tsp_rules.proofs.Emits.{Acking, Emits_either, Emits_more, Emits_nothing}
-use Rattle.tsp_rules.{proofs.BuiltDates.date_sorts, proofs.BuiltShared.client_sorts, specs.Answers.is_left}
+use Rattle.tsp_rules.{proofs.BuiltAnswers.date_sorts, proofs.BuiltShared.client_sorts, specs.Answers.is_left}
 use Rattle.tsp_slave.proofs.TellLemmas.{tells_nothing, tells_still}
 use Rattle.tsp_node.specs.declared.audience.Audience.TheVariants.{OfClients, OfDates, OfNode, OfRoles, OfSends}
 use Rattle.tsp_node.specs.{Audiences.audience_of, NodeStands.traced_with}

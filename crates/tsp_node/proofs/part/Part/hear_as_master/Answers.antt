@@ -10,7 +10,7 @@ use Rattle.tsp_node.proofs.HearLemmas.{master_conflict, master_masterack, master
 use Rattle.tsp_node.proofs.NodeLemmas.{Performs_led, Performs_resolved, Performs_took}
 use Rattle.tsp_node.proofs.{PartLemmas.as_many, PartLemmas.still_alike, TakeEmits.built_master_takes_here}
 use Rattle.tsp_rules.proofs.{Emits.Emits, Emits.Emits_more, Emits.Emits_posts, EmitsBuilt.emits_built}
-use Rattle.tsp_rules.proofs.BuiltMaster.{built_conflict, built_finds_rival, built_resolves, question_sorts}
+use Rattle.tsp_rules.proofs.BuiltRoles.{built_conflict, built_finds_rival, built_resolves, question_sorts}
 use Rattle.tsp_node.proofs.part.Part.hear_as_master.Goals as goal
 
 pub returns-in-Quit-clause-row : goal.returns-in-Quit-clause-row

@@ -10,8 +10,8 @@ use Rattle.tsp_node.proofs.HearLemmas.{candidate_keeps, heard_awake, heard_peer,
 use Rattle.tsp_slave.proofs.TellLemmas.{tells_nothing, tells_still}
 use Rattle.tsp_node.{proofs.StillTakes.took_of, proofs.StillTakes.took_slave, specs.NodeStands.PortValue, specs.NodeStands.port_with}
 use Rattle.tsp_node.proofs.{NodeLemmas.Performs_heard, NodeLemmas.Performs_pass, NodeLemmas.no_lead, PartLemmas.still_alike}
-use Rattle.tsp_rules.proofs.{BuiltSlave.built_slave_takes, BuiltSlave.open_sorts, BuiltSlave.slave_part_open, Emits.Emits, Emits.Emits_more}
-use Rattle.tsp_rules.proofs.{BuiltCandidate.all_candidate_sorts, BuiltCandidate.built_candidate_takes, BuiltMaster.built_master_takes}
+use Rattle.tsp_rules.proofs.{BuiltRoles.built_slave_takes, BuiltRoles.open_sorts, BuiltRoles.slave_part_open, Emits.Emits, Emits.Emits_more}
+use Rattle.tsp_rules.proofs.{BuiltRoles.all_candidate_sorts, BuiltRoles.built_candidate_takes, BuiltRoles.built_master_takes}
 use Rattle.tsp_rules.proofs.EmitsBuilt.{emits_built}
 use Rattle.tsp_node.proofs.part.Part.hear_peer.Goals as goal
 

@@ -8,7 +8,7 @@ use Rattle.tsp_master.specs.Clearing.{Clears}
 use Rattle.tsp_acks.specs.declared.station.Station.{Station}
 use Rattle.tsp_node.proofs.NodeLemmas.{Performs_station, rivals_part, same_part, slaves_part}
 use Rattle.tsp_node.{proofs.PartLemmas.still_alike, specs.NodeStands.port_with, specs.Unmarking.Unmarks}
-use Rattle.tsp_rules.proofs.{BuiltCandidate.built_yields, EmitsBuilt.emits_built}
+use Rattle.tsp_rules.proofs.{BuiltRoles.built_yields, EmitsBuilt.emits_built}
 use Rattle.tsp_node.proofs.part.Part.loosen.Goals as goal
 
 pub returns-then-leads-clause-row : goal.returns-then-leads-clause-row

@@ -9,7 +9,7 @@ use Rattle.tsp_node.proofs.NodeLemmas.{Performs_resolved, Performs_station, Perf
 use Rattle.tsp_node.proofs.{PartLemmas.as_many, PartLemmas.still_alike, TakeEmits.role_sorts}
 use Rattle.tsp_node.proofs.AlarmCases.{beside_alarm, emits_wait, of_slave, slave_alarm, waits}
 use Rattle.tsp_rules.proofs.Emits.{Alarming, Emits, Emits_more, Keeps_by}
-use Rattle.tsp_rules.proofs.{BuiltMaster.built_resolve_rings, BuiltShared.standing_sorts, EmitsBuilt.emits_built}
+use Rattle.tsp_rules.proofs.{BuiltRoles.built_resolve_rings, BuiltShared.standing_sorts, EmitsBuilt.emits_built}
 use Rattle.tsp_node.proofs.part.Part.ring_beside.Goals as goal
 
 pub returns-in-Round-clause-row : goal.returns-in-Round-clause-row

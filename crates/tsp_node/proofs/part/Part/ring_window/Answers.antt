@@ -5,7 +5,7 @@ use Rattle.tsp_master.proofs.TurnLemmas.{MasterStands_changing, turning_sorts}
 use Rattle.tsp_resolve.proofs.ResolveLemmas.{ResolveStands_changed, rivalless}
 use Rattle.tsp_node.proofs.{AlarmCases.beside_window, NodeLemmas.Performs_station, NodeLemmas.Performs_untaken, PartLemmas.still_alike}
 use Rattle.tsp_node.proofs.RoleChanges.{window_changes}
-use Rattle.tsp_rules.{proofs.BuiltCandidate.built_window_rings, proofs.EmitsBuilt.emits_built, specs.CandidateRows.window_rings}
+use Rattle.tsp_rules.{proofs.BuiltRoles.built_window_rings, proofs.EmitsBuilt.emits_built, specs.CandidateRows.window_rings}
 use Rattle.tsp_node.proofs.part.Part.ring_window.Goals as goal
 
 pub returns-clause-row : goal.returns-clause-row
