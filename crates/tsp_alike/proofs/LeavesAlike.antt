@@ -2,7 +2,7 @@
 use Rattle.std.proofs.Common.{ap, arith, ◌∙◌, ◌≡◌, ℕ, ◌+◌, ◌%◌, ◌^◌, ℤ, ◌+ℤ◌, ◌-ℤ◌, Bool, true, false, if◌then◌else◌, List, [], ◌∷◌, map, refl, sym, subst, ◌==◌, not, ◌++◌, All}
 use Rattle.std.proofs.lemmas.List.{map-append}
 use Rattle.std.proofs.lemmas.List.Elements.{All-nil, All-head, All-tail, All-append}
-use Rattle.tsp_rules.specs.Values.{Act, Post, Correct, Arm, Alarm, Message, Stamp, Kind, SetTime, PeerId, Place, Peer, Port, Request, Reply, Role, Follow, Master}
+use Rattle.tsp_rules.specs.Values.{Act, Post, Correct, Arm, Alarm, Message, Stamp, Kind, SetTime, PeerId, Place, Peer, Port, Request, Reply, Role, Follow}
 use Rattle.tsp_rules.specs.{ClockRows.adjusts, ClockRows.is_step, ClockRows.sets, RoundRows.asks, RoundRows.sample_of, RoundRows.request_at}
 use Rattle.tsp_rules.specs.CommonRows.{posts_reply, replies, master_name, master_name_in, own_at}
 use Rattle.tsp_rules.specs.GateRows.{loop_to, repost, reposts, sends_loops}
@@ -86,7 +86,6 @@ skips_own row x own Holds Other none keeps (r ∷ ps) known p h = by_case (r.0 =
 
 -- facts that rows read are the same at alike pasts, but for the names of peers and later ticks
 name_in_role : (n : Renaming) (r : Role) (own kept : List ℕ) → master_name_in (renamed_role n r) own kept ≡ master_name_in r own kept
-name_in_role n Master own kept = refl
 name_in_role n (Follow p) own kept = refl
 name_in_role n _ own kept = refl
 

@@ -1,12 +1,12 @@
 -- The lists of peers that rows go through, at alike pasts.
-use Rattle.std.proofs.Common.{ap, sym, ◌∙◌, ◌≡◌, ℕ, ◌+◌, ◌==◌, Bool, true, false, not, ◌||◌, if◌then◌else◌, List, [], ◌∷◌, map, filter, refl, is_some, Option, None, Some, ◌&&◌}
+use Rattle.std.proofs.Common.{ap, sym, ◌∙◌, ◌≡◌, ℕ, ◌+◌, ◌==◌, Bool, true, false, not, ◌||◌, if◌then◌else◌, List, [], ◌∷◌, map, filter, refl, None, ◌&&◌}
 use Rattle.std.{proofs.lemmas.Bool.eq-eqb, proofs.lemmas.Bool.eqb-false, proofs.lemmas.Bool.ne_eqb, specs.List.All}
 use Rattle.std.proofs.lemmas.List.Elements.{All-nil, All-cons, All-head, All-tail, All-same, All-weaker, All-filter}
-use Rattle.tsp_base.specs.Words.{Past, in_table, is_among, is_measured, is_rival, others, Sending, estimate, Seen, Deed, Acts, acting, is_rival_after, is_numbered, open_to, open_to_after, posts_of, open_send, sending_at, is_starting}
+use Rattle.tsp_base.specs.Words.{Past, in_table, is_among, is_measured, is_rival, others, estimate, Seen, Deed, Acts, acting, is_rival_after, is_numbered, open_to, open_to_after, posts_of, open_send, sending_at, is_starting}
 use Rattle.tsp_base.specs.{PortFacts.in_table_after, RoundFacts.is_measured_after}
 use Rattle.tsp_rules.specs.{Guards.rivals_at, Guards.table_at, RoundRows.measured_at, RoundRows.round_at, RoundRows.standing}
 use Rattle.tsp_rules.specs.{NodeRows.PortSetup, SendRows.others_at}
-use Rattle.tsp_rules.{specs.Renames.Naming, specs.Renames.Renaming, specs.Renames.later_sends, proofs.GuardFacts.same_peer}
+use Rattle.tsp_rules.{specs.Renames.Naming, specs.Renames.later_sends, proofs.GuardFacts.same_peer}
 use Rattle.tsp_rules.specs.Values.{PeerId, Boot, Post, Become, Acked, Gave, Join, Leave, Rival, Arm, Message, Stamp, CloseAlarm, Peer, Request}
 use Rattle.tsp_alike.proofs.Alike.{AlikePort, AlikePast, Alike, Booted, Own, Other, here}
 use Rattle.tsp_alike.proofs.{PortAlike.in_table_alike, PortAlike.is_rival_alike, RoundsAlike.is_measured_alike, RoundsAlike.estimate_alike}
@@ -37,7 +37,6 @@ module _ (m : Naming) where
   is_measured_deed o u (Acts Boot) starts was knows e = refl
   is_measured_deed o u (Acts (Become r)) starts was knows e = refl
   is_measured_deed o u (Acts (Arm CloseAlarm at)) starts was knows e = refl
-  is_measured_deed o u (Acts (Arm a at)) starts was knows e = e
   is_measured_deed o u (Acts (Post (Peer q) (Stamp (Request word counter)))) starts was knows e = ap (λ b. if b && starts then true else was) (u q knows) ∙ e
   is_measured_deed o u (Acts (Leave q)) starts was knows e = ap (λ b. if b then false else was) (u q knows) ∙ e
   is_measured_deed o u _ starts was knows e = e
@@ -92,10 +91,6 @@ filter_others t own off (p ∷ ps) = by_case (p.0 == own.0) refl (filter_others 
   by_case : (b : Bool) → (p.0 == own.0) ≡ b → filter t ps ≡ filter t (others own ps) → filter t (p ∷ ps) ≡ filter t (if not b then p ∷ others own ps else others own ps)
   by_case true e k = ap (λ b. if b then p ∷ filter t ps else filter t ps) (ap t (same_peer p own e) ∙ off) ∙ k
   by_case false e k = ap (λ z. if t p then p ∷ z else z) k
-
-some_later : (n : Renaming) (o : Option Sending) → is_some (later_sends n o) ≡ is_some o
-some_later n None = refl
-some_later n (Some s) = refl
 
 -- numbers are compared either way round
 eqb_swap : (a b : ℕ) → (a == b) ≡ false → (b == a) ≡ false

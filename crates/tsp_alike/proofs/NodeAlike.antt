@@ -1,5 +1,5 @@
 -- Facts of a node at alike pasts of its port: word, ticket and clock are the same; ticks are later.
-use Rattle.std.proofs.Common.{ap, arith, sym, true≢false, ◌∙◌, ◌≡◌, ℕ, ◌+◌, ◌-◌, ◌/◌, ◌%◌, ℤ, pos, ◌+ℤ◌, ◌-ℤ◌, true, List, refl, ◌∷◌}
+use Rattle.std.proofs.Common.{ap, ap₂, arith, sym, true≢false, ◌∙◌, ◌≡◌, ℕ, ◌+◌, ◌-◌, ◌/◌, ◌%◌, ℤ, pos, ◌+ℤ◌, ◌-ℤ◌, true, List, refl, ◌∷◌}
 use Rattle.std.proofs.lemmas.Int.{ints}
 use Rattle.tsp_base.specs.Words.{Cause, Deed, Acts, Seen, plain, word, word_after, wall, wall_after, boot_tick, boot_after, corrects, ticket, moved, moved_after, target, last_correct, last_correct_after, eased, rest, rest_after, rest_at, shown, Step, Did, correct_place, correct_place_after, tick_in, correct_tick}
 use Rattle.tsp_base.specs.NodeFacts.{corrects_after}
@@ -37,22 +37,18 @@ module _ (n : Renaming) where
   boot_deed _ x c was = refl
 
   corrects_deed : (d : Deed) (was : ℕ) → corrects_after (renamed_deed n d) was ≡ corrects_after d was
-  corrects_deed (Acts Boot) was = refl
   corrects_deed (Acts (Correct amount stepped value)) was = refl
   corrects_deed _ was = refl
 
   moved_deed : (d : Deed) (was : ℤ) → moved_after (renamed_deed n d) was ≡ moved_after d was
-  moved_deed (Acts Boot) was = refl
   moved_deed (Acts (Correct amount stepped value)) was = refl
   moved_deed _ was = refl
 
   last_deed : (d : Deed) (x c was : ℕ) → last_correct_after (renamed_deed n d) (x + c) (was + c) ≡ last_correct_after d x was + c
-  last_deed (Acts Boot) x c was = refl
   last_deed (Acts (Correct amount stepped value)) x c was = refl
   last_deed _ x c was = refl
 
   rest_deed : (d : Deed) (left was : ℤ) → rest_after (renamed_deed n d) left was ≡ rest_after d left was
-  rest_deed (Acts Boot) left was = refl
   rest_deed (Acts (Correct amount stepped value)) left was = refl
   rest_deed _ left was = refl
 
@@ -113,14 +109,11 @@ module _ {m : Naming} where
 
   pub rest_alike : {seen seen' : List Seen} → Alike m seen seen' → rest (plain seen') ≡ rest (plain seen)
   rest_alike (Booted s s' boot x old old') = refl
-  rest_alike (Own s s' x d ok knows {before = b} {before' = b'} a) =
-      ap (λ r. rest_after (renamed_deed m.names d) r (rest (plain b'))) (rest_left a (rest_alike a) x)
-      ∙ ap (rest_after (renamed_deed m.names d) (rest_at (plain b) x)) (rest_alike a)
+  rest_alike (Own s s' x d ok knows {before = b} a) =
+      ap₂ (rest_after (renamed_deed m.names d)) (rest_left a (rest_alike a) x) (rest_alike a)
       ∙ rest_deed m.names d (rest_at (plain b) x) (rest (plain b))
-  rest_alike (Other n shift s s' x d ok {before = b} {before' = b'} a) =
-      ap (λ r. rest_after (renamed_deed n d) r (rest (plain b'))) (rest_left a (rest_alike a) x)
-      ∙ ap (rest_after (renamed_deed n d) (rest_at (plain b) x)) (rest_alike a)
-      ∙ rest_deed n d (rest_at (plain b) x) (rest (plain b))
+  rest_alike (Other n shift s s' x d ok {before = b} a) =
+      ap₂ (rest_after (renamed_deed n d)) (rest_left a (rest_alike a) x) (rest_alike a) ∙ rest_deed n d (rest_at (plain b) x) (rest (plain b))
 
   pub rest_at_alike : {seen seen' : List Seen} → Alike m seen seen' → (x : ℕ) → rest_at (plain seen') (x + m.names.shift) ≡ rest_at (plain seen) x
   rest_at_alike a x = rest_left a (rest_alike a) x

@@ -183,9 +183,8 @@ module _ (n : Renaming) where
 -- as many ports have the same numbers
 pub ports_same : (k : ℕ) (a b : List PortSetup) → length b ≡ length a → ports_from k b ≡ ports_from k a
 ports_same k [] [] e = refl
-ports_same k [] (t ∷ b) e = let bad : ⊥ = omega (arith, e) in absurd bad
-ports_same k (s ∷ a) [] e = let bad : ⊥ = omega (arith, e) in absurd bad
 ports_same k (s ∷ a) (t ∷ b) e = ap (λ l. record { 0 = k } ∷ l) (ports_same (k + 1) a b (omega (arith, e)))
+ports_same k _ _ e = let bad : ⊥ = omega (arith, e) in absurd bad
 
 -- each has a number below theirs
 pub ports_below : (k n : ℕ) (a : List PortSetup) → k + length a ≡ n → All (λ (q : Port). q.0 < n) (ports_from k a)

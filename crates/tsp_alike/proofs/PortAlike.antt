@@ -1,7 +1,7 @@
 -- Facts of a port at alike pasts: role, alarms, hold, what a step took, table, backers, rivals.
-use Rattle.std.proofs.Common.{sym, ap, true≢false, ◌∙◌, ◌≡◌, ℕ, ◌+◌, Bool, true, false, if◌then◌else◌, List, map, Option, None, Some, is_some, refl}
-use Rattle.tsp_rules.specs.Values.{Boot, Took, Become, Arm, Ring, Late, Back, Backer, Abandon, Join, Leave, Rival, Quit, Alarm, Window, Quiet, PeerId, Place, Peer, Stranger, Role, Follow, HOLD, ELECT_MIN}
-use Rattle.tsp_base.specs.Words.{Deed, Begins, Acts, Seen, Deadlines, deadline, with_deadline, Held, may_back, may_back_after, may_stand, Received, MessageValue, role, role_after, taken, taken_after, acting, acting_after, name_in, said, said_by, message_in, kept_name, kept_name_after, held, held_after, armed, armed_after, in_table, backers, backers_after, is_rival, is_rival_after}
+use Rattle.std.proofs.Common.{ap₂, sym, ap, true≢false, ◌∙◌, ◌≡◌, ℕ, ◌+◌, Bool, true, false, if◌then◌else◌, List, map, Option, None, Some, is_some, refl}
+use Rattle.tsp_rules.specs.Values.{Boot, Took, Become, Arm, Ring, Late, Backer, Join, Leave, Rival, Quit, Alarm, Window, Quiet, PeerId, Place, Peer, Stranger, Role, Follow, HOLD, ELECT_MIN}
+use Rattle.tsp_base.specs.Words.{Deed, Acts, Seen, Deadlines, deadline, with_deadline, Held, may_back, may_back_after, may_stand, Received, MessageValue, role, role_after, taken, taken_after, acting, acting_after, name_in, said, said_by, message_in, kept_name, kept_name_after, held, held_after, armed, armed_after, in_table, backers, backers_after, is_rival, is_rival_after}
 use Rattle.tsp_base.specs.PortFacts.{in_table_after}
 use Rattle.tsp_rules.specs.Renames.{Renaming, Naming, Knows, renamed_place, renamed_role, known_role}
 use Rattle.tsp_alike.proofs.Alike.{Alike, Booted, Own, Other}
@@ -11,19 +11,14 @@ use Rattle.tsp_alike.{proofs.Ticks.le_after, proofs.Ticks.past_later, specs.Alik
 -- what a deed does to a fact, with other names
 module _ (n : Renaming) where
   pub role_deed : (d : Deed) (was : Role) → role_after (renamed_deed n d) (renamed_role n was) ≡ renamed_role n (role_after d was)
-  role_deed (Acts Boot) was = refl
   role_deed (Acts (Become r)) was = refl
   role_deed _ was = refl
 
   pub taken_deed : (d : Deed) (was : Option Received) → taken_after (renamed_deed n d) (renamed_taken n was) ≡ renamed_taken n (taken_after d was)
-  taken_deed Begins was = refl
   taken_deed (Acts (Took from t)) was = refl
   taken_deed _ was = refl
 
   pub acting_deed : (d : Deed) (was : Bool) → acting_after (renamed_deed n d) was ≡ acting_after d was
-  acting_deed Begins was = refl
-  acting_deed (Acts (Took from t)) was = refl
-  acting_deed (Acts (Ring a)) was = refl
   acting_deed (Acts (Late a)) was = refl
   acting_deed _ was = refl
 
@@ -32,12 +27,9 @@ module _ (n : Renaming) where
   with_later d _ at = refl
 
   pub armed_deed : (d : Deed) (was : Deadlines) → armed_after (renamed_deed n d) (later_deadlines n was) ≡ later_deadlines n (armed_after d was)
-  armed_deed (Acts Boot) was = refl
-  armed_deed (Acts (Become r)) was = refl
   armed_deed (Acts (Arm a at)) was = with_later was a (Some at)
   armed_deed (Acts (Ring a)) was = with_later was a None
   armed_deed (Acts (Late a)) was = with_later was a None
-  armed_deed (Acts Abandon) was = refl
   armed_deed _ was = refl
 
   deadline_later : (d : Deadlines) (a : Alarm) → deadline (later_deadlines n d) a ≡ later n (deadline d a)
@@ -45,8 +37,6 @@ module _ (n : Renaming) where
   deadline_later d _ = refl
 
   pub held_deed : (d : Deed) (x : ℕ) (was : Held) → held_after (renamed_deed n d) (x + n.shift) (renamed_held n was) ≡ renamed_held n (held_after d x was)
-  held_deed (Acts Boot) x was = refl
-  held_deed (Acts (Back p)) x was = refl
   held_deed (Acts (Quit p)) x was = refl
   held_deed _ x was = refl
 
@@ -64,14 +54,10 @@ module _ (n : Renaming) where
   said_renamed (Some r) = by_renamed r.from (message_in r.taken)
 
   pub kept_name_deed : (d : Deed) (t : Option Received) (was : List ℕ) → kept_name_after (renamed_deed n d) (renamed_taken n t) was ≡ kept_name_after d t was
-  kept_name_deed (Acts Boot) t was = refl
   kept_name_deed (Acts (Become (Follow p))) t was = name_renamed t
-  kept_name_deed (Acts (Become r)) t was = refl
   kept_name_deed _ t was = refl
 
   pub backers_deed : (d : Deed) (was : List PeerId) → backers_after (renamed_deed n d) (map n.peer was) ≡ map n.peer (backers_after d was)
-  backers_deed (Acts Boot) was = refl
-  backers_deed (Acts (Become r)) was = refl
   backers_deed (Acts (Backer p)) was = refl
   backers_deed _ was = refl
 
@@ -96,7 +82,6 @@ module _ (m : Naming) where
   window_deed (Acts (Arm a at)) was knows k e = window_with was a at knows k e
   window_deed (Acts (Ring a)) was knows k e = window_off was a k e
   window_deed (Acts (Late a)) was knows k e = window_off was a k e
-  window_deed (Acts Abandon) was knows k e = k e
   window_deed _ was knows k e = k e
 
   back_renamed : (o : Option (ℕ × PeerId)) (x : ℕ) (p : PeerId) → may_back_after (renamed_back m.names o) (x + m.names.shift) (m.names.peer p) ≡ may_back_after o x p
@@ -105,23 +90,17 @@ module _ (m : Naming) where
 
   stand_renamed : (h : Held) (x : ℕ) (own : PeerId) → may_stand (renamed_held m.names h) (x + m.names.shift) (m.names.peer own) ≡ may_stand h x own
   stand_renamed h x own =
-      let a = le_after h.boot ELECT_MIN x m.names.shift in
       let b = past_later m.names h.quit ELECT_MIN x in
-      let c = back_renamed h.back x own in
-      rw (a, b, c) refl
+      rw (le_after h.boot ELECT_MIN x m.names.shift, b, back_renamed h.back x own) refl
 
   -- the slave table
   in_table_deed : (p : PeerId) (d : Deed) (was : Bool) → in_table_after (m.names.peer p) (renamed_deed m.names d) was ≡ in_table_after p d was
-  in_table_deed p (Acts Boot) was = refl
-  in_table_deed p (Acts (Become r)) was = refl
   in_table_deed p (Acts (Join q)) was = ap (λ b. if b then true else was) (m.same q p)
   in_table_deed p (Acts (Leave q)) was = ap (λ b. if b then false else was) (m.same q p)
   in_table_deed p _ was = refl
 
   -- rivals
   is_rival_deed : (p : PeerId) (d : Deed) (was : Bool) → is_rival_after (m.names.peer p) (renamed_deed m.names d) was ≡ is_rival_after p d was
-  is_rival_deed p (Acts Boot) was = refl
-  is_rival_deed p (Acts (Become r)) was = refl
   is_rival_deed p (Acts (Rival q)) was = ap (λ b. if b then true else was) (m.same q p)
   is_rival_deed p _ was = refl
 
@@ -179,10 +158,8 @@ module _ {m : Naming} where
   -- the name of the master that was followed last
   pub kept_name_alike : {seen seen' : List Seen} → Alike m seen seen' → kept_name seen' ≡ kept_name seen
   kept_name_alike (Booted s s' cause x old old') = refl
-  kept_name_alike (Own s s' x d ok knows {before = b} {before' = b'} a) =
-      ap (λ t. kept_name_after (renamed_deed m.names d) t (kept_name b')) (taken_alike a)
-      ∙ ap (kept_name_after (renamed_deed m.names d) (renamed_taken m.names (taken b))) (kept_name_alike a)
-      ∙ kept_name_deed m.names d (taken b) (kept_name b)
+  kept_name_alike (Own s s' x d ok knows {before = b} a) =
+      ap₂ (kept_name_after (renamed_deed m.names d)) (taken_alike a) (kept_name_alike a) ∙ kept_name_deed m.names d (taken b) (kept_name b)
   kept_name_alike (Other n shift s s' x d ok a) = kept_name_alike a
 
   -- backers

@@ -1,8 +1,8 @@
 -- Facts of a port's rounds at alike pasts.
-use Rattle.std.proofs.Common.{ap, sym, ◌∙◌, ◌≡◌, ℕ, ◌+◌, ◌==◌, ℤ, ◌-ℤ◌, int_lt, Bool, true, false, ◌&&◌, if◌then◌else◌, List, ◌∷◌, Option, None, Some, is_some, refl}
+use Rattle.std.proofs.Common.{ap, ap₂, sym, ◌∙◌, ◌≡◌, ℕ, ◌+◌, ◌==◌, ℤ, ◌-ℤ◌, int_lt, Bool, true, false, ◌&&◌, if◌then◌else◌, List, ◌∷◌, Option, None, Some, is_some, refl}
 use Rattle.tsp_rules.specs.Values.{Boot, Post, Become, Arm, Ring, Late, Leave, Sample, Abandon, Stamp, Probe, CloseAlarm, PeerId, Peer, Request}
 use Rattle.tsp_rules.specs.Renames.{Renaming, Naming}
-use Rattle.tsp_base.specs.Words.{Deed, Begins, Acts, Step, Seen, is_going, is_starting, is_measured, asked, asked_after, exchange, exchange_after, probes, target_there, target, plain, armed, Sampled, better, best, best_after, request_at_place, request_open, Estimate, estimate, estimate_of}
+use Rattle.tsp_base.specs.Words.{Deed, Acts, Step, Seen, is_going, is_starting, is_measured, asked, asked_after, exchange, exchange_after, probes, target_there, target, plain, armed, Sampled, better, best, best_after, request_at_place, request_open, Estimate, estimate, estimate_of}
 use Rattle.tsp_base.specs.RoundFacts.{is_starting_after, is_measured_after, word_asked_by, probes_after}
 use Rattle.tsp_alike.proofs.Alike.{Alike, Booted, Own, Other, here}
 use Rattle.tsp_alike.{proofs.PortAlike.armed_alike, proofs.Renamed.later, specs.AlikeNodes.renamed_deed}
@@ -55,41 +55,30 @@ trip_after false was late = refl
 -- what a deed does to a fact, with other names
 module _ (n : Renaming) where
   is_starting_deed : (d : Deed) (was : Bool) → is_starting_after (renamed_deed n d) was ≡ is_starting_after d was
-  is_starting_deed Begins was = refl
   is_starting_deed (Acts (Arm CloseAlarm at)) was = refl
-  is_starting_deed (Acts (Arm a at)) was = refl
   is_starting_deed _ was = refl
 
   asked_deed : (d : Deed) (was : ℕ) → asked_after (renamed_deed n d) was ≡ asked_after d was
-  asked_deed (Acts Boot) was = refl
   asked_deed (Acts (Post to (Stamp (Request word counter)))) was = refl
-  asked_deed (Acts (Post to datagram)) was = refl
   asked_deed _ was = refl
 
   probes_deed : (d : Deed) (was : ℕ) → probes_after (renamed_deed n d) was ≡ probes_after d was
-  probes_deed (Acts Boot) was = refl
-  probes_deed (Acts (Become r)) was = refl
   probes_deed (Acts (Arm CloseAlarm at)) was = refl
-  probes_deed (Acts (Arm a at)) was = refl
   probes_deed (Acts (Ring Probe)) was = refl
   probes_deed _ was = refl
 
   word_deed : (d : Deed) → word_asked_by (renamed_deed n d) ≡ word_asked_by d
   word_deed (Acts (Post to (Stamp (Request word counter)))) = refl
-  word_deed (Acts (Post to datagram)) = refl
   word_deed _ = refl
 
-  going_later : (at : Option ℕ) → is_some (later n at) ≡ is_some at
-  going_later None = refl
-  going_later (Some x) = refl
+  pub some_later : (at : Option ℕ) → is_some (later n at) ≡ is_some at
+  some_later None = refl
+  some_later (Some x) = refl
 
 -- the same for one peer, where peers are told apart
 module _ (m : Naming) where
   is_measured_deed : (p : PeerId) (d : Deed) (starts was : Bool) → is_measured_after (m.names.peer p) (renamed_deed m.names d) starts was ≡ is_measured_after p d starts was
-  is_measured_deed p (Acts Boot) starts was = refl
-  is_measured_deed p (Acts (Become r)) starts was = refl
   is_measured_deed p (Acts (Arm CloseAlarm at)) starts was = refl
-  is_measured_deed p (Acts (Arm a at)) starts was = refl
   is_measured_deed p (Acts (Post (Peer q) (Stamp (Request word counter)))) starts was = ap (λ b. if b && starts then true else was) (m.same q p)
   is_measured_deed p (Acts (Leave q)) starts was = ap (λ b. if b then false else was) (m.same q p)
   is_measured_deed p _ starts was = refl
@@ -98,7 +87,6 @@ module _ (m : Naming) where
   exchange_deed p c (Acts Boot) now k = Nowhere
   exchange_deed p c (Acts (Become r)) now k = Nowhere
   exchange_deed p c (Acts (Arm CloseAlarm at)) now k = Nowhere
-  exchange_deed p c (Acts (Arm a at)) now k = k
   exchange_deed p c (Acts (Ring CloseAlarm)) now k = Nowhere
   exchange_deed p c (Acts (Late CloseAlarm)) now k = Nowhere
   exchange_deed p c (Acts Abandon) now k = Nowhere
@@ -108,7 +96,7 @@ module _ (m : Naming) where
 
 module _ {m : Naming} where
   pub is_going_alike : {seen seen' : List Seen} → Alike m seen seen' → is_going seen' ≡ is_going seen
-  is_going_alike {seen = z} a = ap (λ d. is_some d.close) (armed_alike a) ∙ going_later m.names (armed z).close
+  is_going_alike {seen = z} a = ap (λ d. is_some d.close) (armed_alike a) ∙ some_later m.names (armed z).close
 
   is_starting_alike : {seen seen' : List Seen} → Alike m seen seen' → is_starting seen' ≡ is_starting seen
   is_starting_alike (Booted s s' boot x old old') = refl
@@ -117,9 +105,8 @@ module _ {m : Naming} where
 
   pub is_measured_alike : (p : PeerId) → {seen seen' : List Seen} → Alike m seen seen' → is_measured (m.names.peer p) seen' ≡ is_measured p seen
   is_measured_alike p (Booted s s' boot x old old') = refl
-  is_measured_alike p (Own s s' x d ok knows {before = b} {before' = b'} a) =
-      ap (λ starts. is_measured_after (m.names.peer p) (renamed_deed m.names d) starts (is_measured (m.names.peer p) b')) (is_starting_alike a)
-      ∙ ap (is_measured_after (m.names.peer p) (renamed_deed m.names d) (is_starting b)) (is_measured_alike p a)
+  is_measured_alike p (Own s s' x d ok knows {before = b} a) =
+      ap₂ (is_measured_after (m.names.peer p) (renamed_deed m.names d)) (is_starting_alike a) (is_measured_alike p a)
       ∙ is_measured_deed m p d (is_starting b) (is_measured p b)
   is_measured_alike p (Other n shift s s' x d ok a) = is_measured_alike p a
 

@@ -1,6 +1,6 @@
 -- How a port's answers are made: its alarms, and what it does with what it takes.
 use Rattle.std.specs.Prelude.{◌≡◌, ℕ, Bool, true, false, List, [], ◌∷◌, refl, ℤ}
-use Rattle.tsp_rules.specs.Values.{Took, Alarm, Quiet, Search, Elect, Window, Probe, Round, CloseAlarm, ResolveAlarm, Message, Stamp, Taken, Good, Bad, Kind, Ack, AdjTime, Date, DateAck, DateReq, LoopKind, Msite, MsiteReq, SetDate, SetDateReq, SetTime, Test, TraceOff, TraceOn, PeerId, Place, Peer, Stranger, Role, Starting, Loose, Follow, Candidate, Master, Request, Reply, Acked, Leave, MasterUp}
+use Rattle.tsp_rules.specs.Values.{Took, Alarm, Quiet, Search, Elect, Window, Probe, Round, CloseAlarm, ResolveAlarm, Message, Stamp, Taken, Good, Bad, Kind, Ack, Date, DateAck, DateReq, LoopKind, Msite, MsiteReq, SetDate, SetDateReq, Test, TraceOff, TraceOn, PeerId, Place, Peer, Stranger, Role, Starting, Follow, Candidate, Master, Request, Reply, Acked, Leave, MasterUp}
 use Rattle.tsp_rules.specs.Answers.{alarm_rings, rings, says_in, peer_says, replies_in, peer_replies, from_peer, handles_kind, handles, takes}
 use Rattle.tsp_rules.proofs.Emits.{Sort, Asking, Correcting, Passing, Numbering, Posting, Leading, Following, Changing, Backing, Counting, Alarming, Rounding, Tabling, Rivalling, Acking, Sampling, Moving, Taking, Tracing, is_part}
 use Rattle.tsp_rules.specs.Renames.{Naming, Wakes, comes_place, known_place, renamed_place, renamed_role, known_role}
@@ -119,21 +119,10 @@ Owes o (Good (Stamp (Request word counter))) = o.of (AStamp word counter)
 Owes o (Good (Stamp (Reply r))) = o.of (ATicket r.ticket)
 
 slave-part : (k : Kind) → is_part (slave_sorts k) says_sorts ≡ true
-slave-part AdjTime = refl
-slave-part SetTime = refl
 slave-part Ack = refl
 slave-part _ = refl
 
 handled-part : (k : Kind) → is_part (handled_sorts k) (Tracing ∷ Passing ∷ says_sorts) ≡ true
-handled-part Msite = refl
-handled-part MsiteReq = refl
-handled-part TraceOn = refl
-handled-part TraceOff = refl
-handled-part Test = refl
-handled-part Date = refl
-handled-part SetDate = refl
-handled-part DateReq = refl
-handled-part SetDateReq = refl
 handled-part DateAck = refl
 handled-part _ = refl
 
@@ -165,10 +154,9 @@ module _ {m : Naming} {o : Owed} where
   built-says : (p : PeerId) (msg : MessageValue) (r : Role) → m.known p → o.of (ANumber msg.number) → Built m o says_sorts 1 5 (says_in p msg r) (says_in (m.names.peer p) msg (renamed_role m.names r))
   unfolding says_in
   built-says p msg Starting known is = Empty
-  built-says p msg Loose known is = More (Wider (slave-part msg.kind) (built_slave_takes p msg known is)) refl
-  built-says p msg (Follow q) known is = More (Wider (slave-part msg.kind) (built_slave_takes p msg known is)) refl
   built-says p msg Candidate known is = More (Wider refl (built_candidate_takes p msg known is)) refl
   built-says p msg Master known is = Wider refl (built_master_takes p msg known is)
+  built-says p msg _ known is = More (Wider (slave-part msg.kind) (built_slave_takes p msg known is)) refl
 
   pub built_peer_says : (msg : MessageValue) (p : PeerId) → m.known p → o.of (ANumber msg.number) → Built m o says_sorts 1 5 (peer_says msg p) (peer_says msg (m.names.peer p))
   unfolding peer_says

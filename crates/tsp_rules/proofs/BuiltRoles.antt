@@ -34,8 +34,6 @@ abbrev pub all_candidate_sorts : List Sort
 all_candidate_sorts = Acking ∷ Counting ∷ Changing ∷ quit_sorts
 
 candidate-part : (k : Kind) → is_part (candidate_sorts k) all_candidate_sorts ≡ true
-candidate-part Accept = refl
-candidate-part Refuse = refl
 candidate-part Ack = refl
 candidate-part _ = refl
 
@@ -157,7 +155,6 @@ unmoved_sorts = Acking ∷ Numbering ∷ quit_sorts
 pub slave_part_unmoved : (k : Kind) → is_correction k ≡ false → is_part (slave_sorts k) unmoved_sorts ≡ true
 slave_part_unmoved AdjTime e = absurd (true≢false e)
 slave_part_unmoved SetTime e = absurd (true≢false e)
-slave_part_unmoved Ack e = refl
 slave_part_unmoved _ e = refl
 
 -- what is no ACK ends no send
@@ -165,8 +162,6 @@ abbrev pub open_sorts : List Sort
 open_sorts = Moving ∷ Numbering ∷ quit_sorts
 
 pub slave_part_open : (k : Kind) → k ≢ Ack → is_part (slave_sorts k) open_sorts ≡ true
-slave_part_open AdjTime n = refl
-slave_part_open SetTime n = refl
 slave_part_open Ack n = absurd (n refl)
 slave_part_open _ n = refl
 

@@ -1,6 +1,6 @@
 -- How the rows of sends are made: those that begin a correction, and those that are due.
 use Rattle.std.specs.Prelude.{◌≡◌, ℕ, ℤ, true, List, [], ◌∷◌, Some, refl}
-use Rattle.tsp_rules.specs.Values.{Gave, Leave, Kind, AdjTime, Conflict, Election, QuitKind, SetDateReq, SetTime, PeerId}
+use Rattle.tsp_rules.specs.Values.{Gave, Leave, Kind, AdjTime, SetDateReq, PeerId}
 use Rattle.tsp_base.specs.Words.{Sending, is_correction}
 use Rattle.tsp_rules.specs.SendRows.{begins_adjtime, begins_settime, leaves_after, gives_up, repeats_send, due_send, due_sends}
 use Rattle.tsp_rules.proofs.Emits.{Sort, Correcting, Passing, Numbering, Posting, Tabling, Giving, is_part, sort_of_kind}
@@ -13,11 +13,6 @@ abbrev pub send_sorts : List Sort
 send_sorts = Correcting ∷ Passing ∷ Numbering ∷ Posting ∷ Giving ∷ Tabling ∷ []
 
 kind-sent : (k : Kind) → is_part (sort_of_kind k ∷ []) send_sorts ≡ true
-kind-sent AdjTime = refl
-kind-sent SetTime = refl
-kind-sent Election = refl
-kind-sent Conflict = refl
-kind-sent QuitKind = refl
 kind-sent SetDateReq = refl
 kind-sent _ = refl
 

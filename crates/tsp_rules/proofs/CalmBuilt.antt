@@ -11,7 +11,7 @@ use Rattle.tsp_rules.specs.RoundRows.{abandons, asks, close_act, closes, closes_
 use Rattle.tsp_rules.proofs.Emits.{Sort, Moving, is_in, is_in-part}
 use Rattle.tsp_rules.proofs.FewActs.{is_calm_act, is_calm, Calm, calm_append, calm_none, calm_puts, calm_then, calm_either, calm_reading, calm_more, calm_arms, calm_posts, calm_posts_time, calm_posts_to_others, calm_others, calm_each, each_few, each_calm, filter_few}
 use Rattle.tsp_rules.proofs.Unchanged.{no_unchanged, told_unchanged, unchanged, yes_unchanged}
-use Rattle.tsp_rules.proofs.RowCodes.{Value, APlace, ATaken, Owed, Leaf, Puts, Takes, Arms, Posts, ToOthers, PostsBack, PostsTime, PostsReply, PostsName, Repeats, SettimeBegins, Loops, Reposts, Asks, Samples, Adjusts, Sets, Valued, TicketAt, NextNumber, MasterName, Listed, Others, Rivals, Table, Measured, is_plain}
+use Rattle.tsp_rules.proofs.RowCodes.{Value, APlace, ATaken, Owed, Leaf, Puts, Takes, Arms, Posts, ToOthers, PostsBack, PostsTime, PostsReply, PostsName, SettimeBegins, Loops, Reposts, Asks, Adjusts, Sets, Valued, TicketAt, NextNumber, MasterName, Listed, Others, Rivals, Table, Measured, is_plain}
 use Rattle.tsp_rules.proofs.Built.{Built, Corrects, Empty, At, Then, Either, If, Reading, ReadingValue, Each, EachSend, Closes, More, Wider}
 
 -- an answer goes back to a stranger only where that is allowed, and nothing is taken
@@ -44,8 +44,7 @@ few-listed Measured x past = filter_few (λ p. is_measured p past.seen) past.pee
 round_few : (x : ℕ) (past : Past) → length (round_at x past) ≤ length past.peers
 round_few x past =
     let some = filter_few (λ p. is_measured p past.seen) past.peers in
-    let same = map-same (measured_at x past) in
-    omega (arith, some, same)
+    omega (arith, some, map-same (measured_at x past))
   where
     map-same : (ps : List PeerId) → length (map (standing past.seen) ps) ≡ length ps
     map-same [] = refl
@@ -63,14 +62,13 @@ module _ (strange moving : Bool) where
   leaf-calm may (PostsTime p kind number time known is timely fits) = calm_posts_time p kind number time
   leaf-calm may (PostsReply from word counter place back is) = calm_either 0 1 is_in_range (posts_reply from word counter) nothing (record { few = λ x past. omega arith; calm = λ x past. and_from _ true (back-calm strange moving from _ back) refl }) (calm_none 0 1)
   leaf-calm may (PostsName from number name place back is named) = calm_puts _ (back-calm strange moving from (Message (bare Ack number name)) back)
-  leaf-calm may (Repeats p s known is) = calm_puts _ refl
   leaf-calm may (SettimeBegins p number known is) = calm_either 0 1 _ _ nothing (calm_reading 0 1 _ _ (λ t. calm_posts_time p _ number t)) (calm_none 0 1)
   leaf-calm may (Loops q is) = calm_others (sends_loops q) (λ past. loop_to q past.name) (λ x past. refl) (λ past p. refl)
   leaf-calm may (Reposts msg is) = calm_others (reposts msg) (λ past. repost msg) (λ x past. refl) (λ past p. refl)
   leaf-calm may (Asks p known) = record { few = λ x past. omega arith; calm = λ x past. refl }
-  leaf-calm may (Samples p r a d known is) = calm_puts _ refl
   leaf-calm may (Adjusts amount) = record { few = λ x past. omega arith; calm = λ x past. and_from moving true (may refl) refl }
   leaf-calm may (Sets value) = record { few = λ x past. omega arith; calm = λ x past. and_from moving true (may refl) refl }
+  leaf-calm may _ = calm_puts _ refl
 
   value-calm : {A : Type 0} {f : A → A} {value : A → Value} {fact fact' : ℕ → Past → A} → Valued unchanged A f value fact fact' → (a : A) → Backs strange (value a)
   value-calm TicketAt n = tt
@@ -102,13 +100,12 @@ module _ (strange moving : Bool) where
           let mean = mean_by own g in
           let now = grown x past (close_act own g ∷ []) in
           let acts = moves own mean x now in
-          let one = (moved mean).few x now in
           let each = each_few 1 (corrects_peer mean) (each-corrected mean) round x (grown x now acts) in
           let whole = length-append acts (for_each (corrects_peer mean) round x (grown x now acts)) in
           let left : 0 * length now.peers ≡ 0 = grind arith in
           let right : 1 * length past.peers ≡ length past.peers = grind arith in
           let same : 1 * length round ≡ length round = grind arith in
-          omega (arith, one, each, whole, few, left, right, same)
+          omega (arith, (moved mean).few x now, each, whole, few, left, right, same)
       by_case false = omega arith
 
     close-calm : (g : Group) (round : List Standing) (x : ℕ) (past : Past) → is_calm strange moving (closes_with own g round x past) ≡ true

@@ -1,7 +1,7 @@
 -- A whole step takes nothing but what it is given, puts few acts, and posts to a stranger only where it is given a stranger's datagram.
 use Rattle.std.proofs.Common.{sym, subst, ap, arith, true≢false, append_assoc, append-nil, length-append, ◌∙◌, ◌≡◌, ◌≤◌, ℕ, ◌+◌, ◌*◌, Bool, true, false, if◌then◌else◌, List, [], ◌∷◌, ◌++◌, length, All, refl}
 use Rattle.std.proofs.lemmas.{Bool.and_parts, List.Elements.All-nil, List.Elements.All-cons, List.Elements.All-append}
-use Rattle.tsp_rules.specs.Values.{Act, Took, Post, Message, Stamp, Taken, Good, Bad, Place, Peer, Stranger, Request, Reply}
+use Rattle.tsp_rules.specs.Values.{Act, Took, Post, Message, Stamp, Taken, Good, Bad, Place, Stranger, Request, Reply}
 use Rattle.tsp_base.specs.Words.{Past, Row, grown, nothing, puts, ◌followed_by◌, either_by}
 use Rattle.tsp_rules.specs.Answers.{due_alarms, handles, takes, Turn, Got, input_row, answers}
 use Rattle.tsp_rules.specs.{Guards.is_own, RoundRows.corrects, RoundRows.abandons_going, RoundRows.upsetting, SendRows.due_sends}
@@ -64,7 +64,6 @@ taking_upsetting from t k c row p = record { run = λ x past. ended x past (p.ru
   ended x past f true =
       let more = calm_abandons_going {strange = is_stranger from} {moving = true} in
       let acts = abandons_going x (grown x past (row x past)) in
-      let one = more.few x (grown x past (row x past)) in
       let whole = length-append f.after acts in
       let few = f.few in
       let zero : 0 * length past.peers ≡ 0 = grind arith in
@@ -72,7 +71,7 @@ taking_upsetting from t k c row p = record { run = λ x past. ended x past (p.ru
         after = f.after ++ acts;
         is = subst (λ z. row x past ++ acts ≡ z ++ acts) f.is refl;
         calm = calm_append (is_stranger from) true f.after acts f.calm (more.calm x (grown x past (row x past)));
-        few = omega (arith, one, whole, few, zero);
+        few = omega (arith, more.few x (grown x past (row x past)), whole, few, zero);
       }
 
 -- a step in which nothing is given takes nothing
@@ -101,9 +100,6 @@ takes_between from t sends alarms input send_calm alarm_calm taken x past =
     let second = grown x first rung in
     let rest = input x second in
     let f = taken.run x second in
-    let n = send_calm.few x past in
-    let k = alarm_calm.few x first in
-    let j = f.few in
     let one = length-append rung rest in
     let two = length-append sent (rung ++ rest) in
     let same : length rest ≡ length (Took from t ∷ f.after) = ap length f.is in
@@ -113,7 +109,7 @@ takes_between from t sends alarms input send_calm alarm_calm taken x past =
       is = subst (λ z. sent ++ (rung ++ rest) ≡ sent ++ (rung ++ z)) f.is refl ∙ sym (append_assoc sent rung (Took from t ∷ f.after));
       calm_before = calm_append (is_stranger from) true sent rung (send_calm.calm x past) (alarm_calm.calm x first);
       calm_after = f.calm;
-      few = omega (arith, n, k, j, one, two, same);
+      few = omega (arith, send_calm.few x past, alarm_calm.few x first, f.few, one, two, same);
     }
 
 pub takes_once : (from : Place) (t : Taken) (x : ℕ) (past : Past) → TakesOnce from t (length past.peers) (answers (Got from t) x past)
@@ -124,7 +120,6 @@ takes_once from t = takes_between from t due_sends due_alarms (upsetting (puts (
 -- calm acts are known
 known_act : (strange moving : Bool) (a : Act) → is_calm_act strange moving a ≡ true → IsKnown strange a
 known_act strange moving (Post Stranger datagram) e = e
-known_act strange moving (Post (Peer p) datagram) e = tt
 known_act strange moving _ e = tt
 
 pub known_calm : (strange moving : Bool) (acts : List Act) → is_calm strange moving acts ≡ true → All (IsKnown strange) acts

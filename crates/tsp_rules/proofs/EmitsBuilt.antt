@@ -8,7 +8,7 @@ use Rattle.tsp_rules.specs.GateRows.{loop_to, repost, reposts, sends_loops}
 use Rattle.tsp_rules.specs.RoundRows.{abandons, asks, close_act, closes, closes_with, corrects_by, corrects_peer, estimates, mean_by, moves, round_at}
 use Rattle.tsp_rules.proofs.Emits.{Sort, Posting, all_map, Closing, Rounding, is_in-own, is_part, sort_of, sort_of_alarm, sort_of_kind, Emits, Emits_nothing, Emits_puts, Emits_then, Emits_either, Emits_reading, Emits_each, Emits_arms, Emits_posts, Emits_posts_to_others, Emits_posts_back, Emits_posts_time, Emits_adjusts, Emits_sets, Emits_more}
 use Rattle.tsp_rules.proofs.Unchanged.{no_unchanged, told_unchanged, unchanged, yes_unchanged}
-use Rattle.tsp_rules.proofs.RowCodes.{Owed, Leaf, Puts, Takes, Arms, Posts, ToOthers, PostsBack, PostsTime, PostsReply, PostsName, Repeats, SettimeBegins, Loops, Reposts, Asks, Samples, Adjusts, Sets}
+use Rattle.tsp_rules.proofs.RowCodes.{Owed, Leaf, Puts, Arms, Posts, ToOthers, PostsBack, PostsTime, PostsReply, Repeats, SettimeBegins, Loops, Reposts, Asks, Adjusts, Sets}
 use Rattle.tsp_rules.proofs.BuiltAnswers.{Owes}
 use Rattle.tsp_rules.proofs.Built.{Built, Corrects, Empty, At, Then, Either, If, Reading, ReadingValue, Each, EachSend, Closes, More, Wider}
 
@@ -19,22 +19,20 @@ nothing_owed = record { of = λ v. Unit {0}; zero = tt; near = λ p. tt }
 leaf-emits : {few : List Sort} {k c : ℕ} {r r' : Row} → Leaf unchanged nothing_owed few k c r r' → Emits few r
 unfolding replies posts_reply repeats asks begins_settime sends_loops reposts
 leaf-emits (Puts a plain knows) = Emits_puts a (is_in-own (sort_of a))
-leaf-emits (Takes from t is) = Emits_puts _ refl
 leaf-emits (Arms alarm long wakes) = Emits_arms alarm long (is_in-own (sort_of_alarm alarm))
 leaf-emits (Posts p kind number known is fits) = Emits_posts p kind number (is_in-own (sort_of_kind kind))
 leaf-emits (ToOthers kind fits) = Emits_posts_to_others kind 0 (is_in-own (sort_of_kind kind))
 leaf-emits (PostsBack from kind number place back is fits) = Emits_posts_back from kind number (is_in-own (sort_of_kind kind))
 leaf-emits (PostsTime p kind number time known is timely fits) = Emits_posts_time p kind number time (is_in-own (sort_of_kind kind))
 leaf-emits (PostsReply from word counter place back is) = Emits_either _ _ nothing (record { only = λ x past. (refl, tt) }) Emits_nothing
-leaf-emits (PostsName from number name place back is named) = Emits_puts _ refl
 leaf-emits (Repeats p s known is) = Emits_puts _ (is_in-own (sort_of_kind s.message.kind))
 leaf-emits (SettimeBegins p number known is) = Emits_either _ _ nothing (Emits_reading _ _ (λ t. Emits_posts_time p _ number t refl)) Emits_nothing
 leaf-emits (Loops q is) = record { only = λ x past. all_map (Posting ∷ []) (loop_to q past.name) (λ p. refl) (others past.own past.peers) }
 leaf-emits (Reposts msg is) = record { only = λ x past. all_map (sort_of_kind msg.kind ∷ []) (repost msg) (λ p. is_in-own (sort_of_kind msg.kind)) (others past.own past.peers) }
 leaf-emits (Asks p known) = record { only = λ x past. (refl, tt) }
-leaf-emits (Samples p r a d known is) = Emits_puts _ refl
 leaf-emits (Adjusts amount) = Emits_adjusts amount refl
 leaf-emits (Sets value) = Emits_sets value refl
+leaf-emits _ = Emits_puts _ refl
 
 closes-emits : {sorts : List Sort} (own : Bool) → is_part (Rounding ∷ Closing ∷ []) sorts ≡ true → ((mean : ℤ) → Emits sorts (moves own mean)) → ((mean : ℤ) (p : PeerId) (best : Option Estimate) → Emits sorts (corrects_by mean p best)) → Emits sorts (reading round_at (closes own))
 unfolding closes closes_with corrects_peer abandons

@@ -52,11 +52,9 @@ module _ {strange moving : Bool} where
   unfolding ◌followed_by◌
   calm_then j b k c r s p q = record {
     few = λ x past.
-        let first = p.few x past in
-        let second = q.few x (grown x past (r x past)) in
         let whole = length-append (r x past) (s x (grown x past (r x past))) in
         let spread : (j + k) * length past.peers ≡ j * length past.peers + k * length past.peers = mul-add j k (length past.peers) in
-        omega (arith, first, second, whole, spread);
+        omega (arith, p.few x past, q.few x (grown x past (r x past)), whole, spread);
     calm = λ x past. calm_append strange moving (r x past) (s x (grown x past (r x past))) (p.calm x past) (q.calm x (grown x past (r x past)));
   } where
     mul-add : (j k n : ℕ) → (j + k) * n ≡ j * n + k * n
@@ -101,11 +99,10 @@ module _ {strange moving : Bool} where
   pub calm_others : (row : Row) (f : Past → PeerId → Act) → ((x : ℕ) (past : Past) → row x past ≡ map (f past) (others past.own past.peers)) → ((past : Past) (p : PeerId) → is_calm_act strange moving (f past p) ≡ true) → Calm strange moving 1 0 row
   calm_others row f is e = record {
     few = λ x past.
-        let all = length-map (others past.own past.peers) (f past) in
         let some = filter_few (λ p. not (p.0 == past.own.0)) past.peers in
         let same : length (row x past) ≡ length (map (f past) (others past.own past.peers)) = ap length (is x past) in
         let one : 1 * length past.peers ≡ length past.peers = grind arith in
-        omega (arith, all, some, same, one);
+        omega (arith, length-map (others past.own past.peers) (f past), some, same, one);
     calm = λ x past. subst (λ acts. is_calm strange moving acts ≡ true) (sym (is x past)) (map-calm strange moving (f past) (e past) (others past.own past.peers));
   }
 
@@ -118,12 +115,11 @@ module _ {strange moving : Bool} where
   unfolding for_each nothing ◌followed_by◌
   each_few c r k [] x past = omega arith
   each_few c r k (a ∷ rest) x past =
-      let first = (k a).few x past in
       let second = each_few c r k rest x (grown x past (r a x past)) in
       let whole = length-append (r a x past) (for_each r rest x (grown x past (r a x past))) in
       let spread : c * length (a ∷ rest) ≡ c + c * length rest = grind arith in
       let none : 0 * length past.peers ≡ 0 = grind arith in
-      omega (arith, first, second, whole, spread, none)
+      omega (arith, (k a).few x past, second, whole, spread, none)
 
   pub each_calm : {A : Type 0} (c : ℕ) (r : A → Row) → ((a : A) → Calm strange moving 0 c (r a)) → (some : List A) (x : ℕ) (past : Past) → is_calm strange moving (for_each r some x past) ≡ true
   unfolding for_each nothing ◌followed_by◌
@@ -135,9 +131,8 @@ module _ {strange moving : Bool} where
   unfolding reading
   calm_each c fact r bound k = record {
     few = λ x past.
-        let all = each_few c r k (fact x past) x past in
         let some = mul-le c (length (fact x past)) (length past.peers) (bound x past) in
-        omega (arith, all, some);
+        omega (arith, each_few c r k (fact x past) x past, some);
     calm = λ x past. each_calm c r k (fact x past) x past;
   } where
     mul-le : (c m n : ℕ) → m ≤ n → c * m ≤ c * n

@@ -35,8 +35,7 @@ not-shared _ n = refl
 pub view_other : (q r : Port) (step : Step) (x : ℕ) (acts : List Act) (lines : List Line) → (q.0 == r.0) ≡ false → Bootless acts → view r (joined step x (placed q acts) lines) ≡ passed step x acts (view r lines)
 view_other q r step x [] lines n b = refl
 view_other q r step x (a ∷ rest) lines n b =
-    let own = not-shared a b.0 in
-    let there : ((q.0 == r.0) || is_shared (Acts a)) ≡ false = rw (n, own) refl in
+    let there : ((q.0 == r.0) || is_shared (Acts a)) ≡ false = rw (n, not-shared a b.0) refl in
     view_other q r step x rest (line_of step x q (Acts a) ∷ lines) n b.1
     ∙ ap (λ c. passed step x rest (seen_as c (line_of step x q (Acts a)).did ∷ view r lines)) there
 

@@ -1,9 +1,9 @@
 -- A port whose peers keep their numbers, and of which nothing needs to be known.
 use Rattle.std.specs.Prelude.{ℕ, Bool, refl}
-use Rattle.tsp_rules.specs.Values.{Alarm, Window, Place, Peer, Stranger, Role, Follow, Candidate}
+use Rattle.tsp_rules.specs.Values.{Alarm, Window, Place, Peer, Stranger, Role, Candidate}
 use Rattle.tsp_base.specs.Words.{Past}
 use Rattle.tsp_rules.specs.Renames.{Naming, Wakes, comes_place, known_place, known_role}
-use Rattle.tsp_rules.proofs.RowCodes.{Due, Fact, IsOwn, MayBeAsked, MayStand, RoleAt, Test, no, yes}
+use Rattle.tsp_rules.proofs.RowCodes.{Due, Fact, IsOwn, RoleAt, Test, no, yes}
 
 -- nothing is renamed, every peer is known, and the port may stand for election
 abbrev pub unchanged : Naming
@@ -21,7 +21,6 @@ comes_unchanged Stranger = tt
 
 -- every role
 role-unchanged : (r : Role) → known_role unchanged r
-role-unchanged (Follow p) = tt
 role-unchanged Candidate = tt
 role-unchanged _ = tt
 
@@ -37,8 +36,6 @@ told_unchanged _ a = tt
 
 pub yes_unchanged : {t t' : ℕ → Past → Bool} (test : Test unchanged t t') → yes test
 yes_unchanged (Due alarm) = wakes-unchanged alarm
-yes_unchanged MayStand = tt
-yes_unchanged MayBeAsked = tt
 yes_unchanged _ = tt
 
 pub no_unchanged : {t t' : ℕ → Past → Bool} (test : Test unchanged t t') → no test
