@@ -9,8 +9,8 @@ use Rattle.tsp_gateway.specs.{GateConfigs.peers_of_ports, PortOf.has_other_peer,
 use Rattle.tsp_io.specs.{Links.Arrival, declared.addr.Addr.Addr}
 use Rattle.tsp_promises.specs.{Dated.SetsAt, Fits.Fits, Fits.Finished, PortFits.PortFits, PortFits.setup_in, StepFacts.StepEnds}
 use Rattle.tsp_promises.specs.Setting.{Setting, setup_of}
-use Rattle.tsp_promises.proofs.{ChainProof.looped_in, EverywhereLemmas.Everywhere-from, GateSteps.AllPorts, GateLeads.GivenOn, GateLeads.answers_all_lead}
-use Rattle.tsp_promises.proofs.{Known.Ended, Known.Fresh, NodeLeads.begins_all, NodeLeads.boots_all_lead}
+use Rattle.tsp_promises.proofs.{ChainProof.looped_in, EverywhereLemmas.Everywhere-from, GateSteps.AllPorts, GateLeads.GivenOn}
+use Rattle.tsp_promises.proofs.{GateLeads.answers_all_lead, Known.Ended, Known.Fresh, NodeLeads.begins_all, NodeLeads.boots_all_lead}
 use Rattle.tsp_promises.proofs.{OwnFitsProof.fits_at, SafeProof.safe, SetProof.sets_at}
 use Rattle.tsp_promises.proofs.RunLeads.{ended_later, ends_of, nothing-done, nothing-ends}
 use Rattle.tsp_query.specs.{Arrivals.next_arrival, Ends.Outside}

@@ -3,8 +3,7 @@ use Rattle.std.proofs.Common.{◌≡◌, ℕ, zero, suc, ◌+◌, ◌<◌, ◌==
 use Rattle.std.{proofs.lemmas.Bool.ltb-true, proofs.lemmas.Bool.lt-ltb, proofs.lemmas.Bool.false≢true, specs.List.position_or_len}
 use Rattle.tsp_rules.specs.Values.{PeerId}
 use Rattle.tsp_base.specs.Words.{is_among, Dating}
-use Rattle.tsp_date.specs.declared.dates.Dated.{Dated}
-use Rattle.tsp_date.specs.Dates.{dating_in, idle, last_in, peers_of}
+use Rattle.tsp_date.specs.{declared.dates.Dated.Dated, Dates.dating_in, Dates.idle, Dates.last_in, Dates.peers_of}
 
 -- the place of a peer; where it isn't known, the number of peers
 abbrev pub at : PeerId → List Dated → ℕ

@@ -3,7 +3,7 @@ use Rattle.std.proofs.Common.{◌≡◌, ◌+◌, ◌*◌, ◌<◌, ◌≤◌, �
 use Rattle.tsp_rules.specs.Values.{Placed, Alarm, Quiet, Probe, Port, ALL}
 use Rattle.tsp_rules.specs.{GateRows.alarm_on, GateRows.alarms_on, GateRows.each_on, NodePerforms.PerformsAll}
 use Rattle.tsp_rules.specs.NodeRows.{NodePast, NodeRow, nothing_at_all, spread, ◌and_then◌}
-use Rattle.tsp_node.proofs.AlarmOrder.{take_one_more}
+use Rattle.tsp_node.proofs.AlarmCases.{take_one_more}
 use Rattle.tsp_gateway.{proofs.LiftLemmas.All_nothing, specs.Rooms.alarm_room, specs.Rooms.alarms_room}
 
 alarms_room-more : (alarms : List Alarm) (a : Alarm) (peers : ℕ) → alarms_room (alarms ++ a ∷ []) peers ≡ alarms_room alarms peers + alarm_room a peers

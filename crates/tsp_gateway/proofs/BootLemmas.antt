@@ -52,12 +52,11 @@ booted c word x wall past g fresh flag clock u = record {
 -- its ports have the peers that they were set up with
 same-peers : (parts : List Part) (setups : List PortSetup) → length parts ≡ length setups → ((q : ℕ) (part : Part) → slice_get parts q ≡ Some part → part.station.peers ≡ (slice_index_or setups q no_port).peers) → map (λ (p : Part). p.station.peers) parts ≡ peers_of_ports setups
 same-peers [] [] many each = refl
-same-peers [] (s ∷ later) many each = let bad : ⊥ = cc in absurd bad
-same-peers (p ∷ parts) [] many each = let bad : ⊥ = cc in absurd bad
 same-peers (p ∷ parts) (s ∷ later) many each =
     let head = each 0 p refl in
     let tail = same-peers parts later (omega (arith, many)) (λ q part is. each (suc q) part is) in
     ap (λ (ps : List PeerId). ps ∷ map (λ (p : Part). p.station.peers) parts) head ∙ ap (λ (rest : List (List PeerId)). s.peers ∷ rest) tail
+same-peers _ _ many each = let bad : ⊥ = cc in absurd bad
 
 pub booted_peers : (c : GateConfigValue) (word x : ℕ) (parts : List Part) → AreFresh c word x parts → map (λ (p : Part). p.station.peers) parts ≡ peers_of_ports c.ports
 booted_peers c word x parts fresh = same-peers parts c.ports fresh.many (λ q part is. (fresh.each q part is).0)

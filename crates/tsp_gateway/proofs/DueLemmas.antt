@@ -13,14 +13,9 @@ earlier_none : (a : Option ℕ) → earlier a None ≡ a
 earlier_none None = refl
 earlier_none (Some x) = refl
 
-min_assoc : (x y z : ℕ) → min (min x y) z ≡ min x (min y z)
-min_assoc x y z = omega arith
-
 earlier_assoc : (a b c : Option ℕ) → earlier (earlier a b) c ≡ earlier a (earlier b c)
-earlier_assoc None b c = refl
-earlier_assoc (Some x) None c = refl
-earlier_assoc (Some x) (Some y) None = refl
-earlier_assoc (Some x) (Some y) (Some z) = ap Some (min_assoc x y z)
+earlier_assoc (Some x) (Some y) (Some z) = let e : min (min x y) z ≡ min x (min y z) = omega arith in ap Some e
+earlier_assoc _ _ _ = refl
 
 -- one deadline more
 pub least_of-append : (ds : List (Option ℕ)) (d : Option ℕ) → least_of (ds ++ d ∷ []) ≡ earlier (least_of ds) d

@@ -3,15 +3,11 @@ pub mod AnyLemmas
 pub mod AsideLemmas
 pub mod BootLemmas
 pub mod DueLemmas
-pub mod IdleLemmas
-pub mod JudgeLemmas
 pub mod LiftLemmas
 pub mod LoopLemmas
-pub mod PlaceLemmas
 pub mod PostLemmas
 pub mod RestLemmas
 pub mod RoomLemmas
-pub mod StirLemmas
 pub mod StepLemmas
 pub mod TakeLemmas
 pub mod TellLemmas

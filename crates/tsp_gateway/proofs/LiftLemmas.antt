@@ -21,12 +21,11 @@ use Rattle.tsp_gateway.proofs.AsideLemmas.{clock_same, stands_still, stands_told
 pub set_cases : {X : Type 0} (xs : List X) (i m : ℕ) (y z : X) → slice_get (set xs i y) m ≡ Some z → ((i ≡ m) × (y ≡ z)) ⊎ ((i ≢ m) × (slice_get xs m ≡ Some z))
 set_cases [] i m y z e = let bad : ⊥ = cc in absurd bad
 set_cases (x ∷ xs) zero zero y z e = inl (refl, cc)
-set_cases (x ∷ xs) zero (suc m) y z e = inr ((λ q. cc), e)
-set_cases (x ∷ xs) (suc i) zero y z e = inr ((λ q. cc), e)
 set_cases (x ∷ xs) (suc i) (suc m) y z e = elim (set_cases xs i m y z e) [
   | inl h ↦ inl (ap suc h.0, h.1)
   | inr h ↦ inr ((λ q. h.0 (cc)), h.1)
 ]
+set_cases (x ∷ xs) _ _ y z e = inr ((λ q. cc), e)
 
 bootless-act : (a : Act) → is_in (sort_of a) bootless ≡ true → a ≡ Boot → ⊥
 bootless-act a e is = true≢false (sym (subst (λ b. is_in (sort_of b) bootless ≡ true) is e))
@@ -68,10 +67,14 @@ clock-on q r x past acts clock n b h =
     let other = on_other (port_at q) (port_at r) x past acts (apart q r n) b in
     clock_same (grown x (on_port (port_at q) past) acts) (all_aside x (on_port (port_at r) past) acts) clock (same-plain q r x past acts ∙ ap (λ (p : Past). plain p.seen) other) h
 
--- a node stands after acts of a port that don't correct
-stands-on : (q x : ℕ) (past : NodePast) (acts : List Act) (g h : Gateway) (part : Part) → Bootless acts → corrects acts ≡ false → h.ports.items ≡ set g.ports.items q part → GatewayStands past g →
-    TakeStands (grown x (on_port (port_at q) past) acts) (traced_with part h.clock h.tracing) → GatewayStands (spread x past (placed (port_at q) acts)) h
-stands-on q x past acts g h part b c is s t = record {
+-- what a node stands for after acts of a port: where they correct, it stands once the other ports are told
+abbrev pub After : Bool → ℕ → ℕ → NodePast → Gateway → Type 0
+After true q x past g = Untold q x past g
+After false q x past g = GatewayStands past g
+
+on-after : (moves : Bool) (q x : ℕ) (past : NodePast) (acts : List Act) (g h : Gateway) (part : Part) → Bootless acts → corrects acts ≡ moves → h.ports.items ≡ set g.ports.items q part → GatewayStands past g →
+    TakeStands (grown x (on_port (port_at q) past) acts) (traced_with part h.clock h.tracing) → After moves q x (spread x past (placed (port_at q) acts)) h
+on-after false q x past acts g h part b c is s t = record {
   many = ap (λ (ps : List Part). length ps) is ∙ length-set g.ports.items q part ∙ s.many;
   traces = traces-on q x past acts h.tracing t.trace;
   ports = λ r p there. elim (set_cases g.ports.items q r part p (subst (λ (ps : List Part). slice_get ps r ≡ Some p) is there)) [
@@ -81,11 +84,7 @@ stands-on q x past acts g h part b c is s t = record {
         (stands_still x (on_port (port_at r) past) acts p g.clock h.clock b c (clock-on q r x past acts h.clock other.0 b t.port.clock) (s.ports r p other.1))
   ];
 }
-
--- it stands once the other ports are told after acts that do
-untold-on : (q x : ℕ) (past : NodePast) (acts : List Act) (g h : Gateway) (part : Part) → Bootless acts → corrects acts ≡ true → h.ports.items ≡ set g.ports.items q part → GatewayStands past g →
-    TakeStands (grown x (on_port (port_at q) past) acts) (traced_with part h.clock h.tracing) → Untold q x (spread x past (placed (port_at q) acts)) h
-untold-on q x past acts g h part b c is s t = record {
+on-after true q x past acts g h part b c is s t = record {
   many = ap (λ (ps : List Part). length ps) is ∙ length-set g.ports.items q part ∙ s.many;
   traces = traces-on q x past acts h.tracing t.trace;
   here = λ p there. elim (set_cases g.ports.items q q part p (subst (λ (ps : List Part). slice_get ps q ≡ Some p) is there)) [
@@ -99,32 +98,18 @@ untold-on q x past acts g h part b c is s t = record {
   ];
 }
 
--- a port's call that doesn't correct
-pub All_on : {W : NodePast → Gateway → Type 0} {P Q : Past → TracedValue → Type 0} {row : Row} {x q : ℕ} {g h : Gateway} {old new : List Placed} (before after : Part) → Emits bootless row →
-    ((past : NodePast) → W past g → corrects (row x (on_port (port_at q) past)) ≡ false) → h.ports.items ≡ set g.ports.items q after → ((past : NodePast) → W past g → GatewayStands past g) →
+-- a port's call, which corrects or doesn't
+pub All_on : {W : NodePast → Gateway → Type 0} {P Q : Past → TracedValue → Type 0} {row : Row} {x q : ℕ} {g h : Gateway} {old new : List Placed} (moves : Bool) (before after : Part) → Emits bootless row →
+    ((past : NodePast) → W past g → corrects (row x (on_port (port_at q) past)) ≡ moves) → h.ports.items ≡ set g.ports.items q after → ((past : NodePast) → W past g → GatewayStands past g) →
     ((past : NodePast) → W past g → P (on_port (port_at q) past) (traced_with before g.clock g.tracing)) →
     ((past : Past) → Q past (traced_with after h.clock h.tracing) → TakeStands past (traced_with after h.clock h.tracing)) →
-    Performs P Q row x (port_at q) (traced_with before g.clock g.tracing) (traced_with after h.clock h.tracing) old new → PerformsAll W GatewayStands (on (port_at q) row) x g h old new
+    Performs P Q row x (port_at q) (traced_with before g.clock g.tracing) (traced_with after h.clock h.tracing) old new → PerformsAll W (After moves q x) (on (port_at q) row) x g h old new
 unfolding on
-All_on {row = row} {x = x} {q = q} {g = g} {h = h} before after e still is stands from to d = record {
+All_on {row = row} {x = x} {q = q} {g = g} {h = h} moves before after e same is stands from to d = record {
   acts = λ past w. d.acts (on_port (port_at q) past) (from past w);
   stands = λ past w.
       let acts = row x (on_port (port_at q) past) in
-      stands-on q x past acts g h after (bootless_by e x (on_port (port_at q) past)) (still past w) is (stands past w) (to (grown x (on_port (port_at q) past) acts) (d.stands (on_port (port_at q) past) (from past w)));
-}
-
--- a port's call that does
-pub All_moved : {W : NodePast → Gateway → Type 0} {P Q : Past → TracedValue → Type 0} {row : Row} {x q : ℕ} {g h : Gateway} {old new : List Placed} (before after : Part) → Emits bootless row →
-    ((past : NodePast) → W past g → corrects (row x (on_port (port_at q) past)) ≡ true) → h.ports.items ≡ set g.ports.items q after → ((past : NodePast) → W past g → GatewayStands past g) →
-    ((past : NodePast) → W past g → P (on_port (port_at q) past) (traced_with before g.clock g.tracing)) →
-    ((past : Past) → Q past (traced_with after h.clock h.tracing) → TakeStands past (traced_with after h.clock h.tracing)) →
-    Performs P Q row x (port_at q) (traced_with before g.clock g.tracing) (traced_with after h.clock h.tracing) old new → PerformsAll W (Untold q x) (on (port_at q) row) x g h old new
-unfolding on
-All_moved {row = row} {x = x} {q = q} {g = g} {h = h} before after e moves is stands from to d = record {
-  acts = λ past w. d.acts (on_port (port_at q) past) (from past w);
-  stands = λ past w.
-      let acts = row x (on_port (port_at q) past) in
-      untold-on q x past acts g h after (bootless_by e x (on_port (port_at q) past)) (moves past w) is (stands past w) (to (grown x (on_port (port_at q) past) acts) (d.stands (on_port (port_at q) past) (from past w)));
+      on-after moves q x past acts g h after (bootless_by e x (on_port (port_at q) past)) (same past w) is (stands past w) (to (grown x (on_port (port_at q) past) acts) (d.stands (on_port (port_at q) past) (from past w)));
 }
 
 -- the same acts, by another row
@@ -168,7 +153,7 @@ part_there g q part lt is =
 pub All_here : {row : Row} {x q : ℕ} {g h : Gateway} {before : Part} {old new : List Placed} (after : Part) → Emits still_sorts row → slice_get g.ports.items q ≡ Some before → h.ports.items ≡ set g.ports.items q after → h.tracing ≡ g.tracing →
     Performs PortStands PortStands row x (port_at q) (port_with before g.clock) (port_with after h.clock) old new → PerformsAll GatewayStands GatewayStands (on (port_at q) row) x g h old new
 All_here {row} {x} {q} {g} {h} {before} {old} {new} after e was is same d =
-    All_on {W = GatewayStands} {P = TakeStands} {Q = TakeStands} before after (bootless_silent (silent_still e)) (λ past w. still_by e x (on_port (port_at q) past)) is (λ past w. w) (λ past w. take_stands q past g before was w) (λ past t. t)
+    All_on {W = GatewayStands} {P = TakeStands} {Q = TakeStands} false before after (bootless_silent (silent_still e)) (λ past w. still_by e x (on_port (port_at q) past)) is (λ past w. w) (λ past w. take_stands q past g before was w) (λ past t. t)
     (subst (λ t. Performs TakeStands TakeStands row x (port_at q) (traced_with before g.clock g.tracing) (traced_with after h.clock t) old new) (sym same) (Performs_traced g.tracing (TraceStands_by row (Emits_more silent_trace refl (silent_still e))) d))
 
 -- the same part in its place
@@ -205,7 +190,7 @@ pub All_idle : {row : Row} {x q : ℕ} {g : Gateway} {old new : List Placed} →
     ((part : Part) → slice_get g.ports.items q ≡ Some part → Performs TakeStands TakeStands row x (port_at q) (traced_with part g.clock g.tracing) (traced_with part g.clock g.tracing) old new) → PerformsAll GatewayStands GatewayStands (on (port_at q) row) x g g old new
 All_idle {row} {x} {q} {g} lt e still d =
     let one = part_of g q lt in
-    All_on {W = GatewayStands} {P = TakeStands} {Q = TakeStands} one.0 one.0 e (λ past w. still x (on_port (port_at q) past)) (sym (set_same g.ports.items q one.0 one.1)) (λ past w. w) (λ past w. take_stands q past g one.0 one.1 w) (λ past t. t) (d one.0 one.1)
+    All_on {W = GatewayStands} {P = TakeStands} {Q = TakeStands} false one.0 one.0 e (λ past w. still x (on_port (port_at q) past)) (sym (set_same g.ports.items q one.0 one.1)) (λ past w. w) (λ past w. take_stands q past g one.0 one.1 w) (λ past t. t) (d one.0 one.1)
 
 -- what holds of each number below n, and of n
 pub one_more : (P : ℕ → Type 0) (n : ℕ) → ((k : ℕ) → k < n → P k) → P n → (k : ℕ) → k < n + 1 → P k

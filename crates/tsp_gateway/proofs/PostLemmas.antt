@@ -46,7 +46,7 @@ pub All_posted : {x : ℕ} {g : Gateway} {part : Part} {old new : List Placed} (
     new ≡ old ++ placed (port_at q) (map (repost m) (others part.station.me.own part.station.peers)) →
     ((past : Past) → TakeStands past (traced_with part g.clock g.tracing) → map (repost m) (others part.station.me.own part.station.peers) ≡ row x past) → PerformsAll GatewayStands GatewayStands (on (port_at q) row) x g g old new
 All_posted {x} {g} {part} {old} {new} q row m k e was put same =
-    All_on {W = GatewayStands} {P = TakeStands} {Q = TakeStands} part part (bootless_silent (silent_still e)) (λ past w. still_by e x (on_port (port_at q) past)) (sym (set_same g.ports.items q part was)) (λ past w. w) (λ past w. take_stands q past g part was w) (λ past t. t)
+    All_on {W = GatewayStands} {P = TakeStands} {Q = TakeStands} false part part (bootless_silent (silent_still e)) (λ past w. still_by e x (on_port (port_at q) past)) (sym (set_same g.ports.items q part was)) (λ past w. w) (λ past w. take_stands q past g part was w) (λ past t. t)
     (record {
       acts = λ past h. put ∙ ap (λ acts. old ++ placed (port_at q) acts) (same past h);
       stands = λ past h. subst (λ acts. TakeStands (grown x past acts) (traced_with part g.clock g.tracing)) (same past h) (all-posts (others part.station.me.own part.station.peers) m x past (traced_with part g.clock g.tracing) k h);

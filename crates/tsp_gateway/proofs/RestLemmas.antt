@@ -5,10 +5,9 @@ use Rattle.tsp_rules.specs.GateRows.{NodeTurn, all_ports, answers_all, input_all
 use Rattle.tsp_rules.specs.{NodePerforms.PerformsAll, NodeRows.for_ports, NodeRows.nothing_at_all, NodeRows.reading_all, Values.Placed}
 use Rattle.tsp_rules.proofs.NodeRowLemmas.{All_then}
 use Rattle.tsp_node.specs.declared.part.Part.{Part}
-use Rattle.tsp_gateway.specs.declared.gateway.Gateway.{Gateway}
-use Rattle.tsp_gateway.specs.Dues.{IsGatewayDue, RestsUntil, Waits, least_of}
+use Rattle.tsp_gateway.specs.{declared.gateway.Gateway.Gateway, Dues.IsGatewayDue, Dues.RestsUntil, Dues.Waits, Dues.least_of}
 use Rattle.tsp_gateway.specs.GatewayStands.{GatewayBegun, GatewayStands, GatewayTurning}
-use Rattle.tsp_gateway.proofs.{DueLemmas.before-over, DueLemmas.none_over, IdleLemmas.All_waits, IdleLemmas.Waits-before}
+use Rattle.tsp_gateway.proofs.{DueLemmas.before-over, DueLemmas.none_over, TurnLemmas.All_waits, TurnLemmas.Waits-before}
 use Rattle.tsp_gateway.proofs.LiftLemmas.{All_nothing, All_same, part_of, ports_many}
 use Rattle.tsp_gateway.proofs.LoopLemmas.{last_port, left, next_port, upset_all}
 

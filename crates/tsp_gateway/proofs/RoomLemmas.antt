@@ -42,15 +42,13 @@ turns_more k ports lt = let e : k + 1 ≡ suc k = omega arith in ap (λ n. turns
 
 pub peers_few : (k : ℕ) (ports : List (List PeerId)) → peers_below k ports ≤ peers_sum ports
 unfolding peers_below
-peers_few zero ports = omega arith
-peers_few (suc k) [] = omega arith
 peers_few (suc k) (peers ∷ later) = let more = peers_few k later in omega (arith, more)
+peers_few _ _ = omega arith
 
 pub turns_few : (k : ℕ) (ports : List (List PeerId)) → turns_below k ports ≤ turns_room ports
 unfolding turns_below
-turns_few zero ports = omega arith
-turns_few (suc k) [] = omega arith
 turns_few (suc k) (peers ∷ later) = let more = turns_few k later in omega (arith, more)
+turns_few _ _ = omega arith
 
 -- one port more has its peers among all
 pub peers_next : (k : ℕ) (ports : List (List PeerId)) → k < length ports → peers_below k ports + peers_at k ports ≤ peers_sum ports

@@ -1,7 +1,7 @@
 -- What a node takes on one of its ports.
 use Rattle.std.specs.Prelude.{◌≡◌, ℕ, Bool, true, false, if◌then◌else◌, List, Some, slice_get, refl}
 use Rattle.std.proofs.Math.ListN.{set}
-use Rattle.tsp_rules.specs.Values.{Took, Placed, Message, Stamp, Taken, Good, Bad, Kind, LoopKind, Place, Port}
+use Rattle.tsp_rules.specs.Values.{Took, Placed, Message, Taken, Good, Kind, LoopKind, Place, Port}
 use Rattle.tsp_base.specs.Words.{Past, MessageValue, Performs, nothing, puts, sets_date}
 use Rattle.tsp_rules.specs.{Answers.takes, Answers.handles, Guards.is_own, NodePerforms.PerformsAll, RoundRows.corrects}
 use Rattle.tsp_rules.specs.GateRows.{in_charge, steers, stirred_ports, takes_kind, takes_loop, takes_message, takes_on}
@@ -12,7 +12,7 @@ use Rattle.tsp_gateway.specs.{GateInputs.HoldsNoMessage, GatewayStands.GatewaySt
 use Rattle.tsp_gateway.specs.{Untold.Untold, Untold.upset_ports, declared.gateway.Gateway.Gateway}
 use Rattle.tsp_rules.proofs.{BuiltAnswers.built_handles, BuiltAnswers.taken_sorts, EmitsBuilt.emits_built, EmitsBuilt.nothing_taken}
 use Rattle.tsp_rules.proofs.{EmitsStill.row_corrects-none, EmitsStill.still_sorts, Unchanged.place_unchanged}
-use Rattle.tsp_gateway.proofs.LiftLemmas.{All_moved, All_on, All_same, All_stirred, All_unstirred, take_stands}
+use Rattle.tsp_gateway.proofs.LiftLemmas.{All_on, All_same, All_stirred, All_unstirred, take_stands}
 
 -- the ports whose rounds a message may end
 pub upset_are : (q : ℕ) (kind : Kind) (x : ℕ) (past : NodePast) → upset_ports (sets_date kind) (port_at q) x past ≡ stirred_ports (port_at q) kind past
@@ -37,7 +37,7 @@ All_taken {x} {g} {h} {i} {before} after q steer charge from m flags was is move
     let moved = λ (past : NodePast) (w : GatewayStands past g). moves (on_port (port_at q) past) (take_stands q past g before was w) in
     All_same (takes_message (port_at q) from m) (λ past w. same-row (port_at q) from (Good (Message m)) x past steer (steers (port_at q) x past) charge (in_charge (port_at q) x past) (upset_ports (sets_date m.kind) (port_at q) x past) (stirred_ports (port_at q) m.kind past) (flags past w).0 (flags past w).1 (upset_are q m.kind x past))
     (All_stirred {W = GatewayStands} q row (sets_date m.kind) moved
-    (All_moved {W = GatewayStands} {P = TakeStands} {Q = TakeStands} before after (emits_takes steer charge from (Good (Message m))) moved is (λ past w. w) (λ past w. take_stands q past g before was w) (λ past t. t) d) upset)
+    (All_on {W = GatewayStands} {P = TakeStands} {Q = TakeStands} true before after (emits_takes steer charge from (Good (Message m))) moved is (λ past w. w) (λ past w. take_stands q past g before was w) (λ past t. t) d) upset)
 
 -- a message is taken that doesn't
 pub All_passed : {x : ℕ} {g h : Gateway} {before : Part} {old new : List Placed} (after : Part) (q : ℕ) (steer charge : Bool) (from : Place) (m : MessageValue) →
@@ -50,7 +50,7 @@ All_passed {x} {g} {h} {before} after q steer charge from m flags was is stays d
     let still = λ (past : NodePast) (w : GatewayStands past g). stays (on_port (port_at q) past) (take_stands q past g before was w) in
     All_same (takes_message (port_at q) from m) (λ past w. same-row (port_at q) from (Good (Message m)) x past steer (steers (port_at q) x past) charge (in_charge (port_at q) x past) (upset_ports (sets_date m.kind) (port_at q) x past) (stirred_ports (port_at q) m.kind past) (flags past w).0 (flags past w).1 (upset_are q m.kind x past))
     (All_unstirred {W = GatewayStands} q row (sets_date m.kind) still
-    (All_on {W = GatewayStands} {P = TakeStands} {Q = TakeStands} before after (emits_takes steer charge from (Good (Message m))) still is (λ past w. w) (λ past w. take_stands q past g before was w) (λ past t. t) d))
+    (All_on {W = GatewayStands} {P = TakeStands} {Q = TakeStands} false before after (emits_takes steer charge from (Good (Message m))) still is (λ past w. w) (λ past w. take_stands q past g before was w) (λ past t. t) d))
 
 -- what spells no message is taken
 still-part : (t : Taken) → HoldsNoMessage t → is_part (taken_sorts t) still_sorts ≡ true
@@ -69,9 +69,8 @@ other_still from t none = row_corrects-none (other-emits from t none)
 
 pub other_on : (q : Port) (from : Place) (t : Taken) → HoldsNoMessage t → on q (takes true true from t) ≡ takes_on q from t
 unfolding takes_on
-other_on q from (Bad fault) none = refl
 other_on q from (Good (Message m)) none = absurd none
-other_on q from (Good (Stamp stamp)) none = refl
+other_on q from _ none = refl
 
 -- a message that is no LOOP
 pub message_on : (q : Port) (from : Place) (m : MessageValue) (kind : Kind) → (kind ≡ LoopKind → ⊥) → takes_message q from m ≡ takes_kind q from m kind

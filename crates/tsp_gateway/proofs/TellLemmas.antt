@@ -23,11 +23,9 @@ told_value x olds k part clock t = rw (t.station, t.last, t.master, t.resolve, t
 
 -- reading a list after another place was written
 pub set_other : {X : Type 0} (xs : List X) (i k : ℕ) (y : X) → i ≢ k → slice_get (set xs i y) k ≡ slice_get xs k
-set_other [] i k y n = refl
 set_other (x ∷ xs) zero zero y n = absurd (n refl)
-set_other (x ∷ xs) zero (suc k) y n = refl
-set_other (x ∷ xs) (suc i) zero y n = refl
 set_other (x ∷ xs) (suc i) (suc k) y n = set_other xs i k y (λ same. n (ap suc same))
+set_other _ _ _ y n = refl
 
 -- once all but q are told, the node stands
 pub all_told : (q x : ℕ) (past : NodePast) (g h : Gateway) → ((k : ℕ) → k ≢ q → (part : Part) → slice_get h.ports.items k ≡ Some part → IsTold x g.ports.items k part) → slice_get h.ports.items q ≡ slice_get g.ports.items q →

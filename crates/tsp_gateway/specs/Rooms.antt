@@ -1,7 +1,6 @@
 -- How much room a gateway's step takes.
 use Rattle.std.specs.Prelude.{ℕ, ◌+◌, ◌*◌, List, [], ◌∷◌, length, map, slice_index_or}
-use Rattle.tsp_rules.specs.Values.{Alarm, Probe, PeerId, ALL}
-use Rattle.tsp_rules.specs.Rooms.{room_for}
+use Rattle.tsp_rules.specs.{Values.Alarm, Values.Probe, Values.PeerId, Values.ALL, Rooms.room_for}
 use Rattle.tsp_node.specs.declared.part.Part.{Part}
 use Rattle.tsp_gateway.specs.declared.gateway.Gateway.{Gateway}
 

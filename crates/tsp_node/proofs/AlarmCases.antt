@@ -1,19 +1,78 @@
 -- How a port's alarms meet their rows.
-use Rattle.std.proofs.Common.{sym, ◌∙◌, ap, ◌≡◌, ◌≢◌, ℕ, Bool, true, false, List, [], ◌∷◌, refl}
-use Rattle.std.proofs.lemmas.Bool.{false≢true}
-use Rattle.tsp_rules.specs.Values.{Ring, Late, Placed, Alarm, Quiet, Window, Elect, Search, Round, Probe, CloseAlarm, ResolveAlarm, Port, ROUND, WAIT}
-use Rattle.tsp_base.specs.Words.{deadline, Past, Performs, arms, either_by, nothing, puts}
-use Rattle.tsp_base.proofs.PerformsLemmas.{Performs_nothing, Performs_same}
-use Rattle.tsp_rules.specs.{Answers.alarm_rings, Answers.rings, CandidateRows.window_rings, ResolveRows.resolve_rings}
-use Rattle.tsp_rules.specs.RoundRows.{begins_or_waits, corrects, round_rings}
-use Rattle.tsp_rules.specs.Guards.{is_due, is_in_time, is_over}
+use Rattle.std.proofs.Common.{sym, ◌∙◌, ap, ◌≡◌, ◌≢◌, ℕ, Bool, true, false, List, [], ◌∷◌, refl, ◌+◌, ◌<◌, ◌++◌, zero, suc, length, take, Some, arith, append-nil, subst, ◌&&◌, ◌||◌, if◌then◌else◌, is_some, not, slice_index_or}
+use Rattle.std.proofs.{lemmas.Bool.false≢true, lemmas.Bool.and_parts, Math.Seq.take-suc}
+use Rattle.tsp_rules.specs.Values.{Ring, Late, Placed, Alarm, Quiet, Window, Elect, Search, Round, Probe, CloseAlarm, ResolveAlarm, Port, ROUND, WAIT, ALL}
+use Rattle.tsp_rules.specs.Answers.{alarm_rings, rings, due_alarms, rings_alone, rings_each}
+use Rattle.tsp_rules.specs.{RoundRows.begins_or_waits, RoundRows.corrects, RoundRows.round_rings, CandidateRows.window_rings}
+use Rattle.tsp_rules.specs.{ResolveRows.resolve_rings, Guards.is_due, Guards.is_in_time, Guards.is_over, GateRows.is_probe}
+use Rattle.tsp_rules.proofs.{BuiltShared.standing_sorts, EmitsBuilt.emits_built, EmitsStill.corrects-none, EmitsStill.still_sorts}
+use Rattle.tsp_rules.proofs.BuiltRoles.{built_resolve_rings, built_elect_rings, built_quiet_rings, built_search_rings, built_window_rings}
 use Rattle.tsp_rules.proofs.Emits.{Alarming, Emits, Emits_arms, Emits_either, Emits_more, Emits_puts, Emits_then}
+use Rattle.tsp_rules.proofs.CalmAlarms.{moves_by}
+use Rattle.tsp_base.specs.Words.{deadline, Past, Performs, arms, either_by, nothing, puts, none_armed, with_deadline, for_each, grown, ◌followed_by◌}
+use Rattle.tsp_base.proofs.PerformsLemmas.{Performs_nothing, Performs_same}
 use Rattle.tsp_slave.{proofs.BesideLemmas.beside_sorts, specs.SlaveAlarms.slave_rings}
 use Rattle.tsp_master.specs.MasterAlarms.{master_rings}
 use Rattle.tsp_node.specs.{NodeStands.PortUntaken, NodeStands.PortValue, RoleAlarms.is_of_master, RoleAlarms.is_of_slave}
-use Rattle.tsp_rules.proofs.BuiltRoles.{built_elect_rings, built_quiet_rings, built_search_rings}
-use Rattle.tsp_rules.proofs.{BuiltRoles.built_window_rings, BuiltRoles.built_resolve_rings, BuiltShared.standing_sorts}
-use Rattle.tsp_rules.proofs.{EmitsBuilt.emits_built, EmitsStill.corrects-none, EmitsStill.still_sorts}
+
+-- the alarms in their order, and their rows
+
+-- one more of a list
+pub take_one_more : {A : Type 0} (xs : List A) (i : ℕ) (d : A) → i < length xs → take (i + 1) xs ≡ take i xs ++ slice_index_or xs i d ∷ []
+take_one_more xs i d h = let one : i + 1 ≡ suc i = omega arith in ap (λ k. take k xs) one ∙ take-suc xs i d h
+
+-- a row for each of these alarms is theirs, one after the other
+each_is : (alarms : List Alarm) (x : ℕ) (past : Past) → for_each rings_alone alarms x past ≡ rings_each alarms x past
+unfolding for_each ◌followed_by◌ nothing
+each_is [] x past = refl
+each_is (a ∷ []) x past = append-nil (rings_alone a x past)
+each_is (a ∷ b ∷ rest) x past = ap (λ acts. rings_alone a x past ++ acts) (each_is (b ∷ rest) x (grown x past (rings_alone a x past)))
+
+pub all_due : (x : ℕ) (past : Past) → for_each rings_alone ALL x past ≡ due_alarms x past
+unfolding due_alarms
+all_due x past = each_is ALL x past
+
+-- whether b is the alarm that is armed where a alone is
+abbrev is_same : Alarm → Alarm → Bool
+is_same a b = is_some (deadline (with_deadline none_armed a (Some 0)) b)
+
+-- an alarm's place in the order
+abbrev place_in : Alarm → List Alarm → ℕ
+place_in a [] = 0
+place_in a (b ∷ rest) = if is_same a b then 0 else suc (place_in a rest)
+
+abbrev pub place : Alarm → ℕ
+place a = place_in a ALL
+
+pub at_place : (a : Alarm) → slice_index_or ALL (place a) Quiet ≡ a
+at_place Quiet = refl
+at_place _ = refl
+
+pub has_place : (a : Alarm) → place a < length ALL
+has_place Quiet = omega arith
+has_place _ = omega arith
+
+-- whether a Probe stands right before each Close of these alarms; `probed` says whether one stood before the first
+abbrev are_probed : Bool → List Alarm → Bool
+are_probed probed [] = true
+are_probed probed (a ∷ rest) = (not (moves_by a) || probed) && are_probed (is_probe a) rest
+
+a-probe : (a : Alarm) → is_probe a ≡ true → a ≡ Probe
+a-probe Probe e = refl
+a-probe _ e = absurd (false≢true e)
+
+-- what comes right before a Close of these alarms
+close-after : (alarms : List Alarm) (i : ℕ) (probed : Bool) → are_probed probed alarms ≡ true → slice_index_or alarms (suc i) Quiet ≡ CloseAlarm → slice_index_or alarms i Quiet ≡ Probe
+close-after [] i probed e is = let bad : ⊥ = cc in absurd bad
+close-after (a ∷ []) zero probed e is = let bad : ⊥ = cc in absurd bad
+close-after (a ∷ b ∷ rest) zero probed e is =
+    let later = (and_parts (not (moves_by a) || probed) (are_probed (is_probe a) (b ∷ rest)) e).1 in
+    a-probe a (and_parts (is_probe a) (are_probed (is_probe b) rest) (subst (λ z. ((not (moves_by z) || is_probe a) && are_probed (is_probe b) rest) ≡ true) is later)).0
+close-after (a ∷ rest) (suc i) probed e is = close-after rest i (is_probe a) (and_parts (not (moves_by a) || probed) (are_probed (is_probe a) rest) e).1 is
+
+-- the Close comes right after the Probe
+pub close_after_probe : (i : ℕ) → slice_index_or ALL (i + 1) Quiet ≡ CloseAlarm → slice_index_or ALL i Quiet ≡ Probe
+close_after_probe i e = let one : i + 1 ≡ suc i = omega arith in close-after ALL i false refl (ap (λ k. slice_index_or ALL k Quiet) (sym one) ∙ e)
 
 -- whether an alarm is due, as the station has it
 due_is : (alarm : Alarm) (x : ℕ) (past : Past) (state : PortValue) → PortUntaken past state → is_due alarm x past ≡ is_over (deadline state.station.alarms alarm) x
@@ -69,8 +128,7 @@ unfolding master_rings alarm_rings
 master_rings-is own wait Probe e = refl
 master_rings-is own wait CloseAlarm e = refl
 master_rings-is own false Round e = refl
-master_rings-is own true Round e = absurd (false≢true e)
-master_rings-is own wait _ e = absurd (false≢true e)
+master_rings-is own _ _ e = absurd (false≢true e)
 
 -- what an alarm of a port that is Starting, Loose or follows puts
 pub slave_alarm : (own wait : Bool) (alarm : Alarm) → is_of_slave alarm ≡ true → Emits standing_sorts (alarm_rings own wait alarm)

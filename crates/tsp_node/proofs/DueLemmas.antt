@@ -1,6 +1,7 @@
 -- The earliest deadline of a port's open sends.
 use Rattle.std.proofs.Common.{ap, arith, sym, ◌∙◌, ◌≡◌, ◌<◌, ℕ, ◌||◌, min, not, nat_le, Bool, true, false, Option, None, Some, refl}
 use Rattle.std.proofs.lemmas.Bool.{false≢true, le-leb, leb-false, leb-true, lt-leb}
+use Rattle.std.proofs.Math.Bool.{or-false, or-true}
 use Rattle.tsp_base.specs.Words.{Deadlines, deadline, earlier, least_deadline, Past, open_send}
 use Rattle.tsp_base.proofs.AlarmLemmas.{least_deadline_armed}
 use Rattle.tsp_rules.specs.{Guards.is_over, Values.Alarm, Values.Quiet}
@@ -15,14 +16,10 @@ IsEarliest-open past station (Some t) s e = record {
   first = λ p sending h. e.first p sending (s.sends p ∙ h);
 }
 
-or-none : (b : Bool) → (b || false) ≡ b
-or-none true = refl
-or-none false = refl
-
 -- the earlier of two deadlines has come where either has
 pub over-earlier : (a b : Option ℕ) (x : ℕ) → is_over (earlier a b) x ≡ (is_over a x || is_over b x)
 over-earlier None b x = refl
-over-earlier (Some p) None x = sym (or-none (nat_le p x))
+over-earlier (Some p) None x = sym (or-false (nat_le p x))
 over-earlier (Some p) (Some q) x = by_test (nat_le p x) (nat_le q x) refl refl where
   by_test : (a b : Bool) → nat_le p x ≡ a → nat_le q x ≡ b → nat_le (min p q) x ≡ (a || b)
   by_test true b e f = let first = leb-true p x e in le-leb (min p q) x (omega (arith, first))
@@ -36,10 +33,6 @@ neither_over (Some p) None x e = (e, refl)
 neither_over (Some p) (Some q) x e =
     let before : x < min p q = leb-false (min p q) x e in
     (lt-leb p x (omega (arith, before)), lt-leb q x (omega (arith, before)))
-
-or-true : (a : Bool) → (a || true) ≡ true
-or-true true = refl
-or-true false = refl
 
 -- the earliest has come where an alarm is due
 pub over-at : (d : Deadlines) (x : ℕ) (alarm : Alarm) → is_over (deadline d alarm) x ≡ true → is_over (least_deadline d) x ≡ true

@@ -1,21 +1,20 @@
 -- How a port's due sends meet their rows.
 use Rattle.std.proofs.Common.{sym, ◌∙◌, ap, ◌≡◌, ℕ, Bool, true, false, if◌then◌else◌, List, [], ◌∷◌, Option, None, Some, refl}
 use Rattle.std.proofs.lemmas.Bool.{and_right}
-use Rattle.tsp_rules.specs.Values.{Post, Gave, Leave, Placed, Message, Kind, AdjTime, Conflict, Election, QuitKind, SetDateReq, SetTime, PeerId, Peer, Port}
+use Rattle.tsp_rules.specs.Values.{Post, Gave, Leave, Placed, Message, Kind, AdjTime, SetDateReq, SetTime, PeerId, Peer, Port}
+use Rattle.tsp_rules.specs.SendRows.{bare_send, due_send, gives_up, is_send_due, is_spent, leaves_after, open_at, repeats, repeats_bare_send, repeats_send}
+use Rattle.tsp_rules.{specs.Guards.is_slave_at, proofs.Emits.Emits, proofs.Emits.Emits_puts, proofs.Emits.is_in, proofs.Emits.sort_of_kind}
 use Rattle.tsp_base.specs.Words.{Past, MessageValue, Performs, Keeps, acting, taken, Row, either_by, grown, nothing, puts, reading, ◌followed_by◌, Sending, is_correction, is_given_up, is_set_date_request}
 use Rattle.tsp_base.proofs.PerformsLemmas.{Keeps_either, Keeps_nothing, Performs_else_part, Performs_nothing, Performs_reading, Performs_same, Performs_then, Performs_then_part}
-use Rattle.tsp_rules.specs.SendRows.{bare_send, due_send, gives_up, is_send_due, is_spent, leaves_after, open_at, repeats, repeats_bare_send, repeats_send}
-use Rattle.tsp_rules.specs.Guards.{is_slave_at}
-use Rattle.tsp_rules.proofs.Emits.{Emits, Emits_puts, is_in, sort_of_kind}
-use Rattle.tsp_sends.specs.declared.{due.Due.TheVariants.Again, due.Due.TheVariants.Gave as GaveUp, slot.Slot.Slot}
+use Rattle.tsp_sends.specs.{declared.due.Due.TheVariants.Again, declared.due.Due.TheVariants.Gave as GaveUp, declared.slot.Slot.Slot}
 use Rattle.tsp_sends.specs.{Repeating.RepeatsNext, Repeating.is_due_send, Repeating.peer_of, Slots.sending_to, declared.due.Due.Due}
 use Rattle.tsp_acks.specs.{Stands.StationStands, Stands.StandsStill, declared.station.Station.Station}
 use Rattle.tsp_acks.proofs.StandsLemmas.{Stands_idle}
 use Rattle.tsp_clock.specs.ClockStands.{ClockStands}
 use Rattle.tsp_slave.specs.Lasts.{Remembers}
 use Rattle.tsp_slave.proofs.BesideLemmas.{beside_sorts, ClockStands_by, Remembers_by}
-use Rattle.tsp_master.specs.{MasterStands.MasterStands, declared.master.Master.Master}
-use Rattle.tsp_master.proofs.TableLemmas.{MasterStands_quiet, quiet_sorts}
+use Rattle.tsp_master.specs.MasterStands.{MasterStands}
+use Rattle.tsp_master.{specs.declared.master.Master.Master, proofs.TableLemmas.MasterStands_quiet, proofs.TableLemmas.quiet_sorts}
 use Rattle.tsp_date.{proofs.KeepLemmas.DatesStand_post, specs.DateStands.DatesStand}
 use Rattle.tsp_resolve.specs.ResolveStands.{ResolveStands}
 use Rattle.tsp_node.specs.{Dues.IsNoted, NodeStands.PortBegun, NodeStands.PortValue}
@@ -92,11 +91,6 @@ unfolding bare_send repeats_bare_send reading either_by
 bare_repeats q s x past o d g = rw (o, d, g) refl
 
 posts-beside : (k : Kind) → is_in (sort_of_kind k) beside_sorts ≡ true
-posts-beside AdjTime = refl
-posts-beside SetTime = refl
-posts-beside Election = refl
-posts-beside Conflict = refl
-posts-beside QuitKind = refl
 posts-beside SetDateReq = refl
 posts-beside _ = refl
 
@@ -209,8 +203,4 @@ MasterStands_posted q m x past master e h = MasterStands_quiet (Post (Peer q) (M
   by_kind : (k : Kind) → is_correction k ≡ false → is_in (sort_of_kind k) quiet_sorts ≡ true
   by_kind AdjTime e = let bad : ⊥ = cc in absurd bad
   by_kind SetTime e = let bad : ⊥ = cc in absurd bad
-  by_kind Election e = refl
-  by_kind Conflict e = refl
-  by_kind QuitKind e = refl
-  by_kind SetDateReq e = refl
   by_kind _ e = refl

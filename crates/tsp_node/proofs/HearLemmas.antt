@@ -1,22 +1,23 @@
 -- What a port does with a message.
 use Rattle.std.proofs.Common.{◌∙◌, ap, subst, sym, ◌≡◌, ◌≢◌, ℕ, ◌==◌, ◌&&◌, not, Bool, true, false, if◌then◌else◌, List, [], ◌∷◌, ◌++◌, Option, None, Some, refl}
-use Rattle.std.{proofs.lemmas.Bool.false≢true, specs.List.Contains}
-use Rattle.tsp_rules.specs.Values.{Backer, Acked, Placed, Kind, Accept, Ack, AdjTime, Conflict, Date, DateAck, DateReq, Election, LoopKind, MasterAck, MasterReq, MasterUp, Msite, MsiteReq, QuitKind, Refuse, ResolveKind, SetDate, SetDateReq, SetTime, SlaveUp, Test, TraceOff, TraceOn, PeerId, Place, Peer, Stranger, Port, Role, Starting, Loose, Follow, Candidate, Master}
-use Rattle.tsp_base.specs.Words.{Past, MessageValue, is_among, Performs, Received, role, Row, either_by, grown, nothing, placed, posts, puts, reading, ◌followed_by◌, Sending, corrects_in, is_correction, is_date_request, open_send, ReplyValue}
-use Rattle.tsp_base.proofs.PerformsLemmas.{Performs_else_part, Performs_reading, Performs_then_part}
+use Rattle.std.{proofs.lemmas.Bool.false≢true, proofs.lemmas.Bool.and_right, specs.List.Contains}
+use Rattle.tsp_rules.specs.Values.{Backer, Acked, Placed, Kind, Accept, Ack, AdjTime, Conflict, Date, DateAck, DateReq, Election, LoopKind, MasterAck, MasterUp, Msite, MsiteReq, QuitKind, Refuse, SetDate, SetDateReq, SetTime, Test, TraceOff, TraceOn, PeerId, Place, Peer, Stranger, Port, Role, Starting, Candidate, Master}
 use Rattle.tsp_rules.specs.Answers.{from_peer, is_left, peer_says, replies_in, says_in, handles_kind}
 use Rattle.tsp_rules.specs.CommonRows.{names_master, quits, says_master, tests, traces}
-use Rattle.tsp_rules.specs.{MasterRows.master_takes, MasterRows.master_takes_kind, ResolveRows.finds_rival, ResolveRows.resolves}
+use Rattle.tsp_rules.specs.{MasterRows.master_takes, MasterRows.master_takes_kind, SlaveRows.slave_takes, SlaveRows.slave_takes_kind}
+use Rattle.tsp_rules.specs.{ResolveRows.finds_rival, ResolveRows.resolves, RoundRows.samples}
 use Rattle.tsp_rules.specs.CandidateRows.{accepted_by, candidate_takes, candidate_takes_kind, refused_by, yields}
-use Rattle.tsp_rules.specs.{RoundRows.samples, SlaveRows.slave_takes, SlaveRows.slave_takes_kind}
 use Rattle.tsp_rules.specs.SendRows.{acknowledges, answers_election, has_election, is_kind_election}
 use Rattle.tsp_rules.specs.Guards.{is_follow, is_heard, is_master, is_starting_role, role_at}
+use Rattle.tsp_rules.proofs.{BuiltRoles.built_candidate_takes_kind, BuiltRoles.built_yields, EmitsBuilt.emits_built}
+use Rattle.tsp_base.specs.Words.{Past, MessageValue, is_among, Performs, Received, role, Row, either_by, grown, nothing, placed, posts, puts, reading, ◌followed_by◌, Sending, corrects_in, is_correction, is_date_request, open_send, ReplyValue}
+use Rattle.tsp_base.proofs.PerformsLemmas.{Performs_else_part, Performs_reading, Performs_then_part}
 use Rattle.tsp_acks.{proofs.PeerLemmas.Contains-among, specs.Stands.StationStands, specs.declared.station.Station.Station}
-use Rattle.tsp_master.specs.{MasterStands.MasterStands, MasterTakes.master_takes_kind_here, declared.master.Master.Master as MasterValue}
-use Rattle.tsp_master.proofs.{TableLemmas.MasterStands_quiet, TurnLemmas.MasterStands_idle, TurnLemmas.MasterStands_unheld}
+use Rattle.tsp_master.specs.MasterStands.{MasterStands}
+use Rattle.tsp_master.{specs.MasterTakes.master_takes_kind_here, proofs.TurnLemmas.MasterStands_idle, proofs.TurnLemmas.MasterStands_unheld}
+use Rattle.tsp_master.{specs.declared.master.Master.Master as MasterValue, proofs.TableLemmas.MasterStands_quiet}
 use Rattle.tsp_node.specs.declared.audience.Audience.TheVariants.{OfClients, OfNode, OfRoles, OfSends}
 use Rattle.tsp_node.specs.{Audiences.audience_of, Audiences.heard_from, Audiences.hears_by, declared.audience.Audience.Audience}
-use Rattle.tsp_rules.proofs.{BuiltRoles.built_candidate_takes_kind, BuiltRoles.built_yields, EmitsBuilt.emits_built}
 use Rattle.tsp_node.{proofs.NodeLemmas.Performs_pass, specs.NodeStands.PortStands, specs.NodeStands.PortTook, specs.NodeStands.PortValue}
 
 pub is_stranger : (from : Place) → ((p : PeerId) → from ≡ Peer p → ⊥) → from ≡ Stranger
@@ -46,10 +47,7 @@ Performs_kept {x = x} {before = before} steer k e d = Performs_else_part (is_lef
 -- only a follower leaves anything
 pub leaves_none : (steer : Bool) (k : Kind) (r : Role) → is_follow r ≡ false → leaves_by steer k r ≡ false
 leaves_none true k r e = refl
-leaves_none false k r e = rw e (none (is_correction k)) where
-  none : (b : Bool) → (b && false) ≡ false
-  none true = refl
-  none false = refl
+leaves_none false k r e = rw e (and_right (is_correction k) false refl)
 
 -- and that only of what is for the roles
 pub kept_unless : (k : Kind) (a : Audience) → audience_of k ≡ a → a ≢ OfRoles → is_correction k ≡ false
@@ -129,10 +127,7 @@ Performs_by_role {before = before} rows d = Performs_reading role_at rows before
 pub says_ack : (p : PeerId) (m : MessageValue) (r : Role) → m.kind ≡ Ack → is_starting_role r ≡ false → says_in p m r ≡ acknowledges p m.number
 unfolding says_in slave_takes slave_takes_kind candidate_takes candidate_takes_kind master_takes master_takes_kind
 says_ack p m Starting e n = absurd (false≢true (sym n))
-says_ack p m Loose e n = rw e refl
-says_ack p m (Follow q) e n = rw e refl
-says_ack p m Candidate e n = rw e refl
-says_ack p m Master e n = rw e refl
+says_ack p m _ e n = rw e refl
 
 -- a port that is Loose or follows
 pub says_slave : (p : PeerId) (m : MessageValue) (r : Role) → r ≢ Starting → r ≢ Candidate → r ≢ Master → says_in p m r ≡ slave_takes p m
@@ -140,8 +135,7 @@ unfolding says_in
 says_slave p m Starting s c l = absurd (s refl)
 says_slave p m Candidate s c l = absurd (c refl)
 says_slave p m Master s c l = absurd (l refl)
-says_slave p m Loose s c l = refl
-says_slave p m (Follow q) s c l = refl
+says_slave p m _ s c l = refl
 
 -- a master's rows that are its own
 pub master_takes-other : (p : PeerId) (m : MessageValue) (k : Kind) → k ≢ Ack → k ≢ QuitKind → k ≢ MasterUp → k ≢ Conflict → k ≢ MasterAck → master_takes_kind p m k ≡ master_takes_kind_here p m k
@@ -151,10 +145,6 @@ master_takes-other p m QuitKind a q u c t = absurd (q refl)
 master_takes-other p m MasterUp a q u c t = absurd (u refl)
 master_takes-other p m Conflict a q u c t = absurd (c refl)
 master_takes-other p m MasterAck a q u c t = absurd (t refl)
-master_takes-other p m MasterReq a q u c t = refl
-master_takes-other p m ResolveKind a q u c t = refl
-master_takes-other p m SlaveUp a q u c t = refl
-master_takes-other p m Election a q u c t = refl
 master_takes-other p m _ a q u c t = refl
 
 -- the role of a port that hears a peer
@@ -180,8 +170,6 @@ not-correcting number None e = absurd (false≢true e)
 not-correcting number (Some s) e = by_kind s.message.kind e where
   by_kind : (k : Kind) → (is_kind_election k && (s.message.number == number)) ≡ true → is_correction k ≡ false
   by_kind Election e = refl
-  by_kind AdjTime e = absurd (false≢true e)
-  by_kind SetTime e = absurd (false≢true e)
   by_kind _ e = absurd (false≢true e)
 
 -- answers to a candidate leave a master alone that doesn't lead
@@ -214,7 +202,6 @@ candidate_keeps p m n x past master other h = by_kind m.kind n where
 pub replies_master : (p : PeerId) (reply : ReplyValue) (role : Role) → is_master role ≡ true → replies_in p reply role ≡ samples p reply
 unfolding replies_in
 replies_master p reply Master e = refl
-replies_master p reply Starting e = absurd (false≢true e)
 replies_master p reply _ e = absurd (false≢true e)
 
 pub replies_none : (p : PeerId) (reply : ReplyValue) (role : Role) → is_master role ≡ false → replies_in p reply role ≡ nothing
@@ -231,17 +218,6 @@ Performs_role p m is r e d = rw e d
 pub audience_node : (charge : Bool) (from : Place) (m : MessageValue) (k : Kind) → audience_of k ≡ OfNode → handles_kind charge from m k ≡ nothing
 unfolding handles_kind
 audience_node charge from m LoopKind e = refl
-audience_node charge from m Msite e = let bad : ⊥ = cc in absurd bad
-audience_node charge from m MsiteReq e = let bad : ⊥ = cc in absurd bad
-audience_node charge from m TraceOn e = let bad : ⊥ = cc in absurd bad
-audience_node charge from m TraceOff e = let bad : ⊥ = cc in absurd bad
-audience_node charge from m Test e = let bad : ⊥ = cc in absurd bad
-audience_node charge from m Date e = let bad : ⊥ = cc in absurd bad
-audience_node charge from m SetDate e = let bad : ⊥ = cc in absurd bad
-audience_node charge from m DateReq e = let bad : ⊥ = cc in absurd bad
-audience_node charge from m SetDateReq e = let bad : ⊥ = cc in absurd bad
-audience_node charge from m DateAck e = let bad : ⊥ = cc in absurd bad
-audience_node charge from m Ack e = let bad : ⊥ = cc in absurd bad
 audience_node charge from m _ e = let bad : ⊥ = cc in absurd bad
 
 pub audience_roles : (charge : Bool) (from : Place) (m : MessageValue) (k : Kind) → audience_of k ≡ OfRoles → handles_kind charge from m k ≡ from_peer from (peer_says m)
@@ -263,17 +239,6 @@ audience_roles charge from m _ e = refl
 -- an ACK is for the sends
 pub audience_sends : (k : Kind) → audience_of k ≡ OfSends → k ≡ Ack
 audience_sends Ack e = refl
-audience_sends Msite e = let bad : ⊥ = cc in absurd bad
-audience_sends MsiteReq e = let bad : ⊥ = cc in absurd bad
-audience_sends TraceOn e = let bad : ⊥ = cc in absurd bad
-audience_sends TraceOff e = let bad : ⊥ = cc in absurd bad
-audience_sends Test e = let bad : ⊥ = cc in absurd bad
-audience_sends Date e = let bad : ⊥ = cc in absurd bad
-audience_sends SetDate e = let bad : ⊥ = cc in absurd bad
-audience_sends DateReq e = let bad : ⊥ = cc in absurd bad
-audience_sends SetDateReq e = let bad : ⊥ = cc in absurd bad
-audience_sends DateAck e = let bad : ⊥ = cc in absurd bad
-audience_sends LoopKind e = let bad : ⊥ = cc in absurd bad
 audience_sends _ e = let bad : ⊥ = cc in absurd bad
 
 pub handles_ack : (charge : Bool) (from : Place) (m : MessageValue) → m.kind ≡ Ack → handles_kind charge from m m.kind ≡ from_peer from (peer_says m)
@@ -284,8 +249,6 @@ pub roles_other : (k : Kind) → audience_of k ≡ OfRoles → k ≢ Ack
 roles_other k e f = let same : OfSends ≡ OfRoles = sym (ap audience_of f) ∙ e in let bad : ⊥ = cc in bad
 
 pub roles_date : (k : Kind) → audience_of k ≡ OfRoles → is_date_request k ≡ false
-roles_date Date e = refl
-roles_date SetDate e = refl
 roles_date DateReq e = let bad : ⊥ = cc in absurd bad
 roles_date SetDateReq e = let bad : ⊥ = cc in absurd bad
 roles_date _ e = refl
@@ -297,13 +260,6 @@ audience_test Msite e a b c d = absurd (a refl)
 audience_test MsiteReq e a b c d = absurd (b refl)
 audience_test TraceOn e a b c d = absurd (c refl)
 audience_test TraceOff e a b c d = absurd (d refl)
-audience_test Date e a b c d = let bad : ⊥ = cc in absurd bad
-audience_test SetDate e a b c d = let bad : ⊥ = cc in absurd bad
-audience_test DateReq e a b c d = let bad : ⊥ = cc in absurd bad
-audience_test SetDateReq e a b c d = let bad : ⊥ = cc in absurd bad
-audience_test DateAck e a b c d = let bad : ⊥ = cc in absurd bad
-audience_test LoopKind e a b c d = let bad : ⊥ = cc in absurd bad
-audience_test Ack e a b c d = let bad : ⊥ = cc in absurd bad
 audience_test _ e a b c d = let bad : ⊥ = cc in absurd bad
 
 -- a master's rows, and the clients', by the kind

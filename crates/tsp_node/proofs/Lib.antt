@@ -1,16 +1,10 @@
 pub mod AlarmCases
-pub mod AlarmOrder
 pub mod ConfigLemmas
 pub mod DueLemmas
 pub mod DueSendLemmas
-pub mod RoleChanges
 pub mod HearLemmas
-pub mod LeaveLemmas
 pub mod NodeLemmas
 pub mod PartLemmas
-pub mod RingLemmas
 pub mod RivalKeeps
-pub mod RoundLemmas
 pub mod StillTakes
 pub mod TakeEmits
-pub mod UpsetLemmas

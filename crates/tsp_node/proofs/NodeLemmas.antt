@@ -2,26 +2,26 @@
 use Rattle.std.proofs.Common.{append-nil, sym, ◌∙◌, ap, ◌≡◌, ℕ, ◌&&◌, not, Bool, true, false, List, [], ◌∷◌, ◌++◌, Option, None, Some, refl}
 use Rattle.std.proofs.lemmas.Bool.{false≢true}
 use Rattle.tsp_rules.specs.Values.{Act, Took, Post, Abandon, Placed, Stamp, Taken, Place, Port, Role, Master, Reply}
-use Rattle.tsp_base.specs.Words.{Past, Performs, Keeps, Received, role, said, taken, Row, nothing, puts, grown, ReplyValue}
-use Rattle.tsp_base.proofs.PerformsLemmas.{Performs_from, Performs_nothing}
 use Rattle.tsp_rules.proofs.Emits.{Sort, Booting, Asking, Correcting, Numbering, Passing, Posting, Leading, Following, Changing, Backing, Counting, Rounding, Alarming, Tabling, Rivalling, Acking, Giving, Sampling, Closing, Moving, Tracing, Emits, Emits_more, Keeps_by, is_in, sort_of}
-use Rattle.tsp_acks.specs.{Stands.StationStands, Stands.StandsActing, declared.station.Station.Station}
+use Rattle.tsp_rules.{proofs.BuiltAnswers.date_sorts, specs.Guards.is_master}
+use Rattle.tsp_base.specs.Words.{Past, Performs, Keeps, Received, role, said, taken, Row, nothing, puts, grown, ReplyValue}
+use Rattle.tsp_base.proofs.PerformsLemmas.{Performs_from, Performs_nothing, Performs_to}
+use Rattle.tsp_acks.{specs.Stands.StationStands, specs.Stands.StandsActing, proofs.ActingLemmas.taken-acts}
+use Rattle.tsp_acks.{specs.declared.station.Station.Station, proofs.StandsLemmas.Stands_idle, proofs.StandsLemmas.Stands_stamp}
 use Rattle.tsp_clients.specs.ClientStands.{NamingStands, TraceStands, TracingStands}
 use Rattle.tsp_clients.proofs.ClientLemmas.{TraceStands_by}
-use Rattle.tsp_acks.proofs.{ActingLemmas.taken-acts, StandsLemmas.Stands_idle, StandsLemmas.Stands_stamp}
 use Rattle.tsp_clock.specs.{ClockStands.ClockStands, Clocks.ClockValue}
 use Rattle.tsp_slave.specs.{Lasts.LastValue, Lasts.Remembers, SlaveStands.SlaveStands}
 use Rattle.tsp_slave.proofs.BesideLemmas.{beside_sorts, ClockStands_by, Remembers_by}
-use Rattle.tsp_master.specs.declared.master.Master.{Master as MasterStruct}
+use Rattle.tsp_master.{specs.declared.master.Master.Master as MasterStruct, proofs.TurnLemmas.MasterStands_parted}
 use Rattle.tsp_master.specs.{Clearing.Clears, MasterStands.MasterStands, MasterStands.LeadStands, MasterStands.OwnStands}
-use Rattle.tsp_master.proofs.{TableLemmas.MasterStands_quiet, TableLemmas.quiet_sorts, TurnLemmas.MasterStands_parted}
+use Rattle.tsp_master.proofs.TableLemmas.{MasterStands_quiet, quiet_sorts}
 use Rattle.tsp_date.specs.{DateStands.DateStands, DateStands.DatesStand, DateStands.moved_where, Dates.DatesValue}
 use Rattle.tsp_date.proofs.KeepLemmas.{DatesAside, DatesStand_act, DatesStand_by, passes_date}
 use Rattle.tsp_resolve.specs.{ResolveStands.ResolveStands, ResolveStands.ResolvingStands, declared.resolve.Resolve.Resolve}
 use Rattle.tsp_resolve.proofs.ResolveLemmas.{ResolveStands_by, unchanging}
 use Rattle.tsp_node.specs.{Unmarking.Unmarks, declared.node.Node.Node}
 use Rattle.tsp_node.specs.NodeStands.{PortBegun, PortStands, PortTook, PortUntaken, PortValue, NodeStands, NodeUntaken, Begun, TakeStands, TookStands, Traced, TracedValue, port_with, traced_of}
-use Rattle.tsp_rules.{proofs.BuiltAnswers.date_sorts, specs.Guards.is_master}
 use Rattle.tsp_node.proofs.{RivalKeeps.ResolveStands_parted, TakeEmits.role_sorts, TakeEmits.silent_trace}
 
 -- a call that changes nothing but the station, the master and the rivals
@@ -78,16 +78,10 @@ Performs_untaken {row = row} {x = x} e d = record {
 }
 
 -- a call on a port is one on its node
-pub node_untaken : {row : Row} {x : ℕ} {port : Port} {before after : Node} {old new : List Placed} → after.tracing ≡ before.tracing → Emits silent_trace row →
-    Performs PortUntaken PortUntaken row x port (port_with before.part before.clock) (port_with after.part after.clock) old new → Performs NodeUntaken NodeUntaken row x port before after old new
-node_untaken {row = row} {x = x} {before = before} e k d = record {
-  acts = λ past h. d.acts past h.port;
-  stands = λ past h. record { port = d.stands past h.port; trace = rw e (TraceStands_by row (Emits_more silent_trace refl k) x past before.tracing h.trace) };
-}
-
-pub node_stands : {row : Row} {x : ℕ} {port : Port} {before after : Node} {old new : List Placed} → after.tracing ≡ before.tracing → Emits silent_trace row →
-    Performs PortStands PortStands row x port (port_with before.part before.clock) (port_with after.part after.clock) old new → Performs NodeStands NodeStands row x port before after old new
-node_stands {row = row} {x = x} {before = before} e k d = record {
+pub node_by : {fits then_fits : Past → PortValue → Type 0} {row : Row} {x : ℕ} {port : Port} {before after : Node} {old new : List Placed} → after.tracing ≡ before.tracing → Emits silent_trace row →
+    Performs fits then_fits row x port (port_with before.part before.clock) (port_with after.part after.clock) old new →
+    Performs (λ past node. Traced fits past (traced_of node)) (λ past node. Traced then_fits past (traced_of node)) row x port before after old new
+node_by {row = row} {x = x} {before = before} e k d = record {
   acts = λ past h. d.acts past h.port;
   stands = λ past h. record { port = d.stands past h.port; trace = rw e (TraceStands_by row (Emits_more silent_trace refl k) x past before.tracing h.trace) };
 }
@@ -95,12 +89,7 @@ node_stands {row = row} {x = x} {before = before} e k d = record {
 -- so is the first call of a step on a port
 pub node_begun : {row : Row} {x : ℕ} {port : Port} {before after : Node} {old new : List Placed} → after.tracing ≡ before.tracing → Emits silent_trace row →
     Performs PortBegun PortBegun row x port (port_with before.part before.clock) (port_with after.part after.clock) old new → Performs Begun NodeUntaken row x port before after old new
-node_begun {row = row} {x = x} {before = before} e k d = record {
-  acts = λ past h. d.acts past h.port;
-  stands = λ past h.
-      let s = d.stands past h.port in
-      record { port = record { stands = s.stands; untaken = s.untaken }; trace = rw e (TraceStands_by row (Emits_more silent_trace refl k) x past before.tracing h.trace) };
-}
+node_begun {before = before} {after = after} e k d = node_by {then_fits = PortUntaken} {before = before} {after = after} e k (Performs_to (λ past h. record { stands = h.stands; untaken = h.untaken }) d)
 
 -- and so is a port's taking
 pub node_takes : {row : Row} {x : ℕ} {port : Port} {before after : Node} {old new : List Placed} → Performs TakeStands TakeStands row x port (traced_of before) (traced_of after) old new → Performs NodeUntaken NodeStands row x port before after old new

@@ -1,16 +1,39 @@
 -- Rows of a port's other parts leave its rivals alone, but for a change of the role.
-use Rattle.std.proofs.Common.{sym, ◌∙◌, ap, true≢false, ◌≡◌, ◌≢◌, ℕ, Bool, true, false, not, ◌&&◌, List, ◌∷◌, refl}
-use Rattle.tsp_rules.specs.Values.{Act, Role, Starting, Master}
-use Rattle.tsp_base.specs.Words.{Did, Elsewhere, Past, Step, role, Row, grown, in_step}
-use Rattle.tsp_rules.{proofs.Emits.AllOf, proofs.Emits.Emits, proofs.Emits.Emits_more, proofs.EmitsTables.changes, specs.Guards.is_master}
+use Rattle.std.proofs.Common.{sym, ◌∙◌, ap, ◌≡◌, ℕ, Bool, true, false, not, ◌&&◌, List, ◌∷◌, refl, if◌then◌else◌, [], true≢false, ◌≢◌}
+use Rattle.tsp_rules.specs.Values.{Act, Role, Become, Ring, Late, Quiet, Window, Starting, QUIET, Master}
+use Rattle.tsp_rules.{proofs.Emits.AllOf, proofs.Emits.Emits, proofs.Emits.Emits_more, specs.Guards.is_master, specs.Guards.is_in_time}
+use Rattle.tsp_rules.proofs.EmitsTables.{changes}
+use Rattle.tsp_rules.specs.CandidateRows.{has_won, lead_row, window_rings, yields}
+use Rattle.tsp_base.specs.Words.{Did, Elsewhere, Past, Step, role, Row, grown, in_step, arms, either_by, puts, ◌followed_by◌}
 use Rattle.tsp_master.proofs.TurnLemmas.{changes_parted, parting_sorts}
 use Rattle.tsp_resolve.specs.{ResolveStands.ResolveStands, declared.resolve.Resolve.Resolve}
 use Rattle.tsp_resolve.proofs.ResolveLemmas.{ResolveStands_changed, ResolveStands_idle, ResolveStands_same, rivalless}
 use Rattle.tsp_node.{proofs.TakeEmits.role_sorts, specs.Unmarking.Unmarks}
 
+-- rows that change the role for certain
+
+-- the end of a candidature
+pub window_changes : (x : ℕ) (past : Past) → changes (window_rings x past) ≡ true
+unfolding window_rings lead_row yields either_by puts ◌followed_by◌
+window_changes x past = by_time (is_in_time Window x past) where
+  after : Past
+  after = grown x past (Ring Window ∷ [])
+
+  won : (b : Bool) → changes (if b then lead_row x after else yields x after) ≡ true
+  won true = refl
+  won false = refl
+
+  by_time : (b : Bool) → changes (if b then (puts (Ring Window) followed_by either_by has_won lead_row yields) x past else (puts (Late Window) followed_by yields) x past) ≡ true
+  by_time true = won (has_won x after)
+  by_time false = refl
+
+-- a life begins with a change of the role
+pub begin_changes : (x : ℕ) (past : Past) → changes ((puts (Become Starting) followed_by arms Quiet QUIET) x past) ≡ true
+unfolding puts arms ◌followed_by◌
+begin_changes x past = refl
+
 not-master : (r : Role) → is_master r ≡ false → r ≢ Master
 not-master Master e = absurd (true≢false e)
-not-master Starting e = λ f. let bad : ⊥ = cc in bad
 not-master _ e = λ f. let bad : ⊥ = cc in bad
 
 -- the rivals are forgotten where a port led and leads no more

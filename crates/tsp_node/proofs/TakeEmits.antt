@@ -1,15 +1,14 @@
 -- Which sorts of acts put what a port does with what it takes, and its alarms.
 use Rattle.std.proofs.Common.{sym, ap, subst, ◌∙◌, ◌≡◌, ℕ, Bool, true, List, [], ◌∷◌, refl}
-use Rattle.tsp_rules.specs.Values.{Alarm, CloseAlarm, Taken, Kind, Ack, Date, DateAck, DateReq, LoopKind, MasterReq, Msite, MsiteReq, ResolveKind, SetDate, SetDateReq, SlaveUp, Election, MasterAck, Test, TraceOff, TraceOn, PeerId, Place}
-use Rattle.tsp_base.specs.Words.{MessageValue, ReplyValue}
+use Rattle.tsp_rules.specs.Values.{Alarm, CloseAlarm, Taken, Kind, Ack, MasterReq, ResolveKind, SlaveUp, Election, MasterAck, PeerId, Place}
 use Rattle.tsp_rules.specs.Answers.{from_peer, handles_kind, peer_replies, peer_says, rings, takes}
-use Rattle.tsp_rules.specs.{CommonRows.replies, Renames.Naming}
+use Rattle.tsp_rules.{specs.CommonRows.replies, specs.Renames.Naming, proofs.RowCodes.ANumber, proofs.RowCodes.Owed, proofs.RowCodes.Posts}
 use Rattle.tsp_rules.proofs.Emits.{Sort, Acking, Alarming, Asking, Backing, Changing, Closing, Correcting, Counting, Following, Giving, Leading, Moving, Numbering, Passing, Posting, Rivalling, Rounding, Sampling, Tabling, Taking, Tracing, Emits, is_part}
-use Rattle.tsp_rules.proofs.{RowCodes.ANumber, RowCodes.Owed, RowCodes.Posts, Unchanged.comes_unchanged, Unchanged.place_unchanged}
+use Rattle.tsp_rules.proofs.{Unchanged.comes_unchanged, Unchanged.place_unchanged, BuiltRoles.built_joins, BuiltRoles.built_sends_away}
 use Rattle.tsp_rules.proofs.Built.{Built, At, Empty, More, Wider}
-use Rattle.tsp_rules.proofs.BuiltAnswers.{built_from_peer, built_handles_kind, built_peer_replies, built_peer_says, built_rings, built_takes, handled_sorts, ring_sorts, says_sorts}
-use Rattle.tsp_rules.proofs.{BuiltAnswers.date_sorts, BuiltRoles.built_joins, BuiltRoles.built_sends_away}
+use Rattle.tsp_rules.proofs.BuiltAnswers.{built_from_peer, built_handles_kind, built_peer_replies, built_peer_says, built_rings, built_takes, handled_sorts, ring_sorts, says_sorts, date_sorts}
 use Rattle.tsp_rules.proofs.{BuiltShared.built_replies, BuiltShared.client_sorts, EmitsBuilt.emits_built, EmitsBuilt.nothing_taken}
+use Rattle.tsp_base.specs.Words.{MessageValue, ReplyValue}
 use Rattle.tsp_master.specs.MasterTakes.{master_takes_here, master_takes_kind_here}
 use Rattle.tsp_node.specs.declared.audience.Audience.TheVariants.{OfClients, OfDates}
 use Rattle.tsp_node.specs.{Audiences.audience_of, declared.audience.Audience.Audience}
@@ -70,17 +69,6 @@ sorts_of OfDates = date_sorts
 sorts_of _ = says_sorts
 
 sorts-are : (k : Kind) → handled_sorts k ≡ sorts_of (audience_of k)
-sorts-are Msite = refl
-sorts-are MsiteReq = refl
-sorts-are TraceOn = refl
-sorts-are TraceOff = refl
-sorts-are Test = refl
-sorts-are Date = refl
-sorts-are SetDate = refl
-sorts-are DateReq = refl
-sorts-are SetDateReq = refl
-sorts-are DateAck = refl
-sorts-are LoopKind = refl
 sorts-are Ack = refl
 sorts-are _ = refl
 

@@ -1,14 +1,41 @@
 -- Each message has its row.
-use Rattle.std.proofs.Common.{◌≡◌, true, refl, sym, ◌∙◌, ap, arith}
-use Rattle.tsp_base.specs.Words.{nothing, time_in}
+use Rattle.std.proofs.Common.{◌≡◌, true, refl, sym, ◌∙◌, ap, arith, ℕ, ℤ, Bool, false, if◌then◌else◌}
+use Rattle.tsp_base.specs.Words.{nothing, time_in, Past, MessageValue, ◌followed_by◌, either_by, posts}
 use Rattle.tsp_base.proofs.PerformsLemmas.{Performs_else_part, Performs_nothing, Performs_then, Performs_then_part}
-use Rattle.tsp_rules.specs.{DateRows.may_date, DateRows.new_date, DateRows.sets_date_where, RoundRows.corrects, Values.DateAck}
-use Rattle.tsp_rules.proofs.Emits.{Emits_posts}
+use Rattle.tsp_rules.specs.DateRows.{may_date, new_date, sets_date_where, date_acked, passes_on}
+use Rattle.tsp_rules.specs.{RoundRows.corrects, Values.DateAck, Values.Kind, Values.PeerId, Values.Place, Answers.from_peer, ClockRows.sets}
+use Rattle.tsp_rules.proofs.{Emits.Emits_posts, BuiltAnswers.built_from_peer, BuiltAnswers.built_date_acked, BuiltAnswers.built_passes_on}
+use Rattle.tsp_rules.proofs.{EmitsBuilt.emits_built, Unchanged.place_unchanged, EmitsStill.corrects-none, EmitsStill.still_sorts}
 use Rattle.tsp_date.specs.declared.task.Task.TheVariants.{AnswerAgain, Nothing, PassOn, Set}
 use Rattle.tsp_date.specs.DateStands.{DateState, moved_where}
-use Rattle.tsp_date.proofs.CorrectsLemmas.{corrects-end, corrects-nothing, corrects-passes, corrects-posts, corrects-sets}
 use Rattle.tsp_date.proofs.{DateLemmas.Performs_posting, TaskLemmas.Performs_task, TaskLemmas.handles-end}
 use Rattle.tsp_date.proofs.take.date_take.Goals as goal
+
+-- which rows of dates correct the clock
+corrects-nothing : (x : ℕ) (past : Past) → corrects (nothing x past) ≡ false
+unfolding nothing
+corrects-nothing x past = refl
+
+-- a date that is set does
+corrects-sets : (from : Place) (number : ℕ) (time : ℤ) (x : ℕ) (past : Past) → corrects (sets_date_where from number time x past) ≡ may_date time x past
+unfolding sets_date_where either_by new_date ◌followed_by◌ sets nothing
+corrects-sets from number time x past = by_test (may_date time x past) where
+  by_test : (b : Bool) → corrects (if b then new_date from number time x past else nothing x past) ≡ b
+  by_test true = refl
+  by_test false = refl
+
+-- one that is passed on doesn't
+corrects-passes : (from : Place) (q : PeerId) (number : ℕ) (time : ℤ) (x : ℕ) (past : Past) → corrects (passes_on from q number time x past) ≡ false
+corrects-passes from q number time x past = corrects-none (passes_on from q number time x past) ((emits_built {all = still_sorts} refl (built_passes_on number time tt tt from q (place_unchanged from) tt tt)).only x past)
+
+-- nor does one that is answered again
+corrects-posts : (p : PeerId) (kind : Kind) (number x : ℕ) (past : Past) → corrects (posts p kind number x past) ≡ false
+unfolding posts
+corrects-posts p kind number x past = refl
+
+-- nor does the answer of a master
+corrects-end : (from : Place) (m : MessageValue) (x : ℕ) (past : Past) → corrects (from_peer from (date_acked m) x past) ≡ false
+corrects-end from m x past = corrects-none (from_peer from (date_acked m) x past) ((emits_built {all = still_sorts} refl (built_from_peer from _ _ (place_unchanged from) (built_date_acked m))).only x past)
 
 pub returns-in-DateAck-clause-row : goal.returns-in-DateAck-clause-row
 returns-in-DateAck-clause-row g c last took e t =
@@ -76,8 +103,7 @@ unfolding sets_date_where
 returns-then-not-may_date g c =
     let m = c.args.m.now in
     let time : c.time_of.result ≡ time_in m.body = c.time_of.ensures in
-    let may = c.may_date.ensures.test in
-    let test = rw time at may in
+    let test = rw time at c.may_date.ensures.test in
     record {
       row = λ last took e t. Performs_task Set c.args.charge c.args.from m c.in-Set.ensures.row
           (Performs_else_part (may_date (time_in m.body)) (new_date c.args.from m.number (time_in m.body)) (λ past h. test past h.master (sym h.last.tick_is ∙ e) ∙ c.if-not-may_date.true) Performs_nothing);
@@ -95,11 +121,9 @@ unfolding sets_date_where new_date
 returns-else-not-may_date g c =
     let m = c.args.m.now in
     let time : c.time_of.result ≡ time_in m.body = c.time_of.ensures in
-    let may = c.may_date.ensures.test in
-    let test = rw time at may in
+    let test = rw time at c.may_date.ensures.test in
     let n : c.number-in-Set.result ≡ m.number = c.number-in-Set.ensures in
-    let tells = c.announce.ensures.row c.args.tick in
-    let announces = rw n at tells in
+    let announces = rw n at (c.announce.ensures.row c.args.tick) in
     record {
       row = λ last took e t. Performs_task Set c.args.charge c.args.from m c.in-Set.ensures.row
           (Performs_then_part (may_date (time_in m.body)) nothing (λ past h. test past h.master (sym h.last.tick_is ∙ e) ∙ c.if-not-may_date.false)

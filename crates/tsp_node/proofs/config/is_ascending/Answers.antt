@@ -1,6 +1,5 @@
 -- A list whose neighbours rise is ascending.
-use Rattle.std.proofs.Common.{rules, nat_lt}
-use Rattle.std.proofs.lemmas.List.Sorted.{answers_always}
+use Rattle.std.proofs.{Common.rules, Common.nat_lt, lemmas.List.Sorted.answers_always}
 use Rattle.tsp_node.proofs.ConfigLemmas.{IsAscending-answer}
 use Rattle.tsp_node.proofs.config.is_ascending.Goals as goal
 

@@ -1,11 +1,11 @@
 -- What the port does is what the node does.
 use Rattle.std.proofs.Common.{◌≡◌, [], true, false, Bool, if◌then◌else◌, ◌∷◌, refl, arith}
 use Rattle.tsp_base.specs.Words.{either_by, nothing, placed, puts}
-use Rattle.tsp_rules.specs.{NodeRows.abandons_on, NodeRows.on, RoundRows.abandons, RoundRows.abandons_going, Values.Abandon, Values.Port}
-use Rattle.tsp_gateway.{proofs.LiftLemmas.All_here, proofs.LiftLemmas.All_same, proofs.LiftLemmas.part_there, specs.GatewayStands.port_at}
-use Rattle.tsp_gateway.proofs.PlaceLemmas.{places, ports_few, ports_set}
-use Rattle.tsp_rules.proofs.{BuiltRounds.built_abandons_going, EmitsBuilt.emits_built}
+use Rattle.tsp_rules.{specs.NodeRows.abandons_on, specs.NodeRows.on, specs.Values.Abandon, specs.Values.Port, proofs.EmitsBuilt.emits_built}
+use Rattle.tsp_rules.{specs.RoundRows.abandons, specs.RoundRows.abandons_going, proofs.BuiltRounds.built_abandons_going}
+use Rattle.tsp_gateway.proofs.LiftLemmas.{All_here, All_same, part_there}
 use Rattle.tsp_gateway.proofs.gateway.Gateway.abandon.Goals as goal
+use Rattle.tsp_gateway.{specs.GatewayStands.port_at, proofs.AnyLemmas.places, proofs.AnyLemmas.ports_few, proofs.AnyLemmas.ports_set}
 
 placed-where : (q : Port) (b : Bool) → placed q (if b then Abandon ∷ [] else []) ≡ (if b then record { port = q; act = Abandon } ∷ [] else [])
 placed-where q true = refl

@@ -1,10 +1,9 @@
 -- One port after the other.
 use Rattle.std.proofs.Common.{◌≡◌, ◌<◌, ◌∙◌, arith, length, refl, rules, subst, sym, vec_len}
 use Rattle.tsp_rules.specs.NodeRows.{abandons_on}
-use Rattle.tsp_gateway.proofs.LiftLemmas.{ports_many}
-use Rattle.tsp_gateway.proofs.LoopLemmas.{last_port, next_port, no_port, upset_all}
-use Rattle.tsp_gateway.proofs.gateway.Gateway.abandon_each.Goals as goal
+use Rattle.tsp_gateway.proofs.{LiftLemmas.ports_many, LoopLemmas.last_port, LoopLemmas.next_port, LoopLemmas.no_port, LoopLemmas.upset_all}
 use Rattle.tsp_gateway.proofs.gateway.Gateway.abandon_each.Goals.{then-is_upset, else-is_upset}
+use Rattle.tsp_gateway.proofs.gateway.Gateway.abandon_each.Goals as goal
 
 pub loop-r-init : goal.loop-r-init
 loop-r-init g c = record { row = λ x last new d. d; ports = refl; clock = refl; room = record { spare = omega arith; few = omega arith } }
@@ -16,8 +15,7 @@ loop-r-preserved g c =
     let r = c.loop-r.r in
     let i = c.loop-r.invariant in
     let len : vec_len old.ports ≡ length old.ports.items = search rules in
-    let end = c.len-r-end.ensures in
-    let inside : r < n = omega (arith, len, end, c.loop-r-test.true) in
+    let inside : r < n = omega (arith, len, c.len-r-end.ensures, c.loop-r-test.true) in
     elim c.if-is_upset.branch [
       | then-is_upset w ↦ rw (w.self-is, w.desk-is) (record {
         row = λ x last new d. i.row x last new (next_port abandons_on c.args.whole c.args.q r n x inside (sym c.is_upset.ensures ∙ w.if-is_upset.true) (w.abandon.ensures.row x) d);

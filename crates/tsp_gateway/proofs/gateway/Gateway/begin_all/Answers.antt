@@ -26,8 +26,7 @@ loop-q-preserved g c =
     let q = c.loop-q.q in
     let i = c.loop-q.invariant in
     let len : vec_len old.ports ≡ length old.ports.items = search rules in
-    let end = c.len-q-end.ensures in
-    let inside : q < n = omega (arith, len, end, c.loop-q-test.true) in
+    let inside : q < n = omega (arith, len, c.len-q-end.ensures, c.loop-q-test.true) in
     let one = c.begin.ensures in
     record {
       row = λ last new d. i.row last new (next_port boots_on true 0 q n c.args.tick inside refl one.row d);

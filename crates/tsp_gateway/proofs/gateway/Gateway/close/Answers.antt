@@ -4,8 +4,8 @@ use Rattle.tsp_rules.specs.{Answers.rings, GateRows.alarm_on, GateRows.closes_on
 use Rattle.tsp_master.specs.MasterAlarms.{IsInTurn}
 use Rattle.tsp_node.proofs.TakeEmits.{emits_rings}
 use Rattle.tsp_gateway.{proofs.LiftLemmas.All_reading, proofs.LiftLemmas.part_there, specs.GatewayStands.port_at}
-use Rattle.tsp_gateway.proofs.PlaceLemmas.{peers_there, places, ports_few, ports_set}
-use Rattle.tsp_gateway.proofs.StirLemmas.{All_calm, All_upset, untaken_there}
+use Rattle.tsp_gateway.proofs.AnyLemmas.{peers_there, places, ports_few, ports_set}
+use Rattle.tsp_gateway.proofs.TurnLemmas.{All_calm, All_upset, untaken_there}
 use Rattle.tsp_gateway.proofs.gateway.Gateway.close.Goals as goal
 
 pub returns-then-ring-clause-row : goal.returns-then-ring-clause-row

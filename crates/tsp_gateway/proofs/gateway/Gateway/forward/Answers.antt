@@ -29,10 +29,8 @@ loop-r-preserved g c =
     let r = c.loop-r.r in
     let i = c.loop-r.invariant in
     let len : vec_len self.ports ≡ length self.ports.items = search rules in
-    let many = ports_many self in
-    let end = c.len-r-end.ensures in
-    let inside : r < n = omega (arith, len, end, c.loop-r-test.true) in
-    let among : r < length ps = omega (arith, inside, many) in
+    let inside : r < n = omega (arith, len, c.len-r-end.ensures, c.loop-r-test.true) in
+    let among : r < length ps = omega (arith, inside, ports_many self) in
     let more = peers_more r ps among in
     elim c.if-r-q.branch [
       | then-r-q w ↦ rw w.desk-is (record {

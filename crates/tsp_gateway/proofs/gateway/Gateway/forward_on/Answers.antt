@@ -1,10 +1,10 @@
 -- A post to each other peer, where the port is awake.
 use Rattle.std.proofs.Common.{◌≡◌, ◌∙◌, ap, arith, false, refl, sym, true, not}
-use Rattle.tsp_rules.specs.{GateRows.is_awake_on, GateRows.reposts, GateRows.reposts_on, Guards.is_starting_role, Values.Role}
-use Rattle.tsp_gateway.specs.GatewayStands.{port_at}
-use Rattle.tsp_gateway.proofs.{AnyLemmas.station_there, LiftLemmas.All_nothing, LiftLemmas.All_same, LiftLemmas.part_there}
-use Rattle.tsp_gateway.proofs.{PlaceLemmas.places, PlaceLemmas.ports_few, PlaceLemmas.station_peers, PostLemmas.All_posted}
-use Rattle.tsp_rules.proofs.{BuiltGate.built_reposts, EmitsBuilt.emits_built}
+use Rattle.tsp_rules.{specs.GateRows.is_awake_on, specs.GateRows.reposts, specs.GateRows.reposts_on, proofs.BuiltGate.built_reposts}
+use Rattle.tsp_rules.{specs.Guards.is_starting_role, specs.Values.Role, proofs.EmitsBuilt.emits_built}
+use Rattle.tsp_gateway.{specs.GatewayStands.port_at, proofs.PostLemmas.All_posted}
+use Rattle.tsp_gateway.proofs.AnyLemmas.{station_there, places, ports_few, station_peers}
+use Rattle.tsp_gateway.proofs.LiftLemmas.{All_nothing, All_same, part_there}
 use Rattle.tsp_gateway.proofs.gateway.Gateway.forward_on.Goals as goal
 
 pub returns-then-is_awake-clause-row : goal.returns-then-is_awake-clause-row
@@ -25,8 +25,7 @@ pub returns-else-is_awake-clause-row : goal.returns-else-is_awake-clause-row
 unfolding reposts_on
 returns-else-is_awake-clause-row g c x =
     let r = c.args.r in
-    let m = c.args.m.now in
-    All_same (reposts_on m (port_at r))
+    All_same (reposts_on c.args.m.now (port_at r))
     (λ past h.
     let s = station_there past c.args.self.now r c.index.result.now c.station-station.result.now c.requires.port c.index.ensures c.station-station.ensures h in
     let asleep : is_awake_on past (port_at r) ≡ false = ap (λ (role : Role). not (is_starting_role role)) (sym s.role) ∙ sym c.is_awake.ensures ∙ c.if-is_awake.false in

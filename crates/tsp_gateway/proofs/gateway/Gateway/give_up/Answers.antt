@@ -1,8 +1,9 @@
 -- What the port does is what the node does.
 use Rattle.std.proofs.Common.{refl, arith}
-use Rattle.tsp_gateway.proofs.{LiftLemmas.All_here, LiftLemmas.part_there, PlaceLemmas.places, PlaceLemmas.ports_few, PlaceLemmas.ports_set}
-use Rattle.tsp_rules.proofs.{BuiltGate.built_loosens_master, EmitsBuilt.emits_built}
+use Rattle.tsp_gateway.proofs.LiftLemmas.{All_here, part_there}
+use Rattle.tsp_gateway.proofs.AnyLemmas.{places, ports_few, ports_set}
 use Rattle.tsp_gateway.proofs.gateway.Gateway.give_up.Goals as goal
+use Rattle.tsp_rules.proofs.{BuiltGate.built_loosens_master, EmitsBuilt.emits_built}
 
 pub returns-clause-row : goal.returns-clause-row
 returns-clause-row g c =

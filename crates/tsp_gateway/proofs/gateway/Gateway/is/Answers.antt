@@ -1,6 +1,5 @@
 -- The station says it.
-use Rattle.std.proofs.Common.{ap, ◌∙◌}
-use Rattle.std.specs.Option.{is_some}
+use Rattle.std.{proofs.Common.ap, proofs.Common.◌∙◌, specs.Option.is_some}
 use Rattle.tsp_base.specs.Words.{Deadlines}
 use Rattle.tsp_rules.specs.Guards.{is_follow, is_master}
 use Rattle.tsp_gateway.proofs.AnyLemmas.{station_there}

@@ -2,7 +2,7 @@
 use Rattle.std.proofs.Common.{subst, ◌≡◌, ℕ, not, Option}
 use Rattle.tsp_rules.specs.Guards.{is_over}
 use Rattle.tsp_node.specs.{Dues.IsPartDue, declared.part.Part.Part}
-use Rattle.tsp_gateway.proofs.{LiftLemmas.part_there, PlaceLemmas.one_part}
+use Rattle.tsp_gateway.proofs.{LiftLemmas.part_there, AnyLemmas.one_part}
 use Rattle.tsp_gateway.proofs.gateway.Gateway.is_idle.Goals as goal
 
 pub returns : goal.returns

@@ -1,10 +1,34 @@
 -- What is made of the LOOP.
-use Rattle.std.proofs.Common.{◌∙◌, arith, length}
-use Rattle.tsp_rules.specs.GateRows.{Forward, GiveUp, PassOver, takes_loop_step}
-use Rattle.tsp_rules.specs.NodeRows.{nothing_at_all}
-use Rattle.tsp_gateway.proofs.{AnyLemmas.station_there, JudgeLemmas.All_judged, JudgeLemmas.forward_kind, JudgeLemmas.judge_same}
-use Rattle.tsp_gateway.{proofs.LiftLemmas.All_nothing, proofs.PlaceLemmas.places, proofs.PlaceLemmas.ports_few, specs.GatewayStands.port_at}
+use Rattle.std.proofs.Common.{◌∙◌, arith, length, sym, ap, ◌≡◌, ℕ, ◌&&◌, nat_le, nat_lt, Bool, true, false, if◌then◌else◌, List, refl}
+use Rattle.tsp_rules.specs.GateRows.{Forward, GiveUp, PassOver, takes_loop_step, LoopStep, hops_in, judge, judges, one_hop_less, same_name}
+use Rattle.tsp_rules.specs.{NodeRows.nothing_at_all, NodeRows.NodePast, NodePerforms.PerformsAll, Values.Placed, Values.Port, Values.HOPS}
+use Rattle.tsp_gateway.proofs.AnyLemmas.{station_there, places, ports_few}
 use Rattle.tsp_gateway.proofs.gateway.Gateway.judge_loop.Goals as goal
+use Rattle.tsp_gateway.proofs.LiftLemmas.{All_nothing, All_same}
+use Rattle.tsp_gateway.specs.{declared.gateway.Gateway.Gateway, GatewayStands.port_at, GatewayStands.GatewayStands}
+use Rattle.tsp_base.specs.Words.{MessageValue}
+
+-- what a node makes of a LOOP
+
+-- judged alike by equal names, numbers and ports
+judge_same : (own name : List ℕ) (many count : ℕ) (p q : Port) (m : MessageValue) (step : LoopStep) → own ≡ name → many ≡ count → p ≡ q → step ≡ judge own many p m → judge name count q m ≡ step
+judge_same own name many count p q m step e f g is = rw (sym e, sym f, sym g) (sym is)
+
+-- a LOOP that is passed on is of the same kind
+forward_kind : (own : List ℕ) (many : ℕ) (p : Port) (m next : MessageValue) → Forward next ≡ judge own many p m → next.kind ≡ m.kind
+forward_kind own many p m next is = by_case (nat_le 2 many) (same_name m.name own) (nat_lt m.number p.0) (nat_le 1 (hops_in m.body) && nat_le (hops_in m.body) HOPS) is where
+  by_case : (a b c d : Bool) → Forward next ≡ (if a then (if b then (if c then GiveUp else PassOver) else (if d then Forward (one_hop_less m) else PassOver)) else PassOver) → next.kind ≡ m.kind
+  by_case true true true d e = let bad : ⊥ = cc in absurd bad
+  by_case true true false d e = let bad : ⊥ = cc in absurd bad
+  by_case true false c true e = let same : next ≡ one_hop_less m = cc in ap (λ (n : MessageValue). n.kind) same
+  by_case true false c false e = let bad : ⊥ = cc in absurd bad
+  by_case false b c d e = let bad : ⊥ = cc in absurd bad
+
+-- a LOOP is judged
+All_judged : {x : ℕ} {g h : Gateway} {old new : List Placed} (q : ℕ) (m : MessageValue) (step : LoopStep) → ((past : NodePast) → GatewayStands past g → judge past.name (length past.ports) (port_at q) m ≡ step) →
+    PerformsAll GatewayStands GatewayStands (takes_loop_step (port_at q) step) x g h old new → PerformsAll GatewayStands GatewayStands (judges (port_at q) m) x g h old new
+unfolding judges
+All_judged {x} q m step is d = All_same (judges (port_at q) m) (λ past h. rw (is past h) refl) d
 
 pub forward-requires : goal.forward-requires
 forward-requires g c = record {

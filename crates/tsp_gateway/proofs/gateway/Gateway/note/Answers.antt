@@ -5,7 +5,7 @@ use Rattle.tsp_base.specs.Words.{puts}
 use Rattle.tsp_rules.{proofs.Emits.Emits_puts, specs.Values.Took}
 use Rattle.tsp_node.specs.NodeStands.{TakeStands, port_with}
 use Rattle.tsp_node.proofs.NodeLemmas.{PortTook_took, Performs_put}
-use Rattle.tsp_gateway.proofs.{LiftLemmas.All_idle, PlaceLemmas.ports_few}
+use Rattle.tsp_gateway.proofs.{LiftLemmas.All_idle, AnyLemmas.ports_few}
 use Rattle.tsp_gateway.proofs.gateway.Gateway.note.Goals as goal
 
 pub returns-clause-row : goal.returns-clause-row

@@ -3,7 +3,7 @@ use Rattle.std.proofs.Common.{◌≡◌, true, false, refl, subst, arith}
 use Rattle.tsp_rules.specs.{Answers.rings, Guards.is_over}
 use Rattle.tsp_node.{proofs.TakeEmits.emits_rings, specs.declared.part.Part.Part}
 use Rattle.tsp_gateway.proofs.LiftLemmas.{part_there, set_there}
-use Rattle.tsp_gateway.proofs.PlaceLemmas.{peers_there, places, ports_few, ports_set}
+use Rattle.tsp_gateway.proofs.AnyLemmas.{peers_there, places, ports_few, ports_set}
 use Rattle.tsp_gateway.proofs.TurnLemmas.{All_rung, moves_not, rings_still}
 use Rattle.tsp_gateway.proofs.gateway.Gateway.ring.Goals as goal
 

@@ -1,10 +1,10 @@
 -- One alarm after the other.
 use Rattle.std.proofs.Common.{◌≡◌, ◌+◌, ◌≤◌, arith, refl, ◌∙◌, ap, drop, take, [], slice_index_or}
 use Rattle.tsp_rules.{proofs.NodeRowLemmas.All_then, specs.GateRows.alarms_on, specs.Values.Quiet, specs.Values.ALL}
-use Rattle.tsp_node.proofs.AlarmOrder.{close_after_probe}
-use Rattle.tsp_gateway.specs.Rooms.{alarm_room, alarms_room, peers_at, ports_in}
+use Rattle.tsp_node.proofs.AlarmCases.{close_after_probe}
+use Rattle.tsp_gateway.specs.{Rooms.alarm_room, Rooms.alarms_room, Rooms.peers_at, Rooms.ports_in, GatewayStands.port_at}
 use Rattle.tsp_gateway.proofs.AlarmsLemmas.{alarms_room-front, alarms_room-next, all_on-alarms, drop_all, drop_next, nothing_left}
-use Rattle.tsp_gateway.{proofs.LiftLemmas.All_same, specs.GatewayStands.port_at}
+use Rattle.tsp_gateway.proofs.LiftLemmas.{All_same}
 use Rattle.tsp_gateway.proofs.gateway.Gateway.ring_alarms.Goals as goal
 
 pub loop-alarm-init : goal.loop-alarm-init
@@ -18,10 +18,9 @@ loop-alarm-init g c = record {
 
 pub ring_alarm-requires-clause-room : goal.ring_alarm-requires-clause-room
 ring_alarm-requires-clause-room g c =
-    let i = c.loop-alarm.alarm-index in
     let inv = c.loop-alarm.invariant in
     let peers = peers_at c.args.q (ports_in c.args.self.now) in
-    let alarm = slice_index_or ALL i Quiet in
+    let alarm = slice_index_or ALL c.loop-alarm.alarm-index Quiet in
     let same : alarm_room (slice_index_or ALL c.loop-alarm.alarm-index Quiet) (peers_at c.args.q (ports_in c.loop-alarm.self)) ≡ alarm_room (slice_index_or ALL c.loop-alarm.alarm-index Quiet) (peers_at c.args.q (ports_in c.args.self.now)) = ap (λ ps. alarm_room alarm (peers_at c.args.q ps)) inv.ports in
     let front = alarms_room-front ALL (c.loop-alarm.alarm-index + 1) (peers_at c.args.q (ports_in c.args.self.now)) in
     let more = alarms_room-next c.loop-alarm.alarm-index (peers_at c.args.q (ports_in c.args.self.now)) c.loop-alarm-test.true in

@@ -1,11 +1,10 @@
 -- What is left to perform are the alarms that are still to come; the Close comes right after the Probe.
 use Rattle.std.proofs.Common.{◌≡◌, ◌+◌, ◌≤◌, List, drop, take, slice_index_or}
-use Rattle.tsp_rules.specs.Values.{Placed, Quiet, CloseAlarm, ALL}
+use Rattle.tsp_rules.specs.{Values.Placed, Values.Quiet, Values.CloseAlarm, Values.ALL, NodePerforms.PerformsAll}
 use Rattle.tsp_base.specs.Words.{PutsAtMost}
-use Rattle.tsp_rules.specs.NodePerforms.{PerformsAll}
-use Rattle.tsp_gateway.specs.{Dues.HasProbed, GatewayStands.GatewayTurning, GatewayStands.clock_at, GatewayStands.port_at}
-use Rattle.tsp_gateway.specs.{Rooms.alarms_room, Rooms.peers_at, Rooms.ports_in, declared.gateway.Gateway.Gateway}
-use Rattle.tsp_gateway.proofs.AlarmsLemmas.{all_on}
+use Rattle.tsp_gateway.specs.Dues.{HasProbed}
+use Rattle.tsp_gateway.specs.{GatewayStands.GatewayTurning, GatewayStands.clock_at, GatewayStands.port_at, declared.gateway.Gateway.Gateway}
+use Rattle.tsp_gateway.{specs.Rooms.alarms_room, specs.Rooms.peers_at, specs.Rooms.ports_in, proofs.AlarmsLemmas.all_on}
 use Rattle.tsp_gateway.proofs.gateway.Gateway.ring_alarms.Given as goal
 
 abbrev pub invariant-loop-alarm : goal.invariant-loop-alarm

@@ -1,9 +1,9 @@
 -- What the port does is what the node does.
 use Rattle.std.proofs.Common.{refl, arith}
-use Rattle.tsp_gateway.proofs.{LiftLemmas.part_there, LiftLemmas.still_by, TurnLemmas.All_sent}
-use Rattle.tsp_gateway.proofs.PlaceLemmas.{peers_there, places, ports_few, ports_set}
-use Rattle.tsp_rules.{proofs.BuiltSends.built_due_sends, proofs.EmitsBuilt.emits_built, specs.SendRows.due_sends}
+use Rattle.tsp_gateway.proofs.LiftLemmas.{part_there, still_by}
 use Rattle.tsp_gateway.proofs.gateway.Gateway.send.Goals as goal
+use Rattle.tsp_gateway.proofs.{TurnLemmas.All_sent, AnyLemmas.peers_there, AnyLemmas.places, AnyLemmas.ports_few, AnyLemmas.ports_set}
+use Rattle.tsp_rules.{proofs.BuiltSends.built_due_sends, proofs.EmitsBuilt.emits_built, specs.SendRows.due_sends}
 
 pub returns-clause-row : goal.returns-clause-row
 returns-clause-row g c =

@@ -2,10 +2,11 @@
 use Rattle.std.proofs.Common.{◌≡◌, ◌∙◌, ap, arith, refl}
 use Rattle.tsp_base.specs.Words.{carries_hops, carries_time, MessageValue, body_fits, others}
 use Rattle.tsp_acks.specs.declared.station.Station.{Station}
-use Rattle.tsp_gateway.proofs.{LiftLemmas.part_there, PlaceLemmas.places, PlaceLemmas.ports_few, PlaceLemmas.station_peers}
-use Rattle.tsp_gateway.{proofs.PostLemmas.All_posted, proofs.PostLemmas.loops_are, specs.GatewayStands.port_at}
-use Rattle.tsp_rules.{proofs.BuiltGate.built_sends_loops, proofs.EmitsBuilt.emits_built, specs.GateRows.sends_loops, specs.Values.LoopKind}
+use Rattle.tsp_gateway.proofs.{LiftLemmas.part_there, PostLemmas.All_posted, PostLemmas.loops_are}
+use Rattle.tsp_gateway.proofs.AnyLemmas.{places, ports_few, station_peers}
 use Rattle.tsp_gateway.proofs.gateway.Gateway.send_loops.Goals as goal
+use Rattle.tsp_gateway.specs.GatewayStands.{port_at}
+use Rattle.tsp_rules.{proofs.BuiltGate.built_sends_loops, proofs.EmitsBuilt.emits_built, specs.GateRows.sends_loops, specs.Values.LoopKind}
 
 pub new-message-requires : goal.new-message-requires
 unfolding body_fits carries_time carries_hops

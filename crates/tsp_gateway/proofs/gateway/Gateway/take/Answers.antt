@@ -6,9 +6,8 @@ use Rattle.tsp_gateway.proofs.gateway.Gateway.take.Goals as goal
 
 pub take_in-requires : goal.take_in-requires
 take_in-requires g c =
-    let old = ports_in c.args.self.now in
     let q = c.args.port.0 in
-    let room = take_room q old c.requires.port in
+    let room = take_room q (ports_in c.args.self.now) c.requires.port in
     let same = c.turn_ports.ensures.ports in
     record {
       port = subst (λ ps. q < length ps) (sym same) c.requires.port;
@@ -22,8 +21,7 @@ returns-clause-row g c = All_then c.turn_ports.ensures.row c.take_in.ensures.row
 
 pub returns-clause-room : goal.returns-clause-room
 returns-clause-room g c =
-    let old = ports_in c.args.self.now in
     let q = c.args.port.0 in
-    let room = take_room q old c.requires.port in
+    let room = take_room q (ports_in c.args.self.now) c.requires.port in
     let took = ap (λ ps. 2 * peers_at q ps + peers_sum ps + 24) c.turn_ports.ensures.ports in
     record { spare = omega (arith, room, took, c.turn_ports.ensures.room.spare, c.take_in.ensures.room.spare); few = omega (arith, room, took, c.turn_ports.ensures.room.few, c.take_in.ensures.room.few) }

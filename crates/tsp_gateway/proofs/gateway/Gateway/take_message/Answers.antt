@@ -1,7 +1,7 @@
 -- What the port does, and what it stirs where it has corrected.
 use Rattle.std.proofs.Common.{ap, length, ◌∙◌, refl, sym, arith}
-use Rattle.tsp_gateway.proofs.{LiftLemmas.part_there, TakeLemmas.All_passed, TakeLemmas.All_taken}
-use Rattle.tsp_gateway.proofs.PlaceLemmas.{peers_there, places, ports_few, ports_set}
+use Rattle.tsp_gateway.proofs.{LiftLemmas.part_there, AnyLemmas.peers_there, AnyLemmas.places, AnyLemmas.ports_few, AnyLemmas.ports_set}
+use Rattle.tsp_gateway.proofs.TakeLemmas.{All_passed, All_taken}
 use Rattle.tsp_gateway.proofs.gateway.Gateway.take_message.Goals as goal
 
 pub returns-then-corrected-clause-row : goal.returns-then-corrected-clause-row

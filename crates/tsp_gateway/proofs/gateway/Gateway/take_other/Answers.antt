@@ -1,11 +1,11 @@
 -- What the port does is what the node does.
-use Rattle.std.proofs.Common.{true, refl, arith}
+use Rattle.std.proofs.Common.{true, false, refl, arith}
 use Rattle.tsp_node.{proofs.TakeEmits.emits_takes, specs.NodeStands.TakeStands}
 use Rattle.tsp_rules.specs.NodeRows.{on_port}
 use Rattle.tsp_gateway.specs.GatewayStands.{GatewayStands, port_at}
-use Rattle.tsp_gateway.proofs.{LiftLemmas.All_on, LiftLemmas.part_there, LiftLemmas.take_stands, TakeLemmas.other_still}
-use Rattle.tsp_gateway.proofs.PlaceLemmas.{peers_there, places, ports_few, ports_set}
+use Rattle.tsp_gateway.proofs.LiftLemmas.{All_on, part_there, take_stands}
 use Rattle.tsp_gateway.proofs.gateway.Gateway.take_other.Goals as goal
+use Rattle.tsp_gateway.proofs.{TakeLemmas.other_still, AnyLemmas.peers_there, AnyLemmas.places, AnyLemmas.ports_few, AnyLemmas.ports_set}
 
 pub returns-clause-row : goal.returns-clause-row
 returns-clause-row g c =
@@ -13,7 +13,7 @@ returns-clause-row g c =
     let from = c.args.from in
     let taken = c.args.taken.now in
     let there = part_there c.args.self.now q c.index_mut.result.now c.requires.port c.index_mut.ensures.value in
-    All_on {W = GatewayStands} {P = TakeStands} {Q = TakeStands} c.index_mut.result.now c.take.new.self (emits_takes true true from taken) (λ past w. other_still from taken c.requires.other c.args.tick (on_port (port_at q) past)) refl (λ past w. w)
+    All_on {W = GatewayStands} {P = TakeStands} {Q = TakeStands} false c.index_mut.result.now c.take.new.self (emits_takes true true from taken) (λ past w. other_still from taken c.requires.other c.args.tick (on_port (port_at q) past)) refl (λ past w. w)
     (λ past w. take_stands q past c.args.self.now c.index_mut.result.now there w) (λ past t. t) (rw c.port_at-port.ensures at c.take.ensures.row)
 
 pub take-requires-clause-room : goal.take-requires-clause-room

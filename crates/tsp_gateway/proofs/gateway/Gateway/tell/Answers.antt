@@ -2,11 +2,10 @@
 use Rattle.std.proofs.Common.{◌≡◌, ◌+◌, ◌<◌, ◌∙◌, ap, arith, length, refl, rules, subst, sym, vec_len}
 use Rattle.std.proofs.lemmas.Option.{slice_get_within}
 use Rattle.tsp_acks.specs.declared.station.Station.{Station}
-use Rattle.tsp_gateway.specs.{Rooms.ports_in, declared.gateway.Gateway.Gateway}
-use Rattle.tsp_gateway.proofs.LiftLemmas.{part_there, ports_many}
+use Rattle.tsp_gateway.{specs.Rooms.ports_in, proofs.gateway.Gateway.tell.Goals.then-r-q, proofs.gateway.Gateway.tell.Goals.else-r-q}
+use Rattle.tsp_gateway.{specs.declared.gateway.Gateway.Gateway, proofs.LiftLemmas.part_there, proofs.LiftLemmas.ports_many}
 use Rattle.tsp_gateway.proofs.TellLemmas.{IsTelling, all_told, set_peers, telling_more, telling_skip}
 use Rattle.tsp_gateway.proofs.gateway.Gateway.tell.Goals as goal
-use Rattle.tsp_gateway.proofs.gateway.Gateway.tell.Goals.{then-r-q, else-r-q}
 
 pub loop-r-init : goal.loop-r-init
 loop-r-init c = record {

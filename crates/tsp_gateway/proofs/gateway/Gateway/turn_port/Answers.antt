@@ -19,7 +19,6 @@ returns-clause-ports g c = c.ring_alarms.ensures.ports ∙ c.send.ensures.ports
 
 pub returns-clause-room : goal.returns-clause-room
 returns-clause-room g c =
-    let same = ap (peers_at c.args.q) c.send.ensures.ports in
     let send = c.send.ensures.room in
-    let alarms = rw same at c.ring_alarms.ensures.room in
+    let alarms = rw (ap (peers_at c.args.q) c.send.ensures.ports) at c.ring_alarms.ensures.room in
     record { spare = omega (arith, send.spare, alarms.spare); few = omega (arith, send.few, alarms.few) }

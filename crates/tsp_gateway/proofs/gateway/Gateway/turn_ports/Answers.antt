@@ -2,9 +2,9 @@
 use Rattle.std.proofs.Common.{◌≡◌, ◌<◌, ◌≤◌, ◌∙◌, ap, arith, length, refl, rules, subst, sym, true, vec_len}
 use Rattle.tsp_rules.specs.{GateRows.all_ports, GateRows.turns_on, NodeRows.for_ports, NodeRows.reading_all}
 use Rattle.tsp_gateway.specs.{GatewayStands.GatewayTurning, Rooms.peers_at, Rooms.ports_in, Rooms.turn_room}
-use Rattle.tsp_gateway.proofs.{IdleLemmas.idle_waits, LiftLemmas.All_same, LiftLemmas.ports_many, PlaceLemmas.places}
+use Rattle.tsp_gateway.proofs.{TurnLemmas.idle_waits, LiftLemmas.All_same, LiftLemmas.ports_many}
+use Rattle.tsp_gateway.proofs.{AnyLemmas.places, RoomLemmas.no_turns, RoomLemmas.turns_few, RoomLemmas.turns_more, RoomLemmas.turns_next}
 use Rattle.tsp_gateway.proofs.LoopLemmas.{last_port, next_port, upset_all}
-use Rattle.tsp_gateway.proofs.RoomLemmas.{no_turns, turns_few, turns_more, turns_next}
 use Rattle.tsp_gateway.proofs.gateway.Gateway.turn_ports.Goals as goal
 use Rattle.tsp_gateway.proofs.gateway.Gateway.turn_ports.Goals.{then-not-is_idle, else-not-is_idle}
 
@@ -31,8 +31,7 @@ turn_port-requires g c =
 -- whether a port is idle may be asked of each
 pub is_idle-requires : goal.is_idle-requires
 is_idle-requires g c =
-    let old = c.args.self.now in
-    let len = places old in
+    let len = places c.args.self.now in
     let end = c.len-q-end.ensures in
     subst (λ ps. c.loop-q.q < length ps) (sym c.loop-q.invariant.ports) (omega (arith, len, end, c.loop-q-test.true))
 
@@ -44,8 +43,7 @@ loop-q-preserved g c =
     let i = c.loop-q.invariant in
     let len : vec_len old.ports ≡ length old.ports.items = search rules in
     let many = ports_many old in
-    let end = c.len-q-end.ensures in
-    let inside : q < n = omega (arith, len, end, c.loop-q-test.true) in
+    let inside : q < n = omega (arith, len, c.len-q-end.ensures, c.loop-q-test.true) in
     let there : q < length (ports_in c.loop-q.self) = subst (λ ps. q < length ps) (sym i.ports) (omega (arith, inside, many)) in
     let more = turns_more q (ports_in old) (omega (arith, inside, many)) in
     let took : turn_room (peers_at q (ports_in c.loop-q.self)) ≡ turn_room (peers_at q (ports_in old)) = ap (λ ps. turn_room (peers_at q ps)) i.ports in

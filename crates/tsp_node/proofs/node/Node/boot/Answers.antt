@@ -2,7 +2,7 @@
 use Rattle.std.proofs.Common.{◌≡◌, ◌∙◌, ap, arith, length, refl, w64, to_z, of_z, to_z-of_z}
 use Rattle.std.proofs.lemmas.List.{length-append}
 use Rattle.tsp_base.proofs.PerformsLemmas.{Performs_then}
-use Rattle.tsp_node.proofs.NodeLemmas.{node_stands, Performs_put}
+use Rattle.tsp_node.proofs.NodeLemmas.{node_by, Performs_put}
 use Rattle.tsp_rules.{proofs.BuiltGate.built_starts, proofs.EmitsBuilt.emits_built, specs.CommonRows.boots, specs.Values.Boot}
 use Rattle.tsp_node.proofs.node.Node.boot.Goals as goal
 
@@ -11,7 +11,7 @@ unfolding boots
 returns-clause-row g c =
     let back : to_z w64 (of_z w64 c.args.wall) ≡ c.args.wall = to_z-of_z c.ranges.wall in
     Performs_then (Performs_put Boot c.put.ensures.acts (λ past h. c.in_ok-node.ensures.stands past (rw back h)))
-    (node_stands {before = c.in_ok-node.node} refl (emits_built refl built_starts) (c.begin.ensures.row c.in_ok-node.node.clock))
+    (node_by {before = c.in_ok-node.node} refl (emits_built refl built_starts) (c.begin.ensures.row c.in_ok-node.node.clock))
 
 pub returns-clause-ok : goal.returns-clause-ok
 returns-clause-ok g c = let ok = c.in_ok-node.ensures.ok in let back : to_z w64 (of_z w64 c.args.wall) ≡ c.args.wall = to_z-of_z c.ranges.wall in (ok.0, rw (← back) ok.1, c.begin.ensures.peers ∙ ok.2, ok.3)

@@ -4,8 +4,7 @@ use Rattle.tsp_clients.proofs.ClientLemmas.{TraceStands_boot}
 use Rattle.tsp_node.proofs.node.Node.new.Goals as goal
 
 pub new-requires : goal.new-requires
-new-requires c =
-    rw c.peers.ensures ((c.is_port.ensures.0 c.if-not-is_port.false).peers)
+new-requires c = rw c.peers.ensures ((c.is_port.ensures.0 c.if-not-is_port.false).peers)
 
 pub returns-clause-stands : goal.returns-clause-stands
 returns-clause-stands c past h =

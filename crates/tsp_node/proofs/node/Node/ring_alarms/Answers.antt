@@ -5,7 +5,7 @@ use Rattle.tsp_base.specs.Words.{for_each}
 use Rattle.tsp_base.proofs.PerformsLemmas.{Performs_each_more, Performs_nothing, Performs_same}
 use Rattle.tsp_rules.specs.{Answers.due_alarms, Answers.rings_alone, Values.Quiet, Values.ALL}
 use Rattle.tsp_node.specs.NodeStands.{peers_in}
-use Rattle.tsp_node.proofs.AlarmOrder.{all_due, close_after_probe, take_one_more}
+use Rattle.tsp_node.proofs.AlarmCases.{all_due, close_after_probe, take_one_more}
 use Rattle.tsp_node.proofs.node.Node.ring_alarms.Goals as goal
 
 pub loop-alarm-init : goal.loop-alarm-init

@@ -1,15 +1,14 @@
 -- Each question has its row.
 use Rattle.std.proofs.Common.{◌≡◌, ◌∷◌, [], true, false, refl, sym, ◌∙◌}
 use Rattle.tsp_rules.specs.Values.{Message, Good, Msite, MsiteReq, Test, TraceOff, TraceOn}
-use Rattle.tsp_rules.specs.CommonRows.{names_master, says_master}
+use Rattle.tsp_rules.{specs.CommonRows.names_master, specs.CommonRows.says_master, proofs.EmitsBuilt.emits_built}
+use Rattle.tsp_rules.proofs.{Emits.Emits, Emits.Emits_more, Emits.Keeps_by, Emits.Posting, Unchanged.place_unchanged}
+use Rattle.tsp_rules.proofs.BuiltShared.{built_names_master, built_says_master, built_tests, built_traces}
 use Rattle.tsp_date.proofs.KeepLemmas.{DatesStand_by}
 use Rattle.tsp_master.{proofs.TableLemmas.MasterStands_quiet, proofs.TableLemmas.quiet_sorts, specs.MasterStands.MasterStands}
 use Rattle.tsp_resolve.proofs.ResolveLemmas.{ResolveStands_by}
 use Rattle.tsp_node.proofs.HearLemmas.{audience_test, handles_msite, handles_msitereq, handles_test, handles_traceoff, handles_traceon}
 use Rattle.tsp_node.proofs.NodeLemmas.{Performs_named_by, Performs_station, Performs_took, Performs_turned_by, took_beside}
-use Rattle.tsp_rules.proofs.Emits.{Emits, Emits_more, Keeps_by, Posting}
-use Rattle.tsp_rules.proofs.BuiltShared.{built_names_master, built_says_master, built_tests, built_traces}
-use Rattle.tsp_rules.proofs.{EmitsBuilt.emits_built, Unchanged.place_unchanged}
 use Rattle.tsp_node.proofs.part.Part.answer.Goals as goal
 
 pub returns-in-Msite-clause-row : goal.returns-in-Msite-clause-row

@@ -1,13 +1,13 @@
 -- The role, and then the alarm; the slaves are forgotten.
 use Rattle.std.proofs.Common.{refl, ◌∙◌, ap}
-use Rattle.tsp_rules.specs.Values.{Become, Quiet, Starting, QUIET}
+use Rattle.tsp_rules.{specs.Values.Become, specs.Values.Quiet, specs.Values.Starting, specs.Values.QUIET, proofs.BuiltGate.built_starts}
+use Rattle.tsp_rules.proofs.EmitsBuilt.{emits_built}
 use Rattle.tsp_base.{proofs.PerformsLemmas.Performs_then, specs.Words.arms, specs.Words.puts, specs.Words.◌followed_by◌}
 use Rattle.tsp_master.proofs.TurnLemmas.{MasterStands_changing, turning_sorts}
 use Rattle.tsp_date.proofs.KeepLemmas.{DatesStand_by}
 use Rattle.tsp_resolve.proofs.ResolveLemmas.{ResolveStands_changed, rivalless}
 use Rattle.tsp_acks.specs.declared.station.Station.{Station}
-use Rattle.tsp_node.proofs.{NodeLemmas.Performs_station, PartLemmas.still_alike, RoleChanges.begin_changes}
-use Rattle.tsp_rules.proofs.{BuiltGate.built_starts, EmitsBuilt.emits_built}
+use Rattle.tsp_node.proofs.{NodeLemmas.Performs_station, PartLemmas.still_alike, RivalKeeps.begin_changes}
 use Rattle.tsp_node.proofs.part.Part.begin.Goals as goal
 
 pub returns-clause-row : goal.returns-clause-row

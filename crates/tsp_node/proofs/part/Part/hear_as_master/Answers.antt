@@ -1,16 +1,17 @@
 -- A QUIT ends its leading, other masters are asked or marked, and all else is the master's own.
 use Rattle.std.proofs.Common.{◌≡◌, refl, sym, ◌∙◌, arith}
 use Rattle.tsp_rules.specs.Values.{Ack, Conflict, MasterAck, MasterUp, QuitKind}
+use Rattle.tsp_rules.{specs.MasterRows.master_takes, proofs.Emits.Emits, proofs.Emits.Emits_more, proofs.Emits.Emits_posts}
+use Rattle.tsp_rules.{specs.ResolveRows.finds_rival, specs.ResolveRows.resolves, proofs.EmitsBuilt.emits_built}
+use Rattle.tsp_rules.proofs.BuiltRoles.{built_conflict, built_finds_rival, built_resolves, question_sorts}
 use Rattle.tsp_base.{proofs.PerformsLemmas.Performs_then, specs.Words.posts, specs.Words.◌followed_by◌}
-use Rattle.tsp_rules.specs.{MasterRows.master_takes, ResolveRows.finds_rival, ResolveRows.resolves}
 use Rattle.tsp_date.proofs.KeepLemmas.{DatesStand_by}
 use Rattle.tsp_master.specs.MasterTakes.{master_takes_here}
 use Rattle.tsp_resolve.proofs.ResolveLemmas.{Performs_resolving}
 use Rattle.tsp_node.proofs.HearLemmas.{master_conflict, master_masterack, master_masterup, master_quit, master_takes-other, roles_other}
 use Rattle.tsp_node.proofs.NodeLemmas.{Performs_led, Performs_resolved, Performs_took}
-use Rattle.tsp_node.proofs.{PartLemmas.as_many, PartLemmas.still_alike, TakeEmits.built_master_takes_here}
-use Rattle.tsp_rules.proofs.{Emits.Emits, Emits.Emits_more, Emits.Emits_posts, EmitsBuilt.emits_built}
-use Rattle.tsp_rules.proofs.BuiltRoles.{built_conflict, built_finds_rival, built_resolves, question_sorts}
+use Rattle.tsp_node.proofs.PartLemmas.{as_many, still_alike}
+use Rattle.tsp_node.proofs.TakeEmits.{built_master_takes_here}
 use Rattle.tsp_node.proofs.part.Part.hear_as_master.Goals as goal
 
 pub returns-in-Quit-clause-row : goal.returns-in-Quit-clause-row

@@ -1,19 +1,19 @@
 -- Who is heard is handled by the role.
 use Rattle.std.proofs.Common.{◌≡◌, ◌∙◌, true, false, refl, sym, ap, arith}
 use Rattle.tsp_base.specs.Words.{taken, nothing}
-use Rattle.tsp_rules.specs.Answers.{from_peer, is_left, peer_says, says_in}
-use Rattle.tsp_rules.specs.{CandidateRows.candidate_takes, Guards.is_follow, SlaveRows.slave_takes, Values.Candidate, Values.Master}
+use Rattle.tsp_rules.specs.{Answers.from_peer, Answers.is_left, Answers.peer_says, Answers.says_in, CandidateRows.candidate_takes}
+use Rattle.tsp_rules.{specs.Guards.is_follow, proofs.EmitsBuilt.emits_built}
+use Rattle.tsp_rules.{specs.SlaveRows.slave_takes, specs.Values.Candidate, specs.Values.Master, proofs.Emits.Emits, proofs.Emits.Emits_more}
+use Rattle.tsp_rules.proofs.BuiltRoles.{built_slave_takes, open_sorts, slave_part_open, built_master_takes, all_candidate_sorts, built_candidate_takes}
 use Rattle.tsp_date.proofs.KeepLemmas.{DatesAside_by}
 use Rattle.tsp_master.proofs.TurnLemmas.{MasterStands_idle}
 use Rattle.tsp_resolve.proofs.ResolveLemmas.{ResolveStands_idle, rivalless}
 use Rattle.tsp_node.proofs.HearLemmas.{candidate_keeps, heard_awake, heard_peer, is_from, is_hearing, leaves_by, leaves_none, Performs_by_role, Performs_either_way, Performs_heard_at, Performs_kept, Performs_left, Performs_role, Performs_unheard, roles_date, roles_other, says_slave}
-use Rattle.tsp_slave.proofs.TellLemmas.{tells_nothing, tells_still}
 use Rattle.tsp_node.{proofs.StillTakes.took_of, proofs.StillTakes.took_slave, specs.NodeStands.PortValue, specs.NodeStands.port_with}
-use Rattle.tsp_node.proofs.{NodeLemmas.Performs_heard, NodeLemmas.Performs_pass, NodeLemmas.no_lead, PartLemmas.still_alike}
-use Rattle.tsp_rules.proofs.{BuiltRoles.built_slave_takes, BuiltRoles.open_sorts, BuiltRoles.slave_part_open, Emits.Emits, Emits.Emits_more}
-use Rattle.tsp_rules.proofs.{BuiltRoles.all_candidate_sorts, BuiltRoles.built_candidate_takes, BuiltRoles.built_master_takes}
-use Rattle.tsp_rules.proofs.EmitsBuilt.{emits_built}
+use Rattle.tsp_node.proofs.NodeLemmas.{Performs_heard, Performs_pass, no_lead}
 use Rattle.tsp_node.proofs.part.Part.hear_peer.Goals as goal
+use Rattle.tsp_node.proofs.PartLemmas.{still_alike}
+use Rattle.tsp_slave.proofs.TellLemmas.{tells_nothing, tells_still}
 
 pub returns-in_default-clause-row : goal.returns-in_default-clause-row
 returns-in_default-clause-row g c =

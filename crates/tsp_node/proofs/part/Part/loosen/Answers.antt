@@ -2,14 +2,15 @@
 use Rattle.std.proofs.Common.{◌≡◌, ◌&&◌, not, true, ap, refl, sym, ◌∙◌}
 use Rattle.tsp_base.specs.Words.{nothing}
 use Rattle.tsp_base.proofs.PerformsLemmas.{Performs_else_part, Performs_then, Performs_then_part}
-use Rattle.tsp_rules.specs.{CandidateRows.yields, GateRows.loosens_master, Guards.is_master, Guards.is_master_at}
+use Rattle.tsp_rules.{specs.CandidateRows.yields, proofs.EmitsBuilt.emits_built}
+use Rattle.tsp_rules.{specs.GateRows.loosens_master, specs.Guards.is_master, specs.Guards.is_master_at, proofs.BuiltRoles.built_yields}
 use Rattle.tsp_date.proofs.KeepLemmas.{DatesStand_by}
 use Rattle.tsp_master.specs.Clearing.{Clears}
 use Rattle.tsp_acks.specs.declared.station.Station.{Station}
 use Rattle.tsp_node.proofs.NodeLemmas.{Performs_station, rivals_part, same_part, slaves_part}
-use Rattle.tsp_node.{proofs.PartLemmas.still_alike, specs.NodeStands.port_with, specs.Unmarking.Unmarks}
-use Rattle.tsp_rules.proofs.{BuiltRoles.built_yields, EmitsBuilt.emits_built}
+use Rattle.tsp_node.{proofs.PartLemmas.still_alike, specs.NodeStands.port_with}
 use Rattle.tsp_node.proofs.part.Part.loosen.Goals as goal
+use Rattle.tsp_node.specs.Unmarking.{Unmarks}
 
 pub returns-then-leads-clause-row : goal.returns-then-leads-clause-row
 unfolding loosens_master yields

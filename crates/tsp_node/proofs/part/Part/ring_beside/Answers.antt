@@ -1,16 +1,16 @@
 -- Each alarm has its row.
 use Rattle.std.proofs.Common.{◌≡◌, ◌∷◌, [], true, false, refl}
-use Rattle.tsp_rules.specs.{Answers.alarm_rings, ResolveRows.resolve_rings, RoundRows.round_rings, Values.Round}
+use Rattle.tsp_rules.specs.{Answers.alarm_rings, RoundRows.round_rings}
+use Rattle.tsp_rules.{specs.ResolveRows.resolve_rings, specs.Values.Round, proofs.BuiltShared.standing_sorts, proofs.EmitsBuilt.emits_built}
+use Rattle.tsp_rules.proofs.{Emits.Alarming, Emits.Emits, Emits.Emits_more, Emits.Keeps_by, BuiltRoles.built_resolve_rings}
 use Rattle.tsp_date.proofs.KeepLemmas.{DatesStand_by}
 use Rattle.tsp_master.{proofs.TableLemmas.MasterStands_quiet, proofs.TableLemmas.quiet_sorts, specs.MasterStands.MasterStands}
 use Rattle.tsp_resolve.proofs.ResolveLemmas.{ResolveStands_by}
 use Rattle.tsp_node.specs.{NodeStands.port_with, RoleAlarms.is_of_master}
 use Rattle.tsp_node.proofs.NodeLemmas.{Performs_resolved, Performs_station, Performs_untaken, rivals_part, slaves_part}
 use Rattle.tsp_node.proofs.{PartLemmas.as_many, PartLemmas.still_alike, TakeEmits.role_sorts}
-use Rattle.tsp_node.proofs.AlarmCases.{beside_alarm, emits_wait, of_slave, slave_alarm, waits}
-use Rattle.tsp_rules.proofs.Emits.{Alarming, Emits, Emits_more, Keeps_by}
-use Rattle.tsp_rules.proofs.{BuiltRoles.built_resolve_rings, BuiltShared.standing_sorts, EmitsBuilt.emits_built}
 use Rattle.tsp_node.proofs.part.Part.ring_beside.Goals as goal
+use Rattle.tsp_node.proofs.AlarmCases.{beside_alarm, emits_wait, of_slave, slave_alarm, waits}
 
 pub returns-in-Round-clause-row : goal.returns-in-Round-clause-row
 unfolding alarm_rings

@@ -3,10 +3,10 @@ use Rattle.std.proofs.Common.{refl}
 use Rattle.tsp_date.proofs.KeepLemmas.{DatesStand_by}
 use Rattle.tsp_master.proofs.TurnLemmas.{MasterStands_changing, turning_sorts}
 use Rattle.tsp_resolve.proofs.ResolveLemmas.{ResolveStands_changed, rivalless}
-use Rattle.tsp_node.proofs.{AlarmCases.beside_window, NodeLemmas.Performs_station, NodeLemmas.Performs_untaken, PartLemmas.still_alike}
-use Rattle.tsp_node.proofs.RoleChanges.{window_changes}
-use Rattle.tsp_rules.{proofs.BuiltRoles.built_window_rings, proofs.EmitsBuilt.emits_built, specs.CandidateRows.window_rings}
+use Rattle.tsp_node.proofs.{AlarmCases.beside_window, PartLemmas.still_alike, RivalKeeps.window_changes}
+use Rattle.tsp_node.proofs.NodeLemmas.{Performs_station, Performs_untaken}
 use Rattle.tsp_node.proofs.part.Part.ring_window.Goals as goal
+use Rattle.tsp_rules.{proofs.BuiltRoles.built_window_rings, proofs.EmitsBuilt.emits_built, specs.CandidateRows.window_rings}
 
 pub returns-clause-row : goal.returns-clause-row
 returns-clause-row g c clock =

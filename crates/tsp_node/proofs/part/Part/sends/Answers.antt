@@ -38,11 +38,10 @@ pub returns-in_default-clause-row : goal.returns-in_default-clause-row
 unfolding due_sends
 returns-in_default-clause-row g c clock =
     let st = c.loop.self.station in
-    let none = c.in_default.ensures.sends in
     Performs_reading peers_at (for_each due_send) c.args.self.now.station.peers (λ past h. sym h.stands.station.peers)
     (rw (c.in_default.ensures.same.0, c.in_default.ensures.same.1) (c.loop.invariant.row clock c.loop.self (g.D.Desk.acts c.loop.desk)
     (for_each-idle PortBegun due_send c.args.tick c.args.port (port_with c.loop.self clock) (g.D.Desk.acts c.loop.desk) c.loop.after st.peers
-    (λ q later. Performs_waits q (none.0 q later)))))
+    (λ q later. Performs_waits q (c.in_default.ensures.sends.0 q later)))))
 
 pub returns-clause-row : goal.returns-clause-row
 unfolding due_sends

@@ -1,8 +1,7 @@
 -- Took, and then its row.
 use Rattle.std.proofs.Common.{[], ◌∷◌, ap, arith, length, ◌∙◌}
 use Rattle.std.proofs.lemmas.List.{length-append}
-use Rattle.tsp_base.specs.Words.{Past, grown, puts, ◌followed_by◌}
-use Rattle.tsp_base.proofs.PerformsLemmas.{Performs_then}
+use Rattle.tsp_base.{specs.Words.Past, specs.Words.grown, specs.Words.puts, specs.Words.◌followed_by◌, proofs.PerformsLemmas.Performs_then}
 use Rattle.tsp_rules.specs.{Answers.takes, Values.Took}
 use Rattle.tsp_node.specs.NodeStands.{TakeStands, TookStands, port_with, traced_with}
 use Rattle.tsp_node.proofs.NodeLemmas.{Performs_put, PortTook_took}
