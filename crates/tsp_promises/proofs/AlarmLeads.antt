@@ -41,9 +41,7 @@ quiet_leads own wait = rings_lead own wait Quiet
     (Leads_puts (Ring Quiet) (λ x past h.
     let due = due_is (armed past.seen).quiet x h.1 in
     let silent = h.0.knows.quiet.silent due.at due.is in
-    let long = silent.1 in
-    let over = due.over in
-    record { free = ring_quiet (omega (arith, long, over)) h.0; role_is = silent.0 }))
+    record { free = ring_quiet (omega (arith, silent.1, due.over)) h.0; role_is = silent.0 }))
     (Leads_to (λ x past h. open_of h) (Leads_then {Q = Free Untaken} (puts (Become Loose)) searches
     (Leads_puts (Become Loose) (λ x past h. become_loose (λ e. let s = h.role_is in let bad : ⊥ = cc in absurd bad) h.free))
     searches_during)))

@@ -240,10 +240,7 @@ unprobed x past at h goes over None is = is
 unprobed x past at h goes over (Some next) is =
     let probing = h.open_port.knows.round.probing next is in
     let until_is = some-same probing.until at (sym probing.goes ∙ goes) in
-    let later = h.later next is in
-    let soon = probing.soon in
-    let few = probing.few in
-    let bad : ⊥ = omega (arith, until_is, later, soon, few, over) in
+    let bad : ⊥ = omega (arith, until_is, h.later next is, probing.soon, probing.few, over) in
     absurd bad
 
 abbrev pub ClosesDue : ℕ → Past → Type 0
@@ -261,7 +258,6 @@ closing x past round h timely is =
     let goes = h.0.open_port.knows.round.closes refl due.at due.is in
     let at_is = goes.at_is in
     let over = due.over in
-    let last = goes.last_le in
     record {
       free = ring_close (unprobed x past due.at h.0 due.is due.over _ refl) (close_rested x past h) h.0.open_port;
       closed = refl;
@@ -279,7 +275,7 @@ closing x past round h timely is =
         soon = omega (arith, at_is, met);
         undisturbed = record { corrects = goes.corrects; lives = goes.life };
       };
-      gap = omega (arith, at_is, over, last);
+      gap = omega (arith, at_is, over, goes.last_le);
       peers = measured_at x past;
       round_is = sym is;
       peers_are = refl;

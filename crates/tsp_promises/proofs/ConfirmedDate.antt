@@ -105,8 +105,7 @@ one-life setting n q p r world s f sw fw ms mf w few f_in s_in x y s_kind f_kind
     begins-one : (p : PeerId) (d : Did) (seen : List Seen) (m : MessageValue) → BeginsSend p m d seen → m.kind ≡ SetDateReq → begun (Here d ∷ seen) ≡ begun seen + 1
     begins-one p d seen m b kind =
         let own : has_own_number m.kind ≡ true = ap has_own_number kind in
-        let acts = b.begins in
-        rw b.deed (rw (own, acts) refl)
+        rw b.deed (rw (own, b.begins) refl)
 
 -- an earlier one's Correct lies DATEHOLD back
 not-held : (setting : Setting) (n k : ℕ) (q r : Port) (world : List Line) (f p c u : Did) (fw o cw uo : List Line) (mf mp : MessageValue) → Fits setting world → Few world → OpenDate n k q world f fw mf → (s : DateSend n k q p o mp) → Within (line_on q s.first ∷ s.fw) fw → mp.number ≡ mf.number →

@@ -64,9 +64,8 @@ module _ {from : Place} {m : MessageValue} where
       (Leads_posts_back from Ack m.number (λ x past h. answered x past client h.0.none (record { free = h.0.was; seldom = (and_parts (is_past (last_asked past.seen) REUSE x) (is_free q x past) h.1).0 })))
       (Leads_reading next_number (λ n. posts_time q SetDateReq n time) (λ n. Leads_posts_time q SetDateReq n time (λ x past h.
       let d = timed SetDateReq n time past.name in
-      let here = now x past (Post (Peer q) (Message d)) in
       rests_of (post_message q d refl (record {
-        numbered = own_number x past q here d h.0.free h.1;
+        numbered = own_number x past q (now x past (Post (Peer q) (Message d))) d h.0.free h.1;
         begins = λ acts. record { rested = h.0.free.rested refl; seldom = λ t e. past_is (last_asked past.seen) REUSE x h.0.seldom t e };
       }) h.0.free)))))
       (Leads_from (λ x past h. rests_of h.0.was) Leads_nothing)

@@ -229,9 +229,8 @@ begun_mono s (Here d ∷ t) (inr w) v =
     let low = boots_mono s t w in
     let more = boots-deed d.deed (boots t) in
     let same : boots_after d.deed (boots t) ≡ boots t = omega (arith, low, more, v) in
-    let old = begun_mono s t w (omega (arith, low, more, v)) in
     let new = begun-deed d.deed (acting t) (begun t) (boots t) same in
-    omega (arith, old, new)
+    omega (arith, begun_mono s t w (omega (arith, low, more, v)), new)
 begun_mono s (Elsewhere d ∷ t) (inl e) v = subst (λ w. begun w ≤ begun (Elsewhere d ∷ t)) (sym e) (omega arith)
 begun_mono s (Elsewhere d ∷ t) (inr w) v = begun_mono s t w v
 
@@ -245,8 +244,7 @@ pub record Asks (p : PeerId) (f : Did) (o : List Seen) : Type 0 where
 pub begun_asks : (p : PeerId) (f : Did) (o : List Seen) → Asks p f o → begun (Here f ∷ o) ≡ begun o + 1
 begun_asks p f o a =
     let own : has_own_number a.message.kind ≡ true = ap has_own_number a.kind in
-    let c = a.begins in
-    rw a.deed (rw (own, c) refl)
+    rw a.deed (rw (own, a.begins) refl)
 
 pub asks_life : (p : PeerId) (f : Did) (o : List Seen) → Asks p f o → boots (Here f ∷ o) ≡ boots o
 asks_life p f o a = rw a.deed refl

@@ -151,8 +151,7 @@ calm_still strange [] e n = refl
 calm_still strange (a ∷ rest) e n =
     let both = and_parts (is_calm_act strange true a) (is_calm strange true rest) e in
     let none = or_parts (is_correct a) (corrects rest) n in
-    let here = still-calm strange a both.0 none.0 in
-    rw here (calm_still strange rest both.1 none.1)
+    rw (still-calm strange a both.0 none.0) (calm_still strange rest both.1 none.1)
 
 module _ {S : Bool → ℕ → Past → Type 0} (family : Family S) where
   -- calm acts elsewhere that don't move the clock

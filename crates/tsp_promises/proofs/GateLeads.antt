@@ -212,8 +212,7 @@ takes-message-lead q from m = record {
 
 no-date : (t : Taken) → is_message t ≡ false → dates_by t ≡ false
 no-date (Good (Message m)) e = absurd (true≢false e)
-no-date (Good (Stamp z)) e = refl
-no-date (Bad fault) e = refl
+no-date _ e = refl
 
 -- a stamp, or octets that are no datagram
 takes-stamp-lead : (q : Port) (from : Place) (t : Taken) → is_message t ≡ false → LeadsAll (λ x past. (q.0 < length past.ports) × AllPorts (λ r. Open) x past) (on q (takes true true from t)) (AllPorts (λ r. Ended))

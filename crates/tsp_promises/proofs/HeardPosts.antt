@@ -1,7 +1,7 @@
 -- What a node's step has taken from a peer, on whatever port, is what that peer posted.
 use Rattle.std.proofs.Common.{sym, ap, subst, subst₂, inl, inr, ◌∙◌, ◌≡◌, List, [], ◌∷◌, Some, refl}
 use Rattle.tsp_rules.specs.Values.{Act, Took, Post, Datagram, Good, PeerId, Peer}
-use Rattle.tsp_base.specs.Words.{Cause, Booted, Turned, Came, Handed, Step, Deed, Begins, Acts, Line, of, dids, Within, Received, taken_after, heard, peer_of, posted}
+use Rattle.tsp_base.specs.Words.{Cause, Came, Handed, Step, Deed, Begins, Acts, Line, of, dids, Within, Received, taken_after, heard, peer_of, posted}
 use Rattle.tsp_promises.specs.Fits.{Fits, SameStep, TookFits, node_of}
 use Rattle.tsp_promises.proofs.{EverywhereLemmas.Everywhere-at, HistoryPlaces.lift, Locating.fits_in, OwnFitsProof.own_fits}
 use Rattle.tsp_base.proofs.PlaceLemmas.{Within-through, Within-tail}
@@ -41,8 +41,6 @@ pub record HeardPost (l : Line) (world : List Line) (from : PeerId) (datagram : 
 
 heard-by : (setting : Setting) (l x : Line) (world rest : List Line) (from : PeerId) (datagram : Datagram) (cause : Cause) → x.did.step ≡ l.did.step → cause ≡ l.did.step.cause → Within (x ∷ rest) world → HonestAt x rest →
     x.did.deed ≡ Acts (Took (Peer from) (Good datagram)) → TookFits cause setting x rest (Peer from) (Good datagram) → HeardPost l world from datagram
-heard-by setting l x world rest from datagram (Booted word wall) step is w h deed f = absurd f
-heard-by setting l x world rest from datagram Turned step is w h deed f = absurd f
 heard-by setting l x world rest from datagram Handed step is w h deed f = absurd (h (ap (λ (s : Step). s.cause) step ∙ sym is) from (Good datagram) deed)
 heard-by setting l x world rest from datagram (Came k) step is w h deed f =
     let node : node_of x ≡ node_of l = ap (λ (s : Step). s.node) step in
@@ -55,6 +53,7 @@ heard-by setting l x world rest from datagram (Came k) step is w h deed f =
       deed = subst₂ (λ n d. f.post.did.deed ≡ Acts (Post (Peer (peer_of n)) d)) node (sym same) f.deed;
       node = sym (same-place from (peer_of (node_of f.post)) f.from_is);
     }
+heard-by setting l x world rest from datagram _ step is w h deed f = absurd f
 
 -- an act comes after its step's Took
 pub heard_post : (setting : Setting) (l : Line) (world : List Line) (a : Act) (from : PeerId) (datagram : Datagram) → Fits setting (l ∷ world) → Honest (l ∷ world) → l.did.deed ≡ Acts a →

@@ -4,7 +4,7 @@ use Rattle.std.proofs.lemmas.Bool.{and_parts, and_right, not-true}
 use Rattle.tsp_promises.proofs.{Elsewheres.rests_family, Elsewheres.Family, AlarmTable.due_alarms_lead, CorrectionLeads.due_sends_lead}
 use Rattle.tsp_promises.proofs.{Known.RestsIn, Known.Fresh, Known.Open, Changes.open_of}
 use Rattle.tsp_promises.specs.StepFacts.{is_quit, quit_by, unless_starting, unheeded, unheeded_after}
-use Rattle.tsp_rules.specs.Values.{Act, Boot, Took, Quit, Message, Stamp, Taken, Good, Bad, Kind, QuitKind, PeerId, Place, Peer, Stranger, Role, Starting, Loose, Follow, Candidate, Master}
+use Rattle.tsp_rules.specs.Values.{Act, Boot, Took, Quit, Message, Taken, Good, Kind, QuitKind, PeerId, Place, Peer, Stranger, Role, Starting, Candidate, Master}
 use Rattle.tsp_rules.specs.Answers.{due_alarms, says_in, peer_says, from_peer, handles_kind, handles, takes, Given, Turn, Got, input_row, answers}
 use Rattle.tsp_rules.specs.{CandidateRows.candidate_takes, CandidateRows.candidate_takes_kind, SendRows.due_sends, CommonRows.quits}
 use Rattle.tsp_rules.specs.RoundRows.{abandons_going, corrects, upsetting}
@@ -50,10 +50,9 @@ took_quit (Some r) = is_quit_in (message_in r.taken)
 
 -- nor is anything to be heeded where none was
 unquit-taken : (peers : List PeerId) (n : ℕ) (from : Place) (t : Taken) → is_quit_in (message_in t) ≡ false → quit_by peers n (said_by from (message_in t)) ≡ None
-unquit-taken peers n from (Bad fault) none = said-none peers n from
-unquit-taken peers n from (Good (Stamp s)) none = said-none peers n from
 unquit-taken peers n Stranger (Good (Message m)) none = refl
 unquit-taken peers n (Peer p) (Good (Message m)) none = rw none refl
+unquit-taken peers n from _ none = said-none peers n from
 
 unquit-deed : (peers : List PeerId) (n : ℕ) (deed : Deed) (r : Role) (took : Option Received) (was : Option PeerId) → (took_quit took ≡ false → was ≡ None) → took_quit (taken_after deed took) ≡ false → unheeded_after peers n deed r was ≡ None
 unquit-deed peers n Begins r took was h none = refl
@@ -77,10 +76,9 @@ quit-kind _ e = absurd (true≢false (sym e))
 says-quit : (p : PeerId) (m : MessageValue) (r : Role) → m.kind ≡ QuitKind → is_starting_role r ≡ false → says_in p m r ≡ quits p m.number
 unfolding says_in slave_takes candidate_takes master_takes slave_takes_kind candidate_takes_kind master_takes_kind
 says-quit p m Starting e s = absurd (true≢false s)
-says-quit p m Loose e s = ap (slave_takes_kind p m) e
-says-quit p m (Follow q) e s = ap (slave_takes_kind p m) e
 says-quit p m Candidate e s = ap (candidate_takes_kind p m) e
 says-quit p m Master e s = ap (master_takes_kind p m) e
+says-quit p m _ e s = ap (slave_takes_kind p m) e
 
 quits-begin : (p : PeerId) (number x : ℕ) (past : Past) → (rest : List Act) × (quits p number x past ≡ Quit p ∷ rest)
 unfolding quits ◌followed_by◌ puts
@@ -129,19 +127,17 @@ handled steer charge from t x past left = by_taken from t left calmly where
 
   by_taken : (from : Place) (t : Taken) → unheeded past.peers past.seen ≡ unless_starting (role past.seen) (quit_by past.peers past.step.node (said_by from (message_in t))) →
       (unheeded past.peers past.seen ≡ None → Heeds x (grown x past (handles steer charge from t x past))) → Heeds x (grown x past (handles steer charge from t x past))
-  by_taken from (Bad fault) left calm = calm (left ∙ none-starting (role past.seen) _ (said-none past.peers past.step.node from))
-  by_taken from (Good (Stamp s)) left calm = calm (left ∙ none-starting (role past.seen) _ (said-none past.peers past.step.node from))
   by_taken Stranger (Good (Message m)) left calm = calm (left ∙ none-starting (role past.seen) None refl)
   by_taken (Peer p) (Good (Message m)) left calm = by_kind p m left calm (is_quit m.kind) refl
+  by_taken from _ left calm = calm (left ∙ none-starting (role past.seen) _ (said-none past.peers past.step.node from))
 
 -- what seems to come from the port itself
 own-said : (peers : List PeerId) (n : ℕ) (from : Place) (x : ℕ) (past : Past) (m : Taken) → past.own.0 ≡ n → is_own from x past ≡ true → quit_by peers n (said_by from (message_in m)) ≡ None
-own-said peers n from x past (Bad fault) is e = said-none peers n from
-own-said peers n from x past (Good (Stamp s)) is e = said-none peers n from
 own-said peers n Stranger x past (Good (Message m)) is e = refl
 own-said peers n (Peer p) x past (Good (Message m)) is e =
     let same : (p.0 == n) ≡ true = subst (λ k. (p.0 == k) ≡ true) is e in
     ap (λ b. if is_quit m.kind && (is_among p peers && not b) then Some p else None) same ∙ ap (λ b. if b then Some p else None) (and_right (is_quit m.kind) (is_among p peers && false) (and_right (is_among p peers) false refl))
+own-said peers n from x past _ is e = said-none peers n from
 
 -- a datagram is taken
 pub takes_heed : (steer charge : Bool) (from : Place) (t : Taken) (x : ℕ) (past : Past) → past.own.0 ≡ past.step.node → Heeds x (grown x past (takes steer charge from t x past))

@@ -133,7 +133,6 @@ ActsOk strict step (p ∷ rest) h = ActOk strict step p.port p.act h × ActsOk s
 
 pub alive-of : (strict : Bool) (step : Step) (port : Port) (a : Act) (h : List Line) → ActOk strict step port a h → Alive (still strict) (Acts a) (line_of step step.at port (Acts a)).did (up (dids (of step.node h)))
 alive-of strict step port Boot h ok = ok
-alive-of strict step port (Took from taken) h ok = ok.0
 alive-of strict step port _ h ok = ok.0
 
 same-took : (f g : Place) (t u : Taken) → Acts (Took f t) ≡ Acts (Took g u) → (f ≡ g) × (t ≡ u)

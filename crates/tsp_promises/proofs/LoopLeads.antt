@@ -10,7 +10,7 @@ use Rattle.tsp_promises.proofs.Known.{Open, OpenIn, Free, During, Ended}
 use Rattle.tsp_promises.proofs.{PostLeaves.post_message, PortLists.Ranged, PortLists.Others, PortLists.other_ranged, PortLists.other_others}
 use Rattle.tsp_promises.proofs.{AlarmLeads.master_rested, TakenLeads.rests_of, TakenLeads.wake_role, TakenLeads.master_awake}
 use Rattle.tsp_promises.proofs.{CommonLeads.arms_elect_during, Elsewheres.open_family, Elsewheres.kept_aside, Elsewheres.calm_bootless}
-use Rattle.tsp_rules.specs.Values.{Took, Post, Become, Message, Taken, Good, LoopKind, Body, Nothing, TimeBody, Hops, PeerId, Place, Peer, Stranger, Port, Starting, Loose, Probe, CloseAlarm}
+use Rattle.tsp_rules.specs.Values.{Took, Post, Become, Message, Taken, Good, LoopKind, Body, Hops, PeerId, Place, Peer, Stranger, Port, Starting, Loose, Probe, CloseAlarm}
 use Rattle.tsp_rules.{specs.CandidateRows.yields, specs.CommonRows.arms_elect, specs.SendRows.is_kind_election, proofs.FewActs.is_calm}
 use Rattle.tsp_rules.{specs.Guards.is_master_at, specs.Guards.is_starting_role, proofs.BuiltGate.built_loosens_master}
 use Rattle.tsp_rules.specs.GateRows.{other_ports, hops_in, same_name, PassOver, GiveUp, Forward, one_hop_less, repost, reposts, is_awake_on, reposts_on, loosens_master, forwards, takes_loop_step, hears_on, judges, heeds_loop, takes_loop, loop_to, sends_loops, is_last_probe}
@@ -81,11 +81,10 @@ loop_ends {past = past} from m kind h = (rests_of h, unquit_heeds past.peers pas
 -- names
 name-same : (a b : List ℕ) → same_name a b ≡ true → a ≡ b
 name-same [] [] e = refl
-name-same [] (b ∷ theirs) e = absurd (true≢false (sym e))
-name-same (a ∷ mine) [] e = absurd (true≢false (sym e))
 name-same (a ∷ mine) (b ∷ theirs) e =
     let both = and_parts (a == b) (same_name mine theirs) e in
     ap (λ k. k ∷ mine) (eqb-true a b both.0) ∙ ap (λ rest. b ∷ rest) (name-same mine theirs both.1)
+name-same _ _ e = absurd (true≢false (sym e))
 
 name-own : (a : List ℕ) → same_name a a ≡ true
 name-own [] = refl
@@ -96,9 +95,8 @@ name-other a b e is = true≢false (sym (name-own a) ∙ ap (same_name a) is ∙
 
 -- hops
 hops-are : (b : Body) → nat_le 1 (hops_in b) ≡ true → b ≡ Hops ((hops_in b - 1) + 1)
-hops-are Nothing e = absurd (true≢false (sym e))
-hops-are (TimeBody t) e = absurd (true≢false (sym e))
 hops-are (Hops n) e = let some = leb-true 1 n e in ap Hops (omega (arith, some))
+hops-are _ e = absurd (true≢false (sym e))
 
 -- a master gives up for its own LOOP that came back
 record GivesUp (p : PeerId) (m : MessageValue) (x : ℕ) (past : Past) : Type 0 where
@@ -236,13 +234,11 @@ judges-all q p m x past kind h = by_case (nat_le 2 (length past.ports)) (same_na
 
   by_case : (two same : Bool) → same_name m.name past.name ≡ same → (lower : Bool) → nat_lt m.number q.0 ≡ lower → (hops : Bool) → (nat_le 1 (hops_in m.body) && nat_le (hops_in m.body) 10) ≡ hops →
       AllPorts (λ r. Ended) x (spread x past (takes_loop_step q (if two then (if same then (if lower then GiveUp else PassOver) else (if hops then Forward (one_hop_less m) else PassOver)) else PassOver) x past))
-  by_case false same s lower l hops o = over
   by_case true true s true l hops o = gives-up-all q p m x past kind (name-same m.name past.name s) (ltb-true m.number q.0 l) h
-  by_case true true s false l hops o = over
   by_case true false s lower l true o =
       let both = and_parts (nat_le 1 (hops_in m.body)) (nat_le (hops_in m.body) 10) o in
       forwards-all q p m x past (record { kind = kind; other = name-other m.name past.name s; some = both.0; few = leb-true (hops_in m.body) 10 both.1 }) h
-  by_case true false s lower l false o = over
+  by_case _ _ s _ l _ o = over
 
 heeds-all : (q : Port) (from : Place) (m : MessageValue) (x : ℕ) (past : NodePast) → m.kind ≡ LoopKind → TookLoop q from m x past → (b : Bool) → hears_on from q x past ≡ b → AllPorts (λ r. Ended) x (spread x past (heeds_loop q m b x past))
 unfolding heeds_loop nothing_at_all

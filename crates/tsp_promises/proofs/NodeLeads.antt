@@ -123,9 +123,8 @@ setup-ran (h ∷ before) past q = setup-ran before past q
 all-ran : (past : NodePast) (n : ℕ) (hs : List NodeHappening) → past.lines ≡ [] → ((q : Port) → q.0 < length past.ports → (port_setup q past).own.0 ≡ n) → NodeOrdered n (length past.ports) hs → AllPorts (λ r. Ended) (node_tick hs) (node_ran hs past)
 all-ran past n [] e own o = λ r has. subst (λ l. Ended 0 (on_port r (record past { lines = l }))) (sym e) (nothing-done 0 (on_port r past))
 all-ran past n (h ∷ before) e own o =
-    let now = node_ran before past in
     let same = ports-ran before past in
-    given-on h.makes (node_tick before) h.tick h.step now o.0
+    given-on h.makes (node_tick before) h.tick h.step (node_ran before past) o.0
     (λ q has. ap (λ ports. (port_setup q (record past { ports = ports })).own.0) same ∙ own q (subst (λ ports. q.0 < length ports) same has) ∙ sym o.1)
     (subst (λ ports. IsGivenOn (length ports) h.makes) (sym same) o.2)
     (all-ran past n before e own o.3)

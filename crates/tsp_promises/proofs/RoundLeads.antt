@@ -33,7 +33,6 @@ rings_window x past h timely =
     let c = h.0.knows.vote.windows due.at due.is in
     let s = h.0.knows.vote.stands c.stands in
     let long = s.0 in
-    let at_is = c.at_is in
     record {
       free = ring_window (omega (arith, long)) h.0;
       stands = c.stands;
@@ -44,7 +43,7 @@ rings_window x past h timely =
         start = c.start;
         idle = c.idle;
         start_is = c.start_is;
-        soon = omega (arith, at_is, met);
+        soon = omega (arith, c.at_is, met);
         backs = c.back_is ∙ ap (λ n. Some (c.start.tick, peer_of n)) h.0.own;
         wins = λ strict. enough past.strict (length past.peers) (length (backers past.seen)) strict won;
       };
@@ -114,9 +113,7 @@ record PutOff (x : ℕ) (past : Past) : Type 0 where
 round_spaced : (x : ℕ) (past : Past) → Due Round x past → (start : Did) (idle : List Seen) → started past.seen ≡ Here start ∷ idle → start.tick + ROUND ≤ x
 round_spaced x past h start idle e =
     let due = due_is (armed past.seen).round x h.1 in
-    let long = h.0.knows.times.next due.at due.is start idle e in
-    let over = due.over in
-    omega (arith, long, over)
+    omega (arith, h.0.knows.times.next due.at due.is start idle e, due.over)
 
 -- Round is armed anew, for later than now
 arms_later : (long : ℕ) (x : ℕ) (past : Past) → Spaced x past → Spaced x (grown x past (Arm Round (x + long) ∷ []))

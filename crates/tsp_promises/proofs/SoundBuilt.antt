@@ -73,9 +73,7 @@ zero-sum s n e low high =
 mean-cases : (g : Group) (n : ℕ) → g.count ≡ n → IsNearGroup g → (negsuc 1073741823999999 ≤ℤ mean_of g) × (mean_of g ≤ℤ pos 1073741823999999)
 mean-cases g zero e n =
     let count : pos g.count ≡ pos 0 = ap pos e in
-    let low = n.low in
-    let high = n.high in
-    let none : g.sum ≡ pos 0 = zero-sum g.sum g.count e low high in
+    let none : g.sum ≡ pos 0 = zero-sum g.sum g.count e n.low n.high in
     subst (λ z. (negsuc 1073741823999999 ≤ℤ floor_div z g.count) × (floor_div z g.count ≤ℤ pos 1073741823999999)) (sym none)
     (subst (λ k. (negsuc 1073741823999999 ≤ℤ floor_div (pos 0) k) × (floor_div (pos 0) k ≤ℤ pos 1073741823999999)) (sym e) (omega (arith, ints), omega (arith, ints)))
 mean-cases g (suc n) e near =

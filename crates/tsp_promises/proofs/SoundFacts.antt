@@ -1,7 +1,7 @@
 -- What the facts of a sound past hand on is sound.
 use Rattle.std.proofs.Common.{subst, arith, rules, ◌≡◌, ◌<◌, ℕ, ◌==◌, Bool, true, false, cond, int_lt, List, [], ◌∷◌, Option, None, Some, sym, ◌^◌, ◌+◌, ℤ, refl}
 use Rattle.std.proofs.{lemmas.Int.ints, Math.Nat.mod-lt, lemmas.Bool.and_parts}
-use Rattle.tsp_rules.specs.Values.{Boot, Took, Post, Become, Arm, Sample, Acked, Gave, CloseAlarm, Message, Stamp, Taken, Good, Bad, Body, Nothing, TimeBody, Hops, PeerId, Peer, Follow, Act, Alarm, Kind, SetTime, Place}
+use Rattle.tsp_rules.specs.Values.{Boot, Took, Post, Become, Arm, Sample, Acked, Gave, CloseAlarm, Message, Stamp, Taken, Good, Bad, Body, Nothing, TimeBody, PeerId, Peer, Follow, Act, Alarm, Kind, SetTime, Place}
 use Rattle.tsp_rules.specs.ClockRows.{adjusts, sets}
 use Rattle.tsp_rules.specs.{CommonRows.posts_reply, CommonRows.replies, SendRows.may_correct, SendRows.may_set, SendRows.begins_settime}
 use Rattle.tsp_rules.specs.{RoundRows.asks, Guards.ticket_at, Guards.target_at, Guards.is_clock_value, Guards.is_in_range}
@@ -129,9 +129,8 @@ estimate_sound p seen s = estimate-of (best p seen) (best_sound p seen s)
 
 -- the time that a message carries is one
 pub time_sound : (b : Body) → IsSoundBody b → IsMicros (time_in b)
-time_sound Nothing h = record { low = omega (arith, ints); high = omega (arith, ints) }
-time_sound (Hops n) h = record { low = omega (arith, ints); high = omega (arith, ints) }
 time_sound (TimeBody t) h = h
+time_sound _ h = record { low = omega (arith, ints); high = omega (arith, ints) }
 
 -- what keeps a port sound: the words that rows are put together with, and single acts
 

@@ -99,6 +99,5 @@ stages-fit strict (suc k) (s ∷ rest) h f e ok =
 
 -- so does what came before them
 pub skip-fits : (strict : Bool) (n : ℕ) (h : List Line) → Fits (still strict) h → Fits (still strict) (skip n h)
-skip-fits strict zero h f = f
-skip-fits strict (suc n) [] f = f
 skip-fits strict (suc n) (l ∷ t) f = skip-fits strict n t f.1
+skip-fits strict _ _ f = f

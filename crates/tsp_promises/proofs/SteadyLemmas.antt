@@ -1,6 +1,6 @@
 -- What corrects a clock and is no date is taken by a follower, which stays one.
 use Rattle.std.proofs.Common.{sym, ap, inl, inr, true≢false, ◌≡◌, ◌⊎◌, ℕ, ◌==◌, ◌||◌, ◌&&◌, ℤ, Bool, true, false, if◌then◌else◌, List, [], ◌∷◌, ◌++◌, refl}
-use Rattle.tsp_rules.specs.Values.{Act, Took, Message, Taken, Good, Kind, AdjTime, Date, DateAck, DateReq, LoopKind, Msite, MsiteReq, SetDate, SetDateReq, SetTime, Test, TraceOff, TraceOn, PeerId, Place, Peer, Stranger, Role, Starting, Loose, Follow, Candidate, Master}
+use Rattle.tsp_rules.specs.Values.{Act, Took, Message, Taken, Good, Kind, AdjTime, Date, DateAck, DateReq, LoopKind, Msite, MsiteReq, SetDate, SetDateReq, SetTime, Test, TraceOff, TraceOn, PeerId, Place, Peer, Stranger, Role, Starting, Follow, Candidate, Master}
 use Rattle.tsp_rules.specs.Answers.{says_in, peer_says, from_peer, handles_kind, is_left, handles, takes}
 use Rattle.tsp_rules.{specs.CandidateRows.candidate_takes, proofs.BuiltAnswers.built_date_acked, specs.MasterRows.master_takes}
 use Rattle.tsp_rules.{proofs.Emits.Sort, proofs.Emits.Moving, proofs.Emits.is_in, specs.ClockRows.adjusts, specs.ClockRows.sets}
@@ -102,10 +102,9 @@ steady-slave p m k = steady-still _ (still-made refl (built_slave_takes_kind p m
 steady-in : (p : PeerId) (m : MessageValue) (r : Role) → Steady Any (says_in p m r)
 unfolding says_in slave_takes candidate_takes master_takes
 steady-in p m Starting = steady-still nothing still-nothing
-steady-in p m Loose = steady-slave p m m.kind
-steady-in p m (Follow q) = steady-slave p m m.kind
 steady-in p m Candidate = steady-still _ (still-made refl (built_candidate_takes p m tt tt))
 steady-in p m Master = steady-still _ (still-made refl (built_master_takes p m tt tt))
+steady-in p m _ = steady-slave p m m.kind
 
 steady-says : (m : MessageValue) (p : PeerId) → Steady Any (peer_says m p)
 unfolding peer_says

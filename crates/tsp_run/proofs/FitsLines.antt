@@ -5,7 +5,7 @@ use Rattle.tsp_promises.proofs.{StepChecks.Empty, StepChecks.far-deed, StepCheck
 use Rattle.tsp_promises.specs.{DeedFits.ActFits, StepFacts.StepEnds, StepFacts.owes}
 use Rattle.tsp_promises.specs.{PortFits.PortFits, Setting.Setting, Setting.setup_of, Fits.Alive, Fits.TookFits, Fits.LineFits, Fits.Fits}
 use Rattle.tsp_rules.specs.Values.{Act, Boot, Took, Post, Placed, Taken, Place, Port}
-use Rattle.tsp_base.specs.Words.{first_port, joined, line_of, Cause, Booted, Turned, Came, Handed, Step, Deed, Begins, Acts, Did, Line, Seen, of, view, seen_as, is_shared, dids, time_of, up, up_after, Within, Setup, posted, posted_after, tick_at}
+use Rattle.tsp_base.specs.Words.{first_port, joined, line_of, Cause, Came, Step, Deed, Begins, Acts, Did, Line, Seen, of, view, seen_as, is_shared, dids, time_of, up, up_after, Within, Setup, posted, posted_after, tick_at}
 use Rattle.tsp_base.proofs.{PlaceLemmas.Within-all, PlaceLemmas.Within-through, ViewPlaces.port-same, ViewPlaces.sees-own}
 use Rattle.tsp_run.specs.Networks.{ports_on}
 
@@ -84,9 +84,7 @@ AllAlive setting step x is_up (p ∷ rest) = Alive setting (Acts p.act) (record 
 taken_more : (setting : Setting) (step : Step) (x : ℕ) (port : Port) (history h : List Line) (from : Place) (t : Taken) → Within history h → (cause : Cause) → step.cause ≡ cause →
     TookFits cause setting (line_of step x port (Acts (Took from t))) history from t → TookFits cause setting (line_of step x port (Acts (Took from t))) h from t
 taken_more setting step x port history h from t w (Came k) is f = record { post = f.post; older = f.older; place = Within-through (f.post ∷ f.older) history h f.place w; number = f.number; datagram = f.datagram; deed = f.deed; net = f.net; from_is = f.from_is; taken_is = f.taken_is }
-taken_more setting step x port history h from t w Handed is f = f
-taken_more setting step x port history h from t w (Booted word wall) is f = f
-taken_more setting step x port history h from t w Turned is f = f
+taken_more setting step x port history h from t w _ is f = f
 
 one_line : (step : Step) (x : ℕ) (port : Port) (deed : Deed) (h : List Line) → of step.node (line_of step x port deed ∷ h) ≡ line_of step x port deed ∷ of step.node h
 one_line step x port deed h = let same : (step.node == step.node) ≡ true = eq-eqb step.node step.node refl in rw same refl
@@ -146,9 +144,7 @@ pub posted-joined : (step : Step) (x : ℕ) (acts : List Placed) (h : List Line)
 posted-joined step x [] h = omega arith
 posted-joined step x (p ∷ rest) h =
     let l = line_of step x p.port (Acts p.act) in
-    let one = posted-mono h (l ∷ h) (inr (Within-all h)) in
-    let more = posted-joined step x rest (l ∷ h) in
-    omega (arith, one, more)
+    omega (arith, posted-mono h (l ∷ h) (inr (Within-all h)), posted-joined step x rest (l ∷ h))
 
 -- all acts of a step
 pub acts_fit : (ports : ℕ) (setting : Setting) (step : Step) (x : ℕ) (history : List Line) (acts : List Placed) (port : Port) (d : Deed) (before : List Line) → x ≡ tick_at (setting.rate step.node) step.at →

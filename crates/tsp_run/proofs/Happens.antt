@@ -66,9 +66,8 @@ module _ {header : HeaderValue} (is : IsHeader header) (history : List Line) (st
   pub boot_few : length (acts_by header history boots_all step) ≤ most
   boot_few =
       let b = boot_acts in
-      let few = b.few in
       let same : length (acts_by header history boots_all step) ≡ length b.rest + 1 = ap (λ l. length l) b.is ∙ omega arith in
-      omega (arith, few, same)
+      omega (arith, b.few, same)
 
   -- nor are a turn's
   pub turn_few : length (acts_by header history (answers_all NodeTurn) step) ≤ most

@@ -140,13 +140,12 @@ pub ports_apart : (nets : List (List ℕ)) (n : ℕ) (q r : Port) → network_of
 ports_apart nets n q r e = by_case (network_at n q nets) refl (network_at n r nets) refl e where
   by_case : (o : Option ℕ) → network_at n q nets ≡ o → (u : Option ℕ) → network_at n r nets ≡ u → named_or (Alone n q.0) o ≡ named_or (Alone n r.0) u → q ≡ r
   by_case None a None b e = port_named q r (cc)
-  by_case None a (Some k) b e = let bad : ⊥ = cc in absurd bad
-  by_case (Some k) a None b e = let bad : ⊥ = cc in absurd bad
   by_case (Some k) a (Some m) b e =
       let same : k ≡ m = cc in
       let first = (on_network n q.0 k 0 0 nets a).port in
       let second = (on_network n r.0 m 0 0 nets b).port in
       port_named q r (some_same (sym first ∙ (ap (λ j. port_from n j 0 0 nets) same ∙ second)))
+  by_case _ a _ b e = let bad : ⊥ = cc in absurd bad
 
 -- where a datagram goes: its addressee has a port on the network of the post
 pub record GoesTo (nets : List (List ℕ)) (from : ℕ) (port : Port) (to : Place) (a : Address) : Type 0 where
@@ -197,6 +196,5 @@ few_ports header is n = by_nets header.nets (is.few_ports n) where
 
 -- no port has more peers than its node wants room for
 pub peers_few : (ports : List PortSetup) (r : ℕ) → length (slice_index_or ports r no_port).peers ≤ room ports
-peers_few [] r = omega arith
-peers_few (s ∷ rest) zero = omega arith
 peers_few (s ∷ rest) (suc r) = let more = peers_few rest r in omega (arith, more)
+peers_few _ _ = omega arith

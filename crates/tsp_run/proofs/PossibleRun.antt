@@ -45,8 +45,7 @@ module _ {header : HeaderValue} (is : IsHeader header) (before : List Event) whe
   few-stepped row step few wide =
       let acts = acts_by header (run header before) row step in
       let same = count-stepped step (step_tick header step) acts (run header before) in
-      let more = few-from step.at step.node acts in
-      omega (arith, same, more, few, wide)
+      omega (arith, same, few-from step.at step.node acts, few, wide)
 
   -- so it is with a step as a run has it
   by-row : (row : NodeRow) (step : Step) → length (posts (joins (Some (stepping header (run header before) row step)) (run header before))) < 2 ^ 64 → length (posts (joins (Some (steps header (run header before) row step)) (run header before))) < 2 ^ 64

@@ -40,7 +40,6 @@ post_more : (l : Line) (before : List Line) (k : ℕ) (p : Posted) → PostAt be
 post_more l before k p a = record { post = a.post; older = a.older; place = inr a.place; number = a.number; deed = a.deed; from = a.from; port = a.port }
 
 by-deed : (l : Line) (before : List Line) (k : ℕ) (p : Posted) → (slice_get (posts before) k ≡ Some p → PostAt before k p) → (deed : Deed) → l.did.deed ≡ deed → slice_get (posts before ++ posted_in l.port l.did.step deed) k ≡ Some p → PostAt (l ∷ before) k p
-by-deed l before k p old Begins is e = post_more l before k p (old (subst (λ s. slice_get s k ≡ Some p) (append-nil (posts before)) e))
 by-deed l before k p old (Acts (Post to datagram)) is e = elim (get-last (posts before) (record { at = l.did.step.at; from = l.did.step.node; port = l.port; to = to; datagram = datagram }) k p e) [
   | inl h ↦ post_more l before k p (old h)
   | inr h ↦ record {
@@ -53,7 +52,7 @@ by-deed l before k p old (Acts (Post to datagram)) is e = elim (get-last (posts 
     port = ap (λ (q : Posted). q.port) h.1;
   }
 ]
-by-deed l before k p old (Acts _) is e = post_more l before k p (old (subst (λ s. slice_get s k ≡ Some p) (append-nil (posts before)) e))
+by-deed l before k p old _ is e = post_more l before k p (old (subst (λ s. slice_get s k ≡ Some p) (append-nil (posts before)) e))
 
 -- the datagram number k was posted somewhere in the history
 pub post_at : (h : List Line) (k : ℕ) (p : Posted) → slice_get (posts h) k ≡ Some p → PostAt h k p

@@ -109,10 +109,8 @@ down-alike s t a None = refl
 down-alike s t a (Some n) = rw a.up refl
 
 actor-alike : (s t : Scene) → Alike s t → (e : Event) → actor s e ≡ actor t e
-actor-alike s t a (BootAt at node word) = refl
-actor-alike s t a (Turn at node) = refl
 actor-alike s t a (Take at k) = rw (a.networks, a.posts) refl
-actor-alike s t a (Bytes at node port from octets) = refl
+actor-alike s t a _ = refl
 
 not_up-alike : (s t : Scene) → Alike s t → (e : Event) → not_up s e ≡ not_up t e
 not_up-alike s t a (BootAt at node word) = refl
@@ -121,10 +119,9 @@ not_up-alike s t a (Take at k) = down-alike s t a (node_in (goes_to s.networks (
 not_up-alike s t a (Bytes at node port from octets) = down-alike s t a (Some node)
 
 no_node-alike : (s t : Scene) → Alike s t → (e : Event) → no_node s e ≡ no_node t e
-no_node-alike s t a (BootAt at node word) = rw a.nodes refl
-no_node-alike s t a (Turn at node) = rw a.nodes refl
 no_node-alike s t a (Take at k) = refl
 no_node-alike s t a (Bytes at node port from octets) = rw (a.nodes, a.networks) refl
+no_node-alike s t a _ = rw a.nodes refl
 
 -- they refuse the same events for the same causes
 pub refusal-alike : (s t : Scene) → Alike s t → (e : Event) → refusal s e ≡ refusal t e

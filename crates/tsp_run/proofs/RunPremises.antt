@@ -11,7 +11,7 @@ use Rattle.tsp_run.proofs.Happens.{boot_acts, steps-are, acts_by, takes-or, taki
 use Rattle.tsp_promises.{proofs.WordsProof.own_words, specs.Everywhere.Everywhere, proofs.EverywhereLemmas.Everywhere-at}
 use Rattle.tsp_promises.specs.{Fits.node_of, Setting.Setting}
 use Rattle.tsp_promises.specs.Premises.{Words, WordsAt, NamesApart, Honest, HonestAt}
-use Rattle.tsp_rules.specs.Values.{Act, Boot, Placed, Event, BootAt, Turn, Take, Bytes, Took, Peer, Stranger}
+use Rattle.tsp_rules.specs.Values.{Act, Boot, Placed, Event, BootAt, Turn, Take, Bytes, Took, Peer}
 use Rattle.tsp_rules.proofs.FewActs.{is_calm_act}
 use Rattle.tsp_rules.specs.{GateRows.boots_all, GateRows.GotOn, GateRows.NodeTurn, GateRows.answers_all, NodeRows.NodeRow}
 use Rattle.tsp_base.specs.Words.{HeaderValue, IsHeader, Acts, Begins, Booted, Cause, Line, Step, first_port, joined, line_of, stepped, Handed, Turned, dids, of, up, Within}
@@ -57,10 +57,7 @@ module _ {header : HeaderValue} (is : IsHeader header) (before : List Event) whe
       let took = of-act HonestAt step (step_tick header step) once.before (record { port = port; act = Took (Peer p) (taken_of octets) }) once.after (line_of step (step_tick header step) first_port Begins ∷ h)
       (subst (λ acts. Honest (joined step (step_tick header step) acts (line_of step (step_tick header step) first_port Begins ∷ h))) once.is all) in
       took.1 refl p (taken_of octets) refl
-  sealed-event (Bytes at node port Stranger octets) none honest = tt
-  sealed-event (BootAt at node word) none honest = tt
-  sealed-event (Turn at node) none honest = tt
-  sealed-event (Take at k) none honest = tt
+  sealed-event _ none honest = tt
 
 pub honest-sealed : (header : HeaderValue) (events : List Event) → Possible header events → Honest (run header events) → Sealed events
 honest-sealed header [] p h = tt
@@ -95,9 +92,7 @@ all-otherwise header is (e ∷ before) word whole k other = (of-event e k, all-o
   of-event (BootAt at node w) k =
       let b = booted-by header is at node w (run header before) in
       other w (record { line = b.line; older = b.older; place = k (b.line ∷ b.older) b.place; boots = b.boots; wall = b.wall; cause = b.cause })
-  of-event (Turn at node) k = tt
-  of-event (Take at d) k = tt
-  of-event (Bytes at node port from octets) k = tt
+  of-event _ k = tt
 
 module _ {header : HeaderValue} (is : IsHeader header) (before : List Event) where
   apart-event : (e : Event) → Words (run header (e ∷ before)) → IsApart e before
@@ -112,9 +107,7 @@ module _ {header : HeaderValue} (is : IsHeader header) (before : List Event) whe
       subst (λ acts. Words (stepped step x acts h)) b.is (subst (λ (k : Happening). Words (joins (Some k) h)) (steps-are header h boots_all step) words) in
       let here : WordsAt boot (mark ∷ h) = (before-joined WordsAt step x b.rest (boot ∷ (mark ∷ h)) all).0 in
       all-otherwise header is before word h (λ s w. w) (λ v o. here o.line o.older v word _ o.wall (inr o.place) refl o.boots refl o.cause)
-  apart-event (Turn at node) words = tt
-  apart-event (Take at k) words = tt
-  apart-event (Bytes at node port from octets) words = tt
+  apart-event _ words = tt
 
 pub words-apart : (header : HeaderValue) (events : List Event) → Possible header events → Words (run header events) → Apart events
 words-apart header [] p w = tt
@@ -189,9 +182,7 @@ other-cause word (BootAt at node w) cause v y f c is same =
     let own = c.1 in
     let first : w ≡ v = cc in
     f (first ∙ same)
-other-cause word (Turn at node) cause v y f c is same = let no : ⊥ = cc in no
-other-cause word (Take at k) cause v y f c is same = let no : ⊥ = cc in no
-other-cause word (Bytes at node port from octets) cause v y f c is same = let no : ⊥ = cc in no
+other-cause word _ cause v y f c is same = let no : ⊥ = cc in no
 
 -- where no event boots with this word, no line of the run does
 other-words : (header : HeaderValue) (events : List Event) (word : ℕ) → AllBootOtherwise word events → Everywhere (OtherWord word) (run header events)

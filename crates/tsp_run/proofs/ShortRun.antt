@@ -1,8 +1,8 @@
 -- Where few datagrams are posted, no port begins many sends.
 use Rattle.std.proofs.Common.{arith, length-append, subst, sym, true≢false, ◌≡◌, ◌<◌, ◌≤◌, nat_le, ℕ, ◌+◌, ◌==◌, ◌&&◌, ◌||◌, Bool, true, false, if◌then◌else◌, List, [], ◌∷◌, length, refl}
 use Rattle.std.proofs.lemmas.Bool.{le-leb}
-use Rattle.tsp_rules.specs.Values.{Boot, Post, Message, Stamp, Kind, Ack, Conflict, DateAck, Election, QuitKind, SetDateReq, PeerId, Place, Peer, Stranger, Port}
-use Rattle.tsp_base.specs.Words.{MessageValue, Setup, Acts, Begins, Deed, Did, Line, Seen, Here, Elsewhere, is_shared, of, seen_as, view, acting, begun, begun_after, has_own_number}
+use Rattle.tsp_rules.specs.Values.{Boot, Post, Message, Kind, Ack, Conflict, DateAck, Election, QuitKind, SetDateReq, PeerId, Place, Peer, Stranger, Port}
+use Rattle.tsp_base.specs.Words.{MessageValue, Setup, Acts, Deed, Did, Line, Seen, Here, Elsewhere, is_shared, of, seen_as, view, acting, begun, begun_after, has_own_number}
 use Rattle.tsp_promises.specs.DeedFits.{DeedFits, MessageFits, PostFits, StrangerFits}
 use Rattle.tsp_promises.specs.{Everywhere.Everywhere, Fits.Fits, Fits.node_of, PortFits.PortFits, Premises.Few}
 use Rattle.tsp_promises.{proofs.PortFits.port_fits, specs.Setting.Setting, specs.Setting.setup_of}
@@ -14,11 +14,9 @@ one_if false n m le = omega (arith, le)
 
 -- a deed begins no more sends than it posts datagrams
 begins-posts : (l : Line) (begins : Bool) (deed : Deed) (n m : ℕ) → n ≤ m → begun_after deed begins n ≤ m + length (posted_in l.port l.did.step deed)
-begins-posts l begins Begins n m le = omega (arith, le)
 begins-posts l begins (Acts Boot) n m le = omega arith
 begins-posts l begins (Acts (Post to (Message k))) n m le = one_if (has_own_number k.kind && begins) n m le
-begins-posts l begins (Acts (Post to (Stamp s))) n m le = omega (arith, le)
-begins-posts l begins (Acts _) n m le = omega (arith, le)
+begins-posts l begins _ n m le = omega (arith, le)
 
 seen-posts : (l : Line) (here : Bool) (before : List Seen) (m : ℕ) → begun before ≤ m → begun (seen_as here l.did ∷ before) ≤ m + length (posted_in l.port l.did.step l.did.deed)
 seen-posts l true before m le = begins-posts l (acting before) l.did.deed (begun before) m le
@@ -72,10 +70,8 @@ count-post true false number n k large le = more (nat_le 32768 number) where
 count-post true true number n k large le = subst (λ b. n + 1 ≤ (if b then k + 1 else k)) (sym (le-leb 32768 number (large refl))) (omega (arith, le))
 
 begins-own : (setup : Setup) (d : Did) (before : List Seen) (deed : Deed) → DeedFits setup deed d before → begun before ≤ own_posts before → begun_after deed (acting before) (begun before) ≤ own_posts_after deed (own_posts before)
-begins-own setup d before Begins f le = le
 begins-own setup d before (Acts Boot) f le = omega arith
 begins-own setup d before (Acts (Post to (Message m))) f le = count-post (has_own_number m.kind) (acting before) m.number (begun before) (own_posts before) (λ own. number-posted setup to d before m own f.fits) le
-begins-own setup d before (Acts (Post to (Stamp s))) f le = le
 begins-own setup d before _ f le = le
 
 own-begun : (setup : Setup) (seen : List Seen) → PortFits setup seen → begun seen ≤ own_posts seen
@@ -88,5 +84,4 @@ pub own-few : (setting : Setting) (h : List Line) → Fits setting h → Everywh
 own-few setting [] f o = tt
 own-few setting (l ∷ before) f o =
     let few = own-begun (setup_of setting (node_of l) l.port) (view l.port (of (node_of l) (l ∷ before))) (port_fits setting (node_of l) (l ∷ before) f l.port) in
-    let most = o.0 in
-    ((omega (arith, few, most)), own-few setting before f.1 o.1)
+    ((omega (arith, few, o.0)), own-few setting before f.1 o.1)

@@ -1,7 +1,7 @@
 -- What follows for each row over ports from how it is made: it keeps a node sound.
 use Rattle.std.proofs.Common.{sym, subst, arith, append-nil, ◌<◌, ◌≤◌, ◌^◌, ℕ, ◌-◌, ◌==◌, ◌||◌, Bool, true, false, if◌then◌else◌, List, [], ◌∷◌, ◌++◌, length, All, ◌≡◌, ◌&&◌, nat_le, nat_lt, ℤ, refl}
 use Rattle.std.proofs.lemmas.List.Elements.{All-head, All-tail}
-use Rattle.tsp_rules.specs.Values.{Act, Abandon, Placed, Port, Boot, Message, LoopKind, Body, Nothing, TimeBody, Hops, HOPS}
+use Rattle.tsp_rules.specs.Values.{Act, Abandon, Placed, Port, Boot, Message, LoopKind, Body, Hops, HOPS}
 use Rattle.tsp_rules.specs.NodeRows.{NodePast, NodeRow, on_port, spread, nothing_at_all, on, for_ports, abandons_on, stirring, in_node_step, ◌and_then◌, reading_all}
 use Rattle.tsp_rules.{proofs.NodeRowLemmas.view_own, proofs.NodeRowLemmas.spread_append, specs.RoundRows.corrects}
 use Rattle.tsp_rules.proofs.BuiltAll.{BuiltAll, EmptyAll, ForPorts, MoreAll, On, PortsOf, ReadingAll, StirringAll, ThenAll, WhereAll, AnyPort}
@@ -108,9 +108,8 @@ sound_all_built few (MoreAll d le) = sound_all_built few d
 
 -- a LOOP that is passed on
 hops-sound : (b : Body) → IsSoundBody b → hops_in b < 2 ^ 8
-hops-sound Nothing s = omega arith
 hops-sound (Hops h) s = s
-hops-sound (TimeBody t) s = omega arith
+hops-sound _ s = omega arith
 
 less-sound : (m : MessageValue) → m.kind ≡ LoopKind → IsSound (Message m) → IsSound (Message (one_hop_less m))
 unfolding body_fits carries_time carries_hops
