@@ -1,172 +1,320 @@
--- Small histories that break the promises of clocks.
-use Rattle.std.proofs.Common.{sym, ap, arith, subst, inl, inr, true≢false, ◌∙◌, ◌≡◌, ◌≤ℤ◌, Bool, false, ℕ, pos, negsuc, ◌-ℤ◌, nat_abs, List, [], ◌∷◌, refl}
+-- Small histories that break the promises of clocks, of shown values, of chains and of single corrections.
+use Rattle.std.proofs.Common.{sym, ap, arith, subst, inl, inr, true≢false, ◌∙◌, ◌≡◌, ◌≤◌, ◌≤ℤ◌, Bool, true, false, ℕ, ℤ, pos, negsuc, ◌-ℤ◌, nat_abs, List, [], ◌∷◌, refl}
 use Rattle.std.proofs.lemmas.Int.{ints}
-use Rattle.tsp_rules.specs.Values.{Boot, Took, Post, Arm, Ring, Close, Correct, Sample, CloseAlarm, Message, Stamp, Good, AdjTime, TimeBody, PeerId, Peer, Request, Reply}
+use Rattle.tsp_rules.specs.Values.{Boot, Took, Post, Arm, Ring, Close, Correct, Sample, CloseAlarm, Message, Stamp, Good, AdjTime, SetTime, TimeBody, PeerId, Peer, Request, Reply}
 use Rattle.tsp_base.specs.Words.{Booted, Came, Turned, Did, Line, Seen, Here, of, view, MessageValue, Within, peer_of}
-use Rattle.tsp_promises.specs.Agreed.{Agreed, FromRound, MasterAgrees, StayAgreed, UnchangedBut}
-use Rattle.tsp_promises.specs.Relayed.{Relayed}
-use Rattle.tsp_promises.specs.{Broken.Breaks, Broken.ClocksBreak, ClockAt.clock, Fits.node_of, Measured.Measured, Measured.Trips}
-use Rattle.tsp_promises.proofs.{FromRoundBy.from_round-by, StepChecks.port0, WitnessRelay.relay, WitnessUse.reply1, WitnessUse.usual}
 use Rattle.tsp_promises.proofs.Histories.{begins, does, line, msg, skip, skipped, step_at, still}
-use Rattle.tsp_promises.proofs.WitnessFromRounds.{answers, closing, far-from_round, far-close, far-reading, first, first-from_round, near-from_round, near-close, near-correct, near-reading, second-from_round, sounds}
+use Rattle.tsp_promises.proofs.Spots.{Computed, Corrects, but_for, close_begins, corrects-at, estimate-at, sample_of, spot, untouched}
+use Rattle.tsp_promises.proofs.WitnessUse.{first-hop, first-round, reply1, reply2, second-hop, set-by, set-source, set-taking, usual}
+use Rattle.tsp_promises.specs.{Broken.breaks, Broken.ChainsBreak, Broken.ClocksBreak, Broken.ReadingsBreak, Chained.Hop, Chained.Hops}
+use Rattle.tsp_promises.specs.{Agreed.MasterAgrees, Agreed.UnchangedBut, ClockAt.clock, Estimates.Estimate, FirstSet.SetBy, Fits.node_of}
+use Rattle.tsp_promises.proofs.{StepChecks.port0, WitnessChain.far-hop, WitnessChain.near-hop, WitnessChain.near-round, WitnessChain.relay}
+use Rattle.tsp_promises.proofs.ReadingChecks.{read-by, read_at-by, unstepped-by}
+use Rattle.tsp_promises.proofs.FromRoundProof.{reading_of, taking_of}
 
 abbrev reply : ℕ → Line
 reply n = does 10 n Turned (Post (Peer (peer_of 0)) (Stamp (Reply (record { ticket = 0; word = 0; counter = 0; reading = pos 10 }))))
 
-abbrev samples : Line
-samples = does 20 0 (Came 0) (Sample (peer_of 1) 0 (pos 100) (pos 0) 0)
+abbrev measures : Line
+measures = does 20 0 (Came 0) (Sample (peer_of 1) 0 (pos 100) (pos 0) 0)
 
 only-post : (p q : Line) (older : List Line) → Within (p ∷ older) (q ∷ []) → p ∷ older ≡ q ∷ []
 only-post p q older (inl e) = e
 only-post p q older (inr e) = let bad : ⊥ = cc in absurd bad
 
-errs : Breaks (Measured (still false))
-errs = record {
-  world = samples ∷ (reply 1 ∷ []);
-  broken = λ h.
-      let r = h.0 (peer_of 1) 0 (pos 100) (pos 0) 0 refl in
-      let k : pos 100 ≤ℤ pos 0 = subst (λ z. pos (nat_abs (pos 100 -ℤ (clock (still false) 1 z -ℤ clock (still false) 0 z))) ≤ℤ pos 0) (only-post r.post (reply 1) r.older r.place) r.near in
-      omega (arith, ints);
-}
+line-same : (p q : Line) (older : List Line) → p ∷ older ≡ q ∷ [] → p ≡ q
+line-same p q older e = cc
 
 pub turned : (k : ℕ) → Turned ≡ Came k → ⊥
 turned k e = cc
 
-unread : Breaks (Measured (still false))
-unread = record { world = does 20 0 Turned (Sample (peer_of 1) 0 (pos 0) (pos 0) 0) ∷ (reply 1 ∷ []); broken = λ h. turned _ (h.0 (peer_of 1) 0 (pos 0) (pos 0) 0 refl).takes }
-
-misread : Breaks (Measured (still false))
-misread = record {
-  world = samples ∷ (reply 2 ∷ []);
-  broken = λ h.
-      let r = h.0 (peer_of 1) 0 (pos 100) (pos 0) 0 refl in
-      let two : r.post ≡ reply 2 = line-same r.post (reply 2) r.older (only-post r.post (reply 2) r.older r.place) in
-      let k : 2 ≡ 1 = ap (λ (z : Line). node_of z) (sym two) ∙ ap (λ (p : PeerId). p.0) r.from in
-      omega arith;
-} where
-  line-same : (p q : Line) (older : List Line) → p ∷ older ≡ q ∷ [] → p ≡ q
-  line-same p q older e = cc
-
 none-there : (d : Did) (older : List Seen) → [] ≡ Here d ∷ older → ⊥
 none-there d older e = cc
 
-unasked : Breaks Trips
-unasked = record { world = samples ∷ []; broken = λ h. (let t = h.0 (peer_of 1) 0 (pos 100) (pos 0) 0 refl in none-there t.request t.older t.exchange_is) }
-
 abbrev outlives : List Line
 outlives = does 15 0 (Booted 3 (pos 15)) Boot ∷ (does 10 0 Turned (Post (Peer (peer_of 1)) (Stamp (Request 0 0))) ∷ (does 10 0 Turned (Arm CloseAlarm 30) ∷ []))
-
-outlived : Breaks Trips
-outlived = record { world = samples ∷ outlives; broken = λ h. (let t = h.0 (peer_of 1) 0 (pos 100) (pos 0) 0 refl in none-there t.request t.older t.exchange_is) }
 
 -- an ADJTIME of a second to a clock that is 101 behind and a round whose mean is 84 behind
 abbrev misleads : MessageValue
 misleads = msg AdjTime 10 (TimeBody (pos 1000000))
 
-abbrev a1 : List Line
-a1 = does 408000000 0 Turned (Post (Peer (peer_of 1)) (Message misleads)) ∷ (does 408000000 0 Turned (Correct (negsuc 83) false (pos 408000000)) ∷ skip 3 (usual 19))
+abbrev mislead : List Line
+mislead =
+    does 408000400 1 (Came 10) (Took (Peer (peer_of 0)) (Good (Message misleads))) ∷ (begins 408000400 1 (Came 10) ∷
+    (does 408000000 0 Turned (Post (Peer (peer_of 1)) (Message misleads)) ∷ (does 408000000 0 Turned (Correct (negsuc 83) false
+    (pos 408000000)) ∷ skip 3 (usual 19))))
 
-abbrev a2 : List Line
-a2 = does 408000400 1 (Came 10) (Took (Peer (peer_of 0)) (Good (Message misleads))) ∷ (begins 408000400 1 (Came 10) ∷ a1)
+abbrev misled-hop : Hop
+misled-hop = record first-hop { correct = does 408000400 1 (Came 10) (Correct (pos 1000000) false (pos 0)); past = mislead }
 
-abbrev obeys : Line
-obeys = does 408000400 1 (Came 10) (Correct (pos 1000000) false (pos 0))
-
-misled-from_round : FromRound 0 closing (skip 4 (usual 19)) obeys a2 sounds (skip 1 (usual 15)) (pos 401)
-misled-from_round =
-    from_round-by 0 closing (skip 4 (usual 19)) obeys a2 sounds (skip 1 (usual 15)) (does 408000000 0 Turned (Post (Peer (peer_of 1)) (Message misleads))) (skip 1 a1) misleads (pos 1000000) false (pos 0)
-    (record { counter = 0; diff = negsuc 100; err = pos 401; ticket = 10; trip = pos 801; place = view port0 (of 0 (usual 17)) })
-    (record { correct = refl; place = skipped 2 a2; cause = refl; deed = refl; took = refl; node = refl; kind = refl; numbered = refl; is = refl })
-    (record { closes = skipped 4 a2; node = refl; port = refl; is = refl; best_is = refl })
-    (record { line = does 400000801 0 (Came 8) (Sample (peer_of 1) 0 (negsuc 100) (pos 401) 10); before = skip 1 (usual 17); at = skipped 10 a2; node = refl; port = refl; is = refl; reads = skipped 5 (skip 1 (usual 17)); takes = refl; to = Peer (peer_of 0); datagram = Stamp (Reply reply1); deed = refl })
-
-misled : Breaks (Agreed (still false))
-misled = record {
-  world = obeys ∷ a2;
-  broken = λ h.
-      let k : pos 1000083 ≤ℤ pos 403 = (h.0.clocks (Correct (pos 1000000) false (pos 0)) refl).master 0 closing (skip 4 (usual 19)) obeys a2 sounds (skip 1 (usual 15)) (pos 401) misled-from_round
-      (record { within = inl refl; since = record { corrects = refl; lives = refl } })
-      (record { lives = refl; corrects = inr (record { next = does 408000000 0 Turned (Correct (negsuc 83) false (pos 408000000)); before = skip 3 (usual 19); is = refl; amount = negsuc 83; stepped = false; shown = pos 408000000; place = skipped 4 (obeys ∷ a2); node = refl; deed = refl; corrects = refl }) }) in
-      omega (arith, ints);
-}
+misled-round : Corrects 0 misled-hop
+misled-round = corrects-at misled-hop (spot 10 mislead refl) (search arith)
 
 -- a follower whose clock moves by five seconds where its ADJTIME says 67
-abbrev pub strays : Bool → Line
-strays stepped = line (step_at 408000500 2 (Came 11)) port0 (Correct (pos 5000000) stepped (pos 0))
+abbrev stray-hop : Bool → Hop
+stray-hop stepped = record second-hop { correct = line (step_at 408000500 2 (Came 11)) port0 (Correct (pos 5000000) stepped (pos 0)) }
 
-abbrev pub stray : Bool → List Line
-stray stepped = strays stepped ∷ skip 2 (usual 21)
+abbrev stray : Bool → List Line
+stray stepped = (stray-hop stepped).correct ∷ second-hop.past
+
+stray-round : (stepped : Bool) → Corrects 0 (stray-hop stepped)
+stray-round stepped = corrects-at (stray-hop stepped) (spot 12 second-hop.past refl) (search arith)
 
 -- the master made no Correct but the one right after its Close
-pub left_alone : (stepped : Bool) → UnchangedBut 0 closing (skip 4 (usual 19)) (stray stepped)
-left_alone stepped = record {
-  lives = refl;
-  corrects = inr (record { next = does 408000000 0 Turned (Correct (negsuc 83) false (pos 408000000)); before = skip 3 (usual 19); is = refl; amount = negsuc 83; stepped = false; shown = pos 408000000; place = skipped 9 (stray stepped); node = refl; deed = refl; corrects = refl });
-}
+left_alone : (stepped : Bool) → UnchangedBut 0 second-hop.close second-hop.cpast (stray stepped)
+left_alone stepped = but_for (spot 9 (stray stepped) refl) refl refl refl refl refl
 
 far-apart : MasterAgrees (still false) (stray false) 408000500 → ⊥
 far-apart m =
-    let k : pos 5000083 ≤ℤ pos 452 = m 0 closing (skip 4 (usual 19)) (strays false) (skip 2 (usual 21)) answers (skip 1 (usual 16)) (pos 450) (second-from_round (pos 5000000) false (pos 0)) (record { within = inl refl; since = record { corrects = refl; lives = refl } }) (left_alone false) in
+    let k : pos 5000083 ≤ℤ pos 452 = m 0 _ _ _ _ _ _ _ (stray-round false) (untouched refl refl refl) (left_alone false) in
     omega (arith, ints)
-
-agreed : Breaks (Agreed (still false))
-agreed = record { world = stray false; broken = λ h. far-apart (h.0.clocks (Correct (pos 5000000) false (pos 0)) refl).master }
-
-peers : Breaks (Agreed (still false))
-peers = record {
-  world = stray false;
-  broken = λ h.
-      let k : pos 4999983 ≤ℤ pos 855 = (h.0.clocks (Correct (pos 5000000) false (pos 0)) refl).peers 0 closing (skip 4 (usual 19)) (strays false) first (skip 2 (usual 21)) (skip 2 (usual 20)) answers sounds (skip 1 (usual 16)) (skip 1 (usual 15)) (pos 450) (pos 401)
-      (second-from_round (pos 5000000) false (pos 0)) first-from_round (record { within = inl refl; since = record { corrects = refl; lives = refl } }) (record { within = skipped 4 (stray false); since = record { corrects = refl; lives = refl } }) in
-      omega (arith, ints);
-}
-
-agreed_before : Breaks (Agreed (still false))
-agreed_before = record {
-  world = does 500000000 2 (Booted 13 (pos 500000000)) Boot ∷ (begins 500000000 2 (Booted 13 (pos 500000000)) ∷ stray false);
-  broken = λ h. far-apart (h.1.1.0.clocks (Correct (pos 5000000) false (pos 0)) refl).master;
-}
-
-stay_agreed : Breaks (StayAgreed (still false))
-stay_agreed = record { world = stray false; broken = λ h. far-apart (h.0 408000500 (omega arith)).master }
 
 abbrev shuts : List Line
 shuts = does 10 0 Turned (Close 1 (pos 0) (pos 0) (pos 0)) ∷ (does 10 0 Turned (Ring CloseAlarm) ∷ [])
 
-unsampled : Breaks (Agreed (still false))
-unsampled = record {
-  world = does 10 0 Turned (Post (Peer (peer_of 1)) (Message (msg AdjTime 5 (TimeBody (pos 1))))) ∷ shuts;
-  broken = λ h. true≢false (sym (h.0.rests (peer_of 1) (msg AdjTime 5 (TimeBody (pos 1))) (does 10 0 Turned (Close 1 (pos 0) (pos 0) (pos 0))).did (view port0 (of 0 (skip 1 shuts))) refl refl refl refl));
-}
+-- a relayed clock that does so
+abbrev wrong-hop : Hop
+wrong-hop = record far-hop { correct = line (step_at 508000400 3 (Came 12)) port0 (Correct (pos 5000000) false (pos 0)) }
 
-abbrev pub relays_wrong : Line
-relays_wrong = line (step_at 508000400 3 (Came 12)) port0 (Correct (pos 5000000) false (pos 0))
+abbrev wrong : List Line
+wrong = wrong-hop.correct ∷ far-hop.past
 
-abbrev pub wrong : List Line
-wrong = relays_wrong ∷ skip 2 (relay 26)
+wrong-round : Corrects 1 wrong-hop
+wrong-round = corrects-at wrong-hop (spot 6 far-hop.past refl) (search arith)
 
-relayed : Breaks (Relayed (still false))
-relayed = record {
-  world = wrong;
-  broken = λ h.
-      let k : pos 5000049 ≤ℤ pos 806 = h.0 508000400 (omega arith) 1 0 far-close near-close (skip 2 (relay 25)) (skip 3 (relay 19)) relays_wrong near-correct (skip 2 (relay 26)) (skip 2 (relay 20)) far-reading near-reading (skip 1 (relay 23)) (skip 1 (relay 17)) (pos 401) (pos 401)
-      (far-from_round (pos 5000000) false (pos 0)) near-from_round refl (skipped 16 (skip 2 (relay 25))) (record { within = inl refl; since = record { corrects = refl; lives = refl } }) (record { within = skipped 21 wrong; since = record { corrects = refl; lives = refl } })
-      (record { lives = refl; corrects = inr (record { next = does 408000000 0 Turned (Correct (negsuc 50) false (pos 408000000)); before = skip 2 (relay 19); is = refl; amount = negsuc 50; stepped = false; shown = pos 408000000; place = skipped 25 wrong; node = refl; deed = refl; corrects = refl }) }) in
-      omega (arith, ints);
-}
+still-led : UnchangedBut 0 near-hop.close near-hop.cpast wrong
+still-led = but_for (spot 25 wrong refl) refl refl refl refl refl
 
 pub clocks_break : ClocksBreak (still false)
 clocks_break = record {
-  errs = errs;
-  unread = unread;
-  misread = misread;
-  unasked = unasked;
-  outlived = outlived;
-  misled = misled;
-  agreed = agreed;
-  peers = peers;
-  agreed_before = agreed_before;
-  unsampled = unsampled;
-  stay_agreed = stay_agreed;
-  relayed = relayed;
+  errs = breaks (measures ∷ (reply 1 ∷ [])) (λ h.
+      let r = h.0 (peer_of 1) 0 (pos 100) (pos 0) 0 refl in
+      let k : pos 100 ≤ℤ pos 0 = subst (λ z. pos (nat_abs (pos 100 -ℤ (clock (still false) 1 z -ℤ clock (still false) 0 z))) ≤ℤ pos 0) (only-post r.post (reply 1) r.older r.place) r.near in
+      omega (arith, ints));
+  unread = breaks (does 20 0 Turned (Sample (peer_of 1) 0 (pos 0) (pos 0) 0) ∷ (reply 1 ∷ []))
+      (λ h. turned _ (h.0 (peer_of 1) 0 (pos 0) (pos 0) 0 refl).takes);
+  misread = breaks (measures ∷ (reply 2 ∷ [])) (λ h.
+      let r = h.0 (peer_of 1) 0 (pos 100) (pos 0) 0 refl in
+      let two : r.post ≡ reply 2 = line-same r.post (reply 2) r.older (only-post r.post (reply 2) r.older r.place) in
+      let k : 2 ≡ 1 = ap (λ (z : Line). node_of z) (sym two) ∙ ap (λ (p : PeerId). p.0) r.from in
+      omega arith);
+  unasked = breaks (measures ∷ []) (λ h. let t = h.0 (peer_of 1) 0 (pos 100) (pos 0) 0 refl in none-there t.request t.older t.exchange_is);
+  outlived = breaks (measures ∷ outlives) (λ h. let t = h.0 (peer_of 1) 0 (pos 100) (pos 0) 0 refl in none-there t.request t.older
+      t.exchange_is);
+  misled = breaks (misled-hop.correct ∷ mislead) (λ h.
+      let k : pos 1000083 ≤ℤ pos 403 = (h.0.clocks (Correct (pos 1000000) false (pos 0)) refl).master 0 _ _ _ _ _ _ _ misled-round
+      (untouched refl refl refl)
+      (but_for (spot 4 (misled-hop.correct ∷ mislead) refl) refl refl refl refl refl) in
+      omega (arith, ints));
+  agreed = breaks (stray false) (λ h. far-apart (h.0.clocks (Correct (pos 5000000) false (pos 0)) refl).master);
+  peers = breaks (stray false) (λ h.
+      let k : pos 4999983 ≤ℤ pos 855 = (h.0.clocks (Correct (pos 5000000) false (pos 0)) refl).peers 0 _ _ _ _ _ _ _ _ _ _ _ _
+      (stray-round false) first-round
+      (untouched refl refl refl) (untouched refl refl refl) in
+      omega (arith, ints));
+  agreed_before = breaks (does 500000000 2 (Booted 13 (pos 500000000)) Boot ∷ (begins 500000000 2 (Booted 13 (pos 500000000)) ∷ stray
+      false))
+      (λ h. far-apart (h.1.1.0.clocks (Correct (pos 5000000) false (pos 0)) refl).master);
+  unsampled = breaks (does 10 0 Turned (Post (Peer (peer_of 1)) (Message (msg AdjTime 5 (TimeBody (pos 1))))) ∷ shuts) (λ h.
+      let close = does 10 0 Turned (Close 1 (pos 0) (pos 0) (pos 0)) in
+      true≢false (sym (h.0.rests (peer_of 1) (msg AdjTime 5 (TimeBody (pos 1))) close.did (view port0 (of 0 (skip 1 shuts))) refl refl
+      refl refl)));
+  stay_agreed = breaks (stray false) (λ h. far-apart (h.0 408000500 (omega arith)).master);
+  relayed = breaks wrong (λ h.
+      let k : pos 5000049 ≤ℤ pos 806 = h.0 508000400 (omega arith) 1 0 _ _ _ _ _ _ _ _ _ _ _ _ _ _ wrong-round near-round refl
+      (skipped 16 (skip 9 (relay 27)))
+      (untouched refl refl refl) (untouched refl refl refl) still-led in
+      omega (arith, ints));
+}
+
+-- a Correct that is slewed, and later ones of 0 at a late tick and back at the first
+abbrev again : ℤ → List Line
+again amount = does 0 0 Turned (Correct (pos 0) false (pos 0)) ∷ (does 100000 0 Turned (Correct (pos 0) false (pos 0)) ∷ (does 0 0 Turned (Correct amount false (pos 0)) ∷ []))
+
+abbrev corrects : ℤ → Bool → ℤ → List Line
+corrects amount stepped shown = does 0 0 Turned (Correct amount stepped shown) ∷ []
+
+pub readings_break : ReadingsBreak (still false)
+readings_break = record {
+  steady = breaks (again (pos 100000)) (λ h.
+      let read = read-by 0 3 (again (pos 100000)) 0 100000 (omega arith) refl (omega arith) (omega arith) in
+      let k : 1000 ≤ 500 = (h.0.ticks 0 [] 0 100000 (unstepped-by 0 3 (again (pos 100000)) refl refl) read).rate in
+      omega arith);
+  waited = breaks (again (negsuc 99999)) (λ h.
+      let read = read_at-by 0 3 (again (negsuc 99999)) 0 100000 (omega arith) refl (omega arith) (omega arith) in
+      let k : pos 99498 ≤ℤ pos 99000 = h.0 0 0 [] 0 100000 (pos 0) (unstepped-by 0 3 (again (negsuc 99999)) refl refl) read
+      (omega (arith, ints)) in
+      omega (arith, ints));
+  agreed_shown = breaks (stray true) (λ h.
+      let k : pos 5000001 ≤ℤ pos 534 = (h.0 408000500 (omega arith)).master 0 _ _ _ _ _ _ _ (stray-round true) (untouched refl refl refl)
+      (left_alone true) in
+      omega (arith, ints));
+  shown_near = breaks (does 0 1 (Booted 9 (pos 1000)) Boot ∷ (does 0 0 (Booted 7 (pos 0)) Boot ∷ []))
+      (λ h. let k : pos 1000 ≤ℤ pos 0 = (h.0 0 1 0 (pos 0) refl refl (omega (arith, ints))).within in omega (arith, ints));
+  falls = breaks (corrects (negsuc 249) false (negsuc 249))
+      (λ h. let k : negsuc 249 ≡ pos 0 = (h.0.prints (negsuc 249) false (negsuc 249) refl).value in omega (arith, ints));
+  leaps = breaks (corrects (pos 250) false (pos 250)) (λ h. let k : pos 250 ≡ pos 0 = (h.0.prints (pos 250) false (pos 250) refl).value in
+      omega (arith, ints));
+  steps = breaks (corrects (pos 250) true (pos 250)) (λ h. true≢false (h.0.prints (pos 250) true (pos 250) refl).flag);
+  slews = breaks (corrects (pos 20000001) false (pos 0)) (λ h. true≢false (sym (h.0.prints (pos 20000001) false (pos 0) refl).flag));
+}
+
+stray-hops : Hops 0 (stray-hop false) (stray false)
+stray-hops = record { from_round = stray-round false; unchanged = untouched refl refl refl }
+
+first-hops : Hops 0 first-hop (stray false)
+first-hops = record { from_round = first-round; unchanged = untouched refl refl refl }
+
+-- samples of nodes 1 and 2, and a round that begins to close
+abbrev sampled : ℤ → ℤ → List Line
+sampled diff err =
+    does 400000801 0 (Came 8) (Sample (peer_of 1) 0 diff err 10) ∷ (does 400000801 0 (Came 8)
+    (Took (Peer (peer_of 1)) (Good (Stamp (Reply reply1)))) ∷
+    (begins 400000801 0 (Came 8) ∷ usual 16))
+
+abbrev closes : List Line → List Line
+closes h = does 408000000 0 Turned (Ring CloseAlarm) ∷ (begins 408000000 0 Turned ∷ h)
+
+abbrev adjusts : MessageValue
+adjusts = msg AdjTime 10 (TimeBody (pos 17))
+
+abbrev adjust : Line
+adjust = does 408000000 0 Turned (Post (Peer (peer_of 1)) (Message adjusts))
+
+abbrev taken : List Line → List Line
+taken h = does 408000400 1 (Came 10) (Took (Peer (peer_of 0)) (Good (Message adjusts))) ∷ (begins 408000400 1 (Came 10) ∷ h)
+
+-- a sample with an error of 5 s, and a round that uses it
+abbrev long : List Line
+long = taken (adjust ∷ (first-hop.close ∷ closes (sampled (negsuc 100) (pos 5000000))))
+
+abbrev long-hop : Hop
+long-hop = record first-hop { cpast = closes (sampled (negsuc 100) (pos 5000000)); past = long; err = pos 5000000 }
+
+long-round : Corrects 0 long-hop
+long-round = corrects-at long-hop (spot 6 long refl) (search arith)
+
+-- another Correct before the one that takes the ADJTIME
+abbrev between-hop : Hop
+between-hop = record first-hop { past = taken (does 408000300 1 Turned (Correct (pos 5) false (pos 0)) ∷ usual 19) }
+
+between-computed : Computed 0 between-hop (spot 12 between-hop.past refl)
+between-computed = search arith
+
+abbrev between-round : Corrects 0 between-hop
+between-round = corrects-at between-hop (spot 12 between-hop.past refl) between-computed
+
+-- another Correct before the one that takes the SETTIME
+abbrev late : List Line
+late =
+    does 305000002 1 (Came 2) (Took (Peer (peer_of 0)) (Good (Message (msg SetTime 9 (TimeBody (pos 305000001)))))) ∷
+    (begins 305000002 1 (Came 2) ∷
+    (does 305000001 1 Turned (Correct (pos 5) false (pos 0)) ∷ usual 8))
+
+-- a clock that is set 100 s back by a SETTIME that says a microsecond
+abbrev sets_wrong : List Line
+sets_wrong = set-by (negsuc 99999999) true (pos 0) ∷ skip 2 (usual 9)
+
+abbrev wrong-set : SetBy 0 (set-by (negsuc 99999999) true (pos 0)) (skip 2 (usual 9)) sets_wrong
+wrong-set = record {
+  taking = set-taking (negsuc 99999999) true (pos 0) (skip 2 (usual 9)) (skipped 2 (skip 2 (usual 9))) refl;
+  sets = refl;
+  unchanged = untouched refl refl refl;
+  unchanged_master = record { corrects = refl; lives = refl };
+}
+
+-- a sample of node 1 that is 9 s off, one of node 2, and a round that uses them
+abbrev off : List Line
+off =
+    closes (does 400000900 0 (Came 9) (Sample (peer_of 2) 1 (negsuc 150) (pos 450) 12) ∷ (does 400000900 0 (Came 9)
+    (Took (Peer (peer_of 2)) (Good (Stamp (Reply reply2)))) ∷
+    (begins 400000900 0 (Came 9) ∷ sampled (pos 9000000) (pos 401))))
+
+off-one : Estimate 0 1 first-hop.close off (sample_of 0 (record first-hop { cpast = off })) first-hop.reading first-hop.older off
+off-one = estimate-at (spot 5 off refl) (search arith) refl refl refl
+
+near-two : Estimate 0 2 first-hop.close off (sample_of 0 (record second-hop { cpast = off })) second-hop.reading second-hop.older off
+near-two = estimate-at (spot 2 off refl) (search arith) refl refl refl
+
+-- a master that moves by 5 s where the mean is -84
+abbrev strayed : List Line
+strayed = does 408000000 0 Turned (Correct (pos 5000000) false (pos 0)) ∷ skip 3 (usual 19)
+
+pub chains_break : ChainsBreak (still false)
+chains_break = record {
+  down = breaks wrong (λ h.
+      let near : Hops 0 near-hop wrong = record { from_round = near-round; unchanged = untouched refl refl refl } in
+      let far : Hops 1 wrong-hop wrong = record { from_round = wrong-round; unchanged = untouched refl refl refl } in
+      let k : pos 5000049 ≤ℤ pos 806 = (h.0 508000400 (omega arith)).down 0 near-hop (wrong-hop ∷ []) near
+      (far, skipped 16 (skip 9 (relay 27)), tt) still-led in
+      omega (arith, ints));
+  across = breaks (stray false) (λ h.
+      let k : pos 4999983 ≤ℤ pos 855 = (h.0 408000500 (omega arith)).across 0 (stray-hop false) first-hop [] [] stray-hops first-hops refl
+      refl tt tt in
+      omega (arith, ints));
+  tree = breaks (stray false) (λ h.
+      let k : pos 4999983 ≤ℤ pos 855 = (h.0 408000500 (omega arith)).tree 0 (stray-hop false) first-hop [] [] stray-hops first-hops
+      (left_alone false) (left_alone false) tt tt in
+      omega (arith, ints));
+  throughout = breaks (stray false) (λ h.
+      let k : pos 5000083 ≤ℤ pos 452 = ((h.0 408000500 (omega arith)).master 0 _ _ _ _ _ _ _ _
+      (record {
+        from_round = stray-round false;
+        within = inl refl;
+        count = 3;
+        lo = negsuc 150;
+        size = pos 151;
+        deed = refl;
+        one_life =
+            refl;
+        one_life_master = refl;
+      })).taken_back in
+      omega (arith, ints));
+  throughout_peers = breaks (stray false) (λ h.
+      let k : pos 4999983 ≤ℤ pos 855 = ((h.0 408000500 (omega arith)).peers 0 _ _ _ _ _ _ _ _ _ _ _ _
+      (record { from_round = stray-round false; within = inl refl; one_life = refl })
+      (record { from_round = first-round; within = skipped 4 (stray false); one_life = refl })).taken_back in
+      omega (arith, ints));
+  -- a Close that begins no ADJTIME
+  estimates_apart = breaks (first-hop.close ∷ off) (λ h.
+      let k : pos 9000151 ≤ℤ pos 855 = h.apart.0 0 1 2 3 (negsuc 150) (pos 151) (negsuc 83) _ _ _ _ _ _ refl refl off-one near-two in
+      omega (arith, ints));
+  master_near = breaks (adjust ∷ strayed) (λ h.
+      let estimate : Estimate 0 1 first-hop.close first-hop.cpast (sample_of 0 first-hop) first-hop.reading first-hop.older
+      (adjust ∷ strayed) = estimate-at (spot 5 first-hop.cpast refl) (search arith) refl refl refl in
+      let k : pos 5000001 ≤ℤ pos 420 = h.near.0 408000000 (omega arith) 0 1 first-hop.close first-hop.cpast (negsuc 83) adjust strayed _ _
+      _ (inl refl)
+      (close_begins refl refl (skipped 1 strayed) refl refl refl refl refl refl) estimate (but_for (spot 1 (adjust ∷ strayed) refl) refl
+      refl refl refl refl) in
+      omega (arith, ints));
+  -- the same, before the first ADJTIME is posted
+  ended_near = breaks strayed (λ h.
+      let estimate : Estimate 0 1 first-hop.close first-hop.cpast (sample_of 0 first-hop) first-hop.reading first-hop.older strayed =
+      estimate-at (spot 5 first-hop.cpast refl) (search arith) refl refl refl in
+      let k : pos 5000001 ≤ℤ pos 420 = h.ended.0 408000000 (omega arith) 0 1 first-hop.close
+      (does 408000000 0 Turned (Correct (pos 5000000) false (pos 0))) first-hop.cpast (pos 5000000) _ _ _ (untouched refl refl refl)
+      (record {
+        count = 3;
+        lo = negsuc 150;
+        size = pos 151;
+        mean = negsuc 83;
+        deed = refl;
+        node = refl;
+        stepped = false;
+        shown = pos 0;
+        correct = refl;
+        correct_node = refl;
+      }) estimate in
+      omega (arith, ints));
+  errs_bounded = breaks (first-hop.correct ∷ long) (λ h. let k : pos 5000000 ≤ℤ pos 4500000 = h.0 0 _ _ _ _ _ long-round in omega
+      (arith, ints));
+  one_error = breaks (first-hop.correct ∷ between-hop.past) (λ h.
+      let k : 1 ≡ 2 = (h.0.by_reading 0 (taking_of between-round refl) _ _ _ _ (reading_of between-round refl)).corrects in
+      omega arith);
+  answered_late = breaks (set-by (negsuc 0) true (pos 305000001) ∷ late) (λ h.
+      let k : 0 ≡ 1 = (h.0.by_slaveup 0 (set-taking (negsuc 0) true (pos 305000001) late (skipped 3 late) refl) _ _
+      (set-source (negsuc 0) true (pos 305000001) late (skipped 3 late) refl (skipped 9 late))).corrects in
+      omega arith);
+  first_set = breaks sets_wrong (λ h. let k : pos 100000000 ≤ℤ pos 2 = (h.0.at_once 0 _ _ wrong-set).high in omega (arith, ints));
+  first_set_soon = breaks sets_wrong (λ h. let k : pos 100000000 ≤ℤ pos 34000001 = h.0 0 _ _ wrong-set in omega (arith, ints));
 }

@@ -1,170 +1,128 @@
--- Small histories that break the promises of rounds.
-use Rattle.std.proofs.Common.{arith, inl, true≢false, ◌≡◌, ◌≤◌, ◌≤ℤ◌, true, ℕ, false, pos, negsuc, List, [], ◌∷◌, refl}
+-- Small histories that break the promises of rounds; and that each promise is broken.
+use Rattle.std.proofs.Common.{arith, inl, true≢false, ◌≡◌, ◌≤◌, ◌≤ℤ◌, true, Bool, ℤ, ℕ, false, pos, negsuc, List, [], ◌∷◌, refl}
 use Rattle.std.proofs.lemmas.Int.{ints}
-use Rattle.tsp_rules.specs.Values.{Took, Post, Close, Correct, Sample, Message, Stamp, Good, AdjTime, TimeBody, Peer, Reply}
+use Rattle.tsp_rules.specs.Values.{Took, Post, Close, Correct, Message, Good, AdjTime, TimeBody, Peer}
 use Rattle.tsp_base.specs.Words.{Came, Turned, Line, MessageValue, peer_of}
-use Rattle.tsp_promises.specs.{Agreed.FromRound, Broken.Breaks, Broken.RoundsBreak, Estimates.Estimate, Estimates.Moves, Seldom.Seldom}
-use Rattle.tsp_promises.specs.Moderate.{Moderate, ModerateClocks, PeerCorrects}
-use Rattle.tsp_promises.proofs.{FromRoundBy.from_round-by, FromRoundProof.taking_of, WitnessFromRounds.sounds}
-use Rattle.tsp_promises.proofs.Histories.{begins, does, msg, skip, skipped, still}
-use Rattle.tsp_promises.proofs.WitnessModerate.{moves-little, moves-own, near-agrees, near-from_round, near-sample, own-agrees, shut-by, small-agrees, outlier}
-use Rattle.tsp_promises.proofs.WitnessUse.{reply1, usual}
+use Rattle.tsp_promises.proofs.Spots.{Computed, Corrects, close_begins, corrects-at, estimate-at, sample_of, spot, untouched}
+use Rattle.tsp_promises.proofs.WitnessRounds.{mild-hop, moves-little, near-agrees, own-agrees, peer-corrects, shut-by, small-agrees}
+use Rattle.tsp_promises.specs.{Broken.breaks, Broken.AllBreak, Broken.RoundsBreak, Chained.Hop, Estimates.Estimate, Estimates.Moves}
+use Rattle.tsp_promises.specs.Moderate.{PeerCorrects}
+use Rattle.tsp_promises.proofs.Histories.{begins, does, msg, skipped, still}
+use Rattle.tsp_promises.proofs.{BrokenClocks.chains_break, BrokenClocks.clocks_break, BrokenClocks.readings_break, FromRoundProof.taking_of}
+use Rattle.tsp_promises.proofs.{BrokenRoles.answers_break, BrokenRoles.roles_break, BrokenSends.sends_break}
 
--- a round that closes with a mean of 300 ms, where it and a peer agree within a millisecond
-abbrev shut : Line
-shut = shut-by (pos 300000)
+-- the Close of a round in which the master and a peer agree within a millisecond, with this mean, and then a Correct
+-- by this amount
+abbrev moved : ℤ → ℤ → Bool → List Line
+moved mean amount steps = does 408000000 0 Turned (Correct amount steps (pos 0)) ∷ (shut-by mean ∷ mild-hop.cpast)
+
+abbrev moves : (mean amount : ℤ) (steps : Bool) → Moves 0 (shut-by mean) (does 408000000 0 Turned (Correct amount steps (pos 0))) amount
+moves mean amount steps = record {
+  count = 2;
+  lo = negsuc 100;
+  size = pos 101;
+  mean = mean;
+  deed = refl;
+  node = refl;
+  stepped = steps;
+  shown = pos 0;
+  correct = refl;
+  correct_node = refl;
+}
 
 abbrev jumps : Line
 jumps = does 408000000 0 Turned (Correct (pos 300000) false (pos 0))
 
 abbrev jumped : List Line
-jumped = jumps ∷ (shut ∷ skip 4 (outlier 4))
+jumped = moved (pos 300000) (pos 300000) false
 
-moves : Moves 0 shut jumps (pos 300000)
-moves = record { count = 2; lo = negsuc 100; size = pos 101; mean = pos 300000; deed = refl; node = refl; stepped = false; shown = pos 0; correct = refl; correct_node = refl }
+-- a follower that steps its clock by 50, where the mean is the round's own
+abbrev stepped-hop : Hop
+stepped-hop = record mild-hop { correct = does 408000400 1 (Came 10) (Correct (pos 50) true (pos 0)) }
 
-mean_far : Breaks (Moderate (still false))
-mean_far = record {
-  world = jumped;
-  broken = λ h. (let k : 300101 ≤ 40000 = (h.0.mean 0 shut (skip 4 (outlier 4)) (pos 300000) (negsuc 100) refl moves (small-agrees (pos 300000) (negsuc 100) (1, omega arith, refl) refl)).moves in omega arith);
-}
+stepped-computed : Computed 0 stepped-hop (spot 14 mild-hop.past refl)
+stepped-computed = search arith
 
-own_far : Breaks (Moderate (still false))
-own_far = record {
-  world = jumped;
-  broken = λ h. (let k : 300000 ≤ 40000 = (h.0.own 0 shut (skip 4 (outlier 4)) (pos 300000) refl moves (own-agrees (pos 300000))).near in omega arith);
-}
+abbrev stepped-round : Corrects 0 stepped-hop
+stepped-round = corrects-at stepped-hop (spot 14 mild-hop.past refl) stepped-computed
 
--- it prints that mean, and moves the clock by -50 microseconds
-abbrev crawls : Line
-crawls = does 408000000 0 Turned (Correct (negsuc 49) false (pos 0))
+abbrev stepped : PeerCorrects (still false) stepped-hop.correct mild-hop.past
+stepped = peer-corrects moves-little (skipped 4 mild-hop.past) (taking_of stepped-round refl) refl refl refl (near-agrees (negsuc 50))
 
-prints_far : Breaks (Moderate (still false))
-prints_far = record {
-  world = crawls ∷ (shut ∷ skip 4 (outlier 4));
-  broken = λ h.
-      let v : Moves 0 shut crawls (negsuc 49) = record { count = 2; lo = negsuc 100; size = pos 101; mean = pos 300000; deed = refl; node = refl; stepped = false; shown = pos 0; correct = refl; correct_node = refl } in
-      let k : 300101 ≤ 40000 = (h.0.mean 0 shut (skip 4 (outlier 4)) (negsuc 49) (negsuc 100) refl v (small-agrees (pos 300000) (negsuc 100) (1, omega arith, refl) refl)).prints in
-      omega arith;
-}
-
--- the same round with its own mean, and a Correct that is stepped
-abbrev steps : Line
-steps = does 408000000 0 Turned (Correct (negsuc 50) true (pos 0))
-
-own_stepped : Breaks (Moderate (still false))
-own_stepped = record {
-  world = steps ∷ (shut-by (negsuc 50) ∷ skip 4 (outlier 4));
-  broken = λ h.
-      true≢false ((h.0.own 0 (shut-by (negsuc 50)) (skip 4 (outlier 4)) (negsuc 50) refl (record { count = 2; lo = negsuc 100; size = pos 101; mean = negsuc 50; deed = refl; node = refl; stepped = true; shown = pos 0; correct = refl; correct_node = refl }) (own-agrees (negsuc 50))).slews);
-}
-
--- and a follower that steps its clock by 50
-abbrev steps-near : Line
-steps-near = does 408000400 1 (Came 10) (Correct (pos 50) true (pos 0))
-
-abbrev stepped-from_round : FromRound 0 (shut-by (negsuc 50)) (skip 4 (outlier 4)) steps-near (skip 2 (outlier 5)) sounds (skip 1 (usual 15)) (pos 401)
-stepped-from_round = near-from_round true (pos 0)
-
-peer_stepped : Breaks (Moderate (still false))
-peer_stepped = record {
-  world = steps-near ∷ skip 2 (outlier 5);
-  broken = λ h. true≢false (h.0.peer (record {
-    m = 0;
-    close = shut-by (negsuc 50);
-    c = moves-own;
-    cpast = skip 4 (outlier 4);
-    amount = negsuc 50;
-    moves = moves-little;
-    ends = skipped 4 (skip 2 (outlier 5));
-    taking = taking_of 0 (shut-by (negsuc 50)) (skip 4 (outlier 4)) steps-near (skip 2 (outlier 5)) sounds (skip 1 (usual 15)) (pos 401) stepped-from_round refl;
-    kind = refl;
-    close_is = refl;
-    port = refl;
-    agrees = near-agrees (negsuc 50);
-  })).little.slews;
-}
-
--- what the peer lacks to that mean
+-- what the peer lacks to a mean of 300 ms
 abbrev drags : MessageValue
 drags = msg AdjTime 10 (TimeBody (pos 300101))
 
 abbrev posts : Line
 posts = does 408000000 0 Turned (Post (Peer (peer_of 1)) (Message drags))
 
-adjtime_far : Breaks (Moderate (still false))
-adjtime_far = record {
-  world = posts ∷ jumped;
-  broken = λ h.
-      let k : 300101 ≤ 40000 = h.0.adjtime 0 shut jumps (skip 4 (outlier 4)) (pos 300000) (pos 300000)
-      (record { count = 2; lo = negsuc 100; size = pos 101; deed = refl; node = refl; closes = skipped 1 jumped; first_node = refl; port = refl; peer = peer_of 1; message = drags; posts = refl; kind = refl; begins = refl; close_is = refl })
-      (inl refl) moves (near-agrees (pos 300000)) in
-      omega arith;
-}
-
 abbrev taken : List Line
 taken = does 408000400 1 (Came 10) (Took (Peer (peer_of 0)) (Good (Message drags))) ∷ (begins 408000400 1 (Came 10) ∷ (posts ∷ jumped))
 
-abbrev obeys : Line
-obeys = does 408000400 1 (Came 10) (Correct (pos 300101) false (pos 0))
-
-abbrev dragged : FromRound 0 shut (skip 4 (outlier 4)) obeys taken sounds (skip 1 (usual 15)) (pos 401)
-dragged =
-    from_round-by 0 shut (skip 4 (outlier 4)) obeys taken sounds (skip 1 (usual 15)) posts jumped drags (pos 300101) false (pos 0) near-sample
-    (record { correct = refl; place = skipped 2 taken; cause = refl; deed = refl; took = refl; node = refl; kind = refl; numbered = refl; is = refl })
-    (record { closes = skipped 4 taken; node = refl; port = refl; is = refl; best_is = refl })
-    (record { line = does 400000801 0 (Came 8) (Sample (peer_of 1) 0 (negsuc 100) (pos 401) 10); before = skip 1 (outlier 1); at = skipped 13 taken; node = refl; port = refl; is = refl; reads = skipped 2 (skip 1 (outlier 1)); takes = refl; to = Peer (peer_of 0); datagram = Stamp (Reply reply1); deed = refl })
-
-abbrev drag : PeerCorrects (still false) obeys taken
-drag = record {
-  m = 0;
-  close = shut;
-  c = jumps;
-  cpast = skip 4 (outlier 4);
-  amount = pos 300000;
-  moves = moves;
-  ends = skipped 3 taken;
-  taking = taking_of 0 shut (skip 4 (outlier 4)) obeys taken sounds (skip 1 (usual 15)) (pos 401) dragged refl;
-  kind = refl;
-  close_is = refl;
-  port = refl;
-  agrees = near-agrees (pos 300000);
+abbrev drag-hop : Hop
+drag-hop = record mild-hop {
+  close = shut-by (pos 300000);
+  correct = does 408000400 1 (Came 10) (Correct (pos 300101) false (pos 0));
+  past
+      = taken;
 }
 
-peer_far : Breaks (Moderate (still false))
-peer_far = record { world = obeys ∷ taken; broken = λ h. (let k : 300101 ≤ 40000 = (h.0.peer drag).little.near in omega arith) }
+drag-computed : Computed 0 drag-hop (spot 13 taken refl)
+drag-computed = search arith
 
-late_met : Breaks (Moderate (still false))
-late_met = record {
-  world = obeys ∷ taken;
-  broken = λ h. (let k : pos 416040399 ≡ pos 416300500 = (h.0.peer drag).meets refl 416000400 (omega arith) in omega (arith, ints));
-}
+abbrev drag-round : Corrects 0 drag-hop
+drag-round = corrects-at drag-hop (spot 13 taken refl) drag-computed
 
-estimated : Estimate 0 1 shut (skip 4 (outlier 4)) near-sample sounds (skip 1 (usual 15)) jumped
-estimated = record {
-  best_is = refl;
-  reading = record { line = does 400000801 0 (Came 8) (Sample (peer_of 1) 0 (negsuc 100) (pos 401) 10); before = skip 1 (outlier 1); at = skipped 8 (skip 4 (outlier 4)); node = refl; port = refl; is = refl; reads = skipped 2 (skip 1 (outlier 1)); takes = refl; to = Peer (peer_of 0); datagram = Stamp (Reply reply1); deed = refl };
-  unchanged = record { corrects = refl; lives = refl };
-}
+abbrev drag : PeerCorrects (still false) drag-hop.correct taken
+drag = peer-corrects (moves (pos 300000) (pos 300000) false) (skipped 3 taken) (taking_of drag-round refl) refl refl refl
+    (near-agrees (pos 300000))
 
-clocks_far : Breaks (ModerateClocks (still false))
-clocks_far = record {
-  world = jumped;
-  broken = λ h.
-      let k : pos 300001 ≤ℤ pos 40403 = h.0 408000000 (omega arith) 0 1 shut jumps (skip 4 (outlier 4)) (pos 300000) near-sample sounds (skip 1 (usual 15)) (record { within = inl refl; since = record { corrects = refl; lives = refl } }) moves estimated
-      (small-agrees (pos 300000) (negsuc 100) (1, omega arith, refl) refl) in
-      omega (arith, ints);
-}
+estimated : Estimate 0 1 drag-hop.close mild-hop.cpast (sample_of 0 mild-hop) mild-hop.reading mild-hop.older jumped
+estimated = estimate-at (spot 8 mild-hop.cpast refl) (search arith) refl refl refl
 
 -- two rounds that close in short order
 abbrev closes_at : ℕ → Line
 closes_at x = does x 0 Turned (Close 1 (pos 0) (pos 0) (pos 0))
 
-close_soon : Breaks Seldom
-close_soon = record {
-  world = closes_at 20 ∷ (closes_at 10 ∷ []);
-  broken = λ h. (let k : 239000010 ≤ 20 = h.0 (closes_at 10) [] 1 1 (pos 0) (pos 0) (pos 0) (pos 0) (pos 0) (pos 0) refl (inl refl) refl refl refl refl in omega arith);
+rounds_break : RoundsBreak (still false)
+rounds_break = record {
+  mean_far = breaks jumped (λ h.
+      let agrees = small-agrees (pos 300000) (negsuc 100) (1, omega arith, refl) refl in
+      let k : 300101 ≤ 40000 = (h.0.mean 0 _ _ (pos 300000) (negsuc 100) refl (moves (pos 300000) (pos 300000) false) agrees).moves in
+      omega arith);
+  own_far = breaks jumped (λ h.
+      let k : 300000 ≤ 40000 = (h.0.own 0 _ _ (pos 300000) refl (moves (pos 300000) (pos 300000) false) (own-agrees (pos 300000))).near in
+      omega arith);
+  -- it prints that mean, and moves the clock by -50 microseconds
+  prints_far = breaks (moved (pos 300000) (negsuc 49) false) (λ h.
+      let agrees = small-agrees (pos 300000) (negsuc 100) (1, omega arith, refl) refl in
+      let k : 300101 ≤ 40000 = (h.0.mean 0 _ _ (negsuc 49) (negsuc 100) refl (moves (pos 300000) (negsuc 49) false) agrees).prints in
+      omega arith);
+  -- the same round with its own mean, and a Correct that is stepped
+  own_stepped = breaks (moved (negsuc 50) (negsuc 50) true)
+      (λ h. true≢false ((h.0.own 0 _ _ (negsuc 50) refl (moves (negsuc 50) (negsuc 50) true) (own-agrees (negsuc 50))).slews));
+  peer_stepped = breaks (stepped-hop.correct ∷ mild-hop.past) (λ h. true≢false (h.0.peer stepped).little.slews);
+  adjtime_far = breaks (posts ∷ jumped) (λ h.
+      let k : 300101 ≤ 40000 = h.0.adjtime 0 drag-hop.close jumps mild-hop.cpast (pos 300000) (pos 300000)
+      (close_begins refl refl (skipped 1 jumped) refl refl refl refl refl refl)
+      (inl refl) (moves (pos 300000) (pos 300000) false) (near-agrees (pos 300000)) in
+      omega arith);
+  peer_far = breaks (drag-hop.correct ∷ taken) (λ h. let k : 300101 ≤ 40000 = (h.0.peer drag).little.near in omega arith);
+  late_met = breaks (drag-hop.correct ∷ taken) (λ h.
+      let k : pos 416040399 ≡ pos 416300500 = (h.0.peer drag).meets refl 416000400 (omega arith) in
+      omega (arith, ints));
+  clocks_far = breaks jumped (λ h.
+      let agrees = small-agrees (pos 300000) (negsuc 100) (1, omega arith, refl) refl in
+      let k : pos 300001 ≤ℤ pos 40403 = h.0 408000000 (omega arith) 0 1 drag-hop.close jumps mild-hop.cpast (pos 300000) _ _ _
+      (untouched refl refl refl)
+      (moves (pos 300000) (pos 300000) false) estimated agrees in
+      omega (arith, ints));
+  close_soon = breaks (closes_at 20 ∷ (closes_at 10 ∷ [])) (λ h.
+      let k : 239000010 ≤ 20 = h.0 (closes_at 10) [] 1 1 (pos 0) (pos 0) (pos 0) (pos 0) (pos 0) (pos 0) refl (inl refl) refl refl refl
+      refl in
+      omega arith);
 }
 
-pub rounds_break : RoundsBreak (still false)
-rounds_break = record { mean_far = mean_far; own_far = own_far; prints_far = prints_far; own_stepped = own_stepped; peer_stepped = peer_stepped; adjtime_far = adjtime_far; peer_far = peer_far; late_met = late_met; clocks_far = clocks_far; close_soon = close_soon }
+-- each promise is broken by some history
+pub all_break : AllBreak
+all_break = record { setting = still false; roles = roles_break; sends = sends_break; clocks = clocks_break; readings = readings_break; chains = chains_break; rounds = rounds_break; answers = answers_break }

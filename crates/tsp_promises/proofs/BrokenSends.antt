@@ -1,33 +1,21 @@
--- Small histories that break the promises of sends.
-use Rattle.std.proofs.Common.{ap, arith, inl, inr, ◌≡◌, ◌≤◌, false, true, ℕ, ◌+◌, pos, List, [], ◌∷◌, is_some, refl}
-use Rattle.tsp_rules.specs.Values.{Boot, Took, Post, Become, Ring, Correct, Acked, Elect, Round, Message, Good, AdjTime, Election, SetDateReq, SetTime, Nothing, TimeBody, Peer, Follow, GAP}
+-- Small histories that break the promises of sends, of the network's date and of LOOPs.
+use Rattle.std.proofs.Common.{ap, arith, inl, inr, ◌≡◌, ◌≤◌, false, true, ℕ, ◌+◌, pos, List, [], ◌∷◌, is_some, refl, ℤ, sym, subst, true≢false, ◌∙◌}
+use Rattle.std.proofs.lemmas.Int.{ints}
+use Rattle.tsp_rules.specs.Values.{Boot, Took, Post, Become, Ring, Correct, Acked, Elect, Round, Message, Good, AdjTime, Election, SetDateReq, SetTime, Nothing, TimeBody, Peer, Follow, GAP, Date, Stranger, Master, Hops, Loose}
 use Rattle.tsp_base.specs.Words.{Acts, Booted, Came, Handed, Turned, Line, dids, of, plain, view, MessageValue, tick_of, Within, heard, peer_of, posted}
-use Rattle.tsp_promises.specs.Once.{ActsOn, OfSend, OnceConfirmed, OnceCorrected, OnceObeyed, OnceSpaced, OnceSpacedOverLives, OnceTaken}
-use Rattle.tsp_promises.specs.{Broken.Breaks, Broken.SendsBreak, Fits.node_of, Thrice.Thrice}
 use Rattle.tsp_promises.proofs.Histories.{begins, does, line, msg, step_at, still}
-use Rattle.tsp_promises.proofs.{BrokenClocks.turned, EverywhereLemmas.Everywhere-at, StepChecks.port0, StepChecks.port1}
+use Rattle.tsp_promises.specs.{Broken.breaks, Broken.SendsBreak, Broken.DatesBreak, Broken.LoopsBreak, Looped.IsLoopChain, Looped.LoopPost}
+use Rattle.tsp_promises.{proofs.BrokenClocks.turned, proofs.BrokenRoles.starting, specs.Fits.node_of, specs.Once.ActsOn, specs.Once.OfSend}
+use Rattle.tsp_promises.proofs.{PremiseChecks.few-by, PremiseChecks.honest-by, PremiseChecks.life-by, StepChecks.port0, StepChecks.port1}
+use Rattle.tsp_promises.proofs.{EverywhereLemmas.Everywhere-at, SendProof.one-message, WitnessDates.loop_with, WitnessDates.names-by}
 
 abbrev moves : ℕ → ℕ → Line
 moves at k = does at 0 (Came k) (Correct (pos 1) false (pos 0))
 
-spaced : Breaks OnceSpaced
-spaced = record { world = moves 20 0 ∷ (moves 10 0 ∷ []); broken = λ h. (let k : 10 + GAP ≤ 20 = h.0 (moves 10 0) [] (pos 1) (pos 1) false false (pos 0) (pos 0) refl (inl refl) refl refl refl in omega arith) }
-
-spaced_over_lives : Breaks OnceSpacedOverLives
-spaced_over_lives = record {
-  world = moves 20 0 ∷ (does 15 0 (Booted 5 (pos 15)) Boot ∷ (moves 10 0 ∷ []));
-  broken = λ h. (let k : 10 + GAP ≤ 20 = h.0 (moves 10 0) [] (pos 1) (pos 1) false false (pos 0) (pos 0) refl (inr (inl refl)) refl refl in omega arith);
-}
-
-obeyed : Breaks (OnceObeyed (still false))
-obeyed = record {
-  world = does 20 0 Turned (Correct (pos 1) false (pos 0)) ∷ (does 10 0 Turned (Become (Follow (peer_of 1))) ∷ []);
-  broken = λ h. turned _ (h.0 (peer_of 1) (pos 1) false (pos 0) refl refl).brings.cause;
-}
-
 -- a Correct that takes a post
 abbrev acts : (l : Line) (world : List Line) (post : Line) (older : List Line) (m : MessageValue) → l.did.deed ≡ Acts (Correct (pos 1) false (pos 0)) → Within (post ∷ older) world → l.did.step.cause ≡ Came (posted (dids older)) →
-    post.did.deed ≡ Acts (Post (Peer (peer_of (node_of l))) (Message m)) → is_some (heard (dids (of (node_of l) world))) ≡ true → ActsOn l world post older
+    post.did.deed ≡ Acts (Post (Peer (peer_of (node_of l))) (Message m)) → is_some (heard (dids (of
+    (node_of l) world))) ≡ true → ActsOn l world post older
 acts l world post older m correct place cause deed took = record { amount = pos 1; stepped = false; shown = pos 0; correct = correct; brings = record { place = place; cause = cause; message = m; deed = deed }; took = took }
 
 abbrev adjusts : MessageValue
@@ -57,9 +45,6 @@ twice = took 30 0 ∷ (moves 20 0 ∷ once)
 abbrev second : ActsOn (moves 30 0) twice adj ring
 second = acts _ _ _ _ adjusts refl (inr (inr (inr (inl refl)))) refl refl refl
 
-corrected : Breaks OnceCorrected
-corrected = record { world = moves 30 0 ∷ twice; broken = λ h. h.0 adj (moves 20 0) adj ring once ring adj.did (view port0 (of 1 ring)) second refl (inr (inl refl)) first begins-here begins-here }
-
 -- the send has ended, and is posted again
 abbrev over : List Line
 over = does 25 1 Turned (Acked (peer_of 0)) ∷ (moves 20 0 ∷ once)
@@ -79,17 +64,11 @@ once-more = acts _ _ _ _ adjusts refl (inr (inl refl)) refl refl refl
 of-ended : OfSend 0 again rest adj.did (view port0 (of 1 ring))
 of-ended = record { message = adjusts; deed = refl; numbered = refl; is = refl }
 
-repeated : Breaks OnceCorrected
-repeated = record { world = moves 30 1 ∷ repeats; broken = λ h. h.0 again (moves 20 0) adj rest once ring adj.did (view port0 (of 1 ring)) once-more refl (inr (inr (inr (inr (inl refl))))) first of-ended begins-here }
-
 abbrev aside : Line
 aside = line (step_at 30 0 (Came 0)) port1 (Correct (pos 1) false (pos 0))
 
 abbrev beside : ActsOn aside twice adj ring
 beside = acts _ _ _ _ adjusts refl (inr (inr (inr (inl refl)))) refl refl refl
-
-elsewhere : Breaks OnceCorrected
-elsewhere = record { world = aside ∷ twice; broken = λ h. h.0 adj (moves 20 0) adj ring once ring adj.did (view port0 (of 1 ring)) beside refl (inr (inl refl)) first begins-here begins-here }
 
 abbrev dates : MessageValue
 dates = msg SetDateReq 32775 (TimeBody (pos 1))
@@ -115,20 +94,8 @@ dates-twice = acts _ _ _ _ dates refl (inr (inr (inr (inr (inr (inl refl)))))) r
 date-begins : OfSend 0 date ring date.did (view port0 (of 1 ring))
 date-begins = record { message = dates; deed = refl; numbered = refl; is = refl }
 
-dated : Breaks OnceTaken
-dated = record { world = moves 30 0 ∷ dated_twice; broken = λ h. h.0 date (moves 20 0) date ring dated_once ring date.did (view port0 (of 1 ring)) dates-twice refl (inr (inr (inr (inl refl)))) dates-once date-begins date-begins }
-
 abbrev sent : List Line
 sent = does 10 0 Turned (Post (Peer (peer_of 1)) (Message (msg SetTime 5 (TimeBody (pos 1))))) ∷ (does 10 0 Turned (Ring Round) ∷ [])
-
-confirmed : Breaks OnceConfirmed
-confirmed = record {
-  world = does 20 0 Turned (Acked (peer_of 1)) ∷ sent;
-  broken = λ h.
-      let a = h.0 (peer_of 1) (does 10 0 Turned (Post (Peer (peer_of 1)) (Message (msg SetTime 5 (TimeBody (pos 1)))))).did _ (msg SetTime 5 (TimeBody (pos 1))) refl refl refl refl in
-      let own = Everywhere-at (λ (l : Line) (before : List Line). node_of l ≡ 0) a.correct a.past sent (refl, (refl, tt)) a.place in
-      omega (arith, own, a.node);
-}
 
 abbrev asks : MessageValue
 asks = msg Election 32775 Nothing
@@ -142,29 +109,98 @@ posts-again at h = posts at ∷ (begins at 0 Turned ∷ h)
 abbrev asked : List Line
 asked = posts 0 ∷ (does 0 0 Turned (Ring Elect) ∷ [])
 
-fourth : Breaks Thrice
-fourth = record { world = posts-again 3000000 (posts-again 2000000 (posts-again 1000000 asked)); broken = λ h. (let k : 4 ≤ 3 = (h.0 (peer_of 1) asks refl refl).few in omega arith) }
-
-late : Breaks Thrice
-late = record {
-  world = posts-again 4000001 asked;
-  broken = λ h.
+pub sends_break : SendsBreak (still false)
+sends_break = record {
+  spaced = breaks (moves 20 0 ∷ (moves 10 0 ∷ []))
+      (λ h. let k : 10 + GAP ≤ 20 = h.0 (moves 10 0) [] (pos 1) (pos 1) false false (pos 0) (pos 0) refl
+      (inl refl) refl refl refl in omega arith);
+  spaced_over_lives = breaks (moves 20 0 ∷ (does 15 0 (Booted 5 (pos 15)) Boot ∷ (moves 10 0 ∷ [])))
+      (λ h. let k : 10 + GAP ≤ 20 = h.0 (moves 10 0) [] (pos 1) (pos 1) false false (pos 0) (pos 0) refl (inr
+      (inl refl)) refl refl in omega arith);
+  obeyed = breaks (does 20 0 Turned (Correct (pos 1) false (pos 0)) ∷ (does 10 0 Turned (Become (Follow (peer_of 1))) ∷ []))
+      (λ h. turned _ (h.0 (peer_of 1) (pos 1) false (pos 0) refl refl).brings.cause);
+  corrected = breaks (moves 30 0 ∷ twice)
+      (λ h. h.0 adj (moves 20 0) adj ring once ring adj.did (view port0 (of 1 ring)) second refl (inr
+      (inl refl)) first begins-here begins-here);
+  repeated = breaks (moves 30 1 ∷ repeats)
+      (λ h. h.0 again (moves 20 0) adj rest once ring adj.did (view port0 (of 1 ring)) once-more refl (inr (inr (inr (inr
+      (inl refl))))) first of-ended begins-here);
+  elsewhere = breaks (aside ∷ twice)
+      (λ h. h.0 adj (moves 20 0) adj ring once ring adj.did (view port0 (of 1 ring)) beside refl (inr
+      (inl refl)) first begins-here begins-here);
+  dated = breaks (moves 30 0 ∷ dated_twice)
+      (λ h. h.0 date (moves 20 0) date ring dated_once ring date.did (view port0 (of 1 ring)) dates-twice refl (inr (inr (inr
+      (inl refl)))) dates-once date-begins date-begins);
+  confirmed = breaks (does 20 0 Turned (Acked (peer_of 1)) ∷ sent) (λ h.
+      let a = h.0 (peer_of 1) _ _ (msg SetTime 5 (TimeBody (pos 1))) refl refl refl refl in
+      let own = Everywhere-at (λ (l : Line) (before : List Line). node_of l ≡ 0) a.correct a.past sent (refl, (refl, tt)) a.place in
+      omega (arith, own, a.node));
+  fourth = breaks (posts-again 3000000 (posts-again 2000000 (posts-again 1000000 asked)))
+      (λ h. let k : 4 ≤ 3 = (h.0 (peer_of 1) asks refl refl).few in omega arith);
+  late = breaks (posts-again 4000001 asked) (λ h.
       let o = h.0 (peer_of 1) asks refl refl in
       let first : 0 ≡ o.first.did.tick = ap (λ s. tick_of (plain s)) o.is in
       let soon = o.soon in
-      omega (arith, first, soon);
+      omega (arith, first, soon));
 }
 
-pub sends_break : SendsBreak (still false)
-sends_break = record {
-  spaced = spaced;
-  spaced_over_lives = spaced_over_lives;
-  obeyed = obeyed;
-  corrected = corrected;
-  repeated = repeated;
-  elsewhere = elsewhere;
-  dated = dated;
-  confirmed = confirmed;
-  fourth = fourth;
-  late = late;
+-- a stranger's date
+abbrev foreign : MessageValue
+foreign = msg Date 5 (TimeBody (pos 500))
+
+-- a step that takes it after these lines, and moves the clock by this
+abbrev set-after : ℤ → List Line → List Line
+set-after amount h = does 20 0 Handed (Correct amount true (pos 500)) ∷ (does 20 0 Handed (Took Stranger (Good (Message foreign))) ∷
+    (begins 20 0 Handed ∷ h))
+
+abbrev date-sent : List Line
+date-sent = does 10 0 Turned (Post (Peer (peer_of 1)) (Message (msg SetDateReq 32775 (TimeBody (pos 1))))) ∷
+    (does 10 0 Turned (Ring Round) ∷ [])
+
+abbrev acked : List Line
+acked = does 20 0 Turned (Acked (peer_of 1)) ∷ date-sent
+
+pub dates_break : DatesBreak
+dates_break = record {
+  setting = still false;
+  leads = breaks (set-after (pos 480) [])
+      (λ h. starting (h.0 (pos 480) true (pos 500) Stranger foreign refl refl refl).leads);
+  sets = breaks (set-after (pos 5) (does 10 0 Turned (Become Master) ∷ []))
+      (λ h. let k : pos 5 ≡ pos 480 = (h.0 (pos 5) true (pos 500) Stranger foreign refl refl refl).amount_is in omega (arith, k, ints));
+  confirmed = breaks acked (λ h.
+      let a = (h (honest-by acked refl) (life-by acked refl) (few-by acked refl)).0 (peer_of 1) _ _ (msg SetDateReq 32775 (TimeBody
+      (pos 1))) refl refl refl refl in
+      let own = Everywhere-at (λ (l : Line) (before : List Line). node_of l ≡ 0) a.correct a.past date-sent (refl, (refl, tt)) a.place in
+      omega (arith, own, a.node));
+}
+
+-- node 1 posts a LOOP with so many hops to node 2
+abbrev posts-with : ℕ → Line
+posts-with hops = does 10 1 Turned (Post (Peer (peer_of 2)) (Message (loop_with hops)))
+
+-- the hops of a post with this deed
+hops-in : (last : LoopPost) (n : ℕ) → last.post.did.deed ≡ Acts (Post (Peer (peer_of 2)) (Message (loop_with n))) → n ≡ last.hops
+hops-in last n deed =
+    let m = one-message (peer_of 2) last.to (loop_with n) last.message (sym deed ∙ last.deed) in
+    let same : Hops n ≡ Hops last.hops = ap (λ (z : MessageValue). z.body) m ∙ last.hops_is in
+    cc
+
+no-chain : (last : LoopPost) (rest : List LoopPost) → last.post.did.deed ≡ Acts (Post (Peer (peer_of 2)) (Message (loop_with 3))) → last.older ≡ [] → IsLoopChain (last ∷ rest) → ⊥
+no-chain last [] deed older c = (let k = hops-in last 3 deed in omega (arith, k, c))
+no-chain last (early ∷ others) deed older c = true≢false (sym (subst (λ h. is_some (heard (dids (of (node_of last.post) h))) ≡ true) older
+    c.0.took))
+
+abbrev gives : List Line
+gives = does 20 0 Turned (Become Loose) ∷ (does 10 0 Turned (Become Master) ∷ [])
+
+pub loops_break : LoopsBreak
+loops_break = record {
+  setting = still false;
+  hops = breaks (posts-with 11 ∷ [])
+      (λ h. let r = h.0 (Peer (peer_of 2)) (loop_with 11) refl refl in let same : Hops 11 ≡ Hops r.0 = r.1.0 in let k : 11 ≡ r.0 = cc in
+      omega (arith, k, r.1.1));
+  chains = breaks (posts-with 3 ∷ []) (λ h.
+      let e = (h (honest-by (posts-with 3 ∷ []) refl)).0 (Peer (peer_of 2)) (loop_with 3) refl refl in
+      no-chain e.last e.rest (ap (λ (l : Line). l.did.deed) e.post_is) e.older_is e.chain);
+  gives_up = breaks gives (λ h. true≢false (sym ((h (honest-by gives refl) (names-by false gives)).0 refl refl).takes.took));
 }

@@ -26,8 +26,9 @@ cast_kind setting m close cpast c past r rolder err f x =
     one-kind x.message b.message (posts-same k k b.message x.message (sym s.sends.deed ∙ (ap (λ (z : Did). z.deed) first_is ∙ x.begins))).1 x.kind
 
 -- a FromRound takes a correction
-abbrev pub taking_of : (m : ℕ) (close : Line) (cpast : List Line) (c : Line) (past : List Line) (r : Line) (rolder : List Line) (err : ℤ) (x : FromRound m close cpast c past r rolder err) → x.acts.brings.message.kind ≡ AdjTime → Taking m c past
-taking_of m close cpast c past r rolder err x kind = record {
+abbrev pub taking_of : {m : ℕ} {close c r : Line} {cpast past rolder : List Line} {err : ℤ} (x : FromRound m close cpast c past r rolder err) →
+    x.acts.brings.message.kind ≡ AdjTime → Taking m c past
+taking_of x kind = record {
   post = x.post;
   before = x.before;
   acts = x.acts;
@@ -39,9 +40,9 @@ taking_of m close cpast c past r rolder err x kind = record {
 }
 
 -- and rests on its reading
-abbrev pub reading_of : (m : ℕ) (close : Line) (cpast : List Line) (c : Line) (past : List Line) (r : Line) (rolder : List Line) (err : ℤ) (x : FromRound m close cpast c past r rolder err) (kind : x.acts.brings.message.kind ≡ AdjTime) →
-    FromReading m c past (taking_of m close cpast c past r rolder err x kind) close cpast r rolder
-reading_of m close cpast c past r rolder err x kind = record {
+abbrev pub reading_of : {m : ℕ} {close c r : Line} {cpast past rolder : List Line} {err : ℤ} (x : FromRound m close cpast c past r rolder err)
+    (kind : x.acts.brings.message.kind ≡ AdjTime) → FromReading m c past (taking_of x kind) close cpast r rolder
+reading_of x kind = record {
   none = inl kind;
   closes = x.closes;
   close_node = x.close_node;
@@ -71,7 +72,8 @@ pub amount-adj : (c : Line) (past : List Line) (post : Line) (amount : ℤ) (m :
 amount-adj c past post amount m a kind = a.takes.amount_is ∙ ap (λ k. amount_of k (time_in m.body) (target (plain (view c.port (of (node_of c) past))) c.did.tick)) kind
 
 met-with : (setting : Setting) (m : ℕ) (close : Line) (cpast : List Line) (c : Line) (past : List Line) (r : Line) (rolder : List Line) (err : ℤ) (x : FromRound m close cpast c past r rolder err) (kind : x.acts.brings.message.kind ≡ AdjTime) →
-    TakenFacts m c past (taking_of m close cpast c past r rolder err x kind) → (d : ReadFacts setting m c past (taking_of m close cpast c past r rolder err x kind) close cpast r rolder x.sample) → Met setting m (node_of c) cpast d.used.mean c past r rolder err
+    TakenFacts m c past (taking_of x kind) → (d : ReadFacts setting m c past (taking_of x kind) close cpast r rolder x.sample) →
+    Met setting m (node_of c) cpast d.used.mean c past r rolder err
 met-with setting m close cpast c past r rolder err x kind t d =
     let k = node_of c in
     record {
@@ -104,9 +106,9 @@ pub record Whole (setting : Setting) (m : ℕ) (close : Line) (cpast : List Line
 pub whole : (setting : Setting) (m : ℕ) (close : Line) (cpast : List Line) (c : Line) (past : List Line) (r : Line) (rolder : List Line) (err : ℤ) → Given setting (c ∷ past) → FromRound m close cpast c past r rolder err → Whole setting m close cpast c past r rolder err
 whole setting m close cpast c past r rolder err g x =
     let kind = cast_kind setting m close cpast c past r rolder err g.fits x in
-    let taking = taking_of m close cpast c past r rolder err x kind in
+    let taking = taking_of x kind in
     let t = taken_facts setting m c past g taking in
-    let d = read_facts setting m c past g taking t close cpast r rolder (reading_of m close cpast c past r rolder err x kind) in
+    let d = read_facts setting m c past g taking t close cpast r rolder (reading_of x kind) in
     let u = d.used.from in
     let s = t.begun.begins in
     record {

@@ -11,18 +11,10 @@ pub mod AskedProof
 mod BackedProof
 pub mod BecameProof
 pub mod BestProof
-pub mod BrokenAnswers
-pub mod BrokenChains
 pub mod BrokenClocks
-pub mod BrokenDates
-pub mod BrokenEstimates
-pub mod BrokenLoops
-pub mod BrokenReadings
 pub mod BrokenRoles
 pub mod BrokenRounds
 pub mod BrokenSends
-pub mod FromRoundBy
-pub mod FromRoundProof
 pub mod ChainProof
 pub mod ChainedProof
 pub mod Changes
@@ -47,6 +39,7 @@ pub mod EverywhereLemmas
 pub mod FirstSetProof
 pub mod FreshProof
 pub mod FreshSteps
+pub mod FromRoundProof
 pub mod GateLeads
 pub mod GateSteps
 pub mod Given
@@ -114,9 +107,10 @@ pub mod SoundFacts
 pub mod SoundSteps
 pub mod SourceProof
 pub mod SpacedProof
+pub mod Spots
+pub mod Stages
 pub mod SteadyLemmas
 pub mod SteadyProof
-pub mod Stages
 pub mod StepChecks
 pub mod StepProof
 pub mod StopsProof
@@ -127,28 +121,10 @@ pub mod ThriceProof
 pub mod ThroughoutProof
 pub mod TripProof
 mod VoteProof
-pub mod WitnessAgain
-pub mod WitnessAnswered
-pub mod WitnessFromRounds
 pub mod WitnessChain
-pub mod WitnessDated
 pub mod WitnessDates
-pub mod WitnessEnded
-pub mod WitnessEstimates
-pub mod WitnessLead
-pub mod WitnessLife
-pub mod WitnessLooks
-pub mod WitnessLoop
-pub mod WitnessModerate
-pub mod WitnessQuiet
-pub mod WitnessReadings
-pub mod WitnessRelay
 pub mod WitnessRivals
 pub mod WitnessRounds
-pub mod WitnessRow
-pub mod WitnessSets
-pub mod WitnessStrict
-pub mod WitnessThrice
 pub mod WitnessUse
 pub mod WitnessWords
 pub mod WordsProof

@@ -3,10 +3,10 @@ use Rattle.std.proofs.Common.{sym, arith, subst, subst₂, inl, inr, eqb-true, e
 use Rattle.std.proofs.lemmas.Bool.{leb-true, ltb-true, or_left, or_right, and_parts}
 use Rattle.tsp_rules.specs.Values.{Boot, Took, Post, Datagram, Place, Peer, LIFE}
 use Rattle.tsp_base.specs.Words.{Cause, Booted, Came, Handed, Acts, Deed, Line, dids, of, view, Within, begun, posted}
-use Rattle.tsp_promises.specs.{Fits.Fits, Fits.node_of, Kept.Kept}
 use Rattle.tsp_promises.specs.Premises.{Few, Honest, Life, TakenWithinAt, Words, WordsAt}
-use Rattle.tsp_promises.proofs.HistoriesFit.{all-finished, all_settled}
+use Rattle.tsp_promises.specs.{Fits.Fits, Fits.node_of, Kept.Example}
 use Rattle.tsp_promises.proofs.{Histories.still, Histories.post_at, Histories.post_here, SendPlaces.posted-mono, SendPlaces.posted-post}
+use Rattle.tsp_promises.proofs.HistoriesFit.{all-finished, all_settled}
 
 -- the post of a number is the one that is found by it
 found-is : (h : List Line) (post : Line) (older : List Line) (to : Place) (datagram : Datagram) → Within (post ∷ older) h → post.did.deed ≡ Acts (Post to datagram) → post_at (posted (dids older)) h ≡ post ∷ older
@@ -92,8 +92,14 @@ words-by [] e = tt
 words-by (l ∷ t) e = let a = and_parts (new_by l.did.deed l.did.step.cause t) (all_new t) e in (new-at l t a.0, words-by t a.1)
 
 -- all of them, of a history that ends with a step
-pub kept-by : (strict : Bool) (h : List Line) → Fits (still strict) h → all_settled h ≡ true → all_ours h ≡ true → all_soon h ≡ true → all_new h ≡ true → Kept (still strict) h
-kept-by strict h f ended ours soon new = record { fits = f; finished = all-finished strict h ended; honest = honest-by h ours; life = life-by h soon; words = words-by h new }
+abbrev pub kept-by : (strict : Bool) (h : List Line) → Fits (still strict) h → all_settled h ≡ true → all_ours h ≡ true →
+    all_soon h ≡ true → all_new h ≡ true → Example
+kept-by strict h f ended ours soon new =
+    record {
+      setting = still strict;
+      world = h;
+      kept = record { fits = f; finished = all-finished strict h ended; honest = honest-by h ours; life = life-by h soon; words = words-by h new };
+    }
 
 -- whether each port begins few sends with own numbers
 abbrev pub all_few : List Line → Bool

@@ -89,6 +89,11 @@ StagesOk strict zero stages h = Unit {0}
 StagesOk strict (suc k) [] h = Unit {0}
 StagesOk strict (suc k) (s ∷ rest) h = ActsOk strict s.step s.acts (line_of s.step s.step.at first_port Begins ∷ h) × StagesOk strict k rest (then_step s.step s.acts h)
 
+-- what one step owes, and what the others do
+infixr 20 ◌also◌
+abbrev pub ◌also◌ : {A B : Type 0} → A → B → A × B
+a also b = (a, b)
+
 -- such steps fit
 pub stages-fit : (strict : Bool) (k : ℕ) (stages : List Stage) (h : List Line) → Fits (still strict) h → all_begin k stages h ≡ true → StagesOk strict k stages h → Fits (still strict) (after k stages h)
 stages-fit strict zero stages h f e ok = f

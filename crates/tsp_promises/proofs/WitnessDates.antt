@@ -1,21 +1,70 @@
--- A date that is passed on: a client's, which a follower passes to its master; then a second one in the master's next life, or one with forged octets, after which the first is set again.
-use Rattle.std.proofs.Common.{sym, ap, arith, inl, inr, ◌∙◌, ◌≡◌, ◌≢◌, ℕ, ◌-◌, Some, true, false, pos, negsuc, List, [], ◌∷◌, refl}
-use Rattle.tsp_rules.specs.Values.{Took, Post, Become, Correct, Acked, Message, Good, Ack, Date, DateAck, SetDateReq, Nothing, TimeBody, PeerId, Peer, Stranger, Follow}
-use Rattle.tsp_base.specs.Words.{Came, Handed, Line, Seen, Dating, last_date, of, view, peer_of}
-use Rattle.tsp_promises.specs.{CorrectFits.ByDate, DateUse.DateUse, DateUse.ForgedDate, Fits.Fits, Once.ActsOn, Once.OfSend}
-use Rattle.tsp_promises.proofs.{Debts.debts, Debts.none-some, Debts.not-same, HistoriesFit.all-finished, HistoriesFit.came}
-use Rattle.tsp_promises.proofs.Histories.{begins, does, msg, named_msg, skip, skipped, still}
-use Rattle.tsp_promises.proofs.{PremiseChecks.kept-by, PremiseChecks.life-by, PremiseChecks.words-by, StepChecks.port0}
-use Rattle.tsp_promises.proofs.Stages.{Stage, after, at, stages-fit, skip-fits, boots, turns, takes, hands, stands, wins}
-use Rattle.tsp_promises.proofs.WitnessLead.{led, lead}
+-- Dates and LOOPs. A client's date, which a follower passes to its master; then a second one in the master's next
+-- life, or one with forged octets, after which the first is
+-- set again. And a LOOP that comes back: node 1 leads on both of its ports, node 2 passes its LOOP on to the network
+-- that it shares with node 3, and that one back.
+use Rattle.std.proofs.Common.{sym, ap, arith, subst, inl, inr, true≢false, eq-eqb, cond, ◌∙◌, ◌≡◌, ◌≢◌, ◌≤◌, ◌==◌, ◌<◌, Bool, ℕ, ◌+◌, ◌-◌, ◌-ℤ◌, Option, None, Some, true, false, ℤ, pos, negsuc, List, [], ◌∷◌, refl}
+use Rattle.tsp_rules.specs.Values.{Took, Post, Become, Correct, Acked, Ring, Back, Window, Elect, Message, Good, Ack, Date, DateAck, SetDateReq, LoopKind, Hops, Nothing, TimeBody, PeerId, Peer, Stranger, Loose, Follow, Candidate, Master, DATEHOLD}
+use Rattle.tsp_base.specs.Words.{Acts, Came, Did, Handed, Here, Turned, Line, MessageValue, Seen, Setup, Dating, Receives, is_date_request, last_date, plain, role, sets_date, taken, target, time_in, of, view, peer_of}
+use Rattle.tsp_promises.proofs.Histories.{does, line, msg, named_msg, on, skip, skipped, step_at, still}
+use Rattle.tsp_promises.proofs.Stages.{Stage, after, at, stages-fit, skip-fits, ◌also◌, boots, turns, takes, hands, stands, wins}
+use Rattle.tsp_promises.specs.{CorrectFits.ByDate, CorrectFits.WhyCorrect, Uses.DateUse, Uses.DatedUse, Uses.ForgedDate, Uses.LoopUse}
+use Rattle.tsp_promises.specs.{DateFits.AnswersPassedOn, Fits.Fits, Fits.node_of, Looped.GivesUp, Looped.LoopPost, Once.ActsOn, Once.OfSend}
+use Rattle.tsp_promises.specs.Premises.{NamesApart}
+use Rattle.tsp_promises.proofs.{Debts.debts, Debts.did_in, Debts.heard_in, Debts.not-same, Debts.rest_of, WitnessUse.led, WitnessUse.lead}
+use Rattle.tsp_promises.proofs.{PremiseChecks.few-by, PremiseChecks.kept-by, PremiseChecks.life-by, PremiseChecks.words-by, Spots.spot}
+use Rattle.tsp_promises.proofs.{HistoriesFit.all-finished, HistoriesFit.came, StepChecks.port0, StepChecks.port1}
 
--- a date of another number was set last
-other-date : {B : Type 0} (seen : List Seen) (q p : PeerId) (d last : Dating) (number : ℕ) → Peer q ≡ Peer p → last_date q seen ≡ Some last → last_date p seen ≡ Some d → d.number ≡ number → last.number ≢ number → B
-other-date seen q p d last number from is e same other =
-    let peer : q ≡ p = cc in
-    let both : Some last ≡ Some d = sym is ∙ (ap (λ z. last_date z seen) peer ∙ e) in
-    let one : last ≡ d = cc in
-    absurd (other (ap (λ (z : Dating). z.number) one ∙ same))
+-- whether the date that was set last has another number
+abbrev is_new : Option Dating → ℕ → Bool
+is_new None n = true
+is_new (Some d) n = cond (d.number == n) false true
+
+-- what is asked then
+not-again : {p q : PeerId} {n at : ℕ} (seen : List Seen) → is_new (last_date p seen) n ≡ true → (d : Dating) → Peer p ≡ Peer q →
+    last_date q seen ≡ Some d → d.number ≡ n → d.at + DATEHOLD ≤ at
+not-again {p} {q} {n} seen new d from is same =
+    let own : q ≡ p = cc in
+    let k : is_new (Some d) n ≡ true = subst (λ z. is_new z n ≡ true) (ap (λ r. last_date r seen) (sym own) ∙ is) new in
+    absurd (true≢false (sym (subst (λ b. cond b false true ≡ true) (eq-eqb d.number n same) k)))
+
+-- a Correct that takes a date which node 1 passes on
+by-date : {setup : Setup} {here : Did} {before : List Seen} {amount : ℤ} → before ≡ Here (did_in before) ∷ rest_of before →
+    (did_in before).deed ≡ Acts (Took (Peer (peer_of 1)) (Good (Message (heard_in (taken before))))) →
+    sets_date (heard_in (taken before)).kind ≡ true → role before ≡ Master →
+    amount ≡ time_in (heard_in (taken before)).body -ℤ target (plain before) here.tick →
+    is_new (last_date (peer_of 1) before) (heard_in (taken before)).number ≡ true → WhyCorrect setup here before amount
+by-date {before = before} is deed kind leads amount_is new = ByDate (record {
+  from = Peer (peer_of 1);
+  message = _;
+  took = _;
+  past = _;
+  is = is;
+  deed = deed;
+  kind = kind;
+  leads = leads;
+  amount_is = amount_is;
+  again = λ p d from request last same. not-again before new d from last same;
+})
+
+abbrev dating_in : Option Dating → Dating
+dating_in None = record { at = 0; number = 0 }
+dating_in (Some d) = d
+
+-- its answer
+date-acks : {here : Did} {before : List Seen} {p : PeerId} {number : ℕ} → Receives before p (Message (heard_in (taken before))) →
+    is_date_request (heard_in (taken before)).kind ≡ true → (heard_in (taken before)).number ≡ number →
+    last_date p before ≡ Some (dating_in (last_date p before)) → (dating_in (last_date p before)).number ≡ number →
+    here.tick < (dating_in (last_date p before)).at + DATEHOLD → AnswersPassedOn here before p number
+date-acks {before = before} took kind number last same fresh = record {
+  message = heard_in (taken before);
+  took = took;
+  kind = kind;
+  number_is = number;
+  last = _;
+  last_is = last;
+  same = same;
+  fresh = fresh;
+}
 
 abbrev passing_steps : List Stage
 passing_steps =
@@ -28,31 +77,13 @@ passing_steps =
     []
 
 -- the history after so many steps
-abbrev pub passing : ℕ → List Line
+abbrev passing : ℕ → List Line
 passing k = after (k - 5) passing_steps (lead 5)
 
-pub passing-fits : Fits (still false) (passing 11)
-passing-fits = stages-fit false 6 passing_steps (lead 5) led refl (
-  search debts,
-  (
-    search debts,
-    (
-      ((refl, (refl, came refl refl refl refl refl)), ((refl, record { gap = omega arith; rested = omega arith; why = ByDate (record { from = Peer (peer_of 1); message = (msg SetDateReq 32777 (TimeBody (pos 600000000))); took = _; past = _; is = refl; deed = refl; kind = refl; leads = refl; amount_is = refl; again = λ p d f r l n. none-some d l }); flag = refl; prints = refl }), ((refl, record { rested = inl (omega arith); fits = inr (record { message = (msg SetDateReq 32777 (TimeBody (pos 600000000))); took = refl; kind = refl; number_is = refl; last = _; last_is = refl; same = refl; fresh = omega arith }) }), tt))),
-      (
-        search debts,
-        (
-          ((refl, (refl, tt)), ((refl, record { gap = omega arith; rested = omega arith; why = ByDate (record { from = Peer (peer_of 1); message = (msg SetDateReq 100 (TimeBody (pos 500000000))); took = _; past = _; is = refl; deed = refl; kind = refl; leads = refl; amount_is = refl; again = λ p d f r l n. other-date (view port0 (of 0 (does 312000000 0 Handed (Took (Peer (peer_of 1)) (Good (Message (msg SetDateReq 100 (TimeBody (pos 500000000)))))) ∷ (begins 312000000 0 Handed ∷ (passing 9))))) (peer_of 1) p d (record { at = 310000001; number = 32777 }) 100 f refl l n (λ e. not-same 100 32777 (omega arith) (sym e)) }); flag = refl; prints = refl }), ((refl, record { rested = inl (omega arith); fits = inr (record { message = (msg SetDateReq 100 (TimeBody (pos 500000000))); took = refl; kind = refl; number_is = refl; last = _; last_is = refl; same = refl; fresh = omega arith }) }), tt))),
-          (
-            ((refl, (refl, came refl refl refl refl refl)), ((refl, record { gap = omega arith; rested = omega arith; why = ByDate (record { from = Peer (peer_of 1); message = (msg SetDateReq 32777 (TimeBody (pos 600000000))); took = _; past = _; is = refl; deed = refl; kind = refl; leads = refl; amount_is = refl; again = λ p d f r l n. other-date (view port0 (of 0 (does 314000000 0 (Came 1) (Took (Peer (peer_of 1)) (Good (Message (msg SetDateReq 32777 (TimeBody (pos 600000000)))))) ∷ (begins 314000000 0 (Came 1) ∷ (passing 10))))) (peer_of 1) p d (record { at = 312000000; number = 100 }) 32777 f refl l n (not-same 100 32777 (omega arith)) }); flag = refl; prints = refl }), ((refl, record { rested = inl (omega arith); fits = inr (record { message = (msg SetDateReq 32777 (TimeBody (pos 600000000))); took = refl; kind = refl; number_is = refl; last = _; last_is = refl; same = refl; fresh = omega arith }) }), tt))),
-            tt,
-          ),
-        ),
-      ),
-    ),
-  ),
-)
+passing-fits : Fits (still false) (passing 11)
+passing-fits = stages-fit false 6 passing_steps (lead 5) led refl (search (debts, by-date, date-acks))
 
-pub dates : Fits (still false) (passing 9)
+dates : Fits (still false) (passing 9)
 dates = skip-fits false 8 (passing 11) passing-fits
 
 abbrev renewed_steps : List Stage
@@ -66,26 +97,11 @@ renewed_steps =
     []
 
 -- the history after so many steps
-abbrev pub renewed : ℕ → List Line
+abbrev renewed : ℕ → List Line
 renewed k = after (k - 9) renewed_steps (passing 9)
 
-pub renewed-fits : Fits (still false) (renewed 15)
-renewed-fits = stages-fit false 6 renewed_steps (passing 9) dates refl (
-  search debts,
-  (
-    search debts,
-    (
-      search debts,
-      (
-        search debts,
-        (
-          ((refl, (refl, came refl refl refl refl refl)), ((refl, record { gap = omega arith; rested = omega arith; why = ByDate (record { from = Peer (peer_of 1); message = (msg SetDateReq 32778 (TimeBody (pos 900000000))); took = _; past = _; is = refl; deed = refl; kind = refl; leads = refl; amount_is = refl; again = λ p d f r l n. none-some d l }); flag = refl; prints = refl }), ((refl, record { rested = inl (omega arith); fits = inr (record { message = (msg SetDateReq 32778 (TimeBody (pos 900000000))); took = refl; kind = refl; number_is = refl; last = _; last_is = refl; same = refl; fresh = omega arith }) }), tt))),
-          search debts,
-        ),
-      ),
-    ),
-  ),
-)
+renewed-fits : Fits (still false) (renewed 15)
+renewed-fits = stages-fit false 6 renewed_steps (passing 9) dates refl (search (debts, by-date, date-acks))
 
 abbrev passes : Line
 passes = does 310000000 1 Handed (Post (Peer (peer_of 0)) (Message (msg SetDateReq 32777 (TimeBody (pos 600000000)))))
@@ -108,27 +124,126 @@ dates-later = record { amount = pos 189999999; stepped = true; shown = pos 90000
 -- a date is passed on, set and acknowledged, and in the master's next life another
 pub date_use : DateUse
 date_use = record {
-  setting = still false;
-  world = renewed 15;
-  kept = kept-by false (renewed 15) renewed-fits refl refl refl refl;
-  correct = does 310000001 0 (Came 1) (Correct (pos 289999999) true (pos 600000000));
-  past = skip 2 (passing 8);
-  post = passes;
-  older = skip 1 (passing 7);
-  acts = dates-at;
-  kind = refl;
-  later = does 710000001 0 (Came 4) (Correct (pos 189999999) true (pos 900000000));
-  lpast = skip 2 (renewed 14);
-  place = skipped 4 (renewed 15);
-  resent = resends;
-  rolder = skip 1 (renewed 13);
-  again = dates-later;
-  again_kind = refl;
-  before = skipped 19 (skip 2 (renewed 14));
+  history = kept-by false (renewed 15) renewed-fits refl refl refl refl;
+  later = record { correct = spot 4 (renewed 15) refl; post = resends; older = skip 1 (renewed 13); acts = dates-later; kind = refl };
+  first = record { correct = spot 19 (skip 5 (renewed 15)) refl; post = passes; older = skip 1 (passing 7); acts = dates-at; kind = refl };
   node = refl;
   booted = omega arith;
 }
 
 -- with forged octets one is set twice
 pub forged_date : ForgedDate
-forged_date = record { setting = still false; world = passing 11; fits = passing-fits; finished = all-finished false (passing 11) refl; life = life-by (passing 11) refl; words = words-by (passing 11) refl; twice = λ h. h.1.0 passes (does 310000001 0 (Came 1) (Correct (pos 289999999) true (pos 600000000))) passes (skip 1 (passing 7)) (skip 2 (passing 8)) (skip 1 (passing 7)) passes.did (view port0 (of 1 (skip 1 (passing 7)))) dated-again refl (skipped 10 (skip 2 (passing 11))) dates-at sends sends }
+forged_date = record {
+  setting = still false;
+  world = passing 11;
+  fits = passing-fits;
+  finished = all-finished false (passing 11) refl;
+  life = life-by (passing 11) refl;
+  words = words-by (passing 11) refl;
+  twice = λ h.
+      h.1.0 passes (does 310000001 0 (Came 1) (Correct (pos 289999999) true (pos 600000000))) passes (skip 1 (passing 7))
+      (skip 2 (passing 8))
+      (skip 1 (passing 7)) passes.did (view port0 (of 1 (skip 1 (passing 7)))) dated-again refl (skipped 10 (skip 2 (passing 11)))
+      dates-at sends sends;
+}
+
+-- the first date is set, and acknowledged to the one who passed it on
+pub dated_use : DatedUse
+dated_use = record {
+  history = kept-by false (passing 9) dates refl refl refl refl;
+  few = few-by (passing 9) refl;
+  acked = spot 0 (passing 9) refl;
+  correct = spot 3 (skip 1 (passing 9)) refl;
+  amount = pos 289999999;
+  stepped = true;
+  shown = pos 600000000;
+  corrects = refl;
+  from = Peer (peer_of 1);
+  message = msg SetDateReq 32777 (TimeBody (pos 600000000));
+  took = refl;
+  sets = refl;
+  peer = peer_of 0;
+  ends = refl;
+  first = _;
+  older = _;
+  is_open = refl;
+  date = msg SetDateReq 32777 (TimeBody (pos 600000000));
+  posts = refl;
+  kind = refl;
+  same = refl;
+}
+
+-- a LOOP of node 1 from its port 0, with so many hops
+abbrev pub loop_with : ℕ → MessageValue
+loop_with hops = record { kind = LoopKind; number = 0; body = Hops hops; name = 1 ∷ [] }
+
+names-differ : (x y : ℕ) → x < y → y ∷ [] ≢ x ∷ []
+names-differ x y l e = let same : y ≡ x = cc in not-same x y l (sym same)
+
+-- in these settings each node has a name of its own
+pub names-by : (strict : Bool) (h : List Line) → NamesApart (still strict) h
+names-by strict [] = tt
+names-by strict (l ∷ t) = (λ other older w e. let named : node_of other ∷ [] ≡ node_of l ∷ [] = e in let same : node_of other ≡ node_of l = cc in same, names-by strict t)
+
+abbrev circle_steps : List Stage
+circle_steps =
+    boots 0 1 7 ∷
+    boots 0 2 9 ∷
+    boots 0 3 11 ∷
+    record { step = step_at 300000000 1 Turned; acts = on port0 (Ring Elect) ∷ on port0 (Become Candidate) ∷ on port0 (Back (peer_of 1)) ∷ on port1 (Ring Elect) ∷ on port1 (Become Candidate) ∷ on port1 (Back (peer_of 1)) ∷ [] } ∷
+    record { step = step_at 305000000 1 Turned; acts = on port0 (Ring Window) ∷ on port0 (Become Master) ∷ on port1 (Ring Window) ∷ on port1 (Become Master) ∷ [] } ∷
+    turns (at 310000000 1 0) (Post (Peer (peer_of 2)) (Message (loop_with 10)) ∷ []) ∷
+    record { step = step_at 310000001 2 (Came 0); acts = on port0 (Took (Peer (peer_of 1)) (Good (Message (loop_with 10)))) ∷ on port1 (Post (Peer (peer_of 3)) (Message (loop_with 9))) ∷ [] } ∷
+    record { step = step_at 310000002 3 (Came 1); acts = on port1 (Took (Peer (peer_of 2)) (Good (Message (loop_with 9)))) ∷ on port0 (Post (Peer (peer_of 1)) (Message (loop_with 8))) ∷ [] } ∷
+    takes (at 310000003 1 1) 2 3 (Message (loop_with 8)) (Become Loose ∷ []) ∷
+    []
+
+-- the history after so many steps
+abbrev circle : ℕ → List Line
+circle k = after k circle_steps []
+
+circle-fits : Fits (still false) (circle 9)
+circle-fits =
+    stages-fit false 9 circle_steps [] tt refl ((search debts) also (search debts) also (search debts) also (search debts) also
+    (search debts) also (search debts) also
+    (search debts, ((refl, record { rested = inl (omega arith); fits = inr (record { from = peer_of 1; message = loop_with 10; took = refl; kind = refl; name = refl; number = refl; other = λ e. names-differ 1 2 (omega arith) (sym e); left = 9; came = refl; goes = refl; few = omega arith }) }), tt)) also
+    (search debts, ((refl, record { rested = inl (omega arith); fits = inr (record { from = peer_of 2; message = loop_with 9; took = refl; kind = refl; name = refl; number = refl; other = λ e. names-differ 1 3 (omega arith) (sym e); left = 8; came = refl; goes = refl; few = omega arith }) }), tt)) also
+    (search debts, ((refl, λ leads. record { from = peer_of 3; message = loop_with 8; took = refl; kind = refl; name = refl; number = omega arith }), tt)) also tt)
+
+abbrev sets-out : LoopPost
+sets-out = record { post = does 310000000 1 Turned (Post (Peer (peer_of 2)) (Message (loop_with 10))); older = skip 1 (circle 6); to = peer_of 2; message = loop_with 10; deed = refl; kind = refl; hops = 10; hops_is = refl }
+
+abbrev goes-on : LoopPost
+goes-on = record { post = line (step_at 310000001 2 (Came 0)) port1 (Post (Peer (peer_of 3)) (Message (loop_with 9))); older = skip 1 (circle 7); to = peer_of 3; message = loop_with 9; deed = refl; kind = refl; hops = 9; hops_is = refl }
+
+abbrev comes-back : LoopPost
+comes-back = record { post = does 310000002 3 (Came 1) (Post (Peer (peer_of 1)) (Message (loop_with 8))); older = skip 1 (circle 8); to = peer_of 1; message = loop_with 8; deed = refl; kind = refl; hops = 8; hops_is = refl }
+
+abbrev gives-up : GivesUp (line (step_at 310000003 1 (Came 2)) port1 (Become Loose)) (skip 1 (circle 9))
+gives-up = record {
+  last = comes-back;
+  rest = goes-on ∷ (sets-out ∷ []);
+  takes = record { brings = record { place = skipped 2 (skip 1 (circle 9)); cause = refl; message = loop_with 8; deed = refl }; took = refl };
+  chain = (
+    record { brings = record { place = skipped 2 (skip 1 (circle 8)); cause = refl; message = loop_with 9; deed = refl }; took = refl },
+    (
+      refl,
+      (record { brings = record { place = skipped 2 (skip 1 (circle 7)); cause = refl; message = loop_with 10; deed = refl }; took = refl }, (refl, refl)),
+    ),
+  );
+  sent = ((λ e. not-same 1 3 (omega arith) (sym e)), ((λ e. not-same 1 2 (omega arith) (sym e)), (refl, omega arith)));
+}
+
+pub loop_use : LoopUse
+loop_use = record {
+  history = kept-by false (circle 9) circle-fits refl refl refl refl;
+  names = names-by false (circle 9);
+  loose = spot 0 (circle 9) refl;
+  deed = refl;
+  leads = refl;
+  gives_up = gives-up;
+  by_two = refl;
+  lower = port0;
+  is_lower = omega arith;
+  leads_lower = refl;
+}

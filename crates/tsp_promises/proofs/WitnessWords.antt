@@ -1,40 +1,54 @@
 -- Boots with one word: promises that hold all the same, and a measurement that goes wrong where datagrams live long.
-use Rattle.std.proofs.Common.{sym, arith, subst, ℕ, ◌≡◌, ◌≤ℤ◌, ◌-ℤ◌, nat_abs, false, pos, negsuc, List, [], ◌∷◌, refl}
+-- A reply of an earlier life. And looks at clocks.
+use Rattle.std.proofs.Common.{sym, arith, subst, inl, ℕ, zero, suc, ◌≡◌, ◌-◌, ◌≤◌, ◌≤ℤ◌, ◌-ℤ◌, nat_abs, ℤ, true, false, pos, negsuc, List, [], ◌∷◌, refl}
 use Rattle.std.proofs.lemmas.Int.{ints}
-use Rattle.tsp_rules.specs.Values.{Boot, Post, Arm, Ring, Close, Correct, Sample, Round, CloseAlarm, Message, Stamp, AdjTime, TimeBody, Peer, Request, Reply}
-use Rattle.tsp_base.specs.Words.{Booted, Came, Turned, Line, dids, of, view, peer_of, posted}
-use Rattle.tsp_promises.specs.{Agreed.FromRound, ClockAt.clock, Fits.Fits, Measured.Measured}
-use Rattle.tsp_promises.specs.SameWords.{MeasuresWrongly, SameWords}
-use Rattle.tsp_promises.proofs.{Debts.debts, FromRoundBy.from_round-by, HistoriesFit.all-finished, StepChecks.port0}
+use Rattle.tsp_rules.specs.Values.{Post, Arm, Ring, Close, Correct, Round, CloseAlarm, Message, Stamp, AdjTime, SetTime, TimeBody, Peer, Request, Reply}
+use Rattle.tsp_base.specs.Words.{Came, Did, Here, Line, ReplyValue, Seen, dids, peer_of, posted}
+use Rattle.tsp_group.specs.Groups.{better, goes_before, group_from}
 use Rattle.tsp_promises.proofs.Histories.{line, msg, skip, skipped, step_at, still}
-use Rattle.tsp_promises.proofs.{PremiseChecks.honest-by, PremiseChecks.life-by, SendPlaces.post_unique, SendPlaces.same-number}
-use Rattle.tsp_promises.proofs.Stages.{Stage, after, at, stages-fit, boots, turns, stands, wins, samples}
-use Rattle.tsp_promises.proofs.WitnessAgain.{again, again-fits, anew}
-use Rattle.tsp_promises.proofs.WitnessFromRounds.{closing, first, first-from_round, sounds}
-use Rattle.tsp_promises.proofs.WitnessUse.{reply1, asked as part, usual}
+use Rattle.tsp_promises.proofs.Stages.{Stage, after, at, stages-fit, boots, turns, takes, stands, wins, follows, sets_up, obeys, acked, replies, samples}
+use Rattle.tsp_promises.proofs.WitnessUse.{asked, first-hop, first-round, fits, lead, led, ordinary, reply1, usual}
+use Rattle.tsp_promises.specs.{Looked.Look, Looked.LooksNeedRest, Looked.LooksUse, RoundUses.MeasuresWrongly, RoundUses.SameWords}
+use Rattle.tsp_promises.specs.{Chained.Hop, ClockAt.clock, Fits.Fits, Measured.Measured, Setting.Setting, Uses.LateReply}
+use Rattle.tsp_promises.proofs.{Debts.adjusts-at, Debts.debts, Spots.Corrects, Spots.corrects-at, Spots.hop_in, Spots.spot, Spots.untouched}
+use Rattle.tsp_promises.proofs.{HistoriesFit.all-finished, PremiseChecks.honest-by, PremiseChecks.kept-by, PremiseChecks.life-by}
+use Rattle.tsp_promises.proofs.{SendPlaces.post_unique, SendPlaces.same-number, StepChecks.port0}
 
-abbrev reboots : Line
-reboots = line (step_at 500000000 0 (Booted 7 (pos 500000000))) port0 Boot
+abbrev again : ReplyValue
+again = record { ticket = 12; word = 7; counter = 0; reading = pos 1000000298 }
 
-abbrev begins-life : Line
-begins-life = line (step_at 0 0 (Booted 7 (pos 0))) port0 Boot
+-- after ordinary use the master boots again with its old word, leads again and closes another round
+abbrev anew_steps : List Stage
+anew_steps =
+    boots 500000000 0 7 ∷
+    stands (at 900000000 0 0) ∷
+    wins (at 905000000 0 0) ∷
+    follows (at 905000000 1 0) 0 11 ∷
+    sets_up (at 905000001 0 0) 14 1 11 (pos 905000001) ∷
+    obeys (at 905000002 1 0) 15 0 (msg SetTime 11 (TimeBody (pos 905000001))) (negsuc 16) true (pos 905000001) ∷
+    acked (at 905000003 0 0) 16 1 11 ∷
+    turns (at 1000000000 0 0) (Ring Round ∷ Arm CloseAlarm 1008000000 ∷ Post (Peer (peer_of 1)) (Stamp (Request 7 0)) ∷ []) ∷
+    replies (at 1000000299 1 0) 17 0 again ∷
+    samples (at 1000000801 0 0) 18 1 again (negsuc 101) (pos 401) ∷
+    turns (at 1008000000 0 0) (Ring CloseAlarm ∷ Close 2 (negsuc 101) (pos 102) (negsuc 50) ∷ Correct (negsuc 50) false (pos 1008000000) ∷ Post (Peer (peer_of 1)) (Message (msg AdjTime 12 (TimeBody (pos 51)))) ∷ []) ∷
+    obeys (at 1008000400 1 0) 19 0 (msg AdjTime 12 (TimeBody (pos 51))) (pos 51) false (pos 1008000399) ∷
+    acked (at 1008000700 0 0) 20 1 12 ∷
+    []
 
-abbrev shuts : Line
-shuts = line (step_at 1008000000 0 Turned) port0 (Close 2 (negsuc 101) (pos 102) (negsuc 50))
+-- the history after so many steps
+abbrev anew : ℕ → List Line
+anew k = after k anew_steps (usual 23)
 
-abbrev corrects : Line
-corrects = line (step_at 1008000400 1 (Came 19)) port0 (Correct (pos 51) false (pos 1008000399))
+again-fits : Fits (still false) (anew 13)
+unfolding group_from goes_before better
+again-fits = stages-fit false 13 anew_steps (usual 23) fits refl
+    (search debts, (search debts, (search debts, (search debts, (search debts, (search debts, (search debts, (search debts, (search debts, (search debts, (((refl, tt), (search debts, (search debts, ((refl, record { rested = inl (omega arith); fits = adjusts-at (omega arith) refl refl refl refl (search debts) refl refl (omega arith) (record { corrects = refl; lives = refl }) refl refl refl refl (search debts) refl refl refl refl }), tt)))), search debts)))))))))))
 
-abbrev tells : Line
-tells = line (step_at 1000000299 1 (Came 17)) port0 (Post (Peer (peer_of 0)) (Stamp (Reply again)))
+abbrev again-hop : Hop
+again-hop = hop_in (anew 13) 4 9 15 (pos 401)
 
-second-from_round : FromRound 0 shuts (skip 3 (anew 11)) corrects (skip 2 (anew 12)) tells (skip 1 (anew 9)) (pos 401)
-second-from_round =
-    from_round-by 0 shuts (skip 3 (anew 11)) corrects (skip 2 (anew 12)) tells (skip 1 (anew 9)) (line (step_at 1008000000 0 Turned) port0 (Post (Peer (peer_of 1)) (Message (msg AdjTime 12 (TimeBody (pos 51)))))) (skip 1 (anew 11)) (msg AdjTime 12 (TimeBody (pos 51))) (pos 51) false (pos 1008000399)
-    (record { counter = 0; diff = negsuc 101; err = pos 401; ticket = 12; trip = pos 801; place = view port0 (of 0 (anew 10)) })
-    (record { correct = refl; place = skipped 2 (skip 2 (anew 12)); cause = refl; deed = refl; took = refl; node = refl; kind = refl; numbered = refl; is = refl })
-    (record { closes = skipped 4 (skip 2 (anew 12)); node = refl; port = refl; is = refl; best_is = refl })
-    (record { line = line (step_at 1000000801 0 (Came 18)) port0 (Sample (peer_of 1) 0 (negsuc 101) (pos 401) 12); before = skip 1 (anew 10); at = skipped 7 (skip 2 (anew 12)); node = refl; port = refl; is = refl; reads = skipped 2 (skip 1 (anew 10)); takes = refl; to = Peer (peer_of 0); datagram = Stamp (Reply again); deed = refl })
+again-round : Corrects 0 again-hop
+again-round = corrects-at again-hop (spot 7 (skip 5 (anew 13)) refl) (search arith)
 
 -- in both lives of the master a round corrects node 1
 pub same_words : SameWords
@@ -45,10 +59,21 @@ same_words = record {
   finished = all-finished false (anew 13) refl;
   honest = honest-by (anew 13) refl;
   life = life-by (anew 13) refl;
-  repeats = record { again = reboots; past = skip 1 (anew 1); again_in = skipped 42 (anew 13); once = begins-life; older = skip 77 (anew 1); once_in = skipped 75 (skip 1 (anew 1)); node = refl; boots = refl; booted = refl; word = 7; wall = pos 500000000; wall_once = pos 0; word_is = refl; word_once = refl };
-  before = record { close = closing; cpast = skip 4 (usual 19); correct = first; past = skip 2 (usual 20); correct_in = skipped 12 (skip 1 (anew 1)); reading = sounds; older = skip 1 (usual 15); err = pos 401; from_round = first-from_round };
-  after = record { close = shuts; cpast = skip 3 (anew 11); correct = corrects; past = skip 2 (anew 12); correct_in = skipped 4 (anew 13); reading = tells; older = skip 1 (anew 9); err = pos 401; from_round = second-from_round };
-  begins = skipped 32 (skip 3 (anew 11));
+  repeats = record {
+    again = spot 42 (anew 13) refl;
+    once = spot 75 (skip 43 (anew 13)) refl;
+    node = refl;
+    boots = refl;
+    booted = refl;
+    word = 7;
+    wall = pos 500000000;
+    wall_once = pos 0;
+    word_is = refl;
+    word_once = refl;
+  };
+  before = record { hop = first-hop; correct_in = skipped 12 (skip 43 (anew 13)); from_round = first-round };
+  after = record { hop = again-hop; correct_in = skipped 4 (anew 13); from_round = again-round };
+  begins = skipped 32 (skip 10 (anew 13));
 }
 
 abbrev reboot_steps : List Stage
@@ -61,11 +86,11 @@ reboot_steps =
     []
 
 -- the history after so many steps
-abbrev pub reboot : ℕ → List Line
+abbrev reboot : ℕ → List Line
 reboot k = after k reboot_steps (usual 15)
 
-pub reboot-fits : Fits (still false) (reboot 5)
-reboot-fits = stages-fit false 5 reboot_steps (usual 15) part refl (search debts)
+reboot-fits : Fits (still false) (reboot 5)
+reboot-fits = stages-fit false 5 reboot_steps (usual 15) asked refl (search debts)
 
 abbrev told : Line
 told = line (step_at 400000300 1 (Came 6)) port0 (Post (Peer (peer_of 0)) (Stamp (Reply reply1)))
@@ -86,6 +111,111 @@ measures_wrongly = record {
   fits = reboot-fits;
   finished = all-finished false (reboot 5) refl;
   honest = honest-by (reboot 5) refl;
-  repeats = record { again = reboots; past = skip 1 (reboot 1); again_in = skipped 14 (reboot 5); once = begins-life; older = skip 48 (reboot 1); once_in = skipped 46 (skip 1 (reboot 1)); node = refl; boots = refl; booted = refl; word = 7; wall = pos 500000000; wall_once = pos 0; word_is = refl; word_once = refl };
+  repeats = record {
+    again = spot 14 (reboot 5) refl;
+    once = spot 46 (skip 15 (reboot 5)) refl;
+    node = refl;
+    boots = refl;
+    booted = refl;
+    word = 7;
+    wall = pos 500000000;
+    wall_once = pos 0;
+    word_is = refl;
+    word_once = refl;
+  };
   wrong = wrongly;
+}
+
+abbrev answer : ReplyValue
+answer = record { ticket = 9; word = 7; counter = 0; reading = pos 400000300 }
+
+-- a master asks, boots, and takes the answer
+abbrev reborn_steps : List Stage
+reborn_steps =
+    turns (at 400000000 0 0) (Ring Round ∷ Arm CloseAlarm 408000000 ∷ Post (Peer (peer_of 1)) (Stamp (Request 7 0)) ∷ []) ∷
+    replies (at 400000300 1 0) 0 0 answer ∷
+    boots 400000500 0 8 ∷
+    takes (at 400000801 0 0) 1 1 (Stamp (Reply answer)) ([]) ∷
+    []
+
+-- the history after so many steps
+abbrev reborn : ℕ → List Line
+reborn k = after (k - 5) reborn_steps (lead 5)
+
+reborn-fits : Fits (still false) (reborn 9)
+reborn-fits = stages-fit false 4 reborn_steps (lead 5) led refl (search debts)
+
+-- the exchange ended with the life
+pub late_reply : LateReply
+late_reply = record {
+  history = kept-by false (reborn 9) reborn-fits refl refl refl refl;
+  took = spot 0 (reborn 9) refl;
+  request = spot 6 (skip 1 (reborn 9)) refl;
+  peer = peer_of 1;
+  reply = answer;
+  asked = refl;
+  deed = refl;
+  node = refl;
+  port = refl;
+  booted = omega arith;
+  no_trip = λ err t. none-open t.request t.older t.exchange_is;
+} where
+  none-open : (d : Did) (older : List Seen) → [] ≡ Here d ∷ older → ⊥
+  none-open d older e = cc
+
+-- node 0 gains 100 parts in a million, and all others lose as much
+abbrev rate_of : ℕ → ℤ
+rate_of zero = pos 100
+rate_of (suc n) = negsuc 99
+
+rates-small : (n : ℕ) → nat_abs (rate_of n) ≤ 100
+rates-small zero = omega arith
+rates-small (suc n) = omega arith
+
+abbrev drifting : Setting
+drifting = record (still false) { drift = 100; rate = rate_of; small = omega arith; rates = rates-small }
+
+-- all three readings are at the beginning
+abbrev at_once : (k m : ℕ) → Look k m [] 16000000
+at_once k m = record {
+  first = 0;
+  middle = 0;
+  last = 0;
+  begins = omega arith;
+  ends = omega arith;
+  passed = omega arith;
+  before = [];
+  there = [];
+  after = [];
+  own_before = untouched refl refl refl;
+  other = untouched refl refl refl;
+  own_after = untouched refl refl refl;
+}
+
+pub looks_use : LooksUse
+looks_use = record {
+  setting = drifting;
+  fits = tt;
+  drifts = refl;
+  fast = at_once 1 0;
+  slow = at_once 0 1;
+  width_is = refl;
+  high_reached = refl;
+  low_reached = refl;
+}
+
+-- node 1 is slewed by 17 after it has read its clock
+pub looks_need_rest : LooksNeedRest
+looks_need_rest = record {
+  history = ordinary;
+  k = 1;
+  m = 0;
+  read = 408000000;
+  t = 409000000;
+  later = omega arith;
+  before = skip 12 (usual 23);
+  before_in = skipped 12 (usual 23);
+  other = untouched refl refl refl;
+  same_life = refl;
+  less = omega arith;
 }

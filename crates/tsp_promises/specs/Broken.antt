@@ -1,18 +1,24 @@
 -- That the promises say something: for each part of one a small history that breaks it.
 use Rattle.std.specs.Prelude.{List}
-use Rattle.tsp_promises.specs.{Agreed.Agreed, Agreed.StayAgreed, AgreedShown.AgreedShown, AgreedShown.ShownNear, AgreedShown.Waited}
-use Rattle.tsp_promises.specs.{Answered.Answered, Chained.Chained, ErrsBounded.ErrsBounded, Estimates.EstimatesHold, OneBack.OneBack}
-use Rattle.tsp_promises.specs.{FirstSet.FirstSet, FirstSet.FirstSetSoon, Measured.Measured, Measured.Trips, OneError.OneError, Shows.Shows}
-use Rattle.tsp_base.specs.Words.{Line}
 use Rattle.tsp_promises.specs.Once.{OnceConfirmed, OnceCorrected, OnceObeyed, OnceSpaced, OnceSpacedOverLives, OnceTaken}
-use Rattle.tsp_promises.specs.{Moderate.Moderate, Moderate.ModerateClocks, OneWinner.OneWinner, OnlyMaster.OnlyMaster, Relayed.Relayed}
-use Rattle.tsp_promises.specs.Resolved.{StaysQuiet, StopsLeading, Yields, YieldsTaken}
-use Rattle.tsp_promises.specs.{Seldom.Seldom, Setting.Setting, Silent.Silent, Steady.Steady, Thrice.Thrice, Throughout.Throughout}
+use Rattle.tsp_promises.specs.{ErrsBounded.ErrsBounded, Resolved.StaysQuiet, Resolved.StopsLeading, Resolved.Yields, Resolved.YieldsTaken}
+use Rattle.tsp_promises.specs.{FirstSet.FirstSet, FirstSet.FirstSetSoon, Premises.Few, Premises.Honest, Premises.Life, Premises.NamesApart}
+use Rattle.tsp_promises.specs.{AgreedShown.AgreedShown, AgreedShown.ShownNear, AgreedShown.Waited, Dated.DateConfirmedAt, Dated.SetsAt}
+use Rattle.tsp_promises.specs.{Chained.Chained, Looped.ChainAt, Looped.GivesUpAt, Looped.HopsAt, Moderate.Moderate, Moderate.ModerateClocks}
+use Rattle.tsp_promises.specs.{Agreed.Agreed, Agreed.StayAgreed, Estimates.EstimatesHold, Measured.Measured, Measured.Trips, Seldom.Seldom}
+use Rattle.tsp_promises.specs.{Answered.Answered, Everywhere.Everywhere, OneWinner.OneWinner, OnlyMaster.OnlyMaster, Throughout.Throughout}
+use Rattle.tsp_promises.specs.{OneBack.OneBack, OneError.OneError, Relayed.Relayed, Setting.Setting, Silent.Silent, Steady.Steady}
+use Rattle.tsp_promises.specs.{Shows.Shows, Thrice.Thrice}
+use Rattle.tsp_base.specs.Words.{Line}
 
 -- some history breaks the promise
 pub record Breaks (Promise : List Line → Type 0) : Type 0 where
   pub world : List Line
   pub broken : ¬ Promise world
+
+-- this history does
+abbrev pub breaks : {Promise : List Line → Type 0} (world : List Line) → ¬ Promise world → Breaks Promise
+breaks world broken = record { world = world; broken = broken }
 
 -- what breaks the promises of roles
 pub record RolesBreak (setting : Setting) : Type 0 where
@@ -214,3 +220,23 @@ pub record AllBreak : Type 0 where
   pub chains : ChainsBreak setting
   pub rounds : RoundsBreak setting
   pub answers : AnswersBreak setting
+
+-- what breaks the promise of dates, in one setting
+pub record DatesBreak : Type 0 where
+  pub setting : Setting
+  -- a date that sets the clock of a port which doesn't lead, to the right time
+  pub leads : Breaks (Everywhere (SetsAt setting))
+  -- a master's clock that is set to another time than the date's
+  pub sets : Breaks (Everywhere (SetsAt setting))
+  -- a date that is acknowledged and that nobody set, with all that the promise asks
+  pub confirmed : Breaks (λ (world : List Line). Honest world → Life world → Few world → Everywhere DateConfirmedAt world)
+
+-- what breaks the promise of LOOPs, in one setting, each with all that its part asks
+pub record LoopsBreak : Type 0 where
+  pub setting : Setting
+  -- a LOOP with one hop too many
+  pub hops : Breaks (Everywhere HopsAt)
+  -- a LOOP with fewer hops than all that nobody has passed on
+  pub chains : Breaks (λ (world : List Line). Honest world → Everywhere ChainAt world)
+  -- a master that becomes Loose and has taken no LOOP
+  pub gives_up : Breaks (λ (world : List Line). Honest world → NamesApart setting world → Everywhere GivesUpAt world)

@@ -1,7 +1,7 @@
 -- The promise behind the interval that programs read: where a master's clock may be, some time after a look at it.
 use Rattle.std.specs.Prelude.{◌≡◌, ℕ, ◌+◌, ◌-◌, ◌*◌, ◌≤◌, ℤ, pos, ◌-ℤ◌, ◌+ℤ◌, ◌≤ℤ◌, List, []}
 use Rattle.tsp_base.specs.Words.{Line, of, dids, lives, Within, tick_at, width}
-use Rattle.tsp_promises.specs.{Agreed.Unchanged, ClockAt.clock_at, Fits.Fits, Kept.Kept, Setting.Setting}
+use Rattle.tsp_promises.specs.{Agreed.Unchanged, ClockAt.clock_at, Fits.Fits, Kept.Example, Setting.Setting}
 
 -- node k has looked at the clock of node m: m's clock was read at a true time between those of two readings of k's own, and from each
 -- reading until t, after the history h, the clock that was read was left alone. Times are microseconds
@@ -61,16 +61,15 @@ pub record LooksUse : Type 0 where
 -- a history that fits and keeps the premises (Kept), in which the node that looked corrected its own clock after its
 -- readings, and didn't boot: the other clock is less far ahead than the look says
 pub record LooksNeedRest : Type 0 where
-  pub setting : Setting
-  pub world : List Line
-  pub kept : Kept setting world
+  pub history : Example
   pub k : ℕ
   pub m : ℕ
   pub read : ℕ
   pub t : ℕ
   pub later : read ≤ t
   pub before : List Line
-  pub before_in : Within before world
-  pub other : Unchanged m before world
-  pub same_life : lives (dids (of k before)) ≡ lives (dids (of k world))
-  pub less : ((clock_at setting m world t -ℤ clock_at setting k world t) +ℤ pos 1) ≤ℤ ((clock_at setting m before read -ℤ clock_at setting k before read) -ℤ pos (2 * width setting.drift (t - read)))
+  pub before_in : Within before history.world
+  pub other : Unchanged m before history.world
+  pub same_life : lives (dids (of k before)) ≡ lives (dids (of k history.world))
+  pub less : ((clock_at history.setting m history.world t -ℤ clock_at history.setting k history.world t) +ℤ pos 1) ≤ℤ
+      ((clock_at history.setting m before read -ℤ clock_at history.setting k before read) -ℤ pos (2 * width history.setting.drift (t - read)))

@@ -13,13 +13,13 @@ pub fn dated()
     ensures { (setting : Setting) (world : List Line) → Fits setting world → Dated setting world }
 {}
 
-ghost use Rattle.tsp_promises.specs.DatedUse.{DatedUse};
+ghost use Rattle.tsp_promises.specs.Uses.{DatedUse};
 /// The promise isn't empty: a history that fits sees a date passed on, set and acknowledged.
 pub fn dates_use()
     ensures { DatedUse }
 {}
 
-ghost use Rattle.tsp_promises.specs.DatesBroken.{DatesBreak};
+ghost use Rattle.tsp_promises.specs.Broken.{DatesBreak};
 /// And it says something: for each of its parts a small history breaks it.
 pub fn dates_can_be_broken()
     ensures { DatesBreak }

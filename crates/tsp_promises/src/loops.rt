@@ -14,14 +14,14 @@ pub fn looped()
     ensures { (setting : Setting) (world : List Line) → Fits setting world → Looped setting world }
 {}
 
-ghost use Rattle.tsp_promises.specs.LoopUse.{LoopUse};
+ghost use Rattle.tsp_promises.specs.Uses.{LoopUse};
 /// The promise isn't empty: in a history that fits a LOOP goes round over two other nodes, and the
 /// master that began it gives up the lead of its higher port.
 pub fn loops_use()
     ensures { LoopUse }
 {}
 
-ghost use Rattle.tsp_promises.specs.LoopsBroken.{LoopsBreak};
+ghost use Rattle.tsp_promises.specs.Broken.{LoopsBreak};
 /// And it says something: for each of its parts a small history breaks it.
 pub fn loops_can_be_broken()
     ensures { LoopsBreak }

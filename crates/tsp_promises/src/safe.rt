@@ -293,7 +293,7 @@ pub fn ticks_keep_width()
         × (tick_at rate start + span ≤ tick_at rate (start + span) + width drift span) }
 {}
 
-ghost use Rattle.tsp_promises.specs.OrdinaryUse.{OrdinaryUse};
+ghost use Rattle.tsp_promises.specs.RoundUses.{OrdinaryUse};
 /// No promise is empty: a history that fits and keeps the premises sees three nodes boot, one of
 /// them win an election, the others take a SETTIME each and acknowledge it, and a whole round that
 /// corrects both.
@@ -301,28 +301,28 @@ pub fn ordinary_use()
     ensures { OrdinaryUse }
 {}
 
-ghost use Rattle.tsp_promises.specs.Relays.{Relays};
+ghost use Rattle.tsp_promises.specs.RoundUses.{Relays};
 /// Nor are those of gateways: a history that fits sees a node of two ports that is corrected by one
 /// of them and corrects a third node by the other.
 pub fn relayed_use()
     ensures { Relays }
 {}
 
-ghost use Rattle.tsp_promises.specs.ChainUse.{ChainUse};
+ghost use Rattle.tsp_promises.specs.RoundUses.{ChainUse};
 /// Nor are those of chains: a history that fits sees a master correct a gateway, that one a second
 /// one, and that one a last node.
 pub fn chain_use()
     ensures { ChainUse }
 {}
 
-ghost use Rattle.tsp_promises.specs.RoundsUse.{RoundsUse};
+ghost use Rattle.tsp_promises.specs.RoundUses.{RoundsUse};
 /// Nor is the promise that a round's bound outlasts later Corrects, nor that rounds are apart: a
 /// history that fits sees a second round of one life move both clocks of the first.
 pub fn rounds_use()
     ensures { RoundsUse }
 {}
 
-ghost use Rattle.tsp_promises.specs.EstimatesUse.{EndedUse, EstimatesUse};
+ghost use Rattle.tsp_promises.specs.RoundUses.{EndedUse, EstimatesUse};
 /// Nor is what estimates say: a history that fits sees a round that estimates two nodes, which
 /// nobody corrects until after its Close. Another one sees a Correct end a round that begins no
 /// ADJTIME, for want of an ACK.
@@ -331,7 +331,7 @@ pub fn estimates_use()
     ensures ends { EndedUse }
 {}
 
-ghost use Rattle.tsp_promises.specs.ModerateUse.{ModerateUse};
+ghost use Rattle.tsp_promises.specs.RoundUses.{ModerateUse};
 /// Nor is what is promised of a majority: a history that fits sees a round in which a master and a
 /// peer agree, and another peer seems to be a second off. The first two are moved by 51 and 50
 /// microseconds, the last one by a second.
@@ -339,63 +339,63 @@ pub fn moderate_use()
     ensures { ModerateUse }
 {}
 
-ghost use Rattle.tsp_promises.specs.SetUse.{SetUse};
+ghost use Rattle.tsp_promises.specs.RoundUses.{SetUse};
 /// Nor are those of first settings and of single corrections: a history that fits sees a clock set
 /// by the answer to a SLAVEUP, and corrected by an ADJTIME that rests on a reading.
 pub fn set_use()
     ensures { SetUse }
 {}
 
-ghost use Rattle.tsp_promises.specs.ShownUse.{ShownUse};
+ghost use Rattle.tsp_promises.specs.RoundUses.{ShownUse};
 /// Nor are those of shown values: a history that fits sees a clock slewed until it meets its
 /// target, and a wait that is long enough.
 pub fn shown_use()
     ensures { ShownUse }
 {}
 
-ghost use Rattle.tsp_promises.specs.PrintsUse.{PrintsUse};
+ghost use Rattle.tsp_promises.specs.RoundUses.{PrintsUse};
 /// Nor is the promise of what a Correct prints: a history that fits sees a clock set, and slewed by
 /// a later Correct of the same life.
 pub fn prints_use()
     ensures { PrintsUse }
 {}
 
-ghost use Rattle.tsp_promises.specs.QuietUse.{QuietUse};
+ghost use Rattle.tsp_promises.specs.Uses.{QuietUse};
 /// Nor is the promise of silence after a boot: a history that fits sees a node answer in its quiet
 /// time, the `QUIET` ticks after its boot.
 pub fn quiet_use()
     ensures { QuietUse }
 {}
 
-ghost use Rattle.tsp_promises.specs.ThriceUse.{ThriceUse};
+ghost use Rattle.tsp_promises.specs.Uses.{ThriceUse};
 /// Nor is the promise of few posts: a history that fits sees a candidate ask a peer for its vote
 /// three times.
 pub fn thrice_use()
     ensures { ThriceUse }
 {}
 
-ghost use Rattle.tsp_promises.specs.AnsweredUse.{AnsweredUse};
+ghost use Rattle.tsp_promises.specs.Uses.{AnsweredUse};
 /// Nor is the promise of answers: a history that fits sees a port heed a QUIT, and a stranger
 /// answered.
 pub fn answered_use()
     ensures { AnsweredUse }
 {}
 
-ghost use Rattle.tsp_promises.specs.RivalsMeet.{RivalsMeet};
+ghost use Rattle.tsp_promises.specs.Uses.{RivalsMeet};
 /// Nor are the promises of backings and of resolutions: a history that fits sees a node back two
 /// candidates, and a rival take the QUIT of a resolution and be master again after `ELECT_MIN`.
 pub fn rivals_meet()
     ensures { RivalsMeet }
 {}
 
-ghost use Rattle.tsp_promises.specs.StrictElections.{StrictElections};
+ghost use Rattle.tsp_promises.specs.Uses.{StrictElections};
 /// Nor is the promise of strict elections empty: a history that fits sees two nodes win, one long
 /// after the other.
 pub fn strict_elections()
     ensures { StrictElections }
 {}
 
-ghost use Rattle.tsp_promises.specs.DateUse.{DateUse, ForgedDate};
+ghost use Rattle.tsp_promises.specs.Uses.{DateUse, ForgedDate};
 /// A history that fits sees dates passed on and set, in two lives of a master. With forged octets
 /// between, one date is set twice, so `once_taken` needs its premise.
 pub fn dates_pass()
@@ -403,7 +403,7 @@ pub fn dates_pass()
     ensures forged { ForgedDate }
 {}
 
-ghost use Rattle.tsp_promises.specs.SameWords.{MeasuresWrongly, SameWords};
+ghost use Rattle.tsp_promises.specs.RoundUses.{MeasuresWrongly, SameWords};
 /// Two boots may have the same word: a history that fits sees a master boot again with its old word
 /// and close a round in each of its lives, each of which corrects a node. If a datagram outlives
 /// `LIFE` too, a measurement goes wrong, so `measured` needs one of the two premises.
@@ -412,7 +412,7 @@ pub fn words_repeat()
     ensures late { MeasuresWrongly }
 {}
 
-ghost use Rattle.tsp_promises.specs.LateReply.{LateReply};
+ghost use Rattle.tsp_promises.specs.Uses.{LateReply};
 /// A history that fits may bring a reply to a request of an earlier life. It ends no exchange, so a
 /// Sample of it would break a promise.
 pub fn late_reply()

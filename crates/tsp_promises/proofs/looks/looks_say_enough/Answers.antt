@@ -1,4 +1,4 @@
-use Rattle.tsp_promises.proofs.WitnessLooks.{looks_use, looks_need_rest}
+use Rattle.tsp_promises.proofs.WitnessWords.{looks_use, looks_need_rest}
 use Rattle.tsp_promises.proofs.looks.looks_say_enough.Goals as goal
 
 pub returns-clause-reached : goal.returns-clause-reached

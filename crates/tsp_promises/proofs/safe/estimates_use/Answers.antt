@@ -1,5 +1,5 @@
 use Rattle.tsp_promises.proofs.safe.estimates_use.Goals as goal
-use Rattle.tsp_promises.proofs.{WitnessEnded.ended_use, WitnessEstimates.estimates_use}
+use Rattle.tsp_promises.proofs.{WitnessRounds.ended_use, WitnessRounds.estimates_use}
 
 pub returns-clause-begins : goal.returns-clause-begins
 returns-clause-begins c = estimates_use

@@ -1,5 +1,5 @@
 use Rattle.tsp_promises.proofs.safe.shown_use.Goals as goal
-use Rattle.tsp_promises.proofs.WitnessReadings.{shown_use}
+use Rattle.tsp_promises.proofs.WitnessUse.{shown_use}
 
 pub returns : goal.returns
 returns c = shown_use
