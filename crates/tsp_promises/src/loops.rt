@@ -17,12 +17,14 @@ pub fn looped()
 ghost use Rattle.tsp_promises.specs.Uses.{LoopUse};
 /// The promise isn't empty: in a history that fits a LOOP goes round over two other nodes, and the
 /// master that began it gives up the lead of its higher port.
+#[tactic(auto, using(crate::proofs::WitnessDates::loop_use))]
 pub fn loops_use()
     ensures { LoopUse }
 {}
 
 ghost use Rattle.tsp_promises.specs.Broken.{LoopsBreak};
 /// And it says something: for each of its parts a small history breaks it.
+#[tactic(auto, using(crate::proofs::BrokenSends::loops_break))]
 pub fn loops_can_be_broken()
     ensures { LoopsBreak }
 {}

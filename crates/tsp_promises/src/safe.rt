@@ -15,6 +15,7 @@ ghost use Rattle.tsp_promises.specs.Setting.{Setting};
 ghost use Rattle.tsp_promises.specs.Steady.{Meets, Steady};
 ghost use Rattle.tsp_promises.specs.Safe.{Safe};
 /// The promises of `Safe`, of a history that ends with a step, each under the premises that it needs.
+#[tactic(auto, using(crate::proofs::SafeProof::safe))]
 pub fn safe()
     ensures { (setting : Setting) (world : List Line) → Fits setting world → Finished setting world
         → Safe setting world }
@@ -22,6 +23,7 @@ pub fn safe()
 
 ghost use Rattle.tsp_promises.specs.OneBack.{OneBack};
 /// No node backs two candidates within `HOLD` ticks, 60 s, even if datagrams are forged.
+#[tactic(auto, using(crate::proofs::OneBackProof::one_back))]
 pub fn one_back()
     ensures { (setting : Setting) (world : List Line) → Fits setting world → Finished setting world
         → OneBack world }
@@ -31,6 +33,7 @@ ghost use Rattle.tsp_promises.specs.Silent.{Silent};
 /// For `QUIET` ticks, 80 s, after a boot a node posts only the reply to a stamp request, or the
 /// acknowledgment of an MSITE, TRACEON or TRACEOFF, that its step took, to whom that came from. And
 /// it doesn't correct its clock.
+#[tactic(auto, using(crate::proofs::SilentProof::silent))]
 pub fn silent_after_boot()
     ensures { (setting : Setting) (world : List Line) → Fits setting world → Silent world }
 {}
@@ -43,6 +46,7 @@ ghost use Rattle.tsp_promises.specs.Answered.{Answered};
 /// took from one on that port, and is the only thing that it posts to strangers. A message's answer
 /// is in the node's own name, but that of MSITE has the master's. So no more datagrams are posted to
 /// strangers than are taken from them.
+#[tactic(auto, using(crate::proofs::AnsweredProof::answered))]
 pub fn answered()
     ensures { (setting : Setting) (world : List Line) → Fits setting world → Finished setting world
         → Answered setting world }
@@ -50,12 +54,14 @@ pub fn answered()
 
 ghost use Rattle.tsp_promises.specs.OnlyMaster.{OnlyMaster};
 /// Only masters post corrections, close rounds, and correct their clocks right after a Close.
+#[tactic(auto, using(crate::proofs::OnlyMasterProof::only_master))]
 pub fn only_master()
     ensures { (setting : Setting) (world : List Line) → Fits setting world → OnlyMaster world }
 {}
 
 /// Two corrections of one clock are at least `GAP` ticks, 1 s, apart: in one life of the node, and
 /// over its lives.
+#[tactic(auto, using(crate::proofs::OnceSpacedProof::once_spaced, crate::proofs::OnceSpacedProof::once_spaced_over_lives))]
 pub fn once_spaced()
     ensures one_life { (setting : Setting) (world : List Line) → Fits setting world
         → OnceSpaced world }
@@ -64,6 +70,7 @@ pub fn once_spaced()
 {}
 
 /// A follower's clock is moved only as its master says, if no peer's datagram is forged.
+#[tactic(auto, using(crate::proofs::OnceObeyedProof::once_obeyed))]
 pub fn once_obeyed()
     ensures { (setting : Setting) (world : List Line) → Fits setting world → Honest world
         → OnceObeyed setting world }
@@ -71,6 +78,7 @@ pub fn once_obeyed()
 
 /// No two corrections of clocks take posts of one ADJTIME or SETTIME, if no datagram outlives
 /// `LIFE`, even if datagrams are forged.
+#[tactic(auto, using(crate::proofs::OnceTakenProof::once_corrected))]
 pub fn once_corrected()
     ensures { (setting : Setting) (world : List Line) → Fits setting world → Life world
         → OnceCorrected world }
@@ -78,6 +86,7 @@ pub fn once_corrected()
 
 /// No two corrections of clocks take posts of one send, whether it is a correction or a date that
 /// is passed on, if no datagram outlives `LIFE` and no peer's datagram is forged.
+#[tactic(auto, using(crate::proofs::OnceDatedProof::once_taken))]
 pub fn once_taken()
     ensures { (setting : Setting) (world : List Line) → Fits setting world → Honest world
         → Life world → OnceTaken world }
@@ -93,12 +102,14 @@ pub fn once_confirmed()
 ghost use Rattle.tsp_promises.specs.Thrice.{Thrice};
 /// A numbered message is posted at most three times, the last time at most 4 s of its node's ticks
 /// after the first.
+#[tactic(auto, using(crate::proofs::ThriceProof::thrice))]
 pub fn thrice()
     ensures { (setting : Setting) (world : List Line) → Fits setting world → Thrice world }
 {}
 
 /// A measurement ends an open exchange of the going round, and the error that it states is half of
 /// that round trip, rounded up to a microsecond.
+#[tactic(auto, using(crate::proofs::TripProof::trips))]
 pub fn measured_trips()
     ensures { (setting : Setting) (world : List Line) → Fits setting world → Trips world }
 {}
@@ -106,6 +117,7 @@ pub fn measured_trips()
 /// A measurement rests on a reply that its peer posted, and is wrong by at most the error that it
 /// states, if no peer's datagram is forged, and either no datagram outlives `LIFE` or no two boots
 /// of one node have the same word.
+#[tactic(auto, using(crate::proofs::MeasuredProof::measured))]
 pub fn measured()
     ensures { (setting : Setting) (world : List Line) → Fits setting world → Honest world
         → Life world ⊎ OwnWords world → Measured setting world }
@@ -135,6 +147,7 @@ pub fn estimates_hold()
 ghost use Rattle.tsp_promises.specs.ErrsBounded.{ErrsBounded};
 /// The error on which an ADJTIME rests is at most 4.5 s, half of the longest round, whatever is
 /// delivered.
+#[tactic(auto, using(crate::proofs::ErrsProof::errs_bounded))]
 pub fn errs_bounded()
     ensures { (setting : Setting) (world : List Line) → Fits setting world → ErrsBounded world }
 {}
@@ -156,6 +169,7 @@ pub fn moderate()
 
 ghost use Rattle.tsp_promises.specs.Seldom.{Seldom};
 /// In one life of a node two rounds of one port close at least 239 s of its ticks apart.
+#[tactic(auto, using(crate::proofs::SeldomProof::seldom))]
 pub fn seldom()
     ensures { (setting : Setting) (world : List Line) → Fits setting world → Seldom world }
 {}
@@ -183,6 +197,7 @@ ghost use Rattle.tsp_promises.specs.FirstSet.{FirstSet, FirstSetSoon};
 /// After a SETTIME a clock is behind its master's by the time since the SETTIME was first posted,
 /// give or take drift, even if datagrams are forged. If no datagram outlives `LIFE`, that is at
 /// most 34 s and drift.
+#[tactic(auto, using(crate::proofs::FirstSetProof::first_set, crate::proofs::FirstSetProof::first_set_soon))]
 pub fn first_set()
     ensures at { (setting : Setting) (world : List Line) → Fits setting world
         → FirstSet setting world }
@@ -209,6 +224,7 @@ pub fn relayed()
 
 /// What a clock shows never falls between steps of it and boots, and its rate is off by at most one
 /// in two hundred, beside its node's drift, even if datagrams are forged.
+#[tactic(auto, using(crate::proofs::SteadyProof::steady))]
 pub fn runs_steadily()
     ensures { (setting : Setting) (world : List Line) → Fits setting world → Steady setting world }
 {}
@@ -219,12 +235,14 @@ ghost use Rattle.tsp_promises.specs.Shows.{Shows};
 /// the clock shows its new target; otherwise it shows what it showed before. So a trace can be
 /// checked: as long as a node doesn't boot, and none after the first is stepped, what two of its
 /// Corrects print differs by the ticks between them, give or take one in two hundred.
+#[tactic(auto, using(crate::proofs::ShowsProof::shows))]
 pub fn shows()
     ensures { (setting : Setting) (world : List Line) → Fits setting world → Shows world }
 {}
 
 /// What a clock shows meets its target: what is left to slew is less by a microsecond for each 200
 /// ticks. No deed can break this; it is how the shown value is defined.
+#[tactic(auto, using(crate::proofs::SteadyProof::meets))]
 pub fn meets_target()
     ensures { (world : List Line) → Meets world }
 {}
@@ -242,12 +260,14 @@ pub fn agreed_shown()
 
 /// Whoever waits for longer than what his clock and another show may differ knows that what the
 /// other shows then is later than what his own showed before.
+#[tactic(auto, using(crate::proofs::AgreedShownProof::waited))]
 pub fn stamps_in_order()
     ensures { (setting : Setting) (world : List Line) → Fits setting world → Waited setting world }
 {}
 
 /// A master that takes a QUIT of a peer, other than its own node, follows that peer at the end of
 /// that step: `heeded` says so of the Quits that it puts, `taken` of the QUITs that it takes.
+#[tactic(auto, using(crate::proofs::ResolvedProof::yields, crate::proofs::ResolvedProof::yields_taken))]
 pub fn resolved_yields()
     ensures heeded { (setting : Setting) (world : List Line) → Fits setting world
         → Finished setting world → Yields world }
@@ -257,11 +277,13 @@ pub fn resolved_yields()
 
 ghost use Rattle.tsp_promises.specs.Became.{BecomesAfter};
 /// It comes to follow by a change of its role in that step, after the QUIT.
+#[tactic(auto, using(crate::proofs::BecameProof::becomes_after))]
 pub fn resolved_becomes()
     ensures { BecomesAfter }
 {}
 
 /// After a QUIT a port isn't a master again for `ELECT_MIN` ticks, 300 s.
+#[tactic(auto, using(crate::proofs::ResolvedProof::stays_quiet))]
 pub fn resolved_stays_quiet()
     ensures { (setting : Setting) (world : List Line) → Fits setting world → StaysQuiet world }
 {}
@@ -269,6 +291,7 @@ pub fn resolved_stays_quiet()
 /// A master that finds rivals sends each of them a QUIT, when its alarm Resolve rings. At the end
 /// of the step in which the last rival takes its QUIT no rival is a master, if no datagram outlives
 /// `LIFE`.
+#[tactic(auto, using(crate::proofs::StopsProof::stops_leading))]
 pub fn resolved_stops()
     ensures { (setting : Setting) (world : List Line) → Fits setting world → Finished setting world
         → Life world → StopsLeading world }
@@ -278,6 +301,7 @@ ghost use Rattle.tsp_promises.specs.OneWinner.{OneWinner};
 /// In strict elections, where a candidate needs a majority, two wins of different nodes on one
 /// network are more than 50 s apart, if no peer's datagram is forged, no datagram outlives `LIFE`,
 /// and no port begins 32,768 sends with own numbers in one life of its node.
+#[tactic(auto, using(crate::proofs::OneWinnerProof::one_winner))]
 pub fn one_winner()
     ensures { (setting : Setting) (world : List Line) → setting.strict ≡ true → Fits setting world
         → Honest world → Life world → Few world → OneWinner setting world }
@@ -297,6 +321,7 @@ ghost use Rattle.tsp_promises.specs.RoundUses.{OrdinaryUse};
 /// No promise is empty: a history that fits and keeps the premises sees three nodes boot, one of
 /// them win an election, the others take a SETTIME each and acknowledge it, and a whole round that
 /// corrects both.
+#[tactic(auto, using(crate::proofs::WitnessUse::ordinary_use))]
 pub fn ordinary_use()
     ensures { OrdinaryUse }
 {}
@@ -304,6 +329,7 @@ pub fn ordinary_use()
 ghost use Rattle.tsp_promises.specs.RoundUses.{Relays};
 /// Nor are those of gateways: a history that fits sees a node of two ports that is corrected by one
 /// of them and corrects a third node by the other.
+#[tactic(auto, using(crate::proofs::WitnessChain::relays))]
 pub fn relayed_use()
     ensures { Relays }
 {}
@@ -311,6 +337,7 @@ pub fn relayed_use()
 ghost use Rattle.tsp_promises.specs.RoundUses.{ChainUse};
 /// Nor are those of chains: a history that fits sees a master correct a gateway, that one a second
 /// one, and that one a last node.
+#[tactic(auto, using(crate::proofs::WitnessChain::chain_use))]
 pub fn chain_use()
     ensures { ChainUse }
 {}
@@ -318,6 +345,7 @@ pub fn chain_use()
 ghost use Rattle.tsp_promises.specs.RoundUses.{RoundsUse};
 /// Nor is the promise that a round's bound outlasts later Corrects, nor that rounds are apart: a
 /// history that fits sees a second round of one life move both clocks of the first.
+#[tactic(auto, using(crate::proofs::WitnessRounds::rounds_use))]
 pub fn rounds_use()
     ensures { RoundsUse }
 {}
@@ -326,6 +354,7 @@ ghost use Rattle.tsp_promises.specs.RoundUses.{EndedUse, EstimatesUse};
 /// Nor is what estimates say: a history that fits sees a round that estimates two nodes, which
 /// nobody corrects until after its Close. Another one sees a Correct end a round that begins no
 /// ADJTIME, for want of an ACK.
+#[tactic(auto, using(crate::proofs::WitnessRounds::estimates_use, crate::proofs::WitnessRounds::ended_use))]
 pub fn estimates_use()
     ensures begins { EstimatesUse }
     ensures ends { EndedUse }
@@ -335,6 +364,7 @@ ghost use Rattle.tsp_promises.specs.RoundUses.{ModerateUse};
 /// Nor is what is promised of a majority: a history that fits sees a round in which a master and a
 /// peer agree, and another peer seems to be a second off. The first two are moved by 51 and 50
 /// microseconds, the last one by a second.
+#[tactic(auto, using(crate::proofs::WitnessRounds::moderate_use))]
 pub fn moderate_use()
     ensures { ModerateUse }
 {}
@@ -342,6 +372,7 @@ pub fn moderate_use()
 ghost use Rattle.tsp_promises.specs.RoundUses.{SetUse};
 /// Nor are those of first settings and of single corrections: a history that fits sees a clock set
 /// by the answer to a SLAVEUP, and corrected by an ADJTIME that rests on a reading.
+#[tactic(auto, using(crate::proofs::WitnessUse::set_use))]
 pub fn set_use()
     ensures { SetUse }
 {}
@@ -349,6 +380,7 @@ pub fn set_use()
 ghost use Rattle.tsp_promises.specs.RoundUses.{ShownUse};
 /// Nor are those of shown values: a history that fits sees a clock slewed until it meets its
 /// target, and a wait that is long enough.
+#[tactic(auto, using(crate::proofs::WitnessUse::shown_use))]
 pub fn shown_use()
     ensures { ShownUse }
 {}
@@ -356,6 +388,7 @@ pub fn shown_use()
 ghost use Rattle.tsp_promises.specs.RoundUses.{PrintsUse};
 /// Nor is the promise of what a Correct prints: a history that fits sees a clock set, and slewed by
 /// a later Correct of the same life.
+#[tactic(auto, using(crate::proofs::WitnessUse::prints_use))]
 pub fn prints_use()
     ensures { PrintsUse }
 {}
@@ -363,6 +396,7 @@ pub fn prints_use()
 ghost use Rattle.tsp_promises.specs.Uses.{QuietUse};
 /// Nor is the promise of silence after a boot: a history that fits sees a node answer in its quiet
 /// time, the `QUIET` ticks after its boot.
+#[tactic(auto, using(crate::proofs::WitnessRivals::quiet_use))]
 pub fn quiet_use()
     ensures { QuietUse }
 {}
@@ -370,6 +404,7 @@ pub fn quiet_use()
 ghost use Rattle.tsp_promises.specs.Uses.{ThriceUse};
 /// Nor is the promise of few posts: a history that fits sees a candidate ask a peer for its vote
 /// three times.
+#[tactic(auto, using(crate::proofs::WitnessRivals::thrice_use))]
 pub fn thrice_use()
     ensures { ThriceUse }
 {}
@@ -377,6 +412,7 @@ pub fn thrice_use()
 ghost use Rattle.tsp_promises.specs.Uses.{AnsweredUse};
 /// Nor is the promise of answers: a history that fits sees a port heed a QUIT, and a stranger
 /// answered.
+#[tactic(auto, using(crate::proofs::WitnessRivals::answered_use))]
 pub fn answered_use()
     ensures { AnsweredUse }
 {}
@@ -384,6 +420,7 @@ pub fn answered_use()
 ghost use Rattle.tsp_promises.specs.Uses.{RivalsMeet};
 /// Nor are the promises of backings and of resolutions: a history that fits sees a node back two
 /// candidates, and a rival take the QUIT of a resolution and be master again after `ELECT_MIN`.
+#[tactic(auto, using(crate::proofs::WitnessRivals::rivals_meet))]
 pub fn rivals_meet()
     ensures { RivalsMeet }
 {}
@@ -391,6 +428,7 @@ pub fn rivals_meet()
 ghost use Rattle.tsp_promises.specs.Uses.{StrictElections};
 /// Nor is the promise of strict elections empty: a history that fits sees two nodes win, one long
 /// after the other.
+#[tactic(auto, using(crate::proofs::WitnessRivals::strict_elections))]
 pub fn strict_elections()
     ensures { StrictElections }
 {}
@@ -398,6 +436,7 @@ pub fn strict_elections()
 ghost use Rattle.tsp_promises.specs.Uses.{DateUse, ForgedDate};
 /// A history that fits sees dates passed on and set, in two lives of a master. With forged octets
 /// between, one date is set twice, so `once_taken` needs its premise.
+#[tactic(auto, using(crate::proofs::WitnessDates::date_use, crate::proofs::WitnessDates::forged_date))]
 pub fn dates_pass()
     ensures used { DateUse }
     ensures forged { ForgedDate }
@@ -407,6 +446,7 @@ ghost use Rattle.tsp_promises.specs.RoundUses.{MeasuresWrongly, SameWords};
 /// Two boots may have the same word: a history that fits sees a master boot again with its old word
 /// and close a round in each of its lives, each of which corrects a node. If a datagram outlives
 /// `LIFE` too, a measurement goes wrong, so `measured` needs one of the two premises.
+#[tactic(auto, using(crate::proofs::WitnessWords::same_words, crate::proofs::WitnessWords::measures_wrongly))]
 pub fn words_repeat()
     ensures used { SameWords }
     ensures late { MeasuresWrongly }
@@ -415,12 +455,14 @@ pub fn words_repeat()
 ghost use Rattle.tsp_promises.specs.Uses.{LateReply};
 /// A history that fits may bring a reply to a request of an earlier life. It ends no exchange, so a
 /// Sample of it would break a promise.
+#[tactic(auto, using(crate::proofs::WitnessWords::late_reply))]
 pub fn late_reply()
     ensures { LateReply }
 {}
 
 ghost use Rattle.tsp_promises.specs.Broken.{AllBreak};
 /// Each promise says something: a small history breaks it.
+#[tactic(auto, using(crate::proofs::BrokenRounds::all_break))]
 pub fn promises_can_be_broken()
     ensures { AllBreak }
 {}
