@@ -4,7 +4,7 @@ use Rattle.tsp_rules.specs.Values.{Post, Message, AdjTime, Peer, Port}
 use Rattle.tsp_base.specs.Words.{Acts, Did, Here, Line, Seen, dids, of, view, MessageValue, all_corrects, lives, Within, Sampled, best, begun_to, peer_of, posted}
 use Rattle.tsp_promises.specs.{Agreed.FromRound, Agreed.ReadingOf, Fits.node_of, Once.ActsOn, Once.OfSend}
 use Rattle.tsp_base.proofs.PlaceLemmas.{Within-tail, Within-through}
-use Rattle.tsp_promises.proofs.{Locating.line_on, SeenPlaces.seen_same}
+use Rattle.tsp_promises.proofs.{HistoryPlaces.line_on, OwnFitsProof.seen_same}
 use Rattle.tsp_promises.proofs.SendPlaces.{post_unique, posted-mono, posted-post, same-number}
 use Rattle.tsp_audit.proofs.{Prefixes.history-within, SendPlaces.brings-one, SendPlaces.send-number, TakeLemmas.same-noted}
 use Rattle.tsp_audit.specs.{Acting.TakesSend, Agreeing.FromRoundAs, Agreeing.IsFromNoRound}

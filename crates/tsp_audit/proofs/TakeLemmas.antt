@@ -5,7 +5,7 @@ use Rattle.tsp_rules.specs.Values.{Post, Correct, Datagram, Message, PeerId, Pla
 use Rattle.tsp_base.specs.Words.{Acts, Came, Here, Line, Seen, dids, of, view, MessageValue, HeaderValue, moved, role, tick_at, Within, begun_to, is_correction, is_numbered, heard, peer_of, posted, time_in}
 use Rattle.tsp_promises.specs.Once.{Brings, Obeys, ObeysAt, SpacedAt}
 use Rattle.tsp_promises.specs.{ClockAt.clock_at, CorrectFits.amount_of, Fits.node_of, Setting.Setting}
-use Rattle.tsp_promises.proofs.Locating.{view-line}
+use Rattle.tsp_promises.proofs.OwnFitsProof.{view-line}
 use Rattle.tsp_promises.proofs.SendPlaces.{post_unique, posted-mono, posted-post, same-number}
 use Rattle.tsp_history.proofs.HistoryLemmas.{history-more}
 use Rattle.tsp_audit.{proofs.SendPlaces.brings-one, specs.Settings.HasClocks, specs.Settings.clock_in}

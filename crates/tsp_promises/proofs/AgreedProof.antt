@@ -1,14 +1,35 @@
--- Clocks corrected in one round agree.
-use Rattle.std.proofs.Common.{sym, ap, arith, subst, inl, inr, ◌∙◌, ◌≡◌, ◌≤◌, ◌≤ℤ◌, ◌⊎◌, ℕ, ◌-◌, ◌*◌, ℤ, pos, ◌+ℤ◌, ◌-ℤ◌, nat_abs, true, List, ◌∷◌, is_some, refl}
+-- Clocks corrected in one round agree. The sums of agreement, over whole numbers. A round's bound outlasts later
+-- Corrects. Clocks along chains of corrected masters agree. A clock that a corrected master corrects agrees with the
+-- first master's: a chain of two links.
+use Rattle.std.proofs.Common.{arith, ◌≡◌, ◌≤◌, ◌≤ℤ◌, ℤ, pos, ◌+ℤ◌, ◌-ℤ◌, nat_abs, ℕ, ◌+◌, sym, ap, subst, inl, inr, ◌∙◌, ◌⊎◌, ◌-◌, ◌*◌, true, List, ◌∷◌, is_some, refl, subst₂, []}
+use Rattle.std.proofs.lemmas.Int.{ints}
 use Rattle.tsp_rules.specs.Values.{AdjTime, PeerId}
 use Rattle.tsp_base.specs.Words.{Did, Line, Seen, Here, of, dids, view, moved, time_of, MessageValue, Within, best, tick_at, width}
-use Rattle.tsp_promises.specs.Agreed.{Agreed, AgreedAt, ClocksAgree, MasterAgrees, PeersAgree, RestsOnSample, StayAgreed, Unchanged}
-use Rattle.tsp_promises.specs.{ClockAt.clock_at, CorrectionFits.AnswersSlaveUp, CorrectionFits.AtClose, Fits.Fits, Fits.node_of}
-use Rattle.tsp_promises.proofs.{EverywhereLemmas.Everywhere-from, FromRoundProof.Met, FromRoundProof.corrects-adj, FromRoundProof.whole}
 use Rattle.tsp_base.proofs.PlaceLemmas.{Within-through, Within-tail}
-use Rattle.tsp_promises.proofs.{AgreedSums.sums, AgreedSums.triangle, AgreedSums.moved-by, Clocks.drift_apart, Given.Given, Given.given_at}
-use Rattle.tsp_promises.proofs.{HistoryPlaces.of-own, MasterMoved.master_moved, MasterMoved.same-mean, MasterMoved.unmoved}
-use Rattle.tsp_promises.{proofs.OwnFitsProof.place-time, proofs.SendPlaces.post_fits, specs.Setting.Setting, specs.StepFacts.closed}
+use Rattle.tsp_promises.specs.Agreed.{Agreed, AgreedAt, ClocksAgree, MasterAgrees, PeersAgree, RestsOnSample, StayAgreed, Unchanged, FromRound, UnchangedBut}
+use Rattle.tsp_promises.specs.Throughout.{BoundAt, BoundsLast, PeersBound, Throughout, moved_since}
+use Rattle.tsp_promises.specs.Chained.{Hop, Hops, IsChain, ChainAgrees, ChainsAgree, Chained, ChainedAt, TreeAgrees, bound, hop_bound, last_hop, node_at}
+use Rattle.tsp_promises.specs.{CorrectionFits.AnswersSlaveUp, CorrectionFits.AtClose, Relayed.RelayAgrees, Relayed.Relayed, Setting.Setting}
+use Rattle.tsp_promises.specs.{ClockAt.clock_at, Fits.Fits, Fits.node_of, StepFacts.closed}
+use Rattle.tsp_promises.proofs.{FromRoundProof.Met, FromRoundProof.corrects-adj, FromRoundProof.whole, OwnFitsProof.Given, OwnFitsProof.given_at}
+use Rattle.tsp_promises.proofs.{EverywhereLemmas.Everywhere-from, MasterMoved.master_moved, MasterMoved.same-mean, MasterMoved.unmoved}
+use Rattle.tsp_promises.proofs.{OwnFitsProof.place-time, OwnFitsProof.own_fits, OwnFitsProof.fits_at, SendPlaces.post_fits}
+use Rattle.tsp_promises.proofs.{Clocks.drift_apart, HistoryPlaces.of-own, HistoryPlaces.Within-of, SinceProof.since}
+
+-- wk and wm are the walls, k0 and m0 what the clocks had moved at the reading, k1 what k's has moved after its Correct, ticks at the reading and now
+pub sums : (wk wm k0 k1 m0 mean diff amount e : ℤ) (kr kt mr mt w : ℕ) → amount ≡ mean -ℤ diff → k1 ≡ k0 +ℤ amount →
+    pos (nat_abs (diff -ℤ (((wk +ℤ k0) +ℤ pos kr) -ℤ ((wm +ℤ m0) +ℤ pos mr)))) ≤ℤ e →
+    kt + mr ≤ kr + mt + w → kr + mt ≤ kt + mr + w →
+    pos (nat_abs (((wk +ℤ k1) +ℤ pos kt) -ℤ ((((wm +ℤ m0) +ℤ mean)) +ℤ pos mt))) ≤ℤ (e +ℤ pos w)
+sums wk wm k0 k1 m0 mean diff amount e kr kt mr mt w a b f g h = omega (arith, ints)
+
+-- two clocks near a third are near each other
+pub triangle : (a b ref e f : ℤ) (w v : ℕ) → pos (nat_abs (a -ℤ ref)) ≤ℤ (e +ℤ pos w) → pos (nat_abs (b -ℤ ref)) ≤ℤ (f +ℤ pos v) → pos (nat_abs (a -ℤ b)) ≤ℤ ((e +ℤ f) +ℤ pos (w + v))
+triangle a b ref e f w v h k = omega (arith, ints)
+
+-- a clock that moved by the mean
+pub moved-by : (wall moved_h moved_c mean : ℤ) (tick : ℕ) → moved_h ≡ moved_c +ℤ mean → (wall +ℤ moved_h) +ℤ pos tick ≡ ((wall +ℤ moved_c) +ℤ mean) +ℤ pos tick
+moved-by wall moved_h moved_c mean tick e = omega (arith, ints)
 
 -- the clock of k against m's clock as its Close left it
 pub core : (setting : Setting) (m : ℕ) (cpast : List Line) (mean : ℤ) (c : Line) (past : List Line) (r : Line) (rolder h : List Line) (err : ℤ) (t : ℕ) → Fits setting h → time_of (dids h) ≤ t →
@@ -70,3 +91,144 @@ agreed setting h g = Everywhere-from (AgreedAt setting) h (λ l s w.
 
 pub stay_agreed : (setting : Setting) (h : List Line) → Given setting h → StayAgreed setting h
 stay_agreed setting h g = Everywhere-from (λ (l : Line) (s : List Line). (t : ℕ) → l.did.step.at ≤ t → ClocksAgree setting (l ∷ s) t) h (λ l s w t by. clocks_agree setting (l ∷ s) t (given_at setting (l ∷ s) h g w) by)
+
+-- the clocks as they were left, and what moved them since
+back : (wk wm ck cm hk hm mean e : ℤ) (tk tm w : ℕ) → pos (nat_abs (((wk +ℤ ck) +ℤ pos tk) -ℤ (((wm +ℤ cm) +ℤ mean) +ℤ pos tm))) ≤ℤ (e +ℤ pos w) →
+    pos (nat_abs ((((wk +ℤ hk) +ℤ pos tk) -ℤ (hk -ℤ ck)) -ℤ (((wm +ℤ hm) +ℤ pos tm) -ℤ ((hm -ℤ cm) -ℤ mean)))) ≤ℤ (e +ℤ pos w)
+back wk wm ck cm hk hm mean e tk tm w h = omega (arith, ints)
+
+besides : (c d x y b : ℤ) → pos (nat_abs ((c -ℤ x) -ℤ (d -ℤ y))) ≤ℤ b → pos (nat_abs (c -ℤ d)) ≤ℤ ((b +ℤ pos (nat_abs x)) +ℤ pos (nat_abs y))
+besides c d x y b h = omega (arith, ints)
+
+bound_at : (setting : Setting) (h : List Line) (t : ℕ) → Given setting h → time_of (dids h) ≤ t → BoundAt setting h t
+bound_at setting h t g by m close cpast mean c past r older err s =
+    let k = node_of c in
+    let gc = given_at setting (c ∷ past) h g s.within in
+    let w = whole setting m close cpast c past r older err gc s.from_round in
+    let is : w.mean ≡ mean = same-mean s.count w.count s.lo w.lo s.size w.size mean w.mean (sym s.deed ∙ w.deed) in
+    let met = subst (λ z. Met setting m k cpast z c past r older err) is w.met in
+    let o = place-time setting (c ∷ past) h g.fits s.within in
+    let left = core setting m cpast mean c past r older (c ∷ past) err t gc.fits (omega arith) (record { within = inl refl; since = record { corrects = refl; lives = refl } }) met in
+    let taken = back (setting.wall k) (setting.wall m) (moved (dids (of k (c ∷ past)))) (moved (dids (of m cpast))) (moved (dids (of k h))) (moved (dids (of m h))) mean err (tick_at (setting.rate k) t) (tick_at (setting.rate m) t) (2 * width setting.drift (t - r.did.step.at)) left in
+    record { taken_back = taken; now = besides (clock_at setting k h t) (clock_at setting m h t) (moved (dids (of k h)) -ℤ moved (dids (of k (c ∷ past)))) ((moved (dids (of m h)) -ℤ moved (dids (of m cpast))) -ℤ mean) (err +ℤ pos (2 * width setting.drift (t - r.did.step.at))) taken }
+
+-- a clock with what moved it since a place taken back is as that place left it
+left-as : (wall now then : ℤ) (tick : ℕ) → ((wall +ℤ now) +ℤ pos tick) -ℤ (now -ℤ then) ≡ (wall +ℤ then) +ℤ pos tick
+left-as wall now then tick = omega (arith, ints)
+
+peers_bound : (setting : Setting) (h : List Line) (t : ℕ) → Given setting h → time_of (dids h) ≤ t → PeersBound setting h t
+peers_bound setting h t g by m close cpast c d past qast r q rolder qolder e f x y =
+    let k = node_of c in
+    let l = node_of d in
+    let gc = given_at setting (c ∷ past) h g x.within in
+    let gd = given_at setting (d ∷ qast) h g y.within in
+    let one = whole setting m close cpast c past r rolder e gc x.from_round in
+    let two = whole setting m close cpast d qast q qolder f gd y.from_round in
+    let mean : two.mean ≡ one.mean = same-mean one.count two.count one.lo two.lo one.size two.size one.mean two.mean (sym one.deed ∙ two.deed) in
+    let met = subst (λ z. Met setting m l cpast z d qast q qolder f) mean two.met in
+    let o = place-time setting (c ∷ past) h g.fits x.within in
+    let p = place-time setting (d ∷ qast) h g.fits y.within in
+    let near_c = core setting m cpast one.mean c past r rolder (c ∷ past) e t gc.fits (omega arith) (record { within = inl refl; since = record { corrects = refl; lives = refl } }) one.met in
+    let near_d = core setting m cpast one.mean d qast q qolder (d ∷ qast) f t gd.fits (omega arith) (record { within = inl refl; since = record { corrects = refl; lives = refl } }) met in
+    let v = 2 * width setting.drift (t - r.did.step.at) in
+    let w = 2 * width setting.drift (t - q.did.step.at) in
+    let near = triangle (clock_at setting k (c ∷ past) t) (clock_at setting l (d ∷ qast) t) (((setting.wall m +ℤ moved (dids (of m cpast))) +ℤ one.mean) +ℤ pos (tick_at (setting.rate m) t)) e f v w near_c near_d in
+    let back_c = left-as (setting.wall k) (moved (dids (of k h))) (moved (dids (of k (c ∷ past)))) (tick_at (setting.rate k) t) in
+    let back_d = left-as (setting.wall l) (moved (dids (of l h))) (moved (dids (of l (d ∷ qast)))) (tick_at (setting.rate l) t) in
+    let taken = subst₂ (λ a b. pos (nat_abs (a -ℤ b)) ≤ℤ ((e +ℤ f) +ℤ pos (v + w))) (sym back_c) (sym back_d) near in
+    record { taken_back = taken; now = besides (clock_at setting k h t) (clock_at setting l h t) (moved_since k (c ∷ past) h) (moved_since l (d ∷ qast) h) ((e +ℤ f) +ℤ pos (v + w)) taken }
+
+pub throughout : (setting : Setting) (world : List Line) → Given setting world → Throughout setting world
+throughout setting world g = Everywhere-from (λ (l : Line) (s : List Line). (t : ℕ) → l.did.step.at ≤ t → BoundsLast setting (l ∷ s) t) world
+    (λ l s w t by. (let gs = given_at setting (l ∷ s) world g w in record { master = bound_at setting (l ∷ s) t gs by; peers = peers_bound setting (l ∷ s) t gs by }))
+
+none-off : (a : ℤ) → pos (nat_abs (a -ℤ a)) ≤ℤ pos 0
+none-off a = omega (arith, ints)
+
+two-off : (a b c x y : ℤ) → pos (nat_abs (a -ℤ b)) ≤ℤ y → pos (nat_abs (b -ℤ c)) ≤ℤ x → pos (nat_abs (a -ℤ c)) ≤ℤ (x +ℤ y)
+two-off a b c x y h k = omega (arith, ints)
+
+-- a link's clock from its master's, where the master is left alone since its own Correct, which stands before the Close
+hop-off : (setting : Setting) (h : List Line) (t : ℕ) → Given setting h → time_of (dids h) ≤ t → (d x : Hop) → Unchanged (node_at d) (d.correct ∷ d.past) h → Hops (node_at d) x h → Within (d.correct ∷ d.past) x.cpast →
+    pos (nat_abs (clock_at setting (node_at x) h t -ℤ clock_at setting (node_at d) h t)) ≤ℤ hop_bound setting t x
+hop-off setting h t given by d x v hop d_in =
+    let g = node_at d in
+    let past_h : Within x.past h = Within-tail x.correct x.past h hop.unchanged.within in
+    let close_h : Within (x.close ∷ x.cpast) h = Within-through (x.close ∷ x.cpast) x.past h hop.from_round.closes past_h in
+    let fc = fits_at setting (x.close ∷ x.cpast) h given.fits close_h in
+    let one = since setting (of g (d.correct ∷ d.past)) (of g (x.close ∷ x.cpast)) (own_fits setting g (x.close ∷ x.cpast) fc) (Within-of g (d.correct ∷ d.past) (x.close ∷ x.cpast) (inr d_in)) in
+    let two = since setting (of g (x.close ∷ x.cpast)) (of g h) (own_fits setting g h given.fits) (Within-of g (x.close ∷ x.cpast) h close_h) in
+    let same = v.since in
+    let but : UnchangedBut g x.close x.cpast h = record { lives = omega (arith, one.lives, two.lives, same.lives); corrects = inl (omega (arith, one.all, two.all, same.corrects)) } in
+    agreed_master setting h t given by g x.close x.cpast x.correct x.past x.reading x.older x.err hop.from_round hop.unchanged but
+
+-- the last link's node is left alone
+last-kept : (m : ℕ) (first : Hop) (rest : List Hop) (h : List Line) → Hops m first h → IsChain first rest h → Unchanged (node_at (last_hop first rest)) ((last_hop first rest).correct ∷ (last_hop first rest).past) h
+last-kept m first [] h a c = a.unchanged
+last-kept m first (x ∷ rest) h a c = c.0.unchanged
+
+-- the last clock of a chain from the first link's
+lower : (setting : Setting) (h : List Line) (t : ℕ) → Given setting h → time_of (dids h) ≤ t → (m : ℕ) (first : Hop) (rest : List Hop) → Hops m first h → IsChain first rest h →
+    pos (nat_abs (clock_at setting (node_at (last_hop first rest)) h t -ℤ clock_at setting (node_at first) h t)) ≤ℤ bound setting t rest
+lower setting h t given by m first [] a c = none-off (clock_at setting (node_at first) h t)
+lower setting h t given by m first (x ∷ rest) a c =
+    let d = last_hop first rest in
+    let one = hop-off setting h t given by d x (last-kept m first rest h a c.2) c.0 c.1 in
+    let two = lower setting h t given by m first rest a c.2 in
+    two-off (clock_at setting (node_at x) h t) (clock_at setting (node_at d) h t) (clock_at setting (node_at first) h t) (bound setting t rest) (hop_bound setting t x) one two
+
+down : (setting : Setting) (h : List Line) (t : ℕ) → Given setting h → time_of (dids h) ≤ t → ChainAgrees setting h t
+down setting h t given by m first rest a c but =
+    let one = lower setting h t given by m first rest a c in
+    let two = agreed_master setting h t given by m first.close first.cpast first.correct first.past first.reading first.older first.err a.from_round a.unchanged but in
+    let z : pos (nat_abs (clock_at setting (node_at (last_hop first rest)) h t -ℤ clock_at setting m h t)) ≤ℤ (hop_bound setting t first +ℤ bound setting t rest) =
+    two-off (clock_at setting (node_at (last_hop first rest)) h t) (clock_at setting (node_at first) h t) (clock_at setting m h t) (hop_bound setting t first) (bound setting t rest) one two in
+    omega (arith, ints, z)
+
+across-sum : (a b c d x y e f : ℤ) (w v : ℕ) → pos (nat_abs (a -ℤ b)) ≤ℤ x → pos (nat_abs (b -ℤ c)) ≤ℤ ((e +ℤ f) +ℤ pos (w + v)) → pos (nat_abs (d -ℤ c)) ≤ℤ y → pos (nat_abs (a -ℤ d)) ≤ℤ ((x +ℤ (e +ℤ pos w)) +ℤ (y +ℤ (f +ℤ pos v)))
+across-sum a b c d x y e f w v h k l = omega (arith, ints)
+
+across : (setting : Setting) (h : List Line) (t : ℕ) → Given setting h → time_of (dids h) ≤ t → ChainsAgree setting h t
+across setting h t given by m a b xs ys x y close cpast c d =
+    let one = lower setting h t given by m a xs x c in
+    let two = lower setting h t given by m b ys y d in
+    let cast_b : FromRound m a.close a.cpast b.correct b.past b.reading b.older b.err =
+    subst (λ z. FromRound m z a.cpast b.correct b.past b.reading b.older b.err) (sym close) (subst (λ z. FromRound m b.close z b.correct b.past b.reading b.older b.err) (sym cpast) y.from_round) in
+    let tops = agreed_peers setting h t given by m a.close a.cpast a.correct b.correct a.past b.past a.reading b.reading a.older b.older a.err b.err x.from_round cast_b x.unchanged y.unchanged in
+    across-sum (clock_at setting (node_at (last_hop a xs)) h t) (clock_at setting (node_at a) h t) (clock_at setting (node_at b) h t) (clock_at setting (node_at (last_hop b ys)) h t)
+    (bound setting t xs) (bound setting t ys) a.err b.err (2 * width setting.drift (t - a.reading.did.step.at)) (2 * width setting.drift (t - b.reading.did.step.at)) one tops two
+
+-- two clocks near a third
+both-off : (a b c x y : ℤ) → pos (nat_abs (a -ℤ c)) ≤ℤ x → pos (nat_abs (b -ℤ c)) ≤ℤ y → pos (nat_abs (a -ℤ b)) ≤ℤ (x +ℤ y)
+both-off a b c x y h k = omega (arith, ints)
+
+tree : (setting : Setting) (h : List Line) (t : ℕ) → Given setting h → time_of (dids h) ≤ t → TreeAgrees setting h t
+tree setting h t given by g a b xs ys x y u v c d =
+    both-off (clock_at setting (node_at (last_hop a xs)) h t) (clock_at setting (node_at (last_hop b ys)) h t) (clock_at setting g h t) (bound setting t xs +ℤ hop_bound setting t a) (bound setting t ys +ℤ hop_bound setting t b)
+    (down setting h t given by g a xs x c u) (down setting h t given by g b ys y d v)
+
+-- at a place
+pub chained_at : (setting : Setting) (h : List Line) (t : ℕ) → Given setting h → time_of (dids h) ≤ t → ChainedAt setting h t
+chained_at setting h t g by = record { down = down setting h t g by; across = across setting h t g by; tree = tree setting h t g by }
+
+pub chained : (setting : Setting) (h : List Line) → Given setting h → Chained setting h
+chained setting h g = Everywhere-from (λ (l : Line) (s : List Line). (t : ℕ) → l.did.step.at ≤ t → ChainedAt setting (l ∷ s) t) h
+    (λ l s w t by. chained_at setting (l ∷ s) t (given_at setting (l ∷ s) h g w) by)
+
+abbrev hop : Line → List Line → Line → List Line → Line → List Line → ℤ → Hop
+hop close cpast c past r older e = record { close = close; cpast = cpast; correct = c; past = past; reading = r; older = older; err = e }
+
+two-links : (a : ℕ) (e f : ℤ) (v w : ℕ) → pos a ≤ℤ ((pos 0 +ℤ (e +ℤ pos w)) +ℤ (f +ℤ pos v)) → pos a ≤ℤ ((f +ℤ e) +ℤ pos (v + w))
+two-links a e f v w h = omega (arith, ints)
+
+relay_agrees : (setting : Setting) (h : List Line) (t : ℕ) → ChainAgrees setting h t → RelayAgrees setting h t
+relay_agrees setting h t down g m close shut cpast spast c d past qast r q rolder qolder e f x y d_node d_in u v n =
+    let first = hop shut spast d qast q qolder f in
+    let second = hop close cpast c past r rolder e in
+    let one : Hops m first h = record { from_round = y; unchanged = v } in
+    let two : Hops (node_of d) second h = record { from_round = subst (λ k. FromRound k close cpast c past r rolder e) (sym d_node) x; unchanged = u } in
+    two-links (nat_abs (clock_at setting (node_of c) h t -ℤ clock_at setting m h t)) e f (2 * width setting.drift (t - q.did.step.at)) (2 * width setting.drift (t - r.did.step.at))
+    (down m first (second ∷ []) one (two, d_in, tt) n)
+
+pub relayed : (setting : Setting) (h : List Line) → Given setting h → Relayed setting h
+relayed setting h g = Everywhere-from (λ (l : Line) (s : List Line). (t : ℕ) → l.did.step.at ≤ t → RelayAgrees setting (l ∷ s) t) h (λ l s w t by. relay_agrees setting (l ∷ s) t (chained_at setting (l ∷ s) t (given_at setting (l ∷ s) h g w) by).down)

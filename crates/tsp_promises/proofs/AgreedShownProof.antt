@@ -1,16 +1,15 @@
 -- What clocks show agrees where the clocks do.
 use Rattle.std.proofs.Common.{sym, arith, subst, ◌∙◌, ◌≡◌, ◌≤◌, ◌≤ℤ◌, ℕ, ◌+◌, ◌-◌, ℤ, pos, ◌+ℤ◌, ◌-ℤ◌, nat_abs, true, List, [], ◌∷◌}
 use Rattle.std.proofs.lemmas.Int.{ints}
-use Rattle.tsp_promises.specs.{Agreed.FromRound, Agreed.Unchanged, ClockAt.clock_at, Fits.Alive, Fits.Fits, Fits.node_of, Setting.Setting}
 use Rattle.tsp_promises.specs.AgreedShown.{AgreedShown, HasMet, ShownWithin, AcrossShown, DownShown, MasterShown, PeersShown, ShownAgree, ShownAsClocks, ShownNear, TreeShown, Waited, WaitedFor}
-use Rattle.tsp_promises.specs.Chained.{Hop, Hops, IsChain, last_hop, node_at}
+use Rattle.tsp_promises.specs.{Chained.Hop, Chained.Hops, Chained.IsChain, Chained.last_hop, Chained.node_at, Steady.shown_width}
+use Rattle.tsp_promises.specs.{Agreed.FromRound, Agreed.Unchanged, Fits.Alive, Fits.Fits, Fits.node_of, ShownAt.left_at, ShownAt.shown_at}
+use Rattle.tsp_promises.{proofs.SteadyProof.meets_by, proofs.SteadyProof.runs_over_time, specs.ClockAt.clock_at, specs.Setting.Setting}
+use Rattle.tsp_promises.proofs.{AgreedProof.agreed_master, AgreedProof.agreed_peers, AgreedProof.chained_at, OwnFitsProof.fits_in}
+use Rattle.tsp_promises.proofs.{EverywhereLemmas.Everywhere-from, ShownProof.clock_target, ShownProof.shown_is, ShownProof.stays_up}
+use Rattle.tsp_promises.proofs.{ClockProof.post_up, OwnFitsProof.Given, OwnFitsProof.given_at, OwnFitsProof.fits_at}
 use Rattle.tsp_base.specs.Words.{Line, of, dids, time_of, up, Within, tick_at}
-use Rattle.tsp_promises.specs.{ShownAt.left_at, ShownAt.shown_at, Steady.shown_width}
 use Rattle.tsp_base.proofs.PlaceLemmas.{Within-through, Within-tail}
-use Rattle.tsp_promises.proofs.{AgreedProof.agreed_master, AgreedProof.agreed_peers, ChainedProof.chained_at, ClockProof.post_up}
-use Rattle.tsp_promises.proofs.{EverywhereLemmas.Everywhere-from, Given.Given, Given.given_at, Locating.fits_in, OwnFitsProof.fits_at}
-use Rattle.tsp_promises.proofs.ShownProof.{clock_target, shown_is, stays_up}
-use Rattle.tsp_promises.proofs.SteadyProof.{meets_by, runs_over_time}
 
 -- clocks less what is left
 less : (c d x y b : ℤ) → pos (nat_abs (c -ℤ d)) ≤ℤ b → pos (nat_abs ((c -ℤ x) -ℤ (d -ℤ y))) ≤ℤ ((b +ℤ pos (nat_abs x)) +ℤ pos (nat_abs y))

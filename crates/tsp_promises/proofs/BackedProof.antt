@@ -1,11 +1,11 @@
 -- Whom a step has backed, and where.
 use Rattle.std.proofs.Common.{sym, ap, inl, inr, true≢false, ◌∙◌, ◌≡◌, ◌==◌, ◌||◌, Bool, true, false, List, [], ◌∷◌, Some, refl}
+use Rattle.std.proofs.Math.Bool.{or-true}
 use Rattle.tsp_rules.specs.Values.{Back, PeerId, Port}
 use Rattle.tsp_base.specs.Words.{Step, Deed, Begins, Acts, Did, Line, dids, view, seen_as, is_shared, Within}
-use Rattle.tsp_promises.specs.{Fits.SameStep, OwnFits.OwnFits, Setting.Setting, StepFacts.backed, StepFacts.backed_after}
-use Rattle.std.proofs.Math.Bool.{or-true}
 use Rattle.tsp_base.proofs.ViewPlaces.{port-same, or-false}
-use Rattle.tsp_promises.proofs.{KnownProof.InStep, KnownProof.in-step, KnownProof.line-is, Locating.line_on}
+use Rattle.tsp_promises.specs.{Fits.SameStep, OwnFits.OwnFits, Setting.Setting, StepFacts.backed, StepFacts.backed_after}
+use Rattle.tsp_promises.proofs.{HistoryPlaces.line_on, KnownProof.InStep, KnownProof.in-step, KnownProof.line-is}
 
 -- where the Back stands of the candidate that a step has backed
 pub record BackAt (q : Port) (t : List Line) (p : PeerId) : Type 0 where

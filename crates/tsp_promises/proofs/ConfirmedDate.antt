@@ -5,14 +5,15 @@ use Rattle.tsp_base.specs.Words.{Acts, Did, Line, Seen, Here, of, dids, view, Me
 use Rattle.tsp_base.proofs.{PlaceLemmas.Within-comparable, PlaceLemmas.Within-tail, PlaceLemmas.Within-through, Views.plain_view}
 use Rattle.tsp_promises.specs.{AckFits.Acknowledges, Dated.DateConfirmedAt, DeedFits.MessageFits, Fits.Fits, Fits.LineFits, Fits.node_of}
 use Rattle.tsp_promises.specs.{DateFits.AnswersClient, DateFits.AnswersPassedOn, DateFits.DateAckFits, Setting.Setting, Setting.setup_of}
-use Rattle.tsp_promises.{specs.Once.Acted, proofs.KnownProof.known, proofs.PortFits.deed_fits, proofs.SinceProof.since, specs.Since.OneLife}
+use Rattle.tsp_promises.{specs.Once.Acted, proofs.KnownProof.known, proofs.SinceProof.since, specs.Since.OneLife}
 use Rattle.tsp_promises.specs.Premises.{Few, FewAt, Honest, HonestAt, Life, TakenWithinAt}
 use Rattle.tsp_promises.proofs.{EverywhereLemmas.Everywhere-at, EverywhereLemmas.Everywhere-within, SameSendProof.too-late, DateAt.date_at}
 use Rattle.tsp_promises.proofs.{Clocks.near, SendPlaces.send_place, OwnFitsProof.own_fits, OwnFitsProof.fits_at, OwnFitsProof.place-time}
 use Rattle.tsp_promises.proofs.{ConfirmedProof.port-is, OnceDatedProof.Passing, OnceDatedProof.passed-apart, OnceDatedProof.passes-in}
 use Rattle.tsp_promises.proofs.{HeardProof.heard_taken, ElectionFacts.begun_mono, ElectionFacts.boots, ElectionFacts.boots_view}
 use Rattle.tsp_promises.proofs.{HistoryPlaces.lift, HistoryPlaces.own_in, SendProof.BeginsSend, SendProof.number-same, SendProof.opened}
-use Rattle.tsp_promises.proofs.Locating.{line_on, locate, fits_in, seen_in, tick_in, view-line}
+use Rattle.tsp_promises.proofs.OwnFitsProof.{locate, fits_in, seen_in, tick_in, view-line, deed_fits}
+use Rattle.tsp_promises.proofs.HistoryPlaces.{line_on}
 
 -- the date that port q of n passes on to k is still open
 record OpenDate (n k : ℕ) (q : Port) (world : List Line) (f : Did) (fw : List Line) (m : MessageValue) : Type 0 where

@@ -2,17 +2,15 @@
 use Rattle.std.proofs.Common.{sym, ap, arith, subst, subst₂, inl, inr, ◌∙◌, ◌≡◌, Bool, true, ℕ, ◌+◌, ◌<◌, ◌≤◌, ℤ, List, [], ◌∷◌, Some, is_some, refl}
 use Rattle.tsp_rules.specs.Values.{Post, Correct, Acked, Message, Good, Kind, Ack, AdjTime, Conflict, Date, Msite, MsiteReq, QuitKind, SetDate, SetTime, Test, TraceOff, TraceOn, PeerId, Peer, Port, LIFE}
 use Rattle.tsp_base.specs.Words.{Came, Acts, Did, Line, Seen, Here, of, dids, view, MessageValue, all_corrects, corrects, lives, ticket, word, Within, acting, begun_to, is_correction, last_taken, open_to, Setup, Receives, heard, peer_of, posted}
-use Rattle.tsp_promises.specs.{AckFits.Acknowledges, AckFits.AckFits, AckFits.Answers, DeedFits.MessageFits, Fits.Fits, Fits.node_of}
-use Rattle.tsp_promises.specs.Once.{Acted, Brings, ConfirmedAt, OnceConfirmed}
-use Rattle.tsp_promises.specs.{Setting.Setting, Setting.setup_of, Since.OneLife}
 use Rattle.tsp_base.proofs.PlaceLemmas.{Within-all, Within-through, Within-tail, Within-comparable}
 use Rattle.tsp_base.proofs.Views.{plain_view}
-use Rattle.tsp_promises.proofs.{Correcting.takes_of, Given.Given, Given.given_at, HeardProof.heard_taken, KnownProof.known}
-use Rattle.tsp_promises.proofs.{HistoryPlaces.lift, HistoryPlaces.own_in, HistoryPlaces.Within-of, LastTakenProof.last_taken_at}
-use Rattle.tsp_promises.proofs.{Locating.line_on, Locating.locate, PortFits.deed_fits, SameSendProof.same_send, SinceProof.since}
-use Rattle.tsp_promises.proofs.OwnFitsProof.{own_fits, own_fits_at, fits_at, place-time}
-use Rattle.tsp_promises.proofs.SendProof.{CorrectsTo, numbered, opened, number-same}
-use Rattle.tsp_promises.proofs.SourceProof.{Source, source}
+use Rattle.tsp_promises.proofs.OwnFitsProof.{Given, given_at, deed_fits, own_fits, own_fits_at, fits_at, place-time, locate}
+use Rattle.tsp_promises.specs.{Once.Acted, Once.Brings, Once.ConfirmedAt, Once.OnceConfirmed, Setting.Setting, Setting.setup_of}
+use Rattle.tsp_promises.specs.{AckFits.Acknowledges, AckFits.AckFits, AckFits.Answers, DeedFits.MessageFits, Fits.Fits, Fits.node_of}
+use Rattle.tsp_promises.{proofs.Correcting.takes_of, proofs.KnownProof.known, specs.Since.OneLife}
+use Rattle.tsp_promises.proofs.{HistoryPlaces.line_on, HistoryPlaces.lift, HistoryPlaces.own_in, HistoryPlaces.Within-of, SinceProof.since}
+use Rattle.tsp_promises.proofs.{SameSendProof.same_send, SendProof.CorrectsTo, SendProof.numbered, SendProof.opened, SendProof.number-same}
+use Rattle.tsp_promises.proofs.{HeardProof.heard_taken, LastTakenProof.last_taken_at, SourceProof.Source, SourceProof.source}
 
 -- the last Correct doesn't stand before the source of a number that it took
 before-source : (setting : Setting) (k : ℕ) (c r : Line) (cw ro uo : List Line) (amount : ℤ) (stepped : Bool) (shown : ℤ) → Fits setting uo → Within (r ∷ ro) uo → Within (c ∷ cw) ro → node_of c ≡ k → c.did.deed ≡ Acts (Correct amount stepped shown) →

@@ -6,8 +6,9 @@ use Rattle.tsp_base.specs.Words.{Cause, Came, Handed, Acts, Did, Line, Seen, Her
 use Rattle.tsp_base.proofs.{PlaceLemmas.Within-through, PlaceLemmas.Within-tail, Views.plain_view}
 use Rattle.tsp_promises.specs.CorrectFits.{WhyCorrect, ByRound, ByMaster, ByDate, TakesCorrection, amount_of}
 use Rattle.tsp_promises.specs.{Fits.Fits, Fits.SameStep, Fits.TookFits, Fits.node_of, Once.Brings, Setting.Setting, Setting.setup_of}
-use Rattle.tsp_promises.{specs.Since.Since, proofs.OwnFitsProof.own-step}
-use Rattle.tsp_promises.proofs.{Locating.line_on, Locating.locate, Locating.fits_in, SendPlaces.post_unique, SendPlaces.same-number}
+use Rattle.tsp_promises.{specs.Since.Since, proofs.OwnFitsProof.own-step, proofs.HistoryPlaces.line_on, proofs.OwnFitsProof.locate}
+use Rattle.tsp_promises.proofs.SendPlaces.{post_unique, same-number}
+use Rattle.tsp_promises.proofs.OwnFitsProof.{fits_in}
 
 -- a Correct in a step that has taken this correction of p
 pub record TakesOf (here : Did) (seen : List Seen) (amount : ℤ) (p : PeerId) (m : MessageValue) : Type 0 where

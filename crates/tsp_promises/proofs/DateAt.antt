@@ -2,10 +2,10 @@
 use Rattle.std.proofs.Common.{sym, ap, subst, inl, inr, ◌≡◌, ◌==◌, ◌||◌, ◌&&◌, cond, Bool, true, false, ℤ, List, [], ◌∷◌, Option, None, Some, refl}
 use Rattle.std.proofs.lemmas.Bool.{and_parts}
 use Rattle.tsp_rules.specs.Values.{Boot, Correct, Message, PeerId, Port}
+use Rattle.tsp_rules.proofs.GuardFacts.{same_peer}
 use Rattle.tsp_base.specs.Words.{Acts, Deed, Did, Line, view, seen_as, is_shared, MessageValue, Within, Said, said, taken, Dating, dating_of, is_date_request, last_date, last_date_after, Receives}
 use Rattle.tsp_base.proofs.ViewPlaces.{port-same, or-false}
-use Rattle.tsp_promises.proofs.{KnownProof.line-is, LastTakenProof.said_took, Locating.line_on}
-use Rattle.tsp_rules.proofs.GuardFacts.{same_peer}
+use Rattle.tsp_promises.proofs.{HistoryPlaces.line_on, KnownProof.line-is, LastTakenProof.said_took}
 
 -- the Correct by which the last date of p was set on port q
 pub record DateAt (q : Port) (p : PeerId) (t : List Line) (d : Dating) : Type 0 where

@@ -4,7 +4,7 @@ use Rattle.tsp_rules.specs.Values.{Post, Become, Backer, Message, Kind, Accept, 
 use Rattle.tsp_base.specs.Words.{Deed, Acts, Did, Line, Seen, of, view, plain, MessageValue, word, is_among, acting, begun, Setup}
 use Rattle.tsp_promises.specs.{DeedFits.DeedFits, DeedFits.MessageFits, Everywhere.Everywhere, Fits.Fits, Fits.node_of}
 use Rattle.tsp_promises.specs.{HoldFits.AcceptFits, HoldFits.BackerFits, HoldFits.LeadFits, Setting.Setting, Setting.setup_of}
-use Rattle.tsp_promises.proofs.PortFits.{deed_fits}
+use Rattle.tsp_promises.proofs.OwnFitsProof.{deed_fits}
 use Rattle.std.proofs.{Math.Bool.or-true, lemmas.Bool.or_cases}
 use Rattle.tsp_rules.proofs.GuardFacts.{same_peer}
 

@@ -3,13 +3,14 @@ use Rattle.std.proofs.Common.{sym, ap, arith, subst, subst₂, inl, inr, ◌∙�
 use Rattle.std.proofs.lemmas.Int.{ints}
 use Rattle.tsp_rules.specs.Values.{Port}
 use Rattle.tsp_base.specs.Words.{Did, Line, Here, of, dids, plain, view, all_corrects, boot_tick, moved, target, tick_of, wall, Within, half_up, peer_of}
-use Rattle.tsp_promises.specs.{ErrsBounded.ErrAt, ErrsBounded.ErrsBounded, Fits.Fits, Fits.node_of, MeasureFits.SampleFits, Setting.Setting}
 use Rattle.tsp_base.proofs.{PlaceLemmas.Within-tail, Views.plain_view}
-use Rattle.tsp_promises.proofs.{BestProof.best_at, EverywhereLemmas.Everywhere-from, FromRoundProof.cast_kind, FromRoundProof.taking_of}
-use Rattle.tsp_promises.proofs.{HistoryPlaces.of-own, HistoryPlaces.Within-of, Locating.fits_in, Locating.line_on, Locating.locate}
-use Rattle.tsp_promises.proofs.{MeasuredProof.first-now, MeasuredProof.half-up-pos, MeasuredProof.sample_fits, PortFits.own_tick}
-use Rattle.tsp_promises.proofs.{OwnFitsProof.fits_at, OwnFitsProof.own_fits, SinceProof.since, TakingProof.begun_facts, TakingProof.used-by}
-use Rattle.tsp_promises.{proofs.RoundPlaces.exchange_at, proofs.RoundPlaces.same-start, proofs.RoundPlaces.started_at, specs.Since.OneLife}
+use Rattle.tsp_promises.proofs.OwnFitsProof.{fits_in, locate, own_tick, fits_at, own_fits}
+use Rattle.tsp_promises.specs.{ErrsBounded.ErrAt, ErrsBounded.ErrsBounded, Fits.Fits, Fits.node_of, MeasureFits.SampleFits, Setting.Setting}
+use Rattle.tsp_promises.specs.Since.{OneLife}
+use Rattle.tsp_promises.proofs.RoundPlaces.{best_at, exchange_at, same-start, started_at}
+use Rattle.tsp_promises.proofs.{MeasuredProof.first-now, MeasuredProof.half-up-pos, MeasuredProof.sample_fits, SinceProof.since}
+use Rattle.tsp_promises.proofs.{EverywhereLemmas.Everywhere-from, HistoryPlaces.of-own, HistoryPlaces.Within-of, HistoryPlaces.line_on}
+use Rattle.tsp_promises.proofs.{FromRoundProof.cast_kind, FromRoundProof.taking_of, TakingProof.begun_facts, TakingProof.used-by}
 
 -- a sample's error is half the ticks from its request, which stands in the round, to itself
 record Trip (err : ℤ) (start last : ℕ) : Type 0 where

@@ -8,9 +8,9 @@ use Rattle.tsp_promises.specs.CorrectionFits.{AnswersSlaveUp, AtClose, FollowedB
 use Rattle.tsp_promises.specs.Estimates.{CloseBegins, EndedNear, Estimate, EstimatesHold, EstimatesNear, MasterNear, Moves, NearMean}
 use Rattle.tsp_base.proofs.PlaceLemmas.{Within-through, Within-tail}
 use Rattle.tsp_promises.proofs.{Clocks.drift_apart, EverywhereLemmas.Everywhere-from, FromRoundProof.corrects-adj, HistoryPlaces.of-own}
-use Rattle.tsp_promises.proofs.{Given.Given, Given.given_at, OwnFitsProof.fits_at, OwnFitsProof.place-time, PortFits.deed_fits}
+use Rattle.tsp_promises.proofs.{OwnFitsProof.Given, OwnFitsProof.given_at, OwnFitsProof.fits_at, OwnFitsProof.place-time, OwnFitsProof.deed_fits}
 use Rattle.tsp_promises.proofs.MasterMoved.{master_moved, moved-right-after, same-mean, unmoved}
-use Rattle.tsp_promises.{proofs.ReadingProof.ReadAt, proofs.ReadingProof.read_at, proofs.SendPlaces.post_fits, specs.StepFacts.closed}
+use Rattle.tsp_promises.{proofs.TakingProof.ReadAt, proofs.TakingProof.read_at, proofs.SendPlaces.post_fits, specs.StepFacts.closed}
 
 -- what the Close owes that begins an ADJTIME
 pub at-close : (here : Did) (seen : List Seen) (p : PeerId) (m : MessageValue) (close : Did) (past : List Seen) → m.kind ≡ AdjTime → closed seen ≡ Here close ∷ past → AnswersSlaveUp seen p m ⊎ AtClose here seen p m →

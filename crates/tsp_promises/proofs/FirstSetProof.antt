@@ -8,7 +8,7 @@ use Rattle.tsp_promises.specs.FirstSet.{BehindAtOnce, BehindBy, FirstSet, FirstS
 use Rattle.tsp_base.proofs.{PlaceLemmas.Within-through, PlaceLemmas.Within-tail, Views.plain_view}
 use Rattle.tsp_promises.proofs.{ClockProof.post_up, Clocks.tick-mono, Clocks.ticks_over, HistoryPlaces.of-own, TakingProof.begun_facts}
 use Rattle.tsp_promises.{proofs.EverywhereLemmas.Everywhere-from, proofs.EverywhereLemmas.Everywhere-within, specs.Setting.Setting}
-use Rattle.tsp_promises.proofs.{Locating.fits_in, Locating.line_on, Locating.tick_in, MasterMoved.correct-moves, MasterMoved.unmoved}
+use Rattle.tsp_promises.proofs.{OwnFitsProof.fits_in, HistoryPlaces.line_on, OwnFitsProof.tick_in, MasterMoved.correct-moves, MasterMoved.unmoved}
 use Rattle.tsp_promises.proofs.{OwnFitsProof.fits_at, OwnFitsProof.place-time, ShownProof.clock_target, ShownProof.stays_up}
 
 -- what the clock is behind by, in ticks of both nodes

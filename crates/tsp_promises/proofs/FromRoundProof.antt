@@ -2,12 +2,12 @@
 use Rattle.std.proofs.Common.{sym, ap, subst, inl, ◌∙◌, ◌≡◌, ◌≤ℤ◌, ◌⊎◌, Bool, ℕ, ℤ, pos, ◌-ℤ◌, nat_abs, true, List, ◌∷◌, refl}
 use Rattle.tsp_rules.specs.Values.{Close, Correct, Kind, AdjTime, Port}
 use Rattle.tsp_base.specs.Words.{Acts, Did, Line, Here, of, dids, view, plain, moved, target, MessageValue, Within, is_correction, Undisturbed, time_in}
-use Rattle.tsp_promises.specs.{Agreed.FromRound, ClockAt.clock, CorrectFits.amount_of, CorrectionFits.FollowedBy, Fits.Fits, Fits.node_of}
-use Rattle.tsp_promises.specs.{OneError.FromReading, OneError.Taking, Setting.Setting}
 use Rattle.tsp_base.proofs.PlaceLemmas.{Within-through, Within-tail}
-use Rattle.tsp_promises.proofs.{Given.Given, Locating.line_on, OnceTakenProof.Acting, OnceTakenProof.numbered-by, OnceTakenProof.posts-same}
-use Rattle.tsp_promises.proofs.{OwnFitsProof.fits_at, SendPlaces.send_place}
+use Rattle.tsp_promises.specs.{Agreed.FromRound, CorrectionFits.FollowedBy, Fits.Fits, Fits.node_of, OneError.FromReading, OneError.Taking}
+use Rattle.tsp_promises.specs.{ClockAt.clock, CorrectFits.amount_of, Setting.Setting}
 use Rattle.tsp_promises.proofs.TakingProof.{ReadFacts, TakenFacts, read_facts, taken_facts}
+use Rattle.tsp_promises.proofs.{HistoryPlaces.line_on, OnceTakenProof.Acting, OnceTakenProof.numbered-by, OnceTakenProof.posts-same}
+use Rattle.tsp_promises.proofs.{OwnFitsProof.Given, OwnFitsProof.fits_at, SendPlaces.send_place}
 
 pub corrects-adj : (k : Kind) → k ≡ AdjTime → is_correction k ≡ true
 corrects-adj k e = ap is_correction e

@@ -1,8 +1,13 @@
 -- Places of a history and places of one node's lines.
-use Rattle.std.proofs.Common.{sym, ap, subst, inl, inr, eqb-true, eq-eqb, ◌≡◌, ℕ, ◌==◌, Bool, true, false, List, [], ◌∷◌, refl}
-use Rattle.tsp_promises.specs.Fits.{node_of}
-use Rattle.tsp_base.specs.Words.{Line, of, Within}
+use Rattle.std.proofs.Common.{ap, ◌≡◌, ◌==◌, ℕ, true, false, List, ◌∷◌, refl, sym, subst, inl, inr, eqb-true, eq-eqb, Bool, []}
+use Rattle.tsp_rules.specs.Values.{Port}
+use Rattle.tsp_base.specs.Words.{Did, Line, of, Within}
 use Rattle.tsp_base.proofs.PlaceLemmas.{Within-all, Within-none, Within-strict, Within-comparable}
+use Rattle.tsp_promises.specs.Fits.{node_of}
+
+-- a line of a port
+abbrev pub line_on : Port → Did → Line
+line_on q d = record { port = q; did = d }
 
 of-more : (b : Bool) (n : ℕ) (l : Line) (s t : List Line) → (node_of l == n) ≡ b → Within (of n s) (of n t) → Within (of n s) (of n (l ∷ t))
 of-more true n l s t e p = rw e (inr p)

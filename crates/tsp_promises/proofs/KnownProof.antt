@@ -1,13 +1,12 @@
 -- What a step took from a peer is what that peer posted.
 use Rattle.std.proofs.Common.{sym, ap, subst, subst₂, inl, inr, true≢false, ◌∙◌, ◌≡◌, ◌==◌, ◌||◌, Bool, true, false, ℕ, List, [], ◌∷◌, Some, refl}
+use Rattle.std.proofs.Math.Bool.{or-true}
 use Rattle.tsp_rules.specs.Values.{Act, Took, Post, Datagram, Taken, Good, PeerId, Place, Peer, Port}
 use Rattle.tsp_base.specs.Words.{Cause, Booted, Turned, Came, Handed, Step, Deed, Begins, Acts, Did, Line, of, dids, view, seen_as, is_shared, Within, Received, taken, taken_after, Receives, peer_of, posted}
-use Rattle.tsp_promises.specs.Fits.{Fits, SameStep, TookFits, node_of}
-use Rattle.std.proofs.Math.Bool.{or-true}
-use Rattle.tsp_promises.proofs.{EverywhereLemmas.Everywhere-at, HistoryPlaces.lift, HistoryPlaces.of-own, OwnFitsProof.own_fits}
 use Rattle.tsp_base.proofs.{PlaceLemmas.Within-through, PlaceLemmas.Within-tail, ViewPlaces.port-same, ViewPlaces.or-false}
-use Rattle.tsp_promises.specs.{OwnFits.OwnFits, Premises.Honest, Premises.HonestAt, Setting.Setting}
-use Rattle.tsp_promises.proofs.Locating.{line_on, fits_in}
+use Rattle.tsp_promises.specs.{Fits.Fits, Fits.SameStep, Fits.TookFits, Fits.node_of, OwnFits.OwnFits, Premises.Honest, Premises.HonestAt}
+use Rattle.tsp_promises.{proofs.OwnFitsProof.own_fits, proofs.OwnFitsProof.fits_in, specs.Setting.Setting}
+use Rattle.tsp_promises.proofs.{EverywhereLemmas.Everywhere-at, HistoryPlaces.lift, HistoryPlaces.of-own, HistoryPlaces.line_on}
 
 -- the deeds' newest line is of this step
 abbrev pub InStep : List Line → Step → Type 0

@@ -1,19 +1,19 @@
--- A measurement errs by at most half its round trip.
+-- A measurement errs by at most half its round trip. A Sample's err is half its round trip.
 use Rattle.std.proofs.Common.{sym, ap, arith, subst, subst₂, inl, inr, ◌∙◌, ◌≡◌, true, ℤ, pos, ◌+ℤ◌, ◌-ℤ◌, ◌≤ℤ◌, nat_abs, ℕ, zero, suc, ◌+◌, ◌-◌, ◌/◌, ◌≤◌, ◌⊎◌, List, ◌∷◌, refl}
 use Rattle.std.proofs.lemmas.Int.{ints}
 use Rattle.tsp_rules.specs.Values.{Post, Sample, Datagram, Stamp, PeerId, Place, Peer, Port, Request, Reply, LIFE}
 use Rattle.tsp_base.specs.Words.{Came, Acts, Did, Line, Seen, Here, of, dids, view, plain, all_corrects, base, boot_tick, lives, moved, target, up, word, wall, ticket, Within, half_down, half_up, sample_diff, sample_err, ReplyValue, Undisturbed, peer_of, posted, tick_at}
-use Rattle.tsp_promises.specs.{ClockAt.clock, MeasureFits.ReplyFits, MeasureFits.SampleFits, Measured.MeasuredAt, Measured.Measured}
-use Rattle.tsp_promises.specs.Fits.{Fits, LineFits, Alive, node_of}
-use Rattle.tsp_promises.specs.Premises.{Honest, HonestAt, Life, OwnWords, OwnWordsAt, TakenWithinAt}
-use Rattle.tsp_promises.proofs.{EverywhereLemmas.Everywhere-from, EverywhereLemmas.Everywhere-within, KnownProof.known, PortFits.deed_fits}
 use Rattle.tsp_base.proofs.{PlaceLemmas.Within-through, PlaceLemmas.Within-tail, Views.plain_view}
-use Rattle.tsp_promises.proofs.{ClockProof.base_is, ClockProof.clock_post, Clocks.tick-mono, HistoryPlaces.of-own, HistoryPlaces.Within-of}
-use Rattle.tsp_promises.proofs.Locating.{Located, line_on, locate, fits_in, tick_in}
-use Rattle.tsp_promises.proofs.{OwnFitsProof.own_fits, OwnFitsProof.fits_at, OwnFitsProof.place-time, SendProof.number-same}
+use Rattle.tsp_promises.specs.Premises.{Honest, HonestAt, Life, OwnWords, OwnWordsAt, TakenWithinAt}
+use Rattle.tsp_promises.proofs.OwnFitsProof.{Located, locate, fits_in, tick_in, deed_fits, own_fits, fits_at, place-time}
+use Rattle.tsp_promises.specs.{Measured.MeasuredAt, Measured.Measured, Measured.TripAt, Measured.Trips, Since.Since, Since.OneLife}
+use Rattle.tsp_promises.specs.{Fits.Fits, Fits.LineFits, Fits.Alive, Fits.node_of, MeasureFits.ReplyFits, MeasureFits.SampleFits}
+use Rattle.tsp_promises.specs.{ClockAt.clock, Setting.Setting}
 use Rattle.tsp_promises.proofs.Requests.{Asks, SameLife, asks-up, request-fits, request_unique}
+use Rattle.tsp_promises.proofs.{HistoryPlaces.line_on, HistoryPlaces.of-own, HistoryPlaces.Within-of, SendProof.number-same}
+use Rattle.tsp_promises.proofs.{EverywhereLemmas.Everywhere-from, EverywhereLemmas.Everywhere-within, KnownProof.known, SinceProof.since}
 use Rattle.tsp_promises.proofs.{RoundPlaces.started_at, RoundPlaces.exchange_at, SendPlaces.post_unique, SendPlaces.same-number}
-use Rattle.tsp_promises.{proofs.SinceProof.since, specs.Setting.Setting, specs.Since.Since, specs.Since.OneLife}
+use Rattle.tsp_promises.proofs.{ClockProof.base_is, ClockProof.clock_post, Clocks.tick-mono}
 
 -- the arithmetic of an exchange
 pub half-up-pos : (z : ℕ) → half_up (pos z) ≡ pos ((z + 1) / 2)
@@ -224,3 +224,11 @@ measured_at setting l world f h why p counter diff err number is =
 pub measured : (setting : Setting) (world : List Line) → Fits setting world → Honest world → LifeOrWords world → Measured setting world
 measured setting world f h why = Everywhere-from (MeasuredAt setting) world (λ l s w.
     measured_at setting l s (fits_at setting (l ∷ s) world f w) (Everywhere-within HonestAt (l ∷ s) world h w) (life-or-words_at (l ∷ s) world why w))
+
+trip_at : (setting : Setting) (l : Line) (world : List Line) → Fits setting (l ∷ world) → TripAt l world
+trip_at setting l world f p counter diff err number is =
+    let s = sample_fits setting l world p counter number diff err f.0 is in
+    record { request = s.post; older = s.older; going = s.going; exchange_is = s.exchange_is; err_is = s.err_is }
+
+pub trips : (setting : Setting) (world : List Line) → Fits setting world → Trips world
+trips setting world f = Everywhere-from TripAt world (λ l s w. trip_at setting l s (fits_at setting (l ∷ s) world f w))

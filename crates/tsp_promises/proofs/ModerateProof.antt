@@ -9,10 +9,10 @@ use Rattle.tsp_promises.specs.{ClockAt.clock_at, Estimates.Moves, Fits.Fits, Fit
 use Rattle.tsp_promises.specs.CorrectFits.{CorrectFits, WhyCorrect, ByRound, ByMaster, ByDate, is_stepped, sets_time}
 use Rattle.tsp_promises.specs.Moderate.{AdjTimeNear, Agrees, MeanNear, Moderate, ModerateAt, ModerateClocks, OwnNear, PeerCorrects, PeerNear, WithMajority, estimates_of}
 use Rattle.tsp_base.proofs.ViewPlaces.{or-false, port-same}
-use Rattle.tsp_promises.proofs.{BestProof.some-is, Correcting.heard_as, EstimatesProof.at-close, EstimatesProof.ended_near}
+use Rattle.tsp_promises.proofs.{RoundPlaces.some-is, Correcting.heard_as, EstimatesProof.at-close, EstimatesProof.ended_near}
 use Rattle.tsp_promises.proofs.{EverywhereLemmas.Everywhere-from, FromRoundProof.amount-adj, FromRoundProof.corrects-adj}
-use Rattle.tsp_promises.proofs.{Given.Given, Given.given_at, HistoryPlaces.of-own, MasterMoved.mean-is, MasterMoved.same-mean}
-use Rattle.tsp_promises.proofs.{OnceTakenProof.correct_fits, OwnFitsProof.fits_at, PortFits.deed_fits, SendPlaces.post_fits}
+use Rattle.tsp_promises.proofs.{OwnFitsProof.Given, OwnFitsProof.given_at, HistoryPlaces.of-own, MasterMoved.mean-is, MasterMoved.same-mean}
+use Rattle.tsp_promises.proofs.{OnceTakenProof.correct_fits, OwnFitsProof.fits_at, OwnFitsProof.deed_fits, SendPlaces.post_fits}
 use Rattle.tsp_promises.{proofs.TakingProof.begun_facts, proofs.TakingProof.used-by, specs.Setting.Setting, specs.Setting.setup_of}
 
 -- a Correct right after a Close is on its port, in a step that has taken nothing, and by the mean of the group that the port finds

@@ -2,19 +2,17 @@
 use Rattle.std.proofs.Common.{sym, ap, arith, subst, subst₂, inl, inr, eq-eqb, eqb-true, true≢false, ◌∙◌, ◌≡◌, ◌≢◌, ◌==◌, ◌≤◌, Bool, true, false, ℕ, ◌+◌, ℤ, List, ◌∷◌, refl}
 use Rattle.tsp_rules.specs.Values.{Post, Correct, Message, Kind, Date, DateReq, SetDate, SetDateReq, PeerId, Peer, Port, LIFE, QUIET, REUSE}
 use Rattle.tsp_base.specs.Words.{Acts, Did, Line, Seen, Here, of, dids, view, is_shared, MessageValue, boot_tick, lives, Within, acting, is_correction, is_date_request, is_numbered, is_set_date_request, sets_date, Setup, Receives, peer_of, tick_at}
-use Rattle.tsp_promises.specs.{DateFits.PassOnFits, DeedFits.MessageFits, Fits.Fits, Fits.LineFits, Fits.node_of, Since.Since}
-use Rattle.tsp_promises.specs.Once.{ActsOn, OfSend, OnceAt, OnceTaken}
-use Rattle.tsp_promises.specs.Premises.{Honest, HonestAt, Life, TakenWithinAt}
-use Rattle.tsp_promises.specs.Setting.{Setting, setup_of}
-use Rattle.tsp_promises.proofs.{EverywhereLemmas.Everywhere-from, EverywhereLemmas.Everywhere-within, KnownProof.known, KnownProof.line-is}
 use Rattle.tsp_base.proofs.{PlaceLemmas.Within-through, PlaceLemmas.Within-tail, PlaceLemmas.Within-comparable, ViewPlaces.sees-own}
 use Rattle.tsp_base.proofs.Views.{plain_view}
-use Rattle.tsp_promises.proofs.{Clocks.near, Correcting.DatesOf, Correcting.dates_of, HistoryPlaces.lift, HistoryPlaces.own_in}
-use Rattle.tsp_promises.proofs.{LastDateProof.DateLate, LastDateProof.asked_late, LastDateProof.date_late, PortFits.deed_fits}
-use Rattle.tsp_promises.proofs.{Locating.line_on, Locating.fits_in, Locating.tick_in, SeenPlaces.seen_same, SendPlaces.send_place}
+use Rattle.tsp_promises.proofs.OwnFitsProof.{fits_in, tick_in, deed_fits, own_fits, own_fits_at, fits_at, place-time, seen_same}
 use Rattle.tsp_promises.proofs.OnceTakenProof.{Twice, acts-rested, corrected-at, correct_fits, numbered-by, twice}
-use Rattle.tsp_promises.proofs.OwnFitsProof.{own_fits, own_fits_at, fits_at, place-time}
-use Rattle.tsp_promises.proofs.{SendProof.BeginsSend, SendProof.number-same, SendProof.one-message, SinceProof.since}
+use Rattle.tsp_promises.specs.{Premises.Honest, Premises.HonestAt, Premises.Life, Premises.TakenWithinAt, Setting.Setting, Setting.setup_of}
+use Rattle.tsp_promises.specs.{Fits.Fits, Fits.LineFits, Fits.node_of, Once.ActsOn, Once.OfSend, Once.OnceAt, Once.OnceTaken, Since.Since}
+use Rattle.tsp_promises.specs.{DateFits.PassOnFits, DeedFits.MessageFits}
+use Rattle.tsp_promises.proofs.{LastTakenProof.DateLate, LastTakenProof.asked_late, LastTakenProof.date_late, SendPlaces.send_place}
+use Rattle.tsp_promises.proofs.{Correcting.DatesOf, Correcting.dates_of, SendProof.BeginsSend, SendProof.number-same, SendProof.one-message}
+use Rattle.tsp_promises.proofs.{HistoryPlaces.line_on, HistoryPlaces.lift, HistoryPlaces.own_in, KnownProof.known, KnownProof.line-is}
+use Rattle.tsp_promises.proofs.{Clocks.near, EverywhereLemmas.Everywhere-from, EverywhereLemmas.Everywhere-within, SinceProof.since}
 
 -- what a post owes that passes a date on
 pub record PassesOn (here : Did) (seen : List Seen) (kind : Kind) : Type 0 where

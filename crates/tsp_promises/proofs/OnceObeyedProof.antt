@@ -1,15 +1,33 @@
--- A follower's clock is moved only as its master says.
-use Rattle.std.proofs.Common.{sym, ap, subst, inl, ◌∙◌, ◌≡◌, ℕ, ℤ, Bool, true, false, List, ◌∷◌, refl}
-use Rattle.tsp_rules.specs.Values.{Close, Correct, Message, PeerId, Port, Follow, Master}
-use Rattle.tsp_base.specs.Words.{Acts, Line, Here, of, dids, view, plain, is_shared, target, up, Within, role, time_in}
-use Rattle.tsp_promises.specs.{ClockAt.clock_at, Once.Obeys, Once.ObeysAt, Once.OnceObeyed, Premises.Honest, Premises.HonestAt}
-use Rattle.tsp_promises.specs.CorrectFits.{WhyCorrect, ByRound, ByMaster, ByDate, EndsRound, amount_of}
-use Rattle.tsp_promises.specs.Fits.{Fits, LineFits, Alive, node_of}
-use Rattle.tsp_promises.specs.Setting.{Setting, setup_of}
-use Rattle.tsp_promises.proofs.EverywhereLemmas.{Everywhere-from, Everywhere-within}
+-- A follower's clock is moved only as its master says. Corrects of a node stand apart. A date is set at a master, to
+-- the time that was taken.
+use Rattle.std.proofs.Common.{arith, subst, ◌≡◌, ◌≤◌, ◌+◌, List, ◌∷◌, refl, sym, ap, inl, ◌∙◌, ℕ, ℤ, Bool, true, false, ◌-ℤ◌, Some}
+use Rattle.tsp_rules.specs.Values.{Correct, GAP, Close, Message, PeerId, Port, Follow, Master, Good, Place, Peer}
+use Rattle.tsp_base.specs.Words.{Acts, Line, of, dids, last_correct, Here, view, plain, is_shared, target, up, Within, role, time_in, MessageValue, Received, message_in, is_correction, sets_date, heard}
 use Rattle.tsp_base.proofs.Views.{plain_view}
-use Rattle.tsp_promises.proofs.{ClockProof.target_is, Correcting.taken-of, KnownProof.known, OwnFitsProof.fits_at, PortFits.deed_fits}
-use Rattle.tsp_promises.proofs.Locating.{line_on, locate, fits_in}
+use Rattle.tsp_promises.specs.Once.{SpacedAt, SpacedOverLivesAt, OnceSpaced, OnceSpacedOverLives, Obeys, ObeysAt, OnceObeyed}
+use Rattle.tsp_promises.specs.CorrectFits.{WhyCorrect, ByRound, ByMaster, ByDate, EndsRound, amount_of}
+use Rattle.tsp_promises.specs.{ClockAt.clock_at, Fits.Fits, Fits.node_of, Fits.LineFits, Fits.Alive, Premises.Honest, Premises.HonestAt}
+use Rattle.tsp_promises.{proofs.KnownProof.known, specs.Dated.SetsAt, specs.Dated.SetsClock, specs.Setting.Setting, specs.Setting.setup_of}
+use Rattle.tsp_promises.proofs.{Correcting.taken-of, Correcting.no-correction, HistoryPlaces.line_on, OwnFitsProof.locate, OwnFitsProof.fits_in}
+use Rattle.tsp_promises.proofs.{EverywhereLemmas.Everywhere-from, EverywhereLemmas.Everywhere-within, HistoryPlaces.own_in}
+use Rattle.tsp_promises.proofs.{ClockProof.target_is, OwnFitsProof.own_fits, OwnFitsProof.fits_at, OwnFitsProof.deed_fits, SinceProof.since}
+
+spaced_over_at : (setting : Setting) (l : Line) (world : List Line) → Fits setting (l ∷ world) → SpacedOverLivesAt l world
+spaced_over_at setting l world f other older a b s t x y is w node other_is =
+    let n = node_of l in
+    let i = since setting (other ∷ of n older) (of n world) (own_fits setting n world f.1) (own_in n other older world node w) in
+    let fits = deed_fits setting l world (Acts (Correct a s x)) is f.0 in
+    let gap : last_correct (dids (of n world)) + GAP ≤ l.did.tick = subst (λ k. last_correct k + GAP ≤ l.did.tick) (plain_view l.port (of n world)) fits.gap in
+    let here : last_correct (dids (other ∷ of n older)) ≡ other.did.tick = rw other_is refl in
+    omega (arith, i.lasts)
+
+-- every two Corrects of a node
+pub once_spaced_over_lives : (setting : Setting) (world : List Line) → Fits setting world → OnceSpacedOverLives world
+once_spaced_over_lives setting world f = Everywhere-from SpacedOverLivesAt world (λ l s w. spaced_over_at setting l s (fits_at setting (l ∷ s) world f w))
+
+-- and so in one life
+pub once_spaced : (setting : Setting) (world : List Line) → Fits setting world → OnceSpaced world
+once_spaced setting world f = Everywhere-from SpacedAt world (λ l s w other older a b r t x y is i node other_is lives. spaced_over_at setting l s (fits_at setting (l ∷ s) world f w) other older a b r t x y is i node other_is)
 
 -- a round is closed by a master
 pub round-leads : (setting : Setting) (n : ℕ) (q : Port) (world : List Line) (amount : ℤ) → Fits setting world → EndsRound (setup_of setting n q) (view q (of n world)) amount → role (view q (of n world)) ≡ Master
@@ -52,3 +70,35 @@ pub once_obeyed : (setting : Setting) (world : List Line) → Fits setting world
 once_obeyed setting world f h = Everywhere-from (ObeysAt setting) world (λ l s w q amount stepped shown is follows.
     let g = fits_at setting (l ∷ s) world f w in
     obeys-by setting l s q amount stepped shown g (Everywhere-within HonestAt (l ∷ s) world h w) is follows (deed_fits setting l s (Acts (Correct amount stepped shown)) is g.0).why)
+
+-- what was taken, by its sender and its message
+abbrev received : Place → MessageValue → Received
+received from m = record { from = from; taken = Good (Message m) }
+
+same-received : (r s : Received) → Some r ≡ Some s → r ≡ s
+same-received r s e = cc
+
+same-some : (m n : MessageValue) → Some m ≡ Some n → m ≡ n
+same-some m n e = cc
+
+same-message : (p q : Place) (m n : MessageValue) → Some (received p m) ≡ Some (received q n) → m ≡ n
+same-message p q m n e = same-some m n (ap (λ (r : Received). message_in r.taken) (same-received (received p m) (received q n) e))
+
+sets-by : (setting : Setting) (l : Line) (world : List Line) (amount : ℤ) (stepped : Bool) (shown : ℤ) (from : Place) (m : MessageValue) → Fits setting (l ∷ world) → l.did.deed ≡ Acts (Correct amount stepped shown) →
+    heard (plain (view l.port (of (node_of l) world))) ≡ Some (record { from = from; taken = Good (Message m) }) → sets_date m.kind ≡ true → WhyCorrect (setup_of setting (node_of l) l.port) l.did (view l.port (of (node_of l) world)) amount → SetsClock setting l world amount m
+sets-by setting l world amount stepped shown from m f deed took kind (ByRound r) = let bad : ⊥ = (let e = sym r.untaken ∙ took in cc) in absurd bad
+sets-by setting l world amount stepped shown from m f deed took kind (ByMaster t) =
+    let here : heard (plain (view l.port (of (node_of l) world))) ≡ Some (record { from = Peer t.from; taken = Good (Message t.message) }) = ap (λ s. heard (plain s)) t.is ∙ rw t.deed refl in
+    let same = same-message (Peer t.from) from t.message m (sym here ∙ took) in
+    absurd (no-correction m.kind kind (subst (λ (z : MessageValue). is_correction z.kind ≡ true) same t.kind))
+sets-by setting l world amount stepped shown from m f deed took kind (ByDate t) =
+    let seen = view l.port (of (node_of l) world) in
+    let here : heard (plain seen) ≡ Some (record { from = t.from; taken = Good (Message t.message) }) = ap (λ s. heard (plain s)) t.is ∙ rw t.deed refl in
+    let same = same-message t.from from t.message m (sym here ∙ took) in
+    let clock : target (plain seen) l.did.tick ≡ clock_at setting (node_of l) world l.did.step.at =
+    ap (λ ds. target ds l.did.tick) (plain_view l.port (of (node_of l) world)) ∙ sym (target_is setting l world f (correct-up setting l world amount stepped shown f.0 deed)) in
+    record { leads = t.leads; amount_is = t.amount_is ∙ ap (λ (z : MessageValue). time_in z.body -ℤ target (plain seen) l.did.tick) same ∙ ap (λ c. time_in m.body -ℤ c) clock }
+
+pub sets_at : (setting : Setting) (l : Line) (world : List Line) → Fits setting (l ∷ world) → SetsAt setting l world
+sets_at setting l world f amount stepped shown from m deed took kind =
+    sets-by setting l world amount stepped shown from m f deed (ap heard (plain_view l.port (of (node_of l) world)) ∙ took) kind (deed_fits setting l world (Acts (Correct amount stepped shown)) deed f.0).why

@@ -4,10 +4,10 @@ use Rattle.tsp_rules.specs.Values.{Post, Correct, Message, PeerId, Peer, LIFE, Q
 use Rattle.tsp_base.specs.Words.{Acts, Did, Line, Seen, Here, of, dids, view, MessageValue, boot_tick, ticket, Within, is_correction, is_numbered, peer_of, tick_at}
 use Rattle.tsp_promises.specs.{CorrectFits.CorrectFits, Fits.Fits, Fits.node_of, Premises.Life, Premises.TakenWithinAt}
 use Rattle.tsp_promises.specs.Once.{ActsOn, OfSend, OnceAt, OnceCorrected}
-use Rattle.tsp_promises.proofs.{EverywhereLemmas.Everywhere-from, EverywhereLemmas.Everywhere-within, Locating.tick_in, SinceProof.since}
+use Rattle.tsp_promises.proofs.{EverywhereLemmas.Everywhere-from, EverywhereLemmas.Everywhere-within, OwnFitsProof.tick_in, SinceProof.since}
 use Rattle.tsp_base.proofs.Views.{plain_view}
 use Rattle.tsp_promises.proofs.{Clocks.near, Correcting.TakesOf, Correcting.takes_of, Correcting.ticket_moves, HistoryPlaces.own_in}
-use Rattle.tsp_promises.proofs.{OwnFitsProof.own_fits, OwnFitsProof.fits_at, OwnFitsProof.place-time, PortFits.deed_fits, PortFits.own_tick}
+use Rattle.tsp_promises.proofs.{OwnFitsProof.own_fits, OwnFitsProof.fits_at, OwnFitsProof.place-time, OwnFitsProof.deed_fits, OwnFitsProof.own_tick}
 use Rattle.tsp_promises.{proofs.SendPlaces.SendPlace, proofs.SendPlaces.send_place, specs.Setting.Setting, specs.Setting.setup_of}
 
 -- what the Correct owes that takes a post

@@ -2,14 +2,14 @@
 use Rattle.std.proofs.Common.{sym, ap, arith, subst, inl, inr, ◌∙◌, ◌≡◌, ◌⊎◌, ℕ, ◌+◌, ◌≤◌, List, ◌∷◌, Some, refl}
 use Rattle.tsp_rules.specs.Values.{Post, Message, Stamp, Peer, Port, Reply}
 use Rattle.tsp_base.specs.Words.{Acts, Did, Here, Line, of, dids, view, ticket, Within, Sampled, best, ReplyValue, Receives, Undisturbed, peer_of, posted}
-use Rattle.tsp_promises.specs.{Agreed.ReadingOf, CorrectionFits.AnswersSlaveUp, CorrectionFits.AtClose, Fits.node_of, Setting.Setting}
-use Rattle.tsp_promises.specs.OneError.{FromSlaveUp, OneError, OneErrorAt, SourceReading, SourceSlaveUp, Taking}
 use Rattle.tsp_base.proofs.PlaceLemmas.{Within-all, Within-through, Within-tail}
-use Rattle.tsp_promises.proofs.{BestProof.best_at, ClosedProof.closed_at, EverywhereLemmas.Everywhere-from, Given.Given, Given.given_at}
-use Rattle.tsp_promises.proofs.{KnownProof.known, Locating.line_on, Locating.locate, Matching.first_after, SendProof.number-same}
-use Rattle.tsp_promises.proofs.{MeasuredProof.reading_at, MeasuredProof.sample_fits, SendPlaces.post_unique, SendPlaces.same-number}
-use Rattle.tsp_promises.proofs.SourceProof.{slaveup_ticket}
+use Rattle.tsp_promises.specs.OneError.{FromSlaveUp, OneError, OneErrorAt, SourceReading, SourceSlaveUp, Taking}
+use Rattle.tsp_promises.specs.{Agreed.ReadingOf, CorrectionFits.AnswersSlaveUp, CorrectionFits.AtClose, Fits.node_of, Setting.Setting}
 use Rattle.tsp_promises.proofs.TakingProof.{BegunFacts, begun_facts, read_facts, taken_facts}
+use Rattle.tsp_promises.proofs.{OwnFitsProof.Given, OwnFitsProof.given_at, OwnFitsProof.locate, RoundPlaces.best_at, RoundPlaces.closed_at}
+use Rattle.tsp_promises.proofs.{MeasuredProof.reading_at, MeasuredProof.sample_fits, SendPlaces.post_unique, SendPlaces.same-number}
+use Rattle.tsp_promises.proofs.{EverywhereLemmas.Everywhere-from, KnownProof.known, MasterMoved.first_after, SourceProof.slaveup_ticket}
+use Rattle.tsp_promises.proofs.{HistoryPlaces.line_on, SendProof.number-same}
 
 -- where a sample of k was read: by a reply of k's
 record SampleRead (m k : ℕ) (q : Port) (x : Sampled) (past : List Line) : Type 0 where

@@ -3,16 +3,16 @@ use Rattle.std.proofs.Common.{sym, ap, arith, subst, inl, inr, ◌∙◌, ◌≡
 use Rattle.std.proofs.lemmas.Bool.{cases_lt}
 use Rattle.tsp_rules.specs.Values.{Become, Back, Message, PeerId, Port, Master, ELECT_MIN}
 use Rattle.tsp_base.specs.Words.{Acts, Did, Line, Seen, Here, of, dids, view, is_shared, boot_tick, lives, Within, backers, held, stood, Receives, peer_of, tick_at}
-use Rattle.tsp_promises.specs.{Fits.Fits, Fits.node_of, HoldFits.LeadFits, OneWinner.OneWinner, OneWinner.WinsAt}
-use Rattle.tsp_promises.specs.{Premises.Few, Premises.Honest, Premises.Life, Setting.Network, Setting.Setting, Setting.setup_of}
 use Rattle.tsp_base.proofs.PlaceLemmas.{Within-all, Within-through, Within-tail, Within-comparable}
 use Rattle.tsp_base.proofs.Views.{plain_view}
-use Rattle.tsp_promises.proofs.Elections.{In, in_among, ElectFits, elects}
-use Rattle.tsp_promises.proofs.{Clocks.near, Clocks.tick-mono, EverywhereLemmas.Everywhere-from, HistoryPlaces.Within-of, SinceProof.since}
 use Rattle.tsp_promises.proofs.ElectionFacts.{stood_at, backer_at, voters, port_elects, held_at, boots, boots_view}
-use Rattle.tsp_promises.proofs.{Locating.line_on, Locating.locate, Locating.tick_in, OneBackProof.holds_at, Pigeons.AllIn, Pigeons.shared}
-use Rattle.tsp_promises.proofs.OwnFitsProof.{own_fits, fits_at, place-time}
+use Rattle.tsp_promises.proofs.OwnFitsProof.{locate, tick_in, own_fits, fits_at, place-time}
 use Rattle.tsp_promises.proofs.VoteProof.{Polled, polled_at, vote_of, Backed, back_of, open_place, asked_late}
+use Rattle.tsp_promises.specs.{Premises.Few, Premises.Honest, Premises.Life, Setting.Network, Setting.Setting, Setting.setup_of}
+use Rattle.tsp_promises.specs.{Fits.Fits, Fits.node_of, HoldFits.LeadFits, OneWinner.OneWinner, OneWinner.WinsAt}
+use Rattle.tsp_promises.proofs.{Clocks.near, Clocks.tick-mono, Elections.In, Elections.in_among, Elections.ElectFits, Elections.elects}
+use Rattle.tsp_promises.proofs.{HistoryPlaces.Within-of, HistoryPlaces.line_on, Pigeons.AllIn, Pigeons.shared, ResolvedProof.holds_at}
+use Rattle.tsp_promises.proofs.{EverywhereLemmas.Everywhere-from, SinceProof.since}
 
 -- a port that wins now: since when it has stood, and what its past owes
 record Won (setting : Setting) (a : ℕ) (q : Port) (l : Line) (world : List Line) : Type 0 where

@@ -1,9 +1,17 @@
--- The lines of each node of a history that fits.
-use Rattle.std.proofs.Common.{sym, ap, ◌∙◌, arith, subst, inl, inr, eqb-true, ◌≡◌, ◌==◌, Bool, true, false, ℕ, ◌≤◌, List, [], ◌∷◌, refl}
-use Rattle.tsp_promises.specs.{DeedFits.DeedFits, OwnFits.OwnFits, OwnFits.OwnLineFits, Setting.Setting, Setting.setup_of}
-use Rattle.tsp_promises.specs.Fits.{Fits, LineFits, Alive, SameStep, node_of}
-use Rattle.tsp_base.specs.Words.{Line, Deed, Begins, Acts, Step, of, dids, view, time_of, tick_of, up, Within, tick_at}
-use Rattle.tsp_promises.proofs.{Clocks.tick-mono, EverywhereLemmas.Everywhere-within, HistoryPlaces.of-own}
+-- The lines of each node of a history that fits. What a line owes to its own port's past. What a schedule gives: a
+-- history that fits, and what the promises ask of it. Where a deed stands in the history that a port sees.
+-- Order and equality of places that a port sees.
+use Rattle.std.proofs.Common.{sym, ap, arith, subst, inl, inr, ◌∙◌, ◌≡◌, ℕ, List, [], ◌∷◌, length, refl, ◌==◌, ◌||◌, true, false, eqb-true, Bool, ◌≤◌, if◌then◌else◌}
+use Rattle.std.proofs.Math.Bool.{or-true}
+use Rattle.tsp_rules.specs.Values.{Port, LIFE}
+use Rattle.tsp_base.specs.Words.{Did, Line, Here, of, dids, view, plain, Within, Seen, is_shared, tick_at, Deed, Begins, Acts, Step, time_of, tick_of, up, seen_as}
+use Rattle.tsp_base.proofs.PlaceLemmas.{Within-all, Within-tail, Within-length, Within-strict, Within-comparable}
+use Rattle.tsp_base.proofs.{ViewPlaces.on_port, ViewPlaces.sees-own, ViewPlaces.Within-view, Views.plain_view}
+use Rattle.tsp_promises.proofs.HistoryPlaces.{own_in, own_same, line_on, lift, of-own}
+use Rattle.tsp_promises.specs.{DeedFits.DeedFits, Fits.Fits, Fits.LineFits, Fits.node_of, Fits.Alive, Fits.SameStep, Fits.Sees}
+use Rattle.tsp_promises.specs.{Premises.Honest, Premises.HonestAt, Premises.Life, Premises.TakenWithinAt, Setting.Setting, Setting.setup_of}
+use Rattle.tsp_promises.specs.{OwnFits.OwnFits, OwnFits.OwnLineFits, PortFits.PortFits}
+use Rattle.tsp_promises.proofs.{Clocks.tick-mono, EverywhereLemmas.Everywhere-at, EverywhereLemmas.Everywhere-within}
 
 -- a line's tick, by its node's number
 pub tick_is : (setting : Setting) (n : ℕ) (l : Line) (world : List Line) → node_of l ≡ n → LineFits setting l world → l.did.tick ≡ tick_at (setting.rate n) l.did.step.at
@@ -63,3 +71,113 @@ pub place-time : (setting : Setting) (s h : List Line) → Fits setting h → Wi
 place-time setting s [] f e = subst (λ w. time_of (dids w) ≤ 0) (sym e) (omega arith)
 place-time setting s (l ∷ h) f (inl e) = subst (λ w. time_of (dids w) ≤ l.did.step.at) (sym e) (omega arith)
 place-time setting s (l ∷ h) f (inr p) = omega (arith, place-time setting s h f.1 p, f.0.order)
+
+-- by what the deed is
+pub deed_fits : (setting : Setting) (l : Line) (world : List Line) (deed : Deed) → l.did.deed ≡ deed → LineFits setting l world → DeedFits (setup_of setting (node_of l) l.port) deed l.did (view l.port (of (node_of l) world))
+deed_fits setting l world deed e f = subst (λ k. DeedFits (setup_of setting (node_of l) l.port) k l.did (view l.port (of (node_of l) world))) e (f.deeds l.port (sees-own l.port (is_shared l.did.deed)))
+
+-- a mark is owed to on every port
+pub mark_fits : (setting : Setting) (l : Line) (world : List Line) → l.did.deed ≡ Begins → LineFits setting l world → (q : Port) → DeedFits (setup_of setting (node_of l) q) Begins l.did (view q (of (node_of l) world))
+mark_fits setting l world is f q =
+    let sees : Sees q l = rw is (or-true (l.port.0 == q.0)) in
+    subst (λ k. DeedFits (setup_of setting (node_of l) q) k l.did (view q (of (node_of l) world))) is (f.deeds q sees)
+
+-- a line's tick isn't below its node's last
+pub own_tick : (setting : Setting) (l : Line) (world : List Line) → Fits setting (l ∷ world) → tick_of (dids (of (node_of l) world)) ≤ l.did.tick
+own_tick setting l world f =
+    let own : OwnFits setting (l ∷ of (node_of l) world) = subst (λ k. OwnFits setting k) (of-own (node_of l) l world refl) (own_fits setting (node_of l) (l ∷ world) f) in
+    own.0.tick
+
+-- so each deed on a port fits
+pub port_fits : (setting : Setting) (n : ℕ) (world : List Line) → Fits setting world → (q : Port) → PortFits (setup_of setting n q) (view q (of n world))
+port_fits setting n [] f q = tt
+port_fits setting n (l ∷ t) f q = by-node (node_of l == n) refl (port_fits setting n t f.1 q) where
+  here : (b : Bool) → ((l.port.0 == q.0) || is_shared l.did.deed) ≡ b → node_of l ≡ n → PortFits (setup_of setting n q) (view q (of n t)) → PortFits (setup_of setting n q) (seen_as b l.did ∷ view q (of n t))
+  here true e same rest = (subst (λ k. DeedFits (setup_of setting k q) l.did.deed l.did (view q (of k t))) same (f.0.deeds q e), rest)
+  here false e same rest = rest
+
+  by-node : (b : Bool) → (node_of l == n) ≡ b → PortFits (setup_of setting n q) (view q (of n t)) → PortFits (setup_of setting n q) (view q (if b then l ∷ of n t else of n t))
+  by-node true e rest = here ((l.port.0 == q.0) || is_shared l.did.deed) refl (eqb-true (node_of l) n e) rest
+  by-node false e rest = rest
+
+-- what a schedule gives
+pub record Given (setting : Setting) (world : List Line) : Type 0 where
+  pub fits : Fits setting world
+  pub honest : Honest world
+  pub life : Life world
+
+pub given_at : (setting : Setting) (s h : List Line) → Given setting h → Within s h → Given setting s
+given_at setting s h g w = record {
+  fits = fits_at setting s h g.fits w;
+  honest = Everywhere-within HonestAt s h g.honest w;
+  life = Everywhere-within (TakenWithinAt LIFE) s h g.life w;
+}
+
+-- the place in the history of a deed that port q of node n sees as its own
+pub record Located (n : ℕ) (q : Port) (world : List Line) (d : Did) (vs : List Seen) : Type 0 where
+  pub older : List Line
+  pub place : Within (line_on q d ∷ older) world
+  pub node : d.step.node ≡ n
+  pub before : view q (of n older) ≡ vs
+
+pub locate : (n : ℕ) (q : Port) (world : List Line) (d : Did) (vs : List Seen) → is_shared d.deed ≡ false → Within (Here d ∷ vs) (view q (of n world)) → Located n q world d vs
+locate n q world d vs own w =
+    let o = on_port q (of n world) d vs own w in
+    let l = lift n world (line_on q d) o.rest o.place in
+    record { older = l.world; place = l.place; node = l.node; before = ap (view q) l.own ∙ o.before }
+
+-- what port q of node n sees after its own line
+pub view-line : (n : ℕ) (l : Line) (older : List Line) → node_of l ≡ n → view l.port (of n (l ∷ older)) ≡ Here l.did ∷ view l.port (of n older)
+view-line n l older node =
+    let b : ((l.port.0 == l.port.0) || is_shared l.did.deed) ≡ true = sees-own l.port (is_shared l.did.deed) in
+    rw (of-own n l older node) (rw b refl)
+
+-- a place of the history is a place of what its port sees
+pub seen_in : (n : ℕ) (l : Line) (older world : List Line) → node_of l ≡ n → Within (l ∷ older) world → Within (Here l.did ∷ view l.port (of n older)) (view l.port (of n world))
+seen_in n l older world node w =
+    let own : Within (l ∷ of n older) (of n world) = own_in n l older world node w in
+    let v = Within-view l.port (l ∷ of n older) (of n world) own in
+    let b : ((l.port.0 == l.port.0) || is_shared l.did.deed) ≡ true = sees-own l.port (is_shared l.did.deed) in
+    rw b at v
+
+-- the line at a place fits
+pub fits_in : (setting : Setting) (l : Line) (older world : List Line) → Fits setting world → Within (l ∷ older) world → LineFits setting l older
+fits_in setting l older world f w = Everywhere-at (LineFits setting) l older world f w
+
+pub tick_in : (setting : Setting) (n : ℕ) (l : Line) (older world : List Line) → Fits setting world → node_of l ≡ n → Within (l ∷ older) world → l.did.tick ≡ tick_at (setting.rate n) l.did.step.at
+tick_in setting n l older world f node w = tick_is setting n l older node (fits_in setting l older world f w)
+
+-- order of what a port sees is order in the history
+pub seen_before : (m : ℕ) (q : Port) (s t : Did) (a b h : List Line) → s.step.node ≡ m → t.step.node ≡ m → Within (line_on q s ∷ a) h → Within (line_on q t ∷ b) h → Within (Here s ∷ view q (of m a)) (view q (of m b)) → Within (line_on q s ∷ a) b
+seen_before m q s t a b h sn tn v w o = elim (Within-comparable (line_on q s ∷ a) (line_on q t ∷ b) h v w) [
+  | inl (inl e) ↦ absurd (same e)
+  | inl (inr i) ↦ i
+  | inr (inl e) ↦ absurd (same (sym e))
+  | inr (inr i) ↦ absurd (Within-strict (Here s) (view q (of m a)) (view q (of m b)) o (Within-tail (Here t) (view q (of m b)) (view q (of m a)) (seen_in m (line_on q t) b a tn i)))
+] where
+  same : line_on q s ∷ a ≡ line_on q t ∷ b → ⊥
+  same e =
+      let r : a ≡ b = cc in
+      Within-strict (Here s) (view q (of m a)) (view q (of m b)) o (subst (λ k. Within (view q (of m b)) (view q (of m k))) (sym r) (Within-all (view q (of m b))))
+
+dids-length : (s : List Line) → length (dids s) ≡ length s
+dids-length [] = refl
+dids-length (l ∷ s) = omega (arith, dids-length s)
+
+-- a place is named by how much stands before it
+place-same : {A : Type 0} (a b : A) (s t h : List A) → Within (a ∷ s) h → Within (b ∷ t) h → length s ≡ length t → a ∷ s ≡ b ∷ t
+place-same a b s t h v w e = elim (Within-comparable (a ∷ s) (b ∷ t) h v w) [
+  | inl (inl k) ↦ k
+  | inl (inr k) ↦ absurd (omega (arith, Within-length (a ∷ s) t k))
+  | inr (inl k) ↦ sym k
+  | inr (inr k) ↦ absurd (omega (arith, Within-length (b ∷ t) s k))
+]
+
+-- one place of what two ports see is one place of the history
+pub seen_same : (m : ℕ) (q r : Port) (s t : Did) (a b h : List Line) → s.step.node ≡ m → t.step.node ≡ m → Within (line_on q s ∷ a) h → Within (line_on r t ∷ b) h → Here s ∷ view q (of m a) ≡ Here t ∷ view r (of m b) → line_on q s ∷ a ≡ line_on r t ∷ b
+seen_same m q r s t a b h sn tn v w e =
+    let rest : view q (of m a) ≡ view r (of m b) = cc in
+    let same : dids (of m a) ≡ dids (of m b) = sym (plain_view q (of m a)) ∙ (ap plain rest ∙ plain_view r (of m b)) in
+    let long : length (of m a) ≡ length (of m b) = sym (dids-length (of m a)) ∙ (ap length same ∙ dids-length (of m b)) in
+    own_same m (line_on q s) (line_on r t) a b h sn tn v w
+    (place-same (line_on q s) (line_on r t) (of m a) (of m b) (of m h) (own_in m (line_on q s) a h sn v) (own_in m (line_on r t) b h tn w) long)

@@ -1,15 +1,79 @@
--- A rival that takes Quit stops being master.
-use Rattle.std.proofs.Common.{arith, sym, ap, subst, inl, inr, eq-eqb, ◌∙◌, ◌≡◌, ◌≤◌, ◌⊎◌, ℕ, ◌+◌, ◌==◌, ◌&&◌, not, Bool, true, false, if◌then◌else◌, List, [], ◌∷◌, Option, None, Some, refl}
-use Rattle.tsp_rules.specs.Values.{Took, Become, Quit, PeerId, Port, Role, Master, ELECT_MIN}
-use Rattle.tsp_base.specs.Words.{Begins, Acts, Deed, Did, Line, Seen, Here, Elsewhere, of, dids, view, is_shared, boot_tick, is_among, message_in, role, role_after, said_by, Setup}
-use Rattle.tsp_promises.specs.{DeedFits.DeedFits, PortFits.PortFits, QuitFits.QuitFits, Setting.Setting, Setting.setup_of}
-use Rattle.tsp_promises.specs.Fits.{Fits, Finished, Sees, node_of}
-use Rattle.tsp_promises.specs.Resolved.{YieldsAt, Yields, YieldsTaken, YieldsTakenAt, QuietAt, StaysQuiet}
-use Rattle.tsp_promises.specs.StepFacts.{StepEnds, if_master, is_quit, owes, owes_after, quit_by, quits_master, quits_master_after, unheeded, unheeded_after, unless_starting}
-use Rattle.tsp_promises.proofs.{EverywhereLemmas.Everywhere-from, HeldProof.quit_late, HistoryPlaces.own_in, SinceProof.since}
+-- A rival that takes Quit stops being master. No node backs two candidates within the hold. A node is silent after its
+-- boot. How a master that took a QUIT comes to follow its sender.
+use Rattle.std.proofs.Common.{arith, subst, inl, inr, ◌∙◌, ◌≡◌, ◌≤◌, ◌+◌, false, List, ◌∷◌, sym, ap, eq-eqb, ◌⊎◌, ℕ, ◌==◌, ◌&&◌, not, Bool, true, if◌then◌else◌, [], Option, None, Some, refl}
+use Rattle.tsp_rules.specs.Values.{Post, Back, Message, Kind, Accept, Election, PeerId, Place, Peer, Stranger, QUIET, Correct, Took, Become, Quit, Port, Role, Master, ELECT_MIN, Boot, Follow}
+use Rattle.tsp_base.specs.Words.{Acts, Did, Line, Seen, of, dids, view, is_shared, MessageValue, boot_tick, Setup, Begins, Deed, Here, Elsewhere, is_among, message_in, role, role_after, said_by}
 use Rattle.tsp_base.proofs.{ViewPlaces.sees-own, Views.plain_view}
-use Rattle.tsp_promises.proofs.{Leaves.none-some, Leaves.some-same, OwnFitsProof.own_fits, OwnFitsProof.fits_at}
-use Rattle.tsp_promises.proofs.PortFits.{deed_fits, mark_fits, port_fits}
+use Rattle.tsp_promises.specs.StepFacts.{backed, is_unbacked, StepEnds, if_master, is_quit, owes, owes_after, quit_by, quits_master, quits_master_after, unheeded, unheeded_after, unless_starting}
+use Rattle.tsp_promises.specs.Resolved.{YieldsAt, Yields, YieldsTaken, YieldsTakenAt, QuietAt, StaysQuiet}
+use Rattle.tsp_promises.specs.{Became.Became, Became.BecomesAfter, Fits.Fits, Fits.Finished, Fits.Sees, Fits.node_of, Fits.LineFits}
+use Rattle.tsp_promises.specs.{DeedFits.MessageFits, DeedFits.PostFits, DeedFits.StrangerFits, DeedFits.DeedFits, HoldFits.AcceptFits}
+use Rattle.tsp_promises.specs.{OneBack.HoldsAt, OneBack.IsBacked, OneBack.BacksAt, OneBack.OneBack, Setting.Setting, Setting.setup_of}
+use Rattle.tsp_promises.specs.{PortFits.PortFits, QuitFits.QuitFits, Silent.Silent, Silent.SilentAt}
+use Rattle.tsp_promises.proofs.{HistoryPlaces.own_in, OwnFitsProof.deed_fits, OwnFitsProof.mark_fits, OwnFitsProof.own_tick, OwnFitsProof.port_fits}
+use Rattle.tsp_promises.proofs.{HeldProof.back_late, HeldProof.quit_late, OwnFitsProof.own_fits, OwnFitsProof.fits_at, SinceProof.since}
+use Rattle.tsp_promises.proofs.{EverywhereLemmas.Everywhere-from, Leaves.none-some, Leaves.some-same}
+
+pub holds_at : (setting : Setting) (l : Line) (world : List Line) → Fits setting (l ∷ world) → HoldsAt l world
+holds_at setting l world f p q other older is w node port other_is =
+    let n = node_of l in
+    let own = own_fits setting n world f.1 in
+    let place = own_in n other older world node w in
+    let i = since setting (other ∷ of n older) (of n world) own place in
+    let fits = deed_fits setting l world (Acts (Back p)) is f.0 in
+    let rested : boot_tick (dids (of n world)) + QUIET ≤ l.did.tick = subst (λ k. boot_tick k + QUIET ≤ l.did.tick) (plain_view l.port (of n world)) fits.rested in
+    elim i.life [
+      | inr new ↦ inr (omega (arith, new.boot))
+      | inl one ↦
+          let sees : Sees l.port other = subst (λ k. Sees k other) port (sees-own other.port (is_shared other.did.deed)) in
+          let late = back_late setting l.port q other (of n older) (of n world) own other_is sees place one.lives in
+          elim (fits.holds late.at late.last late.is) [
+            | inr long ↦ inr (omega (arith, late.by))
+            | inl same ↦ elim late.holds [ inl e ↦ inl (e ∙ same) | inr long ↦ inr (omega (arith, long, late.upto, i.tick, own_tick setting l world f)) ]
+          ]
+    ]
+
+-- what an ACCEPT owes
+accept_fits : (setup : Setup) (k : Kind) (here : Did) (seen : List Seen) (p : PeerId) (m : MessageValue) → k ≡ Accept → MessageFits setup k here seen p m → AcceptFits seen p m.number
+accept_fits setup k here seen p m kind f = subst (λ z. MessageFits setup z here seen p m) kind f
+
+-- an ACCEPT goes to peers alone, after a Back of that peer
+accepts-backed : (setup : Setup) (to : Place) (m : MessageValue) (here : Did) (seen : List Seen) → m.kind ≡ Accept → PostFits setup to (Message m) here seen → IsBacked to (backed seen)
+accepts-backed setup (Peer p) m here seen kind f = (accept_fits setup m.kind here seen p m kind f).backs
+accepts-backed setup Stranger m here seen kind f = subst (λ z. StrangerFits z here seen m.number) kind f.0
+
+-- an ELECTION goes to peers alone, after the port has backed itself
+asks-backed : (setup : Setup) (to : Place) (m : MessageValue) (here : Did) (seen : List Seen) → m.kind ≡ Election → PostFits setup to (Message m) here seen → is_unbacked seen ≡ false
+asks-backed setup (Peer p) m here seen kind f = (subst (λ z. MessageFits setup z here seen p m) kind f).backs
+asks-backed setup Stranger m here seen kind f = absurd (subst (λ z. StrangerFits z here seen m.number) kind f.0)
+
+backs_at : (setting : Setting) (l : Line) (world : List Line) → Fits setting (l ∷ world) → BacksAt l world
+backs_at setting l world f = record {
+  accepts = λ to m is kind. accepts-backed (setup_of setting (node_of l) l.port) to m l.did (view l.port (of (node_of l) world)) kind (deed_fits setting l world (Acts (Post to (Message m))) is f.0).fits;
+  asks = λ to m is kind. asks-backed (setup_of setting (node_of l) l.port) to m l.did (view l.port (of (node_of l) world)) kind (deed_fits setting l world (Acts (Post to (Message m))) is f.0).fits;
+  ends = λ is q. (mark_fits setting l world is f.0 q).backs;
+}
+
+pub one_back : (setting : Setting) (world : List Line) → Fits setting world → Finished setting world → OneBack world
+one_back setting world f end = record {
+  holds = Everywhere-from HoldsAt world (λ l s w. holds_at setting l s (fits_at setting (l ∷ s) world f w));
+  backs = Everywhere-from BacksAt world (λ l s w. backs_at setting l s (fits_at setting (l ∷ s) world f w));
+  ends = λ n q. (end n q).backs;
+}
+
+silent_at : (setting : Setting) (l : Line) (world : List Line) → LineFits setting l world → SilentAt l world
+silent_at setting l world f =
+    let seen = plain_view l.port (of (node_of l) world) in
+    record {
+      posts = λ to datagram is. elim (deed_fits setting l world (Acts (Post to datagram)) is f).rested [
+        | inl late ↦ inl (subst (λ d. boot_tick d + QUIET ≤ l.did.tick) seen late)
+        | inr early ↦ inr early
+      ];
+      corrects = λ amount stepped shown is. subst (λ d. boot_tick d + QUIET ≤ l.did.tick) seen (deed_fits setting l world (Acts (Correct amount stepped shown)) is f).rested;
+    }
+
+pub silent : (setting : Setting) (world : List Line) → Fits setting world → Silent world
+silent setting world f = Everywhere-from SilentAt world (λ l s w. silent_at setting l s (fits_at setting (l ∷ s) world f w).0)
 
 pub yields : (setting : Setting) (world : List Line) → Fits setting world → Finished setting world → Yields world
 yields setting world f end = record {
@@ -93,3 +157,23 @@ quiet_at setting l world f other older p is w node port other_is =
 
 pub stays_quiet : (setting : Setting) (world : List Line) → Fits setting world → StaysQuiet world
 stays_quiet setting world f = Everywhere-from QuietAt world (λ l s w. quiet_at setting l s (fits_at setting (l ∷ s) world f w))
+
+later : (s : Seen) (before : List Seen) (p : PeerId) → Became before p → Became (s ∷ before) p
+later s before p b = record { did = b.did; before = b.before; place = inr b.place; deed = b.deed; after = b.after }
+
+-- a QUIT to a follower changes nothing that is owed
+quit-owes : (r : Role) (q p : PeerId) (was : List PeerId) → r ≡ Follow p → owes_after (Acts (Quit q)) r was ≡ was
+quit-owes r q p was e = rw e refl
+
+became-deed : (d : Did) (before : List Seen) (p : PeerId) (deed : Deed) → deed ≡ d.deed → (is_among p (owes before) ≡ true → role before ≡ Follow p → Became before p) →
+    is_among p (owes_after deed (role before) (owes before)) ≡ true → role_after deed (role before) ≡ Follow p → Became (Here d ∷ before) p
+became-deed d before p Begins is h o r = let bad : ⊥ = cc in absurd bad
+became-deed d before p (Acts Boot) is h o r = let bad : ⊥ = cc in absurd bad
+became-deed d before p (Acts (Become s)) is h o r = record { did = d; before = before; place = inl refl; deed = sym is ∙ ap (λ (z : Role). Acts (Become z)) r; after = o }
+became-deed d before p (Acts (Quit q)) is h o r = later (Here d) before p (h (sym (ap (is_among p) (quit-owes (role before) q p (owes before) r)) ∙ o) r)
+became-deed d before p _ is h o r = later (Here d) before p (h o r)
+
+pub becomes_after : BecomesAfter
+becomes_after [] p o r = let bad : ⊥ = cc in absurd bad
+becomes_after (Elsewhere d ∷ before) p o r = later (Elsewhere d) before p (becomes_after before p o r)
+becomes_after (Here d ∷ before) p o r = became-deed d before p d.deed refl (becomes_after before p) o r

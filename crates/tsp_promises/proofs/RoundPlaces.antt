@@ -1,10 +1,11 @@
--- Where a round began and where an open exchange was asked.
-use Rattle.std.proofs.Common.{sym, ap, subst, inl, inr, eqb-true, ◌∙◌, ◌≡◌, ◌==◌, ◌&&◌, cond, Bool, true, false, ℕ, ◌⊎◌, List, [], ◌∷◌, refl}
+-- Where a round began and where an open exchange was asked. The best sample of a peer stands in the last round. The
+-- last Close of a step stands at its place.
+use Rattle.std.proofs.Common.{sym, ap, subst, inl, inr, eqb-true, ◌∙◌, ◌≡◌, ◌==◌, ◌&&◌, cond, Bool, true, false, ℕ, ◌⊎◌, List, [], ◌∷◌, refl, int_lt, Option, Some, None}
 use Rattle.std.proofs.lemmas.Bool.{and_parts}
-use Rattle.tsp_promises.proofs.{SendProof.if-nil, Leaves.nil-cons}
-use Rattle.tsp_rules.specs.Values.{Boot, Post, Become, Arm, Ring, Late, Abandon, Sample, CloseAlarm, Stamp, PeerId, Peer, Request}
+use Rattle.tsp_promises.{proofs.SendProof.if-nil, proofs.Leaves.nil-cons, specs.StepFacts.closed, specs.StepFacts.closed_after}
+use Rattle.tsp_rules.specs.Values.{Boot, Post, Become, Arm, Ring, Late, Abandon, Sample, CloseAlarm, Stamp, PeerId, Peer, Request, Close}
 use Rattle.tsp_rules.proofs.GuardFacts.{same_peer}
-use Rattle.tsp_base.specs.Words.{Deed, Acts, Did, Seen, Here, Elsewhere, Within, started, started_after, exchange, exchange_after}
+use Rattle.tsp_base.specs.Words.{Deed, Acts, Did, Seen, Here, Elsewhere, Within, started, started_after, exchange, exchange_after, Sampled, best, best_after, better, Begins}
 
 -- the last round's beginning stands at its place
 pub record StartedAt (start : Did) (idle seen : List Seen) : Type 0 where
@@ -79,3 +80,62 @@ pub same-start : (s start : Did) (i idle seen rest past : List Seen) → started
 same-start s start i idle seen rest past mine is round theirs =
     let starts : Here s ∷ i ≡ Here start ∷ idle = sym mine ∙ (ap started (sym is) ∙ (round ∙ theirs)) in
     cc
+
+-- a sample stands at its place, in the last round
+pub record BestAt (p : PeerId) (s : Sampled) (seen : List Seen) : Type 0 where
+  pub did : Did
+  pub rest : List Seen
+  pub is : s.place ≡ Here did ∷ rest
+  pub place : Within (Here did ∷ rest) seen
+  pub deed : did.deed ≡ Acts (Sample p s.counter s.diff s.err s.ticket)
+  pub round : started rest ≡ started seen
+
+better-is : (was : Option Sampled) (late s : Sampled) → better was late ≡ s → (late ≡ s) ⊎ (was ≡ Some s)
+better-is None late s e = inl e
+better-is (Some early) late s e = choose (int_lt late.trip early.trip) e where
+  choose : (b : Bool) → cond b late early ≡ s → (late ≡ s) ⊎ (Some early ≡ Some s)
+  choose true h = inl h
+  choose false h = inr (ap (λ k. Some k) h)
+
+best-before : (p : PeerId) (s : Sampled) (d : Did) (before : List Seen) → started (Here d ∷ before) ≡ started before → BestAt p s before → BestAt p s (Here d ∷ before)
+best-before p s d before same b = record { did = b.did; rest = b.rest; is = b.is; place = inr b.place; deed = b.deed; round = b.round ∙ sym same }
+
+pub some-is : (a b : Sampled) → Some a ≡ Some b → a ≡ b
+some-is a b e = cc
+
+best-sample : (p q : PeerId) (d : Did) (before : List Seen) (was : Option Sampled) (s late : Sampled) → Acts (Sample q late.counter late.diff late.err late.ticket) ≡ d.deed → late.place ≡ Here d ∷ before → (was ≡ Some s → BestAt p s before) →
+    (b : Bool) → (q.0 == p.0) ≡ b → cond b (Some (better was late)) was ≡ Some s → BestAt p s (Here d ∷ before)
+best-sample p q d before was s late is at h false b e = best-before p s d before (ap (λ k. started_after k (Here d ∷ before) (started before)) (sym is)) (h e)
+best-sample p q d before was s late is at h true b e = elim (better-is was late s (some-is (better was late) s e)) [
+  | inr k ↦ best-before p s d before (ap (λ k. started_after k (Here d ∷ before) (started before)) (sym is)) (h k)
+  | inl k ↦ subst (λ (z : Sampled). BestAt p z (Here d ∷ before)) k (record {
+    did = d;
+    rest = before;
+    is = at;
+    place = inl refl;
+    deed = sym is ∙ ap (λ r. Acts (Sample r late.counter late.diff late.err late.ticket)) (same_peer q p b);
+    round = sym (ap (λ k. started_after k (Here d ∷ before) (started before)) (sym is));
+  })
+]
+
+best-deed : (p : PeerId) (d : Did) (before : List Seen) (s : Sampled) (deed : Deed) → deed ≡ d.deed → (best p before ≡ Some s → BestAt p s before) → best_after p deed (Here d ∷ before) before (best p before) ≡ Some s → BestAt p s (Here d ∷ before)
+best-deed p d before s (Acts Boot) is h e = let bad : ⊥ = cc in absurd bad
+best-deed p d before s (Acts (Become r)) is h e = let bad : ⊥ = cc in absurd bad
+best-deed p d before s (Acts (Arm CloseAlarm at)) is h e = let bad : ⊥ = cc in absurd bad
+best-deed p d before s (Acts (Sample q counter diff err ticket)) is h e = best-sample p q d before (best p before) s _ is refl h (q.0 == p.0) refl e
+best-deed p d before s deed is h e = best-before p s d before (ap (λ k. started_after k (Here d ∷ before) (started before)) (sym is)) (h e)
+
+pub best_at : (p : PeerId) (seen : List Seen) (s : Sampled) → best p seen ≡ Some s → BestAt p s seen
+best_at p [] s e = let bad : ⊥ = cc in absurd bad
+best_at p (Elsewhere d ∷ before) s e = let b = best_at p before s e in record { did = b.did; rest = b.rest; is = b.is; place = inr b.place; deed = b.deed; round = b.round }
+best_at p (Here d ∷ before) s e = best-deed p d before s d.deed refl (λ k. best_at p before s k) e
+
+closed-deed : (d : Did) (before : List Seen) (close : Did) (past : List Seen) (deed : Deed) → (closed before ≡ Here close ∷ past → Within (Here close ∷ past) before) → closed_after deed (Here d ∷ before) (closed before) ≡ Here close ∷ past → Within (Here close ∷ past) (Here d ∷ before)
+closed-deed d before close past Begins h e = nil-cons (Here close) past e
+closed-deed d before close past (Acts (Close count lo size mean)) h e = inl (sym e)
+closed-deed d before close past _ h e = inr (h e)
+
+pub closed_at : (seen : List Seen) (close : Did) (past : List Seen) → closed seen ≡ Here close ∷ past → Within (Here close ∷ past) seen
+closed_at [] close past e = nil-cons (Here close) past e
+closed_at (Elsewhere d ∷ before) close past e = inr (closed_at before close past e)
+closed_at (Here d ∷ before) close past e = closed-deed d before close past d.deed (closed_at before close past) e

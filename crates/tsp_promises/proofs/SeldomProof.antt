@@ -4,8 +4,8 @@ use Rattle.tsp_rules.specs.Values.{Boot, Become, Arm, Ring, Late, Abandon, Close
 use Rattle.tsp_base.specs.Words.{Acts, Deed, Did, Line, Seen, Here, of, dids, view, seen_as, is_shared, lives, lives_after, Within, armed, armed_after, is_going, started, started_after, Setup}
 use Rattle.tsp_promises.specs.{DeedFits.DeedFits, Fits.Fits, Fits.Sees, Fits.node_of, OwnFits.OwnFits, Seldom.Seldom, Seldom.SeldomAt}
 use Rattle.tsp_promises.specs.{RoundFits.CloseFits, RoundFits.StartFits, Setting.Setting, Setting.setup_of}
-use Rattle.tsp_promises.proofs.{EverywhereLemmas.Everywhere-from, HistoryPlaces.of-own, HistoryPlaces.own_in, PortFits.deed_fits}
-use Rattle.tsp_promises.proofs.{Locating.fits_in, Locating.view-line, OwnFitsProof.fits_at, OwnFitsProof.own_fits, SinceProof.since}
+use Rattle.tsp_promises.proofs.{EverywhereLemmas.Everywhere-from, HistoryPlaces.of-own, HistoryPlaces.own_in, OwnFitsProof.deed_fits}
+use Rattle.tsp_promises.proofs.{OwnFitsProof.fits_in, OwnFitsProof.view-line, OwnFitsProof.fits_at, OwnFitsProof.own_fits, SinceProof.since}
 use Rattle.tsp_promises.proofs.SteadyProof.{lives-more}
 
 -- what stands after a round's end: no other round yet, or one that began ROUND later

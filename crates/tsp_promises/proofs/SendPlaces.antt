@@ -3,9 +3,11 @@ use Rattle.std.proofs.Common.{sym, ap, arith, subst, subst₂, inl, inr, true≢
 use Rattle.tsp_rules.specs.Values.{Post, Datagram, Message, Kind, AdjTime, Conflict, Election, QuitKind, SetDateReq, SetTime, PeerId, Place, Peer, LAST}
 use Rattle.tsp_base.specs.Words.{Acts, Came, Deed, Did, Line, Seen, Here, of, dids, view, is_shared, MessageValue, Within, acting, begun_to, is_correction, is_numbered, Setup, peer_of, posted, posted_after}
 use Rattle.tsp_promises.specs.{CorrectionFits.CorrectionFits, CorrectionFits.RepeatFits, Fits.Fits, Fits.LineFits, Fits.node_of}
-use Rattle.tsp_promises.{specs.DeedFits.MessageFits, proofs.Clocks.near, proofs.OwnFitsProof.place-time, proofs.PortFits.deed_fits}
+use Rattle.tsp_promises.{specs.DeedFits.MessageFits, proofs.Clocks.near, proofs.OwnFitsProof.place-time, proofs.OwnFitsProof.locate}
 use Rattle.tsp_promises.{specs.Setting.Setting, specs.Setting.setup_of, proofs.SendProof.BeginsSend, proofs.SendProof.send_is}
-use Rattle.tsp_promises.proofs.{OnlyMasterProof.correction_fits, Locating.line_on, Locating.locate, Locating.view-line, Locating.tick_in}
+use Rattle.tsp_promises.proofs.OnlyMasterProof.{correction_fits}
+use Rattle.tsp_promises.proofs.OwnFitsProof.{view-line, tick_in, deed_fits}
+use Rattle.tsp_promises.proofs.HistoryPlaces.{line_on}
 
 -- where the send of the post p of node m to k begins
 pub record SendPlace (m k : ℕ) (p : Line) (o : List Line) (msg : MessageValue) : Type 0 where

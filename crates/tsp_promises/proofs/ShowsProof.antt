@@ -2,13 +2,12 @@
 use Rattle.std.proofs.Common.{sym, ap, arith, subst, subst₂, inl, ◌∙◌, ◌≡◌, ◌≤◌, ℕ, ◌-◌, ◌/◌, ℤ, pos, ◌-ℤ◌, nat_abs, Bool, true, false, List, ◌∷◌, refl}
 use Rattle.tsp_rules.specs.Values.{Correct}
 use Rattle.tsp_base.specs.Words.{Acts, Did, Line, dids, of, last_correct, last_correct_after, shown, target, tick_of, heard}
-use Rattle.tsp_promises.specs.{CorrectFits.is_stepped, Fits.Fits, Fits.node_of, Setting.Setting}
-use Rattle.tsp_promises.specs.Shows.{PrintedApart, Prints, Shows, ShowsAt}
 use Rattle.tsp_base.proofs.Views.{plain_view}
-use Rattle.tsp_promises.proofs.{EverywhereLemmas.Everywhere-from, HistoryPlaces.of-own, HistoryPlaces.Within-of, SinceProof.since}
-use Rattle.tsp_promises.proofs.{OwnFitsProof.fits_at, OwnFitsProof.own_fits, PortFits.deed_fits, PortFits.own_tick}
-use Rattle.tsp_promises.proofs.Printed.{after_slew, shows_target}
-use Rattle.tsp_promises.proofs.SteadyProof.{Near, NextFrom, steadily_by, stretch_from}
+use Rattle.tsp_promises.specs.{Fits.Fits, Fits.node_of, Setting.Setting, Shows.PrintedApart, Shows.Prints, Shows.Shows, Shows.ShowsAt}
+use Rattle.tsp_promises.{proofs.EverywhereLemmas.Everywhere-from, specs.CorrectFits.is_stepped}
+use Rattle.tsp_promises.proofs.OwnFitsProof.{fits_at, own_fits, deed_fits, own_tick}
+use Rattle.tsp_promises.proofs.{SinceProof.since, SteadyProof.Near, SteadyProof.NextFrom, SteadyProof.steadily_by, SteadyProof.stretch_from}
+use Rattle.tsp_promises.proofs.{HistoryPlaces.of-own, HistoryPlaces.Within-of, Printed.after_slew, Printed.shows_target}
 
 -- a node's line at the head of its lines
 own-lines : (l : Line) (world : List Line) → dids (of (node_of l) (l ∷ world)) ≡ l.did ∷ dids (of (node_of l) world)

@@ -2,13 +2,13 @@
 use Rattle.std.proofs.Common.{sym, ap, arith, subst, inl, inr, ◌∙◌, ◌≡◌, ℕ, ◌+◌, ◌≤◌, List, ◌∷◌, refl}
 use Rattle.tsp_rules.specs.Values.{Post, Datagram, Message, Stamp, SlaveUp, Place, Peer, Port, Reply}
 use Rattle.tsp_base.specs.Words.{Acts, Did, Line, Seen, Here, of, dids, view, plain, MessageValue, ticket, Within, Sampled, started, ReplyValue, Receives, peer_of}
-use Rattle.tsp_promises.specs.{CorrectionFits.AnswersSlaveUp, CorrectionFits.AtClose, DeedFits.MessageFits}
-use Rattle.tsp_promises.specs.{Fits.Fits, Fits.LineFits, Fits.node_of, Setting.Setting, Setting.setup_of}
 use Rattle.tsp_base.proofs.{PlaceLemmas.Within-all, PlaceLemmas.Within-through, PlaceLemmas.Within-tail, Views.plain_view}
-use Rattle.tsp_promises.proofs.{BestProof.best_at, ClosedProof.closed_at, Given.Given, Given.given_at, KnownProof.known, PortFits.deed_fits}
-use Rattle.tsp_promises.proofs.{Locating.line_on, Locating.locate, RoundPlaces.same-start, SendPlaces.post_fits, TakingProof.round-soon}
-use Rattle.tsp_promises.proofs.MeasuredProof.{Reading, reading_at, sample_fits}
-use Rattle.tsp_promises.proofs.SendProof.{CorrectsTo, number-same}
+use Rattle.tsp_promises.specs.{CorrectionFits.AnswersSlaveUp, CorrectionFits.AtClose, Fits.Fits, Fits.LineFits, Fits.node_of}
+use Rattle.tsp_promises.specs.{DeedFits.MessageFits, Setting.Setting, Setting.setup_of}
+use Rattle.tsp_promises.proofs.{KnownProof.known, OwnFitsProof.Given, OwnFitsProof.given_at, OwnFitsProof.deed_fits, OwnFitsProof.locate}
+use Rattle.tsp_promises.proofs.{MeasuredProof.Reading, MeasuredProof.reading_at, MeasuredProof.sample_fits, TakingProof.round-soon}
+use Rattle.tsp_promises.proofs.{HistoryPlaces.line_on, RoundPlaces.best_at, RoundPlaces.closed_at, RoundPlaces.same-start}
+use Rattle.tsp_promises.proofs.{SendPlaces.post_fits, SendProof.CorrectsTo, SendProof.number-same}
 
 -- k posted its ticket at most 30 s before the correction f began with it
 pub record Source (k : ℕ) (f : Did) (fw : List Line) (number : ℕ) : Type 0 where

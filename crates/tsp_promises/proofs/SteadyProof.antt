@@ -5,7 +5,7 @@ use Rattle.tsp_rules.specs.Values.{Boot, Correct, SLEW}
 use Rattle.tsp_base.specs.Words.{Deed, Begins, Acts, Did, Line, of, dids, boot_after, boot_tick, eased, last_correct, last_correct_after, lives, lives_after, moved, moved_after, rest, rest_after, shown, target, tick_of, time_of, wall, wall_after, Within, tick_at, width}
 use Rattle.tsp_promises.specs.{Fits.Fits, Fits.node_of, OwnFits.OwnFits, Setting.Setting, ShownAt.shown_at}
 use Rattle.tsp_promises.specs.Steady.{Advances, Meets, MeetsBy, NoneStepped, RunsOn, RunsOverTime, Steady, SteadyAt}
-use Rattle.tsp_promises.proofs.{Clocks.tick-mono, Clocks.ticks_over, EverywhereLemmas.Everywhere-from, Locating.tick_in}
+use Rattle.tsp_promises.proofs.{Clocks.tick-mono, Clocks.ticks_over, EverywhereLemmas.Everywhere-from, OwnFitsProof.tick_in}
 use Rattle.tsp_promises.proofs.{HistoryPlaces.of-other, HistoryPlaces.of-own, HistoryPlaces.Within-of, SinceProof.last_by, SinceProof.since}
 use Rattle.tsp_promises.proofs.OwnFitsProof.{fits_at, own_fits, tick_is}
 use Rattle.tsp_base.proofs.TickLemmas.{eased_none}

@@ -2,10 +2,9 @@
 use Rattle.std.proofs.Common.{sym, ap, arith, subst, inl, inr, eq-eqb, ◌∙◌, ◌≡◌, ◌≤◌, ◌⊎◌, ℕ, ◌+◌, ◌==◌, ◌&&◌, if◌then◌else◌, Bool, true, false, List, [], ◌∷◌, refl}
 use Rattle.tsp_rules.specs.Values.{Boot, Post, Become, Acked, Gave, Message, PeerId, Peer, TRIES}
 use Rattle.tsp_base.specs.Words.{Deed, Acts, Did, Line, Seen, Here, Elsewhere, of, view, MessageValue, acting, begun_to, is_numbered, open_to, open_to_after, posts_of, posts_of_after}
-use Rattle.tsp_promises.specs.{CorrectionFits.RepeatFits, Fits.Fits, Fits.node_of, Setting.Setting}
-use Rattle.tsp_promises.specs.Thrice.{Thrice, ThriceAt, sent, sent_after}
-use Rattle.tsp_promises.proofs.{EverywhereLemmas.Everywhere-from, Leaves.nil-cons, Locating.line_on, Locating.view-line}
-use Rattle.tsp_promises.proofs.{OwnFitsProof.fits_at, SendPlaces.repeats_in, SendPlaces.send_place}
+use Rattle.tsp_promises.specs.{Fits.Fits, Fits.node_of, Setting.Setting, Thrice.Thrice, Thrice.ThriceAt, Thrice.sent, Thrice.sent_after}
+use Rattle.tsp_promises.{proofs.EverywhereLemmas.Everywhere-from, proofs.HistoryPlaces.line_on, specs.CorrectionFits.RepeatFits}
+use Rattle.tsp_promises.proofs.{Leaves.nil-cons, OwnFitsProof.view-line, OwnFitsProof.fits_at, SendPlaces.repeats_in, SendPlaces.send_place}
 
 -- what a send has had is what the open one has had, where one is open
 abbrev Counted : List Seen → ℕ → ℕ → Type 0

@@ -3,17 +3,16 @@ use Rattle.std.proofs.Common.{sym, ap, arith, subst, subst₂, inl, inr, ◌∙�
 use Rattle.std.proofs.lemmas.Bool.{cases_lt}
 use Rattle.tsp_rules.specs.Values.{Post, Back, Backer, Message, Accept, Election, PeerId, Peer, Port, LAST, LIFE}
 use Rattle.tsp_base.specs.Words.{Step, Acts, Did, Line, Seen, Here, of, dids, view, is_shared, MessageValue, boot_tick, lives, lives_after, time_of, word, Within, acting, stood, stood_after, begun, is_numbered, Receives, peer_of, tick_at, Setup}
-use Rattle.tsp_promises.specs.{DeedFits.MessageFits, DeedFits.ElectionFits, Fits.Fits, Fits.SameStep, Fits.node_of, StepFacts.backed}
-use Rattle.tsp_promises.specs.Premises.{Few, FewAt, Honest, HonestAt, Life, TakenWithinAt}
 use Rattle.tsp_base.proofs.{PlaceLemmas.Within-all, PlaceLemmas.Within-through, PlaceLemmas.Within-tail, Views.plain_view}
-use Rattle.tsp_promises.specs.{HoldFits.AcceptFits, HoldFits.BackerFits, Setting.Network, Setting.Setting, Setting.setup_of}
-use Rattle.tsp_promises.proofs.Elections.{AskFits, VoteFits, ElectFits, ElectsAt, Elects}
-use Rattle.tsp_promises.proofs.{BackedProof.back_at, Clocks.near, EverywhereLemmas.Everywhere-at, EverywhereLemmas.Everywhere-within}
+use Rattle.tsp_promises.specs.Premises.{Few, FewAt, Honest, HonestAt, Life, TakenWithinAt}
 use Rattle.tsp_promises.proofs.ElectionFacts.{Asks, begun_asks, asks_life, one_asking, open_at, boots, boots_after, boots_view}
-use Rattle.tsp_promises.proofs.{HistoryPlaces.Within-of, HistoryPlaces.lift, HistoryPlaces.own_in, PortFits.deed_fits, SinceProof.since}
+use Rattle.tsp_promises.proofs.OwnFitsProof.{locate, view-line, seen_in, tick_in, deed_fits, own_fits, fits_at, place-time}
+use Rattle.tsp_promises.specs.{Fits.Fits, Fits.SameStep, Fits.node_of, Setting.Network, Setting.Setting, Setting.setup_of, StepFacts.backed}
+use Rattle.tsp_promises.specs.{DeedFits.MessageFits, DeedFits.ElectionFits, HoldFits.AcceptFits, HoldFits.BackerFits}
+use Rattle.tsp_promises.proofs.Elections.{AskFits, VoteFits, ElectFits, ElectsAt, Elects}
+use Rattle.tsp_promises.proofs.{HistoryPlaces.line_on, HistoryPlaces.Within-of, HistoryPlaces.lift, HistoryPlaces.own_in, SinceProof.since}
 use Rattle.tsp_promises.proofs.{KnownProof.in-step, KnownProof.known, KnownProof.own-in-step, SendProof.opened, SendProof.send_is}
-use Rattle.tsp_promises.proofs.Locating.{line_on, locate, view-line, seen_in, tick_in}
-use Rattle.tsp_promises.proofs.OwnFitsProof.{own_fits, fits_at, place-time}
+use Rattle.tsp_promises.proofs.{BackedProof.back_at, Clocks.near, EverywhereLemmas.Everywhere-at, EverywhereLemmas.Everywhere-within}
 
 -- a history that fits, also as elections ask, under their premises
 pub record Polled (setting : Setting) (world : List Line) : Type 0 where

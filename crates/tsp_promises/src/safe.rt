@@ -23,7 +23,7 @@ pub fn safe()
 
 ghost use Rattle.tsp_promises.specs.OneBack.{OneBack};
 /// No node backs two candidates within `HOLD` ticks, 60 s, even if datagrams are forged.
-#[tactic(auto, using(crate::proofs::OneBackProof::one_back))]
+#[tactic(auto, using(crate::proofs::ResolvedProof::one_back))]
 pub fn one_back()
     ensures { (setting : Setting) (world : List Line) → Fits setting world → Finished setting world
         → OneBack world }
@@ -33,7 +33,7 @@ ghost use Rattle.tsp_promises.specs.Silent.{Silent};
 /// For `QUIET` ticks, 80 s, after a boot a node posts only the reply to a stamp request, or the
 /// acknowledgment of an MSITE, TRACEON or TRACEOFF, that its step took, to whom that came from. And
 /// it doesn't correct its clock.
-#[tactic(auto, using(crate::proofs::SilentProof::silent))]
+#[tactic(auto, using(crate::proofs::ResolvedProof::silent))]
 pub fn silent_after_boot()
     ensures { (setting : Setting) (world : List Line) → Fits setting world → Silent world }
 {}
@@ -61,7 +61,7 @@ pub fn only_master()
 
 /// Two corrections of one clock are at least `GAP` ticks, 1 s, apart: in one life of the node, and
 /// over its lives.
-#[tactic(auto, using(crate::proofs::OnceSpacedProof::once_spaced, crate::proofs::OnceSpacedProof::once_spaced_over_lives))]
+#[tactic(auto, using(crate::proofs::OnceObeyedProof::once_spaced, crate::proofs::OnceObeyedProof::once_spaced_over_lives))]
 pub fn once_spaced()
     ensures one_life { (setting : Setting) (world : List Line) → Fits setting world
         → OnceSpaced world }
@@ -109,7 +109,7 @@ pub fn thrice()
 
 /// A measurement ends an open exchange of the going round, and the error that it states is half of
 /// that round trip, rounded up to a microsecond.
-#[tactic(auto, using(crate::proofs::TripProof::trips))]
+#[tactic(auto, using(crate::proofs::MeasuredProof::trips))]
 pub fn measured_trips()
     ensures { (setting : Setting) (world : List Line) → Fits setting world → Trips world }
 {}
@@ -277,7 +277,7 @@ pub fn resolved_yields()
 
 ghost use Rattle.tsp_promises.specs.Became.{BecomesAfter};
 /// It comes to follow by a change of its role in that step, after the QUIT.
-#[tactic(auto, using(crate::proofs::BecameProof::becomes_after))]
+#[tactic(auto, using(crate::proofs::ResolvedProof::becomes_after))]
 pub fn resolved_becomes()
     ensures { BecomesAfter }
 {}

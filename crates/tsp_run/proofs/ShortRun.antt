@@ -5,8 +5,9 @@ use Rattle.tsp_rules.specs.Values.{Boot, Post, Message, Kind, Ack, Conflict, Dat
 use Rattle.tsp_base.specs.Words.{MessageValue, Setup, Acts, Deed, Did, Line, Seen, Here, Elsewhere, is_shared, of, seen_as, view, acting, begun, begun_after, has_own_number}
 use Rattle.tsp_promises.specs.DeedFits.{DeedFits, MessageFits, PostFits, StrangerFits}
 use Rattle.tsp_promises.specs.{Everywhere.Everywhere, Fits.Fits, Fits.node_of, PortFits.PortFits, Premises.Few}
-use Rattle.tsp_promises.{proofs.PortFits.port_fits, specs.Setting.Setting, specs.Setting.setup_of}
+use Rattle.tsp_promises.specs.Setting.{Setting, setup_of}
 use Rattle.tsp_run.specs.{Premised.own_posts, Premised.own_posts_after, Run.posted_in, Run.posts}
+use Rattle.tsp_promises.proofs.OwnFitsProof.{port_fits}
 
 one_if : (b : Bool) (n m : ℕ) → n ≤ m → (if b then n + 1 else n) ≤ m + 1
 one_if true n m le = omega (arith, le)

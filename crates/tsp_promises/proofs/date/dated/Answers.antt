@@ -1,7 +1,7 @@
 -- As it is proved of each place.
 use Rattle.std.specs.Prelude.{◌∷◌}
 use Rattle.tsp_rules.specs.Values.{LIFE}
-use Rattle.tsp_promises.proofs.{OwnFitsProof.fits_at, SetProof.sets_at}
+use Rattle.tsp_promises.proofs.{OwnFitsProof.fits_at, OnceObeyedProof.sets_at}
 use Rattle.tsp_promises.specs.{Dated.DateConfirmedAt, Dated.SetsAt, Premises.FewAt, Premises.HonestAt, Premises.TakenWithinAt}
 use Rattle.tsp_promises.proofs.{ConfirmedDate.date_confirmed, EverywhereLemmas.Everywhere-from, EverywhereLemmas.Everywhere-within}
 use Rattle.tsp_promises.proofs.date.dated.Goals as goal
