@@ -1,15 +1,14 @@
--- Small histories that break the promises of clocks, of shown values, of chains and of single corrections.
+-- Small histories that break the promises of clocks, of chains and of single corrections.
 use Rattle.std.proofs.Common.{sym, ap, arith, subst, inl, inr, true≢false, ◌∙◌, ◌≡◌, ◌≤◌, ◌≤ℤ◌, Bool, true, false, ℕ, ℤ, pos, negsuc, ◌-ℤ◌, nat_abs, List, [], ◌∷◌, refl}
 use Rattle.std.proofs.lemmas.Int.{ints}
 use Rattle.tsp_rules.specs.Values.{Boot, Took, Post, Arm, Ring, Close, Correct, Sample, CloseAlarm, Message, Stamp, Good, AdjTime, SetTime, TimeBody, PeerId, Peer, Request, Reply}
-use Rattle.tsp_base.specs.Words.{Booted, Came, Turned, Did, Line, Seen, Here, of, view, MessageValue, Within, peer_of}
+use Rattle.tsp_base.specs.Words.{Booted, Came, Turned, Line, of, view, MessageValue, Within, peer_of}
 use Rattle.tsp_promises.proofs.Histories.{begins, does, line, msg, skip, skipped, step_at, still}
 use Rattle.tsp_promises.proofs.Spots.{Computed, Corrects, but_for, close_begins, corrects-at, estimate-at, sample_of, spot, untouched}
 use Rattle.tsp_promises.proofs.WitnessUse.{first-hop, first-round, reply1, reply2, second-hop, set-by, set-source, set-taking, usual}
-use Rattle.tsp_promises.specs.{Broken.breaks, Broken.ChainsBreak, Broken.ClocksBreak, Broken.ReadingsBreak, Chained.Hop, Chained.Hops}
-use Rattle.tsp_promises.specs.{Agreed.MasterAgrees, Agreed.UnchangedBut, ClockAt.clock, Estimates.Estimate, FirstSet.SetBy, Fits.node_of}
+use Rattle.tsp_promises.specs.{Agreed.MasterAgrees, Agreed.UnchangedBut, Broken.breaks, Broken.ChainsBreak, Broken.ClocksBreak}
+use Rattle.tsp_promises.specs.{Chained.Hop, Chained.Hops, ClockAt.clock, Estimates.Estimate, FirstSet.SetBy, Fits.node_of}
 use Rattle.tsp_promises.proofs.{StepChecks.port0, WitnessChain.far-hop, WitnessChain.near-hop, WitnessChain.near-round, WitnessChain.relay}
-use Rattle.tsp_promises.proofs.ReadingChecks.{read-by, read_at-by, unstepped-by}
 use Rattle.tsp_promises.proofs.FromRoundProof.{reading_of, taking_of}
 
 abbrev reply : ℕ → Line
@@ -24,12 +23,6 @@ only-post p q older (inr e) = let bad : ⊥ = cc in absurd bad
 
 line-same : (p q : Line) (older : List Line) → p ∷ older ≡ q ∷ [] → p ≡ q
 line-same p q older e = cc
-
-pub turned : (k : ℕ) → Turned ≡ Came k → ⊥
-turned k e = cc
-
-none-there : (d : Did) (older : List Seen) → [] ≡ Here d ∷ older → ⊥
-none-there d older e = cc
 
 abbrev outlives : List Line
 outlives = does 15 0 (Booted 3 (pos 15)) Boot ∷ (does 10 0 Turned (Post (Peer (peer_of 1)) (Stamp (Request 0 0))) ∷ (does 10 0 Turned (Arm CloseAlarm 30) ∷ []))
@@ -51,17 +44,17 @@ misled-round : Corrects 0 misled-hop
 misled-round = corrects-at misled-hop (spot 10 mislead refl) (search arith)
 
 -- a follower whose clock moves by five seconds where its ADJTIME says 67
-abbrev stray-hop : Bool → Hop
+abbrev pub stray-hop : Bool → Hop
 stray-hop stepped = record second-hop { correct = line (step_at 408000500 2 (Came 11)) port0 (Correct (pos 5000000) stepped (pos 0)) }
 
-abbrev stray : Bool → List Line
+abbrev pub stray : Bool → List Line
 stray stepped = (stray-hop stepped).correct ∷ second-hop.past
 
-stray-round : (stepped : Bool) → Corrects 0 (stray-hop stepped)
+pub stray-round : (stepped : Bool) → Corrects 0 (stray-hop stepped)
 stray-round stepped = corrects-at (stray-hop stepped) (spot 12 second-hop.past refl) (search arith)
 
 -- the master made no Correct but the one right after its Close
-left_alone : (stepped : Bool) → UnchangedBut 0 second-hop.close second-hop.cpast (stray stepped)
+pub left_alone : (stepped : Bool) → UnchangedBut 0 second-hop.close second-hop.cpast (stray stepped)
 left_alone stepped = but_for (spot 9 (stray stepped) refl) refl refl refl refl refl
 
 far-apart : MasterAgrees (still false) (stray false) 408000500 → ⊥
@@ -92,15 +85,14 @@ clocks_break = record {
       let k : pos 100 ≤ℤ pos 0 = subst (λ z. pos (nat_abs (pos 100 -ℤ (clock (still false) 1 z -ℤ clock (still false) 0 z))) ≤ℤ pos 0) (only-post r.post (reply 1) r.older r.place) r.near in
       omega (arith, ints));
   unread = breaks (does 20 0 Turned (Sample (peer_of 1) 0 (pos 0) (pos 0) 0) ∷ (reply 1 ∷ []))
-      (λ h. turned _ (h.0 (peer_of 1) 0 (pos 0) (pos 0) 0 refl).takes);
+      (λ h. cc (h.0 (peer_of 1) 0 (pos 0) (pos 0) 0 refl).takes);
   misread = breaks (measures ∷ (reply 2 ∷ [])) (λ h.
       let r = h.0 (peer_of 1) 0 (pos 100) (pos 0) 0 refl in
       let two : r.post ≡ reply 2 = line-same r.post (reply 2) r.older (only-post r.post (reply 2) r.older r.place) in
       let k : 2 ≡ 1 = ap (λ (z : Line). node_of z) (sym two) ∙ ap (λ (p : PeerId). p.0) r.from in
       omega arith);
-  unasked = breaks (measures ∷ []) (λ h. let t = h.0 (peer_of 1) 0 (pos 100) (pos 0) 0 refl in none-there t.request t.older t.exchange_is);
-  outlived = breaks (measures ∷ outlives) (λ h. let t = h.0 (peer_of 1) 0 (pos 100) (pos 0) 0 refl in none-there t.request t.older
-      t.exchange_is);
+  unasked = breaks (measures ∷ []) (λ h. let t = h.0 (peer_of 1) 0 (pos 100) (pos 0) 0 refl in cc t.exchange_is);
+  outlived = breaks (measures ∷ outlives) (λ h. let t = h.0 (peer_of 1) 0 (pos 100) (pos 0) 0 refl in cc t.exchange_is);
   misled = breaks (misled-hop.correct ∷ mislead) (λ h.
       let k : pos 1000083 ≤ℤ pos 403 = (h.0.clocks (Correct (pos 1000000) false (pos 0)) refl).master 0 _ _ _ _ _ _ _ misled-round
       (untouched refl refl refl)
@@ -125,38 +117,6 @@ clocks_break = record {
       (skipped 16 (skip 9 (relay 27)))
       (untouched refl refl refl) (untouched refl refl refl) still-led in
       omega (arith, ints));
-}
-
--- a Correct that is slewed, and later ones of 0 at a late tick and back at the first
-abbrev again : ℤ → List Line
-again amount = does 0 0 Turned (Correct (pos 0) false (pos 0)) ∷ (does 100000 0 Turned (Correct (pos 0) false (pos 0)) ∷ (does 0 0 Turned (Correct amount false (pos 0)) ∷ []))
-
-abbrev corrects : ℤ → Bool → ℤ → List Line
-corrects amount stepped shown = does 0 0 Turned (Correct amount stepped shown) ∷ []
-
-pub readings_break : ReadingsBreak (still false)
-readings_break = record {
-  steady = breaks (again (pos 100000)) (λ h.
-      let read = read-by 0 3 (again (pos 100000)) 0 100000 (omega arith) refl (omega arith) (omega arith) in
-      let k : 1000 ≤ 500 = (h.0.ticks 0 [] 0 100000 (unstepped-by 0 3 (again (pos 100000)) refl refl) read).rate in
-      omega arith);
-  waited = breaks (again (negsuc 99999)) (λ h.
-      let read = read_at-by 0 3 (again (negsuc 99999)) 0 100000 (omega arith) refl (omega arith) (omega arith) in
-      let k : pos 99498 ≤ℤ pos 99000 = h.0 0 0 [] 0 100000 (pos 0) (unstepped-by 0 3 (again (negsuc 99999)) refl refl) read
-      (omega (arith, ints)) in
-      omega (arith, ints));
-  agreed_shown = breaks (stray true) (λ h.
-      let k : pos 5000001 ≤ℤ pos 534 = (h.0 408000500 (omega arith)).master 0 _ _ _ _ _ _ _ (stray-round true) (untouched refl refl refl)
-      (left_alone true) in
-      omega (arith, ints));
-  shown_near = breaks (does 0 1 (Booted 9 (pos 1000)) Boot ∷ (does 0 0 (Booted 7 (pos 0)) Boot ∷ []))
-      (λ h. let k : pos 1000 ≤ℤ pos 0 = (h.0 0 1 0 (pos 0) refl refl (omega (arith, ints))).within in omega (arith, ints));
-  falls = breaks (corrects (negsuc 249) false (negsuc 249))
-      (λ h. let k : negsuc 249 ≡ pos 0 = (h.0.prints (negsuc 249) false (negsuc 249) refl).value in omega (arith, ints));
-  leaps = breaks (corrects (pos 250) false (pos 250)) (λ h. let k : pos 250 ≡ pos 0 = (h.0.prints (pos 250) false (pos 250) refl).value in
-      omega (arith, ints));
-  steps = breaks (corrects (pos 250) true (pos 250)) (λ h. true≢false (h.0.prints (pos 250) true (pos 250) refl).flag);
-  slews = breaks (corrects (pos 20000001) false (pos 0)) (λ h. true≢false (sym (h.0.prints (pos 20000001) false (pos 0) refl).flag));
 }
 
 stray-hops : Hops 0 (stray-hop false) (stray false)

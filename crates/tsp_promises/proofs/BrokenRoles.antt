@@ -1,7 +1,7 @@
 -- Small histories that break the promises of roles and of answers.
 use Rattle.std.proofs.Common.{ap, arith, inl, inr, sym, true≢false, ◌≡◌, ◌≤◌, ◌<◌, ℕ, true, false, ◌+◌, pos, List, [], ◌∷◌, Option, Some, None, refl, subst, ◌∙◌}
-use Rattle.tsp_rules.specs.Values.{Boot, Took, Post, Become, Ring, Back, Close, Correct, Quit, ResolveAlarm, Message, Stamp, Good, Accept, Ack, AdjTime, Election, MasterReq, Msite, QuitKind, Nothing, TimeBody, PeerId, Peer, Stranger, Starting, Follow, Candidate, Master, Reply, ELECT_MIN, Datagram, Taken, Test, Place, Loose, Request}
-use Rattle.tsp_base.specs.Words.{Booted, Came, Handed, Turned, Line, of, view, MessageValue, Received, message_in, ReplyValue, peer_of, dids, heard}
+use Rattle.tsp_rules.specs.Values.{Boot, Took, Post, Become, Ring, Back, Close, Correct, Quit, ResolveAlarm, Message, Stamp, Good, Accept, Ack, AdjTime, Election, MasterReq, Msite, QuitKind, Nothing, TimeBody, PeerId, Peer, Stranger, Follow, Candidate, Master, Reply, ELECT_MIN, Datagram, Taken, Test, Place, Loose, Request}
+use Rattle.tsp_base.specs.Words.{Booted, Came, Handed, Turned, Line, of, view, MessageValue, Received, message_in, ReplyValue, peer_of}
 use Rattle.tsp_promises.proofs.Histories.{begins, does, line, msg, step_at, still}
 use Rattle.tsp_promises.specs.{Answered.AnswersAsked, Answered.AnswersWith, Broken.breaks, Broken.RolesBreak, Broken.AnswersBreak}
 use Rattle.tsp_promises.{proofs.Debts.not-same, proofs.StepChecks.port0, proofs.StepChecks.port1, specs.Resolved.TakesQuit}
@@ -9,23 +9,11 @@ use Rattle.tsp_promises.{proofs.Debts.not-same, proofs.StepChecks.port0, proofs.
 one-two : peer_of 1 ≡ peer_of 2 → ⊥
 one-two e = not-same 1 2 (omega arith) (ap (λ (p : PeerId). p.0) e)
 
-none-peer : (p : PeerId) → None ≡ Some p → ⊥
-none-peer p e = cc
-
 abbrev stands : List Line
 stands = does 10 0 Turned (Become Candidate) ∷ []
 
-pub starting : Starting ≡ Master → ⊥
-starting e = cc
-
-follows : (p : PeerId) → Follow p ≡ Master → ⊥
-follows p e = cc
-
 abbrev closed : List Line
 closed = does 20 0 Turned (Close 1 (pos 0) (pos 0) (pos 5)) ∷ (does 10 0 Turned (Become Master) ∷ [])
-
-follow-master : (p : PeerId) → Master ≡ Follow p → ⊥
-follow-master p e = cc
 
 follow-same : (p q : PeerId) → Follow p ≡ Follow q → p ≡ q
 follow-same p q e = cc
@@ -65,12 +53,6 @@ takes = record {
   step = refl;
 }
 
-no-request : MasterReq ≡ Ack → ⊥
-no-request e = cc
-
-some-some : {A B : Type 0} (a : A) → None ≡ Some a → B
-some-some a e = let bad : ⊥ = cc in absurd bad
-
 -- a reply that nobody asked for
 abbrev idle : ReplyValue
 idle = record { ticket = 0; word = 5; counter = 0; reading = pos 10 }
@@ -94,7 +76,7 @@ roles_break = record {
         | inr k ↦ omega arith
       ]);
   accepts = breaks (does 10 0 Turned (Post (Peer (peer_of 1)) (Message (msg Accept 5 Nothing))) ∷ [])
-      (λ h. none-peer (peer_of 1) (h.backs.0.accepts (Peer (peer_of 1)) (msg Accept 5 Nothing) refl refl));
+      (λ h. cc (h.backs.0.accepts (Peer (peer_of 1)) (msg Accept 5 Nothing) refl refl));
   accepts_stranger = breaks (does 10 0 Turned (Post Stranger (Message (msg Accept 5 Nothing))) ∷ (does 10 0 Turned (Back (peer_of 1)) ∷ []))
       (λ h. h.backs.0.accepts Stranger (msg Accept 5 Nothing) refl refl);
   asks = breaks (does 10 0 Turned (Post (Peer (peer_of 1)) (Message (msg Election 32768 Nothing))) ∷ stands)
@@ -102,18 +84,18 @@ roles_break = record {
   ends = breaks (begins 20 0 Turned ∷ stands) (λ h. true≢false (h.backs.0.ends refl port0));
   finishes = breaks stands (λ h. true≢false (h.ends 0 port0));
   corrects = breaks (does 10 0 Turned (Post (Peer (peer_of 1)) (Message (msg AdjTime 5 (TimeBody (pos 1))))) ∷ [])
-      (λ h. starting (h.0.posts (Peer (peer_of 1)) (msg AdjTime 5 (TimeBody (pos 1))) refl refl));
+      (λ h. cc (h.0.posts (Peer (peer_of 1)) (msg AdjTime 5 (TimeBody (pos 1))) refl refl));
   closes = breaks (does 20 0 Turned (Close 1 (pos 0) (pos 0) (pos 0)) ∷ (does 10 0 Turned (Become (Follow (peer_of 1))) ∷ []))
-      (λ h. follows (peer_of 1) (h.0.closes 1 (pos 0) (pos 0) (pos 0) refl));
+      (λ h. cc (h.0.closes 1 (pos 0) (pos 0) (pos 0) refl));
   speaks = breaks (does 10 0 Turned (Post (Peer (peer_of 1)) (Message (msg MasterReq 0 Nothing))) ∷ (does 0 0 (Booted 7 (pos 0)) Boot ∷ []))
       (λ h. elim (h.0.posts (Peer (peer_of 1)) (Message (msg MasterReq 0 Nothing)) refl) [
         | inl late ↦ omega arith
-        | inr early ↦ no-request early.0
+        | inr early ↦ cc early.0
       ]);
   replies_early = breaks (does 10 0 Turned (Post (Peer (peer_of 1)) (Stamp (Reply idle))) ∷ (does 0 0 (Booted 7 (pos 0)) Boot ∷ []))
       (λ h. elim (h.0.posts (Peer (peer_of 1)) (Stamp (Reply idle)) refl) [
         | inl late ↦ omega arith
-        | inr early ↦ some-some _ early
+        | inr early ↦ cc early
       ]);
   acks_early = breaks (does 10 0 Handed (Post Stranger (Message (msg Ack 4 Nothing))) ∷ asked-name)
       (λ h. elim (h.0.posts Stranger (Message (msg Ack 4 Nothing)) refl) [
@@ -124,13 +106,13 @@ roles_break = record {
   corrects_early = breaks (does 10 0 Turned (Correct (pos 5) true (pos 0)) ∷ (does 0 0 (Booted 7 (pos 0)) Boot ∷ []))
       (λ h. let late = h.0.corrects (pos 5) true (pos 0) refl in omega arith);
   follows_close = breaks (line (step_at 20 0 Turned) port1 (Correct (pos 5) false (pos 0)) ∷ (begins 20 1 Turned ∷ closed))
-      (λ h. starting (h.0.corrects (does 20 0 Turned (Close 1 (pos 0) (pos 0) (pos 5))) (does 10 0 Turned (Become Master) ∷ []) 1 (pos 0)
+      (λ h. cc (h.0.corrects (does 20 0 Turned (Close 1 (pos 0) (pos 0) (pos 5))) (does 10 0 Turned (Become Master) ∷ []) 1 (pos 0)
       (pos 0) (pos 5) (pos 5) false (pos 0) refl refl refl));
   winners = breaks (does 20 1 Turned (Become Master) ∷ (does 10 0 Turned (Become Master) ∷ []))
       (λ h. let k : 10 + 50000000 < 20 = h.0 (does 10 0 Turned (Become Master)) [] refl (inl refl) refl (not-same 0 1
       (omega arith)) refl in omega arith);
   yields = breaks (does 20 0 Turned (Quit (peer_of 1)) ∷ (does 10 0 Turned (Become Master) ∷ []))
-      (λ h. follow-master (peer_of 1) (h.ends 0 port0 (peer_of 1) refl));
+      (λ h. cc (h.ends 0 port0 (peer_of 1) refl));
   -- of two peers whose QUITs a master took, it can follow one alone
   yields_twice = breaks (does 30 0 Turned (Become (Follow (peer_of 2))) ∷ (does 30 0 Turned (Quit (peer_of 2)) ∷
       (does 30 0 Turned (Quit (peer_of 1)) ∷ (does 10 0 Turned (Become Master) ∷ []))))
@@ -144,7 +126,7 @@ roles_break = record {
   -- it takes the QUIT, and does nothing
   only_takes = breaks (does 20 0 Handed (Took (Peer (peer_of 1)) (Good (Message (msg QuitKind 32770 Nothing)))) ∷ (begins 20 0 Handed ∷
       (does 10 0 Turned (Become Master) ∷ [])))
-      (λ h. follow-master (peer_of 1) (h.ends 0 port0 (peer_of 1) refl));
+      (λ h. cc (h.ends 0 port0 (peer_of 1) refl));
   quiet = breaks (does 20 0 Turned (Become Master) ∷ (does 10 0 Turned (Quit (peer_of 1)) ∷ []))
       (λ h. let k : 10 + ELECT_MIN ≤ 20 = h.0 (does 10 0 Turned (Quit (peer_of 1))) [] (peer_of 1) refl
       (inl refl) refl refl refl in omega arith);
@@ -167,9 +149,6 @@ replied = does 10 0 Handed (Post Stranger (Stamp (Reply reply))) ∷ asked
 abbrev quits : List Line
 quits = does 10 0 Handed (Took (Peer (peer_of 1)) (Good (Message (msg QuitKind 32770 Nothing)))) ∷ []
 
-some-none : heard (dids asked) ≡ None → ⊥
-some-none e = cc
-
 abbrev pub tested : List Line
 tested = does 10 0 Handed (Took Stranger (Good (Message (msg Test 5 Nothing)))) ∷ []
 
@@ -187,9 +166,6 @@ pub same-datagram : {from : Place} (o : Option Received) (d e : Datagram) → o 
 same-datagram o d e x y =
     let both : Some d ≡ Some e = ap datagram-taken (sym x ∙ y) in
     cc
-
-none-named : (n : ℕ) → [] ≡ n ∷ [] → ⊥
-none-named n e = cc
 
 abbrev number-at : Place → ℕ
 number-at (Peer p) = p.0
@@ -215,24 +191,24 @@ by_asked a = no-answer a.asked (same-datagram _ (Message (msg QuitKind 32770 Not
 pub answers_break : AnswersBreak (still false)
 answers_break = record {
   takes_two = breaks (does 10 0 Handed (Took Stranger (Good (Stamp (Request 5 0)))) ∷ asked)
-      (λ h. some-none (h.takes_one.0 Stranger (Good (Stamp (Request 5 0))) refl));
+      (λ h. cc (h.takes_one.0 Stranger (Good (Stamp (Request 5 0))) refl));
   quits_twice = breaks (does 10 0 Handed (Quit (peer_of 1)) ∷ (does 10 0 Handed (Quit (peer_of 2)) ∷ quits))
       (λ h. true≢false (h.quits.0 (peer_of 1) refl).only);
   unheeded = breaks (does 10 0 Handed (Took (Peer (peer_of 1)) (Good (Message (msg QuitKind 32770 Nothing)))) ∷ (begins 10 0 Handed ∷
       (does 5 0 Turned (Become Loose) ∷ [])))
-      (λ h. let k = h.heeded.ends 0 port0 in let bad : ⊥ = cc in bad);
+      (λ h. let k = h.heeded.ends 0 port0 in cc);
   unacknowledged = breaks (does 10 0 Handed (Quit (peer_of 1)) ∷ quits)
-      (λ h. let k = h.acknowledged.ends 0 port0 in let bad : ⊥ = cc in bad);
+      (λ h. let k = h.acknowledged.ends 0 port0 in cc);
   replies_twice = breaks (does 10 0 Handed (Post Stranger (Stamp (Reply reply))) ∷ replied)
       (λ h. true≢false (h.strangers.0 (Stamp (Reply reply)) refl).first);
   nameless = breaks (does 10 0 Handed (Post Stranger (Message (msg Ack 5 Nothing))) ∷ tested) (λ h.
       let a = h.strangers.0 (Message (msg Ack 5 Nothing)) refl in
-      none-named 0 (a.named (msg Ack 5 Nothing) (msg Test 5 Nothing) refl (same-datagram _ (Message
+      cc (a.named (msg Ack 5 Nothing) (msg Test 5 Nothing) refl (same-datagram _ (Message
       (msg Test 5 Nothing)) a.asked refl a.took)));
   unasked = breaks (does 10 0 Handed (Post Stranger (Stamp (Reply reply))) ∷ [])
       (λ h. let k : 1 ≤ 0 = h.one_for_one.0 in omega arith);
   unasked_peer = breaks (does 10 0 Handed (Post (Peer (peer_of 1)) (Stamp (Reply reply))) ∷ [])
-      (λ h. let k = (h.answers.0 (Peer (peer_of 1)) (Stamp (Reply reply)) refl refl).took in let bad : ⊥ = cc in bad);
+      (λ h. let k = (h.answers.0 (Peer (peer_of 1)) (Stamp (Reply reply)) refl refl).took in cc);
   misnumbered = breaks (does 10 0 Handed (Post (Peer (peer_of 1)) (Message next)) ∷ quits)
       (λ h. by_asked (h.answers.0 (Peer (peer_of 1)) (Message next) refl refl));
   misled = breaks (does 10 0 Handed (Post (Peer (peer_of 2)) (Message (msg Ack 32770 Nothing))) ∷ quits) (λ h.

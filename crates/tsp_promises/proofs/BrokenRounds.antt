@@ -1,14 +1,15 @@
--- Small histories that break the promises of rounds; and that each promise is broken.
-use Rattle.std.proofs.Common.{arith, inl, true≢false, ◌≡◌, ◌≤◌, ◌≤ℤ◌, true, Bool, ℤ, ℕ, false, pos, negsuc, List, [], ◌∷◌, refl}
+-- Small histories that break the promises of rounds and of shown values; and that each promise is broken.
+use Rattle.std.proofs.Common.{sym, arith, inl, true≢false, ◌≡◌, ◌≤◌, ◌≤ℤ◌, Bool, true, false, ℕ, ℤ, pos, negsuc, List, [], ◌∷◌, refl}
 use Rattle.std.proofs.lemmas.Int.{ints}
-use Rattle.tsp_rules.specs.Values.{Took, Post, Close, Correct, Message, Good, AdjTime, TimeBody, Peer}
-use Rattle.tsp_base.specs.Words.{Came, Turned, Line, MessageValue, peer_of}
+use Rattle.tsp_rules.specs.Values.{Boot, Took, Post, Close, Correct, Message, Good, AdjTime, TimeBody, Peer}
+use Rattle.tsp_base.specs.Words.{Booted, Came, Turned, Line, MessageValue, peer_of}
 use Rattle.tsp_promises.proofs.Spots.{Computed, Corrects, close_begins, corrects-at, estimate-at, sample_of, spot, untouched}
 use Rattle.tsp_promises.proofs.WitnessRounds.{mild-hop, moves-little, near-agrees, own-agrees, peer-corrects, shut-by, small-agrees}
-use Rattle.tsp_promises.specs.{Broken.breaks, Broken.AllBreak, Broken.RoundsBreak, Chained.Hop, Estimates.Estimate, Estimates.Moves}
-use Rattle.tsp_promises.specs.Moderate.{PeerCorrects}
+use Rattle.tsp_promises.proofs.BrokenClocks.{chains_break, clocks_break, left_alone, stray, stray-round}
+use Rattle.tsp_promises.specs.{Broken.breaks, Broken.ReadingsBreak, Broken.AllBreak, Broken.RoundsBreak, Chained.Hop, Moderate.PeerCorrects}
+use Rattle.tsp_promises.specs.Estimates.{Estimate, Moves}
 use Rattle.tsp_promises.proofs.Histories.{begins, does, msg, skipped, still}
-use Rattle.tsp_promises.proofs.{BrokenClocks.chains_break, BrokenClocks.clocks_break, BrokenClocks.readings_break, FromRoundProof.taking_of}
+use Rattle.tsp_promises.proofs.{FromRoundProof.taking_of, ReadingChecks.read-by, ReadingChecks.read_at-by, ReadingChecks.unstepped-by}
 use Rattle.tsp_promises.proofs.{BrokenRoles.answers_break, BrokenRoles.roles_break, BrokenSends.sends_break}
 
 -- the Close of a round in which the master and a peer agree within a millisecond, with this mean, and then a Correct
@@ -121,6 +122,38 @@ rounds_break = record {
       let k : 239000010 ≤ 20 = h.0 (closes_at 10) [] 1 1 (pos 0) (pos 0) (pos 0) (pos 0) (pos 0) (pos 0) refl (inl refl) refl refl refl
       refl in
       omega arith);
+}
+
+-- a Correct that is slewed, and later ones of 0 at a late tick and back at the first
+abbrev again : ℤ → List Line
+again amount = does 0 0 Turned (Correct (pos 0) false (pos 0)) ∷ (does 100000 0 Turned (Correct (pos 0) false (pos 0)) ∷ (does 0 0 Turned (Correct amount false (pos 0)) ∷ []))
+
+abbrev corrects : ℤ → Bool → ℤ → List Line
+corrects amount stepped shown = does 0 0 Turned (Correct amount stepped shown) ∷ []
+
+readings_break : ReadingsBreak (still false)
+readings_break = record {
+  steady = breaks (again (pos 100000)) (λ h.
+      let read = read-by 0 3 (again (pos 100000)) 0 100000 (omega arith) refl (omega arith) (omega arith) in
+      let k : 1000 ≤ 500 = (h.0.ticks 0 [] 0 100000 (unstepped-by 0 3 (again (pos 100000)) refl refl) read).rate in
+      omega arith);
+  waited = breaks (again (negsuc 99999)) (λ h.
+      let read = read_at-by 0 3 (again (negsuc 99999)) 0 100000 (omega arith) refl (omega arith) (omega arith) in
+      let k : pos 99498 ≤ℤ pos 99000 = h.0 0 0 [] 0 100000 (pos 0) (unstepped-by 0 3 (again (negsuc 99999)) refl refl) read
+      (omega (arith, ints)) in
+      omega (arith, ints));
+  agreed_shown = breaks (stray true) (λ h.
+      let k : pos 5000001 ≤ℤ pos 534 = (h.0 408000500 (omega arith)).master 0 _ _ _ _ _ _ _ (stray-round true) (untouched refl refl refl)
+      (left_alone true) in
+      omega (arith, ints));
+  shown_near = breaks (does 0 1 (Booted 9 (pos 1000)) Boot ∷ (does 0 0 (Booted 7 (pos 0)) Boot ∷ []))
+      (λ h. let k : pos 1000 ≤ℤ pos 0 = (h.0 0 1 0 (pos 0) refl refl (omega (arith, ints))).within in omega (arith, ints));
+  falls = breaks (corrects (negsuc 249) false (negsuc 249))
+      (λ h. let k : negsuc 249 ≡ pos 0 = (h.0.prints (negsuc 249) false (negsuc 249) refl).value in omega (arith, ints));
+  leaps = breaks (corrects (pos 250) false (pos 250)) (λ h. let k : pos 250 ≡ pos 0 = (h.0.prints (pos 250) false (pos 250) refl).value in
+      omega (arith, ints));
+  steps = breaks (corrects (pos 250) true (pos 250)) (λ h. true≢false (h.0.prints (pos 250) true (pos 250) refl).flag);
+  slews = breaks (corrects (pos 20000001) false (pos 0)) (λ h. true≢false (sym (h.0.prints (pos 20000001) false (pos 0) refl).flag));
 }
 
 -- each promise is broken by some history

@@ -5,7 +5,7 @@ use Rattle.tsp_rules.specs.Values.{Boot, Took, Post, Become, Ring, Correct, Acke
 use Rattle.tsp_base.specs.Words.{Acts, Booted, Came, Handed, Turned, Line, dids, of, plain, view, MessageValue, tick_of, Within, heard, peer_of, posted}
 use Rattle.tsp_promises.proofs.Histories.{begins, does, line, msg, step_at, still}
 use Rattle.tsp_promises.specs.{Broken.breaks, Broken.SendsBreak, Broken.DatesBreak, Broken.LoopsBreak, Looped.IsLoopChain, Looped.LoopPost}
-use Rattle.tsp_promises.{proofs.BrokenClocks.turned, proofs.BrokenRoles.starting, specs.Fits.node_of, specs.Once.ActsOn, specs.Once.OfSend}
+use Rattle.tsp_promises.specs.{Fits.node_of, Once.ActsOn, Once.OfSend}
 use Rattle.tsp_promises.proofs.{PremiseChecks.few-by, PremiseChecks.honest-by, PremiseChecks.life-by, StepChecks.port0, StepChecks.port1}
 use Rattle.tsp_promises.proofs.{EverywhereLemmas.Everywhere-at, SendProof.one-message, WitnessDates.loop_with, WitnessDates.names-by}
 
@@ -118,7 +118,7 @@ sends_break = record {
       (λ h. let k : 10 + GAP ≤ 20 = h.0 (moves 10 0) [] (pos 1) (pos 1) false false (pos 0) (pos 0) refl (inr
       (inl refl)) refl refl in omega arith);
   obeyed = breaks (does 20 0 Turned (Correct (pos 1) false (pos 0)) ∷ (does 10 0 Turned (Become (Follow (peer_of 1))) ∷ []))
-      (λ h. turned _ (h.0 (peer_of 1) (pos 1) false (pos 0) refl refl).brings.cause);
+      (λ h. cc (h.0 (peer_of 1) (pos 1) false (pos 0) refl refl).brings.cause);
   corrected = breaks (moves 30 0 ∷ twice)
       (λ h. h.0 adj (moves 20 0) adj ring once ring adj.did (view port0 (of 1 ring)) second refl (inr
       (inl refl)) first begins-here begins-here);
@@ -164,7 +164,7 @@ pub dates_break : DatesBreak
 dates_break = record {
   setting = still false;
   leads = breaks (set-after (pos 480) [])
-      (λ h. starting (h.0 (pos 480) true (pos 500) Stranger foreign refl refl refl).leads);
+      (λ h. cc (h.0 (pos 480) true (pos 500) Stranger foreign refl refl refl).leads);
   sets = breaks (set-after (pos 5) (does 10 0 Turned (Become Master) ∷ []))
       (λ h. let k : pos 5 ≡ pos 480 = (h.0 (pos 5) true (pos 500) Stranger foreign refl refl refl).amount_is in omega (arith, k, ints));
   confirmed = breaks acked (λ h.
