@@ -1,20 +1,20 @@
 -- Clocks corrected in one round agree. The sums of agreement, over whole numbers. A round's bound outlasts later
 -- Corrects. Clocks along chains of corrected masters agree. A clock that a corrected master corrects agrees with the
 -- first master's: a chain of two links.
-use Rattle.std.proofs.Common.{arith, ◌≡◌, ◌≤◌, ◌≤ℤ◌, ℤ, pos, ◌+ℤ◌, ◌-ℤ◌, nat_abs, ℕ, ◌+◌, sym, ap, subst, inl, inr, ◌∙◌, ◌⊎◌, ◌-◌, ◌*◌, true, List, ◌∷◌, is_some, refl, subst₂, []}
-use Rattle.std.proofs.lemmas.Int.{ints}
-use Rattle.tsp_rules.specs.Values.{AdjTime, PeerId}
-use Rattle.tsp_base.specs.Words.{Did, Line, Seen, Here, of, dids, view, moved, time_of, MessageValue, Within, best, tick_at, width}
-use Rattle.tsp_base.proofs.PlaceLemmas.{Within-through, Within-tail}
+use Rattle.tsp_promises.proofs.OwnFitsProof.{given, Given, given_at, place-time, own_fits, fits_at}
 use Rattle.tsp_promises.specs.Agreed.{Agreed, AgreedAt, ClocksAgree, MasterAgrees, PeersAgree, RestsOnSample, StayAgreed, Unchanged, FromRound, UnchangedBut}
 use Rattle.tsp_promises.specs.Throughout.{BoundAt, BoundsLast, PeersBound, Throughout, moved_since}
 use Rattle.tsp_promises.specs.Chained.{Hop, Hops, IsChain, ChainAgrees, ChainsAgree, Chained, ChainedAt, TreeAgrees, bound, hop_bound, last_hop, node_at}
 use Rattle.tsp_promises.specs.{CorrectionFits.AnswersSlaveUp, CorrectionFits.AtClose, Relayed.RelayAgrees, Relayed.Relayed, Setting.Setting}
 use Rattle.tsp_promises.specs.{ClockAt.clock_at, Fits.Fits, Fits.node_of, StepFacts.closed}
-use Rattle.tsp_promises.proofs.{FromRoundProof.Met, FromRoundProof.corrects-adj, FromRoundProof.whole, OwnFitsProof.Given, OwnFitsProof.given_at}
 use Rattle.tsp_promises.proofs.{EverywhereLemmas.Everywhere-from, MasterMoved.master_moved, MasterMoved.same-mean, MasterMoved.unmoved}
-use Rattle.tsp_promises.proofs.{OwnFitsProof.place-time, OwnFitsProof.own_fits, OwnFitsProof.fits_at, SendPlaces.post_fits}
-use Rattle.tsp_promises.proofs.{Clocks.drift_apart, HistoryPlaces.of-own, HistoryPlaces.Within-of, SinceProof.since}
+use Rattle.tsp_promises.proofs.{HistoryPlaces.of-own, HistoryPlaces.Within-of, TakingProof.Met, TakingProof.corrects-adj, TakingProof.whole}
+use Rattle.tsp_promises.proofs.{Clocks.drift_apart, SendPlaces.post_fits, SinceProof.since}
+use Rattle.std.proofs.Common.{arith, ◌≡◌, ◌≤◌, ◌≤ℤ◌, ℤ, pos, ◌+ℤ◌, ◌-ℤ◌, nat_abs, ℕ, ◌+◌, sym, ap, subst, inl, inr, ◌∙◌, ◌⊎◌, ◌-◌, ◌*◌, true, List, ◌∷◌, is_some, refl, subst₂, []}
+use Rattle.std.proofs.lemmas.Int.{ints}
+use Rattle.tsp_rules.specs.Values.{AdjTime, PeerId}
+use Rattle.tsp_base.specs.Words.{Did, Line, Seen, Here, of, dids, view, moved, time_of, MessageValue, Within, best, tick_at, width}
+use Rattle.tsp_base.proofs.PlaceLemmas.{Within-through, Within-tail}
 
 -- wk and wm are the walls, k0 and m0 what the clocks had moved at the reading, k1 what k's has moved after its Correct, ticks at the reading and now
 pub sums : (wk wm k0 k1 m0 mean diff amount e : ℤ) (kr kt mr mt w : ℕ) → amount ≡ mean -ℤ diff → k1 ≡ k0 +ℤ amount →
@@ -232,3 +232,6 @@ relay_agrees setting h t down g m close shut cpast spast c d past qast r q rolde
 
 pub relayed : (setting : Setting) (h : List Line) → Given setting h → Relayed setting h
 relayed setting h g = Everywhere-from (λ (l : Line) (s : List Line). (t : ℕ) → l.did.step.at ≤ t → RelayAgrees setting (l ∷ s) t) h (λ l s w t by. relay_agrees setting (l ∷ s) t (chained_at setting (l ∷ s) t (given_at setting (l ∷ s) h g w) by).down)
+
+-- for the theorem
+pub ruleset all_agreed = (given, agreed, stay_agreed)

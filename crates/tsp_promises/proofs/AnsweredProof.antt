@@ -8,7 +8,7 @@ use Rattle.tsp_promises.specs.{DeedFits.DeedFits, OwnFits.OwnFits, OwnFits.OwnLi
 use Rattle.tsp_promises.specs.Fits.{Finished, Fits, SameStep, node_of}
 use Rattle.tsp_promises.specs.StepFacts.{is_answered, is_answered_after, unacknowledged, unheeded}
 use Rattle.tsp_base.proofs.{ViewPlaces.or-false, ViewPlaces.port-same, ViewPlaces.sees-own, Views.plain_view}
-use Rattle.tsp_promises.proofs.{EverywhereLemmas.Everywhere-from, HeardProof.heard_taken, HistoryPlaces.of-own, Printed.heard_now}
+use Rattle.tsp_promises.proofs.{EverywhereLemmas.Everywhere-from, KnownProof.heard_taken, HistoryPlaces.of-own, Printed.heard_now}
 use Rattle.tsp_promises.proofs.{OwnFitsProof.fits_at, OwnFitsProof.own_fits, OwnFitsProof.deed_fits, OwnFitsProof.mark_fits}
 use Rattle.tsp_promises.{proofs.StrangerFacts.answering, proofs.StrangerFacts.answers_asked, specs.Setting.Setting, specs.Setting.setup_of}
 

@@ -9,7 +9,7 @@ use Rattle.tsp_promises.proofs.WitnessUse.{first-hop, first-round, reply1, reply
 use Rattle.tsp_promises.specs.{Agreed.MasterAgrees, Agreed.UnchangedBut, Broken.breaks, Broken.ChainsBreak, Broken.ClocksBreak}
 use Rattle.tsp_promises.specs.{Chained.Hop, Chained.Hops, ClockAt.clock, Estimates.Estimate, FirstSet.SetBy, Fits.node_of}
 use Rattle.tsp_promises.proofs.{StepChecks.port0, WitnessChain.far-hop, WitnessChain.near-hop, WitnessChain.near-round, WitnessChain.relay}
-use Rattle.tsp_promises.proofs.FromRoundProof.{reading_of, taking_of}
+use Rattle.tsp_promises.proofs.TakingProof.{reading_of, taking_of}
 
 abbrev reply : ℕ → Line
 reply n = does 10 n Turned (Post (Peer (peer_of 0)) (Stamp (Reply (record { ticket = 0; word = 0; counter = 0; reading = pos 10 }))))

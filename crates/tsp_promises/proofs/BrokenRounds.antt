@@ -7,10 +7,9 @@ use Rattle.tsp_promises.proofs.Spots.{Computed, Corrects, close_begins, corrects
 use Rattle.tsp_promises.proofs.WitnessRounds.{mild-hop, moves-little, near-agrees, own-agrees, peer-corrects, shut-by, small-agrees}
 use Rattle.tsp_promises.proofs.BrokenClocks.{chains_break, clocks_break, left_alone, stray, stray-round}
 use Rattle.tsp_promises.specs.{Broken.breaks, Broken.ReadingsBreak, Broken.AllBreak, Broken.RoundsBreak, Chained.Hop, Moderate.PeerCorrects}
-use Rattle.tsp_promises.specs.Estimates.{Estimate, Moves}
-use Rattle.tsp_promises.proofs.Histories.{begins, does, msg, skipped, still}
-use Rattle.tsp_promises.proofs.{FromRoundProof.taking_of, ReadingChecks.read-by, ReadingChecks.read_at-by, ReadingChecks.unstepped-by}
-use Rattle.tsp_promises.proofs.{BrokenRoles.answers_break, BrokenRoles.roles_break, BrokenSends.sends_break}
+use Rattle.tsp_promises.{proofs.BrokenRoles.answers_break, proofs.BrokenRoles.roles_break, specs.Estimates.Estimate, specs.Estimates.Moves}
+use Rattle.tsp_promises.proofs.{Histories.begins, Histories.does, Histories.msg, Histories.skipped, Histories.still, TakingProof.taking_of}
+use Rattle.tsp_promises.proofs.{BrokenSends.sends_break, PremiseChecks.read-by, PremiseChecks.read_at-by, PremiseChecks.unstepped-by}
 
 -- the Close of a round in which the master and a peer agree within a millisecond, with this mean, and then a Correct
 -- by this amount

@@ -10,7 +10,7 @@ use Rattle.tsp_promises.specs.Looped.{ChainAt, GivesUpAt, HopsAt, IsLoopChain, L
 use Rattle.tsp_promises.specs.{Fits.Fits, Fits.SameStep, Fits.TookFits, Fits.node_of, Fits.LineFits, Setting.Setting, Setting.setup_of}
 use Rattle.tsp_promises.specs.{DeedFits.MessageFits, DeedFits.StrangerFits, Premises.Honest, Premises.HonestAt, Premises.NamesApartAt}
 use Rattle.tsp_promises.{proofs.OwnFitsProof.fits_in, specs.HoldFits.YieldFits, specs.LoopFits.LoopFits, specs.OwnFits.OwnFits}
-use Rattle.tsp_promises.proofs.{HeardProof.heard_taken, HistoryPlaces.lift, OwnFitsProof.own_fits, OwnFitsProof.fits_at, OwnFitsProof.deed_fits}
+use Rattle.tsp_promises.proofs.{KnownProof.heard_taken, HistoryPlaces.lift, OwnFitsProof.own_fits, OwnFitsProof.fits_at, OwnFitsProof.deed_fits}
 
 -- where the Took stands of what a step has taken
 record HeardAt (t : List Line) (r : Received) : Type 0 where

@@ -1,10 +1,10 @@
--- The clock at a place is the target that the node's past gives.
-use Rattle.std.proofs.Common.{sym, ap, arith, subst, eqb-true, true≢false, ◌∙◌, ◌≡◌, ◌==◌, Bool, true, false, ℕ, pos, ◌-ℤ◌, List, [], ◌∷◌, refl}
+-- The clock at a place is the target that the node's past gives. What a booted node's clock shows.
+use Rattle.std.proofs.Common.{sym, ap, arith, subst, eqb-true, true≢false, ◌∙◌, ◌≡◌, ◌==◌, Bool, true, false, ℕ, pos, ◌-ℤ◌, List, [], ◌∷◌, refl, inl, inr}
 use Rattle.std.proofs.lemmas.Int.{ints}
 use Rattle.tsp_rules.specs.Values.{Boot, Post, Datagram, Place}
-use Rattle.tsp_base.specs.Words.{Deed, Begins, Acts, Did, Line, of, dids, base, boot_after, boot_tick, moved, target, up, up_after, wall, wall_after}
-use Rattle.tsp_promises.specs.Fits.{Fits, LineFits, Alive, node_of}
-use Rattle.tsp_promises.{proofs.HistoryPlaces.of-own, specs.ClockAt.clock, specs.ClockAt.clock_at, specs.Setting.Setting}
+use Rattle.tsp_base.specs.Words.{Deed, Begins, Acts, Did, Line, of, dids, base, boot_after, boot_tick, moved, target, up, up_after, wall, wall_after, rest_at, Within, tick_at}
+use Rattle.tsp_promises.specs.{Fits.Fits, Fits.LineFits, Fits.Alive, Fits.node_of, Setting.Setting, ShownAt.left_at, ShownAt.shown_at}
+use Rattle.tsp_promises.{proofs.HistoryPlaces.of-own, proofs.HistoryPlaces.Within-of, specs.ClockAt.clock, specs.ClockAt.clock_at}
 
 base-deed : (setting : Setting) (d : Did) (t : List Did) (deed : Deed) → Alive setting deed d (up t) → (up t ≡ true → base t ≡ setting.wall d.step.node) → up_after deed (up t) ≡ true →
     wall_after deed d.step.cause (wall t) -ℤ pos (boot_after deed d.tick (boot_tick t)) ≡ setting.wall d.step.node
@@ -44,3 +44,24 @@ clock_post setting l world to datagram f e =
     let own = of-own (node_of l) l world refl in
     let still : moved (dids (l ∷ of (node_of l) world)) ≡ moved (dids (of (node_of l) world)) = rw e refl in
     rw (own, still) (target_is setting l world f (post_up setting l world to datagram f.0 e))
+
+up-deed : (deed : Deed) (b : _) → b ≡ true → up_after deed b ≡ true
+up-deed (Acts Boot) b e = refl
+up-deed _ b e = e
+
+up-lines : (s t : List Line) → Within s t → up (dids s) ≡ true → up (dids t) ≡ true
+up-lines s [] w e = subst (λ k. up (dids k) ≡ true) w e
+up-lines s (l ∷ t) (inl w) e = subst (λ k. up (dids k) ≡ true) w e
+up-lines s (l ∷ t) (inr w) e = up-deed l.did.deed (up (dids t)) (up-lines s t w e)
+
+-- a node that has booted stays so
+pub stays_up : (n : ℕ) (s t : List Line) → Within s t → up (dids (of n s)) ≡ true → up (dids (of n t)) ≡ true
+stays_up n s t w e = up-lines (of n s) (of n t) (Within-of n s t w) e
+
+-- its clock is its target
+pub clock_target : (setting : Setting) (n : ℕ) (h : List Line) (t : ℕ) → Fits setting h → up (dids (of n h)) ≡ true → clock_at setting n h t ≡ target (dids (of n h)) (tick_at (setting.rate n) t)
+clock_target setting n h t f u = rw (base_is setting n h f u) refl
+
+-- and it shows that less what is left to slew
+pub shown_is : (setting : Setting) (n : ℕ) (h : List Line) (t : ℕ) → Fits setting h → up (dids (of n h)) ≡ true → shown_at setting n h t ≡ clock_at setting n h t -ℤ left_at setting n h t
+shown_is setting n h t f u = ap (λ z. z -ℤ rest_at (dids (of n h)) (tick_at (setting.rate n) t)) (sym (clock_target setting n h t f u))

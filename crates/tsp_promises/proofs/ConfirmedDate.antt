@@ -10,10 +10,11 @@ use Rattle.tsp_promises.specs.Premises.{Few, FewAt, Honest, HonestAt, Life, Take
 use Rattle.tsp_promises.proofs.{EverywhereLemmas.Everywhere-at, EverywhereLemmas.Everywhere-within, SameSendProof.too-late, DateAt.date_at}
 use Rattle.tsp_promises.proofs.{Clocks.near, SendPlaces.send_place, OwnFitsProof.own_fits, OwnFitsProof.fits_at, OwnFitsProof.place-time}
 use Rattle.tsp_promises.proofs.{ConfirmedProof.port-is, OnceDatedProof.Passing, OnceDatedProof.passed-apart, OnceDatedProof.passes-in}
-use Rattle.tsp_promises.proofs.{HeardProof.heard_taken, ElectionFacts.begun_mono, ElectionFacts.boots, ElectionFacts.boots_view}
+use Rattle.tsp_promises.proofs.ElectionFacts.{begun_mono, boots, boots_view}
 use Rattle.tsp_promises.proofs.{HistoryPlaces.lift, HistoryPlaces.own_in, SendProof.BeginsSend, SendProof.number-same, SendProof.opened}
 use Rattle.tsp_promises.proofs.OwnFitsProof.{locate, fits_in, seen_in, tick_in, view-line, deed_fits}
 use Rattle.tsp_promises.proofs.HistoryPlaces.{line_on}
+use Rattle.tsp_promises.proofs.KnownProof.{heard_taken}
 
 -- the date that port q of n passes on to k is still open
 record OpenDate (n k : ℕ) (q : Port) (world : List Line) (f : Did) (fw : List Line) (m : MessageValue) : Type 0 where

@@ -7,10 +7,10 @@ use Rattle.tsp_base.proofs.Views.{plain_view}
 use Rattle.tsp_promises.proofs.OwnFitsProof.{Given, given_at, deed_fits, own_fits, own_fits_at, fits_at, place-time, locate}
 use Rattle.tsp_promises.specs.{Once.Acted, Once.Brings, Once.ConfirmedAt, Once.OnceConfirmed, Setting.Setting, Setting.setup_of}
 use Rattle.tsp_promises.specs.{AckFits.Acknowledges, AckFits.AckFits, AckFits.Answers, DeedFits.MessageFits, Fits.Fits, Fits.node_of}
-use Rattle.tsp_promises.{proofs.Correcting.takes_of, proofs.KnownProof.known, specs.Since.OneLife}
+use Rattle.tsp_promises.{proofs.OnceTakenProof.takes_of, proofs.KnownProof.known, specs.Since.OneLife}
 use Rattle.tsp_promises.proofs.{HistoryPlaces.line_on, HistoryPlaces.lift, HistoryPlaces.own_in, HistoryPlaces.Within-of, SinceProof.since}
 use Rattle.tsp_promises.proofs.{SameSendProof.same_send, SendProof.CorrectsTo, SendProof.numbered, SendProof.opened, SendProof.number-same}
-use Rattle.tsp_promises.proofs.{HeardProof.heard_taken, LastTakenProof.last_taken_at, SourceProof.Source, SourceProof.source}
+use Rattle.tsp_promises.proofs.{KnownProof.heard_taken, LastTakenProof.last_taken_at, SourceProof.Source, SourceProof.source}
 
 -- the last Correct doesn't stand before the source of a number that it took
 before-source : (setting : Setting) (k : ℕ) (c r : Line) (cw ro uo : List Line) (amount : ℤ) (stepped : Bool) (shown : ℤ) → Fits setting uo → Within (r ∷ ro) uo → Within (c ∷ cw) ro → node_of c ≡ k → c.did.deed ≡ Acts (Correct amount stepped shown) →

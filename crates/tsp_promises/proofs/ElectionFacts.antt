@@ -6,7 +6,7 @@ use Rattle.tsp_base.specs.Words.{Deed, Begins, Acts, Did, Line, Seen, Here, Else
 use Rattle.tsp_promises.specs.{Fits.node_of, HoldFits.BackerFits, Setting.Setting, Setting.setup_of}
 use Rattle.tsp_base.proofs.{PlaceLemmas.Within-comparable, ViewPlaces.port-same}
 use Rattle.tsp_promises.proofs.Elections.{In, in_among, not_among, ElectFits, Elects}
-use Rattle.tsp_promises.proofs.{Leaves.nil-cons, Pigeons.Distinct, Pigeons.AllIn, SendProof.if-nil}
+use Rattle.tsp_promises.proofs.{Leaves.nil-cons, Elections.Distinct, Elections.AllIn, SendProof.if-nil}
 
 abbrev pub boots_after : Deed → ℕ → ℕ
 boots_after (Acts Boot) n = n + 1

@@ -7,7 +7,7 @@ use Rattle.tsp_promises.specs.{Agreed.Unchanged, ClockAt.clock_at, Fits.Fits, Fi
 use Rattle.tsp_promises.specs.CorrectionFits.{AnswersSlaveUp, AtClose, FollowedBy, FromClose}
 use Rattle.tsp_promises.specs.Estimates.{CloseBegins, EndedNear, Estimate, EstimatesHold, EstimatesNear, MasterNear, Moves, NearMean}
 use Rattle.tsp_base.proofs.PlaceLemmas.{Within-through, Within-tail}
-use Rattle.tsp_promises.proofs.{Clocks.drift_apart, EverywhereLemmas.Everywhere-from, FromRoundProof.corrects-adj, HistoryPlaces.of-own}
+use Rattle.tsp_promises.proofs.{Clocks.drift_apart, EverywhereLemmas.Everywhere-from, TakingProof.corrects-adj, HistoryPlaces.of-own}
 use Rattle.tsp_promises.proofs.{OwnFitsProof.Given, OwnFitsProof.given_at, OwnFitsProof.fits_at, OwnFitsProof.place-time, OwnFitsProof.deed_fits}
 use Rattle.tsp_promises.proofs.MasterMoved.{master_moved, moved-right-after, same-mean, unmoved}
 use Rattle.tsp_promises.{proofs.TakingProof.ReadAt, proofs.TakingProof.read_at, proofs.SendPlaces.post_fits, specs.StepFacts.closed}

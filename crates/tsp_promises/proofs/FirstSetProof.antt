@@ -9,7 +9,7 @@ use Rattle.tsp_base.proofs.{PlaceLemmas.Within-through, PlaceLemmas.Within-tail,
 use Rattle.tsp_promises.proofs.{ClockProof.post_up, Clocks.tick-mono, Clocks.ticks_over, HistoryPlaces.of-own, TakingProof.begun_facts}
 use Rattle.tsp_promises.{proofs.EverywhereLemmas.Everywhere-from, proofs.EverywhereLemmas.Everywhere-within, specs.Setting.Setting}
 use Rattle.tsp_promises.proofs.{OwnFitsProof.fits_in, HistoryPlaces.line_on, OwnFitsProof.tick_in, MasterMoved.correct-moves, MasterMoved.unmoved}
-use Rattle.tsp_promises.proofs.{OwnFitsProof.fits_at, OwnFitsProof.place-time, ShownProof.clock_target, ShownProof.stays_up}
+use Rattle.tsp_promises.proofs.{OwnFitsProof.fits_at, OwnFitsProof.place-time, ClockProof.clock_target, ClockProof.stays_up}
 
 -- what the clock is behind by, in ticks of both nodes
 core : (wm mh time wk mp mk amount : ℤ) (tf tm tc tk : ℕ) → time ≡ (wm +ℤ mh) +ℤ pos tf → amount ≡ time -ℤ ((wk +ℤ mp) +ℤ pos tc) → mk ≡ mp +ℤ amount →

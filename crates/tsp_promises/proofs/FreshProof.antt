@@ -11,7 +11,7 @@ use Rattle.tsp_base.proofs.ViewPlaces.{sees-own}
 use Rattle.tsp_promises.proofs.SendProof.{BeginsSend, CorrectsTo, begun-begins, begun-here, corrects-sends, numbered, send_is}
 use Rattle.tsp_promises.proofs.OwnFitsProof.{seen_same, seen_in, fits_in, own_fits, fits_at}
 use Rattle.tsp_promises.specs.{CorrectionFits.Rests, Fits.Sees, Fits.Fits, Fits.node_of, Once.ActsOn, Once.OfSend, OwnFits.OwnFits}
-use Rattle.tsp_promises.{proofs.HeldProof.still-lives, proofs.SinceProof.since, specs.Setting.Setting}
+use Rattle.tsp_promises.{proofs.SinceProof.still-lives, proofs.SinceProof.since, specs.Setting.Setting}
 use Rattle.tsp_promises.proofs.{HistoryPlaces.of-own, HistoryPlaces.own_in, HistoryPlaces.Within-of, HistoryPlaces.line_on, Leaves.nil-cons}
 use Rattle.tsp_promises.proofs.{OnceTakenProof.numbered-by, SendPlaces.send_place, SendPlaces.post_fits, SteadyProof.lives-more}
 

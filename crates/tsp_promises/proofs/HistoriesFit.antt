@@ -1,11 +1,12 @@
--- Small histories fit, step by step.
+-- Small histories fit, step by step. Small histories as lists of steps, and what shows that they fit.
 use Rattle.std.proofs.Common.{sym, ap, arith, subst, inl, inr, eqb-true, ◌∙◌, ◌≡◌, ◌==◌, ◌&&◌, cond, ◌≤◌, ◌<◌, nat_lt, nat_le, Bool, true, false, ℕ, zero, suc, ◌+◌, List, [], ◌∷◌, length, refl}
+use Rattle.std.specs.Prelude.{◌≡◌, ◌&&◌, Bool, true, ℕ, zero, suc, ℤ, pos, List, [], ◌∷◌, map}
 use Rattle.std.proofs.lemmas.Bool.{ltb-true, leb-true, and_parts}
-use Rattle.tsp_rules.specs.Values.{Act, Post, Placed, Datagram, Taken, Good, PeerId, Place, Peer, Port}
-use Rattle.tsp_base.specs.Words.{Step, Begins, Acts, Deed, Line, of, dids, view, first_port, joined, line_of, time_of, Within, peer_of, posted, posted_after}
-use Rattle.tsp_promises.specs.Fits.{Finished, Fits, LineFits, Posted, node_of}
-use Rattle.tsp_promises.proofs.Histories.{ActsOk, ActOk, alive-of, deeds-of, post_at, post_here, still, then_step, took-of}
-use Rattle.tsp_promises.{proofs.StepChecks.settled, proofs.StepChecks.settled-ends, specs.Setting.setup_of, specs.StepFacts.StepEnds}
+use Rattle.tsp_rules.specs.Values.{Act, Post, Placed, Datagram, Taken, Good, PeerId, Place, Peer, Port, Boot, Took, Become, Ring, Back, Correct, Sample, Acked, Window, Elect, Message, Stamp, Ack, SetTime, SlaveUp, Nothing, TimeBody, Follow, Candidate, Master, Request, Reply}
+use Rattle.tsp_base.specs.Words.{Step, Begins, Acts, Deed, Line, of, dids, view, first_port, joined, line_of, time_of, Within, peer_of, posted, posted_after, Cause, Booted, Came, Handed, Turned, MessageValue, ReplyValue}
+use Rattle.tsp_promises.proofs.Histories.{ActsOk, ActOk, alive-of, deeds-of, post_at, post_here, still, then_step, took-of, msg, on, skip, step_at}
+use Rattle.tsp_promises.specs.{Fits.Finished, Fits.Fits, Fits.LineFits, Fits.Posted, Fits.node_of, Setting.setup_of, StepFacts.StepEnds}
+use Rattle.tsp_promises.proofs.StepChecks.{settled, settled-ends}
 
 posted-few : (h : List Line) → posted (dids h) ≤ length h
 posted-few [] = omega arith
@@ -115,3 +116,105 @@ post-found k (l ∷ t) post older e = by-deed l.did.deed (post-found k t post ol
 pub came : {strict : Bool} {l : Line} {h : List Line} {k : ℕ} {post : Line} {older : List Line} {d : Datagram} {from : Place} {taken : Taken} → post_at k h ≡ post ∷ older → post.did.deed ≡ Acts (Post (Peer (peer_of (node_of l))) d) →
     (still strict).net (node_of post) post.port ≡ (still strict).net (node_of l) l.port → from ≡ Peer (peer_of (node_of post)) → taken ≡ Good d → Posted (still strict) l h k from taken
 came {strict} {l} {h} {k} {post} {older} {d} at deed net from taken = let f = post-found k h post older at in record { post = post; older = older; place = f.place; number = f.number; datagram = d; deed = deed; net = net; from_is = from; taken_is = taken }
+
+-- a step and its acts
+pub record Stage : Type 0 where
+  pub step : Step
+  pub acts : List Placed
+
+-- a time, a node, and the number of one of its ports
+pub record There : Type 0 where
+  pub time : ℕ
+  pub node : ℕ
+  pub port : ℕ
+
+abbrev pub at : ℕ → ℕ → ℕ → There
+at time node port = record { time = time; node = node; port = port }
+
+abbrev acts_on : There → List Act → List Placed
+acts_on t acts = map (on (record { 0 = t.port })) acts
+
+abbrev stage : There → Cause → List Act → Stage
+stage t cause acts = record { step = step_at t.time t.node cause; acts = acts_on t acts }
+
+-- a node boots with this word
+abbrev pub boots : ℕ → ℕ → ℕ → Stage
+boots time node word = stage (at time node 0) (Booted word (pos time)) (Boot ∷ [])
+
+-- a look at the timers, on one port
+abbrev pub turns : There → List Act → Stage
+turns t acts = stage t Turned acts
+
+-- the datagram of this number comes in from a peer
+abbrev pub takes : There → ℕ → ℕ → Datagram → List Act → Stage
+takes t number peer datagram acts = stage t (Came number) (Took (Peer (peer_of peer)) (Good datagram) ∷ acts)
+
+-- a datagram from outside
+abbrev pub hands : There → Place → Datagram → List Act → Stage
+hands t from datagram acts = stage t Handed (Took from (Good datagram) ∷ acts)
+
+-- a candidate that asks nobody
+abbrev pub stands : There → Stage
+stands t = turns t (Ring Elect ∷ Become Candidate ∷ Back (peer_of t.node) ∷ [])
+
+abbrev pub wins : There → Stage
+wins t = turns t (Ring Window ∷ Become Master ∷ [])
+
+-- it follows a master, and says so with its ticket
+abbrev pub follows : There → ℕ → ℕ → Stage
+follows t master number = turns t (Become (Follow (peer_of master)) ∷ Post (Peer (peer_of master)) (Message (msg SlaveUp number Nothing)) ∷ [])
+
+-- the master answers by this time
+abbrev pub sets_up : There → ℕ → ℕ → ℕ → ℤ → Stage
+sets_up t sent peer number time = takes t sent peer (Message (msg SlaveUp number Nothing)) (Post (Peer (peer_of peer)) (Message (msg SetTime number (TimeBody time))) ∷ [])
+
+-- a follower takes a correction, and acknowledges it
+abbrev pub obeys : There → ℕ → ℕ → MessageValue → ℤ → Bool → ℤ → Stage
+obeys t sent master m amount stepped shown = takes t sent master (Message m) (Correct amount stepped shown ∷ Post (Peer (peer_of master)) (Message (msg Ack m.number Nothing)) ∷ [])
+
+abbrev pub acked : There → ℕ → ℕ → ℕ → Stage
+acked t sent peer number = takes t sent peer (Message (msg Ack number Nothing)) (Acked (peer_of peer) ∷ [])
+
+-- a peer answers a request
+abbrev pub replies : There → ℕ → ℕ → ReplyValue → Stage
+replies t sent peer r = takes t sent peer (Stamp (Request r.word r.counter)) (Post (Peer (peer_of peer)) (Stamp (Reply r)) ∷ [])
+
+abbrev pub samples : There → ℕ → ℕ → ReplyValue → ℤ → ℤ → Stage
+samples t sent peer r diff err = takes t sent peer (Stamp (Reply r)) (Sample (peer_of peer) r.counter diff err r.ticket ∷ [])
+
+-- the history after so many of these steps
+abbrev pub after : ℕ → List Stage → List Line → List Line
+after zero stages h = h
+after (suc k) [] h = h
+after (suc k) (s ∷ rest) h = after k rest (then_step s.step s.acts h)
+
+-- whether each of so many steps may begin
+abbrev pub all_begin : ℕ → List Stage → List Line → Bool
+all_begin zero stages h = true
+all_begin (suc k) [] h = true
+all_begin (suc k) (s ∷ rest) h = may_begin s.step s.acts h && all_begin k rest (then_step s.step s.acts h)
+
+-- what the acts of so many steps owe
+abbrev pub StagesOk : Bool → ℕ → List Stage → List Line → Type 0
+StagesOk strict zero stages h = Unit {0}
+StagesOk strict (suc k) [] h = Unit {0}
+StagesOk strict (suc k) (s ∷ rest) h = ActsOk strict s.step s.acts (line_of s.step s.step.at first_port Begins ∷ h) × StagesOk strict k rest (then_step s.step s.acts h)
+
+-- what one step owes, and what the others do
+infixr 20 ◌also◌
+abbrev pub ◌also◌ : {A B : Type 0} → A → B → A × B
+a also b = (a, b)
+
+-- such steps fit
+pub stages-fit : (strict : Bool) (k : ℕ) (stages : List Stage) (h : List Line) → Fits (still strict) h → all_begin k stages h ≡ true → StagesOk strict k stages h → Fits (still strict) (after k stages h)
+stages-fit strict zero stages h f e ok = f
+stages-fit strict (suc k) [] h f e ok = f
+stages-fit strict (suc k) (s ∷ rest) h f e ok =
+    let a = and_parts (may_begin s.step s.acts h) (all_begin k rest (then_step s.step s.acts h)) e in
+    stages-fit strict k rest (then_step s.step s.acts h) (step-fits strict s.step s.acts h f a.0 ok.0) a.1 ok.1
+
+-- so does what came before them
+pub skip-fits : (strict : Bool) (n : ℕ) (h : List Line) → Fits (still strict) h → Fits (still strict) (skip n h)
+skip-fits strict zero h f = f
+skip-fits strict (suc n) [] f = f
+skip-fits strict (suc n) (l ∷ t) f = skip-fits strict n t f.1

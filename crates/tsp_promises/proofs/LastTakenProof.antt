@@ -7,7 +7,7 @@ use Rattle.tsp_rules.proofs.GuardFacts.{same_peer}
 use Rattle.tsp_base.specs.Words.{Acts, Deed, Did, Line, dids, view, seen_as, is_shared, MessageValue, all_corrects, all_corrects_after, lives, lives_after, Within, Received, Said, said, said_by, message_in, taken, Correcting, correcting_of, is_correction, last_taken, last_taken_after, last_taken_elsewhere, Receives, Seen, acting, Dating, dating_of, is_date_request, is_set_date_request, last_asked, last_asked_after, last_date, last_date_after}
 use Rattle.tsp_base.proofs.{PlaceLemmas.Within-none, ViewPlaces.port-same, ViewPlaces.or-false, ViewPlaces.sees-own}
 use Rattle.tsp_promises.specs.{Fits.Sees, OwnFits.OwnFits, Setting.Setting}
-use Rattle.tsp_promises.proofs.{HeldProof.still-lives, HistoryPlaces.line_on, KnownProof.line-is, SinceProof.since}
+use Rattle.tsp_promises.proofs.{SinceProof.still-lives, HistoryPlaces.line_on, KnownProof.line-is, SinceProof.since}
 
 -- a line in which port q corrected the clock by this message, the node's last Correct
 pub record TakenAt (q : Port) (t : List Line) (from : PeerId) (number : ℕ) : Type 0 where

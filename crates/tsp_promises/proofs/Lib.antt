@@ -18,7 +18,6 @@ pub mod CloseLeads
 pub mod CommonLeads
 pub mod ConfirmedDate
 pub mod ConfirmedProof
-pub mod Correcting
 pub mod CorrectionLeads
 pub mod DateAt
 pub mod DateLeads
@@ -31,12 +30,9 @@ pub mod EstimatesProof
 pub mod EverywhereLemmas
 pub mod FirstSetProof
 pub mod FreshProof
-pub mod FromRoundProof
 pub mod GateLeads
 pub mod GateSteps
-pub mod HeardProof
 pub mod HeedLeads
-pub mod HeldProof
 pub mod Histories
 pub mod HistoriesFit
 pub mod HistoryPlaces
@@ -55,15 +51,11 @@ pub mod OnceObeyedProof
 pub mod OnceTakenProof
 pub mod OneErrorProof
 pub mod OneWinnerProof
-pub mod OnlyMasterProof
 pub mod OwnFitsProof
-mod Pigeons
 pub mod PortLists
 pub mod PostLeaves
 pub mod PremiseChecks
 pub mod Printed
-pub mod ReadingChecks
-pub mod Requests
 pub mod ResolvedProof
 pub mod RoleLeads
 pub mod RoundLeads
@@ -71,11 +63,8 @@ pub mod RoundPlaces
 pub mod RunLeads
 pub mod SafeProof
 pub mod SameSendProof
-pub mod SeldomProof
 pub mod SendPlaces
 pub mod SendProof
-pub mod ShownProof
-pub mod ShowsProof
 pub mod SinceProof
 pub mod SlaveLeads
 pub mod SoundBuilt
@@ -83,7 +72,6 @@ pub mod SoundFacts
 pub mod SoundSteps
 pub mod SourceProof
 pub mod Spots
-pub mod Stages
 pub mod SteadyLemmas
 pub mod SteadyProof
 pub mod StepChecks

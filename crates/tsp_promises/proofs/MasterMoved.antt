@@ -9,7 +9,7 @@ use Rattle.tsp_promises.proofs.OwnFitsProof.{own_tick, own_fits, place-time, fit
 use Rattle.tsp_promises.specs.CorrectFits.{WhyCorrect, ByRound, ByMaster, ByDate}
 use Rattle.tsp_promises.specs.{Agreed.RightAfter, Agreed.UnchangedBut, Setting.Setting, Setting.setup_of, Since.Since, Since.OneLife}
 use Rattle.tsp_promises.{proofs.Clocks.near, proofs.SinceProof.since, specs.CorrectionFits.FollowedBy, specs.Fits.Fits, specs.Fits.node_of}
-use Rattle.tsp_promises.proofs.{HistoryPlaces.line_on, HistoryPlaces.of-own, HistoryPlaces.Within-of, OnlyMasterProof.right_after}
+use Rattle.tsp_promises.proofs.{HistoryPlaces.line_on, HistoryPlaces.of-own, HistoryPlaces.Within-of, SendPlaces.right_after}
 
 -- the node is left alone between, so its clock only runs on
 pub record Kept (s t : List Did) : Type 0 where

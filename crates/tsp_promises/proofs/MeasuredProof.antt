@@ -9,7 +9,7 @@ use Rattle.tsp_promises.proofs.OwnFitsProof.{Located, locate, fits_in, tick_in, 
 use Rattle.tsp_promises.specs.{Measured.MeasuredAt, Measured.Measured, Measured.TripAt, Measured.Trips, Since.Since, Since.OneLife}
 use Rattle.tsp_promises.specs.{Fits.Fits, Fits.LineFits, Fits.Alive, Fits.node_of, MeasureFits.ReplyFits, MeasureFits.SampleFits}
 use Rattle.tsp_promises.specs.{ClockAt.clock, Setting.Setting}
-use Rattle.tsp_promises.proofs.Requests.{Asks, SameLife, asks-up, request-fits, request_unique}
+use Rattle.tsp_promises.proofs.WordsProof.{Asks, SameLife, asks-up, request-fits, request_unique}
 use Rattle.tsp_promises.proofs.{HistoryPlaces.line_on, HistoryPlaces.of-own, HistoryPlaces.Within-of, SendProof.number-same}
 use Rattle.tsp_promises.proofs.{EverywhereLemmas.Everywhere-from, EverywhereLemmas.Everywhere-within, KnownProof.known, SinceProof.since}
 use Rattle.tsp_promises.proofs.{RoundPlaces.started_at, RoundPlaces.exchange_at, SendPlaces.post_unique, SendPlaces.same-number}

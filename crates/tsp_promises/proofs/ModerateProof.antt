@@ -1,19 +1,19 @@
 -- A minority of a round's estimates moves no clock of the majority by much.
-use Rattle.std.proofs.Common.{sym, ap, arith, subst, inl, inr, ◌∙◌, ◌≡◌, ◌==◌, ◌||◌, ◌≤◌, ◌<◌, ◌≤ℤ◌, ℕ, ◌-◌, ◌*◌, ℤ, pos, ◌+ℤ◌, ◌-ℤ◌, nat_abs, Bool, true, false, List, ◌∷◌, length, Some, refl, ◌+◌, ◌/◌, negsuc, neg_ℤ, if◌then◌else◌, nat_lt, Option, None}
-use Rattle.std.proofs.lemmas.{Bool.ltb-true, Int.ints}
-use Rattle.tsp_rules.specs.Values.{Close, Correct, Message, Good, AdjTime, Place, MAXADJ, SLEW, SPAN}
-use Rattle.tsp_base.specs.Words.{Acts, Did, Line, Seen, of, dids, view, seen_as, is_shared, plain, MessageValue, Received, time_of, eased, last_correct, rest, rest_at, shown, target, Sampled, best, Setup, peer_of, time_in, heard, width}
-use Rattle.tsp_group.specs.Groups.{FollowsMajority, IsWithin, group_of, mean_of}
-use Rattle.tsp_group.proofs.{LargestGroup.group_of-IsLargest, Majority.IsLargest-majority}
-use Rattle.tsp_promises.specs.{ClockAt.clock_at, Estimates.Moves, Fits.Fits, Fits.node_of, RoundFits.group_mean}
+use Rattle.tsp_promises.proofs.OwnFitsProof.{given, Given, given_at, fits_at, deed_fits}
 use Rattle.tsp_promises.specs.CorrectFits.{CorrectFits, WhyCorrect, ByRound, ByMaster, ByDate, is_stepped, sets_time}
 use Rattle.tsp_promises.specs.Moderate.{AdjTimeNear, Agrees, MeanNear, Moderate, ModerateAt, ModerateClocks, OwnNear, PeerCorrects, PeerNear, WithMajority, estimates_of}
+use Rattle.tsp_promises.specs.{ClockAt.clock_at, Fits.Fits, Fits.node_of, RoundFits.group_mean, Setting.Setting, Setting.setup_of}
+use Rattle.tsp_promises.{proofs.RoundPlaces.some-is, proofs.SendPlaces.post_fits, specs.Estimates.Moves}
+use Rattle.tsp_promises.proofs.TakingProof.{amount-adj, corrects-adj, begun_facts, used-by}
+use Rattle.tsp_promises.proofs.{EstimatesProof.at-close, EstimatesProof.ended_near, OnceTakenProof.heard_as, OnceTakenProof.correct_fits}
+use Rattle.tsp_promises.proofs.{EverywhereLemmas.Everywhere-from, HistoryPlaces.of-own, MasterMoved.mean-is, MasterMoved.same-mean}
+use Rattle.std.proofs.Common.{sym, ap, arith, subst, inl, inr, ◌∙◌, ◌≡◌, ◌==◌, ◌||◌, ◌≤◌, ◌<◌, ◌≤ℤ◌, ℕ, ◌-◌, ◌*◌, ℤ, pos, ◌+ℤ◌, ◌-ℤ◌, nat_abs, Bool, true, false, List, ◌∷◌, length, Some, refl, ◌+◌, ◌/◌, negsuc, neg_ℤ, if◌then◌else◌, nat_lt, Option, None}
+use Rattle.std.proofs.{lemmas.Bool.ltb-true, lemmas.Int.ints}
+use Rattle.tsp_rules.specs.Values.{Close, Correct, Message, Good, AdjTime, Place, MAXADJ, SLEW, SPAN}
+use Rattle.tsp_base.specs.Words.{Acts, Did, Line, Seen, of, dids, view, seen_as, is_shared, plain, MessageValue, Received, time_of, eased, last_correct, rest, rest_at, shown, target, Sampled, best, Setup, peer_of, time_in, heard, width}
 use Rattle.tsp_base.proofs.ViewPlaces.{or-false, port-same}
-use Rattle.tsp_promises.proofs.{RoundPlaces.some-is, Correcting.heard_as, EstimatesProof.at-close, EstimatesProof.ended_near}
-use Rattle.tsp_promises.proofs.{EverywhereLemmas.Everywhere-from, FromRoundProof.amount-adj, FromRoundProof.corrects-adj}
-use Rattle.tsp_promises.proofs.{OwnFitsProof.Given, OwnFitsProof.given_at, HistoryPlaces.of-own, MasterMoved.mean-is, MasterMoved.same-mean}
-use Rattle.tsp_promises.proofs.{OnceTakenProof.correct_fits, OwnFitsProof.fits_at, OwnFitsProof.deed_fits, SendPlaces.post_fits}
-use Rattle.tsp_promises.{proofs.TakingProof.begun_facts, proofs.TakingProof.used-by, specs.Setting.Setting, specs.Setting.setup_of}
+use Rattle.tsp_group.specs.Groups.{FollowsMajority, IsWithin, group_of, mean_of}
+use Rattle.tsp_group.proofs.{LargestGroup.group_of-IsLargest, Majority.IsLargest-majority}
 
 -- a Correct right after a Close is on its port, in a step that has taken nothing, and by the mean of the group that the port finds
 group-is : (setup : Setup) (here close : Did) (vs : List Seen) (b : Bool) (count : ℕ) (lo size mean amount : ℤ) → close.deed ≡ Acts (Close count lo size mean) → WhyCorrect setup here (seen_as b close ∷ vs) amount → (b ≡ true) × (amount ≡ group_mean setup vs) × (heard (plain (seen_as b close ∷ vs)) ≡ None)
@@ -178,3 +178,6 @@ with_majority setting h t g by m k close c cpast amount x r older un v e a =
 
 pub moderate_clocks : (setting : Setting) (world : List Line) → Given setting world → ModerateClocks setting world
 moderate_clocks setting world g = Everywhere-from (λ (l : Line) (s : List Line). (t : ℕ) → l.did.step.at ≤ t → WithMajority setting (l ∷ s) t) world (λ l s w t by. with_majority setting (l ∷ s) t (given_at setting (l ∷ s) world g w) by)
+
+-- for the theorem
+pub ruleset all_moderate = (given, moderate, moderate_clocks)

@@ -10,7 +10,7 @@ use Rattle.tsp_promises.specs.{Premises.Honest, Premises.HonestAt, Premises.Life
 use Rattle.tsp_promises.specs.{Fits.Fits, Fits.LineFits, Fits.node_of, Once.ActsOn, Once.OfSend, Once.OnceAt, Once.OnceTaken, Since.Since}
 use Rattle.tsp_promises.specs.{DateFits.PassOnFits, DeedFits.MessageFits}
 use Rattle.tsp_promises.proofs.{LastTakenProof.DateLate, LastTakenProof.asked_late, LastTakenProof.date_late, SendPlaces.send_place}
-use Rattle.tsp_promises.proofs.{Correcting.DatesOf, Correcting.dates_of, SendProof.BeginsSend, SendProof.number-same, SendProof.one-message}
+use Rattle.tsp_promises.proofs.{OnceTakenProof.DatesOf, OnceTakenProof.dates_of, SendProof.BeginsSend, SendProof.number-same, SendProof.one-message}
 use Rattle.tsp_promises.proofs.{HistoryPlaces.line_on, HistoryPlaces.lift, HistoryPlaces.own_in, KnownProof.known, KnownProof.line-is}
 use Rattle.tsp_promises.proofs.{Clocks.near, EverywhereLemmas.Everywhere-from, EverywhereLemmas.Everywhere-within, SinceProof.since}
 

@@ -8,7 +8,7 @@ use Rattle.tsp_promises.specs.Once.{SpacedAt, SpacedOverLivesAt, OnceSpaced, Onc
 use Rattle.tsp_promises.specs.CorrectFits.{WhyCorrect, ByRound, ByMaster, ByDate, EndsRound, amount_of}
 use Rattle.tsp_promises.specs.{ClockAt.clock_at, Fits.Fits, Fits.node_of, Fits.LineFits, Fits.Alive, Premises.Honest, Premises.HonestAt}
 use Rattle.tsp_promises.{proofs.KnownProof.known, specs.Dated.SetsAt, specs.Dated.SetsClock, specs.Setting.Setting, specs.Setting.setup_of}
-use Rattle.tsp_promises.proofs.{Correcting.taken-of, Correcting.no-correction, HistoryPlaces.line_on, OwnFitsProof.locate, OwnFitsProof.fits_in}
+use Rattle.tsp_promises.proofs.{OnceTakenProof.taken-of, OnceTakenProof.no-correction, HistoryPlaces.line_on, OwnFitsProof.locate, OwnFitsProof.fits_in}
 use Rattle.tsp_promises.proofs.{EverywhereLemmas.Everywhere-from, EverywhereLemmas.Everywhere-within, HistoryPlaces.own_in}
 use Rattle.tsp_promises.proofs.{ClockProof.target_is, OwnFitsProof.own_fits, OwnFitsProof.fits_at, OwnFitsProof.deed_fits, SinceProof.since}
 
@@ -102,3 +102,6 @@ sets-by setting l world amount stepped shown from m f deed took kind (ByDate t) 
 pub sets_at : (setting : Setting) (l : Line) (world : List Line) → Fits setting (l ∷ world) → SetsAt setting l world
 sets_at setting l world f amount stepped shown from m deed took kind =
     sets-by setting l world amount stepped shown from m f deed (ap heard (plain_view l.port (of (node_of l) world)) ∙ took) kind (deed_fits setting l world (Acts (Correct amount stepped shown)) deed f.0).why
+
+-- for the theorem
+pub ruleset all_spaced = (once_spaced, once_spaced_over_lives)

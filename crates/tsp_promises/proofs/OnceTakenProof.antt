@@ -1,14 +1,144 @@
--- No two Corrects take posts of one correction.
-use Rattle.std.proofs.Common.{sym, ap, arith, subst, ◌∙◌, ◌≡◌, true, ℕ, ◌+◌, ◌≤◌, ℤ, List, ◌∷◌, refl}
-use Rattle.tsp_rules.specs.Values.{Post, Correct, Message, PeerId, Peer, LIFE, QUIET}
-use Rattle.tsp_base.specs.Words.{Acts, Did, Line, Seen, Here, of, dids, view, MessageValue, boot_tick, ticket, Within, is_correction, is_numbered, peer_of, tick_at}
-use Rattle.tsp_promises.specs.{CorrectFits.CorrectFits, Fits.Fits, Fits.node_of, Premises.Life, Premises.TakenWithinAt}
-use Rattle.tsp_promises.specs.Once.{ActsOn, OfSend, OnceAt, OnceCorrected}
-use Rattle.tsp_promises.proofs.{EverywhereLemmas.Everywhere-from, EverywhereLemmas.Everywhere-within, OwnFitsProof.tick_in, SinceProof.since}
-use Rattle.tsp_base.proofs.Views.{plain_view}
-use Rattle.tsp_promises.proofs.{Clocks.near, Correcting.TakesOf, Correcting.takes_of, Correcting.ticket_moves, HistoryPlaces.own_in}
-use Rattle.tsp_promises.proofs.{OwnFitsProof.own_fits, OwnFitsProof.fits_at, OwnFitsProof.place-time, OwnFitsProof.deed_fits, OwnFitsProof.own_tick}
-use Rattle.tsp_promises.{proofs.SendPlaces.SendPlace, proofs.SendPlaces.send_place, specs.Setting.Setting, specs.Setting.setup_of}
+-- No two Corrects take posts of one correction. What a Correct takes, and what it makes of the ticket.
+use Rattle.std.proofs.Common.{sym, ap, arith, subst, subst₂, inl, inr, true≢false, ◌∙◌, ◌≡◌, ℕ, ◌+◌, ◌<◌, ◌≤◌, ℤ, Bool, true, false, List, ◌∷◌, Some, None, is_some, refl}
+use Rattle.std.proofs.lemmas.Bool.{cases_lt}
+use Rattle.tsp_rules.specs.Values.{Act, Took, Post, Correct, Datagram, Message, Good, Kind, AdjTime, SetTime, PeerId, Place, Peer, Follow, DATEHOLD, QUIET, LIFE}
+use Rattle.tsp_base.specs.Words.{Cause, Booted, Turned, Came, Handed, Acts, Did, Line, Seen, Here, Step, of, dids, plain, view, MessageValue, all_corrects, corrects, word, boot_tick, tick_of, ticket, target, Within, role, taken, Dating, is_correction, is_date_request, last_date, sets_date, Receives, TakesFrom, heard, peer_of, posted, time_in, is_numbered, tick_at}
+use Rattle.tsp_base.proofs.{PlaceLemmas.Within-through, PlaceLemmas.Within-tail, Views.plain_view}
+use Rattle.tsp_promises.specs.CorrectFits.{WhyCorrect, ByRound, ByMaster, ByDate, TakesCorrection, amount_of, CorrectFits}
+use Rattle.tsp_promises.proofs.OwnFitsProof.{locate, fits_in, own-step, tick_in, own_fits, fits_at, place-time, deed_fits, own_tick}
+use Rattle.tsp_promises.specs.{Once.Brings, Once.ActsOn, Once.OfSend, Once.OnceAt, Once.OnceCorrected, Setting.Setting, Setting.setup_of}
+use Rattle.tsp_promises.specs.{Fits.Fits, Fits.SameStep, Fits.TookFits, Fits.node_of, Premises.Life, Premises.TakenWithinAt, Since.Since}
+use Rattle.tsp_promises.proofs.{Clocks.near, SendPlaces.post_unique, SendPlaces.same-number, SendPlaces.SendPlace, SendPlaces.send_place}
+use Rattle.tsp_promises.proofs.{EverywhereLemmas.Everywhere-from, EverywhereLemmas.Everywhere-within, SinceProof.since}
+use Rattle.tsp_promises.proofs.HistoryPlaces.{line_on, own_in}
+
+-- a Correct in a step that has taken this correction of p
+pub record TakesOf (here : Did) (seen : List Seen) (amount : ℤ) (p : PeerId) (m : MessageValue) : Type 0 where
+  pub number : m.number ≡ ticket (plain seen)
+  pub amount_is : amount ≡ amount_of m.kind (time_in m.body) (target (plain seen) here.tick)
+  pub follows : role seen ≡ Follow p
+
+pub taken-of : (here : Did) (seen : List Seen) (amount : ℤ) (t : TakesCorrection here seen amount) → Receives seen t.from (Message t.message)
+taken-of here seen amount t = ap taken t.is ∙ rw t.deed refl
+
+-- what a Took shows is what its step brings
+pub record Shows (setting : Setting) (x : Line) (from : Place) (m : MessageValue) (post : Line) (brought : MessageValue) : Type 0 where
+  pub from_is : from ≡ Peer (peer_of (node_of post))
+  pub message_is : m ≡ brought
+  pub net : setting.net (node_of post) post.port ≡ setting.net (node_of x) x.port
+
+same-datagram : (p q : Place) (d e : Datagram) → Acts (Post p d) ≡ Acts (Post q e) → d ≡ e
+same-datagram p q d e h = cc
+
+same-read : (m n : MessageValue) (d : Datagram) → Good (Message m) ≡ Good d → d ≡ Message n → m ≡ n
+same-read m n d e h = cc
+
+took-came : (setting : Setting) (x : Line) (rest world : List Line) (post : Line) (older : List Line) (to from : Place) (m brought : MessageValue) (cause : Cause) → cause ≡ Came (posted (dids older)) → Within (x ∷ rest) world → Within (post ∷ older) world →
+    post.did.deed ≡ Acts (Post to (Message brought)) → TookFits cause setting x rest from (Good (Message m)) → Shows setting x from m post brought
+took-came setting x rest world post older to from m brought (Booted word wall) is w v deed f = absurd f
+took-came setting x rest world post older to from m brought Turned is w v deed f = absurd f
+took-came setting x rest world post older to from m brought Handed is w v deed f = let bad : ⊥ = cc in absurd bad
+took-came setting x rest world post older to from m brought (Came k) is w v deed f =
+    let place = Within-through (f.post ∷ f.older) rest world f.place (Within-tail x rest world w) in
+    let same = post_unique world f.post post f.older older (Peer (peer_of (node_of x))) to f.datagram (Message brought) place v f.deed deed (f.number ∙ same-number k (posted (dids older)) is) in
+    let line : f.post ≡ post = cc in
+    let datagram = same-datagram (Peer (peer_of (node_of x))) to f.datagram (Message brought) (sym f.deed ∙ (ap (λ (z : Line). z.did.deed) line ∙ deed)) in
+    record {
+      from_is = f.from_is ∙ ap (λ (z : Line). Peer (peer_of (node_of z))) line;
+      message_is = same-read m brought f.datagram f.taken_is datagram;
+      net = subst (λ (z : Line). setting.net (node_of z) z.port ≡ setting.net (node_of x) x.port) line f.net;
+    }
+
+-- the Took right before an act shows what the step brings
+shows : (setting : Setting) (l : Line) (world : List Line) (a : Act) (post : Line) (older : List Line) (took : Did) (past : List Seen) (from : Place) (m : MessageValue) → Fits setting (l ∷ world) → l.did.deed ≡ Acts a → (b : Brings l world post older) →
+    view l.port (of (node_of l) world) ≡ Here took ∷ past → took.deed ≡ Acts (Took from (Good (Message m))) → Shows setting (line_on l.port l.did) from m post b.message
+shows setting l world a post older took past from m f act b is deed =
+    let n = node_of l in
+    let x = locate n l.port world took past (rw deed refl) (subst (λ s. Within (Here took ∷ past) s) (sym is) (inl refl)) in
+    let fits = fits_in setting (line_on l.port took) x.older world f.1 x.place in
+    let own : SameStep l.did.deed l.did.step (dids (of n world)) = own-step l.did.deed l.did.step n world refl f.0.step in
+    let dids_is : dids (of n world) ≡ took ∷ plain past = sym (plain_view l.port (of n world)) ∙ ap plain is in
+    let step : took.step ≡ l.did.step = subst₂ (λ d t. SameStep d l.did.step t) act dids_is own in
+    let cause : took.step.cause ≡ Came (posted (dids older)) = ap (λ (s : Step). s.cause) step ∙ b.cause in
+    let s = took-came setting (line_on l.port took) x.older world post older (Peer (peer_of n)) from m b.message took.step.cause cause x.place b.place b.deed (fits.took from (Good (Message m)) deed) in
+    record { from_is = s.from_is; message_is = s.message_is; net = subst (λ k. setting.net (node_of post) post.port ≡ setting.net k l.port) x.node s.net }
+
+-- a Correct at a round's end has taken nothing
+none-heard : (l : Line) (world : List Line) → heard (plain (view l.port (of (node_of l) world))) ≡ None → is_some (heard (dids (of (node_of l) world))) ≡ true → ⊥
+none-heard l world e h = true≢false (sym h ∙ ap (λ k. is_some k) (ap heard (sym (plain_view l.port (of (node_of l) world))) ∙ e))
+
+-- what is heard in the step of a Correct that takes a post is its message
+pub heard_as : (setting : Setting) (l : Line) (world : List Line) (post : Line) (older : List Line) (a : Act) (amount : ℤ) → Fits setting (l ∷ world) → l.did.deed ≡ Acts a → (b : Brings l world post older) → is_some (heard (dids (of (node_of l) world))) ≡ true →
+    WhyCorrect (setup_of setting (node_of l) l.port) l.did (view l.port (of (node_of l) world)) amount → (from : Place) × (heard (plain (view l.port (of (node_of l) world))) ≡ Some (record { from = from; taken = Good (Message b.message) }))
+heard_as setting l world post older a amount f act b h (ByRound r) = absurd (none-heard l world r.untaken h)
+heard_as setting l world post older a amount f act b h (ByDate t) =
+    let s = shows setting l world a post older t.took t.past t.from t.message f act b t.is t.deed in
+    (t.from, ap (λ v. heard (plain v)) t.is ∙ (rw t.deed refl ∙ ap (λ m. Some (record { from = t.from; taken = Good (Message m) })) s.message_is))
+heard_as setting l world post older a amount f act b h (ByMaster t) =
+    let s = shows setting l world a post older t.took t.past (Peer t.from) t.message f act b t.is t.deed in
+    (Peer t.from, ap (λ v. heard (plain v)) t.is ∙ (rw t.deed refl ∙ ap (λ m. Some (record { from = Peer t.from; taken = Good (Message m) })) s.message_is))
+
+pub no-correction : (k : Kind) → sets_date k ≡ true → is_correction k ≡ true → ⊥
+no-correction AdjTime e c = true≢false (sym e)
+no-correction SetTime e c = true≢false (sym e)
+no-correction _ e c = true≢false (sym c)
+
+pub takes_of : (setting : Setting) (l : Line) (world : List Line) (post : Line) (older : List Line) (a : Act) (amount : ℤ) → Fits setting (l ∷ world) → l.did.deed ≡ Acts a → (b : Brings l world post older) → is_some (heard (dids (of (node_of l) world))) ≡ true →
+    is_correction b.message.kind ≡ true → WhyCorrect (setup_of setting (node_of l) l.port) l.did (view l.port (of (node_of l) world)) amount → TakesOf l.did (view l.port (of (node_of l) world)) amount (peer_of (node_of post)) b.message
+takes_of setting l world post older a amount f act b h kind (ByRound r) = absurd (none-heard l world r.untaken h)
+takes_of setting l world post older a amount f act b h kind (ByDate t) =
+    let s = shows setting l world a post older t.took t.past t.from t.message f act b t.is t.deed in
+    absurd (no-correction b.message.kind (subst (λ (m : MessageValue). sets_date m.kind ≡ true) s.message_is t.kind) kind)
+takes_of setting l world post older a amount f act b h kind (ByMaster t) =
+    let seen = view l.port (of (node_of l) world) in
+    let s = shows setting l world a post older t.took t.past (Peer t.from) t.message f act b t.is t.deed in
+    record {
+      number = subst (λ (z : MessageValue). z.number ≡ ticket (plain seen)) s.message_is t.number;
+      amount_is = subst (λ (z : MessageValue). amount ≡ amount_of z.kind (time_in z.body) (target (plain seen) l.did.tick)) s.message_is t.amount_is;
+      follows = t.follows ∙ same-follow t.from (peer_of (node_of post)) s.from_is;
+    }
+  where
+    same-follow : (p q : PeerId) → Peer p ≡ Peer q → Follow p ≡ Follow q
+    same-follow p q e = cc
+
+-- a Correct in a step that has taken another numbered message of p, which so passes a date on
+pub record DatesOf (setting : Setting) (l post : Line) (here : Did) (seen : List Seen) (p : PeerId) (m : MessageValue) : Type 0 where
+  pub took : Receives seen p (Message m)
+  pub net : setting.net (node_of post) post.port ≡ setting.net (node_of l) l.port
+  pub kind : sets_date m.kind ≡ true
+  pub again : (d : Dating) → is_date_request m.kind ≡ true → last_date p seen ≡ Some d → d.number ≡ m.number → d.at + DATEHOLD ≤ here.tick
+
+pub dates_of : (setting : Setting) (l : Line) (world : List Line) (post : Line) (older : List Line) (a : Act) (amount : ℤ) → Fits setting (l ∷ world) → l.did.deed ≡ Acts a → (b : Brings l world post older) → is_some (heard (dids (of (node_of l) world))) ≡ true →
+    is_correction b.message.kind ≡ false → WhyCorrect (setup_of setting (node_of l) l.port) l.did (view l.port (of (node_of l) world)) amount → DatesOf setting l post l.did (view l.port (of (node_of l) world)) (peer_of (node_of post)) b.message
+dates_of setting l world post older a amount f act b h kind (ByRound r) = absurd (none-heard l world r.untaken h)
+dates_of setting l world post older a amount f act b h kind (ByMaster t) =
+    let s = shows setting l world a post older t.took t.past (Peer t.from) t.message f act b t.is t.deed in
+    absurd (true≢false (sym (subst (λ (m : MessageValue). is_correction m.kind ≡ true) s.message_is t.kind) ∙ kind))
+dates_of setting l world post older a amount f act b h kind (ByDate t) =
+    let seen = view l.port (of (node_of l) world) in
+    let took : TakesFrom seen t.from (Message t.message) = ap taken t.is ∙ rw t.deed refl in
+    let s = shows setting l world a post older t.took t.past t.from t.message f act b t.is t.deed in
+    record {
+      took = subst₂ (λ x m. TakesFrom seen x (Message m)) s.from_is s.message_is took;
+      net = s.net;
+      kind = subst (λ (m : MessageValue). sets_date m.kind ≡ true) s.message_is t.kind;
+      again = λ d request last number.
+          t.again (peer_of (node_of post)) d s.from_is (subst (λ (m : MessageValue). is_date_request m.kind ≡ true) (sym s.message_is) request) last (number ∙ ap (λ (m : MessageValue). m.number) (sym s.message_is));
+    }
+
+-- after a Correct the ticket is another until QUIET later
+pub ticket_moves : (c : Did) (past now : List Did) (amount : ℤ) (stepped : Bool) (shown : ℤ) (x : ℕ) → c.deed ≡ Acts (Correct amount stepped shown) → Since (c ∷ past) now →
+    tick_of now ≤ x → boot_tick now + QUIET ≤ x → x < c.tick + QUIET → ticket past ≡ ticket now → ⊥
+ticket_moves c past now amount stepped shown x is i by rested soon same =
+    let word_is : word (c ∷ past) ≡ word past = rw is refl in
+    let corrects_is : corrects (c ∷ past) ≡ corrects past + 1 = rw is refl in
+    elim i.life [
+      | inl o ↦ elim (cases_lt (all_corrects (c ∷ past)) (all_corrects now)) [
+        | inl more ↦ omega (arith, i.spaced more, i.last, o.word, o.corrects, i.all)
+        | inr none ↦ omega (arith, o.word, o.corrects, i.all)
+      ]
+      | inr b ↦ omega (arith, b.boot)
+    ]
 
 -- what the Correct owes that takes a post
 pub correct_fits : (setting : Setting) (l : Line) (world : List Line) (post : Line) (older : List Line) → Fits setting (l ∷ world) → (a : ActsOn l world post older) → CorrectFits (setup_of setting (node_of l) l.port) l.did (view l.port (of (node_of l) world)) a.amount a.stepped a.shown

@@ -11,7 +11,7 @@ use Rattle.tsp_promises.proofs.VoteProof.{Polled, polled_at, vote_of, Backed, ba
 use Rattle.tsp_promises.specs.{Premises.Few, Premises.Honest, Premises.Life, Setting.Network, Setting.Setting, Setting.setup_of}
 use Rattle.tsp_promises.specs.{Fits.Fits, Fits.node_of, HoldFits.LeadFits, OneWinner.OneWinner, OneWinner.WinsAt}
 use Rattle.tsp_promises.proofs.{Clocks.near, Clocks.tick-mono, Elections.In, Elections.in_among, Elections.ElectFits, Elections.elects}
-use Rattle.tsp_promises.proofs.{HistoryPlaces.Within-of, HistoryPlaces.line_on, Pigeons.AllIn, Pigeons.shared, ResolvedProof.holds_at}
+use Rattle.tsp_promises.proofs.{HistoryPlaces.Within-of, HistoryPlaces.line_on, Elections.AllIn, Elections.shared, ResolvedProof.holds_at}
 use Rattle.tsp_promises.proofs.{EverywhereLemmas.Everywhere-from, SinceProof.since}
 
 -- a port that wins now: since when it has stood, and what its past owes

@@ -106,6 +106,9 @@ pub record Given (setting : Setting) (world : List Line) : Type 0 where
   pub honest : Honest world
   pub life : Life world
 
+pub given : (setting : Setting) (world : List Line) → Fits setting world → Honest world → Life world → Given setting world
+given setting world f honest life = record { fits = f; honest = honest; life = life }
+
 pub given_at : (setting : Setting) (s h : List Line) → Given setting h → Within s h → Given setting s
 given_at setting s h g w = record {
   fits = fits_at setting s h g.fits w;

@@ -11,7 +11,7 @@ use Rattle.tsp_promises.specs.{DeedFits.MessageFits, DeedFits.PostFits, DeedFits
 use Rattle.tsp_promises.specs.{OneBack.HoldsAt, OneBack.IsBacked, OneBack.BacksAt, OneBack.OneBack, Setting.Setting, Setting.setup_of}
 use Rattle.tsp_promises.specs.{PortFits.PortFits, QuitFits.QuitFits, Silent.Silent, Silent.SilentAt}
 use Rattle.tsp_promises.proofs.{HistoryPlaces.own_in, OwnFitsProof.deed_fits, OwnFitsProof.mark_fits, OwnFitsProof.own_tick, OwnFitsProof.port_fits}
-use Rattle.tsp_promises.proofs.{HeldProof.back_late, HeldProof.quit_late, OwnFitsProof.own_fits, OwnFitsProof.fits_at, SinceProof.since}
+use Rattle.tsp_promises.proofs.{SinceProof.back_late, SinceProof.quit_late, OwnFitsProof.own_fits, OwnFitsProof.fits_at, SinceProof.since}
 use Rattle.tsp_promises.proofs.{EverywhereLemmas.Everywhere-from, Leaves.none-some, Leaves.some-same}
 
 pub holds_at : (setting : Setting) (l : Line) (world : List Line) → Fits setting (l ∷ world) → HoldsAt l world

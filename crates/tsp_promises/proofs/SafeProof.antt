@@ -2,14 +2,14 @@
 use Rattle.std.specs.Prelude.{List}
 use Rattle.tsp_promises.specs.{Fits.Fits, Fits.Finished, Safe.Safe, Setting.Setting}
 use Rattle.tsp_base.specs.Words.{Line}
-use Rattle.tsp_promises.proofs.{AgreedProof.agreed, AgreedProof.stay_agreed, AnsweredProof.answered, AgreedProof.chained, ShowsProof.shows}
+use Rattle.tsp_promises.proofs.{AgreedProof.agreed, AgreedProof.stay_agreed, AnsweredProof.answered, AgreedProof.chained, AgreedShownProof.shows}
 use Rattle.tsp_promises.proofs.{AgreedShownProof.agreed_shown, AgreedShownProof.shown_near, AgreedShownProof.waited, ErrsProof.errs_bounded}
 use Rattle.tsp_promises.proofs.{ConfirmedProof.once_confirmed, EstimatesProof.estimates_hold, MeasuredProof.measured, ResolvedProof.one_back}
 use Rattle.tsp_promises.proofs.{FirstSetProof.first_set, FirstSetProof.first_set_soon, OnceDatedProof.once_taken, OneErrorProof.one_error}
 use Rattle.tsp_promises.proofs.{ModerateProof.moderate, ModerateProof.moderate_clocks, OnceObeyedProof.once_obeyed, AgreedProof.relayed}
 use Rattle.tsp_promises.proofs.{OnceObeyedProof.once_spaced, OnceObeyedProof.once_spaced_over_lives, OnceTakenProof.once_corrected}
-use Rattle.tsp_promises.proofs.{OnlyMasterProof.only_master, ResolvedProof.yields, ResolvedProof.yields_taken, ResolvedProof.stays_quiet}
-use Rattle.tsp_promises.proofs.{SeldomProof.seldom, ResolvedProof.silent, SteadyProof.meets, SteadyProof.steady, StopsProof.stops_leading}
+use Rattle.tsp_promises.proofs.{SendPlaces.only_master, ResolvedProof.yields, ResolvedProof.yields_taken, ResolvedProof.stays_quiet}
+use Rattle.tsp_promises.proofs.{ErrsProof.seldom, ResolvedProof.silent, SteadyProof.meets, SteadyProof.steady, StopsProof.stops_leading}
 use Rattle.tsp_promises.proofs.{ThriceProof.thrice, AgreedProof.throughout, MeasuredProof.trips}
 
 pub safe : (setting : Setting) (world : List Line) → Fits setting world → Finished setting world → Safe setting world

@@ -8,7 +8,7 @@ use Rattle.tsp_promises.proofs.OwnFitsProof.{mark_fits, own_fits, fits_at, of-ti
 use Rattle.tsp_promises.specs.{Everywhere.Everywhere, Fits.Finished, Fits.Fits, Fits.LineFits, Fits.SameStep, Fits.node_of, Fits.Sees}
 use Rattle.tsp_promises.specs.{Premises.Life, Premises.TakenWithinAt, Resolved.StopsBy, Resolved.StopsLeading, Resolved.TakesQuit}
 use Rattle.tsp_promises.specs.{OwnFits.OwnFits, Setting.Setting, Setting.setup_of, StepFacts.StepEnds, StepFacts.owes, StepFacts.owes_after}
-use Rattle.tsp_promises.{proofs.HeldProof.quit_late, specs.DeedFits.DeedFits}
+use Rattle.tsp_promises.{proofs.SinceProof.quit_late, specs.DeedFits.DeedFits}
 use Rattle.tsp_promises.proofs.{HistoryPlaces.line_on, HistoryPlaces.of-other, HistoryPlaces.of-own, HistoryPlaces.own_in, SinceProof.since}
 use Rattle.tsp_promises.proofs.{Clocks.near, EverywhereLemmas.Everywhere-from, EverywhereLemmas.Everywhere-within, SendPlaces.send_place}
 

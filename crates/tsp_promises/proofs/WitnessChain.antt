@@ -5,7 +5,7 @@ use Rattle.std.proofs.Common.{ap, arith, ℕ, true, false, pos, negsuc, List, []
 use Rattle.tsp_rules.specs.Values.{Post, Arm, Ring, Close, Correct, Round, CloseAlarm, Message, Stamp, AdjTime, SetTime, TimeBody, Peer, Port, Request}
 use Rattle.tsp_base.specs.Words.{Line, ReplyValue, peer_of}
 use Rattle.tsp_group.specs.Groups.{better, goes_before, group_from}
-use Rattle.tsp_promises.proofs.Stages.{Stage, after, at, stages-fit, ◌also◌, boots, turns, stands, wins, follows, sets_up, obeys, acked, replies, samples}
+use Rattle.tsp_promises.proofs.HistoriesFit.{Stage, after, at, stages-fit, ◌also◌, boots, turns, stands, wins, follows, sets_up, obeys, acked, replies, samples}
 use Rattle.tsp_promises.specs.{Chained.Hop, Chained.IsChain, Fits.Fits, RoundUses.ChainUse, RoundUses.Relays}
 use Rattle.tsp_promises.proofs.Spots.{Corrects, but_for, corrects-at, hop_in, spot, untouched}
 use Rattle.tsp_promises.proofs.{Debts.debts, Debts.not-same, Histories.msg, Histories.skip, Histories.skipped, Histories.still}

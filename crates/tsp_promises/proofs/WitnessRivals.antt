@@ -4,7 +4,7 @@ use Rattle.std.proofs.Common.{pos, sym, ap, arith, ℕ, ◌≡◌, ◌-◌, true
 use Rattle.tsp_rules.specs.Values.{Stamp, Msite, Request, Reply, Post, Become, Ring, Back, Backer, Quit, Acked, Elect, ResolveAlarm, Message, Accept, Ack, Election, QuitKind, Test, Nothing, PeerId, Peer, Stranger, Follow, Candidate}
 use Rattle.tsp_base.specs.Words.{ReplyValue, Turned, Line, MessageValue, of, view, peer_of}
 use Rattle.tsp_promises.proofs.Histories.{line, msg, named_msg, skip, skipped, step_at, still}
-use Rattle.tsp_promises.proofs.Stages.{Stage, after, at, stages-fit, hands, ◌also◌, boots, turns, takes, stands, wins, acked}
+use Rattle.tsp_promises.proofs.HistoriesFit.{Stage, after, at, stages-fit, hands, ◌also◌, boots, turns, takes, stands, wins, acked}
 use Rattle.tsp_promises.specs.{Fits.Fits, Uses.AnsweredUse, Uses.QuietUse, Uses.RivalsMeet, Uses.StrictElections, Uses.ThriceUse}
 use Rattle.tsp_promises.proofs.{PremiseChecks.few-by, PremiseChecks.kept-by, StepChecks.port0, WitnessUse.booted, WitnessUse.lead}
 use Rattle.tsp_promises.proofs.{Debts.debts, Debts.not-same, Spots.spot}

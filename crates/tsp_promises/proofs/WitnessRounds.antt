@@ -8,11 +8,11 @@ use Rattle.tsp_group.specs.Groups.{Agree, better, goes_before, group_from}
 use Rattle.tsp_promises.specs.Moderate.{Agrees, Majority, PeerAgrees, PeerCorrects, estimates_of}
 use Rattle.tsp_promises.proofs.Histories.{does, line, msg, skip, skipped, step_at, still}
 use Rattle.tsp_promises.proofs.Spots.{Computed, Corrects, but_for, close_begins, corrects-at, estimate-at, hop_in, sample_of, spot, untouched}
-use Rattle.tsp_promises.proofs.Stages.{Stage, after, at, stages-fit, turns, follows, sets_up, obeys, acked, replies, samples}
+use Rattle.tsp_promises.proofs.HistoriesFit.{Stage, after, at, stages-fit, turns, follows, sets_up, obeys, acked, replies, samples}
 use Rattle.tsp_promises.proofs.WitnessUse.{asked, first-hop, first-round, fits, lead, led, ordinary, reply1, second-hop, second-round, usual}
 use Rattle.tsp_promises.specs.{RoundUses.EndedUse, RoundUses.EstimatesUse, RoundUses.ModerateUse, RoundUses.RoundsUse, StepFacts.closed}
 use Rattle.tsp_promises.specs.{Chained.Hop, Estimates.Moves, Fits.Fits, Fits.node_of, OneError.Taking}
-use Rattle.tsp_promises.proofs.{Debts.debts, Debts.not-same, Debts.sample_in, FromRoundProof.taking_of, PremiseChecks.kept-by}
+use Rattle.tsp_promises.proofs.{Debts.debts, Debts.not-same, Debts.sample_in, TakingProof.taking_of, PremiseChecks.kept-by}
 use Rattle.tsp_promises.proofs.StepChecks.{port0}
 
 -- both followers of ordinary use, as its round estimates them

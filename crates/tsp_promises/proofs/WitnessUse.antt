@@ -6,12 +6,12 @@ use Rattle.tsp_rules.specs.Values.{Post, Arm, Ring, Close, Correct, Round, Close
 use Rattle.tsp_base.specs.Words.{Came, Turned, Line, ReplyValue, dids, of, view, Within, heard, peer_of}
 use Rattle.tsp_group.specs.Groups.{better, goes_before, group_from}
 use Rattle.tsp_promises.specs.RoundUses.{Confirms, OrdinaryUse, PrintsUse, SetUse, ShownUse}
-use Rattle.tsp_promises.proofs.Stages.{Stage, after, at, stages-fit, skip-fits, boots, turns, stands, wins, follows, sets_up, obeys, acked, replies, samples}
+use Rattle.tsp_promises.proofs.HistoriesFit.{Stage, after, at, stages-fit, skip-fits, boots, turns, stands, wins, follows, sets_up, obeys, acked, replies, samples}
 use Rattle.tsp_promises.proofs.Spots.{Computed, Corrects, but_for, corrects-at, hop_in, spot, untouched}
 use Rattle.tsp_promises.specs.{Chained.Hop, Fits.Fits, Kept.Example, OneError.FromSlaveUp, OneError.Taking}
 use Rattle.tsp_promises.proofs.{Histories.does, Histories.msg, Histories.skip, Histories.skipped, Histories.still, PremiseChecks.kept-by}
-use Rattle.tsp_promises.proofs.{Debts.debts, Debts.not-same, ReadingChecks.read-by, ReadingChecks.read_at-by, ReadingChecks.unstepped-by}
-use Rattle.tsp_promises.proofs.{FromRoundProof.reading_of, FromRoundProof.taking_of, StepChecks.port0}
+use Rattle.tsp_promises.proofs.{Debts.debts, Debts.not-same, PremiseChecks.read-by, PremiseChecks.read_at-by, PremiseChecks.unstepped-by}
+use Rattle.tsp_promises.proofs.{TakingProof.reading_of, TakingProof.taking_of, StepChecks.port0}
 
 abbrev lead_steps : List Stage
 lead_steps =

@@ -6,7 +6,7 @@ use Rattle.tsp_rules.specs.Values.{Post, Arm, Ring, Close, Correct, Round, Close
 use Rattle.tsp_base.specs.Words.{Came, Did, Here, Line, ReplyValue, Seen, dids, peer_of, posted}
 use Rattle.tsp_group.specs.Groups.{better, goes_before, group_from}
 use Rattle.tsp_promises.proofs.Histories.{line, msg, skip, skipped, step_at, still}
-use Rattle.tsp_promises.proofs.Stages.{Stage, after, at, stages-fit, boots, turns, takes, stands, wins, follows, sets_up, obeys, acked, replies, samples}
+use Rattle.tsp_promises.proofs.HistoriesFit.{Stage, after, at, stages-fit, boots, turns, takes, stands, wins, follows, sets_up, obeys, acked, replies, samples}
 use Rattle.tsp_promises.proofs.WitnessUse.{asked, first-hop, first-round, fits, lead, led, ordinary, reply1, usual}
 use Rattle.tsp_promises.specs.{Looked.Look, Looked.LooksNeedRest, Looked.LooksUse, RoundUses.MeasuresWrongly, RoundUses.SameWords}
 use Rattle.tsp_promises.specs.{Chained.Hop, ClockAt.clock, Fits.Fits, Measured.Measured, Setting.Setting, Uses.LateReply}

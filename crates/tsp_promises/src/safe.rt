@@ -54,14 +54,14 @@ pub fn answered()
 
 ghost use Rattle.tsp_promises.specs.OnlyMaster.{OnlyMaster};
 /// Only masters post corrections, close rounds, and correct their clocks right after a Close.
-#[tactic(auto, using(crate::proofs::OnlyMasterProof::only_master))]
+#[tactic(auto, using(crate::proofs::SendPlaces::only_master))]
 pub fn only_master()
     ensures { (setting : Setting) (world : List Line) → Fits setting world → OnlyMaster world }
 {}
 
 /// Two corrections of one clock are at least `GAP` ticks, 1 s, apart: in one life of the node, and
 /// over its lives.
-#[tactic(auto, using(crate::proofs::OnceObeyedProof::once_spaced, crate::proofs::OnceObeyedProof::once_spaced_over_lives))]
+#[tactic(auto, using(crate::proofs::OnceObeyedProof::all_spaced))]
 pub fn once_spaced()
     ensures one_life { (setting : Setting) (world : List Line) → Fits setting world
         → OnceSpaced world }
@@ -94,6 +94,7 @@ pub fn once_taken()
 
 /// A correction that was acknowledged was taken, if no peer's datagram is forged and none outlives
 /// `LIFE`. Two boots may have the same word, here and in all promises that compare clocks.
+#[tactic(auto, using(crate::proofs::OwnFitsProof::given, crate::proofs::ConfirmedProof::once_confirmed))]
 pub fn once_confirmed()
     ensures { (setting : Setting) (world : List Line) → Fits setting world → Honest world
         → Life world → OnceConfirmed world }
@@ -127,6 +128,7 @@ ghost use Rattle.tsp_promises.specs.Agreed.{Agreed, StayAgreed};
 /// An ADJTIME that a Close begins rests on a sample. Clocks that one Close corrected agree with one
 /// another and with the master's, within their errors and drift: at each act, and after each line
 /// as long as nothing more happens.
+#[tactic(auto, using(crate::proofs::AgreedProof::all_agreed))]
 pub fn agreed()
     ensures at { (setting : Setting) (world : List Line) → Fits setting world → Honest world
         → Life world → Agreed setting world }
@@ -160,6 +162,7 @@ ghost use Rattle.tsp_promises.specs.Moderate.{Moderate, ModerateClocks};
 /// a peer shows meets its clock within 8 s of its ticks, if nothing was left to slew before. If no
 /// peer's datagram is forged and none outlives `LIFE`, the master's clock then agrees with theirs,
 /// within 40 ms, the error and drift.
+#[tactic(auto, using(crate::proofs::ModerateProof::all_moderate))]
 pub fn moderate()
     ensures moves { (setting : Setting) (world : List Line) → Fits setting world
         → Moderate setting world }
@@ -169,7 +172,7 @@ pub fn moderate()
 
 ghost use Rattle.tsp_promises.specs.Seldom.{Seldom};
 /// In one life of a node two rounds of one port close at least 239 s of its ticks apart.
-#[tactic(auto, using(crate::proofs::SeldomProof::seldom))]
+#[tactic(auto, using(crate::proofs::ErrsProof::seldom))]
 pub fn seldom()
     ensures { (setting : Setting) (world : List Line) → Fits setting world → Seldom world }
 {}
@@ -179,6 +182,7 @@ ghost use Rattle.tsp_promises.specs.Throughout.{Throughout};
 /// were moved by since: then the clock of a node that a Close corrected and the clock of the master
 /// agree as they did. So the clocks themselves differ by at most those amounts besides. The same is
 /// so of two nodes that one Close corrected, whatever becomes of the master.
+#[tactic(auto, using(crate::proofs::OwnFitsProof::given, crate::proofs::AgreedProof::throughout))]
 pub fn throughout()
     ensures { (setting : Setting) (world : List Line) → Fits setting world → Honest world
         → Life world → Throughout setting world }
@@ -188,6 +192,7 @@ ghost use Rattle.tsp_promises.specs.OneError.{OneError};
 /// No error is corrected twice, whichever masters there are, if no peer's datagram is forged and
 /// none outlives `LIFE`. Each correction that a clock takes rests on a reading or a SLAVEUP, and
 /// from that to the Correct that takes it the node neither boots nor corrects its clock.
+#[tactic(auto, using(crate::proofs::OwnFitsProof::given, crate::proofs::OneErrorProof::one_error))]
 pub fn one_error()
     ensures { (setting : Setting) (world : List Line) → Fits setting world → Honest world
         → Life world → OneError world }
@@ -209,6 +214,7 @@ ghost use Rattle.tsp_promises.specs.Chained.{Chained};
 /// Clocks along chains of corrections agree: with the first master's, with those along another
 /// chain of the same Close, and, in a tree of gateways, any two of them. They differ by at most the
 /// errors of the readings on the path and drift.
+#[tactic(auto, using(crate::proofs::OwnFitsProof::given, crate::proofs::AgreedProof::chained))]
 pub fn chained()
     ensures { (setting : Setting) (world : List Line) → Fits setting world → Honest world
         → Life world → Chained setting world }
@@ -217,6 +223,7 @@ pub fn chained()
 ghost use Rattle.tsp_promises.specs.Relayed.{Relayed};
 /// A clock corrected by a master that was itself corrected agrees with the first master's, within
 /// both errors and drift: at each line, and after it as long as nothing more happens.
+#[tactic(auto, using(crate::proofs::OwnFitsProof::given, crate::proofs::AgreedProof::relayed))]
 pub fn relayed()
     ensures { (setting : Setting) (world : List Line) → Fits setting world → Honest world
         → Life world → Relayed setting world }
@@ -235,7 +242,7 @@ ghost use Rattle.tsp_promises.specs.Shows.{Shows};
 /// the clock shows its new target; otherwise it shows what it showed before. So a trace can be
 /// checked: as long as a node doesn't boot, and none after the first is stepped, what two of its
 /// Corrects print differs by the ticks between them, give or take one in two hundred.
-#[tactic(auto, using(crate::proofs::ShowsProof::shows))]
+#[tactic(auto, using(crate::proofs::AgreedShownProof::shows))]
 pub fn shows()
     ensures { (setting : Setting) (world : List Line) → Fits setting world → Shows world }
 {}
@@ -251,6 +258,7 @@ pub fn meets_target()
 /// same errors and drift, and what is still to be slewed on each. Any other bound of the clocks of
 /// two nodes that have booted bounds what they show likewise, and as closely once both show their
 /// targets, even if datagrams are forged.
+#[tactic(auto, using(crate::proofs::AgreedShownProof::all_shown))]
 pub fn agreed_shown()
     ensures clocks { (setting : Setting) (world : List Line) → Fits setting world → Honest world
         → Life world → AgreedShown setting world }
