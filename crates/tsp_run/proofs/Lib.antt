@@ -1,5 +1,6 @@
 pub mod AnswersFit
 pub mod BootLemmas
+mod BrokenOctets
 pub mod CalmPorts
 pub mod EachLine
 pub mod FitsLines
@@ -17,5 +18,5 @@ pub mod RunPromises
 pub mod SealedRun
 pub mod SettingLemmas
 pub mod ShortRun
-pub mod SoundLemmas
 pub mod SoundAll
+pub mod SoundLemmas

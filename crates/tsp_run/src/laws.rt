@@ -19,6 +19,7 @@ pub fn runs_keep_promises()
 {}
 
 /// The promise of the octets of answers says something: small histories break it.
+#[tactic(auto, using(crate::proofs::BrokenOctets::answer_octets_break))]
 pub fn answer_octets_can_be_broken()
     ensures { AnswerOctetsBreak }
 {}
