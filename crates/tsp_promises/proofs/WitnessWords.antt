@@ -8,7 +8,7 @@ use Rattle.tsp_group.specs.Groups.{better, goes_before, group_from}
 use Rattle.tsp_promises.proofs.Histories.{line, msg, skip, skipped, step_at, still}
 use Rattle.tsp_promises.proofs.HistoriesFit.{Stage, after, at, stages-fit, boots, turns, takes, stands, wins, follows, sets_up, obeys, acked, replies, samples}
 use Rattle.tsp_promises.proofs.WitnessUse.{asked, first-hop, first-round, fits, lead, led, ordinary, reply1, usual}
-use Rattle.tsp_promises.specs.{Looked.Look, Looked.LooksNeedRest, Looked.LooksUse, RoundUses.MeasuresWrongly, RoundUses.SameWords}
+use Rattle.tsp_promises.specs.{Looked.Look, Looked.LooksNeedRest, Looked.LooksUse, Uses.MeasuresWrongly, Uses.SameWords}
 use Rattle.tsp_promises.specs.{Chained.Hop, ClockAt.clock, Fits.Fits, Measured.Measured, Setting.Setting, Uses.LateReply}
 use Rattle.tsp_promises.proofs.{Debts.adjusts-at, Debts.debts, Spots.Corrects, Spots.corrects-at, Spots.hop_in, Spots.spot, Spots.untouched}
 use Rattle.tsp_promises.proofs.{HistoriesFit.all-finished, PremiseChecks.honest-by, PremiseChecks.kept-by, PremiseChecks.life-by}

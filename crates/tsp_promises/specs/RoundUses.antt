@@ -2,16 +2,14 @@
 -- nothing else is said.
 use Rattle.std.specs.Prelude.{◌≡◌, ◌≢◌, ◌≤◌, ◌≤ℤ◌, ◌<ℤ◌, ℕ, ◌+◌, ◌*◌, ℤ, pos, ◌-ℤ◌, nat_abs, Bool, true, false, List, ◌∷◌, Some, length}
 use Rattle.std.specs.List.{Contains}
-use Rattle.tsp_rules.specs.Values.{Boot, Post, Close, Correct, Acked, Message, AdjTime, PeerId, Peer, MAXADJ}
-use Rattle.tsp_base.specs.Words.{Acts, Booted, Did, Seen, Here, Line, dids, of, view, MessageValue, last_correct, lives, rest, rest_at, Within, Sampled, best, is_correction, open_to, peer_of}
-use Rattle.tsp_promises.specs.{Agreed.FromRound, Agreed.Unchanged, Agreed.UnchangedBut, Fits.Fits, Fits.Finished, Fits.node_of}
-use Rattle.tsp_promises.specs.Chained.{Hop, Hops, IsChain, last_hop, node_at}
-use Rattle.tsp_promises.specs.{Estimates.CloseBegins, Estimates.Estimate, Estimates.Moves, FirstSet.SetBy, Kept.Example, Kept.Spot}
-use Rattle.tsp_promises.specs.{Measured.Measured, Premises.Honest, Premises.Life, Setting.Setting, ShownAt.shown_at}
-use Rattle.tsp_promises.specs.Moderate.{Agrees, PeerAgrees, PeerCorrects, estimates_of}
-use Rattle.tsp_promises.specs.{OneError.FromReading, OneError.FromSlaveUp, OneError.Taking}
-use Rattle.tsp_promises.specs.Steady.{ReadTicks, ReadTimes, Unstepped, shown_width}
+use Rattle.tsp_rules.specs.Values.{Post, Close, Correct, Acked, Message, AdjTime, PeerId, Peer, MAXADJ}
+use Rattle.tsp_base.specs.Words.{Acts, Did, Seen, Here, Line, dids, of, view, MessageValue, last_correct, lives, rest, rest_at, Within, Sampled, best, is_correction, open_to, peer_of}
+use Rattle.tsp_promises.specs.{Chained.Hop, Chained.Hops, Chained.IsChain, Chained.last_hop, Chained.node_at, Kept.Example, Kept.Spot}
+use Rattle.tsp_promises.specs.{Moderate.Agrees, Moderate.PeerAgrees, Moderate.PeerCorrects, Moderate.estimates_of, ShownAt.shown_at}
+use Rattle.tsp_promises.specs.{FirstSet.SetBy, Fits.node_of, Steady.ReadTicks, Steady.ReadTimes, Steady.Unstepped, Steady.shown_width}
 use Rattle.tsp_promises.specs.Throughout.{SinceClose, SinceCorrect, moved_since}
+use Rattle.tsp_promises.specs.{Agreed.Unchanged, Agreed.UnchangedBut, OneError.FromReading, OneError.FromSlaveUp, OneError.Taking}
+use Rattle.tsp_promises.specs.Estimates.{CloseBegins, Estimate, Moves}
 
 -- an Acked that ends a correction's send
 pub record Confirms (world : List Line) : Type 0 where
@@ -261,47 +259,3 @@ pub record PrintsUse : Type 0 where
   pub slews : correct.line.did.deed ≡ Acts (Correct amount false shown_now)
   pub moves : amount ≢ pos 0
   pub unstepped : Unstepped (node_of correct.line) (set.line ∷ set.before) (correct.line ∷ correct.before)
-
--- two boots of one node have the same word; this is the place of the later one
-pub record Repeats (world : List Line) : Type 0 where
-  pub again : Spot world
-  pub once : Spot again.before
-  pub node : node_of once.line ≡ node_of again.line
-  pub boots : again.line.did.deed ≡ Acts Boot
-  pub booted : once.line.did.deed ≡ Acts Boot
-  pub word : ℕ
-  pub wall : ℤ
-  pub wall_once : ℤ
-  pub word_is : again.line.did.step.cause ≡ Booted word wall
-  pub word_once : once.line.did.step.cause ≡ Booted word wall_once
-
--- a Close of m corrects a node
-pub record Round (m : ℕ) (world : List Line) : Type 0 where
-  pub hop : Hop
-  pub correct_in : Within (hop.correct ∷ hop.past) world
-  pub from_round : FromRound m hop.close hop.cpast hop.correct hop.past hop.reading hop.older hop.err
-
--- a history that fits, in which no peer's datagram is forged and none outlives LIFE: a master boots again with its old
--- word, and in each of its two lives a round of it corrects a node
-pub record SameWords : Type 0 where
-  pub setting : Setting
-  pub world : List Line
-  pub fits : Fits setting world
-  pub finished : Finished setting world
-  pub honest : Honest world
-  pub life : Life world
-  pub repeats : Repeats world
-  pub before : Round (node_of repeats.again.line) repeats.again.before
-  pub after : Round (node_of repeats.again.line) world
-  pub begins : Within (repeats.again.line ∷ repeats.again.before) after.hop.cpast
-
--- a history that fits, in which no peer's datagram is forged: a master boots again with its old word, and then takes a
--- reply of its first life, which is older than LIFE. It measures wrongly
-pub record MeasuresWrongly : Type 0 where
-  pub setting : Setting
-  pub world : List Line
-  pub fits : Fits setting world
-  pub finished : Finished setting world
-  pub honest : Honest world
-  pub repeats : Repeats world
-  pub wrong : ¬ Measured setting world

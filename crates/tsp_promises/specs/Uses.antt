@@ -1,11 +1,12 @@
--- That the promises of answers, roles, sends, dates and LOOPs aren't empty. Each history here fits and keeps the
+-- That the promises of answers, roles, sends, dates, LOOPs and words aren't empty. Each history here fits and keeps the
 -- premises (Kept), if nothing else is said.
-use Rattle.std.specs.Prelude.{◌≡◌, ◌≢◌, ◌<◌, ◌+◌, ℕ, ℤ, Bool, true, List, ◌∷◌, Some, length}
-use Rattle.tsp_rules.specs.Values.{Took, Post, Become, Ring, Back, Correct, Quit, Acked, ResolveAlarm, Datagram, Message, Stamp, Good, SetDateReq, PeerId, Place, Port, Peer, Stranger, Loose, Master, Request, Reply, QUIET, TRIES}
-use Rattle.tsp_base.specs.Words.{Acts, Begins, Did, Here, Line, Seen, dids, of, view, MessageValue, boot_tick, lives, steps, Within, role, is_numbered, open_to, sets_date, heard, peer_of, ReplyValue}
-use Rattle.tsp_promises.specs.{Answered.is_answer, Fits.Fits, Fits.Finished, Fits.node_of, Kept.Example, Kept.Spot, Looped.GivesUp}
-use Rattle.tsp_promises.specs.{Measured.TripOf, Once.ActsOn, Once.OnceTaken, Resolved.TakesQuit, Setting.Setting, Setting.setup_of}
-use Rattle.tsp_promises.specs.{Premises.Few, Premises.Life, Premises.NamesApart, Premises.Words, StepFacts.quits_master, Thrice.sent}
+use Rattle.std.specs.Prelude.{◌≡◌, ◌≢◌, ℕ, ◌+◌, ℤ, Bool, true, List, ◌∷◌, Some, length, ◌<◌}
+use Rattle.tsp_rules.specs.Values.{Boot, Post, Correct, Acked, Message, PeerId, Peer, Took, Become, Ring, Back, Quit, ResolveAlarm, Datagram, Stamp, Good, SetDateReq, Place, Port, Stranger, Loose, Master, Request, Reply, QUIET, TRIES}
+use Rattle.tsp_base.specs.Words.{Acts, Booted, Did, Seen, Here, Line, dids, of, view, MessageValue, lives, rest, Within, open_to, peer_of, Begins, boot_tick, steps, role, is_numbered, sets_date, heard, ReplyValue}
+use Rattle.tsp_promises.specs.{Kept.Example, Kept.Spot, Premises.Honest, Premises.Life, Premises.Few, Premises.NamesApart, Premises.Words}
+use Rattle.tsp_promises.specs.{Fits.Fits, Fits.Finished, Fits.node_of, Measured.Measured, Measured.TripOf, Once.ActsOn, Once.OnceTaken}
+use Rattle.tsp_promises.specs.{Answered.is_answer, Resolved.TakesQuit, Setting.Setting, Setting.setup_of, StepFacts.quits_master}
+use Rattle.tsp_promises.specs.{Agreed.FromRound, Chained.Hop, Looped.GivesUp, Thrice.sent}
 
 -- a history in which a port heeds a QUIT and answers it, and a stranger is answered
 pub record AnsweredUse : Type 0 where
@@ -176,3 +177,47 @@ pub record LateReply : Type 0 where
   pub booted : lives (dids (of (node_of took.line) request.before)) < lives (dids (of (node_of took.line) took.before))
   pub no_trip : (err : ℤ) → ¬ TripOf took.line (view took.line.port (of (node_of took.line) (took.line ∷ took.before))) peer reply.counter
       err
+
+-- two boots of one node have the same word; this is the place of the later one
+pub record Repeats (world : List Line) : Type 0 where
+  pub again : Spot world
+  pub once : Spot again.before
+  pub node : node_of once.line ≡ node_of again.line
+  pub boots : again.line.did.deed ≡ Acts Boot
+  pub booted : once.line.did.deed ≡ Acts Boot
+  pub word : ℕ
+  pub wall : ℤ
+  pub wall_once : ℤ
+  pub word_is : again.line.did.step.cause ≡ Booted word wall
+  pub word_once : once.line.did.step.cause ≡ Booted word wall_once
+
+-- a Close of m corrects a node
+pub record Round (m : ℕ) (world : List Line) : Type 0 where
+  pub hop : Hop
+  pub correct_in : Within (hop.correct ∷ hop.past) world
+  pub from_round : FromRound m hop.close hop.cpast hop.correct hop.past hop.reading hop.older hop.err
+
+-- a history that fits, in which no peer's datagram is forged and none outlives LIFE: a master boots again with its old
+-- word, and in each of its two lives a round of it corrects a node
+pub record SameWords : Type 0 where
+  pub setting : Setting
+  pub world : List Line
+  pub fits : Fits setting world
+  pub finished : Finished setting world
+  pub honest : Honest world
+  pub life : Life world
+  pub repeats : Repeats world
+  pub before : Round (node_of repeats.again.line) repeats.again.before
+  pub after : Round (node_of repeats.again.line) world
+  pub begins : Within (repeats.again.line ∷ repeats.again.before) after.hop.cpast
+
+-- a history that fits, in which no peer's datagram is forged: a master boots again with its old word, and then takes a
+-- reply of its first life, which is older than LIFE. It measures wrongly
+pub record MeasuresWrongly : Type 0 where
+  pub setting : Setting
+  pub world : List Line
+  pub fits : Fits setting world
+  pub finished : Finished setting world
+  pub honest : Honest world
+  pub repeats : Repeats world
+  pub wrong : ¬ Measured setting world

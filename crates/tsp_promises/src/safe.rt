@@ -450,7 +450,7 @@ pub fn dates_pass()
     ensures forged { ForgedDate }
 {}
 
-ghost use Rattle.tsp_promises.specs.RoundUses.{MeasuresWrongly, SameWords};
+ghost use Rattle.tsp_promises.specs.Uses.{MeasuresWrongly, SameWords};
 /// Two boots may have the same word: a history that fits sees a master boot again with its old word
 /// and close a round in each of its lives, each of which corrects a node. If a datagram outlives
 /// `LIFE` too, a measurement goes wrong, so `measured` needs one of the two premises.
