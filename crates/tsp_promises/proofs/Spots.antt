@@ -90,8 +90,9 @@ estimate-at s c best_is corrects lives = record {
 }
 
 -- a Close begins its ADJTIME here
-abbrev pub close_begins : {m count : ℕ} {close f : Line} {cpast fw : List Line} {lo size mean : ℤ} {peer : PeerId} {message : MessageValue} →
-    close.did.deed ≡ Acts (Close count lo size mean) → node_of close ≡ m → Within (close ∷ cpast) fw → node_of f ≡ m → close.port ≡ f.port →
+abbrev pub close_begins : {m count : ℕ} {close f : Line} {cpast fw : List Line} {lo size mean : ℤ} {peer : PeerId}
+    {message : MessageValue} → close.did.deed ≡ Acts (Close count lo size mean) → node_of close ≡ m → Within (close ∷ cpast) fw →
+    node_of f ≡ m → close.port ≡ f.port →
     f.did.deed ≡ Acts (Post (Peer peer) (Message message)) → message.kind ≡ AdjTime → acting (view f.port (of m fw)) ≡ true →
     closed (view f.port (of m fw)) ≡ Here close.did ∷ view f.port (of m cpast) → CloseBegins m close cpast mean f fw
 close_begins deed node closes first_node port posts kind begins close_is = record {
@@ -169,6 +170,7 @@ abbrev pub corrects-at : {m : ℕ} (x : Hop) (s : Spot x.past) → Computed m x 
 corrects-at {m} x s c =
     let post = line_in (taken_at x) in
     let before = behind (taken_at x) in
+    let message = message_or (message_of post.did.deed) in
     let f = post-found (number_in x.correct.did.step.cause) x.past post before c.found in
     record {
       post = post;
@@ -178,7 +180,7 @@ corrects-at {m} x s c =
         stepped = _;
         shown = _;
         correct = c.correct;
-        brings = record { place = f.place; cause = c.cause ∙ ap Came (sym f.number); message = message_or (message_of post.did.deed); deed = c.deed };
+        brings = record { place = f.place; cause = c.cause ∙ ap Came (sym f.number); message = message; deed = c.deed };
         took = c.took;
       };
       node = c.node;

@@ -189,8 +189,8 @@ cast_kind setting m close cpast c past r rolder err f x =
     one-kind x.message b.message (posts-same k k b.message x.message (sym s.sends.deed ∙ (ap (λ (z : Did). z.deed) first_is ∙ x.begins))).1 x.kind
 
 -- a FromRound takes a correction
-abbrev pub taking_of : {m : ℕ} {close c r : Line} {cpast past rolder : List Line} {err : ℤ} (x : FromRound m close cpast c past r rolder err) →
-    x.acts.brings.message.kind ≡ AdjTime → Taking m c past
+abbrev pub taking_of : {m : ℕ} {close c r : Line} {cpast past rolder : List Line} {err : ℤ}
+    (x : FromRound m close cpast c past r rolder err) → x.acts.brings.message.kind ≡ AdjTime → Taking m c past
 taking_of x kind = record {
   post = x.post;
   before = x.before;
@@ -203,8 +203,8 @@ taking_of x kind = record {
 }
 
 -- and rests on its reading
-abbrev pub reading_of : {m : ℕ} {close c r : Line} {cpast past rolder : List Line} {err : ℤ} (x : FromRound m close cpast c past r rolder err)
-    (kind : x.acts.brings.message.kind ≡ AdjTime) → FromReading m c past (taking_of x kind) close cpast r rolder
+abbrev pub reading_of : {m : ℕ} {close c r : Line} {cpast past rolder : List Line} {err : ℤ}
+    (x : FromRound m close cpast c past r rolder err) (kind : x.acts.brings.message.kind ≡ AdjTime) → FromReading m c past (taking_of x kind) close cpast r rolder
 reading_of x kind = record {
   none = inl kind;
   closes = x.closes;
