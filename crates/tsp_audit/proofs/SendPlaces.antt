@@ -4,7 +4,8 @@ use Rattle.tsp_rules.specs.Values.{Post, Message, PeerId, Peer, Port}
 use Rattle.tsp_base.specs.Words.{Acts, Did, Here, Line, Seen, dids, of, view, MessageValue, Within, begun_to, peer_of, posted}
 use Rattle.tsp_promises.specs.{Fits.node_of, Once.Brings, Once.OfSend}
 use Rattle.tsp_base.proofs.PlaceLemmas.{Within-through}
-use Rattle.tsp_promises.proofs.{HistoryPlaces.line_on, OwnFitsProof.locate, OwnFitsProof.view-line, OwnFitsProof.seen_same, SendProof.begun_at}
+use Rattle.tsp_promises.proofs.{HistoryPlaces.line_on, SendProof.begun_at}
+use Rattle.tsp_promises.proofs.OwnFitsProof.{locate, view-line, seen_same}
 use Rattle.tsp_promises.proofs.SendPlaces.{post_unique, same-number, not-shared}
 use Rattle.tsp_audit.specs.Acting.{TakesSend}
 use Rattle.tsp_history.specs.PostedPlaces.{PostedAt}
