@@ -1,5 +1,5 @@
 -- Small histories that break the promises of clocks, of chains and of single corrections.
-use Rattle.std.proofs.Common.{sym, ap, arith, subst, inl, inr, true≢false, ◌∙◌, ◌≡◌, ◌≤◌, ◌≤ℤ◌, Bool, true, false, ℕ, ℤ, pos, negsuc, ◌-ℤ◌, nat_abs, List, [], ◌∷◌, refl}
+use Rattle.std.proofs.Common.{sym, ap, arith, subst, inl, inr, true≢false, ◌∙◌, ◌≡◌, ◌≤ℤ◌, Bool, true, false, ℕ, ℤ, pos, negsuc, ◌-ℤ◌, nat_abs, List, [], ◌∷◌, refl}
 use Rattle.std.proofs.lemmas.Int.{ints}
 use Rattle.tsp_rules.specs.Values.{Boot, Took, Post, Arm, Ring, Close, Correct, Sample, CloseAlarm, Message, Stamp, Good, AdjTime, SetTime, TimeBody, PeerId, Peer, Request, Reply}
 use Rattle.tsp_base.specs.Words.{Booted, Came, Turned, Line, of, view, MessageValue, Within, peer_of}

@@ -6,7 +6,7 @@ use Rattle.std.proofs.Common.{sym, ap, arith, subst, inl, inr, true≢false, eq-
 use Rattle.tsp_rules.specs.Values.{Took, Post, Become, Correct, Acked, Ring, Back, Window, Elect, Message, Good, Ack, Date, DateAck, SetDateReq, LoopKind, Hops, Nothing, TimeBody, PeerId, Peer, Stranger, Loose, Follow, Candidate, Master, DATEHOLD}
 use Rattle.tsp_base.specs.Words.{Acts, Came, Did, Handed, Here, Turned, Line, MessageValue, Seen, Setup, Dating, Receives, is_date_request, last_date, plain, role, sets_date, taken, target, time_in, of, view, peer_of}
 use Rattle.tsp_promises.proofs.Histories.{does, line, msg, named_msg, on, skip, skipped, step_at, still}
-use Rattle.tsp_promises.proofs.HistoriesFit.{Stage, after, at, stages-fit, skip-fits, ◌also◌, boots, turns, takes, hands, stands, wins, all-finished, came}
+use Rattle.tsp_promises.proofs.HistoriesFit.{Stage, after, at, stages-fit, skip-fits, ◌also◌, boots, turns, takes, hands, stands, wins, all-finished}
 use Rattle.tsp_promises.specs.{CorrectFits.ByDate, CorrectFits.WhyCorrect, Uses.DateUse, Uses.DatedUse, Uses.ForgedDate, Uses.LoopUse}
 use Rattle.tsp_promises.specs.{DateFits.AnswersPassedOn, Fits.Fits, Fits.node_of, Looped.GivesUp, Looped.LoopPost, Once.ActsOn, Once.OfSend}
 use Rattle.tsp_promises.{proofs.StepChecks.port0, proofs.StepChecks.port1, specs.Premises.NamesApart}

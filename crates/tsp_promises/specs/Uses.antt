@@ -2,7 +2,7 @@
 -- premises (Kept), if nothing else is said.
 use Rattle.std.specs.Prelude.{◌≡◌, ◌≢◌, ℕ, ◌+◌, ℤ, Bool, true, List, ◌∷◌, Some, length, ◌<◌}
 use Rattle.tsp_rules.specs.Values.{Boot, Post, Correct, Acked, Message, PeerId, Peer, Took, Become, Ring, Back, Quit, ResolveAlarm, Datagram, Stamp, Good, SetDateReq, Place, Port, Stranger, Loose, Master, Request, Reply, QUIET, TRIES}
-use Rattle.tsp_base.specs.Words.{Acts, Booted, Did, Seen, Here, Line, dids, of, view, MessageValue, lives, rest, Within, open_to, peer_of, Begins, boot_tick, steps, role, is_numbered, sets_date, heard, ReplyValue}
+use Rattle.tsp_base.specs.Words.{Acts, Booted, Did, Seen, Here, Line, dids, of, view, MessageValue, lives, Within, open_to, peer_of, Begins, boot_tick, steps, role, is_numbered, sets_date, heard, ReplyValue}
 use Rattle.tsp_promises.specs.{Kept.Example, Kept.Spot, Premises.Honest, Premises.Life, Premises.Few, Premises.NamesApart, Premises.Words}
 use Rattle.tsp_promises.specs.{Fits.Fits, Fits.Finished, Fits.node_of, Measured.Measured, Measured.TripOf, Once.ActsOn, Once.OnceTaken}
 use Rattle.tsp_promises.specs.{Answered.is_answer, Resolved.TakesQuit, Setting.Setting, Setting.setup_of, StepFacts.quits_master}
