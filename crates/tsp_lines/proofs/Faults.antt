@@ -1,5 +1,5 @@
 -- Laws of what calls do to a count of faults.
-use Rattle.std.proofs.Common.{◌∙◌, arith, ◌≡◌, ℕ}
+use Rattle.std.proofs.Common.{◌∙◌, arith, ◌≡◌, ℕ, Some, ap, refl}
 use Rattle.tsp_lines.specs.Faults.{Counts}
 
 -- a count from an earlier moment, at which it was the same, and by another word for the fault
@@ -9,6 +9,10 @@ Counts-from old before now fault failed same to from c = record {
   cause = λ e. rw (← same) (c.cause (to e));
   still = λ h. c.still (λ e. h (from e)) ∙ same;
 }
+
+-- the fault of an outcome that is told of a call which may go on
+pub Counts-some : {A : Type 0} (before now : ℕ) (x y : A) → Counts before now (Some x ≡ Some y) → Counts before now (x ≡ y)
+Counts-some before now x y c = Counts-from before before now (x ≡ y) (Some x ≡ Some y) refl (ap Some) (λ e. cc) c
 
 -- a count that is unchanged, where the fault doesn't come
 pub Counts-same : (before now : ℕ) (fault : Type 0) → now ≡ before → ¬ fault → Counts before now fault

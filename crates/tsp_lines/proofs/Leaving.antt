@@ -1,7 +1,10 @@
 -- How source and sink are left.
-use Rattle.std.proofs.Common.{◌≡◌, ◌≢◌, ℕ, ◌≤◌, ◌∙◌, List, Result, Ok, Err, arith, refl, sym, subst}
+use Rattle.std.proofs.Common.{◌≡◌, ◌≢◌, ℕ, ◌≤◌, ◌∙◌, List, Result, Ok, Err, ap, arith, false, refl, sym, subst, true, MatchOption, None, Some}
 use Rattle.tsp_io.specs.{Counts.Rose, declared.sink.Sink.Ghosts as SinkOf, declared.source.Source.Ghosts as SourceOf}
-use Rattle.tsp_lines.specs.{Definite.IsDefinite, Meanings.Meaning, Turns.outcome_of, declared.output.Unwritten.Unwritten}
+use Rattle.tsp_lines.{proofs.Faults.Counts-from, proofs.Faults.Counts-some, specs.Definite.IsDefinite, specs.Faults.Counts, specs.Meanings.Meaning, specs.Turns.outcome_of, specs.declared.output.Unwritten.Unwritten, specs.declared.treatment.Stop.Stop}
+use Rattle.std.specs.declared.option.Option.{Option}
+use Rattle.tsp_lines.specs.{Readings.ReaderValue, Turns.StaysOpen, declared.next.Fill.Fill, declared.next.Fill.TheVariants.NotRead, declared.next.Next.Next, declared.next.Next.TheVariants.Failed}
+use Rattle.tsp_lines.specs.declared.treatment.Stop.TheVariants.{Bad as Refused, Limit as Limited, WriteFault as Unwrote, OutOfMemory as Unheld}
 use Rattle.tsp_lines.specs.Frames.{Accepts, Completes, Leaves, Treats}
 use Rattle.tsp_lines.specs.declared.output.Unwritten.TheVariants.{WriteFault as NotWritten, OutOfMemory as NoMemory}
 use Rattle.tsp_lines.specs.declared.treat.Outcome.{Outcome}
@@ -56,14 +59,71 @@ neither : (fault : Unwritten) → (outcome_of fault ≢ ReadFault) × (outcome_o
 neither NotWritten = (λ e. cc, λ e. cc)
 neither NoMemory = (λ e. cc, λ e. cc)
 
--- output wasn't written, and the source is as it was before
-pub Leaves-unwritten : {S K : Type 0} (sources : SourceOf S) (sinks : SinkOf K) (source last : S) (sink before now : K) (fault : Unwritten) (o : Outcome) → o ≡ outcome_of fault
-    → sources.faults last ≡ sources.faults source → sinks.faults before ≡ sinks.faults sink → sinks.faults before ≤ sinks.faults now
-    → (fault ≡ NotWritten → Rose (sinks.faults before) (sinks.faults now)) → (fault ≢ NotWritten → sinks.faults now ≡ sinks.faults before) → Leaves sources sinks source last sink now o
-Leaves-unwritten sources sinks source last sink before now fault o is s k later cause still = record {
-  later = (omega (arith, s), omega (arith, k, later));
-  read = λ e. absurd ((neither fault).0 (sym is ∙ e));
-  write = λ e. rw k at (cause (fault_of fault (sym is ∙ e)));
-  still = (λ n. s, λ n. still (λ e. n (is ∙ written_of fault e)) ∙ k);
-  ended = λ e. absurd ((neither fault).1 (sym is ∙ e));
+-- nothing failed to be written where a call succeeds
+pub unfailed : {A : Type 0} (before now : ℕ) (r : Result A Unwritten) (a : A) → r ≡ Ok a → Counts before now (r ≡ Err NotWritten) → now ≡ before
+unfailed before now r a p c = c.still (λ e. Ok-no_error a NotWritten (sym p ∙ e))
+
+-- the outcome where output isn't written
+pub Counts-fault : {A : Type 0} (before now : ℕ) (r : Result A Unwritten) (fault : Unwritten) (o : Outcome) → o ≡ outcome_of fault → r ≡ Err fault → Counts before now (r ≡ Err NotWritten) → Counts before now (o ≡ WriteFault)
+Counts-fault before now r fault o is p c = record {
+  later = c.later;
+  cause = λ e. c.cause (p ∙ ap Err (fault_of fault (sym is ∙ e)));
+  still = λ n. c.still (λ e. n (is ∙ written_of fault (Err-one r fault NotWritten p e)));
 }
+
+pub not_others : (fault : Unwritten) (o : Outcome) → o ≡ outcome_of fault → (o ≢ ReadFault) × (o ≢ Done)
+not_others fault o is = (λ e. (neither fault).0 (sym is ∙ e), λ e. (neither fault).1 (sym is ∙ e))
+
+-- a treatment stopped, but not since output wasn't written
+pub Counts-told : (before now : ℕ) (stop : Stop) (o : Outcome) → stop ≢ Unwrote → Counts before now ((o ≡ WriteFault) × (stop ≢ Unwrote)) → Counts before now (o ≡ WriteFault)
+Counts-told before now stop o n c = Counts-from before before now (o ≡ WriteFault) ((o ≡ WriteFault) × (stop ≢ Unwrote)) refl (λ e. (e, n)) (λ e. e.0) c
+
+-- a treatment stopped; the counts before its last call, after that, and after what stopped it was written
+pub Counts-stopped : (before at now : ℕ) (stop : Stop) (o : Outcome)
+    → before ≤ at → (stop ≡ Unwrote → Rose before at) → (stop ≢ Unwrote → at ≡ before) → (stop ≡ Unwrote → o ≡ WriteFault) → Counts at now ((o ≡ WriteFault) × (stop ≢ Unwrote)) → Counts before now (o ≡ WriteFault)
+Counts-stopped before at now Unwrote o later cause still told c =
+    let same : now ≡ at = c.still (λ e. e.1 refl) in
+    record { later = omega (arith, later, same); cause = λ e. subst (Rose before) (sym same) (cause refl); still = λ n. absurd (n (told refl)) }
+Counts-stopped before at now (Refused words) o later cause still told c = Counts-from before at now (o ≡ WriteFault) ((o ≡ WriteFault) × (Refused words ≢ Unwrote)) (still (λ e. cc)) (λ e. (e, λ s. cc)) (λ e. e.0) c
+Counts-stopped before at now Limited o later cause still told c = Counts-from before at now (o ≡ WriteFault) ((o ≡ WriteFault) × (Limited ≢ Unwrote)) (still (λ e. cc)) (λ e. (e, λ s. cc)) (λ e. e.0) c
+Counts-stopped before at now Unheld o later cause still told c = Counts-from before at now (o ≡ WriteFault) ((o ≡ WriteFault) × (Unheld ≢ Unwrote)) (still (λ e. cc)) (λ e. (e, λ s. cc)) (λ e. e.0) c
+
+-- it ends after a read that didn't fail
+pub Leaves-read : {S K : Type 0} (sources : SourceOf S) (sinks : SinkOf K) (source last : S) (sink before now : K) (o : Outcome)
+    → sources.faults last ≡ sources.faults source → sinks.faults before ≡ sinks.faults sink → Counts (sinks.faults before) (sinks.faults now) (o ≡ WriteFault) → o ≢ ReadFault → (o ≡ Done → sources.ended last ≡ true) → Leaves sources sinks source last sink now o
+Leaves-read sources sinks source last sink before now o s k c r d =
+    let w = Counts-from (sinks.faults sink) (sinks.faults before) (sinks.faults now) (o ≡ WriteFault) (o ≡ WriteFault) k (λ e. e) (λ e. e) c in
+    record { later = (omega (arith, s), w.later); read = λ e. absurd (r e); write = w.cause; still = (λ n. s, w.still); ended = d }
+
+-- output wasn't written, and the source is as it was before
+pub Leaves-unwritten : {S K A : Type 0} (sources : SourceOf S) (sinks : SinkOf K) (source last : S) (sink before now : K) (r : Result A Unwritten) (fault : Unwritten) (o : Outcome) → o ≡ outcome_of fault → r ≡ Err fault
+    → sources.faults last ≡ sources.faults source → sinks.faults before ≡ sinks.faults sink → Counts (sinks.faults before) (sinks.faults now) (r ≡ Err NotWritten) → Leaves sources sinks source last sink now o
+Leaves-unwritten sources sinks source last sink before now r fault o is p s k c =
+    let n = not_others fault o is in
+    Leaves-read sources sinks source last sink before now o s k (Counts-fault (sinks.faults before) (sinks.faults now) r fault o is p c) n.0 (λ e. absurd (n.1 e))
+
+-- a read failed
+pub Leaves-failed : {S K : Type 0} (sources : SourceOf S) (sinks : SinkOf K) (source last : S) (sink now : K) (failed : Type 0)
+    → Counts (sources.faults source) (sources.faults last) failed → failed → sources.ended last ≡ false → sinks.faults now ≡ sinks.faults sink → Leaves sources sinks source last sink now ReadFault
+Leaves-failed sources sinks source last sink now failed c f e k = record {
+  later = (c.later, omega (arith, k));
+  read = λ r. (c.cause f, e);
+  write = λ w. cc;
+  still = (λ n. absurd (n refl), λ n. k);
+  ended = λ d. cc;
+}
+
+-- a read that gave this left the source's count of faults as it was
+pub not_failed : (r : Result Next Unwritten) (n k : Next) {before now : ℕ} → r ≡ Ok n → n ≡ k → k ≢ Failed → Counts before now (r ≡ Ok Failed) → now ≡ before
+not_failed r n k p q d c = c.still (λ e. let f : k ≡ Failed = cc in d f)
+
+pub not_unread : (r : Result Fill Unwritten) (n k : Fill) {before now : ℕ} → r ≡ Ok n → n ≡ k → k ≢ NotRead → Counts before now (r ≡ Ok NotRead) → now ≡ before
+not_unread r n k p q d c = c.still (λ e. let f : k ≡ NotRead = cc in d f)
+
+-- a line was treated: the treatment goes on, or it ends
+pub Line-leaves : {S K : Type 0} (sources : SourceOf S) (sinks : SinkOf K) (source last : S) (sink before now : K) (old new : ReaderValue) (number : ℕ) (o : Option Outcome)
+    → sources.faults last ≡ sources.faults source → sinks.faults before ≡ sinks.faults sink → Counts (sinks.faults before) (sinks.faults now) (o ≡ Some WriteFault) → (o ≢ Some ReadFault) × (o ≢ Some Done)
+    → (o ≡ None → StaysOpen sources sinks source last sink now old new number) → MatchOption o (StaysOpen sources sinks source last sink now old new number) (Leaves sources sinks source last sink now)
+Line-leaves sources sinks source last sink before now old new number None s k c kind on = on refl
+Line-leaves sources sinks source last sink before now old new number (Some o) s k c kind on =
+    Leaves-read sources sinks source last sink before now o s k (Counts-some (sinks.faults before) (sinks.faults now) o WriteFault c) (λ e. kind.0 (ap Some e)) (λ e. absurd (kind.1 (ap Some e)))

@@ -2,7 +2,7 @@
 use Rattle.std.proofs.Common.{◌≡◌, ◌≢◌, ℕ, ◌<◌, ◌+◌, List, [], ◌∷◌, ◌++◌, sym, ap, ◌∙◌, append_assoc, append-nil, length, take, arith, length-append, inl, inr, subst, true}
 use Rattle.std.{proofs.lemmas.List.take-append-le, proofs.lemmas.List.Elements.Contains-append_cases, specs.declared.option.Option.Option}
 use Rattle.tsp_io.specs.Streams.{Gives}
-use Rattle.tsp_lines.specs.Readings.{ReaderValue, IsNext, IsPassed, ends_input}
+use Rattle.tsp_lines.specs.Readings.{ReaderValue, IsNext, IsPassed, ends_input, long_of}
 use Rattle.tsp_lines.specs.declared.next.Fill.TheVariants.{More, Over, NotRead}
 use Rattle.tsp_lines.specs.declared.next.Next.TheVariants.{Line, Last, Long, LongLast, End, Limit, Failed}
 use Rattle.tsp_lines.{proofs.Streams.Gives-trans, specs.Lines.NoFeed, specs.Lines.close, specs.declared.next.Next.Next}
@@ -69,3 +69,8 @@ Over-NotRead = λ e. cc
 -- what is given at the input's end isn't a failed read
 pub over_not_failed : (n : Next) → ends_input n ≡ true → n ≢ Failed
 over_not_failed n o e = let f = rw e at o in cc
+
+-- what is given for a long line isn't a failed read
+pub long_not_failed : (n : Next) → long_of n ≢ Failed
+long_not_failed Limit e = cc
+long_not_failed _ e = cc

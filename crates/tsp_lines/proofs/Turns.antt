@@ -3,13 +3,13 @@ use Rattle.std.proofs.Common.{◌≡◌, ℕ, ◌<◌, ◌≤◌, ◌+◌, inl, 
 use Rattle.std.{proofs.lemmas.List.Elements.All-push, specs.declared.option.Option.Option}
 use Rattle.tsp_io.specs.Streams.{Gives}
 use Rattle.tsp_lines.specs.Lines.{NoFeed, close, closed, IsFront, Begins, IsOver, IsWhole, HasLines, HasNext, HasMore, IsPast}
-use Rattle.tsp_lines.specs.Meanings.{Meaning, Goes, Breaks, BreaksOff}
+use Rattle.tsp_lines.specs.Meanings.{Meaning, Goes, BreaksOff}
 use Rattle.tsp_lines.specs.{Outcomes.Comes, Outcomes.limit_line, Outputs.Hands, Readings.ReaderValue, Readings.IsNext}
 use Rattle.tsp_lines.specs.Turns.{IsAt, IsSaying, StandsOpen, Ends, line_sayings, end_sayings, only_limited, outcome_of}
 use Rattle.tsp_lines.specs.declared.next.Next.TheVariants.{Line, Last, Long, LongLast, Limit}
-use Rattle.tsp_lines.specs.declared.output.Unwritten.{Unwritten, TheVariants.WriteFault as NotWritten, TheVariants.OutOfMemory as NoMemory}
+use Rattle.tsp_lines.specs.declared.output.Unwritten.{Unwritten, TheVariants.WriteFault as NotWritten}
 use Rattle.tsp_lines.specs.declared.treat.Outcome.{Outcome, TheVariants.ReadFault, TheVariants.OutOfMemory}
-use Rattle.tsp_lines.proofs.{Outputs.Hands-trans, Outputs.Grows-nil, Says.said, Says.Breaks-imp}
+use Rattle.tsp_lines.proofs.{Outputs.Hands-trans, Outputs.Grows-nil, Says.said, Says.Breaks-imp, Says.Ends-broken}
 use Rattle.tsp_lines.proofs.Aheads.{Ahead, Ahead-next, HasLines-got, HasNext-line, HasNext-last, HasMore-got, IsInput-got, IsPast-limit}
 use Rattle.tsp_lines.proofs.Comes.{Comes-Ends, Grows-handed, Place-line, Place-end, Place-limit, Place-any, no_sayings, closed-push}
 
@@ -82,13 +82,9 @@ Comes-front m Stands input left written now later old held number lines text lin
 pub Comes-broken : (m : Meaning) (Stands : List (List ℕ) → Type 0) (input left written now later : Option (List ℕ)) (old : ReaderValue) (held keeps : List ℕ) (number : ℕ) (lines : List (List ℕ)) (text : List ℕ) (fault : Unwritten)
     → IsAt m Stands input left written now old held number lines text → ¬ m.full lines → old.got ≤ old.limit → BreaksOff m lines text old.held now held later keeps → (fault ≡ NotWritten → 0 < length keeps) → Comes m old.limit input left written later (outcome_of fault)
 Comes-broken m Stands input left written now later old held keeps number lines text fault a room w b some =
-    Comes-front m Stands input left written now later old held number lines text b.0 b.1 (outcome_of fault) a room b.2 w (ends fault some) where
-      broken : Breaks (IsSaying (line_sayings m lines text number b.0)) now held later keeps
-      broken = Breaks-imp (λ more. m.accepts (lines ++ b.0 ∷ []) (text ++ more)) (IsSaying (line_sayings m lines text number b.0)) (λ x y. inr (inr (inr y))) now later held keeps b.3
-
-      ends : (f : Unwritten) → (f ≡ NotWritten → 0 < length keeps) → Ends (line_sayings m lines text number b.0) now held later (outcome_of f)
-      ends NotWritten s = (keeps, s refl, broken)
-      ends NoMemory s = (keeps, broken)
+    let says = line_sayings m lines text number b.0 in
+    let broken = Breaks-imp (λ more. m.accepts (lines ++ b.0 ∷ []) (text ++ more)) (IsSaying says) (λ x y. inr (inr (inr y))) now later held keeps b.3 in
+    Comes-front m Stands input left written now later old held number lines text b.0 b.1 (outcome_of fault) a room b.2 w (Ends-broken says now later held keeps fault broken some)
 
 -- what was held wasn't written before a read
 pub Comes-unflushed : (m : Meaning) (Stands : List (List ℕ) → Type 0) (input left rest written now later : Option (List ℕ)) (old : ReaderValue) (held keeps : List ℕ) (number : ℕ) (lines : List (List ℕ)) (text : List ℕ) (o : Outcome)

@@ -1,7 +1,7 @@
 -- A treatment of lines under way: how far it is, and how it ends.
-use Rattle.std.specs.Prelude.{◌≡◌, ℕ, ◌<◌, ◌≤◌, ◌+◌, ◌⊎◌, Bool, true, false, List, [], ◌∷◌, ◌++◌, length, All, Ok, Err}
+use Rattle.std.specs.Prelude.{◌≡◌, ℕ, ◌<◌, ◌≤◌, ◌+◌, ◌-◌, ◌⊎◌, Bool, true, false, List, [], ◌∷◌, ◌++◌, length, All, Ok, Err}
 use Rattle.std.specs.declared.{option.Option.Option, result.Result.Result}
-use Rattle.tsp_io.specs.Streams.{Gives}
+use Rattle.tsp_io.specs.{Streams.Gives, declared.sink.Sink.Ghosts as SinkOf, declared.source.Source.Ghosts as SourceOf}
 use Rattle.tsp_lines.specs.{Lines.NoFeed, Lines.closed, Meanings.Meaning, Meanings.Breaks, Outputs.Hands, Readings.ReaderValue}
 use Rattle.tsp_lines.specs.Outcomes.{bad_line, limit_line, Comes, KeepsUp}
 use Rattle.tsp_lines.specs.declared.output.Unwritten.{Unwritten, TheVariants.WriteFault as NotWritten, TheVariants.OutOfMemory as NoMemory}
@@ -88,6 +88,15 @@ pub record IsAt (m : Meaning) (Stands : List (List ℕ) → Type 0) (input left 
 -- it stands for these lines, and another one is allowed
 abbrev pub StandsOpen : Meaning → (List (List ℕ) → Type 0) → List (List ℕ) → Type 0
 StandsOpen m Stands lines = Stands lines × (¬ m.full lines)
+
+-- a turn goes on: the source isn't at its end, less is left to read, and no count of faults rose; source, sink and reader are each given before and after it
+pub record StaysOpen {S K : Type 0} (sources : SourceOf S) (sinks : SinkOf K) (source source_now : S) (sink sink_now : K) (reader reader_now : ReaderValue) (number_now : ℕ) : Type 0 where
+  pub unended : sources.ended source_now ≡ false
+  pub counted : number_now + length reader_now.held ≤ reader_now.got + 1
+  pub smaller : reader_now.limit + 1 - reader_now.got + length reader_now.held < reader.limit + 1 - reader.got + length reader.held
+  pub limit : reader_now.limit ≡ reader.limit
+  pub unread : sources.faults source_now ≡ sources.faults source
+  pub written : sinks.faults sink_now ≡ sinks.faults sink
 
 -- how it ends where output isn't written
 abbrev pub outcome_of : Unwritten → Outcome

@@ -3,7 +3,6 @@ ghost use Rattle.std.specs.Prelude.{◌≡◌, ◌≢◌, ℕ, List, ◌≤◌, 
 ghost use Rattle.std.specs.Prelude.{length, take, true, false, IfOk, IfErr, OnOk, OnErr, IfSome};
 ghost use Rattle.std.specs.Prelude.{MatchOption, MatchResult};
 ghost use Rattle.std.specs.declared.option.Option.{Option};
-ghost use Rattle.tsp_io.specs.Counts.{Rose};
 ghost use Rattle.tsp_io.specs.Streams.{Gives, Grows};
 ghost use Rattle.tsp_lines.specs.Lines.{NoFeed, IsOver};
 ghost use Rattle.tsp_lines.specs.Meanings.{Breaks, Goes};
@@ -11,14 +10,15 @@ ghost use Rattle.tsp_lines.specs.Outputs.{Hands};
 ghost use Rattle.tsp_lines.specs.Outcomes.{Comes};
 ghost use Rattle.tsp_lines.specs.Readings.{IsNext, IsFill, ends_input, meets_end};
 ghost use Rattle.tsp_lines.specs.Faults.{Counts};
+ghost use Rattle.tsp_lines.specs.Frames.{Leaves};
 ghost use Rattle.tsp_lines.specs.Turns.{only_so, line_sayings, end_sayings, Ends, Stopped};
-ghost use Rattle.tsp_lines.specs.Turns.{IsAt, StandsOpen, StillKeepsUp, TriesHeld};
+ghost use Rattle.tsp_lines.specs.Turns.{IsAt, StandsOpen, StaysOpen, StillKeepsUp, TriesHeld};
 
 use crate::next::{Fill, Next};
 use crate::output::{Output, Unwritten};
 use crate::reader::LineReader;
 use crate::refusal::{bad_line, limit_line};
-use crate::treat::Outcome;
+use crate::treat::{Outcome, outcome_of};
 use crate::treatment::{Stop, Treatment};
 use tsp_io::sink::Sink;
 use tsp_io::source::Source;
@@ -30,10 +30,9 @@ fn say<K: Sink>(output: &mut Output, sink: &mut K, words: &[u8]) -> Result<(), U
         words.now) }
     ensures err { OnErr result (Breaks (λ w. w ≡ words.now) (K.written sink.old) output.old
         (K.written sink.new) output.new) }
-    ensures later { K.faults sink.old ≤ K.faults sink.new }
-    ensures cause { result ≡ Err Unwritten.WriteFault → Rose (K.faults sink.old) (K.faults sink.new)
-        × (0 < length output.new) }
-    ensures still { result ≢ Err Unwritten.WriteFault → K.faults sink.new ≡ K.faults sink.old }
+    ensures writes { Counts (K.faults sink.old) (K.faults sink.new)
+        (result ≡ Err Unwritten.WriteFault) }
+    ensures unwritten { result ≡ Err Unwritten.WriteFault → 0 < length output.new }
 {
     output.put(sink, words)?;
     output.flush(sink)
@@ -45,15 +44,12 @@ fn end_with<K: Sink>(output: &mut Output, sink: &mut K, words: &[u8], outcome: O
     requires told { (outcome ≡ Outcome.Bad) ⊎ (outcome ≡ Outcome.Limit) }
     ensures ends { Ends (only_so outcome words.now) (K.written sink.old) output.old
         (K.written sink.new) result }
-    ensures later { K.faults sink.old ≤ K.faults sink.new }
-    ensures cause { result ≡ Outcome.WriteFault → Rose (K.faults sink.old) (K.faults sink.new) }
-    ensures still { result ≢ Outcome.WriteFault → K.faults sink.new ≡ K.faults sink.old }
+    ensures writes { Counts (K.faults sink.old) (K.faults sink.new) (result ≡ Outcome.WriteFault) }
     ensures kind { (result ≢ Outcome.ReadFault) × (result ≢ Outcome.Ok) }
 {
     match say(output, sink, words) {
         Ok(()) => outcome,
-        Err(Unwritten::WriteFault) => Outcome::WriteFault,
-        Err(Unwritten::OutOfMemory) => Outcome::OutOfMemory,
+        Err(fault) => outcome_of(fault),
     }
 }
 
@@ -101,10 +97,8 @@ impl Progress {
         ensures same { (self.new.reader.got ≡ self.old.reader.got)
             × (self.new.reader.limit ≡ self.old.reader.limit) }
         ensures left { result ≡ Ok false → length self.new.reader.held ≡ length self.old.reader.held }
-        ensures later { K.faults sink.old ≤ K.faults sink.new }
-        ensures cause { result ≡ Err Unwritten.WriteFault
-            → Rose (K.faults sink.old) (K.faults sink.new) }
-        ensures still { result ≢ Err Unwritten.WriteFault → K.faults sink.new ≡ K.faults sink.old }
+        ensures writes { Counts (K.faults sink.old) (K.faults sink.new)
+            (result ≡ Err Unwritten.WriteFault) }
     {
         if !self.reader.is_within() {
             return Ok(false);
@@ -155,10 +149,8 @@ impl Progress {
     fn stop<K: Sink>(&mut self, sink: &mut K, stop: Stop) -> Outcome
         ensures stops { Stopped self.old.number (K.written sink.old) self.old.output
             (K.written sink.new) self.new.output stop result }
-        ensures later { K.faults sink.old ≤ K.faults sink.new }
-        ensures cause { result ≡ Outcome.WriteFault → Rose (K.faults sink.old) (K.faults sink.new)
-            ⊎ (stop ≡ Stop.WriteFault) }
-        ensures still { result ≢ Outcome.WriteFault → K.faults sink.new ≡ K.faults sink.old }
+        ensures writes { Counts (K.faults sink.old) (K.faults sink.new)
+            ((result ≡ Outcome.WriteFault) × (stop ≢ Stop.WriteFault)) }
         ensures kind { (result ≢ Outcome.ReadFault) × (result ≢ Outcome.Ok) }
         ensures same { (self.new.reader ≡ self.old.reader) × (self.new.number ≡ self.old.number) }
     {
@@ -191,11 +183,8 @@ impl Progress {
             outcome) }
         ensures number { result ≡ None → self.new.number ≡ self.old.number + 1 }
         ensures same { self.new.reader ≡ self.old.reader }
-        ensures later { K.faults sink.old ≤ K.faults sink.new }
-        ensures cause { result ≡ Some Outcome.WriteFault
-            → Rose (K.faults sink.old) (K.faults sink.new) }
-        ensures still { MatchOption result (K.faults sink.new ≡ K.faults sink.old)
-            (λ outcome. outcome ≢ Outcome.WriteFault → K.faults sink.new ≡ K.faults sink.old) }
+        ensures writes { Counts (K.faults sink.old) (K.faults sink.new)
+            (result ≡ Some Outcome.WriteFault) }
         ensures kind { (result ≢ Some Outcome.ReadFault) × (result ≢ Some Outcome.Ok) }
     {
         match treatment.treat(self.reader.line(), &mut self.output, sink) {
@@ -215,9 +204,8 @@ impl Progress {
             → Ends (line_sayings T.meaning lines text self.old.number line) (K.written sink.old)
             self.old.output (K.written sink.new) result }
         ensures same { self.new.reader ≡ self.old.reader }
-        ensures later { K.faults sink.old ≤ K.faults sink.new }
-        ensures cause { result ≡ Outcome.WriteFault → Rose (K.faults sink.old) (K.faults sink.new) }
-        ensures still { result ≢ Outcome.WriteFault → K.faults sink.new ≡ K.faults sink.old }
+        ensures writes { Counts (K.faults sink.old) (K.faults sink.new)
+            (result ≡ Outcome.WriteFault) }
         ensures kind { (result ≢ Outcome.ReadFault) × (result ≢ Outcome.Ok) }
     {
         let cause = treatment.refuse_long(self.reader.start());
@@ -231,9 +219,8 @@ impl Progress {
             → Ends (end_sayings T.meaning lines self.old.number) (K.written sink.old)
             self.old.output (K.written sink.new) result }
         ensures same { self.new.reader ≡ self.old.reader }
-        ensures later { K.faults sink.old ≤ K.faults sink.new }
-        ensures cause { result ≡ Outcome.WriteFault → Rose (K.faults sink.old) (K.faults sink.new) }
-        ensures still { result ≢ Outcome.WriteFault → K.faults sink.new ≡ K.faults sink.old }
+        ensures writes { Counts (K.faults sink.old) (K.faults sink.new)
+            (result ≡ Outcome.WriteFault) }
         ensures kind { result ≢ Outcome.ReadFault }
     {
         if let Err(stop) = treatment.end(&mut self.output, sink) {
@@ -241,8 +228,7 @@ impl Progress {
         }
         match self.output.flush(sink) {
             Ok(()) => Outcome::Ok,
-            Err(Unwritten::WriteFault) => Outcome::WriteFault,
-            Err(Unwritten::OutOfMemory) => Outcome::OutOfMemory,
+            Err(fault) => outcome_of(fault),
         }
     }
 
@@ -295,21 +281,13 @@ impl Progress {
         ensures keeps_up { StillKeepsUp T.meaning (T.stands treatment.old) self.old.reader
             self.old.output self.old.number (S.left source.old) (S.left source.new)
             (K.written sink.old) (K.written sink.new) }
-        ensures later { (S.faults source.old ≤ S.faults source.new)
-            × (K.faults sink.old ≤ K.faults sink.new) }
-        ensures read { result ≡ Outcome.ReadFault → Rose (S.faults source.old) (S.faults source.new)
-            × (S.ended source.new ≡ false) }
-        ensures write { result ≡ Outcome.WriteFault → Rose (K.faults sink.old) (K.faults sink.new) }
-        ensures still { (result ≢ Outcome.ReadFault → S.faults source.new ≡ S.faults source.old)
-            × (result ≢ Outcome.WriteFault → K.faults sink.new ≡ K.faults sink.old) }
-        ensures ended { result ≡ Outcome.Ok → S.ended source.new ≡ true }
+        ensures leaves { Leaves S.Source K.Sink source.old source.new sink.old sink.new result }
     {
         match self.peek(source, sink) {
             Ok(Fill::More) => self.stop(sink, Stop::Limit),
             Ok(Fill::Over) => self.finish(sink, treatment),
             Ok(Fill::NotRead) => Outcome::ReadFault,
-            Err(Unwritten::WriteFault) => Outcome::WriteFault,
-            Err(Unwritten::OutOfMemory) => Outcome::OutOfMemory,
+            Err(fault) => outcome_of(fault),
         }
     }
 
@@ -335,29 +313,13 @@ impl Progress {
         ensures keeps_up { StillKeepsUp T.meaning (StandsOpen T.meaning (T.stands treatment.old))
             self.old.reader self.old.output self.old.number (S.left source.old) (S.left source.new)
             (K.written sink.old) (K.written sink.new) }
-        ensures open { result ≡ None → S.ended source.new ≡ false }
-        ensures counted { result ≡ None
-            → self.new.number + length self.new.reader.held ≤ self.new.reader.got + 1 }
-        ensures smaller { result ≡ None → self.new.reader.limit + 1 - self.new.reader.got + length
-            self.new.reader.held < self.old.reader.limit + 1 - self.old.reader.got + length
-            self.old.reader.held }
-        ensures limit { self.new.reader.limit ≡ self.old.reader.limit }
-        ensures later { (S.faults source.old ≤ S.faults source.new)
-            × (K.faults sink.old ≤ K.faults sink.new) }
-        ensures read { result ≡ Some Outcome.ReadFault
-            → Rose (S.faults source.old) (S.faults source.new) × (S.ended source.new ≡ false) }
-        ensures write { result ≡ Some Outcome.WriteFault
-            → Rose (K.faults sink.old) (K.faults sink.new) }
-        ensures still { MatchOption result ((S.faults source.new ≡ S.faults source.old)
-            × (K.faults sink.new ≡ K.faults sink.old)) (λ outcome. (outcome ≢ Outcome.ReadFault
-            → S.faults source.new ≡ S.faults source.old) × (outcome ≢ Outcome.WriteFault
-            → K.faults sink.new ≡ K.faults sink.old)) }
-        ensures ended { result ≡ Some Outcome.Ok → S.ended source.new ≡ true }
+        ensures leaves { MatchOption result (StaysOpen S.Source K.Sink source.old source.new sink.old
+            sink.new self.old.reader self.new.reader self.new.number)
+            (Leaves S.Source K.Sink source.old source.new sink.old sink.new) }
     {
         let next = match self.next(source, sink) {
             Ok(next) => next,
-            Err(Unwritten::WriteFault) => return Some(Outcome::WriteFault),
-            Err(Unwritten::OutOfMemory) => return Some(Outcome::OutOfMemory),
+            Err(fault) => return Some(outcome_of(fault)),
         };
         match next {
             Next::Line => self.treat(sink, treatment),

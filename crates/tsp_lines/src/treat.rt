@@ -29,7 +29,7 @@ pub enum Outcome {
 }
 
 /// How a treatment ends where output isn't written.
-fn outcome_of(fault: Unwritten) -> Outcome
+pub(crate) fn outcome_of(fault: Unwritten) -> Outcome
     ensures { result ≡ outcome_of fault }
 {
     match fault {

@@ -49,9 +49,9 @@ pub trait Treatment {
 
     /// Treats the first line of some octets as `treat` does, if its line feed is among them, it is of a frequent kind
     /// and nothing refuses it; gives how many octets it has with its line feed. With `Ok(None)` nothing has changed,
-    /// and the line comes to `treat`; with an error a part of its output was put, and no further call follows. (So no line
-    /// feed is searched, and what this gives is small: a `Stop` isn't, and each call that may give one clears and moves
-    /// it.)
+    /// and the line comes to `treat`; with an error a part of its output was put, and no further call follows. (So no
+    /// line feed is searched, and what this gives is small: a `Stop` isn't, and each call that may give one clears and
+    /// moves it.)
     #[inline(always)]
     fn try_front<K: Sink>(
         &mut self,

@@ -1,7 +1,7 @@
-use Rattle.std.proofs.Common.{sym, ap, ◌∙◌, subst, refl, Some, Ok, Err}
+use Rattle.std.proofs.Common.{sym, ◌∙◌, subst, Ok}
 use Rattle.tsp_lines.specs.{Outcomes.Comes, Turns.TriesHeld, declared.treat.Outcome.TheVariants.OutOfMemory}
 use Rattle.tsp_lines.proofs.{KeepingUp.KeepsUp-grew, KeepingUp.KeepsUp-nothing, OneAnswer.Comes-answers}
-use Rattle.tsp_lines.proofs.Leaving.{Err-one, Leaves-nothing, Leaves-since, Leaves-unwritten, Ok-no_error}
+use Rattle.tsp_lines.proofs.Leaving.{Leaves-nothing, Leaves-since, Leaves-unwritten, Ok-no_error}
 use Rattle.tsp_lines.proofs.Turns.{Comes-nothing, IsAt-open}
 use Rattle.tsp_lines.proofs.treat.treat_all.Goals as goal
 
@@ -21,8 +21,7 @@ returns-then-is_full g c =
       comes = comes;
       answers = λ definite. Comes-answers g.T.Treatment.meaning definite c.args.limit (g.S.Source.left c.args.source.now) (g.S.Source.left c.close.new.source) (g.K.Sink.written c.args.sink.now) (g.K.Sink.written c.close.new.sink) c.close.result comes;
       keeps_up = rw (sym i.4) (c.close.ensures.keeps_up _ _ _ _ i.0.2 (rw i.4 i.1));
-      leaves = Leaves-since g.S.Source g.K.Sink c.args.source.now c.loop-progress.source c.close.new.source c.args.sink.now c.loop-progress.sink c.close.new.sink c.close.result i.5 i.6
-          (record { later = c.close.ensures.later; read = c.close.ensures.read; write = c.close.ensures.write; still = c.close.ensures.still; ended = c.close.ensures.ended });
+      leaves = Leaves-since g.S.Source g.K.Sink c.args.source.now c.loop-progress.source c.close.new.source c.args.sink.now c.loop-progress.sink c.close.new.sink c.close.result i.5 i.6 c.close.ensures.leaves;
     }
 
 pub returns-in-Err : goal.returns-in-Err
@@ -36,7 +35,7 @@ returns-in-Err g c =
       comes = comes;
       answers = λ definite. Comes-answers m definite c.args.limit (g.S.Source.left c.args.source.now) (g.S.Source.left c.loop-progress.source) (g.K.Sink.written c.args.sink.now) (g.K.Sink.written c.try_held.new.sink) c.outcome_of.result comes;
       keeps_up = KeepsUp-grew m c.args.limit _ _ _ _ (g.K.Sink.written c.try_held.new.sink) i.1 (c.try_held.ensures.grew i.0.0 i.0.1 may.stands may.accepted);
-      leaves = Leaves-unwritten g.S.Source g.K.Sink c.args.source.now c.loop-progress.source c.args.sink.now c.loop-progress.sink c.try_held.new.sink c.in-Err.fault c.outcome_of.result c.outcome_of.ensures i.5 i.6 c.in-Err.ensures.later (λ e. c.in-Err.ensures.cause (ap Err e)) (λ n. c.in-Err.ensures.still (λ e. n (Err-one _ c.in-Err.fault _ refl e)));
+      leaves = Leaves-unwritten g.S.Source g.K.Sink c.args.source.now c.loop-progress.source c.args.sink.now c.loop-progress.sink c.try_held.new.sink c.try_held.result c.in-Err.fault c.outcome_of.result c.outcome_of.ensures c.in-Err.is i.5 i.6 c.try_held.ensures.writes;
     }
 
 pub returns-in-Some : goal.returns-in-Some
@@ -53,8 +52,7 @@ returns-in-Some g c =
       comes = comes;
       answers = λ definite. Comes-answers m definite c.args.limit (g.S.Source.left c.args.source.now) (g.S.Source.left c.turn.new.source) (g.K.Sink.written c.args.sink.now) (g.K.Sink.written c.turn.new.sink) c.in-Some.outcome comes;
       keeps_up = rw (sym limit) (c.turn.ensures.keeps_up _ _ _ _ here (rw limit grew));
-      leaves = Leaves-since g.S.Source g.K.Sink c.args.source.now c.loop-progress.source c.turn.new.source c.args.sink.now c.try_held.new.sink c.turn.new.sink c.in-Some.outcome i.5 (c.in-Ok-false.ensures.still (Ok-no_error _ _) ∙ i.6)
-          (record { later = e.later; read = λ o. e.read (ap Some o); write = λ o. e.write (ap Some o); still = e.still; ended = λ o. e.ended (ap Some o) });
+      leaves = Leaves-since g.S.Source g.K.Sink c.args.source.now c.loop-progress.source c.turn.new.source c.args.sink.now c.try_held.new.sink c.turn.new.sink c.in-Some.outcome i.5 (c.in-Ok-false.ensures.writes.still (Ok-no_error _ _) ∙ i.6) e.leaves;
     }
 
 pub loop-progress-preserved-in-Ok-true : goal.loop-progress-preserved-in-Ok-true
@@ -68,7 +66,7 @@ loop-progress-preserved-in-Ok-true g c =
       c.try_held.ensures.counted,
       c.try_held.ensures.same.1 ∙ i.4,
       i.5,
-      c.in-Ok-true.ensures.still (Ok-no_error _ _) ∙ i.6,
+      c.in-Ok-true.ensures.writes.still (Ok-no_error _ _) ∙ i.6,
     )
 
 pub loop-progress-preserved : goal.loop-progress-preserved
@@ -82,9 +80,9 @@ loop-progress-preserved g c =
     let limit = c.try_held.ensures.same.1 ∙ i.4 in (
       e.turns _ _ i.0.0 i.0.1 here,
       rw (sym limit) (c.turn.ensures.keeps_up _ _ _ _ here (rw limit grew)),
-      c.turn.ensures.open c.in_default-turn.is,
-      c.turn.ensures.counted c.in_default-turn.is,
-      c.turn.ensures.limit ∙ limit,
-      e.still.0 ∙ i.5,
-      e.still.1 ∙ (c.in-Ok-false.ensures.still (Ok-no_error _ _) ∙ i.6),
+      e.leaves.unended,
+      e.leaves.counted,
+      e.leaves.limit ∙ limit,
+      e.leaves.unread ∙ i.5,
+      e.leaves.written ∙ (c.in-Ok-false.ensures.writes.still (Ok-no_error _ _) ∙ i.6),
     )

@@ -1,5 +1,6 @@
 use Rattle.std.proofs.Common.{refl, ◌∙◌}
-use Rattle.tsp_lines.{proofs.Endings.Ends-only_bad, proofs.Outputs.Hands-nil, specs.Turns.line_sayings}
+use Rattle.tsp_lines.{proofs.Endings.Ends-only_bad, proofs.Leaving.Counts-told, proofs.Outputs.Hands-nil, specs.Turns.line_sayings}
+use Rattle.tsp_lines.specs.declared.treatment.Stop.TheVariants.{Bad as Refused}
 use Rattle.tsp_lines.proofs.progress.Progress.refuse_long.Goals as goal
 
 pub returns-clause-ends : goal.returns-clause-ends
@@ -8,3 +9,6 @@ returns-clause-ends g c = λ lines text line stands accepts room feedless long s
     (c.refuse_long-cause.result, c.refuse_long-cause.ensures lines text line stands accepts room feedless long (c.start.ensures ∙ start), refl)
     (Hands-nil _ c.args.self.now.output)
     c.stop.ensures.stops
+
+pub returns-clause-writes : goal.returns-clause-writes
+returns-clause-writes g c = Counts-told _ _ (Refused c.refuse_long-cause.result) _ (λ e. cc) c.stop.ensures.writes

@@ -1,5 +1,5 @@
-use Rattle.std.proofs.Common.{ap, Err}
-use Rattle.tsp_lines.proofs.Endings.{Ends-line}
+use Rattle.std.proofs.Common.{ap, refl, Err, Some}
+use Rattle.tsp_lines.proofs.{Endings.Ends-line, Faults.Counts-from, Leaving.Counts-stopped}
 use Rattle.tsp_lines.proofs.progress.Progress.treat.Goals as goal
 
 pub returns-in-Err-clause-treats : goal.returns-in-Err-clause-treats
@@ -8,3 +8,8 @@ returns-in-Err-clause-treats g c = λ lines text stands accepts room.
     (rw c.line.ensures at (c.in-Err.ensures.treats lines text stands accepts room))
     (λ e. (c.in-Err.ensures.cause (ap Err e)).1)
     c.stop.ensures.stops
+
+pub returns-in-Err-clause-writes : goal.returns-in-Err-clause-writes
+returns-in-Err-clause-writes g c =
+    Counts-from _ _ _ _ _ refl (λ e. cc) (ap Some)
+    (Counts-stopped _ _ _ c.in-Err.stop c.stop.result c.in-Err.ensures.later (λ e. (c.in-Err.ensures.cause (ap Err e)).0) (λ n. c.in-Err.ensures.still (λ e. n (cc))) (λ e. (rw e at c.stop.ensures.stops).0) c.stop.ensures.writes)

@@ -1,37 +1,22 @@
-use Rattle.std.proofs.Common.{refl, ap, ◌∙◌, [], ◌∷◌, ◌++◌, inl, inr, arith, Ok, Err}
-use Rattle.tsp_lines.specs.declared.treat.Outcome.TheVariants.{WriteFault, OutOfMemory}
-use Rattle.tsp_lines.specs.{Outcomes.limit_line, Readings.ends_input, Turns.only_limited, Turns.end_sayings, Turns.line_sayings}
+use Rattle.std.proofs.Common.{◌≡◌, refl, ap, sym, ◌∙◌, [], ◌∷◌, ◌++◌, inl, inr, arith, Ok, Err, Some}
+use Rattle.tsp_lines.specs.declared.treatment.Stop.TheVariants.{Limit as Limited}
+use Rattle.tsp_lines.specs.{Outcomes.limit_line, Readings.ends_input, Turns.only_limited, Turns.end_sayings, Turns.line_sayings, Turns.outcome_of}
+use Rattle.tsp_lines.proofs.{Comes.no_sayings, Faults.Counts-some, Says.Ends-broken}
 use Rattle.tsp_lines.proofs.KeepingUp.{KeepsUp-grew, KeepsUp-next, Ends-grew, Treats-grew, Grew-trans}
+use Rattle.tsp_lines.proofs.Leaving.{Counts-told, Leaves-failed, Leaves-read, Leaves-unwritten, Line-leaves, not_failed, unfailed}
 use Rattle.tsp_lines.proofs.Turns.{After-next, Comes-unflushed, Turn-line, Turn-last, Turn-last_end, HasNext-long, HasNext-long_last, Comes-line, Turn-end, Turn-limit, Turn-failed, length-line}
 use Rattle.tsp_lines.proofs.progress.Progress.turn.Goals as goal
 
-pub returns-in-Err-WriteFault-clause-turns : goal.returns-in-Err-WriteFault-clause-turns
-returns-in-Err-WriteFault-clause-turns g c = λ input written lines text at.
-    Comes-unflushed _ _ input _ (g.S.Source.left c.next.new.source) written _ _ _ _ c.next.new.self.output _ lines text WriteFault at
-    (c.next.new.self.output, c.next.ensures.unwritten (c.in-Err-WriteFault.is ∙ ap Err c.in-Err-WriteFault.field-0-is), ([], c.next.ensures.hands, inl refl))
-
-pub returns-in-Err-OutOfMemory-clause-turns : goal.returns-in-Err-OutOfMemory-clause-turns
-returns-in-Err-OutOfMemory-clause-turns g c = λ input written lines text at.
-    Comes-unflushed _ _ input _ (g.S.Source.left c.next.new.source) written _ _ _ _ c.next.new.self.output _ lines text OutOfMemory at
-    (c.next.new.self.output, ([], c.next.ensures.hands, inl refl))
+pub returns-in-Err-clause-turns : goal.returns-in-Err-clause-turns
+returns-in-Err-clause-turns g c = λ input written lines text at.
+    rw c.outcome_of.ensures (Comes-unflushed _ _ input _ (g.S.Source.left c.next.new.source) written _ _ _ _ c.next.new.self.output _ lines text (outcome_of c.in-Err.fault) at
+    (Ends-broken no_sayings _ _ _ c.next.new.self.output c.in-Err.fault ([], c.next.ensures.hands, inl refl) (λ e. c.next.ensures.unwritten (c.in-Err.is ∙ ap Err e))))
 
 pub returns-in-Line-clause-turns : goal.returns-in-Line-clause-turns
 returns-in-Line-clause-turns g c = λ input written lines text at.
     let n = c.in-Ok.ensures.next in
     let a = After-next _ _ _ _ _ _ _ _ _ c.next.new.self.reader _ c.next.new.self.output _ c.next.new.self.number lines text n.0 at n.1 n.2 c.next.ensures.hands c.next.ensures.same.0 c.next.ensures.same.1 in
     rw c.treat.ensures.same (Turn-line _ _ _ _ _ _ _ c.next.new.self.reader _ _ lines text _ a _ _ c.treat.new.self.output _ c.treat.result at.stands.1 (rw c.in-Line.is at n.3) c.treat.ensures.number (c.treat.ensures.treats lines text at.stands.0 at.accepted at.stands.1))
-
-pub returns-in-Line-clause-counted : goal.returns-in-Line-clause-counted
-returns-in-Line-clause-counted g c = λ none.
-    let n = c.in-Ok.ensures.next in
-    let l = length-line c.next.new.self.reader c.args.self.now.reader.held n.0 (rw c.in-Line.is at n.3) in
-    rw c.treat.ensures.same (omega (arith, l, n.2, c.requires.counted, c.next.ensures.same.0, c.treat.ensures.number none))
-
-pub returns-in-Line-clause-smaller : goal.returns-in-Line-clause-smaller
-returns-in-Line-clause-smaller g c = λ none.
-    let n = c.in-Ok.ensures.next in
-    let l = length-line c.next.new.self.reader c.args.self.now.reader.held n.0 (rw c.in-Line.is at n.3) in
-    rw c.treat.ensures.same (omega (arith, l, n.2, c.next.ensures.same.1, c.next.ensures.same.2))
 
 pub returns-in-Some-clause-turns : goal.returns-in-Some-clause-turns
 returns-in-Some-clause-turns g c = λ input written lines text at.
@@ -120,10 +105,56 @@ returns-in-Failed-clause-keeps_up g c = λ input written lines text at kept.
     let n = c.in-Ok.ensures.next in
     KeepsUp-next g.T.Treatment.meaning _ _ _ _ _ _ (g.K.Sink.written c.next.new.sink) c.args.self.now.reader c.next.new.self.reader _ c.next.new.self.output _ lines text n.0 c.in-Ok.next at kept n.1 n.2 c.next.ensures.hands n.3 (omega (arith, c.next.ensures.same.1, c.next.ensures.same.2)) (elim c.next.ensures.flushed [ inl e ↦ inl (ap g.S.Source.left e) | inr e ↦ inr e ])
 
-pub returns-in-Err-WriteFault-clause-keeps_up : goal.returns-in-Err-WriteFault-clause-keeps_up
-returns-in-Err-WriteFault-clause-keeps_up g c = λ input written lines text at kept.
-    rw (ap g.S.Source.left c.in-Err-WriteFault.ensures.kept) (KeepsUp-grew g.T.Treatment.meaning _ _ _ _ _ _ kept (c.next.ensures.hands.0, c.next.ensures.hands.1))
+pub returns-in-Err-clause-keeps_up : goal.returns-in-Err-clause-keeps_up
+returns-in-Err-clause-keeps_up g c = λ input written lines text at kept.
+    rw (ap g.S.Source.left c.in-Err.ensures.kept) (KeepsUp-grew g.T.Treatment.meaning _ _ _ _ _ _ kept (c.next.ensures.hands.0, c.next.ensures.hands.1))
 
-pub returns-in-Err-OutOfMemory-clause-keeps_up : goal.returns-in-Err-OutOfMemory-clause-keeps_up
-returns-in-Err-OutOfMemory-clause-keeps_up g c = λ input written lines text at kept.
-    rw (ap g.S.Source.left c.in-Err-OutOfMemory.ensures.kept) (KeepsUp-grew g.T.Treatment.meaning _ _ _ _ _ _ kept (c.next.ensures.hands.0, c.next.ensures.hands.1))
+pub returns-in-Err-clause-leaves : goal.returns-in-Err-clause-leaves
+returns-in-Err-clause-leaves g c =
+    Leaves-unwritten g.S.Source g.K.Sink c.args.source.now c.next.new.source c.args.sink.now c.args.sink.now c.next.new.sink c.next.result c.in-Err.fault c.outcome_of.result c.outcome_of.ensures c.in-Err.is (ap g.S.Source.faults c.in-Err.ensures.kept) refl c.next.ensures.writes
+
+pub returns-in-Line-clause-leaves : goal.returns-in-Line-clause-leaves
+returns-in-Line-clause-leaves g c =
+    let n = c.in-Ok.ensures.next in
+    let l = length-line c.next.new.self.reader c.args.self.now.reader.held n.0 (rw c.in-Line.is at n.3) in
+    let r = not_failed _ c.in-Ok.next _ c.in-Ok.is c.in-Line.is (λ e. cc) c.next.ensures.reads in
+    let w = unfailed _ _ c.next.result c.in-Ok.next c.in-Ok.is c.next.ensures.writes in
+    Line-leaves g.S.Source g.K.Sink c.args.source.now c.next.new.source c.args.sink.now c.next.new.sink c.treat.new.sink c.args.self.now.reader c.treat.new.self.reader c.treat.new.self.number c.treat.result r w c.treat.ensures.writes c.treat.ensures.kind
+    (λ none. record {
+      unended = c.in-Ok.ensures.ended ∙ ap ends_input c.in-Line.is;
+      counted = rw c.treat.ensures.same (omega (arith, l, n.2, c.requires.counted, c.next.ensures.same.0, c.treat.ensures.number none));
+      smaller = rw c.treat.ensures.same (omega (arith, l, n.2, c.next.ensures.same.1, c.next.ensures.same.2));
+      limit = rw c.treat.ensures.same c.next.ensures.same.1;
+      unread = r;
+      written = c.treat.ensures.writes.still (λ e. let q = sym none ∙ e in cc) ∙ w;
+    })
+
+pub returns-in-Some-clause-leaves : goal.returns-in-Some-clause-leaves
+returns-in-Some-clause-leaves g c =
+    Leaves-read g.S.Source g.K.Sink c.args.source.now c.next.new.source c.args.sink.now c.next.new.sink c.treat-in-Last.new.sink c.in-Some.outcome (not_failed _ c.in-Ok.next _ c.in-Ok.is c.in-Last.is (λ e. cc) c.next.ensures.reads) (unfailed _ _ c.next.result c.in-Ok.next c.in-Ok.is c.next.ensures.writes)
+    (Counts-some _ _ _ _ c.in-Some.ensures.writes) (λ e. c.in-Some.ensures.kind.0 (ap Some e)) (λ e. absurd (c.in-Some.ensures.kind.1 (ap Some e)))
+
+pub returns-in-None-clause-leaves : goal.returns-in-None-clause-leaves
+returns-in-None-clause-leaves g c =
+    Leaves-read g.S.Source g.K.Sink c.args.source.now c.next.new.source c.args.sink.now c.treat-in-Last.new.sink c.finish.new.sink c.finish.result (not_failed _ c.in-Ok.next _ c.in-Ok.is c.in-Last.is (λ e. cc) c.next.ensures.reads) (c.in-None.ensures.writes.still (λ e. cc) ∙ (unfailed _ _ c.next.result c.in-Ok.next c.in-Ok.is c.next.ensures.writes))
+    c.finish.ensures.writes c.finish.ensures.kind (λ e. c.in-Ok.ensures.ended ∙ ap ends_input c.in-Last.is)
+
+pub returns-in-End-clause-leaves : goal.returns-in-End-clause-leaves
+returns-in-End-clause-leaves g c =
+    Leaves-read g.S.Source g.K.Sink c.args.source.now c.next.new.source c.args.sink.now c.next.new.sink c.finish-in-End.new.sink c.finish-in-End.result (not_failed _ c.in-Ok.next _ c.in-Ok.is c.in-End.is (λ e. cc) c.next.ensures.reads) (unfailed _ _ c.next.result c.in-Ok.next c.in-Ok.is c.next.ensures.writes)
+    c.finish-in-End.ensures.writes c.finish-in-End.ensures.kind (λ e. c.in-Ok.ensures.ended ∙ ap ends_input c.in-End.is)
+
+pub returns-in-Limit-clause-leaves : goal.returns-in-Limit-clause-leaves
+returns-in-Limit-clause-leaves g c =
+    Leaves-read g.S.Source g.K.Sink c.args.source.now c.next.new.source c.args.sink.now c.next.new.sink c.stop.new.sink c.stop.result (not_failed _ c.in-Ok.next _ c.in-Ok.is c.in-Limit.is (λ e. cc) c.next.ensures.reads) (unfailed _ _ c.next.result c.in-Ok.next c.in-Ok.is c.next.ensures.writes)
+    (Counts-told _ _ Limited _ (λ e. cc) c.stop.ensures.writes) c.stop.ensures.kind.0 (λ e. absurd (c.stop.ensures.kind.1 e))
+
+pub returns-in-Long-clause-leaves : goal.returns-in-Long-clause-leaves
+returns-in-Long-clause-leaves g c =
+    let r : g.S.Source.faults c.next.new.source ≡ g.S.Source.faults c.args.source.now = elim c.in-Long.is [ inl e ↦ not_failed _ c.in-Ok.next _ c.in-Ok.is e (λ f. cc) c.next.ensures.reads | inr e ↦ not_failed _ c.in-Ok.next _ c.in-Ok.is e (λ f. cc) c.next.ensures.reads ] in
+    Leaves-read g.S.Source g.K.Sink c.args.source.now c.next.new.source c.args.sink.now c.next.new.sink c.refuse_long.new.sink c.refuse_long.result r (unfailed _ _ c.next.result c.in-Ok.next c.in-Ok.is c.next.ensures.writes)
+    c.refuse_long.ensures.writes c.refuse_long.ensures.kind.0 (λ e. absurd (c.refuse_long.ensures.kind.1 e))
+
+pub returns-in-Failed-clause-leaves : goal.returns-in-Failed-clause-leaves
+returns-in-Failed-clause-leaves g c =
+    Leaves-failed g.S.Source g.K.Sink c.args.source.now c.next.new.source c.args.sink.now c.next.new.sink _ c.next.ensures.reads (c.in-Ok.is ∙ ap Ok c.in-Failed.is) (c.in-Ok.ensures.ended ∙ ap ends_input c.in-Failed.is) (unfailed _ _ c.next.result c.in-Ok.next c.in-Ok.is c.next.ensures.writes)

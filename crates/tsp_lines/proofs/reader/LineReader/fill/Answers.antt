@@ -1,5 +1,5 @@
-use Rattle.std.proofs.Common.{◌≡◌, ap, arith, length}
-use Rattle.tsp_lines.proofs.Buffers.{filled, no_octets}
+use Rattle.std.proofs.Common.{◌≡◌, ap, arith, length, refl}
+use Rattle.tsp_lines.proofs.{Buffers.filled, Buffers.no_octets, Faults.Counts-from}
 use Rattle.tsp_lines.proofs.reader.LineReader.fill.Goals as goal
 
 pub returns-in-Got-eq0-clause-fills : goal.returns-in-Got-eq0-clause-fills
@@ -38,3 +38,12 @@ returns-in-Failed-clause-fills g c =
       omega (arith, got, r.2),
       no_octets r.0 r.2,
     )
+
+pub returns-in-Got-eq0-clause-faults : goal.returns-in-Got-eq0-clause-faults
+returns-in-Got-eq0-clause-faults g c = Counts-from _ _ _ _ _ refl (λ f. cc) (λ f. cc) c.in-Got-eq0.ensures.faults
+
+pub returns-in-Got-clause-faults : goal.returns-in-Got-clause-faults
+returns-in-Got-clause-faults g c = Counts-from _ _ _ _ _ refl (λ f. cc) (λ f. cc) c.in-Got.ensures.faults
+
+pub returns-in-Failed-clause-faults : goal.returns-in-Failed-clause-faults
+returns-in-Failed-clause-faults g c = Counts-from _ _ _ _ _ refl (λ f. refl) (λ f. refl) c.in-Failed.ensures.faults
