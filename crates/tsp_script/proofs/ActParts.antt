@@ -1,12 +1,12 @@
 -- What stands behind an act's word: what was taken, and the parts of an act.
-use Rattle.std.proofs.Common.{◌≡◌, ℕ, List, ◌++◌, refl, sym, ◌∙◌, ap, arith, false, slice_index_or, append_assoc, ℤ, codes}
+use Rattle.std.proofs.Common.{◌≡◌, ℕ, List, ◌++◌, refl, sym, ◌∙◌, ap, arith, Bool, Contains, true, false, slice_index_or, append_assoc, ℤ, codes}
 use Rattle.std.proofs.lemmas.List.{append_cancel_left}
-use Rattle.tsp_base.specs.{Words.kind_word, declared.act.Act.TheVariants.Sample, declared.act.Act.TheVariants.Close}
+use Rattle.tsp_base.specs.{Words.kind_word, declared.act.Act.TheVariants.Sample, declared.act.Act.TheVariants.Close, declared.act.Act.TheVariants.Correct}
 use Rattle.tsp_base.specs.declared.datagram.{Datagram.Datagram, Datagram.TheVariants.Message, Datagram.TheVariants.Stamp, Taken.Taken}
 use Rattle.tsp_base.specs.declared.datagram.{DecodeFault.DecodeFault, Taken.TheVariants.Good, Taken.TheVariants.Bad}
 use Rattle.tsp_base.specs.declared.{kind.Kind.Kind, kind.Kind.TheVariants.AdjTime, place.PeerId.PeerId}
 use Rattle.tsp_base.specs.declared.stamp.Stamp.TheVariants.{Request, Reply}
-use Rattle.tsp_script.specs.{Texts.message_text, Traces.fault_word, Traces.taken_text, Words.first_word}
+use Rattle.tsp_script.specs.{Texts.message_text, Traces.fault_word, Traces.taken_text, Verbs.way_text, Words.first_word}
 use Rattle.tsp_script.proofs.{Cuts.cut_front, KindWords.no_space-kind_word, KindWords.no_space-spaceless, WordTables.same_word}
 use Rattle.tsp_script.proofs.MessageLines.{message_rest, request_rest, reply_rest}
 
@@ -42,3 +42,11 @@ sample_of_parts n counter diff err ticket p other near wide drawn a b x y z = rw
 
 pub close_of_parts : (count : ℕ) (lo width mean : ℤ) (other : ℕ) (least wide middle : ℤ) → count ≡ other → lo ≡ least → width ≡ wide → mean ≡ middle → Close count lo width mean ≡ Close other least wide middle
 close_of_parts count lo width mean other least wide middle a b x y = rw (a, b, x, y) refl
+
+pub correct_of_parts : (amount : ℤ) (stepped : Bool) (shown other : ℤ) (way : Bool) (last : ℤ) → amount ≡ other → stepped ≡ way → shown ≡ last → Correct amount stepped shown ≡ Correct other way last
+correct_of_parts amount stepped shown other way last a b x = rw (a, b, x) refl
+
+-- the words of a correction's way have no space
+pub no_space-way_text : (stepped : Bool) → ¬ Contains (way_text stepped) 32
+no_space-way_text true = no_space-spaceless (codes "step") refl
+no_space-way_text false = no_space-spaceless (codes "slew") refl

@@ -1,12 +1,12 @@
 -- An act's text is a word and what stands behind it, and a trace's line four numbers and such a text.
 use Rattle.std.proofs.Common.{◌≡◌, ◌≢◌, ℕ, List, ◌∷◌, ◌++◌, refl, ◌∙◌, ap, sym, subst, Bool, true, false, append_assoc, Some, decimal, codes}
 use Rattle.std.specs.Fmt.{signed_decimal}
-use Rattle.tsp_base.specs.{Words.alarm_word, declared.act.Act.Act, declared.trace.Line2.Line2}
+use Rattle.tsp_base.specs.{declared.act.Act.Act, declared.trace.Line2.Line2}
 use Rattle.tsp_base.specs.declared.act.Act.TheVariants.{Boot, Took, Post, Become, Back, Backer, Quit, Arm, Ring, Late, Join, Leave, Rival, Acked, Gave, Sample, Close, Correct, Abandon, Trace}
 use Rattle.tsp_script.specs.{ActLines.IsNumberOf, Traces.way_word, Traces.act_text, Traces.trace_text, Words.first_word, Words.after_word}
 use Rattle.tsp_script.specs.Verbs.{verb_word, verb_of, way_text, rest_of_act, SpellsRest}
 use Rattle.tsp_script.specs.declared.verbs.Verb.{Verb, TheVariants.Boot as BootWord, TheVariants.Abandon as AbandonWord}
-use Rattle.tsp_script.proofs.{Cuts.cut_front, Cuts.space_inside, KindWords.no_space-spaceless}
+use Rattle.tsp_script.proofs.{ActCases.told_apart, Cuts.cut_front, Cuts.space_inside, KindWords.no_space-spaceless, KindWords.spaceless}
 
 abbrev Splits : List ℕ → List ℕ → List ℕ → Type 0
 Splits line word rest = (first_word line ≡ word) × (after_word line ≡ rest)
@@ -17,32 +17,6 @@ way_shown false shown = refl
 
 correct_is : (amount shown : List ℕ) (stepped : Bool) → (amount ++ way_word stepped) ++ shown ≡ amount ++ 32 ∷ (way_text stepped ++ 32 ∷ shown)
 correct_is amount shown stepped = append_assoc amount (way_word stepped) shown ∙ ap (λ w. amount ++ w) (way_shown stepped shown)
-
--- an act's text is cut behind its word
-pub act_splits : (number : ℕ) (a : Act) → Splits (act_text number a) (verb_word (verb_of a)) (rest_of_act number a)
-unfolding verb_word
-act_splits number Boot = (refl, refl)
-act_splits number (Took from taken) = cut_front (act_text number (Took from taken)) (codes "took") (rest_of_act number (Took from taken)) (no_space-spaceless (codes "took") refl) (simp append_assoc)
-act_splits number (Post to d) = cut_front (act_text number (Post to d)) (codes "post") (rest_of_act number (Post to d)) (no_space-spaceless (codes "post") refl) (simp append_assoc)
-act_splits number (Become role) = cut_front (act_text number (Become role)) (codes "become") (rest_of_act number (Become role)) (no_space-spaceless (codes "become") refl) refl
-act_splits number (Back p) = cut_front (act_text number (Back p)) (codes "back") (decimal p.0) (no_space-spaceless (codes "back") refl) refl
-act_splits number (Backer p) = cut_front (act_text number (Backer p)) (codes "backer") (decimal p.0) (no_space-spaceless (codes "backer") refl) refl
-act_splits number (Quit p) = cut_front (act_text number (Quit p)) (codes "quit") (decimal p.0) (no_space-spaceless (codes "quit") refl) refl
-act_splits number (Arm alarm at) = cut_front (act_text number (Arm alarm at)) (codes "arm") (rest_of_act number (Arm alarm at)) (no_space-spaceless (codes "arm") refl) (simp append_assoc)
-act_splits number (Ring alarm) = cut_front (act_text number (Ring alarm)) (codes "ring") (alarm_word alarm) (no_space-spaceless (codes "ring") refl) refl
-act_splits number (Late alarm) = cut_front (act_text number (Late alarm)) (codes "late") (alarm_word alarm) (no_space-spaceless (codes "late") refl) refl
-act_splits number (Join p) = cut_front (act_text number (Join p)) (codes "join") (decimal p.0) (no_space-spaceless (codes "join") refl) refl
-act_splits number (Leave p) = cut_front (act_text number (Leave p)) (codes "leave") (decimal p.0) (no_space-spaceless (codes "leave") refl) refl
-act_splits number (Rival p) = cut_front (act_text number (Rival p)) (codes "rival") (decimal p.0) (no_space-spaceless (codes "rival") refl) refl
-act_splits number (Acked p) = cut_front (act_text number (Acked p)) (codes "acked") (decimal p.0) (no_space-spaceless (codes "acked") refl) refl
-act_splits number (Gave p) = cut_front (act_text number (Gave p)) (codes "gave") (decimal p.0) (no_space-spaceless (codes "gave") refl) refl
-act_splits number (Sample p counter diff err ticket) = cut_front (act_text number (Sample p counter diff err ticket)) (codes "sample") (rest_of_act number (Sample p counter diff err ticket)) (no_space-spaceless (codes "sample") refl) (simp append_assoc)
-act_splits number (Close count lo width mean) = cut_front (act_text number (Close count lo width mean)) (codes "close") (rest_of_act number (Close count lo width mean)) (no_space-spaceless (codes "close") refl) (simp append_assoc)
-act_splits number (Correct amount stepped shown) =
-    cut_front (act_text number (Correct amount stepped shown)) (codes "correct") (rest_of_act number (Correct amount stepped shown)) (no_space-spaceless (codes "correct") refl) (ap (λ xs. codes "correct" ++ 32 ∷ xs) (correct_is (signed_decimal amount) (signed_decimal shown) stepped))
-act_splits number Abandon = (refl, refl)
-act_splits number (Trace true) = (refl, refl)
-act_splits number (Trace false) = (refl, refl)
 
 -- the text of an act that isn't one word is a word, a space, and what follows it
 pub act_joined : (number : ℕ) (a : Act) → BootWord ≢ verb_of a → AbandonWord ≢ verb_of a → act_text number a ≡ verb_word (verb_of a) ++ 32 ∷ rest_of_act number a
@@ -69,12 +43,33 @@ act_joined number Abandon n m = absurd (m refl)
 act_joined number (Trace true) n m = refl
 act_joined number (Trace false) n m = refl
 
+abbrev is_boot : Verb → Bool
+is_boot BootWord = true
+is_boot _ = false
+
+abbrev is_abandon : Verb → Bool
+is_abandon AbandonWord = true
+is_abandon _ = false
+
+-- a word of an act has no space
+spaceless-verb : (v : Verb) → spaceless (verb_word v) ≡ true
+unfolding verb_word
+spaceless-verb BootWord = refl
+spaceless-verb _ = refl
+
+-- an act's text is cut behind its word
+pub act_splits : (number : ℕ) (a : Act) → Splits (act_text number a) (verb_word (verb_of a)) (rest_of_act number a)
+unfolding verb_word
+act_splits number Boot = (refl, refl)
+act_splits number Abandon = (refl, refl)
+act_splits number a = cut_front (act_text number a) (verb_word (verb_of a)) (rest_of_act number a) (no_space-spaceless (verb_word (verb_of a)) (spaceless-verb (verb_of a))) (act_joined number a (told_apart is_boot BootWord (verb_of a) refl refl) (told_apart is_abandon AbandonWord (verb_of a) refl refl))
+
 -- an act whose text has no space is `boot` or `abandon`
 pub lone_case : (Holds : ℕ → Act → Type 0) (text : List ℕ) (number : ℕ) (a : Act) → IsNumberOf a number → ((word rest : List ℕ) → text ≡ word ++ 32 ∷ rest → ⊥) → text ≡ act_text number a
     → (text ≡ act_text 0 Boot → Holds 0 Boot) → (text ≡ act_text 0 Abandon → Holds 0 Abandon) → Holds number a
 lone_case Holds text number Boot n none e boot abandon = subst (λ k. Holds k Boot) (sym n) (boot e)
 lone_case Holds text number Abandon n none e boot abandon = subst (λ k. Holds k Abandon) (sym n) (abandon e)
-lone_case Holds text number a n none e boot abandon = absurd (none (verb_word (verb_of a)) (rest_of_act number a) (e ∙ act_joined number a (λ b. cc) (λ b. cc)))
+lone_case Holds text number a n none e boot abandon = absurd (none (verb_word (verb_of a)) (rest_of_act number a) (e ∙ act_joined number a (told_apart is_boot BootWord (verb_of a) refl refl) (told_apart is_abandon AbandonWord (verb_of a) refl refl)))
 
 -- what stands behind the first, the second and the third number of a trace's line
 abbrev pub behind_port : Line2 → List ℕ
@@ -108,4 +103,4 @@ joined_found text word rest v number a l w s n m = l ∙ rw (w, s.0, s.1) (sym (
 pub not_lone : (text word rest : List ℕ) (v : Verb) (number : ℕ) (a : Act) → v ≡ verb_of a → text ≡ act_text number a → text ≡ word ++ 32 ∷ rest → (v ≢ BootWord) × (v ≢ AbandonWord)
 not_lone text word rest v number Boot w e l = (λ b. no_space-spaceless (codes "boot") refl (space_inside (codes "boot") word rest (sym e ∙ l)), λ b. cc)
 not_lone text word rest v number Abandon w e l = (λ b. cc, λ b. no_space-spaceless (codes "abandon") refl (space_inside (codes "abandon") word rest (sym e ∙ l)))
-not_lone text word rest v number _ w e l = (λ b. cc, λ b. cc)
+not_lone text word rest v number a w e l = (λ b. told_apart is_boot BootWord (verb_of a) refl refl (sym b ∙ w), λ b. told_apart is_abandon AbandonWord (verb_of a) refl refl (sym b ∙ w))

@@ -1,6 +1,6 @@
 -- Laws of the lines of a header.
 use Rattle.std.proofs.Common.{◌≡◌, ◌≢◌, subst, slice_index_or, ℕ, ◌≤◌, List, [], ◌∷◌, ◌++◌, length, refl, sym, ap, ◌∙◌, inl, inr, arith, Ok, Err, append_assoc, true, Bool, codes, Contains, ℤ, pos, negsuc, nat_abs}
-use Rattle.std.specs.{Fmt.signed_decimal, Int.w32, Int.w64, Int.RustNames.FitsSigned, declared.result.Result.Result}
+use Rattle.std.specs.{Fmt.signed_decimal, Int.w64, Int.RustNames.FitsSigned, declared.result.Result.Result}
 use Rattle.tsp_base.specs.declared.header.NodeLine.{NodeLine}
 use Rattle.tsp_script.specs.Schedules.{is_host, flag_text, node_text, numbers_text, joined_text, net_text, IsHost, IsNodeLine, IsTitle, SpellsHead, ReadsHead}
 use Rattle.tsp_script.specs.declared.{head_line.HeadItem.HeadItem, line_fault.LineFault.LineFault, line_fault.LineFault.TheVariants.Bad}
@@ -16,10 +16,6 @@ no_space-host name h (k, b, e) = host_not_space (slice_index_or name k 32) (h.al
 pub fits_wall : (z : ℤ) → nat_abs z ≤ 1000000000000000 → FitsSigned w64 z
 fits_wall (pos n) h = record { sfits = omega arith }
 fits_wall (negsuc n) h = record { sfits = omega arith }
-
-pub fits_rate : (z : ℤ) → nat_abs z ≤ 1000 → FitsSigned w32 z
-fits_rate (pos n) h = record { sfits = omega arith }
-fits_rate (negsuc n) h = record { sfits = omega arith }
 
 -- what stands behind `node ` in a node's line
 abbrev pub node_rest : NodeLine → List ℕ

@@ -17,7 +17,7 @@ abbrev without : ℕ → List ℕ → Bool
 without m [] = true
 without m (c ∷ cs) = not (c == m) && without m cs
 
-abbrev spaceless : List ℕ → Bool
+abbrev pub spaceless : List ℕ → Bool
 spaceless word = without 32 word
 
 spaceless-kind_word : (k : Kind) → spaceless (kind_word k) ≡ true

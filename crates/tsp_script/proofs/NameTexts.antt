@@ -1,5 +1,5 @@
 -- Laws of name texts.
-use Rattle.std.proofs.Common.{◌≡◌, ℕ, ◌<◌, ◌≤◌, List, [], ◌∷◌, ◌++◌, zero, suc, length, take, drop, refl, ap, sym, ◌∙◌, arith, true, false, Bool, Result, Ok, Err, Some, ◌^◌, append_assoc, MatchResult, IfSome, flat_map, if◌then◌else◌}
+use Rattle.std.proofs.Common.{◌≡◌, ℕ, ◌<◌, ◌≤◌, List, [], ◌∷◌, ◌++◌, zero, suc, length, take, drop, refl, ap, sym, ◌∙◌, arith, true, false, Bool, Result, Ok, Err, Some, ◌^◌, append_assoc, length-append, MatchResult, IfSome, flat_map, if◌then◌else◌}
 use Rattle.std.{proofs.lemmas.Grind.common_steps, proofs.lemmas.List.flat_map_more, specs.List.AllPass, specs.Result.result_ok}
 use Rattle.hex.specs.Hex.{encode_lower, encode_with, decode_sized, IsBytes}
 use Rattle.hex.{proofs.HexLemmas.decode_sized-encode_lower, specs.declared.error.FromHexError.FromHexError}
@@ -104,6 +104,11 @@ one_more name items more rest after octet b n reads m ([], p, q) = absurd (let z
 one_more name items more rest after octet b n reads m (c ∷ cs, p, q) =
     let r = reads c (flat_map escaped cs) (IsBytes-next name items c cs b p) q in
     (cs, p ∙ sym (rw (m, append_assoc) (ap (λ x. items ++ x ∷ cs) r.0)), r.1)
+
+-- where text is left, not all octets are read
+pub not_full : (name items rest : List ℕ) → 0 < length rest → Left name items rest → length items < length name
+not_full name items rest n ([], p, q) = absurd (let z : length rest ≡ 0 = ap length q in omega (arith, z, n))
+not_full name items rest n (c ∷ cs, p, q) = omega (arith, ap length p, length-append items (c ∷ cs))
 
 -- an octet can be read where text is left
 pub can_read : (name items rest : List ℕ) → IsBytes name → 0 < length rest → Left name items rest → (c : ℕ) × (r : List ℕ) × (c < 256) × (rest ≡ escaped c ++ r)

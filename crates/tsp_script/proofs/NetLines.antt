@@ -50,6 +50,11 @@ next_there numbers items rest all some ([], p, q) = absurd (let z : length rest 
 next_there numbers items rest all some (n ∷ ns, p, q) =
     (n, ns, All-middle items n ns (subst (λ (l : List ℕ). All (λ m. m < 2 ^ 32) l) p all), p, q, omega (arith, ap length p, length-append items (n ∷ ns)))
 
+-- where no text is left, all the numbers are read
+pub all_read : (numbers items rest : List ℕ) → Left numbers items rest → length rest ≡ 0 → items ≡ numbers
+all_read numbers items rest ([], p, q) none = sym (p ∙ append-nil items)
+all_read numbers items rest (n ∷ ns, p, q) none = absurd (let z : length rest ≡ length (numbers_text (n ∷ ns)) = ap length q in omega (arith, z, none))
+
 -- the next of the numbers is read
 pub next_read : (numbers items more rest next behind : List ℕ) (number : ℕ) → All (λ m. m < 2 ^ 32) numbers → 0 < length rest → Left numbers items rest
     → rest ≡ codes " " ++ next → number < 2 ^ 32 → NoDigit behind → next ≡ decimal number ++ behind → more ≡ items ++ number ∷ [] → Left numbers more behind

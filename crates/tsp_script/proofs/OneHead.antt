@@ -1,11 +1,11 @@
 -- A line of the header is one item's.
-use Rattle.std.proofs.Common.{◌≡◌, ℕ, ◌<◌, ◌≤◌, ◌^◌, List, ◌∷◌, ◌++◌, refl, sym, ap, ◌∙◌, arith, Bool, true, false, slice_index_or, ℤ, pos, negsuc, decimal, codes, nat_abs}
+use Rattle.std.proofs.Common.{◌≡◌, ℕ, ◌<◌, ◌≤◌, ◌^◌, List, ◌∷◌, ◌++◌, refl, sym, ap, ◌∙◌, arith, Bool, true, false, slice_index_or, Result, Ok, Err, ℤ, pos, negsuc, decimal, codes, nat_abs}
 use Rattle.std.{proofs.lemmas.Fmt.decimal_injective, specs.Fmt.signed_decimal}
 use lib.Signed.{mag}
 use Rattle.tsp_base.specs.declared.header.NodeLine.{NodeLine}
-use Rattle.tsp_script.specs.declared.head_line.HeadItem.{HeadItem}
+use Rattle.tsp_script.specs.declared.{head_line.HeadItem.HeadItem, line_fault.LineFault.LineFault, line_fault.LineFault.TheVariants.Bad}
 use Rattle.tsp_script.specs.declared.head_line.HeadItem.TheVariants.{Title, Drift, Strict, Node, Net, NotHead}
-use Rattle.tsp_script.specs.Schedules.{flag_text, numbers_text, joined_text, net_text, IsNodeLine, IsNetLine, SpellsHead}
+use Rattle.tsp_script.specs.Schedules.{flag_text, numbers_text, joined_text, net_text, IsNodeLine, IsNetLine, ReadsHead, SpellsHead}
 use Rattle.tsp_script.proofs.{Apart.words_apart, Apart.signs_apart, NetLines.joined_text-injective}
 use Rattle.tsp_script.proofs.HeadLines.{no_space-host, fits_wall, node_rest, node_of_parts, node_form, net_form, node_not_net, strict_not_node, strict_not_net, one_version}
 
@@ -81,3 +81,8 @@ SpellsHead-one place line NotHead Strict s t = absurd (s.1.not_strict t.0 t.1)
 SpellsHead-one place line NotHead (Node n) s t = absurd (s.1.no_node (node_rest n) (t.2 ∙ node_form n))
 SpellsHead-one place line NotHead (Net l) s t = absurd (s.1.no_net (joined_text l) (t.2 ∙ net_form l t.1.some))
 SpellsHead-one place line NotHead NotHead s t = refl
+
+-- so what is read there is the only one
+pub reads_one : (place : ℕ) (line : List ℕ) (r : Result HeadItem LineFault) → ReadsHead place line r → (item : HeadItem) → SpellsHead place line item → r ≡ Ok item
+reads_one place line (Ok read) s item t = ap Ok (SpellsHead-one place line read item s t)
+reads_one place line (Err Bad) s item t = absurd (s item t)

@@ -3,7 +3,7 @@ use Rattle.std.specs.Prelude.{◌≡◌, ℕ, Option, None, Some, List, [], ◌�
 use Rattle.std.specs.Fmt.{signed_decimal}
 use Rattle.tsp_base.specs.{Words.alarm_word, declared.act.Act.Act, declared.place.PeerId.PeerId}
 use Rattle.tsp_base.specs.declared.act.Act.TheVariants.{Boot, Took, Post, Become, Back, Backer, Quit, Arm, Ring, Late, Join, Leave, Rival, Acked, Gave, Sample, Close, Correct, Abandon, Trace}
-use Rattle.tsp_script.specs.{Texts.message_text, Traces.role_text, Traces.place_text, Traces.taken_text, declared.verbs.Verb.Verb}
+use Rattle.tsp_script.specs.{ActLines.IsSilent, Texts.message_text, Traces.role_text, Traces.place_text, Traces.taken_text, declared.verbs.Verb.Verb}
 use Rattle.tsp_script.specs.declared.verbs.Verb.TheVariants.{Boot as BootWord, Took as TookWord, Post as PostWord, Become as BecomeWord, Back as BackWord, Backer as BackerWord, Quit as QuitWord, Arm as ArmWord, Ring as RingWord, Late as LateWord, Join as JoinWord, Leave as LeaveWord, Rival as RivalWord, Acked as AckedWord, Gave as GaveWord, Sample as SampleWord, Close as CloseWord, Correct as CorrectWord, Abandon as AbandonWord, Trace as TraceWord}
 
 -- all of them
@@ -103,3 +103,7 @@ rest_of_act number (Trace on) = switch_text on
 -- an act, with this number, begins with this word, and this text follows the word and its space
 abbrev pub SpellsRest : Verb → ℕ → List ℕ → Act → Type 0
 SpellsRest verb number rest a = (verb ≡ verb_of a) × (rest ≡ rest_of_act number a)
+
+-- an act that posts nothing begins with this word, this text follows the word and its space, and its parts are in their ranges
+abbrev pub IsSpelled : Verb → List ℕ → Act → Type 0
+IsSpelled verb rest a = SpellsRest verb 0 rest a × IsSilent a

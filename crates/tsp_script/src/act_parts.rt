@@ -12,12 +12,12 @@ ghost use Rattle.tsp_base.specs.declared.datagram.Taken.{Taken};
 ghost use Rattle.tsp_base.specs.declared.place.PeerId.{PeerId};
 ghost use Rattle.tsp_base.specs.declared.place.Place.{Place};
 ghost use Rattle.tsp_base.specs.declared.role.Role.{Role};
-ghost use Rattle.tsp_script.specs.ActLines.{IsAct, IsSilent, IsNumberOf, IsTaken, IsRole};
+ghost use Rattle.tsp_script.specs.ActLines.{IsAct, IsNumberOf, IsTaken, IsRole};
 ghost use Rattle.tsp_script.specs.Ranges.{IsDatagram};
 ghost use Rattle.tsp_script.specs.Schedules.{IsPlace};
 ghost use Rattle.tsp_script.specs.Texts.{message_text};
 ghost use Rattle.tsp_script.specs.Traces.{role_text, place_text, taken_text};
-ghost use Rattle.tsp_script.specs.Verbs.{way_text, switch_text, SpellsRest};
+ghost use Rattle.tsp_script.specs.Verbs.{way_text, switch_text, IsSpelled, SpellsRest};
 ghost use Rattle.tsp_script.specs.declared.verbs.Verb.{Verb};
 
 use crate::act_words::{alarm_of, fault_of};
@@ -27,7 +27,7 @@ use crate::message_reader::message_of;
 use crate::numbers::{
     front_long, front_number, front_signed, long_number, number_of, short_of, signed_of,
 };
-use crate::words::{front_word, is_same};
+use crate::words::{front_word, is_same, one_of};
 use tsp_base::act::Act;
 use tsp_base::alarm::Alarm;
 use tsp_base::datagram::{Datagram, Taken};
@@ -46,8 +46,7 @@ pub(crate) fn read_peer(text: &[u8]) -> Option<PeerId>
 /// What was taken; its sender was read before.
 fn taken_of(text: &[u8]) -> Option<Taken>
     ensures reads { (t : Taken) → IsTaken t → text.now ≡ taken_text t → result ≡ Some t }
-    ensures found { IfSome result (λ t. text.now ≡ taken_text t) }
-    ensures range { IfSome result IsTaken }
+    ensures found { IfSome result (λ t. (text.now ≡ taken_text t) × IsTaken t) }
 {
     if let Some(rest) = after(text, b"refused ") {
         return Some(Taken::Bad(fault_of(rest)?));
@@ -62,8 +61,7 @@ fn taken_of(text: &[u8]) -> Option<Taken>
 pub(crate) fn read_took(text: &[u8]) -> Option<Act>
     ensures reads { (from : Place) (t : Taken) → IsPlace from → IsTaken t
         → text.now ≡ place_text from ++ 32 ∷ taken_text t → result ≡ Some (Act.Took from t) }
-    ensures found { IfSome result (SpellsRest Verb.Took 0 text.now) }
-    ensures range { IfSome result IsSilent }
+    ensures found { IfSome result (IsSpelled Verb.Took text.now) }
 {
     let (from, rest) = front_place(text)?;
     let taken = taken_of(rest)?;
@@ -89,8 +87,7 @@ pub(crate) fn read_post(text: &[u8]) -> Option<(u64, Act)>
 /// A role.
 fn role_of(text: &[u8]) -> Option<Role>
     ensures reads { (r : Role) → IsRole r → text.now ≡ role_text r → result ≡ Some r }
-    ensures found { IfSome result (λ r. text.now ≡ role_text r) }
-    ensures range { IfSome result IsRole }
+    ensures found { IfSome result (λ r. (text.now ≡ role_text r) × IsRole r) }
 {
     if is_same(text, b"starting") {
         return Some(Role::Starting);
@@ -111,8 +108,7 @@ fn role_of(text: &[u8]) -> Option<Role>
 /// What follows `become`.
 pub(crate) fn read_become(text: &[u8]) -> Option<Act>
     ensures reads { (r : Role) → IsRole r → text.now ≡ role_text r → result ≡ Some (Act.Become r) }
-    ensures found { IfSome result (SpellsRest Verb.Become 0 text.now) }
-    ensures range { IfSome result IsSilent }
+    ensures found { IfSome result (IsSpelled Verb.Become text.now) }
 {
     Some(Act::Become(role_of(text)?))
 }
@@ -121,8 +117,7 @@ pub(crate) fn read_become(text: &[u8]) -> Option<Act>
 pub(crate) fn read_arm(text: &[u8]) -> Option<Act>
     ensures reads { (a : Alarm) (at : ℕ) → at < 2 ^ 64 → text.now ≡ alarm_word a ++ 32 ∷ decimal at
         → result ≡ Some (Act.Arm a at) }
-    ensures found { IfSome result (SpellsRest Verb.Arm 0 text.now) }
-    ensures range { IfSome result IsSilent }
+    ensures found { IfSome result (IsSpelled Verb.Arm text.now) }
 {
     let (word, rest) = front_word(text)?;
     let alarm = alarm_of(word)?;
@@ -138,8 +133,7 @@ pub(crate) fn read_sample(text: &[u8]) -> Option<Act>
         p.0 ++ 32 ∷ (decimal counter ++ 32 ∷ (signed_decimal
         diff ++ 32 ∷ (signed_decimal err ++ 32 ∷ decimal ticket)))
         → result ≡ Some (Act.Sample p counter diff err ticket) }
-    ensures found { IfSome result (SpellsRest Verb.Sample 0 text.now) }
-    ensures range { IfSome result IsSilent }
+    ensures found { IfSome result (IsSpelled Verb.Sample text.now) }
 {
     let (peer, rest) = front_long(text)?;
     let (counter, rest) = front_number(rest)?;
@@ -163,8 +157,7 @@ pub(crate) fn read_close(text: &[u8]) -> Option<Act>
         → text.now ≡ decimal
         count ++ 32 ∷ (signed_decimal lo ++ 32 ∷ (signed_decimal width ++ 32 ∷ signed_decimal mean))
         → result ≡ Some (Act.Close count lo width mean) }
-    ensures found { IfSome result (SpellsRest Verb.Close 0 text.now) }
-    ensures range { IfSome result IsSilent }
+    ensures found { IfSome result (IsSpelled Verb.Close text.now) }
 {
     let (count, rest) = front_long(text)?;
     let (lo, rest) = front_signed(rest)?;
@@ -178,30 +171,17 @@ pub(crate) fn read_close(text: &[u8]) -> Option<Act>
     })
 }
 
-/// Whether the clock is stepped: `step` says yes, `slew` no; None for any other word.
-fn way_of(word: &[u8]) -> Option<bool>
-    ensures found { IfSome result (λ stepped. word.now ≡ way_text stepped) }
-    ensures reads { (stepped : Bool) → word.now ≡ way_text stepped → result ≡ Some stepped }
-{
-    match word {
-        b"step" => Some(true),
-        b"slew" => Some(false),
-        _ => None,
-    }
-}
-
 /// What follows `correct`.
 pub(crate) fn read_correct(text: &[u8]) -> Option<Act>
     ensures reads { (amount : ℤ) (stepped : Bool) (shown : ℤ) → FitsSigned w64 amount
         → FitsSigned w64 shown
         → text.now ≡ signed_decimal amount ++ 32 ∷ (way_text stepped ++ 32 ∷ signed_decimal shown)
         → result ≡ Some (Act.Correct amount stepped shown) }
-    ensures found { IfSome result (SpellsRest Verb.Correct 0 text.now) }
-    ensures range { IfSome result IsSilent }
+    ensures found { IfSome result (IsSpelled Verb.Correct text.now) }
 {
     let (amount, rest) = front_signed(text)?;
     let (way, rest) = front_word(rest)?;
-    let stepped = way_of(way)?;
+    let stepped = one_of(way, b"step", b"slew")?;
     let shown = signed_of(rest)?;
     Some(Act::Correct {
         amount,
@@ -210,23 +190,10 @@ pub(crate) fn read_correct(text: &[u8]) -> Option<Act>
     })
 }
 
-/// Whether a trace is switched on: `on` says yes, `off` no; None for any other word.
-fn switch_of(word: &[u8]) -> Option<bool>
-    ensures found { IfSome result (λ on. word.now ≡ switch_text on) }
-    ensures reads { (on : Bool) → word.now ≡ switch_text on → result ≡ Some on }
-{
-    match word {
-        b"on" => Some(true),
-        b"off" => Some(false),
-        _ => None,
-    }
-}
-
 /// What follows `trace`.
 pub(crate) fn read_trace_act(text: &[u8]) -> Option<Act>
     ensures reads { (on : Bool) → text.now ≡ switch_text on → result ≡ Some (Act.Trace on) }
-    ensures found { IfSome result (SpellsRest Verb.Trace 0 text.now) }
-    ensures range { IfSome result IsSilent }
+    ensures found { IfSome result (IsSpelled Verb.Trace text.now) }
 {
-    Some(Act::Trace(switch_of(text)?))
+    Some(Act::Trace(one_of(text, b"on", b"off")?))
 }

@@ -1,9 +1,9 @@
 //! Reads lines of a trace.
 ghost use Rattle.std.specs.Prelude.{◌≡◌, ◌≢◌, ℕ, ◌<◌, ◌^◌, Some, Ok, IfSome, IsSomeAnd, decimal};
 ghost use Rattle.tsp_base.specs.declared.act.Act.{Act};
-ghost use Rattle.tsp_script.specs.ActLines.{IsAct, IsSilent, IsNumberOf, IsLine2, SpellsTrace, ReadsTrace};
-ghost use Rattle.tsp_script.specs.Traces.{act_text, trace_text};
-ghost use Rattle.tsp_script.specs.Verbs.{verb_of, rest_of_act, act_of_peer, SpellsRest};
+ghost use Rattle.tsp_script.specs.ActLines.{IsAct, IsSilent, IsNumberOf, SpellsTrace, ReadsTrace};
+ghost use Rattle.tsp_script.specs.Traces.{act_text};
+ghost use Rattle.tsp_script.specs.Verbs.{verb_of, rest_of_act, act_of_peer, IsSpelled};
 ghost use Rattle.tsp_base.specs.declared.trace.Line2.{Line2};
 ghost use Rattle.tsp_script.specs.declared.verbs.Verb.{Verb};
 
@@ -15,7 +15,7 @@ use crate::act_words::alarm_of;
 use crate::line_fault::LineFault;
 use crate::numbers::{front_long, front_number, octet_of};
 use crate::verbs::Verb;
-use crate::words::front_word;
+use crate::words::{front_word, is_same};
 use tsp_base::act::{Act, Placed};
 use tsp_base::place::{PeerId, Port};
 use tsp_base::trace::Line2;
@@ -23,8 +23,7 @@ use tsp_base::trace::Line2;
 /// The act with this word that names a peer and nothing else.
 fn peer_act(verb: Verb, peer: PeerId) -> Option<Act>
     ensures act { result ≡ act_of_peer verb peer }
-    ensures found { IfSome result (SpellsRest verb 0 (decimal peer.0)) }
-    ensures range { peer.0 < 2 ^ 32 → IfSome result IsSilent }
+    ensures found { peer.0 < 2 ^ 32 → IfSome result (IsSpelled verb (decimal peer.0)) }
 {
     match verb {
         Verb::Back => Some(Act::Back(peer)),
@@ -46,10 +45,13 @@ fn read_lone(word: &[u8]) -> Option<Act>
     ensures abandon { word.now ≡ act_text 0 Act.Abandon → result ≡ Some Act.Abandon }
     ensures range { IfSome result IsSilent }
 {
-    match word {
-        b"boot" => Some(Act::Boot),
-        b"abandon" => Some(Act::Abandon),
-        _ => None,
+    if is_same(word, b"boot") {
+        return Some(Act::Boot);
+    }
+    if is_same(word, b"abandon") {
+        Some(Act::Abandon)
+    } else {
+        None
     }
 }
 
@@ -57,9 +59,8 @@ fn read_lone(word: &[u8]) -> Option<Act>
 fn read_silent(verb: Verb, rest: &[u8]) -> Option<Act>
     ensures reads { (a : Act) → IsAct a → verb ≢ Verb.Post → verb ≢ Verb.Boot
         → verb ≢ Verb.Abandon → verb ≡ verb_of a → rest.now ≡ rest_of_act 0 a → result ≡ Some a }
-    ensures found { IfSome result (SpellsRest verb 0 rest.now) }
+    ensures found { IfSome result (IsSpelled verb rest.now) }
     ensures apart { IfSome result (λ _. (verb ≢ Verb.Boot) × (verb ≢ Verb.Abandon)) }
-    ensures range { IfSome result IsSilent }
 {
     match verb {
         Verb::Boot => None,
@@ -96,10 +97,8 @@ fn read_act(text: &[u8]) -> Option<(u64, Act)>
 
 /// The values of a line.
 fn read_line(line: &[u8]) -> Option<Line2>
-    ensures found { IfSome result (λ l. line.now ≡ trace_text l.event l.node l.tick l.number
-        l.placed) }
+    ensures found { IfSome result (SpellsTrace line.now) }
     ensures reads { (l : Line2) → SpellsTrace line.now l → result ≡ Some l }
-    ensures range { IfSome result IsLine2 }
 {
     let (event, rest) = front_number(line)?;
     let (node, rest) = front_long(rest)?;

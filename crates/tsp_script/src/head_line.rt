@@ -1,6 +1,6 @@
 //! The lines of a schedule's header.
 ghost use Rattle.std.specs.Prelude.{Bool, ◌≡◌, ℕ, ℤ, ◌^◌, ◌<◌, ◌≤◌, ◌+◌, ◌++◌, ◌∷◌, List, length};
-ghost use Rattle.std.specs.Prelude.{decimal, codes, nat_abs, IfSome, MatchOption, MatchBool, IsTrue, ◌↔◌};
+ghost use Rattle.std.specs.Prelude.{decimal, codes, nat_abs, IfSome, IfNone, MatchOption, MatchBool, IsTrue, ◌↔◌};
 ghost use Rattle.std.specs.Fmt.{signed_decimal};
 ghost use Rattle.std.specs.List.{AllPass};
 ghost use Rattle.tsp_base.specs.Names.{IsName};
@@ -11,7 +11,7 @@ ghost use Rattle.tsp_script.specs.Schedules.{is_host, flag_text, node_text, IsHo
 use crate::line_fault::LineFault;
 use crate::net_line::net_line;
 use crate::numbers::{front_signed, number_of};
-use crate::words::{front_word, is_same};
+use crate::words::{front_word, is_same, one_of};
 use tsp_base::constants::SCHEDULE_END;
 use tsp_base::header::NodeLine;
 use tsp_base::members::Members;
@@ -41,13 +41,25 @@ fn is_host(octet: u8) -> bool
     matches!(octet, b'a'..=b'z' | b'A'..=b'Z' | b'0'..=b'9' | b'.' | b'-' | b'_')
 }
 
+/// Whether each of these octets is allowed in a node's name.
+fn are_host(octets: &[u8]) -> bool
+    ensures { MatchBool result (AllPass is_host octets.now) (¬ AllPass is_host octets.now) }
+{
+    for octet in octets {
+        if !is_host(*octet) {
+            return false;
+        }
+    }
+    true
+}
+
 /// The word as a name; None where it isn't 1 to 255 letters, digits, dots, dashes and underscores.
 pub fn host_of(word: &[u8]) -> Option<Name>
     ensures reads { IsHost word.now → result ≡ Some word.now }
     ensures same { IfSome result (λ name. name ≡ word.now) }
     ensures range { IfSome result IsHost }
 {
-    if word.is_empty() || !word.iter().all(|octet| is_host(*octet)) {
+    if word.is_empty() || !are_host(word) {
         return None;
     }
     Name::of(word).ok()
@@ -65,26 +77,14 @@ fn rate_of(rate: i64) -> Option<i32>
     i32::try_from(rate).ok()
 }
 
-/// Whether a node may be master: `m` says yes, `s` no; None for any other word.
-fn flag_of(word: &[u8]) -> Option<bool>
-    ensures found { IfSome result (λ may. word.now ≡ flag_text may) }
-    ensures reads { (may : Bool) → word.now ≡ flag_text may → result ≡ Some may }
-{
-    match word {
-        b"m" => Some(true),
-        b"s" => Some(false),
-        _ => None,
-    }
-}
-
 /// Reads what follows `node`.
 fn read_node(line: &[u8]) -> Option<NodeLine>
-    ensures reads { (n : NodeLine) → IsNodeLine n
+    ensures none { IfNone result ((n : NodeLine) → IsNodeLine n
         → line.now ≡ n.name ++ 32 ∷ (signed_decimal
-        n.rate ++ 32 ∷ (signed_decimal n.wall ++ 32 ∷ flag_text n.may)) → result ≡ Some n }
-    ensures found { IfSome result (λ n. line.now ≡ n.name ++ 32 ∷ (signed_decimal
-        n.rate ++ 32 ∷ (signed_decimal n.wall ++ 32 ∷ flag_text n.may))) }
-    ensures range { IfSome result IsNodeLine }
+        n.rate ++ 32 ∷ (signed_decimal n.wall ++ 32 ∷ flag_text n.may)) → ⊥) }
+    ensures found { IfSome result (λ n. IsNodeLine n
+        × (line.now ≡ n.name ++ 32 ∷ (signed_decimal
+        n.rate ++ 32 ∷ (signed_decimal n.wall ++ 32 ∷ flag_text n.may)))) }
 {
     let (word, line) = front_word(line)?;
     let name = host_of(word)?;
@@ -94,7 +94,7 @@ fn read_node(line: &[u8]) -> Option<NodeLine>
     if wall.unsigned_abs() > SCHEDULE_END {
         return None;
     }
-    let may = flag_of(line)?;
+    let may = one_of(line, b"m", b"s")?;
     Some(NodeLine {
         name,
         rate,
@@ -137,7 +137,7 @@ fn agree(text: &[u8], other: &[u8]) -> bool
 /// The drift of the second line.
 fn drift_of(line: &[u8]) -> Option<u32>
     ensures found { IfSome result (λ p. (p ≤ 1000) × (line.now ≡ codes "drift " ++ decimal p)) }
-    ensures reads { (p : ℕ) → p ≤ 1000 → line.now ≡ codes "drift " ++ decimal p → result ≡ Some p }
+    ensures none { IfNone result ((p : ℕ) → p ≤ 1000 → line.now ≡ codes "drift " ++ decimal p → ⊥) }
 {
     let rest = after(line, b"drift ")?;
     let drift = number_of(rest)?;
@@ -150,8 +150,7 @@ fn drift_of(line: &[u8]) -> Option<u32>
 /// What a line is that begins with `node `.
 fn node_line(line: &[u8], rest: &[u8]) -> Result<HeadItem, LineFault>
     requires { line.now ≡ codes "node " ++ rest.now }
-    ensures reads { ReadsHead 4 line.now result }
-    ensures one { (item : HeadItem) → SpellsHead 4 line.now item → result ≡ Ok item }
+    ensures { ReadsHead 4 line.now result }
 {
     match read_node(rest) {
         Some(node) => Ok(HeadItem::Node(node)),
@@ -161,8 +160,7 @@ fn node_line(line: &[u8], rest: &[u8]) -> Result<HeadItem, LineFault>
 
 /// What a line from the fourth on is.
 fn later_line(line: &[u8]) -> Result<HeadItem, LineFault>
-    ensures reads { ReadsHead 4 line.now result }
-    ensures one { (item : HeadItem) → SpellsHead 4 line.now item → result ≡ Ok item }
+    ensures { ReadsHead 4 line.now result }
 {
     if let Some(rest) = after(line, b"node ") {
         return node_line(line, rest);
@@ -175,8 +173,7 @@ fn later_line(line: &[u8]) -> Result<HeadItem, LineFault>
 
 /// What the third line is.
 fn third_line(line: &[u8]) -> Result<HeadItem, LineFault>
-    ensures reads { ReadsHead 3 line.now result }
-    ensures one { (item : HeadItem) → SpellsHead 3 line.now item → result ≡ Ok item }
+    ensures { ReadsHead 3 line.now result }
 {
     if is_same(line, b"strict") {
         return Ok(HeadItem::Strict);
@@ -205,8 +202,7 @@ pub fn head_line(line: &[u8], place: u32) -> Result<HeadItem, LineFault>
 
 /// Reads the first line.
 fn title(line: &[u8]) -> Result<HeadItem, LineFault>
-    ensures reads { ReadsHead 1 line.now result }
-    ensures one { (item : HeadItem) → SpellsHead 1 line.now item → result ≡ Ok item }
+    ensures { ReadsHead 1 line.now result }
 {
     if is_same(line, b"tsp-schedule 1") {
         return Ok(HeadItem::Title(1));

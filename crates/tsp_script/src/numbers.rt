@@ -1,6 +1,6 @@
 //! Numbers and octets as text.
 ghost use Rattle.std.specs.Prelude.{◌≡◌, ℕ, ◌+◌, ◌*◌, ◌^◌, ◌≤◌, ◌<◌, ◌++◌, length, take, decimal};
-ghost use Rattle.std.specs.Prelude.{IfSome, IfNone, Ok, IsErr, ℤ, negsuc, suc, List, IsSomeAnd, ◌∷◌};
+ghost use Rattle.std.specs.Prelude.{IfSome, IfNone, Ok, IsErr, ℤ, pos, negsuc, suc, List, IsSomeAnd, ◌∷◌};
 ghost use Rattle.std.specs.Int.{w64};
 ghost use Rattle.std.specs.Int.RustNames.{FitsSigned};
 ghost use Rattle.std.specs.Fmt.{signed_decimal};
@@ -15,6 +15,9 @@ use crate::hexes::value_of;
 use crate::text::Text;
 use crate::words::front_word;
 use arrayvec::ArrayVec;
+
+/// The magnitude of the least number with a sign: 2^63.
+const LEAST: u64 = 0x8000_0000_0000_0000;
 
 /// Writes octets as they are.
 #[inline(always)]
@@ -109,7 +112,7 @@ pub fn signed_of(word: &[u8]) -> Option<i64>
 {
     match after(word, b"-") {
         Some(digits) => negative_of(number_of(digits)?),
-        None => i64::try_from(number_of(word)?).ok(),
+        None => positive_of(number_of(word)?),
     }
 }
 
@@ -118,8 +121,21 @@ fn negative_of(magnitude: u64) -> Option<i64>
     ensures found { IfSome result (λ z. (n : ℕ) × (z ≡ negsuc n) × (magnitude ≡ suc n)) }
     ensures reads { (n : ℕ) → n < 2 ^ 63 → magnitude ≡ suc n → result ≡ Some (negsuc n) }
 {
-    let below = i64::try_from(magnitude.checked_sub(1)?).ok()?;
-    Some(-1 - below)
+    if magnitude == 0 || magnitude > LEAST {
+        return None;
+    }
+    Some(-1 - (magnitude - 1) as i64)
+}
+
+/// The number as 64 bits with a sign; None where it is 2^63 or more.
+fn positive_of(number: u64) -> Option<i64>
+    ensures found { IfSome result (λ z. z ≡ pos number) }
+    ensures reads { number < 2 ^ 63 → result ≡ Some (pos number) }
+{
+    if number >= LEAST {
+        return None;
+    }
+    Some(number as i64)
 }
 
 /// The octets of a line of hexadecimal, whose letters may be in either case; None exactly where the line

@@ -1,5 +1,5 @@
 //! Words of a line.
-ghost use Rattle.std.specs.Prelude.{◌≡◌, ℕ, ◌<◌, ◌++◌, ◌∷◌, length, take, Contains, MatchBool};
+ghost use Rattle.std.specs.Prelude.{◌≡◌, ◌≢◌, ℕ, ◌<◌, ◌++◌, ◌∷◌, length, take, Contains, Bool, true, false, MatchBool};
 ghost use Rattle.std.specs.Prelude.{MatchOption, slice_index_or, IfSome, IfNone, List};
 ghost use Rattle.tsp_script.specs.Words.{before_mark, after_mark, first_word, after_word};
 
@@ -54,4 +54,18 @@ pub fn is_same(text: &[u8], other: &[u8]) -> bool
     ensures { MatchBool result (text.now ≡ other.now) (text.now ≡ other.now → ⊥) }
 {
     if text == other { true } else { false }
+}
+
+/// Whether a word is the first of two, `true`, or the second, `false`; None where it is neither.
+pub(crate) fn one_of(word: &[u8], yes: &[u8], no: &[u8]) -> Option<bool>
+    requires { yes.now ≢ no.now }
+    ensures found { (text : Bool → List ℕ) → text true ≡ yes.now → text false ≡ no.now
+        → IfSome result (λ is. word.now ≡ text is) }
+    ensures reads { (text : Bool → List ℕ) → text true ≡ yes.now → text false ≡ no.now
+        → (is : Bool) → word.now ≡ text is → result ≡ Some is }
+{
+    if is_same(word, yes) {
+        return Some(true);
+    }
+    if is_same(word, no) { Some(false) } else { None }
 }

@@ -57,6 +57,6 @@ returns-in_ok-read_silent-in_default-2 c = record {
       (sym other.0, some_injective _ _ (c.in_ok-read_silent-in_default-2.ensures.reads a is c.in_default-2.not-Post long.0 long.1 verb other.1));
   found =
       let read = c.in_ok-read_silent-in_default-2.ensures in
-      joined_found c.args.text.now c.in-Some.word.now c.in-Some.rest.now c.in_ok-verb.verb 0 c.in_ok-read_silent-in_default-2.field-0 c.in-Some.ensures.found.2 c.in_ok-verb.ensures.found read.found read.apart.0 read.apart.1;
-  range = c.in_ok-read_silent-in_default-2.ensures.range;
+      joined_found c.args.text.now c.in-Some.word.now c.in-Some.rest.now c.in_ok-verb.verb 0 c.in_ok-read_silent-in_default-2.field-0 c.in-Some.ensures.found.2 c.in_ok-verb.ensures.found read.found.0 read.apart.0 read.apart.1;
+  range = c.in_ok-read_silent-in_default-2.ensures.found.1;
 }

@@ -1,5 +1,6 @@
 use Rattle.std.proofs.Common.{◌∙◌, sym, refl, rules, arith}
-use Rattle.tsp_script.proofs.NameTexts.{name_begins, IsBytes-more, one_more, more_read, can_read, all_read, text_read, name_made, name_found}
+use Rattle.std.proofs.lemmas.Bool.{false≢true}
+use Rattle.tsp_script.proofs.NameTexts.{name_begins, not_full, IsBytes-more, one_more, more_read, can_read, all_read, text_read, name_made, name_found}
 use Rattle.tsp_script.proofs.names.unescaped.Goals as goal
 
 pub loop-rest-init : goal.loop-rest-init
@@ -27,3 +28,11 @@ returns-clause-found c =
 pub returns-clause-reads : goal.returns-clause-reads
 returns-clause-reads c = λ name n b e.
     c.ok.ensures.value ∙ name_made c.of.result _ name n (all_read name c.loop-rest.octets.items c.loop-rest.rest.now (search rules) (c.loop-rest.invariant.2 name n b e) ∙ sym c.as_slice.ensures.value) c.of.ensures
+
+pub loop-rest-smaller : goal.loop-rest-smaller
+loop-rest-smaller c = c.in_ok-octet.ensures.shorter
+
+pub returns-in_default-clause-reads : goal.returns-in_default-clause-reads
+returns-in_default-clause-reads c = λ name n b e.
+    let few = not_full name c.loop-rest.octets.items c.loop-rest.rest.now (search rules) (c.loop-rest.invariant.2 name n b e) in
+    absurd (false≢true (c.in_default.ensures.variant.1 (omega (arith, n, few))))

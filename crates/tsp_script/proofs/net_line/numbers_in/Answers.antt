@@ -1,6 +1,7 @@
-use Rattle.std.proofs.Common.{rules, arith, ◌++◌, decimal}
+use Rattle.std.proofs.Common.{rules, arith, ap, length, length-append, ◌++◌, decimal}
+use Rattle.std.proofs.lemmas.Bool.{false≢true}
 use Rattle.tsp_script.specs.Schedules.{numbers_text}
-use Rattle.tsp_script.proofs.NetLines.{All-small, first_read, next_read, next_there, no_first, no_next, text-more}
+use Rattle.tsp_script.proofs.NetLines.{All-small, all_read, first_read, next_read, next_there, no_first, no_next, text-more}
 use Rattle.tsp_script.proofs.net_line.numbers_in.Goals as goal
 
 pub loop-rest-init : goal.loop-rest-init
@@ -36,3 +37,15 @@ loop-rest-preserved c =
       some = search rules;
       small = rw more (All-small c.loop-rest.numbers.items c.in_ok-number.number inv.small found.0);
     }
+
+pub returns-in_default-clause-reads : goal.returns-in_default-clause-reads
+returns-in_default-clause-reads c = λ ns h e.
+    let t = next_there ns c.loop-rest.numbers.items c.loop-rest.rest.now h.small (search rules) (c.loop-rest.invariant.reads ns h e) in
+    absurd (false≢true (c.in_default.ensures.variant.1 (omega (arith, t.5, h.few))))
+
+pub loop-rest-smaller : goal.loop-rest-smaller
+loop-rest-smaller c =
+    omega (arith, ap length c.in_ok-next.ensures, ap length c.in_ok-number.ensures.found.2, length-append (decimal c.in_ok-number.number) c.in_ok-number.behind.now)
+
+pub returns-clause-reads : goal.returns-clause-reads
+returns-clause-reads c = λ ns h e. all_read ns c.loop-rest.numbers.items c.loop-rest.rest.now (c.loop-rest.invariant.reads ns h e) (search rules)
