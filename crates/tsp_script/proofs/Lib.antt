@@ -1,6 +1,7 @@
 pub mod ActCases
 pub mod ActParts
 pub mod ActTexts
+pub mod ActVerbs
 pub mod Apart
 pub mod Bodies
 pub mod Cuts

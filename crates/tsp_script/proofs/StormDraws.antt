@@ -18,21 +18,23 @@ draw-chosen posted v booted = grind arith
 pub draw-boot : (posted : ℕ) (v : StormValue) → v.given < v.nodes → as_event (boots_next v) ≡ storm_draw posted v
 draw-boot posted v more = grind arith
 
+drawn-chosen : (posted at step c : ℕ) (v one two : StormValue) → v.nodes ≤ v.given → one ≡ moved v → two ≡ moved one → at ≡ v.at + step → step ≡ drawn 20001 (moved v) → c ≡ drawn 8 (moved one) → chosen c at posted two ≡ storm_draw posted v
+drawn-chosen posted at step c v one two booted first second time amount number =
+    let same : chosen c at posted two ≡ chosen (drawn 8 (moved (moved v))) (v.at + drawn 20001 (moved v)) posted (moved (moved v)) = cc in
+    same ∙ draw-chosen posted v booted
+
 -- the three ways to go on once all nodes have booted
 pub draw-turn : (posted at step c : ℕ) (v one two : StormValue) → v.nodes ≤ v.given → one ≡ moved v → two ≡ moved one → at ≡ v.at + step → step ≡ drawn 20001 (moved v) → c ≡ drawn 8 (moved one) → c < 4
     → as_event (turns_one at two) ≡ storm_draw posted v
 draw-turn posted at step c v one two booted first second time amount number low =
-    let same : chosen c at posted two ≡ chosen (drawn 8 (moved (moved v))) (v.at + drawn 20001 (moved v)) posted (moved (moved v)) = cc in
-    chosen-turn c at posted two low ∙ same ∙ draw-chosen posted v booted
+    chosen-turn c at posted two low ∙ drawn-chosen posted at step c v one two booted first second time amount number
 
 pub draw-ask : (posted at step c : ℕ) (v one two : StormValue) → v.nodes ≤ v.given → one ≡ moved v → two ≡ moved one → at ≡ v.at + step → step ≡ drawn 20001 (moved v) → c ≡ drawn 8 (moved one) → 4 ≤ c → c < 7
     → asks_or_turns at posted two ≡ storm_draw posted v
 draw-ask posted at step c v one two booted first second time amount number low high =
-    let same : chosen c at posted two ≡ chosen (drawn 8 (moved (moved v))) (v.at + drawn 20001 (moved v)) posted (moved (moved v)) = cc in
-    chosen-ask c at posted two low high ∙ same ∙ draw-chosen posted v booted
+    chosen-ask c at posted two low high ∙ drawn-chosen posted at step c v one two booted first second time amount number
 
 pub draw-request : (posted at step c : ℕ) (v one two : StormValue) → v.nodes ≤ v.given → one ≡ moved v → two ≡ moved one → at ≡ v.at + step → step ≡ drawn 20001 (moved v) → c ≡ drawn 8 (moved one) → 7 ≤ c
     → as_event (asks_one at two) ≡ storm_draw posted v
 draw-request posted at step c v one two booted first second time amount number low =
-    let same : chosen c at posted two ≡ chosen (drawn 8 (moved (moved v))) (v.at + drawn 20001 (moved v)) posted (moved (moved v)) = cc in
-    chosen-request c at posted two low ∙ same ∙ draw-chosen posted v booted
+    chosen-request c at posted two low ∙ drawn-chosen posted at step c v one two booted first second time amount number
