@@ -1,38 +1,21 @@
 //! Events that are held, each in little room.
 ghost use Rattle.std.specs.Prelude.{◌≡◌, IfOk};
 ghost use Rattle.tsp_audit.specs.Premised.{boots_with};
-ghost use Rattle.tsp_audit.specs.SmallEvents.{handing};
 ghost use Rattle.tsp_base.specs.Plains.{event_in};
 
 use std::alloc::{AllocError, Global};
 use std::marker::Model;
 use tsp_base::event::Event;
 use tsp_base::octets::Octets;
-use tsp_base::place::{Place, Port};
 use tsp_base::plain::Plain;
-
-/// Octets that are handed to a node.
-#[derive(Drop)]
-pub(crate) struct Handed {
-    /// The octets: 1 to 300.
-    pub(crate) octets: Octets,
-    /// Who seems to have sent them.
-    pub(crate) from: Place,
-    /// The node to which they are handed.
-    pub(crate) node: u32,
-    /// On which of its ports.
-    pub(crate) port: Port,
-    /// The true time, in microseconds.
-    pub(crate) at: u64,
-}
 
 /// How an event is held.
 #[derive(Drop)]
 pub(crate) enum Held {
     /// It has no octets.
     Plain(Plain),
-    /// It has octets, in room of its own.
-    Boxed(Box<Handed>),
+    /// It may have octets, and has room of its own.
+    Boxed(Box<Event>),
 }
 
 /// An event, which takes little room unless it has octets.
@@ -60,28 +43,37 @@ fn copy_octets(octets: &Octets) -> Octets
     }
 }
 
-/// The event that hands these octets to a node. Takes no memory.
-fn handing(handed: &Handed) -> Event
-    ensures { result ≡ handing handed.now }
+/// A copy of an event. Takes no memory.
+fn copy(e: &Event) -> Event
+    ensures { result ≡ e.now }
 {
-    Event::Bytes {
-        at: handed.at,
-        node: handed.node,
-        port: handed.port,
-        from: handed.from,
-        octets: copy_octets(&handed.octets),
-    }
-}
-
-/// The event that hands these octets to a node, in room of its own. Fails only if out of memory.
-fn boxed(alloc: Global, handed: Handed) -> Result<SmallEvent, AllocError>
-    ensures { IfOk result (λ s. s ≡ handing handed) }
-{
-    match Box::new(alloc, handed) {
-        Ok(held) => Ok(SmallEvent {
-            held: Held::Boxed(held),
-        }),
-        Err(refused) => Err(AllocError::from(refused)),
+    match e {
+        Event::Boot { at, node, word } => Event::Boot {
+            at: *at,
+            node: *node,
+            word: *word,
+        },
+        Event::Turn { at, node } => Event::Turn {
+            at: *at,
+            node: *node,
+        },
+        Event::Take { at, datagram } => Event::Take {
+            at: *at,
+            datagram: *datagram,
+        },
+        Event::Bytes {
+            at,
+            node,
+            port,
+            from,
+            octets,
+        } => Event::Bytes {
+            at: *at,
+            node: *node,
+            port: *port,
+            from: *from,
+            octets: copy_octets(octets),
+        },
     }
 }
 
@@ -94,12 +86,24 @@ fn plain(e: Plain) -> SmallEvent
     }
 }
 
-/// Whether an event without octets is a boot with this word.
-fn is_plain_boot_with(e: Plain, word: u64) -> bool
-    ensures { result ≡ boots_with word (event_in e) }
+/// An event in room of its own. Fails only if out of memory.
+fn boxed(alloc: Global, e: Event) -> Result<SmallEvent, AllocError>
+    ensures { IfOk result (λ s. s ≡ e) }
+{
+    match Box::new(alloc, e) {
+        Ok(held) => Ok(SmallEvent {
+            held: Held::Boxed(held),
+        }),
+        Err(refused) => Err(AllocError::from(refused)),
+    }
+}
+
+/// Whether an event is a boot with this word.
+fn is_boot_with(e: &Event, word: u64) -> bool
+    ensures { result ≡ boots_with word e.now }
 {
     match e {
-        Plain::Boot { word: other, .. } => other == word,
+        Event::Boot { word: other, .. } => *other == word,
         _ => false,
     }
 }
@@ -123,22 +127,7 @@ impl SmallEvent {
                 at: *at,
                 datagram: *datagram,
             })),
-            Event::Bytes {
-                at,
-                node,
-                from,
-                port,
-                octets,
-            } => boxed(
-                alloc,
-                Handed {
-                    at: *at,
-                    node: *node,
-                    port: *port,
-                    from: *from,
-                    octets: copy_octets(octets),
-                },
-            ),
+            Event::Bytes { .. } => boxed(alloc, copy(e)),
         }
     }
 
@@ -148,7 +137,7 @@ impl SmallEvent {
     {
         match &self.held {
             Held::Plain(e) => e.event(),
-            Held::Boxed(handed) => handing(handed),
+            Held::Boxed(e) => copy(e),
         }
     }
 
@@ -157,8 +146,9 @@ impl SmallEvent {
         ensures { result ≡ boots_with word self.now }
     {
         match &self.held {
-            Held::Plain(e) => is_plain_boot_with(*e, word),
-            Held::Boxed(_) => false,
+            Held::Plain(Plain::Boot { word: other, .. }) => *other == word,
+            Held::Plain(_) => false,
+            Held::Boxed(e) => is_boot_with(e, word),
         }
     }
 }
