@@ -1,22 +1,25 @@
 -- What an event makes of an audit.
-use Rattle.std.proofs.Common.{sym, subst, arith, inl, inr, ◌≡◌, ◌≤◌, ◌+◌, ℕ, Bool, List, [], ◌∷◌, length, refl, Option, None, Some}
+use Rattle.std.proofs.Common.{arith, ◌≤◌, ℕ, sym, subst, inl, inr, ◌≡◌, ◌+◌, Bool, List, [], ◌∷◌, length, refl, Option, None, Some}
 use Rattle.std.specs.declared.result.Result.TheVariants.{Err}
-use Rattle.tsp_audit.specs.declared.{remembered.Remembered.Remembered, verdict.Failure.Failure}
-use Rattle.tsp_audit.specs.{Agreeing.Numbered, Looking.Finds, Looking.Grown, Named.named, Remembered.RememberedStands}
 use Rattle.tsp_audit.specs.Parts.{Acting, Agreeing, AllKeep, Backing, Leading, Measuring}
-use Rattle.tsp_audit.specs.{Settings.HasClocks, Settings.Timely, declared.audit.Audit.Audit, declared.premises.Premises.Premises}
 use Rattle.tsp_audit.specs.Verdicts.{AllHold, AuditStands, Audits, FailsFirst, IsFound, IsVerdict}
+use Rattle.tsp_audit.proofs.NumberedLemmas.{OfStep, grown-all, made, AllName, numbered-claims}
+use Rattle.tsp_audit.specs.{Remembered.HasLineRoom, Remembered.RememberedStands, declared.remembered.Remembered.Remembered}
+use Rattle.tsp_audit.specs.{declared.verdict.Failure.Failure, Agreeing.Numbered, Looking.Finds, Looking.Grown, Named.named}
+use Rattle.tsp_audit.specs.{Settings.HasClocks, Settings.Timely, declared.audit.Audit.Audit, declared.premises.Premises.Premises}
 use Rattle.tsp_rules.specs.Values.{Placed, Event, BootAt, Turn, Take, Bytes, Line2}
 use Rattle.tsp_base.specs.Words.{HeaderValue, Acts, Begins, Line, Step, first_port, joined, line_of, Within}
-use Rattle.tsp_promises.specs.Setting.{Setting}
-use Rattle.tsp_audit.proofs.JoinLemmas.{OfStep, grown-all, made}
-use Rattle.tsp_audit.proofs.NumberedLemmas.{AllName, numbered-claims}
 use Rattle.tsp_base.proofs.PlaceLemmas.{Within-all, Within-tail}
+use Rattle.tsp_promises.specs.Setting.{Setting}
 use Rattle.tsp_claims.specs.declared.audit_fault.AuditFault.TheVariants.{History, OutOfMemory}
-use Rattle.tsp_claims.specs.declared.{claimed.Claimed.Claimed, claims.Claims.Claims}
 use Rattle.tsp_claims.specs.ClaimedHistory.{Claim, claimed, events_of, joins_acts, makes_step, posts_of, step_at, step_of, taker, takes_step}
-use Rattle.tsp_claims.specs.{Fitting.acts_of, Listed.booted, Stands.ClaimsStand, Stands.TakesIn, declared.audit_fault.AuditFault.AuditFault}
+use Rattle.tsp_claims.specs.{declared.claimed.Claimed.Claimed, declared.claims.Claims.Claims, Fitting.acts_of, Listed.booted}
+use Rattle.tsp_claims.specs.{Stands.ClaimsStand, Stands.TakesIn, declared.audit_fault.AuditFault.AuditFault}
 use Rattle.tsp_run.specs.{Run.event_at, Run.step_tick, declared.address.Address.Address}
+
+-- room for more is room for less
+pub room-less : (few many : ℕ) (n : Remembered) → few ≤ many → HasLineRoom many n → HasLineRoom few n
+room-less few many n le room = record { acted = omega (arith, le, room.acted); trips = omega (arith, le, room.trips) }
 
 joined-within : (step : Step) (x : ℕ) (acts : List Placed) (h : List Line) → Within h (joined step x acts h)
 joined-within step x [] h = Within-all h

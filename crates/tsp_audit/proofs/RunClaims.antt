@@ -1,20 +1,98 @@
 -- What is told of a run, where it is claimed, makes the run, posts what it posts, and boots whom it boots.
-use Rattle.std.proofs.Common.{ap, ◌∙◌, sym, subst, inl, inr, eqb-true, append-nil, ◌≡◌, ℕ, ◌+◌, ◌==◌, Bool, true, false, ◌||◌, if◌then◌else◌, List, [], ◌∷◌, ◌++◌, length, Option, None, Some, slice_get, refl}
-use Rattle.tsp_rules.specs.Values.{Boot, Placed, Event, BootAt, Turn, Take, Bytes, Peer}
-use Rattle.tsp_base.specs.Words.{HeaderValue, IsHeader, Acts, Begins, Handed, Line, Step, Turned, dids, of, first_port, line_of, stepped, up, peer_of}
-use Rattle.tsp_claims.specs.ClaimedHistory.{Claim, awake, claimed, events_of, joins_acts, makes_step, claims_of_step, posts_of, post_goes as claim_reaches, step_of, taker, takes_step}
-use Rattle.tsp_claims.specs.{Fitting.acts_of, Listed.booted, Listed.is_boot_of, declared.claimed.Claimed.Claimed}
-use Rattle.tsp_codec.specs.{Canon.canon, Taken.taken_of}
-use Rattle.tsp_audit.specs.AuditedRuns.{claims_of, last_lines}
+use Rattle.std.proofs.Common.{ap, ◌∙◌, ◌≡◌, ℕ, zero, suc, List, [], ◌∷◌, ◌++◌, length, Option, None, Some, slice_get, refl, ◌+◌, map, sym, subst, inl, inr, eqb-true, append-nil, ◌==◌, Bool, true, false, ◌||◌, if◌then◌else◌}
+use Rattle.tsp_rules.specs.Values.{Act, Post, Placed, Event, Boot, BootAt, Turn, Take, Bytes, Peer}
 use Rattle.tsp_rules.specs.GateRows.{GotOn, NodeTurn, answers_all, boots_all}
-use Rattle.tsp_run.specs.{Networks.networks, Ranges.Accepted}
+use Rattle.tsp_base.specs.Words.{Step, HeaderValue, IsHeader, Acts, Begins, Handed, Line, Turned, dids, of, first_port, line_of, stepped, up, peer_of}
+use Rattle.tsp_claims.specs.ClaimedHistory.{claims_post, claimed_address, posts_in, post_goes, events_of, Claim, awake, claimed, joins_acts, makes_step, claims_of_step, posts_of, post_goes as claim_reaches, step_of, taker, takes_step}
+use Rattle.tsp_claims.specs.{declared.claimed.Claimed.Claimed, Fitting.acts_of, Listed.booted, Listed.is_boot_of}
+use Rattle.tsp_run.specs.Run.{goes_to, posted_by, posts_from, Happening, posts_by, told_from, told_of, boot_step, happening, joins, posts, run, step_tick}
+use Rattle.tsp_run.proofs.Happens.{Arrives, acts_by, boot_acts, got_acts, stepping, steps-are, takes-or, taking, taking_row, taking_step}
+use Rattle.tsp_run.specs.{Networks.address_of, Networks.networks, declared.posted.Posted.Posted, Ranges.Accepted}
 use Rattle.tsp_run.specs.Refusals.{down, node_in, refusal, scene}
-use Rattle.tsp_run.specs.Run.{Happening, boot_step, goes_to, happening, joins, posts, posts_from, run, step_tick}
 use Rattle.tsp_run.proofs.{RefusalLemmas.allowed, RefusalLemmas.up-down, SealedRun.accepted_before}
 use Rattle.tsp_run.proofs.RunLemmas.{posts_stepped, stepped_other, stepped_own, up_joined}
-use Rattle.tsp_audit.proofs.ClaimedPosts.{ArePosts, ArePosts-append, get-ArePosts, goes-same, posts_of_acts}
-use Rattle.tsp_run.proofs.Happens.{Arrives, acts_by, boot_acts, got_acts, stepping, steps-are, takes-or, taking, taking_row, taking_step}
-use Rattle.tsp_audit.proofs.ClaimedEvents.{acts-told_of, happened}
+use Rattle.tsp_audit.specs.AuditedRuns.{claims_of, traced, last_lines}
+use Rattle.tsp_codec.specs.{Canon.canon, Taken.taken_of}
+
+-- a claimed post is this one of a history
+pub record IsPost (c : Claimed) (p : Posted) : Type 0 where
+  pub at : c.at ≡ p.at
+  pub node : c.node ≡ p.from
+  pub port : c.placed.port ≡ p.port
+  pub act : c.placed.act ≡ Post p.to p.datagram
+
+-- claimed posts are these of a history, in their order
+abbrev pub ArePosts : List Claimed → List Posted → Type 0
+ArePosts [] [] = Unit {0}
+ArePosts (c ∷ cs) (p ∷ ps) = IsPost c p × ArePosts cs ps
+ArePosts _ _ = ⊥
+
+pub ArePosts-append : (cs ds : List Claimed) (ps qs : List Posted) → ArePosts cs ps → ArePosts ds qs → ArePosts (cs ++ ds) (ps ++ qs)
+ArePosts-append [] ds [] qs a b = b
+ArePosts-append [] ds (p ∷ ps) qs a b = absurd a
+ArePosts-append (c ∷ cs) ds [] qs a b = absurd a
+ArePosts-append (c ∷ cs) ds (p ∷ ps) qs a b = (a.0, ArePosts-append cs ds ps qs a.1 b)
+
+-- as many
+pub length-ArePosts : (cs : List Claimed) (ps : List Posted) → ArePosts cs ps → length cs ≡ length ps
+length-ArePosts [] [] a = refl
+length-ArePosts [] (p ∷ ps) a = absurd a
+length-ArePosts (c ∷ cs) [] a = absurd a
+length-ArePosts (c ∷ cs) (p ∷ ps) a = ap (λ n. suc n) (length-ArePosts cs ps a.1)
+
+one-post : (event : ℕ) (step : Step) (p : Placed) (a : Act) → p.act ≡ a → ArePosts (claims_post event step p a) (posted_by step.at step.node p.port a)
+one-post event step p (Post to datagram) e = (record { at = refl; node = refl; port = refl; act = e }, tt)
+one-post event step p _ e = tt
+
+-- the posts that acts of a step claim are those that they post
+pub posts_of_acts : (event : ℕ) (step : Step) (acts : List Placed) → ArePosts (posts_in event step acts) (posts_from step.at step.node acts)
+posts_of_acts event step [] = tt
+posts_of_acts event step (p ∷ rest) = ArePosts-append (claims_post event step p p.act) (posts_in event step rest) (posted_by step.at step.node p.port p.act) (posts_from step.at step.node rest) (one-post event step p p.act refl) (posts_of_acts event step rest)
+
+-- both or neither is there, and then the claimed post is the other
+abbrev pub SamePost : Option Claimed → Option Posted → Type 0
+SamePost None None = Unit {0}
+SamePost (Some c) (Some p) = IsPost c p
+SamePost _ _ = ⊥
+
+pub get-ArePosts : (cs : List Claimed) (ps : List Posted) (k : ℕ) → ArePosts cs ps → SamePost (slice_get cs k) (slice_get ps k)
+get-ArePosts [] [] k a = tt
+get-ArePosts [] (p ∷ ps) k a = absurd a
+get-ArePosts (c ∷ cs) [] k a = absurd a
+get-ArePosts (c ∷ cs) (p ∷ ps) zero a = a.0
+get-ArePosts (c ∷ cs) (p ∷ ps) (suc k) a = get-ArePosts cs ps k a.1
+
+-- they go to one address
+pub goes-same : (nets : List (List ℕ)) (o : Option Claimed) (q : Option Posted) → SamePost o q → post_goes nets o ≡ goes_to nets q
+goes-same nets None None s = refl
+goes-same nets None (Some p) s = absurd s
+goes-same nets (Some c) None s = absurd s
+goes-same nets (Some c) (Some p) s =
+    ap (λ a. claimed_address nets c.node c.placed.port a) s.act
+    ∙ ap (λ n. address_of nets n c.placed.port p.to) s.node
+    ∙ ap (λ q. address_of nets p.from q p.to) s.port
+
+-- the acts that happen, if any do
+abbrev pub happened : Option Happening → List Placed
+happened None = []
+happened (Some h) = h.acts
+
+acts-told_from : (event node x k : ℕ) (acts : List Placed) → acts_of (map traced (told_from event node x k acts)) ≡ acts
+acts-told_from event node x k [] = refl
+acts-told_from event node x k (p ∷ rest) = ap (λ l. p ∷ l) (acts-told_from event node x (k + posts_by p.act) rest)
+
+pub acts-told_of : (event k : ℕ) (o : Option Happening) → acts_of (map traced (told_of event k o)) ≡ happened o
+acts-told_of event k None = refl
+acts-told_of event k (Some h) = acts-told_from event h.step.node h.tick k h.acts
+
+-- the events of which it is claimed are those of the schedule
+pub events-claims : (header : HeaderValue) (events : List Event) → events_of (claims_of header events) ≡ events
+events-claims header [] = refl
+events-claims header (e ∷ before) = ap (λ es. e ∷ es) (events-claims header before)
+
+pub length-claims : (header : HeaderValue) (events : List Event) → length (claims_of header events) ≡ length events
+length-claims header [] = refl
+length-claims header (e ∷ before) = ap (λ n. suc n) (length-claims header before)
 
 -- a step is that of what happens; none, where nothing does
 abbrev pub IsStep : HeaderValue → Option Happening → Option Step → Type 0

@@ -1,7 +1,7 @@
 -- The lines up to the end of the event are its history.
 use Rattle.std.proofs.Common.{◌≡◌, ◌≤◌, ◌-◌, ◌∙◌, ◌∷◌, sym, subst, arith, ℕ, List, length, take, rules}
 use Rattle.tsp_audit.specs.{Looking.Grown, Looking.Looks, Remembered.HasLineRoom, Remembered.RememberedStands}
-use Rattle.tsp_audit.proofs.{NoteLemmas.room-less, ThroughLemmas.grown-next, ThroughLemmas.upto-below, ThroughLemmas.upto-is}
+use Rattle.tsp_audit.proofs.{EventLemmas.room-less, ThroughLemmas.grown-next, ThroughLemmas.upto-below, ThroughLemmas.upto-is}
 use Rattle.tsp_base.specs.Words.{HeaderValue, Line}
 use Rattle.tsp_claims.specs.ClaimedHistory.{claimed}
 use Rattle.tsp_history.specs.{Histories.history_of, declared.line.HistoryLine.HistoryLine}

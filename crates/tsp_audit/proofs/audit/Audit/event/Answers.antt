@@ -1,7 +1,7 @@
 use Rattle.std.proofs.Common.{◌≡◌, ◌≤◌, ◌+◌, ◌-◌, ◌∙◌, ℕ, arith, ap, sym, subst, rules, List, ◌∷◌, length}
+use Rattle.tsp_audit.proofs.EventLemmas.{acts-length, audit-refused, audit-with, found-more, grown-claims, longer-claims, notes-later, verdict-is, room-less}
 use Rattle.tsp_audit.specs.{Looking.Finds, Looking.Grown, Remembered.HasLineRoom, Remembered.RememberedStands, Verdicts.IsVerdict}
-use Rattle.tsp_audit.proofs.EventLemmas.{acts-length, audit-refused, audit-with, found-more, grown-claims, longer-claims, notes-later, verdict-is}
-use Rattle.tsp_audit.{proofs.NoteLemmas.room-less, specs.declared.premises.Premises.Premises, specs.declared.verdict.Verdict.Verdict}
+use Rattle.tsp_audit.specs.declared.{premises.Premises.Premises, verdict.Verdict.Verdict}
 use Rattle.tsp_rules.specs.Values.{Line2}
 use Rattle.tsp_base.specs.Words.{HeaderValue, Line}
 use Rattle.tsp_claims.specs.{ClaimedHistory.Claim, ClaimedHistory.claimed, Fitting.Fit, Fitting.acts_of, Listed.NamesNode}
