@@ -11,6 +11,11 @@ use Rattle.tsp_audit.proofs.SendPlaces.{one-number, one-place, send-number, take
 use Rattle.tsp_audit.specs.Acting.{ActedIs, ActsAt, Corrects, TakenIn, TakesAs, TakesSend, TakesWell, is_in, is_unknown, with_send}
 use Rattle.tsp_audit.specs.{Parts.ActsOnce, Parts.AllKept, declared.premises.Premises.Premises}
 use Rattle.tsp_history.specs.PostedPlaces.{PostedAt}
+use Rattle.tsp_audit.proofs.Alike.{acked-same, first-same, here-same, message-same, none-first, peer-same, rest-same}
+
+-- what is among some numbers isn't one that isn't
+parted : (k s : ℕ) (acted : List ℕ) → k ≡ s → is_in k acted ≡ true → is_in s acted ≡ false → ⊥
+parted k s acted same there new = true≢false (sym there ∙ (ap (λ (n : ℕ). is_in n acted) same ∙ new))
 
 -- what takes no post of a send takes none twice
 pub once-none : (l : Line) (h : List Line) → ((s : ℕ) → TakesSend l h s → ⊥) → OnceAt is_numbered l h
@@ -29,7 +34,7 @@ once-new l h acted s a t new = λ post c other older past rest first begun acts 
     one-number h (node_of post) (node_of other) post.port other.port (post ∷ older) (other ∷ rest) (Here first ∷ begun) (Here first ∷ begun) b.number o.number acts.brings.place
     (Within-through (other ∷ rest) past h other_acts.brings.place (Within-tail c past h w)) b.at o.at refl in
     let same : o.number ≡ s = sym equal ∙ takes-one l h b.number s mine t in
-    true≢false (sym (a.complete c past o.number w theirs) ∙ (ap (λ (k : ℕ). is_in k acted) same ∙ new))
+    parted o.number s acted same (a.complete c past o.number w theirs) new
 
 other-send : (k : ℕ) (post : Line) (older : List Line) (first start : Did) (begun past : List Seen) → OfSend k post older first begun → Here first ∷ begun ≡ Here start ∷ past → OfSend k post older start past
 other-send k post older first start begun past sends e = record { message = sends.message; deed = sends.deed; numbered = sends.numbered; is = sends.is ∙ e }
@@ -42,15 +47,15 @@ once-again l h acted s a t old once =
     one-place h (node_of x.takes.post) (node_of t.post) x.takes.post.port t.post.port (x.takes.post ∷ x.takes.older) (t.post ∷ t.older) (Here x.takes.first ∷ x.takes.begun) (Here t.first ∷ t.begun) s
     (Within-through (x.takes.post ∷ x.takes.older) x.past h x.takes.acts.brings.place (Within-tail x.correct x.past h x.place)) t.acts.brings.place x.takes.at t.at in
     let deeds : Acts (Post (Peer (peer_of (node_of l))) (Message t.of_send.message)) ≡ Acts (Post (Peer (peer_of (node_of l))) (Message t.acts.brings.message)) = sym t.of_send.deed ∙ t.acts.brings.deed in
-    let message : t.of_send.message ≡ t.acts.brings.message = cc in
+    let message : t.of_send.message ≡ t.acts.brings.message = message-same deeds in
     once t.post x.correct x.takes.post t.older x.past x.takes.older t.first t.begun t.acts (subst (λ (m : MessageValue). is_numbered m.kind ≡ true) message t.of_send.numbered) x.place x.takes.acts t.of_send
     (other-send (node_of x.correct) x.takes.post x.takes.older x.takes.first t.first x.takes.begun t.begun x.takes.of_send seen)
 
 -- no Correct in an empty history
 pub acted-none : ActedIs [] []
 acted-none = record {
-  sound = λ s i. let bad : ⊥ = cc in absurd bad;
-  complete = λ c past s w t. let bad : ⊥ = cc in absurd bad;
+  sound = λ s i. absurd (true≢false (sym i));
+  complete = λ c past s w t. absurd (none-first w);
 }
 
 taken-more : (l : Line) (h : List Line) (s : ℕ) → TakenIn h s → TakenIn (l ∷ h) s
@@ -61,8 +66,8 @@ pub acted-same : (l : Line) (h : List Line) (acted : List ℕ) → ActedIs h act
 acted-same l h acted a bad = record { sound = λ s i. taken-more l h s (a.sound s i); complete = all } where
   all : (c : Line) (past : List Line) (s : ℕ) → Within (c ∷ past) (l ∷ h) → TakesSend c past s → is_in s acted ≡ true
   all c past s (inl e) t =
-      let line : c ≡ l = cc in
-      let rest : past ≡ h = cc in
+      let line : c ≡ l = first-same e in
+      let rest : past ≡ h = rest-same e in
       absurd (bad s (subst₂ (λ (k : Line) (p : List Line). TakesSend k p s) line rest t))
   all c past s (inr w) t = a.complete c past s w t
 
@@ -70,9 +75,9 @@ in-more : (t s : ℕ) (acted : List ℕ) → is_in t (acted ++ s ∷ []) ≡ (is
 in-more t s acted = list_any-append (λ k. k == t) acted (s ∷ [])
 
 either : (b c : Bool) → (b || (c || false)) ≡ true → b ≡ false → c ≡ true
-either true c e f = let bad : ⊥ = cc in absurd bad
+either true c e f = absurd (true≢false f)
 either false true e f = refl
-either false false e f = let bad : ⊥ = cc in absurd bad
+either false false e f = absurd (true≢false (sym e))
 
 right : (b c : Bool) → c ≡ true → (b || (c || false)) ≡ true
 right true c e = refl
@@ -89,8 +94,8 @@ acted-more l h acted s a t = record { sound = λ k i. known k (is_in k acted) re
 
   all : (c : Line) (past : List Line) (k : ℕ) → Within (c ∷ past) (l ∷ h) → TakesSend c past k → is_in k (acted ++ s ∷ []) ≡ true
   all c past k (inl e) u =
-      let line : c ≡ l = cc in
-      let rest : past ≡ h = cc in
+      let line : c ≡ l = first-same e in
+      let rest : past ≡ h = rest-same e in
       let same : s ≡ k = takes-one l h s k t (subst₂ (λ (i : Line) (p : List Line). TakesSend i p k) line rest u) in
       in-more k s acted ∙ right (is_in k acted) (s == k) (eq-eqb s k same)
   all c past k (inr w) u = in-more k s acted ∙ or_left (is_in k acted) ((s == k) || false) (a.complete c past k w u)
@@ -98,10 +103,10 @@ acted-more l h acted s a t = record { sound = λ k i. known k (is_in k acted) re
 -- an Acked that ends a send which is no correction
 pub confirmed-other : (l : Line) (h : List Line) (p : PeerId) (s : ℕ) → l.did.deed ≡ Acts (Acked p) → PostedAt (node_of l) l.port h (open_to p (view l.port (of (node_of l) h))) s → Corrects h s false → ConfirmedAt l h
 confirmed-other l h p s deed at other = λ q first older m e o d k.
-    let peer : p ≡ q = cc in
+    let peer : p ≡ q = acked-same (sym deed ∙ e) in
     let opened_is : Here first ∷ older ≡ open_to p (view l.port (of (node_of l) h)) = sym (subst (λ (r : PeerId). open_to r (view l.port (of (node_of l) h)) ≡ Here first ∷ older) (sym peer) o) in
     let same : Here first ∷ older ≡ Here at.line.did ∷ view l.port (of (node_of l) at.before) = opened_is ∙ at.is in
-    let did : first ≡ at.line.did = cc in
+    let did : first ≡ at.line.did = here-same same in
     let kind : is_correction m.kind ≡ false = other at.line at.before q m at.within (subst (λ (f : Did). f.deed ≡ Acts (Post (Peer q) (Message m))) did d) at.number in
     absurd (true≢false (sym k ∙ kind))
 
@@ -111,19 +116,19 @@ pub confirmed-yes : (l : Line) (h : List Line) (acted : List ℕ) (p : PeerId) (
 confirmed-yes l h acted p s a deed at old = λ q first older m e o d k.
     let x = a.sound s old in
     let t = x.takes in
-    let peer : p ≡ q = cc in
+    let peer : p ≡ q = acked-same (sym deed ∙ e) in
     let opened_is : open_to p (view l.port (of (node_of l) h)) ≡ Here first ∷ older = subst (λ (r : PeerId). open_to r (view l.port (of (node_of l) h)) ≡ Here first ∷ older) (sym peer) o in
     let seen : Here t.first ∷ t.begun ≡ Here first ∷ older =
     one-place h (node_of t.post) (node_of l) t.post.port l.port (t.post ∷ t.older) h (Here t.first ∷ t.begun) (open_to p (view l.port (of (node_of l) h))) s
     (Within-through (t.post ∷ t.older) x.past h t.acts.brings.place (Within-tail x.correct x.past h x.place)) (Within-all h) t.at at ∙ opened_is in
-    let did : t.first ≡ first = cc in
+    let did : t.first ≡ first = here-same seen in
     let b = send-number (node_of x.correct) t.post t.older t.first t.begun t.of_send in
     let deeds : Acts (Post (Peer (peer_of (node_of x.correct))) (Message b.message)) ≡ Acts (Post (Peer q) (Message m)) = sym b.deed ∙ (ap (λ (f : Did). f.deed) did ∙ d) in
-    let to : peer_of (node_of x.correct) ≡ q = cc in
+    let to : peer_of (node_of x.correct) ≡ q = peer-same deeds in
     let node : node_of x.correct ≡ q.0 = ap (λ (r : PeerId). r.0) to in
     let mine : Here t.first ∷ t.begun ≡ Here t.at.line.did ∷ view t.post.port (of (node_of t.post) t.at.before) = t.at.is in
     let theirs : Here first ∷ older ≡ Here at.line.did ∷ view l.port (of (node_of l) at.before) = sym opened_is ∙ at.is in
-    let lines : t.at.line.did ≡ at.line.did = cc in
+    let lines : t.at.line.did ≡ at.line.did = sym (here-same mine) ∙ (did ∙ here-same theirs) in
     record {
       correct = x.correct;
       past = x.past;
@@ -150,7 +155,7 @@ confirmed-not l h acted p s a deed at corrects new f =
     let same : b.number ≡ s =
     one-number h (node_of x.post) (node_of l) x.post.port l.port (x.post ∷ x.older) h (Here at.line.did ∷ rest) (open_to p (view l.port (of (node_of l) h))) b.number s
     (Within-through (x.post ∷ x.older) x.past h x.acts.brings.place (Within-tail x.correct x.past h x.place)) (Within-all h) b.at at (sym at.is) in
-    true≢false (sym (a.complete x.correct x.past b.number x.place theirs) ∙ (ap (λ (k : ℕ). is_in k acted) same ∙ new))
+    parted b.number s acted same (a.complete x.correct x.past b.number x.place theirs) new
 
 -- an Acked that ends a send which no Correct has taken
 pub confirmed-rest : (l : Line) (h : List Line) (acted : List ℕ) (p : PeerId) (s : ℕ) (b : Bool) → ActedIs h acted → l.did.deed ≡ Acts (Acked p) → PostedAt (node_of l) l.port h (open_to p (view l.port (of (node_of l) h))) s → Corrects h s b → is_in s acted ≡ false →

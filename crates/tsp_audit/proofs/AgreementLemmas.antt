@@ -9,6 +9,7 @@ use Rattle.tsp_audit.specs.Agreeing.{AgreementIs, AfterAs, AfterIs, AllAgree, Bo
 use Rattle.tsp_audit.specs.{Settings.HasClocks, declared.agreement_tracker.AgreementTracker.AgreementTracker}
 use Rattle.tsp_audit.specs.declared.round_correction.{NodeState.NodeState, RoundCorrection.RoundCorrection}
 use Rattle.tsp_audit.proofs.{FromRoundLemmas.from_round-one, StateLemmas.last-one}
+use Rattle.tsp_audit.proofs.Alike.{first-same, rest-same}
 
 -- places with as many entries before them are one
 pub place-one : (a b : Line) (s t h : List Line) → Within (a ∷ s) h → Within (b ∷ t) h → length s ≡ length t → a ∷ s ≡ b ∷ t
@@ -46,13 +47,13 @@ found n h (Some k) a m close cpast c past r older e from_round node u =
     let same : a.correct ∷ a.past ≡ c ∷ past =
     last-one n a.correct c a.past past h a.is.from_round.acts.amount from_round.acts.amount a.is.from_round.acts.stepped from_round.acts.stepped a.is.from_round.acts.shown from_round.acts.shown a.node node a.is.from_round.acts.correct from_round.acts.correct a.unchanged.within u.within
     a.unchanged.since.corrects u.since.corrects in
-    let line : a.correct ≡ c = cc in
-    let rest : a.past ≡ past = cc in
+    let line : a.correct ≡ c = first-same same in
+    let rest : a.past ≡ past = rest-same same in
     let mine : FromRound k.master a.is.close a.is.cpast c past a.is.reading a.is.older k.err =
     subst₂ (λ (i : Line) (p : List Line). FromRound k.master a.is.close a.is.cpast i p a.is.reading a.is.older k.err) line rest a.is.from_round in
     let one = from_round-one c past k.master m a.is.close close a.is.cpast cpast a.is.reading r a.is.older older k.err e mine from_round in
-    let past_is : a.is.cpast ≡ cpast = (let w = one.rounds.closes in cc) in
-    let reading : a.is.reading ≡ r = (let w = one.rounds.reading in cc) in
+    let past_is : a.is.cpast ≡ cpast = rest-same one.rounds.closes in
+    let reading : a.is.reading ≡ r = first-same one.rounds.reading in
     record {
       live = k;
       is = refl;
@@ -134,9 +135,9 @@ stands-so m close cpast h c b close_is lives_is corrects_is is u = (
   by_after (Some i) y x =
       let next : y.after.next ∷ y.after.before ≡ x.next ∷ x.before =
       last-one m y.after.next x.next y.after.before x.before h y.after.amount x.amount y.after.stepped x.stepped y.after.shown x.shown y.after.node x.node y.after.deed x.deed y.after.place x.place y.after.corrects x.corrects in
-      let before : y.after.before ≡ x.before = cc in
+      let before : y.after.before ≡ x.before = rest-same next in
       let acts : y.act ∷ y.apast ≡ close ∷ cpast = sym y.after.is ∙ (ap from_act before ∙ x.is) in
-      let past : y.apast ≡ cpast = cc in
+      let past : y.apast ≡ cpast = rest-same acts in
       ap Some (y.index_is ∙ (ap (λ (t : List Line). length t) past ∙ sym close_is))
 
 stands-but : (m : ℕ) (close : Line) (cpast h : List Line) (c : RoundCorrection) (b : NodeState) → Within (close ∷ cpast) h → c.close ≡ length cpast → c.lives ≡ lives (dids (of m (close ∷ cpast))) → c.corrects ≡ all_corrects (dids (of m (close ∷ cpast))) → NodeIs m h b → FromRoundStands c b → UnchangedBut m close cpast h
@@ -149,8 +150,8 @@ stands-but m close cpast h c b w close_is lives_is corrects_is is stands = recor
         let act : Within (y.act ∷ y.apast) y.after.before = subst (λ (k : List Line). Within k y.after.before) y.after.is (act-within y.after.before) in
         let there : Within (y.act ∷ y.apast) h = Within-through (y.act ∷ y.apast) y.after.before h act (Within-tail y.after.next y.after.before h y.after.place) in
         let same : y.act ∷ y.apast ≡ close ∷ cpast = place-one y.act close y.apast cpast h there w (sym y.index_is ∙ close_is) in
-        let line : y.act ≡ close = cc in
-        let past : y.apast ≡ cpast = cc in
+        let line : y.act ≡ close = first-same same in
+        let past : y.apast ≡ cpast = rest-same same in
         inr (subst₂ (λ (i : Line) (p : List Line). RightAfter m i p h) line past y.after)
   ];
 }
@@ -181,8 +182,8 @@ pair-back header setting h t n k a b has ai bi peers = λ c d ac bd masters clos
     let xw : Within (x.is.close ∷ x.is.cpast) h = Within-through (x.is.close ∷ x.is.cpast) x.past h x.is.from_round.closes (Within-tail x.correct x.past h x.unchanged.within) in
     let yw : Within (y.is.close ∷ y.is.cpast) h = Within-through (y.is.close ∷ y.is.cpast) y.past h y.is.from_round.closes (Within-tail y.correct y.past h y.unchanged.within) in
     let same : y.is.close ∷ y.is.cpast ≡ x.is.close ∷ x.is.cpast = place-one y.is.close x.is.close y.is.cpast x.is.cpast h yw xw (sym y.is.close_is ∙ (sym closes ∙ x.is.close_is)) in
-    let line : y.is.close ≡ x.is.close = cc in
-    let past : y.is.cpast ≡ x.is.cpast = cc in
+    let line : y.is.close ≡ x.is.close = first-same same in
+    let past : y.is.cpast ≡ x.is.cpast = rest-same same in
     let there : FromRound d.master x.is.close x.is.cpast y.correct y.past y.is.reading y.is.older d.err = subst₂ (λ (i : Line) (p : List Line). FromRound d.master i p y.correct y.past y.is.reading y.is.older d.err) line past y.is.from_round in
     let other : FromRound c.master x.is.close x.is.cpast y.correct y.past y.is.reading y.is.older d.err = subst (λ (i : ℕ). FromRound i x.is.close x.is.cpast y.correct y.past y.is.reading y.is.older d.err) (sym masters) there in
     let near : Near (clock_at setting (node_of x.correct) h t) (clock_at setting (node_of y.correct) h t) c.err d.err setting.drift t x.is.reading.did.step.at y.is.reading.did.step.at =

@@ -1,5 +1,5 @@
 -- How an agreement grows by a line.
-use Rattle.std.proofs.Common.{sym, ap, subst, ◌∙◌, arith, inl, inr, get_or, take, eqb-true, true≢false, ◌≡◌, ◌==◌, ◌<◌, ◌≤◌, ◌+◌, ℕ, ℤ, pos, Bool, true, false, MatchBool, is_some, is_none, Option, None, Some, List, [], ◌∷◌, ◌++◌, length, refl, set}
+use Rattle.std.proofs.Common.{sym, ap, subst, subst₂, ◌∙◌, arith, inl, inr, get_or, take, eqb-true, true≢false, ◌≡◌, ◌==◌, ◌<◌, ◌≤◌, ◌+◌, ℕ, ℤ, pos, Bool, true, false, MatchBool, is_some, is_none, Option, None, Some, List, [], ◌∷◌, ◌++◌, length, refl, set}
 use Rattle.std.proofs.{Math.ListN.get_or-append, Math.Seq.get_or-append_seam, lemmas.Bool.cases_lt}
 use Rattle.std.proofs.lemmas.List.{get_or_default, get_or-set_other, get_or-set_same, length-append, length-set}
 use Rattle.tsp_rules.specs.Values.{Act, Post, Message, AdjTime, PeerId, Peer, Port}
@@ -13,6 +13,7 @@ use Rattle.tsp_audit.proofs.{AgreementLemmas.clocks-agree, AgreementLemmas.clock
 use Rattle.tsp_history.specs.declared.rounds.Best.{Best}
 use Rattle.tsp_history.specs.{Histories.deed_of, Histories.history_of, Histories.line_of, declared.line.HistoryLine.HistoryLine}
 use Rattle.tsp_history.specs.Rounds.{Bests, SeenAt, TripsTell, trip_at}
+use Rattle.tsp_audit.proofs.Alike.{first-same, none-first, peer-same, rest-same}
 
 -- one blank node more
 pub blank-more : (count : ℕ) (states : List NodeState) (s : NodeState) → AreBlank count states → ((n : ℕ) → NodeIs n [] s) → AreBlank (count + 1) (states ++ s ∷ [])
@@ -56,10 +57,10 @@ trips-next : (h : List Line) (l : Line) (trips : List ℤ) → length trips ≡ 
 trips-next h l trips many tell = λ k before w. by_place k before w where
   by_place : (k : Line) (before : List Line) → Within (k ∷ before) (l ∷ h) → get_or (trips ++ trip_at l h ∷ []) (length before) (pos 0) ≡ trip_at k before
   by_place k before (inl e) =
-      let line : k ≡ l = cc in
-      let rest : before ≡ h = cc in
+      let line : k ≡ l = first-same e in
+      let rest : before ≡ h = rest-same e in
       let index : length before ≡ length trips = ap (λ (t : List Line). length t) rest ∙ sym many in
-      let both : trip_at l h ≡ trip_at k before = cc in
+      let both : trip_at l h ≡ trip_at k before = sym (subst₂ (λ (i : Line) (s : List Line). trip_at k before ≡ trip_at i s) line rest refl) in
       ap (λ (i : ℕ). get_or (trips ++ trip_at l h ∷ []) i (pos 0)) index ∙ (get_or-append_seam trips (trip_at l h) [] (pos 0) ∙ both)
   by_place k before (inr w) =
       let lt : length before < length trips = omega (arith, Within-length (k ∷ before) h w, many) in
@@ -81,7 +82,7 @@ agreement-blank count a few blank trips last = record {
   few = few;
   many = blank.many;
   lines = ap (λ (t : List ℤ). length t) trips;
-  trips_tell = λ l before w. (let bad : ⊥ = cc in absurd bad);
+  trips_tell = λ l before w. absurd (none-first w);
   last_is = subst (λ (o : Option ℕ). FirstIs [] o) (sym last) refl;
   nodes_are = λ n s at. blank.blank n s at n;
 }
@@ -91,19 +92,19 @@ pub rests-told : (l : Line) (seen : List Seen) (p : PeerId) (m : MessageValue) (
     MatchBool b (RestsOnSample l seen) (RestsOnSample l seen → ⊥)
 rests-told l seen p m true deed kind act good = λ q o close older d k t closes.
     let deeds : Acts (Post (Peer p) (Message m)) ≡ Acts (Post (Peer q) (Message o)) = sym deed ∙ d in
-    let who : p ≡ q = cc in
+    let who : p ≡ q = peer-same deeds in
     subst (λ (r : PeerId). is_some (best r older) ≡ true) who (good close older closes)
 rests-told l seen p m false deed kind act bad = λ f. bad (λ close older closes. f p m close older deed kind act closes)
 
 pub sample-told : (ns : List HistoryLine) (n : ℕ) (q : Port) (p : PeerId) (i : ℕ) (o : Option Best) (b : Bool) → SeenAt ns n q (closed (view q (of n (history_of ns)))) i → Bests (take i ns) n q (best p (view q (of n (history_of (take i ns))))) o → b ≡ is_some o →
     MatchBool b (RestsOn p (view q (of n (history_of ns)))) (RestsOn p (view q (of n (history_of ns))) → ⊥)
-sample-told ns n q p i None true s none e = let bad : ⊥ = cc in absurd bad
+sample-told ns n q p i None true s none e = absurd (true≢false e)
 sample-told ns n q p i None false s none e = λ f. true≢false (sym (f (line_of s.noted).did (view q (of n (history_of (take i ns)))) s.is) ∙ ap is_some none)
 sample-told ns n q p i (Some b) true s best_is e = λ close older closes.
     let both : Here (line_of s.noted).did ∷ view q (of n (history_of (take i ns))) ≡ Here close ∷ older = sym s.is ∙ closes in
-    let rest : view q (of n (history_of (take i ns))) ≡ older = cc in
+    let rest : view q (of n (history_of (take i ns))) ≡ older = rest-same both in
     ap (λ (t : List Seen). is_some (best p t)) (sym rest) ∙ ap is_some best_is.is
-sample-told ns n q p i (Some b) false s best_is e = let bad : ⊥ = cc in absurd bad
+sample-told ns n q p i (Some b) false s best_is e = absurd (true≢false (sym e))
 
 -- the clocks after an act tell whether it keeps that clocks agree
 pub agrees-told : (header : HeaderValue) (setting : Setting) (count : ℕ) (l : Line) (h : List Line) (a : AgreementTracker) (act : Act) (b : Bool) → HasClocks header setting → Numbered count (l ∷ h) → AgreementIs count (l ∷ h) a → RestsOnSample l (view l.port (of (node_of l) h)) → l.did.deed ≡ Acts act →
@@ -127,7 +128,7 @@ kept-at h states i s a lt is = a i s (record { below = lt; is = is })
 
 -- a line that is no mark is an act
 pub act-some : (o : Option Act) → is_none o ≡ false → (a : Act) × (deed_of o ≡ Acts a)
-act-some None e = let bad : ⊥ = cc in absurd bad
+act-some None e = absurd (true≢false e)
 act-some (Some a) e = (a, refl)
 
 pub trips-less : (l : Line) (h : List Line) (trips : List ℤ) → TripsTell (l ∷ h) trips → TripsTell h trips

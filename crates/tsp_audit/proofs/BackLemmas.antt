@@ -9,20 +9,21 @@ use Rattle.tsp_base.proofs.ViewPlaces.{or-false, port-same}
 use Rattle.tsp_audit.specs.Backing.{Backs, Settled, deed_backs, is_stand, is_standing, post_backs}
 use Rattle.tsp_history.specs.Holding.{HoldsApart}
 use Rattle.tsp_rules.proofs.GuardFacts.{same_peer}
+use Rattle.tsp_audit.proofs.Alike.{back-same, message-same, none-some, place-same, some-same}
 
 kept : (b was : Bool) → (if b then false else was) ≡ true → was ≡ true
-kept true was e = let bad : ⊥ = cc in absurd bad
+kept true was e = absurd (true≢false (sym e))
 kept false was e = e
 
 standing : (deed : Deed) (own : ℕ) (was : Bool) → is_unbacked_after deed own was ≡ true → (was ≡ true) ⊎ (is_standing deed ≡ true)
-standing Begins own was e = inl (let bad : ⊥ = cc in absurd bad)
+standing Begins own was e = absurd (true≢false (sym e))
 standing (Acts (Become Candidate)) own was e = inr refl
 standing (Acts (Back p)) own was e = inl (kept (p.0 == own) was e)
 standing _ own was e = inl e
 
 own-deed : (deed : Deed) → is_standing deed ≡ true → is_shared deed ≡ false
 own-deed (Acts (Become Candidate)) e = refl
-own-deed _ e = let bad : ⊥ = cc in absurd bad
+own-deed _ e = absurd (true≢false (sym e))
 
 -- a line makes port q of node n a candidate
 pub record Stands (l : Line) (n : ℕ) (q : Port) : Type 0 where
@@ -47,16 +48,16 @@ pub unbacked-more : (l : Line) (h : List Line) (n : ℕ) (q : Port) → is_unbac
 unbacked-more l h n q e = by_node l h n q (node_of l == n) refl e
 
 pub neither : (a b r : Bool) → r ≡ (a && b) → r ≡ false → a ≡ true → b ≡ true → ⊥
-neither true true r e f p q = cc
-neither true false r e f p q = cc
-neither false b r e f p q = cc
+neither true true r e f p q = true≢false (sym e ∙ f)
+neither true false r e f p q = true≢false (sym q)
+neither false b r e f p q = true≢false (sym p)
 
 -- a Back keeps the hold where each line before stands apart from it
 pub held-decides : (b : Bool) (l : Line) (world : List Line) (p : PeerId) → l.did.deed ≡ Acts (Back p) →
     MatchBool b (Everywhere (λ other older. HoldsApart (node_of l) l.port l.did.tick p other) world) (Everywhere (λ other older. HoldsApart (node_of l) l.port l.did.tick p other) world → ⊥) →
     MatchBool b (HoldsAt l world) (HoldsAt l world → ⊥)
 held-decides true l world p deed all = λ c q other older d w n t o.
-    let same : p ≡ c = cc in
+    let same : p ≡ c = back-same (sym deed ∙ d) in
     let apart : HoldsApart (node_of l) l.port l.did.tick p other = Everywhere-at (λ other older. HoldsApart (node_of l) l.port l.did.tick p other) other older world all w in
     subst (λ (k : PeerId). (q ≡ k) ⊎ (other.did.tick + HOLD ≤ l.did.tick)) same (apart q n t o)
 held-decides false l world p deed bad = λ f. bad (Everywhere-from (λ other older. HoldsApart (node_of l) l.port l.did.tick p other) world (λ other older w c n t o. f p c other older deed w n t o))
@@ -81,44 +82,64 @@ pub ends-decide : (b : Bool) (h : List Line) → Everywhere Backs h → MatchBoo
 ends-decide true h e s = record { holds = holds-part h e; backs = backs-part h e; ends = λ n q. s n q refl }
 ends-decide false h e bad = λ all. bad (settled h all)
 
+abbrev begins : Deed → Bool
+begins Begins = true
+begins (Acts a) = false
+
+abbrev posts_message : Deed → Bool
+posts_message (Acts (Post to (Message m))) = true
+posts_message _ = false
+
+abbrev is_accept : Kind → Bool
+is_accept Accept = true
+is_accept _ = false
+
+abbrev is_election : Kind → Bool
+is_election Election = true
+is_election _ = false
+
+-- an act that posts no message keeps to whom its step has backed
+silent : (l : Line) (world : List Line) (a : Act) → l.did.deed ≡ Acts a → posts_message (Acts a) ≡ false → BacksAt l world
+silent l world a deed quiet = record {
+  accepts = λ t n is kind. absurd (true≢false (ap posts_message (sym is ∙ deed) ∙ quiet));
+  asks = λ t n is kind. absurd (true≢false (ap posts_message (sym is ∙ deed) ∙ quiet));
+  ends = λ is q. absurd (true≢false (ap begins (sym is ∙ deed)));
+}
+
 -- a post keeps to whom its step has backed where what its kind asks holds
 keeps-post : (l : Line) (world : List Line) (to : Place) (m : MessageValue) → l.did.deed ≡ Acts (Post to (Message m)) → (m.kind ≡ Accept → IsBacked to (backed (view l.port (of (node_of l) world)))) →
     (m.kind ≡ Election → is_unbacked (view l.port (of (node_of l) world)) ≡ false) → BacksAt l world
 keeps-post l world to m deed accepts asks = record {
-  accepts = λ t n is kind. let place : to ≡ t = cc in let same : m ≡ n = cc in
+  accepts = λ t n is kind. let place : to ≡ t = place-same (sym deed ∙ is) in let same : m ≡ n = message-same (sym deed ∙ is) in
       subst (λ (z : Place). IsBacked z (backed (view l.port (of (node_of l) world)))) place (accepts (ap (λ (z : MessageValue). z.kind) same ∙ kind));
-  asks = λ t n is kind. let same : m ≡ n = cc in asks (ap (λ (z : MessageValue). z.kind) same ∙ kind);
-  ends = λ is q. let bad : ⊥ = cc in absurd bad;
+  asks = λ t n is kind. let same : m ≡ n = message-same (sym deed ∙ is) in asks (ap (λ (z : MessageValue). z.kind) same ∙ kind);
+  ends = λ is q. absurd (true≢false (ap begins (sym is ∙ deed)));
 }
 
 -- whether it does, by its kind
 post-decides : (l : Line) (world : List Line) (to : Place) (m : MessageValue) (k : Kind) (b : Bool) (v : Option PeerId) (u : Bool) → l.did.deed ≡ Acts (Post to (Message m)) → m.kind ≡ k →
     backed (view l.port (of (node_of l) world)) ≡ v → is_unbacked (view l.port (of (node_of l) world)) ≡ u → b ≡ post_backs k to v u → MatchBool b (BacksAt l world) (BacksAt l world → ⊥)
 post-decides l world (Peer p) m Accept b None u deed kind backs asks e =
-    subst (λ (z : Bool). MatchBool z (BacksAt l world) (BacksAt l world → ⊥)) (sym e) (λ f. let k : backed (view l.port (of (node_of l) world)) ≡ Some p = f.accepts (Peer p) m deed kind in cc)
+    subst (λ (z : Bool). MatchBool z (BacksAt l world) (BacksAt l world → ⊥)) (sym e) (λ f. none-some (sym backs ∙ f.accepts (Peer p) m deed kind))
 post-decides l world (Peer p) m Accept b (Some q) u deed kind backs asks e =
     subst (λ (z : Bool). MatchBool z (BacksAt l world) (BacksAt l world → ⊥)) (sym e) (by_case (q.0 == p.0) refl)
   where
     by_case : (c : Bool) → (q.0 == p.0) ≡ c → MatchBool c (BacksAt l world) (BacksAt l world → ⊥)
-    by_case true c = keeps-post l world (Peer p) m deed (λ i. backs ∙ ap Some (same_peer q p c)) (λ i. let bad : ⊥ = cc in absurd bad)
-    by_case false c = λ f. let one : q ≡ p = (let k : backed (view l.port (of (node_of l) world)) ≡ Some p = f.accepts (Peer p) m deed kind in cc) in
+    by_case true c = keeps-post l world (Peer p) m deed (λ i. backs ∙ ap Some (same_peer q p c)) (λ i. absurd (true≢false (ap is_accept (sym kind ∙ i))))
+    by_case false c = λ f. let one : q ≡ p = some-same (sym backs ∙ f.accepts (Peer p) m deed kind) in
         true≢false (sym (eq-eqb q.0 p.0 (ap (λ (z : PeerId). z.0) one)) ∙ c)
 post-decides l world Stranger m Accept b v u deed kind backs asks e =
     subst (λ (z : Bool). MatchBool z (BacksAt l world) (BacksAt l world → ⊥)) (sym e) (λ f. f.accepts Stranger m deed kind)
 post-decides l world to m Election b v true deed kind backs asks e =
     subst (λ (z : Bool). MatchBool z (BacksAt l world) (BacksAt l world → ⊥)) (sym e) (λ f. true≢false (sym asks ∙ f.asks to m deed kind))
 post-decides l world to m Election b v false deed kind backs asks e =
-    subst (λ (z : Bool). MatchBool z (BacksAt l world) (BacksAt l world → ⊥)) (sym e) (keeps-post l world to m deed (λ i. let bad : ⊥ = cc in absurd bad) (λ i. asks))
+    subst (λ (z : Bool). MatchBool z (BacksAt l world) (BacksAt l world → ⊥)) (sym e) (keeps-post l world to m deed (λ i. absurd (true≢false (ap is_accept (sym i ∙ kind)))) (λ i. asks))
 post-decides l world to m _ b v u deed kind backs asks e =
-    subst (λ (z : Bool). MatchBool z (BacksAt l world) (BacksAt l world → ⊥)) (sym e) (keeps-post l world to m deed (λ i. let bad : ⊥ = cc in absurd bad) (λ i. let bad : ⊥ = cc in absurd bad))
+    subst (λ (z : Bool). MatchBool z (BacksAt l world) (BacksAt l world → ⊥)) (sym e) (keeps-post l world to m deed (λ i. absurd (true≢false (ap is_accept (sym i ∙ kind)))) (λ i. absurd (true≢false (ap is_election (sym i ∙ kind)))))
 
 -- an act keeps to whom its step has backed where it is decided so
 pub votes-decide : (b : Bool) (l : Line) (world : List Line) (a : Act) → l.did.deed ≡ Acts a →
     b ≡ deed_backs (Acts a) (backed (view l.port (of (node_of l) world))) (is_unbacked (view l.port (of (node_of l) world))) → MatchBool b (BacksAt l world) (BacksAt l world → ⊥)
 votes-decide b l world (Post to (Message m)) deed e =
     post-decides l world to m m.kind b (backed (view l.port (of (node_of l) world))) (is_unbacked (view l.port (of (node_of l) world))) deed refl refl refl e
-votes-decide b l world _ deed e = subst (λ (z : Bool). MatchBool z (BacksAt l world) (BacksAt l world → ⊥)) (sym e) (record {
-  accepts = λ t n is kind. let bad : ⊥ = cc in absurd bad;
-  asks = λ t n is kind. let bad : ⊥ = cc in absurd bad;
-  ends = λ is q. let bad : ⊥ = cc in absurd bad;
-})
+votes-decide b l world _ deed e = subst (λ (z : Bool). MatchBool z (BacksAt l world) (BacksAt l world → ⊥)) (sym e) (silent l world _ deed refl)

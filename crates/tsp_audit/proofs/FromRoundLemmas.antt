@@ -6,12 +6,13 @@ use Rattle.tsp_promises.specs.{Agreed.FromRound, Agreed.ReadingOf, Fits.node_of,
 use Rattle.tsp_base.proofs.PlaceLemmas.{Within-tail, Within-through}
 use Rattle.tsp_promises.proofs.{HistoryPlaces.line_on, OwnFitsProof.seen_same}
 use Rattle.tsp_promises.proofs.SendPlaces.{post_unique, posted-mono, posted-post, same-number}
-use Rattle.tsp_audit.proofs.{Prefixes.history-within, SendPlaces.brings-one, SendPlaces.send-number, TakeLemmas.same-noted}
-use Rattle.tsp_audit.specs.{Acting.TakesSend, Agreeing.FromRoundAs, Agreeing.IsFromNoRound}
+use Rattle.tsp_audit.proofs.{Prefixes.history-within, SendPlaces.brings-one, SendPlaces.send-number, TakeLemmas.same-noted, Alike.here-same}
+use Rattle.tsp_audit.{specs.Acting.TakesSend, specs.Agreeing.FromRoundAs, specs.Agreeing.IsFromNoRound, proofs.Alike.first-same}
 use Rattle.tsp_audit.specs.FromRounds.{BegunAt, HasNoRound, IsAdjusting, RoundAs, Rounds}
 use Rattle.tsp_audit.specs.declared.round_correction.RoundCorrection.{RoundCorrection}
 use Rattle.tsp_history.specs.declared.line.HistoryLine.{HistoryLine}
 use Rattle.tsp_history.specs.{Histories.deed_of, Histories.history_of, Histories.line_of, Posts.PostsAt}
+use Rattle.tsp_audit.proofs.Alike.{message-same, rest-same, some-same}
 
 -- what a port sees as its own at one place is one line
 pub lines-one : (m : ℕ) (q : Port) (world : List Line) (a b : Line) (s t : List Line) → node_of a ≡ m → node_of b ≡ m → a.port ≡ q → b.port ≡ q → Within (a ∷ s) world → Within (b ∷ t) world →
@@ -25,7 +26,7 @@ lines-one m q world a b s t na nb pa pb va vb e =
 reading-one : (m : ℕ) (q : Port) (place : List Seen) (world : List Line) (r s : Line) (older rest : List Line) → ReadingOf m q place world r older → ReadingOf m q place world s rest → r ∷ older ≡ s ∷ rest
 reading-one m q place world r s older rest x y =
     let lines : x.line ∷ x.before ≡ y.line ∷ y.before = lines-one m q world x.line y.line x.before y.before x.node y.node x.port y.port x.at y.at (sym x.is ∙ y.is) in
-    let line : x.line ≡ y.line = cc in
+    let line : x.line ≡ y.line = first-same lines in
     let number : posted (dids older) ≡ posted (dids rest) = same-number (posted (dids older)) (posted (dids rest)) (sym x.takes ∙ (ap (λ (l : Line). l.did.step.cause) line ∙ y.takes)) in
     post_unique world r s older rest x.to y.to x.datagram y.datagram (Within-through (r ∷ older) x.before world x.reads (Within-tail x.line x.before world x.at))
     (Within-through (s ∷ rest) y.before world y.reads (Within-tail y.line y.before world y.at)) x.deed y.deed number
@@ -40,9 +41,9 @@ pub rounds-one : (m : ℕ) (q : Port) (k : ℕ) (seen : List Seen) (world : List
     Rounds m q k seen world close cpast r older e → Rounds m q k seen world other opast s rest f → RoundOne close other cpast opast r s older rest e f
 rounds-one m q k seen world close other cpast opast r s older rest e f a b =
     let closes : close ∷ cpast ≡ other ∷ opast = lines-one m q world close other cpast opast a.close_node b.close_node a.close_port b.close_port a.closes b.closes (sym a.close_is ∙ b.close_is) in
-    let past : cpast ≡ opast = cc in
+    let past : cpast ≡ opast = rest-same closes in
     let samples : Some a.sample ≡ Some b.sample = sym a.best_is ∙ (ap (λ (t : List Line). best (peer_of k) (view q (of m t))) past ∙ b.best_is) in
-    let sample : a.sample ≡ b.sample = cc in
+    let sample : a.sample ≡ b.sample = some-same samples in
     record {
       closes = closes;
       reading = reading-one m q a.sample.place world r s older rest a.reading (subst (λ (x : Sampled). ReadingOf m q x.place world s rest) (sym sample) b.reading);
@@ -86,8 +87,8 @@ record SendOne (p : Line) (b : List Line) (first : Did) (begun : List Seen) (o :
 send-one : (l : Line) (h : List Line) (p o : Line) (b c : List Line) (first start : Did) (begun past : List Seen) → ActsOn l h p b → ActsOn l h o c → OfSend (node_of l) p b first begun → OfSend (node_of l) o c start past → SendOne p b first begun o c start past
 send-one l h p o b c first start begun past x y s t =
     let e : p ∷ b ≡ o ∷ c = brings-one l h p o b c x.brings y.brings in
-    let post : p ≡ o = cc in
-    let rest : b ≡ c = cc in
+    let post : p ≡ o = first-same e in
+    let rest : b ≡ c = rest-same e in
     let seen : begun_to (peer_of (node_of l)) (Here p.did ∷ view p.port (of (node_of p) b)) ≡ begun_to (peer_of (node_of l)) (Here o.did ∷ view o.port (of (node_of o) c)) =
     subst₂ (λ (i : Line) (t : List Line). begun_to (peer_of (node_of l)) (Here p.did ∷ view p.port (of (node_of p) b)) ≡ begun_to (peer_of (node_of l)) (Here i.did ∷ view i.port (of (node_of i) t))) post rest refl in
     record { post = post; send = sym s.is ∙ (seen ∙ t.is) }
@@ -101,7 +102,7 @@ pub from_round-one : (l : Line) (h : List Line) (m n : ℕ) (close other : Line)
     FromRound m close cpast l h r older e → FromRound n other opast l h s rest f → FromOneRound m n close other cpast opast r s older rest e f
 from_round-one l h m n close other cpast opast r s older rest e f a b =
     let one = send-one l h a.post b.post a.before b.before a.first b.first a.begun b.begun a.acts b.acts a.of_send b.of_send in
-    let begun : a.begun ≡ b.begun = (let k = one.send in cc) in
+    let begun : a.begun ≡ b.begun = rest-same one.send in
     let master : m ≡ n = sym a.node ∙ (ap node_of one.post ∙ b.node) in
     let port : a.post.port ≡ b.post.port = ap (λ (i : Line). i.port) one.post in
     let there : Rounds m a.post.port (node_of l) b.begun h other opast s rest f = subst₂ (λ (i : ℕ) (p : Port). Rounds i p (node_of l) b.begun h other opast s rest f) (sym master) (sym port) (from_round-rounds n other opast l h s rest f b) in
@@ -151,7 +152,7 @@ begun-from_round ns l i c x r =
 pub begun-none : (ns : List HistoryLine) (l : Line) (i : ℕ) → (x : BegunAt ns l i) → HasNoRound x.noted.node x.noted.port (node_of l) (history_of (take i ns)) → IsFromNoRound l (history_of ns)
 begun-none ns l i x none = λ m close cpast r older e c.
     let one = send-one l (history_of ns) c.post x.post c.before x.before c.first (line_of x.noted).did c.begun (view x.noted.port (of x.noted.node (history_of (take i ns)))) c.acts x.acts c.of_send x.of_send in
-    let begun : c.begun ≡ view x.noted.port (of x.noted.node (history_of (take i ns))) = (let k = one.send in cc) in
+    let begun : c.begun ≡ view x.noted.port (of x.noted.node (history_of (take i ns))) = rest-same one.send in
     let master : m ≡ x.noted.node = sym c.node ∙ (ap node_of one.post ∙ x.node) in
     let port : c.post.port ≡ x.noted.port = ap (λ (j : Line). j.port) one.post ∙ x.port in
     let there : Rounds x.noted.node x.noted.port (node_of l) c.begun (history_of ns) close cpast r older e =
@@ -186,8 +187,8 @@ first-there ns l s i noted t p is =
 first-seen : (ns : List HistoryLine) (l : Line) (s i : ℕ) (noted : HistoryLine) → (t : TakesSend l (history_of ns) s) → PostsAt ns s i → get_or ns i noted ≡ noted → Here t.first ∷ t.begun ≡ Here (line_of noted).did ∷ view noted.port (of noted.node (history_of (take i ns)))
 first-seen ns l s i noted t p is =
     let there : t.at.line ∷ t.at.before ≡ line_of noted ∷ history_of (take i ns) = first-there ns l s i noted t p is in
-    let line : t.at.line ≡ line_of noted = cc in
-    let rest : t.at.before ≡ history_of (take i ns) = cc in
+    let line : t.at.line ≡ line_of noted = first-same there in
+    let rest : t.at.before ≡ history_of (take i ns) = rest-same there in
     let own : Here t.first ∷ t.begun ≡ Here t.at.line.did ∷ view t.at.line.port (of (node_of t.at.line) t.at.before) =
     subst₂ (λ (n : ℕ) (q : Port). Here t.first ∷ t.begun ≡ Here t.at.line.did ∷ view q (of n t.at.before)) (sym t.at.node) (sym t.at.port) t.at.is in
     subst₂ (λ (j : Line) (b : List Line). Here t.first ∷ t.begun ≡ Here j.did ∷ view j.port (of (node_of j) b)) line rest own
@@ -196,20 +197,20 @@ pub begun-other : (ns : List HistoryLine) (l : Line) (s i : ℕ) (noted : Histor
 begun-other ns l s i noted t p is bad = λ m close cpast r older e c.
     let one = send-one l (history_of ns) c.post t.post c.before t.older c.first t.first c.begun t.begun c.acts t.acts c.of_send t.of_send in
     let both : Here c.first ∷ c.begun ≡ Here (line_of noted).did ∷ view noted.port (of noted.node (history_of (take i ns))) = one.send ∙ first-seen ns l s i noted t p is in
-    let first : c.first ≡ (line_of noted).did = cc in
+    let first : c.first ≡ (line_of noted).did = here-same both in
     bad (record { to = Peer (peer_of (node_of l)); message = c.message; is = sym (ap (λ (d : Did). d.deed) first) ∙ c.begins; kind = c.kind })
 
 pub begun-found : (ns : List HistoryLine) (l : Line) (s i : ℕ) (noted : HistoryLine) → TakesSend l (history_of ns) s → PostsAt ns s i → get_or ns i noted ≡ noted → IsAdjusting (deed_of noted.act) → BegunAt ns l i
 begun-found ns l s i noted t p is adjusts =
     let same : p.noted ≡ noted = same-noted ns i p.noted noted p.below p.noted_is is in
     let there : t.at.line ∷ t.at.before ≡ line_of noted ∷ history_of (take i ns) = first-there ns l s i noted t p is in
-    let line : t.at.line ≡ line_of noted = cc in
+    let line : t.at.line ≡ line_of noted = first-same there in
     let seen : Here t.first ∷ t.begun ≡ Here (line_of noted).did ∷ view noted.port (of noted.node (history_of (take i ns))) = first-seen ns l s i noted t p is in
-    let first : t.first ≡ (line_of noted).did = cc in
+    let first : t.first ≡ (line_of noted).did = here-same seen in
     let b = send-number (node_of l) t.post t.older t.first t.begun t.of_send in
     let begins : deed_of noted.act ≡ Acts (Post (Peer (peer_of (node_of l))) (Message b.message)) = sym (ap (λ (d : Did). d.deed) first) ∙ b.deed in
     let deeds : Acts (Post adjusts.to (Message adjusts.message)) ≡ Acts (Post (Peer (peer_of (node_of l))) (Message b.message)) = sym adjusts.is ∙ begins in
-    let message : adjusts.message ≡ b.message = cc in
+    let message : adjusts.message ≡ b.message = message-same deeds in
     record {
       noted = noted;
       at = record { below = p.below; noted_is = is; within = subst (λ (n : HistoryLine). Within (line_of n ∷ history_of (take i ns)) (history_of ns)) same p.within };

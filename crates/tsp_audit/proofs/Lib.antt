@@ -9,6 +9,7 @@ pub mod MeasureLemmas
 pub mod NearLemmas
 pub mod NumberedLemmas
 pub mod Prefixes
+mod Alike
 mod RunClaims
 pub mod SampleLemmas
 pub mod SendPlaces

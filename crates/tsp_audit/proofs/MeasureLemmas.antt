@@ -12,6 +12,7 @@ use Rattle.tsp_audit.specs.Measuring.{IsWithinError, MeasuresAt, Replies, Replie
 use Rattle.tsp_history.proofs.HistoryLemmas.{history-more}
 use Rattle.tsp_audit.proofs.TakeLemmas.{came-cause, came-there, came-within, clock-set, same-noted, unposted}
 use Rattle.tsp_history.specs.{Histories.history_of, Histories.line_of, Rounds.AskedAt, declared.line.HistoryLine.HistoryLine}
+use Rattle.tsp_audit.proofs.Alike.{first-same, here-same, rest-same, sample-same}
 
 -- no reply comes that was never posted
 pub replies-none : (l : Line) (h : List Line) (p : PeerId) → IsUnposted l h → (post : Line) (older : List Line) → Replies l h p post older → ⊥
@@ -21,7 +22,7 @@ pub replies-other : (ns : List HistoryLine) (l : Line) (p : PeerId) (i : ℕ) (n
     (post : Line) (older : List Line) → Replies l (history_of ns) p post older → ⊥
 replies-other ns l p i noted came is bad post older r =
     let place : post ∷ older ≡ line_of noted ∷ history_of (take i ns) = came-there ns l i noted came is post older (Peer (peer_of (node_of l))) (Stamp (Reply r.posts.reply)) r.place r.takes r.posts.deed in
-    let line : post ≡ line_of noted = cc in
+    let line : post ≡ line_of noted = first-same place in
     bad (subst (λ (m : Line). RepliesTo m p (node_of l)) line r.posts)
 
 pub replies-found : (ns : List HistoryLine) (l : Line) (p : PeerId) (i : ℕ) (noted : HistoryLine) → CameAt ns l i → get_or ns i noted ≡ noted → RepliesTo (line_of noted) p (node_of l) → RepliesAt ns l p i
@@ -75,9 +76,9 @@ pub measured-line : (setting : Setting) (l : Line) (h : List Line) (p : PeerId) 
     MatchBool b (ReadBy setting l h p diff err) (ReadBy setting l h p diff err → ⊥) → MatchBool b (MeasuredAt setting l h) (MeasuredAt setting l h → ⊥)
 measured-line setting l h p counter diff err number true deed good = λ q c d e n told.
     let deeds : Acts (Sample p counter diff err number) ≡ Acts (Sample q c d e n) = sym deed ∙ told in
-    let who : p ≡ q = cc in
-    let far : diff ≡ d = cc in
-    let most : err ≡ e = cc in
+    let who : p ≡ q = (sample-same deeds).0 in
+    let far : diff ≡ d = (sample-same deeds).2 in
+    let most : err ≡ e = (sample-same deeds).3 in
     subst (λ (x : PeerId). ReadBy setting l h x d e) who (subst₂ (λ (x y : ℤ). ReadBy setting l h p x y) far most good)
 measured-line setting l h p counter diff err number false deed bad = λ f. bad (f p counter diff err number deed)
 
@@ -98,8 +99,8 @@ trip-decides l h p counter err start now b going asked now_is m = by_case b m wh
   }
   by_case false bad = λ t.
       let places : Here asked.request ∷ asked.older ≡ Here t.request ∷ t.older = sym asked.is ∙ t.exchange_is in
-      let request : asked.request ≡ t.request = cc in
-      let rest : asked.older ≡ t.older = cc in
+      let request : asked.request ≡ t.request = here-same places in
+      let rest : asked.older ≡ t.older = rest-same places in
       let begins : target (plain t.older) t.request.tick ≡ start = subst₂ (λ (r : Did) (o : List Seen). target (plain o) r.tick ≡ start) request rest (sym asked.target_is) in
       bad (subst₂ (λ (x y : ℤ). err ≡ half_up (x -ℤ y)) ends begins t.err_is)
 
@@ -107,9 +108,9 @@ pub trip-line : (l : Line) (h : List Line) (p : PeerId) (counter : ℕ) (diff er
     MatchBool b (TripOf l (view l.port (of (node_of l) h)) p counter err) (TripOf l (view l.port (of (node_of l) h)) p counter err → ⊥) → MatchBool b (TripAt l h) (TripAt l h → ⊥)
 trip-line l h p counter diff err number true deed good = λ q c d e n told.
     let deeds : Acts (Sample p counter diff err number) ≡ Acts (Sample q c d e n) = sym deed ∙ told in
-    let who : p ≡ q = cc in
-    let under : counter ≡ c = cc in
-    let half : err ≡ e = cc in
+    let who : p ≡ q = (sample-same deeds).0 in
+    let under : counter ≡ c = (sample-same deeds).1 in
+    let half : err ≡ e = (sample-same deeds).3 in
     subst (λ (x : PeerId). TripOf l (view l.port (of (node_of l) h)) x c e) who (subst₂ (λ (x : ℕ) (y : ℤ). TripOf l (view l.port (of (node_of l) h)) p x y) under half good)
 trip-line l h p counter diff err number false deed bad = λ f. bad (f p counter diff err number deed)
 

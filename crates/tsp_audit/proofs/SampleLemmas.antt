@@ -12,6 +12,7 @@ use Rattle.tsp_audit.specs.{Agreeing.FromRoundAs, Agreeing.IsFromNoRound, declar
 use Rattle.tsp_audit.specs.FromRounds.{BegunAt, HasNoRound, RoundAs, Rounds, TakesNone, TakesThen}
 use Rattle.tsp_history.specs.{Histories.deed_of, Histories.history_of, Histories.line_of, Posts.PostsAt, declared.rounds.Best.Best}
 use Rattle.tsp_history.specs.{Rounds.BestAt, Rounds.SeenAt, Rounds.TripsTell, declared.line.HistoryLine.HistoryLine}
+use Rattle.tsp_audit.proofs.Alike.{first-same, rest-same, some-same}
 
 -- the index of a line is how many stand before it
 pub history-length : (ns : List HistoryLine) (i : ℕ) → i ≤ length ns → length (history_of (take i ns)) ≡ i
@@ -43,7 +44,7 @@ close-there ns n q k i world close cpast r older e w s x =
 pub sample-none : (ns : List HistoryLine) (n : ℕ) (q : Port) (k i : ℕ) → SeenAt ns n q (closed (view q (of n (history_of ns)))) i → best (peer_of k) (view q (of n (history_of (take i ns)))) ≡ None → HasNoRound n q k (history_of ns)
 sample-none ns n q k i s none = λ world close cpast r older e w x.
     let there : close ∷ cpast ≡ line_of s.noted ∷ history_of (take i ns) = close-there ns n q k i world close cpast r older e w s x in
-    let past : cpast ≡ history_of (take i ns) = cc in
+    let past : cpast ≡ history_of (take i ns) = rest-same there in
     let both : Some x.sample ≡ None = sym x.best_is ∙ (ap (λ (t : List Line). best (peer_of k) (view q (of n t))) past ∙ none) in
     let bad : ⊥ = cc in
     bad
@@ -52,16 +53,16 @@ pub reading-none : (ns : List HistoryLine) (n : ℕ) (q : Port) (k i : ℕ) (b :
     get_or (take i ns) b.index noted ≡ noted → TakesNone (history_of (take b.index (take i ns))) (line_of noted) → HasNoRound n q k (history_of ns)
 reading-none ns n q k i b noted s best_is is none = λ world close cpast r older e w x.
     let there : close ∷ cpast ≡ line_of s.noted ∷ history_of (take i ns) = close-there ns n q k i world close cpast r older e w s x in
-    let past : cpast ≡ history_of (take i ns) = cc in
+    let past : cpast ≡ history_of (take i ns) = rest-same there in
     let both : Some x.sample ≡ Some best_is.sampled = sym x.best_is ∙ (ap (λ (t : List Line). best (peer_of k) (view q (of n t))) past ∙ best_is.is) in
-    let sample : x.sample ≡ best_is.sampled = cc in
+    let sample : x.sample ≡ best_is.sampled = some-same both in
     let p = best_is.place in
     let here : Within (line_of p.noted ∷ history_of (take b.index (take i ns))) world =
     Within-through (line_of p.noted ∷ history_of (take b.index (take i ns))) (history_of (take i ns)) world p.at.within (Within-through (history_of (take i ns)) (history_of ns) world (history-within ns i) w) in
     let line_is : x.reading.line ∷ x.reading.before ≡ line_of p.noted ∷ history_of (take b.index (take i ns)) =
     lines-one n q world x.reading.line (line_of p.noted) x.reading.before (history_of (take b.index (take i ns))) x.reading.node p.node x.reading.port p.port x.reading.at here (sym x.reading.is ∙ (ap (λ (y : Sampled). y.place) sample ∙ p.is)) in
-    let line : x.reading.line ≡ line_of p.noted = cc in
-    let before : x.reading.before ≡ history_of (take b.index (take i ns)) = cc in
+    let line : x.reading.line ≡ line_of p.noted = first-same line_is in
+    let before : x.reading.before ≡ history_of (take b.index (take i ns)) = rest-same line_is in
     let same : p.noted ≡ noted = same-noted (take i ns) b.index p.noted noted p.at.below p.at.noted_is is in
     let cause : (line_of noted).did.step.cause ≡ Came (posted (dids older)) = ap (λ (l : Line). l.did.step.cause) (sym (line ∙ ap line_of same)) ∙ x.reading.takes in
     let few : posted (dids (history_of (take b.index (take i ns)))) ≤ posted (dids older) = none (posted (dids older)) cause in

@@ -9,6 +9,7 @@ use Rattle.tsp_promises.proofs.OwnFitsProof.{locate, view-line, seen_same}
 use Rattle.tsp_promises.proofs.SendPlaces.{post_unique, same-number, not-shared}
 use Rattle.tsp_audit.specs.Acting.{TakesSend}
 use Rattle.tsp_history.specs.PostedPlaces.{PostedAt}
+use Rattle.tsp_audit.proofs.Alike.{first-same, here-same, rest-same}
 
 -- the place where the last send to p began, and the message that begins it
 pub record Begun (n : ℕ) (q : Port) (p : PeerId) (h : List Line) (first : Did) (older : List Seen) : Type 0 where
@@ -43,13 +44,13 @@ begun-told n q p h first older e =
 pub one-place : (world : List Line) (n m : ℕ) (q r : Port) (h k : List Line) (seen sight : List Seen) (s : ℕ) → Within h world → Within k world → PostedAt n q h seen s → PostedAt m r k sight s → seen ≡ sight
 one-place world n m q r h k seen sight s v w a b =
     let e : a.line ∷ a.before ≡ b.line ∷ b.before = post_unique world a.line b.line a.before b.before a.to b.to a.datagram b.datagram (Within-through (a.line ∷ a.before) h world a.within v) (Within-through (b.line ∷ b.before) k world b.within w) a.deed b.deed (a.number ∙ sym b.number) in
-    let line : a.line ≡ b.line = cc in
-    let rest : a.before ≡ b.before = cc in
+    let line : a.line ≡ b.line = first-same e in
+    let rest : a.before ≡ b.before = rest-same e in
     let node : n ≡ m = sym a.node ∙ (ap node_of line ∙ b.node) in
     let port : q ≡ r = sym a.port ∙ (ap (λ (l : Line). l.port) line ∙ b.port) in
     let did : a.line.did ≡ b.line.did = ap (λ (l : Line). l.did) line in
     let view_is : view q (of n a.before) ≡ view r (of m b.before) = subst₂ (λ (i : ℕ) (p : Port). view q (of n a.before) ≡ view p (of i b.before)) node port (ap (λ (t : List Line). view q (of n t)) rest) in
-    let same : Here a.line.did ∷ view q (of n a.before) ≡ Here b.line.did ∷ view r (of m b.before) = cc in
+    let same : Here a.line.did ∷ view q (of n a.before) ≡ Here b.line.did ∷ view r (of m b.before) = subst₂ (λ (d : Did) (s : List Seen). Here a.line.did ∷ view q (of n a.before) ≡ Here d ∷ s) did view_is refl in
     a.is ∙ (same ∙ sym b.is)
 
 on-port : (l : Line) (q : Port) → l.port ≡ q → l ≡ line_on q l.did
@@ -59,13 +60,13 @@ on-port l q e = subst (λ (p : Port). l ≡ line_on p l.did) e refl
 pub one-number : (world : List Line) (n m : ℕ) (q r : Port) (h k : List Line) (seen sight : List Seen) (s t : ℕ) → Within h world → Within k world → PostedAt n q h seen s → PostedAt m r k sight t → seen ≡ sight → s ≡ t
 one-number world n m q r h k seen sight s t v w a b e =
     let same : Here a.line.did ∷ view q (of n a.before) ≡ Here b.line.did ∷ view r (of m b.before) = sym a.is ∙ (e ∙ b.is) in
-    let did : a.line.did ≡ b.line.did = cc in
+    let did : a.line.did ≡ b.line.did = here-same same in
     let node : n ≡ m = sym a.node ∙ (ap (λ (d : Did). d.step.node) did ∙ b.node) in
     let there : Within (line_on q a.line.did ∷ a.before) world = subst (λ (l : Line). Within (l ∷ a.before) world) (on-port a.line q a.port) (Within-through (a.line ∷ a.before) h world a.within v) in
     let here : Within (line_on r b.line.did ∷ b.before) world = subst (λ (l : Line). Within (l ∷ b.before) world) (on-port b.line r b.port) (Within-through (b.line ∷ b.before) k world b.within w) in
     let places : line_on q a.line.did ∷ a.before ≡ line_on r b.line.did ∷ b.before =
     seen_same m q r a.line.did b.line.did a.before b.before world (a.node ∙ node) b.node there here (subst (λ (i : ℕ). Here a.line.did ∷ view q (of i a.before) ≡ Here b.line.did ∷ view r (of m b.before)) node same) in
-    let rest : a.before ≡ b.before = cc in
+    let rest : a.before ≡ b.before = rest-same places in
     sym a.number ∙ (ap (λ (b : List Line). posted (dids b)) rest ∙ b.number)
 
 -- a send has a number
@@ -82,8 +83,8 @@ brings-one l h post other older rest a b =
 pub takes-one : (l : Line) (h : List Line) (s t : ℕ) → TakesSend l h s → TakesSend l h t → s ≡ t
 takes-one l h s t a b =
     let e : a.post ∷ a.older ≡ b.post ∷ b.older = brings-one l h a.post b.post a.older b.older a.acts.brings b.acts.brings in
-    let post : a.post ≡ b.post = cc in
-    let rest : a.older ≡ b.older = cc in
+    let post : a.post ≡ b.post = first-same e in
+    let rest : a.older ≡ b.older = rest-same e in
     let seen : begun_to (peer_of (node_of l)) (Here a.post.did ∷ view a.post.port (of (node_of a.post) a.older)) ≡ begun_to (peer_of (node_of l)) (Here b.post.did ∷ view b.post.port (of (node_of b.post) b.older)) =
     subst₂ (λ (p : Line) (o : List Line). begun_to (peer_of (node_of l)) (Here a.post.did ∷ view a.post.port (of (node_of a.post) a.older)) ≡ begun_to (peer_of (node_of l)) (Here p.did ∷ view p.port (of (node_of p) o))) post rest refl in
     one-number h (node_of a.post) (node_of b.post) a.post.port b.post.port (a.post ∷ a.older) (b.post ∷ b.older) (Here a.first ∷ a.begun) (Here b.first ∷ b.begun) s t a.acts.brings.place b.acts.brings.place a.at b.at (sym a.of_send.is ∙ (seen ∙ b.of_send.is))

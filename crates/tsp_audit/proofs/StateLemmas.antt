@@ -10,6 +10,7 @@ use Rattle.tsp_audit.specs.Agreeing.{AfterIs, FromRoundAs, FirstIs, IsFromNoRoun
 use Rattle.tsp_audit.specs.{Changes.IsCorrect, Changes.LeavesState, declared.round_correction.NodeState.NodeState}
 use Rattle.tsp_audit.specs.declared.round_correction.RoundCorrection.{RoundCorrection}
 use Rattle.tsp_history.{proofs.SpacingLemmas.lives-mono, specs.Clocks.IsSumOf}
+use Rattle.tsp_audit.proofs.Alike.{first-same, rest-same}
 
 -- a node's Corrects and Boots grow in number
 corrects-deed : (deed : Deed) (n : ℕ) → n ≤ all_corrects_after deed n
@@ -64,7 +65,7 @@ still-deed n l h node f g =
 -- a Correct of a node after which none of it came is no line that isn't one
 not-now : (n : ℕ) (l c : Line) (h past : List Line) (a : ℤ) (s : Bool) (y : ℤ) → node_of c ≡ n → c.did.deed ≡ Acts (Correct a s y) → c ∷ past ≡ l ∷ h → all_corrects (dids (of n (l ∷ h))) ≡ all_corrects (dids (of n h)) → ⊥
 not-now n l c h past a s y node deed e still =
-    let line : c ≡ l = cc in
+    let line : c ≡ l = first-same e in
     let counts : all_corrects (dids (of n (l ∷ h))) ≡ all_corrects (dids (of n h)) + 1 = correct-counts n l h a s y (subst (λ (k : Line). node_of k ≡ n) line node) (subst (λ (k : Line). k.did.deed ≡ Acts (Correct a s y)) line deed) in
     omega (arith, counts, still)
 
@@ -125,8 +126,8 @@ node-boot n l h s t node deed a moved_is lives_is corrects_is after_is correctio
 live-correct : (n : ℕ) (l : Line) (h : List Line) (o : Option RoundCorrection) (a : ℤ) (s : Bool) (y : ℤ) → node_of l ≡ n → l.did.deed ≡ Acts (Correct a s y) → MatchOption o (IsFromNoRound l h) (λ c. FromRoundAs l h c) → LiveIs n (l ∷ h) o
 live-correct n l h None a s y node deed none = λ c past same u m close cpast r older e from_round. elim u.within [
   | inl now ↦
-      let line : c ≡ l = cc in
-      let rest : past ≡ h = cc in
+      let line : c ≡ l = first-same now in
+      let rest : past ≡ h = rest-same now in
       none m close cpast r older e (subst (λ (p : List Line). FromRound m close cpast l p r older e) rest (subst (λ (k : Line). FromRound m close cpast k past r older e) line from_round))
   | inr w ↦ omega (arith, corrects-mono n (c ∷ past) h w, correct-counts n l h a s y node deed, u.since.corrects)
 ]
@@ -135,7 +136,7 @@ live-correct n l h (Some k) a s y node deed is = record { correct = l; past = h;
 after-correct : (n : ℕ) (l : Line) (h : List Line) (o : Option ℕ) (a : ℤ) (s : Bool) (y : ℤ) → node_of l ≡ n → l.did.deed ≡ Acts (Correct a s y) → FirstIs (from_act h) o → AfterIs n (l ∷ h) o
 after-correct n l h None a s y node deed none = λ act apast x. elim x.place [
   | inl now ↦
-      let rest : x.before ≡ h = cc in
+      let rest : x.before ≡ h = rest-same now in
       let both : [] ≡ act ∷ apast = sym none ∙ (ap from_act (sym rest) ∙ x.is) in
       let bad : ⊥ = cc in bad
   | inr w ↦ omega (arith, corrects-mono n (x.next ∷ x.before) h w, correct-counts n l h a s y node deed, x.corrects)

@@ -8,10 +8,11 @@ use Rattle.tsp_promises.specs.{ClockAt.clock_at, CorrectFits.amount_of, Fits.nod
 use Rattle.tsp_promises.proofs.OwnFitsProof.{view-line}
 use Rattle.tsp_promises.proofs.SendPlaces.{post_unique, posted-mono, posted-post, same-number}
 use Rattle.tsp_history.proofs.HistoryLemmas.{history-more}
-use Rattle.tsp_audit.{proofs.SendPlaces.brings-one, specs.Settings.HasClocks, specs.Settings.clock_in}
+use Rattle.tsp_audit.{proofs.SendPlaces.brings-one, specs.Settings.HasClocks, specs.Settings.clock_in, proofs.Alike.correct-same}
 use Rattle.tsp_audit.specs.Acting.{ActsNow, BringsAt, CameAt, Corrects, IsNumbered, IsUnposted, PostsMove, PostsTo, TakesSend, deed_corrects}
 use Rattle.tsp_history.specs.{Histories.deed_of, Histories.history_of, Histories.line_of, PostedPlaces.PostedAt, PostedPlaces.IsPostAt}
 use Rattle.tsp_history.specs.{Posts.PostsAt, Spacing.Spaced, declared.line.HistoryLine.HistoryLine}
+use Rattle.tsp_audit.proofs.Alike.{first-same, follow-same, message-same, rest-same}
 
 -- one line stands at an index
 pub same-noted : (ns : List HistoryLine) (i : ℕ) (a b : HistoryLine) → i < length ns → get_or ns i a ≡ a → get_or ns i b ≡ b → a ≡ b
@@ -44,7 +45,7 @@ brings-none l h few post older b = unposted l h few post older (Peer (peer_of (n
 pub brings-other : (ns : List HistoryLine) (l : Line) (i : ℕ) (noted : HistoryLine) → CameAt ns l i → get_or ns i noted ≡ noted → (PostsTo (deed_of noted.act) (node_of l) → ⊥) → (post : Line) (older : List Line) → Brings l (history_of ns) post older → ⊥
 brings-other ns l i noted came is bad post older b =
     let place : post ∷ older ≡ line_of noted ∷ history_of (take i ns) = came-there ns l i noted came is post older (Peer (peer_of (node_of l))) (Message b.message) b.place b.cause b.deed in
-    let line : post ≡ line_of noted = cc in
+    let line : post ≡ line_of noted = first-same place in
     bad (record { message = b.message; is = subst (λ (m : Line). m.did.deed ≡ Acts (Post (Peer (peer_of (node_of l))) (Message b.message))) line b.deed })
 
 pub brings-found : (ns : List HistoryLine) (l : Line) (i : ℕ) (noted : HistoryLine) → CameAt ns l i → get_or ns i noted ≡ noted → PostsTo (deed_of noted.act) (node_of l) → BringsAt ns l i
@@ -67,7 +68,7 @@ takes-found ns l i noted k a s y b is correct took numbered told =
     let brings : Brings l (history_of ns) (line_of noted) (history_of (take i ns)) = b.brings noted is in
     let more : history_of (take (i + 1) ns) ≡ line_of noted ∷ history_of (take i ns) = history-more ns i noted b.below is in
     let deeds : Acts (Post numbered.to (Message numbered.message)) ≡ Acts (Post (Peer (peer_of (node_of l))) (Message brings.message)) = sym numbered.is ∙ brings.deed in
-    let message : numbered.message ≡ brings.message = cc in
+    let message : numbered.message ≡ brings.message = message-same deeds in
     let begun : begun_to (peer_of (node_of l)) (view noted.port (of noted.node (line_of noted ∷ history_of (take i ns)))) ≡ Here told.line.did ∷ view noted.port (of noted.node told.before) =
     subst (λ (h : List Line). begun_to (peer_of (node_of l)) (view noted.port (of noted.node h)) ≡ Here told.line.did ∷ view noted.port (of noted.node told.before)) more told.is in
     record {
@@ -103,15 +104,15 @@ takes-there ns l i noted k b is t = brings-one l (history_of ns) t.post (line_of
 pub takes-unnumbered : (ns : List HistoryLine) (l : Line) (i : ℕ) (noted : HistoryLine) (k : ℕ) → BringsAt ns l i → get_or ns i noted ≡ noted → (IsNumbered (deed_of noted.act) → ⊥) → TakesSend l (history_of ns) k → ⊥
 takes-unnumbered ns l i noted k b is bad t =
     let place : t.post ∷ t.older ≡ line_of noted ∷ history_of (take i ns) = takes-there ns l i noted k b is t in
-    let line : t.post ≡ line_of noted = cc in
+    let line : t.post ≡ line_of noted = first-same place in
     bad (record { to = Peer (peer_of (node_of l)); message = t.of_send.message; is = subst (λ (m : Line). m.did.deed ≡ Acts (Post (Peer (peer_of (node_of l))) (Message t.of_send.message))) line t.of_send.deed; numbered = t.of_send.numbered })
 
 pub takes-unbegun : (ns : List HistoryLine) (l : Line) (i : ℕ) (noted : HistoryLine) (k : ℕ) → BringsAt ns l i → get_or ns i noted ≡ noted →
     begun_to (peer_of (node_of l)) (view noted.port (of noted.node (history_of (take (i + 1) ns)))) ≡ [] → TakesSend l (history_of ns) k → ⊥
 takes-unbegun ns l i noted k b is none t =
     let place : t.post ∷ t.older ≡ line_of noted ∷ history_of (take i ns) = takes-there ns l i noted k b is t in
-    let line : t.post ≡ line_of noted = cc in
-    let rest : t.older ≡ history_of (take i ns) = cc in
+    let line : t.post ≡ line_of noted = first-same place in
+    let rest : t.older ≡ history_of (take i ns) = rest-same place in
     let more : history_of (take (i + 1) ns) ≡ line_of noted ∷ history_of (take i ns) = history-more ns i noted b.below is in
     let begun : begun_to (peer_of (node_of l)) (Here (line_of noted).did ∷ view noted.port (of noted.node (history_of (take i ns)))) ≡ Here t.first ∷ t.begun =
     subst₂ (λ (p : Line) (o : List Line). begun_to (peer_of (node_of l)) (Here p.did ∷ view p.port (of (node_of p) o)) ≡ Here t.first ∷ t.begun) line rest t.of_send.is in
@@ -126,7 +127,7 @@ pub obeys-found : (setting : Setting) (ns : List HistoryLine) (l : Line) (amount
 obeys-found setting ns l amount master i noted b is node moves =
     let brings : Brings l (history_of ns) (line_of noted) (history_of (take i ns)) = b.brings noted is in
     let deeds : Acts (Post moves.to (Message moves.message)) ≡ Acts (Post (Peer (peer_of (node_of l))) (Message brings.message)) = sym moves.is ∙ brings.deed in
-    let message : moves.message ≡ brings.message = cc in
+    let message : moves.message ≡ brings.message = message-same deeds in
     record {
       post = line_of noted;
       older = history_of (take i ns);
@@ -140,7 +141,7 @@ pub obeys-not : (setting : Setting) (ns : List HistoryLine) (l : Line) (amount :
     (noted.node ≡ master.0 → PostsMove (deed_of noted.act) amount (clock_at setting (node_of l) (history_of ns) l.did.step.at) → ⊥) → Obeys setting l (history_of ns) amount master → ⊥
 obeys-not setting ns l amount master i noted b is bad o =
     let place : o.post ∷ o.older ≡ line_of noted ∷ history_of (take i ns) = brings-one l (history_of ns) o.post (line_of noted) o.older (history_of (take i ns)) o.brings (b.brings noted is) in
-    let line : o.post ≡ line_of noted = cc in
+    let line : o.post ≡ line_of noted = first-same place in
     bad (ap (λ (p : PeerId). p.0) (ap (λ (m : Line). peer_of (node_of m)) (sym line) ∙ o.from))
     (record {
       to = Peer (peer_of (node_of l));
@@ -169,9 +170,9 @@ pub obeys-line : (setting : Setting) (l : Line) (h : List Line) (amount : ℤ) (
     MatchBool b (Obeys setting l h amount master) (Obeys setting l h amount master → ⊥) → MatchBool b (ObeysAt setting l h) (ObeysAt setting l h → ⊥)
 obeys-line setting l h amount s y master true deed follows good = λ q a t z d r.
     let deeds : Acts (Correct amount s y) ≡ Acts (Correct a t z) = sym deed ∙ d in
-    let same : amount ≡ a = cc in
+    let same : amount ≡ a = correct-same deeds in
     let roles : Follow master ≡ Follow q = sym follows ∙ r in
-    let who : master ≡ q = cc in
+    let who : master ≡ q = follow-same roles in
     subst₂ (λ (z : ℤ) (p : PeerId). Obeys setting l h z p) same who good
 obeys-line setting l h amount s y master false deed follows bad = λ f. bad (f master amount s y deed follows)
 
@@ -195,6 +196,6 @@ corrects-at ns k i noted b at is corrects = λ post older p m w d n.
     let same : at.noted ≡ noted = same-noted ns i at.noted noted at.below at.noted_is is in
     let place : post ∷ older ≡ line_of at.noted ∷ history_of (take i ns) =
     post_unique (history_of ns) post (line_of at.noted) older (history_of (take i ns)) (Peer p) at.to (Message m) at.datagram w at.within d (ap deed_of at.act) (n ∙ sym at.number) in
-    let line : post ≡ line_of at.noted = cc in
+    let line : post ≡ line_of at.noted = first-same place in
     let deed : deed_of noted.act ≡ Acts (Post (Peer p) (Message m)) = sym (ap (λ (l : Line). l.did.deed) (line ∙ ap line_of same)) ∙ d in
     sym (corrects ∙ ap deed_corrects deed)
