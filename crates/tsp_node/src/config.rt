@@ -53,7 +53,9 @@ impl Config {
           strict = strict;
         }) }
     {
-        let peers = Vec::from_slice(alloc, peers)?;
+        let Ok(peers) = Vec::from_slice(alloc, peers) else {
+            return Err(AllocError);
+        };
         Ok(Config {
             name,
             own,

@@ -54,10 +54,14 @@ impl Node {
         ensures refused { OnErr result (D.acts desk.new ≡ D.acts desk.old) }
         ensures room { UsesAtMost 3 D.spare D.acts desk.old desk.new }
     {
-        let mut node = Node::new(alloc, config, tick, wall, word)?;
-        desk.put(PORT, Act::Boot);
-        node.part.begin(tick, PORT, desk);
-        Ok(node)
+        match Node::new(alloc, config, tick, wall, word) {
+            Ok(mut node) => {
+                desk.put(PORT, Act::Boot);
+                node.part.begin(tick, PORT, desk);
+                Ok(node)
+            }
+            Err(fault) => Err(fault),
+        }
     }
 
     /// A node right after its Boot, or why it doesn't boot.

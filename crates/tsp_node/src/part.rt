@@ -77,10 +77,18 @@ impl Part {
             → ClockStands (grown tick past (Boot ∷ [])) clock
             → PortStands (grown tick past (Boot ∷ [])) (port_with part clock)) }
     {
-        let resolve = Resolve::new(alloc, peers)?;
-        let dates = Dates::new(alloc, peers)?;
-        let master = Master::new(alloc, peers)?;
-        let station = Station::new(alloc, me, peers, tick)?;
+        let Ok(resolve) = Resolve::new(alloc, peers) else {
+            return Err(AllocError);
+        };
+        let Ok(dates) = Dates::new(alloc, peers) else {
+            return Err(AllocError);
+        };
+        let Ok(master) = Master::new(alloc, peers) else {
+            return Err(AllocError);
+        };
+        let Ok(station) = Station::new(alloc, me, peers, tick) else {
+            return Err(AllocError);
+        };
         Ok(Part {
             station,
             last: Last::new(),

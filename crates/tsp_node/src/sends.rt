@@ -70,7 +70,9 @@ impl Part {
         ensures peers { self.new.station.peers ≡ self.old.station.peers }
         ensures room { UsesAtMost 2 D.spare D.acts desk.old desk.new }
     {
-        let due = self.station.repeat_next(after, tick, port, desk)?;
+        let Some(due) = self.station.repeat_next(after, tick, port, desk) else {
+            return None;
+        };
         self.note_due(&due, tick, port, desk);
         Some(due)
     }
