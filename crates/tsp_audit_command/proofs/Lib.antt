@@ -1,7 +1,5 @@
 pub mod ClaimLemmas
-pub mod Completes
 pub mod Definites
-pub mod FitLemmas
 pub mod PassLemmas
 pub mod Reverses
 pub mod SoundLemmas

@@ -1,19 +1,40 @@
 -- What is known of events and claimed lines, one step on.
-use Rattle.std.proofs.Common.{◌∙◌, ap, sym, refl, subst, arith, get_or, ◌≡◌, ℕ, ◌+◌, ◌<◌, ◌^◌, false, List, [], ◌∷◌, ◌++◌, length, drop, take, reverse, Some}
-use Rattle.std.proofs.lemmas.List.{drop_more, length-append, length-map, reverse-append}
+use Rattle.std.proofs.Common.{refl, arith, ◌≡◌, ◌+◌, ◌≤◌, false, List, [], ◌∷◌, ◌++◌, length, ◌∙◌, ap, sym, subst, get_or, ℕ, ◌<◌, ◌^◌, drop, take, reverse, Some}
 use Rattle.std.proofs.lemmas.Option.{slice_get_within, get_or_from_slice_get, slice_get_read}
+use Rattle.std.proofs.lemmas.List.{drop_more, length-append, length-map, reverse-append}
 use Rattle.std.specs.List.{slice_get}
-use Rattle.tsp_audit.specs.{Ends.AreDated, Ends.EndsAt, Premised.kept_with, Premised.premises_of, declared.premises.Premises.Premises}
-use Rattle.tsp_base.specs.{Words.HeaderValue, declared.event.Event.Event, declared.trace.Line2.Line2}
-use Rattle.tsp_audit_command.specs.ClaimReaders.{ClaimReaderValue, FitsFirst, most_lines, pass_first, tallied}
-use Rattle.tsp_audit_command.specs.Sound.{FitAtHand, Sound, claims_by, claims_on, first_end}
-use Rattle.tsp_history.specs.Histories.{history_of}
+use Rattle.tsp_base.specs.{declared.event.Event.Event, declared.trace.Line2.Line2, Words.HeaderValue}
+use Rattle.tsp_audit_command.specs.ClaimReaders.{tallied, ClaimReaderValue, FitsFirst, most_lines, pass_first}
+use Rattle.tsp_audit_command.specs.Sound.{FitSoFar, FitAtHand, Sound, claims_by, claims_on, first_end}
 use Rattle.tsp_audit_command.proofs.ClaimLemmas.{EndsAt-more, EndsAt-none, claims_on-more, passed-more}
-use Rattle.tsp_audit_command.proofs.FitLemmas.{AllFit-so-far, FitSoFar-more, tallied-more, tallied-posts}
 use Rattle.tsp_audit_command.{proofs.PassLemmas.pass-whole, specs.Listings.AreListed, specs.Listings.IsAudited, specs.Listings.IsListed}
+use Rattle.tsp_claims.specs.Fitting.{AllFit, counted, lacks, Fit, FitsNext, untold}
+use Rattle.tsp_claims.{specs.declared.tally.Tally.Tally, proofs.FitLemmas.claims_of_step-few}
 use Rattle.tsp_claims.specs.ClaimedHistory.{Claim, claimed, events_of, lines_in, posts_of}
-use Rattle.tsp_claims.specs.Fitting.{Fit, FitsNext, counted, lacks, untold}
-use Rattle.tsp_claims.specs.{Stands.ClaimsStand, Stands.claim_of, declared.claims.Claims.Claims, declared.tally.Tally.Tally}
+use Rattle.tsp_claims.specs.{Stands.ClaimsStand, Stands.claim_of, declared.claims.Claims.Claims}
+use Rattle.tsp_audit.specs.{Ends.AreDated, Ends.EndsAt, Premised.kept_with, Premised.premises_of, declared.premises.Premises.Premises}
+use Rattle.tsp_history.specs.Histories.{history_of}
+
+-- one line more
+pub tallied-more : (t : Tally) (lines : List Line2) (l : Line2) → tallied t (lines ++ l ∷ []) ≡ counted (tallied t lines) l.placed.act
+tallied-more t [] l = refl
+tallied-more t (k ∷ rest) l = tallied-more (counted t k.placed.act) rest l
+
+-- lines claim one post each at the most
+pub tallied-posts : (t : Tally) (lines : List Line2) → (tallied t lines).posts ≤ t.posts + length lines
+tallied-posts t [] = omega arith
+tallied-posts t (k ∷ rest) = omega (arith, tallied-posts (counted t k.placed.act) rest, claims_of_step-few k.placed.act)
+
+module _ (fits : Event → Tally → Line2 → Type 0) (e : Event) where
+  -- a line that fits behind the others
+  pub FitSoFar-more : (t : Tally) (lines : List Line2) (l : Line2) → FitSoFar fits e t lines → fits e (tallied t lines) l → FitSoFar fits e t (lines ++ l ∷ [])
+  FitSoFar-more t [] l s f = (f, tt)
+  FitSoFar-more t (k ∷ rest) l s f = (s.0, FitSoFar-more (counted t k.placed.act) rest l s.1 f)
+
+  -- lines that fit, and with which nothing lacks, are all that is wanted
+  pub AllFit-so-far : (t : Tally) (lines : List Line2) → FitSoFar fits e t lines → lacks e (tallied t lines) ≡ false → AllFit fits e t lines
+  AllFit-so-far t [] s none = none
+  AllFit-so-far t (k ∷ rest) s none = (s.0, AllFit-so-far (counted t k.placed.act) rest s.1 none)
 
 -- the event with this index is at hand, and the rest behind it
 pub ahead-at : {A : Type 0} (events : List A) (n : ℕ) (e : A) → slice_get events n ≡ Some e → drop n events ≡ (e ∷ drop (n + 1) events)
