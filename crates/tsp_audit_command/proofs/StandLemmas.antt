@@ -1,19 +1,23 @@
 -- What is held, and how far the lines have come.
-use Rattle.std.proofs.Common.{◌∙◌, ap, subst, inl, inr, sym, refl, append-nil, ◌≡◌, ℕ, ◌<◌, ◌≤◌, Bool, List, [], ◌∷◌, length, codes, reverse, IfSome, MatchOption, MatchResult, Option, None, Some}
-use Rattle.std.{proofs.lemmas.List.length-reverse, specs.declared.result.Result.Result}
+use Rattle.std.proofs.Common.{◌∙◌, ap, subst, inl, inr, sym, refl, append-nil, true≢false, ◌≡◌, ℕ, ◌<◌, ◌≤◌, Bool, true, false, List, [], ◌∷◌, length, codes, reverse, IfErr, IfSome, MatchOption, MatchResult, OnErr, OnOk, Option, None, Some}
+use Rattle.std.{proofs.lemmas.List.length-reverse, specs.declared.result.Result.Result, specs.declared.result.Result.TheVariants.Err, specs.declared.result.Result.TheVariants.Ok}
 use Rattle.tsp_base.specs.{Words.HeaderValue, declared.event.Event.Event, declared.trace.Line2.Line2}
 use Rattle.tsp_audit_command.specs.declared.check.AuditInput.{AuditInput, TheVariants.Schedule, TheVariants.Claims as ClaimsOf}
 use Rattle.tsp_audit_command.specs.declared.listing.Listing.{Listing}
-use Rattle.tsp_audit_command.specs.ClaimReaders.{ClaimReaderValue, passed_up_to, passes_all, told_more}
+use Rattle.tsp_audit_command.specs.ClaimReaders.{ClaimReaderValue, passed_up_to, passes_all, told_more, unclaimed}
 use Rattle.tsp_audit_command.specs.{Listings.most_nodes, Listings.refusal_at, Listings.refused_next, Meaning.auditing}
-use Rattle.tsp_audit_command.specs.Readings.{Claimed, IsWanting, MayEnd, ReachesReading, Reading, RefusesLine, Scheduling, nodes_at, reading_of}
-use Rattle.tsp_audit_command.specs.Stands.{AdvancesReading, ClaimAdvances, Concludes, HaltsReading, HaltsBehind, HaltsConcluding, EventStands, ListingStands, ReadingStands, Unpassed}
+use Rattle.tsp_audit.specs.declared.verdict.Failure.{Failure}
+use Rattle.tsp_audit_command.specs.Texts.{verdict_text}
+use Rattle.tsp_audit_command.specs.Readings.{Claimed, GivesVerdict, IsWanting, MayEnd, ReachesReading, Reading, RefusesLine, Scheduling, nodes_at, reading_of}
+use Rattle.tsp_audit_command.specs.Stands.{AdvancesReading, ClaimAdvances, Concludes, HaltsReading, HaltsConcluding, HasNodes, EventStands, IsLast, ListingStands, ReadingStands, ReadsSchedule, Unpassed, is_over}
 use Rattle.tsp_audit_command.proofs.{PassLemmas.some-one, Reverses.reverse-more, TraceLengths.SpellsTrace-long}
 use Rattle.tsp_schedule.specs.Schedules.{Progress, Untitled, Titled, Drifted, Heading, Running, Ended, IsEnded}
+use Rattle.tsp_schedule.specs.declared.stage.Stage.TheVariants.{Untitled as AtUntitled, Titled as AtTitled, Drifted as AtDrifted, Heading as AtHeading, Running as AtRunning}
 use Rattle.tsp_schedule.specs.{Stages.StageStands, Stages.Advances as AdvancesBy, Stages.AdvancesByEvent, declared.stage.Stage.Stage}
 use Rattle.tsp_schedule.proofs.StageLemmas.{MatchOption-map, MatchResult-map}
 use Rattle.tsp_lines.specs.declared.treatment.Stop.TheVariants.{Bad, Limit, WriteFault, OutOfMemory}
-use Rattle.tsp_lines.specs.Meanings.{Closes, Goes, StopsAt, StopsAtEnd, Tried}
+use Rattle.tsp_lines.specs.declared.output.Unwritten.{Unwritten, TheVariants.WriteFault as NotWritten, TheVariants.OutOfMemory as NoMemory}
+use Rattle.tsp_lines.specs.{Meanings.Closes, Meanings.Goes, Meanings.StopsAt, Meanings.StopsAtEnd, Meanings.Tried, Meanings.stop_of, Outputs.Hands}
 use Rattle.tsp_lines.{proofs.Outputs.Hands-nil, specs.Lines.IsAhead, specs.Lines.line_ahead, specs.declared.treatment.Stop.Stop}
 use Rattle.tsp_claims.specs.Listed.{up_in}
 use Rattle.tsp_run.specs.Run.{last_at}
@@ -46,12 +50,60 @@ Tries-scheduled (Scheduling p) held old new text count front is stands counts fe
     MatchOption-map front (tries p s) (λ t. t) (λ n a. Advances-event p (line_ahead text n) new a (subst (λ k. k ≤ most_nodes) (counts p s) few))
 Tries-scheduled (Claimed v) held old new text count front is stands counts few tries = let bad : ⊥ = subst (λ h. EventStands (Claimed v) h) is stands in absurd bad
 
+-- a reading within the schedule
+pub scheduling-held : (r : Reading) (held : AuditInput) (stage : Stage Listing) → held ≡ Schedule stage → EventStands r held → (p : Progress) × (r ≡ Scheduling p) × StageStands ListingStands p stage
+scheduling-held (Scheduling p) held stage is stands = (p, refl, subst (λ h. EventStands (Scheduling p) h) is stands)
+scheduling-held (Claimed c) held stage is stands = absurd (subst (λ h. EventStands (Claimed c) h) is stands)
+
+-- it wasn't the last one
+pub Advances-open : (p : Progress) (line : List ℕ) (stage : Stage Listing) → ReadsSchedule p line stage false → AdvancesReading (Scheduling p) line (Schedule stage)
+Advances-open p line stage (a, few, more) = Advances-scheduled p line stage a (Schedule stage) few (held-open a.to stage a.stands_for more)
+  where
+    held-open : (q : Progress) (now : Stage Listing) → StageStands ListingStands q now → is_over now ≡ false → EventStands (reading_of q) (Schedule now)
+    held-open Untitled now h o = h
+    held-open (Titled version) now h o = h
+    held-open (Drifted drift) now h o = h
+    held-open (Heading header) now h o = h
+    held-open (Running header events) now h o = h
+    held-open (Ended header events) (AtRunning run) h o = absurd (true≢false (sym h.0 ∙ o))
+    held-open (Ended header events) AtUntitled h o = absurd h
+    held-open (Ended header events) (AtTitled version) h o = absurd h
+    held-open (Ended header events) (AtDrifted header') h o = absurd h
+    held-open (Ended header events) (AtHeading header') h o = absurd h
+
+-- what begins behind the last line
+Begins-behind : (q : Progress) (stage : Stage Listing) (next : AuditInput) (result : Result (Unit {0}) Stop) → StageStands ListingStands q stage → is_over stage ≡ true →
+    ((header : HeaderValue) (events : List Event) → StageStands ListingStands (Ended header events) stage → MatchResult result (λ _. EventStands (Claimed (unclaimed header events)) next) (λ stop. stop ≡ OutOfMemory)) →
+    MatchResult result (λ _. EventStands (reading_of q) next) (λ stop. stop ≡ OutOfMemory)
+Begins-behind (Ended header events) stage next result h o begins = begins header events h
+Begins-behind (Running header events) (AtRunning run) next result h o begins = absurd (true≢false (sym o ∙ h.0))
+Begins-behind Untitled (AtRunning run) next result h o begins = absurd h
+Begins-behind (Titled version) (AtRunning run) next result h o begins = absurd h
+Begins-behind (Drifted drift) (AtRunning run) next result h o begins = absurd h
+Begins-behind (Heading header) (AtRunning run) next result h o begins = absurd h
+Begins-behind q AtUntitled next result h o begins = absurd (true≢false (sym o))
+Begins-behind q (AtTitled version) next result h o begins = absurd (true≢false (sym o))
+Begins-behind q (AtDrifted header) next result h o begins = absurd (true≢false (sym o))
+Begins-behind q (AtHeading header) next result h o begins = absurd (true≢false (sym o))
+
+-- it was the last one
+pub Advances-last : (p : Progress) (line : List ℕ) (stage : Stage Listing) (next : AuditInput) (result : Result (Unit {0}) Stop) → ReadsSchedule p line stage true →
+    ((header : HeaderValue) (events : List Event) → StageStands ListingStands (Ended header events) stage → MatchResult result (λ _. EventStands (Claimed (unclaimed header events)) next) (λ stop. stop ≡ OutOfMemory)) →
+    MatchResult result (λ _. AdvancesReading (Scheduling p) line next) (HaltsReading (Scheduling p) line)
+Advances-last p line stage next result (a, few, over) begins =
+    MatchResult-map result (Begins-behind a.to stage next result a.stands_for over begins) (λ _ stands. Advances-scheduled p line stage a next few stands) (λ stop is. subst (λ s. HaltsReading (Scheduling p) line s) (sym is) tt)
+
+-- the last line of a schedule with few nodes
+pub IsLast-by : (stage : Stage Listing) (count : ℕ) → HasNodes stage count → count ≤ most_nodes → is_over stage ≡ true → IsLast stage
+IsLast-by AtUntitled count has few o = absurd (true≢false (sym o))
+IsLast-by (AtTitled version) count has few o = absurd (true≢false (sym o))
+IsLast-by (AtDrifted header) count has few o = absurd (true≢false (sym o))
+IsLast-by (AtHeading header) count has few o = absurd (true≢false (sym o))
+IsLast-by (AtRunning run) count has few o = (o, subst (λ n. n ≤ most_nodes) has few)
+
 -- one that brings a node too many
-pub Halts-behind : (p : Progress) (line : List ℕ) (stage : Stage Listing) (a : AdvancesBy refused_next ListingStands p line stage) (stop : Stop) → HaltsBehind a.to stop → HaltsReading (Scheduling p) line stop
-Halts-behind p line stage a (Bad cause) h = absurd h
-Halts-behind p line stage a Limit h = inr (a.to, a.goes, h)
-Halts-behind p line stage a WriteFault h = h
-Halts-behind p line stage a OutOfMemory h = h
+pub Halts-many : (p : Progress) (line : List ℕ) (stage : Stage Listing) (count : ℕ) → AdvancesBy refused_next ListingStands p line stage → ((q : Progress) → StageStands ListingStands q stage → count ≡ nodes_at q) → most_nodes < count → HaltsReading (Scheduling p) line Limit
+Halts-many p line stage count a counts many = inr (a.to, a.goes, subst (λ n. most_nodes < n) (counts a.to a.stands_for) many)
 
 -- lines come to one place
 comes-same : (c : ClaimReaderValue) (l k : Line2) (here there : ClaimReaderValue) → k ≡ l → passed_up_to c l.event ≡ Some here → passed_up_to c k.event ≡ Some there → there ≡ here
@@ -83,6 +135,14 @@ Halts-concluding c written held (Bad cause) u = (Hands-nil written held, u)
 Halts-concluding c written held Limit u = u
 Halts-concluding c written held WriteFault u = absurd u
 Halts-concluding c written held OutOfMemory u = Hands-nil written held
+
+-- the verdict was put, or a write failed, or there was no memory
+pub Concludes-told : (c all : ClaimReaderValue) (found : Option Failure) (written : Option (List ℕ)) (held : List ℕ) (now : Option (List ℕ)) (keeps : List ℕ) (result : Result (Unit {0}) Stop) → passes_all c ≡ Some all → GivesVerdict all.header all.passed found →
+    OnOk result (Hands written held now keeps (verdict_text found)) → OnErr result (Hands written held now keeps []) → IfErr result (λ stop. (fault : Unwritten) × (stop ≡ stop_of fault)) →
+    MatchResult result (λ _. Concludes c written held now keeps) (HaltsConcluding c written held now keeps)
+Concludes-told c all found written held now keeps (Ok u) passes gives ok err stop = (verdict_text found, ok, (all, found, passes, gives, refl))
+Concludes-told c all found written held now keeps (Err s) passes gives ok err (NotWritten, is) = subst (λ x. HaltsConcluding c written held now keeps x) (sym is) err
+Concludes-told c all found written held now keeps (Err s) passes gives ok err (NoMemory, is) = subst (λ x. HaltsConcluding c written held now keeps x) (sym is) err
 
 -- an accepted line
 pub Goes-advances : (lines : List (List ℕ)) (text line : List ℕ) (r : Reading) (next : AuditInput) (written : Option (List ℕ)) (held : List ℕ) → ReachesReading (reverse lines) r → text ≡ [] → ((q : Reading) → ReachesReading (reverse lines) q → AdvancesReading q line next) →

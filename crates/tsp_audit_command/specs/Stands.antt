@@ -1,13 +1,13 @@
 -- What the values that the treatment of an audit holds stand for, and what each of its calls makes of them.
-use Rattle.std.specs.Prelude.{◌≡◌, ℕ, ◌<◌, ◌≤◌, List, [], length, reverse, Option, None, codes}
+use Rattle.std.specs.Prelude.{◌≡◌, ℕ, ◌<◌, ◌≤◌, Bool, true, false, List, [], length, reverse, Option, None, codes}
 use Rattle.tsp_base.specs.{Words.HeaderValue, declared.event.Event.Event, declared.trace.Line2.Line2}
 use Rattle.tsp_audit_command.specs.declared.check.AuditInput.TheVariants.{Schedule, Claims as ClaimsOf}
 use Rattle.tsp_audit_command.specs.ClaimReaders.{ClaimReaderValue, FitsAt, FitsHere, MisfitsAt, IsOneLine, lines_told, most_lines, told_more}
-use Rattle.tsp_audit_command.specs.{Listings.most_nodes, declared.check.AuditInput.AuditInput, declared.listing.Listing.Listing}
+use Rattle.tsp_audit_command.specs.{Listings.most_nodes, Listings.refused_next, declared.check.AuditInput.AuditInput, declared.listing.Listing.Listing}
 use Rattle.tsp_audit_command.specs.Readings.{Claimed, MayEnd, ReadsOn, IsWanting, PassesLimit, ReachesReading, Reading, RefusesLine, Scheduling, nodes_at}
 use Rattle.tsp_claims.specs.Listed.{booted, up_in}
 use Rattle.tsp_schedule.specs.declared.stage.Stage.TheVariants.{Untitled as AtUntitled, Titled as AtTitled, Drifted as AtDrifted, Heading as AtHeading, Running as AtRunning}
-use Rattle.tsp_schedule.specs.{Schedules.Progress, Stages.StageStands, declared.stage.Stage.Stage}
+use Rattle.tsp_schedule.specs.{Schedules.Progress, Stages.StageStands, Stages.Advances as AdvancesBy, declared.stage.Stage.Stage}
 use Rattle.tsp_lines.specs.{Outputs.Hands, declared.treatment.Stop.Stop}
 use Rattle.tsp_lines.specs.declared.treatment.Stop.TheVariants.{Bad, Limit, WriteFault, OutOfMemory}
 use Rattle.tsp_run.specs.Run.{last_at}
@@ -76,12 +76,24 @@ HaltsTelling c l OutOfMemory = Unit {0}
 abbrev pub ClaimAdvances : ClaimReaderValue → List ℕ → ClaimReaderValue → Type 0
 ClaimAdvances c line now = (l : Line2) × IsOneLine line l × TellsMore c l now
 
--- nothing is held after a line of the schedule: its header has more than 16 nodes, or there was no memory
-abbrev pub HaltsBehind : Progress → Stop → Type 0
-HaltsBehind p (Bad cause) = ⊥
-HaltsBehind p Limit = most_nodes < nodes_at p
-HaltsBehind p WriteFault = ⊥
-HaltsBehind p OutOfMemory = Unit {0}
+-- whether the last line of a schedule was read
+abbrev pub is_over : Stage Listing → Bool
+is_over (AtRunning run) = run.over
+is_over _ = false
+
+-- a line of a schedule was accepted, with at most 16 nodes; the flag says whether it was the last one
+abbrev pub ReadsSchedule : Progress → List ℕ → Stage Listing → Bool → Type 0
+ReadsSchedule p line stage over = (a : AdvancesBy refused_next ListingStands p line stage) × (nodes_at a.to ≤ most_nodes) × (is_over stage ≡ over)
+
+-- the last line of a schedule of at most 16 nodes was read
+abbrev pub IsLast : Stage Listing → Type 0
+IsLast (AtRunning run) = (run.over ≡ true) × (length run.handler.header.nodes ≤ most_nodes)
+IsLast _ = ⊥
+
+-- the same of what is held: the claims may begin
+abbrev pub MayClaim : AuditInput → Type 0
+MayClaim (Schedule stage) = IsLast stage
+MayClaim (ClaimsOf claiming) = ⊥
 
 -- a schedule of which a line after the header was read has so many nodes; before that this says nothing
 abbrev pub HasNodes : Stage Listing → ℕ → Type 0

@@ -1,14 +1,16 @@
 //! The audit of a claimed history as a treatment of lines.
-ghost use Rattle.std.specs.Prelude.{◌≡◌, ◌≢◌, ◌≤◌, ◌<◌, ℕ, List, length, take};
-ghost use Rattle.std.specs.Prelude.{IfSome, MatchBool, MatchOption, MatchResult, Err};
-ghost use Rattle.tsp_audit_command.specs.Listings.{most_nodes};
-ghost use Rattle.tsp_audit_command.specs.Readings.{IsWanting, Reading, RefusesLine, Scheduling, nodes_at, reading_of};
-ghost use Rattle.tsp_audit_command.specs.Stands.{AdvancesReading, Concludes, HaltsReading, HaltsBehind};
+ghost use Rattle.std.specs.Prelude.{◌≡◌, ◌≢◌, ◌≤◌, ◌<◌, ℕ, true, List, length, take};
+ghost use Rattle.std.specs.Prelude.{IfSome, MatchBool, MatchOption, MatchResult, Ok, Err};
+ghost use Rattle.tsp_audit_command.specs.ClaimReaders.{unclaimed};
+ghost use Rattle.tsp_audit_command.specs.Readings.{Claimed, IsWanting, Reading, RefusesLine, Scheduling, nodes_at};
+ghost use Rattle.tsp_audit_command.specs.Stands.{AdvancesReading, Concludes, HaltsReading};
 ghost use Rattle.tsp_audit_command.specs.Stands.{HaltsConcluding, HasNodes, EventStands};
-ghost use Rattle.tsp_audit_command.specs.Stands.{ListingStands};
+ghost use Rattle.tsp_audit_command.specs.Stands.{IsLast, ListingStands, MayClaim, ReadsSchedule, is_over};
+ghost use Rattle.tsp_base.specs.Headers.{HeaderValue};
+ghost use Rattle.tsp_base.specs.declared.event.Event.{Event};
 ghost use Rattle.tsp_lines.specs.Lines.{IsAhead, line_ahead};
-ghost use Rattle.tsp_schedule.specs.Schedules.{IsEnded, Progress};
-ghost use Rattle.tsp_schedule.specs.Stages.{RunStands, StageStands};
+ghost use Rattle.tsp_schedule.specs.Schedules.{Ended, IsEnded, Progress};
+ghost use Rattle.tsp_schedule.specs.Stages.{StageStands};
 ghost use Rattle.tsp_io.specs.Counts.{Rose};
 
 use crate::claim_reader::ClaimReader;
@@ -20,7 +22,6 @@ use tsp_io::sink::Sink;
 use tsp_lines::cause::Cause;
 use tsp_lines::output::{Output, Unwritten};
 use tsp_lines::treatment::{Stop, Treatment};
-use tsp_schedule::run::Run;
 use tsp_schedule::stage::Stage;
 
 /// The most nodes that an audited schedule may have.
@@ -46,6 +47,35 @@ fn node_count(stage: &Stage<Listing>) -> usize
         Stage::Drifted(_) => 0,
         Stage::Heading(header) => header.nodes().len(),
         Stage::Running(run) => run.handler.header.nodes().len(),
+    }
+}
+
+/// Whether the last line of a schedule was read.
+fn is_over(stage: &Stage<Listing>) -> bool
+    ensures { result ≡ is_over stage.now }
+{
+    match stage {
+        Stage::Running(run) => run.over,
+        _ => false,
+    }
+}
+
+/// Reads one line more of a schedule, and says whether it is the last one. `Limit` also if its header has more than 16
+/// nodes then; else fails as a stage does.
+fn read_on(stage: &mut Stage<Listing>, alloc: Global, line: &[u8]) -> Result<bool, Stop>
+    ensures next { (p : Progress) → StageStands ListingStands p stage.old
+        → MatchResult result (ReadsSchedule p line.now stage.new) (HaltsReading (Scheduling p) line.now) }
+    ensures last { result ≡ Ok true → IsLast stage.new }
+    ensures kind { result ≢ Err Stop.WriteFault }
+{
+    match stage.advance(alloc, line) {
+        Ok(()) => {
+            if node_count(stage) > MOST_NODES {
+                return Err(Stop::Limit);
+            }
+            Ok(is_over(stage))
+        }
+        Err(stop) => Err(stop),
     }
 }
 
@@ -101,25 +131,40 @@ impl AuditInput {
             → MatchResult result (λ _. AdvancesReading r line.now self.new) (HaltsReading r line.now) }
         ensures kind { result ≢ Err Stop.WriteFault }
     {
-        if let AuditInput::Claims(claiming) = self {
-            return claiming.line(line);
+        match self {
+            AuditInput::Claims(claiming) => claiming.line(line),
+            AuditInput::Schedule(stage) => match read_on(stage, alloc, line) {
+                Ok(false) => Ok(()),
+                Ok(true) => self.claim(alloc),
+                Err(stop) => Err(stop),
+            },
         }
-        self.go_on(alloc, line)
     }
 
-    /// The same within the schedule. Only here is there room for what is held next, since each call clears that room.
+    /// Begins the claims behind a schedule whose last line was read. Fails only if out of memory. Only here is there
+    /// room for what is held next, since each call clears that room.
     #[inline(never)]
-    fn go_on(&mut self, alloc: Global, line: &[u8]) -> Result<(), Stop>
-        ensures next { (r : Reading) → EventStands r self.old
-            → MatchResult result (λ _. AdvancesReading r line.now self.new) (HaltsReading r line.now) }
+    fn claim(&mut self, alloc: Global) -> Result<(), Stop>
+        requires { MayClaim self.old }
+        ensures next { (header : HeaderValue) (events : List Event)
+            → EventStands (Scheduling (Ended header events)) self.old
+            → MatchResult result (λ _. EventStands (Claimed (unclaimed header events)) self.new)
+            (λ stop. stop ≡ Stop.OutOfMemory) }
         ensures kind { result ≢ Err Stop.WriteFault }
     {
-        match mem::replace(self, AuditInput::new()).next(alloc, line) {
-            Ok(next) => {
-                *self = next;
+        let AuditInput::Schedule(stage) = mem::replace(self, AuditInput::new()) else {
+            unreachable!();
+        };
+        let Stage::Running(run) = stage else {
+            unreachable!();
+        };
+        let listing = run.handler;
+        match ClaimReader::begin(alloc, listing.header, listing.events) {
+            Ok(claiming) => {
+                *self = AuditInput::Claims(claiming);
                 Ok(())
             }
-            Err(stop) => Err(stop),
+            Err(_) => Err(Stop::OutOfMemory),
         }
     }
 
@@ -139,72 +184,6 @@ impl AuditInput {
             return None;
         }
         stage.try_front(text)
-    }
-
-    /// What the lines come to with this one more; fails as `advance` does.
-    fn next(self, alloc: Global, line: &[u8]) -> Result<AuditInput, Stop>
-        ensures next { (r : Reading) → EventStands r self
-            → MatchResult result (AdvancesReading r line.now) (HaltsReading r line.now) }
-        ensures kind { result ≢ Err Stop.WriteFault }
-    {
-        match self {
-            AuditInput::Schedule(stage) => Self::schedule(alloc, stage, line),
-            AuditInput::Claims(mut claiming) => match claiming.line(line) {
-                Ok(()) => Ok(AuditInput::Claims(claiming)),
-                Err(stop) => Err(stop),
-            },
-        }
-    }
-
-    /// Reads a line of the schedule, up to `end`; fails as `next` does.
-    fn schedule(alloc: Global, mut stage: Stage<Listing>, line: &[u8]) -> Result<AuditInput, Stop>
-        ensures next { (p : Progress) → StageStands ListingStands p stage
-            → MatchResult result (AdvancesReading (Scheduling p) line.now)
-            (HaltsReading (Scheduling p) line.now) }
-        ensures kind { result ≢ Err Stop.WriteFault }
-    {
-        match stage.advance(alloc, line) {
-            Ok(()) => Self::behind(alloc, stage),
-            Err(stop) => Err(stop),
-        }
-    }
-
-    /// What is held after a line that the schedule accepted. `Limit` where its header now has more than 16 nodes; else
-    /// fails only if out of memory.
-    fn behind(alloc: Global, stage: Stage<Listing>) -> Result<AuditInput, Stop>
-        ensures next { (p : Progress) → StageStands ListingStands p stage
-            → MatchResult result (λ next. (nodes_at p ≤ most_nodes)
-            × EventStands (reading_of p) next) (HaltsBehind p) }
-        ensures kind { result ≢ Err Stop.WriteFault }
-    {
-        if node_count(&stage) > MOST_NODES {
-            return Err(Stop::Limit);
-        }
-        match stage {
-            Stage::Running(run) => Self::behind_header(alloc, run),
-            Stage::Untitled => Ok(AuditInput::Schedule(Stage::Untitled)),
-            Stage::Titled(version) => Ok(AuditInput::Schedule(Stage::Titled(version))),
-            Stage::Drifted(header) => Ok(AuditInput::Schedule(Stage::Drifted(header))),
-            Stage::Heading(header) => Ok(AuditInput::Schedule(Stage::Heading(header))),
-        }
-    }
-
-    /// What is held after a line that comes after the header: an event, or `end`, with which the claims begin. Fails
-    /// only if out of memory.
-    fn behind_header(alloc: Global, run: Run<Listing>) -> Result<AuditInput, Stop>
-        requires { length run.handler.header.nodes ≤ most_nodes }
-        ensures next { (p : Progress) → RunStands ListingStands p run
-            → MatchResult result (EventStands (reading_of p)) (λ stop. stop ≡ Stop.OutOfMemory) }
-        ensures kind { result ≢ Err Stop.WriteFault }
-    {
-        if !run.over {
-            return Ok(AuditInput::Schedule(Stage::Running(run)));
-        }
-        let listing = run.handler;
-        match ClaimReader::begin(alloc, listing.header, listing.events) {
-            Ok(claiming) => Ok(AuditInput::Claims(claiming)),
-            Err(_) => Err(Stop::OutOfMemory),
-        }
     }
 
     /// The cause for which a line of more than 1,024 octets is refused; `start` is its first 8 octets. In the schedule

@@ -1,5 +1,6 @@
 -- An event that is left lacks something.
-use Rattle.tsp_audit_command.proofs.StandLemmas.{Halts-concluding}
+use Rattle.tsp_lines.proofs.Outputs.{Hands-nil}
+use Rattle.tsp_audit_command.proofs.StandLemmas.{Concludes-told, Halts-concluding}
 use Rattle.tsp_audit_command.proofs.check.conclude.Goals as goal
 
 pub returns-in-Err-clause-ends : goal.returns-in-Err-clause-ends
@@ -13,3 +14,11 @@ returns-in-Ok-judge-clause-cause g c = c.tell.ensures.cause
 
 pub returns-in-Ok-judge-clause-still : goal.returns-in-Ok-judge-clause-still
 returns-in-Ok-judge-clause-still g c = c.tell.ensures.still
+
+pub returns-in-Ok-judge-clause-ends : goal.returns-in-Ok-judge-clause-ends
+returns-in-Ok-judge-clause-ends g c =
+    let told = c.tell.ensures in
+    Concludes-told c.args.claiming c.pass_all.new.self c.in-Ok-judge.found _ _ _ _ c.tell.result c.in-Ok.ensures c.in-Ok-judge.ensures told.ok told.err told.stop
+
+pub returns-in-Err-judge-clause-ends : goal.returns-in-Err-judge-clause-ends
+returns-in-Err-judge-clause-ends g c = Hands-nil _ _
