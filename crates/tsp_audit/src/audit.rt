@@ -78,7 +78,9 @@ impl Audit {
         requires whole { is_whole header ≡ true }
         ensures { IfOk result (λ audit. AuditStands premises header [] audit) }
     {
-        let notes = Remembered::new(alloc, header.nodes().len())?;
+        let Ok(notes) = Remembered::new(alloc, header.nodes().len()) else {
+            return Err(AllocError);
+        };
         match Claims::new(alloc, header) {
             Ok(claims) => Ok(Audit {
                 claims,
@@ -104,14 +106,18 @@ impl Audit {
             → AreDated (length header.nodes) told → EndsAt header told ends.now
             → IfOk result (λ audit. AuditStands premises header told audit) }
     {
-        let mut notes = Remembered::new(alloc, claims.header().nodes().len())?;
-        let failed = look_through(&claims, ends, premises, &mut notes)?;
-        Ok(Audit {
-            claims,
-            premises,
-            notes,
-            failed,
-        })
+        let Ok(mut notes) = Remembered::new(alloc, claims.header().nodes().len()) else {
+            return Err(AllocError);
+        };
+        match look_through(&claims, ends, premises, &mut notes) {
+            Ok(failed) => Ok(Audit {
+                claims,
+                premises,
+                notes,
+                failed,
+            }),
+            Err(refused) => Err(refused),
+        }
     }
 
     /// Takes in an event and the lines that are claimed of it, and gives the verdict of the history
