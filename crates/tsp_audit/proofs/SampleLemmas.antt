@@ -1,5 +1,5 @@
 -- The Close of which a send came, its best sample of a node, and that sample's reading.
-use Rattle.std.proofs.Common.{sym, ap, subst, ◌∙◌, arith, get_or, take, ◌≡◌, ◌<◌, ◌≤◌, ◌+◌, ℕ, ℤ, pos, List, [], ◌∷◌, length, MatchOption, Option, None, Some}
+use Rattle.std.proofs.Common.{sym, ap, subst, ◌∙◌, arith, get_or, take, ◌≡◌, ◌≤◌, ◌+◌, ℕ, ℤ, List, [], ◌∷◌, length, MatchOption, Option, None, Some}
 use Rattle.std.proofs.lemmas.List.{length-take}
 use Rattle.tsp_rules.specs.Values.{Port}
 use Rattle.tsp_base.specs.Words.{Came, Line, dids, of, view, all_corrects, lives, Within, Sampled, best, peer_of, posted}
@@ -7,7 +7,7 @@ use Rattle.tsp_base.proofs.PlaceLemmas.{Within-through}
 use Rattle.tsp_promises.{proofs.SendPlaces.posted-mono, proofs.SendPlaces.posted-post, specs.Fits.node_of, specs.StepFacts.closed}
 use Rattle.tsp_audit.proofs.{FromRoundLemmas.begun-from_round, FromRoundLemmas.begun-none, FromRoundLemmas.lines-one, TakeLemmas.same-noted}
 use Rattle.tsp_audit.proofs.Prefixes.{history-within}
-use Rattle.tsp_history.proofs.{HistoryLemmas.Within-noted, HistoryLemmas.history-more, NoteLemmas.length-noted}
+use Rattle.tsp_history.proofs.{HistoryLemmas.history-more, NoteLemmas.length-noted}
 use Rattle.tsp_audit.specs.{Agreeing.FromRoundAs, Agreeing.IsFromNoRound, declared.round_correction.RoundCorrection.RoundCorrection}
 use Rattle.tsp_audit.specs.FromRounds.{BegunAt, HasNoRound, RoundAs, Rounds, TakesNone, TakesThen}
 use Rattle.tsp_history.specs.{Histories.deed_of, Histories.history_of, Histories.line_of, Posts.PostsAt, declared.rounds.Best.Best}

@@ -1,7 +1,7 @@
 -- Clocks that settled agree from then on.
 use Rattle.std.proofs.Common.{sym, subst, subst₂, arith, ◌≡◌, ◌≤◌, ◌+◌, ◌-◌, ◌*◌, ◌≤ℤ◌, ℕ, ℤ, pos, ◌+ℤ◌, ◌-ℤ◌, nat_abs, Option, None, Some, List, MatchOption}
 use Rattle.std.proofs.lemmas.Int.{ints}
-use Rattle.tsp_audit.specs.Agreeing.{AgreementIs, AllAgree, AllBounded, BossAgrees, PairAgrees, SettledAt, Settles, StillSettled}
+use Rattle.tsp_audit.specs.Agreeing.{AgreementIs, AllAgree, AllBounded, SettledAt, Settles, StillSettled}
 use Rattle.tsp_audit.specs.{Changes.LeavesState, Settings.HasClocks, declared.agreement_tracker.AgreementTracker.AgreementTracker}
 use Rattle.tsp_audit.specs.declared.round_correction.NodeState.{NodeState}
 use Rattle.tsp_base.specs.Words.{HeaderValue, Line, tick_at, width}

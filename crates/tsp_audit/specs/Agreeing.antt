@@ -3,7 +3,7 @@ use Rattle.std.specs.Prelude.{◌≡◌, ◌<◌, ◌≤◌, ◌≤ℤ◌, ◌�
 use Rattle.tsp_audit.specs.declared.round_correction.{NodeState.NodeState, RoundCorrection.RoundCorrection}
 use Rattle.tsp_audit.specs.{Changes.LeavesState, declared.agreement_tracker.AgreementTracker.AgreementTracker}
 use Rattle.tsp_promises.specs.{Agreed.FromRound, Agreed.RightAfter, Agreed.Unchanged, Everywhere.Everywhere, Fits.node_of}
-use Rattle.tsp_base.specs.Words.{HeaderValue, Line, dids, from_act, of, all_corrects, lives, moved, Within, tick_at, width}
+use Rattle.tsp_base.specs.Words.{HeaderValue, Line, dids, from_act, of, all_corrects, lives, moved, tick_at, width}
 use Rattle.tsp_history.specs.{Clocks.IsSumOf, Histories.deed_of, Rounds.TripsTell, declared.line.HistoryLine.HistoryLine}
 use Rattle.tsp_run.specs.Setup.{node_line}
 

@@ -1,4 +1,4 @@
-use Rattle.std.proofs.Common.{ap, subst, ◌≡◌, ◌≤◌, ℕ, ◌+◌, true, false, not, List, [], ◌∷◌, Option, None, Some, slice_get, sym, inl, inr, refl}
+use Rattle.std.proofs.Common.{subst, ◌≡◌, ◌≤◌, ℕ, ◌+◌, true, false, not, List, [], ◌∷◌, Option, None, Some, slice_get, sym, inl, inr, refl}
 use Rattle.std.specs.List.{list_any}
 use Rattle.std.proofs.lemmas.Bool.{and_parts, eqb-false, leb-true, not-true, or_parts}
 use Rattle.tsp_audit.specs.Premised.{boots_with, forges, in_life, is_honest, keeps_life, repeats_word, takes_early, words_differ, premises_of}

@@ -1,4 +1,4 @@
-use Rattle.std.proofs.Common.{◌≡◌, ℕ, pos, subst, refl, arith, inl, inr, get_or, None}
+use Rattle.std.proofs.Common.{◌≡◌, pos, subst, refl, arith, inl, inr, get_or, None}
 use Rattle.std.proofs.lemmas.Bool.{cases_lt}
 use Rattle.tsp_audit.{proofs.AgreementSteps.state-at, specs.Agreeing.IsReadBy, specs.declared.round_correction.NodeState.NodeState}
 use Rattle.tsp_audit.proofs.nearness.all_past.Goals as goal

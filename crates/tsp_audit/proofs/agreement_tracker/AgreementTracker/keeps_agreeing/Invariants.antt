@@ -1,5 +1,5 @@
 -- The agreement stands for the lines so far, clocks agree in them, there is room for the rest, and what is held to be settled is so.
-use Rattle.std.proofs.Common.{◌≡◌, ◌≤◌, ◌+◌, ◌-◌, ℕ, length, take, vec_len, vec_capacity}
+use Rattle.std.proofs.Common.{◌≤◌, ◌+◌, ◌-◌, ℕ, length, take, vec_len, vec_capacity}
 use Rattle.tsp_promises.specs.{Agreed.Agreed, Setting.Setting}
 use Rattle.tsp_history.specs.Histories.{history_of}
 use Rattle.tsp_audit.specs.{Agreeing.AgreementIs, Agreeing.Numbered, Agreeing.SettledAt, Settings.HasClocks, Settings.Timely}
