@@ -93,6 +93,9 @@ pub Advances-last : (p : Progress) (line : List ℕ) (stage : Stage Listing) (ne
 Advances-last p line stage next result (a, few, over) begins =
     MatchResult-map result (Begins-behind a.to stage next result a.stands_for over begins) (λ _ stands. Advances-scheduled p line stage a next few stands) (λ stop is. subst (λ s. HaltsReading (Scheduling p) line s) (sym is) tt)
 
+pub ok-same : {b c : Bool} (r : Result Bool Stop) → r ≡ Ok b → r ≡ Ok c → b ≡ c
+ok-same r p q = cc
+
 -- the last line of a schedule with few nodes
 pub IsLast-by : (stage : Stage Listing) (count : ℕ) → HasNodes stage count → count ≤ most_nodes → is_over stage ≡ true → IsLast stage
 IsLast-by AtUntitled count has few o = absurd (true≢false (sym o))

@@ -64,7 +64,8 @@ fn is_over(stage: &Stage<Listing>) -> bool
 /// nodes then; else fails as a stage does.
 fn read_on(stage: &mut Stage<Listing>, alloc: Global, line: &[u8]) -> Result<bool, Stop>
     ensures next { (p : Progress) → StageStands ListingStands p stage.old
-        → MatchResult result (ReadsSchedule p line.now stage.new) (HaltsReading (Scheduling p) line.now) }
+        → MatchResult result (ReadsSchedule p line.now stage.new)
+        (HaltsReading (Scheduling p) line.now) }
     ensures last { result ≡ Ok true → IsLast stage.new }
     ensures kind { result ≢ Err Stop.WriteFault }
 {

@@ -1,7 +1,7 @@
 -- The schedule took the line; it may have a node too many then.
-use Rattle.std.proofs.Common.{◌≡◌, ◌≤◌, ◌∙◌, true, subst, sym}
+use Rattle.std.proofs.Common.{◌≤◌, ◌∙◌, refl, subst, sym}
 use Rattle.tsp_audit_command.specs.Listings.{most_nodes}
-use Rattle.tsp_audit_command.proofs.StandLemmas.{Halts-many, IsLast-by}
+use Rattle.tsp_audit_command.proofs.StandLemmas.{Halts-many, IsLast-by, ok-same}
 use Rattle.tsp_audit_command.proofs.check.read_on.Goals as goal
 
 pub returns-then-node_count-gt-MOST_NODES-clause-next : goal.returns-then-node_count-gt-MOST_NODES-clause-next
@@ -15,5 +15,4 @@ returns-else-node_count-gt-MOST_NODES-clause-next c p stands =
 
 pub returns-else-node_count-gt-MOST_NODES-clause-last : goal.returns-else-node_count-gt-MOST_NODES-clause-last
 returns-else-node_count-gt-MOST_NODES-clause-last c e =
-    let over : c.is_over.result ≡ true = cc in
-    IsLast-by c.advance.new.self c.node_count.result c.node_count.ensures.few c.if-node_count-gt-MOST_NODES.false (sym c.is_over.ensures ∙ over)
+    IsLast-by c.advance.new.self c.node_count.result c.node_count.ensures.few c.if-node_count-gt-MOST_NODES.false (sym c.is_over.ensures ∙ ok-same _ refl e)
