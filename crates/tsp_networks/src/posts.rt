@@ -13,6 +13,10 @@ use tsp_base::stamp::Stamp;
 /// The greatest length of a name, in octets.
 const LONGEST: usize = 255;
 
+/// Room is made for so many posts at least. Lists of that size have pages of their own, so that nothing is copied when
+/// they grow, and a page that nothing was put on takes no memory.
+const MANY: usize = 4096;
+
 /// Posted datagrams, numbered from 0, and room for more. It counts its room itself, so that a step that has enough
 /// asks no vector.
 #[derive(Drop)]
@@ -106,10 +110,22 @@ impl Posts {
         if n <= self.spare {
             return Ok(());
         }
-        let Some(octets) = n.checked_mul(LONGEST) else {
+        self.reserve_anew(n)
+    }
+
+    /// The same where there isn't so much room. (A call of its own, since it is rare.)
+    #[inline(never)]
+    fn reserve_anew(&mut self, n: usize) -> Result<(), AllocError>
+        ensures items { self.new.items ≡ self.old.items }
+        ensures room { OnOk result (n ≤ self.new.spare) }
+        ensures kept { self.old.spare ≤ self.new.spare }
+        ensures err { OnErr result (self.new.spare ≡ self.old.spare) }
+    {
+        let count = n.max(MANY);
+        let Some(octets) = count.checked_mul(LONGEST) else {
             return Err(AllocError);
         };
-        self.heads.reserve(n)?;
+        self.heads.reserve(count)?;
         self.names.reserve(octets)?;
         let heads = self.heads.capacity() - self.heads.len();
         let names = (self.names.capacity() - self.names.len()) / LONGEST;
