@@ -1,4 +1,5 @@
 pub mod Heads
+pub mod Parcels
 pub mod Posts
 pub mod Rooms
 pub mod Sheets

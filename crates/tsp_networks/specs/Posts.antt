@@ -1,6 +1,6 @@
 -- Posted datagrams as their readers see them.
-use Rattle.std.specs.Prelude.{ℕ, List, Option, None, Some}
-use Rattle.tsp_rules.specs.Values.{Datagram, Message, Stamp, StampValue}
+use Rattle.std.specs.Prelude.{ℕ, List}
+use Rattle.tsp_rules.specs.Values.{Datagram}
 use Rattle.tsp_run.specs.declared.posted.Posted.{Posted}
 use Rattle.tsp_networks.specs.declared.way.Way.{Way}
 
@@ -16,8 +16,3 @@ posted_on way datagram = record { at = way.at; from = way.from; port = way.port;
 -- a post without its datagram
 abbrev pub way_of : Posted → Way
 way_of p = record { at = p.at; from = p.from; port = p.port; to = p.to }
-
--- the stamp that a datagram is; None if it is a message
-abbrev pub stamp_in : Datagram → Option StampValue
-stamp_in (Message m) = None
-stamp_in (Stamp s) = Some s

@@ -4,13 +4,12 @@ ghost use Rattle.tsp_base.specs.declared.datagram.Datagram.{Datagram};
 ghost use Rattle.tsp_base.specs.declared.datagram.Taken.TheVariants.{Good};
 ghost use Rattle.tsp_networks.specs.Heads.{HeldStands, datagram_in, is_peer, own_name_in};
 ghost use Rattle.tsp_networks.specs.Heads.{place_of, route_of, small_of, way_in};
-ghost use Rattle.tsp_networks.specs.Posts.{stamp_in};
 
+use crate::parcel::Parcel;
 use crate::way::Way;
-use tsp_base::datagram::{Datagram, Taken};
+use tsp_base::datagram::Datagram;
 use tsp_base::kind::Kind;
 use tsp_base::message::{Body, Message};
-use tsp_base::name::Name;
 use tsp_base::place::{PeerId, Place, Port};
 use tsp_base::stamp::Stamp;
 
@@ -230,33 +229,11 @@ pub(crate) fn way_of(head: &Head) -> Way
     }
 }
 
-/// The stamp that is stored; None exactly where it is a message.
-pub(crate) fn stamp_of(held: &StoredDatagram) -> Option<Stamp>
-    ensures { (names : List ℕ) → HeldStands names held.now
-        → result ≡ stamp_in (datagram_in names held.now) }
-{
-    match held {
-        StoredDatagram::Message { .. } => None,
-        StoredDatagram::Request { word, counter, .. } => Some(Stamp::Request {
-            word: *word,
-            counter: *counter,
-        }),
-        StoredDatagram::Reply {
-            ticket,
-            word,
-            counter,
-            reading,
-            ..
-        } => Stamp::reply(*ticket, *word, *counter, *reading),
-    }
-}
-
-/// The stored message, whose name is among these octets, as it is taken.
+/// Puts a stored datagram, whose name is among these octets, into a parcel.
 #[inline(always)]
-pub(crate) fn message_of(names: &[u8], held: &StoredDatagram) -> Taken
-    requires stands { HeldStands names.now held.now }
-    requires message { stamp_in (datagram_in names.now held.now) ≡ None }
-    ensures { result ≡ Good (datagram_in names.now held.now) }
+pub(crate) fn pack(names: &[u8], held: &StoredDatagram, parcel: &mut Parcel)
+    requires { HeldStands names.now held.now }
+    ensures { parcel.new ≡ Good (datagram_in names.now held.now) }
 {
     match held {
         StoredDatagram::Message {
@@ -267,9 +244,22 @@ pub(crate) fn message_of(names: &[u8], held: &StoredDatagram) -> Taken
             body,
             ..
         } => {
-            let name = Name::new(&names[*start..*start + *len as usize]);
-            Taken::Good(Datagram::Message(Message::new(*kind, *number, *body, name)))
+            let name = &names[*start..*start + *len as usize];
+            parcel.put_message(*kind, *number, *body, name);
         }
-        _ => unreachable!(),
+        StoredDatagram::Request { word, counter, .. } => parcel.put_stamp(Stamp::Request {
+            word: *word,
+            counter: *counter,
+        }),
+        StoredDatagram::Reply {
+            ticket,
+            word,
+            counter,
+            reading,
+            ..
+        } => match Stamp::reply(*ticket, *word, *counter, *reading) {
+            Some(stamp) => parcel.put_stamp(stamp),
+            None => unreachable!(),
+        },
     }
 }

@@ -8,7 +8,8 @@
 //!
 //! A step puts its acts on a [`sheet::Sheet`], each in its line of the trace. [`tell::tell`] completes the
 //! lines, and adds what they post to the [`posts::Posts`], numbered from 0. A name may have 255 octets but
-//! mostly has few, so the octets of all names are in one list, and each post has the place of its own.
+//! mostly has few, so the octets of all names are in one list, and each post has the place of its own. A post's
+//! datagram is put together again in a [`parcel::Parcel`], which whoever takes it hands over.
 //!
 //! ```
 //! let all = all_nodes(alloc, header.nodes().len() as u32)?;
@@ -28,8 +29,7 @@
 //! - That time goes back, that what an event names isn't there and that a node is down, each as the cause
 //!   that it is (`time_back`, `no_node`, `down_at`).
 //! - Posts are given back under their numbers as they were put, whatever their names (`items` of `push`,
-//!   `way`, `stamp`, `message`), as many as room was made for (`spare` of `push`, `room`, `kept` of
-//!   `reserve`).
+//!   `way`, `pack`), as many as room was made for (`spare` of `push`, `room`, `kept` of `reserve`).
 //!
 //! # What is only tested
 //!
@@ -57,6 +57,7 @@ use tsp_run::address::Address;
 
 mod head;
 pub mod limits;
+pub mod parcel;
 pub mod posts;
 pub mod refusals;
 pub mod sheet;

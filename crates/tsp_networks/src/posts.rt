@@ -3,12 +3,12 @@ ghost use Rattle.std.specs.Prelude.{◌≡◌, ◌≤◌, ◌<◌, ◌+◌, ◌+
 ghost use Rattle.std.specs.Prelude.{OnErr};
 ghost use Rattle.std.specs.Option.{option_map};
 
-use crate::head::{Head, hold, message_of, number_of, stamp_of, way_of};
+use crate::head::{Head, hold, number_of, pack, way_of};
+use crate::parcel::Parcel;
 use crate::way::Way;
 use std::alloc::{AllocError, Global};
 use std::marker::Model;
-use tsp_base::datagram::{Datagram, Taken};
-use tsp_base::stamp::Stamp;
+use tsp_base::datagram::Datagram;
 
 /// The greatest length of a name, in octets.
 const LONGEST: usize = 255;
@@ -47,7 +47,7 @@ impl Model for Posts {
 impl Posts {
     ghost use Rattle.tsp_base.specs.declared.datagram.Taken.TheVariants.{Good};
     ghost use Rattle.tsp_run.specs.declared.posted.Posted.{Posted};
-    ghost use Rattle.tsp_networks.specs.Posts.{posted_on, stamp_in, way_of};
+    ghost use Rattle.tsp_networks.specs.Posts.{posted_on, way_of};
 
     /// No posts and no room. Takes no memory.
     pub fn new(alloc: Global) -> Posts
@@ -79,24 +79,14 @@ impl Posts {
         }
     }
 
-    /// The stamp with this number; None exactly where it is a message.
-    pub fn stamp(&self, k: u64) -> Option<Stamp>
+    /// Puts the datagram with this number into a parcel.
+    #[inline(always)]
+    pub fn pack(&self, k: u64, parcel: &mut Parcel)
         requires { k < length self.now.items }
         ensures { (p : Posted) → slice_get self.now.items k ≡ Some p
-            → result ≡ stamp_in p.datagram }
+            → parcel.new ≡ Good p.datagram }
     {
-        stamp_of(&self.heads[k as usize].held)
-    }
-
-    /// The message with this number, as it is taken.
-    #[inline(always)]
-    pub fn message(&self, k: u64) -> Taken
-        requires within { k < length self.now.items }
-        requires message { (p : Posted) → slice_get self.now.items k ≡ Some p
-            → stamp_in p.datagram ≡ None }
-        ensures { (p : Posted) → slice_get self.now.items k ≡ Some p → result ≡ Good p.datagram }
-    {
-        message_of(self.names.as_slice(), &self.heads[k as usize].held)
+        pack(self.names.as_slice(), &self.heads[k as usize].held, parcel);
     }
 
     /// Makes room for at least `n` more posts, whatever their names. Fails only if out of memory; the room is

@@ -5,6 +5,7 @@ use tsp_base::event::{Event, EventFault};
 use tsp_base::header::Header;
 use tsp_base::place::{Place, Port};
 use tsp_base::plain::Plain;
+use tsp_networks::parcel::Parcel;
 use tsp_schedule::handler::EventHandler;
 use tsp_world::world::World;
 
@@ -13,6 +14,8 @@ use tsp_world::world::World;
 pub struct Replayed {
     /// The nodes, and the lines of the last event.
     pub world: World,
+    /// What posted datagrams are taken in.
+    pub parcel: Parcel,
 }
 
 impl EventHandler for Replayed {
@@ -25,7 +28,10 @@ impl EventHandler for Replayed {
 
     fn begin(alloc: Global, header: Header) -> Result<Replayed, AllocError> {
         let world = World::new(alloc, header)?;
-        Ok(Replayed { world })
+        Ok(Replayed {
+            world,
+            parcel: Parcel::new(),
+        })
     }
 
     fn event(&mut self, e: &Event) -> Result<(), EventFault> {
@@ -36,7 +42,7 @@ impl EventHandler for Replayed {
         match plain {
             Plain::Boot { at, node, word } => self.world.boot(*at, *node, *word),
             Plain::Turn { at, node } => self.world.turn(*at, *node),
-            Plain::Take { at, datagram } => self.world.take(*at, *datagram),
+            Plain::Take { at, datagram } => self.world.take(*at, *datagram, &mut self.parcel),
         }
     }
 

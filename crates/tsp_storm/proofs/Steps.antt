@@ -1,11 +1,11 @@
 -- What a step of a schedule in the making comes to.
 use Rattle.std.proofs.Common.{sym, ap, ◌∙◌, subst, arith, inl, inr, ◌≡◌, ◌≢◌, ℕ, suc, ◌+◌, ◌<◌, [], ◌∷◌, length, Option, Some, OnOk, IfErr, refl}
 use Rattle.std.specs.declared.result.Result.{Result, TheVariants.Ok, TheVariants.Err}
-use Rattle.tsp_rules.specs.Values.{Event}
+use Rattle.tsp_rules.specs.Values.{Event, Taken}
 use Rattle.tsp_base.specs.declared.event.EventFault.{EventFault}
 use Rattle.tsp_base.specs.declared.event.EventFault.TheVariants.{TimeBack, NoNode, NoDatagram, NotUp, Limit, OutOfMemory}
 use Rattle.tsp_script.specs.Storms.{StormValue}
-use Rattle.tsp_storm.specs.declared.{making.Making.Making, making.Stopped.Stopped, request.Request.Request}
+use Rattle.tsp_storm.specs.declared.{making.Making.Making, making.Stopped.Stopped}
 use Rattle.tsp_storm.specs.{Answers.StopsAfter, Answers.refused_after, Makings.MakingStands, Makings.StopsMaking}
 use Rattle.tsp_storm.specs.Schedules.{header_of, storm_events, made, posted_count, next_event, event_after}
 use Rattle.tsp_storm.proofs.Draws.{Moves, next_moves}
@@ -50,13 +50,13 @@ pub event_now : (s : StormWords) (m : Making) (e : Event) (w : StormValue) → M
 event_now s m e w st is = event_is s m e w st is ∙ ap (λ n. event_after s n) (count_now s m st)
 
 -- one event more happened
-pub record Stepped (s : StormWords) (m : Making) (w : StormValue) (world : World) (asked : Request) : Type 0 where
-  pub stands : MakingStands s (record { storm = w; world = world; request = asked })
+pub record Stepped (s : StormWords) (m : Making) (w : StormValue) (world : World) (parcel : Taken) : Type 0 where
+  pub stands : MakingStands s (record { storm = w; world = world; parcel = parcel })
   pub given : w.given ≡ m.storm.given + 1
   pub event : WorldStands (header_of s) (event_after s m.storm.given ∷ storm_events s m.storm.given) world
 
-stepped : (s : StormWords) (m : Making) (e : Event) (w : StormValue) (world : World) (asked : Request) → MakingStands s m → ComesNext s m e w → WorldStands (header_of s) (storm_events s (m.world.events + 1)) world → Stepped s m w world asked
-stepped s m e w world asked st is new =
+stepped : (s : StormWords) (m : Making) (e : Event) (w : StormValue) (world : World) (parcel : Taken) → MakingStands s m → ComesNext s m e w → WorldStands (header_of s) (storm_events s (m.world.events + 1)) world → Stepped s m w world parcel
+stepped s m e w world parcel st is new =
     let given = (moves_now s m e w st is).given in
     let same = count_now s m st in
     let count : suc m.storm.given ≡ w.given = omega (arith, given) in
@@ -71,10 +71,10 @@ stepped s m e w world asked st is new =
     }
 
 -- what is so where an event happened is so where its step did
-pub on_step : {E : Type 0} (s : StormWords) (m : Making) (e : Event) (w : StormValue) (world : World) (asked : Request) (r : Result (Unit {0}) E) (P : Type 0) → MakingStands s m → ComesNext s m e w → (Stepped s m w world asked → P) →
+pub on_step : {E : Type 0} (s : StormWords) (m : Making) (e : Event) (w : StormValue) (world : World) (parcel : Taken) (r : Result (Unit {0}) E) (P : Type 0) → MakingStands s m → ComesNext s m e w → (Stepped s m w world parcel → P) →
     OnOk r (WorldStands (header_of s) (storm_events s (m.world.events + 1)) world) → OnOk r P
-on_step s m e w world asked (Ok u) P st is f new = f (stepped s m e w world asked st is new)
-on_step s m e w world asked (Err x) P st is f new = new
+on_step s m e w world parcel (Ok u) P st is f new = f (stepped s m e w world parcel st is new)
+on_step s m e w world parcel (Err x) P st is f new = new
 
 -- why no event happened is why no step did
 pub stops_step : (s : StormWords) (m : Making) (r : Result (Unit {0}) Stopped) → MakingStands s m → IfErr r (λ stop. StopsMaking s m.world.events stop) → IfErr r (λ stop. StopsMaking s m.storm.given stop)
@@ -114,8 +114,8 @@ stops_after s n world f a b is more same w refused limit =
     (both.0 ∙ sym (same ∙ w.count), record { within = more; valid = w.valid; limit = (a, b, both.1) })
 
 -- a schedule without events
-pub stands_begins : (s : StormWords) (storm : StormValue) (world : World) (asked : Request) → IsStorm s → storm ≡ (made s 0).generator → WorldStands (header_of s) [] world → MakingStands s (record { storm = storm; world = world; request = asked })
-stands_begins s storm world asked words is stands =
+pub stands_begins : (s : StormWords) (storm : StormValue) (world : World) (parcel : Taken) → IsStorm s → storm ≡ (made s 0).generator → WorldStands (header_of s) [] world → MakingStands s (record { storm = storm; world = world; parcel = parcel })
+stands_begins s storm world parcel words is stands =
     let none : storm.given ≡ 0 = ap (λ (v : StormValue). v.given) is ∙ (made_is s words 0).count in
     record {
       words = words;

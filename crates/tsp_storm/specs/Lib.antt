@@ -1,6 +1,5 @@
 pub mod Answers
 pub mod Kept
 pub mod Makings
-pub mod Requests
 pub mod Schedules
 pub mod Summaries

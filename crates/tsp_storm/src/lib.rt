@@ -31,6 +31,5 @@ pub mod counts;
 pub mod header;
 pub mod laws;
 pub mod making;
-pub mod request;
 pub mod run;
 pub mod summary;

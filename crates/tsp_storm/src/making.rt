@@ -14,12 +14,13 @@ ghost use Rattle.tsp_args.specs.Storms.{IsStorm};
 ghost use Rattle.tsp_world.specs.WorldStands.{WorldStands, Occurs, Declines};
 
 use crate::header::begin;
-use crate::request::Request;
 use std::alloc::{AllocError, Global};
 use tsp_args::storm::StormWords;
 use tsp_base::event::EventFault;
 use tsp_base::place::{Place, Port};
 use tsp_base::plain::Plain;
+use tsp_base::stamp::Stamp;
+use tsp_networks::parcel::Parcel;
 use tsp_run::line::Line;
 use tsp_script::storm::{Choice, Storm};
 use tsp_world::world::World;
@@ -33,12 +34,12 @@ pub enum Stopped {
     OutOfMemory,
 }
 
-/// The generator, the world, and room for a request.
+/// The generator, the world, and what datagrams are taken in.
 #[derive(Drop)]
 pub struct Making {
     storm: Storm,
     world: World,
-    request: Request,
+    parcel: Parcel,
 }
 
 /// The event that comes after those of a world, as a choice, which isn't a question.
@@ -74,7 +75,7 @@ fn answer(storm: &mut Storm, posted: u64, k: u64, time: u64) -> Choice
 }
 
 /// Lets an event without octets happen.
-fn occur_plain(world: &mut World, plain: &Plain) -> Result<(), EventFault>
+fn occur_plain(world: &mut World, parcel: &mut Parcel, plain: &Plain) -> Result<(), EventFault>
     requires { event_at (event_in plain.now) ≤ 1000000000000000 }
     ensures { MatchResult result (λ _. Occurs (event_in plain.now) world.old world.new)
         (Declines (event_in plain.now) world.old world.new) }
@@ -82,7 +83,7 @@ fn occur_plain(world: &mut World, plain: &Plain) -> Result<(), EventFault>
     match plain {
         Plain::Boot { at, node, word } => world.boot(*at, *node, *word),
         Plain::Turn { at, node } => world.turn(*at, *node),
-        Plain::Take { at, datagram } => world.take(*at, *datagram),
+        Plain::Take { at, datagram } => world.take(*at, *datagram, parcel),
     }
 }
 
@@ -90,7 +91,7 @@ fn occur_plain(world: &mut World, plain: &Plain) -> Result<(), EventFault>
 #[inline(always)]
 fn occur_request(
     world: &mut World,
-    request: &mut Request,
+    parcel: &mut Parcel,
     at: u64,
     node: u32,
     word: u64,
@@ -99,20 +100,20 @@ fn occur_request(
     ensures { MatchResult result (λ _. Occurs (request_event at node word) world.old world.new)
         (Declines (request_event at node word) world.old world.new) }
 {
-    request.set_word(word);
-    world.hand(at, node, Port(0), Place::Stranger, request.taken())
+    parcel.put_stamp(Stamp::Request { word, counter: 0 });
+    world.hand(at, node, Port(0), Place::Stranger, parcel.taken())
 }
 
 /// Lets an event happen that was chosen, which isn't a question.
-fn occur(world: &mut World, request: &mut Request, choice: &Choice) -> Result<(), EventFault>
+fn occur(world: &mut World, parcel: &mut Parcel, choice: &Choice) -> Result<(), EventFault>
     requires range { IsChoice (length world.old.sent.items) choice.now }
     requires given { (e : Event) × (draw_of choice.now ≡ Draw.Event e) }
     ensures { (e : Event) → draw_of choice.now ≡ Draw.Event e
         → MatchResult result (λ _. Occurs e world.old world.new) (Declines e world.old world.new) }
 {
     match choice {
-        Choice::Plain(plain) => occur_plain(world, plain),
-        Choice::Request { at, node, word } => occur_request(world, request, *at, *node, *word),
+        Choice::Plain(plain) => occur_plain(world, parcel, plain),
+        Choice::Request { at, node, word } => occur_request(world, parcel, *at, *node, *word),
         Choice::Ask(_) => unreachable!(),
     }
 }
@@ -121,7 +122,7 @@ fn occur(world: &mut World, request: &mut Request, choice: &Choice) -> Result<()
 /// it, with its number, from 1 on.
 fn happen(
     world: &mut World,
-    request: &mut Request,
+    parcel: &mut Parcel,
     words: &StormWords,
     choice: &Choice,
 ) -> Result<(), Stopped>
@@ -135,7 +136,7 @@ fn happen(
         (world.old.events + 1)) world.new) }
     ensures stops { IfErr result (λ stop. StopsMaking words.now world.old.events stop) }
 {
-    match occur(world, request, choice) {
+    match occur(world, parcel, choice) {
         Ok(()) => Ok(()),
         Err(fault) => match fault {
             EventFault::Limit(events, _) => Err(Stopped::Limit(events + 1)),
@@ -158,7 +159,7 @@ impl Making {
         Ok(Making {
             storm: begun.storm,
             world,
-            request: Request::new(),
+            parcel: Parcel::new(),
         })
     }
 
@@ -175,7 +176,7 @@ impl Making {
     {
         let world = &mut self.world;
         let choice = draw(&mut self.storm, world);
-        happen(world, &mut self.request, words, &choice)
+        happen(world, &mut self.parcel, words, &choice)
     }
 
     /// The lines of the last event's acts.

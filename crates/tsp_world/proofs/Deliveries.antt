@@ -1,10 +1,10 @@
 -- A datagram that is taken reaches the node that the run says.
 use Rattle.std.proofs.Common.{refl, sym, ap, ◌∙◌, subst, ◌≡◌, ℕ, ◌<◌, true, List, ◌∷◌, length, Option, None, Some, slice_get, vec_len}
 use Rattle.std.{proofs.lemmas.Option.slice_get_within, specs.Option.option_map}
-use Rattle.tsp_rules.specs.Values.{Datagram, Message, Stamp, StampValue, Taken, Good, Event, Take, Peer}
+use Rattle.tsp_rules.specs.Values.{Taken, Good, Event, Take, Peer}
 use Rattle.tsp_base.specs.Words.{HeaderValue, Came}
 use Rattle.tsp_gateway.specs.declared.gateway.Gateway.{Gateway}
-use Rattle.tsp_networks.specs.{Posts.stamp_in, Posts.way_of, declared.way.Way.Way}
+use Rattle.tsp_networks.specs.{Posts.way_of, declared.way.Way.Way}
 use Rattle.tsp_rules.specs.GateRows.{GotOn, answers_all}
 use Rattle.tsp_run.specs.{Networks.networks, declared.address.Address.Address, declared.arrival.Arrival.Arrival}
 use Rattle.tsp_run.specs.Refusals.{Allowed, down, node_in, refusal, scene}
@@ -51,8 +51,3 @@ delivered header events world new at k a way taken len w goes none way_is taken_
 -- a datagram that goes somewhere was posted
 pub post_within : (nets : List (List ℕ)) (posts : List Posted) (k : ℕ) (a : Address) → goes_to nets (slice_get posts k) ≡ Some a → k < length posts
 post_within nets posts k a goes = let found = goes_to-post nets (slice_get posts k) a goes in slice_get_within posts k found.0 found.1
-
--- whose stamp is this one is this stamp
-pub stamp_is : (d : Datagram) (s : StampValue) → Some s ≡ stamp_in d → Good (Stamp s) ≡ Good d
-stamp_is (Stamp t) s is = ap (λ x. Good (Stamp x)) (some_same is)
-stamp_is (Message m) s is = cc

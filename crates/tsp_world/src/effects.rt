@@ -2,10 +2,6 @@
 ghost use Rattle.std.specs.Prelude.{◌≡◌, ◌≤◌, ◌<◌, ◌+◌, ◌^◌, ◌+ℤ◌, pos, true, length, vec_len};
 ghost use Rattle.std.specs.Prelude.{slice_get, None, Some, OnOk, OnErr};
 ghost use Rattle.tsp_base.specs.declared.event.Event.{Event};
-ghost use Rattle.tsp_base.specs.declared.datagram.Datagram.{Datagram};
-ghost use Rattle.tsp_base.specs.declared.datagram.Taken.{Taken};
-ghost use Rattle.tsp_base.specs.declared.datagram.Taken.TheVariants.{Good};
-ghost use Rattle.tsp_base.specs.declared.place.Place.{Place};
 ghost use Rattle.tsp_base.specs.Headers.{KeepsDrift};
 ghost use Rattle.tsp_base.specs.Ticks.{tick_at};
 ghost use Rattle.tsp_rules.specs.GateRows.{GotOn, answers_all};
@@ -14,8 +10,6 @@ ghost use Rattle.tsp_run.specs.Networks.{networks, ports_on, room};
 ghost use Rattle.tsp_run.specs.Refusals.{Allowed};
 ghost use Rattle.tsp_run.specs.Run.{goes_to};
 ghost use Rattle.tsp_run.specs.Setup.{node_line};
-ghost use Rattle.tsp_run.specs.declared.posted.Posted.{Posted};
-ghost use Rattle.tsp_networks.specs.Posts.{stamp_in};
 ghost use Rattle.tsp_networks.specs.Sheets.{acts_on};
 ghost use Rattle.tsp_world.specs.WorldStands.{scene_of, IsReady, CanStep, CanNote, Notes, Passes};
 ghost use Rattle.tsp_world.specs.WorldStands.{HappensInWorld, HappensBy, Idles, RestsFor, Stays};
@@ -23,12 +17,12 @@ ghost use Rattle.tsp_world.specs.WorldStands.{HappensInWorld, HappensBy, Idles, 
 use crate::step;
 use crate::world::World;
 use std::alloc::AllocError;
-use tsp_base::datagram::{Datagram, Taken};
+use tsp_base::datagram::Taken;
 use tsp_base::drift::tick_at;
 use tsp_base::header::NodeLine;
 use tsp_base::place::{PeerId, Place, Port};
-use tsp_base::stamp::Stamp;
 use tsp_gateway::Gateway;
+use tsp_networks::parcel::Parcel;
 use tsp_networks::tell::tell;
 use tsp_node::BootFault;
 use tsp_run::address::Address;
@@ -153,9 +147,9 @@ impl World {
         self.note(node, tick);
     }
 
-    /// A posted datagram reaches its addressee at this address. What is written for a datagram always reads as the
-    /// same datagram, so nothing needs to be written or read.
-    pub(crate) fn deliver(&mut self, at: u64, k: u64, address: Address)
+    /// A posted datagram reaches its addressee at this address, in a parcel. What is written for a datagram always
+    /// reads as the same datagram, so nothing needs to be written or read.
+    pub(crate) fn deliver(&mut self, at: u64, k: u64, address: Address, parcel: &mut Parcel)
         requires ready { IsReady (room (ports_on address.node (networks self.old.header)))
             self.old }
         requires time { at ≤ 1000000000000000 }
@@ -168,56 +162,8 @@ impl World {
             unreachable!()
         };
         let from = Place::Peer(PeerId(way.from));
-        match self.sent.stamp(k) {
-            Some(stamp) => self.receive_stamp(at, address.node, address.port, from, stamp),
-            None => self.receive_message(at, address.node, address.port, from, k),
-        }
-    }
-
-    /// A node takes a stamp on a port. (A call of its own, as that of a message is, so that room for a datagram is
-    /// made for one kind alone.)
-    #[inline(never)]
-    fn receive_stamp(&mut self, at: u64, node: u32, port: Port, from: Place, stamp: Stamp)
-        requires ready { IsReady (room (ports_on node (networks self.old.header))) self.old }
-        requires able { CanStep at node self.old }
-        requires node { node < vec_len self.old.nodes }
-        requires port { port.0 < length (ports_on node (networks self.old.header)) }
-        ensures { HappensBy (answers_all (GotOn port from (Good (Datagram.Stamp stamp)))) at node
-            self.old self.new }
-    {
-        let taken = Taken::Good(Datagram::Stamp(stamp));
-        self.receive(at, node, port, from, &taken);
-    }
-
-    /// A node takes a posted message on a port.
-    #[inline(never)]
-    fn receive_message(&mut self, at: u64, node: u32, port: Port, from: Place, k: u64)
-        requires ready { IsReady (room (ports_on node (networks self.old.header))) self.old }
-        requires able { CanStep at node self.old }
-        requires node { node < vec_len self.old.nodes }
-        requires port { port.0 < length (ports_on node (networks self.old.header)) }
-        requires within { k < length self.old.sent.items }
-        requires message { (p : Posted) → slice_get self.old.sent.items k ≡ Some p
-            → stamp_in p.datagram ≡ None }
-        ensures { (p : Posted) → slice_get self.old.sent.items k ≡ Some p
-            → HappensBy (answers_all (GotOn port from (Good p.datagram))) at node self.old
-            self.new }
-    {
-        let taken = self.message(k);
-        self.receive(at, node, port, from, &taken);
-    }
-
-    /// The posted message with this number, as it is taken. (A call of its own, in which it is put together in the
-    /// place where it is wanted.)
-    #[inline(never)]
-    fn message(&self, k: u64) -> Taken
-        requires within { k < length self.now.sent.items }
-        requires message { (p : Posted) → slice_get self.now.sent.items k ≡ Some p
-            → stamp_in p.datagram ≡ None }
-        ensures { (p : Posted) → slice_get self.now.sent.items k ≡ Some p
-            → result ≡ Good p.datagram }
-    {
-        self.sent.message(k)
+        self.sent.pack(k, parcel);
+        self.receive(at, address.node, address.port, from, parcel.taken());
     }
 
     /// A node takes on a port what was read of octets.

@@ -14,6 +14,7 @@ use tsp_base::event::EventFault;
 use tsp_base::place::{PeerId, Place, Port};
 use tsp_codec::read;
 use tsp_networks::address_of;
+use tsp_networks::parcel::Parcel;
 use tsp_run::address::Address;
 
 impl World {
@@ -58,15 +59,15 @@ impl World {
         Ok(())
     }
 
-    /// A posted datagram reaches its addressee, or nobody where it has none.
+    /// A posted datagram reaches its addressee, in a parcel, or nobody where it has none.
     #[inline(always)]
-    pub fn take(&mut self, at: u64, k: u64) -> Result<(), EventFault>
+    pub fn take(&mut self, at: u64, k: u64, parcel: &mut Parcel) -> Result<(), EventFault>
         requires { at ≤ 1000000000000000 }
         ensures { MatchResult result (λ _. Occurs (Event.Take at k) self.old self.new)
             (Declines (Event.Take at k) self.old self.new) }
     {
         match self.address(k) {
-            Some(address) => self.take_at(at, k, address),
+            Some(address) => self.take_at(at, k, address, parcel),
             None => self.take_nowhere(at, k),
         }
     }
@@ -135,9 +136,15 @@ impl World {
         address_of(self.networks(), from, port, Place::Peer(p))
     }
 
-    /// A posted datagram reaches its addressee at this address.
+    /// A posted datagram reaches its addressee at this address, in a parcel.
     #[inline(always)]
-    fn take_at(&mut self, at: u64, k: u64, address: Address) -> Result<(), EventFault>
+    fn take_at(
+        &mut self,
+        at: u64,
+        k: u64,
+        address: Address,
+        parcel: &mut Parcel,
+    ) -> Result<(), EventFault>
         requires time { at ≤ 1000000000000000 }
         requires goes { goes_to (networks self.old.header) (slice_get self.old.sent.items k) ≡ Some
             address }
@@ -151,7 +158,7 @@ impl World {
         if self.make_room(wanted).is_err() {
             return Err(EventFault::OutOfMemory);
         }
-        self.deliver(at, k, address);
+        self.deliver(at, k, address, parcel);
         Ok(())
     }
 

@@ -13,6 +13,7 @@ use tsp_base::event::{Event, EventFault};
 use tsp_base::header::Header;
 use tsp_base::members::Members;
 use tsp_gateway::{GateConfig, Gateway};
+use tsp_networks::parcel::Parcel;
 use tsp_networks::posts::Posts;
 use tsp_networks::sheet::Sheet;
 use tsp_networks::{all_nodes, networks_of, rooms_of};
@@ -181,7 +182,7 @@ impl World {
         match e {
             Event::Boot { at, node, word } => self.boot(*at, *node, *word),
             Event::Turn { at, node } => self.turn(*at, *node),
-            Event::Take { at, datagram } => self.take(*at, *datagram),
+            Event::Take { at, datagram } => self.take(*at, *datagram, &mut Parcel::new()),
             Event::Bytes {
                 at,
                 node,

@@ -6,6 +6,7 @@ use tsp_base::message::{Body, Message};
 use tsp_base::name::Name;
 use tsp_base::place::{PeerId, Place, Port};
 use tsp_base::stamp::Stamp;
+use tsp_networks::parcel::Parcel;
 use tsp_networks::posts::Posts;
 use tsp_networks::way::Way;
 
@@ -60,13 +61,18 @@ fn is_loop(taken: &Taken, name: &[u8]) -> bool {
     }
 }
 
+/// Puts the post with this number into a parcel; false where there is none.
+fn pack(posts: &Posts, k: u64, parcel: &mut Parcel) -> bool {
+    if k as usize >= posts.len() {
+        return false;
+    }
+    posts.pack(k, parcel);
+    true
+}
+
 /// Whether the post with this number is the message with this name.
-fn has_loop(posts: &Posts, k: u64, name: &[u8]) -> bool {
-    (k as usize) < posts.len()
-        && match posts.stamp(k) {
-            Some(_) => false,
-            None => is_loop(&posts.message(k), name),
-        }
+fn has_loop(posts: &Posts, k: u64, name: &[u8], parcel: &mut Parcel) -> bool {
+    pack(posts, k, parcel) && is_loop(parcel.taken(), name)
 }
 
 /// A request for a clock's stamp.
@@ -76,11 +82,11 @@ const REQUEST: Stamp = Stamp::Request {
 };
 
 /// Whether the post with this number is that request.
-fn has_request(posts: &Posts, k: u64) -> bool {
-    (k as usize) < posts.len()
-        && match posts.stamp(k) {
-            Some(stamp) => stamp == REQUEST,
-            None => false,
+fn has_request(posts: &Posts, k: u64, parcel: &mut Parcel) -> bool {
+    pack(posts, k, parcel)
+        && match parcel.taken() {
+            Taken::Good(Datagram::Stamp(stamp)) => *stamp == REQUEST,
+            _ => false,
         }
 }
 
@@ -92,17 +98,17 @@ fn come(posts: &mut Posts) -> bool {
         && push(posts, 40, &Datagram::Stamp(REQUEST))
 }
 
-/// Whether these four come back.
-fn come_back(posts: &Posts) -> bool {
+/// Whether these four come back, one after the other in a parcel that is used again.
+fn come_back(posts: &Posts, parcel: &mut Parcel) -> bool {
     posts.len() == 4
-        && has_loop(posts, 0, b"")
-        && has_loop(posts, 1, b"alpha")
-        && has_loop(posts, 2, &LONG)
-        && has_request(posts, 3)
+        && has_loop(posts, 2, &LONG, parcel)
+        && has_loop(posts, 0, b"", parcel)
+        && has_request(posts, 3, parcel)
+        && has_loop(posts, 1, b"alpha", parcel)
 }
 
 #[test]
 fn posts_come_back(rt: HostRuntime) {
     let mut posts = Posts::new(rt.alloc());
-    assert!(rt; come(&mut posts) && come_back(&posts));
+    assert!(rt; come(&mut posts) && come_back(&posts, &mut Parcel::new()));
 }

@@ -37,7 +37,7 @@ returns-clause-stands c =
     let st = c.requires.stands in
     let next = next_event (header_of s) (storm_events s m.storm.given) m.storm in
     let comes = given-next _ c.draw-choice.new.storm next (c.draw-choice.ensures.next (header_of s) (storm_events s m.storm.given) st.world) in
-    on_step s m next.0 c.draw-choice.new.storm c.happen.new.world c.happen.new.request c.happen.result _ st comes.1 (λ d. d.stands) c.happen.ensures.stands
+    on_step s m next.0 c.draw-choice.new.storm c.happen.new.world c.happen.new.parcel c.happen.result _ st comes.1 (λ d. d.stands) c.happen.ensures.stands
 
 pub returns-clause-given : goal.returns-clause-given
 returns-clause-given c =
@@ -46,7 +46,7 @@ returns-clause-given c =
     let st = c.requires.stands in
     let next = next_event (header_of s) (storm_events s m.storm.given) m.storm in
     let comes = given-next _ c.draw-choice.new.storm next (c.draw-choice.ensures.next (header_of s) (storm_events s m.storm.given) st.world) in
-    on_step s m next.0 c.draw-choice.new.storm c.happen.new.world c.happen.new.request c.happen.result _ st comes.1 (λ d. d.given) c.happen.ensures.stands
+    on_step s m next.0 c.draw-choice.new.storm c.happen.new.world c.happen.new.parcel c.happen.result _ st comes.1 (λ d. d.given) c.happen.ensures.stands
 
 pub returns-clause-event : goal.returns-clause-event
 returns-clause-event c =
@@ -55,7 +55,7 @@ returns-clause-event c =
     let st = c.requires.stands in
     let next = next_event (header_of s) (storm_events s m.storm.given) m.storm in
     let comes = given-next _ c.draw-choice.new.storm next (c.draw-choice.ensures.next (header_of s) (storm_events s m.storm.given) st.world) in
-    on_step s m next.0 c.draw-choice.new.storm c.happen.new.world c.happen.new.request c.happen.result _ st comes.1 (λ d. d.event) c.happen.ensures.stands
+    on_step s m next.0 c.draw-choice.new.storm c.happen.new.world c.happen.new.parcel c.happen.result _ st comes.1 (λ d. d.event) c.happen.ensures.stands
 
 pub returns-clause-stops : goal.returns-clause-stops
 returns-clause-stops c = stops_step c.args.words.now c.args.self.now c.happen.result c.requires.stands c.happen.ensures.stops
