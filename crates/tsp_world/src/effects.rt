@@ -1,6 +1,6 @@
 //! What an event of a world does that nothing refuses: one of its nodes acts, or none.
 ghost use Rattle.std.specs.Prelude.{◌≡◌, ◌≤◌, ◌<◌, ◌+◌, ◌^◌, ◌+ℤ◌, pos, true, length, vec_len};
-ghost use Rattle.std.specs.Prelude.{slice_get, None, Some, OnOk, OnErr};
+ghost use Rattle.std.specs.Prelude.{slice_get, Some, OnOk, OnErr};
 ghost use Rattle.tsp_base.specs.declared.event.Event.{Event};
 ghost use Rattle.tsp_base.specs.Headers.{KeepsDrift};
 ghost use Rattle.tsp_base.specs.Ticks.{tick_at};
