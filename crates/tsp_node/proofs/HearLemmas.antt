@@ -214,32 +214,60 @@ pub Performs_role : {t : Received} {x : ℕ} {port : Port} {before after : PortV
     Performs (PortTook t) PortStands (says_in p m is) x port before after old new
 Performs_role p m is r e d = rw e d
 
+-- what a message's row is, by who handles its kind
+abbrev Handled : Audience → Bool → Place → MessageValue → Kind → Type 0
+Handled OfNode charge from m k = handles_kind charge from m k ≡ nothing
+Handled OfRoles charge from m k = handles_kind charge from m k ≡ from_peer from (peer_says m)
+Handled _ charge from m k = Unit {0}
+
+handled : (charge : Bool) (from : Place) (m : MessageValue) (k : Kind) → Handled (audience_of k) charge from m k
+unfolding handles_kind
+handled charge from m Msite = tt
+handled charge from m MsiteReq = tt
+handled charge from m TraceOn = tt
+handled charge from m TraceOff = tt
+handled charge from m Test = tt
+handled charge from m Date = tt
+handled charge from m SetDate = tt
+handled charge from m DateReq = tt
+handled charge from m SetDateReq = tt
+handled charge from m DateAck = tt
+handled charge from m LoopKind = refl
+handled charge from m Ack = tt
+handled charge from m _ = refl
+
 -- Who answers a message, as the rows have it
 pub audience_node : (charge : Bool) (from : Place) (m : MessageValue) (k : Kind) → audience_of k ≡ OfNode → handles_kind charge from m k ≡ nothing
-unfolding handles_kind
-audience_node charge from m LoopKind e = refl
-audience_node charge from m _ e = let bad : ⊥ = cc in absurd bad
+audience_node charge from m k e = subst (λ a. Handled a charge from m k) e (handled charge from m k)
 
 pub audience_roles : (charge : Bool) (from : Place) (m : MessageValue) (k : Kind) → audience_of k ≡ OfRoles → handles_kind charge from m k ≡ from_peer from (peer_says m)
-unfolding handles_kind
-audience_roles charge from m Msite e = let bad : ⊥ = cc in absurd bad
-audience_roles charge from m MsiteReq e = let bad : ⊥ = cc in absurd bad
-audience_roles charge from m TraceOn e = let bad : ⊥ = cc in absurd bad
-audience_roles charge from m TraceOff e = let bad : ⊥ = cc in absurd bad
-audience_roles charge from m Test e = let bad : ⊥ = cc in absurd bad
-audience_roles charge from m Date e = let bad : ⊥ = cc in absurd bad
-audience_roles charge from m SetDate e = let bad : ⊥ = cc in absurd bad
-audience_roles charge from m DateReq e = let bad : ⊥ = cc in absurd bad
-audience_roles charge from m SetDateReq e = let bad : ⊥ = cc in absurd bad
-audience_roles charge from m DateAck e = let bad : ⊥ = cc in absurd bad
-audience_roles charge from m LoopKind e = let bad : ⊥ = cc in absurd bad
-audience_roles charge from m Ack e = let bad : ⊥ = cc in absurd bad
-audience_roles charge from m _ e = refl
+audience_roles charge from m k e = subst (λ a. Handled a charge from m k) e (handled charge from m k)
+
+-- what is known of a kind, by who handles it
+abbrev Known : Audience → Kind → Type 0
+Known OfClients k = k ≢ Msite → k ≢ MsiteReq → k ≢ TraceOn → k ≢ TraceOff → k ≡ Test
+Known OfRoles k = is_date_request k ≡ false
+Known OfSends k = k ≡ Ack
+Known _ k = Unit {0}
+
+known : (k : Kind) → Known (audience_of k) k
+known Msite = λ a b c d. absurd (a refl)
+known MsiteReq = λ a b c d. absurd (b refl)
+known TraceOn = λ a b c d. absurd (c refl)
+known TraceOff = λ a b c d. absurd (d refl)
+known Test = λ a b c d. refl
+known Date = tt
+known SetDate = tt
+known DateReq = tt
+known SetDateReq = tt
+known DateAck = tt
+known LoopKind = tt
+known Ack = refl
+known _ = refl
 
 -- an ACK is for the sends
 pub audience_sends : (k : Kind) → audience_of k ≡ OfSends → k ≡ Ack
-audience_sends Ack e = refl
-audience_sends _ e = let bad : ⊥ = cc in absurd bad
+audience_sends k e = subst (λ a. Known a k) e (known k)
 
 pub handles_ack : (charge : Bool) (from : Place) (m : MessageValue) → m.kind ≡ Ack → handles_kind charge from m m.kind ≡ from_peer from (peer_says m)
 unfolding handles_kind
@@ -249,18 +277,11 @@ pub roles_other : (k : Kind) → audience_of k ≡ OfRoles → k ≢ Ack
 roles_other k e f = let same : OfSends ≡ OfRoles = sym (ap audience_of f) ∙ e in let bad : ⊥ = cc in bad
 
 pub roles_date : (k : Kind) → audience_of k ≡ OfRoles → is_date_request k ≡ false
-roles_date DateReq e = let bad : ⊥ = cc in absurd bad
-roles_date SetDateReq e = let bad : ⊥ = cc in absurd bad
-roles_date _ e = refl
+roles_date k e = subst (λ a. Known a k) e (known k)
 
 -- the clients' last kind
 pub audience_test : (k : Kind) → audience_of k ≡ OfClients → k ≢ Msite → k ≢ MsiteReq → k ≢ TraceOn → k ≢ TraceOff → k ≡ Test
-audience_test Test e a b c d = refl
-audience_test Msite e a b c d = absurd (a refl)
-audience_test MsiteReq e a b c d = absurd (b refl)
-audience_test TraceOn e a b c d = absurd (c refl)
-audience_test TraceOff e a b c d = absurd (d refl)
-audience_test _ e a b c d = let bad : ⊥ = cc in absurd bad
+audience_test k e = subst (λ a. Known a k) e (known k)
 
 -- a master's rows, and the clients', by the kind
 pub master_quit : (p : PeerId) (m : MessageValue) → m.kind ≡ QuitKind → master_takes p m ≡ quits p m.number
