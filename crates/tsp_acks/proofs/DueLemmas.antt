@@ -3,7 +3,7 @@ use Rattle.std.proofs.Common.{sym, ◌∙◌, ap, arith, eqb-true, ◌≡◌, �
 use Rattle.std.{proofs.Math.Bool.and-false, proofs.lemmas.List.length-map, proofs.lemmas.List.get_or-map, specs.List.Contains}
 use Rattle.tsp_rules.specs.Values.{Act, Boot, Post, Become, Acked, Gave, Placed, Message, PeerId, Peer, Port}
 use Rattle.tsp_base.specs.Words.{Deed, Acts, Step, Past, Seen, Here, Elsewhere, MessageValue, Performs, acting, grown, nothing, puts, again, begun, has_own_number, is_given_up, is_numbered, message_at, message_of, open_send, open_to, open_to_after, posts_of, Sending, sending_at, sending_of}
-use Rattle.tsp_base.proofs.PerformsLemmas.{Performs_else_part, Performs_nothing, Performs_reading, Performs_then_part}
+use Rattle.tsp_base.proofs.PerformsLemmas.{Performs_else_part, Performs_reading, Performs_then_part}
 use Rattle.tsp_base.proofs.SendLemmas.{seen_act, open_send-gave, open_send-repeats}
 use Rattle.tsp_rules.specs.SendRows.{bare_send, is_send_due, is_spent, open_at, repeats, repeats_bare_send}
 use Rattle.tsp_sends.specs.declared.due.Due.TheVariants.{Again, Gave as GaveUp}

@@ -1,5 +1,4 @@
 -- The nodes of claimed lines are nodes of the header.
-use Rattle.std.specs.Prelude.{ℕ, Bool, true, false, if◌then◌else◌, Option, None, Some, List, [], ◌∷◌}
 use Rattle.std.proofs.Common.{subst, eqb-true, ◌≡◌, ◌||◌, ◌<◌, ℕ, Bool, true, false, if◌then◌else◌, Option, None, Some, List, [], ◌∷◌, refl, slice_get}
 use Rattle.tsp_rules.specs.Values.{Placed, Port, Event, BootAt, Turn, Take, Bytes}
 use Rattle.tsp_base.specs.Words.{HeaderValue, Acts, Begins, Deed, Line, Step, first_port, joined, line_of}

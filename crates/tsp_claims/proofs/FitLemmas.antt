@@ -1,5 +1,5 @@
 -- How lines fit that are looked at one after the other.
-use Rattle.std.proofs.Common.{◌∙◌, ap, arith, refl, subst, sym, ◌≡◌, ℕ, zero, suc, ◌+◌, ◌<◌, ◌≤◌, true, false, List, ◌∷◌, length, drop, get_or}
+use Rattle.std.proofs.Common.{◌∙◌, ap, arith, refl, subst, sym, ◌≡◌, ℕ, zero, suc, ◌+◌, ◌<◌, ◌≤◌, true, List, ◌∷◌, length, drop, get_or}
 use Rattle.std.proofs.lemmas.List.{drop_more, drop_all}
 use Rattle.tsp_base.specs.declared.{act.Act.Act, act.Act.TheVariants.Post, event.Event.Event, trace.Line2.Line2}
 use Rattle.tsp_claims.specs.declared.tally.Tally.{Tally}

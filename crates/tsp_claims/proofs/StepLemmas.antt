@@ -1,10 +1,8 @@
 -- Steps as values, and how their lines are noted.
-use Rattle.std.proofs.Common.{◌∙◌, ap, sym, refl, ◌≡◌, ℕ, ◌+◌, ◌<◌, List, [], ◌∷◌, ◌++◌, length, drop, get_or, Option, None, Some}
+use Rattle.std.proofs.Common.{◌∙◌, ap, sym, refl, ◌≡◌, ℕ, ◌+◌, ◌<◌, List, ◌∷◌, length, drop, get_or, Option, None, Some}
 use Rattle.std.proofs.lemmas.List.{drop_more}
 use Rattle.tsp_base.specs.Words.{HeaderValue, Acts, Line, Step, joined, line_of as line_in}
 use Rattle.tsp_claims.specs.{Fitting.acts_of, Steps.ActsIn, Steps.step_by, declared.acting.Acting.Acting}
-use Rattle.tsp_history.specs.{Histories.history_of, Histories.line_of, declared.line.HistoryLine.HistoryLine}
-use Rattle.tsp_history.proofs.HistoryLemmas.{noted-append}
 use Rattle.tsp_run.specs.Run.{step_tick}
 use Rattle.tsp_base.specs.declared.trace.Line2.{Line2}
 

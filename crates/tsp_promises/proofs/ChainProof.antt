@@ -2,7 +2,7 @@
 -- posted.
 use Rattle.std.proofs.Common.{sym, ap, subst, subst₂, inl, inr, ◌∙◌, ◌≡◌, List, [], ◌∷◌, Some, refl, arith, ◌≢◌, ℕ, ◌+◌, ◌<◌, ◌≤◌, length, is_some}
 use Rattle.tsp_rules.specs.Values.{Act, Took, Post, Datagram, Good, PeerId, Peer, Become, Message, LoopKind, Hops, Place, Stranger, Loose, HOPS}
-use Rattle.tsp_base.specs.Words.{Cause, Booted, Turned, Came, Handed, Step, Deed, Begins, Acts, Line, of, dids, Within, Received, taken_after, heard, peer_of, posted, view, MessageValue}
+use Rattle.tsp_base.specs.Words.{Cause, Came, Handed, Step, Deed, Begins, Acts, Line, of, dids, Within, Received, taken_after, heard, peer_of, posted, view, MessageValue}
 use Rattle.tsp_base.proofs.{PlaceLemmas.Within-through, PlaceLemmas.Within-tail, PlaceLemmas.Within-none, Views.plain_view}
 use Rattle.tsp_promises.proofs.EverywhereLemmas.{Everywhere-at, Everywhere-from, Everywhere-within}
 use Rattle.tsp_promises.proofs.KnownProof.{InStep, in-step, own-in-step, received-from, same-place, same-good, known}
@@ -45,8 +45,6 @@ pub record HeardPost (l : Line) (world : List Line) (from : PeerId) (datagram : 
 
 heard-by : (setting : Setting) (l x : Line) (world rest : List Line) (from : PeerId) (datagram : Datagram) (cause : Cause) → x.did.step ≡ l.did.step → cause ≡ l.did.step.cause → Within (x ∷ rest) world → HonestAt x rest →
     x.did.deed ≡ Acts (Took (Peer from) (Good datagram)) → TookFits cause setting x rest (Peer from) (Good datagram) → HeardPost l world from datagram
-heard-by setting l x world rest from datagram (Booted word wall) step is w h deed f = absurd f
-heard-by setting l x world rest from datagram Turned step is w h deed f = absurd f
 heard-by setting l x world rest from datagram Handed step is w h deed f = absurd (h (ap (λ (s : Step). s.cause) step ∙ sym is) from (Good datagram) deed)
 heard-by setting l x world rest from datagram (Came k) step is w h deed f =
     let node : node_of x ≡ node_of l = ap (λ (s : Step). s.node) step in
@@ -59,6 +57,7 @@ heard-by setting l x world rest from datagram (Came k) step is w h deed f =
       deed = subst₂ (λ n d. f.post.did.deed ≡ Acts (Post (Peer (peer_of n)) d)) node (sym same) f.deed;
       node = sym (same-place from (peer_of (node_of f.post)) f.from_is);
     }
+heard-by setting l x world rest from datagram _ step is w h deed f = absurd f
 
 -- an act comes after its step's Took
 pub heard_post : (setting : Setting) (l : Line) (world : List Line) (a : Act) (from : PeerId) (datagram : Datagram) → Fits setting (l ∷ world) → Honest (l ∷ world) → l.did.deed ≡ Acts a →

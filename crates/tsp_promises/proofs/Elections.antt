@@ -125,10 +125,7 @@ one-more p rest (z ∷ all) n (inr i) = by-case (p.0 == z.0) (among rest z) (one
 -- different ones are no more than pass their test
 few-in : (xs all : List PeerId) → Distinct xs → AllIn xs all → length xs ≤ counted (among xs) all
 few-in [] all d i = omega arith
-few-in (p ∷ rest) all d i =
-    let h = few-in rest all d.1 i.1 in
-    let more = one-more p rest all d.0 i.0 in
-    omega (arith, h, more)
+few-in (p ∷ rest) all d i = omega (arith, few-in rest all d.1 i.1, one-more p rest all d.0 i.0)
 
 -- one that is in both
 pub record Shared (xs ys : List PeerId) : Type 0 where

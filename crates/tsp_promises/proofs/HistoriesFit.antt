@@ -1,6 +1,6 @@
 -- Small histories fit, step by step. Small histories as lists of steps, and what shows that they fit.
 use Rattle.std.proofs.Common.{sym, ap, arith, subst, inl, inr, eqb-true, ◌∙◌, ◌≡◌, ◌==◌, ◌&&◌, cond, ◌≤◌, ◌<◌, nat_lt, nat_le, Bool, true, false, ℕ, zero, suc, ◌+◌, List, [], ◌∷◌, length, refl}
-use Rattle.std.specs.Prelude.{◌≡◌, ◌&&◌, Bool, true, ℕ, zero, suc, ℤ, pos, List, [], ◌∷◌, map}
+use Rattle.std.specs.Prelude.{ℤ, pos, map}
 use Rattle.std.proofs.lemmas.Bool.{ltb-true, leb-true, and_parts}
 use Rattle.tsp_rules.specs.Values.{Act, Post, Placed, Datagram, Taken, Good, PeerId, Place, Peer, Port, Boot, Took, Become, Ring, Back, Correct, Sample, Acked, Window, Elect, Message, Stamp, Ack, SetTime, SlaveUp, Nothing, TimeBody, Follow, Candidate, Master, Request, Reply}
 use Rattle.tsp_base.specs.Words.{Step, Begins, Acts, Deed, Line, of, dids, view, first_port, joined, line_of, time_of, Within, peer_of, posted, posted_after, Cause, Booted, Came, Handed, Turned, MessageValue, ReplyValue}
@@ -215,6 +215,5 @@ stages-fit strict (suc k) (s ∷ rest) h f e ok =
 
 -- so does what came before them
 pub skip-fits : (strict : Bool) (n : ℕ) (h : List Line) → Fits (still strict) h → Fits (still strict) (skip n h)
-skip-fits strict zero h f = f
-skip-fits strict (suc n) [] f = f
 skip-fits strict (suc n) (l ∷ t) f = skip-fits strict n t f.1
+skip-fits strict _ _ f = f

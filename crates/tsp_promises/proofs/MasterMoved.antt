@@ -41,7 +41,6 @@ pub first_after : (setting : Setting) (k : ℕ) (c r : Line) (past rolder : List
     boot_tick (dids (of k past)) + QUIET ≤ c.did.tick → ticket (dids (of k rolder)) ≡ ticket (dids (of k past)) → c.did.step.at ≤ r.did.step.at + 65000000 → Kept (dids (of k (r ∷ rolder))) (dids (of k past))
 first_after setting k c r past rolder to datagram f c_node r_node deed place rested same soon =
     let order : r.did.step.at ≤ c.did.step.at = (let p = place-time setting (r ∷ rolder) past f.1 place in omega (arith, f.0.order)) in
-    let n = near setting k r.did.step.at c.did.step.at order in
     let tick_c : c.did.tick ≡ tick_at (setting.rate k) c.did.step.at = subst (λ x. c.did.tick ≡ tick_at (setting.rate x) c.did.step.at) c_node f.0.tick in
     let tick_r : r.did.tick ≡ tick_at (setting.rate k) r.did.step.at = tick_in setting k r rolder past f.1 r_node place in
     let own : dids (of k (r ∷ rolder)) ≡ r.did ∷ dids (of k rolder) = ap dids (of-own k r rolder r_node) in
@@ -49,7 +48,7 @@ first_after setting k c r past rolder to datagram f c_node r_node deed place res
     let t : ticket (dids (of k (r ∷ rolder))) ≡ ticket (dids (of k past)) = ap ticket own ∙ rw deed same in
     let at : tick_of (dids (of k (r ∷ rolder))) ≡ r.did.tick = ap tick_of own in
     matching (dids (of k (r ∷ rolder))) (dids (of k past)) c.did.tick (since setting (of k (r ∷ rolder)) (of k past) (own_fits setting k past f.1) (Within-of k (r ∷ rolder) past place)) by rested
-    (let q = n.most in omega arith) t
+    (let q = (near setting k r.did.step.at c.did.step.at order).most in omega arith) t
 
 -- where a node is left alone since a place, its clock moved no more
 pub unmoved : (setting : Setting) (n : ℕ) (s h : List Line) → Fits setting h → Within s h → Undisturbed (dids (of n s)) (dids (of n h)) → moved (dids (of n s)) ≡ moved (dids (of n h))

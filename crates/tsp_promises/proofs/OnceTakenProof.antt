@@ -2,7 +2,7 @@
 use Rattle.std.proofs.Common.{sym, ap, arith, subst, subst₂, inl, inr, true≢false, ◌∙◌, ◌≡◌, ℕ, ◌+◌, ◌<◌, ◌≤◌, ℤ, Bool, true, false, List, ◌∷◌, Some, None, is_some, refl}
 use Rattle.std.proofs.lemmas.Bool.{cases_lt}
 use Rattle.tsp_rules.specs.Values.{Act, Took, Post, Correct, Datagram, Message, Good, Kind, AdjTime, SetTime, PeerId, Place, Peer, Follow, DATEHOLD, QUIET, LIFE}
-use Rattle.tsp_base.specs.Words.{Cause, Booted, Turned, Came, Handed, Acts, Did, Line, Seen, Here, Step, of, dids, plain, view, MessageValue, all_corrects, corrects, word, boot_tick, tick_of, ticket, target, Within, role, taken, Dating, is_correction, is_date_request, last_date, sets_date, Receives, TakesFrom, heard, peer_of, posted, time_in, is_numbered, tick_at}
+use Rattle.tsp_base.specs.Words.{Cause, Came, Handed, Acts, Did, Line, Seen, Here, Step, of, dids, plain, view, MessageValue, all_corrects, corrects, word, boot_tick, tick_of, ticket, target, Within, role, taken, Dating, is_correction, is_date_request, last_date, sets_date, Receives, TakesFrom, heard, peer_of, posted, time_in, is_numbered, tick_at}
 use Rattle.tsp_base.proofs.{PlaceLemmas.Within-through, PlaceLemmas.Within-tail, Views.plain_view}
 use Rattle.tsp_promises.specs.CorrectFits.{WhyCorrect, ByRound, ByMaster, ByDate, TakesCorrection, amount_of, CorrectFits}
 use Rattle.tsp_promises.proofs.OwnFitsProof.{locate, fits_in, own-step, tick_in, own_fits, fits_at, place-time, deed_fits, own_tick}
@@ -35,8 +35,6 @@ same-read m n d e h = cc
 
 took-came : (setting : Setting) (x : Line) (rest world : List Line) (post : Line) (older : List Line) (to from : Place) (m brought : MessageValue) (cause : Cause) → cause ≡ Came (posted (dids older)) → Within (x ∷ rest) world → Within (post ∷ older) world →
     post.did.deed ≡ Acts (Post to (Message brought)) → TookFits cause setting x rest from (Good (Message m)) → Shows setting x from m post brought
-took-came setting x rest world post older to from m brought (Booted word wall) is w v deed f = absurd f
-took-came setting x rest world post older to from m brought Turned is w v deed f = absurd f
 took-came setting x rest world post older to from m brought Handed is w v deed f = let bad : ⊥ = cc in absurd bad
 took-came setting x rest world post older to from m brought (Came k) is w v deed f =
     let place = Within-through (f.post ∷ f.older) rest world f.place (Within-tail x rest world w) in
@@ -48,6 +46,7 @@ took-came setting x rest world post older to from m brought (Came k) is w v deed
       message_is = same-read m brought f.datagram f.taken_is datagram;
       net = subst (λ (z : Line). setting.net (node_of z) z.port ≡ setting.net (node_of x) x.port) line f.net;
     }
+took-came setting x rest world post older to from m brought _ is w v deed f = absurd f
 
 -- the Took right before an act shows what the step brings
 shows : (setting : Setting) (l : Line) (world : List Line) (a : Act) (post : Line) (older : List Line) (took : Did) (past : List Seen) (from : Place) (m : MessageValue) → Fits setting (l ∷ world) → l.did.deed ≡ Acts a → (b : Brings l world post older) →

@@ -1,4 +1,4 @@
-use Rattle.std.proofs.Common.{◌≡◌, ◌<◌, ◌∙◌, ◌-◌, ◌∷◌, ap, sym, subst, refl, rules, arith, length, get_or, take, ℕ, to_z, of_z, Option, None, Some}
+use Rattle.std.proofs.Common.{◌≡◌, ◌<◌, ◌∙◌, ◌-◌, ap, sym, subst, refl, rules, arith, length, get_or, take, ℕ, to_z, of_z, Option, None, Some}
 use Rattle.std.{proofs.lemmas.List.take_all, specs.Int.w128}
 use Rattle.tsp_base.specs.Words.{Sampled, of, view, best}
 use Rattle.tsp_history.specs.Rounds.{Bests, better_of, sampled_at, trip_at}
