@@ -40,10 +40,10 @@ impl Master {
 
     /// Handles one alarm of a round that is due: a Probe asks the measured peers again, a Close closes the
     /// round, and a Round begins one. One that is more than `SLACK` ticks late gives the round up (Probe,
-    /// Close) or puts it off (Round). Any other alarm does nothing here. Where this port doesn't lead the clock
-    /// (`group_mean` is false), a close uses the mean 0 and leaves the clock. The row
-    /// is that of a Close only if no Probe is due. The answer is whether the clock was corrected. At most four acts, and two more
-    /// for each peer.
+    /// Close) or puts it off (Round). Any other alarm does nothing here. If this port doesn't lead the clock
+    /// (`group_mean` is false), a close uses the mean 0 and leaves the clock. The row is that of a Close only
+    /// if no Probe is due. The answer is whether the clock was corrected. At most four acts, and two more for
+    /// each peer.
     pub fn ring<D: Desk>(
         &mut self,
         station: &mut Station,
