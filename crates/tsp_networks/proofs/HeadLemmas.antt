@@ -5,9 +5,9 @@ use Rattle.std.proofs.lemmas.List.{drop-append-le, length-map, take-append-le, m
 use Rattle.std.proofs.lemmas.{List.Elements.All-head, List.Elements.All-tail, Option.slice_get-get_or, Option.slice_get-map}
 use Rattle.tsp_rules.specs.Values.{Datagram, Place}
 use Rattle.tsp_networks.specs.declared.head.StoredDatagram.{StoredDatagram, TheVariants.Message, TheVariants.Request, TheVariants.Reply}
-use Rattle.tsp_networks.specs.Heads.{HeadStands, HeldStands, datagram_in, is_peer, place_of, post_in, route_of, small_of, way_in}
+use Rattle.tsp_networks.specs.Heads.{HeadStands, HeldStands, datagram_in, is_peer, place_of, post_in, way_in, way_stored, way_with}
 use Rattle.tsp_run.specs.declared.posted.Posted.{Posted}
-use Rattle.tsp_networks.specs.{Posts.posted_on, declared.head.Head.Head, declared.head.Route.Route, declared.way.Way.Way}
+use Rattle.tsp_networks.specs.{Posts.posted_on, declared.head.Head.Head, declared.way.Way.Way}
 
 range-append : (names more : List ℕ) (start len : ℕ) → start + len ≤ length names → slice_range (names ++ more) start (start + len) ≡ slice_range names start (start + len)
 range-append names more start len inside =
@@ -16,9 +16,9 @@ range-append names more start len inside =
     ∙ take-append-le (start + len - start) (drop start names) more (omega (arith, left, inside))
 
 datagram_in-append : (names more : List ℕ) (held : StoredDatagram) → HeldStands names held → datagram_in (names ++ more) held ≡ datagram_in names held
-datagram_in-append names more (Message route kind number len start body) h = rw (range-append names more start len h.inside) refl
-datagram_in-append names more (Request route word counter) h = refl
-datagram_in-append names more (Reply route ticket word counter reading) h = refl
+datagram_in-append names more (Message port to_peer kind number len start body) h = rw (range-append names more start len h.inside) refl
+datagram_in-append names more (Request port to_peer word counter) h = refl
+datagram_in-append names more (Reply port to_peer ticket word counter reading) h = refl
 
 posts-append : (names more : List ℕ) (heads : List Head) → All (HeadStands names) heads → map (post_in (names ++ more)) heads ≡ map (post_in names) heads
 posts-append names more [] all = refl
@@ -36,10 +36,10 @@ posts-push names more heads head datagram all is =
     ∙ ap (λ d. map (post_in names) heads ++ posted_on (way_in head) d ∷ []) is
 
 -- a head has its post's way
-pub way_in-head : (way : Way) (held : StoredDatagram) (n : ℕ) → route_of held ≡ small_of way → place_of (is_peer way.to) n ≡ way.to → way_in (record { at = way.at; from = way.from; to = n; held = held }) ≡ way
-way_in-head way held n route number =
-    ap (λ (r : Route). let w : Way = record { at = way.at; from = way.from; port = r.port; to = place_of r.to_peer n } in w) route
-    ∙ ap (λ (p : Place). let w : Way = record { at = way.at; from = way.from; port = way.port; to = p } in w) number
+pub way_in-head : (way : Way) (held : StoredDatagram) (n : ℕ) → ((head : Head) → way_stored head held ≡ way_with head way.port (is_peer way.to)) → place_of (is_peer way.to) n ≡ way.to →
+    way_in (record { at = way.at; from = way.from; to = n; held = held }) ≡ way
+way_in-head way held n small number =
+    small (record { at = way.at; from = way.from; to = n; held = held }) ∙ ap (λ (p : Place). let w : Way = record { at = way.at; from = way.from; port = way.port; to = p } in w) number
 
 -- the post with a number is the one that is stored at its place
 post-stored : (names : List ℕ) (heads : List Head) (k : ℕ) (head : Head) → k < length (map (post_in names) heads) → head ≡ get_or heads k head → slice_get (map (post_in names) heads) k ≡ Some (post_in names head)

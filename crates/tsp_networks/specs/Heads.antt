@@ -1,12 +1,12 @@
 -- How posts are stored: the octets of all names in one list, and in another all else.
 use Rattle.std.specs.Prelude.{◌≡◌, ℕ, ◌+◌, ◌*◌, ◌≤◌, Bool, true, false, List, [], length, slice_range, All, vec_len, vec_capacity}
 use Rattle.std.specs.Global.{Vec}
-use Rattle.tsp_rules.specs.Values.{Datagram, Message, Stamp, Kind, Body, Place, Peer, Stranger, Request, Reply}
+use Rattle.tsp_rules.specs.Values.{Datagram, Message, Stamp, Kind, Body, Place, Peer, Stranger, Port, Request, Reply}
 use Rattle.tsp_base.specs.Words.{IsReply, body_fits, IsName}
 use Rattle.tsp_run.specs.declared.posted.Posted.{Posted}
 use Rattle.tsp_networks.specs.declared.head.StoredDatagram.{StoredDatagram}
 use Rattle.tsp_networks.specs.declared.head.StoredDatagram.TheVariants.{Message as HeldMessage, Request as HeldRequest, Reply as HeldReply}
-use Rattle.tsp_networks.specs.{Posts.posted_on, declared.head.Head.Head, declared.head.Route.Route, declared.way.Way.Way}
+use Rattle.tsp_networks.specs.{Posts.posted_on, declared.head.Head.Head, declared.way.Way.Way}
 
 -- the octets that a datagram adds to all names: its own name, if it has one
 abbrev pub own_name_in : Datagram → List ℕ
@@ -15,33 +15,33 @@ own_name_in (Stamp s) = []
 
 -- the stored datagram, whose name is among these octets
 abbrev pub datagram_in : List ℕ → StoredDatagram → Datagram
-datagram_in names (HeldMessage route kind number len start body) = Message (record { kind = kind; number = number; body = body; name = slice_range names start (start + len) })
-datagram_in names (HeldRequest route word counter) = Stamp (Request word counter)
-datagram_in names (HeldReply route ticket word counter reading) = Stamp (Reply (record { ticket = ticket; word = word; counter = counter; reading = reading }))
+datagram_in names (HeldMessage port to_peer kind number len start body) = Message (record { kind = kind; number = number; body = body; name = slice_range names start (start + len) })
+datagram_in names (HeldRequest port to_peer word counter) = Stamp (Request word counter)
+datagram_in names (HeldReply port to_peer ticket word counter reading) = Stamp (Reply (record { ticket = ticket; word = word; counter = counter; reading = reading }))
 
 -- whether a place is a peer
 abbrev pub is_peer : Place → Bool
 is_peer (Peer p) = true
 is_peer Stranger = false
 
--- the small parts of a way
-abbrev pub small_of : Way → Route
-small_of way = record { port = way.port; to_peer = is_peer way.to }
-
 -- the place with this number, where it is that of a peer
 abbrev pub place_of : Bool → ℕ → Place
 place_of true n = Peer (record { 0 = n })
 place_of false n = Stranger
 
--- the small parts of the way of a stored datagram
-abbrev pub route_of : StoredDatagram → Route
-route_of (HeldMessage route kind number len start body) = route
-route_of (HeldRequest route word counter) = route
-route_of (HeldReply route ticket word counter reading) = route
+-- the way of a post with these small parts
+abbrev pub way_with : Head → Port → Bool → Way
+way_with head port to_peer = record { at = head.at; from = head.from; port = port; to = place_of to_peer head.to }
+
+-- the way of a post with this datagram, whose small parts stand there
+abbrev pub way_stored : Head → StoredDatagram → Way
+way_stored head (HeldMessage port to_peer kind number len start body) = way_with head port to_peer
+way_stored head (HeldRequest port to_peer word counter) = way_with head port to_peer
+way_stored head (HeldReply port to_peer ticket word counter reading) = way_with head port to_peer
 
 -- when a stored post was posted, by whom and for whom
 abbrev pub way_in : Head → Way
-way_in head = record { at = head.at; from = head.from; port = (route_of head.held).port; to = place_of (route_of head.held).to_peer head.to }
+way_in head = way_stored head head.held
 
 -- the stored post
 abbrev pub post_in : List ℕ → Head → Posted
@@ -55,9 +55,9 @@ pub record MessageStands (names : List ℕ) (kind : Kind) (len start : ℕ) (bod
 
 -- a stored message has its name among these octets; a stored request is any, and a stored reply has values in their ranges
 abbrev pub HeldStands : List ℕ → StoredDatagram → Type 0
-HeldStands names (HeldMessage route kind number len start body) = MessageStands names kind len start body
-HeldStands names (HeldRequest route word counter) = Unit {0}
-HeldStands names (HeldReply route ticket word counter reading) = IsReply ticket reading
+HeldStands names (HeldMessage port to_peer kind number len start body) = MessageStands names kind len start body
+HeldStands names (HeldRequest port to_peer word counter) = Unit {0}
+HeldStands names (HeldReply port to_peer ticket word counter reading) = IsReply ticket reading
 
 -- the same of a stored post
 abbrev pub HeadStands : List ℕ → Head → Type 0

@@ -3,7 +3,7 @@ ghost use Rattle.std.specs.Prelude.{◌≡◌, ◌≤◌, ◌+◌, ◌++◌, ℕ
 ghost use Rattle.tsp_base.specs.declared.datagram.Datagram.{Datagram};
 ghost use Rattle.tsp_base.specs.declared.datagram.Taken.TheVariants.{Good};
 ghost use Rattle.tsp_networks.specs.Heads.{HeldStands, datagram_in, is_peer, own_name_in};
-ghost use Rattle.tsp_networks.specs.Heads.{place_of, route_of, small_of, way_in};
+ghost use Rattle.tsp_networks.specs.Heads.{place_of, way_in, way_stored, way_with};
 
 use crate::parcel::Parcel;
 use crate::way::Way;
@@ -13,22 +13,14 @@ use tsp_base::message::{Body, Message};
 use tsp_base::place::{PeerId, Place, Port};
 use tsp_base::stamp::Stamp;
 
-/// The small parts of a post's way.
-#[derive(Clone, Copy)]
-pub(crate) struct Route {
-    /// The port on which it was posted.
-    port: Port,
-    /// Whether it is for a peer.
-    to_peer: bool,
-}
-
-/// A datagram without the octets of its name, in as little room as it takes: the small parts lie first, with those
-/// of its way.
+/// A datagram without the octets of its name, in as little room as it takes. The small parts lie first, and with them
+/// the port on which it was posted, and whether it is for a peer.
 #[derive(Clone, Copy)]
 pub(crate) enum StoredDatagram {
     /// A message. Its name is the `len` octets from place `start` on of those of all names.
     Message {
-        route: Route,
+        port: Port,
+        to_peer: bool,
         kind: Kind,
         number: u16,
         len: u8,
@@ -37,13 +29,15 @@ pub(crate) enum StoredDatagram {
     },
     /// A request for a clock's reading.
     Request {
-        route: Route,
+        port: Port,
+        to_peer: bool,
         word: u64,
         counter: u64,
     },
     /// A clock's reading.
     Reply {
-        route: Route,
+        port: Port,
+        to_peer: bool,
         ticket: u16,
         word: u64,
         counter: u64,
@@ -60,7 +54,7 @@ pub(crate) struct Head {
     pub(crate) from: u32,
     /// The number of the peer that it is for; 0 where it is for a stranger.
     pub(crate) to: u32,
-    /// What it carries, and the rest of its way.
+    /// What it carries, with the port and whether it is for a peer.
     pub(crate) held: StoredDatagram,
 }
 
@@ -113,20 +107,21 @@ fn append_all(names: &mut Vec<u8>, octets: &[u8])
 }
 
 /// Appends the name of a message to all names, and gives the rest of the message.
-fn hold_message(names: &mut Vec<u8>, route: Route, message: &Message) -> StoredDatagram
+fn hold_message(names: &mut Vec<u8>, port: Port, to_peer: bool, message: &Message) -> StoredDatagram
     requires room { vec_len names.old + 255 ≤ vec_capacity names.old }
     ensures items { names.new.items ≡ names.old.items ++ message.now.name }
     ensures few { vec_len names.new ≤ vec_len names.old + 255 }
     ensures capacity { vec_capacity names.old ≤ vec_capacity names.new }
     ensures datagram { datagram_in names.new.items result ≡ Datagram.Message message.now }
-    ensures route { route_of result ≡ route }
+    ensures way { (head : Head) → way_stored head result ≡ way_with head port to_peer }
     ensures stands { HeldStands names.new.items result }
 {
     let start = names.len();
     let octets = message.name().octets();
     append(names, octets);
     StoredDatagram::Message {
-        route,
+        port,
+        to_peer,
         kind: message.kind(),
         number: message.number(),
         len: octets.len() as u8,
@@ -136,19 +131,21 @@ fn hold_message(names: &mut Vec<u8>, route: Route, message: &Message) -> StoredD
 }
 
 /// A stamp as it is stored. It has no name.
-fn hold_stamp(route: Route, stamp: &Stamp) -> StoredDatagram
+fn hold_stamp(port: Port, to_peer: bool, stamp: &Stamp) -> StoredDatagram
     ensures datagram { (names : List ℕ) → datagram_in names result ≡ Datagram.Stamp stamp.now }
-    ensures route { route_of result ≡ route }
+    ensures way { (head : Head) → way_stored head result ≡ way_with head port to_peer }
     ensures stands { (names : List ℕ) → HeldStands names result }
 {
     match stamp {
         Stamp::Request { word, counter } => StoredDatagram::Request {
-            route,
+            port,
+            to_peer,
             word: *word,
             counter: *counter,
         },
         Stamp::Reply(reply) => StoredDatagram::Reply {
-            route,
+            port,
+            to_peer,
             ticket: reply.ticket(),
             word: reply.word(),
             counter: reply.counter(),
@@ -157,30 +154,21 @@ fn hold_stamp(route: Route, stamp: &Stamp) -> StoredDatagram
     }
 }
 
-/// The small parts of a way.
-fn small_of(way: Way) -> Route
-    ensures { result ≡ small_of way }
-{
-    Route {
-        port: way.port,
-        to_peer: matches!(way.to, Place::Peer(_)),
-    }
-}
-
-/// Appends the name of a datagram, if it has one, to all names, and gives the rest of the datagram with the small
-/// parts of its way.
+/// Appends the name of a datagram, if it has one, to all names, and gives the rest of the datagram with the port and
+/// whether it is for a peer.
 pub(crate) fn hold(names: &mut Vec<u8>, way: Way, datagram: &Datagram) -> StoredDatagram
     requires room { vec_len names.old + 255 ≤ vec_capacity names.old }
     ensures items { names.new.items ≡ names.old.items ++ own_name_in datagram.now }
     ensures few { vec_len names.new ≤ vec_len names.old + 255 }
     ensures capacity { vec_capacity names.old ≤ vec_capacity names.new }
     ensures datagram { datagram_in names.new.items result ≡ datagram.now }
-    ensures route { route_of result ≡ small_of way }
+    ensures way { (head : Head) → way_stored head result ≡ way_with head way.port (is_peer way.to) }
     ensures stands { HeldStands names.new.items result }
 {
+    let to_peer = matches!(way.to, Place::Peer(_));
     match datagram {
-        Datagram::Message(message) => hold_message(names, small_of(way), message),
-        Datagram::Stamp(stamp) => hold_stamp(small_of(way), stamp),
+        Datagram::Message(message) => hold_message(names, way.port, to_peer, message),
+        Datagram::Stamp(stamp) => hold_stamp(way.port, to_peer, stamp),
     }
 }
 
@@ -205,14 +193,15 @@ fn place_of(to_peer: bool, number: u32) -> Place
     }
 }
 
-/// The small parts of the way of a stored datagram.
-fn route_of(held: &StoredDatagram) -> Route
-    ensures { result ≡ route_of held.now }
+/// The way of a post with these small parts.
+fn way_with(head: &Head, port: Port, to_peer: bool) -> Way
+    ensures { result ≡ way_with head.now port to_peer }
 {
-    match held {
-        StoredDatagram::Message { route, .. } => *route,
-        StoredDatagram::Request { route, .. } => *route,
-        StoredDatagram::Reply { route, .. } => *route,
+    Way {
+        at: head.at,
+        from: head.from,
+        port,
+        to: place_of(to_peer, head.to),
     }
 }
 
@@ -220,12 +209,10 @@ fn route_of(held: &StoredDatagram) -> Route
 pub(crate) fn way_of(head: &Head) -> Way
     ensures { result ≡ way_in head.now }
 {
-    let route = route_of(&head.held);
-    Way {
-        at: head.at,
-        from: head.from,
-        port: route.port,
-        to: place_of(route.to_peer, head.to),
+    match &head.held {
+        StoredDatagram::Message { port, to_peer, .. } => way_with(head, *port, *to_peer),
+        StoredDatagram::Request { port, to_peer, .. } => way_with(head, *port, *to_peer),
+        StoredDatagram::Reply { port, to_peer, .. } => way_with(head, *port, *to_peer),
     }
 }
 

@@ -12,6 +12,6 @@ returns-clause-items c =
     let heads = c.self.inside.heads.items in
     let is = subst (λ l. datagram_in l c.hold-held.result ≡ c.args.datagram.now) c.hold-held.ensures.items c.hold-held.ensures.datagram in
     let posts = posts-push names (own_name_in c.args.datagram.now) heads head c.args.datagram.now c.self.invariant.stand is in
-    let way_is = way_in-head way c.hold-held.result c.number_of.result c.hold-held.ensures.route c.number_of.ensures in
+    let way_is = way_in-head way c.hold-held.result c.number_of.result c.hold-held.ensures.way c.number_of.ensures in
     let one = posts ∙ ap (λ (w : Way). map (post_in names) heads ++ posted_on w c.args.datagram.now ∷ []) way_is in
     rw (c.hold-held.ensures.items, c.push_reserved.ensures.items, ← c.self.view_is) one
