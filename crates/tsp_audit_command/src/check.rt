@@ -60,8 +60,8 @@ fn is_over(stage: &Stage<Listing>) -> bool
     }
 }
 
-/// Reads one line more of a schedule, and says whether it is the last one. `Limit` also if its header has more than 16
-/// nodes then; else fails as a stage does.
+/// Reads one line more of a schedule, and says whether it is the last one. `Limit` also if the schedule has more than
+/// 16 nodes then; else fails as a stage does.
 fn read_on(stage: &mut Stage<Listing>, alloc: Global, line: &[u8]) -> Result<bool, Stop>
     ensures next { (p : Progress) → StageStands ListingStands p stage.old
         → MatchResult result (ReadsSchedule p line.now stage.new)
@@ -142,8 +142,8 @@ impl AuditInput {
         }
     }
 
-    /// Begins the claims behind a schedule whose last line was read. Fails only if out of memory. Only here is there
-    /// room for what is held next, since each call clears that room.
+    /// Begins the claims behind a schedule whose last line was read. Fails only if out of memory. (A call of its own:
+    /// it is rare, and the room for the claims, which is cleared at its begin, isn't cleared for each line then.)
     #[inline(never)]
     fn claim(&mut self, alloc: Global) -> Result<(), Stop>
         requires { MayClaim self.old }

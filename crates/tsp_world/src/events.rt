@@ -59,7 +59,7 @@ impl World {
         Ok(())
     }
 
-    /// A posted datagram reaches its addressee, in a parcel, or nobody where it has none.
+    /// A posted datagram reaches its addressee, or nobody if it has none. It is put together in the parcel.
     #[inline(always)]
     pub fn take(&mut self, at: u64, k: u64, parcel: &mut Parcel) -> Result<(), EventFault>
         requires { at ≤ 1000000000000000 }
