@@ -1,26 +1,63 @@
--- Event after event a network of daemons does what the run of its events does.
-use Rattle.std.proofs.Common.{sym, ap, subst, inr, arith, length-append, ◌∙◌, ◌≡◌, ℕ, ◌-◌, ◌<◌, ◌≤◌, ◌^◌, nat_le, Bool, true, false, if◌then◌else◌, List, [], ◌∷◌, length, map, Option, None, Some, slice_get, refl}
-use Rattle.std.proofs.lemmas.List.Elements.{All-nil, All-cons}
-use Rattle.tsp_rules.specs.Values.{Placed, Event, BootAt, Turn, Take, Bytes, Message, Stamp, Datagram, Peer, Place, Port, Request, Reply}
-use Rattle.tsp_base.specs.Words.{Came, Handed, IsHeader, has_member, Line, Step, Turned, peer_of}
+-- Event after event a network of daemons does what the run of its events does, and what can happen in it isn't impossible in the run.
+use Rattle.std.proofs.Common.{sym, ap, subst, inl, inr, ◌∙◌, ◌≡◌, ℕ, ◌<◌, ◌≤◌, ◌==◌, not, true, List, length, Option, None, Some, All, refl, arith, length-append, ◌-◌, ◌^◌, nat_le, Bool, false, if◌then◌else◌, [], ◌∷◌, ◌++◌, slice_get}
+use Rattle.std.proofs.lemmas.List.Elements.{All-get_or, All-filter, All-nil, All-cons}
+use Rattle.std.proofs.lemmas.Bool.{le-ltb, lt-ltb}
+use Rattle.tsp_rules.specs.Values.{BootAt, Turn, Take, Bytes, Peer, Stranger, Place, Port, Event, Message, Stamp, Datagram, Request, Reply}
+use Rattle.tsp_rules.specs.GateRows.{GotOn, NodeTurn, answers_all, boots_all}
+use Rattle.tsp_base.specs.Words.{IsHeader, Came, Handed, has_member, Line, Step, Turned, peer_of}
+use Rattle.tsp_base.specs.declared.event.EventFault.{EventFault}
+use Rattle.tsp_run.specs.Refusals.{Scene, actor, down, first_of, impossible, port_count, time_back, unknown, unknown_place, down_at, node_in, scene}
+use Rattle.tsp_run.specs.Run.{arrives, arrives_at, boot_step, step_tick, event_at, goes_to, happening, joins, last_at, posts, reaches, run}
+use Rattle.tsp_run.{proofs.SoundLemmas.sound_writable, specs.Networks.networks, specs.Networks.ports_on, specs.Networks.address_of}
+use Rattle.tsp_run.{proofs.Happens.stepping, proofs.Happens.steps-are, proofs.Happens.taking, specs.declared.address.Address.Address}
+use Rattle.tsp_run.proofs.{NetworkLemmas.goes_there, RunFits.post_sound, RunFits.ran, SettingLemmas.each-is-set}
+use Rattle.tsp_run.specs.{Possible.Possible, Ranges.IsInRange}
+use Rattle.tsp_network.specs.Networks.{Network, Sent, after_event, copy_at, delivers, network, starts, takes_copy, turned_to, turns}
+use Rattle.tsp_network.proofs.NetworkAgrees.{Agrees, AllAgree, OneAgrees, all_still, boot_agrees, none_agree, turn_agrees_all}
+use Rattle.tsp_network.proofs.RosterLemmas.{header_nets, place_is, port_is, length_neighbours, poster_near}
+use Rattle.tsp_network.specs.Events.{MayCome, AllHappen, CanHappen, IsRunning, RunsAt, RunsFor}
+use Rattle.tsp_network.specs.Rosters.{neighbours_on, place_in, destination, sender_for}
+use Rattle.tsp_network.proofs.SetUpLemmas.{comes_as, MatchedAt, match_at, match_length}
+use Rattle.tsp_network.specs.Lives.{Daemons, AreStarted, Life, session_of, turn_told}
 use Rattle.tsp_codec.{proofs.Written.length-canon, specs.Canon.canon, specs.Canon.room_for, specs.Taken.taken_of}
 use Rattle.tsp_promises.specs.Sound.{IsSound}
-use Rattle.tsp_rules.specs.GateRows.{GotOn, NodeTurn, answers_all, boots_all}
 use Rattle.tsp_io.specs.Links.{Arrival}
-use Rattle.tsp_daemon.specs.Posts.{sends_of}
-use Rattle.tsp_run.specs.{Networks.address_of, Networks.networks, Networks.ports_on, Possible.Possible, Ranges.IsInRange}
-use Rattle.tsp_run.specs.Refusals.{down, down_at, impossible, node_in, scene}
-use Rattle.tsp_run.specs.Run.{arrives, arrives_at, boot_step, step_tick, event_at, goes_to, happening, joins, last_at, posts, reaches, run}
-use Rattle.tsp_run.proofs.{Happens.stepping, Happens.steps-are, Happens.taking, NetworkLemmas.goes_there, RunFits.post_sound, RunFits.ran}
-use Rattle.tsp_run.{proofs.SettingLemmas.each-is-set, proofs.SoundLemmas.sound_writable, specs.declared.address.Address.Address}
-use Rattle.tsp_network.specs.Events.{AllHappen, CanHappen, MayCome, IsRunning, RunsAt, RunsFor}
-use Rattle.tsp_network.specs.Lives.{Daemons, IsStarted, Life, first_acts, session_of, turn_told, turn_acts}
-use Rattle.tsp_network.specs.Networks.{Network, Sent, acted, copy_at, delivers, after_event, life_from, network, daemon_tick, node_wall, sent_by, takes_copy, turns}
-use Rattle.tsp_network.specs.Rosters.{destination, neighbours_on, sender_for}
-use Rattle.tsp_network.proofs.{ComesLemmas.comes_as, NodesAgree.Agrees, RosterLemmas.length_neighbours, RosterLemmas.poster_near}
-use Rattle.tsp_network.proofs.EventsHappen.{could_boot, could_come, could_take, could_turn, sender_known}
-use Rattle.tsp_network.proofs.NetworkAgrees.{AllAgree, OneAgrees, all_still, boot_agrees, none_agree, turn_agrees_all}
-use Rattle.tsp_network.proofs.SentLemmas.{MatchedAt, match_at, match_length}
+
+none-of : {a b : Option EventFault} → a ≡ None → b ≡ None → first_of a b ≡ None
+none-of {b = b} e f = ap (λ z. first_of z b) e ∙ f
+
+is-node : (nodes n : ℕ) → n < nodes → unknown nodes n ≡ None
+is-node nodes n h = rw (lt-ltb n nodes h) refl
+
+in-time : (at last : ℕ) → last ≤ at → time_back at last ≡ None
+in-time at last h = rw (le-ltb at last h) refl
+
+is-up : (s : Scene) (n : ℕ) → s.up n ≡ true → down s.up (Some n) ≡ None
+is-up s n e = rw e refl
+
+pub could_boot : (s : Scene) (at node word : ℕ) → s.last ≤ at → node < s.nodes → impossible s (BootAt at node word) ≡ None
+could_boot s at node word time low = none-of (in-time at s.last time) (none-of (is-node s.nodes node low) refl)
+
+pub could_turn : (s : Scene) (at node : ℕ) → s.last ≤ at → node < s.nodes → s.up node ≡ true → impossible s (Turn at node) ≡ None
+could_turn s at node time low up_is = none-of (in-time at s.last time) (none-of (is-node s.nodes node low) (none-of refl (is-up s node up_is)))
+
+pub could_take : (s : Scene) (at k : ℕ) → s.last ≤ at → k < length s.posts → down s.up (actor s (Take at k)) ≡ None → impossible s (Take at k) ≡ None
+could_take s at k time few up_is = none-of (in-time at s.last time) (none-of refl (none-of (rw (lt-ltb k (length s.posts) few) refl) up_is))
+
+pub could_come : (s : Scene) (at node : ℕ) (port : Port) (from : Place) (octets : List ℕ) → s.last ≤ at → node < s.nodes → port.0 < port_count node s.networks → unknown_place s.nodes from ≡ None → s.up node ≡ true → impossible s (Bytes at node port from octets) ≡ None
+could_come s at node port from octets time low has place up_is =
+    none-of (in-time at s.last time) (none-of (none-of (is-node s.nodes node low) (none-of (rw (lt-ltb port.0 (port_count node s.networks) has) refl) place)) (none-of refl (is-up s node up_is)))
+
+-- whoever octets may come from is a node, or a stranger
+pub sender_known : (d : Daemons) → IsHeader d.header → (n : ℕ) → n < length d.header.nodes → (q : Port) → q.0 < length (ports_on n (networks d.header)) → (from : Place) → MayCome (networks d.header) n q from → unknown_place (length d.header.nodes) from ≡ None
+sender_known d is n low q has Stranger may = refl
+sender_known d is n low q has (Peer m) (inl own) = is-node (length d.header.nodes) m.0 (subst (λ k. k < length d.header.nodes) (sym own.0) low)
+sender_known d is n low q has (Peer m) (inr member) =
+    let p = port_is (length d.header.nodes) n q.0 (networks d.header) (header_nets d.header is) has in
+    let at = place_is m.0 (neighbours_on n q.0 (networks d.header)) member in
+    let below : All (λ k. k < length d.header.nodes) (neighbours_on n q.0 (networks d.header)) =
+    subst (λ l. All (λ k. k < length d.header.nodes) l) (sym p.nodes) (All-filter (λ k. not (k == n)) (λ k. k < length d.header.nodes) p.net p.good.low) in
+    is-node (length d.header.nodes) m.0 (subst (λ k. k < length d.header.nodes) at.is (All-get_or (λ k. k < length d.header.nodes) (neighbours_on n q.0 (networks d.header)) (place_in m.0 (neighbours_on n q.0 (networks d.header))) 0 at.few below))
 
 -- a written datagram has at most 268 octets
 canon-small : (x : Datagram) → IsSound x → length (canon x) ≤ 512
@@ -42,15 +79,48 @@ pub running : (o : Option Life) → IsRunning o → Running o
 running None r = absurd r
 running (Some life) r = record { life = life; is = refl }
 
-module _ (d : Daemons) (header_is : IsHeader d.header) (started : (n : ℕ) → n < length d.header.nodes → IsStarted d n) where
+-- what comes of event k: a daemon starts, one that runs takes a turn, or nothing
+pub data Outcome (d : Daemons) (k : ℕ) (w : Network) : Network → Type 0 where
+  Starts : (at n word : ℕ) → Outcome d k w (starts d k at n word w)
+  Turns : (step : Step) (a : Arrival) (life : Life) → w.lives step.node ≡ Some life → Outcome d k w (turned_to d step life (turn_told a (d.early k) (step_tick d.header step - life.origin) life) w)
+  Nothing : Outcome d k w w
+
+turn-outcome : (d : Daemons) (k : ℕ) (w : Network) (step : Step) (a : Arrival) (o : Option Life) → w.lives step.node ≡ o → Outcome d k w (turns d k step a o w)
+turn-outcome d k w step a None e = Nothing
+turn-outcome d k w step a (Some life) e = Turns step a life e
+
+pub outcome : (d : Daemons) (k : ℕ) (w : Network) (e : Event) → Outcome d k w (after_event d k e w)
+outcome d k w (BootAt at node word) = Starts at node word
+outcome d k w (Turn at node) = turn-outcome d k w (record { at = at; node = node; cause = Turned }) None (w.lives node) refl
+outcome d k w (Bytes at node port from octets) =
+    turn-outcome d k w (record { at = at; node = node; cause = Handed }) (Some (sender_for (networks d.header) node port from, octets)) (w.lives node) refl
+outcome d k w (Take at number) = by_send (slice_get w.sent number) where
+  by_address : (s : Sent) (o : Option Address) → Outcome d k w (delivers d k at number s o w)
+  by_address s None = Nothing
+  by_address s (Some a) = turn-outcome d k w (record { at = at; node = a.node; cause = Came number }) (copy_at (networks d.header) a s) (w.lives a.node) refl
+
+  by_send : (o : Option Sent) → Outcome d k w (takes_copy d k at number o w)
+  by_send None = Nothing
+  by_send (Some s) = by_address s (destination (networks d.header) s.from s.tried.0)
+
+-- no send is forgotten
+pub longer : (ss ts : List Sent) → length ss ≤ length (ss ++ ts)
+longer ss ts = let both = length-append ss ts in omega (arith, both)
+
+grows : {d : Daemons} {k : ℕ} {w v : Network} → Outcome d k w v → length w.sent ≤ length v.sent
+grows {w = w} (Starts at n word) = longer w.sent _
+grows {w = w} (Turns step a life there) = longer w.sent _
+grows Nothing = omega arith
+
+module _ (d : Daemons) (header_is : IsHeader d.header) (started : AreStarted d) where
   abbrev nets : List (List ℕ)
   nets = networks d.header
 
   abbrev Agreeing : Network → ℕ → List Line → Type 0
-  Agreeing = AllAgree d header_is started
+  Agreeing = AllAgree d header_is
 
   own-agrees : (w : Network) (t : ℕ) (h : List Line) (n : ℕ) → Agreeing w t h → (r : Running (w.lives n)) → Agrees d header_is n r.life t h
-  own-agrees w t h n a r = subst (λ o. OneAgrees d header_is started n o t h) r.is (a.nodes n)
+  own-agrees w t h n a r = subst (λ o. OneAgrees d header_is n o t h) r.is (a.nodes n)
 
   -- what is known of an event that can happen after others, with which the network agrees
   pub record EventAgrees (e : Event) (before : List Event) : Type 0 where
@@ -75,7 +145,7 @@ module _ (d : Daemons) (header_is : IsHeader d.header) (started : (n : ℕ) → 
       let step : Step = record { at = at; node = node; cause = Turned } in
       record {
         agree = subst (λ z. Agreeing (after_event d (length before) (Turn at node) w) at (joins (Some z) h)) (sym (steps-are d.header h (answers_all NodeTurn) step))
-            (turn_agrees_all d header_is started w (last_at before) h (length before) step None r.life NodeTurn a later r.is refl tt);
+            (turn_agrees_all d header_is w (last_at before) h (length before) step None r.life NodeTurn a later r.is refl tt);
         can = could_turn (scene d.header before) at node later own.low own.up_is;
         ranges = tt;
       }
@@ -94,7 +164,7 @@ module _ (d : Daemons) (header_is : IsHeader d.header) (started : (n : ℕ) → 
       let k = comes_as d header_is node own.low r.life.origin port from octets (session_of (d.words node) r.life).past own.ports c.2 has c.3 in
       record {
         agree = subst (λ z. Agreeing (after_event d (length before) (Bytes at node port from octets) w) at (joins (Some z) h)) (sym (steps-are d.header h (answers_all (GotOn port from (taken_of octets))) step))
-            (turn_agrees_all d header_is started w (last_at before) h (length before) step (Some (sender_for nets node port from, octets)) r.life (GotOn port from (taken_of octets)) a later r.is k.same k.comes);
+            (turn_agrees_all d header_is w (last_at before) h (length before) step (Some (sender_for nets node port from, octets)) r.life (GotOn port from (taken_of octets)) a later r.is k.same k.comes);
         can = could_come (scene d.header before) at node port from octets later own.low has (sender_known d header_is node own.low port has from c.2) own.up_is;
         ranges = c.4;
       }
@@ -114,7 +184,7 @@ module _ (d : Daemons) (header_is : IsHeader d.header) (started : (n : ℕ) → 
         let nowhere : goes_to nets (slice_get (posts h) k) ≡ None = ap (goes_to nets) m.there ∙ away in
         let nothing : happening d.header h (Take at k) ≡ None = ap (λ z. reaches d.header h at k (arrives nets z)) m.there ∙ ap (λ z. reaches d.header h at k (arrives_at m.post z)) away in
         record {
-          agree = subst (λ z. Agreeing z at (run d.header (Take at k ∷ before))) (sym net) (subst (λ z. Agreeing w at (joins z h)) (sym nothing) (all_still d header_is started w (last_at before) at h later a));
+          agree = subst (λ z. Agreeing z at (run d.header (Take at k ∷ before))) (sym net) (subst (λ z. Agreeing w at (joins z h)) (sym nothing) (all_still d header_is w (last_at before) at h later a));
           can = could_take (scene d.header before) at k later m.few (ap (λ z. down (scene d.header before).up (node_in z)) nowhere);
           ranges = tt;
         }
@@ -141,7 +211,7 @@ module _ (d : Daemons) (header_is : IsHeader d.header) (started : (n : ℕ) → 
         let somewhere : goes_to nets (slice_get (posts h) k) ≡ Some to = ap (goes_to nets) m.there ∙ goes in
         record {
           agree = subst (λ z. Agreeing z at (run d.header (Take at k ∷ before))) (sym net) (subst (λ z. Agreeing (turns d (length before) step (copy_at nets to s) (w.lives to.node) w) at (joins z h)) (sym happened)
-              (turn_agrees_all d header_is started w (last_at before) h (length before) step (copy_at nets to s) r.life (GotOn to.port (Peer (peer_of post.from)) (taken_of (canon post.datagram))) a later r.is given_is c.comes));
+              (turn_agrees_all d header_is w (last_at before) h (length before) step (copy_at nets to s) r.life (GotOn to.port (Peer (peer_of post.from)) (taken_of (canon post.datagram))) a later r.is given_is c.comes));
           can = could_take (scene d.header before) at k later m.few (ap (λ z. down (scene d.header before).up (node_in z)) somewhere ∙ ap (λ b. down_at b to.node) own.up_is);
           ranges = tt;
         }
@@ -156,36 +226,15 @@ module _ (d : Daemons) (header_is : IsHeader d.header) (started : (n : ℕ) → 
   event_agrees before (Take at k) possible later a c = take before at k possible later a c
   event_agrees before (Bytes at node port from octets) possible later a c = come before at node port from octets later a c
 
-  -- no send is forgotten
-  acted-grows : (step : Step) (life : Life) (acts : List Placed) (w : Network) → length w.sent ≤ length (acted d step life acts w).sent
-  acted-grows step life acts w = let both = length-append w.sent (map (sent_by step.node) (sends_of acts)) in omega (arith, both)
-
-  turn-grows : (k : ℕ) (step : Step) (a : Arrival) (o : Option Life) (w : Network) → length w.sent ≤ length (turns d k step a o w).sent
-  turn-grows k step a None w = omega arith
-  turn-grows k step a (Some life) w = acted-grows step (turn_told a (d.early k) (step_tick d.header step - life.origin) life) (turn_acts (d.words step.node) life (turn_told a (d.early k) (step_tick d.header step - life.origin) life)) w
-
-  copy-grows : (k at number : ℕ) (s : Option Sent) (w : Network) → length w.sent ≤ length (takes_copy d k at number s w).sent
-  copy-grows k at number None w = omega arith
-  copy-grows k at number (Some s) w = by_address (destination nets s.from s.tried.0) where
-    by_address : (o : Option Address) → length w.sent ≤ length (delivers d k at number s o w).sent
-    by_address None = omega arith
-    by_address (Some a) = turn-grows k (record { at = at; node = a.node; cause = Came number }) (copy_at nets a s) (w.lives a.node) w
-
-  pub sent_grows : (k : ℕ) (e : Event) (w : Network) → length w.sent ≤ length (after_event d k e w).sent
-  sent_grows k (BootAt at node word) w = acted-grows (boot_step d.header at node word) (life_from d k at node word (length w.sent)) (first_acts (d.words node) (daemon_tick d node at - d.origin k) (node_wall d node at) word) w
-  sent_grows k (Turn at node) w = turn-grows k (record { at = at; node = node; cause = Turned }) None (w.lives node) w
-  sent_grows k (Take at number) w = copy-grows k at number (slice_get w.sent number) w
-  sent_grows k (Bytes at node port from octets) w = turn-grows k (record { at = at; node = node; cause = Handed }) (Some (sender_for nets node port from, octets)) (w.lives node) w
-
   -- a network agrees with a run whose events are possible
   pub record RunAgrees (events : List Event) : Type 0 where
     pub agree : Agreeing (network d events) (last_at events) (run d.header events)
     pub possible : Possible d.header events
 
   pub run_agrees : (events : List Event) → AllHappen d events → length (network d events).sent < 2 ^ 64 → RunAgrees events
-  run_agrees [] all few = record { agree = none_agree d header_is started; possible = record { header_is = header_is; ranges = All-nil IsInRange; happens = tt; few = omega arith } }
+  run_agrees [] all few = record { agree = none_agree d header_is; possible = record { header_is = header_is; ranges = All-nil IsInRange; happens = tt; few = omega arith } }
   run_agrees (e ∷ before) all few =
-      let old = run_agrees before all.2 (let more = sent_grows (length before) e (network d before) in omega (arith, few, more)) in
+      let old = run_agrees before all.2 (let more = grows (outcome d (length before) (network d before) e) in omega (arith, few, more)) in
       let now = event_agrees before e old.possible all.0 old.agree all.1 in
       let count = match_length d now.agree.sends in
       record {

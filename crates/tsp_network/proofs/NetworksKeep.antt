@@ -1,10 +1,307 @@
--- Every network of daemons keeps the promises.
-use Rattle.std.proofs.Common.{sym, subst, arith, ◌∙◌}
-use Rattle.tsp_run.specs.{Promises.Promises, Run.run}
-use Rattle.tsp_run.proofs.{NetworkLemmas.some_same, RunPremises.possible-runs-keep-premises, RunPromises.possible-runs-keep-promises}
-use Rattle.tsp_network.specs.{Kept.IsSent, Kept.NetworksKeepPromises, Networks.network}
-use Rattle.tsp_network.proofs.{NetworkRuns.run_agrees, SentLemmas.match_at, SentLemmas.match_length}
-use Rattle.tsp_network.proofs.TriedLemmas.{OneTried, all_tried}
+-- Every network of daemons keeps the promises: what can happen in a run can happen in it; what a daemon's session has tried is what the network
+-- has of it; and the numbers of a daemon's peers are the places of their addresses.
+use Rattle.std.proofs.Common.{option_map, sym, ap, subst, arith, inl, inr, ◌∙◌, ◌≡◌, ℕ, zero, suc, ◌<◌, ◌==◌, nat_lt, Bool, true, false, if◌then◌else◌, List, [], ◌∷◌, length, Option, None, Some, slice_get, refl, eq-eqb, eqb-true, append-nil, ◌-◌, ◌≤◌, ◌++◌, map, filter, drop, ◌+◌, flat_map, slice_index_or}
+use Rattle.std.proofs.lemmas.{List.drop-append-le, List.drop_all, List.map-append, List.length-map, Option.slice_get-get_or, Option.slice_get-map, Option.slice_get_cases}
+use Rattle.std.proofs.lemmas.{Bool.ltb-true, Bool.eqb-false, Bool.ne_eqb, List.Elements.All-head, List.Elements.filter-append}
+use Rattle.tsp_rules.specs.NodeRows.{NodePast, for_ports, nothing_at_all, on, reading_all, spread, ◌and_then◌}
+use Rattle.tsp_rules.specs.Values.{Placed, Event, BootAt, Turn, Take, Bytes, Boot, Port}
+use Rattle.tsp_rules.specs.GateRows.{all_ports, boots_all, boots_on}
+use Rattle.tsp_base.specs.Words.{IsHeader, Line, Step, dids, of, up, first_port, arms, puts, ◌followed_by◌, has_member}
+use Rattle.tsp_base.specs.declared.event.EventFault.TheVariants.{NoDatagram}
+use Rattle.tsp_run.proofs.RefusalLemmas.{CanHappen as CanBe, can_happen, first_of-none, up-down}
+use Rattle.tsp_run.specs.Refusals.{down, impossible, node_in, no_datagram, scene, time_back}
+use Rattle.tsp_run.specs.{Run.boot_step, Run.goes_to, Run.last_at, Run.posts, Run.run, Run.step_tick, declared.address.Address.Address}
+use Rattle.tsp_run.proofs.{PossibleRun.possible_before, RunPremises.possible-runs-keep-premises, RunPromises.possible-runs-keep-promises}
+use Rattle.tsp_run.specs.{Networks.networks, Networks.network_from, Possible.Possible, Promises.Promises, declared.posted.Posted.Posted}
+use Rattle.tsp_run.{proofs.NetworkLemmas.some_same, proofs.RunLemmas.stepped_other, specs.Ranges.IsInRange}
+use Rattle.tsp_network.proofs.NetworkRuns.{Nothing, Outcome, RunAgrees, Starts, Turns, outcome, event_agrees, run_agrees, longer}
+use Rattle.tsp_network.specs.Kept.{tried_by, IsSent, NetworksKeepPromises, NumbersAreAddresses, AllSuit, RunsAreNetworks, Suits}
+use Rattle.tsp_network.specs.Networks.{Network, Sent, acted, named_acts, network, life_from, daemon_tick, node_wall, sent_by}
+use Rattle.tsp_network.specs.Rosters.{destination, count_below, neighbours, neighbours_on, number_for, others_in, place_in}
+use Rattle.tsp_network.specs.Lives.{AreStarted, Daemons, Life, first_acts, session_of, turn_told, turn_acts, addresses}
+use Rattle.tsp_network.proofs.SetUpLemmas.{AllMatch, Matches, MoreMatch, NoneMatch, match_length, match_at}
+use Rattle.tsp_network.proofs.NetworkAgrees.{AllAgree, Began, Reached, Went, acts_told, session_told}
+use Rattle.tsp_network.specs.Events.{AllHappen, CanHappen, IsNetwork, IsRunning, RunsAt, RunsFor}
+use Rattle.tsp_network.proofs.RosterLemmas.{length_neighbours, none_some, place_is}
+use Rattle.tsp_io.specs.{Links.Tried, declared.addr.Addr.Addr}
+use Rattle.tsp_daemon.specs.{Nodes.booting, Nodes.daemon_config, Posts.sends_of, Serving.serving_binding, Sessions.Session}
+use Rattle.tsp_args.specs.Ports.{all_peers}
+
+-- the send of a post
+pub record SendAt (d : Daemons) (p : Posted) (ss : List Sent) (k : ℕ) : Type 0 where
+  pub send : Sent
+  pub there : slice_get ss k ≡ Some send
+  pub matches : Matches d send p
+
+pub send_at : (d : Daemons) {ss : List Sent} {ps : List Posted} → AllMatch d ss ps → (k : ℕ) (p : Posted) → slice_get ps k ≡ Some p → SendAt d p ss k
+send_at d NoneMatch k p e = let bad : ⊥ = cc in absurd bad
+send_at d (MoreMatch {s = s} m a) zero p e = record { send = s; there = refl; matches = subst (λ z. Matches d s z) (some_same e) m }
+send_at d (MoreMatch m a) (suc k) p e = let r = send_at d a k p e in record { send = r.send; there = r.there; matches = r.matches }
+
+-- a node on which no daemon runs has done nothing
+abbrev pub IsQuiet : Network → Type 0
+IsQuiet w = (n : ℕ) → w.lives n ≡ None → of n w.history ≡ []
+
+acted-quiet : (d : Daemons) (step : Step) (life : Life) (acts : List Placed) (w : Network) → IsQuiet w → IsQuiet (acted d step life acts w)
+acted-quiet d step life acts w q n e = by_node (n == step.node) refl e where
+  by_node : (b : Bool) → (n == step.node) ≡ b → (if b then Some life else w.lives n) ≡ None → of n (acted d step life acts w).history ≡ []
+  by_node true same e = let bad : ⊥ = cc in absurd bad
+  by_node false other e =
+      stepped_other n step (step_tick d.header step) (named_acts (networks d.header) step.node life.origin acts) w.history (ne_eqb step.node n (λ same. eqb-false n step.node other (sym same))) ∙ q n e
+
+event-quiet : {d : Daemons} {k : ℕ} {w v : Network} → IsQuiet w → Outcome d k w v → IsQuiet v
+event-quiet {d} {k} {w} q (Starts at n word) = acted-quiet d (boot_step d.header at n word) _ (first_acts (d.words n) (daemon_tick d n at - d.origin k) (node_wall d n at) word) w q
+event-quiet {d} {k} {w} q (Turns step a life there) = acted-quiet d step _ (turn_acts (d.words step.node) life (turn_told a (d.early k) (step_tick d.header step - life.origin) life)) w q
+event-quiet q Nothing = q
+
+pub quiet : (d : Daemons) (events : List Event) → IsQuiet (network d events)
+quiet d [] = λ n e. refl
+quiet d (e ∷ before) = event-quiet (quiet d before) (outcome d (length before) (network d before) e)
+
+-- a daemon runs on each node that is up
+pub runs_up : (w : Network) (h : List Line) (n : ℕ) → w.history ≡ h → IsQuiet w → up (dids (of n h)) ≡ true → IsRunning (w.lives n)
+runs_up w h n same q up_is = by_life (w.lives n) refl where
+  by_life : (o : Option Life) → w.lives n ≡ o → IsRunning o
+  by_life None e =
+      let none : of n h ≡ [] = ap (of n) (sym same) ∙ q n e in
+      let off : up (dids (of n h)) ≡ false = ap (λ l. up (dids l)) none in
+      let bad : ⊥ = cc in
+      absurd bad
+  by_life (Some life) e = tt
+
+-- what isn't impossible takes a datagram that was posted
+known-datagram : (header : _) (before : List Event) (at k : ℕ) → impossible (scene header before) (Take at k) ≡ None → k < length (posts (run header before))
+known-datagram header before at k none =
+    let s = scene header before in
+    let a = first_of-none (time_back at s.last) _ none in
+    let b = first_of-none None _ a.1 in
+    let c = first_of-none (no_datagram (length s.posts) (Take at k)) _ b.1 in
+    ltb-true k (length s.posts) (by_case (nat_lt k (length s.posts)) c.0) where
+      by_case : (b : Bool) → (if b then None else Some (NoDatagram k (length (posts (run header before))))) ≡ None → b ≡ true
+      by_case true e = refl
+      by_case false e = let bad : ⊥ = cc in absurd bad
+
+module _ (d : Daemons) (header_is : IsHeader d.header) (started : AreStarted d) where
+  take-happens : (before : List Event) (at k : ℕ) → AllAgree d header_is (network d before) (last_at before) (run d.header before) → impossible (scene d.header before) (Take at k) ≡ None → RunsFor d (network d before) (slice_get (network d before).sent k)
+  take-happens before at k a can = elim (slice_get_cases (posts h) k).1 [
+    | inl c ↦
+        let r = send_at d a.sends k c.0 c.2 in
+        subst (λ o. RunsFor d w o) (sym r.there) (by_address r.send c.0 c.2 r.matches (destination nets r.send.from r.send.tried.0) refl)
+    | inr c ↦ let few = known-datagram d.header before at k can in let past = c.0 in let bad : ⊥ = omega (arith, few, past) in absurd bad
+  ] where
+    w : Network
+    w = network d before
+
+    h : List Line
+    h = run d.header before
+
+    nets : List (List ℕ)
+    nets = networks d.header
+
+    by_address : (s : Sent) (p : Posted) → slice_get (posts h) k ≡ Some p → Matches d s p → (o : Option Address) → destination nets s.from s.tried.0 ≡ o → RunsAt w o
+    by_address s p there m None e = tt
+    by_address s p there m (Some to) e =
+        let goes : goes_to nets (slice_get (posts h) k) ≡ Some to = ap (goes_to nets) there ∙ sym m.goes ∙ e in
+        let free : down (scene d.header before).up (Some to.node) ≡ None = ap (λ z. down (scene d.header before).up (node_in z)) (sym goes) ∙ (can_happen (scene d.header before) (Take at k) can).up in
+        runs_up w h to.node a.history (quiet d before) (up-down (scene d.header before) to.node free)
+
+  happens-so : (before : List Event) (e : Event) → AllAgree d header_is (network d before) (last_at before) (run d.header before) → impossible (scene d.header before) e ≡ None → IsInRange e → Suits d (length before) e → CanHappen d (length before) (network d before) e
+  happens-so before (BootAt at node word) a can range suits = ((can_happen (scene d.header before) (BootAt at node word) can).node, range, suits)
+  happens-so before (Turn at node) a can range suits = runs_up (network d before) (run d.header before) node a.history (quiet d before) (up-down (scene d.header before) node (can_happen (scene d.header before) (Turn at node) can).up)
+  happens-so before (Take at k) a can range suits = take-happens before at k a can
+  happens-so before (Bytes at node port from octets) a can range suits =
+      let s = scene d.header before in
+      let k : CanBe s (Bytes at node port from octets) = can_happen s (Bytes at node port from octets) can in
+      let all = length_neighbours node (networks d.header) in
+      let has = k.node.1 in
+      (runs_up (network d before) (run d.header before) node a.history (quiet d before) (up-down s node k.up), omega (arith, all, has), suits.0, suits.1, range)
+
+  -- the events of a run, as a network's
+  record Comes (events : List Event) : Type 0 where
+    pub happen : AllHappen d events
+    pub few : length (network d events).sent ≡ length (posts (run d.header events))
+    pub agree : RunAgrees d header_is started events
+
+  comes : (events : List Event) → AllSuit d events → Possible d.header events → Comes events
+  comes [] suits p = record { happen = tt; few = refl; agree = run_agrees d header_is started [] tt (omega arith) }
+  comes (e ∷ before) suits p =
+      let older = possible_before d.header e before p in
+      let old = comes before suits.1 older in
+      let can = p.happens.0 in
+      let later = (can_happen (scene d.header before) e can).time in
+      let now = happens-so before e old.agree.agree can (All-head IsInRange e before p.ranges) suits.0 in
+      let happen : AllHappen d (e ∷ before) = (later, now, old.happen) in
+      let next = event_agrees d header_is started before e older later old.agree.agree now in
+      let same = match_length d next.agree.sends in
+      let few = p.few in
+      record { happen = happen; few = same; agree = run_agrees d header_is started (e ∷ before) happen (omega (arith, same, few)) }
+
+pub run_is_network : (d : Daemons) (events : List Event) → AreStarted d → AllSuit d events → Possible d.header events → IsNetwork d events
+run_is_network d events started suits p =
+    let c = comes d p.header_is started events suits p in
+    let same = c.few in
+    let few = p.few in
+    record { header_is = p.header_is; started = started; happen = c.happen; few = omega (arith, same, few) }
+
+-- what happens suits the daemons
+suits-so : (d : Daemons) (k : ℕ) (w : Network) (e : Event) → CanHappen d k w e → Suits d k e
+suits-so d k w (BootAt at node word) c = c.2
+suits-so d k w (Bytes at node port from octets) c = (c.2, c.3)
+suits-so d k w _ c = tt
+
+all-suit : (d : Daemons) (events : List Event) → AllHappen d events → AllSuit d events
+all-suit d [] all = tt
+all-suit d (e ∷ before) all = (suits-so d (length before) (network d before) e all.1, all-suit d before all.2)
+
+pub runs-are-networks : RunsAreNetworks
+runs-are-networks = record {
+  all = run_is_network;
+  only = λ d events n. (all-suit d events n.happen, (let few = n.few in run_agrees d n.header_is n.started events n.happen (omega (arith, few))).possible);
+}
+
+-- a node that boots sends nothing
+ports-silent : (qs : List Port) (x : ℕ) (p : NodePast) → sends_of (for_ports boots_on qs x p) ≡ []
+unfolding for_ports nothing_at_all ◌and_then◌ boots_on on puts arms ◌followed_by◌
+ports-silent [] x p = refl
+ports-silent (q ∷ qs) x p = ports-silent qs x _
+
+boots-silent : (x : ℕ) (p : NodePast) → sends_of (boots_all x p) ≡ []
+unfolding boots_all on puts ◌and_then◌ reading_all
+boots-silent x p = let begun : NodePast = spread x p (on first_port (puts Boot) x p) in ports-silent (all_ports x begun) x begun
+
+-- what one node has tried of more sends
+more-tried : (n : ℕ) (ss ts : List Sent) → tried_by n (ss ++ ts) ≡ tried_by n ss ++ tried_by n ts
+more-tried n ss ts = ap (map (λ (s : Sent). s.tried)) (filter-append (λ (s : Sent). s.from == n) ss ts) ∙ map-append (λ (s : Sent). s.tried) (filter (λ (s : Sent). s.from == n) ss) (filter (λ (s : Sent). s.from == n) ts)
+
+own-tried : (n : ℕ) (ts : List Tried) → tried_by n (map (sent_by n) ts) ≡ ts
+own-tried n [] = refl
+own-tried n (t ∷ ts) = ap (λ b. map (λ (s : Sent). s.tried) (if b then sent_by n t ∷ filter (λ (s : Sent). s.from == n) (map (sent_by n) ts) else filter (λ (s : Sent). s.from == n) (map (sent_by n) ts))) (eq-eqb n n refl) ∙ ap (λ l. t ∷ l) (own-tried n ts)
+
+other-tried : (m n : ℕ) → (n == m) ≡ false → (ts : List Tried) → tried_by m (map (sent_by n) ts) ≡ []
+other-tried m n off [] = refl
+other-tried m n off (t ∷ ts) = ap (λ b. map (λ (s : Sent). s.tried) (if b then sent_by n t ∷ filter (λ (s : Sent). s.from == m) (map (sent_by n) ts) else filter (λ (s : Sent). s.from == m) (map (sent_by n) ts))) off ∙ other-tried m n off ts
+
+tried-more : (n k : ℕ) (ss ts : List Sent) → k ≤ length ss → tried_by n (drop k (ss ++ ts)) ≡ tried_by n (drop k ss) ++ tried_by n ts
+tried-more n k ss ts few = ap (tried_by n) (drop-append-le k ss ts few) ∙ more-tried n (drop k ss) ts
+
+module _ (d : Daemons) where
+  -- what is known of a daemon that runs, if the network has sent this
+  pub record LifeTried (n : ℕ) (life : Life) (sent : List Sent) : Type 0 where
+    pub reached : Reached life
+    pub few : life.sent_before ≤ length sent
+    pub tried : (session_of (d.words n) life).outside.tried ≡ tried_by n (drop life.sent_before sent)
+
+  abbrev AllTried : Network → Type 0
+  AllTried w = (n : ℕ) (life : Life) → w.lives n ≡ Some life → LifeTried n life w.sent
+
+  acted-tried : (step : Step) (now : Life) (acts : List Placed) (w : Network) → AllTried w → LifeTried step.node now (w.sent ++ map (sent_by step.node) (sends_of acts)) → AllTried (acted d step now acts w)
+  acted-tried step now acts w all own m life there = by_node (m == step.node) refl there where
+    more : List Sent
+    more = map (sent_by step.node) (sends_of acts)
+
+    by_node : (b : Bool) → (m == step.node) ≡ b → (if b then Some now else w.lives m) ≡ Some life → LifeTried m life (w.sent ++ more)
+    by_node true e there = subst (λ n. LifeTried n life (w.sent ++ more)) (sym (eqb-true m step.node e)) (subst (λ l. LifeTried step.node l (w.sent ++ more)) (some_same there) own)
+    by_node false e there =
+        let old = all m life there in
+        let few = old.few in
+        let long = longer w.sent more in
+        let silent = other-tried m step.node (ne_eqb step.node m (λ same. eqb-false m step.node e (sym same))) (sends_of acts) in
+        let before : List Tried = tried_by m (drop life.sent_before w.sent) in
+        record {
+          reached = old.reached;
+          few = omega (arith, few, long);
+          tried = old.tried ∙ sym (tried-more m life.sent_before w.sent more old.few ∙ ap (λ l. before ++ l) silent ∙ append-nil before);
+        }
+
+  event-tried : {k : ℕ} {w v : Network} → AllTried w → Outcome d k w v → AllTried v
+  event-tried all Nothing = all
+  event-tried {k} {w} all (Turns step a life there) =
+      let n : ℕ = step.node in
+      let s = d.words n in
+      let y : ℕ = step_tick d.header step - life.origin in
+      let now : Life = turn_told a (d.early k) y life in
+      let acts : List Placed = turn_acts s life now in
+      let own = all n life there in
+      let few = own.few in
+      let long = longer w.sent (map (sent_by n) (sends_of acts)) in
+      let before : List Tried = tried_by n (drop life.sent_before w.sent) in
+      let after : (session_of s now).outside.tried ≡ (session_of s life).outside.tried ++ sends_of acts =
+      ap (λ (z : Session). z.outside.tried) (session_told s own.reached a (d.early k) y) ∙ ap (λ l. (session_of s life).outside.tried ++ sends_of l) (sym (acts_told s own.reached a (d.early k) y)) in
+      acted-tried step now acts w all (record {
+        reached = Went own.reached a (d.early k) y;
+        few = omega (arith, few, long);
+        tried = after ∙ ap (λ l. l ++ sends_of acts) own.tried ∙ sym (tried-more n life.sent_before w.sent (map (sent_by n) (sends_of acts)) own.few ∙ ap (λ l. before ++ l) (own-tried n (sends_of acts)));
+      })
+  event-tried {k} {w} all (Starts at n word) =
+      let y : ℕ = daemon_tick d n at - d.origin k in
+      let wall = node_wall d n at in
+      let acts : List Placed = first_acts (d.words n) y wall word in
+      let silent : sends_of acts ≡ [] = boots-silent y (booting (daemon_config (d.words n)) y wall word) in
+      let sent : w.sent ++ map (sent_by n) (sends_of acts) ≡ w.sent = ap (λ l. w.sent ++ map (sent_by n) l) silent ∙ append-nil w.sent in
+      acted-tried (boot_step d.header at n word) (life_from d k at n word (length w.sent)) acts w all (record {
+        reached = Began (d.origin k) (length w.sent) wall word y;
+        few = longer w.sent (map (sent_by n) (sends_of acts));
+        tried = sym (ap (λ l. tried_by n (drop (length w.sent) l)) sent ∙ ap (tried_by n) (drop_all (length w.sent) w.sent (omega arith)));
+      })
+
+  all-tried : (events : List Event) → AllTried (network d events)
+  all-tried [] = λ n life there. (let bad : ⊥ = cc in absurd bad)
+  all-tried (e ∷ before) = event-tried (all-tried before) (outcome d (length before) (network d before) e)
+
+get-left : {A : Type 0} (xs ys : List A) (c : ℕ) → c < length xs → slice_get (xs ++ ys) c ≡ slice_get xs c
+get-left [] ys c h = absurd (omega (arith, h))
+get-left (x ∷ xs) ys zero h = refl
+get-left (x ∷ xs) ys (suc c) h = get-left xs ys c (omega (arith, h))
+
+get-right : {A : Type 0} (xs ys : List A) (c : ℕ) → slice_get (xs ++ ys) (length xs + c) ≡ slice_get ys c
+get-right [] ys c = ap (slice_get ys) (let e : 0 + c ≡ c = omega arith in e)
+get-right (x ∷ xs) ys c = ap (slice_get (x ∷ xs ++ ys)) (let e : length (x ∷ xs) + c ≡ suc (length xs + c) = omega arith in e) ∙ get-right xs ys c
+
+-- the c-th neighbour on port r stands behind those of the ports below it
+flat-at : (at : ℕ → ℕ → Addr) (n p i : ℕ) (nets : List (List ℕ)) (r k c : ℕ) → network_from n (p + r) p i nets ≡ Some k → c < length (neighbours_on n r nets) →
+    slice_get (flat_map (λ peers. peers) (addresses at n i nets)) (count_below r (neighbours n nets) + c) ≡ Some (at k (slice_index_or (neighbours_on n r nets) c 0))
+flat-at at n p i [] r k c e h = absurd (none_some e)
+flat-at at n p i (net ∷ rest) r k c e h = by_member (has_member n net) refl (λ s f g. flat-at at n (p + 1) (i + 1) rest s k c f g) (λ s f g. flat-at at n p (i + 1) rest s k c f g) r e h where
+  by_member : (b : Bool) → has_member n net ≡ b →
+      ((s : ℕ) → network_from n ((p + 1) + s) (p + 1) (i + 1) rest ≡ Some k → c < length (neighbours_on n s rest) → slice_get (flat_map (λ peers. peers) (addresses at n (i + 1) rest)) (count_below s (neighbours n rest) + c) ≡ Some (at k (slice_index_or (neighbours_on n s rest) c 0))) →
+      ((s : ℕ) → network_from n (p + s) p (i + 1) rest ≡ Some k → c < length (neighbours_on n s rest) → slice_get (flat_map (λ peers. peers) (addresses at n (i + 1) rest)) (count_below s (neighbours n rest) + c) ≡ Some (at k (slice_index_or (neighbours_on n s rest) c 0))) →
+      (r : ℕ) → (if b then (if p == (p + r) then Some i else network_from n (p + r) (p + 1) (i + 1) rest) else network_from n (p + r) p (i + 1) rest) ≡ Some k →
+      c < length (slice_index_or (if b then others_in n net ∷ neighbours n rest else neighbours n rest) r []) →
+      slice_get (flat_map (λ peers. peers) (if b then map (at i) (others_in n net) ∷ addresses at n (i + 1) rest else addresses at n (i + 1) rest)) (count_below r (if b then others_in n net ∷ neighbours n rest else neighbours n rest) + c)
+      ≡ Some (at k (slice_index_or (slice_index_or (if b then others_in n net ∷ neighbours n rest else neighbours n rest) r []) c 0))
+  by_member true m more past zero e h =
+      let first : (p == (p + 0)) ≡ true = eq-eqb p (p + 0) (omega arith) in
+      let here : i ≡ k = some_same (subst (λ b. (if b then Some i else network_from n (p + 0) (p + 1) (i + 1) rest) ≡ Some k) first e) in
+      let same = length-map (others_in n net) (at i) in
+      ap (slice_get (map (at i) (others_in n net) ++ flat_map (λ peers. peers) (addresses at n (i + 1) rest))) (let z : 0 + c ≡ c = omega arith in z)
+      ∙ get-left (map (at i) (others_in n net)) (flat_map (λ peers. peers) (addresses at n (i + 1) rest)) c (omega (arith, h, same))
+      ∙ slice_get-map (at i) (others_in n net) c
+      ∙ ap (option_map (at i)) (slice_get-get_or (others_in n net) c 0 h)
+      ∙ ap (λ z. Some (at z (slice_index_or (others_in n net) c 0))) here
+  by_member true m more past (suc s) e h =
+      let other : (p == (p + suc s)) ≡ false = ne_eqb p (p + suc s) (λ z. let bad : ⊥ = omega (arith, z) in bad) in
+      let next : network_from n ((p + 1) + s) (p + 1) (i + 1) rest ≡ Some k =
+      ap (λ z. network_from n z (p + 1) (i + 1) rest) (let z : (p + 1) + s ≡ p + suc s = omega arith in z) ∙ subst (λ b. (if b then Some i else network_from n (p + suc s) (p + 1) (i + 1) rest) ≡ Some k) other e in
+      let same = length-map (others_in n net) (at i) in
+      ap (slice_get (map (at i) (others_in n net) ++ flat_map (λ peers. peers) (addresses at n (i + 1) rest)))
+      (let z : (length (others_in n net) + count_below s (neighbours n rest)) + c ≡ length (map (at i) (others_in n net)) + (count_below s (neighbours n rest) + c) = omega (arith, same) in z)
+      ∙ get-right (map (at i) (others_in n net)) (flat_map (λ peers. peers) (addresses at n (i + 1) rest)) (count_below s (neighbours n rest) + c)
+      ∙ more s next h
+  by_member false m more past s e h = past s e h
+
+pub numbers_are_addresses : NumbersAreAddresses
+numbers_are_addresses d n q k m started on member off =
+    let nets = networks d.header in
+    let nodes = neighbours_on n q.0 nets in
+    let p = place_is m nodes member in
+    let i : ℕ = place_in m nodes in
+    let other : (m == n) ≡ false = ne_eqb m n off in
+    let number : number_for n q.0 m nets ≡ suc (count_below q.0 (neighbours n nets) + i) =
+    ap (λ b. if b then 0 else count_below q.0 (neighbours n nets) + 1 + i) other ∙ (let e : count_below q.0 (neighbours n nets) + 1 + i ≡ suc (count_below q.0 (neighbours n nets) + i) = omega arith in e) in
+    ap (slice_get (serving_binding (d.words n)).peers) number
+    ∙ ap (λ l. slice_get (all_peers l) (count_below q.0 (neighbours n nets) + i)) started.ports
+    ∙ flat-at d.address n 0 0 nets q.0 k i (ap (λ z. network_from n z 0 0 nets) (let e : 0 + q.0 ≡ q.0 = omega arith in e) ∙ on) p.few
+    ∙ ap (λ z. Some (d.address k z)) p.is
 
 pub networks-keep-promises : NetworksKeepPromises
 networks-keep-promises d setting events n set =
@@ -17,7 +314,7 @@ networks-keep-promises d setting events n set =
       sends = λ k s p there post.
           let m = match_at d r.agree.sends k s there in
           subst (λ q. IsSent d s q) (some_same (sym m.there ∙ post)) m.matches.sent;
-      tried = λ m life there. (subst (λ o. OneTried d m o (network d events).sent) there (all_tried d n.header_is n.started events n.happen (omega (arith, few)) m)).1;
+      tried = λ m life there. (all-tried d events m life there).tried;
       promises = subst (λ h. Promises setting h) (sym r.agree.history) kept;
       premises = possible-runs-keep-premises d.header events r.possible;
     }

@@ -1,26 +1,138 @@
--- The node of a daemon is set up as its node in the schedule, in other names.
-use Rattle.std.proofs.Common.{sym, ap, subst, inl, inr, arith, true≢false, ◌∙◌, ◌≡◌, ℕ, ◌+◌, ◌<◌, true, List, [], length, map, slice_index_or, refl}
-use Rattle.std.proofs.lemmas.{Bool.cases_lt, List.get_or_past, List.length-map, List.FromFn.length-map-range_with_len}
+-- The node of a daemon is set up as its node in the schedule, in other names: each port has its peers' numbers to itself. What comes to a daemon
+-- is what comes to its node, and what it sends is what its node posts.
+use Rattle.std.proofs.Common.{sym, ap, subst, arith, le-leb, ◌∙◌, ◌≡◌, ◌≢◌, ℕ, zero, suc, ◌+◌, ◌<◌, ◌==◌, nat_le, Bool, true, false, if◌then◌else◌, List, [], ◌∷◌, length, map, Some, slice_index_or, refl, inl, inr, true≢false, eq-eqb, take_all, ◌≤◌, take, ◌++◌, None, slice_get}
+use Rattle.std.proofs.lemmas.{Bool.lt-leb, Bool.ne_eqb, Bool.cases_lt, Bool.or_right, List.length-map, List.get_or_past, List.map-append}
+use Rattle.std.proofs.lemmas.List.{Elements.All-head, Elements.All-tail, FromFn.length-map-range_with_len}
 use Rattle.std.specs.List.{range_with_len}
-use Rattle.tsp_base.specs.Words.{IsHeader, Line, Step, is_among, others, peer_of}
+use Rattle.tsp_base.specs.Words.{has_member, peer_of, IsHeader, Line, Step, is_among, others, first_port}
 use Rattle.tsp_base.proofs.AscendingLemmas.{Rise-numbers}
-use Rattle.tsp_rules.specs.NodeRows.{NodePast, PortSetup, no_port, port_setup}
-use Rattle.tsp_rules.specs.{Renames.Renaming, Values.Port}
-use Rattle.tsp_run.specs.{Networks.networks, Networks.ports_on, Setup.node_line, Setup.past_of}
-use Rattle.tsp_daemon.specs.Nodes.{daemon_config, numbered_setup, setups_from}
-use Rattle.tsp_alike.specs.AlikeNodes.{AlikeConfigs, AlikeSetup, TellsApart}
-use Rattle.tsp_network.specs.Lives.{Daemons, IsStarted, addresses}
-use Rattle.tsp_network.specs.Rosters.{count_below, neighbours, neighbours_on, others_in, renaming_on}
-use Rattle.tsp_network.proofs.NamedLemmas.{IsRoster, compared, in_range, named_member, others_above, range_named}
-use Rattle.tsp_network.proofs.RosterLemmas.{header_nets, length_neighbours, one_fewer, others_on, port_is, roster}
-use Rattle.tsp_network.proofs.SegmentLemmas.{AsLong, as_long, ports_count, setup_at}
+use Rattle.tsp_gateway.specs.PortOf.{has_other_peer, port_of_from}
+use Rattle.tsp_io.specs.declared.addr.Addr.{Addr}
+use Rattle.tsp_rules.specs.Values.{Port, PeerId, Place, Peer, Stranger, Act, Post, Placed, Datagram}
+use Rattle.tsp_rules.specs.{GateRows.GotOn, Renames.Renaming, Renames.renamed_place, Renames.Naming, Renames.Knows, Renames.renamed_act}
+use Rattle.tsp_rules.specs.NodeRows.{no_port, NodePast, PortSetup, port_setup}
+use Rattle.tsp_daemon.specs.{Nodes.numbered_setup, Nodes.setups_from, Nodes.daemon_config, Sessions.given_of, Sessions.port_from}
+use Rattle.tsp_daemon.specs.Posts.{send_of, sends_of}
+use Rattle.tsp_network.specs.Rosters.{count_below, neighbours, others_in, port_of_number, neighbours_on, renaming_on, named_node, number_for, place_in, sender_for, destination, send_address}
+use Rattle.tsp_network.proofs.RosterLemmas.{is_in_range, not_in_range, IsRoster, compared, in_range, named_member, others_above, range_named, header_nets, length_neighbours, one_fewer, others_on, port_is, roster, place_is, none_some}
+use Rattle.tsp_network.specs.{Events.MayCome, Kept.IsSent, Lives.addresses, Lives.Daemons, Lives.IsStarted, Networks.Sent, Networks.sent_by}
+use Rattle.tsp_run.proofs.NetworkLemmas.{port_named, goes_there, some_same}
+use Rattle.tsp_run.specs.{Networks.networks, Networks.ports_on, Networks.address_of, declared.address.Address.Address}
+use Rattle.tsp_run.specs.{Run.posted_by, Run.posts_from, Setup.node_line, Setup.past_of, declared.posted.Posted.Posted}
+use Rattle.tsp_alike.specs.AlikeNodes.{AlikeConfigs, AlikeSetup, TellsApart, ComesOn, renamed_given, AllKnown, naming_of, renamed_placed}
+use Rattle.tsp_codec.specs.{Canon.canon, Taken.taken_of}
+
+-- lists of lists that are as long, each as the other's
+pub data AsLong : List (List Addr) → List (List ℕ) → Type 0 where
+  NoneLong : AsLong [] []
+  MoreLong : {ps : List Addr} {ns : List ℕ} {pss : List (List Addr)} {nss : List (List ℕ)} → length ps ≡ length ns → AsLong pss nss → AsLong (ps ∷ pss) (ns ∷ nss)
+
+-- a daemon's words name as many addresses on each port as there are neighbours
+pub as_long : (at : ℕ → ℕ → Addr) (n k : ℕ) (nets : List (List ℕ)) → AsLong (addresses at n k nets) (neighbours n nets)
+as_long at n k [] = NoneLong
+as_long at n k (net ∷ rest) = by_member (has_member n net) (as_long at n (k + 1) rest) where
+  by_member : (b : Bool) → AsLong (addresses at n (k + 1) rest) (neighbours n rest) → AsLong (if b then map (at k) (others_in n net) ∷ addresses at n (k + 1) rest else addresses at n (k + 1) rest) (if b then others_in n net ∷ neighbours n rest else neighbours n rest)
+  by_member true a = MoreLong (length-map (others_in n net) (at k)) a
+  by_member false a = a
+
+-- how many ports a daemon has
+pub ports_count : (done : ℕ) {pss : List (List Addr)} {nss : List (List ℕ)} → AsLong pss nss → length (setups_from done pss) ≡ length nss
+ports_count done NoneLong = refl
+ports_count done (MoreLong {ps = ps} e a) = ap (λ k. suc k) (ports_count (done + length ps) a)
+
+-- how they are set up
+pub setup_at : (done r : ℕ) {pss : List (List Addr)} {nss : List (List ℕ)} → AsLong pss nss → r < length nss → slice_index_or (setups_from done pss) r no_port ≡ numbered_setup (done + count_below r nss) (length (slice_index_or nss r []))
+setup_at done r NoneLong h = absurd (omega (arith, h))
+setup_at done zero (MoreLong {ps = ps} e a) h = ap (λ k. numbered_setup k (length ps)) (let same : done ≡ done + 0 = omega arith in same) ∙ ap (λ c. numbered_setup (done + 0) c) e
+setup_at done (suc r) (MoreLong {ps = ps} {ns = ns} {nss = nss} e a) h =
+    setup_at (done + length ps) r a (omega (arith, h))
+    ∙ ap (λ k. numbered_setup k (length (slice_index_or nss r []))) (let same : (done + length ps) + count_below r nss ≡ done + (length ns + count_below r nss) = omega (arith, e) in same)
+
+-- a number above 0 that isn't among these numbers is no other peer of such a port
+not-other : (done count p : ℕ) → ((i : ℕ) → i < count → p ≢ done + 1 + i) → 0 < p → has_other_peer (peer_of p) (numbered_setup done count) ≡ false
+not-other done count p none some =
+    let zero_off : (0 == p) ≡ false = ne_eqb 0 p (λ e. let bad : ⊥ = omega (arith, some, e) in bad) in
+    let off = not_in_range (done + 1) count p none in
+    rw (zero_off, off) refl
+
+is-other : (done count i : ℕ) → i < count → has_other_peer (peer_of (done + 1 + i)) (numbered_setup done count) ≡ true
+is-other done count i h =
+    let zero_off : (0 == (done + 1 + i)) ≡ false = ne_eqb 0 (done + 1 + i) (λ e. let bad : ⊥ = omega (arith, e) in bad) in
+    let on = is_in_range (done + 1) count i h in
+    rw (zero_off, on) refl
+
+-- a daemon finds the port of a number by its segment
+pub port_found : (k done r i p : ℕ) {pss : List (List Addr)} {nss : List (List ℕ)} → AsLong pss nss → r < length nss → i < length (slice_index_or nss r []) → p ≡ done + count_below r nss + 1 + i →
+    (port_of_from k (peer_of p) (setups_from done pss)).0 ≡ k + r
+port_found k done r i p NoneLong h few is = absurd (omega (arith, h))
+port_found k done zero i p (MoreLong {ps = ps} {pss = pss} e a) h few is =
+    let same : p ≡ done + 1 + i = omega (arith, is) in
+    let on : has_other_peer (peer_of p) (numbered_setup done (length ps)) ≡ true = subst (λ z. has_other_peer (peer_of z) (numbered_setup done (length ps)) ≡ true) (sym same) (is-other done (length ps) i (omega (arith, few, e))) in
+    ap (λ b. (if b then record { 0 = k } else port_of_from (k + 1) (peer_of p) (setups_from (done + length ps) pss)).0) on ∙ (let z : k ≡ k + 0 = omega arith in z)
+port_found k done (suc r) i p (MoreLong {ps = ps} {ns = ns} {pss = pss} {nss = nss} e a) h few is =
+    let off : has_other_peer (peer_of p) (numbered_setup done (length ps)) ≡ false = not-other done (length ps) p (λ j low same. let bad : ⊥ = omega (arith, is, e, low, same) in bad) (omega (arith, is)) in
+    ap (λ b. (if b then record { 0 = k } else port_of_from (k + 1) (peer_of p) (setups_from (done + length ps) pss)).0) off
+    ∙ port_found (k + 1) (done + length ps) r i p a (omega (arith, h)) few (omega (arith, is, e))
+    ∙ (let z : (k + 1) + r ≡ k + suc r = omega arith in z)
+
+-- number 0, a daemon's own, is no other peer of any port: it is taken on the first
+pub port_own : (k done : ℕ) (pss : List (List Addr)) → (port_of_from k (peer_of 0) (setups_from done pss)).0 ≡ 0
+port_own k done [] = refl
+port_own k done (ps ∷ pss) = port_own (k + 1) (done + length ps) pss
+
+-- the same of the number of a send
+pub port_with_found : (done q r i p : ℕ) (nss : List (List ℕ)) → r < length nss → i < length (slice_index_or nss r []) → p ≡ done + count_below r nss + 1 + i → port_of_number p done q nss ≡ Some (record { 0 = q + r })
+port_with_found done q r i p [] h few is = absurd (omega (arith, h))
+port_with_found done q zero i p (ns ∷ nss) h few is =
+    let here : nat_le p (done + length ns) ≡ true = le-leb p (done + length ns) (omega (arith, is, few)) in
+    ap (λ b. if b then Some (record { 0 = q }) else port_of_number p (done + length ns) (q + 1) nss) here ∙ ap (λ k. Some (let z : Port = record { 0 = k } in z)) (let z : q ≡ q + 0 = omega arith in z)
+port_with_found done q (suc r) i p (ns ∷ nss) h few is =
+    let past : nat_le p (done + length ns) ≡ false = lt-leb p (done + length ns) (omega (arith, is)) in
+    ap (λ b. if b then Some (record { 0 = q }) else port_of_number p (done + length ns) (q + 1) nss) past
+    ∙ port_with_found (done + length ns) (q + 1) r i p nss (omega (arith, h)) few (omega (arith, is))
+    ∙ ap (λ k. Some (let z : Port = record { 0 = k } in z)) (let z : (q + 1) + r ≡ q + suc r = omega arith in z)
 
 -- how the ports of a daemon's node are set up
 abbrev pub daemon_ports : Daemons → ℕ → List PortSetup
 daemon_ports d n = setups_from 0 (addresses d.address n 0 (networks d.header))
 
+-- equal places have equal numbers
+pub place-of : {p q : PeerId} → Peer p ≡ Peer q → p.0 ≡ q.0
+place-of e = cc
+
+-- a send is a post's, and goes where it goes, which isn't back to its node
+pub record Matches (d : Daemons) (s : Sent) (p : Posted) : Type 0 where
+  pub sent : IsSent d s p
+  pub goes : destination (networks d.header) s.from s.tried.0 ≡ address_of (networks d.header) p.from p.port p.to
+  pub away : (a : Address) → address_of (networks d.header) p.from p.port p.to ≡ Some a → a.node ≢ p.from
+
+-- sends and posts, one for the other
+pub data AllMatch (d : Daemons) : List Sent → List Posted → Type 0 where
+  NoneMatch : AllMatch d [] []
+  MoreMatch : {s : Sent} {p : Posted} {ss : List Sent} {ps : List Posted} → Matches d s p → AllMatch d ss ps → AllMatch d (s ∷ ss) (p ∷ ps)
+
+pub match_append : (d : Daemons) {ss : List Sent} {ps : List Posted} {ts : List Sent} {qs : List Posted} → AllMatch d ss ps → AllMatch d ts qs → AllMatch d (ss ++ ts) (ps ++ qs)
+match_append d NoneMatch b = b
+match_append d (MoreMatch m a) b = MoreMatch m (match_append d a b)
+
+pub match_length : (d : Daemons) {ss : List Sent} {ps : List Posted} → AllMatch d ss ps → length ss ≡ length ps
+match_length d NoneMatch = refl
+match_length d (MoreMatch m a) = ap (λ k. suc k) (match_length d a)
+
+-- the post of a send
+pub record MatchedAt (d : Daemons) (s : Sent) (ps : List Posted) (k : ℕ) : Type 0 where
+  pub post : Posted
+  pub there : slice_get ps k ≡ Some post
+  pub few : k < length ps
+  pub matches : Matches d s post
+
+pub match_at : (d : Daemons) {ss : List Sent} {ps : List Posted} → AllMatch d ss ps → (k : ℕ) (s : Sent) → slice_get ss k ≡ Some s → MatchedAt d s ps k
+match_at d NoneMatch k s e = let bad : ⊥ = cc in absurd bad
+match_at d (MoreMatch {p = p} m a) zero s e = record { post = p; there = refl; few = omega arith; matches = subst (λ z. Matches d z p) (some_same e) m }
+match_at d (MoreMatch m a) (suc k) s e = let r = match_at d a k s e in record { post = r.post; there = r.there; few = (let f = r.few in omega (arith, f)); matches = r.matches }
+
 module _ (d : Daemons) (is : IsHeader d.header) (n : ℕ) (low : n < length d.header.nodes) where
-  abbrev pub nets : List (List ℕ)
+  abbrev nets : List (List ℕ)
   nets = networks d.header
 
   few : n < 64
@@ -99,3 +211,110 @@ module _ (d : Daemons) (is : IsHeader d.header) (n : ℕ) (low : n < length d.he
         let none : slice_index_or (daemon_ports d n) q no_port ≡ no_port = get_or_past (daemon_ports d n) q no_port (omega (arith, past, all)) in
         absurd (true≢false (sym (subst (λ (s : PortSetup). is_among (peer_of num) (others s.own s.peers) ≡ true) none e))))
   ]
+
+  -- a number by which a daemon knows a sender: the daemon finds the port, the number is a peer's there, and it names the sender
+  pub record Found (q : Port) (m num : ℕ) : Type 0 where
+    pub port : (port_of_from 0 (peer_of num) (daemon_ports d n)).0 ≡ q.0
+    pub among : is_among (peer_of num) (slice_index_or (daemon_ports d n) q.0 no_port).peers ≡ true
+    pub names : named_node n (count_below q.0 (neighbours n nets)) (neighbours_on n q.0 nets) num ≡ m
+
+  -- its own number
+  found-own : (q : Port) → q.0 ≡ 0 → q.0 < length (ports_on n nets) → Found q n 0
+  found-own q first has = record {
+    port = port_own 0 0 (addresses d.address n 0 nets) ∙ sym first;
+    among = subst (λ (s : PortSetup). is_among (peer_of 0) s.peers ≡ true) (sym (daemon_port q.0 has)) refl;
+    names = refl;
+  }
+
+  -- that of a neighbour
+  found-neighbour : (q : Port) (m : ℕ) → has_member m (neighbours_on n q.0 nets) ≡ true → q.0 < length (ports_on n nets) → Found q m (number_for n q.0 m nets)
+  found-neighbour q m member has =
+      let nodes : List ℕ = neighbours_on n q.0 nets in
+      let done : ℕ = count_below q.0 (neighbours n nets) in
+      let p = place_is m nodes member in
+      let i : ℕ = place_in m nodes in
+      let few = p.few in
+      let all = length_neighbours n nets in
+      let other : (m == n) ≡ false = ne_eqb m n (λ e. (is_roster q.0).apart i p.few (p.is ∙ e)) in
+      let number : number_for n q.0 m nets ≡ done + 1 + i = ap (λ b. if b then 0 else done + 1 + i) other in
+      record {
+        port = ap (λ k. (port_of_from 0 (peer_of k) (daemon_ports d n)).0) number ∙ port_found 0 0 q.0 i (done + 1 + i) (as_long d.address n 0 nets) (omega (arith, has, all)) p.few (omega arith) ∙ (let e : 0 + q.0 ≡ q.0 = omega arith in e);
+        among = subst (λ (s : PortSetup). is_among (peer_of (number_for n q.0 m nets)) s.peers ≡ true) (sym (daemon_port q.0 has))
+            (or_right (0 == number_for n q.0 m nets) (is_among (peer_of (number_for n q.0 m nets)) (map peer_of (range_with_len (done + 1) (length nodes))))
+            (subst (λ k. is_among (peer_of k) (map peer_of (range_with_len (done + 1) (length nodes))) ≡ true) (sym number) (is_in_range (done + 1) (length nodes) i few)));
+        names = ap (named_node n done nodes) number ∙ named_member n done nodes i few ∙ p.is;
+      }
+
+  found : (q : Port) (m : PeerId) → MayCome nets n q (Peer m) → q.0 < length (ports_on n nets) → Found q m.0 (number_for n q.0 m.0 nets)
+  found q m (inl own) has =
+      let number : number_for n q.0 m.0 nets ≡ 0 = ap (λ b. if b then 0 else count_below q.0 (neighbours n nets) + 1 + place_in m.0 (neighbours_on n q.0 nets)) (eq-eqb m.0 n own.0) in
+      subst (λ k. Found q k (number_for n q.0 m.0 nets)) (sym own.0) (subst (λ k. Found q n k) (sym number) (found-own q own.1 has))
+  found q m (inr member) has = found-neighbour q m.0 member has
+
+  -- so a daemon is given what its node is
+  pub record ComesAs (origin : ℕ) (q : Port) (from : Place) (octets : List ℕ) (past : NodePast) : Type 0 where
+    pub same : renamed_given (renaming_on nets n origin) (given_of past.ports (Some (sender_for nets n q from, octets))) ≡ GotOn q from (taken_of octets)
+    pub comes : ComesOn past (given_of past.ports (Some (sender_for nets n q from, octets)))
+
+  by-port : (origin : ℕ) (q r : Port) (from place : Place) (octets : List ℕ) → r ≡ q → renamed_place (renaming_on nets n origin q) place ≡ from → length octets ≤ 512 →
+      renamed_given (renaming_on nets n origin) (GotOn r place (taken_of (take 512 octets))) ≡ GotOn q from (taken_of octets)
+  by-port origin q r from place octets port names few =
+      ap (λ z. renamed_given (renaming_on nets n origin) (GotOn z place (taken_of (take 512 octets)))) port
+      ∙ ap (λ z. GotOn q z (taken_of (take 512 octets))) names ∙ ap (λ z. GotOn q from (taken_of z)) (take_all 512 octets few)
+
+  count : (past : NodePast) → past.ports ≡ daemon_ports d n → length past.ports ≡ length (ports_on n nets)
+  count past ports = ap (λ (l : List PortSetup). length l) ports ∙ sym (same_ports)
+
+  pub comes_as : (origin : ℕ) (q : Port) (from : Place) (octets : List ℕ) (past : NodePast) → past.ports ≡ daemon_ports d n → MayCome nets n q from → q.0 < length (ports_on n nets) → length octets ≤ 512 → ComesAs origin q from octets past
+  comes_as origin q Stranger octets past ports may has few =
+      let port : first_port ≡ q = port_named first_port q (sym may) in
+      record {
+        same = by-port origin q first_port Stranger Stranger octets port refl few;
+        comes = (let all = count past ports in omega (arith, has, all));
+      }
+  comes_as origin q (Peer m) octets past ports may has few =
+      let f = found q m may has in
+      let num : ℕ = number_for n q.0 m.0 nets in
+      let port : port_from past.ports (Peer (peer_of num)) ≡ q = port_named (port_from past.ports (Peer (peer_of num))) q (ap (λ (l : List PortSetup). (port_of_from 0 (peer_of num) l).0) ports ∙ f.port) in
+      record {
+        same = by-port origin q (port_from past.ports (Peer (peer_of num))) (Peer m) (Peer (peer_of num)) octets port (ap (λ k. Peer (peer_of k)) f.names) few;
+        comes = subst (λ (r : Port). (r.0 < length past.ports) × (is_among (peer_of num) (port_setup r past).peers ≡ true)) (sym port)
+            ((let all = count past ports in omega (arith, has, all)), subst (λ (l : List PortSetup). is_among (peer_of num) (slice_index_or l q.0 no_port).peers ≡ true) (sym ports) f.among);
+      }
+
+  module _ (origin : ℕ) (may : Bool) where
+    abbrev naming : Port → Naming
+    naming q = naming_of (renaming_on nets n origin q) (tells_apart origin q) (slice_index_or (daemon_ports d n) q.0 no_port) may
+
+    -- a send to a known peer goes where its node's post goes
+    peer-matches : (at : ℕ) (port : Port) (num : PeerId) (datagram : Datagram) → Segment port.0 num.0 →
+        Matches d (sent_by n (Peer num, canon datagram)) (record { at = at; from = n; port = port; to = Peer ((renaming_on nets n origin port).peer num); datagram = datagram })
+    peer-matches at port num datagram g =
+        let done : ℕ = count_below port.0 (neighbours n nets) in
+        let nodes : List ℕ = neighbours_on n port.0 nets in
+        let all = length_neighbours n nets in
+        let few = g.has in
+        let some : (num.0 == 0) ≡ false = ne_eqb num.0 0 (λ e. let same = g.number in let bad : ⊥ = omega (arith, e, same) in bad) in
+        let found : port_of_number num.0 0 0 (neighbours n nets) ≡ Some port =
+        port_with_found 0 0 port.0 g.i num.0 (neighbours n nets) (omega (arith, few, all)) g.few (let same = g.number in omega (arith, same)) ∙ ap (λ k. Some (let z : Port = record { 0 = k } in z)) (let e : 0 + port.0 ≡ port.0 = omega arith in e) in
+        let named_is : named_node n done nodes num.0 ≡ slice_index_or nodes g.i 0 = ap (named_node n done nodes) g.number ∙ named_member n done nodes g.i g.few in
+        record {
+          sent = record { from = refl; to = refl; octets = refl };
+          goes = ap (λ b. if b then None else send_address nets n num.0 (port_of_number num.0 0 0 (neighbours n nets))) some ∙ ap (send_address nets n num.0) found;
+          away = λ a e same.
+              let to = (goes_there nets n port (Peer ((renaming_on nets n origin port).peer num)) a e).to_is in
+              (is_roster port.0).apart g.i g.few (sym named_is ∙ place-of to ∙ same);
+        }
+
+    act-matches : (at : ℕ) (port : Port) (act : Act) → Knows (naming port) act → AllMatch d (map (sent_by n) (send_of act)) (posted_by at n port (renamed_act (renaming_on nets n origin port) act))
+    act-matches at port (Post (Peer num) datagram) known = MoreMatch (peer-matches at port num datagram (segment port.0 num.0 known)) NoneMatch
+    act-matches at port (Post Stranger datagram) known = MoreMatch (record { sent = record { from = refl; to = refl; octets = refl }; goes = refl; away = λ a e same. none_some e }) NoneMatch
+    act-matches at port _ known = NoneMatch
+
+    -- so it is of all acts of a step
+    pub acts_match : (at : ℕ) (acts : List Placed) → AllKnown naming acts → AllMatch d (map (sent_by n) (sends_of acts)) (posts_from at n (map (renamed_placed (renaming_on nets n origin)) acts))
+    acts_match at [] known = NoneMatch
+    acts_match at (p ∷ rest) known =
+        let first = act-matches at p.port p.act (All-head (λ (k : Placed). Knows (naming k.port) k.act) p rest known) in
+        let more = acts_match at rest (All-tail (λ (k : Placed). Knows (naming k.port) k.act) p rest known) in
+        subst (λ l. AllMatch d l (posts_from at n (map (renamed_placed (renaming_on nets n origin)) (p ∷ rest)))) (sym (map-append (sent_by n) (send_of p.act) (sends_of rest))) (match_append d first more)

@@ -1,14 +1,22 @@
--- There are networks of daemons: two of them in use.
-use Rattle.std.proofs.Common.{sym, ap, subst, arith, ◌∙◌, ◌≡◌, ℕ, zero, suc, ◌<◌, ◌≤◌, ◌^◌, List, [], ◌∷◌, slice_index_or, refl}
-use Rattle.std.{proofs.lemmas.List.Elements.All-nil, proofs.lemmas.List.Elements.All-cons, specs.List.All}
-use Rattle.tsp_rules.specs.Values.{Event}
-use Rattle.tsp_base.specs.Words.{IsHeader, IsName, IsNet, KeepsDrift}
-use Rattle.tsp_promises.specs.Premises.{Honest, Life, Words}
-use Rattle.tsp_run.specs.{Possible.Possible, Premised.Apart, Premised.Sealed, Ranges.IsInRange, Run.run, Setup.node_line}
-use Rattle.tsp_run.proofs.RunPremises.{possible-runs-keep-premises}
-use Rattle.tsp_network.specs.{Events.IsNetwork, Lives.AreStarted, Networks.network, Networks.daemon_tick, Schedules.AllSuit}
-use Rattle.tsp_network.specs.NetworkUse.{NetworkUse, acts_by_node, two_daemons, two_nodes, used}
-use Rattle.tsp_network.proofs.{NetworkRuns.run_agrees, RunsHappen.run_is_network, UseLemmas.is_used}
+-- Networks of the examples: two daemons in use, three with a copy that comes to another than it is addressed to, which breaks a promise, and
+-- one to which happens what can't happen in a network, and which so doesn't do what the run of its events does.
+use Rattle.std.proofs.Common.{sym, ap, subst, arith, ◌∙◌, ◌≡◌, ℕ, zero, suc, ◌<◌, ◌≤◌, ◌^◌, List, [], ◌∷◌, slice_index_or, refl, inr, true, pos, negsuc, length, Some, slice_get, inl, All}
+use Rattle.std.proofs.lemmas.List.{Elements.All-nil, Elements.All-cons, Sums.count_by-le-length}
+use Rattle.tsp_rules.specs.Values.{Event, Message, Peer, Place, Stranger}
+use Rattle.tsp_rules.specs.GateRows.{GotOn}
+use Rattle.tsp_base.specs.Words.{HeaderValue, IsHeader, IsName, IsNet, KeepsDrift, Came, Handed, dids, first_port, has_member, peer_of as peer, posted, stepped}
+use Rattle.tsp_promises.specs.{Once.OnceObeyed, Premises.Honest, Premises.Life, Premises.Words, Setting.Setting}
+use Rattle.tsp_run.{proofs.NetworkLemmas.some_same, proofs.RunPremises.possible-runs-keep-premises, specs.declared.posted.Posted.Posted}
+use Rattle.tsp_run.specs.{Networks.networks, Possible.Possible, Possible.Happens, Premised.Apart, Premised.Sealed, Ranges.IsInRange}
+use Rattle.tsp_run.{proofs.PromptRun.posted-at, specs.Run.run, specs.Run.posts, specs.Setup.node_line}
+use Rattle.tsp_network.specs.NetworkUse.{Misdelivered, astray, first_at, led, three_daemons, three_nodes, NetworksBreak, on_second_port, one_daemon, one_node, start, NetworkUse, acts_by_node, two_daemons, two_nodes, used}
+use Rattle.tsp_network.proofs.UseLemmas.{history, set_post, set_time, stray_acts, stray_step, taken_astray, computed}
+use Rattle.tsp_network.proofs.NetworksKeep.{run_is_network, SendAt, quiet, runs_up, send_at}
+use Rattle.tsp_network.proofs.NetworkAgrees.{AllAgree, OneAgrees, turn_agrees_all, Agrees}
+use Rattle.tsp_network.specs.{Kept.AllSuit, Networks.network, Networks.daemon_tick, Networks.Network, Networks.copy_at}
+use Rattle.tsp_network.proofs.{NetworkRuns.run_agrees, NetworkRuns.Running, NetworkRuns.running, SetUpLemmas.comes_as, SetUpLemmas.place-of}
+use Rattle.tsp_network.specs.{Events.IsNetwork, Events.MayCome, Events.AllHappen, Lives.AreStarted, Lives.session_of, Rosters.neighbours_on}
+use Rattle.tsp_codec.specs.{Canon.canon, Taken.taken_of}
 
 -- one letter is a name
 pub letter_name : (x : ℕ) → 0 < x → IsName (x ∷ [])
@@ -17,8 +25,8 @@ letter_name x some = record { short = omega arith; no_nul = λ c. none c.0 c.1 c
   none zero few e = omega (arith, some, e)
   none (suc k) few e = omega (arith, few)
 
-header-is : IsHeader two_nodes
-header-is = record {
+used-header : IsHeader two_nodes
+used-header = record {
   small = omega arith;
   few = omega arith;
   kept = All-cons (KeepsDrift 0) (node_line two_nodes 0) (node_line two_nodes 1 ∷ []) (record { name = letter_name 97 (omega arith); rate = omega arith; wall = omega arith })
@@ -28,52 +36,185 @@ header-is = record {
   few_ports = λ n. omega arith;
 }
 
-are-started : AreStarted two_daemons
-are-started zero low = record { name = refl; may = refl; strict = λ e. refl; ports = refl }
-are-started (suc zero) low = record { name = refl; may = refl; strict = λ e. refl; ports = refl }
-are-started (suc (suc n)) low = let bad : ⊥ = omega (arith, low) in absurd bad
+used-started : AreStarted two_daemons
+used-started zero low = record { name = refl; may = refl; strict = λ e. refl; ports = refl }
+used-started (suc zero) low = record { name = refl; may = refl; strict = λ e. refl; ports = refl }
+used-started (suc (suc n)) low = let bad : ⊥ = omega (arith, low) in absurd bad
 
-begun-at : (n : ℕ) → n < 2 → 1000000 ≤ daemon_tick two_daemons n 1000000
-begun-at zero low = let e : daemon_tick two_daemons 0 1000000 ≡ 1000000 = refl in omega (arith, e)
-begun-at (suc zero) low = let e : daemon_tick two_daemons 1 1000000 ≡ 1000000 = refl in omega (arith, e)
-begun-at (suc (suc n)) low = let bad : ⊥ = omega (arith, low) in absurd bad
+begun : (n : ℕ) → daemon_tick two_daemons n 1000000 ≡ 1000000 → 1000000 ≤ daemon_tick two_daemons n 1000000
+begun n e = omega (arith, e)
 
-suits : AllSuit two_daemons used
-suits = (tt, (tt, (tt, (tt, (tt, (tt, (tt, (tt, (tt, (tt, (tt, (tt, (tt, (tt, (tt, (tt, (tt, (tt, (tt, (tt, (tt, (begun-at 1 (omega arith), (begun-at 0 (omega arith), tt)))))))))))))))))))))))
+used-suits : AllSuit two_daemons used
+used-suits = (tt, (tt, (tt, (tt, (tt, (tt, (tt, (tt, (tt, (tt, (tt, (tt, (tt, (tt, (tt, (tt, (tt, (tt, (tt, (tt, (tt, (begun 1 refl, (begun 0 refl, tt)))))))))))))))))))))))
 
 -- events, each in its ranges
 abbrev pub InRanges : List Event → Type 0
 InRanges [] = Unit {0}
 InRanges (e ∷ before) = IsInRange e × InRanges before
 
-pub in_ranges : (events : List Event) → InRanges events → All IsInRange events
+in_ranges : (events : List Event) → InRanges events → All IsInRange events
 in_ranges [] r = All-nil IsInRange
 in_ranges (e ∷ before) r = All-cons IsInRange e before r.0 (in_ranges before r.1)
 
-possible : Possible two_nodes used
-possible = record { header_is = header-is; ranges = in_ranges used (tt, (tt, (tt, (tt, (tt, (tt, (tt, (tt, (tt, (tt, (tt, (tt, (tt, (tt, (tt, (tt, (tt, (tt, (tt, (tt, (tt, (omega arith, (omega arith, tt))))))))))))))))))))))); happens = is_used.happens; few = subst (λ n. n < 2 ^ 64) (sym is_used.count) (omega arith) }
+-- such a run is possible, if it posts few datagrams
+possible-so : {header : HeaderValue} {events : List Event} → IsHeader header → InRanges events → Happens header events → (n : ℕ) → length (posts (run header events)) ≡ n → n < 2 ^ 64 → Possible header events
+possible-so {header} {events} is ranges happens n same few = record { header_is = is; ranges = in_ranges events ranges; happens = happens; few = omega (arith, same, few) }
+
+used-possible : Possible two_nodes used
+used-possible = possible-so used-header (tt, (tt, (tt, (tt, (tt, (tt, (tt, (tt, (tt, (tt, (tt, (tt, (tt, (tt, (tt, (tt, (tt, (tt, (tt, (tt, (tt, (omega arith, (omega arith, tt))))))))))))))))))))))) computed.used.happens 16 computed.used.count (omega arith)
 
 used-is : IsNetwork two_daemons used
-used-is = run_is_network two_daemons used are-started suits possible
+used-is = run_is_network two_daemons used used-started used-suits used-possible
 
 history-is : (network two_daemons used).history ≡ run two_nodes used
-history-is = (run_agrees two_daemons header-is are-started used used-is.happen used-is.few).agree.history
+history-is = (run_agrees two_daemons used-header used-started used used-is.happen used-is.few).agree.history
 
-sealed : Sealed used
-sealed = (tt, (tt, (tt, (tt, (tt, (tt, (tt, (tt, (tt, (tt, (tt, (tt, (tt, (tt, (tt, (tt, (tt, (tt, (tt, (tt, (tt, (tt, (tt, tt)))))))))))))))))))))))
+used-sealed : Sealed used
+used-sealed = (tt, (tt, (tt, (tt, (tt, (tt, (tt, (tt, (tt, (tt, (tt, (tt, (tt, (tt, (tt, (tt, (tt, (tt, (tt, (tt, (tt, (tt, (tt, tt)))))))))))))))))))))))
 
-apart : Apart used
-apart = (tt, (tt, (tt, (tt, (tt, (tt, (tt, (tt, (tt, (tt, (tt, (tt, (tt, (tt, (tt, (tt, (tt, (tt, (tt, (tt, (tt, ((λ e. (let bad : ⊥ = omega (arith, e) in bad), tt), (tt, tt)))))))))))))))))))))))
+used-apart : Apart used
+used-apart = (tt, (tt, (tt, (tt, (tt, (tt, (tt, (tt, (tt, (tt, (tt, (tt, (tt, (tt, (tt, (tt, (tt, (tt, (tt, (tt, (tt, ((λ e. (let bad : ⊥ = omega (arith, e) in bad), tt), (tt, tt)))))))))))))))))))))))
 
-pub network-use : NetworkUse
-network-use =
-    let kept = possible-runs-keep-premises two_nodes used possible in
+pub network_use : NetworkUse
+network_use =
+    let kept = possible-runs-keep-premises two_nodes used used-possible in
     let same = sym history-is in
     record {
       is = used-is;
-      master = ap (acts_by_node 0) history-is ∙ is_used.acts_a;
-      slave = ap (acts_by_node 1) history-is ∙ is_used.acts_b;
-      honest = subst Honest same (kept.honest sealed);
-      life = subst Life same (kept.life is_used.prompt);
-      words = subst Words same (kept.words apart);
+      master = ap (acts_by_node 0) history-is ∙ computed.used.acts_a;
+      slave = ap (acts_by_node 1) history-is ∙ computed.used.acts_b;
+      honest = subst Honest same (kept.honest used-sealed);
+      life = subst Life same (kept.life computed.used.prompt);
+      words = subst Words same (kept.words used-apart);
     }
+
+led-header : IsHeader three_nodes
+led-header = record {
+  small = omega arith;
+  few = omega arith;
+  kept = All-cons (KeepsDrift 0) (node_line three_nodes 0) (node_line three_nodes 1 ∷ node_line three_nodes 2 ∷ []) (record { name = letter_name 97 (omega arith); rate = omega arith; wall = omega arith })
+      (All-cons (KeepsDrift 0) (node_line three_nodes 1) (node_line three_nodes 2 ∷ []) (record { name = letter_name 98 (omega arith); rate = omega arith; wall = omega arith })
+      (All-cons (KeepsDrift 0) (node_line three_nodes 2) [] (record { name = letter_name 99 (omega arith); rate = omega arith; wall = omega arith }) (All-nil (KeepsDrift 0))));
+  few_nets = omega arith;
+  nets_are = All-nil (IsNet 3);
+  few_ports = λ n. omega arith;
+}
+
+led-started : AreStarted three_daemons
+led-started zero low = record { name = refl; may = refl; strict = λ e. refl; ports = refl }
+led-started (suc zero) low = record { name = refl; may = refl; strict = λ e. refl; ports = refl }
+led-started (suc (suc zero)) low = record { name = refl; may = refl; strict = λ e. refl; ports = refl }
+led-started (suc (suc (suc n))) low = let bad : ⊥ = omega (arith, low) in absurd bad
+
+led-suits : AllSuit three_daemons led
+led-suits = (tt, (tt, (tt, (tt, (tt, (tt, (tt, (tt, (tt, (tt, (tt, (tt, (tt, (tt, (tt, (omega arith, (omega arith, (omega arith, tt))))))))))))))))))
+
+led-sealed : Sealed led
+led-sealed = (tt, (tt, (tt, (tt, (tt, (tt, (tt, (tt, (tt, (tt, (tt, (tt, (tt, (tt, (tt, (tt, (tt, (tt, tt))))))))))))))))))
+
+led-possible : Possible three_nodes led
+led-possible = possible-so led-header (tt, (tt, (tt, (tt, (tt, (tt, (tt, (tt, (tt, (tt, (tt, (tt, (tt, (tt, (tt, (omega arith, (omega arith, (omega arith, tt)))))))))))))))))) computed.astray.happens 15 computed.astray.count (omega arith)
+
+led-is : IsNetwork three_daemons led
+led-is = run_is_network three_daemons led led-started led-suits led-possible
+
+abbrev now : Network
+now = network three_daemons led
+
+agree : AllAgree three_daemons led-header now 390001000 history
+agree = (run_agrees three_daemons led-header led-started led led-is.happen led-is.few).agree
+
+sent : SendAt three_daemons set_post now.sent 14
+sent = send_at three_daemons agree.sends 14 set_post computed.astray.posted
+
+c-runs : Running (now.lives 2)
+c-runs = running (now.lives 2) (runs_up now history 2 agree.history (quiet three_daemons led) computed.astray.is_up)
+
+-- what c does with the copy, as a node would
+astray-is : (astray sent.send).history ≡ stepped stray_step 390001400 stray_acts history
+astray-is =
+    let r = c-runs in
+    let s = sent.send in
+    let a = agree in
+    let nets : List (List ℕ) = networks three_nodes in
+    let own : Agrees three_daemons led-header 2 r.life 390001000 history = subst (λ o. OneAgrees three_daemons led-header 2 o 390001000 history) r.is (a.nodes 2) in
+    let from : s.from ≡ 0 = sent.matches.sent.from in
+    let written : s.tried.1 ≡ canon set_time = sent.matches.sent.octets in
+    let small : length s.tried.1 ≤ 512 = subst (λ l. length l ≤ 512) (sym written) (subst (λ n. n ≤ 512) (sym computed.astray.size) (omega arith)) in
+    let may : MayCome nets 2 first_port (Peer (peer s.from)) = inr (subst (λ n. has_member n (neighbours_on 2 0 nets) ≡ true) (sym from) refl) in
+    let c = comes_as three_daemons led-header 2 own.low r.life.origin first_port (Peer (peer s.from)) s.tried.1 (session_of (three_daemons.words 2) r.life).past own.ports may (omega arith) small in
+    let given_is = c.same ∙ ap (λ n. GotOn first_port (Peer (peer n)) (taken_of s.tried.1)) from ∙ ap (λ l. GotOn first_port (Peer (peer 0)) (taken_of l)) written in
+    let after = turn_agrees_all three_daemons led-header now 390001000 history 18 stray_step (copy_at nets (first_at 2) s) r.life (GotOn first_port (Peer (peer 0)) (taken_of (canon set_time))) a (omega arith) r.is given_is c.comes in
+    after.history ∙ ap (λ l. stepped stray_step 390001400 l history) computed.astray.acts_are
+
+honest-run : Honest history
+honest-run = (possible-runs-keep-premises three_nodes led led-possible).honest led-sealed
+
+handed : {A : Type 0} → Came 14 ≡ Handed → A
+handed e = let bad : ⊥ = cc in absurd bad
+
+honest-astray : Honest (stepped stray_step 390001400 stray_acts history)
+honest-astray = (λ e p t. handed e, (λ e p t. handed e, (λ e p t. handed e, (λ e p t. handed e, (λ e p t. handed e, honest-run)))))
+
+came-same : (j k : ℕ) → Came j ≡ Came k → j ≡ k
+came-same j k e = cc
+
+not-obeyed : (setting : Setting) → ¬ OnceObeyed setting (stepped stray_step 390001400 stray_acts history)
+not-obeyed setting o =
+    let obeys = o.1.1.0 (peer 0) (negsuc 20399) true (pos 390001000) refl computed.astray.follows in
+    let brings = obeys.brings in
+    let found = posted-at taken_astray obeys.post obeys.older (Peer (peer 2)) (Message brings.message) brings.place brings.deed in
+    let number : 14 ≡ posted (dids obeys.older) = came-same 14 (posted (dids obeys.older)) brings.cause in
+    let same : set_post ≡ found.post = some_same (sym computed.astray.still_posted ∙ subst (λ m. slice_get (posts taken_astray) m ≡ Some found.post) (sym number) found.there) in
+    let bad : 1 ≡ 2 = place-of (ap (λ (p : Posted). p.to) same ∙ found.to_is) in
+    omega (arith, bad)
+
+pub misdelivered : Misdelivered
+misdelivered = record {
+  is = led-is;
+  send = sent.send;
+  there = sent.there;
+  goes = sent.matches.goes;
+  honest = subst Honest (sym astray-is) honest-astray;
+  broken = λ setting o. not-obeyed setting (subst (OnceObeyed setting) astray-is o);
+}
+
+one-net : IsNet 1 (0 ∷ [])
+one-net = record { some = omega arith; ascending = λ k few. (let bad : ⊥ = omega (arith, few) in absurd bad); known = All-cons (λ n. n < 1) 0 [] (omega arith) (All-nil (λ n. n < 1)) }
+
+one-header : IsHeader one_node
+one-header = record {
+  small = omega arith;
+  few = omega arith;
+  kept = All-cons (KeepsDrift 0) (node_line one_node 0) [] (record { name = letter_name 97 (omega arith); rate = omega arith; wall = omega arith }) (All-nil (KeepsDrift 0));
+  few_nets = omega arith;
+  nets_are = All-cons (IsNet 1) (0 ∷ []) ((0 ∷ []) ∷ []) one-net (All-cons (IsNet 1) (0 ∷ []) [] one-net (All-nil (IsNet 1)));
+  few_ports = λ n. (let most = count_by-le-length (has_member n) one_node.nets in omega (arith, most));
+}
+
+one-started : (origin : ℕ) → AreStarted (one_daemon origin)
+one-started origin zero low = record { name = refl; may = refl; strict = λ e. refl; ports = refl }
+one-started origin (suc n) low = let bad : ⊥ = omega (arith, low) in absurd bad
+
+-- no octets come to it
+no-octets : (from : Place) → Happens one_node (on_second_port from) → length (posts (run one_node (on_second_port from))) ≡ 0 → Possible one_node (on_second_port from)
+no-octets from happens none = possible-so one-header ((λ i. omega arith), (omega arith, tt)) happens 0 none (omega arith)
+
+too-early : ¬ AllHappen (one_daemon 5) start
+too-early all = let bad = all.1.2 in omega (arith, bad)
+
+no-stranger : ¬ AllHappen (one_daemon 0) (on_second_port Stranger)
+no-stranger all = let bad : 1 ≡ 0 = all.1.2 in omega (arith, bad)
+
+not-own : ¬ AllHappen (one_daemon 0) (on_second_port (Peer (peer 0)))
+not-own all = elim all.1.2 [
+  | inl own ↦ let bad : 1 ≡ 0 = own.1 in omega (arith, bad)
+  | inr near ↦ let bad : ⊥ = cc in bad
+]
+
+pub networks_break : NetworksBreak
+networks_break = record {
+  mistimed = record { started = one-started 5; possible = possible-so one-header (omega arith, tt) computed.broken.starts 0 computed.broken.start_posts (omega arith); cannot = too-early; differs = computed.broken.late };
+  stranger = record { started = one-started 0; possible = no-octets Stranger computed.broken.from_stranger computed.broken.stranger_posts; cannot = no-stranger; differs = computed.broken.stranger };
+  own = record { started = one-started 0; possible = no-octets (Peer (peer 0)) computed.broken.from_own computed.broken.own_posts; cannot = not-own; differs = computed.broken.own };
+}

@@ -1,13 +1,16 @@
--- What is promised of every network of daemons.
-use Rattle.std.specs.Prelude.{◌≡◌, ◌==◌, ℕ, List, length, map, filter, drop, Some, slice_get}
+-- What is promised of every network of daemons, by which addresses its daemons know each other, and which runs of the rules are a network.
+use Rattle.std.specs.Prelude.{◌≡◌, ◌==◌, ℕ, List, length, map, filter, drop, Some, slice_get, ◌≢◌, true, ◌≤◌, [], ◌∷◌}
 use Rattle.tsp_codec.specs.Canon.{canon}
-use Rattle.tsp_run.specs.declared.posted.Posted.{Posted}
+use Rattle.tsp_run.specs.{Networks.networks, Networks.network_at, Premised.KeptByText, Promises.Promises, declared.posted.Posted.Posted}
+use Rattle.tsp_run.specs.{Possible.Possible, Run.posts, Run.run, Setting.SetBy}
 use Rattle.tsp_promises.specs.Setting.{Setting}
-use Rattle.tsp_run.specs.{Networks.networks, Premised.KeptByText, Promises.Promises, Run.posts, Run.run, Setting.SetBy}
-use Rattle.tsp_rules.specs.{Renames.renamed_place, Values.Event}
+use Rattle.tsp_rules.specs.{Renames.renamed_place, Values.Event, Values.Port, Values.BootAt, Values.Bytes}
 use Rattle.tsp_io.specs.Links.{Tried}
-use Rattle.tsp_network.specs.{Events.IsNetwork, Lives.Daemons, Lives.Life, Lives.session_of, Networks.Sent, Networks.network}
-use Rattle.tsp_network.specs.Rosters.{renaming_on}
+use Rattle.tsp_network.specs.Lives.{Daemons, Life, session_of, IsStarted, AreStarted}
+use Rattle.tsp_network.specs.{Events.IsNetwork, Events.MayCome, Rosters.renaming_on, Rosters.neighbours_on, Rosters.number_for}
+use Rattle.tsp_network.specs.Networks.{Sent, network, daemon_tick}
+use Rattle.tsp_base.specs.Words.{has_member}
+use Rattle.tsp_daemon.specs.Serving.{serving_binding}
 
 -- a send is that of a post: of its octets, by its node, to its addressee
 pub record IsSent (d : Daemons) (s : Sent) (p : Posted) : Type 0 where
@@ -33,3 +36,25 @@ pub record NetworkKept (d : Daemons) (setting : Setting) (events : List Event) :
 -- every network of daemons keeps the promises
 abbrev pub NetworksKeepPromises : Type 0
 NetworksKeepPromises = (d : Daemons) (setting : Setting) (events : List Event) → IsNetwork d events → SetBy d.header setting → NetworkKept d setting events
+
+-- the number by which the daemon of node n knows node m, on a port that is on network k, is the place of m's address on that network among the
+-- addresses to which the daemon binds its link. So a link that takes an address for its place takes senders for whom they are
+abbrev pub NumbersAreAddresses : Type 0
+NumbersAreAddresses = (d : Daemons) (n : ℕ) (q : Port) (k m : ℕ) → IsStarted d n → network_at n q (networks d.header) ≡ Some k → has_member m (neighbours_on n q.0 (networks d.header)) ≡ true → m ≢ n →
+    slice_get (serving_binding (d.words n)).peers (number_for n q.0 m (networks d.header)) ≡ Some (d.address k m)
+
+-- daemons do what a node does at event k: if it starts, after its counter does; and if octets are handed to it, a daemon can take them so
+abbrev pub Suits : Daemons → ℕ → Event → Type 0
+Suits d k (BootAt at node word) = d.origin k ≤ daemon_tick d node at
+Suits d k (Bytes at node port from octets) = MayCome (networks d.header) node port from × (length octets ≤ 512)
+Suits d k _ = Unit {0}
+
+-- at each of these events, the newest of which comes first
+abbrev pub AllSuit : Daemons → List Event → Type 0
+AllSuit d [] = Unit {0}
+AllSuit d (e ∷ before) = Suits d (length before) e × AllSuit d before
+
+-- each possible schedule that suits daemons which are started as its header says is a network's, and no other is
+pub record RunsAreNetworks : Type 0 where
+  pub all : (d : Daemons) (events : List Event) → AreStarted d → AllSuit d events → Possible d.header events → IsNetwork d events
+  pub only : (d : Daemons) (events : List Event) → IsNetwork d events → AllSuit d events × Possible d.header events

@@ -1,10 +1,6 @@
-pub mod Addressed
 pub mod Events
 pub mod Kept
 pub mod Lives
-pub mod Misdelivered
 pub mod NetworkUse
 pub mod Networks
-pub mod NetworksBroken
 pub mod Rosters
-pub mod Schedules

@@ -1,13 +1,15 @@
--- Two daemons in use: an election, the setting of a clock, a round, and what it corrects.
-use Rattle.std.specs.Prelude.{◌≡◌, ℕ, zero, suc, ◌==◌, pos, negsuc, true, false, if◌then◌else◌, List, [], ◌∷◌, ◌++◌, codes}
-use Rattle.tsp_rules.specs.Values.{Act, Boot, Took, Post, Become, Arm, Ring, Back, Backer, Close, Correct, Sample, Acked, Join, Quiet, Window, Elect, Search, Round, Probe, CloseAlarm, Message, Stamp, Good, Accept, Ack, AdjTime, Election, MasterReq, MasterUp, NodeLine, SetTime, SlaveUp, Peer, Starting, Loose, Follow, Candidate, Master, Request, Reply, Event, BootAt, Turn, Take}
-use Rattle.tsp_base.specs.Words.{Acts, Begins, Deed, HeaderValue, Line, bare, timed, peer_of as peer}
-use Rattle.tsp_args.specs.declared.serve.Candidacy.{Candidacy, TheVariants.Never, TheVariants.Plain}
-use Rattle.tsp_args.specs.declared.serve.ServeWords.{ServeWords}
+-- Two daemons in use: an election, the setting of a clock, a round, and what it corrects. Then what is asked of the events of a network is
+-- needed: without it, what the daemons do isn't the run; and a copy that comes to another daemon than it is addressed to breaks a promise.
+use Rattle.std.specs.Prelude.{◌≡◌, ℕ, zero, suc, ◌==◌, pos, negsuc, true, false, if◌then◌else◌, List, [], ◌∷◌, ◌++◌, codes, ◌≢◌, Some, slice_get}
+use Rattle.tsp_rules.specs.Values.{Act, Boot, Took, Post, Become, Arm, Ring, Back, Backer, Close, Correct, Sample, Acked, Join, Quiet, Window, Elect, Search, Round, Probe, CloseAlarm, Message, Stamp, Good, Accept, Ack, AdjTime, Election, MasterReq, MasterUp, NodeLine, SetTime, SlaveUp, Peer, Starting, Loose, Follow, Candidate, Master, Request, Reply, Event, BootAt, Turn, Take, Bytes, Place, Stranger}
+use Rattle.tsp_base.specs.Words.{Acts, Begins, Deed, HeaderValue, Line, bare, timed, peer_of as peer, first_port}
+use Rattle.tsp_args.specs.declared.serve.{Candidacy.TheVariants.Never, Candidacy.TheVariants.Plain, ServeWords.ServeWords}
+use Rattle.tsp_args.specs.declared.serve.Candidacy.{Candidacy}
 use Rattle.tsp_io.specs.declared.addr.Addr.{Addr}
-use Rattle.tsp_promises.specs.Premises.{Honest, Life, Words}
-use Rattle.tsp_run.specs.Networks.{networks}
-use Rattle.tsp_network.specs.{Events.IsNetwork, Lives.Daemons, Lives.addresses, Networks.network}
+use Rattle.tsp_promises.specs.{Once.OnceObeyed, Premises.Honest, Premises.Life, Premises.Words, Setting.Setting}
+use Rattle.tsp_run.specs.{Networks.networks, Possible.Possible, Run.run, declared.address.Address.Address}
+use Rattle.tsp_network.specs.{Events.IsNetwork, Events.AllHappen, Networks.network, Networks.Network, Networks.Sent, Networks.delivers}
+use Rattle.tsp_network.specs.{Lives.Daemons, Lives.addresses, Lives.AreStarted, Rosters.destination}
 
 -- a may be master
 abbrev pub node_a : NodeLine
@@ -125,3 +127,102 @@ pub record NetworkUse : Type 0 where
   pub honest : Honest (network two_daemons used).history
   pub life : Life (network two_daemons used).history
   pub words : Words (network two_daemons used).history
+
+-- the header: a alone, on two networks
+abbrev pub one_node : HeaderValue
+one_node = record { drift = 0; strict = false; nodes = node_a ∷ []; nets = (0 ∷ []) ∷ (0 ∷ []) ∷ [] }
+
+-- its daemon, which has no peers. The node's tick is this one when the daemon's counter is at 0
+abbrev pub one_daemon : ℕ → Daemons
+one_daemon origin = record {
+  header = one_node;
+  words = λ n. words_for (networks one_node) (codes "a") Plain n;
+  address = network_address;
+  origin = λ k. origin;
+  early = λ k. 0;
+}
+
+-- it starts
+abbrev pub start : List Event
+start = BootAt 0 0 0 ∷ []
+
+-- it starts, and no octets come, as from this sender, on its second port
+abbrev pub on_second_port : Place → List Event
+on_second_port from = Bytes 1 0 (record { 0 = 1 }) from [] ∷ start
+
+-- a run is possible whose events can't all happen to these daemons; and what they do at the events isn't the run
+pub record IsOther (d : Daemons) (events : List Event) : Type 0 where
+  pub started : AreStarted d
+  pub possible : Possible d.header events
+  pub cannot : ¬ AllHappen d events
+  pub differs : (network d events).history ≢ run d.header events
+
+-- what isn't a network
+pub record NetworksBreak : Type 0 where
+  -- a daemon starts before its counter does
+  pub mistimed : IsOther (one_daemon 5) start
+  -- a stranger's octets come on the second port
+  pub stranger : IsOther (one_daemon 0) (on_second_port Stranger)
+  -- octets come on the second port, as from the daemon's own address
+  pub own : IsOther (one_daemon 0) (on_second_port (Peer (peer 0)))
+
+-- the header: a, b, and c (node 2), which may not be master either and whose wall clock is 10 milliseconds ahead of b's, on one network
+abbrev pub three_nodes : HeaderValue
+three_nodes = record {
+  drift = 0;
+  strict = false;
+  nodes = node_a ∷ node_b ∷ record { name = codes "c"; rate = pos 0; wall = pos 20000; may = false } ∷ [];
+  nets = [];
+}
+
+-- those of each node
+abbrev pub three_words : ℕ → ServeWords
+three_words zero = words_for (networks three_nodes) (codes "a") Plain 0
+three_words (suc zero) = words_for (networks three_nodes) (codes "b") Never 1
+three_words (suc (suc n)) = words_for (networks three_nodes) (codes "c") Never 2
+
+-- their daemons, whose counters are their nodes' ticks
+abbrev pub three_daemons : Daemons
+three_daemons = record { header = three_nodes; words = three_words; address = network_address; origin = λ k. 0; early = λ k. 0 }
+
+-- the events, the newest first. In the order of time: all start, b and c with one word; b and c back a, which is elected; they follow it; and
+-- it answers b's SLAVEUP by a SETTIME, which is datagram 14
+abbrev pub led : List Event
+led =
+    Take 390001000 12 ∷
+    Take 390000500 11 ∷
+    Take 390000500 10 ∷
+    Turn 390000000 0 ∷
+    Take 385000007 9 ∷
+    Take 385000006 8 ∷
+    Take 385000004 7 ∷
+    Take 385000003 6 ∷
+    Turn 385000000 0 ∷
+    Turn 85000000 2 ∷
+    Turn 85000000 1 ∷
+    Turn 85000000 0 ∷
+    Turn 80000000 2 ∷
+    Turn 80000000 1 ∷
+    Turn 80000000 0 ∷
+    BootAt 0 2 9 ∷
+    BootAt 0 1 9 ∷
+    BootAt 0 0 0 ∷
+    []
+
+-- where a node is reached on its first port
+abbrev pub first_at : ℕ → Address
+first_at n = record { node = n; port = first_port }
+
+-- a copy of send 14 comes to c, wherever the send goes
+abbrev pub astray : Sent → Network
+astray s = delivers three_daemons 18 390001400 14 s (Some (first_at 2)) (network three_daemons led)
+
+-- the events are a network's; then a copy of a send that goes to b comes to c. Nobody has forged a datagram, and yet a follower's clock is
+-- moved as its master didn't say
+pub record Misdelivered : Type 0 where
+  pub is : IsNetwork three_daemons led
+  pub send : Sent
+  pub there : slice_get (network three_daemons led).sent 14 ≡ Some send
+  pub goes : destination (networks three_nodes) send.from send.tried.0 ≡ Some (first_at 1)
+  pub honest : Honest (astray send).history
+  pub broken : (setting : Setting) → ¬ OnceObeyed setting (astray send).history

@@ -1,10 +1,6 @@
 //! Theorems about every network of daemons. Nothing here runs.
-ghost use Rattle.tsp_network.specs.Addressed.{NumbersAreAddresses};
-ghost use Rattle.tsp_network.specs.Kept.{NetworksKeepPromises};
-ghost use Rattle.tsp_network.specs.Misdelivered.{Misdelivered};
-ghost use Rattle.tsp_network.specs.NetworkUse.{NetworkUse};
-ghost use Rattle.tsp_network.specs.NetworksBroken.{NetworksBreak};
-ghost use Rattle.tsp_network.specs.Schedules.{RunsAreNetworks};
+ghost use Rattle.tsp_network.specs.Kept.{NetworksKeepPromises, NumbersAreAddresses, RunsAreNetworks};
+ghost use Rattle.tsp_network.specs.NetworkUse.{Misdelivered, NetworkUse, NetworksBreak};
 
 /// What the daemons of a network did is the run of its events, to the act, and so it keeps the promises.
 pub fn networks_keep_promises()
@@ -13,6 +9,7 @@ pub fn networks_keep_promises()
 
 /// The number by which a daemon knows a peer is the place of that peer's address among those to which the daemon
 /// binds its link.
+#[tactic(auto, using(crate::proofs::NetworksKeep::numbers_are_addresses))]
 pub fn numbers_are_addresses()
     ensures { NumbersAreAddresses }
 {}
@@ -25,18 +22,21 @@ pub fn runs_are_networks()
 
 /// Two daemons are a network in whose history one is elected, sets the other's clock, and corrects it
 /// after a round.
+#[tactic(auto, using(crate::proofs::WitnessUse::network_use))]
 pub fn network_use()
     ensures { NetworkUse }
 {}
 
 /// A daemon that starts before its counter does, and one that is handed octets on a port where it can't
 /// take them so, don't do what the run of their events does.
+#[tactic(auto, using(crate::proofs::WitnessUse::networks_break))]
 pub fn networks_can_be_broken()
     ensures { NetworksBreak }
 {}
 
 /// A copy of a send that comes to another daemon than it is addressed to breaks a promise, though nobody
 /// has forged a datagram.
+#[tactic(auto, using(crate::proofs::WitnessUse::misdelivered))]
 pub fn misdelivered()
     ensures { Misdelivered }
 {}

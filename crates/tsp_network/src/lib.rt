@@ -11,9 +11,8 @@
 //!
 //! Read `specs/` in this order: `Rosters` (who is whom: the numbers by which daemons know each
 //! other), `Lives` (how daemons are started, and what they are told), `Networks` (what comes of
-//! each event), `Events` (which events can happen), `Kept` (what is promised), `Addressed` (by
-//! which addresses daemons know each other) and `Schedules` (which schedules are networks'). The
-//! others are examples.
+//! each event), `Events` (which events can happen) and `Kept` (what is promised, by which addresses
+//! daemons know each other, and which schedules are networks'). `NetworkUse` has examples.
 //! `docs/NETWORK.md` has them with the definitions that they use, and `docs/PROMISES.md` says in
 //! plain words what is asked of clocks, words and datagrams, and what isn't covered.
 //!
