@@ -112,28 +112,15 @@ module _ (d : Daemons) (is : IsHeader d.header) where
     pub up_is : up (dids (of n h)) ≡ true
     pub alike : AlikeNodes (renaming_on nets n life.origin) (tells_apart d is n low life.origin) life.origin (session_of (d.words n) life).past (past_of d.header (rests n) h)
 
-  -- nothing changes for it while others step
-  pub agrees_later : (n : ℕ) (life : Life) (t : ℕ) (h : List Line) (step : Step) (x : ℕ) (acts : List Placed) → (step.node == n) ≡ false → t ≤ step.at → Agrees n life t h → Agrees n life step.at (stepped step x acts h)
-  agrees_later n life t h step x acts off later a =
-      let same = stepped_other n step x acts h off in
-      record {
-        low = a.low;
-        reached = a.reached;
-        began = (let one = a.began in let two = ticks_rise n t step.at later in omega (arith, one, two));
-        ports = a.ports;
-        up_is = ap (λ l. up (dids l)) same ∙ a.up_is;
-        alike = alike_lines _ _ life.origin _ (past_of d.header (rests n) h) (past_of d.header (rests n) (stepped step x acts h)) a.alike refl refl refl refl same;
-      }
-
-  -- nor while nothing happens
-  pub agrees_still : (n : ℕ) (life : Life) (t at : ℕ) (h : List Line) → t ≤ at → Agrees n life t h → Agrees n life at h
-  agrees_still n life t at h later a = record {
+  -- nothing changes for it while its node does nothing
+  agrees_later : (n : ℕ) (life : Life) (t at : ℕ) (h h' : List Line) → of n h' ≡ of n h → t ≤ at → Agrees n life t h → Agrees n life at h'
+  agrees_later n life t at h h' same later a = record {
     low = a.low;
     reached = a.reached;
     began = (let one = a.began in let two = ticks_rise n t at later in omega (arith, one, two));
     ports = a.ports;
-    up_is = a.up_is;
-    alike = a.alike;
+    up_is = ap (λ l. up (dids l)) same ∙ a.up_is;
+    alike = alike_lines _ _ life.origin _ (past_of d.header (rests n) h) (past_of d.header (rests n) h') a.alike refl refl refl refl same;
   }
 
   -- what a daemon is given in a turn in which this comes
@@ -208,17 +195,13 @@ module _ (d : Daemons) (is : IsHeader d.header) where
   pub none_agree : AllAgree nothing_yet 0 []
   none_agree = record { history = refl; nodes = λ n. tt; sends = NoneMatch }
 
-  still : (n : ℕ) (o : Option Life) (t at : ℕ) (h : List Line) → t ≤ at → OneAgrees n o t h → OneAgrees n o at h
-  still n None t at h later a = tt
-  still n (Some life) t at h later a = agrees_still n life t at h later a
+  later-one : (n : ℕ) (o : Option Life) (t at : ℕ) (h h' : List Line) → of n h' ≡ of n h → t ≤ at → OneAgrees n o t h → OneAgrees n o at h'
+  later-one n None t at h h' same later a = tt
+  later-one n (Some life) t at h h' same later a = agrees_later n life t at h h' same later a
 
   -- while nothing happens both agree
   pub all_still : (w : Network) (t at : ℕ) (h : List Line) → t ≤ at → AllAgree w t h → AllAgree w at h
-  all_still w t at h later a = record { history = a.history; nodes = λ n. still n (w.lives n) t at h later (a.nodes n); sends = a.sends }
-
-  later-one : (n : ℕ) (o : Option Life) (t : ℕ) (h : List Line) (step : Step) (x : ℕ) (acts : List Placed) → (step.node == n) ≡ false → t ≤ step.at → OneAgrees n o t h → OneAgrees n o step.at (stepped step x acts h)
-  later-one n None t h step x acts off later a = tt
-  later-one n (Some life) t h step x acts off later a = agrees_later n life t h step x acts off later a
+  all_still w t at h later a = record { history = a.history; nodes = λ n. later-one n (w.lives n) t at h h refl later (a.nodes n); sends = a.sends }
 
   -- a daemon has stepped, and its node in the run
   pub acted_agrees : (w : Network) (t : ℕ) (h : List Line) (step : Step) (now : Life) (acts : List Placed) → AllAgree w t h → t ≤ step.at →
@@ -235,7 +218,10 @@ module _ (d : Daemons) (is : IsHeader d.header) where
       } where
         by_node : (m : ℕ) (b : Bool) → (m == step.node) ≡ b → OneAgrees m (if b then Some now else w.lives m) step.at (stepped step (step_tick d.header step) (named_acts nets step.node now.origin acts) h)
         by_node m true e = subst (λ k. Agrees k now step.at (stepped step (step_tick d.header step) (named_acts nets step.node now.origin acts) h)) (sym (eqb-true m step.node e)) own
-        by_node m false e = later-one m (w.lives m) t h step (step_tick d.header step) (named_acts nets step.node now.origin acts) (ne_eqb step.node m (λ same. eqb-false m step.node e (sym same))) later (a.nodes m)
+        by_node m false e =
+            let off = ne_eqb step.node m (λ same. eqb-false m step.node e (sym same)) in
+            let more : List Line = stepped step (step_tick d.header step) (named_acts nets step.node now.origin acts) h in
+            later-one m (w.lives m) t step.at h more (stepped_other m step (step_tick d.header step) (named_acts nets step.node now.origin acts) h off) later (a.nodes m)
 
   -- a daemon takes a turn, and its node what comes to it
   pub turn_agrees_all : (w : Network) (t : ℕ) (h : List Line) (k : ℕ) (step : Step) (a : Arrival) (life : Life) (g : NodeGiven) → AllAgree w t h → t ≤ step.at → w.lives step.node ≡ Some life →

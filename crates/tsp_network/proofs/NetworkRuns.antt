@@ -35,21 +35,15 @@ in-time at last h = rw (le-ltb at last h) refl
 is-up : (s : Scene) (n : ℕ) → s.up n ≡ true → down s.up (Some n) ≡ None
 is-up s n e = rw e refl
 
-pub could_boot : (s : Scene) (at node word : ℕ) → s.last ≤ at → node < s.nodes → impossible s (BootAt at node word) ≡ None
-could_boot s at node word time low = none-of (in-time at s.last time) (none-of (is-node s.nodes node low) refl)
-
-pub could_turn : (s : Scene) (at node : ℕ) → s.last ≤ at → node < s.nodes → s.up node ≡ true → impossible s (Turn at node) ≡ None
-could_turn s at node time low up_is = none-of (in-time at s.last time) (none-of (is-node s.nodes node low) (none-of refl (is-up s node up_is)))
-
-pub could_take : (s : Scene) (at k : ℕ) → s.last ≤ at → k < length s.posts → down s.up (actor s (Take at k)) ≡ None → impossible s (Take at k) ≡ None
+could_take : (s : Scene) (at k : ℕ) → s.last ≤ at → k < length s.posts → down s.up (actor s (Take at k)) ≡ None → impossible s (Take at k) ≡ None
 could_take s at k time few up_is = none-of (in-time at s.last time) (none-of refl (none-of (rw (lt-ltb k (length s.posts) few) refl) up_is))
 
-pub could_come : (s : Scene) (at node : ℕ) (port : Port) (from : Place) (octets : List ℕ) → s.last ≤ at → node < s.nodes → port.0 < port_count node s.networks → unknown_place s.nodes from ≡ None → s.up node ≡ true → impossible s (Bytes at node port from octets) ≡ None
+could_come : (s : Scene) (at node : ℕ) (port : Port) (from : Place) (octets : List ℕ) → s.last ≤ at → node < s.nodes → port.0 < port_count node s.networks → unknown_place s.nodes from ≡ None → s.up node ≡ true → impossible s (Bytes at node port from octets) ≡ None
 could_come s at node port from octets time low has place up_is =
     none-of (in-time at s.last time) (none-of (none-of (is-node s.nodes node low) (none-of (rw (lt-ltb port.0 (port_count node s.networks) has) refl) place)) (none-of refl (is-up s node up_is)))
 
 -- whoever octets may come from is a node, or a stranger
-pub sender_known : (d : Daemons) → IsHeader d.header → (n : ℕ) → n < length d.header.nodes → (q : Port) → q.0 < length (ports_on n (networks d.header)) → (from : Place) → MayCome (networks d.header) n q from → unknown_place (length d.header.nodes) from ≡ None
+sender_known : (d : Daemons) → IsHeader d.header → (n : ℕ) → n < length d.header.nodes → (q : Port) → q.0 < length (ports_on n (networks d.header)) → (from : Place) → MayCome (networks d.header) n q from → unknown_place (length d.header.nodes) from ≡ None
 sender_known d is n low q has Stranger may = refl
 sender_known d is n low q has (Peer m) (inl own) = is-node (length d.header.nodes) m.0 (subst (λ k. k < length d.header.nodes) (sym own.0) low)
 sender_known d is n low q has (Peer m) (inr member) =
@@ -128,16 +122,14 @@ module _ (d : Daemons) (header_is : IsHeader d.header) (started : AreStarted d) 
     pub can : impossible (scene d.header before) e ≡ None
     pub ranges : IsInRange e
 
-  boots : (before : List Event) (at node word : ℕ) → last_at before ≤ at → Agreeing (network d before) (last_at before) (run d.header before) → CanHappen d (length before) (network d before) (BootAt at node word) → EventAgrees (BootAt at node word) before
-  boots before at node word later a c = record {
+  pub event_agrees : (before : List Event) (e : Event) → Possible d.header before → last_at before ≤ event_at e → Agreeing (network d before) (last_at before) (run d.header before) → CanHappen d (length before) (network d before) e → EventAgrees e before
+  event_agrees before (BootAt at node word) possible later a c = record {
     agree = subst (λ z. Agreeing (after_event d (length before) (BootAt at node word) (network d before)) at (joins (Some z) (run d.header before))) (sym (steps-are d.header (run d.header before) boots_all (boot_step d.header at node word)))
         (boot_agrees d header_is started (network d before) (last_at before) (run d.header before) (length before) at node word a later c.0 c.2);
-    can = could_boot (scene d.header before) at node word later c.0;
+    can = none-of (in-time at (last_at before) later) (none-of (is-node (length d.header.nodes) node c.0) refl);
     ranges = c.1;
   }
-
-  turn : (before : List Event) (at node : ℕ) → last_at before ≤ at → Agreeing (network d before) (last_at before) (run d.header before) → CanHappen d (length before) (network d before) (Turn at node) → EventAgrees (Turn at node) before
-  turn before at node later a c =
+  event_agrees before (Turn at node) possible later a c =
       let w : Network = network d before in
       let h : List Line = run d.header before in
       let r = running (w.lives node) c in
@@ -146,13 +138,10 @@ module _ (d : Daemons) (header_is : IsHeader d.header) (started : AreStarted d) 
       record {
         agree = subst (λ z. Agreeing (after_event d (length before) (Turn at node) w) at (joins (Some z) h)) (sym (steps-are d.header h (answers_all NodeTurn) step))
             (turn_agrees_all d header_is w (last_at before) h (length before) step None r.life NodeTurn a later r.is refl tt);
-        can = could_turn (scene d.header before) at node later own.low own.up_is;
+        can = none-of (in-time at (last_at before) later) (none-of (is-node (length d.header.nodes) node own.low) (none-of refl (is-up (scene d.header before) node own.up_is)));
         ranges = tt;
       }
-
-  come : (before : List Event) (at node : ℕ) (port : Port) (from : Place) (octets : List ℕ) → last_at before ≤ at → Agreeing (network d before) (last_at before) (run d.header before) → CanHappen d (length before) (network d before) (Bytes at node port from octets) →
-      EventAgrees (Bytes at node port from octets) before
-  come before at node port from octets later a c =
+  event_agrees before (Bytes at node port from octets) possible later a c =
       let w : Network = network d before in
       let h : List Line = run d.header before in
       let r = running (w.lives node) c.0 in
@@ -168,9 +157,7 @@ module _ (d : Daemons) (header_is : IsHeader d.header) (started : AreStarted d) 
         can = could_come (scene d.header before) at node port from octets later own.low has (sender_known d header_is node own.low port has from c.2) own.up_is;
         ranges = c.4;
       }
-
-  take : (before : List Event) (at k : ℕ) → Possible d.header before → last_at before ≤ at → Agreeing (network d before) (last_at before) (run d.header before) → CanHappen d (length before) (network d before) (Take at k) → EventAgrees (Take at k) before
-  take before at k possible later a c = by_send (slice_get (network d before).sent k) refl c where
+  event_agrees before (Take at k) possible later a c = by_send (slice_get (network d before).sent k) refl c where
     w : Network
     w = network d before
 
@@ -219,12 +206,6 @@ module _ (d : Daemons) (header_is : IsHeader d.header) (started : AreStarted d) 
     by_send : (o : Option Sent) → slice_get w.sent k ≡ o → RunsFor d w o → EventAgrees (Take at k) before
     by_send None e r = absurd r
     by_send (Some s) e r = by_address s (match_at d a.sends k s e) e (destination nets s.from s.tried.0) refl r
-
-  pub event_agrees : (before : List Event) (e : Event) → Possible d.header before → last_at before ≤ event_at e → Agreeing (network d before) (last_at before) (run d.header before) → CanHappen d (length before) (network d before) e → EventAgrees e before
-  event_agrees before (BootAt at node word) possible later a c = boots before at node word later a c
-  event_agrees before (Turn at node) possible later a c = turn before at node later a c
-  event_agrees before (Take at k) possible later a c = take before at k possible later a c
-  event_agrees before (Bytes at node port from octets) possible later a c = come before at node port from octets later a c
 
   -- a network agrees with a run whose events are possible
   pub record RunAgrees (events : List Event) : Type 0 where

@@ -23,7 +23,7 @@ pub record IsRoster (n : ℕ) (nodes : List ℕ) : Type 0 where
 pub data Names (n done : ℕ) (nodes : List ℕ) (p : ℕ) : Type 0 where
   Itself : p ≡ 0 → named_node n done nodes p ≡ n → Names n done nodes p
   Member : (i : ℕ) → i < length nodes → p ≡ done + 1 + i → named_node n done nodes p ≡ slice_index_or nodes i 0 → Names n done nodes p
-  Nobody : 0 < p → named_node n done nodes p ≡ p + 64 → Names n done nodes p
+  Nobody : named_node n done nodes p ≡ p + 64 → Names n done nodes p
 
 pub named_member : (n done : ℕ) (nodes : List ℕ) (i : ℕ) → i < length nodes → named_node n done nodes (done + 1 + i) ≡ slice_index_or nodes i 0
 named_member n done nodes i h =
@@ -35,10 +35,6 @@ named_member n done nodes i h =
 
 pub names : (n done : ℕ) (nodes : List ℕ) (p : ℕ) → Names n done nodes p
 names n done nodes p = by_zero (p == 0) refl where
-  by_size : (0 < p) ⊎ (p ≤ 0) → p ≢ 0 → 0 < p
-  by_size (inl lt) some = lt
-  by_size (inr ge) some = absurd (some (omega (arith, ge)))
-
   by_zero : (b : Bool) → (p == 0) ≡ b → Names n done nodes p
   by_zero true e = Itself (eqb-true p 0 e) (rw e refl)
   by_zero false e = by_range (nat_lt done p && nat_le p (done + length nodes)) refl where
@@ -48,9 +44,7 @@ names n done nodes p = by_zero (p == 0) refl where
         let low : done < p = ltb-true done p both.0 in
         let high : p ≤ done + length nodes = leb-true p (done + length nodes) both.1 in
         Member (p - (done + 1)) (omega (arith, low, high)) (omega (arith, low)) (rw (e, f) refl)
-    by_range false f =
-        let some : p ≢ 0 = eqb-false p 0 e in
-        Nobody (by_size (cases_lt 0 p) some) (rw (e, f) refl)
+    by_range false f = Nobody (rw (e, f) refl)
 
 -- different numbers name different nodes
 pub named_once : (n done : ℕ) (nodes : List ℕ) → IsRoster n nodes → (p q : ℕ) → named_node n done nodes p ≡ named_node n done nodes q → p ≡ q
@@ -58,13 +52,13 @@ named_once n done nodes r p q e = by_both (names n done nodes p) (names n done n
   by_both : Names n done nodes p → Names n done nodes q → p ≡ q
   by_both (Itself a f) (Itself b g) = a ∙ sym b
   by_both (Itself a f) (Member j h b g) = absurd (r.apart j h (sym g ∙ sym e ∙ f))
-  by_both (Itself a f) (Nobody b g) = let own = r.own in let same : n ≡ q + 64 = sym f ∙ e ∙ g in absurd (omega (arith, own, same))
+  by_both (Itself a f) (Nobody g) = let own = r.own in let same : n ≡ q + 64 = sym f ∙ e ∙ g in absurd (omega (arith, own, same))
   by_both (Member i h a f) (Itself b g) = absurd (r.apart i h (sym f ∙ e ∙ g))
   by_both (Member i h a f) (Member j k b g) = a ∙ ap (λ z. done + 1 + z) (r.once i j h k (sym f ∙ e ∙ g)) ∙ sym b
-  by_both (Member i h a f) (Nobody b g) = let low = r.below i h in let same : slice_index_or nodes i 0 ≡ q + 64 = sym f ∙ e ∙ g in absurd (omega (arith, low, same))
-  by_both (Nobody a f) (Itself b g) = let own = r.own in let same : n ≡ p + 64 = sym g ∙ sym e ∙ f in absurd (omega (arith, own, same))
-  by_both (Nobody a f) (Member j k b g) = let low = r.below j k in let same : slice_index_or nodes j 0 ≡ p + 64 = sym g ∙ sym e ∙ f in absurd (omega (arith, low, same))
-  by_both (Nobody a f) (Nobody b g) = let same : p + 64 ≡ q + 64 = sym f ∙ e ∙ g in omega (arith, same)
+  by_both (Member i h a f) (Nobody g) = let low = r.below i h in let same : slice_index_or nodes i 0 ≡ q + 64 = sym f ∙ e ∙ g in absurd (omega (arith, low, same))
+  by_both (Nobody f) (Itself b g) = let own = r.own in let same : n ≡ p + 64 = sym g ∙ sym e ∙ f in absurd (omega (arith, own, same))
+  by_both (Nobody f) (Member j k b g) = let low = r.below j k in let same : slice_index_or nodes j 0 ≡ p + 64 = sym g ∙ sym e ∙ f in absurd (omega (arith, low, same))
+  by_both (Nobody f) (Nobody g) = let same : p + 64 ≡ q + 64 = sym f ∙ e ∙ g in omega (arith, same)
 
 -- so numbers are compared as their nodes are
 pub compared : (n done : ℕ) (nodes : List ℕ) → IsRoster n nodes → (p q : ℕ) → (named_node n done nodes p == named_node n done nodes q) ≡ (p == q)
