@@ -1,19 +1,21 @@
 -- Rows that put acts put the same at alike pasts, but for the names of peers and later ticks.
-use Rattle.std.proofs.Common.{ap, arith, ◌∙◌, ◌≡◌, ℕ, ◌+◌, ◌%◌, ◌^◌, ℤ, ◌+ℤ◌, ◌-ℤ◌, Bool, true, false, if◌then◌else◌, List, [], ◌∷◌, map, refl, sym, subst, ◌==◌, not, ◌++◌, All}
+use Rattle.std.proofs.Common.{ap, ap₂, true≢false, arith, ◌∙◌, ◌≡◌, ℕ, ◌+◌, ◌%◌, ◌^◌, ℤ, ◌+ℤ◌, ◌-ℤ◌, Bool, true, false, if◌then◌else◌, List, [], ◌∷◌, map, refl, sym, subst, ◌==◌, not, ◌++◌, All}
 use Rattle.std.proofs.lemmas.List.{map-append}
-use Rattle.std.proofs.lemmas.List.Elements.{All-nil, All-head, All-tail, All-append}
-use Rattle.tsp_rules.specs.Values.{Act, Post, Correct, Arm, Alarm, Message, Stamp, Kind, SetTime, PeerId, Place, Peer, Port, Request, Reply, Role, Follow}
-use Rattle.tsp_rules.specs.{ClockRows.adjusts, ClockRows.is_step, ClockRows.sets, RoundRows.asks, RoundRows.sample_of, RoundRows.request_at}
-use Rattle.tsp_rules.specs.CommonRows.{posts_reply, replies, master_name, master_name_in, own_at}
+use Rattle.std.proofs.lemmas.List.Elements.{All-nil, All-cons, All-head, All-tail, All-append}
+use Rattle.tsp_rules.specs.Values.{Act, Post, Correct, Arm, Message, Stamp, SetTime, PeerId, Peer, Request, Reply, Role, Follow}
+use Rattle.tsp_rules.specs.{ClockRows.adjusts, ClockRows.is_step, ClockRows.sets, RoundRows.asks}
+use Rattle.tsp_rules.specs.CommonRows.{posts_reply, replies, master_name_in}
 use Rattle.tsp_rules.specs.GateRows.{loop_to, repost, reposts, sends_loops}
-use Rattle.tsp_rules.specs.Guards.{is_in_range, target_at, ticket_at, delay, delay_at, role_at}
-use Rattle.tsp_rules.specs.SendRows.{begins_settime, may_set, repeats, next_number, open_at}
-use Rattle.tsp_rules.specs.Renames.{Renaming, Naming, renamed_act, renamed_place, known_role, later_sends, renamed_role, Knows}
-use Rattle.tsp_base.specs.Words.{Past, plain, MessageValue, arms, asked, bare, nothing, others, post_of, posts, posts_back, posts_time, posts_to_others, puts, ReplyValue, shown, timed, word, either_by, reading, begun, kept_name, role, Step, Acts, Row, Seen, added, grown, ◌followed_by◌, for_each}
+use Rattle.tsp_rules.specs.Guards.{is_in_range, target_at, delay}
+use Rattle.tsp_rules.specs.SendRows.{begins_settime, may_set, repeats}
+use Rattle.tsp_rules.proofs.{Emits.Sort, EmitsBuilt.nothing_owed}
+use Rattle.tsp_rules.proofs.RowCodes.{Value, Leaf, Fact, Valued, Puts, Takes, Arms, Posts, ToOthers, PostsBack, PostsTime, PostsReply, PostsName, Repeats, SettimeBegins, Loops, Reposts, Asks, Samples, Adjusts, Sets, RoleAt, DelayAt, OwnAt, TargetAt, RequestAt, TicketAt, NextNumber, MasterName, Others}
+use Rattle.tsp_rules.specs.Renames.{Renaming, Naming, renamed_act, renamed_place, renamed_role, Knows}
+use Rattle.tsp_base.specs.Words.{Past, plain, arms, bare, nothing, others, post_of, posts, posts_back, posts_time, posts_to_others, puts, shown, timed, word, either_by, reading, kept_name, role, Step, Acts, Row, Seen, added, grown, ◌followed_by◌, for_each}
 use Rattle.tsp_alike.proofs.{Alike.AlikePast, Alike.Alike, Alike.Own, PortAlike.kept_name_alike, PortAlike.role_alike, PortAlike.role_known}
-use Rattle.tsp_alike.proofs.{RoundsAlike.asked_alike, RoundsAlike.request_open_alike, SendsAlike.begun_alike, SendsAlike.open_send_alike}
+use Rattle.tsp_alike.proofs.{RoundsAlike.asked_alike, RoundsAlike.request_open_alike, SendsAlike.begun_alike}
 use Rattle.tsp_alike.proofs.NodeAlike.{shown_alike, word_alike, target_alike, ticket_alike}
-use Rattle.tsp_alike.proofs.{TestsAlike.is_in_range_alike, TestsAlike.may_set_alike, NodesAlike.later_known, Moves.Moves, Moves.MovesAt}
+use Rattle.tsp_alike.proofs.{TestsAlike.is_in_range_alike, TestsAlike.may_set_alike, ListsAlike.list_known, NodesAlike.later_known, Moves.Moves, Moves.MovesAt}
 
 -- how moving rows are put together
 
@@ -89,132 +91,82 @@ name_in_role : (n : Renaming) (r : Role) (own kept : List ℕ) → master_name_i
 name_in_role n (Follow p) own kept = refl
 name_in_role n _ own kept = refl
 
-module _ {m : Naming} {p q : Past} where
-  pub role_at_alike : AlikePast m p q → (x : ℕ) → role_at (x + m.names.shift) q ≡ renamed_role m.names (role_at x p)
-  role_at_alike a x = role_alike a.seen
+module _ {m : Naming} {p q : Past} (a : AlikePast m p q) (x : ℕ) where
+  pub fact_same : {A : Type 0} {f : A → A} {told : A → Type 0} {fact fact' : ℕ → Past → A} → Fact m A f told fact fact' → fact' (x + m.names.shift) q ≡ f (fact x p)
+  fact_same RoleAt = role_alike a.seen
+  fact_same DelayAt = ap delay (word_alike a.seen)
+  fact_same OwnAt = a.setup.own
+  fact_same TargetAt = target_alike a.seen x
+  fact_same (RequestAt r counter) = request_open_alike r counter a.seen
 
   -- a followed peer is known, and a candidate may stand for election
-  pub role_at_known : AlikePast m p q → (x : ℕ) → known_role m (role_at x p)
-  role_at_known a x = role_known a.seen
+  pub fact_told : {A : Type 0} {f : A → A} {told : A → Type 0} {fact fact' : ℕ → Past → A} → Fact m A f told fact fact' → told (fact x p)
+  fact_told RoleAt = role_known a.seen
+  fact_told _ = tt
 
-  pub delay_at_alike : AlikePast m p q → (x : ℕ) → delay_at (x + m.names.shift) q ≡ delay_at x p
-  delay_at_alike a x = ap delay (word_alike a.seen)
-
-  pub own_at_alike : AlikePast m p q → (x : ℕ) → own_at (x + m.names.shift) q ≡ m.names.peer (own_at x p)
-  own_at_alike a x = a.setup.own
-
-  pub target_at_alike : AlikePast m p q → (x : ℕ) → target_at (x + m.names.shift) q ≡ target_at x p
-  target_at_alike a x = target_alike a.seen x
-
-  pub request_at_alike : AlikePast m p q → (r : PeerId) (counter x : ℕ) → request_at (m.names.peer r) counter (x + m.names.shift) q ≡ request_at r counter x p
-  request_at_alike a r counter x = request_open_alike r counter a.seen
-
-  pub ticket_at_alike : AlikePast m p q → (x : ℕ) → ticket_at (x + m.names.shift) q ≡ ticket_at x p
-  ticket_at_alike a x = ticket_alike a.seen
-
-  pub next_number_alike : AlikePast m p q → (x : ℕ) → next_number (x + m.names.shift) q ≡ next_number x p
-  next_number_alike a x =
-      ap (λ w. 32768 + (w + begun q.seen) % 32768) (word_alike a.seen)
-      ∙ ap (λ k. 32768 + (word (plain p.seen) + k) % 32768) (begun_alike a.seen)
-
-  pub master_name_alike : AlikePast m p q → (x : ℕ) → master_name (x + m.names.shift) q ≡ master_name x p
-  master_name_alike a x =
-      ap (λ r. master_name_in r q.name (kept_name q.seen)) (role_alike a.seen)
-      ∙ name_in_role m.names (role p.seen) q.name (kept_name q.seen)
-      ∙ ap (λ own. master_name_in (role p.seen) own (kept_name q.seen)) a.name
+  pub value_same : {A : Type 0} {f : A → A} {value : A → Value} {fact fact' : ℕ → Past → A} → Valued m A f value fact fact' → fact' (x + m.names.shift) q ≡ f (fact x p)
+  value_same TicketAt = ticket_alike a.seen
+  value_same NextNumber = ap₂ (λ w k. 32768 + (w + k) % 32768) (word_alike a.seen) (begun_alike a.seen)
+  value_same MasterName =
+      ap₂ (λ r own. master_name_in r own (kept_name q.seen)) (role_alike a.seen) a.name
+      ∙ name_in_role m.names (role p.seen) p.name (kept_name q.seen)
       ∙ ap (master_name_in (role p.seen) p.name) (kept_name_alike a.seen)
-
-  pub open_at_alike : AlikePast m p q → (r : PeerId) (x : ℕ) → open_at (m.names.peer r) (x + m.names.shift) q ≡ later_sends m.names (open_at r x p)
-  open_at_alike a r x = open_send_alike r a.seen
 
 -- an act for each renamed peer
 acts_renamed : (n : Renaming) (act act' : PeerId → Act) → ((r : PeerId) → act' (n.peer r) ≡ renamed_act n (act r)) → (rs : List PeerId) → map act' (map n.peer rs) ≡ map (renamed_act n) (map act rs)
 acts_renamed n act act' same [] = refl
-acts_renamed n act act' same (r ∷ rs) = ap (λ c. c ∷ map act' (map n.peer rs)) (same r) ∙ ap (λ rest. renamed_act n (act r) ∷ rest) (acts_renamed n act act' same rs)
+acts_renamed n act act' same (r ∷ rs) = ap₂ ◌∷◌ (same r) (acts_renamed n act act' same rs)
 
--- acts that stand behind a test
-acts_if : (n : Renaming) (b b' : Bool) → b' ≡ b → (acts acts' : List Act) → acts' ≡ map (renamed_act n) acts → (if b' then acts' else []) ≡ map (renamed_act n) (if b then acts else [])
-acts_if n b b' same acts acts' e = ap (λ z. if z then acts' else []) same ∙ by_case b where
-  by_case : (z : Bool) → (if z then acts' else []) ≡ map (renamed_act n) (if z then acts else [])
-  by_case true = e
-  by_case false = refl
+mapped_known : (m : Naming) (f : PeerId → Act) → ((p : PeerId) → m.known p → Knows m (f p)) → (ps : List PeerId) → All m.known ps → All (Knows m) (map f ps)
+mapped_known m f k [] known = All-nil (Knows m)
+mapped_known m f k (p ∷ ps) known = All-cons (Knows m) (f p) (map f ps) (k p (All-head m.known p ps known)) (mapped_known m f k ps (All-tail m.known p ps known))
 
-module _ {m : Naming} {p q : Past} where
-  pub puts_alike : AlikePast m p q → (act : Act) (x : ℕ) → puts (renamed_act m.names act) (x + m.names.shift) q ≡ map (renamed_act m.names) (puts act x p)
-  unfolding puts
-  puts_alike a act x = refl
+-- acts that move
+module _ {m : Naming} {p q : Past} (a : AlikePast m p q) (x : ℕ) where
+  one : {act act' : Act} → act' ≡ renamed_act m.names act → Knows m act → MovesAt m (act ∷ []) (act' ∷ [])
+  one {act} e known = record { same = ap (λ z. z ∷ []) e; known = All-cons (Knows m) act [] known (All-nil (Knows m)) }
 
-  pub arms_alike : AlikePast m p q → (alarm : Alarm) (long x : ℕ) → arms alarm long (x + m.names.shift) q ≡ map (renamed_act m.names) (arms alarm long x p)
-  unfolding arms
-  arms_alike a alarm long x = let e : (x + m.names.shift) + long ≡ (x + long) + m.names.shift = omega arith in ap (λ at. Arm alarm at ∷ []) e
+  -- one for each other peer
+  for_others : (act act' : PeerId → Act) → ((r : PeerId) → act' (m.names.peer r) ≡ renamed_act m.names (act r)) → ((r : PeerId) → m.known r → Knows m (act r)) →
+      MovesAt m (map act (others p.own p.peers)) (map act' (others q.own q.peers))
+  for_others act act' same known = record {
+    same = ap (map act') a.setup.others_are ∙ acts_renamed m.names act act' same (others p.own p.peers);
+    known = mapped_known m act known (others p.own p.peers) (list_known a x Others);
+  }
 
-  pub posts_alike : AlikePast m p q → (r : PeerId) (kind : Kind) (number x : ℕ) → posts (m.names.peer r) kind number (x + m.names.shift) q ≡ map (renamed_act m.names) (posts r kind number x p)
-  unfolding posts
-  posts_alike a r kind number x = ap (λ name. post_of kind number name (m.names.peer r) ∷ []) a.name
+  -- those that stand behind a test
+  only_if : (b b' : Bool) → b' ≡ b → {acts acts' : List Act} → MovesAt m acts acts' → MovesAt m (if b then acts else []) (if b' then acts' else [])
+  only_if true true e k = k
+  only_if false false e k = none_move
+  only_if true false e k = absurd (true≢false (sym e))
+  only_if false true e k = absurd (true≢false e)
 
-  pub posts_to_others_alike : AlikePast m p q → (kind : Kind) (number x : ℕ) → posts_to_others kind number (x + m.names.shift) q ≡ map (renamed_act m.names) (posts_to_others kind number x p)
-  unfolding posts_to_others
-  posts_to_others_alike a kind number x =
-      ap (map (post_of kind number q.name)) a.setup.others_are
-      ∙ acts_renamed m.names (post_of kind number p.name) (post_of kind number q.name) (λ r. ap (λ name. post_of kind number name (m.names.peer r)) a.name) (others p.own p.peers)
+  -- the value that a correction shows
+  shown_if : (amount : ℤ) (b : Bool) → (if b then target_at (x + m.names.shift) q +ℤ amount else shown (plain q.seen) (x + m.names.shift)) ≡ (if b then target_at x p +ℤ amount else shown (plain p.seen) x)
+  shown_if amount true = ap (λ t. t +ℤ amount) (target_alike a.seen x)
+  shown_if amount false = shown_alike a.seen x
 
-  pub posts_back_alike : AlikePast m p q → (from : Place) (kind : Kind) (number x : ℕ) → posts_back (renamed_place m.names from) kind number (x + m.names.shift) q ≡ map (renamed_act m.names) (posts_back from kind number x p)
-  unfolding posts_back
-  posts_back_alike a from kind number x = ap (λ name. Post (renamed_place m.names from) (Message (bare kind number name)) ∷ []) a.name
-
-  pub posts_time_alike : AlikePast m p q → (r : PeerId) (kind : Kind) (number : ℕ) (time : ℤ) (x : ℕ) → posts_time (m.names.peer r) kind number time (x + m.names.shift) q ≡ map (renamed_act m.names) (posts_time r kind number time x p)
-  unfolding posts_time
-  posts_time_alike a r kind number time x = ap (λ name. Post (Peer (m.names.peer r)) (Message (timed kind number time name)) ∷ []) a.name
-
-  posts_reply_alike : AlikePast m p q → (from : Place) (w counter x : ℕ) → posts_reply (renamed_place m.names from) w counter (x + m.names.shift) q ≡ map (renamed_act m.names) (posts_reply from w counter x p)
-  unfolding posts_reply
-  posts_reply_alike a from w counter x =
-      ap (λ k. Post (renamed_place m.names from) (Stamp (Reply (record { ticket = k; word = w; counter = counter; reading = target_at (x + m.names.shift) q }))) ∷ []) (ticket_at_alike a x)
-      ∙ ap (λ t. Post (renamed_place m.names from) (Stamp (Reply (record { ticket = ticket_at x p; word = w; counter = counter; reading = t }))) ∷ []) (target_at_alike a x)
-
-  pub replies_alike : AlikePast m p q → (from : Place) (w counter x : ℕ) → replies (renamed_place m.names from) w counter (x + m.names.shift) q ≡ map (renamed_act m.names) (replies from w counter x p)
-  unfolding replies either_by nothing
-  replies_alike a from w counter x = acts_if m.names (is_in_range x p) (is_in_range (x + m.names.shift) q) (is_in_range_alike a x) (posts_reply from w counter x p) (posts_reply (renamed_place m.names from) w counter (x + m.names.shift) q) (posts_reply_alike a from w counter x)
-
-  pub repeats_alike : AlikePast m p q → (r : PeerId) (msg : MessageValue) (x : ℕ) → repeats (m.names.peer r) msg (x + m.names.shift) q ≡ map (renamed_act m.names) (repeats r msg x p)
-  unfolding repeats puts
-  repeats_alike a r msg x = refl
-
-  pub begins_settime_alike : AlikePast m p q → (r : PeerId) (number x : ℕ) → begins_settime (m.names.peer r) number (x + m.names.shift) q ≡ map (renamed_act m.names) (begins_settime r number x p)
-  unfolding begins_settime either_by nothing reading
-  begins_settime_alike a r number x =
-      acts_if m.names (may_set r number x p) (may_set (m.names.peer r) number (x + m.names.shift) q) (may_set_alike a r number x)
-      (posts_time r SetTime number (target_at x p) x p) (posts_time (m.names.peer r) SetTime number (target_at (x + m.names.shift) q) (x + m.names.shift) q)
-      (ap (λ t. posts_time (m.names.peer r) SetTime number t (x + m.names.shift) q) (target_at_alike a x) ∙ posts_time_alike a r SetTime number (target_at x p) x)
-
-  pub sends_loops_alike : AlikePast m p q → (port : Port) (x : ℕ) → sends_loops port (x + m.names.shift) q ≡ map (renamed_act m.names) (sends_loops port x p)
-  unfolding sends_loops
-  sends_loops_alike a port x =
-      ap (map (loop_to port q.name)) a.setup.others_are
-      ∙ acts_renamed m.names (loop_to port p.name) (loop_to port q.name) (λ r. ap (λ name. loop_to port name (m.names.peer r)) a.name) (others p.own p.peers)
-
-  pub reposts_alike : AlikePast m p q → (msg : MessageValue) (x : ℕ) → reposts msg (x + m.names.shift) q ≡ map (renamed_act m.names) (reposts msg x p)
-  unfolding reposts
-  reposts_alike a msg x = ap (map (repost msg)) a.setup.others_are ∙ acts_renamed m.names (repost msg) (repost msg) (λ r. refl) (others p.own p.peers)
-
-  pub asks_alike : AlikePast m p q → (r : PeerId) (x : ℕ) → asks (m.names.peer r) (x + m.names.shift) q ≡ map (renamed_act m.names) (asks r x p)
-  unfolding asks
-  asks_alike a r x =
-      ap (λ w. Post (Peer (m.names.peer r)) (Stamp (Request w (asked q.seen % 2 ^ 64))) ∷ []) (word_alike a.seen)
-      ∙ ap (λ k. Post (Peer (m.names.peer r)) (Stamp (Request (word (plain p.seen)) (k % 2 ^ 64))) ∷ []) (asked_alike a.seen)
-
-  pub samples_alike : AlikePast m p q → (r : PeerId) (reply : ReplyValue) (sent now : ℤ) (x : ℕ) → puts (sample_of (m.names.peer r) reply sent now) (x + m.names.shift) q ≡ map (renamed_act m.names) (puts (sample_of r reply sent now) x p)
-  samples_alike a r reply sent now x = puts_alike a (sample_of r reply sent now) x
-
-  -- the clock's corrections
-  shown_if : AlikePast m p q → (amount : ℤ) (x : ℕ) (b : Bool) → (if b then target_at (x + m.names.shift) q +ℤ amount else shown (plain q.seen) (x + m.names.shift)) ≡ (if b then target_at x p +ℤ amount else shown (plain p.seen) x)
-  shown_if a amount x true = ap (λ t. t +ℤ amount) (target_at_alike a x)
-  shown_if a amount x false = shown_alike a.seen x
-
-  pub adjusts_alike : AlikePast m p q → (amount : ℤ) (x : ℕ) → adjusts amount (x + m.names.shift) q ≡ map (renamed_act m.names) (adjusts amount x p)
-  unfolding adjusts
-  adjusts_alike a amount x = ap (λ value. Correct amount (is_step amount) value ∷ []) (shown_if a amount x (is_step amount))
-
-  pub sets_alike : AlikePast m p q → (value : ℤ) (x : ℕ) → sets value (x + m.names.shift) q ≡ map (renamed_act m.names) (sets value x p)
-  unfolding sets
-  sets_alike a value x = ap (λ t. Correct (value -ℤ t) true value ∷ []) (target_at_alike a x)
+  pub leaf_at : {few : List Sort} {k c : ℕ} {r r' : Row} → Leaf m nothing_owed few k c r r' → MovesAt m (r x p) (r' (x + m.names.shift) q)
+  unfolding puts arms posts posts_to_others posts_back posts_time replies posts_reply repeats begins_settime reading either_by nothing sends_loops reposts asks adjusts sets
+  leaf_at (Puts act plain known) = one refl known
+  leaf_at (Takes from t owed) = one refl tt
+  leaf_at (Arms alarm long known) = let e : (x + m.names.shift) + long ≡ (x + long) + m.names.shift = omega arith in one (ap (Arm alarm) e) known
+  leaf_at (Posts r kind number known owed fits) = one (ap (λ name. post_of kind number name (m.names.peer r)) a.name) known
+  leaf_at (ToOthers kind fits) = for_others (post_of kind 0 p.name) (post_of kind 0 q.name) (λ r. ap (λ name. post_of kind 0 name (m.names.peer r)) a.name) (λ r k. k)
+  leaf_at (PostsBack from kind number known back owed fits) =
+      one (ap (λ name. Post (renamed_place m.names from) (Message (bare kind number name))) a.name) known
+  leaf_at (PostsTime r kind number time known owed timely fits) = one (ap (λ name. Post (Peer (m.names.peer r)) (Message (timed kind number time name))) a.name) known
+  leaf_at (PostsReply from w counter known back owed) = only_if (is_in_range x p) _ (is_in_range_alike a x) (one
+      (ap₂ (λ k t. Post (renamed_place m.names from) (Stamp (Reply (record { ticket = k; word = w; counter = counter; reading = t })))) (ticket_alike a.seen) (target_alike a.seen x))
+      known)
+  leaf_at (PostsName from number name known back owed named) = one refl known
+  leaf_at (Repeats r s known owed) = one refl known
+  leaf_at (SettimeBegins r number known owed) = only_if (may_set r number x p) _ (may_set_alike a r number x)
+      (one (ap₂ (λ name t. Post (Peer (m.names.peer r)) (Message (timed SetTime number t name))) a.name (target_alike a.seen x)) known)
+  leaf_at (Loops port owed) = for_others (loop_to port p.name) (loop_to port q.name) (λ r. ap (λ name. loop_to port name (m.names.peer r)) a.name) (λ r k. k)
+  leaf_at (Reposts msg owed) = for_others (repost msg) (repost msg) (λ r. refl) (λ r k. k)
+  leaf_at (Asks r known) =
+      one (ap₂ (λ w k. Post (Peer (m.names.peer r)) (Stamp (Request w (k % 2 ^ 64)))) (word_alike a.seen) (asked_alike a.seen)) known
+  leaf_at (Samples r reply sent now known owed) = one refl known
+  leaf_at (Adjusts amount) = one (ap (Correct amount (is_step amount)) (shown_if amount (is_step amount))) tt
+  leaf_at (Sets value) = one (ap (λ t. Correct (value -ℤ t) true value) (target_alike a.seen x)) tt

@@ -4,8 +4,8 @@ use Rattle.std.{proofs.lemmas.Bool.eq-eqb, proofs.lemmas.Bool.eqb-false, proofs.
 use Rattle.std.proofs.lemmas.List.Elements.{All-nil, All-cons, All-head, All-tail, All-same, All-weaker, All-filter}
 use Rattle.tsp_base.specs.Words.{Past, in_table, is_among, is_measured, is_rival, others, estimate, Seen, Deed, Acts, acting, is_rival_after, is_numbered, open_to, open_to_after, posts_of, open_send, sending_at, is_starting}
 use Rattle.tsp_base.specs.{PortFacts.in_table_after, RoundFacts.is_measured_after}
-use Rattle.tsp_rules.specs.{Guards.rivals_at, Guards.table_at, RoundRows.measured_at, RoundRows.round_at, RoundRows.standing}
-use Rattle.tsp_rules.specs.{NodeRows.PortSetup, SendRows.others_at}
+use Rattle.tsp_rules.specs.{NodeRows.PortSetup, RoundRows.measured_at, RoundRows.round_at, RoundRows.standing}
+use Rattle.tsp_rules.proofs.RowCodes.{Listed, Others, Rivals, Table, Measured}
 use Rattle.tsp_rules.{specs.Renames.Naming, specs.Renames.later_sends, proofs.GuardFacts.same_peer}
 use Rattle.tsp_rules.specs.Values.{PeerId, Boot, Post, Become, Acked, Gave, Join, Leave, Rival, Arm, Message, Stamp, CloseAlarm, Peer, Request}
 use Rattle.tsp_alike.proofs.Alike.{AlikePort, AlikePast, Alike, Booted, Own, Other, here}
@@ -155,32 +155,21 @@ module _ {m : Naming} where
       ∙ sym (among_others p a.own off a.peers)
 
 -- pasts of ports
-module _ {m : Naming} where
-  pub others_at_alike : {p q : Past} → AlikePast m p q → (x : ℕ) → others_at (x + m.names.shift) q ≡ map m.names.peer (others_at x p)
-  others_at_alike a x = a.setup.others_are
-
-  pub rivals_at_alike : {p q : Past} → AlikePast m p q → (x : ℕ) → rivals_at (x + m.names.shift) q ≡ map m.names.peer (rivals_at x p)
-  rivals_at_alike {p = p} {q = q} a x = chosen_alike a.setup (λ r. is_rival r p.seen) (λ r. is_rival r q.seen) (λ r. is_rival_alike r a.seen) (is_rival_unnamed p.own a.setup.apart a.seen)
-
-  pub table_at_alike : {p q : Past} → AlikePast m p q → (x : ℕ) → table_at (x + m.names.shift) q ≡ map m.names.peer (table_at x p)
-  table_at_alike {p = p} {q = q} a x = chosen_alike a.setup (λ r. in_table r p.seen) (λ r. in_table r q.seen) (λ r. in_table_alike r a.seen) (in_table_unnamed p.own a.setup.apart a.seen)
-
-  pub measured_at_alike : {p q : Past} → AlikePast m p q → (x : ℕ) → measured_at (x + m.names.shift) q ≡ map m.names.peer (measured_at x p)
-  measured_at_alike {p = p} {q = q} a x = chosen_alike a.setup (λ r. is_measured r p.seen) (λ r. is_measured r q.seen) (λ r. is_measured_alike r a.seen) (is_measured_unnamed p.own a.setup.apart a.seen)
+module _ {m : Naming} {p q : Past} (a : AlikePast m p q) (x : ℕ) where
+  pub list_same : {fact fact' : ℕ → Past → List PeerId} → Listed m fact fact' → fact' (x + m.names.shift) q ≡ map m.names.peer (fact x p)
+  list_same Others = a.setup.others_are
+  list_same Rivals = chosen_alike a.setup (λ r. is_rival r p.seen) (λ r. is_rival r q.seen) (λ r. is_rival_alike r a.seen) (is_rival_unnamed p.own a.setup.apart a.seen)
+  list_same Table = chosen_alike a.setup (λ r. in_table r p.seen) (λ r. in_table r q.seen) (λ r. in_table_alike r a.seen) (in_table_unnamed p.own a.setup.apart a.seen)
+  list_same Measured = chosen_alike a.setup (λ r. is_measured r p.seen) (λ r. is_measured r q.seen) (λ r. is_measured_alike r a.seen) (is_measured_unnamed p.own a.setup.apart a.seen)
 
   -- they are known
-  pub others_at_known : {p q : Past} → AlikePast m p q → (x : ℕ) → All m.known (others_at x p)
-  others_at_known a x = others_known a.setup
+  pub list_known : {fact fact' : ℕ → Past → List PeerId} → Listed m fact fact' → All m.known (fact x p)
+  list_known Others = others_known a.setup
+  list_known Rivals = chosen_known a.setup (λ r. is_rival r p.seen) (is_rival_unnamed p.own a.setup.apart a.seen)
+  list_known Table = chosen_known a.setup (λ r. in_table r p.seen) (in_table_unnamed p.own a.setup.apart a.seen)
+  list_known Measured = chosen_known a.setup (λ r. is_measured r p.seen) (is_measured_unnamed p.own a.setup.apart a.seen)
 
-  pub rivals_at_known : {p q : Past} → AlikePast m p q → (x : ℕ) → All m.known (rivals_at x p)
-  rivals_at_known {p = p} a x = chosen_known a.setup (λ r. is_rival r p.seen) (is_rival_unnamed p.own a.setup.apart a.seen)
-
-  pub table_at_known : {p q : Past} → AlikePast m p q → (x : ℕ) → All m.known (table_at x p)
-  table_at_known {p = p} a x = chosen_known a.setup (λ r. in_table r p.seen) (in_table_unnamed p.own a.setup.apart a.seen)
-
-  pub measured_at_known : {p q : Past} → AlikePast m p q → (x : ℕ) → All m.known (measured_at x p)
-  measured_at_known {p = p} a x = chosen_known a.setup (λ r. is_measured r p.seen) (is_measured_unnamed p.own a.setup.apart a.seen)
-
+module _ {m : Naming} where
   -- the result of a round
   standings_alike : {seen seen' : List Seen} → Alike m seen seen' → (ps : List PeerId) → map (standing seen') (map m.names.peer ps) ≡ map (renamed_standing m.names) (map (standing seen) ps)
   standings_alike a [] = refl
@@ -189,7 +178,7 @@ module _ {m : Naming} where
       ∙ ap (λ rest. record { peer = m.names.peer p; best = estimate p z } ∷ rest) (standings_alike a ps)
 
   pub round_at_alike : {p q : Past} → AlikePast m p q → (x : ℕ) → round_at (x + m.names.shift) q ≡ map (renamed_standing m.names) (round_at x p)
-  round_at_alike {p = p} {q = q} a x = ap (map (standing q.seen)) (measured_at_alike a x) ∙ standings_alike a.seen (measured_at x p)
+  round_at_alike {p = p} {q = q} a x = ap (map (standing q.seen)) (list_same a x Measured) ∙ standings_alike a.seen (measured_at x p)
 
   pub round_at_known : {p q : Past} → AlikePast m p q → (x : ℕ) → All (λ s. m.known s.peer) (round_at x p)
-  round_at_known {p = p} a x = standings_known m p.seen (measured_at x p) (measured_at_known a x)
+  round_at_known {p = p} a x = standings_known m p.seen (measured_at x p) (list_known a x Measured)
