@@ -14,7 +14,7 @@ use Rattle.tsp_rules.specs.Renames.{Renaming, Naming, renamed_act, renamed_place
 use Rattle.tsp_base.specs.Words.{Past, plain, arms, bare, nothing, others, post_of, posts, posts_back, posts_time, posts_to_others, puts, shown, timed, word, either_by, reading, kept_name, role, Step, Acts, Row, Seen, added, grown, ◌followed_by◌, for_each}
 use Rattle.tsp_alike.proofs.{Alike.AlikePast, Alike.Alike, Alike.Own, PortAlike.kept_name_alike, PortAlike.role_alike, PortAlike.role_known}
 use Rattle.tsp_alike.proofs.{RoundsAlike.asked_alike, RoundsAlike.request_open_alike, SendsAlike.begun_alike}
-use Rattle.tsp_alike.proofs.NodeAlike.{shown_alike, word_alike, target_alike, ticket_alike}
+use Rattle.tsp_alike.proofs.NodeAlike.{plain_alike, shown_alike, word_alike, target_alike, ticket_alike}
 use Rattle.tsp_alike.proofs.{TestsAlike.is_in_range_alike, TestsAlike.may_set_alike, ListsAlike.list_known, NodesAlike.later_known, Moves.Moves, Moves.MovesAt}
 
 -- how moving rows are put together
@@ -94,9 +94,9 @@ name_in_role n _ own kept = refl
 module _ {m : Naming} {p q : Past} (a : AlikePast m p q) (x : ℕ) where
   pub fact_same : {A : Type 0} {f : A → A} {told : A → Type 0} {fact fact' : ℕ → Past → A} → Fact m A f told fact fact' → fact' (x + m.names.shift) q ≡ f (fact x p)
   fact_same RoleAt = role_alike a.seen
-  fact_same DelayAt = ap delay (word_alike a.seen)
+  fact_same DelayAt = ap delay (word_alike (plain_alike a.seen))
   fact_same OwnAt = a.setup.own
-  fact_same TargetAt = target_alike a.seen x
+  fact_same TargetAt = target_alike (plain_alike a.seen) x
   fact_same (RequestAt r counter) = request_open_alike r counter a.seen
 
   -- a followed peer is known, and a candidate may stand for election
@@ -105,8 +105,8 @@ module _ {m : Naming} {p q : Past} (a : AlikePast m p q) (x : ℕ) where
   fact_told _ = tt
 
   pub value_same : {A : Type 0} {f : A → A} {value : A → Value} {fact fact' : ℕ → Past → A} → Valued m A f value fact fact' → fact' (x + m.names.shift) q ≡ f (fact x p)
-  value_same TicketAt = ticket_alike a.seen
-  value_same NextNumber = ap₂ (λ w k. 32768 + (w + k) % 32768) (word_alike a.seen) (begun_alike a.seen)
+  value_same TicketAt = ticket_alike (plain_alike a.seen)
+  value_same NextNumber = ap₂ (λ w k. 32768 + (w + k) % 32768) (word_alike (plain_alike a.seen)) (begun_alike a.seen)
   value_same MasterName =
       ap₂ (λ r own. master_name_in r own (kept_name q.seen)) (role_alike a.seen) a.name
       ∙ name_in_role m.names (role p.seen) p.name (kept_name q.seen)
@@ -143,8 +143,8 @@ module _ {m : Naming} {p q : Past} (a : AlikePast m p q) (x : ℕ) where
 
   -- the value that a correction shows
   shown_if : (amount : ℤ) (b : Bool) → (if b then target_at (x + m.names.shift) q +ℤ amount else shown (plain q.seen) (x + m.names.shift)) ≡ (if b then target_at x p +ℤ amount else shown (plain p.seen) x)
-  shown_if amount true = ap (λ t. t +ℤ amount) (target_alike a.seen x)
-  shown_if amount false = shown_alike a.seen x
+  shown_if amount true = ap (λ t. t +ℤ amount) (target_alike (plain_alike a.seen) x)
+  shown_if amount false = shown_alike (plain_alike a.seen) x
 
   pub leaf_at : {few : List Sort} {k c : ℕ} {r r' : Row} → Leaf m nothing_owed few k c r r' → MovesAt m (r x p) (r' (x + m.names.shift) q)
   unfolding puts arms posts posts_to_others posts_back posts_time replies posts_reply repeats begins_settime reading either_by nothing sends_loops reposts asks adjusts sets
@@ -157,16 +157,16 @@ module _ {m : Naming} {p q : Past} (a : AlikePast m p q) (x : ℕ) where
       one (ap (λ name. Post (renamed_place m.names from) (Message (bare kind number name))) a.name) known
   leaf_at (PostsTime r kind number time known owed timely fits) = one (ap (λ name. Post (Peer (m.names.peer r)) (Message (timed kind number time name))) a.name) known
   leaf_at (PostsReply from w counter known back owed) = only_if (is_in_range x p) _ (is_in_range_alike a x) (one
-      (ap₂ (λ k t. Post (renamed_place m.names from) (Stamp (Reply (record { ticket = k; word = w; counter = counter; reading = t })))) (ticket_alike a.seen) (target_alike a.seen x))
+      (ap₂ (λ k t. Post (renamed_place m.names from) (Stamp (Reply (record { ticket = k; word = w; counter = counter; reading = t })))) (ticket_alike (plain_alike a.seen)) (target_alike (plain_alike a.seen) x))
       known)
   leaf_at (PostsName from number name known back owed named) = one refl known
   leaf_at (Repeats r s known owed) = one refl known
   leaf_at (SettimeBegins r number known owed) = only_if (may_set r number x p) _ (may_set_alike a r number x)
-      (one (ap₂ (λ name t. Post (Peer (m.names.peer r)) (Message (timed SetTime number t name))) a.name (target_alike a.seen x)) known)
+      (one (ap₂ (λ name t. Post (Peer (m.names.peer r)) (Message (timed SetTime number t name))) a.name (target_alike (plain_alike a.seen) x)) known)
   leaf_at (Loops port owed) = for_others (loop_to port p.name) (loop_to port q.name) (λ r. ap (λ name. loop_to port name (m.names.peer r)) a.name) (λ r k. k)
   leaf_at (Reposts msg owed) = for_others (repost msg) (repost msg) (λ r. refl) (λ r k. k)
   leaf_at (Asks r known) =
-      one (ap₂ (λ w k. Post (Peer (m.names.peer r)) (Stamp (Request w (k % 2 ^ 64)))) (word_alike a.seen) (asked_alike a.seen)) known
+      one (ap₂ (λ w k. Post (Peer (m.names.peer r)) (Stamp (Request w (k % 2 ^ 64)))) (word_alike (plain_alike a.seen)) (asked_alike a.seen)) known
   leaf_at (Samples r reply sent now known owed) = one refl known
   leaf_at (Adjusts amount) = one (ap (Correct amount (is_step amount)) (shown_if amount (is_step amount))) tt
-  leaf_at (Sets value) = one (ap (λ t. Correct (value -ℤ t) true value) (target_alike a.seen x)) tt
+  leaf_at (Sets value) = one (ap (λ t. Correct (value -ℤ t) true value) (target_alike (plain_alike a.seen) x)) tt

@@ -2,15 +2,14 @@
 use Rattle.std.proofs.Common.{ap, sym, ◌∙◌, ◌≡◌, ℕ, ◌+◌, ◌==◌, Bool, true, false, not, ◌||◌, if◌then◌else◌, List, [], ◌∷◌, map, filter, refl, None, ◌&&◌}
 use Rattle.std.{proofs.lemmas.Bool.eq-eqb, proofs.lemmas.Bool.eqb-false, proofs.lemmas.Bool.ne_eqb, specs.List.All}
 use Rattle.std.proofs.lemmas.List.Elements.{All-nil, All-cons, All-head, All-tail, All-same, All-weaker, All-filter}
-use Rattle.tsp_base.specs.Words.{Past, in_table, is_among, is_measured, is_rival, others, estimate, Seen, Deed, Acts, acting, is_rival_after, is_numbered, open_to, open_to_after, posts_of, open_send, sending_at, is_starting}
-use Rattle.tsp_base.specs.{PortFacts.in_table_after, RoundFacts.is_measured_after}
+use Rattle.tsp_base.specs.Words.{Past, in_table, is_among, is_measured, is_rival, others, estimate, Seen, Acts, acting, is_numbered, open_to, posts_of, open_send, sending_at, is_starting}
 use Rattle.tsp_rules.specs.{NodeRows.PortSetup, RoundRows.measured_at, RoundRows.round_at, RoundRows.standing}
 use Rattle.tsp_rules.proofs.RowCodes.{Listed, Others, Rivals, Table, Measured}
 use Rattle.tsp_rules.{specs.Renames.Naming, specs.Renames.later_sends, proofs.GuardFacts.same_peer}
 use Rattle.tsp_rules.specs.Values.{PeerId, Boot, Post, Become, Acked, Gave, Join, Leave, Rival, Arm, Message, Stamp, CloseAlarm, Peer, Request}
 use Rattle.tsp_alike.proofs.Alike.{AlikePort, AlikePast, Alike, Booted, Own, Other, here}
 use Rattle.tsp_alike.proofs.{PortAlike.in_table_alike, PortAlike.is_rival_alike, RoundsAlike.is_measured_alike, RoundsAlike.estimate_alike}
-use Rattle.tsp_alike.{proofs.Renamed.renamed_standing, proofs.SendsAlike.open_send_alike, specs.AlikeNodes.KnowsDeed}
+use Rattle.tsp_alike.{proofs.Renamed.renamed_standing, proofs.SendsAlike.open_send_alike}
 
 -- acts name only known peers: of any other peer, as the port's own number, a past says nothing
 
@@ -18,63 +17,51 @@ use Rattle.tsp_alike.{proofs.Renamed.renamed_standing, proofs.SendsAlike.open_se
 abbrev pub Unnamed : Naming → PeerId → Type 0
 Unnamed m o = (p : PeerId) → m.known p → (p.0 == o.0) ≡ false
 
--- what a deed leaves as it is
-module _ (m : Naming) where
-  in_table_deed : (o : PeerId) → Unnamed m o → (d : Deed) (was : Bool) → KnowsDeed m d → was ≡ false → in_table_after o d was ≡ false
-  in_table_deed o u (Acts Boot) was knows e = refl
-  in_table_deed o u (Acts (Become r)) was knows e = refl
-  in_table_deed o u (Acts (Join q)) was knows e = ap (λ b. if b then true else was) (u q knows) ∙ e
-  in_table_deed o u (Acts (Leave q)) was knows e = ap (λ b. if b then false else was) (u q knows) ∙ e
-  in_table_deed o u _ was knows e = e
+module _ {m : Naming} (o : PeerId) (u : Unnamed m o) where
+  pub in_table_unnamed : {seen seen' : List Seen} → Alike m seen seen' → in_table o seen ≡ false
+  in_table_unnamed (Booted s s' boot x old old') = refl
+  in_table_unnamed (Own s s' x (Acts Boot) ok knows a) = refl
+  in_table_unnamed (Own s s' x (Acts (Become r)) ok knows a) = refl
+  in_table_unnamed (Own s s' x (Acts (Join q)) ok knows {before = b} a) = ap (λ z. if z then true else in_table o b) (u q knows) ∙ in_table_unnamed a
+  in_table_unnamed (Own s s' x (Acts (Leave q)) ok knows {before = b} a) = ap (λ z. if z then false else in_table o b) (u q knows) ∙ in_table_unnamed a
+  in_table_unnamed (Own s s' x _ ok knows a) = in_table_unnamed a
+  in_table_unnamed (Other n shift s s' x d ok a) = in_table_unnamed a
 
-  is_rival_deed : (o : PeerId) → Unnamed m o → (d : Deed) (was : Bool) → KnowsDeed m d → was ≡ false → is_rival_after o d was ≡ false
-  is_rival_deed o u (Acts Boot) was knows e = refl
-  is_rival_deed o u (Acts (Become r)) was knows e = refl
-  is_rival_deed o u (Acts (Rival q)) was knows e = ap (λ b. if b then true else was) (u q knows) ∙ e
-  is_rival_deed o u _ was knows e = e
+  pub is_rival_unnamed : {seen seen' : List Seen} → Alike m seen seen' → is_rival o seen ≡ false
+  is_rival_unnamed (Booted s s' boot x old old') = refl
+  is_rival_unnamed (Own s s' x (Acts Boot) ok knows a) = refl
+  is_rival_unnamed (Own s s' x (Acts (Become r)) ok knows a) = refl
+  is_rival_unnamed (Own s s' x (Acts (Rival q)) ok knows {before = b} a) = ap (λ z. if z then true else is_rival o b) (u q knows) ∙ is_rival_unnamed a
+  is_rival_unnamed (Own s s' x _ ok knows a) = is_rival_unnamed a
+  is_rival_unnamed (Other n shift s s' x d ok a) = is_rival_unnamed a
 
-  is_measured_deed : (o : PeerId) → Unnamed m o → (d : Deed) (starts was : Bool) → KnowsDeed m d → was ≡ false → is_measured_after o d starts was ≡ false
-  is_measured_deed o u (Acts Boot) starts was knows e = refl
-  is_measured_deed o u (Acts (Become r)) starts was knows e = refl
-  is_measured_deed o u (Acts (Arm CloseAlarm at)) starts was knows e = refl
-  is_measured_deed o u (Acts (Post (Peer q) (Stamp (Request word counter)))) starts was knows e = ap (λ b. if b && starts then true else was) (u q knows) ∙ e
-  is_measured_deed o u (Acts (Leave q)) starts was knows e = ap (λ b. if b then false else was) (u q knows) ∙ e
-  is_measured_deed o u _ starts was knows e = e
+  pub is_measured_unnamed : {seen seen' : List Seen} → Alike m seen seen' → is_measured o seen ≡ false
+  is_measured_unnamed (Booted s s' boot x old old') = refl
+  is_measured_unnamed (Own s s' x (Acts Boot) ok knows a) = refl
+  is_measured_unnamed (Own s s' x (Acts (Become r)) ok knows a) = refl
+  is_measured_unnamed (Own s s' x (Acts (Arm CloseAlarm at)) ok knows a) = refl
+  is_measured_unnamed (Own s s' x (Acts (Post (Peer q) (Stamp (Request word counter)))) ok knows {before = b} a) =
+      ap (λ z. if z && is_starting b then true else is_measured o b) (u q knows) ∙ is_measured_unnamed a
+  is_measured_unnamed (Own s s' x (Acts (Leave q)) ok knows {before = b} a) = ap (λ z. if z then false else is_measured o b) (u q knows) ∙ is_measured_unnamed a
+  is_measured_unnamed (Own s s' x _ ok knows a) = is_measured_unnamed a
+  is_measured_unnamed (Other n shift s s' x d ok a) = is_measured_unnamed a
 
-  open_to_deed : (o : PeerId) → Unnamed m o → (d : Deed) (begins : Bool) (now was : List Seen) → KnowsDeed m d → was ≡ [] → open_to_after o d begins now was ≡ []
-  open_to_deed o u (Acts Boot) begins now was knows e = refl
-  open_to_deed o u (Acts (Become r)) begins now was knows e = refl
-  open_to_deed o u (Acts (Post (Peer q) (Message msg))) begins now was knows e = ap (λ b. if b && (is_numbered msg.kind && begins) then now else was) (u q knows) ∙ e
-  open_to_deed o u (Acts (Acked q)) begins now was knows e = ap (λ b. if b then [] else was) (u q knows) ∙ e
-  open_to_deed o u (Acts (Gave q)) begins now was knows e = ap (λ b. if b then [] else was) (u q knows) ∙ e
-  open_to_deed o u _ begins now was knows e = e
+  open_to_unnamed : {seen seen' : List Seen} → Alike m seen seen' → open_to o seen ≡ []
+  open_to_unnamed (Booted s s' boot x old old') = refl
+  open_to_unnamed (Own s s' x (Acts Boot) ok knows a) = refl
+  open_to_unnamed (Own s s' x (Acts (Become r)) ok knows a) = refl
+  open_to_unnamed (Own s s' x (Acts (Post (Peer q) (Message msg))) ok knows {before = b} a) =
+      ap (λ z. if z && (is_numbered msg.kind && acting b) then here s x (Acts (Post (Peer q) (Message msg))) ∷ b else open_to o b) (u q knows) ∙ open_to_unnamed a
+  open_to_unnamed (Own s s' x (Acts (Acked q)) ok knows {before = b} a) = ap (λ z. if z then [] else open_to o b) (u q knows) ∙ open_to_unnamed a
+  open_to_unnamed (Own s s' x (Acts (Gave q)) ok knows {before = b} a) = ap (λ z. if z then [] else open_to o b) (u q knows) ∙ open_to_unnamed a
+  open_to_unnamed (Own s s' x _ ok knows a) = open_to_unnamed a
+  open_to_unnamed (Other n shift s s' x d ok a) = open_to_unnamed a
 
-module _ {m : Naming} where
-  pub in_table_unnamed : (o : PeerId) → Unnamed m o → {seen seen' : List Seen} → Alike m seen seen' → in_table o seen ≡ false
-  in_table_unnamed o u (Booted s s' boot x old old') = refl
-  in_table_unnamed o u (Own s s' x d ok knows {before = b} a) = in_table_deed m o u d (in_table o b) knows (in_table_unnamed o u a)
-  in_table_unnamed o u (Other n shift s s' x d ok a) = in_table_unnamed o u a
+  pub open_send_unnamed : {seen seen' : List Seen} → Alike m seen seen' → open_send o seen ≡ None
+  open_send_unnamed {seen = z} a = ap (λ place. sending_at place (posts_of o z)) (open_to_unnamed a)
 
-  pub is_rival_unnamed : (o : PeerId) → Unnamed m o → {seen seen' : List Seen} → Alike m seen seen' → is_rival o seen ≡ false
-  is_rival_unnamed o u (Booted s s' boot x old old') = refl
-  is_rival_unnamed o u (Own s s' x d ok knows {before = b} a) = is_rival_deed m o u d (is_rival o b) knows (is_rival_unnamed o u a)
-  is_rival_unnamed o u (Other n shift s s' x d ok a) = is_rival_unnamed o u a
-
-  pub is_measured_unnamed : (o : PeerId) → Unnamed m o → {seen seen' : List Seen} → Alike m seen seen' → is_measured o seen ≡ false
-  is_measured_unnamed o u (Booted s s' boot x old old') = refl
-  is_measured_unnamed o u (Own s s' x d ok knows {before = b} a) = is_measured_deed m o u d (is_starting b) (is_measured o b) knows (is_measured_unnamed o u a)
-  is_measured_unnamed o u (Other n shift s s' x d ok a) = is_measured_unnamed o u a
-
-  open_to_unnamed : (o : PeerId) → Unnamed m o → {seen seen' : List Seen} → Alike m seen seen' → open_to o seen ≡ []
-  open_to_unnamed o u (Booted s s' boot x old old') = refl
-  open_to_unnamed o u (Own s s' x d ok knows {before = b} a) = open_to_deed m o u d (acting b) (here s x d ∷ b) (open_to o b) knows (open_to_unnamed o u a)
-  open_to_unnamed o u (Other n shift s s' x d ok a) = open_to_unnamed o u a
-
-  pub open_send_unnamed : (o : PeerId) → Unnamed m o → {seen seen' : List Seen} → Alike m seen seen' → open_send o seen ≡ None
-  open_send_unnamed o u {seen = z} a = ap (λ place. sending_at place (posts_of o z)) (open_to_unnamed o u a)
-
-  pub open_send_renamed : (o : PeerId) → Unnamed m o → {seen seen' : List Seen} → Alike m seen seen' → open_send (m.names.peer o) seen' ≡ None
-  open_send_renamed o u a = open_send_alike o a ∙ ap (later_sends m.names) (open_send_unnamed o u a)
+  pub open_send_renamed : {seen seen' : List Seen} → Alike m seen seen' → open_send (m.names.peer o) seen' ≡ None
+  open_send_renamed a = open_send_alike o a ∙ ap (later_sends m.names) (open_send_unnamed a)
 
 -- the renamed peers that pass a test, if renaming doesn't change what it says
 pub filter_renamed : (f : PeerId → PeerId) (t t' : PeerId → Bool) → ((p : PeerId) → t' (f p) ≡ t p) → (ps : List PeerId) → filter t' (map f ps) ≡ map f (filter t ps)

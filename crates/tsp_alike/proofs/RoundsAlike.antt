@@ -1,56 +1,37 @@
 -- Facts of a port's rounds at alike pasts.
-use Rattle.std.proofs.Common.{ap, ap₂, sym, ◌∙◌, ◌≡◌, ℕ, ◌+◌, ◌==◌, ℤ, ◌-ℤ◌, int_lt, Bool, true, false, ◌&&◌, if◌then◌else◌, List, ◌∷◌, Option, None, Some, is_some, refl}
+use Rattle.std.proofs.Common.{[], ap, ap₂, sym, ◌∙◌, ◌≡◌, ℕ, ◌+◌, ◌==◌, ℤ, ◌-ℤ◌, int_lt, Bool, true, false, ◌&&◌, if◌then◌else◌, List, ◌∷◌, Option, None, Some, is_some, refl}
 use Rattle.tsp_rules.specs.Values.{Boot, Post, Become, Arm, Ring, Late, Leave, Sample, Abandon, Stamp, Probe, CloseAlarm, PeerId, Peer, Request}
 use Rattle.tsp_rules.specs.Renames.{Renaming, Naming}
-use Rattle.tsp_base.specs.Words.{Deed, Acts, Step, Seen, is_going, is_starting, is_measured, asked, asked_after, exchange, exchange_after, probes, target_there, target, plain, armed, Sampled, better, best, best_after, request_at_place, request_open, Estimate, estimate, estimate_of}
+use Rattle.tsp_base.specs.Words.{Deed, Acts, Step, Seen, is_going, is_starting, is_measured, asked, asked_after, exchange, exchange_after, probes, target_there, target, plain, armed, Sampled, better, best, best_after, request_at_place, request_open, estimate, estimate_of}
 use Rattle.tsp_base.specs.RoundFacts.{is_starting_after, is_measured_after, word_asked_by, probes_after}
 use Rattle.tsp_alike.proofs.Alike.{Alike, Booted, Own, Other, here}
 use Rattle.tsp_alike.{proofs.PortAlike.armed_alike, proofs.Renamed.later, specs.AlikeNodes.renamed_deed}
-use Rattle.tsp_alike.proofs.{NodeAlike.target_alike, SendsAlike.AlikePlaces, SendsAlike.Nowhere, SendsAlike.There, SendsAlike.either_place}
+use Rattle.tsp_alike.proofs.{NodeAlike.plain_alike, NodeAlike.target_alike, SendsAlike.AlikePlaces, SendsAlike.Nowhere, SendsAlike.There, SendsAlike.either_place}
 
--- what an estimate takes from a sample, and by what samples are compared
-pub record Trip : Type 0 where
-  pub diff : ℤ
-  pub ticket : ℕ
-  pub trip : ℤ
+-- a sample without its place, which is all that an estimate doesn't read
+abbrev placeless : Option Sampled → Option Sampled
+placeless None = None
+placeless (Some s) = Some (record s { place = [] })
 
--- what is taken from a sample, if there is one
-abbrev trip_in : Option Sampled → Option Trip
-trip_in None = None
-trip_in (Some s) = Some (record { diff = s.diff; ticket = s.ticket; trip = s.trip })
-
--- the shorter of two round trips, the earlier if they are equal
-abbrev shorter : Option Trip → Trip → Trip
-shorter None late = late
-shorter (Some early) late = if int_lt late.trip early.trip then late else early
-
--- the estimate that a round trip gives
-abbrev trip_said : Option Trip → Option Estimate
-trip_said None = None
-trip_said (Some t) = Some (record { diff = t.diff; ticket = t.ticket })
-
-shorter_in : (was : Option Sampled) (late : Sampled) → trip_in (Some (better was late)) ≡ Some (shorter (trip_in was) (record { diff = late.diff; ticket = late.ticket; trip = late.trip }))
-shorter_in None late = refl
-shorter_in (Some early) late = by_case (int_lt late.trip early.trip) where
-  by_case : (b : Bool) → trip_in (Some (if b then late else early)) ≡ Some (if b then record { diff = late.diff; ticket = late.ticket; trip = late.trip } else record { diff = early.diff; ticket = early.ticket; trip = early.trip })
+better_placeless : (was : Option Sampled) (late : Sampled) → placeless (Some (better was late)) ≡ Some (better (placeless was) (record late { place = [] }))
+better_placeless None late = refl
+better_placeless (Some early) late = by_case (int_lt late.trip early.trip) where
+  by_case : (b : Bool) → placeless (Some (if b then late else early)) ≡ Some (if b then record late { place = [] } else record early { place = [] })
   by_case true = refl
   by_case false = refl
 
-said_in : (o : Option Sampled) → estimate_of o ≡ trip_said (trip_in o)
-said_in None = refl
-said_in (Some s) = refl
+-- what the best sample says after one more, if that is of the same peer
+after_placeless : (same : Bool) (was : Option Sampled) (late : Sampled) → placeless (if same then Some (better was late) else was) ≡ (if same then Some (better (placeless was) (record late { place = [] })) else placeless was)
+after_placeless true was late = better_placeless was late
+after_placeless false was late = refl
 
--- what the best sample says after one more, where that is of the same peer
-abbrev after_trip : Bool → Option Trip → Trip → Option Trip
-after_trip same was late = if same then Some (shorter was late) else was
+estimate_placeless : (o : Option Sampled) → estimate_of o ≡ estimate_of (placeless o)
+estimate_placeless None = refl
+estimate_placeless (Some s) = refl
 
--- what a sample says that was taken at a place
-abbrev sampled_at : (counter : ℕ) (diff err : ℤ) (ticket : ℕ) (trip : ℤ) → List Seen → Sampled
-sampled_at counter diff err ticket trip place = record { counter = counter; diff = diff; err = err; ticket = ticket; trip = trip; place = place }
-
-trip_after : (same : Bool) (was : Option Sampled) (late : Sampled) → trip_in (if same then Some (better was late) else was) ≡ after_trip same (trip_in was) (record { diff = late.diff; ticket = late.ticket; trip = late.trip })
-trip_after true was late = shorter_in was late
-trip_after false was late = refl
+-- what a sample says
+abbrev sampled : (counter : ℕ) (diff err : ℤ) (ticket : ℕ) → ℤ → List Seen → Sampled
+sampled counter diff err ticket trip place = record { counter = counter; diff = diff; err = err; ticket = ticket; trip = trip; place = place }
 
 -- what a deed does to a fact, with other names
 module _ (n : Renaming) where
@@ -128,13 +109,13 @@ module _ {m : Naming} where
 
   target_there_alike : {place place' : List Seen} → AlikePlaces m place place' → target_there place' ≡ target_there place
   target_there_alike Nowhere = refl
-  target_there_alike (There s s' x d a) = target_alike a x
+  target_there_alike (There s s' x d a) = target_alike (plain_alike a) x
 
   request_at_alike : {place place' : List Seen} → AlikePlaces m place place' → request_at_place place' ≡ request_at_place place
   request_at_alike Nowhere = refl
   request_at_alike (There s s' x d {before = b} {before' = b'} a) =
       ap (λ w. Some (record { word = w; target = target_there (here s' (x + m.names.shift) (renamed_deed m.names d) ∷ b') })) (word_deed m.names d)
-      ∙ ap (λ t. Some (record { word = word_asked_by d; target = t })) (target_alike a x)
+      ∙ ap (λ t. Some (record { word = word_asked_by d; target = t })) (target_alike (plain_alike a) x)
 
   pub request_open_alike : (p : PeerId) (c : ℕ) → {seen seen' : List Seen} → Alike m seen seen' → request_open (m.names.peer p) c seen' ≡ request_open p c seen
   request_open_alike p c a = request_at_alike (exchange_alike p c a)
@@ -142,30 +123,28 @@ module _ {m : Naming} where
   -- the round trip of a sample
   trip_alike : {seen seen' : List Seen} → Alike m seen seen' → (p : PeerId) (c x : ℕ) →
       target (plain seen') (x + m.names.shift) -ℤ target_there (exchange (m.names.peer p) c seen') ≡ target (plain seen) x -ℤ target_there (exchange p c seen)
-  trip_alike {seen = z} {seen' = z'} a p c x = ap (λ t. t -ℤ target_there (exchange (m.names.peer p) c z')) (target_alike a x) ∙ ap (λ t. target (plain z) x -ℤ t) (target_there_alike (exchange_alike p c a))
+  trip_alike a p c x = ap₂ ◌-ℤ◌ (target_alike (plain_alike a) x) (target_there_alike (exchange_alike p c a))
 
-  best_deed : (p : PeerId) (d : Deed) (s s' : Step) (x : ℕ) → {seen seen' : List Seen} → Alike m seen seen' → (was was' : Option Sampled) → trip_in was' ≡ trip_in was →
-      trip_in (best_after (m.names.peer p) (renamed_deed m.names d) (here s' (x + m.names.shift) (renamed_deed m.names d) ∷ seen') seen' was') ≡ trip_in (best_after p d (here s x d ∷ seen) seen was)
+  best_deed : (p : PeerId) (d : Deed) (s s' : Step) (x : ℕ) → {seen seen' : List Seen} → Alike m seen seen' → (was was' : Option Sampled) → placeless was' ≡ placeless was →
+      placeless (best_after (m.names.peer p) (renamed_deed m.names d) (here s' (x + m.names.shift) (renamed_deed m.names d) ∷ seen') seen' was') ≡ placeless (best_after p d (here s x d ∷ seen) seen was)
   best_deed p (Acts Boot) s s' x a was was' e = refl
   best_deed p (Acts (Become r)) s s' x a was was' e = refl
   best_deed p (Acts (Arm CloseAlarm at)) s s' x a was was' e = refl
   best_deed p (Acts (Arm alarm at)) s s' x a was was' e = e
   best_deed p (Acts (Sample q counter diff err ticket)) s s' x {seen = z} {seen' = z'} a was was' e =
-      let now = here s x (Acts (Sample q counter diff err ticket)) ∷ z in
-      let now' = here s' (x + m.names.shift) (Acts (Sample (m.names.peer q) counter diff err ticket)) ∷ z' in
+      let of : ℤ → List Seen → Sampled = sampled counter diff err ticket in
       let trip = target (plain z) x -ℤ target_there (exchange p counter z) in
       let trip' = target (plain z') (x + m.names.shift) -ℤ target_there (exchange (m.names.peer p) counter z') in
-      trip_after ((m.names.peer q).0 == (m.names.peer p).0) was' (sampled_at counter diff err ticket trip' now')
-      ∙ ap (λ same. after_trip same (trip_in was') (record { diff = diff; ticket = ticket; trip = trip' })) (m.same q p)
-      ∙ ap (λ w. after_trip (q.0 == p.0) w (record { diff = diff; ticket = ticket; trip = trip' })) e
-      ∙ ap (λ t. after_trip (q.0 == p.0) (trip_in was) (record { diff = diff; ticket = ticket; trip = t })) (trip_alike a p counter x)
-      ∙ sym (trip_after (q.0 == p.0) was (sampled_at counter diff err ticket trip now))
+      after_placeless ((m.names.peer q).0 == (m.names.peer p).0) was' (of trip' (here s' (x + m.names.shift) (Acts (Sample (m.names.peer q) counter diff err ticket)) ∷ z'))
+      ∙ ap (λ same. if same then Some (better (placeless was') (of trip' [])) else placeless was') (m.same q p)
+      ∙ ap₂ (λ w t. if q.0 == p.0 then Some (better w (of t [])) else w) e (trip_alike a p counter x)
+      ∙ sym (after_placeless (q.0 == p.0) was (of trip (here s x (Acts (Sample q counter diff err ticket)) ∷ z)))
   best_deed p _ s s' x a was was' e = e
 
-  best_alike : (p : PeerId) → {seen seen' : List Seen} → Alike m seen seen' → trip_in (best (m.names.peer p) seen') ≡ trip_in (best p seen)
+  best_alike : (p : PeerId) → {seen seen' : List Seen} → Alike m seen seen' → placeless (best (m.names.peer p) seen') ≡ placeless (best p seen)
   best_alike p (Booted s s' boot x old old') = refl
   best_alike p (Own s s' x d ok knows {before = b} {before' = b'} a) = best_deed p d s s' x a (best p b) (best (m.names.peer p) b') (best_alike p a)
   best_alike p (Other n shift s s' x d ok a) = best_alike p a
 
   pub estimate_alike : (p : PeerId) → {seen seen' : List Seen} → Alike m seen seen' → estimate (m.names.peer p) seen' ≡ estimate p seen
-  estimate_alike p {seen = z} {seen' = z'} a = said_in (best (m.names.peer p) z') ∙ ap trip_said (best_alike p a) ∙ sym (said_in (best p z))
+  estimate_alike p {seen = z} {seen' = z'} a = estimate_placeless (best (m.names.peer p) z') ∙ ap estimate_of (best_alike p a) ∙ sym (estimate_placeless (best p z))

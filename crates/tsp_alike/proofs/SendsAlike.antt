@@ -1,8 +1,8 @@
 -- Facts of a port's numbered sends at alike pasts.
-use Rattle.std.proofs.Common.{ap, ap₂, sym, subst, ◌∙◌, ◌≡◌, ℕ, ◌+◌, ◌==◌, Bool, true, false, ◌&&◌, if◌then◌else◌, List, ◌∷◌, Option, None, Some, refl, true≢false, []}
+use Rattle.std.proofs.Common.{ap, ap₂, sym, ◌∙◌, ◌≡◌, ℕ, ◌+◌, ◌==◌, Bool, true, false, ◌&&◌, if◌then◌else◌, List, ◌∷◌, Option, None, Some, refl, true≢false, []}
 use Rattle.tsp_rules.specs.Values.{Boot, Post, Become, Acked, Gave, Correct, Message, PeerId, Peer}
 use Rattle.tsp_rules.specs.Renames.{Renaming, Naming, later_sends}
-use Rattle.tsp_base.specs.Words.{Deed, Acts, Seen, Received, Said, said, taken, acting, is_correction, is_numbered, is_date_request, is_set_date_request, open_to, open_to_after, begun_to, begun_to_after, posts_of, posts_of_after, message_at, sending_at, open_send, begun, begun_after, last_to, last_to_after, number_of, last_number, last_post, last_post_after, corrects_by, is_acknowledged, is_acknowledged_after, Correcting, correcting_of, last_taken, last_taken_after, last_taken_elsewhere, Dating, dating_of, last_date, last_date_after, last_asked, last_asked_after, Step, MessageValue, message_of, sending_of}
+use Rattle.tsp_base.specs.Words.{Deed, Acts, Seen, Received, Said, said, taken, acting, is_correction, is_numbered, is_date_request, is_set_date_request, open_to, posts_of, posts_of_after, message_at, sending_at, open_send, begun, begun_after, last_to, number_of, last_number, last_post, last_post_after, corrects_by, is_acknowledged, is_acknowledged_after, Correcting, correcting_of, last_taken, last_taken_after, last_taken_elsewhere, Dating, dating_of, last_date, last_date_after, last_asked, last_asked_after, Step, MessageValue, message_of, sending_of}
 use Rattle.tsp_alike.specs.AlikeNodes.{renamed_deed}
 use Rattle.tsp_alike.proofs.Alike.{Alike, Booted, Own, Other, here}
 use Rattle.tsp_alike.proofs.PortAlike.{acting_alike, taken_alike, said_renamed}
@@ -71,24 +71,6 @@ module _ (n : Renaming) where
 
 -- the same for one peer, where peers are told apart
 module _ (m : Naming) where
-  open_to_deed : (p : PeerId) (d : Deed) (begins : Bool) → {z z' was was' : List Seen} → AlikePlaces m z z' → AlikePlaces m was was' → AlikePlaces m (open_to_after p d begins z was) (open_to_after (m.names.peer p) (renamed_deed m.names d) begins z' was')
-  open_to_deed p (Acts Boot) begins now k = Nowhere
-  open_to_deed p (Acts (Become r)) begins now k = Nowhere
-  open_to_deed p (Acts (Post (Peer q) (Message msg))) begins now k = either_place m ((q.0 == p.0) && (is_numbered msg.kind && begins)) (((m.names.peer q).0 == (m.names.peer p).0) && (is_numbered msg.kind && begins)) (ap (λ b. b && (is_numbered msg.kind && begins)) (m.same q p)) now k
-  open_to_deed p (Acts (Acked q)) begins now k = either_place m (q.0 == p.0) ((m.names.peer q).0 == (m.names.peer p).0) (m.same q p) Nowhere k
-  open_to_deed p (Acts (Gave q)) begins now k = either_place m (q.0 == p.0) ((m.names.peer q).0 == (m.names.peer p).0) (m.same q p) Nowhere k
-  open_to_deed p _ begins now k = k
-
-  begun_to_deed : (p : PeerId) (d : Deed) (begins : Bool) → {z z' was was' : List Seen} → AlikePlaces m z z' → AlikePlaces m was was' → AlikePlaces m (begun_to_after p d begins z was) (begun_to_after (m.names.peer p) (renamed_deed m.names d) begins z' was')
-  begun_to_deed p (Acts Boot) begins now k = Nowhere
-  begun_to_deed p (Acts (Post (Peer q) (Message msg))) begins now k = either_place m ((q.0 == p.0) && (is_numbered msg.kind && begins)) (((m.names.peer q).0 == (m.names.peer p).0) && (is_numbered msg.kind && begins)) (ap (λ b. b && (is_numbered msg.kind && begins)) (m.same q p)) now k
-  begun_to_deed p _ begins now k = k
-
-  last_to_deed : (p : PeerId) (d : Deed) (begins : Bool) → {z z' was was' : List Seen} → AlikePlaces m z z' → AlikePlaces m was was' → AlikePlaces m (last_to_after p d begins z was) (last_to_after (m.names.peer p) (renamed_deed m.names d) begins z' was')
-  last_to_deed p (Acts Boot) begins now k = Nowhere
-  last_to_deed p (Acts (Post (Peer q) (Message msg))) begins now k = either_place m ((q.0 == p.0) && (is_correction msg.kind && begins)) (((m.names.peer q).0 == (m.names.peer p).0) && (is_correction msg.kind && begins)) (ap (λ b. b && (is_correction msg.kind && begins)) (m.same q p)) now k
-  last_to_deed p _ begins now k = k
-
   posts_of_deed : (p : PeerId) (d : Deed) (begins : Bool) (was : ℕ) → posts_of_after (m.names.peer p) (renamed_deed m.names d) begins was ≡ posts_of_after p d begins was
   posts_of_deed p (Acts (Post (Peer q) (Message msg))) begins was = ap (λ b. if b && is_numbered msg.kind then (if begins then 1 else was + 1) else was) (m.same q p)
   posts_of_deed p (Acts (Acked q)) begins was = ap (λ b. if b then 0 else was) (m.same q p)
@@ -122,9 +104,13 @@ module _ {m : Naming} where
   -- open sends
   pub open_to_alike : (p : PeerId) → {seen seen' : List Seen} → Alike m seen seen' → AlikePlaces m (open_to p seen) (open_to (m.names.peer p) seen')
   open_to_alike p (Booted s s' boot x old old') = Nowhere
-  open_to_alike p (Own s s' x d ok knows {before = b} {before' = b'} a) =
-      subst (λ begins. AlikePlaces m (open_to p (here s x d ∷ b)) (open_to_after (m.names.peer p) (renamed_deed m.names d) begins (here s' (x + m.names.shift) (renamed_deed m.names d) ∷ b') (open_to (m.names.peer p) b'))) (sym (acting_alike a))
-      (open_to_deed m p d (acting b) (There s s' x d a) (open_to_alike p a))
+  open_to_alike p (Own s s' x (Acts Boot) ok knows a) = Nowhere
+  open_to_alike p (Own s s' x (Acts (Become r)) ok knows a) = Nowhere
+  open_to_alike p (Own s s' x (Acts (Post (Peer q) (Message msg))) ok knows a) =
+      either_place m _ _ (ap₂ (λ same begins. same && (is_numbered msg.kind && begins)) (m.same q p) (acting_alike a)) (There s s' x _ a) (open_to_alike p a)
+  open_to_alike p (Own s s' x (Acts (Acked q)) ok knows a) = either_place m _ _ (m.same q p) Nowhere (open_to_alike p a)
+  open_to_alike p (Own s s' x (Acts (Gave q)) ok knows a) = either_place m _ _ (m.same q p) Nowhere (open_to_alike p a)
+  open_to_alike p (Own s s' x _ ok knows a) = open_to_alike p a
   open_to_alike p (Other n shift s s' x d ok a) = open_to_alike p a
 
   pub posts_of_alike : (p : PeerId) → {seen seen' : List Seen} → Alike m seen seen' → posts_of (m.names.peer p) seen' ≡ posts_of p seen
@@ -137,13 +123,6 @@ module _ {m : Naming} where
   pub open_send_alike : (p : PeerId) → {seen seen' : List Seen} → Alike m seen seen' → open_send (m.names.peer p) seen' ≡ later_sends m.names (open_send p seen)
   open_send_alike p {seen = z} {seen' = z'} a = ap (sending_at (open_to (m.names.peer p) z')) (posts_of_alike p a) ∙ sending_at_alike (open_to_alike p a) (posts_of p z)
 
-  pub begun_to_alike : (p : PeerId) → {seen seen' : List Seen} → Alike m seen seen' → AlikePlaces m (begun_to p seen) (begun_to (m.names.peer p) seen')
-  begun_to_alike p (Booted s s' boot x old old') = Nowhere
-  begun_to_alike p (Own s s' x d ok knows {before = b} {before' = b'} a) =
-      subst (λ begins. AlikePlaces m (begun_to p (here s x d ∷ b)) (begun_to_after (m.names.peer p) (renamed_deed m.names d) begins (here s' (x + m.names.shift) (renamed_deed m.names d) ∷ b') (begun_to (m.names.peer p) b'))) (sym (acting_alike a))
-      (begun_to_deed m p d (acting b) (There s s' x d a) (begun_to_alike p a))
-  begun_to_alike p (Other n shift s s' x d ok a) = begun_to_alike p a
-
   -- how many sends began with the port's own numbers
   pub begun_alike : {seen seen' : List Seen} → Alike m seen seen' → begun seen' ≡ begun seen
   begun_alike (Booted s s' boot x old old') = refl
@@ -154,9 +133,10 @@ module _ {m : Naming} where
   -- the last correction of a peer
   pub last_to_alike : (p : PeerId) → {seen seen' : List Seen} → Alike m seen seen' → AlikePlaces m (last_to p seen) (last_to (m.names.peer p) seen')
   last_to_alike p (Booted s s' boot x old old') = Nowhere
-  last_to_alike p (Own s s' x d ok knows {before = b} {before' = b'} a) =
-      subst (λ begins. AlikePlaces m (last_to p (here s x d ∷ b)) (last_to_after (m.names.peer p) (renamed_deed m.names d) begins (here s' (x + m.names.shift) (renamed_deed m.names d) ∷ b') (last_to (m.names.peer p) b'))) (sym (acting_alike a))
-      (last_to_deed m p d (acting b) (There s s' x d a) (last_to_alike p a))
+  last_to_alike p (Own s s' x (Acts Boot) ok knows a) = Nowhere
+  last_to_alike p (Own s s' x (Acts (Post (Peer q) (Message msg))) ok knows a) =
+      either_place m _ _ (ap₂ (λ same begins. same && (is_correction msg.kind && begins)) (m.same q p) (acting_alike a)) (There s s' x _ a) (last_to_alike p a)
+  last_to_alike p (Own s s' x _ ok knows a) = last_to_alike p a
   last_to_alike p (Other n shift s s' x d ok a) = last_to_alike p a
 
   pub last_number_alike : (p : PeerId) → {seen seen' : List Seen} → Alike m seen seen' → last_number (m.names.peer p) seen' ≡ last_number p seen

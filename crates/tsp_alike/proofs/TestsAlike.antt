@@ -11,7 +11,7 @@ use Rattle.tsp_rules.specs.DateRows.{all_settled, answers_date, are_settled, is_
 use Rattle.tsp_rules.specs.SendRows.{answers_election, answers_other, is_quit, may_correct, may_set}
 use Rattle.tsp_rules.specs.SlaveRows.{is_by, is_next}
 use Rattle.tsp_base.specs.Words.{Past, deadline, armed, backers, held, is_correction, may_stand, role, plain, correct_tick, Correcting, Dating, is_past, last_asked, last_date, last_post, last_taken, open_send, Sending}
-use Rattle.tsp_alike.proofs.{Alike.AlikePast, NodeAlike.correct_tick_alike, NodeAlike.target_alike, NodeAlike.ticket_alike}
+use Rattle.tsp_alike.proofs.{Alike.AlikePast, NodeAlike.correct_tick_alike, NodeAlike.target_alike, NodeAlike.ticket_alike, NodeAlike.plain_alike}
 use Rattle.tsp_alike.proofs.{ListsAlike.is_among_alike, ListsAlike.list_same, Renamed.later_date, Renamed.renamed_correcting}
 use Rattle.tsp_alike.proofs.RoundsAlike.{is_going_alike, probes_alike, some_later}
 use Rattle.tsp_alike.proofs.Ticks.{met_later, over_later, le_after, lt_after, lt_until, past_later}
@@ -108,20 +108,20 @@ module _ {m : Naming} {p q : Past} (a : AlikePast m p q) where
       ap₂ ◌||◌ (long_posted r x) (ap₂ ◌&&◌ (is_acknowledged_alike r a.seen) (ap (λ k. number == (k + 1) % 32768) (last_number_alike r a.seen)))
 
   pub is_in_range_alike : (x : ℕ) → is_in_range (x + m.names.shift) q ≡ is_in_range x p
-  is_in_range_alike x = ap is_clock_value (target_alike a.seen x)
+  is_in_range_alike x = ap is_clock_value (target_alike (plain_alike a.seen) x)
 
   pub may_set_alike : (r : PeerId) (number x : ℕ) → may_set (m.names.peer r) number (x + m.names.shift) q ≡ may_set r number x p
   may_set_alike r number x = ap₂ ◌&&◌ (may_correct_alike r number x) (is_in_range_alike x)
 
   -- corrections that a port takes
   pub can_adjust_alike : (amount : ℤ) (x : ℕ) → can_adjust amount (x + m.names.shift) q ≡ can_adjust amount x p
-  can_adjust_alike amount x = ap (λ t. is_clock_value (t +ℤ amount)) (target_alike a.seen x)
+  can_adjust_alike amount x = ap (λ t. is_clock_value (t +ℤ amount)) (target_alike (plain_alike a.seen) x)
 
   long_since : (x : ℕ) → is_past (correct_tick (plain q.seen)) GAP (x + m.names.shift) ≡ is_past (correct_tick (plain p.seen)) GAP x
-  long_since x = ap (λ o. is_past o GAP (x + m.names.shift)) (correct_tick_alike a.seen) ∙ past_later m.names (correct_tick (plain p.seen)) GAP x
+  long_since x = ap (λ o. is_past o GAP (x + m.names.shift)) (correct_tick_alike m.names refl (plain_alike a.seen)) ∙ past_later m.names (correct_tick (plain p.seen)) GAP x
 
   is_next_alike : (number x : ℕ) → is_next number (x + m.names.shift) q ≡ is_next number x p
-  is_next_alike number x = ap₂ ◌&&◌ (ap (λ k. number == k) (ticket_alike a.seen)) (long_since x)
+  is_next_alike number x = ap₂ ◌&&◌ (ap (λ k. number == k) (ticket_alike (plain_alike a.seen))) (long_since x)
 
   -- dates
   are_settled_alike : (rs : List PeerId) (x : ℕ) → are_settled (map m.names.peer rs) (x + m.names.shift) q ≡ are_settled rs x p
