@@ -2,15 +2,13 @@
 use Rattle.std.proofs.Common.{ap, ap₂, true≢false, arith, ◌∙◌, ◌≡◌, ℕ, ◌+◌, ◌%◌, ◌^◌, ℤ, ◌+ℤ◌, ◌-ℤ◌, Bool, true, false, if◌then◌else◌, List, [], ◌∷◌, map, refl, sym, subst, ◌==◌, not, ◌++◌, All}
 use Rattle.std.proofs.lemmas.List.{map-append}
 use Rattle.std.proofs.lemmas.List.Elements.{All-nil, All-cons, All-head, All-tail, All-append}
-use Rattle.tsp_rules.specs.Values.{Act, Post, Correct, Arm, Message, Stamp, SetTime, PeerId, Peer, Request, Reply, Role, Follow}
-use Rattle.tsp_rules.specs.{ClockRows.adjusts, ClockRows.is_step, ClockRows.sets, RoundRows.asks}
-use Rattle.tsp_rules.specs.CommonRows.{posts_reply, replies, master_name_in}
-use Rattle.tsp_rules.specs.GateRows.{loop_to, repost, reposts, sends_loops}
-use Rattle.tsp_rules.specs.Guards.{is_in_range, target_at, delay}
-use Rattle.tsp_rules.specs.SendRows.{begins_settime, may_set, repeats}
-use Rattle.tsp_rules.proofs.{Emits.Sort, EmitsBuilt.nothing_owed}
-use Rattle.tsp_rules.proofs.RowCodes.{Value, Leaf, Fact, Valued, Puts, Takes, Arms, Posts, ToOthers, PostsBack, PostsTime, PostsReply, PostsName, Repeats, SettimeBegins, Loops, Reposts, Asks, Samples, Adjusts, Sets, RoleAt, DelayAt, OwnAt, TargetAt, RequestAt, TicketAt, NextNumber, MasterName, Others}
 use Rattle.tsp_rules.specs.Renames.{Renaming, Naming, renamed_act, renamed_place, renamed_role, Knows}
+use Rattle.tsp_rules.specs.{CommonRows.posts_reply, CommonRows.replies, CommonRows.master_name_in, RoundRows.asks}
+use Rattle.tsp_rules.{specs.GateRows.loop_to, specs.GateRows.repost, specs.GateRows.reposts, specs.GateRows.sends_loops, proofs.Emits.Sort}
+use Rattle.tsp_rules.specs.{SendRows.begins_settime, SendRows.may_set, SendRows.repeats, Guards.is_in_range, Guards.target_at, Guards.delay}
+use Rattle.tsp_rules.{specs.ClockRows.adjusts, specs.ClockRows.is_step, specs.ClockRows.sets, proofs.EmitsBuilt.nothing_owed}
+use Rattle.tsp_rules.specs.Values.{Act, Post, Correct, Arm, Message, Stamp, SetTime, PeerId, Peer, Request, Reply, Role, Follow}
+use Rattle.tsp_rules.proofs.RowCodes.{Value, Leaf, Fact, Valued, Puts, Takes, Arms, Posts, ToOthers, PostsBack, PostsTime, PostsReply, PostsName, Repeats, SettimeBegins, Loops, Reposts, Asks, Samples, Adjusts, Sets, RoleAt, DelayAt, OwnAt, TargetAt, RequestAt, TicketAt, NextNumber, MasterName, Others}
 use Rattle.tsp_base.specs.Words.{Past, plain, arms, bare, nothing, others, post_of, posts, posts_back, posts_time, posts_to_others, puts, shown, timed, word, either_by, reading, kept_name, role, Step, Acts, Row, Seen, added, grown, ◌followed_by◌, for_each}
 use Rattle.tsp_alike.proofs.{Alike.AlikePast, Alike.Alike, Alike.Own, PortAlike.kept_name_alike, PortAlike.role_alike, PortAlike.role_known}
 use Rattle.tsp_alike.proofs.{RoundsAlike.asked_alike, RoundsAlike.request_open_alike, SendsAlike.begun_alike}

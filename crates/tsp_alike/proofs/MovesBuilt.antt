@@ -2,21 +2,19 @@
 use Rattle.std.proofs.Common.{sym, ap, subst, ◌∙◌, ◌≡◌, ℕ, ◌+◌, ◌==◌, ℤ, pos, Bool, true, false, List, [], ◌∷◌, map, All, Option, None, Some, refl}
 use Rattle.std.proofs.lemmas.Bool.{and_parts}
 use Rattle.std.proofs.lemmas.List.Elements.{All-nil, All-cons, All-head, All-tail}
+use Rattle.tsp_rules.proofs.RowCodes.{is_plain, Test, yes, no, Puts, Others, Due, MayStand, MayBeAsked, IsOwn}
+use Rattle.tsp_rules.{proofs.EmitsBuilt.nothing_measured, proofs.EmitsBuilt.nothing_owed, specs.SendRows.open_at, specs.SendRows.peers_at}
+use Rattle.tsp_rules.{specs.Guards.is_due, specs.Guards.is_own, specs.Guards.may_stand_at, proofs.GuardFacts.same_peer, proofs.Emits.Sort}
 use Rattle.tsp_rules.specs.Values.{Act, Ring, Abandon, Alarm, Window, CloseAlarm, PeerId, Place, Peer, Stranger, SPAN}
-use Rattle.tsp_rules.specs.Guards.{is_due, is_own, may_stand_at}
 use Rattle.tsp_rules.specs.RoundRows.{Standing, abandons, close_act, closes, closes_with, corrects_by, corrects_peer, diff_before, estimates, mean_by, moves, near_diffs, round_at}
-use Rattle.tsp_rules.specs.SendRows.{open_at, peers_at}
 use Rattle.tsp_rules.specs.Renames.{Naming, Renaming, Knows, Wakes, known_place, later_send, later_sends, renamed_act}
 use Rattle.tsp_rules.proofs.Built.{Built, Empty, At, Then, Either, If, Reading, ReadingValue, Each, EachSend, Closes, More, Wider}
-use Rattle.tsp_rules.proofs.{Emits.Sort, EmitsBuilt.nothing_measured, EmitsBuilt.nothing_owed, GuardFacts.same_peer}
-use Rattle.tsp_rules.proofs.RowCodes.{is_plain, Test, yes, no, Puts, Others, Due, MayStand, MayBeAsked, IsOwn}
 use Rattle.tsp_base.specs.Words.{Estimate, Past, Row, Sending, nothing, puts, others, reading, for_each, grown, open_send}
 use Rattle.tsp_group.specs.{Groups.group_of, declared.group.Group.Group}
-use Rattle.tsp_alike.proofs.{Alike.AlikePast, Moves.Moves, Moves.MovesAt, Renamed.renamed_standing}
+use Rattle.tsp_alike.proofs.{TestsAlike.can_adjust_alike, TestsAlike.due_stands, TestsAlike.test_same, SendsAlike.open_send_alike}
+use Rattle.tsp_alike.proofs.{Renamed.renamed_standing, Moves.Moves, Moves.MovesAt, Alike.AlikePast}
 use Rattle.tsp_alike.proofs.ListsAlike.{Unnamed, list_known, list_same, open_send_renamed, open_send_unnamed, round_at_alike, round_at_known}
 use Rattle.tsp_alike.proofs.LeavesAlike.{each_moves, either_moves, fact_same, fact_told, grown_alike, leaf_at, nothing_moves, skips_own, then_moves, value_same}
-use Rattle.tsp_alike.proofs.SendsAlike.{open_send_alike}
-use Rattle.tsp_alike.proofs.TestsAlike.{can_adjust_alike, due_stands, test_same}
 
 -- the first of two pasts that are alike; and the second
 record First (m : Naming) (p : Past) : Type 0 where

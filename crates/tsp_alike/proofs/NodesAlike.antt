@@ -1,5 +1,5 @@
 -- Rows over ports do alike on pasts that are alike.
-use Rattle.std.proofs.Common.{sym, ap, subst, inl, inr, true≢false, eqb-true, ◌∙◌, ◌≡◌, ℕ, ◌+◌, ◌<◌, ◌==◌, Bool, true, false, not, ◌||◌, if◌then◌else◌, List, [], ◌∷◌, ◌++◌, length, map, All, slice_index_or, refl, arith, nat_le, nat_lt, ◌&&◌, filter}
+use Rattle.std.proofs.Common.{sym, ap, ap₂, subst, inl, inr, true≢false, eqb-true, ◌∙◌, ◌≡◌, ℕ, ◌+◌, ◌<◌, ◌==◌, Bool, true, false, not, ◌||◌, if◌then◌else◌, List, [], ◌∷◌, ◌++◌, length, map, All, slice_index_or, refl, arith, nat_le, nat_lt, ◌&&◌, filter}
 use Rattle.std.proofs.{lemmas.Bool.or_cases, lemmas.List.map-append, Math.Bool.or-true}
 use Rattle.std.proofs.lemmas.List.Elements.{All-nil, All-cons, All-head, All-tail, All-append}
 use Rattle.tsp_rules.specs.Values.{Act, Boot, Placed, PeerId, Port, Kind, Place, Peer, Stranger, Correct, Ring}
@@ -172,7 +172,7 @@ module _ (n : Renaming) where
   -- whether acts correct the clock
   pub corrects_renamed : (acts : List Act) → corrects (map (renamed_act n) acts) ≡ corrects acts
   corrects_renamed [] = refl
-  corrects_renamed (act ∷ rest) = ap (λ b. b || corrects (map (renamed_act n) rest)) (correct_renamed act) ∙ ap (λ b. is_correct act || b) (corrects_renamed rest)
+  corrects_renamed (act ∷ rest) = ap₂ ◌||◌ (correct_renamed act) (corrects_renamed rest)
 
   -- whether acts begin with a probe that rang
   pub has_rung_renamed : (acts : List Act) → has_rung (map (renamed_act n) acts) ≡ has_rung acts
@@ -191,9 +191,10 @@ pub ports_below : (k n : ℕ) (a : List PortSetup) → k + length a ≡ n → Al
 ports_below k n [] e = All-nil (λ (q : Port). q.0 < n)
 ports_below k n (s ∷ a) e = All-cons (λ (q : Port). q.0 < n) (record { 0 = k }) (ports_from (k + 1) a) (omega (arith, e)) (ports_below (k + 1) n a (omega (arith, e)))
 
+-- whether a test holds of one of some ports
 any-same : (t t' : Port → Bool) → ((q : Port) → t' q ≡ t q) → (qs : List Port) → any_port t' qs ≡ any_port t qs
 any-same t t' same [] = refl
-any-same t t' same (q ∷ qs) = ap (λ b. b || any_port t' qs) (same q) ∙ ap (λ b. t q || b) (any-same t t' same qs)
+any-same t t' same (q ∷ qs) = ap₂ ◌||◌ (same q) (any-same t t' same qs)
 
 module _ (rs : Port → Renaming) (apart : (q : Port) → TellsApart (rs q)) (shift : ℕ) (ports : List PortSetup) (may : Bool) {name : List ℕ} {strict : Bool} {step : Step} {lines : List Line} {p' : NodePast}
     (a : AlikeNodes rs apart shift (past_with rs apart shift ports may name strict step lines) p') where
@@ -224,24 +225,18 @@ module _ (rs : Port → Renaming) (apart : (q : Port) → TellsApart (rs q)) (sh
   pub stirred_same : (q : Port) (kind : Kind) → stirred_ports q kind p' ≡ stirred_ports q kind p
   stirred_same q kind = ap (λ l. if sets_date kind then l else filter (λ r. not (r.0 == q.0)) l) all-same
 
-  lower-same : (q : Port) → lower_ports q p' ≡ lower_ports q p
-  lower-same q = ap (filter (λ r. nat_lt r.0 q.0)) all-same
-
-  any-follows : (qs qs' : List Port) → qs' ≡ qs → any_port (follows_on p') qs' ≡ any_port (follows_on p) qs
-  any-follows qs qs' e = ap (any_port (follows_on p')) e ∙ any-same (follows_on p) (follows_on p') follows_same qs
-
-  any-leads : (qs qs' : List Port) → qs' ≡ qs → any_port (leads_on p') qs' ≡ any_port (leads_on p) qs
-  any-leads qs qs' e = ap (any_port (leads_on p')) e ∙ any-same (leads_on p) (leads_on p') leads_same qs
+  none-lower : (t t' : Port → Bool) → ((r : Port) → t' r ≡ t r) → (q : Port) → not (any_port t' (lower_ports q p')) ≡ not (any_port t (lower_ports q p))
+  none-lower t t' same q = ap not (ap (any_port t') (ap (filter (λ r. nat_lt r.0 q.0)) all-same) ∙ any-same t t' same (lower_ports q p))
 
   pub steers_same : (q : Port) (x : ℕ) → steers q (x + shift) p' ≡ steers q x p
-  steers_same q x = ap (λ b. b && not (any_port (follows_on p') (lower_ports q p'))) (follows_same q) ∙ ap (λ b. follows_on p q && not b) (any-follows (lower_ports q p) (lower_ports q p') (lower-same q))
+  steers_same q x = ap₂ ◌&&◌ (follows_same q) (none-lower (follows_on p) (follows_on p') follows_same q)
 
   pub leads_clock_same : (q : Port) (x : ℕ) → leads_clock q (x + shift) p' ≡ leads_clock q x p
-  leads_clock_same q x = ap (λ b. not b && not (any_port (leads_on p') (lower_ports q p'))) (any-follows (ports_from 0 ports) (ports_from 0 p'.ports) all-same)
-      ∙ ap (λ b. not (any_port (follows_on p) (ports_from 0 ports)) && not b) (any-leads (lower_ports q p) (lower_ports q p') (lower-same q))
+  leads_clock_same q x = ap₂ ◌&&◌ (ap not (ap (any_port (follows_on p')) all-same ∙ any-same (follows_on p) (follows_on p') follows_same (ports_from 0 ports)))
+      (none-lower (leads_on p) (leads_on p') leads_same q)
 
   pub in_charge_same : (q : Port) (x : ℕ) → in_charge q (x + shift) p' ≡ in_charge q x p
-  in_charge_same q x = ap (λ b. b || leads_clock q (x + shift) p') (steers_same q x) ∙ ap (λ b. steers q x p || b) (leads_clock_same q x)
+  in_charge_same q x = ap₂ ◌||◌ (steers_same q x) (leads_clock_same q x)
 
   pub waits_same : (q : Port) (x : ℕ) → waits q (x + shift) p' ≡ waits q x p
   waits_same q x = ap (any_port (goes_on p')) (other_same q) ∙ any-same (goes_on p) (goes_on p') goes_same (other_ports q p)

@@ -1,8 +1,7 @@
 -- Facts of a port at alike pasts: role, alarms, hold, what a step took, table, backers, rivals.
-use Rattle.std.proofs.Common.{ap₂, sym, ap, true≢false, ◌∙◌, ◌≡◌, ℕ, ◌+◌, Bool, true, false, if◌then◌else◌, List, map, Option, None, Some, is_some, refl}
-use Rattle.tsp_rules.specs.Values.{Boot, Took, Become, Arm, Ring, Late, Backer, Join, Leave, Rival, Quit, Alarm, Window, Quiet, PeerId, Place, Peer, Stranger, Role, Follow, HOLD, ELECT_MIN}
-use Rattle.tsp_base.specs.Words.{Deed, Acts, Seen, Deadlines, deadline, with_deadline, Held, may_back, may_back_after, may_stand, Received, MessageValue, role, role_after, taken, taken_after, acting, acting_after, name_in, said, said_by, message_in, kept_name, kept_name_after, held, held_after, armed, armed_after, in_table, backers, backers_after, is_rival, is_rival_after}
-use Rattle.tsp_base.specs.PortFacts.{in_table_after}
+use Rattle.std.proofs.Common.{◌∷◌, ap₂, sym, ap, true≢false, ◌∙◌, ◌≡◌, ℕ, ◌+◌, Bool, true, false, if◌then◌else◌, List, map, Option, None, Some, is_some, refl}
+use Rattle.tsp_rules.specs.Values.{Boot, Back, Took, Become, Arm, Ring, Late, Backer, Join, Leave, Rival, Quit, Alarm, Window, Quiet, PeerId, Place, Peer, Stranger, Follow, HOLD, ELECT_MIN}
+use Rattle.tsp_base.specs.Words.{Deed, Begins, Acts, Seen, Deadlines, deadline, with_deadline, Held, may_back, may_back_after, may_stand, Received, MessageValue, role, taken, acting, acting_after, name_in, said, said_by, message_in, kept_name, held, armed, armed_after, in_table, backers, is_rival}
 use Rattle.tsp_rules.specs.Renames.{Renaming, Naming, Knows, renamed_place, renamed_role, known_role}
 use Rattle.tsp_alike.proofs.Alike.{Alike, Booted, Own, Other}
 use Rattle.tsp_alike.proofs.Renamed.{later, later_deadlines, renamed_back, renamed_held, renamed_taken, renamed_said}
@@ -10,14 +9,6 @@ use Rattle.tsp_alike.{proofs.Ticks.le_after, proofs.Ticks.past_later, specs.Alik
 
 -- what a deed does to a fact, with other names
 module _ (n : Renaming) where
-  pub role_deed : (d : Deed) (was : Role) → role_after (renamed_deed n d) (renamed_role n was) ≡ renamed_role n (role_after d was)
-  role_deed (Acts (Become r)) was = refl
-  role_deed _ was = refl
-
-  pub taken_deed : (d : Deed) (was : Option Received) → taken_after (renamed_deed n d) (renamed_taken n was) ≡ renamed_taken n (taken_after d was)
-  taken_deed (Acts (Took from t)) was = refl
-  taken_deed _ was = refl
-
   pub acting_deed : (d : Deed) (was : Bool) → acting_after (renamed_deed n d) was ≡ acting_after d was
   acting_deed (Acts (Late a)) was = refl
   acting_deed _ was = refl
@@ -36,10 +27,6 @@ module _ (n : Renaming) where
   deadline_later d Quiet = refl
   deadline_later d _ = refl
 
-  pub held_deed : (d : Deed) (x : ℕ) (was : Held) → held_after (renamed_deed n d) (x + n.shift) (renamed_held n was) ≡ renamed_held n (held_after d x was)
-  held_deed (Acts (Quit p)) x was = refl
-  held_deed _ x was = refl
-
   name_renamed : (t : Option Received) → name_in (renamed_taken n t) ≡ name_in t
   name_renamed None = refl
   name_renamed (Some r) = refl
@@ -53,21 +40,8 @@ module _ (n : Renaming) where
   said_renamed None = refl
   said_renamed (Some r) = by_renamed r.from (message_in r.taken)
 
-  pub kept_name_deed : (d : Deed) (t : Option Received) (was : List ℕ) → kept_name_after (renamed_deed n d) (renamed_taken n t) was ≡ kept_name_after d t was
-  kept_name_deed (Acts (Become (Follow p))) t was = name_renamed t
-  kept_name_deed _ t was = refl
-
-  pub backers_deed : (d : Deed) (was : List PeerId) → backers_after (renamed_deed n d) (map n.peer was) ≡ map n.peer (backers_after d was)
-  backers_deed (Acts (Backer p)) was = refl
-  backers_deed _ was = refl
-
 -- the same, where peers are told apart or known
 module _ (m : Naming) where
-  known_role_deed : (d : Deed) (was : Role) → KnowsDeed m d → known_role m was → known_role m (role_after d was)
-  known_role_deed (Acts Boot) was knows k = tt
-  known_role_deed (Acts (Become r)) was knows k = knows
-  known_role_deed _ was knows k = k
-
   window_with : (d : Deadlines) (a : Alarm) (at : ℕ) → Knows m (Arm a at) → (is_some d.window ≡ true → m.stands) → is_some (with_deadline d a (Some at)).window ≡ true → m.stands
   window_with d Window at knows k e = knows
   window_with d _ at knows k e = k e
@@ -93,34 +67,29 @@ module _ (m : Naming) where
       let b = past_later m.names h.quit ELECT_MIN x in
       rw (le_after h.boot ELECT_MIN x m.names.shift, b, back_renamed h.back x own) refl
 
-  -- the slave table
-  in_table_deed : (p : PeerId) (d : Deed) (was : Bool) → in_table_after (m.names.peer p) (renamed_deed m.names d) was ≡ in_table_after p d was
-  in_table_deed p (Acts (Join q)) was = ap (λ b. if b then true else was) (m.same q p)
-  in_table_deed p (Acts (Leave q)) was = ap (λ b. if b then false else was) (m.same q p)
-  in_table_deed p _ was = refl
-
-  -- rivals
-  is_rival_deed : (p : PeerId) (d : Deed) (was : Bool) → is_rival_after (m.names.peer p) (renamed_deed m.names d) was ≡ is_rival_after p d was
-  is_rival_deed p (Acts (Rival q)) was = ap (λ b. if b then true else was) (m.same q p)
-  is_rival_deed p _ was = refl
-
 module _ {m : Naming} where
   -- roles
   pub role_alike : {seen seen' : List Seen} → Alike m seen seen' → role seen' ≡ renamed_role m.names (role seen)
   role_alike (Booted s s' cause x old old') = refl
-  role_alike (Own s s' x d ok knows {before = b} a) = ap (role_after (renamed_deed m.names d)) (role_alike a) ∙ role_deed m.names d (role b)
+  role_alike (Own s s' x (Acts Boot) ok knows a) = refl
+  role_alike (Own s s' x (Acts (Become r)) ok knows a) = refl
+  role_alike (Own s s' x _ ok knows a) = role_alike a
   role_alike (Other n shift s s' x d ok a) = role_alike a
 
   -- only a known peer is followed, and only a port that may stand for election is a candidate
   pub role_known : {seen seen' : List Seen} → Alike m seen seen' → known_role m (role seen)
   role_known (Booted s s' cause x old old') = tt
-  role_known (Own s s' x d ok knows {before = b} a) = known_role_deed m d (role b) knows (role_known a)
+  role_known (Own s s' x (Acts Boot) ok knows a) = tt
+  role_known (Own s s' x (Acts (Become r)) ok knows a) = knows
+  role_known (Own s s' x _ ok knows a) = role_known a
   role_known (Other n shift s s' x d ok a) = role_known a
 
   -- what a step took
   pub taken_alike : {seen seen' : List Seen} → Alike m seen seen' → taken seen' ≡ renamed_taken m.names (taken seen)
   taken_alike (Booted s s' cause x old old') = refl
-  taken_alike (Own s s' x d ok knows {before = b} a) = ap (taken_after (renamed_deed m.names d)) (taken_alike a) ∙ taken_deed m.names d (taken b)
+  taken_alike (Own s s' x Begins ok knows a) = refl
+  taken_alike (Own s s' x (Acts (Took from t)) ok knows a) = refl
+  taken_alike (Own s s' x _ ok knows a) = taken_alike a
   taken_alike (Other n shift s s' x d ok a) = taken_alike a
 
   pub acting_alike : {seen seen' : List Seen} → Alike m seen seen' → acting seen' ≡ acting seen
@@ -146,7 +115,10 @@ module _ {m : Naming} where
   -- the hold
   pub held_alike : {seen seen' : List Seen} → Alike m seen seen' → held seen' ≡ renamed_held m.names (held seen)
   held_alike (Booted s s' cause x old old') = refl
-  held_alike (Own s s' x d ok knows {before = b} a) = ap (held_after (renamed_deed m.names d) (x + m.names.shift)) (held_alike a) ∙ held_deed m.names d x (held b)
+  held_alike (Own s s' x (Acts Boot) ok knows a) = refl
+  held_alike (Own s s' x (Acts (Back p)) ok knows a) = rw (held_alike a) refl
+  held_alike (Own s s' x (Acts (Quit p)) ok knows a) = rw (held_alike a) refl
+  held_alike (Own s s' x _ ok knows a) = held_alike a
   held_alike (Other n shift s s' x d ok a) = held_alike a
 
   pub may_back_alike : {seen seen' : List Seen} → Alike m seen seen' → (x : ℕ) (p : PeerId) → may_back (held seen') (x + m.names.shift) (m.names.peer p) ≡ may_back (held seen) x p
@@ -158,22 +130,33 @@ module _ {m : Naming} where
   -- the name of the master that was followed last
   pub kept_name_alike : {seen seen' : List Seen} → Alike m seen seen' → kept_name seen' ≡ kept_name seen
   kept_name_alike (Booted s s' cause x old old') = refl
-  kept_name_alike (Own s s' x d ok knows {before = b} a) =
-      ap₂ (kept_name_after (renamed_deed m.names d)) (taken_alike a) (kept_name_alike a) ∙ kept_name_deed m.names d (taken b) (kept_name b)
+  kept_name_alike (Own s s' x (Acts Boot) ok knows a) = refl
+  kept_name_alike (Own s s' x (Acts (Become (Follow p))) ok knows {before = b} a) = ap name_in (taken_alike a) ∙ name_renamed m.names (taken b)
+  kept_name_alike (Own s s' x _ ok knows a) = kept_name_alike a
   kept_name_alike (Other n shift s s' x d ok a) = kept_name_alike a
 
   -- backers
   pub backers_alike : {seen seen' : List Seen} → Alike m seen seen' → backers seen' ≡ map m.names.peer (backers seen)
   backers_alike (Booted s s' cause x old old') = refl
-  backers_alike (Own s s' x d ok knows {before = b} a) = ap (backers_after (renamed_deed m.names d)) (backers_alike a) ∙ backers_deed m.names d (backers b)
+  backers_alike (Own s s' x (Acts Boot) ok knows a) = refl
+  backers_alike (Own s s' x (Acts (Become r)) ok knows a) = refl
+  backers_alike (Own s s' x (Acts (Backer p)) ok knows a) = ap (λ ps. m.names.peer p ∷ ps) (backers_alike a)
+  backers_alike (Own s s' x _ ok knows a) = backers_alike a
   backers_alike (Other n shift s s' x d ok a) = backers_alike a
 
   pub in_table_alike : (p : PeerId) → {seen seen' : List Seen} → Alike m seen seen' → in_table (m.names.peer p) seen' ≡ in_table p seen
   in_table_alike p (Booted s s' cause x old old') = refl
-  in_table_alike p (Own s s' x d ok knows {before = b} a) = ap (in_table_after (m.names.peer p) (renamed_deed m.names d)) (in_table_alike p a) ∙ in_table_deed m p d (in_table p b)
+  in_table_alike p (Own s s' x (Acts Boot) ok knows a) = refl
+  in_table_alike p (Own s s' x (Acts (Become r)) ok knows a) = refl
+  in_table_alike p (Own s s' x (Acts (Join q)) ok knows a) = ap₂ (λ same was. if same then true else was) (m.same q p) (in_table_alike p a)
+  in_table_alike p (Own s s' x (Acts (Leave q)) ok knows a) = ap₂ (λ same was. if same then false else was) (m.same q p) (in_table_alike p a)
+  in_table_alike p (Own s s' x _ ok knows a) = in_table_alike p a
   in_table_alike p (Other n shift s s' x d ok a) = in_table_alike p a
 
   pub is_rival_alike : (p : PeerId) → {seen seen' : List Seen} → Alike m seen seen' → is_rival (m.names.peer p) seen' ≡ is_rival p seen
   is_rival_alike p (Booted s s' cause x old old') = refl
-  is_rival_alike p (Own s s' x d ok knows {before = b} a) = ap (is_rival_after (m.names.peer p) (renamed_deed m.names d)) (is_rival_alike p a) ∙ is_rival_deed m p d (is_rival p b)
+  is_rival_alike p (Own s s' x (Acts Boot) ok knows a) = refl
+  is_rival_alike p (Own s s' x (Acts (Become r)) ok knows a) = refl
+  is_rival_alike p (Own s s' x (Acts (Rival q)) ok knows a) = ap₂ (λ same was. if same then true else was) (m.same q p) (is_rival_alike p a)
+  is_rival_alike p (Own s s' x _ ok knows a) = is_rival_alike p a
   is_rival_alike p (Other n shift s s' x d ok a) = is_rival_alike p a

@@ -2,8 +2,8 @@
 use Rattle.std.proofs.Common.{[], ap, ap₂, sym, ◌∙◌, ◌≡◌, ℕ, ◌+◌, ◌==◌, ℤ, ◌-ℤ◌, int_lt, Bool, true, false, ◌&&◌, if◌then◌else◌, List, ◌∷◌, Option, None, Some, is_some, refl}
 use Rattle.tsp_rules.specs.Values.{Boot, Post, Become, Arm, Ring, Late, Leave, Sample, Abandon, Stamp, Probe, CloseAlarm, PeerId, Peer, Request}
 use Rattle.tsp_rules.specs.Renames.{Renaming, Naming}
-use Rattle.tsp_base.specs.Words.{Deed, Acts, Step, Seen, is_going, is_starting, is_measured, asked, asked_after, exchange, exchange_after, probes, target_there, target, plain, armed, Sampled, better, best, best_after, request_at_place, request_open, estimate, estimate_of}
-use Rattle.tsp_base.specs.RoundFacts.{is_starting_after, is_measured_after, word_asked_by, probes_after}
+use Rattle.tsp_base.specs.Words.{Deed, Begins, Acts, Step, Seen, is_going, is_starting, is_measured, asked, exchange, exchange_after, probes, target_there, target, plain, armed, Sampled, better, best, best_after, request_at_place, request_open, estimate, estimate_of}
+use Rattle.tsp_base.specs.RoundFacts.{is_measured_after, word_asked_by, probes_after}
 use Rattle.tsp_alike.proofs.Alike.{Alike, Booted, Own, Other, here}
 use Rattle.tsp_alike.{proofs.PortAlike.armed_alike, proofs.Renamed.later, specs.AlikeNodes.renamed_deed}
 use Rattle.tsp_alike.proofs.{NodeAlike.plain_alike, NodeAlike.target_alike, SendsAlike.AlikePlaces, SendsAlike.Nowhere, SendsAlike.There, SendsAlike.either_place}
@@ -35,14 +35,6 @@ sampled counter diff err ticket trip place = record { counter = counter; diff = 
 
 -- what a deed does to a fact, with other names
 module _ (n : Renaming) where
-  is_starting_deed : (d : Deed) (was : Bool) → is_starting_after (renamed_deed n d) was ≡ is_starting_after d was
-  is_starting_deed (Acts (Arm CloseAlarm at)) was = refl
-  is_starting_deed _ was = refl
-
-  asked_deed : (d : Deed) (was : ℕ) → asked_after (renamed_deed n d) was ≡ asked_after d was
-  asked_deed (Acts (Post to (Stamp (Request word counter)))) was = refl
-  asked_deed _ was = refl
-
   probes_deed : (d : Deed) (was : ℕ) → probes_after (renamed_deed n d) was ≡ probes_after d was
   probes_deed (Acts (Arm CloseAlarm at)) was = refl
   probes_deed (Acts (Ring Probe)) was = refl
@@ -81,7 +73,9 @@ module _ {m : Naming} where
 
   is_starting_alike : {seen seen' : List Seen} → Alike m seen seen' → is_starting seen' ≡ is_starting seen
   is_starting_alike (Booted s s' boot x old old') = refl
-  is_starting_alike (Own s s' x d ok knows {before = b} a) = ap (is_starting_after (renamed_deed m.names d)) (is_starting_alike a) ∙ is_starting_deed m.names d (is_starting b)
+  is_starting_alike (Own s s' x Begins ok knows a) = refl
+  is_starting_alike (Own s s' x (Acts (Arm CloseAlarm at)) ok knows a) = refl
+  is_starting_alike (Own s s' x _ ok knows a) = is_starting_alike a
   is_starting_alike (Other n shift s s' x d ok a) = is_starting_alike a
 
   pub is_measured_alike : (p : PeerId) → {seen seen' : List Seen} → Alike m seen seen' → is_measured (m.names.peer p) seen' ≡ is_measured p seen
@@ -93,7 +87,9 @@ module _ {m : Naming} where
 
   pub asked_alike : {seen seen' : List Seen} → Alike m seen seen' → asked seen' ≡ asked seen
   asked_alike (Booted s s' boot x old old') = refl
-  asked_alike (Own s s' x d ok knows {before = b} a) = ap (asked_after (renamed_deed m.names d)) (asked_alike a) ∙ asked_deed m.names d (asked b)
+  asked_alike (Own s s' x (Acts Boot) ok knows a) = refl
+  asked_alike (Own s s' x (Acts (Post to (Stamp (Request word counter)))) ok knows a) = ap (λ k. k + 1) (asked_alike a)
+  asked_alike (Own s s' x _ ok knows a) = asked_alike a
   asked_alike (Other n shift s s' x d ok a) = asked_alike a
 
   pub probes_alike : {seen seen' : List Seen} → Alike m seen seen' → probes seen' ≡ probes seen

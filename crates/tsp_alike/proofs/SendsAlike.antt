@@ -2,11 +2,11 @@
 use Rattle.std.proofs.Common.{ap, ap₂, sym, ◌∙◌, ◌≡◌, ℕ, ◌+◌, ◌==◌, Bool, true, false, ◌&&◌, if◌then◌else◌, List, ◌∷◌, Option, None, Some, refl, true≢false, []}
 use Rattle.tsp_rules.specs.Values.{Boot, Post, Become, Acked, Gave, Correct, Message, PeerId, Peer}
 use Rattle.tsp_rules.specs.Renames.{Renaming, Naming, later_sends}
-use Rattle.tsp_base.specs.Words.{Deed, Acts, Seen, Received, Said, said, taken, acting, is_correction, is_numbered, is_date_request, is_set_date_request, open_to, posts_of, posts_of_after, message_at, sending_at, open_send, begun, begun_after, last_to, number_of, last_number, last_post, last_post_after, corrects_by, is_acknowledged, is_acknowledged_after, Correcting, correcting_of, last_taken, last_taken_after, last_taken_elsewhere, Dating, dating_of, last_date, last_date_after, last_asked, last_asked_after, Step, MessageValue, message_of, sending_of}
+use Rattle.tsp_base.specs.Words.{Deed, Acts, Seen, Said, said, taken, acting, is_correction, is_numbered, is_date_request, is_set_date_request, open_to, posts_of, message_at, sending_at, open_send, begun, last_to, number_of, last_number, last_post, corrects_by, is_acknowledged, correcting_of, last_taken, Dating, dating_of, last_date, last_asked, Step, MessageValue, message_of, sending_of}
 use Rattle.tsp_alike.specs.AlikeNodes.{renamed_deed}
 use Rattle.tsp_alike.proofs.Alike.{Alike, Booted, Own, Other, here}
 use Rattle.tsp_alike.proofs.PortAlike.{acting_alike, taken_alike, said_renamed}
-use Rattle.tsp_alike.proofs.Renamed.{later, later_date, renamed_said, renamed_taken, renamed_correcting}
+use Rattle.tsp_alike.proofs.Renamed.{later, later_date, renamed_said, renamed_correcting}
 
 -- places in alike pasts: the deeds there, and what was before them, are alike
 
@@ -41,17 +41,9 @@ module _ {m : Naming} where
 
 -- what a deed does to a fact, with other names
 module _ (n : Renaming) where
-  begun_deed : (d : Deed) (begins : Bool) (was : ℕ) → begun_after (renamed_deed n d) begins was ≡ begun_after d begins was
-  begun_deed (Acts (Post to (Message msg))) begins was = refl
-  begun_deed _ begins was = refl
-
   asked_if : (b : Bool) (x : ℕ) (was : Option ℕ) → (if b then Some (x + n.shift) else later n was) ≡ later n (if b then Some x else was)
   asked_if true x was = refl
   asked_if false x was = refl
-
-  last_asked_deed : (d : Deed) (begins : Bool) (x : ℕ) (was : Option ℕ) → last_asked_after (renamed_deed n d) begins (x + n.shift) (later n was) ≡ later n (last_asked_after d begins x was)
-  last_asked_deed (Acts (Post to (Message msg))) begins x was = asked_if (is_set_date_request msg.kind && begins) x was
-  last_asked_deed _ begins x was = refl
 
   correcting_renamed : (o : Option Said) → correcting_of (renamed_said n o) ≡ renamed_correcting n (correcting_of o)
   correcting_renamed None = refl
@@ -60,32 +52,8 @@ module _ (n : Renaming) where
     by_case true = refl
     by_case false = refl
 
-  last_taken_deed : (d : Deed) (took : Option Received) (was : Option Correcting) → last_taken_after (renamed_deed n d) (renamed_taken n took) (renamed_correcting n was) ≡ renamed_correcting n (last_taken_after d took was)
-  last_taken_deed (Acts (Correct amount stepped shown)) took was = ap correcting_of (said_renamed n took) ∙ correcting_renamed (said took)
-  last_taken_deed _ took was = refl
-
-  -- what a deed on another port does, whatever its peers are called
-  elsewhere_deed : (k : Renaming) (d : Deed) (was : Option Correcting) → last_taken_elsewhere (renamed_deed k d) (renamed_correcting n was) ≡ renamed_correcting n (last_taken_elsewhere d was)
-  elsewhere_deed k (Acts (Correct amount stepped shown)) was = refl
-  elsewhere_deed k _ was = refl
-
 -- the same for one peer, where peers are told apart
 module _ (m : Naming) where
-  posts_of_deed : (p : PeerId) (d : Deed) (begins : Bool) (was : ℕ) → posts_of_after (m.names.peer p) (renamed_deed m.names d) begins was ≡ posts_of_after p d begins was
-  posts_of_deed p (Acts (Post (Peer q) (Message msg))) begins was = ap (λ b. if b && is_numbered msg.kind then (if begins then 1 else was + 1) else was) (m.same q p)
-  posts_of_deed p (Acts (Acked q)) begins was = ap (λ b. if b then 0 else was) (m.same q p)
-  posts_of_deed p (Acts (Gave q)) begins was = ap (λ b. if b then 0 else was) (m.same q p)
-  posts_of_deed p _ begins was = refl
-
-  last_post_deed : (p : PeerId) (d : Deed) (x : ℕ) (was : Option ℕ) → last_post_after (m.names.peer p) (renamed_deed m.names d) (x + m.names.shift) (later m.names was) ≡ later m.names (last_post_after p d x was)
-  last_post_deed p (Acts (Post (Peer q) (Message msg))) x was = ap (λ b. if b && is_correction msg.kind then Some (x + m.names.shift) else later m.names was) (m.same q p) ∙ asked_if m.names ((q.0 == p.0) && is_correction msg.kind) x was
-  last_post_deed p _ x was = refl
-
-  is_acknowledged_deed : (p : PeerId) (d : Deed) (begins corrects was : Bool) → is_acknowledged_after (m.names.peer p) (renamed_deed m.names d) begins corrects was ≡ is_acknowledged_after p d begins corrects was
-  is_acknowledged_deed p (Acts (Post (Peer q) (Message msg))) begins corrects was = ap (λ b. if b && (is_correction msg.kind && begins) then false else was) (m.same q p)
-  is_acknowledged_deed p (Acts (Acked q)) begins corrects was = ap (λ b. if b && corrects then true else was) (m.same q p)
-  is_acknowledged_deed p _ begins corrects was = refl
-
   date_if : (b : Bool) (x number : ℕ) (was : Option Dating) → (if b then Some (record { at = x + m.names.shift; number = number }) else later_date m.names was) ≡ later_date m.names (if b then Some (record { at = x; number = number }) else was)
   date_if true x number was = refl
   date_if false x number was = refl
@@ -95,10 +63,6 @@ module _ (m : Naming) where
   dating_renamed p x (Some s) was =
       ap (λ b. if b && is_date_request s.message.kind then Some (record { at = x + m.names.shift; number = s.message.number }) else later_date m.names was) (m.same s.from p)
       ∙ date_if ((s.from.0 == p.0) && is_date_request s.message.kind) x s.message.number was
-
-  last_date_deed : (p : PeerId) (d : Deed) (x : ℕ) (took : Option Received) (was : Option Dating) → last_date_after (m.names.peer p) (renamed_deed m.names d) (x + m.names.shift) (renamed_taken m.names took) (later_date m.names was) ≡ later_date m.names (last_date_after p d x took was)
-  last_date_deed p (Acts (Correct amount stepped shown)) x took was = ap (λ o. dating_of (m.names.peer p) (x + m.names.shift) o (later_date m.names was)) (said_renamed m.names took) ∙ dating_renamed p x (said took) was
-  last_date_deed p _ x took was = refl
 
 module _ {m : Naming} where
   -- open sends
@@ -115,9 +79,12 @@ module _ {m : Naming} where
 
   pub posts_of_alike : (p : PeerId) → {seen seen' : List Seen} → Alike m seen seen' → posts_of (m.names.peer p) seen' ≡ posts_of p seen
   posts_of_alike p (Booted s s' boot x old old') = refl
-  posts_of_alike p (Own s s' x d ok knows {before = b} a) =
-      ap₂ (posts_of_after (m.names.peer p) (renamed_deed m.names d)) (acting_alike a) (posts_of_alike p a)
-      ∙ posts_of_deed m p d (acting b) (posts_of p b)
+  posts_of_alike p (Own s s' x (Acts Boot) ok knows a) = refl
+  posts_of_alike p (Own s s' x (Acts (Become r)) ok knows a) = refl
+  posts_of_alike p (Own s s' x (Acts (Post (Peer q) (Message msg))) ok knows a) = rw (m.same q p, acting_alike a, posts_of_alike p a) refl
+  posts_of_alike p (Own s s' x (Acts (Acked q)) ok knows a) = ap₂ (λ same n. if same then 0 else n) (m.same q p) (posts_of_alike p a)
+  posts_of_alike p (Own s s' x (Acts (Gave q)) ok knows a) = ap₂ (λ same n. if same then 0 else n) (m.same q p) (posts_of_alike p a)
+  posts_of_alike p (Own s s' x _ ok knows a) = posts_of_alike p a
   posts_of_alike p (Other n shift s s' x d ok a) = posts_of_alike p a
 
   pub open_send_alike : (p : PeerId) → {seen seen' : List Seen} → Alike m seen seen' → open_send (m.names.peer p) seen' ≡ later_sends m.names (open_send p seen)
@@ -126,8 +93,9 @@ module _ {m : Naming} where
   -- how many sends began with the port's own numbers
   pub begun_alike : {seen seen' : List Seen} → Alike m seen seen' → begun seen' ≡ begun seen
   begun_alike (Booted s s' boot x old old') = refl
-  begun_alike (Own s s' x d ok knows {before = b} a) =
-      ap₂ (begun_after (renamed_deed m.names d)) (acting_alike a) (begun_alike a) ∙ begun_deed m.names d (acting b) (begun b)
+  begun_alike (Own s s' x (Acts Boot) ok knows a) = refl
+  begun_alike (Own s s' x (Acts (Post to (Message msg))) ok knows a) = rw (acting_alike a, begun_alike a) refl
+  begun_alike (Own s s' x _ ok knows a) = begun_alike a
   begun_alike (Other n shift s s' x d ok a) = begun_alike a
 
   -- the last correction of a peer
@@ -144,7 +112,11 @@ module _ {m : Naming} where
 
   pub last_post_alike : (p : PeerId) → {seen seen' : List Seen} → Alike m seen seen' → last_post (m.names.peer p) seen' ≡ later m.names (last_post p seen)
   last_post_alike p (Booted s s' boot x old old') = refl
-  last_post_alike p (Own s s' x d ok knows {before = b} a) = ap (last_post_after (m.names.peer p) (renamed_deed m.names d) (x + m.names.shift)) (last_post_alike p a) ∙ last_post_deed m p d x (last_post p b)
+  last_post_alike p (Own s s' x (Acts Boot) ok knows a) = refl
+  last_post_alike p (Own s s' x (Acts (Post (Peer q) (Message msg))) ok knows {before = b} a) =
+      ap₂ (λ same was. if same && is_correction msg.kind then Some (x + m.names.shift) else was) (m.same q p) (last_post_alike p a)
+      ∙ asked_if m.names ((q.0 == p.0) && is_correction msg.kind) x (last_post p b)
+  last_post_alike p (Own s s' x _ ok knows a) = last_post_alike p a
   last_post_alike p (Other n shift s s' x d ok a) = last_post_alike p a
 
   -- whether the open send corrects
@@ -153,30 +125,37 @@ module _ {m : Naming} where
 
   pub is_acknowledged_alike : (p : PeerId) → {seen seen' : List Seen} → Alike m seen seen' → is_acknowledged (m.names.peer p) seen' ≡ is_acknowledged p seen
   is_acknowledged_alike p (Booted s s' boot x old old') = refl
-  is_acknowledged_alike p (Own s s' x d ok knows {before = b} {before' = b'} a) =
-      ap (λ begins. is_acknowledged_after (m.names.peer p) (renamed_deed m.names d) begins (corrects_by (message_at (open_to (m.names.peer p) b'))) (is_acknowledged (m.names.peer p) b')) (acting_alike a)
-      ∙ ap₂ (is_acknowledged_after (m.names.peer p) (renamed_deed m.names d) (acting b)) (corrects_alike p a) (is_acknowledged_alike p a)
-      ∙ is_acknowledged_deed m p d (acting b) (corrects_by (message_at (open_to p b))) (is_acknowledged p b)
+  is_acknowledged_alike p (Own s s' x (Acts Boot) ok knows a) = refl
+  is_acknowledged_alike p (Own s s' x (Acts (Post (Peer q) (Message msg))) ok knows a) = rw (m.same q p, acting_alike a, is_acknowledged_alike p a) refl
+  is_acknowledged_alike p (Own s s' x (Acts (Acked q)) ok knows a) = rw (m.same q p, corrects_alike p a, is_acknowledged_alike p a) refl
+  is_acknowledged_alike p (Own s s' x _ ok knows a) = is_acknowledged_alike p a
   is_acknowledged_alike p (Other n shift s s' x d ok a) = is_acknowledged_alike p a
 
   -- the correction that was taken last
   pub last_taken_alike : {seen seen' : List Seen} → Alike m seen seen' → last_taken seen' ≡ renamed_correcting m.names (last_taken seen)
   last_taken_alike (Booted s s' boot x old old') = refl
-  last_taken_alike (Own s s' x d ok knows {before = b} a) =
-      ap₂ (last_taken_after (renamed_deed m.names d)) (taken_alike a) (last_taken_alike a) ∙ last_taken_deed m.names d (taken b) (last_taken b)
-  last_taken_alike (Other n shift s s' x d ok {before = b} a) = ap (last_taken_elsewhere (renamed_deed n d)) (last_taken_alike a) ∙ elsewhere_deed m.names n d (last_taken b)
+  last_taken_alike (Own s s' x (Acts Boot) ok knows a) = refl
+  last_taken_alike (Own s s' x (Acts (Correct amount stepped value)) ok knows {before = b} a) =
+      ap (λ took. correcting_of (said took)) (taken_alike a) ∙ ap correcting_of (said_renamed m.names (taken b)) ∙ correcting_renamed m.names (said (taken b))
+  last_taken_alike (Own s s' x _ ok knows a) = last_taken_alike a
+  last_taken_alike (Other n shift s s' x (Acts (Correct amount stepped value)) ok a) = refl
+  last_taken_alike (Other n shift s s' x _ ok a) = last_taken_alike a
 
   -- dates
   pub last_date_alike : (p : PeerId) → {seen seen' : List Seen} → Alike m seen seen' → last_date (m.names.peer p) seen' ≡ later_date m.names (last_date p seen)
   last_date_alike p (Booted s s' boot x old old') = refl
-  last_date_alike p (Own s s' x d ok knows {before = b} a) =
-      ap₂ (last_date_after (m.names.peer p) (renamed_deed m.names d) (x + m.names.shift)) (taken_alike a) (last_date_alike p a)
-      ∙ last_date_deed m p d x (taken b) (last_date p b)
+  last_date_alike p (Own s s' x (Acts Boot) ok knows a) = refl
+  last_date_alike p (Own s s' x (Acts (Correct amount stepped value)) ok knows {before = b} a) =
+      ap₂ (dating_of (m.names.peer p) (x + m.names.shift)) (ap said (taken_alike a) ∙ said_renamed m.names (taken b)) (last_date_alike p a)
+      ∙ dating_renamed m p x (said (taken b)) (last_date p b)
+  last_date_alike p (Own s s' x _ ok knows a) = last_date_alike p a
   last_date_alike p (Other n shift s s' x d ok a) = last_date_alike p a
 
   pub last_asked_alike : {seen seen' : List Seen} → Alike m seen seen' → last_asked seen' ≡ later m.names (last_asked seen)
   last_asked_alike (Booted s s' boot x old old') = refl
-  last_asked_alike (Own s s' x d ok knows {before = b} a) =
-      ap₂ (λ begins was. last_asked_after (renamed_deed m.names d) begins (x + m.names.shift) was) (acting_alike a) (last_asked_alike a)
-      ∙ last_asked_deed m.names d (acting b) x (last_asked b)
+  last_asked_alike (Own s s' x (Acts Boot) ok knows a) = refl
+  last_asked_alike (Own s s' x (Acts (Post to (Message msg))) ok knows {before = b} a) =
+      ap₂ (λ begins was. if is_set_date_request msg.kind && begins then Some (x + m.names.shift) else was) (acting_alike a) (last_asked_alike a)
+      ∙ asked_if m.names (is_set_date_request msg.kind && acting b) x (last_asked b)
+  last_asked_alike (Own s s' x _ ok knows a) = last_asked_alike a
   last_asked_alike (Other n shift s s' x d ok a) = last_asked_alike a

@@ -1,15 +1,13 @@
 -- Tests of alarms, roles, the hold and peers say the same at alike pasts.
 use Rattle.std.proofs.Common.{ap, ap₂, ◌∙◌, sym, ◌≡◌, ℕ, ◌+◌, ◌*◌, ◌==◌, nat_lt, Bool, not, ◌&&◌, ◌||◌, length, Option, None, Some, is_some, refl, true, false, ◌%◌, nat_le, ℤ, ◌+ℤ◌, List, [], ◌∷◌, map}
 use Rattle.std.proofs.{lemmas.List.length-map, lemmas.Bool.and_right}
+use Rattle.tsp_rules.specs.Renames.{Renaming, Naming, renamed_place, renamed_role, later_send, later_sends}
+use Rattle.tsp_rules.specs.SendRows.{answers_election, answers_other, is_quit, may_correct, may_set}
+use Rattle.tsp_rules.specs.{DateRows.all_settled, DateRows.answers_date, DateRows.are_settled, DateRows.is_last, GateRows.is_last_probe}
+use Rattle.tsp_rules.specs.{SlaveRows.is_by, SlaveRows.is_next, ClockRows.can_adjust, CommonRows.is_idle}
 use Rattle.tsp_rules.specs.Values.{Alarm, Probe, CloseAlarm, ResolveAlarm, PeerId, Place, Peer, Stranger, Role, Follow, Window, GAP, REUSE, DATEHOLD, LAST, TRIES, RETRY}
-use Rattle.tsp_rules.specs.{GateRows.is_last_probe, ClockRows.can_adjust}
-use Rattle.tsp_rules.specs.{CommonRows.is_idle}
 use Rattle.tsp_rules.specs.Guards.{is_armed, is_due, is_follow, is_heard, is_master, is_met, is_over, is_own, is_starting_role, may_stand_at, is_clock_value, is_in_range, table_at}
 use Rattle.tsp_rules.proofs.RowCodes.{Test, Table, Due, InTime, Armed, MayStand, MayBack, MayJoin, MayCorrect, MayBeAsked, MayPassOn, MayDate, Follows, HasWon, HasMore, HasElection, HasOther, HasDate, HasQuit, IsAwake, IsGoing, IsMaster, IsSlave, IsNewRival, IsFree, IsHeard, IsOwn, IsLeft, IsSendDue, IsSpent, IsRepeated, IsDated, TakesAmount, TakesValue}
-use Rattle.tsp_rules.specs.Renames.{Renaming, Naming, renamed_place, renamed_role, later_send, later_sends}
-use Rattle.tsp_rules.specs.DateRows.{all_settled, answers_date, are_settled, is_last}
-use Rattle.tsp_rules.specs.SendRows.{answers_election, answers_other, is_quit, may_correct, may_set}
-use Rattle.tsp_rules.specs.SlaveRows.{is_by, is_next}
 use Rattle.tsp_base.specs.Words.{Past, deadline, armed, backers, held, is_correction, may_stand, role, plain, correct_tick, Correcting, Dating, is_past, last_asked, last_date, last_post, last_taken, open_send, Sending}
 use Rattle.tsp_alike.proofs.{Alike.AlikePast, NodeAlike.correct_tick_alike, NodeAlike.target_alike, NodeAlike.ticket_alike, NodeAlike.plain_alike}
 use Rattle.tsp_alike.proofs.{ListsAlike.is_among_alike, ListsAlike.list_same, Renamed.later_date, Renamed.renamed_correcting}
