@@ -1,8 +1,9 @@
 -- Two pasts of a port that are alike: since a boot they differ only in what its peers are called and in when its ticks begin. Whatever
 -- was before the boot may differ.
-use Rattle.std.specs.Prelude.{◌≡◌, ℕ, ◌+◌, ◌==◌, true, false, List, ◌∷◌, length, map}
-use Rattle.tsp_base.specs.Words.{Deed, Begins, Acts, Step, Seen, Here, Elsewhere, Past, is_among, others}
-use Rattle.tsp_rules.specs.{NodeRows.PortSetup, Renames.Renaming, Renames.Naming, Values.Boot, Values.PeerId}
+use Rattle.std.specs.Prelude.{◌≡◌, ℕ, ◌+◌, ◌==◌, true, false, List, ◌∷◌, length, map, All}
+use Rattle.tsp_base.specs.Words.{Deed, Begins, Acts, Step, Seen, Here, Elsewhere, Past, is_among, others, Row}
+use Rattle.tsp_rules.specs.Renames.{Renaming, Naming, Knows, renamed_act}
+use Rattle.tsp_rules.specs.{NodeRows.PortSetup, Values.Boot, Values.PeerId, Values.Act}
 use Rattle.tsp_alike.specs.AlikeNodes.{KnowsDeed, SameBoot, is_later, renamed_deed}
 
 -- a deed of a step, as it is seen here
@@ -45,3 +46,11 @@ pub record AlikePast (m : Naming) (p q : Past) : Type 0 where
   pub strict : m.stands → q.strict ≡ p.strict
   pub stands : p.may ≡ true → m.stands
   pub seen : Alike m p.seen q.seen
+
+-- What a row does on a port's past, another does on a past that is alike, in the other names; and it names only known peers.
+pub record MovesAt (m : Naming) (acts acts' : List Act) : Type 0 where
+  pub same : acts' ≡ map (renamed_act m.names) acts
+  pub known : All (Knows m) acts
+
+pub record Moves (m : Naming) (row row' : Row) : Type 0 where
+  pub at : (x : ℕ) (p q : Past) → AlikePast m p q → MovesAt m (row x p) (row' (x + m.names.shift) q)

@@ -1,5 +1,5 @@
 -- A node's answers over all its ports move.
-use Rattle.std.proofs.Common.{sym, ap, subst, arith, ◌∙◌, ◌≡◌, ℕ, ◌+◌, ◌<◌, ◌==◌, Bool, true, false, not, if◌then◌else◌, List, [], ◌∷◌, ◌++◌, length, filter, map, All, refl}
+use Rattle.std.proofs.Common.{sym, ap, ap₂, subst, arith, ◌∙◌, ◌≡◌, ℕ, ◌+◌, ◌<◌, ◌==◌, Bool, true, false, not, if◌then◌else◌, List, [], ◌∷◌, ◌++◌, length, filter, map, All, refl}
 use Rattle.std.proofs.lemmas.List.Elements.{All-nil, All-cons, All-filter}
 use Rattle.tsp_rules.specs.Values.{Act, Abandon, Become, Quiet, Round, Probe, CloseAlarm, Alarm, Message, Stamp, Taken, Good, Bad, Took, Placed, Kind, LoopKind, Place, Port, Starting, ALL, QUIET, Boot, Peer, Stranger}
 use Rattle.tsp_rules.{specs.Answers.rings, specs.Answers.takes, specs.RoundRows.corrects, proofs.EmitsBuilt.nothing_taken}
@@ -10,9 +10,9 @@ use Rattle.tsp_rules.specs.Renames.{Renaming, Knows, comes_place, renamed_act, r
 use Rattle.tsp_rules.proofs.{BuiltAnswers.built_rings, BuiltAnswers.built_takes, BuiltAnswers.built_took, BuiltSends.built_due_sends}
 use Rattle.tsp_rules.proofs.BuiltGate.{built_loosens_master, built_reposts, built_sends_loops, built_starts}
 use Rattle.tsp_base.specs.Words.{Step, Line, MessageValue, Row, arms, puts, ◌followed_by◌, is_going, sets_date, view, first_port}
+use Rattle.tsp_alike.proofs.{MovesBuilt.moves_built, Alike.Moves}
 use Rattle.tsp_alike.specs.AlikeNodes.{AlikeNodes, StepsAlike, TellsApart, renamed_given, AnswersAreAlike, Booted, BootsAreAlike, ComesOn}
 use Rattle.tsp_alike.proofs.NodesAlike.{corrects_renamed, ends_same, goes_same, awake_same, hears_same, in_charge_same, leads_clock_same, other_same, ports_below, ports_same, steers_same, stirred_same, waits_same, NodeMoves, for_ports_move, naming_on, nothing_moves, on_moves, past_with, port_alike, steps_alike, then_moves}
-use Rattle.tsp_alike.proofs.{Moves.Moves, MovesBuilt.moves_built}
 
 -- each row that a node's answers are made of moves
 
@@ -185,13 +185,10 @@ module _ (rs : Port → Renaming) (apart : (q : Port) → TellsApart (rs q)) (sh
   step-moves q has (Forward msg) = forwards-move q msg
 
   heeds-move : (q : Port) → Has q → (msg : MessageValue) (b : Bool) → Moving (heeds_loop q msg b) (heeds_loop q msg b)
-  unfolding heeds_loop judges
-  heeds-move q has msg true = record {
-    at = λ x name strict step lines p' a.
-        let p : NodePast = made name strict step lines in
-        subst (λ n. StepsAlike rs apart shift x p p' (judges q msg x p) (takes_loop_step q (judge n (length p'.ports) q msg) (x + shift) p')) (sym a.name)
-        (subst (λ n. StepsAlike rs apart shift x p p' (judges q msg x p) (takes_loop_step q (judge name n q msg) (x + shift) p')) (sym a.ports) ((step-moves q has (judge name (length ports) q msg)).at x name strict step lines p' a));
-  }
+  unfolding heeds_loop judges reading_all
+  heeds-move q has msg true =
+      let fact : ℕ → NodePast → LoopStep = λ x past. judge past.name (length past.ports) q msg in
+      chosen fact fact (takes_loop_step q) (takes_loop_step q) (λ x name strict step lines p' a. ap₂ (λ own n. judge own n q msg) a.name a.ports) (step-moves q has)
   heeds-move q has msg false = nothing_moves rs apart shift ports may
 
   loop-moves : (q : Port) → Has q → (from : Place) (msg : MessageValue) → Moving (takes_loop q from msg) (takes_loop q (renamed_place (rs q) from) msg)
@@ -203,25 +200,20 @@ module _ (rs : Port → Renaming) (apart : (q : Port) → TellsApart (rs q)) (sh
       (chosen (hears_on from q) (hears_on (renamed_place (rs q) from) q) (heeds_loop q msg) (heeds_loop q msg) (λ x name strict step lines p' a. hears_same rs apart shift ports may a q has from x) (heeds-move q has msg))
 
   message-moves : (q : Port) → Has q → (from : Place) (msg : MessageValue) → comes_place (naming_on rs apart shift ports may q) from → Moving (takes_message q from msg) (takes_message q (renamed_place (rs q) from) msg)
-  unfolding takes_message
-  message-moves q has from msg comes = record {
-    at = λ x name strict step lines p' a.
-        let p : NodePast = made name strict step lines in
-        let to : Place = renamed_place (rs q) from in
-        let t : Taken = Good (Message msg) in
-        let b : Bool = steers q x p in
-        let c : Bool = in_charge q x p in
-        let row : Row = takes b c from t in
-        let k : Moves (naming_on rs apart shift ports may q) row (takes b c to t) = takes_move b c from t comes in
-        subst (λ d. StepsAlike rs apart shift x p p' (takes_message q from msg x p) (stirring q (stirred_ports q msg.kind p') (takes d (in_charge q (x + shift) p') to t) (x + shift) p')) (sym (steers_same rs apart shift ports may a q x))
-        (subst (λ d. StepsAlike rs apart shift x p p' (takes_message q from msg x p) (stirring q (stirred_ports q msg.kind p') (takes b d to t) (x + shift) p')) (sym (in_charge_same rs apart shift ports may a q x))
-        ((stirs q row (takes b c to t) (stirred_ports q msg.kind) has k (λ name strict step lines. stirred-below q msg.kind) (λ name strict step lines p' a. stirred_same rs apart shift ports may a q msg.kind)).at x name strict step lines p' a));
-  } where
-    stirred-below : (r : Port) (kind : Kind) → All (λ (r : Port). r.0 < length ports) (if sets_date kind then ports_from 0 ports else filter (λ s. not (s.0 == r.0)) (ports_from 0 ports))
-    stirred-below r kind = by_case (sets_date kind) where
-      by_case : (b : Bool) → All (λ (r : Port). r.0 < length ports) (if b then ports_from 0 ports else filter (λ s. not (s.0 == r.0)) (ports_from 0 ports))
-      by_case true = all-below
-      by_case false = All-filter (λ s. not (s.0 == r.0)) (λ (r : Port). r.0 < length ports) (ports_from 0 ports) all-below
+  unfolding takes_message reading_all
+  message-moves q has from msg comes =
+      let t : Taken = Good (Message msg) in
+      let fact : ℕ → NodePast → Bool × Bool = λ x past. (steers q x past, in_charge q x past) in
+      let row : Place → Bool × Bool → NodeRow = λ f b x past. stirring q (stirred_ports q msg.kind past) (takes b.0 b.1 f t) x past in
+      chosen fact fact (row from) (row (renamed_place (rs q) from))
+      (λ x name strict step lines p' a. ap₂ (λ b c. (b, c)) (steers_same rs apart shift ports may a q x) (in_charge_same rs apart shift ports may a q x))
+      (λ b. stirs q (takes b.0 b.1 from t) (takes b.0 b.1 (renamed_place (rs q) from) t) (stirred_ports q msg.kind) has (takes_move b.0 b.1 from t comes)
+      (λ name strict step lines. stirred-below q msg.kind) (λ name strict step lines p' a. stirred_same rs apart shift ports may a q msg.kind)) where
+        stirred-below : (r : Port) (kind : Kind) → All (λ (r : Port). r.0 < length ports) (if sets_date kind then ports_from 0 ports else filter (λ s. not (s.0 == r.0)) (ports_from 0 ports))
+        stirred-below r kind = by_case (sets_date kind) where
+          by_case : (b : Bool) → All (λ (r : Port). r.0 < length ports) (if b then ports_from 0 ports else filter (λ s. not (s.0 == r.0)) (ports_from 0 ports))
+          by_case true = all-below
+          by_case false = All-filter (λ s. not (s.0 == r.0)) (λ (r : Port). r.0 < length ports) (ports_from 0 ports) all-below
 
   kind-moves : (q : Port) → Has q → (from : Place) (msg : MessageValue) → comes_place (naming_on rs apart shift ports may q) from → (kind : Kind) → Moving (takes_kind q from msg kind) (takes_kind q (renamed_place (rs q) from) msg kind)
   unfolding takes_kind

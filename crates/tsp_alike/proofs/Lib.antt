@@ -1,14 +1,9 @@
 pub mod Alike
 pub mod AlikeLaws
-pub mod LeavesAlike
 pub mod ListsAlike
-pub mod Moves
 pub mod MovesBuilt
-pub mod NodeAlike
 pub mod NodesAlike
 pub mod PortAlike
 pub mod Renamed
 pub mod RoundsAlike
-pub mod SendsAlike
 pub mod TestsAlike
-pub mod Ticks

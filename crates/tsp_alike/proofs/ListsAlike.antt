@@ -8,8 +8,8 @@ use Rattle.tsp_rules.proofs.RowCodes.{Listed, Others, Rivals, Table, Measured}
 use Rattle.tsp_rules.{specs.Renames.Naming, specs.Renames.later_sends, proofs.GuardFacts.same_peer}
 use Rattle.tsp_rules.specs.Values.{PeerId, Boot, Post, Become, Acked, Gave, Join, Leave, Rival, Arm, Message, Stamp, CloseAlarm, Peer, Request}
 use Rattle.tsp_alike.proofs.Alike.{AlikePort, AlikePast, Alike, Booted, Own, Other, here}
-use Rattle.tsp_alike.proofs.{PortAlike.in_table_alike, PortAlike.is_rival_alike, RoundsAlike.is_measured_alike, RoundsAlike.estimate_alike}
-use Rattle.tsp_alike.{proofs.Renamed.renamed_standing, proofs.SendsAlike.open_send_alike}
+use Rattle.tsp_alike.proofs.{PortAlike.in_table_alike, PortAlike.is_rival_alike, PortAlike.open_send_alike, Renamed.renamed_standing}
+use Rattle.tsp_alike.proofs.RoundsAlike.{is_measured_alike, estimate_alike}
 
 -- acts name only known peers: of any other peer, as the port's own number, a past says nothing
 
@@ -22,8 +22,10 @@ module _ {m : Naming} (o : PeerId) (u : Unnamed m o) where
   in_table_unnamed (Booted s s' boot x old old') = refl
   in_table_unnamed (Own s s' x (Acts Boot) ok knows a) = refl
   in_table_unnamed (Own s s' x (Acts (Become r)) ok knows a) = refl
-  in_table_unnamed (Own s s' x (Acts (Join q)) ok knows {before = b} a) = ap (λ z. if z then true else in_table o b) (u q knows) ∙ in_table_unnamed a
-  in_table_unnamed (Own s s' x (Acts (Leave q)) ok knows {before = b} a) = ap (λ z. if z then false else in_table o b) (u q knows) ∙ in_table_unnamed a
+  in_table_unnamed (Own s s' x (Acts (Join q)) ok knows {before = b} a) =
+      ap (λ z. if z then true else in_table o b) (u q knows) ∙ in_table_unnamed a
+  in_table_unnamed (Own s s' x (Acts (Leave q)) ok knows {before = b} a) =
+      ap (λ z. if z then false else in_table o b) (u q knows) ∙ in_table_unnamed a
   in_table_unnamed (Own s s' x _ ok knows a) = in_table_unnamed a
   in_table_unnamed (Other n shift s s' x d ok a) = in_table_unnamed a
 
@@ -31,7 +33,8 @@ module _ {m : Naming} (o : PeerId) (u : Unnamed m o) where
   is_rival_unnamed (Booted s s' boot x old old') = refl
   is_rival_unnamed (Own s s' x (Acts Boot) ok knows a) = refl
   is_rival_unnamed (Own s s' x (Acts (Become r)) ok knows a) = refl
-  is_rival_unnamed (Own s s' x (Acts (Rival q)) ok knows {before = b} a) = ap (λ z. if z then true else is_rival o b) (u q knows) ∙ is_rival_unnamed a
+  is_rival_unnamed (Own s s' x (Acts (Rival q)) ok knows {before = b} a) =
+      ap (λ z. if z then true else is_rival o b) (u q knows) ∙ is_rival_unnamed a
   is_rival_unnamed (Own s s' x _ ok knows a) = is_rival_unnamed a
   is_rival_unnamed (Other n shift s s' x d ok a) = is_rival_unnamed a
 
@@ -42,7 +45,8 @@ module _ {m : Naming} (o : PeerId) (u : Unnamed m o) where
   is_measured_unnamed (Own s s' x (Acts (Arm CloseAlarm at)) ok knows a) = refl
   is_measured_unnamed (Own s s' x (Acts (Post (Peer q) (Stamp (Request word counter)))) ok knows {before = b} a) =
       ap (λ z. if z && is_starting b then true else is_measured o b) (u q knows) ∙ is_measured_unnamed a
-  is_measured_unnamed (Own s s' x (Acts (Leave q)) ok knows {before = b} a) = ap (λ z. if z then false else is_measured o b) (u q knows) ∙ is_measured_unnamed a
+  is_measured_unnamed (Own s s' x (Acts (Leave q)) ok knows {before = b} a) =
+      ap (λ z. if z then false else is_measured o b) (u q knows) ∙ is_measured_unnamed a
   is_measured_unnamed (Own s s' x _ ok knows a) = is_measured_unnamed a
   is_measured_unnamed (Other n shift s s' x d ok a) = is_measured_unnamed a
 
@@ -52,8 +56,10 @@ module _ {m : Naming} (o : PeerId) (u : Unnamed m o) where
   open_to_unnamed (Own s s' x (Acts (Become r)) ok knows a) = refl
   open_to_unnamed (Own s s' x (Acts (Post (Peer q) (Message msg))) ok knows {before = b} a) =
       ap (λ z. if z && (is_numbered msg.kind && acting b) then here s x (Acts (Post (Peer q) (Message msg))) ∷ b else open_to o b) (u q knows) ∙ open_to_unnamed a
-  open_to_unnamed (Own s s' x (Acts (Acked q)) ok knows {before = b} a) = ap (λ z. if z then [] else open_to o b) (u q knows) ∙ open_to_unnamed a
-  open_to_unnamed (Own s s' x (Acts (Gave q)) ok knows {before = b} a) = ap (λ z. if z then [] else open_to o b) (u q knows) ∙ open_to_unnamed a
+  open_to_unnamed (Own s s' x (Acts (Acked q)) ok knows {before = b} a) =
+      ap (λ z. if z then [] else open_to o b) (u q knows) ∙ open_to_unnamed a
+  open_to_unnamed (Own s s' x (Acts (Gave q)) ok knows {before = b} a) =
+      ap (λ z. if z then [] else open_to o b) (u q knows) ∙ open_to_unnamed a
   open_to_unnamed (Own s s' x _ ok knows a) = open_to_unnamed a
   open_to_unnamed (Other n shift s s' x d ok a) = open_to_unnamed a
 

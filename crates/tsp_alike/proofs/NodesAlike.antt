@@ -8,9 +8,9 @@ use Rattle.tsp_rules.specs.Renames.{Naming, Renaming, Knows, renamed_act, rename
 use Rattle.tsp_rules.specs.GateRows.{any_port, ends_probes, follows_on, goes_on, has_rung, hears_on, in_charge, is_awake_on, is_last_probe, leads_clock, leads_on, lower_ports, other_ports, ports_from, steers, stirred_ports, waits}
 use Rattle.tsp_rules.specs.{Guards.is_follow, Guards.is_master, Guards.is_starting_role, RoundRows.corrects, RoundRows.is_correct}
 use Rattle.tsp_base.specs.Words.{Deed, Begins, Acts, Step, Line, Row, first_port, is_shared, joined, line_of, placed, seen_as, view, is_among, others, role, sets_date}
+use Rattle.tsp_alike.proofs.{RoundsAlike.is_going_alike, ListsAlike.among_others, PortAlike.role_alike}
 use Rattle.tsp_alike.specs.AlikeNodes.{AlikeLines, AlikeNodes, AllKnown, Booted, Both, KnowsDeed, StepsAlike, TellsApart, is_later, naming_of, renamed_deed, renamed_placed}
-use Rattle.tsp_alike.proofs.Alike.{Alike, AlikePast, Booted as PortBooted, Own, Other, elsewhere, here}
-use Rattle.tsp_alike.proofs.{ListsAlike.among_others, Moves.Moves, RoundsAlike.is_going_alike, PortAlike.role_alike}
+use Rattle.tsp_alike.proofs.Alike.{Alike, AlikePast, Booted as PortBooted, Own, Other, elsewhere, here, Moves}
 use Rattle.tsp_alike.proofs.TestsAlike.{follow_renamed, master_renamed, starting_renamed, hears_alike, is_last_probe_alike}
 
 -- an act that names known peers is no boot
@@ -225,14 +225,16 @@ module _ (rs : Port → Renaming) (apart : (q : Port) → TellsApart (rs q)) (sh
   pub stirred_same : (q : Port) (kind : Kind) → stirred_ports q kind p' ≡ stirred_ports q kind p
   stirred_same q kind = ap (λ l. if sets_date kind then l else filter (λ r. not (r.0 == q.0)) l) all-same
 
-  none-lower : (t t' : Port → Bool) → ((r : Port) → t' r ≡ t r) → (q : Port) → not (any_port t' (lower_ports q p')) ≡ not (any_port t (lower_ports q p))
+  none-lower : (t t' : Port → Bool) → ((r : Port) → t' r ≡ t r) → (q : Port) →
+      not (any_port t' (lower_ports q p')) ≡ not (any_port t (lower_ports q p))
   none-lower t t' same q = ap not (ap (any_port t') (ap (filter (λ r. nat_lt r.0 q.0)) all-same) ∙ any-same t t' same (lower_ports q p))
 
   pub steers_same : (q : Port) (x : ℕ) → steers q (x + shift) p' ≡ steers q x p
   steers_same q x = ap₂ ◌&&◌ (follows_same q) (none-lower (follows_on p) (follows_on p') follows_same q)
 
   pub leads_clock_same : (q : Port) (x : ℕ) → leads_clock q (x + shift) p' ≡ leads_clock q x p
-  leads_clock_same q x = ap₂ ◌&&◌ (ap not (ap (any_port (follows_on p')) all-same ∙ any-same (follows_on p) (follows_on p') follows_same (ports_from 0 ports)))
+  leads_clock_same q x =
+      ap₂ ◌&&◌ (ap not (ap (any_port (follows_on p')) all-same ∙ any-same (follows_on p) (follows_on p') follows_same (ports_from 0 ports)))
       (none-lower (leads_on p) (leads_on p') leads_same q)
 
   pub in_charge_same : (q : Port) (x : ℕ) → in_charge q (x + shift) p' ≡ in_charge q x p

@@ -9,12 +9,10 @@ use Rattle.tsp_rules.specs.Values.{Alarm, Probe, CloseAlarm, ResolveAlarm, PeerI
 use Rattle.tsp_rules.specs.Guards.{is_armed, is_due, is_follow, is_heard, is_master, is_met, is_over, is_own, is_starting_role, may_stand_at, is_clock_value, is_in_range, table_at}
 use Rattle.tsp_rules.proofs.RowCodes.{Test, Table, Due, InTime, Armed, MayStand, MayBack, MayJoin, MayCorrect, MayBeAsked, MayPassOn, MayDate, Follows, HasWon, HasMore, HasElection, HasOther, HasDate, HasQuit, IsAwake, IsGoing, IsMaster, IsSlave, IsNewRival, IsFree, IsHeard, IsOwn, IsLeft, IsSendDue, IsSpent, IsRepeated, IsDated, TakesAmount, TakesValue}
 use Rattle.tsp_base.specs.Words.{Past, deadline, armed, backers, held, is_correction, may_stand, role, plain, correct_tick, Correcting, Dating, is_past, last_asked, last_date, last_post, last_taken, open_send, Sending}
-use Rattle.tsp_alike.proofs.{Alike.AlikePast, NodeAlike.correct_tick_alike, NodeAlike.target_alike, NodeAlike.ticket_alike, NodeAlike.plain_alike}
-use Rattle.tsp_alike.proofs.{ListsAlike.is_among_alike, ListsAlike.list_same, Renamed.later_date, Renamed.renamed_correcting}
-use Rattle.tsp_alike.proofs.RoundsAlike.{is_going_alike, probes_alike, some_later}
-use Rattle.tsp_alike.proofs.Ticks.{met_later, over_later, le_after, lt_after, lt_until, past_later}
-use Rattle.tsp_alike.proofs.PortAlike.{backers_alike, deadline_alike, in_table_alike, is_rival_alike, may_back_alike, may_stand_alike, role_alike, window_stands}
-use Rattle.tsp_alike.proofs.SendsAlike.{is_acknowledged_alike, last_asked_alike, last_date_alike, last_number_alike, last_post_alike, last_taken_alike, open_send_alike}
+use Rattle.tsp_alike.proofs.{ListsAlike.is_among_alike, ListsAlike.list_same, Alike.AlikePast}
+use Rattle.tsp_alike.proofs.RoundsAlike.{correct_tick_alike, target_alike, ticket_alike, plain_alike, is_going_alike, probes_alike, some_later}
+use Rattle.tsp_alike.proofs.Renamed.{later_date, renamed_correcting, met_later, over_later, le_after, lt_after, lt_until, past_later}
+use Rattle.tsp_alike.proofs.PortAlike.{backers_alike, deadline_alike, in_table_alike, is_rival_alike, may_back_alike, may_stand_alike, role_alike, window_stands, is_acknowledged_alike, last_asked_alike, last_date_alike, last_number_alike, last_post_alike, last_taken_alike, open_send_alike}
 
 -- tests of renamed values
 module _ (n : Renaming) where
@@ -92,14 +90,17 @@ by_renamed m p number (Some c) = ap (λ b. b && (c.number == number)) (m.same c.
 -- sends, corrections and dates
 module _ {m : Naming} {p q : Past} (a : AlikePast m p q) where
   -- a test of the open send to a peer that reads neither its peer nor its ticks
-  of_send : {A : Type 0} (test : Option Sending → A) → ((s : Sending) → test (Some (later_send m.names s)) ≡ test (Some s)) → (r : PeerId) → test (open_send (m.names.peer r) q.seen) ≡ test (open_send r p.seen)
+  of_send : {A : Type 0} (test : Option Sending → A) → ((s : Sending) → test (Some (later_send m.names s)) ≡ test (Some s)) → (r : PeerId) →
+      test (open_send (m.names.peer r) q.seen) ≡ test (open_send r p.seen)
   of_send {A} test same r = ap test (open_send_alike r a.seen) ∙ by_case (open_send r p.seen) where
     by_case : (o : Option Sending) → test (later_sends m.names o) ≡ test o
     by_case None = refl
     by_case (Some s) = same s
 
-  long_posted : (r : PeerId) (x : ℕ) → is_past (last_post (m.names.peer r) q.seen) REUSE (x + m.names.shift) ≡ is_past (last_post r p.seen) REUSE x
-  long_posted r x = ap (λ o. is_past o REUSE (x + m.names.shift)) (last_post_alike r a.seen) ∙ past_later m.names (last_post r p.seen) REUSE x
+  long_posted : (r : PeerId) (x : ℕ) →
+      is_past (last_post (m.names.peer r) q.seen) REUSE (x + m.names.shift) ≡ is_past (last_post r p.seen) REUSE x
+  long_posted r x =
+      ap (λ o. is_past o REUSE (x + m.names.shift)) (last_post_alike r a.seen) ∙ past_later m.names (last_post r p.seen) REUSE x
 
   may_correct_alike : (r : PeerId) (number x : ℕ) → may_correct (m.names.peer r) number (x + m.names.shift) q ≡ may_correct r number x p
   may_correct_alike r number x =
