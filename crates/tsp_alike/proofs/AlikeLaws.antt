@@ -188,7 +188,8 @@ module _ (rs : Port → Renaming) (apart : (q : Port) → TellsApart (rs q)) (sh
   unfolding heeds_loop judges reading_all
   heeds-move q has msg true =
       let fact : ℕ → NodePast → LoopStep = λ x past. judge past.name (length past.ports) q msg in
-      chosen fact fact (takes_loop_step q) (takes_loop_step q) (λ x name strict step lines p' a. ap₂ (λ own n. judge own n q msg) a.name a.ports) (step-moves q has)
+      chosen fact fact (takes_loop_step q) (takes_loop_step q)
+      (λ x name strict step lines p' a. ap₂ (λ own n. judge own n q msg) a.name a.ports) (step-moves q has)
   heeds-move q has msg false = nothing_moves rs apart shift ports may
 
   loop-moves : (q : Port) → Has q → (from : Place) (msg : MessageValue) → Moving (takes_loop q from msg) (takes_loop q (renamed_place (rs q) from) msg)
@@ -206,9 +207,12 @@ module _ (rs : Port → Renaming) (apart : (q : Port) → TellsApart (rs q)) (sh
       let fact : ℕ → NodePast → Bool × Bool = λ x past. (steers q x past, in_charge q x past) in
       let row : Place → Bool × Bool → NodeRow = λ f b x past. stirring q (stirred_ports q msg.kind past) (takes b.0 b.1 f t) x past in
       chosen fact fact (row from) (row (renamed_place (rs q) from))
-      (λ x name strict step lines p' a. ap₂ (λ b c. (b, c)) (steers_same rs apart shift ports may a q x) (in_charge_same rs apart shift ports may a q x))
-      (λ b. stirs q (takes b.0 b.1 from t) (takes b.0 b.1 (renamed_place (rs q) from) t) (stirred_ports q msg.kind) has (takes_move b.0 b.1 from t comes)
-      (λ name strict step lines. stirred-below q msg.kind) (λ name strict step lines p' a. stirred_same rs apart shift ports may a q msg.kind)) where
+      (λ x name strict step lines p' a. ap₂ (λ b c. (b, c)) (steers_same rs apart shift ports may a q x)
+      (in_charge_same rs apart shift ports may a q x))
+      (λ b. stirs q (takes b.0 b.1 from t) (takes b.0 b.1 (renamed_place (rs q) from) t) (stirred_ports q msg.kind)
+      has (takes_move b.0 b.1 from t comes)
+      (λ name strict step lines. stirred-below q msg.kind)
+      (λ name strict step lines p' a. stirred_same rs apart shift ports may a q msg.kind)) where
         stirred-below : (r : Port) (kind : Kind) → All (λ (r : Port). r.0 < length ports) (if sets_date kind then ports_from 0 ports else filter (λ s. not (s.0 == r.0)) (ports_from 0 ports))
         stirred-below r kind = by_case (sets_date kind) where
           by_case : (b : Bool) → All (λ (r : Port). r.0 < length ports) (if b then ports_from 0 ports else filter (λ s. not (s.0 == r.0)) (ports_from 0 ports))

@@ -171,17 +171,20 @@ module _ {m : Naming} {p q : Past} (a : AlikePast m p q) (x : ℕ) where
   leaf_at (PostsTime r kind number time known owed timely fits) =
       one (ap (λ name. Post (Peer (m.names.peer r)) (Message (timed kind number time name))) a.name) known
   leaf_at (PostsReply from w counter known back owed) = only_if (is_in_range x p) _ (is_in_range_alike a x) (one
-      (ap₂ (λ k t. Post (renamed_place m.names from) (Stamp (Reply (record { ticket = k; word = w; counter = counter; reading = t })))) (ticket_alike (plain_alike a.seen)) (target_alike (plain_alike a.seen) x))
+      (ap₂ (λ k t. Post (renamed_place m.names from) (Stamp (Reply (record { ticket = k; word = w; counter = counter; reading = t }))))
+      (ticket_alike (plain_alike a.seen)) (target_alike (plain_alike a.seen) x))
       known)
   leaf_at (PostsName from number name known back owed named) = one refl known
   leaf_at (Repeats r s known owed) = one refl known
   leaf_at (SettimeBegins r number known owed) = only_if (may_set r number x p) _ (may_set_alike a r number x)
-      (one (ap₂ (λ name t. Post (Peer (m.names.peer r)) (Message (timed SetTime number t name))) a.name (target_alike (plain_alike a.seen) x)) known)
+      (one (ap₂ (λ name t. Post (Peer (m.names.peer r)) (Message (timed SetTime number t name))) a.name
+      (target_alike (plain_alike a.seen) x)) known)
   leaf_at (Loops port owed) =
       for_others (loop_to port p.name) (loop_to port q.name) (λ r. ap (λ name. loop_to port name (m.names.peer r)) a.name) (λ r k. k)
   leaf_at (Reposts msg owed) = for_others (repost msg) (repost msg) (λ r. refl) (λ r k. k)
   leaf_at (Asks r known) =
-      one (ap₂ (λ w k. Post (Peer (m.names.peer r)) (Stamp (Request w (k % 2 ^ 64)))) (word_alike (plain_alike a.seen)) (asked_alike a.seen)) known
+      one (ap₂ (λ w k. Post (Peer (m.names.peer r)) (Stamp (Request w (k % 2 ^ 64))))
+      (word_alike (plain_alike a.seen)) (asked_alike a.seen)) known
   leaf_at (Samples r reply sent now known owed) = one refl known
   leaf_at (Adjusts amount) = one (ap (Correct amount (is_step amount)) (shown_if amount (is_step amount))) tt
   leaf_at (Sets value) = one (ap (λ t. Correct (value -ℤ t) true value) (target_alike (plain_alike a.seen) x)) tt

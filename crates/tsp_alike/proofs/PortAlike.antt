@@ -226,7 +226,8 @@ module _ {m : Naming} where
   open_to_alike p (Own s s' x (Acts Boot) ok knows a) = Nowhere
   open_to_alike p (Own s s' x (Acts (Become r)) ok knows a) = Nowhere
   open_to_alike p (Own s s' x (Acts (Post (Peer q) (Message msg))) ok knows a) =
-      either_place m _ _ (ap₂ (λ same begins. same && (is_numbered msg.kind && begins)) (m.same q p) (acting_alike a)) (There s s' x _ a) (open_to_alike p a)
+      either_place m _ _ (ap₂ (λ same begins. same && (is_numbered msg.kind && begins)) (m.same q p) (acting_alike a))
+      (There s s' x _ a) (open_to_alike p a)
   open_to_alike p (Own s s' x (Acts (Acked q)) ok knows a) = either_place m _ _ (m.same q p) Nowhere (open_to_alike p a)
   open_to_alike p (Own s s' x (Acts (Gave q)) ok knows a) = either_place m _ _ (m.same q p) Nowhere (open_to_alike p a)
   open_to_alike p (Own s s' x _ ok knows a) = open_to_alike p a
@@ -258,7 +259,8 @@ module _ {m : Naming} where
   last_to_alike p (Booted s s' boot x old old') = Nowhere
   last_to_alike p (Own s s' x (Acts Boot) ok knows a) = Nowhere
   last_to_alike p (Own s s' x (Acts (Post (Peer q) (Message msg))) ok knows a) =
-      either_place m _ _ (ap₂ (λ same begins. same && (is_correction msg.kind && begins)) (m.same q p) (acting_alike a)) (There s s' x _ a) (last_to_alike p a)
+      either_place m _ _ (ap₂ (λ same begins. same && (is_correction msg.kind && begins)) (m.same q p) (acting_alike a))
+      (There s s' x _ a) (last_to_alike p a)
   last_to_alike p (Own s s' x _ ok knows a) = last_to_alike p a
   last_to_alike p (Other n shift s s' x d ok a) = last_to_alike p a
 
@@ -312,7 +314,8 @@ module _ {m : Naming} where
   last_asked_alike (Booted s s' boot x old old') = refl
   last_asked_alike (Own s s' x (Acts Boot) ok knows a) = refl
   last_asked_alike (Own s s' x (Acts (Post to (Message msg))) ok knows {before = b} a) =
-      ap₂ (λ begins was. if is_set_date_request msg.kind && begins then Some (x + m.names.shift) else was) (acting_alike a) (last_asked_alike a)
+      ap₂ (λ begins was. if is_set_date_request msg.kind && begins then Some (x + m.names.shift) else was) (acting_alike a)
+      (last_asked_alike a)
       ∙ asked_if m.names (is_set_date_request msg.kind && acting b) x (last_asked b)
   last_asked_alike (Own s s' x _ ok knows a) = last_asked_alike a
   last_asked_alike (Other n shift s s' x d ok a) = last_asked_alike a
