@@ -1,12 +1,13 @@
 -- The lists of peers that rows go through, at alike pasts.
-use Rattle.std.proofs.Common.{ap, sym, ◌∙◌, ◌≡◌, ℕ, ◌+◌, ◌==◌, Bool, true, false, not, ◌||◌, if◌then◌else◌, List, [], ◌∷◌, map, filter, refl, None, ◌&&◌}
+use Rattle.std.proofs.Common.{ap, ap₂, pos, sym, ◌∙◌, ◌≡◌, ℕ, ◌+◌, ◌==◌, Bool, true, false, not, ◌||◌, if◌then◌else◌, List, [], ◌∷◌, map, filter, refl, None, ◌&&◌}
 use Rattle.std.{proofs.lemmas.Bool.eq-eqb, proofs.lemmas.Bool.eqb-false, proofs.lemmas.Bool.ne_eqb, specs.List.All}
 use Rattle.std.proofs.lemmas.List.Elements.{All-nil, All-cons, All-head, All-tail, All-same, All-weaker, All-filter}
 use Rattle.tsp_base.specs.Words.{Past, in_table, is_among, is_measured, is_rival, others, estimate, Seen, Acts, acting, is_numbered, open_to, posts_of, open_send, sending_at, is_starting}
-use Rattle.tsp_rules.specs.{NodeRows.PortSetup, RoundRows.measured_at, RoundRows.round_at, RoundRows.standing}
+use Rattle.tsp_rules.specs.RoundRows.{Standing, diff_before, estimates, measured_at, near_diffs, round_at, standing}
 use Rattle.tsp_rules.proofs.RowCodes.{Listed, Others, Rivals, Table, Measured}
-use Rattle.tsp_rules.{specs.Renames.Naming, specs.Renames.later_sends, proofs.GuardFacts.same_peer}
-use Rattle.tsp_rules.specs.Values.{PeerId, Boot, Post, Become, Acked, Gave, Join, Leave, Rival, Arm, Message, Stamp, CloseAlarm, Peer, Request}
+use Rattle.tsp_rules.specs.Renames.{Knows, Naming, Renaming, later_sends, renamed_act}
+use Rattle.tsp_rules.{specs.NodeRows.PortSetup, proofs.GuardFacts.same_peer}
+use Rattle.tsp_rules.specs.Values.{Act, PeerId, Boot, Post, Become, Acked, Gave, Join, Leave, Rival, Arm, Message, Stamp, CloseAlarm, Peer, Request}
 use Rattle.tsp_alike.proofs.Alike.{AlikePort, AlikePast, Alike, Booted, Own, Other, here}
 use Rattle.tsp_alike.proofs.{PortAlike.in_table_alike, PortAlike.is_rival_alike, PortAlike.open_send_alike, Renamed.renamed_standing}
 use Rattle.tsp_alike.proofs.RoundsAlike.{is_measured_alike, estimate_alike}
@@ -175,3 +176,22 @@ module _ {m : Naming} where
 
   pub round_at_known : {p q : Past} → AlikePast m p q → (x : ℕ) → All (λ s. m.known s.peer) (round_at x p)
   round_at_known {p = p} a x = standings_known m p.seen (measured_at x p) (list_known a x Measured)
+
+-- an act for each renamed peer
+pub acts_renamed : (n : Renaming) (act act' : PeerId → Act) → ((r : PeerId) → act' (n.peer r) ≡ renamed_act n (act r)) → (rs : List PeerId) → map act' (map n.peer rs) ≡ map (renamed_act n) (map act rs)
+acts_renamed n act act' same [] = refl
+acts_renamed n act act' same (r ∷ rs) = ap₂ ◌∷◌ (same r) (acts_renamed n act act' same rs)
+
+pub mapped_known : (m : Naming) (f : PeerId → Act) → ((p : PeerId) → m.known p → Knows m (f p)) → (ps : List PeerId) → All m.known ps →
+    All (Knows m) (map f ps)
+mapped_known m f k [] known = All-nil (Knows m)
+mapped_known m f k (p ∷ ps) known =
+    All-cons (Knows m) (f p) (map f ps) (k p (All-head m.known p ps known)) (mapped_known m f k ps (All-tail m.known p ps known))
+
+-- estimates don't depend on what peers are called
+same-diffs : (n : Renaming) (round : List Standing) → near_diffs (map (renamed_standing n) round) ≡ near_diffs round
+same-diffs n [] = refl
+same-diffs n (s ∷ round) = ap (diff_before s.best) (same-diffs n round)
+
+pub same-estimates : (n : Renaming) (round : List Standing) → estimates (map (renamed_standing n) round) ≡ estimates round
+same-estimates n round = ap (λ l. pos 0 ∷ l) (same-diffs n round)

@@ -1,7 +1,7 @@
 -- Rows that put acts put the same at alike pasts, but for the names of peers and later ticks; so every derived row moves.
 use Rattle.std.proofs.lemmas.List.Elements.{All-nil, All-cons, All-head, All-tail, All-append}
 use Rattle.std.proofs.{lemmas.List.map-append, lemmas.Bool.and_parts}
-use Rattle.std.proofs.Common.{ap, ap₂, true≢false, arith, ◌∙◌, ◌≡◌, ℕ, ◌+◌, ◌%◌, ◌^◌, ℤ, ◌+ℤ◌, ◌-ℤ◌, Bool, true, false, if◌then◌else◌, List, [], ◌∷◌, map, refl, sym, subst, ◌==◌, not, ◌++◌, All, pos, Option, None, Some}
+use Rattle.std.proofs.Common.{ap, ap₂, true≢false, arith, ◌∙◌, ◌≡◌, ℕ, ◌+◌, ◌%◌, ◌^◌, ℤ, ◌+ℤ◌, ◌-ℤ◌, Bool, true, false, if◌then◌else◌, List, [], ◌∷◌, map, refl, sym, subst, ◌==◌, not, ◌++◌, All, Option, None, Some}
 use Rattle.tsp_rules.specs.Guards.{is_in_range, target_at, delay, is_due, is_own, may_stand_at}
 use Rattle.tsp_rules.specs.SendRows.{begins_settime, may_set, repeats, open_at, peers_at}
 use Rattle.tsp_rules.{specs.CommonRows.posts_reply, specs.CommonRows.replies, specs.CommonRows.master_name_in, proofs.GuardFacts.same_peer}
@@ -9,7 +9,7 @@ use Rattle.tsp_rules.{specs.GateRows.loop_to, specs.GateRows.repost, specs.GateR
 use Rattle.tsp_rules.proofs.EmitsBuilt.{nothing_owed, nothing_measured}
 use Rattle.tsp_rules.specs.ClockRows.{adjusts, is_step, sets}
 use Rattle.tsp_rules.specs.Renames.{Renaming, Naming, renamed_act, renamed_place, renamed_role, Knows, Wakes, known_place, later_send, later_sends}
-use Rattle.tsp_rules.specs.RoundRows.{asks, Standing, abandons, close_act, closes, closes_with, corrects_by, corrects_peer, diff_before, estimates, mean_by, moves, near_diffs, round_at}
+use Rattle.tsp_rules.specs.RoundRows.{asks, Standing, abandons, close_act, closes, closes_with, corrects_by, corrects_peer, estimates, mean_by, moves, round_at}
 use Rattle.tsp_rules.specs.Values.{Act, Post, Correct, Arm, Message, Stamp, SetTime, PeerId, Peer, Request, Reply, Role, Follow, Ring, Abandon, Alarm, Window, CloseAlarm, Place, Stranger, SPAN}
 use Rattle.tsp_rules.proofs.RowCodes.{Value, Leaf, Fact, Valued, Puts, Takes, Arms, Posts, ToOthers, PostsBack, PostsTime, PostsReply, PostsName, Repeats, SettimeBegins, Loops, Reposts, Asks, Samples, Adjusts, Sets, RoleAt, DelayAt, OwnAt, TargetAt, RequestAt, TicketAt, NextNumber, MasterName, Others, is_plain, Test, yes, no, Due, MayStand, MayBeAsked, IsOwn}
 use Rattle.tsp_rules.proofs.Built.{Built, Empty, At, Then, Either, If, Reading, ReadingValue, Each, EachSend, Closes, More, Wider}
@@ -19,7 +19,7 @@ use Rattle.tsp_alike.proofs.NodesAlike.{later_known}
 use Rattle.tsp_alike.proofs.PortAlike.{kept_name_alike, role_alike, role_known, begun_alike, open_send_alike}
 use Rattle.tsp_alike.proofs.RoundsAlike.{asked_alike, request_open_alike, plain_alike, shown_alike, word_alike, target_alike, ticket_alike}
 use Rattle.tsp_alike.proofs.TestsAlike.{is_in_range_alike, may_set_alike, can_adjust_alike, due_stands, test_same}
-use Rattle.tsp_alike.proofs.ListsAlike.{list_known, Unnamed, list_same, open_send_renamed, open_send_unnamed, round_at_alike, round_at_known}
+use Rattle.tsp_alike.proofs.ListsAlike.{list_known, Unnamed, list_same, open_send_renamed, open_send_unnamed, round_at_alike, round_at_known, acts_renamed, mapped_known, same-estimates}
 use Rattle.tsp_group.specs.{declared.group.Group.Group, Groups.group_of}
 
 -- how moving rows are put together
@@ -119,17 +119,6 @@ module _ {m : Naming} {p q : Past} (a : AlikePast m p q) (x : ℕ) where
       ∙ name_in_role m.names (role p.seen) p.name (kept_name q.seen)
       ∙ ap (master_name_in (role p.seen) p.name) (kept_name_alike a.seen)
 
--- an act for each renamed peer
-acts_renamed : (n : Renaming) (act act' : PeerId → Act) → ((r : PeerId) → act' (n.peer r) ≡ renamed_act n (act r)) → (rs : List PeerId) → map act' (map n.peer rs) ≡ map (renamed_act n) (map act rs)
-acts_renamed n act act' same [] = refl
-acts_renamed n act act' same (r ∷ rs) = ap₂ ◌∷◌ (same r) (acts_renamed n act act' same rs)
-
-mapped_known : (m : Naming) (f : PeerId → Act) → ((p : PeerId) → m.known p → Knows m (f p)) → (ps : List PeerId) → All m.known ps →
-    All (Knows m) (map f ps)
-mapped_known m f k [] known = All-nil (Knows m)
-mapped_known m f k (p ∷ ps) known =
-    All-cons (Knows m) (f p) (map f ps) (k p (All-head m.known p ps known)) (mapped_known m f k ps (All-tail m.known p ps known))
-
 -- acts that move
 module _ {m : Naming} {p q : Past} (a : AlikePast m p q) (x : ℕ) where
   one : {act act' : Act} → act' ≡ renamed_act m.names act → Knows m act → MovesAt m (act ∷ []) (act' ∷ [])
@@ -203,14 +192,6 @@ record Renamed (m : Naming) (r : PeerId) : Type 0 where
   pub peer : PeerId
   pub known : m.known peer
   pub is : r ≡ m.names.peer peer
-
--- estimates don't depend on what peers are called
-same-diffs : (n : Renaming) (round : List Standing) → near_diffs (map (renamed_standing n) round) ≡ near_diffs round
-same-diffs n [] = refl
-same-diffs n (s ∷ round) = ap (diff_before s.best) (same-diffs n round)
-
-same-estimates : (n : Renaming) (round : List Standing) → estimates (map (renamed_standing n) round) ≡ estimates round
-same-estimates n round = ap (λ l. pos 0 ∷ l) (same-diffs n round)
 
 module _ {m : Naming} where
   wakes-due : (alarm : Alarm) (x : ℕ) (p q : Past) → AlikePast m p q → is_due alarm x p ≡ true → Wakes m alarm

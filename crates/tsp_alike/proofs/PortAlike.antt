@@ -5,7 +5,7 @@ use Rattle.tsp_rules.specs.Renames.{Renaming, Naming, Knows, renamed_place, rena
 use Rattle.tsp_base.specs.Words.{Deed, Begins, Acts, Seen, Deadlines, deadline, with_deadline, Held, may_back, may_back_after, may_stand, Received, MessageValue, role, taken, acting, acting_after, name_in, said, said_by, message_in, kept_name, held, armed, armed_after, in_table, backers, is_rival, Said, is_correction, is_numbered, is_date_request, is_set_date_request, open_to, posts_of, message_at, sending_at, open_send, begun, last_to, number_of, last_number, last_post, corrects_by, is_acknowledged, correcting_of, last_taken, Dating, dating_of, last_date, last_asked, Step, message_of, sending_of}
 use Rattle.tsp_alike.proofs.Alike.{Alike, Booted, Own, Other, here}
 use Rattle.tsp_alike.specs.AlikeNodes.{renamed_deed, KnowsDeed}
-use Rattle.tsp_alike.proofs.Renamed.{later, later_deadlines, renamed_back, renamed_held, renamed_taken, renamed_said, le_after, past_later, later_date, renamed_correcting}
+use Rattle.tsp_alike.proofs.Renamed.{sending_later, later, later_deadlines, renamed_back, renamed_held, renamed_taken, renamed_said, le_after, past_later, later_date, renamed_correcting}
 
 -- what a deed does to a fact, with other names
 module _ (n : Renaming) where
@@ -173,10 +173,6 @@ pub data AlikePlaces (m : Naming) : List Seen → List Seen → Type 0 where
 pub message_renamed : (n : Renaming) (d : Deed) → message_of (renamed_deed n d) ≡ message_of d
 message_renamed n (Acts (Post to (Message msg))) = refl
 message_renamed n _ = refl
-
-sending_later : (n : Renaming) (o : Option MessageValue) (x posts : ℕ) → sending_of o (x + n.shift) posts ≡ later_sends n (sending_of o x posts)
-sending_later n None x posts = refl
-sending_later n (Some msg) x posts = refl
 
 -- one of two places, by a test that says the same in both pasts
 pub either_place : (m : Naming) → (b b' : Bool) → b' ≡ b → {p p' q q' : List Seen} → AlikePlaces m p p' → AlikePlaces m q q' → AlikePlaces m (if b then p else q) (if b' then p' else q')

@@ -1,8 +1,8 @@
 -- What renaming makes of the facts of a port; ticks that are later by the same number compare alike.
 use Rattle.std.proofs.lemmas.Bool.{leb-true, leb-false, le-leb, lt-leb}
 use Rattle.std.proofs.Common.{ap, arith, ◌∙◌, ◌≡◌, ℕ, ◌+◌, ◌-◌, suc, nat_le, nat_lt, Bool, true, false, Option, None, Some, refl}
-use Rattle.tsp_base.specs.Words.{Correcting, Dating, Deadlines, Held, Received, Said, is_past}
-use Rattle.tsp_rules.specs.{Renames.Renaming, Renames.renamed_place, Guards.is_over, Guards.is_met, Values.PeerId, Values.SLACK}
+use Rattle.tsp_base.specs.Words.{Correcting, MessageValue, sending_of, Dating, Deadlines, Held, Received, Said, is_past}
+use Rattle.tsp_rules.specs.{Renames.Renaming, Renames.later_sends, Renames.renamed_place, Guards.is_over, Guards.is_met, Values.PeerId, Values.SLACK}
 use Rattle.tsp_rules.specs.RoundRows.{Standing}
 
 -- a later tick, if there is one
@@ -41,6 +41,11 @@ renamed_taken m (Some r) = Some (record { from = renamed_place m r.from; taken =
 abbrev pub renamed_said : Renaming → Option Said → Option Said
 renamed_said m None = None
 renamed_said m (Some s) = Some (record { from = m.peer s.from; message = s.message })
+
+-- an open send that began later
+pub sending_later : (n : Renaming) (o : Option MessageValue) (x posts : ℕ) → sending_of o (x + n.shift) posts ≡ later_sends n (sending_of o x posts)
+sending_later n None x posts = refl
+sending_later n (Some msg) x posts = refl
 
 -- a correction that was taken, with its sender renamed
 abbrev pub renamed_correcting : Renaming → Option Correcting → Option Correcting
