@@ -1,3 +1,1 @@
-pub mod AddrLemmas
-pub mod CommandLemmas
-pub mod PortLemmas
+pub mod WordLemmas

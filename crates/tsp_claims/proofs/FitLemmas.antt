@@ -2,8 +2,7 @@
 use Rattle.std.proofs.Common.{◌∙◌, ap, arith, refl, subst, sym, ◌≡◌, ℕ, zero, suc, ◌+◌, ◌<◌, ◌≤◌, true, List, ◌∷◌, length, drop, get_or}
 use Rattle.std.proofs.lemmas.List.{drop_more, drop_all}
 use Rattle.tsp_base.specs.declared.{act.Act.Act, act.Act.TheVariants.Post, event.Event.Event, trace.Line2.Line2}
-use Rattle.tsp_claims.specs.declared.tally.Tally.{Tally}
-use Rattle.tsp_claims.specs.Fitting.{AllFit, Misfits, counted, lacks, untold}
+use Rattle.tsp_claims.specs.{Fitting.AllFit, Fitting.Misfits, Fitting.counted, Fitting.lacks, Fitting.untold, declared.tally.Tally.Tally}
 use Rattle.tsp_run.specs.Run.{posts_by}
 
 -- an act posts one datagram at the most

@@ -1,19 +1,19 @@
 -- What is computed from octets is what a reader takes.
-use Rattle.std.proofs.Common.{◌≡◌, ◌≢◌, ℕ, ◌+◌, ◌<◌, ◌≤◌, List, [], ◌∷◌, ◌++◌, zero, suc, length, take, drop, slice_index_or, length-append, refl, ap, sym, ◌∙◌, arith, Some, None, true, false, Bool, ◌&&◌, inl, inr, ◌↔◌, Contains, ℤ, T, if◌then◌else◌, option_map, ◌==◌, nat_lt, Option}
+use Rattle.std.proofs.Common.{◌≡◌, ◌≢◌, ℕ, ◌+◌, ◌<◌, ◌≤◌, List, [], ◌∷◌, ◌++◌, zero, suc, length, drop, slice_index_or, length-append, length-take, refl, ap, sym, ◌∙◌}
+use Rattle.std.proofs.Common.{arith, Some, None, true, false, Bool, ◌&&◌, inl, inr, ◌↔◌, Contains, ℤ, T, if◌then◌else◌, option_map, ◌==◌, nat_lt, Option}
 use Rattle.std.proofs.lemmas.Bool.{ltb-true, ltb-false, eqb-true, eqb-false, and_parts, and_from, both_ways}
-use Rattle.std.proofs.lemmas.{Float.T_from_true, Grind.common_steps, List.append_assoc, List.take-append-drop}
-use Rattle.tsp_base.specs.{Words.kind_of, Words.carries_time, Words.carries_hops, declared.datagram.Datagram.Datagram}
-use Rattle.tsp_base.specs.declared.{kind.Kind.Kind, message.Body.Body, stamp.Stamp.Stamp as StampValue}
-use Rattle.tsp_base.specs.declared.message.Body.TheVariants.{Nothing, Time as TimeBody, Hops}
-use Rattle.tsp_base.specs.declared.stamp.Stamp.TheVariants.{Request, Reply}
-use Rattle.tsp_base.specs.declared.datagram.{Datagram.TheVariants.Stamp, Taken.Taken, Taken.TheVariants.Good, Taken.TheVariants.Bad}
+use Rattle.std.proofs.lemmas.{Float.T_from_true, List.append_assoc, List.take-append-drop}
+use Rattle.tsp_base.specs.Words.{kind_of, carries_time, carries_hops}
+use Rattle.tsp_base.specs.declared.datagram.{Datagram.Datagram, Datagram.TheVariants.Stamp, Taken.Taken, Taken.TheVariants.Good, Taken.TheVariants.Bad}
+use Rattle.tsp_base.specs.declared.{kind.Kind.Kind, stamp.Stamp.Stamp as StampValue, stamp.Stamp.TheVariants.Request, stamp.Stamp.TheVariants.Reply}
+use Rattle.tsp_base.specs.declared.message.Body.{Body, TheVariants.Nothing, TheVariants.Time as TimeBody, TheVariants.Hops}
 use Rattle.tsp_base.specs.declared.datagram.DecodeFault.TheVariants.{Short, Long, Version, Kind as BadKind, StampLength, NoEnd, NameTooLong, Reserved, Time}
-use Rattle.tsp_codec.specs.Numbers.{octet_at, be16_at, be64_at}
+use Rattle.tsp_codec.specs.{Numbers.octet_at, Numbers.be16_at, Numbers.be64_at, Canon.canon, Canon.IsWritable}
 use Rattle.tsp_codec.specs.Spelling.{HasHead, IsStamp, IsTime, Spells, SpellsBody, SpellsName, time_field, reading_field}
 use Rattle.tsp_codec.specs.Taken.{before_nul, is_time, is_reading, body_of, message_taken, request_taken, reply_taken, kind_taken, taken_of}
-use Rattle.tsp_codec.proofs.{Lists.Contains-∷, OneReading.Reads-one, Written.Spells-canon}
-use Rattle.tsp_codec.specs.{Canon.canon, Canon.IsWritable, Faults.name_room, Faults.IsCodedReading, Faults.Reads}
-use Rattle.tsp_codec.proofs.FirstFault.{IsFault-Short, IsFault-Long, IsFault-Version, IsFault-Kind, IsFault-StampLength, IsFault-NoEnd, IsFault-NameTooLong, IsFault-Time, IsFault-Reserved-request, IsFault-Reserved-reply, IsFault-Time-reply}
+use Rattle.tsp_codec.proofs.OneReading.{Contains-∷, Reads_one, IsFault-Short, IsFault-Long, IsFault-Version, IsFault-Kind, IsFault-StampLength, IsFault-NoEnd}
+use Rattle.tsp_codec.proofs.OneReading.{IsFault-NameTooLong, IsFault-Time, IsFault-Reserved-request, IsFault-Reserved-reply, IsFault-Time-reply}
+use Rattle.tsp_codec.{proofs.Written.Spells_canon, specs.Faults.name_room, specs.Faults.IsCodedReading, specs.Faults.Reads}
 
 -- what stands before the first NUL of a room
 abbrev EndsAtNul : List ℕ → Option (List ℕ) → Type 0
@@ -37,16 +37,13 @@ Contains-append : (a x : List ℕ) → Contains (a ++ 0 ∷ x) 0
 Contains-append [] x = (0, omega arith, refl)
 Contains-append (c ∷ a) x = Contains-∷ (a ++ 0 ∷ x) c (Contains-append a x)
 
-length-take-low : (n : ℕ) (xs : List ℕ) → length (take n xs) ≤ n
-length-take-low n xs = grind (arith, common_steps)
-
 -- what stands before a NUL is shorter than the whole
 length-before : (xs name rest : List ℕ) → length xs ≤ 256 → xs ≡ name ++ 0 ∷ rest → length name ≤ 255
 length-before xs name rest l e = let m : length xs ≡ length name + length (0 ∷ rest) = ap length e ∙ length-append name (0 ∷ rest) in omega (arith, l, m)
 
 SpellsName-room : (o name : List ℕ) → EndsAtNul (name_room o) (Some name) → SpellsName o name
 SpellsName-room o name p = (
-  record { short = length-before (name_room o) name p.1.0 (length-take-low 256 (drop 12 o)) p.1.1; no_nul = p.0 },
+  record { short = length-before (name_room o) name p.1.0 (omega (arith, length-take 256 (drop 12 o))) p.1.1; no_nul = p.0 },
   (p.1.0 ++ drop 256 (drop 12 o), sym (take-append-drop 256 (drop 12 o)) ∙ ap (λ z. z ++ drop 256 (drop 12 o)) p.1.1 ∙ append_assoc name (0 ∷ p.1.0) (drop 256 (drop 12 o))),
 )
 
@@ -138,15 +135,15 @@ unfolding taken_of
 Reads-taken_of o = Reads-if o (nat_lt (length o) 13) (nat_lt 268 (length o)) (octet_at o 1 == 1) refl refl refl
 
 pub taken_of-Reads : (o : List ℕ) (t : Taken) → Reads o t → taken_of o ≡ t
-taken_of-Reads o t r = Reads-one o (taken_of o) t (Reads-taken_of o) r
+taken_of-Reads o t r = Reads_one o (taken_of o) t (Reads-taken_of o) r
 
-pub Reads-taken_of-iff : (o : List ℕ) (t : Taken) → (taken_of o ≡ t) ↔ Reads o t
-Reads-taken_of-iff o t = ((λ e. rw (← e) (Reads-taken_of o)), taken_of-Reads o t)
+pub Reads_taken_of_iff : (o : List ℕ) (t : Taken) → (taken_of o ≡ t) ↔ Reads o t
+Reads_taken_of_iff o t = ((λ e. rw (← e) (Reads-taken_of o)), taken_of-Reads o t)
 
 -- octets that spell no stamp aren't taken for one
 pub no_stamp : (o : List ℕ) → ((s : StampValue) → ¬ Spells o (Stamp s)) → (s : StampValue) → taken_of o ≢ Good (Stamp s)
-no_stamp o none s e = none s ((Reads-taken_of-iff o (Good (Stamp s))).0 e)
+no_stamp o none s e = none s ((Reads_taken_of_iff o (Good (Stamp s))).0 e)
 
 -- what was written is taken as it was
-pub taken_of-canon : (d : Datagram) → IsWritable d → taken_of (canon d) ≡ Good d
-taken_of-canon d w = taken_of-Reads (canon d) (Good d) (Spells-canon d w)
+pub taken_of_canon : (d : Datagram) → IsWritable d → taken_of (canon d) ≡ Good d
+taken_of_canon d w = taken_of-Reads (canon d) (Good d) (Spells_canon d w)

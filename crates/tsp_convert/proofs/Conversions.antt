@@ -1,9 +1,70 @@
--- Laws of lines that are made of datagrams.
-use Rattle.std.proofs.Common.{◌≡◌, ℕ, List, [], ◌∷◌, ◌++◌, refl, sym, ap, ◌∙◌, map, append-nil, inl, Result, Ok, Err, OnOk, OnErr, IfErr, MatchResult}
-use Rattle.std.{proofs.lemmas.Grind.flat_map-append, proofs.lemmas.List.map-append, specs.List.AllZip, specs.declared.option.Option.Option}
-use Rattle.tsp_lines.specs.{Lines.close, Lines.closed, Outputs.Hands, declared.output.Unwritten.Unwritten, declared.treatment.Stop.Stop}
-use Rattle.tsp_lines.specs.Meanings.{Meaning, Goes, StopsAt, stop_of}
-use Rattle.tsp_lines.proofs.Stops.{StopsAt-stop_of}
+-- The two conversions: what their lines are, that both are definite, and the answer that is due to lines of datagrams.
+use Rattle.std.proofs.Common.{◌≡◌, ℕ, ◌+◌, ◌^◌, ◌<◌, List, [], ◌∷◌, ◌++◌, zero, suc, true, drop, refl, sym, arith, inl, inr, false, ap, ◌∙◌, map, Result, Ok}
+use Rattle.std.proofs.Common.{Err, OnOk, OnErr, IfErr, MatchResult, ◌≤◌, append-nil, length}
+use Rattle.std.{specs.List.AllZip, specs.declared.option.Option.Option, proofs.lemmas.Grind.flat_map-append, proofs.lemmas.List.map-append}
+use Rattle.hex.{specs.Hex.IsBytes, specs.Hex.encode_lower, proofs.HexLemmas.decode_of-ok, proofs.HexLemmas.decode_of-same}
+use Rattle.tsp_base.specs.{Words.body_fits, declared.kind.Kind.Kind, declared.stamp.Stamp.TheVariants.Request, declared.stamp.Stamp.TheVariants.Reply}
+use Rattle.tsp_base.specs.declared.datagram.Datagram.{Datagram, TheVariants.Message, TheVariants.Stamp}
+use Rattle.tsp_base.specs.declared.message.Body.{Body, TheVariants.Nothing, TheVariants.Time as TimeBody, TheVariants.Hops}
+use Rattle.tsp_codec.specs.{Numbers.be16_at, Numbers.be64_at, Canon.canon, Spelling.Spells, Spelling.SpellsBody}
+use Rattle.tsp_script.specs.{Ranges.IsBody, Ranges.IsDatagram, Texts.message_text, Traces.fault_word}
+use Rattle.tsp_codec.proofs.OneReading.{Spells_no_fault, Spells_one, IsFault-one}
+use Rattle.tsp_lines.specs.{Meanings.Meaning, Meanings.Goes, Meanings.StopsAt, Meanings.stop_of, Lines.close, Lines.closed, Outputs.Hands}
+use Rattle.tsp_lines.{proofs.Stops.StopsAt-stop_of, specs.Definite.IsDefinite, specs.Answers.IsAnswer}
+use Rattle.tsp_lines.specs.declared.{output.Unwritten.Unwritten, treatment.Stop.Stop, treat.Outcome.TheVariants.Ok as Done}
+use Rattle.tsp_convert.specs.Shows.{IsHexLineOf, RefusesHex, IsHex, IsNoHex, AreHexLines, lines_shown, show_meaning}
+use Rattle.tsp_convert.{specs.Packs.IsLineOf, specs.Packs.AreMessageLines, specs.Packs.packed, specs.Packs.pack_meaning, proofs.LinesApart.IsLineOf-one}
+
+be16_at-le : (o : List ℕ) (i : ℕ) → IsBytes o → be16_at o i < 2 ^ 16
+be16_at-le o i h = omega (arith, h i, h (i + 1))
+
+be64_at-le : (o : List ℕ) (i : ℕ) → IsBytes o → be64_at o i < 2 ^ 64
+be64_at-le o i h = omega (arith, h i, h (i + 1), h (i + 2), h (i + 3), h (i + 4), h (i + 5), h (i + 6), h (i + 7))
+
+IsBytes-drop : (n : ℕ) (o : List ℕ) → IsBytes o → IsBytes (drop n o)
+IsBytes-drop zero o h = h
+IsBytes-drop (suc n) [] h = h
+IsBytes-drop (suc n) (x ∷ o) h = IsBytes-drop n o (λ i. h (suc i))
+
+IsBytes-front : (o rest : List ℕ) → IsBytes (o ++ rest) → IsBytes o
+IsBytes-front [] rest h i = omega arith
+IsBytes-front (x ∷ o) rest h zero = h 0
+IsBytes-front (x ∷ o) rest h (suc i) = IsBytes-front o rest (λ j. h (suc j)) i
+
+body_fits-spelled : (o : List ℕ) (k : Kind) (b : Body) → SpellsBody o k b → body_fits k b ≡ true
+unfolding body_fits
+body_fits-spelled o k (TimeBody t) h = h.0
+body_fits-spelled o k (Hops n) h = h.1
+body_fits-spelled o k Nothing h = rw (h.0, h.1) refl
+
+IsBody-spelled : (o : List ℕ) (k : Kind) (b : Body) → IsBytes o → SpellsBody o k b → IsBody b
+IsBody-spelled o k (TimeBody t) w h = rw h.2 h.1.value
+IsBody-spelled o k (Hops n) w h = rw h.2 (w 4)
+IsBody-spelled o k Nothing w h = tt
+
+-- a datagram that octets spell is in its ranges
+pub IsDatagram-spelled : (o : List ℕ) (d : Datagram) → IsBytes o → Spells o d → IsDatagram d
+IsDatagram-spelled o (Message m) w h = record {
+  number = rw h.number (be16_at-le o 2 w);
+  fits = body_fits-spelled o m.kind m.body h.body;
+  body = IsBody-spelled o m.kind m.body w h.body;
+  name = h.name.0;
+  octets = IsBytes-front m.name (0 ∷ h.name.1.0) (rw (sym h.name.1.1) (IsBytes-drop 12 o w));
+}
+IsDatagram-spelled o (Stamp (Request word counter)) w h = (rw h.word_read (be64_at-le o 4 w), rw h.counter_read (be64_at-le o 12 w))
+IsDatagram-spelled o (Stamp (Reply r)) w h = (rw h.word (be64_at-le o 4 w), rw h.counter (be64_at-le o 12 w), h.valid)
+
+-- the octets are the same
+pub IsHexLineOf-one : (line : List ℕ) (d e : Datagram) → IsHexLineOf line d → IsHexLineOf line e → d ≡ e
+IsHexLineOf-one line d e h k = Spells_one h.0 d e h.2 (rw (decode_of-same line h.0 k.0 h.1.1 k.1.1) k.2)
+
+pub IsHexLineOf-in_ranges : (line : List ℕ) (d : Datagram) → IsHexLineOf line d → IsDatagram d
+IsHexLineOf-in_ranges line d h = IsDatagram-spelled h.0 d (decode_of-ok line h.0 h.1.1).3 h.2
+
+pub IsHexLineOf-not_refused : (line cause : List ℕ) (d : Datagram) → IsHexLineOf line d → RefusesHex line cause → ⊥
+IsHexLineOf-not_refused line cause d h (inl (inl long, e)) = omega (arith, long, h.1.0)
+IsHexLineOf-not_refused line cause d h (inl (inr err, e)) = let f : false ≡ true = rw h.1.1 at err in cc
+IsHexLineOf-not_refused line cause d h (inr (octets, fault, hex, f, e)) = Spells_no_fault octets d fault (rw (decode_of-same line octets h.0 hex.1 h.1.1) h.2) f
 
 -- each of these lines is the value at its place, and the text is those values' output
 abbrev pub Converts : {A : Type 0} → (List ℕ → A → Type 0) → (A → List ℕ) → List (List ℕ) → List ℕ → Type 0
@@ -15,6 +76,7 @@ AllZip-more R [] (b ∷ ys) x y h r = absurd h
 AllZip-more R (a ∷ xs) [] x y h r = absurd h
 AllZip-more R (a ∷ xs) (b ∷ ys) x y h r = (h.0, AllZip-more R xs ys x y h.1 r)
 
+-- the last line is the last value
 AllZip-before : {A B : Type 0} (R : A → B → Type 0) (xs : List A) (x : A) (ys : List B) → AllZip R (xs ++ x ∷ []) ys → (front : List B) × (y : B) × AllZip R xs front × R x y × (ys ≡ front ++ y ∷ [])
 AllZip-before R [] x [] h = absurd h
 AllZip-before R [] x (y ∷ []) h = ([], y, tt, h.0, refl)
@@ -64,3 +126,65 @@ Converts-before Is write lines line text c =
       (closed (map write t.0), close (write t.1), (t.0, t.2, refl), c.2 ∙ ap (λ v. closed (map write v)) t.4 ∙ sym (closed-more write t.0 t.1)),
       (t.1, t.3),
     )
+
+no_hex : (line octets : List ℕ) → IsNoHex line → IsHex line octets → ⊥
+no_hex line octets (inl long) h = omega (arith, long, h.0)
+no_hex line octets (inr err) h = let f : false ≡ true = rw h.1 at err in cc
+
+-- a line is refused for one cause
+RefusesHex-one : (line cause other : List ℕ) → RefusesHex line cause → RefusesHex line other → cause ≡ other
+RefusesHex-one line cause other (inl r) (inl s) = r.1 ∙ sym s.1
+RefusesHex-one line cause other (inl r) (inr s) = absurd (no_hex line s.0 r.0 s.2)
+RefusesHex-one line cause other (inr r) (inl s) = absurd (no_hex line r.0 s.0 r.2)
+RefusesHex-one line cause other (inr (octets, f, hex, p, e)) (inr (others, g, hexes, q, d)) =
+    let same = decode_of-same line octets others hex.1 hexes.1 in
+    e ∙ ap fault_word (IsFault-one others f g (rw same at p) q) ∙ sym d
+
+pub IsDefinite_show : IsDefinite show_meaning
+IsDefinite_show = record {
+  one_output = Converts-one IsHexLineOf message_text IsHexLineOf-one;
+  before = λ lines line text a. ((λ f. f), (Converts-before IsHexLineOf message_text lines line text a).0);
+  not_refused = λ lines line text cause a r. let x = (Converts-before IsHexLineOf message_text lines line text a).1 in IsHexLineOf-not_refused line cause x.0 x.1 r;
+  not_limited = λ lines line text a l. l;
+  one_cause = λ lines line cause other r s. RefusesHex-one line cause other r s;
+  refused_within = λ lines line cause r l. l;
+  one_end = λ lines more other e f. e ∙ sym f;
+  one_lack = λ lines cause other e f. absurd e;
+  ended_whole = λ lines more cause e f. f;
+}
+
+pub IsDefinite_pack : IsDefinite pack_meaning
+IsDefinite_pack = record {
+  one_output = Converts-one IsLineOf (λ d. encode_lower (canon d)) IsLineOf-one;
+  before = λ lines line text a. ((λ f. f), (Converts-before IsLineOf (λ d. encode_lower (canon d)) lines line text a).0);
+  not_refused = λ lines line text cause a r. let x = (Converts-before IsLineOf (λ d. encode_lower (canon d)) lines line text a).1 in r.0 x.0 x.1;
+  not_limited = λ lines line text a l. l;
+  one_cause = λ lines line cause other r s. r.1 ∙ sym s.1;
+  refused_within = λ lines line cause r l. l;
+  one_end = λ lines more other e f. e ∙ sym f;
+  one_lack = λ lines cause other e f. absurd e;
+  ended_whole = λ lines more cause e f. f;
+}
+
+-- the answer to lines of datagrams
+pub answer_hex : (limit : ℕ) (octets : List ℕ) → length octets ≤ limit → (a : AreHexLines octets) → IsAnswer show_meaning limit octets Done (lines_shown a.1)
+answer_hex limit octets l (lines, datagrams, n, are, z) = record {
+  lines = lines;
+  text = lines_shown datagrams;
+  said = [];
+  feedless = n;
+  accepted = (datagrams, z, refl);
+  ending = ((octets, are, (l, refl)), refl);
+  whole = sym (append-nil (lines_shown datagrams));
+}
+
+pub answer_messages : (limit : ℕ) (octets : List ℕ) → length octets ≤ limit → (a : AreMessageLines octets) → IsAnswer pack_meaning limit octets Done (packed a.1)
+answer_messages limit octets l (lines, datagrams, n, are, z) = record {
+  lines = lines;
+  text = packed datagrams;
+  said = [];
+  feedless = n;
+  accepted = (datagrams, z, refl);
+  ending = ((octets, are, (l, refl)), refl);
+  whole = sym (append-nil (packed datagrams));
+}

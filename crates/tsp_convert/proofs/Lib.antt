@@ -1,8 +1,3 @@
-mod Conversions
-mod NamesApart
 mod LinesApart
-mod InRanges
-mod Hexes
-mod Definites
-mod Feedless
+mod Conversions
 mod Returns

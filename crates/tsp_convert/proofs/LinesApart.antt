@@ -1,32 +1,58 @@
 -- Message lines that are the same are one datagram's.
-use Rattle.std.proofs.Common.{◌≡◌, ℕ, ◌<◌, ◌^◌, List, ◌∷◌, ◌++◌, true, refl, sym, ap, ◌∙◌, arith, append_assoc, slice_index_or, ℤ, pos, negsuc, ◌≤ℤ◌, ◌<ℤ◌, decimal, codes}
-use Rattle.std.specs.{Fmt.signed_decimal, Int.w64, Int.RustNames.FitsSigned}
-use Rattle.std.proofs.lemmas.{Fmt.decimal_injective, Fmt.signed_decimal_injective, Int.ints}
+use Rattle.std.proofs.Common.{◌≡◌, ℕ, ◌<◌, List, [], ◌∷◌, ◌++◌, suc, Bool, true, false, Ok, take, drop, refl, sym, ap, ◌∙◌, flat_map, if◌then◌else◌, ◌^◌, arith}
+use Rattle.std.proofs.Common.{append_assoc, slice_index_or, ℤ, pos, negsuc, ◌≤ℤ◌, ◌<ℤ◌, decimal, codes}
+use Rattle.std.{specs.Fmt.signed_decimal, proofs.lemmas.Fmt.decimal_injective, proofs.lemmas.Fmt.signed_decimal_injective, proofs.lemmas.Int.ints}
 use lib.Signed.{mag}
+use Rattle.hex.{specs.Hex.encode_lower, specs.Hex.encode_with, specs.Hex.decode_of, specs.Hex.IsBytes, proofs.HexLemmas.decode_of-encode_lower}
+use Rattle.tsp_script.specs.Texts.{is_plain, escaped, name_text, space, body_text, message_line, message_text}
+use Rattle.tsp_script.proofs.{NameTexts.IsBytes-one, NameTexts.escaped_some, NameTexts.name_empty, Bodies.time_body, Bodies.hops_body, Bodies.fits_micros}
+use Rattle.tsp_script.proofs.{Outcomes.true_or_false, Cuts.words_apart, Cuts.numbers_apart, Cuts.signs_apart}
 use Rattle.tsp_base.specs.Words.{kind_word, MessageValue, body_fits, ReplyValue, IsReply}
-use Rattle.tsp_base.specs.declared.{kind.Kind.Kind, message.Body.Body, stamp.Stamp.TheVariants.Request, stamp.Stamp.TheVariants.Reply}
-use Rattle.tsp_base.specs.declared.message.Body.TheVariants.{Nothing, Time as TimeBody, Hops}
+use Rattle.tsp_base.specs.declared.{kind.Kind.Kind, stamp.Stamp.TheVariants.Request, stamp.Stamp.TheVariants.Reply}
+use Rattle.tsp_base.specs.declared.message.Body.{Body, TheVariants.Nothing, TheVariants.Time as TimeBody, TheVariants.Hops}
 use Rattle.tsp_base.specs.declared.datagram.Datagram.{Datagram, TheVariants.Message, TheVariants.Stamp}
 use Rattle.tsp_script.specs.Ranges.{IsBody, IsMessage, IsDatagram}
-use Rattle.tsp_script.specs.Texts.{space, body_text, name_text, message_line, message_text}
-use Rattle.tsp_script.proofs.{Apart.words_apart, Apart.numbers_apart, Apart.signs_apart, Bodies.time_body, Bodies.hops_body}
 use Rattle.tsp_script.proofs.KindWords.{kind_word-injective, kind_word-not_request, kind_word-not_reply, no_space-kind_word, no_space-spaceless}
-use Rattle.tsp_script.proofs.MessageLines.{message_rest, request_rest, reply_rest, message_form, request_form, reply_form, message_of_parts}
-use Rattle.tsp_convert.{proofs.NamesApart.name_text-injective, specs.Packs.IsLineOf}
+use Rattle.tsp_script.proofs.MessageLines.{message_rest, request_rest, reply_rest, message_form, request_form, reply_form}
+use Rattle.tsp_codec.proofs.OneReading.{message_parts, reply_parts}
+use Rattle.tsp_convert.specs.Packs.{IsLineOf}
+
+-- the digits of one octet
+digits_apart : (c d : ℕ) (r s : List ℕ) → c < 256 → d < 256 → encode_lower (c ∷ []) ++ r ≡ encode_lower (d ∷ []) ++ s → (c ≡ d) × (r ≡ s)
+unfolding encode_with
+digits_apart c d r s h k e =
+    let p : encode_lower (c ∷ []) ≡ encode_lower (d ∷ []) = ap (take 2) e in
+    let q : Ok (c ∷ []) ≡ Ok (d ∷ []) = sym (decode_of-encode_lower (c ∷ []) (IsBytes-one c h)) ∙ ap decode_of p ∙ decode_of-encode_lower (d ∷ []) (IsBytes-one d k) in
+    (cc, ap (drop 2) e)
+
+octets_case : (a b : Bool) (c d : ℕ) (r s : List ℕ) → is_plain c ≡ a → is_plain d ≡ b → c < 256 → d < 256
+    → (if a then c ∷ [] else 37 ∷ encode_lower (c ∷ [])) ++ r ≡ (if b then d ∷ [] else 37 ∷ encode_lower (d ∷ [])) ++ s → (c ≡ d) × (r ≡ s)
+octets_case true true c d r s p q h k e = (cc, cc)
+octets_case true false c d r s p q h k e = let z : c ≡ 37 = cc in absurd (true_or_false (is_plain c) p (rw z refl))
+octets_case false true c d r s p q h k e = let z : d ≡ 37 = cc in absurd (true_or_false (is_plain d) q (rw z refl))
+octets_case false false c d r s p q h k e = digits_apart c d r s h k (ap (drop 1) e)
+
+octets_apart : (m n : List ℕ) → IsBytes m → IsBytes n → flat_map escaped m ≡ flat_map escaped n → m ≡ n
+octets_apart [] [] h k e = refl
+octets_apart [] (d ∷ ds) h k e = absurd (escaped_some d (flat_map escaped ds) e)
+octets_apart (c ∷ cs) [] h k e = absurd (escaped_some c (flat_map escaped cs) (sym e))
+octets_apart (c ∷ cs) (d ∷ ds) h k e =
+    let p = octets_case (is_plain c) (is_plain d) c d (flat_map escaped cs) (flat_map escaped ds) refl refl (h 0) (k 0) e in
+    let q = octets_apart cs ds (λ i. h (suc i)) (λ i. k (suc i)) p.1 in
+    rw (p.0, q) refl
+
+-- a text is one name's
+pub name_text-injective : (m n : List ℕ) → IsBytes m → IsBytes n → name_text m ≡ name_text n → m ≡ n
+name_text-injective [] n h k e = sym (name_empty n e)
+name_text-injective (c ∷ cs) [] h k e = name_empty (c ∷ cs) (sym e)
+name_text-injective (c ∷ cs) (d ∷ ds) h k e = octets_apart (c ∷ cs) (d ∷ ds) h k e
 
 abbrev IsShort : ℤ → Type 0
 IsShort t = (negsuc 2147483647999999 ≤ℤ t) × (t <ℤ pos 2147483648000000)
 
-fits : (t : ℤ) → IsShort t → FitsSigned w64 t
-fits (pos n) h = record { sfits = omega (arith, ints, h.1) }
-fits (negsuc n) h = record { sfits = omega (arith, ints, h.0) }
-
 small : (t : ℤ) → IsShort t → mag t < 2 ^ 63
 small (pos n) h = omega (arith, ints, h.1)
 small (negsuc n) h = omega (arith, ints, h.0)
-
-times_apart : (t u : ℤ) (r s : List ℕ) → IsShort t → IsShort u → signed_decimal t ++ 32 ∷ r ≡ signed_decimal u ++ 32 ∷ s → (t ≡ u) × (r ≡ s)
-times_apart t u r s h k e = signs_apart t u r s (fits t h) (fits u k) (small t h) (small u k) e
 
 spaced : (w r : List ℕ) → (w ++ space) ++ r ≡ w ++ 32 ∷ r
 spaced w r = append_assoc w space r
@@ -39,7 +65,8 @@ bodies_apart k Nothing (TimeBody u) r s h i f g e = absurd (time_body k Nothing 
 bodies_apart k Nothing (Hops n) r s h i f g e = absurd (hops_body k Nothing g f)
 bodies_apart k (TimeBody t) Nothing r s h i f g e = absurd (time_body k Nothing f g)
 bodies_apart k (TimeBody t) (TimeBody u) r s h i f g e =
-    let p = times_apart t u r s (h.low, h.high) (i.low, i.high) (sym (spaced (signed_decimal t) r) ∙ e ∙ spaced (signed_decimal u) s) in
+    let p = signs_apart t u r s (fits_micros t h) (fits_micros u i) (small t (h.low, h.high)) (small u (i.low, i.high))
+    (sym (spaced (signed_decimal t) r) ∙ e ∙ spaced (signed_decimal u) s) in
     (ap TimeBody p.0, p.1)
 bodies_apart k (TimeBody t) (Hops n) r s h i f g e = absurd (time_body k (Hops n) f g)
 bodies_apart k (Hops m) Nothing r s h i f g e = absurd (hops_body k Nothing f g)
@@ -56,16 +83,7 @@ messages_apart m n h i e =
     let fit : body_fits n.kind m.body ≡ true = rw (sym k) h.fits in
     let b = bodies_apart n.kind m.body n.body (name_text m.name) (name_text n.name) h.body i.body fit i.fits v.1 in
     let names = name_text-injective m.name n.name h.octets i.octets b.1 in
-    message_of_parts m.kind m.number m.body m.name n m k v.0 b.0 names refl
-
-requests_apart : (v w c d : ℕ) → v < 2 ^ 64 → w < 2 ^ 64 → c < 2 ^ 64 → d < 2 ^ 64 → request_rest v c ≡ request_rest w d → (v ≡ w) × (c ≡ d)
-requests_apart v w c d hv hw hc hd e =
-    let p = numbers_apart v w (decimal c) (decimal d) hv hw e in
-    (p.0, decimal_injective c d hc hd p.1)
-
-reply_parts : (t w c : ℕ) (z : ℤ) (s made : ReplyValue) → t ≡ s.ticket → w ≡ s.word → c ≡ s.counter → z ≡ s.reading
-    → made ≡ record { ticket = t; word = w; counter = c; reading = z } → made ≡ s
-reply_parts t w c z s made a b f d e = rw (a, b, f, d) at e
+    message_parts m.kind m.number m.body m.name n k v.0 b.0 names
 
 replies_apart : (r s : ReplyValue) → (r.word < 2 ^ 64) × (r.counter < 2 ^ 64) × IsReply r.ticket r.reading → (s.word < 2 ^ 64) × (s.counter < 2 ^ 64) × IsReply s.ticket s.reading
     → reply_rest r ≡ reply_rest s → r ≡ s
@@ -74,13 +92,10 @@ replies_apart r s h i e =
     let w = numbers_apart r.word s.word _ _ h.0 i.0 t.1 in
     let c = numbers_apart r.counter s.counter _ _ h.1 i.1 w.1 in
     let z = signed_decimal_injective r.reading s.reading (small r.reading (omega (arith, ints, h.2.low), h.2.high)) (small s.reading (omega (arith, ints, i.2.low), i.2.high)) c.1 in
-    reply_parts r.ticket r.word r.counter r.reading s r t.0 w.0 c.0 z refl
-
-letters_differ : (x : ℕ) → x ≡ 113 → x ≡ 112 → ⊥
-letters_differ x p q = omega arith
+    reply_parts r.ticket r.word r.counter r.reading s t.0 w.0 c.0 z
 
 stamps_differ : (r s : List ℕ) → codes "request" ++ 32 ∷ r ≡ codes "reply" ++ 32 ∷ s → ⊥
-stamps_differ r s e = letters_differ 113 refl (ap (λ l. slice_index_or l 2 0) e)
+stamps_differ r s e = let q : ◌≡◌ {A = ℕ} 113 112 = ap (λ l. slice_index_or l 2 0) e in omega (arith, q)
 
 no_request : (m : MessageValue) (r : List ℕ) → message_line m ≡ codes "request" ++ 32 ∷ r → ⊥
 no_request m r e = kind_word-not_request m.kind (words_apart (kind_word m.kind) (codes "request") (message_rest m) r (no_space-kind_word m.kind) (no_space-spaceless (codes "request") refl) (sym (message_form m) ∙ e)).0
@@ -97,8 +112,8 @@ message_text-injective (Stamp (Request w c)) (Message n) h i e = absurd (no_requ
 message_text-injective (Stamp (Reply r)) (Message n) h i e = absurd (no_reply n (reply_rest r) (sym e ∙ reply_form r))
 message_text-injective (Stamp (Request v c)) (Stamp (Request w d)) h i e =
     let r = (words_apart (codes "request") (codes "request") (request_rest v c) (request_rest w d) (no_space-spaceless (codes "request") refl) (no_space-spaceless (codes "request") refl) (sym (request_form v c) ∙ e ∙ request_form w d)).1 in
-    let p = requests_apart v w c d h.0 i.0 h.1 i.1 r in
-    rw (p.0, p.1) refl
+    let p = numbers_apart v w (decimal c) (decimal d) h.0 i.0 r in
+    rw (p.0, decimal_injective c d h.1 i.1 p.1) refl
 message_text-injective (Stamp (Request v c)) (Stamp (Reply r)) h i e = absurd (stamps_differ (request_rest v c) (reply_rest r) (sym (request_form v c) ∙ e ∙ reply_form r))
 message_text-injective (Stamp (Reply r)) (Stamp (Request w d)) h i e = absurd (stamps_differ (request_rest w d) (reply_rest r) (sym (request_form w d) ∙ sym e ∙ reply_form r))
 message_text-injective (Stamp (Reply r)) (Stamp (Reply s)) h i e =

@@ -38,16 +38,19 @@ pub fn one_output_of_pack()
 {}
 
 /// After any lines, `show` can do at most one thing with the next line or the end.
+#[tactic(auto, using(crate::proofs::Conversions::IsDefinite_show))]
 pub fn definite_show()
     ensures { IsDefinite show_meaning }
 {}
 
 /// After any lines, `pack` can do at most one thing with the next line or the end.
+#[tactic(auto, using(crate::proofs::Conversions::IsDefinite_pack))]
 pub fn definite_pack()
     ensures { IsDefinite pack_meaning }
 {}
 
 /// Octets as they are written, in lower case: `pack` of what `show` gives for them gives them again.
+#[tactic(auto, using(crate::proofs::Returns::shown_packs))]
 pub fn packs_what_was_shown()
     ensures { (lines : List (List ℕ)) (text : List ℕ) → All IsWritten lines
         → show_meaning.accepts lines text → (back : List (List ℕ)) × All NoFeed back
@@ -56,6 +59,7 @@ pub fn packs_what_was_shown()
 
 /// The same of whole inputs: where the answer of `show` to such lines, each with its line feed, is `Ok`, the
 /// answer of `pack` to the output is `Ok` with these lines.
+#[tactic(auto, using(crate::proofs::Returns::answer_shown))]
 pub fn answer_to_what_was_shown()
     ensures { (limit : ℕ) (lines : List (List ℕ)) (output : List ℕ) → All NoFeed lines
         → All IsWritten lines → IsAnswer show_meaning limit (closed lines) Outcome.Ok output

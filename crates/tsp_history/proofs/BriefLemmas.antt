@@ -36,29 +36,7 @@ brief_of (Some (acts.Trace on)) = briefs.Trace on
 -- it is read back from an act that is held by it
 brief-back : (b : Brief) (name : List ℕ) → brief_of (act_of b name) ≡ b
 brief-back briefs.Mark name = refl
-brief-back briefs.Boot name = refl
-brief-back (briefs.TookMessage from kind number body) name = refl
-brief-back (briefs.TookStamp from stamp) name = refl
-brief-back (briefs.TookBad from fault) name = refl
-brief-back (briefs.PostMessage to kind number body) name = refl
-brief-back (briefs.PostStamp to stamp) name = refl
-brief-back (briefs.Become role) name = refl
-brief-back (briefs.Back p) name = refl
-brief-back (briefs.Backer p) name = refl
-brief-back (briefs.Quit p) name = refl
-brief-back (briefs.Arm alarm tick) name = refl
-brief-back (briefs.Ring alarm) name = refl
-brief-back (briefs.Late alarm) name = refl
-brief-back (briefs.Join p) name = refl
-brief-back (briefs.Leave p) name = refl
-brief-back (briefs.Rival p) name = refl
-brief-back (briefs.Acked p) name = refl
-brief-back (briefs.Gave p) name = refl
-brief-back (briefs.Sample peer counter diff err ticket) name = refl
-brief-back (briefs.Close count lo width mean) name = refl
-brief-back (briefs.Correct amount stepped shown) name = refl
-brief-back briefs.Abandon name = refl
-brief-back (briefs.Trace on) name = refl
+brief-back _ name = refl
 
 -- different briefs are of different acts
 pub one-brief : (a b : Brief) (n m : List ℕ) → act_of a n ≡ act_of b m → a ≡ b

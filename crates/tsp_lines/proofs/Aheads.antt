@@ -4,7 +4,7 @@ use Rattle.std.{proofs.lemmas.Grind.common_steps, specs.declared.option.Option.O
 use Rattle.tsp_io.specs.Streams.{Gives}
 use Rattle.tsp_lines.specs.Lines.{NoFeed, close, closed, Begins, IsInput, IsOver, HasLines, HasNext, HasMore, IsPast}
 use Rattle.tsp_lines.specs.{Readings.ReaderValue, Readings.IsNext, declared.next.Next.TheVariants.Limit}
-use Rattle.tsp_lines.proofs.Streams.{Gives-trans}
+use Rattle.tsp_lines.proofs.Outputs.{Gives-trans}
 
 -- an input that gave octets begins with the first of them
 pub begins : (a b : Option (List ℕ)) (octets front rest : List ℕ) → Gives a b octets → octets ≡ front ++ rest → IfSome a (λ xs. (more : List ℕ) × (xs ≡ front ++ more))

@@ -1,9 +1,15 @@
--- Laws of the first line feed.
-use Rattle.std.proofs.Common.{◌≡◌, ℕ, ◌<◌, ◌≤◌, ◌+◌, ◌-◌, List, [], ◌∷◌, ◌++◌, None, Some, refl, sym, ap, ◌∙◌, take, drop, length, get_or, append_assoc, take-append-drop, length-drop, arith, eq-eqb, eqb-true, length-take-le, add_assoc, zero, suc, subst, MatchOption, slice_range}
-use Rattle.std.proofs.lemmas.List.{drop_more, drop-take, drop-drop, drop_all, append-nil}
-use Rattle.std.proofs.{Math.Seq.take-length, lemmas.Grind.common_steps, lemmas.Grind.get_or_default_zero}
-use Rattle.std.{proofs.lemmas.List.Elements.Contains-append_left, specs.declared.option.Option.Option}
+-- Laws of the first line feed, and of a buffer that is read into.
+use Rattle.std.proofs.Common.{◌≡◌, ℕ, ◌<◌, ◌≤◌, ◌+◌, ◌-◌, List, [], ◌∷◌, ◌++◌, None, Some, refl, sym, ap, ◌∙◌, take, drop, length, get_or, append_assoc}
+use Rattle.std.proofs.Common.{take-append-drop, length-drop, arith, eq-eqb, eqb-true, length-take-le, add_assoc, zero, suc, subst, MatchOption, slice_range}
+use Rattle.std.proofs.Common.{◌^◌, inl, inr, map, w64, not}
+use Rattle.std.proofs.lemmas.List.{drop_more, drop-take, drop-drop, drop_all, append-nil, length-map, take_at, Elements.Contains-append_left}
+use Rattle.std.proofs.Math.Seq.{take-length, take-add}
+use Rattle.std.proofs.lemmas.{Grind.common_steps, Grind.get_or_default_zero, Bool.cases_lt, Nat.Bits.bit_at-trailing_zeros, Nat.Bits.bit_at_above}
+use Rattle.std.specs.{declared.option.Option.Option, List.prefix_len, Simd.Lanes.mask_l, Simd.Lanes.chunk}
+use Rattle.std.proofs.lemmas.Simd.{length-chunk, mask_l-lt, trailing_mask_l, run_in_chunk_fails, run_in_chunk_stops}
+use lib.Count.{count_trailing_zeros}
 use Rattle.memchr.specs.Find.{IsFirstByte, is_byte, Nowhere, Passes}
+use Rattle.tsp_io.specs.Streams.{Gives}
 use Rattle.tsp_lines.specs.{Lines.NoFeed, Lines.close, Lines.IsFront, Readings.ReaderValue}
 
 NoFeed-take : (hay : List ℕ) (n : ℕ) → n ≤ length hay → Nowhere (Passes (is_byte 10) hay) 0 n → NoFeed (take n hay)
@@ -111,3 +117,53 @@ pub front_line : (octets line : List ℕ) (place : ℕ) → place < length octet
 front_line octets line place h n s e =
     let l : length line ≡ place = ap length e ∙ length-take-le place octets (omega (arith, h)) in
     (subst NoFeed (sym e) n, refl, s ∙ ap (λ x. close x ++ drop (place + 1) octets) (sym e) ∙ ap (λ k. close line ++ drop (k + 1) octets) (sym l))
+
+-- the place of the lowest bit is that of the first line feed
+pub near_feed : (hay : List ℕ) (mask : ℕ) → 32 ≤ length hay → mask ≡ mask_l (map (is_byte 10) (chunk 0 32 hay)) → 0 < mask → IsFirstByte (is_byte 10) hay (Some (count_trailing_zeros 64 mask))
+near_feed hay mask room is some =
+    let lanes : List ℕ = chunk 0 32 hay in
+    let zeros : ℕ = count_trailing_zeros 64 mask in
+    let long : length (map (is_byte 10) lanes) ≡ 32 = length-map lanes (is_byte 10) ∙ length-chunk 0 32 hay (omega arith) in
+    let bound : mask_l (map (is_byte 10) lanes) < 2 ^ 32 = subst (λ (n : ℕ). mask_l (map (is_byte 10) lanes) < 2 ^ n) long (mask_l-lt (map (is_byte 10) lanes)) in
+    let few : mask < 2 ^ 32 = omega (arith, is, bound) in
+    let bits = bit_at-trailing_zeros w64 mask some (omega (arith, few)) in
+    let below : zeros < 32 = elim (cases_lt zeros 32) [
+      | inl b ↦ b
+      | inr t ↦ let z = bit_at_above mask 32 zeros few t in absurd (omega (arith, z, bits.1))
+    ] in
+    let counted : zeros ≡ prefix_len (λ x. not (is_byte 10 x)) lanes = ap (count_trailing_zeros 64) is ∙ trailing_mask_l (is_byte 10) 64 lanes (omega (arith, length-chunk 0 32 hay (omega arith))) (omega (arith, is, some)) in
+    let first : 0 + zeros ≡ zeros = omega arith in
+    (record { low = omega arith; high = omega arith; before = λ k l h. λ t. let f = run_in_chunk_fails (is_byte 10) hay 0 32 zeros 0 (omega arith) counted k l (omega arith) in cc }, subst (Passes (is_byte 10) hay) first (run_in_chunk_stops (is_byte 10) hay 0 32 zeros 0 (omega arith) counted below))
+
+-- octets behind those that are held
+pub take-held : (buf : List ℕ) (held n : ℕ) → take (held + n) buf ≡ take held buf ++ slice_range buf held (held + n)
+take-held buf held n = let e : held + n - held ≡ n = omega arith in take-add held n buf ∙ ap (λ k. take held buf ++ take k (drop held buf)) (sym e)
+
+pub length-slice : (buf : List ℕ) (held n : ℕ) → held + n ≤ length buf → length (slice_range buf held (held + n)) ≡ n
+length-slice buf held n h = grind (arith, common_steps)
+
+-- what was read stands behind what is held
+pub read_behind_held : (left rest : Option (List ℕ)) (new old front : List ℕ) (held count : ℕ)
+    → Gives left rest (slice_range new held (held + count)) → held + count ≤ length new → take held new ≡ take held old → take held old ≡ front
+    → (octets : List ℕ) × Gives left rest octets × (length octets ≡ count) × (take (held + count) new ≡ front ++ octets)
+read_behind_held left rest new old front held count g h e f = (
+  slice_range new held (held + count),
+  g,
+  length-slice new held count h,
+  take-held new held count ∙ ap (λ l. l ++ slice_range new held (held + count)) (e ∙ f),
+)
+
+-- a buffer that was written back whole
+pub written_back : (len n : ℕ) (new old : List ℕ) → length new ≡ len → slice_range (take len (new ++ drop (length new) old)) 0 n ≡ take n new
+written_back len n new old h = let e : n - 0 ≡ n = omega arith in rw (take_at new (drop (length new) old) len h, e) refl
+
+-- what is held after a read of so many octets
+pub filled : (n m count at end : ℕ) (new items before held octets : List ℕ) → length new ≡ n → before ≡ items → slice_range items at end ≡ held → m ≡ end - at + count
+    → take (end - at + count) new ≡ slice_range before at end ++ octets → slice_range (take n (new ++ drop (length new) items)) 0 m ≡ held ++ octets
+filled n m count at end new items before held octets l b h e t =
+    let whole : slice_range before at end ≡ held = ap (λ xs. slice_range xs at end) b ∙ h in
+    rw e (written_back n (end - at + count) new items l ∙ (t ∙ ap (λ xs. xs ++ octets) whole))
+
+pub no_octets : (octets : List ℕ) → length octets ≡ 0 → octets ≡ []
+no_octets [] h = refl
+no_octets (x ∷ xs) h = absurd (omega arith)

@@ -5,7 +5,7 @@ use Rattle.tsp_io.specs.{Streams.Gives, Streams.IsEndWhere, Streams.ReadsSome, d
 use Rattle.tsp_lines.specs.{Gatherings.Adds, Gatherings.Gathers, Gatherings.ReadsWhole, Lines.IsOver, declared.gather.Ungathered.Ungathered}
 use Rattle.tsp_lines.specs.declared.gather.Added.TheVariants.{More, End, Fault}
 use Rattle.tsp_lines.specs.declared.gather.Ungathered.TheVariants.{ReadFault, OutOfMemory}
-use Rattle.tsp_lines.proofs.Streams.{Gives-trans}
+use Rattle.tsp_lines.proofs.Outputs.{Gives-trans}
 
 -- a read of no octets meets the input's end
 over_behind : (left rest : Option (List ℕ)) → Gives left rest [] → IsEndWhere left 0 → IsOver rest

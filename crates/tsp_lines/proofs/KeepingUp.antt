@@ -4,10 +4,10 @@ use Rattle.std.specs.declared.option.Option.{Option}
 use Rattle.tsp_io.specs.Streams.{Gives, Grows}
 use Rattle.tsp_lines.specs.{Lines.NoFeed, Lines.close, Lines.closed, Meanings.Meaning, Meanings.Goes, Outcomes.KeepsUp, Outputs.Hands}
 use Rattle.tsp_lines.specs.{Readings.ReaderValue, Readings.IsNext, Turns.Sayings, Turns.IsAt, Turns.Ends, declared.next.Next.Next}
-use Rattle.tsp_lines.specs.declared.next.Next.TheVariants.{Line, Last, Long, LongLast, End, Limit, Failed}
+use Rattle.tsp_lines.specs.declared.next.Next.TheVariants.{Line, Last, Long, End, Limit}
 use Rattle.tsp_lines.specs.declared.treat.Outcome.{Outcome}
-use Rattle.tsp_lines.specs.declared.treat.Outcome.TheVariants.{Ok as Done, Bad, ReadFault, WriteFault, Limit as Limited, OutOfMemory}
-use Rattle.tsp_lines.proofs.{Comes.Grows-handed, Outputs.Grows-nil, Outputs.Grows-trans, Says.said, Streams.Gives-nil, Streams.Gives-trans}
+use Rattle.tsp_lines.specs.declared.treat.Outcome.TheVariants.{ReadFault, WriteFault, OutOfMemory}
+use Rattle.tsp_lines.proofs.{Comes.Grows-handed, Outputs.Grows-nil, Outputs.Grows-trans, Outputs.said, Outputs.Gives-nil, Outputs.Gives-trans}
 
 -- some octets more were written
 abbrev pub Grew : Option (List ℕ) → Option (List ℕ) → Type 0
@@ -29,10 +29,9 @@ near : (r : ReaderValue) (ahead : List ℕ) (n : Next) → IsNext r ahead n → 
 near r ahead Line p = near_line r.line ahead r.held p.0 p.2 p.3.1
 near r ahead Last p = (r.line, [], p.0, omega arith, p.3 ∙ sym (append-nil r.line))
 near r ahead Long p = near_line p.0 ahead r.held p.1 p.3 p.5.1
-near r ahead LongLast p = (ahead, [], p.0, omega arith, sym (append-nil ahead))
 near r ahead End p = ([], [], λ c. omega (arith, c.1), omega arith, p.0)
 near r ahead Limit p = (p.1.0, p.1.1 ∷ [], p.1.2, omega arith, p.1.3)
-near r ahead Failed p = (ahead, [], p.0, omega arith, sym (append-nil ahead))
+near r ahead _ p = (ahead, [], p.0, omega arith, sym (append-nil ahead))
 
 -- all that was handed over was written, and then octets were read
 KeepsUp-read : (m : Meaning) (Stands : List (List ℕ) → Type 0) (input left rest written now later : Option (List ℕ)) (old : ReaderValue) (held keeps : List ℕ) (number : ℕ) (lines : List (List ℕ)) (text more : List ℕ)
@@ -60,12 +59,10 @@ KeepsUp-peek m Stands input left rest written now later old new held keeps numbe
 
 -- however it ends, some octets more were written
 pub Ends-grew : (s : Sayings) (a c : Option (List ℕ)) (held : List ℕ) (o : Outcome) → Ends s a held c o → Grew a c
-Ends-grew s a c held Done e = (e.2.0, e.2.1)
-Ends-grew s a c held Bad e = (e.2.0, e.2.1)
 Ends-grew s a c held ReadFault e = absurd e
 Ends-grew s a c held WriteFault e = (e.2.1.0, e.2.1.1)
-Ends-grew s a c held Limited e = (e.2.0, e.2.1)
 Ends-grew s a c held OutOfMemory e = (e.1.1.0, e.1.1.1)
+Ends-grew s a c held _ e = (e.2.0, e.2.1)
 
 pub Treats-grew : (m : Meaning) (Stands : List (List ℕ) → Type 0) (s : Sayings) (lines : List (List ℕ)) (text line held keeps : List ℕ) (a c : Option (List ℕ)) (o : Option Outcome)
     → MatchOption o (Goes m Stands lines text line a held c keeps) (λ outcome. Ends s a held c outcome) → Grew a c

@@ -1,14 +1,29 @@
--- How source and sink are left.
-use Rattle.std.proofs.Common.{◌≡◌, ◌≢◌, ℕ, ◌≤◌, ◌∙◌, List, Result, Ok, Err, ap, arith, false, refl, sym, subst, true, MatchOption, None, Some}
-use Rattle.tsp_io.specs.{Counts.Rose, declared.sink.Sink.Ghosts as SinkOf, declared.source.Source.Ghosts as SourceOf}
-use Rattle.tsp_lines.{proofs.Faults.Counts-from, proofs.Faults.Counts-some, specs.Definite.IsDefinite, specs.Faults.Counts, specs.Meanings.Meaning, specs.Turns.outcome_of, specs.declared.output.Unwritten.Unwritten, specs.declared.treatment.Stop.Stop}
+-- Laws of how a treatment leaves source and sink, and of what calls do to a count of faults.
+use Rattle.std.proofs.Common.{◌∙◌, arith, ◌≡◌, ℕ, Some, ap, refl, ◌≢◌, ◌≤◌, List, Result, Ok, Err, false, sym, subst, true, MatchOption, None}
 use Rattle.std.specs.declared.option.Option.{Option}
-use Rattle.tsp_lines.specs.{Readings.ReaderValue, Turns.StaysOpen, declared.next.Fill.Fill, declared.next.Fill.TheVariants.NotRead, declared.next.Next.Next, declared.next.Next.TheVariants.Failed}
+use Rattle.tsp_io.specs.{Counts.Rose, declared.sink.Sink.Ghosts as SinkOf, declared.source.Source.Ghosts as SourceOf}
+use Rattle.tsp_lines.specs.{Faults.Counts, Meanings.Meaning, Turns.outcome_of, Turns.StaysOpen}
+use Rattle.tsp_lines.specs.{Definite.IsDefinite, Readings.ReaderValue, Frames.Accepts, Frames.Completes, Frames.Leaves, Frames.Treats}
+use Rattle.tsp_lines.specs.declared.output.Unwritten.{Unwritten, TheVariants.WriteFault as NotWritten, TheVariants.OutOfMemory as NoMemory}
+use Rattle.tsp_lines.specs.declared.{treatment.Stop.Stop, next.Fill.Fill, next.Fill.TheVariants.NotRead, next.Next.Next, next.Next.TheVariants.Failed}
 use Rattle.tsp_lines.specs.declared.treatment.Stop.TheVariants.{Bad as Refused, Limit as Limited, WriteFault as Unwrote, OutOfMemory as Unheld}
-use Rattle.tsp_lines.specs.Frames.{Accepts, Completes, Leaves, Treats}
-use Rattle.tsp_lines.specs.declared.output.Unwritten.TheVariants.{WriteFault as NotWritten, OutOfMemory as NoMemory}
-use Rattle.tsp_lines.specs.declared.treat.Outcome.{Outcome}
-use Rattle.tsp_lines.specs.declared.treat.Outcome.TheVariants.{Ok as Done, OutOfMemory, ReadFault, WriteFault}
+use Rattle.tsp_lines.specs.declared.treat.Outcome.{Outcome, TheVariants.Ok as Done, TheVariants.OutOfMemory, TheVariants.ReadFault, TheVariants.WriteFault}
+
+-- a count from an earlier moment, at which it was the same, and by another word for the fault
+pub Counts-from : (old before now : ℕ) (fault failed : Type 0) → before ≡ old → (fault → failed) → (failed → fault) → Counts before now failed → Counts old now fault
+Counts-from old before now fault failed same to from c = record {
+  later = omega (arith, same, c.later);
+  cause = λ e. rw (← same) (c.cause (to e));
+  still = λ h. c.still (λ e. h (from e)) ∙ same;
+}
+
+-- the fault of an outcome that is told of a call which may go on
+pub Counts-some : {A : Type 0} (before now : ℕ) (x y : A) → Counts before now (Some x ≡ Some y) → Counts before now (x ≡ y)
+Counts-some before now x y c = Counts-from before before now (x ≡ y) (Some x ≡ Some y) refl (ap Some) (λ e. cc) c
+
+-- a count that is unchanged, where the fault doesn't come
+pub Counts-same : (before now : ℕ) (fault : Type 0) → now ≡ before → ¬ fault → Counts before now fault
+Counts-same before now fault same never = record { later = omega (arith, same); cause = λ e. absurd (never e); still = λ h. same }
 
 -- nothing was read or written
 pub Leaves-nothing : {S K : Type 0} (sources : SourceOf S) (sinks : SinkOf K) (source : S) (sink : K) → Leaves sources sinks source source sink sink OutOfMemory

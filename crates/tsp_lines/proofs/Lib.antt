@@ -4,17 +4,11 @@ pub mod Fronts
 pub mod Turns
 pub mod Aheads
 pub mod Comes
-pub mod Endings
-pub mod Says
 pub mod Stops
 pub mod Passes
-pub mod Streams
-pub mod Buffers
 pub mod OneCut
 pub mod OneAnswer
 pub mod KeepingUp
 pub mod WholeInputs
 pub mod Gatherings
 pub mod Leaving
-pub mod NearFeeds
-pub mod Faults

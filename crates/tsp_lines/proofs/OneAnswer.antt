@@ -4,12 +4,11 @@ use Rattle.std.specs.declared.option.Option.{Option}
 use Rattle.std.proofs.lemmas.{Grind.flat_map-append, List.append_cancel_left, List.Elements.All-push}
 use Rattle.tsp_io.specs.Streams.{Grows}
 use Rattle.tsp_lines.specs.Lines.{NoFeed, close, closed, Begins, IsInput, AreLines, IsWhole, HasLines, HasNext, HasMore, IsPast}
-use Rattle.tsp_lines.specs.{Definite.IsDefinite, Meanings.Meaning, declared.treat.Outcome.Outcome}
+use Rattle.tsp_lines.proofs.{OneCut.AreLines-none, OneCut.AreLines-one, OneCut.cut, OneCut.front_of, OneCut.feed_within, Aheads.begins}
 use Rattle.tsp_lines.specs.Outcomes.{bad_line, IsBad, IsLimited, IsDone, Follows, Comes}
-use Rattle.tsp_lines.specs.Answers.{IsEnding, IsAnswer, IsPart, Agrees, Answers}
+use Rattle.tsp_lines.specs.{Answers.IsEnding, Answers.IsAnswer, Answers.IsPart, Answers.Agrees, Answers.Answers, Definite.IsDefinite}
+use Rattle.tsp_lines.{specs.declared.treat.Outcome.Outcome, proofs.Comes.HasLines-next, specs.Meanings.Meaning}
 use Rattle.tsp_lines.specs.declared.treat.Outcome.TheVariants.{Ok as Done, Bad, ReadFault, WriteFault, Limit, OutOfMemory}
-use Rattle.tsp_lines.proofs.{Aheads.begins, Comes.HasLines-next}
-use Rattle.tsp_lines.proofs.OneCut.{AreLines-none, AreLines-one, cut, front_of, feed_within}
 
 -- of octets that an input begins with, the first lie within a limit
 Begins-front : (n limit : ℕ) (input : Option (List ℕ)) (octets front more : List ℕ) → octets ≡ front ++ more → Begins n input octets → length front ≤ limit → Begins limit input front
@@ -35,12 +34,10 @@ module _ (limit : ℕ) (input : Option (List ℕ)) (lines : List (List ℕ)) whe
   IsEnding-lines m Done said e = inr e.0
   IsEnding-lines m Bad said (inl e) = HasNext-lines e.0 e.2
   IsEnding-lines m Bad said (inr e) = inr e.1
-  IsEnding-lines m ReadFault said e = absurd e
-  IsEnding-lines m WriteFault said e = absurd e
   IsEnding-lines m Limit said (inl e, w) = HasNext-lines e.0 e.1
   IsEnding-lines m Limit said (inr (inl e), w) = IsPast-lines e
   IsEnding-lines m Limit said (inr (inr e), w) = HasMore-lines e.1
-  IsEnding-lines m OutOfMemory said e = absurd e
+  IsEnding-lines m _ said e = absurd e
 
 -- of two beginnings of a list one is the other's
 compare : (all front other more rest : List (List ℕ)) → all ≡ front ++ more → all ≡ other ++ rest → ((r : List (List ℕ)) × (front ≡ other ++ r)) ⊎ ((line : List ℕ) × (r : List (List ℕ)) × (other ≡ front ++ line ∷ r))
@@ -149,12 +146,10 @@ module _ (limit : ℕ) (octets : List ℕ) (all : List (List ℕ)) (feeds : All 
       at Done e = whole e.0
       at Bad (inl b) = d.not_refused front line accepted.0 b.1 accepted.1 (subst (λ l. m.refuses front l b.1) (same b.0 b.2) b.4)
       at Bad (inr b) = whole b.1
-      at ReadFault e = e
-      at WriteFault e = e
       at Limit (inl l, w) = d.not_limited front line accepted.0 accepted.1 (subst (λ x. m.limits front x) (same l.0 l.1) l.2)
       at Limit (inr (inl p), w) = past_longer front line more p h
       at Limit (inr (inr q), w) = (d.before front line accepted.0 accepted.1).0 q.0
-      at OutOfMemory e = e
+      at _ e = e
 
     -- accepted lines of the input are the first of those at which the treatment ends
     first_of : (front other : List (List ℕ)) (o : Outcome) (said text : List ℕ) → All NoFeed front → IsEnding m limit (Some octets) front o said → All NoFeed other → HasLines limit (Some octets) other → m.accepts other text → (rest : List (List ℕ)) × (front ≡ other ++ rest)
@@ -202,9 +197,6 @@ module _ (limit : ℕ) (octets : List ℕ) (all : List (List ℕ)) (feeds : All 
     one_ending front a b Limit Done n e f = absurd (done_limited front b a n f e)
     one_ending front a b Limit Bad n e f = absurd (bad_limited front b a n f e)
     one_ending front a b Limit Limit n e f = (refl, e.1 ∙ sym f.1)
-    one_ending front a b ReadFault p n e f = absurd e
-    one_ending front a b WriteFault p n e f = absurd e
-    one_ending front a b OutOfMemory p n e f = absurd e
     one_ending front a b Done ReadFault n e f = absurd f
     one_ending front a b Done WriteFault n e f = absurd f
     one_ending front a b Done OutOfMemory n e f = absurd f
@@ -214,6 +206,7 @@ module _ (limit : ℕ) (octets : List ℕ) (all : List (List ℕ)) (feeds : All 
     one_ending front a b Limit ReadFault n e f = absurd f
     one_ending front a b Limit WriteFault n e f = absurd f
     one_ending front a b Limit OutOfMemory n e f = absurd f
+    one_ending front a b _ p n e f = absurd e
 
     -- two endings are at one place
     one_place : (front other r s : List (List ℕ)) → front ≡ other ++ r → other ≡ front ++ s → front ≡ other
@@ -292,9 +285,7 @@ Comes-answers m d limit input left written now result comes = λ octets o output
 
 -- where no read and no write failed, an outcome that agrees with an answer is that answer's, or there was no memory
 pub Agrees-outcome : (o result : Outcome) (output : List ℕ) (written now : Option (List ℕ)) → Agrees o output written now result → (result ≡ ReadFault → ⊥) → (result ≡ WriteFault → ⊥) → (result ≡ o) ⊎ (result ≡ OutOfMemory)
-Agrees-outcome o Done output written now a r w = inl (sym a.0)
-Agrees-outcome o Bad output written now a r w = inl (sym a.0)
 Agrees-outcome o ReadFault output written now a r w = absurd (r refl)
 Agrees-outcome o WriteFault output written now a r w = absurd (w refl)
-Agrees-outcome o Limit output written now a r w = inl (sym a.0)
 Agrees-outcome o OutOfMemory output written now a r w = inr refl
+Agrees-outcome o _ output written now a r w = inl (sym a.0)

@@ -4,8 +4,8 @@ use Rattle.std.{proofs.lemmas.List.take-append-le, proofs.lemmas.List.Elements.C
 use Rattle.tsp_io.specs.Streams.{Gives}
 use Rattle.tsp_lines.specs.Readings.{ReaderValue, IsNext, IsPassed, ends_input, long_of}
 use Rattle.tsp_lines.specs.declared.next.Fill.TheVariants.{More, Over, NotRead}
-use Rattle.tsp_lines.specs.declared.next.Next.TheVariants.{Line, Last, Long, LongLast, End, Limit, Failed}
-use Rattle.tsp_lines.{proofs.Streams.Gives-trans, specs.Lines.NoFeed, specs.Lines.close, specs.declared.next.Next.Next}
+use Rattle.tsp_lines.specs.declared.next.Next.TheVariants.{Long, LongLast, Limit, Failed}
+use Rattle.tsp_lines.{proofs.Outputs.Gives-trans, specs.Lines.NoFeed, specs.Lines.close, specs.declared.next.Next.Next}
 
 -- no line feed in two lists, none in both
 pub NoFeed-append : (xs ys : List ℕ) → NoFeed xs → NoFeed ys → NoFeed (xs ++ ys)
@@ -17,13 +17,11 @@ keeping r start = record r { start = start }
 
 -- what is given behind a part of a long line is given of the whole
 pub IsNext-passed : (r : ReaderValue) (front octets start : List ℕ) (n : Next) → NoFeed front → 1024 < length front → start ≡ take 8 front → IsPassed r octets n → IsNext (keeping r start) (front ++ octets) n
-IsNext-passed r front octets start Line f l s p = absurd p
-IsNext-passed r front octets start Last f l s p = absurd p
 IsNext-passed r front octets start Long f l s p = (front ++ p.0, NoFeed-append front p.0 f p.1, omega (arith, length-append front p.0, l), ap (λ o. front ++ o) p.2 ∙ rw (append_assoc front p.0 (10 ∷ [])) (sym (append_assoc front (close p.0) r.held)), s ∙ sym (take-append-le 8 front p.0 (omega (arith, l))), p.3)
 IsNext-passed r front octets start LongLast f l s p = rw (p.0, append-nil front) (f, l, p.1, s, p.2)
-IsNext-passed r front octets start End f l s p = absurd p
 IsNext-passed r front octets start Limit f l s p = (p.0, (front ++ p.1.0, p.1.1, NoFeed-append front p.1.0 f p.1.2, ap (λ o. front ++ o) p.1.3 ∙ sym (append_assoc front p.1.0 (p.1.1 ∷ []))))
 IsNext-passed r front octets start Failed f l s p = rw (p.0, append-nil front) (f, p.1)
+IsNext-passed r front octets start _ f l s p = absurd p
 
 -- more of a long line was read
 pub passed : (a b c : Option (List ℕ)) (r : ReaderValue) (held octets more start : List ℕ) (got : ℕ) (n : Next) → 1024 < length held → start ≡ take 8 held

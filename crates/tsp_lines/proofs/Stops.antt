@@ -1,9 +1,8 @@
 -- Laws for the proofs of treatments: what `?` gives where octets weren't written.
 use Rattle.std.proofs.Common.{◌≡◌, ℕ, List, [], ◌∷◌, ◌++◌, Ok, Err, subst, sym, MatchResult, IsErr}
 use Rattle.std.specs.{Result.IsErrAnd, declared.option.Option.Option, declared.result.Result.Result}
-use Rattle.tsp_lines.specs.Meanings.{Meaning, Breaks, StopsAt, stop_of}
+use Rattle.tsp_lines.specs.{Meanings.Meaning, Meanings.Breaks, Meanings.StopsAt, Meanings.stop_of, declared.treatment.Stop.Stop}
 use Rattle.tsp_lines.specs.declared.output.Unwritten.{Unwritten, TheVariants.WriteFault as NotWritten, TheVariants.OutOfMemory as NoMemory}
-use Rattle.tsp_lines.specs.declared.treatment.Stop.{Stop}
 
 -- a part of a line's output was handed over
 pub StopsAt-stop_of : (m : Meaning) (lines : List (List ℕ)) (text line : List ℕ) (a b : Option (List ℕ)) (held keeps : List ℕ) (f : Unwritten)

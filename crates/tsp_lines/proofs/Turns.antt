@@ -9,7 +9,7 @@ use Rattle.tsp_lines.specs.Turns.{IsAt, IsSaying, StandsOpen, Ends, line_sayings
 use Rattle.tsp_lines.specs.declared.next.Next.TheVariants.{Line, Last, Long, LongLast, Limit}
 use Rattle.tsp_lines.specs.declared.output.Unwritten.{Unwritten, TheVariants.WriteFault as NotWritten}
 use Rattle.tsp_lines.specs.declared.treat.Outcome.{Outcome, TheVariants.ReadFault, TheVariants.OutOfMemory}
-use Rattle.tsp_lines.proofs.{Outputs.Hands-trans, Outputs.Grows-nil, Says.said, Says.Breaks-imp, Says.Ends-broken}
+use Rattle.tsp_lines.proofs.Outputs.{Hands-trans, Grows-nil, said, Breaks-imp, Ends-broken}
 use Rattle.tsp_lines.proofs.Aheads.{Ahead, Ahead-next, HasLines-got, HasNext-line, HasNext-last, HasMore-got, IsInput-got, IsPast-limit}
 use Rattle.tsp_lines.proofs.Comes.{Comes-Ends, Grows-handed, Place-line, Place-end, Place-limit, Place-any, no_sayings, closed-push}
 

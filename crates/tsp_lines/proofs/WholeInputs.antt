@@ -81,12 +81,8 @@ ended-given m n input left rest written now ended octets at outcome g e c d =
 
 -- where no read failed, the two say the same
 pub ComesGathered-comes : (m : Meaning) (n : ℕ) (input left written now : Option (List ℕ)) (outcome : Outcome) → (outcome ≡ ReadFault → ⊥) → Comes m n input left written now outcome → ComesGathered m n input left written now outcome
-ComesGathered-comes m n input left written now Done f c = c
-ComesGathered-comes m n input left written now Bad f c = c
 ComesGathered-comes m n input left written now ReadFault f c = absurd (f refl)
-ComesGathered-comes m n input left written now WriteFault f c = c
-ComesGathered-comes m n input left written now Limit f c = c
-ComesGathered-comes m n input left written now OutOfMemory f c = c
+ComesGathered-comes m n input left written now _ f c = c
 
 -- the same, of octets of which none was given yet
 pub Comes-given : (m : Meaning) (n : ℕ) (input left rest written now : Option (List ℕ)) (ended : Bool) (octets : List ℕ) (at : ℕ) (outcome : Outcome) → Gathers n input left ended octets → at ≡ 0 → (outcome ≡ ReadFault → ⊥)

@@ -1,39 +1,29 @@
 -- At each place of a schedule's lines one thing at most may follow.
 use Rattle.std.proofs.Common.{◌≡◌, ℕ, inl, inr, List, [], Some, sym, ap, ◌∙◌, subst}
-use Rattle.tsp_base.specs.declared.event.EventFault.TheVariants.{TimeBack, NoNode, NoDatagram, NotUp, Limit, OutOfMemory}
+use Rattle.tsp_base.specs.declared.event.EventFault.TheVariants.{Limit, OutOfMemory}
 use Rattle.tsp_base.specs.{Words.HeaderValue, declared.event.Event.Event, declared.event.EventFault.EventFault}
-use Rattle.tsp_script.{proofs.OneEvent.events_apart, specs.declared.event_line.EventItem.TheVariants.Event as EventOf}
+use Rattle.tsp_script.{proofs.EventLines.events_apart, specs.declared.event_line.EventItem.TheVariants.Event as EventOf}
 use Rattle.tsp_schedule.specs.Schedules.{Progress, Untitled, Titled, Drifted, Heading, Running, Ended, IsCause, Refuses, RefusesRun, Limits, LimitsRun, Lacks, IsEnded}
 use Rattle.tsp_schedule.{proofs.OneReading.end_kept, specs.Refusing.Refusing}
 
 -- a fault has one cause
 IsCause-one : (fault : EventFault) (cause other : List ℕ) → IsCause fault cause → IsCause fault other → cause ≡ other
-IsCause-one (TimeBack a b) cause other c d = c ∙ sym d
-IsCause-one (NoNode a b) cause other c d = c ∙ sym d
-IsCause-one (NoDatagram a b) cause other c d = c ∙ sym d
-IsCause-one (NotUp a) cause other c d = c ∙ sym d
 IsCause-one (Limit a b) cause other c d = absurd c
 IsCause-one OutOfMemory cause other c d = absurd c
+IsCause-one _ cause other c d = c ∙ sym d
 
 -- the input may not end for one cause, and only before the last line
 pub Lacks-one : (p : Progress) (cause other : List ℕ) → Lacks p cause → Lacks p other → cause ≡ other
-Lacks-one Untitled cause other r s = r ∙ sym s
-Lacks-one (Titled version) cause other r s = r ∙ sym s
-Lacks-one (Drifted drift) cause other r s = r ∙ sym s
 Lacks-one (Heading header) cause other (inl r) (inl s) = r.1 ∙ sym s.1
 Lacks-one (Heading header) cause other (inl r) (inr s) = absurd (r.0 s.0)
 Lacks-one (Heading header) cause other (inr r) (inl s) = absurd (s.0 r.0)
 Lacks-one (Heading header) cause other (inr r) (inr s) = r.1 ∙ sym s.1
-Lacks-one (Running header events) cause other r s = r ∙ sym s
 Lacks-one (Ended header events) cause other r s = absurd r
+Lacks-one _ cause other r s = r ∙ sym s
 
 pub Lacks-not_ended : (p : Progress) (cause : List ℕ) → IsEnded p → Lacks p cause → ⊥
-Lacks-not_ended Untitled cause e l = e
-Lacks-not_ended (Titled version) cause e l = e
-Lacks-not_ended (Drifted drift) cause e l = e
-Lacks-not_ended (Heading header) cause e l = e
-Lacks-not_ended (Running header events) cause e l = e
 Lacks-not_ended (Ended header events) cause e l = l
+Lacks-not_ended _ cause e l = e
 
 module _ (refused : Refusing) where
   -- an event is refused for one fault
@@ -67,10 +57,7 @@ module _ (refused : Refusing) where
       subst (λ x. IsCause x cause) same c
 
   pub Refuses-within : (p : Progress) (line cause : List ℕ) → Refuses refused p line cause → Limits refused p line → ⊥
-  Refuses-within Untitled line cause r l = l
-  Refuses-within (Titled version) line cause r l = l
-  Refuses-within (Drifted drift) line cause r l = l
   Refuses-within (Heading header) line cause (inl r) l = end_kept header line l.0 l.1 r.0
   Refuses-within (Heading header) line cause (inr r) l = run_within header [] line cause r.2 l.2
   Refuses-within (Running header events) line cause r l = run_within header events line cause r l
-  Refuses-within (Ended header events) line cause r l = l
+  Refuses-within _ line cause r l = l

@@ -1,16 +1,16 @@
 -- No line of a schedule has more than 1,024 octets.
 use Rattle.std.proofs.Common.{sym, ap, ◌∙◌, inl, inr, arith, length-append, append_assoc, take-append-drop, subst, ◌≡◌, ℕ, ◌*◌, ◌^◌, ◌<◌, ◌≤◌, if◌then◌else◌, List, [], ◌∷◌, ◌++◌, length, take, drop, decimal, codes, Bool, true, false, ◌==◌, ◌&&◌, not, refl}
-use Rattle.std.specs.{Fmt.signed_decimal, List.All}
+use Rattle.std.specs.{List.All}
 use Rattle.std.proofs.lemmas.{Fmt.length-decimal-le, List.Elements.All-head, List.Elements.All-tail}
 use Rattle.tsp_base.specs.declared.event.Event.TheVariants.{Boot as BootAt, Turn, Take, Bytes}
 use Rattle.tsp_base.specs.declared.place.{Place.TheVariants.Peer, Place.TheVariants.Stranger, Port.Port}
 use Rattle.tsp_base.specs.{Words.HeaderValue, declared.event.Event.Event, declared.header.NodeLine.NodeLine, declared.place.Place.Place}
-use Rattle.tsp_script.specs.{Texts.space, Traces.place_text, declared.event_line.EventItem.EventItem, declared.head_line.HeadItem.HeadItem}
+use Rattle.tsp_script.specs.{Traces.place_text, declared.event_line.EventItem.EventItem, declared.head_line.HeadItem.HeadItem}
 use Rattle.tsp_script.specs.declared.event_line.EventItem.TheVariants.{Event as EventOf, End}
-use Rattle.tsp_script.specs.declared.head_line.HeadItem.TheVariants.{Title, Drift, Strict, Node, Net, NotHead}
+use Rattle.tsp_script.specs.declared.head_line.HeadItem.TheVariants.{Drift, Strict, Node, Net, NotHead}
 use Rattle.tsp_script.specs.Schedules.{event_text, port_text, node_text, numbers_text, net_text, flag_text, IsPlace, IsEvent, IsHexOf, IsNodeLine, IsNetLine, IsNotHead, SpellsEvent, SpellsHead}
 use Rattle.tsp_script.proofs.{EventLines.short_hex, Lengths.number_length, Lengths.signed_length}
-use Rattle.tsp_schedule.specs.Schedules.{Progress, Untitled, Titled, Drifted, Heading, Running, Ended, next_place, Refuses, IsComplete}
+use Rattle.tsp_schedule.specs.Schedules.{Progress, Titled, Drifted, Heading, Running, Ended, next_place, Refuses, IsComplete}
 use Rattle.tsp_schedule.specs.declared.stage.Stage.TheVariants.{Titled as AtTitled, Drifted as AtDrifted, Heading as AtHeading}
 use Rattle.tsp_schedule.specs.{Refusing.Refusing, Stages.StageStands, Stages.RunStands, declared.run.Run.Run}
 
@@ -31,65 +31,27 @@ port_length : (port : Port) → port.0 < 2 ^ 8 → length (port_text port) ≤ 2
 port_length port h = port_length_by port (port.0 == 0) h
 
 event_length : (e : Event) (hex : List ℕ) → IsEvent e → IsHexOf hex e → length (event_text e hex) ≤ 1024
-event_length (BootAt at node word) hex i h = omega (
-  arith,
-  number_length at (omega (arith, i.0)),
-  number_length node (omega (arith, i.1)),
-  number_length word i.2,
-  length-append (((((codes "at ") ++ decimal at) ++ codes " boot ") ++ decimal node) ++ space) (decimal word),
-  length-append ((((codes "at ") ++ decimal at) ++ codes " boot ") ++ decimal node) space,
-  length-append (((codes "at ") ++ decimal at) ++ codes " boot ") (decimal node),
-  length-append ((codes "at ") ++ decimal at) (codes " boot "),
-  length-append (codes "at ") (decimal at),
-)
-event_length (Turn at node) hex i h = omega (
-  arith,
-  number_length at (omega (arith, i.0)),
-  number_length node (omega (arith, i.1)),
-  length-append (((codes "at ") ++ decimal at) ++ codes " turn ") (decimal node),
-  length-append ((codes "at ") ++ decimal at) (codes " turn "),
-  length-append (codes "at ") (decimal at),
-)
-event_length (Take at datagram) hex i h = omega (
-  arith,
-  number_length at (omega (arith, i.0)),
-  number_length datagram i.1,
-  length-append (((codes "at ") ++ decimal at) ++ codes " take ") (decimal datagram),
-  length-append ((codes "at ") ++ decimal at) (codes " take "),
-  length-append (codes "at ") (decimal at),
-)
-event_length (Bytes at node port from octets) hex i h = omega (
+event_length (BootAt at node word) hex i h =
+    simp length-append (omega (arith, number_length at (omega (arith, i.0)), number_length node (omega (arith, i.1)), number_length word i.2))
+event_length (Turn at node) hex i h = simp length-append (omega (arith, number_length at (omega (arith, i.0)), number_length node (omega (arith, i.1))))
+event_length (Take at datagram) hex i h = simp length-append (omega (arith, number_length at (omega (arith, i.0)), number_length datagram i.1))
+event_length (Bytes at node port from octets) hex i h = simp length-append (omega (
   arith,
   number_length at (omega (arith, i.0)),
   number_length node (omega (arith, i.1)),
   port_length port i.2,
   place_length from i.3,
   short_hex hex octets h i.5,
-  length-append ((((((((codes "at ") ++ decimal at) ++ codes " bytes ") ++ decimal node) ++ port_text port) ++ space) ++ place_text from) ++ space) hex,
-  length-append (((((((codes "at ") ++ decimal at) ++ codes " bytes ") ++ decimal node) ++ port_text port) ++ space) ++ place_text from) space,
-  length-append ((((((codes "at ") ++ decimal at) ++ codes " bytes ") ++ decimal node) ++ port_text port) ++ space) (place_text from),
-  length-append (((((codes "at ") ++ decimal at) ++ codes " bytes ") ++ decimal node) ++ port_text port) space,
-  length-append ((((codes "at ") ++ decimal at) ++ codes " bytes ") ++ decimal node) (port_text port),
-  length-append (((codes "at ") ++ decimal at) ++ codes " bytes ") (decimal node),
-  length-append ((codes "at ") ++ decimal at) (codes " bytes "),
-  length-append (codes "at ") (decimal at),
-)
+))
 
 node_length : (n : NodeLine) → IsNodeLine n → length (node_text n) ≤ 1024
-node_length n i = omega (
+node_length n i = simp length-append (omega (
   arith,
   signed_length n.rate (omega (arith, i.rate)),
   signed_length n.wall (omega (arith, i.wall)),
   flag_length n.may,
   i.host.name.short,
-  length-append (((((((codes "node ") ++ n.name) ++ space) ++ signed_decimal n.rate) ++ space) ++ signed_decimal n.wall) ++ space) (flag_text n.may),
-  length-append ((((((codes "node ") ++ n.name) ++ space) ++ signed_decimal n.rate) ++ space) ++ signed_decimal n.wall) space,
-  length-append (((((codes "node ") ++ n.name) ++ space) ++ signed_decimal n.rate) ++ space) (signed_decimal n.wall),
-  length-append ((((codes "node ") ++ n.name) ++ space) ++ signed_decimal n.rate) space,
-  length-append (((codes "node ") ++ n.name) ++ space) (signed_decimal n.rate),
-  length-append ((codes "node ") ++ n.name) space,
-  length-append (codes "node ") n.name,
-)
+))
 
 -- a long line is no event's and not the last
 pub SpellsEvent-long : (line : List ℕ) → 1024 < length line → (item : EventItem) → SpellsEvent line item → ⊥
@@ -107,21 +69,16 @@ net_length members i = omega (arith, length-append (codes "net") (numbers_text m
 
 -- a long line isn't a schedule's second one
 pub SpellsHead-second : (line : List ℕ) → 1024 < length line → (item : HeadItem) → SpellsHead 2 line item → ⊥
-SpellsHead-second line l (Title v) s = omega (arith, s.0)
 SpellsHead-second line l (Drift p) s = let b : length line ≡ length (codes "drift " ++ decimal p) = ap length s.2 in omega (arith, l, b, length-append (codes "drift ") (decimal p), number_length p (omega (arith, s.1)))
-SpellsHead-second line l Strict s = omega (arith, s.0)
-SpellsHead-second line l (Node n) s = omega (arith, s.0)
-SpellsHead-second line l (Net m) s = omega (arith, s.0)
-SpellsHead-second line l NotHead s = omega (arith, s.0)
+SpellsHead-second line l _ s = omega (arith, s.0)
 
 -- a long line from the third on is no line of the header, if it isn't behind it
 SpellsHead-long : (place : ℕ) (line : List ℕ) → 3 ≤ place → 1024 < length line → (IsNotHead place line → ⊥) → (item : HeadItem) → SpellsHead place line item → ⊥
-SpellsHead-long place line h l n (Title v) s = omega (arith, h, s.0)
-SpellsHead-long place line h l n (Drift p) s = omega (arith, h, s.0)
 SpellsHead-long place line h l n Strict s = let b : length line ≡ length (codes "strict") = ap length s.1 in omega (arith, l, b)
 SpellsHead-long place line h l n (Node m) s = let b : length line ≤ 1024 = rw s.2 (node_length m s.1) in omega (arith, l, b)
 SpellsHead-long place line h l n (Net m) s = let b : length line ≤ 1024 = rw s.2 (net_length m s.1) in omega (arith, l, b)
 SpellsHead-long place line h l n NotHead s = n s.1
+SpellsHead-long place line h l n _ s = omega (arith, h, s.0)
 
 next_place_by : (b : Bool) → 3 ≤ (if b then 3 else 4)
 next_place_by true = omega arith
@@ -162,33 +119,18 @@ module _ {C : Type 0} (refused : Refusing) (stands : HeaderValue → List Event 
 
   -- at a stage a long line is refused as where that stage stands
   pub Refuses-titled : (p : Progress) (version : ℕ) (line : List ℕ) → StageStands stands p (AtTitled version) → 1024 < length line → Refuses refused p line (codes "header")
-  Refuses-titled Untitled version line s l = absurd s
   Refuses-titled (Titled read) version line s l = (SpellsHead-second line l, refl)
-  Refuses-titled (Drifted drift) version line s l = absurd s
-  Refuses-titled (Heading header) version line s l = absurd s
-  Refuses-titled (Running header events) version line s l = absurd s
-  Refuses-titled (Ended header events) version line s l = absurd s
+  Refuses-titled _ version line s l = absurd s
 
   pub Refuses-drifted : (p : Progress) (held : HeaderValue) (line : List ℕ) → StageStands stands p (AtDrifted held) → 1024 < length line → Refuses refused p line (codes "header")
-  Refuses-drifted Untitled held line s l = absurd s
-  Refuses-drifted (Titled version) held line s l = absurd s
   Refuses-drifted (Drifted drift) held line s l = ((λ k. let z : length line ≡ length (codes "strict") = ap length k.1 in omega (arith, l, z)), refl)
-  Refuses-drifted (Heading header) held line s l = absurd s
-  Refuses-drifted (Running header events) held line s l = absurd s
-  Refuses-drifted (Ended header events) held line s l = absurd s
+  Refuses-drifted _ held line s l = absurd s
 
   pub Refuses-heading : (p : Progress) (held : HeaderValue) (line cause : List ℕ) → StageStands stands p (AtHeading held) → Refuses refused (Heading held) line cause → Refuses refused p line cause
-  Refuses-heading Untitled held line cause s r = absurd s
-  Refuses-heading (Titled version) held line cause s r = absurd s
-  Refuses-heading (Drifted drift) held line cause s r = absurd s
   Refuses-heading (Heading header) held line cause s r = subst {A = HeaderValue} (λ h. Refuses refused (Heading h) line cause) s r
-  Refuses-heading (Running header events) held line cause s r = absurd s
-  Refuses-heading (Ended header events) held line cause s r = absurd s
+  Refuses-heading _ held line cause s r = absurd s
 
   pub Refuses-running : (p : Progress) (run : Run C) (line : List ℕ) → RunStands stands p run → run.over ≡ false → 1024 < length line → Refuses refused p line (codes "line")
-  Refuses-running Untitled run line s o l = absurd s
-  Refuses-running (Titled version) run line s o l = absurd s
-  Refuses-running (Drifted drift) run line s o l = absurd s
-  Refuses-running (Heading header) run line s o l = absurd s
   Refuses-running (Running header events) run line s o l = inl (SpellsEvent-long line l, refl)
   Refuses-running (Ended header events) run line s o l = let e = sym s.0 ∙ o in absurd (cc)
+  Refuses-running _ run line s o l = absurd s

@@ -4,7 +4,7 @@ use Rattle.tsp_base.specs.{Words.HeaderValue, declared.event.Event.Event, declar
 use Rattle.tsp_script.specs.declared.event_line.EventItem.TheVariants.{Event as EventOf, End}
 use Rattle.tsp_script.specs.declared.head_line.HeadItem.TheVariants.{Title, Drift, Strict, Node, Net, NotHead}
 use Rattle.tsp_script.specs.Schedules.{SpellsEvent, SpellsHead}
-use Rattle.tsp_script.proofs.{OneEvent.SpellsEvent-one, OneEvent.events_apart, OneHead.SpellsHead-one}
+use Rattle.tsp_script.proofs.{EventLines.SpellsEvent-one, EventLines.events_apart, HeadLines.SpellsHead-one}
 use Rattle.tsp_schedule.specs.Schedules.{Progress, Untitled, Titled, Drifted, Heading, Running, Ended, Takes, TakesNet, next_place, RunsOn, GoesOn, Reaches, Refuses, RefusesRun, RefusesHeading, IsComplete, Limits, LimitsRun, drifted}
 use Rattle.tsp_schedule.specs.Refusing.{Refusing}
 
@@ -26,43 +26,27 @@ node_net place line n m s t = let p = SpellsHead-one place line (Node n) (Net m)
 pub net_end : (place : ℕ) (line m : List ℕ) → SpellsHead place line (Net m) → SpellsHead place line NotHead → ⊥
 net_end place line m s t = let p = SpellsHead-one place line (Net m) NotHead s t in absurd (cc)
 
--- `strict` is no node and no network, and doesn't end the header
-node_strict : (place : ℕ) (line : List ℕ) (n : NodeLine) → SpellsHead place line (Node n) → SpellsHead place line Strict → ⊥
-node_strict place line n s t = let p = SpellsHead-one place line (Node n) Strict s t in absurd (cc)
-
-net_strict : (place : ℕ) (line m : List ℕ) → SpellsHead place line (Net m) → SpellsHead place line Strict → ⊥
-net_strict place line m s t = let p = SpellsHead-one place line (Net m) Strict s t in absurd (cc)
-
-pub end_strict : (place : ℕ) (line : List ℕ) → SpellsHead place line NotHead → SpellsHead place line Strict → ⊥
-end_strict place line s t = let p = SpellsHead-one place line NotHead Strict s t in absurd (cc)
-
-same_title : (line : List ℕ) (v w : ℕ) → SpellsHead 1 line (Title v) → SpellsHead 1 line (Title w) → v ≡ w
-same_title line v w s t = let e = SpellsHead-one 1 line (Title v) (Title w) s t in cc
-
-same_drift : (line : List ℕ) (p q : ℕ) → SpellsHead 2 line (Drift p) → SpellsHead 2 line (Drift q) → p ≡ q
-same_drift line p q s t = let e = SpellsHead-one 2 line (Drift p) (Drift q) s t in cc
-
 -- a node or a network that the header takes, and a line that ends it where it may end, are not refused
 node_kept : (header : HeaderValue) (line : List ℕ) (n : NodeLine) → SpellsHead (next_place header) line (Node n) → Takes header n → RefusesHeading header line → ⊥
 node_kept header line n s t (inl none) = none (Node n) s
 node_kept header line n s t (inr (inl (node, u, k))) = k (subst (λ x. Takes header x) (same_node (next_place header) line n node s u) t)
 node_kept header line n s t (inr (inr (inl (members, u, k)))) = node_net (next_place header) line n members s u
 node_kept header line n s t (inr (inr (inr (inl r)))) = node_end (next_place header) line n s r.0
-node_kept header line n s t (inr (inr (inr (inr r)))) = node_strict (next_place header) line n s r
+node_kept header line n s t (inr (inr (inr (inr r)))) = let p = SpellsHead-one (next_place header) line (Node n) Strict s r in cc
 
 net_kept : (header : HeaderValue) (line m : List ℕ) → SpellsHead (next_place header) line (Net m) → TakesNet header m → RefusesHeading header line → ⊥
 net_kept header line m s t (inl none) = none (Net m) s
 net_kept header line m s t (inr (inl (node, u, k))) = node_net (next_place header) line node m u s
 net_kept header line m s t (inr (inr (inl (members, u, k)))) = k (subst (λ x. TakesNet header x) (same_net (next_place header) line m members s u) t)
 net_kept header line m s t (inr (inr (inr (inl r)))) = net_end (next_place header) line m s r.0
-net_kept header line m s t (inr (inr (inr (inr r)))) = net_strict (next_place header) line m s r
+net_kept header line m s t (inr (inr (inr (inr r)))) = let p = SpellsHead-one (next_place header) line (Net m) Strict s r in cc
 
 pub end_kept : (header : HeaderValue) (line : List ℕ) → SpellsHead (next_place header) line NotHead → IsComplete header → RefusesHeading header line → ⊥
 end_kept header line s t (inl none) = none NotHead s
 end_kept header line s t (inr (inl (node, u, k))) = node_end (next_place header) line node u s
 end_kept header line s t (inr (inr (inl (members, u, k)))) = net_end (next_place header) line members u s
 end_kept header line s t (inr (inr (inr (inl r)))) = r.1 t
-end_kept header line s t (inr (inr (inr (inr r)))) = end_strict (next_place header) line s r
+end_kept header line s t (inr (inr (inr (inr r)))) = let p = SpellsHead-one (next_place header) line NotHead Strict s r in cc
 
 module _ (refused : Refusing) where
   -- a line brings a schedule to one place
@@ -73,8 +57,12 @@ module _ (refused : Refusing) where
   RunsOn-one header events line p q (inr g) (inr h) = g.1 ∙ sym h.1
 
   GoesOn-one : (at : Progress) (line : List ℕ) (p q : Progress) → GoesOn refused at line p → GoesOn refused at line q → p ≡ q
-  GoesOn-one Untitled line p q g h = g.2 ∙ ap Titled (same_title line g.0 h.0 g.1 h.1) ∙ sym h.2
-  GoesOn-one (Titled version) line p q g h = g.2 ∙ ap (λ d. drifted version d) (same_drift line g.0 h.0 g.1 h.1) ∙ sym h.2
+  GoesOn-one Untitled line p q g h =
+      let t = SpellsHead-one 1 line (Title g.0) (Title h.0) g.1 h.1 in
+      let same : g.0 ≡ h.0 = cc in g.2 ∙ ap Titled same ∙ sym h.2
+  GoesOn-one (Titled version) line p q g h =
+      let t = SpellsHead-one 2 line (Drift g.0) (Drift h.0) g.1 h.1 in
+      let same : g.0 ≡ h.0 = cc in g.2 ∙ ap (λ d. drifted version d) same ∙ sym h.2
   GoesOn-one (Drifted drift) line p q g h = g.1 ∙ sym h.1
   GoesOn-one (Heading header) line p q (inl g) (inl h) = g.3 ∙ ap (λ n. Heading (record header { nodes = header.nodes ++ n ∷ [] })) (same_node (next_place header) line g.0 h.0 g.1 h.1) ∙ sym h.3
   GoesOn-one (Heading header) line p q (inl g) (inr (inl h)) = absurd (node_net (next_place header) line g.0 h.0 g.1 h.1)
@@ -124,11 +112,8 @@ module _ (refused : Refusing) where
   RunsOn-not_limited header events line p (inr g) r = event_end line r.0 r.3 g.0
 
   pub GoesOn-not_limited : (at : Progress) (line : List ℕ) (p : Progress) → GoesOn refused at line p → Limits refused at line → ⊥
-  GoesOn-not_limited Untitled line p g r = r
-  GoesOn-not_limited (Titled version) line p g r = r
-  GoesOn-not_limited (Drifted drift) line p g r = r
   GoesOn-not_limited (Heading header) line p (inl g) r = node_end (next_place header) line g.0 g.1 r.0
   GoesOn-not_limited (Heading header) line p (inr (inl g)) r = net_end (next_place header) line g.0 g.1 r.0
   GoesOn-not_limited (Heading header) line p (inr (inr g)) r = RunsOn-not_limited header [] line p g.2 r.2
   GoesOn-not_limited (Running header events) line p g r = RunsOn-not_limited header events line p g r
-  GoesOn-not_limited (Ended header events) line p g r = r
+  GoesOn-not_limited _ line p g r = r

@@ -8,12 +8,11 @@ use Rattle.tsp_schedule.specs.Refusing.{Refusing}
 
 -- the header that was read so far keeps its ranges
 abbrev pub KeepsHeader : Progress → Type 0
-KeepsHeader Untitled = Unit {0}
-KeepsHeader (Titled version) = Unit {0}
 KeepsHeader (Drifted drift) = drift ≤ 1000
 KeepsHeader (Heading header) = IsHeader header
 KeepsHeader (Running header events) = IsHeader header
 KeepsHeader (Ended header events) = IsHeader header
+KeepsHeader _ = Unit {0}
 
 no_nodes : (drift : ℕ) (strict : Bool) → drift ≤ 1000 → IsHeader (new_header drift strict)
 no_nodes drift strict small = record {

@@ -1,20 +1,20 @@
 -- How a stage goes on, and how it halts.
-use Rattle.std.proofs.Common.{sym, ap, ◌∙◌, inl, inr, subst, ◌≡◌, ◌≢◌, ℕ, List, [], ◌∷◌, ◌++◌, Ok, Err, Option, None, Some, MatchOption, MatchResult, refl, true, false}
+use Rattle.std.proofs.Common.{sym, ap, ◌∙◌, inl, inr, subst, ◌≡◌, ◌≢◌, ℕ, List, [], ◌∷◌, ◌++◌, Ok, Err, Option, None, Some, MatchOption, MatchResult, refl}
+use Rattle.std.proofs.Common.{true, false}
 use Rattle.std.specs.declared.result.Result.{Result}
-use Rattle.tsp_base.specs.declared.event.EventFault.TheVariants.{TimeBack, NoNode, NoDatagram, NotUp, Limit as NoRoom, OutOfMemory as NoMemory}
-use Rattle.tsp_base.specs.declared.header.NodeLine.{NodeLine}
-use Rattle.tsp_base.specs.{Words.HeaderValue, declared.event.Event.Event, declared.event.EventFault.EventFault}
-use Rattle.tsp_lines.specs.{Lines.line_ahead, declared.treatment.Stop.Stop}
-use Rattle.tsp_lines.specs.declared.treatment.Stop.TheVariants.{Bad, Limit, WriteFault, OutOfMemory}
-use Rattle.tsp_script.specs.declared.event_line.EventItem.TheVariants.{Event as EventOf, End}
-use Rattle.tsp_script.specs.declared.{head_line.HeadItem.HeadItem, line_fault.LineFault.LineFault}
-use Rattle.tsp_script.specs.declared.head_line.HeadItem.TheVariants.{Title, Drift, Node, Net, NotHead}
-use Rattle.tsp_script.specs.{Schedules.SpellsEvent, Schedules.SpellsHead, declared.event_line.EventItem.EventItem}
-use Rattle.tsp_script.proofs.OneEvent.{SpellsEvent-one}
+use Rattle.tsp_base.specs.declared.event.EventFault.{TheVariants.TimeBack, TheVariants.Limit as NoRoom, TheVariants.OutOfMemory as NoMemory, EventFault}
+use Rattle.tsp_base.specs.{declared.header.NodeLine.NodeLine, declared.event.Event.Event, Words.HeaderValue}
+use Rattle.tsp_lines.specs.Lines.{line_ahead}
+use Rattle.tsp_lines.specs.declared.treatment.Stop.{Stop, TheVariants.Bad, TheVariants.Limit, TheVariants.WriteFault, TheVariants.OutOfMemory}
+use Rattle.tsp_script.specs.declared.event_line.EventItem.{TheVariants.Event as EventOf, TheVariants.End, EventItem}
+use Rattle.tsp_script.specs.declared.head_line.HeadItem.{HeadItem, TheVariants.Title, TheVariants.Drift, TheVariants.Node, TheVariants.Net, TheVariants.NotHead}
+use Rattle.tsp_script.specs.{declared.line_fault.LineFault.LineFault, Schedules.SpellsEvent, Schedules.SpellsHead}
+use Rattle.tsp_script.proofs.EventLines.{SpellsEvent-one}
 use Rattle.tsp_schedule.specs.declared.stage.Stage.TheVariants.{Titled as AtTitled, Drifted as AtDrifted, Heading as AtHeading, Running as AtRunning}
-use Rattle.tsp_schedule.specs.Schedules.{Progress, Untitled, Titled, Drifted, Heading, Running, Ended, GoesOn, RunsOn, Takes, TakesNet, IsComplete, next_place, new_header, IsCause, drifted}
-use Rattle.tsp_schedule.specs.Stages.{StageStands, RunStands, TriesFront, Advances, AdvancesByEvent, Halts, HaltsFirst, HaltsNode, HaltsNet, HaltsEvent, StopsFor}
-use Rattle.tsp_schedule.specs.{Refusing.Refusing, declared.run.Run.Run, declared.stage.Stage.Stage}
+use Rattle.tsp_schedule.specs.Schedules.{Progress, Untitled, Titled, Drifted, Heading, Running, Ended, GoesOn, RunsOn, Takes, TakesNet, IsComplete, next_place}
+use Rattle.tsp_schedule.specs.Schedules.{new_header, IsCause, drifted}
+use Rattle.tsp_schedule.specs.Stages.{StageStands, RunStands, TriesFront, Advances, AdvancesByEvent, Halts, HaltsFirst, HaltsNode, HaltsNet, HaltsEvent}
+use Rattle.tsp_schedule.specs.{Stages.StopsFor, Refusing.Refusing, declared.run.Run.Run, declared.stage.Stage.Stage}
 use Rattle.tsp_run.specs.Refusals.{IsRefusal}
 
 pub MatchResult-map : {A B : Type 0} {P R : A → Type 0} {Q S : B → Type 0} (r : Result A B) → MatchResult r P Q → ((a : A) → P a → R a) → ((b : B) → Q b → S b) → MatchResult r R S
@@ -26,38 +26,23 @@ MatchOption-map None h f g = f h
 MatchOption-map (Some a) h f g = g a h
 
 bad_cause : (fault : EventFault) (cause : List ℕ) → StopsFor fault (Bad cause) → IsCause fault cause
-bad_cause (TimeBack a b) cause s = s
-bad_cause (NoNode a b) cause s = s
-bad_cause (NoDatagram a b) cause s = s
-bad_cause (NotUp a) cause s = s
 bad_cause (NoRoom a b) cause s = absurd s
 bad_cause NoMemory cause s = absurd s
+bad_cause _ cause s = s
 
 not_memory : (fault : EventFault) (cause : List ℕ) → StopsFor fault (Bad cause) → fault ≢ NoMemory
-not_memory (TimeBack a b) cause s q = cc
-not_memory (NoNode a b) cause s q = cc
-not_memory (NoDatagram a b) cause s q = cc
-not_memory (NotUp a) cause s q = cc
-not_memory (NoRoom a b) cause s q = cc
 not_memory NoMemory cause s q = s
+not_memory _ cause s q = cc
 
 no_write : (fault : EventFault) → StopsFor fault WriteFault → ⊥
 no_write (TimeBack a b) s = s
-no_write (NoNode a b) s = s
-no_write (NoDatagram a b) s = s
-no_write (NotUp a) s = s
-no_write (NoRoom a b) s = s
-no_write NoMemory s = s
+no_write _ s = s
 
 module _ {C : Type 0} (refused : Refusing) (stands : HeaderValue → List Event → C → Type 0) where
   no_room : (header : HeaderValue) (events : List Event) (e : Event) (fault : EventFault) → StopsFor fault Limit → IsRefusal (refused header events e) fault → HaltsEvent refused header events e Limit
-  no_room header events e (TimeBack a b) s i = absurd s
-  no_room header events e (NoNode a b) s i = absurd s
-  no_room header events e (NoDatagram a b) s i = absurd s
-  no_room header events e (NotUp a) s i = absurd s
   no_room header events e (NoRoom a b) s (inl r) = (a, b, r)
   no_room header events e (NoRoom a b) s (inr r) = let q = r.1 in let bad : ⊥ = cc in absurd bad
-  no_room header events e NoMemory s i = absurd s
+  no_room header events e _ s i = absurd s
 
   -- a refused event stops the reading as its fault says
   pub HaltsEvent-stops : (header : HeaderValue) (events : List Event) (e : Event) (fault : EventFault) (stop : Stop) → StopsFor fault stop → IsRefusal (refused header events e) fault → HaltsEvent refused header events e stop
@@ -74,16 +59,12 @@ module _ {C : Type 0} (refused : Refusing) (stands : HeaderValue → List Event 
   Halts-event header events e line WriteFault s h = h
   Halts-event header events e line OutOfMemory s h = tt
 
-  event_same : (r : Result EventItem LineFault) (e other : Event) → r ≡ Ok (EventOf e) → r ≡ Ok (EventOf other) → other ≡ e
-  event_same r e other p q = cc
-
-  event_not_end : (r : Result EventItem LineFault) (e : Event) → r ≡ Ok (EventOf e) → r ≡ Ok End → ⊥
-  event_not_end r e p q = cc
-
   only_event : (header : HeaderValue) (events : List Event) (e : Event) (line : List ℕ) (r : Result EventItem LineFault) → r ≡ Ok (EventOf e) → ((item : EventItem) → SpellsEvent line item → r ≡ Ok item) →
       (other : Progress) → RunsOn refused header events line other → other ≡ Running header (e ∷ events)
-  only_event header events e line r is one other (inl g) = g.3 ∙ ap (λ k. Running header (k ∷ events)) (event_same r e g.0 is (one (EventOf g.0) g.1))
-  only_event header events e line r is one other (inr g) = absurd (event_not_end r e is (one End g.0))
+  only_event header events e line r is one other (inl g) =
+      let same = sym is ∙ one (EventOf g.0) g.1 in
+      let f : g.0 ≡ e = cc in g.3 ∙ ap (λ k. Running header (k ∷ events)) f
+  only_event header events e line r is one other (inr g) = let none = sym is ∙ one End g.0 in cc
 
   -- a line of an event that nothing refuses is accepted
   pub Advances-event : (header : HeaderValue) (events : List Event) (e : Event) (line : List ℕ) (next : Stage C) (r : Result EventItem LineFault) → r ≡ Ok (EventOf e) → ((item : EventItem) → SpellsEvent line item → r ≡ Ok item) →
@@ -103,16 +84,13 @@ module _ {C : Type 0} (refused : Refusing) (stands : HeaderValue → List Event 
   -- the first of some lines was tried where the last one wasn't read yet
   pub Running-tried : (p : Progress) (old new : Run C) (text : List ℕ) (front : Option ℕ) → RunStands stands p old → old.over ≡ false → TriesFront refused stands old text new front
       → MatchOption front (RunStands stands p new) (λ count. AdvancesByEvent refused stands p (line_ahead text count) (AtRunning new))
-  Running-tried Untitled old new text front h over t = absurd h
-  Running-tried (Titled version) old new text front h over t = absurd h
-  Running-tried (Drifted drift) old new text front h over t = absurd h
-  Running-tried (Heading header) old new text front h over t = absurd h
   Running-tried (Running header events) old new text front h over t = t header events h.1
   Running-tried (Ended header events) old new text front h over t = let q = h.0 in let bad : ⊥ = cc in absurd bad
+  Running-tried _ old new text front h over t = absurd h
 
   only_end : (header : HeaderValue) (events : List Event) (line : List ℕ) (r : Result EventItem LineFault) → r ≡ Ok End → ((item : EventItem) → SpellsEvent line item → r ≡ Ok item) →
       (other : Progress) → RunsOn refused header events line other → other ≡ Ended header events
-  only_end header events line r is one other (inl g) = absurd (event_not_end r g.0 (one (EventOf g.0) g.1) is)
+  only_end header events line r is one other (inl g) = let none = sym is ∙ one (EventOf g.0) g.1 in cc
   only_end header events line r is one other (inr g) = g.1
 
   -- the last line is accepted
@@ -124,20 +102,14 @@ module _ {C : Type 0} (refused : Refusing) (stands : HeaderValue → List Event 
     only = only_end header events line r is one;
   }
 
-  title_same : (r : Result HeadItem LineFault) (v w : ℕ) → r ≡ Ok (Title v) → r ≡ Ok (Title w) → v ≡ w
-  title_same r v w p q = cc
-
   -- the title is accepted
   pub Advances-title : (v : ℕ) (line : List ℕ) (r : Result HeadItem LineFault) → r ≡ Ok (Title v) → ((item : HeadItem) → SpellsHead 1 line item → r ≡ Ok item) → SpellsHead 1 line (Title v) → Advances refused stands Untitled line (AtTitled v)
   Advances-title v line r is one spells = record {
     to = Titled v;
     goes = (v, spells, refl);
     stands_for = refl;
-    only = λ other g. g.2 ∙ ap Titled (title_same r g.0 v (one (Title g.0) g.1) is);
+    only = λ other g. let same = sym is ∙ one (Title g.0) g.1 in let e : g.0 ≡ v = cc in g.2 ∙ ap Titled e;
   }
-
-  drift_same : (r : Result HeadItem LineFault) (d other : ℕ) → r ≡ Ok (Drift d) → r ≡ Ok (Drift other) → other ≡ d
-  drift_same r d other p q = cc
 
   -- the second line is accepted
   pub Advances-drift : (version d : ℕ) (line : List ℕ) (next : Stage C) (r : Result HeadItem LineFault) → r ≡ Ok (Drift d) → ((item : HeadItem) → SpellsHead 2 line item → r ≡ Ok item) → SpellsHead 2 line (Drift d) →
@@ -146,29 +118,16 @@ module _ {C : Type 0} (refused : Refusing) (stands : HeaderValue → List Event 
     to = drifted version d;
     goes = (d, spells, refl);
     stands_for = s;
-    only = λ other g. g.2 ∙ ap (λ k. drifted version k) (drift_same r d g.0 is (one (Drift g.0) g.1));
+    only = λ other g. let same = sym is ∙ one (Drift g.0) g.1 in let n : g.0 ≡ d = cc in g.2 ∙ ap (λ k. drifted version k) n;
   }
-
-  node_same : (r : Result HeadItem LineFault) (n other : NodeLine) → r ≡ Ok (Node n) → r ≡ Ok (Node other) → other ≡ n
-  node_same r n other p q = cc
-
-  node_net : (r : Result HeadItem LineFault) (n : NodeLine) (m : List ℕ) → r ≡ Ok (Node n) → r ≡ Ok (Net m) → ⊥
-  node_net r n m p q = cc
-
-  net_same : (r : Result HeadItem LineFault) (m other : List ℕ) → r ≡ Ok (Net m) → r ≡ Ok (Net other) → other ≡ m
-  net_same r m other p q = cc
-
-  net_head : (r : Result HeadItem LineFault) (m : List ℕ) → r ≡ Ok (Net m) → r ≡ Ok NotHead → ⊥
-  net_head r m p q = cc
-
-  node_head : (r : Result HeadItem LineFault) (n : NodeLine) → r ≡ Ok (Node n) → r ≡ Ok NotHead → ⊥
-  node_head r n p q = cc
 
   only_node : (header : HeaderValue) (n : NodeLine) (line : List ℕ) (r : Result HeadItem LineFault) → r ≡ Ok (Node n) → ((item : HeadItem) → SpellsHead (next_place header) line item → r ≡ Ok item) →
       (other : Progress) → GoesOn refused (Heading header) line other → other ≡ Heading (record header { nodes = header.nodes ++ n ∷ [] })
-  only_node header n line r is one other (inl g) = g.3 ∙ ap (λ k. Heading (record header { nodes = header.nodes ++ k ∷ [] })) (node_same r n g.0 is (one (Node g.0) g.1))
-  only_node header n line r is one other (inr (inl g)) = absurd (node_net r n g.0 is (one (Net g.0) g.1))
-  only_node header n line r is one other (inr (inr g)) = absurd (node_head r n is (one NotHead g.0))
+  only_node header n line r is one other (inl g) =
+      let same = sym is ∙ one (Node g.0) g.1 in
+      let e : g.0 ≡ n = cc in g.3 ∙ ap (λ k. Heading (record header { nodes = header.nodes ++ k ∷ [] })) e
+  only_node header n line r is one other (inr (inl g)) = let none = sym is ∙ one (Net g.0) g.1 in cc
+  only_node header n line r is one other (inr (inr g)) = let none = sym is ∙ one NotHead g.0 in cc
 
   -- a node that the header can take is accepted
   pub Advances-node : (header : HeaderValue) (n : NodeLine) (line : List ℕ) (next : Stage C) (r : Result HeadItem LineFault) → r ≡ Ok (Node n) → ((item : HeadItem) → SpellsHead (next_place header) line item → r ≡ Ok item) → SpellsHead (next_place header) line (Node n) →
@@ -189,9 +148,11 @@ module _ {C : Type 0} (refused : Refusing) (stands : HeaderValue → List Event 
 
   only_net : (header : HeaderValue) (m : List ℕ) (line : List ℕ) (r : Result HeadItem LineFault) → r ≡ Ok (Net m) → ((item : HeadItem) → SpellsHead (next_place header) line item → r ≡ Ok item) →
       (other : Progress) → GoesOn refused (Heading header) line other → other ≡ Heading (record header { nets = header.nets ++ m ∷ [] })
-  only_net header m line r is one other (inl g) = absurd (node_net r g.0 m (one (Node g.0) g.1) is)
-  only_net header m line r is one other (inr (inl g)) = g.3 ∙ ap (λ k. Heading (record header { nets = header.nets ++ k ∷ [] })) (net_same r m g.0 is (one (Net g.0) g.1))
-  only_net header m line r is one other (inr (inr g)) = absurd (net_head r m is (one NotHead g.0))
+  only_net header m line r is one other (inl g) = let none = sym is ∙ one (Node g.0) g.1 in cc
+  only_net header m line r is one other (inr (inl g)) =
+      let same = sym is ∙ one (Net g.0) g.1 in
+      let e : g.0 ≡ m = cc in g.3 ∙ ap (λ k. Heading (record header { nets = header.nets ++ k ∷ [] })) e
+  only_net header m line r is one other (inr (inr g)) = let none = sym is ∙ one NotHead g.0 in cc
 
   -- a network that the header can take is accepted
   pub Advances-net : (header : HeaderValue) (m : List ℕ) (line : List ℕ) (next : Stage C) (r : Result HeadItem LineFault) → r ≡ Ok (Net m) → ((item : HeadItem) → SpellsHead (next_place header) line item → r ≡ Ok item) → SpellsHead (next_place header) line (Net m) →
@@ -212,8 +173,8 @@ module _ {C : Type 0} (refused : Refusing) (stands : HeaderValue → List Event 
 
   only_first : (header : HeaderValue) (line : List ℕ) (next : Stage C) (r : Result HeadItem LineFault) → r ≡ Ok NotHead → ((item : HeadItem) → SpellsHead (next_place header) line item → r ≡ Ok item) → (a : Advances refused stands (Running header []) line next) →
       (other : Progress) → GoesOn refused (Heading header) line other → other ≡ a.to
-  only_first header line next r is one a other (inl g) = absurd (node_head r g.0 (one (Node g.0) g.1) is)
-  only_first header line next r is one a other (inr (inl g)) = absurd (net_head r g.0 (one (Net g.0) g.1) is)
+  only_first header line next r is one a other (inl g) = let none = sym is ∙ one (Node g.0) g.1 in cc
+  only_first header line next r is one a other (inr (inl g)) = let none = sym is ∙ one (Net g.0) g.1 in cc
   only_first header line next r is one a other (inr (inr g)) = a.only other g.2
 
   -- the first line behind the header is accepted as any line behind the header
@@ -241,18 +202,10 @@ module _ {C : Type 0} (refused : Refusing) (stands : HeaderValue → List Event 
 
   -- a stage behind the title or the drift goes on as from the only place for which it stands
   pub titled-next : (p : Progress) (version : ℕ) (line : List ℕ) (r : Result (Stage C) Stop) → StageStands stands p (AtTitled version) → MatchResult r (Advances refused stands (Titled version) line) (Halts refused (Titled version) line) → MatchResult r (Advances refused stands p line) (Halts refused p line)
-  titled-next Untitled version line r h f = absurd h
   titled-next (Titled read) version line r h f = subst (λ (v : ℕ). MatchResult r (Advances refused stands (Titled v) line) (Halts refused (Titled v) line)) h f
-  titled-next (Drifted drift) version line r h f = absurd h
-  titled-next (Heading header) version line r h f = absurd h
-  titled-next (Running header events) version line r h f = absurd h
-  titled-next (Ended header events) version line r h f = absurd h
+  titled-next _ version line r h f = absurd h
 
   pub drifted-next : (p : Progress) (held : HeaderValue) (line : List ℕ) (r : Result (Stage C) Stop) → StageStands stands p (AtDrifted held) →
       ((drift : ℕ) → held ≡ new_header drift true → MatchResult r (Advances refused stands (Drifted drift) line) (Halts refused (Drifted drift) line)) → MatchResult r (Advances refused stands p line) (Halts refused p line)
-  drifted-next Untitled held line r h f = absurd h
-  drifted-next (Titled version) held line r h f = absurd h
   drifted-next (Drifted drift) held line r h f = f drift h
-  drifted-next (Heading header) held line r h f = absurd h
-  drifted-next (Running header events) held line r h f = absurd h
-  drifted-next (Ended header events) held line r h f = absurd h
+  drifted-next _ held line r h f = absurd h

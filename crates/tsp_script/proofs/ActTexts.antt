@@ -1,12 +1,92 @@
--- An act's text is a word and what stands behind it, and a trace's line four numbers and such a text.
-use Rattle.std.proofs.Common.{◌≡◌, ◌≢◌, ℕ, List, ◌∷◌, ◌++◌, refl, ◌∙◌, ap, sym, subst, Bool, true, false, append_assoc, Some, decimal, codes}
-use Rattle.std.specs.Fmt.{signed_decimal}
-use Rattle.tsp_base.specs.{declared.act.Act.Act, declared.trace.Line2.Line2}
-use Rattle.tsp_base.specs.declared.act.Act.TheVariants.{Boot, Took, Post, Become, Back, Backer, Quit, Arm, Ring, Late, Join, Leave, Rival, Acked, Gave, Sample, Close, Correct, Abandon, Trace}
-use Rattle.tsp_script.specs.{ActLines.IsNumberOf, Traces.way_word, Traces.act_text, Traces.trace_text, Words.first_word, Words.after_word}
-use Rattle.tsp_script.specs.Verbs.{verb_word, verb_of, way_text, rest_of_act, SpellsRest}
-use Rattle.tsp_script.specs.declared.verbs.Verb.{Verb, TheVariants.Boot as BootWord, TheVariants.Abandon as AbandonWord}
-use Rattle.tsp_script.proofs.{ActCases.told_apart, Cuts.cut_front, Cuts.space_inside, KindWords.no_space-spaceless, KindWords.spaceless}
+-- The texts of acts: their words, what stands behind each, and the parts of an act.
+use Rattle.std.proofs.Common.{◌≡◌, ◌≢◌, ℕ, List, ◌∷◌, ◌++◌, refl, ◌∙◌, ap, sym, subst, Bool, true, false, append_assoc, Some, decimal, codes, ◌<◌, ◌^◌, ◌==◌, ℤ}
+use Rattle.std.proofs.Common.{◌⊎◌, inl, inr, arith, Contains, slice_index_or}
+use Rattle.std.{specs.Fmt.signed_decimal, specs.Int.w64, specs.Int.RustNames.FitsSigned, proofs.lemmas.Bool.false≢true, proofs.lemmas.List.append_cancel_left}
+use Rattle.tsp_base.specs.declared.{act.Act.Act, role.Role.Role, alarm.Alarm.Alarm, stamp.Stamp.TheVariants.Request, stamp.Stamp.TheVariants.Reply}
+use Rattle.tsp_base.specs.declared.{trace.Line2.Line2, kind.Kind.Kind, place.PeerId.PeerId, place.Place.Place}
+use Rattle.tsp_base.specs.declared.act.Act.TheVariants.{Close, Correct, Abandon, Trace, Boot, Took, Post, Become, Arm, Sample}
+use Rattle.tsp_base.specs.Words.{alarm_word, kind_word}
+use Rattle.tsp_base.specs.declared.datagram.{Taken.Taken, Taken.TheVariants.Good, Taken.TheVariants.Bad, DecodeFault.DecodeFault}
+use Rattle.tsp_base.specs.declared.datagram.Datagram.{Datagram, TheVariants.Message, TheVariants.Stamp}
+use Rattle.tsp_script.specs.ActLines.{IsNumberOf, IsAct, IsRole, IsTaken}
+use Rattle.tsp_script.specs.Traces.{way_word, act_text, trace_text, place_text, role_text, taken_text, fault_word}
+use Rattle.tsp_script.specs.{Words.first_word, Words.after_word, Texts.message_text, Schedules.IsPlace, Ranges.IsDatagram}
+use Rattle.tsp_script.specs.Verbs.{verb_word, verb_of, way_text, rest_of_act, SpellsRest, switch_text}
+use Rattle.tsp_script.specs.declared.verbs.Verb.{Verb, TheVariants.Correct as CorrectWord}
+use Rattle.tsp_script.specs.declared.verbs.Verb.TheVariants.{Trace as TraceWord, Post as PostWord, Boot as BootWord, Abandon as AbandonWord, Took as TookWord}
+use Rattle.tsp_script.specs.declared.verbs.Verb.TheVariants.{Become as BecomeWord, Arm as ArmWord, Sample as SampleWord, Close as CloseWord}
+use Rattle.tsp_script.proofs.{Cuts.cut_front, Cuts.space_inside, MessageLines.message_rest, MessageLines.request_rest, MessageLines.reply_rest}
+use Rattle.tsp_script.proofs.KindWords.{no_space-spaceless, spaceless, no_space-kind_word, not_kind}
+
+-- a word that a test tells from another is another word
+pub told_apart : (is : Verb → Bool) (v w : Verb) → is v ≡ true → is w ≡ false → v ≢ w
+told_apart is v w t f e = false≢true (sym f ∙ ap is (sym e) ∙ t)
+
+abbrev is_post : Verb → Bool
+is_post PostWord = true
+is_post _ = false
+
+pub post_case : (Holds : ℕ → Act → Type 0) (rest : List ℕ) (number : ℕ) (a : Act) → IsAct a → IsNumberOf a number → PostWord ≡ verb_of a → rest ≡ rest_of_act number a
+    → ((to : Place) (d : Datagram) → number < 2 ^ 64 → IsPlace to → IsDatagram d → rest ≡ decimal number ++ 32 ∷ (place_text to ++ 32 ∷ message_text d) → Holds number (Post to d)) → Holds number a
+post_case Holds rest number (Post to d) is n v r h = h to d n is.0 is.1 r
+post_case Holds rest number a is n v r h = absurd (told_apart is_post PostWord (verb_of a) refl refl v)
+
+-- an act that is no post has the number 0
+pub other_case : (rest : List ℕ) (number : ℕ) (a : Act) → IsNumberOf a number → PostWord ≢ verb_of a → rest ≡ rest_of_act number a → (number ≡ 0) × (rest ≡ rest_of_act 0 a)
+other_case rest number (Post to d) n v r = absurd (v refl)
+other_case rest number _ n v r = (n, r)
+
+pub post_differs : (v : Verb) → v ≡ PostWord → (v ≡ BootWord) ⊎ (v ≡ AbandonWord) → ⊥
+post_differs v p (inl b) = cc
+post_differs v p (inr b) = cc
+
+abbrev number : Verb → ℕ
+number TookWord = 1
+number BecomeWord = 2
+number ArmWord = 3
+number SampleWord = 4
+number CloseWord = 5
+number CorrectWord = 6
+number TraceWord = 7
+number _ = 0
+
+abbrev is : Verb → Verb → Bool
+is v w = number v == number w
+
+-- what holds of each act of a verb, whose text goes on so, holds of this one
+abbrev Case : Verb → ((Act → Type 0) → List ℕ → Type 0) → Type 1
+Case verb Each = (Holds : Act → Type 0) (rest : List ℕ) (a : Act) → IsAct a → verb ≡ verb_of a → rest ≡ rest_of_act 0 a → Each Holds rest → Holds a
+
+pub took_case : Case TookWord (λ Holds rest. (from : Place) (t : Taken) → IsPlace from → IsTaken t → rest ≡ place_text from ++ 32 ∷ taken_text t → Holds (Took from t))
+took_case Holds rest (Took from t) i v r h = h from t i.0 i.1 r
+took_case Holds rest a i v r h = absurd (told_apart (is TookWord) TookWord (verb_of a) refl refl v)
+
+pub become_case : Case BecomeWord (λ Holds rest. (role : Role) → IsRole role → rest ≡ role_text role → Holds (Become role))
+become_case Holds rest (Become role) i v r h = h role i r
+become_case Holds rest a i v r h = absurd (told_apart (is BecomeWord) BecomeWord (verb_of a) refl refl v)
+
+pub arm_case : Case ArmWord (λ Holds rest. (alarm : Alarm) (at : ℕ) → at < 2 ^ 64 → rest ≡ alarm_word alarm ++ 32 ∷ decimal at → Holds (Arm alarm at))
+arm_case Holds rest (Arm alarm at) i v r h = h alarm at i r
+arm_case Holds rest a i v r h = absurd (told_apart (is ArmWord) ArmWord (verb_of a) refl refl v)
+
+pub sample_case : Case SampleWord (λ Holds rest. (p : PeerId) (counter : ℕ) (diff err : ℤ) (ticket : ℕ) → p.0 < 2 ^ 32 → counter < 2 ^ 64 → FitsSigned w64 diff → FitsSigned w64 err → ticket < 2 ^ 16
+    → rest ≡ decimal p.0 ++ 32 ∷ (decimal counter ++ 32 ∷ (signed_decimal diff ++ 32 ∷ (signed_decimal err ++ 32 ∷ decimal ticket))) → Holds (Sample p counter diff err ticket))
+sample_case Holds rest (Sample p counter diff err ticket) i v r h = h p counter diff err ticket i.0 i.1 i.2 i.3 i.4 r
+sample_case Holds rest a i v r h = absurd (told_apart (is SampleWord) SampleWord (verb_of a) refl refl v)
+
+pub close_case : Case CloseWord (λ Holds rest. (count : ℕ) (lo width mean : ℤ) → count < 2 ^ 32 → FitsSigned w64 lo → FitsSigned w64 width → FitsSigned w64 mean
+    → rest ≡ decimal count ++ 32 ∷ (signed_decimal lo ++ 32 ∷ (signed_decimal width ++ 32 ∷ signed_decimal mean)) → Holds (Close count lo width mean))
+close_case Holds rest (Close count lo width mean) i v r h = h count lo width mean i.0 i.1 i.2 i.3 r
+close_case Holds rest a i v r h = absurd (told_apart (is CloseWord) CloseWord (verb_of a) refl refl v)
+
+pub correct_case : Case CorrectWord (λ Holds rest. (amount : ℤ) (stepped : Bool) (shown : ℤ) → FitsSigned w64 amount → FitsSigned w64 shown
+    → rest ≡ signed_decimal amount ++ 32 ∷ (way_text stepped ++ 32 ∷ signed_decimal shown) → Holds (Correct amount stepped shown))
+correct_case Holds rest (Correct amount stepped shown) i v r h = h amount stepped shown i.0 i.1 r
+correct_case Holds rest a i v r h = absurd (told_apart (is CorrectWord) CorrectWord (verb_of a) refl refl v)
+
+pub trace_case : Case TraceWord (λ Holds rest. (on : Bool) → rest ≡ switch_text on → Holds (Trace on))
+trace_case Holds rest (Trace on) i v r h = h on r
+trace_case Holds rest a i v r h = absurd (told_apart (is TraceWord) TraceWord (verb_of a) refl refl v)
 
 abbrev Splits : List ℕ → List ℕ → List ℕ → Type 0
 Splits line word rest = (first_word line ≡ word) × (after_word line ≡ rest)
@@ -24,24 +104,14 @@ unfolding verb_word
 act_joined number Boot n m = absurd (n refl)
 act_joined number (Took from taken) n m = simp append_assoc
 act_joined number (Post to d) n m = simp append_assoc
-act_joined number (Become role) n m = refl
-act_joined number (Back p) n m = refl
-act_joined number (Backer p) n m = refl
-act_joined number (Quit p) n m = refl
 act_joined number (Arm alarm at) n m = simp append_assoc
-act_joined number (Ring alarm) n m = refl
-act_joined number (Late alarm) n m = refl
-act_joined number (Join p) n m = refl
-act_joined number (Leave p) n m = refl
-act_joined number (Rival p) n m = refl
-act_joined number (Acked p) n m = refl
-act_joined number (Gave p) n m = refl
 act_joined number (Sample p counter diff err ticket) n m = simp append_assoc
 act_joined number (Close count lo width mean) n m = simp append_assoc
 act_joined number (Correct amount stepped shown) n m = ap (λ xs. codes "correct" ++ 32 ∷ xs) (correct_is (signed_decimal amount) (signed_decimal shown) stepped)
 act_joined number Abandon n m = absurd (m refl)
 act_joined number (Trace true) n m = refl
 act_joined number (Trace false) n m = refl
+act_joined number a n m = refl
 
 abbrev is_boot : Verb → Bool
 is_boot BootWord = true
@@ -104,3 +174,40 @@ pub not_lone : (text word rest : List ℕ) (v : Verb) (number : ℕ) (a : Act) �
 not_lone text word rest v number Boot w e l = (λ b. no_space-spaceless (codes "boot") refl (space_inside (codes "boot") word rest (sym e ∙ l)), λ b. cc)
 not_lone text word rest v number Abandon w e l = (λ b. cc, λ b. no_space-spaceless (codes "abandon") refl (space_inside (codes "abandon") word rest (sym e ∙ l)))
 not_lone text word rest v number a w e l = (λ b. told_apart is_boot BootWord (verb_of a) refl refl (sym b ∙ w), λ b. told_apart is_abandon AbandonWord (verb_of a) refl refl (sym b ∙ w))
+
+kind_word-not_refused : (k : Kind) → kind_word k ≡ codes "refused" → ⊥
+unfolding kind_word
+kind_word-not_refused = not_kind (codes "refused") refl
+
+request_not_refused : (word : List ℕ) → word ≡ codes "request" → word ≡ codes "refused" → ⊥
+request_not_refused word a b = let letter : 113 ≡ 102 = ap (λ xs. slice_index_or xs 2 0) (sym a ∙ b) in omega (arith, letter)
+
+reply_not_refused : (word : List ℕ) → word ≡ codes "reply" → word ≡ codes "refused" → ⊥
+reply_not_refused word a b = cc
+
+-- no datagram's line begins with `refused`
+pub not_refused : (text : List ℕ) (d : Datagram) → text ≡ message_text d → first_word text ≡ codes "refused" → ⊥
+not_refused text (Message m) t w = kind_word-not_refused m.kind (sym (cut_front text (kind_word m.kind) (message_rest m) (no_space-kind_word m.kind) (t ∙ simp append_assoc)).0 ∙ w)
+not_refused text (Stamp (Request word counter)) t w = request_not_refused (first_word text) (cut_front text (codes "request") (request_rest word counter) (no_space-spaceless (codes "request") refl) (t ∙ simp append_assoc)).0 w
+not_refused text (Stamp (Reply r)) t w = reply_not_refused (first_word text) (cut_front text (codes "reply") (reply_rest r) (no_space-spaceless (codes "reply") refl) (t ∙ simp append_assoc)).0 w
+
+-- behind `refused` stands a fault
+pub refused_case : (Holds : Taken → Type 0) (text rest : List ℕ) (t : Taken) → text ≡ taken_text t → text ≡ codes "refused " ++ rest → ((f : DecodeFault) → rest ≡ fault_word f → Holds (Bad f)) → Holds t
+refused_case Holds text rest (Good d) e w h = absurd (not_refused text d e (cut_front text (codes "refused") rest (no_space-spaceless (codes "refused") refl) w).0)
+refused_case Holds text rest (Bad f) e w h = h f (append_cancel_left (codes "refused ") _ _ (sym w ∙ e))
+
+-- acts of equal parts
+pub sample_of_parts : (n counter : ℕ) (diff err : ℤ) (ticket : ℕ) (p : PeerId) (other : ℕ) (near wide : ℤ) (drawn : ℕ) → n ≡ p.0 → counter ≡ other → diff ≡ near → err ≡ wide → ticket ≡ drawn
+    → Sample (record { 0 = n }) counter diff err ticket ≡ Sample p other near wide drawn
+sample_of_parts n counter diff err ticket p other near wide drawn a b x y z = rw (a, b, x, y, z) refl
+
+pub close_of_parts : (count : ℕ) (lo width mean : ℤ) (other : ℕ) (least wide middle : ℤ) → count ≡ other → lo ≡ least → width ≡ wide → mean ≡ middle → Close count lo width mean ≡ Close other least wide middle
+close_of_parts count lo width mean other least wide middle a b x y = rw (a, b, x, y) refl
+
+pub correct_of_parts : (amount : ℤ) (stepped : Bool) (shown other : ℤ) (way : Bool) (last : ℤ) → amount ≡ other → stepped ≡ way → shown ≡ last → Correct amount stepped shown ≡ Correct other way last
+correct_of_parts amount stepped shown other way last a b x = rw (a, b, x) refl
+
+-- the words of a correction's way have no space
+pub no_space-way_text : (stepped : Bool) → ¬ Contains (way_text stepped) 32
+no_space-way_text true = no_space-spaceless (codes "step") refl
+no_space-way_text false = no_space-spaceless (codes "slew") refl

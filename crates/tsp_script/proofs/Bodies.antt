@@ -42,15 +42,13 @@ no_body k (Hops n) line rest g h f e = absurd (true_or_false (carries_hops k) f 
 -- the body of a kind
 pub time_fits : (k : Kind) (b : Body) → carries_time k ≡ true → IsTimeBody b → body_fits k b ≡ true
 unfolding body_fits
-time_fits k Nothing h b = elim b [ ]
 time_fits k (TimeBody t) h b = h
-time_fits k (Hops n) h b = elim b [ ]
+time_fits k _ h b = elim b [ ]
 
 pub hops_fit : (k : Kind) (b : Body) → carries_hops k ≡ true → IsHopsBody b → body_fits k b ≡ true
 unfolding body_fits
-hops_fit k Nothing h b = elim b [ ]
-hops_fit k (TimeBody t) h b = elim b [ ]
 hops_fit k (Hops n) h b = h
+hops_fit k _ h b = elim b [ ]
 
 pub nothing_fits : (k : Kind) → carries_time k ≡ false → carries_hops k ≡ false → body_fits k Nothing ≡ true
 unfolding body_fits
@@ -59,13 +57,11 @@ nothing_fits k g h = rw (g, h) refl
 -- what holds for each time, or for each hop count, holds for a body that is one
 pub time_case : (Holds : Body → Type 0) (b : Body) → IsTimeBody b → ((t : ℤ) → Holds (TimeBody t)) → Holds b
 time_case Holds (TimeBody t) i h = h t
-time_case Holds Nothing i h = absurd i
-time_case Holds (Hops n) i h = absurd i
+time_case Holds _ i h = absurd i
 
 pub hops_case : (Holds : Body → Type 0) (b : Body) → IsHopsBody b → ((n : ℕ) → Holds (Hops n)) → Holds b
 hops_case Holds (Hops n) i h = h n
-hops_case Holds Nothing i h = absurd i
-hops_case Holds (TimeBody t) i h = absurd i
+hops_case Holds _ i h = absurd i
 
 pub fits_micros : (z : ℤ) → IsMicros z → FitsSigned w64 z
 fits_micros (pos n) h = record { sfits = omega (arith, ints, h.high) }

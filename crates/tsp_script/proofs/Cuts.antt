@@ -1,7 +1,9 @@
--- Laws of the words of a line.
-use Rattle.std.proofs.Common.{◌≡◌, ◌≢◌, ℕ, ◌<◌, List, [], ◌∷◌, ◌++◌, zero, suc, length, take, drop, slice_index_or, refl, ap, sym, subst, ◌∙◌, inl, inr, arith, Contains, decimal, ◌^◌, ℤ, pos, negsuc}
-use Rattle.std.specs.{Fmt.signed_decimal, Int.w64, Int.RustNames.FitsSigned, Str.Parse.AllDigits}
-use Rattle.std.proofs.lemmas.{Bool.Decides.eqb_tells, Fmt.decimal_is_IsNumeral}
+-- Laws of the words of a line: texts that are the same have the same words and numbers.
+use Rattle.std.proofs.Common.{◌≡◌, ◌≢◌, ℕ, ◌<◌, List, [], ◌∷◌, ◌++◌, zero, suc, length, take, drop, slice_index_or, refl, ap, sym, subst, ◌∙◌, inl, inr, arith}
+use Rattle.std.proofs.Common.{Contains, decimal, ◌^◌, ℤ, pos, negsuc}
+use Rattle.std.specs.{Fmt.signed_decimal, Str.Parse.AllDigits, Int.w64, Int.RustNames.FitsSigned}
+use Rattle.std.proofs.lemmas.{Bool.Decides.eqb_tells, Fmt.decimal_is_IsNumeral, Fmt.decimal_injective, Fmt.signed_decimal_injective}
+use lib.Signed.{mag}
 use Rattle.tsp_script.specs.Words.{before_mark, after_mark, first_word, after_word}
 
 contains_first : (m : ℕ) (xs : List ℕ) (c : ℕ) → c ≡ m → Contains (c ∷ xs) m
@@ -84,7 +86,7 @@ line_at m [] i h e = absurd (omega arith)
 line_at m (c ∷ cs) zero h e = ap (λ x. x ∷ cs) e
 line_at m (c ∷ cs) (suc i) h e = ap (λ xs. c ∷ xs) (line_at m cs i (omega arith) e)
 
-mark_inside : (m : ℕ) (word rest : List ℕ) → Contains (word ++ m ∷ rest) m
+pub mark_inside : (m : ℕ) (word rest : List ℕ) → Contains (word ++ m ∷ rest) m
 mark_inside m [] rest = contains_first m rest m refl
 mark_inside m (c ∷ cs) rest = contains_later m (cs ++ m ∷ rest) c (mark_inside m cs rest)
 
@@ -121,3 +123,25 @@ no_space-later c cs n m (suc k, h, e) = m (k, omega arith, e)
 pub no_space-signed : (z : ℤ) → FitsSigned w64 z → ¬ Contains (signed_decimal z) 32
 no_space-signed (pos n) h = no_space-decimal n (omega (arith, h.sfits))
 no_space-signed (negsuc n) h = no_space-later 45 (decimal (suc n)) (omega arith) (no_space-decimal (suc n) (omega (arith, h.sfits)))
+
+-- words in front of a mark, and in front of a space
+pub marks_apart : (m : ℕ) (v w r s : List ℕ) → ¬ Contains v m → ¬ Contains w m → v ++ m ∷ r ≡ w ++ m ∷ s → (v ≡ w) × (r ≡ s)
+marks_apart m v w r s n k e =
+    let p = mark_front m (v ++ m ∷ r) v r n refl in
+    let q = mark_front m (v ++ m ∷ r) w s k e in
+    (sym p.0 ∙ q.0, sym p.1 ∙ q.1)
+
+pub words_apart : (v w r s : List ℕ) → ¬ Contains v 32 → ¬ Contains w 32 → v ++ 32 ∷ r ≡ w ++ 32 ∷ s → (v ≡ w) × (r ≡ s)
+words_apart = marks_apart 32
+
+-- numbers in front of a space
+pub numbers_apart : (m n : ℕ) (r s : List ℕ) → m < 2 ^ 64 → n < 2 ^ 64 → decimal m ++ 32 ∷ r ≡ decimal n ++ 32 ∷ s → (m ≡ n) × (r ≡ s)
+numbers_apart m n r s h k e =
+    let p = words_apart (decimal m) (decimal n) r s (no_space-decimal m h) (no_space-decimal n k) e in
+    (decimal_injective m n h k p.0, p.1)
+
+-- numbers with their signs in front of a space
+pub signs_apart : (t u : ℤ) (r s : List ℕ) → FitsSigned w64 t → FitsSigned w64 u → mag t < 2 ^ 63 → mag u < 2 ^ 63 → signed_decimal t ++ 32 ∷ r ≡ signed_decimal u ++ 32 ∷ s → (t ≡ u) × (r ≡ s)
+signs_apart t u r s h k l m e =
+    let p = words_apart (signed_decimal t) (signed_decimal u) r s (no_space-signed t h) (no_space-signed u k) e in
+    (signed_decimal_injective t u l m p.0, p.1)

@@ -1,8 +1,12 @@
--- Laws of the lines of a header.
-use Rattle.std.proofs.Common.{◌≡◌, ◌≢◌, subst, slice_index_or, ℕ, ◌≤◌, List, [], ◌∷◌, ◌++◌, length, refl, sym, ap, ◌∙◌, inl, inr, arith, Ok, Err, append_assoc, true, Bool, codes, Contains, ℤ, pos, negsuc, nat_abs}
-use Rattle.std.specs.{Fmt.signed_decimal, Int.w64, Int.RustNames.FitsSigned, declared.result.Result.Result}
+-- Laws of the lines of a header: each is one item's.
+use Rattle.std.proofs.Common.{◌≡◌, ◌≢◌, subst, slice_index_or, ℕ, ◌≤◌, List, [], ◌∷◌, ◌++◌, length, refl, sym, ap, ◌∙◌, inl, inr, arith, Result, Ok, Err}
+use Rattle.std.proofs.Common.{append_assoc, true, Bool, codes, Contains, ℤ, pos, negsuc, nat_abs, ◌<◌, ◌^◌, false}
+use Rattle.std.specs.{Fmt.signed_decimal, Int.w64, Int.RustNames.FitsSigned}
+use Rattle.std.proofs.lemmas.{Fmt.decimal_injective, List.append_cancel_left}
+use lib.Signed.{mag}
 use Rattle.tsp_base.specs.declared.header.NodeLine.{NodeLine}
 use Rattle.tsp_script.specs.Schedules.{is_host, flag_text, node_text, numbers_text, joined_text, net_text, IsHost, IsNodeLine, IsTitle, SpellsHead, ReadsHead}
+use Rattle.tsp_script.{specs.Schedules.IsNetLine, proofs.Cuts.words_apart, proofs.Cuts.signs_apart, proofs.NetLines.joined_text-injective}
 use Rattle.tsp_script.specs.declared.{head_line.HeadItem.HeadItem, line_fault.LineFault.LineFault, line_fault.LineFault.TheVariants.Bad}
 use Rattle.tsp_script.specs.declared.head_line.HeadItem.TheVariants.{Title, Drift, Strict, Node, Net, NotHead}
 
@@ -20,9 +24,6 @@ fits_wall (negsuc n) h = record { sfits = omega arith }
 -- what stands behind `node ` in a node's line
 abbrev pub node_rest : NodeLine → List ℕ
 node_rest n = n.name ++ 32 ∷ (signed_decimal n.rate ++ 32 ∷ (signed_decimal n.wall ++ 32 ∷ flag_text n.may))
-
-behind : (a b : List ℕ) → codes "node " ++ a ≡ codes "node " ++ b → a ≡ b
-behind a b e = cc
 
 pub node_form : (n : NodeLine) → node_text n ≡ codes "node " ++ node_rest n
 node_form n = simp append_assoc
@@ -57,12 +58,10 @@ one_version line v w (inr a) (inr b) = a.0 ∙ sym b.0
 -- a line from the fourth on that begins with `node ` is a node's or none
 pub node_item : (Holds : HeadItem → Type 0) (line rest : List ℕ) (item : HeadItem) → line ≡ codes "node " ++ rest → SpellsHead 4 line item
     → ((n : NodeLine) → IsNodeLine n → rest ≡ node_rest n → line ≡ node_text n → Holds (Node n)) → Holds item
-node_item Holds line rest (Title version) l s reads = absurd (omega (arith, s.0))
-node_item Holds line rest (Drift p) l s reads = absurd (omega (arith, s.0))
-node_item Holds line rest Strict l s reads = absurd (omega (arith, s.0))
-node_item Holds line rest (Node n) l s reads = reads n s.1 (behind rest (node_rest n) (sym l ∙ (s.2 ∙ node_form n))) s.2
+node_item Holds line rest (Node n) l s reads = reads n s.1 (append_cancel_left (codes "node ") _ _ (sym l ∙ (s.2 ∙ node_form n))) s.2
 node_item Holds line rest (Net members) l s reads = absurd (node_not_net rest (numbers_text members) (sym l ∙ s.2))
 node_item Holds line rest NotHead l s reads = absurd (s.1.no_node rest l)
+node_item Holds line rest item l s reads = absurd (omega (arith, s.0))
 
 -- every other line from the fourth on is no longer the header's
 pub other_line : (line : List ℕ) → ((rest : List ℕ) → line ≡ codes "node " ++ rest → ⊥) → ((rest : List ℕ) → line ≡ codes "net " ++ rest → ⊥) → SpellsHead 4 line NotHead
@@ -70,20 +69,17 @@ other_line line a b = (omega arith, record { no_node = a; no_net = b; not_strict
 
 -- the places from the third on are alike but for `strict`
 to_later : (place : ℕ) (line : List ℕ) (item : HeadItem) → 3 ≤ place → (place ≡ 3 → line ≡ codes "strict" → ⊥) → SpellsHead 4 line item → SpellsHead place line item
-to_later place line (Title version) h n s = absurd (omega (arith, s.0))
-to_later place line (Drift p) h n s = absurd (omega (arith, s.0))
-to_later place line Strict h n s = absurd (omega (arith, s.0))
 to_later place line (Node m) h n s = (h, s.1, s.2)
 to_later place line (Net members) h n s = (h, s.1, s.2)
 to_later place line NotHead h n s = (h, record { no_node = s.1.no_node; no_net = s.1.no_net; not_strict = n })
+to_later place line item h n s = absurd (omega (arith, s.0))
 
 pub from_later : (place : ℕ) (line : List ℕ) (item : HeadItem) → 3 ≤ place → (place ≡ 3 → line ≡ codes "strict" → ⊥) → SpellsHead place line item → SpellsHead 4 line item
-from_later place line (Title version) h n s = absurd (omega (arith, h, s.0))
-from_later place line (Drift p) h n s = absurd (omega (arith, h, s.0))
 from_later place line Strict h n s = absurd (n s.0 s.1)
 from_later place line (Node m) h n s = (omega arith, s.1, s.2)
 from_later place line (Net members) h n s = (omega arith, s.1, s.2)
 from_later place line NotHead h n s = other_line line s.1.no_node s.1.no_net
+from_later place line item h n s = absurd (omega (arith, h, s.0))
 
 pub reads_later : (place : ℕ) (line : List ℕ) (r : Result HeadItem LineFault) → 3 ≤ place → (place ≡ 3 → line ≡ codes "strict" → ⊥) → ReadsHead 4 line r → ReadsHead place line r
 reads_later place line (Ok item) h n s = to_later place line item h n s
@@ -93,3 +89,55 @@ reads_later place line (Err Bad) h n s = λ item t. s item (from_later place lin
 pub node_of_parts : (name : List ℕ) (rate wall : ℤ) (may : Bool) (n : NodeLine) → name ≡ n.name → rate ≡ n.rate → wall ≡ n.wall → may ≡ n.may
     → record { name = name; rate = rate; wall = wall; may = may } ≡ n
 node_of_parts name rate wall may n a b w m = rw (a, b, w, m) refl
+
+small : (z : ℤ) → nat_abs z ≤ 1000000000000000 → mag z < 2 ^ 63
+small (pos n) h = omega (arith, h)
+small (negsuc n) h = omega (arith, h)
+
+flags_differ : flag_text true ≡ flag_text false → ⊥
+flags_differ e = let q : ◌≡◌ {A = ℕ} 109 115 = ap (λ l. slice_index_or l 0 0) e in omega (arith, q)
+
+flag_text-injective : (a b : Bool) → flag_text a ≡ flag_text b → a ≡ b
+flag_text-injective true true e = refl
+flag_text-injective true false e = absurd (flags_differ e)
+flag_text-injective false true e = absurd (flags_differ (sym e))
+flag_text-injective false false e = refl
+
+nodes_apart : (m n : NodeLine) → IsNodeLine m → IsNodeLine n → node_rest m ≡ node_rest n → m ≡ n
+nodes_apart m n h k e =
+    let a = words_apart m.name n.name (signed_decimal m.rate ++ 32 ∷ (signed_decimal m.wall ++ 32 ∷ flag_text m.may)) (signed_decimal n.rate ++ 32 ∷ (signed_decimal n.wall ++ 32 ∷ flag_text n.may)) (no_space-host m.name h.host) (no_space-host n.name k.host) e in
+    let i : nat_abs m.rate ≤ 1000000000000000 = omega (arith, h.rate) in
+    let j : nat_abs n.rate ≤ 1000000000000000 = omega (arith, k.rate) in
+    let b = signs_apart m.rate n.rate (signed_decimal m.wall ++ 32 ∷ flag_text m.may) (signed_decimal n.wall ++ 32 ∷ flag_text n.may) (fits_wall m.rate i) (fits_wall n.rate j) (small m.rate i) (small n.rate j) a.1 in
+    let c = signs_apart m.wall n.wall (flag_text m.may) (flag_text n.may) (fits_wall m.wall h.wall) (fits_wall n.wall k.wall) (small m.wall h.wall) (small n.wall k.wall) b.1 in
+    node_of_parts m.name m.rate m.wall m.may n a.0 b.0 c.0 (flag_text-injective m.may n.may c.1)
+
+networks_apart : (k l : List ℕ) → IsNetLine k → IsNetLine l → net_text k ≡ net_text l → k ≡ l
+networks_apart k l h i e = joined_text-injective k l h.small i.small (append_cancel_left (codes "net ") _ _ (sym (net_form k h.some) ∙ (e ∙ net_form l i.some)))
+
+-- a line at a place of the header is one item
+pub SpellsHead-one : (place : ℕ) (line : List ℕ) (a b : HeadItem) → SpellsHead place line a → SpellsHead place line b → a ≡ b
+SpellsHead-one place line (Title v) (Title w) s t = ap Title (one_version line v w s.1 t.1)
+SpellsHead-one place line (Drift p) (Drift q) s t = ap Drift (decimal_injective p q (omega (arith, s.1)) (omega (arith, t.1)) (append_cancel_left (codes "drift ") _ _ (sym s.2 ∙ t.2)))
+SpellsHead-one place line Strict Strict s t = refl
+SpellsHead-one place line Strict (Node n) s t = absurd (strict_not_node (node_rest n) (sym s.1 ∙ (t.2 ∙ node_form n)))
+SpellsHead-one place line Strict (Net l) s t = absurd (strict_not_net (numbers_text l) (sym s.1 ∙ t.2))
+SpellsHead-one place line Strict NotHead s t = absurd (t.1.not_strict s.0 s.1)
+SpellsHead-one place line (Node m) Strict s t = absurd (strict_not_node (node_rest m) (sym t.1 ∙ (s.2 ∙ node_form m)))
+SpellsHead-one place line (Node m) (Node n) s t = ap Node (nodes_apart m n s.1 t.1 (append_cancel_left (codes "node ") _ _ (sym (node_form m) ∙ (sym s.2 ∙ (t.2 ∙ node_form n)))))
+SpellsHead-one place line (Node m) (Net l) s t = absurd (node_not_net (node_rest m) (numbers_text l) (sym (node_form m) ∙ (sym s.2 ∙ t.2)))
+SpellsHead-one place line (Node m) NotHead s t = absurd (t.1.no_node (node_rest m) (s.2 ∙ node_form m))
+SpellsHead-one place line (Net k) Strict s t = absurd (strict_not_net (numbers_text k) (sym t.1 ∙ s.2))
+SpellsHead-one place line (Net k) (Node n) s t = absurd (node_not_net (node_rest n) (numbers_text k) (sym (node_form n) ∙ (sym t.2 ∙ s.2)))
+SpellsHead-one place line (Net k) (Net l) s t = ap Net (networks_apart k l s.1 t.1 (sym s.2 ∙ t.2))
+SpellsHead-one place line (Net k) NotHead s t = absurd (t.1.no_net (joined_text k) (s.2 ∙ net_form k s.1.some))
+SpellsHead-one place line NotHead Strict s t = absurd (s.1.not_strict t.0 t.1)
+SpellsHead-one place line NotHead (Node n) s t = absurd (s.1.no_node (node_rest n) (t.2 ∙ node_form n))
+SpellsHead-one place line NotHead (Net l) s t = absurd (s.1.no_net (joined_text l) (t.2 ∙ net_form l t.1.some))
+SpellsHead-one place line NotHead NotHead s t = refl
+SpellsHead-one place line a b s t = absurd (omega (arith, s.0, t.0))
+
+-- so what is read there is the only one
+pub reads_one : (place : ℕ) (line : List ℕ) (r : Result HeadItem LineFault) → ReadsHead place line r → (item : HeadItem) → SpellsHead place line item → r ≡ Ok item
+reads_one place line (Ok read) s item t = ap Ok (SpellsHead-one place line read item s t)
+reads_one place line (Err Bad) s item t = absurd (s item t)

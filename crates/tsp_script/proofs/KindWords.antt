@@ -1,7 +1,8 @@
 -- Laws of the words of kinds.
-use Rattle.std.proofs.Common.{◌≡◌, ℕ, List, [], ◌∷◌, zero, suc, refl, arith, true, false, Bool, Some, eq-eqb, Contains, codes, ◌==◌, ◌&&◌, not}
+use Rattle.std.proofs.Common.{◌≡◌, ℕ, List, [], ◌∷◌, zero, suc, refl, arith, true, false, Bool, Some, eq-eqb, Contains, codes, ◌==◌, ◌&&◌, not, None, sym, ap}
+use Rattle.std.proofs.Common.{◌∙◌}
 use Rattle.tsp_base.specs.{Words.kinds, Words.kind_word, declared.kind.Kind.Kind, declared.kind.Kind.TheVariants.AdjTime}
-use Rattle.tsp_script.proofs.WordTables.{same_word, first_with, one_word}
+use Rattle.tsp_script.proofs.{WordTables.first_with, WordTables.one_word, Outcomes.none_not_some}
 
 first_kind : (k : Kind) → first_with kind_word kinds (kind_word k) ≡ Some k
 unfolding kind_word
@@ -13,7 +14,7 @@ pub kind_word-injective : (k l : Kind) → kind_word k ≡ kind_word l → k ≡
 kind_word-injective k l e = one_word kind_word kinds k l (first_kind k) (first_kind l) e
 
 -- whether a word is without an octet of this value, and without a space
-abbrev without : ℕ → List ℕ → Bool
+abbrev pub without : ℕ → List ℕ → Bool
 without m [] = true
 without m (c ∷ cs) = not (c == m) && without m cs
 
@@ -43,19 +44,15 @@ no_space-spaceless word p = no_mark-without 32 word p
 pub no_space-kind_word : (k : Kind) → ¬ Contains (kind_word k) 32
 no_space-kind_word k = no_space-spaceless (kind_word k) (spaceless-kind_word k)
 
+-- what isn't in the table is no kind's word
+pub not_kind : (word : List ℕ) → first_with kind_word kinds word ≡ None → (k : Kind) → kind_word k ≡ word → ⊥
+not_kind word none k e = none_not_some k (sym none ∙ ap (λ w. first_with kind_word kinds w) (sym e) ∙ first_kind k)
+
 -- no kind has a stamp's word
-other_request : (k : Kind) → same_word (kind_word k) (codes "request") ≡ false
-unfolding kind_word
-other_request AdjTime = refl
-other_request _ = refl
-
-other_reply : (k : Kind) → same_word (kind_word k) (codes "reply") ≡ false
-unfolding kind_word
-other_reply AdjTime = refl
-other_reply _ = refl
-
 pub kind_word-not_request : (k : Kind) → kind_word k ≡ codes "request" → ⊥
-kind_word-not_request k e = let q = other_request k in let r = rw e at q in cc
+unfolding kind_word
+kind_word-not_request = not_kind (codes "request") refl
 
 pub kind_word-not_reply : (k : Kind) → kind_word k ≡ codes "reply" → ⊥
-kind_word-not_reply k e = let q = other_reply k in let r = rw e at q in cc
+unfolding kind_word
+kind_word-not_reply = not_kind (codes "reply") refl

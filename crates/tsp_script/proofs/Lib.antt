@@ -1,13 +1,8 @@
-pub mod ActCases
-pub mod ActParts
 pub mod ActTexts
-pub mod ActVerbs
-pub mod Apart
-pub mod Bodies
 pub mod Cuts
+pub mod Bodies
 pub mod Digits
 pub mod FrontDigits
-pub mod EightDigits
 pub mod EventLines
 pub mod HeadLines
 pub mod HexDigits
@@ -18,8 +13,6 @@ pub mod MessageLines
 pub mod NameTexts
 pub mod NetLines
 pub mod NodeNames
-pub mod OneEvent
-pub mod OneHead
 pub mod Outcomes
 pub mod PairDigits
 pub mod PlainLines

@@ -1,5 +1,5 @@
 -- How long a message line is at most.
-use Rattle.std.proofs.Common.{ℕ, ◌*◌, ◌^◌, ◌<◌, ◌≤◌, List, [], ◌∷◌, ◌++◌, Bool, true, false, length, arith, length-append, ℤ, pos, negsuc, ◌≤ℤ◌, ◌<ℤ◌, decimal, codes, flat_map, if◌then◌else◌}
+use Rattle.std.proofs.Common.{ℕ, ◌*◌, ◌^◌, ◌<◌, ◌≤◌, List, [], ◌∷◌, ◌++◌, Bool, true, false, length, arith, length-append, ℤ, pos, negsuc, ◌≤ℤ◌, ◌<ℤ◌, decimal, flat_map, if◌then◌else◌}
 use Rattle.std.{proofs.lemmas.Int.ints, specs.Fmt.signed_decimal}
 use Rattle.hex.specs.Hex.{encode_lower, encode_with}
 use Rattle.tsp_base.specs.Words.{kind_word, IsName, MessageValue, ReplyValue, IsReply}
@@ -40,44 +40,25 @@ body_length (TimeBody t) h = omega (arith, length-append (signed_decimal t) spac
 body_length (Hops n) h = omega (arith, length-append (decimal n) space, number_length n (omega (arith, h)))
 
 message_length : (m : MessageValue) → IsMessage m → length (message_line m) ≤ 818
-message_length m h = omega (
+message_length m h = simp length-append (omega (
   arith,
-  length-append (((((kind_word m.kind ++ space) ++ decimal m.number) ++ space) ++ body_text m.body)) (name_text m.name),
-  length-append ((((kind_word m.kind ++ space) ++ decimal m.number) ++ space)) (body_text m.body),
-  length-append (((kind_word m.kind ++ space) ++ decimal m.number)) space,
-  length-append (kind_word m.kind ++ space) (decimal m.number),
-  length-append (kind_word m.kind) space,
   word_length m.kind,
   number_length m.number (omega (arith, h.number)),
   body_length m.body h.body,
   name_length m.name h.name,
-)
+))
 
 request_length : (word counter : ℕ) → word < 2 ^ 64 → counter < 2 ^ 64 → length (stamp_text (Request word counter)) ≤ 818
-request_length word counter w c = omega (
-  arith,
-  length-append ((codes "request " ++ decimal word) ++ space) (decimal counter),
-  length-append (codes "request " ++ decimal word) space,
-  length-append (codes "request ") (decimal word),
-  number_length word w,
-  number_length counter c,
-)
+request_length word counter w c = simp length-append (omega (arith, number_length word w, number_length counter c))
 
 reply_length : (r : ReplyValue) → r.word < 2 ^ 64 → r.counter < 2 ^ 64 → IsReply r.ticket r.reading → length (reply_text r) ≤ 818
-reply_length r w c v = omega (
+reply_length r w c v = simp length-append (omega (
   arith,
-  length-append ((((((codes "reply " ++ decimal r.ticket) ++ space) ++ decimal r.word) ++ space) ++ decimal r.counter) ++ space) (signed_decimal r.reading),
-  length-append (((((codes "reply " ++ decimal r.ticket) ++ space) ++ decimal r.word) ++ space) ++ decimal r.counter) space,
-  length-append ((((codes "reply " ++ decimal r.ticket) ++ space) ++ decimal r.word) ++ space) (decimal r.counter),
-  length-append (((codes "reply " ++ decimal r.ticket) ++ space) ++ decimal r.word) space,
-  length-append ((codes "reply " ++ decimal r.ticket) ++ space) (decimal r.word),
-  length-append (codes "reply " ++ decimal r.ticket) space,
-  length-append (codes "reply ") (decimal r.ticket),
   number_length r.ticket (omega (arith, v.small)),
   number_length r.word w,
   number_length r.counter c,
   time_length r.reading (omega (arith, ints, v.low)) v.high,
-)
+))
 
 -- a message line has at most 818 octets
 pub length-message_text : (d : Datagram) → IsDatagram d → length (message_text d) ≤ 818

@@ -60,11 +60,6 @@ message_reads line (Message m) result h e p q reads = let s = message_splits lin
 message_reads line (Stamp (Request word counter)) result h e p q reads = absurd (p (request_splits line word counter e).0)
 message_reads line (Stamp (Reply r)) result h e p q reads = absurd (q (reply_splits line r e).0)
 
--- a message of equal parts
-pub message_of_parts : (kind : Kind) (number : ℕ) (body : Body) (name : List ℕ) (m made : MessageValue) → kind ≡ m.kind → number ≡ m.number → body ≡ m.body → name ≡ m.name
-    → made ≡ record { kind = kind; number = number; body = body; name = name } → made ≡ m
-message_of_parts kind number body name m made k n b s e = rw (k, n, b, s) at e
-
 -- lines by their first words
 pub message_form : (m : MessageValue) → message_line m ≡ kind_word m.kind ++ 32 ∷ message_rest m
 message_form m = simp append_assoc

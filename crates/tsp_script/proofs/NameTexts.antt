@@ -178,8 +178,7 @@ name_begun (c ∷ cs) text s e = e
 pub name_found : (r : Result (List ℕ) NameFault) (octets text : List ℕ) → IsBytes octets → 0 < length text → text ≡ flat_map escaped octets → NameGives r octets
     → IfSome (result_ok r) (λ n. IsName n × IsBytes n × (text ≡ name_text n))
 name_found (Ok x) octets text b s e g = rw g.1 (g.0, b, name_begun octets text s e)
-name_found (Err TooLong) octets text b s e g = tt
-name_found (Err HasNul) octets text b s e g = tt
+name_found _ octets text b s e g = tt
 
 pub empty_found : (name text : List ℕ) → name ≡ [] → text ≡ 37 ∷ [] → IsName name × IsBytes name × (text ≡ name_text name)
 empty_found name text n e = rw n (record { short = omega arith; no_nul = λ k. omega (arith, k.1) }, (λ i. omega arith), e)

@@ -5,8 +5,8 @@ use Rattle.tsp_base.specs.declared.plain.Plain.TheVariants.{Boot, Turn, Take}
 use Rattle.tsp_base.specs.{Words.event_in, declared.plain.Plain.Plain}
 use Rattle.tsp_script.specs.{Plains.IsTurnOrTake, Words.NoDigit, declared.event_line.EventItem.TheVariants.Event as EventOf}
 use Rattle.tsp_script.specs.Schedules.{SpellsEvent, IsEvent, IsHexOf, event_text}
-use Rattle.tsp_script.proofs.{Apart.words_apart, Apart.numbers_apart, Cuts.no_feed-decimal, FrontDigits.front_one, OneEvent.words_differ}
-use Rattle.tsp_script.proofs.EventLines.{at_of, verb_of, rest_of, no_space-verb_of, IsTrueTime-at_of}
+use Rattle.tsp_script.proofs.{Cuts.words_apart, Cuts.numbers_apart, Cuts.no_feed-decimal, FrontDigits.front_one}
+use Rattle.tsp_script.proofs.EventLines.{words_differ, at_of, verb_of, rest_of, no_space-verb_of, IsTrueTime-at_of}
 use Rattle.tsp_script.proofs.KindWords.{no_space-spaceless, no_mark-without}
 
 -- what stands behind its time
@@ -14,9 +14,8 @@ abbrev pub behind_time : Plain → List ℕ → List ℕ
 behind_time plain back = verb_of (event_in plain) ++ 32 ∷ (rest_of (event_in plain) [] ++ back)
 
 pub plain_parts : (plain : Plain) (back : List ℕ) → IsTurnOrTake plain → event_text (event_in plain) [] ++ back ≡ codes "at " ++ (decimal (at_of (event_in plain)) ++ 32 ∷ behind_time plain back)
-plain_parts (Turn at node) back i = simp append_assoc
-plain_parts (Take at datagram) back i = simp append_assoc
 plain_parts (Boot at node word) back i = absurd i
+plain_parts _ back i = simp append_assoc
 
 -- the word of a plain event's line, and what follows it
 verb_is : (behind rest back word : List ℕ) (plain : Plain) → ¬ Contains word 32 → behind ≡ word ++ 32 ∷ rest → behind ≡ behind_time plain back
@@ -42,56 +41,37 @@ no_plain behind back (Turn at node) i turn take l = turn (decimal node ++ back) 
 no_plain behind back (Take at datagram) i turn take l = take (decimal datagram ++ back) l
 no_plain behind back (Boot at node word) i turn take l = i
 
-same_rest : (p q : Plain) (r s : List ℕ) → IsTurnOrTake p → IsTurnOrTake q → IsEvent (event_in p) → IsEvent (event_in q) → NoDigit r → NoDigit s → at_of (event_in p) ≡ at_of (event_in q) → behind_time p r ≡ behind_time q s → (p ≡ q) × (r ≡ s)
-same_rest (Turn at node) q r s i j h k a b t e =
-    let f = turn_parts (behind_time (Turn at node) r) (decimal node ++ r) s q j refl e in
-    turn_same at node q r s i j h k a b t f
-  where
-    turn_same : (at node : ℕ) (q : Plain) (r s : List ℕ) → IsTurnOrTake (Turn at node) → IsTurnOrTake q → IsEvent (event_in (Turn at node)) → IsEvent (event_in q) → NoDigit r → NoDigit s → at ≡ at_of (event_in q) → (u : ℕ) × (n : ℕ) × (q ≡ Turn u n) × (decimal node ++ r ≡ decimal n ++ s) → (Turn at node ≡ q) × (r ≡ s)
-    turn_same at node (Turn u m) r s i j h k a b t (v, n, p, l) =
-        let same : m ≡ n = cc in
-        let o = front_one node m r s (omega (arith, h.1)) (omega (arith, k.1)) a b (l ∙ ap (λ x. decimal x ++ s) (sym same)) in
-        (rw (t, o.0) refl, o.1)
-    turn_same at node (Take u m) r s i j h k a b t (v, n, p, l) = let bad : ⊥ = cc in absurd bad
-    turn_same at node (Boot u m w) r s i j h k a b t f = absurd j
-same_rest (Take at datagram) q r s i j h k a b t e =
-    let f = take_parts (behind_time (Take at datagram) r) (decimal datagram ++ r) s q j refl e in
-    take_same at datagram q r s i j h k a b t f
-  where
-    take_same : (at datagram : ℕ) (q : Plain) (r s : List ℕ) → IsTurnOrTake (Take at datagram) → IsTurnOrTake q → IsEvent (event_in (Take at datagram)) → IsEvent (event_in q) → NoDigit r → NoDigit s → at ≡ at_of (event_in q) → (u : ℕ) × (n : ℕ) × (q ≡ Take u n) × (decimal datagram ++ r ≡ decimal n ++ s) → (Take at datagram ≡ q) × (r ≡ s)
-    take_same at datagram (Take u m) r s i j h k a b t (v, n, p, l) =
-        let same : m ≡ n = cc in
-        let o = front_one datagram m r s h.1 k.1 a b (l ∙ ap (λ x. decimal x ++ s) (sym same)) in
-        (rw (t, o.0) refl, o.1)
-    take_same at datagram (Turn u m) r s i j h k a b t (v, n, p, l) = let bad : ⊥ = cc in absurd bad
-    take_same at datagram (Boot u m w) r s i j h k a b t f = absurd j
-same_rest (Boot at node word) q r s i j h k a b t e = absurd i
+-- events of the same time, verb and rest, in front of what begins with no digit
+same_rest : (p q : Plain) (r s : List ℕ) → IsTurnOrTake p → IsTurnOrTake q → IsEvent (event_in p) → IsEvent (event_in q) → NoDigit r → NoDigit s
+    → at_of (event_in p) ≡ at_of (event_in q) → (verb_of (event_in p) ≡ verb_of (event_in q)) × (rest_of (event_in p) [] ++ r ≡ rest_of (event_in q) [] ++ s)
+    → (p ≡ q) × (r ≡ s)
+same_rest (Turn at node) (Turn u m) r s i j h k a b t v = let o = front_one node m r s (omega (arith, h.1)) (omega (arith, k.1)) a b v.1 in (rw (t, o.0) refl, o.1)
+same_rest (Take at n) (Take u m) r s i j h k a b t v = let o = front_one n m r s h.1 k.1 a b v.1 in (rw (t, o.0) refl, o.1)
+same_rest (Boot at node word) q r s i j h k a b t v = absurd i
+same_rest p (Boot at node word) r s i j h k a b t v = absurd j
+same_rest p q r s i j h k a b t v = absurd (words_differ (verb_of (event_in p)) (verb_of (event_in q)) v.0 (omega arith))
 
 -- a text is one event's, in front of what begins with no digit
 pub plain_one : (p q : Plain) (octets r s : List ℕ) → IsTurnOrTake p → IsTurnOrTake q → IsEvent (event_in p) → IsEvent (event_in q) → NoDigit r → NoDigit s → octets ≡ event_text (event_in p) [] ++ r → octets ≡ event_text (event_in q) [] ++ s → (p ≡ q) × (r ≡ s)
 plain_one p q octets r s i j h k a b e f =
     let l = append_cancel_left (codes "at ") _ _ (sym (e ∙ plain_parts p r i) ∙ (f ∙ plain_parts q s j)) in
     let n = numbers_apart (at_of (event_in p)) (at_of (event_in q)) (behind_time p r) (behind_time q s) (omega (arith, IsTrueTime-at_of (event_in p) h)) (omega (arith, IsTrueTime-at_of (event_in q) k)) l in
-    same_rest p q r s i j h k a b n.0 n.1
+    same_rest p q r s i j h k a b n.0
+    (words_apart (verb_of (event_in p)) (verb_of (event_in q)) (rest_of (event_in p) [] ++ r) (rest_of (event_in q) [] ++ s)
+    (no_space-verb_of (event_in p)) (no_space-verb_of (event_in q)) n.1)
 
 no_mark-both : (m : ℕ) (xs ys : List ℕ) → ¬ Contains xs m → ¬ Contains ys m → ¬ Contains (xs ++ ys) m
 no_mark-both m xs ys n k c = elim (Contains-append_cases xs ys m c) [ inl a ↦ n a | inr b ↦ k b ]
 
-no_feed-parts : (at n : ℕ) (verb : List ℕ) → at < 2 ^ 64 → n < 2 ^ 64 → ¬ Contains verb 10 → ¬ Contains (codes "at " ++ (decimal at ++ (verb ++ decimal n))) 10
+no_feed-parts : (at n : ℕ) (verb : List ℕ) → at < 2 ^ 64 → n < 2 ^ 64 → ¬ Contains verb 10 → ¬ Contains (((codes "at " ++ decimal at) ++ verb) ++ decimal n) 10
 no_feed-parts at n verb h k v =
-    no_mark-both 10 (codes "at ") (decimal at ++ (verb ++ decimal n)) (no_mark-without 10 (codes "at ") refl)
-    (no_mark-both 10 (decimal at) (verb ++ decimal n) (no_feed-decimal at h) (no_mark-both 10 verb (decimal n) v (no_feed-decimal n k)))
-
-turn_text : (at node : ℕ) → event_text (event_in (Turn at node)) [] ≡ codes "at " ++ (decimal at ++ (codes " turn " ++ decimal node))
-turn_text at node = simp append_assoc
-
-take_text : (at datagram : ℕ) → event_text (event_in (Take at datagram)) [] ≡ codes "at " ++ (decimal at ++ (codes " take " ++ decimal datagram))
-take_text at datagram = simp append_assoc
+    let front = no_mark-both 10 (codes "at ") (decimal at) (no_mark-without 10 (codes "at ") refl) (no_feed-decimal at h) in
+    no_mark-both 10 ((codes "at " ++ decimal at) ++ verb) (decimal n) (no_mark-both 10 (codes "at " ++ decimal at) verb front v) (no_feed-decimal n k)
 
 -- no line feed stands in the line of a turn or a take
 pub no_feed-plain : (plain : Plain) → IsTurnOrTake plain → IsEvent (event_in plain) → ¬ Contains (event_text (event_in plain) []) 10
-no_feed-plain (Turn at node) i h = subst (λ l. ¬ Contains l 10) (sym (turn_text at node)) (no_feed-parts at node (codes " turn ") (omega (arith, h.0)) (omega (arith, h.1)) (no_mark-without 10 (codes " turn ") refl))
-no_feed-plain (Take at datagram) i h = subst (λ l. ¬ Contains l 10) (sym (take_text at datagram)) (no_feed-parts at datagram (codes " take ") (omega (arith, h.0)) h.1 (no_mark-without 10 (codes " take ") refl))
+no_feed-plain (Turn at node) i h = no_feed-parts at node (codes " turn ") (omega (arith, h.0)) (omega (arith, h.1)) (no_mark-without 10 (codes " turn ") refl)
+no_feed-plain (Take at datagram) i h = no_feed-parts at datagram (codes " take ") (omega (arith, h.0)) h.1 (no_mark-without 10 (codes " take ") refl)
 no_feed-plain (Boot at node word) i h = absurd i
 
 -- a line's octets in front of others, and how many they are
@@ -120,19 +100,16 @@ take_written at datagram octets behind digits rest e f g =
 
 -- the line of a turn or a take, as its text with nothing behind it, and back
 pub plain_spelled : (line : List ℕ) (plain : Plain) → IsTurnOrTake plain → SpellsEvent line (EventOf (event_in plain)) → line ≡ event_text (event_in plain) [] ++ []
-plain_spelled line (Turn at node) i s = s.1.2 ∙ sym (append-nil (event_text (event_in (Turn at node)) []))
-plain_spelled line (Take at datagram) i s = s.1.2 ∙ sym (append-nil (event_text (event_in (Take at datagram)) []))
 plain_spelled line (Boot at node word) i s = absurd i
+plain_spelled line plain i s = s.1.2 ∙ sym (append-nil (event_text (event_in plain) []))
 
 pub plain_spells : (plain : Plain) → IsTurnOrTake plain → IsEvent (event_in plain) → SpellsEvent (event_text (event_in plain) []) (EventOf (event_in plain))
-plain_spells (Turn at node) i h = (h, ([], refl, refl))
-plain_spells (Take at datagram) i h = (h, ([], refl, refl))
 plain_spells (Boot at node word) i h = absurd i
+plain_spells _ i h = (h, ([], refl, refl))
 
 pub plain_alone : (line rest : List ℕ) (plain : Plain) → IsTurnOrTake plain → line ≡ event_text (event_in plain) [] ++ rest → length rest ≡ 0 → (hex : List ℕ) × IsHexOf hex (event_in plain) × (line ≡ event_text (event_in plain) hex)
-plain_alone line [] (Turn at node) i e z = ([], refl, e ∙ append-nil (event_text (event_in (Turn at node)) []))
-plain_alone line [] (Take at datagram) i e z = ([], refl, e ∙ append-nil (event_text (event_in (Take at datagram)) []))
 plain_alone line [] (Boot at node word) i e z = absurd i
+plain_alone line [] plain i e z = ([], refl, e ∙ append-nil (event_text (event_in plain) []))
 plain_alone line (x ∷ xs) plain i e z = absurd (omega (arith, z))
 
 -- octets begin with no turn and no take

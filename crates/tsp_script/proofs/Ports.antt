@@ -3,8 +3,8 @@ use Rattle.std.proofs.Common.{◌≡◌, ℕ, ◌<◌, ◌^◌, List, [], ◌∷
 use Rattle.std.proofs.lemmas.{Bool.eqb-true, Fmt.decimal_is_IsNumeral, Fmt.decimal_injective, List.append-nil}
 use Rattle.std.proofs.lemmas.List.Elements.{Contains-append_cases}
 use Rattle.tsp_base.specs.declared.place.Port.{Port}
-use Rattle.tsp_script.{proofs.Apart.words_apart, specs.Schedules.port_text, specs.Words.before_mark, specs.Words.after_mark}
-use Rattle.tsp_script.proofs.Cuts.{mark_front, line_of_marks, before_mark-alone, after_mark-alone, no_slash-decimal, no_space-decimal, no_space-later}
+use Rattle.tsp_script.proofs.Cuts.{words_apart, mark_front, line_of_marks, before_mark-alone, after_mark-alone, no_slash-decimal, no_space-decimal}
+use Rattle.tsp_script.{proofs.Cuts.no_space-later, specs.Schedules.port_text, specs.Words.before_mark, specs.Words.after_mark}
 
 -- the word after a node's slash is this port's: its number, or nothing for port 0
 abbrev NamesPort : List ℕ → Port → Type 0

@@ -1,10 +1,11 @@
 -- Tables of words: those of alarms, of faults and of acts. Each word is in its table once.
-use Rattle.std.proofs.Common.{◌≡◌, ℕ, suc, ◌<◌, ◌≤◌, List, [], ◌∷◌, length, refl, ap, sym, ◌∙◌, true, false, Bool, Option, Some, None, slice_index_or, arith, ◌==◌, ◌&&◌, if◌then◌else◌}
-use Rattle.tsp_base.specs.{Words.alarm_word, declared.alarm.Alarm.Alarm, declared.alarm.Alarm.TheVariants.Quiet}
-use Rattle.tsp_base.specs.declared.{alarm.TheConstants.Alarm.ALL, datagram.DecodeFault.DecodeFault}
+use Rattle.std.proofs.Common.{◌≡◌, ℕ, suc, ◌<◌, ◌≤◌, List, [], ◌∷◌, length, refl, ap, sym, ◌∙◌, true, false, Bool, Option, Some, None, slice_index_or, arith}
+use Rattle.std.proofs.Common.{◌==◌, ◌&&◌, if◌then◌else◌}
+use Rattle.tsp_base.specs.Words.{alarm_word}
+use Rattle.tsp_base.specs.declared.{alarm.Alarm.Alarm, alarm.Alarm.TheVariants.Quiet, alarm.TheConstants.Alarm.ALL, datagram.DecodeFault.DecodeFault}
 use Rattle.tsp_base.specs.declared.datagram.DecodeFault.TheVariants.{Short, Long, Version, Kind, StampLength, NoEnd, NameTooLong, Reserved, Time}
-use Rattle.tsp_script.{proofs.Outcomes.some_injective, proofs.Outcomes.none_not_some, specs.declared.verbs.Verb.TheVariants.Boot}
-use Rattle.tsp_script.specs.{Traces.fault_word, Verbs.verbs, Verbs.verb_word, declared.verbs.Verb.Verb}
+use Rattle.tsp_script.proofs.Outcomes.{some_injective, none_not_some}
+use Rattle.tsp_script.specs.{declared.verbs.Verb.TheVariants.Boot, declared.verbs.Verb.Verb, Traces.fault_word, Verbs.verbs, Verbs.verb_word}
 
 -- whether two words are the same
 abbrev pub same_word : List ℕ → List ℕ → Bool
@@ -31,38 +32,25 @@ stands_there w [] word a e = absurd (none_not_some a e)
 stands_there w (b ∷ rest) word a e = stands_behind (same_word (w b) word) b rest (first_with w rest word) a (stands_there w rest word a) e
 
 -- where no value of the table has a word, it is no value's
-no_word : {A : Type 0} (w : A → List ℕ) (all : List A) (word : List ℕ) (n : ℕ) (a : A) → first_with w all (w a) ≡ Some a → length all ≤ n → ((i : ℕ) (d : A) → i < n → word ≡ w (slice_index_or all i d) → ⊥) → word ≡ w a → ⊥
+pub no_word : {A : Type 0} (w : A → List ℕ) (all : List A) (word : List ℕ) (n : ℕ) (a : A) → first_with w all (w a) ≡ Some a → length all ≤ n → ((i : ℕ) (d : A) → i < n → word ≡ w (slice_index_or all i d) → ⊥) → word ≡ w a → ⊥
 no_word w all word n a first whole none e = let there = stands_there w all (w a) a first in none there.0 a (omega (arith, there.1)) (e ∙ ap w (sym (there.2 a)))
 
 -- a word is one value's
 pub one_word : {A : Type 0} (w : A → List ℕ) (all : List A) (a b : A) → first_with w all (w a) ≡ Some a → first_with w all (w b) ≡ Some b → w a ≡ w b → a ≡ b
 one_word w all a b first second e = some_injective a b (sym first ∙ ap (λ x. first_with w all x) e ∙ second)
 
-first_alarm : (a : Alarm) → first_with alarm_word ALL (alarm_word a) ≡ Some a
+pub first_alarm : (a : Alarm) → first_with alarm_word ALL (alarm_word a) ≡ Some a
 first_alarm Quiet = refl
 first_alarm _ = refl
-
-pub no_alarm : (word : List ℕ) (n : ℕ) (a : Alarm) → length ALL ≤ n → ((i : ℕ) (d : Alarm) → i < n → word ≡ alarm_word (slice_index_or ALL i d) → ⊥) → word ≡ alarm_word a → ⊥
-no_alarm word n a = no_word alarm_word ALL word n a (first_alarm a)
 
 abbrev pub faults : List DecodeFault
 faults = Short ∷ Long ∷ Version ∷ Kind ∷ StampLength ∷ NoEnd ∷ NameTooLong ∷ Reserved ∷ Time ∷ []
 
-first_fault : (f : DecodeFault) → first_with fault_word faults (fault_word f) ≡ Some f
+pub first_fault : (f : DecodeFault) → first_with fault_word faults (fault_word f) ≡ Some f
 first_fault Short = refl
 first_fault _ = refl
 
-pub no_fault : (word : List ℕ) (n : ℕ) (f : DecodeFault) → length faults ≤ n → ((i : ℕ) (d : DecodeFault) → i < n → word ≡ fault_word (slice_index_or faults i d) → ⊥) → word ≡ fault_word f → ⊥
-no_fault word n f = no_word fault_word faults word n f (first_fault f)
-
-first_verb : (v : Verb) → first_with verb_word verbs (verb_word v) ≡ Some v
+pub first_verb : (v : Verb) → first_with verb_word verbs (verb_word v) ≡ Some v
 unfolding verb_word
 first_verb Boot = refl
 first_verb _ = refl
-
-pub no_verb : (word : List ℕ) (n : ℕ) (v : Verb) → length verbs ≤ n → ((i : ℕ) (d : Verb) → i < n → word ≡ verb_word (slice_index_or verbs i d) → ⊥) → word ≡ verb_word v → ⊥
-no_verb word n v = no_word verb_word verbs word n v (first_verb v)
-
--- a word begins one kind of act
-pub one_verb : (v u : Verb) → verb_word v ≡ verb_word u → v ≡ u
-one_verb v u e = one_word verb_word verbs v u (first_verb v) (first_verb u) e

@@ -1,8 +1,7 @@
 //! The texts: schedule lines, message lines and trace lines.
 //!
 //! Each value is written in one way, and a reader accepts that text and no other, except that the
-//! hexadecimal of octets may have upper case. No call allocates memory, and no text has a line end.
-//! A text that is being written is a [`text::Text`]:
+//! hexadecimal of octets may have upper case. No call allocates memory, and no text has a line end:
 //!
 //! | Text | Writer | Reader |
 //! |---|---|---|
@@ -10,6 +9,8 @@
 //! | a line of a trace | [`trace::act_text`] | [`act_reader::act_of`] |
 //! | a line of a schedule's header | | [`head_line::head_line`], with the line's number |
 //! | a later line of a schedule | | [`event_line::event_line`] |
+//!
+//! A text that is being written is a [`text::Text`].
 //!
 //! ```
 //! let name = Name::new(b"alpha");

@@ -16,8 +16,8 @@ use crate::text::Text;
 use crate::words::front_word;
 use arrayvec::ArrayVec;
 
-/// The magnitude of the least number with a sign: 2^63.
-const LEAST: u64 = 0x8000_0000_0000_0000;
+/// The first magnitude that no positive number with a sign has, and that of the least one: 2^63.
+const SIGN: u64 = 0x8000_0000_0000_0000;
 
 /// Writes octets as they are.
 #[inline(always)]
@@ -121,18 +121,18 @@ fn negative_of(magnitude: u64) -> Option<i64>
     ensures found { IfSome result (λ z. (n : ℕ) × (z ≡ negsuc n) × (magnitude ≡ suc n)) }
     ensures reads { (n : ℕ) → n < 2 ^ 63 → magnitude ≡ suc n → result ≡ Some (negsuc n) }
 {
-    if magnitude == 0 || magnitude > LEAST {
+    if magnitude == 0 || magnitude > SIGN {
         return None;
     }
     Some(-1 - (magnitude - 1) as i64)
 }
 
-/// The number as 64 bits with a sign; None where it is 2^63 or more.
+/// The number as 64 bits with a sign; None if it is 2^63 or more.
 fn positive_of(number: u64) -> Option<i64>
     ensures found { IfSome result (λ z. z ≡ pos number) }
     ensures reads { number < 2 ^ 63 → result ≡ Some (pos number) }
 {
-    if number >= LEAST {
+    if number >= SIGN {
         return None;
     }
     Some(number as i64)

@@ -56,7 +56,7 @@ pub fn is_same(text: &[u8], other: &[u8]) -> bool
     if text == other { true } else { false }
 }
 
-/// Whether a word is the first of two, `true`, or the second, `false`; None where it is neither.
+/// Whether a word is the first of two, `true`, or the second, `false`; None if it is neither.
 pub(crate) fn one_of(word: &[u8], yes: &[u8], no: &[u8]) -> Option<bool>
     requires { yes.now ≢ no.now }
     ensures found { (text : Bool → List ℕ) → text true ≡ yes.now → text false ≡ no.now

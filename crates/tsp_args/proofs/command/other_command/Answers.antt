@@ -1,6 +1,6 @@
 use Rattle.std.proofs.Common.{◌≡◌, ◌∙◌, arith, Some, string_bytes}
 use Rattle.tsp_args.specs.declared.command.Command.TheVariants.{Ask}
-use Rattle.tsp_args.proofs.CommandLemmas.{one_word, no_words, asks}
+use Rattle.tsp_args.proofs.WordLemmas.{one_word, no_words, asks}
 use Rattle.tsp_args.proofs.command.other_command.Goals as goal
 
 pub returns-in_ok-query-in-len1-up-clause-reads : goal.returns-in_ok-query-in-len1-up-clause-reads

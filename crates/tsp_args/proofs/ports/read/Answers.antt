@@ -1,7 +1,7 @@
 use Rattle.std.proofs.Common.{◌∙◌, sym, ap, Some, rules, map, string_bytes}
 use Rattle.std.proofs.lemmas.List.{take_all}
 use Rattle.tsp_args.specs.Ports.{IsPeerWord}
-use Rattle.tsp_args.proofs.PortLemmas.{are_peer_words, peer_words-injective, word_at}
+use Rattle.tsp_args.proofs.WordLemmas.{are_peer_words, peer_words-injective, word_at}
 use Rattle.tsp_args.proofs.ports.read.Goals as goal
 
 pub returns-then-not-branch-clause-reads : goal.returns-then-not-branch-clause-reads

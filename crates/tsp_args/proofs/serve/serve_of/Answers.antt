@@ -1,7 +1,7 @@
 use Rattle.std.proofs.Common.{◌≡◌, ◌∙◌, refl, sym, ap, arith, Some, length, map, string_bytes, decimal, slice_range}
 use Rattle.std.proofs.lemmas.List.{length-map}
 use Rattle.tsp_args.specs.{Addrs.addr_text, Ports.peer_words, Ports.ArePorts, Serves.candidacy_word}
-use Rattle.tsp_args.proofs.CommandLemmas.{four_words, serve_of_parts}
+use Rattle.tsp_args.proofs.WordLemmas.{four_words, serve_of_parts}
 use Rattle.tsp_args.proofs.serve.serve_of.Goals as goal
 
 pub returns-in_default-clause-reads : goal.returns-in_default-clause-reads

@@ -1,5 +1,5 @@
 use Rattle.std.proofs.Common.{arith}
-use Rattle.tsp_codec.proofs.FirstFault.{IsFault-NoEnd, IsFault-NameTooLong, IsFault-Time}
+use Rattle.tsp_codec.proofs.OneReading.{IsFault-NoEnd, IsFault-NameTooLong, IsFault-Time}
 use Rattle.tsp_codec.proofs.decoding.message_of.Goals.{then-octets, else-octets}
 use Rattle.tsp_codec.proofs.decoding.message_of.Goals as goal
 

@@ -1,6 +1,6 @@
 use Rattle.std.proofs.Common.{arith, ◌∙◌}
 use Rattle.std.{proofs.lemmas.Int.ints, proofs.lemmas.Int.to_z-of_z, specs.Int.w64}
-use Rattle.tsp_codec.proofs.FirstFault.{IsFault-Reserved-reply, IsFault-Time-reply}
+use Rattle.tsp_codec.proofs.OneReading.{IsFault-Reserved-reply, IsFault-Time-reply}
 use Rattle.tsp_codec.proofs.decoding.reply_of.Goals as goal
 
 pub returns-then-ticket-gt-LAST_TICKET : goal.returns-then-ticket-gt-LAST_TICKET

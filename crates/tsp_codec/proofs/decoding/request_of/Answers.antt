@@ -1,5 +1,5 @@
 use Rattle.std.proofs.Common.{inl, inr, ◌∙◌}
-use Rattle.tsp_codec.proofs.FirstFault.{IsFault-Reserved-request}
+use Rattle.tsp_codec.proofs.OneReading.{IsFault-Reserved-request}
 use Rattle.tsp_codec.proofs.decoding.request_of.Goals.{then-u16_at-ne0-via-then-u16_at-ne0, then-u16_at-ne0-via-else-u16_at-ne0+then-u64_at-ne0}
 use Rattle.tsp_codec.proofs.decoding.request_of.Goals as goal
 

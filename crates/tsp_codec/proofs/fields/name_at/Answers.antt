@@ -1,4 +1,4 @@
-use Rattle.tsp_codec.proofs.Lists.{IsName-take, split_at_nul}
+use Rattle.tsp_codec.proofs.OneReading.{IsName-take, split_at_nul}
 use Rattle.tsp_codec.proofs.fields.name_at.Goals as goal
 
 pub new-requires : goal.new-requires

@@ -1,4 +1,4 @@
-use Rattle.tsp_convert.proofs.Hexes.{IsHexLineOf-not_refused}
+use Rattle.tsp_convert.proofs.Conversions.{IsHexLineOf-not_refused}
 use Rattle.tsp_convert.proofs.laws.hex_is_not_refused.Goals as goal
 
 pub returns : goal.returns

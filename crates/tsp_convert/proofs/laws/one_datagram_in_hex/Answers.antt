@@ -1,4 +1,4 @@
-use Rattle.tsp_convert.proofs.Hexes.{IsHexLineOf-one}
+use Rattle.tsp_convert.proofs.Conversions.{IsHexLineOf-one}
 use Rattle.tsp_convert.proofs.laws.one_datagram_in_hex.Goals as goal
 
 pub returns : goal.returns

@@ -2,14 +2,12 @@ use Rattle.std.proofs.Common.{◌+◌, ◌∙◌, ap, sym, arith, length}
 use Rattle.tsp_history.{proofs.NoteLemmas.length-history, proofs.NoteLemmas.more-small, specs.Histories.history_of}
 use Rattle.tsp_history.proofs.notes.note_behind.Goals as goal
 
-pub node_after-requires-clause-moved : goal.node_after-requires-clause-moved
-node_after-requires-clause-moved c = more-small (length (history_of c.args.lines.now)) 4294967294 c.node_at.result.clock.moved (omega (arith, length-history c.args.lines.now, c.requires.few)) c.node_at.ensures.small
-
-pub node_after-requires-clause-lives : goal.node_after-requires-clause-lives
-node_after-requires-clause-lives c = omega (arith, length-history c.args.lines.now, c.requires.few, c.node_at.ensures.counts.few_lives)
-
-pub node_after-requires-clause-corrects : goal.node_after-requires-clause-corrects
-node_after-requires-clause-corrects c = omega (arith, length-history c.args.lines.now, c.requires.few, c.node_at.ensures.counts.few_corrects)
+pub node_after-requires : goal.node_after-requires
+node_after-requires c = record {
+  moved = more-small (length (history_of c.args.lines.now)) 4294967294 c.node_at.result.clock.moved (omega (arith, length-history c.args.lines.now, c.requires.few)) c.node_at.ensures.small;
+  lives = omega (arith, length-history c.args.lines.now, c.requires.few, c.node_at.ensures.counts.few_lives);
+  corrects = omega (arith, length-history c.args.lines.now, c.requires.few, c.node_at.ensures.counts.few_corrects);
+}
 
 pub returns : goal.returns
 returns c = record {

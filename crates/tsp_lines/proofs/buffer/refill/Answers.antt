@@ -1,5 +1,5 @@
 use Rattle.std.proofs.Common.{arith}
-use Rattle.tsp_lines.proofs.Buffers.{read_behind_held}
+use Rattle.tsp_lines.proofs.Feeds.{read_behind_held}
 use Rattle.tsp_lines.proofs.buffer.refill.Goals as goal
 
 pub returns-clause-read : goal.returns-clause-read

@@ -1,7 +1,7 @@
 -- What was read so far goes on with what the next read adds.
 use Rattle.std.proofs.Common.{◌∙◌, ap, arith, sym, ◌≡◌, refl}
 use Rattle.tsp_lines.specs.declared.gather.{Added.TheVariants.Fault, Ungathered.TheVariants.ReadFault}
-use Rattle.tsp_lines.proofs.{Faults.Counts-from, Streams.Gives-nil}
+use Rattle.tsp_lines.proofs.{Leaving.Counts-from, Outputs.Gives-nil}
 use Rattle.tsp_lines.proofs.Gatherings.{Gathers-end, Gathers-past, Gives-more, more_added, ReadsWhole-fault}
 use Rattle.tsp_lines.proofs.gather.gather_by.Goals as goal
 
@@ -13,15 +13,13 @@ returns-in-End-clause-comes g c =
     let i = c.loop-octets.invariant in
     (rw c.new.ensures.0 (Gathers-end c.args.limit c.min-most.result _ _ _ _ _ _ i.0 (omega arith) c.in-End.ensures.adds), c.new.ensures.1, c.new.ensures.2)
 
-pub returns-in-Fault-clause-comes : goal.returns-in-Fault-clause-comes
-returns-in-Fault-clause-comes g c =
+pub returns-in-Fault : goal.returns-in-Fault
+returns-in-Fault g c =
     let i = c.loop-octets.invariant in
-    ReadsWhole-fault c.args.limit c.min-most.result (g.S.Source.left c.args.source.now) (g.S.Source.left c.loop-octets.source) (g.S.Source.left c.read_more.new.source) (g.S.Source.ended c.read_more.new.source) c.loop-octets.octets.items c.read_more.new.octets.items c.in-Fault.fault i.0 (omega arith) c.in-Fault.ensures.adds
-
-pub returns-in-Fault-clause-faults : goal.returns-in-Fault-clause-faults
-returns-in-Fault-clause-faults g c =
-    let i = c.loop-octets.invariant in
-    Counts-from _ _ _ _ _ i.3 (λ e. c.in-Fault.is ∙ ap Fault (cc)) (λ e. let q : Fault c.in-Fault.fault ≡ Fault ReadFault = sym c.in-Fault.is ∙ e in cc) c.read_more.ensures.faults
+    record {
+      comes = ReadsWhole-fault c.args.limit c.min-most.result (g.S.Source.left c.args.source.now) (g.S.Source.left c.loop-octets.source) (g.S.Source.left c.read_more.new.source) (g.S.Source.ended c.read_more.new.source) c.loop-octets.octets.items c.read_more.new.octets.items c.in-Fault.fault i.0 (omega arith) c.in-Fault.ensures.adds;
+      faults = Counts-from _ _ _ _ _ i.3 (λ e. c.in-Fault.is ∙ ap Fault (cc)) (λ e. let q : Fault c.in-Fault.fault ≡ Fault ReadFault = sym c.in-Fault.is ∙ e in cc) c.read_more.ensures.faults;
+    }
 
 pub loop-octets-preserved : goal.loop-octets-preserved
 loop-octets-preserved g c =

@@ -1,5 +1,5 @@
 use Rattle.std.proofs.Common.{refl}
-use Rattle.tsp_lines.proofs.{Faults.Counts-same, Gatherings.Adds-end}
+use Rattle.tsp_lines.proofs.{Leaving.Counts-same, Gatherings.Adds-end}
 use Rattle.tsp_lines.proofs.gather.read_more.Goals as goal
 
 pub returns-in-Got-eq0-clause-adds : goal.returns-in-Got-eq0-clause-adds

@@ -1,5 +1,5 @@
 use Rattle.std.proofs.Common.{arith}
-use Rattle.tsp_lines.proofs.NearFeeds.{near_feed}
+use Rattle.tsp_lines.proofs.Feeds.{near_feed}
 use Rattle.tsp_lines.proofs.line_feed.first_feed.Goals as goal
 
 pub returns-then-feeds-ne0 : goal.returns-then-feeds-ne0

@@ -1,4 +1,4 @@
-use Rattle.tsp_lines.proofs.Says.{said_ok, said_err}
+use Rattle.tsp_lines.proofs.Outputs.{said_ok, said_err}
 use Rattle.tsp_lines.proofs.progress.say.Goals as goal
 
 pub returns-clause-ok : goal.returns-clause-ok

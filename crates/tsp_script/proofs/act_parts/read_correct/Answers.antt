@@ -1,7 +1,7 @@
 use Rattle.std.proofs.Common.{◌∙◌, ◌++◌, ◌∷◌, ap, rules, refl, Some, ℤ}
 use mir.Val.{to_z, of_z}
 use Rattle.std.{proofs.lemmas.Int.to_z-of_z, specs.Fmt.signed_decimal, specs.Int.w64, specs.Int.RustNames.FitsSigned}
-use Rattle.tsp_script.proofs.{ActParts.correct_of_parts, ActParts.no_space-way_text, Cuts.cut_front, Outcomes.none_not_some, Outcomes.some_injective}
+use Rattle.tsp_script.proofs.{ActTexts.correct_of_parts, ActTexts.no_space-way_text, Cuts.cut_front, Outcomes.none_not_some, Outcomes.some_injective}
 use Rattle.tsp_script.specs.Verbs.{way_text}
 use Rattle.tsp_script.proofs.act_parts.read_correct.Goals as goal
 

@@ -1,7 +1,7 @@
 use Rattle.std.proofs.Common.{◌∙◌, ◌++◌, ◌∷◌, ℕ, ℤ, List, ap, arith, rules, refl, Some, decimal}
 use mir.Val.{to_z, of_z}
 use Rattle.std.{proofs.lemmas.Int.to_z-of_z, specs.Fmt.signed_decimal, specs.Int.w64, specs.Int.RustNames.FitsSigned}
-use Rattle.tsp_script.proofs.{ActParts.sample_of_parts, Outcomes.none_not_some, Outcomes.some_injective}
+use Rattle.tsp_script.proofs.{ActTexts.sample_of_parts, Outcomes.none_not_some, Outcomes.some_injective}
 use Rattle.tsp_script.proofs.act_parts.read_sample.Goals as goal
 
 -- what follows the peer, the counter and the difference

@@ -1,6 +1,6 @@
 use Rattle.std.proofs.Common.{◌≡◌, ap, Some}
 use Rattle.tsp_base.specs.declared.datagram.Taken.TheVariants.{Bad}
-use Rattle.tsp_script.proofs.{ActParts.refused_case, Outcomes.some_injective, Outcomes.none_not_some}
+use Rattle.tsp_script.proofs.{ActTexts.refused_case, Outcomes.some_injective, Outcomes.none_not_some}
 use Rattle.tsp_script.proofs.act_parts.taken_of.Goals as goal
 
 pub returns-in_err-fault_of-clause-reads : goal.returns-in_err-fault_of-clause-reads

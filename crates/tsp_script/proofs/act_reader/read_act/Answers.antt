@@ -1,8 +1,7 @@
 use Rattle.std.proofs.Common.{◌≡◌, ◌∙◌, refl, sym, ap, ℕ, List, inl, inr, rules, IsSomeAnd}
 use Rattle.tsp_base.specs.declared.act.Act.{Act}
 use Rattle.tsp_script.specs.{Traces.act_text, Verbs.verb_word, Verbs.verb_of, Verbs.rest_of_act, Words.first_word, Words.after_word}
-use Rattle.tsp_script.proofs.ActCases.{post_case, other_case, post_differs}
-use Rattle.tsp_script.proofs.ActTexts.{act_splits, joined_found, lone_case, not_lone}
+use Rattle.tsp_script.proofs.ActTexts.{post_case, other_case, post_differs, act_splits, joined_found, lone_case, not_lone}
 use Rattle.tsp_script.proofs.Outcomes.{some_injective, none_not_some, if_some-then}
 use Rattle.tsp_script.proofs.act_reader.read_act.Goals as goal
 

@@ -1,5 +1,5 @@
 use Rattle.std.proofs.Common.{◌≡◌, ◌∙◌, sym, Some}
-use Rattle.tsp_script.proofs.ActVerbs.{took_case, become_case, arm_case, sample_case, close_case, correct_case, trace_case}
+use Rattle.tsp_script.proofs.ActTexts.{took_case, become_case, arm_case, sample_case, close_case, correct_case, trace_case}
 use Rattle.tsp_script.proofs.act_reader.read_silent.Goals as goal
 
 pub returns-in-Took-clause-reads : goal.returns-in-Took-clause-reads

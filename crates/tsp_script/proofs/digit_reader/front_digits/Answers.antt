@@ -6,15 +6,13 @@ use Rattle.tsp_script.proofs.digit_reader.front_digits.Goals as goal
 pub returns-in_err-first-clause-none : goal.returns-in_err-first-clause-none
 returns-in_err-first-clause-none c = if_none _ (no_number c.args.octets.now c.in_err-first.ensures.none)
 
-pub returns-then-first-gt0-clause-found : goal.returns-then-first-gt0-clause-found
-returns-then-first-gt0-clause-found c =
+pub returns-then-first-gt0 : goal.returns-then-first-gt0
+returns-then-first-gt0 c =
     let f = c.in_ok-first.ensures.found in
-    if_found c.digits_behind.result (λ r. r.0) (λ r. r.1.now) _ _ (digit_and c.in_ok-first.first c.args.octets.now c.in_ok-first.rest.now f.0 f.1) c.digits_behind.ensures.found
-
-pub returns-then-first-gt0-clause-none : goal.returns-then-first-gt0-clause-none
-returns-then-first-gt0-clause-none c =
-    let f = c.in_ok-first.ensures.found in
-    if_unfound c.digits_behind.result _ _ (digit_and c.in_ok-first.first c.args.octets.now c.in_ok-first.rest.now f.0 f.1) c.digits_behind.ensures.none
+    record {
+      found = if_found c.digits_behind.result (λ r. r.0) (λ r. r.1.now) _ _ (digit_and c.in_ok-first.first c.args.octets.now c.in_ok-first.rest.now f.0 f.1) c.digits_behind.ensures.found;
+      none = if_unfound c.digits_behind.result _ _ (digit_and c.in_ok-first.first c.args.octets.now c.in_ok-first.rest.now f.0 f.1) c.digits_behind.ensures.none;
+    }
 
 pub returns-in-Some-clause-none : goal.returns-in-Some-clause-none
 returns-in-Some-clause-none c =

@@ -1,5 +1,5 @@
 use Rattle.std.proofs.Common.{◌-◌, slice_index_or, arith}
-use Rattle.tsp_script.proofs.EightDigits.{high_word, high_word-bounds, digits_word, values_word, eight_read}
+use Rattle.tsp_script.proofs.Digits.{high_word, high_word-bounds, digits_word, values_word, eight_read}
 use Rattle.tsp_script.proofs.eights.eight_digits.Goals as goal
 
 pub overflow_add-word : goal.overflow_add-word

@@ -1,5 +1,5 @@
 use Rattle.std.proofs.Common.{refl}
-use Rattle.tsp_script.proofs.EightDigits.{joined_value}
+use Rattle.tsp_script.proofs.Digits.{joined_value}
 use Rattle.tsp_script.proofs.eights.joined.Goals as goal
 
 pub returns : goal.returns

@@ -1,5 +1,5 @@
 use Rattle.std.proofs.Common.{◌≡◌, ap, Ok}
-use Rattle.tsp_script.proofs.{EventLines.no_item, OneEvent.SpellsEvent-one, Outcomes.none_not_some}
+use Rattle.tsp_script.proofs.{EventLines.no_item, EventLines.SpellsEvent-one, Outcomes.none_not_some}
 use Rattle.tsp_script.specs.declared.event_line.EventItem.TheVariants.{Event as EventOf}
 use Rattle.tsp_base.specs.Words.{event_in}
 use Rattle.tsp_script.proofs.event_line.event_line.Goals as goal

@@ -1,5 +1,5 @@
 use Rattle.tsp_base.specs.declared.place.Place.TheVariants.{Stranger}
-use Rattle.tsp_script.proofs.OneEvent.{places_apart, no_place}
+use Rattle.tsp_script.proofs.EventLines.{places_apart, no_place}
 use Rattle.tsp_script.proofs.event_line.front_place.Goals as goal
 
 pub returns-in-Some-clause-reads : goal.returns-in-Some-clause-reads

@@ -1,7 +1,6 @@
 use Rattle.std.proofs.Common.{arith, refl, subst, Ok}
+use Rattle.tsp_script.{specs.declared.head_line.HeadItem.TheVariants.Drift, proofs.HeadLines.reads_later, proofs.HeadLines.reads_one}
 use Rattle.tsp_script.specs.Schedules.{SpellsHead}
-use Rattle.tsp_script.specs.declared.head_line.HeadItem.TheVariants.{Drift}
-use Rattle.tsp_script.proofs.{HeadLines.reads_later, OneHead.reads_one}
 use Rattle.tsp_script.proofs.head_line.head_line.Goals as goal
 
 pub returns-in_default : goal.returns-in_default

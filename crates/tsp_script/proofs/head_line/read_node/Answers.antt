@@ -1,9 +1,8 @@
 use Rattle.std.proofs.Common.{◌≡◌, ◌∙◌, ◌++◌, ◌∷◌, ◌≤◌, ap, arith, refl, rules, ℤ, nat_abs}
 use mir.Val.{to_z, of_z}
 use Rattle.std.{proofs.lemmas.Int.to_z-of_z, specs.Fmt.signed_decimal, specs.Int.w32, specs.Int.w64, specs.Int.RustNames.FitsSigned}
+use Rattle.tsp_script.proofs.{HeadLines.no_space-host, HeadLines.fits_wall, Outcomes.none_not_some, Outcomes.if_none, Cuts.cut_front}
 use Rattle.tsp_script.specs.Schedules.{flag_text, IsHost}
-use Rattle.tsp_script.proofs.{Cuts.cut_front, Outcomes.none_not_some, Outcomes.if_none}
-use Rattle.tsp_script.proofs.HeadLines.{no_space-host, fits_wall}
 use Rattle.tsp_script.proofs.head_line.read_node.Goals as goal
 
 pub returns-in_err-word-clause-none : goal.returns-in_err-word-clause-none

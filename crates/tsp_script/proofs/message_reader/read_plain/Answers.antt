@@ -1,7 +1,8 @@
 use Rattle.std.proofs.Common.{◌≡◌, ◌∙◌, ap, sym, arith, ◌++◌, Some, true}
 use Rattle.tsp_base.specs.{Words.MessageValue, Words.body_fits, declared.datagram.Datagram.TheVariants.Message, declared.kind.Kind.Kind}
-use Rattle.tsp_script.proofs.{KindWords.kind_word-injective, MessageLines.message_of_parts, MessageLines.plain_found}
+use Rattle.tsp_script.proofs.{KindWords.kind_word-injective, MessageLines.plain_found}
 use Rattle.tsp_script.{proofs.Outcomes.none_not_some, proofs.Outcomes.some_injective, specs.Texts.body_text, specs.Texts.name_text}
+use Rattle.tsp_codec.proofs.OneReading.{message_parts}
 use Rattle.tsp_script.proofs.message_reader.read_plain.Goals as goal
 
 pub returns-in_default-clause-reads : goal.returns-in_default-clause-reads
@@ -33,7 +34,7 @@ returns-clause-reads c = λ m h w e.
     let b = c.in-Some.ensures.reads m.body (name_text m.name) h.body fits n.1 in
     let s = some_injective _ _ (c.in_ok-name.ensures.reads m.name h.name h.octets b.1) in
     let z = some_injective _ _ (c.in_ok-number-2.ensures.fits (rw n.0 h.number)) in
-    let made = message_of_parts _ _ _ _ m c.in_ok-message.message k (z ∙ n.0) b.0 s c.in_ok-message.ensures.value in
+    let made = c.in_ok-message.ensures.value ∙ message_parts _ _ _ _ m k (z ∙ n.0) b.0 s in
     ap (λ (x : MessageValue). Some (Message x)) made
 
 pub returns-in_err-message-clause-reads : goal.returns-in_err-message-clause-reads

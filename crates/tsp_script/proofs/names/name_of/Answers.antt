@@ -13,10 +13,9 @@ pub returns-then-is_empty-clause-reads : goal.returns-then-is_empty-clause-reads
 returns-then-is_empty-clause-reads c = λ name n b e.
     absurd (omega (arith, eqb-true (length c.args.text.now) 0 (sym c.if-is_empty.ensures), ap length e, name_text_some name))
 
-pub returns-then-are_plain-clause-found : goal.returns-then-are_plain-clause-found
-returns-then-are_plain-clause-found c =
-    rw c.ok.ensures.value (name_found c.of.result c.args.text.now c.args.text.now (search rules) (search rules) (sym (plain_text c.args.text.now c.if-are_plain.ensures)) c.of.ensures)
-
-pub returns-then-are_plain-clause-reads : goal.returns-then-are_plain-clause-reads
-returns-then-are_plain-clause-reads c = λ name n b e.
-    c.ok.ensures.value ∙ name_made c.of.result _ name n (plain_name name _ c.if-are_plain.ensures (name_begins _ name c.if-is_same.ensures e)) c.of.ensures
+pub returns-then-are_plain : goal.returns-then-are_plain
+returns-then-are_plain c = record {
+  found = rw c.ok.ensures.value (name_found c.of.result c.args.text.now c.args.text.now (search rules) (search rules) (sym (plain_text c.args.text.now c.if-are_plain.ensures)) c.of.ensures);
+  reads = λ name n b e.
+      c.ok.ensures.value ∙ name_made c.of.result _ name n (plain_name name _ c.if-are_plain.ensures (name_begins _ name c.if-is_same.ensures e)) c.of.ensures;
+}

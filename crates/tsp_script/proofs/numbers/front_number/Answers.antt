@@ -1,5 +1,5 @@
 use Rattle.std.proofs.Common.{◌∙◌, ◌++◌, ◌∷◌, ap, sym, arith, List, ℕ, decimal}
-use Rattle.tsp_script.proofs.{Apart.numbers_apart, FrontDigits.NoDigit-other, FrontDigits.front_one}
+use Rattle.tsp_script.proofs.{Cuts.numbers_apart, FrontDigits.NoDigit-other, FrontDigits.front_one}
 use Rattle.tsp_script.proofs.numbers.front_number.Goals as goal
 
 pub returns-in_err-number-clause-reads : goal.returns-in_err-number-clause-reads

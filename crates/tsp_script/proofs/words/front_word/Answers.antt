@@ -1,6 +1,5 @@
 use Rattle.std.proofs.Common.{◌≡◌, ◌∙◌, refl, sym, add-one, suc, drop}
-use Rattle.tsp_script.proofs.Cuts.{before_mark-at, after_mark-at, line_at, space_inside}
-use Rattle.tsp_script.proofs.Outcomes.{if_none}
+use Rattle.tsp_script.proofs.{Cuts.before_mark-at, Cuts.after_mark-at, Cuts.line_at, Cuts.space_inside, Outcomes.if_none}
 use Rattle.tsp_script.proofs.words.front_word.Goals as goal
 
 pub returns-in_err-place-clause-none : goal.returns-in_err-place-clause-none

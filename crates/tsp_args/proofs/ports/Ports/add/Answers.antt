@@ -1,4 +1,4 @@
-use Rattle.tsp_args.proofs.PortLemmas.{peer_words-add}
+use Rattle.tsp_args.proofs.WordLemmas.{peer_words-add}
 use Rattle.tsp_args.proofs.ports.Ports.add.Goals as goal
 
 pub returns-clause-words : goal.returns-clause-words

@@ -1,4 +1,4 @@
-use Rattle.tsp_args.proofs.PortLemmas.{words-next}
+use Rattle.tsp_args.proofs.WordLemmas.{words-next}
 use Rattle.tsp_args.proofs.ports.Ports.next.Goals as goal
 
 pub returns-clause-words : goal.returns-clause-words

@@ -1,7 +1,7 @@
 use Rattle.std.proofs.Common.{◌∙◌, sym, ap, ◌++◌, List, flat_map}
 use Rattle.std.proofs.lemmas.List.{take_all}
 use Rattle.tsp_io.specs.declared.addr.Addr.{Addr}
-use Rattle.tsp_args.{proofs.PortLemmas.all_peers-last, specs.Ports.all_peers}
+use Rattle.tsp_args.{proofs.WordLemmas.all_peers-last, specs.Ports.all_peers}
 use Rattle.tsp_args.proofs.ports.Ports.peers.Goals as goal
 
 pub returns : goal.returns

@@ -1,4 +1,4 @@
-use Rattle.tsp_args.proofs.PortLemmas.{peers-add}
+use Rattle.tsp_args.proofs.WordLemmas.{peers-add}
 use Rattle.tsp_args.proofs.ports.Ports.take.Goals as goal
 
 pub returns-clause-peers : goal.returns-clause-peers

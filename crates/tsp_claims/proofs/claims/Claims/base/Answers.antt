@@ -1,8 +1,7 @@
 -- The claimed history is that of the lines.
 use Rattle.std.proofs.Common.{◌≡◌, ◌∙◌, ◌+ℤ◌, ap, rules, to_z, of_z, ℤ}
 use Rattle.std.specs.Int.{w64, w128}
-use Rattle.tsp_base.specs.declared.header.NodeLine.{NodeLine}
-use Rattle.tsp_base.specs.Words.{HeaderValue, dids, of, moved}
+use Rattle.tsp_base.specs.{Words.HeaderValue, Words.dids, Words.of, Words.moved, declared.header.NodeLine.NodeLine}
 use Rattle.tsp_claims.specs.ClaimedHistory.{claimed}
 use Rattle.tsp_claims.proofs.claims.Claims.base.Goals as goal
 use Rattle.tsp_history.specs.Histories.{history_of}

@@ -1,7 +1,7 @@
 use Rattle.std.proofs.Common.{ap, ◌∙◌, Err}
 use Rattle.tsp_lines.specs.Turns.{end_sayings}
-use Rattle.tsp_lines.proofs.{Faults.Counts-from, Leaving.Counts-fault, Leaving.Counts-stopped, Leaving.Ok-no_error, Leaving.not_others, Says.Ends-broken}
-use Rattle.tsp_lines.proofs.Endings.{Ends-end, Ends-closed, Breaks-closed}
+use Rattle.tsp_lines.proofs.Leaving.{Counts-from, Counts-fault, Counts-stopped, Ok-no_error, not_others}
+use Rattle.tsp_lines.proofs.Outputs.{Ends-broken, Ends-end, Ends-closed, Breaks-closed}
 use Rattle.tsp_lines.proofs.progress.Progress.finish.Goals as goal
 
 pub returns-in-Err-clause-ends : goal.returns-in-Err-clause-ends

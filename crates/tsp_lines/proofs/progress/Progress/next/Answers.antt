@@ -1,5 +1,5 @@
 use Rattle.std.proofs.Common.{arith, sym, append-nil, subst, [], ◌++◌}
-use Rattle.tsp_lines.{proofs.Streams.Gives-nil, specs.Readings.IsNext}
+use Rattle.tsp_lines.{proofs.Outputs.Gives-nil, specs.Readings.IsNext}
 use Rattle.tsp_lines.proofs.progress.Progress.next.Goals as goal
 
 pub returns-in-Some-clause-next : goal.returns-in-Some-clause-next

@@ -1,5 +1,5 @@
 use Rattle.std.proofs.Common.{refl, ◌∙◌}
-use Rattle.tsp_lines.{proofs.Endings.Ends-only_bad, proofs.Leaving.Counts-told, proofs.Outputs.Hands-nil, specs.Turns.line_sayings}
+use Rattle.tsp_lines.{proofs.Outputs.Ends-only_bad, proofs.Outputs.Hands-nil, proofs.Leaving.Counts-told, specs.Turns.line_sayings}
 use Rattle.tsp_lines.specs.declared.treatment.Stop.TheVariants.{Bad as Refused}
 use Rattle.tsp_lines.proofs.progress.Progress.refuse_long.Goals as goal
 

@@ -1,5 +1,5 @@
 use Rattle.std.proofs.Common.{ap, refl, Err, Some}
-use Rattle.tsp_lines.proofs.{Endings.Ends-line, Faults.Counts-from, Leaving.Counts-stopped}
+use Rattle.tsp_lines.proofs.{Outputs.Ends-line, Leaving.Counts-from, Leaving.Counts-stopped}
 use Rattle.tsp_lines.proofs.progress.Progress.treat.Goals as goal
 
 pub returns-in-Err-clause-treats : goal.returns-in-Err-clause-treats

@@ -1,5 +1,5 @@
 use Rattle.std.proofs.Common.{◌≡◌, ap, arith, length, refl}
-use Rattle.tsp_lines.proofs.{Buffers.filled, Buffers.no_octets, Faults.Counts-from}
+use Rattle.tsp_lines.proofs.{Feeds.filled, Feeds.no_octets, Leaving.Counts-from}
 use Rattle.tsp_lines.proofs.reader.LineReader.fill.Goals as goal
 
 pub returns-in-Got-eq0-clause-fills : goal.returns-in-Got-eq0-clause-fills

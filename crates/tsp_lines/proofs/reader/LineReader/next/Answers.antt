@@ -1,7 +1,7 @@
 use Rattle.std.proofs.Common.{◌≡◌, [], ◌++◌, length, ℕ, List, arith, ◌∙◌, ap, append-nil, append_assoc, length-append, refl, subst, sym}
 use Rattle.tsp_lines.specs.{Lines.NoFeed, Readings.IsNext}
 use Rattle.tsp_lines.proofs.Passes.{next_more, over_not_failed, More-NotRead, Over-NotRead}
-use Rattle.tsp_lines.proofs.{Faults.Counts-from, Faults.Counts-same, Streams.Gives-nil, Streams.Gives-trans}
+use Rattle.tsp_lines.proofs.{Leaving.Counts-from, Leaving.Counts-same, Outputs.Gives-nil, Outputs.Gives-trans}
 use Rattle.tsp_lines.proofs.reader.LineReader.next.Goals as goal
 
 pub returns-then-held-gt-LONGEST : goal.returns-then-held-gt-LONGEST

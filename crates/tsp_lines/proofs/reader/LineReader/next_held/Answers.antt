@@ -1,7 +1,6 @@
 use Rattle.std.proofs.Common.{◌≡◌, ◌<◌, ◌≤◌, ◌+◌, ap, sym, arith, length, refl, take, slice_range}
-use Rattle.tsp_lines.specs.Lines.{NoFeed}
-use Rattle.tsp_lines.proofs.Feeds.{NoFeed-end, some_held, last_feed, held_length}
-use Rattle.tsp_lines.proofs.{Passes.Limit-Failed, reader.LineReader.next_held.Goals.then-self, reader.LineReader.next_held.Goals.else-self}
+use Rattle.tsp_lines.proofs.{reader.LineReader.next_held.Goals.then-self, reader.LineReader.next_held.Goals.else-self, Passes.Limit-Failed}
+use Rattle.tsp_lines.{proofs.Feeds.NoFeed-end, proofs.Feeds.some_held, proofs.Feeds.last_feed, proofs.Feeds.held_length, specs.Lines.NoFeed}
 use Rattle.tsp_lines.proofs.reader.LineReader.next_held.Goals as goal
 
 pub returns-in_default-clause-next : goal.returns-in_default-clause-next

@@ -1,6 +1,6 @@
 use Rattle.std.proofs.Common.{◌≡◌, ◌∙◌, refl, sym}
 use Rattle.tsp_lines.specs.declared.next.Next.TheVariants.{Failed}
-use Rattle.tsp_lines.proofs.{Faults.Counts-from, Faults.Counts-same, Passes.long_not_failed, Passes.More-NotRead}
+use Rattle.tsp_lines.proofs.{Leaving.Counts-from, Leaving.Counts-same, Passes.long_not_failed, Passes.More-NotRead}
 use Rattle.tsp_lines.proofs.reader.LineReader.pass.Goals as goal
 
 pub returns-in-Over-clause-faults : goal.returns-in-Over-clause-faults

@@ -1,5 +1,5 @@
 use Rattle.std.proofs.Common.{arith, ap, refl, ◌∙◌, [], append-nil, Some}
-use Rattle.tsp_lines.proofs.{Faults.Counts-from, Passes.passed, Passes.passed_more, Streams.Gives-nil}
+use Rattle.tsp_lines.proofs.{Leaving.Counts-from, Outputs.Gives-nil, Passes.passed, Passes.passed_more}
 use Rattle.tsp_lines.proofs.reader.LineReader.pass_over.Goals as goal
 
 pub returns-in-Some : goal.returns-in-Some
