@@ -1,11 +1,10 @@
 -- How sends that end keep what a station stands for.
 use Rattle.std.proofs.Common.{sym, ◌∙◌, ap, ◌≡◌, ℕ, ◌==◌, Bool, true, false, ◌&&◌, if◌then◌else◌, List, [], ◌∷◌, ◌++◌, Option, Some, None, MatchBool, refl}
-use Rattle.tsp_rules.specs.Values.{Acked, Placed, PeerId, Port}
+use Rattle.tsp_rules.specs.SendRows.{answers_election, answers_other, ends_by_ack, has_other, is_kind_election, acknowledges}
+use Rattle.tsp_rules.specs.{Values.Acked, Values.Placed, Values.PeerId, Values.Port, DateRows.answers_date}
 use Rattle.tsp_base.specs.Words.{Past, Performs, nothing, puts, Sending, is_set_date_request}
 use Rattle.tsp_base.proofs.SendLemmas.{open_send-acked}
 use Rattle.tsp_base.proofs.PerformsLemmas.{Performs_then_part, Performs_else_part, Performs_nothing}
-use Rattle.tsp_rules.specs.DateRows.{answers_date}
-use Rattle.tsp_rules.specs.SendRows.{answers_election, answers_other, ends_by_ack, has_other, is_kind_election, acknowledges}
 use Rattle.tsp_sends.specs.Slots.{SetsOnly, kind_of, has_number, sending_to}
 use Rattle.tsp_acks.specs.declared.ends.Answer.{Answer, TheVariants.Vote, TheVariants.Date, TheVariants.Ack}
 use Rattle.tsp_acks.specs.declared.station.Station.{Station}

@@ -1,9 +1,8 @@
 -- Which call begins which kind of send, of which kind the open one is, and what answers it.
 use Rattle.std.specs.Prelude.{ℕ, Bool, true, false, Option, None, Some}
+use Rattle.tsp_rules.specs.{SendRows.has_election, SendRows.has_other, SendRows.is_kind_election, SendRows.ends_by_ack, DateRows.has_date}
 use Rattle.tsp_rules.specs.Values.{Kind, Conflict, Election, QuitKind, PeerId}
 use Rattle.tsp_base.specs.Words.{Past, is_set_date_request}
-use Rattle.tsp_rules.specs.DateRows.{has_date}
-use Rattle.tsp_rules.specs.SendRows.{has_election, has_other, is_kind_election, ends_by_ack}
 use Rattle.tsp_acks.specs.declared.ends.Answer.{Answer, TheVariants.Vote, TheVariants.Date, TheVariants.Ack}
 
 -- whether a send of this kind has the port's own next number and carries nothing else

@@ -1,8 +1,7 @@
 -- Facts of a node, read off its deeds on all its ports. Each fact has a function that says, by cases of a deed, how that deed changes it.
 use Rattle.std.specs.Prelude.{ℕ, ◌+◌, ◌-◌, ◌/◌, ◌%◌, ℤ, pos, negsuc, ◌+ℤ◌, ◌-ℤ◌, neg_ℤ, Bool, true, false, if◌then◌else◌, List, [], ◌∷◌, Option, None, Some}
 use Rattle.tsp_base.specs.declared.act.Act.TheVariants.{Boot, Correct, Trace}
-use Rattle.tsp_base.specs.declared.constants.TheConstants.{SLEW}
-use Rattle.tsp_base.specs.History.{Cause, Booted, Deed, Acts, Did}
+use Rattle.tsp_base.specs.{History.Cause, History.Booted, History.Deed, History.Acts, History.Did, declared.constants.TheConstants.SLEW}
 
 -- the true time of the last deed
 abbrev pub time_of : List Did → ℕ

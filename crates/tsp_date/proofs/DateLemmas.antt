@@ -6,7 +6,7 @@ use Rattle.tsp_base.specs.Words.{Past, MessageValue, is_among, Keeps, Performs, 
 use Rattle.tsp_base.proofs.PerformsLemmas.{Keeps_each, Keeps_reading, Performs_else_part, Performs_nothing, Performs_then_part}
 use Rattle.tsp_rules.specs.{Answers.from_peer, ClockRows.sets, Guards.is_heard, Guards.is_starting_role, Guards.table_at}
 use Rattle.tsp_rules.specs.DateRows.{answers_date, date_acked_in, has_date, leaves, leaves_all}
-use Rattle.tsp_rules.specs.SendRows.{begins_timed, next_number}
+use Rattle.tsp_rules.{specs.SendRows.begins_timed, specs.SendRows.next_number, proofs.Parts.Performs_part}
 use Rattle.tsp_rules.proofs.Emits.{Sort, Acking, Passing, Posting, Tabling, Emits, Emits_each, Emits_more, Emits_posts_time, Emits_puts, Emits_reading, Keeps_by}
 use Rattle.tsp_acks.specs.{Stands.StationStands, Stands.StandsActing, declared.station.Station.Station}
 use Rattle.tsp_acks.proofs.{ActingLemmas.taken-acts, StandsLemmas.Stands_idle}
@@ -38,14 +38,12 @@ stands-with s dates master station also = record { dates = dates; master = maste
 -- a call of the station that the rest doesn't feel
 pub Performs_posting : (s : DateState) {row : Row} {x : ℕ} {port : Port} {before after : Station} {old new : List Placed} → Emits (Posting ∷ []) row →
     Performs StationStands StationStands row x port before after old new → Performs DateStands DateStands row x port (record s { station = before }) (record s { station = after }) old new
-Performs_posting s {row = row} {x = x} {before = before} {after = after} e d = record {
-  acts = λ past h. d.acts past h.station;
-  stands = λ past h. stands-with (record s { station = after })
-      (DatesStand_by row (Emits_more posting refl e) x past s.dates h.dates)
-      (Keeps_by quiet_sorts MasterStands row MasterStands_quiet (Emits_more posting refl e) x past s.master h.master)
-      (d.stands past h.station)
-      (also-kept (record s { station = before }) row (Emits_more posting refl e) x past h);
-}
+Performs_posting s {row = row} {x = x} {before = before} {after = after} e d = Performs_part d (λ past h. h.station)
+    (λ past h z. stands-with (record s { station = after })
+    (DatesStand_by row (Emits_more posting refl e) x past s.dates h.dates)
+    (Keeps_by quiet_sorts MasterStands row MasterStands_quiet (Emits_more posting refl e) x past s.master h.master)
+    z
+    (also-kept (record s { station = before }) row (Emits_more posting refl e) x past h))
 
 -- a date begins to be passed on
 abbrev pub passing : List Sort
@@ -69,16 +67,12 @@ pub Performs_asks : (s : DateState) (q : PeerId) (time : ℤ) {x : ℕ} {port : 
 Performs_asks s q time {x = x} {before = before} {after = after} dates asked r t e d =
     let row = begins_timed SetDateReq q time in
     let sorts = begins-emits q time in
-    record {
-      acts = λ past h. d.acts past (record { stands = h.station; acted = taken-acts past.seen r (h.took ∙ t) });
-      stands = λ past h.
-          let acts : acting past.seen ≡ true = taken-acts past.seen r (h.took ∙ t) in
-          stands-with (record s { dates = asked; station = after })
-          (DatesStand_asks q time x past dates asked e acts h.dates)
-          (Keeps_by quiet_sorts MasterStands row MasterStands_quiet (Emits_more passing refl sorts) x past s.master h.master)
-          (d.stands past (record { stands = h.station; acted = acts })).stands
-          (also-kept (record s { dates = dates; station = before }) row (Emits_more passing refl sorts) x past h);
-    }
+    Performs_part d (λ past h. record { stands = h.station; acted = taken-acts past.seen r (h.took ∙ t) })
+    (λ past h z. stands-with (record s { dates = asked; station = after })
+    (DatesStand_asks q time x past dates asked e (taken-acts past.seen r (h.took ∙ t)) h.dates)
+    (Keeps_by quiet_sorts MasterStands row MasterStands_quiet (Emits_more passing refl sorts) x past s.master h.master)
+    z.stands
+    (also-kept (record s { dates = dates; station = before }) row (Emits_more passing refl sorts) x past h))
 
 -- messages of dates don't correct as a master's do
 date-no-correction : (k : Kind) → sets_date k ≡ true → is_correction k ≡ false
@@ -120,10 +114,8 @@ pub Performs_dated : (s : DateState) (time : ℤ) {x : ℕ} {port : Port} (dates
     Performs ClockStands ClockStands (sets time) x port clock moved old new →
     Performs DateStands DateStands (sets time) x port (record s { dates = dates; clock = clock }) (record s { dates = noted; last = record { tick = Some x; taken = None; name = s.last.name }; clock = moved }) old new
 unfolding sets
-Performs_dated s time {x = x} dates noted {clock = clock} {moved = moved} from m t k n ps a d = record {
-  acts = λ past h. d.acts past h.clock;
-  stands = λ past h. stands-dated s _ time x past dates noted clock moved from m t k n ps a h (d.stands past h.clock);
-}
+Performs_dated s time {x = x} dates noted {clock = clock} {moved = moved} from m t k n ps a d = Performs_part d (λ past h. h.clock)
+    (λ past h z. stands-dated s _ time x past dates noted clock moved from m t k n ps a h z)
 
 -- a date that is passed on is no correction, so that its end leaves the table alone
 request-no-correction : (k : Kind) → is_set_date_request k ≡ true → is_correction k ≡ false
@@ -159,14 +151,11 @@ Performs_ends : (s : DateState) (p : PeerId) (number : ℕ) {x : ℕ} {port : Po
     Performs StationStands StationStands (puts (Acked p)) x port before after old new → Performs DateStands DateStands (puts (Acked p)) x port (record s { station = before }) (record s { station = after }) old new
 Performs_ends s p number {x = x} {before = before} {after = after} test d =
     let emits : Emits (Acking ∷ []) (puts (Acked p)) = Emits_puts (Acked p) refl in
-    record {
-      acts = λ past h. d.acts past h.station;
-      stands = λ past h. stands-with (record s { station = after })
-          (DatesStand_by (puts (Acked p)) (Emits_more acking refl emits) x past s.dates h.dates)
-          (unputs p x past s.master (MasterStands_dated p number x past s.master (test past h.station) h.master))
-          (d.stands past h.station)
-          (also-kept (record s { station = before }) (puts (Acked p)) (Emits_more acking refl emits) x past h);
-    }
+    Performs_part d (λ past h. h.station) (λ past h z. stands-with (record s { station = after })
+    (DatesStand_by (puts (Acked p)) (Emits_more acking refl emits) x past s.dates h.dates)
+    (unputs p x past s.master (MasterStands_dated p number x past s.master (test past h.station) h.master))
+    z
+    (also-kept (record s { station = before }) (puts (Acked p)) (Emits_more acking refl emits) x past h))
 
 -- an answer ends the date that it names, or nothing
 pub Performs_ended : (s : DateState) (p : PeerId) (number : ℕ) {x : ℕ} {port : Port} {before after : Station} (ended : Bool) (Ends : Type 0) {old new : List Placed} → ((past : Past) → StationStands past before → has_date p number x past ≡ ended) →
@@ -196,14 +185,11 @@ pub Performs_leaves : (s : DateState) {x : ℕ} {port : Port} {before after : Ma
     Performs DateStands DateStands leaves_all x port (record s { master = before }) (record s { master = after }) old new
 Performs_leaves s {x = x} {before = before} {after = after} d =
     let emits : Emits (Tabling ∷ []) leaves_all = leaves-emit in
-    record {
-      acts = λ past h. d.acts past h.master;
-      stands = λ past h. stands-with (record s { master = after })
-          (DatesStand_by leaves_all (Emits_more tabling refl emits) x past s.dates h.dates)
-          (d.stands past h.master)
-          (leaves-keep x past s.station h.station)
-          (also-kept (record s { master = before }) leaves_all (Emits_more tabling refl emits) x past h);
-    }
+    Performs_part d (λ past h. h.master) (λ past h z. stands-with (record s { master = after })
+    (DatesStand_by leaves_all (Emits_more tabling refl emits) x past s.dates h.dates)
+    z
+    (leaves-keep x past s.station h.station)
+    (also-kept (record s { master = before }) leaves_all (Emits_more tabling refl emits) x past h))
 
 -- one slave leaves
 pub Performs_leave : (p : PeerId) {x : ℕ} {port : Port} {before after : Master} {old new : List Placed} → ((y : ℕ) (past : Past) → MasterStands past before → MasterStands (grown y past (Leave p ∷ [])) after) → new ≡ old ++ record { port = port; act = Leave p } ∷ [] →

@@ -4,12 +4,11 @@ use Rattle.std.proofs.lemmas.{Bool.Decides.nat_tests, Int.ints, Int.fold-int_min
 use Rattle.std.proofs.lemmas.List.Elements.{All-head, All-tail, All-contains, All-filter, All-weaker, All-contains_itself, filter_passes, Contains-get_or, Contains-append_right}
 use Rattle.std.{proofs.lemmas.List.Sums.sum_by-cons, proofs.lemmas.List.Sums.length-filter, specs.Int.int_min}
 use Rattle.std.specs.List.{All, Contains, fold, filter, count_by}
-use Rattle.tsp_group.specs.{Values.IsNear, declared.group.Group.Group}
-use Rattle.tsp_group.specs.Groups.{is_member, members, total, group_from, goes_before, IsLargest, HasMean, mean_of, IsWithin, Agree, FollowsMajority}
-use Rattle.tsp_group.proofs.{LargestGroup.group_from-count, Means.le-floor_div, Means.floor_div-le}
-use Rattle.tsp_group.proofs.Members.{is_member-inside, is_member-low, is_member-high}
-use Rattle.tsp_group.proofs.Permutations.{Passing, passing_from_filter}
-use Rattle.tsp_group.proofs.Sums.{le-total, total-le, near_total-low, near_total-high}
+use Rattle.tsp_group.specs.Groups.{is_member, members, total, group_from, goes_before, IsLargest, HasMean, mean_of, IsWithin, Agree}
+use Rattle.tsp_group.proofs.{Sums.le-total, Sums.total-le, Sums.near_total-low, Sums.near_total-high, LargestGroup.group_from-count}
+use Rattle.tsp_group.{proofs.Members.is_member-inside, proofs.Members.is_member-low, proofs.Members.is_member-high, specs.Values.IsNear}
+use Rattle.tsp_group.proofs.{Permutations.Passing, Permutations.passing_from_filter, Means.le-floor_div, Means.floor_div-le}
+use Rattle.tsp_group.specs.{declared.group.Group.Group, Groups.FollowsMajority}
 
 members_low : (span : ℕ) (xs : List ℤ) (lo : ℤ) → All (λ x. lo ≤ℤ x) (members span xs lo)
 members_low span xs lo = All-weaker (λ x. is_member span lo x ≡ true) (λ x. lo ≤ℤ x) (is_member-low span lo) (members span xs lo) (filter_passes (is_member span lo) xs)

@@ -4,7 +4,7 @@ use Rattle.std.specs.Int.{w16, w32, from_be_bytes, to_be_bytes}
 use Rattle.std.proofs.lemmas.Nat.{from_be_bytes-to_be_bytes_2, from_be_bytes-to_be_bytes_4, be_bytes_2, be_bytes_4}
 use Rattle.tsp_icmp.specs.{Checksums.checksum, declared.timestamp.IcmpFault.IcmpFault, declared.timestamp.Timestamp.Timestamp}
 use Rattle.tsp_icmp.specs.Spelling.{type_of, icmp_octets, IsTimestamp, without_checksum, octet, HasFault, IsIcmpFault}
-use Rattle.tsp_icmp.specs.declared.timestamp.IcmpFault.TheVariants.{Length, Kind, Code, Checksum}
+use Rattle.tsp_icmp.specs.declared.timestamp.IcmpFault.TheVariants.{Kind}
 
 -- the octets behind the checksum, each by its place
 abbrev body_of : List ℕ → List ℕ
@@ -92,13 +92,11 @@ icmp_octets-injective m n g h e =
 
 -- a message's octets have no fault
 pub icmp_octets-no_fault : (m : Timestamp) (f : IcmpFault) → IsIcmpFault (icmp_octets m) f → ⊥
-icmp_octets-no_fault m Length f = f.applies refl
 icmp_octets-no_fault m Kind f = no_kind m.reply f.applies where
   no_kind : (b : Bool) → HasFault (type_of b ∷ []) Kind → ⊥
   no_kind true a = a.1 refl
   no_kind false a = a.0 refl
-icmp_octets-no_fault m Code f = f.applies refl
-icmp_octets-no_fault m Checksum f = f.applies refl
+icmp_octets-no_fault m _ f = f.applies refl
 
 -- of two first faults none stands before the other
 pub IsIcmpFault-one : (o : List ℕ) (f g : IcmpFault) → IsIcmpFault o f → IsIcmpFault o g → f ≡ g

@@ -4,8 +4,7 @@ use Rattle.std.specs.Int.{w32, to_be_bytes, from_be_bytes}
 use Rattle.std.proofs.{Math.Seq.get_or-append_seam, Math.Seq.take-append_seam, lemmas.Bool.cases_eq, lemmas.Bool.ne_eqb}
 use Rattle.std.proofs.lemmas.List.{take-append-le, get_or_append_left, Elements.Contains-append_cases}
 use Rattle.std.proofs.lemmas.Option.{none-some, slice_get_within, get_or_from_slice_get, slice_get-get_or}
-use Rattle.tsp_io.specs.Directories.{AreNumbers, FitsKey, IsFirst, key_of}
-use Rattle.tsp_io.specs.declared.addr.Addr.{Addr}
+use Rattle.tsp_io.specs.{Directories.AreNumbers, Directories.FitsKey, Directories.IsFirst, Directories.key_of, declared.addr.Addr.Addr}
 
 abbrev of_parts : List ℕ → ℕ → Addr
 of_parts ip port = record { ip = ip; port = port }

@@ -1,17 +1,16 @@
 -- What a close reads, and what it does to each measured peer.
 use Rattle.std.proofs.Common.{◌≡◌, ℕ, ◌+◌, ◌<◌, ◌≤◌, ◌&&◌, nat_le, Bool, true, false, if◌then◌else◌, List, [], ◌∷◌, ◌++◌, length, map, get_or, Option, Some, None, ℤ, pos, refl, ◌∙◌, ap, subst, arith}
 use Rattle.std.{proofs.lemmas.Bool.le-leb, proofs.lemmas.List.get_or_default, proofs.lemmas.List.map-append, specs.Option.option_map}
-use Rattle.tsp_rules.specs.Values.{Correct, Leave, Placed, PeerId, Port}
+use Rattle.tsp_rules.{specs.Values.Correct, specs.Values.Leave, specs.Values.Placed, specs.Values.PeerId, specs.Values.Port, proofs.Parts.Performs_part}
 use Rattle.tsp_base.specs.Words.{Performs, armed, Past, either_by, for_each, grown, nothing, puts, ◌followed_by◌, Estimate, Sampled, best, estimate_of, is_going, IsAscending}
 use Rattle.tsp_group.specs.declared.group.Group.{Group}
 use Rattle.tsp_rules.specs.{ClockRows.adjusts, ClockRows.can_adjust, ClockRows.is_step, Guards.is_over}
 use Rattle.tsp_acks.{proofs.StandsLemmas.Stands_idle, specs.declared.station.Station.Station}
 use Rattle.tsp_clock.specs.{ClockStands.ClockStands, Clocks.ClockValue}
 use Rattle.tsp_rules.specs.RoundRows.{Standing, abandons, closes_with, corrects, corrects_peer, diff_before, mean_by, moves, estimates, is_near, near_diffs, round_at, standing}
-use Rattle.tsp_measure.specs.declared.sample.TimedSample.{TimedSample}
-use Rattle.tsp_base.proofs.AscendingLemmas.{Rise-peers}
+use Rattle.tsp_measure.specs.{Slaves.Changes, Slaves.entry_of, Slaves.leaves, Slaves.peers_of, declared.sample.TimedSample.TimedSample}
 use Rattle.tsp_measure.specs.{Rounds.RoundsValue, Rounds.estimate_in, Rounds.timed_of, declared.entry.Entry.Entry}
-use Rattle.tsp_measure.specs.Slaves.{Changes, entry_of, leaves, peers_of}
+use Rattle.tsp_base.proofs.AscendingLemmas.{Rise-peers}
 use Rattle.tsp_master.specs.Closing.{estimate_with, measured_of, round_of, standing_with, standings_of}
 use Rattle.tsp_master.specs.{MasterStands.LeadStands, MasterStands.MasterStands, declared.master.Master.Master}
 use Rattle.tsp_master.proofs.{AskLemmas.filter-more, AskLemmas.filter-past, AskLemmas.measured-is, MasterLemmas.MasterStands_aside}
@@ -99,15 +98,12 @@ each_same {P = P} {Q = Q} {x = x} {port = port} {before = before} {after = after
 pub Performs_moves : (amount : ℤ) {x : ℕ} {port : Port} (m : Master) (st : Station) {clock moved : ClockValue} {old new : List Placed} → Performs ClockStands ClockStands (adjusts amount) x port clock moved old new →
     Performs LeadStands LeadStands (adjusts amount) x port (record { master = m; station = st; clock = clock }) (record { master = m; station = st; clock = moved }) old new
 unfolding adjusts puts
-Performs_moves amount {x = x} m st d = record {
-  acts = λ past h. d.acts past h.clock;
-  stands = λ past h. record {
-    master = MasterStands_aside (Correct amount (is_step amount) _) x past m m refl refl refl h.master.entries h.master.empty h.master;
-    station = Stands_idle (Correct amount (is_step amount) _) refl x past st h.station;
-    acted = h.acted;
-    clock = d.stands past h.clock;
-  };
-}
+Performs_moves amount {x = x} m st d = Performs_part d (λ past h. h.clock) (λ past h s. record {
+  master = MasterStands_aside (Correct amount (is_step amount) _) x past m m refl refl refl h.master.entries h.master.empty h.master;
+  station = Stands_idle (Correct amount (is_step amount) _) refl x past st h.station;
+  acted = h.acted;
+  clock = s;
+})
 
 -- where Close is due and Probe isn't, no probe is to come
 pub no_probe : (x : ℕ) (past : Past) (m : Master) → is_over (armed past.seen).probe x ≡ false → is_over (armed past.seen).close x ≡ true → MasterStands past m → (armed past.seen).probe ≡ None

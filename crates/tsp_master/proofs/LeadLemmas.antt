@@ -5,7 +5,7 @@ use Rattle.tsp_rules.specs.Values.{Act, Boot, Correct, Placed, Alarm, Port}
 use Rattle.tsp_base.specs.Words.{deadline, Past, Performs, Keeps, acting, Row, grown, puts}
 use Rattle.tsp_base.proofs.SendLemmas.{seen_act}
 use Rattle.tsp_rules.proofs.Emits.{is_in, sort_of, Emits, Emits_more, Keeps_by}
-use Rattle.tsp_rules.{proofs.EmitsStill.still_sorts, specs.Guards.is_in_time, specs.Guards.is_met}
+use Rattle.tsp_rules.{proofs.EmitsStill.still_sorts, specs.Guards.is_in_time, specs.Guards.is_met, proofs.Parts.Performs_part}
 use Rattle.tsp_acks.specs.{Stands.StationStands, Stands.StandsActing, declared.station.Station.Station}
 use Rattle.tsp_acks.proofs.{ActingLemmas.Performs_acting, StandsLemmas.Stands_idle, StandsLemmas.is_idle}
 use Rattle.tsp_clock.specs.{ClockStands.ClockStands, Clocks.ClockValue}
@@ -38,12 +38,14 @@ pub Performs_lead_by : {P Q : Past → LeadState → Type 0} {row : Row} {x : �
     ((past : Past) → P past (record { master = old; station = before; clock = clock }) → MasterStands (grown x past (row x past)) new) →
     ((past : Past) → P past (record { master = old; station = before; clock = clock }) → LeadStands (grown x past (row x past)) (record { master = new; station = after; clock = clock }) → Q (grown x past (row x past)) (record { master = new; station = after; clock = clock })) →
     Performs StandsActing StandsActing row x port before after earlier later → Performs P Q row x port (record { master = old; station = before; clock = clock }) (record { master = new; station = after; clock = clock }) earlier later
-Performs_lead_by {row = row} {x = x} old new clock e from k to d = record {
-  acts = λ past h. d.acts past (acting_station (from past h));
-  stands = λ past h.
-      let stands = d.stands past (acting_station (from past h)) in
-      to past h (record { master = k past h; station = stands.stands; acted = stands.acted; clock = Keeps_by still_sorts ClockStands row ClockStands_still e x past clock (from past h).clock });
-}
+Performs_lead_by {row = row} {x = x} old new clock e from k to d = Performs_part d (λ past h. acting_station (from past h))
+    (λ past h stands. to past h (record {
+      master = k past h;
+      station = stands.stands;
+      acted = stands.acted;
+      clock = Keeps_by still_sorts ClockStands row
+          ClockStands_still e x past clock (from past h).clock;
+    }))
 
 -- the same, where no more stands
 pub Performs_lead : {row : Row} {x : ℕ} {port : Port} {before after : Station} (old new : Master) (clock : ClockValue) {earlier later : List Placed} → Emits still_sorts row →
@@ -65,10 +67,8 @@ pub Performs_rung : {Q : Past → LeadState → Type 0} (a : Act) {x : ℕ} {por
     ((past : Past) → RingStands past (record { master = old; station = before; clock = clock }) → LeadStands (grown x past (a ∷ [])) (record { master = new; station = after; clock = clock }) → Q (grown x past (a ∷ [])) (record { master = new; station = after; clock = clock })) →
     Performs StationStands StationStands (puts a) x port before after earlier later → Performs RingStands Q (puts a) x port (record { master = old; station = before; clock = clock }) (record { master = new; station = after; clock = clock }) earlier later
 unfolding puts
-Performs_rung a {x = x} old new clock e acts k to d = record {
-  acts = λ past h. d.acts past h.station;
-  stands = λ past h. to past h (record { master = k past h; station = d.stands past h.station; acted = acts past; clock = ClockStands_still a e x past clock h.clock });
-}
+Performs_rung a {x = x} old new clock e acts k to d = Performs_part d (λ past h. h.station)
+    (λ past h s. to past h (record { master = k past h; station = s; acted = acts past; clock = ClockStands_still a e x past clock h.clock }))
 
 -- what stands in a step that has acted stands
 pub rings_stand : (past : Past) (lead : LeadState) → LeadStands past lead → RingStands past lead

@@ -1,7 +1,7 @@
 -- How a round begins and goes on.
 use Rattle.std.proofs.Common.{◌≡◌, ℕ, ◌+◌, ◌*◌, ◌<◌, ◌≤◌, nat_lt, true, false, [], ◌∷◌, Option, Some, None, refl, sym, ◌∙◌, ap, arith}
 use Rattle.std.proofs.lemmas.Bool.{false≢true, leb-true, Decides.nat_tests}
-use Rattle.tsp_rules.specs.Values.{Act, Post, Become, Arm, Ring, Late, Probe, CloseAlarm, Follow, Master, CLOSE, PROBE}
+use Rattle.tsp_rules.specs.Values.{Act, Datagram, Place, Post, Become, Arm, Ring, Late, Probe, CloseAlarm, Follow, Master, CLOSE, PROBE}
 use Rattle.tsp_base.specs.Words.{Past, Keeps, armed, is_going, is_starting, probes, arms, grown, puts, ◌followed_by◌}
 use Rattle.tsp_rules.{proofs.Emits.Posting, proofs.Emits.is_in, proofs.Emits.sort_of, specs.Guards.is_met, specs.Guards.is_over}
 use Rattle.tsp_measure.specs.{Measures.Measured, Measures.best_of, Rounds.IsNothing, Rounds.pending_at}
@@ -69,36 +69,28 @@ Goes past state = is_going past.seen ≡ true
 abbrev Begins : Past → Unit {0} → Type 0
 Begins past state = is_starting past.seen ≡ true
 
+-- what posts keep is kept by each act that may only be one
+kept_posting : {P : Past → Unit {0} → Type 0} → ((to : Place) (d : Datagram) → Keeps P (puts (Post to d))) →
+    (a : Act) → is_in (sort_of a) (Posting ∷ []) ≡ true → Keeps P (puts a)
+kept_posting post (Post to d) e = post to d
+kept_posting post (Become Master) e = absurd (false≢true e)
+kept_posting post (Become (Follow p)) e = absurd (false≢true e)
+kept_posting post (Become _) e = absurd (false≢true e)
+kept_posting post (Arm Probe at) e = absurd (false≢true e)
+kept_posting post (Arm CloseAlarm at) e = absurd (false≢true e)
+kept_posting post (Arm _ at) e = absurd (false≢true e)
+kept_posting post (Ring Probe) e = absurd (false≢true e)
+kept_posting post (Ring CloseAlarm) e = absurd (false≢true e)
+kept_posting post (Ring _) e = absurd (false≢true e)
+kept_posting post (Late Probe) e = absurd (false≢true e)
+kept_posting post (Late CloseAlarm) e = absurd (false≢true e)
+kept_posting post (Late _) e = absurd (false≢true e)
+kept_posting post _ e = absurd (false≢true e)
+
 pub goes_posting : (a : Act) → is_in (sort_of a) (Posting ∷ []) ≡ true → Keeps Goes (puts a)
 unfolding puts
-goes_posting (Post to d) e x past s h = h
-goes_posting (Become Master) e x past s h = absurd (false≢true e)
-goes_posting (Become (Follow p)) e x past s h = absurd (false≢true e)
-goes_posting (Become _) e x past s h = absurd (false≢true e)
-goes_posting (Arm Probe at) e x past s h = absurd (false≢true e)
-goes_posting (Arm CloseAlarm at) e x past s h = absurd (false≢true e)
-goes_posting (Arm _ at) e x past s h = absurd (false≢true e)
-goes_posting (Ring Probe) e x past s h = absurd (false≢true e)
-goes_posting (Ring CloseAlarm) e x past s h = absurd (false≢true e)
-goes_posting (Ring _) e x past s h = absurd (false≢true e)
-goes_posting (Late Probe) e x past s h = absurd (false≢true e)
-goes_posting (Late CloseAlarm) e x past s h = absurd (false≢true e)
-goes_posting (Late _) e x past s h = absurd (false≢true e)
-goes_posting _ e x past s h = absurd (false≢true e)
+goes_posting = kept_posting (λ to d x past s h. h)
 
 pub begins_posting : (a : Act) → is_in (sort_of a) (Posting ∷ []) ≡ true → Keeps Begins (puts a)
 unfolding puts
-begins_posting (Post to d) e x past s h = h
-begins_posting (Become Master) e x past s h = absurd (false≢true e)
-begins_posting (Become (Follow p)) e x past s h = absurd (false≢true e)
-begins_posting (Become _) e x past s h = absurd (false≢true e)
-begins_posting (Arm Probe at) e x past s h = absurd (false≢true e)
-begins_posting (Arm CloseAlarm at) e x past s h = absurd (false≢true e)
-begins_posting (Arm _ at) e x past s h = absurd (false≢true e)
-begins_posting (Ring Probe) e x past s h = absurd (false≢true e)
-begins_posting (Ring CloseAlarm) e x past s h = absurd (false≢true e)
-begins_posting (Ring _) e x past s h = absurd (false≢true e)
-begins_posting (Late Probe) e x past s h = absurd (false≢true e)
-begins_posting (Late CloseAlarm) e x past s h = absurd (false≢true e)
-begins_posting (Late _) e x past s h = absurd (false≢true e)
-begins_posting _ e x past s h = absurd (false≢true e)
+begins_posting = kept_posting (λ to d x past s h. h)

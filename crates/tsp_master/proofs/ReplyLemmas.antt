@@ -1,11 +1,10 @@
 -- What a reply is for a master: an answer to an open exchange, or none.
 use Rattle.std.proofs.Common.{◌≡◌, ℕ, ◌==◌, ◌&&◌, Bool, true, false, if◌then◌else◌, List, [], ◌∷◌, ◌++◌, Some, None, ℤ, eqb-true, eq-eqb, refl, sym, ◌∙◌, ap}
 use Rattle.std.{proofs.lemmas.Bool.and_parts, proofs.lemmas.List.Elements.All-head, proofs.lemmas.List.Elements.All-tail, specs.List.All}
-use Rattle.tsp_rules.specs.Values.{Sample, Placed, PeerId, Port}
+use Rattle.tsp_rules.specs.{RoundRows.request_at, RoundRows.sample_of, RoundRows.samples, RoundRows.samples_request, Guards.target_at}
+use Rattle.tsp_rules.{specs.Values.Sample, specs.Values.Placed, specs.Values.PeerId, specs.Values.Port, proofs.Emits.Emits_puts}
 use Rattle.tsp_base.specs.Words.{Past, Performs, is_going, nothing, puts, reading, ReplyValue}
 use Rattle.tsp_base.proofs.PerformsLemmas.{Performs_nothing, Performs_reading, Performs_to}
-use Rattle.tsp_rules.specs.RoundRows.{request_at, sample_of, samples, samples_request}
-use Rattle.tsp_rules.{proofs.Emits.Emits_puts, specs.Guards.target_at}
 use Rattle.tsp_acks.specs.declared.station.Station.{Station}
 use Rattle.tsp_clock.specs.Clocks.{ClockValue, target_of}
 use Rattle.tsp_measure.specs.{Measures.IsAnswered, Measures.asks, declared.exchange.Exchange.Exchange}

@@ -1,8 +1,7 @@
 -- Alarms that aren't a master's.
 use Rattle.std.proofs.Common.{◌≡◌, ◌≢◌, ℕ, Bool, false, refl}
-use Rattle.tsp_rules.specs.Values.{Alarm, Round, Probe, CloseAlarm}
+use Rattle.tsp_rules.specs.{Values.Alarm, Values.Round, Values.Probe, Values.CloseAlarm, RoundRows.corrects}
 use Rattle.tsp_base.specs.Words.{Past, nothing}
-use Rattle.tsp_rules.specs.RoundRows.{corrects}
 use Rattle.tsp_master.specs.MasterAlarms.{master_rings}
 
 pub master_rings-other : (own : Bool) (a : Alarm) → a ≢ Probe → a ≢ CloseAlarm → a ≢ Round → master_rings own a ≡ nothing

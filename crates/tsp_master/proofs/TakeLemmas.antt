@@ -6,8 +6,7 @@ use Rattle.tsp_rules.specs.MasterRows.{may_join, sends_away}
 use Rattle.tsp_rules.specs.SendRows.{acknowledges, has_other, has_quit, is_kind_quit, is_quit}
 use Rattle.tsp_sends.specs.Slots.{kind_of, sending_to}
 use Rattle.tsp_acks.specs.{Openings.is_of, Stands.StationStands, declared.station.Station.Station}
-use Rattle.tsp_measure.specs.declared.entry.Entry.{Entry}
-use Rattle.tsp_measure.specs.Slaves.{entry_of, peers_of, Changes, acks_where, joins}
+use Rattle.tsp_measure.specs.{Slaves.entry_of, Slaves.peers_of, Slaves.Changes, Slaves.acks_where, Slaves.joins, declared.entry.Entry.Entry}
 use Rattle.tsp_master.specs.{MasterStands.MasterStands, MasterTakes.master_takes_kind_here, declared.master.Master.Master as MasterStruct}
 use Rattle.tsp_master.proofs.MasterLemmas.{MasterStands_aside}
 use Rattle.tsp_rules.proofs.{BuiltRoles.built_sends_away, Emits.Emits, EmitsBuilt.emits_built}

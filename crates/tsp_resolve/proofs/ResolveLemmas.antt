@@ -6,7 +6,7 @@ use Rattle.tsp_base.specs.Words.{deadline, Step, Acts, Seen, Here, Past, is_amon
 use Rattle.tsp_base.proofs.PerformsLemmas.{Performs_else_part, Performs_nothing, Performs_then_part, Performs_to}
 use Rattle.tsp_rules.specs.{Guards.rivals_at, ResolveRows.finds_rival, ResolveRows.is_new_rival}
 use Rattle.tsp_rules.proofs.Emits.{Sort, Taking, Asking, Correcting, Numbering, Passing, Posting, Leading, Following, Changing, Backing, Counting, Rounding, Alarming, Tabling, Acking, Giving, Sampling, Closing, Moving, Tracing, AllOf, Emits, Keeps_by, is_in, sort_of}
-use Rattle.tsp_rules.proofs.EmitsTables.{changes, is_change}
+use Rattle.tsp_rules.proofs.{EmitsTables.changes, EmitsTables.is_change, Parts.Performs_part}
 use Rattle.tsp_acks.specs.{Stands.StationStands, Stands.StandsActing, declared.station.Station.Station}
 use Rattle.tsp_acks.proofs.StandsLemmas.{Stands_idle}
 use Rattle.tsp_resolve.specs.{Marked.marked, ResolveStands.ResolveStands, ResolveStands.ResolvingActs, ResolveStands.ResolvingStands}
@@ -101,31 +101,21 @@ ResolveStands_same x past acts r e c h =
 -- a call on the station that leaves the marks right
 pub Performs_resolving : {row : Row} {x : ℕ} {port : Port} {before after : Station} (r : Resolve) {old new : List Placed} → Emits unchanging row → Performs StationStands StationStands row x port before after old new →
     Performs ResolvingStands ResolvingStands row x port (record { resolve = r; station = before }) (record { resolve = r; station = after }) old new
-Performs_resolving {row = row} {x = x} r e d = record {
-  acts = λ past h. d.acts past h.station;
-  stands = λ past h. record { resolve = ResolveStands_by row e x past r h.resolve; station = d.stands past h.station };
-}
+Performs_resolving {row = row} {x = x} r e d = Performs_part d (λ past h. h.station)
+    (λ past h s. record { resolve = ResolveStands_by row e x past r h.resolve; station = s })
 
 -- the same in a step that has acted
 pub Performs_resolving_acting : {row : Row} {x : ℕ} {port : Port} {before after : Station} (r : Resolve) {old new : List Placed} → Emits unchanging row → Performs StandsActing StandsActing row x port before after old new →
     Performs ResolvingActs ResolvingActs row x port (record { resolve = r; station = before }) (record { resolve = r; station = after }) old new
-Performs_resolving_acting {row = row} {x = x} {before = before} r e d = record {
-  acts = λ past h. d.acts past (acting_at past h);
-  stands = λ past h.
-      let stands = d.stands past (acting_at past h) in
-      record { resolve = ResolveStands_by row e x past r h.resolve; station = stands.stands; acted = stands.acted };
-} where
-  acting_at : (past : Past) → ResolvingActs past (record { resolve = r; station = before }) → StandsActing past before
-  acting_at past h = record { stands = h.station; acted = h.acted }
+Performs_resolving_acting {row = row} {x = x} {before = before} r e d = Performs_part d (λ past h. record { stands = h.station; acted = h.acted })
+    (λ past h stands. record { resolve = ResolveStands_by row e x past r h.resolve; station = stands.stands; acted = stands.acted })
 
 -- an alarm rings, and the step has acted
 pub Performs_rung : (alarm : Alarm) {x : ℕ} {port : Port} {before after : Station} (r : Resolve) {old new : List Placed} → Emits unchanging (puts (Ring alarm)) → Performs StationStands StationStands (puts (Ring alarm)) x port before after old new →
     Performs ResolvingStands ResolvingActs (puts (Ring alarm)) x port (record { resolve = r; station = before }) (record { resolve = r; station = after }) old new
 unfolding puts
-Performs_rung alarm {x = x} r e d = record {
-  acts = λ past h. d.acts past h.station;
-  stands = λ past h. record { resolve = ResolveStands_by (puts (Ring alarm)) e x past r h.resolve; station = d.stands past h.station; acted = refl };
-}
+Performs_rung alarm {x = x} r e d = Performs_part d (λ past h. h.station)
+    (λ past h s. record { resolve = ResolveStands_by (puts (Ring alarm)) e x past r h.resolve; station = s; acted = refl })
 
 -- the rivals, as they are marked
 pub rivals-marked : (x : ℕ) (past : Past) (r : Resolve) (peers : List PeerId) → IsPeers peers → peers ≡ past.peers → ResolveStands past r → rivals_at x past ≡ marked peers r.marks

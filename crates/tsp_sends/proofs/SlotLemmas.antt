@@ -1,5 +1,6 @@
 -- Lemmas on the slots of a port's peers.
-use Rattle.std.proofs.Common.{◌≡◌, ◌≢◌, ℕ, zero, suc, ◌-◌, ◌<◌, ◌==◌, Bool, true, false, if◌then◌else◌, List, [], ◌∷◌, length, None, Some, get_or, set, eqb-true, eq-eqb, refl, sym, ◌∙◌, ap, arith}
+use Rattle.std.proofs.Common.{◌≡◌, ◌≢◌, ℕ, zero, suc, ◌<◌, ◌==◌, Bool, true, false, if◌then◌else◌, List, [], ◌∷◌, length, None, Some, get_or, set, eqb-true}
+use Rattle.std.proofs.Common.{eq-eqb, refl, sym, ◌∙◌, ap, arith}
 use Rattle.std.proofs.lemmas.Bool.{ne_eqb}
 use Rattle.tsp_base.specs.{Words.Sending, Words.IsAscending, declared.place.PeerId.PeerId}
 use Rattle.tsp_base.proofs.AscendingLemmas.{Rise, Rise-of, Rise-rest}

@@ -6,6 +6,7 @@ use Rattle.tsp_rules.proofs.Emits.{Sort, Asking, Correcting, Numbering, Passing,
 use Rattle.tsp_acks.specs.{Stands.StationStands, declared.station.Station.Station}
 use Rattle.tsp_clock.specs.{ClockStands.ClockStands, Clocks.ClockValue}
 use Rattle.tsp_slave.specs.{Lasts.LastValue, Lasts.Remembers, SlaveStands.AlsoStands, SlaveStands.SlaveStands, SlaveStands.Took as WasTaken}
+use Rattle.tsp_rules.proofs.Parts.{Performs_part}
 
 -- all sorts of acts but Boot, Took, to follow, and Correct
 abbrev pub beside_sorts : List Sort
@@ -46,9 +47,6 @@ AlsoStands_by row e x past state h = record {
 -- a call of the station that leaves alone what stands beside it
 pub Performs_station : {row : Row} {x : ℕ} {port : Port} {before after : Station} {last : LastValue} {clock : ClockValue} {took : Option Received} {old new : List Placed} → Keeps AlsoStands row → Performs StationStands StationStands row x port before after old new →
     Performs SlaveStands SlaveStands row x port (record { station = before; last = last; clock = clock; took = took }) (record { station = after; last = last; clock = clock; took = took }) old new
-Performs_station {row = row} {x = x} {last = last} {clock = clock} {took = took} k d = record {
-  acts = λ past h. d.acts past h.station;
-  stands = λ past h.
-      let also = k x past (record { last = last; clock = clock; took = took }) (record { last = h.last; clock = h.clock; took = h.took }) in
-      record { station = d.stands past h.station; last = also.last; clock = also.clock; took = also.took };
-}
+Performs_station {row = row} {x = x} {last = last} {clock = clock} {took = took} k d = Performs_part d (λ past h. h.station)
+    (λ past h s. let also = k x past (record { last = last; clock = clock; took = took }) (record { last = h.last; clock = h.clock; took = h.took }) in
+    record { station = s; last = also.last; clock = also.clock; took = also.took })

@@ -20,25 +20,19 @@ pub returns-in-Election-clause-row : goal.returns-in-Election-clause-row
 unfolding candidate_takes candidate_takes_kind
 returns-in-Election-clause-row g c took e =
     let k : c.args.m.now.kind ≡ Election = sym c.kind.ensures ∙ c.in-Election.is in
-    let n : c.number-number.result ≡ c.args.m.now.number = c.number-number.ensures in
-    let d = c.post.ensures.row c.args.tick in
-    rw k (Performs_station (AlsoStands_posts c.args.from Refuse c.args.m.now.number refl) (rw n at d))
+    rw k (Performs_station (AlsoStands_posts c.args.from Refuse c.args.m.now.number refl) (rw c.number-number.ensures at (c.post.ensures.row c.args.tick)))
 
 pub returns-in-Accept-clause-row : goal.returns-in-Accept-clause-row
 unfolding candidate_takes candidate_takes_kind
 returns-in-Accept-clause-row g c took e =
     let k : c.args.m.now.kind ≡ Accept = sym c.kind.ensures ∙ c.in-Accept.is in
-    let n : c.number-number.result ≡ c.args.m.now.number = c.number-number.ensures in
-    let d = c.take_accept.ensures.row c.args.tick in
-    rw k (Performs_station (AlsoStands_accepted_by c.args.from c.args.m.now.number) (rw n at d))
+    rw k (Performs_station (AlsoStands_accepted_by c.args.from c.args.m.now.number) (rw c.number-number.ensures at (c.take_accept.ensures.row c.args.tick)))
 
 pub returns-in-Refuse-clause-row : goal.returns-in-Refuse-clause-row
 unfolding candidate_takes candidate_takes_kind
 returns-in-Refuse-clause-row g c took e =
     let k : c.args.m.now.kind ≡ Refuse = sym c.kind.ensures ∙ c.in-Refuse.is in
-    let n : c.number-number.result ≡ c.args.m.now.number = c.number-number.ensures in
-    let d = c.take_refuse.ensures.row in
-    rw k (Performs_station (AlsoStands_refused_by c.args.from c.args.m.now.number) (rw n at d))
+    rw k (Performs_station (AlsoStands_refused_by c.args.from c.args.m.now.number) (rw c.number-number.ensures at c.take_refuse.ensures.row))
 
 pub returns-in-Quit-clause-row : goal.returns-in-Quit-clause-row
 unfolding candidate_takes candidate_takes_kind
@@ -50,9 +44,7 @@ pub returns-in-Ack-clause-row : goal.returns-in-Ack-clause-row
 unfolding candidate_takes candidate_takes_kind
 returns-in-Ack-clause-row g c took e =
     let k : c.args.m.now.kind ≡ Ack = sym c.kind.ensures ∙ c.in-Ack.is in
-    let n : c.number-number.result ≡ c.args.m.now.number = c.number-number.ensures in
-    let d = c.acknowledge.ensures.row c.args.tick in
-    rw k (Performs_station (AlsoStands_acknowledges c.args.from c.args.m.now.number) (rw n at d))
+    rw k (Performs_station (AlsoStands_acknowledges c.args.from c.args.m.now.number) (rw c.number-number.ensures at (c.acknowledge.ensures.row c.args.tick)))
 
 pub returns-in_default-clause-row : goal.returns-in_default-clause-row
 unfolding candidate_takes

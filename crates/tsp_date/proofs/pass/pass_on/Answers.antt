@@ -12,14 +12,12 @@ pub returns-then-may_pass_on-clause-row : goal.returns-then-may_pass_on-clause-r
 unfolding passes_on
 returns-then-may_pass_on-clause-row g c s r t =
     let m = c.args.m.now in
-    let number : c.number.result ≡ m.number = c.number.ensures in
-    let time : c.time_of.result ≡ time_in m.body = c.time_of.ensures in
-    let answer = c.post_back.ensures.row c.args.at.tick in
     let begins = c.begin_timed.ensures.row in
     Performs_then_part (may_pass_on c.args.master) nothing (λ past h. c.may_pass_on.ensures past h.station h.dates ∙ c.if-may_pass_on.true)
     (Performs_then
-    (Performs_posting (record s { dates = c.args.dates.now }) (Emits_posts_back c.args.from Ack m.number refl) (rw number at answer))
-    (Performs_asks s c.args.master (time_in m.body) c.args.dates.now _ r t c.ask.ensures (rw time at begins)))
+    (Performs_posting (record s { dates = c.args.dates.now }) (Emits_posts_back c.args.from Ack m.number refl)
+    (rw c.number.ensures at (c.post_back.ensures.row c.args.at.tick)))
+    (Performs_asks s c.args.master (time_in m.body) c.args.dates.now _ r t c.ask.ensures (rw c.time_of.ensures at begins)))
 
 pub returns-else-may_pass_on-clause-row : goal.returns-else-may_pass_on-clause-row
 unfolding passes_on

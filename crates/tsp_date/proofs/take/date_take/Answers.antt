@@ -84,11 +84,11 @@ pub returns-in-AnswerAgain : goal.returns-in-AnswerAgain
 returns-in-AnswerAgain g c =
     let m = c.args.m.now in
     let p = c.in-AnswerAgain.p in
-    let n : c.number.result ≡ m.number = c.number.ensures in
-    let answer = c.post.ensures.row c.args.tick in
     record {
       row = λ last took e t. Performs_task (AnswerAgain p) c.args.charge c.args.from m c.in-AnswerAgain.ensures.row
-          (Performs_posting (record { dates = c.args.dates.now; master = c.args.master.now; station = c.args.station.now; last = last; clock = c.args.clock.now; took = took }) (Emits_posts p DateAck m.number refl) (rw n at answer));
+          (Performs_posting
+          (record { dates = c.args.dates.now; master = c.args.master.now; station = c.args.station.now; last = last; clock = c.args.clock.now; took = took })
+          (Emits_posts p DateAck m.number refl) (rw c.number.ensures at (c.post.ensures.row c.args.tick)));
       corrects = λ past last took e h. sym (ap corrects (c.in-AnswerAgain.ensures.row past h.station h.dates) ∙ corrects-posts p DateAck m.number c.args.tick past);
       room = record { spare = omega (arith, c.post.ensures.room.spare); few = omega (arith, c.post.ensures.room.count) };
       port = record { me = refl; peers = refl };
@@ -102,8 +102,7 @@ pub returns-then-not-may_date : goal.returns-then-not-may_date
 unfolding sets_date_where
 returns-then-not-may_date g c =
     let m = c.args.m.now in
-    let time : c.time_of.result ≡ time_in m.body = c.time_of.ensures in
-    let test = rw time at c.may_date.ensures.test in
+    let test = rw c.time_of.ensures at c.may_date.ensures.test in
     record {
       row = λ last took e t. Performs_task Set c.args.charge c.args.from m c.in-Set.ensures.row
           (Performs_else_part (may_date (time_in m.body)) (new_date c.args.from m.number (time_in m.body)) (λ past h. test past h.master (sym h.last.tick_is ∙ e) ∙ c.if-not-may_date.true) Performs_nothing);
@@ -120,10 +119,8 @@ pub returns-else-not-may_date : goal.returns-else-not-may_date
 unfolding sets_date_where new_date
 returns-else-not-may_date g c =
     let m = c.args.m.now in
-    let time : c.time_of.result ≡ time_in m.body = c.time_of.ensures in
-    let test = rw time at c.may_date.ensures.test in
-    let n : c.number-in-Set.result ≡ m.number = c.number-in-Set.ensures in
-    let announces = rw n at (c.announce.ensures.row c.args.tick) in
+    let test = rw c.time_of.ensures at c.may_date.ensures.test in
+    let announces = rw c.number-in-Set.ensures at (c.announce.ensures.row c.args.tick) in
     record {
       row = λ last took e t. Performs_task Set c.args.charge c.args.from m c.in-Set.ensures.row
           (Performs_then_part (may_date (time_in m.body)) nothing (λ past h. test past h.master (sym h.last.tick_is ∙ e) ∙ c.if-not-may_date.false)

@@ -12,8 +12,7 @@ pub returns-in-Follow-clause-row : goal.returns-in-Follow-clause-row
 unfolding quits follows_unless
 returns-in-Follow-clause-row g c took e =
     let m = c.args.m.now in
-    let n : c.number.result ≡ m.number = c.number.ensures in
-    let post = rw n at c.post.ensures.row c.args.at.tick in
+    let post = rw c.number.ensures at c.post.ensures.row c.args.at.tick in
     Performs_then (Performs_station (AlsoStands_by (puts (Quit c.args.from)) (Emits_puts (Quit c.args.from) refl)) c.quit.ensures.row)
     (Performs_then (Performs_station (AlsoStands_posts c.args.from Ack m.number refl) post)
     (Performs_reading role_at (follows_unless c.args.from) _ (λ past h. sym h.station.role ∙ c.in-Follow.is) Performs_nothing))
@@ -22,8 +21,7 @@ pub returns-in_default-clause-row : goal.returns-in_default-clause-row
 unfolding quits
 returns-in_default-clause-row g c took e =
     let m = c.args.m.now in
-    let n : c.number.result ≡ m.number = c.number.ensures in
-    let post = rw n at c.post.ensures.row c.args.at.tick in
+    let post = rw c.number.ensures at c.post.ensures.row c.args.at.tick in
     Performs_then (Performs_station (AlsoStands_by (puts (Quit c.args.from)) (Emits_puts (Quit c.args.from) refl)) c.quit.ensures.row)
     (Performs_then (Performs_station (AlsoStands_posts c.args.from Ack m.number refl) post)
     (Performs_reading role_at (follows_unless c.args.from) _ (λ past h. sym h.station.role)

@@ -36,9 +36,7 @@ unfolding slave_takes slave_takes_kind
 returns-in-Election-clause-row g c took e =
     let m = c.args.m.now in
     let k : m.kind ≡ Election = sym c.kind.ensures ∙ c.in-Election.is in
-    let n : c.number-number.result ≡ m.number = c.number-number.ensures in
-    let d = c.vote.ensures.row in
-    rw k (Performs_station (AlsoStands_election_of c.args.from m.number) (rw n at d))
+    rw k (Performs_station (AlsoStands_election_of c.args.from m.number) (rw c.number-number.ensures at c.vote.ensures.row))
 
 pub returns-in-Quit-clause-row : goal.returns-in-Quit-clause-row
 unfolding slave_takes slave_takes_kind
@@ -52,9 +50,7 @@ unfolding slave_takes slave_takes_kind
 returns-in-Ack-clause-row g c took e =
     let m = c.args.m.now in
     let k : m.kind ≡ Ack = sym c.kind.ensures ∙ c.in-Ack.is in
-    let n : c.number-number.result ≡ m.number = c.number-number.ensures in
-    let d = c.acknowledge.ensures.row c.args.at.tick in
-    rw k (Performs_station (AlsoStands_acknowledges c.args.from m.number) (rw n at d))
+    rw k (Performs_station (AlsoStands_acknowledges c.args.from m.number) (rw c.number-number.ensures at (c.acknowledge.ensures.row c.args.at.tick)))
 
 pub returns-in_default-clause-row : goal.returns-in_default-clause-row
 unfolding slave_takes

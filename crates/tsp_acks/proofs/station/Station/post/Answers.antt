@@ -8,13 +8,11 @@ use Rattle.tsp_acks.proofs.station.Station.post.Goals as goal
 pub new-message-requires : goal.new-message-requires
 new-message-requires g c = is_plain_fits c.args.kind c.requires.plain
 
-pub returns-clause-acts : goal.returns-clause-acts
-returns-clause-acts g c =
-    c.put.ensures.acts ∙ ap (λ m. g.D.Desk.acts c.args.desk.now ++ record { port = c.args.port; act = Post (Peer c.args.p) (Message m) } ∷ []) (named c.args.kind c.args.number c.new-message.ensures c.copy.ensures)
-
-pub returns-clause-row : goal.returns-clause-row
-returns-clause-row g c x =
-    Performs_post c.args.p c.args.kind c.args.number x c.args.port c.args.self.now c.requires.plain (named c.args.kind c.args.number c.new-message.ensures c.copy.ensures) c.put.ensures.acts
-
-pub returns-clause-room : goal.returns-clause-room
-returns-clause-room g c = PutsExactly_put _ c.put.ensures.spare c.put.ensures.acts
+pub returns : goal.returns
+returns g c = record {
+  acts = c.put.ensures.acts ∙ ap (λ m. g.D.Desk.acts c.args.desk.now ++ record { port = c.args.port; act = Post (Peer c.args.p) (Message m) } ∷ [])
+      (named c.args.kind c.args.number c.new-message.ensures c.copy.ensures);
+  row = λ x. Performs_post c.args.p c.args.kind c.args.number x c.args.port c.args.self.now c.requires.plain
+      (named c.args.kind c.args.number c.new-message.ensures c.copy.ensures) c.put.ensures.acts;
+  room = PutsExactly_put _ c.put.ensures.spare c.put.ensures.acts;
+}

@@ -6,9 +6,8 @@ use Rattle.tsp_acks.proofs.station.Station.post_back.Goals as goal
 pub new-message-requires : goal.new-message-requires
 new-message-requires g c = is_plain_fits c.args.kind c.requires.plain
 
-pub returns-clause-row : goal.returns-clause-row
-returns-clause-row g c x =
-    Performs_post_back c.args.to c.args.kind c.args.number x c.args.port c.args.self.now c.requires.plain (named c.args.kind c.args.number c.new-message.ensures c.copy.ensures) c.put.ensures.acts
-
-pub returns-clause-room : goal.returns-clause-room
-returns-clause-room g c = PutsExactly_put _ c.put.ensures.spare c.put.ensures.acts
+pub returns : goal.returns
+returns g c = record {
+  row = λ x. Performs_post_back c.args.to c.args.kind c.args.number x c.args.port c.args.self.now c.requires.plain (named c.args.kind c.args.number c.new-message.ensures c.copy.ensures) c.put.ensures.acts;
+  room = PutsExactly_put _ c.put.ensures.spare c.put.ensures.acts;
+}

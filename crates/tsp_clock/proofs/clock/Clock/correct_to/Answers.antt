@@ -5,9 +5,14 @@ use Rattle.tsp_rules.specs.ClockRows.{sets}
 use Rattle.tsp_clock.{proofs.ClockLemmas.Stands_sets, specs.Clocks.target_of}
 use Rattle.tsp_clock.proofs.clock.Clock.correct_to.Goals as goal
 
-pub returns-clause-row : goal.returns-clause-row
+pub set_in_range-amount-requires-clause-range : goal.set_in_range-amount-requires-clause-range
+set_in_range-amount-requires-clause-range g c =
+    let value : to_z w64 (of_z w64 c.args.value) ≡ c.args.value = to_z-of_z c.ranges.value in
+    rw value c.requires.range
+
+pub returns : goal.returns
 unfolding sets
-returns-clause-row g c =
+returns g c =
     let now = c.args.self.now in
     let a = c.set_in_range-amount.result in
     let value : to_z w64 (of_z w64 c.args.value) ≡ c.args.value = to_z-of_z c.ranges.value in
@@ -17,21 +22,12 @@ returns-clause-row g c =
     let clock = c.set_in_range-amount.ensures.clock in
     let put = c.put.ensures.acts in
     record {
-      acts = λ past h.
-          let t : target_of now c.args.tick ≡ target (plain past.seen) c.args.tick = ap (λ o. o +ℤ pos c.args.tick) h.offset_is in
-          rw (back, is, t, value) at put;
-      stands = λ past h. rw (rw value at clock) (Stands_sets c.args.value c.args.tick past now h);
+      row = record {
+        acts = λ past h.
+            let t : target_of now c.args.tick ≡ target (plain past.seen) c.args.tick = ap (λ o. o +ℤ pos c.args.tick) h.offset_is in
+            rw (back, is, t, value) at put;
+        stands = λ past h. rw (rw value at clock) (Stands_sets c.args.value c.args.tick past now h);
+      };
+      clock = rw value at c.set_in_range-amount.ensures.clock;
+      room = PutsExactly_put _ c.put.ensures.spare c.put.ensures.acts;
     }
-
-pub set_in_range-amount-requires-clause-range : goal.set_in_range-amount-requires-clause-range
-set_in_range-amount-requires-clause-range g c =
-    let value : to_z w64 (of_z w64 c.args.value) ≡ c.args.value = to_z-of_z c.ranges.value in
-    rw value c.requires.range
-
-pub returns-clause-clock : goal.returns-clause-clock
-returns-clause-clock g c =
-    let value : to_z w64 (of_z w64 c.args.value) ≡ c.args.value = to_z-of_z c.ranges.value in
-    rw value at c.set_in_range-amount.ensures.clock
-
-pub returns-clause-room : goal.returns-clause-room
-returns-clause-room g c = PutsExactly_put _ c.put.ensures.spare c.put.ensures.acts

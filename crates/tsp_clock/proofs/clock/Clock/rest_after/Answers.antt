@@ -15,40 +15,41 @@ overflow_add-result c =
     let arg : to_z w64 (of_z w64 c.args.amount) ≡ c.args.amount = to_z-of_z c.ranges.amount in
     rw (back, arg, c.rest.ensures.value) (left_fits (target_of now x) (slew_rest now x) c.args.amount x c.requires.tick c.requires.range c.rest.ensures.low c.rest.ensures.high)
 
-pub returns-then-is_step-clause-value : goal.returns-then-is_step-clause-value
-returns-then-is_step-clause-value c =
+pub returns-then-is_step : goal.returns-then-is_step
+returns-then-is_step c =
     let arg : to_z w64 (of_z w64 c.args.amount) ≡ c.args.amount = to_z-of_z c.ranges.amount in
     let test : is_step c.args.amount ≡ true = ap is_step (sym arg) ∙ sym c.is_step.ensures ∙ c.if-is_step.true in
-    rw test refl
+    record {
+      value = rw test refl;
+      low = stepped_low (target_of c.args.self.now c.args.tick +ℤ c.args.amount) c.requires.range;
+      high = stepped_high (target_of c.args.self.now c.args.tick +ℤ c.args.amount) c.args.tick c.requires.range;
+    }
 
-pub returns-then-is_step-clause-low : goal.returns-then-is_step-clause-low
-returns-then-is_step-clause-low c = stepped_low (target_of c.args.self.now c.args.tick +ℤ c.args.amount) c.requires.range
-
-pub returns-then-is_step-clause-high : goal.returns-then-is_step-clause-high
-returns-then-is_step-clause-high c = stepped_high (target_of c.args.self.now c.args.tick +ℤ c.args.amount) c.args.tick c.requires.range
-
-pub returns-else-is_step-clause-value : goal.returns-else-is_step-clause-value
-returns-else-is_step-clause-value c =
+-- what is shown after it is what was shown before
+pub returns-else-is_step : goal.returns-else-is_step
+returns-else-is_step c =
     let arg : to_z w64 (of_z w64 c.args.amount) ≡ c.args.amount = to_z-of_z c.ranges.amount in
     let test : is_step c.args.amount ≡ false = ap is_step (sym arg) ∙ sym c.is_step.ensures ∙ c.if-is_step.false in
     let fits : SFits w64 c.rest.result = search rules in
     let back : to_z w64 (of_z w64 c.rest.result) ≡ c.rest.result = to_z-of_z fits in
     let sum = overflow_add-result c in
-    rw test (to_z-of_z sum ∙ ap (λ z. z +ℤ to_z w64 (of_z w64 c.args.amount)) (back ∙ c.rest.ensures.value) ∙ ap (λ z. slew_rest c.args.self.now c.args.tick +ℤ z) arg)
-
--- what is shown after it is what was shown before
-pub returns-else-is_step-clause-low : goal.returns-else-is_step-clause-low
-returns-else-is_step-clause-low c =
-    let arg : to_z w64 (of_z w64 c.args.amount) ≡ c.args.amount = to_z-of_z c.ranges.amount in
-    let fits : SFits w64 c.rest.result = search rules in
-    let back : to_z w64 (of_z w64 c.rest.result) ≡ c.rest.result = to_z-of_z fits in
-    let sum = overflow_add-result c in
-    rw (to_z-of_z sum, back, arg, c.rest.ensures.value, shown_kept (target_of c.args.self.now c.args.tick) (slew_rest c.args.self.now c.args.tick) c.args.amount) c.rest.ensures.low
-
-pub returns-else-is_step-clause-high : goal.returns-else-is_step-clause-high
-returns-else-is_step-clause-high c =
-    let arg : to_z w64 (of_z w64 c.args.amount) ≡ c.args.amount = to_z-of_z c.ranges.amount in
-    let fits : SFits w64 c.rest.result = search rules in
-    let back : to_z w64 (of_z w64 c.rest.result) ≡ c.rest.result = to_z-of_z fits in
-    let sum = overflow_add-result c in
-    rw (to_z-of_z sum, back, arg, c.rest.ensures.value, shown_kept (target_of c.args.self.now c.args.tick) (slew_rest c.args.self.now c.args.tick) c.args.amount) c.rest.ensures.high
+    record {
+      value = rw test (to_z-of_z sum ∙ ap (λ z. z +ℤ to_z w64 (of_z w64 c.args.amount)) (back ∙ c.rest.ensures.value) ∙ ap
+          (λ z. slew_rest c.args.self.now c.args.tick +ℤ z) arg);
+      low = rw (
+        to_z-of_z sum,
+        back,
+        arg,
+        c.rest.ensures.value,
+        shown_kept (target_of c.args.self.now c.args.tick) (slew_rest c.args.self.now c.args.tick)
+            c.args.amount,
+      ) c.rest.ensures.low;
+      high = rw (
+        to_z-of_z sum,
+        back,
+        arg,
+        c.rest.ensures.value,
+        shown_kept (target_of c.args.self.now c.args.tick) (slew_rest c.args.self.now c.args.tick)
+            c.args.amount,
+      ) c.rest.ensures.high;
+    }

@@ -13,9 +13,8 @@ unfolding master_takes_here
 returns-in-MasterReq-clause-row g c role =
     let m = c.args.m.now in
     let k : master_takes_kind_here c.args.from m m.kind ≡ posts c.args.from MasterAck m.number = ap (master_takes_kind_here c.args.from m) (sym c.kind.ensures) ∙ master_takes_kind_here-ask c.args.from m c.kind.result c.in-MasterReq.is in
-    let n : c.number.result ≡ m.number = c.number.ensures in
-    let d = c.post.ensures.row c.args.tick in
-    rw k (Performs_quiet _ c.args.clock.now (Emits_posts c.args.from MasterAck m.number refl) (Performs_acting (rw n at d)))
+    rw k (Performs_quiet _ c.args.clock.now (Emits_posts c.args.from MasterAck m.number refl)
+    (Performs_acting (rw c.number.ensures at (c.post.ensures.row c.args.tick))))
 
 pub returns-in-SlaveUp-clause-row : goal.returns-in-SlaveUp-clause-row
 unfolding master_takes_here master_takes_kind_here

@@ -1,8 +1,7 @@
 use Rattle.std.proofs.Common.{◌≡◌, ◌-ℤ◌, ap, ◌∙◌, refl, to_z, of_z}
 use Rattle.std.{proofs.lemmas.Int.to_z-of_z, specs.Int.w64}
 use Rattle.tsp_base.specs.Words.{half_down}
-use Rattle.tsp_measure.proofs.Halves.{half_up_is}
-use Rattle.tsp_measure.proofs.Samples.{trip_is, ahead_is, diff_fits, half_fits, err_fits}
+use Rattle.tsp_measure.proofs.{Samples.trip_is, Samples.ahead_is, Samples.diff_fits, Samples.half_fits, Samples.err_fits, Halves.half_up_is}
 use Rattle.tsp_measure.proofs.sample.TimedSample.new.Goals as goal
 
 half_is : (c : goal.After-half_down-half) → to_z w64 (of_z w64 c.half_down-half.result) ≡ half_down (c.args.d -ℤ c.args.a)

@@ -4,18 +4,14 @@ use Rattle.std.proofs.lemmas.List.{length-map, get_or-map}
 use Rattle.tsp_measure.{proofs.Entries.Rising-peers, proofs.Entries.entry_of-at, specs.declared.entry.Entry.Entry}
 use Rattle.tsp_measure.proofs.slaves.Slaves.at.Goals as goal
 
-pub returns-clause-peer : goal.returns-clause-peer
-returns-clause-peer c d =
+pub returns : goal.returns
+returns c =
     let es = c.args.self.now in
     let x : Entry = c.index.result.now in
     let is = rw c.self.view_is at c.index.ensures in
     let inside : c.args.place < length es = omega (arith, c.requires, length-map es (λ (e : Entry). e.peer)) in
-    get_or-map (λ (e : Entry). e.peer) es c.args.place x d inside ∙ ap (λ (e : Entry). e.peer) (sym is)
-
-pub returns-clause-entry : goal.returns-clause-entry
-returns-clause-entry c =
-    let es = c.args.self.now in
-    let x : Entry = c.index.result.now in
-    let is = rw c.self.view_is at c.index.ensures in
-    let inside : c.args.place < length es = omega (arith, c.requires, length-map es (λ (e : Entry). e.peer)) in
-    entry_of-at es c.args.place x x.peer (Rising-peers es (rw c.self.view_is at c.self.invariant)) inside (ap (λ (e : Entry). e.peer.0) (sym is)) ∙ sym is
+    record {
+      peer = λ d. get_or-map (λ (e : Entry). e.peer) es c.args.place x d inside ∙ ap (λ (e : Entry). e.peer) (sym is);
+      entry = entry_of-at es c.args.place x x.peer (Rising-peers es (rw c.self.view_is at c.self.invariant)) inside (ap (λ (e : Entry). e.peer.0) (sym is)) ∙
+          sym is;
+    }

@@ -7,17 +7,16 @@ use Rattle.tsp_sends.proofs.sends.Sends.ack.Goals as goal
 pub returns-in_default-clause-ends : goal.returns-in_default-clause-ends
 returns-in_default-clause-ends c = rw (← c.self.view_is, sending_to-no_place c.self.inside.slots c.args.peer c.in_default.field-0 c.in_default.ensures) refl
 
-pub returns-then-ends-clause-ends : goal.returns-then-ends-clause-ends
-returns-then-ends-clause-ends c =
-    rw (← c.self.view_is) (c.has_number-ends.ensures (empty_slot c.args.peer) ∙ ap (has_number c.args.number) (sym (sending_found c.self.inside.slots c.args.peer c.in-Ok.place (empty_slot c.args.peer) c.self.invariant.ascending c.in-Ok.ensures)))
-
-pub returns-then-ends-clause-sends : goal.returns-then-ends-clause-sends
-returns-then-ends-clause-sends c =
+pub returns-then-ends : goal.returns-then-ends
+returns-then-ends c =
     let place = rw c.self.view_is at c.in-Ok.ensures in
-    rw c.if-ends.true (SetsOnly-fill c.args.self.now c.fill.new.self c.args.peer c.in-Ok.place None (rw c.self.view_is at c.self.invariant.ascending) place c.fill.ensures)
-
-pub returns-then-ends-clause-peers : goal.returns-then-ends-clause-peers
-returns-then-ends-clause-peers c = peers_of-fill c.args.self.now c.fill.new.self c.in-Ok.place None c.fill.ensures
+    record {
+      ends = rw (← c.self.view_is) (c.has_number-ends.ensures (empty_slot c.args.peer) ∙ ap (has_number c.args.number)
+          (sym (sending_found c.self.inside.slots c.args.peer c.in-Ok.place (empty_slot c.args.peer) c.self.invariant.ascending c.in-Ok.ensures)));
+      sends = rw c.if-ends.true (SetsOnly-fill c.args.self.now c.fill.new.self c.args.peer c.in-Ok.place None (rw c.self.view_is at c.self.invariant.ascending)
+          place c.fill.ensures);
+      peers = peers_of-fill c.args.self.now c.fill.new.self c.in-Ok.place None c.fill.ensures;
+    }
 
 pub returns-else-ends-clause-ends : goal.returns-else-ends-clause-ends
 returns-else-ends-clause-ends c =
