@@ -18,6 +18,7 @@ pub mod EmitsTables
 pub mod FewActs
 pub mod GuardFacts
 pub mod NodeRowLemmas
+pub mod Parts
 pub mod RowCodes
 pub mod RowsOther
 pub mod ScriptsAnswered

@@ -1,61 +1,24 @@
 -- A node that is asked to back two candidates, and boots again.
 use Rattle.std.specs.Prelude.{◌≡◌, pos, false, List, [], ◌∷◌, take, Some, None}
-use Rattle.tsp_rules.specs.Values.{Boot, Took, Post, Become, Arm, Ring, Back, Quiet, Elect, Search, Message, Good, Accept, Election, MasterReq, Refuse, Peer, Starting, Loose}
-use Rattle.tsp_base.specs.Words.{Booted, Turned, Handed, Past, held, bare, open_send, peer_of as peer}
-use Rattle.tsp_rules.specs.{Answers.Turn, Answers.Got, Answers.answers, CommonRows.boots}
-use Rattle.tsp_rules.specs.Scripts.{Event, step, a_name, b_name, c_name, fresh, after, Answered, Is}
+use Rattle.tsp_rules.specs.Values.{Boot, Post, Become, Arm, Ring, Back, Quiet, Elect, Search, Message, Accept, Election, MasterReq, Refuse, Peer}
+use Rattle.tsp_rules.specs.Values.{Starting, Loose}
+use Rattle.tsp_base.specs.Words.{Past, held, bare, open_send, peer_of as peer}
+use Rattle.tsp_rules.specs.Scripts.{Event, boots_at, turn_at, hands, a_name, b_name, c_name, fresh, after, Answered, Is}
 
 -- node a, which may not be master
 abbrev pub hold_a : List Event
 hold_a =
-    record {
-      step = step 0 0 (Booted 0 (pos 0));
-      tick = 0;
-      row = boots;
-      acts = Boot ∷ Become Starting ∷ Arm Quiet 80000000 ∷ [];
-    } ∷
-    record {
-      step = step 80000000 0 Turned;
-      tick = 80000000;
-      row = (answers Turn);
-      acts = Ring Quiet ∷ Become Loose ∷ Arm Search 85000000 ∷ Post (Peer (peer 1)) (Message (bare MasterReq 0 a_name)) ∷ Post (Peer (peer 2)) (Message (bare MasterReq 0 a_name)) ∷ [];
-    } ∷
-    record {
-      step = step 85000000 0 Turned;
-      tick = 85000000;
-      row = (answers Turn);
-      acts = Ring Search ∷ Arm Elect 385000000 ∷ [];
-    } ∷
-    record {
-      step = step 90000000 0 Handed;
-      tick = 90000000;
-      row = (answers (Got (Peer (peer 1)) (Good (Message (bare Election 32768 b_name)))));
-      acts = Took (Peer (peer 1)) (Good (Message (bare Election 32768 b_name))) ∷ Back (peer 1) ∷ Arm Elect 390000000 ∷ Post (Peer (peer 1)) (Message (bare Accept 32768 a_name)) ∷ [];
-    } ∷
-    record {
-      step = step 149999999 0 Handed;
-      tick = 149999999;
-      row = (answers (Got (Peer (peer 2)) (Good (Message (bare Election 32768 c_name)))));
-      acts = Took (Peer (peer 2)) (Good (Message (bare Election 32768 c_name))) ∷ Post (Peer (peer 2)) (Message (bare Refuse 32768 a_name)) ∷ [];
-    } ∷
-    record {
-      step = step 150000000 0 Handed;
-      tick = 150000000;
-      row = (answers (Got (Peer (peer 2)) (Good (Message (bare Election 32768 c_name)))));
-      acts = Took (Peer (peer 2)) (Good (Message (bare Election 32768 c_name))) ∷ Back (peer 2) ∷ Arm Elect 450000000 ∷ Post (Peer (peer 2)) (Message (bare Accept 32768 a_name)) ∷ [];
-    } ∷
-    record {
-      step = step 151000000 0 (Booted 1 (pos 151000000));
-      tick = 151000000;
-      row = boots;
-      acts = Boot ∷ Become Starting ∷ Arm Quiet 231000000 ∷ [];
-    } ∷
-    record {
-      step = step 160000000 0 Handed;
-      tick = 160000000;
-      row = (answers (Got (Peer (peer 1)) (Good (Message (bare Election 32768 b_name)))));
-      acts = Took (Peer (peer 1)) (Good (Message (bare Election 32768 b_name))) ∷ [];
-    } ∷
+    boots_at 0 0 0 (pos 0) (Boot ∷ Become Starting ∷ Arm Quiet 80000000 ∷ []) ∷
+    turn_at 0 80000000 (Ring Quiet ∷ Become Loose ∷ Arm Search 85000000 ∷ Post (Peer (peer 1)) (Message (bare MasterReq 0 a_name)) ∷
+    Post (Peer (peer 2)) (Message (bare MasterReq 0 a_name)) ∷ []) ∷
+    turn_at 0 85000000 (Ring Search ∷ Arm Elect 385000000 ∷ []) ∷
+    hands 0 90000000 (Peer (peer 1)) (Message (bare Election 32768 b_name))
+    (Back (peer 1) ∷ Arm Elect 390000000 ∷ Post (Peer (peer 1)) (Message (bare Accept 32768 a_name)) ∷ []) ∷
+    hands 0 149999999 (Peer (peer 2)) (Message (bare Election 32768 c_name)) (Post (Peer (peer 2)) (Message (bare Refuse 32768 a_name)) ∷ []) ∷
+    hands 0 150000000 (Peer (peer 2)) (Message (bare Election 32768 c_name))
+    (Back (peer 2) ∷ Arm Elect 450000000 ∷ Post (Peer (peer 2)) (Message (bare Accept 32768 a_name)) ∷ []) ∷
+    boots_at 0 151000000 1 (pos 151000000) (Boot ∷ Become Starting ∷ Arm Quiet 231000000 ∷ []) ∷
+    hands 0 160000000 (Peer (peer 1)) (Message (bare Election 32768 b_name)) [] ∷
     []
 
 -- it has two peers

@@ -1,85 +1,30 @@
 -- Two masters, of which one sends the other away.
 use Rattle.std.specs.Prelude.{◌≡◌, pos, true, List, [], ◌∷◌, take, Some, None}
-use Rattle.tsp_rules.specs.Values.{Boot, Took, Post, Become, Arm, Ring, Back, Acked, Gave, Rival, Quit, Quiet, Window, Elect, Search, Round, ResolveAlarm, Message, Good, Ack, Election, MasterAck, MasterReq, MasterUp, QuitKind, ResolveKind, SlaveUp, Test, Peer, Stranger, Starting, Loose, Follow, Candidate, Master}
-use Rattle.tsp_base.specs.Words.{Booted, Turned, Handed, Past, is_rival, bare, open_send, peer_of as peer}
-use Rattle.tsp_rules.specs.{Answers.Turn, Answers.Got, Answers.answers, CommonRows.boots}
-use Rattle.tsp_rules.specs.Scripts.{Event, step, a_name, b_name, fresh, after, Answered, Is}
+use Rattle.tsp_rules.specs.Values.{Boot, Post, Become, Arm, Ring, Back, Acked, Gave, Rival, Quit, Quiet, Window, Elect, Search, Round, ResolveAlarm, Message}
+use Rattle.tsp_rules.specs.Values.{Ack, Election, MasterAck, MasterReq, MasterUp, QuitKind, ResolveKind, SlaveUp, Test, Peer, Stranger, Starting, Loose, Follow}
+use Rattle.tsp_rules.specs.Values.{Candidate, Master}
+use Rattle.tsp_base.specs.Words.{Past, is_rival, bare, open_send, peer_of as peer}
+use Rattle.tsp_rules.specs.Scripts.{Event, boots_at, turn_at, hands, a_name, b_name, fresh, after, Answered, Is}
 
 -- node a: it is elected, finds a rival, sends it away, and is sent away itself
 abbrev pub rivals_a : List Event
 rivals_a =
-    record {
-      step = step 0 0 (Booted 0 (pos 0));
-      tick = 0;
-      row = boots;
-      acts = Boot ∷ Become Starting ∷ Arm Quiet 80000000 ∷ [];
-    } ∷
-    record {
-      step = step 80000000 0 Turned;
-      tick = 80000000;
-      row = (answers Turn);
-      acts = Ring Quiet ∷ Become Loose ∷ Arm Search 85000000 ∷ Post (Peer (peer 1)) (Message (bare MasterReq 0 a_name)) ∷ [];
-    } ∷
-    record {
-      step = step 85000000 0 Turned;
-      tick = 85000000;
-      row = (answers Turn);
-      acts = Ring Search ∷ Arm Elect 385000000 ∷ [];
-    } ∷
-    record {
-      step = step 385000000 0 Turned;
-      tick = 385000000;
-      row = (answers Turn);
-      acts = Ring Elect ∷ Become Candidate ∷ Back (peer 0) ∷ Arm Window 390000000 ∷ Post (Peer (peer 1)) (Message (bare Election 32768 a_name)) ∷ [];
-    } ∷
-    record {
-      step = step 390000000 0 Turned;
-      tick = 390000000;
-      row = (answers Turn);
-      acts = Gave (peer 1) ∷ Ring Window ∷ Become Master ∷ Arm Round 630000000 ∷ Post (Peer (peer 1)) (Message (bare MasterUp 0 a_name)) ∷ [];
-    } ∷
-    record {
-      step = step 391000000 0 Handed;
-      tick = 391000000;
-      row = (answers (Got (Peer (peer 1)) (Good (Message (bare MasterUp 0 b_name)))));
-      acts = Took (Peer (peer 1)) (Good (Message (bare MasterUp 0 b_name))) ∷ Arm ResolveAlarm 396000000 ∷ Post (Peer (peer 1)) (Message (bare ResolveKind 0 a_name)) ∷ [];
-    } ∷
-    record {
-      step = step 392000000 0 Handed;
-      tick = 392000000;
-      row = (answers (Got (Peer (peer 1)) (Good (Message (bare MasterAck 0 b_name)))));
-      acts = Took (Peer (peer 1)) (Good (Message (bare MasterAck 0 b_name))) ∷ Rival (peer 1) ∷ [];
-    } ∷
-    record {
-      step = step 396000000 0 Turned;
-      tick = 396000000;
-      row = (answers Turn);
-      acts = Ring ResolveAlarm ∷ Post (Peer (peer 1)) (Message (bare QuitKind 32769 a_name)) ∷ [];
-    } ∷
-    record {
-      step = step 397000000 0 Turned;
-      tick = 397000000;
-      row = (answers Turn);
-      acts = Post (Peer (peer 1)) (Message (bare QuitKind 32769 a_name)) ∷ [];
-    } ∷
-    record {
-      step = step 397500000 0 Handed;
-      tick = 397500000;
-      row = (answers (Got (Peer (peer 1)) (Good (Message (bare Ack 32769 b_name)))));
-      acts = Took (Peer (peer 1)) (Good (Message (bare Ack 32769 b_name))) ∷ Acked (peer 1) ∷ [];
-    } ∷
-    record {
-      step = step 398000000 0 Handed;
-      tick = 398000000;
-      row = (answers (Got (Peer (peer 1)) (Good (Message (bare QuitKind 32773 b_name)))));
-      acts = Took (Peer (peer 1)) (Good (Message (bare QuitKind 32773 b_name))) ∷ Quit (peer 1) ∷ Post (Peer (peer 1)) (Message (bare Ack 32773 a_name)) ∷ Become (Follow (peer 1)) ∷ Arm Elect 698000000 ∷ Post (Peer (peer 1)) (Message (bare SlaveUp 0 a_name)) ∷ [];
-    } ∷
-    record {
-      step = step 398500000 0 Handed;
-      tick = 398500000;
-      row = (answers (Got Stranger (Good (Message (bare Test 2 b_name)))));
-      acts = Took Stranger (Good (Message (bare Test 2 b_name))) ∷ Post Stranger (Message (bare Ack 2 a_name)) ∷ [];
-    } ∷
+    boots_at 0 0 0 (pos 0) (Boot ∷ Become Starting ∷ Arm Quiet 80000000 ∷ []) ∷
+    turn_at 0 80000000 (Ring Quiet ∷ Become Loose ∷ Arm Search 85000000 ∷ Post (Peer (peer 1)) (Message (bare MasterReq 0 a_name)) ∷ []) ∷
+    turn_at 0 85000000 (Ring Search ∷ Arm Elect 385000000 ∷ []) ∷
+    turn_at 0 385000000 (Ring Elect ∷ Become Candidate ∷ Back (peer 0) ∷ Arm Window 390000000 ∷
+    Post (Peer (peer 1)) (Message (bare Election 32768 a_name)) ∷ []) ∷
+    turn_at 0 390000000 (Gave (peer 1) ∷ Ring Window ∷ Become Master ∷ Arm Round 630000000 ∷ Post (Peer (peer 1)) (Message (bare MasterUp 0 a_name)) ∷ []) ∷
+    hands 0 391000000 (Peer (peer 1)) (Message (bare MasterUp 0 b_name))
+    (Arm ResolveAlarm 396000000 ∷ Post (Peer (peer 1)) (Message (bare ResolveKind 0 a_name)) ∷ []) ∷
+    hands 0 392000000 (Peer (peer 1)) (Message (bare MasterAck 0 b_name)) (Rival (peer 1) ∷ []) ∷
+    turn_at 0 396000000 (Ring ResolveAlarm ∷ Post (Peer (peer 1)) (Message (bare QuitKind 32769 a_name)) ∷ []) ∷
+    turn_at 0 397000000 (Post (Peer (peer 1)) (Message (bare QuitKind 32769 a_name)) ∷ []) ∷
+    hands 0 397500000 (Peer (peer 1)) (Message (bare Ack 32769 b_name)) (Acked (peer 1) ∷ []) ∷
+    hands 0 398000000 (Peer (peer 1)) (Message (bare QuitKind 32773 b_name))
+    (Quit (peer 1) ∷ Post (Peer (peer 1)) (Message (bare Ack 32773 a_name)) ∷ Become (Follow (peer 1)) ∷ Arm Elect 698000000 ∷
+    Post (Peer (peer 1)) (Message (bare SlaveUp 0 a_name)) ∷ []) ∷
+    hands 0 398500000 Stranger (Message (bare Test 2 b_name)) (Post Stranger (Message (bare Ack 2 a_name)) ∷ []) ∷
     []
 
 -- only a acts

@@ -1,7 +1,7 @@
 -- Runs of one node, written out: its inputs, and the acts that are claimed of it.
 use Rattle.std.specs.Prelude.{◌≡◌, ℕ, ℤ, Bool, false, List, [], ◌∷◌, ◌++◌, codes}
 use Rattle.tsp_rules.specs.Values.{Act, Took, Datagram, Good, PeerId, Place, Role}
-use Rattle.tsp_base.specs.Words.{Cause, Booted, Turned, Handed, Step, Past, plain, ticket, target, shown, role, Row, grown, in_step, peer_of}
+use Rattle.tsp_base.specs.Words.{Cause, Booted, Turned, Came, Handed, Step, Past, plain, ticket, target, shown, role, Row, grown, in_step, peer_of}
 use Rattle.tsp_rules.specs.{Answers.Turn, Answers.Got, Answers.answers, CommonRows.boots}
 
 -- a step of node n at this true time
@@ -65,6 +65,10 @@ turn_at n at acts = record { step = step at n Turned; tick = at; row = answers T
 abbrev pub hands_late : ℕ → ℕ → List Act → Place → Datagram → List Act → Event
 hands_late n at due from d acts = record { step = step at n Handed; tick = at; row = answers (Got from (Good d)); acts = due ++ Took from (Good d) ∷ acts }
 
--- the same where nothing is due
+-- it takes the datagram that was posted under this number, and nothing is due
+abbrev pub comes : ℕ → ℕ → ℕ → Place → Datagram → List Act → Event
+comes n at number from d acts = record { step = step at n (Came number); tick = at; row = answers (Got from (Good d)); acts = Took from (Good d) ∷ acts }
+
+-- it is handed this datagram, and nothing is due
 abbrev pub hands : ℕ → ℕ → Place → Datagram → List Act → Event
 hands n at from d acts = hands_late n at [] from d acts

@@ -4,10 +4,9 @@ use Rattle.tsp_rules.specs.Values.{Post, Placed, Datagram, Event, BootAt, Turn, 
 use Rattle.tsp_base.specs.Words.{HeaderValue, Acts, Begins, Came, Deed, Line, Step, dids, first_port, joined, line_of, stepped, Within, posted}
 use Rattle.tsp_promises.specs.Premises.{Life, TakenWithinAt}
 use Rattle.tsp_base.proofs.PlaceLemmas.{Within-none}
-use Rattle.tsp_run.specs.{Premised.IsPrompt, Premised.Prompt, declared.posted.Posted.Posted}
-use Rattle.tsp_run.specs.Run.{joins, posted_in, posts, run, step_tick}
-use Rattle.tsp_run.proofs.{EachLine.each_event, NetworkLemmas.some_same, PostPlaces.length-posts}
-use Rattle.tsp_run.proofs.Happens.{acts_by, takes-or, taking, taking_row, taking_step}
+use Rattle.tsp_run.proofs.{Happens.acts_by, Happens.takes-or, Happens.taking, Happens.taking_row, Happens.taking_step, EachLine.each_event}
+use Rattle.tsp_run.specs.{Run.joins, Run.posted_in, Run.posts, Run.run, Run.step_tick, declared.posted.Posted.Posted}
+use Rattle.tsp_run.{specs.Premised.IsPrompt, specs.Premised.Prompt, proofs.NetworkLemmas.some_same, proofs.PostPlaces.length-posts}
 
 -- entries stay where more follow
 get-front : {A : Type 0} (xs ys : List A) (k : ℕ) (p : A) → slice_get xs k ≡ Some p → slice_get (xs ++ ys) k ≡ Some p

@@ -235,8 +235,8 @@ pub apart-words : (header : HeaderValue) (events : List Event) → Possible head
 apart-words header [] p d = tt
 apart-words header (e ∷ before) p d = words-event p.header_is before (apart-words header before (possible_before header e before p) d.1) e d.0
 
-pub possible-runs-keep-premises : PossibleRunsKeepPremises
-possible-runs-keep-premises header events p = record {
+pub possible_runs_keep_premises : PossibleRunsKeepPremises
+possible_runs_keep_premises header events p = record {
   honest = λ s. sealed-honest header events p s;
   only_honest = λ h. honest-sealed header events p h;
   life = λ early. prompt-life header events early;
@@ -249,5 +249,5 @@ possible-runs-keep-premises header events p = record {
 }
 
 -- so do they of an accepted one's
-pub runs-keep-premises : RunsKeepPremises
-runs-keep-premises header events a = possible-runs-keep-premises header events (accepted-possible header events a)
+pub runs_keep_premises : RunsKeepPremises
+runs_keep_premises header events a = possible_runs_keep_premises header events (accepted-possible header events a)

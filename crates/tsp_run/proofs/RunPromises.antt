@@ -3,18 +3,17 @@ use Rattle.std.proofs.Common.{◌≡◌, ℕ, List, ◌∷◌, Some, slice_get, 
 use Rattle.std.proofs.lemmas.Bool.{le-leb, lt-leb}
 use Rattle.tsp_rules.specs.Values.{Good, Event, LIFE, Datagram, Message, Stamp, Request, Reply}
 use Rattle.tsp_base.specs.Words.{HeaderValue, Line, Seen, of, view, MessageValue, Setup}
-use Rattle.tsp_promises.specs.{Premises.FewAt, Premises.HonestAt, Premises.TakenWithinAt, Dated.Dated, Dated.DateConfirmedAt, Dated.SetsAt}
 use Rattle.tsp_promises.proofs.EverywhereLemmas.{Everywhere-from, Everywhere-within, Everywhere-at}
-use Rattle.tsp_promises.{proofs.SafeProof.safe, proofs.ConfirmedDate.date_confirmed, specs.Answered.AnswersWith, specs.Answered.StrangersAt}
-use Rattle.tsp_promises.{specs.DeedFits.answer_name, specs.Everywhere.Everywhere, proofs.ChainProof.looped_in}
-use Rattle.tsp_promises.{proofs.OwnFitsProof.fits_at, specs.Setting.Setting, specs.Setting.setup_of, proofs.OneWinnerProof.one_winner}
+use Rattle.tsp_promises.specs.{Premises.FewAt, Premises.HonestAt, Premises.TakenWithinAt, Dated.Dated, Dated.DateConfirmedAt, Dated.SetsAt}
+use Rattle.tsp_promises.{specs.Answered.AnswersWith, specs.Answered.StrangersAt, proofs.ConfirmedDate.date_confirmed, proofs.SafeProof.safe}
+use Rattle.tsp_promises.{proofs.OneWinnerProof.one_winner, specs.Setting.Setting, specs.Setting.setup_of, proofs.OnceObeyedProof.sets_at}
+use Rattle.tsp_promises.{specs.Everywhere.Everywhere, proofs.ChainProof.looped_in, proofs.OwnFitsProof.fits_at, specs.DeedFits.answer_name}
 use Rattle.tsp_promises.specs.Fits.{Fits, node_of}
 use Rattle.tsp_codec.specs.{Canon.canon, Canon.written_size, Taken.taken_of}
 use Rattle.tsp_run.specs.{declared.posted.Posted.Posted, AnswerOctets.AnswerOctets, AnswerOctets.AnswerOctetsAt, AnswerOctets.SizeFits}
 use Rattle.tsp_run.specs.{Ranges.Accepted, Run.last_at, Run.posts, Run.run}
 use Rattle.tsp_run.{specs.Setting.PossibleRunsKeepPromises, specs.Setting.RunsKeepPromises, proofs.PossibleRun.accepted-possible}
 use Rattle.tsp_run.proofs.{SettingLemmas.each-is-set, RunFits.possible-runs-fit, RunFits.post_sound, RunFits.ran, SoundLemmas.sound_read}
-use Rattle.tsp_promises.proofs.OnceObeyedProof.{sets_at}
 
 -- the octets that strangers are sent
 short-size : (m : MessageValue) (name : List ℕ) → m.name ≡ name → length name ≤ 63 → written_size (Message m) ≡ 76

@@ -3,11 +3,10 @@ use Rattle.std.proofs.Common.{arith, length-append, subst, sym, true≢false, �
 use Rattle.std.proofs.lemmas.Bool.{le-leb}
 use Rattle.tsp_rules.specs.Values.{Boot, Post, Message, Kind, Ack, Conflict, DateAck, Election, QuitKind, SetDateReq, PeerId, Place, Peer, Stranger, Port}
 use Rattle.tsp_base.specs.Words.{MessageValue, Setup, Acts, Deed, Did, Line, Seen, Here, Elsewhere, is_shared, of, seen_as, view, acting, begun, begun_after, has_own_number}
-use Rattle.tsp_promises.specs.DeedFits.{DeedFits, MessageFits, PostFits, StrangerFits}
-use Rattle.tsp_promises.specs.{Everywhere.Everywhere, Fits.Fits, Fits.node_of, PortFits.PortFits, Premises.Few}
-use Rattle.tsp_promises.specs.Setting.{Setting, setup_of}
+use Rattle.tsp_promises.specs.{DeedFits.DeedFits, DeedFits.MessageFits, DeedFits.PostFits, DeedFits.StrangerFits, Everywhere.Everywhere}
+use Rattle.tsp_promises.{specs.Setting.Setting, specs.Setting.setup_of, proofs.OwnFitsProof.port_fits, specs.Fits.Fits, specs.Fits.node_of}
+use Rattle.tsp_promises.specs.{PortFits.PortFits, Premises.Few}
 use Rattle.tsp_run.specs.{Premised.own_posts, Premised.own_posts_after, Run.posted_in, Run.posts}
-use Rattle.tsp_promises.proofs.OwnFitsProof.{port_fits}
 
 one_if : (b : Bool) (n m : ℕ) → n ≤ m → (if b then n + 1 else n) ≤ m + 1
 one_if true n m le = omega (arith, le)

@@ -6,6 +6,7 @@ use Rattle.tsp_rules.specs.NodeRows.{NodePast, NodeRow, on_port, spread, nothing
 use Rattle.tsp_rules.{proofs.NodeRowLemmas.view_own, proofs.NodeRowLemmas.spread_append, specs.RoundRows.corrects}
 use Rattle.tsp_rules.proofs.BuiltAll.{BuiltAll, EmptyAll, ForPorts, MoreAll, On, PortsOf, ReadingAll, StirringAll, ThenAll, WhereAll, AnyPort}
 use Rattle.tsp_rules.specs.GateRows.{ports_from, all_ports, turns_on, hops_in, one_hop_less, same_name, PassOver, GiveUp, Forward, judge, NodeGiven, NodeTurn, GotOn, input_all, answers_all, boots_on, boots_all}
+use Rattle.tsp_rules.specs.GateRows.{LoopStep}
 use Rattle.tsp_rules.proofs.BuiltPorts.{OwesStep, built_all_boots, built_all_turns, built_takes_on}
 use Rattle.tsp_base.specs.Words.{Step, Acts, Line, dids, is_shared, plain, seen_as, view, joined, line_of, IsName, word, is_going, Row, grown, placed, Booted, first_port, carries_time, carries_hops, MessageValue, body_fits, word_after, puts}
 use Rattle.tsp_base.proofs.Views.{plain_view}
@@ -115,24 +116,14 @@ less-sound : (m : MessageValue) → m.kind ≡ LoopKind → IsSound (Message m) 
 unfolding body_fits carries_time carries_hops
 less-sound m kind s = (s.0, subst (λ k. body_fits k (Hops (hops_in m.body - 1)) ≡ true) (sym kind) refl, s.2, (let few = hops-sound m.body s.3 in omega (arith, few)))
 
+owes_if : (b : Bool) (s t : LoopStep) → OwesStep ranges_owed s → OwesStep ranges_owed t → OwesStep ranges_owed (if b then s else t)
+owes_if true s t p q = p
+owes_if false s t p q = q
+
 judge-sound : (own : List ℕ) (ports : ℕ) (port : Port) (m : MessageValue) → m.kind ≡ LoopKind → IsSound (Message m) → OwesStep ranges_owed (judge own ports port m)
-judge-sound own ports port m kind s = by_ports (nat_le 2 ports) where
-  by_hops : (b : Bool) → OwesStep ranges_owed (if b then Forward (one_hop_less m) else PassOver)
-  by_hops true = less-sound m kind s
-  by_hops false = tt
-
-  by_number : (b : Bool) → OwesStep ranges_owed (if b then GiveUp else PassOver)
-  by_number true = tt
-  by_number false = tt
-
-  by_name : (b : Bool) → OwesStep ranges_owed (if b then (if nat_lt m.number port.0 then GiveUp else PassOver) else (if nat_le 1 (hops_in m.body) && nat_le (hops_in m.body) HOPS then Forward (one_hop_less m) else PassOver))
-  by_name true = by_number (nat_lt m.number port.0)
-  by_name false = by_hops (nat_le 1 (hops_in m.body) && nat_le (hops_in m.body) HOPS)
-
-  by_ports : (b : Bool) →
-      OwesStep ranges_owed (if b then (if same_name m.name own then (if nat_lt m.number port.0 then GiveUp else PassOver) else (if nat_le 1 (hops_in m.body) && nat_le (hops_in m.body) HOPS then Forward (one_hop_less m) else PassOver)) else PassOver)
-  by_ports true = by_name (same_name m.name own)
-  by_ports false = tt
+judge-sound own ports port m kind s =
+    owes_if (nat_le 2 ports) _ _ (owes_if (same_name m.name own) _ _ (owes_if (nat_lt m.number port.0) GiveUp PassOver tt tt)
+    (owes_if (nat_le 1 (hops_in m.body) && nat_le (hops_in m.body) HOPS) (Forward (one_hop_less m)) PassOver (less-sound m kind s) tt)) tt
 
 -- what a step is given is sound
 abbrev pub IsSoundInput : NodeGiven → Type 0

@@ -4,7 +4,7 @@ use Rattle.tsp_rules.specs.Values.{Datagram, Message, Stamp, Taken, Good, Bad, K
 use Rattle.tsp_base.specs.Words.{Line, of, body_fits, word, Within}
 use Rattle.tsp_codec.specs.{Canon.canon, Canon.IsWritable, Canon.IsWritableBody, Faults.Reads, Spelling.Spells, Spelling.SpellsBody}
 use Rattle.tsp_codec.specs.{Numbers.octet_at, Numbers.be16_at, Numbers.be64_at, Taken.taken_of}
-use Rattle.tsp_codec.proofs.TakenOf.{Reads-taken_of, taken_of-canon}
+use Rattle.tsp_codec.proofs.TakenOf.{Reads-taken_of, taken_of_canon}
 use Rattle.tsp_promises.specs.Sound.{IsSound, IsSoundBody, IsSoundDeed, IsSoundTaken}
 use Rattle.tsp_run.proofs.SoundAll.{AreSoundLines}
 
@@ -20,7 +20,7 @@ sound_writable (Stamp (Request word counter)) s = s
 sound_writable (Stamp (Reply r)) s = s
 
 pub sound_read : (d : Datagram) → IsSound d → taken_of (canon d) ≡ Good d
-sound_read d s = taken_of-canon d (sound_writable d s)
+sound_read d s = taken_of_canon d (sound_writable d s)
 
 -- numbers in octets
 abbrev AreOctets : List ℕ → Type 0

@@ -1,8 +1,7 @@
 -- The networks of a schedule: who is on them, and by which of its ports a node is.
 use Rattle.std.specs.Prelude.{ℕ, zero, suc, ◌+◌, ◌==◌, if◌then◌else◌, List, [], ◌∷◌, ◌++◌, length, map, Option, None, Some}
-use Rattle.tsp_rules.specs.Values.{PeerId, Place, Peer, Stranger, Port}
+use Rattle.tsp_rules.specs.{Values.PeerId, Values.Place, Values.Peer, Values.Stranger, Values.Port, NodeRows.PortSetup, Rooms.room_for}
 use Rattle.tsp_base.specs.Words.{HeaderValue, has_member, peer_of}
-use Rattle.tsp_rules.specs.{NodeRows.PortSetup, Rooms.room_for}
 use Rattle.tsp_run.specs.declared.address.Address.{Address}
 
 -- the numbers from 0 to n - 1, ascending

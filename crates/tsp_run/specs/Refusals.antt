@@ -3,9 +3,8 @@ use Rattle.std.specs.Prelude.{◌≡◌, ◌⊎◌, ℕ, ◌+◌, ◌<◌, ◌�
 use Rattle.tsp_rules.specs.Values.{Event, BootAt, Turn, Take, Bytes, Place, Peer, Stranger, Port}
 use Rattle.tsp_base.specs.{Words.HeaderValue, Words.of, Words.dids, Words.up, declared.event.EventFault.EventFault}
 use Rattle.tsp_base.specs.declared.event.EventFault.TheVariants.{TimeBack, NoNode, NoDatagram, NotUp, Limit, OutOfMemory}
-use Rattle.tsp_run.specs.declared.posted.Posted.{Posted}
-use Rattle.tsp_run.specs.{Networks.networks, Networks.ports_on, Networks.room, declared.address.Address.Address}
-use Rattle.tsp_run.specs.Run.{event_at, goes_to, last_at, posts, run}
+use Rattle.tsp_run.specs.{Run.event_at, Run.goes_to, Run.last_at, Run.posts, Run.run, Networks.networks, Networks.ports_on, Networks.room}
+use Rattle.tsp_run.specs.{declared.address.Address.Address, declared.posted.Posted.Posted}
 
 -- the most events that a schedule may have, 200,000, and the most datagrams that its nodes may post, 1,000,000
 abbrev pub most_events : ℕ

@@ -26,6 +26,7 @@ pub fn answer_octets_can_be_broken()
 
 /// A premise of the promises holds of a run if its counterpart holds of the text of its schedule,
 /// so a reader can check it there.
+#[tactic(auto, using(crate::proofs::RunPremises::runs_keep_premises))]
 pub fn runs_keep_premises()
     ensures { RunsKeepPremises }
 {}
@@ -44,6 +45,7 @@ pub fn possible_runs_keep_promises()
 
 /// A premise of the promises holds of a possible schedule's run if its counterpart holds of the
 /// schedule's text.
+#[tactic(auto, using(crate::proofs::RunPremises::possible_runs_keep_premises))]
 pub fn possible_runs_keep_premises()
     ensures { PossibleRunsKeepPremises }
 {}
