@@ -1,20 +1,19 @@
--- Clocks corrected in one round agree. The sums of agreement, over whole numbers. A round's bound outlasts later
--- Corrects. Clocks along chains of corrected masters agree. A clock that a corrected master corrects agrees with the
--- first master's: a chain of two links.
+-- Clocks corrected in one round agree, by a bound that outlasts later Corrects, and so do those along chains of
+-- corrected masters.
+use Rattle.std.proofs.Common.{arith, ◌≡◌, ◌≤◌, ◌≤ℤ◌, ℤ, pos, ◌+ℤ◌, ◌-ℤ◌, nat_abs, ℕ, ◌+◌, sym, ap, subst, inl, inr, ◌∙◌, ◌-◌, ◌*◌, List, ◌∷◌, is_some, refl}
+use Rattle.std.proofs.Common.{subst₂, []}
+use Rattle.std.proofs.lemmas.Int.{ints}
+use Rattle.tsp_base.specs.Words.{Line, of, dids, view, moved, time_of, Within, tick_at, width}
+use Rattle.tsp_base.proofs.PlaceLemmas.{Within-through, Within-tail}
 use Rattle.tsp_promises.proofs.OwnFitsProof.{given, Given, given_at, place-time, own_fits, fits_at}
 use Rattle.tsp_promises.specs.Agreed.{Agreed, AgreedAt, ClocksAgree, MasterAgrees, PeersAgree, RestsOnSample, StayAgreed, Unchanged, FromRound, UnchangedBut}
 use Rattle.tsp_promises.specs.Throughout.{BoundAt, BoundsLast, PeersBound, Throughout, moved_since}
 use Rattle.tsp_promises.specs.Chained.{Hop, Hops, IsChain, ChainAgrees, ChainsAgree, Chained, ChainedAt, TreeAgrees, bound, hop_bound, last_hop, node_at}
-use Rattle.tsp_promises.specs.{CorrectionFits.AnswersSlaveUp, CorrectionFits.AtClose, Relayed.RelayAgrees, Relayed.Relayed, Setting.Setting}
-use Rattle.tsp_promises.specs.{ClockAt.clock_at, Fits.Fits, Fits.node_of, StepFacts.closed}
-use Rattle.tsp_promises.proofs.{EverywhereLemmas.Everywhere-from, MasterMoved.master_moved, MasterMoved.same-mean, MasterMoved.unmoved}
-use Rattle.tsp_promises.proofs.{HistoryPlaces.of-own, HistoryPlaces.Within-of, TakingProof.Met, TakingProof.corrects-adj, TakingProof.whole}
-use Rattle.tsp_promises.proofs.{Clocks.drift_apart, SendPlaces.post_fits, SinceProof.since}
-use Rattle.std.proofs.Common.{arith, ◌≡◌, ◌≤◌, ◌≤ℤ◌, ℤ, pos, ◌+ℤ◌, ◌-ℤ◌, nat_abs, ℕ, ◌+◌, sym, ap, subst, inl, inr, ◌∙◌, ◌⊎◌, ◌-◌, ◌*◌, true, List, ◌∷◌, is_some, refl, subst₂, []}
-use Rattle.std.proofs.lemmas.Int.{ints}
-use Rattle.tsp_rules.specs.Values.{AdjTime, PeerId}
-use Rattle.tsp_base.specs.Words.{Did, Line, Seen, Here, of, dids, view, moved, time_of, MessageValue, Within, best, tick_at, width}
-use Rattle.tsp_base.proofs.PlaceLemmas.{Within-through, Within-tail}
+use Rattle.tsp_promises.specs.Chained.{RelayAgrees, Relayed}
+use Rattle.tsp_promises.specs.{Setting.Setting, ClockAt.clock_at, Fits.Fits, Fits.node_of}
+use Rattle.tsp_promises.proofs.{EverywhereLemmas.Everywhere-from, MasterMoved.master_moved, MasterMoved.same-mean, MasterMoved.unmoved, HistoryPlaces.of-own}
+use Rattle.tsp_promises.proofs.{HistoryPlaces.Within-of, TakingProof.Met, TakingProof.begun-by, TakingProof.corrects-adj, TakingProof.whole, Clocks.drift_apart}
+use Rattle.tsp_promises.proofs.{SendPlaces.post_fits, SinceProof.since}
 
 -- wk and wm are the walls, k0 and m0 what the clocks had moved at the reading, k1 what k's has moved after its Correct, ticks at the reading and now
 pub sums : (wk wm k0 k1 m0 mean diff amount e : ℤ) (kr kt mr mt w : ℕ) → amount ≡ mean -ℤ diff → k1 ≡ k0 +ℤ amount →
@@ -75,14 +74,8 @@ clocks_agree setting h t g by = record { peers = agreed_peers setting h t g by; 
 rests-on : (setting : Setting) (l : Line) (world : List Line) → Fits setting (l ∷ world) → RestsOnSample l (view l.port (of (node_of l) world))
 rests-on setting l world f p m close older deed kind acts close_is =
     let fits = post_fits setting (node_of l) l world p m f.0 refl deed (corrects-adj m.kind kind) in
-    has-best p m l.did (view l.port (of (node_of l) world)) close older kind close_is (fits.begins acts).from
-  where
-    has-best : (p : PeerId) (m : MessageValue) (here : Did) (seen : List Seen) (close : Did) (older : List Seen) → m.kind ≡ AdjTime → closed seen ≡ Here close ∷ older → AnswersSlaveUp seen p m ⊎ AtClose here seen p m → is_some (best p older) ≡ true
-    has-best p m here seen close older kind close_is (inl s) = let bad : ⊥ = (let k = sym kind ∙ s.sets in cc) in absurd bad
-    has-best p m here seen close older kind close_is (inr a) =
-        let both : Here a.close ∷ a.past ≡ Here close ∷ older = sym a.is.is ∙ close_is in
-        let past_is : a.past ≡ older = cc in
-        ap (λ z. is_some (best p z)) (sym past_is) ∙ ap (λ z. is_some z) a.is.best_is
+    let u = begun-by l.did (view l.port (of (node_of l) world)) p m close older (inl kind) close_is (fits.begins acts).from in
+    ap (λ z. is_some z) u.1.from.best_is
 
 pub agreed : (setting : Setting) (h : List Line) → Given setting h → Agreed setting h
 agreed setting h g = Everywhere-from (AgreedAt setting) h (λ l s w.

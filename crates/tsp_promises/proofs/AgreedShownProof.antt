@@ -1,10 +1,10 @@
 -- What clocks show agrees where the clocks do. A Correct prints what its clock shows.
 use Rattle.tsp_promises.proofs.OwnFitsProof.{given, fits_in, Given, given_at, fits_at, own_fits, deed_fits, own_tick}
-use Rattle.tsp_promises.specs.AgreedShown.{AgreedShown, HasMet, ShownWithin, AcrossShown, DownShown, MasterShown, PeersShown, ShownAgree, ShownAsClocks, ShownNear, TreeShown, Waited, WaitedFor}
+use Rattle.tsp_promises.specs.AgreedShown.{AgreedShown, HasMet, ShownWithin, ShownAgree, ShownAsClocks, ShownNear, Waited, WaitedFor}
 use Rattle.tsp_promises.proofs.SteadyProof.{meets_by, runs_over_time, Near, NextFrom, steadily_by, stretch_from}
 use Rattle.tsp_promises.specs.{Chained.Hop, Chained.Hops, Chained.IsChain, Chained.last_hop, Chained.node_at, CorrectFits.is_stepped}
 use Rattle.tsp_promises.specs.{Fits.Alive, Fits.Fits, Fits.node_of, Shows.PrintedApart, Shows.Prints, Shows.Shows, Shows.ShowsAt}
-use Rattle.tsp_promises.specs.{Agreed.FromRound, Agreed.Unchanged, ClockAt.clock_at, ShownAt.left_at, ShownAt.shown_at, Steady.shown_width}
+use Rattle.tsp_promises.specs.{Agreed.FromRound, Agreed.Unchanged, ClockAt.clock_at, ClockAt.left_at, ClockAt.shown_at, Steady.shown_width}
 use Rattle.tsp_promises.{proofs.EverywhereLemmas.Everywhere-from, specs.Setting.Setting}
 use Rattle.tsp_promises.proofs.{ClockProof.clock_target, ClockProof.shown_is, ClockProof.stays_up, ClockProof.post_up, SinceProof.since}
 use Rattle.tsp_promises.proofs.AgreedProof.{agreed_master, agreed_peers, chained_at}
@@ -27,12 +27,6 @@ shown-within setting h t f k l b ku lu near =
 shows-clock : (setting : Setting) (n : ℕ) (h : List Line) (t : ℕ) → Fits setting h → up (dids (of n h)) ≡ true → HasMet setting n h t → shown_at setting n h t ≡ clock_at setting n h t
 shows-clock setting n h t f u met = (meets_by (dids (of n h)) (tick_at (setting.rate n) t)).met met ∙ sym (clock_target setting n h t f u)
 
-shown-as-clocks : (setting : Setting) (h : List Line) (t : ℕ) → Fits setting h → ShownAsClocks setting h t
-shown-as-clocks setting h t f k l b ku lu near = record {
-  within = shown-within setting h t f k l b ku lu near;
-  met = λ x y. rw (shows-clock setting k h t f ku x, shows-clock setting l h t f lu y) near;
-}
-
 -- whoever was corrected has booted
 corrected-up : (setting : Setting) (m : ℕ) (close : Line) (cpast : List Line) (c : Line) (past : List Line) (r : Line) (older : List Line) (e : ℤ) (h : List Line) → Fits setting h → FromRound m close cpast c past r older e → Unchanged (node_of c) (c ∷ past) h → up (dids (of (node_of c) h)) ≡ true
 corrected-up setting m close cpast c past r older e h f x u =
@@ -51,45 +45,45 @@ master-up setting m close cpast c past r older e h f x u =
 hop-up : (setting : Setting) (m : ℕ) (x : Hop) (h : List Line) → Fits setting h → Hops m x h → up (dids (of (node_at x) h)) ≡ true
 hop-up setting m x h f a = corrected-up setting m x.close x.cpast x.correct x.past x.reading x.older x.err h f a.from_round a.unchanged
 
-hop-master : (setting : Setting) (m : ℕ) (x : Hop) (h : List Line) → Fits setting h → Hops m x h → up (dids (of m h)) ≡ true
-hop-master setting m x h f a = master-up setting m x.close x.cpast x.correct x.past x.reading x.older x.err h f a.from_round a.unchanged
-
 last-up : (setting : Setting) (m : ℕ) (first : Hop) (rest : List Hop) (h : List Line) → Fits setting h → Hops m first h → IsChain first rest h → up (dids (of (node_at (last_hop first rest)) h)) ≡ true
 last-up setting m first [] h f a c = hop-up setting m first h f a
 last-up setting m first (x ∷ rest) h f a c = hop-up setting (node_at (last_hop first rest)) x h f c.0
 
-peers : (setting : Setting) (h : List Line) (t : ℕ) → Given setting h → time_of (dids h) ≤ t → PeersShown setting h t
-peers setting h t g by m close cpast c d past qast r q rolder qolder e f x y u v =
-    shown-within setting h t g.fits (node_of c) (node_of d) _ (corrected-up setting m close cpast c past r rolder e h g.fits x u) (corrected-up setting m close cpast d qast q qolder f h g.fits y v)
-    (agreed_peers setting h t g by m close cpast c d past qast r q rolder qolder e f x y u v)
-
-master : (setting : Setting) (h : List Line) (t : ℕ) → Given setting h → time_of (dids h) ≤ t → MasterShown setting h t
-master setting h t g by m close cpast c past r rolder e x u v =
-    shown-within setting h t g.fits (node_of c) m _ (corrected-up setting m close cpast c past r rolder e h g.fits x u) (master-up setting m close cpast c past r rolder e h g.fits x u)
-    (agreed_master setting h t g by m close cpast c past r rolder e x u v)
-
-down : (setting : Setting) (h : List Line) (t : ℕ) → Given setting h → time_of (dids h) ≤ t → DownShown setting h t
-down setting h t g by m first rest a c but =
-    shown-within setting h t g.fits (node_at (last_hop first rest)) m _ (last-up setting m first rest h g.fits a c) (hop-master setting m first h g.fits a)
-    ((chained_at setting h t g by).down m first rest a c but)
-
-across : (setting : Setting) (h : List Line) (t : ℕ) → Given setting h → time_of (dids h) ≤ t → AcrossShown setting h t
-across setting h t g by m a b xs ys x y close cpast c d =
-    shown-within setting h t g.fits (node_at (last_hop a xs)) (node_at (last_hop b ys)) _ (last-up setting m a xs h g.fits x c) (last-up setting m b ys h g.fits y d)
-    ((chained_at setting h t g by).across m a b xs ys x y close cpast c d)
-
-tree : (setting : Setting) (h : List Line) (t : ℕ) → Given setting h → time_of (dids h) ≤ t → TreeShown setting h t
-tree setting h t g by n a b xs ys x y u v c d =
-    shown-within setting h t g.fits (node_at (last_hop a xs)) (node_at (last_hop b ys)) _ (last-up setting n a xs h g.fits x c) (last-up setting n b ys h g.fits y d)
-    ((chained_at setting h t g by).tree n a b xs ys x y u v c d)
+shown-agree : (setting : Setting) (h : List Line) (t : ℕ) → Given setting h → time_of (dids h) ≤ t → ShownAgree setting h t
+shown-agree setting h t g by =
+    let at = chained_at setting h t g by in
+    record {
+      peers = λ m close cpast c d past qast r q rolder qolder e f x y u v.
+          shown-within setting h t g.fits (node_of c) (node_of d) _
+          (corrected-up setting m close cpast c past r rolder e h g.fits x u) (corrected-up setting m close cpast d qast q qolder f h g.fits y v)
+          (agreed_peers setting h t g by m close cpast c d past qast r q rolder qolder e f x y u v);
+      master = λ m close cpast c past r rolder e x u v.
+          shown-within setting h t g.fits (node_of c) m _
+          (corrected-up setting m close cpast c past r rolder e h g.fits x u) (master-up setting m close cpast c past r rolder e h g.fits x u)
+          (agreed_master setting h t g by m close cpast c past r rolder e x u v);
+      down = λ m first rest a c but.
+          shown-within setting h t g.fits (node_at (last_hop first rest)) m _ (last-up setting m first rest h g.fits a c)
+          (master-up setting m first.close first.cpast first.correct first.past first.reading first.older first.err h g.fits a.from_round a.unchanged)
+          (at.down m first rest a c but);
+      across = λ m a b xs ys x y close cpast c d.
+          shown-within setting h t g.fits (node_at (last_hop a xs)) (node_at (last_hop b ys)) _
+          (last-up setting m a xs h g.fits x c) (last-up setting m b ys h g.fits y d) (at.across m a b xs ys x y close cpast c d);
+      tree = λ n a b xs ys x y u v c d.
+          shown-within setting h t g.fits (node_at (last_hop a xs)) (node_at (last_hop b ys)) _
+          (last-up setting n a xs h g.fits x c) (last-up setting n b ys h g.fits y d) (at.tree n a b xs ys x y u v c d);
+    }
 
 pub agreed_shown : (setting : Setting) (world : List Line) → Given setting world → AgreedShown setting world
-agreed_shown setting world g = Everywhere-from (λ (l : Line) (s : List Line). (t : ℕ) → l.did.step.at ≤ t → ShownAgree setting (l ∷ s) t) world (λ l s w t by.
-    let gs = given_at setting (l ∷ s) world g w in
-    record { peers = peers setting (l ∷ s) t gs by; master = master setting (l ∷ s) t gs by; down = down setting (l ∷ s) t gs by; across = across setting (l ∷ s) t gs by; tree = tree setting (l ∷ s) t gs by })
+agreed_shown setting world g = Everywhere-from (λ (l : Line) (s : List Line). (t : ℕ) → l.did.step.at ≤ t → ShownAgree setting (l ∷ s) t) world
+    (λ l s w t by. shown-agree setting (l ∷ s) t (given_at setting (l ∷ s) world g w) by)
 
 pub shown_near : (setting : Setting) (world : List Line) → Fits setting world → ShownNear setting world
-shown_near setting world f = Everywhere-from (λ (l : Line) (s : List Line). (t : ℕ) → ShownAsClocks setting (l ∷ s) t) world (λ l s w t. shown-as-clocks setting (l ∷ s) t (fits_at setting (l ∷ s) world f w))
+shown_near setting world f = Everywhere-from (λ (l : Line) (s : List Line). (t : ℕ) → ShownAsClocks setting (l ∷ s) t) world (λ l s w t m n b mu nu near.
+    let g = fits_at setting (l ∷ s) world f w in
+    record {
+      within = shown-within setting (l ∷ s) t g m n b mu nu near;
+      met = λ x y. rw (shows-clock setting m (l ∷ s) t g mu x, shows-clock setting n (l ∷ s) t g nu y) near;
+    })
 
 -- a later value of l against an earlier one of k
 waits : (k l late b : ℤ) (d w : ℕ) → nat_abs ((late -ℤ l) -ℤ pos d) ≤ w → pos (nat_abs (k -ℤ l)) ≤ℤ b → ((pos d -ℤ pos w) -ℤ b) ≤ℤ (late -ℤ k)
@@ -137,9 +131,6 @@ prints setting l world f amount stepped printed is =
       jumps = λ e. here ∙ (stepped-shows l.did b amount printed stepped is e ∙ ap (λ k. target k l.did.tick) (sym own));
     }
 
-corrected-last : (d : Did) (b : List Did) (amount printed : ℤ) (stepped : Bool) → d.deed ≡ Acts (Correct amount stepped printed) → last_correct (d ∷ b) ≡ d.tick
-corrected-last d b amount printed stepped is = ap (λ k. last_correct_after k d.tick (last_correct b)) is
-
 -- later lines of a node have later ticks
 next-from : (setting : Setting) (n : ℕ) (s h : List Line) → Fits setting h → NextFrom n (tick_of (dids (of n s))) s h
 next-from setting n s h f l before w v node =
@@ -159,7 +150,8 @@ apart setting l world f early past a b stepped later x y is_early is_late node w
     let first : x ≡ shown (dids (of n (early ∷ past))) early.did.tick = subst (λ k. x ≡ shown (dids (of k (early ∷ past))) early.did.tick) node (prints setting early past g a stepped x is_early).value in
     let second = (prints setting l world f b later y is_late).value in
     let tick : tick_of (dids (of n (early ∷ past))) ≡ early.did.tick = ap tick_of place in
-    let start : last_correct (dids (of n (early ∷ past))) ≡ early.did.tick = ap last_correct place ∙ corrected-last early.did (dids (of n past)) a x stepped is_early in
+    let start : last_correct (dids (of n (early ∷ past))) ≡ early.did.tick =
+    ap last_correct place ∙ ap (λ k. last_correct_after k early.did.tick (last_correct (dids (of n past)))) is_early in
     let next = subst (λ k. NextFrom n k (early ∷ past) (l ∷ world)) tick (next-from setting n (early ∷ past) (l ∷ world) f) in
     let last : tick_of (dids (of n (l ∷ world))) ≡ l.did.tick = ap tick_of (own-lines l world) in
     let order : early.did.tick ≤ l.did.tick = next l world (inl refl) w refl in

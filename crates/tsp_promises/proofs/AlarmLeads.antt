@@ -2,9 +2,9 @@
 use Rattle.std.proofs.Common.{sym, subst, inl, inr, arith, ◌∙◌, true≢false, ◌≡◌, ◌≤◌, ℕ, ◌+◌, Bool, true, false, refl, Option, None, []}
 use Rattle.std.proofs.lemmas.Bool.{and_parts}
 use Rattle.tsp_promises.proofs.{Known.Sleeps, Known.Free, Known.Open, Known.Untaken, Leaves.none-some, TakenLeads.master_awake}
-use Rattle.tsp_promises.proofs.Changes.{FreeIn, become_loose, open_of, rested_of, ring_search, late_search, ring_elect, late_elect, ring_resolve, late_resolve, ring_quiet}
+use Rattle.tsp_promises.proofs.Changes.{FreeIn, become_loose, late, open_of, rested_of, ring}
 use Rattle.tsp_promises.proofs.CommonLeads.{arms_elect_during, searches_during, begins_quit, candidature_leads}
-use Rattle.tsp_rules.specs.Values.{Become, Ring, Late, Alarm, Quiet, Elect, Search, ResolveAlarm, QuitKind, Role, Starting, Loose, Master, QUIET}
+use Rattle.tsp_rules.specs.Values.{Become, Ring, Late, Alarm, Quiet, Elect, Search, ResolveAlarm, QuitKind, Starting, Loose, Master, QUIET}
 use Rattle.tsp_rules.specs.{Answers.alarm_rings, Answers.rings, CommonRows.arms_elect, CommonRows.searches, CommonRows.candidature_row}
 use Rattle.tsp_rules.{specs.ResolveRows.quits_rivals, specs.ResolveRows.resolve_rings, proofs.GuardFacts.due_is, proofs.GuardFacts.stand_is}
 use Rattle.tsp_rules.specs.SendRows.{begins}
@@ -41,7 +41,7 @@ quiet_leads own wait = rings_lead own wait Quiet
     (Leads_puts (Ring Quiet) (λ x past h.
     let due = due_is (armed past.seen).quiet x h.1 in
     let silent = h.0.knows.quiet.silent due.at due.is in
-    record { free = ring_quiet (omega (arith, silent.1, due.over)) h.0; role_is = silent.0 }))
+    record { free = ring Quiet refl (omega (arith, silent.1, due.over)) h.0; role_is = silent.0 }))
     (Leads_to (λ x past h. open_of h) (Leads_then {Q = Free Untaken} (puts (Become Loose)) searches
     (Leads_puts (Become Loose) (λ x past h. become_loose (λ e. let s = h.role_is in let bad : ⊥ = cc in absurd bad) h.free))
     searches_during)))
@@ -52,18 +52,15 @@ unfolding alarm_rings search_rings rings_or_late
 search_leads own wait = rings_lead own wait Search
     (Leads_to (λ x past h. open_of h) (Leads_then {Q = Free Untaken} (rings_or_late Search) arms_elect
     (Leads_either (is_in_time Search) (puts (Ring Search)) (puts (Late Search))
-    (Leads_puts (Ring Search) (λ x past h. ring_search (alarm_rested x past (armed past.seen).search h.0.0 h.0.1 (λ z. z.unsearched)) h.0.0))
-    (Leads_puts (Late Search) (λ x past h. late_search (alarm_rested x past (armed past.seen).search h.0.0 h.0.1 (λ z. z.unsearched)) h.0.0)))
+    (Leads_puts (Ring Search) (λ x past h. ring Search refl (alarm_rested x past (armed past.seen).search h.0.0 h.0.1 (λ z. z.unsearched)) h.0.0))
+    (Leads_puts (Late Search) (λ x past h. late Search refl (alarm_rested x past (armed past.seen).search h.0.0 h.0.1 (λ z. z.unsearched)) h.0.0)))
     arms_elect_during))
     (stays Search)
-
-follow_led : {A : Type 0} (r : Role) → is_follow r ≡ true → r ≡ Master → A
-follow_led r e is = absurd (true≢false (sym e ∙ subst (λ k. is_follow k ≡ false) (sym is) refl))
 
 loosens_leads : Leads (Free Untaken) loosens (Free Untaken)
 unfolding loosens
 loosens_leads = Leads_either follows_at (puts (Become Loose)) nothing
-    (Leads_puts (Become Loose) (λ x past h. become_loose (follow_led (role past.seen) h.1) h.0))
+    (Leads_puts (Become Loose) (λ x past h. become_loose (λ is. absurd (true≢false (sym h.1 ∙ subst (λ k. is_follow k ≡ false) (sym is) refl))) h.0))
     (Leads_from (λ x past h. h.0) Leads_nothing)
 
 pub elect_leads : (own wait : Bool) → Leads Open (rings own wait Elect) Open
@@ -71,13 +68,13 @@ unfolding alarm_rings elect_rings
 elect_leads own wait = rings_lead own wait Elect
     (Leads_either (is_in_time Elect) (puts (Ring Elect) followed_by either_by may_stand_at candidature_row (loosens followed_by searches)) (puts (Late Elect) followed_by arms_elect)
     (Leads_then {Q = Free Untaken} (puts (Ring Elect)) (either_by may_stand_at candidature_row (loosens followed_by searches))
-    (Leads_puts (Ring Elect) (λ x past h. ring_elect (alarm_rested x past (armed past.seen).elect h.0.0 h.0.1 (λ z. z.unelected)) h.0.0))
+    (Leads_puts (Ring Elect) (λ x past h. ring Elect refl (alarm_rested x past (armed past.seen).elect h.0.0 h.0.1 (λ z. z.unelected)) h.0.0))
     (Leads_either may_stand_at candidature_row (loosens followed_by searches)
     (Leads_from (λ x past h. record { free = h.0; may = stand_is (held past.seen) x past.own (and_parts past.may (may_stand (held past.seen) x past.own) h.1).1 })
     (Leads_to (λ x past h. open_of h.free) candidature_leads))
     (Leads_from (λ x past h. h.0) (Leads_to (λ x past h. open_of h) (Leads_then loosens searches loosens_leads searches_during)))))
     (Leads_to (λ x past h. open_of h) (Leads_then {Q = Free Untaken} (puts (Late Elect)) arms_elect
-    (Leads_puts (Late Elect) (λ x past h. late_elect (alarm_rested x past (armed past.seen).elect h.0.0 h.0.1 (λ z. z.unelected)) h.0.0))
+    (Leads_puts (Late Elect) (λ x past h. late Elect refl (alarm_rested x past (armed past.seen).elect h.0.0 h.0.1 (λ z. z.unelected)) h.0.0))
     arms_elect_during)))
     (stays Elect)
 
@@ -86,7 +83,8 @@ unfolding alarm_rings resolve_rings quits_rivals
 resolve_leads own wait = rings_lead own wait ResolveAlarm
     (Leads_to (λ x past h. open_of h) (Leads_either (is_in_time ResolveAlarm) (puts (Ring ResolveAlarm) followed_by quits_rivals) (puts (Late ResolveAlarm))
     (Leads_then {Q = Free Untaken} (puts (Ring ResolveAlarm)) quits_rivals
-    (Leads_puts (Ring ResolveAlarm) (λ x past h. ring_resolve (alarm_rested x past (armed past.seen).resolve h.0.0 h.0.1 (λ z. z.unresolved)) h.0.0))
+    (Leads_puts (Ring ResolveAlarm) (λ x past h. ring ResolveAlarm refl (alarm_rested x past (armed past.seen).resolve h.0.0 h.0.1 (λ z. z.unresolved)) h.0.0))
     (Leads_reading rivals_at (for_each (begins QuitKind)) (λ ps. Leads_from (λ x past h. h.0) (Leads_each (begins QuitKind) ps begins_quit))))
-    (Leads_puts (Late ResolveAlarm) (λ x past h. late_resolve (alarm_rested x past (armed past.seen).resolve h.0.0 h.0.1 (λ z. z.unresolved)) h.0.0))))
+    (Leads_puts (Late ResolveAlarm) (λ x past h. late ResolveAlarm refl
+    (alarm_rested x past (armed past.seen).resolve h.0.0 h.0.1 (λ z. z.unresolved)) h.0.0))))
     (stays ResolveAlarm)

@@ -1,6 +1,6 @@
 -- A node with one port and that port alone, row by row.
 use Rattle.std.proofs.Common.{sym, subst, ap, ◌∙◌, arith, inl, inr, true≢false, append-nil, ◌≡◌, ℕ, ◌==◌, nat_lt, ◌&&◌, ◌||◌, not, Bool, true, false, if◌then◌else◌, List, [], ◌∷◌, ◌++◌, length, filter, Option, None, Some, is_some, refl}
-use Rattle.std.proofs.{lemmas.Bool.and_right, Math.Bool.or-false}
+use Rattle.std.proofs.{lemmas.Bool.and_right, Math.Bool.and-true, Math.Bool.or-false}
 use Rattle.tsp_rules.specs.Values.{Act, Boot, Took, Become, Abandon, Placed, Alarm, Quiet, Round, Probe, CloseAlarm, Message, Stamp, Taken, Good, Bad, Kind, LoopKind, Place, Port, Role, Starting, Master, ALL, QUIET}
 use Rattle.tsp_rules.specs.Answers.{answers, due_alarms, input_row, rings, rings_alone, rings_each, alarm_rings, takes, handles, handles_kind, is_left}
 use Rattle.tsp_rules.specs.CommonRows.{boots}
@@ -60,20 +60,17 @@ none-other past s one = ap (λ ps. filter (λ (r : Port). not (r.0 == 0)) (ports
 none-lower : (past : NodePast) (s : PortSetup) → past.ports ≡ s ∷ [] → lower_ports first_port past ≡ []
 none-lower past s one = ap (λ ps. filter (λ (r : Port). nat_lt r.0 0) (ports_from 0 ps)) one
 
-and-all : (b : Bool) → (b && true) ≡ b
-and-all true = refl
-and-all false = refl
-
 -- the port leads the clock where it doesn't follow, and steers it where it does
 leads-alone : (x : ℕ) (past : NodePast) (s : PortSetup) → past.ports ≡ s ∷ [] → leads_clock first_port x past ≡ not (follows_on past first_port)
 leads-alone x past s one =
     ap (λ ps. not (any_port (follows_on past) ps) && not (any_port (leads_on past) (lower_ports first_port past))) (only past s one)
     ∙ ap (λ ps. not (follows_on past first_port || false) && not (any_port (leads_on past) ps)) (none-lower past s one)
-    ∙ and-all (not (follows_on past first_port || false))
+    ∙ and-true (not (follows_on past first_port || false))
     ∙ ap (λ b. not b) (or-false (follows_on past first_port))
 
 steers-alone : (x : ℕ) (past : NodePast) (s : PortSetup) → past.ports ≡ s ∷ [] → steers first_port x past ≡ follows_on past first_port
-steers-alone x past s one = ap (λ ps. follows_on past first_port && not (any_port (follows_on past) ps)) (none-lower past s one) ∙ and-all (follows_on past first_port)
+steers-alone x past s one =
+    ap (λ ps. follows_on past first_port && not (any_port (follows_on past) ps)) (none-lower past s one) ∙ and-true (follows_on past first_port)
 
 charge-alone : (x : ℕ) (past : NodePast) (s : PortSetup) → past.ports ≡ s ∷ [] → in_charge first_port x past ≡ true
 charge-alone x past s one = ap (λ b. b || leads_clock first_port x past) (steers-alone x past s one) ∙ ap (λ b. follows_on past first_port || b) (leads-alone x past s one) ∙ excluded (follows_on past first_port) where
@@ -156,11 +153,11 @@ same-turns : Same Fresh (turns_on first_port) (due_sends followed_by due_alarms)
 unfolding turns_on
 same-turns = same-then (on first_port due_sends) (alarms_on first_port) due_sends due_alarms (same-on due_sends) due_sends_lead (same-from (alarms_on first_port) due_alarms (λ x past h. open_of h) same-alarms)
 
-same-ports : Same Fresh (reading_all all_ports (for_ports turns_on)) (due_sends followed_by due_alarms)
+-- what goes through all ports goes through the only one
+each-alone : {C : ℕ → Past → Type 0} (rows : Port → NodeRow) (r : Row) → Same C (rows first_port) r → Same C (reading_all all_ports (for_ports rows)) r
 unfolding reading_all for_ports ◌and_then◌ nothing_at_all
-same-ports = record {
-  run = λ x past s one c. ap (λ ports. for_ports turns_on ports x past) (only past s one) ∙ append-nil (turns_on first_port x past) ∙ same-turns.run x past s one c;
-}
+each-alone rows r a =
+    record { run = λ x past s one c. ap (λ ports. for_ports rows ports x past) (only past s one) ∙ append-nil (rows first_port x past) ∙ a.run x past s one c }
 
 -- a correction isn't passed over: who follows steers the clock
 never-left : (f c : Bool) → (not f && (c && f)) ≡ false
@@ -306,16 +303,21 @@ unfolding answers_all answers
 same_answers g here = record {
   run = λ x past s one c.
       let row = input_row (given_alone g) in
-      let parts = (same-then (reading_all all_ports (for_ports turns_on)) (input_all g) (due_sends followed_by due_alarms) row same-ports
+      let parts =
+      (same-then (reading_all all_ports (for_ports turns_on)) (input_all g) (due_sends followed_by due_alarms) row
+      (each-alone turns_on (due_sends followed_by due_alarms) same-turns)
       (Leads_then due_sends due_alarms due_sends_lead (Leads_from (λ y z h. open_of h) due_alarms_lead)) (same-input g here)).run x past s one c in
       parts ∙ ap (λ zs. placed first_port zs) (then_assoc due_sends due_alarms row x (alone past));
 }
 
-boots-on : {C : ℕ → Past → Type 0} → Same C (reading_all all_ports (for_ports boots_on)) (puts (Become Starting) followed_by arms Quiet QUIET)
-unfolding reading_all for_ports ◌and_then◌ nothing_at_all boots_on on
-boots-on = record { run = λ x past s one c. ap (λ ports. for_ports boots_on ports x past) (only past s one) ∙ append-nil (placed first_port ((puts (Become Starting) followed_by arms Quiet QUIET) x (alone past))) }
+boots-on : {C : ℕ → Past → Type 0} → Same C (boots_on first_port) (puts (Become Starting) followed_by arms Quiet QUIET)
+unfolding boots_on on
+boots-on = record { run = λ x past s one c. refl }
 
 -- a boot
 pub same_boots : Same (λ x past. Unit {0}) boots_all boots
 unfolding boots_all boots
-same_boots = same-then {D = λ x past. Unit {0}} (on first_port (puts Boot)) (reading_all all_ports (for_ports boots_on)) (puts Boot) (puts (Become Starting) followed_by arms Quiet QUIET) (same-on (puts Boot)) (record { run = λ x past c. tt {0} }) boots-on
+same_boots =
+    same-then {D = λ x past. Unit {0}} (on first_port (puts Boot)) (reading_all all_ports (for_ports boots_on)) (puts Boot)
+    (puts (Become Starting) followed_by arms Quiet QUIET) (same-on (puts Boot)) (record { run = λ x past c. tt {0} })
+    (each-alone boots_on (puts (Become Starting) followed_by arms Quiet QUIET) boots-on)

@@ -10,13 +10,16 @@ use Rattle.tsp_promises.proofs.{Leaves.none-among, Leaves.none-some, Leaves.some
 use Rattle.tsp_promises.proofs.{RoleLeads.slave_leads, RoleLeads.candidate_leads, RoleLeads.master_leads, CorrectionLeads.due_sends_lead}
 use Rattle.tsp_promises.proofs.Elsewheres.{Upsets, upsets_of, upsets_from, upsets_either, upsetting_lead}
 use Rattle.tsp_promises.proofs.TakenLeads.{Heard, HeardIn, Unanswered, rests_of, took_awake, names_master_leads, says_master_leads, traces_leads, tests_leads, replies_lead, quits_lead}
-use Rattle.tsp_rules.specs.Values.{Took, Message, Stamp, Taken, Good, Bad, Kind, Date, DateAck, DateReq, LoopKind, Msite, MsiteReq, QuitKind, SetDate, SetDateReq, Test, TraceOff, TraceOn, PeerId, Place, Peer, Stranger, Role, Starting, Loose, Follow, Candidate, Master, Request, Reply}
+use Rattle.tsp_rules.specs.Values.{Took, Message, Stamp, Taken, Good, Bad, Kind, Date, DateAck, DateReq, LoopKind, Msite, MsiteReq, SetDate, SetDateReq, Test}
+use Rattle.tsp_rules.specs.Values.{TraceOff, TraceOn, PeerId, Place, Peer, Stranger, Role, Starting, Loose, Follow, Candidate, Master, Request, Reply}
 use Rattle.tsp_rules.specs.Answers.{due_alarms, says_in, peer_says, replies_in, peer_replies, from_peer, handles_kind, is_left, handles, takes, Given, Turn, Got, input_row, answers}
 use Rattle.tsp_rules.specs.{CandidateRows.candidate_takes, DateRows.date_request_of, DateRows.date_acked, MasterRows.master_takes}
-use Rattle.tsp_rules.{specs.CommonRows.quits, proofs.GuardFacts.awake_is, specs.SendRows.due_sends, proofs.Asides.now}
+use Rattle.tsp_rules.{proofs.GuardFacts.awake_is, specs.SendRows.due_sends, proofs.Asides.now}
 use Rattle.tsp_rules.specs.Guards.{role_at, is_own, is_heard, is_starting_role, target_at}
 use Rattle.tsp_rules.specs.{SlaveRows.slave_takes, RoundRows.request_at, RoundRows.sample_of, RoundRows.samples_request, RoundRows.samples}
-use Rattle.tsp_base.specs.Words.{Seen, Past, Leads, MessageValue, is_among, role, Row, grown, nothing, puts, ◌followed_by◌, is_date_request, sets_date, ReplyValue, plain, target, OpenRequest, exchange, request_at_place, request_open, word_asked, target_there, reading, sample_diff, sample_err, Received}
+use Rattle.tsp_base.specs.Words.{Seen, Past, Leads, MessageValue, is_among, role, Row, grown, nothing, puts, ◌followed_by◌, is_date_request, sets_date}
+use Rattle.tsp_base.specs.Words.{ReplyValue, plain, target, OpenRequest, exchange, request_at_place, word_asked, target_there, reading, sample_diff, sample_err}
+use Rattle.tsp_base.specs.Words.{Received}
 use Rattle.tsp_base.proofs.LeadsLemmas.{Leads_then, Leads_reading, Leads_nothing, Leads_from, Leads_puts}
 
 -- a reply to an open exchange keeps what is known of a port
@@ -35,15 +38,12 @@ placed-cases p counter seen q (s ∷ older) is e =
     let same : record { word = word_asked (s ∷ older); target = target_there (s ∷ older) } ≡ q = some-same _ q e in
     record { s = s; older = older; is = is; word_is = sym (ap (λ (r : OpenRequest). r.word) same); target_is = sym (ap (λ (r : OpenRequest). r.target) same) }
 
-pub request_place : (p : PeerId) (counter : ℕ) (seen : List Seen) (q : OpenRequest) → request_open p counter seen ≡ Some q → Placed p counter seen q
-request_place p counter seen q e = placed-cases p counter seen q (exchange p counter seen) refl e
-
 module _ {p : PeerId} {r : ReplyValue} where
   sample_fits : (x : ℕ) (past : Past) (q : OpenRequest) (d : ℤ) → Heard p (Good (Stamp (Reply r))) x past → request_at p r.counter x past ≡ Some q → (q.word == r.word) ≡ true → target_at x past ≡ d →
       SampleFits (now x past (sample_of p r q.target d)) past.seen p r.counter (sample_diff q.target r.reading d) (sample_err q.target d) r.ticket
   sample_fits x past q d h found same now_is =
       let free = h.just.free in
-      let placed = request_place p r.counter past.seen q found in
+      let placed = placed-cases p r.counter past.seen q (exchange p r.counter past.seen) refl found in
       let asked = free.knows.round.exchanges p r.counter placed.s placed.older placed.is in
       let going = free.knows.round.closes refl asked.at asked.goes in
       let there : q.target ≡ target (plain placed.older) asked.post.tick = placed.target_is ∙ ap (λ z. target_there (z ∷ placed.older)) asked.is in
@@ -80,13 +80,11 @@ module _ {p : PeerId} {r : ReplyValue} where
   samples_lead = Leads_reading (request_at p r.counter) (samples_request p r) samples_request_leads
 
 module _ {p : PeerId} {m : MessageValue} where
-  pub quit_loose : m.kind ≡ QuitKind → Leads (HeardIn p m Loose) (quits p m.number) Rests
-  quit_loose e = quits_lead Loose [] (λ q i. let bad : ⊥ = cc in absurd bad) refl (λ q i. none-among q refl i) e
-
   pub says_leads : (r : Role) → Leads (HeardIn p m r) (says_in p m r) Rests
   unfolding says_in slave_takes candidate_takes master_takes
   says_leads Starting = idle_heard (λ x past h. h.0)
-  says_leads Loose = slave_leads Loose (λ e. let bad : ⊥ = cc in absurd bad) quit_loose m.kind refl
+  says_leads Loose = slave_leads Loose (λ e. let bad : ⊥ = cc in absurd bad)
+      (quits_lead Loose [] (λ q i. let bad : ⊥ = cc in absurd bad) refl (λ q i. none-among q refl i)) m.kind refl
   says_leads (Follow q) = slave_leads (Follow q) (λ e. let bad : ⊥ = cc in absurd bad) (quit_follower q) m.kind refl
   says_leads Candidate = candidate_leads m.kind refl
   says_leads Master = master_leads m.kind refl

@@ -1,10 +1,9 @@
 -- Small histories that break the promises of clocks, of chains and of single corrections.
 use Rattle.std.proofs.Common.{sym, ap, arith, subst, inl, inr, true≢false, ◌∙◌, ◌≡◌, ◌≤ℤ◌, Bool, true, false, ℕ, ℤ, pos, negsuc, ◌-ℤ◌, nat_abs, List, [], ◌∷◌, refl}
-use Rattle.std.proofs.lemmas.Int.{ints}
 use Rattle.tsp_rules.specs.Values.{Boot, Took, Post, Arm, Ring, Close, Correct, Sample, CloseAlarm, Message, Stamp, Good, AdjTime, SetTime, TimeBody, PeerId, Peer, Request, Reply}
 use Rattle.tsp_base.specs.Words.{Booted, Came, Turned, Line, of, view, MessageValue, Within, peer_of}
 use Rattle.tsp_promises.proofs.Histories.{begins, does, line, msg, skip, skipped, step_at, still}
-use Rattle.tsp_promises.proofs.Spots.{Computed, Corrects, but_for, close_begins, corrects-at, estimate-at, sample_of, spot, untouched}
+use Rattle.tsp_promises.proofs.Spots.{too-far, Computed, Corrects, but_for, close_begins, corrects-at, estimate-at, sample_of, spot, untouched}
 use Rattle.tsp_promises.proofs.WitnessUse.{first-hop, first-round, reply1, reply2, second-hop, set-by, set-source, set-taking, usual}
 use Rattle.tsp_promises.specs.{Agreed.MasterAgrees, Agreed.UnchangedBut, Broken.breaks, Broken.ChainsBreak, Broken.ClocksBreak}
 use Rattle.tsp_promises.specs.{Chained.Hop, Chained.Hops, ClockAt.clock, Estimates.Estimate, FirstSet.SetBy, Fits.node_of}
@@ -23,9 +22,6 @@ only-post p q older (inr e) = let bad : ⊥ = cc in absurd bad
 
 line-same : (p q : Line) (older : List Line) → p ∷ older ≡ q ∷ [] → p ≡ q
 line-same p q older e = cc
-
-abbrev outlives : List Line
-outlives = does 15 0 (Booted 3 (pos 15)) Boot ∷ (does 10 0 Turned (Post (Peer (peer_of 1)) (Stamp (Request 0 0))) ∷ (does 10 0 Turned (Arm CloseAlarm 30) ∷ []))
 
 -- an ADJTIME of a second to a clock that is 101 behind and a round whose mean is 84 behind
 abbrev misleads : MessageValue
@@ -59,8 +55,7 @@ left_alone stepped = but_for (spot 9 (stray stepped) refl) refl refl refl refl r
 
 far-apart : MasterAgrees (still false) (stray false) 408000500 → ⊥
 far-apart m =
-    let k : pos 5000083 ≤ℤ pos 452 = m 0 _ _ _ _ _ _ _ (stray-round false) (untouched refl refl refl) (left_alone false) in
-    omega (arith, ints)
+    too-far (pos 5000083) (pos 452) refl (m 0 _ _ _ _ _ _ _ (stray-round false) (untouched refl refl refl) (left_alone false))
 
 abbrev shuts : List Line
 shuts = does 10 0 Turned (Close 1 (pos 0) (pos 0) (pos 0)) ∷ (does 10 0 Turned (Ring CloseAlarm) ∷ [])
@@ -82,8 +77,8 @@ pub clocks_break : ClocksBreak (still false)
 clocks_break = record {
   errs = breaks (measures ∷ (reply 1 ∷ [])) (λ h.
       let r = h.0 (peer_of 1) 0 (pos 100) (pos 0) 0 refl in
-      let k : pos 100 ≤ℤ pos 0 = subst (λ z. pos (nat_abs (pos 100 -ℤ (clock (still false) 1 z -ℤ clock (still false) 0 z))) ≤ℤ pos 0) (only-post r.post (reply 1) r.older r.place) r.near in
-      omega (arith, ints));
+      too-far (pos 100) (pos 0) refl (subst (λ z. pos (nat_abs (pos 100 -ℤ (clock (still false) 1 z -ℤ clock (still false) 0 z))) ≤ℤ pos 0)
+      (only-post r.post (reply 1) r.older r.place) r.near));
   unread = breaks (does 20 0 Turned (Sample (peer_of 1) 0 (pos 0) (pos 0) 0) ∷ (reply 1 ∷ []))
       (λ h. cc (h.0 (peer_of 1) 0 (pos 0) (pos 0) 0 refl).takes);
   misread = breaks (measures ∷ (reply 2 ∷ [])) (λ h.
@@ -92,18 +87,15 @@ clocks_break = record {
       let k : 2 ≡ 1 = ap (λ (z : Line). node_of z) (sym two) ∙ ap (λ (p : PeerId). p.0) r.from in
       omega arith);
   unasked = breaks (measures ∷ []) (λ h. let t = h.0 (peer_of 1) 0 (pos 100) (pos 0) 0 refl in cc t.exchange_is);
-  outlived = breaks (measures ∷ outlives) (λ h. let t = h.0 (peer_of 1) 0 (pos 100) (pos 0) 0 refl in cc t.exchange_is);
-  misled = breaks (misled-hop.correct ∷ mislead) (λ h.
-      let k : pos 1000083 ≤ℤ pos 403 = (h.0.clocks (Correct (pos 1000000) false (pos 0)) refl).master 0 _ _ _ _ _ _ _ misled-round
-      (untouched refl refl refl)
-      (but_for (spot 4 (misled-hop.correct ∷ mislead) refl) refl refl refl refl refl) in
-      omega (arith, ints));
+  outlived = breaks (measures ∷ (does 15 0 (Booted 3 (pos 15)) Boot ∷ (does 10 0 Turned (Post (Peer (peer_of 1)) (Stamp (Request 0 0))) ∷
+      (does 10 0 Turned (Arm CloseAlarm 30) ∷ [])))) (λ h. let t = h.0 (peer_of 1) 0 (pos 100) (pos 0) 0 refl in cc t.exchange_is);
+  misled = breaks (misled-hop.correct ∷ mislead) (λ h. too-far (pos 1000083) (pos 403) refl
+      ((h.0.clocks (Correct (pos 1000000) false (pos 0)) refl).master 0 _ _ _ _ _ _ _ misled-round (untouched refl refl refl)
+      (but_for (spot 4 (misled-hop.correct ∷ mislead) refl) refl refl refl refl refl)));
   agreed = breaks (stray false) (λ h. far-apart (h.0.clocks (Correct (pos 5000000) false (pos 0)) refl).master);
-  peers = breaks (stray false) (λ h.
-      let k : pos 4999983 ≤ℤ pos 855 = (h.0.clocks (Correct (pos 5000000) false (pos 0)) refl).peers 0 _ _ _ _ _ _ _ _ _ _ _ _
-      (stray-round false) first-round
-      (untouched refl refl refl) (untouched refl refl refl) in
-      omega (arith, ints));
+  peers = breaks (stray false) (λ h. too-far (pos 4999983) (pos 855) refl
+      ((h.0.clocks (Correct (pos 5000000) false (pos 0)) refl).peers 0 _ _ _ _ _ _ _ _ _ _ _ _ (stray-round false) first-round (untouched refl refl refl)
+      (untouched refl refl refl)));
   agreed_before = breaks (does 500000000 2 (Booted 13 (pos 500000000)) Boot ∷ (begins 500000000 2 (Booted 13 (pos 500000000)) ∷ stray
       false))
       (λ h. far-apart (h.1.1.0.clocks (Correct (pos 5000000) false (pos 0)) refl).master);
@@ -112,11 +104,9 @@ clocks_break = record {
       true≢false (sym (h.0.rests (peer_of 1) (msg AdjTime 5 (TimeBody (pos 1))) close.did (view port0 (of 0 (skip 1 shuts))) refl refl
       refl refl)));
   stay_agreed = breaks (stray false) (λ h. far-apart (h.0 408000500 (omega arith)).master);
-  relayed = breaks wrong (λ h.
-      let k : pos 5000049 ≤ℤ pos 806 = h.0 508000400 (omega arith) 1 0 _ _ _ _ _ _ _ _ _ _ _ _ _ _ wrong-round near-round refl
-      (skipped 16 (skip 9 (relay 27)))
-      (untouched refl refl refl) (untouched refl refl refl) still-led in
-      omega (arith, ints));
+  relayed = breaks wrong (λ h. too-far (pos 5000049) (pos 806) refl
+      (h.0 508000400 (omega arith) 1 0 _ _ _ _ _ _ _ _ _ _ _ _ _ _ wrong-round near-round refl (skipped 16 (skip 9 (relay 27))) (untouched refl refl refl)
+      (untouched refl refl refl) still-led));
 }
 
 stray-hops : Hops 0 (stray-hop false) (stray false)
@@ -205,53 +195,40 @@ chains_break = record {
   down = breaks wrong (λ h.
       let near : Hops 0 near-hop wrong = record { from_round = near-round; unchanged = untouched refl refl refl } in
       let far : Hops 1 wrong-hop wrong = record { from_round = wrong-round; unchanged = untouched refl refl refl } in
-      let k : pos 5000049 ≤ℤ pos 806 = (h.0 508000400 (omega arith)).down 0 near-hop (wrong-hop ∷ []) near
-      (far, skipped 16 (skip 9 (relay 27)), tt) still-led in
-      omega (arith, ints));
-  across = breaks (stray false) (λ h.
-      let k : pos 4999983 ≤ℤ pos 855 = (h.0 408000500 (omega arith)).across 0 (stray-hop false) first-hop [] [] stray-hops first-hops refl
-      refl tt tt in
-      omega (arith, ints));
-  tree = breaks (stray false) (λ h.
-      let k : pos 4999983 ≤ℤ pos 855 = (h.0 408000500 (omega arith)).tree 0 (stray-hop false) first-hop [] [] stray-hops first-hops
-      (left_alone false) (left_alone false) tt tt in
-      omega (arith, ints));
-  throughout = breaks (stray false) (λ h.
-      let k : pos 5000083 ≤ℤ pos 452 = ((h.0 408000500 (omega arith)).master 0 _ _ _ _ _ _ _ _
-      (record {
+      too-far (pos 5000049) (pos 806) refl ((h.0 508000400 (omega arith)).down 0 near-hop (wrong-hop ∷ []) near
+      (far, skipped 16 (skip 9 (relay 27)), tt) still-led));
+  across = breaks (stray false) (λ h. too-far (pos 4999983) (pos 855) refl
+      ((h.0 408000500 (omega arith)).across 0 (stray-hop false) first-hop [] [] stray-hops first-hops refl refl tt tt));
+  tree = breaks (stray false) (λ h. too-far (pos 4999983) (pos 855) refl
+      ((h.0 408000500 (omega arith)).tree 0 (stray-hop false) first-hop [] [] stray-hops first-hops (left_alone false) (left_alone false) tt tt));
+  throughout = breaks (stray false) (λ h. too-far (pos 5000083) (pos 452) refl
+      (((h.0 408000500 (omega arith)).master 0 _ _ _ _ _ _ _ _ (record {
         from_round = stray-round false;
         within = inl refl;
         count = 3;
         lo = negsuc 150;
         size = pos 151;
         deed = refl;
-        one_life =
-            refl;
+        one_life = refl;
         one_life_master = refl;
-      })).taken_back in
-      omega (arith, ints));
-  throughout_peers = breaks (stray false) (λ h.
-      let k : pos 4999983 ≤ℤ pos 855 = ((h.0 408000500 (omega arith)).peers 0 _ _ _ _ _ _ _ _ _ _ _ _
-      (record { from_round = stray-round false; within = inl refl; one_life = refl })
-      (record { from_round = first-round; within = skipped 4 (stray false); one_life = refl })).taken_back in
-      omega (arith, ints));
+      })).taken_back));
+  throughout_peers = breaks (stray false) (λ h. too-far (pos 4999983) (pos 855) refl
+      (((h.0 408000500 (omega arith)).peers 0 _ _ _ _ _ _ _ _ _ _ _ _ (record { from_round = stray-round false; within = inl refl; one_life = refl })
+      (record { from_round = first-round; within = skipped 4 (stray false); one_life = refl })).taken_back));
   -- a Close that begins no ADJTIME
-  estimates_apart = breaks (first-hop.close ∷ off) (λ h.
-      let k : pos 9000151 ≤ℤ pos 855 = h.apart.0 0 1 2 3 (negsuc 150) (pos 151) (negsuc 83) _ _ _ _ _ _ refl refl off-one near-two in
-      omega (arith, ints));
+  estimates_apart = breaks (first-hop.close ∷ off) (λ h. too-far (pos 9000151) (pos 855) refl
+      (h.apart.0 0 1 2 3 (negsuc 150) (pos 151) (negsuc 83) _ _ _ _ _ _ refl refl off-one near-two));
   master_near = breaks (adjust ∷ strayed) (λ h.
       let estimate : Estimate 0 1 first-hop.close first-hop.cpast (sample_of 0 first-hop) first-hop.reading first-hop.older
       (adjust ∷ strayed) = estimate-at (spot 5 first-hop.cpast refl) (search arith) refl refl refl in
-      let k : pos 5000001 ≤ℤ pos 420 = h.near.0 408000000 (omega arith) 0 1 first-hop.close first-hop.cpast (negsuc 83) adjust strayed _ _
-      _ (inl refl)
-      (close_begins refl refl (skipped 1 strayed) refl refl refl refl refl refl) estimate (but_for (spot 1 (adjust ∷ strayed) refl) refl
-      refl refl refl refl) in
-      omega (arith, ints));
+      too-far (pos 5000001) (pos 420) refl (h.near.0 408000000 (omega arith) 0 1 first-hop.close first-hop.cpast (negsuc 83) adjust strayed _ _ _ (inl refl)
+      (close_begins refl refl (skipped 1 strayed) refl refl refl refl refl refl) estimate
+      (but_for {cpast = first-hop.cpast} (spot 1 (adjust ∷ strayed) refl) refl refl refl refl refl)));
   -- the same, before the first ADJTIME is posted
   ended_near = breaks strayed (λ h.
       let estimate : Estimate 0 1 first-hop.close first-hop.cpast (sample_of 0 first-hop) first-hop.reading first-hop.older strayed =
       estimate-at (spot 5 first-hop.cpast refl) (search arith) refl refl refl in
-      let k : pos 5000001 ≤ℤ pos 420 = h.ended.0 408000000 (omega arith) 0 1 first-hop.close
+      too-far (pos 5000001) (pos 420) refl (h.ended.0 408000000 (omega arith) 0 1 first-hop.close
       (does 408000000 0 Turned (Correct (pos 5000000) false (pos 0))) first-hop.cpast (pos 5000000) _ _ _ (untouched refl refl refl)
       (record {
         count = 3;
@@ -264,10 +241,8 @@ chains_break = record {
         shown = pos 0;
         correct = refl;
         correct_node = refl;
-      }) estimate in
-      omega (arith, ints));
-  errs_bounded = breaks (first-hop.correct ∷ long) (λ h. let k : pos 5000000 ≤ℤ pos 4500000 = h.0 0 _ _ _ _ _ long-round in omega
-      (arith, ints));
+      }) estimate));
+  errs_bounded = breaks (first-hop.correct ∷ long) (λ h. too-far (pos 5000000) (pos 4500000) refl (h.0 0 _ _ _ _ _ long-round));
   one_error = breaks (first-hop.correct ∷ between-hop.past) (λ h.
       let k : 1 ≡ 2 = (h.0.by_reading 0 (taking_of between-round refl) _ _ _ _ (reading_of between-round refl)).corrects in
       omega arith);
@@ -275,6 +250,6 @@ chains_break = record {
       let k : 0 ≡ 1 = (h.0.by_slaveup 0 (set-taking (negsuc 0) true (pos 305000001) late (skipped 3 late) refl) _ _
       (set-source (negsuc 0) true (pos 305000001) late (skipped 3 late) refl (skipped 9 late))).corrects in
       omega arith);
-  first_set = breaks sets_wrong (λ h. let k : pos 100000000 ≤ℤ pos 2 = (h.0.at_once 0 _ _ wrong-set).high in omega (arith, ints));
-  first_set_soon = breaks sets_wrong (λ h. let k : pos 100000000 ≤ℤ pos 34000001 = h.0 0 _ _ wrong-set in omega (arith, ints));
+  first_set = breaks sets_wrong (λ h. too-far (pos 100000000) (pos 2) refl ((h.0.at_once 0 _ _ wrong-set).high));
+  first_set_soon = breaks sets_wrong (λ h. too-far (pos 100000000) (pos 34000001) refl (h.0 0 _ _ wrong-set));
 }

@@ -2,6 +2,7 @@
 use Rattle.std.proofs.Common.{ap, arith, inl, inr, sym, true≢false, ◌≡◌, ◌≤◌, ◌<◌, ℕ, true, false, ◌+◌, pos, List, [], ◌∷◌, Option, Some, None, refl, subst, ◌∙◌}
 use Rattle.tsp_rules.specs.Values.{Boot, Took, Post, Become, Ring, Back, Close, Correct, Quit, ResolveAlarm, Message, Stamp, Good, Accept, Ack, AdjTime, Election, MasterReq, Msite, QuitKind, Nothing, TimeBody, PeerId, Peer, Stranger, Follow, Candidate, Master, Reply, ELECT_MIN, Datagram, Taken, Test, Place, Loose, Request}
 use Rattle.tsp_base.specs.Words.{Booted, Came, Handed, Turned, Line, of, view, MessageValue, Received, message_in, ReplyValue, peer_of}
+use Rattle.tsp_promises.proofs.Spots.{too-many}
 use Rattle.tsp_promises.proofs.Histories.{begins, does, line, msg, step_at, still}
 use Rattle.tsp_promises.specs.{Answered.AnswersAsked, Answered.AnswersWith, Broken.breaks, Broken.RolesBreak, Broken.AnswersBreak}
 use Rattle.tsp_promises.{proofs.Debts.not-same, proofs.StepChecks.port0, proofs.StepChecks.port1, specs.Resolved.TakesQuit}
@@ -11,9 +12,6 @@ one-two e = not-same 1 2 (omega arith) (ap (λ (p : PeerId). p.0) e)
 
 abbrev stands : List Line
 stands = does 10 0 Turned (Become Candidate) ∷ []
-
-abbrev closed : List Line
-closed = does 20 0 Turned (Close 1 (pos 0) (pos 0) (pos 5)) ∷ (does 10 0 Turned (Become Master) ∷ [])
 
 follow-same : (p q : PeerId) → Follow p ≡ Follow q → p ≡ q
 follow-same p q e = cc
@@ -57,9 +55,6 @@ takes = record {
 abbrev idle : ReplyValue
 idle = record { ticket = 0; word = 5; counter = 0; reading = pos 10 }
 
-abbrev pub asked-name : List Line
-asked-name = does 10 0 Handed (Took Stranger (Good (Message (msg Msite 3 Nothing)))) ∷ (does 0 0 (Booted 7 (pos 0)) Boot ∷ [])
-
 abbrev number-of : Option MessageValue → ℕ
 number-of None = 0
 number-of (Some m) = m.number
@@ -97,7 +92,8 @@ roles_break = record {
         | inl late ↦ omega arith
         | inr early ↦ cc early
       ]);
-  acks_early = breaks (does 10 0 Handed (Post Stranger (Message (msg Ack 4 Nothing))) ∷ asked-name)
+  acks_early = breaks (does 10 0 Handed (Post Stranger (Message (msg Ack 4 Nothing))) ∷
+      (does 10 0 Handed (Took Stranger (Good (Message (msg Msite 3 Nothing)))) ∷ (does 0 0 (Booted 7 (pos 0)) Boot ∷ [])))
       (λ h. elim (h.0.posts Stranger (Message (msg Ack 4 Nothing)) refl) [
         | inl late ↦ omega arith
         | inr early ↦ (let same : 3 ≡ early.1.message.number = ap number-in early.1.took in let is = early.1.number_is in omega
@@ -105,7 +101,8 @@ roles_break = record {
       ]);
   corrects_early = breaks (does 10 0 Turned (Correct (pos 5) true (pos 0)) ∷ (does 0 0 (Booted 7 (pos 0)) Boot ∷ []))
       (λ h. let late = h.0.corrects (pos 5) true (pos 0) refl in omega arith);
-  follows_close = breaks (line (step_at 20 0 Turned) port1 (Correct (pos 5) false (pos 0)) ∷ (begins 20 1 Turned ∷ closed))
+  follows_close = breaks (line (step_at 20 0 Turned) port1 (Correct (pos 5) false (pos 0)) ∷ (begins 20 1 Turned ∷
+      (does 20 0 Turned (Close 1 (pos 0) (pos 0) (pos 5)) ∷ (does 10 0 Turned (Become Master) ∷ []))))
       (λ h. cc (h.0.corrects (does 20 0 Turned (Close 1 (pos 0) (pos 0) (pos 5))) (does 10 0 Turned (Become Master) ∷ []) 1 (pos 0)
       (pos 0) (pos 5) (pos 5) false (pos 0) refl refl refl));
   winners = breaks (does 20 1 Turned (Become Master) ∷ (does 10 0 Turned (Become Master) ∷ []))
@@ -142,9 +139,6 @@ asked = does 10 0 Handed (Took Stranger (Good (Stamp (Request 5 0)))) ∷ []
 
 abbrev pub reply : ReplyValue
 reply = record { ticket = 0; word = 5; counter = 0; reading = pos 10 }
-
-abbrev replied : List Line
-replied = does 10 0 Handed (Post Stranger (Stamp (Reply reply))) ∷ asked
 
 abbrev quits : List Line
 quits = does 10 0 Handed (Took (Peer (peer_of 1)) (Good (Message (msg QuitKind 32770 Nothing)))) ∷ []
@@ -199,14 +193,14 @@ answers_break = record {
       (λ h. let k = h.heeded.ends 0 port0 in cc);
   unacknowledged = breaks (does 10 0 Handed (Quit (peer_of 1)) ∷ quits)
       (λ h. let k = h.acknowledged.ends 0 port0 in cc);
-  replies_twice = breaks (does 10 0 Handed (Post Stranger (Stamp (Reply reply))) ∷ replied)
+  replies_twice = breaks (does 10 0 Handed (Post Stranger (Stamp (Reply reply))) ∷
+      (does 10 0 Handed (Post Stranger (Stamp (Reply reply))) ∷ asked))
       (λ h. true≢false (h.strangers.0 (Stamp (Reply reply)) refl).first);
   nameless = breaks (does 10 0 Handed (Post Stranger (Message (msg Ack 5 Nothing))) ∷ tested) (λ h.
       let a = h.strangers.0 (Message (msg Ack 5 Nothing)) refl in
       cc (a.named (msg Ack 5 Nothing) (msg Test 5 Nothing) refl (same-datagram _ (Message
       (msg Test 5 Nothing)) a.asked refl a.took)));
-  unasked = breaks (does 10 0 Handed (Post Stranger (Stamp (Reply reply))) ∷ [])
-      (λ h. let k : 1 ≤ 0 = h.one_for_one.0 in omega arith);
+  unasked = breaks (does 10 0 Handed (Post Stranger (Stamp (Reply reply))) ∷ []) (λ h. too-many 1 0 refl (h.one_for_one.0));
   unasked_peer = breaks (does 10 0 Handed (Post (Peer (peer_of 1)) (Stamp (Reply reply))) ∷ [])
       (λ h. let k = (h.answers.0 (Peer (peer_of 1)) (Stamp (Reply reply)) refl refl).took in cc);
   misnumbered = breaks (does 10 0 Handed (Post (Peer (peer_of 1)) (Message next)) ∷ quits)

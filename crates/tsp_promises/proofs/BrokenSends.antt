@@ -5,9 +5,9 @@ use Rattle.tsp_rules.specs.Values.{Boot, Took, Post, Become, Ring, Correct, Acke
 use Rattle.tsp_base.specs.Words.{Acts, Booted, Came, Handed, Turned, Line, dids, of, plain, view, MessageValue, tick_of, Within, heard, peer_of, posted}
 use Rattle.tsp_promises.proofs.Histories.{begins, does, line, msg, step_at, still}
 use Rattle.tsp_promises.specs.{Broken.breaks, Broken.SendsBreak, Broken.DatesBreak, Broken.LoopsBreak, Looped.IsLoopChain, Looped.LoopPost}
-use Rattle.tsp_promises.specs.{Fits.node_of, Once.ActsOn, Once.OfSend}
-use Rattle.tsp_promises.proofs.{PremiseChecks.few-by, PremiseChecks.honest-by, PremiseChecks.life-by, StepChecks.port0, StepChecks.port1}
-use Rattle.tsp_promises.proofs.{EverywhereLemmas.Everywhere-at, SendProof.one-message, WitnessDates.loop_with, WitnessDates.names-by}
+use Rattle.tsp_promises.proofs.{PremiseChecks.few-by, PremiseChecks.honest-by, PremiseChecks.life-by, EverywhereLemmas.Everywhere-at}
+use Rattle.tsp_promises.proofs.{WitnessDates.loop_with, WitnessDates.names-by, StepChecks.port0, StepChecks.port1, SendProof.one-message}
+use Rattle.tsp_promises.{specs.Once.ActsOn, specs.Once.OfSend, proofs.Spots.too-many, specs.Fits.node_of}
 
 abbrev moves : ℕ → ℕ → Line
 moves at k = does at 0 (Came k) (Correct (pos 1) false (pos 0))
@@ -42,33 +42,15 @@ first = acts _ _ _ _ adjusts refl (inr (inl refl)) refl refl refl
 abbrev twice : List Line
 twice = took 30 0 ∷ (moves 20 0 ∷ once)
 
-abbrev second : ActsOn (moves 30 0) twice adj ring
-second = acts _ _ _ _ adjusts refl (inr (inr (inr (inl refl)))) refl refl refl
-
 -- the send has ended, and is posted again
-abbrev over : List Line
-over = does 25 1 Turned (Acked (peer_of 0)) ∷ (moves 20 0 ∷ once)
-
 abbrev rest : List Line
-rest = begins 26 1 Turned ∷ over
+rest = begins 26 1 Turned ∷ (does 25 1 Turned (Acked (peer_of 0)) ∷ (moves 20 0 ∷ once))
 
 abbrev again : Line
 again = does 26 1 Turned (Post (Peer (peer_of 0)) (Message adjusts))
 
-abbrev repeats : List Line
-repeats = took 30 1 ∷ (again ∷ rest)
-
-abbrev once-more : ActsOn (moves 30 1) repeats again rest
-once-more = acts _ _ _ _ adjusts refl (inr (inl refl)) refl refl refl
-
-of-ended : OfSend 0 again rest adj.did (view port0 (of 1 ring))
-of-ended = record { message = adjusts; deed = refl; numbered = refl; is = refl }
-
 abbrev aside : Line
 aside = line (step_at 30 0 (Came 0)) port1 (Correct (pos 1) false (pos 0))
-
-abbrev beside : ActsOn aside twice adj ring
-beside = acts _ _ _ _ adjusts refl (inr (inr (inr (inl refl)))) refl refl refl
 
 abbrev dates : MessageValue
 dates = msg SetDateReq 32775 (TimeBody (pos 1))
@@ -84,12 +66,6 @@ forged = does 25 0 Handed (Correct (pos 1) false (pos 0)) ∷ (does 25 0 Handed 
 
 abbrev dated_twice : List Line
 dated_twice = does 30 0 (Came 0) (Took (Peer (peer_of 1)) (Good (Message dates))) ∷ forged
-
-dates-once : ActsOn (moves 20 0) dated_once date ring
-dates-once = acts _ _ _ _ dates refl (inr (inl refl)) refl refl refl
-
-abbrev dates-twice : ActsOn (moves 30 0) dated_twice date ring
-dates-twice = acts _ _ _ _ dates refl (inr (inr (inr (inr (inr (inl refl)))))) refl refl refl
 
 date-begins : OfSend 0 date ring date.did (view port0 (of 1 ring))
 date-begins = record { message = dates; deed = refl; numbered = refl; is = refl }
@@ -120,23 +96,23 @@ sends_break = record {
   obeyed = breaks (does 20 0 Turned (Correct (pos 1) false (pos 0)) ∷ (does 10 0 Turned (Become (Follow (peer_of 1))) ∷ []))
       (λ h. cc (h.0 (peer_of 1) (pos 1) false (pos 0) refl refl).brings.cause);
   corrected = breaks (moves 30 0 ∷ twice)
-      (λ h. h.0 adj (moves 20 0) adj ring once ring adj.did (view port0 (of 1 ring)) second refl (inr
-      (inl refl)) first begins-here begins-here);
-  repeated = breaks (moves 30 1 ∷ repeats)
-      (λ h. h.0 again (moves 20 0) adj rest once ring adj.did (view port0 (of 1 ring)) once-more refl (inr (inr (inr (inr
-      (inl refl))))) first of-ended begins-here);
+      (λ h. h.0 adj (moves 20 0) adj ring once ring adj.did (view port0 (of 1 ring))
+      (acts _ _ _ _ adjusts refl (inr (inr (inr (inl refl)))) refl refl refl) refl (inr (inl refl)) first begins-here begins-here);
+  repeated = breaks (moves 30 1 ∷ (took 30 1 ∷ (again ∷ rest)))
+      (λ h. h.0 again (moves 20 0) adj rest once ring adj.did (view port0 (of 1 ring)) (acts _ _ _ _ adjusts refl (inr (inl refl)) refl refl refl)
+      refl (inr (inr (inr (inr (inl refl))))) first (record { message = adjusts; deed = refl; numbered = refl; is = refl }) begins-here);
   elsewhere = breaks (aside ∷ twice)
-      (λ h. h.0 adj (moves 20 0) adj ring once ring adj.did (view port0 (of 1 ring)) beside refl (inr
-      (inl refl)) first begins-here begins-here);
+      (λ h. h.0 adj (moves 20 0) adj ring once ring adj.did (view port0 (of 1 ring))
+      (acts _ _ _ _ adjusts refl (inr (inr (inr (inl refl)))) refl refl refl) refl (inr (inl refl)) first begins-here begins-here);
   dated = breaks (moves 30 0 ∷ dated_twice)
-      (λ h. h.0 date (moves 20 0) date ring dated_once ring date.did (view port0 (of 1 ring)) dates-twice refl (inr (inr (inr
-      (inl refl)))) dates-once date-begins date-begins);
+      (λ h. h.0 date (moves 20 0) date ring dated_once ring date.did (view port0 (of 1 ring))
+      (acts _ _ _ _ dates refl (inr (inr (inr (inr (inr (inl refl)))))) refl refl refl) refl (inr (inr (inr (inl refl))))
+      (acts _ _ _ _ dates refl (inr (inl refl)) refl refl refl) date-begins date-begins);
   confirmed = breaks (does 20 0 Turned (Acked (peer_of 1)) ∷ sent) (λ h.
       let a = h.0 (peer_of 1) _ _ (msg SetTime 5 (TimeBody (pos 1))) refl refl refl refl in
       let own = Everywhere-at (λ (l : Line) (before : List Line). node_of l ≡ 0) a.correct a.past sent (refl, (refl, tt)) a.place in
       omega (arith, own, a.node));
-  fourth = breaks (posts-again 3000000 (posts-again 2000000 (posts-again 1000000 asked)))
-      (λ h. let k : 4 ≤ 3 = (h.0 (peer_of 1) asks refl refl).few in omega arith);
+  fourth = breaks (posts-again 3000000 (posts-again 2000000 (posts-again 1000000 asked))) (λ h. too-many 4 3 refl ((h.0 (peer_of 1) asks refl refl).few));
   late = breaks (posts-again 4000001 asked) (λ h.
       let o = h.0 (peer_of 1) asks refl refl in
       let first : 0 ≡ o.first.did.tick = ap (λ s. tick_of (plain s)) o.is in

@@ -1,13 +1,15 @@
 -- What changes of the role, backings and takings make of what is known of a port.
 use Rattle.std.proofs.Common.{sym, ap, inl, inr, ◌∙◌, eq-eqb, true≢false, ◌≡◌, ◌≢◌, ◌≤◌, ℕ, ◌+◌, ◌==◌, Bool, true, false, if◌then◌else◌, List, [], ◌∷◌, Option, None, Some, refl, ◌⊎◌}
-use Rattle.tsp_rules.specs.Values.{Took, Post, Become, Back, Quit, Message, Taken, PeerId, Place, Peer, Role, Loose, Follow, Candidate, Master, ELECT_MIN, QUIET, Act, Ring, Late, Quiet, Window, Elect, Search, Round, Probe, CloseAlarm, ResolveAlarm, Starting}
-use Rattle.tsp_rules.proofs.Asides.{now}
-use Rattle.tsp_base.specs.Words.{Did, Acts, Seen, Here, Past, plain, MessageValue, boot_tick, Received, Said, role, held, armed, acting, said, taken, grown, heard, open_to}
-use Rattle.tsp_promises.specs.{DeedFits.MessageFits, DeedFits.ActFits, HoldFits.BackFits, HoldFits.LeadFits, HoldFits.YieldFits}
-use Rattle.tsp_promises.specs.{QuitFits.QuitFits, PortFits.PortFits, PortFits.setup_in}
+use Rattle.tsp_rules.specs.Values.{Alarm, Took, Post, Become, Back, Quit, Message, Taken, PeerId, Place, Peer, Role, Loose, Follow, Candidate, Master}
+use Rattle.tsp_rules.specs.Values.{ELECT_MIN, QUIET, Act, Ring, Late, Quiet, Window, Elect, Search, Round, Probe, CloseAlarm, ResolveAlarm, Starting}
+use Rattle.tsp_rules.proofs.{Asides.now, CalmAlarms.moves_by}
+use Rattle.tsp_base.specs.Words.{Did, Acts, Seen, Here, Past, plain, MessageValue, boot_tick, Received, Said, role, held, armed, acting, said, taken, grown}
+use Rattle.tsp_base.specs.Words.{heard}
+use Rattle.tsp_promises.proofs.Leaves.{made, nil-cons, none-some, now_rested, then_seen, with_quiet, with_round, with_times, with_vote}
+use Rattle.tsp_promises.proofs.Known.{TimesOf, VotesOf, RoundsOf, KnowsOf, During, Open, Sleeps, OpenIn, Untaken, Free}
 use Rattle.tsp_promises.specs.StepFacts.{acked_by, is_ack, is_answered, is_unbacked, owes, owes_after, unacknowledged}
-use Rattle.tsp_promises.proofs.Known.{TimesOf, KnowsOf, During, Open, Sleeps, Quiets, OpenIn, Untaken, Free}
-use Rattle.tsp_promises.proofs.{Leaves.then_seen, Leaves.made, Leaves.none-some, Leaves.nil-cons, StrangerFacts.unanswered}
+use Rattle.tsp_promises.specs.{HoldFits.BackFits, HoldFits.LeadFits, HoldFits.YieldFits, DeedFits.MessageFits, DeedFits.ActFits}
+use Rattle.tsp_promises.{specs.PortFits.PortFits, specs.PortFits.setup_in, proofs.StrangerFacts.unanswered, specs.QuitFits.QuitFits}
 
 -- what alarms make of what is known of a port
 
@@ -26,52 +28,50 @@ wake r h = record { own = h.own; fits = h.fits; knows = h.knows; rested = λ e. 
 pub forget : {stirred awake owing acts : Bool} {follow : List PeerId} {T : Option Received → Option Received → Type 0} {x : ℕ} {past : Past} → During stirred awake owing follow acts T x past → During stirred false owing follow acts T x past
 forget h = record { own = h.own; fits = h.fits; knows = h.knows; rested = λ e. let bad : ⊥ = cc in absurd bad; backs = h.backs; owed = h.owed; paid = h.paid; acting_is = h.acting_is; took = h.took }
 
+-- an alarm that is off owes nothing
+no-window : (x : ℕ) (past : Past) → VotesOf x past.own past.seen → VotesOf x past.own (then_seen x past (Ring Window))
+no-window x past v = record { stands = v.stands; windows = λ n e. none-some n e; votes = v.votes }
+
+no-round : (x : ℕ) (past : Past) → TimesOf x past.seen → TimesOf x (then_seen x past (Ring Round))
+no-round x past k = record { boot_le = k.boot_le; last_le = k.last_le; boot_is = k.boot_is; start_le = k.start_le; next = λ n e. none-some n e }
+
+unled : (x : ℕ) (past : Past) → RoundsOf false past.seen → RoundsOf false (then_seen x past (Ring Round))
+unled x past k = record { rounds = λ n e. none-some n e; probing = k.probing; closes = k.closes; exchanges = k.exchanges }
+
 module _ {x : ℕ} {past : Past} where
   rang : (a : Act) → ActFits (setup_in past) a (now x past a) past.seen → KnowsOf false x past.own (then_seen x past a) → boot_tick (plain (then_seen x past a)) + QUIET ≤ x → is_unbacked (then_seen x past a) ≡ false → owes (then_seen x past a) ≡ [] → unacknowledged (then_seen x past a) ≡ None → acting (then_seen x past a) ≡ true →
       Untaken (taken (then_seen x past a)) (heard (plain (then_seen x past a))) → Open x past → Free Untaken x (grown x past (a ∷ []))
   rang a f k r b w u c t h = made a h.own f h.fits k (λ e. r) b w u c t
 
-  awake_quiets : boot_tick (plain past.seen) + QUIET ≤ x → (search elect resolve : Option ℕ) → Open x past → Quiets x (boot_tick (plain past.seen)) (role past.seen) (armed past.seen).quiet search elect resolve (λ p. open_to p past.seen)
-  awake_quiets r search elect resolve h = record { rested = inr r; silent = h.knows.quiet.silent }
+  -- no other alarm than a Close ends a round: it has rung in time
+  pub ring : (a : Alarm) → moves_by a ≡ false → boot_tick (plain past.seen) + QUIET ≤ x → Open x past → Free Untaken x (grown x past (Ring a ∷ []))
+  ring Quiet e r h = rang (Ring Quiet) tt (with_quiet h.knows (record { rested = inr r; silent = λ n e. none-some n e })) r h.backs h.owed h.paid refl h.took h
+  ring Search e r h = rang (Ring Search) tt (with_quiet h.knows (now_rested r h.knows.quiet)) r h.backs h.owed h.paid refl h.took h
+  ring Elect e r h = rang (Ring Elect) tt (with_quiet h.knows (now_rested r h.knows.quiet)) r h.backs h.owed h.paid refl h.took h
+  ring ResolveAlarm e r h = rang (Ring ResolveAlarm) tt (with_quiet h.knows (now_rested r h.knows.quiet)) r h.backs h.owed h.paid refl h.took h
+  ring Window e r h = rang (Ring Window) tt (with_vote h.knows (no-window x past h.knows.vote)) r h.backs h.owed h.paid refl h.took h
+  ring Round e r h = rang (Ring Round) tt (with_round (with_times h.knows (no-round x past h.knows.times))
+      (unled x past h.knows.round)) r h.backs h.owed h.paid refl h.took h
+  ring Probe e r h =
+      let k = h.knows.round in
+      rang (Ring Probe) tt (with_round h.knows (record { rounds = k.rounds; probing = λ n e. none-some n e; closes = k.closes; exchanges = k.exchanges }))
+      r h.backs h.owed h.paid refl h.took h
+  ring CloseAlarm e r h = absurd (true≢false e)
 
-  pub ring_search : boot_tick (plain past.seen) + QUIET ≤ x → Open x past → Free Untaken x (grown x past (Ring Search ∷ []))
-  ring_search r h = let k = h.knows in rang (Ring Search) tt (record { times = k.times; quiet = awake_quiets r None (armed past.seen).elect (armed past.seen).resolve h; vote = k.vote; round = k.round }) r h.backs h.owed h.paid refl h.took h
-
-  pub late_search : boot_tick (plain past.seen) + QUIET ≤ x → Open x past → Free Untaken x (grown x past (Late Search ∷ []))
-  late_search r h = let k = h.knows in rang (Late Search) tt (record { times = k.times; quiet = awake_quiets r None (armed past.seen).elect (armed past.seen).resolve h; vote = k.vote; round = k.round }) r h.backs h.owed h.paid refl h.took h
-
-  pub ring_elect : boot_tick (plain past.seen) + QUIET ≤ x → Open x past → Free Untaken x (grown x past (Ring Elect ∷ []))
-  ring_elect r h = let k = h.knows in rang (Ring Elect) tt (record { times = k.times; quiet = awake_quiets r (armed past.seen).search None (armed past.seen).resolve h; vote = k.vote; round = k.round }) r h.backs h.owed h.paid refl h.took h
-
-  pub late_elect : boot_tick (plain past.seen) + QUIET ≤ x → Open x past → Free Untaken x (grown x past (Late Elect ∷ []))
-  late_elect r h = let k = h.knows in rang (Late Elect) tt (record { times = k.times; quiet = awake_quiets r (armed past.seen).search None (armed past.seen).resolve h; vote = k.vote; round = k.round }) r h.backs h.owed h.paid refl h.took h
-
-  pub ring_resolve : boot_tick (plain past.seen) + QUIET ≤ x → Open x past → Free Untaken x (grown x past (Ring ResolveAlarm ∷ []))
-  ring_resolve r h = let k = h.knows in rang (Ring ResolveAlarm) tt (record { times = k.times; quiet = awake_quiets r (armed past.seen).search (armed past.seen).elect None h; vote = k.vote; round = k.round }) r h.backs h.owed h.paid refl h.took h
-
-  pub late_resolve : boot_tick (plain past.seen) + QUIET ≤ x → Open x past → Free Untaken x (grown x past (Late ResolveAlarm ∷ []))
-  late_resolve r h = let k = h.knows in rang (Late ResolveAlarm) tt (record { times = k.times; quiet = awake_quiets r (armed past.seen).search (armed past.seen).elect None h; vote = k.vote; round = k.round }) r h.backs h.owed h.paid refl h.took h
-
-  pub ring_quiet : boot_tick (plain past.seen) + QUIET ≤ x → Open x past → Free Untaken x (grown x past (Ring Quiet ∷ []))
-  ring_quiet r h = let k = h.knows in rang (Ring Quiet) tt (record { times = k.times; quiet = record { rested = inr r; silent = λ n e. none-some n e }; vote = k.vote; round = k.round }) r h.backs h.owed h.paid refl h.took h
-
-  pub ring_window : boot_tick (plain past.seen) + QUIET ≤ x → Open x past → Free Untaken x (grown x past (Ring Window ∷ []))
-  ring_window r h = let k = h.knows in rang (Ring Window) tt (record { times = k.times; quiet = k.quiet; vote = record { stands = k.vote.stands; windows = λ n e. none-some n e; votes = k.vote.votes }; round = k.round }) r h.backs h.owed h.paid refl h.took h
-
-  pub late_window : boot_tick (plain past.seen) + QUIET ≤ x → Open x past → Free Untaken x (grown x past (Late Window ∷ []))
-  late_window r h = let k = h.knows in rang (Late Window) tt (record { times = k.times; quiet = k.quiet; vote = record { stands = k.vote.stands; windows = λ n e. none-some n e; votes = k.vote.votes }; round = k.round }) r h.backs h.owed h.paid refl h.took h
-
-  pub ring_round : boot_tick (plain past.seen) + QUIET ≤ x → Open x past → Free Untaken x (grown x past (Ring Round ∷ []))
-  ring_round r h = let k = h.knows in rang (Ring Round) tt (record { times = record { boot_le = k.times.boot_le; last_le = k.times.last_le; boot_is = k.times.boot_is; start_le = k.times.start_le; next = λ n e. none-some n e }; quiet = k.quiet; vote = k.vote; round = record { rounds = λ n e. none-some n e; probing = k.round.probing; closes = k.round.closes; exchanges = k.round.exchanges } }) r h.backs h.owed h.paid refl h.took h
-
-  pub late_round : boot_tick (plain past.seen) + QUIET ≤ x → Open x past → Free Untaken x (grown x past (Late Round ∷ []))
-  late_round r h = let k = h.knows in rang (Late Round) tt (record { times = record { boot_le = k.times.boot_le; last_le = k.times.last_le; boot_is = k.times.boot_is; start_le = k.times.start_le; next = λ n e. none-some n e }; quiet = k.quiet; vote = k.vote; round = record { rounds = λ n e. none-some n e; probing = k.round.probing; closes = k.round.closes; exchanges = k.round.exchanges } }) r h.backs h.owed h.paid refl h.took h
-
-  pub ring_probe : boot_tick (plain past.seen) + QUIET ≤ x → Open x past → Free Untaken x (grown x past (Ring Probe ∷ []))
-  ring_probe r h = let k = h.knows in rang (Ring Probe) tt (record { times = k.times; quiet = k.quiet; vote = k.vote; round = record { rounds = k.round.rounds; probing = λ n e. none-some n e; closes = k.round.closes; exchanges = k.round.exchanges } }) r h.backs h.owed h.paid refl h.took h
-
-  pub late_probe : boot_tick (plain past.seen) + QUIET ≤ x → Open x past → Free Untaken x (grown x past (Late Probe ∷ []))
-  late_probe r h = let k = h.knows in rang (Late Probe) tt (record { times = k.times; quiet = k.quiet; vote = k.vote; round = record { rounds = k.round.rounds; probing = λ n e. none-some n e; closes = k.round.closes; exchanges = k.round.exchanges } }) r h.backs h.owed h.paid refl h.took h
+  -- or it comes late
+  pub late : (a : Alarm) → moves_by a ≡ false → boot_tick (plain past.seen) + QUIET ≤ x → Open x past → Free Untaken x (grown x past (Late a ∷ []))
+  late Quiet e r h = rang (Late Quiet) tt (with_quiet h.knows (record { rested = inr r; silent = λ n e. none-some n e })) r h.backs h.owed h.paid refl h.took h
+  late Search e r h = rang (Late Search) tt (with_quiet h.knows (now_rested r h.knows.quiet)) r h.backs h.owed h.paid refl h.took h
+  late Elect e r h = rang (Late Elect) tt (with_quiet h.knows (now_rested r h.knows.quiet)) r h.backs h.owed h.paid refl h.took h
+  late ResolveAlarm e r h = rang (Late ResolveAlarm) tt (with_quiet h.knows (now_rested r h.knows.quiet)) r h.backs h.owed h.paid refl h.took h
+  late Window e r h = rang (Late Window) tt (with_vote h.knows (no-window x past h.knows.vote)) r h.backs h.owed h.paid refl h.took h
+  late Round e r h = rang (Late Round) tt (with_round (with_times h.knows (no-round x past h.knows.times))
+      (unled x past h.knows.round)) r h.backs h.owed h.paid refl h.took h
+  late Probe e r h =
+      let k = h.knows.round in
+      rang (Late Probe) tt (with_round h.knows (record { rounds = k.rounds; probing = λ n e. none-some n e; closes = k.closes; exchanges = k.exchanges }))
+      r h.backs h.owed h.paid refl h.took h
+  late CloseAlarm e r h = absurd (true≢false e)
 
   pub ring_close : (armed past.seen).probe ≡ None → boot_tick (plain past.seen) + QUIET ≤ x → Open x past → Free Untaken x (grown x past (Ring CloseAlarm ∷ []))
   ring_close unprobed r h = let k = h.knows in rang (Ring CloseAlarm) tt (record { times = k.times; quiet = k.quiet; vote = k.vote; round = record { rounds = k.round.rounds; probing = λ n e. none-some n (sym unprobed ∙ e); closes = λ calm n e. none-some n e; exchanges = λ p i s older e. nil-cons s older e } }) r h.backs h.owed h.paid refl h.took h
@@ -111,7 +111,7 @@ module _ {stirred awake acts : Bool} {follow : List PeerId} {T : Option Received
       let k = h.knows in
       let same : (past.own.0 == past.step.node) ≡ true = eq-eqb past.own.0 past.step.node h.own in
       made (Back past.own) h.own f h.fits
-      (record { times = k.times; quiet = k.quiet; vote = record { stands = k.vote.stands; windows = λ n e. none-some n (sym shut ∙ e); votes = k.vote.votes }; round = k.round })
+      (with_vote k (record { stands = k.vote.stands; windows = λ n e. none-some n (sym shut ∙ e); votes = k.vote.votes }))
       h.rested (rw same refl) h.owed h.paid h.acting_is h.took
 
   -- a port that isn't a candidate backs another
@@ -119,7 +119,7 @@ module _ {stirred awake acts : Bool} {follow : List PeerId} {T : Option Received
   back_other p other f h =
       let k = h.knows in
       made (Back p) h.own f h.fits
-      (record { times = k.times; quiet = k.quiet; vote = record { stands = k.vote.stands; windows = λ n e. absurd (other (k.vote.windows n e).stands); votes = k.vote.votes }; round = k.round })
+      (with_vote k (record { stands = k.vote.stands; windows = λ n e. absurd (other (k.vote.windows n e).stands); votes = k.vote.votes }))
       h.rested (rw h.backs (either_false (p.0 == past.step.node))) h.owed h.paid h.acting_is h.took
 
 -- a port that took a QUIT, which it acknowledges or has acknowledged, or is about to follow

@@ -1,9 +1,10 @@
 -- The clock at a place is the target that the node's past gives. What a booted node's clock shows.
-use Rattle.std.proofs.Common.{sym, ap, arith, subst, eqb-true, true≢false, ◌∙◌, ◌≡◌, ◌==◌, Bool, true, false, ℕ, pos, ◌-ℤ◌, List, [], ◌∷◌, refl, inl, inr}
+use Rattle.std.proofs.Common.{sym, ap, arith, subst, true≢false, ◌∙◌, ◌≡◌, true, ℕ, pos, ◌-ℤ◌, List, [], ◌∷◌, refl, inl, inr}
 use Rattle.std.proofs.lemmas.Int.{ints}
 use Rattle.tsp_rules.specs.Values.{Boot, Post, Datagram, Place}
 use Rattle.tsp_base.specs.Words.{Deed, Begins, Acts, Did, Line, of, dids, base, boot_after, boot_tick, moved, target, up, up_after, wall, wall_after, rest_at, Within, tick_at}
-use Rattle.tsp_promises.specs.{Fits.Fits, Fits.LineFits, Fits.Alive, Fits.node_of, Setting.Setting, ShownAt.left_at, ShownAt.shown_at}
+use Rattle.tsp_promises.specs.{Fits.Fits, Fits.LineFits, Fits.Alive, Fits.node_of, Setting.Setting, ClockAt.left_at, ClockAt.shown_at}
+use Rattle.tsp_promises.proofs.OwnFitsProof.{node_walk}
 use Rattle.tsp_promises.{proofs.HistoryPlaces.of-own, proofs.HistoryPlaces.Within-of, specs.ClockAt.clock, specs.ClockAt.clock_at}
 
 base-deed : (setting : Setting) (d : Did) (t : List Did) (deed : Deed) → Alive setting deed d (up t) → (up t ≡ true → base t ≡ setting.wall d.step.node) → up_after deed (up t) ≡ true →
@@ -12,20 +13,12 @@ base-deed setting d t Begins a h u = h u
 base-deed setting d t (Acts Boot) a h u = rw a.1 (omega (arith, ints))
 base-deed setting d t (Acts act) a h u = h u
 
-base-more : (setting : Setting) (n : ℕ) (l : Line) (world : List Line) (b : Bool) → (node_of l == n) ≡ b → LineFits setting l world → (up (dids (of n world)) ≡ true → base (dids (of n world)) ≡ setting.wall n) →
-    up (dids (of n (l ∷ world))) ≡ true → base (dids (of n (l ∷ world))) ≡ setting.wall n
-base-more setting n l world true e f h u =
-    let same : node_of l ≡ n = eqb-true (node_of l) n e in
-    let go : (up (dids (of n world)) ≡ true → base (dids (of n world)) ≡ setting.wall (node_of l)) → up_after l.did.deed (up (dids (of n world))) ≡ true →
-    wall_after l.did.deed l.did.step.cause (wall (dids (of n world))) -ℤ pos (boot_after l.did.deed l.did.tick (boot_tick (dids (of n world)))) ≡ setting.wall (node_of l) =
-    base-deed setting l.did (dids (of n world)) l.did.deed (subst (λ k. Alive setting l.did.deed l.did (up (dids (of k world)))) same f.alive) in
-    rw e (go (λ q. h q ∙ ap setting.wall (sym same)) (rw e at u) ∙ ap setting.wall same)
-base-more setting n l world false e f h u = rw e (h (rw e at u))
-
 -- an uncorrected clock is the node's wall and its ticks
 pub base_is : (setting : Setting) (n : ℕ) (world : List Line) → Fits setting world → up (dids (of n world)) ≡ true → base (dids (of n world)) ≡ setting.wall n
-base_is setting n [] f u = absurd (true≢false (sym u))
-base_is setting n (l ∷ world) f u = base-more setting n l world (node_of l == n) refl f.0 (base_is setting n world f.1) u
+base_is setting n = node_walk setting n (λ world own. up (dids own) ≡ true → base (dids own) ≡ setting.wall n) (λ u. absurd (true≢false (sym u)))
+    (λ l world f node h u. base-deed setting l.did (dids (of n world)) l.did.deed
+    (subst (λ k. Alive setting l.did.deed l.did (up (dids (of k world)))) node f.0.alive) (λ e. h e ∙ ap setting.wall (sym node)) u ∙ ap setting.wall node)
+    (λ l world f h. h)
 
 -- the clock before a line, at its time, is the target that its node's past gives
 pub target_is : (setting : Setting) (l : Line) (world : List Line) → Fits setting (l ∷ world) → up (dids (of (node_of l) world)) ≡ true →

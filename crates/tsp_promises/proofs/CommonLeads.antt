@@ -1,13 +1,14 @@
 -- The rows that several roles share keep what is known of a port.
 use Rattle.std.proofs.Common.{sym, subst, arith, ◌∙◌, true≢false, ◌≡◌, ◌≤◌, ℕ, ◌+◌, Bool, true, false, List, [], ◌∷◌, Option, None, Some, refl}
-use Rattle.tsp_rules.specs.Values.{Post, Become, Arm, Back, Window, Elect, Search, Message, Kind, Conflict, Election, MasterReq, QuitKind, SlaveUp, PeerId, Peer, Role, Follow, Candidate, ELECT_MIN, WINDOW}
+use Rattle.tsp_rules.specs.Values.{Post, Become, Arm, Back, Window, Elect, Search, Message, Conflict, Election, MasterReq, QuitKind, SlaveUp, PeerId, Peer}
+use Rattle.tsp_rules.specs.Values.{Follow, Candidate, ELECT_MIN, WINDOW}
 use Rattle.tsp_rules.specs.CommonRows.{arms_elect, searches, tells_ticket, follow_row, backs_own, own_at, candidature_row}
-use Rattle.tsp_rules.specs.SendRows.{next_number, begins, others_at, begins_to_others, is_kind_election}
+use Rattle.tsp_rules.specs.SendRows.{next_number, begins, others_at, begins_to_others}
 use Rattle.tsp_rules.{specs.Guards.delay_at, specs.Guards.ticket_at, proofs.GuardFacts.MayStand, proofs.GuardFacts.back_is}
 use Rattle.tsp_rules.proofs.Asides.{now}
 use Rattle.tsp_base.specs.Words.{Did, Past, plain, Leads, boot_tick, ticket, MessageValue, Received, role, held, armed, stood, backers, grown, puts, ◌followed_by◌, for_each, arms, bare, post_of, posts, posts_to_others}
 use Rattle.tsp_base.proofs.LeadsLemmas.{Leads_then, Leads_reading, Leads_puts, Leads_each, Leads_from, Leads_to}
-use Rattle.tsp_promises.specs.{DeedFits.MessageFits, DeedFits.NumberedFits, HoldFits.BackFits, PortFits.setup_in}
+use Rattle.tsp_promises.specs.{DeedFits.NumberedFits, HoldFits.BackFits}
 use Rattle.tsp_promises.proofs.{Known.Candidature, Known.During, Known.Free, Leaves.arm_search, Leaves.arm_elect, Leaves.arm_window}
 use Rattle.tsp_promises.proofs.PostLeaves.{Leads_arms, Leads_posts, Leads_others, post_message, post_election}
 use Rattle.tsp_promises.proofs.Changes.{Quitting, FreeIn, become_follow, become_candidate, back_own}
@@ -20,21 +21,6 @@ module _ {P : ℕ → Past → Type 0} where
   pub tells_ticket_keeps : (p : PeerId) → ((x : ℕ) (past : Past) (n : ℕ) → n ≡ ticket (plain past.seen) → P x past → P x (grown x past (post_of SlaveUp n past.name p ∷ []))) → Leads P (tells_ticket p) P
   unfolding tells_ticket
   tells_ticket_keeps p k = Leads_reading ticket_at (posts p SlaveUp) (λ n. Leads_posts p SlaveUp n (λ x past h. k x past n (sym h.1) h.0))
-
--- in its role
-module _ {follow : List PeerId} {T : Option Received → Option Received → Type 0} {r : Role} where
-  pub in_arm_elect : (x : ℕ) (past : Past) (at : ℕ) → FreeIn follow T r x past → FreeIn follow T r x (grown x past (Arm Elect at ∷ []))
-  in_arm_elect x past at h = record { free = arm_elect at h.free; role_is = h.role_is }
-
-  pub in_post : (x : ℕ) (past : Past) (p : PeerId) (kind : Kind) (n : ℕ) → is_kind_election kind ≡ false → MessageFits (setup_in past) kind (now x past (post_of kind n past.name p)) past.seen p (bare kind n past.name) → FreeIn follow T r x past →
-      FreeIn follow T r x (grown x past (post_of kind n past.name p ∷ []))
-  in_post x past p kind n other f h = record { free = post_message p (bare kind n past.name) other f h.free; role_is = h.role_is }
-
-  pub arms_elect_in : Leads (FreeIn follow T r) arms_elect (FreeIn follow T r)
-  arms_elect_in = arms_elect_keeps in_arm_elect
-
-  pub tells_ticket_in : (p : PeerId) → Leads (FreeIn follow T r) (tells_ticket p) (FreeIn follow T r)
-  tells_ticket_in p = tells_ticket_keeps p (λ x past n e h. in_post x past p SlaveUp n refl e h)
 
 module _ {stirred owing acts : Bool} {follow : List PeerId} {T : Option Received → Option Received → Type 0} where
   pub arms_elect_during : Leads (During stirred true owing follow acts T) arms_elect (During stirred true owing follow acts T)
@@ -54,7 +40,8 @@ pub follow_leads : {follow : List PeerId} {T : Option Received → Option Receiv
 unfolding follow_row
 follow_leads p = Leads_then (puts (Become (Follow p))) (arms_elect followed_by tells_ticket p)
     (Leads_puts (Become (Follow p)) (λ x past h. become_follow p h))
-    (Leads_then arms_elect (tells_ticket p) arms_elect_in (tells_ticket_in p))
+    (Leads_then arms_elect (tells_ticket p) (arms_elect_keeps (λ x past at h. record { free = arm_elect at h.free; role_is = h.role_is }))
+    (tells_ticket_keeps p (λ x past n e h. record { free = post_message p (bare SlaveUp n past.name) refl e h.free; role_is = h.role_is })))
 
 -- the port's next own number is no ticket
 pub own_number : {follow : List PeerId} {T : Option Received → Option Received → Type 0} (x : ℕ) (past : Past) (p : PeerId) (d : Did) (m : MessageValue) → During false true false follow true T x past → next_number x past ≡ m.number → NumberedFits d past.seen p m
@@ -102,9 +89,6 @@ module _ {T : Option Received → Option Received → Type 0} where
         unbacked = h.unbacked;
       }))
 
-  backs_up : (x : ℕ) (past : Past) → BackingItself T x past → Electing T x (grown x past (Back past.own ∷ []))
-  backs_up x past h = record { free = back_own h.shut h.back h.during; candidature = h.candidature; unbacked = h.unbacked }
-
   pub candidature_leads : Leads (Eligible T) candidature_row (FreeIn [] T Candidate)
   unfolding candidature_row backs_own begins_to_others
   candidature_leads = Leads_then {Q = BackingItself T} (puts (Become Candidate)) (backs_own followed_by (arms Window WINDOW followed_by begins_to_others Election))
@@ -119,7 +103,9 @@ module _ {T : Option Received → Option Received → Type 0} where
       }))
       (Leads_then {Q = Electing T} backs_own (arms Window WINDOW followed_by begins_to_others Election)
       (Leads_reading own_at (λ own. puts (Back own)) (λ own. Leads_puts (Back own) (λ x past h.
-      subst (λ a. Electing T x (grown x past (Back a ∷ []))) h.1 (backs_up x past h.0))))
+      let b = h.0 in
+      subst (λ a. Electing T x (grown x past (Back a ∷ []))) h.1
+      (record { free = back_own b.shut b.back b.during; candidature = b.candidature; unbacked = b.unbacked }))))
       (Leads_then {Q = Electing T} (arms Window WINDOW) (begins_to_others Election)
       (Leads_arms Window WINDOW (λ x past h. record { free = arm_window (x + WINDOW) h.candidature h.free; candidature = h.candidature; unbacked = h.unbacked }))
       (Leads_reading others_at (for_each (begins Election)) (λ ps. Leads_from (λ x past h. h.0) (Leads_to (λ x past h. record { free = h.free; role_is = h.candidature.stands }) (Leads_each (begins Election) ps begins_election))))))

@@ -1,20 +1,18 @@
 -- A date that was passed on and acknowledged was set.
-use Rattle.std.proofs.Common.{sym, ap, arith, subst, subst₂, inl, inr, ◌⊎◌, ◌∙◌, ◌≡◌, ◌+◌, ◌*◌, ◌%◌, ◌<◌, ◌≤◌, true, ℕ, List, ◌∷◌, refl}
-use Rattle.tsp_rules.specs.Values.{Post, Correct, Acked, Message, Good, Kind, Date, DateAck, SetDate, SetDateReq, PeerId, Peer, Port, LIFE, QUIET}
+use Rattle.std.proofs.Common.{sym, ap, arith, subst, subst₂, inl, inr, ◌⊎◌, ◌∙◌, ◌≡◌, ◌+◌, ◌*◌, ◌%◌, ◌<◌, ◌≤◌, true, ℕ, List, ◌∷◌, is_some, refl}
+use Rattle.tsp_rules.specs.Values.{Post, Correct, Acked, Message, Kind, Date, DateAck, SetDate, SetDateReq, PeerId, Peer, Port, LIFE, QUIET}
 use Rattle.tsp_base.specs.Words.{Acts, Did, Line, Seen, Here, of, dids, view, MessageValue, boot_tick, lives, word, Within, acting, begun, begun_to, has_own_number, is_date_request, is_numbered, open_to, Receives, peer_of, tick_at}
 use Rattle.tsp_base.proofs.{PlaceLemmas.Within-comparable, PlaceLemmas.Within-tail, PlaceLemmas.Within-through, Views.plain_view}
-use Rattle.tsp_promises.specs.{AckFits.Acknowledges, Dated.DateConfirmedAt, DeedFits.MessageFits, Fits.Fits, Fits.LineFits, Fits.node_of}
-use Rattle.tsp_promises.specs.{DateFits.AnswersClient, DateFits.AnswersPassedOn, DateFits.DateAckFits, Setting.Setting, Setting.setup_of}
-use Rattle.tsp_promises.{specs.Once.Acted, proofs.KnownProof.known, proofs.SinceProof.since, specs.Since.OneLife}
+use Rattle.tsp_promises.proofs.OwnFitsProof.{own_fits, fits_at, place-time, locate, fits_in, seen_in, tick_in, view-line, deed_fits}
 use Rattle.tsp_promises.specs.Premises.{Few, FewAt, Honest, HonestAt, Life, TakenWithinAt}
-use Rattle.tsp_promises.proofs.{EverywhereLemmas.Everywhere-at, EverywhereLemmas.Everywhere-within, SameSendProof.too-late, DateAt.date_at}
-use Rattle.tsp_promises.proofs.{Clocks.near, SendPlaces.send_place, OwnFitsProof.own_fits, OwnFitsProof.fits_at, OwnFitsProof.place-time}
-use Rattle.tsp_promises.proofs.{ConfirmedProof.port-is, OnceDatedProof.Passing, OnceDatedProof.passed-apart, OnceDatedProof.passes-in}
-use Rattle.tsp_promises.proofs.ElectionFacts.{begun_mono, boots, boots_view}
-use Rattle.tsp_promises.proofs.{HistoryPlaces.lift, HistoryPlaces.own_in, SendProof.BeginsSend, SendProof.number-same, SendProof.opened}
-use Rattle.tsp_promises.proofs.OwnFitsProof.{locate, fits_in, seen_in, tick_in, view-line, deed_fits}
-use Rattle.tsp_promises.proofs.HistoryPlaces.{line_on}
-use Rattle.tsp_promises.proofs.KnownProof.{heard_taken}
+use Rattle.tsp_promises.specs.{DateFits.AnswersClient, DateFits.AnswersPassedOn, DateFits.DateAckFits, Setting.Setting, Setting.setup_of}
+use Rattle.tsp_promises.proofs.{EverywhereLemmas.Everywhere-at, EverywhereLemmas.Everywhere-within, SameSendProof.too-late, Clocks.near}
+use Rattle.tsp_promises.proofs.{OnceDatedProof.Passing, OnceDatedProof.passed-apart, OnceDatedProof.passes-in, LastTakenProof.date_at}
+use Rattle.tsp_promises.proofs.{ElectionFacts.begun_mono, ElectionFacts.boots, ElectionFacts.boots_view, ConfirmedProof.port-is}
+use Rattle.tsp_promises.proofs.{SendProof.BeginsSend, SendProof.number-same, SendProof.opened, KnownProof.known, KnownProof.heard_taken}
+use Rattle.tsp_promises.proofs.{HistoryPlaces.lift, HistoryPlaces.own_in, HistoryPlaces.line_on, SendPlaces.send_place, SinceProof.since}
+use Rattle.tsp_promises.specs.{Fits.Fits, Fits.LineFits, Fits.node_of, Dated.DateConfirmedAt, AckFits.Acknowledges, DeedFits.MessageFits}
+use Rattle.tsp_promises.specs.{Since.OneLife, Once.Acted}
 
 -- the date that port q of n passes on to k is still open
 record OpenDate (n k : ℕ) (q : Port) (world : List Line) (f : Did) (fw : List Line) (m : MessageValue) : Type 0 where
@@ -151,12 +149,11 @@ confirmed-date setting n k q f u world fw uo m answer w honest life few d u_in u
           let first : s2.first ≡ f = (let line : line_on q s2.first ≡ line_on q f = cc in ap (λ (z : Line). z.did) line) in
           let p2_at : p2.post.did.step.at ≤ u.did.step.at = (let z = place-time setting (line_on q p2.post.did ∷ p2.older) uo fu.1 p2_uo in omega (arith, fu.0.order)) in
           let after : f.step.at ≤ u.did.step.at = (let z = subst (λ (y : Did). y.step.at ≤ p2.post.did.step.at) first s2.after in omega arith) in
-          confirmed-correct setting n k q f u world fw uo m answer w honest life few d u_in u_node net after number r
+          confirmed-correct after
     ]
   where
-    confirmed-correct : (setting : Setting) (n k : ℕ) (q : Port) (f : Did) (u : Line) (world fw uo : List Line) (m answer : MessageValue) → Fits setting world → Honest world → Life world → Few world → OpenDate n k q world f fw m → Within (u ∷ uo) world → node_of u ≡ k →
-        setting.net k u.port ≡ setting.net n q → f.step.at ≤ u.did.step.at → answer.number ≡ m.number → AnswersPassedOn u.did (view u.port (of k uo)) (peer_of n) answer.number → Acted n k world f (view q (of n fw))
-    confirmed-correct setting n k q f u world fw uo m answer w honest life few d u_in u_node net after number r =
+    confirmed-correct : f.step.at ≤ u.did.step.at → Acted n k world f (view q (of n fw))
+    confirmed-correct after =
         let uo_in = Within-tail u uo world u_in in
         let wo = (fits_at setting (u ∷ uo) world w u_in).1 in
         let t = date_at u.port (peer_of n) (of k uo) r.last r.last_is in
@@ -179,7 +176,7 @@ confirmed-date setting n k q f u world fw uo m answer w honest life few d u_in u
           | inr i ↦ absurd (not-held setting n k q u.port world f p3.post.did t.correct u.did fw p3.older c.world uo m t.message w few d s3 i same u_in c.place u_node c.node came after fresh)
           | inl e ↦
               let line : line_on q s3.first ≡ line_on q f = cc in
-              let first : s3.first ≡ f = ap (λ (z : Line). z.did) line in
+              let first : s3.first ≡ f = ap (λ (z : Line). z.did) {x = line_on q s3.first} line in
               let rest : s3.fw ≡ fw = cc in
               record {
                 correct = line_on u.port t.correct;
@@ -194,7 +191,8 @@ confirmed-date setting n k q f u world fw uo m answer w honest life few d u_in u
                   shown = t.shown;
                   correct = t.deed;
                   brings = record { place = p3.place; cause = p3.takes; message = t.message; deed = p3.deed };
-                  took = heard_taken u.port (of t.correct.step.node c.world) (record { from = Peer (peer_of n); taken = Good (Message t.message) }) took;
+                  took = ap (λ o. is_some o)
+                      (heard_taken setting u.port _ (of t.correct.step.node c.world) (own_fits setting t.correct.step.node c.world fc.1) took);
                 };
                 from = p3_node;
                 of_send = record {
@@ -202,7 +200,8 @@ confirmed-date setting n k q f u world fw uo m answer w honest life few d u_in u
                   deed = p3_deed;
                   numbered = ap is_numbered s3.kind;
                   is = subst₂ (λ z y. begun_to (peer_of k) (Here p3.post.did ∷ view z (of y p3.older)) ≡ Here f ∷ view q (of n fw)) (sym p3_port) (sym p3_node)
-                      (subst₂ (λ z y. begun_to (peer_of k) (Here p3.post.did ∷ view q (of n p3.older)) ≡ Here z ∷ view q (of n y)) first rest s3.is);
+                      (subst₂ (λ z y. begun_to (peer_of k) (Here p3.post.did ∷ view q (of n p3.older)) ≡ Here z ∷ view q
+                      (of n y)) {x = s3.first} {u = s3.fw} first rest s3.is);
                 };
               }
         ]

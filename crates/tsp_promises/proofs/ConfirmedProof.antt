@@ -1,16 +1,18 @@
 -- An acknowledged correction was taken.
 use Rattle.std.proofs.Common.{sym, ap, arith, subst, subst₂, inl, inr, ◌∙◌, ◌≡◌, Bool, true, ℕ, ◌+◌, ◌<◌, ◌≤◌, ℤ, List, [], ◌∷◌, Some, is_some, refl}
-use Rattle.tsp_rules.specs.Values.{Post, Correct, Acked, Message, Good, Kind, Ack, AdjTime, Conflict, Date, Msite, MsiteReq, QuitKind, SetDate, SetTime, Test, TraceOff, TraceOn, PeerId, Peer, Port, LIFE}
-use Rattle.tsp_base.specs.Words.{Came, Acts, Did, Line, Seen, Here, of, dids, view, MessageValue, all_corrects, corrects, lives, ticket, word, Within, acting, begun_to, is_correction, last_taken, open_to, Setup, Receives, heard, peer_of, posted}
+use Rattle.tsp_rules.specs.Values.{Post, Correct, Acked, Message, Kind, Ack, AdjTime, Conflict, Date, Msite, MsiteReq, QuitKind, SetDate, SetTime, Test}
+use Rattle.tsp_rules.specs.Values.{TraceOff, TraceOn, PeerId, Peer, Port, LIFE}
+use Rattle.tsp_base.specs.Words.{Came, Acts, Did, Line, Seen, Here, of, dids, view, MessageValue, all_corrects, corrects, lives, ticket, word, Within, acting}
+use Rattle.tsp_base.specs.Words.{begun_to, is_correction, last_taken, open_to, Setup, Receives, heard, peer_of, posted}
 use Rattle.tsp_base.proofs.PlaceLemmas.{Within-all, Within-through, Within-tail, Within-comparable}
 use Rattle.tsp_base.proofs.Views.{plain_view}
 use Rattle.tsp_promises.proofs.OwnFitsProof.{Given, given_at, deed_fits, own_fits, own_fits_at, fits_at, place-time, locate}
-use Rattle.tsp_promises.specs.{Once.Acted, Once.Brings, Once.ConfirmedAt, Once.OnceConfirmed, Setting.Setting, Setting.setup_of}
-use Rattle.tsp_promises.specs.{AckFits.Acknowledges, AckFits.AckFits, AckFits.Answers, DeedFits.MessageFits, Fits.Fits, Fits.node_of}
-use Rattle.tsp_promises.{proofs.OnceTakenProof.takes_of, proofs.KnownProof.known, specs.Since.OneLife}
-use Rattle.tsp_promises.proofs.{HistoryPlaces.line_on, HistoryPlaces.lift, HistoryPlaces.own_in, HistoryPlaces.Within-of, SinceProof.since}
-use Rattle.tsp_promises.proofs.{SameSendProof.same_send, SendProof.CorrectsTo, SendProof.numbered, SendProof.opened, SendProof.number-same}
-use Rattle.tsp_promises.proofs.{KnownProof.heard_taken, LastTakenProof.last_taken_at, SourceProof.Source, SourceProof.source}
+use Rattle.tsp_promises.proofs.SendProof.{CorrectsTo, numbered, opened, number-same}
+use Rattle.tsp_promises.specs.{Once.Acted, Once.Brings, Once.ConfirmedAt, Once.OnceConfirmed, Setting.Setting, Setting.setup_of, AckFits.Acknowledges}
+use Rattle.tsp_promises.specs.{AckFits.AckFits, AckFits.Answers, DeedFits.MessageFits, Fits.Fits, Fits.node_of, Since.OneLife}
+use Rattle.tsp_promises.proofs.{OnceTakenProof.takes_of, KnownProof.known, KnownProof.heard_taken, HistoryPlaces.line_on, HistoryPlaces.lift}
+use Rattle.tsp_promises.proofs.{HistoryPlaces.own_in, HistoryPlaces.Within-of, SinceProof.since, SameSendProof.same_send, LastTakenProof.last_taken_at}
+use Rattle.tsp_promises.proofs.{SourceProof.Source, SourceProof.source}
 
 -- the last Correct doesn't stand before the source of a number that it took
 before-source : (setting : Setting) (k : ℕ) (c r : Line) (cw ro uo : List Line) (amount : ℤ) (stepped : Bool) (shown : ℤ) → Fits setting uo → Within (r ∷ ro) uo → Within (c ∷ cw) ro → node_of c ≡ k → c.did.deed ≡ Acts (Correct amount stepped shown) →
@@ -73,7 +75,9 @@ confirmed-c setting n k q f u c p3 world fw uo cw o3 mf t2 amount stepped shown 
     let src = s.source in
     let r_uo : Within (src.r ∷ src.ro) uo = Within-through (src.r ∷ src.ro) fw uo src.place (Within-tail (line_on q f) fw uo f_uo) in
     let fits = deed_fits setting c cw (Acts (Correct amount stepped shown)) c_deed gc.fits.0 in
-    let heard_is : is_some (heard (dids (of (node_of c) cw))) ≡ true = subst (λ z. is_some (heard (dids (of z cw))) ≡ true) (sym c_node) (heard_taken c.port (of k cw) (record { from = Peer (peer_of n); taken = Good (Message t2) }) took) in
+    let heard_is : is_some (heard (dids (of (node_of c) cw))) ≡ true =
+    subst (λ z. is_some (heard (dids (of z cw))) ≡ true) (sym c_node)
+    (ap (λ o. is_some o) (heard_taken setting c.port _ (of k cw) (own_fits setting k cw gc.fits.1) took)) in
     let deed' = subst (λ z. p3.did.deed ≡ Acts (Post (Peer (peer_of z)) (Message t2))) (sym c_node) p3_deed in
     let brings : Brings c cw p3 o3 = record { place = p3_in; cause = takes; message = t2; deed = deed' } in
     let t = takes_of setting c cw p3 o3 (Correct amount stepped shown) amount gc.fits c_deed brings heard_is kind fits.why in

@@ -227,29 +227,22 @@ leaves_fresh p k = by_case (is_correction k) where
   by_case true = Leads_either (is_slave_at p) (puts (Leave p)) nothing (Leads_puts (Leave p) (λ x past h. forget (leave p h.0))) (Leads_from (λ x past h. forget h.0) Leads_nothing)
   by_case false = Leads_from (λ x past h. forget h) Leads_nothing
 
-soon_of : (s : Sending) (x : ℕ) (past : Past) → is_spent s x past ≡ false → x ≤ s.began + LAST
-soon_of s x past e = ltb-false (s.began + LAST) x (or_parts (nat_lt (s.began + LAST) x) (nat_le TRIES s.posts) e).0
-
-few_of : (s : Sending) (x : ℕ) (past : Past) → is_spent s x past ≡ false → s.posts < TRIES
-few_of s x past e = leb-false TRIES s.posts (or_parts (nat_lt (s.began + LAST) x) (nat_le TRIES s.posts) e).1
-
 -- an open send that is due and not spent is posted again
 pub repeats_lead : (p : PeerId) (s : Sending) → Leads (λ x past. ((Fresh x past × (open_at p x past ≡ Some s)) × (is_send_due s x past ≡ true)) × (is_spent s x past ≡ false)) (repeats p s.message) Fresh
 unfolding repeats
 repeats_lead p s = Leads_puts (Post (Peer p) (Message s.message)) (λ x past h.
     let f = h.0.0.0 in
-    forget (post_again p s.message (repeat_fits (setup_in past) p past.seen (now x past (Post (Peer p) (Message s.message))) s f.fits h.0.0.1 f.backs f.acting_is (soon_of s x past h.1) (few_of s x past h.1)) (awake_open p s x past f h.0.0.1)))
-
--- an open send that is due and spent is given up
-gives_up_leads : (p : PeerId) (s : Sending) → Leads (λ x past. ((Fresh x past × (open_at p x past ≡ Some s)) × (is_send_due s x past ≡ true)) × (is_spent s x past ≡ true)) (puts (Gave p)) Sending_on
-gives_up_leads p s = Leads_puts (Gave p) (λ x past h. gave p (awake_open p s x past h.0.0.0 h.0.0.1))
+    let unspent = or_parts (nat_lt (s.began + LAST) x) (nat_le TRIES s.posts) h.1 in
+    forget (post_again p s.message (repeat_fits (setup_in past) p past.seen (now x past (Post (Peer p) (Message s.message))) s
+    f.fits h.0.0.1 f.backs f.acting_is (ltb-false (s.began + LAST) x unspent.0) (leb-false TRIES s.posts unspent.1)) (awake_open p s x past f h.0.0.1)))
 
 repeats_send_leads : (p : PeerId) (o : Option Sending) → Leads (λ x past. Fresh x past × (open_at p x past ≡ o)) (repeats_send p o) Fresh
 unfolding repeats_send gives_up
 repeats_send_leads p None = Leads_from (λ x past h. h.0) Leads_nothing
 repeats_send_leads p (Some s) = Leads_either (is_send_due s) (either_by (is_spent s) (puts (Gave p) followed_by leaves_after p s.message.kind) (repeats p s.message)) nothing
     (Leads_either (is_spent s) (puts (Gave p) followed_by leaves_after p s.message.kind) (repeats p s.message)
-    (Leads_then {Q = Sending_on} (puts (Gave p)) (leaves_after p s.message.kind) (gives_up_leads p s) (leaves_fresh p s.message.kind))
+    (Leads_then {Q = Sending_on} (puts (Gave p)) (leaves_after p s.message.kind)
+    (Leads_puts (Gave p) (λ x past h. gave p (awake_open p s x past h.0.0.0 h.0.0.1))) (leaves_fresh p s.message.kind))
     (repeats_lead p s))
     (Leads_from (λ x past h. h.0.0) Leads_nothing)
 

@@ -6,21 +6,13 @@ use Rattle.tsp_base.specs.Words.{Deed, Begins, Acts, Did, Line, Seen, Here, Else
 use Rattle.tsp_promises.specs.{Fits.node_of, HoldFits.BackerFits, Setting.Setting, Setting.setup_of}
 use Rattle.tsp_base.proofs.{PlaceLemmas.Within-comparable, ViewPlaces.port-same}
 use Rattle.tsp_promises.proofs.Elections.{In, in_among, not_among, ElectFits, Elects}
-use Rattle.tsp_promises.proofs.{Leaves.nil-cons, Elections.Distinct, Elections.AllIn, SendProof.if-nil}
-
-abbrev pub boots_after : Deed → ℕ → ℕ
-boots_after (Acts Boot) n = n + 1
-boots_after _ n = n
+use Rattle.tsp_promises.proofs.{Leaves.nil-cons, Elections.Distinct, Elections.AllIn, SendProof.if-nil, SteadyProof.lives-more}
 
 -- how often the node has booted, as a port sees it
 abbrev pub boots : List Seen → ℕ
 boots [] = 0
-boots (Here d ∷ before) = boots_after d.deed (boots before)
+boots (Here d ∷ before) = lives_after d.deed (boots before)
 boots (Elsewhere d ∷ before) = boots before
-
-same-boots : (deed : Deed) (n : ℕ) → boots_after deed n ≡ lives_after deed n
-same-boots (Acts Boot) n = refl
-same-boots _ n = refl
 
 not-boot : (deed : Deed) (n : ℕ) → is_shared deed ≡ false → lives_after deed n ≡ n
 not-boot (Acts Boot) n e = absurd (true≢false e)
@@ -30,23 +22,19 @@ pub boots_view : (q : Port) (own : List Line) → boots (view q own) ≡ lives (
 boots_view q [] = refl
 boots_view q (l ∷ own) = by-case ((l.port.0 == q.0) || is_shared l.did.deed) refl (boots_view q own) where
   by-case : (b : Bool) → ((l.port.0 == q.0) || is_shared l.did.deed) ≡ b → boots (view q own) ≡ lives (dids own) → boots (seen_as b l.did ∷ view q own) ≡ lives_after l.did.deed (lives (dids own))
-  by-case true e h = same-boots l.did.deed (boots (view q own)) ∙ ap (lives_after l.did.deed) h
+  by-case true e h = ap (lives_after l.did.deed) h
   by-case false e h = h ∙ sym (not-boot l.did.deed (lives (dids own)) ((or_parts (l.port.0 == q.0) (is_shared l.did.deed) e).1))
-
-boots-deed : (deed : Deed) (n : ℕ) → n ≤ boots_after deed n
-boots-deed (Acts Boot) n = omega arith
-boots-deed _ n = omega arith
 
 pub boots_mono : (s t : List Seen) → Within s t → boots s ≤ boots t
 boots_mono s [] e = subst (λ w. boots w ≤ 0) (sym e) (omega arith)
 boots_mono s (Here d ∷ t) (inl e) = subst (λ w. boots w ≤ boots (Here d ∷ t)) (sym e) (omega arith)
-boots_mono s (Here d ∷ t) (inr w) = (let h = boots_mono s t w in let k = boots-deed d.deed (boots t) in omega (arith, h, k))
+boots_mono s (Here d ∷ t) (inr w) = (let h = boots_mono s t w in let k = lives-more d.deed (boots t) in omega (arith, h, k))
 boots_mono s (Elsewhere d ∷ t) (inl e) = subst (λ w. boots w ≤ boots (Elsewhere d ∷ t)) (sym e) (omega arith)
 boots_mono s (Elsewhere d ∷ t) (inr w) = boots_mono s t w
 
 -- the last change of the role
 stood-deed : (d : Did) (before : List Seen) (s : Seen) (i : List Seen) (deed : Deed) → deed ≡ d.deed → stood_after deed (Here d ∷ before) (stood before) ≡ s ∷ i →
-    ((Here d ∷ before ≡ s ∷ i) × (is_shared d.deed ≡ false)) ⊎ ((stood before ≡ s ∷ i) × (boots_after deed (boots before) ≡ boots before))
+    ((Here d ∷ before ≡ s ∷ i) × (is_shared d.deed ≡ false)) ⊎ ((stood before ≡ s ∷ i) × (lives_after deed (boots before) ≡ boots before))
 stood-deed d before s i (Acts Boot) is e = nil-cons s i e
 stood-deed d before s i (Acts (Become r)) is e = inl (e, ap is_shared (sym is))
 stood-deed d before s i _ is e = inr (e, refl)
@@ -71,23 +59,33 @@ pub record OpenAt (f : Did) (o seen : List Seen) : Type 0 where
   pub life : boots (Here f ∷ o) ≡ boots seen
   pub after : (s : Seen) (i : List Seen) → stood seen ≡ s ∷ i → Within (s ∷ i) o
 
-kept-open : (f d : Did) (o before : List Seen) → boots_after d.deed (boots before) ≡ boots before → stood_after d.deed (Here d ∷ before) (stood before) ≡ stood before → OpenAt f o before → OpenAt f o (Here d ∷ before)
-kept-open f d o before same role h = record { place = inr h.place; life = h.life ∙ sym same; after = λ s i e. h.after s i (sym role ∙ e) }
+kept-open : (f d : Did) (o before : List Seen) (deed : Deed) → deed ≡ d.deed → lives_after deed (boots before) ≡ boots before →
+    stood_after deed (Here d ∷ before) (stood before) ≡ stood before → OpenAt f o before → OpenAt f o (Here d ∷ before)
+kept-open f d o before deed is same role h = record {
+  place = inr h.place;
+  life = h.life ∙ sym (subst (λ k. lives_after k (boots before) ≡ boots before) is same);
+  after = λ s i e. h.after s i (sym (subst (λ k. stood_after k (Here d ∷ before) (stood before) ≡ stood before) is role) ∙ e);
+}
 
-open-post : (f d : Did) (o before was : List Seen) (b : Bool) → cond b (Here d ∷ before) was ≡ Here f ∷ o → boots_after d.deed (boots before) ≡ boots before → stood_after d.deed (Here d ∷ before) (stood before) ≡ stood before → (was ≡ Here f ∷ o → OpenAt f o before) → OpenAt f o (Here d ∷ before)
-open-post f d o before was true e same role h =
+open-post : (f d : Did) (o before was : List Seen) (b : Bool) → cond b (Here d ∷ before) was ≡ Here f ∷ o → (deed : Deed) → deed ≡ d.deed →
+    lives_after deed (boots before) ≡ boots before → stood_after deed (Here d ∷ before) (stood before) ≡ stood before →
+    (was ≡ Here f ∷ o → OpenAt f o before) → OpenAt f o (Here d ∷ before)
+open-post f d o before was true e deed is same role h =
     let rest : before ≡ o = cc in
-    record { place = inl (sym e); life = ap boots (sym e); after = λ s i k. subst (λ w. Within (s ∷ i) w) rest (stood_at before s i (sym role ∙ k)).place }
-open-post f d o before was false e same role h = kept-open f d o before same role (h e)
+    let stands = sym (subst (λ k. stood_after k (Here d ∷ before) (stood before) ≡ stood before) is role) in
+    record { place = inl (sym e); life = ap boots (sym e); after = λ s i k. subst (λ w. Within (s ∷ i) w) rest (stood_at before s i (stands ∙ k)).place }
+open-post f d o before was false e deed is same role h = kept-open f d o before deed is same role (h e)
 
-open-deed : (p : PeerId) (f d : Did) (o before : List Seen) (deed : Deed) → deed ≡ d.deed → open_to_after p deed (acting before) (Here d ∷ before) (open_to p before) ≡ Here f ∷ o → (open_to p before ≡ Here f ∷ o → OpenAt f o before) → OpenAt f o (Here d ∷ before)
+open-deed : (p : PeerId) (f d : Did) (o before : List Seen) (deed : Deed) → deed ≡ d.deed →
+    open_to_after p deed (acting before) (Here d ∷ before) (open_to p before) ≡ Here f ∷ o → (open_to p before ≡ Here f ∷ o → OpenAt f o before) →
+    OpenAt f o (Here d ∷ before)
 open-deed p f d o before (Acts Boot) is e h = nil-cons (Here f) o e
 open-deed p f d o before (Acts (Become r)) is e h = nil-cons (Here f) o e
 open-deed p f d o before (Acts (Post (Peer q) (Message m))) is e h =
-    open-post f d o before (open_to p before) ((q.0 == p.0) && (is_numbered m.kind && acting before)) e (ap (λ k. boots_after k (boots before)) (sym is)) (ap (λ k. stood_after k (Here d ∷ before) (stood before)) (sym is)) h
-open-deed p f d o before (Acts (Acked q)) is e h = kept-open f d o before (ap (λ k. boots_after k (boots before)) (sym is)) (ap (λ k. stood_after k (Here d ∷ before) (stood before)) (sym is)) (h (if-nil (q.0 == p.0) (open_to p before) (Here f) o e))
-open-deed p f d o before (Acts (Gave q)) is e h = kept-open f d o before (ap (λ k. boots_after k (boots before)) (sym is)) (ap (λ k. stood_after k (Here d ∷ before) (stood before)) (sym is)) (h (if-nil (q.0 == p.0) (open_to p before) (Here f) o e))
-open-deed p f d o before _ is e h = kept-open f d o before (ap (λ k. boots_after k (boots before)) (sym is)) (ap (λ k. stood_after k (Here d ∷ before) (stood before)) (sym is)) (h e)
+    open-post f d o before (open_to p before) ((q.0 == p.0) && (is_numbered m.kind && acting before)) e _ is refl refl h
+open-deed p f d o before (Acts (Acked q)) is e h = kept-open f d o before _ is refl refl (h (if-nil (q.0 == p.0) (open_to p before) (Here f) o e))
+open-deed p f d o before (Acts (Gave q)) is e h = kept-open f d o before _ is refl refl (h (if-nil (q.0 == p.0) (open_to p before) (Here f) o e))
+open-deed p f d o before _ is e h = kept-open f d o before _ is refl refl (h e)
 
 pub open_at : (p : PeerId) (seen : List Seen) (f : Did) (o : List Seen) → open_to p seen ≡ Here f ∷ o → OpenAt f o seen
 open_at p [] f o e = nil-cons (Here f) o e
@@ -217,7 +215,7 @@ count-cond : (b : Bool) (n : ℕ) → n ≤ cond b (n + 1) n
 count-cond true n = omega arith
 count-cond false n = omega arith
 
-begun-deed : (deed : Deed) (acts : Bool) (n k : ℕ) → boots_after deed k ≡ k → n ≤ begun_after deed acts n
+begun-deed : (deed : Deed) (acts : Bool) (n k : ℕ) → lives_after deed k ≡ k → n ≤ begun_after deed acts n
 begun-deed (Acts Boot) acts n k e = absurd (omega (arith, e))
 begun-deed (Acts (Post to (Message m))) acts n k e = count-cond (has_own_number m.kind && acts) n
 begun-deed _ acts n k e = omega arith
@@ -227,8 +225,8 @@ begun_mono s [] e v = subst (λ w. begun w ≤ 0) (sym e) (omega arith)
 begun_mono s (Here d ∷ t) (inl e) v = subst (λ w. begun w ≤ begun (Here d ∷ t)) (sym e) (omega arith)
 begun_mono s (Here d ∷ t) (inr w) v =
     let low = boots_mono s t w in
-    let more = boots-deed d.deed (boots t) in
-    let same : boots_after d.deed (boots t) ≡ boots t = omega (arith, low, more, v) in
+    let more = lives-more d.deed (boots t) in
+    let same : lives_after d.deed (boots t) ≡ boots t = omega (arith, low, more, v) in
     let new = begun-deed d.deed (acting t) (begun t) (boots t) same in
     omega (arith, begun_mono s t w (omega (arith, low, more, v)), new)
 begun_mono s (Elsewhere d ∷ t) (inl e) v = subst (λ w. begun w ≤ begun (Elsewhere d ∷ t)) (sym e) (omega arith)

@@ -1,5 +1,5 @@
--- What elections add to what a deed owes, taken out of that. Two lists of different peers that are longer together
--- than the list of all have one in common.
+-- What a deed owes to elections, and why two lists of different peers that are longer together than the list of all
+-- have one in common.
 use Rattle.std.proofs.Common.{sym, inl, inr, true≢false, eq-eqb, ◌∙◌, ◌≡◌, ◌⊎◌, ℕ, ◌+◌, ◌%◌, ◌==◌, true, false, List, [], ◌∷◌, refl, ap, arith, ◌≤◌, ◌<◌, Bool, ◌||◌, if◌then◌else◌, length}
 use Rattle.std.proofs.{Math.Bool.or-true, lemmas.Bool.or_cases}
 use Rattle.tsp_rules.specs.Values.{Post, Become, Backer, Message, Kind, Accept, Election, PeerId, Peer, Master}
@@ -92,35 +92,36 @@ found-in (p ∷ rest) z e = by-case (p.0 == z.0) refl (found-in rest z) e where
   by-case true is h f = inl (same_peer p z is)
   by-case false is h f = inr (h f)
 
--- one more passes the wider test
-wider : (p : PeerId) (rest all : List PeerId) → (In p rest → ⊥) → counted (among rest) all ≤ counted (among (p ∷ rest)) all
-wider p rest [] n = omega arith
-wider p rest (z ∷ all) n = by-case (p.0 == z.0) (among rest z) (wider p rest all n) where
-  by-case : (a b : Bool) → counted (among rest) all ≤ counted (among (p ∷ rest)) all →
-      (if b then counted (among rest) all + 1 else counted (among rest) all) ≤ (if (a || b) then counted (among (p ∷ rest)) all + 1 else counted (among (p ∷ rest)) all)
-  by-case true true h = omega (arith, h)
-  by-case true false h = omega (arith, h)
-  by-case false true h = omega (arith, h)
-  by-case false false h = h
+-- what one more peer adds to two counts, the second by a wider test
+count-step : (k m n : ℕ) (a b : Bool) → (a ≡ true → b ≡ true) → m + k ≤ n → (if a then m + 1 else m) + k ≤ (if b then n + 1 else n)
+count-step k m n true true i h = omega (arith, h)
+count-step k m n true false i h = absurd (true≢false (sym (i refl)))
+count-step k m n false true i h = omega (arith, h)
+count-step k m n false false i h = h
 
+either : (p z : PeerId) (rest : List PeerId) → among rest z ≡ true → among (p ∷ rest) z ≡ true
+either p z rest e = rw e (or-true (p.0 == z.0))
+
+wider : (p : PeerId) (rest all : List PeerId) → counted (among rest) all ≤ counted (among (p ∷ rest)) all
+wider p rest [] = omega arith
+wider p rest (z ∷ all) =
+    let h =
+    count-step 0 (counted (among rest) all) (counted (among (p ∷ rest)) all) (among rest z) (among (p ∷ rest) z) (either p z rest)
+    (omega (arith, wider p rest all)) in
+    omega (arith, h)
+
+-- one more passes the wider test
 one-more : (p : PeerId) (rest all : List PeerId) → (In p rest → ⊥) → In p all → counted (among rest) all + 1 ≤ counted (among (p ∷ rest)) all
 one-more p rest [] n i = absurd i
-one-more p rest (z ∷ all) n (inl e) = by-case (p.0 == z.0) (among rest z) refl refl where
-  here : (p.0 == z.0) ≡ true
-  here = eq-eqb p.0 z.0 (ap (λ (q : PeerId). q.0) (sym e))
-
-  by-case : (a b : Bool) → (p.0 == z.0) ≡ a → among rest z ≡ b →
-      (if b then counted (among rest) all + 1 else counted (among rest) all) + 1 ≤ (if (a || b) then counted (among (p ∷ rest)) all + 1 else counted (among (p ∷ rest)) all)
-  by-case true true a b = absurd (n (found-in rest p (ap (among rest) (sym e) ∙ b)))
-  by-case true false a b = (let h = wider p rest all n in omega (arith, h))
-  by-case false b a c = absurd (true≢false (sym here ∙ a))
-one-more p rest (z ∷ all) n (inr i) = by-case (p.0 == z.0) (among rest z) (one-more p rest all n i) where
-  by-case : (a b : Bool) → counted (among rest) all + 1 ≤ counted (among (p ∷ rest)) all →
-      (if b then counted (among rest) all + 1 else counted (among rest) all) + 1 ≤ (if (a || b) then counted (among (p ∷ rest)) all + 1 else counted (among (p ∷ rest)) all)
-  by-case true true h = omega (arith, h)
-  by-case true false h = omega (arith, h)
-  by-case false true h = omega (arith, h)
-  by-case false false h = h
+one-more p rest (z ∷ all) n (inl e) =
+    let here : (p.0 == z.0) ≡ true = eq-eqb p.0 z.0 (ap (λ (q : PeerId). q.0) (sym e)) in
+    rw (here, none (among rest z) refl) (omega (arith, wider p rest all))
+  where
+    none : (b : Bool) → among rest z ≡ b → among rest z ≡ false
+    none true b = absurd (n (found-in rest p (ap (among rest) (sym e) ∙ b)))
+    none false b = b
+one-more p rest (z ∷ all) n (inr i) =
+    count-step 1 (counted (among rest) all) (counted (among (p ∷ rest)) all) (among rest z) (among (p ∷ rest) z) (either p z rest) (one-more p rest all n i)
 
 -- different ones are no more than pass their test
 few-in : (xs all : List PeerId) → Distinct xs → AllIn xs all → length xs ≤ counted (among xs) all

@@ -7,7 +7,7 @@ use Rattle.tsp_rules.proofs.{Asides.all_aside, Asides.aside, FewActs.is_calm_act
 use Rattle.tsp_base.specs.Words.{Past, Received, armed, grown, Leads, Row, either_by, reading, is_going, nothing, puts}
 use Rattle.tsp_base.proofs.RowLemmas.{added_append}
 use Rattle.tsp_promises.proofs.Known.{KnowsOf, FreshIn, OpenIn, RestsIn, Rests}
-use Rattle.tsp_promises.proofs.Leaves.{stir, abandon, calmed, abandoned}
+use Rattle.tsp_promises.proofs.Leaves.{stir_round, with_round, abandon, calmed, abandoned}
 
 -- whether an act elsewhere leaves all alone that is known of a port: it is no boot, and no correction
 abbrev pub is_apart : Act → Bool
@@ -22,12 +22,7 @@ is_still a = is_apart a
 
 -- a port that may be stirred
 pub stirring : (x : ℕ) (past : Past) → {stirred : Bool} → KnowsOf stirred x past.own past.seen → KnowsOf true x past.own past.seen
-stirring x past k = record {
-  times = k.times;
-  quiet = k.quiet;
-  vote = k.vote;
-  round = record { rounds = k.round.rounds; probing = k.round.probing; closes = λ calm. absurd (true≢false calm); exchanges = λ p i s older e. stir (k.round.exchanges p i s older e) };
-}
+stirring x past k = with_round k (stir_round k.round)
 
 -- a correction elsewhere stirs it
 knows-moved : (x : ℕ) (past : Past) (a : Act) → is_correct a ≡ true → KnowsOf true x past.own past.seen → KnowsOf true x past.own (aside x past a).seen
@@ -35,7 +30,7 @@ knows-moved x past (Correct amount stepped shown) e k = record {
   times = record { boot_le = k.times.boot_le; last_le = omega arith; boot_is = k.times.boot_is; start_le = k.times.start_le; next = k.times.next };
   quiet = k.quiet;
   vote = k.vote;
-  round = record { rounds = k.round.rounds; probing = k.round.probing; closes = λ calm. absurd (true≢false calm); exchanges = λ p i s older e. stir (k.round.exchanges p i s older e) };
+  round = stir_round k.round;
 }
 knows-moved x past _ e k = absurd (true≢false (sym e))
 
@@ -131,12 +126,10 @@ pub calm-correct : (strange : Bool) (a : Act) → is_calm_act strange false a �
 calm-correct strange (Correct amount stepped shown) e = absurd (true≢false (sym e))
 calm-correct strange _ e = refl
 
-calm-boot : (strange moving : Bool) (a : Act) → is_calm_act strange moving a ≡ true → a ≡ Boot → ⊥
-calm-boot strange moving a e is = true≢false (sym (subst (λ b. is_calm_act strange moving b ≡ true) is e))
-
 pub calm_bootless : (strange moving : Bool) (acts : List Act) → is_calm strange moving acts ≡ true → Bootless acts
 calm_bootless strange moving [] e = tt
-calm_bootless strange moving (a ∷ rest) e = let both = and_parts (is_calm_act strange moving a) (is_calm strange moving rest) e in (λ is. calm-boot strange moving a both.0 is, calm_bootless strange moving rest both.1)
+calm_bootless strange moving (a ∷ rest) e = let both = and_parts (is_calm_act strange moving a) (is_calm strange moving rest) e in
+    (λ is. true≢false (sym (subst (λ b. is_calm_act strange moving b ≡ true) is both.0)), calm_bootless strange moving rest both.1)
 
 -- calm acts without a correction are calm where the clock may not be moved
 still-calm : (strange : Bool) (a : Act) → is_calm_act strange true a ≡ true → is_correct a ≡ false → is_calm_act strange false a ≡ true

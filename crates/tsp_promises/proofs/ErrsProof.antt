@@ -1,18 +1,18 @@
--- The error of a reading is at most half of its round. Rounds of a port stand apart.
+-- The error of a reading is at most half of its round, and the rounds of a port stand apart.
 use Rattle.std.proofs.Common.{sym, ap, arith, subst, subst₂, inl, inr, ◌∙◌, ◌≡◌, ◌≤◌, ◌≤ℤ◌, ℕ, ◌+◌, ◌-◌, ◌/◌, ℤ, pos, ◌+ℤ◌, ◌-ℤ◌, List, ◌∷◌, refl, true≢false, ◌==◌, ◌||◌, ◌⊎◌, Bool, true, false, [], Option, None, Some, is_some}
 use Rattle.std.proofs.lemmas.Int.{ints}
 use Rattle.tsp_rules.specs.Values.{Port, Boot, Become, Arm, Ring, Late, Abandon, Close, CloseAlarm, CLOSE, ROUND, SLACK}
 use Rattle.tsp_base.specs.Words.{Did, Line, Here, of, dids, plain, view, all_corrects, boot_tick, moved, target, tick_of, wall, Within, half_up, peer_of, Acts, Deed, Seen, seen_as, is_shared, lives, lives_after, armed, armed_after, is_going, started, started_after, Setup}
 use Rattle.tsp_base.proofs.{PlaceLemmas.Within-tail, Views.plain_view}
 use Rattle.tsp_promises.proofs.OwnFitsProof.{fits_in, locate, own_tick, fits_at, own_fits, deed_fits, view-line}
-use Rattle.tsp_promises.specs.{ErrsBounded.ErrAt, ErrsBounded.ErrsBounded, Fits.Fits, Fits.node_of, Fits.Sees, MeasureFits.SampleFits}
+use Rattle.tsp_promises.specs.{Seldom.ErrAt, Seldom.ErrsBounded, Fits.Fits, Fits.node_of, Fits.Sees, MeasureFits.SampleFits}
 use Rattle.tsp_promises.specs.{RoundFits.CloseFits, RoundFits.StartFits, Seldom.Seldom, Seldom.SeldomAt, Setting.Setting, Setting.setup_of}
 use Rattle.tsp_promises.specs.{DeedFits.DeedFits, OwnFits.OwnFits, Since.OneLife}
 use Rattle.tsp_promises.proofs.RoundPlaces.{best_at, exchange_at, same-start, started_at}
 use Rattle.tsp_promises.proofs.HistoryPlaces.{of-own, Within-of, line_on, own_in}
-use Rattle.tsp_promises.proofs.{MeasuredProof.first-now, MeasuredProof.half-up-pos, MeasuredProof.sample_fits, SteadyProof.lives-more}
+use Rattle.tsp_promises.proofs.{MeasuredProof.first-now, MeasuredProof.half-up-pos, MeasuredProof.sample_fits}
 use Rattle.tsp_promises.proofs.{TakingProof.cast_kind, TakingProof.taking_of, TakingProof.begun_facts, TakingProof.used-by}
-use Rattle.tsp_promises.proofs.{EverywhereLemmas.Everywhere-from, SinceProof.since}
+use Rattle.tsp_promises.proofs.{EverywhereLemmas.Everywhere-from, SinceProof.lasting, SinceProof.since}
 
 -- a sample's error is half the ticks from its request, which stands in the round, to itself
 record Trip (err : ℤ) (start last : ℕ) : Type 0 where
@@ -78,8 +78,9 @@ at-most-half err start last close t a b =
     let e = t.err_is in
     omega (arith, ints, half, e)
 
-err_at : (setting : Setting) (l : Line) (world : List Line) → Fits setting (l ∷ world) → ErrAt l world
-err_at setting l world f m close cpast r older err x =
+pub errs_bounded : (setting : Setting) (world : List Line) → Fits setting world → ErrsBounded world
+errs_bounded setting whole h = Everywhere-from ErrAt whole (λ l world w m close cpast r older err x.
+    let f = fits_at setting (l ∷ world) whole h w in
     let k = node_of l in
     let q = x.post.port in
     let kind = cast_kind setting m close cpast l world r older err f x in
@@ -94,10 +95,8 @@ err_at setting l world f m close cpast r older err x =
     let trip = trip-of setting m k q b.did lb.older cpast x.sample.counter x.sample.ticket x.sample.diff x.sample.err fc.1 lb.node lb.place s in
     let same = same-start s.start u.start s.idle u.idle (view q (of m lb.older)) b.rest (view q (of m cpast)) s.start_is (sym lb.before) b.round u.start_is in
     let soon : close.did.tick ≤ s.start.tick + 9000000 = subst (λ (z : Did). close.did.tick ≤ z.tick + 9000000) (sym same) u.soon in
-    subst (λ e. e ≤ℤ pos 4500000) x.err_is (at-most-half x.sample.err s.start.tick (tick_of (dids (of m cpast))) close.did.tick trip (own-by setting m close cpast fc x.close_node) soon)
-
-pub errs_bounded : (setting : Setting) (world : List Line) → Fits setting world → ErrsBounded world
-errs_bounded setting world f = Everywhere-from ErrAt world (λ l s w. err_at setting l s (fits_at setting (l ∷ s) world f w))
+    subst (λ e. e ≤ℤ pos 4500000) x.err_is (at-most-half x.sample.err s.start.tick (tick_of (dids (of m cpast))) close.did.tick trip
+    (own-by setting m close cpast fc x.close_node) soon))
 
 -- what stands after a round's end: no other round yet, or one that began ROUND later
 abbrev Ahead : Did → List Seen → List Seen → Option ℕ → Type 0
@@ -130,14 +129,8 @@ module _ (setting : Setting) (q : Port) (first : Did) (idle : List Seen) where
 
   -- from a place where the round has ended, in one life
   along : (s t : List Line) → OwnFits setting t → Within s t → lives (dids s) ≡ lives (dids t) → started (view q s) ≡ Here first ∷ idle → (armed (view q s)).close ≡ None → Ahead first idle (started (view q t)) (armed (view q t)).close
-  along s [] f e life st shut_is = subst (λ z. Ahead first idle (started (view q z)) (armed (view q z)).close) e (inl (st, shut_is))
-  along s (l ∷ t) f (inl e) life st shut_is = subst (λ z. Ahead first idle (started (view q z)) (armed (view q z)).close) e (inl (st, shut_is))
-  along s (l ∷ t) f (inr w) life st shut_is =
-      let less = (since setting s t f.1 w).lives in
-      let more = lives-more l.did.deed (lives (dids t)) in
-      let same : lives_after l.did.deed (lives (dids t)) ≡ lives (dids t) = omega (arith, less, more, life) in
-      let here : lives (dids s) ≡ lives (dids t) = omega (arith, less, more, life) in
-      one-more l t f.0.deeds same (along s t f.1 w here st shut_is) ((l.port.0 == q.0) || is_shared l.did.deed) refl
+  along s t f w life st shut_is = lasting setting (λ t. Ahead first idle (started (view q t)) (armed (view q t)).close) s t f w life (inl (st, shut_is))
+      (λ l t o i k by h. one-more l t o.deeds k h ((l.port.0 == q.0) || is_shared l.did.deed) refl)
 
 -- the line before a Close rang its alarm
 record Rang (q : Port) (own : List Line) (past : List Seen) (ring : Did) : Type 0 where
@@ -171,8 +164,9 @@ closes-apart first now other then_start idle later st close (inr h) going is soo
     let later_is : first.tick + ROUND ≤ then_start.tick = subst (λ (z : Did). first.tick + ROUND ≤ z.tick) same h.1.1.1 in
     omega (arith, later_is, soon, over)
 
-seldom_at : (setting : Setting) (l : Line) (world : List Line) → Fits setting (l ∷ world) → SeldomAt l world
-seldom_at setting l world f other older count n lo size mean low long middle deed place node port was life =
+pub seldom : (setting : Setting) (world : List Line) → Fits setting world → Seldom world
+seldom setting whole h = Everywhere-from SeldomAt whole (λ l world w other older count n lo size mean low long middle deed place node port was life.
+    let f = fits_at setting (l ∷ world) whole h w in
     let m = node_of l in
     let q = l.port in
     let cf = deed_fits setting l world (Acts (Close count lo size mean)) deed f.0 in
@@ -194,7 +188,4 @@ seldom_at setting l world f other older count n lo size mean low long middle dee
     let going : is_some (armed (view q r.rest)).close ≡ true = ap is_going r.past_is ∙ cf.going in
     let rung : started (Here cf.ring ∷ cf.past) ≡ started cf.past = rw cf.rings refl in
     let begun : started (view q r.rest) ≡ Here cf.start ∷ cf.idle = ap started r.past_is ∙ (sym rung ∙ (sym (ap started cf.is) ∙ cf.start_is)) in
-    closes-apart co.start l.did other.did cf.start co.idle cf.idle (started (view q r.rest)) (armed (view q r.rest)).close ahead going begun co.soon cf.over
-
-pub seldom : (setting : Setting) (world : List Line) → Fits setting world → Seldom world
-seldom setting world f = Everywhere-from SeldomAt world (λ l s w. seldom_at setting l s (fits_at setting (l ∷ s) world f w))
+    closes-apart co.start l.did other.did cf.start co.idle cf.idle (started (view q r.rest)) (armed (view q r.rest)).close ahead going begun co.soon cf.over)

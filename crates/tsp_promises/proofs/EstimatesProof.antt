@@ -1,40 +1,16 @@
 -- What the estimates of a round tell of the clocks.
 use Rattle.std.proofs.Common.{sym, ap, arith, subst, subst₂, inl, inr, ◌∙◌, ◌≡◌, ◌≤◌, ◌≤ℤ◌, ◌⊎◌, ℕ, ◌+◌, ◌-◌, ◌*◌, ℤ, pos, ◌+ℤ◌, ◌-ℤ◌, nat_abs, List, ◌∷◌, refl}
 use Rattle.std.proofs.lemmas.Int.{ints}
-use Rattle.tsp_rules.specs.Values.{Close, AdjTime, PeerId}
-use Rattle.tsp_base.specs.Words.{Acts, Did, Here, Line, Seen, dids, of, view, MessageValue, lives, moved, time_of, Within, Sampled, Undisturbed, tick_at, width}
+use Rattle.tsp_rules.specs.Values.{Close}
+use Rattle.tsp_base.specs.Words.{Acts, Did, Line, dids, of, view, lives, moved, time_of, Within, Sampled, Undisturbed, tick_at, width}
 use Rattle.tsp_promises.specs.{Agreed.Unchanged, ClockAt.clock_at, Fits.Fits, Fits.node_of, RoundFits.CloseFits, Setting.Setting}
-use Rattle.tsp_promises.specs.CorrectionFits.{AnswersSlaveUp, AtClose, FollowedBy, FromClose}
-use Rattle.tsp_promises.specs.Estimates.{CloseBegins, EndedNear, Estimate, EstimatesHold, EstimatesNear, MasterNear, Moves, NearMean}
+use Rattle.tsp_promises.specs.CorrectionFits.{FollowedBy}
+use Rattle.tsp_promises.specs.Estimates.{EndedNear, Estimate, EstimatesHold, EstimatesNear, MasterNear, Moves, NearMean}
 use Rattle.tsp_base.proofs.PlaceLemmas.{Within-through, Within-tail}
 use Rattle.tsp_promises.proofs.{Clocks.drift_apart, EverywhereLemmas.Everywhere-from, TakingProof.corrects-adj, HistoryPlaces.of-own}
 use Rattle.tsp_promises.proofs.{OwnFitsProof.Given, OwnFitsProof.given_at, OwnFitsProof.fits_at, OwnFitsProof.place-time, OwnFitsProof.deed_fits}
 use Rattle.tsp_promises.proofs.MasterMoved.{master_moved, moved-right-after, same-mean, unmoved}
-use Rattle.tsp_promises.{proofs.TakingProof.ReadAt, proofs.TakingProof.read_at, proofs.SendPlaces.post_fits, specs.StepFacts.closed}
-
--- what the Close owes that begins an ADJTIME
-pub at-close : (here : Did) (seen : List Seen) (p : PeerId) (m : MessageValue) (close : Did) (past : List Seen) → m.kind ≡ AdjTime → closed seen ≡ Here close ∷ past → AnswersSlaveUp seen p m ⊎ AtClose here seen p m →
-    (mean : ℤ) × ((sample : Sampled) × FromClose here seen p m close past mean sample)
-at-close here seen p m close past kind close_is (inl s) = let bad : ⊥ = (let k = sym kind ∙ s.sets in cc) in absurd bad
-at-close here seen p m close past kind close_is (inr a) =
-    let both : Here a.close ∷ a.past ≡ Here close ∷ past = sym a.is.is ∙ close_is in
-    let did_is : a.close ≡ close = cc in
-    let past_is : a.past ≡ past = cc in
-    (a.mean, (a.sample, subst₂ (λ y z. FromClose here seen p m y z a.mean a.sample) did_is past_is a.is))
-
--- a round that begins an ADJTIME
-record Closing (here : Did) (seen : List Seen) (close : Did) (past : List Seen) : Type 0 where
-  pub peer : PeerId
-  pub message : MessageValue
-  pub mean : ℤ
-  pub sample : Sampled
-  pub is : FromClose here seen peer message close past mean sample
-
-closing : (setting : Setting) (m : ℕ) (close : Line) (cpast : List Line) (mean : ℤ) (f : Line) (fw : List Line) → Fits setting (f ∷ fw) → CloseBegins m close cpast mean f fw → Closing f.did (view f.port (of m fw)) close.did (view f.port (of m cpast))
-closing setting m close cpast mean f fw fits b =
-    let c = post_fits setting m f fw b.peer b.message fits.0 b.first_node b.posts (corrects-adj b.message.kind b.kind) in
-    let u = at-close f.did (view f.port (of m fw)) b.peer b.message close.did (view f.port (of m cpast)) b.kind b.close_is (c.begins b.begins).from in
-    record { peer = b.peer; message = b.message; mean = u.0; sample = u.1.0; is = u.1.1 }
+use Rattle.tsp_promises.{proofs.TakingProof.ReadAt, proofs.TakingProof.begun-by, proofs.TakingProof.read_at, proofs.SendPlaces.post_fits}
 
 -- what a Close owes
 close-fits : (setting : Setting) (m : ℕ) (close : Line) (cpast : List Line) (count : ℕ) (lo size mean : ℤ) → Fits setting (close ∷ cpast) → close.did.deed ≡ Acts (Close count lo size mean) → node_of close ≡ m → CloseFits close.did (view close.port (of m cpast))
@@ -99,10 +75,12 @@ near-mean setting m k close cpast count lo size mean x r older h t g by close_in
 master-near : (setting : Setting) (h : List Line) (t : ℕ) → Given setting h → time_of (dids h) ≤ t → MasterNear setting h t
 master-near setting h t g by m k close cpast mean f fw x r older f_in b e v =
     let gf = given_at setting (f ∷ fw) h g f_in in
-    let c = closing setting m close cpast mean f fw gf.fits b in
+    let owes = post_fits setting m f fw b.peer b.message gf.fits.0 b.first_node b.posts (corrects-adj b.message.kind b.kind) in
+    let u = begun-by f.did (view f.port (of m fw)) b.peer b.message close.did (view f.port (of m cpast)) (inl b.kind) b.close_is (owes.begins b.begins).from in
+    let c = u.1.from in
     let close_h : Within (close ∷ cpast) h = Within-through (close ∷ cpast) (f ∷ fw) h (inr b.closes) f_in in
-    let same : c.mean ≡ mean = same-mean b.count c.is.count b.lo c.is.lo b.size c.is.size mean c.mean (sym b.deed ∙ c.is.deed) in
-    let followed = subst (λ z. (z ≡ pos 0) ⊎ FollowedBy close.did (view f.port (of m cpast)) (view f.port (of m fw)) z) same c.is.followed in
+    let same : u.1.mean ≡ mean = same-mean b.count c.count b.lo c.lo b.size c.size mean u.1.mean (sym b.deed ∙ c.deed) in
+    let followed = subst (λ z. (z ≡ pos 0) ⊎ FollowedBy close.did (view f.port (of m cpast)) (view f.port (of m fw)) z) same c.followed in
     let fw_in : Within fw h = Within-tail f fw h f_in in
     let moved_is = master_moved setting m f.port close cpast fw h b.count b.lo b.size mean g.fits b.deed b.node close_h v fw_in followed in
     near-mean setting m k close cpast b.count b.lo b.size mean x r older h t g by close_h b.deed b.node e moved_is

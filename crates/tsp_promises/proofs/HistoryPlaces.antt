@@ -1,13 +1,17 @@
 -- Places of a history and places of one node's lines.
-use Rattle.std.proofs.Common.{ap, ◌≡◌, ◌==◌, ℕ, true, false, List, ◌∷◌, refl, sym, subst, inl, inr, eqb-true, eq-eqb, Bool, []}
+use Rattle.std.proofs.Common.{arith, ap, ◌≡◌, ◌==◌, ℕ, true, false, List, ◌∷◌, refl, sym, subst, inl, inr, eqb-true, eq-eqb, Bool, []}
 use Rattle.tsp_rules.specs.Values.{Port}
 use Rattle.tsp_base.specs.Words.{Did, Line, of, Within}
-use Rattle.tsp_base.proofs.PlaceLemmas.{Within-all, Within-none, Within-strict, Within-comparable}
+use Rattle.tsp_base.proofs.PlaceLemmas.{Within-all, Within-none, Within-length, Within-comparable}
 use Rattle.tsp_promises.specs.Fits.{node_of}
 
 -- a line of a port
 abbrev pub line_on : Port → Did → Line
 line_on q d = record { port = q; did = d }
+
+-- a place within what stands before another one doesn't have that one at its head or before it
+pub not-behind : {A : Type 0} (l x : A) (s t : List A) → Within (l ∷ s) t → Within (x ∷ t) (l ∷ s) → ⊥
+not-behind l x s t v w = omega (arith, Within-length (l ∷ s) t v, Within-length (x ∷ t) (l ∷ s) w)
 
 of-more : (b : Bool) (n : ℕ) (l : Line) (s t : List Line) → (node_of l == n) ≡ b → Within (of n s) (of n t) → Within (of n s) (of n (l ∷ t))
 of-more true n l s t e p = rw e (inr p)
@@ -56,7 +60,7 @@ lift n (x ∷ h) l s w = lift-more n x h l s (node_of x == n) refl (lift n h l s
 pub own_same : (n : ℕ) (s t : Line) (a b h : List Line) → node_of s ≡ n → node_of t ≡ n → Within (s ∷ a) h → Within (t ∷ b) h → s ∷ of n a ≡ t ∷ of n b → s ∷ a ≡ t ∷ b
 own_same n s t a b h sn tn v w o = elim (Within-comparable (s ∷ a) (t ∷ b) h v w) [
   | inl (inl e) ↦ e
-  | inl (inr i) ↦ let r : of n a ≡ of n b = cc in absurd (Within-strict s (of n a) (of n b) (own_in n s a b sn i) (subst (λ k. Within k (of n a)) r (Within-all (of n a))))
+  | inl (inr i) ↦ absurd (not-behind s t (of n a) (of n b) (own_in n s a b sn i) (inl (sym o)))
   | inr (inl e) ↦ sym e
-  | inr (inr i) ↦ let r : of n a ≡ of n b = cc in absurd (Within-strict t (of n b) (of n a) (own_in n t b a tn i) (subst (λ k. Within (of n a) k) r (Within-all (of n a))))
+  | inr (inr i) ↦ absurd (not-behind t s (of n b) (of n a) (own_in n t b a tn i) (inl o))
 ]

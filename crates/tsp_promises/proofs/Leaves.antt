@@ -1,12 +1,12 @@
 -- What single acts make of what is known of a port.
 use Rattle.std.proofs.Common.{sym, ap, subst, arith, inr, ◌∙◌, true≢false, ◌≡◌, ◌≤◌, ℕ, ◌+◌, ◌==◌, ◌&&◌, ◌||◌, ℤ, Bool, true, false, if◌then◌else◌, cond, List, [], ◌∷◌, Option, None, Some, refl}
-use Rattle.tsp_rules.specs.Values.{Act, Arm, Backer, Abandon, Close, Correct, Sample, Acked, Gave, Join, Leave, Rival, Trace, Window, Elect, Search, Round, Probe, CloseAlarm, ResolveAlarm, PeerId, Master, CLOSE, PROBE, QUIET, ROUND}
+use Rattle.tsp_rules.specs.Values.{Role, Act, Arm, Backer, Abandon, Close, Correct, Sample, Acked, Gave, Join, Leave, Rival, Trace, Window, Elect, Search, Round, Probe, CloseAlarm, ResolveAlarm, PeerId, Master, CLOSE, PROBE, QUIET, ROUND}
 use Rattle.tsp_base.specs.Words.{Did, Seen, Here, Past, plain, boot_tick, is_among, Received, role, armed, acting, taken, backers, held, stood, exchange, probes, started, grown, open_to, message_at, heard}
 use Rattle.tsp_rules.proofs.{Asides.now, GuardFacts.same_peer}
 use Rattle.tsp_promises.specs.{AckFits.AckedFits, CorrectFits.CorrectFits, DeedFits.ActFits, HoldFits.BackerFits, MeasureFits.SampleFits}
 use Rattle.tsp_promises.specs.StepFacts.{is_unbacked, owes, unacknowledged}
 use Rattle.tsp_promises.specs.{PortFits.PortFits, PortFits.setup_in, RoundFits.CloseFits}
-use Rattle.tsp_promises.proofs.Known.{Asked, Probing, Candidature, asks_vote, KnowsOf, During}
+use Rattle.tsp_promises.proofs.Known.{Asked, Probing, Candidature, asks_vote, Knows, KnowsOf, During, Quiets, Rounds, Votes}
 
 -- what a port has seen when it is done
 abbrev pub then_seen : ℕ → Past → Act → List Seen
@@ -39,9 +39,43 @@ new-backer : (p q : PeerId) (was : List Seen) (bs : List PeerId) → (q ≡ p �
 new-backer p q was bs ended e old true same = absurd (true≢false (sym (subst (λ place. asks_vote (message_at place) ≡ true) (ended (sym (same_peer p q same))) e)))
 new-backer p q was bs ended e old false same = old
 
--- an exchange of a port that is stirred now
+-- an exchange of a port that is stirred now, and its round
 pub stir : {stirred : Bool} {close : Option ℕ} {nc nl nd nm w : ℕ} {s : Seen} {older : List Seen} → Asked stirred close nc nl w s older → Asked true close nd nm w s older
 stir a = record { post = a.post; is = a.is; at = a.at; goes = a.goes; word_is = a.word_is; corrects = λ calm. absurd (true≢false calm); life = λ calm. absurd (true≢false calm) }
+
+pub stir_round : {stirred : Bool} {last last' nc nd nl nm w n : ℕ} {r : Role} {probe close round : Option ℕ} {st : List Seen} {ex : PeerId → ℕ → List Seen} →
+    Rounds stirred last r probe close round n st nc nl w ex → Rounds true last' r probe close round n st nd nm w ex
+stir_round h = record {
+  rounds = h.rounds;
+  probing = h.probing;
+  closes = λ calm. absurd (true≢false calm);
+  exchanges = λ p i s older e. stir (h.exchanges p i s older e);
+}
+
+-- what is known of a port with one part of it anew
+pub with_times : {A B C D E : Type 0} → Knows A B C D → E → Knows E B C D
+with_times k e = record { times = e; quiet = k.quiet; vote = k.vote; round = k.round }
+
+pub with_quiet : {A B C D E : Type 0} → Knows A B C D → E → Knows A E C D
+with_quiet k e = record { times = k.times; quiet = e; vote = k.vote; round = k.round }
+
+pub with_vote : {A B C D E : Type 0} → Knows A B C D → E → Knows A B E D
+with_vote k e = record { times = k.times; quiet = k.quiet; vote = e; round = k.round }
+
+pub with_round : {A B C D E : Type 0} → Knows A B C D → E → Knows A B C E
+with_round k e = record { times = k.times; quiet = k.quiet; vote = k.vote; round = e }
+
+-- the quiet time is over
+pub now_rested : {x boot : ℕ} {r : Role} {quiet search elect resolve search' elect' resolve' : Option ℕ} {to to' : PeerId → List Seen} → boot + QUIET ≤ x →
+    Quiets x boot r quiet search elect resolve to → Quiets x boot r quiet search' elect' resolve' to'
+now_rested rested q = record { rested = inr rested; silent = q.silent }
+
+-- other votes are asked for, or given
+pub with_votes : {x boot : ℕ} {own : PeerId} {r : Role} {window quit : Option ℕ} {back : Option (ℕ × PeerId)} {st : List Seen} {to to' : PeerId → List Seen}
+    {bs bs' : List PeerId} →
+    Votes x boot own r window quit back st to bs → ((p : PeerId) → asks_vote (message_at (to' p)) ≡ true → is_among p bs' ≡ false) →
+    Votes x boot own r window quit back st to' bs'
+with_votes v votes = record { stands = v.stands; windows = v.windows; votes = votes }
 
 pub made : {stirred awake owing acts : Bool} {follow : List PeerId} {T : Option Received → Option Received → Type 0} {x : ℕ} {past : Past} (a : Act) → past.own.0 ≡ past.step.node → ActFits (setup_in past) a (now x past a) past.seen → PortFits (setup_in past) past.seen →
     KnowsOf stirred x past.own (then_seen x past a) → (awake ≡ true → boot_tick (plain (then_seen x past a)) + QUIET ≤ x) → is_unbacked (then_seen x past a) ≡ owing → owes (then_seen x past a) ≡ follow → unacknowledged (then_seen x past a) ≡ None → acting (then_seen x past a) ≡ acts → T (taken (then_seen x past a)) (heard (plain (then_seen x past a))) →
@@ -50,26 +84,21 @@ made a own f fits knows rested backs owed paid acting_is took = record { own = o
 
 -- without a round nothing stirs a port
 pub calmed : {stirred now : Bool} (x : ℕ) (own : PeerId) (seen : List Seen) → (armed seen).close ≡ None → KnowsOf stirred x own seen → KnowsOf now x own seen
-calmed x own seen shut k = record {
-  times = k.times;
-  quiet = k.quiet;
-  vote = k.vote;
-  round = record {
-    rounds = k.round.rounds;
-    probing = k.round.probing;
-    closes = λ calm at e. none-some at (sym shut ∙ e);
-    exchanges = λ p i s older e. let asked = k.round.exchanges p i s older e in none-some asked.at (sym shut ∙ asked.goes);
-  };
-}
+calmed x own seen shut k = with_round k (record {
+  rounds = k.round.rounds;
+  probing = k.round.probing;
+  closes = λ calm at e. none-some at (sym shut ∙ e);
+  exchanges = λ p i s older e. let asked = k.round.exchanges p i s older e in none-some asked.at (sym shut ∙ asked.goes);
+})
 
 -- an Abandon ends the round
 pub abandoned : {stirred : Bool} (x : ℕ) (past : Past) → KnowsOf stirred x past.own past.seen → KnowsOf false x past.own (then_seen x past Abandon)
-abandoned x past k = record {
-  times = k.times;
-  quiet = k.quiet;
-  vote = k.vote;
-  round = record { rounds = k.round.rounds; probing = λ at e. none-some at e; closes = λ calm at e. none-some at e; exchanges = λ p i s older e. nil-cons s older e };
-}
+abandoned x past k = with_round k (record {
+  rounds = k.round.rounds;
+  probing = λ at e. none-some at e;
+  closes = λ calm at e. none-some at e;
+  exchanges = λ p i s older e. nil-cons s older e;
+})
 
 -- a round that has just begun isn't later than now, and is so long before the next
 begins-now : {x : ℕ} (d start : Did) (rest idle : List Seen) → Here d ∷ rest ≡ Here start ∷ idle → d.tick ≤ x → start.tick ≤ x
@@ -98,58 +127,36 @@ module _ {stirred awake owing acts : Bool} {follow : List PeerId} {T : Option Re
 -- acts of a port whose quiet time is over
 module _ {stirred owing acts : Bool} {follow : List PeerId} {T : Option Received → Option Received → Type 0} {x : ℕ} {past : Past} where
   pub arm_search : (at : ℕ) → During stirred true owing follow acts T x past → During stirred true owing follow acts T x (grown x past (Arm Search at ∷ []))
-  arm_search at h =
-      let k = h.knows in
-      made (Arm Search at) h.own tt h.fits (record { times = k.times; quiet = record { rested = inr (h.rested refl); silent = k.quiet.silent }; vote = k.vote; round = k.round }) h.rested h.backs h.owed h.paid h.acting_is h.took
+  arm_search at h = made (Arm Search at) h.own tt h.fits (with_quiet h.knows
+      (now_rested (h.rested refl) h.knows.quiet)) h.rested h.backs h.owed h.paid h.acting_is h.took
 
   pub arm_elect : (at : ℕ) → During stirred true owing follow acts T x past → During stirred true owing follow acts T x (grown x past (Arm Elect at ∷ []))
-  arm_elect at h =
-      let k = h.knows in
-      made (Arm Elect at) h.own tt h.fits (record { times = k.times; quiet = record { rested = inr (h.rested refl); silent = k.quiet.silent }; vote = k.vote; round = k.round }) h.rested h.backs h.owed h.paid h.acting_is h.took
+  arm_elect at h = made (Arm Elect at) h.own tt h.fits (with_quiet h.knows
+      (now_rested (h.rested refl) h.knows.quiet)) h.rested h.backs h.owed h.paid h.acting_is h.took
 
   pub arm_resolve : (at : ℕ) → During stirred true owing follow acts T x past → During stirred true owing follow acts T x (grown x past (Arm ResolveAlarm at ∷ []))
-  arm_resolve at h =
-      let k = h.knows in
-      made (Arm ResolveAlarm at) h.own tt h.fits (record { times = k.times; quiet = record { rested = inr (h.rested refl); silent = k.quiet.silent }; vote = k.vote; round = k.round }) h.rested h.backs h.owed h.paid h.acting_is h.took
+  arm_resolve at h = made (Arm ResolveAlarm at) h.own tt h.fits (with_quiet h.knows
+      (now_rested (h.rested refl) h.knows.quiet)) h.rested h.backs h.owed h.paid h.acting_is h.took
 
   pub gave : (p : PeerId) → During stirred true owing follow acts T x past → During stirred true owing follow acts T x (grown x past (Gave p ∷ []))
   gave p h =
       let k = h.knows in
-      made (Gave p) h.own tt h.fits
-      (record {
-        times = k.times;
-        quiet = record { rested = inr (h.rested refl); silent = k.quiet.silent };
-        vote = record { stands = k.vote.stands; windows = k.vote.windows; votes = λ q e. kept-vote (p.0 == q.0) (open_to q past.seen) (k.vote.votes q) e };
-        round = k.round;
-      })
-      h.rested h.backs h.owed h.paid h.acting_is h.took
+      let vote = with_votes k.vote (λ q e. kept-vote (p.0 == q.0) (open_to q past.seen) (k.vote.votes q) e) in
+      made (Gave p) h.own tt h.fits (with_quiet (with_vote k vote) (now_rested (h.rested refl) k.quiet)) h.rested h.backs h.owed h.paid h.acting_is h.took
 
   pub acked : (p : PeerId) → AckedFits past.seen p → During stirred true owing follow acts T x past → During stirred true owing follow acts T x (grown x past (Acked p ∷ []))
   acked p f h =
       let k = h.knows in
-      made (Acked p) h.own f h.fits
-      (record {
-        times = k.times;
-        quiet = record { rested = inr (h.rested refl); silent = k.quiet.silent };
-        vote = record { stands = k.vote.stands; windows = k.vote.windows; votes = λ q e. kept-vote (p.0 == q.0) (open_to q past.seen) (k.vote.votes q) e };
-        round = k.round;
-      })
-      h.rested h.backs h.owed h.paid h.acting_is h.took
+      let vote = with_votes k.vote (λ q e. kept-vote (p.0 == q.0) (open_to q past.seen) (k.vote.votes q) e) in
+      made (Acked p) h.own f h.fits (with_quiet (with_vote k vote) (now_rested (h.rested refl) k.quiet)) h.rested h.backs h.owed h.paid h.acting_is h.took
 
   pub backer : (p : PeerId) → BackerFits (setup_in past) (now x past (Backer p)) past.seen p → open_to p past.seen ≡ [] → During stirred true owing follow acts T x past → During stirred true owing follow acts T x (grown x past (Backer p ∷ []))
   backer p f ended h =
       let k = h.knows in
       made (Backer p) h.own f h.fits
-      (record {
-        times = k.times;
-        quiet = k.quiet;
-        vote = record {
-          stands = k.vote.stands;
-          windows = k.vote.windows;
-          votes = λ q e. new-backer p q (open_to q past.seen) (backers past.seen) (λ s. subst (λ r. open_to r past.seen ≡ []) (sym s) ended) e (k.vote.votes q e) (p.0 == q.0) refl;
-        };
-        round = k.round;
-      })
+      (with_vote k (with_votes k.vote (λ q e.
+      new-backer p q (open_to q past.seen) (backers past.seen) (λ s. subst (λ r. open_to r past.seen ≡ []) (sym s) ended) e (k.vote.votes q e)
+      (p.0 == q.0) refl)))
       h.rested h.backs h.owed h.paid h.acting_is h.took
 
 module _ {stirred awake owing acts : Bool} {follow : List PeerId} {T : Option Received → Option Received → Type 0} {x : ℕ} {past : Past} where
@@ -157,51 +164,36 @@ module _ {stirred awake owing acts : Bool} {follow : List PeerId} {T : Option Re
   arm_window at c h =
       let k = h.knows in
       made (Arm Window at) h.own tt h.fits
-      (record {
-        times = k.times;
-        quiet = k.quiet;
-        vote = record {
-          stands = k.vote.stands;
-          windows = λ n e. subst (λ i. Candidature past.own i (role past.seen) (held past.seen).back (stood past.seen)) (some-same at n e) c;
-          votes = k.vote.votes;
-        };
-        round = k.round;
-      })
+      (with_vote k (record {
+        stands = k.vote.stands;
+        windows = λ n e. subst (λ i. Candidature past.own i (role past.seen) (held past.seen).back (stood past.seen)) (some-same at n e) c;
+        votes = k.vote.votes;
+      }))
       h.rested h.backs h.owed h.paid h.acting_is h.took
 
   pub arm_round : (at : ℕ) → role past.seen ≡ Master → ((start : Did) (idle : List Seen) → started past.seen ≡ Here start ∷ idle → start.tick + ROUND ≤ at) → During stirred awake owing follow acts T x past → During stirred awake owing follow acts T x (grown x past (Arm Round at ∷ []))
   arm_round at r spaced h =
       let k = h.knows in
       made (Arm Round at) h.own tt h.fits
-      (record {
-        times = record {
-          boot_le = k.times.boot_le;
-          last_le = k.times.last_le;
-          boot_is = k.times.boot_is;
-          start_le = k.times.start_le;
-          next = λ n e start idle is. subst (λ i. start.tick + ROUND ≤ i) (some-same at n e) (spaced start idle is);
-        };
-        quiet = k.quiet;
-        vote = k.vote;
-        round = record { rounds = λ n e. r; probing = k.round.probing; closes = k.round.closes; exchanges = k.round.exchanges };
-      })
+      (with_round (with_times k (record {
+        boot_le = k.times.boot_le;
+        last_le = k.times.last_le;
+        boot_is = k.times.boot_is;
+        start_le = k.times.start_le;
+        next = λ n e start idle is. subst (λ i. start.tick + ROUND ≤ i) (some-same at n e) (spaced start idle is);
+      })) (record { rounds = λ n e. r; probing = k.round.probing; closes = k.round.closes; exchanges = k.round.exchanges }))
       h.rested h.backs h.owed h.paid h.acting_is h.took
 
   pub arm_probe : (at : ℕ) → Probing at (armed past.seen).close (probes past.seen) → During stirred awake owing follow acts T x past → During stirred awake owing follow acts T x (grown x past (Arm Probe at ∷ []))
   arm_probe at p h =
       let k = h.knows in
       made (Arm Probe at) h.own tt h.fits
-      (record {
-        times = k.times;
-        quiet = k.quiet;
-        vote = k.vote;
-        round = record {
-          rounds = k.round.rounds;
-          probing = λ n e. subst (λ i. Probing i (armed past.seen).close (probes past.seen)) (some-same at n e) p;
-          closes = k.round.closes;
-          exchanges = k.round.exchanges;
-        };
-      })
+      (with_round k (record {
+        rounds = k.round.rounds;
+        probing = λ n e. subst (λ i. Probing i (armed past.seen).close (probes past.seen)) (some-same at n e) p;
+        closes = k.round.closes;
+        exchanges = k.round.exchanges;
+      }))
       h.rested h.backs h.owed h.paid h.acting_is h.took
 
   -- a round begins with its two alarms, ROUND after the last one; the next one is put off already
@@ -253,12 +245,9 @@ module _ {stirred awake owing acts : Bool} {follow : List PeerId} {T : Option Re
   correct_stirring amount stepped shown f h =
       let k = h.knows in
       made (Correct amount stepped shown) h.own f h.fits
-      (record {
-        times = record { boot_le = k.times.boot_le; last_le = omega arith; boot_is = k.times.boot_is; start_le = k.times.start_le; next = k.times.next };
-        quiet = k.quiet;
-        vote = k.vote;
-        round = record { rounds = k.round.rounds; probing = k.round.probing; closes = λ calm. absurd (true≢false calm); exchanges = λ p i s older e. stir (k.round.exchanges p i s older e) };
-      })
+      (with_round (with_times k (record
+      { boot_le = k.times.boot_le; last_le = omega arith; boot_is = k.times.boot_is; start_le = k.times.start_le; next = k.times.next }))
+      (stir_round k.round))
       h.rested h.backs h.owed h.paid h.acting_is h.took
 
   -- the same without a round
@@ -271,15 +260,10 @@ module _ {stirred awake owing acts : Bool} {follow : List PeerId} {T : Option Re
   sample p counter diff err number f h =
       let k = h.knows in
       made (Sample p counter diff err number) h.own f h.fits
-      (record {
-        times = k.times;
-        quiet = k.quiet;
-        vote = k.vote;
-        round = record {
-          rounds = k.round.rounds;
-          probing = k.round.probing;
-          closes = k.round.closes;
-          exchanges = λ q i s older e. kept-asked ((p.0 == q.0) && (counter == i)) (exchange q i past.seen) s older (k.round.exchanges q i s older) e;
-        };
-      })
+      (with_round k (record {
+        rounds = k.round.rounds;
+        probing = k.round.probing;
+        closes = k.round.closes;
+        exchanges = λ q i s older e. kept-asked ((p.0 == q.0) && (counter == i)) (exchange q i past.seen) s older (k.round.exchanges q i s older) e;
+      }))
       h.rested h.backs h.owed h.paid h.acting_is h.took

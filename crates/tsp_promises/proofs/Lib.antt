@@ -5,7 +5,6 @@ pub mod AlarmTable
 pub mod AloneLemmas
 pub mod AnswerLeads
 pub mod AnsweredProof
-mod BackedProof
 pub mod BrokenClocks
 pub mod BrokenRoles
 pub mod BrokenRounds
@@ -19,7 +18,6 @@ pub mod CommonLeads
 pub mod ConfirmedDate
 pub mod ConfirmedProof
 pub mod CorrectionLeads
-pub mod DateAt
 pub mod DateLeads
 pub mod Debts
 pub mod ElectionFacts

@@ -1,21 +1,20 @@
 -- What a node does with a LOOP keeps what is known of each of its ports.
 use Rattle.std.proofs.Common.{sym, subst, inr, ap, arith, true≢false, eqb-true, eq-eqb, leb-true, ltb-true, ◌∙◌, ◌≡◌, ◌≢◌, ◌≤◌, ◌<◌, ℕ, ◌+◌, ◌-◌, ◌==◌, ◌&&◌, nat_le, nat_lt, Bool, true, false, if◌then◌else◌, List, [], ◌∷◌, map, length, Option, Some, refl, inl, not, None, is_some}
 use Rattle.std.proofs.lemmas.Bool.{and_parts, not-true}
-use Rattle.tsp_promises.{specs.StepFacts.is_quit, specs.DeedFits.MessageFits, proofs.AnswerLeads.open_rests, proofs.RoundLeads.Probed}
-use Rattle.tsp_promises.specs.{LoopFits.LoopFits, PortFits.setup_in}
-use Rattle.tsp_promises.proofs.Changes.{open_of, wake, JustTook, Is, become_loose, take}
 use Rattle.tsp_promises.proofs.GateSteps.{AtPort, own_of, on_run, AllPorts, LeadsAll, Pick, picks, passes, placed_all, same_port}
 use Rattle.tsp_promises.proofs.HeedLeads.{EndsIn, ends_family, untaken_heeds, unquit_heeds, took_quit}
-use Rattle.tsp_promises.proofs.Known.{Open, OpenIn, Free, During, Ended}
-use Rattle.tsp_promises.proofs.{PostLeaves.post_message, PortLists.Ranged, PortLists.Others, PortLists.other_ranged, PortLists.other_others}
-use Rattle.tsp_promises.proofs.{AlarmLeads.master_rested, TakenLeads.rests_of, TakenLeads.wake_role, TakenLeads.master_awake}
-use Rattle.tsp_promises.proofs.{CommonLeads.arms_elect_during, Elsewheres.open_family, Elsewheres.kept_aside, Elsewheres.calm_bootless}
+use Rattle.tsp_promises.proofs.Changes.{open_of, wake, JustTook, Is, become_loose, take}
+use Rattle.tsp_promises.proofs.{PortLists.Ranged, PortLists.Others, PortLists.other_ranged, PortLists.other_others, PostLeaves.post_message}
+use Rattle.tsp_promises.proofs.{Elsewheres.open_family, Elsewheres.kept_aside, Elsewheres.calm_bootless, CommonLeads.arms_elect_during}
+use Rattle.tsp_promises.proofs.{TakenLeads.rests_of, TakenLeads.wake_role, TakenLeads.master_awake, AlarmLeads.master_rested}
+use Rattle.tsp_promises.proofs.{Known.Open, Known.OpenIn, Known.Free, Known.During, Known.Ended, AnswerLeads.open_rests, RoundLeads.Probed}
+use Rattle.tsp_promises.specs.{DeedFits.MessageFits, StepFacts.is_quit, LoopFits.LoopFits, PortFits.setup_in}
 use Rattle.tsp_rules.specs.Values.{Took, Post, Become, Message, Taken, Good, LoopKind, Body, Hops, PeerId, Place, Peer, Stranger, Port, Starting, Loose, Probe, CloseAlarm}
 use Rattle.tsp_rules.{specs.CandidateRows.yields, specs.CommonRows.arms_elect, specs.SendRows.is_kind_election, proofs.FewActs.is_calm}
 use Rattle.tsp_rules.{specs.Guards.is_master_at, specs.Guards.is_starting_role, proofs.BuiltGate.built_loosens_master}
 use Rattle.tsp_rules.specs.GateRows.{other_ports, hops_in, same_name, PassOver, GiveUp, Forward, one_hop_less, repost, reposts, is_awake_on, reposts_on, loosens_master, forwards, takes_loop_step, hears_on, judges, heeds_loop, takes_loop, loop_to, sends_loops, is_last_probe}
 use Rattle.tsp_rules.specs.NodeRows.{NodePast, on_port, spread, nothing_at_all, on, ◌and_then◌, reading_all, for_ports}
-use Rattle.tsp_rules.proofs.Asides.{aside, now}
+use Rattle.tsp_rules.proofs.Asides.{now}
 use Rattle.tsp_rules.proofs.{CalmBuilt.calm_unmoving, GuardFacts.awake_is, GuardFacts.master_is, NodeRowLemmas.spread_append}
 use Rattle.tsp_base.specs.Words.{Past, Leads, MessageValue, Received, role, grown, nothing, puts, ◌followed_by◌, others, deadline, acting, armed, taken}
 use Rattle.tsp_base.proofs.LeadsLemmas.{Leads_then, Leads_either, Leads_nothing, Leads_puts, Leads_from, Leads_to}
@@ -67,13 +66,6 @@ loops_kept q x past port last h =
 abbrev pub IsHeard : Place → Taken → Option Received → Option Received → Type 0
 IsHeard from t here anywhere = (here ≡ None) × (anywhere ≡ Some (record { from = from; taken = t }))
 
--- another port takes it
-pub open_heard : (from : Place) (t : Taken) (x : ℕ) (past : Past) → Open x past → OpenIn false (IsHeard from t) x (aside x past (Took from t))
-open_heard from t x past h = record { own = h.own; fits = h.fits; knows = h.knows; backs = h.backs; owed = h.owed; paid = h.paid; took = (h.took.0, refl) }
-
-open_ends : (from : Place) (t : Taken) (x : ℕ) (past : Past) → OpenIn false (IsHeard from t) x past → Ended x past
-open_ends from t x past h = (open_rests x past h, untaken_heeds past.peers past.seen h.took.0)
-
 -- a port that took the LOOP has no QUIT to heed
 loop_ends : {stirred awake : Bool} {x : ℕ} {past : Past} (from : Place) (m : MessageValue) → m.kind ≡ LoopKind → During stirred awake false [] true (Is from (Good (Message m))) x past → EndsIn stirred x past
 loop_ends {past = past} from m kind h = (rests_of h, unquit_heeds past.peers past.seen (ap took_quit h.took ∙ ap is_quit kind))
@@ -89,9 +81,6 @@ name-same _ _ e = absurd (true≢false (sym e))
 name-own : (a : List ℕ) → same_name a a ≡ true
 name-own [] = refl
 name-own (a ∷ rest) = let same : (a == a) ≡ true = eq-eqb a a refl in rw same (name-own rest)
-
-name-other : (a b : List ℕ) → same_name a b ≡ false → a ≢ b
-name-other a b e is = true≢false (sym (name-own a) ∙ ap (same_name a) is ∙ e)
 
 -- hops
 hops-are : (b : Body) → nat_le 1 (hops_in b) ≡ true → b ≡ Hops ((hops_in b - 1) + 1)
@@ -113,45 +102,45 @@ gives-up-leads p m kind = Leads_either is_master_at (puts (Become Loose) followe
     (Leads_to (λ x past h. loop_ends (Peer p) m kind h) arms_elect_during))
     (Leads_from (λ x past h. loop_ends (Peer p) m kind h.0.just.free) Leads_nothing)
 
-pub gives-up-calm : (x : ℕ) (past : Past) → is_calm false false (loosens_master x past) ≡ true
-gives-up-calm x past = (calm_unmoving {strange = false} {moving = false} refl built_loosens_master).calm x past
+-- a LOOP of another node than the one of this name, which goes on
+record Known_loop (m : MessageValue) (name : List ℕ) : Type 0 where
+  pub kind : m.kind ≡ LoopKind
+  pub other : m.name ≢ name
+  pub some : nat_le 1 (hops_in m.body) ≡ true
+  pub few : hops_in m.body ≤ 10
 
 -- a LOOP that is passed on by a port
 record Passing (p : PeerId) (m : MessageValue) (x : ℕ) (past : Past) : Type 0 where
   pub open_port : OpenIn false (IsHeard (Peer p) (Good (Message m))) x past
   pub awake : role past.seen ≢ Starting
-  pub kind : m.kind ≡ LoopKind
-  pub other : m.name ≢ past.name
-  pub some : nat_le 1 (hops_in m.body) ≡ true
-  pub few : hops_in m.body ≤ 10
+  pub known : Known_loop m past.name
 
 loop-message : (p q : PeerId) (m : MessageValue) (x : ℕ) (past : Past) → Passing p m x past → MessageFits (setup_in past) (one_hop_less m).kind (now x past (Post (Peer q) (Message (one_hop_less m)))) past.seen q (one_hop_less m)
 loop-message p q m x past h =
-    let some = leb-true 1 (hops_in m.body) h.some in
-    let few = h.few in
+    let k = h.known in
+    let some = leb-true 1 (hops_in m.body) k.some in
+    let few = k.few in
     let fits : LoopFits (setup_in past) past.seen (one_hop_less m) = inr (record {
       from = p;
       message = m;
       took = h.open_port.took.1;
-      kind = h.kind;
+      kind = k.kind;
       name = refl;
       number = refl;
-      other = h.other;
+      other = k.other;
       left = hops_in m.body - 1;
-      came = hops-are m.body h.some;
+      came = hops-are m.body k.some;
       goes = refl;
       few = omega (arith, some, few);
     }) in
-    subst (λ k. MessageFits (setup_in past) k (now x past (Post (Peer q) (Message (one_hop_less m)))) past.seen q (one_hop_less m)) (sym h.kind) fits
+    subst (λ k. MessageFits (setup_in past) k (now x past (Post (Peer q) (Message (one_hop_less m)))) past.seen q (one_hop_less m)) (sym k.kind) fits
 
 passing-one : (p q : PeerId) (m : MessageValue) (x : ℕ) (past : Past) → Passing p m x past → Passing p m x (grown x past (repost (one_hop_less m) q ∷ []))
 passing-one p q m x past h = record {
-  open_port = open_of (post_message q (one_hop_less m) (ap is_kind_election h.kind) (loop-message p q m x past h) (wake_role h.awake (during_open h.open_port)));
+  open_port = open_of (post_message q (one_hop_less m) (ap is_kind_election h.known.kind) (loop-message p q m x past h)
+      (wake_role h.awake (during_open h.open_port)));
   awake = h.awake;
-  kind = h.kind;
-  other = h.other;
-  some = h.some;
-  few = h.few;
+  known = h.known;
 }
 
 passing-list : (p : PeerId) (m : MessageValue) (ps : List PeerId) (x : ℕ) (past : Past) → Passing p m x past → Passing p m x (grown x past (map (repost (one_hop_less m)) ps))
@@ -166,12 +155,6 @@ repost-calm m (p ∷ ps) = repost-calm m ps
 abbrev pub Spreading : Port → Place → MessageValue → Port → ℕ → Past → Type 0
 Spreading q from m r = Pick (q.0 == r.0) Ended (OpenIn false (IsHeard from (Good (Message m))))
 
-record Known_loop (m : MessageValue) (name : List ℕ) : Type 0 where
-  pub kind : m.kind ≡ LoopKind
-  pub other : m.name ≢ name
-  pub some : nat_le 1 (hops_in m.body) ≡ true
-  pub few : hops_in m.body ≤ 10
-
 reposts-one : (q r : Port) (p : PeerId) (m : MessageValue) (x : ℕ) (past : NodePast) → Known_loop m past.name → (q.0 == r.0) ≡ false → r.0 < length past.ports → AllPorts (Spreading q (Peer p) m) x past →
     AllPorts (Spreading q (Peer p) m) x (spread x past (reposts_on (one_hop_less m) r x past))
 unfolding reposts_on on reposts
@@ -183,7 +166,7 @@ reposts-one q r p m x past k n has all = by_case (is_awake_on past r) refl where
       let calm = repost-calm (one_hop_less m) (others here.own here.peers) in
       let awake = awake_is (role here.seen) (not-true (is_starting_role (role here.seen)) e) in
       placed_all r x past acts (Spreading q (Peer p) m) (Spreading q (Peer p) m) (calm_bootless false false acts calm)
-      (passes n (passing-list p m (others here.own here.peers) x here (record { open_port = (all r has).no n; awake = awake; kind = k.kind; other = k.other; some = k.some; few = k.few })).open_port)
+      (passes n (passing-list p m (others here.own here.peers) x here (record { open_port = (all r has).no n; awake = awake; known = k })).open_port)
       (λ s d h y. record { yes = λ t. kept_aside ends_family false x (on_port s past) acts calm (y.yes t); no = λ t. kept_aside open_family false x (on_port s past) acts calm (y.no t) })
       all
   by_case false e = all
@@ -208,7 +191,7 @@ ends-rest : (q : Port) (from : Place) (m : MessageValue) (x : ℕ) (past : NodeP
 ends-rest q from m x past all r has = by_case (q.0 == r.0) refl where
   by_case : (b : Bool) → (q.0 == r.0) ≡ b → Ended x (on_port r past)
   by_case true e = (all r has).yes e
-  by_case false e = open_ends from (Good (Message m)) x (on_port r past) ((all r has).no e)
+  by_case false e = let k = (all r has).no e in (open_rests x (on_port r past) k, untaken_heeds (on_port r past).peers (on_port r past).seen k.took.0)
 
 loop_over : (q : Port) (from : Place) (m : MessageValue) (x : ℕ) (past : NodePast) → m.kind ≡ LoopKind → TookLoop q from m x past → AllPorts (λ r. Ended) x past
 loop_over q from m x past kind h = ends-rest q from m x past (resting q from m x past kind h)
@@ -217,7 +200,8 @@ gives-up-all : (q : Port) (p : PeerId) (m : MessageValue) (x : ℕ) (past : Node
 gives-up-all q p m x past kind name number h =
     let heard = IsHeard (Peer p) (Good (Message m)) in
     let own = (gives-up-leads p m kind).run x (on_port q past) (record { just = own_of q x past h; name = name; number = number }) in
-    let after = on_run (λ r stirred. OpenIn stirred heard) (λ r. open_family) {Q = Ended} false q loosens_master x past (gives-up-calm x (on_port q past)) own h in
+    let calm = (calm_unmoving {strange = false} {moving = false} refl built_loosens_master).calm x (on_port q past) in
+    let after = on_run (λ r stirred. OpenIn stirred heard) (λ r. open_family) {Q = Ended} false q loosens_master x past calm own h in
     ends-rest q (Peer p) m x (spread x past (on q loosens_master x past)) after.all
 
 forwards-all : (q : Port) (p : PeerId) (m : MessageValue) (x : ℕ) (past : NodePast) → Known_loop m past.name → TookLoop q (Peer p) m x past → AllPorts (λ r. Ended) x (spread x past (forwards q (one_hop_less m) x past))
@@ -237,7 +221,8 @@ judges-all q p m x past kind h = by_case (nat_le 2 (length past.ports)) (same_na
   by_case true true s true l hops o = gives-up-all q p m x past kind (name-same m.name past.name s) (ltb-true m.number q.0 l) h
   by_case true false s lower l true o =
       let both = and_parts (nat_le 1 (hops_in m.body)) (nat_le (hops_in m.body) 10) o in
-      forwards-all q p m x past (record { kind = kind; other = name-other m.name past.name s; some = both.0; few = leb-true (hops_in m.body) 10 both.1 }) h
+      let other : m.name ≢ past.name = λ is. true≢false (sym (name-own m.name) ∙ ap (same_name m.name) is ∙ s) in
+      forwards-all q p m x past (record { kind = kind; other = other; some = both.0; few = leb-true (hops_in m.body) 10 both.1 }) h
   by_case _ _ s _ l _ o = over
 
 heeds-all : (q : Port) (from : Place) (m : MessageValue) (x : ℕ) (past : NodePast) → m.kind ≡ LoopKind → TookLoop q from m x past → (b : Bool) → hears_on from q x past ≡ b → AllPorts (λ r. Ended) x (spread x past (heeds_loop q m b x past))
@@ -258,7 +243,8 @@ takes_loop_lead q from m kind = record {
         has = h.0;
         all = placed_all q x past (Took from t ∷ []) (λ r. Open) (λ r. Pick (q.0 == r.0) (JustTook false from t) (OpenIn false (IsHeard from t))) ((λ is. let bad : ⊥ = cc in bad), tt)
             (picks (same_port q) (take from t (h.1 q h.0)))
-            (λ r n has s. passes n (open_heard from t x (on_port r past) s)) h.1;
+            (λ r n has s. passes n (record
+            { own = s.own; fits = s.fits; knows = s.knows; backs = s.backs; owed = s.owed; paid = s.paid; took = (s.took.0, refl) })) h.1;
       } in
       subst (λ z. AllPorts (λ r. Ended) x z) (sym (spread_append x past first (heeds_loop q m (hears_on from q x mid) x mid))) (heeds-all q from m x mid kind took (hears_on from q x mid) refl);
 }

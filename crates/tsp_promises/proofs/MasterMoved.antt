@@ -1,15 +1,15 @@
 -- What a master's own clock has moved by since its Close. A correction is the first after the place where its number
 -- comes from.
-use Rattle.std.proofs.Common.{ap, arith, subst, inl, inr, ◌∙◌, ◌≡◌, ℕ, ◌+◌, ◌<◌, ◌≤◌, List, ◌∷◌, sym, subst₂, ◌==◌, ◌||◌, ◌⊎◌, Bool, true, false, ℤ, pos, ◌+ℤ◌, refl}
+use Rattle.std.proofs.Common.{ap, arith, subst, inl, inr, ◌∙◌, ◌≡◌, ℕ, ◌+◌, ◌<◌, ◌≤◌, List, ◌∷◌, sym, subst₂, ◌==◌, ◌||◌, ◌⊎◌, Bool, ℤ, pos, ◌+ℤ◌, refl}
 use Rattle.std.proofs.{lemmas.Bool.cases_lt, lemmas.Int.ints}
 use Rattle.tsp_rules.specs.Values.{Post, Datagram, Place, QUIET, Close, Correct, Port}
 use Rattle.tsp_base.specs.Words.{Acts, Did, Line, of, dids, all_corrects, boot_tick, moved, tick_of, ticket, Within, Undisturbed, tick_at, Seen, Here, view, plain, seen_as, is_shared, lives, Setup}
 use Rattle.tsp_base.proofs.{PlaceLemmas.Within-through, Views.plain_view}
 use Rattle.tsp_promises.proofs.OwnFitsProof.{own_tick, own_fits, place-time, fits_at, deed_fits, tick_in, locate, fits_in}
-use Rattle.tsp_promises.specs.CorrectFits.{WhyCorrect, ByRound, ByMaster, ByDate}
-use Rattle.tsp_promises.specs.{Agreed.RightAfter, Agreed.UnchangedBut, Setting.Setting, Setting.setup_of, Since.Since, Since.OneLife}
-use Rattle.tsp_promises.{proofs.Clocks.near, proofs.SinceProof.since, specs.CorrectionFits.FollowedBy, specs.Fits.Fits, specs.Fits.node_of}
-use Rattle.tsp_promises.proofs.{HistoryPlaces.line_on, HistoryPlaces.of-own, HistoryPlaces.Within-of, SendPlaces.right_after}
+use Rattle.tsp_promises.proofs.{SendPlaces.Closes, SendPlaces.after-close, SendPlaces.right_after, SinceProof.since, Clocks.near}
+use Rattle.tsp_promises.proofs.HistoryPlaces.{line_on, of-own, Within-of}
+use Rattle.tsp_promises.specs.{Agreed.RightAfter, Agreed.UnchangedBut, Setting.Setting, Setting.setup_of, CorrectionFits.FollowedBy}
+use Rattle.tsp_promises.specs.{CorrectFits.WhyCorrect, Since.Since, Since.OneLife, Fits.Fits, Fits.node_of}
 
 -- the node is left alone between, so its clock only runs on
 pub record Kept (s t : List Did) : Type 0 where
@@ -74,22 +74,16 @@ correct-moves next before amount stepped shown e = record { moved_is = rw e refl
 pub same-mean : (count c : ℕ) (lo l size s mean amount : ℤ) → Acts (Close count lo size mean) ≡ Acts (Close c l s amount) → amount ≡ mean
 same-mean count c lo l size s mean amount e = cc
 
--- right after a Close a Correct moves the clock by the mean
+-- what a Correct rests on right after a Close
+pub closed-here : (setup : Setup) (here close : Did) (vs : List Seen) (b : Bool) (count : ℕ) (lo size mean amount : ℤ) →
+    close.deed ≡ Acts (Close count lo size mean) → WhyCorrect setup here (seen_as b close ∷ vs) amount → Closes setup close vs b amount
+closed-here setup here close vs b count lo size mean amount e = after-close setup here close vs b amount (λ from t is. (let k = sym e ∙ is in cc))
+
+-- it moves the clock by the mean
 pub mean-is : (setup : Setup) (here close : Did) (vs : List Seen) (b : Bool) (count : ℕ) (lo size mean amount : ℤ) → close.deed ≡ Acts (Close count lo size mean) → WhyCorrect setup here (seen_as b close ∷ vs) amount → amount ≡ mean
-mean-is setup here close vs true count lo size mean amount e (ByRound r) =
-    let same : close ≡ r.close = (let k = r.is in cc) in
-    same-mean count r.count lo r.lo size r.size mean amount (sym e ∙ (ap (λ (d : Did). d.deed) same ∙ r.deed))
-mean-is setup here close vs true count lo size mean amount e (ByMaster t) =
-    let same : close ≡ t.took = (let k = t.is in cc) in
-    let deeds = sym e ∙ (ap (λ (d : Did). d.deed) same ∙ t.deed) in
-    let bad : ⊥ = cc in absurd bad
-mean-is setup here close vs true count lo size mean amount e (ByDate t) =
-    let same : close ≡ t.took = (let k = t.is in cc) in
-    let deeds = sym e ∙ (ap (λ (d : Did). d.deed) same ∙ t.deed) in
-    let bad : ⊥ = cc in absurd bad
-mean-is setup here close vs false count lo size mean amount e (ByDate t) = let bad : ⊥ = (let k = t.is in cc) in absurd bad
-mean-is setup here close vs false count lo size mean amount e (ByRound r) = let bad : ⊥ = (let k = r.is in cc) in absurd bad
-mean-is setup here close vs false count lo size mean amount e (ByMaster t) = let bad : ⊥ = (let k = t.is in cc) in absurd bad
+mean-is setup here close vs b count lo size mean amount e why =
+    let c = closed-here setup here close vs b count lo size mean amount e why in
+    same-mean count c.round.count lo c.round.lo size c.round.size mean amount (sym e ∙ (ap (λ (d : Did). d.deed) c.close ∙ c.round.deed))
 
 plus-none : (a b mean : ℤ) → a ≡ b → mean ≡ pos 0 → a ≡ b +ℤ mean
 plus-none a b mean e z = omega (arith, ints)

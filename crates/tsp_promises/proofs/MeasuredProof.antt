@@ -225,10 +225,7 @@ pub measured : (setting : Setting) (world : List Line) → Fits setting world �
 measured setting world f h why = Everywhere-from (MeasuredAt setting) world (λ l s w.
     measured_at setting l s (fits_at setting (l ∷ s) world f w) (Everywhere-within HonestAt (l ∷ s) world h w) (life-or-words_at (l ∷ s) world why w))
 
-trip_at : (setting : Setting) (l : Line) (world : List Line) → Fits setting (l ∷ world) → TripAt l world
-trip_at setting l world f p counter diff err number is =
-    let s = sample_fits setting l world p counter number diff err f.0 is in
-    record { request = s.post; older = s.older; going = s.going; exchange_is = s.exchange_is; err_is = s.err_is }
-
 pub trips : (setting : Setting) (world : List Line) → Fits setting world → Trips world
-trips setting world f = Everywhere-from TripAt world (λ l s w. trip_at setting l s (fits_at setting (l ∷ s) world f w))
+trips setting world f = Everywhere-from TripAt world (λ l before w p counter diff err number is.
+    let s = sample_fits setting l before p counter number diff err (fits_in setting l before world f w) is in
+    record { request = s.post; older = s.older; going = s.going; exchange_is = s.exchange_is; err_is = s.err_is })

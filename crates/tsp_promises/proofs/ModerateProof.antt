@@ -1,36 +1,20 @@
 -- A minority of a round's estimates moves no clock of the majority by much.
 use Rattle.tsp_promises.proofs.OwnFitsProof.{given, Given, given_at, fits_at, deed_fits}
-use Rattle.tsp_promises.specs.CorrectFits.{CorrectFits, WhyCorrect, ByRound, ByMaster, ByDate, is_stepped, sets_time}
+use Rattle.tsp_promises.specs.CorrectFits.{CorrectFits, is_stepped, sets_time}
 use Rattle.tsp_promises.specs.Moderate.{AdjTimeNear, Agrees, MeanNear, Moderate, ModerateAt, ModerateClocks, OwnNear, PeerCorrects, PeerNear, WithMajority, estimates_of}
 use Rattle.tsp_promises.specs.{ClockAt.clock_at, Fits.Fits, Fits.node_of, RoundFits.group_mean, Setting.Setting, Setting.setup_of}
 use Rattle.tsp_promises.{proofs.RoundPlaces.some-is, proofs.SendPlaces.post_fits, specs.Estimates.Moves}
-use Rattle.tsp_promises.proofs.TakingProof.{amount-adj, corrects-adj, begun_facts, used-by}
-use Rattle.tsp_promises.proofs.{EstimatesProof.at-close, EstimatesProof.ended_near, OnceTakenProof.heard_as, OnceTakenProof.correct_fits}
-use Rattle.tsp_promises.proofs.{EverywhereLemmas.Everywhere-from, HistoryPlaces.of-own, MasterMoved.mean-is, MasterMoved.same-mean}
-use Rattle.std.proofs.Common.{sym, ap, arith, subst, inl, inr, ◌∙◌, ◌≡◌, ◌==◌, ◌||◌, ◌≤◌, ◌<◌, ◌≤ℤ◌, ℕ, ◌-◌, ◌*◌, ℤ, pos, ◌+ℤ◌, ◌-ℤ◌, nat_abs, Bool, true, false, List, ◌∷◌, length, Some, refl, ◌+◌, ◌/◌, negsuc, neg_ℤ, if◌then◌else◌, nat_lt, Option, None}
+use Rattle.tsp_promises.proofs.TakingProof.{amount-adj, begun-by, corrects-adj, begun_facts, used-by}
+use Rattle.tsp_promises.proofs.{EstimatesProof.ended_near, OnceTakenProof.heard_as, OnceTakenProof.correct_fits}
+use Rattle.tsp_promises.proofs.{EverywhereLemmas.Everywhere-from, HistoryPlaces.of-own, MasterMoved.closed-here, MasterMoved.mean-is, MasterMoved.same-mean}
+use Rattle.std.proofs.Common.{sym, ap, arith, subst, inl, inr, ◌∙◌, ◌≡◌, ◌==◌, ◌||◌, ◌≤◌, ◌<◌, ◌≤ℤ◌, ℕ, ◌-◌, ◌*◌, ℤ, pos, ◌+ℤ◌, ◌-ℤ◌, nat_abs, Bool, true, false, List, ◌∷◌, Some, refl, ◌+◌, ◌/◌, negsuc, neg_ℤ, if◌then◌else◌, nat_lt, Option, None}
 use Rattle.std.proofs.{lemmas.Bool.ltb-true, lemmas.Int.ints}
-use Rattle.tsp_rules.specs.Values.{Close, Correct, Message, Good, AdjTime, Place, MAXADJ, SLEW, SPAN}
-use Rattle.tsp_base.specs.Words.{Acts, Did, Line, Seen, of, dids, view, seen_as, is_shared, plain, MessageValue, Received, time_of, eased, last_correct, rest, rest_at, shown, target, Sampled, best, Setup, peer_of, time_in, heard, width}
+use Rattle.tsp_rules.specs.Values.{Correct, Message, Good, AdjTime, Place, MAXADJ, SLEW, SPAN}
+use Rattle.tsp_base.specs.Words.{Acts, Did, Line, of, dids, view, seen_as, is_shared, plain, MessageValue, Received, time_of, eased, last_correct, rest}
+use Rattle.tsp_base.specs.Words.{rest_at, shown, target, Sampled, best, peer_of, time_in, heard, width}
 use Rattle.tsp_base.proofs.ViewPlaces.{or-false, port-same}
-use Rattle.tsp_group.specs.Groups.{FollowsMajority, IsWithin, group_of, mean_of}
+use Rattle.tsp_group.specs.Groups.{IsWithin, group_of}
 use Rattle.tsp_group.proofs.{LargestGroup.group_of-IsLargest, Majority.IsLargest-majority}
-
--- a Correct right after a Close is on its port, in a step that has taken nothing, and by the mean of the group that the port finds
-group-is : (setup : Setup) (here close : Did) (vs : List Seen) (b : Bool) (count : ℕ) (lo size mean amount : ℤ) → close.deed ≡ Acts (Close count lo size mean) → WhyCorrect setup here (seen_as b close ∷ vs) amount → (b ≡ true) × (amount ≡ group_mean setup vs) × (heard (plain (seen_as b close ∷ vs)) ≡ None)
-group-is setup here close vs true count lo size mean amount e (ByRound r) =
-    let past_is : vs ≡ r.past = (let k = r.is in cc) in
-    (refl, subst (λ z. amount ≡ group_mean setup z) (sym past_is) r.mean_is, r.untaken)
-group-is setup here close vs true count lo size mean amount e (ByMaster t) =
-    let same : close ≡ t.took = (let k = t.is in cc) in
-    let deeds = sym e ∙ (ap (λ (d : Did). d.deed) same ∙ t.deed) in
-    let bad : ⊥ = cc in absurd bad
-group-is setup here close vs true count lo size mean amount e (ByDate t) =
-    let same : close ≡ t.took = (let k = t.is in cc) in
-    let deeds = sym e ∙ (ap (λ (d : Did). d.deed) same ∙ t.deed) in
-    let bad : ⊥ = cc in absurd bad
-group-is setup here close vs false count lo size mean amount e (ByRound r) = let bad : ⊥ = (let k = r.is in cc) in absurd bad
-group-is setup here close vs false count lo size mean amount e (ByMaster t) = let bad : ⊥ = (let k = t.is in cc) in absurd bad
-group-is setup here close vs false count lo size mean amount e (ByDate t) = let bad : ⊥ = (let k = t.is in cc) in absurd bad
 
 -- where the mean of a round comes from, and how the clock is moved by it
 record Found (setting : Setting) (m : ℕ) (close : Line) (cpast : List Line) (mean amount : ℤ) (stepped : Bool) : Type 0 where
@@ -45,17 +29,15 @@ found setting m close c cpast amount f v =
     let here : CorrectFits (setup_of setting m c.port) c.did (view c.port (close ∷ of m cpast)) amount v.stepped v.shown =
     subst (λ w. CorrectFits (setup_of setting m c.port) c.did (view c.port w) amount v.stepped v.shown) own (subst (λ k. CorrectFits (setup_of setting k c.port) c.did (view c.port (of k (close ∷ cpast))) amount v.stepped v.shown) v.correct_node fits) in
     let on = (close.port.0 == c.port.0) || is_shared close.did.deed in
-    let both = group-is (setup_of setting m c.port) c.did close.did (view c.port (of m cpast)) on v.count v.lo v.size v.mean amount v.deed here.why in
-    let port : close.port ≡ c.port = port-same close.port c.port (or-false (close.port.0 == c.port.0) (is_shared close.did.deed) both.0 (rw v.deed refl)) in
+    let seen = view c.port (of m cpast) in
+    let closes = closed-here (setup_of setting m c.port) c.did close.did seen on v.count v.lo v.size v.mean amount v.deed here.why in
+    let port : close.port ≡ c.port = port-same close.port c.port (or-false (close.port.0 == c.port.0) (is_shared close.did.deed) closes.on (rw v.deed refl)) in
+    let group = subst (λ z. amount ≡ group_mean (setup_of setting m c.port) z) (sym closes.past) closes.round.mean_is in
     record {
-      is = mean-is (setup_of setting m c.port) c.did close.did (view c.port (of m cpast)) on v.count v.lo v.size v.mean amount v.deed here.why;
-      group = subst (λ q. amount ≡ group_mean (setup_of setting m q) (view q (of m cpast))) (sym port) both.1;
-      flag = here.flag ∙ ap (is_stepped amount) both.2;
+      is = mean-is (setup_of setting m c.port) c.did close.did seen on v.count v.lo v.size v.mean amount v.deed here.why;
+      group = subst (λ q. amount ≡ group_mean (setup_of setting m q) (view q (of m cpast))) (sym port) group;
+      flag = here.flag ∙ ap (is_stepped amount) (subst (λ b. heard (plain (seen_as b close.did ∷ seen)) ≡ None) (sym closes.on) closes.round.untaken);
     }
-
--- the largest group's mean follows a majority
-group_follows : (span : ℕ) (xs : List ℤ) → 0 < length xs → FollowsMajority span xs (mean_of (group_of span xs))
-group_follows span xs some = IsLargest-majority span xs (group_of span xs) (group_of-IsLargest span xs some)
 
 within-abs : (n : ℕ) (a mean x : ℤ) → a ≡ mean → IsWithin n mean x → nat_abs (a -ℤ x) ≤ n
 within-abs n a mean x e w = let l = w.low in let h = w.high in omega (arith, ints)
@@ -64,7 +46,8 @@ within-abs n a mean x e w = let l = w.low in let h = w.high in omega (arith, int
 follows : (setting : Setting) (m : ℕ) (close : Line) (cpast : List Line) (mean amount value : ℤ) (stepped : Bool) → Found setting m close cpast mean amount stepped → Agrees setting m close cpast value → nat_abs (amount -ℤ value) ≤ 2 * SPAN
 follows setting m close cpast mean amount value stepped d a =
     let xs = estimates_of setting m close.port cpast in
-    within-abs (2 * SPAN) amount (group_mean (setup_of setting m close.port) (view close.port (of m cpast))) value d.group (group_follows SPAN xs (omega arith) a.test a.majority.more a.majority.agrees value a.among a.passes)
+    within-abs (2 * SPAN) amount (group_mean (setup_of setting m close.port) (view close.port (of m cpast))) value d.group
+    (IsLargest-majority SPAN xs (group_of SPAN xs) (group_of-IsLargest SPAN xs (omega arith)) a.test a.majority.more a.majority.agrees value a.among a.passes)
 
 mean_near : (setting : Setting) (l : Line) (world : List Line) → Fits setting (l ∷ world) → MeanNear setting l world
 mean_near setting l world f m close cpast amount value at v a =
@@ -98,11 +81,12 @@ adjtime_near setting f fw fits m close c cpast mean amount b c_in v p =
     let fc = fits_at setting (c ∷ (close ∷ cpast)) (f ∷ fw) fits (inr c_in) in
     let d = found setting m close c cpast amount fc v in
     let post = post_fits setting m f fw b.peer b.message fits.0 b.first_node b.posts (corrects-adj b.message.kind b.kind) in
-    let u = at-close f.did (view f.port (of m fw)) b.peer b.message close.did (view f.port (of m cpast)) b.kind b.close_is (post.begins b.begins).from in
-    let w = u.1.1 in
+    let u = begun-by f.did (view f.port (of m fw)) b.peer b.message close.did (view f.port (of m cpast)) (inl b.kind) b.close_is (post.begins b.begins).from in
+    let w = u.1.from in
     let mine : best b.peer (view f.port (of m cpast)) ≡ Some p.sample = subst (λ q. best b.peer (view q (of m cpast)) ≡ Some p.sample) b.port p.best_is in
-    let sample : u.1.0 ≡ p.sample = some-is u.1.0 p.sample (sym w.best_is ∙ mine) in
-    time-near (time_in b.message.body) u.0 v.mean amount p.sample.diff u.1.0.diff (2 * SPAN) (w.value b.kind) (same-mean v.count w.count v.lo w.lo v.size w.size v.mean u.0 (sym v.deed ∙ w.deed)) d.is (ap (λ (z : Sampled). z.diff) sample)
+    let sample : u.0 ≡ p.sample = some-is u.0 p.sample (sym w.best_is ∙ mine) in
+    let mean = same-mean v.count w.count v.lo w.lo v.size w.size v.mean u.1.mean (sym v.deed ∙ w.deed) in
+    time-near (time_in b.message.body) u.1.mean v.mean amount p.sample.diff u.0.diff (2 * SPAN) (w.value b.kind) mean d.is (ap (λ (z : Sampled). z.diff) sample)
     (follows setting m close cpast v.mean amount p.sample.diff v.stepped d p.agrees)
 
 peer_few : (setting : Setting) (l : Line) (world : List Line) → Fits setting (l ∷ world) → (p : PeerCorrects setting l world) → nat_abs p.taking.acts.amount ≤ 2 * SPAN
@@ -161,11 +145,10 @@ peer_near setting l world f p =
           subst (λ ds. shown ds x ≡ target ds x) (sym (ap dids (of-own (node_of l) l world refl))) (shows-target l.did (dids (of (node_of l) world)) a.amount a.stepped a.shown x a.correct few none late);
     }
 
-moderate_at : (setting : Setting) (l : Line) (world : List Line) → Fits setting (l ∷ world) → ModerateAt setting l world
-moderate_at setting l world f = record { mean = mean_near setting l world f; own = own_near setting l world f; adjtime = adjtime_near setting l world f; peer = peer_near setting l world f }
-
 pub moderate : (setting : Setting) (world : List Line) → Fits setting world → Moderate setting world
-moderate setting world f = Everywhere-from (ModerateAt setting) world (λ l s w. moderate_at setting l s (fits_at setting (l ∷ s) world f w))
+moderate setting world f = Everywhere-from (ModerateAt setting) world (λ l s w.
+    let g = fits_at setting (l ∷ s) world f w in
+    record { mean = mean_near setting l s g; own = own_near setting l s g; adjtime = adjtime_near setting l s g; peer = peer_near setting l s g })
 
 widened : (apart mean amount diff e : ℤ) (n w : ℕ) → apart ≤ℤ ((pos (nat_abs (mean -ℤ diff)) +ℤ e) +ℤ pos w) → amount ≡ mean → nat_abs (amount -ℤ diff) ≤ n → apart ≤ℤ ((pos n +ℤ e) +ℤ pos w)
 widened apart mean amount diff e n w h is near = omega (arith, ints)

@@ -26,12 +26,10 @@ pub ports-ran : (hs : List NodeHappening) (past : NodePast) → (node_ran hs pas
 ports-ran [] past = refl
 ports-ran (h ∷ before) past = ports-ran before past
 
-own-is : (past : NodePast) (s : PortSetup) → past.ports ≡ s ∷ [] → (alone past).own.0 ≡ s.own.0
-own-is past s one = ap (λ (ps : List PortSetup). (slice_index_or ps 0 no_port).own.0) one
-
 -- the port begins its step
 begins-alone : (past : NodePast) (s : PortSetup) (last x : ℕ) (step : Step) → past.ports ≡ s ∷ [] → last ≤ x → step.node ≡ s.own.0 → Ended last (alone past) → Fresh x (alone (in_node_step step x past))
-begins-alone past s last x step one later node rests = begins_fresh step last x (alone past) later (own-is past s one ∙ sym node) rests
+begins-alone past s last x step one later node rests = begins_fresh step last x (alone past) later
+    (ap (λ (ps : List PortSetup). (slice_index_or ps 0 no_port).own.0) one ∙ sym node) rests
 
 -- after a step, the port has put what its row has
 alone-grown : (m : NodeMakes) (x : ℕ) (past : NodePast) (s : PortSetup) → IsGivenOn 1 m → past.ports ≡ s ∷ [] → Fresh x (alone past) → alone (spread x past (node_row_of m x past)) ≡ grown x (alone past) (row_of (makes_alone m) x (alone past))
@@ -63,14 +61,6 @@ runs_alike past s (h ∷ before) new o =
     alone-grown h.makes h.tick (in_node_step h.step h.tick done) s o.2 known.1 known.0
     ∙ ap (λ (p : Past). grown h.tick (in_step h.step h.tick p) (row_of (makes_alone h.makes) h.tick (in_step h.step h.tick p))) (runs_alike past s before new o.3)
 
--- a mark is seen by each port
-on-mark : (q : Port) (step : Step) (x : ℕ) (past : NodePast) → on_port q (in_node_step step x past) ≡ in_step step x (on_port q past)
-on-mark q step x past = ap (λ b. record (on_port q past) { step = step; seen = seen_as b (line_of step x first_port Begins).did ∷ view q past.lines }) (or_right (first_port.0 == q.0) true refl)
-
--- so is a boot
-on-boot : (q : Port) (x : ℕ) (past : NodePast) → on_port q (spread x past (placed first_port (Boot ∷ []))) ≡ grown x (on_port q past) (Boot ∷ [])
-on-boot q x past = ap (λ b. record (on_port q past) { seen = seen_as b (line_of past.step x first_port (Acts Boot)).did ∷ view q past.lines }) (or_right (first_port.0 == q.0) true refl)
-
 quiets-aside : (x : ℕ) (past : Past) → Booting x past → Booting x (all_aside x past (Become Starting ∷ Arm Quiet (x + QUIET) ∷ []))
 quiets-aside x past b = record {
   fresh = fresh_family.still x _ (Arm Quiet (x + QUIET)) refl (fresh_family.still x past (Become Starting) refl b.fresh);
@@ -100,7 +90,9 @@ boots_all_lead = record {
   run = λ x past all.
       let first = placed first_port (Boot ∷ []) in
       let mid = spread x past first in
-      let boot : AllPorts (λ r. Booting) x mid = λ r has. subst (λ z. Booting x z) (sym (on-boot r x past)) (booted x (on_port r past) (all r has)) in
+      let boot : AllPorts (λ r. Booting) x mid = λ r has.
+      subst (λ b. Booting x (record (on_port r past) { seen = seen_as b (line_of past.step x first_port (Acts Boot)).did ∷ view r past.lines }))
+      (sym (or_right (first_port.0 == r.0) true refl)) (booted x (on_port r past) (all r has)) in
       let rest = for_ports boots_on (ports_from 0 past.ports) x mid in
       let end = boots-list (ports_from 0 past.ports) x mid (ranged_from (length past.ports) 0 past.ports (omega arith)) boot in
       λ r has. boot-ends x (on_port r (spread x past (placed first_port (Boot ∷ []) ++ rest))) (subst (λ z. Booting x (on_port r z)) (sym (spread_append x past first rest)) (end r has));
@@ -108,7 +100,9 @@ boots_all_lead = record {
 
 -- a step begins at a later tick
 pub begins_all : (step : Step) (x y : ℕ) (past : NodePast) → x ≤ y → ((q : Port) → q.0 < length past.ports → (port_setup q past).own.0 ≡ step.node) → AllPorts (λ r. Ended) x past → AllPorts (λ r. Fresh) y (in_node_step step y past)
-begins_all step x y past later own all q has = subst (λ z. Fresh y z) (sym (on-mark q step y past)) (begins_fresh step x y (on_port q past) later (own q has) (all q has))
+begins_all step x y past later own all q has =
+    subst (λ b. Fresh y (record (on_port q past) { step = step; seen = seen_as b (line_of step y first_port Begins).did ∷ view q past.lines }))
+    (sym (or_right (first_port.0 == q.0) true refl)) (begins_fresh step x y (on_port q past) later (own q has) (all q has))
 
 given-on : (m : NodeMakes) (x y : ℕ) (step : Step) (past : NodePast) → x ≤ y → ((q : Port) → q.0 < length past.ports → (port_setup q past).own.0 ≡ step.node) → IsGivenOn (length past.ports) m → AllPorts (λ r. Ended) x past →
     AllPorts (λ r. Ended) y (spread y (in_node_step step y past) (node_row_of m y (in_node_step step y past)))
@@ -130,7 +124,7 @@ all-ran past n (h ∷ before) e own o =
     (all-ran past n before e own o.3)
 
 -- a node that runs by the rules owes nothing on any port
-pub nodes-fit : NodesFit
-nodes-fit past n hs e own o q has =
+pub nodes_fit : NodesFit
+nodes_fit past n hs e own o q has =
     let r = all-ran past n hs e own o q (subst (λ ports. q.0 < length ports) (sym (ports-ran hs past)) has) in
     (subst (λ s. PortFits s (view q (node_ran hs past).lines)) (setup-ran hs past q) r.0.fits, subst (λ s. StepEnds s (view q (node_ran hs past).lines)) (setup-ran hs past q) (ends_of r))

@@ -7,7 +7,7 @@ use Rattle.tsp_base.proofs.Views.{plain_view}
 use Rattle.tsp_promises.proofs.OwnFitsProof.{fits_in, tick_in, deed_fits, own_fits, own_fits_at, fits_at, place-time, seen_same}
 use Rattle.tsp_promises.proofs.OnceTakenProof.{Twice, acts-rested, corrected-at, correct_fits, numbered-by, twice}
 use Rattle.tsp_promises.specs.{Premises.Honest, Premises.HonestAt, Premises.Life, Premises.TakenWithinAt, Setting.Setting, Setting.setup_of}
-use Rattle.tsp_promises.specs.{Fits.Fits, Fits.LineFits, Fits.node_of, Once.ActsOn, Once.OfSend, Once.OnceAt, Once.OnceTaken, Since.Since}
+use Rattle.tsp_promises.specs.{Fits.Fits, Fits.LineFits, Fits.node_of, Once.ActsOn, Once.OfSend, Once.OnceAt, Once.OnceTaken}
 use Rattle.tsp_promises.specs.{DateFits.PassOnFits, DeedFits.MessageFits}
 use Rattle.tsp_promises.proofs.{LastTakenProof.DateLate, LastTakenProof.asked_late, LastTakenProof.date_late, SendPlaces.send_place}
 use Rattle.tsp_promises.proofs.{OnceTakenProof.DatesOf, OnceTakenProof.dates_of, SendProof.BeginsSend, SendProof.number-same, SendProof.one-message}
@@ -48,7 +48,7 @@ passed-apart setting m r p q mf mg f g fw gw w f_in x y =
       | inr new ↦ omega (arith, new.boot)
       | inl one ↦
           let late = asked_late setting r p mf (line_on r f) (of m fw) (of m gw) own x.sends.deed (ap is_set_date_request fx.is) x.sends.begins (sees-own r (is_shared f.deed)) place one.lives in
-          omega (arith, late.by, gx.seldom late.last late.is)
+          omega (arith, late.by, gx.seldom late.at late.is)
     ]
 
 -- two such beginnings don't lie close together
@@ -160,17 +160,15 @@ dated-at setting l world f honest life post c other older past rest first begun 
     let place : Within (line_on l.port c.did ∷ of n past) (of n world) = subst (λ z. Within (z ∷ of n past) (of n world)) (sym line) (own_in n c past world d.node w) in
     let own = own_fits setting n world f.1 in
     let i = since setting (line_on l.port c.did ∷ of n past) (of n world) own place in
-    let lives_is = still-lived setting l c world past i (acts-rested setting l world post older f a) d.soon in
+    let rested = acts-rested setting l world post older f a in
+    let lives_is : lives (c.did ∷ dids (of n past)) ≡ lives (dids (of n world)) =
+    elim i.life [ inl o ↦ o.lives | inr o ↦ absurd (omega (arith, o.boot, rested, d.soon)) ] in
     let took_p : Receives (view c.port (of (node_of c) past)) (peer_of (node_of post)) (Message m) = subst₂ (λ z v. Receives (view c.port (of (node_of c) past)) (peer_of z) (Message v)) one.sender (sym d.message) y.took in
     let took : Receives (view l.port (of n past)) (peer_of (node_of post)) (Message m) = subst₂ (λ z v. Receives (view z (of v past)) (peer_of (node_of post)) (Message m)) one.port d.node took_p in
     let h = date_late setting l.port (peer_of (node_of post)) c.did (of n past) (of n world) m b.amount b.stepped b.shown own b.correct took request place lives_is in
     let begins = d.late.begins in
     dated-by setting l c post world past older rest begins.fw begins.first m f honest life (Within-through (line_on post.port begins.first ∷ begins.fw) (post ∷ older) world begins.place a.brings.place)
     (record { node = begins.node; sends = begins.sends; kind = request }) x.net x (let p = d.early.begins.after in let q = d.early.took in let r = d.at in omega arith) (let p = begins.soon in let q = d.late.life in omega arith) d.soon h
-  where
-    still-lived : (setting : Setting) (l c : Line) (world past : List Line) → Since (c.did ∷ dids (of (node_of l) past)) (dids (of (node_of l) world)) → boot_tick (dids (of (node_of l) world)) + QUIET ≤ l.did.tick → l.did.tick ≤ c.did.tick + 34100000 →
-        lives (c.did ∷ dids (of (node_of l) past)) ≡ lives (dids (of (node_of l) world))
-    still-lived setting l c world past i rested soon = elim i.life [ inl o ↦ o.lives | inr o ↦ absurd (omega (arith, o.boot)) ]
 
 taken-at : (setting : Setting) (l : Line) (world : List Line) → Fits setting (l ∷ world) → Honest (l ∷ world) → Life (l ∷ world) → OnceAt is_numbered l world
 taken-at setting l world f honest life post c other older past rest first begun a kind w b s t = by-kind (is_correction a.brings.message.kind) refl where

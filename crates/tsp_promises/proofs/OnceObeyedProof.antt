@@ -75,14 +75,12 @@ once_obeyed setting world f h = Everywhere-from (ObeysAt setting) world (λ l s 
 abbrev received : Place → MessageValue → Received
 received from m = record { from = from; taken = Good (Message m) }
 
-same-received : (r s : Received) → Some r ≡ Some s → r ≡ s
-same-received r s e = cc
-
-same-some : (m n : MessageValue) → Some m ≡ Some n → m ≡ n
-same-some m n e = cc
-
 same-message : (p q : Place) (m n : MessageValue) → Some (received p m) ≡ Some (received q n) → m ≡ n
-same-message p q m n e = same-some m n (ap (λ (r : Received). message_in r.taken) (same-received (received p m) (received q n) e))
+same-message p q m n e =
+    let r : Received = received q n in
+    let same : received p m ≡ r = cc in
+    let both : Some m ≡ Some n = ap (λ (z : Received). message_in z.taken) same in
+    cc
 
 sets-by : (setting : Setting) (l : Line) (world : List Line) (amount : ℤ) (stepped : Bool) (shown : ℤ) (from : Place) (m : MessageValue) → Fits setting (l ∷ world) → l.did.deed ≡ Acts (Correct amount stepped shown) →
     heard (plain (view l.port (of (node_of l) world))) ≡ Some (record { from = from; taken = Good (Message m) }) → sets_date m.kind ≡ true → WhyCorrect (setup_of setting (node_of l) l.port) l.did (view l.port (of (node_of l) world)) amount → SetsClock setting l world amount m

@@ -5,7 +5,7 @@ use Rattle.tsp_base.specs.Words.{Acts, Did, Here, Line, of, dids, view, ticket, 
 use Rattle.tsp_base.proofs.PlaceLemmas.{Within-all, Within-through, Within-tail}
 use Rattle.tsp_promises.specs.OneError.{FromSlaveUp, OneError, OneErrorAt, SourceReading, SourceSlaveUp, Taking}
 use Rattle.tsp_promises.specs.{Agreed.ReadingOf, CorrectionFits.AnswersSlaveUp, CorrectionFits.AtClose, Fits.node_of, Setting.Setting}
-use Rattle.tsp_promises.proofs.TakingProof.{BegunFacts, begun_facts, read_facts, taken_facts}
+use Rattle.tsp_promises.proofs.TakingProof.{BegunFacts, begun_facts, read_facts}
 use Rattle.tsp_promises.proofs.{OwnFitsProof.Given, OwnFitsProof.given_at, OwnFitsProof.locate, RoundPlaces.best_at, RoundPlaces.closed_at}
 use Rattle.tsp_promises.proofs.{MeasuredProof.reading_at, MeasuredProof.sample_fits, SendPlaces.post_unique, SendPlaces.same-number}
 use Rattle.tsp_promises.proofs.{EverywhereLemmas.Everywhere-from, KnownProof.known, MasterMoved.first_after, SourceProof.slaveup_ticket}
@@ -26,25 +26,31 @@ since-slaveup : (setting : Setting) (m : ℕ) (c : Line) (past : List Line) → 
     Undisturbed (dids (of (node_of c) (r ∷ older))) (dids (of (node_of c) past))
 since-slaveup setting m c past g t r older x =
     let k = node_of c in
-    let d = taken_facts setting m c past g t in
-    let s = d.begun.begins in
+    let d = begun_facts setting m c past g.fits t in
+    let b = t.acts.brings in
+    let s = d.begins in
     let line = line_on t.post.port s.first in
     let line_in : Within (line ∷ s.fw) past = Within-through (line ∷ s.fw) (t.post ∷ t.before) past s.place t.acts.brings.place in
     let gl = given_at setting (line ∷ s.fw) (c ∷ past) g (inr line_in) in
-    let took : Receives (view t.post.port (of m s.fw)) (peer_of k) (Message x.message) = subst (λ v. Receives v (peer_of k) (Message x.message)) (sym d.begun.begun_is) x.took in
+    let took : Receives (view t.post.port (of m s.fw)) (peer_of k) (Message x.message) =
+    subst (λ v. Receives v (peer_of k) (Message x.message)) (sym d.begun_is) x.took in
     let here : Receives (view t.post.port (of s.first.step.node s.fw)) (peer_of k) (Message x.message) = subst (λ n. Receives (view t.post.port (of n s.fw)) (peer_of k) (Message x.message)) (sym (s.node ∙ t.node)) took in
     let up = known setting line s.fw (Post (Peer (peer_of k)) (Message t.acts.brings.message)) (peer_of k) (Message x.message) gl.fits gl.honest s.sends.deed here in
     let node : node_of up.post ≡ k = number-same (node_of up.post) k up.node in
     let up_in : Within (up.post ∷ up.older) past = Within-through (up.post ∷ up.older) s.fw past up.place (Within-tail line s.fw past line_in) in
-    let number : posted (dids up.older) ≡ posted (dids older) = same-number (posted (dids up.older)) (posted (dids older)) (sym up.takes ∙ (ap (λ (z : Did). z.step.cause) d.begun.first_is ∙ x.takes)) in
+    let number : posted (dids up.older) ≡ posted (dids older) =
+    same-number (posted (dids up.older)) (posted (dids older)) (sym up.takes ∙ (ap (λ (z : Did). z.step.cause) d.first_is ∙ x.takes)) in
     let same : up.post ∷ up.older ≡ r ∷ older = post_unique past up.post r up.older older (Peer (peer_of s.first.step.node)) x.to (Message x.message) x.datagram up_in x.place up.deed x.deed number in
     let gu = given_at setting (up.post ∷ up.older) (c ∷ past) g (inr up_in) in
     let is = slaveup_ticket setting k s.first.step.node up.post up.older x.message gu.fits.0 node up.deed x.kind in
     let soon : s.first.step.at ≤ up.post.did.step.at + 30000000 = gl.life.0 up.post up.older (Peer (peer_of s.first.step.node)) (Message x.message) up.place up.deed up.takes in
-    let time : c.did.step.at ≤ up.post.did.step.at + 65000000 = (let p = s.soon in let l = d.life in omega arith) in
-    let ticket_is : ticket (dids (of k up.older)) ≡ ticket (dids (of k past)) = sym is ∙ (x.number ∙ d.begun.acting.number) in
-    let kept = first_after setting k c up.post past up.older (Peer (peer_of s.first.step.node)) (Message x.message) g.fits refl node up.deed up_in d.begun.acting.rested ticket_is time in
-    subst (λ w. Undisturbed (dids (of k w)) (dids (of k past))) same kept.undisturbed
+    let time : c.did.step.at ≤ up.post.did.step.at + 65000000 =
+    (let p = s.soon in let l = g.life.0 t.post t.before (Peer (peer_of k)) (Message b.message) b.place b.deed b.cause in omega arith) in
+    let ticket_is : ticket (dids (of k up.older)) ≡ ticket (dids (of k past)) = sym is ∙ (x.number ∙ d.acting.number) in
+    let kept =
+    first_after setting k c up.post past up.older (Peer (peer_of s.first.step.node))
+    (Message x.message) g.fits refl node up.deed up_in d.acting.rested ticket_is time in
+    subst (λ w. Undisturbed (dids (of k w)) (dids (of k past))) {x = up.post ∷ up.older} same kept.undisturbed
 
 -- the SLAVEUP that the beginning of a send answers
 answered : (setting : Setting) (m : ℕ) (c : Line) (past : List Line) → Given setting (c ∷ past) → (t : Taking m c past) → BegunFacts m c past t → AnswersSlaveUp t.begun (peer_of (node_of c)) t.acts.brings.message → SourceSlaveUp m c past t
@@ -150,12 +156,11 @@ source_of setting m c past g t =
       | inr a ↦ inl (closing setting m c past g t d a)
     ]
 
-one_error_at : (setting : Setting) (l : Line) (world : List Line) → Given setting (l ∷ world) → OneErrorAt l world
-one_error_at setting l world g = record {
-  source = λ m t. source_of setting m l world g t;
-  by_reading = λ m t close cpast r older x. (read_facts setting m l world g t (taken_facts setting m l world g t) close cpast r older x).kept.undisturbed;
-  by_slaveup = λ m t r older x. since-slaveup setting m l world g t r older x;
-}
-
 pub one_error : (setting : Setting) (world : List Line) → Given setting world → OneError world
-one_error setting world g = Everywhere-from OneErrorAt world (λ l s w. one_error_at setting l s (given_at setting (l ∷ s) world g w))
+one_error setting world g = Everywhere-from OneErrorAt world (λ l s w.
+    let gs = given_at setting (l ∷ s) world g w in
+    record {
+      source = λ m t. source_of setting m l s gs t;
+      by_reading = λ m t close cpast r older x. (read_facts setting m l s gs t (begun_facts setting m l s gs.fits t) close cpast r older x).kept.undisturbed;
+      by_slaveup = λ m t r older x. since-slaveup setting m l s gs t r older x;
+    })

@@ -77,7 +77,9 @@ other_backed setting a q l world p w v i =
     let f = b.fits in
     let vote = vote_of setting a q b.did x.older p f.answer wb b.node b.deed (subst (λ s. Receives s p (Message f.answer)) (sym x.before) f.took) f.kind in
     let open_ = open_place a q (setup_of setting a q) b.did x.older p b.before v.win.start v.win.idle x.before f (b.same ∙ v.win.start_is) v.own in
-    let late = asked_late setting a q b.did x.older p f.answer.number v.win.start wb b.node (backer-rested setting a q l world b.did x.older b.before w v x.place b.node x.before (b.same ∙ v.win.start_is)) vote open_ in
+    let late =
+    asked_late setting a q b.did x.older p f.answer.number v.win.start wb b.node
+    (backer-rested b.did x.older b.before x.place b.node x.before (b.same ∙ v.win.start_is)) vote open_ in
     let y_in : Within (vote.y ∷ vote.yo) world = Within-through (vote.y ∷ vote.yo) x.older world vote.y_in (Within-tail (line_on q b.did) x.older world x.place) in
     let wy = polled_at setting (vote.y ∷ vote.yo) world wx y_in in
     let e_by = place-time setting (vote.e ∷ vote.eo) vote.yo wy.fits.1 vote.e_in in
@@ -87,9 +89,9 @@ other_backed setting a q l world p w v i =
     let found = back_of setting a (setting.net a q) v.win.start.step.at l.did.step.at vote.y vote.yo world vote.answer wx.fits y_in vote.posts vote.backs vote.net (omega (arith, late, e_by, y_order)) (omega (arith, y_by, order)) in
     subst (λ c. Backed setting c a (setting.net a q) v.win.start.step.at l.did.step.at world) (ap (λ (z : PeerId). z.0) vote.voter) found
   where
-    backer-rested : (setting : Setting) (a : ℕ) (q : Port) (l : Line) (world : List Line) (x : Did) (xo : List Line) (vs : List Seen) → Polled setting (l ∷ world) → (v : Won setting a q l world) → Within (line_on q x ∷ xo) world → x.step.node ≡ a →
-        view q (of a xo) ≡ vs → stood vs ≡ Here v.win.start ∷ v.win.idle → boot_tick (dids (of a xo)) + 290000000 ≤ x.tick
-    backer-rested setting a q l world x xo vs w v x_in node seen stands =
+    backer-rested : (x : Did) (xo : List Line) (vs : List Seen) → Within (line_on q x ∷ xo) world → x.step.node ≡ a → view q (of a xo) ≡ vs →
+        stood vs ≡ Here v.win.start ∷ v.win.idle → boot_tick (dids (of a xo)) + 290000000 ≤ x.tick
+    backer-rested x xo vs x_in node seen stands =
         let f = w.fits.1 in
         let xo_in : Within xo world = Within-tail (line_on q x) xo world x_in in
         let i = since setting (of a xo) (of a world) (own_fits setting a world f) (Within-of a xo world xo_in) in

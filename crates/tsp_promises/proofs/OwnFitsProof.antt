@@ -1,13 +1,12 @@
--- The lines of each node of a history that fits. What a line owes to its own port's past. What a schedule gives: a
--- history that fits, and what the promises ask of it. Where a deed stands in the history that a port sees.
--- Order and equality of places that a port sees.
-use Rattle.std.proofs.Common.{sym, ap, arith, subst, inl, inr, ◌∙◌, ◌≡◌, ℕ, List, [], ◌∷◌, length, refl, ◌==◌, ◌||◌, true, false, eqb-true, Bool, ◌≤◌, if◌then◌else◌}
+-- A history that fits: the lines of each of its nodes, what a line owes to its own port's past, what a schedule gives,
+-- and which place of the history a place is of what a port sees.
+use Rattle.std.proofs.Common.{sym, ap, arith, subst, inl, inr, ◌∙◌, ◌≡◌, ℕ, List, [], ◌∷◌, length, refl, ◌==◌, ◌||◌, true, false, eqb-true, Bool, ◌≤◌}
 use Rattle.std.proofs.Math.Bool.{or-true}
 use Rattle.tsp_rules.specs.Values.{Port, LIFE}
 use Rattle.tsp_base.specs.Words.{Did, Line, Here, of, dids, view, plain, Within, Seen, is_shared, tick_at, Deed, Begins, Acts, Step, time_of, tick_of, up, seen_as}
-use Rattle.tsp_base.proofs.PlaceLemmas.{Within-all, Within-tail, Within-length, Within-strict, Within-comparable}
+use Rattle.tsp_base.proofs.PlaceLemmas.{Within-length, Within-comparable}
 use Rattle.tsp_base.proofs.{ViewPlaces.on_port, ViewPlaces.sees-own, ViewPlaces.Within-view, Views.plain_view}
-use Rattle.tsp_promises.proofs.HistoryPlaces.{own_in, own_same, line_on, lift, of-own}
+use Rattle.tsp_promises.proofs.HistoryPlaces.{not-behind, own_in, own_same, line_on, lift, of-own}
 use Rattle.tsp_promises.specs.{DeedFits.DeedFits, Fits.Fits, Fits.LineFits, Fits.node_of, Fits.Alive, Fits.SameStep, Fits.Sees}
 use Rattle.tsp_promises.specs.{Premises.Honest, Premises.HonestAt, Premises.Life, Premises.TakenWithinAt, Setting.Setting, Setting.setup_of}
 use Rattle.tsp_promises.specs.{OwnFits.OwnFits, OwnFits.OwnLineFits, PortFits.PortFits}
@@ -35,29 +34,31 @@ own-line-fits setting n l world same f time tick = record {
   deeds = λ q s. subst (λ k. DeedFits (setup_of setting (node_of l) q) l.did.deed l.did (view q (of k world))) same (f.deeds q s);
 }
 
+-- what holds of a node's lines, by what it is before each line: one of its own, or another's
+pub node_walk : (setting : Setting) (n : ℕ) (P : List Line → List Line → Type 0) → P [] [] →
+    ((l : Line) (world : List Line) → Fits setting (l ∷ world) → node_of l ≡ n → P world (of n world) → P (l ∷ world) (l ∷ of n world)) →
+    ((l : Line) (world : List Line) → Fits setting (l ∷ world) → P world (of n world) → P (l ∷ world) (of n world)) → (world : List Line) →
+    Fits setting world → P world (of n world)
+node_walk setting n P none mine other [] f = none
+node_walk setting n P none mine other (l ∷ world) f = by-node (node_of l == n) refl (node_walk setting n P none mine other world f.1) where
+  by-node : (b : Bool) → (node_of l == n) ≡ b → P world (of n world) → P (l ∷ world) (of n (l ∷ world))
+  by-node true e h = rw e (mine l world f (eqb-true (node_of l) n e) h)
+  by-node false e h = rw e (other l world f h)
+
 -- the last line of a node isn't later than the history
 pub of-time : (setting : Setting) (n : ℕ) (world : List Line) → Fits setting world → time_of (dids (of n world)) ≤ time_of (dids world)
-of-time setting n [] f = omega arith
-of-time setting n (l ∷ world) f = more (node_of l == n) refl (of-time setting n world f.1) where
-  more : (b : Bool) → (node_of l == n) ≡ b → time_of (dids (of n world)) ≤ time_of (dids world) → time_of (dids (of n (l ∷ world))) ≤ l.did.step.at
-  more true e h = rw e (omega arith)
-  more false e h = rw e (omega (arith, f.0.order))
+of-time setting n =
+    node_walk setting n (λ world own. time_of (dids own) ≤ time_of (dids world)) (omega arith) (λ l world f node h. omega arith)
+    (λ l world f h. omega (arith, f.0.order, h))
 
 pub of-tick : (setting : Setting) (n : ℕ) (world : List Line) → Fits setting world → tick_of (dids (of n world)) ≤ tick_at (setting.rate n) (time_of (dids world))
-of-tick setting n [] f = omega arith
-of-tick setting n (l ∷ world) f = more (node_of l == n) refl (of-tick setting n world f.1) where
-  more : (b : Bool) → (node_of l == n) ≡ b → tick_of (dids (of n world)) ≤ tick_at (setting.rate n) (time_of (dids world)) →
-      tick_of (dids (of n (l ∷ world))) ≤ tick_at (setting.rate n) l.did.step.at
-  more true e h = rw e (omega (arith, tick_is setting n l world (eqb-true (node_of l) n e) f.0))
-  more false e h = rw e (omega (arith, tick-mono setting n (time_of (dids world)) l.did.step.at f.0.order))
-
-own-more : (setting : Setting) (n : ℕ) (l : Line) (world : List Line) → Fits setting (l ∷ world) → OwnFits setting (of n world) → (b : Bool) → (node_of l == n) ≡ b → OwnFits setting (of n (l ∷ world))
-own-more setting n l world f o true e = rw e (own-line-fits setting n l world (eqb-true (node_of l) n e) f.0 (of-time setting n world f.1) (of-tick setting n world f.1), o)
-own-more setting n l world f o false e = rw e o
+of-tick setting n = node_walk setting n (λ world own. tick_of (dids own) ≤ tick_at (setting.rate n) (time_of (dids world))) (omega arith)
+    (λ l world f node h. omega (arith, tick_is setting n l world node f.0))
+    (λ l world f h. omega (arith, tick-mono setting n (time_of (dids world)) l.did.step.at f.0.order, h))
 
 pub own_fits : (setting : Setting) (n : ℕ) (world : List Line) → Fits setting world → OwnFits setting (of n world)
-own_fits setting n [] f = tt
-own_fits setting n (l ∷ world) f = own-more setting n l world f (own_fits setting n world f.1) (node_of l == n) refl
+own_fits setting n = node_walk setting n (λ world own. OwnFits setting own) tt
+    (λ l world f node h. (own-line-fits setting n l world node f.0 (of-time setting n world f.1) (of-tick setting n world f.1), h)) (λ l world f h. h)
 
 -- a history that fits, up to a place
 pub fits_at : (setting : Setting) (s h : List Line) → Fits setting h → Within s h → Fits setting s
@@ -76,6 +77,11 @@ place-time setting s (l ∷ h) f (inr p) = omega (arith, place-time setting s h 
 pub deed_fits : (setting : Setting) (l : Line) (world : List Line) (deed : Deed) → l.did.deed ≡ deed → LineFits setting l world → DeedFits (setup_of setting (node_of l) l.port) deed l.did (view l.port (of (node_of l) world))
 deed_fits setting l world deed e f = subst (λ k. DeedFits (setup_of setting (node_of l) l.port) k l.did (view l.port (of (node_of l) world))) e (f.deeds l.port (sees-own l.port (is_shared l.did.deed)))
 
+pub own_deed : (setting : Setting) (l : Line) (t : List Line) (deed : Deed) → l.did.deed ≡ deed → OwnLineFits setting l t →
+    DeedFits (setup_of setting (node_of l) l.port) deed l.did (view l.port t)
+own_deed setting l t deed e f =
+    subst (λ k. DeedFits (setup_of setting (node_of l) l.port) k l.did (view l.port t)) e (f.deeds l.port (sees-own l.port (is_shared l.did.deed)))
+
 -- a mark is owed to on every port
 pub mark_fits : (setting : Setting) (l : Line) (world : List Line) → l.did.deed ≡ Begins → LineFits setting l world → (q : Port) → DeedFits (setup_of setting (node_of l) q) Begins l.did (view q (of (node_of l) world))
 mark_fits setting l world is f q =
@@ -90,15 +96,14 @@ own_tick setting l world f =
 
 -- so each deed on a port fits
 pub port_fits : (setting : Setting) (n : ℕ) (world : List Line) → Fits setting world → (q : Port) → PortFits (setup_of setting n q) (view q (of n world))
-port_fits setting n [] f q = tt
-port_fits setting n (l ∷ t) f q = by-node (node_of l == n) refl (port_fits setting n t f.1 q) where
-  here : (b : Bool) → ((l.port.0 == q.0) || is_shared l.did.deed) ≡ b → node_of l ≡ n → PortFits (setup_of setting n q) (view q (of n t)) → PortFits (setup_of setting n q) (seen_as b l.did ∷ view q (of n t))
-  here true e same rest = (subst (λ k. DeedFits (setup_of setting k q) l.did.deed l.did (view q (of k t))) same (f.0.deeds q e), rest)
-  here false e same rest = rest
-
-  by-node : (b : Bool) → (node_of l == n) ≡ b → PortFits (setup_of setting n q) (view q (of n t)) → PortFits (setup_of setting n q) (view q (if b then l ∷ of n t else of n t))
-  by-node true e rest = here ((l.port.0 == q.0) || is_shared l.did.deed) refl (eqb-true (node_of l) n e) rest
-  by-node false e rest = rest
+port_fits setting n world f q =
+    node_walk setting n (λ world own. PortFits (setup_of setting n q) (view q own)) tt
+    (λ l t f node h. here l t f node h ((l.port.0 == q.0) || is_shared l.did.deed) refl) (λ l t f h. h) world f
+  where
+    here : (l : Line) (t : List Line) → Fits setting (l ∷ t) → node_of l ≡ n → PortFits (setup_of setting n q) (view q (of n t)) →
+        (b : Bool) → ((l.port.0 == q.0) || is_shared l.did.deed) ≡ b → PortFits (setup_of setting n q) (seen_as b l.did ∷ view q (of n t))
+    here l t f same rest true e = (subst (λ k. DeedFits (setup_of setting k q) l.did.deed l.did (view q (of k t))) same (f.0.deeds q e), rest)
+    here l t f same rest false e = rest
 
 -- what a schedule gives
 pub record Given (setting : Setting) (world : List Line) : Type 0 where
@@ -153,15 +158,15 @@ tick_in setting n l older world f node w = tick_is setting n l older node (fits_
 -- order of what a port sees is order in the history
 pub seen_before : (m : ℕ) (q : Port) (s t : Did) (a b h : List Line) → s.step.node ≡ m → t.step.node ≡ m → Within (line_on q s ∷ a) h → Within (line_on q t ∷ b) h → Within (Here s ∷ view q (of m a)) (view q (of m b)) → Within (line_on q s ∷ a) b
 seen_before m q s t a b h sn tn v w o = elim (Within-comparable (line_on q s ∷ a) (line_on q t ∷ b) h v w) [
-  | inl (inl e) ↦ absurd (same e)
+  | inl (inl e) ↦ absurd (late (inl (sym e)))
   | inl (inr i) ↦ i
-  | inr (inl e) ↦ absurd (same (sym e))
-  | inr (inr i) ↦ absurd (Within-strict (Here s) (view q (of m a)) (view q (of m b)) o (Within-tail (Here t) (view q (of m b)) (view q (of m a)) (seen_in m (line_on q t) b a tn i)))
+  | inr i ↦ absurd (late i)
 ] where
-  same : line_on q s ∷ a ≡ line_on q t ∷ b → ⊥
-  same e =
-      let r : a ≡ b = cc in
-      Within-strict (Here s) (view q (of m a)) (view q (of m b)) o (subst (λ k. Within (view q (of m b)) (view q (of m k))) (sym r) (Within-all (view q (of m b))))
+  late : Within (line_on q t ∷ b) (line_on q s ∷ a) → ⊥
+  late i =
+      let seen = seen_in m (line_on q t) b (line_on q s ∷ a) tn i in
+      not-behind (Here s) (Here t) (view q (of m a)) (view q (of m b)) o
+      (subst (λ z. Within (Here t ∷ view q (of m b)) z) (view-line m (line_on q s) a sn) seen)
 
 dids-length : (s : List Line) → length (dids s) ≡ length s
 dids-length [] = refl

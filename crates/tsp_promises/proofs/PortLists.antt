@@ -1,6 +1,7 @@
 -- Lists of a node's ports.
 use Rattle.std.proofs.Common.{sym, subst, arith, true≢false, eqb-true, eq-eqb, ◌∙◌, ◌≡◌, ◌≢◌, ◌≤◌, ◌<◌, ℕ, ◌+◌, ◌==◌, ◌||◌, not, Bool, true, false, if◌then◌else◌, List, [], ◌∷◌, length, filter, refl}
 use Rattle.tsp_rules.specs.{GateRows.ports_from, GateRows.other_ports, NodeRows.PortSetup, NodeRows.NodePast, Values.Port}
+use Rattle.std.proofs.lemmas.Bool.Decides.{nat_tests}
 use Rattle.tsp_base.specs.Words.{sets_date}
 use Rattle.tsp_rules.proofs.BuiltAll.{EachPort, OtherPorts, PortsOf, StirredPorts}
 
@@ -32,15 +33,8 @@ listed_from r k (s ∷ rest) le lt = by_case (λ more. listed_from r (k + 1) res
       let other : k ≢ r.0 = λ same. true≢false (sym (eq-eqb k r.0 same) ∙ e) in
       rw e (more (omega (arith, le, other)))
 
-swap : (a b : ℕ) → (c : Bool) → (a == b) ≡ c → (b == a) ≡ c
-swap a b true e = eq-eqb b a (sym (eqb-true a b e))
-swap a b false e = no (b == a) refl where
-  no : (d : Bool) → (b == a) ≡ d → (b == a) ≡ false
-  no true f = absurd (true≢false (sym (eq-eqb a b (sym (eqb-true b a f))) ∙ e))
-  no false f = f
-
 pub port_swap : (q r : Port) (c : Bool) → (q.0 == r.0) ≡ c → (r.0 == q.0) ≡ c
-port_swap q r c e = swap q.0 r.0 c e
+port_swap q r c e = grind (arith, nat_tests)
 
 without : Port → List Port → List Port
 without q ports = filter (λ r. not (r.0 == q.0)) ports

@@ -5,7 +5,8 @@ use Rattle.tsp_rules.specs.Values.{Post, Message, Stamp, Ack, PeerId, Place, Pee
 use Rattle.tsp_rules.{proofs.Asides.now, specs.SendRows.is_kind_election}
 use Rattle.tsp_base.specs.Words.{Acts, Did, Seen, Here, Past, plain, MessageValue, all_corrects, boot_tick, lives, word, is_among, Received, armed, acting, backers, asked, exchange, word_asked, grown, bare, is_numbered, message_at, open_to, ReplyValue, Leads, arms, timed, post_of, posts, posts_to_others, posts_back, posts_time, others}
 use Rattle.tsp_promises.specs.{DeedFits.PostFits, DeedFits.MessageFits, DeedFits.AskedEarly, PortFits.setup_in, StepFacts.acked_by}
-use Rattle.tsp_promises.proofs.{Known.Asked, Known.asks_vote, Known.During, Known.KnowsOf, Leaves.then_seen, Leaves.made}
+use Rattle.tsp_promises.proofs.{Known.Asked, Known.asks_vote, Known.During, Known.KnowsOf}
+use Rattle.tsp_promises.proofs.Leaves.{made, now_rested, then_seen, with_quiet, with_round, with_vote, with_votes}
 
 -- rows of one act, and of one act for each peer, lead where the act leads
 
@@ -71,16 +72,10 @@ unsent false here was e = e
 -- what is known of a port whose quiet time is over, after a post
 pub post_knows : {stirred : Bool} (x : ℕ) (past : Past) (p : PeerId) (m : MessageValue) → ((q : PeerId) → is_kind_election m.kind ≡ true → acting past.seen ≡ true → is_among q (backers past.seen) ≡ false) → boot_tick (plain past.seen) + QUIET ≤ x → KnowsOf stirred x past.own past.seen →
     KnowsOf stirred x past.own (then_seen x past (Post (Peer p) (Message m)))
-post_knows x past p m new rested k = record {
-  times = k.times;
-  quiet = record { rested = inr rested; silent = k.quiet.silent };
-  vote = record {
-    stands = k.vote.stands;
-    windows = k.vote.windows;
-    votes = λ q e. post-vote p q m (now x past (Post (Peer p) (Message m))) past.seen (backers past.seen) refl (new q) (k.vote.votes q) _ refl e;
-  };
-  round = k.round;
-}
+post_knows x past p m new rested k =
+    let vote = with_votes k.vote (λ q e. post-vote p q m (now x past (Post (Peer p) (Message m))) past.seen (backers past.seen) refl (new q)
+    (k.vote.votes q) _ refl e) in
+    with_quiet (with_vote k vote) (now_rested rested k.quiet)
 
 -- posts of a port whose quiet time is over
 module _ {stirred owing acts : Bool} {follow : List PeerId} {T : Option Received → Option Received → Type 0} {x : ℕ} {past : Past} where
@@ -108,18 +103,13 @@ module _ {stirred owing acts : Bool} {follow : List PeerId} {T : Option Received
       let k = h.knows in
       let a = Post (Peer p) (Stamp (Request (word (plain past.seen)) (asked past.seen % 2 ^ 64))) in
       made a h.own (record { rested = inl (h.rested refl); fits = record { word_is = refl; counter_is = refl } }) h.fits
-      (record {
-        times = k.times;
-        quiet = k.quiet;
-        vote = k.vote;
-        round = record {
-          rounds = k.round.rounds;
-          probing = k.round.probing;
-          closes = k.round.closes;
-          exchanges = λ q i s older e. request-asked stirred (now x past a) past.seen (armed past.seen).close (word (plain past.seen)) at goes refl
-              ((p.0 == q.0) && (asked past.seen % 2 ^ 64 == i)) (exchange q i past.seen) s older (k.round.exchanges q i s older) e;
-        };
-      })
+      (with_round k (record {
+        rounds = k.round.rounds;
+        probing = k.round.probing;
+        closes = k.round.closes;
+        exchanges = λ q i s older e. request-asked stirred (now x past a) past.seen (armed past.seen).close (word (plain past.seen)) at goes refl
+            ((p.0 == q.0) && (asked past.seen % 2 ^ 64 == i)) (exchange q i past.seen) s older (k.round.exchanges q i s older) e;
+      }))
       h.rested h.backs h.owed h.paid h.acting_is h.took
 
 -- a post before the step has acted begins nothing

@@ -1,18 +1,21 @@
--- A rival that takes Quit stops being master. No node backs two candidates within the hold. A node is silent after its
--- boot. How a master that took a QUIT comes to follow its sender.
-use Rattle.std.proofs.Common.{arith, subst, inl, inr, ◌∙◌, ◌≡◌, ◌≤◌, ◌+◌, false, List, ◌∷◌, sym, ap, eq-eqb, ◌⊎◌, ℕ, ◌==◌, ◌&&◌, not, Bool, true, if◌then◌else◌, [], Option, None, Some, refl}
-use Rattle.tsp_rules.specs.Values.{Post, Back, Message, Kind, Accept, Election, PeerId, Place, Peer, Stranger, QUIET, Correct, Took, Become, Quit, Port, Role, Master, ELECT_MIN, Boot, Follow}
-use Rattle.tsp_base.specs.Words.{Acts, Did, Line, Seen, of, dids, view, is_shared, MessageValue, boot_tick, Setup, Begins, Deed, Here, Elsewhere, is_among, message_in, role, role_after, said_by}
+-- What a boot, a backing and a QUIT keep a node from: it is silent after its boot, backs no two candidates within the
+-- hold, and doesn't stay master after a QUIT, whose sender it follows.
+use Rattle.std.proofs.Common.{arith, subst, inl, inr, ◌∙◌, ◌≡◌, ◌≤◌, ◌+◌, false, List, ◌∷◌, sym, ap, eq-eqb, ◌⊎◌, ℕ, ◌==◌, ◌&&◌, not, Bool, true, if◌then◌else◌}
+use Rattle.std.proofs.Common.{[], Option, None, Some, refl}
+use Rattle.tsp_rules.specs.Values.{Post, Back, Message, Accept, Election, PeerId, Place, Peer, Stranger, QUIET, Correct, Took, Become, Quit, Port, Role, Master}
+use Rattle.tsp_rules.specs.Values.{ELECT_MIN, Boot, Follow}
+use Rattle.tsp_base.specs.Words.{Acts, Did, Line, Seen, of, dids, view, is_shared, MessageValue, boot_tick, Setup, Begins, Deed, Here, Elsewhere, is_among}
+use Rattle.tsp_base.specs.Words.{message_in, role, role_after, said_by}
 use Rattle.tsp_base.proofs.{ViewPlaces.sees-own, Views.plain_view}
-use Rattle.tsp_promises.specs.StepFacts.{backed, is_unbacked, StepEnds, if_master, is_quit, owes, owes_after, quit_by, quits_master, quits_master_after, unheeded, unheeded_after, unless_starting}
-use Rattle.tsp_promises.specs.Resolved.{YieldsAt, Yields, YieldsTaken, YieldsTakenAt, QuietAt, StaysQuiet}
-use Rattle.tsp_promises.specs.{Became.Became, Became.BecomesAfter, Fits.Fits, Fits.Finished, Fits.Sees, Fits.node_of, Fits.LineFits}
-use Rattle.tsp_promises.specs.{DeedFits.MessageFits, DeedFits.PostFits, DeedFits.StrangerFits, DeedFits.DeedFits, HoldFits.AcceptFits}
-use Rattle.tsp_promises.specs.{OneBack.HoldsAt, OneBack.IsBacked, OneBack.BacksAt, OneBack.OneBack, Setting.Setting, Setting.setup_of}
-use Rattle.tsp_promises.specs.{PortFits.PortFits, QuitFits.QuitFits, Silent.Silent, Silent.SilentAt}
-use Rattle.tsp_promises.proofs.{HistoryPlaces.own_in, OwnFitsProof.deed_fits, OwnFitsProof.mark_fits, OwnFitsProof.own_tick, OwnFitsProof.port_fits}
-use Rattle.tsp_promises.proofs.{SinceProof.back_late, SinceProof.quit_late, OwnFitsProof.own_fits, OwnFitsProof.fits_at, SinceProof.since}
-use Rattle.tsp_promises.proofs.{EverywhereLemmas.Everywhere-from, Leaves.none-some, Leaves.some-same}
+use Rattle.tsp_promises.specs.StepFacts.{backed, is_unbacked, StepEnds, if_master, is_quit, owes, owes_after, quit_by, quits_master, quits_master_after}
+use Rattle.tsp_promises.specs.StepFacts.{unheeded, unheeded_after, unless_starting}
+use Rattle.tsp_promises.specs.Resolved.{YieldsAt, Yields, YieldsTaken, YieldsTakenAt, QuietAt, StaysQuiet, Became, BecomesAfter}
+use Rattle.tsp_promises.specs.DeedFits.{MessageFits, PostFits, StrangerFits, DeedFits}
+use Rattle.tsp_promises.proofs.OwnFitsProof.{deed_fits, mark_fits, own_tick, port_fits, own_fits, fits_at}
+use Rattle.tsp_promises.specs.{Fits.Fits, Fits.Finished, Fits.Sees, Fits.node_of, OneBack.HoldsAt, OneBack.IsBacked, OneBack.BacksAt}
+use Rattle.tsp_promises.specs.{OneBack.OneBack, Setting.Setting, Setting.setup_of, PortFits.PortFits, QuitFits.QuitFits, Silent.Silent, Silent.SilentAt}
+use Rattle.tsp_promises.proofs.{HistoryPlaces.own_in, SinceProof.back_late, SinceProof.quit_late, SinceProof.since, EverywhereLemmas.Everywhere-from}
+use Rattle.tsp_promises.proofs.{Leaves.none-some, Leaves.some-same}
 
 pub holds_at : (setting : Setting) (l : Line) (world : List Line) → Fits setting (l ∷ world) → HoldsAt l world
 holds_at setting l world f p q other older is w node port other_is =
@@ -33,13 +36,9 @@ holds_at setting l world f p q other older is w node port other_is =
           ]
     ]
 
--- what an ACCEPT owes
-accept_fits : (setup : Setup) (k : Kind) (here : Did) (seen : List Seen) (p : PeerId) (m : MessageValue) → k ≡ Accept → MessageFits setup k here seen p m → AcceptFits seen p m.number
-accept_fits setup k here seen p m kind f = subst (λ z. MessageFits setup z here seen p m) kind f
-
 -- an ACCEPT goes to peers alone, after a Back of that peer
 accepts-backed : (setup : Setup) (to : Place) (m : MessageValue) (here : Did) (seen : List Seen) → m.kind ≡ Accept → PostFits setup to (Message m) here seen → IsBacked to (backed seen)
-accepts-backed setup (Peer p) m here seen kind f = (accept_fits setup m.kind here seen p m kind f).backs
+accepts-backed setup (Peer p) m here seen kind f = (subst (λ z. MessageFits setup z here seen p m) kind f).backs
 accepts-backed setup Stranger m here seen kind f = subst (λ z. StrangerFits z here seen m.number) kind f.0
 
 -- an ELECTION goes to peers alone, after the port has backed itself
@@ -61,8 +60,9 @@ one_back setting world f end = record {
   ends = λ n q. (end n q).backs;
 }
 
-silent_at : (setting : Setting) (l : Line) (world : List Line) → LineFits setting l world → SilentAt l world
-silent_at setting l world f =
+pub silent : (setting : Setting) (world : List Line) → Fits setting world → Silent world
+silent setting whole h = Everywhere-from SilentAt whole (λ l world w.
+    let f = (fits_at setting (l ∷ world) whole h w).0 in
     let seen = plain_view l.port (of (node_of l) world) in
     record {
       posts = λ to datagram is. elim (deed_fits setting l world (Acts (Post to datagram)) is f).rested [
@@ -70,10 +70,7 @@ silent_at setting l world f =
         | inr early ↦ inr early
       ];
       corrects = λ amount stepped shown is. subst (λ d. boot_tick d + QUIET ≤ l.did.tick) seen (deed_fits setting l world (Acts (Correct amount stepped shown)) is f).rested;
-    }
-
-pub silent : (setting : Setting) (world : List Line) → Fits setting world → Silent world
-silent setting world f = Everywhere-from SilentAt world (λ l s w. silent_at setting l s (fits_at setting (l ∷ s) world f w).0)
+    })
 
 pub yields : (setting : Setting) (world : List Line) → Fits setting world → Finished setting world → Yields world
 yields setting world f end = record {

@@ -1,10 +1,12 @@
 -- What a port does with a message of a peer keeps what is known of it, in each role.
-use Rattle.std.proofs.Common.{sym, subst, inl, true≢false, ◌∙◌, ◌≡◌, ◌≢◌, ℕ, ◌+◌, ◌==◌, ◌||◌, ℤ, Bool, true, false, [], ◌∷◌, Option, refl, ap, eqb-true, eq-eqb, List, None, Some}
+use Rattle.std.proofs.Common.{sym, subst, inl, true≢false, ◌∙◌, ◌≡◌, ◌≢◌, ℕ, ◌+◌, ◌==◌, ℤ, true, false, [], ◌∷◌, Option, refl, ap, eqb-true, eq-eqb, List, None, Some}
 use Rattle.std.proofs.lemmas.Bool.{and_parts}
+use Rattle.tsp_base.proofs.ViewPlaces.{or-false}
 use Rattle.tsp_promises.proofs.{Changes.FreeIn, Changes.become_loose, Known.Free, Known.Rests, Known.asks_vote, Printed.sets_target}
 use Rattle.tsp_promises.proofs.PostLeaves.{post_message, Leads_arms, Leads_posts, Leads_others, Leads_posts_time}
 use Rattle.tsp_promises.specs.{AckFits.Answers, HoldFits.BackerFits}
-use Rattle.tsp_promises.proofs.{CorrectionLeads.open_is, CorrectionLeads.may_fits, CommonLeads.begins_quit, CommonLeads.arms_elect_during}
+use Rattle.tsp_promises.proofs.{CorrectionLeads.Began, CorrectionLeads.open_is, CorrectionLeads.may_fits, CommonLeads.begins_quit}
+use Rattle.tsp_promises.proofs.{CommonLeads.arms_elect_during}
 use Rattle.tsp_promises.specs.{CorrectionFits.CorrectionFits, CorrectionFits.SetsTarget, PortFits.PortFits, PortFits.setup_in}
 use Rattle.tsp_promises.proofs.Leaves.{none-among, join, rival, arm_resolve, acked, backer}
 use Rattle.tsp_promises.proofs.TakenLeads.{Says, Heard, HeardIn, rests_of, ack_fits, acknowledges_lead, quits_lead, election_acked}
@@ -17,43 +19,34 @@ use Rattle.tsp_rules.specs.SlaveRows.{masterup_in, masterack_in, from_master, ad
 use Rattle.tsp_rules.specs.{Guards.role_at, Guards.is_armed, Guards.is_in_range, Guards.target_at, CommonRows.quits, CommonRows.arms_elect}
 use Rattle.tsp_rules.proofs.GuardFacts.{same_peer}
 use Rattle.tsp_rules.specs.CandidateRows.{candidate_takes_kind, yields, accepted_by, refused_by}
-use Rattle.tsp_base.specs.Words.{Past, Leads, MessageValue, is_among, nothing, puts, ◌followed_by◌, either_by, reading, arms, bare, timed, posts, posts_to_others, posts_time, time_in, Acts, Did, Seen, Here, grown, Sending, open_send, open_to, message_at, Setup}
+use Rattle.tsp_base.specs.Words.{Past, Leads, MessageValue, nothing, puts, ◌followed_by◌, either_by, reading, arms, bare, timed, posts}
+use Rattle.tsp_base.specs.Words.{posts_to_others, posts_time, time_in, Seen, Here, grown, Sending, open_send, open_to, message_at, Setup}
 use Rattle.tsp_base.proofs.LeadsLemmas.{Leads_then, Leads_either, Leads_reading, Leads_nothing, Leads_puts, Leads_from, Leads_to}
 
 -- the answers to a candidate's votes keep what is known of a port
 
 -- the ELECTION that is open to p under this number
-record VoteAsked (p : PeerId) (number : ℕ) (seen : List Seen) : Type 0 where
-  pub first : Did
-  pub older : List Seen
-  pub is : open_to p seen ≡ Here first ∷ older
-  pub message : MessageValue
-  pub deed : first.deed ≡ Acts (Post (Peer p) (Message message))
-  pub kind : message.kind ≡ Election
-  pub number_is : message.number ≡ number
+record VoteAsked (setup : Setup) (p : PeerId) (number : ℕ) (seen : List Seen) : Type 0 where
+  pub began : Began setup p seen
+  pub kind : began.message.kind ≡ Election
+  pub number_is : began.message.number ≡ number
 
 election-is : (k : Kind) → is_kind_election k ≡ true → k ≡ Election
 election-is Election e = refl
 election-is _ e = absurd (true≢false (sym e))
 
-vote-open : (setup : Setup) (p : PeerId) (number : ℕ) (seen : List Seen) → PortFits setup seen → (o : Option Sending) → open_send p seen ≡ o → answers_election number o ≡ true → VoteAsked p number seen
+vote-open : (setup : Setup) (p : PeerId) (number : ℕ) (seen : List Seen) → PortFits setup seen → (o : Option Sending) → open_send p seen ≡ o →
+    answers_election number o ≡ true → VoteAsked setup p number seen
 vote-open setup p number seen f None is e = absurd (true≢false (sym e))
 vote-open setup p number seen f (Some s) is e =
     let o = open_is setup p seen s f is in
     let both = and_parts (is_kind_election s.message.kind) (s.message.number == number) e in
     let m = o.message_is in
     record {
-      first = o.began.first;
-      older = o.began.older;
-      is = o.began.is;
-      message = o.began.message;
-      deed = o.began.deed;
+      began = o.began;
       kind = ap (λ (t : MessageValue). t.kind) (sym m) ∙ election-is s.message.kind both.0;
       number_is = ap (λ (t : MessageValue). t.number) (sym m) ∙ eqb-true s.message.number number both.1;
     }
-
-vote_asked : (p : PeerId) (number x : ℕ) (past : Past) → PortFits (setup_in past) past.seen → has_election p number x past ≡ true → VoteAsked p number past.seen
-vote_asked p number x past f e = vote-open (setup_in past) p number past.seen f (open_send p past.seen) refl e
 
 -- a candidate whose vote was answered
 record Answered (p : PeerId) (m : MessageValue) (x : ℕ) (past : Past) : Type 0 where
@@ -64,8 +57,9 @@ record Answered (p : PeerId) (m : MessageValue) (x : ℕ) (past : Past) : Type 0
 module _ {p : PeerId} {m : MessageValue} where
   answered : (x : ℕ) (past : Past) → m.kind ≡ Accept → Heard p (Good (Message m)) x past → has_election p m.number x past ≡ true → Answered p m x (grown x past (Acked p ∷ []))
   answered x past k h e =
-      let v = vote_asked p m.number x past h.just.free.fits e in
-      let asks : asks_vote (message_at (open_to p past.seen)) ≡ true = ap (λ place. asks_vote (message_at place)) v.is ∙ ap (λ d. asks_vote (message_at (Here (record v.first { deed = d }) ∷ v.older))) v.deed ∙ ap is_kind_election v.kind in
+      let v = vote-open (setup_in past) p m.number past.seen h.just.free.fits (open_send p past.seen) refl e in
+      let asks : asks_vote (message_at (open_to p past.seen)) ≡ true = ap (λ place. asks_vote (message_at place)) v.began.is ∙ ap
+      (λ d. asks_vote (message_at (Here (record v.began.first { deed = d }) ∷ v.began.older))) v.began.deed ∙ ap is_kind_election v.kind in
       let same : (p.0 == p.0) ≡ true = eq-eqb p.0 p.0 refl in
       record {
         free = acked p (election_acked p m.number x past e) h.just.free;
@@ -81,11 +75,11 @@ module _ {p : PeerId} {m : MessageValue} where
           past = past.seen;
           is = refl;
           deed = refl;
-          first = v.first;
-          older = v.older;
-          ends = v.is;
-          message = v.message;
-          asks = v.deed;
+          first = v.began.first;
+          older = v.began.older;
+          ends = v.began.is;
+          message = v.began.message;
+          asks = v.began.deed;
           election = v.kind;
           number = v.number_is;
         };
@@ -108,13 +102,6 @@ module _ {p : PeerId} {m : MessageValue} where
       (Leads_puts (Become Loose) (λ x past h. become_loose (λ e. let r = h.role_is in let bad : ⊥ = cc in absurd bad) h.free))
       (Leads_to (λ x past h. rests_of h) arms_elect_during)))
       (idle_heard (λ x past h. h.0.0))
-
--- a peer among one is that one
-one-among : {p : PeerId} (q : PeerId) → is_among q (p ∷ []) ≡ true → q ≡ p
-one-among {p = p} q i = by_case (p.0 == q.0) refl i where
-  by_case : (b : Bool) → (p.0 == q.0) ≡ b → (b || false) ≡ true → q ≡ p
-  by_case true e i = sym (same_peer p q e)
-  by_case false e i = absurd (true≢false (sym i))
 
 module _ {p : PeerId} {m : MessageValue} where
   pub acknowledged : {r : Role} → m.kind ≡ Ack → Leads (HeardIn p m r) (acknowledges p m.number) Rests
@@ -207,6 +194,7 @@ module _ {p : PeerId} {m : MessageValue} where
   master_leads MasterUp e = Leads_from (λ x past h. h.0.just.free) resolves_free
   master_leads Conflict e = Leads_from (λ x past h. h.0) (conflict_leads e)
   master_leads MasterAck e = Leads_from (λ x past h. h.0) finds_rival_leads
-  master_leads QuitKind e = quits_lead Master (p ∷ []) (λ q i. let bad : ⊥ = cc in absurd bad) refl (λ q i. one-among q i) e
+  master_leads QuitKind e = quits_lead Master (p ∷ []) (λ q i. let bad : ⊥ = cc in absurd bad) refl
+      (λ q i. sym (same_peer p q (or-false (p.0 == q.0) false i refl))) e
   master_leads Ack e = acknowledged e
   master_leads _ e = idle_heard (λ x past h. h.0)

@@ -9,7 +9,7 @@ use Rattle.tsp_base.specs.Words.{Did, Seen, Here, Past, plain, Leads, boot_tick,
 use Rattle.tsp_base.proofs.LeadsLemmas.{Leads_then, Leads_either, Leads_reading, Leads_nothing, Leads_puts, Leads_each, Leads_from, Leads_to}
 use Rattle.tsp_promises.proofs.Leaves.{none-some, some-same, arm_round, arm_round_alarms, arm_probe, abandon}
 use Rattle.tsp_promises.proofs.PostLeaves.{post_message, request, Leads_arms, Leads_others}
-use Rattle.tsp_promises.proofs.Changes.{FreeIn, become_loose, become_master, open_of, ring_round, late_round, ring_probe, late_probe, ring_window, late_window}
+use Rattle.tsp_promises.proofs.Changes.{FreeIn, become_loose, become_master, late, open_of, ring}
 use Rattle.tsp_promises.proofs.{Known.Free, Known.Open, Known.Untaken, CommonLeads.arms_elect_during}
 use Rattle.tsp_promises.specs.{HoldFits.LeadFits, PortFits.setup_in}
 use Rattle.tsp_promises.proofs.AlarmLeads.{Due, rings_lead, master_rested, stays}
@@ -34,7 +34,7 @@ rings_window x past h timely =
     let s = h.0.knows.vote.stands c.stands in
     let long = s.0 in
     record {
-      free = ring_window (omega (arith, long)) h.0;
+      free = ring Window refl (omega (arith, long)) h.0;
       stands = c.stands;
       leads = λ won. record {
         rested = long;
@@ -56,9 +56,6 @@ yields_lead = Leads_to (λ x past h. open_of h) (Leads_then {Q = Free Untaken} (
     (Leads_puts (Become Loose) (λ x past h. become_loose (λ e. let s = h.role_is in let bad : ⊥ = cc in absurd bad) h.free))
     arms_elect_during)
 
-master_up : Leads (FreeIn [] Untaken Master) (posts_to_others MasterUp 0) (FreeIn [] Untaken Master)
-master_up = Leads_others MasterUp 0 (λ x past p h. record { free = post_message p (bare MasterUp 0 past.name) refl tt h.free; role_is = h.role_is })
-
 pub arms_round_in : Leads (FreeIn [] Untaken Master) (arms Round ROUND) (FreeIn [] Untaken Master)
 arms_round_in = Leads_arms Round ROUND (λ x past h. record { free = arm_round (x + ROUND) h.role_is (λ start idle e. (let b = h.free.knows.times.start_le start idle e in omega (arith, b))) h.free; role_is = h.role_is })
 
@@ -71,14 +68,15 @@ window_leads own wait = rings_lead own wait Window
     (Leads_either has_won lead_row yields
     (Leads_to (λ x past h. open_of h.free) (Leads_then {Q = FreeIn [] Untaken Master} (puts (Become Master)) (arms Round ROUND followed_by posts_to_others MasterUp 0)
     (Leads_puts (Become Master) (λ x past h. record { free = become_master (h.0.leads h.1) h.0.free; role_is = refl }))
-    (Leads_then (arms Round ROUND) (posts_to_others MasterUp 0) arms_round_in master_up)))
+    (Leads_then (arms Round ROUND) (posts_to_others MasterUp 0) arms_round_in
+    (Leads_others MasterUp 0 (λ x past p h. record { free = post_message p (bare MasterUp 0 past.name) refl tt h.free; role_is = h.role_is })))))
     (Leads_from (λ x past h. record { free = h.0.free; role_is = h.0.stands }) yields_lead)))
     (Leads_then {Q = FreeIn [] Untaken Candidate} (puts (Late Window)) yields
     (Leads_puts (Late Window) (λ x past h.
     let due = due_is (armed past.seen).window x h.0.1 in
     let c = h.0.0.knows.vote.windows due.at due.is in
     let long = (h.0.0.knows.vote.stands c.stands).0 in
-    record { free = late_window (omega (arith, long)) h.0.0; role_is = c.stands }))
+    record { free = late Window refl (omega (arith, long)) h.0.0; role_is = c.stands }))
     yields_lead))
     (stays Window)
 
@@ -139,10 +137,12 @@ unfolding alarm_rings round_rings
 round_leads own wait = rings_lead own wait Round
     (Leads_either (is_in_time Round) (puts (Ring Round) followed_by begins_or_waits wait) (puts (Late Round) followed_by arms Round ROUND)
     (Leads_then {Q = Spaced} (puts (Ring Round)) (begins_or_waits wait)
-    (Leads_puts (Ring Round) (λ x past h. let m = round_master x past h.0 in record { free = ring_round (master_rested x past h.0.0 m) h.0.0; role_is = m; spaced = round_spaced x past h.0 }))
+    (Leads_puts (Ring Round) (λ x past h. let m = round_master x past h.0 in record
+    { free = ring Round refl (master_rested x past h.0.0 m) h.0.0; role_is = m; spaced = round_spaced x past h.0 }))
     (begins_or_waits_leads wait))
     (Leads_to (λ x past h. open_of h.free) (Leads_then {Q = FreeIn [] Untaken Master} (puts (Late Round)) (arms Round ROUND)
-    (Leads_puts (Late Round) (λ x past h. let m = round_master x past h.0 in record { free = late_round (master_rested x past h.0.0 m) h.0.0; role_is = m }))
+    (Leads_puts (Late Round) (λ x past h. let m = round_master x past h.0 in record
+    { free = late Round refl (master_rested x past h.0.0 m) h.0.0; role_is = m }))
     arms_round_in)))
     (stays Round)
 
@@ -175,7 +175,7 @@ probe_rings_in x past h timely =
     let met = met_is (armed past.seen).probe x due.at due.is timely in
     let probing = h.0.knows.round.probing due.at due.is in
     record {
-      free = ring_probe (probe_rested x past h) h.0;
+      free = ring Probe refl (probe_rested x past h) h.0;
       until = probing.until;
       goes = probing.goes;
       unprobed = refl;
@@ -200,6 +200,6 @@ probe_leads own wait = rings_lead own wait Probe
     }))
     (Leads_from (λ x past h. record { open_port = open_of h.0.free; later = λ at e. none-some at (sym h.0.unprobed ∙ e) }) Leads_nothing))))
     (Leads_then {Q = Free Untaken} (puts (Late Probe)) (puts Abandon)
-    (Leads_puts (Late Probe) (λ x past h. late_probe (probe_rested x past h.0) h.0.0))
+    (Leads_puts (Late Probe) (λ x past h. late Probe refl (probe_rested x past h.0) h.0.0))
     (Leads_puts Abandon (λ x past h. record { open_port = open_of (abandon h); later = λ at e. none-some at e }))))
     (λ x past h e. record { open_port = h; later = λ at is. leb-false at x (subst (λ o. is_over o x ≡ false) is e) })

@@ -92,10 +92,8 @@ pub record BestAt (p : PeerId) (s : Sampled) (seen : List Seen) : Type 0 where
 
 better-is : (was : Option Sampled) (late s : Sampled) → better was late ≡ s → (late ≡ s) ⊎ (was ≡ Some s)
 better-is None late s e = inl e
-better-is (Some early) late s e = choose (int_lt late.trip early.trip) e where
-  choose : (b : Bool) → cond b late early ≡ s → (late ≡ s) ⊎ (Some early ≡ Some s)
-  choose true h = inl h
-  choose false h = inr (ap (λ k. Some k) h)
+better-is (Some early) late s e = (elim (int_lt late.trip early.trip) as (λ b. cond b late early ≡ s → (late ≡ s) ⊎ (Some early ≡ Some s))
+    [ true ↦ λ h. inl h | false ↦ λ h. inr (ap (λ k. Some k) h) ]) e
 
 best-before : (p : PeerId) (s : Sampled) (d : Did) (before : List Seen) → started (Here d ∷ before) ≡ started before → BestAt p s before → BestAt p s (Here d ∷ before)
 best-before p s d before same b = record { did = b.did; rest = b.rest; is = b.is; place = inr b.place; deed = b.deed; round = b.round ∙ sym same }

@@ -8,7 +8,7 @@ use Rattle.tsp_promises.specs.PortFits.{PortFits, setup_in}
 use Rattle.tsp_promises.specs.Runs.{Makes, Boots, Answers as Answering, row_of, Happening, ran, last_tick, Ordered, RulesFit}
 use Rattle.tsp_promises.proofs.Known.{KnowsOf, Ended, Fresh, Rests}
 use Rattle.tsp_promises.proofs.Leaves.{made, none-some, none-among, nil-cons, some-same}
-use Rattle.tsp_promises.proofs.{AnswerLeads.answers_lead, HeedLeads.Heeds, HeedLeads.answers_heed, HeedLeads.untaken_heeds}
+use Rattle.tsp_promises.proofs.{AnswerLeads.answers_lead, HeedLeads.answers_heed, HeedLeads.untaken_heeds}
 
 -- a step of a port at rest may end
 pub ends_of : {x : ℕ} {past : Past} → Ended x past → StepEnds (setup_in past) past.seen
@@ -64,10 +64,15 @@ quiets x past b =
 pub boot_rests : (x : ℕ) (past : Past) → Booting x past → Rests x past
 boot_rests x past b = let h = b.fresh in record { fits = h.fits; knows = h.knows; backs = h.backs; follows = λ p e. none-among p h.owed e; paid = h.paid }
 
--- a boot keeps what is known of a port
-pub boots_lead : Leads Fresh boots Rests
+-- a boot keeps what is known of a port, and heeds what its step takes, which is nothing
+pub boots_lead : Leads Fresh boots Ended
 unfolding boots puts arms ◌followed_by◌
-boots_lead = record { run = λ x past h. boot_rests x (grown x past (boots x past)) (quiets x (grown x past (Boot ∷ [])) (booted x past h)) }
+boots_lead = record {
+  run = λ x past h. (
+    boot_rests x (grown x past (boots x past)) (quiets x (grown x past (Boot ∷ [])) (booted x past h)),
+    untaken_heeds past.peers past.seen h.took.0,
+  );
+}
 
 -- what is known of a port is known later too
 pub knows_later : {stirred : Bool} (x y : ℕ) (own : PeerId) (seen : List Seen) → x ≤ y → KnowsOf stirred x own seen → KnowsOf stirred y own seen
@@ -102,13 +107,8 @@ begins_fresh step x y past later own h = record {
   took = (refl, refl);
 }
 
--- and so it is heeded what a boot's step takes, which is nothing
-boots_heed : Leads Fresh boots Heeds
-unfolding boots puts arms ◌followed_by◌
-boots_heed = record { run = λ x past h. untaken_heeds past.peers past.seen h.took.0 }
-
 pub row_leads : (m : Makes) → Leads Fresh (row_of m) Ended
-row_leads Boots = record { run = λ x past h. (boots_lead.run x past h, boots_heed.run x past h) }
+row_leads Boots = boots_lead
 row_leads (Answering g) = record { run = λ x past h. ((answers_lead g).run x past h, (answers_heed g).run x past h) }
 
 pub ended_later : (x y : ℕ) (past : Past) → x ≤ y → Ended x past → Ended y past
@@ -168,7 +168,7 @@ ran-rests past (h ∷ before) e o =
     (row_leads h.makes).run h.tick (in_step h.step h.tick (ran before past)) (begins_fresh h.step (last_tick before) h.tick (ran before past) o.0 own (ran-rests past before e o.2))
 
 -- a port that runs by the rules owes nothing
-pub rules-fit : RulesFit
-rules-fit past hs e o =
+pub rules_fit : RulesFit
+rules_fit past hs e o =
     let r = ran-rests past hs e o in
     (subst (λ s. PortFits s (ran hs past).seen) (setup-ran hs past) r.0.fits, subst (λ s. StepEnds s (ran hs past).seen) (setup-ran hs past) (ends_of r))

@@ -1,21 +1,22 @@
--- A post with the open send's number, posted not long ago, is of the open send. The Corrects of a node after a time
--- stand apart. Where the last correction was acknowledged, and where the last taken one was taken. The induction over
--- corrections to one peer.
-use Rattle.std.proofs.Common.{sym, arith, subst, inl, inr, eqb-true, ◌≡◌, ◌==◌, Bool, true, false, ℕ, ◌+◌, ◌*◌, ◌<◌, ◌≤◌, List, [], ◌∷◌, refl, ap, true≢false, ◌∙◌, ◌&&◌, cond, subst₂, ◌%◌, ◌⊎◌}
+-- A post with the open send's number, posted not long ago, is of the open send: by induction over the corrections to
+-- one peer, a later one has another number or comes long after, since the peer's clock was corrected for each between.
+use Rattle.std.proofs.Common.{sym, arith, subst, inl, inr, eqb-true, ◌≡◌, ◌==◌, Bool, true, false, ℕ, ◌+◌, ◌*◌, ◌<◌, ◌≤◌, List, [], ◌∷◌, refl, ap, true≢false}
+use Rattle.std.proofs.Common.{◌∙◌, ◌&&◌, cond, subst₂, ◌%◌, ◌⊎◌}
 use Rattle.std.proofs.lemmas.Bool.{cases_lt, and_parts}
 use Rattle.tsp_rules.specs.Values.{Boot, Correct, GAP, Post, Become, Acked, Gave, Message, PeerId, Peer, Port, QUIET}
 use Rattle.tsp_rules.proofs.GuardFacts.{same_peer}
-use Rattle.tsp_base.specs.Words.{Deed, Acts, Did, Line, of, dids, all_corrects, last_correct, time_of, Within, tick_at, Seen, Here, Elsewhere, acting, is_correction, is_numbered, open_to, open_to_after, last_to, last_to_after, is_acknowledged, is_acknowledged_after, corrects_by, message_at, message_of, view, plain, MessageValue, boot_tick, lives, tick_of, peer_of, begun_to}
-use Rattle.tsp_base.proofs.PlaceLemmas.{Within-none, Within-tail, Within-all, Within-through, Within-strict, Within-comparable}
+use Rattle.tsp_base.specs.Words.{Deed, Acts, Did, Line, of, dids, all_corrects, last_correct, time_of, Within, tick_at, Seen, Here, Elsewhere, acting}
+use Rattle.tsp_base.specs.Words.{is_correction, is_numbered, open_to, open_to_after, last_to, last_to_after, is_acknowledged, is_acknowledged_after}
+use Rattle.tsp_base.specs.Words.{corrects_by, message_at, message_of, view, MessageValue, boot_tick, tick_of, peer_of, begun_to}
+use Rattle.tsp_base.proofs.PlaceLemmas.{Within-none, Within-tail, Within-through, Within-comparable}
 use Rattle.tsp_base.proofs.Views.{plain_view}
 use Rattle.tsp_promises.proofs.OwnFitsProof.{own_fits, place-time, tick_is, fits_at, of-tick, own_tick, locate, seen_in, tick_in, seen_before, seen_same}
-use Rattle.tsp_promises.proofs.SendProof.{numbered, CorrectsTo, one-message, BeginsSend, open_begun, sends-correct}
-use Rattle.tsp_promises.proofs.FreshProof.{OldBefore, Counted, Fresh, acked-counts, old-by-rest, old-by-boot, before_later, last_is, last_late, begun_late}
-use Rattle.tsp_promises.specs.{CorrectionFits.Follows, Fits.Fits, Fits.node_of, Once.ConfirmedAt, Once.OnceConfirmed, OwnFits.OwnFits}
-use Rattle.tsp_promises.specs.{Setting.Setting, Since.OneLife}
-use Rattle.tsp_promises.proofs.SinceProof.{ApartIf, apart_if, last_by, since}
-use Rattle.tsp_promises.proofs.{HistoryPlaces.line_on, HistoryPlaces.own_in, SendPlaces.post_fits, SendPlaces.send_place}
-use Rattle.tsp_promises.proofs.{Clocks.tick-mono, Clocks.near, EverywhereLemmas.Everywhere-at}
+use Rattle.tsp_promises.proofs.SendProof.{numbered, CorrectsTo, one-message, BeginsSend, begun_of, last_of, open_begun, sends-correct, starts_at, starts_late}
+use Rattle.tsp_promises.proofs.FreshProof.{OldBefore, Counted, Fresh, acked-counts, old-by-rest, old-by-boot, before_later}
+use Rattle.tsp_promises.specs.{CorrectionFits.Follows, Fits.Fits, Fits.node_of, Once.ConfirmedAt, Once.OnceConfirmed, OwnFits.OwnFits, Setting.Setting}
+use Rattle.tsp_promises.proofs.{SinceProof.ApartIf, SinceProof.apart_if, SinceProof.last_by, SinceProof.since, HistoryPlaces.line_on, HistoryPlaces.not-behind}
+use Rattle.tsp_promises.proofs.{HistoryPlaces.own_in, SendPlaces.post_fits, SendPlaces.send_place, Clocks.tick-mono, Clocks.near}
+use Rattle.tsp_promises.proofs.{EverywhereLemmas.Everywhere-at}
 
 -- each Correct after the place s costs GAP, counted from the tick `low`
 pub record SpacedFrom (low : ℕ) (s t : List Did) : Type 0 where
@@ -149,23 +150,23 @@ fresh-follows setting m k q t s f acked wb ws fw aw mt ms mf w h ih s_node cs s_
 
 -- with the places of the last correction and its Acked
 fresh-last : (setting : Setting) (m k : ℕ) (q : Port) (t s : Did) (wb ws : List Line) (mt ms : MessageValue) → Fits setting (line_on q t ∷ wb) → OnceConfirmed wb → Fresh m k q wb → t.step.node ≡ m → s.step.node ≡ m → CorrectsTo (peer_of k) ms s (view q (of m ws)) →
-    Within (line_on q s ∷ ws) wb → OneLife (s ∷ dids (of m ws)) (dids (of m wb)) → Follows (view q (of m wb)) (peer_of k) mt → OldBefore m k q (Here s ∷ view q (of m ws)) t wb ⊎ Counted k ms.number mt.number (line_on q s ∷ ws) (line_on q t ∷ wb)
-fresh-last setting m k q t s wb ws mt ms w h ih t_node s_node cs s_in one g =
+    Within (line_on q s ∷ ws) wb → Follows (view q (of m wb)) (peer_of k) mt →
+    OldBefore m k q (Here s ∷ view q (of m ws)) t wb ⊎ Counted k ms.number mt.number (line_on q s ∷ ws) (line_on q t ∷ wb)
+fresh-last setting m k q t s wb ws mt ms w h ih t_node s_node cs s_in g =
     let pk = peer_of k in
     let seen = view q (of m wb) in
     let s_seen : Within (Here s ∷ view q (of m ws)) seen = seen_in m (line_on q s) ws wb s_node s_in in
-    let last = last_is pk seen g.last g.older g.is in
-    let lives_is : lives (plain (Here s ∷ view q (of m ws))) ≡ lives (plain seen) = ap (λ z. lives (s ∷ z)) (plain_view q (of m ws)) ∙ (one.lives ∙ ap lives (sym (plain_view q (of m wb)))) in
-    let late = last_late pk ms s (view q (of m ws)) seen g.last g.older cs s_seen lives_is g.is in
-    let lf = locate m q wb g.last g.older (rw last.corrects.deed refl) last.place in
+    let last = starts_at (last_of pk) seen g.last g.older g.is in
+    let late = starts_late (last_of pk) ms s (view q (of m ws)) seen g.last g.older cs s_seen g.is in
+    let lf = locate m q wb g.last g.older (rw last.begins.deed refl) last.place in
     let a = acked_at pk seen g.acknowledged in
     let la = locate m q wb a.acked a.rest (rw a.deed refl) a.place in
-    let message : last.message ≡ g.message = one-message pk pk last.message g.message (sym last.corrects.deed ∙ g.deed) in
+    let message : last.message ≡ g.message = one-message pk pk last.message g.message (sym last.begins.deed ∙ g.deed) in
     let j = since setting (line_on q g.last ∷ of m lf.older) (of m wb) (own_fits setting m wb w.1) (own_in m (line_on q g.last) lf.older wb lf.node lf.place) in
     let by : tick_of (dids (of m wb)) ≤ t.tick = subst (λ n. tick_of (dids (of n wb)) ≤ t.tick) t_node (own_tick setting (line_on q t) wb w) in
     let open_is : open_to pk (view q (of m la.older)) ≡ Here g.last ∷ view q (of m lf.older) = ap (open_to pk) la.before ∙ (a.is ∙ (g.is ∙ ap (λ z. Here g.last ∷ z) (sym lf.before))) in
     fresh-follows setting m k q t s g.last a.acked wb ws lf.older la.older mt ms last.message w h ih s_node cs s_in lf.node lf.place
-    (record { deed = last.corrects.deed; kind = last.corrects.kind; begins = subst (λ z. acting z ≡ true) (sym lf.before) last.corrects.begins })
+    (record { deed = last.begins.deed; kind = last.begins.kind; begins = subst (λ z. acting z ≡ true) (sym lf.before) last.begins.begins })
     la.place la.node a.deed open_is (subst (λ z. mt.number ≡ (z.number + 1) % 32768) (sym message) g.number) (omega (arith, j.tick))
     (subst (λ z. Within (Here s ∷ view q (of m ws)) (Here g.last ∷ z)) (sym lf.before) late)
 
@@ -181,7 +182,7 @@ fresh-here setting m k q t s wb ws mt ms w h ih t_node ct s_in s_node cs =
       | inr new ↦ inl (old-by-boot setting m k q s t ws wb w.1 new.boot rested)
       | inl one ↦ elim b.may [
         | inl rests ↦ inl (old-by-rest setting m k q t wb (Here s ∷ view q (of m ws)) own rests rested)
-        | inr g ↦ fresh-last setting m k q t s wb ws mt ms w h ih t_node s_node cs s_in one g
+        | inr g ↦ fresh-last setting m k q t s wb ws mt ms w h ih t_node s_node cs s_in g
       ]
     ]
 
@@ -235,10 +236,10 @@ same-here m k q f p s fw o sw place is e =
 
 pub too-late : (m k : ℕ) (q : Port) (f s : Did) (fw sw world : List Line) (mp : MessageValue) → open_to (peer_of k) (view q (of m world)) ≡ Here f ∷ view q (of m fw) → Within (Here s ∷ view q (of m sw)) (view q (of m world)) → BeginsSend (peer_of k) mp s (view q (of m sw)) →
     Within (Here f ∷ view q (of m fw)) (view q (of m sw)) → ⊥
-too-late m k q f s fw sw world mp open_is place c i = elim (begun_late (peer_of k) mp s (view q (of m sw)) (view q (of m world)) f (view q (of m fw)) c place (open_begun (peer_of k) (view q (of m world)) (Here f) (view q (of m fw)) open_is)) [
-  | inl e ↦ (let r : view q (of m sw) ≡ view q (of m fw) = cc in Within-strict (Here f) (view q (of m fw)) (view q (of m sw)) i (subst (λ z. Within (view q (of m sw)) z) r (Within-all (view q (of m sw)))))
-  | inr j ↦ Within-strict (Here f) (view q (of m fw)) (view q (of m sw)) i (Within-tail (Here s) (view q (of m sw)) (view q (of m fw)) j)
-]
+too-late m k q f s fw sw world mp open_is place c i =
+    let begun = open_begun (peer_of k) (view q (of m world)) (Here f) (view q (of m fw)) open_is in
+    not-behind (Here f) (Here s) (view q (of m fw)) (view q (of m sw)) i
+    (starts_late (begun_of (peer_of k)) mp s (view q (of m sw)) (view q (of m world)) f (view q (of m fw)) c place begun)
 
 pub same_send : (setting : Setting) (m k : ℕ) (q : Port) (world : List Line) (f p : Did) (fw o : List Line) (mf mp : MessageValue) → Fits setting world → OnceConfirmed world → Within (line_on q f ∷ fw) world → f.step.node ≡ m →
     CorrectsTo (peer_of k) mf f (view q (of m fw)) → open_to (peer_of k) (view q (of m world)) ≡ Here f ∷ view q (of m fw) → Within (line_on q p ∷ o) world → p.step.node ≡ m → p.deed ≡ Acts (Post (Peer (peer_of k)) (Message mp)) →

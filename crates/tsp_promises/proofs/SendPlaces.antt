@@ -1,26 +1,45 @@
--- Where the send of a post begins in the history, and what its posts have in common. Only masters correct. A Correct
--- that is the next act of all after a line stands right after it.
+-- Where the send of a post begins in the history, what its posts have in common, and who corrects: only masters do, and
+-- a Correct that is the next act after a Close stands right after it.
 use Rattle.std.proofs.Common.{sym, ap, arith, subst, subst₂, inl, inr, true≢false, ◌∙◌, ◌≡◌, ◌+◌, ◌*◌, ◌≤◌, true, false, ℕ, List, [], ◌∷◌, refl, ◌==◌, ℤ, Bool, ◌||◌}
-use Rattle.tsp_rules.specs.Values.{Post, Datagram, Message, Kind, AdjTime, Conflict, Election, QuitKind, SetDateReq, SetTime, PeerId, Place, Peer, LAST, Correct, Close, Ack, DateAck, Stranger, Master}
+use Rattle.tsp_rules.specs.Values.{Post, Datagram, Message, Kind, AdjTime, Conflict, Election, QuitKind, SetDateReq, SetTime, PeerId, Place, Peer, LAST}
+use Rattle.tsp_rules.specs.Values.{Correct, Close, Ack, DateAck, Stranger, Master, Took, Taken, Good}
 use Rattle.tsp_base.specs.Words.{Acts, Came, Deed, Did, Line, Seen, Here, of, dids, view, is_shared, MessageValue, Within, acting, begun_to, is_correction, is_numbered, Setup, peer_of, posted, posted_after, Begins, Step, from_act, from_act_at, seen_as, role}
-use Rattle.tsp_promises.specs.{CorrectionFits.CorrectionFits, CorrectionFits.RepeatFits, Fits.Fits, Fits.LineFits, Fits.node_of}
-use Rattle.tsp_promises.{specs.DeedFits.MessageFits, proofs.Clocks.near, proofs.OwnFitsProof.place-time, proofs.OwnFitsProof.locate}
-use Rattle.tsp_promises.{specs.Setting.Setting, specs.Setting.setup_of, proofs.SendProof.BeginsSend, proofs.SendProof.send_is}
-use Rattle.tsp_promises.proofs.OwnFitsProof.{view-line, tick_in, deed_fits, fits_at}
-use Rattle.tsp_promises.proofs.HistoryPlaces.{line_on, of-own}
+use Rattle.tsp_promises.proofs.OwnFitsProof.{place-time, locate, view-line, tick_in, deed_fits, fits_at}
+use Rattle.tsp_promises.specs.CorrectFits.{EndsRound, WhyCorrect, ByRound, ByMaster, ByDate}
+use Rattle.tsp_promises.specs.{DeedFits.MessageFits, DeedFits.DeedFits, DeedFits.PostFits, DeedFits.StrangerFits}
+use Rattle.tsp_promises.{specs.CorrectionFits.CorrectionFits, specs.CorrectionFits.RepeatFits, proofs.EverywhereLemmas.Everywhere-from}
+use Rattle.tsp_promises.specs.{Fits.Fits, Fits.LineFits, Fits.node_of, Fits.SameStep, Setting.Setting, Setting.setup_of}
+use Rattle.tsp_promises.{specs.OnlyMaster.Leads, specs.OnlyMaster.LeadsAt, specs.OnlyMaster.OnlyMaster, proofs.Clocks.near}
+use Rattle.tsp_promises.proofs.{SendProof.BeginsSend, SendProof.send_is, HistoryPlaces.line_on, HistoryPlaces.of-own}
 use Rattle.std.proofs.Math.Bool.{or-true}
-use Rattle.tsp_promises.specs.CorrectFits.{WhyCorrect, ByRound, ByMaster, ByDate}
-use Rattle.tsp_promises.specs.RoundFits.{CloseFits}
-use Rattle.tsp_promises.specs.DeedFits.{DeedFits, PostFits, StrangerFits}
-use Rattle.tsp_promises.specs.Fits.{SameStep}
-use Rattle.tsp_promises.specs.OnlyMaster.{Leads, LeadsAt, OnlyMaster}
-use Rattle.tsp_promises.proofs.EverywhereLemmas.{Everywhere-from}
+
+-- what a Correct rests on right after this deed: its port's round ends with the deed
+pub record Closes (setup : Setup) (d : Did) (seen : List Seen) (b : Bool) (amount : ℤ) : Type 0 where
+  pub on : b ≡ true
+  pub round : EndsRound setup (Here d ∷ seen) amount
+  pub close : d ≡ round.close
+  pub past : seen ≡ round.past
+
+-- so it is, unless the deed is a Took
+pub after-close : (setup : Setup) (here d : Did) (seen : List Seen) (b : Bool) (amount : ℤ) → ((from : Place) (t : Taken) → d.deed ≡ Acts (Took from t) → ⊥) →
+    WhyCorrect setup here (seen_as b d ∷ seen) amount → Closes setup d seen b amount
+after-close setup here d seen true amount none (ByRound r) = record { on = refl; round = r; close = (let k = r.is in cc); past = (let k = r.is in cc) }
+after-close setup here d seen true amount none (ByMaster t) =
+    let same : d ≡ t.took = (let k = t.is in cc) in
+    absurd (none (Peer t.from) (Good (Message t.message)) (ap (λ (z : Did). z.deed) same ∙ t.deed))
+after-close setup here d seen true amount none (ByDate t) =
+    let same : d ≡ t.took = (let k = t.is in cc) in
+    absurd (none t.from (Good (Message t.message)) (ap (λ (z : Did). z.deed) same ∙ t.deed))
+after-close setup here d seen false amount none (ByRound r) = let bad : ⊥ = (let k = r.is in cc) in absurd bad
+after-close setup here d seen false amount none (ByMaster t) = let bad : ⊥ = (let k = t.is in cc) in absurd bad
+after-close setup here d seen false amount none (ByDate t) = let bad : ⊥ = (let k = t.is in cc) in absurd bad
 
 -- no Correct stands right after a mark
 no-mark : (setup : Setup) (here d : Did) (seen : List Seen) (amount : ℤ) → d.deed ≡ Begins → WhyCorrect setup here (Here d ∷ seen) amount → ⊥
-no-mark setup here d seen amount is (ByRound r) = let same : d ≡ r.close = (let k = r.is in cc) in let k = sym is ∙ (ap (λ (z : Did). z.deed) same ∙ r.deed) in cc
-no-mark setup here d seen amount is (ByMaster t) = let same : d ≡ t.took = (let k = t.is in cc) in let k = sym is ∙ (ap (λ (z : Did). z.deed) same ∙ t.deed) in cc
-no-mark setup here d seen amount is (ByDate t) = let same : d ≡ t.took = (let k = t.is in cc) in let k = sym is ∙ (ap (λ (z : Did). z.deed) same ∙ t.deed) in cc
+no-mark setup here d seen amount is why =
+    let c = after-close setup here d seen true amount (λ from t e. (let k = sym is ∙ e in cc)) why in
+    let k = sym is ∙ (ap (λ (z : Did). z.deed) c.close ∙ c.round.deed) in
+    cc
 
 -- what a Correct's port sees of a mark right before it
 sees-mark : (l x : Line) (rest : List Line) → x.did.deed ≡ Begins → node_of x ≡ node_of l → view l.port (of (node_of l) (x ∷ rest)) ≡ Here x.did ∷ view l.port (of (node_of l) rest)
@@ -55,17 +74,14 @@ posts-lead : (setup : Setup) (to : Place) (m : MessageValue) (here : Did) (seen 
 posts-lead setup (Peer p) m here seen e f = (correction_fits setup m.kind here seen p m e f).leads
 posts-lead setup Stranger m here seen e f = absurd (strangers m.kind here seen m.number e f.0)
 
--- what a Close owes
-closed-by : (setup : Setup) (here : Did) (seen : List Seen) (deed : Deed) (count : ℕ) (lo size mean : ℤ) → deed ≡ Acts (Close count lo size mean) → DeedFits setup deed here seen → CloseFits here seen
-closed-by setup here seen deed count lo size mean is f = subst (λ k. DeedFits setup k here seen) is f
-
 -- a Correct right after a Close
 correct-leads : (setting : Setting) (l close : Line) (older : List Line) (count : ℕ) (lo size mean amount : ℤ) → node_of close ≡ node_of l → LineFits setting close older → close.did.deed ≡ Acts (Close count lo size mean) →
     (b : Bool) → ((close.port.0 == l.port.0) || is_shared close.did.deed) ≡ b → WhyCorrect (setup_of setting (node_of l) l.port) l.did (seen_as b close.did ∷ view l.port (of (node_of l) older)) amount →
     role (seen_as b close.did ∷ view l.port (of (node_of l) older)) ≡ Master
 correct-leads setting l close older count lo size mean amount node f is true e why =
     let leads : role (view l.port (of (node_of l) older)) ≡ Master =
-    subst (λ n. role (view l.port (of n older)) ≡ Master) node (closed-by (setup_of setting (node_of close) l.port) close.did (view l.port (of (node_of close) older)) close.did.deed count lo size mean is (f.deeds l.port e)).leads in
+    subst (λ n. role (view l.port (of n older)) ≡ Master) node
+    (subst (λ d. DeedFits (setup_of setting (node_of close) l.port) d close.did (view l.port (of (node_of close) older))) is (f.deeds l.port e)).leads in
     rw is leads
 correct-leads setting l close older count lo size mean amount node f is false e (ByRound r) = let bad : ⊥ = (let k = r.is in cc) in absurd bad
 correct-leads setting l close older count lo size mean amount node f is false e (ByMaster t) = let bad : ⊥ = (let k = t.is in cc) in absurd bad

@@ -1,10 +1,11 @@
 -- What a node's deeds up to one place tell of its deeds up to a later one. The last Back and the last Quit that a port
 -- has seen.
-use Rattle.std.proofs.Common.{sym, arith, subst, inl, inr, ℕ, ◌+◌, ◌≤◌, List, [], ◌∷◌, refl, ◌∙◌, ◌≡◌, ◌==◌, ◌||◌, ◌⊎◌, Bool, true, false, Some}
+use Rattle.std.proofs.Common.{sym, arith, subst, inl, inr, ℕ, ◌+◌, ◌≤◌, List, [], ◌∷◌, refl, ◌∙◌, ◌≡◌, ◌==◌, ◌||◌, ◌⊎◌, Bool, true, false, cond, Option, Some}
 use Rattle.std.proofs.lemmas.Bool.{cases_lt}
 use Rattle.tsp_rules.specs.Values.{Boot, Correct, Port, GAP, QUIET, Back, Quit, PeerId, HOLD}
 use Rattle.tsp_base.specs.Words.{Did, Deed, Acts, Line, dids, view, is_shared, all_corrects, boot_tick, last_correct, last_correct_after, time_of, tick_of, Within, Setup, Seen, Here, seen_as, lives, lives_after, held}
-use Rattle.tsp_base.proofs.{PlaceLemmas.Within-none, ViewPlaces.sees-own, Views.plain_view}
+use Rattle.tsp_base.proofs.{ViewPlaces.sees-own, Views.plain_view}
+use Rattle.tsp_base.specs.{Hold.Held, Words.Elsewhere, Words.held_after}
 use Rattle.tsp_promises.specs.{Fits.node_of, Fits.Sees, OwnFits.OwnFits, OwnFits.OwnLineFits, Setting.Setting, Setting.setup_of}
 use Rattle.tsp_promises.specs.{DeedFits.DeedFits, Since.Since}
 
@@ -108,11 +109,15 @@ pub record BackedLate (seen : List Seen) (x y : ℕ) (c : PeerId) : Type 0 where
   pub upto : at ≤ y
   pub holds : (c ≡ last) ⊎ (x + HOLD ≤ at)
 
--- a Quit stands at tick x and the node hasn't booted since
-pub record QuitLate (seen : List Seen) (x : ℕ) : Type 0 where
+-- the last of these ticks is x or later
+pub record NotBefore (o : Option ℕ) (x : ℕ) : Type 0 where
   pub at : ℕ
-  pub is : (held seen).quit ≡ Some at
+  pub is : o ≡ Some at
   pub by : x ≤ at
+
+pub later-if : (b : Bool) (was : Option ℕ) (x y : ℕ) → x ≤ y → NotBefore was x → NotBefore (cond b (Some y) was) x
+later-if true was x y by h = record { at = y; is = refl; by = by }
+later-if false was x y by h = h
 
 back-deed : (setup : Setup) (d : Did) (deed : Deed) (seen : List Seen) (x y n : ℕ) (c : PeerId) → DeedFits setup deed d seen → lives_after deed n ≡ n → y ≤ d.tick → BackedLate seen x y c →
     BackedLate (Here (record { step = d.step; tick = d.tick; deed = deed }) ∷ seen) x d.tick c
@@ -130,11 +135,10 @@ back-deed setup d (Acts (Back p)) seen x y n c f v by h = record {
 }
 back-deed setup d _ seen x y n c f v by h = record { at = h.at; last = h.last; is = h.is; by = h.by; upto = omega (arith, h.upto); holds = h.holds }
 
-quit-deed : (d : Did) (deed : Deed) (seen : List Seen) (x n : ℕ) → lives_after deed n ≡ n → x ≤ d.tick → QuitLate seen x →
-    QuitLate (Here (record { step = d.step; tick = d.tick; deed = deed }) ∷ seen) x
-quit-deed d (Acts Boot) seen x n v by h = absurd (omega arith)
-quit-deed d (Acts (Quit p)) seen x n v by h = record { at = d.tick; is = refl; by = by }
-quit-deed d _ seen x n v by h = record { at = h.at; is = h.is; by = h.by }
+quit-deed : (deed : Deed) (was : Held) (x y n : ℕ) → lives_after deed n ≡ n → x ≤ y → NotBefore was.quit x → NotBefore (held_after deed y was).quit x
+quit-deed (Acts Boot) was x y n v by h = absurd (omega arith)
+quit-deed (Acts (Quit p)) was x y n v by h = record { at = y; is = refl; by = by }
+quit-deed _ was x y n v by h = h
 
 -- the node didn't boot in this line
 pub still-lives : (setting : Setting) (s : List Line) (l : Line) (t : List Line) → OwnFits setting (l ∷ t) → Within s t → lives (dids s) ≡ lives (dids (l ∷ t)) →
@@ -148,35 +152,46 @@ still-lives setting s l t f w e =
     all [] = refl
     all (x ∷ t) = inl refl
 
-here-held : (q : Port) (x : Line) (rest : List Line) → Sees q x → view q (x ∷ rest) ≡ Here x.did ∷ view q rest
-here-held q x rest s = rw s refl
+-- what holds at a place, and no later line changes while the node doesn't boot
+pub lasting : (setting : Setting) (P : List Line → Type 0) (s t : List Line) → OwnFits setting t → Within s t → lives (dids s) ≡ lives (dids t) → P s →
+    ((l : Line) (t : List Line) → OwnLineFits setting l t → Within s t → lives_after l.did.deed (lives (dids t)) ≡ lives (dids t) →
+    tick_of (dids s) ≤ l.did.tick → P t → P (l ∷ t)) → P t
+lasting setting P s [] f w v here more = subst P w here
+lasting setting P s (l ∷ t) f (inl e) v here more = subst P e here
+lasting setting P s (l ∷ t) f (inr w) v here more =
+    let k = still-lives setting s l t f w v in
+    let i = since setting s t f.1 w in
+    more l t f.0 w k.1 (omega (arith, i.tick, f.0.tick)) (lasting setting P s t f.1 w k.0 here more)
+
+-- the same of what a port sees, from a line that it sees
+pub lasting_seen : (setting : Setting) (q : Port) (P : List Seen → Type 0) (x : Line) (rest t : List Line) → OwnFits setting t → Sees q x →
+    Within (x ∷ rest) t → lives (dids (x ∷ rest)) ≡ lives (dids t) →
+    P (Here x.did ∷ view q rest) → ((d : Did) (s : List Seen) (n : ℕ) → lives_after d.deed n ≡ n → x.did.tick ≤ d.tick → P s → P (Here d ∷ s)) →
+    ((d : Did) (s : List Seen) → P s → P (Elsewhere d ∷ s)) → P (view q t)
+lasting_seen setting q P x rest t f sees w v here more other =
+    lasting setting (λ t. P (view q t)) (x ∷ rest) t f w v (rw sees here) (λ l t o i k by h. by-port l t k by h ((l.port.0 == q.0) || is_shared l.did.deed))
+  where
+    by-port : (l : Line) (t : List Line) → lives_after l.did.deed (lives (dids t)) ≡ lives (dids t) → x.did.tick ≤ l.did.tick → P (view q t) → (b : Bool) →
+        P (seen_as b l.did ∷ view q t)
+    by-port l t k by h true = more l.did (view q t) (lives (dids t)) k by h
+    by-port l t k by h false = other l.did (view q t) h
 
 pub back_late : (setting : Setting) (q : Port) (c : PeerId) (x : Line) (rest t : List Line) → OwnFits setting t → x.did.deed ≡ Acts (Back c) → Sees q x → Within (x ∷ rest) t →
     lives (dids (x ∷ rest)) ≡ lives (dids t) → BackedLate (view q t) x.did.tick (tick_of (dids t)) c
-back_late setting q c x rest [] f deed sees w v = Within-none x rest w
-back_late setting q c x rest (l ∷ t) f deed sees (inl e) v =
-    subst (λ k. BackedLate (view q k) x.did.tick (tick_of (dids k)) c) e
-    (rw (here-held q x rest sees) (record { at = x.did.tick; last = c; is = rw deed refl; by = omega arith; upto = omega arith; holds = inl refl }))
-back_late setting q c x rest (l ∷ t) f deed sees (inr w) v =
-    let k = still-lives setting (x ∷ rest) l t f w v in
-    more ((l.port.0 == q.0) || is_shared l.did.deed) refl k.1 (back_late setting q c x rest t f.1 deed sees w k.0)
+back_late setting q c x rest t f deed sees w v =
+    lasting setting (λ t. BackedLate (view q t) x.did.tick (tick_of (dids t)) c) (x ∷ rest) t f w v
+    (rw sees (record { at = x.did.tick; last = c; is = rw deed refl; by = omega arith; upto = omega arith; holds = inl refl }))
+    (λ l t o i k by h. more l t o k h ((l.port.0 == q.0) || is_shared l.did.deed) refl)
   where
-    more : (b : Bool) → ((l.port.0 == q.0) || is_shared l.did.deed) ≡ b → lives_after l.did.deed (lives (dids t)) ≡ lives (dids t) → BackedLate (view q t) x.did.tick (tick_of (dids t)) c →
-        BackedLate (seen_as b l.did ∷ view q t) x.did.tick l.did.tick c
-    more true e k h = back-deed (setup_of setting (node_of l) q) l.did l.did.deed (view q t) x.did.tick (tick_of (dids t)) (lives (dids t)) c (f.0.deeds q e) k f.0.tick h
-    more false e k h = record { at = h.at; last = h.last; is = h.is; by = h.by; upto = omega (arith, h.upto, f.0.tick); holds = h.holds }
+    more : (l : Line) (t : List Line) → OwnLineFits setting l t → lives_after l.did.deed (lives (dids t)) ≡ lives (dids t) →
+        BackedLate (view q t) x.did.tick (tick_of (dids t)) c →
+        (b : Bool) → ((l.port.0 == q.0) || is_shared l.did.deed) ≡ b → BackedLate (seen_as b l.did ∷ view q t) x.did.tick l.did.tick c
+    more l t o k h true e =
+        back-deed (setup_of setting (node_of l) q) l.did l.did.deed (view q t) x.did.tick (tick_of (dids t)) (lives (dids t)) c (o.deeds q e) k o.tick h
+    more l t o k h false e = record { at = h.at; last = h.last; is = h.is; by = h.by; upto = omega (arith, h.upto, o.tick); holds = h.holds }
 
+-- the last Quit that a port has seen isn't before one
 pub quit_late : (setting : Setting) (q : Port) (c : PeerId) (x : Line) (rest t : List Line) → OwnFits setting t → x.did.deed ≡ Acts (Quit c) → Sees q x → Within (x ∷ rest) t →
-    lives (dids (x ∷ rest)) ≡ lives (dids t) → QuitLate (view q t) x.did.tick
-quit_late setting q c x rest [] f deed sees w v = Within-none x rest w
-quit_late setting q c x rest (l ∷ t) f deed sees (inl e) v =
-    subst (λ k. QuitLate (view q k) x.did.tick) e (rw (here-held q x rest sees) (record { at = x.did.tick; is = rw deed refl; by = omega arith }))
-quit_late setting q c x rest (l ∷ t) f deed sees (inr w) v =
-    let k = still-lives setting (x ∷ rest) l t f w v in
-    let i = since setting (x ∷ rest) t f.1 w in
-    more ((l.port.0 == q.0) || is_shared l.did.deed) refl k.1 (omega (arith, i.tick, f.0.tick)) (quit_late setting q c x rest t f.1 deed sees w k.0)
-  where
-    more : (b : Bool) → ((l.port.0 == q.0) || is_shared l.did.deed) ≡ b → lives_after l.did.deed (lives (dids t)) ≡ lives (dids t) → x.did.tick ≤ l.did.tick → QuitLate (view q t) x.did.tick →
-        QuitLate (seen_as b l.did ∷ view q t) x.did.tick
-    more true e k by h = quit-deed l.did l.did.deed (view q t) x.did.tick (lives (dids t)) k by h
-    more false e k by h = record { at = h.at; is = h.is; by = h.by }
+    lives (dids (x ∷ rest)) ≡ lives (dids t) → NotBefore (held (view q t)).quit x.did.tick
+quit_late setting q c x rest t f deed sees w v = lasting_seen setting q (λ s. NotBefore (held s).quit x.did.tick) x rest t f sees w v
+    (record { at = x.did.tick; is = rw deed refl; by = omega arith }) (λ d s n k by h. quit-deed d.deed (held s) x.did.tick d.tick n k by h) (λ d s h. h)

@@ -23,9 +23,6 @@ pub idle_heard : {p : PeerId} {t : Taken} {P : ℕ → Past → Type 0} → ((x 
 idle_heard k = Leads_from (λ x past h. rests_of (k x past h).just.free) Leads_nothing
 
 module _ {p : PeerId} {m : MessageValue} where
-  pub heard_free : (x : ℕ) (past : Past) → Heard p (Good (Message m)) x past → Free (Says p m) x past
-  heard_free x past h = h.just.free
-
   pub follow_heard : Leads (Heard p (Good (Message m))) (follow_row p) Rests
   follow_heard = Leads_from (λ x past h. quitting_of h.just.free) (Leads_to (λ x past h. rests_of h.free) (follow_leads p))
 
@@ -36,24 +33,21 @@ module _ {p : PeerId} {m : MessageValue} where
       (idle_heard (λ x past h. h.0))
 
   pub hears_again : Leads (Heard p (Good (Message m))) (arms_elect followed_by tells_ticket p) Rests
-  hears_again = Leads_from heard_free (Leads_to (λ x past h. rests_of h) (Leads_then arms_elect (tells_ticket p) arms_elect_during (tells_ticket_during p)))
+  hears_again = Leads_from (λ x past h. h.just.free) (Leads_to (λ x past h. rests_of h)
+      (Leads_then arms_elect (tells_ticket p) arms_elect_during (tells_ticket_during p)))
 
   pub masterup_leads : (r : Role) → Leads (Heard p (Good (Message m))) (masterup_in p r) Rests
   unfolding masterup_in
   masterup_leads Loose = follow_heard
-  masterup_leads (Follow q) = by_case (q.0 == p.0) where
-    by_case : (b : Bool) → Leads (Heard p (Good (Message m))) (if b then (arms_elect followed_by tells_ticket p) else reports_conflict q) Rests
-    by_case true = hears_again
-    by_case false = reports_heard q
+  masterup_leads (Follow q) = elim (q.0 == p.0) as (λ b. Leads (Heard p (Good (Message m))) (if b then (arms_elect followed_by tells_ticket p)
+      else reports_conflict q) Rests) [ true ↦ hears_again | false ↦ reports_heard q ]
   masterup_leads _ = idle_heard (λ x past h. h)
 
   pub masterack_leads : (r : Role) → Leads (Heard p (Good (Message m))) (masterack_in p r) Rests
   unfolding masterack_in
   masterack_leads Loose = Leads_either (is_armed Search) (follow_row p) nothing (Leads_from (λ x past h. h.0) follow_heard) (idle_heard (λ x past h. h.0))
-  masterack_leads (Follow q) = by_case (q.0 == p.0) where
-    by_case : (b : Bool) → Leads (Heard p (Good (Message m))) (if b then nothing else reports_conflict q) Rests
-    by_case true = idle_heard (λ x past h. h)
-    by_case false = reports_heard q
+  masterack_leads (Follow q) = elim (q.0 == p.0) as (λ b. Leads (Heard p (Good (Message m))) (if b then nothing else reports_conflict q) Rests)
+      [ true ↦ idle_heard (λ x past h. h) | false ↦ reports_heard q ]
   masterack_leads _ = idle_heard (λ x past h. h)
 
 -- a port that has backed p in this step

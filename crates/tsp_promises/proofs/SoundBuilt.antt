@@ -16,7 +16,7 @@ use Rattle.tsp_group.specs.Groups.{group_of, is_member, members, group_from, goe
 use Rattle.tsp_group.{specs.Values.IsNear, proofs.Means.floor_div_fits}
 use Rattle.tsp_group.{specs.declared.group.Group.Group, proofs.Majority.near_sum, proofs.Sums.near_total-low, proofs.Sums.near_total-high}
 use Rattle.tsp_promises.specs.Sound.{AreSound, IsSound, IsSoundAct, IsSoundTaken, SoundPast}
-use Rattle.tsp_promises.proofs.SoundFacts.{IsSoundEstimate, estimate_sound, kept_sound, no_name, open_sound, time_sound, Soundly, bare_sound, sound_act, sound_adjusts, sound_arms, sound_asks, sound_begins_settime, sound_either, sound_posts, sound_posts_back, sound_posts_time, sound_posts_to_others, sound_puts, sound_reading, sound_replies, sound_sets, ticket_small}
+use Rattle.tsp_promises.proofs.SoundFacts.{IsSoundEstimate, of_both, estimate_sound, kept_sound, no_name, open_sound, time_sound, Soundly, bare_sound, sound_act, sound_adjusts, sound_arms, sound_asks, sound_begins_settime, sound_either, sound_posts, sound_posts_back, sound_posts_time, sound_posts_to_others, sound_puts, sound_reading, sound_replies, sound_sets, ticket_small}
 
 -- the mean of a round's differences is near, as they are
 
@@ -26,10 +26,8 @@ near_is z e = record { low = grind (arith, ints); high = grind (arith, ints) }
 
 diff-near : (o : Option Estimate) (rest : List ℤ) → All IsNear rest → All IsNear (diff_before o rest)
 diff-near None rest h = h
-diff-near (Some b) rest h = by_case (is_near b.diff) refl where
-  by_case : (n : Bool) → is_near b.diff ≡ n → All IsNear (if n then b.diff ∷ rest else rest)
-  by_case true e = All-cons IsNear b.diff rest (near_is b.diff e) h
-  by_case false e = h
+diff-near (Some b) rest h = (elim (is_near b.diff) as (λ n. is_near b.diff ≡ n → All IsNear (if n then b.diff ∷ rest else rest))
+    [ true ↦ λ e. All-cons IsNear b.diff rest (near_is b.diff e) h | false ↦ λ e. h ]) refl
 
 diffs-near : (round : List Standing) → All IsNear (near_diffs round)
 diffs-near [] = All-nil IsNear
@@ -51,17 +49,11 @@ from-near span values lo h =
 
 better-near : (g h : Group) → IsNearGroup g → IsNearGroup h → IsNearGroup (better g h)
 unfolding better
-better-near g h n k = by_case (goes_before h g) where
-  by_case : (b : Bool) → IsNearGroup (if b then h else g)
-  by_case true = k
-  by_case false = n
+better-near g h n k = of_both IsNearGroup (goes_before h g) h g k n
 
 fold-near : (span : ℕ) (values rest : List ℤ) (g : Group) → All IsNear values → IsNearGroup g → IsNearGroup (fold (try_lo span values) g rest)
 fold-near span values [] g h n = n
 fold-near span values (lo ∷ rest) g h n = fold-near span values rest (better g (group_from span values lo)) h (better-near g (group_from span values lo) n (from-near span values lo h))
-
-none-near : IsNearGroup no_group
-none-near = record { low = omega (arith, ints); high = omega (arith, ints) }
 
 zero-sum : (s : ℤ) (n : ℕ) → n ≡ 0 → (negsuc 1073741823999998 *ℤ pos n) ≤ℤ s → s ≤ℤ (pos 1073741823999999 *ℤ pos n) → s ≡ pos 0
 zero-sum s n e low high =
@@ -83,8 +75,8 @@ mean-cases g (suc n) e near =
 
 pub mean_near : (span : ℕ) (round : List Standing) → (negsuc 1073741823999999 ≤ℤ mean_of (group_of span (estimates round))) × (mean_of (group_of span (estimates round)) ≤ℤ pos 1073741823999999)
 mean_near span round =
-    let near = estimates-near round in
-    mean-cases (group_of span (estimates round)) _ refl (fold-near span (estimates round) (estimates round) no_group near none-near)
+    let none : IsNearGroup no_group = record { low = omega (arith, ints); high = omega (arith, ints) } in
+    mean-cases (group_of span (estimates round)) _ refl (fold-near span (estimates round) (estimates round) no_group (estimates-near round) none)
 
 -- what brings a near difference to the mean is a time
 pub correction_time : (own : Bool) (span : ℕ) (round : List Standing) (diff : ℤ) → is_near diff ≡ true → IsMicros (mean_by own (group_of span (estimates round)) -ℤ diff)

@@ -54,16 +54,17 @@ IsSoundHead [] = Unit {0}
 IsSoundHead (Here d ∷ before) = IsSoundDeed d.deed
 IsSoundHead (Elsewhere d ∷ before) = ⊥
 
-head-cond : (b : Bool) (here was : List Seen) → IsSoundHead here → IsSoundHead was → IsSoundHead (cond b here was)
-head-cond true here was h k = h
-head-cond false here was h k = k
+-- of one of two, by a test, holds what holds of both
+pub of_both : {A : Type 0} (P : A → Type 0) (b : Bool) (x y : A) → P x → P y → P (cond b x y)
+of_both P true x y h k = h
+of_both P false x y h k = k
 
 open-deed : (p : PeerId) (d : Did) (before : List Seen) (deed : Deed) (begins : Bool) (was : List Seen) → IsSoundDeed d.deed → IsSoundHead was → IsSoundHead (open_to_after p deed begins (Here d ∷ before) was)
 open-deed p d before (Acts Boot) begins was s k = tt
 open-deed p d before (Acts (Become r)) begins was s k = tt
-open-deed p d before (Acts (Post (Peer q) (Message m))) begins was s k = head-cond _ (Here d ∷ before) was s k
-open-deed p d before (Acts (Acked q)) begins was s k = head-cond _ [] was tt k
-open-deed p d before (Acts (Gave q)) begins was s k = head-cond _ [] was tt k
+open-deed p d before (Acts (Post (Peer q) (Message m))) begins was s k = of_both IsSoundHead _ (Here d ∷ before) was s k
+open-deed p d before (Acts (Acked q)) begins was s k = of_both IsSoundHead _ [] was tt k
+open-deed p d before (Acts (Gave q)) begins was s k = of_both IsSoundHead _ [] was tt k
 open-deed p d before _ begins was s k = k
 
 open-head : (p : PeerId) (seen : List Seen) → AreSound seen → IsSoundHead (open_to p seen)
@@ -94,20 +95,13 @@ HasTicket (Some s) = s.ticket < 32768
 
 better-sound : (o : Option Sampled) (late : Sampled) → HasTicket o → late.ticket < 32768 → HasTicket (Some (better o late))
 better-sound None late k h = h
-better-sound (Some early) late k h = by_case (int_lt late.trip early.trip) k h where
-  by_case : (b : Bool) → early.ticket < 32768 → late.ticket < 32768 → HasTicket (Some (cond b late early))
-  by_case true k h = h
-  by_case false k h = k
-
-ticket-cond : (b : Bool) (here was : Option Sampled) → HasTicket here → HasTicket was → HasTicket (cond b here was)
-ticket-cond true here was h k = h
-ticket-cond false here was h k = k
+better-sound (Some early) late k h = of_both (λ (s : Sampled). s.ticket < 32768) (int_lt late.trip early.trip) late early h k
 
 best-deed : (p : PeerId) (deed : Deed) (here before : List Seen) (was : Option Sampled) → IsSoundDeed deed → HasTicket was → HasTicket (best_after p deed here before was)
 best-deed p (Acts Boot) here before was s k = tt
 best-deed p (Acts (Become r)) here before was s k = tt
 best-deed p (Acts (Arm CloseAlarm at)) here before was s k = tt
-best-deed p (Acts (Sample q counter diff err ticket)) here before was s k = ticket-cond (q.0 == p.0) _ was (better-sound was _ k s) k
+best-deed p (Acts (Sample q counter diff err ticket)) here before was s k = of_both HasTicket (q.0 == p.0) _ was (better-sound was _ k s) k
 best-deed p _ here before was s k = k
 
 pub best_sound : (p : PeerId) (seen : List Seen) → AreSound seen → HasTicket (best p seen)

@@ -5,13 +5,10 @@ use Rattle.tsp_base.specs.Words.{Step, Seen, Here, Acts, Past, Row, added, grown
 use Rattle.tsp_base.proofs.{LeadsLemmas.Leads_then, LeadsLemmas.Leads_nothing, RowLemmas.added_append}
 use Rattle.tsp_rules.specs.Answers.{due_alarms, takes, Turn, Got, input_row, answers}
 use Rattle.tsp_rules.{specs.RoundRows.corrects, specs.RoundRows.abandons_going, specs.RoundRows.upsetting, proofs.Unchanged.comes_unchanged}
-use Rattle.tsp_rules.specs.{SendRows.due_sends, Values.Act, Values.Taken, Values.Place}
+use Rattle.tsp_rules.specs.{SendRows.due_sends, Values.Act}
 use Rattle.tsp_rules.proofs.{BuiltAnswers.built_takes, BuiltRounds.built_abandons_going, BuiltSends.built_due_sends}
-use Rattle.tsp_promises.specs.Sound.{IsSoundTaken, IsSoundAct, AreSound, SoundPast, AnswersAreSound}
+use Rattle.tsp_promises.specs.Sound.{IsSoundAct, AreSound, SoundPast, AnswersAreSound}
 use Rattle.tsp_promises.proofs.{AlarmTable.sound_alarms, SoundBuilt.sound_built, SoundBuilt.taken_ranges, SoundFacts.Soundly}
-
-pub sound_takes : (steer charge : Bool) (from : Place) (t : Taken) → IsSoundTaken t → Soundly (takes steer charge from t)
-sound_takes steer charge from t s = sound_built (built_takes steer charge from t (comes_unchanged from) s tt (taken_ranges t s))
 
 pub sound_due_sends : Soundly due_sends
 sound_due_sends = sound_built built_due_sends
@@ -28,7 +25,8 @@ pub answers-sound : AnswersAreSound
 unfolding answers input_row
 answers-sound Turn x past s h = (Leads_then due_sends (due_alarms followed_by nothing) sound_due_sends (Leads_then due_alarms nothing sound_alarms Leads_nothing)).run x past h
 answers-sound (Got from t) x past s h = (Leads_then due_sends (due_alarms followed_by upsetting (takes true true from t)) sound_due_sends
-    (Leads_then due_alarms (upsetting (takes true true from t)) sound_alarms (sound_upsetting (takes true true from t) (sound_takes true true from t s)))).run x past h
+    (Leads_then due_alarms (upsetting (takes true true from t)) sound_alarms
+    (sound_upsetting (takes true true from t) (sound_built (built_takes true true from t (comes_unchanged from) s tt (taken_ranges t s)))))).run x past h
 
 -- each act of a sound past is sound
 before-sound : (step : Step) (x : ℕ) (acts : List Act) (seen : List Seen) → AreSound (added step x acts seen) → AreSound seen

@@ -1,6 +1,7 @@
 -- Places of small histories, and what rounds did there, where it is found by computing: `search arith` proves what
 -- has to be computed.
-use Rattle.std.proofs.Common.{sym, ap, subst, ◌∙◌, ◌≡◌, ◌-◌, true, ℕ, suc, ℤ, pos, List, ◌∷◌, Some, is_some, length, inr}
+use Rattle.std.proofs.lemmas.{Bool.ltb-true, Int.ints}
+use Rattle.std.proofs.Common.{int_lt, nat_lt, ◌≤◌, ◌≤ℤ◌, sym, ap, subst, ◌∙◌, ◌≡◌, ◌-◌, true, ℕ, suc, ℤ, pos, List, ◌∷◌, Some, is_some, length, inr}
 use Rattle.tsp_rules.specs.Values.{Post, Close, Correct, Datagram, Message, Stamp, AdjTime, PeerId, Peer, Place, Port, Stranger, Request}
 use Rattle.tsp_base.specs.Words.{Came, Cause, Acts, acting, Deed, Line, Seen, Here, all_corrects, dids, from_act, lives, of, view, MessageValue, message_of, Within, Sampled, best, begun_to, is_numbered, heard, peer_of, posted}
 use Rattle.tsp_promises.specs.{Agreed.FromRound, Agreed.ReadingOf, Agreed.Unchanged, Agreed.UnchangedBut, Fits.node_of, StepFacts.closed}
@@ -8,6 +9,13 @@ use Rattle.tsp_promises.specs.{Chained.Hop, Estimates.CloseBegins, Estimates.Est
 use Rattle.tsp_promises.proofs.Debts.{behind, line_in, message_or, sample_in, shown_in, stepped_in}
 use Rattle.tsp_promises.proofs.{Histories.post_at, Histories.skip, Histories.skipped, HistoriesFit.post-found}
 pub use Rattle.std.proofs.Common.{arith}
+
+-- a number that isn't as small as this one
+pub too-many : (a b : ℕ) → nat_lt b a ≡ true → a ≤ b → ⊥
+too-many a b e k = let less = ltb-true b a e in omega (arith, less, k)
+
+pub too-far : (a b : ℤ) → int_lt b a ≡ true → a ≤ℤ b → ⊥
+too-far a b e k = grind (arith, ints)
 
 -- the line behind so many of the newest lines
 abbrev pub spot : (k : ℕ) (h : List Line) → skip k h ≡ line_in (skip k h) ∷ behind (skip k h) → Spot h

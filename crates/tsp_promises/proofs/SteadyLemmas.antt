@@ -1,5 +1,6 @@
 -- What corrects a clock and is no date is taken by a follower, which stays one.
-use Rattle.std.proofs.Common.{sym, ap, inl, inr, true≢false, ◌≡◌, ◌⊎◌, ℕ, ◌==◌, ◌||◌, ◌&&◌, ℤ, Bool, true, false, if◌then◌else◌, List, [], ◌∷◌, ◌++◌, refl}
+use Rattle.std.proofs.Common.{ap, inl, inr, true≢false, ◌≡◌, ◌⊎◌, ℕ, ◌==◌, ℤ, Bool, true, false, if◌then◌else◌, List, [], ◌∷◌, ◌++◌, refl}
+use Rattle.std.proofs.lemmas.Bool.{and_parts, or_parts}
 use Rattle.tsp_rules.specs.Values.{Act, Took, Message, Taken, Good, Kind, AdjTime, Date, DateAck, DateReq, LoopKind, Msite, MsiteReq, SetDate, SetDateReq, SetTime, Test, TraceOff, TraceOn, PeerId, Place, Peer, Stranger, Role, Starting, Follow, Candidate, Master}
 use Rattle.tsp_rules.specs.Answers.{says_in, peer_says, from_peer, handles_kind, is_left, handles, takes}
 use Rattle.tsp_rules.{specs.CandidateRows.candidate_takes, proofs.BuiltAnswers.built_date_acked, specs.MasterRows.master_takes}
@@ -20,20 +21,15 @@ pub record Still (row : Row) : Type 0 where
 
 still-acts : (strange : Bool) (acts : List Act) → is_calm strange false acts ≡ true → corrects acts ≡ false
 still-acts strange [] e = refl
-still-acts strange (a ∷ rest) e = both (is_calm_act strange false a) refl e (λ k. still-acts strange rest k) where
-  both : (b : Bool) → is_calm_act strange false a ≡ b → (b && is_calm strange false rest) ≡ true → (is_calm strange false rest ≡ true → corrects rest ≡ false) → (is_correct a || corrects rest) ≡ false
-  both true i k later = rw (calm-correct strange a i) (later k)
-  both false i k later = absurd (true≢false (sym k))
+still-acts strange (a ∷ rest) e =
+    let both = and_parts (is_calm_act strange false a) (is_calm strange false rest) e in rw (calm-correct strange a both.0) (still-acts strange rest both.1)
 
 pub still_calm : (strange : Bool) (k c : ℕ) (row : Row) → Calm strange false k c row → Still row
 still_calm strange k c row p = record { run = λ x past. still-acts strange (row x past) (p.calm x past) }
 
 corrects-append : (xs ys : List Act) → corrects xs ≡ false → corrects ys ≡ false → corrects (xs ++ ys) ≡ false
 corrects-append [] ys e f = f
-corrects-append (a ∷ xs) ys e f = by_act (is_correct a) e (λ k. corrects-append xs ys k f) where
-  by_act : (b : Bool) → (b || corrects xs) ≡ false → (corrects xs ≡ false → corrects (xs ++ ys) ≡ false) → (b || corrects (xs ++ ys)) ≡ false
-  by_act true k later = absurd (true≢false k)
-  by_act false k later = later k
+corrects-append (a ∷ xs) ys e f = let both = or_parts (is_correct a) (corrects xs) e in rw both.0 (corrects-append xs ys both.1 f)
 
 still-nothing : Still nothing
 unfolding nothing
@@ -87,10 +83,8 @@ steady-settime p number value = steady-either (takes_value number value) (sets v
 
 steady-from : (p : PeerId) (row : Row) → Steady Follows row → (r : Role) → Steady (λ x past. Unit {0} × (role_at x past ≡ r)) (from_master p row r)
 unfolding from_master
-steady-from p row k (Follow q) = by_case (q.0 == p.0) where
-  by_case : (b : Bool) → Steady (λ x past. Unit {0} × (role_at x past ≡ Follow q)) (if b then row else nothing)
-  by_case true = record { run = λ x past h. k.run x past (ap (λ (a : Role). is_follow a) h.1) }
-  by_case false = steady-still nothing still-nothing
+steady-from p row k (Follow q) = elim (q.0 == p.0) as (λ b. Steady (λ x past. Unit {0} × (role_at x past ≡ Follow q)) (if b then row else nothing))
+    [ true ↦ record { run = λ x past h. k.run x past (ap (λ (a : Role). is_follow a) h.1) } | false ↦ steady-still nothing still-nothing ]
 steady-from p row k _ = steady-still nothing still-nothing
 
 steady-slave : (p : PeerId) (m : MessageValue) (k : Kind) → Steady Any (slave_takes_kind p m k)

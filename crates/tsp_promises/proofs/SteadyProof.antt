@@ -3,11 +3,11 @@ use Rattle.std.proofs.Common.{arith, subst, sym, inl, inr, eqb-true, true≢fals
 use Rattle.std.proofs.lemmas.Int.{ints}
 use Rattle.tsp_rules.specs.Values.{Boot, Correct, SLEW}
 use Rattle.tsp_base.specs.Words.{Deed, Begins, Acts, Did, Line, of, dids, boot_after, boot_tick, eased, last_correct, last_correct_after, lives, lives_after, moved, moved_after, rest, rest_after, shown, target, tick_of, time_of, wall, wall_after, Within, tick_at, width}
-use Rattle.tsp_promises.specs.{Fits.Fits, Fits.node_of, OwnFits.OwnFits, Setting.Setting, ShownAt.shown_at}
+use Rattle.tsp_promises.specs.{Fits.Fits, Fits.node_of, OwnFits.OwnFits, Setting.Setting, ClockAt.shown_at}
 use Rattle.tsp_promises.specs.Steady.{Advances, Meets, MeetsBy, NoneStepped, RunsOn, RunsOverTime, Steady, SteadyAt}
 use Rattle.tsp_promises.proofs.{Clocks.tick-mono, Clocks.ticks_over, EverywhereLemmas.Everywhere-from, OwnFitsProof.tick_in}
 use Rattle.tsp_promises.proofs.{HistoryPlaces.of-other, HistoryPlaces.of-own, HistoryPlaces.Within-of, SinceProof.last_by, SinceProof.since}
-use Rattle.tsp_promises.proofs.OwnFitsProof.{fits_at, own_fits, tick_is}
+use Rattle.tsp_promises.proofs.OwnFitsProof.{fits_at, node_walk, own_fits, tick_is}
 use Rattle.tsp_base.proofs.TickLemmas.{eased_none}
 
 -- more slewing changes a rest by no more than itself
@@ -75,15 +75,8 @@ lives-more _ n = omega arith
 joined : (n : ℕ) (a b c : ℤ) (x m y : ℕ) → x ≤ m → m ≤ y → Near n a b x m → 200 * nat_abs ((c -ℤ b) -ℤ pos (y - m)) ≤ y - m → Near n a c x y
 joined n a b c x m y h k p q = omega (arith, ints)
 
--- what is asked of the readings, without the history's first line
-none-stepped : (n : ℕ) (l : Line) (b s : List Line) → NoneStepped n s (l ∷ b) → NoneStepped n s b
-none-stepped n l b s none d r amount stepped value w v node is = none d r amount stepped value (inr w) v node is
-
 abbrev pub NextFrom : ℕ → ℕ → List Line → List Line → Type 0
 NextFrom n x s h = (l : Line) (before : List Line) → Within (l ∷ before) h → Within s before → node_of l ≡ n → x ≤ l.did.tick
-
-next-less : (n x : ℕ) (l : Line) (b s : List Line) → NextFrom n x s (l ∷ b) → NextFrom n x s b
-next-less n x l b s next d r w v node = next d r (inr w) v node
 
 -- a line of the node itself
 own-line : (setting : Setting) (c n : ℕ) (l : Line) (b s : List Line) (x y : ℕ) → node_of l ≡ n → OwnFits setting (l ∷ of n b) → Within s b → lives (dids (of n s)) ≡ lives_after l.did.deed (lives (dids (of n b))) →
@@ -108,7 +101,8 @@ pub steadily_by : (setting : Setting) (c n : ℕ) (h s : List Line) (x y : ℕ) 
 steadily_by setting c n [] s x y f w start j none next z k = subst (λ u. Near c (shown (dids (of n s)) x) (shown (dids (of n u)) y) x y) w (start y k)
 steadily_by setting c n (l ∷ b) s x y f (inl e) start j none next z k = subst (λ u. Near c (shown (dids (of n s)) x) (shown (dids (of n u)) y) x y) e (start y k)
 steadily_by setting c n (l ∷ b) s x y f (inr i) start j none next z k =
-    by-node (λ v same by o. steadily_by setting c n b s x v f.1 i start same (none-stepped n l b s none) (next-less n x l b s next) by o) (node_of l == n) refl
+    by-node (λ v same by o. steadily_by setting c n b s x v f.1 i start same (λ d r amount stepped value p q node is.
+    none d r amount stepped value (inr p) q node is) (λ d r p q node. next d r (inr p) q node) by o) (node_of l == n) refl
   where
     by-node : ((v : ℕ) → lives (dids (of n s)) ≡ lives (dids (of n b)) → tick_of (dids (of n b)) ≤ v → x ≤ v → Near c (shown (dids (of n s)) x) (shown (dids (of n b)) v) x v) →
         (own : Bool) → (node_of l == n) ≡ own → Near c (shown (dids (of n s)) x) (shown (dids (of n (l ∷ b))) y) x y
@@ -141,11 +135,8 @@ over early late x y t w n o p q = omega (arith, ints, n)
 
 -- a node's last tick is that of its last time
 own-at : (setting : Setting) (n : ℕ) (s : List Line) → Fits setting s → tick_of (dids (of n s)) ≤ tick_at (setting.rate n) (time_of (dids (of n s)))
-own-at setting n [] f = omega arith
-own-at setting n (l ∷ s) f = by-node (own-at setting n s f.1) (node_of l == n) refl where
-  by-node : tick_of (dids (of n s)) ≤ tick_at (setting.rate n) (time_of (dids (of n s))) → (c : Bool) → (node_of l == n) ≡ c → tick_of (dids (of n (l ∷ s))) ≤ tick_at (setting.rate n) (time_of (dids (of n (l ∷ s))))
-  by-node h true e = rw e (let t = tick_is setting n l s (eqb-true (node_of l) n e) f.0 in omega (arith, t))
-  by-node h false e = rw e h
+own-at setting n = node_walk setting n (λ world own. tick_of (dids own) ≤ tick_at (setting.rate n) (time_of (dids own))) (omega arith)
+    (λ l s f node h. omega (arith, tick_is setting n l s node f.0)) (λ l s f h. h)
 
 pub runs_over_time : (setting : Setting) (h : List Line) → Fits setting h → RunsOverTime setting h
 runs_over_time setting h f n s a b u r =

@@ -103,10 +103,6 @@ ended-in setting s [] f o e = subst (λ w. OthersEnd setting w) (sym e) o
 ended-in setting s (x ∷ h) f o (inl e) = subst (λ w. OthersEnd setting w) (sym e) o
 ended-in setting s (x ∷ h) f o (inr w) = ended-in setting s h f.1 (ended-before setting x h x.did.deed refl f.0 o) w
 
--- of a history that ends with a step, each place where a step begins is one
-pub finished_at : (setting : Setting) (l : Line) (before h : List Line) → Fits setting h → Finished setting h → Within (l ∷ before) h → l.did.deed ≡ Begins → Finished setting before
-finished_at setting l before h f end w is = ended-mark setting l before (fits_in setting l before h f w) is (ended-in setting (l ∷ before) h f (finished-others setting h end) w)
-
 -- where a port leads after a QUIT, it owes its step's end to follow somebody
 record Owing (seen : List Seen) : Type 0 where
   pub peer : PeerId
@@ -215,6 +211,7 @@ pub stops_leading : (setting : Setting) (h : List Line) → Fits setting h → F
 stops_leading setting h f end life = record {
   marks = Everywhere-from (λ (l : Line) (before : List Line). l.did.deed ≡ Begins → StopsBy before) h (λ l before w is.
       let before_in : Within before h = Within-tail l before h w in
-      stops_by setting before (fits_at setting before h f before_in) (finished_at setting l before h f end w is) (Everywhere-within (TakenWithinAt LIFE) before h life before_in));
+      stops_by setting before (fits_at setting before h f before_in) (ended-mark setting l before (fits_in setting l before h f w) is
+      (ended-in setting (l ∷ before) h f (finished-others setting h end) w)) (Everywhere-within (TakenWithinAt LIFE) before h life before_in));
   ends = stops_by setting h f end life;
 }

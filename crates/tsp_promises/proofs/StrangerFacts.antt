@@ -1,5 +1,5 @@
 -- What goes to strangers answers what was taken from one.
-use Rattle.std.proofs.Common.{sym, ap, subst, subst₂, inl, inr, true≢false, ◌∙◌, ◌≡◌, true, false, if◌then◌else◌, List, [], ◌∷◌, Option, None, Some, refl}
+use Rattle.std.proofs.Common.{sym, ap, subst, inl, inr, true≢false, ◌∙◌, ◌≡◌, true, false, if◌then◌else◌, List, [], ◌∷◌, Option, None, Some, refl}
 use Rattle.tsp_rules.specs.Values.{Took, Post, Datagram, Message, Stamp, Good, Kind, Ack, DateAck, PeerId, Place, Peer, Stranger, Request, Reply}
 use Rattle.tsp_base.specs.Words.{Begins, Acts, Deed, Did, Seen, Here, Elsewhere, MessageValue, Received, kept_name, message_in, role, taken, taken_after, Setup, ReplyValue, TakesFrom}
 use Rattle.tsp_promises.specs.{AckFits.AckFits, Answered.AnswersWith, Answered.acknowledges, Answered.is_answer, DateFits.DateAckFits}
@@ -48,27 +48,24 @@ answers_asked setup to (Stamp (Request word counter)) here before f e = absurd (
 answers_asked setup (Peer p) (Stamp (Reply reply)) here before f e = record { asked = Stamp (Request reply.word reply.counter); took = f.took; answer = (refl, refl) }
 answers_asked setup Stranger (Stamp (Reply reply)) here before f e = record { asked = Stamp (Request reply.word reply.counter); took = f.0.took; answer = (refl, refl) }
 
-one-message : (m n : MessageValue) → Message m ≡ Message n → m ≡ n
-one-message m n e = cc
-
-named-as : (setup : Setup) (before : List Seen) (m asked : MessageValue) → TakesFrom before Stranger (Message asked) → NamedFits setup before m → (n message : MessageValue) → Message m ≡ Message n → Message asked ≡ Message message → n.name ≡ answer_name message.kind setup before
+named-as : (setup : Setup) (before : List Seen) (m : MessageValue) (asked : Datagram) → TakesFrom before Stranger asked → NamedFits setup before m →
+    (n message : MessageValue) → Message m ≡ Message n → asked ≡ Message message → n.name ≡ answer_name message.kind setup before
 named-as setup before m asked took named n message answer is =
-    let same : m ≡ n = one-message m n answer in
-    let what : asked ≡ message = one-message asked message is in
-    subst₂ (λ (a b : MessageValue). a.name ≡ answer_name b.kind setup before) same what (named asked took)
-
-message-answers : (setup : Setup) (k : Kind) (here : Did) (before : List Seen) (m : MessageValue) → m.kind ≡ k → StrangerFits k here before m.number → is_answered before ≡ false → NamedFits setup before m → Answering setup before (Message m)
-message-answers setup Ack here before m is f first named = record { asked = Message f.message; took = f.took; answer = (inl is, sym f.number_is); first = first; named = named-as setup before m f.message f.took named }
-message-answers setup DateAck here before m is f first named = record { asked = Message f.message; took = f.took; answer = (inr is, sym f.number_is); first = first; named = named-as setup before m f.message f.took named }
-message-answers setup _ here before m is f first named = absurd f
-
-no-message : {B : Type 0} (r : ReplyValue) (m : MessageValue) → Stamp (Reply r) ≡ Message m → B
-no-message r m e = let bad : ⊥ = cc in absurd bad
+    let same : m ≡ n = cc in
+    subst (λ (a : MessageValue). a.name ≡ answer_name message.kind setup before) same (named message (subst (λ d. TakesFrom before Stranger d) is took))
 
 pub answering : (setup : Setup) (datagram : Datagram) (here : Did) (before : List Seen) → PostFits setup Stranger datagram here before → Answering setup before datagram
-answering setup (Message m) here before f = message-answers setup m.kind here before m refl f.0 f.1.0 f.1.1
+answering setup (Message m) here before f =
+    let a = stranger-asked m.kind here before m refl f.0 in
+    record { asked = a.asked; took = a.took; answer = a.answer; first = f.1.0; named = named-as setup before m a.asked a.took f.1.1 }
 answering setup (Stamp (Request word counter)) here before f = absurd f
-answering setup (Stamp (Reply reply)) here before f = record { asked = Stamp (Request reply.word reply.counter); took = f.0.took; answer = (refl, refl); first = f.1; named = λ m message e. no-message reply m e }
+answering setup (Stamp (Reply reply)) here before f = record {
+  asked = Stamp (Request reply.word reply.counter);
+  took = f.0.took;
+  answer = (refl, refl);
+  first = f.1;
+  named = λ m message e. let bad : ⊥ = cc in absurd bad;
+}
 
 -- a port that has taken nothing in this step has posted nothing to a stranger
 answered-deed : (setup : Setup) (d : Did) (before : List Seen) (deed : Deed) → DeedFits setup deed d before → (taken before ≡ None → is_answered before ≡ false) → taken_after deed (taken before) ≡ None → is_answered_after deed (is_answered before) ≡ false

@@ -1,7 +1,7 @@
--- What is known of a Correct that takes a correction, and of the reading on which that rests. The reading of the
--- sample that a Close used. What is known of a Correct that takes an ADJTIME of a Close.
+-- What is known of a Correct that takes a correction, and of the reading on which that rests: that of the sample that
+-- a Close used, where it takes the Close's ADJTIME.
 use Rattle.std.proofs.Common.{sym, ap, subst, subst₂, inl, ◌∙◌, ◌≡◌, ◌≤◌, ◌≤ℤ◌, ℕ, pos, ◌-ℤ◌, nat_abs, List, ◌∷◌, Some, refl, arith, inr, ◌⊎◌, ◌+◌, ℤ, None, Bool, true}
-use Rattle.tsp_rules.specs.Values.{Post, Sample, Datagram, PeerId, Place, Port, Message, AdjTime, Peer, CLOSE, LIFE, SLACK, Close, Correct, Kind}
+use Rattle.tsp_rules.specs.Values.{Post, Sample, Datagram, PeerId, Place, Port, Message, AdjTime, Peer, CLOSE, SLACK, Close, Correct, Kind}
 use Rattle.tsp_base.specs.Words.{Came, Acts, Did, Line, Seen, Here, of, dids, view, plain, moved, ticket, Within, Sampled, best, started, ReplyValue, Undisturbed, peer_of, posted, MessageValue, taken, tick_at, target, is_correction, time_in}
 use Rattle.tsp_base.proofs.{PlaceLemmas.Within-tail, PlaceLemmas.Within-through, Views.plain_view}
 use Rattle.tsp_promises.proofs.RoundPlaces.{BestAt, best_at, started_at, same-start, some-is}
@@ -90,16 +90,22 @@ pub record Used (first : Did) (begun : List Seen) (p : PeerId) (m : MessageValue
   pub from : FromClose first begun p m close past mean sample
 
 -- what begins before its step has taken anything, or is an ADJTIME, begins at a Close
-pub used-by : (first : Did) (begun : List Seen) (p : PeerId) (m : MessageValue) (close : Did) (past : List Seen) (sample : Sampled) → (m.kind ≡ AdjTime) ⊎ (taken begun ≡ None) → closed begun ≡ Here close ∷ past → best p past ≡ Some sample →
-    AnswersSlaveUp begun p m ⊎ AtClose first begun p m → Used first begun p m close past sample
-used-by first begun p m close past sample (inl kind) close_is best_is (inl s) = let bad : ⊥ = (let k = sym kind ∙ s.sets in cc) in absurd bad
-used-by first begun p m close past sample (inr none) close_is best_is (inl s) = let bad : ⊥ = (let k = sym none ∙ s.took in cc) in absurd bad
-used-by first begun p m close past sample none close_is best_is (inr a) =
+pub begun-by : (first : Did) (begun : List Seen) (p : PeerId) (m : MessageValue) (close : Did) (past : List Seen) → (m.kind ≡ AdjTime) ⊎ (taken begun ≡ None) →
+    closed begun ≡ Here close ∷ past → AnswersSlaveUp begun p m ⊎ AtClose first begun p m → (sample : Sampled) × Used first begun p m close past sample
+begun-by first begun p m close past (inl kind) close_is (inl s) = let bad : ⊥ = (let k = sym kind ∙ s.sets in cc) in absurd bad
+begun-by first begun p m close past (inr none) close_is (inl s) = let bad : ⊥ = (let k = sym none ∙ s.took in cc) in absurd bad
+begun-by first begun p m close past none close_is (inr a) =
     let both : Here a.close ∷ a.past ≡ Here close ∷ past = sym a.is.is ∙ close_is in
     let did_is : a.close ≡ close = cc in
     let past_is : a.past ≡ past = cc in
-    let same : a.sample ≡ sample = some-is a.sample sample (sym a.is.best_is ∙ (ap (best p) past_is ∙ best_is)) in
-    record { mean = a.mean; from = subst (λ z. FromClose first begun p m close past a.mean z) same (subst₂ (λ y z. FromClose first begun p m y z a.mean a.sample) did_is past_is a.is) }
+    (a.sample, record { mean = a.mean; from = subst₂ (λ y z. FromClose first begun p m y z a.mean a.sample) did_is past_is a.is })
+
+pub used-by : (first : Did) (begun : List Seen) (p : PeerId) (m : MessageValue) (close : Did) (past : List Seen) (sample : Sampled) →
+    (m.kind ≡ AdjTime) ⊎ (taken begun ≡ None) → closed begun ≡ Here close ∷ past → best p past ≡ Some sample →
+    AnswersSlaveUp begun p m ⊎ AtClose first begun p m → Used first begun p m close past sample
+used-by first begun p m close past sample none close_is best_is from =
+    let u = begun-by first begun p m close past none close_is from in
+    subst (λ z. Used first begun p m close past z) (some-is u.0 sample (sym u.1.from.best_is ∙ best_is)) u.1
 
 -- where the send begins and what its beginning owes; and the clock was moved as it says
 pub record BegunFacts (m : ℕ) (c : Line) (past : List Line) (t : Taking m c past) : Type 0 where
@@ -129,19 +135,6 @@ begun_facts setting m c past f t =
       fits = subst₂ (λ y z. BeginFits y z (peer_of k) b.message) first_is begun_is (fits.begins s.sends.begins);
     }
 
--- besides, what is taken is at most LIFE old
-pub record TakenFacts (m : ℕ) (c : Line) (past : List Line) (t : Taking m c past) : Type 0 where
-  pub begun : BegunFacts m c past t
-  pub life : c.did.step.at ≤ t.post.did.step.at + LIFE
-
-pub taken_facts : (setting : Setting) (m : ℕ) (c : Line) (past : List Line) → Given setting (c ∷ past) → (t : Taking m c past) → TakenFacts m c past t
-taken_facts setting m c past g t =
-    let b = t.acts.brings in
-    record {
-      begun = begun_facts setting m c past g.fits t;
-      life = g.life.0 t.post t.before (Peer (peer_of (node_of c))) (Message b.message) b.place b.deed b.cause;
-    }
-
 -- with the reading on which it rests
 pub record ReadFacts (setting : Setting) (m : ℕ) (c : Line) (past : List Line) (t : Taking m c past) (close : Line) (cpast : List Line) (r : Line) (older : List Line) (sample : Sampled) : Type 0 where
   pub used : Used t.first t.begun (peer_of (node_of c)) t.acts.brings.message close.did (view t.post.port (of m cpast)) sample
@@ -149,34 +142,35 @@ pub record ReadFacts (setting : Setting) (m : ℕ) (c : Line) (past : List Line)
   pub reads : Within (r ∷ older) past
   pub kept : Kept (dids (of (node_of c) (r ∷ older))) (dids (of (node_of c) past))
 
-pub read_facts : (setting : Setting) (m : ℕ) (c : Line) (past : List Line) → Given setting (c ∷ past) → (t : Taking m c past) → TakenFacts m c past t → (close : Line) (cpast : List Line) (r : Line) (older : List Line) →
+pub read_facts : (setting : Setting) (m : ℕ) (c : Line) (past : List Line) → Given setting (c ∷ past) → (t : Taking m c past) → BegunFacts m c past t →
+    (close : Line) (cpast : List Line) (r : Line) (older : List Line) →
     (x : FromReading m c past t close cpast r older) → ReadFacts setting m c past t close cpast r older x.sample
 read_facts setting m c past g t d close cpast r older x =
     let k = node_of c in
     let q = t.post.port in
-    let used = used-by t.first t.begun (peer_of k) t.acts.brings.message close.did (view q (of m cpast)) x.sample x.none x.close_is x.best_is d.begun.fits.from in
+    let b = t.acts.brings in
+    let used = used-by t.first t.begun (peer_of k) t.acts.brings.message close.did (view q (of m cpast)) x.sample x.none x.close_is x.best_is d.fits.from in
     let u = used.from in
     let rd = x.reading in
     let gs = given_at setting (rd.line ∷ rd.before) (c ∷ past) g (inr rd.at) in
     let fc = fits_at setting (close ∷ cpast) past g.fits.1 x.closes in
     let read = read_at setting m k q rd.line r rd.before cpast older x.sample u.start u.idle rd.to rd.datagram gs.fits gs.honest gs.life fc.1 rd.node rd.port u.best_is rd.is rd.reads rd.takes rd.deed u.start_is u.undisturbed in
-    let first_at : d.begun.begins.first.step.at ≡ t.first.step.at = ap (λ (z : Did). z.step.at) d.begun.first_is in
+    let first_at : d.begins.first.step.at ≡ t.first.step.at = ap (λ (z : Did). z.step.at) d.first_is in
     let round = round-soon setting m q close cpast past u.start u.idle g.fits.1 x.closes x.close_node u.start_is u.soon in
-    let time : c.did.step.at ≤ r.did.step.at + 65000000 = (let p = d.begun.begins.soon in let l = d.life in let o = u.at in let s = read.after in omega arith) in
+    let time : c.did.step.at ≤ r.did.step.at + 65000000 =
+    (let p = d.begins.soon in let l = g.life.0 t.post t.before (Peer (peer_of k))
+    (Message b.message) b.place b.deed b.cause in let o = u.at in let s = read.after in omega arith) in
     let reads : Within (r ∷ older) past = Within-through (r ∷ older) rd.before past rd.reads (Within-tail rd.line rd.before past rd.at) in
-    let same : ticket (dids (of k older)) ≡ ticket (dids (of k past)) = sym read.number ∙ (sym u.number ∙ d.begun.acting.number) in
+    let same : ticket (dids (of k older)) ≡ ticket (dids (of k past)) = sym read.number ∙ (sym u.number ∙ d.acting.number) in
     record {
       used = used;
       read = read;
       reads = reads;
-      kept = first_after setting k c r past older rd.to rd.datagram g.fits refl read.node rd.deed reads d.begun.acting.rested same time;
+      kept = first_after setting k c r past older rd.to rd.datagram g.fits refl read.node rd.deed reads d.acting.rested same time;
     }
 
 pub corrects-adj : (k : Kind) → k ≡ AdjTime → is_correction k ≡ true
 corrects-adj k e = ap is_correction e
-
-one-kind : (m n : MessageValue) → n ≡ m → m.kind ≡ AdjTime → n.kind ≡ AdjTime
-one-kind m n e k = ap (λ (z : MessageValue). z.kind) e ∙ k
 
 -- what a FromRound's Correct takes is an ADJTIME, as the beginning of its send is
 pub cast_kind : (setting : Setting) (m : ℕ) (close : Line) (cpast : List Line) (c : Line) (past : List Line) (r : Line) (rolder : List Line) (err : ℤ) → Fits setting (c ∷ past) → (x : FromRound m close cpast c past r rolder err) → x.acts.brings.message.kind ≡ AdjTime
@@ -186,7 +180,7 @@ cast_kind setting m close cpast c past r rolder err f x =
     let s = send_place setting (node_of x.post) k x.post x.before b.message (fits_at setting (x.post ∷ x.before) past f.1 b.place) refl b.deed (numbered-by k x.post x.before x.first x.begun b.message x.of_send b.deed) in
     let both : Here s.first ∷ view x.post.port (of (node_of x.post) s.fw) ≡ Here x.first ∷ x.begun = sym s.is ∙ x.of_send.is in
     let first_is : s.first ≡ x.first = cc in
-    one-kind x.message b.message (posts-same k k b.message x.message (sym s.sends.deed ∙ (ap (λ (z : Did). z.deed) first_is ∙ x.begins))).1 x.kind
+    ap (λ (z : MessageValue). z.kind) (posts-same k k b.message x.message (sym s.sends.deed ∙ (ap (λ (z : Did). z.deed) first_is ∙ x.begins))).1 ∙ x.kind
 
 -- a FromRound takes a correction
 abbrev pub taking_of : {m : ℕ} {close c r : Line} {cpast past rolder : List Line} {err : ℤ}
@@ -234,25 +228,6 @@ pub record Met (setting : Setting) (m k : ℕ) (cpast : List Line) (mean : ℤ) 
 pub amount-adj : (c : Line) (past : List Line) (post : Line) (amount : ℤ) (m : MessageValue) → Acting c past post amount m → m.kind ≡ AdjTime → amount ≡ time_in m.body
 amount-adj c past post amount m a kind = a.takes.amount_is ∙ ap (λ k. amount_of k (time_in m.body) (target (plain (view c.port (of (node_of c) past))) c.did.tick)) kind
 
-met-with : (setting : Setting) (m : ℕ) (close : Line) (cpast : List Line) (c : Line) (past : List Line) (r : Line) (rolder : List Line) (err : ℤ) (x : FromRound m close cpast c past r rolder err) (kind : x.acts.brings.message.kind ≡ AdjTime) →
-    TakenFacts m c past (taking_of x kind) → (d : ReadFacts setting m c past (taking_of x kind) close cpast r rolder x.sample) →
-    Met setting m (node_of c) cpast d.used.mean c past r rolder err
-met-with setting m close cpast c past r rolder err x kind t d =
-    let k = node_of c in
-    record {
-      diff = x.sample.diff;
-      amount = x.acts.amount;
-      stepped = x.acts.stepped;
-      shown = x.acts.shown;
-      amount_is = amount-adj c past x.post x.acts.amount x.acts.brings.message t.begun.acting kind ∙ d.used.from.value kind;
-      deed = x.acts.correct;
-      error = subst (λ e. pos (nat_abs (x.sample.diff -ℤ (clock setting k (r ∷ rolder) -ℤ clock setting m (r ∷ rolder)))) ≤ℤ e) x.err_is d.read.error;
-      moved_m = d.read.moved_m;
-      moved_k = d.kept.moved;
-      kept_k = d.kept.undisturbed;
-      reads = d.reads;
-    }
-
 -- a FromRound and all that is known of it
 pub record Whole (setting : Setting) (m : ℕ) (close : Line) (cpast : List Line) (c : Line) (past : List Line) (r : Line) (rolder : List Line) (err : ℤ) : Type 0 where
   pub mean : ℤ
@@ -268,15 +243,28 @@ pub record Whole (setting : Setting) (m : ℕ) (close : Line) (cpast : List Line
 
 pub whole : (setting : Setting) (m : ℕ) (close : Line) (cpast : List Line) (c : Line) (past : List Line) (r : Line) (rolder : List Line) (err : ℤ) → Given setting (c ∷ past) → FromRound m close cpast c past r rolder err → Whole setting m close cpast c past r rolder err
 whole setting m close cpast c past r rolder err g x =
+    let k = node_of c in
     let kind = cast_kind setting m close cpast c past r rolder err g.fits x in
     let taking = taking_of x kind in
-    let t = taken_facts setting m c past g taking in
+    let t = begun_facts setting m c past g.fits taking in
     let d = read_facts setting m c past g taking t close cpast r rolder (reading_of x kind) in
     let u = d.used.from in
-    let s = t.begun.begins in
+    let s = t.begins in
     record {
       mean = d.used.mean;
-      met = met-with setting m close cpast c past r rolder err x kind t d;
+      met = record {
+        diff = x.sample.diff;
+        amount = x.acts.amount;
+        stepped = x.acts.stepped;
+        shown = x.acts.shown;
+        amount_is = amount-adj c past x.post x.acts.amount x.acts.brings.message t.acting kind ∙ u.value kind;
+        deed = x.acts.correct;
+        error = subst (λ e. pos (nat_abs (x.sample.diff -ℤ (clock setting k (r ∷ rolder) -ℤ clock setting m (r ∷ rolder)))) ≤ℤ e) x.err_is d.read.error;
+        moved_m = d.read.moved_m;
+        moved_k = d.kept.moved;
+        kept_k = d.kept.undisturbed;
+        reads = d.reads;
+      };
       count = u.count;
       lo = u.lo;
       size = u.size;
@@ -284,5 +272,5 @@ whole setting m close cpast c past r rolder err g x =
       port = x.post.port;
       fw = s.fw;
       fw_in = Within-tail (line_on x.post.port s.first) s.fw past (Within-through (line_on x.post.port s.first ∷ s.fw) (x.post ∷ x.before) past s.place x.acts.brings.place);
-      followed = subst (λ w. (d.used.mean ≡ pos 0) ⊎ FollowedBy close.did (view x.post.port (of m cpast)) w d.used.mean) (sym t.begun.begun_is) u.followed;
+      followed = subst (λ w. (d.used.mean ≡ pos 0) ⊎ FollowedBy close.did (view x.post.port (of m cpast)) w d.used.mean) (sym t.begun_is) u.followed;
     }

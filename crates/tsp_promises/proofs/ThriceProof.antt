@@ -47,29 +47,22 @@ open-had p seen first older e = elim (counted p seen) [
   | inr same ↦ same
 ]
 
-sent-begins : (p : PeerId) (m : MessageValue) (post : Did) (before : List Seen) → post.deed ≡ Acts (Post (Peer p) (Message m)) → is_numbered m.kind ≡ true → acting before ≡ true → sent p (Here post ∷ before) ≡ 1
-sent-begins p m post before is kind acts =
-    let e : (p.0 == p.0) ≡ true = eq-eqb p.0 p.0 refl in
-    rw is (rw (e, kind, acts) refl)
-
-sent-again : (p : PeerId) (m : MessageValue) (post : Did) (before : List Seen) → post.deed ≡ Acts (Post (Peer p) (Message m)) → is_numbered m.kind ≡ true → acting before ≡ false → sent p (Here post ∷ before) ≡ sent p before + 1
-sent-again p m post before is kind acts =
-    let e : (p.0 == p.0) ≡ true = eq-eqb p.0 p.0 refl in
-    rw is (rw (e, kind, acts) refl)
-
 few-posts : (p : PeerId) (m : MessageValue) (post : Did) (before : List Seen) → post.deed ≡ Acts (Post (Peer p) (Message m)) → is_numbered m.kind ≡ true → (acting before ≡ false → RepeatFits post before p m) → sent p (Here post ∷ before) ≤ TRIES
 few-posts p m post before is kind repeats = by-case (acting before) refl where
   by-case : (b : Bool) → acting before ≡ b → sent p (Here post ∷ before) ≤ TRIES
-  by-case true e = let one = sent-begins p m post before is kind e in omega (arith, one)
+  by-case true e =
+      let one : sent p (Here post ∷ before) ≡ 1 = rw is (rw (eq-eqb p.0 p.0 refl, kind, e) refl) in
+      omega (arith, one)
   by-case false e =
       let h = repeats e in
-      let more = sent-again p m post before is kind e in
+      let more : sent p (Here post ∷ before) ≡ sent p before + 1 = rw is (rw (eq-eqb p.0 p.0 refl, kind, e) refl) in
       let had = open-had p before h.first h.older h.is in
       let few = h.few in
       omega (arith, more, had, few)
 
-thrice_at : (setting : Setting) (l : Line) (world : List Line) → Fits setting (l ∷ world) → ThriceAt l world
-thrice_at setting l world f p m is kind =
+pub thrice : (setting : Setting) (world : List Line) → Fits setting world → Thrice world
+thrice setting whole h = Everywhere-from ThriceAt whole (λ l world w p m is kind.
+    let f = fits_at setting (l ∷ world) whole h w in
     let n = node_of l in
     let s = send_place setting n p.0 l world m f refl is kind in
     let seen : view l.port (of n (l ∷ world)) ≡ Here l.did ∷ view l.port (of n world) = view-line n l world refl in
@@ -84,7 +77,4 @@ thrice_at setting l world f p m is kind =
       same = s.sends.deed ∙ sym is;
       soon = s.ticks;
       few = subst (λ k. sent p k ≤ TRIES) (sym seen) (few-posts p m l.did (view l.port (of n world)) is kind (repeats_in setting n l world p m f.0 refl is kind));
-    }
-
-pub thrice : (setting : Setting) (world : List Line) → Fits setting world → Thrice world
-thrice setting world f = Everywhere-from ThriceAt world (λ l s w. thrice_at setting l s (fits_at setting (l ∷ s) world f w))
+    })

@@ -1,18 +1,18 @@
 -- What stands behind a Backer: the ACCEPT that was taken, the Back in its step, and the ELECTION that it answers.
-use Rattle.std.proofs.Common.{sym, ap, arith, subst, subst₂, inl, inr, ◌∙◌, ◌≡◌, ◌≤◌, ◌<◌, ℕ, ◌+◌, ◌%◌, true, false, List, ◌∷◌, Some, refl}
-use Rattle.std.proofs.lemmas.Bool.{cases_lt}
+use Rattle.std.proofs.Common.{sym, ap, arith, subst, subst₂, inl, inr, ◌∙◌, ◌≡◌, ◌≤◌, ◌<◌, ◌⊎◌, ℕ, ◌+◌, ◌%◌, true, false, List, [], ◌∷◌, Option, Some, refl}
 use Rattle.tsp_rules.specs.Values.{Post, Back, Backer, Message, Accept, Election, PeerId, Peer, Port, LAST, LIFE}
-use Rattle.tsp_base.specs.Words.{Step, Acts, Did, Line, Seen, Here, of, dids, view, is_shared, MessageValue, boot_tick, lives, lives_after, time_of, word, Within, acting, stood, stood_after, begun, is_numbered, Receives, peer_of, tick_at, Setup}
+use Rattle.tsp_base.specs.Words.{Deed, Begins, Step, Acts, Did, Line, Seen, Here, of, dids, view, is_shared, MessageValue, boot_tick, lives, lives_after, word}
+use Rattle.tsp_base.specs.Words.{Within, acting, stood, stood_after, begun, is_numbered, Receives, peer_of, tick_at, Setup}
 use Rattle.tsp_base.proofs.{PlaceLemmas.Within-all, PlaceLemmas.Within-through, PlaceLemmas.Within-tail, Views.plain_view}
 use Rattle.tsp_promises.specs.Premises.{Few, FewAt, Honest, HonestAt, Life, TakenWithinAt}
-use Rattle.tsp_promises.proofs.ElectionFacts.{Asks, begun_asks, asks_life, one_asking, open_at, boots, boots_after, boots_view}
+use Rattle.tsp_promises.proofs.ElectionFacts.{Asks, begun_asks, asks_life, one_asking, open_at, boots, boots_view}
 use Rattle.tsp_promises.proofs.OwnFitsProof.{locate, view-line, seen_in, tick_in, deed_fits, own_fits, fits_at, place-time}
-use Rattle.tsp_promises.specs.{Fits.Fits, Fits.SameStep, Fits.node_of, Setting.Network, Setting.Setting, Setting.setup_of, StepFacts.backed}
-use Rattle.tsp_promises.specs.{DeedFits.MessageFits, DeedFits.ElectionFits, HoldFits.AcceptFits, HoldFits.BackerFits}
 use Rattle.tsp_promises.proofs.Elections.{AskFits, VoteFits, ElectFits, ElectsAt, Elects}
-use Rattle.tsp_promises.proofs.{HistoryPlaces.line_on, HistoryPlaces.Within-of, HistoryPlaces.lift, HistoryPlaces.own_in, SinceProof.since}
-use Rattle.tsp_promises.proofs.{KnownProof.in-step, KnownProof.known, KnownProof.own-in-step, SendProof.opened, SendProof.send_is}
-use Rattle.tsp_promises.proofs.{BackedProof.back_at, Clocks.near, EverywhereLemmas.Everywhere-at, EverywhereLemmas.Everywhere-within}
+use Rattle.tsp_promises.proofs.KnownProof.{GoesOn, StepAt, in-step, known, own-in-step, port_split, step_at}
+use Rattle.tsp_promises.specs.{Fits.Fits, Fits.SameStep, Fits.node_of, Setting.Network, Setting.Setting, Setting.setup_of, StepFacts.backed}
+use Rattle.tsp_promises.specs.{StepFacts.backed_after, DeedFits.MessageFits, DeedFits.ElectionFits, HoldFits.AcceptFits, HoldFits.BackerFits, OwnFits.OwnFits}
+use Rattle.tsp_promises.proofs.{HistoryPlaces.line_on, HistoryPlaces.Within-of, HistoryPlaces.lift, HistoryPlaces.own_in, SinceProof.since, Clocks.near}
+use Rattle.tsp_promises.proofs.{EverywhereLemmas.Everywhere-at, EverywhereLemmas.Everywhere-within, SendProof.opened, SendProof.send_is}
 
 -- a history that fits, also as elections ask, under their premises
 pub record Polled (setting : Setting) (world : List Line) : Type 0 where
@@ -68,8 +68,8 @@ vote_of setting a q x xo p answer w node deed took kind =
     let wy = polled_at setting (k.post ∷ k.older) xo wx k.place in
     let acc = accept_fits setting k.post k.older (peer_of x.step.node) answer wy.elects.0 k.deed kind in
     let j = known setting k.post k.older (Post (Peer (peer_of x.step.node)) (Message answer)) (peer_of x.step.node) (Message acc.message) wy.fits wy.honest k.deed acc.took in
-    let asker : node_of j.post ≡ x.step.node = ap (λ (z : PeerId). z.0) j.node in
-    let net : setting.net (node_of j.post) j.post.port ≡ setting.net x.step.node q = j.net ∙ k.net in
+    let asker : node_of j.post ≡ x.step.node = ap (λ (z : PeerId). z.0) {x = peer_of (node_of j.post)} j.node in
+    let net : setting.net (node_of j.post) j.post.port ≡ setting.net x.step.node q = ◌∙◌ {a = setting.net (node_of j.post) j.post.port} j.net k.net in
     record {
       y = k.post;
       yo = k.older;
@@ -83,7 +83,7 @@ vote_of setting a q x xo p answer w node deed took kind =
       e = j.post;
       eo = j.older;
       e_in = j.place;
-      asker = asker ∙ node;
+      asker = ◌∙◌ {a = node_of j.post} asker node;
       port = setting.apart x.step.node j.post.port q (subst (λ n. setting.net n j.post.port ≡ setting.net x.step.node q) asker net);
       elect = acc.message;
       asks = j.deed;
@@ -103,22 +103,40 @@ pub record Backed (setting : Setting) (c a : ℕ) (net : Network) (from upto : �
   pub after : from ≤ line.did.step.at + 3
   pub by : line.did.step.at ≤ upto
 
+-- where the Back stands of the candidate that a step has backed
+back_at : (setting : Setting) (q : Port) (p : PeerId) (t : List Line) → OwnFits setting t → backed (view q t) ≡ Some p →
+    StepAt (λ l. (l.port ≡ q) × (l.did.deed ≡ Acts (Back p))) t
+back_at setting q p t f e = step_at setting _ (λ t. backed (view q t) ≡ Some p) t f none split e where
+  none : backed [] ≡ Some p → ⊥
+  none e = cc
+
+  by-deed : (deed : Deed) (o : Option PeerId) → backed_after deed o ≡ Some p → (deed ≡ Acts (Back p)) ⊎ (GoesOn deed × (o ≡ Some p))
+  by-deed Begins o e = let bad : ⊥ = cc in absurd bad
+  by-deed (Acts (Back r)) o e = let same : r ≡ p = cc in inl (ap (λ (z : PeerId). Acts (Back z)) same)
+  by-deed (Acts a) o e = inr ((a, refl), e)
+
+  split : (l : Line) (t : List Line) → backed (view q (l ∷ t)) ≡ Some p →
+      ((l.port ≡ q) × (l.did.deed ≡ Acts (Back p))) ⊎ (GoesOn l.did.deed × (backed (view q t) ≡ Some p))
+  split l t e = port_split q (Back p) (λ s. backed s ≡ Some p) l t refl (λ e. by-deed l.did.deed (backed (view q t)) e) (λ e. e) e
+
 -- the Back in the step of an ACCEPT
 pub back_of : (setting : Setting) (a : ℕ) (net : Network) (from upto : ℕ) (y : Line) (yo world : List Line) (answer : MessageValue) → Fits setting world → Within (y ∷ yo) world → y.did.deed ≡ Acts (Post (Peer (peer_of a)) (Message answer)) →
     backed (view y.port (of (node_of y) yo)) ≡ Some (peer_of a) → setting.net (node_of y) y.port ≡ net → from ≤ y.did.step.at → y.did.step.at ≤ upto → Backed setting (node_of y) a net from upto world
 back_of setting a net from upto y yo world answer f w deed backs net_is after by =
     let fy = fits_at setting (y ∷ yo) world f w in
     let own = own_fits setting (node_of y) yo fy.1 in
-    let b = back_at setting y.port (of (node_of y) yo) (peer_of a) own backs in
-    let x = lift (node_of y) yo (line_on y.port b.did) b.rest b.place in
-    let step : b.did.step ≡ y.did.step = b.step y.did.step (own-in-step (node_of y) y.did.step yo refl (in-step (Post (Peer (peer_of a)) (Message answer)) y.did.step yo (subst (λ k. SameStep k y.did.step (dids yo)) deed fy.0.step))) in
+    let b = back_at setting y.port (peer_of a) (of (node_of y) yo) own backs in
+    let x = lift (node_of y) yo b.line b.rest b.place in
+    let same = subst (λ k. SameStep k y.did.step (dids yo)) deed fy.0.step in
+    let in_step = in-step (Post (Peer (peer_of a)) (Message answer)) y.did.step yo same in
+    let step : b.line.did.step ≡ y.did.step = b.step y.did.step (own-in-step (node_of y) y.did.step yo refl in_step) in
     record {
-      line = line_on y.port b.did;
+      line = b.line;
       older = x.world;
-      place = Within-through (line_on y.port b.did ∷ x.world) yo world x.place (Within-tail y yo world w);
+      place = Within-through (b.line ∷ x.world) yo world x.place (Within-tail y yo world w);
       node = x.node;
-      deed = b.deed;
-      net_is = net_is;
+      deed = b.is.1;
+      net_is = ap (setting.net (node_of y)) b.is.0 ∙ net_is;
       after = (let t = ap (λ (s : Step). s.at) step in omega (arith, t, after));
       by = (let t = ap (λ (s : Step). s.at) step in omega (arith, t, by));
     }
@@ -205,7 +223,7 @@ open_place a q who x xo p vs start idle seen b stands own =
     let o = open_at p b.past b.first b.older b.ends in
     let k = opened p b.past b.first b.older b.ends in
     let acked : stood_after b.acked.deed (Here b.acked ∷ b.past) (stood b.past) ≡ stood b.past = ap (λ d. stood_after d (Here b.acked ∷ b.past) (stood b.past)) b.deed in
-    let still : boots_after b.acked.deed (boots b.past) ≡ boots b.past = ap (λ d. boots_after d (boots b.past)) b.deed in
+    let still : lives_after b.acked.deed (boots b.past) ≡ boots b.past = ap (λ d. lives_after d (boots b.past)) b.deed in
     let role : stood b.past ≡ Here start ∷ idle = sym acked ∙ (ap stood (sym b.is) ∙ stands) in
     let in_vs : Within (Here b.first ∷ b.older) vs = subst (λ s. Within (Here b.first ∷ b.older) s) (sym b.is) (inr o.place) in
     let in_xo : Within (Here b.first ∷ b.older) (view q (of a xo)) = subst (λ s. Within (Here b.first ∷ b.older) s) (sym seen) in_vs in
@@ -239,13 +257,20 @@ asked_late setting a q x xo p number start w node rested v o =
     let g = ask_place setting a q v.e v.eo p v.elect we.fits v.asker v.port asks v.kind in
     let g_in : Within (line_on q g.g ∷ g.gw) xo = Within-through (line_on q g.g ∷ g.gw) (v.e ∷ v.eo) xo g.place e_in in
     let own = own_fits setting a xo wx.fits in
-    let i = since setting (of a g.gw) (of a xo) own (Within-of a g.gw xo (Within-tail (line_on q g.g) g.gw xo g_in)) in
+    let i = since setting (line_on q g.g ∷ of a g.gw) (of a xo) own (own_in a (line_on q g.g) g.gw xo g.node g_in) in
     let late : g.g.step.at ≤ v.e.did.step.at = place-time setting (line_on q g.g ∷ g.gw) (v.e ∷ v.eo) we.fits g.place in
-    elim (cases_lt (lives (dids (of a g.gw))) (lives (dids (of a xo)))) [
-      | inl less ↦ absurd (long-ago setting a q x xo v.e v.eo g.g g.gw v.y wx.fits w.fits node rested v.asker v.port e_in g_in g.node (ap (λ d. lives_after d (lives (dids (of a g.gw)))) g.deed) less g.soon v.early v.soon (place-time setting (v.y ∷ v.yo) xo wx.fits v.y_in))
-      | inr none ↦
-          let same : lives (dids (of a g.gw)) ≡ lives (dids (of a xo)) = (let l = i.lives in omega (arith, l, none)) in
-          let one = same_asking setting a q p g.g o.f g.gw o.fw xo v.elect o.message wx g_in o.place g.node o.node g.deed o.deed v.kind o.kind g.begins o.begins (v.number_is ∙ sym o.number_is) same o.life in
+    elim i.life [
+      | inr new ↦
+          let tick_e = tick_in setting a v.e v.eo xo wx.fits v.asker e_in in
+          let tick_x : x.tick ≡ tick_at (setting.rate a) x.step.at = subst (λ n. x.tick ≡ tick_at (setting.rate n) x.step.at) node w.fits.0.tick in
+          let e_by = place-time setting (v.e ∷ v.eo) xo wx.fits e_in in
+          let n = near setting a v.e.did.step.at x.step.at (omega (arith, w.fits.0.order, e_by)) in
+          absurd (omega (arith, new.boot, rested, g.soon, v.early, v.soon, tick_e, tick_x, n.most))
+      | inl one ↦
+          let same : lives (dids (of a g.gw)) ≡ lives (dids (of a xo)) = sym (ap (λ d. lives_after d (lives (dids (of a g.gw)))) g.deed) ∙ one.lives in
+          let asking =
+          same_asking setting a q p g.g o.f g.gw o.fw xo v.elect o.message wx g_in o.place g.node o.node g.deed o.deed v.kind o.kind g.begins o.begins
+          (v.number_is ∙ sym o.number_is) same o.life in
           let did : g.g ≡ o.f = cc in
           let at : g.g.step.at ≡ o.f.step.at = ap (λ (d : Did). d.step.at) did in
           let wf = polled_at setting (line_on q o.f ∷ o.fw) xo wx o.place in
@@ -253,20 +278,3 @@ asked_late setting a q x xo p number start w node rested v o =
           let order = wf.fits.0.order in
           omega (arith, early, order, at, late)
     ]
-  where
-    long-ago : (setting : Setting) (a : ℕ) (q : Port) (x : Did) (xo : List Line) (e : Line) (eo : List Line) (g : Did) (gw : List Line) (y : Line) → Fits setting xo → Fits setting (line_on q x ∷ xo) → x.step.node ≡ a → boot_tick (dids (of a xo)) + 290000000 ≤ x.tick →
-        node_of e ≡ a → e.port ≡ q → Within (e ∷ eo) xo → Within (line_on q g ∷ gw) xo → g.step.node ≡ a → lives_after g.deed (lives (dids (of a gw))) ≡ lives (dids (of a gw)) → lives (dids (of a gw)) < lives (dids (of a xo)) → e.did.tick ≤ g.tick + LAST →
-        y.did.step.at ≤ e.did.step.at + LIFE → x.step.at ≤ y.did.step.at + LIFE → y.did.step.at ≤ time_of (dids xo) → ⊥
-    long-ago setting a q x xo e eo g gw y f fx node rested e_node e_port e_in g_in g_node post less soon early later y_by =
-        let own = own_fits setting a xo f in
-        let i = since setting (line_on q g ∷ of a gw) (of a xo) own (own_in a (line_on q g) gw xo g_node g_in) in
-        let tick_e = tick_in setting a e eo xo f e_node e_in in
-        let tick_x : x.tick ≡ tick_at (setting.rate a) x.step.at = subst (λ n. x.tick ≡ tick_at (setting.rate n) x.step.at) node fx.0.tick in
-        let order = fx.0.order in
-        let e_by = place-time setting (e ∷ eo) xo f e_in in
-        let n = near setting a e.did.step.at x.step.at (omega (arith, order, e_by)) in
-        let most = n.most in
-        elim i.life [
-          | inl one ↦ (let k = one.lives in omega (arith, k, post, less))
-          | inr new ↦ (let k = new.boot in omega (arith, k, rested, soon, early, later, tick_e, tick_x, most))
-        ]

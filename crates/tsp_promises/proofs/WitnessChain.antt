@@ -1,6 +1,5 @@
--- A relayed clock, and a row of four nodes. Node 1 follows node 0 by one port and leads node 3 by another: a round of
--- node 0 corrects it, and then a round of its own
--- corrects node 3. That one leads a network too, and corrects node 2.
+-- A relayed clock, and a row of four nodes. Node 1 follows node 0 by one port and leads node 3 by another: a round of node 0 corrects it, and a
+-- round of its own then corrects node 3. That one leads a network too, and corrects node 2.
 use Rattle.std.proofs.Common.{ap, arith, ℕ, true, false, pos, negsuc, List, [], ◌∷◌, refl}
 use Rattle.tsp_rules.specs.Values.{Post, Arm, Ring, Close, Correct, Round, CloseAlarm, Message, Stamp, AdjTime, SetTime, TimeBody, Peer, Port, Request}
 use Rattle.tsp_base.specs.Words.{Line, ReplyValue, peer_of}
@@ -108,33 +107,30 @@ row_steps =
     acked (at 1008000700 3 1) 20 2 14 ∷
     []
 
--- the history after so many steps
-abbrev row : ℕ → List Line
-row k = after k row_steps (relay 27)
-
-row-fits : Fits (still false) (row 13)
-row-fits = stages-fit false 13 row_steps (relay 27) relay-fits refl (search debts)
-
 abbrev last-hop : Hop
-last-hop = hop_in (row 13) 4 8 14 (pos 401)
+last-hop = hop_in (after 13 row_steps (relay 27)) 4 8 14 (pos 401)
 
-last-round : Corrects 3 last-hop
-last-round = corrects-at last-hop (spot 6 (skip 5 (row 13)) refl) (search arith)
-
-two : IsChain near-hop (far-hop ∷ []) (row 13)
+two : IsChain near-hop (far-hop ∷ []) (after 13 row_steps (relay 27))
 two = (record { from_round = far-round; unchanged = untouched refl refl refl }, skipped 16 (skip 9 (relay 27)), tt)
 
 -- a row of four nodes
 pub chain_use : ChainUse
 chain_use = record {
-  history = kept-by false (row 13) row-fits refl refl refl refl;
+  history = kept-by false (after 13 row_steps (relay 27)) (stages-fit false 13 row_steps (relay 27) relay-fits refl (search debts)) refl refl refl refl;
   master = 0;
   first = near-hop;
   rest = last-hop ∷ (far-hop ∷ []);
   begins = record { from_round = near-round; unchanged = untouched refl refl refl };
-  chain = (record { from_round = last-round; unchanged = untouched refl refl refl }, skipped 38 (skip 9 (row 13)), two);
+  chain = (
+    record {
+      from_round = corrects-at last-hop (spot 6 (skip 5 (after 13 row_steps (relay 27))) refl) (search arith);
+      unchanged = untouched refl refl refl;
+    },
+    skipped 38 (skip 9 (after 13 row_steps (relay 27))),
+    two,
+  );
   long = omega arith;
-  left_alone = but_for (spot 72 (row 13) refl) refl refl refl refl refl;
+  left_alone = but_for (spot 72 (after 13 row_steps (relay 27)) refl) refl refl refl refl refl;
   other = far-hop ∷ [];
   other_chain = two;
   apart = not-same 2 3 (omega arith);

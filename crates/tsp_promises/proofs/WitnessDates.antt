@@ -1,14 +1,13 @@
--- Dates and LOOPs. A client's date, which a follower passes to its master; then a second one in the master's next
--- life, or one with forged octets, after which the first is
--- set again. And a LOOP that comes back: node 1 leads on both of its ports, node 2 passes its LOOP on to the network
--- that it shares with node 3, and that one back.
+-- Dates and LOOPs. A follower passes a client's date on to its master, which sets it. Then either another date comes in the master's next life,
+-- or one in forged octets, after which the first is set again. And a LOOP comes back: node 1 leads on both of its ports, node 2 passes its LOOP on
+-- to the network that it shares with node 3, and that one back.
 use Rattle.std.proofs.Common.{sym, ap, arith, subst, inl, inr, true≢false, eq-eqb, cond, ◌∙◌, ◌≡◌, ◌≢◌, ◌≤◌, ◌==◌, ◌<◌, Bool, ℕ, ◌+◌, ◌-◌, ◌-ℤ◌, Option, None, Some, true, false, ℤ, pos, negsuc, List, [], ◌∷◌, refl}
 use Rattle.tsp_rules.specs.Values.{Took, Post, Become, Correct, Acked, Ring, Back, Window, Elect, Message, Good, Ack, Date, DateAck, SetDateReq, LoopKind, Hops, Nothing, TimeBody, PeerId, Peer, Stranger, Loose, Follow, Candidate, Master, DATEHOLD}
 use Rattle.tsp_base.specs.Words.{Acts, Came, Did, Handed, Here, Turned, Line, MessageValue, Seen, Setup, Dating, Receives, is_date_request, last_date, plain, role, sets_date, taken, target, time_in, of, view, peer_of}
 use Rattle.tsp_promises.proofs.Histories.{does, line, msg, named_msg, on, skip, skipped, step_at, still}
 use Rattle.tsp_promises.proofs.HistoriesFit.{Stage, after, at, stages-fit, skip-fits, ◌also◌, boots, turns, takes, hands, stands, wins, all-finished}
 use Rattle.tsp_promises.specs.{CorrectFits.ByDate, CorrectFits.WhyCorrect, Uses.DateUse, Uses.DatedUse, Uses.ForgedDate, Uses.LoopUse}
-use Rattle.tsp_promises.specs.{DateFits.AnswersPassedOn, Fits.Fits, Fits.node_of, Looped.GivesUp, Looped.LoopPost, Once.ActsOn, Once.OfSend}
+use Rattle.tsp_promises.specs.{DateFits.AnswersPassedOn, Fits.Fits, Fits.node_of, Looped.LoopPost, Once.ActsOn, Once.OfSend}
 use Rattle.tsp_promises.{proofs.StepChecks.port0, proofs.StepChecks.port1, specs.Premises.NamesApart}
 use Rattle.tsp_promises.proofs.{Debts.debts, Debts.did_in, Debts.heard_in, Debts.not-same, Debts.rest_of, WitnessUse.led, WitnessUse.lead}
 use Rattle.tsp_promises.proofs.{PremiseChecks.few-by, PremiseChecks.kept-by, PremiseChecks.life-by, PremiseChecks.words-by, Spots.spot}
@@ -95,13 +94,6 @@ renewed_steps =
     takes (at 710000002 1 0) 5 0 (Message (msg DateAck 32778 Nothing)) (Acked (peer_of 0) ∷ []) ∷
     []
 
--- the history after so many steps
-abbrev renewed : ℕ → List Line
-renewed k = after (k - 9) renewed_steps (passing 9)
-
-renewed-fits : Fits (still false) (renewed 15)
-renewed-fits = stages-fit false 6 renewed_steps (passing 9) dates refl (search (debts, by-date, date-acks))
-
 abbrev passes : Line
 passes = does 310000000 1 Handed (Post (Peer (peer_of 0)) (Message (msg SetDateReq 32777 (TimeBody (pos 600000000)))))
 
@@ -117,15 +109,39 @@ sends = record { message = msg SetDateReq 32777 (TimeBody (pos 600000000)); deed
 abbrev resends : Line
 resends = does 710000000 1 Handed (Post (Peer (peer_of 0)) (Message (msg SetDateReq 32778 (TimeBody (pos 900000000)))))
 
-abbrev dates-later : ActsOn (does 710000001 0 (Came 4) (Correct (pos 189999999) true (pos 900000000))) (skip 2 (renewed 14)) resends (skip 1 (renewed 13))
-dates-later = record { amount = pos 189999999; stepped = true; shown = pos 900000000; correct = refl; brings = record { place = skipped 2 (skip 2 (renewed 14)); cause = refl; message = msg SetDateReq 32778 (TimeBody (pos 900000000)); deed = refl }; took = refl }
-
 -- a date is passed on, set and acknowledged, and in the master's next life another
 pub date_use : DateUse
 date_use = record {
-  history = kept-by false (renewed 15) renewed-fits refl refl refl refl;
-  later = record { correct = spot 4 (renewed 15) refl; post = resends; older = skip 1 (renewed 13); acts = dates-later; kind = refl };
-  first = record { correct = spot 19 (skip 5 (renewed 15)) refl; post = passes; older = skip 1 (passing 7); acts = dates-at; kind = refl };
+  history = kept-by false (after 6 renewed_steps (passing 9)) (stages-fit false 6 renewed_steps (passing 9) dates refl
+      (search (debts, by-date, date-acks))) refl refl refl refl;
+  later = record {
+    correct = spot 4 (after 6 renewed_steps (passing 9)) refl;
+    post = resends;
+    older = skip 1 (after 4 renewed_steps (passing 9));
+    acts = record {
+      amount = pos 189999999;
+      stepped = true;
+      shown = pos 900000000;
+      correct = refl;
+      brings = record {
+        place = skipped 2 (skip 2 (after 5 renewed_steps (passing 9)));
+        cause = refl;
+        message = msg SetDateReq 32778 (TimeBody (pos 900000000));
+        deed =
+            refl;
+      };
+      took = refl;
+    };
+    kind = refl;
+  };
+  first = record {
+    correct = spot 19 (skip 5 (after 6 renewed_steps (passing 9))) refl;
+    post = passes;
+    older = skip 1 (passing 7);
+    acts = dates-at;
+    kind =
+        refl;
+  };
   node = refl;
   booted = omega arith;
 }
@@ -218,21 +234,6 @@ goes-on = record { post = line (step_at 310000001 2 (Came 0)) port1 (Post (Peer 
 abbrev comes-back : LoopPost
 comes-back = record { post = does 310000002 3 (Came 1) (Post (Peer (peer_of 1)) (Message (loop_with 8))); older = skip 1 (circle 8); to = peer_of 1; message = loop_with 8; deed = refl; kind = refl; hops = 8; hops_is = refl }
 
-abbrev gives-up : GivesUp (line (step_at 310000003 1 (Came 2)) port1 (Become Loose)) (skip 1 (circle 9))
-gives-up = record {
-  last = comes-back;
-  rest = goes-on ∷ (sets-out ∷ []);
-  takes = record { brings = record { place = skipped 2 (skip 1 (circle 9)); cause = refl; message = loop_with 8; deed = refl }; took = refl };
-  chain = (
-    record { brings = record { place = skipped 2 (skip 1 (circle 8)); cause = refl; message = loop_with 9; deed = refl }; took = refl },
-    (
-      refl,
-      (record { brings = record { place = skipped 2 (skip 1 (circle 7)); cause = refl; message = loop_with 10; deed = refl }; took = refl }, (refl, refl)),
-    ),
-  );
-  sent = ((λ e. not-same 1 3 (omega arith) (sym e)), ((λ e. not-same 1 2 (omega arith) (sym e)), (refl, omega arith)));
-}
-
 pub loop_use : LoopUse
 loop_use = record {
   history = kept-by false (circle 9) circle-fits refl refl refl refl;
@@ -240,7 +241,19 @@ loop_use = record {
   loose = spot 0 (circle 9) refl;
   deed = refl;
   leads = refl;
-  gives_up = gives-up;
+  gives_up = record {
+    last = comes-back;
+    rest = goes-on ∷ (sets-out ∷ []);
+    takes = record { brings = record { place = skipped 2 (skip 1 (circle 9)); cause = refl; message = loop_with 8; deed = refl }; took = refl };
+    chain = (
+      record { brings = record { place = skipped 2 (skip 1 (circle 8)); cause = refl; message = loop_with 9; deed = refl }; took = refl },
+      (
+        refl,
+        (record { brings = record { place = skipped 2 (skip 1 (circle 7)); cause = refl; message = loop_with 10; deed = refl }; took = refl }, (refl, refl)),
+      ),
+    );
+    sent = ((λ e. not-same 1 3 (omega arith) (sym e)), ((λ e. not-same 1 2 (omega arith) (sym e)), (refl, omega arith)));
+  };
   by_two = refl;
   lower = port0;
   is_lower = omega arith;

@@ -81,25 +81,18 @@ tested_steps =
     hands (at 716000000 1 0) Stranger (Message (msg Test 5 Nothing)) (Post Stranger (Message (named_msg 1 Ack 5 Nothing)) ∷ []) ∷
     []
 
--- the history after so many steps
-abbrev tested : ℕ → List Line
-tested k = after (k - 12) tested_steps (rivals 12)
-
-tested-fits : Fits (still false) (tested 13)
-tested-fits = stages-fit false 1 tested_steps (rivals 12) met refl (search debts)
-
 pub answered_use : AnsweredUse
 answered_use = record {
-  history = kept-by false (tested 13) tested-fits refl refl refl refl;
-  quit = spot 15 (tested 13) refl;
+  history = kept-by false (after 1 tested_steps (rivals 12)) (stages-fit false 1 tested_steps (rivals 12) met refl (search debts)) refl refl refl refl;
+  quit = spot 15 (after 1 tested_steps (rivals 12)) refl;
   from = peer_of 0;
   quits = refl;
-  reply = spot 14 (tested 13) refl;
+  reply = spot 14 (after 1 tested_steps (rivals 12)) refl;
   to = peer_of 0;
   answer = Message (msg Ack 32776 Nothing);
   replies = refl;
   answers = refl;
-  post = spot 0 (tested 13) refl;
+  post = spot 0 (after 1 tested_steps (rivals 12)) refl;
   datagram = Message (named_msg 1 Ack 5 Nothing);
   posts = refl;
 }
@@ -120,11 +113,7 @@ votes_steps =
     wins (at 370000000 1 0) ∷
     []
 
--- the history after so many steps
-abbrev votes : ℕ → List Line
-votes k = after k votes_steps []
-
-votes-fit : Fits (still true) (votes 11)
+votes-fit : Fits (still true) (after 11 votes_steps [])
 votes-fit =
     stages-fit true 11 votes_steps [] tt refl ((search debts) also (search debts) also (search debts) also (search debts) also
     (search debts) also
@@ -134,11 +123,11 @@ votes-fit =
 -- two nodes win strict elections, 65 s apart
 pub strict_elections : StrictElections
 strict_elections = record {
-  history = kept-by true (votes 11) votes-fit refl refl refl refl;
+  history = kept-by true (after 11 votes_steps []) votes-fit refl refl refl refl;
   strict = refl;
-  few = few-by (votes 11) refl;
-  later = spot 0 (votes 11) refl;
-  earlier = spot 15 (skip 1 (votes 11)) refl;
+  few = few-by (after 11 votes_steps []) refl;
+  later = spot 0 (after 11 votes_steps []) refl;
+  earlier = spot 15 (skip 1 (after 11 votes_steps [])) refl;
   wins = refl;
   wins_later = refl;
   apart = not-same 0 1 (omega arith);
@@ -156,18 +145,11 @@ repeats_steps =
     turns (at 302000000 0 0) (Post (Peer (peer_of 1)) (Message asks) ∷ []) ∷
     []
 
--- the history after so many steps
-abbrev repeats : ℕ → List Line
-repeats k = after (k - 3) repeats_steps (lead 3)
-
-repeats-fit : Fits (still false) (repeats 6)
-repeats-fit = stages-fit false 3 repeats_steps (lead 3) booted refl (search debts)
-
 pub thrice_use : ThriceUse
 thrice_use =
     record {
-      history = kept-by false (repeats 6) repeats-fit refl refl refl refl;
-      post = spot 0 (repeats 6) refl;
+      history = kept-by false (after 3 repeats_steps (lead 3)) (stages-fit false 3 repeats_steps (lead 3) booted refl (search debts)) refl refl refl refl;
+      post = spot 0 (after 3 repeats_steps (lead 3)) refl;
       peer = peer_of 1;
       message = asks;
       deed = refl;
@@ -186,22 +168,15 @@ early_on_steps =
     hands (at 2000000 1 0) Stranger (Message (msg Msite 3 Nothing)) (Post Stranger (Message (msg Ack 3 Nothing)) ∷ []) ∷
     []
 
--- the history after so many steps
-abbrev early_on : ℕ → List Line
-early_on k = after k early_on_steps []
-
-early-fits : Fits (still false) (early_on 3)
-early-fits = stages-fit false 3 early_on_steps [] tt refl (search debts)
-
 pub quiet_use : QuietUse
 quiet_use = record {
-  history = kept-by false (early_on 3) early-fits refl refl refl refl;
-  reply = spot 3 (early_on 3) refl;
+  history = kept-by false (after 3 early_on_steps []) (stages-fit false 3 early_on_steps [] tt refl (search debts)) refl refl refl refl;
+  reply = spot 3 (after 3 early_on_steps []) refl;
   to = Stranger;
   value = early;
   replies = refl;
   early = omega arith;
-  ack = spot 0 (early_on 3) refl;
+  ack = spot 0 (after 3 early_on_steps []) refl;
   for = Stranger;
   message = msg Ack 3 Nothing;
   acknowledges = refl;

@@ -2,16 +2,16 @@
 -- which a peer seems a second off.
 use Rattle.std.proofs.Common.{arith, inl, ℕ, ◌≡◌, ◌≢◌, ◌-◌, nat_le, true, false, ℤ, pos, negsuc, nat_abs, Bool, List, [], ◌∷◌, length, refl}
 use Rattle.std.{proofs.lemmas.Bool.leb-true, proofs.lemmas.Int.ints, specs.List.Contains, specs.List.count_by}
-use Rattle.tsp_rules.specs.Values.{Post, Arm, Ring, Close, Correct, Round, CloseAlarm, Message, Stamp, AdjTime, SetTime, TimeBody, Peer, Request, Reply, SPAN}
+use Rattle.tsp_rules.specs.Values.{Post, Arm, Ring, Close, Correct, Round, CloseAlarm, Message, Stamp, AdjTime, SetTime, TimeBody, Peer, Request, Reply}
 use Rattle.tsp_base.specs.Words.{Came, Turned, Line, of, view, ReplyValue, best, Here, Within, peer_of}
-use Rattle.tsp_group.specs.Groups.{Agree, better, goes_before, group_from}
+use Rattle.tsp_group.specs.Groups.{better, goes_before, group_from}
 use Rattle.tsp_promises.specs.Moderate.{Agrees, Majority, PeerAgrees, PeerCorrects, estimates_of}
 use Rattle.tsp_promises.proofs.Histories.{does, line, msg, skip, skipped, step_at, still}
-use Rattle.tsp_promises.proofs.Spots.{Computed, Corrects, but_for, close_begins, corrects-at, estimate-at, hop_in, sample_of, spot, untouched}
+use Rattle.tsp_promises.proofs.Spots.{Computed, but_for, close_begins, corrects-at, estimate-at, hop_in, sample_of, spot, untouched}
 use Rattle.tsp_promises.proofs.HistoriesFit.{Stage, after, at, stages-fit, turns, follows, sets_up, obeys, acked, replies, samples}
 use Rattle.tsp_promises.proofs.WitnessUse.{asked, first-hop, first-round, fits, lead, led, ordinary, reply1, second-hop, second-round, usual}
 use Rattle.tsp_promises.specs.{RoundUses.EndedUse, RoundUses.EstimatesUse, RoundUses.ModerateUse, RoundUses.RoundsUse, StepFacts.closed}
-use Rattle.tsp_promises.specs.{Chained.Hop, Estimates.Moves, Fits.Fits, Fits.node_of, OneError.Taking}
+use Rattle.tsp_promises.specs.{Chained.Hop, Estimates.Moves, Fits.node_of, OneError.Taking}
 use Rattle.tsp_promises.proofs.{Debts.debts, Debts.not-same, Debts.sample_in, TakingProof.taking_of, PremiseChecks.kept-by}
 use Rattle.tsp_promises.proofs.StepChecks.{port0}
 
@@ -54,32 +54,25 @@ unheard_steps =
     turns (at 408000000 0 0) (Ring CloseAlarm ∷ Close 2 (negsuc 100) (pos 101) (negsuc 50) ∷ Correct (negsuc 50) false (pos 408000000) ∷ []) ∷
     []
 
--- the history after so many steps
-abbrev unheard : ℕ → List Line
-unheard k = after (k - 5) unheard_steps (lead 5)
-
-unheard-fits : Fits (still false) (unheard 12)
-unfolding group_from goes_before better
-unheard-fits = stages-fit false 7 unheard_steps (lead 5) led refl (search debts)
-
 -- the ACK of the SETTIME doesn't come, so the round that its Correct ends begins no ADJTIME
 pub ended_use : EndedUse
+unfolding group_from goes_before better
 ended_use = record {
-  history = kept-by false (unheard 12) unheard-fits refl refl refl refl;
+  history = kept-by false (after 7 unheard_steps (lead 5)) (stages-fit false 7 unheard_steps (lead 5) led refl (search debts)) refl refl refl refl;
   master = 0;
   other = 1;
   apart = not-same 0 1 (omega arith);
   close = does 408000000 0 Turned (Close 2 (negsuc 100) (pos 101) (negsuc 50));
   correct = does 408000000 0 Turned (Correct (negsuc 50) false (pos 408000000));
-  cpast = skip 2 (unheard 12);
+  cpast = skip 2 (after 7 unheard_steps (lead 5));
   ends = refl;
   amount = negsuc 50;
   moved = λ e. omega (arith, ints);
   moves = record { count = 2; lo = negsuc 100; size = pos 101; mean = negsuc 50; deed = refl; node = refl; stepped = false; shown = pos 408000000; correct = refl; correct_node = refl };
-  sample = sample_in (best (peer_of 1) (view port0 (of 0 (skip 2 (unheard 12)))));
+  sample = sample_in (best (peer_of 1) (view port0 (of 0 (skip 2 (after 7 unheard_steps (lead 5))))));
   reading = does 400000300 1 (Came 3) (Post (Peer (peer_of 0)) (Stamp (Reply reply1)));
-  older = skip 1 (unheard 10);
-  estimate = estimate-at (spot 2 (skip 2 (unheard 12)) refl) (search arith) refl refl refl;
+  older = skip 1 (after 5 unheard_steps (lead 5));
+  estimate = estimate-at (spot 2 (skip 2 (after 7 unheard_steps (lead 5))) refl) (search arith) refl refl refl;
 }
 
 abbrev next : ReplyValue
@@ -95,30 +88,17 @@ twice_steps =
     acked (at 1008000700 0 0) 17 1 11 ∷
     []
 
--- the history after so many steps
-abbrev pub twice : ℕ → List Line
-twice k = after k twice_steps (usual 23)
-
-pub twice-fits : Fits (still false) (twice 6)
-unfolding group_from goes_before better
-twice-fits = stages-fit false 6 twice_steps (usual 23) fits refl (search debts)
-
-ten-off : negsuc 9 ≢ pos 0
-ten-off e = omega (arith, ints)
-
-ten-on : pos 10 ≢ pos 0
-ten-on e = omega (arith, ints)
-
 -- the first round's bound of node 1, when the second has moved it by 10 and the master by -10
 pub rounds_use : RoundsUse
+unfolding group_from goes_before better
 rounds_use = record {
-  history = kept-by false (twice 6) twice-fits refl refl refl refl;
+  history = kept-by false (after 6 twice_steps (usual 23)) (stages-fit false 6 twice_steps (usual 23) fits refl (search debts)) refl refl refl refl;
   master = 0;
   mean = negsuc 83;
   one = first-hop;
   since = record {
     from_round = first-round;
-    within = skipped 33 (twice 6);
+    within = skipped 33 (after 6 twice_steps (usual 23));
     count = 3;
     lo = negsuc 150;
     size = pos 151;
@@ -127,10 +107,10 @@ rounds_use = record {
     one_life_master = refl;
   };
   other = second-hop;
-  other_since = record { from_round = second-round; within = skipped 29 (twice 6); one_life = refl };
+  other_since = record { from_round = second-round; within = skipped 29 (after 6 twice_steps (usual 23)); one_life = refl };
   apart = not-same 1 2 (omega arith);
-  again = spot 9 (twice 6) refl;
-  later = skipped 29 (skip 10 (twice 6));
+  again = spot 9 (after 6 twice_steps (usual 23)) refl;
+  later = skipped 29 (skip 10 (after 6 twice_steps (usual 23)));
   node = refl;
   port = refl;
   count = 2;
@@ -139,8 +119,8 @@ rounds_use = record {
   second = negsuc 9;
   deed = refl;
   one_life = refl;
-  moves = ten-on;
-  master_moves = ten-off;
+  moves = λ (e : pos 10 ≡ pos 0). omega (arith, ints);
+  master_moves = λ (e : negsuc 9 ≡ pos 0). omega (arith, ints);
 }
 
 -- the request took two seconds, the reply a microsecond
@@ -163,10 +143,6 @@ outlier_steps =
 abbrev pub outlier : ℕ → List Line
 outlier k = after k outlier_steps (usual 15)
 
-pub outlier-fits : Fits (still false) (outlier 8)
-unfolding group_from goes_before better
-outlier-fits = stages-fit false 8 outlier_steps (usual 15) asked refl (search debts)
-
 -- its Close, with this mean
 abbrev pub shut-by : ℤ → Line
 shut-by mean = line (step_at 408000000 0 Turned) port0 (Close 2 (negsuc 100) (pos 101) mean)
@@ -181,18 +157,16 @@ mild-hop = hop_in (outlier 8) 11 17 29 (pos 401)
 mild-computed : Computed 0 mild-hop (spot 14 (skip 12 (outlier 8)) refl)
 mild-computed = search arith
 
-abbrev mild-round : Corrects 0 mild-hop
-mild-round = corrects-at mild-hop (spot 14 (skip 12 (outlier 8)) refl) mild-computed
-
 -- whether a value is within a millisecond
 abbrev pub is_small : ℤ → Bool
 is_small x = nat_le (nat_abs x) 1000
 
-small-agree : (xs : List ℤ) → Agree SPAN xs is_small
-small-agree xs x y c d s t = let a = leb-true (nat_abs x) 1000 s in let b = leb-true (nat_abs y) 1000 t in record { low = omega (arith, ints); high = omega (arith, ints) }
-
 two-of-three : (xs : List ℤ) → length xs ≡ 3 → count_by is_small xs ≡ 2 → Majority xs is_small
-two-of-three xs all two = record { more = omega (arith, all, two); agrees = small-agree xs }
+two-of-three xs all two = record {
+  more = omega (arith, all, two);
+  agrees = λ x y c d s t.
+      let a = leb-true (nat_abs x) 1000 s in let b = leb-true (nat_abs y) 1000 t in record { low = omega (arith, ints); high = omega (arith, ints) };
+}
 
 -- a small value of the round's estimates is one of the majority
 pub small-agrees : (mean value : ℤ) → Contains (estimates_of (still false) 0 port0 mild-hop.cpast) value → is_small value ≡ true →
@@ -240,8 +214,9 @@ peer-corrects moves ends taking kind close_is port agrees = record {
 
 -- a master and one peer agree, and another peer seems to be a second off
 pub moderate_use : ModerateUse
+unfolding group_from goes_before better
 moderate_use = record {
-  history = kept-by false (outlier 8) outlier-fits refl refl refl refl;
+  history = kept-by false (outlier 8) (stages-fit false 8 outlier_steps (usual 15) asked refl (search debts)) refl refl refl refl;
   master = 0;
   near = 1;
   far = 2;
@@ -264,7 +239,8 @@ moderate_use = record {
   later = inl refl;
   taker = spot 11 (outlier 8) refl;
   taker_node = refl;
-  taken = peer-corrects moves-little (skipped 4 (skip 12 (outlier 8))) (taking_of mild-round refl) refl refl refl (near-agrees (negsuc 50));
+  taken = peer-corrects moves-little (skipped 4 (skip 12 (outlier 8)))
+      (taking_of (corrects-at mild-hop (spot 14 (skip 12 (outlier 8)) refl) mild-computed) refl) refl refl refl (near-agrees (negsuc 50));
   of_round = refl;
   rested = refl;
   jump = spot 7 (outlier 8) refl;

@@ -5,7 +5,7 @@ use Rattle.std.proofs.lemmas.Int.{ints}
 use Rattle.tsp_rules.specs.Values.{Post, Arm, Ring, Close, Correct, Round, CloseAlarm, Message, Stamp, AdjTime, SetTime, SlaveUp, Nothing, TimeBody, Peer, Request}
 use Rattle.tsp_base.specs.Words.{Came, Turned, Line, ReplyValue, dids, of, view, Within, heard, peer_of}
 use Rattle.tsp_group.specs.Groups.{better, goes_before, group_from}
-use Rattle.tsp_promises.specs.RoundUses.{Confirms, OrdinaryUse, PrintsUse, SetUse, ShownUse}
+use Rattle.tsp_promises.specs.RoundUses.{OrdinaryUse, PrintsUse, SetUse, ShownUse}
 use Rattle.tsp_promises.proofs.HistoriesFit.{Stage, after, at, stages-fit, skip-fits, boots, turns, stands, wins, follows, sets_up, obeys, acked, replies, samples}
 use Rattle.tsp_promises.proofs.Spots.{Computed, Corrects, but_for, corrects-at, hop_in, spot, untouched}
 use Rattle.tsp_promises.specs.{Chained.Hop, Fits.Fits, Kept.Example, OneError.FromSlaveUp, OneError.Taking}
@@ -91,24 +91,21 @@ first-round = corrects-at first-hop (spot 11 (skip 12 (usual 23)) refl) first-co
 pub second-round : Corrects 0 second-hop
 second-round = corrects-at second-hop (spot 12 (skip 8 (usual 23)) refl) (search arith)
 
-confirms : Confirms (usual 23)
-confirms = record {
-  acked = spot 0 (usual 23) refl;
-  peer = peer_of 2;
-  deed = refl;
-  first = _;
-  older = _;
-  is = refl;
-  message = msg AdjTime 12 (TimeBody (pos 67));
-  posts = refl;
-  kind = refl;
-}
-
 -- ordinary use keeps every premise
 pub ordinary_use : OrdinaryUse
 ordinary_use = record {
   history = ordinary;
-  confirms = confirms;
+  confirms = record {
+    acked = spot 0 (usual 23) refl;
+    peer = peer_of 2;
+    deed = refl;
+    first = _;
+    older = _;
+    is = refl;
+    message = msg AdjTime 12 (TimeBody (pos 67));
+    posts = refl;
+    kind = refl;
+  };
   master = 0;
   one = first-hop;
   other = second-hop;

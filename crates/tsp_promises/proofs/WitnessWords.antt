@@ -1,16 +1,16 @@
 -- Boots with one word: promises that hold all the same, and a measurement that goes wrong where datagrams live long.
 -- A reply of an earlier life. And looks at clocks.
 use Rattle.std.proofs.Common.{sym, arith, subst, inl, ℕ, zero, suc, ◌≡◌, ◌-◌, ◌≤◌, ◌≤ℤ◌, ◌-ℤ◌, nat_abs, ℤ, true, false, pos, negsuc, List, [], ◌∷◌, refl}
-use Rattle.std.proofs.lemmas.Int.{ints}
 use Rattle.tsp_rules.specs.Values.{Post, Arm, Ring, Close, Correct, Round, CloseAlarm, Message, Stamp, AdjTime, SetTime, TimeBody, Peer, Request, Reply}
 use Rattle.tsp_base.specs.Words.{Came, Did, Here, Line, ReplyValue, Seen, dids, peer_of, posted}
 use Rattle.tsp_group.specs.Groups.{better, goes_before, group_from}
+use Rattle.tsp_promises.proofs.Spots.{too-far}
 use Rattle.tsp_promises.proofs.Histories.{line, msg, skip, skipped, step_at, still}
 use Rattle.tsp_promises.proofs.HistoriesFit.{Stage, after, at, stages-fit, boots, turns, takes, stands, wins, follows, sets_up, obeys, acked, replies, samples}
 use Rattle.tsp_promises.proofs.WitnessUse.{asked, first-hop, first-round, fits, lead, led, ordinary, reply1, usual}
 use Rattle.tsp_promises.specs.{Looked.Look, Looked.LooksNeedRest, Looked.LooksUse, Uses.MeasuresWrongly, Uses.SameWords}
-use Rattle.tsp_promises.specs.{Chained.Hop, ClockAt.clock, Fits.Fits, Measured.Measured, Setting.Setting, Uses.LateReply}
-use Rattle.tsp_promises.proofs.{Debts.adjusts-at, Debts.debts, Spots.Corrects, Spots.corrects-at, Spots.hop_in, Spots.spot, Spots.untouched}
+use Rattle.tsp_promises.specs.{Chained.Hop, ClockAt.clock, Fits.Fits, Measured.Measured, Uses.LateReply}
+use Rattle.tsp_promises.proofs.{Debts.adjusts-at, Debts.debts, Spots.corrects-at, Spots.hop_in, Spots.spot, Spots.untouched}
 use Rattle.tsp_promises.proofs.{HistoriesFit.all-finished, PremiseChecks.honest-by, PremiseChecks.kept-by, PremiseChecks.life-by}
 use Rattle.tsp_promises.proofs.{SendPlaces.post_unique, SendPlaces.same-number, StepChecks.port0}
 
@@ -47,9 +47,6 @@ again-fits = stages-fit false 13 anew_steps (usual 23) fits refl
 abbrev again-hop : Hop
 again-hop = hop_in (anew 13) 4 9 15 (pos 401)
 
-again-round : Corrects 0 again-hop
-again-round = corrects-at again-hop (spot 7 (skip 5 (anew 13)) refl) (search arith)
-
 -- in both lives of the master a round corrects node 1
 pub same_words : SameWords
 same_words = record {
@@ -72,7 +69,7 @@ same_words = record {
     word_once = refl;
   };
   before = record { hop = first-hop; correct_in = skipped 12 (skip 43 (anew 13)); from_round = first-round };
-  after = record { hop = again-hop; correct_in = skipped 4 (anew 13); from_round = again-round };
+  after = record { hop = again-hop; correct_in = skipped 4 (anew 13); from_round = corrects-at again-hop (spot 7 (skip 5 (anew 13)) refl) (search arith) };
   begins = skipped 32 (skip 10 (anew 13));
 }
 
@@ -85,35 +82,30 @@ reboot_steps =
     samples (at 1000000801 0 0) 8 1 reply1 (negsuc 600000100) (pos 401) ∷
     []
 
--- the history after so many steps
-abbrev reboot : ℕ → List Line
-reboot k = after k reboot_steps (usual 15)
-
-reboot-fits : Fits (still false) (reboot 5)
-reboot-fits = stages-fit false 5 reboot_steps (usual 15) asked refl (search debts)
-
 abbrev told : Line
 told = line (step_at 400000300 1 (Came 6)) port0 (Post (Peer (peer_of 0)) (Stamp (Reply reply1)))
 
-wrongly : Measured (still false) (reboot 5) → ⊥
+wrongly : Measured (still false) (after 5 reboot_steps (usual 15)) → ⊥
 wrongly h =
     let r = h.0 (peer_of 1) 0 (negsuc 600000100) (pos 401) 10 refl in
     let number : posted (dids r.older) ≡ 8 = same-number (posted (dids r.older)) 8 (sym r.takes) in
-    let same : r.post ∷ r.older ≡ told ∷ skip 1 (usual 15) = post_unique (skip 1 (reboot 5)) r.post told r.older (skip 1 (usual 15)) (Peer (peer_of 0)) (Peer (peer_of 0)) (Stamp (Reply r.reply)) (Stamp (Reply reply1)) r.place (skipped 15 (skip 1 (reboot 5))) r.deed refl number in
-    let k : pos 600000100 ≤ℤ pos 401 = subst (λ z. pos (nat_abs (negsuc 600000100 -ℤ (clock (still false) 1 z -ℤ clock (still false) 0 z))) ≤ℤ pos 401) same r.near in
-    omega (arith, ints)
+    let same : r.post ∷ r.older ≡ told ∷ skip 1 (usual 15) = post_unique (skip 1 (after 5 reboot_steps (usual 15))) r.post told r.older (skip 1 (usual 15))
+    (Peer (peer_of 0)) (Peer (peer_of 0)) (Stamp (Reply r.reply)) (Stamp (Reply reply1)) r.place
+    (skipped 15 (skip 1 (after 5 reboot_steps (usual 15)))) r.deed refl number in
+    too-far (pos 600000100) (pos 401) refl (subst
+    (λ z. pos (nat_abs (negsuc 600000100 -ℤ (clock (still false) 1 z -ℤ clock (still false) 0 z))) ≤ℤ pos 401) same r.near)
 
 -- a reply of the first life, taken in the second
 pub measures_wrongly : MeasuresWrongly
 measures_wrongly = record {
   setting = still false;
-  world = reboot 5;
-  fits = reboot-fits;
-  finished = all-finished false (reboot 5) refl;
-  honest = honest-by (reboot 5) refl;
+  world = after 5 reboot_steps (usual 15);
+  fits = stages-fit false 5 reboot_steps (usual 15) asked refl (search debts);
+  finished = all-finished false (after 5 reboot_steps (usual 15)) refl;
+  honest = honest-by (after 5 reboot_steps (usual 15)) refl;
   repeats = record {
-    again = spot 14 (reboot 5) refl;
-    once = spot 46 (skip 15 (reboot 5)) refl;
+    again = spot 14 (after 5 reboot_steps (usual 15)) refl;
+    once = spot 46 (skip 15 (after 5 reboot_steps (usual 15))) refl;
     node = refl;
     boots = refl;
     booted = refl;
@@ -138,19 +130,12 @@ reborn_steps =
     takes (at 400000801 0 0) 1 1 (Stamp (Reply answer)) ([]) ∷
     []
 
--- the history after so many steps
-abbrev reborn : ℕ → List Line
-reborn k = after (k - 5) reborn_steps (lead 5)
-
-reborn-fits : Fits (still false) (reborn 9)
-reborn-fits = stages-fit false 4 reborn_steps (lead 5) led refl (search debts)
-
 -- the exchange ended with the life
 pub late_reply : LateReply
 late_reply = record {
-  history = kept-by false (reborn 9) reborn-fits refl refl refl refl;
-  took = spot 0 (reborn 9) refl;
-  request = spot 6 (skip 1 (reborn 9)) refl;
+  history = kept-by false (after 4 reborn_steps (lead 5)) (stages-fit false 4 reborn_steps (lead 5) led refl (search debts)) refl refl refl refl;
+  took = spot 0 (after 4 reborn_steps (lead 5)) refl;
+  request = spot 6 (skip 1 (after 4 reborn_steps (lead 5))) refl;
   peer = peer_of 1;
   reply = answer;
   asked = refl;
@@ -172,9 +157,6 @@ rates-small : (n : ℕ) → nat_abs (rate_of n) ≤ 100
 rates-small zero = omega arith
 rates-small (suc n) = omega arith
 
-abbrev drifting : Setting
-drifting = record (still false) { drift = 100; rate = rate_of; small = omega arith; rates = rates-small }
-
 -- all three readings are at the beginning
 abbrev at_once : (k m : ℕ) → Look k m [] 16000000
 at_once k m = record {
@@ -194,7 +176,7 @@ at_once k m = record {
 
 pub looks_use : LooksUse
 looks_use = record {
-  setting = drifting;
+  setting = record (still false) { drift = 100; rate = rate_of; small = omega arith; rates = rates-small };
   fits = tt;
   drifts = refl;
   fast = at_once 1 0;

@@ -1,16 +1,17 @@
 -- A boot gives the node another word. A request is named by its port and counter, in the life of its node. How many
 -- requests a port has posted.
-use Rattle.std.proofs.Common.{sym, ap, arith, subst, subst₂, inl, inr, eqb-true, true≢false, ◌∙◌, ◌≡◌, ◌≢◌, ◌==◌, Bool, true, false, ℕ, ◌<◌, ℤ, pos, ◌+ℤ◌, List, [], ◌∷◌, refl, ◌||◌, ◌≤◌, ◌+◌, ◌%◌, ◌^◌, ◌⊎◌}
+use Rattle.std.proofs.Common.{sym, ap, arith, subst, subst₂, inl, inr, true≢false, ◌∙◌, ◌≡◌, ◌≢◌, ◌==◌, Bool, true, false, ℕ, ◌<◌, ℤ, pos, ◌+ℤ◌, List, [], ◌∷◌}
+use Rattle.std.proofs.Common.{refl, ◌||◌, ◌≤◌, ◌+◌, ◌%◌, ◌^◌, ◌⊎◌}
 use Rattle.tsp_rules.specs.Values.{Boot, Post, Stamp, Port, Request, PeerId, Peer, QUIET}
-use Rattle.tsp_base.specs.Words.{Booted, Deed, Begins, Acts, Line, of, dids, lives, lives_after, up, up_after, word, word_after, Within, Did, Seen, view, seen_as, is_shared, asked, asked_after, posted, posted_after, plain, boot_tick, tick_of, tick_at}
+use Rattle.tsp_base.specs.Words.{Booted, Deed, Begins, Acts, Line, of, dids, lives, lives_after, up, up_after, word, word_after, Within, Did, Seen, view}
+use Rattle.tsp_base.specs.Words.{seen_as, is_shared, asked, asked_after, posted, posted_after, plain, boot_tick, tick_of, tick_at}
 use Rattle.tsp_base.proofs.PlaceLemmas.{Within-all, Within-through, Within-comparable, Within-tail}
 use Rattle.tsp_base.proofs.Views.{plain_view}
-use Rattle.tsp_promises.proofs.EverywhereLemmas.{Everywhere-at, Everywhere-from, Everywhere-within}
-use Rattle.tsp_promises.proofs.OwnFitsProof.{own_fits, own_fits_at, tick_in, view-line, fits_at, place-time, deed_fits}
-use Rattle.tsp_promises.specs.{MeasureFits.RequestFits, Premises.OwnWords, Premises.OwnWordsAt, Premises.Words, Premises.WordsAt}
-use Rattle.tsp_promises.specs.{Fits.Fits, Fits.LineFits, Fits.Alive, Fits.node_of, OwnFits.OwnFits, Setting.Setting}
-use Rattle.tsp_promises.proofs.{ClockProof.post_up, Clocks.near, HistoryPlaces.own_in, HistoryPlaces.of-own, HistoryPlaces.Within-of}
-use Rattle.tsp_promises.proofs.SinceProof.{since, still-lives}
+use Rattle.tsp_promises.proofs.OwnFitsProof.{node_walk, own_fits, own_fits_at, tick_in, view-line, fits_at, place-time, deed_fits}
+use Rattle.tsp_promises.proofs.{EverywhereLemmas.Everywhere-at, EverywhereLemmas.Everywhere-from, EverywhereLemmas.Everywhere-within, ClockProof.post_up}
+use Rattle.tsp_promises.proofs.{Clocks.near, HistoryPlaces.own_in, HistoryPlaces.of-own, HistoryPlaces.Within-of, SinceProof.since, SinceProof.still-lives}
+use Rattle.tsp_promises.specs.{MeasureFits.RequestFits, Premises.OwnWords, Premises.OwnWordsAt, Premises.Words, Premises.WordsAt, Fits.Fits, Fits.LineFits}
+use Rattle.tsp_promises.specs.{Fits.Alive, Fits.node_of, OwnFits.OwnFits, Setting.Setting}
 
 -- a boot of the node with this word, the so many-th
 pub record BootOf (n : ℕ) (world : List Line) (w count : ℕ) : Type 0 where
@@ -44,18 +45,12 @@ boot-deed setting n l world (Acts Boot) is node a h u =
     }
 boot-deed setting n l world (Acts act) is node a h u = boot-before n l world _ _ (h a)
 
-boot-more : (setting : Setting) (n : ℕ) (l : Line) (world : List Line) (b : Bool) → (node_of l == n) ≡ b → LineFits setting l world →
-    (up (dids (of n world)) ≡ true → BootOf n world (word (dids (of n world))) (lives (dids (of n world)))) → up (dids (of n (l ∷ world))) ≡ true →
-    BootOf n (l ∷ world) (word (dids (of n (l ∷ world)))) (lives (dids (of n (l ∷ world))))
-boot-more setting n l world true e f h u =
-    let same : node_of l ≡ n = eqb-true (node_of l) n e in
-    rw e (boot-deed setting n l world l.did.deed refl same (subst (λ k. Alive setting l.did.deed l.did (up (dids (of k world)))) same f.alive) h (rw e at u))
-boot-more setting n l world false e f h u = rw e (boot-before n l world _ _ (h (rw e at u)))
-
 -- the last boot of a node that is up
 pub boot_of : (setting : Setting) (n : ℕ) (world : List Line) → Fits setting world → up (dids (of n world)) ≡ true → BootOf n world (word (dids (of n world))) (lives (dids (of n world)))
-boot_of setting n [] f u = absurd (true≢false (sym u))
-boot_of setting n (l ∷ world) f u = boot-more setting n l world (node_of l == n) refl f.0 (boot_of setting n world f.1) u
+boot_of setting n =
+    node_walk setting n (λ world own. up (dids own) ≡ true → BootOf n world (word (dids own)) (lives (dids own))) (λ u. absurd (true≢false (sym u)))
+    (λ l world f node h u. boot-deed setting n l world l.did.deed refl node
+    (subst (λ k. Alive setting l.did.deed l.did (up (dids (of k world)))) node f.0.alive) h u) (λ l world f h u. boot-before n l world _ _ (h u))
 
 -- where no two boots have one word, no two of one node have
 pub own_words : (world : List Line) → Words world → OwnWords world
@@ -141,10 +136,6 @@ request-fits setting n q a p w c s f = subst (λ k. RequestFits (view q.port (of
 pub asks-up : (setting : Setting) (n : ℕ) (q : Line) (a : List Line) (p : PeerId) (w c : ℕ) → Asks n q p w c → LineFits setting q a → up (dids (of n a)) ≡ true
 asks-up setting n q a p w c s f = subst (λ k. up (dids (of k a)) ≡ true) s.node (post_up setting q a (Peer p) (Stamp (Request w c)) f s.deed)
 
--- one more was asked after the request
-asked-next : (n : ℕ) (q : Line) (a : List Line) (p : PeerId) (w c : ℕ) → Asks n q p w c → asked (view q.port (of n (q ∷ a))) ≡ asked (view q.port (of n a)) + 1
-asked-next n q a p w c s = ap asked (view-line n q a s.node) ∙ rw s.deed refl
-
 -- an earlier request of the same life has another counter
 request-one : (setting : Setting) (n : ℕ) (q t : Line) (a b : List Line) (p r : PeerId) (w c v d : ℕ) → Fits setting (t ∷ b) → Asks n q p w c → Asks n t r v d → q.port ≡ t.port → Within (q ∷ a) b →
     lives (dids (of n (q ∷ a))) ≡ lives (dids (of n b)) → c ≡ d → ⊥
@@ -155,7 +146,7 @@ request-one setting n q t a b p r w c v d f x y port i one count =
     let own = own_fits setting n b f.1 in
     let place : Within (of n (q ∷ a)) (of n b) = Within-of n (q ∷ a) b i in
     let more = asked-mono setting q.port (of n (q ∷ a)) (of n b) own place one in
-    let next = asked-next n q a p w c x in
+    let next : asked (view q.port (of n (q ∷ a))) ≡ asked (view q.port (of n a)) + 1 = ap asked (view-line n q a x.node) ∙ rw x.deed refl in
     let few = asked-few n q.port b in
     let limit = f.0.few in
     let cq : c ≡ asked (view q.port (of n a)) % 2 ^ 64 = g.counter_is in

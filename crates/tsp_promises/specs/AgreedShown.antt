@@ -1,6 +1,6 @@
 -- The promise that what clocks show agrees where the clocks do, and what a wait is good for.
 use Rattle.std.specs.Prelude.{◌≡◌, ◌≤◌, ◌≤ℤ◌, ℕ, ◌+◌, ◌-◌, ◌*◌, ℤ, pos, ◌+ℤ◌, ◌-ℤ◌, nat_abs, true, List, ◌∷◌}
-use Rattle.tsp_promises.specs.{Agreed.FromRound, Agreed.Unchanged, Agreed.UnchangedBut, ClockAt.clock_at, ShownAt.left_at, ShownAt.shown_at}
+use Rattle.tsp_promises.specs.{Agreed.FromRound, Agreed.Unchanged, Agreed.UnchangedBut, ClockAt.clock_at, ClockAt.left_at, ClockAt.shown_at}
 use Rattle.tsp_promises.specs.{Everywhere.Everywhere, Fits.node_of, Setting.Setting, Steady.ReadTimes, Steady.Unstepped, Steady.shown_width}
 use Rattle.tsp_promises.specs.Chained.{Hop, Hops, IsChain, bound, hop_bound, last_hop, node_at}
 use Rattle.tsp_base.specs.Words.{Line, of, dids, last_correct, rest, up, tick_at, width}

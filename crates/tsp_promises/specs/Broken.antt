@@ -1,13 +1,13 @@
 -- That the promises say something: for each part of one a small history that breaks it.
 use Rattle.std.specs.Prelude.{List}
 use Rattle.tsp_promises.specs.Once.{OnceConfirmed, OnceCorrected, OnceObeyed, OnceSpaced, OnceSpacedOverLives, OnceTaken}
-use Rattle.tsp_promises.specs.{ErrsBounded.ErrsBounded, Resolved.StaysQuiet, Resolved.StopsLeading, Resolved.Yields, Resolved.YieldsTaken}
+use Rattle.tsp_promises.specs.{Seldom.ErrsBounded, Resolved.StaysQuiet, Resolved.StopsLeading, Resolved.Yields, Resolved.YieldsTaken}
 use Rattle.tsp_promises.specs.{FirstSet.FirstSet, FirstSet.FirstSetSoon, Premises.Few, Premises.Honest, Premises.Life, Premises.NamesApart}
 use Rattle.tsp_promises.specs.{AgreedShown.AgreedShown, AgreedShown.ShownNear, AgreedShown.Waited, Dated.DateConfirmedAt, Dated.SetsAt}
 use Rattle.tsp_promises.specs.{Chained.Chained, Looped.ChainAt, Looped.GivesUpAt, Looped.HopsAt, Moderate.Moderate, Moderate.ModerateClocks}
 use Rattle.tsp_promises.specs.{Agreed.Agreed, Agreed.StayAgreed, Estimates.EstimatesHold, Measured.Measured, Measured.Trips, Seldom.Seldom}
 use Rattle.tsp_promises.specs.{Answered.Answered, Everywhere.Everywhere, OneWinner.OneWinner, OnlyMaster.OnlyMaster, Throughout.Throughout}
-use Rattle.tsp_promises.specs.{OneBack.OneBack, OneError.OneError, Relayed.Relayed, Setting.Setting, Silent.Silent, Steady.Steady}
+use Rattle.tsp_promises.specs.{OneBack.OneBack, OneError.OneError, Chained.Relayed, Setting.Setting, Silent.Silent, Steady.Steady}
 use Rattle.tsp_promises.specs.{Shows.Shows, Thrice.Thrice}
 use Rattle.tsp_base.specs.Words.{Line}
 

@@ -3,7 +3,6 @@ pub mod Agreed
 pub mod AgreedShown
 pub mod Alone
 pub mod Answered
-pub mod Became
 pub mod Broken
 pub mod Chained
 pub mod ClockAt
@@ -12,7 +11,6 @@ pub mod CorrectionFits
 pub mod DateFits
 pub mod Dated
 pub mod DeedFits
-pub mod ErrsBounded
 pub mod Estimates
 pub mod Everywhere
 pub mod FirstSet
@@ -35,7 +33,6 @@ pub mod OwnFits
 pub mod PortFits
 pub mod Premises
 pub mod QuitFits
-pub mod Relayed
 pub mod Resolved
 pub mod RoundFits
 pub mod RoundUses
@@ -43,7 +40,6 @@ pub mod Runs
 pub mod Safe
 pub mod Seldom
 pub mod Setting
-pub mod ShownAt
 pub mod Shows
 pub mod Silent
 pub mod Since

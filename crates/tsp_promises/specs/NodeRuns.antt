@@ -1,9 +1,8 @@
 -- A node that runs by the rules, over all its ports.
 use Rattle.std.specs.Prelude.{◌≡◌, ◌≤◌, ◌<◌, ℕ, List, [], ◌∷◌, length}
-use Rattle.tsp_rules.specs.Values.{Port}
-use Rattle.tsp_base.specs.Words.{Step, view}
-use Rattle.tsp_rules.specs.GateRows.{NodeGiven, NodeTurn, GotOn, answers_all, boots_all}
 use Rattle.tsp_rules.specs.NodeRows.{NodePast, NodeRow, port_setup, on_port, spread, in_node_step}
+use Rattle.tsp_rules.specs.{GateRows.NodeGiven, GateRows.NodeTurn, GateRows.GotOn, GateRows.answers_all, GateRows.boots_all, Values.Port}
+use Rattle.tsp_base.specs.Words.{Step, view}
 use Rattle.tsp_promises.specs.{PortFits.PortFits, PortFits.setup_in, StepFacts.StepEnds}
 
 -- what a step consists of: a boot, or the answer to what the node is given, a look at its timers or a datagram

@@ -1,7 +1,7 @@
--- The promise that a master that takes a QUIT stops being master.
+-- The promise that a master that takes a QUIT stops being master, and how it comes to follow the sender.
 use Rattle.std.specs.Prelude.{◌≡◌, ◌≢◌, ◌≤◌, ℕ, ◌+◌, true, List, ◌∷◌, Some}
 use Rattle.tsp_rules.specs.Values.{Post, Become, Ring, Quit, ResolveAlarm, Message, QuitKind, PeerId, Peer, Port, Follow, Master, ELECT_MIN}
-use Rattle.tsp_base.specs.Words.{Came, Begins, Acts, Did, Line, Seen, of, dids, plain, view, MessageValue, is_among, Within, role, peer_of, posted, steps}
+use Rattle.tsp_base.specs.Words.{Came, Begins, Acts, Did, Line, Seen, Here, of, dids, plain, view, MessageValue, is_among, Within, role, peer_of, posted, steps}
 use Rattle.tsp_promises.specs.{Everywhere.Everywhere, Fits.node_of, Once.OfSend, Premises.Life, Setting.Setting, Setting.setup_of}
 use Rattle.tsp_promises.specs.StepFacts.{owes, quits_master}
 
@@ -67,3 +67,16 @@ pub record Resolved (setting : Setting) (h : List Line) : Type 0 where
   pub yields_taken : YieldsTaken setting h
   pub quiet : StaysQuiet h
   pub stops : Life h → StopsLeading h
+
+-- in this step the port became a follower of p, after it took the QUIT of p as a master
+pub record Became (seen : List Seen) (p : PeerId) : Type 0 where
+  pub did : Did
+  pub before : List Seen
+  pub place : Within (Here did ∷ before) seen
+  pub deed : did.deed ≡ Acts (Become (Follow p))
+  pub after : is_among p (owes before) ≡ true
+
+-- whoever follows p at the end of a step in which it took the QUIT of p as a master became p's follower in that step,
+-- after the QUIT
+abbrev pub BecomesAfter : Type 0
+BecomesAfter = (seen : List Seen) (p : PeerId) → is_among p (owes seen) ≡ true → role seen ≡ Follow p → Became seen p

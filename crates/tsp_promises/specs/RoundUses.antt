@@ -1,11 +1,11 @@
--- That the promises of rounds and clocks aren't empty. Each history here fits and keeps the premises (Kept), if
--- nothing else is said.
+-- That the promises of rounds and clocks aren't empty. Each history here fits and keeps the premises (Kept), if nothing
+-- else is said.
 use Rattle.std.specs.Prelude.{◌≡◌, ◌≢◌, ◌≤◌, ◌≤ℤ◌, ◌<ℤ◌, ℕ, ◌+◌, ◌*◌, ℤ, pos, ◌-ℤ◌, nat_abs, Bool, true, false, List, ◌∷◌, Some, length}
 use Rattle.std.specs.List.{Contains}
 use Rattle.tsp_rules.specs.Values.{Post, Close, Correct, Acked, Message, AdjTime, PeerId, Peer, MAXADJ}
 use Rattle.tsp_base.specs.Words.{Acts, Did, Seen, Here, Line, dids, of, view, MessageValue, last_correct, lives, rest, rest_at, Within, Sampled, best, is_correction, open_to, peer_of}
 use Rattle.tsp_promises.specs.{Chained.Hop, Chained.Hops, Chained.IsChain, Chained.last_hop, Chained.node_at, Kept.Example, Kept.Spot}
-use Rattle.tsp_promises.specs.{Moderate.Agrees, Moderate.PeerAgrees, Moderate.PeerCorrects, Moderate.estimates_of, ShownAt.shown_at}
+use Rattle.tsp_promises.specs.{Moderate.Agrees, Moderate.PeerAgrees, Moderate.PeerCorrects, Moderate.estimates_of, ClockAt.shown_at}
 use Rattle.tsp_promises.specs.{FirstSet.SetBy, Fits.node_of, Steady.ReadTicks, Steady.ReadTimes, Steady.Unstepped, Steady.shown_width}
 use Rattle.tsp_promises.specs.Throughout.{SinceClose, SinceCorrect, moved_since}
 use Rattle.tsp_promises.specs.{Agreed.Unchanged, Agreed.UnchangedBut, OneError.FromReading, OneError.FromSlaveUp, OneError.Taking}
@@ -24,8 +24,7 @@ pub record Confirms (world : List Line) : Type 0 where
   pub kind : is_correction message.kind ≡ true
 
 -- a history in which corrections are acknowledged, and a round corrects two followers; they are left alone since, and
--- so
--- is its master
+-- so is its master
 pub record OrdinaryUse : Type 0 where
   pub history : Example
   pub confirms : Confirms history.world
@@ -56,8 +55,7 @@ pub record Relays : Type 0 where
 
 -- a history in which a master corrects a gateway, that one a second one, and that one a last node; all are left alone
 -- since. The clocks at both ends of the row are bounded down the chain, and those of its last two nodes across two
--- chains
--- of the one Close, and as those of a tree
+-- chains of the one Close, and as those of a tree
 pub record ChainUse : Type 0 where
   pub history : Example
   pub master : ℕ
@@ -72,8 +70,7 @@ pub record ChainUse : Type 0 where
   pub apart : node_at (last_hop first rest) ≢ node_at (last_hop first other)
 
 -- a history in which a round corrects two nodes, and a later one of the same port, in one life, moves one of them and
--- its
--- master again
+-- its master again
 pub record RoundsUse : Type 0 where
   pub history : Example
   pub master : ℕ
@@ -126,8 +123,7 @@ pub record EstimatesUse : Type 0 where
   pub left_alone : UnchangedBut master close cpast here
 
 -- a history in which a Correct ends a round that begins no ADJTIME: it is the last line, right after the Close. The
--- round
--- has an estimate of another node, which is left alone since its reading
+-- round has an estimate of another node, which is left alone since its reading
 pub record EndedUse : Type 0 where
   pub history : Example
   pub master : ℕ
@@ -215,8 +211,7 @@ pub record SetUse : Type 0 where
   pub rests : FromReading master later.line later.before taking close cpast reading rolder
 
 -- a history in which a node is read before and after a Correct that slews its clock, the second time when it has met
--- its
--- target; and another node is read at the first time too, and then waits long enough
+-- its target; and another node is read at the first time too, and then waits long enough
 pub record ShownUse : Type 0 where
   pub history : Example
   pub node : ℕ
@@ -243,8 +238,7 @@ pub record ShownUse : Type 0 where
   pub enough : bound <ℤ (pos wait -ℤ pos (shown_width history.setting.drift wait))
 
 -- a history in which a Correct of a small amount is stepped, since it sets the clock, and a later one of that life
--- slews
--- it
+-- slews it
 pub record PrintsUse : Type 0 where
   pub history : Example
   pub correct : Spot history.world

@@ -2,10 +2,10 @@
 -- have files of their own here, and that of the octets of answers, which tsp_run has.
 use Rattle.std.specs.Prelude.{◌⊎◌, List}
 use Rattle.tsp_promises.specs.{Agreed.Agreed, Agreed.StayAgreed, AgreedShown.AgreedShown, AgreedShown.ShownNear, AgreedShown.Waited}
-use Rattle.tsp_promises.specs.{Answered.Answered, Chained.Chained, ErrsBounded.ErrsBounded, Estimates.EstimatesHold, OneBack.OneBack}
+use Rattle.tsp_promises.specs.{Answered.Answered, Chained.Chained, Seldom.ErrsBounded, Estimates.EstimatesHold, OneBack.OneBack}
 use Rattle.tsp_promises.specs.{FirstSet.FirstSet, FirstSet.FirstSetSoon, Measured.Measured, Measured.Trips, OneError.OneError, Shows.Shows}
 use Rattle.tsp_base.specs.Words.{Line}
-use Rattle.tsp_promises.specs.{Moderate.Moderate, Moderate.ModerateClocks, OnlyMaster.OnlyMaster, Relayed.Relayed, Resolved.Resolved}
+use Rattle.tsp_promises.specs.{Moderate.Moderate, Moderate.ModerateClocks, OnlyMaster.OnlyMaster, Chained.Relayed, Resolved.Resolved}
 use Rattle.tsp_promises.specs.Once.{OnceConfirmed, OnceCorrected, OnceObeyed, OnceSpaced, OnceSpacedOverLives, OnceTaken}
 use Rattle.tsp_promises.specs.{Premises.Honest, Premises.Life, Premises.OwnWords, Seldom.Seldom, Setting.Setting, Silent.Silent}
 use Rattle.tsp_promises.specs.{Steady.Meets, Steady.Steady, Thrice.Thrice, Throughout.Throughout}

@@ -2,7 +2,7 @@
 use Rattle.std.specs.Prelude.{◌≡◌, ◌≤◌, ◌≤ℤ◌, ◌<ℤ◌, ℕ, ◌+◌, ◌-◌, ◌*◌, ◌/◌, ℤ, pos, ◌-ℤ◌, nat_abs, Bool, false, List, ◌∷◌}
 use Rattle.tsp_rules.specs.Values.{Correct}
 use Rattle.tsp_base.specs.Words.{Acts, Did, Line, of, dids, last_correct, lives, rest, shown, target, tick_of, time_of, Within, width}
-use Rattle.tsp_promises.specs.{Everywhere.Everywhere, Fits.node_of, Setting.Setting, ShownAt.shown_at}
+use Rattle.tsp_promises.specs.{Everywhere.Everywhere, Fits.node_of, Setting.Setting, ClockAt.shown_at}
 
 -- no Correct of node n after the place s has stepped its clock
 abbrev pub NoneStepped : ℕ → List Line → List Line → Type 0

@@ -119,8 +119,7 @@ pub record ForgedDate : Type 0 where
   pub twice : ¬ OnceTaken world
 
 -- a history that keeps Few too, in which a clock is set to a date, and the one who passed that date on notes that it
--- was
--- acknowledged
+-- was acknowledged
 pub record DatedUse : Type 0 where
   pub history : Example
   pub few : Few history.world
@@ -162,8 +161,7 @@ pub record LoopUse : Type 0 where
   pub leads_lower : role (view lower (of (node_of loose.line) loose.before)) ≡ Master
 
 -- a history in which a node takes the reply to a request that it posted in an earlier life: it ends no open exchange,
--- so
--- no Sample may come of it
+-- so no Sample may come of it
 pub record LateReply : Type 0 where
   pub history : Example
   pub took : Spot history.world

@@ -10,6 +10,7 @@ ghost use Rattle.tsp_promises.specs.Looped.{Looped};
 /// Each LOOP comes along a chain of at most eleven posts, if no peer's datagram is forged. If the
 /// nodes' names differ besides, a master becomes Loose only for a LOOP of its own node, which set
 /// out from a port with a lower number and was passed on by other nodes.
+#[tactic(auto, using(crate::proofs::ChainProof::looped_in))]
 pub fn looped()
     ensures { (setting : Setting) (world : List Line) → Fits setting world → Looped setting world }
 {}

@@ -146,7 +146,7 @@ pub fn estimates_hold()
         → Life world → EstimatesHold setting world }
 {}
 
-ghost use Rattle.tsp_promises.specs.ErrsBounded.{ErrsBounded};
+ghost use Rattle.tsp_promises.specs.Seldom.{ErrsBounded};
 /// The error on which an ADJTIME rests is at most 4.5 s, half of the longest round, whatever is
 /// delivered.
 #[tactic(auto, using(crate::proofs::ErrsProof::errs_bounded))]
@@ -220,7 +220,7 @@ pub fn chained()
         → Life world → Chained setting world }
 {}
 
-ghost use Rattle.tsp_promises.specs.Relayed.{Relayed};
+ghost use Rattle.tsp_promises.specs.Chained.{Relayed};
 /// A clock corrected by a master that was itself corrected agrees with the first master's, within
 /// both errors and drift: at each line, and after it as long as nothing more happens.
 #[tactic(auto, using(crate::proofs::OwnFitsProof::given, crate::proofs::AgreedProof::relayed))]
@@ -283,7 +283,7 @@ pub fn resolved_yields()
         → Finished setting world → YieldsTaken setting world }
 {}
 
-ghost use Rattle.tsp_promises.specs.Became.{BecomesAfter};
+ghost use Rattle.tsp_promises.specs.Resolved.{BecomesAfter};
 /// It comes to follow by a change of its role in that step, after the QUIT.
 #[tactic(auto, using(crate::proofs::ResolvedProof::becomes_after))]
 pub fn resolved_becomes()
